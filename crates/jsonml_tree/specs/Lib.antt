@@ -1,0 +1,6 @@
+pub mod Data
+pub mod View
+pub mod Order
+pub mod Laws
+pub mod WellFormed
+pub mod Fits
