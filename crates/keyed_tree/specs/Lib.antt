@@ -1,0 +1,12 @@
+pub mod Data
+pub mod Lists
+pub mod Order
+pub mod Laws
+pub mod Kids
+pub mod Same
+pub mod Paths
+pub mod Holds
+pub mod WellFormed
+pub mod Proper
+pub mod Plain
+pub mod View
