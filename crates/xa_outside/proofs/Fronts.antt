@@ -1,0 +1,45 @@
+-- Bytes that come or go piece by piece.
+use Rattle.std.proofs.Common.{◌≡◌, ℕ, ◌+◌, ◌-◌, ◌<◌, ◌≤◌, List, [], ◌++◌, Option, None, Some, sym, ap, ◌∙◌, arith, length, take, drop, length-append, length-take-le, drop-drop, take_all, length-drop}
+use Rattle.std.proofs.Math.Seq.{take-append-add}
+use Rattle.std.proofs.lemmas.List.{take-append-le}
+use lib.Seq.{take-add}
+use borrow.Rule.Slice.PartMut.{put_mid, post_of}
+use Rattle.std.specs.FinMap as map
+use Rattle.xa_outside.specs.Folder.{Files, bytes_or_none, Gives, FillsFrom}
+
+-- these bytes stand in the file at the offset
+abbrev pub StandsAt : Option Files → List ℕ → ℕ → List ℕ → Type 0
+StandsAt None name at bytes = Unit {0}
+StandsAt (Some fs) name at bytes = take (length bytes) (drop at (bytes_or_none (map.get fs name))) ≡ bytes
+
+-- the front of a buffer after n bytes were put at a
+pub take-put_mid_front : (a k n : ℕ) (xs ys : List ℕ) → a ≤ length xs → n ≤ length ys → take (a + n) (put_mid a k xs ys) ≡ take a xs ++ take n ys
+take-put_mid_front a k n xs ys within fits =
+    let len : length (take a xs) ≡ a = length-take-le a xs within in
+    ap (λ m. take (m + n) (put_mid a k xs ys)) (sym len) ∙ take-append-add (take a xs) (ys ++ post_of a k xs) n
+    ∙ ap (λ l. take a xs ++ l) (take-append-le n ys (post_of a k xs) fits)
+
+pub StandsAt-more : (f : Option Files) (name : List ℕ) (at done : ℕ) (a b : List ℕ) (room : ℕ) → length a ≡ done → StandsAt f name at a → Gives f name (at + done) b room → StandsAt f name at (a ++ b)
+StandsAt-more None name at done a b room len p q = tt
+StandsAt-more (Some fs) name at done a b room len p q =
+    let file = bytes_or_none (map.get fs name) in
+    let there : take (length a) (drop at file) ≡ a = p in
+    let next : take (length b) (drop (length a) (drop at file)) ≡ b = ap (take (length b)) (drop-drop (length a) at file ∙ ap (λ m. drop m file) (ap (λ m. at + m) len)) ∙ q.0 in
+    ap (λ m. take m (drop at file)) (length-append a b) ∙ take-add (length a) (length b) (drop at file) ∙ ap (λ l. l ++ take (length b) (drop (length a) (drop at file))) there ∙ ap (λ l. a ++ l) next
+
+pub FillsFrom-full : (f : Option Files) (name : List ℕ) (at room : ℕ) (a : List ℕ) → length a ≡ room → StandsAt f name at a → FillsFrom f name at a room
+FillsFrom-full None name at room a len p = tt
+FillsFrom-full (Some fs) name at room a len p = sym p ∙ ap (λ m. take m (drop at (bytes_or_none (map.get fs name)))) len
+
+pub FillsFrom-end : (f : Option Files) (name : List ℕ) (at done room left : ℕ) (a b : List ℕ) → length a ≡ done → b ≡ [] → done ≤ room → 0 < left → StandsAt f name at a → Gives f name (at + done) b left → FillsFrom f name at a room
+FillsFrom-end None name at done room left a b len none fits some p q = tt
+FillsFrom-end (Some fs) name at done room left a b len none fits some p q =
+    let file = bytes_or_none (map.get fs name) in
+    let short : length file ≤ at + done = q.1 none some in
+    let within : length (drop at file) ≤ done = omega (arith, length-drop at file) in
+    sym p ∙ take_all (length a) (drop at file) (omega arith) ∙ sym (take_all room (drop at file) (omega arith))
+
+-- the rest of a slice, as `&piece[at..]` gives it
+pub take-rest : (at n : ℕ) (xs : List ℕ) → at ≤ length xs → take at xs ++ take n (take (length xs - at) (drop at xs)) ≡ take (at + n) xs
+take-rest at n xs within =
+    ap (λ l. take at xs ++ take n l) (take_all (length xs - at) (drop at xs) (omega (arith, length-drop at xs))) ∙ sym (take-add at n xs)

@@ -1,0 +1,7 @@
+pub mod BufferedLemmas
+pub mod CauseLemmas
+pub mod DraftLemmas
+pub mod FileLemmas
+pub mod Fronts
+pub mod NumberLemmas
+pub mod Output

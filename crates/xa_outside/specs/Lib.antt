@@ -1,0 +1,13 @@
+pub mod Buffered
+pub mod Causes
+pub mod Filled
+pub mod Folder
+pub mod FolderPlan
+pub mod Held
+pub mod InMemory
+pub mod Meter
+pub mod NamedFiles
+pub mod Numbers
+pub mod Planned
+pub mod Scripts
+pub mod Taken

@@ -1,0 +1,108 @@
+ghost use Rattle.std.specs.Prelude.{◌≡◌, ◌+◌, ◌<◌, ◌≤◌, [], OnOk, IfOk, length, take};
+ghost use Rattle.xa_outside.specs.Taken.{Takes, TakesNone, Writes};
+ghost use Rattle.std.specs.Io.{WritesAtMost};
+ghost use Rattle.xa_outside.specs.Held.{held_end};
+ghost use Rattle.xa_outside.specs.Causes.{HasCause};
+ghost use Rattle.xa_outside.specs.Buffered.{buffered_faults, buffered_taken, sink_behind, waiting_bytes};
+
+use crate::held::{Held, SIZE};
+use crate::{Failed, Sink};
+
+/// A sink in front of another one, to which it passes on what it takes, in pieces of kilobytes.
+///
+/// It has a fixed buffer of 8 KiB and takes no memory. A piece that is longer than the buffer goes
+/// straight through. What still waits when the buffer is dropped is lost, so end with a `flush`.
+#[derive(Drop)]
+pub struct Buffered<'a, O> {
+    out: &'a mut O,
+    held: Held,
+}
+
+impl<'a, O: Sink> Buffered<'a, O> {
+    /// An empty buffer in front of the sink.
+    pub fn new(out: &'a mut O) -> Buffered<'a, O>
+        ensures same_sink { (sink_behind result).ghost_name ≡ out.entry.ghost_name }
+        ensures same { (sink_behind result).now ≡ out.old }
+        ensures empty { waiting_bytes result ≡ [] }
+    {
+        Buffered {
+            out,
+            held: Held::new(),
+        }
+    }
+
+    /// Passes on all that waits. What a failure leaves still waits, and a later flush goes on with it.
+    pub fn flush(&mut self) -> Result<(), Failed>
+        ensures bytes { TakesNone (buffered_taken O.taken self.old) (buffered_taken O.taken self.new) }
+        ensures empty { OnOk result (waiting_bytes self.new ≡ []) }
+        ensures cause { HasCause (buffered_faults O.faults self.old) (buffered_faults O.faults self.new) result }
+    {
+        self.pass_on()
+    }
+
+    fn pass_on(&mut self) -> Result<(), Failed>
+        ensures bytes { TakesNone (buffered_taken O.taken self.old) (buffered_taken O.taken self.new) }
+        ensures empty { OnOk result (waiting_bytes self.new ≡ []) }
+        ensures room { OnOk result (held_end self.new.held ≡ 0) }
+        ensures cause { HasCause (buffered_faults O.faults self.old) (buffered_faults O.faults self.new) result }
+    {
+        let (written, result) = write_out(self.held.waiting(), self.out);
+        self.held.drop_front(written);
+        result
+    }
+
+    fn make_room(&mut self, count: usize) -> Result<(), Failed>
+        requires { count < 8192 }
+        ensures bytes { TakesNone (buffered_taken O.taken self.old) (buffered_taken O.taken self.new) }
+        ensures room { OnOk result (held_end self.new.held + count ≤ 8192) }
+        ensures cause { HasCause (buffered_faults O.faults self.old) (buffered_faults O.faults self.new) result }
+    {
+        if self.held.has_room(count) {
+            return Ok(());
+        }
+        self.pass_on()
+    }
+
+    /// Passes on a piece that is too long to wait, behind what waits.
+    fn write_through(&mut self, piece: &[u8]) -> Result<usize, Failed>
+        ensures bound { WritesAtMost result piece.now }
+        ensures some { IfOk result (λ n. 0 < length piece.now → 0 < n) }
+        ensures bytes { Writes (buffered_taken O.taken self.old) (buffered_taken O.taken self.new) result piece.now }
+        ensures cause { HasCause (buffered_faults O.faults self.old) (buffered_faults O.faults self.new) result }
+    {
+        self.pass_on()?;
+        self.out.write(piece)
+    }
+}
+
+impl<O: Sink> Sink for Buffered<'_, O> {
+    ghost taken = { buffered_taken O.taken };
+
+    ghost faults = { buffered_faults O.faults };
+
+    fn write(&mut self, piece: &[u8]) -> Result<usize, Failed> {
+        if piece.len() >= SIZE {
+            return self.write_through(piece);
+        }
+        self.make_room(piece.len())?;
+        self.held.add(piece);
+        Ok(piece.len())
+    }
+}
+
+/// Writes until all is written or a write fails, and answers how many bytes were written.
+fn write_out<O: Sink>(bytes: &[u8], to: &mut O) -> (usize, Result<(), Failed>)
+    ensures bound { result.0 ≤ length bytes.now }
+    ensures all { OnOk result.1 (result.0 ≡ length bytes.now) }
+    ensures bytes { Takes (O.taken to.old) (O.taken to.new) (take result.0 bytes.now) }
+    ensures cause { HasCause (O.faults to.old) (O.faults to.new) result.1 }
+{
+    let mut written = 0;
+    while written < bytes.len() {
+        match to.write(&bytes[written..]) {
+            Ok(count) => written += count,
+            Err(failed) => return (written, Err(failed)),
+        }
+    }
+    (written, Ok(()))
+}
