@@ -1,0 +1,9 @@
+pub mod Spelling
+pub mod Attributes
+pub mod Keeping
+pub mod Contents
+pub mod Readings
+pub mod Levels
+pub mod Escapes
+pub mod Walks
+pub mod TreeWalk

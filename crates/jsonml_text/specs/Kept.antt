@@ -1,0 +1,22 @@
+-- For private clauses: what a reader keeps true of the parts that it has made.
+use Rattle.std.specs.Prelude.{◌≤◌, List, length, IsTrue}
+use Rattle.jsonml_tree.specs.Data.{PlainAttr, PlainTree, PlainContent, trees_of}
+use Rattle.jsonml_tree.specs.WellFormed.{is_ascending, are_in_range, is_well_formed, is_content_well_formed, are_well_formed}
+use Rattle.jsonml_tree.specs.Fits.{items_fit, content_items_fit, all_items_fit}
+
+pub record AreAttrsKept (xs : List PlainAttr) : Type 0 where
+  pub ascending : IsTrue (is_ascending xs)
+  pub in_range : IsTrue (are_in_range xs)
+
+pub record IsKept (t : PlainTree) : Type 0 where
+  pub well_formed : IsTrue (is_well_formed t)
+  pub fits : IsTrue (items_fit t)
+
+pub record IsContentKept (c : PlainContent) : Type 0 where
+  pub well_formed : IsTrue (is_content_well_formed c)
+  pub fits : IsTrue (content_items_fit c)
+
+pub record AreKept (ts : List PlainTree) : Type 0 where
+  pub well_formed : IsTrue (are_well_formed (trees_of ts))
+  pub fit : IsTrue (all_items_fit (trees_of ts))
+  pub few : length ts ≤ 4294967295

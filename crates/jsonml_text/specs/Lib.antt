@@ -1,0 +1,10 @@
+pub mod Reading
+pub mod Spelled
+pub mod Document
+pub mod Kept
+pub mod Views
+pub mod Stops
+pub mod Printed
+pub mod Pen
+pub mod Calls
+pub mod Laws

@@ -1,0 +1,24 @@
+//! Documents: reading them from JSON, and printing them.
+#![tactic(auto)]
+
+mod document;
+mod fault;
+mod last;
+mod laws;
+mod level;
+mod pieces;
+mod print;
+mod printer;
+mod quote;
+mod read;
+mod scalar;
+mod stop;
+#[cfg(test)]
+mod tests;
+
+pub use document::{content_of, read_document};
+pub use fault::DocFault;
+pub use laws::calls_print_the_tree;
+pub use print::{print_content, write_tree};
+pub use printer::Printer;
+pub use scalar::scalar_of;

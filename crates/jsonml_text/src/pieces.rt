@@ -1,0 +1,124 @@
+ghost use Rattle.std.specs.Prelude.{◌++◌, ◌∷◌, [], IsTrue};
+ghost use Rattle.json.specs.Print.{quoted};
+ghost use Rattle.xa_outside.specs.Taken.{Puts};
+ghost use Rattle.xa_outside.specs.Causes.{HasCause};
+ghost use Rattle.jsonml_tree.specs.View.{scalar_view};
+ghost use Rattle.jsonml_text.specs.Printed.{scalar_text, attr_text};
+ghost use Rattle.jsonml_text.specs.Pen.{takes_attribute};
+ghost use Rattle.jsonml_text.specs.Calls.{item_lead, attribute_lead, brace};
+
+use crate::last::Last;
+use crate::quote::write_quoted;
+use itoa::Buffer;
+use jsonml_tree::Scalar;
+use xa_outside::{Failed, Sink, put_all};
+
+/// Writes a scalar as JSON.
+fn write_scalar<K: Sink>(value: &Scalar, sink: &mut K) -> Result<(), Failed>
+    ensures bytes { Puts (K.taken sink.old) (K.taken sink.new) result (scalar_text (scalar_view value.now)) }
+    ensures cause { HasCause (K.faults sink.old) (K.faults sink.new) result }
+{
+    match value {
+        Scalar::Null => put_all(sink, b"null"),
+        Scalar::Bool(true) => put_all(sink, b"true"),
+        Scalar::Bool(false) => put_all(sink, b"false"),
+        Scalar::Whole(n) => {
+            let mut buffer = Buffer::new();
+            put_all(sink, buffer.format(*n).as_bytes())
+        }
+        Scalar::Text(text) => write_quoted(text.as_str(), sink),
+    }
+}
+
+/// Writes a name and its value.
+fn write_pair<K: Sink>(name: &str, value: &Scalar, sink: &mut K) -> Result<(), Failed>
+    ensures bytes { Puts (K.taken sink.old) (K.taken sink.new) result (attr_text (record { name = name.now; value = scalar_view value.now })) }
+    ensures cause { HasCause (K.faults sink.old) (K.faults sink.new) result }
+{
+    write_quoted(name, sink)?;
+    write_value(value, sink)
+}
+
+fn write_value<K: Sink>(value: &Scalar, sink: &mut K) -> Result<(), Failed>
+    ensures bytes { Puts (K.taken sink.old) (K.taken sink.new) result (58 ∷ scalar_text (scalar_view value.now)) }
+    ensures cause { HasCause (K.faults sink.old) (K.faults sink.new) result }
+{
+    put_all(sink, b":")?;
+    write_scalar(value, sink)
+}
+
+/// Writes an attribute.
+pub(crate) fn write_attribute<K: Sink>(
+    last: Last,
+    name: &str,
+    value: &Scalar,
+    sink: &mut K,
+) -> Result<(), Failed>
+    requires { IsTrue (takes_attribute last) }
+    ensures bytes { Puts (K.taken sink.old) (K.taken sink.new) result (attribute_lead last ++ attr_text (record { name = name.now; value = scalar_view value.now })) }
+    ensures cause { HasCause (K.faults sink.old) (K.faults sink.new) result }
+{
+    write_attribute_lead(last, sink)?;
+    write_pair(name, value, sink)
+}
+
+/// Writes what comes before an attribute.
+fn write_attribute_lead<K: Sink>(last: Last, sink: &mut K) -> Result<(), Failed>
+    requires { IsTrue (takes_attribute last) }
+    ensures bytes { Puts (K.taken sink.old) (K.taken sink.new) result (attribute_lead last) }
+    ensures cause { HasCause (K.faults sink.old) (K.faults sink.new) result }
+{
+    match last {
+        Last::Begun => put_all(sink, b",{"),
+        _ => put_all(sink, b","),
+    }
+}
+
+/// Writes a text.
+pub(crate) fn write_text<K: Sink>(last: Last, text: &str, sink: &mut K) -> Result<(), Failed>
+    ensures bytes { Puts (K.taken sink.old) (K.taken sink.new) result (item_lead last ++ quoted text.now) }
+    ensures cause { HasCause (K.faults sink.old) (K.faults sink.new) result }
+{
+    write_lead(last, sink)?;
+    write_quoted(text, sink)
+}
+
+/// Writes the beginning of an element.
+pub(crate) fn write_begin<K: Sink>(last: Last, tag: &str, sink: &mut K) -> Result<(), Failed>
+    ensures bytes { Puts (K.taken sink.old) (K.taken sink.new) result (item_lead last ++ (91 ∷ quoted tag.now)) }
+    ensures cause { HasCause (K.faults sink.old) (K.faults sink.new) result }
+{
+    write_lead(last, sink)?;
+    write_tag(tag, sink)
+}
+
+fn write_tag<K: Sink>(tag: &str, sink: &mut K) -> Result<(), Failed>
+    ensures bytes { Puts (K.taken sink.old) (K.taken sink.new) result (91 ∷ quoted tag.now) }
+    ensures cause { HasCause (K.faults sink.old) (K.faults sink.new) result }
+{
+    put_all(sink, b"[")?;
+    write_quoted(tag, sink)
+}
+
+/// Writes the end of an element.
+pub(crate) fn write_end<K: Sink>(last: Last, sink: &mut K) -> Result<(), Failed>
+    ensures bytes { Puts (K.taken sink.old) (K.taken sink.new) result (brace last ++ 93 ∷ []) }
+    ensures cause { HasCause (K.faults sink.old) (K.faults sink.new) result }
+{
+    match last {
+        Last::Attribute => put_all(sink, b"}]"),
+        _ => put_all(sink, b"]"),
+    }
+}
+
+/// Writes what comes before an item.
+fn write_lead<K: Sink>(last: Last, sink: &mut K) -> Result<(), Failed>
+    ensures bytes { Puts (K.taken sink.old) (K.taken sink.new) result (item_lead last) }
+    ensures cause { HasCause (K.faults sink.old) (K.faults sink.new) result }
+{
+    match last {
+        Last::Nothing => Ok(()),
+        Last::Begun | Last::Item => put_all(sink, b","),
+        Last::Attribute => put_all(sink, b"},"),
+    }
+}
