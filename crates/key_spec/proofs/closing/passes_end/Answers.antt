@@ -1,0 +1,14 @@
+use Rattle.std.proofs.Common.{◌≡◌, sym, ap, ◌∙◌, true}
+use Rattle.std.proofs.lemmas.Bool.{or_left}
+use Rattle.std.specs.BTreeSet.{contains_text}
+use Rattle.key_spec.specs.Names.{slashed}
+use Rattle.key_spec.specs.View.{names_view}
+use Rattle.key_spec.proofs.closing.passes_end.Goals as goal
+
+pub returns-then-has_text : goal.returns-then-has_text
+returns-then-has_text c =
+    let text : c.as_str.result.now ≡ slashed (names_view c.args.rule.now.context.items) =
+    c.as_str.ensures.value ∙ c.in_ok-context.ensures ∙ ap (λ xs. slashed (names_view xs)) c.deref.ensures.value in
+    let found : contains_text c.args.ends.now (slashed (names_view c.args.rule.now.context.items)) ≡ true =
+    ap (contains_text c.args.ends.now) (sym text) ∙ sym c.has_text.ensures ∙ c.if-has_text.true in
+    sym (or_left _ _ found)

@@ -1,0 +1,24 @@
+use Rattle.std.proofs.Common.{◌≡◌, ℕ, List, [], ◌∷◌, ◌++◌, Some, Option, option_map, map, sym, ap, ◌∙◌, Bor, rules}
+use Rattle.std.proofs.lemmas.List.{map-append}
+use Rattle.key_spec.specs.Data.{PlainPath}
+use Rattle.key_spec.specs.Names.{path_of}
+use Rattle.key_spec.specs.Form.{Token, tokens, behind, first_as, some_paths}
+use Rattle.key_spec.specs.View.{path_view}
+use Rattle.key_spec.specs.declared.rule.KeyPath.{KeyPath}
+use Rattle.key_spec.proofs.FormLemmas.{some_paths-more, one_more_path}
+use Rattle.key_spec.proofs.form.read_some_paths.Goals as goal
+
+pub loop-paths-preserved : goal.loop-paths-preserved
+loop-paths-preserved c =
+    let left = c.loop-paths.left.now in
+    let path = path_view c.in-Some.path in
+    let rest = tokens c.in-Some.rest.now in
+    let more = tokens c.in-Some-behind-2.rest.now in
+    let next : first_as path_of (tokens left) ≡ Some (path, rest) = sym c.in_ok-path.ensures ∙ ap (option_map (λ (f : KeyPath × Bor (List ℕ)). (path_view f.0, tokens f.1.now))) c.in-Some.is in
+    let comma : behind 44 rest ≡ Some more = sym c.behind-in-loop-paths.ensures ∙ ap (option_map (λ (r : Bor (List ℕ)). tokens r.now)) c.in-Some-behind-2.is in
+    let step = some_paths-more (tokens left) path rest more next comma in
+    let pushed : map path_view c.push.new.self.items ≡ map path_view c.loop-paths.paths.items ++ path ∷ [] = search (rules, map-append) in
+    record {
+      all = one_more_path _ _ _ _ _ c.loop-paths.invariant.all step ∙ ap (λ (ps : List PlainPath). option_map (λ (r : List PlainPath × List Token). (ps ++ r.0, r.1)) (some_paths more)) (sym pushed);
+      utf8 = search rules;
+    }

@@ -1,0 +1,11 @@
+pub mod Canonical
+pub mod Closed
+pub mod Data
+pub mod Form
+pub mod Laws
+pub mod Lines
+pub mod Names
+pub mod RuleView
+pub mod Rules
+pub mod Texts
+pub mod View

@@ -1,0 +1,204 @@
+// The closed rules: all given and implied rules in ascending order.
+ghost use Rattle.std.specs.Prelude.{◌≡◌, ◌++◌, ◌∷◌, ◌<◌, ◌≤◌, [], length, map, fold, IfOk, OnOk, IfSome, IfNone, string_bytes};
+ghost use Rattle.std.specs.BTreeSet.{replace_key};
+ghost use Rattle.std.specs.Bool.{OnTrue, OnFalse};
+ghost use Rattle.key_spec.specs.Rules.{rule_cmp, below};
+ghost use Rattle.key_spec.specs.Closed.{implied_along, implied_by, implied_rules, closed_rules};
+ghost use Rattle.key_spec.specs.View.{names_view, path_view, rule_view, rules_view, placed_rules};
+
+use crate::given::Given;
+use crate::order::order_rules;
+use crate::rule::Rule;
+use std::alloc::{AllocError, Global};
+use std::cmp::Ordering;
+use std::collections::BTreeSet;
+
+/// At most so many closed rules.
+const MAX_RULES: usize = 4096;
+
+/// A rule, ordered by its context and then by its tag.
+#[derive(Drop)]
+pub(crate) struct Placed {
+    pub rule: Rule,
+}
+
+impl PartialEq for Placed {
+    ghost use Rattle.std.specs.Ordering.{eq_by_cmp, on};
+    ghost use Rattle.std.specs.Cmp.{on_total, eq_by_cmp_equiv, partial_equiv_from_equiv};
+    ghost use Rattle.key_spec.specs.Laws.{rule_cmp_total};
+    ghost use Rattle.key_spec.specs.Rules.{rule_cmp};
+    ghost use Rattle.key_spec.specs.View.{placed_view};
+
+    ghost eq = { eq_by_cmp (on placed_view rule_cmp) };
+
+    ghost laws = { partial_equiv_from_equiv (eq_by_cmp_equiv (on_total placed_view rule_cmp_total)) };
+
+    fn eq(&self, other: &Placed) -> bool {
+        order_rules(&self.rule, &other.rule).is_eq()
+    }
+}
+
+impl Eq for Placed {
+    ghost use Rattle.std.specs.Cmp.{on_total, eq_by_cmp_equiv};
+    ghost use Rattle.key_spec.specs.Laws.{rule_cmp_total};
+    ghost use Rattle.key_spec.specs.View.{placed_view};
+
+    ghost laws = { eq_by_cmp_equiv (on_total placed_view rule_cmp_total) };
+}
+
+impl PartialOrd for Placed {
+    ghost use Rattle.std.specs.Ordering.{on, as_partial_cmp};
+    ghost use Rattle.std.specs.Cmp.{on_total, partial_order_from_total};
+    ghost use Rattle.key_spec.specs.Laws.{rule_cmp_total};
+    ghost use Rattle.key_spec.specs.Rules.{rule_cmp};
+    ghost use Rattle.key_spec.specs.View.{placed_view};
+
+    ghost partial_cmp = { as_partial_cmp (on placed_view rule_cmp) };
+
+    ghost laws = { partial_order_from_total (on_total placed_view rule_cmp_total) };
+
+    fn partial_cmp(&self, other: &Placed) -> Option<Ordering> {
+        Some(order_rules(&self.rule, &other.rule))
+    }
+}
+
+impl Ord for Placed {
+    ghost use Rattle.std.proofs.Common.{refl};
+    ghost use Rattle.std.specs.Ordering.{on};
+    ghost use Rattle.std.specs.Cmp.{on_total};
+    ghost use Rattle.key_spec.specs.Laws.{rule_cmp_total};
+    ghost use Rattle.key_spec.specs.Rules.{rule_cmp};
+    ghost use Rattle.key_spec.specs.View.{placed_view};
+
+    ghost cmp = { on placed_view rule_cmp };
+
+    ghost total = { on_total placed_view rule_cmp_total };
+
+    ghost matches_partial_cmp = { λ x y. refl };
+
+    ghost matches_eq = { λ x y. refl };
+
+    fn cmp(&self, other: &Placed) -> Ordering {
+        order_rules(&self.rule, &other.rule)
+    }
+}
+
+/// The closed rules, unless there are too many.
+pub(crate) fn close(alloc: Global, given: Vec<Given>) -> Result<Option<Vec<Rule>>, AllocError>
+    ensures some { IfOk result (λ found. IfSome found (λ rules. map rule_view rules.items ≡ closed_rules (rules_view given.items))) }
+    ensures few { IfOk result (λ found. IfSome found (λ rules. length (closed_rules (rules_view given.items)) ≤ 4096)) }
+    ensures none { IfOk result (λ found. IfNone found (4096 < length (closed_rules (rules_view given.items)))) }
+{
+    let mut closed = BTreeSet::new(alloc);
+    if !put_all_implied(alloc, &mut closed, &given)? {
+        return Ok(None);
+    }
+    put_given(&mut closed, given)?;
+    if closed.len() > MAX_RULES {
+        return Ok(None);
+    }
+    Ok(Some(in_order(alloc, closed)?))
+}
+
+/// Puts the rules that the given ones imply in their places, and says whether there are few enough of them.
+fn put_all_implied(
+    alloc: Global,
+    closed: &mut BTreeSet<Placed>,
+    given: &[Given],
+) -> Result<bool, AllocError>
+    ensures all { IfOk result (λ few. OnTrue few (placed_rules closed.new ≡ fold (replace_key rule_cmp) (placed_rules closed.old) (implied_rules (rules_view given.now)))) }
+    ensures many { IfOk result (λ few. OnFalse few (4096 < length (fold (replace_key rule_cmp) (placed_rules closed.old) (implied_rules (rules_view given.now))))) }
+{
+    for one in given {
+        put_implied(alloc, closed, &one.rule)?;
+        if closed.len() > MAX_RULES {
+            return Ok(false);
+        }
+    }
+    Ok(true)
+}
+
+/// The rules of the set, from the first to the last.
+fn in_order(alloc: Global, closed: BTreeSet<Placed>) -> Result<Vec<Rule>, AllocError>
+    ensures { IfOk result (λ rules. map rule_view rules.items ≡ placed_rules closed) }
+{
+    let mut rules = Vec::new(alloc);
+    for placed in closed {
+        let Placed { rule } = placed;
+        rules.push(rule)?;
+    }
+    Ok(rules)
+}
+
+fn put_given(closed: &mut BTreeSet<Placed>, given: Vec<Given>) -> Result<(), AllocError>
+    ensures { OnOk result (placed_rules closed.new ≡ fold (replace_key rule_cmp) (placed_rules closed.old) (rules_view given.items)) }
+{
+    for one in given {
+        let Given { line: _, rule } = one;
+        put(closed, rule)?;
+    }
+    Ok(())
+}
+
+/// Puts the rules that a rule implies in their places.
+fn put_implied(alloc: Global, closed: &mut BTreeSet<Placed>, rule: &Rule) -> Result<(), AllocError>
+    ensures { OnOk result (placed_rules closed.new ≡ fold (replace_key rule_cmp) (placed_rules closed.old) (implied_by (rule_view rule.now))) }
+{
+    for path in &rule.paths {
+        put_along(alloc, closed, rule, &path.tags)?;
+    }
+    Ok(())
+}
+
+/// Puts a rule for each tag on the way from the target of a rule.
+fn put_along(
+    alloc: Global,
+    closed: &mut BTreeSet<Placed>,
+    from: &Rule,
+    tags: &[String],
+) -> Result<(), AllocError>
+    ensures { OnOk result (placed_rules closed.new ≡ fold (replace_key rule_cmp) (placed_rules closed.old) (implied_along (below (names_view from.now.context.items) (string_bytes from.now.tag)) (names_view tags.now))) }
+{
+    let mut here = copy_names(alloc, &from.context)?;
+    here.push(copy_name(alloc, &from.tag)?)?;
+    for tag in tags {
+        put(closed, unkeyed(alloc, &here, tag)?)?;
+        here.push(copy_name(alloc, tag)?)?;
+    }
+    Ok(())
+}
+
+/// Puts a rule in its place, where it replaces one with the same context and tag.
+fn put(closed: &mut BTreeSet<Placed>, rule: Rule) -> Result<(), AllocError>
+    ensures { OnOk result (placed_rules closed.new ≡ replace_key rule_cmp (placed_rules closed.old) (rule_view rule)) }
+{
+    closed.replace(Placed { rule })?;
+    Ok(())
+}
+
+/// The rule with this context and tag and no key paths.
+fn unkeyed(alloc: Global, context: &[String], tag: &String) -> Result<Rule, AllocError>
+    ensures { IfOk result (λ rule. rule_view rule ≡ record { context = names_view context.now; tag = string_bytes tag.now; paths = [] }) }
+{
+    Ok(Rule {
+        context: copy_names(alloc, context)?,
+        tag: copy_name(alloc, tag)?,
+        paths: Vec::new(alloc),
+    })
+}
+
+fn copy_names(alloc: Global, names: &[String]) -> Result<Vec<String>, AllocError>
+    ensures { IfOk result (λ copies. names_view copies.items ≡ names_view names.now) }
+{
+    let mut copies = Vec::with_capacity(alloc, names.len())?;
+    for name in names {
+        copies.push(copy_name(alloc, name)?)?;
+    }
+    Ok(copies)
+}
+
+fn copy_name(alloc: Global, name: &String) -> Result<String, AllocError>
+    ensures { IfOk result (λ copy. string_bytes copy ≡ string_bytes name.now) }
+{
+    String::from_str(alloc, name.as_str())
+}

@@ -1,0 +1,42 @@
+// The orders of paths and rules.
+ghost use Rattle.std.specs.Prelude.{◌≡◌, string_bytes};
+ghost use Rattle.key_spec.specs.Rules.{path_cmp, place_cmp, rule_cmp};
+ghost use Rattle.key_spec.specs.View.{names_view, rule_view};
+
+use crate::rule::Rule;
+use std::cmp::Ordering;
+
+/// By context and then by tag.
+pub(crate) fn order_rules(ours: &Rule, theirs: &Rule) -> Ordering
+    ensures { result ≡ rule_cmp (rule_view ours.now) (rule_view theirs.now) }
+{
+    order_paths(&ours.context, &theirs.context).then(ours.tag.as_str().cmp(theirs.tag.as_str()))
+}
+
+/// Where a rule stands to a context and tag.
+pub(crate) fn order_place(rule: &Rule, context: &[String], tag: &str) -> Ordering
+    ensures { result ≡ place_cmp (names_view rule.now.context.items) (string_bytes rule.now.tag) (names_view context.now) tag.now }
+{
+    order_paths(&rule.context, context).then(rule.tag.as_str().cmp(tag))
+}
+
+/// By the names one after the other, a shorter list before those that it begins.
+pub(crate) fn order_paths(ours: &[String], theirs: &[String]) -> Ordering
+    ensures { result ≡ path_cmp (names_view ours.now) (names_view theirs.now) }
+{
+    let mut others = theirs.iter();
+    for a in ours {
+        let Some(b) = others.next() else {
+            return Ordering::Greater;
+        };
+        match a.as_str().cmp(b.as_str()) {
+            Ordering::Equal => {}
+            order => return order,
+        }
+    }
+    if others.next().is_some() {
+        Ordering::Less
+    } else {
+        Ordering::Equal
+    }
+}

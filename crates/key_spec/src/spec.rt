@@ -1,0 +1,96 @@
+ghost use Rattle.std.specs.Prelude.{◌≡◌, ◌≤◌, Ok, IfOk, IfErr, IfSome, map, option_map, length, string_bytes, vec_len};
+ghost use Rattle.key_spec.specs.Closed.{closed, IsClosed};
+ghost use Rattle.key_spec.specs.Canonical.{canonical};
+ghost use Rattle.key_spec.specs.RuleView.{names_view, rule_view};
+
+use crate::close::close;
+use crate::closing::check_closing;
+use crate::fault::SpecFault;
+use crate::given::read_lines;
+use crate::order::{order_paths, order_place};
+use crate::rule::{Rule, push_rule};
+use std::alloc::{AllocError, Global};
+
+/// At most so many bytes of canonical text.
+const MAX_TEXT: usize = 1_048_576;
+
+/// A closed specification: all given and implied rules, ascending by context and then by tag.
+#[derive(Debug, Drop)]
+pub struct Spec {
+    rules: Vec<Rule>,
+    ghost closed: { ∥ IsClosed (map rule_view rules.items) ∥₁ },
+}
+
+impl Spec {
+    ghost use Rattle.key_spec.specs.Rules.{rule_of, is_frontier};
+    ghost use Rattle.key_spec.specs.View.{spec_view, IsRefusal};
+
+    /// The closed rules of a text of lines such as `(/db/dept, (emp, {fn, ln}))`, or its first fault.
+    ///
+    /// Blank lines and those that begin with `#` are skipped. It sorts once and looks up by halving.
+    pub fn parse(alloc: Global, text: &[u8]) -> Result<Spec, SpecFault>
+        requires { length text.now ≤ 1048576 }
+        ensures found { IfOk result (λ spec. closed text.now ≡ Ok (spec_view spec)) }
+        ensures fault { IfErr result (λ e. IsRefusal e (closed text.now)) }
+    {
+        let given = read_lines(alloc, text)?;
+        check_closing(alloc, &given)?;
+        let Some(rules) = close(alloc, given)? else {
+            return Err(SpecFault::Bad { line: 0, why: 7 });
+        };
+        if canonical_text(alloc, &rules)?.len() > MAX_TEXT {
+            return Err(SpecFault::Bad { line: 0, why: 7 });
+        }
+        Ok(Spec { rules })
+    }
+
+    /// The rules, ascending by context and then by tag.
+    pub fn rules(&self) -> &[Rule]
+        ensures { map rule_view result.now ≡ spec_view self.now }
+    {
+        &self.rules
+    }
+
+    /// The rule with this context and tag, looked up by halving.
+    pub fn rule(&self, context: &[String], tag: &str) -> Option<&Rule>
+        ensures few_paths { IfSome result (λ r. vec_len r.now.paths ≤ 16) }
+        ensures rule { option_map (λ r. rule_view r.now) result ≡ rule_of (spec_view self.now) (names_view context.now) tag.now }
+    {
+        match self
+            .rules
+            .binary_search_by(|rule| order_place(rule, context, tag))
+        {
+            Ok(at) => Some(&self.rules[at]),
+            Err(_) => None,
+        }
+    }
+
+    /// Whether no rule has this path as its context, looked up by halving.
+    pub fn is_frontier(&self, path: &[String]) -> bool
+        ensures { result ≡ is_frontier (spec_view self.now) (names_view path.now) }
+    {
+        self.rules
+            .binary_search_by(|rule| order_paths(&rule.context, path))
+            .is_err()
+    }
+
+    /// The canonical text: one line for each rule, in their order. What it specifies is this specification again.
+    pub fn text(&self, alloc: Global) -> Result<String, AllocError>
+        ensures text { IfOk result (λ text. string_bytes text ≡ canonical (spec_view self.now)) }
+        ensures again { closed (canonical (spec_view self.now)) ≡ Ok (spec_view self.now) }
+    {
+        canonical_text(alloc, &self.rules)
+    }
+}
+
+#[tactic(auto, unfolding(crate::specs::Canonical::canonical))]
+fn canonical_text(alloc: Global, rules: &[Rule]) -> Result<String, AllocError>
+    ensures { IfOk result (λ text. string_bytes text ≡ canonical (map rule_view rules.now)) }
+{
+    let mut text = String::new(alloc);
+    for rule in rules {
+        push_rule(&mut text, rule)?;
+        text.push_str("\n")?;
+    }
+    Ok(text)
+}
