@@ -1,0 +1,50 @@
+-- What is left of a row of trees, one item on and at the end.
+use Rattle.std.proofs.Common.{◌≡◌, ℕ, ◌+◌, ◌<◌, ◌≤◌, List, [], ◌∷◌, map, drop, get_or, length, refl, sym, ap, ◌∙◌, String, Global, string_bytes, Bool, true, false, ◌&&◌, nat_le, IsTrue, true≢false, arith}
+use borrow.Author.Tests.{leb-true}
+use Rattle.std.proofs.lemmas.List.{drop_more, drop_all, length-map, get_or-map}
+use Rattle.jsonml_tree.specs.Data.{PlainTree, PlainTrees, no_trees, tree, list_of, trees_of}
+use Rattle.jsonml_tree.specs.Fits.{content_items_fit, all_items_fit}
+use Rattle.jsonml_tree.specs.View.{tree_view, content_view, items_view}
+use Rattle.jsonml_tree.specs.declared.tree.Content.{Content}
+use Rattle.jsonml_tree.specs.declared.tree.Tree.{Tree}
+use Rattle.jsonml_tree.proofs.Trees.{list_of-trees_of, content_view-is}
+
+pub items_view-more : (items : List Tree) (i : ℕ) (x : Tree) → i < length items → x ≡ get_or items i x → items_view (drop i items) ≡ tree (tree_view x) (items_view (drop (i + 1) items))
+items_view-more items i x h e = ap items_view (drop_more items i x h) ∙ ap (λ y. tree (tree_view y) (items_view (drop (i + 1) items))) (sym e)
+
+pub items_view-end : (items : List Tree) (i : ℕ) → length items ≤ i → items_view (drop i items) ≡ no_trees
+items_view-end items i h = ap items_view (drop_all i items h)
+
+pub map-more : {X Y : Type 0} (f : X → Y) (xs : List X) (i : ℕ) (x : X) → i < length xs → x ≡ get_or xs i x → map f (drop i xs) ≡ f x ∷ map f (drop (i + 1) xs)
+map-more f xs i x h e = ap (map f) (drop_more xs i x h) ∙ ap (λ y. f y ∷ map f (drop (i + 1) xs)) (sym e)
+
+pub map-end : {X Y : Type 0} (f : X → Y) (xs : List X) (i : ℕ) → length xs ≤ i → map f (drop i xs) ≡ []
+map-end f xs i h = ap (map f) (drop_all i xs h)
+
+pub list_of-items : (items : List Tree) → list_of (items_view items) ≡ map tree_view items
+list_of-items items = list_of-trees_of (map tree_view items)
+
+-- a name read out of a list of names
+pub tag-at : (tags : List (String Global)) (level : ℕ) (s : String Global) → level < length tags → s ≡ get_or tags level s → get_or (map string_bytes tags) level [] ≡ string_bytes s
+tag-at tags level s h e = get_or-map string_bytes tags level s [] h ∙ ap string_bytes (sym e)
+
+both : (a b : Bool) → IsTrue (a && b) → IsTrue a × IsTrue b
+both true b h = (refl, h)
+both false b h = absurd (true≢false (sym h))
+
+-- the positions of the items fit, in a content and in its items
+pub items-fit : (c : Content) → IsTrue (content_items_fit (content_view c)) → (length c.items.items ≤ 4294967295) × IsTrue (all_items_fit (items_view c.items.items))
+items-fit c h =
+    let g : IsTrue (nat_le (length (list_of (items_view c.items.items))) 4294967295 && all_items_fit (items_view c.items.items)) = rw content_view-is at h in
+    let two = both (nat_le (length (list_of (items_view c.items.items))) 4294967295) (all_items_fit (items_view c.items.items)) g in
+    let few : length (list_of (items_view c.items.items)) ≤ 4294967295 = leb-true _ _ two.0 in
+    let same : length (list_of (items_view c.items.items)) ≡ length c.items.items = ap length (list_of-items c.items.items) ∙ length-map c.items.items tree_view in
+    (omega arith, two.1)
+
+pub items-few : (c : Content) → IsTrue (content_items_fit (content_view c)) → length c.items.items ≤ 4294967295
+items-few c h = (items-fit c h).0
+
+pub all-items-fit : (c : Content) → IsTrue (content_items_fit (content_view c)) → IsTrue (all_items_fit (items_view c.items.items))
+all-items-fit c h = (items-fit c h).1
+
+pub ruleset fits = (items-few, all-items-fit)

@@ -1,0 +1,21 @@
+-- What the checks of one item give.
+use Rattle.std.specs.Prelude.{ℕ, List, Option, Some, None}
+use Rattle.std.specs.Option.{option_map}
+use Rattle.keyed_tree.specs.Data.{PlainLabel}
+use Rattle.keyed_tree.specs.View.{label_view}
+use Rattle.key_spec.specs.View.{path_view}
+use Rattle.key_rules.specs.Faults.{PlainKeyFault}
+use Rattle.key_rules.specs.declared.check.Checked.{Checked}
+use Rattle.key_rules.specs.declared.check.Checked.TheVariants.{Dropped, Labelled, Bad}
+
+-- the fault of an item at this place
+abbrev pub checked_fault : List ℕ → Checked → Option PlainKeyFault
+checked_fault place Dropped = None
+checked_fault place (Labelled l) = None
+checked_fault place (Bad why p) = Some (record { place = place; why = why; path = option_map path_view p })
+
+-- the label of an item that is an element with one
+abbrev pub checked_label : Checked → Option PlainLabel
+checked_label Dropped = None
+checked_label (Labelled l) = Some (label_view l)
+checked_label (Bad why p) = None

@@ -1,0 +1,227 @@
+ghost use Rattle.std.specs.Prelude.{◌≡◌, ◌↔◌, ◌<◌, ◌≤◌, ◌+◌, ◌-◌, ◌^◌, ℕ, List, Some, None, IsTrue, IfOk, OnOk, IsNone, length, map, []};
+ghost use Rattle.std.specs.Option.{option_map, option_or};
+ghost use Rattle.jsonml_tree.specs.Fits.{IsElement, content_items_fit, all_items_fit, ItemsFit};
+ghost use Rattle.jsonml_tree.specs.View.{tree_view, content_view, items_view};
+ghost use Rattle.key_spec.specs.Rules.{below};
+ghost use Rattle.key_spec.specs.View.{names_view, path_view, spec_view};
+ghost use Rattle.key_rules.specs.Satisfies.{Satisfies};
+ghost use Rattle.key_rules.specs.Faults.{first_bad_item, repeated_item, item_place, content_fault, tree_fault, row_fault, first_fault};
+ghost use Rattle.key_rules.specs.View.{fault_view};
+
+use crate::check::{Checked, check_item};
+use crate::fault::KeyFault;
+use jsonml_tree::{Content, Place, Tree};
+use key_spec::{KeyPath, Spec};
+use std::alloc::{AllocError, Global};
+use std::collections::BTreeSet;
+
+/// An element in the walk: the tags from the root down to it, and its place.
+#[derive(Drop)]
+struct Spot {
+    path: Vec<String>,
+    place: Vec<u32>,
+}
+
+impl Spot {
+    /// The fault of the item at this position, from 0.
+    fn fault(
+        &self,
+        alloc: Global,
+        position: usize,
+        why: u8,
+        key_path: Option<KeyPath>,
+    ) -> Result<KeyFault, AllocError>
+        requires { position < 4294967295 }
+        ensures { IfOk result
+            (λ f. fault_view f ≡ record { place = item_place self.now.place.items (position + 1); why = why; path = option_map path_view key_path }) }
+    {
+        let mut steps = Vec::with_capacity(alloc, self.place.len() + 1)?;
+        steps.extend_from_slice(&self.place)?;
+        steps.push(position as u32 + 1)?;
+        Ok(KeyFault {
+            place: Place { steps },
+            why,
+            key_path,
+        })
+    }
+
+    /// Goes on to the element of this tag at this position.
+    fn enter(&mut self, alloc: Global, tag: &str, position: usize) -> Result<(), AllocError>
+        requires { position < 4294967295 }
+        ensures path { OnOk result (names_view self.new.path.items ≡ below (names_view self.old.path.items) tag.now) }
+        ensures place { OnOk result (self.new.place.items ≡ item_place self.old.place.items (position + 1)) }
+    {
+        self.path.push(String::from_str(alloc, tag)?)?;
+        self.place.push(position as u32 + 1)?;
+        Ok(())
+    }
+
+    /// Goes back to the element around this one.
+    fn leave(&mut self)
+        ensures path { (path : List (List ℕ)) (tag : List ℕ) → names_view self.old.path.items ≡ below path tag → names_view self.new.path.items ≡ path }
+        ensures place { (place : List ℕ) (n : ℕ) → self.old.place.items ≡ item_place place n → self.new.place.items ≡ place }
+    {
+        self.path.pop();
+        self.place.pop();
+    }
+}
+
+/// The fault of the first item that has one of its own, else that of the first item whose label an earlier one has.
+fn fault_among(
+    alloc: Global,
+    spec: &Spec,
+    spot: &Spot,
+    items: &[Tree],
+) -> Result<Option<KeyFault>, AllocError>
+    requires { length items.now < 2 ^ 32 }
+    ensures { IfOk result
+        (λ f. option_map fault_view f
+        ≡ option_or (first_bad_item (spec_view spec.now) (names_view spot.now.path.items) (item_place spot.now.place.items) 1 (map tree_view items.now))
+        (repeated_item (spec_view spec.now) (names_view spot.now.path.items) (item_place spot.now.place.items) (map tree_view items.now))) }
+{
+    let mut labels = BTreeSet::new(alloc);
+    let mut repeated = None;
+    for (position, item) in items.iter().enumerate() {
+        match check_item(alloc, spec, &spot.path, item)? {
+            Checked::Dropped => {}
+            Checked::Labelled(label) => {
+                if !labels.insert(label)? {
+                    repeated = repeated.or(Some(position));
+                }
+            }
+            Checked::Bad { why, key_path } => return Ok(Some(spot.fault(
+                alloc, position, why, key_path,
+            )?)),
+        }
+    }
+    match repeated {
+        Some(position) => Ok(Some(spot.fault(alloc, position, 5, None)?)),
+        None => Ok(None),
+    }
+}
+
+/// The first fault of the element at the spot, with this content, and of the elements in it.
+#[cycle(walk)]
+#[tactic(auto, using(jsonml_tree::proofs::Trees::trees, crate::proofs::Rows::fits))]
+fn fault_inside(
+    alloc: Global,
+    spec: &Spec,
+    spot: &mut Spot,
+    content: &Content,
+) -> Result<Option<KeyFault>, AllocError>
+    requires { IsTrue (content_items_fit (content_view content.now)) }
+    ensures fault { IfOk result
+        (λ f. option_map fault_view f ≡ content_fault (spec_view spec.now) (names_view spot.old.path.items) spot.old.place.items (content_view content.now)) }
+    ensures path { OnOk result (names_view spot.new.path.items ≡ names_view spot.old.path.items) }
+    ensures place { OnOk result (spot.new.place.items ≡ spot.old.place.items) }
+{
+    if spec.is_frontier(&spot.path) {
+        return Ok(None);
+    }
+    if let Some(fault) = fault_among(alloc, spec, spot, &content.items)? {
+        return Ok(Some(fault));
+    }
+    fault_below(alloc, spec, spot, &content.items)
+}
+
+/// The first fault inside the items of the element at the spot.
+#[cycle(walk)]
+fn fault_below(
+    alloc: Global,
+    spec: &Spec,
+    spot: &mut Spot,
+    items: &[Tree],
+) -> Result<Option<KeyFault>, AllocError>
+    requires fit { length items.now ≤ 4294967295 }
+    requires items_fit { IsTrue (all_items_fit (items_view items.now)) }
+    ensures fault { IfOk result
+        (λ f. option_map fault_view f
+        ≡ row_fault (spec_view spec.now) (names_view spot.old.path.items) (item_place spot.old.place.items) 1 (items_view items.now)) }
+    ensures path { OnOk result (names_view spot.new.path.items ≡ names_view spot.old.path.items) }
+    ensures place { OnOk result (spot.new.place.items ≡ spot.old.place.items) }
+{
+    for (position, item) in items.iter().enumerate() {
+        let found = fault_in(alloc, spec, spot, position, item)?;
+        if found.is_some() {
+            return Ok(found);
+        }
+    }
+    Ok(None)
+}
+
+/// The first fault inside the item at this position.
+#[cycle(walk)]
+fn fault_in(
+    alloc: Global,
+    spec: &Spec,
+    spot: &mut Spot,
+    position: usize,
+    item: &Tree,
+) -> Result<Option<KeyFault>, AllocError>
+    requires position { position < 4294967295 }
+    requires items_fit { ItemsFit (tree_view item.now) }
+    ensures fault { IfOk result
+        (λ f. option_map fault_view f
+        ≡ tree_fault (spec_view spec.now) (names_view spot.old.path.items) (item_place spot.old.place.items (position + 1)) (tree_view item.now)) }
+    ensures path { OnOk result (names_view spot.new.path.items ≡ names_view spot.old.path.items) }
+    ensures place { OnOk result (spot.new.place.items ≡ spot.old.place.items) }
+{
+    match item {
+        Tree::Text(_) => Ok(None),
+        Tree::Elem { tag, content } => {
+            spot.enter(alloc, tag.as_str(), position)?;
+            let found = fault_inside(alloc, spec, spot, content)?;
+            spot.leave();
+            Ok(found)
+        }
+    }
+}
+
+/// The first fault of a document's keys, if it has one: inner elements in preorder, and the document's own place first.
+///
+/// At each inner element its own items come first: the first that is bad by itself, else the first whose label an
+/// earlier one has. Each label is read once, and recursion is as deep as elements nest.
+#[tactic(auto, using(jsonml_tree::proofs::Trees::trees, crate::proofs::Law::law))]
+pub fn first_fault(alloc: Global, spec: &Spec, doc: &Tree) -> Result<Option<KeyFault>, AllocError>
+    requires element { IsElement (tree_view doc.now) }
+    requires items_fit { ItemsFit (tree_view doc.now) }
+    ensures fault { IfOk result (λ f. option_map fault_view f ≡ first_fault (spec_view spec.now) (tree_view doc.now)) }
+    ensures none { IfOk result (λ f. IsNone f ↔ Satisfies (spec_view spec.now) (tree_view doc.now)) }
+
+    // The law, of this specification and document.
+    ensures law { (first_fault (spec_view spec.now) (tree_view doc.now) ≡ None) ↔ Satisfies (spec_view spec.now) (tree_view doc.now) }
+{
+    if let Checked::Bad { why, key_path } = check_item(alloc, spec, &[], doc)? {
+        let place = Place {
+            steps: Vec::new(alloc),
+        };
+        return Ok(Some(KeyFault {
+            place,
+            why,
+            key_path,
+        }));
+    }
+    match doc {
+        Tree::Text(_) => Ok(None),
+        Tree::Elem { tag, content } => fault_from(alloc, spec, tag.as_str(), content),
+    }
+}
+
+/// The first fault inside the root element.
+fn fault_from(
+    alloc: Global,
+    spec: &Spec,
+    tag: &str,
+    content: &Content,
+) -> Result<Option<KeyFault>, AllocError>
+    requires { IsTrue (content_items_fit (content_view content.now)) }
+    ensures { IfOk result (λ f. option_map fault_view f ≡ content_fault (spec_view spec.now) (below [] tag.now) [] (content_view content.now)) }
+{
+    let mut path = Vec::with_capacity(alloc, 1)?;
+    path.push(String::from_str(alloc, tag)?)?;
+    let mut spot = Spot {
+        path,
+        place: Vec::new(alloc),
+    };
+    fault_inside(alloc, spec, &mut spot, content)
+}
