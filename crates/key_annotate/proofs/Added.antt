@@ -1,0 +1,33 @@
+-- One item on in a row: what it adds to the kids so far.
+use Rattle.std.proofs.Common.{◌≡◌, ℕ, ◌+◌, ◌<◌, Bool, true, false, cond, IsTrue, true≢false, List, [], ◌∷◌, ◌++◌, map, drop, get_or, length, Option, Some, None, append_assoc, append-nil, refl, ap, sym, ◌∙◌}
+use Rattle.std.specs.Option.{option_map}
+use Rattle.jsonml_tree.specs.Data.{text, element, PlainContent, PlainTrees, no_trees, tree}
+use Rattle.keyed_tree.specs.Data.{PlainKeyed}
+use Rattle.key_spec.specs.Data.{PlainRule}
+use Rattle.key_rules.specs.Satisfies.{is_blank}
+use Rattle.key_annotate.specs.Ordered.{put_first, built_onto, built_items, built_tree}
+
+-- these kids, and then those of the items
+abbrev pub after : List PlainKeyed → Option (List PlainKeyed) → Option (List PlainKeyed)
+after ks items = option_map (λ js. ks ++ js) items
+
+after-one : (ks : List PlainKeyed) (k : PlainKeyed) (o : Option (List PlainKeyed)) → after ks (put_first (Some k) o) ≡ after (ks ++ k ∷ []) o
+after-one ks k None = refl
+after-one ks k (Some js) = ap (λ x. Some x) (sym (append_assoc ks (k ∷ []) js))
+
+pub added-text : (rules : List PlainRule) (path : List (List ℕ)) (s : List ℕ) (rest : PlainTrees) (ks : List PlainKeyed) → is_blank s ≡ true → after ks (built_items rules path (tree (text s) rest)) ≡ after ks (built_items rules path rest)
+added-text rules path s rest ks e = rw e refl
+
+pub added-bad : (rules : List PlainRule) (path : List (List ℕ)) (s : List ℕ) (rest : PlainTrees) (ks : List PlainKeyed) → is_blank s ≡ false → after ks (built_items rules path (tree (text s) rest)) ≡ None
+added-bad rules path s rest ks e = rw e refl
+
+pub added-kid : (rules : List PlainRule) (path : List (List ℕ)) (t : List ℕ) (c : PlainContent) (rest : PlainTrees) (ks : List PlainKeyed) (k : PlainKeyed) → built_tree rules path (element t c) ≡ Some k
+    → after ks (built_items rules path (tree (element t c) rest)) ≡ after (ks ++ k ∷ []) (built_items rules path rest)
+added-kid rules path t c rest ks k e = ap (λ o. after ks (put_first o (built_items rules path rest))) e ∙ after-one ks k (built_items rules path rest)
+
+pub added-none : (rules : List PlainRule) (path : List (List ℕ)) (t : List ℕ) (c : PlainContent) (rest : PlainTrees) (ks : List PlainKeyed) → built_tree rules path (element t c) ≡ None
+    → after ks (built_items rules path (tree (element t c) rest)) ≡ None
+added-none rules path t c rest ks e = ap (λ o. after ks (put_first o (built_items rules path rest))) e
+
+pub after-end : (rules : List PlainRule) (path : List (List ℕ)) (ks : List PlainKeyed) → after ks (built_items rules path no_trees) ≡ Some ks
+after-end rules path ks = ap (λ x. Some x) (append-nil ks)

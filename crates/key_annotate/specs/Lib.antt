@@ -1,0 +1,6 @@
+pub mod KeyedOf
+pub mod Annotated
+pub mod Ordered
+pub mod View
+pub mod Laws
+pub mod Stands
