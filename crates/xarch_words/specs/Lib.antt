@@ -1,0 +1,4 @@
+pub mod Refusal
+pub mod Lines
+pub mod Commands
+pub mod View

@@ -1,0 +1,64 @@
+-- The status of each fault, and its line on the error sink.
+use Rattle.std.specs.Prelude.{ℕ, List, [], ◌∷◌, ◌++◌, Option, Some, None, codes}
+use Rattle.std.specs.Fmt.{decimal}
+use Rattle.std.specs.List.{flat_map}
+use Rattle.key_spec.specs.Data.{PlainPath}
+use Rattle.key_spec.specs.Names.{path_text}
+use Rattle.key_rules.specs.Faults.{PlainKeyFault}
+use Rattle.xarch_words.specs.Refusal.{PlainQuantity, document, depth, specification, Refusal, usage, no_file, bad_spec, bad_json, bad_shape, key_fault, limit, PlainFault, refused, folder_fault, out_fault, memory}
+
+abbrev pub refusal_status : Refusal → ℕ
+refusal_status usage = 2
+refusal_status (no_file name) = 3
+refusal_status (bad_spec line why) = 5
+refusal_status bad_json = 6
+refusal_status (bad_shape place why) = 7
+refusal_status (key_fault f) = 8
+refusal_status (limit quantity number) = 12
+
+abbrev pub fault_status : PlainFault → ℕ
+fault_status (refused r) = refusal_status r
+fault_status folder_fault = 13
+fault_status out_fault = 14
+fault_status memory = 16
+
+-- one position of a place
+abbrev pub step_text : ℕ → List ℕ
+step_text n = 47 ∷ decimal n
+
+-- `/` for the root, and `/1/4` for the fourth item of the root's first item
+unfoldable pub place_text : List ℕ → List ℕ
+place_text [] = codes "/"
+place_text (n ∷ ns) = flat_map step_text (n ∷ ns)
+
+unfoldable pub why_text : ℕ → List ℕ
+why_text why = codes ", why " ++ decimal why
+
+unfoldable pub key_path_text : Option PlainPath → List ℕ
+key_path_text None = []
+key_path_text (Some p) = codes ", key path " ++ path_text p
+
+abbrev pub quantity_text : PlainQuantity → List ℕ
+quantity_text document = codes "document "
+quantity_text depth = codes "depth "
+quantity_text specification = codes "specification "
+
+-- the text of a refusal: numbers in decimal, names as they were given
+unfoldable pub refusal_text : Refusal → List ℕ
+refusal_text usage = codes "these words are no command"
+refusal_text (no_file name) = codes "no file " ++ name
+refusal_text (bad_spec line why) = codes "bad specification, line " ++ decimal line ++ why_text why
+refusal_text bad_json = codes "bad json"
+refusal_text (bad_shape place why) = codes "bad shape at " ++ place_text place ++ why_text why
+refusal_text (key_fault f) = codes "key fault at " ++ place_text f.place ++ why_text f.why ++ key_path_text f.path
+refusal_text (limit quantity number) = codes "limit " ++ quantity_text quantity ++ decimal number
+
+unfoldable pub fault_text : PlainFault → List ℕ
+fault_text (refused r) = refusal_text r
+fault_text folder_fault = codes "folder fault"
+fault_text out_fault = codes "output fault"
+fault_text memory = codes "out of memory"
+
+-- the whole line, with its LF
+unfoldable pub fault_line : PlainFault → List ℕ
+fault_line f = codes "xarch: " ++ fault_text f ++ codes "\n"

@@ -1,0 +1,29 @@
+-- Why a command ends without its answer: plain data, with a list of bytes for each name and a list of positions for each place.
+use Rattle.std.specs.Prelude.{ℕ, List}
+use Rattle.key_rules.specs.Faults.{PlainKeyFault}
+
+-- what has a limit
+pub data PlainQuantity : Type 0 where
+  document : PlainQuantity
+  depth : PlainQuantity
+  specification : PlainQuantity
+
+-- A refusal is an answer of the command itself: the words and the files alone say when it comes.
+pub data Refusal : Type 0 where
+  usage : Refusal
+  no_file : List ℕ → Refusal
+  -- the line and why
+  bad_spec : ℕ → ℕ → Refusal
+  bad_json : Refusal
+  -- the place and why
+  bad_shape : List ℕ → ℕ → Refusal
+  key_fault : PlainKeyFault → Refusal
+  -- the quantity and the number that it passed
+  limit : PlainQuantity → ℕ → Refusal
+
+-- A fault is a refusal, a failure of the folder or of the output, or want of memory.
+pub data PlainFault : Type 0 where
+  refused : Refusal → PlainFault
+  folder_fault : PlainFault
+  out_fault : PlainFault
+  memory : PlainFault

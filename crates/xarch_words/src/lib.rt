@@ -1,0 +1,12 @@
+//! The commands that words spell, and the status and the line of each fault.
+#![tactic(auto, using(crate::proofs::Pieces::pieces))]
+
+mod fault;
+mod line;
+#[cfg(test)]
+mod tests;
+mod words;
+
+pub use fault::{Fault, Quantity, status};
+pub use line::write_fault;
+pub use words::{Command, read_words};
