@@ -1,0 +1,18 @@
+use Rattle.std.proofs.Common.{◌≡◌, List, ℕ, Some, Ok, refl, ◌∙◌, sym, subst}
+use Rattle.keyed_tree.specs.View.{keyed_view}
+use Rattle.xarch_run.specs.KeyedText.{keyed_text}
+use Rattle.xarch_run.proofs.Ending.{and_then-Ok, EndsAs-written}
+use Rattle.xarch_run.proofs.norm.run_norm.Goals as goal
+
+pub returns-clause-told : goal.returns-clause-told
+returns-clause-told g c = λ files told.
+    let told1 : g.F.Folder.files c.length_of.new.folder ≡ Some files = c.in_ok-spec_length.ensures.files ∙ told in
+    let told2 : g.F.Folder.files c.length_of-2.new.folder ≡ Some files = c.in_ok-doc_length.ensures.files ∙ told1 in
+    let told3 : g.F.Folder.files c.read_spec.new.folder ≡ Some files = c.in_ok-spec.ensures.files ∙ told2 in
+    let told4 : g.F.Folder.files c.read_doc.new.folder ≡ Some files = c.in_ok-doc.ensures.files ∙ told3 in
+    let spec_length = c.in_ok-spec_length.ensures.told files told in
+    let doc_length = c.in_ok-doc_length.ensures.told files told1 in
+    let rules = c.in_ok-spec.ensures.told files told2 spec_length in
+    let tree = c.in_ok-doc.ensures.told files told3 doc_length in
+    let defined = and_then-Ok _ _ _ _ spec_length (and_then-Ok _ _ _ _ doc_length (and_then-Ok _ _ _ _ rules (and_then-Ok _ _ _ _ tree (and_then-Ok _ _ _ _ c.in_ok-keyed.ensures.told refl)))) in
+    EndsAs-written _ (record { files = files; output = keyed_text (keyed_view c.in_ok-keyed.keyed) }) c.write_keyed.result _ _ _ _ _ defined told4 c.write_keyed.ensures.bytes c.write_keyed.ensures.cause

@@ -1,0 +1,40 @@
+-- What the bytes of input files are read as.
+use Rattle.std.specs.Prelude.{ℕ, List, Option, Some, None, Result, Ok, Err}
+use Rattle.jsonml_tree.specs.Data.{PlainTree}
+use Rattle.jsonml_text.specs.Document as document
+use Rattle.keyed_tree.specs.Data.{PlainKeyed}
+use Rattle.key_spec.specs.Closed.{closed}
+use Rattle.key_spec.specs.Data.{PlainRule, PlainSpecFault}
+use Rattle.key_rules.specs.Faults.{PlainKeyFault, first_fault}
+use Rattle.key_annotate.specs.Annotated.{keyed_tree}
+use Rattle.xarch_words.specs.Refusal.{depth, Refusal, bad_spec, bad_json, bad_shape, key_fault, limit}
+
+-- the value, or what its fault is refused as
+abbrev pub refused_as : {A E : Type 0} → (E → Refusal) → Result A E → Result A Refusal
+refused_as f (Ok x) = Ok x
+refused_as f (Err e) = Err (f e)
+
+abbrev pub spec_refusal : PlainSpecFault → Refusal
+spec_refusal f = bad_spec f.line f.why
+
+-- the closed rules of a specification
+unfoldable pub rules_of : List ℕ → Result (List PlainRule) Refusal
+rules_of bytes = refused_as spec_refusal (closed bytes)
+
+-- An element on a level above 120 is refused by the limit alone, without its place.
+abbrev pub doc_refusal : document.DocRefusal → Refusal
+doc_refusal document.bad_json = bad_json
+doc_refusal (document.bad_shape place why) = bad_shape place why
+doc_refusal (document.too_deep place) = limit depth 120
+
+-- the tree of a document
+unfoldable pub document_of : List ℕ → Result PlainTree Refusal
+document_of bytes = refused_as doc_refusal (document.doc bytes)
+
+abbrev pub unless_faulty : Option PlainKeyFault → PlainKeyed → Result PlainKeyed Refusal
+unless_faulty None k = Ok k
+unless_faulty (Some f) k = Err (key_fault f)
+
+-- the keyed tree of a document that satisfies the keys
+unfoldable pub keyed_of : List PlainRule → PlainTree → Result PlainKeyed Refusal
+keyed_of rules t = unless_faulty (first_fault rules t) (keyed_tree rules t)

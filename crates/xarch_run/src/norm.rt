@@ -1,0 +1,58 @@
+ghost use Rattle.std.specs.Prelude.{◌≡◌, ◌≤◌, Some};
+ghost use Rattle.xa_outside.specs.Folder.{Files};
+ghost use Rattle.xa_outside.specs.Taken.{Puts};
+ghost use Rattle.keyed_tree.specs.View.{keyed_view};
+ghost use Rattle.xarch_run.specs.Ends.{EndsAs, IsOfCommand, IsOfOutput, fault_of};
+ghost use Rattle.xarch_run.specs.KeyedText.{keyed_text};
+ghost use Rattle.xarch_run.specs.Norm.{norm_of};
+
+use crate::inputs::length_of;
+use crate::limits;
+use crate::print::put_keyed;
+use crate::readings::{keyed_from, read_doc, read_spec};
+use keyed_tree::Keyed;
+use std::alloc::Global;
+use xa_outside::{Folder, Sink};
+use xarch_words::{Fault, Quantity};
+
+/// Writes a document in the order of its keys.
+pub(crate) fn run_norm<F: Folder, O: Sink>(
+    alloc: Global,
+    spec: &str,
+    doc: &str,
+    folder: &mut F,
+    out: &mut O,
+) -> Result<(), Fault>
+    ensures files { F.files folder.new ≡ F.files folder.old }
+    ensures draft { F.draft folder.new ≡ F.draft folder.old }
+    ensures folder_later { F.faults folder.old ≤ F.faults folder.new }
+    ensures out_later { O.faults out.old ≤ O.faults out.new }
+    ensures cause { IsOfCommand (F.faults folder.old) (F.faults folder.new) (O.faults out.old) (O.faults out.new) (fault_of result) }
+    ensures told { (files : Files) → F.files folder.old ≡ Some files
+        → EndsAs (norm_of files spec.now doc.now) (fault_of result) (F.files folder.new) (O.taken out.old) (O.taken out.new) }
+{
+    let spec_length = length_of(
+        alloc,
+        folder,
+        spec,
+        Quantity::Specification,
+        limits::SPECIFICATION,
+    )?;
+    let doc_length = length_of(alloc, folder, doc, Quantity::Document, limits::DOCUMENT)?;
+    let spec = read_spec(alloc, folder, spec, spec_length)?;
+    let doc = read_doc(alloc, folder, doc, doc_length)?;
+    let keyed = keyed_from(alloc, &spec, &doc)?;
+    write_keyed(&keyed, out)
+}
+
+#[tactic(auto, unfolding(crate::specs::Ends::IsOfOutput))]
+fn write_keyed<O: Sink>(keyed: &Keyed, out: &mut O) -> Result<(), Fault>
+    ensures bytes { Puts (O.taken out.old) (O.taken out.new) result (keyed_text (keyed_view keyed.now)) }
+    ensures later { O.faults out.old ≤ O.faults out.new }
+    ensures cause { IsOfOutput (O.faults out.old) (O.faults out.new) (fault_of result) }
+{
+    match put_keyed(keyed, out) {
+        Ok(()) => Ok(()),
+        Err(_) => Err(Fault::OutFault),
+    }
+}
