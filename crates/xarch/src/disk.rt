@@ -1,0 +1,191 @@
+ghost use Rattle.std.specs.Prelude.{◌≡◌, ◌≤◌, None, IfSome, length};
+ghost use Rattle.xa_outside.specs.Causes.{Rose};
+
+use crate::opened::{Found, Opened, open};
+use std::alloc::Global;
+use std::fs;
+use std::io::{ErrorKind, Write};
+use std::rt::Files;
+use xa_outside::{Failed, Folder, Meter};
+
+/// Where a draft is written, in the folder that the program runs in. No file of a user has this name.
+const DRAFT: &str = ".xarch-draft";
+
+/// How much of a draft is gathered before it is written.
+const GATHERED: usize = 65536;
+
+/// The files of the folder that the program runs in.
+///
+/// It keeps the file that it last opened and reads ahead in a page. What is appended is gathered, and written to a draft
+/// file that `commit` renames. It tells no files: what the system holds is trusted.
+#[derive(Drop)]
+pub struct DiskFolder<'a, R: Files> {
+    rt: &'a R,
+    alloc: Global,
+    opened: Option<Opened<R::File>>,
+    draft: Option<R::File>,
+    gathered: Vec<u8>,
+    meter: Meter,
+    faults: u64,
+}
+
+impl<'a, R: Files> DiskFolder<'a, R> {
+    pub fn new(rt: &'a R, alloc: Global) -> DiskFolder<'a, R> {
+        DiskFolder {
+            rt,
+            alloc,
+            opened: None,
+            draft: None,
+            gathered: Vec::new(alloc),
+            meter: Meter::new(),
+            faults: 0,
+        }
+    }
+
+    /// Removes a draft that was not committed.
+    pub fn discard(&mut self) {
+        if self.draft.take().is_some() {
+            let _ = self.rt.remove_file(DRAFT);
+        }
+    }
+
+    /// Opens the named file unless it stands open, and reads from it. None on a failure.
+    fn read_named(&mut self, name: &str, at: u64, buf: &mut [u8]) -> Option<usize>
+        ensures bound { IfSome result (λ n. n ≤ length buf.new) }
+        ensures meter { self.new.meter ≡ self.old.meter }
+        ensures faults { self.new.faults ≡ self.old.faults }
+    {
+        if let Some(opened) = &mut self.opened {
+            if opened.is_named(name) {
+                return opened.read(at, buf);
+            }
+        }
+        match open(self.rt, self.alloc, name)? {
+            Found::Nothing => Some(0),
+            Found::File(mut opened) => {
+                let count = opened.read(at, buf);
+                self.opened = Some(opened);
+                count
+            }
+        }
+    }
+
+    /// Writes what was gathered. None on a failure.
+    fn flush(&mut self) -> Option<()>
+        ensures meter { self.new.meter ≡ self.old.meter }
+        ensures faults { self.new.faults ≡ self.old.faults }
+    {
+        let file = self.draft.as_mut()?;
+        file.write_all(&self.gathered).ok()?;
+        self.gathered.clear();
+        Some(())
+    }
+
+    /// Gathers a piece, or writes it where it is long. None on a failure.
+    fn gather(&mut self, piece: &[u8]) -> Option<()>
+        ensures meter { self.new.meter ≡ self.old.meter }
+        ensures faults { self.new.faults ≡ self.old.faults }
+    {
+        if self.draft.is_none() {
+            return None;
+        }
+        if self.gathered.len().saturating_add(piece.len()) > GATHERED {
+            self.flush()?;
+        }
+        if piece.len() >= GATHERED {
+            return self.draft.as_mut()?.write_all(piece).ok();
+        }
+        self.gathered.extend_from_slice(piece).ok()
+    }
+
+    /// Writes what was gathered, and gives the draft its name. None on a failure.
+    fn rename_draft(&mut self, name: &str) -> Option<()>
+        ensures meter { self.new.meter ≡ self.old.meter }
+        ensures faults { self.new.faults ≡ self.old.faults }
+    {
+        if name == DRAFT {
+            return None;
+        }
+        self.flush()?;
+        self.rt.rename(DRAFT, name).ok()?;
+        self.draft = None;
+        self.opened = None;
+        Some(())
+    }
+
+    fn fail(&mut self) -> Failed
+        ensures meter { self.new.meter ≡ self.old.meter }
+        ensures later { self.old.faults ≤ self.new.faults }
+        ensures rose { Rose self.old.faults self.new.faults }
+    {
+        self.faults = self.faults.saturating_add(1);
+        Failed
+    }
+}
+
+impl<R: Files> Folder for DiskFolder<'_, R> {
+    ghost use Rattle.xa_outside.specs.Meter.{numbers, meter_law};
+
+    ghost files = { λ _. None };
+
+    ghost draft = { λ _. None };
+
+    ghost numbers = { λ f. numbers f.meter };
+
+    ghost faults = { λ f. f.faults };
+
+    ghost metered = { λ f. meter_law f.meter };
+
+    fn length(&mut self, name: &str) -> Result<Option<u64>, Failed> {
+        if name == DRAFT {
+            return Err(self.fail());
+        }
+        match self.rt.metadata(name) {
+            Ok(found) if found.is_file() => Ok(Some(found.len())),
+            Err(error) if error.kind() == ErrorKind::NotFound => Ok(None),
+            _ => Err(self.fail()),
+        }
+    }
+
+    fn read_at(&mut self, name: &str, at: u64, buf: &mut [u8]) -> Result<usize, Failed> {
+        if name == DRAFT {
+            return Err(self.fail());
+        }
+        match self.read_named(name, at, buf) {
+            Some(count) => {
+                self.meter.pull(count);
+                Ok(count)
+            }
+            None => Err(self.fail()),
+        }
+    }
+
+    fn begin(&mut self) -> Result<(), Failed> {
+        match fs::create(self.rt, DRAFT) {
+            Ok(file) => {
+                self.draft = Some(file);
+                self.gathered.clear();
+                self.meter.begin();
+                Ok(())
+            }
+            Err(_) => Err(self.fail()),
+        }
+    }
+
+    fn append(&mut self, piece: &[u8]) -> Result<(), Failed> {
+        match self.gather(piece) {
+            Some(()) => {
+                self.meter.draft(piece.len());
+                Ok(())
+            }
+            None => Err(self.fail()),
+        }
+    }
+
+    fn commit(&mut self, name: &str) -> Result<(), Failed> {
+        match self.rename_draft(name) {
+            Some(()) => Ok(()),
+            None => Err(self.fail()),
+        }
+    }
+}

@@ -1,0 +1,68 @@
+ghost use Rattle.std.specs.Prelude.{◌≡◌};
+
+use std::io::{Read, Write};
+use xa_outside::{Failed, Sink, Source};
+
+/// A reader as a source, with a count of its failures.
+#[derive(Drop)]
+pub struct ReaderSource<R> {
+    inner: R,
+    faults: u64,
+}
+
+impl<R> ReaderSource<R> {
+    pub fn new(inner: R) -> ReaderSource<R>
+        ensures { result ≡ record { inner = inner; faults = 0 } }
+    {
+        ReaderSource { inner, faults: 0 }
+    }
+}
+
+impl<R: Read> Source for ReaderSource<R> {
+    ghost rest = { λ s. R.remaining s.inner };
+
+    ghost faults = { λ s. s.faults };
+
+    fn read(&mut self, buf: &mut [u8]) -> Result<usize, Failed> {
+        match self.inner.read(buf) {
+            Ok(count) => Ok(count),
+            Err(_) => {
+                self.faults = self.faults.saturating_add(1);
+                Err(Failed)
+            }
+        }
+    }
+}
+
+/// A writer as a sink, with a count of its failures. Taking nothing of a piece is one.
+#[derive(Drop)]
+pub struct WriterSink<W> {
+    inner: W,
+    faults: u64,
+}
+
+impl<W> WriterSink<W> {
+    pub fn new(inner: W) -> WriterSink<W>
+        ensures { result ≡ record { inner = inner; faults = 0 } }
+    {
+        WriterSink { inner, faults: 0 }
+    }
+}
+
+impl<W: Write> Sink for WriterSink<W> {
+    ghost use Rattle.xa_outside.specs.Taken.{plainly};
+
+    ghost taken = { λ s. plainly (W.contents s.inner) };
+
+    ghost faults = { λ s. s.faults };
+
+    fn write(&mut self, piece: &[u8]) -> Result<usize, Failed> {
+        match self.inner.write(piece) {
+            Ok(count) if count > 0 || piece.is_empty() => Ok(count),
+            _ => {
+                self.faults = self.faults.saturating_add(1);
+                Err(Failed)
+            }
+        }
+    }
+}
