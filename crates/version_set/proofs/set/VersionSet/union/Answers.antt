@@ -1,0 +1,12 @@
+use Rattle.std.proofs.Common.{◌||◌, ◌∙◌}
+use Rattle.version_set.specs.Members.{members, has}
+use Rattle.version_set.proofs.SetLemmas.{members_either, pairs_united}
+use Rattle.version_set.proofs.set.VersionSet.union.Goals as goal
+
+pub returns-clause-members : goal.returns-clause-members
+returns-clause-members c = members_either c.args.self.now.pairs.items c.args.other.now.pairs.items _ c.args.self.now.canonical c.args.other.now.canonical c.in_ok-pairs.ensures.canonical (λ n. c.in_ok-pairs.ensures.numbers n ∙ (λ i. has (members (c.pairs.ensures i)) n || has (members (c.pairs-2.ensures i)) n))
+
+pub returns-clause-pairs : goal.returns-clause-pairs
+returns-clause-pairs c =
+    pairs_united c.args.self.now.pairs.items c.args.other.now.pairs.items _ c.in_ok-pairs.ensures.canonical
+    (members_either c.args.self.now.pairs.items c.args.other.now.pairs.items _ c.args.self.now.canonical c.args.other.now.canonical c.in_ok-pairs.ensures.canonical (λ n. c.in_ok-pairs.ensures.numbers n ∙ (λ i. has (members (c.pairs.ensures i)) n || has (members (c.pairs-2.ensures i)) n)))

@@ -1,0 +1,10 @@
+//! Sets of version numbers, as ascending lists of intervals.
+#![tactic(auto)]
+
+mod pairs;
+mod set;
+#[cfg(test)]
+mod tests;
+mod text;
+
+pub use set::VersionSet;
