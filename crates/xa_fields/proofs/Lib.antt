@@ -1,0 +1,4 @@
+pub mod Utf8
+pub mod Fields
+pub mod Combinators
+pub mod Loops

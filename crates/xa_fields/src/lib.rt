@@ -1,0 +1,10 @@
+//! Numbers and texts in bytes.
+#![tactic(auto)]
+
+mod put;
+mod take;
+#[cfg(test)]
+mod tests;
+
+pub use put::{put_text, put_u32, put_u64};
+pub use take::{take_text, take_u8, take_u32, take_u64};
