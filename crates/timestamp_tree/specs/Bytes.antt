@@ -1,0 +1,16 @@
+-- Sets and trees as bytes.
+use Rattle.std.specs.Prelude.{ℕ, List, ◌++◌}
+use Rattle.xa_fields.specs.Spelling.{u32_bytes, u64_bytes, list_bytes}
+use Rattle.timestamp_tree.specs.Data.{PlainTs, leaf, node}
+
+abbrev pub pair_bytes : ℕ × ℕ → List ℕ
+pair_bytes p = u32_bytes p.0 ++ u32_bytes p.1
+
+-- the number of intervals, and the intervals
+abbrev pub set_bytes : List (ℕ × ℕ) → List ℕ
+set_bytes ps = list_bytes pair_bytes ps
+
+-- the set, the byte size of the left part, the left part and the right part
+abbrev pub tree_bytes : PlainTs → List ℕ
+tree_bytes (leaf s) = set_bytes s ++ u64_bytes 0
+tree_bytes (node s n l r) = set_bytes s ++ (u64_bytes n ++ (tree_bytes l ++ tree_bytes r))

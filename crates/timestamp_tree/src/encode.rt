@@ -1,0 +1,54 @@
+// Writing sets and trees.
+ghost use Rattle.std.specs.Prelude.{◌≡◌, ◌++◌, OnOk};
+ghost use Rattle.std.specs.List.{flat_map};
+ghost use Rattle.version_set.specs.View.{pairs_of};
+ghost use Rattle.xa_fields.specs.Laws.{Grows};
+ghost use Rattle.timestamp_tree.specs.Bytes.{pair_bytes, set_bytes, tree_bytes};
+ghost use Rattle.timestamp_tree.specs.NodeView.{node_view};
+
+use crate::node::Node;
+use std::alloc::AllocError;
+use version_set::VersionSet;
+use xa_fields::{put_u32, put_u64};
+
+/// Appends the number of intervals and the intervals, and on a refusal some of it.
+#[tactic(auto, using(xa_fields::proofs::Combinators::growth))]
+pub fn put_set(out: &mut Vec<u8>, set: &VersionSet) -> Result<(), AllocError>
+    ensures ok { OnOk result (out.new.items ≡ out.old.items ++ set_bytes (pairs_of set.now)) }
+    ensures grows { Grows out.old.items out.new.items }
+{
+    put_u32(out, set.count())?;
+    put_pairs(out, set.pairs())
+}
+
+#[tactic(auto, using(xa_fields::proofs::Combinators::growth))]
+fn put_pairs(out: &mut Vec<u8>, pairs: &[(u32, u32)]) -> Result<(), AllocError>
+    ensures ok { OnOk result (out.new.items ≡ out.old.items ++ flat_map pair_bytes pairs.now) }
+    ensures grows { Grows out.old.items out.new.items }
+{
+    for (from, to) in pairs {
+        put_u32(out, *from)?;
+        put_u32(out, *to)?;
+    }
+    Ok(())
+}
+
+/// Appends a tree in preorder, and on a refusal some of it.
+#[tactic(auto, using(xa_fields::proofs::Combinators::growth, crate::proofs::Views::views))]
+pub fn put_node(out: &mut Vec<u8>, node: &Node) -> Result<(), AllocError>
+    ensures ok { OnOk result (out.new.items ≡ out.old.items ++ tree_bytes (node_view node.now)) }
+    ensures grows { Grows out.old.items out.new.items }
+{
+    match node {
+        Node::Leaf(set) => {
+            put_set(out, set)?;
+            put_u64(out, 0)
+        }
+        Node::Inner(set, left_size, left, right) => {
+            put_set(out, set)?;
+            put_u64(out, *left_size)?;
+            put_node(out, left)?;
+            put_node(out, right)
+        }
+    }
+}
