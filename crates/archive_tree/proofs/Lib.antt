@@ -1,0 +1,13 @@
+pub mod Parts
+pub mod OneArchive
+pub mod Numbers
+pub mod Those
+pub mod Readings
+pub mod Histories
+pub mod NodeViews
+pub mod Versions
+pub mod Necessary
+pub mod Sufficient
+pub mod Rebuilt
+pub mod Tests
+pub mod Differ

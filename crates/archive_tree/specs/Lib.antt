@@ -1,0 +1,10 @@
+pub mod Data
+pub mod Stands
+pub mod WellFormed
+pub mod View
+pub mod ArchiveView
+pub mod Read
+pub mod History
+pub mod Seek
+pub mod Parts
+pub mod PartsTest

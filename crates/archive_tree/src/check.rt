@@ -1,0 +1,234 @@
+// Whether parts are those of an archive.
+ghost use Rattle.std.specs.Prelude.{◌≡◌, IfOk, Some, map, []};
+ghost use Rattle.std.specs.Option.{option_map};
+ghost use Rattle.std.specs.List.{list_all};
+ghost use Rattle.version_set.specs.Members.{members, has};
+ghost use Rattle.version_set.specs.View.{pairs_of};
+ghost use Rattle.keyed_tree.specs.Proper.{is_tag};
+ghost use Rattle.keyed_tree.specs.View.{name_view};
+ghost use Rattle.archive_tree.specs.Data.{PlainArchive, eff};
+ghost use Rattle.archive_tree.specs.Stands.{head_or, bodies, labels};
+ghost use Rattle.archive_tree.specs.Parts.{alt_sets, node_sets};
+ghost use Rattle.archive_tree.specs.PartsTest.{is_none, is_same, is_stamp_well, are_apart, are_parts, are_stamps_well, do_firsts_rise, do_differ, are_alts_well, is_node_well, are_nodes_well, are_elements, is_archive};
+ghost use Rattle.archive_tree.specs.Seek.{rise};
+ghost use Rattle.archive_tree.specs.View.{stamp_view, alt_view, node_view, nodes_view};
+
+use crate::node::{ANode, Alt, effective};
+use keyed_tree::Name;
+use std::alloc::{AllocError, Global};
+use std::collections::BTreeSet;
+use version_set::VersionSet;
+
+/// Whether the parts are those of an archive of n versions.
+pub fn are_archive_parts(alloc: Global, n: u32, kids: &[ANode]) -> Result<bool, AllocError>
+    ensures { IfOk result (λ b. b ≡ is_archive (record { n = n; kids = nodes_view kids.now })) }
+{
+    let all = VersionSet::upto(alloc, n);
+    Ok(
+        do_labels_rise(kids)
+            && are_elements(kids)
+            && are_nodes_well(alloc, &all, kids)?
+            && are_kids_parts(alloc, &all, kids)?,
+    )
+}
+
+// The node, with all below it, under a parent that has the set.
+#[cycle(check)]
+fn is_node_well(alloc: Global, parent: &VersionSet, node: &ANode) -> Result<bool, AllocError>
+    ensures { IfOk result (λ b. b ≡ is_node_well (node_view node.now) (members (pairs_of parent.now))) }
+{
+    let set = effective(node.stamp(), parent);
+    match node {
+        ANode::Inner { stamp, kids, .. } => Ok(
+            is_stamp_well(stamp, parent)?
+                && do_labels_rise(kids)
+                && are_nodes_well(alloc, set, kids)?,
+        ),
+        ANode::Leaf { stamp, alts, .. } => {
+            Ok(is_stamp_well(stamp, parent)? && are_alts_well(alloc, set, alts)?)
+        }
+    }
+}
+
+#[cycle(check)]
+fn are_nodes_well(alloc: Global, set: &VersionSet, nodes: &[ANode]) -> Result<bool, AllocError>
+    ensures { IfOk result (λ b. b ≡ are_nodes_well (nodes_view nodes.now) (members (pairs_of set.now))) }
+{
+    for node in nodes {
+        if !is_node_well(alloc, set, node)? {
+            return Ok(false);
+        }
+    }
+    Ok(true)
+}
+
+fn do_labels_rise(nodes: &[ANode]) -> bool
+    ensures { result ≡ rise (labels (nodes_view nodes.now)) }
+{
+    let Some((first, rest)) = nodes.split_first() else {
+        return true;
+    };
+    let mut last = first.label();
+    for node in rest {
+        if !last.order(node.label()).is_lt() {
+            return false;
+        }
+        last = node.label();
+    }
+    true
+}
+
+fn are_elements(nodes: &[ANode]) -> bool
+    ensures { result ≡ are_elements (nodes_view nodes.now) }
+{
+    for node in nodes {
+        if !is_tag(&node.label().name) {
+            return false;
+        }
+    }
+    true
+}
+
+fn is_tag(name: &Name) -> bool
+    ensures { result ≡ is_tag (name_view name.now) }
+{
+    match name {
+        Name::Attr(_) => false,
+        Name::Tag(_) => true,
+    }
+}
+
+fn are_kids_parts(alloc: Global, set: &VersionSet, nodes: &[ANode]) -> Result<bool, AllocError>
+    ensures { IfOk result (λ b. b ≡ are_parts [] (members (pairs_of set.now)) (node_sets (members (pairs_of set.now)) (nodes_view nodes.now))) }
+{
+    let mut union = VersionSet::empty(alloc);
+    for node in nodes {
+        let part = effective(node.stamp(), set);
+        if !are_apart(&union, part)? {
+            return Ok(false);
+        }
+        union = union.union(part)?;
+    }
+    Ok(is_same(&union, set))
+}
+
+// The alternatives of a leaf that has the set.
+fn are_alts_well(alloc: Global, set: &VersionSet, alts: &[Alt]) -> Result<bool, AllocError>
+    ensures { IfOk result (λ b. b ≡ are_alts_well (members (pairs_of set.now)) (map alt_view alts.now)) }
+{
+    Ok(
+        are_stamps_well(set, alts)?
+            && do_firsts_rise(set, alts)
+            && are_alts_parts(alloc, set, alts)?
+            && do_bodies_differ(alloc, alts)?,
+    )
+}
+
+fn are_stamps_well(set: &VersionSet, alts: &[Alt]) -> Result<bool, AllocError>
+    ensures { IfOk result (λ b. b ≡ are_stamps_well (members (pairs_of set.now)) (map alt_view alts.now)) }
+{
+    for alt in alts {
+        if !is_stamp_well(&alt.stamp, set)? {
+            return Ok(false);
+        }
+    }
+    Ok(true)
+}
+
+fn do_firsts_rise(set: &VersionSet, alts: &[Alt]) -> bool
+    ensures { result ≡ do_firsts_rise 0 (members (pairs_of set.now)) (map alt_view alts.now) }
+{
+    let mut low = 0;
+    for alt in alts {
+        let first = u64::from(first_number(effective(&alt.stamp, set)));
+        if first < low {
+            return false;
+        }
+        low = first + 1;
+    }
+    true
+}
+
+// The first number, 0 where there is none.
+fn first_number(set: &VersionSet) -> u32
+    ensures { result ≡ head_or 0 (members (pairs_of set.now)) }
+{
+    match set.pairs().first() {
+        Some(pair) => pair.0,
+        None => 0,
+    }
+}
+
+fn are_alts_parts(alloc: Global, set: &VersionSet, alts: &[Alt]) -> Result<bool, AllocError>
+    ensures { IfOk result (λ b. b ≡ are_parts [] (members (pairs_of set.now)) (alt_sets (members (pairs_of set.now)) (map alt_view alts.now))) }
+{
+    let mut union = VersionSet::empty(alloc);
+    for alt in alts {
+        let part = effective(&alt.stamp, set);
+        if !are_apart(&union, part)? {
+            return Ok(false);
+        }
+        union = union.union(part)?;
+    }
+    Ok(is_same(&union, set))
+}
+
+fn do_bodies_differ(alloc: Global, alts: &[Alt]) -> Result<bool, AllocError>
+    ensures { IfOk result (λ b. b ≡ do_differ (bodies (map alt_view alts.now))) }
+{
+    let mut seen = BTreeSet::new(alloc);
+    for alt in alts {
+        if !seen.insert(&alt.body)? {
+            return Ok(false);
+        }
+    }
+    Ok(true)
+}
+
+// A stored set is not empty, lies in the parent's and differs from it; without one the parent's is not empty.
+fn is_stamp_well(stamp: &Option<VersionSet>, parent: &VersionSet) -> Result<bool, AllocError>
+    ensures { IfOk result (λ b. b ≡ is_stamp_well (stamp_view stamp.now) (members (pairs_of parent.now))) }
+{
+    match stamp {
+        None => Ok(!is_empty(parent)),
+        Some(set) => is_stored_well(set, parent),
+    }
+}
+
+#[tactic(auto, using(crate::proofs::Tests::canonical))]
+fn is_stored_well(set: &VersionSet, parent: &VersionSet) -> Result<bool, AllocError>
+    ensures { IfOk result (λ b. b ≡ is_stamp_well (Some (pairs_of set.now)) (members (pairs_of parent.now))) }
+{
+    if is_empty(set) || is_same(set, parent) {
+        return Ok(false);
+    }
+    is_within(set, parent)
+}
+
+#[tactic(auto, using(crate::proofs::Tests::sets))]
+fn is_within(set: &VersionSet, other: &VersionSet) -> Result<bool, AllocError>
+    ensures { IfOk result (λ b. b ≡ list_all (has (members (pairs_of other.now))) (members (pairs_of set.now))) }
+{
+    let both = set.meet(other)?;
+    Ok(is_same(&both, set))
+}
+
+#[tactic(auto, using(crate::proofs::Tests::sets))]
+fn are_apart(one: &VersionSet, other: &VersionSet) -> Result<bool, AllocError>
+    ensures { IfOk result (λ b. b ≡ are_apart (members (pairs_of one.now)) (members (pairs_of other.now))) }
+{
+    let both = other.meet(one)?;
+    Ok(is_empty(&both))
+}
+
+fn is_same(one: &VersionSet, other: &VersionSet) -> bool
+    ensures { result ≡ is_same (members (pairs_of one.now)) (members (pairs_of other.now)) }
+{
+    one.same(other)
+}
+
+fn is_empty(set: &VersionSet) -> bool
+    ensures { result ≡ is_none (members (pairs_of set.now)) }
+{
+    set.pairs().is_empty()
+}
