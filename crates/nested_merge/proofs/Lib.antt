@@ -1,0 +1,13 @@
+pub mod Stamps
+pub mod Picked
+pub mod OneVersion
+pub mod Weave
+pub mod Leaves
+pub mod Grown
+pub mod Alikes
+pub mod ArchiveGrows
+pub mod Rows
+pub mod Bounds
+pub mod WellFormedGrows
+pub mod VersionsStay
+pub mod Kepts

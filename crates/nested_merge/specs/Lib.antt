@@ -1,0 +1,4 @@
+pub mod Merged
+pub mod Alike
+pub mod Below
+pub mod Laws

@@ -1,0 +1,49 @@
+// The stamps of an archive with version n.
+ghost use Rattle.std.specs.Prelude.{◌≡◌, ◌≤◌, IfOk, IsTrue};
+ghost use Rattle.std.specs.Option.{option_map, unwrap_or};
+ghost use Rattle.version_set.specs.View.{pairs_of};
+ghost use Rattle.archive_tree.specs.View.{stamp_view};
+ghost use Rattle.nested_merge.specs.Merged.{grown, kept, started};
+ghost use Rattle.nested_merge.specs.Below.{is_stamp_below};
+
+use archive_tree::effective;
+use std::alloc::{AllocError, Global};
+use version_set::VersionSet;
+
+// The stamp of what version n has too.
+pub fn grown_stamp(n: u32, stamp: &Option<VersionSet>) -> Result<Option<VersionSet>, AllocError>
+    requires { IsTrue (is_stamp_below n (stamp_view stamp.now)) }
+    ensures { IfOk result (λ s. stamp_view s ≡ grown n (stamp_view stamp.now)) }
+{
+    match stamp {
+        None => Ok(None),
+        Some(set) => {
+            let mut more = set.copy()?;
+            more.reserve_one()?;
+            more.add_last(n);
+            Ok(Some(more))
+        }
+    }
+}
+
+// The stamp of what version n does not have, under a parent that has it and had the set before.
+pub fn kept_stamp(
+    parent: &VersionSet,
+    stamp: &Option<VersionSet>,
+) -> Result<Option<VersionSet>, AllocError>
+    ensures { IfOk result (λ s. stamp_view s ≡ kept (pairs_of parent.now) (stamp_view stamp.now)) }
+{
+    Ok(Some(effective(stamp, parent).copy()?))
+}
+
+// The stamp of what begins with version n, under a parent that had the set before.
+pub fn started_stamp(alloc: Global, n: u32, parent: &VersionSet) -> Option<VersionSet>
+    requires { 1 ≤ n }
+    ensures { stamp_view result ≡ started n (pairs_of parent.now) }
+{
+    if parent.pairs().is_empty() {
+        None
+    } else {
+        Some(VersionSet::single(alloc, n))
+    }
+}
