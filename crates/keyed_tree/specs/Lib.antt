@@ -5,6 +5,7 @@ pub mod Laws
 pub mod Kids
 pub mod Same
 pub mod Paths
+pub mod Alike
 pub mod Holds
 pub mod WellFormed
 pub mod Proper
