@@ -57,7 +57,7 @@ along_unkeyed p [] i h = absurd h
 along_unkeyed p (tag ∷ tags) i (inl e) = ap (λ (r : PlainRule). r.paths) e
 along_unkeyed p (tag ∷ tags) i (inr h) = along_unkeyed (below p tag) tags i h
 
-implied_unkeyed : (rules : List PlainRule) (i : PlainRule) → In i (implied_rules rules) → i.paths ≡ []
+pub implied_unkeyed : (rules : List PlainRule) (i : PlainRule) → In i (implied_rules rules) → i.paths ≡ []
 implied_unkeyed rules i h =
     let rule = In-flat_map implied_by rules i h in
     let path = In-flat_map (λ (p : PlainPath). implied_along (target_of rule.0) p.tags) rule.0.paths i rule.2 in
@@ -176,14 +176,14 @@ module _ (text : List ℕ) (rs : List PlainRule) (closes : closed text ≡ Ok rs
       empty (p ∷ ps) f = let yes : true ≡ false = ap (λ b. b && true) (sym (lt-ltb 0 (length (p ∷ ps)) (omega arith))) ∙ f in cc
 
   -- so each implied rule is closed
-  implied_closed : (i : PlainRule) → In i (implied_rules (rules_of text)) → In i rs
+  pub implied_closed : (i : PlainRule) → In i (implied_rules (rules_of text)) → In i rs
   implied_closed i h =
       let c = covered i (In-left i (implied_rules (rules_of text)) (rules_of text) h) in
       let no_keys : c.0.paths ≡ [] = ⊎_elim (λ l. implied_unkeyed (rules_of text) c.0 l) (λ l. unkeyed c.0 i l h (sym (target_same c.0 i c.2))) (from_closed c.0 c.1) in
       subst (λ r. In r rs) (unkeyed_same c.0 i c.2 no_keys (implied_unkeyed (rules_of text) i h)) c.1
 
   -- what closed rules imply is what the given ones imply
-  implied_again : (i : PlainRule) → In i (implied_rules rs) → In i (implied_rules (rules_of text))
+  pub implied_again : (i : PlainRule) → In i (implied_rules rs) → In i (implied_rules (rules_of text))
   implied_again i h =
       let rule = In-flat_map implied_by rs i h in
       ⊎_elim
@@ -201,7 +201,7 @@ module _ (text : List ℕ) (rs : List PlainRule) (closes : closed text ≡ Ok rs
       (from_closed rule.0 rule.1)
 
   -- a closed rule's context is `/` or the target of a closed rule
-  has_context : (r : PlainRule) → In r rs → (r.context ≡ []) ⊎ ((e : PlainRule) × In e rs × (target_of e ≡ r.context))
+  pub has_context : (r : PlainRule) → In r rs → (r.context ≡ []) ⊎ ((e : PlainRule) × In e rs × (target_of e ≡ r.context))
   has_context r h =
       let at = λ (s : (z : PlainRule) × In z (implied_rules (rules_of text) ++ rules_of text) × (target_of z ≡ r.context)). let c = covered s.0 s.1 in
       let found : (e : PlainRule) × In e rs × (target_of e ≡ r.context) = (c.0, c.1, target_same c.0 s.0 c.2 ∙ s.2) in found in
@@ -299,3 +299,11 @@ module _ (text : List ℕ) (rs : List PlainRule) (closes : closed text ≡ Ok rs
 
   pub closed_ascends : IsStrictlySortedBy rule_cmp rs
   closed_ascends = sorted
+
+  -- no closed rule has a frontier end as its context
+  pub closed_open : (r : PlainRule) (p : List (List ℕ)) → In r rs → In p (frontier_ends rs) → is_eq (path_cmp r.context p) ≡ true → ⊥
+  closed_open r p h g e =
+      let same = (path_cmp-Decides r.context p).0 e in
+      let at_end : has_path (frontier_ends rs) r.context ≡ true = to_any (λ q. is_eq (path_cmp q r.context)) (frontier_ends rs) p g ((path_cmp-Decides p r.context).1 (sym same)) in
+      let past : passes_end rs r ≡ true = or_left (has_path (frontier_ends rs) r.context) _ at_end in
+      let no : true ≡ false = sym past ∙ way_fine r h in cc

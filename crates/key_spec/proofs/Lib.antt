@@ -13,8 +13,10 @@ pub mod PathLemmas
 pub mod RoundTrip
 pub mod RuleLaws
 pub mod ParseLemmas
+pub mod SameNames
 pub mod SearchLemmas
 pub mod SortLemmas
+pub mod SpecLaws
 pub mod Steps
 pub mod TextLemmas
 pub mod TokenLemmas

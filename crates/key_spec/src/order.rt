@@ -1,5 +1,6 @@
 // The orders of paths and rules.
 ghost use Rattle.std.specs.Prelude.{◌≡◌, string_bytes};
+ghost use Rattle.std.specs.Ordering.{is_eq};
 ghost use Rattle.key_spec.specs.Rules.{path_cmp, place_cmp, rule_cmp};
 ghost use Rattle.key_spec.specs.View.{names_view, rule_view};
 
@@ -39,4 +40,32 @@ pub(crate) fn order_paths(ours: &[String], theirs: &[String]) -> Ordering
     } else {
         Ordering::Equal
     }
+}
+
+/// Whether a rule has this context and tag.
+#[tactic(auto, using(crate::proofs::SameNames::same))]
+pub(crate) fn stands_at(rule: &Rule, context: &[String], tag: &str) -> bool
+    ensures { result ≡ is_eq (place_cmp (names_view rule.now.context.items) (string_bytes rule.now.tag) (names_view context.now) tag.now) }
+{
+    rule.tag.as_str() == tag && are_same(&rule.context, context)
+}
+
+/// Whether the names are the same.
+#[tactic(auto, using(crate::proofs::SameNames::same))]
+pub(crate) fn are_same(ours: &[String], theirs: &[String]) -> bool
+    ensures { result ≡ is_eq (path_cmp (names_view ours.now) (names_view theirs.now)) }
+{
+    if ours.len() != theirs.len() {
+        return false;
+    }
+    let mut others = theirs.iter();
+    for a in ours {
+        let Some(b) = others.next() else {
+            return false;
+        };
+        if a.as_str() != b.as_str() {
+            return false;
+        }
+    }
+    others.next().is_none()
 }

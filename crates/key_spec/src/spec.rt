@@ -1,18 +1,24 @@
 ghost use Rattle.std.specs.Prelude.{◌≡◌, ◌≤◌, Ok, IfOk, IfErr, IfSome, map, option_map, length, string_bytes, vec_len};
 ghost use Rattle.key_spec.specs.Closed.{closed, IsClosed};
 ghost use Rattle.key_spec.specs.Canonical.{canonical};
+ghost use Rattle.std.specs.List.{list_any};
+ghost use Rattle.std.specs.Ordering.{is_eq};
 ghost use Rattle.key_spec.specs.RuleView.{names_view, rule_view};
+ghost use Rattle.key_spec.specs.Rules.{path_cmp};
 
 use crate::close::close;
 use crate::closing::check_closing;
 use crate::fault::SpecFault;
 use crate::given::read_lines;
-use crate::order::{order_paths, order_place};
+use crate::order::{are_same, order_paths, order_place, stands_at};
 use crate::rule::{Rule, push_rule};
 use std::alloc::{AllocError, Global};
 
 /// At most so many bytes of canonical text.
 const MAX_TEXT: usize = 1_048_576;
+
+/// So many rules are looked at one after the other; more are looked up by halving.
+const FEW: usize = 64;
 
 /// A closed specification: all given and implied rules, ascending by context and then by tag.
 #[derive(Debug, Drop)]
@@ -56,6 +62,9 @@ impl Spec {
         ensures few_paths { IfSome result (λ r. vec_len r.now.paths ≤ 16) }
         ensures rule { option_map (λ r. rule_view r.now) result ≡ rule_of (spec_view self.now) (names_view context.now) tag.now }
     {
+        if self.rules.len() <= FEW {
+            return self.rule_in_turn(context, tag);
+        }
         match self
             .rules
             .binary_search_by(|rule| order_place(rule, context, tag))
@@ -65,10 +74,26 @@ impl Spec {
         }
     }
 
+    /// The rule with this context and tag, looked for rule by rule.
+    fn rule_in_turn(&self, context: &[String], tag: &str) -> Option<&Rule>
+        ensures few_paths { IfSome result (λ r. vec_len r.now.paths ≤ 16) }
+        ensures rule { option_map (λ r. rule_view r.now) result ≡ rule_of (spec_view self.now) (names_view context.now) tag.now }
+    {
+        for rule in &self.rules {
+            if stands_at(rule, context, tag) {
+                return Some(rule);
+            }
+        }
+        None
+    }
+
     /// Whether no rule has this path as its context, looked up by halving.
     pub fn is_frontier(&self, path: &[String]) -> bool
         ensures { result ≡ is_frontier (spec_view self.now) (names_view path.now) }
     {
+        if self.rules.len() <= FEW {
+            return !is_context(&self.rules, path);
+        }
         self.rules
             .binary_search_by(|rule| order_paths(&rule.context, path))
             .is_err()
@@ -81,6 +106,18 @@ impl Spec {
     {
         canonical_text(alloc, &self.rules)
     }
+}
+
+/// Whether one of the rules has this context.
+fn is_context(rules: &[Rule], path: &[String]) -> bool
+    ensures { result ≡ list_any (λ r. is_eq (path_cmp r.context (names_view path.now))) (map rule_view rules.now) }
+{
+    for rule in rules {
+        if are_same(&rule.context, path) {
+            return true;
+        }
+    }
+    false
 }
 
 #[tactic(auto, unfolding(crate::specs::Canonical::canonical))]

@@ -176,7 +176,9 @@ fn rules_are_found_by_context_and_tag(rt: HostRuntime) -> Result<(), Fail> {
     assert!(rt; spec.rule(&dept, "sal").is_none());
     let emp = spec.rule(&dept, "emp").ok_or("no rule")?;
     let first = emp.paths.first().ok_or("no key path")?;
+    let second = emp.paths.get(1).ok_or("one key path")?;
     assert_eq!(rt; first.text(alloc)?.as_str(), "fn");
+    assert_eq!(rt; second.text(alloc)?.as_str(), "ln");
     assert!(rt; spec.is_frontier(&tel));
     assert!(rt; !spec.is_frontier(&dept));
     Ok(())

@@ -1,0 +1,42 @@
+-- Names that are the same, by length and bytes, against their order.
+use Rattle.std.proofs.Common.{◌≡◌, ◌≢◌, ℕ, suc, Bool, true, false, ◌&&◌, List, [], ◌∷◌, length, refl, ap, sym, ◌∙◌, arith}
+use Rattle.std.proofs.lemmas.Map.Text.{is_eq-slice_cmp}
+use Rattle.std.specs.Ordering.{is_eq, ordering_then}
+use Rattle.std.specs.declared.cmp.Ordering.{Ordering}
+use Rattle.std.specs.declared.cmp.Ordering.TheVariants.{Less, Equal, Greater}
+use Rattle.std.specs.Str.{bytes_eq}
+use Rattle.key_spec.specs.Rules.{name_cmp, path_cmp, place_cmp}
+
+pub is_eq-then : (o r : Ordering) → is_eq (ordering_then o r) ≡ is_eq o && is_eq r
+is_eq-then Less r = refl
+is_eq-then Equal r = refl
+is_eq-then Greater r = refl
+
+-- one name on
+pub same-step : (x y : List ℕ) (xs ys : List (List ℕ)) → bytes_eq x y ≡ true → is_eq (path_cmp (x ∷ xs) (y ∷ ys)) ≡ is_eq (path_cmp xs ys)
+same-step x y xs ys e = is_eq-then (name_cmp x y) (path_cmp xs ys) ∙ ap (λ b. b && is_eq (path_cmp xs ys)) (is_eq-slice_cmp x y ∙ e)
+
+pub other-step : (x y : List ℕ) (xs ys : List (List ℕ)) → bytes_eq x y ≡ false → is_eq (path_cmp (x ∷ xs) (y ∷ ys)) ≡ false
+other-step x y xs ys e = is_eq-then (name_cmp x y) (path_cmp xs ys) ∙ ap (λ b. b && is_eq (path_cmp xs ys)) (is_eq-slice_cmp x y ∙ e)
+
+and-false : (b c : Bool) → c ≡ false → b && c ≡ false
+and-false true c e = e
+and-false false c e = refl
+
+pub other-length : (xs ys : List (List ℕ)) → length xs ≢ length ys → is_eq (path_cmp xs ys) ≡ false
+other-length [] [] h = absurd (h refl)
+other-length [] (y ∷ ys) h = refl
+other-length (x ∷ xs) [] h = refl
+other-length (x ∷ xs) (y ∷ ys) h = is_eq-then (name_cmp x y) (path_cmp xs ys) ∙ and-false (is_eq (name_cmp x y)) (is_eq (path_cmp xs ys)) (other-length xs ys (λ e. h (ap suc e)))
+
+pub same-place : (context : List (List ℕ)) (tag : List ℕ) (other : List (List ℕ)) (name : List ℕ)
+    → is_eq (place_cmp context tag other name) ≡ bytes_eq tag name && is_eq (path_cmp context other)
+same-place context tag other name = is_eq-then (path_cmp context other) (name_cmp tag name) ∙ swap (is_eq (path_cmp context other)) (is_eq (name_cmp tag name)) (bytes_eq tag name) (is_eq-slice_cmp tag name)
+  where
+    swap : (a b c : Bool) → b ≡ c → a && b ≡ c && a
+    swap true true c e = ap (λ d. d && true) e
+    swap true false c e = ap (λ d. d && true) e
+    swap false true c e = ap (λ d. d && false) e
+    swap false false c e = ap (λ d. d && false) e
+
+pub ruleset same = (same-step, other-step, other-length, same-place)
