@@ -7,3 +7,5 @@ pub mod Levels
 pub mod Escapes
 pub mod Walks
 pub mod TreeWalk
+pub mod ReadBack
+pub mod RoundTrips

@@ -31,7 +31,7 @@ not_ended p inside = let some : (p.depth == 0) ≡ false = grind (arith, nat_tes
 abbrev at : ℕ → Last → Pen
 at n l = record { depth = n; last = l }
 
-joined : (x : PlainAttr) (xs : List PlainAttr) → join_with_byte 44 (map attr_text (x ∷ xs)) ≡ attr_text x ++ flat_map (λ y. 44 ∷ attr_text y) xs
+pub joined : (x : PlainAttr) (xs : List PlainAttr) → join_with_byte 44 (map attr_text (x ∷ xs)) ≡ attr_text x ++ flat_map (λ y. 44 ∷ attr_text y) xs
 joined x [] = sym (append-nil (attr_text x))
 joined x (y ∷ ys) = ap (λ l. attr_text x ++ (44 ∷ l)) (joined y ys)
 

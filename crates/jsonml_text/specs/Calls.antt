@@ -1,5 +1,5 @@
 -- The calls of a printer, and what lists of them print.
-use Rattle.std.specs.Prelude.{◌≡◌, ℕ, List, [], ◌∷◌, ◌++◌, map, false, IsTrue, Option, Result, OnOk, ⊤}
+use Rattle.std.specs.Prelude.{◌≡◌, ℕ, List, [], ◌∷◌, ◌++◌, map, false, IsTrue, Result, OnOk, ⊤}
 use Rattle.xa_outside.specs.Taken.{Taken, Puts}
 use Rattle.json.specs.Print.{quoted}
 use Rattle.jsonml_tree.specs.Data.{PlainAttr, PlainTree, PlainContent, content, PlainTrees, no_trees, tree}

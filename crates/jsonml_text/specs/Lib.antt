@@ -8,3 +8,5 @@ pub mod Printed
 pub mod Pen
 pub mod Calls
 pub mod Laws
+pub mod Texts
+pub mod RoundTrip
