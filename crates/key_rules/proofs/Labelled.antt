@@ -1,11 +1,11 @@
 -- The label of an element that is well formed is well formed.
-use Rattle.std.proofs.Common.{◌≡◌, ℕ, ◌+◌, Bool, true, false, cond, ◌&&◌, IsTrue, true≢false, List, [], ◌∷◌, ◌++◌, map, Option, Some, None, Result, Ok, Err, IfOk, refl, ap, sym, subst, ◌∙◌}
+use Rattle.std.proofs.Common.{◌≡◌, ℕ, ◌+◌, Bool, true, false, cond, ◌&&◌, IsTrue, List, [], ◌∷◌, ◌++◌, Option, Some, None, Result, Ok, Err, IfOk, refl, ap, subst}
 use Rattle.std.specs.Option.{option_map}
-use Rattle.std.specs.List.{AllByRecursion, find, flat_map, filter_map, cons_option}
+use Rattle.std.specs.List.{AllByRecursion, find, flat_map, cons_option}
 use Rattle.std.specs.Str.{bytes_eq}
-use Rattle.jsonml_tree.specs.Data.{PlainScalar, PlainAttr, PlainTree, text, element, PlainContent, content, PlainTrees, no_trees, tree}
-use Rattle.jsonml_tree.specs.WellFormed.{is_in_range, is_ascending, are_in_range, is_well_formed, is_content_well_formed, are_well_formed}
-use Rattle.keyed_tree.specs.Data.{PlainKey, scalar, inside, PlainLabel, tag}
+use Rattle.jsonml_tree.specs.Data.{PlainScalar, PlainAttr, text, element, PlainContent, content, PlainTrees, no_trees, tree}
+use Rattle.jsonml_tree.specs.WellFormed.{is_in_range, is_ascending, are_in_range, is_content_well_formed, are_well_formed}
+use Rattle.keyed_tree.specs.Data.{PlainKey, scalar, PlainLabel, tag}
 use Rattle.keyed_tree.specs.WellFormed.{is_key_well_formed, are_keys_well_formed, IsLabelWellFormed}
 use Rattle.keyed_tree.proofs.Kids.{both}
 use Rattle.key_spec.specs.Data.{PlainPath, PlainRule}
@@ -19,7 +19,7 @@ IsGood c = IsTrue (is_content_well_formed c)
 abbrev IsGoodKey : PlainKey → Type 0
 IsGoodKey k = IsTrue (is_key_well_formed k)
 
-all_append : {X : Type 0} (P : X → Type 0) (xs ys : List X) → AllByRecursion P xs → AllByRecursion P ys → AllByRecursion P (xs ++ ys)
+pub all_append : {X : Type 0} (P : X → Type 0) (xs ys : List X) → AllByRecursion P xs → AllByRecursion P ys → AllByRecursion P (xs ++ ys)
 all_append P [] ys h g = g
 all_append P (x ∷ xs) ys h g = (h.0, all_append P xs ys h.1 g)
 
@@ -66,7 +66,7 @@ values_good (Some name) (c ∷ cs) h =
       | Some v ↦ λ e. (scalar_good name (attrs_in c) v (attrs_good c h.0) e, values_good (Some name) cs h.1)
     ] refl
 
-both_true : (a b : Bool) → IsTrue a → IsTrue b → IsTrue (a && b)
+pub both_true : (a b : Bool) → IsTrue a → IsTrue b → IsTrue (a && b)
 both_true true b h g = g
 both_true false b h g = h
 

@@ -1,5 +1,5 @@
 -- There is no first fault exactly where the keys are satisfied.
-use Rattle.std.proofs.Common.{◌≡◌, ◌≢◌, ◌↔◌, ℕ, zero, suc, ◌+◌, ◌<◌, ◌≤◌, Bool, true, false, cond, IsTrue, List, [], ◌∷◌, map, take, length, Option, Some, None, Result, Ok, Err, refl, sym, ap, ◌∙◌, inl, inr, arith, true≢false}
+use Rattle.std.proofs.Common.{◌≡◌, ◌↔◌, ℕ, zero, suc, ◌+◌, Bool, true, false, cond, IsTrue, List, [], ◌∷◌, map, Option, Some, None, Result, Ok, Err, refl, sym, ap, inl, inr, arith, true≢false}
 use Rattle.std.specs.Result.{IsOk}
 use Rattle.std.specs.Bool.{OnFalse}
 use Rattle.std.specs.Option.{option_and_then, option_map, option_or, IsNone}
@@ -9,8 +9,8 @@ use Rattle.jsonml_tree.specs.Data.{PlainTree, text, element, PlainContent, conte
 use Rattle.keyed_tree.specs.Data.{PlainLabel}
 use Rattle.key_spec.specs.Data.{PlainRule}
 use Rattle.key_spec.specs.Rules.{rule_of, is_frontier, below}
-use Rattle.key_rules.specs.Labels.{PlainLabelFault, unkeyed, missing, twice, label_by, label_in}
-use Rattle.key_rules.specs.Satisfies.{is_blank, ItemIsGood, item_label, label_at, AreApart, ItemsSatisfy, ContentSatisfies, TreeSatisfies, EachSatisfies, Satisfies}
+use Rattle.key_rules.specs.Labels.{PlainLabelFault, unkeyed, missing, twice, label_in}
+use Rattle.key_rules.specs.Satisfies.{is_blank, ItemIsGood, item_label, AreApart, ItemsSatisfy, ContentSatisfies, TreeSatisfies, EachSatisfies, Satisfies}
 use Rattle.key_rules.specs.Faults.{PlainKeyFault, label_fault, item_fault, first_bad_item, first_repeat, repeated_item, fault_among, item_place, content_fault, tree_fault, row_fault, first_fault}
 use Rattle.key_rules.proofs.Repeats.{Differ, first_repeat-None}
 

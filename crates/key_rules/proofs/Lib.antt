@@ -1,6 +1,9 @@
 pub mod Repeats
 pub mod Law
+pub mod PathLaw
 pub mod Rows
 pub mod Nodes
 pub mod Looks
+pub mod UserPathLemmas
 pub mod Labelled
+pub mod LentLemmas

@@ -1,7 +1,7 @@
 -- The first item whose label an earlier item has: there is none exactly where the labels are pairwise different.
 use Rattle.std.proofs.Common.{◌≡◌, ◌≢◌, ◌↔◌, ℕ, zero, suc, ◌+◌, ◌-◌, ◌<◌, ◌≤◌, Bool, true, false, cond, ◌||◌, IsTrue, List, [], ◌∷◌, map, take, get_or, length, Option, Some, None, refl, sym, ap, ◌∙◌, inl, inr, arith, true≢false}
 use Rattle.std.proofs.lemmas.Bool.{cases_lt}
-use Rattle.std.specs.Option.{option_and_then, option_map}
+use Rattle.std.specs.Option.{option_and_then}
 use Rattle.std.specs.List.{find, list_any, range_with_len, slice_get}
 use Rattle.std.specs.Ordering.{is_eq}
 use Rattle.jsonml_tree.specs.Data.{PlainTree}

@@ -2,11 +2,12 @@
 use Rattle.std.proofs.Common.{◌≡◌, ℕ, ◌+◌, ◌<◌, ◌≤◌, List, [], ◌∷◌, map, drop, get_or, length, refl, sym, ap, ◌∙◌, String, Global, string_bytes, Bool, true, false, ◌&&◌, nat_le, IsTrue, true≢false, arith}
 use borrow.Author.Tests.{leb-true}
 use Rattle.std.proofs.lemmas.List.{drop_more, drop_all, length-map, get_or-map}
-use Rattle.jsonml_tree.specs.Data.{PlainTree, PlainTrees, no_trees, tree, list_of, trees_of}
+use Rattle.jsonml_tree.specs.Data.{no_trees, tree, list_of}
 use Rattle.jsonml_tree.specs.Fits.{content_items_fit, all_items_fit}
 use Rattle.jsonml_tree.specs.View.{tree_view, content_view, items_view}
 use Rattle.jsonml_tree.specs.declared.tree.Content.{Content}
 use Rattle.jsonml_tree.specs.declared.tree.Tree.{Tree}
+use Rattle.keyed_tree.proofs.Kids.{both}
 use Rattle.jsonml_tree.proofs.Trees.{list_of-trees_of, content_view-is}
 
 pub items_view-more : (items : List Tree) (i : ℕ) (x : Tree) → i < length items → x ≡ get_or items i x → items_view (drop i items) ≡ tree (tree_view x) (items_view (drop (i + 1) items))
@@ -27,10 +28,6 @@ list_of-items items = list_of-trees_of (map tree_view items)
 -- a name read out of a list of names
 pub tag-at : (tags : List (String Global)) (level : ℕ) (s : String Global) → level < length tags → s ≡ get_or tags level s → get_or (map string_bytes tags) level [] ≡ string_bytes s
 tag-at tags level s h e = get_or-map string_bytes tags level s [] h ∙ ap string_bytes (sym e)
-
-both : (a b : Bool) → IsTrue (a && b) → IsTrue a × IsTrue b
-both true b h = (refl, h)
-both false b h = absurd (true≢false (sym h))
 
 -- the positions of the items fit, in a content and in its items
 pub items-fit : (c : Content) → IsTrue (content_items_fit (content_view c)) → (length c.items.items ≤ 4294967295) × IsTrue (all_items_fit (items_view c.items.items))

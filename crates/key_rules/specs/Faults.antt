@@ -1,6 +1,6 @@
 -- The first place at which a document does not satisfy the keys, and why.
-use Rattle.std.specs.Prelude.{ℕ, ◌+◌, ◌-◌, Bool, false, List, [], ◌∷◌, ◌++◌, map, length, take, Option, Some, None, Result, Ok, Err, if◌then◌else◌, slice_get}
-use Rattle.std.specs.Option.{option_and_then, option_map, option_or}
+use Rattle.std.specs.Prelude.{◌≡◌, ℕ, ◌+◌, ◌-◌, ◌==◌, ◌||◌, Bool, false, List, [], ◌∷◌, ◌++◌, map, length, take, Option, Some, None, Result, Ok, Err, if◌then◌else◌, slice_get}
+use Rattle.std.specs.Option.{option_and_then, option_map, option_or, is_some}
 use Rattle.std.specs.List.{find, list_any, range_with_len}
 use Rattle.std.specs.Ordering.{is_eq}
 use Rattle.jsonml_tree.specs.Data.{PlainTree, text, element, PlainContent, content, PlainTrees, no_trees, tree, list_of}
@@ -16,6 +16,10 @@ pub record PlainKeyFault : Type 0 where
   pub place : List ℕ
   pub why : ℕ
   pub path : Option PlainPath
+
+-- a key path stands beside why 3 and why 4, and beside no other
+abbrev pub HasItsPath : PlainKeyFault → Type 0
+HasItsPath f = is_some f.path ≡ (f.why == 3 || f.why == 4)
 
 -- the key path of this number, from 1
 abbrev pub path_at : Option PlainRule → ℕ → Option PlainPath

@@ -4,4 +4,6 @@ pub mod Labels
 pub mod Satisfies
 pub mod Faults
 pub mod View
+pub mod UserPaths
+pub mod LentView
 pub mod Checks

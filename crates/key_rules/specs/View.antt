@@ -1,11 +1,14 @@
 -- The plain data that each fault stands for.
-use Rattle.std.specs.Prelude.{Option, Some, None, option_map}
-use Rattle.key_spec.specs.View.{path_view}
+use Rattle.std.specs.Prelude.{ℕ, List, Option, Some, None, option_map, String, Vec}
+use Rattle.std.specs.Global.{Global}
+use Rattle.key_spec.specs.View.{path_view, names_view}
 use Rattle.key_rules.specs.Labels.{PlainLabelFault, unkeyed, missing, twice}
 use Rattle.key_rules.specs.Faults.{PlainKeyFault}
 use Rattle.key_rules.specs.declared.fault.KeyFault.{KeyFault}
 use Rattle.key_rules.specs.declared.fault.LabelFault.{LabelFault}
 use Rattle.key_rules.specs.declared.fault.LabelFault.TheVariants.{Unkeyed, Missing, Twice, Memory}
+use Rattle.key_rules.specs.declared.fault.PathFault.{PathFault}
+use Rattle.key_rules.specs.declared.fault.PathFault.TheVariants as PathFault
 
 abbrev pub fault_view : KeyFault → PlainKeyFault
 fault_view f = record { place = f.place.steps.items; why = f.why; path = option_map path_view f.key_path }
@@ -16,3 +19,12 @@ label_fault_view Unkeyed = Some unkeyed
 label_fault_view (Missing n) = Some (missing n)
 label_fault_view (Twice n) = Some (twice n)
 label_fault_view Memory = None
+
+-- the number of the bad step, and nothing for want of memory
+abbrev pub path_fault_view : PathFault → Option ℕ
+path_fault_view (PathFault.Bad n) = Some n
+path_fault_view PathFault.Memory = None
+
+-- the tags from the root down, if there are some
+abbrev pub here_view : Option (Vec (String Global) Global) → Option (List (List ℕ))
+here_view here = option_map (λ v. names_view v.items) here

@@ -1,3 +1,5 @@
+#![tactic(auto, using(jsonml_tree::proofs::Trees::trees))]
+
 ghost use Rattle.std.specs.Prelude.{◌≡◌, ◌≤◌, ℕ, List, Some, None, IfOk, IfSome, vec_len, if◌then◌else◌};
 ghost use Rattle.std.specs.Option.{option_map};
 ghost use Rattle.jsonml_tree.specs.View.{tree_view, content_view};

@@ -33,6 +33,34 @@ impl<T: Drop> From<AllocFailed<T>> for LabelFault {
     }
 }
 
+/// Why a user's path names nothing.
+#[derive(Debug, Drop)]
+pub enum PathFault {
+    /// The first step that is bad, counted from 1, or 0 where the text is no JSON array.
+    Bad { step: u32 },
+    Memory,
+}
+
+impl From<AllocError> for PathFault {
+    ghost use Rattle.key_rules.specs.declared.fault.PathFault.TheVariants.{Memory as path_memory};
+
+    ghost from_gives = { λ _ e. e ≡ path_memory };
+
+    fn from(_: AllocError) -> PathFault {
+        PathFault::Memory
+    }
+}
+
+impl<T: Drop> From<AllocFailed<T>> for PathFault {
+    ghost use Rattle.key_rules.specs.declared.fault.PathFault.TheVariants.{Memory as path_memory};
+
+    ghost from_gives = { λ _ e. e ≡ path_memory };
+
+    fn from(_: AllocFailed<T>) -> PathFault {
+        PathFault::Memory
+    }
+}
+
 /// Where a document does not satisfy the keys, and why.
 ///
 /// The place is that of an item: 1, an element without a rule; 2, a string that is not blank; 3, an element at which a

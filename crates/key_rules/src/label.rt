@@ -1,3 +1,5 @@
+#![tactic(auto, using(jsonml_tree::proofs::Trees::trees))]
+
 ghost use Rattle.std.specs.Prelude.{◌≡◌, ◌≤◌, length, map, Ok, Err, IfOk, IfErr, IfSome, vec_len};
 ghost use Rattle.std.specs.Option.{option_map};
 ghost use Rattle.jsonml_tree.specs.Fits.{IsElement};

@@ -1,13 +1,19 @@
 //! The keys of a specification on a document: labels, satisfaction, and the first fault.
-#![tactic(auto, using(jsonml_tree::proofs::Trees::trees))]
+#![tactic(auto)]
 
 mod check;
 mod fault;
 mod label;
+mod lent;
 mod node;
+#[cfg(test)]
+mod tests;
+mod user_path;
 mod walk;
 
 pub use check::is_blank;
-pub use fault::{KeyFault, LabelFault};
+pub use fault::{KeyFault, LabelFault, PathFault};
 pub use label::label_of;
+pub use lent::{LentKey, LentKeys, LentLabel, lent_label};
+pub use user_path::read_path;
 pub use walk::first_fault;

@@ -1,3 +1,5 @@
+#![tactic(auto, using(jsonml_tree::proofs::Trees::trees))]
+
 ghost use Rattle.std.specs.Prelude.{◌≡◌, ◌<◌, ◌≤◌, length, map, IfOk, [], ◌∷◌};
 ghost use Rattle.std.specs.Option.{option_map};
 ghost use Rattle.jsonml_tree.specs.Data.{tree, no_trees};

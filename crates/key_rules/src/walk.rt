@@ -1,11 +1,13 @@
-ghost use Rattle.std.specs.Prelude.{◌≡◌, ◌↔◌, ◌<◌, ◌≤◌, ◌+◌, ◌-◌, ◌^◌, ℕ, List, Some, None, IsTrue, IfOk, OnOk, IsNone, length, map, []};
+#![tactic(auto, using(jsonml_tree::proofs::Trees::trees))]
+
+ghost use Rattle.std.specs.Prelude.{◌≡◌, ◌↔◌, ◌<◌, ◌≤◌, ◌+◌, ◌-◌, ◌^◌, ℕ, List, Some, None, IsTrue, IfOk, IfSome, OnOk, IsNone, length, map, []};
 ghost use Rattle.std.specs.Option.{option_map, option_or};
 ghost use Rattle.jsonml_tree.specs.Fits.{IsElement, content_items_fit, all_items_fit, ItemsFit};
 ghost use Rattle.jsonml_tree.specs.View.{tree_view, content_view, items_view};
 ghost use Rattle.key_spec.specs.Rules.{below};
 ghost use Rattle.key_spec.specs.View.{names_view, path_view, spec_view};
 ghost use Rattle.key_rules.specs.Satisfies.{Satisfies};
-ghost use Rattle.key_rules.specs.Faults.{first_bad_item, repeated_item, item_place, content_fault, tree_fault, row_fault, first_fault};
+ghost use Rattle.key_rules.specs.Faults.{HasItsPath, first_bad_item, repeated_item, item_place, content_fault, tree_fault, row_fault, first_fault};
 ghost use Rattle.key_rules.specs.View.{fault_view};
 
 use crate::check::{Checked, check_item};
@@ -181,14 +183,15 @@ fn fault_in(
 ///
 /// At each inner element its own items come first: the first that is bad by itself, else the first whose label an
 /// earlier one has. Each label is read once, and recursion is as deep as elements nest.
-#[tactic(auto, using(jsonml_tree::proofs::Trees::trees, crate::proofs::Law::law))]
+#[tactic(auto, using(jsonml_tree::proofs::Trees::trees, crate::proofs::Law::law, crate::proofs::PathLaw::paths))]
 pub fn first_fault(alloc: Global, spec: &Spec, doc: &Tree) -> Result<Option<KeyFault>, AllocError>
     requires element { IsElement (tree_view doc.now) }
     requires items_fit { ItemsFit (tree_view doc.now) }
     ensures fault { IfOk result (λ f. option_map fault_view f ≡ first_fault (spec_view spec.now) (tree_view doc.now)) }
     ensures none { IfOk result (λ f. IsNone f ↔ Satisfies (spec_view spec.now) (tree_view doc.now)) }
 
-    // The law, of this specification and document.
+    // The laws, of this specification and document.
+    ensures key_path { IfSome (first_fault (spec_view spec.now) (tree_view doc.now)) HasItsPath }
     ensures law { (first_fault (spec_view spec.now) (tree_view doc.now) ≡ None) ↔ Satisfies (spec_view spec.now) (tree_view doc.now) }
 {
     if let Checked::Bad { why, key_path } = check_item(alloc, spec, &[], doc)? {

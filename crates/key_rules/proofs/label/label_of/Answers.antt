@@ -1,7 +1,7 @@
-use Rattle.std.proofs.Common.{◌≡◌, rules, arith, Ok, IfOk, ap, sym, ◌∙◌, subst, Bor}
+use Rattle.std.proofs.Common.{ap, ◌∙◌, subst, Bor}
 use Rattle.std.specs.Option.{option_map}
 use Rattle.jsonml_tree.specs.View.{tree_view, content_view}
-use Rattle.jsonml_tree.specs.WellFormed.{IsWellFormed, is_content_well_formed}
+use Rattle.jsonml_tree.specs.WellFormed.{IsWellFormed}
 use Rattle.jsonml_tree.proofs.Trees.{tree_view-Elem}
 use Rattle.key_spec.specs.View.{rule_view}
 use Rattle.key_spec.specs.declared.rule.Rule.{Rule}

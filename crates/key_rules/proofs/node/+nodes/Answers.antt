@@ -1,6 +1,5 @@
-use Rattle.std.proofs.Common.{◌≡◌, rules, arith, ◌+◌, ap, sym, ◌∙◌, drop, get_or, [], true, false, string_bytes}
-use Rattle.std.proofs.lemmas.Grind.{common_steps}
-use Rattle.jsonml_tree.specs.Data.{tree, no_trees}
+use Rattle.std.proofs.Common.{◌≡◌, ◌+◌, ap, drop, get_or, [], true, false, string_bytes}
+use Rattle.jsonml_tree.specs.Data.{tree}
 use Rattle.jsonml_tree.specs.View.{tree_view, content_view, items_view}
 use Rattle.std.specs.Str.{bytes_eq}
 use Rattle.jsonml_tree.proofs.Trees.{tree_view-Elem, tree_view-Text}

@@ -1,4 +1,4 @@
-use Rattle.std.proofs.Common.{◌≡◌, rules, string_bytes, Some, ap, sym}
+use Rattle.std.proofs.Common.{◌≡◌, string_bytes, Some, ap, sym}
 use Rattle.std.specs.Option.{option_map}
 use Rattle.jsonml_tree.specs.View.{scalar_view, content_view}
 use Rattle.key_rules.specs.Reach.{attrs_in, scalar_named}

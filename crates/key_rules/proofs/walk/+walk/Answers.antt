@@ -1,5 +1,4 @@
-use Rattle.std.proofs.Common.{rules, arith}
-use Rattle.std.proofs.lemmas.Grind.{common_steps}
+use Rattle.std.proofs.Common.{rules}
 use Rattle.jsonml_tree.specs.declared.tree.Content.{the_lemmas}
 use Rattle.key_rules.proofs.Rows.{items-few, all-items-fit}
 use Rattle.key_rules.proofs.walk.+walk.Goals as goal

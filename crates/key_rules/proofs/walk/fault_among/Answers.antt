@@ -1,11 +1,11 @@
-use Rattle.std.proofs.Common.{◌≡◌, ◌+◌, Bool, true, false, Some, None, List, String, Global, ap, sym, ◌∙◌}
+use Rattle.std.proofs.Common.{◌≡◌, ◌+◌, Some, None, List, String, Global, ap, sym, ◌∙◌}
 use Rattle.jsonml_tree.specs.View.{tree_view}
 use Rattle.keyed_tree.specs.View.{label_view}
 use Rattle.key_spec.specs.View.{names_view, spec_view}
 use Rattle.key_rules.specs.Satisfies.{item_label}
 use Rattle.key_rules.specs.Faults.{item_fault, item_place}
 use Rattle.key_rules.specs.Checks.{checked_fault, checked_label}
-use Rattle.key_rules.proofs.Looks.{Looked, has_label, looked-dropped, looked-new, looked-repeated, was_there, was_new}
+use Rattle.key_rules.proofs.Looks.{looked-dropped, looked-new, looked-repeated, was_there, was_new}
 use Rattle.key_rules.proofs.walk.fault_among.Goals as goal
 use Rattle.key_rules.proofs.walk.fault_among.Goals.{in-Dropped, in-Labelled+in_ok-insert-in-Labelled+then-not-branch, in-Labelled+in_ok-insert-in-Labelled+else-not-branch}
 

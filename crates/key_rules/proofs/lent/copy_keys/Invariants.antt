@@ -1,0 +1,7 @@
+use Rattle.std.proofs.Common.{◌≡◌, map, take}
+use Rattle.keyed_tree.specs.View.{key_view}
+use Rattle.key_rules.specs.LentView.{lent_key_view}
+use Rattle.key_rules.proofs.lent.copy_keys.Given as goal
+
+abbrev pub invariant-loop-key : goal.invariant-loop-key
+invariant-loop-key l = map key_view l.copies.items ≡ map lent_key_view (take l.key-index l.keys)

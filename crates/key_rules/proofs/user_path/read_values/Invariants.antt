@@ -1,0 +1,18 @@
+use Rattle.std.proofs.Common.{◌≡◌, ◌++◌, map, drop}
+use Rattle.std.specs.List.{AllByRecursion}
+use Rattle.std.specs.Option.{option_map}
+use Rattle.serde_json.specs.View.{items_view}
+use Rattle.keyed_tree.specs.View.{key_view}
+use Rattle.keyed_tree.specs.WellFormed.{IsKeyWellFormed}
+use Rattle.key_spec.specs.View.{path_view}
+use Rattle.key_rules.specs.UserPaths.{values_by}
+use Rattle.key_rules.proofs.user_path.read_values.Given as goal
+
+-- what is left decides
+abbrev pub invariant-loop-path : goal.invariant-loop-path
+invariant-loop-path l =
+    record {
+      left : values_by (map path_view l.paths) (items_view l.values)
+          ≡ option_map (λ ks. map key_view l.keys.items ++ ks) (values_by (map path_view (drop l.path-index l.paths)) (items_view l.others.rest.now));
+      well_formed : AllByRecursion IsKeyWellFormed (map key_view l.keys.items);
+    }

@@ -1,0 +1,33 @@
+-- Labels that a document lends.
+use Rattle.std.specs.Prelude.{ℕ, List, [], ◌∷◌, map, Option}
+use Rattle.std.specs.Result.{result_ok}
+use Rattle.jsonml_tree.specs.Data.{text, PlainContent, content, no_trees, tree}
+use Rattle.jsonml_tree.specs.View.{scalar_view, content_view}
+use Rattle.keyed_tree.specs.Data.{PlainKey, scalar, inside, PlainLabel, tag}
+use Rattle.key_spec.specs.Data.{PlainPath}
+use Rattle.key_rules.specs.Labels.{keys_from}
+use Rattle.key_rules.specs.declared.lent.LentKey.{LentKey}
+use Rattle.key_rules.specs.declared.lent.LentKey.TheVariants.{Scalar, Text, Content}
+use Rattle.key_rules.specs.declared.lent.LentKeys.{LentKeys}
+use Rattle.key_rules.specs.declared.lent.LentKeys.TheVariants.{One, Row}
+use Rattle.key_rules.specs.declared.lent.LentLabel.{LentLabel}
+
+-- the content of one text
+abbrev pub of_text : List ℕ → PlainContent
+of_text s = content [] (tree (text s) no_trees)
+
+abbrev pub lent_key_view : LentKey → PlainKey
+lent_key_view (Scalar s) = scalar (scalar_view s.now)
+lent_key_view (Text s) = inside (of_text s.now)
+lent_key_view (Content c) = inside (content_view c.now)
+
+abbrev pub lent_keys_view : LentKeys → List PlainKey
+lent_keys_view (One k) = lent_key_view k ∷ []
+lent_keys_view (Row ks) = map lent_key_view ks.items
+
+abbrev pub lent_label_view : LentLabel → PlainLabel
+lent_label_view l = record { name = tag l.tag.now; keys = lent_keys_view l.keys }
+
+-- the one value of each key path, where each has one
+abbrev pub lent_keys : List PlainPath → PlainContent → Option (List PlainKey)
+lent_keys ps c = result_ok (keys_from 1 ps c)

@@ -1,0 +1,284 @@
+#![tactic(auto, using(jsonml_tree::proofs::Trees::trees))]
+
+ghost use Rattle.std.specs.Prelude.{◌≡◌, map, IfOk, IfSome, string_bytes};
+ghost use Rattle.std.specs.Cmp.Lexicographic.{slice_cmp};
+ghost use Rattle.std.specs.Option.{option_map};
+ghost use Rattle.jsonml_tree.specs.Data.{text, no_trees, tree};
+ghost use Rattle.jsonml_tree.specs.Order.{tree_cmp, trees_cmp, content_cmp};
+ghost use Rattle.jsonml_tree.specs.View.{tree_view, content_view, items_view};
+ghost use Rattle.keyed_tree.specs.Data.{inside};
+ghost use Rattle.keyed_tree.specs.Order.{key_cmp, label_cmp};
+ghost use Rattle.keyed_tree.specs.View.{key_view, label_view};
+ghost use Rattle.key_spec.specs.View.{names_view, path_view, rule_view, spec_view};
+ghost use Rattle.key_rules.specs.Few.{node_view};
+ghost use Rattle.key_rules.specs.Labels.{label_by, tree_label};
+ghost use Rattle.key_rules.specs.LentView.{of_text, lent_key_view, lent_keys_view, lent_label_view, lent_keys};
+ghost use Rattle.key_rules.specs.Satisfies.{ok_of};
+
+use crate::node::{Node, Reached, nodes_of};
+use jsonml_tree::{Content, Scalar, Tree};
+use key_spec::{KeyPath, Rule, Spec};
+use keyed_tree::{KeyVal, Label, Name};
+use std::alloc::{AllocError, Global};
+use std::cmp::Ordering;
+
+/// A key value that a document lends. A content of one text and nothing else is seen as its text.
+#[derive(Clone, Copy)]
+pub enum LentKey<'a> {
+    Scalar(&'a Scalar),
+    Text(&'a str),
+    Content(&'a Content),
+}
+
+/// The key values of a label. One alone takes no memory.
+#[derive(Drop)]
+pub enum LentKeys<'a> {
+    One(LentKey<'a>),
+    Row(Vec<LentKey<'a>>),
+}
+
+/// The label of an element, whose key values the document lends. The tag is that of the rule.
+#[derive(Drop)]
+pub struct LentLabel<'a> {
+    pub tag: &'a str,
+    pub keys: LentKeys<'a>,
+}
+
+impl LentLabel<'_> {
+    /// The order of labels. It takes no memory.
+    pub fn order(&self, other: &LentLabel<'_>) -> Ordering
+        ensures { result ≡ label_cmp (lent_label_view self.now) (lent_label_view other.now) }
+    {
+        match self.tag.cmp(other.tag) {
+            Ordering::Equal => order_lent(&self.keys, &other.keys),
+            order => order,
+        }
+    }
+
+    /// A label of its own with the same value.
+    pub fn copy(&self, alloc: Global) -> Result<Label, AllocError>
+        ensures { IfOk result (λ l. label_view l ≡ lent_label_view self.now) }
+    {
+        let keys = match &self.keys {
+            LentKeys::One(key) => copy_keys(alloc, &[*key])?,
+            LentKeys::Row(keys) => copy_keys(alloc, keys)?,
+        };
+        let name = Name::Tag(String::from_str(alloc, self.tag)?);
+        Ok(Label { name, keys })
+    }
+}
+
+#[tactic(auto, using(crate::proofs::LentLemmas::rows))]
+fn order_lent(ours: &LentKeys<'_>, theirs: &LentKeys<'_>) -> Ordering
+    ensures { result ≡ slice_cmp key_cmp (lent_keys_view ours.now) (lent_keys_view theirs.now) }
+{
+    match (ours, theirs) {
+        (LentKeys::One(a), LentKeys::One(b)) => order_key(a, b),
+        (LentKeys::One(a), LentKeys::Row(b)) => order_keys(&[*a], b),
+        (LentKeys::Row(a), LentKeys::One(b)) => order_keys(a, &[*b]),
+        (LentKeys::Row(a), LentKeys::Row(b)) => order_keys(a, b),
+    }
+}
+
+fn order_keys(ours: &[LentKey<'_>], theirs: &[LentKey<'_>]) -> Ordering
+    ensures { result ≡ slice_cmp key_cmp (map lent_key_view ours.now) (map lent_key_view theirs.now) }
+{
+    let mut others = theirs.iter();
+    for a in ours {
+        let Some(b) = others.next() else {
+            return Ordering::Greater;
+        };
+        match order_key(a, b) {
+            Ordering::Equal => {}
+            order => return order,
+        }
+    }
+    if others.next().is_some() {
+        Ordering::Less
+    } else {
+        Ordering::Equal
+    }
+}
+
+fn order_key(a: &LentKey<'_>, b: &LentKey<'_>) -> Ordering
+    ensures { result ≡ key_cmp (lent_key_view a.now) (lent_key_view b.now) }
+{
+    match (a, b) {
+        (LentKey::Text(a), LentKey::Text(b)) => a.cmp(b),
+        (LentKey::Scalar(a), LentKey::Scalar(b)) => a.order(b),
+        (LentKey::Scalar(_), _) => Ordering::Less,
+        (_, LentKey::Scalar(_)) => Ordering::Greater,
+        (LentKey::Text(a), LentKey::Content(b)) => order_text(a, b),
+        (LentKey::Content(a), LentKey::Text(b)) => order_text(b, a).reverse(),
+        (LentKey::Content(a), LentKey::Content(b)) => a.order(b),
+    }
+}
+
+/// The content of this text alone against another content.
+fn order_text(text: &str, other: &Content) -> Ordering
+    ensures { result ≡ content_cmp (of_text text.now) (content_view other.now) }
+{
+    match other.attrs.split_first() {
+        None => order_text_items(text, &other.items),
+        Some(_) => Ordering::Less,
+    }
+}
+
+/// The row of this text alone against another row.
+fn order_text_items(own: &str, items: &[Tree]) -> Ordering
+    ensures { result ≡ trees_cmp (tree (text own.now) no_trees) (items_view items.now) }
+{
+    match items.split_first() {
+        None => Ordering::Greater,
+        Some((first, rest)) => order_text_tree(own, first).then(order_none(rest)),
+    }
+}
+
+fn order_text_tree(own: &str, tree: &Tree) -> Ordering
+    ensures { result ≡ tree_cmp (text own.now) (tree_view tree.now) }
+{
+    match tree {
+        Tree::Text(other) => own.cmp(other.as_str()),
+        Tree::Elem { .. } => Ordering::Less,
+    }
+}
+
+/// The empty row against another row.
+fn order_none(items: &[Tree]) -> Ordering
+    ensures { result ≡ trees_cmp no_trees (items_view items.now) }
+{
+    match items.split_first() {
+        None => Ordering::Equal,
+        Some(_) => Ordering::Less,
+    }
+}
+
+fn copy_keys(alloc: Global, keys: &[LentKey<'_>]) -> Result<Vec<KeyVal>, AllocError>
+    ensures { IfOk result (λ v. map key_view v.items ≡ map lent_key_view keys.now) }
+{
+    let mut copies = Vec::with_capacity(alloc, keys.len())?;
+    for key in keys {
+        copies.push(copy_key(alloc, key)?)?;
+    }
+    Ok(copies)
+}
+
+fn copy_key(alloc: Global, key: &LentKey<'_>) -> Result<KeyVal, AllocError>
+    ensures { IfOk result (λ k. key_view k ≡ lent_key_view key.now) }
+{
+    match key {
+        LentKey::Scalar(scalar) => Ok(KeyVal::Scalar(scalar.copy(alloc)?)),
+        LentKey::Text(text) => copy_text(alloc, text),
+        LentKey::Content(content) => Ok(KeyVal::Content(content.copy(alloc)?)),
+    }
+}
+
+/// The content of this text alone.
+fn copy_text(alloc: Global, text: &str) -> Result<KeyVal, AllocError>
+    ensures { IfOk result (λ k. key_view k ≡ inside (of_text text.now)) }
+{
+    let attrs = Vec::new(alloc);
+    let mut items = Vec::with_capacity(alloc, 1)?;
+    items.push(Tree::Text(String::from_str(alloc, text)?))?;
+    Ok(KeyVal::Content(Content { attrs, items }))
+}
+
+/// The key value of a node.
+fn lend_key<'a>(node: Node<'a>) -> LentKey<'a>
+    ensures { lent_key_view result ≡ node_view node.entry }
+{
+    match node {
+        Node::Scalar(scalar) => LentKey::Scalar(scalar),
+        Node::Content(content) => lend_content(content),
+    }
+}
+
+fn lend_content<'a>(content: &'a Content) -> LentKey<'a>
+    ensures { lent_key_view result ≡ inside (content_view content.now) }
+{
+    match (content.attrs.split_first(), only_text(&content.items)) {
+        (None, Some(text)) => LentKey::Text(text),
+        _ => LentKey::Content(content),
+    }
+}
+
+/// The text of a row that has one text and nothing else.
+fn only_text(items: &[Tree]) -> Option<&str>
+    ensures { IfSome result (λ s. items_view items.now ≡ tree (text s.now) no_trees) }
+{
+    match items.split_first() {
+        Some((Tree::Text(text), [])) => Some(text.as_str()),
+        _ => None,
+    }
+}
+
+/// The label of a tree under a context, the tags from the root down to its parent, lent by the tree; none where it has
+/// none. No key value is copied.
+pub fn lent_label<'a>(
+    alloc: Global,
+    spec: &'a Spec,
+    context: &[String],
+    tree: &'a Tree,
+) -> Result<Option<LentLabel<'a>>, AllocError>
+    ensures { IfOk result
+        (λ l. option_map lent_label_view l ≡ ok_of (tree_label (spec_view spec.now) (names_view context.now) (tree_view tree.now))) }
+{
+    match tree {
+        Tree::Text(_) => Ok(None),
+        Tree::Elem { tag, content } => {
+            let tag = tag.as_str();
+            lend_label(alloc, spec.rule(context, tag), tag, content)
+        }
+    }
+}
+
+/// The label of an element by the rule for its place.
+fn lend_label<'a>(
+    alloc: Global,
+    rule: Option<&'a Rule>,
+    tag: &str,
+    content: &'a Content,
+) -> Result<Option<LentLabel<'a>>, AllocError>
+    requires { IfSome rule (λ r. string_bytes r.now.tag ≡ tag.now) }
+    ensures { IfOk result
+        (λ l. option_map lent_label_view l ≡ ok_of (label_by (option_map (λ r. rule_view r.now) rule.entry) tag.now (content_view content.now))) }
+{
+    let Some(rule) = rule else {
+        return Ok(None);
+    };
+    let Some(keys) = lend_keys(alloc, &rule.paths, content)? else {
+        return Ok(None);
+    };
+    let tag = rule.tag.as_str();
+    let keys = in_place(keys);
+    Ok(Some(LentLabel { tag, keys }))
+}
+
+/// These key values, without a row of their own where there is one.
+fn in_place<'a>(keys: Vec<LentKey<'a>>) -> LentKeys<'a>
+    ensures { lent_keys_view result ≡ map lent_key_view keys.entry.items }
+{
+    match keys.as_slice() {
+        [key] => LentKeys::One(*key),
+        _ => LentKeys::Row(keys),
+    }
+}
+
+/// The one value of each key path, or nothing where a path has none or several.
+fn lend_keys<'a>(
+    alloc: Global,
+    paths: &[KeyPath],
+    content: &'a Content,
+) -> Result<Option<Vec<LentKey<'a>>>, AllocError>
+    ensures { IfOk result
+        (λ o. option_map (λ ks. map lent_key_view ks.items) o ≡ lent_keys (map path_view paths.now) (content_view content.now)) }
+{
+    let mut keys = Vec::with_capacity(alloc, paths.len())?;
+    for path in paths {
+        let Reached::One(node) = nodes_of(path, content) else {
+            return Ok(None);
+        };
+        keys.push(lend_key(node))?;
+    }
+    Ok(Some(keys))
+}
