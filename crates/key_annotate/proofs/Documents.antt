@@ -9,8 +9,9 @@ use Rattle.key_rules.specs.Satisfies.{Satisfies}
 use Rattle.key_rules.proofs.Law.{first_fault-None}
 use Rattle.key_annotate.specs.Annotated.{keyed_tree}
 use Rattle.key_annotate.specs.Ordered.{built_tree}
-use Rattle.key_annotate.specs.Laws.{HasOneTree, HasProperTrees}
+use Rattle.key_annotate.specs.Laws.{HasOneTree, HasProperTrees, HasAlikeTrees}
 use Rattle.key_annotate.specs.Stands.{Stands}
+use Rattle.key_annotate.proofs.Alikes.{keyed-alike}
 use Rattle.key_annotate.proofs.Built.{built_tree-None, built_tree-Some}
 use Rattle.key_annotate.proofs.Unique.{keyed_tree-keyed, keyed_tree-one}
 use Rattle.key_annotate.proofs.ProperLemmas.{keyed-proper, keyed-element, proper-ordered, keyed_tree-well, keyed_tree-depth}
@@ -20,6 +21,9 @@ has-one-tree rules t e w s = record { stands = keyed_tree-keyed rules t w s e; a
 
 pub has-proper-trees : (rules : List PlainRule) (t : PlainTree) → HasProperTrees rules t
 has-proper-trees rules t = record { proper = λ k h. keyed-proper rules t k h }
+
+pub has-alike-trees : (rules : List PlainRule) (t : PlainTree) → HasAlikeTrees rules t
+has-alike-trees rules t = record { alike = λ u k j h g. keyed-alike rules t u k j h g }
 
 -- a tree that was built
 pub stands : (rules : List PlainRule) (t : PlainTree) (k : PlainKeyed) → IsElement t → IsWellFormed t → Some k ≡ built_tree rules [] t → Stands rules t k
@@ -44,4 +48,4 @@ stands rules t k e w d =
 pub not-built : (rules : List PlainRule) (t : PlainTree) → IsElement t → IsWellFormed t → None ≡ built_tree rules [] t → ¬ Satisfies rules t
 not-built rules t e w d = λ s. built_tree-None rules t w s e (sym d)
 
-pub ruleset documents = (has-one-tree, has-proper-trees, stands, not-built)
+pub ruleset documents = (has-one-tree, has-proper-trees, has-alike-trees, stands, not-built)

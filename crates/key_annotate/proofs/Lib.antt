@@ -1,3 +1,4 @@
+pub mod LentViews
 pub mod InOrder
 pub mod Sorted
 pub mod KidsOf
@@ -5,4 +6,5 @@ pub mod Built
 pub mod Unique
 pub mod Added
 pub mod ProperLemmas
+pub mod Alikes
 pub mod Documents

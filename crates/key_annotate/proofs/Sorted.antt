@@ -10,8 +10,8 @@ use Rattle.std.specs.declared.cmp.Ordering.{Ordering}
 use Rattle.std.specs.declared.cmp.Ordering.TheVariants.{Less, Equal, Greater}
 use Rattle.keyed_tree.specs.Data.{PlainLabel, PlainKeyed, label_of, kids_from}
 use Rattle.keyed_tree.specs.Kids.{ascend}
-use Rattle.keyed_tree.specs.View.{keyed_view}
-use Rattle.keyed_tree.specs.declared.keyed.Keyed.{Keyed}
+use Rattle.key_annotate.specs.LentView.{lent_view}
+use Rattle.key_annotate.specs.declared.lent.LentKeyed.{LentKeyed}
 use Rattle.std.proofs.lemmas.List.{length-map, get_or-map}
 use Rattle.keyed_tree.specs.Lists.{Ascends, Has}
 use Rattle.keyed_tree.specs.Order.{label_cmp}
@@ -143,20 +143,20 @@ sorted-kids ks js p up =
 
 -- ---- the same of the kids that the code sorts
 
-sorted-at : (ks : List Keyed) (x : Keyed) → IsSortedBy (λ a b. before (keyed_view a) (keyed_view b)) ks → IsSortedBy before (map keyed_view ks)
+sorted-at : (ks : List LentKeyed) (x : LentKeyed) → IsSortedBy (λ a b. before (lent_view a) (lent_view b)) ks → IsSortedBy before (map lent_view ks)
 sorted-at ks x h = λ k d low high.
-    let len : length (map keyed_view ks) ≡ length ks = length-map ks keyed_view in
-    let later : get_or (map keyed_view ks) (k + 1) d ≡ keyed_view (get_or ks (k + 1) x) = get_or-map keyed_view ks (k + 1) x d (omega arith) in
-    let sooner : get_or (map keyed_view ks) k d ≡ keyed_view (get_or ks k x) = get_or-map keyed_view ks k x d (omega arith) in
-    let test : before (keyed_view (get_or ks (k + 1) x)) (keyed_view (get_or ks k x)) ≡ false = h k x low (omega arith) in
-    ap (λ y. before y (get_or (map keyed_view ks) k d)) later ∙ ap (before (keyed_view (get_or ks (k + 1) x))) sooner ∙ test
+    let len : length (map lent_view ks) ≡ length ks = length-map ks lent_view in
+    let later : get_or (map lent_view ks) (k + 1) d ≡ lent_view (get_or ks (k + 1) x) = get_or-map lent_view ks (k + 1) x d (omega arith) in
+    let sooner : get_or (map lent_view ks) k d ≡ lent_view (get_or ks k x) = get_or-map lent_view ks k x d (omega arith) in
+    let test : before (lent_view (get_or ks (k + 1) x)) (lent_view (get_or ks k x)) ≡ false = h k x low (omega arith) in
+    ap (λ y. before y (get_or (map lent_view ks) k d)) later ∙ ap (before (lent_view (get_or ks (k + 1) x))) sooner ∙ test
 
-pub sorted-views : (ks : List Keyed) → IsSortedBy (λ a b. before (keyed_view a) (keyed_view b)) ks → IsSortedBy before (map keyed_view ks)
+pub sorted-views : (ks : List LentKeyed) → IsSortedBy (λ a b. before (lent_view a) (lent_view b)) ks → IsSortedBy before (map lent_view ks)
 sorted-views [] h = λ k d low high. absurd (omega arith)
 sorted-views (x ∷ xs) h = sorted-at (x ∷ xs) x h
 
 -- fewer than two ascend
-pub few-ascend : (ks : List Keyed) → length ks ≤ 1 → ascend (kids_from (map keyed_view ks)) ≡ true
+pub few-ascend : (ks : List LentKeyed) → length ks ≤ 1 → ascend (kids_from (map lent_view ks)) ≡ true
 few-ascend [] h = refl
 few-ascend (k ∷ []) h = refl
 few-ascend (k ∷ j ∷ ks) h = absurd (omega arith)

@@ -1,3 +1,5 @@
+#![tactic(auto, using(jsonml_tree::proofs::Trees::trees, keyed_tree::proofs::Views::views, crate::proofs::LentViews::lent_views))]
+
 ghost use Rattle.std.specs.Prelude.{◌≡◌, [], Some, IfOk, IfErr, IfSome};
 ghost use Rattle.jsonml_tree.specs.Fits.{IsElement, ItemsFit};
 ghost use Rattle.jsonml_tree.specs.WellFormed.{IsWellFormed};
@@ -6,12 +8,14 @@ ghost use Rattle.keyed_tree.specs.View.{keyed_view};
 ghost use Rattle.key_spec.specs.View.{spec_view};
 ghost use Rattle.key_rules.specs.Satisfies.{Satisfies};
 ghost use Rattle.key_rules.specs.Faults.{first_fault};
-ghost use Rattle.key_annotate.specs.Laws.{HasOneTree, HasProperTrees};
+ghost use Rattle.key_annotate.specs.Laws.{HasOneTree, HasProperTrees, HasAlikeTrees};
+ghost use Rattle.key_annotate.specs.LentView.{lent_view};
 ghost use Rattle.key_annotate.specs.Stands.{Stands};
 ghost use Rattle.key_annotate.specs.View.{key_fault};
 
 use crate::build::build;
 use crate::fault::AnnotateFault;
+use crate::lent::LentKeyed;
 use jsonml_tree::Tree;
 use key_rules::first_fault;
 use key_spec::Spec;
@@ -20,9 +24,7 @@ use std::alloc::Global;
 
 /// The keyed tree of a document, or its first key fault.
 ///
-/// It is built in one pass, which reads each label once and sorts the kids of each node once; the first fault is looked
-/// for only where that pass meets one. Recursion is as deep as elements nest.
-#[tactic(auto, using(crate::proofs::Documents::documents))]
+/// It is a copy of what `lent_keyed` gives, and recurses as deep as elements nest.
 pub fn keyed(alloc: Global, spec: &Spec, doc: &Tree) -> Result<Keyed, AnnotateFault>
     requires element { IsElement (tree_view doc.now) }
     requires items_fit { ItemsFit (tree_view doc.now) }
@@ -33,6 +35,32 @@ pub fn keyed(alloc: Global, spec: &Spec, doc: &Tree) -> Result<Keyed, AnnotateFa
     // The laws, of this specification and document.
     ensures one { Satisfies (spec_view spec.now) (tree_view doc.now) → HasOneTree (spec_view spec.now) (tree_view doc.now) }
     ensures proper { HasProperTrees (spec_view spec.now) (tree_view doc.now) }
+    ensures alike { HasAlikeTrees (spec_view spec.now) (tree_view doc.now) }
+{
+    let lent = lent_keyed(alloc, spec, doc)?;
+    Ok(lent.own(alloc)?)
+}
+
+/// The keyed tree of a document, lent by the document, or its first key fault.
+///
+/// It is built in one pass, which reads each label once, copies no text, and sorts the kids of each node once; the first
+/// fault is looked for only where that pass meets one. Recursion is as deep as elements nest.
+#[tactic(auto, using(crate::proofs::Documents::documents))]
+pub fn lent_keyed<'a>(
+    alloc: Global,
+    spec: &'a Spec,
+    doc: &'a Tree,
+) -> Result<LentKeyed<'a>, AnnotateFault>
+    requires element { IsElement (tree_view doc.now) }
+    requires items_fit { ItemsFit (tree_view doc.now) }
+    requires well_formed { IsWellFormed (tree_view doc.now) }
+    ensures stands { IfOk result (λ k. Stands (spec_view spec.now) (tree_view doc.now) (lent_view k)) }
+    ensures key { IfErr result (λ e. IfSome (key_fault e) (λ f. first_fault (spec_view spec.now) (tree_view doc.now) ≡ Some f)) }
+
+    // The laws, of this specification and document.
+    ensures one { Satisfies (spec_view spec.now) (tree_view doc.now) → HasOneTree (spec_view spec.now) (tree_view doc.now) }
+    ensures proper { HasProperTrees (spec_view spec.now) (tree_view doc.now) }
+    ensures alike { HasAlikeTrees (spec_view spec.now) (tree_view doc.now) }
 {
     let mut path = Vec::new(alloc);
     if let Some(tree) = build(alloc, spec, &mut path, doc)? {

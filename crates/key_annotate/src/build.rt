@@ -1,39 +1,39 @@
+#![tactic(auto, using(jsonml_tree::proofs::Trees::trees, keyed_tree::proofs::Views::views, crate::proofs::LentViews::lent_views))]
+
 ghost use Rattle.std.specs.Prelude.{◌≡◌, ◌++◌, Some, IsTrue, IfOk, OnOk, map};
 ghost use Rattle.std.specs.Option.{option_map};
-ghost use Rattle.jsonml_tree.specs.Fits.{IsElement};
 ghost use Rattle.jsonml_tree.specs.View.{attr_view, tree_view, content_view, items_view};
-ghost use Rattle.keyed_tree.specs.View.{label_view, keyed_view};
+ghost use Rattle.key_rules.specs.LentView.{lent_label_view};
 ghost use Rattle.key_spec.specs.Rules.{is_frontier};
 ghost use Rattle.key_spec.specs.View.{names_view, spec_view};
-ghost use Rattle.key_rules.specs.Labels.{tree_label};
-ghost use Rattle.key_rules.specs.Satisfies.{ok_of};
 ghost use Rattle.key_annotate.specs.KeyedOf.{attr_leaf};
+ghost use Rattle.key_annotate.specs.LentView.{lent_view};
 ghost use Rattle.key_annotate.specs.Ordered.{all_kids, node_of, built_items, built_tree};
 
+use crate::lent::LentKeyed;
 use crate::order::in_order;
-use jsonml_tree::{Attr, Content, Tree};
-use key_rules::{LabelFault, is_blank, label_of};
+use jsonml_tree::{Content, Tree};
+use key_rules::{LentLabel, is_blank, lent_label};
 use key_spec::Spec;
-use keyed_tree::{KeyVal, Keyed, Label, Name};
 use std::alloc::{AllocError, Global};
 
 /// The keyed tree of an element under this path, or nothing where the keys are not satisfied at it or inside it.
 ///
-/// Each label is read once, and a leaf's body is copied once.
+/// Each label is read once, and nothing of the document is copied.
 #[cycle(build)]
-pub(crate) fn build(
+pub(crate) fn build<'a>(
     alloc: Global,
-    spec: &Spec,
+    spec: &'a Spec,
     path: &mut Vec<String>,
-    elem: &Tree,
-) -> Result<Option<Keyed>, AllocError>
-    ensures tree { IfOk result (λ k. option_map keyed_view k ≡ built_tree (spec_view spec.now) (names_view path.old.items) (tree_view elem.now)) }
+    elem: &'a Tree,
+) -> Result<Option<LentKeyed<'a>>, AllocError>
+    ensures tree { IfOk result (λ k. option_map lent_view k ≡ built_tree (spec_view spec.now) (names_view path.old.items) (tree_view elem.now)) }
     ensures path { OnOk result (names_view path.new.items ≡ names_view path.old.items) }
 {
     let Tree::Elem { tag, content } = elem else {
         return Ok(None);
     };
-    let Some(label) = label_if_any(alloc, spec, path, elem)? else {
+    let Some(label) = lent_label(alloc, spec, path, elem)? else {
         return Ok(None);
     };
     path.push(String::from_str(alloc, tag.as_str())?)?;
@@ -42,58 +42,40 @@ pub(crate) fn build(
     Ok(node)
 }
 
-/// The label of an element, or nothing where it has none.
-fn label_if_any(
-    alloc: Global,
-    spec: &Spec,
-    context: &[String],
-    elem: &Tree,
-) -> Result<Option<Label>, AllocError>
-    requires { IsElement (tree_view elem.now) }
-    ensures { IfOk result (λ l. option_map label_view l ≡ ok_of (tree_label (spec_view spec.now) (names_view context.now) (tree_view elem.now))) }
-{
-    match label_of(alloc, spec, context, elem) {
-        Ok(label) => Ok(Some(label)),
-        Err(LabelFault::Memory) => Err(AllocError),
-        Err(_) => Ok(None),
-    }
-}
-
 /// The node of an element with this path: at the frontier a leaf, else an inner node.
 #[cycle(build)]
-fn build_node(
+fn build_node<'a>(
     alloc: Global,
-    spec: &Spec,
+    spec: &'a Spec,
     path: &mut Vec<String>,
-    label: Label,
-    content: &Content,
-) -> Result<Option<Keyed>, AllocError>
+    label: LentLabel<'a>,
+    content: &'a Content,
+) -> Result<Option<LentKeyed<'a>>, AllocError>
     ensures node { IfOk result
-        (λ k. option_map keyed_view k
-        ≡ node_of (is_frontier (spec_view spec.now) (names_view path.old.items)) (Some (label_view label)) (content_view content.now)
+        (λ k. option_map lent_view k
+        ≡ node_of (is_frontier (spec_view spec.now) (names_view path.old.items)) (Some (lent_label_view label.entry)) (content_view content.now)
         (all_kids (map attr_view content.now.attrs.items) (built_items (spec_view spec.now) (names_view path.old.items) (items_view content.now.items.items)))) }
     ensures path { OnOk result (names_view path.new.items ≡ names_view path.old.items) }
 {
     if spec.is_frontier(path) {
-        let body = KeyVal::Content(content.copy(alloc)?);
-        return Ok(Some(Keyed::Leaf { label, body }));
+        return Ok(Some(LentKeyed::Leaf { label, content }));
     }
     let Some(kids) = build_kids(alloc, spec, path, content)? else {
         return Ok(None);
     };
-    Ok(Some(Keyed::Inner { label, kids }))
+    Ok(Some(LentKeyed::Inner { label, kids }))
 }
 
 /// The kids of an inner element, in the order of their labels.
 #[cycle(build)]
-fn build_kids(
+fn build_kids<'a>(
     alloc: Global,
-    spec: &Spec,
+    spec: &'a Spec,
     path: &mut Vec<String>,
-    content: &Content,
-) -> Result<Option<Vec<Keyed>>, AllocError>
+    content: &'a Content,
+) -> Result<Option<Vec<LentKeyed<'a>>>, AllocError>
     ensures kids { IfOk result
-        (λ o. option_map (λ ks. map keyed_view ks.items) o
+        (λ o. option_map (λ ks. map lent_view ks.items) o
         ≡ all_kids (map attr_view content.now.attrs.items) (built_items (spec_view spec.now) (names_view path.old.items) (items_view content.now.items.items))) }
     ensures path { OnOk result (names_view path.new.items ≡ names_view path.old.items) }
 {
@@ -105,40 +87,28 @@ fn build_kids(
 }
 
 /// A leaf for each attribute, with room for the items' kids.
-fn attr_kids(alloc: Global, content: &Content) -> Result<Vec<Keyed>, AllocError>
-    ensures { IfOk result (λ ks. map keyed_view ks.items ≡ map attr_leaf (map attr_view content.now.attrs.items)) }
+fn attr_kids<'a>(alloc: Global, content: &'a Content) -> Result<Vec<LentKeyed<'a>>, AllocError>
+    ensures { IfOk result (λ ks. map lent_view ks.items ≡ map attr_leaf (map attr_view content.now.attrs.items)) }
 {
     let mut kids = Vec::with_capacity(alloc, content.attrs.len() + content.items.len())?;
     for attr in &content.attrs {
-        kids.push(attr_kid(alloc, attr)?)?;
+        kids.push(LentKeyed::Attr(attr))?;
     }
     Ok(kids)
 }
 
-fn attr_kid(alloc: Global, attr: &Attr) -> Result<Keyed, AllocError>
-    ensures { IfOk result (λ k. keyed_view k ≡ attr_leaf (attr_view attr.now)) }
-{
-    let name = Name::Attr(String::from_str(alloc, attr.name.as_str())?);
-    let label = Label {
-        name,
-        keys: Vec::new(alloc),
-    };
-    let body = KeyVal::Scalar(attr.value.copy(alloc)?);
-    Ok(Keyed::Leaf { label, body })
-}
-
 /// The kids followed by those of the items, or nothing where an item has a fault.
 #[cycle(build)]
-fn add_items(
+fn add_items<'a>(
     alloc: Global,
-    spec: &Spec,
+    spec: &'a Spec,
     path: &mut Vec<String>,
-    items: &[Tree],
-    mut kids: Vec<Keyed>,
-) -> Result<Option<Vec<Keyed>>, AllocError>
+    items: &'a [Tree],
+    mut kids: Vec<LentKeyed<'a>>,
+) -> Result<Option<Vec<LentKeyed<'a>>>, AllocError>
     ensures kids { IfOk result
-        (λ o. option_map (λ ks. map keyed_view ks.items) o
-        ≡ option_map (λ ks. map keyed_view kids.items ++ ks) (built_items (spec_view spec.now) (names_view path.old.items) (items_view items.now))) }
+        (λ o. option_map (λ ks. map lent_view ks.items) o
+        ≡ option_map (λ ks. map lent_view kids.entry.items ++ ks) (built_items (spec_view spec.now) (names_view path.old.items) (items_view items.now))) }
     ensures path { OnOk result (names_view path.new.items ≡ names_view path.old.items) }
 {
     for item in items {
