@@ -1,5 +1,7 @@
 // A tree over eight small sets.
-ghost use Rattle.std.specs.Prelude.{◌≡◌, ◌<◌};
+ghost use Rattle.std.specs.Prelude.{◌≡◌, ◌<◌, [], ◌∷◌};
+ghost use Rattle.timestamp_tree.specs.Tree.{tree_of};
+ghost use Rattle.timestamp_tree.specs.Search.{visits};
 
 use crate::{Steps, TsTree};
 use std::alloc::{AllocError, Global};
@@ -27,6 +29,12 @@ fn eight_leaves(alloc: Global) -> Result<TsTree, Fail> {
     }
     Ok(TsTree::of(alloc, &sets)?)
 }
+
+// A search for 5 visits seven of the fifteen nodes of that tree, and one for 6 the root alone.
+fn visited_nodes()
+    ensures five { visits (tree_of (((1, 1) ∷ []) ∷ ((1, 1) ∷ []) ∷ ((2, 2) ∷ (5, 5) ∷ []) ∷ ((1, 1) ∷ []) ∷ ((3, 3) ∷ []) ∷ ((3, 3) ∷ []) ∷ ((4, 4) ∷ []) ∷ ((4, 4) ∷ []) ∷ [])) 5 ≡ 7 }
+    ensures six { visits (tree_of (((1, 1) ∷ []) ∷ ((1, 1) ∷ []) ∷ ((2, 2) ∷ (5, 5) ∷ []) ∷ ((1, 1) ∷ []) ∷ ((3, 3) ∷ []) ∷ ((3, 3) ∷ []) ∷ ((4, 4) ∷ []) ∷ ((4, 4) ∷ []) ∷ [])) 6 ≡ 1 }
+{}
 
 fn answers_of<L: Ledger>(
     blank: Blank,
@@ -58,6 +66,7 @@ fn eight_sets_make_three_levels(rt: HostRuntime) -> Result<(), Fail> {
 #[test]
 fn a_version_is_found_at_its_position(rt: HostRuntime) -> Result<(), Fail> {
     assert_eq!(rt; found(rt.alloc(), 5)?.as_slice(), [2].as_slice());
+    visited_nodes();
     Ok(())
 }
 
