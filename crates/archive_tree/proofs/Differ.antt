@@ -13,7 +13,7 @@ use Rattle.archive_tree.specs.PartsTest.{do_differ}
 use Rattle.keyed_tree.specs.View.{key_view}
 use Rattle.archive_tree.specs.View.{alt_view}
 use Rattle.archive_tree.specs.declared.node.Alt.{Alt}
-use Rattle.archive_tree.proofs.Tests.{bools, any_tells, tells_any, differ_tell}
+use Rattle.archive_tree.proofs.Tells.{bools, any_tells, tells_any, differ_tell}
 
 abbrev pub among : PlainKey → List PlainKey → Bool
 among b ds = list_any (λ d. is_eq (key_cmp b d)) ds

@@ -9,5 +9,5 @@ pub mod Versions
 pub mod Necessary
 pub mod Sufficient
 pub mod Rebuilt
-pub mod Tests
+pub mod Tells
 pub mod Differ

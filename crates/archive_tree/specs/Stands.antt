@@ -4,11 +4,11 @@ use Rattle.std.specs.Option.{option_map}
 use Rattle.std.specs.List.{filter_map, enumerate_from, AllByRecursion}
 use Rattle.std.specs.Ordering.{is_eq, nat_cmp}
 use Rattle.version_set.specs.Pairs.{IsCanonical}
+pub use Rattle.keyed_tree.specs.Alike.{IsInner, IsLeaf, EndsAt, Alike, AllAlike}
 use Rattle.keyed_tree.specs.Data.{PlainKey, PlainLabel, PlainKeyed, inner, leaf, label_of, kids_of}
 use Rattle.keyed_tree.specs.Kids.{IsOrdered, kid_at}
 use Rattle.keyed_tree.specs.Lists.{Ascends, Has}
 use Rattle.keyed_tree.specs.Order.{key_cmp, label_cmp}
-use Rattle.keyed_tree.specs.Paths.{node_at}
 use Rattle.keyed_tree.specs.Proper.{IsElement}
 use Rattle.archive_tree.specs.Data.{Stamp, eff, PlainAlt, PlainNode, inner_node, leaf_node, PlainNodes, no_nodes, node, node_label, nodes_list, PlainArchive}
 
@@ -51,14 +51,6 @@ has_body b (leaf l c) = is_eq (key_cmp c b)
 -- the numbers whose trees have that body
 abbrev pub nums_with : List (ℕ × PlainKeyed) → PlainKey → List ℕ
 nums_with ws b = nums (those (passed (has_body b)) ws)
-
-abbrev pub IsInner : PlainKeyed → Type 0
-IsInner (inner l ks) = ⊤
-IsInner (leaf l b) = ⊥
-
-abbrev pub IsLeaf : PlainKeyed → Type 0
-IsLeaf (inner l ks) = ⊥
-IsLeaf (leaf l b) = ⊤
 
 -- ---- nodes
 
@@ -119,19 +111,6 @@ abbrev mutual
   EachStands (node k ks) u ns = StandsFor k (u (node_label k)) ns × EachStands ks u ns
 
 -- ---- archives
-
--- the path of labels, the tree's own first, leads to this node of the tree
-abbrev pub EndsAt : List PlainLabel → PlainKeyed → PlainKeyed → Type 0
-EndsAt [] k x = ⊥
-EndsAt (l ∷ ls) k x = (label_of k ≡ l) × (node_at ls k ≡ Some x)
-
--- a path that both hold ends in an inner node in both, or in a leaf in both
-abbrev pub Alike : PlainKeyed → PlainKeyed → Type 0
-Alike k j = (path : List PlainLabel) (x y : PlainKeyed) → EndsAt path k x → EndsAt path j y → IsInner x ↔ IsInner y
-
--- any two of them are alike
-abbrev pub AllAlike : List PlainKeyed → Type 0
-AllAlike vs = (k j : PlainKeyed) → Has k vs → Has j vs → Alike k j
 
 -- the versions with their numbers, from 1
 abbrev pub numbered : List PlainKeyed → List (ℕ × PlainKeyed)

@@ -195,7 +195,7 @@ fn is_stamp_well(stamp: &Option<VersionSet>, parent: &VersionSet) -> Result<bool
     }
 }
 
-#[tactic(auto, using(crate::proofs::Tests::canonical))]
+#[tactic(auto, using(crate::proofs::Tells::canonical))]
 fn is_stored_well(set: &VersionSet, parent: &VersionSet) -> Result<bool, AllocError>
     ensures { IfOk result (λ b. b ≡ is_stamp_well (Some (pairs_of set.now)) (members (pairs_of parent.now))) }
 {
@@ -205,7 +205,7 @@ fn is_stored_well(set: &VersionSet, parent: &VersionSet) -> Result<bool, AllocEr
     is_within(set, parent)
 }
 
-#[tactic(auto, using(crate::proofs::Tests::sets))]
+#[tactic(auto, using(crate::proofs::Tells::sets))]
 fn is_within(set: &VersionSet, other: &VersionSet) -> Result<bool, AllocError>
     ensures { IfOk result (λ b. b ≡ list_all (has (members (pairs_of other.now))) (members (pairs_of set.now))) }
 {
@@ -213,7 +213,7 @@ fn is_within(set: &VersionSet, other: &VersionSet) -> Result<bool, AllocError>
     Ok(is_same(&both, set))
 }
 
-#[tactic(auto, using(crate::proofs::Tests::sets))]
+#[tactic(auto, using(crate::proofs::Tells::sets))]
 fn are_apart(one: &VersionSet, other: &VersionSet) -> Result<bool, AllocError>
     ensures { IfOk result (λ b. b ≡ are_apart (members (pairs_of one.now)) (members (pairs_of other.now))) }
 {

@@ -1,7 +1,7 @@
 use Rattle.std.proofs.Common.{◌∙◌, ap, sym}
 use Rattle.std.specs.List.{slice_get}
 use Rattle.version_set.specs.View.{pairs_of}
-use Rattle.archive_tree.proofs.Tests.{head-members}
+use Rattle.archive_tree.proofs.Tells.{head-members}
 use Rattle.archive_tree.proofs.check.first_number.Goals as goal
 
 pub returns-in-Some : goal.returns-in-Some

@@ -1,6 +1,6 @@
 use Rattle.std.proofs.Common.{◌∙◌, ◌==◌, length, ap, sym}
 use Rattle.version_set.specs.View.{pairs_of}
-use Rattle.archive_tree.proofs.Tests.{is_none-members}
+use Rattle.archive_tree.proofs.Tells.{is_none-members}
 use Rattle.archive_tree.proofs.check.is_empty.Goals as goal
 
 pub returns : goal.returns

@@ -1,7 +1,7 @@
 use Rattle.version_set.specs.Members.{members}
 use Rattle.version_set.specs.View.{pairs_of}
 use Rattle.archive_tree.specs.PartsTest.{is_same}
-use Rattle.archive_tree.proofs.Tests.{bools, is_same-exact}
+use Rattle.archive_tree.proofs.Tells.{bools, is_same-exact}
 use Rattle.archive_tree.proofs.check.is_same.Goals as goal
 
 pub returns : goal.returns

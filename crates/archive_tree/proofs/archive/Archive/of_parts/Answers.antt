@@ -5,7 +5,7 @@ use Rattle.archive_tree.specs.View.{nodes_view}
 use Rattle.archive_tree.specs.declared.node.ANode.{ANode}
 use Rattle.archive_tree.proofs.Necessary.{necessary}
 use Rattle.archive_tree.proofs.Rebuilt.{sufficient}
-use Rattle.archive_tree.proofs.Tests.{archive_tells}
+use Rattle.archive_tree.proofs.Tells.{archive_tells}
 use Rattle.archive_tree.proofs.archive.Archive.of_parts.Goals as goal
 
 told : (n : ℕ) (ks js : List ANode) (b v : Bool) → js ≡ ks → b ≡ is_archive (record { n = n; kids = nodes_view js }) → b ≡ v → is_archive (record { n = n; kids = nodes_view ks }) ≡ v
