@@ -1,5 +1,5 @@
 -- The archive of a list with one more version.
-use Rattle.std.proofs.Common.{◌≡◌, ℕ, zero, suc, ◌+◌, ◌≤◌, Bool, true, false, cond, List, [], ◌∷◌, ◌++◌, length, Option, Some, None, IfSome, refl, ap, sym, subst, ◌∙◌, arith, inl, inr, length-append}
+use Rattle.std.proofs.Common.{◌≡◌, ℕ, suc, ◌+◌, true, false, cond, List, [], ◌∷◌, ◌++◌, length, Some, None, IfSome, refl, ap, sym, subst, ◌∙◌, arith, inl, inr, length-append}
 use Rattle.std.specs.List.{AllByRecursion, enumerate_from, range_with_len}
 use Rattle.std.specs.Ordering.{is_eq}
 use Rattle.version_set.specs.Members.{members}
@@ -10,7 +10,7 @@ use Rattle.keyed_tree.specs.Lists.{Has}
 use Rattle.keyed_tree.specs.Order.{label_cmp}
 use Rattle.keyed_tree.specs.Proper.{IsElement}
 use Rattle.keyed_tree.proofs.Lists.{has_all}
-use Rattle.archive_tree.specs.Data.{PlainNode, PlainNodes, no_nodes, node, node_label, PlainArchive}
+use Rattle.archive_tree.specs.Data.{PlainNodes, no_nodes, node, node_label, PlainArchive}
 use Rattle.archive_tree.specs.Stands.{nums, passed, rooted, numbered, RowStands, EachStands, ArchiveOf}
 use Rattle.archive_tree.proofs.Those.{onto, all_those, labelled, rooted_has, nums-enumerate}
 use Rattle.nested_merge.specs.Merged.{upto, merged_row, with_version}
@@ -43,7 +43,7 @@ module _ (vs : List PlainKeyed) (a : PlainArchive) (k : PlainKeyed) (h : Archive
   alike_roots l e = has_all (λ (w : ℕ × PlainKeyed). AlikeBelow w.1 k) (rooted (numbered vs) l)
       (λ w m. (let found = rooted_has w.0 w.1 l (numbered vs) m in alike_below w.1 k (alike w.1 (numbered_has 1 w.0 w.1 vs found.0)) (found.1 ∙ sym e)))
 
-  root_fits : (js : PlainNodes) → EachStands js (rooted (numbered vs)) (nums (numbered vs)) → EachFits js (k ∷ [])
+  pub root_fits : (js : PlainNodes) → EachStands js (rooted (numbered vs)) (nums (numbered vs)) → EachFits js (k ∷ [])
   root_fits no_nodes g = tt
   root_fits (node j js) g = (
     elim (is_eq (label_cmp (label_of k) (node_label j))) as (λ b. is_eq (label_cmp (label_of k) (node_label j)) ≡ b → IfSome (cond b (Some k) None) (λ d. Fits j d)) [

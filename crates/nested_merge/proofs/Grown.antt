@@ -1,13 +1,13 @@
 -- A node with one more version stands for the list with that version.
-use Rattle.std.proofs.Common.{◌≡◌, ◌≢◌, ℕ, ◌≤◌, IsTrue, List, [], ◌∷◌, ◌++◌, map, Some, None, IfSome, refl, ap, sym, subst, ◌∙◌, ◌⊎◌, inl, inr}
+use Rattle.std.proofs.Common.{◌≡◌, ◌≢◌, ℕ, ◌≤◌, List, [], ◌∷◌, ◌++◌, map, Some, None, IfSome, refl, ap, sym, subst, ◌∙◌, ◌⊎◌, inl, inr}
 use Rattle.std.proofs.lemmas.List.{append-nil}
 use Rattle.std.specs.Option.{unwrap_or}
 use Rattle.std.specs.List.{AllByRecursion}
 use Rattle.std.specs.declared.cmp.Ordering.TheVariants.{Less}
 use Rattle.version_set.specs.Pairs.{IsCanonical}
 use Rattle.version_set.specs.Members.{members}
-use Rattle.keyed_tree.specs.Data.{PlainLabel, PlainKeyed, inner, leaf, label_of, PlainKids, no_kids, kid, kids_list, kids_of}
-use Rattle.keyed_tree.specs.Kids.{ascend, is_ordered, are_ordered, IsOrdered, kid_at}
+use Rattle.keyed_tree.specs.Data.{PlainLabel, PlainKeyed, inner, leaf, label_of, kids_list, kids_of}
+use Rattle.keyed_tree.specs.Kids.{ascend, are_ordered, IsOrdered, kid_at}
 use Rattle.keyed_tree.specs.Laws.{label_cmp_total}
 use Rattle.keyed_tree.specs.Lists.{Ascends, Has}
 use Rattle.keyed_tree.specs.Order.{label_cmp}

@@ -1,5 +1,5 @@
 -- The archive of some versions, of which no more is known, with one more version.
-use Rattle.std.proofs.Common.{◌≡◌, ℕ, ◌+◌, ◌≤◌, ◌<◌, true, IsTrue, List, [], ◌∷◌, ◌++◌, map, length, get_or, take, Some, refl, ap, sym, subst, ◌∙◌, inl, inr, arith, zero, suc}
+use Rattle.std.proofs.Common.{◌≡◌, ℕ, ◌+◌, ◌≤◌, ◌<◌, true, IsTrue, List, [], ◌∷◌, ◌++◌, map, length, get_or, take, Some, ap, sym, subst, ◌∙◌, inl, inr, arith, zero, suc}
 use Rattle.std.proofs.lemmas.List.{take_more, map-append}
 use Rattle.std.proofs.Math.Bool.{Bool-set}
 use Rattle.std.proofs.Math.Logic.{∥∥₁_elim, ∥∥₁_map}
@@ -15,7 +15,7 @@ use Rattle.archive_tree.proofs.Parts.{nodes_from-nodes_list}
 use Rattle.archive_tree.proofs.Readings.{one_list}
 use Rattle.nested_merge.specs.Alike.{AlikeAll}
 use Rattle.nested_merge.specs.Below.{are_nodes_below}
-use Rattle.nested_merge.specs.Laws.{AreVersions, version_at}
+use Rattle.nested_merge.specs.Laws.{version_at}
 use Rattle.nested_merge.specs.Merged.{upto, merged_row, with_version}
 use Rattle.nested_merge.proofs.ArchiveGrows.{archive_grows}
 use Rattle.nested_merge.proofs.Bounds.{archive_below}

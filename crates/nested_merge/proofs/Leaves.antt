@@ -1,5 +1,5 @@
 -- The alternatives of a leaf with one more version.
-use Rattle.std.proofs.Common.{◌≡◌, ◌≢◌, ℕ, ◌<◌, ◌≤◌, Bool, true, false, cond, ◌||◌, List, [], ◌∷◌, ◌++◌, map, Option, Some, None, refl, ap, sym, subst, ◌∙◌, arith, inl, inr, true≢false}
+use Rattle.std.proofs.Common.{◌≡◌, ◌≢◌, ℕ, ◌<◌, ◌≤◌, Bool, true, false, cond, ◌||◌, List, [], ◌∷◌, ◌++◌, map, Some, refl, ap, sym, subst, ◌∙◌, arith, inl, inr, true≢false}
 use Rattle.std.proofs.lemmas.List.{append-nil, map-append}
 use Rattle.std.proofs.lemmas.Bool.Decides.{nat_tests}
 use Rattle.std.specs.List.{AllByRecursion}
@@ -14,7 +14,7 @@ use Rattle.keyed_tree.specs.Order.{key_cmp}
 use Rattle.archive_tree.specs.Data.{PlainAlt}
 use Rattle.archive_tree.specs.Stands.{AllDiffer, Stamped, nums, those, nums_with, has_body, passed, first_num, head_or, bodies, AltStands}
 use Rattle.nested_merge.specs.Merged.{grown, kept, merged_alt, merged_alts, has_alt}
-use Rattle.archive_tree.proofs.Those.{onto, all_those}
+use Rattle.archive_tree.proofs.Those.{all_those}
 use Rattle.nested_merge.proofs.Picked.{those-append, nums-append, all_append, no_items}
 use Rattle.nested_merge.proofs.Weave.{has_left, has_right}
 use Rattle.nested_merge.proofs.Stamps.{alone, Below, one, grown_stamped, kept_stamped}

@@ -11,3 +11,7 @@ pub mod Bounds
 pub mod WellFormedGrows
 pub mod VersionsStay
 pub mod Kepts
+pub mod Plans
+pub mod PlanLaws
+pub mod PlannedVersion
+pub mod FitsLemmas

@@ -1,8 +1,7 @@
 -- Rows as lists, and the steps of a walk along two rows.
-use Rattle.std.proofs.Common.{◌≡◌, ℕ, List, [], ◌∷◌, ◌++◌, map, Option, None, IsTrue, ◌&&◌, refl, ap, sym, subst, ◌∙◌, rules, Vec, Global, ◌+◌, ◌<◌, length, drop, get_or, append_assoc}
+use Rattle.std.proofs.Common.{◌≡◌, ℕ, List, [], ◌∷◌, ◌++◌, map, Option, None, IsTrue, refl, ap, sym, subst, ◌∙◌, rules, Vec, Global, ◌+◌, ◌<◌, length, drop, get_or, append_assoc}
 use Rattle.std.proofs.lemmas.List.{map-append, drop_more}
 use Rattle.std.specs.List.{AllByRecursion}
-use Rattle.std.specs.Option.{option_map}
 use Rattle.std.specs.Ordering.{is_lt}
 use Rattle.std.specs.declared.cmp.Ordering.TheVariants.{Less, Equal, Greater}
 use Rattle.version_set.specs.declared.set.VersionSet.{VersionSet}
@@ -16,13 +15,14 @@ use Rattle.keyed_tree.specs.declared.label.Label.{Label}
 use Rattle.keyed_tree.proofs.Kids.{both, is_lt-Less}
 use Rattle.keyed_tree.proofs.Views as keyed
 use Rattle.keyed_tree.proofs.Kids as kids
-use Rattle.archive_tree.specs.Data.{PlainNode, node, node_label, nodes_from, nodes_list, inner_node, leaf_node}
+use Rattle.archive_tree.specs.Data.{PlainNode, node, node_label, nodes_from, inner_node, leaf_node}
 use Rattle.archive_tree.specs.View.{stamp_view, alt_view, node_view}
 use Rattle.archive_tree.specs.declared.node.Alt.{Alt}
 use Rattle.archive_tree.specs.declared.node.ANode.{ANode, Inner, Leaf, the_lemmas}
 use Rattle.archive_tree.proofs.Parts.{nodes_from-nodes_list}
 use Rattle.nested_merge.specs.Below.{is_node_below, are_nodes_below}
-use Rattle.nested_merge.specs.Merged.{started, fresh, fresh_row, above, vanished, merged, merged_row}
+use Rattle.nested_merge.specs.Merged.{fresh, fresh_row, above}
+use Rattle.nested_merge.specs.Plan.{PlainStep, old_step, steps_list, gone_step, planned, planned_row}
 
 pub fresh_row-kids_from : (ks : List PlainKeyed) → fresh_row (kids_from ks) ≡ nodes_from (map (fresh None) ks)
 fresh_row-kids_from [] = refl
@@ -66,22 +66,13 @@ kid_at-Greater l c cs e h =
     none_above l (c ∷ cs) (low, higher l (label_of c) (map label_of cs) low up.0)
 
 module _ (n : ℕ) (q : List (ℕ × ℕ)) where
-  abbrev pub woven : List PlainNode → List PlainKeyed → List PlainNode
-  woven ks cs = nodes_list (merged_row n q (nodes_from ks) cs)
+  abbrev pub woven : List PlainNode → List PlainKeyed → List PlainStep
+  woven ks cs = steps_list (planned_row n q (nodes_from ks) cs)
 
-  pub step_fresh : (c : PlainKeyed) (cs : List PlainKeyed) → woven [] (c ∷ cs) ≡ fresh (started n q) c ∷ woven [] cs
-  step_fresh c cs = refl
+  pub step_equal : (k : PlainNode) (ks : List PlainNode) (c : PlainKeyed) (cs : List PlainKeyed) → label_cmp (label_of c) (node_label k) ≡ Equal → IsTrue (ascend (kids_from (c ∷ cs))) → woven (k ∷ ks) (c ∷ cs) ≡ old_step (planned n q k c) ∷ woven ks cs
+  step_equal k ks c cs e h = rw e (ap (λ z. old_step (planned n q k c) ∷ woven ks z) (above_all (node_label k) c cs e h))
 
-  pub step_gone : (k : PlainNode) (ks : List PlainNode) → woven (k ∷ ks) [] ≡ vanished q k ∷ woven ks []
-  step_gone k ks = refl
-
-  pub step_less : (k : PlainNode) (ks : List PlainNode) (c : PlainKeyed) (cs : List PlainKeyed) → label_cmp (label_of c) (node_label k) ≡ Less → woven (k ∷ ks) (c ∷ cs) ≡ fresh (started n q) c ∷ woven (k ∷ ks) cs
-  step_less k ks c cs e = rw e
-
-  pub step_equal : (k : PlainNode) (ks : List PlainNode) (c : PlainKeyed) (cs : List PlainKeyed) → label_cmp (label_of c) (node_label k) ≡ Equal → IsTrue (ascend (kids_from (c ∷ cs))) → woven (k ∷ ks) (c ∷ cs) ≡ merged n q k c ∷ woven ks cs
-  step_equal k ks c cs e h = rw e (ap (λ z. merged n q k c ∷ woven ks z) (above_all (node_label k) c cs e h))
-
-  pub step_greater : (k : PlainNode) (ks : List PlainNode) (c : PlainKeyed) (cs : List PlainKeyed) → label_cmp (label_of c) (node_label k) ≡ Greater → IsTrue (ascend (kids_from (c ∷ cs))) → woven (k ∷ ks) (c ∷ cs) ≡ vanished q k ∷ woven ks (c ∷ cs)
+  pub step_greater : (k : PlainNode) (ks : List PlainNode) (c : PlainKeyed) (cs : List PlainKeyed) → label_cmp (label_of c) (node_label k) ≡ Greater → IsTrue (ascend (kids_from (c ∷ cs))) → woven (k ∷ ks) (c ∷ cs) ≡ gone_step q k ∷ woven ks (c ∷ cs)
   step_greater k ks c cs e h =
       let none = kid_at-Greater (node_label k) c cs e h in
       rw none (rw e)
@@ -101,8 +92,8 @@ ordered_tail c cs h = (both (is_ordered c) (are_ordered (kids_from cs)) h).1
 pub below_tail : (n : ℕ) (k : PlainNode) (ks : List PlainNode) → IsTrue (are_nodes_below n (nodes_from (k ∷ ks))) → IsTrue (is_node_below n k) × IsTrue (are_nodes_below n (nodes_from ks))
 below_tail n k ks h = both (is_node_below n k) (are_nodes_below n (nodes_from ks)) h
 
-pub pushed : (kids more : List ANode) (x : ANode) (y : PlainNode) → more ≡ kids ++ x ∷ [] → node_view x ≡ y → map node_view more ≡ map node_view kids ++ y ∷ []
-pushed kids more x y e f = ap (map node_view) e ∙ map-append node_view kids (x ∷ []) ∙ ap (λ z. map node_view kids ++ z ∷ []) f
+pub pushed : {X Y : Type 0} (view : X → Y) (xs more : List X) (x : X) (y : Y) → more ≡ xs ++ x ∷ [] → view x ≡ y → map view more ≡ map view xs ++ y ∷ []
+pushed view xs more x y e f = ap (map view) e ∙ map-append view xs (x ∷ []) ∙ ap (λ z. map view xs ++ z ∷ []) f
 
-pub one_done : (whole done more rest left : List PlainNode) (y : PlainNode) → whole ≡ done ++ rest → more ≡ done ++ y ∷ [] → rest ≡ y ∷ left → whole ≡ more ++ left
+pub one_done : {Y : Type 0} (whole done more rest left : List Y) (y : Y) → whole ≡ done ++ rest → more ≡ done ++ y ∷ [] → rest ≡ y ∷ left → whole ≡ more ++ left
 one_done whole done more rest left y e f g = e ∙ ap (λ z. done ++ z) g ∙ sym (append_assoc done (y ∷ []) left) ∙ ap (λ z. z ++ left) (sym f)

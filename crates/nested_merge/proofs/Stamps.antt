@@ -1,11 +1,11 @@
 -- Stamps as a version is added.
-use Rattle.std.proofs.Common.{◌≡◌, ◌≢◌, ℕ, zero, suc, ◌+◌, ◌-◌, ◌==◌, ◌<◌, ◌≤◌, false, List, [], ◌∷◌, ◌++◌, Some, None, refl, ap, sym, subst, ◌∙◌, arith, max}
+use Rattle.std.proofs.Common.{◌≡◌, ◌≢◌, ℕ, zero, suc, ◌+◌, ◌-◌, ◌==◌, ◌<◌, ◌≤◌, false, List, [], ◌∷◌, ◌++◌, Some, None, refl, ap, sym, subst, ◌∙◌, arith}
 use Rattle.std.proofs.lemmas.List.{append_cancel_right, append-nil}
 use Rattle.std.proofs.lemmas.Bool.Decides.{nat_tests}
 use Rattle.std.specs.List.{AllByRecursion, range_with_len}
 use Rattle.std.specs.Option.{unwrap_or}
 use Rattle.version_set.specs.Pairs.{IsCanonical, last_of}
-use Rattle.version_set.specs.Members.{members, greatest, with_last}
+use Rattle.version_set.specs.Members.{members, greatest}
 use Rattle.version_set.proofs.MembersLemmas.{members-with_last, IsCanonical-with_last}
 use Rattle.version_set.proofs.SetLemmas.{greatest-members}
 use Rattle.archive_tree.specs.Data.{Stamp, eff}

@@ -1,10 +1,9 @@
 -- What a version adds to an archive is as well formed as both.
-use Rattle.std.proofs.Common.{◌≡◌, ℕ, true, false, cond, IsTrue, ◌&&◌, List, [], ◌∷◌, ◌++◌, map, Option, Some, None, IfSome, refl, ap, sym, subst, ◌∙◌, inl, inr}
+use Rattle.std.proofs.Common.{◌≡◌, ℕ, true, false, cond, IsTrue, List, [], ◌∷◌, ◌++◌, map, Some, None, refl, subst, inl, inr}
 use Rattle.std.proofs.lemmas.Bool.{and_from}
-use Rattle.std.proofs.lemmas.List.{append-nil}
 use Rattle.std.specs.Option.{unwrap_or}
 use Rattle.std.specs.Ordering.{is_eq}
-use Rattle.keyed_tree.specs.Data.{PlainKey, PlainLabel, PlainKeyed, inner, leaf, PlainKids, no_kids, kid, kids_list}
+use Rattle.keyed_tree.specs.Data.{PlainKey, PlainKeyed, inner, leaf, PlainKids, no_kids, kid, kids_list}
 use Rattle.keyed_tree.specs.Kids.{kid_at}
 use Rattle.keyed_tree.specs.Lists.{Has}
 use Rattle.keyed_tree.specs.Order.{key_cmp}

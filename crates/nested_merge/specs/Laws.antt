@@ -1,5 +1,5 @@
 -- What follows from the merge: every list of versions has its archive, and an archive keeps its versions.
-use Rattle.std.specs.Prelude.{◌≡◌, ℕ, List, [], ◌∷◌, Option}
+use Rattle.std.specs.Prelude.{◌≡◌, ℕ, List, Option}
 use Rattle.std.specs.List.{AllByRecursion, range_with_len}
 use Rattle.keyed_tree.specs.Data.{PlainKeyed}
 use Rattle.keyed_tree.specs.Kids.{IsOrdered}

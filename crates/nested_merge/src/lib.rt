@@ -1,10 +1,16 @@
 //! Merging one version into an archive in memory.
 #![tactic(auto)]
 
-mod copy;
+mod alike;
+mod apply;
 mod fresh;
-mod merged;
+mod plan;
+mod planning;
+mod space;
 mod stamp;
+#[cfg(test)]
+mod tests;
 mod version;
 
+pub use alike::is_alike;
 pub use version::{merge, merge_all};

@@ -1,16 +1,15 @@
-// The stamps of an archive with version n.
+// The sets that a version changes.
 ghost use Rattle.std.specs.Prelude.{◌≡◌, ◌≤◌, IfOk, IsTrue};
-ghost use Rattle.std.specs.Option.{option_map, unwrap_or};
 ghost use Rattle.version_set.specs.View.{pairs_of};
 ghost use Rattle.archive_tree.specs.View.{stamp_view};
-ghost use Rattle.nested_merge.specs.Merged.{grown, kept, started};
+ghost use Rattle.nested_merge.specs.Merged.{grown, started};
+ghost use Rattle.nested_merge.specs.Plan.{kept_change};
 ghost use Rattle.nested_merge.specs.Below.{is_stamp_below};
 
-use archive_tree::effective;
 use std::alloc::{AllocError, Global};
 use version_set::VersionSet;
 
-// The stamp of what version n has too.
+// The stored set with version n, if one is stored.
 pub fn grown_stamp(n: u32, stamp: &Option<VersionSet>) -> Result<Option<VersionSet>, AllocError>
     requires { IsTrue (is_stamp_below n (stamp_view stamp.now)) }
     ensures { IfOk result (λ s. stamp_view s ≡ grown n (stamp_view stamp.now)) }
@@ -26,14 +25,17 @@ pub fn grown_stamp(n: u32, stamp: &Option<VersionSet>) -> Result<Option<VersionS
     }
 }
 
-// The stamp of what version n does not have, under a parent that has it and had the set before.
-pub fn kept_stamp(
+// The parent's set, if none is stored.
+pub fn kept_change(
     parent: &VersionSet,
     stamp: &Option<VersionSet>,
 ) -> Result<Option<VersionSet>, AllocError>
-    ensures { IfOk result (λ s. stamp_view s ≡ kept (pairs_of parent.now) (stamp_view stamp.now)) }
+    ensures { IfOk result (λ s. stamp_view s ≡ kept_change (pairs_of parent.now) (stamp_view stamp.now)) }
 {
-    Ok(Some(effective(stamp, parent).copy()?))
+    match stamp {
+        None => Ok(Some(parent.copy()?)),
+        Some(_) => Ok(None),
+    }
 }
 
 // The stamp of what begins with version n, under a parent that had the set before.

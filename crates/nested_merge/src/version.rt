@@ -7,25 +7,21 @@ ghost use Rattle.keyed_tree.specs.Proper.{IsElement};
 ghost use Rattle.keyed_tree.specs.WellFormed.{IsKeyedWellFormed};
 ghost use Rattle.keyed_tree.specs.View.{keyed_view};
 ghost use Rattle.archive_tree.specs.ArchiveView.{archive_view};
-ghost use Rattle.archive_tree.specs.Data.{nodes_list};
 ghost use Rattle.archive_tree.specs.Stands.{ArchiveOf};
-ghost use Rattle.archive_tree.specs.View.{node_view, nodes_view};
 ghost use Rattle.nested_merge.specs.Alike.{AlikeAll};
-ghost use Rattle.nested_merge.specs.Below.{are_nodes_below};
 ghost use Rattle.nested_merge.specs.Laws.{AreVersions, HasOneArchive, version_at};
-ghost use Rattle.nested_merge.specs.Merged.{upto, merged_row};
 
-use crate::merged::merged_kids;
-use archive_tree::{ANode, Archive};
+use crate::apply::applied_kids;
+use crate::planning::plan_of;
+use archive_tree::Archive;
 use keyed_tree::Keyed;
 use std::alloc::{AllocError, Global};
-use std::slice;
-use version_set::VersionSet;
 
 /// The archive of the old versions followed by the new one. Where memory runs out, the old archive comes back.
 ///
-/// It goes once along the nodes of the archive and of the version, in the order of their labels, and recurses as deep as
-/// they nest. The new archive is built beside the old one, whose nodes and sets it copies.
+/// It goes once along the nodes of the version and those of the archive beside them, in the order of their labels, and
+/// recurses as deep as they nest. A plan takes all the memory first: room for each row, what is new, and each set that
+/// changes. Then the old nodes are moved into their places, and none is copied.
 pub fn merge(alloc: Global, old: Archive, new: &Keyed) -> Result<Archive, (AllocError, Archive)>
     requires room { (archive_view old).n < 4294967295 }
     requires element { IsElement (keyed_view new.now) }
@@ -42,8 +38,11 @@ pub fn merge(alloc: Global, old: Archive, new: &Keyed) -> Result<Archive, (Alloc
     ensures newest { IfOk result (λ a. version_at ((archive_view old).n + 1) (archive_view a) ≡ Some (keyed_view new.now)) }
     ensures refused { IfErr result (λ e. archive_view e.1 ≡ archive_view old) }
 {
-    match kids_with(alloc, old.n(), old.kids(), new) {
-        Ok(kids) => Ok(Archive::new(old.n() + 1, kids)),
+    match plan_of(alloc, old.n(), old.kids(), new) {
+        Ok(plan) => {
+            let (n, kids) = old.into_parts();
+            Ok(Archive::new(n + 1, applied_kids(plan.steps, plan.space, kids)))
+        }
         Err(error) => Err((error, old)),
     }
 }
@@ -66,16 +65,4 @@ pub fn merge_all(alloc: Global, versions: &[Keyed]) -> Result<Archive, AllocErro
         };
     }
     Ok(archive)
-}
-
-// The kids of the virtual root, for n versions, with those of one more.
-fn kids_with(alloc: Global, n: u32, old: &[ANode], new: &Keyed) -> Result<Vec<ANode>, AllocError>
-    requires room { n < 4294967295 }
-    requires below { IsTrue (are_nodes_below (n + 1) (nodes_view old.now)) }
-    requires ordered { IsOrdered (keyed_view new.now) }
-    ensures { IfOk result (λ v. map node_view v.items
-        ≡ nodes_list (merged_row (n + 1) (upto n) (nodes_view old.now) (keyed_view new.now ∷ []))) }
-{
-    let all = VersionSet::upto(alloc, n);
-    merged_kids(alloc, n + 1, &all, old, slice::from_ref(new))
 }

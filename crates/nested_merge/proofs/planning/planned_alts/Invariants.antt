@@ -2,15 +2,17 @@ use Rattle.std.proofs.Common.{◌≡◌, IsTrue, map, take, drop}
 use Rattle.version_set.specs.View.{pairs_of}
 use Rattle.keyed_tree.specs.View.{key_view}
 use Rattle.nested_merge.specs.Below.{are_alts_below}
-use Rattle.nested_merge.specs.Merged.{merged_alt, has_alt}
+use Rattle.nested_merge.specs.Merged.{has_alt}
+use Rattle.nested_merge.specs.Plan.{planned_alt}
+use Rattle.nested_merge.specs.PlanView.{alt_step_view}
 use Rattle.archive_tree.specs.View.{alt_view}
-use Rattle.nested_merge.proofs.merged.merged_alts.Given as goal
+use Rattle.nested_merge.proofs.planning.planned_alts.Given as goal
 
 abbrev pub invariant-loop-alt : goal.invariant-loop-alt
 invariant-loop-alt l =
     let before = map alt_view (take l.alt-index l.alts) in
     record {
-      done : map alt_view l.merged.items ≡ map (merged_alt l.n (pairs_of l.set) (key_view l.body)) before;
+      done : map alt_step_view l.steps.items ≡ map (planned_alt l.n (pairs_of l.set) (key_view l.body)) before;
       below : IsTrue (are_alts_below l.n (map alt_view (drop l.alt-index l.alts)));
       known : l.found ≡ has_alt (key_view l.body) before;
     }
