@@ -1,0 +1,16 @@
+use Rattle.std.proofs.Common.{◌≡◌, ◌++◌, map, drop}
+use Rattle.std.specs.List.{flat_map, AllByRecursion}
+use Rattle.jsonml_tree.specs.View.{items_view}
+use Rattle.record_format.specs.Spelling.{items_bytes}
+use Rattle.record_format.specs.Bounds.{AreItems}
+use Rattle.xa_fields.specs.Laws.{Grows}
+use Rattle.record_format.proofs.put_values.+put.Given as goal
+
+-- what is left makes the whole
+abbrev pub invariant-put_items-loop-item : goal.invariant-put_items-loop-item
+invariant-put_items-loop-item l =
+    record {
+      fits : AreItems (items_view (drop l.item-index l.items));
+      wrote : l.out.items ++ items_bytes (items_view (drop l.item-index l.items)) ≡ l.fn.out.items ++ items_bytes (items_view l.items);
+      grows : Grows l.fn.out.items l.out.items;
+    }

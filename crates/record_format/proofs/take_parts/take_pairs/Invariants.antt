@@ -1,0 +1,12 @@
+use Rattle.std.proofs.Common.{◌≡◌, ◌≤◌, ◌-◌, length, drop}
+use Rattle.xa_fields.proofs.Loops.{with_front}
+use Rattle.record_format.specs.Reading.{pair_at, next_pair, chain_at}
+use Rattle.record_format.proofs.take_parts.take_pairs.Given as goal
+
+-- what was read, in front of what the rest gives
+abbrev pub invariant-loop : goal.invariant-loop
+invariant-loop l =
+    record {
+      within : l.at ≤ length l.bytes;
+      read : with_front l.pairs.items (chain_at pair_at next_pair l.low (l.count - l.counter) (drop l.at l.bytes)) ≡ chain_at pair_at next_pair 1 l.count (drop l.fn.at l.bytes);
+    }

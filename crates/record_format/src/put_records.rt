@@ -1,0 +1,158 @@
+// Appending records.
+ghost use Rattle.std.specs.Prelude.{◌≡◌, ℕ, ◌+◌, ◌≤◌, ◌<◌, ◌^◌, List, ◌∷◌, ◌++◌, length, take, drop, map, OnOk, OnErr, IfOk};
+ghost use Rattle.version_set.specs.View.{pairs_of};
+ghost use Rattle.keyed_tree.specs.View.{key_view, label_view};
+ghost use Rattle.archive_tree.specs.View.{stamp_view};
+ghost use Rattle.xa_fields.specs.Spelling.{u64_bytes};
+ghost use Rattle.xa_fields.specs.Laws.{Grows};
+ghost use Rattle.record_format.specs.Data.{inner_rec, leaf_rec, alt_rec, end_rec, leaf_end};
+ghost use Rattle.record_format.specs.View.{entry_view, rec_view};
+ghost use Rattle.record_format.specs.Spelling.{framed, rec_bytes};
+ghost use Rattle.record_format.specs.Bounds.{IsLabel, IsValue, IsRec};
+
+use crate::put_parts::{put_directory, put_label, put_stamp};
+use crate::put_values::put_value;
+use crate::rec::{Entry, Rec};
+use keyed_tree::{Body, Label};
+use std::alloc::{AllocError, Global};
+use version_set::VersionSet;
+use xa_fields::put_u64;
+
+/// Appends the kind of a record, and eight bytes for the length of its body, and answers where the body begins.
+#[tactic(auto, using(xa_fields::proofs::Combinators::growth))]
+fn open(out: &mut Vec<u8>, kind: u8) -> Result<usize, AllocError>
+    ensures ok { OnOk result (out.new.items ≡ out.old.items ++ kind ∷ u64_bytes 0) }
+    ensures at { IfOk result (λ at. at ≡ length out.old.items + 9) }
+    ensures grows { Grows out.old.items out.new.items }
+{
+    let at = out.len() + 9;
+    out.push(kind)?;
+    put_u64(out, 0)?;
+    Ok(at)
+}
+
+fn set_u64(out: &mut Vec<u8>, at: usize, n: u64)
+    requires { at + 8 ≤ length out.old.items }
+    ensures { out.new.items ≡ take at out.old.items ++ (u64_bytes n ++ drop (at + 8) out.old.items) }
+{
+    out[at..at + 8].copy_from_slice(&n.to_be_bytes());
+}
+
+/// Sets the length of the body that begins at this offset and goes to the end.
+fn close(out: &mut Vec<u8>, at: usize)
+    requires room { 9 ≤ at }
+    requires within { at ≤ length out.old.items }
+    ensures { (front body : List ℕ) (kind : ℕ) → out.old.items ≡ (front ++ kind ∷ u64_bytes 0) ++ body → at ≡ length front + 9 → out.new.items ≡ front ++ framed kind body }
+{
+    let length = (out.len() - at) as u64;
+    set_u64(out, at - 8, length);
+}
+
+/// Appends the record that opens an inner node. On a refusal some of it was appended.
+#[tactic(auto, using(xa_fields::proofs::Combinators::growth))]
+pub fn put_inner(
+    out: &mut Vec<u8>,
+    label: &Label,
+    stamp: &Option<VersionSet>,
+) -> Result<(), AllocError>
+    requires { IsLabel (label_view label.now) }
+    ensures ok { OnOk result (out.new.items ≡ out.old.items ++ rec_bytes (inner_rec (label_view label.now) (stamp_view stamp.now))) }
+    ensures grows { Grows out.old.items out.new.items }
+{
+    let at = open(out, 1)?;
+    put_label(out, label)?;
+    put_stamp(out, stamp)?;
+    close(out, at);
+    Ok(())
+}
+
+/// Appends the record that opens a leaf. On a refusal some of it was appended.
+#[tactic(auto, using(xa_fields::proofs::Combinators::growth))]
+pub fn put_leaf(
+    out: &mut Vec<u8>,
+    label: &Label,
+    stamp: &Option<VersionSet>,
+) -> Result<(), AllocError>
+    requires { IsLabel (label_view label.now) }
+    ensures ok { OnOk result (out.new.items ≡ out.old.items ++ rec_bytes (leaf_rec (label_view label.now) (stamp_view stamp.now))) }
+    ensures grows { Grows out.old.items out.new.items }
+{
+    let at = open(out, 2)?;
+    put_label(out, label)?;
+    put_stamp(out, stamp)?;
+    close(out, at);
+    Ok(())
+}
+
+/// Appends the record of an alternative. On a refusal some of it was appended.
+#[tactic(auto, using(xa_fields::proofs::Combinators::growth))]
+pub fn put_alt(out: &mut Vec<u8>, stamp: &Option<VersionSet>, body: &Body) -> Result<(), AllocError>
+    requires { IsValue (key_view body.now) }
+    ensures ok { OnOk result (out.new.items ≡ out.old.items ++ rec_bytes (alt_rec (stamp_view stamp.now) (key_view body.now))) }
+    ensures grows { Grows out.old.items out.new.items }
+{
+    let at = open(out, 3)?;
+    put_stamp(out, stamp)?;
+    put_value(out, body)?;
+    close(out, at);
+    Ok(())
+}
+
+/// Appends the record that closes an inner node. On a refusal some of it was appended.
+#[tactic(auto, using(xa_fields::proofs::Combinators::growth))]
+pub fn put_end(
+    alloc: Global,
+    out: &mut Vec<u8>,
+    entries: &[Entry],
+    sets: &[VersionSet],
+) -> Result<(), AllocError>
+    requires few { length entries.now < 2 ^ 32 }
+    requires paired { length sets.now ≡ length entries.now }
+    ensures ok { OnOk result (out.new.items ≡ out.old.items ++ rec_bytes (end_rec (record { entries = map entry_view entries.now; sets = map pairs_of sets.now }))) }
+    ensures grows { Grows out.old.items out.new.items }
+{
+    let at = open(out, 4)?;
+    put_directory(alloc, out, entries, sets)?;
+    close(out, at);
+    Ok(())
+}
+
+/// Appends the record that closes a leaf. On a refusal some of it was appended.
+#[tactic(auto, using(xa_fields::proofs::Combinators::growth))]
+pub fn put_leaf_end(out: &mut Vec<u8>) -> Result<(), AllocError>
+    ensures ok { OnOk result (out.new.items ≡ out.old.items ++ rec_bytes leaf_end) }
+    ensures grows { Grows out.old.items out.new.items }
+{
+    open(out, 5)?;
+    Ok(())
+}
+
+#[tactic(auto, using(xa_fields::proofs::Combinators::growth, jsonml_tree::proofs::Trees::trees))]
+fn put_record(alloc: Global, rec: &Rec, out: &mut Vec<u8>) -> Result<(), AllocError>
+    requires { IsRec (rec_view rec.now) }
+    ensures ok { OnOk result (out.new.items ≡ out.old.items ++ rec_bytes (rec_view rec.now)) }
+    ensures grows { Grows out.old.items out.new.items }
+{
+    match rec {
+        Rec::Inner { label, stamp } => put_inner(out, label, stamp),
+        Rec::Leaf { label, stamp } => put_leaf(out, label, stamp),
+        Rec::Alt { stamp, body } => put_alt(out, stamp, body),
+        Rec::End { dir } => put_end(alloc, out, &dir.entries, &dir.sets),
+        Rec::LeafEnd => put_leaf_end(out),
+    }
+}
+
+/// Appends the bytes of a record. On a refusal nothing changes.
+#[tactic(auto, using(xa_fields::proofs::Combinators::growth))]
+pub fn encode(alloc: Global, rec: &Rec, out: &mut Vec<u8>) -> Result<(), AllocError>
+    requires { IsRec (rec_view rec.now) }
+    ensures ok { OnOk result (out.new.items ≡ out.old.items ++ rec_bytes (rec_view rec.now)) }
+    ensures err { OnErr result (out.new.items ≡ out.old.items) }
+{
+    let before = out.len();
+    if put_record(alloc, rec, out).is_err() {
+        out.truncate(before);
+        return Err(AllocError);
+    }
+    Ok(())
+}
