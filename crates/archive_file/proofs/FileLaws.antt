@@ -1,0 +1,277 @@
+-- Which archives have a file, as far as the records of their nodes go.
+use Rattle.std.proofs.Common.{◌≡◌, ◌≢◌, ℕ, zero, suc, ◌+◌, ◌^◌, ◌<◌, ◌≤◌, Bool, true, false, cond, eqb, ◌&&◌, IsTrue, List, [], ◌∷◌, ◌++◌, map, length, Option, Some, None, Ok, refl, sym, ap, subst, ◌∙◌, arith}
+use Rattle.std.specs.List.{flat_map, AllByRecursion}
+use Rattle.std.proofs.lemmas.List.{length-append, append-nil}
+use Rattle.std.proofs.lemmas.Bool.Decides.{nat_tests}
+use Rattle.std.proofs.lemmas.Grind.{flat_map-append}
+use Rattle.key_spec.specs.Data.{PlainRule}
+use Rattle.key_spec.specs.Canonical.{canonical}
+use Rattle.key_spec.specs.Closed.{closed}
+use Rattle.keyed_tree.specs.Data.{PlainLabel}
+use Rattle.keyed_tree.proofs.Kids.{both}
+use Rattle.archive_tree.specs.Data.{Stamp, PlainAlt, PlainNode, inner_node, leaf_node, PlainNodes, no_nodes, node, nodes_list, PlainArchive}
+use Rattle.version_set.specs.Members.{upto_pairs}
+use Rattle.record_format.specs.Data.{PlainEntry, PlainRec, inner_rec, leaf_rec, alt_rec, end_rec, leaf_end}
+use Rattle.record_format.specs.Spelling.{dir_bytes, body_bytes, rec_bytes}
+use Rattle.record_format.specs.Bounds.{IsValue, IsLabel, most, IsSet, IsStamp, IsEntry, IsDir, IsBody, IsRec}
+use Rattle.record_format.specs.Nodes.{Piece, piece_bytes, entries_from, dir_of, closed_by_end, alt_of, set_in, node_piece, node_pieces}
+use Rattle.record_format.specs.Files.{root_pieces, file_records, tail_bytes, header_bytes, file_bytes, longest, HasFile}
+use Rattle.archive_tree.specs.View.{node_view, nodes_view}
+use Rattle.archive_tree.specs.declared.node.ANode.{ANode}
+use Rattle.archive_file.specs.Goes.{fits_four, label_goes, stamp_goes, value_goes, alts_go, node_goes, nodes_go, row_goes, HasBody, HasParts, HaveParts}
+use Rattle.archive_file.proofs.FrontLaws.{canonical-short}
+use Rattle.archive_file.proofs.GoesLaws.{both-hold, lt-of, of-lt, label-goes, value-goes, stamp-goes, goes-label, goes-value, goes-stamp}
+
+-- ---- lists
+
+pub all-append : {X : Type 0} (P : X → Type 0) (xs ys : List X) → AllByRecursion P xs → AllByRecursion P ys → AllByRecursion P (xs ++ ys)
+all-append P [] ys h g = g
+all-append P (x ∷ xs) ys h g = (h.0, all-append P xs ys h.1 g)
+
+pub all-front : {X : Type 0} (P : X → Type 0) (xs ys : List X) → AllByRecursion P (xs ++ ys) → AllByRecursion P xs
+all-front P [] ys h = tt
+all-front P (x ∷ xs) ys h = (h.0, all-front P xs ys h.1)
+
+pub all-back : {X : Type 0} (P : X → Type 0) (xs ys : List X) → AllByRecursion P (xs ++ ys) → AllByRecursion P ys
+all-back P [] ys h = h
+all-back P (x ∷ xs) ys h = all-back P xs ys h.1
+
+-- ---- the bytes of pieces
+
+abbrev pub records_of : List Piece → List PlainRec
+records_of ps = flat_map (λ (p : Piece). p.records) ps
+
+pub records-bytes : (ps : List Piece) → flat_map rec_bytes (records_of ps) ≡ flat_map piece_bytes ps
+records-bytes [] = refl
+records-bytes (p ∷ ps) = flat_map-append rec_bytes p.records (records_of ps) ∙ ap (λ (bs : List ℕ). piece_bytes p ++ bs) (records-bytes ps)
+
+pub one-record : (r : PlainRec) → flat_map rec_bytes (r ∷ []) ≡ rec_bytes r
+one-record r = append-nil (rec_bytes r)
+
+-- a row is its pieces and the END
+pub closed-bytes : (ps : List Piece) → flat_map rec_bytes (closed_by_end ps) ≡ flat_map piece_bytes ps ++ rec_bytes (end_rec (dir_of ps))
+closed-bytes ps =
+    flat_map-append rec_bytes (records_of ps) (end_rec (dir_of ps) ∷ [])
+    ∙ ap (λ (bs : List ℕ). bs ++ flat_map rec_bytes (end_rec (dir_of ps) ∷ [])) (records-bytes ps)
+    ∙ ap (λ (bs : List ℕ). flat_map piece_bytes ps ++ bs) (one-record (end_rec (dir_of ps)))
+
+pub rec-length : (r : PlainRec) → length (rec_bytes r) ≡ length (body_bytes r) + 9
+rec-length r = omega arith
+
+pub entries-more : (at : ℕ) (ps : List Piece) (p : Piece)
+    → entries_from at (ps ++ p ∷ []) ≡ entries_from at ps ++ record { start = at + length (flat_map piece_bytes ps); length = length (piece_bytes p); dir = p.dir } ∷ []
+entries-more at [] p = ap (λ (n : ℕ). record { start = n; length = length (piece_bytes p); dir = p.dir } ∷ []) (let e : at ≡ at + 0 = omega arith in e)
+entries-more at (q ∷ ps) p =
+    let rest = entries-more (at + length (piece_bytes q)) ps p in
+    let place : at + length (piece_bytes q) + length (flat_map piece_bytes ps) ≡ at + length (flat_map piece_bytes (q ∷ ps)) = omega (arith, length-append (piece_bytes q) (flat_map piece_bytes ps)) in
+    ap (λ (es : List PlainEntry). record { start = at; length = length (piece_bytes q); dir = q.dir } ∷ es)
+    (rest ∙ ap (λ (n : ℕ). entries_from (at + length (piece_bytes q)) ps ++ record { start = n; length = length (piece_bytes p); dir = p.dir } ∷ []) place)
+
+pub entries-length : (at : ℕ) (ps : List Piece) → length (entries_from at ps) ≡ length ps
+entries-length at [] = refl
+entries-length at (p ∷ ps) = ap suc (entries-length (at + length (piece_bytes p)) ps)
+
+pub pieces-length : (set : List (ℕ × ℕ)) (ks : PlainNodes) → length (node_pieces set ks) ≡ length (nodes_list ks)
+pieces-length set no_nodes = refl
+pieces-length set (node k ks) = ap suc (pieces-length set ks)
+
+-- ---- nodes that pass have records
+
+-- what is known of a piece
+record Fine (p : Piece) : Type 0 where
+  recs : AllByRecursion IsRec p.records
+  dir : p.dir ≤ length (piece_bytes p)
+  set : IsSet p.set
+
+entries-fit : (at : ℕ) (ps : List Piece) → AllByRecursion Fine ps → at + length (flat_map piece_bytes ps) < 2 ^ 64 → AllByRecursion IsEntry (entries_from at ps)
+entries-fit at [] h g = tt
+entries-fit at (p ∷ ps) h g =
+    let whole = length-append (piece_bytes p) (flat_map piece_bytes ps) in
+    let dir = h.0.dir in
+    let starts : at < 2 ^ 64 = omega arith in
+    let long : length (piece_bytes p) < 2 ^ 64 = omega arith in
+    let ends : p.dir < 2 ^ 64 = omega arith in
+    (record { start = starts; length = long; dir = ends }, entries-fit (at + length (piece_bytes p)) ps h.1 (omega arith))
+
+sets-fit : (ps : List Piece) → AllByRecursion Fine ps → AllByRecursion IsSet (map (λ (p : Piece). p.set) ps)
+sets-fit [] h = tt
+sets-fit (p ∷ ps) h = (h.0.set, sets-fit ps h.1)
+
+records-fit : (ps : List Piece) → AllByRecursion Fine ps → AllByRecursion IsRec (records_of ps)
+records-fit [] h = tt
+records-fit (p ∷ ps) h = all-append IsRec p.records (records_of ps) h.0.recs (records-fit ps h.1)
+
+length-map : (ps : List Piece) → length (map (λ (p : Piece). p.set) ps) ≡ length ps
+length-map [] = refl
+length-map (p ∷ ps) = ap suc (length-map ps)
+
+closed-fits : (ps : List Piece) → AllByRecursion Fine ps → length ps < 2 ^ 32 → length (flat_map rec_bytes (closed_by_end ps)) < 2 ^ 64 → AllByRecursion IsRec (closed_by_end ps)
+closed-fits ps h few g =
+    let end = end_rec (dir_of ps) in
+    let whole = ap length (closed-bytes ps) ∙ length-append (flat_map piece_bytes ps) (rec_bytes end) in
+    let tail = rec-length end in
+    let count = entries-length 0 ps in
+    let is_dir : IsDir (dir_of ps) = record {
+      few = omega arith;
+      entries = entries-fit 0 ps h (omega arith);
+      sets = sets-fit ps h;
+      paired = length-map ps ∙ sym count;
+    } in
+    all-append IsRec (records_of ps) (end ∷ []) (records-fit ps h) (record { body = is_dir; short = omega arith }, tt)
+
+set-in : (s : Stamp) (parent : List (ℕ × ℕ)) → IsStamp s → IsSet parent → IsSet (set_in s parent)
+set-in None parent h g = g
+set-in (Some s) parent h g = h.0
+
+alts-fit : (xs : List PlainAlt) → IsTrue (alts_go xs) → length (flat_map rec_bytes (map alt_of xs ++ leaf_end ∷ [])) < 2 ^ 64 → AllByRecursion IsRec (map alt_of xs ++ leaf_end ∷ [])
+alts-fit [] h g = (record { body = tt; short = omega arith }, tt)
+alts-fit (x ∷ xs) h g =
+    let one = both (stamp_goes x.stamp) (value_goes x.body && alts_go xs) h in
+    let two = both (value_goes x.body) (alts_go xs) one.1 in
+    let whole = length-append (rec_bytes (alt_of x)) (flat_map rec_bytes (map alt_of xs ++ leaf_end ∷ [])) in
+    let first = rec-length (alt_of x) in
+    (record { body = (stamp-goes x.stamp one.0, value-goes x.body two.0); short = omega arith }, alts-fit xs two.1 (omega arith))
+
+mutual
+  node-fine : (parent : List (ℕ × ℕ)) (k : PlainNode) → IsSet parent → IsTrue (node_goes k) → length (piece_bytes (node_piece parent k)) < 2 ^ 64 → Fine (node_piece parent k)
+  node-fine parent (leaf_node l s xs) set h g =
+      let one = both (label_goes l) (stamp_goes s && alts_go xs) h in
+      let two = both (stamp_goes s) (alts_go xs) one.1 in
+      let stamp = stamp-goes s two.0 in
+      let whole = length-append (rec_bytes (leaf_rec l s)) (flat_map rec_bytes (map alt_of xs ++ leaf_end ∷ [])) in
+      let first = rec-length (leaf_rec l s) in
+      record {
+        recs = (record { body = (label-goes l one.0, stamp); short = omega arith }, alts-fit xs two.1 (omega arith));
+        dir = omega arith;
+        set = set-in s parent stamp set;
+      }
+  node-fine parent (inner_node l s ks) set h g =
+      let one = both (label_goes l) (stamp_goes s && (fits_four (length (nodes_list ks)) && nodes_go ks)) h in
+      let two = both (stamp_goes s) (fits_four (length (nodes_list ks)) && nodes_go ks) one.1 in
+      let three = both (fits_four (length (nodes_list ks))) (nodes_go ks) two.1 in
+      let stamp = stamp-goes s two.0 in
+      let own = set-in s parent stamp set in
+      let ps = node_pieces (set_in s parent) ks in
+      let end = end_rec (dir_of ps) in
+      let whole = length-append (rec_bytes (inner_rec l s)) (flat_map rec_bytes (closed_by_end ps)) in
+      let first = rec-length (inner_rec l s) in
+      let row = ap length (closed-bytes ps) ∙ length-append (flat_map piece_bytes ps) (rec_bytes end) in
+      let last = rec-length end in
+      let count = pieces-length (set_in s parent) ks in
+      let few = lt-of (length (nodes_list ks)) (2 ^ 32) three.0 in
+      let fine = nodes-fine (set_in s parent) ks own three.1 (omega arith) in
+      record {
+        recs = (record { body = (label-goes l one.0, stamp); short = omega arith }, closed-fits ps fine (omega arith) (omega arith));
+        dir = omega arith;
+        set = own;
+      }
+
+  nodes-fine : (parent : List (ℕ × ℕ)) (ks : PlainNodes) → IsSet parent → IsTrue (nodes_go ks) → length (flat_map piece_bytes (node_pieces parent ks)) < 2 ^ 64 → AllByRecursion Fine (node_pieces parent ks)
+  nodes-fine parent no_nodes set h g = tt
+  nodes-fine parent (node k ks) set h g =
+      let two = both (node_goes k) (nodes_go ks) h in
+      let whole = length-append (piece_bytes (node_piece parent k)) (flat_map piece_bytes (node_pieces parent ks)) in
+      (node-fine parent k set two.0 (omega arith), nodes-fine parent ks set two.1 (omega arith))
+
+-- ---- nodes that have records pass
+
+alts-from : (xs : List PlainAlt) → AllByRecursion IsRec (map alt_of xs ++ leaf_end ∷ []) → IsTrue (alts_go xs)
+alts-from [] h = refl
+alts-from (x ∷ xs) h =
+    both-hold (stamp_goes x.stamp) (value_goes x.body && alts_go xs) (goes-stamp x.stamp h.0.body.0)
+    (both-hold (value_goes x.body) (alts_go xs) (goes-value x.body h.0.body.1) (alts-from xs h.1))
+
+few-from : (set : List (ℕ × ℕ)) (ks : PlainNodes) → AllByRecursion IsRec (closed_by_end (node_pieces set ks)) → IsTrue (fits_four (length (nodes_list ks)))
+few-from set ks h =
+    let ps = node_pieces set ks in
+    let last = (all-back IsRec (records_of ps) (end_rec (dir_of ps) ∷ []) h).0 in
+    let dir : IsDir (dir_of ps) = last.body in
+    let few : length (entries_from 0 ps) < 2 ^ 32 = dir.few in
+    let count = entries-length 0 ps in
+    let same = pieces-length set ks in
+    of-lt (length (nodes_list ks)) (2 ^ 32) (omega arith)
+
+mutual
+  node-from : (parent : List (ℕ × ℕ)) (k : PlainNode) → AllByRecursion IsRec ((node_piece parent k).records) → IsTrue (node_goes k)
+  node-from parent (leaf_node l s xs) h =
+      both-hold (label_goes l) (stamp_goes s && alts_go xs) (goes-label l h.0.body.0)
+      (both-hold (stamp_goes s) (alts_go xs) (goes-stamp s h.0.body.1) (alts-from xs h.1))
+  node-from parent (inner_node l s ks) h =
+      let ps = node_pieces (set_in s parent) ks in
+      let kids = all-front IsRec (records_of ps) (end_rec (dir_of ps) ∷ []) h.1 in
+      both-hold (label_goes l) (stamp_goes s && (fits_four (length (nodes_list ks)) && nodes_go ks)) (goes-label l h.0.body.0)
+      (both-hold (stamp_goes s) (fits_four (length (nodes_list ks)) && nodes_go ks) (goes-stamp s h.0.body.1)
+      (both-hold (fits_four (length (nodes_list ks))) (nodes_go ks) (few-from (set_in s parent) ks h.1) (nodes-from (set_in s parent) ks kids)))
+
+  nodes-from : (parent : List (ℕ × ℕ)) (ks : PlainNodes) → AllByRecursion IsRec (records_of (node_pieces parent ks)) → IsTrue (nodes_go ks)
+  nodes-from parent no_nodes h = refl
+  nodes-from parent (node k ks) h =
+      let p = node_piece parent k in
+      let rest = node_pieces parent ks in
+      both-hold (node_goes k) (nodes_go ks) (node-from parent k (all-front IsRec p.records (records_of rest) h)) (nodes-from parent ks (all-back IsRec p.records (records_of rest) h))
+
+pub row-from : (set : List (ℕ × ℕ)) (ks : PlainNodes) → AllByRecursion IsRec (closed_by_end (node_pieces set ks)) → IsTrue (row_goes ks)
+row-from set ks h =
+    let ps = node_pieces set ks in
+    both-hold (fits_four (length (nodes_list ks))) (nodes_go ks) (few-from set ks h) (nodes-from set ks (all-front IsRec (records_of ps) (end_rec (dir_of ps) ∷ []) h))
+
+-- ---- files
+
+upto-set : (n : ℕ) → n ≤ most → IsSet (upto_pairs n)
+upto-set zero h = record { canonical = tt; within = tt }
+upto-set (suc n) h =
+    let some : eqb (suc n) 0 ≡ false = grind (arith, nat_tests) in
+    let one : ((1, suc n) ∷ []) ≡ upto_pairs (suc n) = ap (λ b. cond b [] ((1, suc n) ∷ [])) (sym some) in
+    subst IsSet one (record { canonical = (omega arith, omega arith, tt); within = (h, tt) })
+
+pub has-file : (rules : List PlainRule) (a : PlainArchive) → closed (canonical rules) ≡ Ok rules → a.n ≤ most → IsTrue (row_goes a.kids) → length (file_bytes rules a) ≤ longest → HasFile rules a
+has-file rules a spec few goes short =
+    let ps = root_pieces a in
+    let end = end_rec (dir_of ps) in
+    let two = both (fits_four (length (nodes_list a.kids))) (nodes_go a.kids) goes in
+    let count = pieces-length (upto_pairs a.n) a.kids in
+    let less = lt-of (length (nodes_list a.kids)) (2 ^ 32) two.0 in
+    let whole = length-append (header_bytes rules a.n) (flat_map rec_bytes (file_records a) ++ tail_bytes a) in
+    let body = length-append (flat_map rec_bytes (file_records a)) (tail_bytes a) in
+    let row = ap length (closed-bytes ps) ∙ length-append (flat_map piece_bytes ps) (rec_bytes end) in
+    let fine = nodes-fine (upto_pairs a.n) a.kids (upto-set a.n few) two.1 (omega arith) in
+    let text = canonical-short (canonical rules) rules spec in
+    record { text = omega arith; count = few; records = closed-fits ps fine (omega arith) (omega arith); short = short }
+
+pub file-goes : (rules : List PlainRule) (a : PlainArchive) → HasFile rules a → IsTrue (row_goes a.kids)
+file-goes rules a h = row-from (upto_pairs a.n) a.kids h.records
+
+-- the pieces of nodes of the program
+pub pieces-map : (set : List (ℕ × ℕ)) (xs : List ANode) → node_pieces set (nodes_view xs) ≡ map (λ (k : ANode). node_piece set (node_view k)) xs
+pieces-map set [] = refl
+pieces-map set (x ∷ xs) = ap (λ (ps : List Piece). node_piece set (node_view x) ∷ ps) (pieces-map set xs)
+
+-- ---- what is needed to write nodes that pass
+
+bodies-go : (xs : List PlainAlt) → IsTrue (alts_go xs) → AllByRecursion HasBody xs
+bodies-go [] h = tt
+bodies-go (x ∷ xs) h =
+    let one = both (stamp_goes x.stamp) (value_goes x.body && alts_go xs) h in
+    let two = both (value_goes x.body) (alts_go xs) one.1 in
+    (value-goes x.body two.0, bodies-go xs two.1)
+
+mutual
+  parts-of : (k : PlainNode) → IsTrue (node_goes k) → HasParts k
+  parts-of (inner_node l s ks) h =
+      let one = both (label_goes l) (stamp_goes s && (fits_four (length (nodes_list ks)) && nodes_go ks)) h in
+      let two = both (stamp_goes s) (fits_four (length (nodes_list ks)) && nodes_go ks) one.1 in
+      let three = both (fits_four (length (nodes_list ks))) (nodes_go ks) two.1 in
+      (label-goes l one.0, lt-of (length (nodes_list ks)) (2 ^ 32) three.0, parts-of-each ks three.1)
+  parts-of (leaf_node l s xs) h =
+      let one = both (label_goes l) (stamp_goes s && alts_go xs) h in
+      let two = both (stamp_goes s) (alts_go xs) one.1 in
+      (label-goes l one.0, bodies-go xs two.1)
+
+  parts-of-each : (ks : PlainNodes) → IsTrue (nodes_go ks) → HaveParts ks
+  parts-of-each no_nodes h = tt
+  parts-of-each (node k ks) h = (let two = both (node_goes k) (nodes_go ks) h in (parts-of k two.0, parts-of-each ks two.1))
+
+pub row-parts : (ks : PlainNodes) → IsTrue (row_goes ks) → (length (nodes_list ks) < 2 ^ 32) × HaveParts ks
+row-parts ks h =
+    let two = both (fits_four (length (nodes_list ks))) (nodes_go ks) h in
+    (lt-of (length (nodes_list ks)) (2 ^ 32) two.0, parts-of-each ks two.1)

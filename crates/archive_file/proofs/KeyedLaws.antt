@@ -1,0 +1,80 @@
+-- Which keyed trees are keyed by closed rules: those that fit, are well formed and spell an element that is not too deep.
+use Rattle.std.proofs.Common.{◌≡◌, ◌≤◌, ℕ, zero, suc, true, List, [], ◌∷◌, Ok, refl, sym, subst, arith}
+use Rattle.std.specs.Prelude.{nat_le}
+use Rattle.std.proofs.lemmas.Bool.Decides.{nat_tests}
+use Rattle.std.specs.Result.{IsOk}
+use Rattle.jsonml_tree.specs.Data.{PlainTree, text, element, PlainContent, tree_depth}
+use Rattle.jsonml_tree.specs.Fits.{IsElement}
+use Rattle.jsonml_tree.specs.WellFormed.{IsWellFormed}
+use Rattle.keyed_tree.specs.Data.{PlainKeyed, label_of}
+use Rattle.keyed_tree.specs.Plain.{plain}
+use Rattle.keyed_tree.specs.WellFormed.{IsKeyedWellFormed}
+use Rattle.keyed_tree.proofs.PlainLemmas.{plain_well_formed}
+use Rattle.key_spec.specs.Data.{PlainRule}
+use Rattle.key_spec.specs.Rules.{below}
+use Rattle.key_rules.specs.Labels.{label_in}
+use Rattle.key_rules.specs.Satisfies.{AreApart, ContentSatisfies, Satisfies}
+use Rattle.key_annotate.specs.Annotated.{keyed_tree}
+use Rattle.key_annotate.specs.KeyedOf.{ContentKeyed, IsKeyedTreeOf}
+use Rattle.key_annotate.specs.Stands.{Stands}
+use Rattle.key_annotate.proofs.ProperLemmas.{keyed-proper, keyed_tree-depth}
+use Rattle.key_annotate.proofs.Unique.{keyed_tree-one}
+use Rattle.archive_file.specs.Fits.{fits}
+use Rattle.archive_file.specs.KeyedBy.{IsKeyedBy}
+use Rattle.archive_file.proofs.FitsLaws.{content-fits, inside_of, tag_of, plain-is, stands-at}
+use Rattle.archive_file.proofs.Ways.{PathsLead}
+
+-- what holds of a tree that is keyed
+pub record IsFit (rules : List PlainRule) (k : PlainKeyed) : Type 0 where
+  pub fit : fits rules [] k ≡ true
+  pub shallow : nat_le (tree_depth (plain k)) 120 ≡ true
+
+le-nat_le : (m n : ℕ) → m ≤ n → nat_le m n ≡ true
+le-nat_le m n h = grind (arith, nat_tests)
+
+nat_le-le : (m n : ℕ) → nat_le m n ≡ true → m ≤ n
+nat_le-le m n h = grind (arith, nat_tests)
+
+-- ---- what is keyed fits
+
+document-fits : (rules : List PlainRule) → PathsLead rules → (t : PlainTree) (k : PlainKeyed) → IsElement t → IsWellFormed t → tree_depth t ≤ 120 → Satisfies rules t → IsKeyedTreeOf rules t k → IsFit rules k
+document-fits rules lead (text s) k e w d sat h = absurd h
+document-fits rules lead (element t c) k e w d sat h =
+    let same = keyed_tree-one rules (element t c) k w sat h in
+    let depth = keyed_tree-depth rules (element t c) e in
+    record {
+      fit = content-fits rules lead [] t c k h.0 h.1 sat.inside;
+      shallow = subst (λ z. nat_le (tree_depth (plain z)) 120 ≡ true) (sym same) (le-nat_le (tree_depth (plain (keyed_tree rules (element t c)))) 120 (omega arith));
+    }
+
+pub keyed-fit : (rules : List PlainRule) → PathsLead rules → (k : PlainKeyed) → IsKeyedBy rules k → IsFit rules k
+keyed-fit rules lead k h = document-fits rules lead h.document k h.element h.well_formed h.shallow h.satisfies h.stands
+
+-- ---- what fits is keyed
+
+alone : (rules : List PlainRule) (t : PlainTree) → AreApart rules [] (t ∷ [])
+alone rules t zero zero k l other at_i at_j = absurd (other refl)
+alone rules t zero (suc j) k l other at_i at_j = cc
+alone rules t (suc i) j k l other at_i at_j = cc
+
+element-keyed : (rules : List PlainRule) (t : List ℕ) (c : PlainContent) (k : PlainKeyed) → IsWellFormed (element t c) → tree_depth (element t c) ≤ 120
+    → label_in rules [] t c ≡ Ok (label_of k) → ContentKeyed rules (below [] t) c k → ContentSatisfies rules (below [] t) c → IsKeyedBy rules k
+element-keyed rules t c k w d e h s = record {
+  document = element t c;
+  element = refl;
+  well_formed = w;
+  shallow = d;
+  satisfies = record { good = (subst (λ r. IsOk r) (sym e) refl, tt); apart = alone rules (element t c); inside = s };
+  stands = (e, h);
+}
+
+pub fit-keyed : (rules : List PlainRule) → PathsLead rules → (k : PlainKeyed) → IsKeyedWellFormed k → IsFit rules k → IsKeyedBy rules k
+fit-keyed rules lead k well h =
+    let s = stands-at rules lead [] k h.fit in
+    let spelled = plain-is k in
+    let proper = keyed-proper rules (element (tag_of k) (inside_of k)) k (s.label, s.keyed) in
+    element-keyed rules (tag_of k) (inside_of k) k (subst IsWellFormed spelled (plain_well_formed k proper well)) (subst (λ p. tree_depth p ≤ 120) spelled (nat_le-le (tree_depth (plain k)) 120 h.shallow)) s.label s.keyed s.satisfies
+
+-- the keyed tree of a document that satisfies the rules and is not too deep is keyed by them
+pub stands-keyed : (rules : List PlainRule) (t : PlainTree) (k : PlainKeyed) → IsElement t → IsWellFormed t → tree_depth t ≤ 120 → Stands rules t k → IsKeyedBy rules k
+stands-keyed rules t k e w d h = record { document = t; element = e; well_formed = w; shallow = d; satisfies = h.satisfies; stands = h.keyed }

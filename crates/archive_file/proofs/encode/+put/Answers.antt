@@ -1,0 +1,74 @@
+use Rattle.std.proofs.Common.{rules, ◌≡◌, ◌-◌, List, [], ◌∷◌, ◌++◌, length, ap, ◌∙◌, map, unwrap_or, arith}
+use Rattle.std.specs.List.{flat_map}
+use Rattle.std.proofs.lemmas.List.{map-append}
+use Rattle.version_set.specs.View.{pairs_of}
+use Rattle.keyed_tree.specs.View.{label_view}
+use Rattle.archive_tree.specs.View.{stamp_view, alt_view, node_view, nodes_view}
+use Rattle.archive_tree.specs.declared.node.ANode.{ANode, the_lemmas}
+use Rattle.archive_tree.proofs.NodeViews.{node_view-Inner, node_view-Leaf}
+use Rattle.record_format.specs.Nodes.{Piece, piece_bytes, entries_from, node_piece, node_pieces}
+use Rattle.record_format.specs.View.{entry_view}
+use Rattle.archive_file.proofs.PutLaws.{on-ok, inner-parts, inner-bytes, leaf-bytes, row-bytes, more-wrote, more-entries, more-sets, piece-set, all-pieces, parts-on, count-on}
+use Rattle.archive_file.proofs.encode.+put.Goals as goal
+
+pub put_node-put_row-requires : goal.put_node-put_row-requires
+put_node-put_row-requires t c =
+    let i = c.in-Inner in
+    let parts = inner-parts (node_view c.args.node.now) (label_view i.label) (stamp_view i.stamp) i.kids.items (ap node_view i.is ∙ node_view-Inner i.label i.stamp i.kids) c.requires in
+    (search (rules, the_lemmas), (rw c.deref.ensures.value parts.0, rw c.deref.ensures.value parts.1))
+
+pub put_node-returns-in_ok-put_inner-in-Inner-clause-bytes : goal.put_node-returns-in_ok-put_inner-in-Inner-clause-bytes
+put_node-returns-in_ok-put_inner-in-Inner-clause-bytes t c =
+    let i = c.in-Inner in
+    on-ok c.put_row.result
+    (λ h. inner-bytes _ _ _ _ (pairs_of c.effective.result.now) (node_view c.args.node.now) (label_view i.label) (stamp_view i.stamp) (nodes_view i.kids.items) (ap node_view i.is ∙ node_view-Inner i.label i.stamp i.kids) c.effective.ensures.pairs c.in_ok-put_inner-in-Inner.ensures.ok h)
+    (rw c.deref.ensures.value at c.put_row.ensures.bytes)
+
+pub put_node-returns-in_ok-put_leaf_end-in-Leaf-clause-bytes : goal.put_node-returns-in_ok-put_leaf_end-in-Leaf-clause-bytes
+put_node-returns-in_ok-put_leaf_end-in-Leaf-clause-bytes t c =
+    let i = c.in-Leaf in
+    leaf-bytes _ _ _ _ _ (node_view c.args.node.now) (label_view i.label) (stamp_view i.stamp) (map alt_view i.alts.items) (ap node_view i.is ∙ node_view-Leaf i.label i.stamp i.alts) c.in_ok-put_leaf-in-Leaf.ensures.ok
+    (rw c.deref-in-Leaf.ensures.value at c.in_ok-put_alts-in-Leaf.ensures) c.in_ok-put_leaf_end-in-Leaf.ensures.ok
+
+pub put_nodes-loop-node-preserved : goal.put_nodes-loop-node-preserved
+put_nodes-loop-node-preserved t c =
+    let l = c.loop-node in
+    let xs = c.args.nodes.now in
+    let i = l.node-index in
+    let x = c.node-item.result in
+    let f = λ (k : ANode). node_piece (pairs_of c.args.set.now) (node_view k) in
+    let here = c.loop-node-test.true in
+    let is = c.node-item.is in
+    let set = c.in_ok-copy.ensures ∙ c.effective.ensures.pairs ∙ ap (λ s. unwrap_or s (pairs_of c.args.set.now)) c.stamp.ensures ∙ piece-set (pairs_of c.args.set.now) (node_view x) in
+    let from : c.len-start.result ≡ length l.out.items = omega arith in
+    let to : c.len.result ≡ length c.put_node.new.out.items = omega arith in
+    let entry : entry_view c.entry_of-entry.result ≡ record { start = length l.out.items - c.len-base.result; length = length c.put_node.new.out.items - length l.out.items; dir = c.in_ok-dir.dir } =
+    c.entry_of-entry.ensures ∙ (λ j. record { start = from j - c.len-base.result; length = to j - from j; dir = c.in_ok-dir.dir }) in
+    record {
+      goes = parts-on xs i x here l.invariant.goes;
+      wrote = more-wrote f xs i x here is _ _ _ l.invariant.wrote c.in_ok-dir.ensures.bytes;
+      entries = ap (map entry_view) c.in_ok-push.ensures.items ∙ map-append entry_view l.entries.items (c.entry_of-entry.result ∷ [])
+          ∙ more-entries f xs i x here is c.args.out.now.items l.out.items c.put_node.new.out.items c.len-base.result c.in_ok-dir.dir (map entry_view l.entries.items) (entry_view c.entry_of-entry.result) l.invariant.wrote c.in_ok-dir.ensures.bytes l.invariant.base c.in_ok-dir.ensures.dir l.invariant.entries entry;
+      sets = ap (map pairs_of) c.in_ok-push-2.ensures.items ∙ map-append pairs_of l.sets.items (c.in_ok-copy.field-0 ∷ []) ∙ more-sets f xs i x here is (map pairs_of l.sets.items) (pairs_of c.in_ok-copy.field-0) l.invariant.sets set;
+      base = l.invariant.base;
+      entry_count = count-on _ _ _ _ c.in_ok-push.ensures.items l.invariant.entry_count;
+      set_count = count-on _ _ _ _ c.in_ok-push-2.ensures.items l.invariant.set_count;
+    }
+
+pub put_nodes-returns-clause-bytes : goal.put_nodes-returns-clause-bytes
+put_nodes-returns-clause-bytes t c =
+    let l = c.loop-node in
+    let all = all-pieces (pairs_of c.args.set.now) c.args.nodes.now l.node-index c.loop-node-test.false in
+    l.invariant.wrote ∙ ap (λ (ps : List Piece). c.args.out.now.items ++ flat_map piece_bytes ps) all
+
+pub put_nodes-returns-clause-dir : goal.put_nodes-returns-clause-dir
+put_nodes-returns-clause-dir t c =
+    let l = c.loop-node in
+    let all = all-pieces (pairs_of c.args.set.now) c.args.nodes.now l.node-index c.loop-node-test.false in
+    let entries = l.invariant.entries ∙ ap (entries_from 0) all in
+    let sets = l.invariant.sets ∙ ap (map (λ (p : Piece). p.set)) all in
+    (λ j. record { entries = entries j; sets = sets j })
+
+pub put_row-returns-clause-bytes : goal.put_row-returns-clause-bytes
+put_row-returns-clause-bytes t c =
+    row-bytes _ _ _ (node_pieces (pairs_of c.args.set.now) (nodes_view c.args.nodes.now)) _ c.in_ok-dir.ensures.bytes c.in_ok-dir.ensures.dir (rw (c.deref.ensures.value, c.deref-2.ensures.value) at c.in_ok-put_end.ensures.ok)

@@ -1,0 +1,43 @@
+-- How nodes lie in the bytes of a file.
+use Rattle.std.specs.Prelude.{◌≡◌, ℕ, ◌-◌, Bool, true, ◌&&◌, nat_lt, List, [], ◌∷◌, ◌++◌, map, Result, Ok, Err, ⊤, IsTrue}
+use Rattle.std.specs.List.{flat_map, AllByRecursion}
+use Rattle.archive_tree.specs.Data.{PlainAlt, PlainNode, inner_node, leaf_node, PlainNodes, no_nodes, node}
+use Rattle.record_format.specs.Data.{leaf_end}
+use Rattle.record_format.specs.Spelling.{rec_bytes}
+use Rattle.record_format.specs.Bounds.{IsRec}
+use Rattle.record_format.specs.Nodes.{piece_bytes, closed_by_end, alt_of, node_piece, node_pieces}
+use Rattle.archive_file.specs.declared.fault.FileFault.{FileFault}
+use Rattle.archive_file.specs.declared.fault.FileFault.TheVariants.{Damage}
+
+-- inner nodes nest at most so deep
+abbrev mutual
+  pub is_nested : ℕ → PlainNode → Bool
+  is_nested d (inner_node l s ks) = nat_lt 0 d && are_nested (d - 1) ks
+  is_nested d (leaf_node l s xs) = true
+
+  pub are_nested : ℕ → PlainNodes → Bool
+  are_nested d no_nodes = true
+  are_nested d (node k ks) = is_nested d k && are_nested d ks
+
+-- the bytes begin with the alternatives of a leaf and the record that closes it, and then are the rest
+pub record AltsAt (xs : List PlainAlt) (rest now : List ℕ) : Type 0 where
+  pub records : AllByRecursion IsRec (map alt_of xs ++ leaf_end ∷ [])
+  pub bytes : now ≡ flat_map rec_bytes (map alt_of xs ++ leaf_end ∷ []) ++ rest
+
+-- the bytes begin with a node under a parent that has the set, and then are the rest
+pub record NodeAt (parent : List (ℕ × ℕ)) (k : PlainNode) (rest : List ℕ) (depth : ℕ) (now : List ℕ) : Type 0 where
+  pub records : AllByRecursion IsRec ((node_piece parent k).records)
+  pub nested : IsTrue (is_nested depth k)
+  pub bytes : now ≡ piece_bytes (node_piece parent k) ++ rest
+
+-- the bytes begin with the kids of a node that has the set and the END behind them, and then are the rest
+pub record RowAt (set : List (ℕ × ℕ)) (ks : PlainNodes) (rest : List ℕ) (depth : ℕ) (now : List ℕ) : Type 0 where
+  pub records : AllByRecursion IsRec (closed_by_end (node_pieces set ks))
+  pub nested : IsTrue (are_nested depth ks)
+  pub bytes : now ≡ flat_map rec_bytes (closed_by_end (node_pieces set ks)) ++ rest
+
+-- what was found, if memory sufficed: bytes of which this is said are not damaged
+abbrev pub Finds : {X : Type 0} → Result X FileFault → (X → Type 0) → Type 0
+Finds (Ok x) P = P x
+Finds (Err Damage) P = ⊥
+Finds (Err other) P = ⊤

@@ -1,0 +1,20 @@
+//! The bytes of an archive, and which archives they are.
+#![tactic(auto)]
+
+mod decode;
+mod encode;
+mod fault;
+mod front;
+mod goes;
+#[cfg(test)]
+mod keyed_tests;
+mod keyedness;
+mod lead;
+mod level;
+mod reading;
+
+pub use decode::decode_file;
+pub use encode::encode_file;
+pub use fault::{EncodeFault, FileFault};
+pub use front::{fixed_of, header_of};
+pub use keyedness::is_keyed;
