@@ -1,7 +1,9 @@
 -- How the parts of a command lead to its end.
-use Rattle.std.proofs.Common.{◌≡◌, ◌≢◌, ℕ, ◌≤◌, List, [], ◌++◌, Option, Some, None, IsSome, Result, Ok, Err, refl, sym, ap, ◌∙◌, subst, arith}
+use Rattle.std.proofs.Common.{◌≡◌, ◌≢◌, ℕ, ◌+◌, ◌≤◌, List, [], ◌++◌, Option, Some, None, IsSome, Result, Ok, Err, refl, sym, ap, ◌∙◌, subst, arith}
 use Rattle.xa_outside.specs.Causes.{Rose}
 use Rattle.xa_outside.specs.Folder.{Files}
+use Rattle.xa_outside.specs.Numbers.{Numbers, IsMeter, PullsAtMost}
+use Rattle.xa_outside.proofs.NumberLemmas.{PullsAtMost-none, PullsAtMost-more, PullsAtMost-trans}
 use Rattle.xa_outside.specs.Taken.{Taken, Takes, TakesNone, TakesPrefix, Puts}
 use Rattle.xa_outside.proofs.CauseLemmas.{Rose-later}
 use Rattle.xa_outside.proofs.Output.{TakesNone-refl, TakesPrefix-none}
@@ -109,5 +111,19 @@ pub EndsAs-written : (defined : Result Outcome Refusal) (o : Outcome) (result : 
 unfolding EndsAs IsOfOutput
 EndsAs-written defined o (Ok u) after old new p q e same bytes cause = record { outcome = o; is = e; files = λ f told. grind (arith, same, told); output = bytes }
 EndsAs-written defined o (Err f) after old new p q e same bytes cause = output_end defined o (Some (fault_view f)) after old new p q refl cause e bytes
+
+-- ---- what was pulled
+
+-- nothing more than before
+pub PullsAtMost-same : (limit : ℕ) (a b : Numbers) → IsMeter a → b ≡ a → PullsAtMost limit a b
+PullsAtMost-same limit a b is e = subst (PullsAtMost limit a) (sym e) (PullsAtMost-none limit a is)
+
+-- a file that was read after calls that pulled nothing
+pub PullsAtMost-one : (limit n : ℕ) (a b c : Numbers) → n ≤ limit → b ≡ a → PullsAtMost n b c → PullsAtMost limit a c
+PullsAtMost-one limit n a b c fits e p = PullsAtMost-more n limit a c fits (subst (λ m. PullsAtMost n m c) e p)
+
+-- and another one
+pub PullsAtMost-two : (limit n k : ℕ) (a b c d : Numbers) → n + k ≤ limit → b ≡ a → PullsAtMost n b c → PullsAtMost k c d → PullsAtMost limit a d
+PullsAtMost-two limit n k a b c d fits e p q = PullsAtMost-more (n + k) limit a d fits (PullsAtMost-trans n k a c d (subst (λ m. PullsAtMost n m c) e p) q)
 
 pub ruleset endings = (IsOfFolder-inside, IsOfFolder-later, IsOfCommand-inside, IsOfCommand-folder, IsOfCommand-output, IsDefined-here, IsDefined-next, EndsAs-stopped)

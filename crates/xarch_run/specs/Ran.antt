@@ -47,3 +47,8 @@ pub record Said (answer : ℕ) (old new : Taken) (before now : ℕ) : Type 0 whe
 abbrev pub OnlyReads : Option PlainCommand → Type 0
 OnlyReads None = ⊤
 OnlyReads (Some (norm spec doc)) = ⊤
+
+-- how many bytes such a command pulls at most: those of a specification and of a document at their limits
+abbrev pub most_pulled : Option PlainCommand → ℕ
+most_pulled None = 0
+most_pulled (Some (norm spec doc)) = 68157440

@@ -2,6 +2,7 @@
 
 ghost use Rattle.std.specs.Prelude.{◌≡◌, ◌≤◌, ℕ, Some, Ok, Err, IfOk, IsErr, vec_len};
 ghost use Rattle.xa_outside.specs.Folder.{Files};
+ghost use Rattle.xa_outside.specs.Numbers.{PullsAtMost};
 ghost use Rattle.xarch_words.specs.Refusal as refusal;
 ghost use Rattle.xarch_words.specs.Refusal.{PlainQuantity};
 ghost use Rattle.xarch_words.specs.View.{quantity_view};
@@ -24,6 +25,7 @@ pub(crate) fn length_of<F: Folder>(
     ensures draft { F.draft folder.new ≡ F.draft folder.old }
     ensures later { F.faults folder.old ≤ F.faults folder.new }
     ensures cause { IsOfFolder (F.faults folder.old) (F.faults folder.new) (fault_of result) }
+    ensures numbers { F.numbers folder.new ≡ F.numbers folder.old }
     ensures bound { IfOk result (λ n. n ≤ most) }
     ensures told { (files : Files) → F.files folder.old ≡ Some files
         → Matches (λ n. n) (Inputs.length_in files name.now (quantity_view quantity) most) result }
@@ -71,6 +73,7 @@ pub(crate) fn read_whole<F: Folder>(
     ensures draft { F.draft folder.new ≡ F.draft folder.old }
     ensures later { F.faults folder.old ≤ F.faults folder.new }
     ensures cause { IsOfFolder (F.faults folder.old) (F.faults folder.new) (fault_of result) }
+    ensures numbers { PullsAtMost length (F.numbers folder.old) (F.numbers folder.new) }
     ensures short { IfOk result (λ v. vec_len v ≤ length) }
     ensures told { (files : Files) (q : PlainQuantity) (most : ℕ) → F.files folder.old ≡ Some files → Inputs.length_in files name.now q most ≡ Ok length
         → Matches (λ v. v.items) (Inputs.file_of files name.now) result }

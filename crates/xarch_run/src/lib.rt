@@ -1,5 +1,5 @@
 //! The program as one call: what the words of a command line have it do.
-#![tactic(auto, using(crate::proofs::Ending::endings))]
+#![tactic(auto)]
 
 mod inputs;
 mod limits;

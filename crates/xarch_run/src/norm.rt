@@ -1,7 +1,10 @@
+#![tactic(auto, using(crate::proofs::Ending::endings))]
+
 ghost use Rattle.std.specs.Prelude.{◌≡◌, ◌≤◌, Some};
 ghost use Rattle.xa_outside.specs.Folder.{Files};
+ghost use Rattle.xa_outside.specs.Numbers.{PullsAtMost};
 ghost use Rattle.xa_outside.specs.Taken.{Puts};
-ghost use Rattle.keyed_tree.specs.View.{keyed_view};
+ghost use Rattle.key_annotate.specs.LentView.{lent_view};
 ghost use Rattle.xarch_run.specs.Ends.{EndsAs, IsOfCommand, IsOfOutput, fault_of};
 ghost use Rattle.xarch_run.specs.KeyedText.{keyed_text};
 ghost use Rattle.xarch_run.specs.Norm.{norm_of};
@@ -10,7 +13,7 @@ use crate::inputs::length_of;
 use crate::limits;
 use crate::print::put_keyed;
 use crate::readings::{keyed_from, read_doc, read_spec};
-use keyed_tree::Keyed;
+use key_annotate::LentKeyed;
 use std::alloc::Global;
 use xa_outside::{Folder, Sink};
 use xarch_words::{Fault, Quantity};
@@ -25,6 +28,7 @@ pub(crate) fn run_norm<F: Folder, O: Sink>(
 ) -> Result<(), Fault>
     ensures files { F.files folder.new ≡ F.files folder.old }
     ensures draft { F.draft folder.new ≡ F.draft folder.old }
+    ensures numbers { PullsAtMost 68157440 (F.numbers folder.old) (F.numbers folder.new) }
     ensures folder_later { F.faults folder.old ≤ F.faults folder.new }
     ensures out_later { O.faults out.old ≤ O.faults out.new }
     ensures cause { IsOfCommand (F.faults folder.old) (F.faults folder.new) (O.faults out.old) (O.faults out.new) (fault_of result) }
@@ -46,8 +50,8 @@ pub(crate) fn run_norm<F: Folder, O: Sink>(
 }
 
 #[tactic(auto, unfolding(crate::specs::Ends::IsOfOutput))]
-fn write_keyed<O: Sink>(keyed: &Keyed, out: &mut O) -> Result<(), Fault>
-    ensures bytes { Puts (O.taken out.old) (O.taken out.new) result (keyed_text (keyed_view keyed.now)) }
+fn write_keyed<O: Sink>(keyed: &LentKeyed<'_>, out: &mut O) -> Result<(), Fault>
+    ensures bytes { Puts (O.taken out.old) (O.taken out.new) result (keyed_text (lent_view keyed.now)) }
     ensures later { O.faults out.old ≤ O.faults out.new }
     ensures cause { IsOfOutput (O.faults out.old) (O.faults out.new) (fault_of result) }
 {

@@ -1,12 +1,15 @@
+#![tactic(auto, using(crate::proofs::Ending::endings))]
+
 ghost use Rattle.std.specs.Prelude.{◌≡◌, ◌≢◌, ◌≤◌, ◌↔◌, ◌⊎◌, Some, None, OnErr};
 ghost use Rattle.xa_outside.specs.Causes.{Rose};
 ghost use Rattle.xa_outside.specs.Folder.{Files};
+ghost use Rattle.xa_outside.specs.Numbers.{PullsAtMost};
 ghost use Rattle.xa_outside.specs.Taken.{TakesPrefix};
 ghost use Rattle.xarch_words.specs.Commands.{command_of};
 ghost use Rattle.xarch_words.specs.Refusal.{refused, usage};
 ghost use Rattle.xarch_words.specs.View.{command_view, words_view};
 ghost use Rattle.xarch_run.specs.Ends.{EndsAs, HasItsCause, IsOfCommand, fault_of};
-ghost use Rattle.xarch_run.specs.Ran.{OnlyReads, Ran, Said, Says, line_after, line_for, outside_of, status_after};
+ghost use Rattle.xarch_run.specs.Ran.{OnlyReads, Ran, Said, Says, line_after, line_for, most_pulled, outside_of, status_after};
 ghost use Rattle.xarch_run.specs.Step.{defined_of, outcome_of, step};
 
 use crate::norm::run_norm;
@@ -44,7 +47,7 @@ pub fn run<F: Folder, S: Source, O: Sink, E: Sink>(
     ensures usage { (result ≡ 2) ↔ (command_of (words_view words.now) ≡ None) }
     ensures folder_fault { result ≡ 13 → Rose (F.faults folder.old) (F.faults folder.new) }
     ensures out_fault { result ≡ 14 → Rose (O.faults out.old) (O.faults out.new) }
-    ensures input_fault { result ≢ 15 }
+    ensures never_input_fault { result ≢ 15 }
 
     // What should succeed does.
     ensures complete { (files : Files) → F.files folder.old ≡ Some files → (step files (words_view words.now)).status ≡ 0
@@ -54,6 +57,7 @@ pub fn run<F: Folder, S: Source, O: Sink, E: Sink>(
     ensures refused { result ≢ 0 → F.files folder.new ≡ F.files folder.old }
     ensures files { OnlyReads (command_of (words_view words.now)) → F.files folder.new ≡ F.files folder.old }
     ensures draft { OnlyReads (command_of (words_view words.now)) → F.draft folder.new ≡ F.draft folder.old }
+    ensures numbers { OnlyReads (command_of (words_view words.now)) → PullsAtMost (most_pulled (command_of (words_view words.now))) (F.numbers folder.old) (F.numbers folder.new) }
     ensures input { S.rest input.new ≡ S.rest input.old }
 
     // No count of faults falls.
@@ -82,6 +86,7 @@ fn command_words<F: Folder, O: Sink>(
     ensures refused { OnErr result (F.files folder.new ≡ F.files folder.old) }
     ensures files { OnlyReads (command_of (words_view words.now)) → F.files folder.new ≡ F.files folder.old }
     ensures draft { OnlyReads (command_of (words_view words.now)) → F.draft folder.new ≡ F.draft folder.old }
+    ensures numbers { OnlyReads (command_of (words_view words.now)) → PullsAtMost (most_pulled (command_of (words_view words.now))) (F.numbers folder.old) (F.numbers folder.new) }
 {
     match read_words(words) {
         None => Err(Fault::Usage),
@@ -104,6 +109,7 @@ fn run_command<F: Folder, O: Sink>(
     ensures refused { OnErr result (F.files folder.new ≡ F.files folder.old) }
     ensures files { OnlyReads (Some (command_view command.entry)) → F.files folder.new ≡ F.files folder.old }
     ensures draft { OnlyReads (Some (command_view command.entry)) → F.draft folder.new ≡ F.draft folder.old }
+    ensures numbers { OnlyReads (Some (command_view command.entry)) → PullsAtMost (most_pulled (Some (command_view command.entry))) (F.numbers folder.old) (F.numbers folder.new) }
 {
     match command {
         Command::Norm { spec, doc } => run_norm(alloc, spec, doc, folder, out),

@@ -2,10 +2,11 @@
 
 ghost use Rattle.std.specs.Prelude.{◌≡◌, ◌≤◌, Some, Ok, IfOk, length};
 ghost use Rattle.xa_outside.specs.Folder.{Files};
+ghost use Rattle.xa_outside.specs.Numbers.{PullsAtMost};
 ghost use Rattle.jsonml_tree.specs.Fits.{IsElement, ItemsFit};
 ghost use Rattle.jsonml_tree.specs.View.{tree_view};
 ghost use Rattle.jsonml_tree.specs.WellFormed.{IsWellFormed};
-ghost use Rattle.keyed_tree.specs.View.{keyed_view};
+ghost use Rattle.key_annotate.specs.LentView.{lent_view};
 ghost use Rattle.key_spec.specs.View.{spec_view};
 ghost use Rattle.xarch_words.specs.Refusal.{document, specification};
 ghost use Rattle.xarch_run.specs.Ends.{IsInside, IsOfFolder, Matches, fault_of};
@@ -16,9 +17,8 @@ use crate::inputs::read_whole;
 use crate::limits;
 use jsonml_text::{DocFault, read_document};
 use jsonml_tree::Tree;
-use key_annotate::{AnnotateFault, keyed};
+use key_annotate::{AnnotateFault, LentKeyed, lent_keyed};
 use key_spec::{Spec, SpecFault};
-use keyed_tree::Keyed;
 use std::alloc::Global;
 use xa_outside::Folder;
 use xarch_words::{Fault, Quantity};
@@ -36,6 +36,7 @@ pub(crate) fn read_spec<F: Folder>(
     ensures draft { F.draft folder.new ≡ F.draft folder.old }
     ensures later { F.faults folder.old ≤ F.faults folder.new }
     ensures cause { IsOfFolder (F.faults folder.old) (F.faults folder.new) (fault_of result) }
+    ensures numbers { PullsAtMost length (F.numbers folder.old) (F.numbers folder.new) }
     ensures told { (files : Files) → F.files folder.old ≡ Some files → length_in files name.now specification 1048576 ≡ Ok length
         → Matches spec_view (read_in files name.now rules_of) result }
 {
@@ -68,6 +69,7 @@ pub(crate) fn read_doc<F: Folder>(
     ensures draft { F.draft folder.new ≡ F.draft folder.old }
     ensures later { F.faults folder.old ≤ F.faults folder.new }
     ensures cause { IsOfFolder (F.faults folder.old) (F.faults folder.new) (fault_of result) }
+    ensures numbers { PullsAtMost length (F.numbers folder.old) (F.numbers folder.new) }
     ensures told { (files : Files) → F.files folder.old ≡ Some files → length_in files name.now document 67108864 ≡ Ok length
         → Matches tree_view (read_in files name.now document_of) result }
     ensures element { IfOk result (λ t. IsElement (tree_view t)) }
@@ -99,14 +101,18 @@ fn doc_from(alloc: Global, bytes: &[u8]) -> Result<Tree, Fault>
 }
 
 /// The keyed tree of a document that satisfies the keys.
-pub(crate) fn keyed_from(alloc: Global, spec: &Spec, doc: &Tree) -> Result<Keyed, Fault>
+pub(crate) fn keyed_from<'a>(
+    alloc: Global,
+    spec: &'a Spec,
+    doc: &'a Tree,
+) -> Result<LentKeyed<'a>, Fault>
     requires element { IsElement (tree_view doc.now) }
     requires items_fit { ItemsFit (tree_view doc.now) }
     requires well_formed { IsWellFormed (tree_view doc.now) }
     ensures cause { IsInside (fault_of result) }
-    ensures told { Matches keyed_view (keyed_of (spec_view spec.now) (tree_view doc.now)) result }
+    ensures told { Matches lent_view (keyed_of (spec_view spec.now) (tree_view doc.now)) result }
 {
-    match keyed(alloc, spec, doc) {
+    match lent_keyed(alloc, spec, doc) {
         Ok(keyed) => Ok(keyed),
         Err(AnnotateFault::Key(fault)) => Err(Fault::KeyFault(fault)),
         Err(AnnotateFault::Memory) => Err(Fault::Memory),

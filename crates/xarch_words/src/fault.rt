@@ -1,3 +1,5 @@
+#![tactic(auto, using(crate::proofs::Pieces::pieces))]
+
 ghost use Rattle.std.specs.Prelude.{◌≡◌};
 ghost use Rattle.xarch_words.specs.Lines;
 ghost use Rattle.xarch_words.specs.View.{fault_view};

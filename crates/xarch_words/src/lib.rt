@@ -1,5 +1,5 @@
 //! The commands that words spell, and the status and the line of each fault.
-#![tactic(auto, using(crate::proofs::Pieces::pieces))]
+#![tactic(auto)]
 
 mod fault;
 mod line;

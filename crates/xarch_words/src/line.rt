@@ -1,3 +1,5 @@
+#![tactic(auto, using(crate::proofs::Pieces::pieces))]
+
 ghost use Rattle.std.specs.Prelude.{[], ◌∷◌, ◌++◌, codes, option_map, string_bytes};
 ghost use Rattle.std.specs.Fmt.{decimal};
 ghost use Rattle.std.specs.List.{flat_map};

@@ -1,3 +1,5 @@
+#![tactic(auto, using(crate::proofs::Pieces::pieces))]
+
 ghost use Rattle.std.specs.Prelude.{◌≡◌, option_map};
 ghost use Rattle.xarch_words.specs.Commands.{command_of, command_of_three};
 ghost use Rattle.xarch_words.specs.View.{command_view, words_view};

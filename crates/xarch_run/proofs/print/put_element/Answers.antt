@@ -4,17 +4,17 @@ use Rattle.jsonml_text.specs.Pen.{Pen}
 use Rattle.jsonml_text.specs.Calls.{AllMayCome, calls_of, printed}
 use Rattle.jsonml_text.proofs.TreeWalk.{calls_may_come, calls_print}
 use Rattle.keyed_tree.specs.Plain.{plain}
-use Rattle.keyed_tree.specs.View.{keyed_view}
+use Rattle.key_annotate.specs.LentView.{lent_view}
 use Rattle.xarch_run.proofs.KeyedCalls.{plain-element}
 use Rattle.xarch_run.proofs.print.put_element.Goals as goal
 
 pub print_keyed-requires : goal.print_keyed-requires
 print_keyed-requires g c =
-    let t = plain (keyed_view c.args.keyed.now) in
-    subst (λ (p : Pen). AllMayCome p (calls_of t)) (sym c.new-printer.ensures) (calls_may_come t (plain-element (keyed_view c.args.keyed.now)))
+    let t = plain (lent_view c.args.keyed.now) in
+    subst (λ (p : Pen). AllMayCome p (calls_of t)) (sym c.new-printer.ensures) (calls_may_come t (plain-element (lent_view c.args.keyed.now)))
 
 pub returns-clause-bytes : goal.returns-clause-bytes
 returns-clause-bytes g c =
-    let t = plain (keyed_view c.args.keyed.now) in
+    let t = plain (lent_view c.args.keyed.now) in
     subst (λ (l : List ℕ). Puts (g.K.Sink.taken c.args.sink.now) (g.K.Sink.taken c.print_keyed.new.sink) c.print_keyed.result l)
-    (ap (λ p. printed p (calls_of t)) c.new-printer.ensures ∙ calls_print t (plain-element (keyed_view c.args.keyed.now))) c.print_keyed.ensures.prints.bytes
+    (ap (λ p. printed p (calls_of t)) c.new-printer.ensures ∙ calls_print t (plain-element (lent_view c.args.keyed.now))) c.print_keyed.ensures.prints.bytes
