@@ -11,11 +11,11 @@ use Rattle.jsonml_tree.proofs.Trees.{list_of-trees_of, tree_view-Elem, content_v
 use Rattle.jsonml_tree.specs.Fits.{ItemsFit, items_fit, all_items_fit}
 use Rattle.jsonml_text.specs.Kept.{IsKept, IsContentKept, AreKept, AreAttrsKept}
 
-well_formed_push : (ts : List PlainTree) (t : PlainTree) → IsTrue (are_well_formed (trees_of ts)) → IsTrue (is_well_formed t) → IsTrue (are_well_formed (trees_of (ts ++ t ∷ [])))
+pub well_formed_push : (ts : List PlainTree) (t : PlainTree) → IsTrue (are_well_formed (trees_of ts)) → IsTrue (is_well_formed t) → IsTrue (are_well_formed (trees_of (ts ++ t ∷ [])))
 well_formed_push [] t p q = and_from _ _ q refl
 well_formed_push (u ∷ ts) t p q = let both = and_parts (is_well_formed u) _ p in and_from _ _ both.0 (well_formed_push ts t both.1 q)
 
-fit_push : (ts : List PlainTree) (t : PlainTree) → IsTrue (all_items_fit (trees_of ts)) → IsTrue (items_fit t) → IsTrue (all_items_fit (trees_of (ts ++ t ∷ [])))
+pub fit_push : (ts : List PlainTree) (t : PlainTree) → IsTrue (all_items_fit (trees_of ts)) → IsTrue (items_fit t) → IsTrue (all_items_fit (trees_of (ts ++ t ∷ [])))
 fit_push [] t p q = and_from _ _ q refl
 fit_push (u ∷ ts) t p q = let both = and_parts (items_fit u) _ p in and_from _ _ both.0 (fit_push ts t both.1 q)
 

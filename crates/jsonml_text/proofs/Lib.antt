@@ -5,7 +5,12 @@ pub mod Contents
 pub mod Readings
 pub mod Levels
 pub mod Escapes
+pub mod Lexing
+pub mod Contained
+pub mod Straightness
+pub mod Pushing
 pub mod Walks
 pub mod TreeWalk
 pub mod ReadBack
 pub mod RoundTrips
+pub mod Words

@@ -55,7 +55,7 @@ abbrev mutual
 
 -- ---- what is printed for the tree is what is printed for that value
 
-whole_text : (n : ℤ) → scalar_text (plain.whole n) ≡ number_text (of_integer n)
+pub whole_text : (n : ℤ) → scalar_text (plain.whole n) ≡ number_text (of_integer n)
 whole_text (pos n) = refl
 whole_text (negsuc n) = refl
 
@@ -108,11 +108,11 @@ natural_small n e = let least : n ≤ 18446744073709551615 = ltb-false 184467440
 pub negative_small : (n : ℕ) → IsTrue (is_in_range (plain.whole (negsuc n))) → n < 2 ^ 63
 negative_small n e = let least : n ≤ 9223372036854775807 = ltb-false 9223372036854775807 n (false_from_not _ (and_parts _ true e).0) in omega arith
 
-whole_read : (n : ℤ) → IsTrue (is_in_range (plain.whole n)) → (number_of (number_text (of_integer n)) ≡ Some (of_integer n)) × IsNumber (number_text (of_integer n))
+pub whole_read : (n : ℤ) → IsTrue (is_in_range (plain.whole n)) → (number_of (number_text (of_integer n)) ≡ Some (of_integer n)) × IsNumber (number_text (of_integer n))
 whole_read (pos n) e = let small = natural_small n e in (number_of-decimal n small, IsNumber-decimal n small)
 whole_read (negsuc n) e = let small = negative_small n e in (number_of-negative n small, IsNumber-signed_decimal (negsuc n) small)
 
-scalar_read : (s : PlainScalar) → IsTrue (is_in_range s) → of_json (outline (scalar_data s)) ≡ Some (scalar_data s)
+pub scalar_read : (s : PlainScalar) → IsTrue (is_in_range s) → of_json (outline (scalar_data s)) ≡ Some (scalar_data s)
 scalar_read plain.null e = refl
 scalar_read (plain.boolean b) e = refl
 scalar_read (plain.whole n) e = ap (option_map number) (whole_read n e).0

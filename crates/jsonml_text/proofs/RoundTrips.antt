@@ -39,7 +39,7 @@ whole_back : (n : ℤ) → whole_of (of_integer n) ≡ Some n
 whole_back (pos n) = either n (nat_lt n (2 ^ 63))
 whole_back (negsuc n) = refl
 
-scalar_back : (place : List ℕ) (s : PlainScalar) → scalar_at place (scalar_data s) ≡ Ok s
+pub scalar_back : (place : List ℕ) (s : PlainScalar) → scalar_at place (scalar_data s) ≡ Ok s
 scalar_back place plain.null = refl
 scalar_back place (plain.boolean b) = refl
 scalar_back place (plain.whole n) = ap (whole_at place) (whole_back n)

@@ -8,5 +8,7 @@ pub mod Printed
 pub mod Pen
 pub mod Calls
 pub mod Laws
+pub mod Straight
+pub mod Pushed
 pub mod Texts
 pub mod RoundTrip

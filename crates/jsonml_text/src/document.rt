@@ -7,26 +7,58 @@ ghost use Rattle.jsonml_text.specs.Reading.{reading, less_lf};
 ghost use Rattle.jsonml_text.specs.Spelled.{content_in};
 ghost use Rattle.jsonml_text.specs.Document.{doc, of_value};
 ghost use Rattle.jsonml_tree.specs.Fits.{IsElement, ItemsFit};
+ghost use Rattle.jsonml_text.specs.Kept.{IsKept};
 ghost use Rattle.jsonml_text.specs.Views.{refusal_of};
 
 use crate::DocFault;
 use crate::level::finds_too_deep;
 use crate::read::{read_content, read_root};
 use crate::stop::Stop;
+use crate::straight::read_straight;
 use jsonml_tree::{Content, Place, Tree};
 use serde_json::Value;
 use std::alloc::{AllocError, Global};
 
 /// The document of some bytes: an element, from JSON by `serde_json`, with one line feed at the end left out.
 ///
-/// The strings of the document are moved out of the JSON value, and not copied. It recurses as deep as JSON nests,
-/// which is at most 127 levels.
+/// Most documents are read in one pass, straight from the bytes into the tree. A document that is written in a rare way
+/// goes through a JSON value, and so do bytes that are no document, to tell why. It recurses as deep as JSON nests, which
+/// is at most 127 levels.
 pub fn read_document(alloc: Global, bytes: &[u8]) -> Result<Tree, DocFault>
     requires { length bytes.now ≤ 67108864 }
     ensures document { IfOk result (λ t. doc bytes.now ≡ Ok (tree_view t)) }
     ensures refused { IfErr result (λ f. IfSome (refusal_of f) (λ r. doc bytes.now ≡ Err r)) }
 
     // What every document is.
+    ensures element { IfOk result (λ t. IsElement (tree_view t)) }
+    ensures well_formed { IfOk result (λ t. IsWellFormed (tree_view t)) }
+    ensures shallow { IfOk result (λ t. tree_depth (tree_view t) ≤ 120) }
+    ensures items_fit { IfOk result (λ t. ItemsFit (tree_view t)) }
+{
+    match read_plainly(alloc, bytes) {
+        Some(tree) => Ok(tree),
+        None => read_by_value(alloc, bytes),
+    }
+}
+
+/// The document of some bytes that are written in a usual way.
+#[tactic(auto, using(crate::proofs::Readings::readings))]
+fn read_plainly(alloc: Global, bytes: &[u8]) -> Option<Tree>
+    ensures document { IfSome result (λ t. doc bytes.now ≡ Ok (tree_view t)) }
+    ensures element { IfSome result (λ t. IsElement (tree_view t)) }
+    ensures kept { IfSome result (λ t. IsKept (tree_view t)) }
+    ensures shallow { IfSome result (λ t. tree_depth (tree_view t) ≤ 120) }
+{
+    let text = str::from_utf8(without_line_feed(bytes)).ok()?;
+    read_straight(alloc, text)
+}
+
+/// The document of some bytes, by way of their JSON value.
+///
+/// The strings of the document are moved out of the value, and not copied.
+fn read_by_value(alloc: Global, bytes: &[u8]) -> Result<Tree, DocFault>
+    ensures document { IfOk result (λ t. doc bytes.now ≡ Ok (tree_view t)) }
+    ensures refused { IfErr result (λ f. IfSome (refusal_of f) (λ r. doc bytes.now ≡ Err r)) }
     ensures element { IfOk result (λ t. IsElement (tree_view t)) }
     ensures well_formed { IfOk result (λ t. IsWellFormed (tree_view t)) }
     ensures shallow { IfOk result (λ t. tree_depth (tree_view t) ≤ 120) }

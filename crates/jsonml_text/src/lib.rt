@@ -6,15 +6,21 @@ mod fault;
 mod last;
 mod laws;
 mod level;
+mod object;
 mod pieces;
 mod print;
 mod printer;
 mod quote;
 mod read;
+mod room;
 mod scalar;
+mod scan;
 mod stop;
+mod straight;
+mod string;
 #[cfg(test)]
 mod tests;
+mod word;
 
 pub use document::{content_of, read_document};
 pub use fault::DocFault;

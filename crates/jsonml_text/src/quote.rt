@@ -50,7 +50,7 @@ fn write_run<K: Sink>(bytes: &[u8], sink: &mut K) -> Result<usize, Failed>
 }
 
 /// How many bytes at the front have no escape.
-fn plain_run(bytes: &[u8]) -> usize
+pub(crate) fn plain_run(bytes: &[u8]) -> usize
     ensures within { result ≤ length bytes.now }
     ensures plain { escape (take result bytes.now) ≡ take result bytes.now }
 {

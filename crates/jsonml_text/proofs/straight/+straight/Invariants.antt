@@ -1,0 +1,22 @@
+use Rattle.std.proofs.Common.{◌+◌, ◌-◌, ◌*◌, length}
+use Rattle.jsonml_text.specs.Pushed.{HasPushed}
+use Rattle.jsonml_text.proofs.straight.+straight.Given as goal
+
+abbrev pub decreases-push_element : goal.decreases-push_element
+decreases-push_element l = 4 * l.levels
+
+abbrev pub decreases-push_item : goal.decreases-push_item
+decreases-push_item l = 4 * l.levels + 1
+
+abbrev pub decreases-read_content : goal.decreases-read_content
+decreases-read_content l = 4 * l.levels + 3
+
+abbrev pub decreases-read_items : goal.decreases-read_items
+decreases-read_items l = 4 * l.levels + 2
+
+-- what is left of the element decides
+abbrev pub invariant-read_items-items : goal.invariant-read_items-items
+invariant-read_items-items l = HasPushed l.levels l.text l.fn.at l.fn.room.trees.items l.room.trees.items l.end
+
+abbrev pub decreases-read_items-items : goal.decreases-read_items-items
+decreases-read_items-items l = length l.text - l.end

@@ -1,0 +1,146 @@
+ghost use Rattle.std.specs.Prelude.{◌≡◌, ℕ, ◌+◌, ◌<◌, ◌≤◌, IfSome, List, map, Ok};
+ghost use Rattle.json.specs.Lex.{after_value, token};
+ghost use Rattle.json.specs.Token.{Token, begin_array};
+ghost use Rattle.serde_json.specs.Read.{read};
+ghost use Rattle.jsonml_tree.specs.Data.{PlainTrees, content, tree_depth};
+ghost use Rattle.jsonml_tree.specs.Fits.{IsElement};
+ghost use Rattle.jsonml_tree.specs.View.{attr_view, tree_view};
+ghost use Rattle.jsonml_text.specs.Document.{of_value};
+ghost use Rattle.jsonml_text.specs.Kept.{AreAttrsKept, IsKept};
+ghost use Rattle.jsonml_text.specs.Pushed.{PushesTree, ReadsContent, ReadsItems};
+ghost use Rattle.jsonml_text.specs.Straight.{HasContent, HasItems, HasLexeme};
+
+use crate::object::read_attributes;
+use crate::room::Room;
+use crate::scan::{is_sign, skip_blanks};
+use crate::string::read_text;
+use json::Scratch;
+use jsonml_tree::{Attr, Content, Tree};
+use std::alloc::Global;
+
+/// The greatest level of an element; the root has level 1.
+const LEVELS: usize = 120;
+
+/// The tree of a whole document, in one pass over its text and with no value in between.
+///
+/// Nothing where the text is no document, and where it is one that is written in a rare way: a number in another form
+/// than it is printed in, or an object with a name twice or more than 64 names.
+pub(crate) fn read_straight(alloc: Global, text: &str) -> Option<Tree>
+    ensures tree { IfSome result (λ t. of_value (read text.now) ≡ Ok (tree_view t)) }
+    ensures element { IfSome result (λ t. IsElement (tree_view t)) }
+    ensures kept { IfSome result (λ t. IsKept (tree_view t)) }
+    ensures shallow { IfSome result (λ t. tree_depth (tree_view t) ≤ 120) }
+{
+    let mut room = Room::new(alloc);
+    let end = push_item(alloc, text, skip_blanks(text, 0), LEVELS, &mut room)?;
+    if end < text.len() {
+        return None;
+    }
+    let tree = room.trees.pop()?;
+    match tree {
+        Tree::Elem { .. } => Some(tree),
+        Tree::Text(_) => None,
+    }
+}
+
+/// Reads the text or the element at an offset, puts it behind the trees that wait, and tells where the text goes on.
+#[cycle(straight)]
+fn push_item(alloc: Global, text: &str, at: usize, levels: usize, room: &mut Room) -> Option<usize>
+    ensures { IfSome result (λ next. PushesTree levels text.now at room.old.trees.items room.new.trees.items next) }
+{
+    if is_sign(text, at, b'[') {
+        push_element(alloc, text, at, levels, room)
+    } else {
+        push_text(alloc, text, at, room)
+    }
+}
+
+fn push_text(alloc: Global, text: &str, at: usize, room: &mut Room) -> Option<usize>
+    ensures { (levels : ℕ) → IfSome result (λ next. PushesTree levels text.now at room.old.trees.items room.new.trees.items next) }
+{
+    let (string, next) = read_text(alloc, text, at, b']', &mut room.scratch)?;
+    room.trees.push(Tree::Text(string)).ok()?;
+    Some(next)
+}
+
+/// The same for an element. Elements nest in it at most so many levels deep, itself among them.
+#[cycle(straight)]
+fn push_element(
+    alloc: Global,
+    text: &str,
+    at: usize,
+    levels: usize,
+    room: &mut Room,
+) -> Option<usize>
+    requires { HasLexeme text.now at (token begin_array) (at + 1) }
+    ensures { IfSome result (λ next. PushesTree levels text.now at room.old.trees.items room.new.trees.items next) }
+{
+    if levels == 0 {
+        return None;
+    }
+    let named = skip_blanks(text, at + 1);
+    let (tag, inside) = read_text(alloc, text, named, b']', &mut room.scratch)?;
+    let (content, next) = read_content(alloc, text, inside, levels - 1, room)?;
+    room.trees.push(Tree::Elem { tag, content }).ok()?;
+    Some(next)
+}
+
+/// What stands behind the tag of an element, and where the text goes on behind the element and its blanks.
+#[cycle(straight)]
+fn read_content(
+    alloc: Global,
+    text: &str,
+    at: usize,
+    levels: usize,
+    room: &mut Room,
+) -> Option<(Content, usize)>
+    ensures { IfSome result (λ r. ReadsContent levels text.now at room.old.trees.items room.new.trees.items r.0 r.1) }
+{
+    let (attrs, begun) = attributes_behind(alloc, text, at, &mut room.scratch)?;
+    let (items, next) = read_items(alloc, text, begun, levels, room)?;
+    Some((Content { attrs, items }, next))
+}
+
+/// The attributes behind a tag, if there are any, and where the text goes on behind them and their blanks.
+fn attributes_behind(
+    alloc: Global,
+    text: &str,
+    at: usize,
+    scratch: &mut Scratch,
+) -> Option<(Vec<Attr>, usize)>
+    ensures content { IfSome result
+        (λ r. (depth : ℕ) (ts : PlainTrees) (rest : List Token) → 0 < depth → HasItems depth text.now r.1 ts rest → HasContent depth text.now at (content (map attr_view r.0.items) ts) rest) }
+    ensures kept { IfSome result (λ r. AreAttrsKept (map attr_view r.0.items)) }
+    ensures later { IfSome result (λ r. at ≤ r.1) }
+{
+    if is_sign(text, at, b',') {
+        let begun = skip_blanks(text, at + 1);
+        if is_sign(text, begun, b'{') {
+            let (attrs, end) = read_attributes(alloc, text, begun, scratch)?;
+            return Some((attrs, skip_blanks(text, end)));
+        }
+    }
+    Some((Vec::new(alloc), at))
+}
+
+/// The items up to the end of their element, and where the text goes on behind that and its blanks.
+#[cycle(straight)]
+fn read_items(
+    alloc: Global,
+    text: &str,
+    at: usize,
+    levels: usize,
+    room: &mut Room,
+) -> Option<(Vec<Tree>, usize)>
+    ensures { IfSome result (λ r. ReadsItems levels text.now at room.old.trees.items room.new.trees.items r.0.items r.1) }
+{
+    let waiting = room.trees.len();
+    let mut end = at;
+    'items: while is_sign(text, end, b',') {
+        end = push_item(alloc, text, skip_blanks(text, end + 1), levels, room)?;
+    }
+    if !is_sign(text, end, b']') {
+        return None;
+    }
+    Some((room.take_from(alloc, waiting)?, skip_blanks(text, end + 1)))
+}
