@@ -1,5 +1,5 @@
 -- The canonical text is cut into lines that give its rules.
-use Rattle.std.proofs.Common.{◌≡◌, ℕ, ◌+◌, ◌-◌, ◌<◌, ◌≤◌, Bool, true, false, cond, not, ◌&&◌, List, [], ◌∷◌, ◌++◌, length, ltb, eqb, map, flat_map, get_or, take, refl, ap, ap₂, sym, ◌∙◌, subst, arith, Option, Some, None, MatchOption, codes, IsUtf8, append_assoc, append-nil, option_map, length-append, IfSome, inl, inr}
+use Rattle.std.proofs.Common.{◌≡◌, ℕ, ◌+◌, ◌-◌, ◌<◌, Bool, true, false, not, ◌&&◌, List, [], ◌∷◌, ◌++◌, length, ltb, eqb, map, flat_map, get_or, refl, ap, sym, ◌∙◌, arith, Option, Some, None, codes, IsUtf8, append_assoc, option_map, length-append, IfSome, inl, inr}
 use Rattle.std.proofs.lemmas.Bool.{cond-true, cond-false, and_parts, and_from, eqb-true, false_from_ne_true, not-true, not_from_false, ltb-true, or_from}
 use Rattle.std.proofs.lemmas.List.Folds.{list_all-append}
 use Rattle.std.proofs.lemmas.List.Splits.{slice_split_at}
@@ -11,11 +11,11 @@ use Rattle.std.specs.Option.{option_or}
 use Rattle.std.specs.Str.{is_utf8}
 use Rattle.std.specs.Str.Lines.{strip_carriage_return}
 use Rattle.key_spec.specs.Data.{PlainPath, PlainRule, GivenRule}
-use Rattle.key_spec.specs.Names.{is_name, is_name_byte, slashed, context_text, context_of, tags_text, attr_text, ends_text, path_text, path_of, is_optional_name, is_named_path, is_named}
-use Rattle.key_spec.specs.Lines.{lines, filled, is_skipped}
-use Rattle.key_spec.specs.Form.{Token, sign, word, tokens, is_word_byte, begins_word, word_with, behind, first_as, name_of, some_paths, paths_of, place_of, spelled, line_rule}
+use Rattle.key_spec.specs.Names.{is_name, is_name_byte, slashed, context_text, context_of, ends_text, path_text, path_of, is_optional_name, is_named_path, is_named}
+use Rattle.key_spec.specs.Lines.{lines, filled}
+use Rattle.key_spec.specs.Form.{Token, sign, word, tokens, is_word_byte, begins_word, word_with, first_as, name_of, some_paths, paths_of, place_of, spelled, line_rule}
 use Rattle.key_spec.specs.Canonical.{paths_text, rule_text, canonical}
-use Rattle.key_spec.specs.Closed.{numbered, given_by, given_rules, rule_why, line_fault, first_of_all, paths_why}
+use Rattle.key_spec.specs.Closed.{numbered, given_rules, rule_why, line_fault, first_of_all, paths_why}
 use Rattle.key_spec.proofs.FormLemmas.{some_paths-last, some_paths-more}
 use Rattle.key_spec.proofs.LineLemmas.{slice_split-cons, filled-cons}
 use Rattle.key_spec.proofs.Members.{In}

@@ -1,5 +1,5 @@
 -- Rules put in their places.
-use Rattle.std.proofs.Common.{◌≡◌, ℕ, ◌+◌, ◌≤◌, List, [], ◌∷◌, ◌++◌, length, map, fold, refl, ap, sym, ◌∙◌, arith, le_refl, le_trans}
+use Rattle.std.proofs.Common.{◌≡◌, ◌≤◌, List, [], ◌∷◌, length, map, fold, refl, ap, arith}
 use Rattle.std.specs.BTreeSet.{replace_key}
 use Rattle.std.specs.Ordering.{match_ordering, on}
 use Rattle.std.specs.declared.cmp.Ordering.{Ordering}

@@ -1,5 +1,5 @@
 -- The second pass on texts is the second pass on paths.
-use Rattle.std.proofs.Common.{◌≡◌, ℕ, Bool, true, false, cond, not, ◌&&◌, ◌||◌, List, [], ◌∷◌, ◌++◌, length, ltb, map, refl, ap, ap₂, sym, ◌∙◌, subst, Option, Some, None, is_some, bytes_eq, Decides, append-nil, append_assoc, flat_map, codes}
+use Rattle.std.proofs.Common.{◌≡◌, ℕ, Bool, true, false, cond, not, ◌&&◌, ◌||◌, List, [], ◌∷◌, ◌++◌, length, ltb, map, refl, ap, ap₂, sym, ◌∙◌, Some, None, is_some, bytes_eq, Decides, append-nil, flat_map, codes}
 use Rattle.std.proofs.lemmas.Bool.{and_parts, and_from}
 use Rattle.std.proofs.lemmas.Bool.Decides.{same_from_decides}
 use Rattle.std.proofs.lemmas.List.{map-append}
@@ -8,11 +8,10 @@ use Rattle.std.proofs.lemmas.Grind.{flat_map-append}
 use Rattle.std.proofs.lemmas.Slice.Eq.{bytes_eq-Decides}
 use Rattle.std.specs.BTreeSet.{contains_text}
 use Rattle.std.specs.List.{list_any, list_all}
-use Rattle.std.specs.Ordering.{is_eq}
 use Rattle.std.specs.Option.{option_or, option_map}
 use Rattle.key_spec.specs.Data.{PlainPath, PlainRule, GivenRule}
-use Rattle.key_spec.specs.Names.{is_name, slashed, context_of, context_text, is_named_path, is_named}
-use Rattle.key_spec.specs.Rules.{path_cmp, below}
+use Rattle.key_spec.specs.Names.{is_name, slashed, context_of, is_named_path, is_named}
+use Rattle.key_spec.specs.Rules.{below}
 use Rattle.key_spec.specs.Closed.{target_of, implied_along, implied_by, implied_rules, end_at, frontier_ends, has_path, has_place, lacks_context, is_keyed_twice, passes_end, closing_why, closing_fault}
 use Rattle.key_spec.specs.Texts.{has_text, TextSet, Holds, step_text, target_text, texts_along, contexts_along, implied_texts, end_text, end_texts, text_lacks_context, text_passes_end, text_why}
 use Rattle.key_spec.proofs.FormLemmas.{some_same}

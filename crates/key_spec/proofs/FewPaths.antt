@@ -1,5 +1,5 @@
 -- Closed rules have few key paths.
-use Rattle.std.proofs.Common.{◌≡◌, ℕ, ◌<◌, ◌≤◌, Bool, true, false, cond, ◌||◌, List, [], ◌∷◌, ◌++◌, length, map, fold, get_or, ltb, refl, ap, sym, ◌∙◌, subst, arith, Option, Some, None, option_map, zero, suc}
+use Rattle.std.proofs.Common.{◌≡◌, ℕ, ◌<◌, ◌≤◌, Bool, true, false, cond, List, [], ◌∷◌, ◌++◌, length, map, fold, get_or, ltb, refl, subst, arith, Option, Some, None, option_map, zero, suc}
 use Rattle.std.proofs.Math.Logic.{∥∥₁_elim}
 use Rattle.std.proofs.Math.Bridge.{le_prop}
 use Rattle.std.proofs.lemmas.Bool.{or_parts, ltb-false}
@@ -11,7 +11,7 @@ use Rattle.key_spec.specs.Data.{PlainPath, PlainRule, GivenRule, PlainSpecFault}
 use Rattle.key_spec.specs.Rules.{below, rule_cmp}
 use Rattle.key_spec.specs.Laws.{rule_cmp_total}
 use Rattle.key_spec.specs.Form.{line_rule}
-use Rattle.key_spec.specs.Closed.{clashes, exceeds, paths_why, rule_why, line_fault, first_of_all, given_by, given_rules, implied_along, implied_by, implied_rules, target_of, closed_rules, closed, IsClosed}
+use Rattle.key_spec.specs.Closed.{clashes, exceeds, paths_why, rule_why, line_fault, first_of_all, given_by, given_rules, implied_along, implied_by, implied_rules, target_of, closed_rules, IsClosed}
 use Rattle.key_spec.proofs.ParseLemmas.{lines_of, rules_of}
 use Rattle.key_spec.proofs.SearchLemmas.{closed-parts, limits-ok}
 use Rattle.key_spec.proofs.SortLemmas.{all-put}

@@ -1,11 +1,11 @@
 -- What tokens spell, one step after another.
-use Rattle.std.proofs.Common.{◌≡◌, ℕ, ◌+◌, ◌<◌, Bool, true, false, cond, List, [], ◌∷◌, ◌++◌, length, map, refl, ap, sym, ◌∙◌, arith, eqb, Option, Some, None, option_map, eqb-true, eq-eqb, drop, suc, append_assoc}
+use Rattle.std.proofs.Common.{◌≡◌, ℕ, ◌<◌, false, List, [], ◌∷◌, ◌++◌, length, refl, ap, sym, ◌∙◌, arith, eqb, Option, Some, None, option_map, eqb-true, drop, suc, append_assoc}
 use Rattle.std.proofs.lemmas.Bool.{cond-false, cond-true, ne_eqb, and_left, and_from, not_from_false}
 use Rattle.std.specs.List.{prefix_len}
 use Rattle.key_spec.specs.Data.{PlainPath}
 use Rattle.key_spec.specs.Lines.{is_blank}
 use Rattle.key_spec.specs.Names.{path_of}
-use Rattle.key_spec.specs.Form.{Token, sign, word, tokens, behind, first_word, first_as, path_with, some_paths, is_end, is_sign, begins_word}
+use Rattle.key_spec.specs.Form.{Token, sign, word, tokens, behind, first_as, path_with, some_paths, is_end, is_sign, begins_word}
 use Rattle.key_spec.proofs.TokenLemmas.{by_test, begins_blank, trimmed-begins, tokens-trimmed, tokens-sign, word_with-word, tokens-inside}
 
 pub some_same : {X : Type 0} (x y : X) → Some x ≡ Some y → x ≡ y

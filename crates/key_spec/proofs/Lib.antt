@@ -10,6 +10,7 @@ pub mod NameLaws
 pub mod NameLemmas
 pub mod OrderLaws
 pub mod PathLemmas
+pub mod PlaceLemmas
 pub mod RoundTrip
 pub mod RuleLaws
 pub mod ParseLemmas

@@ -1,14 +1,14 @@
 -- What is read is made of names, and what is made of names is read from its text.
-use Rattle.std.proofs.Common.{◌≡◌, ℕ, ◌+◌, ◌-◌, ◌<◌, ◌≤◌, Bool, true, false, cond, not, ◌&&◌, ◌||◌, List, [], ◌∷◌, ◌++◌, length, map, refl, ap, sym, ◌∙◌, subst, arith, eqb, ltb, Option, Some, None, option_map, eqb-true, eq-eqb, take, drop, get_or, ne_eqb, length-append, append_assoc, append-nil, codes, bytes_eq, suc, flat_map, one-add, ap₂}
+use Rattle.std.proofs.Common.{◌≡◌, ℕ, ◌+◌, ◌-◌, ◌<◌, Bool, true, false, cond, not, ◌&&◌, List, [], ◌∷◌, ◌++◌, length, refl, ap, sym, ◌∙◌, subst, arith, eqb, ltb, Option, Some, None, option_map, eqb-true, eq-eqb, take, drop, get_or, ne_eqb, length-append, append_assoc, append-nil, codes, bytes_eq, suc, one-add, ap₂}
 use Rattle.std.proofs.Math.Seq.{take-append_seam, drop-append_seam, get_or-append_seam}
-use Rattle.std.proofs.lemmas.Bool.{cond-false, cond-true, and_parts, and_from, and_left, and_right, not_from_false, not-true, not-false, lt-ltb, le-ltb, false_from_ne_true}
+use Rattle.std.proofs.lemmas.Bool.{cond-false, cond-true, and_parts, and_from, not_from_false, not-true, lt-ltb, le-ltb, false_from_ne_true}
 use Rattle.std.proofs.lemmas.List.Folds.{list_all-append}
 use Rattle.std.proofs.lemmas.List.Sums.{AllPass-from_list_all}
 use Rattle.std.proofs.lemmas.List.Splits.{slice_split_at, slice_split_none}
 use Rattle.std.proofs.lemmas.Slice.Eq.{bytes_eq-Decides}
 use Rattle.std.specs.List.{list_all, slice_split, prefix_len, position_or_len, before_first, after_first}
-use Rattle.key_spec.specs.Data.{PlainPath, PlainRule}
-use Rattle.key_spec.specs.Names.{is_name, is_name_byte, names_of, slashed, context_text, context_of, tags_text, attr_text, ends_text, path_text, tags_before, attr_path, path_of, is_optional_name, is_named_path}
+use Rattle.key_spec.specs.Data.{PlainPath}
+use Rattle.key_spec.specs.Names.{is_name, is_name_byte, names_of, slashed, context_text, context_of, ends_text, path_text, tags_before, attr_path, path_of, is_optional_name, is_named_path}
 use Rattle.key_spec.proofs.TokenLemmas.{by_test}
 use Rattle.key_spec.proofs.FormLemmas.{some_same}
 

@@ -1,8 +1,8 @@
 -- How names, contexts and key paths are read.
-use Rattle.std.proofs.Common.{◌≡◌, ℕ, ◌+◌, ◌-◌, ◌<◌, ◌≤◌, Bool, true, false, cond, List, [], ◌∷◌, ◌++◌, length, map, refl, ap, sym, ◌∙◌, subst, arith, eqb, Option, Some, None, option_map, eqb-true, eq-eqb, take, drop, get_or, ne_eqb, length-append}
-use Rattle.std.proofs.lemmas.Bool.{cond-false, cond-true}
+use Rattle.std.proofs.Common.{◌≡◌, ℕ, ◌+◌, ◌-◌, ◌<◌, List, [], ◌∷◌, ◌++◌, length, refl, ap, sym, ◌∙◌, arith, eqb, None, eqb-true, take, get_or, ne_eqb}
+use Rattle.std.proofs.lemmas.Bool.{cond-false}
 use Rattle.std.proofs.lemmas.List.{take_more, take_all}
-use Rattle.key_spec.specs.Names.{names_of, context_of, tags_before}
+use Rattle.key_spec.specs.Names.{context_of, tags_before}
 use Rattle.key_spec.proofs.TokenLemmas.{by_test}
 
 -- ---- contexts

@@ -1,15 +1,13 @@
 -- From the passes to the answer of the whole text.
-use Rattle.std.proofs.Common.{◌≡◌, ℕ, ◌<◌, ◌≤◌, Bool, true, false, cond, ◌||◌, List, [], ◌∷◌, length, ltb, map, refl, ap, ap₂, sym, ◌∙◌, subst, Option, Some, None, Result, Ok, Err, option_map}
-use Rattle.std.proofs.lemmas.Bool.{cond-true, cond-false, or_left, or_right, or_from, or_parts, lt-ltb, le-ltb, and_from}
+use Rattle.std.proofs.Common.{◌≡◌, ℕ, ◌<◌, ◌≤◌, true, List, [], ◌∷◌, length, ltb, map, refl, ap, ap₂, sym, ◌∙◌, subst, Option, Some, None, Result, Ok, Err, option_map}
+use Rattle.std.proofs.lemmas.Bool.{cond-true, cond-false, or_left, or_right, or_from, lt-ltb, le-ltb, and_from}
 use Rattle.std.specs.List.{list_all, cons_option}
 use Rattle.key_spec.specs.Data.{PlainRule, GivenRule, PlainSpecFault}
 use Rattle.key_spec.specs.Names.{is_named}
 use Rattle.key_spec.specs.Lines.{lines}
 use Rattle.key_spec.specs.Form.{line_rule}
-use Rattle.key_spec.specs.Rules.{rule_cmp}
-use Rattle.key_spec.specs.Laws.{rule_cmp_total}
 use Rattle.key_spec.specs.Canonical.{canonical}
-use Rattle.key_spec.specs.Closed.{numbered, given_by, given_rules, line_fault, first_of_all, closing_fault, closed_rules, within_limits, unless, implied_rules, closed_lines, closed}
+use Rattle.key_spec.specs.Closed.{numbered, given_by, given_rules, line_fault, first_of_all, closing_fault, closed_rules, within_limits, unless, closed}
 use Rattle.key_spec.specs.View.{IsFault, IsRefusal, rules_view, given_view, rule_view}
 use Rattle.key_spec.specs.declared.given.Given.{Given}
 use Rattle.key_spec.specs.declared.rule.Rule.{Rule}

@@ -1,5 +1,5 @@
 -- The canonical text of a specification specifies it again.
-use Rattle.std.proofs.Common.{◌≡◌, ℕ, ◌+◌, Bool, true, false, ◌⊎◌, inl, inr, ⊎_elim, List, [], ◌∷◌, ◌++◌, map, refl, ap, ap₂, sym, ◌∙◌, subst, Option, Some, None, Result, Ok, String, Global, string_bytes, option_map, IfSome, IsUtf8, append_assoc}
+use Rattle.std.proofs.Common.{◌≡◌, ℕ, ◌+◌, true, false, inl, inr, List, [], ◌∷◌, ◌++◌, map, refl, ap, ap₂, sym, ◌∙◌, subst, Option, Some, None, Result, Ok, String, Global, string_bytes, option_map, IfSome, IsUtf8, append_assoc}
 use Rattle.std.proofs.lemmas.Bool.{false_from_ne_true}
 use Rattle.std.proofs.lemmas.Str.{IsUtf8-string_bytes}
 use Rattle.std.proofs.Math.Logic.{∥∥₁_elim}
@@ -10,14 +10,13 @@ use Rattle.std.proofs.lemmas.Cmp.{tied_itself}
 use Rattle.std.proofs.lemmas.Map.Keys.{sorted_tail}
 use Rattle.std.specs.List.{AllByRecursion}
 use Rattle.std.specs.List.Sorted.{IsStrictlySortedBy}
-use Rattle.std.specs.Option.{option_or}
 use Rattle.std.specs.declared.cmp.Ordering.TheVariants.{Less, Equal}
 use Rattle.key_spec.specs.Data.{PlainPath, PlainRule, GivenRule, PlainSpecFault}
 use Rattle.key_spec.specs.Names.{is_named}
 use Rattle.key_spec.specs.Rules.{rule_cmp, place_cmp, below}
 use Rattle.key_spec.specs.Laws.{rule_cmp_total}
 use Rattle.key_spec.specs.Canonical.{canonical}
-use Rattle.key_spec.specs.Closed.{target_of, has_place, closing_why, closing_fault, closed_rules, within_limits, unless, closed, IsClosed, given_rules, first_of_all, line_fault}
+use Rattle.key_spec.specs.Closed.{target_of, has_place, closing_fault, closed_rules, within_limits, closed, IsClosed, given_rules}
 use Rattle.key_spec.specs.RuleView.{names_view, path_view, rule_view}
 use Rattle.key_spec.specs.declared.rule.KeyPath.{KeyPath}
 use Rattle.key_spec.specs.declared.rule.Rule.{Rule}

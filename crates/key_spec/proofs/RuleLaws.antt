@@ -1,11 +1,11 @@
 -- A line gives a rule of names.
-use Rattle.std.proofs.Common.{◌≡◌, ℕ, Bool, true, false, cond, ◌&&◌, List, [], ◌∷◌, ◌++◌, refl, ap, sym, ◌∙◌, subst, eqb, Option, Some, None, option_map, option_and_then}
+use Rattle.std.proofs.Common.{◌≡◌, ℕ, true, cond, ◌&&◌, List, [], ◌∷◌, refl, ap, sym, ◌∙◌, subst, eqb, Option, Some, None, option_map}
 use Rattle.std.proofs.lemmas.Bool.{cond-true, cond-false, and_parts, and_from}
 use Rattle.std.specs.List.{list_all}
 use Rattle.std.specs.Str.{is_utf8}
 use Rattle.key_spec.specs.Data.{PlainPath, PlainRule}
 use Rattle.key_spec.specs.Names.{is_name, is_named_path, is_named, context_of, path_of}
-use Rattle.key_spec.specs.Form.{Token, sign, word, tokens, behind, first_word, first_as, name_of, path_with, some_paths, paths_of, place_of, is_end, spelled, line_rule, ◌>>=◌}
+use Rattle.key_spec.specs.Form.{Token, sign, word, tokens, behind, first_as, name_of, path_with, some_paths, paths_of, place_of, is_end, spelled, line_rule, ◌>>=◌}
 use Rattle.key_spec.proofs.FormLemmas.{some_same}
 use Rattle.key_spec.proofs.NameLaws.{context_of-named, path_of-named}
 use Rattle.key_spec.proofs.TokenLemmas.{by_test}

@@ -1,16 +1,16 @@
 -- What halving finds in rules that ascend.
-use Rattle.std.proofs.Common.{◌≡◌, ℕ, ◌+◌, ◌<◌, ◌≤◌, Bool, true, false, not, cond, ◌||◌, List, [], ◌∷◌, length, map, get_or, fold, ltb, refl, ap, sym, ◌∙◌, subst, arith, Option, Some, None, Result, Ok, Err, find, suc, zero, is_err, ⊎_elim, ◌++◌, ◌⊎◌, inl, inr, subst₂}
+use Rattle.std.proofs.Common.{◌≡◌, ℕ, ◌+◌, ◌<◌, ◌≤◌, Bool, true, false, not, ◌||◌, List, [], ◌∷◌, length, map, get_or, ltb, refl, ap, sym, ◌∙◌, subst, arith, Option, Some, None, Result, Ok, Err, find, suc, zero, is_err, ⊎_elim, ◌++◌, ◌⊎◌, inl, inr, subst₂}
 use Rattle.std.proofs.lemmas.Bool.{cond-true, cond-false, or_from, or_parts, or_left, or_right, false_from_ne_true, ltb-false, cases_lt}
 use Rattle.std.proofs.lemmas.Cmp.{tied_back}
 use Rattle.std.proofs.lemmas.List.{get_or-map, length-map}
-use Rattle.std.proofs.lemmas.List.Elements.{All-from_recursion, recursion_from_All}
+use Rattle.std.proofs.lemmas.List.Elements.{All-from_recursion}
 use Rattle.std.proofs.lemmas.List.Sorted.{searchable_from_sorted}
 use Rattle.std.proofs.Math.Logic.{∥∥₁_elim}
 use Rattle.std.proofs.lemmas.Map.Keys.{IsStrictlySortedBy-prop, sorted_head, sorted_tail}
-use Rattle.std.specs.Cmp.{IsTotalOrder, Equal-is}
-use Rattle.std.specs.List.{All, AllByRecursion, list_any}
+use Rattle.std.specs.Cmp.{Equal-is}
+use Rattle.std.specs.List.{list_any}
 use Rattle.std.specs.List.Sorted.{IsStrictlySortedBy, IsNonDecreasingBy, IsSearchInRange, IsBinarySearchResult}
-use Rattle.std.specs.Ordering.{is_eq, is_lt, ordering_index, ordering_then, ordering_reverse}
+use Rattle.std.specs.Ordering.{is_eq, is_lt, ordering_index, ordering_then}
 use Rattle.std.specs.declared.cmp.Ordering.{Ordering}
 use Rattle.std.specs.declared.cmp.Ordering.TheVariants.{Less, Equal, Greater}
 use Rattle.key_spec.specs.Data.{PlainRule, PlainSpecFault}
@@ -21,7 +21,6 @@ use Rattle.key_spec.proofs.ParseLemmas.{lines_of, rules_of, past_limit}
 use Rattle.key_spec.proofs.SortLemmas.{sorted-put_all, sorted-nil, not_less}
 use Rattle.key_spec.proofs.TokenLemmas.{by_test}
 use Rattle.key_spec.specs.Canonical.{canonical}
-use Rattle.std.proofs.lemmas.Bool.{cases_Bool}
 
 -- ---- closed rules ascend
 

@@ -1,14 +1,13 @@
 -- What holds of every specification, for the crates above.
-use Rattle.std.proofs.Common.{◌≡◌, ℕ, Bool, true, false, not, ◌⊎◌, inl, inr, List, [], ◌∷◌, map, Option, Some, ap, ap₂, sym, ◌∙◌, find}
+use Rattle.std.proofs.Common.{◌≡◌, ℕ, true, ◌⊎◌, List, [], ap₂, ◌∙◌}
 use Rattle.std.proofs.lemmas.Bool.{false_from_ne_true, not_from_false}
 use Rattle.std.proofs.lemmas.Cmp.{tied_itself}
 use Rattle.std.specs.List.{list_any}
 use Rattle.std.specs.List.Sorted.{IsStrictlySortedBy}
 use Rattle.std.specs.Ordering.{is_eq}
-use Rattle.std.specs.declared.cmp.Ordering.TheVariants.{Equal}
 use Rattle.key_spec.specs.Data.{PlainRule}
 use Rattle.key_spec.specs.Canonical.{canonical}
-use Rattle.key_spec.specs.Closed.{target_of, implied_by, implied_rules, frontier_ends, IsClosed}
+use Rattle.key_spec.specs.Closed.{target_of, implied_by, frontier_ends, IsClosed}
 use Rattle.key_spec.specs.Laws.{rule_cmp_total}
 use Rattle.key_spec.specs.Rules.{path_cmp, rule_cmp, place_cmp, is_frontier}
 use Rattle.key_spec.specs.View.{spec_view}

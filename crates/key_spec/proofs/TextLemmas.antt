@@ -1,7 +1,7 @@
 -- Sets of texts that grow.
-use Rattle.std.proofs.Common.{◌≡◌, ℕ, Bool, ◌||◌, List, [], ◌∷◌, ◌++◌, refl, ap, sym, ◌∙◌, String, Global, bytes_eq}
+use Rattle.std.proofs.Common.{ℕ, ◌||◌, List, ◌++◌, ap, sym, ◌∙◌, String, Global, bytes_eq}
 use Rattle.std.proofs.lemmas.List.Folds.{list_any-append}
-use Rattle.std.specs.BTreeSet.{BTreeSet, contains_text}
+use Rattle.std.specs.BTreeSet.{BTreeSet}
 use Rattle.key_spec.specs.Texts.{has_text, Holds, Adds}
 
 pub Holds-Adds : (old new : BTreeSet (String Global)) (texts more : List (List ℕ)) → Holds old texts → Adds old new more → Holds new (texts ++ more)

@@ -1,12 +1,12 @@
 -- How a line falls into tokens.
-use Rattle.std.proofs.Common.{◌≡◌, ℕ, ◌+◌, ◌-◌, ◌<◌, ◌≤◌, Bool, true, false, cond, not, ◌&&◌, ◌||◌, List, [], ◌∷◌, ◌++◌, length, map, refl, ap, sym, ◌∙◌, subst, arith, eqb, take, drop, get_or, Option, Some, None, MatchOption, Bor, IsUtf8, IsCharBoundary, option_map, ne_eqb, eq-eqb, one-add, add-one, ⊎_elim, zero, suc}
-use Rattle.std.proofs.lemmas.Bool.{cases_Bool, cond-false, cond-true, and_parts, not-true, not-false, eqb-true, cases_lt, and_from, not_from_false}
+use Rattle.std.proofs.Common.{◌≡◌, ℕ, ◌+◌, ◌<◌, ◌≤◌, Bool, true, false, not, ◌&&◌, List, [], ◌∷◌, length, refl, ap, sym, ◌∙◌, subst, arith, eqb, take, drop, get_or, Option, Some, None, MatchOption, Bor, IsUtf8, IsCharBoundary, option_map, ne_eqb, eq-eqb, one-add, add-one, ⊎_elim, zero, suc}
+use Rattle.std.proofs.lemmas.Bool.{cond-false, cond-true, and_parts, not-true, cases_lt, and_from, not_from_false}
 use Rattle.std.proofs.lemmas.Bool.Decides.{nat_tests}
 use Rattle.std.proofs.lemmas.List.Sums.{prefix_len_passes, prefix_len_stops, prefix_len-le-length}
 use Rattle.std.proofs.lemmas.Str.{IsCharBoundary-start, IsCharBoundary-end, IsCharBoundary-before_ascii, IsCharBoundary-after_ascii}
 use Rattle.std.specs.List.{prefix_len}
 use Rattle.key_spec.specs.Lines.{is_blank}
-use Rattle.key_spec.specs.Form.{Token, sign, word, tokens, token_with, word_with, behind, first_word, is_sign, is_word_byte, begins_word}
+use Rattle.key_spec.specs.Form.{Token, sign, word, tokens, word_with, behind, first_word, is_sign, is_word_byte, begins_word}
 
 -- the two cases of a test
 pub by_test : {P : Type 0} (t : Bool) → (t ≡ true → P) → (t ≡ false → P) → P

@@ -1,6 +1,6 @@
 -- What a text specifies: its closed rules, or its first fault.
-use Rattle.std.specs.Prelude.{◌≡◌, ℕ, ◌+◌, Bool, true, false, not, ◌&&◌, ◌||◌, List, [], ◌∷◌, ◌++◌, length, map, fold, filter_map, Option, Some, None, Result, Ok, Err, option_map, is_some, is_none, if◌then◌else◌, ◌==◌, nat_lt, flat_map, bytes_eq}
-use Rattle.std.specs.List.{list_any, enumerate_from}
+use Rattle.std.specs.Prelude.{◌≡◌, ℕ, ◌+◌, Bool, false, not, ◌&&◌, ◌||◌, List, [], ◌∷◌, ◌++◌, length, map, fold, filter_map, Option, Some, None, Result, Ok, Err, option_map, is_some, is_none, if◌then◌else◌, ◌==◌, nat_lt, flat_map, bytes_eq}
+use Rattle.std.specs.List.{list_any}
 use Rattle.std.specs.Ordering.{is_eq}
 use Rattle.std.specs.Option.{option_eq, option_or}
 use Rattle.std.specs.Cmp.Lexicographic.{pointwise}

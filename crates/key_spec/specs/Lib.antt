@@ -5,6 +5,7 @@ pub mod Form
 pub mod Laws
 pub mod Lines
 pub mod Names
+pub mod Place
 pub mod RuleView
 pub mod Rules
 pub mod Texts

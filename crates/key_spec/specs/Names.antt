@@ -1,5 +1,5 @@
 -- Names, contexts and key paths as they are written.
-use Rattle.std.specs.Prelude.{ℕ, Bool, true, false, not, ◌&&◌, List, [], ◌∷◌, ◌++◌, length, Option, Some, None, option_map, if◌then◌else◌, ◌==◌, nat_lt, codes, flat_map, bytes_eq, take, ◌-◌, slice_index}
+use Rattle.std.specs.Prelude.{ℕ, Bool, true, not, ◌&&◌, List, [], ◌∷◌, ◌++◌, length, Option, Some, None, option_map, if◌then◌else◌, ◌==◌, nat_lt, codes, flat_map, bytes_eq, take, ◌-◌, slice_index}
 use Rattle.std.specs.List.{list_any, list_all, slice_split, position_or_len, before_first, after_first}
 use Rattle.key_spec.specs.Data.{PlainPath, PlainRule}
 

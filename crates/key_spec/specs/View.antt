@@ -5,7 +5,7 @@ use Rattle.std.specs.BTreeSet.{BTreeSet}
 use Rattle.key_spec.specs.Data.{PlainRule, GivenRule, PlainSpecFault}
 use Rattle.key_spec.specs.declared.spec.Spec.{Spec}
 use Rattle.key_spec.specs.declared.given.Given.{Given}
-use Rattle.key_spec.specs.declared.close.Placed.{Placed}
+use Rattle.key_spec.specs.declared.place.Placed.{Placed}
 use Rattle.key_spec.specs.declared.fault.SpecFault.{SpecFault}
 use Rattle.key_spec.specs.declared.fault.SpecFault.TheVariants.{Bad, Memory}
 

@@ -7,81 +7,13 @@ ghost use Rattle.key_spec.specs.Closed.{implied_along, implied_by, implied_rules
 ghost use Rattle.key_spec.specs.View.{names_view, path_view, rule_view, rules_view, placed_rules};
 
 use crate::given::Given;
-use crate::order::order_rules;
+use crate::place::{Placed, place_of};
 use crate::rule::Rule;
 use std::alloc::{AllocError, Global};
-use std::cmp::Ordering;
 use std::collections::BTreeSet;
 
 /// At most so many closed rules.
 const MAX_RULES: usize = 4096;
-
-/// A rule, ordered by its context and then by its tag.
-#[derive(Drop)]
-pub(crate) struct Placed {
-    pub rule: Rule,
-}
-
-impl PartialEq for Placed {
-    ghost use Rattle.std.specs.Ordering.{eq_by_cmp, on};
-    ghost use Rattle.std.specs.Cmp.{on_total, eq_by_cmp_equiv, partial_equiv_from_equiv};
-    ghost use Rattle.key_spec.specs.Laws.{rule_cmp_total};
-    ghost use Rattle.key_spec.specs.Rules.{rule_cmp};
-    ghost use Rattle.key_spec.specs.View.{placed_view};
-
-    ghost eq = { eq_by_cmp (on placed_view rule_cmp) };
-
-    ghost laws = { partial_equiv_from_equiv (eq_by_cmp_equiv (on_total placed_view rule_cmp_total)) };
-
-    fn eq(&self, other: &Placed) -> bool {
-        order_rules(&self.rule, &other.rule).is_eq()
-    }
-}
-
-impl Eq for Placed {
-    ghost use Rattle.std.specs.Cmp.{on_total, eq_by_cmp_equiv};
-    ghost use Rattle.key_spec.specs.Laws.{rule_cmp_total};
-    ghost use Rattle.key_spec.specs.View.{placed_view};
-
-    ghost laws = { eq_by_cmp_equiv (on_total placed_view rule_cmp_total) };
-}
-
-impl PartialOrd for Placed {
-    ghost use Rattle.std.specs.Ordering.{on, as_partial_cmp};
-    ghost use Rattle.std.specs.Cmp.{on_total, partial_order_from_total};
-    ghost use Rattle.key_spec.specs.Laws.{rule_cmp_total};
-    ghost use Rattle.key_spec.specs.Rules.{rule_cmp};
-    ghost use Rattle.key_spec.specs.View.{placed_view};
-
-    ghost partial_cmp = { as_partial_cmp (on placed_view rule_cmp) };
-
-    ghost laws = { partial_order_from_total (on_total placed_view rule_cmp_total) };
-
-    fn partial_cmp(&self, other: &Placed) -> Option<Ordering> {
-        Some(order_rules(&self.rule, &other.rule))
-    }
-}
-
-impl Ord for Placed {
-    ghost use Rattle.std.proofs.Common.{refl};
-    ghost use Rattle.std.specs.Ordering.{on};
-    ghost use Rattle.std.specs.Cmp.{on_total};
-    ghost use Rattle.key_spec.specs.Laws.{rule_cmp_total};
-    ghost use Rattle.key_spec.specs.Rules.{rule_cmp};
-    ghost use Rattle.key_spec.specs.View.{placed_view};
-
-    ghost cmp = { on placed_view rule_cmp };
-
-    ghost total = { on_total placed_view rule_cmp_total };
-
-    ghost matches_partial_cmp = { λ x y. refl };
-
-    ghost matches_eq = { λ x y. refl };
-
-    fn cmp(&self, other: &Placed) -> Ordering {
-        order_rules(&self.rule, &other.rule)
-    }
-}
 
 /// The closed rules, unless there are too many.
 pub(crate) fn close(alloc: Global, given: Vec<Given>) -> Result<Option<Vec<Rule>>, AllocError>
@@ -93,7 +25,7 @@ pub(crate) fn close(alloc: Global, given: Vec<Given>) -> Result<Option<Vec<Rule>
     if !put_all_implied(alloc, &mut closed, &given)? {
         return Ok(None);
     }
-    put_given(&mut closed, given)?;
+    put_given(alloc, &mut closed, given)?;
     if closed.len() > MAX_RULES {
         return Ok(None);
     }
@@ -124,18 +56,22 @@ fn in_order(alloc: Global, closed: BTreeSet<Placed>) -> Result<Vec<Rule>, AllocE
 {
     let mut rules = Vec::new(alloc);
     for placed in closed {
-        let Placed { rule } = placed;
+        let Placed { bytes: _, rule } = placed;
         rules.push(rule)?;
     }
     Ok(rules)
 }
 
-fn put_given(closed: &mut BTreeSet<Placed>, given: Vec<Given>) -> Result<(), AllocError>
+fn put_given(
+    alloc: Global,
+    closed: &mut BTreeSet<Placed>,
+    given: Vec<Given>,
+) -> Result<(), AllocError>
     ensures { OnOk result (placed_rules closed.new ≡ fold (replace_key rule_cmp) (placed_rules closed.old) (rules_view given.items)) }
 {
     for one in given {
         let Given { line: _, rule } = one;
-        put(closed, rule)?;
+        put(alloc, closed, rule)?;
     }
     Ok(())
 }
@@ -162,17 +98,18 @@ fn put_along(
     let mut here = copy_names(alloc, &from.context)?;
     here.push(copy_name(alloc, &from.tag)?)?;
     for tag in tags {
-        put(closed, unkeyed(alloc, &here, tag)?)?;
+        put(alloc, closed, unkeyed(alloc, &here, tag)?)?;
         here.push(copy_name(alloc, tag)?)?;
     }
     Ok(())
 }
 
 /// Puts a rule in its place, where it replaces one with the same context and tag.
-fn put(closed: &mut BTreeSet<Placed>, rule: Rule) -> Result<(), AllocError>
+fn put(alloc: Global, closed: &mut BTreeSet<Placed>, rule: Rule) -> Result<(), AllocError>
     ensures { OnOk result (placed_rules closed.new ≡ replace_key rule_cmp (placed_rules closed.old) (rule_view rule)) }
 {
-    closed.replace(Placed { rule })?;
+    let bytes = place_of(alloc, &rule)?;
+    closed.replace(Placed { bytes, rule })?;
     Ok(())
 }
 

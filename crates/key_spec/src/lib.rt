@@ -9,6 +9,7 @@ mod given;
 mod line;
 mod name;
 mod order;
+mod place;
 mod rule;
 mod spec;
 mod texts;

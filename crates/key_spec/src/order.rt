@@ -1,18 +1,11 @@
-// The orders of paths and rules.
+// The order of paths, and where a rule stands to a context and a tag.
 ghost use Rattle.std.specs.Prelude.{◌≡◌, string_bytes};
 ghost use Rattle.std.specs.Ordering.{is_eq};
-ghost use Rattle.key_spec.specs.Rules.{path_cmp, place_cmp, rule_cmp};
-ghost use Rattle.key_spec.specs.View.{names_view, rule_view};
+ghost use Rattle.key_spec.specs.Rules.{path_cmp, place_cmp};
+ghost use Rattle.key_spec.specs.View.{names_view};
 
 use crate::rule::Rule;
 use std::cmp::Ordering;
-
-/// By context and then by tag.
-pub(crate) fn order_rules(ours: &Rule, theirs: &Rule) -> Ordering
-    ensures { result ≡ rule_cmp (rule_view ours.now) (rule_view theirs.now) }
-{
-    order_paths(&ours.context, &theirs.context).then(ours.tag.as_str().cmp(theirs.tag.as_str()))
-}
 
 /// Where a rule stands to a context and tag.
 pub(crate) fn order_place(rule: &Rule, context: &[String], tag: &str) -> Ordering

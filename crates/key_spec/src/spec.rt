@@ -2,9 +2,10 @@ ghost use Rattle.std.specs.Prelude.{◌≡◌, ◌≤◌, Ok, IfOk, IfErr, IfSom
 ghost use Rattle.key_spec.specs.Closed.{closed, IsClosed};
 ghost use Rattle.key_spec.specs.Canonical.{canonical};
 ghost use Rattle.std.specs.List.{list_any};
+ghost use Rattle.std.specs.List.Sorted.{IsStrictlySortedBy};
 ghost use Rattle.std.specs.Ordering.{is_eq};
 ghost use Rattle.key_spec.specs.RuleView.{names_view, rule_view};
-ghost use Rattle.key_spec.specs.Rules.{path_cmp};
+ghost use Rattle.key_spec.specs.Rules.{path_cmp, rule_cmp};
 
 use crate::close::close;
 use crate::closing::check_closing;
@@ -52,7 +53,8 @@ impl Spec {
 
     /// The rules, ascending by context and then by tag.
     pub fn rules(&self) -> &[Rule]
-        ensures { map rule_view result.now ≡ spec_view self.now }
+        ensures rules { map rule_view result.now ≡ spec_view self.now }
+        ensures ascending { IsStrictlySortedBy rule_cmp (spec_view self.now) }
     {
         &self.rules
     }

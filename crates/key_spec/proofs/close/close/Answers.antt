@@ -1,9 +1,9 @@
-use Rattle.std.proofs.Common.{◌≡◌, ℕ, ◌+◌, ◌<◌, ◌++◌, [], length, map, drop, fold, sym, ap, ◌∙◌, arith, subst}
+use Rattle.std.proofs.Common.{◌≡◌, [], length, map, fold, ap, ◌∙◌, arith}
 use Rattle.std.proofs.lemmas.Bool.{OnFalse_at}
 use Rattle.std.proofs.lemmas.List.Sums.{fold-append}
 use Rattle.std.specs.BTreeSet.{replace_key}
 use Rattle.key_spec.specs.Rules.{rule_cmp}
-use Rattle.key_spec.specs.Closed.{implied_rules, closed_rules}
+use Rattle.key_spec.specs.Closed.{implied_rules}
 use Rattle.key_spec.specs.View.{rules_view, placed_view, placed_rules}
 use Rattle.key_spec.proofs.CloseLemmas.{length-put_all}
 use Rattle.key_spec.proofs.close.close.Goals as goal

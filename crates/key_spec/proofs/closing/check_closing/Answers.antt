@@ -1,8 +1,7 @@
-use Rattle.std.proofs.Common.{◌≡◌, ℕ, List, [], ◌∷◌, ◌++◌, ◌+◌, Option, Some, None, true, map, take, drop, sym, ap, ◌∙◌, subst, string_bytes, arith, rules}
+use Rattle.std.proofs.Common.{◌≡◌, [], ◌∷◌, ◌++◌, ◌+◌, Some, None, map, take, drop, sym, ap, ◌∙◌, subst, string_bytes, arith, rules}
 use Rattle.std.proofs.lemmas.List.{map-append}
-use Rattle.key_spec.specs.Data.{PlainRule, GivenRule}
 use Rattle.key_spec.specs.Closed.{closing_why, closing_fault}
-use Rattle.key_spec.specs.Texts.{Holds, target_text, text_why}
+use Rattle.key_spec.specs.Texts.{Holds, target_text}
 use Rattle.key_spec.specs.View.{rules_view, given_view, rule_view}
 use Rattle.key_spec.specs.declared.given.Given.{Given}
 use Rattle.key_spec.proofs.ClosingLemmas.{text_why-is, closing_fault-found, closing_fault-none, named_rules}

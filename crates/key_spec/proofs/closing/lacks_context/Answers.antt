@@ -1,5 +1,5 @@
-use Rattle.std.proofs.Common.{◌≡◌, sym, ap, ◌∙◌, Bool, true, false, not, ◌&&◌, ◌||◌, refl, length, ltb, eqb, arith, ◌<◌}
-use Rattle.std.proofs.lemmas.Bool.{or_left, and_right, not_from_true, lt-ltb, eqb-false}
+use Rattle.std.proofs.Common.{◌≡◌, sym, ap, ◌∙◌, Bool, true, false, not, ◌&&◌, ◌||◌, refl, length, ltb, arith, ◌<◌}
+use Rattle.std.proofs.lemmas.Bool.{or_left, and_right, not_from_true, lt-ltb}
 use Rattle.std.proofs.lemmas.Bool.Decides.{nat_tests}
 use Rattle.std.proofs.lemmas.List.{length-map}
 use Rattle.std.specs.BTreeSet.{contains_text}

@@ -1,4 +1,4 @@
-use Rattle.std.proofs.Common.{◌≡◌, ℕ, List, [], ◌∷◌, ◌++◌, Some, Option, option_map, map, sym, ap, ◌∙◌, Bor, rules}
+use Rattle.std.proofs.Common.{◌≡◌, ℕ, List, [], ◌∷◌, ◌++◌, Some, option_map, map, sym, ap, ◌∙◌, Bor, rules}
 use Rattle.std.proofs.lemmas.List.{map-append}
 use Rattle.key_spec.specs.Data.{PlainPath}
 use Rattle.key_spec.specs.Names.{path_of}

@@ -1,4 +1,4 @@
-use Rattle.std.proofs.Common.{◌≡◌, sym, ap, ◌∙◌, Some, Option, option_map, subst, map, true}
+use Rattle.std.proofs.Common.{◌≡◌, sym, ap, ◌∙◌, Some, option_map, subst, map, true}
 use Rattle.std.specs.List.{list_all}
 use Rattle.key_spec.specs.Names.{is_named_path}
 use Rattle.key_spec.specs.Form.{line_rule}

@@ -1,6 +1,5 @@
-use Rattle.std.proofs.Common.{◌≡◌, ◌+◌, ◌-◌, ◌<◌, ◌≤◌, [], ◌∷◌, length, take, drop, arith, ap, ◌∙◌, sym, length-drop, drop_of_length-le}
+use Rattle.std.proofs.Common.{◌≡◌, ◌+◌, ◌-◌, [], ◌∷◌, length, take, drop, arith, ap, ◌∙◌, sym, length-drop}
 use Rattle.std.proofs.lemmas.List.{take_all}
-use Rattle.key_spec.specs.Lines.{lines}
 use Rattle.key_spec.proofs.LineLemmas.{lines-first, lines-last}
 use Rattle.key_spec.proofs.line.first_line.Goals as goal
 

@@ -1,4 +1,4 @@
-use Rattle.std.proofs.Common.{◌≡◌, sym, lit<}
+use Rattle.std.proofs.Common.{sym, lit<}
 use Rattle.std.proofs.lemmas.Str.Pattern.{strip_prefix_char}
 use Rattle.key_spec.proofs.NameLemmas.{context_of-none}
 use Rattle.key_spec.proofs.name.read_context.Goals as goal

@@ -1,10 +1,10 @@
-use Rattle.std.proofs.Common.{◌≡◌, ℕ, List, ◌∙◌, sym, ap, subst, lit<, true, false, map, length, get_or, Some, None, eqb, rules}
+use Rattle.std.proofs.Common.{◌≡◌, ◌∙◌, sym, ap, subst, lit<, true, false, length, get_or, Some, None, eqb, rules}
 use Rattle.std.proofs.lemmas.Bool.{cond-true, cond-false}
 use Rattle.std.proofs.lemmas.List.Folds.{list_all_at}
 use Rattle.std.proofs.lemmas.Iterator.Splits.{YieldsList-from_str_split}
 use Rattle.std.proofs.lemmas.Iterator.Consumers.{YieldsList-turn, YieldsList-end}
 use Rattle.std.specs.List.{slice_split, list_all}
-use Rattle.key_spec.specs.Names.{is_name, names_of}
+use Rattle.key_spec.specs.Names.{is_name}
 use Rattle.key_spec.proofs.name.read_names.Goals as goal
 
 pub returns-then-not-is_name : goal.returns-then-not-is_name

@@ -1,4 +1,4 @@
-use Rattle.std.proofs.Common.{◌≡◌, sym, lit<, arith}
+use Rattle.std.proofs.Common.{sym, lit<, arith}
 use Rattle.std.proofs.lemmas.Str.Pattern.{strip_suffix_char}
 use Rattle.std.proofs.lemmas.Bool.Decides.{nat_tests}
 use Rattle.key_spec.proofs.NameLemmas.{tags_before-none}

@@ -1,6 +1,5 @@
-use Rattle.std.proofs.Common.{◌≡◌, ◌++◌, ◌∷◌, map, take, string_bytes, codes, flat_map}
+use Rattle.std.proofs.Common.{◌≡◌, ◌++◌, map, take, string_bytes, codes, flat_map}
 use Rattle.key_spec.specs.Names.{path_text}
-use Rattle.key_spec.specs.Canonical.{paths_text}
 use Rattle.key_spec.specs.View.{path_view}
 use Rattle.key_spec.proofs.rule.push_paths.Given as goal
 

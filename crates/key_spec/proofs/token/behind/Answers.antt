@@ -1,4 +1,3 @@
-use Rattle.std.proofs.Common.{arith}
 use Rattle.std.proofs.lemmas.Str.Pattern.{strip_prefix_char}
 use Rattle.key_spec.proofs.TokenLemmas.{behind-stripped, sign_is_ascii}
 use Rattle.key_spec.proofs.token.behind.Goals as goal

@@ -1,4 +1,4 @@
-use Rattle.std.proofs.Common.{◌∙◌, ap, arith, Some, take, drop}
+use Rattle.std.proofs.Common.{◌∙◌, ap, arith, Some, take}
 use Rattle.std.proofs.Math.Nat.{sub-zero}
 use Rattle.std.specs.List.{prefix_len}
 use Rattle.key_spec.specs.Form.{is_word_byte, tokens}

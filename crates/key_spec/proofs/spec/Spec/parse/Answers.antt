@@ -1,13 +1,11 @@
-use Rattle.std.proofs.Common.{◌≡◌, ℕ, ◌<◌, ◌≤◌, List, [], None, Some, Ok, Err, Result, IfErr, true, map, length, sym, ap, ◌∙◌, subst, arith, string_bytes, rules}
+use Rattle.std.proofs.Common.{◌≡◌, ◌<◌, [], None, true, map, length, sym, ap, ◌∙◌, subst, string_bytes, rules}
 use Rattle.std.proofs.lemmas.Result.{err_from_is_err_and}
 use Rattle.std.specs.List.{list_all}
-use Rattle.key_spec.specs.Data.{PlainRule, GivenRule}
 use Rattle.key_spec.specs.Names.{is_named}
 use Rattle.key_spec.specs.Canonical.{canonical}
-use Rattle.key_spec.specs.Closed.{closed, closed_rules, closing_fault, within_limits, given_rules}
-use Rattle.key_spec.specs.View.{IsFault, IsRefusal, rules_view, given_view, spec_view}
+use Rattle.key_spec.specs.Closed.{closed_rules, closing_fault, given_rules}
+use Rattle.key_spec.specs.View.{rules_view}
 use Rattle.key_spec.specs.RuleView.{rule_view}
-use Rattle.key_spec.specs.declared.fault.SpecFault.{SpecFault}
 use Rattle.key_spec.proofs.ParseLemmas.{lines_of, rules_of, refusal-first, refusal-closing, closed-limits, limits-many, limits-long, given_rules-named, rules-read, closing-read, fault-read, closed-found}
 use Rattle.key_spec.proofs.spec.Spec.parse.Goals as goal
 
