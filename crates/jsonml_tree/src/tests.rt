@@ -33,6 +33,7 @@ fn scalars_go_by_kind_and_then_by_value(rt: HostRuntime) -> Result<(), Fail> {
         assert_eq!(rt; pair[0].order(&pair[1]), Ordering::Less);
         assert_eq!(rt; pair[1].order(&pair[0]), Ordering::Greater);
         assert!(rt; pair[0].same(&pair[0]));
+        assert!(rt; pair[1].copy(alloc)?.same(&pair[1]));
     }
     Ok(())
 }
