@@ -9,9 +9,8 @@ use Rattle.keyed_tree.specs.Kids.{IsOrdered}
 use Rattle.keyed_tree.specs.Lists.{Has}
 use Rattle.keyed_tree.specs.Proper.{IsElement}
 use Rattle.keyed_tree.proofs.Lists.{all_has, has_map}
-use Rattle.archive_tree.specs.Data.{PlainNode, PlainNodes, nodes_from, nodes_list, PlainArchive}
+use Rattle.archive_tree.specs.Data.{PlainNodes, PlainArchive}
 use Rattle.archive_tree.specs.Stands.{AllAlike, ArchiveOf, Kept}
-use Rattle.archive_tree.proofs.Parts.{nodes_from-nodes_list}
 use Rattle.archive_tree.proofs.Readings.{one_list}
 use Rattle.nested_merge.specs.Alike.{AlikeAll}
 use Rattle.nested_merge.specs.Below.{are_nodes_below}
@@ -25,12 +24,9 @@ pub kept_below : (a : PlainArchive) → ∥ Kept a ∥₁ → IsTrue (are_nodes_
 kept_below a kept = ∥∥₁_elim {P = IsTrue (are_nodes_below (a.n + 1) a.kids)} kept (Bool-set (are_nodes_below (a.n + 1) a.kids) true) (λ k. archive_below k.versions a k.is)
 
 -- the parts that a merge makes are those of the archive with the version
-pub is_with_version : (a : PlainArchive) (k : PlainKeyed) (n m : ℕ) (ks : PlainNodes) (js : List PlainNode) → n ≡ a.n → m ≡ a.n → ks ≡ a.kids → js ≡ nodes_list (merged_row (n + 1) (upto n) ks (k ∷ []))
-    → ◌≡◌ {A = PlainArchive} (record { n = m + 1; kids = nodes_from js }) (with_version a k)
-is_with_version a k n m ks js e d f g =
-    let count : m + 1 ≡ a.n + 1 = ap (λ x. x + 1) d in
-    let row : nodes_from js ≡ merged_row (a.n + 1) (upto a.n) a.kids (k ∷ []) = ap nodes_from g ∙ nodes_from-nodes_list (merged_row (n + 1) (upto n) ks (k ∷ [])) ∙ (λ i. merged_row (e i + 1) (upto (e i)) (f i) (k ∷ [])) in
-    λ i. record { n = count i; kids = row i }
+pub made_version : (a : PlainArchive) (k : PlainKeyed) (n : ℕ) (ks js : PlainNodes) → ◌≡◌ {A = PlainArchive} (record { n = n; kids = ks }) a → js ≡ merged_row (n + 1) (upto n) ks (k ∷ [])
+    → ◌≡◌ {A = PlainArchive} (record { n = n + 1; kids = js }) (with_version a k)
+made_version a k n ks js parts grown = (λ i. record { n = n + 1; kids = grown i }) ∙ ap (λ (z : PlainArchive). with_version z k) parts
 
 module _ (a : PlainArchive) (k : PlainKeyed) (kept : ∥ Kept a ∥₁) (alike : (vs : List PlainKeyed) → ArchiveOf vs a → AlikeAll vs k) (ordered : IsOrdered k) (element : IsElement k) where
   grows : (v : Kept a) → ArchiveOf (v.versions ++ k ∷ []) (with_version a k)

@@ -15,3 +15,5 @@ pub mod Plans
 pub mod PlanLaws
 pub mod PlannedVersion
 pub mod FitsLemmas
+pub mod Preparing
+pub mod Readies

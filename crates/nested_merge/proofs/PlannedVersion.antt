@@ -1,10 +1,10 @@
--- What the plan of a version makes is the archive with that version.
+-- What the plan of a version makes is the row with that version.
 use Rattle.std.proofs.Common.{◌≡◌, ℕ, ◌+◌, IsTrue, List, [], ◌∷◌, ap, sym, subst, ◌∙◌}
 use Rattle.keyed_tree.specs.Data.{PlainKeyed}
-use Rattle.archive_tree.specs.Data.{PlainNode, PlainNodes, nodes_from, nodes_list, PlainArchive}
-use Rattle.nested_merge.specs.Merged.{upto, merged_row, with_version}
+use Rattle.archive_tree.specs.Data.{PlainNode, PlainNodes, nodes_from, nodes_list}
+use Rattle.archive_tree.proofs.Parts.{nodes_from-nodes_list}
+use Rattle.nested_merge.specs.Merged.{upto, merged_row}
 use Rattle.nested_merge.specs.Plan.{PlainStep, are_roomy, applied_row, steps_from, steps_list, planned_row}
-use Rattle.nested_merge.proofs.Kepts.{is_with_version}
 use Rattle.nested_merge.proofs.PlanLaws.{applied_row-planned, row_roomy}
 use Rattle.nested_merge.proofs.Plans.{steps_from-steps_list}
 
@@ -16,10 +16,7 @@ module _ (n : ℕ) (ks : PlainNodes) (k : PlainKeyed) (ss : List PlainStep) (pla
   pub plan_roomy : IsTrue (are_roomy (steps_from ss))
   plan_roomy = subst (λ z. IsTrue (are_roomy z)) (sym steps) (row_roomy (n + 1) (upto n) ks (k ∷ []))
 
-  pub plan_made : (a : PlainArchive) (m : ℕ) (os : PlainNodes) (js : List PlainNode) → n ≡ a.n → ks ≡ a.kids → ◌≡◌ {A = PlainArchive} (record { n = m; kids = os }) a
-      → js ≡ nodes_list (applied_row os (steps_from ss)) → ◌≡◌ {A = PlainArchive} (record { n = m + 1; kids = nodes_from js }) (with_version a k)
-  plan_made a m os js e f parts made =
-      let count : m ≡ a.n = ap (λ (z : PlainArchive). z.n) parts in
-      let row : os ≡ ks = ap (λ (z : PlainArchive). z.kids) parts ∙ sym f in
-      let all : js ≡ nodes_list (merged_row (n + 1) (upto n) ks (k ∷ [])) = made ∙ (λ i. nodes_list (applied_row (row i) (steps i))) ∙ ap nodes_list (applied_row-planned (n + 1) (upto n) ks (k ∷ [])) in
-      is_with_version a k n m ks js e count f all
+  pub plan_made : (os : PlainNodes) (js : List PlainNode) → os ≡ ks → js ≡ nodes_list (applied_row (n + 1) os (steps_from ss)) → nodes_from js ≡ merged_row (n + 1) (upto n) ks (k ∷ [])
+  plan_made os js row made =
+      ap nodes_from (made ∙ (λ i. nodes_list (applied_row (n + 1) (row i) (steps i)))) ∙ nodes_from-nodes_list (applied_row (n + 1) ks (planned_row (n + 1) (upto n) ks (k ∷ [])))
+      ∙ applied_row-planned (n + 1) (upto n) ks (k ∷ [])

@@ -5,3 +5,4 @@ pub mod Laws
 pub mod Plan
 pub mod PlanView
 pub mod Fits
+pub mod Ready

@@ -2,86 +2,101 @@
 ghost use Rattle.std.specs.Prelude.{◌≡◌, ◌≤◌, IsTrue, length, map, vec_len};
 ghost use Rattle.archive_tree.specs.Data.{nodes_list};
 ghost use Rattle.archive_tree.specs.View.{stamp_view, alt_view, node_view, nodes_view};
-ghost use Rattle.nested_merge.specs.Plan.{is_roomy, are_roomy, changed, applied_alts, applied, applied_row, steps_from};
-ghost use Rattle.nested_merge.specs.PlanView.{room_of, alt_step_view, step_view, change_view};
+ghost use Rattle.nested_merge.specs.Plan.{keep, is_roomy, are_roomy, changed, applied_alts, applied, applied_row, steps_from};
+ghost use Rattle.nested_merge.specs.PlanView.{room_of, mark_view, alt_step_view, step_view, change_view};
+ghost use Rattle.nested_merge.specs.Ready.{is_stamp_ready, are_alts_ready, is_ready, are_ready};
 
-use crate::plan::{AltStep, Change, Step};
+use crate::plan::{AltStep, Change, Mark, Step};
 use crate::space::{Space, put};
+use crate::stamp::changed_stamp;
 use archive_tree::{ANode, Alt};
-use version_set::VersionSet;
 
-fn changed_stamp(stamp: Option<VersionSet>, set: Option<VersionSet>) -> Option<VersionSet>
-    ensures { stamp_view result ≡ changed (stamp_view stamp) (stamp_view set) }
+fn changed_alt(n: u32, mark: Mark, old: Alt) -> Alt
+    requires { IsTrue (is_stamp_ready n old.stamp (mark_view mark)) }
+    ensures { alt_view result ≡ record { stamp = changed n (stamp_view old.stamp) (mark_view mark); body = (alt_view old).body } }
 {
-    match set {
-        None => stamp,
-        Some(set) => Some(set),
+    Alt {
+        stamp: changed_stamp(n, old.stamp, mark),
+        body: old.body,
     }
 }
 
-fn applied_alts(steps: Vec<AltStep>, space: Space<Alt>, old: Vec<Alt>) -> Vec<Alt>
-    requires { vec_len steps ≤ room_of space }
-    ensures { map alt_view result.items ≡ applied_alts (map alt_view old.items) (map alt_step_view steps.items) }
+fn applied_alts(n: u32, steps: Vec<AltStep>, space: Space<Alt>, old: Vec<Alt>) -> Vec<Alt>
+    requires room { vec_len steps ≤ room_of space }
+    requires ready { IsTrue (are_alts_ready n old.items (map alt_step_view steps.items)) }
+    ensures { map alt_view result.items ≡ applied_alts n (map alt_view old.items) (map alt_step_view steps.items) }
 {
     let mut left = old.into_iter();
     let mut alts = space.into_items();
     for step in steps {
         match step {
             AltStep::New(alt) => put(&mut alts, alt),
-            AltStep::Old(set) => {
-                if let Some(alt) = left.next() {
-                    put(
-                        &mut alts,
-                        Alt {
-                            stamp: changed_stamp(alt.stamp, set),
-                            body: alt.body,
-                        },
-                    );
-                }
-            }
+            AltStep::Old(mark) => match left.next() {
+                Some(alt) => put(&mut alts, changed_alt(n, mark, alt)),
+                None => drop(mark),
+            },
         }
     }
     alts
 }
 
-#[cycle(apply)]
+// A node that keeps what is below it.
 #[tactic(auto, using(crate::proofs::Plans::plans))]
-fn applied_node(change: Change, old: ANode) -> ANode
-    requires { IsTrue (is_roomy (change_view change)) }
-    ensures { node_view result ≡ applied (node_view old) (change_view change) }
+fn marked_node(n: u32, mark: Mark, old: ANode) -> ANode
+    requires { IsTrue (is_ready n old (keep (mark_view mark))) }
+    ensures { node_view result ≡ applied n (node_view old) (keep (mark_view mark)) }
 {
-    match (old, change) {
-        (ANode::Inner { label, stamp, kids }, Change::Keep(set)) => ANode::Inner {
+    match old {
+        ANode::Inner { label, stamp, kids } => ANode::Inner {
             label,
-            stamp: changed_stamp(stamp, set),
+            stamp: changed_stamp(n, stamp, mark),
             kids,
         },
-        (ANode::Leaf { label, stamp, alts }, Change::Keep(set)) => ANode::Leaf {
+        ANode::Leaf { label, stamp, alts } => ANode::Leaf {
             label,
-            stamp: changed_stamp(stamp, set),
+            stamp: changed_stamp(n, stamp, mark),
             alts,
         },
-        (ANode::Inner { label, stamp, kids }, Change::Kids { set, steps, space }) => ANode::Inner {
-            label,
-            stamp: changed_stamp(stamp, set),
-            kids: applied_kids(steps, space, kids),
-        },
-        (ANode::Leaf { label, stamp, alts }, Change::Alts { set, steps, space }) => ANode::Leaf {
-            label,
-            stamp: changed_stamp(stamp, set),
-            alts: applied_alts(steps, space, alts),
-        },
-        // No plan has this.
-        (node, _) => node,
     }
 }
 
 #[cycle(apply)]
-pub fn applied_kids(steps: Vec<Step>, space: Space<ANode>, old: Vec<ANode>) -> Vec<ANode>
+#[tactic(auto, using(crate::proofs::Plans::plans))]
+fn applied_node(n: u32, change: Change, old: ANode) -> ANode
+    requires roomy { IsTrue (is_roomy (change_view change)) }
+    requires ready { IsTrue (is_ready n old (change_view change)) }
+    ensures { node_view result ≡ applied n (node_view old) (change_view change) }
+{
+    match change {
+        Change::Keep(mark) => marked_node(n, mark, old),
+        Change::Kids { mark, steps, space } => match old {
+            ANode::Inner { label, stamp, kids } => ANode::Inner {
+                label,
+                stamp: changed_stamp(n, stamp, mark),
+                kids: applied_kids(n, steps, space, kids),
+            },
+            // No plan has this.
+            leaf => leaf,
+        },
+        Change::Alts { mark, steps, space } => match old {
+            ANode::Leaf { label, stamp, alts } => ANode::Leaf {
+                label,
+                stamp: changed_stamp(n, stamp, mark),
+                alts: applied_alts(n, steps, space, alts),
+            },
+            // No plan has this.
+            inner => inner,
+        },
+    }
+}
+
+#[cycle(apply)]
+pub fn applied_kids(n: u32, steps: Vec<Step>, space: Space<ANode>, old: Vec<ANode>) -> Vec<ANode>
     requires room { vec_len steps ≤ room_of space }
     requires roomy { IsTrue (are_roomy (steps_from (map step_view steps.items))) }
+    requires ready { IsTrue (are_ready (map (is_ready n) old.items) (steps_from (map step_view steps.items))) }
     ensures { map node_view result.items
-        ≡ nodes_list (applied_row (nodes_view old.items) (steps_from (map step_view steps.items))) }
+        ≡ nodes_list (applied_row n (nodes_view old.items) (steps_from (map step_view steps.items))) }
 {
     let mut left = old.into_iter();
     let mut kids = space.into_items();
@@ -89,7 +104,7 @@ pub fn applied_kids(steps: Vec<Step>, space: Space<ANode>, old: Vec<ANode>) -> V
         match step {
             Step::Fresh(node) => put(&mut kids, node),
             Step::Old(change) => match left.next() {
-                Some(node) => put(&mut kids, applied_node(change, node)),
+                Some(node) => put(&mut kids, applied_node(n, change, node)),
                 None => drop(change),
             },
         }

@@ -6,6 +6,7 @@ mod apply;
 mod fresh;
 mod plan;
 mod planning;
+mod prepare;
 mod space;
 mod stamp;
 #[cfg(test)]

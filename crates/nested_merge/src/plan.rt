@@ -2,11 +2,22 @@ use crate::space::Space;
 use archive_tree::{ANode, Alt};
 use version_set::VersionSet;
 
+/// What becomes of a stamp.
+#[derive(Debug, Drop)]
+pub enum Mark {
+    /// It stays as it is.
+    Stay,
+    /// The version is added to the stored set, if there is one.
+    Grow,
+    /// This set is stored.
+    Store(VersionSet),
+}
+
 /// A step along the alternatives of a leaf.
 #[derive(Debug, Drop)]
 pub enum AltStep {
-    /// The next alternative, which gets the set, if there is one.
-    Old(Option<VersionSet>),
+    /// The next alternative.
+    Old(Mark),
     New(Alt),
 }
 
@@ -20,24 +31,24 @@ pub enum Step {
     Old(Change),
 }
 
-/// What becomes of a node: the set that it gets, if there is one, and what changes below it.
+/// What becomes of a node: of its stamp, and of what lies below it.
 #[cycle(plan)]
 #[derive(Debug, Drop)]
 pub enum Change {
-    Keep(Option<VersionSet>),
+    Keep(Mark),
     Kids {
-        set: Option<VersionSet>,
+        mark: Mark,
         steps: Vec<Step>,
         space: Space<ANode>,
     },
     Alts {
-        set: Option<VersionSet>,
+        mark: Mark,
         steps: Vec<AltStep>,
         space: Space<Alt>,
     },
 }
 
-/// What one more version changes along the kids of the virtual root, with all the memory that it takes.
+/// What one more version changes along the kids of the virtual root, with room for each row and all that is new.
 #[derive(Debug, Drop)]
 pub struct Plan {
     pub steps: Vec<Step>,

@@ -1,19 +1,18 @@
-// The plan of one more version, which takes all the memory that it needs.
+// The plan of one more version, and room for each row that it makes.
 ghost use Rattle.std.specs.Prelude.{◌≡◌, ◌+◌, ◌≤◌, ◌<◌, [], ◌∷◌, IfOk, IsTrue, map, vec_len};
 ghost use Rattle.version_set.specs.View.{pairs_of};
 ghost use Rattle.keyed_tree.specs.Data.{kids_from};
 ghost use Rattle.keyed_tree.specs.Kids.{ascend, are_ordered, IsOrdered};
 ghost use Rattle.keyed_tree.specs.View.{key_view, keyed_view};
 ghost use Rattle.archive_tree.specs.View.{alt_view, node_view, nodes_view};
-ghost use Rattle.nested_merge.specs.Below.{are_alts_below, is_node_below, are_nodes_below};
 ghost use Rattle.nested_merge.specs.Merged.{upto};
 ghost use Rattle.nested_merge.specs.Plan.{steps_list, gone_step, started_step, planned_alts, planned, planned_row};
 ghost use Rattle.nested_merge.specs.PlanView.{room_of, alt_step_view, step_view, change_view};
 
 use crate::fresh::fresh_node;
-use crate::plan::{AltStep, Change, Plan, Step};
+use crate::plan::{AltStep, Change, Mark, Plan, Step};
 use crate::space::Space;
-use crate::stamp::{grown_stamp, kept_change, started_stamp};
+use crate::stamp::{kept_mark, started_stamp};
 use archive_tree::{ANode, Alt, effective};
 use keyed_tree::{Body, Keyed};
 use std::alloc::{AllocError, Global};
@@ -24,7 +23,6 @@ use version_set::VersionSet;
 // The kids of the virtual root, for n versions, with those of one more.
 pub fn plan_of(alloc: Global, n: u32, old: &[ANode], new: &Keyed) -> Result<Plan, AllocError>
     requires room { n < 4294967295 }
-    requires below { IsTrue (are_nodes_below (n + 1) (nodes_view old.now)) }
     requires ordered { IsOrdered (keyed_view new.now) }
     ensures steps { IfOk result (λ p. map step_view p.steps.items
         ≡ steps_list (planned_row (n + 1) (upto n) (nodes_view old.now) (keyed_view new.now ∷ []))) }
@@ -44,8 +42,7 @@ fn planned_alts(
     alts: &[Alt],
     body: &Body,
 ) -> Result<Vec<AltStep>, AllocError>
-    requires from { 1 ≤ n }
-    requires below { IsTrue (are_alts_below n (map alt_view alts.now)) }
+    requires { 1 ≤ n }
     ensures { IfOk result (λ v. map alt_step_view v.items
         ≡ planned_alts n (pairs_of set.now) (key_view body.now) (map alt_view alts.now)) }
 {
@@ -54,9 +51,9 @@ fn planned_alts(
     for alt in alts {
         if alt.body.order(body).is_eq() {
             found = true;
-            steps.push(AltStep::Old(grown_stamp(n, &alt.stamp)?))?;
+            steps.push(AltStep::Old(Mark::Grow))?;
         } else {
-            steps.push(AltStep::Old(kept_change(set, &alt.stamp)?))?;
+            steps.push(AltStep::Old(kept_mark(set, &alt.stamp)?))?;
         }
     }
     if !found {
@@ -79,7 +76,6 @@ fn planned_node(
     new: &Keyed,
 ) -> Result<Change, AllocError>
     requires from { 1 ≤ n }
-    requires below { IsTrue (is_node_below n (node_view old.now)) }
     requires ordered { IsOrdered (keyed_view new.now) }
     ensures { IfOk result (λ c. change_view c
         ≡ planned n (pairs_of parent.now) (node_view old.now) (keyed_view new.now)) }
@@ -88,18 +84,24 @@ fn planned_node(
         (ANode::Inner { stamp, kids, .. }, Keyed::Inner { kids: more, .. }) => {
             let steps = planned_kids(alloc, n, effective(stamp, parent), kids, more)?;
             let space = Space::new(alloc, steps.len())?;
-            let set = grown_stamp(n, stamp)?;
-            Ok(Change::Kids { set, steps, space })
+            Ok(Change::Kids {
+                mark: Mark::Grow,
+                steps,
+                space,
+            })
         }
         (ANode::Leaf { stamp, alts, .. }, Keyed::Leaf { body, .. }) => {
             let steps = planned_alts(alloc, n, effective(stamp, parent), alts, body)?;
             let space = Space::new(alloc, steps.len())?;
-            let set = grown_stamp(n, stamp)?;
-            Ok(Change::Alts { set, steps, space })
+            Ok(Change::Alts {
+                mark: Mark::Grow,
+                steps,
+                space,
+            })
         }
         // Between alike versions this does not come.
-        (ANode::Inner { .. }, Keyed::Leaf { .. }) => Ok(Change::Keep(None)),
-        (ANode::Leaf { .. }, Keyed::Inner { .. }) => Ok(Change::Keep(None)),
+        (ANode::Inner { .. }, Keyed::Leaf { .. }) => Ok(Change::Keep(Mark::Stay)),
+        (ANode::Leaf { .. }, Keyed::Inner { .. }) => Ok(Change::Keep(Mark::Stay)),
     }
 }
 
@@ -114,7 +116,6 @@ fn planned_kids(
     new: &[Keyed],
 ) -> Result<Vec<Step>, AllocError>
     requires from { 1 ≤ n }
-    requires below { IsTrue (are_nodes_below n (nodes_view old.now)) }
     requires ascending { IsTrue (ascend (kids_from (map keyed_view new.now))) }
     requires ordered { IsTrue (are_ordered (kids_from (map keyed_view new.now))) }
     ensures { IfOk result (λ v. map step_view v.items
@@ -158,7 +159,7 @@ fn planned_kids(
 fn gone_step(parent: &VersionSet, node: &ANode) -> Result<Step, AllocError>
     ensures { IfOk result (λ s. step_view s ≡ gone_step (pairs_of parent.now) (node_view node.now)) }
 {
-    Ok(Step::Old(Change::Keep(kept_change(parent, node.stamp())?)))
+    Ok(Step::Old(Change::Keep(kept_mark(parent, node.stamp())?)))
 }
 
 // A node that begins with version n, under a parent that had the set before.

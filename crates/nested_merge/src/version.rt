@@ -8,12 +8,16 @@ ghost use Rattle.keyed_tree.specs.WellFormed.{IsKeyedWellFormed};
 ghost use Rattle.keyed_tree.specs.View.{keyed_view};
 ghost use Rattle.archive_tree.specs.ArchiveView.{archive_view};
 ghost use Rattle.archive_tree.specs.Stands.{ArchiveOf};
+ghost use Rattle.archive_tree.specs.View.{nodes_view};
 ghost use Rattle.nested_merge.specs.Alike.{AlikeAll};
+ghost use Rattle.nested_merge.specs.Below.{are_nodes_below};
 ghost use Rattle.nested_merge.specs.Laws.{AreVersions, HasOneArchive, version_at};
+ghost use Rattle.nested_merge.specs.Merged.{upto, merged_row};
 
 use crate::apply::applied_kids;
 use crate::planning::plan_of;
-use archive_tree::Archive;
+use crate::prepare::prepare_kids;
+use archive_tree::{ANode, Archive};
 use keyed_tree::Keyed;
 use std::alloc::{AllocError, Global};
 
@@ -38,12 +42,34 @@ pub fn merge(alloc: Global, old: Archive, new: &Keyed) -> Result<Archive, (Alloc
     ensures newest { IfOk result (λ a. version_at ((archive_view old).n + 1) (archive_view a) ≡ Some (keyed_view new.now)) }
     ensures refused { IfErr result (λ e. archive_view e.1 ≡ archive_view old) }
 {
-    match plan_of(alloc, old.n(), old.kids(), new) {
-        Ok(plan) => {
-            let (n, kids) = old.into_parts();
-            Ok(Archive::new(n + 1, applied_kids(plan.steps, plan.space, kids)))
-        }
-        Err(error) => Err((error, old)),
+    let (n, kids) = old.into_parts();
+    match grown_kids(alloc, n, kids, new) {
+        Ok(kids) => Ok(Archive::new(n + 1, kids)),
+        Err((error, kids)) => Err((error, Archive::new(n, kids))),
+    }
+}
+
+// The kids of the virtual root, for n versions, with those of one more.
+fn grown_kids(
+    alloc: Global,
+    n: u32,
+    old: Vec<ANode>,
+    new: &Keyed,
+) -> Result<Vec<ANode>, (AllocError, Vec<ANode>)>
+    requires room { n < 4294967295 }
+    requires below { IsTrue (are_nodes_below (n + 1) (nodes_view old.items)) }
+    requires ordered { IsOrdered (keyed_view new.now) }
+    ensures grown { IfOk result (λ v. nodes_view v.items ≡ merged_row (n + 1) (upto n) (nodes_view old.items) (keyed_view new.now ∷ [])) }
+    ensures refused { IfErr result (λ e. nodes_view e.1.items ≡ nodes_view old.items) }
+{
+    let plan = match plan_of(alloc, n, &old, new) {
+        Ok(plan) => plan,
+        Err(error) => return Err((error, old)),
+    };
+    let mut kids = old;
+    match prepare_kids(n + 1, &plan.steps, &mut kids) {
+        Ok(()) => Ok(applied_kids(n + 1, plan.steps, plan.space, kids)),
+        Err(error) => Err((error, kids)),
     }
 }
 

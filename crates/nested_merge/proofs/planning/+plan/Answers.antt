@@ -9,12 +9,12 @@ use Rattle.keyed_tree.proofs.Kids.{kids_list-kids_from}
 use Rattle.keyed_tree.proofs.Views.{keyed_view-Inner, keyed_view-Leaf}
 use Rattle.archive_tree.specs.Data.{inner_node, leaf_node, node_label}
 use Rattle.archive_tree.specs.View.{stamp_view, alt_view, node_view, nodes_view}
-use Rattle.nested_merge.specs.Merged.{grown}
 use Rattle.nested_merge.specs.Plan.{steps_list, old_step, gone_step, planned_alts, planned, planned_row}
 use Rattle.nested_merge.specs.PlanView.{alt_step_view, step_view}
+use Rattle.nested_merge.specs.declared.plan.Mark.TheVariants.{Grow}
 use Rattle.nested_merge.proofs.Plans as steps
 use Rattle.nested_merge.proofs.Plans.{step_view-Old, planned_kids}
-use Rattle.nested_merge.proofs.Rows.{node_view-Inner, node_view-Leaf, step_equal, step_greater, drop_at, below_tail, ascend_tail, ordered_tail, pushed, one_done}
+use Rattle.nested_merge.proofs.Rows.{node_view-Inner, node_view-Leaf, step_equal, step_greater, drop_at, ascend_tail, ordered_tail, pushed, one_done}
 use Rattle.nested_merge.proofs.planning.+plan.Goals as goal
 
 pub planned_kids-loop-steps-preserved-in-Equal : goal.planned_kids-loop-steps-preserved-in-Equal
@@ -28,7 +28,6 @@ planned_kids-loop-steps-preserved-in-Equal t c =
     let order : label_cmp (label_of d) (node_label k) ≡ Equal = sym (c.in-Equal.ensures ∙ (λ i. label_cmp (c.label.ensures i) (c.label-in-Some-Some.ensures i))) in
     let up = rw new.1 at l.invariant.ascending in
     let tidy = rw new.1 at l.invariant.ordered in
-    let less = below_tail c.args.n k (map node_view (drop (l.i + 1) c.args.old.now)) (rw old.1 at l.invariant.below) in
     let whole = rw (old.1, new.1) at l.invariant.decides in
     let ks = map node_view (drop (l.i + 1) c.args.old.now) in
     let ds = map keyed_view (drop (l.j + 1) c.args.new.now) in
@@ -37,7 +36,6 @@ planned_kids-loop-steps-preserved-in-Equal t c =
     record {
       old_in = (let h = old.0 in omega arith);
       new_in = (let h = new.0 in omega arith);
-      below = less.1;
       ascending = ascend_tail d ds up;
       ordered = ordered_tail d ds tidy;
       decides = one_done _ _ _ _ _ _ whole more step;
@@ -53,7 +51,6 @@ planned_kids-loop-steps-preserved t c =
     let new = drop_at c.args.new.now l.j at.kid.now at.ensures'.lookup.3.0 at.ensures'.lookup.1 in
     let order : label_cmp (label_of d) (node_label k) ≡ Greater = sym (c.in-Greater.ensures ∙ (λ i. label_cmp (c.label.ensures i) (c.label-in-Some-Some.ensures i))) in
     let up = rw new.1 at l.invariant.ascending in
-    let less = below_tail c.args.n k (map node_view (drop (l.i + 1) c.args.old.now)) (rw old.1 at l.invariant.below) in
     let whole = rw (old.1, new.1) at l.invariant.decides in
     let ks = map node_view (drop (l.i + 1) c.args.old.now) in
     let ds = map keyed_view (drop (l.j + 1) c.args.new.now) in
@@ -62,14 +59,13 @@ planned_kids-loop-steps-preserved t c =
     record {
       old_in = (let h = old.0 in omega arith);
       new_in = l.invariant.new_in;
-      below = less.1;
       ascending = l.invariant.ascending;
       ordered = l.invariant.ordered;
       decides = rw new.1 (one_done _ _ _ _ _ _ whole more step);
     }
 
-pub planned_node-returns-in_ok-set-in-Inner-Inner : goal.planned_node-returns-in_ok-set-in-Inner-Inner
-planned_node-returns-in_ok-set-in-Inner-Inner t c =
+pub planned_node-returns-in_ok-space-in-Inner-Inner : goal.planned_node-returns-in_ok-space-in-Inner-Inner
+planned_node-returns-in_ok-space-in-Inner-Inner t c =
     let i = c.in-Inner-Inner in
     let v = c.in_ok-steps-in-Inner-Inner.steps in
     let n = c.args.n in
@@ -80,11 +76,11 @@ planned_node-returns-in_ok-set-in-Inner-Inner t c =
     let new : keyed_view c.args.new.now ≡ inner (label_view i.label-1) (kids_from cs) = ap keyed_view i.is-1 ∙ keyed_view-Inner i.label-1 i.more in
     let row : map step_view v.items ≡ steps_list (planned_row n q ks (kids_list (kids_from cs))) =
     c.in_ok-steps-in-Inner-Inner.ensures ∙ (λ j. steps_list (planned_row n (c.effective.ensures.pairs j) (nodes_view (c.deref.ensures.value j)) (map keyed_view (c.deref-in-Inner-Inner.ensures.value j)))) ∙ sym (ap (λ z. steps_list (planned_row n q ks z)) (kids_list-kids_from cs)) in
-    planned_kids v c.in_ok-space-in-Inner-Inner.space c.in_ok-set-in-Inner-Inner.set (grown n (stamp_view i.stamp)) (planned_row n q ks (kids_list (kids_from cs))) row c.in_ok-set-in-Inner-Inner.ensures (c.in_ok-space-in-Inner-Inner.ensures ∙ c.len.ensures)
+    planned_kids v c.in_ok-space-in-Inner-Inner.space Grow (planned_row n q ks (kids_list (kids_from cs))) row (c.in_ok-space-in-Inner-Inner.ensures ∙ c.len.ensures)
     ∙ sym (λ j. planned n (pairs_of c.args.parent.now) (old j) (new j))
 
-pub planned_node-returns-in_ok-set-in-Leaf-Leaf : goal.planned_node-returns-in_ok-set-in-Leaf-Leaf
-planned_node-returns-in_ok-set-in-Leaf-Leaf t c =
+pub planned_node-returns-in_ok-space-in-Leaf-Leaf : goal.planned_node-returns-in_ok-space-in-Leaf-Leaf
+planned_node-returns-in_ok-space-in-Leaf-Leaf t c =
     let i = c.in-Leaf-Leaf in
     let v = c.in_ok-steps-in-Leaf-Leaf.steps in
     let n = c.args.n in
@@ -94,5 +90,5 @@ planned_node-returns-in_ok-set-in-Leaf-Leaf t c =
     let new : keyed_view c.args.new.now ≡ leaf (label_view i.label-1) (key_view i.body) = ap keyed_view i.is-1 ∙ keyed_view-Leaf i.label-1 i.body in
     let row : map alt_step_view v.items ≡ planned_alts n q (key_view i.body) xs =
     c.in_ok-steps-in-Leaf-Leaf.ensures ∙ (λ j. planned_alts n (c.effective-in-Leaf-Leaf.ensures.pairs j) (key_view i.body) (map alt_view (c.deref-in-Leaf-Leaf.ensures.value j))) in
-    steps.planned_alts v c.in_ok-space-in-Leaf-Leaf.space c.in_ok-set-in-Leaf-Leaf.set (grown n (stamp_view i.stamp)) (planned_alts n q (key_view i.body) xs) row c.in_ok-set-in-Leaf-Leaf.ensures (c.in_ok-space-in-Leaf-Leaf.ensures ∙ c.len-in-Leaf-Leaf.ensures)
+    steps.planned_alts v c.in_ok-space-in-Leaf-Leaf.space Grow (planned_alts n q (key_view i.body) xs) row (c.in_ok-space-in-Leaf-Leaf.ensures ∙ c.len-in-Leaf-Leaf.ensures)
     ∙ sym (λ j. planned n (pairs_of c.args.parent.now) (old j) (new j))

@@ -3,7 +3,6 @@ use Rattle.version_set.specs.View.{pairs_of}
 use Rattle.keyed_tree.specs.Data.{kids_from}
 use Rattle.keyed_tree.specs.Kids.{ascend, are_ordered}
 use Rattle.keyed_tree.specs.View.{keyed_view}
-use Rattle.nested_merge.specs.Below.{are_nodes_below}
 use Rattle.nested_merge.specs.Plan.{steps_list, planned_row}
 use Rattle.nested_merge.specs.PlanView.{step_view}
 use Rattle.archive_tree.specs.View.{nodes_view}
@@ -16,7 +15,6 @@ invariant-planned_kids-loop-steps l =
     record {
       old_in : l.i ≤ length l.old;
       new_in : l.j ≤ length l.new;
-      below : IsTrue (are_nodes_below l.n (nodes_view (drop l.i l.old)));
       ascending : IsTrue (ascend (kids_from left));
       ordered : IsTrue (are_ordered (kids_from left));
       decides : steps_list (planned_row l.n (pairs_of l.set) (nodes_view l.old) (map keyed_view l.new))

@@ -1,7 +1,6 @@
-use Rattle.std.proofs.Common.{◌≡◌, IsTrue, map, take, drop}
+use Rattle.std.proofs.Common.{◌≡◌, map, take}
 use Rattle.version_set.specs.View.{pairs_of}
 use Rattle.keyed_tree.specs.View.{key_view}
-use Rattle.nested_merge.specs.Below.{are_alts_below}
 use Rattle.nested_merge.specs.Merged.{has_alt}
 use Rattle.nested_merge.specs.Plan.{planned_alt}
 use Rattle.nested_merge.specs.PlanView.{alt_step_view}
@@ -12,7 +11,6 @@ abbrev pub invariant-loop-alt : goal.invariant-loop-alt
 invariant-loop-alt l =
     let before = map alt_view (take l.alt-index l.alts) in
     record {
-      done : map alt_step_view l.steps.items ≡ map (planned_alt l.n (pairs_of l.set) (key_view l.body)) before;
-      below : IsTrue (are_alts_below l.n (map alt_view (drop l.alt-index l.alts)));
+      done : map alt_step_view l.steps.items ≡ map (planned_alt (pairs_of l.set) (key_view l.body)) before;
       known : l.found ≡ has_alt (key_view l.body) before;
     }

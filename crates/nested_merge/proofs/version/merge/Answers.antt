@@ -1,56 +1,50 @@
-use Rattle.std.proofs.Common.{◌≡◌, ◌+◌, ◌++◌, [], ◌∷◌, map, sym, ap, subst, ◌∙◌}
+use Rattle.std.proofs.Common.{◌≡◌, ◌+◌, ◌++◌, [], ◌∷◌, sym, ap, subst, ◌∙◌}
 use Rattle.keyed_tree.specs.View.{keyed_view}
 use Rattle.archive_tree.specs.ArchiveView.{archive_view}
 use Rattle.archive_tree.specs.Data.{PlainArchive}
 use Rattle.archive_tree.specs.Stands.{ArchiveOf, Kept}
-use Rattle.archive_tree.specs.View.{node_view, nodes_view}
+use Rattle.archive_tree.specs.View.{nodes_view}
 use Rattle.archive_tree.specs.WellFormed.{AreNodesWellFormed}
 use Rattle.nested_merge.specs.Laws.{version_at}
-use Rattle.nested_merge.specs.PlanView.{step_view}
 use Rattle.nested_merge.proofs.ArchiveGrows.{archive_grows}
-use Rattle.nested_merge.proofs.Kepts.{kept_below, kept_grows, kept_stays, kept_added}
-use Rattle.nested_merge.proofs.PlannedVersion.{plan_roomy, plan_made}
+use Rattle.nested_merge.proofs.Kepts.{kept_below, made_version, kept_grows, kept_stays, kept_added}
 use Rattle.nested_merge.proofs.WellFormedGrows.{version_well}
 use Rattle.nested_merge.proofs.version.merge.Goals as goal
 
-pub plan_of-requires-clause-below : goal.plan_of-requires-clause-below
-plan_of-requires-clause-below c = rw (c.n.ensures, c.kids.ensures.nodes) (kept_below (archive_view c.args.old) c.args.old.stands)
-
-pub applied_kids-requires-clause-roomy : goal.applied_kids-requires-clause-roomy
-applied_kids-requires-clause-roomy c =
-    plan_roomy c.n.result (nodes_view c.kids.result.now) (keyed_view c.args.new.now) (map step_view c.in-Ok.plan.steps.items) c.in-Ok.ensures.steps
+pub grown_kids-requires-clause-below : goal.grown_kids-requires-clause-below
+grown_kids-requires-clause-below c = kept_below (record { n = c.into_parts-n.result.0; kids = nodes_view c.into_parts-n.result.1.items }) c.into_parts-n.ensures.stands
 
 pub new-requires-clause-stands : goal.new-requires-clause-stands
 new-requires-clause-stands c =
     let a = archive_view c.args.old in
     let k = keyed_view c.args.new.now in
-    let made = plan_made c.n.result (nodes_view c.kids.result.now) k (map step_view c.in-Ok.plan.steps.items) c.in-Ok.ensures.steps a c.into_parts-n.result.0 (nodes_view c.into_parts-n.result.1.items) (map node_view c.applied_kids.result.items) c.n.ensures c.kids.ensures.nodes c.into_parts-n.ensures.parts c.applied_kids.ensures in
+    let made = made_version a k _ _ _ c.into_parts-n.ensures.parts c.in-Ok.ensures.grown in
     subst (λ (z : PlainArchive). ∥ Kept z ∥₁) (sym made) (kept_grows a k c.args.old.stands c.requires.alike c.requires.ordered c.requires.element)
 
 pub new-requires-clause-well_formed : goal.new-requires-clause-well_formed
 new-requires-clause-well_formed c =
     let a = archive_view c.args.old in
     let k = keyed_view c.args.new.now in
-    let made = plan_made c.n.result (nodes_view c.kids.result.now) k (map step_view c.in-Ok.plan.steps.items) c.in-Ok.ensures.steps a c.into_parts-n.result.0 (nodes_view c.into_parts-n.result.1.items) (map node_view c.applied_kids.result.items) c.n.ensures c.kids.ensures.nodes c.into_parts-n.ensures.parts c.applied_kids.ensures in
+    let made = made_version a k _ _ _ c.into_parts-n.ensures.parts c.in-Ok.ensures.grown in
     subst (λ (z : PlainArchive). AreNodesWellFormed z.kids) (sym made) (version_well a k c.args.old.well_formed c.requires.well_formed)
 
 pub returns-in-Ok-clause-archive : goal.returns-in-Ok-clause-archive
 returns-in-Ok-clause-archive c = λ vs h.
     let a = archive_view c.args.old in
     let k = keyed_view c.args.new.now in
-    let made = plan_made c.n.result (nodes_view c.kids.result.now) k (map step_view c.in-Ok.plan.steps.items) c.in-Ok.ensures.steps a c.into_parts-n.result.0 (nodes_view c.into_parts-n.result.1.items) (map node_view c.applied_kids.result.items) c.n.ensures c.kids.ensures.nodes c.into_parts-n.ensures.parts c.applied_kids.ensures in
-    subst (λ (z : PlainArchive). ArchiveOf (vs ++ k ∷ []) z) (sym (c.new.ensures.parts ∙ made)) (archive_grows vs a k h (c.requires.alike vs h) c.requires.ordered c.requires.element)
+    let made = c.new.ensures.parts ∙ made_version a k _ _ _ c.into_parts-n.ensures.parts c.in-Ok.ensures.grown in
+    subst (λ (z : PlainArchive). ArchiveOf (vs ++ k ∷ []) z) (sym made) (archive_grows vs a k h (c.requires.alike vs h) c.requires.ordered c.requires.element)
 
 pub returns-in-Ok-clause-earlier : goal.returns-in-Ok-clause-earlier
 returns-in-Ok-clause-earlier c = λ i from to.
     let a = archive_view c.args.old in
     let k = keyed_view c.args.new.now in
-    let made = plan_made c.n.result (nodes_view c.kids.result.now) k (map step_view c.in-Ok.plan.steps.items) c.in-Ok.ensures.steps a c.into_parts-n.result.0 (nodes_view c.into_parts-n.result.1.items) (map node_view c.applied_kids.result.items) c.n.ensures c.kids.ensures.nodes c.into_parts-n.ensures.parts c.applied_kids.ensures in
-    subst (λ (z : PlainArchive). version_at i z ≡ version_at i a) (sym (c.new.ensures.parts ∙ made)) (kept_stays a k c.args.old.stands c.requires.alike c.requires.ordered c.requires.element i from to)
+    let made = c.new.ensures.parts ∙ made_version a k _ _ _ c.into_parts-n.ensures.parts c.in-Ok.ensures.grown in
+    subst (λ (z : PlainArchive). version_at i z ≡ version_at i a) (sym made) (kept_stays a k c.args.old.stands c.requires.alike c.requires.ordered c.requires.element i from to)
 
 pub returns-in-Ok-clause-newest : goal.returns-in-Ok-clause-newest
 returns-in-Ok-clause-newest c =
     let a = archive_view c.args.old in
     let k = keyed_view c.args.new.now in
-    let made = plan_made c.n.result (nodes_view c.kids.result.now) k (map step_view c.in-Ok.plan.steps.items) c.in-Ok.ensures.steps a c.into_parts-n.result.0 (nodes_view c.into_parts-n.result.1.items) (map node_view c.applied_kids.result.items) c.n.ensures c.kids.ensures.nodes c.into_parts-n.ensures.parts c.applied_kids.ensures in
-    ap (version_at (a.n + 1)) (c.new.ensures.parts ∙ made) ∙ kept_added a k c.args.old.stands c.requires.alike c.requires.ordered c.requires.element
+    let made = c.new.ensures.parts ∙ made_version a k _ _ _ c.into_parts-n.ensures.parts c.in-Ok.ensures.grown in
+    ap (version_at (a.n + 1)) made ∙ kept_added a k c.args.old.stands c.requires.alike c.requires.ordered c.requires.element
