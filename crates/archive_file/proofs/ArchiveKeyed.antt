@@ -91,15 +91,15 @@ item-of m n t [] h = absurd h
 item-of m n t (v ∷ vs) h = elim h [ inl e ↦ inl (ap (λ (z : ℕ × PlainKeyed). z.1) e) | inr k ↦ inr (item-of (m + 1) n t vs k) ]
 
 -- the node and the number that a version is read of
-record ReadOf (a : PlainArchive) (v : PlainKeyed) : Type 0 where
-  root : PlainNode
-  among : Has root (nodes_list a.kids)
-  number : ℕ
-  is_in : Has number (eff (node_stamp root) (all_numbers a))
-  gives : read number (all_numbers a) root ≡ v
+pub record ReadOf (a : PlainArchive) (v : PlainKeyed) : Type 0 where
+  pub root : PlainNode
+  pub among : Has root (nodes_list a.kids)
+  pub number : ℕ
+  pub is_in : Has number (eff (node_stamp root) (all_numbers a))
+  pub gives : read number (all_numbers a) root ≡ v
 
 module _ (vs : List PlainKeyed) (a : PlainArchive) (h : ArchiveOf vs a) where
-  read-of : (v : PlainKeyed) → Has v vs → ReadOf a v
+  pub read-of : (v : PlainKeyed) → Has v vs → ReadOf a v
   read-of v m =
       let p = place 1 v vs m in
       let l = label_of v in

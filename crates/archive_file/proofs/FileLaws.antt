@@ -1,5 +1,5 @@
 -- Which archives have a file, as far as the records of their nodes go.
-use Rattle.std.proofs.Common.{◌≡◌, ◌≢◌, ℕ, zero, suc, ◌+◌, ◌^◌, ◌<◌, ◌≤◌, Bool, true, false, cond, eqb, ◌&&◌, IsTrue, List, [], ◌∷◌, ◌++◌, map, length, Option, Some, None, Ok, refl, sym, ap, subst, ◌∙◌, arith}
+use Rattle.std.proofs.Common.{◌≡◌, ℕ, zero, suc, ◌+◌, ◌^◌, ◌<◌, ◌≤◌, false, cond, eqb, ◌&&◌, IsTrue, List, [], ◌∷◌, ◌++◌, map, length, Some, None, Ok, refl, sym, ap, subst, ◌∙◌, arith}
 use Rattle.std.specs.List.{flat_map, AllByRecursion}
 use Rattle.std.proofs.lemmas.List.{length-append, append-nil}
 use Rattle.std.proofs.lemmas.Bool.Decides.{nat_tests}
@@ -7,20 +7,21 @@ use Rattle.std.proofs.lemmas.Grind.{flat_map-append}
 use Rattle.key_spec.specs.Data.{PlainRule}
 use Rattle.key_spec.specs.Canonical.{canonical}
 use Rattle.key_spec.specs.Closed.{closed}
-use Rattle.keyed_tree.specs.Data.{PlainLabel}
 use Rattle.keyed_tree.proofs.Kids.{both}
 use Rattle.archive_tree.specs.Data.{Stamp, PlainAlt, PlainNode, inner_node, leaf_node, PlainNodes, no_nodes, node, nodes_list, PlainArchive}
 use Rattle.version_set.specs.Members.{upto_pairs}
-use Rattle.record_format.specs.Data.{PlainEntry, PlainRec, inner_rec, leaf_rec, alt_rec, end_rec, leaf_end}
-use Rattle.record_format.specs.Spelling.{dir_bytes, body_bytes, rec_bytes}
-use Rattle.record_format.specs.Bounds.{IsValue, IsLabel, most, IsSet, IsStamp, IsEntry, IsDir, IsBody, IsRec}
+use Rattle.record_format.specs.Data.{PlainEntry, PlainRec, inner_rec, leaf_rec, end_rec, leaf_end}
+use Rattle.record_format.specs.Spelling.{body_bytes, rec_bytes}
+use Rattle.record_format.specs.Bounds.{most, IsSet, IsStamp, IsEntry, IsDir, IsRec}
 use Rattle.record_format.specs.Nodes.{Piece, piece_bytes, entries_from, dir_of, closed_by_end, alt_of, set_in, node_piece, node_pieces}
 use Rattle.record_format.specs.Files.{root_pieces, file_records, tail_bytes, header_bytes, file_bytes, longest, HasFile}
 use Rattle.archive_tree.specs.View.{node_view, nodes_view}
 use Rattle.archive_tree.specs.declared.node.ANode.{ANode}
-use Rattle.archive_file.specs.Goes.{fits_four, label_goes, stamp_goes, value_goes, alts_go, node_goes, nodes_go, row_goes, HasBody, HasParts, HaveParts}
+use Rattle.record_format.specs.Checks.{value_fits, label_fits}
+use Rattle.record_format.proofs.Encodable.{label_there, label_back, value_there, value_back}
+use Rattle.archive_file.specs.Goes.{fits_four, stamp_goes, alts_go, node_goes, nodes_go, row_goes, HasBody, HasParts, HaveParts}
 use Rattle.archive_file.proofs.FrontLaws.{canonical-short}
-use Rattle.archive_file.proofs.GoesLaws.{both-hold, lt-of, of-lt, label-goes, value-goes, stamp-goes, goes-label, goes-value, goes-stamp}
+use Rattle.archive_file.proofs.GoesLaws.{both-hold, lt-of, of-lt, stamp-goes, goes-stamp}
 
 -- ---- lists
 
@@ -126,27 +127,27 @@ set-in (Some s) parent h g = h.0
 alts-fit : (xs : List PlainAlt) → IsTrue (alts_go xs) → length (flat_map rec_bytes (map alt_of xs ++ leaf_end ∷ [])) < 2 ^ 64 → AllByRecursion IsRec (map alt_of xs ++ leaf_end ∷ [])
 alts-fit [] h g = (record { body = tt; short = omega arith }, tt)
 alts-fit (x ∷ xs) h g =
-    let one = both (stamp_goes x.stamp) (value_goes x.body && alts_go xs) h in
-    let two = both (value_goes x.body) (alts_go xs) one.1 in
+    let one = both (stamp_goes x.stamp) (value_fits x.body && alts_go xs) h in
+    let two = both (value_fits x.body) (alts_go xs) one.1 in
     let whole = length-append (rec_bytes (alt_of x)) (flat_map rec_bytes (map alt_of xs ++ leaf_end ∷ [])) in
     let first = rec-length (alt_of x) in
-    (record { body = (stamp-goes x.stamp one.0, value-goes x.body two.0); short = omega arith }, alts-fit xs two.1 (omega arith))
+    (record { body = (stamp-goes x.stamp one.0, value_there x.body two.0); short = omega arith }, alts-fit xs two.1 (omega arith))
 
 mutual
   node-fine : (parent : List (ℕ × ℕ)) (k : PlainNode) → IsSet parent → IsTrue (node_goes k) → length (piece_bytes (node_piece parent k)) < 2 ^ 64 → Fine (node_piece parent k)
   node-fine parent (leaf_node l s xs) set h g =
-      let one = both (label_goes l) (stamp_goes s && alts_go xs) h in
+      let one = both (label_fits l) (stamp_goes s && alts_go xs) h in
       let two = both (stamp_goes s) (alts_go xs) one.1 in
       let stamp = stamp-goes s two.0 in
       let whole = length-append (rec_bytes (leaf_rec l s)) (flat_map rec_bytes (map alt_of xs ++ leaf_end ∷ [])) in
       let first = rec-length (leaf_rec l s) in
       record {
-        recs = (record { body = (label-goes l one.0, stamp); short = omega arith }, alts-fit xs two.1 (omega arith));
+        recs = (record { body = (label_there l one.0, stamp); short = omega arith }, alts-fit xs two.1 (omega arith));
         dir = omega arith;
         set = set-in s parent stamp set;
       }
   node-fine parent (inner_node l s ks) set h g =
-      let one = both (label_goes l) (stamp_goes s && (fits_four (length (nodes_list ks)) && nodes_go ks)) h in
+      let one = both (label_fits l) (stamp_goes s && (fits_four (length (nodes_list ks)) && nodes_go ks)) h in
       let two = both (stamp_goes s) (fits_four (length (nodes_list ks)) && nodes_go ks) one.1 in
       let three = both (fits_four (length (nodes_list ks))) (nodes_go ks) two.1 in
       let stamp = stamp-goes s two.0 in
@@ -161,7 +162,7 @@ mutual
       let few = lt-of (length (nodes_list ks)) (2 ^ 32) three.0 in
       let fine = nodes-fine (set_in s parent) ks own three.1 (omega arith) in
       record {
-        recs = (record { body = (label-goes l one.0, stamp); short = omega arith }, closed-fits ps fine (omega arith) (omega arith));
+        recs = (record { body = (label_there l one.0, stamp); short = omega arith }, closed-fits ps fine (omega arith) (omega arith));
         dir = omega arith;
         set = own;
       }
@@ -178,10 +179,10 @@ mutual
 alts-from : (xs : List PlainAlt) → AllByRecursion IsRec (map alt_of xs ++ leaf_end ∷ []) → IsTrue (alts_go xs)
 alts-from [] h = refl
 alts-from (x ∷ xs) h =
-    both-hold (stamp_goes x.stamp) (value_goes x.body && alts_go xs) (goes-stamp x.stamp h.0.body.0)
-    (both-hold (value_goes x.body) (alts_go xs) (goes-value x.body h.0.body.1) (alts-from xs h.1))
+    both-hold (stamp_goes x.stamp) (value_fits x.body && alts_go xs) (goes-stamp x.stamp h.0.body.0)
+    (both-hold (value_fits x.body) (alts_go xs) (value_back x.body h.0.body.1) (alts-from xs h.1))
 
-few-from : (set : List (ℕ × ℕ)) (ks : PlainNodes) → AllByRecursion IsRec (closed_by_end (node_pieces set ks)) → IsTrue (fits_four (length (nodes_list ks)))
+pub few-from : (set : List (ℕ × ℕ)) (ks : PlainNodes) → AllByRecursion IsRec (closed_by_end (node_pieces set ks)) → IsTrue (fits_four (length (nodes_list ks)))
 few-from set ks h =
     let ps = node_pieces set ks in
     let last = (all-back IsRec (records_of ps) (end_rec (dir_of ps) ∷ []) h).0 in
@@ -194,12 +195,12 @@ few-from set ks h =
 mutual
   node-from : (parent : List (ℕ × ℕ)) (k : PlainNode) → AllByRecursion IsRec ((node_piece parent k).records) → IsTrue (node_goes k)
   node-from parent (leaf_node l s xs) h =
-      both-hold (label_goes l) (stamp_goes s && alts_go xs) (goes-label l h.0.body.0)
+      both-hold (label_fits l) (stamp_goes s && alts_go xs) (label_back l h.0.body.0)
       (both-hold (stamp_goes s) (alts_go xs) (goes-stamp s h.0.body.1) (alts-from xs h.1))
   node-from parent (inner_node l s ks) h =
       let ps = node_pieces (set_in s parent) ks in
       let kids = all-front IsRec (records_of ps) (end_rec (dir_of ps) ∷ []) h.1 in
-      both-hold (label_goes l) (stamp_goes s && (fits_four (length (nodes_list ks)) && nodes_go ks)) (goes-label l h.0.body.0)
+      both-hold (label_fits l) (stamp_goes s && (fits_four (length (nodes_list ks)) && nodes_go ks)) (label_back l h.0.body.0)
       (both-hold (stamp_goes s) (fits_four (length (nodes_list ks)) && nodes_go ks) (goes-stamp s h.0.body.1)
       (both-hold (fits_four (length (nodes_list ks))) (nodes_go ks) (few-from (set_in s parent) ks h.1) (nodes-from (set_in s parent) ks kids)))
 
@@ -251,21 +252,21 @@ pieces-map set (x ∷ xs) = ap (λ (ps : List Piece). node_piece set (node_view 
 bodies-go : (xs : List PlainAlt) → IsTrue (alts_go xs) → AllByRecursion HasBody xs
 bodies-go [] h = tt
 bodies-go (x ∷ xs) h =
-    let one = both (stamp_goes x.stamp) (value_goes x.body && alts_go xs) h in
-    let two = both (value_goes x.body) (alts_go xs) one.1 in
-    (value-goes x.body two.0, bodies-go xs two.1)
+    let one = both (stamp_goes x.stamp) (value_fits x.body && alts_go xs) h in
+    let two = both (value_fits x.body) (alts_go xs) one.1 in
+    (value_there x.body two.0, bodies-go xs two.1)
 
 mutual
   parts-of : (k : PlainNode) → IsTrue (node_goes k) → HasParts k
   parts-of (inner_node l s ks) h =
-      let one = both (label_goes l) (stamp_goes s && (fits_four (length (nodes_list ks)) && nodes_go ks)) h in
+      let one = both (label_fits l) (stamp_goes s && (fits_four (length (nodes_list ks)) && nodes_go ks)) h in
       let two = both (stamp_goes s) (fits_four (length (nodes_list ks)) && nodes_go ks) one.1 in
       let three = both (fits_four (length (nodes_list ks))) (nodes_go ks) two.1 in
-      (label-goes l one.0, lt-of (length (nodes_list ks)) (2 ^ 32) three.0, parts-of-each ks three.1)
+      (label_there l one.0, lt-of (length (nodes_list ks)) (2 ^ 32) three.0, parts-of-each ks three.1)
   parts-of (leaf_node l s xs) h =
-      let one = both (label_goes l) (stamp_goes s && alts_go xs) h in
+      let one = both (label_fits l) (stamp_goes s && alts_go xs) h in
       let two = both (stamp_goes s) (alts_go xs) one.1 in
-      (label-goes l one.0, bodies-go xs two.1)
+      (label_there l one.0, bodies-go xs two.1)
 
   parts-of-each : (ks : PlainNodes) → IsTrue (nodes_go ks) → HaveParts ks
   parts-of-each no_nodes h = tt

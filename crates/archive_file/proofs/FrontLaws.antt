@@ -1,5 +1,5 @@
 -- What stands at the front of a sound archive.
-use Rattle.std.proofs.Common.{◌≡◌, ℕ, ◌+◌, ◌^◌, ◌<◌, ◌≤◌, Bool, true, false, cond, ltb, leb, ◌||◌, IsTrue, List, [], ◌∷◌, ◌++◌, length, take, drop, Option, Some, None, Result, Ok, Err, option_map, refl, sym, ap, subst, ◌∙◌, append_assoc, arith, tests}
+use Rattle.std.proofs.Common.{◌≡◌, ℕ, ◌^◌, ◌<◌, ◌≤◌, Bool, true, false, cond, ltb, leb, ◌||◌, List, ◌++◌, length, take, drop, Some, None, Result, Ok, Err, option_map, refl, sym, ap, ◌∙◌, append_assoc, arith}
 use Rattle.std.specs.Int.{w32}
 use Rattle.std.specs.Str.{bytes_eq}
 use Rattle.std.proofs.lemmas.Bool.{ltb-false, le-ltb}
@@ -12,11 +12,11 @@ use Rattle.key_spec.specs.Closed.{closed, within_limits}
 use Rattle.key_spec.proofs.ClosedLaws.{closed_within}
 use Rattle.keyed_tree.specs.Data.{PlainKeyed}
 use Rattle.xa_fields.specs.Spelling.{u32_bytes, text_bytes}
-use Rattle.xa_fields.specs.Reading.{◌>>=◌, number_at, both_at, only_at}
+use Rattle.xa_fields.specs.Reading.{number_at, both_at, only_at}
 use Rattle.xa_fields.proofs.Fields.{u32_reads}
 use Rattle.record_format.specs.Bounds.{most}
 use Rattle.record_format.specs.Spelling.{rec_bytes}
-use Rattle.record_format.specs.Files.{magic, header_bytes, file_records, tail_bytes, file_bytes}
+use Rattle.record_format.specs.Files.{header_bytes, file_records, tail_bytes}
 use Rattle.record_format.specs.Fronts.{bytes_at, front_at, fixed, spelled_by, header_at, header}
 use Rattle.std.specs.List.{flat_map}
 use Rattle.archive_tree.specs.Data.{PlainArchive}

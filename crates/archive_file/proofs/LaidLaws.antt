@@ -1,10 +1,10 @@
 -- What the records say of the nodes that lie in some bytes.
-use Rattle.std.proofs.Common.{◌≡◌, ℕ, suc, ◌+◌, ◌-◌, ◌^◌, ◌<◌, ◌≤◌, ◌⊎◌, inl, inr, Bool, true, false, ltb, ◌&&◌, IsTrue, List, [], ◌∷◌, ◌++◌, map, length, drop, Option, Some, None, Result, Ok, Err, refl, sym, ap, subst, ◌∙◌, append_assoc, arith}
+use Rattle.std.proofs.Common.{◌≡◌, ℕ, ◌-◌, ◌<◌, ◌≤◌, ◌⊎◌, inl, inr, ltb, IsTrue, List, [], ◌∷◌, ◌++◌, map, length, drop, Option, Some, None, Result, Ok, Err, refl, sym, ap, subst, ◌∙◌, append_assoc, arith}
 use Rattle.std.specs.List.{flat_map, AllByRecursion}
 use Rattle.std.proofs.lemmas.List.{append-nil, length-append, length-drop}
 use Rattle.std.specs.Result.{IsErrAnd}
 use Rattle.std.proofs.lemmas.Grind.{flat_map-append}
-use Rattle.keyed_tree.specs.Data.{PlainKey, PlainLabel}
+use Rattle.keyed_tree.specs.Data.{PlainLabel}
 use Rattle.keyed_tree.proofs.Kids.{both}
 use Rattle.archive_tree.specs.Data.{Stamp, PlainAlt, PlainNode, inner_node, leaf_node, PlainNodes, no_nodes, node, nodes_list, nodes_from}
 use Rattle.archive_tree.proofs.Parts.{nodes_from-nodes_list}
@@ -13,7 +13,7 @@ use Rattle.xa_fields.proofs.Fields.{some_is, IsBytes-drop}
 use Rattle.record_format.specs.Data.{PlainRec, inner_rec, leaf_rec, alt_rec, end_rec, leaf_end}
 use Rattle.record_format.specs.Spelling.{kind_of, body_bytes, framed, rec_bytes}
 use Rattle.record_format.specs.Bounds.{IsRec}
-use Rattle.record_format.specs.Nodes.{Piece, piece_bytes, dir_of, closed_by_end, alt_of, set_in, node_piece, node_pieces}
+use Rattle.record_format.specs.Nodes.{piece_bytes, dir_of, closed_by_end, alt_of, set_in, node_piece, node_pieces}
 use Rattle.record_format.specs.Reading.{frame_at, record_at}
 use Rattle.record_format.proofs.Records.{record_reads, frame_found, frame_only}
 use Rattle.archive_file.specs.Laid.{is_nested, are_nested, AltsAt, NodeAt, RowAt, Finds}
@@ -25,10 +25,10 @@ use Rattle.archive_file.proofs.GoesLaws.{lt-of}
 
 -- ---- the first record
 
-first-record : (r : PlainRec) (rs : List PlainRec) (rest now : List ℕ) → IsRec r → now ≡ flat_map rec_bytes (r ∷ rs) ++ rest → record_at now ≡ Some (r, flat_map rec_bytes rs ++ rest)
+pub first-record : (r : PlainRec) (rs : List PlainRec) (rest now : List ℕ) → IsRec r → now ≡ flat_map rec_bytes (r ∷ rs) ++ rest → record_at now ≡ Some (r, flat_map rec_bytes rs ++ rest)
 first-record r rs rest now h e = ap record_at (e ∙ append_assoc (rec_bytes r) (flat_map rec_bytes rs) rest) ∙ record_reads.again r (flat_map rec_bytes rs ++ rest) h
 
-first-frame : (r : PlainRec) (rs : List PlainRec) (rest now : List ℕ) → IsRec r → now ≡ flat_map rec_bytes (r ∷ rs) ++ rest → frame_at now ≡ Some ((kind_of r, body_bytes r), flat_map rec_bytes rs ++ rest)
+pub first-frame : (r : PlainRec) (rs : List PlainRec) (rest now : List ℕ) → IsRec r → now ≡ flat_map rec_bytes (r ∷ rs) ++ rest → frame_at now ≡ Some ((kind_of r, body_bytes r), flat_map rec_bytes rs ++ rest)
 first-frame r rs rest now h e = ap frame_at (e ∙ append_assoc (rec_bytes r) (flat_map rec_bytes rs) rest) ∙ frame_only (kind_of r) (body_bytes r) (flat_map rec_bytes rs ++ rest) h.short
 
 same-read : {A : Type 0} (o : Option A) (x y : A) → o ≡ Some x → o ≡ Some y → x ≡ y
@@ -213,20 +213,46 @@ first-bytes parent k rs rest =
     let p = (node_piece parent k).records in
     ap (λ (z : List ℕ). z ++ rest) (flat_map-append rec_bytes p rs) ∙ append_assoc (flat_map rec_bytes p) (flat_map rec_bytes rs) rest
 
-row-first : (set : List (ℕ × ℕ)) (end : PlainRec) (ks : PlainNodes) (rest : List ℕ) (depth : ℕ) (now : List ℕ) → kind_of end ≡ 4 → NodesAt set end ks rest depth now → (f : (ℕ × List ℕ) × List ℕ) × (frame_at now ≡ Some f)
-row-first set end no_nodes rest depth now is h = (_, first-frame end [] rest now h.records.0 h.bytes)
-row-first set end (node k ks) rest depth now is h =
+-- a node that lies first, with the others behind it
+pub record NodeThen (set : List (ℕ × ℕ)) (end : PlainRec) (k : PlainNode) (ks : PlainNodes) (rest : List ℕ) (depth : ℕ) (now : List ℕ) : Type 0 where
+  pub kind : ℕ
+  pub body : List ℕ
+  pub after : List ℕ
+  pub is : frame_at now ≡ Some ((kind, body), after)
+  pub opens : ¬ (kind ≡ 4)
+  pub behind : List ℕ
+  pub lies : NodeAt set k behind depth now
+  pub others : NodesAt set end ks rest depth behind
+
+pub then-node : (set : List (ℕ × ℕ)) (end : PlainRec) (k : PlainNode) (ks : PlainNodes) (rest : List ℕ) (depth : ℕ) (now : List ℕ) → NodesAt set end (node k ks) rest depth now → NodeThen set end k ks rest depth now
+then-node set end k ks rest depth now h =
     let p = (node_piece set k).records in
     let more = records_of (node_pieces set ks) ++ end ∷ [] in
-    let all : AllByRecursion IsRec (p ++ more) = subst (AllByRecursion IsRec) (append_assoc p (records_of (node_pieces set ks)) (end ∷ [])) h.records in
+    let joined : records_of (node_pieces set (node k ks)) ++ end ∷ [] ≡ p ++ more = append_assoc p (records_of (node_pieces set ks)) (end ∷ []) in
+    let all : AllByRecursion IsRec (p ++ more) = subst (AllByRecursion IsRec) joined h.records in
     let opened = piece-opens set k in
-    let first : AllByRecursion IsRec (opening k ∷ behind set k) = subst (AllByRecursion IsRec) opened (all-front IsRec p more all) in
-    let bytes : now ≡ flat_map rec_bytes (opening k ∷ (behind set k ++ more)) ++ rest =
-    h.bytes ∙ ap (λ (z : List PlainRec). flat_map rec_bytes z ++ rest) (append_assoc p (records_of (node_pieces set ks)) (end ∷ []) ∙ ap (λ (z : List PlainRec). z ++ more) opened) in
-    (_, first-frame (opening k) (behind set k ++ more) rest now first.0 bytes)
+    let mine = all-front IsRec p more all in
+    let first : AllByRecursion IsRec (opening k ∷ behind set k) = subst (AllByRecursion IsRec) opened mine in
+    let whole : now ≡ flat_map rec_bytes (p ++ more) ++ rest = h.bytes ∙ ap (λ (z : List PlainRec). flat_map rec_bytes z ++ rest) joined in
+    let bytes : now ≡ flat_map rec_bytes (opening k ∷ (behind set k ++ more)) ++ rest = whole ∙ ap (λ (z : List PlainRec). flat_map rec_bytes (z ++ more) ++ rest) opened in
+    let two = both (is_nested depth k) (are_nested depth ks) h.nested in
+    record {
+      kind = kind_of (opening k);
+      body = body_bytes (opening k);
+      after = flat_map rec_bytes (behind set k ++ more) ++ rest;
+      is = first-frame (opening k) (behind set k ++ more) rest now first.0 bytes;
+      opens = λ four. elim (opens k) [ inl one ↦ omega (arith, one, four) | inr two ↦ omega (arith, two, four) ];
+      behind = flat_map rec_bytes more ++ rest;
+      lies = record { records = mine; nested = two.0; bytes = whole ∙ first-bytes set k more rest };
+      others = record { records = all-back IsRec p more all; nested = two.1; bytes = refl };
+    }
+
+row-first : (set : List (ℕ × ℕ)) (end : PlainRec) (ks : PlainNodes) (rest : List ℕ) (depth : ℕ) (now : List ℕ) → NodesAt set end ks rest depth now → (f : (ℕ × List ℕ) × List ℕ) × (frame_at now ≡ Some f)
+row-first set end no_nodes rest depth now h = (_, first-frame end [] rest now h.records.0 h.bytes)
+row-first set end (node k ks) rest depth now h = (let t = then-node set end k ks rest depth now h in (((t.kind, t.body), t.after), t.is))
 
 pub row-frame : (set : List (ℕ × ℕ)) (ks : PlainNodes) (rest : List ℕ) (depth : ℕ) (done : List PlainNode) (now : List ℕ) → RowLeft set ks rest depth done now → frame_at now ≡ None → ⊥
-row-frame set ks rest depth done now h e = (let f = row-first set (end_of set ks) h.left rest depth now refl h.lies in none-read (frame_at now) f.0 f.1 e)
+row-frame set ks rest depth done now h e = (let f = row-first set (end_of set ks) h.left rest depth now h.lies in none-read (frame_at now) f.0 f.1 e)
 
 -- a node lies first, and the others behind it
 pub record NodeFirst (set : List (ℕ × ℕ)) (ks : PlainNodes) (rest : List ℕ) (depth : ℕ) (done : List PlainNode) (now : List ℕ) : Type 0 where
@@ -242,31 +268,19 @@ row-cases set ks rest depth done no_nodes now split h f e =
     inl (ap (λ (z : (ℕ × List ℕ) × List ℕ). z.0.0) (sym p), sym (split ∙ ap nodes_from (append-nil done)), ap (λ (z : (ℕ × List ℕ) × List ℕ). z.1) (sym p))
 row-cases set ks rest depth done (node k left) now split h f e =
     let end = end_of set ks in
-    let p = (node_piece set k).records in
-    let more = records_of (node_pieces set left) ++ end ∷ [] in
-    let joined : records_of (node_pieces set (node k left)) ++ end ∷ [] ≡ p ++ more = append_assoc p (records_of (node_pieces set left)) (end ∷ []) in
-    let all : AllByRecursion IsRec (p ++ more) = subst (AllByRecursion IsRec) joined h.records in
-    let opened = piece-opens set k in
-    let mine = all-front IsRec p more all in
-    let first : AllByRecursion IsRec (opening k ∷ behind set k) = subst (AllByRecursion IsRec) opened mine in
-    let whole : now ≡ flat_map rec_bytes (p ++ more) ++ rest = h.bytes ∙ ap (λ (z : List PlainRec). flat_map rec_bytes z ++ rest) joined in
-    let bytes : now ≡ flat_map rec_bytes (opening k ∷ (behind set k ++ more)) ++ rest = whole ∙ ap (λ (z : List PlainRec). flat_map rec_bytes (z ++ more) ++ rest) opened in
-    let read = same-read (frame_at now) _ f (first-frame (opening k) (behind set k ++ more) rest now first.0 bytes) e in
-    let kind : kind_of (opening k) ≡ f.0.0 = ap (λ (z : (ℕ × List ℕ) × List ℕ). z.0.0) read in
-    let two = both (is_nested depth k) (are_nested depth left) h.nested in
-    let after = flat_map rec_bytes more ++ rest in
-    let lies : NodeAt set k after depth now = record { records = mine; nested = two.0; bytes = whole ∙ first-bytes set k more rest } in
-    let others : NodesAt set end left rest depth after = record { records = all-back IsRec p more all; nested = two.1; bytes = refl } in
+    let t = then-node set end k left rest depth now h in
+    let read = same-read (frame_at now) ((t.kind, t.body), t.after) f t.is e in
+    let kind : t.kind ≡ f.0.0 = ap (λ (z : (ℕ × List ℕ) × List ℕ). z.0.0) read in
     inr (
-      (λ four. elim (opens k) [ inl one ↦ omega (arith, one, kind, four) | inr two ↦ omega (arith, two, kind, four) ]),
+      (λ four. t.opens (kind ∙ four)),
       record {
         first = k;
-        behind = after;
-        lies = lies;
+        behind = t.behind;
+        lies = t.lies;
         on = λ j z same rests. record {
           left = left;
           split = split ∙ ap (λ (y : PlainNode). nodes_from (done ++ y ∷ nodes_list left)) (sym same) ∙ ap nodes_from (sym (append_assoc done (j ∷ []) (nodes_list left)));
-          lies = subst (λ (y : List ℕ). NodesAt set end left rest depth y) (sym rests) others;
+          lies = subst (λ (y : List ℕ). NodesAt set end left rest depth y) (sym rests) t.others;
         };
       },
     )

@@ -10,10 +10,11 @@ pub mod Growing
 pub mod ClosedWays
 pub mod ArchiveKeyed
 pub mod FrontLaws
-pub mod GoesCode
 pub mod GoesLaws
 pub mod FileLaws
 pub mod PutLaws
 pub mod LaidLaws
 pub mod WellLaws
 pub mod SoundLaws
+pub mod OneReading
+pub mod FewItems

@@ -1,5 +1,5 @@
 -- What the writing of nodes and files needs.
-use Rattle.std.proofs.Common.{◌≡◌, ℕ, suc, ◌+◌, ◌-◌, ◌^◌, ◌<◌, ◌≤◌, true, false, List, [], ◌∷◌, ◌++◌, map, take, drop, length, get_or, drop-cons, Option, Some, None, Result, Ok, Err, unwrap_or, refl, sym, ap, subst, ◌∙◌, append_assoc, arith}
+use Rattle.std.proofs.Common.{◌≡◌, ℕ, suc, ◌+◌, ◌-◌, ◌^◌, ◌<◌, ◌≤◌, false, List, [], ◌∷◌, ◌++◌, map, take, drop, length, get_or, drop-cons, Some, None, Result, Ok, Err, unwrap_or, refl, sym, ap, subst, ◌∙◌, append_assoc, arith}
 use Rattle.std.specs.List.{flat_map}
 use Rattle.std.specs.Result.{OnOk}
 use Rattle.std.proofs.lemmas.Bool.{true≢false}
@@ -8,12 +8,12 @@ use Rattle.std.proofs.lemmas.Grind.{flat_map-append}
 use Rattle.key_spec.specs.Data.{PlainRule}
 use Rattle.key_spec.proofs.Steps.{map-take}
 use Rattle.keyed_tree.specs.Data.{PlainLabel, PlainKeyed}
-use Rattle.archive_tree.specs.Data.{Stamp, PlainAlt, PlainNode, inner_node, leaf_node, node_stamp, PlainNodes, no_nodes, node, nodes_list, nodes_from, PlainArchive}
+use Rattle.archive_tree.specs.Data.{Stamp, PlainAlt, PlainNode, inner_node, leaf_node, node_stamp, PlainNodes, nodes_list, PlainArchive}
 use Rattle.archive_tree.specs.Stands.{ArchiveOf}
 use Rattle.archive_tree.specs.View.{node_view, nodes_view}
 use Rattle.archive_tree.specs.declared.node.ANode.{ANode}
 use Rattle.archive_tree.proofs.OneArchive.{one_archive}
-use Rattle.record_format.specs.Data.{PlainEntry, PlainDir, PlainRec, inner_rec, leaf_rec, end_rec, leaf_end}
+use Rattle.record_format.specs.Data.{PlainEntry, PlainDir, inner_rec, leaf_rec, end_rec, leaf_end}
 use Rattle.record_format.specs.Spelling.{dir_bytes, rec_bytes}
 use Rattle.record_format.specs.Nodes.{Piece, piece_bytes, entries_from, dir_of, closed_by_end, alt_of, set_in, node_piece, node_pieces}
 use Rattle.record_format.specs.Files.{file_bytes, longest, HasFile, FileOf}

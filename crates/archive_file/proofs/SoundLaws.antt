@@ -1,6 +1,6 @@
 -- What a sound archive says of its bytes.
-use Rattle.std.proofs.Common.{◌≡◌, ℕ, ◌-◌, ◌≤◌, Bool, true, false, cond, ltb, not, ◌&&◌, IsTrue, List, [], ◌∷◌, ◌++◌, map, length, drop, Option, Some, None, Result, Ok, Err, refl, sym, ap, subst, ◌∙◌, true≢false}
-use Rattle.std.specs.List.{list_all, AllByRecursion}
+use Rattle.std.proofs.Common.{◌≡◌, ℕ, ◌-◌, Bool, true, false, cond, ltb, not, ◌&&◌, IsTrue, List, [], ◌∷◌, ◌++◌, map, length, Option, Some, None, refl, sym, ap, subst, ◌∙◌, true≢false}
+use Rattle.std.specs.List.{AllByRecursion}
 use Rattle.key_spec.specs.Data.{PlainRule}
 use Rattle.key_spec.specs.Canonical.{canonical}
 use Rattle.key_spec.specs.Rules.{rule_of, is_frontier, below}
@@ -9,7 +9,7 @@ use Rattle.keyed_tree.specs.Plain.{name_bytes}
 use Rattle.keyed_tree.specs.Proper.{is_tag}
 use Rattle.keyed_tree.specs.WellFormed.{is_label_well_formed, is_key_well_formed}
 use Rattle.keyed_tree.proofs.Kids.{both}
-use Rattle.archive_tree.specs.Data.{PlainAlt, PlainNode, inner_node, leaf_node, PlainNodes, no_nodes, node, node_label, PlainArchive}
+use Rattle.archive_tree.specs.Data.{PlainAlt, PlainNode, inner_node, leaf_node, PlainNodes, no_nodes, node, node_label}
 use Rattle.archive_tree.specs.Stands.{ArchiveOf}
 use Rattle.archive_tree.specs.WellFormed.{are_alts_well_formed, is_node_well_formed, are_nodes_well_formed, IsNodeWellFormed, AreNodesWellFormed}
 use Rattle.xa_fields.proofs.Fields.{some_is}
@@ -17,11 +17,10 @@ use Rattle.version_set.specs.Members.{upto_pairs}
 use Rattle.record_format.specs.Data.{end_rec, leaf_end}
 use Rattle.record_format.specs.Bounds.{IsRec}
 use Rattle.record_format.specs.Nodes.{dir_of, alt_of, set_in, node_piece, node_pieces, closed_by_end}
-use Rattle.record_format.specs.Files.{tail_bytes, FileOf}
+use Rattle.record_format.specs.Files.{tail_bytes}
 use Rattle.record_format.specs.Fronts.{header_at}
-use Rattle.archive_file.specs.KeyedBy.{AreKeyedBy}
 use Rattle.archive_file.specs.Laid.{is_nested, are_nested, RowAt}
-use Rattle.archive_file.specs.NodeFits.{node_has_keys, is_attr_node, node_fits, nodes_fit, is_shallow, are_shallow, is_archive_keyed}
+use Rattle.archive_file.specs.NodeFits.{node_has_keys, is_attr_node, node_fits, nodes_fit, is_shallow, are_shallow}
 use Rattle.archive_file.specs.Sound.{SoundAs}
 use Rattle.archive_file.proofs.ArchiveKeyed.{archive-keyed}
 use Rattle.archive_file.proofs.ClosedWays.{closed-lead}

@@ -1,16 +1,14 @@
 -- What has an encoding is well formed.
-use Rattle.std.proofs.Common.{◌≡◌, ℕ, ◌^◌, ◌<◌, pos, negsuc, Bool, true, false, not, ◌&&◌, IsTrue, List, [], ◌∷◌, ◌++◌, refl, arith}
-use Rattle.std.specs.Prelude.{int_lt}
+use Rattle.std.proofs.Common.{ℕ, ◌^◌, ◌<◌, pos, negsuc, true, ◌&&◌, IsTrue, List, [], ◌∷◌, ◌++◌, refl, arith}
 use Rattle.std.specs.List.{AllByRecursion}
 use Rattle.std.proofs.lemmas.Bool.Decides.{nat_tests}
-use Rattle.std.proofs.lemmas.Int.{ints}
 use Rattle.jsonml_tree.specs.Data.{PlainScalar, null, boolean, whole, string, PlainAttr, PlainTree, text, element, PlainContent, content, PlainTrees, no_trees, tree}
 use Rattle.jsonml_tree.specs.WellFormed.{is_in_range, is_ascending, are_in_range, is_well_formed, is_content_well_formed, are_well_formed}
 use Rattle.keyed_tree.specs.Data.{PlainKey, scalar, inside, PlainLabel}
 use Rattle.keyed_tree.specs.WellFormed.{is_key_well_formed, are_keys_well_formed, IsKeyWellFormed, IsLabelWellFormed}
-use Rattle.archive_tree.specs.Data.{PlainAlt, PlainNode, PlainNodes, nodes_from}
+use Rattle.archive_tree.specs.Data.{PlainAlt, PlainNode, nodes_from}
 use Rattle.archive_tree.specs.WellFormed.{are_alts_well_formed, is_node_well_formed, are_nodes_well_formed}
-use Rattle.record_format.specs.Bounds.{IsScalar, IsAttr, AreAttrs, IsItem, IsInside, AreItems, IsValue, IsLabel}
+use Rattle.record_format.specs.Bounds.{IsScalar, IsAttr, IsItem, IsInside, AreItems, IsValue, IsLabel}
 use Rattle.keyed_tree.proofs.Kids.{both}
 use Rattle.archive_file.proofs.GoesLaws.{both-hold}
 

@@ -1,11 +1,15 @@
 // The archive of a file.
 ghost use Rattle.std.specs.Prelude.{◌≡◌, ◌≤◌, ℕ, List, IsTrue, bytes_eq, IfOk, IfErr};
+ghost use Rattle.std.specs.List.{AllByRecursion};
+ghost use Rattle.jsonml_tree.specs.Fits.{ItemsFit};
 ghost use Rattle.key_spec.specs.Data.{PlainRule};
 ghost use Rattle.key_spec.specs.View.{spec_view};
 ghost use Rattle.keyed_tree.specs.Data.{PlainKeyed};
+ghost use Rattle.keyed_tree.specs.Plain.{plain};
 ghost use Rattle.archive_tree.specs.ArchiveView.{archive_view};
-ghost use Rattle.archive_tree.specs.Stands.{ArchiveOf};
+ghost use Rattle.archive_tree.specs.Stands.{AllAlike, ArchiveOf};
 ghost use Rattle.archive_file.specs.Faults.{IfDamage};
+ghost use Rattle.archive_file.specs.KeyedBy.{AreKeyedBy};
 ghost use Rattle.archive_file.specs.Laid.{Finds};
 ghost use Rattle.archive_file.specs.Sound.{SoundAs};
 
@@ -30,6 +34,18 @@ pub fn decode_file(alloc: Global, bytes: &[u8]) -> Result<(Spec, Archive), FileF
 
     // A sound archive has one reading.
     ensures only { (rules : List PlainRule) (vs : List PlainKeyed) → SoundAs rules vs bytes.now → IfOk result (λ r. (spec_view r.0 ≡ rules) × ArchiveOf vs (archive_view r.1)) }
+
+    ensures one { (rules others : List PlainRule) (vs us : List PlainKeyed) → SoundAs rules vs bytes.now → SoundAs others us bytes.now → (rules ≡ others) × (vs ≡ us) }
+
+    // No element of a version has more than 4,294,967,295 items.
+    ensures items { (rules : List PlainRule) (vs : List PlainKeyed) → SoundAs rules vs bytes.now → AllByRecursion (λ v. ItemsFit (plain v)) vs }
+
+    // It can be written again.
+    ensures few { IfOk result (λ r. (archive_view r.1).n ≤ 999999) }
+    ensures keyed { IfOk result (λ r. (vs : List PlainKeyed) → ArchiveOf vs (archive_view r.1) → AreKeyedBy (spec_view r.0) vs) }
+
+    // Versions that are keyed by its specification are alike.
+    ensures alike { IfOk result (λ r. (vs : List PlainKeyed) → AreKeyedBy (spec_view r.0) vs → AllAlike vs) }
 {
     let (spec, archive) = read_archive(alloc, bytes)?;
     if !is_file(alloc, &spec, &archive, bytes)? {

@@ -12,6 +12,8 @@ mod keyedness;
 mod lead;
 mod level;
 mod reading;
+#[cfg(test)]
+mod tests;
 
 pub use decode::decode_file;
 pub use encode::encode_file;

@@ -34,14 +34,14 @@ fn read_record(alloc: Global, bytes: &[u8], at: usize) -> Result<(Rec, usize), F
     }
 }
 
-// The alternatives of a leaf, to the record that closes it, and the offset behind that.
+// The alternatives of a leaf, to the record that closes it, and the offset behind that. Most leaves have one.
 fn read_alts(alloc: Global, bytes: &[u8], start: usize) -> Result<(Vec<Alt>, usize), FileFault>
     ensures found { (xs : List PlainAlt) (rest : List ℕ) → AltsAt xs rest (drop start bytes.now) → Finds result (λ r. (map alt_view r.0.items ≡ xs) × (drop r.1 bytes.now ≡ rest)) }
     ensures well_formed { IfOk result (λ r. IsTrue (are_alts_well_formed (map alt_view r.0.items))) }
     ensures further { IfOk result (λ r. start < r.1) }
     ensures within { IfOk result (λ r. r.1 ≤ length bytes.now) }
 {
-    let mut alts = Vec::new(alloc);
+    let mut alts = Vec::with_capacity(alloc, 1)?;
     let mut at = start;
     loop {
         let (rec, next) = read_record(alloc, bytes, at)?;

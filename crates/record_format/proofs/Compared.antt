@@ -1,14 +1,14 @@
 -- Comparing by readers that are made of readers.
-use Rattle.std.proofs.Common.{◌≡◌, ◌≢◌, ℕ, zero, suc, List, [], ◌∷◌, drop, Option, Some, None, refl, sym, ap, subst, ◌∙◌}
+use Rattle.std.proofs.Common.{◌≡◌, ◌≢◌, ℕ, zero, suc, List, ◌∷◌, drop, Option, Some, None, refl, sym, ap, ◌∙◌}
 use Rattle.std.specs.Int.{w32}
 use Rattle.std.specs.Ordering.{ordering_then}
 use Rattle.std.specs.declared.cmp.Ordering.{Ordering}
-use Rattle.std.specs.declared.cmp.Ordering.TheVariants.{Less, Equal, Greater}
+use Rattle.std.specs.declared.cmp.Ordering.TheVariants.{Equal, Greater}
 use Rattle.std.specs.Cmp.Lexicographic.{slice_cmp}
 use Rattle.jsonml_tree.specs.Data.{PlainScalar, PlainAttr, PlainTree, text, element, PlainContent, content, trees_of}
-use Rattle.jsonml_tree.specs.Order.{text_cmp, scalar_cmp, attr_cmp, tree_cmp, content_cmp, trees_cmp}
+use Rattle.jsonml_tree.specs.Order.{text_cmp, attr_cmp, tree_cmp, content_cmp}
 use Rattle.jsonml_tree.proofs.Trees.{trees_cmp-trees_of}
-use Rattle.keyed_tree.specs.Data.{PlainName, PlainKey, scalar, inside, PlainLabel}
+use Rattle.keyed_tree.specs.Data.{PlainKey, scalar, inside, PlainLabel}
 use Rattle.keyed_tree.specs.Order.{name_cmp, key_cmp, label_cmp}
 use Rattle.xa_fields.specs.Reading.{Reader, ◌>>=◌, byte_at, number_at, text_at, many_at, list_at}
 use Rattle.xa_fields.proofs.Fields.{bind_some, some_is}

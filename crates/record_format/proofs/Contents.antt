@@ -1,7 +1,7 @@
 -- What is known inside a content.
-use Rattle.std.proofs.Common.{◌≡◌, ℕ, ◌<◌, ◌^◌, List, length, map, sym, ap, subst, ◌∙◌}
+use Rattle.std.proofs.Common.{ℕ, ◌<◌, ◌^◌, length, map, ap, subst, ◌∙◌}
 use Rattle.std.proofs.lemmas.List.{length-map}
-use Rattle.jsonml_tree.specs.Data.{PlainContent, content, trees_of, list_of}
+use Rattle.jsonml_tree.specs.Data.{content}
 use Rattle.jsonml_tree.specs.View.{attr_view, tree_view, content_view, items_view}
 use Rattle.jsonml_tree.specs.declared.tree.Content.{Content}
 use Rattle.jsonml_tree.proofs.Trees.{content_view-is, list_of-trees_of}

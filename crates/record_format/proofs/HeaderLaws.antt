@@ -1,5 +1,5 @@
 -- The front of an archive file is its header.
-use Rattle.std.proofs.Common.{◌≡◌, ℕ, ◌<◌, ◌≤◌, ◌^◌, true, false, cond, ltb, leb, List, [], ◌∷◌, ◌++◌, length, take, drop, Option, Some, None, Result, Ok, refl, sym, ap, subst, ◌∙◌, append_assoc, arith}
+use Rattle.std.proofs.Common.{◌≡◌, ℕ, ◌<◌, ◌≤◌, ◌^◌, true, false, ltb, leb, List, ◌++◌, length, take, drop, Some, Ok, refl, sym, ap, ◌∙◌, append_assoc, arith}
 use Rattle.std.specs.Prelude.{bytes_eq}
 use Rattle.std.specs.Option.{option_map}
 use Rattle.std.specs.List.{flat_map}
@@ -11,10 +11,9 @@ use Rattle.key_spec.specs.Data.{PlainRule}
 use Rattle.key_spec.specs.Canonical.{canonical}
 use Rattle.key_spec.specs.Closed.{closed}
 use Rattle.keyed_tree.specs.Data.{PlainKeyed}
-use Rattle.archive_tree.specs.Data.{PlainArchive}
 use Rattle.archive_tree.proofs.OneArchive.{one_archive}
 use Rattle.xa_fields.specs.Spelling.{u32_bytes, text_bytes}
-use Rattle.xa_fields.specs.Reading.{◌>>=◌, number_at, both_at, only_at}
+use Rattle.xa_fields.specs.Reading.{number_at, only_at}
 use Rattle.xa_fields.proofs.Fields.{u32_reads}
 use Rattle.record_format.specs.Bounds.{most}
 use Rattle.record_format.specs.Spelling.{rec_bytes}

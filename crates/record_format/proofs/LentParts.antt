@@ -1,9 +1,8 @@
 -- What is lent of the bytes of a record.
-use Rattle.std.proofs.Common.{◌≡◌, ◌≢◌, ℕ, Bool, true, false, cond, IsTrue, List, Option, Some, None, refl, sym, ap, subst, ◌∙◌}
+use Rattle.std.proofs.Common.{◌≡◌, ◌≢◌, ℕ, IsTrue, List, Option, Some, None, refl, sym, ap, ◌∙◌}
 use Rattle.std.specs.Prelude.{IfSome, IsNone}
 use Rattle.std.specs.Option.{option_map}
 use Rattle.xa_fields.specs.Laws.{IsBytes}
-use Rattle.xa_fields.proofs.Fields.{some_is}
 use Rattle.record_format.specs.Data.{PlainRec}
 use Rattle.record_format.specs.Spelling.{rec_bytes}
 use Rattle.record_format.specs.Bounds.{IsRec}

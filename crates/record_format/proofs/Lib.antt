@@ -14,6 +14,7 @@ pub mod TreeNodes
 pub mod WholeDirectories
 pub mod Records
 pub mod Pieces
+pub mod Encodable
 pub mod Apart
 pub mod HeaderLaws
 pub mod Local

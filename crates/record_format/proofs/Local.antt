@@ -1,9 +1,9 @@
 -- A value is read from its own bytes alone.
-use Rattle.std.proofs.Common.{◌≡◌, ◌≢◌, ℕ, ◌<◌, ◌≤◌, ◌==◌, Bool, true, false, cond, List, [], ◌∷◌, ◌++◌, length, take, drop, Option, Some, None, refl, sym, ap, subst, ◌∙◌, arith}
+use Rattle.std.proofs.Common.{◌≡◌, ℕ, ◌<◌, ◌≤◌, ◌==◌, false, List, [], length, take, drop, Option, Some, None, refl, sym, ap, ◌∙◌, arith}
 use Rattle.std.proofs.lemmas.Bool.Decides.{nat_tests}
-use Rattle.std.proofs.lemmas.List.{take-append-drop, append_cancel_right, append-nil, drop_all, length-drop}
+use Rattle.std.proofs.lemmas.List.{take-append-drop, append_cancel_right, drop_all, length-drop}
 use Rattle.std.specs.Prelude.{IsSome}
-use Rattle.xa_fields.specs.Reading.{Reader, ◌>>=◌, both_at, whole}
+use Rattle.xa_fields.specs.Reading.{Reader, both_at, whole}
 use Rattle.xa_fields.specs.Laws.{IsBytes, Reads}
 use Rattle.xa_fields.proofs.Fields.{some_is}
 use Rattle.xa_fields.proofs.Combinators.{whole_again}

@@ -1,6 +1,6 @@
 -- Steps of loops that read many, and that end with a fault.
-use Rattle.std.proofs.Common.{◌≡◌, ℕ, suc, ◌+◌, ◌-◌, ◌<◌, ◌≤◌, List, [], ◌∷◌, ◌++◌, Option, Some, None, refl, sym, ap, ◌∙◌, arith}
-use Rattle.xa_fields.specs.Reading.{Reader, ◌>>=◌, many_at}
+use Rattle.std.proofs.Common.{◌≡◌, ℕ, ◌-◌, ◌<◌, List, Option}
+use Rattle.xa_fields.specs.Reading.{Reader, many_at}
 use Rattle.xa_fields.proofs.Loops.{with_front, breaks_off}
 use Rattle.record_format.specs.Reading.{Fails}
 use Rattle.record_format.specs.declared.fault.RecFault.{RecFault}

@@ -1,5 +1,5 @@
 -- Which names may follow one another.
-use Rattle.std.proofs.Common.{◌≡◌, ℕ, false, true, cond, List, Option, Some, None, refl, ap, ◌∙◌}
+use Rattle.std.proofs.Common.{◌≡◌, ℕ, false, true, List, Option, Some, None, refl}
 use Rattle.jsonml_tree.specs.Data.{PlainAttr}
 use Rattle.record_format.specs.Reading.{is_above, next_attr}
 

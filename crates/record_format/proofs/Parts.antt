@@ -1,17 +1,17 @@
 -- What is read of labels, sets, timestamps and entries is spelled so, and what is spelled so is read.
-use Rattle.std.proofs.Common.{◌≡◌, ◌≢◌, ℕ, zero, suc, ◌+◌, ◌^◌, ◌<◌, ◌≤◌, ◌*◌, max, ◌&&◌, ◌==◌, Bool, true, false, cond, leb, IsTrue, List, [], ◌∷◌, ◌++◌, length, Option, Some, None, refl, sym, ap, subst, ◌∙◌, append_assoc, arith}
-use Rattle.std.specs.List.{flat_map, AllByRecursion}
+use Rattle.std.proofs.Common.{◌≡◌, ◌≢◌, ℕ, zero, suc, ◌+◌, ◌^◌, ◌<◌, ◌≤◌, ◌*◌, max, ◌&&◌, ◌==◌, Bool, true, false, cond, leb, IsTrue, List, [], ◌∷◌, ◌++◌, length, Some, None, refl, ap, subst, ◌∙◌, append_assoc, arith}
+use Rattle.std.specs.List.{AllByRecursion}
 use Rattle.std.specs.Int.{w32, w64}
 use Rattle.std.proofs.lemmas.Bool.{leb-true, le-leb}
 use Rattle.std.proofs.lemmas.Bool.Decides.{nat_tests}
-use Rattle.version_set.specs.Pairs.{IsFrom, IsCanonical}
-use Rattle.keyed_tree.specs.Data.{PlainName, attr, tag, PlainKey, PlainLabel}
+use Rattle.version_set.specs.Pairs.{IsFrom}
+use Rattle.keyed_tree.specs.Data.{PlainName, attr, tag, PlainLabel}
 use Rattle.archive_tree.specs.Data.{Stamp}
 use Rattle.xa_fields.specs.Spelling.{u32_bytes, u64_bytes, text_bytes, list_bytes, IsText}
-use Rattle.xa_fields.specs.Reading.{Reader, ◌>>=◌, byte_at, number_at, text_at, list_at}
-use Rattle.xa_fields.specs.Laws.{IsBytes, Takes, Read, Reads}
+use Rattle.xa_fields.specs.Reading.{◌>>=◌, number_at, text_at, list_at}
+use Rattle.xa_fields.specs.Laws.{IsBytes, Read, Reads}
 use Rattle.xa_fields.proofs.Fields.{bind_some, some_is, Takes-then, Takes-none, u32_reads, u64_reads, text_reads}
-use Rattle.xa_fields.proofs.Combinators.{IsList, list_reads, both_reads}
+use Rattle.xa_fields.proofs.Combinators.{list_reads, both_reads}
 use Rattle.timestamp_tree.specs.Bytes.{pair_bytes, set_bytes}
 use Rattle.record_format.specs.Data.{PlainEntry}
 use Rattle.record_format.specs.Spelling.{value_bytes, name_bytes, label_bytes, stamp_bytes, entry_bytes}

@@ -1,5 +1,5 @@
 -- Laws of readers under other words.
-use Rattle.std.proofs.Common.{◌≡◌, ℕ, Bool, true, false, cond, IsTrue, List, [], ◌∷◌, ◌++◌, Option, Some, None, refl, sym, ap, subst, ◌∙◌}
+use Rattle.std.proofs.Common.{◌≡◌, ℕ, Bool, true, false, cond, List, ◌∷◌, ◌++◌, Some, None, refl, sym, ap, subst, ◌∙◌}
 use Rattle.xa_fields.specs.Reading.{Reader, ◌>>=◌, byte_at}
 use Rattle.xa_fields.specs.Laws.{IsBytes, Takes, Read, Reads}
 use Rattle.xa_fields.proofs.Fields.{bind_some, some_is, byte_reads}

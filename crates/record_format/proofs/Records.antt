@@ -1,18 +1,18 @@
 -- What is read of records is spelled so, and what is spelled so is read.
-use Rattle.std.proofs.Common.{◌≡◌, ◌≢◌, ℕ, zero, suc, ◌+◌, ◌<◌, ◌≤◌, ◌^◌, ◌==◌, Bool, true, false, cond, ltb, List, [], ◌∷◌, ◌++◌, length, take, drop, Option, Some, None, Result, Ok, Err, refl, sym, ap, subst, ◌∙◌, append_assoc, arith}
+use Rattle.std.proofs.Common.{◌≡◌, ◌≢◌, ℕ, zero, suc, ◌<◌, ◌≤◌, ◌^◌, ◌==◌, false, cond, ltb, List, [], ◌∷◌, ◌++◌, length, take, drop, Option, Some, None, Result, Ok, Err, refl, sym, ap, subst, ◌∙◌, append_assoc, arith}
 use Rattle.std.specs.Prelude.{IfOk}
 use Rattle.std.specs.Option.{option_map}
 use Rattle.std.specs.Int.{w64}
 use Rattle.std.proofs.lemmas.Bool.{ltb-false, le-ltb, eqb-true}
-use Rattle.std.proofs.lemmas.List.{append-nil, nil_from_length, take_at, drop_at, length-append, length-take, take-append-drop}
+use Rattle.std.proofs.lemmas.List.{nil_from_length, take_at, drop_at, length-append, length-take, take-append-drop}
 use Rattle.keyed_tree.specs.Data.{PlainKey, PlainLabel}
 use Rattle.archive_tree.specs.Data.{Stamp}
 use Rattle.xa_fields.specs.Spelling.{u64_bytes}
-use Rattle.xa_fields.specs.Reading.{Reader, ◌>>=◌, byte_at, number_at, both_at, whole}
+use Rattle.xa_fields.specs.Reading.{◌>>=◌, byte_at, number_at, both_at, whole}
 use Rattle.xa_fields.specs.Laws.{IsBytes, Takes, Read, Reads}
 use Rattle.xa_fields.proofs.Fields.{IsBytes-drop, IsBytes-take, bind_some, guard_some, some_is, Takes-then, byte_reads, u64_reads}
 use Rattle.xa_fields.proofs.Combinators.{both_reads, whole_takes, whole_again}
-use Rattle.record_format.specs.Data.{PlainDir, PlainRec, inner_rec, leaf_rec, alt_rec, end_rec, leaf_end}
+use Rattle.record_format.specs.Data.{PlainRec, inner_rec, leaf_rec, alt_rec, end_rec, leaf_end}
 use Rattle.record_format.specs.Spelling.{value_bytes, label_bytes, stamp_bytes, kind_of, body_bytes, framed, rec_bytes}
 use Rattle.record_format.specs.Bounds.{IsValue, IsLabel, IsStamp, IsBody, IsRec}
 use Rattle.record_format.specs.View.{rec_view}

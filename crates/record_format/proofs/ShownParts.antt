@@ -1,10 +1,10 @@
 -- What the bytes of a lent part show.
-use Rattle.std.proofs.Common.{◌≡◌, ℕ, Bool, true, false, cond, ◌==◌, List, length, Option, Some, None, refl, sym, ap, ◌∙◌}
+use Rattle.std.proofs.Common.{◌≡◌, ℕ, cond, ◌==◌, List, length, Option, Some, None, refl, sym, ap, ◌∙◌}
 use Rattle.std.specs.Prelude.{IsSome}
 use Rattle.std.specs.declared.cmp.Ordering.{Ordering}
 use Rattle.keyed_tree.specs.Data.{PlainKey, PlainLabel}
 use Rattle.archive_tree.specs.Data.{Stamp}
-use Rattle.xa_fields.specs.Reading.{Reader, ◌>>=◌, whole}
+use Rattle.xa_fields.specs.Reading.{Reader, whole}
 use Rattle.xa_fields.specs.Laws.{IsBytes}
 use Rattle.xa_fields.proofs.Fields.{bind_some, some_is}
 use Rattle.xa_fields.proofs.Combinators.{whole_takes}

@@ -1,5 +1,5 @@
 -- A stored set is not empty.
-use Rattle.std.proofs.Common.{◌≡◌, ℕ, zero, suc, ◌<◌, ◌==◌, true, false, Bool, cond, List, [], ◌∷◌, length, drop, Option, Some, None, refl, sym, ap, subst, ◌∙◌, arith}
+use Rattle.std.proofs.Common.{◌≡◌, ℕ, zero, suc, ◌<◌, ◌==◌, true, false, Bool, cond, List, length, Option, Some, None, refl, sym, arith}
 use Rattle.std.specs.Int.{w32}
 use Rattle.std.proofs.lemmas.Bool.Decides.{nat_tests}
 use Rattle.archive_tree.specs.Data.{Stamp}

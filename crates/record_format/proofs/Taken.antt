@@ -1,5 +1,5 @@
 -- What was read of a set is canonical.
-use Rattle.std.proofs.Common.{◌≡◌, ℕ, List, drop, Option, Some, None, sym}
+use Rattle.std.proofs.Common.{◌≡◌, ℕ, List, drop, Some}
 use Rattle.version_set.specs.Pairs.{IsCanonical}
 use Rattle.xa_fields.specs.Laws.{IsBytes}
 use Rattle.xa_fields.proofs.Fields.{IsBytes-drop}

@@ -1,7 +1,7 @@
 -- A union of sets is within what both are within.
-use Rattle.std.proofs.Common.{◌≡◌, ℕ, ◌+◌, ◌≤◌, max, Bool, true, false, cond, ltb, ◌==◌, List, [], ◌∷◌, refl, sym, ap, subst, ◌∙◌, arith}
+use Rattle.std.proofs.Common.{ℕ, ◌+◌, ◌≤◌, max, Bool, true, false, cond, ltb, ◌==◌, List, [], ◌∷◌, sym, subst, arith}
 use Rattle.std.specs.List.{AllByRecursion}
-use Rattle.version_set.specs.Pairs.{IsFrom, IsCanonical, last_of}
+use Rattle.version_set.specs.Pairs.{IsFrom, last_of}
 use Rattle.version_set.specs.Members.{members, greatest, put, either, united}
 use Rattle.version_set.proofs.SetLemmas.{members-united, IsCanonical-united, greatest-members}
 use Rattle.record_format.specs.Bounds.{IsSet, most}

@@ -3,14 +3,14 @@ use Rattle.std.proofs.Common.{◌≡◌, ◌≢◌, ℕ, true, false, List, drop
 use Rattle.std.specs.Int.{w32}
 use Rattle.std.specs.Ordering.{is_ne}
 use Rattle.std.specs.declared.cmp.Ordering.{Ordering}
-use Rattle.std.specs.declared.cmp.Ordering.TheVariants.{Less, Equal, Greater}
+use Rattle.std.specs.declared.cmp.Ordering.TheVariants.{Less, Greater}
 use Rattle.std.specs.Cmp.Lexicographic.{slice_cmp}
 use Rattle.jsonml_tree.specs.Data.{PlainScalar}
 use Rattle.jsonml_tree.specs.Order.{scalar_cmp, content_cmp}
 use Rattle.jsonml_tree.specs.View.{scalar_view, content_view}
 use Rattle.jsonml_tree.specs.declared.scalar.Scalar as values
 use Rattle.jsonml_tree.specs.declared.tree.Content as contents
-use Rattle.keyed_tree.specs.Data.{PlainName, PlainKey, scalar, inside, PlainLabel}
+use Rattle.keyed_tree.specs.Data.{PlainName, PlainKey, scalar, PlainLabel}
 use Rattle.keyed_tree.specs.Order.{name_cmp, key_cmp, label_cmp}
 use Rattle.keyed_tree.specs.View.{key_view, name_view, label_view}
 use Rattle.keyed_tree.specs.declared.label.KeyVal.{KeyVal}
@@ -21,7 +21,7 @@ use Rattle.record_format.specs.Bounds.{deepest}
 use Rattle.record_format.specs.Compares.{Compares}
 use Rattle.record_format.specs.Reading.{scalar_at, content_at, value_of, value_at, name_at, label_at}
 use Rattle.record_format.proofs.Leads.{not_equal, is_equal}
-use Rattle.record_format.proofs.Compared.{exactly, nothing, same_read, first_fails, first_decides, second_decides, list_is, list_none, label_splits, value_is, value_none, no_kind, scalar_compare, scalar_none, content_above, content_compare}
+use Rattle.record_format.proofs.Compared.{exactly, nothing, same_read, first_decides, second_decides, list_is, list_none, label_splits, value_is, value_none, no_kind, scalar_compare, scalar_none, content_above, content_compare}
 
 -- ---- key values
 

@@ -1,7 +1,7 @@
 -- What is read of scalars, attributes, contents and key values is spelled so, and what is spelled so is read.
-use Rattle.std.proofs.Common.{◌≡◌, ℕ, zero, suc, ◌^◌, ◌<◌, ◌≤◌, ◌&&◌, pos, negsuc, Bool, true, false, cond, ltb, IsTrue, List, [], ◌∷◌, ◌++◌, length, Option, Some, None, refl, sym, ap, subst, ◌∙◌, append_assoc, arith}
+use Rattle.std.proofs.Common.{◌≡◌, ℕ, zero, suc, ◌^◌, ◌<◌, ◌≤◌, ◌&&◌, pos, negsuc, Bool, true, false, cond, ltb, IsTrue, List, [], ◌∷◌, ◌++◌, length, Some, None, refl, sym, ap, subst, ◌∙◌, append_assoc, arith}
 use Rattle.std.specs.List.{flat_map, AllByRecursion}
-use Rattle.std.specs.Int.{w32, w64}
+use Rattle.std.specs.Int.{w64}
 use Rattle.std.specs.Ordering.{is_lt}
 use Rattle.std.proofs.lemmas.Bool.{ltb-true, lt-ltb}
 use Rattle.jsonml_tree.specs.Data.{PlainScalar, null, boolean, whole, string, PlainAttr, PlainTree, text, element, PlainContent, content, PlainTrees, no_trees, tree, trees_of, list_of, tree_depth, content_depth, trees_depth}
@@ -10,7 +10,7 @@ use Rattle.jsonml_tree.specs.WellFormed.{ascends, is_ascending}
 use Rattle.jsonml_tree.proofs.Trees.{list_of-trees_of, trees_of-list_of}
 use Rattle.keyed_tree.specs.Data.{PlainKey, scalar, inside}
 use Rattle.xa_fields.specs.Spelling.{u32_bytes, u64_bytes, text_bytes, list_bytes}
-use Rattle.xa_fields.specs.Reading.{Reader, ◌>>=◌, byte_at, number_at, text_at, list_at}
+use Rattle.xa_fields.specs.Reading.{Reader, ◌>>=◌, number_at, text_at, list_at}
 use Rattle.xa_fields.specs.Laws.{IsBytes, Takes, Read, Reads}
 use Rattle.xa_fields.proofs.Fields.{bind_some, some_is, Takes-then, Takes-none, u64_reads, text_reads}
 use Rattle.xa_fields.proofs.Combinators.{IsList, list_reads}

@@ -1,24 +1,23 @@
 -- The directory that some bytes are is spelled so, and what is spelled so is that directory.
-use Rattle.std.proofs.Common.{◌≡◌, ℕ, zero, suc, ◌+◌, ◌-◌, ◌*◌, ◌<◌, ◌≤◌, ◌^◌, ◌==◌, ◌&&◌, Bool, true, false, cond, IsTrue, List, [], ◌∷◌, ◌++◌, length, Option, Some, None, refl, sym, ap, subst, ◌∙◌, arith}
+use Rattle.std.proofs.Common.{◌≡◌, ℕ, ◌<◌, ◌^◌, ◌==◌, ◌&&◌, Bool, true, false, cond, List, [], ◌∷◌, ◌++◌, length, Option, Some, None, refl, sym, ap, subst, ◌∙◌, arith}
 use Rattle.std.specs.Prelude.{bytes_eq}
 use Rattle.std.specs.List.{flat_map, AllByRecursion}
-use Rattle.std.specs.Option.{option_map}
 use Rattle.std.proofs.lemmas.Bool.{eqb-true}
 use Rattle.std.proofs.lemmas.Bool.Decides.{nat_tests}
 use Rattle.std.proofs.lemmas.List.{append-nil, length-append}
 use Rattle.std.proofs.lemmas.Slice.Eq.{bytes_eq-Decides}
 use Rattle.version_set.specs.Pairs.{IsCanonical}
 use Rattle.xa_fields.specs.Spelling.{u64_bytes, list_bytes}
-use Rattle.xa_fields.specs.Reading.{Reader, ◌>>=◌, number_at, many_at, list_at, both_at, whole}
+use Rattle.xa_fields.specs.Reading.{◌>>=◌, number_at, many_at, list_at, whole}
 use Rattle.std.specs.Int.{w64}
-use Rattle.xa_fields.specs.Laws.{IsBytes, Takes, Read, Reads}
+use Rattle.xa_fields.specs.Laws.{IsBytes, Reads}
 use Rattle.xa_fields.proofs.Fields.{bind_some, some_is, u64_reads}
-use Rattle.xa_fields.proofs.Combinators.{IsList, AreMany, many_reads, list_reads, both_reads}
+use Rattle.xa_fields.proofs.Combinators.{many_reads, list_reads, both_reads}
 use Rattle.timestamp_tree.specs.Bytes.{set_bytes, tree_bytes}
 use Rattle.timestamp_tree.specs.Data.{PlainTs, leaves}
 use Rattle.timestamp_tree.specs.Tree.{IsTree, tree_of}
 use Rattle.timestamp_tree.proofs.Trees.{leaves-tree_of, IsTree-tree_of}
-use Rattle.record_format.specs.Data.{PlainEntry, PlainDir}
+use Rattle.record_format.specs.Data.{PlainDir}
 use Rattle.record_format.specs.Spelling.{entry_bytes, sets_bytes, dir_bytes}
 use Rattle.record_format.specs.Bounds.{IsSet, IsEntry, IsDir}
 use Rattle.record_format.specs.Reading.{entry_at, set_at, tree_node_at, leaf_sets, with_leaf_sets, node_count, entries_and_leaves, spells_dir, whole_dir}

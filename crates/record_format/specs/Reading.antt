@@ -1,5 +1,5 @@
 -- What stands at the front of some bytes: a value, and the bytes behind it.
-use Rattle.std.specs.Prelude.{◌≡◌, ℕ, zero, suc, ◌+◌, ◌-◌, ◌*◌, ◌^◌, pos, negsuc, Bool, true, false, not, ◌&&◌, ◌==◌, List, [], ◌∷◌, length, take, drop, map, filter, Option, Some, None, Result, Ok, Err, option_map, ⊤, nat_lt, nat_le, bytes_eq, if◌then◌else◌}
+use Rattle.std.specs.Prelude.{◌≡◌, ℕ, zero, suc, ◌+◌, ◌-◌, ◌*◌, ◌^◌, pos, negsuc, Bool, true, false, ◌&&◌, ◌==◌, List, [], ◌∷◌, length, take, drop, Option, Some, None, Result, Ok, Err, option_map, ⊤, nat_lt, nat_le, bytes_eq, if◌then◌else◌}
 use Rattle.std.specs.Int.{w32, w64}
 use Rattle.std.specs.Ordering.{is_lt}
 use Rattle.jsonml_tree.specs.Data.{PlainScalar, null, boolean, whole, string, PlainAttr, PlainTree, text, element, PlainContent, content, trees_of}

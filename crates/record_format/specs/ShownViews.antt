@@ -1,5 +1,5 @@
 -- What the lent parts of a record show.
-use Rattle.std.specs.Prelude.{ℕ, List, [], Option, Some, None}
+use Rattle.std.specs.Prelude.{[], Option, Some, None}
 use Rattle.jsonml_tree.specs.Data.{null}
 use Rattle.keyed_tree.specs.Data.{tag, PlainKey, scalar, PlainLabel}
 use Rattle.archive_tree.specs.Data.{Stamp}

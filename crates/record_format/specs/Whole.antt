@@ -1,5 +1,5 @@
 -- Which bytes lent parts may hold.
-use Rattle.std.specs.Prelude.{ℕ, Bool, true, false, List, Option, Some, None, IsSome, IsTrue, if◌then◌else◌}
+use Rattle.std.specs.Prelude.{ℕ, Bool, true, false, List, Option, Some, None, IsSome, if◌then◌else◌}
 use Rattle.xa_fields.specs.Reading.{whole}
 use Rattle.record_format.specs.Data.{PlainRec, inner_rec, leaf_rec, alt_rec, end_rec, leaf_end}
 use Rattle.record_format.specs.Reading.{label_at, stamp_at, value_at}

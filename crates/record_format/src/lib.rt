@@ -2,6 +2,7 @@
 #![tactic(auto)]
 
 mod fault;
+mod fits;
 mod laws;
 mod lend_parts;
 mod lent;
@@ -23,6 +24,7 @@ mod tests;
 mod views;
 
 pub use fault::RecFault;
+pub use fits::{is_label, is_value};
 pub use laws::{encodings_tell_records_apart, versions_have_one_file};
 pub use lend_parts::{view, view_body};
 pub use put_parts::{put_directory, put_label, put_stamp};

@@ -12,6 +12,9 @@ use keyed_tree::KeyVal;
 use std::alloc::Global;
 use xa_fields::{take_text, take_u8, take_u32};
 
+/// A list of so few items takes no more room than they need.
+const FEW: u32 = 4;
+
 #[tactic(auto, unfolding(crate::specs::Reading::chained_at))]
 fn take_attrs(alloc: Global, bytes: &[u8], at: usize) -> Result<(Vec<Attr>, usize), RecFault>
     ensures found { Gives (λ r. (map attr_view r.0.items, drop r.1 bytes.now)) result (attrs_at (drop at bytes.now)) }
@@ -33,7 +36,7 @@ fn take_each_attr(
     ensures found { Gives (λ r. (map attr_view r.0.items, drop r.1 bytes.now)) result (chain_at attr_at next_attr None count (drop at bytes.now)) }
     ensures next { IfOk result (λ r. r.1 ≤ length bytes.now) }
 {
-    let mut attrs = Vec::new(alloc);
+    let mut attrs = Vec::with_capacity(alloc, count.min(FEW) as usize)?;
     let mut at = at;
     let mut last: Option<&str> = None;
     for _ in 0..count {
@@ -83,7 +86,7 @@ fn take_items(
     ensures found { Gives (λ r. (map tree_view r.0.items, drop r.1 bytes.now)) result (many_at (item_at depth) count (drop at bytes.now)) }
     ensures next { IfOk result (λ r. r.1 ≤ length bytes.now) }
 {
-    let mut items = Vec::new(alloc);
+    let mut items = Vec::with_capacity(alloc, count.min(FEW) as usize)?;
     let mut at = at;
     for _ in 0..count {
         let (item, next) = take_item(alloc, depth, bytes, at)?;

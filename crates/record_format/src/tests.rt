@@ -1,5 +1,9 @@
 // The records of the archive of one version, the element `db`, byte by byte.
-use crate::{Rec, RecFault, View, decode, encode, take_frame, take_record, view, view_body};
+use crate::{
+    Entry, Rec, RecFault, View, decode, encode, is_label, is_value, put_alt, put_end, put_inner,
+    put_leaf, put_leaf_end, take_frame, take_label, take_record, take_set, take_stamp, take_value,
+    view, view_body,
+};
 use keyed_tree::{Body, Label, Name};
 use std::alloc::Global;
 use std::test::Fail;
@@ -144,5 +148,62 @@ fn records_stand_one_behind_another(rt: HostRuntime) -> Result<(), Fail> {
             Ok((Rec::LeafEnd, 28))
         )
     );
+    Ok(())
+}
+
+#[test]
+fn parts_are_put_and_taken_by_themselves(rt: HostRuntime) -> Result<(), Fail> {
+    let name = Name::Tag(String::from_str(rt.alloc(), "db")?);
+    let label = Label {
+        name,
+        keys: Vec::new(rt.alloc()),
+    };
+    let body = Body::Scalar(jsonml_tree::Scalar::Null);
+    if !is_label(&label) || !is_value(&body) {
+        return Err("these have an encoding".into());
+    }
+    let mut out = Vec::new(rt.alloc());
+    put_leaf(&mut out, &label, &None)?;
+    assert_eq!(rt; out.as_slice(), LEAF.as_slice());
+    out.clear();
+    put_inner(&mut out, &label, &None)?;
+    assert_eq!(rt;
+        out.as_slice(),
+        b"\x01\0\0\0\0\0\0\0\x0c\x01\0\0\0\x02db\0\0\0\0\0".as_slice()
+    );
+    out.clear();
+    put_alt(&mut out, &None, &body)?;
+    assert_eq!(rt; out.as_slice(), b"\x03\0\0\0\0\0\0\0\x03\0\0\0".as_slice());
+    out.clear();
+    put_leaf_end(&mut out)?;
+    assert_eq!(rt; out.as_slice(), LEAF_END.as_slice());
+    out.clear();
+    let entry = Entry {
+        start: 0,
+        length: 49,
+        dir: 0,
+    };
+    let set = VersionSet::single(rt.alloc(), 1);
+    put_end(rt.alloc(), &mut out, &[entry], &[set])?;
+    assert_eq!(rt; out.as_slice(), END.as_slice());
+    Ok(())
+}
+
+#[test]
+fn values_are_read_at_an_offset(rt: HostRuntime) -> Result<(), Fail> {
+    let Ok((label, at)) = take_label(rt.alloc(), &INNER, 9) else {
+        return Err("no label".into());
+    };
+    assert_eq!(rt; (label.keys.len(), at), (0, 19));
+    let Ok((stamp, at)) = take_stamp(rt.alloc(), &INNER, at) else {
+        return Err("no timestamp".into());
+    };
+    assert!(rt; stamp.is_some());
+    assert_eq!(rt; at, 40);
+    let Ok((set, at)) = take_set(rt.alloc(), &INNER, 20) else {
+        return Err("no set".into());
+    };
+    assert_eq!(rt; (set.last(), at), (4, 40));
+    assert!(rt; matches!(take_value(rt.alloc(), &ALT, 10), Ok((Body::Content(_), 19))));
     Ok(())
 }

@@ -1,4 +1,4 @@
-use Rattle.std.proofs.Common.{◌≡◌, sym, subst, drop}
+use Rattle.std.proofs.Common.{sym, subst, drop}
 use Rattle.key_spec.specs.View.{spec_view}
 use Rattle.version_set.specs.Members.{upto_pairs}
 use Rattle.archive_tree.specs.Stands.{ArchiveOf}

@@ -1,4 +1,4 @@
-use Rattle.std.proofs.Common.{◌≡◌, ◌≤◌, ◌++◌, List, map, take, drop, length}
+use Rattle.std.proofs.Common.{◌≡◌, ◌++◌, map, take, drop, length}
 use Rattle.std.specs.List.{flat_map}
 use Rattle.version_set.specs.View.{pairs_of}
 use Rattle.archive_tree.specs.View.{node_view, nodes_view}

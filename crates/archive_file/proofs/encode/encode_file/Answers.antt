@@ -1,4 +1,4 @@
-use Rattle.std.proofs.Common.{◌≡◌, true, false, sym, ap, ◌∙◌, arith, length}
+use Rattle.std.proofs.Common.{sym, ap, ◌∙◌, arith, length}
 use Rattle.key_spec.specs.View.{spec_view}
 use Rattle.archive_tree.specs.ArchiveView.{archive_view}
 use Rattle.archive_file.specs.Goes.{row_goes}

@@ -1,4 +1,4 @@
-use Rattle.std.proofs.Common.{◌≡◌, length, ap, arith}
+use Rattle.std.proofs.Common.{length, ap, arith}
 use Rattle.archive_tree.specs.Data.{PlainNodes, nodes_list}
 use Rattle.archive_file.proofs.PutLaws.{view-length}
 use Rattle.archive_file.proofs.encode.file_of.Goals as goal

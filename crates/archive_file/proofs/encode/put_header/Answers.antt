@@ -1,4 +1,4 @@
-use Rattle.std.proofs.Common.{◌≡◌, length, ap, arith}
+use Rattle.std.proofs.Common.{length, ap, arith}
 use Rattle.key_spec.specs.Canonical.{canonical}
 use Rattle.key_spec.specs.View.{spec_view}
 use Rattle.archive_file.proofs.FrontLaws.{canonical-short}

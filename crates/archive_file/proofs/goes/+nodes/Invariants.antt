@@ -1,4 +1,4 @@
-use Rattle.std.proofs.Common.{◌≡◌, map, drop}
+use Rattle.std.proofs.Common.{◌≡◌, drop}
 use Rattle.archive_tree.specs.View.{nodes_view}
 use Rattle.archive_file.specs.Goes.{nodes_go}
 use Rattle.archive_file.proofs.goes.+nodes.Given as goal

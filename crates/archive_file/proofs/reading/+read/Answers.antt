@@ -1,4 +1,4 @@
-use Rattle.std.proofs.Common.{◌≡◌, ◌-◌, IsTrue, List, [], ◌∷◌, sym, ap, ◌∙◌, map, drop, subst, refl, arith}
+use Rattle.std.proofs.Common.{IsTrue, List, [], ◌∷◌, sym, ap, ◌∙◌, map, drop, subst, refl, arith}
 use Rattle.std.proofs.lemmas.List.{map-append}
 use Rattle.keyed_tree.specs.View.{label_view}
 use Rattle.keyed_tree.specs.WellFormed.{is_label_well_formed}

@@ -1,4 +1,4 @@
-use Rattle.std.proofs.Common.{◌≡◌, ◌≤◌, ◌+◌, ◌*◌, ◌-◌, ℕ, List, map, drop, length}
+use Rattle.std.proofs.Common.{◌≤◌, ◌+◌, ◌*◌, ◌-◌, ℕ, List, map, drop, length}
 use Rattle.archive_tree.specs.Data.{PlainNodes}
 use Rattle.archive_tree.specs.View.{node_view, nodes_view}
 use Rattle.archive_tree.specs.WellFormed.{AreNodesWellFormed}

@@ -1,12 +1,10 @@
-use Rattle.std.proofs.Common.{◌≡◌, IsTrue, List, [], ◌∷◌, sym, ap, ◌∙◌, map, drop, subst, arith}
+use Rattle.std.proofs.Common.{IsTrue, List, [], ◌∷◌, sym, ap, ◌∙◌, map, drop, subst, arith}
 use Rattle.std.proofs.lemmas.List.{map-append}
 use Rattle.keyed_tree.specs.View.{key_view}
 use Rattle.archive_tree.specs.Data.{PlainAlt}
 use Rattle.archive_tree.specs.WellFormed.{are_alts_well_formed}
 use Rattle.archive_tree.specs.View.{alt_view}
 use Rattle.archive_tree.specs.declared.node.Alt.{Alt}
-use Rattle.record_format.specs.Bounds.{IsRec}
-use Rattle.record_format.specs.Reading.{record_at}
 use Rattle.record_format.specs.View.{rec_view}
 use Rattle.record_format.specs.declared.rec.Rec.{Rec}
 use Rattle.archive_file.proofs.LaidLaws.{AltsLeft, alts-none, alts-kind, alts-next, alts-end, finds-handed}
@@ -16,7 +14,7 @@ use Rattle.archive_file.proofs.reading.read_alts.Goals as goal
 pub returns-in_err-rec-clause-found : goal.returns-in_err-rec-clause-found
 returns-in_err-rec-clause-found c = λ xs rest h. (
     let l = c.loop-alts in
-    finds-handed _ c.from_residual.result c.in_err-rec.field-0.0 c.from_residual.ensures.1 c.in_err-rec.ensures.damage (alts-none xs rest (map alt_view l.alts.items) (drop l.at c.args.bytes.now) (l.invariant.left xs rest h)))
+    finds-handed _ c.from_residual-in_err-rec.result c.in_err-rec.field-0.0 c.from_residual-in_err-rec.ensures.1 c.in_err-rec.ensures.damage (alts-none xs rest (map alt_view l.alts.items) (drop l.at c.args.bytes.now) (l.invariant.left xs rest h)))
 
 pub returns-in-LeafEnd-clause-found : goal.returns-in-LeafEnd-clause-found
 returns-in-LeafEnd-clause-found c = λ xs rest h. (

@@ -1,4 +1,4 @@
-use Rattle.std.proofs.Common.{◌≡◌, ◌≤◌, ◌-◌, ℕ, List, IsTrue, map, drop, length}
+use Rattle.std.proofs.Common.{◌≤◌, ◌-◌, ℕ, List, IsTrue, map, drop, length}
 use Rattle.archive_tree.specs.Data.{PlainAlt}
 use Rattle.archive_tree.specs.View.{alt_view}
 use Rattle.archive_tree.specs.WellFormed.{are_alts_well_formed}

@@ -1,4 +1,4 @@
-use Rattle.std.proofs.Common.{rules, ◌≡◌, Some, sym, ◌∙◌, arith}
+use Rattle.std.proofs.Common.{rules, Some, sym, ◌∙◌, arith}
 use Rattle.record_format.specs.Bounds.{IsStamp}
 use Rattle.record_format.specs.Spelling.{stamp_bytes}
 use Rattle.record_format.specs.Reading.{stamp_at, value_at}

@@ -1,4 +1,4 @@
-use Rattle.std.proofs.Common.{rules, ◌≡◌, Some, sym, ◌∙◌, arith}
+use Rattle.std.proofs.Common.{rules, Some, sym, ◌∙◌, arith}
 use Rattle.record_format.specs.Bounds.{IsLabel}
 use Rattle.record_format.specs.Spelling.{label_bytes}
 use Rattle.record_format.specs.Reading.{label_at, stamp_at}

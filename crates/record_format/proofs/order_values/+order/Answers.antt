@@ -1,5 +1,5 @@
-use Rattle.std.proofs.Common.{rules, ◌∷◌, [], ◌-◌, map, drop, Some, None, sym, ◌∙◌, arith}
-use Rattle.std.specs.declared.cmp.Ordering.TheVariants.{Less, Equal, Greater}
+use Rattle.std.proofs.Common.{rules, ◌∷◌, [], ◌-◌, map, drop, None, sym, ◌∙◌, arith}
+use Rattle.std.specs.declared.cmp.Ordering.TheVariants.{Less, Equal}
 use Rattle.jsonml_tree.specs.Order.{tree_cmp}
 use Rattle.jsonml_tree.specs.View.{tree_view}
 use Rattle.xa_fields.specs.Reading.{many_at}

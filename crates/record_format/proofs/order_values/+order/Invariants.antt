@@ -1,4 +1,4 @@
-use Rattle.std.proofs.Common.{◌≤◌, ◌+◌, ◌*◌, ◌-◌, length, drop, map}
+use Rattle.std.proofs.Common.{◌+◌, ◌*◌, ◌-◌, drop, map}
 use Rattle.xa_fields.specs.Reading.{many_at}
 use Rattle.jsonml_tree.specs.Order.{tree_cmp}
 use Rattle.jsonml_tree.specs.View.{tree_view}

@@ -1,4 +1,4 @@
-use Rattle.std.proofs.Common.{rules, drop}
+use Rattle.std.proofs.Common.{drop}
 use Rattle.record_format.specs.Shown.{shown_scalar}
 use Rattle.record_format.proofs.ValueOrders.{scalar_fails, scalar_scalar, scalar_content}
 use Rattle.record_format.proofs.order_values.order_scalar_value.Goals as goal

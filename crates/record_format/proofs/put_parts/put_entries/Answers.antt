@@ -3,7 +3,7 @@ use Rattle.std.specs.List.{flat_map}
 use Rattle.record_format.specs.View.{entry_view}
 use Rattle.record_format.specs.Spelling.{entry_bytes}
 use Rattle.record_format.specs.declared.rec.Entry.{Entry}
-use Rattle.xa_fields.proofs.Combinators.{grows_past, grows_on}
+use Rattle.xa_fields.proofs.Combinators.{grows_on}
 use Rattle.record_format.proofs.put_parts.put_entries.Goals as goal
 
 one_more : (o p q : List ℕ) (xs : List Entry) (i : ℕ) (d : Entry) → i < length xs → q ≡ p ++ entry_bytes (entry_view (get_or xs i d)) → p ++ flat_map entry_bytes (map entry_view (drop i xs)) ≡ o → q ++ flat_map entry_bytes (map entry_view (drop (i + 1) xs)) ≡ o

@@ -1,5 +1,5 @@
 use Rattle.std.proofs.Common.{◌≡◌, ◌++◌, map, drop}
-use Rattle.std.specs.List.{flat_map, AllByRecursion}
+use Rattle.std.specs.List.{flat_map}
 use Rattle.record_format.specs.View.{entry_view}
 use Rattle.record_format.specs.Spelling.{entry_bytes}
 use Rattle.xa_fields.specs.Laws.{Grows}

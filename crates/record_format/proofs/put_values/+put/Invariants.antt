@@ -1,5 +1,4 @@
-use Rattle.std.proofs.Common.{◌≡◌, ◌++◌, map, drop}
-use Rattle.std.specs.List.{flat_map, AllByRecursion}
+use Rattle.std.proofs.Common.{◌≡◌, ◌++◌, drop}
 use Rattle.jsonml_tree.specs.View.{items_view}
 use Rattle.record_format.specs.Spelling.{items_bytes}
 use Rattle.record_format.specs.Bounds.{AreItems}

@@ -1,4 +1,4 @@
-use Rattle.std.proofs.Common.{rules, ◌≡◌, drop, sym}
+use Rattle.std.proofs.Common.{drop, sym}
 use Rattle.record_format.specs.Behind.{behind}
 use Rattle.record_format.specs.Reading.{pair_at, next_pair, chain_at}
 use Rattle.record_format.proofs.Skips.{pass_on, pass_breaks, pass_stops, pass_done}

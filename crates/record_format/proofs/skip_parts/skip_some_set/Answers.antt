@@ -1,4 +1,4 @@
-use Rattle.std.proofs.Common.{rules, ◌≡◌, ◌<◌, drop, sym, ◌∙◌, arith}
+use Rattle.std.proofs.Common.{◌<◌, drop, sym, ◌∙◌, arith}
 use Rattle.xa_fields.proofs.Fields.{IsBytes-drop}
 use Rattle.record_format.proofs.SomeSets.{no_set, some_set}
 use Rattle.record_format.proofs.skip_parts.skip_some_set.Goals as goal

@@ -1,4 +1,4 @@
-use Rattle.std.proofs.Common.{rules, ◌≡◌, drop, None, sym}
+use Rattle.std.proofs.Common.{rules, drop, None, sym}
 use Rattle.std.specs.Option.{option_map}
 use Rattle.jsonml_tree.specs.Data.{PlainAttr}
 use Rattle.record_format.specs.Behind.{behind}

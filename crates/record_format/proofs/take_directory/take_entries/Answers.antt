@@ -1,11 +1,9 @@
 use Rattle.std.proofs.Common.{◌≡◌, ◌++◌, ◌∷◌, [], map, drop, sym}
-use Rattle.std.proofs.lemmas.Result.{err_from_is_err_and}
 use Rattle.std.proofs.lemmas.List.{map_push}
 use Rattle.xa_fields.specs.Reading.{many_at}
 use Rattle.xa_fields.proofs.Loops.{goes_on, breaks_off, is_done}
 use Rattle.record_format.specs.View.{entry_view}
 use Rattle.record_format.specs.Reading.{entry_at}
-use Rattle.record_format.proofs.Loops.{fails_in}
 use Rattle.record_format.proofs.take_directory.take_entries.Goals as goal
 
 pub returns-in_default-clause-found : goal.returns-in_default-clause-found

@@ -1,4 +1,4 @@
-use Rattle.std.proofs.Common.{rules, ◌≡◌, ◌<◌, ◌^◌, length, drop, map, sym, ◌∙◌, arith}
+use Rattle.std.proofs.Common.{◌≡◌, ◌<◌, ◌^◌, length, drop, map, sym, arith}
 use Rattle.std.proofs.lemmas.List.{length-map}
 use Rattle.xa_fields.proofs.Fields.{IsBytes-drop, u32_reads}
 use Rattle.record_format.specs.View.{entry_view}

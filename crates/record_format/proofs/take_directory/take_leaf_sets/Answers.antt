@@ -1,8 +1,8 @@
-use Rattle.std.proofs.Common.{rules, ◌≡◌, ◌++◌, ◌∷◌, [], map, drop, sym}
+use Rattle.std.proofs.Common.{map, drop}
 use Rattle.std.proofs.lemmas.Result.{err_from_is_err_and}
 use Rattle.version_set.specs.View.{pairs_of}
 use Rattle.xa_fields.specs.Reading.{many_at}
-use Rattle.record_format.specs.Reading.{tree_node_at, with_leaf_sets, leaf_sets}
+use Rattle.record_format.specs.Reading.{tree_node_at, with_leaf_sets}
 use Rattle.record_format.proofs.Directories.{node_on, node_fails, nodes_done}
 use Rattle.record_format.proofs.take_directory.take_leaf_sets.Goals as goal
 

@@ -1,4 +1,4 @@
-use Rattle.std.proofs.Common.{rules, ◌≡◌, ◌++◌, ◌∷◌, [], drop, sym}
+use Rattle.std.proofs.Common.{drop, sym}
 use Rattle.record_format.specs.Reading.{pair_at, next_pair, chain_at}
 use Rattle.record_format.proofs.Chains.{chain_on, chain_breaks, chain_stops, chain_done}
 use Rattle.record_format.proofs.take_parts.take_pairs.Goals as goal

@@ -1,4 +1,4 @@
-use Rattle.std.proofs.Common.{rules, ◌≡◌, List, ℕ, Option, Some, None, sym, drop, arith}
+use Rattle.std.proofs.Common.{rules, ◌≡◌, List, ℕ, Option, Some, None, drop, arith}
 use Rattle.std.specs.Prelude.{SomeIff, option_map}
 use Rattle.version_set.specs.Pairs.{IsCanonical}
 use Rattle.version_set.specs.View.{pairs_of}

@@ -1,8 +1,8 @@
-use Rattle.std.proofs.Common.{◌≡◌, ◌++◌, ◌∷◌, [], map, drop, sym}
+use Rattle.std.proofs.Common.{◌≡◌, ◌++◌, ◌∷◌, [], map, drop}
 use Rattle.std.proofs.lemmas.Result.{err_from_is_err_and}
 use Rattle.std.proofs.lemmas.List.{map_push}
 use Rattle.xa_fields.specs.Reading.{many_at}
-use Rattle.xa_fields.proofs.Loops.{goes_on, breaks_off, is_done}
+use Rattle.xa_fields.proofs.Loops.{goes_on, is_done}
 use Rattle.keyed_tree.specs.View.{key_view}
 use Rattle.record_format.specs.Reading.{value_at}
 use Rattle.record_format.proofs.Loops.{fails_in}

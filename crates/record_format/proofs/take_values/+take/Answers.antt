@@ -10,7 +10,7 @@ use Rattle.record_format.proofs.take_values.+take.Goals as goal
 
 pub take_items-returns-in_err-item-clause-found : goal.take_items-returns-in_err-item-clause-found
 take_items-returns-in_err-item-clause-found t c =
-    let p = err_from_is_err_and c.from_residual.result c.from_residual.ensures.1 in
+    let p = err_from_is_err_and c.from_residual-in_err-item.result c.from_residual-in_err-item.ensures.1 in
     rw (p.1, p.2) (fails_in (item_at c.args.depth) c.in_err-item.field-0.0 (map tree_view c.loop.items.items) c.args.count c.loop.counter (drop c.loop.at c.args.bytes.now) (many_at (item_at c.args.depth) c.args.count (drop c.args.at c.args.bytes.now)) c.loop-test.true c.in_err-item.ensures.found c.loop.invariant.read)
 
 pub take_items-loop-preserved : goal.take_items-loop-preserved

@@ -1,0 +1,32 @@
+use Rattle.key_spec.specs.View.{spec_view}
+use Rattle.archive_file.proofs.AlikeLaws.{keyed-alike}
+use Rattle.archive_file.proofs.FewItems.{sound-few}
+use Rattle.archive_file.proofs.OneReading.{sound-one}
+use Rattle.archive_file.proofs.decode.decode_file.Goals as goal
+
+pub returns-in_err-spec-clause-one : goal.returns-in_err-spec-clause-one
+returns-in_err-spec-clause-one c = λ rules others vs us s z. sound-one rules vs others us c.args.bytes.now s z
+
+pub returns-in_err-spec-clause-items : goal.returns-in_err-spec-clause-items
+returns-in_err-spec-clause-items c = λ rules vs s. sound-few rules vs c.args.bytes.now s
+
+pub returns-in_err-is_file-clause-one : goal.returns-in_err-is_file-clause-one
+returns-in_err-is_file-clause-one c = λ rules others vs us s z. sound-one rules vs others us c.args.bytes.now s z
+
+pub returns-in_err-is_file-clause-items : goal.returns-in_err-is_file-clause-items
+returns-in_err-is_file-clause-items c = λ rules vs s. sound-few rules vs c.args.bytes.now s
+
+pub returns-then-not-branch-clause-one : goal.returns-then-not-branch-clause-one
+returns-then-not-branch-clause-one c = λ rules others vs us s z. sound-one rules vs others us c.args.bytes.now s z
+
+pub returns-then-not-branch-clause-items : goal.returns-then-not-branch-clause-items
+returns-then-not-branch-clause-items c = λ rules vs s. sound-few rules vs c.args.bytes.now s
+
+pub returns-clause-one : goal.returns-clause-one
+returns-clause-one c = λ rules others vs us s z. sound-one rules vs others us c.args.bytes.now s z
+
+pub returns-clause-items : goal.returns-clause-items
+returns-clause-items c = λ rules vs s. sound-few rules vs c.args.bytes.now s
+
+pub returns-clause-alike : goal.returns-clause-alike
+returns-clause-alike c = λ vs h. keyed-alike (spec_view c.in_ok-spec.spec) vs h
