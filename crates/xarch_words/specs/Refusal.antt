@@ -6,24 +6,37 @@ use Rattle.key_rules.specs.Faults.{PlainKeyFault}
 pub data PlainQuantity : Type 0 where
   document : PlainQuantity
   depth : PlainQuantity
+  versions : PlainQuantity
   specification : PlainQuantity
+  archive : PlainQuantity
+  line : PlainQuantity
+  batch : PlainQuantity
+  demo : PlainQuantity
 
 -- A refusal is an answer of the command itself: the words and the files alone say when it comes.
 pub data Refusal : Type 0 where
   usage : Refusal
   no_file : List ℕ → Refusal
+  exists : List ℕ → Refusal
   -- the line and why
   bad_spec : ℕ → ℕ → Refusal
   bad_json : Refusal
   -- the place and why
   bad_shape : List ℕ → ℕ → Refusal
   key_fault : PlainKeyFault → Refusal
+  -- the version that was asked for, and how many there are
+  no_version : ℕ → ℕ → Refusal
+  -- the step, which counts from 1, or 0 for the path as a whole
+  bad_path : ℕ → Refusal
+  -- the name of the archive
+  damaged : List ℕ → Refusal
   -- the quantity and the number that it passed
   limit : PlainQuantity → ℕ → Refusal
 
--- A fault is a refusal, a failure of the folder or of the output, or want of memory.
+-- A fault is a refusal, a failure of the folder, of the output or of the input, or want of memory.
 pub data PlainFault : Type 0 where
   refused : Refusal → PlainFault
   folder_fault : PlainFault
   out_fault : PlainFault
+  in_fault : PlainFault
   memory : PlainFault

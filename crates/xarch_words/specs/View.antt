@@ -2,34 +2,53 @@
 use Rattle.std.specs.Prelude.{ℕ, List, map, String, string_bytes}
 use Rattle.std.specs.declared.alloc.Global.{Global}
 use Rattle.key_rules.specs.View as keys
-use Rattle.xarch_words.specs.Commands.{PlainCommand, norm}
-use Rattle.xarch_words.specs.Refusal.{PlainQuantity, document, depth, specification, usage, no_file, bad_spec, bad_json, bad_shape, key_fault, limit, PlainFault, refused, folder_fault, out_fault, memory}
+use Rattle.xarch_words.specs.Commands as commands
+use Rattle.xarch_words.specs.Commands.{PlainCommand, norm, init, add, get, history, stats}
+use Rattle.xarch_words.specs.Refusal.{PlainQuantity, document, depth, versions, specification, archive, line, batch, demo, usage, no_file, exists, bad_spec, bad_json, bad_shape, key_fault, no_version, bad_path, damaged, limit, PlainFault, refused, folder_fault, out_fault, in_fault, memory}
 use Rattle.xarch_words.specs.declared.fault.Fault.{Fault}
-use Rattle.xarch_words.specs.declared.fault.Fault.TheVariants.{Usage, NoFile, BadSpec, BadJson, BadShape, KeyFault, Limit, FolderFault, OutFault, Memory}
+use Rattle.xarch_words.specs.declared.fault.Fault.TheVariants.{Usage, NoFile, Exists, BadSpec, BadJson, BadShape, KeyFault, NoVersion, BadPath, Damaged, Limit, FolderFault, OutFault, InFault, Memory}
 use Rattle.xarch_words.specs.declared.fault.Quantity.{Quantity}
-use Rattle.xarch_words.specs.declared.fault.Quantity.TheVariants.{Document, Depth, Specification}
+use Rattle.xarch_words.specs.declared.fault.Quantity.TheVariants as quantities
+use Rattle.xarch_words.specs.declared.fault.Quantity.TheVariants.{Document, Depth, Versions, Specification, Archive, Line}
 use Rattle.xarch_words.specs.declared.words.Command.{Command}
-use Rattle.xarch_words.specs.declared.words.Command.TheVariants.{Norm}
+use Rattle.xarch_words.specs.declared.words.Command.TheVariants.{Norm, Init, Add, Get, History, Stats, Batch, Demo}
 
 abbrev pub words_view : List (String Global) → List (List ℕ)
 words_view words = map string_bytes words
 
 abbrev pub command_view : Command → PlainCommand
 command_view (Norm spec doc) = norm spec.now doc.now
+command_view (Init name spec) = init name.now spec.now
+command_view (Add name doc) = add name.now doc.now
+command_view (Get name version) = get name.now version
+command_view (History name path) = history name.now path.now
+command_view (Stats name) = stats name.now
+command_view Batch = commands.batch
+command_view (Demo seed count name) = commands.demo seed count name.now
 
 abbrev pub quantity_view : Quantity → PlainQuantity
 quantity_view Document = document
 quantity_view Depth = depth
+quantity_view Versions = versions
 quantity_view Specification = specification
+quantity_view Archive = archive
+quantity_view Line = line
+quantity_view quantities.Batch = batch
+quantity_view quantities.Demo = demo
 
 abbrev pub fault_view : Fault → PlainFault
 fault_view Usage = refused usage
 fault_view (NoFile name) = refused (no_file (string_bytes name))
-fault_view (BadSpec line why) = refused (bad_spec line why)
+fault_view (Exists name) = refused (exists (string_bytes name))
+fault_view (BadSpec l why) = refused (bad_spec l why)
 fault_view BadJson = refused bad_json
 fault_view (BadShape place why) = refused (bad_shape place.steps.items why)
 fault_view (KeyFault f) = refused (key_fault (keys.fault_view f))
+fault_view (NoVersion i n) = refused (no_version i n)
+fault_view (BadPath step) = refused (bad_path step)
+fault_view (Damaged name) = refused (damaged (string_bytes name))
 fault_view (Limit quantity number) = refused (limit (quantity_view quantity) number)
 fault_view FolderFault = folder_fault
 fault_view OutFault = out_fault
+fault_view InFault = in_fault
 fault_view Memory = memory

@@ -16,20 +16,32 @@ pub enum Quantity {
     Document,
     /// The levels on which the elements of a document stand; the root is on the first.
     Depth,
+    /// The versions of an archive.
+    Versions,
     /// The bytes of a specification.
     Specification,
+    /// The bytes of an archive's file.
+    Archive,
+    /// The bytes of a line of a batch.
+    Line,
+    /// The bytes of a batch.
+    Batch,
+    /// The versions that a demonstration makes.
+    Demo,
 }
 
 /// Why a command ends without its answer.
 ///
-/// The first seven are refusals, which the words and the files alone decide. The others come from the outside: a call
-/// on the folder or on the output failed, or memory ran out.
+/// All but the last four are refusals, which the words and the files alone decide. The last four come from the
+/// outside: a call on the folder, on the output or on the input failed, or memory ran out.
 #[derive(Debug, Drop)]
 pub enum Fault {
     /// The words are no command.
     Usage,
     /// A named input file is not there.
     NoFile { name: String },
+    /// A file that is to be made is there.
+    Exists { name: String },
     /// The specification has no closed reading. Lines count from 1; line 0 stands for the specification as a whole.
     BadSpec { line: u32, why: u8 },
     /// The bytes of a document are no JSON.
@@ -38,10 +50,17 @@ pub enum Fault {
     BadShape { place: Place, why: u8 },
     /// The document does not satisfy the keys.
     KeyFault(KeyFault),
+    /// The archive has n versions, and none of the number i.
+    NoVersion { i: u32, n: u32 },
+    /// A step of a path is bad. Steps count from 1; step 0 stands for the path as a whole.
+    BadPath { step: u32 },
+    /// The file of this name is no archive as this program writes it.
+    Damaged { name: String },
     /// A quantity is above this number.
     Limit { quantity: Quantity, number: u64 },
     FolderFault,
     OutFault,
+    InFault,
     Memory,
 }
 
@@ -68,13 +87,18 @@ pub fn status(fault: &Fault) -> u8
     match fault {
         Fault::Usage => 2,
         Fault::NoFile { .. } => 3,
+        Fault::Exists { .. } => 4,
         Fault::BadSpec { .. } => 5,
         Fault::BadJson => 6,
         Fault::BadShape { .. } => 7,
         Fault::KeyFault(_) => 8,
+        Fault::NoVersion { .. } => 9,
+        Fault::BadPath { .. } => 10,
+        Fault::Damaged { .. } => 11,
         Fault::Limit { .. } => 12,
         Fault::FolderFault => 13,
         Fault::OutFault => 14,
+        Fault::InFault => 15,
         Fault::Memory => 16,
     }
 }

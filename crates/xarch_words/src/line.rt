@@ -7,7 +7,7 @@ ghost use Rattle.xa_outside.specs.Taken.{Puts};
 ghost use Rattle.xa_outside.specs.Causes.{HasCause};
 ghost use Rattle.key_spec.specs.Names.{ends_text, path_text, slashed};
 ghost use Rattle.key_spec.specs.View.{names_view, path_view};
-ghost use Rattle.xarch_words.specs.Lines.{fault_line, fault_text, key_path_text, place_text, quantity_text, step_text, why_text};
+ghost use Rattle.xarch_words.specs.Lines.{fault_line, fault_text, key_path_text, no_version_text, place_text, quantity_text, step_text, why_text};
 ghost use Rattle.xarch_words.specs.View.{fault_view, quantity_view};
 
 use crate::fault::{Fault, Quantity};
@@ -56,13 +56,18 @@ fn put_text<E: Sink>(err: &mut E, fault: &Fault) -> Result<(), Failed>
     match fault {
         Fault::Usage => put_all(err, b"these words are no command"),
         Fault::NoFile { name } => put_both(err, b"no file ", name.as_bytes()),
+        Fault::Exists { name } => put_both(err, name.as_bytes(), b" exists"),
         Fault::BadSpec { line, why } => put_line(err, b"bad specification, line ", *line, *why),
         Fault::BadJson => put_all(err, b"bad json"),
         Fault::BadShape { place, why } => put_at(err, b"bad shape at ", &place.steps, *why),
         Fault::KeyFault(fault) => put_key_fault(err, b"key fault at ", fault),
+        Fault::NoVersion { i, n } => put_no_version(err, *i, *n),
+        Fault::BadPath { step } => put_number(err, b"bad path, step ", *step),
+        Fault::Damaged { name } => put_both(err, b"damaged archive ", name.as_bytes()),
         Fault::Limit { quantity, number } => put_limit(err, *quantity, *number),
         Fault::FolderFault => put_all(err, b"folder fault"),
         Fault::OutFault => put_all(err, b"output fault"),
+        Fault::InFault => put_all(err, b"input fault"),
         Fault::Memory => put_all(err, b"out of memory"),
     }
 }
@@ -130,6 +135,29 @@ fn put_steps<E: Sink>(err: &mut E, steps: &[u32]) -> Result<(), Failed>
     Ok(())
 }
 
+#[tactic(auto, unfolding(crate::specs::Lines::no_version_text))]
+fn put_no_version<E: Sink>(err: &mut E, i: u32, n: u32) -> Result<(), Failed>
+    ensures bytes { Puts (E.taken err.old) (E.taken err.new) result (no_version_text i n) }
+    ensures cause { HasCause (E.faults err.old) (E.faults err.new) result }
+{
+    put_numbers(err, b"no version ", i, b" of ", n)
+}
+
+/// Two numbers, each behind a text.
+fn put_numbers<E: Sink>(
+    err: &mut E,
+    before: &[u8],
+    first: u32,
+    between: &[u8],
+    second: u32,
+) -> Result<(), Failed>
+    ensures bytes { Puts (E.taken err.old) (E.taken err.new) result (before.now ++ decimal first ++ (between.now ++ decimal second)) }
+    ensures cause { HasCause (E.faults err.old) (E.faults err.new) result }
+{
+    put_number(err, before, first)?;
+    put_number(err, between, second)
+}
+
 fn put_limit<E: Sink>(err: &mut E, quantity: Quantity, number: u64) -> Result<(), Failed>
     ensures bytes { Puts (E.taken err.old) (E.taken err.new) result (codes "limit " ++ quantity_text (quantity_view quantity) ++ decimal number) }
     ensures cause { HasCause (E.faults err.old) (E.faults err.new) result }
@@ -137,7 +165,12 @@ fn put_limit<E: Sink>(err: &mut E, quantity: Quantity, number: u64) -> Result<()
     let before: &[u8] = match quantity {
         Quantity::Document => b"limit document ",
         Quantity::Depth => b"limit depth ",
+        Quantity::Versions => b"limit versions ",
         Quantity::Specification => b"limit specification ",
+        Quantity::Archive => b"limit archive ",
+        Quantity::Line => b"limit line ",
+        Quantity::Batch => b"limit batch ",
+        Quantity::Demo => b"limit demo ",
     };
     put_number(err, before, number)
 }

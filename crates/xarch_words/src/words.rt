@@ -1,14 +1,51 @@
 #![tactic(auto, using(crate::proofs::Pieces::pieces))]
 
 ghost use Rattle.std.specs.Prelude.{◌≡◌, option_map};
-ghost use Rattle.xarch_words.specs.Commands.{command_of, command_of_three};
+ghost use Rattle.xarch_words.specs.Commands.{command_of, command_of_four, command_of_one, command_of_three, command_of_two, demo_of, get, number_of, question_of};
 ghost use Rattle.xarch_words.specs.View.{command_view, words_view};
+
+use itoa::Buffer;
 
 /// One command, with the names that its words give.
 #[derive(Clone, Copy, Debug, PartialEq, Eq)]
 pub enum Command<'a> {
     /// Writes a document in key order.
-    Norm { spec: &'a str, doc: &'a str },
+    Norm {
+        spec: &'a str,
+        doc: &'a str,
+    },
+    /// Makes an archive of no versions.
+    Init {
+        archive: &'a str,
+        spec: &'a str,
+    },
+    /// Adds a document to an archive as its next version.
+    Add {
+        archive: &'a str,
+        doc: &'a str,
+    },
+    /// Writes a version of an archive in key order. Versions count from 1.
+    Get {
+        archive: &'a str,
+        version: u32,
+    },
+    /// Writes the versions that hold the element at a path.
+    History {
+        archive: &'a str,
+        path: &'a str,
+    },
+    /// Writes how much an archive holds.
+    Stats {
+        archive: &'a str,
+    },
+    /// Runs the commands that the input spells.
+    Batch,
+    /// Makes an archive of so many generated documents.
+    Demo {
+        seed: u32,
+        count: u32,
+        archive: &'a str,
+    },
 }
 
 /// The command that the words spell, or None where they are no command. It takes no memory.
@@ -16,7 +53,28 @@ pub fn read_words(words: &[String]) -> Option<Command<'_>>
     ensures { option_map command_view result ≡ command_of (words_view words.now) }
 {
     match words {
+        [word] => one_word(word),
+        [word, archive] => two_words(word, archive),
         [word, first, second] => three_words(word, first, second),
+        [word, seed, count, archive] => four_words(word, seed, count, archive),
+        _ => None,
+    }
+}
+
+fn one_word<'a>(word: &str) -> Option<Command<'a>>
+    ensures { option_map command_view result ≡ command_of_one word.now }
+{
+    match word {
+        "batch" => Some(Command::Batch),
+        _ => None,
+    }
+}
+
+fn two_words<'a>(word: &str, archive: &'a str) -> Option<Command<'a>>
+    ensures { option_map command_view result ≡ command_of_two word.now archive.now }
+{
+    match word {
+        "stats" => Some(Command::Stats { archive }),
         _ => None,
     }
 }
@@ -30,6 +88,73 @@ fn three_words<'a>(word: &str, first: &'a str, second: &'a str) -> Option<Comman
             spec: first,
             doc: second,
         }),
+        "init" => Some(Command::Init {
+            archive: first,
+            spec: second,
+        }),
+        "add" => Some(Command::Add {
+            archive: first,
+            doc: second,
+        }),
+        _ => question(word, first, second),
+    }
+}
+
+/// What is asked of an archive.
+#[tactic(auto, unfolding(crate::specs::Commands::question_of))]
+fn question<'a>(word: &str, archive: &'a str, what: &'a str) -> Option<Command<'a>>
+    ensures { option_map command_view result ≡ question_of word.now archive.now what.now }
+{
+    match word {
+        "get" => version_of(archive, what),
+        "history" => Some(Command::History {
+            archive,
+            path: what,
+        }),
         _ => None,
+    }
+}
+
+fn version_of<'a>(archive: &'a str, word: &str) -> Option<Command<'a>>
+    ensures { option_map command_view result ≡ option_map (get archive.now) (number_of word.now) }
+{
+    let version = read_number(word)?;
+    Some(Command::Get { archive, version })
+}
+
+fn four_words<'a>(word: &str, seed: &str, count: &str, archive: &'a str) -> Option<Command<'a>>
+    ensures { option_map command_view result ≡ command_of_four word.now seed.now count.now archive.now }
+{
+    match word {
+        "demo" => demo_from(seed, count, archive),
+        _ => None,
+    }
+}
+
+fn demo_from<'a>(seed: &str, count: &str, archive: &'a str) -> Option<Command<'a>>
+    ensures { option_map command_view result ≡ demo_of seed.now count.now archive.now }
+{
+    let seed = read_number(seed)?;
+    let count = read_number(count)?;
+    Some(Command::Demo {
+        seed,
+        count,
+        archive,
+    })
+}
+
+/// The number that a word spells as this program would print it, if it has 32 bits.
+#[tactic(auto, unfolding(crate::specs::Commands::number_of))]
+fn read_number(word: &str) -> Option<u32>
+    ensures { result ≡ number_of word.now }
+{
+    let Ok(number) = word.parse::<u32>() else {
+        return None;
+    };
+    let mut buffer = Buffer::new();
+    if buffer.format(number) == word {
+        Some(number)
+    } else {
+        None
     }
 }
