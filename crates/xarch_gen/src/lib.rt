@@ -1,0 +1,12 @@
+//! Generated documents: the company specification, and documents that satisfy it.
+#![tactic(auto)]
+
+mod company;
+mod document;
+mod elements;
+mod employee;
+#[cfg(test)]
+mod tests;
+
+pub use company::company_spec;
+pub use document::sample;
