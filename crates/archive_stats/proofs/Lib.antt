@@ -1,0 +1,5 @@
+pub mod Sums
+pub mod Tallies
+pub mod Scanned
+pub mod Records
+pub mod Files

@@ -1,0 +1,74 @@
+-- What is counted of an archive and of its file.
+use Rattle.std.specs.Prelude.{ℕ, ◌+◌, max, Bool, true, false, not, List, [], ◌∷◌, ◌++◌, length, fold, count_by, sum_by, if◌then◌else◌}
+use Rattle.std.specs.Option.{is_some}
+use Rattle.key_spec.specs.Data.{PlainRule}
+use Rattle.archive_tree.specs.Data.{PlainAlt, PlainNode, inner_node, leaf_node, PlainNodes, no_nodes, node, node_stamp, PlainArchive}
+use Rattle.record_format.specs.Data.{PlainRec, inner_rec, leaf_rec, alt_rec, end_rec, leaf_end}
+use Rattle.record_format.specs.Spelling.{rec_bytes}
+use Rattle.record_format.specs.Files.{header_bytes, file_records, file_bytes}
+
+pub record PlainCounts : Type 0 where
+  pub versions : ℕ
+  pub inner : ℕ
+  pub leaves : ℕ
+  pub alternatives : ℕ
+  pub stamps : ℕ
+  pub largest : ℕ
+  pub bytes : ℕ
+
+-- ---- nodes
+
+abbrev mutual
+  -- the node, and all nodes below it
+  pub nodes_from : PlainNode → List PlainNode
+  nodes_from (inner_node l s ks) = inner_node l s ks ∷ nodes_among ks
+  nodes_from (leaf_node l s xs) = leaf_node l s xs ∷ []
+
+  pub nodes_among : PlainNodes → List PlainNode
+  nodes_among no_nodes = []
+  nodes_among (node k ks) = nodes_from k ++ nodes_among ks
+
+abbrev pub is_inner : PlainNode → Bool
+is_inner (inner_node l s ks) = true
+is_inner (leaf_node l s xs) = false
+
+abbrev pub is_leaf : PlainNode → Bool
+is_leaf k = not (is_inner k)
+
+-- the alternatives of a leaf, and none of an inner node
+abbrev pub alts_of : PlainNode → List PlainAlt
+alts_of (inner_node l s ks) = []
+alts_of (leaf_node l s xs) = xs
+
+-- the timestamps that the node and its alternatives store
+abbrev pub stamps_of : PlainNode → ℕ
+stamps_of k = (if is_some (node_stamp k) then 1 else 0) + count_by (λ (x : PlainAlt). is_some x.stamp) (alts_of k)
+
+-- ---- records
+
+-- the bytes of a record, without the body of an END
+abbrev pub weight : PlainRec → ℕ
+weight (inner_rec l s) = length (rec_bytes (inner_rec l s))
+weight (leaf_rec l s) = length (rec_bytes (leaf_rec l s))
+weight (alt_rec s b) = length (rec_bytes (alt_rec s b))
+weight (end_rec d) = 9
+weight leaf_end = length (rec_bytes leaf_end)
+
+-- the greatest of the header's bytes and each record's, the body of an END not counted
+abbrev pub largest : List PlainRule → PlainArchive → ℕ
+largest rules a = fold (λ most r. max most (weight r)) (length (header_bytes rules a.n)) (file_records a)
+
+-- ---- the seven numbers
+
+unfoldable pub counts : List PlainRule → PlainArchive → PlainCounts
+counts rules a =
+    let nodes = nodes_among a.kids in
+    record {
+      versions = a.n;
+      inner = count_by is_inner nodes;
+      leaves = count_by is_leaf nodes;
+      alternatives = sum_by (λ k. length (alts_of k)) nodes;
+      stamps = sum_by stamps_of nodes;
+      largest = largest rules a;
+      bytes = length (file_bytes rules a);
+    }

@@ -1,0 +1,4 @@
+pub mod Counts
+pub mod Pieces
+pub mod Tally
+pub mod View

@@ -1,0 +1,59 @@
+// What one record adds to the counts.
+ghost use Rattle.std.specs.Prelude.{◌≡◌, ◌≤◌, ◌+◌, ◌-◌, ◌^◌, ◌++◌, ℕ, List, length, if◌then◌else◌};
+ghost use Rattle.std.specs.Option.{is_some};
+ghost use Rattle.archive_tree.specs.Data.{Stamp};
+ghost use Rattle.record_format.specs.Bounds.{IsRec};
+ghost use Rattle.record_format.specs.Data.{PlainRec};
+ghost use Rattle.record_format.specs.Spelling.{rec_bytes, stamp_bytes};
+ghost use Rattle.archive_stats.specs.Tally.{counted, IsBelow};
+ghost use Rattle.archive_stats.specs.View.{counts_view};
+
+use crate::counts::Counts;
+use record_format::{View, view};
+
+/// A record without its body: a byte of its kind, and eight of the body's length.
+const FRAME: usize = 9;
+
+/// The counts with one more record, which has these bytes.
+pub(crate) fn with_record(counts: Counts, bytes: &[u8]) -> Counts
+    requires { IsBelow (2 ^ 64 - 2) (counts_view counts) }
+    ensures counted { (r : PlainRec) → IsRec r → bytes.now ≡ rec_bytes r → counts_view result ≡ counted (counts_view counts) r }
+    ensures below { (n : ℕ) → IsBelow n (counts_view counts) → IsBelow (n + 1) (counts_view result) }
+{
+    let largest = counts.largest.max(bytes.len() as u64);
+    match view(bytes) {
+        Some(View::Inner { label, .. }) => Counts {
+            inner: counts.inner + 1,
+            stamps: counts.stamps + stored(bytes, FRAME + label.bytes().len()),
+            largest,
+            ..counts
+        },
+        Some(View::Leaf { label, .. }) => Counts {
+            leaves: counts.leaves + 1,
+            stamps: counts.stamps + stored(bytes, FRAME + label.bytes().len()),
+            largest,
+            ..counts
+        },
+        Some(View::Alt { .. }) => Counts {
+            alternatives: counts.alternatives + 1,
+            stamps: counts.stamps + stored(bytes, FRAME),
+            largest,
+            ..counts
+        },
+        None => Counts {
+            largest: counts.largest.max(FRAME as u64),
+            ..counts
+        },
+    }
+}
+
+// 1 where the timestamp at the offset is stored, and 0 where it is inherited.
+fn stored(bytes: &[u8], at: usize) -> u64
+    ensures is { (front rest : List ℕ) (s : Stamp) → bytes.now ≡ front ++ (stamp_bytes s ++ rest) → at ≡ length front → result ≡ (if is_some s then 1 else 0) }
+    ensures one { result ≤ 1 }
+{
+    match bytes.get(at) {
+        Some(1) => 1,
+        _ => 0,
+    }
+}
