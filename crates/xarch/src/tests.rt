@@ -8,25 +8,36 @@ const NAME: &str = "xarch-test-of-the-folder";
 
 #[test]
 fn the_real_folder_reads_what_was_committed(rt: HostRuntime) -> Result<(), Fail> {
-    let mut folder = DiskFolder::new(&rt, rt.alloc());
+    let alloc = rt.alloc();
+    let mut folder = DiskFolder::new(&rt, alloc);
+    let long = vec![in alloc; b'x'; 70_000]?;
     folder.begin().map_err(|_| "begin")?;
     folder.append(b"first, ").map_err(|_| "append")?;
-    folder.append(b"second").map_err(|_| "append")?;
+    folder.append(&long).map_err(|_| "append")?;
+    folder.append(b", last").map_err(|_| "append")?;
     folder.commit(NAME).map_err(|_| "commit")?;
     let length = folder.length(NAME).map_err(|_| "length")?;
-    assert_eq!(rt; length, Some(13));
+    assert_eq!(rt; length, Some(70_013));
     let mut bytes = [0u8; 6];
-    let count = fill_at(&mut folder, NAME, 7, &mut bytes).map_err(|_| "fill_at")?;
+    let count = fill_at(&mut folder, NAME, 70_007, &mut bytes).map_err(|_| "fill_at")?;
     assert_eq!(rt; count, 6);
-    assert_eq!(rt; bytes, *b"second");
-    assert!(rt; folder.length(".xarch-draft").is_err());
-    assert!(rt; folder.length(".").is_err());
-    folder.begin().map_err(|_| "begin")?;
-    folder.discard();
-    assert!(rt; fs::open(&rt, ".xarch-draft").is_err());
+    assert_eq!(rt; bytes, *b", last");
+    let mut whole = vec![in alloc; 0u8; 70_000]?;
+    let count = fill_at(&mut folder, NAME, 7, &mut whole).map_err(|_| "fill_at")?;
+    assert_eq!(rt; count, 70_000);
+    assert!(rt; whole == long);
     fs::remove_file(&rt, NAME)?;
     let absent = folder.length(NAME).map_err(|_| "length")?;
     assert_eq!(rt; absent, None);
+    let mut one = [0u8; 1];
+    assert!(rt; folder.length(".").is_err());
+    assert!(rt; folder.read_at(".", 0, &mut one).is_err());
+    assert!(rt; folder.length(".xarch-draft").is_err());
+    assert!(rt; folder.read_at(".xarch-draft", 0, &mut one).is_err());
+    folder.begin().map_err(|_| "begin")?;
+    assert!(rt; folder.commit(".xarch-draft").is_err());
+    folder.discard();
+    assert!(rt; fs::open(&rt, ".xarch-draft").is_err());
     Ok(())
 }
 

@@ -1,3 +1,11 @@
-pub mod Ending
-pub mod KeyedCalls
-pub mod Running
+pub mod WordLemmas
+pub mod Cuts
+pub mod FeedLemmas
+pub mod LineLemmas
+pub mod Runs
+pub mod Going
+pub mod TurnLemmas
+pub mod LineReading
+pub mod SayLemmas
+pub mod BatchLemmas
+pub mod CommandLemmas

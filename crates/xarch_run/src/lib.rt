@@ -1,14 +1,26 @@
 //! The program as one call: what the words of a command line have it do.
 #![tactic(auto)]
 
-mod inputs;
-mod limits;
-mod norm;
-mod print;
+mod batch;
+mod feed;
+mod front;
+mod line;
+mod lines;
 mod program;
-mod readings;
+mod say;
+mod stop;
 #[cfg(test)]
 mod tests;
+#[cfg(test)]
+mod tests_archives;
+#[cfg(test)]
+mod tests_batch;
+#[cfg(test)]
+mod tests_counts;
+#[cfg(test)]
+mod tests_history;
+mod turn;
+mod words;
 
 pub use program::run;
 pub use xarch_words::{Command, Fault, Quantity, read_words, status, write_fault};

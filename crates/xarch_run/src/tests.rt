@@ -3,13 +3,13 @@ use std::alloc::{AllocError, Global};
 use std::test::Fail;
 use xa_outside::{FolderCall, FolderFail, MemFolder, MemSink, SureSource};
 
-const COMPANY: &[u8] =
+pub(crate) const COMPANY: &[u8] =
     b"# company\n(/, (db, {}))\n(/db, (dept, {name}))\n(/db/dept, (emp, {fn, ln}))\n(/db/dept/emp, (sal, {}))\n(/db/dept/emp, (tel, {.}))\n";
 
-const TINY: &[u8] = b"(/, (db, {}))\n";
+pub(crate) const TINY: &[u8] = b"(/, (db, {}))\n";
 
 /// One employee in key order.
-const JOHN: &[u8] =
+pub(crate) const JOHN: &[u8] =
     b"[\"db\",[\"dept\",[\"emp\",[\"fn\",\"John\"],[\"ln\",\"Doe\"],[\"sal\",\"90K\"],[\"tel\",\"123-4567\"]],[\"name\",\"finance\"]]]\n";
 
 /// The same out of order.
@@ -20,7 +20,7 @@ const JOHN_SHUFFLED: &[u8] =
 const JOHN_INDENTED: &[u8] =
     b"[\"db\",\"\\n  \",[\"dept\",\"\\n    \",[\"name\",\"finance\"],\"\\n    \",[\"emp\",\"\\n      \",[\"fn\",\"John\"],[\"ln\",\"Doe\"],[\"sal\",\"90K\"],[\"tel\",\"123-4567\"],\"\\n    \"],\"\\n  \"],\"\\n\"]";
 
-fn texts(alloc: Global, texts: &[&str]) -> Result<Vec<String>, AllocError> {
+pub(crate) fn texts(alloc: Global, texts: &[&str]) -> Result<Vec<String>, AllocError> {
     let mut strings = Vec::new(alloc);
     for text in texts {
         strings.push(String::from_str(alloc, text)?)?;
@@ -42,7 +42,7 @@ fn folder(
 }
 
 /// What words answer, write and say.
-fn answer(
+pub(crate) fn answer(
     alloc: Global,
     folder: &mut MemFolder,
     words: &[&str],

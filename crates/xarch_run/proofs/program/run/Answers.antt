@@ -1,39 +1,97 @@
-use Rattle.std.proofs.Common.{◌≡◌, ◌⊎◌, List, ℕ, Option, sym, ap, subst, ◌∙◌, rules}
-use Rattle.xa_outside.specs.Taken.{Taken}
+use Rattle.std.proofs.Common.{arith}
+use Rattle.xarch_words.specs.Commands.{command_of}
 use Rattle.xarch_words.specs.View.{words_view}
-use Rattle.xarch_run.specs.Ends.{fault_of}
-use Rattle.xarch_run.specs.Ran.{Ran, Says, line_for, outside_of}
-use Rattle.xarch_run.specs.Step.{defined_of, step}
-use Rattle.xarch_run.proofs.Running.{Ran-from, prefix-from, line-from, complete-from, fault_of-OnErr, folder_fault-caused, out_fault-caused}
+use Rattle.xarch_run.proofs.CommandLemmas.{alone-pulls, alone-reads, answer-calm, answer-folder, answer-input, answer-out, answer-words, batch-pulls, batch-reads, fails, holds}
 use Rattle.xarch_run.proofs.program.run.Goals as goal
 
-pub returns-clause-ran : goal.returns-clause-ran
-returns-clause-ran g c = λ files told plain.
-    let words = words_view c.args.words.now in
-    subst (λ (s : ℕ). Ran (step files words) s (g.F.Folder.files c.command_words-ended.new.folder) (g.O.Sink.taken c.args.out.now) (g.O.Sink.taken c.command_words-ended.new.out)) (sym c.finish.ensures.status)
-    (Ran-from files (defined_of files words) (fault_of c.command_words-ended.result) _ _ _ _ told (fault_of-OnErr _ c.command_words-ended.result c.command_words-ended.ensures.refused) (c.command_words-ended.ensures.told files told) (ap outside_of (sym c.finish.ensures.status) ∙ plain))
+-- ---- a batch
 
-pub returns-clause-prefix : goal.returns-clause-prefix
-returns-clause-prefix g c = λ files told. prefix-from files (defined_of files (words_view c.args.words.now)) _ _ _ _ (c.command_words-ended.ensures.told files told)
+pub returns-then-is_batch-clause-batch_complete : goal.returns-then-is_batch-clause-batch_complete
+returns-then-is_batch-clause-batch_complete g c = λ bytes _ input few folder in_ out.
+    let read = c.run_batch.ensures.read bytes input in
+    answer-calm _ _ _ _ _ _ c.run_batch.result c.run_batch.ensures.answer folder in_ out (λ past. omega (arith, few, read.past past))
 
-pub returns-clause-line : goal.returns-clause-line
-returns-clause-line g c = λ files told.
-    let words = words_view c.args.words.now in
-    let line = line-from files (defined_of files words) (fault_of c.command_words-ended.result) _ _ _ (c.command_words-ended.ensures.told files told) in
-    subst (Says (g.E.Sink.taken c.args.err.now) (g.E.Sink.taken c.finish.new.err) (g.E.Sink.faults c.args.err.now) (g.E.Sink.faults c.finish.new.err))
-    (sym (ap (line_for (step files words)) c.finish.ensures.status ∙ line)) c.finish.ensures.line
+pub returns-then-is_batch-clause-tried : goal.returns-then-is_batch-clause-tried
+returns-then-is_batch-clause-tried g c = λ files other. absurd (other (holds _ _ c.if-is_batch.true c.is_batch.ensures))
 
-pub returns-clause-folder_fault : goal.returns-clause-folder_fault
-returns-clause-folder_fault g c = λ is. folder_fault-caused _ _ _ _ _ c.command_words-ended.ensures.cause (sym c.finish.ensures.status ∙ is)
+pub returns-then-is_batch-clause-wrote : goal.returns-then-is_batch-clause-wrote
+returns-then-is_batch-clause-wrote g c = λ files other. absurd (other (holds _ _ c.if-is_batch.true c.is_batch.ensures))
 
-pub returns-clause-out_fault : goal.returns-clause-out_fault
-returns-clause-out_fault g c = λ is. out_fault-caused _ _ _ _ _ c.command_words-ended.ensures.cause (sym c.finish.ensures.status ∙ is)
+pub returns-then-is_batch-clause-complete : goal.returns-then-is_batch-clause-complete
+returns-then-is_batch-clause-complete g c = λ files s other. absurd (other (holds _ _ c.if-is_batch.true c.is_batch.ensures))
 
-pub returns-clause-complete : goal.returns-clause-complete
-returns-clause-complete g c = λ files told zero folder out.
-    let words = words_view c.args.words.now in
-    subst (λ (s : ℕ). (s ≡ 0) ⊎ (s ≡ 16)) (sym c.finish.ensures.status)
-    (complete-from files (defined_of files words) (fault_of c.command_words-ended.result) _ _ _ _ _ _ _ (c.command_words-ended.ensures.told files told) c.command_words-ended.ensures.cause zero folder out)
+pub returns-then-is_batch-clause-said : goal.returns-then-is_batch-clause-said
+returns-then-is_batch-clause-said g c = λ other. absurd (other (holds _ _ c.if-is_batch.true c.is_batch.ensures))
 
-pub returns-clause-said : goal.returns-clause-said
-returns-clause-said g c = record { fault = fault_of c.command_words-ended.result; status = c.finish.ensures.status; line = c.finish.ensures.line }
+pub returns-then-is_batch-clause-usage : goal.returns-then-is_batch-clause-usage
+returns-then-is_batch-clause-usage g c =
+    (λ two. absurd (answer-words _ _ _ _ _ _ c.run_batch.result c.run_batch.ensures.answer two), λ none. absurd (none.1 (holds _ _ c.if-is_batch.true c.is_batch.ensures)))
+
+pub returns-then-is_batch-clause-folder_fault : goal.returns-then-is_batch-clause-folder_fault
+returns-then-is_batch-clause-folder_fault g c = answer-folder _ _ _ _ _ _ c.run_batch.result c.run_batch.ensures.answer
+
+pub returns-then-is_batch-clause-out_fault : goal.returns-then-is_batch-clause-out_fault
+returns-then-is_batch-clause-out_fault g c = answer-out _ _ _ _ _ _ c.run_batch.result c.run_batch.ensures.answer
+
+pub returns-then-is_batch-clause-input_fault : goal.returns-then-is_batch-clause-input_fault
+returns-then-is_batch-clause-input_fault g c = λ fault.
+    (holds _ _ c.if-is_batch.true c.is_batch.ensures, answer-input _ _ _ _ _ _ c.run_batch.result c.run_batch.ensures.answer fault)
+
+pub returns-then-is_batch-clause-input : goal.returns-then-is_batch-clause-input
+returns-then-is_batch-clause-input g c = λ other. absurd (other (holds _ _ c.if-is_batch.true c.is_batch.ensures))
+
+pub returns-then-is_batch-clause-refused : goal.returns-then-is_batch-clause-refused
+returns-then-is_batch-clause-refused g c = λ other. absurd (other (holds _ _ c.if-is_batch.true c.is_batch.ensures))
+
+pub returns-then-is_batch-clause-files : goal.returns-then-is_batch-clause-files
+returns-then-is_batch-clause-files g c = λ reads. absurd (batch-reads _ (holds _ _ c.if-is_batch.true c.is_batch.ensures) reads)
+
+pub returns-then-is_batch-clause-draft : goal.returns-then-is_batch-clause-draft
+returns-then-is_batch-clause-draft g c = λ reads. absurd (batch-reads _ (holds _ _ c.if-is_batch.true c.is_batch.ensures) reads)
+
+pub returns-then-is_batch-clause-numbers : goal.returns-then-is_batch-clause-numbers
+returns-then-is_batch-clause-numbers g c = batch-pulls _ _ _ (holds _ _ c.if-is_batch.true c.is_batch.ensures)
+
+-- ---- any other command
+
+pub returns-else-is_batch-clause-batch : goal.returns-else-is_batch-clause-batch
+returns-else-is_batch-clause-batch g c = λ before now bytes is. absurd (fails _ _ c.if-is_batch.false c.is_batch.ensures is)
+
+pub returns-else-is_batch-clause-batch_complete : goal.returns-else-is_batch-clause-batch_complete
+returns-else-is_batch-clause-batch_complete g c = λ bytes is. absurd (fails _ _ c.if-is_batch.false c.is_batch.ensures is)
+
+pub returns-else-is_batch-clause-batch_reads : goal.returns-else-is_batch-clause-batch_reads
+returns-else-is_batch-clause-batch_reads g c = λ bytes is. absurd (fails _ _ c.if-is_batch.false c.is_batch.ensures is)
+
+pub returns-else-is_batch-clause-usage : goal.returns-else-is_batch-clause-usage
+returns-else-is_batch-clause-usage g c = (λ two. (c.take_step.ensures.usage.0 two, fails _ _ c.if-is_batch.false c.is_batch.ensures), λ none. c.take_step.ensures.usage.1 none.0)
+
+pub returns-else-is_batch-clause-input_fault : goal.returns-else-is_batch-clause-input_fault
+returns-else-is_batch-clause-input_fault g c = λ fault. absurd (c.take_step.ensures.never_input_fault fault)
+
+pub returns-else-is_batch-clause-files : goal.returns-else-is_batch-clause-files
+returns-else-is_batch-clause-files g c = λ reads. c.take_step.ensures.files (alone-reads (command_of (words_view c.args.words.now)) reads)
+
+pub returns-else-is_batch-clause-draft : goal.returns-else-is_batch-clause-draft
+returns-else-is_batch-clause-draft g c = λ reads. c.take_step.ensures.draft (alone-reads (command_of (words_view c.args.words.now)) reads)
+
+pub returns-else-is_batch-clause-numbers : goal.returns-else-is_batch-clause-numbers
+returns-else-is_batch-clause-numbers g c = alone-pulls (command_of (words_view c.args.words.now)) _ _ c.take_step.ensures.numbers
+
+pub returns-then-is_batch-clause-batch : goal.returns-then-is_batch-clause-batch
+returns-then-is_batch-clause-batch g c = λ before now bytes _ told after input. c.run_batch.ensures.ends before now bytes told after input
+
+pub returns-then-is_batch-clause-batch_reads : goal.returns-then-is_batch-clause-batch_reads
+returns-then-is_batch-clause-batch_reads g c = λ bytes _ input. c.run_batch.ensures.read bytes input
+
+pub returns-else-is_batch-clause-tried : goal.returns-else-is_batch-clause-tried
+returns-else-is_batch-clause-tried g c = λ files _ told plain. c.take_step.ensures.tried files told plain
+
+pub returns-else-is_batch-clause-wrote : goal.returns-else-is_batch-clause-wrote
+returns-else-is_batch-clause-wrote g c = λ files _ told. c.take_step.ensures.wrote files told
+
+pub returns-else-is_batch-clause-complete : goal.returns-else-is_batch-clause-complete
+returns-else-is_batch-clause-complete g c = λ files s _ told is zero folder out. c.take_step.ensures.complete files s told is zero folder out
+
+pub returns-else-is_batch-clause-said : goal.returns-else-is_batch-clause-said
+returns-else-is_batch-clause-said g c = λ _. c.take_step.ensures.said

@@ -1,0 +1,87 @@
+-- Commands by themselves, and a batch.
+use Rattle.std.proofs.Common.{◌≡◌, ◌⊎◌, ◌↔◌, inl, inr, ℕ, Bool, true, false, IsTrue, Option, None, Some, sym, subst, arith}
+use Rattle.xa_outside.specs.Causes.{Rose}
+use Rattle.xa_outside.specs.Numbers.{Numbers}
+use Rattle.xarch_words.specs.Commands.{PlainCommand, norm, init, add, get, history, stats, batch, demo}
+use Rattle.xarch_steps.specs.Ran.{OnlyReads, PullsAsSaid}
+use Rattle.xarch_steps.specs.Step.{alone}
+use Rattle.xarch_run.specs.Batch.{IsAnswer}
+
+pub alone-reads : (c : Option PlainCommand) → OnlyReads c → OnlyReads (alone c)
+alone-reads None h = h
+alone-reads (Some (norm spec doc)) h = h
+alone-reads (Some (init archive spec)) h = h
+alone-reads (Some (add archive doc)) h = h
+alone-reads (Some (get archive i)) h = h
+alone-reads (Some (history archive path)) h = h
+alone-reads (Some (stats archive)) h = h
+alone-reads (Some batch) h = absurd h
+alone-reads (Some (demo seed count archive)) h = absurd h
+
+pub alone-pulls : (c : Option PlainCommand) (before after : Numbers) → PullsAsSaid (alone c) before after → PullsAsSaid c before after
+alone-pulls None before after h = h
+alone-pulls (Some (norm spec doc)) before after h = h
+alone-pulls (Some (init archive spec)) before after h = h
+alone-pulls (Some (add archive doc)) before after h = h
+alone-pulls (Some (get archive i)) before after h = h
+alone-pulls (Some (history archive path)) before after h = tt
+alone-pulls (Some (stats archive)) before after h = tt
+alone-pulls (Some batch) before after h = tt
+alone-pulls (Some (demo seed count archive)) before after h = tt
+
+-- ---- which branch
+
+pub holds : (P : Type 0) (b : Bool) → b ≡ true → (IsTrue b ↔ P) → P
+holds P b e h = h.0 e
+
+pub fails : (P : Type 0) (b : Bool) → b ≡ false → (IsTrue b ↔ P) → P → ⊥
+fails P b e h p = let t : b ≡ true = h.1 p in cc
+
+pub batch-reads : (c : Option PlainCommand) → c ≡ Some batch → OnlyReads c → ⊥
+batch-reads c e h = subst OnlyReads e h
+
+pub batch-pulls : (c : Option PlainCommand) (before after : Numbers) → c ≡ Some batch → PullsAsSaid c before after
+batch-pulls c before after e = subst (λ (d : Option PlainCommand). PullsAsSaid d before after) (sym e) tt
+
+-- ---- the answers of a batch
+
+module _ (a b c d e f r : ℕ) where
+  pub answer-folder : IsAnswer a b c d e f r → r ≡ 13 → Rose a b
+  answer-folder (inl is) h = absurd (omega (arith, is, h))
+  answer-folder (inr (inl is)) h = absurd (omega (arith, is, h))
+  answer-folder (inr (inr (inl k))) h = k.1
+  answer-folder (inr (inr (inr (inl k)))) h = let is = k.0 in absurd (omega (arith, is, h))
+  answer-folder (inr (inr (inr (inr (inl k))))) h = let is = k.0 in absurd (omega (arith, is, h))
+  answer-folder (inr (inr (inr (inr (inr is))))) h = absurd (omega (arith, is, h))
+
+  pub answer-out : IsAnswer a b c d e f r → r ≡ 14 → Rose e f
+  answer-out (inl is) h = absurd (omega (arith, is, h))
+  answer-out (inr (inl is)) h = absurd (omega (arith, is, h))
+  answer-out (inr (inr (inl k))) h = let is = k.0 in absurd (omega (arith, is, h))
+  answer-out (inr (inr (inr (inl k)))) h = k.1
+  answer-out (inr (inr (inr (inr (inl k))))) h = let is = k.0 in absurd (omega (arith, is, h))
+  answer-out (inr (inr (inr (inr (inr is))))) h = absurd (omega (arith, is, h))
+
+  pub answer-input : IsAnswer a b c d e f r → r ≡ 15 → Rose c d
+  answer-input (inl is) h = absurd (omega (arith, is, h))
+  answer-input (inr (inl is)) h = absurd (omega (arith, is, h))
+  answer-input (inr (inr (inl k))) h = let is = k.0 in absurd (omega (arith, is, h))
+  answer-input (inr (inr (inr (inl k)))) h = let is = k.0 in absurd (omega (arith, is, h))
+  answer-input (inr (inr (inr (inr (inl k))))) h = k.1
+  answer-input (inr (inr (inr (inr (inr is))))) h = absurd (omega (arith, is, h))
+
+  pub answer-words : IsAnswer a b c d e f r → r ≡ 2 → ⊥
+  answer-words (inl is) h = omega (arith, is, h)
+  answer-words (inr (inl is)) h = omega (arith, is, h)
+  answer-words (inr (inr (inl k))) h = let is = k.0 in omega (arith, is, h)
+  answer-words (inr (inr (inr (inl k)))) h = let is = k.0 in omega (arith, is, h)
+  answer-words (inr (inr (inr (inr (inl k))))) h = let is = k.0 in omega (arith, is, h)
+  answer-words (inr (inr (inr (inr (inr is))))) h = omega (arith, is, h)
+
+  pub answer-calm : IsAnswer a b c d e f r → ¬ Rose a b → ¬ Rose c d → ¬ Rose e f → ¬ (r ≡ 12) → (r ≡ 0) ⊎ (r ≡ 16)
+  answer-calm (inl is) folder input out within = inl is
+  answer-calm (inr (inl is)) folder input out within = absurd (within is)
+  answer-calm (inr (inr (inl k))) folder input out within = absurd (folder k.1)
+  answer-calm (inr (inr (inr (inl k)))) folder input out within = absurd (out k.1)
+  answer-calm (inr (inr (inr (inr (inl k))))) folder input out within = absurd (input k.1)
+  answer-calm (inr (inr (inr (inr (inr is))))) folder input out within = inr is

@@ -1,0 +1,120 @@
+-- Runs of lines, one behind another.
+use Rattle.std.proofs.Common.{◌≡◌, ℕ, ◌+◌, ◌<◌, ◌≤◌, List, [], ◌∷◌, ◌++◌, length, take, Option, None, Some, refl, sym, ap, ◌∙◌, subst, arith, append_assoc, append-nil}
+use Rattle.std.specs.List.{flat_map}
+use Rattle.std.proofs.lemmas.Grind.{flat_map-append}
+use Rattle.xa_outside.specs.Causes.{Rose}
+use Rattle.xa_outside.specs.Folder.{Files}
+use Rattle.xa_outside.specs.Taken.{Taken, Takes}
+use Rattle.xa_outside.proofs.CauseLemmas.{Rose-later}
+use Rattle.xa_outside.proofs.Output.{Takes-nil, Takes-trans}
+use Rattle.xarch_steps.specs.Outcome.{Step}
+use Rattle.xarch_steps.specs.Ran.{Says}
+use Rattle.xarch_run.specs.Steps.{LineMay, StepsAre, files_after, lines_said, outs, turn_text}
+use Rattle.xarch_run.specs.Lines.{lines_of}
+use Rattle.xarch_run.specs.Batch.{Gains, RunsOver, Scene, Stops, StoppedAt, scene}
+
+-- ---- steps
+
+pub StepsAre-append : (f : Files) (ls ms : List (List ℕ)) (ss ts : List Step) → StepsAre f ls ss → StepsAre (files_after f ss) ms ts → StepsAre f (ls ++ ms) (ss ++ ts)
+StepsAre-append f [] ms [] ts p q = q
+StepsAre-append f [] ms (s ∷ ss) ts p q = absurd p
+StepsAre-append f (l ∷ ls) ms [] ts p q = absurd p
+StepsAre-append f (l ∷ ls) ms (s ∷ ss) ts p q = (p.0, StepsAre-append s.files ls ms ss ts p.1 q)
+
+pub files_after-append : (f : Files) (ss ts : List Step) → files_after f (ss ++ ts) ≡ files_after (files_after f ss) ts
+files_after-append f [] ts = refl
+files_after-append f (s ∷ ss) ts = files_after-append s.files ss ts
+
+-- ---- what is gained
+
+calm-first : (x y z : ℕ) → x ≤ y → y ≤ z → ¬ Rose x z → ¬ Rose x y
+calm-first x y z p q h = λ rose. h (Rose-later x x y z (omega arith) rose q)
+
+calm-second : (x y z : ℕ) → x ≤ y → y ≤ z → ¬ Rose x z → ¬ Rose y z
+calm-second x y z p q h = λ rose. h (Rose-later x y z z p rose (omega arith))
+
+-- one call behind another, whatever files they saw
+pub Gains-trans : (f g h i j k : Files) (o p q e r t : Taken) (x y z : ℕ) (a b c d : List ℕ) → x ≤ y → y ≤ z
+    → Gains (scene f g o p e r x y) a c → Gains (scene h i p q r t y z) b d → Gains (scene j k o q e t x z) (a ++ b) (c ++ d)
+Gains-trans f g h i j k o p q e r t x y z a b c d first second before now =
+    record {
+      output = Takes-trans o p q a b before.output now.output;
+      line = λ calm. Takes-trans e r t c d (before.line (calm-first x y z first second calm)) (now.line (calm-second x y z first second calm));
+    }
+
+pub Gains-none : (f g : Files) (o e : Taken) (x : ℕ) → Gains (scene f g o o e e x x) [] []
+Gains-none f g o e x = record { output = Takes-nil o; line = λ calm. Takes-nil e }
+
+-- a line was said, and nothing was written
+pub Gains-said : (f g : Files) (o e r : Taken) (x y : ℕ) (d : List ℕ) → Says e r x y d → Gains (scene f g o o e r x y) [] d
+Gains-said f g o e r x y d says = record { output = Takes-nil o; line = says.whole }
+
+-- ---- runs
+
+pub RunsOver-none : (f : Files) (o e : Taken) (x : ℕ) → RunsOver (scene f f o o e e x x) [] []
+RunsOver-none f o e x = record { steps = []; are = tt; files = refl; gains = Gains-none f f o e x }
+
+outs-both : (ss ts : List Step) → outs ss ++ outs ts ≡ outs (ss ++ ts)
+outs-both ss ts = sym (flat_map-append turn_text ss ts)
+
+said-both : (ss ts : List Step) (d : List ℕ) → (lines_said ss ++ []) ++ (lines_said ts ++ d) ≡ lines_said (ss ++ ts) ++ d
+said-both ss ts d =
+    ap (λ l. l ++ (lines_said ts ++ d)) (append-nil (lines_said ss)) ∙ sym (append_assoc (lines_said ss) (lines_said ts) d)
+    ∙ ap (λ l. l ++ d) (sym (flat_map-append (λ (s : Step). s.line) ss ts))
+
+-- the lines of one run, and those of a run behind it
+pub RunsOver-trans : (f g h : Files) (o p q e r t : Taken) (x y z : ℕ) (ls ms : List (List ℕ)) (d : List ℕ) → x ≤ y → y ≤ z
+    → RunsOver (scene f g o p e r x y) ls [] → RunsOver (scene g h p q r t y z) ms d → RunsOver (scene f h o q e t x z) (ls ++ ms) d
+RunsOver-trans f g h o p q e r t x y z ls ms d first second before now =
+    let ss = before.steps in
+    let ts = now.steps in
+    let gains = Gains-trans f g g h f h o p q e r t x y z (outs ss) (outs ts) (lines_said ss ++ []) (lines_said ts ++ d) first second before.gains now.gains in
+    record {
+      steps = ss ++ ts;
+      are = StepsAre-append f ls ms ss ts before.are (subst (λ (u : Files). StepsAre u ms ts) before.files now.are);
+      files = now.files ∙ ap (λ (u : Files). files_after u ts) before.files ∙ sym (files_after-append f ss ts);
+      gains =
+          subst (λ (l : List ℕ). Gains (scene f h o q e t x z) l (lines_said (ss ++ ts) ++ d)) (outs-both ss ts)
+          (subst (λ (l : List ℕ). Gains (scene f h o q e t x z) (outs ss ++ outs ts) l) (said-both ss ts d) gains);
+    }
+
+-- a line was said behind a run
+pub RunsOver-said : (f g : Files) (o p e r t : Taken) (x y z : ℕ) (ls : List (List ℕ)) (d : List ℕ) → x ≤ y → y ≤ z
+    → RunsOver (scene f g o p e r x y) ls [] → Says r t y z d → RunsOver (scene f g o p e t x z) ls d
+RunsOver-said f g o p e r t x y z ls d first second before says =
+    subst (λ (l : List (List ℕ)). RunsOver (scene f g o p e t x z) l d) (append-nil ls)
+    (RunsOver-trans f g g o p p e r t x y z ls [] d first second before (record { steps = []; are = tt; files = refl; gains = Gains-said g g p r t y z d says }))
+
+-- the run of one line
+pub RunsOver-one : (f g : Files) (o p e r : Taken) (x y : ℕ) (l : List ℕ) (s : Step) → LineMay f l s → g ≡ s.files → Takes o p (turn_text s) → (¬ Rose x y → Takes e r s.line) → RunsOver (scene f g o p e r x y) (l ∷ []) []
+RunsOver-one f g o p e r x y l s may files output said =
+    record {
+      steps = s ∷ [];
+      are = (may, tt);
+      files = files;
+      gains = record {
+        output = subst (Takes o p) (sym (append-nil (turn_text s))) output;
+        line = λ calm. subst (Takes e r) (sym (append-nil (s.line ++ []) ∙ append-nil s.line)) (said calm);
+      };
+    }
+
+-- a line ended the batch behind a run
+pub StoppedAt-after : (f g h : Files) (o p q e r t : Taken) (x y z : ℕ) (bytes : List ℕ) (ls behind : List (List ℕ)) (l : List ℕ) (answer : ℕ) (written spoken : List ℕ) → x ≤ y → y ≤ z
+    → lines_of bytes ≡ ls ++ l ∷ behind
+    → RunsOver (scene f g o p e r x y) ls [] → Stops g l answer h written spoken → Gains (scene g h p q r t y z) written spoken → StoppedAt (scene f h o q e t x z) bytes answer
+StoppedAt-after f g h o p q e r t x y z bytes ls behind l answer written spoken first second is before stops gains =
+    let ss = before.steps in
+    record {
+      lines = ls;
+      steps = ss;
+      line = l;
+      behind = behind;
+      is = is;
+      are = before.are;
+      written = written;
+      spoken = spoken;
+      stops = subst (λ (u : Files). Stops u l answer h written spoken) before.files stops;
+      gains =
+          subst (λ (m : List ℕ). Gains (scene f h o q e t x z) (outs ss ++ written) (m ++ spoken)) (append-nil (lines_said ss))
+          (Gains-trans f g g h f h o p q e r t x y z (outs ss) written (lines_said ss ++ []) spoken first second before.gains gains);
+    }

@@ -1,0 +1,6 @@
+use Rattle.std.proofs.Common.{◌≡◌, ◌∙◌, nat_lt, rules}
+use Rattle.xarch_run.proofs.LineLemmas.{shows-long}
+use Rattle.xarch_run.proofs.line.Line.is_too_long.Goals as goal
+
+pub returns : goal.returns
+returns c = λ bytes s. let kept : nat_lt 1048576 c.len.result ≡ nat_lt 1048576 c.args.self.now.bytes.len = search rules in kept ∙ shows-long c.args.self.now bytes s

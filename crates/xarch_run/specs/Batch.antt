@@ -1,0 +1,180 @@
+-- How a batch ends.
+use Rattle.std.specs.Prelude.{◌≡◌, ◌⊎◌, ℕ, ◌<◌, List, [], ◌∷◌, ◌++◌, length, take, Option, Some}
+use Rattle.std.specs.Io.KnownBytes.{Consumes}
+use Rattle.xa_outside.specs.Causes.{Rose}
+use Rattle.xa_outside.specs.Filled.{ConsumesSome}
+use Rattle.xa_outside.specs.Folder.{Files}
+use Rattle.xa_outside.specs.Taken.{Taken, Takes}
+use Rattle.xarch_words.specs.Lines.{fault_line, fault_status}
+use Rattle.xarch_words.specs.Refusal.{batch, limit, PlainFault, refused, folder_fault, out_fault, in_fault, memory}
+use Rattle.xarch_steps.specs.Outcome.{Step}
+use Rattle.xarch_run.specs.Lines.{lines_of, ended_lines_of}
+use Rattle.xarch_run.specs.Steps.{LineMay, StepsAre, files_after, lines_said, outs, status_line}
+
+-- ---- what is seen
+
+-- the files, the output, and the error sink with its count of faults, before and now
+pub record Scene : Type 0 where
+  pub files_before : Files
+  pub files_now : Files
+  pub out_before : Taken
+  pub out_now : Taken
+  pub err_before : Taken
+  pub err_now : Taken
+  pub count_before : ℕ
+  pub count_now : ℕ
+
+abbrev pub scene : Files → Files → Taken → Taken → Taken → Taken → ℕ → ℕ → Scene
+scene before now o p e f m n =
+    record { files_before = before; files_now = now; out_before = o; out_now = p; err_before = e; err_now = f; count_before = m; count_now = n }
+
+-- what the output gained, and the error sink where it did not fail
+pub record Gains (w : Scene) (written spoken : List ℕ) : Type 0 where
+  pub output : Takes w.out_before w.out_now written
+  pub line : ¬ Rose w.count_before w.count_now → Takes w.err_before w.err_now spoken
+
+-- Each line was run from the files that the one before left. Output and error sink gained what the steps write and say, and
+-- the error sink then this.
+pub record RunsOver (w : Scene) (lines : List (List ℕ)) (spoken : List ℕ) : Type 0 where
+  pub steps : List Step
+  pub are : StepsAre w.files_before lines steps
+  pub files : w.files_now ≡ files_after w.files_before steps
+  pub gains : Gains w (outs steps) (lines_said steps ++ spoken)
+
+-- ---- a line that ends the batch
+
+-- a prefix of what a step of the line writes
+pub record IsFront (files : Files) (line part : List ℕ) : Type 0 where
+  pub step : Step
+  pub may : LineMay files line step
+  pub count : ℕ
+  pub is : part ≡ take count step.output
+
+-- what a command has written before a fault
+abbrev pub IsPart : Files → List ℕ → List ℕ → Type 0
+IsPart files line part = (part ≡ []) ⊎ IsFront files line part
+
+-- after these faults of a command its status line still comes
+abbrev pub EndsTheBatch : PlainFault → Type 0
+EndsTheBatch fault = (fault ≡ folder_fault) ⊎ (fault ≡ memory)
+
+-- The command answered a fault, whose status line came.
+pub record Faults (files : Files) (line : List ℕ) (answer : ℕ) (now : Files) (written spoken : List ℕ) : Type 0 where
+  pub fault : PlainFault
+  pub kind : EndsTheBatch fault
+  pub status : answer ≡ fault_status fault
+  pub part : List ℕ
+  pub front : IsPart files line part
+  pub output : written ≡ part ++ status_line answer
+  pub line_is : spoken ≡ fault_line fault
+  pub files_kept : now ≡ files
+
+-- A write of the command failed.
+pub record WriteFails (files : Files) (line : List ℕ) (answer : ℕ) (now : Files) (written spoken : List ℕ) : Type 0 where
+  pub status : answer ≡ 14
+  pub front : IsPart files line written
+  pub line_is : spoken ≡ fault_line out_fault
+  pub files_kept : now ≡ files
+
+-- The command took its step, and the write of its status line failed.
+pub record StatusFails (files : Files) (line : List ℕ) (answer : ℕ) (now : Files) (written spoken : List ℕ) : Type 0 where
+  pub status : answer ≡ 14
+  pub step : Step
+  pub may : LineMay files line step
+  pub count : ℕ
+  pub output : written ≡ step.output ++ take count (status_line step.status)
+  pub line_is : spoken ≡ step.line ++ fault_line out_fault
+  pub files_now : now ≡ step.files
+
+-- The command answered a fault, and the write of its status line failed.
+pub record FaultStatusFails (files : Files) (line : List ℕ) (answer : ℕ) (now : Files) (written spoken : List ℕ) : Type 0 where
+  pub status : answer ≡ 14
+  pub fault : PlainFault
+  pub kind : EndsTheBatch fault
+  pub part : List ℕ
+  pub front : IsPart files line part
+  pub count : ℕ
+  pub output : written ≡ part ++ take count (status_line (fault_status fault))
+  pub line_is : spoken ≡ fault_line fault ++ fault_line out_fault
+  pub files_kept : now ≡ files
+
+-- How a line ends the batch with this answer: the files now, what the output gained, and what was said.
+abbrev pub Stops : Files → List ℕ → ℕ → Files → List ℕ → List ℕ → Type 0
+Stops files line answer now written spoken =
+    Faults files line answer now written spoken
+    ⊎ (WriteFails files line answer now written spoken
+    ⊎ (StatusFails files line answer now written spoken
+    ⊎ FaultStatusFails files line answer now written spoken))
+
+-- ---- all ends
+
+-- All lines were run, and the input is at its end.
+pub record AllRun (w : Scene) (bytes : List ℕ) (rest : Option (List ℕ)) (answer : ℕ) : Type 0 where
+  pub status : answer ≡ 0
+  pub over : RunsOver w (lines_of bytes) []
+  pub all : rest ≡ Some []
+
+-- The input is too long, and the lines were run that an LF ends among its first bytes, as many as a batch may have.
+pub record PastLimit (w : Scene) (bytes : List ℕ) (answer : ℕ) : Type 0 where
+  pub status : answer ≡ 12
+  pub front : List ℕ
+  pub behind : List ℕ
+  pub is : bytes ≡ front ++ behind
+  pub full : length front ≡ 1073741824
+  pub more : 0 < length behind
+  pub over : RunsOver w (ended_lines_of front) (fault_line (refused (limit batch 1073741824)))
+
+-- A read failed, and the lines were run that an LF ends among the bytes read.
+pub record ReadFailed (w : Scene) (bytes : List ℕ) (rest : Option (List ℕ)) (answer : ℕ) : Type 0 where
+  pub status : answer ≡ 15
+  pub front : List ℕ
+  pub consumed : Consumes (Some bytes) rest front
+  pub over : RunsOver w (ended_lines_of front) (fault_line in_fault)
+
+-- The batch itself found no memory.
+pub record NoMemory (w : Scene) (bytes : List ℕ) (answer : ℕ) : Type 0 where
+  pub status : answer ≡ 16
+  pub lines : List (List ℕ)
+  pub behind : List (List ℕ)
+  pub is : lines_of bytes ≡ lines ++ behind
+  pub over : RunsOver w lines (fault_line memory)
+
+-- The lines in front of this one were run, and it ended the batch.
+pub record StoppedAt (w : Scene) (bytes : List ℕ) (answer : ℕ) : Type 0 where
+  pub lines : List (List ℕ)
+  pub steps : List Step
+  pub line : List ℕ
+  pub behind : List (List ℕ)
+  pub is : lines_of bytes ≡ lines ++ line ∷ behind
+  pub are : StepsAre w.files_before lines steps
+  pub written : List ℕ
+  pub spoken : List ℕ
+  pub stops : Stops (files_after w.files_before steps) line answer w.files_now written spoken
+  pub gains : Gains w (outs steps ++ written) (lines_said steps ++ spoken)
+
+-- how a batch over an input of these bytes ended, and what is left of it
+abbrev pub BatchEnds : Scene → List ℕ → Option (List ℕ) → ℕ → Type 0
+BatchEnds w bytes rest answer =
+    AllRun w bytes rest answer
+    ⊎ (PastLimit w bytes answer
+    ⊎ (ReadFailed w bytes rest answer
+    ⊎ (NoMemory w bytes answer
+    ⊎ StoppedAt w bytes answer)))
+
+-- ---- whatever the folder tells
+
+-- what a batch may answer: a fault of an object comes only where its count rose
+abbrev pub IsAnswer : ℕ → ℕ → ℕ → ℕ → ℕ → ℕ → ℕ → Type 0
+IsAnswer folder_before folder_now input_before input_now out_before out_now answer =
+    (answer ≡ 0)
+    ⊎ ((answer ≡ 12)
+    ⊎ (((answer ≡ 13) × Rose folder_before folder_now)
+    ⊎ (((answer ≡ 14) × Rose out_before out_now)
+    ⊎ (((answer ≡ 15) × Rose input_before input_now)
+    ⊎ (answer ≡ 16)))))
+
+-- What was read of the input's bytes.
+pub record ReadsAsSaid (bytes : List ℕ) (rest : Option (List ℕ)) (answer : ℕ) : Type 0 where
+  pub consumed : ConsumesSome (Some bytes) rest
+  pub all : answer ≡ 0 → rest ≡ Some []
+  pub past : answer ≡ 12 → 1073741824 < length bytes

@@ -1,0 +1,65 @@
+ghost use Rattle.std.specs.Prelude.{◌≡◌, ◌≤◌, ℕ, List, None, Some};
+ghost use Rattle.xa_outside.specs.Folder.{Files};
+ghost use Rattle.xarch_words.specs.View.{fault_view};
+ghost use Rattle.xarch_run.specs.Batch.{BatchEnds, IsAnswer, ReadsAsSaid, scene};
+ghost use Rattle.xarch_run.specs.Faults.{stop_fault};
+
+use crate::feed::BATCH_LIMIT;
+use crate::lines::Lines;
+use crate::say::say;
+use crate::stop::Stop;
+use crate::turn::run_line;
+use std::alloc::Global;
+use xa_outside::{Folder, Sink, Source};
+use xarch_words::{Fault, Quantity};
+
+/// Runs the lines of the input, one after another, and answers the status with which the batch ends.
+pub(crate) fn run_batch<F: Folder, S: Source, O: Sink, E: Sink>(
+    alloc: Global,
+    folder: &mut F,
+    input: &mut S,
+    out: &mut O,
+    err: &mut E,
+) -> u8
+    ensures ends { (before now : Files) (bytes : List ℕ) → F.files folder.old ≡ Some before → F.files folder.new ≡ Some now → S.rest input.old ≡ Some bytes
+        → BatchEnds (scene before now (O.taken out.old) (O.taken out.new) (E.taken err.old) (E.taken err.new) (E.faults err.old) (E.faults err.new)) bytes (S.rest input.new) result }
+    ensures answer { IsAnswer (F.faults folder.old) (F.faults folder.new) (S.faults input.old) (S.faults input.new) (O.faults out.old) (O.faults out.new) result }
+    ensures read { (bytes : List ℕ) → S.rest input.old ≡ Some bytes → ReadsAsSaid bytes (S.rest input.new) result }
+    ensures untold { F.files folder.old ≡ None → F.files folder.new ≡ None }
+    ensures draft_untold { F.draft folder.old ≡ None → F.draft folder.new ≡ None }
+    ensures folder_later { F.faults folder.old ≤ F.faults folder.new }
+    ensures input_later { S.faults input.old ≤ S.faults input.new }
+    ensures out_later { O.faults out.old ≤ O.faults out.new }
+    ensures err_later { E.faults err.old ≤ E.faults err.new }
+{
+    let mut lines = match Lines::new(alloc) {
+        Ok(lines) => lines,
+        Err(_) => return say(&Fault::Memory, err),
+    };
+    loop {
+        let ended = match lines.next(input) {
+            Ok(ended) => ended,
+            Err(stop) => return say(&fault_of(stop), err),
+        };
+        if let Err(status) = run_line(alloc, lines.line(), folder, out, err) {
+            return status;
+        }
+        if !ended {
+            return 0;
+        }
+    }
+}
+
+/// The fault with which a batch ends where no further line comes.
+fn fault_of(stop: Stop) -> Fault
+    ensures { fault_view result ≡ stop_fault stop }
+{
+    match stop {
+        Stop::Failed => Fault::InFault,
+        Stop::PastLimit => Fault::Limit {
+            quantity: Quantity::Batch,
+            number: BATCH_LIMIT as u64,
+        },
+        Stop::Memory => Fault::Memory,
+    }
+}

@@ -1,0 +1,137 @@
+-- How the parts of a command lead to its end.
+use Rattle.std.proofs.Common.{◌≡◌, ◌≢◌, ℕ, ◌+◌, ◌≤◌, Option, Some, None, IsSome, Result, Ok, Err, refl, sym, ap, ◌∙◌, subst, arith}
+use Rattle.xa_outside.specs.Folder.{Files}
+use Rattle.xa_outside.specs.Numbers.{Numbers, IsMeter, PullsAtMost}
+use Rattle.xa_outside.proofs.NumberLemmas.{PullsAtMost-none, PullsAtMost-more, PullsAtMost-trans}
+use Rattle.xa_outside.specs.Taken.{Taken, TakesPrefix, Puts}
+use Rattle.xa_outside.proofs.CauseLemmas.{Rose-later}
+use Rattle.xa_outside.proofs.Output.{TakesNone-refl, TakesPrefix-none}
+use Rattle.xarch_words.specs.Refusal.{Refusal, usage, PlainFault, refused, folder_fault, out_fault, in_fault, memory}
+use Rattle.xarch_words.specs.View.{fault_view}
+use Rattle.xarch_words.specs.declared.fault.Fault.{Fault}
+use Rattle.xarch_steps.specs.Outcome.{Outcome, and_then, output_of}
+use Rattle.xarch_steps.specs.Ends.{fault_of, IsInside, IsOfFolder, IsOfOutput, IsOfCommand, HasItsCause, IsDefined, EndsAs}
+
+-- ---- causes
+
+pub IsOfFolder-inside : (a b : ℕ) (v : Option PlainFault) → IsInside v → IsOfFolder a b v
+unfolding IsInside IsOfFolder
+IsOfFolder-inside a b None h = tt
+IsOfFolder-inside a b (Some (refused r)) h = h
+IsOfFolder-inside a b (Some folder_fault) h = absurd h
+IsOfFolder-inside a b (Some out_fault) h = h
+IsOfFolder-inside a b (Some in_fault) h = h
+IsOfFolder-inside a b (Some memory) h = tt
+
+-- a cause in one call is a cause in all of them
+pub IsOfFolder-later : (a b c d : ℕ) (v : Option PlainFault) → a ≤ b → c ≤ d → IsOfFolder b c v → IsOfFolder a d v
+unfolding IsInside IsOfFolder
+IsOfFolder-later a b c d None h i p = tt
+IsOfFolder-later a b c d (Some (refused r)) h i p = p
+IsOfFolder-later a b c d (Some folder_fault) h i p = Rose-later a b c d h p i
+IsOfFolder-later a b c d (Some out_fault) h i p = p
+IsOfFolder-later a b c d (Some in_fault) h i p = p
+IsOfFolder-later a b c d (Some memory) h i p = tt
+
+pub IsOfCommand-inside : (a b p q : ℕ) (v : Option PlainFault) → IsInside v → IsOfCommand a b p q v
+unfolding IsInside IsOfFolder IsOfCommand
+IsOfCommand-inside a b p q None h = tt
+IsOfCommand-inside a b p q (Some (refused r)) h = h
+IsOfCommand-inside a b p q (Some folder_fault) h = absurd h
+IsOfCommand-inside a b p q (Some out_fault) h = absurd h
+IsOfCommand-inside a b p q (Some in_fault) h = h
+IsOfCommand-inside a b p q (Some memory) h = tt
+
+pub IsOfCommand-folder : (a b c d p q : ℕ) (v : Option PlainFault) → a ≤ b → c ≤ d → IsOfFolder b c v → IsOfCommand a d p q v
+unfolding IsInside IsOfFolder IsOfCommand
+IsOfCommand-folder a b c d p q None h i r = tt
+IsOfCommand-folder a b c d p q (Some (refused f)) h i r = r
+IsOfCommand-folder a b c d p q (Some folder_fault) h i r = Rose-later a b c d h r i
+IsOfCommand-folder a b c d p q (Some out_fault) h i r = absurd r
+IsOfCommand-folder a b c d p q (Some in_fault) h i r = r
+IsOfCommand-folder a b c d p q (Some memory) h i r = tt
+
+pub IsOfCommand-output : (a b p q r s : ℕ) (v : Option PlainFault) → p ≤ q → r ≤ s → IsOfOutput q r v → IsOfCommand a b p s v
+unfolding IsInside IsOfFolder IsOfOutput IsOfCommand
+IsOfCommand-output a b p q r s None h i k = tt
+IsOfCommand-output a b p q r s (Some (refused f)) h i k = absurd k
+IsOfCommand-output a b p q r s (Some folder_fault) h i k = absurd k
+IsOfCommand-output a b p q r s (Some out_fault) h i k = Rose-later p q r s h k i
+IsOfCommand-output a b p q r s (Some in_fault) h i k = k
+IsOfCommand-output a b p q r s (Some memory) h i k = absurd k
+
+-- a fault of a command has its cause, and is not that the words are none
+pub HasItsCause-command : (a b p q : ℕ) (v : Option PlainFault) → IsOfCommand a b p q v → HasItsCause a b p q v
+unfolding IsInside IsOfFolder IsOfCommand HasItsCause
+HasItsCause-command a b p q None h = tt
+HasItsCause-command a b p q (Some (refused r)) h = tt
+HasItsCause-command a b p q (Some folder_fault) h = h
+HasItsCause-command a b p q (Some out_fault) h = h
+HasItsCause-command a b p q (Some in_fault) h = h
+HasItsCause-command a b p q (Some memory) h = tt
+
+pub IsOfCommand-usage : (a b p q : ℕ) (v : Option PlainFault) → IsOfCommand a b p q v → v ≢ Some (refused usage)
+unfolding IsInside IsOfFolder IsOfCommand
+IsOfCommand-usage a b p q v h e = subst (IsOfCommand a b p q) e h
+
+-- ---- steps of a definition
+
+-- the first step is refused, and so is the whole
+pub IsDefined-here : {A B : Type 0} (x : Result A Refusal) (f : A → Result B Refusal) (v : PlainFault) → IsDefined x v → IsDefined (and_then x f) v
+unfolding IsDefined
+IsDefined-here x f (refused r) p = ap (λ y. and_then y f) p
+IsDefined-here x f folder_fault p = tt
+IsDefined-here x f out_fault p = tt
+IsDefined-here x f in_fault p = tt
+IsDefined-here x f memory p = tt
+
+-- the first step has a value, and the rest goes on with it
+pub IsDefined-next : {A B : Type 0} (x : Result A Refusal) (f : A → Result B Refusal) (y : A) (v : PlainFault) → x ≡ Ok y → IsDefined (f y) v → IsDefined (and_then x f) v
+IsDefined-next {A} {B} x f y v e p = subst (λ (z : Result A Refusal). IsDefined (and_then z f) v) (sym e) p
+
+pub and_then-Ok : {A B : Type 0} (x : Result A Refusal) (f : A → Result B Refusal) (y : A) (z : Result B Refusal) → x ≡ Ok y → f y ≡ z → and_then x f ≡ z
+and_then-Ok x f y z e p = ap (λ w. and_then w f) e ∙ p
+
+-- ---- ends
+
+-- nothing was written yet
+pub EndsAs-stopped : (defined : Result Outcome Refusal) (v : PlainFault) (after : Option Files) (t : Taken) → IsDefined defined v → EndsAs defined (Some v) after t t
+unfolding EndsAs IsDefined
+EndsAs-stopped defined (refused r) after t p = record { is = p; output = TakesNone-refl t }
+EndsAs-stopped defined folder_fault after t p = TakesPrefix-none t (output_of defined)
+EndsAs-stopped defined out_fault after t p = TakesPrefix-none t (output_of defined)
+EndsAs-stopped defined in_fault after t p = TakesPrefix-none t (output_of defined)
+EndsAs-stopped defined memory after t p = TakesPrefix-none t (output_of defined)
+
+-- the write of a defined output failed
+output_end : (defined : Result Outcome Refusal) (o : Outcome) (v : Option PlainFault) (after : Option Files) (old new : Taken) (p q : ℕ) → IsSome v → IsOfOutput p q v → defined ≡ Ok o → TakesPrefix old new o.output → EndsAs defined v after old new
+unfolding EndsAs IsOfOutput
+output_end defined o None after old new p q some cause e bytes = cc
+output_end defined o (Some (refused r)) after old new p q some cause e bytes = absurd cause
+output_end defined o (Some folder_fault) after old new p q some cause e bytes = absurd cause
+output_end defined o (Some out_fault) after old new p q some cause e bytes = subst (TakesPrefix old new) (sym (ap output_of e)) bytes
+output_end defined o (Some in_fault) after old new p q some cause e bytes = absurd cause
+output_end defined o (Some memory) after old new p q some cause e bytes = absurd cause
+
+-- the defined output is written, and files stay
+pub EndsAs-written : (defined : Result Outcome Refusal) (o : Outcome) (result : Result Unit Fault) (after : Option Files) (old new : Taken) (p q : ℕ)
+    → defined ≡ Ok o → after ≡ Some o.files → Puts old new result o.output → IsOfOutput p q (fault_of result) → EndsAs defined (fault_of result) after old new
+unfolding EndsAs IsOfOutput
+EndsAs-written defined o (Ok u) after old new p q e same bytes cause = record { outcome = o; is = e; files = λ f told. grind (arith, same, told); output = bytes }
+EndsAs-written defined o (Err f) after old new p q e same bytes cause = output_end defined o (Some (fault_view f)) after old new p q refl cause e bytes
+
+-- ---- what was pulled
+
+-- nothing more than before
+pub PullsAtMost-same : (limit : ℕ) (a b : Numbers) → IsMeter a → b ≡ a → PullsAtMost limit a b
+PullsAtMost-same limit a b is e = subst (PullsAtMost limit a) (sym e) (PullsAtMost-none limit a is)
+
+-- a file that was read after calls that pulled nothing
+pub PullsAtMost-one : (limit n : ℕ) (a b c : Numbers) → n ≤ limit → b ≡ a → PullsAtMost n b c → PullsAtMost limit a c
+PullsAtMost-one limit n a b c fits e p = PullsAtMost-more n limit a c fits (subst (λ m. PullsAtMost n m c) e p)
+
+-- and another one
+pub PullsAtMost-two : (limit n k : ℕ) (a b c d : Numbers) → n + k ≤ limit → b ≡ a → PullsAtMost n b c → PullsAtMost k c d → PullsAtMost limit a d
+PullsAtMost-two limit n k a b c d fits e p q = PullsAtMost-more (n + k) limit a d fits (PullsAtMost-trans n k a c d (subst (λ m. PullsAtMost n m c) e p) q)
+
+pub ruleset endings = (IsOfFolder-inside, IsOfFolder-later, IsOfCommand-inside, IsOfCommand-folder, IsOfCommand-output, IsDefined-here, IsDefined-next, EndsAs-stopped)

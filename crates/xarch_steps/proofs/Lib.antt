@@ -1,0 +1,14 @@
+pub mod AddEnds
+pub mod DemoEnds
+pub mod Ending
+pub mod GetEnds
+pub mod HistoryEnds
+pub mod InitEnds
+pub mod KeptCalls
+pub mod KeyedCalls
+pub mod MayEnds
+pub mod Merging
+pub mod OneStep
+pub mod Running
+pub mod SampleLemmas
+pub mod StatsEnds

@@ -1,0 +1,119 @@
+-- How the parts of a command lead to an end that it may have.
+use Rattle.std.proofs.Common.{◌≡◌, inl, inr, ℕ, List, [], Option, Some, None, Result, Ok, Err, IfErr, OnOk, refl, sym, ◌∙◌, subst}
+use Rattle.std.specs.Result.{IsErrAnd}
+use Rattle.xa_outside.specs.Folder.{Files}
+use Rattle.xa_outside.specs.Taken.{Taken, Takes, TakesNone, TakesPrefix, Puts}
+use Rattle.xa_outside.proofs.Output.{Takes-nil, Takes-kept, TakesNone-refl, TakesPrefix-all}
+use Rattle.xarch_words.specs.Refusal.{Refusal, PlainFault, refused, folder_fault, out_fault, in_fault, memory}
+use Rattle.xarch_words.specs.View.{fault_view}
+use Rattle.xarch_words.specs.declared.fault.Fault.{Fault}
+use Rattle.xarch_steps.specs.Ends.{fault_of, IsDefined, IsOfOutput, TellsOnly, EndsAs}
+use Rattle.xarch_steps.specs.Outcome.{Outcome, output_of}
+use Rattle.xarch_steps.specs.Plausible.{MayEnd}
+
+module _ (M : Result Outcome Refusal → Type 0) where
+  -- nothing was written yet
+  pub MayEnd-stopped : (v : PlainFault) (after : Option Files) (t : Taken) → ((q : Refusal) → v ≡ refused q → M (Err q)) → MayEnd M (Some v) after t t
+  unfolding MayEnd
+  MayEnd-stopped (refused r) after t h = record { may = h r refl; output = TakesNone-refl t }
+  MayEnd-stopped folder_fault after t h = inl (TakesNone-refl t)
+  MayEnd-stopped out_fault after t h = inl (TakesNone-refl t)
+  MayEnd-stopped in_fault after t h = inl (TakesNone-refl t)
+  MayEnd-stopped memory after t h = inl (TakesNone-refl t)
+
+  -- it did what it may do
+  pub MayEnd-did : (o : Outcome) (after : Option Files) (old new : Taken) → M (Ok o) → TellsOnly after o.files → Takes old new o.output → MayEnd M None after old new
+  unfolding MayEnd
+  MayEnd-did o after old new may files output = record { outcome = o; may = may; files = files; output = output }
+
+  -- a call ended with the fault of a part of it
+  pub MayEnd-passed : (r : Result Unit Fault) (f : Fault) (after : Option Files) (t : Taken) → IsErrAnd r (λ g. g ≡ f) → ((q : Refusal) → fault_view f ≡ refused q → M (Err q)) → MayEnd M (fault_of r) after t t
+  MayEnd-passed (Ok u) f after t h p = absurd h
+  MayEnd-passed (Err g) f after t h p = subst (λ (z : Fault). MayEnd M (Some (fault_view z)) after t t) (sym h) (MayEnd-stopped (fault_view f) after t p)
+
+  no_refusal : (f : Fault) → fault_view f ≡ folder_fault → (q : Refusal) → fault_view f ≡ refused q → M (Err q)
+  no_refusal f e q h = let wrong : folder_fault ≡ refused q = sym e ∙ h in absurd cc
+
+  -- a call ended with a fault of the folder in a part of it
+  pub MayEnd-folder : (r : Result Unit Fault) (f : Fault) (after : Option Files) (t : Taken) → IsErrAnd r (λ g. g ≡ f) → fault_view f ≡ folder_fault → MayEnd M (fault_of r) after t t
+  MayEnd-folder r f after t h e = MayEnd-passed r f after t h (no_refusal f e)
+
+  -- it stores a file, and writes nothing
+  pub MayEnd-stored : (files : Files) (r : Result Unit Fault) (after : Option Files) (t : Taken) → M (Ok (record { files = files; output = [] })) → OnOk r (TellsOnly after files) → IfErr r (λ f. fault_view f ≡ folder_fault)
+      → MayEnd M (fault_of r) after t t
+  MayEnd-stored files (Ok u) after t may tells fault = MayEnd-did (record { files = files; output = [] }) after t t may tells (Takes-nil t)
+  MayEnd-stored files (Err f) after t may tells fault = MayEnd-stopped (fault_view f) after t (no_refusal f fault)
+
+  failed : (o : Outcome) (v : PlainFault) (after : Option Files) (old new : Taken) (p q : ℕ) → M (Ok o) → TakesPrefix old new o.output → IsOfOutput p q (Some v) → MayEnd M (Some v) after old new
+  unfolding MayEnd IsOfOutput
+  failed o (refused r) after old new p q may bytes cause = absurd cause
+  failed o folder_fault after old new p q may bytes cause = absurd cause
+  failed o out_fault after old new p q may bytes cause = inr (record { outcome = Ok o; may = may; output = bytes })
+  failed o in_fault after old new p q may bytes cause = absurd cause
+  failed o memory after old new p q may bytes cause = absurd cause
+
+  -- it writes what it may write, and files stay
+  pub MayEnd-written : (o : Outcome) (result : Result Unit Fault) (after : Option Files) (old new : Taken) (p q : ℕ)
+      → M (Ok o) → TellsOnly after o.files → Puts old new result o.output → IsOfOutput p q (fault_of result) → MayEnd M (fault_of result) after old new
+  MayEnd-written o (Ok u) after old new p q may files bytes cause = MayEnd-did o after old new may files bytes
+  MayEnd-written o (Err f) after old new p q may files bytes cause = failed o (fault_view f) after old new p q may bytes cause
+
+  -- a part of it failed to write what it may write
+  pub MayEnd-put_failed : (o : Outcome) (r : Result Unit Fault) (f : Fault) (after : Option Files) (old new : Taken) (p q : ℕ)
+      → IsErrAnd r (λ g. g ≡ f) → M (Ok o) → TakesPrefix old new o.output → IsOfOutput p q (Some (fault_view f)) → MayEnd M (fault_of r) after old new
+  MayEnd-put_failed o (Ok u) f after old new p q h may bytes cause = absurd h
+  MayEnd-put_failed o (Err g) f after old new p q h may bytes cause = subst (λ (z : Fault). MayEnd M (Some (fault_view z)) after old new) (sym h) (failed o (fault_view f) after old new p q may bytes cause)
+
+  not_committed : (o : Outcome) (v : PlainFault) (after : Option Files) (old new : Taken) → M (Ok o) → Takes old new o.output → v ≡ folder_fault → MayEnd M (Some v) after old new
+  unfolding MayEnd
+  not_committed o v after old new may bytes e = subst (λ (z : PlainFault). MayEnd M (Some z) after old new) (sym e) (inr (record { outcome = Ok o; may = may; output = TakesPrefix-all old new o.output bytes }))
+
+  -- its output is written before it commits
+  pub MayEnd-committed : (o : Outcome) (r : Result Unit Fault) (after : Option Files) (old new : Taken) → M (Ok o) → Takes old new o.output → OnOk r (TellsOnly after o.files) → IfErr r (λ f. fault_view f ≡ folder_fault)
+      → MayEnd M (fault_of r) after old new
+  MayEnd-committed o (Ok u) after old new may bytes tells fault = MayEnd-did o after old new may tells bytes
+  MayEnd-committed o (Err f) after old new may bytes tells fault = not_committed o (fault_view f) after old new may bytes fault
+
+-- what holds of the fault of a part holds of the fault of the whole
+pub IfErr-passed : {T : Type 0} (r : Result T Fault) (f : Fault) (P : Fault → Type 0) → IsErrAnd r (λ g. g ≡ f) → P f → IfErr r P
+IfErr-passed (Ok x) f P h p = tt
+IfErr-passed (Err g) f P h p = subst P (sym h) p
+
+-- a refusal of a step is the defined one
+pub defined_refused : {A : Type 0} (x : Result A Refusal) (v : PlainFault) (q : Refusal) → IsDefined x v → v ≡ refused q → x ≡ Err q
+unfolding IsDefined
+defined_refused x v q d e = subst (IsDefined x) e d
+
+-- told files stay
+pub tells_same : (after : Option Files) (files : Files) → after ≡ Some files → TellsOnly after files
+tells_same after files e = λ f told. let both : Some files ≡ Some f = sym e ∙ told in let same : files ≡ f = cc in sym same
+
+-- ---- against one definition
+
+no_prefix : (old new : Taken) (piece : List ℕ) → TakesNone old new → TakesPrefix old new piece
+no_prefix old new piece none = record { count = 0; takes = Takes-kept old old new [] (Takes-nil old) none }
+
+-- an end that a command may have is that which is defined, where no other is allowed
+pub EndsAs-may : (M : Result Outcome Refusal → Type 0) (r : Result Outcome Refusal) → ((s : Result Outcome Refusal) → M s → s ≡ r)
+    → (e : Option PlainFault) (after : Option Files) (old new : Taken) → MayEnd M e after old new → EndsAs r e after old new
+unfolding MayEnd EndsAs
+EndsAs-may M r one None after old new d = record { outcome = d.outcome; is = sym (one (Ok d.outcome) d.may); files = d.files; output = d.output }
+EndsAs-may M r one (Some (refused q)) after old new d = record { is = sym (one (Err q) d.may); output = d.output }
+EndsAs-may M r one (Some folder_fault) after old new d =
+    elim d [ inl n ↦ no_prefix old new (output_of r) n | inr p ↦ subst (λ (x : Result Outcome Refusal). TakesPrefix old new (output_of x)) (one p.outcome p.may) p.output ]
+EndsAs-may M r one (Some out_fault) after old new d =
+    elim d [ inl n ↦ no_prefix old new (output_of r) n | inr p ↦ subst (λ (x : Result Outcome Refusal). TakesPrefix old new (output_of x)) (one p.outcome p.may) p.output ]
+EndsAs-may M r one (Some in_fault) after old new d =
+    elim d [ inl n ↦ no_prefix old new (output_of r) n | inr p ↦ subst (λ (x : Result Outcome Refusal). TakesPrefix old new (output_of x)) (one p.outcome p.may) p.output ]
+EndsAs-may M r one (Some memory) after old new d =
+    elim d [ inl n ↦ no_prefix old new (output_of r) n | inr p ↦ subst (λ (x : Result Outcome Refusal). TakesPrefix old new (output_of x)) (one p.outcome p.may) p.output ]
+
+-- the defined end is one that a command may have
+pub MayEnd-exact : (r : Result Outcome Refusal) (e : Option PlainFault) (after : Option Files) (old new : Taken) → EndsAs r e after old new → MayEnd (λ s. s ≡ r) e after old new
+unfolding MayEnd EndsAs
+MayEnd-exact r None after old new d = record { outcome = d.outcome; may = sym d.is; files = d.files; output = d.output }
+MayEnd-exact r (Some (refused q)) after old new d = record { may = sym d.is; output = d.output }
+MayEnd-exact r (Some folder_fault) after old new d = inr (record { outcome = r; may = refl; output = d })
+MayEnd-exact r (Some out_fault) after old new d = inr (record { outcome = r; may = refl; output = d })
+MayEnd-exact r (Some in_fault) after old new d = inr (record { outcome = r; may = refl; output = d })
+MayEnd-exact r (Some memory) after old new d = inr (record { outcome = r; may = refl; output = d })

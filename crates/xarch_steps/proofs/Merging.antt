@@ -1,0 +1,94 @@
+-- What the merge of a document into a sound archive needs, and what it makes.
+use Rattle.std.proofs.Common.{◌≡◌, inl, inr, ℕ, ◌<◌, ◌≤◌, true, IsTrue, List, [], ◌∷◌, ◌++◌, length, Result, Ok, Err, IfErr, Vec, Global, Some, refl, sym, ap, ◌∙◌, subst, arith}
+use Rattle.std.proofs.Math.Bool.{Bool-set}
+use Rattle.std.proofs.Math.Logic.{∥∥₁_elim}
+use Rattle.jsonml_tree.specs.Data.{PlainTree, tree_depth}
+use Rattle.jsonml_tree.specs.Fits as tree
+use Rattle.jsonml_tree.specs.WellFormed.{IsWellFormed}
+use Rattle.key_annotate.specs.Stands.{Stands}
+use Rattle.key_spec.specs.Data.{PlainRule}
+use Rattle.keyed_tree.specs.Data.{PlainKeyed}
+use Rattle.keyed_tree.specs.Lists.{Has}
+use Rattle.archive_tree.specs.Data.{PlainArchive}
+use Rattle.archive_tree.specs.PartsTest.{is_archive}
+use Rattle.archive_tree.specs.Stands.{AllAlike, ArchiveOf, Kept}
+use Rattle.archive_tree.proofs.Necessary.{necessary}
+use Rattle.archive_tree.proofs.Readings.{one_list}
+use Rattle.archive_tree.proofs.Rebuilt.{sufficient}
+use Rattle.archive_tree.proofs.Tells.{archive_tells}
+use Rattle.nested_merge.specs.Alike.{AlikeAll}
+use Rattle.nested_merge.proofs.Picked.{all_append}
+use Rattle.archive_file.specs.KeyedBy.{IsKeyedBy, AreKeyedBy}
+use Rattle.archive_file.specs.Sound.{SoundAs}
+use Rattle.archive_file.proofs.FrontLaws.{sound-header}
+use Rattle.record_format.specs.Files.{FileOf}
+use Rattle.record_format.specs.Fronts.{header}
+use Rattle.xarch_words.specs.Refusal.{archive, Refusal, limit, refused}
+use Rattle.xarch_words.specs.View.{fault_view}
+use Rattle.xarch_words.specs.declared.fault.Fault.{Fault}
+use Rattle.xarch_steps.specs.Added.{Goes, IsTooLong}
+use Rattle.xarch_steps.specs.Archives.{IsRefusal, NoRefusal}
+
+-- the versions of an archive that has some can be told
+opened : (a : PlainArchive) → ∥ Kept a ∥₁ → Kept a
+opened a kept =
+    let passed = ∥∥₁_elim {P = IsTrue (is_archive a)} kept (Bool-set (is_archive a) true) (λ k. (archive_tells a).1 (necessary k.versions a k.is)) in
+    sufficient a ((archive_tells a).0 passed)
+
+pub has_front : (xs : List PlainKeyed) (x v : PlainKeyed) → Has v xs → Has v (xs ++ x ∷ [])
+has_front [] x v m = absurd m
+has_front (y ∷ ys) x v m = elim m [ inl e ↦ inl e | inr i ↦ inr (has_front ys x v i) ]
+
+pub has_last : (xs : List PlainKeyed) (x : PlainKeyed) → Has x (xs ++ x ∷ [])
+has_last [] x = inl refl
+has_last (y ∷ ys) x = inr (has_last ys x)
+
+module _ (rules : List PlainRule) (old : PlainArchive) (bytes : List ℕ) (k : PlainKeyed) (kept : ∥ Kept old ∥₁)
+    (sound : (vs : List PlainKeyed) → ArchiveOf vs old → SoundAs rules vs bytes) (goes : Goes bytes k) where
+  follows_keyed : (vs : List PlainKeyed) → ArchiveOf vs old → AreKeyedBy rules (vs ++ k ∷ [])
+  follows_keyed vs h = all_append (IsKeyedBy rules) vs (k ∷ []) (sound vs h).keyed ((goes.follows rules vs (sound vs h)).keyed, tt)
+
+  pub room : old.n < 999999
+  room =
+      let v = opened old kept in
+      let below = (goes.follows rules v.versions (sound v.versions v.is)).room in
+      let count = v.is.count in
+      omega (arith, below, count)
+
+  pub alike_all : ((vs : List PlainKeyed) → AreKeyedBy rules vs → AllAlike vs) → (vs : List PlainKeyed) → ArchiveOf vs old → AlikeAll vs k
+  alike_all alike vs h v m = alike (vs ++ k ∷ []) (follows_keyed vs h) v k (has_front vs k v m) (has_last vs k)
+
+  -- the merged archive has versions that are keyed, and no others
+  pub keyed_after : (new : PlainArchive) → ((vs : List PlainKeyed) → ArchiveOf vs old → ArchiveOf (vs ++ k ∷ []) new) → (us : List PlainKeyed) → ArchiveOf us new → AreKeyedBy rules us
+  keyed_after new merged us h =
+      let v = opened old kept in
+      let same = one_list (v.versions ++ k ∷ []) us new (merged v.versions v.is) h in
+      subst (AreKeyedBy rules) same (follows_keyed v.versions v.is)
+
+-- where no file was made, the versions have none
+pub too_long_after : (rules given : List PlainRule) (new : PlainArchive) (vs : List PlainKeyed) (k : PlainKeyed) (r : Result (Vec ℕ Global) Fault) (q : Refusal) → given ≡ rules → ArchiveOf (vs ++ k ∷ []) new
+    → IfErr r (λ f. IsRefusal (limit archive 274877906944) (fault_view f))
+    → ((us : List PlainKeyed) (bytes : List ℕ) → ArchiveOf us new → FileOf given us bytes → IfErr r (λ f. NoRefusal (fault_view f)))
+    → IfErr r (λ f. fault_view f ≡ refused q → IsTooLong rules (vs ++ k ∷ []) q)
+too_long_after rules given new vs k (Ok v) q same is limits none = tt
+too_long_after rules given new vs k (Err f) q same is limits none = λ e. record {
+  is = limits q e;
+  none = λ bytes file. none (vs ++ k ∷ []) bytes is (subst (λ z. FileOf z (vs ++ k ∷ []) bytes) (sym same) file) q e;
+}
+
+-- a document that was keyed by the rules in front of an archive goes behind its versions
+pub goes_on : (rules : List PlainRule) (n : ℕ) (bytes : List ℕ) (t : PlainTree) (k : PlainKeyed) → header bytes ≡ Some (rules, n) → tree.IsElement t → IsWellFormed t → tree_depth t ≤ 120 → Stands rules t k → n < 999999
+    → Goes bytes k
+goes_on rules n bytes t k front element formed shallow stands below = record {
+  element = stands.element;
+  ordered = stands.ordered;
+  well_formed = stands.well_formed;
+  follows = λ others vs sound.
+      let both : Some (rules, n) ≡ Some (others, length vs) = sym front ∙ sound-header others vs bytes sound in
+      let same : (rules, n) ≡ (others, length vs) = cc in
+      let keyed : IsKeyedBy rules k = record { document = t; element = element; well_formed = formed; shallow = shallow; satisfies = stands.satisfies; stands = stands.keyed } in
+      record {
+        keyed = subst (λ z. IsKeyedBy z k) (ap (λ (p : List PlainRule × ℕ). p.0) same) keyed;
+        room = subst (λ m. m < 999999) (ap (λ (p : List PlainRule × ℕ). p.1) same) below;
+      };
+}

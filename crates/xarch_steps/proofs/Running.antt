@@ -1,0 +1,211 @@
+-- From the end of a command to its status, its line and what it did.
+use Rattle.std.proofs.Common.{◌≡◌, ◌≢◌, ◌⊎◌, ◌↔◌, inl, inr, ℕ, List, [], Option, Some, None, IsSome, Result, Ok, Err, OnErr, refl, sym, ap, ◌∙◌, subst, arith}
+use Rattle.xa_outside.specs.Causes.{HasCause, Rose}
+use Rattle.xa_outside.specs.Folder.{Files}
+use Rattle.xa_outside.specs.Taken.{Taken, TakesNone, TakesPrefix, Puts}
+use Rattle.xa_outside.proofs.Output.{Takes-nil, Takes-kept, TakesPrefix-none, TakesPrefix-all}
+use Rattle.xarch_words.specs.Commands.{PlainCommand}
+use Rattle.xarch_words.specs.Refusal.{Refusal, usage, no_file, exists, bad_spec, bad_json, bad_shape, key_fault, no_version, bad_path, damaged, limit, PlainFault, refused, folder_fault, out_fault, in_fault, memory}
+use Rattle.xarch_words.specs.Lines.{refusal_status}
+use Rattle.xarch_words.specs.declared.fault.Fault.{Fault}
+use Rattle.xarch_steps.specs.Outcome.{Outcome, Step, output_of, step_from}
+use Rattle.xarch_steps.specs.Ends.{fault_of, IsOfCommand, HasItsCause, EndsAs}
+use Rattle.xarch_steps.specs.Ran.{status_after, line_after, outside_of, Says}
+use Rattle.xarch_steps.specs.Plausible.{MayBe, MayDo, MayEnd, Plausible, PutSome, Tried, Wrote}
+use Rattle.xarch_steps.specs.Step.{StepIs, single_of}
+use Rattle.xarch_steps.proofs.Ending.{IsOfCommand-usage}
+use Rattle.xarch_steps.proofs.MayEnds.{MayEnd-stopped, EndsAs-may}
+use Rattle.xarch_steps.proofs.OneStep.{one_outcome, one_step}
+
+-- ---- statuses
+
+-- no refusal has the status of a fault of the outside
+outside_of-refusal : (r : Refusal) → outside_of (refusal_status r) ≡ None
+outside_of-refusal usage = refl
+outside_of-refusal (no_file n) = refl
+outside_of-refusal (exists n) = refl
+outside_of-refusal (bad_spec l w) = refl
+outside_of-refusal bad_json = refl
+outside_of-refusal (bad_shape p w) = refl
+outside_of-refusal (key_fault f) = refl
+outside_of-refusal (no_version i n) = refl
+outside_of-refusal (bad_path n) = refl
+outside_of-refusal (damaged n) = refl
+outside_of-refusal (limit q n) = refl
+
+-- 2 is the status of words that are no command
+refusal_2 : (r : Refusal) → refusal_status r ≡ 2 → r ≡ usage
+refusal_2 usage e = refl
+refusal_2 (no_file n) e = absurd (omega (arith, e))
+refusal_2 (exists n) e = absurd (omega (arith, e))
+refusal_2 (bad_spec l w) e = absurd (omega (arith, e))
+refusal_2 bad_json e = absurd (omega (arith, e))
+refusal_2 (bad_shape p w) e = absurd (omega (arith, e))
+refusal_2 (key_fault f) e = absurd (omega (arith, e))
+refusal_2 (no_version i n) e = absurd (omega (arith, e))
+refusal_2 (bad_path n) e = absurd (omega (arith, e))
+refusal_2 (damaged n) e = absurd (omega (arith, e))
+refusal_2 (limit q n) e = absurd (omega (arith, e))
+
+refusal_some : (r : Refusal) (A : Type 0) → refusal_status r ≡ 0 → A
+refusal_some usage A e = absurd (omega (arith, e))
+refusal_some (no_file n) A e = absurd (omega (arith, e))
+refusal_some (exists n) A e = absurd (omega (arith, e))
+refusal_some (bad_spec l w) A e = absurd (omega (arith, e))
+refusal_some bad_json A e = absurd (omega (arith, e))
+refusal_some (bad_shape p w) A e = absurd (omega (arith, e))
+refusal_some (key_fault f) A e = absurd (omega (arith, e))
+refusal_some (no_version i n) A e = absurd (omega (arith, e))
+refusal_some (bad_path n) A e = absurd (omega (arith, e))
+refusal_some (damaged n) A e = absurd (omega (arith, e))
+refusal_some (limit q n) A e = absurd (omega (arith, e))
+
+-- ---- from the end of a command
+
+to_usage : (e : Option PlainFault) → status_after e ≡ 2 → e ≡ Some (refused usage)
+to_usage None h = absurd (omega (arith, h))
+to_usage (Some (refused r)) h = ap (λ s. Some (refused s)) (refusal_2 r h)
+to_usage (Some folder_fault) h = absurd (omega (arith, h))
+to_usage (Some out_fault) h = absurd (omega (arith, h))
+to_usage (Some in_fault) h = absurd (omega (arith, h))
+to_usage (Some memory) h = absurd (omega (arith, h))
+
+pub status_after-usage : (e : Option PlainFault) → (status_after e ≡ 2) ↔ (e ≡ Some (refused usage))
+status_after-usage e = (to_usage e, λ h. ap status_after h)
+
+-- a status of the outside is none of a refusal
+refusal_never : (r : Refusal) (n : ℕ) (v : PlainFault) (A : Type 0) → outside_of n ≡ Some v → refusal_status r ≡ n → A
+refusal_never r n v A e h = let none : outside_of n ≡ None = ap outside_of (sym h) ∙ outside_of-refusal r in cc
+
+pub folder_fault-caused : (a b c d : ℕ) (e : Option PlainFault) → HasItsCause a b c d e → status_after e ≡ 13 → Rose a b
+unfolding HasItsCause
+folder_fault-caused a b c d None p h = absurd (omega (arith, h))
+folder_fault-caused a b c d (Some (refused r)) p h = refusal_never r 13 folder_fault (Rose a b) refl h
+folder_fault-caused a b c d (Some folder_fault) p h = p
+folder_fault-caused a b c d (Some out_fault) p h = absurd (omega (arith, h))
+folder_fault-caused a b c d (Some in_fault) p h = absurd p
+folder_fault-caused a b c d (Some memory) p h = absurd (omega (arith, h))
+
+pub out_fault-caused : (a b c d : ℕ) (e : Option PlainFault) → HasItsCause a b c d e → status_after e ≡ 14 → Rose c d
+unfolding HasItsCause
+out_fault-caused a b c d None p h = absurd (omega (arith, h))
+out_fault-caused a b c d (Some (refused r)) p h = refusal_never r 14 out_fault (Rose c d) refl h
+out_fault-caused a b c d (Some folder_fault) p h = absurd (omega (arith, h))
+out_fault-caused a b c d (Some out_fault) p h = p
+out_fault-caused a b c d (Some in_fault) p h = absurd p
+out_fault-caused a b c d (Some memory) p h = absurd (omega (arith, h))
+
+pub status_after-input : (a b c d : ℕ) (e : Option PlainFault) → HasItsCause a b c d e → status_after e ≢ 15
+unfolding HasItsCause
+status_after-input a b c d None p h = omega (arith, h)
+status_after-input a b c d (Some (refused r)) p h = refusal_never r 15 in_fault ⊥ refl h
+status_after-input a b c d (Some folder_fault) p h = omega (arith, h)
+status_after-input a b c d (Some out_fault) p h = omega (arith, h)
+status_after-input a b c d (Some in_fault) p h = p
+status_after-input a b c d (Some memory) p h = omega (arith, h)
+
+-- what should succeed does, where no count rose
+pub complete-from : (files : Files) (defined : Result Outcome Refusal) (e : Option PlainFault) (after : Option Files) (old new : Taken) (a b c d : ℕ) → EndsAs defined e after old new → HasItsCause a b c d e
+    → (step_from files defined).status ≡ 0 → ¬ Rose a b → ¬ Rose c d → (status_after e ≡ 0) ⊎ (status_after e ≡ 16)
+unfolding EndsAs HasItsCause
+complete-from files defined None after old new a b c d ends cause zero folder out = inl refl
+complete-from files defined (Some (refused r)) after old new a b c d ends cause zero folder out =
+    refusal_some r ((refusal_status r ≡ 0) ⊎ (refusal_status r ≡ 16)) (sym (ap (λ (d : Result Outcome Refusal). (step_from files d).status) ends.is) ∙ zero)
+complete-from files defined (Some folder_fault) after old new a b c d ends cause zero folder out = absurd (folder cause)
+complete-from files defined (Some out_fault) after old new a b c d ends cause zero folder out = absurd (out cause)
+complete-from files defined (Some in_fault) after old new a b c d ends cause zero folder out = absurd cause
+complete-from files defined (Some memory) after old new a b c d ends cause zero folder out = inr refl
+
+-- ---- from the words to a command
+
+pub MayEnd-usage : (files : Files) (words : List (List ℕ)) (after : Option Files) (t : Taken) → single_of words ≡ None → MayEnd (MayDo files (single_of words)) (Some (refused usage)) after t t
+MayEnd-usage files words after t none = MayEnd-stopped (MayDo files (single_of words)) (refused usage) after t (λ q e.
+    let same : usage ≡ q = cc in
+    subst (λ (o : Option PlainCommand). MayDo files o (Err q)) (sym none) (ap (λ r. Err r) (sym same)))
+
+pub MayEnd-command : (files : Files) (words : List (List ℕ)) (command : PlainCommand) (e : Option PlainFault) (after : Option Files) (old new : Taken)
+    → single_of words ≡ Some command → MayEnd (MayBe files command) e after old new → MayEnd (MayDo files (single_of words)) e after old new
+MayEnd-command files words command e after old new some ends = subst (λ (o : Option PlainCommand). MayEnd (MayDo files o) e after old new) (sym some) ends
+
+-- the end of a command is that which is defined
+pub EndsAs-defined : (files : Files) (words : List (List ℕ)) (s : Step) (e : Option PlainFault) (after : Option Files) (old new : Taken)
+    → (is : StepIs files words s) → MayEnd (MayDo files (single_of words)) e after old new → EndsAs is.outcome e after old new
+EndsAs-defined files words s e after old new is ends = EndsAs-may (MayDo files (single_of words)) is.outcome (λ x m. one_outcome files words is.outcome x is.defined m) e after old new ends
+
+-- where it is no fault of the outside, a step is taken that may be taken
+pub Tried-from : (files : Files) (words : List (List ℕ)) (e : Option PlainFault) (before after : Option Files) (old new err_old err_new : Taken) (p q : ℕ) → before ≡ Some files → (IsSome e → after ≡ before)
+    → MayEnd (MayDo files (single_of words)) e after old new → Says err_old err_new p q (line_after e) → outside_of (status_after e) ≡ None → Tried files words (status_after e) after old new err_old err_new p q
+unfolding MayEnd
+Tried-from files words None before after old new err_old err_new p q told stays ends says plain =
+    let may : Plausible files words (step_from files (Ok ends.outcome)) = record { outcome = Ok ends.outcome; may = ends.may; is = refl } in
+    record {
+      step = step_from files (Ok ends.outcome);
+      may = may;
+      defined = λ s is. one_step files words s (step_from files (Ok ends.outcome)) is may;
+      ran = record { status = refl; files = ends.files; output = ends.output; line = says };
+    }
+Tried-from files words (Some (refused r)) before after old new err_old err_new p q told stays ends says plain =
+    let may : Plausible files words (step_from files (Err r)) = record { outcome = Err r; may = ends.may; is = refl } in
+    record {
+      step = step_from files (Err r);
+      may = may;
+      defined = λ s is. one_step files words s (step_from files (Err r)) is may;
+      ran = record {
+        status = refl;
+        files = λ f is. let same : after ≡ before = stays refl in grind (arith, told, same, is);
+        output = Takes-kept old old new [] (Takes-nil old) ends.output;
+        line = says;
+      };
+    }
+Tried-from files words (Some folder_fault) before after old new err_old err_new p q told stays ends says plain = cc
+Tried-from files words (Some out_fault) before after old new err_old err_new p q told stays ends says plain = cc
+Tried-from files words (Some in_fault) before after old new err_old err_new p q told stays ends says plain = cc
+Tried-from files words (Some memory) before after old new err_old err_new p q told stays ends says plain = cc
+
+output_from : (files : Files) (outcome : Result Outcome Refusal) (old new : Taken) → TakesPrefix old new (output_of outcome) → TakesPrefix old new (step_from files outcome).output
+output_from files (Ok o) old new p = p
+output_from files (Err r) old new p = p
+
+-- a prefix of the output of a step that may be taken
+wrote_some : (files : Files) (words : List (List ℕ)) (outcome : Result Outcome Refusal) (old new : Taken) → MayDo files (single_of words) outcome → TakesPrefix old new (output_of outcome) → Wrote files words old new
+wrote_some files words outcome old new m p =
+    let may : Plausible files words (step_from files outcome) = record { outcome = outcome; may = m; is = refl } in
+    inr (record {
+      step = step_from files outcome;
+      may = may;
+      defined = λ s is. one_step files words s (step_from files outcome) is may;
+      output = output_from files outcome old new p;
+    })
+
+wrote_outside : (files : Files) (words : List (List ℕ)) (old new : Taken) → (TakesNone old new) ⊎ (PutSome (MayDo files (single_of words)) old new) → Wrote files words old new
+wrote_outside files words old new d = elim d [ inl n ↦ inl n | inr p ↦ wrote_some files words p.outcome old new p.may p.output ]
+
+-- whatever its end, it has written nothing, or such a prefix
+pub Wrote-from : (files : Files) (words : List (List ℕ)) (e : Option PlainFault) (after : Option Files) (old new : Taken) → MayEnd (MayDo files (single_of words)) e after old new → Wrote files words old new
+unfolding MayEnd
+Wrote-from files words None after old new ends = wrote_some files words (Ok ends.outcome) old new ends.may (TakesPrefix-all old new ends.outcome.output ends.output)
+Wrote-from files words (Some (refused r)) after old new ends = inl ends.output
+Wrote-from files words (Some folder_fault) after old new ends = wrote_outside files words old new ends
+Wrote-from files words (Some out_fault) after old new ends = wrote_outside files words old new ends
+Wrote-from files words (Some in_fault) after old new ends = wrote_outside files words old new ends
+Wrote-from files words (Some memory) after old new ends = wrote_outside files words old new ends
+
+-- a command does not end as words that are none
+pub usage-command : (words : List (List ℕ)) (command : PlainCommand) (a b p q : ℕ) (e : Option PlainFault) → single_of words ≡ Some command → IsOfCommand a b p q e
+    → (e ≡ Some (refused usage)) ↔ (single_of words ≡ None)
+usage-command words command a b p q e some cause = (λ h. absurd (IsOfCommand-usage a b p q e cause h), λ h. cc)
+
+-- ---- the line
+
+pub Says-none : (t : Taken) (n : ℕ) → Says t t n n []
+Says-none t n = record { prefix = TakesPrefix-none t []; whole = λ _. Takes-nil t }
+
+-- a write that failed has a cause
+pub Says-from : {T E : Type 0} (old new : Taken) (before now : ℕ) (r : Result T E) (line : List ℕ) → Puts old new r line → HasCause before now r → Says old new before now line
+Says-from old new before now (Ok u) line p q = record { prefix = TakesPrefix-all old new line p; whole = λ _. p }
+Says-from old new before now (Err e) line p q = record { prefix = p; whole = λ not. absurd (not q.failed) }
+
+-- what holds on an error holds where there is a fault
+pub fault_of-OnErr : (P : Type 0) (r : Result Unit Fault) → OnErr r P → IsSome (fault_of r) → P
+fault_of-OnErr P (Ok u) p some = cc
+fault_of-OnErr P (Err f) p some = p

@@ -1,0 +1,79 @@
+-- The archive of generated documents, one after another.
+use Rattle.std.proofs.Common.{◌≡◌, ℕ, ◌+◌, ◌<◌, ◌≤◌, List, [], ◌∷◌, ◌++◌, length, sym, ap, ◌∙◌, subst, arith}
+use Rattle.std.proofs.lemmas.List.FromFn.{length-map-range_with_len, map-range_with_len_more}
+use Rattle.jsonml_tree.specs.Data.{PlainTree, tree_depth}
+use Rattle.jsonml_tree.specs.Fits.{IsElement}
+use Rattle.jsonml_tree.specs.WellFormed.{IsWellFormed}
+use Rattle.key_annotate.specs.Annotated.{keyed_tree}
+use Rattle.key_annotate.specs.Stands.{Stands}
+use Rattle.key_spec.specs.Data.{PlainRule}
+use Rattle.keyed_tree.specs.Data.{PlainKeyed}
+use Rattle.keyed_tree.specs.Lists.{Has}
+use Rattle.archive_tree.specs.Data.{PlainArchive}
+use Rattle.archive_tree.specs.Stands.{ArchiveOf}
+use Rattle.archive_tree.proofs.Readings.{one_list}
+use Rattle.nested_merge.specs.Alike.{AlikeAll}
+use Rattle.nested_merge.proofs.Picked.{all_append}
+use Rattle.archive_file.specs.KeyedBy.{IsKeyedBy, AreKeyedBy}
+use Rattle.archive_file.proofs.AlikeLaws.{keyed-alike}
+use Rattle.xarch_gen.specs.Company.{company_rules}
+use Rattle.xarch_gen.specs.Sample.{sample_of}
+use Rattle.xarch_steps.specs.Demo.{IsSampleArchive, sample_tree, samples}
+use Rattle.xarch_steps.proofs.Merging.{has_front, has_last}
+
+samples-more : (seed n : ℕ) → samples seed (n + 1) ≡ samples seed n ++ sample_tree seed (n + 1) ∷ []
+samples-more seed n = map-range_with_len_more (sample_tree seed) 1 n (n + 1) (omega arith)
+
+-- an archive of no documents
+pub sampled_none : (seed : ℕ) (a : PlainArchive) → ArchiveOf [] a → IsSampleArchive seed 0 a
+sampled_none seed a h = record { archive = h; keyed = tt }
+
+-- what the keyed tree of the next document is
+module _ (rules : List PlainRule) (seed n : ℕ) (t : PlainTree) (k : PlainKeyed) (same : rules ≡ company_rules) (is : t ≡ sample_of seed (n + 1)) (element : IsElement t) (formed : IsWellFormed t) (shallow : tree_depth t ≤ 120)
+    (stands : Stands rules t k) where
+  tree_is : k ≡ sample_tree seed (n + 1)
+  tree_is = stands.tree ∙ ap (λ r. keyed_tree r t) same ∙ ap (keyed_tree company_rules) is
+
+  keyed_by : IsKeyedBy company_rules k
+  keyed_by = subst (λ r. IsKeyedBy r k) same (record { document = t; element = element; well_formed = formed; shallow = shallow; satisfies = stands.satisfies; stands = stands.keyed })
+
+  with_next : samples seed n ++ k ∷ [] ≡ samples seed (n + 1)
+  with_next = ap (λ (j : PlainKeyed). samples seed n ++ j ∷ []) tree_is ∙ sym (samples-more seed n)
+
+  module _ (a : PlainArchive) (sampled : IsSampleArchive seed n a) where
+    all_keyed : AreKeyedBy company_rules (samples seed n ++ k ∷ [])
+    all_keyed = all_append (IsKeyedBy company_rules) (samples seed n) (k ∷ []) sampled.keyed (keyed_by, tt)
+
+    -- there is room for it
+    pub room : n < 1000 → a.n < 4294967295
+    room few =
+        let count : length (samples seed n) ≡ a.n = sampled.archive.count in
+        let many : length (samples seed n) ≡ n = length-map-range_with_len (sample_tree seed) 1 n in
+        omega (arith, count, many)
+
+    -- it goes with the documents before it
+    pub alike : (vs : List PlainKeyed) → ArchiveOf vs a → AlikeAll vs k
+    alike vs h v m =
+        let one : vs ≡ samples seed n = one_list vs (samples seed n) a h sampled.archive in
+        let there : Has v (samples seed n) = subst (Has v) one m in
+        keyed-alike company_rules (samples seed n ++ k ∷ []) all_keyed v k (has_front (samples seed n) k v there) (has_last (samples seed n) k)
+
+    -- and comes behind them
+    pub sampled_next : (b : PlainArchive) → ((vs : List PlainKeyed) → ArchiveOf vs a → ArchiveOf (vs ++ k ∷ []) b) → IsSampleArchive seed (n + 1) b
+    sampled_next b merged = record {
+      archive = subst (λ vs. ArchiveOf vs b) with_next (merged (samples seed n) sampled.archive);
+      keyed = subst (AreKeyedBy company_rules) with_next all_keyed;
+    }
+
+-- ---- the archive of all documents
+
+pub few_versions : (seed count : ℕ) (a : PlainArchive) → IsSampleArchive seed count a → count ≤ 1000 → a.n ≤ 999999
+few_versions seed count a sampled few =
+    let versions : length (samples seed count) ≡ a.n = sampled.archive.count in
+    let many : length (samples seed count) ≡ count = length-map-range_with_len (sample_tree seed) 1 count in
+    omega (arith, versions, many)
+
+pub only_keyed : (rules : List PlainRule) (seed count : ℕ) (a : PlainArchive) → rules ≡ company_rules → IsSampleArchive seed count a → (vs : List PlainKeyed) → ArchiveOf vs a → AreKeyedBy rules vs
+only_keyed rules seed count a same sampled vs h =
+    let one : samples seed count ≡ vs = one_list (samples seed count) vs a sampled.archive h in
+    subst (λ r. AreKeyedBy r vs) (sym same) (subst (AreKeyedBy company_rules) one sampled.keyed)

@@ -1,0 +1,30 @@
+use Rattle.std.proofs.Common.{arith}
+use Rattle.key_spec.specs.View.{spec_view}
+use Rattle.keyed_tree.specs.View.{keyed_view}
+use Rattle.archive_tree.specs.ArchiveView.{archive_view}
+use Rattle.xarch_steps.proofs.Merging.{room, alike_all, keyed_after, too_long_after}
+use Rattle.xarch_steps.proofs.add.merged_file.Goals as goal
+
+pub merge-requires-clause-room : goal.merge-requires-clause-room
+merge-requires-clause-room c =
+    let below = room (spec_view c.in_ok-spec.spec) (archive_view c.in_ok-spec.archive) c.args.bytes.now (keyed_view c.args.new.now) c.in_ok-spec.archive.stands c.in_ok-spec.ensures.sound c.requires in
+    omega (arith, below)
+
+pub merge-requires-clause-alike : goal.merge-requires-clause-alike
+merge-requires-clause-alike c =
+    alike_all (spec_view c.in_ok-spec.spec) (archive_view c.in_ok-spec.archive) c.args.bytes.now (keyed_view c.args.new.now) c.in_ok-spec.archive.stands c.in_ok-spec.ensures.sound c.requires c.in_ok-spec.ensures.alike
+
+pub file_from-requires-clause-few : goal.file_from-requires-clause-few
+file_from-requires-clause-few c =
+    let below = room (spec_view c.in_ok-spec.spec) (archive_view c.in_ok-spec.archive) c.args.bytes.now (keyed_view c.args.new.now) c.in_ok-spec.archive.stands c.in_ok-spec.ensures.sound c.requires in
+    let count = c.in-Ok.ensures.count in
+    omega (arith, below, count)
+
+pub file_from-requires-clause-keyed : goal.file_from-requires-clause-keyed
+file_from-requires-clause-keyed c =
+    keyed_after (spec_view c.in_ok-spec.spec) (archive_view c.in_ok-spec.archive) c.args.bytes.now (keyed_view c.args.new.now) c.in_ok-spec.archive.stands c.in_ok-spec.ensures.sound c.requires (archive_view c.in-Ok.archive) c.in-Ok.ensures.archive
+
+pub returns-in-Ok-clause-too_long : goal.returns-in-Ok-clause-too_long
+returns-in-Ok-clause-too_long c = λ rules vs q sound.
+    let given = c.in_ok-spec.ensures.only rules vs sound in
+    too_long_after rules (spec_view c.in_ok-spec.spec) (archive_view c.in-Ok.archive) vs (keyed_view c.args.new.now) c.file_from.result q given.0 (c.in-Ok.ensures.archive vs given.1) c.file_from.ensures.limit c.file_from.ensures.too_long

@@ -1,0 +1,39 @@
+use Rattle.std.proofs.Common.{◌≡◌, ◌⊎◌, ℕ, sym, ap, subst, ◌∙◌}
+use Rattle.xarch_words.specs.View.{words_view}
+use Rattle.xarch_steps.specs.Ends.{fault_of}
+use Rattle.xarch_steps.specs.Outcome.{Step}
+use Rattle.xarch_steps.specs.Plausible.{Tried}
+use Rattle.xarch_steps.specs.Ran.{outside_of}
+use Rattle.xarch_steps.proofs.Running.{complete-from, fault_of-OnErr, folder_fault-caused, out_fault-caused, status_after-input, EndsAs-defined, Tried-from, Wrote-from}
+use Rattle.xarch_steps.proofs.step.take_step.Goals as goal
+
+pub returns-clause-tried : goal.returns-clause-tried
+returns-clause-tried g c = λ files told plain.
+    let words = words_view c.args.words.now in
+    let tried =
+    Tried-from files words (fault_of c.command_words-ended.result) _ _ _ _ _ _ _ _ told (fault_of-OnErr _ c.command_words-ended.result c.command_words-ended.ensures.refused) (c.command_words-ended.ensures.may files told)
+    c.finish.ensures.line (ap outside_of (sym c.finish.ensures.status) ∙ plain) in
+    subst (λ (n : ℕ). Tried files words n (g.F.Folder.files c.command_words-ended.new.folder) (g.O.Sink.taken c.args.out.now) (g.O.Sink.taken c.command_words-ended.new.out)
+    (g.E.Sink.taken c.args.err.now) (g.E.Sink.taken c.finish.new.err) (g.E.Sink.faults c.args.err.now) (g.E.Sink.faults c.finish.new.err)) (sym c.finish.ensures.status) tried
+
+pub returns-clause-wrote : goal.returns-clause-wrote
+returns-clause-wrote g c = λ files told. Wrote-from files (words_view c.args.words.now) (fault_of c.command_words-ended.result) _ _ _ (c.command_words-ended.ensures.may files told)
+
+pub returns-clause-folder_fault : goal.returns-clause-folder_fault
+returns-clause-folder_fault g c = λ is. folder_fault-caused _ _ _ _ _ c.command_words-ended.ensures.cause (sym c.finish.ensures.status ∙ is)
+
+pub returns-clause-out_fault : goal.returns-clause-out_fault
+returns-clause-out_fault g c = λ is. out_fault-caused _ _ _ _ _ c.command_words-ended.ensures.cause (sym c.finish.ensures.status ∙ is)
+
+pub returns-clause-never_input_fault : goal.returns-clause-never_input_fault
+returns-clause-never_input_fault g c = λ is. status_after-input _ _ _ _ _ c.command_words-ended.ensures.cause (sym c.finish.ensures.status ∙ is)
+
+pub returns-clause-complete : goal.returns-clause-complete
+returns-clause-complete g c = λ files s told is zero folder out.
+    let ended = fault_of c.command_words-ended.result in
+    let ends = EndsAs-defined files (words_view c.args.words.now) s ended _ _ _ is (c.command_words-ended.ensures.may files told) in
+    subst (λ (n : ℕ). (n ≡ 0) ⊎ (n ≡ 16)) (sym c.finish.ensures.status)
+    (complete-from files is.outcome ended _ _ _ _ _ _ _ ends c.command_words-ended.ensures.cause (sym (ap (λ (x : Step). x.status) is.is) ∙ zero) folder out)
+
+pub returns-clause-said : goal.returns-clause-said
+returns-clause-said g c = record { fault = fault_of c.command_words-ended.result; status = c.finish.ensures.status; line = c.finish.ensures.line }

@@ -1,0 +1,77 @@
+-- How a command, or a part of it, ends, against its definition.
+use Rattle.std.specs.Prelude.{◌≡◌, ℕ, Option, Some, None, Result, Ok, Err, ⊤}
+use Rattle.xa_outside.specs.Causes.{Rose}
+use Rattle.xa_outside.specs.Folder.{Files}
+use Rattle.xa_outside.specs.Taken.{Taken, Takes, TakesNone, TakesPrefix}
+use Rattle.xarch_words.specs.Refusal.{Refusal, usage, PlainFault, refused, folder_fault, out_fault, in_fault, memory}
+use Rattle.xarch_words.specs.View.{fault_view}
+use Rattle.xarch_words.specs.declared.fault.Fault.{Fault}
+use Rattle.xarch_steps.specs.Outcome.{Outcome, output_of}
+
+-- the fault with which a call ended, if any
+abbrev pub fault_of : {T : Type 0} → Result T Fault → Option PlainFault
+fault_of (Ok _) = None
+fault_of (Err f) = Some (fault_view f)
+
+-- Within a command, whose words are one: a refusal, or want of memory.
+unfoldable pub IsInside : Option PlainFault → Type 0
+IsInside None = ⊤
+IsInside (Some (refused usage)) = ⊥
+IsInside (Some (refused _)) = ⊤
+IsInside (Some memory) = ⊤
+IsInside (Some _) = ⊥
+
+-- the same, or a fault of the folder, whose count of faults rose
+unfoldable pub IsOfFolder : ℕ → ℕ → Option PlainFault → Type 0
+IsOfFolder before now (Some folder_fault) = Rose before now
+IsOfFolder before now fault = IsInside fault
+
+-- a fault of the output, whose count of faults rose, and no other
+unfoldable pub IsOfOutput : ℕ → ℕ → Option PlainFault → Type 0
+IsOfOutput before now None = ⊤
+IsOfOutput before now (Some out_fault) = Rose before now
+IsOfOutput before now (Some _) = ⊥
+
+-- any fault of a command
+unfoldable pub IsOfCommand : ℕ → ℕ → ℕ → ℕ → Option PlainFault → Type 0
+IsOfCommand folder_before folder_now out_before out_now (Some out_fault) = Rose out_before out_now
+IsOfCommand folder_before folder_now out_before out_now fault = IsOfFolder folder_before folder_now fault
+
+-- any fault but one of the input: one of the folder or of the output comes only where that object's count of faults rose
+unfoldable pub HasItsCause : ℕ → ℕ → ℕ → ℕ → Option PlainFault → Type 0
+HasItsCause folder_before folder_now out_before out_now (Some folder_fault) = Rose folder_before folder_now
+HasItsCause folder_before folder_now out_before out_now (Some out_fault) = Rose out_before out_now
+HasItsCause folder_before folder_now out_before out_now (Some in_fault) = ⊥
+HasItsCause folder_before folder_now out_before out_now _ = ⊤
+
+-- a refusal is the defined one; a fault of the outside says nothing of the definition
+unfoldable pub IsDefined : {A : Type 0} → Result A Refusal → PlainFault → Type 0
+IsDefined defined (refused r) = defined ≡ Err r
+IsDefined defined _ = ⊤
+
+-- the answer is the defined one, or a fault of the outside
+abbrev pub Matches : {A T : Type 0} → (T → A) → Result A Refusal → Result T Fault → Type 0
+Matches view defined (Ok x) = defined ≡ Ok (view x)
+Matches view defined (Err f) = IsDefined defined (fault_view f)
+
+-- where files are told, they are these
+abbrev pub TellsOnly : Option Files → Files → Type 0
+TellsOnly told files = (after : Files) → told ≡ Some after → after ≡ files
+
+-- a command that did what is defined
+pub record Did (defined : Result Outcome Refusal) (after : Option Files) (old new : Taken) : Type 0 where
+  pub outcome : Outcome
+  pub is : defined ≡ Ok outcome
+  pub files : TellsOnly after outcome.files
+  pub output : Takes old new outcome.output
+
+-- a command that was refused as it is defined
+pub record WasRefused (defined : Result Outcome Refusal) (r : Refusal) (old new : Taken) : Type 0 where
+  pub is : defined ≡ Err r
+  pub output : TakesNone old new
+
+-- A command does what is defined, or is refused as it is defined. A fault of the outside leaves a prefix of the output.
+unfoldable pub EndsAs : Result Outcome Refusal → Option PlainFault → Option Files → Taken → Taken → Type 0
+EndsAs defined None after old new = Did defined after old new
+EndsAs defined (Some (refused r)) after old new = WasRefused defined r old new
+EndsAs defined (Some _) after old new = TakesPrefix old new (output_of defined)

@@ -1,0 +1,21 @@
+-- What `get` does: it writes a version of an archive in key order.
+use Rattle.std.specs.Prelude.{◌≡◌, ℕ, List, length, Result, Ok}
+use Rattle.xa_outside.specs.Folder.{Files}
+use Rattle.key_spec.specs.Data.{PlainRule}
+use Rattle.keyed_tree.specs.Data.{PlainKeyed}
+use Rattle.archive_tree.specs.Stands.{version_of}
+use Rattle.xarch_words.specs.Refusal.{Refusal, no_version}
+use Rattle.xarch_steps.specs.Archives.{Opens}
+use Rattle.xarch_steps.specs.KeyedText.{keyed_text}
+use Rattle.xarch_steps.specs.Outcome.{Outcome, and_then, or_refuse}
+
+-- the text of the version of that number, which counts from 1
+abbrev pub version_text : Files → List PlainKeyed → ℕ → Result Outcome Refusal
+version_text files vs i = and_then (or_refuse (version_of vs i) (no_version i (length vs))) (λ k. Ok (record { files = files; output = keyed_text k }))
+
+-- what is written where these are the archive's rules and versions
+abbrev pub GetsFrom : Files → ℕ → List PlainRule → List PlainKeyed → Result Outcome Refusal → Type 0
+GetsFrom files i rules vs r = r ≡ version_text files vs i
+
+abbrev pub GetIs : Files → List ℕ → ℕ → Result Outcome Refusal → Type 0
+GetIs files archive i r = Opens files archive (GetsFrom files i) r

@@ -1,0 +1,16 @@
+-- What `init` does: it makes an archive of no versions.
+use Rattle.std.specs.Prelude.{ℕ, List, [], Result}
+use Rattle.xa_outside.specs.Folder.{Files}
+use Rattle.key_spec.specs.Data.{PlainRule}
+use Rattle.xarch_words.specs.Refusal.{specification, Refusal}
+use Rattle.xarch_steps.specs.Archives.{free_in, GoesOn, Stores}
+use Rattle.xarch_steps.specs.Inputs.{length_in, read_in}
+use Rattle.xarch_steps.specs.Outcome.{Outcome, and_then}
+use Rattle.xarch_steps.specs.Readings.{rules_of}
+
+-- the rules of the new archive: its name is free, and the specification is there, short enough and has a closed reading
+abbrev pub init_rules : Files → List ℕ → List ℕ → Result (List PlainRule) Refusal
+init_rules files archive spec = and_then (free_in files archive) (λ _. and_then (length_in files spec specification 1048576) (λ _. read_in files spec rules_of))
+
+abbrev pub InitIs : Files → List ℕ → List ℕ → Result Outcome Refusal → Type 0
+InitIs files archive spec r = GoesOn (init_rules files archive spec) (λ rules. Stores files archive rules []) r

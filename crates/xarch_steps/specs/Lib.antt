@@ -1,0 +1,17 @@
+pub mod Outcome
+pub mod Inputs
+pub mod KeyedText
+pub mod Readings
+pub mod Archives
+pub mod Norm
+pub mod Init
+pub mod Add
+pub mod Added
+pub mod Get
+pub mod History
+pub mod Stats
+pub mod Demo
+pub mod Step
+pub mod Ends
+pub mod Ran
+pub mod Plausible

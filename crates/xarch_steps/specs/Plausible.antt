@@ -1,0 +1,150 @@
+-- What a command may do to any files, whether the archive that it names is sound or not.
+use Rattle.std.specs.Prelude.{◌≡◌, ◌⊎◌, ℕ, List, [], ◌&&◌, nat_le, Option, Some, None, Result, Ok, Err, if◌then◌else◌}
+use Rattle.std.specs.FinMap as map
+use Rattle.xa_outside.specs.Folder.{Files}
+use Rattle.xa_outside.specs.Taken.{Taken, Takes, TakesNone, TakesPrefix}
+use Rattle.key_spec.specs.Data.{PlainRule}
+use Rattle.keyed_tree.specs.Data.{PlainLabel, PlainKeyed}
+use Rattle.record_format.specs.Fronts.{fixed, header}
+use Rattle.xarch_words.specs.Commands.{PlainCommand, norm, init, add, get, history, stats, batch, demo}
+use Rattle.xarch_words.specs.Refusal.{archive, document, Refusal, usage, damaged, no_version, limit, PlainFault, refused}
+use Rattle.xarch_steps.specs.Add.{AddsTo, room_behind}
+use Rattle.xarch_steps.specs.Archives.{ArchiveIs, GoesOn}
+use Rattle.xarch_steps.specs.Demo.{DemoIs}
+use Rattle.xarch_steps.specs.Ends.{TellsOnly}
+use Rattle.xarch_steps.specs.Get.{GetsFrom}
+use Rattle.xarch_steps.specs.History.{TellsFrom, labels_of}
+use Rattle.xarch_steps.specs.Init.{InitIs}
+use Rattle.xarch_steps.specs.Inputs.{file_of, length_in, read_in}
+use Rattle.xarch_steps.specs.Norm.{norm_of}
+use Rattle.xarch_steps.specs.Outcome.{Outcome, Step, and_then, or_refuse, output_of, step_from}
+use Rattle.xarch_steps.specs.Ran.{Ran}
+use Rattle.xarch_steps.specs.Readings.{document_of, keyed_of}
+use Rattle.xarch_steps.specs.Stats.{CountsFrom}
+use Rattle.xarch_steps.specs.Step.{StepIs, single_of}
+
+-- ---- what is decided before the records of an archive are looked at
+
+-- The bytes of the archive and the keyed tree of the document, or the first refusal: the archive is there, the document is
+-- there and not too long, a header stands in front of the archive, the document is one and satisfies the keys, and there is
+-- room for a version more.
+abbrev pub add_input : Files → List ℕ → List ℕ → Result (List ℕ × PlainKeyed) Refusal
+add_input files name doc =
+    and_then (file_of files name) (λ bytes.
+    and_then (length_in files doc document 67108864) (λ _.
+    and_then (or_refuse (header bytes) (damaged name)) (λ h.
+    and_then (read_in files doc document_of) (λ t.
+    and_then (keyed_of h.0 t) (λ k.
+    and_then (room_behind h.1) (λ _.
+    Ok (bytes, k)))))))
+
+-- of n versions there is one of the number i
+abbrev pub is_version : ℕ → ℕ → Result Unit Refusal
+is_version n i = if nat_le 1 i && nat_le i n then Ok tt else Err (no_version i n)
+
+-- The bytes of the archive, or the first refusal: the archive is there, the fields of a header stand in front of it, and
+-- they count the version.
+abbrev pub get_input : Files → List ℕ → ℕ → Result (List ℕ) Refusal
+get_input files name i =
+    and_then (file_of files name) (λ bytes.
+    and_then (or_refuse (fixed bytes) (damaged name)) (λ n.
+    and_then (is_version n i) (λ _.
+    Ok bytes)))
+
+-- The bytes of the archive and the labels of the path, or the first refusal: the archive is there, a header stands in front
+-- of it, and the path spells labels under its rules.
+abbrev pub history_input : Files → List ℕ → List ℕ → Result (List ℕ × List PlainLabel) Refusal
+history_input files name path =
+    and_then (file_of files name) (λ bytes.
+    and_then (or_refuse (header bytes) (damaged name)) (λ h.
+    and_then (labels_of h.0 path) (λ ls.
+    Ok (bytes, ls))))
+
+-- ---- what may come then
+
+-- some file came under the archive's name
+pub record Replaced (files : Files) (name : List ℕ) (r : Result Outcome Refusal) : Type 0 where
+  pub bytes : List ℕ
+  pub is : r ≡ Ok (record { files = map.insert files name bytes; output = [] })
+
+-- something was written
+pub record Written (files : Files) (r : Result Outcome Refusal) : Type 0 where
+  pub output : List ℕ
+  pub is : r ≡ Ok (record { files = files; output = output })
+
+abbrev pub MayAdd : Files → List ℕ → Result Outcome Refusal → Type 0
+MayAdd files name r = (r ≡ Err (damaged name)) ⊎ (r ≡ Err (limit archive 274877906944)) ⊎ Replaced files name r
+
+abbrev pub MayWrite : Files → List ℕ → Result Outcome Refusal → Type 0
+MayWrite files name r = (r ≡ Err (damaged name)) ⊎ Written files r
+
+-- ---- commands
+
+-- What may come whatever the archive of this name is, and what comes where it is sound.
+pub record MayOver (files : Files) (name : List ℕ) (any : Result Outcome Refusal → Type 0) (exact : List PlainRule → List PlainKeyed → Result Outcome Refusal → Type 0) (r : Result Outcome Refusal) : Type 0 where
+  pub whatever : any r
+  pub sound : (rules : List PlainRule) (vs : List PlainKeyed) → ArchiveIs files name rules vs → exact rules vs r
+
+unfoldable pub MayBe : Files → PlainCommand → Result Outcome Refusal → Type 0
+MayBe files (norm spec doc) r = r ≡ norm_of files spec doc
+MayBe files (init name spec) r = InitIs files name spec r
+MayBe files (add name doc) r = MayOver files name (GoesOn (add_input files name doc) (λ _. MayAdd files name)) (AddsTo files name doc) r
+MayBe files (get name i) r = MayOver files name (GoesOn (get_input files name i) (λ _. MayWrite files name)) (GetsFrom files i) r
+MayBe files (history name path) r = MayOver files name (GoesOn (history_input files name path) (λ _. MayWrite files name)) (TellsFrom files path) r
+MayBe files (stats name) r = MayOver files name (GoesOn (file_of files name) (λ _. MayWrite files name)) (CountsFrom files) r
+MayBe files batch r = r ≡ Err usage
+MayBe files (demo seed count name) r = DemoIs files seed count name r
+
+abbrev pub MayDo : Files → Option PlainCommand → Result Outcome Refusal → Type 0
+MayDo files None r = r ≡ Err usage
+MayDo files (Some command) r = MayBe files command r
+
+-- a step that the words may have the program take
+pub record Plausible (files : Files) (words : List (List ℕ)) (s : Step) : Type 0 where
+  pub outcome : Result Outcome Refusal
+  pub may : MayDo files (single_of words) outcome
+  pub is : s ≡ step_from files outcome
+
+-- A step was taken that the words may have the program take: the defined one, where one is defined.
+pub record Tried (files : Files) (words : List (List ℕ)) (answer : ℕ) (after : Option Files) (old new err_old err_new : Taken) (before now : ℕ) : Type 0 where
+  pub step : Step
+  pub may : Plausible files words step
+  pub defined : (s : Step) → StepIs files words s → s ≡ step
+  pub ran : Ran step answer after old new err_old err_new before now
+
+-- A prefix was written of the output of such a step.
+pub record WrotePrefix (files : Files) (words : List (List ℕ)) (old new : Taken) : Type 0 where
+  pub step : Step
+  pub may : Plausible files words step
+  pub defined : (s : Step) → StepIs files words s → s ≡ step
+  pub output : TakesPrefix old new step.output
+
+-- nothing was written, or such a prefix
+abbrev pub Wrote : Files → List (List ℕ) → Taken → Taken → Type 0
+Wrote files words old new = TakesNone old new ⊎ WrotePrefix files words old new
+
+-- ---- how a command ends
+
+-- it did what it may do
+pub record DidSome (allowed : Result Outcome Refusal → Type 0) (after : Option Files) (old new : Taken) : Type 0 where
+  pub outcome : Outcome
+  pub may : allowed (Ok outcome)
+  pub files : TellsOnly after outcome.files
+  pub output : Takes old new outcome.output
+
+-- it was refused as it may be
+pub record RefusedBy (allowed : Result Outcome Refusal → Type 0) (r : Refusal) (old new : Taken) : Type 0 where
+  pub may : allowed (Err r)
+  pub output : TakesNone old new
+
+-- it has written a prefix of what it may write
+pub record PutSome (allowed : Result Outcome Refusal → Type 0) (old new : Taken) : Type 0 where
+  pub outcome : Result Outcome Refusal
+  pub may : allowed outcome
+  pub output : TakesPrefix old new (output_of outcome)
+
+-- After a fault of the outside it has written nothing, or a prefix of what it may write.
+unfoldable pub MayEnd : (Result Outcome Refusal → Type 0) → Option PlainFault → Option Files → Taken → Taken → Type 0
+MayEnd allowed None after old new = DidSome allowed after old new
+MayEnd allowed (Some (refused r)) after old new = RefusedBy allowed r old new
+MayEnd allowed (Some _) after old new = TakesNone old new ⊎ PutSome allowed old new

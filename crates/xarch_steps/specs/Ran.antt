@@ -1,0 +1,72 @@
+-- What a call of the program did, against what is defined.
+use Rattle.std.specs.Prelude.{◌≡◌, ℕ, ◌==◌, List, [], Option, Some, None, if◌then◌else◌, ⊤}
+use Rattle.std.specs.Option.{option_map_or}
+use Rattle.xa_outside.specs.Causes.{Rose}
+use Rattle.xa_outside.specs.Folder.{Files}
+use Rattle.xa_outside.specs.Numbers.{Numbers, PullsAtMost}
+use Rattle.xa_outside.specs.Taken.{Taken, Takes, TakesPrefix}
+use Rattle.xarch_words.specs.Commands.{PlainCommand, norm, init, add, get, history, stats, batch, demo}
+use Rattle.xarch_words.specs.Lines.{fault_status, fault_line}
+use Rattle.xarch_words.specs.Refusal.{PlainFault, folder_fault, out_fault, in_fault, memory}
+use Rattle.xarch_steps.specs.Outcome.{Step}
+use Rattle.xarch_steps.specs.Ends.{TellsOnly}
+
+-- 0 where it did what it should, else the status of its fault
+abbrev pub status_after : Option PlainFault → ℕ
+status_after ended = option_map_or fault_status ended 0
+
+-- no line where it did what it should, else that of its fault
+abbrev pub line_after : Option PlainFault → List ℕ
+line_after ended = option_map_or fault_line ended []
+
+-- the fault of the outside that has this status: of the folder, of the output, of the input, or want of memory
+abbrev pub outside_of : ℕ → Option PlainFault
+outside_of status =
+    if status == 13 then Some folder_fault
+    else (if status == 14 then Some out_fault
+    else (if status == 15 then Some in_fault
+    else (if status == 16 then Some memory
+    else None)))
+
+-- the sink gained the line, or a prefix of it where its count of faults rose
+pub record Says (old new : Taken) (before now : ℕ) (line : List ℕ) : Type 0 where
+  pub prefix : TakesPrefix old new line
+  pub whole : ¬ Rose before now → Takes old new line
+
+-- all is as the step says
+pub record Ran (s : Step) (answer : ℕ) (after : Option Files) (old new err_old err_new : Taken) (before now : ℕ) : Type 0 where
+  pub status : answer ≡ s.status
+  pub files : TellsOnly after s.files
+  pub output : Takes old new s.output
+  pub line : Says err_old err_new before now s.line
+
+-- Whatever the folder tells: the answer is 0 or the status of a fault, and the line is that of the fault.
+pub record Said (answer : ℕ) (old new : Taken) (before now : ℕ) : Type 0 where
+  pub fault : Option PlainFault
+  pub status : answer ≡ status_after fault
+  pub line : Says old new before now (line_after fault)
+
+-- a command that only reads files, or no command at all
+abbrev pub OnlyReads : Option PlainCommand → Type 0
+OnlyReads None = ⊤
+OnlyReads (Some (norm spec doc)) = ⊤
+OnlyReads (Some (init archive spec)) = ⊥
+OnlyReads (Some (add archive doc)) = ⊥
+OnlyReads (Some (get archive i)) = ⊤
+OnlyReads (Some (history archive path)) = ⊤
+OnlyReads (Some (stats archive)) = ⊤
+OnlyReads (Some batch) = ⊥
+OnlyReads (Some (demo seed count archive)) = ⊥
+
+-- How many bytes a command pulls at most, where that is said of it: `norm` those of a specification and of a document at
+-- their limits, and words that are no command none.
+abbrev pub PullsAsSaid : Option PlainCommand → Numbers → Numbers → Type 0
+PullsAsSaid None before after = PullsAtMost 0 before after
+PullsAsSaid (Some (norm spec doc)) before after = PullsAtMost 68157440 before after
+PullsAsSaid (Some (init archive spec)) before after = ⊤
+PullsAsSaid (Some (add archive doc)) before after = ⊤
+PullsAsSaid (Some (get archive i)) before after = ⊤
+PullsAsSaid (Some (history archive path)) before after = ⊤
+PullsAsSaid (Some (stats archive)) before after = ⊤
+PullsAsSaid (Some batch) before after = ⊤
+PullsAsSaid (Some (demo seed count archive)) before after = ⊤

@@ -1,0 +1,36 @@
+-- What `stats` does: it writes how much an archive holds.
+use Rattle.std.specs.Prelude.{◌≡◌, ℕ, List, ◌++◌, codes, decimal, Result, Ok}
+use Rattle.xa_outside.specs.Folder.{Files}
+use Rattle.key_spec.specs.Data.{PlainRule}
+use Rattle.keyed_tree.specs.Data.{PlainKeyed}
+use Rattle.archive_tree.specs.Data.{PlainArchive}
+use Rattle.archive_tree.specs.Stands.{ArchiveOf}
+use Rattle.archive_stats.specs.Counts.{PlainCounts, counts}
+use Rattle.xarch_words.specs.Refusal.{Refusal}
+use Rattle.xarch_steps.specs.Archives.{Opens}
+use Rattle.xarch_steps.specs.Outcome.{Outcome}
+
+-- a number behind its name, and a line feed
+abbrev pub count_line : List ℕ → ℕ → List ℕ
+count_line name n = name ++ decimal n ++ codes "\n"
+
+-- what was counted of the versions and nodes
+unfoldable pub nodes_text : PlainCounts → List ℕ
+nodes_text c = count_line (codes "versions ") c.versions ++ count_line (codes "inner ") c.inner ++ count_line (codes "leaves ") c.leaves ++ count_line (codes "alternatives ") c.alternatives
+
+-- and of their timestamps and bytes
+unfoldable pub sizes_text : PlainCounts → List ℕ
+sizes_text c = count_line (codes "stamps ") c.stamps ++ count_line (codes "largest ") c.largest ++ count_line (codes "bytes ") c.bytes
+
+-- the seven lines
+unfoldable pub counts_text : PlainCounts → List ℕ
+counts_text c = nodes_text c ++ sizes_text c
+
+-- the counts of the archive of these versions are written
+pub record CountsFrom (files : Files) (rules : List PlainRule) (vs : List PlainKeyed) (r : Result Outcome Refusal) : Type 0 where
+  pub archive : PlainArchive
+  pub of : ArchiveOf vs archive
+  pub is : r ≡ Ok (record { files = files; output = counts_text (counts rules archive) })
+
+abbrev pub StatsIs : Files → List ℕ → Result Outcome Refusal → Type 0
+StatsIs files archive r = Opens files archive (CountsFrom files) r

@@ -1,0 +1,152 @@
+#![tactic(auto, using(crate::proofs::Ending::endings), unfolding(crate::specs::Ends::IsInside, crate::specs::Ends::IsOfFolder, crate::specs::Ends::IsDefined))]
+
+ghost use Rattle.std.specs.Prelude.{◌≡◌, ◌≤◌, ◌<◌, ◌+◌, ℕ, List, Some, None, IfOk, IfErr, OnErr, OnOk};
+ghost use Rattle.xa_outside.specs.Folder.{Files};
+ghost use Rattle.jsonml_tree.specs.View.{tree_view};
+ghost use Rattle.key_spec.specs.View.{spec_view};
+ghost use Rattle.keyed_tree.specs.View.{keyed_view};
+ghost use Rattle.jsonml_tree.specs.Fits.{IsElement, ItemsFit};
+ghost use Rattle.jsonml_tree.specs.WellFormed.{IsWellFormed};
+ghost use Rattle.key_annotate.specs.Stands.{Stands};
+ghost use Rattle.key_rules.specs.Satisfies.{Satisfies};
+ghost use Rattle.archive_tree.specs.ArchiveView.{archive_view};
+ghost use Rattle.record_format.specs.Files.{FileOf};
+ghost use Rattle.archive_stats.specs.View.{counts_view};
+ghost use Rattle.xarch_gen.specs.Company.{company_rules};
+ghost use Rattle.xarch_words.specs.Refusal as refusal;
+ghost use Rattle.xarch_words.specs.Refusal.{Refusal, refused};
+ghost use Rattle.xarch_words.specs.View.{fault_view};
+ghost use Rattle.xarch_steps.specs.Archives.{IsBlank, IsRefusal, free_in};
+ghost use Rattle.xarch_steps.specs.Demo.{DemoIs, IsSampleArchive, IsSampleFile, samples};
+ghost use Rattle.xarch_steps.specs.Ends.{IsInside, IsOfCommand, IsOfFolder, Matches, fault_of};
+ghost use Rattle.xarch_steps.specs.Inputs;
+ghost use Rattle.xarch_steps.specs.Plausible.{MayEnd};
+
+use crate::archives::{begin, check_free, commit, draft, file_from};
+use crate::inputs::at_most;
+use crate::limits;
+use crate::stats::write_counts;
+use archive_stats::{Counts, counts_of};
+use archive_tree::Archive;
+use jsonml_tree::Tree;
+use key_annotate::{AnnotateFault, keyed};
+use key_spec::Spec;
+use keyed_tree::Keyed;
+use nested_merge::merge;
+use std::alloc::{AllocError, Global};
+use xa_outside::{Folder, Sink};
+use xarch_gen::{company_spec, sample};
+use xarch_words::{Fault, Quantity};
+
+/// Makes an archive of the first documents of a seed, and writes how much it holds before it is there.
+pub(crate) fn run_demo<F: Folder, O: Sink>(
+    alloc: Global,
+    seed: u32,
+    count: u32,
+    archive: &str,
+    folder: &mut F,
+    out: &mut O,
+) -> Result<(), Fault>
+    ensures refused { OnErr result (F.files folder.new ≡ F.files folder.old) }
+    ensures untold { F.files folder.old ≡ None → F.files folder.new ≡ None }
+    ensures draft_untold { F.draft folder.old ≡ None → F.draft folder.new ≡ None }
+    ensures folder_later { F.faults folder.old ≤ F.faults folder.new }
+    ensures out_later { O.faults out.old ≤ O.faults out.new }
+    ensures cause { IsOfCommand (F.faults folder.old) (F.faults folder.new) (O.faults out.old) (O.faults out.new) (fault_of result) }
+    ensures may { (files : Files) → F.files folder.old ≡ Some files
+        → MayEnd (DemoIs files seed count archive.now) (fault_of result) (F.files folder.new) (O.taken out.old) (O.taken out.new) }
+{
+    check_few(count)?;
+    begin_new(alloc, folder, archive)?;
+    let (bytes, counts) = sample_file(alloc, seed, count)?;
+    draft(folder, &bytes)?;
+    write_counts(&counts, out)?;
+    commit(folder, archive)
+}
+
+/// Nothing, where there are not too many documents. It takes no memory.
+fn check_few(count: u32) -> Result<(), Fault>
+    ensures cause { IsInside (fault_of result) }
+    ensures told { Matches (λ _. count) (Inputs.at_most refusal.demo 1000 count) result }
+    ensures bound { OnOk result (count ≤ 1000) }
+{
+    at_most(u64::from(count), Quantity::Demo, limits::DEMO)?;
+    Ok(())
+}
+
+/// Empties the draft for an archive whose name has no file yet.
+fn begin_new<F: Folder>(alloc: Global, folder: &mut F, name: &str) -> Result<(), Fault>
+    ensures files { F.files folder.new ≡ F.files folder.old }
+    ensures draft { OnOk result (IsBlank (F.draft folder.new)) }
+    ensures draft_untold { F.draft folder.old ≡ None → F.draft folder.new ≡ None }
+    ensures later { F.faults folder.old ≤ F.faults folder.new }
+    ensures cause { IsOfFolder (F.faults folder.old) (F.faults folder.new) (fault_of result) }
+    ensures told { (files : Files) → F.files folder.old ≡ Some files → Matches (λ _. tt) (free_in files name.now) result }
+{
+    begin(folder)?;
+    check_free(alloc, folder, name)
+}
+
+/// The file of the first documents of a seed, and what is counted of it.
+fn sample_file(alloc: Global, seed: u32, count: u32) -> Result<(Vec<u8>, Counts), Fault>
+    requires { count ≤ 1000 }
+    ensures cause { IsInside (fault_of result) }
+    ensures made { IfOk result (λ r. IsSampleFile seed count r.0.items (counts_view r.1)) }
+    ensures limit { IfErr result (λ f. IsRefusal (refusal.limit refusal.archive 274877906944) (fault_view f)) }
+    ensures too_long { (q : Refusal) (bytes : List ℕ) → IfErr result (λ f. fault_view f ≡ refused q → ¬ FileOf company_rules (samples seed count) bytes) }
+{
+    let spec = company_spec(alloc)?;
+    let archive = sample_archive(alloc, &spec, seed, count)?;
+    let bytes = file_from(alloc, &spec, &archive)?;
+    let counts = counts_of(alloc, &spec, &archive)?;
+    Ok((bytes, counts))
+}
+
+/// The archive of the first documents of a seed.
+fn sample_archive(alloc: Global, spec: &Spec, seed: u32, count: u32) -> Result<Archive, AllocError>
+    requires rules { spec_view spec.now ≡ company_rules }
+    requires few { count ≤ 1000 }
+    ensures { IfOk result (λ a. IsSampleArchive seed count (archive_view a)) }
+{
+    let mut archive = Archive::empty(alloc);
+    for before in 0..count {
+        archive = with_sample(alloc, spec, archive, seed, before)?;
+    }
+    Ok(archive)
+}
+
+/// The archive with the document behind those that are in it.
+fn with_sample(
+    alloc: Global,
+    spec: &Spec,
+    archive: Archive,
+    seed: u32,
+    before: u32,
+) -> Result<Archive, AllocError>
+    requires rules { spec_view spec.now ≡ company_rules }
+    requires few { before < 1000 }
+    requires documents { IsSampleArchive seed before (archive_view archive) }
+    ensures { IfOk result (λ a. IsSampleArchive seed (before + 1) (archive_view a)) }
+{
+    let document = sample(alloc, seed, before + 1)?;
+    let keyed = tree_of(alloc, spec, &document)?;
+    match merge(alloc, archive, &keyed) {
+        Ok(archive) => Ok(archive),
+        Err((error, _)) => Err(error),
+    }
+}
+
+/// The keyed tree of a document that satisfies the keys.
+fn tree_of(alloc: Global, spec: &Spec, document: &Tree) -> Result<Keyed, AllocError>
+    requires element { IsElement (tree_view document.now) }
+    requires items_fit { ItemsFit (tree_view document.now) }
+    requires well_formed { IsWellFormed (tree_view document.now) }
+    requires satisfies { Satisfies (spec_view spec.now) (tree_view document.now) }
+    ensures { IfOk result (λ k. Stands (spec_view spec.now) (tree_view document.now) (keyed_view k)) }
+{
+    match keyed(alloc, spec, document) {
+        Ok(keyed) => Ok(keyed),
+        Err(AnnotateFault::Memory) => Err(AllocError),
+        Err(AnnotateFault::Key(_)) => unreachable!(),
+    }
+}

@@ -1,0 +1,20 @@
+//! The commands of the program, one at a time: what each does to the files and writes to the output.
+#![tactic(auto)]
+
+mod add;
+mod archives;
+mod demo;
+mod get;
+mod history;
+mod init;
+mod inputs;
+mod limits;
+mod norm;
+mod print_kept;
+mod print_lent;
+mod put;
+mod readings;
+mod stats;
+mod step;
+
+pub use step::take_step;

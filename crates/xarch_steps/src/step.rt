@@ -1,0 +1,160 @@
+#![tactic(auto, using(crate::proofs::Ending::endings))]
+
+ghost use Rattle.std.specs.Prelude.{◌≡◌, ◌≢◌, ◌≤◌, ◌↔◌, ◌⊎◌, Some, None, OnErr, option_map};
+ghost use Rattle.xa_outside.specs.Causes.{Rose};
+ghost use Rattle.xa_outside.specs.Folder.{Files};
+ghost use Rattle.xarch_words.specs.Refusal.{refused, usage};
+ghost use Rattle.xarch_words.specs.View.{command_view, words_view};
+ghost use Rattle.xarch_steps.specs.Ends.{HasItsCause, IsOfCommand, fault_of};
+ghost use Rattle.xarch_steps.specs.Outcome.{Step};
+ghost use Rattle.xarch_steps.specs.Plausible.{MayBe, MayDo, MayEnd, Tried, Wrote};
+ghost use Rattle.xarch_steps.specs.Ran.{OnlyReads, PullsAsSaid, Said, Says, line_after, outside_of, status_after};
+ghost use Rattle.xarch_steps.specs.Step.{StepIs, alone, single_of};
+
+use crate::add::run_add;
+use crate::demo::run_demo;
+use crate::get::run_get;
+use crate::history::run_history;
+use crate::init::run_init;
+use crate::norm::run_norm;
+use crate::stats::run_stats;
+use std::alloc::Global;
+use xa_outside::{Folder, Sink};
+use xarch_words::{Command, Fault, read_words, status, write_fault};
+
+/// Takes the step of one command, and answers its status.
+///
+/// Words that are no command, and `batch`, are refused. Every fault writes one line to `err`; a failure of `err` changes
+/// no status. Input files are read whole, each directly before the first step that judges its bytes.
+pub fn take_step<F: Folder, O: Sink, E: Sink>(
+    alloc: Global,
+    words: &[String],
+    folder: &mut F,
+    out: &mut O,
+    err: &mut E,
+) -> u8
+    // What is done where files are told: one of the steps that the words may have the program take, and the one that is
+    // defined where the archive that they name is absent or sound. Status, files, output and line are that step's, but
+    // after a fault of the outside, which leaves a prefix of its output.
+    ensures tried { (files : Files) → F.files folder.old ≡ Some files → outside_of result ≡ None
+        → Tried files (words_view words.now) result (F.files folder.new) (O.taken out.old) (O.taken out.new) (E.taken err.old) (E.taken err.new) (E.faults err.old) (E.faults err.new) }
+    ensures wrote { (files : Files) → F.files folder.old ≡ Some files
+        → Wrote files (words_view words.now) (O.taken out.old) (O.taken out.new) }
+
+    // What should succeed does.
+    ensures complete { (files : Files) (s : Step) → F.files folder.old ≡ Some files → StepIs files (words_view words.now) s → s.status ≡ 0
+        → ¬ Rose (F.faults folder.old) (F.faults folder.new) → ¬ Rose (O.faults out.old) (O.faults out.new) → (result ≡ 0) ⊎ (result ≡ 16) }
+
+    // Whatever the folder tells, the answer is 0 or the status of a fault, whose line is said.
+    ensures said { Said result (E.taken err.old) (E.taken err.new) (E.faults err.old) (E.faults err.new) }
+
+    // When a fault comes, whatever the folder tells.
+    ensures usage { (result ≡ 2) ↔ (single_of (words_view words.now) ≡ None) }
+    ensures folder_fault { result ≡ 13 → Rose (F.faults folder.old) (F.faults folder.new) }
+    ensures out_fault { result ≡ 14 → Rose (O.faults out.old) (O.faults out.new) }
+    ensures never_input_fault { result ≢ 15 }
+
+    // What stays: all files after a fault, and files and draft where the command only reads.
+    ensures refused { result ≢ 0 → F.files folder.new ≡ F.files folder.old }
+    ensures files { OnlyReads (single_of (words_view words.now)) → F.files folder.new ≡ F.files folder.old }
+    ensures draft { OnlyReads (single_of (words_view words.now)) → F.draft folder.new ≡ F.draft folder.old }
+    ensures untold { F.files folder.old ≡ None → F.files folder.new ≡ None }
+    ensures draft_untold { F.draft folder.old ≡ None → F.draft folder.new ≡ None }
+
+    // What is pulled, and that no count of faults falls.
+    ensures numbers { PullsAsSaid (single_of (words_view words.now)) (F.numbers folder.old) (F.numbers folder.new) }
+    ensures folder_later { F.faults folder.old ≤ F.faults folder.new }
+    ensures out_later { O.faults out.old ≤ O.faults out.new }
+    ensures err_later { E.faults err.old ≤ E.faults err.new }
+{
+    let ended = command_words(alloc, words, folder, out);
+    finish(&ended, err)
+}
+
+/// Does the command that the words spell.
+fn command_words<F: Folder, O: Sink>(
+    alloc: Global,
+    words: &[String],
+    folder: &mut F,
+    out: &mut O,
+) -> Result<(), Fault>
+    ensures usage { (fault_of result ≡ Some (refused usage)) ↔ (single_of (words_view words.now) ≡ None) }
+    ensures cause { HasItsCause (F.faults folder.old) (F.faults folder.new) (O.faults out.old) (O.faults out.new) (fault_of result) }
+    ensures folder_later { F.faults folder.old ≤ F.faults folder.new }
+    ensures out_later { O.faults out.old ≤ O.faults out.new }
+    ensures may { (files : Files) → F.files folder.old ≡ Some files
+        → MayEnd (MayDo files (single_of (words_view words.now))) (fault_of result) (F.files folder.new) (O.taken out.old) (O.taken out.new) }
+    ensures refused { OnErr result (F.files folder.new ≡ F.files folder.old) }
+    ensures untold { F.files folder.old ≡ None → F.files folder.new ≡ None }
+    ensures draft_untold { F.draft folder.old ≡ None → F.draft folder.new ≡ None }
+    ensures files { OnlyReads (single_of (words_view words.now)) → F.files folder.new ≡ F.files folder.old }
+    ensures draft { OnlyReads (single_of (words_view words.now)) → F.draft folder.new ≡ F.draft folder.old }
+    ensures numbers { PullsAsSaid (single_of (words_view words.now)) (F.numbers folder.old) (F.numbers folder.new) }
+{
+    match single_command(words) {
+        None => Err(Fault::Usage),
+        Some(command) => run_command(alloc, command, folder, out),
+    }
+}
+
+/// The command that the words spell by themselves.
+fn single_command(words: &[String]) -> Option<Command<'_>>
+    ensures is { option_map command_view result ≡ single_of (words_view words.now) }
+    ensures alone { alone (option_map command_view result) ≡ option_map command_view result }
+{
+    match read_words(words)? {
+        Command::Batch => None,
+        command => Some(command),
+    }
+}
+
+#[tactic(auto, using(crate::proofs::Ending::endings), unfolding(crate::specs::Plausible::MayBe))]
+fn run_command<F: Folder, O: Sink>(
+    alloc: Global,
+    command: Command<'_>,
+    folder: &mut F,
+    out: &mut O,
+) -> Result<(), Fault>
+    requires { alone (Some (command_view command)) ≡ Some (command_view command) }
+    ensures cause { IsOfCommand (F.faults folder.old) (F.faults folder.new) (O.faults out.old) (O.faults out.new) (fault_of result) }
+    ensures folder_later { F.faults folder.old ≤ F.faults folder.new }
+    ensures out_later { O.faults out.old ≤ O.faults out.new }
+    ensures may { (files : Files) → F.files folder.old ≡ Some files
+        → MayEnd (MayBe files (command_view command.entry)) (fault_of result) (F.files folder.new) (O.taken out.old) (O.taken out.new) }
+    ensures refused { OnErr result (F.files folder.new ≡ F.files folder.old) }
+    ensures untold { F.files folder.old ≡ None → F.files folder.new ≡ None }
+    ensures draft_untold { F.draft folder.old ≡ None → F.draft folder.new ≡ None }
+    ensures files { OnlyReads (Some (command_view command.entry)) → F.files folder.new ≡ F.files folder.old }
+    ensures draft { OnlyReads (Some (command_view command.entry)) → F.draft folder.new ≡ F.draft folder.old }
+    ensures numbers { PullsAsSaid (Some (command_view command.entry)) (F.numbers folder.old) (F.numbers folder.new) }
+{
+    match command {
+        Command::Norm { spec, doc } => run_norm(alloc, spec, doc, folder, out),
+        Command::Init { archive, spec } => run_init(alloc, archive, spec, folder),
+        Command::Add { archive, doc } => run_add(alloc, archive, doc, folder),
+        Command::Get { archive, version } => run_get(alloc, archive, version, folder, out),
+        Command::History { archive, path } => run_history(alloc, archive, path, folder, out),
+        Command::Stats { archive } => run_stats(alloc, archive, folder, out),
+        Command::Demo {
+            seed,
+            count,
+            archive,
+        } => run_demo(alloc, seed, count, archive, folder, out),
+        Command::Batch => unreachable!(),
+    }
+}
+
+/// Says how a command ended, and answers its status.
+fn finish<E: Sink>(ended: &Result<(), Fault>, err: &mut E) -> u8
+    ensures status { result ≡ status_after (fault_of ended.now) }
+    ensures line { Says (E.taken err.old) (E.taken err.new) (E.faults err.old) (E.faults err.new) (line_after (fault_of ended.now)) }
+    ensures later { E.faults err.old ≤ E.faults err.new }
+{
+    match ended {
+        Ok(()) => 0,
+        Err(fault) => {
+            let _ = write_fault(fault, err);
+            status(fault)
+        }
+    }
+}
