@@ -5,7 +5,6 @@ use Rattle.xa_outside.specs.Folder.{Files}
 use Rattle.jsonml_tree.specs.Data.{PlainTree}
 use Rattle.key_spec.specs.Data.{PlainRule}
 use Rattle.keyed_tree.specs.Data.{PlainKeyed}
-use Rattle.record_format.specs.Files.{FileOf}
 use Rattle.record_format.specs.Fronts.{header}
 use Rattle.archive_file.specs.Sound.{SoundAs}
 use Rattle.archive_file.proofs.FrontLaws.{sound-header}
@@ -75,7 +74,7 @@ module _ (files : Files) (name doc : List ℕ) where
     given rules vs a = beside-given a.bytes bytes (added files doc rules (length vs)) k (sym (input_sound rules vs a) ∙ input)
 
     -- the new file comes
-    pub may_replace : (new : List ℕ) → ((rules : List PlainRule) (vs : List PlainKeyed) → SoundAs rules vs bytes → FileOf rules (vs ++ k ∷ []) new)
+    pub may_replace : (new : List ℕ) → ((rules : List PlainRule) (vs : List PlainKeyed) → SoundAs rules vs bytes → SoundAs rules (vs ++ k ∷ []) new)
         → MayBe files (add name doc) (Ok (record { files = map.insert files name new; output = [] }))
     unfolding MayBe
     may_replace new h =
@@ -84,7 +83,7 @@ module _ (files : Files) (name doc : List ℕ) where
           whatever = subst (λ x. GoesOn x (λ _. MayAdd files name) r) (sym input) (inr (inr (record { bytes = new; is = refl })));
           sound = λ rules vs a.
               let g = given rules vs a in
-              subst (λ x. GoesOn x (λ k. Stores files name rules (vs ++ k ∷ [])) r) (sym g.1) (inl (record { bytes = new; file = h rules vs (subst (SoundAs rules vs) g.0 a.sound); is = refl }));
+              subst (λ x. GoesOn x (λ k. Stores files name rules (vs ++ k ∷ [])) r) (sym g.1) (inl (record { bytes = new; sound = h rules vs (subst (SoundAs rules vs) g.0 a.sound); is = refl }));
         }
 
     -- a refusal at the records

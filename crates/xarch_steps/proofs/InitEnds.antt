@@ -4,6 +4,7 @@ use Rattle.std.specs.FinMap as map
 use Rattle.xa_outside.specs.Folder.{Files}
 use Rattle.key_spec.specs.Data.{PlainRule}
 use Rattle.record_format.specs.Files.{FileOf}
+use Rattle.archive_file.specs.Sound.{SoundAs}
 use Rattle.xarch_words.specs.Refusal.{archive, Refusal, limit}
 use Rattle.xarch_steps.specs.Archives.{GoesOn, Stores}
 use Rattle.xarch_steps.specs.Init.{InitIs, init_rules}
@@ -15,8 +16,8 @@ module _ (files : Files) (name spec : List ℕ) where
 
   module _ (rules : List PlainRule) (input : init_rules files name spec ≡ Ok rules) where
     -- the file comes
-    pub init_stored : (new : List ℕ) → FileOf rules [] new → InitIs files name spec (Ok (record { files = map.insert files name new; output = [] }))
-    init_stored new file = subst (λ x. GoesOn x (λ rules. Stores files name rules []) (Ok (record { files = map.insert files name new; output = [] }))) (sym input) (inl (record { bytes = new; file = file; is = refl }))
+    pub init_stored : (new : List ℕ) → SoundAs rules [] new → InitIs files name spec (Ok (record { files = map.insert files name new; output = [] }))
+    init_stored new sound = subst (λ x. GoesOn x (λ rules. Stores files name rules []) (Ok (record { files = map.insert files name new; output = [] }))) (sym input) (inl (record { bytes = new; sound = sound; is = refl }))
 
     -- there is none
     pub init_refused : (q : Refusal) → q ≡ limit archive 274877906944 → ((bytes : List ℕ) → ¬ FileOf rules [] bytes) → InitIs files name spec (Err q)

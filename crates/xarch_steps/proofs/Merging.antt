@@ -43,6 +43,10 @@ pub has_last : (xs : List PlainKeyed) (x : PlainKeyed) → Has x (xs ++ x ∷ []
 has_last [] x = inl refl
 has_last (y ∷ ys) x = inr (has_last ys x)
 
+-- an archive has as many versions as it counts
+pub few_of : (vs : List PlainKeyed) (a : PlainArchive) → ArchiveOf vs a → a.n ≤ 999999 → length vs ≤ 999999
+few_of vs a h few = (let count = h.count in omega (arith, count, few))
+
 module _ (rules : List PlainRule) (old : PlainArchive) (bytes : List ℕ) (k : PlainKeyed) (kept : ∥ Kept old ∥₁)
     (sound : (vs : List PlainKeyed) → ArchiveOf vs old → SoundAs rules vs bytes) (goes : Goes bytes k) where
   follows_keyed : (vs : List PlainKeyed) → ArchiveOf vs old → AreKeyedBy rules (vs ++ k ∷ [])

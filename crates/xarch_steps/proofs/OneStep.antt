@@ -27,10 +27,10 @@ one_file rules vs b c h g = h.spelled ∙ ap (file_bytes rules) (one_archive vs 
 
 one_stored : (files : Files) (name : List ℕ) (rules : List PlainRule) (vs : List PlainKeyed) (r s : Result Outcome Refusal) → Stores files name rules vs r → Stores files name rules vs s → s ≡ r
 one_stored files name rules vs r s (inl p) (inl q) =
-    let same = one_file rules vs q.bytes p.bytes q.file p.file in
+    let same = one_file rules vs q.bytes p.bytes q.sound.file p.sound.file in
     q.is ∙ ap (λ b. Ok (record { files = map.insert files name b; output = [] })) same ∙ sym p.is
-one_stored files name rules vs r s (inl p) (inr q) = absurd (q.none p.bytes p.file)
-one_stored files name rules vs r s (inr p) (inl q) = absurd (p.none q.bytes q.file)
+one_stored files name rules vs r s (inl p) (inr q) = absurd (q.none p.bytes p.sound.file)
+one_stored files name rules vs r s (inr p) (inl q) = absurd (p.none q.bytes q.sound.file)
 one_stored files name rules vs r s (inr p) (inr q) = q.is ∙ sym p.is
 
 one_way : {A : Type 0} (x : Result A Refusal) (P : A → Result Outcome Refusal → Type 0) → ((a : A) (r s : Result Outcome Refusal) → P a r → P a s → s ≡ r) → (r s : Result Outcome Refusal) → GoesOn x P r → GoesOn x P s → s ≡ r
@@ -51,15 +51,15 @@ one_counted files rules vs r s p q =
 
 one_made : (files : Files) (name : List ℕ) (seed count : ℕ) (r s : Result Outcome Refusal) → MakesOrNone files name seed count r → MakesOrNone files name seed count s → s ≡ r
 one_made files name seed count r s (inl p) (inl q) =
-    let same = one_file company_rules (samples seed count) q.bytes p.bytes q.made.file p.made.file in
+    let same = one_file company_rules (samples seed count) q.bytes p.bytes q.made.sound.file p.made.sound.file in
     let archives = one_archive (samples seed count) q.made.archive p.made.archive q.made.of p.made.of in
     let tallies : q.tally ≡ p.tally = q.made.tells ∙ ap (counts company_rules) archives ∙ sym p.made.tells in
     q.is
     ∙ ap (λ b. Ok (record { files = map.insert files name b; output = counts_text q.tally })) same
     ∙ ap (λ (c : PlainCounts). Ok (record { files = map.insert files name p.bytes; output = counts_text c })) tallies
     ∙ sym p.is
-one_made files name seed count r s (inl p) (inr q) = absurd (q.none p.bytes p.made.file)
-one_made files name seed count r s (inr p) (inl q) = absurd (p.none q.bytes q.made.file)
+one_made files name seed count r s (inl p) (inr q) = absurd (q.none p.bytes p.made.sound.file)
+one_made files name seed count r s (inr p) (inl q) = absurd (p.none q.bytes q.made.sound.file)
 one_made files name seed count r s (inr p) (inr q) = q.is ∙ sym p.is
 
 one : (files : Files) (command : PlainCommand) (r s : Result Outcome Refusal) → OutcomeIs files command r → MayBe files command s → s ≡ r

@@ -39,10 +39,10 @@ free_in files name = unless_there name (map.get files name)
     unless_there name None = Ok tt
     unless_there name (Some bytes) = Err (exists name)
 
--- the file of these versions under the name
+-- The file of these versions comes under the name. It is a sound archive.
 pub record Stored (files : Files) (name : List ℕ) (rules : List PlainRule) (vs : List PlainKeyed) (r : Result Outcome Refusal) : Type 0 where
   pub bytes : List ℕ
-  pub file : FileOf rules vs bytes
+  pub sound : SoundAs rules vs bytes
   pub is : r ≡ Ok (record { files = map.insert files name bytes; output = [] })
 
 -- no file can hold these versions

@@ -7,8 +7,8 @@ use Rattle.keyed_tree.specs.Data.{PlainKeyed}
 use Rattle.key_annotate.specs.Annotated.{keyed_tree}
 use Rattle.archive_tree.specs.Data.{PlainArchive}
 use Rattle.archive_tree.specs.Stands.{ArchiveOf}
-use Rattle.record_format.specs.Files.{FileOf}
 use Rattle.archive_file.specs.KeyedBy.{AreKeyedBy}
+use Rattle.archive_file.specs.Sound.{SoundAs}
 use Rattle.archive_stats.specs.Counts.{PlainCounts, counts}
 use Rattle.xarch_gen.specs.Company.{company_rules}
 use Rattle.xarch_gen.specs.Sample.{sample_of}
@@ -31,11 +31,11 @@ pub record IsSampleArchive (seed count : ℕ) (a : PlainArchive) : Type 0 where
   pub archive : ArchiveOf (samples seed count) a
   pub keyed : AreKeyedBy company_rules (samples seed count)
 
--- the bytes of its file, and its counts
+-- the bytes of its file, which is sound, and its counts
 pub record IsSampleFile (seed count : ℕ) (bytes : List ℕ) (c : PlainCounts) : Type 0 where
   pub archive : PlainArchive
   pub of : ArchiveOf (samples seed count) archive
-  pub file : FileOf company_rules (samples seed count) bytes
+  pub sound : SoundAs company_rules (samples seed count) bytes
   pub tells : c ≡ counts company_rules archive
 
 -- there are not too many documents, and the archive's name is free

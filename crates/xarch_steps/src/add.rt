@@ -12,7 +12,6 @@ ghost use Rattle.key_spec.specs.Data.{PlainRule};
 ghost use Rattle.key_spec.specs.View.{spec_view};
 ghost use Rattle.keyed_tree.specs.Data.{PlainKeyed};
 ghost use Rattle.keyed_tree.specs.View.{keyed_view};
-ghost use Rattle.record_format.specs.Files.{FileOf};
 ghost use Rattle.archive_file.specs.Sound.{SoundAs};
 ghost use Rattle.xarch_words.specs.Commands.{add};
 ghost use Rattle.xarch_words.specs.Refusal as refusal;
@@ -121,8 +120,8 @@ fn merged_file(alloc: Global, name: &str, bytes: &[u8], new: &Keyed) -> Result<V
     requires { Goes bytes.now (keyed_view new.now) }
     ensures cause { IsInside (fault_of result) }
     ensures refused { IfErr result (λ f. IsMerging name.now (fault_view f)) }
-    ensures file { (rules : List PlainRule) (vs : List PlainKeyed) → SoundAs rules vs bytes.now
-        → IfOk result (λ v. FileOf rules (vs ++ keyed_view new.now ∷ []) v.items) }
+    ensures sound { (rules : List PlainRule) (vs : List PlainKeyed) → SoundAs rules vs bytes.now
+        → IfOk result (λ v. SoundAs rules (vs ++ keyed_view new.now ∷ []) v.items) }
     ensures too_long { (rules : List PlainRule) (vs : List PlainKeyed) (q : Refusal) → SoundAs rules vs bytes.now
         → IfErr result (λ f. fault_view f ≡ refused q → IsTooLong rules (vs ++ keyed_view new.now ∷ []) q) }
 {

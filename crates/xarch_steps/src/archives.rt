@@ -178,7 +178,7 @@ pub(crate) fn file_from(alloc: Global, spec: &Spec, archive: &Archive) -> Result
     requires few { (archive_view archive.now).n ≤ 999999 }
     requires keyed { (vs : List PlainKeyed) → ArchiveOf vs (archive_view archive.now) → AreKeyedBy (spec_view spec.now) vs }
     ensures cause { IsInside (fault_of result) }
-    ensures file { IfOk result (λ v. (vs : List PlainKeyed) → ArchiveOf vs (archive_view archive.now) → FileOf (spec_view spec.now) vs v.items) }
+    ensures sound { IfOk result (λ v. (vs : List PlainKeyed) → ArchiveOf vs (archive_view archive.now) → SoundAs (spec_view spec.now) vs v.items) }
     ensures limit { IfErr result (λ f. IsRefusal (refusal.limit refusal.archive 274877906944) (fault_view f)) }
     ensures too_long { (vs : List PlainKeyed) (bytes : List ℕ) → ArchiveOf vs (archive_view archive.now) → FileOf (spec_view spec.now) vs bytes
         → IfErr result (λ f. NoRefusal (fault_view f)) }

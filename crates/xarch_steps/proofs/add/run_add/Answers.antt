@@ -1,7 +1,7 @@
 use Rattle.std.proofs.Common.{◌++◌, ◌∷◌, [], List, ℕ, Ok, sym, ap, ◌∙◌, subst}
 use Rattle.std.specs.FinMap as map
 use Rattle.keyed_tree.specs.View.{keyed_view}
-use Rattle.record_format.specs.Files.{FileOf}
+use Rattle.archive_file.specs.Sound.{SoundAs}
 use Rattle.xarch_words.specs.Commands.{add}
 use Rattle.xarch_steps.specs.Plausible.{MayBe, add_input}
 use Rattle.xarch_steps.proofs.AddEnds.{may_refuse_early, may_replace, may_refuse}
@@ -33,5 +33,5 @@ returns-clause-may g c = λ files t told.
     let input = c.in_ok-bytes.ensures.told files told1 ∙ ap (λ (b : List ℕ). Ok (b, k)) (sym c.deref.ensures.value) in
     let new = c.deref-2.result.now in
     MayEnd-stored (MayBe files (add c.args.archive.now c.args.doc.now)) (map.insert files c.args.archive.now new) c.store.result _ t
-    (may_replace files c.args.archive.now c.args.doc.now c.deref.result.now k input new (λ rules vs sound. subst (λ b. FileOf rules (vs ++ k ∷ []) b) (sym c.deref-2.ensures.value) (c.in_ok-file.ensures.file rules vs sound)))
+    (may_replace files c.args.archive.now c.args.doc.now c.deref.result.now k input new (λ rules vs sound. subst (λ b. SoundAs rules (vs ++ k ∷ []) b) (sym c.deref-2.ensures.value) (c.in_ok-file.ensures.sound rules vs sound)))
     (c.store.ensures.stored files told2) c.store.ensures.fault

@@ -1,7 +1,7 @@
 use Rattle.std.proofs.Common.{[], sym, ◌∙◌, subst}
 use Rattle.std.specs.FinMap as map
 use Rattle.key_spec.specs.View.{spec_view}
-use Rattle.record_format.specs.Files.{FileOf}
+use Rattle.archive_file.specs.Sound.{SoundAs}
 use Rattle.xarch_steps.specs.Init.{InitIs, init_rules}
 use Rattle.xarch_steps.proofs.InitEnds.{init_refused_early, init_stored, init_refused}
 use Rattle.xarch_steps.proofs.MayEnds.{MayEnd-passed, MayEnd-folder, MayEnd-stored, defined_refused}
@@ -29,6 +29,6 @@ returns-clause-may g c = λ files t told.
     let told2 = c.in_ok-spec.ensures.files ∙ told1 in
     let input = c.in_ok-spec.ensures.told files told1 in
     let rules = spec_view c.in_ok-spec.spec in
-    let file : FileOf rules [] c.deref.result.now = subst (λ b. FileOf rules [] b) (sym c.deref.ensures.value) (c.in_ok-bytes.ensures.file [] c.empty.ensures) in
+    let sound : SoundAs rules [] c.deref.result.now = subst (λ b. SoundAs rules [] b) (sym c.deref.ensures.value) (c.in_ok-bytes.ensures.sound [] c.empty.ensures) in
     MayEnd-stored (InitIs files c.args.archive.now c.args.spec.now) (map.insert files c.args.archive.now c.deref.result.now) c.store.result _ t
-    (init_stored files c.args.archive.now c.args.spec.now rules input c.deref.result.now file) (c.store.ensures.stored files told2) c.store.ensures.fault
+    (init_stored files c.args.archive.now c.args.spec.now rules input c.deref.result.now sound) (c.store.ensures.stored files told2) c.store.ensures.fault
