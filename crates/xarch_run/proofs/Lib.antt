@@ -9,3 +9,5 @@ pub mod LineReading
 pub mod SayLemmas
 pub mod BatchLemmas
 pub mod CommandLemmas
+pub mod HandedLemmas
+pub mod BatchFronts

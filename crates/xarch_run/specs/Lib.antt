@@ -6,5 +6,6 @@ pub mod Shown
 pub mod Taking
 pub mod Steps
 pub mod Batch
+pub mod HandedIn
 pub mod Turns
 pub mod Faults

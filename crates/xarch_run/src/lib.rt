@@ -4,6 +4,7 @@
 mod batch;
 mod feed;
 mod front;
+mod laws;
 mod line;
 mod lines;
 mod program;
@@ -22,5 +23,6 @@ mod tests_history;
 mod turn;
 mod words;
 
+pub use laws::{archives_hold_what_calls_handed_in, archives_hold_what_was_handed_in};
 pub use program::run;
 pub use xarch_words::{Command, Fault, Quantity, read_words, status, write_fault};
