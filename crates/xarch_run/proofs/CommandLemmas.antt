@@ -1,5 +1,5 @@
 -- Commands by themselves, and a batch.
-use Rattle.std.proofs.Common.{◌≡◌, ◌⊎◌, ◌↔◌, inl, inr, ℕ, Bool, true, false, IsTrue, Option, None, Some, sym, subst, arith}
+use Rattle.std.proofs.Common.{◌≡◌, ◌⊎◌, ◌↔◌, inl, inr, ℕ, List, Bool, true, false, IsTrue, Option, None, Some, refl, sym, ◌∙◌, subst, arith}
 use Rattle.xa_outside.specs.Causes.{Rose}
 use Rattle.xa_outside.specs.Numbers.{Numbers}
 use Rattle.xarch_words.specs.Commands.{PlainCommand, norm, init, add, get, history, stats, batch, demo}
@@ -29,6 +29,18 @@ alone-pulls (Some (stats archive)) before after h = tt
 alone-pulls (Some batch) before after h = tt
 alone-pulls (Some (demo seed count archive)) before after h = tt
 
+-- what is no command by itself is none, or a batch
+pub none-alone : (c : Option PlainCommand) → alone c ≡ None → ¬ (c ≡ Some batch) → c ≡ None
+none-alone None e other = refl
+none-alone (Some (norm spec doc)) e other = absurd cc
+none-alone (Some (init archive spec)) e other = absurd cc
+none-alone (Some (add archive doc)) e other = absurd cc
+none-alone (Some (get archive i)) e other = absurd cc
+none-alone (Some (history archive path)) e other = absurd cc
+none-alone (Some (stats archive)) e other = absurd cc
+none-alone (Some batch) e other = absurd (other refl)
+none-alone (Some (demo seed count archive)) e other = absurd cc
+
 -- ---- which branch
 
 pub holds : (P : Type 0) (b : Bool) → b ≡ true → (IsTrue b ↔ P) → P
@@ -39,6 +51,12 @@ fails P b e h p = let t : b ≡ true = h.1 p in cc
 
 pub batch-reads : (c : Option PlainCommand) → c ≡ Some batch → OnlyReads c → ⊥
 batch-reads c e h = subst OnlyReads e h
+
+pub batch-none : (c : Option PlainCommand) → c ≡ Some batch → c ≡ None → ⊥
+batch-none c e none = cc
+
+pub batch-demo : (c : Option PlainCommand) (seed count : ℕ) (name : List ℕ) → c ≡ Some batch → c ≡ Some (demo seed count name) → ⊥
+batch-demo c seed count name e is = (let wrong : Some batch ≡ Some (demo seed count name) = sym e ∙ is in absurd cc)
 
 pub batch-pulls : (c : Option PlainCommand) (before after : Numbers) → c ≡ Some batch → PullsAsSaid c before after
 batch-pulls c before after e = subst (λ (d : Option PlainCommand). PullsAsSaid d before after) (sym e) tt

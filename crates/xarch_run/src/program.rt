@@ -1,12 +1,12 @@
-ghost use Rattle.std.specs.Prelude.{◌≡◌, ◌≢◌, ◌≤◌, ◌↔◌, ◌⊎◌, IsTrue, ℕ, List, length, Some, None};
+ghost use Rattle.std.specs.Prelude.{◌≡◌, ◌≢◌, ◌≤◌, ◌<◌, ◌↔◌, ◌⊎◌, IsTrue, ℕ, List, length, Some, None};
 ghost use Rattle.xa_outside.specs.Causes.{Rose};
 ghost use Rattle.xa_outside.specs.Folder.{Files};
-ghost use Rattle.xarch_words.specs.Commands.{batch, command_of};
+ghost use Rattle.xarch_words.specs.Commands.{batch, command_of, demo};
 ghost use Rattle.xarch_words.specs.View.{words_view};
 ghost use Rattle.xarch_steps.specs.Outcome.{Step};
 ghost use Rattle.xarch_steps.specs.Plausible.{Tried, Wrote};
 ghost use Rattle.xarch_steps.specs.Ran.{OnlyReads, PullsAsSaid, Said, outside_of};
-ghost use Rattle.xarch_steps.specs.Step.{StepIs, single_of};
+ghost use Rattle.xarch_steps.specs.Step.{StepIs};
 ghost use Rattle.xarch_run.specs.Batch.{BatchEnds, ReadsAsSaid, scene};
 
 use crate::batch::run_batch;
@@ -57,7 +57,8 @@ pub fn run<F: Folder, S: Source, O: Sink, E: Sink>(
     ensures said { command_of (words_view words.now) ≢ Some batch → Said result (E.taken err.old) (E.taken err.new) (E.faults err.old) (E.faults err.new) }
 
     // When a fault comes, whatever the folder tells.
-    ensures usage { (result ≡ 2) ↔ ((single_of (words_view words.now) ≡ None) × (command_of (words_view words.now) ≢ Some batch)) }
+    ensures usage { (result ≡ 2) ↔ (command_of (words_view words.now) ≡ None) }
+    ensures long_demo { (seed count : ℕ) (name : List ℕ) → command_of (words_view words.now) ≡ Some (demo seed count name) → 1000 < count → result ≡ 12 }
     ensures folder_fault { result ≡ 13 → Rose (F.faults folder.old) (F.faults folder.new) }
     ensures out_fault { result ≡ 14 → Rose (O.faults out.old) (O.faults out.new) }
     ensures input_fault { result ≡ 15 → (command_of (words_view words.now) ≡ Some batch) × Rose (S.faults input.old) (S.faults input.new) }

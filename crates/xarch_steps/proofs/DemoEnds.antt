@@ -1,15 +1,17 @@
 -- How the parts of `demo` lead to its end.
 use Rattle.std.proofs.Common.{◌≡◌, inl, inr, ℕ, List, Option, Some, None, Result, Ok, Err, OnOk, refl, sym, ap, ◌∙◌, subst}
 use Rattle.std.specs.FinMap as map
+use Rattle.std.specs.Result.{IsErrAnd}
 use Rattle.xa_outside.specs.Folder.{Files, committed}
 use Rattle.record_format.specs.Files.{FileOf}
 use Rattle.archive_stats.specs.Counts.{PlainCounts}
 use Rattle.xarch_gen.specs.Company.{company_rules}
-use Rattle.xarch_words.specs.Refusal.{archive, Refusal, limit}
+use Rattle.xarch_words.specs.Refusal.{archive, Refusal, limit, PlainFault}
+use Rattle.xarch_words.specs.View.{fault_view}
 use Rattle.xarch_words.specs.declared.fault.Fault.{Fault}
 use Rattle.xarch_steps.specs.Archives.{GoesOn, IsDrafted, free_in}
 use Rattle.xarch_steps.specs.Demo.{DemoIs, IsSampleFile, MakesOrNone, demo_input, samples}
-use Rattle.xarch_steps.specs.Ends.{TellsOnly}
+use Rattle.xarch_steps.specs.Ends.{TellsOnly, fault_of}
 use Rattle.xarch_steps.specs.Inputs.{at_most}
 use Rattle.xarch_steps.specs.Outcome.{Outcome, and_then}
 use Rattle.xarch_steps.specs.Stats.{counts_text}
@@ -27,6 +29,11 @@ pub commit-tells : (r : Result Unit Fault) (files : Files) (after before : Optio
     → OnOk r (TellsOnly after (map.insert files name bytes))
 commit-tells (Ok u) files after before draft name bytes e told drafted = λ f is. committed-tells files draft name bytes drafted f (sym (ap (λ b. committed b draft name) told) ∙ sym e ∙ is)
 commit-tells (Err f) files after before draft name bytes e told drafted = tt
+
+-- a call ended with this fault of a part of it
+pub passed-fault : (r : Result Unit Fault) (f : Fault) (v : PlainFault) → IsErrAnd r (λ g. g ≡ f) → fault_view f ≡ v → fault_of r ≡ Some v
+passed-fault (Ok u) f v h e = absurd h
+passed-fault (Err g) f v h e = ap (λ (z : Fault). Some (fault_view z)) h ∙ ap (λ w. Some w) e
 
 module _ (files : Files) (seed count : ℕ) (name : List ℕ) where
   -- too many documents, or a name that is not free

@@ -1,18 +1,18 @@
 -- From the end of a command to its status, its line and what it did.
-use Rattle.std.proofs.Common.{◌≡◌, ◌≢◌, ◌⊎◌, ◌↔◌, inl, inr, ℕ, List, [], Option, Some, None, IsSome, Result, Ok, Err, OnErr, refl, sym, ap, ◌∙◌, subst, arith}
+use Rattle.std.proofs.Common.{◌≡◌, ◌≢◌, ◌⊎◌, ◌↔◌, inl, inr, ℕ, ◌<◌, List, [], Option, Some, None, IsSome, Result, Ok, Err, OnErr, refl, sym, ap, ◌∙◌, subst, arith}
 use Rattle.xa_outside.specs.Causes.{HasCause, Rose}
 use Rattle.xa_outside.specs.Folder.{Files}
 use Rattle.xa_outside.specs.Taken.{Taken, TakesNone, TakesPrefix, Puts}
 use Rattle.xa_outside.proofs.Output.{Takes-nil, Takes-kept, TakesPrefix-none, TakesPrefix-all}
-use Rattle.xarch_words.specs.Commands.{PlainCommand}
+use Rattle.xarch_words.specs.Commands.{PlainCommand, command_of, demo}
 use Rattle.xarch_words.specs.Refusal.{Refusal, usage, no_file, exists, bad_spec, bad_json, bad_shape, key_fault, no_version, bad_path, damaged, limit, PlainFault, refused, folder_fault, out_fault, in_fault, memory}
 use Rattle.xarch_words.specs.Lines.{refusal_status}
 use Rattle.xarch_words.specs.declared.fault.Fault.{Fault}
 use Rattle.xarch_steps.specs.Outcome.{Outcome, Step, output_of, step_from}
 use Rattle.xarch_steps.specs.Ends.{fault_of, IsOfCommand, HasItsCause, EndsAs}
-use Rattle.xarch_steps.specs.Ran.{status_after, line_after, outside_of, Says}
+use Rattle.xarch_steps.specs.Ran.{IsLongDemo, status_after, line_after, outside_of, Says}
 use Rattle.xarch_steps.specs.Plausible.{MayBe, MayDo, MayEnd, Plausible, PutSome, Tried, Wrote}
-use Rattle.xarch_steps.specs.Step.{StepIs, single_of}
+use Rattle.xarch_steps.specs.Step.{StepIs, alone, single_of}
 use Rattle.xarch_steps.proofs.Ending.{IsOfCommand-usage}
 use Rattle.xarch_steps.proofs.MayEnds.{MayEnd-stopped, EndsAs-may}
 use Rattle.xarch_steps.proofs.OneStep.{one_outcome, one_step}
@@ -209,3 +209,7 @@ Says-from old new before now (Err e) line p q = record { prefix = p; whole = λ 
 pub fault_of-OnErr : (P : Type 0) (r : Result Unit Fault) → OnErr r P → IsSome (fault_of r) → P
 fault_of-OnErr P (Ok u) p some = cc
 fault_of-OnErr P (Err f) p some = p
+
+-- a `demo` of too many documents is one by itself
+pub long_demo-alone : (words : List (List ℕ)) (seed count : ℕ) (name : List ℕ) → command_of words ≡ Some (demo seed count name) → 1000 < count → IsLongDemo (single_of words)
+long_demo-alone words seed count name is long = subst (λ (c : Option PlainCommand). IsLongDemo (alone c)) (sym is) long

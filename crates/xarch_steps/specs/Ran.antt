@@ -1,5 +1,5 @@
 -- What a call of the program did, against what is defined.
-use Rattle.std.specs.Prelude.{◌≡◌, ℕ, ◌==◌, List, [], Option, Some, None, if◌then◌else◌, ⊤}
+use Rattle.std.specs.Prelude.{◌≡◌, ℕ, ◌<◌, ◌==◌, List, [], Option, Some, None, if◌then◌else◌, ⊤}
 use Rattle.std.specs.Option.{option_map_or}
 use Rattle.xa_outside.specs.Causes.{Rose}
 use Rattle.xa_outside.specs.Folder.{Files}
@@ -57,6 +57,18 @@ OnlyReads (Some (history archive path)) = ⊤
 OnlyReads (Some (stats archive)) = ⊤
 OnlyReads (Some batch) = ⊥
 OnlyReads (Some (demo seed count archive)) = ⊥
+
+-- a `demo` of too many documents
+abbrev pub IsLongDemo : Option PlainCommand → Type 0
+IsLongDemo None = ⊥
+IsLongDemo (Some (norm spec doc)) = ⊥
+IsLongDemo (Some (init archive spec)) = ⊥
+IsLongDemo (Some (add archive doc)) = ⊥
+IsLongDemo (Some (get archive i)) = ⊥
+IsLongDemo (Some (history archive path)) = ⊥
+IsLongDemo (Some (stats archive)) = ⊥
+IsLongDemo (Some batch) = ⊥
+IsLongDemo (Some (demo seed count archive)) = 1000 < count
 
 -- How many bytes a command pulls at most, where that is said of it: `norm` those of a specification and of a document at
 -- their limits, and words that are no command none.

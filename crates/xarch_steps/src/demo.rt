@@ -55,6 +55,7 @@ pub(crate) fn run_demo<F: Folder, O: Sink>(
     ensures cause { IsOfCommand (F.faults folder.old) (F.faults folder.new) (O.faults out.old) (O.faults out.new) (fault_of result) }
     ensures may { (files : Files) → F.files folder.old ≡ Some files
         → MayEnd (DemoIs files seed count archive.now) (fault_of result) (F.files folder.new) (O.taken out.old) (O.taken out.new) }
+    ensures many { 1000 < count → fault_of result ≡ Some (refused (refusal.limit refusal.demo 1000)) }
 {
     check_few(count)?;
     begin_new(alloc, folder, archive)?;
@@ -69,6 +70,7 @@ fn check_few(count: u32) -> Result<(), Fault>
     ensures cause { IsInside (fault_of result) }
     ensures told { Matches (λ _. count) (Inputs.at_most refusal.demo 1000 count) result }
     ensures bound { OnOk result (count ≤ 1000) }
+    ensures refused { IfErr result (λ f. fault_view f ≡ refused (refusal.limit refusal.demo 1000)) }
 {
     at_most(u64::from(count), Quantity::Demo, limits::DEMO)?;
     Ok(())

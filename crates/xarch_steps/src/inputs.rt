@@ -1,11 +1,11 @@
 #![tactic(auto, using(crate::proofs::Ending::endings), unfolding(crate::specs::Ends::IsInside, crate::specs::Ends::IsOfFolder, crate::specs::Ends::IsDefined))]
 
-ghost use Rattle.std.specs.Prelude.{◌≡◌, ◌≤◌, ℕ, Some, Ok, Err, IfOk, IsErr, vec_len};
+ghost use Rattle.std.specs.Prelude.{◌≡◌, ◌≤◌, ℕ, Some, Ok, Err, IfOk, IfErr, IsErr, vec_len};
 ghost use Rattle.xa_outside.specs.Folder.{Files};
 ghost use Rattle.xa_outside.specs.Numbers.{PullsAtMost};
 ghost use Rattle.xarch_words.specs.Refusal as refusal;
 ghost use Rattle.xarch_words.specs.Refusal.{PlainQuantity};
-ghost use Rattle.xarch_words.specs.View.{quantity_view};
+ghost use Rattle.xarch_words.specs.View.{fault_view, quantity_view};
 ghost use Rattle.xarch_steps.specs.Ends.{IsInside, IsOfFolder, Matches, fault_of};
 ghost use Rattle.xarch_steps.specs.Inputs;
 
@@ -42,6 +42,7 @@ pub(crate) fn at_most(number: u64, quantity: Quantity, most: u64) -> Result<u64,
     ensures cause { IsInside (fault_of result) }
     ensures bound { IfOk result (λ n. n ≤ most) }
     ensures told { Matches (λ n. n) (Inputs.at_most (quantity_view quantity) most number) result }
+    ensures refused { IfErr result (λ f. fault_view f ≡ refusal.refused (refusal.limit (quantity_view quantity) most)) }
 {
     if number <= most {
         Ok(number)

@@ -1,14 +1,16 @@
 #![tactic(auto, using(crate::proofs::Ending::endings))]
 
-ghost use Rattle.std.specs.Prelude.{◌≡◌, ◌≢◌, ◌≤◌, ◌↔◌, ◌⊎◌, Some, None, OnErr, option_map};
+ghost use Rattle.std.specs.Prelude.{◌≡◌, ◌≢◌, ◌≤◌, ◌<◌, ◌↔◌, ◌⊎◌, ℕ, List, Some, None, OnErr, option_map};
 ghost use Rattle.xa_outside.specs.Causes.{Rose};
 ghost use Rattle.xa_outside.specs.Folder.{Files};
-ghost use Rattle.xarch_words.specs.Refusal.{refused, usage};
+ghost use Rattle.xarch_words.specs.Commands.{command_of, demo};
+ghost use Rattle.xarch_words.specs.Refusal as refusal;
+ghost use Rattle.xarch_words.specs.Refusal.{limit, refused, usage};
 ghost use Rattle.xarch_words.specs.View.{command_view, words_view};
 ghost use Rattle.xarch_steps.specs.Ends.{HasItsCause, IsOfCommand, fault_of};
 ghost use Rattle.xarch_steps.specs.Outcome.{Step};
 ghost use Rattle.xarch_steps.specs.Plausible.{MayBe, MayDo, MayEnd, Tried, Wrote};
-ghost use Rattle.xarch_steps.specs.Ran.{OnlyReads, PullsAsSaid, Said, Says, line_after, outside_of, status_after};
+ghost use Rattle.xarch_steps.specs.Ran.{IsLongDemo, OnlyReads, PullsAsSaid, Said, Says, line_after, outside_of, status_after};
 ghost use Rattle.xarch_steps.specs.Step.{StepIs, alone, single_of};
 
 use crate::add::run_add;
@@ -50,6 +52,7 @@ pub fn take_step<F: Folder, O: Sink, E: Sink>(
 
     // When a fault comes, whatever the folder tells.
     ensures usage { (result ≡ 2) ↔ (single_of (words_view words.now) ≡ None) }
+    ensures long_demo { (seed count : ℕ) (name : List ℕ) → command_of (words_view words.now) ≡ Some (demo seed count name) → 1000 < count → result ≡ 12 }
     ensures folder_fault { result ≡ 13 → Rose (F.faults folder.old) (F.faults folder.new) }
     ensures out_fault { result ≡ 14 → Rose (O.faults out.old) (O.faults out.new) }
     ensures never_input_fault { result ≢ 15 }
@@ -79,6 +82,7 @@ fn command_words<F: Folder, O: Sink>(
     out: &mut O,
 ) -> Result<(), Fault>
     ensures usage { (fault_of result ≡ Some (refused usage)) ↔ (single_of (words_view words.now) ≡ None) }
+    ensures long_demo { IsLongDemo (single_of (words_view words.now)) → fault_of result ≡ Some (refused (limit refusal.demo 1000)) }
     ensures cause { HasItsCause (F.faults folder.old) (F.faults folder.new) (O.faults out.old) (O.faults out.new) (fault_of result) }
     ensures folder_later { F.faults folder.old ≤ F.faults folder.new }
     ensures out_later { O.faults out.old ≤ O.faults out.new }
@@ -127,6 +131,7 @@ fn run_command<F: Folder, O: Sink>(
     ensures files { OnlyReads (Some (command_view command.entry)) → F.files folder.new ≡ F.files folder.old }
     ensures draft { OnlyReads (Some (command_view command.entry)) → F.draft folder.new ≡ F.draft folder.old }
     ensures numbers { PullsAsSaid (Some (command_view command.entry)) (F.numbers folder.old) (F.numbers folder.new) }
+    ensures long_demo { IsLongDemo (Some (command_view command.entry)) → fault_of result ≡ Some (refused (limit refusal.demo 1000)) }
 {
     match command {
         Command::Norm { spec, doc } => run_norm(alloc, spec, doc, folder, out),

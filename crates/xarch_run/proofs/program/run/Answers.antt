@@ -1,7 +1,8 @@
-use Rattle.std.proofs.Common.{arith}
+use Rattle.std.proofs.Common.{ap, arith}
 use Rattle.xarch_words.specs.Commands.{command_of}
 use Rattle.xarch_words.specs.View.{words_view}
-use Rattle.xarch_run.proofs.CommandLemmas.{alone-pulls, alone-reads, answer-calm, answer-folder, answer-input, answer-out, answer-words, batch-pulls, batch-reads, fails, holds}
+use Rattle.xarch_steps.specs.Step.{alone}
+use Rattle.xarch_run.proofs.CommandLemmas.{alone-pulls, alone-reads, batch-demo, batch-none, none-alone, answer-calm, answer-folder, answer-input, answer-out, answer-words, batch-pulls, batch-reads, fails, holds}
 use Rattle.xarch_run.proofs.program.run.Goals as goal
 
 -- ---- a batch
@@ -25,7 +26,7 @@ returns-then-is_batch-clause-said g c = λ other. absurd (other (holds _ _ c.if-
 
 pub returns-then-is_batch-clause-usage : goal.returns-then-is_batch-clause-usage
 returns-then-is_batch-clause-usage g c =
-    (λ two. absurd (answer-words _ _ _ _ _ _ c.run_batch.result c.run_batch.ensures.answer two), λ none. absurd (none.1 (holds _ _ c.if-is_batch.true c.is_batch.ensures)))
+    (λ two. absurd (answer-words _ _ _ _ _ _ c.run_batch.result c.run_batch.ensures.answer two), λ none. absurd (batch-none _ (holds _ _ c.if-is_batch.true c.is_batch.ensures) none))
 
 pub returns-then-is_batch-clause-folder_fault : goal.returns-then-is_batch-clause-folder_fault
 returns-then-is_batch-clause-folder_fault g c = answer-folder _ _ _ _ _ _ c.run_batch.result c.run_batch.ensures.answer
@@ -52,7 +53,13 @@ returns-then-is_batch-clause-draft g c = λ reads. absurd (batch-reads _ (holds 
 pub returns-then-is_batch-clause-numbers : goal.returns-then-is_batch-clause-numbers
 returns-then-is_batch-clause-numbers g c = batch-pulls _ _ _ (holds _ _ c.if-is_batch.true c.is_batch.ensures)
 
+pub returns-then-is_batch-clause-long_demo : goal.returns-then-is_batch-clause-long_demo
+returns-then-is_batch-clause-long_demo g c = λ seed count name is. absurd (batch-demo _ seed count name (holds _ _ c.if-is_batch.true c.is_batch.ensures) is)
+
 -- ---- any other command
+
+pub returns-else-is_batch-clause-long_demo : goal.returns-else-is_batch-clause-long_demo
+returns-else-is_batch-clause-long_demo g c = c.take_step.ensures.long_demo
 
 pub returns-else-is_batch-clause-batch : goal.returns-else-is_batch-clause-batch
 returns-else-is_batch-clause-batch g c = λ before now bytes is. absurd (fails _ _ c.if-is_batch.false c.is_batch.ensures is)
@@ -64,7 +71,7 @@ pub returns-else-is_batch-clause-batch_reads : goal.returns-else-is_batch-clause
 returns-else-is_batch-clause-batch_reads g c = λ bytes is. absurd (fails _ _ c.if-is_batch.false c.is_batch.ensures is)
 
 pub returns-else-is_batch-clause-usage : goal.returns-else-is_batch-clause-usage
-returns-else-is_batch-clause-usage g c = (λ two. (c.take_step.ensures.usage.0 two, fails _ _ c.if-is_batch.false c.is_batch.ensures), λ none. c.take_step.ensures.usage.1 none.0)
+returns-else-is_batch-clause-usage g c = (λ two. none-alone (command_of (words_view c.args.words.now)) (c.take_step.ensures.usage.0 two) (fails _ _ c.if-is_batch.false c.is_batch.ensures), λ none. c.take_step.ensures.usage.1 (ap alone none))
 
 pub returns-else-is_batch-clause-input_fault : goal.returns-else-is_batch-clause-input_fault
 returns-else-is_batch-clause-input_fault g c = λ fault. absurd (c.take_step.ensures.never_input_fault fault)

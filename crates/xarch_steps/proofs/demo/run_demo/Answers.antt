@@ -1,4 +1,4 @@
-use Rattle.std.proofs.Common.{List, ℕ, sym, ◌∙◌, subst}
+use Rattle.std.proofs.Common.{List, ℕ, sym, ◌∙◌, subst, arith}
 use Rattle.std.specs.FinMap as map
 use Rattle.archive_stats.specs.View.{counts_view}
 use Rattle.xarch_words.specs.Refusal as refusal
@@ -6,7 +6,7 @@ use Rattle.xarch_steps.specs.Archives.{free_in}
 use Rattle.xarch_steps.specs.Demo.{DemoIs, IsSampleFile}
 use Rattle.xarch_steps.specs.Inputs.{at_most}
 use Rattle.xarch_steps.specs.Stats.{counts_text}
-use Rattle.xarch_steps.proofs.DemoEnds.{commit-tells, refused_many, refused_name, made, refused_long}
+use Rattle.xarch_steps.proofs.DemoEnds.{commit-tells, passed-fault, refused_many, refused_name, made, refused_long}
 use Rattle.xarch_steps.proofs.MayEnds.{MayEnd-passed, MayEnd-folder, MayEnd-put_failed, MayEnd-committed, defined_refused}
 use Rattle.xarch_steps.proofs.demo.run_demo.Goals as goal
 
@@ -46,3 +46,21 @@ returns-clause-may g c = λ files told.
     MayEnd-committed (DemoIs files c.args.seed c.args.count c.args.archive.now) (record { files = map.insert files c.args.archive.now bytes; output = counts_text counts }) c.commit.result _ _ _
     (made files c.args.seed c.args.count c.args.archive.now c.in_ok-check_few.ensures.told (c.in_ok-begin_new.ensures.told files told) bytes counts file) c.in_ok-write_counts.ensures.bytes
     (commit-tells c.commit.result files _ _ _ c.args.archive.now bytes c.commit.ensures.committed (c.in_ok-draft.ensures.files ∙ c.in_ok-begin_new.ensures.files ∙ told) c.in_ok-draft.ensures.drafted) c.commit.ensures.fault
+
+pub returns-in_err-check_few-clause-many : goal.returns-in_err-check_few-clause-many
+returns-in_err-check_few-clause-many g c = λ many. passed-fault c.from_residual.result c.in_err-check_few.field-0.0 _ c.from_residual.ensures.1 c.in_err-check_few.ensures.refused
+
+pub returns-in_err-begin_new-clause-many : goal.returns-in_err-begin_new-clause-many
+returns-in_err-begin_new-clause-many g c = λ many. absurd (let few = c.in_ok-check_few.ensures.bound in omega (arith, many, few))
+
+pub returns-in_err-bytes-clause-many : goal.returns-in_err-bytes-clause-many
+returns-in_err-bytes-clause-many g c = λ many. absurd (let few = c.in_ok-check_few.ensures.bound in omega (arith, many, few))
+
+pub returns-in_err-draft-clause-many : goal.returns-in_err-draft-clause-many
+returns-in_err-draft-clause-many g c = λ many. absurd (let few = c.in_ok-check_few.ensures.bound in omega (arith, many, few))
+
+pub returns-in_err-write_counts-clause-many : goal.returns-in_err-write_counts-clause-many
+returns-in_err-write_counts-clause-many g c = λ many. absurd (let few = c.in_ok-check_few.ensures.bound in omega (arith, many, few))
+
+pub returns-clause-many : goal.returns-clause-many
+returns-clause-many g c = λ many. absurd (let few = c.in_ok-check_few.ensures.bound in omega (arith, many, few))

@@ -3,8 +3,8 @@ use Rattle.xarch_words.specs.View.{words_view}
 use Rattle.xarch_steps.specs.Ends.{fault_of}
 use Rattle.xarch_steps.specs.Outcome.{Step}
 use Rattle.xarch_steps.specs.Plausible.{Tried}
-use Rattle.xarch_steps.specs.Ran.{outside_of}
-use Rattle.xarch_steps.proofs.Running.{complete-from, fault_of-OnErr, folder_fault-caused, out_fault-caused, status_after-input, EndsAs-defined, Tried-from, Wrote-from}
+use Rattle.xarch_steps.specs.Ran.{outside_of, status_after}
+use Rattle.xarch_steps.proofs.Running.{complete-from, long_demo-alone, fault_of-OnErr, folder_fault-caused, out_fault-caused, status_after-input, EndsAs-defined, Tried-from, Wrote-from}
 use Rattle.xarch_steps.proofs.step.take_step.Goals as goal
 
 pub returns-clause-tried : goal.returns-clause-tried
@@ -37,3 +37,8 @@ returns-clause-complete g c = λ files s told is zero folder out.
 
 pub returns-clause-said : goal.returns-clause-said
 returns-clause-said g c = record { fault = fault_of c.command_words-ended.result; status = c.finish.ensures.status; line = c.finish.ensures.line }
+
+pub returns-clause-long_demo : goal.returns-clause-long_demo
+returns-clause-long_demo g c = λ seed count name is long.
+    let fault = c.command_words-ended.ensures.long_demo (long_demo-alone (words_view c.args.words.now) seed count name is long) in
+    c.finish.ensures.status ∙ ap status_after fault
