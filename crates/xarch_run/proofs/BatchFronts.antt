@@ -2,7 +2,6 @@
 use Rattle.std.proofs.Common.{◌≡◌, inl, inr, ℕ, Bool, true, false, cond, not, List, [], ◌∷◌, ◌++◌, Option, Some, None, refl, sym, ap, ◌∙◌, append-nil}
 use Rattle.std.specs.Io.KnownBytes.{Consumes}
 use Rattle.std.proofs.lemmas.List.Elements.{filter-append}
-use Rattle.xa_outside.specs.Folder.{Files}
 use Rattle.xarch_steps.specs.Outcome.{Step}
 use Rattle.xarch_run.specs.Batch.{BatchEnds, RunsOver, Scene, Stops}
 use Rattle.xarch_run.specs.HandedIn.{BatchSteps}

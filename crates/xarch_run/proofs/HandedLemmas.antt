@@ -18,7 +18,7 @@ use Rattle.xarch_words.specs.Lines.{refusal_status}
 use Rattle.xarch_words.specs.Refusal.{line, document, specification, Refusal, usage, no_file, exists, bad_spec, bad_json, bad_shape, key_fault, no_version, bad_path, damaged, limit}
 use Rattle.xarch_words.specs.Refusal as refusal
 use Rattle.xarch_steps.specs.Add.{added, room_behind}
-use Rattle.xarch_steps.specs.Archives.{ArchiveIs, GoesOn, Stores, Stored, free_in}
+use Rattle.xarch_steps.specs.Archives.{ArchiveIs, GoesOn, Stores, free_in}
 use Rattle.xarch_steps.specs.Demo.{MakesOrNone, demo_input, samples}
 use Rattle.xarch_steps.specs.Init.{init_rules}
 use Rattle.xarch_steps.specs.Inputs.{at_most, file_of, length_in, read_in}
