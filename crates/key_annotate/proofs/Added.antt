@@ -1,11 +1,11 @@
 -- One item on in a row: what it adds to the kids so far.
-use Rattle.std.proofs.Common.{◌≡◌, ℕ, ◌+◌, ◌<◌, Bool, true, false, cond, IsTrue, true≢false, List, [], ◌∷◌, ◌++◌, map, drop, get_or, length, Option, Some, None, append_assoc, append-nil, refl, ap, sym, ◌∙◌}
+use Rattle.std.proofs.Common.{◌≡◌, ℕ, true, false, List, [], ◌∷◌, ◌++◌, Option, Some, None, append_assoc, append-nil, refl, ap, sym, ◌∙◌}
 use Rattle.std.specs.Option.{option_map}
 use Rattle.jsonml_tree.specs.Data.{text, element, PlainContent, PlainTrees, no_trees, tree}
 use Rattle.keyed_tree.specs.Data.{PlainKeyed}
 use Rattle.key_spec.specs.Data.{PlainRule}
 use Rattle.key_rules.specs.Satisfies.{is_blank}
-use Rattle.key_annotate.specs.Ordered.{put_first, built_onto, built_items, built_tree}
+use Rattle.key_annotate.specs.Ordered.{put_first, built_items, built_tree}
 
 -- these kids, and then those of the items
 abbrev pub after : List PlainKeyed → Option (List PlainKeyed) → Option (List PlainKeyed)

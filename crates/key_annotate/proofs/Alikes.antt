@@ -1,10 +1,10 @@
 -- Keyed trees of one specification are alike: whether a path ends in an inner node follows from its labels and the rules.
-use Rattle.std.proofs.Common.{◌≡◌, ◌↔◌, ◌⊎◌, ℕ, Bool, true, false, not, IsTrue, true≢false, List, [], ◌∷◌, Option, Some, None, Any, refl, ap, sym, subst, ◌∙◌, inl, inr}
+use Rattle.std.proofs.Common.{◌≡◌, ◌↔◌, ◌⊎◌, ℕ, Bool, true, false, not, IsTrue, true≢false, List, [], ◌∷◌, Some, None, Any, refl, ap, sym, subst, ◌∙◌, inl, inr}
 use Rattle.std.specs.Bool.{MatchBool}
 use Rattle.std.specs.Option.{option_and_then}
 use Rattle.jsonml_tree.specs.Data.{PlainAttr, PlainTree, text, element, PlainContent, content, PlainTrees, no_trees, tree}
 use Rattle.keyed_tree.specs.Alike.{IsInner, Alike}
-use Rattle.keyed_tree.specs.Data.{PlainName, attr, tag, inside, PlainLabel, PlainKeyed, inner, leaf, kids_from, kids_list, kids_of, label_of}
+use Rattle.keyed_tree.specs.Data.{PlainName, attr, tag, inside, PlainLabel, PlainKeyed, inner, leaf, kids_from, kids_of, label_of}
 use Rattle.keyed_tree.specs.Kids.{kid_at}
 use Rattle.keyed_tree.specs.Lists.{Has}
 use Rattle.keyed_tree.specs.Paths.{node_at}
@@ -12,7 +12,7 @@ use Rattle.keyed_tree.proofs.Kids.{has_found, kids_list-kids_from}
 use Rattle.keyed_tree.proofs.Lists.{all_has}
 use Rattle.key_spec.specs.Data.{PlainRule}
 use Rattle.key_spec.specs.Rules.{is_frontier, below}
-use Rattle.key_annotate.specs.KeyedOf.{attr_leaf, InnerKeyed, KeyedOf, ContentKeyed, EachIsKid, IsOfItem, IsKeyedTreeOf}
+use Rattle.key_annotate.specs.KeyedOf.{attr_leaf, InnerKeyed, ContentKeyed, EachIsKid, IsOfItem, IsKeyedTreeOf}
 use Rattle.key_annotate.proofs.KidsOf.{label-name}
 
 -- whether a node of this name is inner, or the one that a path leads to from it: all are elements, and the last is not at the frontier

@@ -1,8 +1,7 @@
 -- What the builder gives is a tree exactly where the keys are satisfied, and that tree is the keyed tree.
-use Rattle.std.proofs.Common.{◌≡◌, ◌≢◌, ◌↔◌, ℕ, zero, suc, ◌<◌, Bool, true, false, cond, ◌&&◌, IsTrue, true≢false, List, [], ◌∷◌, ◌++◌, map, Option, Some, None, Result, Ok, Err, refl, ap, sym, subst, ◌∙◌, arith}
+use Rattle.std.proofs.Common.{◌≡◌, ◌≢◌, ℕ, zero, suc, ◌<◌, Bool, true, false, cond, ◌&&◌, IsTrue, true≢false, List, [], ◌∷◌, ◌++◌, map, Option, Some, None, Result, Ok, Err, refl, sym, subst, ◌∙◌, arith}
 use Rattle.std.specs.Result.{IsOk}
 use Rattle.std.specs.Bool.{OnFalse}
-use Rattle.std.specs.Option.{option_map, option_and_then}
 use Rattle.std.specs.List.{AllByRecursion, slice_get}
 use Rattle.jsonml_tree.specs.Data.{PlainAttr, PlainTree, text, element, PlainContent, content, PlainTrees, no_trees, tree, list_of}
 use Rattle.jsonml_tree.specs.Fits.{is_element}
@@ -13,11 +12,11 @@ use Rattle.keyed_tree.proofs.Kids.{both}
 use Rattle.key_spec.specs.Data.{PlainRule}
 use Rattle.key_spec.specs.Rules.{is_frontier, below}
 use Rattle.key_rules.specs.Labels.{PlainLabelFault, label_in}
-use Rattle.key_rules.specs.Satisfies.{is_blank, ItemIsGood, ok_of, item_label, AreApart, ItemsSatisfy, ContentSatisfies, TreeSatisfies, EachSatisfies, Satisfies}
+use Rattle.key_rules.specs.Satisfies.{is_blank, ItemIsGood, ok_of, item_label, AreApart, ItemsSatisfy, ContentSatisfies, EachSatisfies, Satisfies}
 use Rattle.key_rules.proofs.Law.{apart-differ}
 use Rattle.key_annotate.specs.KeyedOf.{attr_leaf}
 use Rattle.key_annotate.specs.Annotated.{in_order, label_or_bare, annotated, annotated_items, keyed_tree}
-use Rattle.key_annotate.specs.Ordered.{kids_in_order, all_kids, node_of, put_first, built, built_onto, built_items, built_tree}
+use Rattle.key_annotate.specs.Ordered.{all_kids, node_of, put_first, built, built_items, built_tree}
 use Rattle.key_annotate.proofs.InOrder.{Apart, rise-order, order-apart, ascend-rise, rise-ascend}
 use Rattle.key_annotate.proofs.KidsOf as of_items
 use Rattle.key_annotate.proofs.KidsOf.{items-tags, differ-apart, attrs-apart, apart-items}

@@ -1,6 +1,6 @@
 -- What the builder's answer on a document says.
-use Rattle.std.proofs.Common.{◌≡◌, ◌≢◌, List, [], Option, Some, None, refl, sym, subst}
-use Rattle.jsonml_tree.specs.Data.{PlainTree, tree_depth}
+use Rattle.std.proofs.Common.{◌≡◌, List, [], Some, None, refl, sym, subst}
+use Rattle.jsonml_tree.specs.Data.{PlainTree}
 use Rattle.jsonml_tree.specs.Fits.{IsElement}
 use Rattle.jsonml_tree.specs.WellFormed.{IsWellFormed}
 use Rattle.keyed_tree.specs.Data.{PlainKeyed}

@@ -1,12 +1,11 @@
 -- The kids that an inner element has: those of its attributes and those of its items, and when no two have one label.
-use Rattle.std.proofs.Common.{◌≡◌, ◌≢◌, ◌↔◌, ℕ, zero, suc, ◌<◌, Bool, true, false, cond, ◌&&◌, IsTrue, true≢false, List, [], ◌∷◌, ◌++◌, map, Option, Some, None, Result, Ok, Err, refl, ap, sym, subst, ◌∙◌, arith}
+use Rattle.std.proofs.Common.{◌≡◌, ◌≢◌, ℕ, zero, suc, Bool, true, false, cond, IsTrue, true≢false, List, [], ◌∷◌, ◌++◌, map, Option, Some, None, Result, Ok, Err, refl, ap, sym, subst, ◌∙◌, arith}
 use Rattle.std.proofs.lemmas.Cmp.{nat_list_cmp_total, tied_itself}
 use Rattle.std.specs.Result.{IsOk}
 use Rattle.std.specs.List.{AllByRecursion, slice_get}
 use Rattle.std.specs.Ordering.{is_lt}
-use Rattle.std.specs.declared.cmp.Ordering.{Ordering}
 use Rattle.std.specs.declared.cmp.Ordering.TheVariants.{Less}
-use Rattle.jsonml_tree.specs.Data.{null, PlainAttr, PlainTree, text, element, PlainContent, content, PlainTrees, no_trees, tree, list_of}
+use Rattle.jsonml_tree.specs.Data.{null, PlainAttr, text, element, PlainContent, content, PlainTrees, no_trees, tree, list_of}
 use Rattle.jsonml_tree.specs.Order.{text_cmp}
 use Rattle.jsonml_tree.specs.WellFormed.{ascends, is_ascending}
 use Rattle.keyed_tree.specs.Data.{PlainName, attr, tag, PlainLabel, PlainKeyed, label_of}

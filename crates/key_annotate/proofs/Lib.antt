@@ -1,3 +1,4 @@
+pub mod Fronts
 pub mod LentViews
 pub mod InOrder
 pub mod Sorted
@@ -8,3 +9,4 @@ pub mod Added
 pub mod ProperLemmas
 pub mod Alikes
 pub mod Documents
+pub mod Bares

@@ -1,13 +1,12 @@
 -- What every keyed tree of a document is: an element's tree, proper, in order, well formed, and no deeper than the document.
-use Rattle.std.proofs.Common.{◌≡◌, ◌⊎◌, ℕ, suc, zero, max, ◌<◌, ◌≤◌, Bool, true, false, cond, ◌&&◌, IsTrue, true≢false, List, [], ◌∷◌, ◌++◌, map, length, get_or, Option, Some, None, Result, Ok, Err, Any, refl, ap, sym, subst, ◌∙◌, inl, inr, arith}
+use Rattle.std.proofs.Common.{◌≡◌, ◌⊎◌, ℕ, suc, max, ◌≤◌, Bool, true, false, cond, ◌&&◌, IsTrue, true≢false, List, [], ◌∷◌, ◌++◌, map, Result, Ok, Err, Any, refl, sym, subst, inl, inr, arith}
 use Rattle.std.specs.Bool.{MatchBool}
 use Rattle.std.specs.List.{AllByRecursion}
 use Rattle.jsonml_tree.specs.Data.{PlainAttr, PlainTree, text, element, PlainContent, content, PlainTrees, no_trees, tree, tree_depth, content_depth, trees_depth}
 use Rattle.jsonml_tree.specs.Fits.{is_element}
 use Rattle.jsonml_tree.specs.WellFormed.{is_in_range, is_ascending, are_in_range, is_content_well_formed, are_well_formed, IsWellFormed}
-use Rattle.keyed_tree.specs.Data.{PlainName, attr, tag, PlainKey, scalar, inside, PlainLabel, PlainKeyed, inner, leaf, PlainKids, no_kids, kid, kids_from, kids_list, kids_of, label_of}
-use Rattle.keyed_tree.specs.Kids.{ascend, Ascend, is_ordered, are_ordered, IsOrdered}
-use Rattle.keyed_tree.specs.Lists.{Has}
+use Rattle.keyed_tree.specs.Data.{PlainName, attr, tag, inside, PlainLabel, PlainKeyed, inner, leaf, PlainKids, no_kids, kid, kids_from, kids_of, label_of}
+use Rattle.keyed_tree.specs.Kids.{ascend, is_ordered, are_ordered, IsOrdered}
 use Rattle.keyed_tree.specs.Proper.{is_tag, is_leaf_proper, is_proper, are_proper, IsProper, IsElement}
 use Rattle.keyed_tree.specs.Plain.{item_onto, items_among, plain}
 use Rattle.keyed_tree.specs.WellFormed.{is_key_well_formed, is_label_well_formed, is_keyed_well_formed, are_kids_well_formed, IsKeyedWellFormed}
@@ -17,10 +16,10 @@ use Rattle.key_spec.specs.Data.{PlainRule}
 use Rattle.key_spec.specs.Rules.{is_frontier, below}
 use Rattle.key_rules.specs.Labels.{PlainLabelFault, label_in}
 use Rattle.key_rules.proofs.Labelled.{label_in-good}
-use Rattle.key_annotate.specs.KeyedOf.{attr_leaf, InnerKeyed, KeyedOf, ContentKeyed, EachIsKid, IsOfItem, IsKeyedTreeOf}
+use Rattle.key_annotate.specs.KeyedOf.{attr_leaf, InnerKeyed, ContentKeyed, EachIsKid, IsOfItem, IsKeyedTreeOf}
 use Rattle.key_annotate.specs.Annotated.{in_order, label_or_bare, annotated, annotated_items, keyed_tree}
 use Rattle.key_annotate.proofs.InOrder.{order-has}
-use Rattle.key_annotate.proofs.KidsOf.{label-name, annotated-label, annotated-name}
+use Rattle.key_annotate.proofs.KidsOf.{label-name, annotated-name}
 
 both_true : (a b : Bool) → IsTrue a → IsTrue b → IsTrue (a && b)
 both_true true b h g = g

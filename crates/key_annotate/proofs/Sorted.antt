@@ -1,22 +1,18 @@
 -- Kids that a sort has put in order, against the kids in order.
-use Rattle.std.proofs.Common.{◌≡◌, ◌≢◌, ℕ, zero, suc, ◌+◌, ◌-◌, ◌<◌, ◌≤◌, Bool, true, false, cond, IsTrue, true≢false, List, [], ◌∷◌, map, length, get_or, Option, Some, None, refl, ap, sym, subst, ◌∙◌, inl, inr, arith}
-use Rattle.std.proofs.lemmas.Cmp.{tied_itself}
+use Rattle.std.proofs.Common.{◌≡◌, ◌≢◌, ℕ, zero, suc, ◌+◌, ◌<◌, ◌≤◌, Bool, true, false, cond, IsTrue, true≢false, List, [], ◌∷◌, map, length, get_or, Some, None, refl, ap, sym, subst, ◌∙◌, inl, inr, arith}
 use Rattle.std.proofs.lemmas.List.Sums.{sum_by-cons}
 use Rattle.std.proofs.lemmas.List.Sorted.{sum_by-IsPermutation, Contains-permutation, IsPermutation-sym}
 use Rattle.std.specs.List.{AllByRecursion, Contains, sum_by}
 use Rattle.std.specs.List.Sorted.{IsPermutation, IsSortedBy}
 use Rattle.std.specs.Ordering.{is_lt, is_eq, ordering_reverse}
-use Rattle.std.specs.declared.cmp.Ordering.{Ordering}
 use Rattle.std.specs.declared.cmp.Ordering.TheVariants.{Less, Equal, Greater}
 use Rattle.keyed_tree.specs.Data.{PlainLabel, PlainKeyed, label_of, kids_from}
 use Rattle.keyed_tree.specs.Kids.{ascend}
-use Rattle.key_annotate.specs.LentView.{lent_view}
-use Rattle.key_annotate.specs.declared.lent.LentKeyed.{LentKeyed}
 use Rattle.std.proofs.lemmas.List.{length-map, get_or-map}
-use Rattle.keyed_tree.specs.Lists.{Ascends, Has}
+use Rattle.keyed_tree.specs.Lists.{Has}
 use Rattle.keyed_tree.specs.Order.{label_cmp}
 use Rattle.keyed_tree.specs.Laws.{label_cmp_total, label_cmp_exact, label_cmp-is_eq}
-use Rattle.keyed_tree.proofs.Lists.{all_has, has_all, same_items}
+use Rattle.keyed_tree.proofs.Lists.{same_items}
 use Rattle.key_annotate.specs.Annotated.{in_order}
 use Rattle.key_annotate.specs.Ordered.{kids_in_order}
 use Rattle.key_annotate.proofs.InOrder.{Apart, Rise, has-order, order-has, rise-order, apart-rise, order-apart, ascend-rise, rise-ascend}
@@ -141,22 +137,23 @@ sorted-kids ks js p up =
           rw none refl)
     ] refl
 
--- ---- the same of the kids that the code sorts
+-- ---- the same of what the code sorts, and of what the code finds to ascend
 
-sorted-at : (ks : List LentKeyed) (x : LentKeyed) → IsSortedBy (λ a b. before (lent_view a) (lent_view b)) ks → IsSortedBy before (map lent_view ks)
-sorted-at ks x h = λ k d low high.
-    let len : length (map lent_view ks) ≡ length ks = length-map ks lent_view in
-    let later : get_or (map lent_view ks) (k + 1) d ≡ lent_view (get_or ks (k + 1) x) = get_or-map lent_view ks (k + 1) x d (omega arith) in
-    let sooner : get_or (map lent_view ks) k d ≡ lent_view (get_or ks k x) = get_or-map lent_view ks k x d (omega arith) in
-    let test : before (lent_view (get_or ks (k + 1) x)) (lent_view (get_or ks k x)) ≡ false = h k x low (omega arith) in
-    ap (λ y. before y (get_or (map lent_view ks) k d)) later ∙ ap (before (lent_view (get_or ks (k + 1) x))) sooner ∙ test
+module _ {X : Type 0} (view : X → PlainKeyed) where
+  sorted-at : (ks : List X) (x : X) → IsSortedBy (λ a b. before (view a) (view b)) ks → IsSortedBy before (map view ks)
+  sorted-at ks x h = λ k d low high.
+      let len : length (map view ks) ≡ length ks = length-map ks view in
+      let later : get_or (map view ks) (k + 1) d ≡ view (get_or ks (k + 1) x) = get_or-map view ks (k + 1) x d (omega arith) in
+      let sooner : get_or (map view ks) k d ≡ view (get_or ks k x) = get_or-map view ks k x d (omega arith) in
+      let test : before (view (get_or ks (k + 1) x)) (view (get_or ks k x)) ≡ false = h k x low (omega arith) in
+      ap (λ y. before y (get_or (map view ks) k d)) later ∙ ap (before (view (get_or ks (k + 1) x))) sooner ∙ test
 
-pub sorted-views : (ks : List LentKeyed) → IsSortedBy (λ a b. before (lent_view a) (lent_view b)) ks → IsSortedBy before (map lent_view ks)
-sorted-views [] h = λ k d low high. absurd (omega arith)
-sorted-views (x ∷ xs) h = sorted-at (x ∷ xs) x h
+  pub sorted-views : (ks : List X) → IsSortedBy (λ a b. before (view a) (view b)) ks → IsSortedBy before (map view ks)
+  sorted-views [] h = λ k d low high. absurd (omega arith)
+  sorted-views (x ∷ xs) h = sorted-at (x ∷ xs) x h
 
--- fewer than two ascend
-pub few-ascend : (ks : List LentKeyed) → length ks ≤ 1 → ascend (kids_from (map lent_view ks)) ≡ true
-few-ascend [] h = refl
-few-ascend (k ∷ []) h = refl
-few-ascend (k ∷ j ∷ ks) h = absurd (omega arith)
+  -- fewer than two ascend
+  pub few-ascend : (ks : List X) → length ks ≤ 1 → ascend (kids_from (map view ks)) ≡ true
+  few-ascend [] h = refl
+  few-ascend (k ∷ []) h = refl
+  few-ascend (k ∷ j ∷ ks) h = absurd (omega arith)

@@ -1,5 +1,5 @@
 -- Where the keys are satisfied exactly one tree stands for the document.
-use Rattle.std.proofs.Common.{◌≡◌, ◌⊎◌, ℕ, zero, suc, ◌<◌, Bool, true, false, cond, ◌&&◌, IsTrue, true≢false, List, [], ◌∷◌, ◌++◌, map, length, get_or, Option, Some, None, Result, Ok, Err, Any, refl, ap, sym, subst, ◌∙◌, inl, inr, arith}
+use Rattle.std.proofs.Common.{◌≡◌, ◌⊎◌, ℕ, zero, suc, ◌<◌, Bool, true, false, cond, ◌&&◌, IsTrue, true≢false, List, [], ◌∷◌, ◌++◌, map, length, get_or, Result, Ok, Any, refl, ap, sym, subst, ◌∙◌, inl, inr, arith}
 use Rattle.std.specs.Result.{IsOk}
 use Rattle.std.specs.Bool.{OnFalse, MatchBool}
 use Rattle.std.specs.List.{AllByRecursion, Contains}
@@ -7,7 +7,7 @@ use Rattle.jsonml_tree.specs.Data.{PlainAttr, PlainTree, text, element, PlainCon
 use Rattle.jsonml_tree.specs.Fits.{is_element}
 use Rattle.jsonml_tree.specs.WellFormed.{is_ascending, are_in_range, is_content_well_formed, are_well_formed, IsWellFormed}
 use Rattle.keyed_tree.specs.Data.{inside, PlainLabel, PlainKeyed, inner, leaf, kids_from, kids_list, kids_of, label_of}
-use Rattle.keyed_tree.specs.Kids.{ascend, Ascend}
+use Rattle.keyed_tree.specs.Kids.{ascend}
 use Rattle.keyed_tree.specs.Lists.{Has}
 use Rattle.keyed_tree.specs.Laws.{label_cmp_total}
 use Rattle.keyed_tree.proofs.Kids.{both, kids_list-kids_from}
@@ -16,9 +16,9 @@ use Rattle.key_spec.specs.Data.{PlainRule}
 use Rattle.key_spec.specs.Rules.{is_frontier, below}
 use Rattle.key_rules.specs.Labels.{PlainLabelFault, label_in}
 use Rattle.key_rules.specs.Satisfies.{ItemIsGood, ItemsSatisfy, ContentSatisfies, EachSatisfies, Satisfies}
-use Rattle.key_annotate.specs.KeyedOf.{attr_leaf, InnerKeyed, KeyedOf, ContentKeyed, IsKid, EachIsKid, IsOfItem, IsKeyedTreeOf}
+use Rattle.key_annotate.specs.KeyedOf.{attr_leaf, InnerKeyed, ContentKeyed, EachIsKid, IsOfItem, IsKeyedTreeOf}
 use Rattle.key_annotate.specs.Annotated.{in_order, label_or_bare, annotated, annotated_items, keyed_tree}
-use Rattle.key_annotate.proofs.InOrder.{Apart, has-order, order-has, rise-order, ascend-rise, rise-ascend}
+use Rattle.key_annotate.proofs.InOrder.{has-order, order-has, rise-order, ascend-rise, rise-ascend}
 use Rattle.key_annotate.proofs.Sorted.{at_has, has_at}
 use Rattle.key_annotate.proofs.KidsOf.{good-label, annotated-label}
 use Rattle.key_annotate.proofs.Built.{kids-apart}

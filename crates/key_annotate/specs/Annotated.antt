@@ -1,8 +1,8 @@
 -- The keyed tree of a document, as a value. Where the document satisfies the keys it is the one that stands for it.
-use Rattle.std.specs.Prelude.{ℕ, List, [], ◌∷◌, ◌++◌, map, Option, Some, None, Result, Ok, Err, if◌then◌else◌}
+use Rattle.std.specs.Prelude.{ℕ, List, [], ◌∷◌, ◌++◌, map, Result, Ok, Err, if◌then◌else◌}
 use Rattle.std.specs.Ordering.{is_lt}
 use Rattle.jsonml_tree.specs.Data.{PlainTree, text, element, PlainContent, content, PlainTrees, no_trees, tree}
-use Rattle.keyed_tree.specs.Data.{PlainName, tag, inside, PlainLabel, PlainKeyed, inner, leaf, kids_from, label_of}
+use Rattle.keyed_tree.specs.Data.{tag, inside, PlainLabel, PlainKeyed, inner, leaf, kids_from, label_of}
 use Rattle.keyed_tree.specs.Order.{label_cmp}
 use Rattle.key_spec.specs.Data.{PlainRule}
 use Rattle.key_spec.specs.Rules.{is_frontier, below}

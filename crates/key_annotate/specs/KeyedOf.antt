@@ -1,8 +1,8 @@
 -- Which keyed tree stands for an element under a specification.
-use Rattle.std.specs.Prelude.{◌≡◌, ◌⊎◌, ℕ, List, [], ◌∷◌, Any, Contains, Result, Ok, MatchBool, ⊤}
+use Rattle.std.specs.Prelude.{◌≡◌, ◌⊎◌, ℕ, List, [], Any, Contains, Ok, MatchBool, ⊤}
 use Rattle.std.specs.List.{AllByRecursion}
 use Rattle.jsonml_tree.specs.Data.{PlainAttr, PlainTree, text, element, PlainContent, content, PlainTrees, no_trees, tree}
-use Rattle.keyed_tree.specs.Data.{PlainName, attr, tag, scalar, inside, PlainKeyed, inner, leaf, kids_from, kids_of, label_of}
+use Rattle.keyed_tree.specs.Data.{attr, scalar, inside, PlainKeyed, inner, leaf, kids_from, kids_of, label_of}
 use Rattle.keyed_tree.specs.Kids.{Ascend}
 use Rattle.key_spec.specs.Data.{PlainRule}
 use Rattle.key_spec.specs.Rules.{is_frontier, below}

@@ -2,6 +2,10 @@ pub mod KeyedOf
 pub mod Annotated
 pub mod Ordered
 pub mod View
+pub mod Flat
+pub mod Front
+pub mod FrontedText
+pub mod LabelView
 pub mod LentView
 pub mod Laws
 pub mod Stands

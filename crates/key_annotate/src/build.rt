@@ -10,6 +10,8 @@ ghost use Rattle.key_annotate.specs.KeyedOf.{attr_leaf};
 ghost use Rattle.key_annotate.specs.LentView.{lent_view};
 ghost use Rattle.key_annotate.specs.Ordered.{all_kids, node_of, built_items, built_tree};
 
+use crate::flat::{bare_kids, flat_node};
+use crate::label::KeyedLabel;
 use crate::lent::LentKeyed;
 use crate::order::in_order;
 use jsonml_tree::{Content, Tree};
@@ -57,8 +59,12 @@ fn build_node<'a>(
         (all_kids (map attr_view content.now.attrs.items) (built_items (spec_view spec.now) (names_view path.old.items) (items_view content.now.items.items)))) }
     ensures path { OnOk result (names_view path.new.items ≡ names_view path.old.items) }
 {
+    let label = KeyedLabel::new(label);
     if spec.is_frontier(path) {
         return Ok(Some(LentKeyed::Leaf { label, content }));
+    }
+    if let Some(leaves) = bare_kids(alloc, spec, path, content)? {
+        return Ok(flat_node(label, leaves));
     }
     let Some(kids) = build_kids(alloc, spec, path, content)? else {
         return Ok(None);
@@ -83,7 +89,7 @@ fn build_kids<'a>(
     let Some(kids) = add_items(alloc, spec, path, &content.items, kids)? else {
         return Ok(None);
     };
-    in_order(kids)
+    Ok(in_order(kids))
 }
 
 /// A leaf for each attribute, with room for the items' kids.

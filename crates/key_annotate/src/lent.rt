@@ -6,10 +6,13 @@ ghost use Rattle.keyed_tree.specs.Data.{label_of};
 ghost use Rattle.keyed_tree.specs.Order.{label_cmp};
 ghost use Rattle.keyed_tree.specs.View.{keyed_view};
 ghost use Rattle.key_annotate.specs.KeyedOf.{attr_leaf};
-ghost use Rattle.key_annotate.specs.LentView.{lent_view};
+ghost use Rattle.key_annotate.specs.LabelView.{keyed_label_view};
+ghost use Rattle.key_annotate.specs.LentView.{bare_view, lent_view};
 
+use crate::bare::Bare;
+use crate::label::KeyedLabel;
+use crate::order::Labelled;
 use jsonml_tree::{Attr, Content};
-use key_rules::LentLabel;
 use keyed_tree::{KeyVal, Keyed, Label, Name};
 use std::alloc::{AllocError, Global};
 use std::cmp::Ordering;
@@ -21,31 +24,34 @@ use std::cmp::Ordering;
 pub enum LentKeyed<'a> {
     Attr(&'a Attr),
     Leaf {
-        label: LentLabel<'a>,
+        label: KeyedLabel<'a>,
         content: &'a Content,
     },
     Inner {
-        label: LentLabel<'a>,
+        label: KeyedLabel<'a>,
         kids: Vec<LentKeyed<'a>>,
+    },
+    /// An inner node whose kids are all elements of the document without key values.
+    Flat {
+        label: KeyedLabel<'a>,
+        leaves: Vec<Bare<'a>>,
     },
 }
 
-impl LentKeyed<'_> {
-    /// By the labels. It takes no memory.
-    pub(crate) fn order(&self, other: &LentKeyed<'_>) -> Ordering
-        ensures { result ≡ label_cmp (label_of (lent_view self.now)) (label_of (lent_view other.now)) }
-    {
-        match (self, other) {
-            (LentKeyed::Attr(a), LentKeyed::Attr(b)) => a.name.as_str().cmp(b.name.as_str()),
-            (LentKeyed::Attr(_), _) => Ordering::Less,
-            (_, LentKeyed::Attr(_)) => Ordering::Greater,
-            (LentKeyed::Leaf { label: a, .. }, LentKeyed::Leaf { label: b, .. }) => a.order(b),
-            (LentKeyed::Leaf { label: a, .. }, LentKeyed::Inner { label: b, .. }) => a.order(b),
-            (LentKeyed::Inner { label: a, .. }, LentKeyed::Leaf { label: b, .. }) => a.order(b),
-            (LentKeyed::Inner { label: a, .. }, LentKeyed::Inner { label: b, .. }) => a.order(b),
+impl Labelled for LentKeyed<'_> {
+    ghost keyed = { lent_view };
+
+    fn order(&self, other: &Self) -> Ordering {
+        match self {
+            LentKeyed::Attr(attr) => order_attr(attr, other),
+            LentKeyed::Leaf { label, .. } => order_label(label, other),
+            LentKeyed::Inner { label, .. } => order_label(label, other),
+            LentKeyed::Flat { label, .. } => order_label(label, other),
         }
     }
+}
 
+impl LentKeyed<'_> {
     /// A keyed tree of its own with the same value. It recurses as deep as nodes and elements nest.
     #[cycle(own)]
     pub fn own(&self, alloc: Global) -> Result<Keyed, AllocError>
@@ -61,7 +67,35 @@ impl LentKeyed<'_> {
                 label: label.copy(alloc)?,
                 kids: own_kids(alloc, kids)?,
             }),
+            LentKeyed::Flat { label, leaves } => Ok(Keyed::Inner {
+                label: label.copy(alloc)?,
+                kids: own_leaves(alloc, leaves)?,
+            }),
         }
+    }
+}
+
+/// An attribute against a kid.
+fn order_attr(attr: &Attr, other: &LentKeyed<'_>) -> Ordering
+    ensures { result ≡ label_cmp (label_of (attr_leaf (attr_view attr.now))) (label_of (lent_view other.now)) }
+{
+    match other {
+        LentKeyed::Attr(other) => attr.name.as_str().cmp(other.name.as_str()),
+        LentKeyed::Leaf { .. } => Ordering::Less,
+        LentKeyed::Inner { .. } => Ordering::Less,
+        LentKeyed::Flat { .. } => Ordering::Less,
+    }
+}
+
+/// The label of an element against a kid.
+fn order_label(label: &KeyedLabel<'_>, other: &LentKeyed<'_>) -> Ordering
+    ensures { result ≡ label_cmp (keyed_label_view label.now) (label_of (lent_view other.now)) }
+{
+    match other {
+        LentKeyed::Attr(_) => Ordering::Greater,
+        LentKeyed::Leaf { label: other, .. } => label.order(other),
+        LentKeyed::Inner { label: other, .. } => label.order(other),
+        LentKeyed::Flat { label: other, .. } => label.order(other),
     }
 }
 
@@ -72,6 +106,16 @@ fn own_kids(alloc: Global, kids: &[LentKeyed<'_>]) -> Result<Vec<Keyed>, AllocEr
     let mut copies = Vec::with_capacity(alloc, kids.len())?;
     for kid in kids {
         copies.push(kid.own(alloc)?)?;
+    }
+    Ok(copies)
+}
+
+fn own_leaves(alloc: Global, leaves: &[Bare<'_>]) -> Result<Vec<Keyed>, AllocError>
+    ensures { IfOk result (λ v. map keyed_view v.items ≡ map bare_view leaves.now) }
+{
+    let mut copies = Vec::with_capacity(alloc, leaves.len())?;
+    for leaf in leaves {
+        copies.push(leaf.own(alloc)?)?;
     }
     Ok(copies)
 }

@@ -2,13 +2,20 @@
 #![tactic(auto)]
 
 mod annotate;
+mod bare;
 mod build;
 mod fault;
+mod flat;
+mod fronted;
+mod label;
 mod lent;
 mod order;
 #[cfg(test)]
 mod tests;
 
 pub use annotate::{keyed, lent_keyed};
+pub use bare::Bare;
 pub use fault::AnnotateFault;
+pub use fronted::Fronted;
+pub use label::KeyedLabel;
 pub use lent::LentKeyed;

@@ -65,6 +65,16 @@ fn an_attribute_above_the_frontier_comes_back(rt: HostRuntime) -> Result<(), Fai
 }
 
 #[test]
+fn rows_come_in_the_order_of_their_keys(rt: HostRuntime) -> Result<(), Fail> {
+    let spec = b"(/, (db, {}))\n(/db, (row, {id}))\n(/db/row, (name, {}))\n";
+    let doc =
+        br#"["db",["row",["name","e"],["id","a key that is long 2"]],["row",["id","a key that is long 1"]],["row",["id","a\u0000"]],["row",["name","b"],["id","a"]],["row",["id",""]]]"#;
+    let plain =
+        br#"["db",["row",["id",""]],["row",["id","a"],["name","b"]],["row",["id","a\u0000"]],["row",["id","a key that is long 1"]],["row",["id","a key that is long 2"],["name","e"]]]"#;
+    check_tree(&rt, rt.alloc(), spec, doc, plain)
+}
+
+#[test]
 fn a_repeated_department_has_no_keyed_tree(rt: HostRuntime) -> Result<(), Fail> {
     let alloc = rt.alloc();
     let spec = Spec::parse(alloc, COMPANY)?;

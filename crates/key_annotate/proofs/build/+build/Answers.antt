@@ -1,4 +1,4 @@
-use Rattle.std.proofs.Common.{◌≡◌, ◌+◌, ◌++◌, ◌∷◌, [], true, Some, None, List, String, Global, map, drop, rules, ap, sym, ◌∙◌}
+use Rattle.std.proofs.Common.{◌≡◌, ◌+◌, ◌++◌, ◌∷◌, [], true, Some, None, map, drop, ap, sym, ◌∙◌}
 use Rattle.std.specs.Option.{option_map}
 use Rattle.jsonml_tree.specs.Data.{text, element, tree}
 use Rattle.jsonml_tree.specs.View.{tree_view, content_view, items_view}

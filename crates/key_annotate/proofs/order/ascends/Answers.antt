@@ -3,7 +3,7 @@ use Rattle.key_annotate.proofs.Sorted.{few-ascend}
 use Rattle.key_annotate.proofs.order.ascends.Goals as goal
 
 pub returns : goal.returns
-returns c =
+returns g c =
     let rest = drop (c.loop-i.i - 1) c.args.kids.now in
     let few : length rest ≤ 1 = omega (arith, length-drop (c.loop-i.i - 1) c.args.kids.now) in
-    sym (c.loop-i.invariant ∙ few-ascend rest few)
+    sym (c.loop-i.invariant ∙ few-ascend g.K.Labelled.keyed rest few)
