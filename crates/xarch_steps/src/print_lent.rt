@@ -8,12 +8,13 @@ ghost use Rattle.jsonml_text.specs.Calls.{AllMayCome, Prints, attribute, calls_o
 ghost use Rattle.jsonml_tree.specs.Data.{content};
 ghost use Rattle.keyed_tree.specs.Data.{kids_from, label_of};
 ghost use Rattle.keyed_tree.specs.Plain.{attr_onto, attrs_among, items_among, name_bytes, plain};
-ghost use Rattle.key_annotate.specs.LentView.{lent_view};
+ghost use Rattle.key_annotate.specs.LentView.{bare_view, lent_view};
 ghost use Rattle.xarch_steps.specs.KeyedText.{element_calls, inside_of};
 
 use crate::put::Printable;
 use jsonml_text::{Printer, print_content};
-use key_annotate::LentKeyed;
+use jsonml_tree::Tree;
+use key_annotate::{Bare, LentKeyed};
 use xa_outside::{Failed, Sink};
 
 impl Printable for LentKeyed<'_> {
@@ -65,6 +66,7 @@ fn print_inside<K: Sink>(
     match keyed {
         LentKeyed::Inner { kids, .. } => print_kids(kids, printer, sink),
         LentKeyed::Leaf { content, .. } => print_content(content, printer, sink),
+        LentKeyed::Flat { leaves, .. } => print_leaves(leaves, printer, sink),
         // In a keyed tree of a document an attribute has no kids, and is printed by its parent.
         LentKeyed::Attr(_) => Ok(()),
     }
@@ -115,6 +117,7 @@ fn print_attribute<K: Sink>(
         LentKeyed::Attr(attr) => printer.attr(sink, attr.name.as_str(), &attr.value),
         LentKeyed::Leaf { .. } => Ok(()),
         LentKeyed::Inner { .. } => Ok(()),
+        LentKeyed::Flat { .. } => Ok(()),
     }
 }
 
@@ -149,6 +152,7 @@ fn print_element<K: Sink>(
         LentKeyed::Attr(_) => Ok(()),
         LentKeyed::Leaf { .. } => print_keyed(kid, printer, sink),
         LentKeyed::Inner { .. } => print_keyed(kid, printer, sink),
+        LentKeyed::Flat { .. } => print_keyed(kid, printer, sink),
     }
 }
 
@@ -158,7 +162,62 @@ fn name_of<'a>(keyed: &'a LentKeyed<'_>) -> &'a str
 {
     match keyed {
         LentKeyed::Attr(attr) => attr.name.as_str(),
-        LentKeyed::Leaf { label, .. } => label.tag,
-        LentKeyed::Inner { label, .. } => label.tag,
+        LentKeyed::Leaf { label, .. } => label.tag(),
+        LentKeyed::Flat { label, .. } => label.tag(),
+        LentKeyed::Inner { label, .. } => label.tag(),
+    }
+}
+
+/// Elements that the document has as they are.
+fn print_leaves<K: Sink>(
+    leaves: &[Bare<'_>],
+    printer: &mut Printer,
+    sink: &mut K,
+) -> Result<(), Failed>
+    requires { AllMayCome printer.old (flat_map (λ b. calls_of (plain (bare_view b))) leaves.now) }
+    ensures prints { Prints (K.taken sink.old) (K.taken sink.new) printer.old printer.new (flat_map (λ b. calls_of (plain (bare_view b))) leaves.now) result }
+    ensures cause { HasCause (K.faults sink.old) (K.faults sink.new) result }
+{
+    for leaf in leaves {
+        print_leaf(leaf, printer, sink)?;
+    }
+    Ok(())
+}
+
+fn print_leaf<K: Sink>(leaf: &Bare<'_>, printer: &mut Printer, sink: &mut K) -> Result<(), Failed>
+    requires { AllMayCome printer.old (calls_of (plain (bare_view leaf.now))) }
+    ensures prints { Prints (K.taken sink.old) (K.taken sink.new) printer.old printer.new (calls_of (plain (bare_view leaf.now))) result }
+    ensures cause { HasCause (K.faults sink.old) (K.faults sink.new) result }
+{
+    printer.begin_elem(sink, leaf.tag())?;
+    print_behind_leaf(leaf, printer, sink)
+}
+
+fn print_behind_leaf<K: Sink>(
+    leaf: &Bare<'_>,
+    printer: &mut Printer,
+    sink: &mut K,
+) -> Result<(), Failed>
+    requires { AllMayCome printer.old (content_calls (inside_of (bare_view leaf.now)) ++ end ∷ []) }
+    ensures prints { Prints (K.taken sink.old) (K.taken sink.new) printer.old printer.new (content_calls (inside_of (bare_view leaf.now)) ++ end ∷ []) result }
+    ensures cause { HasCause (K.faults sink.old) (K.faults sink.new) result }
+{
+    print_inside_leaf(leaf, printer, sink)?;
+    printer.end_elem(sink)
+}
+
+#[tactic(auto, using(crate::proofs::Ending::endings, jsonml_tree::proofs::Trees::trees))]
+fn print_inside_leaf<K: Sink>(
+    leaf: &Bare<'_>,
+    printer: &mut Printer,
+    sink: &mut K,
+) -> Result<(), Failed>
+    requires { AllMayCome printer.old (content_calls (inside_of (bare_view leaf.now))) }
+    ensures prints { Prints (K.taken sink.old) (K.taken sink.new) printer.old printer.new (content_calls (inside_of (bare_view leaf.now))) result }
+    ensures cause { HasCause (K.faults sink.old) (K.faults sink.new) result }
+{
+    match leaf.elem {
+        Tree::Elem { content, .. } => print_content(content, printer, sink),
+        Tree::Text(_) => Ok(()),
     }
 }

@@ -1,4 +1,4 @@
-use Rattle.std.proofs.Common.{◌≡◌, ◌<◌, ◌∷◌, [], ◌++◌, List, length, get_or, refl, arith, rules, subst, sym}
+use Rattle.std.proofs.Common.{◌≡◌, ◌<◌, ◌∷◌, [], ◌++◌, List, length, get_or, refl, ap, ◌∙◌, arith, rules, subst, sym}
 use Rattle.std.specs.List.{flat_map}
 use Rattle.xa_outside.specs.Taken.{Takes, TakesPrefix}
 use Rattle.xa_outside.proofs.Output.{Takes-nil}
@@ -7,7 +7,8 @@ use Rattle.jsonml_text.proofs.Walks.{AllMayCome-front, AllMayCome-back, Prints-a
 use Rattle.key_annotate.specs.LentView.{lent_view}
 use Rattle.key_annotate.specs.declared.lent.LentKeyed.{LentKeyed, size-LentKeyed}
 use Rattle.xarch_steps.specs.KeyedText.{inside_of}
-use Rattle.xarch_steps.proofs.KeyedCalls.{attr_calls, kid_calls, kid_calls-Attr, inside_of-Attr, calls-named, kids-calls, most_at}
+use Rattle.key_annotate.specs.declared.bare.Bare.{Bare}
+use Rattle.xarch_steps.proofs.KeyedCalls.{attr_calls, kid_calls, leaf_calls, kid_calls-Attr, inside_of-Attr, inside_of-Flat, calls-named, kids-calls, most_at}
 use Rattle.xarch_steps.proofs.print_lent.+print.Goals as goal
 
 pub print_elements-loop-kid-init : goal.print_elements-loop-kid-init
@@ -144,3 +145,13 @@ print_element-returns-in-Attr-clause-prints g t c = rw (kid_calls-Attr c.args.ki
 
 pub print_inside-returns-in-Attr-clause-prints : goal.print_inside-returns-in-Attr-clause-prints
 print_inside-returns-in-Attr-clause-prints g t c = rw (inside_of-Attr c.args.keyed.now c.in-Attr.field-0 c.in-Attr.is) (record { bytes = Takes-nil _; pen = refl })
+
+pub print_inside-print_leaves-requires : goal.print_inside-print_leaves-requires
+print_inside-print_leaves-requires g t c =
+    let whole = inside_of-Flat c.args.keyed.now c.in-Flat.label c.in-Flat.leaves c.in-Flat.is ∙ ap (λ (ls : List Bare). flat_map leaf_calls ls) (sym c.deref-in-Flat.ensures.value) in
+    subst (AllMayCome c.args.printer.now) whole c.requires
+
+pub print_inside-returns-in-Flat-clause-prints : goal.print_inside-returns-in-Flat-clause-prints
+print_inside-returns-in-Flat-clause-prints g t c =
+    let whole = inside_of-Flat c.args.keyed.now c.in-Flat.label c.in-Flat.leaves c.in-Flat.is ∙ ap (λ (ls : List Bare). flat_map leaf_calls ls) (sym c.deref-in-Flat.ensures.value) in
+    subst (λ (l : List Call). Prints (g.K.Sink.taken c.args.sink.now) (g.K.Sink.taken c.print_leaves.new.sink) c.args.printer.now c.print_leaves.new.printer l c.print_leaves.result) (sym whole) c.print_leaves.ensures.prints

@@ -1,6 +1,6 @@
 use Rattle.std.proofs.Common.{refl}
 use Rattle.xa_outside.proofs.Output.{Takes-nil}
-use Rattle.xarch_steps.proofs.KeyedCalls.{attr_calls-Leaf, attr_calls-Inner}
+use Rattle.xarch_steps.proofs.KeyedCalls.{attr_calls-Leaf, attr_calls-Inner, attr_calls-Flat}
 use Rattle.xarch_steps.proofs.print_lent.print_attribute.Goals as goal
 
 pub returns-in-Leaf-clause-prints : goal.returns-in-Leaf-clause-prints
@@ -8,3 +8,6 @@ returns-in-Leaf-clause-prints g c = rw (attr_calls-Leaf c.args.kid.now c.in-Leaf
 
 pub returns-in-Inner-clause-prints : goal.returns-in-Inner-clause-prints
 returns-in-Inner-clause-prints g c = rw (attr_calls-Inner c.args.kid.now c.in-Inner.label c.in-Inner.kids c.in-Inner.is) (record { bytes = Takes-nil _; pen = refl })
+
+pub returns-in-Flat-clause-prints : goal.returns-in-Flat-clause-prints
+returns-in-Flat-clause-prints g c = rw (attr_calls-Flat c.args.kid.now c.in-Flat.label c.in-Flat.leaves c.in-Flat.is) (record { bytes = Takes-nil _; pen = refl })
