@@ -4,3 +4,4 @@ pub mod Order
 pub mod Laws
 pub mod WellFormed
 pub mod Fits
+pub mod LentView

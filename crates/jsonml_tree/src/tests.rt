@@ -1,4 +1,4 @@
-use crate::{Attr, Content, Scalar, Tree};
+use crate::{Attr, Content, LentContent, LentTree, Scalar, Tree};
 use std::alloc::{AllocError, Global};
 use std::cmp::Ordering;
 use std::test::Fail;
@@ -73,5 +73,27 @@ fn a_copy_is_the_same_and_as_deep(rt: HostRuntime) -> Result<(), Fail> {
     assert!(rt; copy.same(&department));
     let empty = element(alloc, "dept", Vec::new(alloc))?;
     assert!(rt; !copy.same(&empty));
+    Ok(())
+}
+
+#[test]
+fn a_lent_tree_owns_the_same_tree(rt: HostRuntime) -> Result<(), Fail> {
+    let alloc = rt.alloc();
+    let name = element(
+        alloc,
+        "name",
+        vec![in alloc; Tree::Text(text(alloc, "finance")?)]?,
+    )?;
+    let department = element(alloc, "dept", vec![in alloc; name]?)?;
+    let lent = LentTree::lend(alloc, &department)?;
+    assert!(rt; lent.own(alloc)?.same(&department));
+    let kept = LentTree::keep(alloc, &department)?;
+    assert!(rt; kept.own(alloc)?.same(&department));
+    let content = LentContent::Text("finance").own(alloc)?;
+    let finance = Content {
+        attrs: Vec::new(alloc),
+        items: vec![in alloc; Tree::Text(text(alloc, "finance")?)]?,
+    };
+    assert!(rt; content.same(&finance));
     Ok(())
 }

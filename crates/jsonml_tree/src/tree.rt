@@ -284,7 +284,7 @@ fn order_items(ours: &[Tree], theirs: &[Tree]) -> Ordering
     }
 }
 
-fn copy_attrs(alloc: Global, attrs: &[Attr]) -> Result<Vec<Attr>, AllocError>
+pub(crate) fn copy_attrs(alloc: Global, attrs: &[Attr]) -> Result<Vec<Attr>, AllocError>
     ensures { IfOk result (λ v. map attr_view v.items ≡ map attr_view attrs.now) }
 {
     let mut copies = Vec::with_capacity(alloc, attrs.len())?;

@@ -1,0 +1,7 @@
+use Rattle.std.proofs.Common.{◌≡◌, map, take}
+use Rattle.jsonml_tree.specs.LentView.{lent_tree_view}
+use Rattle.jsonml_tree.specs.View.{tree_view}
+use Rattle.jsonml_tree.proofs.lent.+lend.Given as goal
+
+abbrev pub invariant-lend_items-loop-tree : goal.invariant-lend_items-loop-tree
+invariant-lend_items-loop-tree l = map lent_tree_view l.items.items ≡ map tree_view (take l.tree-index l.trees)

@@ -1,0 +1,184 @@
+//! Trees whose texts are lent: by the bytes of a document, say.
+#![tactic(auto, using(crate::proofs::Trees::trees, crate::proofs::LentTrees::lent_trees))]
+
+ghost use Rattle.std.specs.Prelude.{◌≡◌, IfOk, map, string_bytes};
+ghost use Rattle.std.specs.Cow.{cow_str_bytes};
+ghost use Rattle.jsonml_tree.specs.LentView.{only_text, lent_content_view, lent_row_view, lent_tree_view};
+ghost use Rattle.jsonml_tree.specs.View.{content_view, tree_view};
+
+use crate::scalar::Attr;
+use crate::tree::{Content, Tree, copy_attrs};
+use std::alloc::{AllocError, Global};
+use std::borrow::CowStr;
+
+/// A tree whose texts are lent, and its own where no lender spells them as they are.
+///
+/// It stands for the same values as a `Tree`. An element that holds one text and nothing else may be a leaf, which takes no
+/// row.
+#[cycle(lent)]
+#[derive(Drop)]
+pub enum LentTree<'a> {
+    Text(CowStr<'a, Global>),
+    Leaf {
+        tag: CowStr<'a, Global>,
+        text: CowStr<'a, Global>,
+    },
+    Elem {
+        tag: CowStr<'a, Global>,
+        row: LentRow<'a>,
+    },
+}
+
+/// The attributes of an element, ascending by the bytes of their names, and its items.
+#[cycle(lent)]
+#[derive(Drop)]
+pub struct LentRow<'a> {
+    pub attrs: Vec<Attr>,
+    pub items: Vec<LentTree<'a>>,
+}
+
+/// What an element holds behind its tag: one text and nothing else, or a row.
+#[derive(Clone, Copy)]
+pub enum LentContent<'a, 'b> {
+    Text(&'a str),
+    Row(&'a LentRow<'b>),
+}
+
+impl<'a> LentTree<'a> {
+    /// The same tree, whose texts it lends. Attributes are copied, and it recurses as deep as elements nest.
+    #[cycle(lend)]
+    pub fn lend(alloc: Global, tree: &'a Tree) -> Result<LentTree<'a>, AllocError>
+        ensures { IfOk result (λ t. lent_tree_view t ≡ tree_view tree.now) }
+    {
+        match tree {
+            Tree::Text(text) => Ok(LentTree::Text(CowStr::Borrowed(text.as_str()))),
+            Tree::Elem { tag, content } => Ok(LentTree::Elem {
+                tag: CowStr::Borrowed(tag.as_str()),
+                row: lend_row(alloc, content)?,
+            }),
+        }
+    }
+
+    /// The same tree, which keeps a copy of each text. It recurses as deep as elements nest.
+    #[cycle(keep)]
+    pub fn keep(alloc: Global, tree: &Tree) -> Result<LentTree<'a>, AllocError>
+        ensures { IfOk result (λ t. lent_tree_view t ≡ tree_view tree.now) }
+    {
+        match tree {
+            Tree::Text(text) => Ok(LentTree::Text(kept(alloc, text)?)),
+            Tree::Elem { tag, content } => Ok(LentTree::Elem {
+                tag: kept(alloc, tag)?,
+                row: kept_row(alloc, content)?,
+            }),
+        }
+    }
+
+    /// A tree of its own with the same value. It recurses as deep as elements nest.
+    #[cycle(own)]
+    pub fn own(&self, alloc: Global) -> Result<Tree, AllocError>
+        ensures { IfOk result (λ t. tree_view t ≡ lent_tree_view self.now) }
+    {
+        match self {
+            LentTree::Text(text) => Ok(Tree::Text(String::from_str(alloc, text.as_str())?)),
+            LentTree::Leaf { tag, text } => Ok(Tree::Elem {
+                tag: String::from_str(alloc, tag.as_str())?,
+                content: own_text(alloc, text.as_str())?,
+            }),
+            LentTree::Elem { tag, row } => Ok(Tree::Elem {
+                tag: String::from_str(alloc, tag.as_str())?,
+                content: own_row(alloc, row)?,
+            }),
+        }
+    }
+}
+
+impl LentContent<'_, '_> {
+    /// A content of its own with the same value. It recurses as deep as elements nest.
+    pub fn own(&self, alloc: Global) -> Result<Content, AllocError>
+        ensures { IfOk result (λ c. content_view c ≡ lent_content_view self.now) }
+    {
+        match self {
+            LentContent::Text(text) => own_text(alloc, text),
+            LentContent::Row(row) => own_row(alloc, row),
+        }
+    }
+}
+
+fn kept<'a>(alloc: Global, text: &String) -> Result<CowStr<'a, Global>, AllocError>
+    ensures { IfOk result (λ t. cow_str_bytes t ≡ string_bytes text.now) }
+{
+    Ok(CowStr::Owned(String::from_str(alloc, text.as_str())?))
+}
+
+#[cycle(keep)]
+fn kept_row<'a>(alloc: Global, content: &Content) -> Result<LentRow<'a>, AllocError>
+    ensures { IfOk result (λ row. lent_row_view row ≡ content_view content.now) }
+{
+    Ok(LentRow {
+        attrs: copy_attrs(alloc, &content.attrs)?,
+        items: kept_items(alloc, &content.items)?,
+    })
+}
+
+#[cycle(keep)]
+fn kept_items<'a>(alloc: Global, trees: &[Tree]) -> Result<Vec<LentTree<'a>>, AllocError>
+    ensures { IfOk result (λ v. map lent_tree_view v.items ≡ map tree_view trees.now) }
+{
+    let mut items = Vec::with_capacity(alloc, trees.len())?;
+    for tree in trees {
+        items.push(LentTree::keep(alloc, tree)?)?;
+    }
+    Ok(items)
+}
+
+#[cycle(lend)]
+fn lend_row<'a>(alloc: Global, content: &'a Content) -> Result<LentRow<'a>, AllocError>
+    ensures { IfOk result (λ row. lent_row_view row ≡ content_view content.now) }
+{
+    Ok(LentRow {
+        attrs: copy_attrs(alloc, &content.attrs)?,
+        items: lend_items(alloc, &content.items)?,
+    })
+}
+
+#[cycle(lend)]
+fn lend_items<'a>(alloc: Global, trees: &'a [Tree]) -> Result<Vec<LentTree<'a>>, AllocError>
+    ensures { IfOk result (λ v. map lent_tree_view v.items ≡ map tree_view trees.now) }
+{
+    let mut items = Vec::with_capacity(alloc, trees.len())?;
+    for tree in trees {
+        items.push(LentTree::lend(alloc, tree)?)?;
+    }
+    Ok(items)
+}
+
+/// The content of this text alone.
+fn own_text(alloc: Global, text: &str) -> Result<Content, AllocError>
+    ensures { IfOk result (λ c. content_view c ≡ only_text text.now) }
+{
+    let mut items = Vec::with_capacity(alloc, 1)?;
+    items.push(Tree::Text(String::from_str(alloc, text)?))?;
+    let attrs = Vec::new(alloc);
+    Ok(Content { attrs, items })
+}
+
+#[cycle(own)]
+fn own_row(alloc: Global, row: &LentRow<'_>) -> Result<Content, AllocError>
+    ensures { IfOk result (λ c. content_view c ≡ lent_row_view row.now) }
+{
+    Ok(Content {
+        attrs: copy_attrs(alloc, &row.attrs)?,
+        items: own_items(alloc, &row.items)?,
+    })
+}
+
+#[cycle(own)]
+fn own_items(alloc: Global, items: &[LentTree<'_>]) -> Result<Vec<Tree>, AllocError>
+    ensures { IfOk result (λ v. map tree_view v.items ≡ map lent_tree_view items.now) }
+{
+    let mut trees = Vec::with_capacity(alloc, items.len())?;
+    for item in items {
+        trees.push(item.own(alloc)?)?;
+    }
+    Ok(trees)
+}
