@@ -3,17 +3,16 @@ use Rattle.std.proofs.Common.{◌≡◌, ℕ, ◌+◌, ◌-◌, ◌<◌, ◌≤�
 use Rattle.std.proofs.lemmas.List.{map-append, length-map, drop_at, take_at}
 use Rattle.json.specs.Lex.{after_value, comma, token}
 use Rattle.json.specs.Token.{Token, end_array, begin_array}
-use Rattle.jsonml_tree.specs.Data.{PlainAttr, PlainTree, text, element, content, PlainTrees, no_trees, tree, trees_of, tree_depth, content_depth, trees_depth}
+use Rattle.jsonml_tree.specs.Data.{PlainAttr, PlainTree, text, element, PlainContent, content, PlainTrees, no_trees, tree, trees_of, tree_depth, content_depth, trees_depth}
 use Rattle.jsonml_tree.specs.Fits.{all_items_fit}
-use Rattle.jsonml_tree.specs.View.{tree_view, content_view}
+use Rattle.jsonml_tree.specs.LentView.{only_text, lent_tree_view}
 use Rattle.jsonml_tree.specs.WellFormed.{are_well_formed}
-use Rattle.jsonml_tree.specs.declared.tree.Content.{Content}
-use Rattle.jsonml_tree.specs.declared.tree.Tree.{Tree}
+use Rattle.jsonml_tree.specs.declared.lent.LentTree.{LentTree}
 use Rattle.jsonml_text.specs.Kept.{IsKept, IsContentKept, AreAttrsKept}
 use Rattle.jsonml_text.specs.Straight.{lexemes, tokens_from, HasLexeme, HasString, HasTree, HasItems, HasContent}
 use Rattle.jsonml_text.specs.Pushed.{trees_before, depth_of, PushesTree, ReadsContent, ReadsItems, HasPushed}
 use Rattle.jsonml_text.proofs.Keeping.{well_formed_push, fit_push, IsContentKept-parts}
-use Rattle.jsonml_text.proofs.Straightness.{HasTree-text, HasTree-element, HasItems-more, HasItems-end, comma_passed, bracket_passed}
+use Rattle.jsonml_text.proofs.Straightness.{HasTree-text, HasTree-element, HasItems-more, HasItems-end, HasContent-items, comma_passed, bracket_passed}
 
 before-push : (ts : List PlainTree) (t : PlainTree) (us : PlainTrees) → trees_before ts (tree t us) ≡ trees_before (ts ++ t ∷ []) us
 before-push [] t us = refl
@@ -27,7 +26,7 @@ depth-push : (ts : List PlainTree) (t : PlainTree) (n : ℕ) → trees_depth (tr
 depth-push [] t n h k = omega arith
 depth-push (u ∷ ts) t n h k = omega (arith, depth-push ts t n (omega arith) k)
 
-pub PushesTree-text : (levels : ℕ) (d : List ℕ) (at : ℕ) (old new : List Tree) (pushed : Tree) (s : List ℕ) (next : ℕ) → new ≡ old ++ pushed ∷ [] → tree_view pushed ≡ text s → HasString d at s next → PushesTree levels d at old new next
+pub PushesTree-text : (levels : ℕ) (d : List ℕ) (at : ℕ) (old new : List LentTree) (pushed : LentTree) (s : List ℕ) (next : ℕ) → new ≡ old ++ pushed ∷ [] → lent_tree_view pushed ≡ text s → HasString d at s next → PushesTree levels d at old new next
 PushesTree-text levels d at old new pushed s next waits is h =
     record {
       pushed = pushed;
@@ -37,7 +36,7 @@ PushesTree-text levels d at old new pushed s next waits is h =
       shallow = omega (arith, ap tree_depth is);
     }
 
-pub HasPushed-none : (levels : ℕ) (d : List ℕ) (at : ℕ) (old : List Tree) → HasPushed levels d at old old at
+pub HasPushed-none : (levels : ℕ) (d : List ℕ) (at : ℕ) (old : List LentTree) → HasPushed levels d at old old at
 HasPushed-none levels d at old =
     record {
       pushed = [];
@@ -49,12 +48,12 @@ HasPushed-none levels d at old =
       later = omega arith;
     }
 
-pub HasPushed-more : (levels : ℕ) (d : List ℕ) (at : ℕ) (old now new : List Tree) (end mid next : ℕ) → HasPushed levels d at old now end → HasLexeme d end comma (end + 1) → lexemes d mid ≡ lexemes d (end + 1) → end + 1 ≤ mid → PushesTree levels d mid now new next
+pub HasPushed-more : (levels : ℕ) (d : List ℕ) (at : ℕ) (old now new : List LentTree) (end mid next : ℕ) → HasPushed levels d at old now end → HasLexeme d end comma (end + 1) → lexemes d mid ≡ lexemes d (end + 1) → end + 1 ≤ mid → PushesTree levels d mid now new next
     → HasPushed levels d at old new next
 HasPushed-more levels d at old now new end mid next h sign same le more =
-    let t = tree_view more.pushed in
-    let done = map tree_view h.pushed in
-    let seen : done ++ t ∷ [] ≡ map tree_view (h.pushed ++ more.pushed ∷ []) = sym (map-append tree_view h.pushed (more.pushed ∷ [])) in
+    let t = lent_tree_view more.pushed in
+    let done = map lent_tree_view h.pushed in
+    let seen : done ++ t ∷ [] ≡ map lent_tree_view (h.pushed ++ more.pushed ∷ []) = sym (map-append lent_tree_view h.pushed (more.pushed ∷ [])) in
     record {
       pushed = h.pushed ++ more.pushed ∷ [];
       wait = more.waits ∙ ap (λ l. l ++ more.pushed ∷ []) h.wait ∙ append_assoc old h.pushed (more.pushed ∷ []);
@@ -67,46 +66,66 @@ HasPushed-more levels d at old now new end mid next h sign same le more =
       later = omega (arith, h.later, more.reads.later);
     }
 
-pub ReadsItems-end : (levels : ℕ) (d : List ℕ) (at : ℕ) (old now new items : List Tree) (waiting end next : ℕ) → (h : HasPushed levels d at old now end) → HasLexeme d end (token end_array) (end + 1) → lexemes d next ≡ lexemes d (end + 1) → end + 1 ≤ next → next ≤ length d
+pub ReadsItems-end : (levels : ℕ) (d : List ℕ) (at : ℕ) (old now new items : List LentTree) (waiting end next : ℕ) → (h : HasPushed levels d at old now end) → HasLexeme d end (token end_array) (end + 1) → lexemes d next ≡ lexemes d (end + 1) → end + 1 ≤ next → next ≤ length d
     → waiting ≡ length old → items ≡ drop waiting now → new ≡ take waiting now → length items ≤ 4294967295 → ReadsItems levels d at old new items next
 ReadsItems-end levels d at old now new items waiting end next h sign same le within many taken left few =
     let these : items ≡ h.pushed = taken ∙ ap (drop waiting) h.wait ∙ drop_at old h.pushed waiting (sym many) in
-    let views = ap (map tree_view) (sym these) in
+    let views = ap (map lent_tree_view) (sym these) in
     record {
       same = left ∙ ap (take waiting) h.wait ∙ take_at old h.pushed waiting (sym many);
-      reads = subst (λ us. HasItems (depth_of levels) d at us (tokens_from after_value d next)) (before-none (map tree_view h.pushed) ∙ ap trees_of views)
+      reads = subst (λ us. HasItems (depth_of levels) d at us (tokens_from after_value d next)) (before-none (map lent_tree_view h.pushed) ∙ ap trees_of views)
           (h.reads no_trees (tokens_from after_value d next) (HasItems-end (depth_of levels) d end (tokens_from after_value d next) (bracket_passed d end next sign same)));
       kept = record {
         well_formed = subst (λ l. IsTrue (are_well_formed (trees_of l))) views h.well_formed;
         fit = subst (λ l. IsTrue (all_items_fit (trees_of l))) views h.fit;
-        few = omega (arith, length-map items tree_view);
+        few = omega (arith, length-map items lent_tree_view);
       };
       shallow = subst (λ l. trees_depth (trees_of l) ≤ levels) views h.shallow;
       later = omega (arith, h.later);
       within = within;
     }
 
-pub PushesTree-element : (levels : ℕ) (d : List ℕ) (at named inside : ℕ) (old now new : List Tree) (pushed : Tree) (tag : List ℕ) (c : Content) (next : ℕ) → 0 < levels → HasLexeme d at (token begin_array) (at + 1) → lexemes d named ≡ lexemes d (at + 1)
-    → HasString d named tag inside → ReadsContent (levels - 1) d inside old now c next → at < named → new ≡ now ++ pushed ∷ [] → tree_view pushed ≡ element tag (content_view c) → PushesTree levels d at old new next
+pub PushesTree-element : (levels : ℕ) (d : List ℕ) (at named inside : ℕ) (old now new : List LentTree) (pushed : LentTree) (tag : List ℕ) (c : PlainContent) (next : ℕ) → 0 < levels → HasLexeme d at (token begin_array) (at + 1) → lexemes d named ≡ lexemes d (at + 1)
+    → HasString d named tag inside → ReadsContent (levels - 1) d inside old now c next → at < named → new ≡ now ++ pushed ∷ [] → lent_tree_view pushed ≡ element tag c → PushesTree levels d at old new next
 PushesTree-element levels d at named inside old now new pushed tag c next some sign same h k after waits is =
     let deep : depth_of levels ≡ depth_of (levels - 1) + 1 = omega arith in
     record {
       pushed = pushed;
       waits = waits ∙ ap (λ l. l ++ pushed ∷ []) k.same;
       reads = subst (λ t. HasTree (depth_of levels) d at t next) (sym is)
-          (HasTree-element (depth_of levels) (depth_of (levels - 1)) d at (at + 1) named tag inside (content_view c) next deep sign same h k.reads (omega (arith, h.later, k.later)) k.within);
+          (HasTree-element (depth_of levels) (depth_of (levels - 1)) d at (at + 1) named tag inside c next deep sign same h k.reads (omega (arith, h.later, k.later)) k.within);
       kept = subst IsKept (sym is) (record { well_formed = k.kept.well_formed; fits = k.kept.fits });
       shallow = omega (arith, ap tree_depth is, k.shallow);
     }
 
-pub ReadsContent-parts : (levels : ℕ) (d : List ℕ) (at begun : ℕ) (old new items : List Tree) (c : Content) (xs : List PlainAttr) (next : ℕ) → content_view c ≡ content xs (trees_of (map tree_view items)) → AreAttrsKept xs → at ≤ begun
+-- a text behind a tag, and the end of its element
+pub HasContent-text : (depth : ℕ) (d : List ℕ) (at mid : ℕ) (s : List ℕ) (end next : ℕ) → HasLexeme d at comma (at + 1) → lexemes d mid ≡ lexemes d (at + 1) → HasString d mid s end → HasLexeme d end (token end_array) (end + 1)
+    → lexemes d next ≡ lexemes d (end + 1) → HasContent depth d at (only_text s) (tokens_from after_value d next)
+HasContent-text depth d at mid s end next sign same h close again =
+    let rest = tokens_from after_value d next in
+    HasContent-items depth d at (tree (text s) no_trees) rest
+    (HasItems-more depth d at mid (text s) end no_trees rest (comma_passed d at mid sign same) (HasTree-text depth d mid s end h) (HasItems-end depth d end rest (bracket_passed d end next close again)))
+
+pub ReadsContent-text : (levels : ℕ) (d : List ℕ) (at : ℕ) (old : List LentTree) (s : List ℕ) (next : ℕ) → ((depth : ℕ) → HasContent depth d at (only_text s) (tokens_from after_value d next)) → at < next → next ≤ length d
+    → ReadsContent levels d at old old (only_text s) next
+ReadsContent-text levels d at old s next h later within =
+    record {
+      same = refl;
+      reads = h (depth_of levels);
+      kept = record { well_formed = refl; fits = refl };
+      shallow = omega arith;
+      later = later;
+      within = within;
+    }
+
+pub ReadsContent-parts : (levels : ℕ) (d : List ℕ) (at begun : ℕ) (old new items : List LentTree) (c : PlainContent) (xs : List PlainAttr) (next : ℕ) → c ≡ content xs (trees_of (map lent_tree_view items)) → AreAttrsKept xs → at ≤ begun
     → ((depth : ℕ) (ts : PlainTrees) (rest : List Token) → 0 < depth → HasItems depth d begun ts rest → HasContent depth d at (content xs ts) rest) → ReadsItems levels d begun old new items next → ReadsContent levels d at old new c next
 ReadsContent-parts levels d at begun old new items c xs next is kept le whole h =
-    let ts = trees_of (map tree_view items) in
+    let ts = trees_of (map lent_tree_view items) in
     record {
       same = h.same;
       reads = subst (λ x. HasContent (depth_of levels) d at x (tokens_from after_value d next)) (sym is) (whole (depth_of levels) ts (tokens_from after_value d next) (omega arith) h.reads);
-      kept = subst IsContentKept (sym is) (IsContentKept-parts xs (map tree_view items) kept h.kept);
+      kept = subst IsContentKept (sym is) (IsContentKept-parts xs (map lent_tree_view items) kept h.kept);
       shallow = omega (arith, ap content_depth is, h.shallow);
       later = omega (arith, h.later);
       within = h.within;

@@ -8,12 +8,9 @@ use Rattle.xa_outside.specs.Taken.{Taken, Takes}
 use Rattle.xa_outside.proofs.Output.{Takes-trans}
 use Rattle.xa_outside.specs.Taken.{TakesPrefix}
 use Rattle.xa_outside.proofs.Output.{TakesPrefix-after, TakesPrefix-more}
-use Rattle.jsonml_tree.specs.Data.{tree_depth, content_depth, trees_depth}
-use Rattle.jsonml_tree.specs.View.{attr_view, tree_view, content_view, items_view}
+use Rattle.jsonml_tree.specs.Data.{PlainAttr, PlainTree, PlainContent, content, trees_of, tree_depth, content_depth, trees_depth}
+use Rattle.jsonml_tree.specs.View.{attr_view}
 use Rattle.jsonml_tree.specs.declared.scalar.Attr.{Attr}
-use Rattle.jsonml_tree.specs.declared.tree.Tree.{Tree}
-use Rattle.jsonml_tree.specs.declared.tree.Content.{Content}
-use Rattle.jsonml_tree.proofs.Trees.{content_view-is}
 use Rattle.jsonml_text.specs.Pen.{Pen}
 use Rattle.jsonml_text.specs.Calls.{Call, attribute, after, piece, printed, reached, AllMayCome, Prints, calls_of, content_calls, items_calls}
 
@@ -105,26 +102,28 @@ pub attrs_calls-is : (xs : List Attr) → flat_map (λ x. attribute (attr_view x
 attrs_calls-is [] = refl
 attrs_calls-is (x ∷ xs) = ap (λ l. attribute (attr_view x) ∷ l) (attrs_calls-is xs)
 
-pub items_calls-is : (ts : List Tree) → flat_map (λ t. calls_of (tree_view t)) ts ≡ items_calls (items_view ts)
-items_calls-is [] = refl
-items_calls-is (t ∷ ts) = ap (λ l. calls_of (tree_view t) ++ l) (items_calls-is ts)
+-- the same of trees of either kind, which are seen through a view
+module _ {X : Type 0} (view : X → PlainTree) where
+  items_calls-is : (ts : List X) → flat_map (λ t. calls_of (view t)) ts ≡ items_calls (trees_of (map view ts))
+  items_calls-is [] = refl
+  items_calls-is (t ∷ ts) = ap (λ l. calls_of (view t) ++ l) (items_calls-is ts)
 
-pub content_calls-is : (c : Content) (xs : List Attr) (ts : List Tree) → xs ≡ c.attrs.items → ts ≡ c.items.items
-    → content_calls (content_view c) ≡ flat_map (λ x. attribute (attr_view x) ∷ []) xs ++ flat_map (λ t. calls_of (tree_view t)) ts
-content_calls-is c xs ts e f =
-    ap content_calls (content_view-is c)
-    ∙ ap (λ l. l ++ items_calls (items_view c.items.items)) (sym (attrs_calls-is c.attrs.items) ∙ ap (flat_map (λ x. attribute (attr_view x) ∷ [])) (sym e))
-    ∙ ap (λ l. flat_map (λ x. attribute (attr_view x) ∷ []) xs ++ l) (sym (items_calls-is c.items.items) ∙ ap (flat_map (λ t. calls_of (tree_view t))) (sym f))
+  pub content_calls-is : (c : PlainContent) (xs ys : List Attr) (ts us : List X) → c ≡ content (map attr_view ys) (trees_of (map view us)) → xs ≡ ys → ts ≡ us
+      → content_calls c ≡ flat_map (λ x. attribute (attr_view x) ∷ []) xs ++ flat_map (λ t. calls_of (view t)) ts
+  content_calls-is c xs ys ts us is e f =
+      ap content_calls is
+      ∙ ap (λ l. l ++ items_calls (trees_of (map view us))) (sym (attrs_calls-is ys) ∙ ap (flat_map (λ x. attribute (attr_view x) ∷ [])) (sym e))
+      ∙ ap (λ l. flat_map (λ x. attribute (attr_view x) ∷ []) xs ++ l) (sym (items_calls-is us) ∙ ap (flat_map (λ t. calls_of (view t))) (sym f))
 
-pub content_depth-is : (c : Content) (ts : List Tree) → ts ≡ c.items.items → content_depth (content_view c) ≡ trees_depth (items_view ts)
-content_depth-is c ts e = ap content_depth (content_view-is c) ∙ ap (λ l. trees_depth (items_view l)) (sym e)
+  pub content_depth-is : (c : PlainContent) (xs : List PlainAttr) (ts us : List X) → c ≡ content xs (trees_of (map view us)) → ts ≡ us → content_depth c ≡ trees_depth (trees_of (map view ts))
+  content_depth-is c xs ts us is e = ap content_depth is ∙ ap (λ l. trees_depth (trees_of (map view l))) (sym e)
 
--- an item nests no deeper than all that are left, and these no deeper than before
-pub rest_depth-le : (ts : List Tree) (i : ℕ) (d : Tree) → i < length ts → trees_depth (items_view (drop (i + 1) ts)) ≤ trees_depth (items_view (drop i ts))
-rest_depth-le ts i d within = omega (arith, ap (λ l. trees_depth (items_view l)) (drop-cons ts i d within), ap (λ n. trees_depth (items_view (drop n ts))) (add-one i))
+  -- an item nests no deeper than all that are left, and these no deeper than before
+  pub rest_depth-le : (ts : List X) (i : ℕ) (d : X) → i < length ts → trees_depth (trees_of (map view (drop (i + 1) ts))) ≤ trees_depth (trees_of (map view (drop i ts)))
+  rest_depth-le ts i d within = omega (arith, ap (λ l. trees_depth (trees_of (map view l))) (drop-cons ts i d within), ap (λ n. trees_depth (trees_of (map view (drop n ts)))) (add-one i))
 
-pub item_depth-le : (ts : List Tree) (i : ℕ) (t : Tree) → i < length ts → t ≡ get_or ts i t → trees_depth (items_view (drop i ts)) ≤ trees_depth (items_view ts) → tree_depth (tree_view t) ≤ trees_depth (items_view ts)
-item_depth-le ts i t within is shallow = omega (arith, ap (λ u. tree_depth (tree_view u)) is, ap (λ l. trees_depth (items_view l)) (drop-cons ts i t within), shallow)
+  pub item_depth-le : (ts : List X) (i : ℕ) (t : X) → i < length ts → t ≡ get_or ts i t → trees_depth (trees_of (map view (drop i ts))) ≤ trees_depth (trees_of (map view ts)) → tree_depth (view t) ≤ trees_depth (trees_of (map view ts))
+  item_depth-le ts i t within is shallow = omega (arith, ap (λ u. tree_depth (view u)) is, ap (λ l. trees_depth (trees_of (map view l))) (drop-cons ts i t within), shallow)
 
 -- for callers: several calls, one list after another
 pub ruleset walks = (printed-append, reached-append, AllMayCome-append, AllMayCome-front, AllMayCome-back, Prints-after, Prints-failed)

@@ -2,12 +2,11 @@
 use Rattle.std.specs.Prelude.{◌≡◌, ℕ, ◌+◌, ◌<◌, ◌≤◌, List, [], ◌∷◌, ◌++◌, length, map, IsTrue}
 use Rattle.json.specs.Lex.{after_value}
 use Rattle.json.specs.Token.{Token}
-use Rattle.jsonml_tree.specs.Data.{PlainTree, PlainTrees, tree, trees_of, tree_depth, content_depth, trees_depth}
+use Rattle.jsonml_tree.specs.Data.{PlainTree, PlainContent, PlainTrees, tree, trees_of, tree_depth, content_depth, trees_depth}
 use Rattle.jsonml_tree.specs.Fits.{all_items_fit}
 use Rattle.jsonml_tree.specs.WellFormed.{are_well_formed}
-use Rattle.jsonml_tree.specs.View.{tree_view, content_view}
-use Rattle.jsonml_tree.specs.declared.tree.Content.{Content}
-use Rattle.jsonml_tree.specs.declared.tree.Tree.{Tree}
+use Rattle.jsonml_tree.specs.LentView.{lent_tree_view}
+use Rattle.jsonml_tree.specs.declared.lent.LentTree.{LentTree}
 use Rattle.jsonml_text.specs.Kept.{IsKept, IsContentKept, AreKept}
 use Rattle.jsonml_text.specs.Straight.{tokens_from, HasTree, HasContent, HasItems}
 
@@ -21,37 +20,37 @@ abbrev pub depth_of : ℕ → ℕ
 depth_of levels = levels + 7
 
 -- one more tree waits, which stands from an offset to the next
-pub record PushesTree (levels : ℕ) (text : List ℕ) (at : ℕ) (old new : List Tree) (next : ℕ) : Type 0 where
-  pub pushed : Tree
+pub record PushesTree (levels : ℕ) (text : List ℕ) (at : ℕ) (old new : List LentTree) (next : ℕ) : Type 0 where
+  pub pushed : LentTree
   pub waits : new ≡ old ++ pushed ∷ []
-  pub reads : HasTree (depth_of levels) text at (tree_view pushed) next
-  pub kept : IsKept (tree_view pushed)
-  pub shallow : tree_depth (tree_view pushed) ≤ levels
+  pub reads : HasTree (depth_of levels) text at (lent_tree_view pushed) next
+  pub kept : IsKept (lent_tree_view pushed)
+  pub shallow : tree_depth (lent_tree_view pushed) ≤ levels
 
 -- this content stands behind a tag; the trees that wait are the same
-pub record ReadsContent (levels : ℕ) (text : List ℕ) (at : ℕ) (old new : List Tree) (c : Content) (next : ℕ) : Type 0 where
+pub record ReadsContent (levels : ℕ) (text : List ℕ) (at : ℕ) (old new : List LentTree) (c : PlainContent) (next : ℕ) : Type 0 where
   pub same : new ≡ old
-  pub reads : HasContent (depth_of levels) text at (content_view c) (tokens_from after_value text next)
-  pub kept : IsContentKept (content_view c)
-  pub shallow : content_depth (content_view c) ≤ levels
+  pub reads : HasContent (depth_of levels) text at c (tokens_from after_value text next)
+  pub kept : IsContentKept c
+  pub shallow : content_depth c ≤ levels
   pub later : at < next
   pub within : next ≤ length text
 
 -- these items stand up to the end of their element
-pub record ReadsItems (levels : ℕ) (text : List ℕ) (at : ℕ) (old new items : List Tree) (next : ℕ) : Type 0 where
+pub record ReadsItems (levels : ℕ) (text : List ℕ) (at : ℕ) (old new items : List LentTree) (next : ℕ) : Type 0 where
   pub same : new ≡ old
-  pub reads : HasItems (depth_of levels) text at (trees_of (map tree_view items)) (tokens_from after_value text next)
-  pub kept : AreKept (map tree_view items)
-  pub shallow : trees_depth (trees_of (map tree_view items)) ≤ levels
+  pub reads : HasItems (depth_of levels) text at (trees_of (map lent_tree_view items)) (tokens_from after_value text next)
+  pub kept : AreKept (map lent_tree_view items)
+  pub shallow : trees_depth (trees_of (map lent_tree_view items)) ≤ levels
   pub later : at < next
   pub within : next ≤ length text
 
 -- the same of the items up to some offset
-pub record HasPushed (levels : ℕ) (text : List ℕ) (at : ℕ) (old now : List Tree) (end : ℕ) : Type 0 where
-  pub pushed : List Tree
+pub record HasPushed (levels : ℕ) (text : List ℕ) (at : ℕ) (old now : List LentTree) (end : ℕ) : Type 0 where
+  pub pushed : List LentTree
   pub wait : now ≡ old ++ pushed
-  pub reads : (ts : PlainTrees) (rest : List Token) → HasItems (depth_of levels) text end ts rest → HasItems (depth_of levels) text at (trees_before (map tree_view pushed) ts) rest
-  pub well_formed : IsTrue (are_well_formed (trees_of (map tree_view pushed)))
-  pub fit : IsTrue (all_items_fit (trees_of (map tree_view pushed)))
-  pub shallow : trees_depth (trees_of (map tree_view pushed)) ≤ levels
+  pub reads : (ts : PlainTrees) (rest : List Token) → HasItems (depth_of levels) text end ts rest → HasItems (depth_of levels) text at (trees_before (map lent_tree_view pushed) ts) rest
+  pub well_formed : IsTrue (are_well_formed (trees_of (map lent_tree_view pushed)))
+  pub fit : IsTrue (all_items_fit (trees_of (map lent_tree_view pushed)))
+  pub shallow : trees_depth (trees_of (map lent_tree_view pushed)) ≤ levels
   pub later : at ≤ end

@@ -1,6 +1,7 @@
 ghost use Rattle.std.specs.Prelude.{◌≡◌, ◌≤◌, IfOk, IfErr, IfSome, Some, IsTrue, option_map, length, map};
 ghost use Rattle.serde_json.specs.View.{view as data_of, items_view};
 ghost use Rattle.jsonml_tree.specs.Data.{tree_depth};
+ghost use Rattle.jsonml_tree.specs.LentView.{lent_tree_view};
 ghost use Rattle.jsonml_tree.specs.View.{tree_view, content_view};
 ghost use Rattle.jsonml_tree.specs.WellFormed.{IsWellFormed, is_content_well_formed};
 ghost use Rattle.jsonml_text.specs.Reading.{reading, less_lf};
@@ -15,7 +16,7 @@ use crate::level::finds_too_deep;
 use crate::read::{read_content, read_root};
 use crate::stop::Stop;
 use crate::straight::read_straight;
-use jsonml_tree::{Content, Place, Tree};
+use jsonml_tree::{Content, LentTree, Place, Tree};
 use serde_json::Value;
 use std::alloc::{AllocError, Global};
 
@@ -36,18 +37,38 @@ pub fn read_document(alloc: Global, bytes: &[u8]) -> Result<Tree, DocFault>
     ensures items_fit { IfOk result (λ t. ItemsFit (tree_view t)) }
 {
     match read_plainly(alloc, bytes) {
-        Some(tree) => Ok(tree),
+        Some(tree) => Ok(tree.own(alloc)?),
         None => read_by_value(alloc, bytes),
+    }
+}
+
+/// The same document, whose texts are lent by the bytes.
+///
+/// A text with escapes is a copy, and so is every text of a document that is written in a rare way.
+pub fn lend_document<'a>(alloc: Global, bytes: &'a [u8]) -> Result<LentTree<'a>, DocFault>
+    requires { length bytes.now ≤ 67108864 }
+    ensures document { IfOk result (λ t. doc bytes.now ≡ Ok (lent_tree_view t)) }
+    ensures refused { IfErr result (λ f. IfSome (refusal_of f) (λ r. doc bytes.now ≡ Err r)) }
+
+    // What every document is.
+    ensures element { IfOk result (λ t. IsElement (lent_tree_view t)) }
+    ensures well_formed { IfOk result (λ t. IsWellFormed (lent_tree_view t)) }
+    ensures shallow { IfOk result (λ t. tree_depth (lent_tree_view t) ≤ 120) }
+    ensures items_fit { IfOk result (λ t. ItemsFit (lent_tree_view t)) }
+{
+    match read_plainly(alloc, bytes) {
+        Some(tree) => Ok(tree),
+        None => Ok(LentTree::keep(alloc, &read_by_value(alloc, bytes)?)?),
     }
 }
 
 /// The document of some bytes that are written in a usual way.
 #[tactic(auto, using(crate::proofs::Readings::readings))]
-fn read_plainly(alloc: Global, bytes: &[u8]) -> Option<Tree>
-    ensures document { IfSome result (λ t. doc bytes.now ≡ Ok (tree_view t)) }
-    ensures element { IfSome result (λ t. IsElement (tree_view t)) }
-    ensures kept { IfSome result (λ t. IsKept (tree_view t)) }
-    ensures shallow { IfSome result (λ t. tree_depth (tree_view t) ≤ 120) }
+fn read_plainly<'a>(alloc: Global, bytes: &'a [u8]) -> Option<LentTree<'a>>
+    ensures document { IfSome result (λ t. doc bytes.now ≡ Ok (lent_tree_view t)) }
+    ensures element { IfSome result (λ t. IsElement (lent_tree_view t)) }
+    ensures kept { IfSome result (λ t. IsKept (lent_tree_view t)) }
+    ensures shallow { IfSome result (λ t. tree_depth (lent_tree_view t) ≤ 120) }
 {
     let text = str::from_utf8(without_line_feed(bytes)).ok()?;
     read_straight(alloc, text)

@@ -62,6 +62,7 @@ fn read_attribute(
 {
     let (name, begun) = read_key(alloc, text, at, scratch)?;
     let (value, next) = read_scalar(alloc, text, begun, scratch)?;
+    let name = name.into_owned(alloc).ok()?;
     Some((Attr { name, value }, next))
 }
 

@@ -8,7 +8,7 @@ ghost use Rattle.jsonml_text.specs.Pen.{takes_attribute};
 ghost use Rattle.jsonml_text.specs.Calls.{item_lead, attribute_lead, brace};
 
 use crate::last::Last;
-use crate::quote::write_quoted;
+use crate::quote::{write_behind_quote, write_quoted};
 use itoa::Buffer;
 use jsonml_tree::Scalar;
 use xa_outside::{Failed, Sink, put_all};
@@ -79,8 +79,20 @@ pub(crate) fn write_text<K: Sink>(last: Last, text: &str, sink: &mut K) -> Resul
     ensures bytes { Puts (K.taken sink.old) (K.taken sink.new) result (item_lead last ++ quoted text.now) }
     ensures cause { HasCause (K.faults sink.old) (K.faults sink.new) result }
 {
-    write_lead(last, sink)?;
-    write_quoted(text, sink)
+    write_text_lead(last, sink)?;
+    write_behind_quote(text, sink)
+}
+
+/// Writes what comes before a text, and its first quote, in one piece.
+fn write_text_lead<K: Sink>(last: Last, sink: &mut K) -> Result<(), Failed>
+    ensures bytes { Puts (K.taken sink.old) (K.taken sink.new) result (item_lead last ++ 34 ∷ []) }
+    ensures cause { HasCause (K.faults sink.old) (K.faults sink.new) result }
+{
+    match last {
+        Last::Nothing => put_all(sink, b"\""),
+        Last::Begun | Last::Item => put_all(sink, b",\""),
+        Last::Attribute => put_all(sink, b"},\""),
+    }
 }
 
 /// Writes the beginning of an element.
@@ -88,16 +100,20 @@ pub(crate) fn write_begin<K: Sink>(last: Last, tag: &str, sink: &mut K) -> Resul
     ensures bytes { Puts (K.taken sink.old) (K.taken sink.new) result (item_lead last ++ (91 ∷ quoted tag.now)) }
     ensures cause { HasCause (K.faults sink.old) (K.faults sink.new) result }
 {
-    write_lead(last, sink)?;
-    write_tag(tag, sink)
+    write_begin_lead(last, sink)?;
+    write_behind_quote(tag, sink)
 }
 
-fn write_tag<K: Sink>(tag: &str, sink: &mut K) -> Result<(), Failed>
-    ensures bytes { Puts (K.taken sink.old) (K.taken sink.new) result (91 ∷ quoted tag.now) }
+/// Writes what comes before an element, its bracket, and the first quote of its tag, in one piece.
+fn write_begin_lead<K: Sink>(last: Last, sink: &mut K) -> Result<(), Failed>
+    ensures bytes { Puts (K.taken sink.old) (K.taken sink.new) result (item_lead last ++ 91 ∷ 34 ∷ []) }
     ensures cause { HasCause (K.faults sink.old) (K.faults sink.new) result }
 {
-    put_all(sink, b"[")?;
-    write_quoted(tag, sink)
+    match last {
+        Last::Nothing => put_all(sink, b"[\""),
+        Last::Begun | Last::Item => put_all(sink, b",[\""),
+        Last::Attribute => put_all(sink, b"},[\""),
+    }
 }
 
 /// Writes the end of an element.
@@ -108,17 +124,5 @@ pub(crate) fn write_end<K: Sink>(last: Last, sink: &mut K) -> Result<(), Failed>
     match last {
         Last::Attribute => put_all(sink, b"}]"),
         _ => put_all(sink, b"]"),
-    }
-}
-
-/// Writes what comes before an item.
-fn write_lead<K: Sink>(last: Last, sink: &mut K) -> Result<(), Failed>
-    ensures bytes { Puts (K.taken sink.old) (K.taken sink.new) result (item_lead last) }
-    ensures cause { HasCause (K.faults sink.old) (K.faults sink.new) result }
-{
-    match last {
-        Last::Nothing => Ok(()),
-        Last::Begun | Last::Item => put_all(sink, b","),
-        Last::Attribute => put_all(sink, b"},"),
     }
 }

@@ -1,4 +1,4 @@
-ghost use Rattle.std.specs.Prelude.{◌≡◌, ◌∷◌, [], ◌<◌, ◌≤◌, length, take, MatchResult, IfOk};
+ghost use Rattle.std.specs.Prelude.{◌≡◌, ◌++◌, ◌∷◌, [], ◌<◌, ◌≤◌, length, take, MatchResult, IfOk};
 ghost use Rattle.std.specs.Bool.{OnFalse};
 ghost use Rattle.std.specs.Char.{digit_char};
 ghost use Rattle.xa_outside.specs.Taken.{Takes};
@@ -14,6 +14,14 @@ pub(crate) fn write_quoted<K: Sink>(text: &str, sink: &mut K) -> Result<(), Fail
     ensures cause { HasCause (K.faults sink.old) (K.faults sink.new) result }
 {
     put_all(sink, b"\"")?;
+    write_behind_quote(text, sink)
+}
+
+/// Writes what stands behind the first quote of a text as a JSON string.
+pub(crate) fn write_behind_quote<K: Sink>(text: &str, sink: &mut K) -> Result<(), Failed>
+    ensures bytes { Puts (K.taken sink.old) (K.taken sink.new) result (escape text.now ++ 34 ∷ []) }
+    ensures cause { HasCause (K.faults sink.old) (K.faults sink.new) result }
+{
     write_escaped(text.as_bytes(), sink)?;
     put_all(sink, b"\"")
 }

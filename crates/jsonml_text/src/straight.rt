@@ -1,22 +1,26 @@
-ghost use Rattle.std.specs.Prelude.{◌≡◌, ℕ, ◌+◌, ◌<◌, ◌≤◌, IfSome, List, map, Ok};
+ghost use Rattle.std.specs.Prelude.{◌≡◌, ℕ, ◌+◌, ◌<◌, ◌≤◌, IfSome, List, length, map, Ok};
+ghost use Rattle.std.specs.Bool.{OnFalse};
+ghost use Rattle.std.specs.Cow.{cow_str_bytes};
 ghost use Rattle.json.specs.Lex.{after_value, token};
 ghost use Rattle.json.specs.Token.{Token, begin_array};
 ghost use Rattle.serde_json.specs.Read.{read};
 ghost use Rattle.jsonml_tree.specs.Data.{PlainTrees, content, tree_depth};
 ghost use Rattle.jsonml_tree.specs.Fits.{IsElement};
-ghost use Rattle.jsonml_tree.specs.View.{attr_view, tree_view};
+ghost use Rattle.jsonml_tree.specs.LentView.{only_text, lent_tree_view, lent_row_view};
+ghost use Rattle.jsonml_tree.specs.View.{attr_view};
 ghost use Rattle.jsonml_text.specs.Document.{of_value};
 ghost use Rattle.jsonml_text.specs.Kept.{AreAttrsKept, IsKept};
 ghost use Rattle.jsonml_text.specs.Pushed.{PushesTree, ReadsContent, ReadsItems};
-ghost use Rattle.jsonml_text.specs.Straight.{HasContent, HasItems, HasLexeme};
+ghost use Rattle.jsonml_text.specs.Straight.{tokens_from, HasContent, HasItems, HasLexeme};
 
 use crate::object::read_attributes;
 use crate::room::Room;
 use crate::scan::{is_sign, skip_blanks};
 use crate::string::read_text;
 use json::Scratch;
-use jsonml_tree::{Attr, Content, Tree};
+use jsonml_tree::{Attr, LentRow, LentTree};
 use std::alloc::Global;
+use std::borrow::CowStr;
 
 /// The greatest level of an element; the root has level 1.
 const LEVELS: usize = 120;
@@ -25,11 +29,11 @@ const LEVELS: usize = 120;
 ///
 /// Nothing where the text is no document, and where it is one that is written in a rare way: a number in another form
 /// than it is printed in, or an object with a name twice or more than 64 names.
-pub(crate) fn read_straight(alloc: Global, text: &str) -> Option<Tree>
-    ensures tree { IfSome result (λ t. of_value (read text.now) ≡ Ok (tree_view t)) }
-    ensures element { IfSome result (λ t. IsElement (tree_view t)) }
-    ensures kept { IfSome result (λ t. IsKept (tree_view t)) }
-    ensures shallow { IfSome result (λ t. tree_depth (tree_view t) ≤ 120) }
+pub(crate) fn read_straight<'a>(alloc: Global, text: &'a str) -> Option<LentTree<'a>>
+    ensures tree { IfSome result (λ t. of_value (read text.now) ≡ Ok (lent_tree_view t)) }
+    ensures element { IfSome result (λ t. IsElement (lent_tree_view t)) }
+    ensures kept { IfSome result (λ t. IsKept (lent_tree_view t)) }
+    ensures shallow { IfSome result (λ t. tree_depth (lent_tree_view t) ≤ 120) }
 {
     let mut room = Room::new(alloc);
     let end = push_item(alloc, text, skip_blanks(text, 0), LEVELS, &mut room)?;
@@ -37,15 +41,28 @@ pub(crate) fn read_straight(alloc: Global, text: &str) -> Option<Tree>
         return None;
     }
     let tree = room.trees.pop()?;
+    if is_text(&tree) { None } else { Some(tree) }
+}
+
+#[tactic(auto, using(jsonml_tree::proofs::LentTrees::lent_trees))]
+fn is_text(tree: &LentTree<'_>) -> bool
+    ensures { OnFalse result (IsElement (lent_tree_view tree.now)) }
+{
     match tree {
-        Tree::Elem { .. } => Some(tree),
-        Tree::Text(_) => None,
+        LentTree::Text(_) => true,
+        LentTree::Leaf { .. } | LentTree::Elem { .. } => false,
     }
 }
 
 /// Reads the text or the element at an offset, puts it behind the trees that wait, and tells where the text goes on.
 #[cycle(straight)]
-fn push_item(alloc: Global, text: &str, at: usize, levels: usize, room: &mut Room) -> Option<usize>
+fn push_item<'a>(
+    alloc: Global,
+    text: &'a str,
+    at: usize,
+    levels: usize,
+    room: &mut Room<'a>,
+) -> Option<usize>
     ensures { IfSome result (λ next. PushesTree levels text.now at room.old.trees.items room.new.trees.items next) }
 {
     if is_sign(text, at, b'[') {
@@ -55,22 +72,22 @@ fn push_item(alloc: Global, text: &str, at: usize, levels: usize, room: &mut Roo
     }
 }
 
-fn push_text(alloc: Global, text: &str, at: usize, room: &mut Room) -> Option<usize>
+fn push_text<'a>(alloc: Global, text: &'a str, at: usize, room: &mut Room<'a>) -> Option<usize>
     ensures { (levels : ℕ) → IfSome result (λ next. PushesTree levels text.now at room.old.trees.items room.new.trees.items next) }
 {
     let (string, next) = read_text(alloc, text, at, b']', &mut room.scratch)?;
-    room.trees.push(Tree::Text(string)).ok()?;
+    room.trees.push(LentTree::Text(string)).ok()?;
     Some(next)
 }
 
 /// The same for an element. Elements nest in it at most so many levels deep, itself among them.
 #[cycle(straight)]
-fn push_element(
+fn push_element<'a>(
     alloc: Global,
-    text: &str,
+    text: &'a str,
     at: usize,
     levels: usize,
-    room: &mut Room,
+    room: &mut Room<'a>,
 ) -> Option<usize>
     requires { HasLexeme text.now at (token begin_array) (at + 1) }
     ensures { IfSome result (λ next. PushesTree levels text.now at room.old.trees.items room.new.trees.items next) }
@@ -80,25 +97,52 @@ fn push_element(
     }
     let named = skip_blanks(text, at + 1);
     let (tag, inside) = read_text(alloc, text, named, b']', &mut room.scratch)?;
-    let (content, next) = read_content(alloc, text, inside, levels - 1, room)?;
-    room.trees.push(Tree::Elem { tag, content }).ok()?;
+    if let Some((held, next)) = text_alone(alloc, text, inside, &mut room.scratch) {
+        room.trees.push(LentTree::Leaf { tag, text: held }).ok()?;
+        return Some(next);
+    }
+    let (row, next) = read_row(alloc, text, inside, levels - 1, room)?;
+    room.trees.push(LentTree::Elem { tag, row }).ok()?;
     Some(next)
 }
 
 /// What stands behind the tag of an element, and where the text goes on behind the element and its blanks.
 #[cycle(straight)]
-fn read_content(
+fn read_row<'a>(
     alloc: Global,
-    text: &str,
+    text: &'a str,
     at: usize,
     levels: usize,
-    room: &mut Room,
-) -> Option<(Content, usize)>
-    ensures { IfSome result (λ r. ReadsContent levels text.now at room.old.trees.items room.new.trees.items r.0 r.1) }
+    room: &mut Room<'a>,
+) -> Option<(LentRow<'a>, usize)>
+    ensures { IfSome result (λ r. ReadsContent levels text.now at room.old.trees.items room.new.trees.items (lent_row_view r.0) r.1) }
 {
     let (attrs, begun) = attributes_behind(alloc, text, at, &mut room.scratch)?;
     let (items, next) = read_items(alloc, text, begun, levels, room)?;
-    Some((Content { attrs, items }, next))
+    Some((LentRow { attrs, items }, next))
+}
+
+/// The text behind a tag, if it is all that its element holds, and where the text goes on behind the element and its blanks.
+fn text_alone<'a>(
+    alloc: Global,
+    text: &'a str,
+    at: usize,
+    scratch: &mut Scratch,
+) -> Option<(CowStr<'a, Global>, usize)>
+    ensures content { IfSome result (λ r. (depth : ℕ) → HasContent depth text.now at (only_text (cow_str_bytes r.0)) (tokens_from after_value text.now r.1)) }
+    ensures later { IfSome result (λ r. at < r.1) }
+    ensures within { IfSome result (λ r. r.1 ≤ length text.now) }
+{
+    if !is_sign(text, at, b',') {
+        return None;
+    }
+    let begun = skip_blanks(text, at + 1);
+    let (held, end) = read_text(alloc, text, begun, b']', scratch)?;
+    if is_sign(text, end, b']') {
+        Some((held, skip_blanks(text, end + 1)))
+    } else {
+        None
+    }
 }
 
 /// The attributes behind a tag, if there are any, and where the text goes on behind them and their blanks.
@@ -125,13 +169,13 @@ fn attributes_behind(
 
 /// The items up to the end of their element, and where the text goes on behind that and its blanks.
 #[cycle(straight)]
-fn read_items(
+fn read_items<'a>(
     alloc: Global,
-    text: &str,
+    text: &'a str,
     at: usize,
     levels: usize,
-    room: &mut Room,
-) -> Option<(Vec<Tree>, usize)>
+    room: &mut Room<'a>,
+) -> Option<(Vec<LentTree<'a>>, usize)>
     ensures { IfSome result (λ r. ReadsItems levels text.now at room.old.trees.items room.new.trees.items r.0.items r.1) }
 {
     let waiting = room.trees.len();

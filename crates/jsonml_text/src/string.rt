@@ -1,4 +1,5 @@
 ghost use Rattle.std.specs.Prelude.{◌≡◌, ◌⊎◌, ◌-◌, ◌<◌, ◌≤◌, length, drop, slice_index, IfSome, string_bytes};
+ghost use Rattle.std.specs.Cow.{cow_str_bytes};
 ghost use Rattle.json.specs.Lex.{token, between, in_string, lex};
 ghost use Rattle.json.specs.Token.{string};
 ghost use Rattle.jsonml_text.specs.Straight.{HasLexeme, HasString, HasKey};
@@ -7,18 +8,19 @@ use crate::quote::plain_run;
 use crate::scan::{ends_value, is_sign, skip_blanks};
 use json::{Reader, Scratch, Token};
 use std::alloc::Global;
+use std::borrow::CowStr;
 
 /// The string value at an offset, if a comma or the sign that closes its array or object comes behind it, and where that
 /// stands.
-pub(crate) fn read_text(
+pub(crate) fn read_text<'a>(
     alloc: Global,
-    text: &str,
+    text: &'a str,
     at: usize,
     close: u8,
     scratch: &mut Scratch,
-) -> Option<(String, usize)>
+) -> Option<(CowStr<'a, Global>, usize)>
     requires { (close ≡ 93) ⊎ (close ≡ 125) }
-    ensures { IfSome result (λ r. HasString text.now at (string_bytes r.0) r.1) }
+    ensures { IfSome result (λ r. HasString text.now at (cow_str_bytes r.0) r.1) }
 {
     let (string, end) = read_string(alloc, text, at, scratch)?;
     let next = skip_blanks(text, end);
@@ -30,13 +32,13 @@ pub(crate) fn read_text(
 }
 
 /// The name at an offset, with its colon, and where its value stands.
-pub(crate) fn read_key(
+pub(crate) fn read_key<'a>(
     alloc: Global,
-    text: &str,
+    text: &'a str,
     at: usize,
     scratch: &mut Scratch,
-) -> Option<(String, usize)>
-    ensures { IfSome result (λ r. HasKey text.now at (string_bytes r.0) r.1) }
+) -> Option<(CowStr<'a, Global>, usize)>
+    ensures { IfSome result (λ r. HasKey text.now at (cow_str_bytes r.0) r.1) }
 {
     let (string, end) = read_string(alloc, text, at, scratch)?;
     let colon = skip_blanks(text, end);
@@ -48,13 +50,13 @@ pub(crate) fn read_key(
 }
 
 /// The string at an offset, and where the text goes on behind it.
-fn read_string(
+fn read_string<'a>(
     alloc: Global,
-    text: &str,
+    text: &'a str,
     at: usize,
     scratch: &mut Scratch,
-) -> Option<(String, usize)>
-    ensures { IfSome result (λ r. HasLexeme text.now at (token (string (string_bytes r.0))) r.1) }
+) -> Option<(CowStr<'a, Global>, usize)>
+    ensures { IfSome result (λ r. HasLexeme text.now at (token (string (cow_str_bytes r.0))) r.1) }
 {
     let bytes = text.as_bytes();
     if at >= bytes.len() || bytes[at] != b'"' {
@@ -63,9 +65,10 @@ fn read_string(
     let start = at + 1;
     let end = start + plain_run(&bytes[start..]);
     if end < bytes.len() && bytes[end] == b'"' {
-        return Some((String::from_str(alloc, &text[start..end]).ok()?, end + 1));
+        return Some((CowStr::Borrowed(&text[start..end]), end + 1));
     }
-    read_escaped(alloc, text, at, scratch)
+    let (string, next) = read_escaped(alloc, text, at, scratch)?;
+    Some((CowStr::Owned(string), next))
 }
 
 /// The string at an offset, where a quote stands, with its escapes undone.

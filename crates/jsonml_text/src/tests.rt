@@ -1,12 +1,15 @@
 ghost use Rattle.std.specs.Prelude.{◌≤◌, length};
 
-use crate::{DocFault, Printer, content_of, read_document, scalar_of, write_tree};
-use jsonml_tree::{Scalar, Tree};
+use crate::{
+    DocFault, Printer, content_of, lend_document, print_lent_content, read_document, scalar_of,
+    write_tree,
+};
+use jsonml_tree::{LentContent, LentTree, Scalar, Tree};
 use serde_json::Value;
 use std::alloc::{AllocError, Global};
 use std::process::Abort;
 use std::test::Fail;
-use xa_outside::MemSink;
+use xa_outside::{Failed, MemSink};
 
 // What is printed for a document, if it is one.
 fn printed(alloc: Global, document: &[u8]) -> Option<MemSink>
@@ -39,6 +42,49 @@ fn assert_bad_shape(rt: &impl Abort, alloc: Global, document: &[u8], steps: &[u3
     }
 }
 
+// Prints an element that holds more than a text.
+fn print_lent(tree: &LentTree<'_>, sink: &mut MemSink) -> Option<()> {
+    match tree {
+        LentTree::Elem { tag, row } => print_around(tag.as_str(), LentContent::Row(row), sink).ok(),
+        _ => None,
+    }
+}
+
+// Prints an element of this tag and content.
+fn print_around(tag: &str, content: LentContent<'_, '_>, sink: &mut MemSink) -> Result<(), Failed> {
+    let mut printer = Printer::new();
+    printer.begin_elem(sink, tag)?;
+    print_lent_content(content, &mut printer, sink)?;
+    printer.end_elem(sink)
+}
+
+// What is printed for a document whose texts are lent, if it is one whose root holds more than a text.
+fn lent_and_printed(alloc: Global, document: &[u8]) -> Option<MemSink>
+    requires { length document.now ≤ 67108864 }
+{
+    let lent = lend_document(alloc, document).ok()?;
+    let mut sink = MemSink::new(alloc, Vec::new(alloc));
+    print_lent(&lent, &mut sink)?;
+    Some(sink)
+}
+
+// Whether it is the same tree as the one that owns its texts.
+fn is_lent_as_read(alloc: Global, document: &[u8]) -> bool
+    requires { length document.now ≤ 67108864 }
+{
+    match (owned(alloc, document), read_document(alloc, document)) {
+        (Some(lent), Ok(read)) => lent == read,
+        _ => false,
+    }
+}
+
+fn owned(alloc: Global, document: &[u8]) -> Option<Tree>
+    requires { length document.now ≤ 67108864 }
+{
+    let lent = lend_document(alloc, document).ok()?;
+    lent.own(alloc).ok()
+}
+
 // A document whose elements nest so deep.
 fn nested(alloc: Global, depth: usize) -> Result<Vec<u8>, AllocError> {
     let mut document = Vec::from_slice(alloc, b"[\"db\"")?;
@@ -59,6 +105,19 @@ fn a_document_is_printed_without_blanks(rt: HostRuntime) {
         b" [ \"db\" , { \"b\" : 1 , \"a\" : \"x\" } , [ \"e\" ] , \"t\" ]\n",
         b"[\"db\",{\"a\":\"x\",\"b\":1},[\"e\"],\"t\"]",
     );
+}
+
+#[test]
+fn a_document_whose_texts_are_lent_is_the_same(rt: HostRuntime) {
+    let alloc = rt.alloc();
+    let text =
+        b"[\"db\",{\"a\":\"x\\ty\"},\"\\\"one\\\"\",[\"e\",\"plain\"],[\"f\",{\"n\":-7},[\"g\"],\"two\",[\"h\",\"\\n\"]]]";
+    assert!(rt; is_lent_as_read(alloc, text));
+    assert_prints(&rt, alloc, text, text);
+    match lent_and_printed(alloc, text) {
+        Some(sink) => assert_eq!(rt; sink.taken(), text.as_slice()),
+        None => panic!(rt; "no document"),
+    }
 }
 
 #[test]
@@ -200,7 +259,7 @@ fn a_write_that_fails_leaves_a_prefix(rt: HostRuntime) -> Result<(), Fail> {
     let Ok(tree) = read_document(alloc, b"[\"db\",[\"e\"]]") else {
         panic!(rt; "no document");
     };
-    let mut sink = MemSink::new(alloc, vec![in alloc; 4]?);
+    let mut sink = MemSink::new(alloc, vec![in alloc; 3]?);
     assert!(rt; write_tree(&tree, &mut sink).is_err());
     assert_eq!(rt; sink.taken(), b"[\"db".as_slice());
     Ok(())

@@ -25,7 +25,7 @@ pub(crate) fn read_scalar(
     ensures in_range { IfSome result (λ r. IsTrue (is_in_range (scalar_view r.0))) }
 {
     match read_text(alloc, text, at, b'}', scratch) {
-        Some((string, next)) => Some((Scalar::Text(string), next)),
+        Some((string, next)) => Some((Scalar::Text(string.into_owned(alloc).ok()?), next)),
         None => read_word(text, at),
     }
 }

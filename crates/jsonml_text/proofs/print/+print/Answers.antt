@@ -2,6 +2,7 @@ use Rattle.std.proofs.Common.{◌≡◌, ◌<◌, ◌∷◌, [], ◌++◌, List,
 use Rattle.std.specs.List.{flat_map}
 use Rattle.xa_outside.specs.Taken.{Takes}
 use Rattle.xa_outside.specs.Taken.{TakesPrefix}
+use Rattle.jsonml_tree.proofs.Trees.{content_view-is}
 use Rattle.jsonml_tree.specs.View.{attr_view, tree_view, content_view}
 use Rattle.jsonml_tree.specs.declared.scalar.Attr.{Attr}
 use Rattle.jsonml_tree.specs.declared.tree.Tree.{Tree}
@@ -49,7 +50,7 @@ trees_calls ts = flat_map (λ t. calls_of (tree_view t)) ts
 pub print_content-print_attrs-requires : goal.print_content-print_attrs-requires
 print_content-print_attrs-requires g t c =
     let p = c.args.printer.now in
-    let whole = content_calls-is c.args.content.now c.deref.result.now _ c.deref.ensures.value refl in
+    let whole = content_calls-is tree_view (content_view c.args.content.now) c.deref.result.now _ _ _ (content_view-is c.args.content.now) c.deref.ensures.value refl in
     AllMayCome-front p (attrs_calls c.deref.result.now) _ (subst (AllMayCome p) whole c.requires)
 
 pub print_content-returns-in_err-print_attrs-clause-prints : goal.print_content-returns-in_err-print_attrs-clause-prints
@@ -58,7 +59,7 @@ print_content-returns-in_err-print_attrs-clause-prints g t c =
     let b = g.K.Sink.taken c.print_attrs.new.sink in
     let p = c.args.printer.now in
     let q = c.print_attrs.new.printer in
-    let whole = content_calls-is c.args.content.now c.deref.result.now _ c.deref.ensures.value refl in
+    let whole = content_calls-is tree_view (content_view c.args.content.now) c.deref.result.now _ _ _ (content_view-is c.args.content.now) c.deref.ensures.value refl in
     subst (λ (l : List Call). Prints a b p q l c.from_residual.result) (sym whole) (Prints-failed a b p q (attrs_calls c.deref.result.now) _ c.from_residual.result c.from_residual.ensures.0 c.in_err-print_attrs.ensures.prints.bytes)
 
 pub print_content-print_items-requires : goal.print_content-print_items-requires
@@ -67,8 +68,8 @@ print_content-print_items-requires g t c =
     let q = c.print_attrs.new.printer in
     let xs = c.deref.result.now in
     let ts = c.deref-2.result.now in
-    let whole = content_calls-is c.args.content.now xs ts c.deref.ensures.value c.deref-2.ensures.value in
-    let deep = content_depth-is c.args.content.now ts c.deref-2.ensures.value in
+    let whole = content_calls-is tree_view (content_view c.args.content.now) xs _ ts _ (content_view-is c.args.content.now) c.deref.ensures.value c.deref-2.ensures.value in
+    let deep = content_depth-is tree_view (content_view c.args.content.now) _ ts _ (content_view-is c.args.content.now) c.deref-2.ensures.value in
     λ κs lives. (omega (arith, c.decreases, deep), (lives, AllMayCome-back p q (attrs_calls xs) (trees_calls ts) c.in_ok-print_attrs.ensures.prints.pen (subst (AllMayCome p) whole c.requires)))
 
 pub print_content-returns-clause-prints : goal.print_content-returns-clause-prints
@@ -81,7 +82,7 @@ print_content-returns-clause-prints g t c =
     let r = c.print_items.new.printer in
     let xs = c.deref.result.now in
     let ts = c.deref-2.result.now in
-    let whole = content_calls-is c.args.content.now xs ts c.deref.ensures.value c.deref-2.ensures.value in
+    let whole = content_calls-is tree_view (content_view c.args.content.now) xs _ ts _ (content_view-is c.args.content.now) c.deref.ensures.value c.deref-2.ensures.value in
     subst (λ (l : List Call). Prints a d p r l c.print_items.result) (sym whole)
     (Prints-after a b d p q r (attrs_calls xs) (trees_calls ts) c.print_items.result c.in_ok-print_attrs.ensures.prints.bytes c.in_ok-print_attrs.ensures.prints.pen c.print_items.ensures.prints)
 
@@ -95,7 +96,7 @@ print_items-print_tree-requires g t c =
     let u = c.item-item.result in
     let within : i < length ts = search rules in
     λ κs lives. (
-      omega (arith, c.decreases, item_depth-le ts i u within c.item-item.is c.loop-item.invariant.shallow),
+      omega (arith, c.decreases, item_depth-le tree_view ts i u within c.item-item.is c.loop-item.invariant.shallow),
       (lives, subst (λ (v : Tree). AllMayCome c.loop-item.printer (calls v)) (sym c.item-item.is) (walk_now calls c.loop-item.printer ts i u within c.loop-item.invariant.rest)),
     )
 
@@ -130,7 +131,7 @@ print_items-loop-item-preserved g t c =
       bytes = walk_bytes calls a b d p q ts i u within c.loop-item.invariant.bytes c.loop-item.invariant.pen (subst (λ (v : Tree). Takes b d (printed q (calls v))) c.item-item.is c.in_ok-print_tree.ensures.prints.bytes);
       pen = walk_pen calls p q r ts i u within c.loop-item.invariant.pen pen;
       rest = walk_rest calls q r ts i u within pen c.loop-item.invariant.rest;
-      shallow = omega (arith, rest_depth-le ts i u within, c.loop-item.invariant.shallow);
+      shallow = omega (arith, rest_depth-le tree_view ts i u within, c.loop-item.invariant.shallow);
       later = search rules;
     }
 

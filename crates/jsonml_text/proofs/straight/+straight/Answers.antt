@@ -1,28 +1,43 @@
-use Rattle.std.proofs.Common.{◌≡◌, ◌+◌, ◌++◌, ◌∷◌, [], map, length, string_bytes, arith, refl, rules}
+use Rattle.std.proofs.Common.{◌≡◌, ◌+◌, ◌-◌, ◌++◌, ◌∷◌, [], map, length, arith, refl, rules}
 use Rattle.json.specs.Lex.{token}
 use Rattle.json.specs.Token.{begin_array}
-use Rattle.jsonml_tree.proofs.Trees.{tree_view-Elem, content_view-is}
+use Rattle.std.specs.Cow.{cow_str_bytes}
+use Rattle.jsonml_tree.proofs.LentTrees.{lent_tree_view-Leaf, lent_tree_view-Elem, lent_row_view-is}
+use Rattle.jsonml_tree.specs.LentView.{only_text, lent_row_view}
 use Rattle.jsonml_tree.specs.View.{attr_view}
-use Rattle.jsonml_tree.specs.declared.tree.Tree.{Elem}
+use Rattle.jsonml_tree.specs.declared.lent.LentTree.{Leaf, Elem}
 use Rattle.jsonml_text.specs.Straight.{HasLexeme}
-use Rattle.jsonml_text.proofs.Pushing.{PushesTree-element, ReadsContent-parts, HasPushed-more, ReadsItems-end}
+use Rattle.jsonml_text.proofs.Pushing.{PushesTree-element, ReadsContent-text, ReadsContent-parts, HasPushed-more, ReadsItems-end}
 use Rattle.jsonml_text.proofs.straight.+straight.Goals as goal
+
+pub push_element-returns-in-Some : goal.push_element-returns-in-Some
+push_element-returns-in-Some t c =
+    let tag = c.in_ok-tag.tag in
+    let held = c.in-Some.held in
+    let named = c.skip_blanks-named in
+    let alone = c.text_alone.ensures in
+    let old = c.args.room.now.trees.items in
+    let sign : HasLexeme c.args.text.now c.args.at (token begin_array) (c.args.at + 1) = search rules in
+    let waits : c.push.new.self.items ≡ old ++ Leaf tag held ∷ [] = search rules in
+    PushesTree-element c.args.levels c.args.text.now c.args.at named.result c.in_ok-tag.inside old old c.push.new.self.items (Leaf tag held) (cow_str_bytes tag) (only_text (cow_str_bytes held)) c.in-Some.next
+    (omega arith) sign named.ensures.same c.in_ok-tag.ensures (ReadsContent-text (c.args.levels - 1) c.args.text.now c.in_ok-tag.inside old (cow_str_bytes held) c.in-Some.next c.in-Some.ensures.content c.in-Some.ensures.later c.in-Some.ensures.within)
+    (omega (arith, named.ensures.later)) waits (lent_tree_view-Leaf tag held)
 
 pub push_element-returns : goal.push_element-returns
 push_element-returns t c =
     let tag = c.in_ok-tag.tag in
-    let content = c.in_ok-content.content in
+    let row = c.in_ok-row.row in
     let named = c.skip_blanks-named in
     let sign : HasLexeme c.args.text.now c.args.at (token begin_array) (c.args.at + 1) = search rules in
-    let waits : c.push.new.self.items ≡ c.read_content.new.room.trees.items ++ Elem tag content ∷ [] = search rules in
-    PushesTree-element c.args.levels c.args.text.now c.args.at named.result c.in_ok-tag.inside c.args.room.now.trees.items c.read_content.new.room.trees.items c.push.new.self.items (Elem tag content) (string_bytes tag) content c.in_ok-content.next
-    (omega arith) sign named.ensures.same c.in_ok-tag.ensures c.in_ok-content.ensures (omega (arith, named.ensures.later)) waits (tree_view-Elem tag content)
+    let waits : c.push-2.new.self.items ≡ c.read_row.new.room.trees.items ++ Elem tag row ∷ [] = search rules in
+    PushesTree-element c.args.levels c.args.text.now c.args.at named.result c.in_ok-tag.inside c.args.room.now.trees.items c.read_row.new.room.trees.items c.push-2.new.self.items (Elem tag row) (cow_str_bytes tag) (lent_row_view row) c.in_ok-row.next
+    (omega arith) sign named.ensures.same c.in_ok-tag.ensures c.in_ok-row.ensures (omega (arith, named.ensures.later)) waits (lent_tree_view-Elem tag row)
 
-pub read_content-returns : goal.read_content-returns
-read_content-returns t c =
+pub read_row-returns : goal.read_row-returns
+read_row-returns t c =
     let attrs = c.in_ok-attrs in
     let items = c.in_ok-items in
-    ReadsContent-parts c.args.levels c.args.text.now c.args.at attrs.begun c.args.room.now.trees.items c.read_items.new.room.trees.items items.items.items _ (map attr_view attrs.attrs.items) items.next (content_view-is _) attrs.ensures.kept attrs.ensures.later
+    ReadsContent-parts c.args.levels c.args.text.now c.args.at attrs.begun c.args.room.now.trees.items c.read_items.new.room.trees.items items.items.items _ (map attr_view attrs.attrs.items) items.next (lent_row_view-is _) attrs.ensures.kept attrs.ensures.later
     attrs.ensures.content items.ensures
 
 pub read_items-items-preserved : goal.read_items-items-preserved

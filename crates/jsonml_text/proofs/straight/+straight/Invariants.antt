@@ -8,8 +8,8 @@ decreases-push_element l = 4 * l.levels
 abbrev pub decreases-push_item : goal.decreases-push_item
 decreases-push_item l = 4 * l.levels + 1
 
-abbrev pub decreases-read_content : goal.decreases-read_content
-decreases-read_content l = 4 * l.levels + 3
+abbrev pub decreases-read_row : goal.decreases-read_row
+decreases-read_row l = 4 * l.levels + 3
 
 abbrev pub decreases-read_items : goal.decreases-read_items
 decreases-read_items l = 4 * l.levels + 2

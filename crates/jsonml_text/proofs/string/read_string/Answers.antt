@@ -1,4 +1,4 @@
-use Rattle.std.proofs.Common.{◌≡◌, ◌+◌, ◌-◌, ◌<◌, List, ℕ, take, drop, get_or, length, string_bytes, take_all, length-drop, arith, rules, subst, ap, sym, ◌∙◌}
+use Rattle.std.proofs.Common.{◌≡◌, ◌+◌, ◌-◌, ◌<◌, List, ℕ, take, drop, get_or, length, take_all, length-drop, arith, rules, subst, ap, sym, ◌∙◌}
 use Rattle.std.proofs.lemmas.Str.{IsCharBoundary-after_ascii}
 use Rattle.json.specs.Lex.{token}
 use Rattle.json.specs.Print.{escape}
@@ -24,6 +24,6 @@ returns-then-bytes-end-eq34 c =
     let whole : take (length b - (c.args.at + 1)) (drop (c.args.at + 1) b) ≡ drop (c.args.at + 1) b = take_all _ (drop (c.args.at + 1) b) (omega (arith, length-drop (c.args.at + 1) b)) in
     let plain : escape (take n (drop (c.args.at + 1) b)) ≡ take n (drop (c.args.at + 1) b) = subst (λ (l : List ℕ). escape (take n l) ≡ take n l) whole c.plain_run.ensures.plain in
     let here = HasLexeme-plain b c.args.at n c.if-end-bytes.true c.if-bytes-at-ne34.false plain c.if-bytes-end-eq34.true in
-    let copied : take n (drop (c.args.at + 1) b) ≡ string_bytes c.in_ok-ok.field-0 = search rules in
-    subst (λ (l : List ℕ). HasLexeme l c.args.at (token (string (string_bytes c.in_ok-ok.field-0))) (c.args.at + 1 + n + 1)) same
-    (subst (λ (s : List ℕ). HasLexeme b c.args.at (token (string s)) (c.args.at + 1 + n + 1)) copied here)
+    let part : take n (drop (c.args.at + 1) b) ≡ c.range.result.now = search rules in
+    subst (λ (l : List ℕ). HasLexeme l c.args.at (token (string c.range.result.now)) (c.args.at + 1 + n + 1)) same
+    (subst (λ (s : List ℕ). HasLexeme b c.args.at (token (string s)) (c.args.at + 1 + n + 1)) part here)
