@@ -1,8 +1,8 @@
 -- What is left of a row of trees, one item on and at the end.
-use Rattle.std.proofs.Common.{◌≡◌, ℕ, ◌+◌, ◌<◌, ◌≤◌, List, [], ◌∷◌, map, drop, get_or, length, refl, sym, ap, ◌∙◌, String, Global, string_bytes, Bool, true, false, ◌&&◌, nat_le, IsTrue, true≢false, arith}
+use Rattle.std.proofs.Common.{◌≡◌, ℕ, ◌+◌, ◌<◌, ◌≤◌, List, [], ◌∷◌, map, drop, get_or, length, sym, ap, ◌∙◌, String, Global, string_bytes, ◌&&◌, nat_le, IsTrue, arith}
 use borrow.Author.Tests.{leb-true}
 use Rattle.std.proofs.lemmas.List.{drop_more, drop_all, length-map, get_or-map}
-use Rattle.jsonml_tree.specs.Data.{no_trees, tree, list_of}
+use Rattle.jsonml_tree.specs.Data.{PlainTree, no_trees, tree, trees_of, list_of}
 use Rattle.jsonml_tree.specs.Fits.{content_items_fit, all_items_fit}
 use Rattle.jsonml_tree.specs.View.{tree_view, content_view, items_view}
 use Rattle.jsonml_tree.specs.declared.tree.Content.{Content}
@@ -10,17 +10,24 @@ use Rattle.jsonml_tree.specs.declared.tree.Tree.{Tree}
 use Rattle.keyed_tree.proofs.Kids.{both}
 use Rattle.jsonml_tree.proofs.Trees.{list_of-trees_of, content_view-is}
 
-pub items_view-more : (items : List Tree) (i : ℕ) (x : Tree) → i < length items → x ≡ get_or items i x → items_view (drop i items) ≡ tree (tree_view x) (items_view (drop (i + 1) items))
-items_view-more items i x h e = ap items_view (drop_more items i x h) ∙ ap (λ y. tree (tree_view y) (items_view (drop (i + 1) items))) (sym e)
-
-pub items_view-end : (items : List Tree) (i : ℕ) → length items ≤ i → items_view (drop i items) ≡ no_trees
-items_view-end items i h = ap items_view (drop_all i items h)
-
 pub map-more : {X Y : Type 0} (f : X → Y) (xs : List X) (i : ℕ) (x : X) → i < length xs → x ≡ get_or xs i x → map f (drop i xs) ≡ f x ∷ map f (drop (i + 1) xs)
 map-more f xs i x h e = ap (map f) (drop_more xs i x h) ∙ ap (λ y. f y ∷ map f (drop (i + 1) xs)) (sym e)
 
 pub map-end : {X Y : Type 0} (f : X → Y) (xs : List X) (i : ℕ) → length xs ≤ i → map f (drop i xs) ≡ []
 map-end f xs i h = ap (map f) (drop_all i xs h)
+
+-- the same of trees that are seen through some view, and of trees that are not lent
+pub row-more : {X : Type 0} (view : X → PlainTree) (items : List X) (i : ℕ) (x : X) → i < length items → x ≡ get_or items i x → trees_of (map view (drop i items)) ≡ tree (view x) (trees_of (map view (drop (i + 1) items)))
+row-more view items i x h e = ap trees_of (map-more view items i x h e)
+
+pub row-end : {X : Type 0} (view : X → PlainTree) (items : List X) (i : ℕ) → length items ≤ i → trees_of (map view (drop i items)) ≡ no_trees
+row-end view items i h = ap trees_of (map-end view items i h)
+
+pub items_view-more : (items : List Tree) (i : ℕ) (x : Tree) → i < length items → x ≡ get_or items i x → items_view (drop i items) ≡ tree (tree_view x) (items_view (drop (i + 1) items))
+items_view-more = row-more tree_view
+
+pub items_view-end : (items : List Tree) (i : ℕ) → length items ≤ i → items_view (drop i items) ≡ no_trees
+items_view-end = row-end tree_view
 
 pub list_of-items : (items : List Tree) → list_of (items_view items) ≡ map tree_view items
 list_of-items items = list_of-trees_of (map tree_view items)

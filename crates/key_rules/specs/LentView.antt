@@ -1,7 +1,8 @@
 -- Labels that a document lends.
-use Rattle.std.specs.Prelude.{ℕ, List, [], ◌∷◌, map, Option}
+use Rattle.std.specs.Prelude.{List, [], ◌∷◌, map, Option}
 use Rattle.std.specs.Result.{result_ok}
-use Rattle.jsonml_tree.specs.Data.{text, PlainContent, content, no_trees, tree}
+use Rattle.jsonml_tree.specs.Data.{PlainContent}
+use Rattle.jsonml_tree.specs.LentView.{only_text}
 use Rattle.jsonml_tree.specs.View.{scalar_view, content_view}
 use Rattle.keyed_tree.specs.Data.{PlainKey, scalar, inside, PlainLabel, tag}
 use Rattle.key_spec.specs.Data.{PlainPath}
@@ -12,14 +13,10 @@ use Rattle.key_rules.specs.declared.lent.LentKeys.{LentKeys}
 use Rattle.key_rules.specs.declared.lent.LentKeys.TheVariants.{One, Row}
 use Rattle.key_rules.specs.declared.lent.LentLabel.{LentLabel}
 
--- the content of one text
-abbrev pub of_text : List ℕ → PlainContent
-of_text s = content [] (tree (text s) no_trees)
-
 abbrev pub lent_key_view : LentKey → PlainKey
 lent_key_view (Scalar s) = scalar (scalar_view s.now)
-lent_key_view (Text s) = inside (of_text s.now)
-lent_key_view (Content c) = inside (content_view c.now)
+lent_key_view (Text s) = inside (only_text s.now)
+lent_key_view (Content c) = inside (content_view c)
 
 abbrev pub lent_keys_view : LentKeys → List PlainKey
 lent_keys_view (One k) = lent_key_view k ∷ []

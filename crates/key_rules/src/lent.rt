@@ -1,33 +1,35 @@
-#![tactic(auto, using(jsonml_tree::proofs::Trees::trees))]
+#![tactic(auto, using(jsonml_tree::proofs::Trees::trees, jsonml_tree::proofs::LentTrees::lent_trees))]
 
 ghost use Rattle.std.specs.Prelude.{◌≡◌, map, IfOk, IfSome, string_bytes};
 ghost use Rattle.std.specs.Cmp.Lexicographic.{slice_cmp};
 ghost use Rattle.std.specs.Option.{option_map};
 ghost use Rattle.jsonml_tree.specs.Data.{text, no_trees, tree};
+ghost use Rattle.jsonml_tree.specs.LentView.{only_text, lent_content_view, lent_tree_view};
 ghost use Rattle.jsonml_tree.specs.Order.{tree_cmp, trees_cmp, content_cmp};
 ghost use Rattle.jsonml_tree.specs.View.{tree_view, content_view, items_view};
 ghost use Rattle.keyed_tree.specs.Data.{inside};
 ghost use Rattle.keyed_tree.specs.Order.{key_cmp, label_cmp};
 ghost use Rattle.keyed_tree.specs.View.{key_view, label_view};
 ghost use Rattle.key_spec.specs.View.{names_view, path_view, rule_view, spec_view};
-ghost use Rattle.key_rules.specs.Few.{node_view};
 ghost use Rattle.key_rules.specs.Labels.{label_by, tree_label};
-ghost use Rattle.key_rules.specs.LentView.{of_text, lent_key_view, lent_keys_view, lent_label_view, lent_keys};
+ghost use Rattle.key_rules.specs.LentNodes.{lent_node_view};
+ghost use Rattle.key_rules.specs.LentView.{lent_key_view, lent_keys_view, lent_label_view, lent_keys};
 ghost use Rattle.key_rules.specs.Satisfies.{ok_of};
 
-use crate::node::{Node, Reached, nodes_of};
-use jsonml_tree::{Content, Scalar, Tree};
+use crate::lent_node::{LentNode, LentReached, lent_nodes};
+use jsonml_tree::{Content, LentContent, LentTree, Scalar, Tree};
 use key_spec::{KeyPath, Rule, Spec};
 use keyed_tree::{KeyVal, Label, Name};
 use std::alloc::{AllocError, Global};
 use std::cmp::Ordering;
+use std::slice;
 
-/// A key value that a document lends. A content of one text and nothing else is seen as its text.
-#[derive(Clone, Copy)]
+/// A key value that a document lends. A content of one text and nothing else is seen as its text; another one is copied.
+#[derive(Drop)]
 pub enum LentKey<'a> {
     Scalar(&'a Scalar),
     Text(&'a str),
-    Content(&'a Content),
+    Content(Content),
 }
 
 /// The key values of a label. One alone takes no memory.
@@ -60,7 +62,7 @@ impl LentLabel<'_> {
         ensures { IfOk result (λ l. label_view l ≡ lent_label_view self.now) }
     {
         let keys = match &self.keys {
-            LentKeys::One(key) => copy_keys(alloc, &[*key])?,
+            LentKeys::One(key) => copy_keys(alloc, slice::from_ref(key))?,
             LentKeys::Row(keys) => copy_keys(alloc, keys)?,
         };
         let name = Name::Tag(String::from_str(alloc, self.tag)?);
@@ -74,8 +76,8 @@ fn order_lent(ours: &LentKeys<'_>, theirs: &LentKeys<'_>) -> Ordering
 {
     match (ours, theirs) {
         (LentKeys::One(a), LentKeys::One(b)) => order_key(a, b),
-        (LentKeys::One(a), LentKeys::Row(b)) => order_keys(&[*a], b),
-        (LentKeys::Row(a), LentKeys::One(b)) => order_keys(a, &[*b]),
+        (LentKeys::One(a), LentKeys::Row(b)) => order_keys(slice::from_ref(a), b),
+        (LentKeys::Row(a), LentKeys::One(b)) => order_keys(a, slice::from_ref(b)),
         (LentKeys::Row(a), LentKeys::Row(b)) => order_keys(a, b),
     }
 }
@@ -116,7 +118,7 @@ fn order_key(a: &LentKey<'_>, b: &LentKey<'_>) -> Ordering
 
 /// The content of this text alone against another content.
 fn order_text(text: &str, other: &Content) -> Ordering
-    ensures { result ≡ content_cmp (of_text text.now) (content_view other.now) }
+    ensures { result ≡ content_cmp (only_text text.now) (content_view other.now) }
 {
     match other.attrs.split_first() {
         None => order_text_items(text, &other.items),
@@ -175,7 +177,7 @@ fn copy_key(alloc: Global, key: &LentKey<'_>) -> Result<KeyVal, AllocError>
 
 /// The content of this text alone.
 fn copy_text(alloc: Global, text: &str) -> Result<KeyVal, AllocError>
-    ensures { IfOk result (λ k. key_view k ≡ inside (of_text text.now)) }
+    ensures { IfOk result (λ k. key_view k ≡ inside (only_text text.now)) }
 {
     let attrs = Vec::new(alloc);
     let mut items = Vec::with_capacity(alloc, 1)?;
@@ -184,50 +186,37 @@ fn copy_text(alloc: Global, text: &str) -> Result<KeyVal, AllocError>
 }
 
 /// The key value of a node.
-fn lend_key<'a>(node: Node<'a>) -> LentKey<'a>
-    ensures { lent_key_view result ≡ node_view node.entry }
+fn lend_key<'a>(alloc: Global, node: LentNode<'a, '_>) -> Result<LentKey<'a>, AllocError>
+    ensures { IfOk result (λ k. lent_key_view k ≡ lent_node_view node.entry) }
 {
     match node {
-        Node::Scalar(scalar) => LentKey::Scalar(scalar),
-        Node::Content(content) => lend_content(content),
-    }
-}
-
-fn lend_content<'a>(content: &'a Content) -> LentKey<'a>
-    ensures { lent_key_view result ≡ inside (content_view content.now) }
-{
-    match (content.attrs.split_first(), only_text(&content.items)) {
-        (None, Some(text)) => LentKey::Text(text),
-        _ => LentKey::Content(content),
-    }
-}
-
-/// The text of a row that has one text and nothing else.
-fn only_text(items: &[Tree]) -> Option<&str>
-    ensures { IfSome result (λ s. items_view items.now ≡ tree (text s.now) no_trees) }
-{
-    match items.split_first() {
-        Some((Tree::Text(text), [])) => Some(text.as_str()),
-        _ => None,
+        LentNode::Scalar(scalar) => Ok(LentKey::Scalar(scalar)),
+        LentNode::Content(LentContent::Text(text)) => Ok(LentKey::Text(text)),
+        LentNode::Content(content) => Ok(LentKey::Content(content.own(alloc)?)),
     }
 }
 
 /// The label of a tree under a context, the tags from the root down to its parent, lent by the tree; none where it has
-/// none. No key value is copied.
+/// none. A key value is copied only where it is more than a text.
 pub fn lent_label<'a>(
     alloc: Global,
     spec: &'a Spec,
     context: &[String],
-    tree: &'a Tree,
+    tree: &'a LentTree<'_>,
 ) -> Result<Option<LentLabel<'a>>, AllocError>
     ensures { IfOk result
-        (λ l. option_map lent_label_view l ≡ ok_of (tree_label (spec_view spec.now) (names_view context.now) (tree_view tree.now))) }
+        (λ l. option_map lent_label_view l ≡ ok_of (tree_label (spec_view spec.now) (names_view context.now) (lent_tree_view tree.now))) }
 {
     match tree {
-        Tree::Text(_) => Ok(None),
-        Tree::Elem { tag, content } => {
+        LentTree::Text(_) => Ok(None),
+        LentTree::Leaf { tag, text } => {
             let tag = tag.as_str();
+            let content = LentContent::Text(text.as_str());
             lend_label(alloc, spec.rule(context, tag), tag, content)
+        }
+        LentTree::Elem { tag, row } => {
+            let tag = tag.as_str();
+            lend_label(alloc, spec.rule(context, tag), tag, LentContent::Row(row))
         }
     }
 }
@@ -237,48 +226,52 @@ fn lend_label<'a>(
     alloc: Global,
     rule: Option<&'a Rule>,
     tag: &str,
-    content: &'a Content,
+    content: LentContent<'a, '_>,
 ) -> Result<Option<LentLabel<'a>>, AllocError>
     requires { IfSome rule (λ r. string_bytes r.now.tag ≡ tag.now) }
     ensures { IfOk result
-        (λ l. option_map lent_label_view l ≡ ok_of (label_by (option_map (λ r. rule_view r.now) rule.entry) tag.now (content_view content.now))) }
+        (λ l. option_map lent_label_view l ≡ ok_of (label_by (option_map (λ r. rule_view r.now) rule.entry) tag.now (lent_content_view content.entry))) }
 {
     let Some(rule) = rule else {
         return Ok(None);
     };
-    let Some(keys) = lend_keys(alloc, &rule.paths, content)? else {
-        return Ok(None);
-    };
     let tag = rule.tag.as_str();
-    let keys = in_place(keys);
-    Ok(Some(LentLabel { tag, keys }))
-}
-
-/// These key values, without a row of their own where there is one.
-fn in_place<'a>(keys: Vec<LentKey<'a>>) -> LentKeys<'a>
-    ensures { lent_keys_view result ≡ map lent_key_view keys.entry.items }
-{
-    match keys.as_slice() {
-        [key] => LentKeys::One(*key),
-        _ => LentKeys::Row(keys),
+    match lend_keys(alloc, &rule.paths, content)? {
+        Some(keys) => Ok(Some(LentLabel { tag, keys })),
+        None => Ok(None),
     }
 }
 
-/// The one value of each key path, or nothing where a path has none or several.
+/// The one value of each key path, or nothing where a path has none or several. One alone takes no row.
 fn lend_keys<'a>(
     alloc: Global,
     paths: &[KeyPath],
-    content: &'a Content,
-) -> Result<Option<Vec<LentKey<'a>>>, AllocError>
-    ensures { IfOk result
-        (λ o. option_map (λ ks. map lent_key_view ks.items) o ≡ lent_keys (map path_view paths.now) (content_view content.now)) }
+    content: LentContent<'a, '_>,
+) -> Result<Option<LentKeys<'a>>, AllocError>
+    ensures { IfOk result (λ ks. option_map lent_keys_view ks ≡ lent_keys (map path_view paths.now) (lent_content_view content.entry)) }
+{
+    if let [path] = paths {
+        return match lent_nodes(path, content) {
+            LentReached::One(node) => Ok(Some(LentKeys::One(lend_key(alloc, node)?))),
+            _ => Ok(None),
+        };
+    }
+    lend_row(alloc, paths, content)
+}
+
+fn lend_row<'a>(
+    alloc: Global,
+    paths: &[KeyPath],
+    content: LentContent<'a, '_>,
+) -> Result<Option<LentKeys<'a>>, AllocError>
+    ensures { IfOk result (λ ks. option_map lent_keys_view ks ≡ lent_keys (map path_view paths.now) (lent_content_view content.entry)) }
 {
     let mut keys = Vec::with_capacity(alloc, paths.len())?;
     for path in paths {
-        let Reached::One(node) = nodes_of(path, content) else {
+        let LentReached::One(node) = lent_nodes(path, content) else {
             return Ok(None);
         };
-        keys.push(lend_key(node))?;
+        keys.push(lend_key(alloc, node)?)?;
     }
-    Ok(Some(keys))
+    Ok(Some(LentKeys::Row(keys)))
 }

@@ -5,6 +5,7 @@ mod check;
 mod fault;
 mod label;
 mod lent;
+mod lent_node;
 mod node;
 #[cfg(test)]
 mod tests;

@@ -121,7 +121,7 @@ fn own_node<'a>(path: &KeyPath, content: &'a Content) -> Reached<'a>
     }
 }
 
-fn attribute<'a>(attrs: &'a [Attr], name: &str) -> Option<&'a Scalar>
+pub(crate) fn attribute<'a>(attrs: &'a [Attr], name: &str) -> Option<&'a Scalar>
     ensures { option_map (λ s. scalar_view s.now) result ≡ scalar_named name.now (map attr_view attrs.now) }
 {
     for attr in attrs {
