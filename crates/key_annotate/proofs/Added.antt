@@ -1,7 +1,7 @@
 -- One item on in a row: what it adds to the kids so far.
-use Rattle.std.proofs.Common.{◌≡◌, ℕ, true, false, List, [], ◌∷◌, ◌++◌, Option, Some, None, append_assoc, append-nil, refl, ap, sym, ◌∙◌}
+use Rattle.std.proofs.Common.{◌≡◌, ℕ, true, List, [], ◌∷◌, ◌++◌, Option, Some, None, append_assoc, refl, ap, sym, ◌∙◌}
 use Rattle.std.specs.Option.{option_map}
-use Rattle.jsonml_tree.specs.Data.{text, element, PlainContent, PlainTrees, no_trees, tree}
+use Rattle.jsonml_tree.specs.Data.{PlainTree, text, element, PlainContent, PlainTrees, tree}
 use Rattle.keyed_tree.specs.Data.{PlainKeyed}
 use Rattle.key_spec.specs.Data.{PlainRule}
 use Rattle.key_rules.specs.Satisfies.{is_blank}
@@ -18,16 +18,12 @@ after-one ks k (Some js) = ap (λ x. Some x) (sym (append_assoc ks (k ∷ []) js
 pub added-text : (rules : List PlainRule) (path : List (List ℕ)) (s : List ℕ) (rest : PlainTrees) (ks : List PlainKeyed) → is_blank s ≡ true → after ks (built_items rules path (tree (text s) rest)) ≡ after ks (built_items rules path rest)
 added-text rules path s rest ks e = rw e refl
 
-pub added-bad : (rules : List PlainRule) (path : List (List ℕ)) (s : List ℕ) (rest : PlainTrees) (ks : List PlainKeyed) → is_blank s ≡ false → after ks (built_items rules path (tree (text s) rest)) ≡ None
-added-bad rules path s rest ks e = rw e refl
-
 pub added-kid : (rules : List PlainRule) (path : List (List ℕ)) (t : List ℕ) (c : PlainContent) (rest : PlainTrees) (ks : List PlainKeyed) (k : PlainKeyed) → built_tree rules path (element t c) ≡ Some k
     → after ks (built_items rules path (tree (element t c) rest)) ≡ after (ks ++ k ∷ []) (built_items rules path rest)
 added-kid rules path t c rest ks k e = ap (λ o. after ks (put_first o (built_items rules path rest))) e ∙ after-one ks k (built_items rules path rest)
 
-pub added-none : (rules : List PlainRule) (path : List (List ℕ)) (t : List ℕ) (c : PlainContent) (rest : PlainTrees) (ks : List PlainKeyed) → built_tree rules path (element t c) ≡ None
-    → after ks (built_items rules path (tree (element t c) rest)) ≡ None
-added-none rules path t c rest ks e = ap (λ o. after ks (put_first o (built_items rules path rest))) e
-
-pub after-end : (rules : List PlainRule) (path : List (List ℕ)) (ks : List PlainKeyed) → after ks (built_items rules path no_trees) ≡ Some ks
-after-end rules path ks = ap (λ x. Some x) (append-nil ks)
+-- the same of a tree for which there is a kid
+pub added-tree : (rules : List PlainRule) (path : List (List ℕ)) (x : PlainTree) (rest : PlainTrees) (ks : List PlainKeyed) (k : PlainKeyed) → built_tree rules path x ≡ Some k
+    → after ks (built_items rules path (tree x rest)) ≡ after (ks ++ k ∷ []) (built_items rules path rest)
+added-tree rules path (text s) rest ks k e = cc
+added-tree rules path (element t c) rest ks k e = added-kid rules path t c rest ks k e

@@ -1,8 +1,9 @@
 -- The view of each shape of a lent keyed tree.
 use Rattle.std.proofs.Common.{◌≡◌, map, rules, Vec, Global, Bor}
-use Rattle.jsonml_tree.specs.View.{attr_view, content_view}
+use Rattle.jsonml_tree.specs.LentView.{lent_content_view}
+use Rattle.jsonml_tree.specs.View.{attr_view}
+use Rattle.jsonml_tree.specs.declared.lent.LentContent.{LentContent}
 use Rattle.jsonml_tree.specs.declared.scalar.Attr as tree
-use Rattle.jsonml_tree.specs.declared.tree.Content as content
 use Rattle.keyed_tree.specs.Data.{inner, leaf, inside, kids_from}
 use Rattle.key_annotate.specs.KeyedOf.{attr_leaf}
 use Rattle.key_annotate.specs.LabelView.{keyed_label_view}
@@ -14,7 +15,7 @@ use Rattle.key_annotate.specs.declared.lent.LentKeyed.{LentKeyed, Attr, Leaf, In
 pub lent_view-Attr : (a : Bor tree.Attr) → lent_view (Attr a) ≡ attr_leaf (attr_view a.now)
 lent_view-Attr a = search (rules, the_lemmas)
 
-pub lent_view-Leaf : (l : KeyedLabel) (c : Bor content.Content) → lent_view (Leaf l c) ≡ leaf (keyed_label_view l) (inside (content_view c.now))
+pub lent_view-Leaf : (l : KeyedLabel) (c : LentContent) → lent_view (Leaf l c) ≡ leaf (keyed_label_view l) (inside (lent_content_view c))
 lent_view-Leaf l c = search (rules, the_lemmas)
 
 pub lent_view-Inner : (l : KeyedLabel) (ks : Vec LentKeyed Global) → lent_view (Inner l ks) ≡ inner (keyed_label_view l) (kids_from (map lent_view ks.items))

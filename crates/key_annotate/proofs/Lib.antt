@@ -10,3 +10,4 @@ pub mod ProperLemmas
 pub mod Alikes
 pub mod Documents
 pub mod Bares
+pub mod RulesAt

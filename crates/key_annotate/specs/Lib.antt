@@ -2,10 +2,10 @@ pub mod KeyedOf
 pub mod Annotated
 pub mod Ordered
 pub mod View
-pub mod Flat
 pub mod Front
 pub mod FrontedText
 pub mod LabelView
 pub mod LentView
+pub mod Flat
 pub mod Laws
 pub mod Stands

@@ -40,6 +40,19 @@ abbrev mutual
   built_items rules path no_trees = Some []
   built_items rules path (tree t ts) = built_onto rules path t (built_items rules path ts)
 
+-- the kids of an inner element with this path and content
+abbrev pub kids_inside : List PlainRule → List (List ℕ) → PlainContent → Option (List PlainKeyed)
+kids_inside rules path (content xs ts) = all_kids xs (built_items rules path ts)
+
+-- what an element holds
+abbrev pub held : PlainTree → Option PlainContent
+held (text s) = None
+held (element t c) = Some c
+
+-- the node of an element with this path and label
+abbrev pub node_in : List PlainRule → List (List ℕ) → PlainLabel → PlainTree → Option PlainKeyed
+node_in rules path l t = option_and_then (λ c. node_of (is_frontier rules path) (Some l) c (kids_inside rules path c)) (held t)
+
 -- the same of a tree, which is an element
 abbrev pub built_tree : List PlainRule → List (List ℕ) → PlainTree → Option PlainKeyed
 built_tree rules context (text s) = None

@@ -3,6 +3,7 @@
 ghost use Rattle.std.specs.Prelude.{◌≡◌, [], Some, IfOk, IfErr, IfSome};
 ghost use Rattle.jsonml_tree.specs.Fits.{IsElement, ItemsFit};
 ghost use Rattle.jsonml_tree.specs.WellFormed.{IsWellFormed};
+ghost use Rattle.jsonml_tree.specs.LentView.{lent_tree_view};
 ghost use Rattle.jsonml_tree.specs.View.{tree_view};
 ghost use Rattle.keyed_tree.specs.View.{keyed_view};
 ghost use Rattle.key_spec.specs.View.{spec_view};
@@ -16,7 +17,7 @@ ghost use Rattle.key_annotate.specs.View.{key_fault};
 use crate::build::build;
 use crate::fault::AnnotateFault;
 use crate::lent::LentKeyed;
-use jsonml_tree::Tree;
+use jsonml_tree::{LentTree, Tree};
 use key_rules::first_fault;
 use key_spec::Spec;
 use keyed_tree::Keyed;
@@ -37,36 +38,39 @@ pub fn keyed(alloc: Global, spec: &Spec, doc: &Tree) -> Result<Keyed, AnnotateFa
     ensures proper { HasProperTrees (spec_view spec.now) (tree_view doc.now) }
     ensures alike { HasAlikeTrees (spec_view spec.now) (tree_view doc.now) }
 {
-    let lent = lent_keyed(alloc, spec, doc)?;
-    Ok(lent.own(alloc)?)
+    let lent = LentTree::lend(alloc, doc)?;
+    let tree = lent_keyed(alloc, spec, &lent)?;
+    Ok(tree.own(alloc)?)
 }
 
 /// The keyed tree of a document, lent by the document, or its first key fault.
 ///
-/// It is built in one pass, which reads each label once, copies no text, and sorts the kids of each node once; the first
-/// fault is looked for only where that pass meets one. Recursion is as deep as elements nest.
+/// It is built in one pass, which reads each label once, copies no more than key values that are more than a text, and sorts
+/// the kids of each node once; the first fault is looked for only where that pass meets one, in a copy of the document.
+/// Recursion is as deep as elements nest.
 #[tactic(auto, using(crate::proofs::Documents::documents))]
-pub fn lent_keyed<'a>(
+pub fn lent_keyed<'a, 't>(
     alloc: Global,
     spec: &'a Spec,
-    doc: &'a Tree,
-) -> Result<LentKeyed<'a>, AnnotateFault>
-    requires element { IsElement (tree_view doc.now) }
-    requires items_fit { ItemsFit (tree_view doc.now) }
-    requires well_formed { IsWellFormed (tree_view doc.now) }
-    ensures stands { IfOk result (λ k. Stands (spec_view spec.now) (tree_view doc.now) (lent_view k)) }
-    ensures key { IfErr result (λ e. IfSome (key_fault e) (λ f. first_fault (spec_view spec.now) (tree_view doc.now) ≡ Some f)) }
+    doc: &'a LentTree<'t>,
+) -> Result<LentKeyed<'a, 't>, AnnotateFault>
+    requires element { IsElement (lent_tree_view doc.now) }
+    requires items_fit { ItemsFit (lent_tree_view doc.now) }
+    requires well_formed { IsWellFormed (lent_tree_view doc.now) }
+    ensures stands { IfOk result (λ k. Stands (spec_view spec.now) (lent_tree_view doc.now) (lent_view k)) }
+    ensures key { IfErr result (λ e. IfSome (key_fault e) (λ f. first_fault (spec_view spec.now) (lent_tree_view doc.now) ≡ Some f)) }
 
     // The laws, of this specification and document.
-    ensures one { Satisfies (spec_view spec.now) (tree_view doc.now) → HasOneTree (spec_view spec.now) (tree_view doc.now) }
-    ensures proper { HasProperTrees (spec_view spec.now) (tree_view doc.now) }
-    ensures alike { HasAlikeTrees (spec_view spec.now) (tree_view doc.now) }
+    ensures one { Satisfies (spec_view spec.now) (lent_tree_view doc.now) → HasOneTree (spec_view spec.now) (lent_tree_view doc.now) }
+    ensures proper { HasProperTrees (spec_view spec.now) (lent_tree_view doc.now) }
+    ensures alike { HasAlikeTrees (spec_view spec.now) (lent_tree_view doc.now) }
 {
     let mut path = Vec::new(alloc);
     if let Some(tree) = build(alloc, spec, &mut path, doc)? {
         return Ok(tree);
     }
-    match first_fault(alloc, spec, doc)? {
+    let owned = doc.own(alloc)?;
+    match first_fault(alloc, spec, &owned)? {
         Some(fault) => Err(AnnotateFault::Key(fault)),
         None => unreachable!(),
     }

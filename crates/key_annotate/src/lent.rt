@@ -12,33 +12,35 @@ ghost use Rattle.key_annotate.specs.LentView.{bare_view, lent_view};
 use crate::bare::Bare;
 use crate::label::KeyedLabel;
 use crate::order::Labelled;
-use jsonml_tree::{Attr, Content};
+use jsonml_tree::{Attr, LentContent};
 use keyed_tree::{KeyVal, Keyed, Label, Name};
 use std::alloc::{AllocError, Global};
 use std::cmp::Ordering;
 
-/// A keyed tree whose tags, key values and bodies the document lends.
+/// A keyed tree whose tags, key values and bodies a specification and a document lend, for `'a`, and the document's lender
+/// its texts, for `'t`.
 ///
-/// An attribute is a leaf with its name and no key values. It takes memory for the rows of kids alone.
+/// An attribute is a leaf with its name and no key values. It takes memory for rows, of kids and of several key values, and
+/// for key values that are more than a text.
 #[derive(Drop)]
-pub enum LentKeyed<'a> {
+pub enum LentKeyed<'a, 't> {
     Attr(&'a Attr),
     Leaf {
         label: KeyedLabel<'a>,
-        content: &'a Content,
+        content: LentContent<'a, 't>,
     },
     Inner {
         label: KeyedLabel<'a>,
-        kids: Vec<LentKeyed<'a>>,
+        kids: Vec<LentKeyed<'a, 't>>,
     },
     /// An inner node whose kids are all elements of the document without key values.
     Flat {
         label: KeyedLabel<'a>,
-        leaves: Vec<Bare<'a>>,
+        leaves: Vec<Bare<'a, 't>>,
     },
 }
 
-impl Labelled for LentKeyed<'_> {
+impl Labelled for LentKeyed<'_, '_> {
     ghost keyed = { lent_view };
 
     fn order(&self, other: &Self) -> Ordering {
@@ -51,7 +53,7 @@ impl Labelled for LentKeyed<'_> {
     }
 }
 
-impl LentKeyed<'_> {
+impl LentKeyed<'_, '_> {
     /// A keyed tree of its own with the same value. It recurses as deep as nodes and elements nest.
     #[cycle(own)]
     pub fn own(&self, alloc: Global) -> Result<Keyed, AllocError>
@@ -61,7 +63,7 @@ impl LentKeyed<'_> {
             LentKeyed::Attr(attr) => own_attr(alloc, attr),
             LentKeyed::Leaf { label, content } => Ok(Keyed::Leaf {
                 label: label.copy(alloc)?,
-                body: KeyVal::Content(content.copy(alloc)?),
+                body: KeyVal::Content(content.own(alloc)?),
             }),
             LentKeyed::Inner { label, kids } => Ok(Keyed::Inner {
                 label: label.copy(alloc)?,
@@ -76,7 +78,7 @@ impl LentKeyed<'_> {
 }
 
 /// An attribute against a kid.
-fn order_attr(attr: &Attr, other: &LentKeyed<'_>) -> Ordering
+fn order_attr(attr: &Attr, other: &LentKeyed<'_, '_>) -> Ordering
     ensures { result ≡ label_cmp (label_of (attr_leaf (attr_view attr.now))) (label_of (lent_view other.now)) }
 {
     match other {
@@ -88,7 +90,7 @@ fn order_attr(attr: &Attr, other: &LentKeyed<'_>) -> Ordering
 }
 
 /// The label of an element against a kid.
-fn order_label(label: &KeyedLabel<'_>, other: &LentKeyed<'_>) -> Ordering
+fn order_label(label: &KeyedLabel<'_>, other: &LentKeyed<'_, '_>) -> Ordering
     ensures { result ≡ label_cmp (keyed_label_view label.now) (label_of (lent_view other.now)) }
 {
     match other {
@@ -100,7 +102,7 @@ fn order_label(label: &KeyedLabel<'_>, other: &LentKeyed<'_>) -> Ordering
 }
 
 #[cycle(own)]
-fn own_kids(alloc: Global, kids: &[LentKeyed<'_>]) -> Result<Vec<Keyed>, AllocError>
+fn own_kids(alloc: Global, kids: &[LentKeyed<'_, '_>]) -> Result<Vec<Keyed>, AllocError>
     ensures { IfOk result (λ v. map keyed_view v.items ≡ map lent_view kids.now) }
 {
     let mut copies = Vec::with_capacity(alloc, kids.len())?;
@@ -110,7 +112,7 @@ fn own_kids(alloc: Global, kids: &[LentKeyed<'_>]) -> Result<Vec<Keyed>, AllocEr
     Ok(copies)
 }
 
-fn own_leaves(alloc: Global, leaves: &[Bare<'_>]) -> Result<Vec<Keyed>, AllocError>
+fn own_leaves(alloc: Global, leaves: &[Bare<'_, '_>]) -> Result<Vec<Keyed>, AllocError>
     ensures { IfOk result (λ v. map keyed_view v.items ≡ map bare_view leaves.now) }
 {
     let mut copies = Vec::with_capacity(alloc, leaves.len())?;

@@ -1,9 +1,11 @@
 ghost use Rattle.std.specs.Prelude.{◌≤◌, length};
 
-use crate::{AnnotateFault, keyed};
+use crate::{AnnotateFault, LentKeyed, keyed, lent_keyed};
 use jsonml_text::read_document;
+use jsonml_tree::LentTree;
 use key_spec::Spec;
 use std::alloc::Global;
+use std::borrow::CowStr;
 use std::process::Abort;
 use std::test::Fail;
 
@@ -56,6 +58,21 @@ fn blank_strings_above_the_frontier_are_dropped(rt: HostRuntime) -> Result<(), F
 fn blank_strings_at_the_frontier_stay(rt: HostRuntime) -> Result<(), Fail> {
     let doc = br#"["db","","a"]"#;
     check_tree(&rt, rt.alloc(), b"(/, (db, {}))\n", doc, doc)
+}
+
+#[test]
+fn a_blank_text_alone_above_the_frontier_is_dropped(rt: HostRuntime) -> Result<(), Fail> {
+    let alloc = rt.alloc();
+    let spec = Spec::parse(alloc, COMPANY)?;
+    let doc = LentTree::Leaf {
+        tag: CowStr::Borrowed("db"),
+        text: CowStr::Borrowed(" "),
+    };
+    match lent_keyed(alloc, &spec, &doc)? {
+        LentKeyed::Inner { kids, .. } => assert!(rt; kids.is_empty()),
+        _ => return Err(Fail::from("no inner node")),
+    }
+    Ok(())
 }
 
 #[test]

@@ -1,5 +1,5 @@
 use Rattle.std.proofs.Common.{◌≡◌, map, drop}
-use Rattle.jsonml_tree.specs.View.{items_view}
+use Rattle.jsonml_tree.specs.LentView.{lent_items_view}
 use Rattle.key_annotate.specs.LentView.{lent_view}
 use Rattle.key_spec.specs.View.{names_view, spec_view}
 use Rattle.key_annotate.specs.Ordered.{built_items}
@@ -10,7 +10,7 @@ use Rattle.key_annotate.proofs.build.+build.Given as goal
 abbrev pub invariant-add_items-loop-item : goal.invariant-add_items-loop-item
 invariant-add_items-loop-item l =
     record {
-      kids : after (map lent_view l.fn.kids.items) (built_items (spec_view l.spec) (names_view l.fn.path.items) (items_view l.items))
-          ≡ after (map lent_view l.kids.items) (built_items (spec_view l.spec) (names_view l.fn.path.items) (items_view (drop l.item-index l.items)));
+      kids : after (map lent_view l.fn.kids.items) (built_items (spec_view l.spec) (names_view l.fn.path.items) (lent_items_view l.items))
+          ≡ after (map lent_view l.kids.items) (built_items (spec_view l.spec) (names_view l.fn.path.items) (lent_items_view (drop l.item-index l.items)));
       path : names_view l.path.items ≡ names_view l.fn.path.items;
     }

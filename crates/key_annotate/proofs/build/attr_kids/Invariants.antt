@@ -5,4 +5,4 @@ use Rattle.key_annotate.specs.KeyedOf.{attr_leaf}
 use Rattle.key_annotate.proofs.build.attr_kids.Given as goal
 
 abbrev pub invariant-loop-attr : goal.invariant-loop-attr
-invariant-loop-attr l = map lent_view l.kids.items ≡ map attr_leaf (map attr_view (take l.attr-index l.content.attrs.items))
+invariant-loop-attr l = map lent_view l.kids.items ≡ map attr_leaf (map attr_view (take l.attr-index l.row.attrs.items))
