@@ -1,19 +1,18 @@
 -- The calls of a printer that print a keyed tree.
-use Rattle.std.proofs.Common.{◌≡◌, ℕ, zero, suc, ◌<◌, ◌≤◌, List, [], ◌∷◌, ◌++◌, length, get_or, map, refl, sym, ap, ◌∙◌, subst, arith, Global, String, Vec, Bor}
+use Rattle.std.proofs.Common.{◌≡◌, ℕ, zero, suc, ◌<◌, ◌≤◌, List, [], ◌∷◌, ◌++◌, length, get_or, map, refl, sym, ap, ◌∙◌, subst, arith, Global, Vec, Bor}
 use denote.Param.Weighed.{most}
 use Rattle.std.proofs.lemmas.List.{map-append}
 use Rattle.std.specs.List.{flat_map}
-use Rattle.jsonml_tree.specs.Data.{PlainAttr, PlainContent, PlainTree, text, element, content, PlainTrees}
+use Rattle.jsonml_tree.specs.Data.{PlainAttr, PlainContent, PlainTree, element, content, PlainTrees}
 use Rattle.jsonml_tree.specs.Fits.{IsElement}
 use Rattle.jsonml_text.specs.Calls.{Call, begin, attribute, end, calls_of, content_calls, items_calls}
 use Rattle.keyed_tree.specs.Data.{PlainName, attr, tag, PlainKey, scalar, inside, PlainKeyed, inner, leaf, label_of, kids_from}
 use Rattle.keyed_tree.specs.Plain.{name_bytes, attr_before, attr_onto, attrs_among, item_onto, items_among, plain}
-use Rattle.jsonml_tree.specs.View.{attr_view, content_view, tree_view}
-use Rattle.jsonml_tree.specs.declared.tree.Tree.{Text}
-use Rattle.jsonml_tree.proofs.Trees.{tree_view-Text}
+use Rattle.jsonml_tree.specs.LentView.{lent_content_view}
+use Rattle.jsonml_tree.specs.View.{attr_view}
+use Rattle.jsonml_tree.specs.declared.lent.LentContent.{LentContent}
 use Rattle.jsonml_tree.specs.declared.scalar.Attr as tree
-use Rattle.jsonml_tree.specs.declared.tree.Content as content
-use Rattle.key_annotate.specs.LentView.{bare_leaf, bare_view, lent_view}
+use Rattle.key_annotate.specs.LentView.{bare_view, lent_view}
 use Rattle.key_annotate.proofs.LentViews.{lent_view-Attr, lent_view-Leaf, lent_view-Inner, lent_view-Flat}
 use Rattle.key_annotate.specs.declared.bare.Bare.{Bare}
 use Rattle.key_annotate.specs.LabelView.{keyed_label_view}
@@ -82,27 +81,14 @@ attr_calls k = map attribute (attr_onto (lent_view k) [])
 abbrev pub kid_calls : LentKeyed → List Call
 kid_calls k = element_calls (lent_view k)
 
--- the label of an element names a tag
-tagged : (l : KeyedLabel) (cs : List Call) → calls_by (keyed_label_view l).name cs ≡ cs
-tagged (key.Text t f) cs = refl
-tagged (key.Other m) cs = refl
-
+-- the label of an element names no attribute
 untold : (l : KeyedLabel) (c : PlainContent) → attr_before (keyed_label_view l).name (inside c) [] ≡ []
 untold (key.Text t f) c = refl
 untold (key.Other m) c = refl
 
--- an attribute has no calls among the elements, and any other kid has its own
+-- an attribute has no calls among the elements
 pub kid_calls-Attr : (k : LentKeyed) (a : Bor tree.Attr) → k ≡ Attr a → kid_calls k ≡ []
 kid_calls-Attr k a e = ap kid_calls e ∙ ap element_calls (lent_view-Attr a)
-
-pub kid_calls-Leaf : (k : LentKeyed) (l : KeyedLabel) (c : Bor content.Content) → k ≡ Leaf l c → kid_calls k ≡ calls_of (plain (lent_view k))
-kid_calls-Leaf k l c e = ap kid_calls e ∙ ap element_calls (lent_view-Leaf l c) ∙ tagged l _ ∙ sym (ap (λ j. calls_of (plain (lent_view j))) e ∙ ap (λ v. calls_of (plain v)) (lent_view-Leaf l c))
-
-pub kid_calls-Inner : (k : LentKeyed) (l : KeyedLabel) (ks : Vec LentKeyed Global) → k ≡ Inner l ks → kid_calls k ≡ calls_of (plain (lent_view k))
-kid_calls-Inner k l ks e = ap kid_calls e ∙ ap element_calls (lent_view-Inner l ks) ∙ tagged l _ ∙ sym (ap (λ j. calls_of (plain (lent_view j))) e ∙ ap (λ v. calls_of (plain v)) (lent_view-Inner l ks))
-
-pub kid_calls-Flat : (k : LentKeyed) (l : KeyedLabel) (ls : Vec Bare Global) → k ≡ Flat l ls → kid_calls k ≡ calls_of (plain (lent_view k))
-kid_calls-Flat k l ls e = ap kid_calls e ∙ ap element_calls (lent_view-Flat l ls) ∙ tagged l _ ∙ sym (ap (λ j. calls_of (plain (lent_view j))) e ∙ ap (λ v. calls_of (plain v)) (lent_view-Flat l ls))
 
 -- no element weighs more than the heaviest
 pub most_at : {X : Type 0} (f : X → ℕ) (xs : List X) (i : ℕ) (x : X) → i < length xs → x ≡ get_or xs i x → f x ≤ most f xs
@@ -117,8 +103,8 @@ most_at f xs i x within is = subst (λ y. f y ≤ most f xs) (sym is) (at f xs i
 pub attr_calls-Attr : (k : LentKeyed) (a : Bor tree.Attr) → k ≡ Attr a → attr_calls k ≡ attribute (attr_view a.now) ∷ []
 attr_calls-Attr k a e = ap attr_calls e ∙ ap (λ v. map attribute (attr_onto v [])) (lent_view-Attr a)
 
-pub attr_calls-Leaf : (k : LentKeyed) (l : KeyedLabel) (c : Bor content.Content) → k ≡ Leaf l c → attr_calls k ≡ []
-attr_calls-Leaf k l c e = ap attr_calls e ∙ ap (λ v. map attribute (attr_onto v [])) (lent_view-Leaf l c) ∙ ap (map attribute) (untold l (content_view c.now))
+pub attr_calls-Leaf : (k : LentKeyed) (l : KeyedLabel) (c : LentContent) → k ≡ Leaf l c → attr_calls k ≡ []
+attr_calls-Leaf k l c e = ap attr_calls e ∙ ap (λ v. map attribute (attr_onto v [])) (lent_view-Leaf l c) ∙ ap (map attribute) (untold l (lent_content_view c))
 
 pub attr_calls-Inner : (k : LentKeyed) (l : KeyedLabel) (ks : Vec LentKeyed Global) → k ≡ Inner l ks → attr_calls k ≡ []
 attr_calls-Inner k l ks e = ap attr_calls e ∙ ap (λ v. map attribute (attr_onto v [])) (lent_view-Inner l ks)
@@ -134,27 +120,12 @@ inside_of-Attr k a e = ap (λ j. content_calls (inside_of (lent_view j))) e ∙ 
 abbrev pub leaf_calls : Bare → List Call
 leaf_calls b = calls_of (plain (bare_view b))
 
-no-attr : (t : PlainTree) → map attribute (attr_onto (bare_leaf t) []) ≡ []
-no-attr (text s) = refl
-no-attr (element t c) = refl
-
-own-calls : (t : PlainTree) → element_calls (bare_leaf t) ≡ calls_of (plain (bare_leaf t))
-own-calls (text s) = refl
-own-calls (element t c) = refl
-
 leaves-calls : (ls : List Bare) → flat_map (λ b. map attribute (attr_onto (bare_view b) [])) ls ++ flat_map (λ b. element_calls (bare_view b)) ls ≡ flat_map leaf_calls ls
-leaves-calls ls = ap (λ l. l ++ flat_map (λ b. element_calls (bare_view b)) ls) (none ls) ∙ all ls
+leaves-calls ls = ap (λ l. l ++ flat_map leaf_calls ls) (none ls)
   where
     none : (ls : List Bare) → flat_map (λ b. map attribute (attr_onto (bare_view b) [])) ls ≡ []
     none [] = refl
-    none (b ∷ ls) = ap (λ l. l ++ flat_map (λ b. map attribute (attr_onto (bare_view b) [])) ls) (no-attr (tree_view b.elem.now)) ∙ none ls
-
-    all : (ls : List Bare) → flat_map (λ b. element_calls (bare_view b)) ls ≡ flat_map leaf_calls ls
-    all [] = refl
-    all (b ∷ ls) = ap (λ l. l ++ flat_map (λ b. element_calls (bare_view b)) ls) (own-calls (tree_view b.elem.now)) ∙ ap (λ l. leaf_calls b ++ l) (all ls)
+    none (b ∷ ls) = none ls
 
 pub inside_of-Flat : (k : LentKeyed) (l : KeyedLabel) (ls : Vec Bare Global) → k ≡ Flat l ls → content_calls (inside_of (lent_view k)) ≡ flat_map leaf_calls ls.items
 inside_of-Flat k l ls e = ap (λ j. content_calls (inside_of (lent_view j))) e ∙ ap (λ v. content_calls (inside_of v)) (lent_view-Flat l ls) ∙ kids-calls bare_view ls.items ∙ leaves-calls ls.items
-
-pub inside_of-text : (b : Bare) (s : String Global) → b.elem.now ≡ Text s → content_calls (inside_of (bare_view b)) ≡ []
-inside_of-text b s e = ap (λ t. content_calls (inside_of (bare_leaf (tree_view t)))) e ∙ ap (λ v. content_calls (inside_of (bare_leaf v))) (tree_view-Text s)

@@ -2,13 +2,12 @@
 use Rattle.std.proofs.Common.{◌≡◌, inl, inr, ℕ, ◌<◌, ◌≤◌, true, IsTrue, List, [], ◌∷◌, ◌++◌, length, Result, Ok, Err, IfErr, Vec, Global, Some, refl, sym, ap, ◌∙◌, subst, arith}
 use Rattle.std.proofs.Math.Bool.{Bool-set}
 use Rattle.std.proofs.Math.Logic.{∥∥₁_elim}
-use Rattle.jsonml_tree.specs.Data.{PlainTree, tree_depth}
-use Rattle.jsonml_tree.specs.Fits as tree
-use Rattle.jsonml_tree.specs.WellFormed.{IsWellFormed}
-use Rattle.key_annotate.specs.Stands.{Stands}
 use Rattle.key_spec.specs.Data.{PlainRule}
 use Rattle.keyed_tree.specs.Data.{PlainKeyed}
+use Rattle.keyed_tree.specs.Kids.{IsOrdered}
 use Rattle.keyed_tree.specs.Lists.{Has}
+use Rattle.keyed_tree.specs.Proper.{IsElement}
+use Rattle.keyed_tree.specs.WellFormed.{IsKeyedWellFormed}
 use Rattle.archive_tree.specs.Data.{PlainArchive}
 use Rattle.archive_tree.specs.PartsTest.{is_archive}
 use Rattle.archive_tree.specs.Stands.{AllAlike, ArchiveOf, Kept}
@@ -81,16 +80,14 @@ too_long_after rules given new vs k (Err f) q same is limits none = λ e. record
 }
 
 -- a document that was keyed by the rules in front of an archive goes behind its versions
-pub goes_on : (rules : List PlainRule) (n : ℕ) (bytes : List ℕ) (t : PlainTree) (k : PlainKeyed) → header bytes ≡ Some (rules, n) → tree.IsElement t → IsWellFormed t → tree_depth t ≤ 120 → Stands rules t k → n < 999999
-    → Goes bytes k
-goes_on rules n bytes t k front element formed shallow stands below = record {
-  element = stands.element;
-  ordered = stands.ordered;
-  well_formed = stands.well_formed;
+pub goes_on : (rules : List PlainRule) (n : ℕ) (bytes : List ℕ) (k : PlainKeyed) → header bytes ≡ Some (rules, n) → IsElement k → IsOrdered k → IsKeyedWellFormed k → IsKeyedBy rules k → n < 999999 → Goes bytes k
+goes_on rules n bytes k front element ordered formed keyed below = record {
+  element = element;
+  ordered = ordered;
+  well_formed = formed;
   follows = λ others vs sound.
       let both : Some (rules, n) ≡ Some (others, length vs) = sym front ∙ sound-header others vs bytes sound in
       let same : (rules, n) ≡ (others, length vs) = cc in
-      let keyed : IsKeyedBy rules k = record { document = t; element = element; well_formed = formed; shallow = shallow; satisfies = stands.satisfies; stands = stands.keyed } in
       record {
         keyed = subst (λ z. IsKeyedBy z k) (ap (λ (p : List PlainRule × ℕ). p.0) same) keyed;
         room = subst (λ m. m < 999999) (ap (λ (p : List PlainRule × ℕ). p.1) same) below;

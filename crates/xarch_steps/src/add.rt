@@ -3,15 +3,14 @@
 ghost use Rattle.std.specs.Prelude.{◌≡◌, ◌≢◌, ◌⊎◌, ◌+◌, ◌<◌, ◌≤◌, ◌++◌, ◌∷◌, [], ℕ, List, Some, None, IfOk, IfErr, OnErr, length};
 ghost use Rattle.xa_outside.specs.Folder.{Files};
 ghost use Rattle.xa_outside.specs.Taken.{Taken};
-ghost use Rattle.jsonml_tree.specs.Data.{tree_depth};
-ghost use Rattle.jsonml_tree.specs.Fits.{IsElement, ItemsFit};
-ghost use Rattle.jsonml_tree.specs.View.{tree_view};
-ghost use Rattle.jsonml_tree.specs.WellFormed.{IsWellFormed};
-ghost use Rattle.key_annotate.specs.Stands.{Stands};
 ghost use Rattle.key_spec.specs.Data.{PlainRule};
 ghost use Rattle.key_spec.specs.View.{spec_view};
 ghost use Rattle.keyed_tree.specs.Data.{PlainKeyed};
+ghost use Rattle.keyed_tree.specs.Kids.{IsOrdered};
+ghost use Rattle.keyed_tree.specs.Proper.{IsElement};
 ghost use Rattle.keyed_tree.specs.View.{keyed_view};
+ghost use Rattle.keyed_tree.specs.WellFormed.{IsKeyedWellFormed};
+ghost use Rattle.archive_file.specs.KeyedBy.{IsKeyedBy};
 ghost use Rattle.archive_file.specs.Sound.{SoundAs};
 ghost use Rattle.xarch_words.specs.Commands.{add};
 ghost use Rattle.xarch_words.specs.Refusal as refusal;
@@ -20,16 +19,15 @@ ghost use Rattle.xarch_words.specs.View.{fault_view};
 ghost use Rattle.xarch_steps.specs.Add.{room_behind};
 ghost use Rattle.xarch_steps.specs.Added.{Goes, IsMerging, IsTooLong};
 ghost use Rattle.xarch_steps.specs.Ends.{IsInside, IsOfFolder, Matches, fault_of};
+ghost use Rattle.xarch_steps.specs.Outcome.{and_then};
 ghost use Rattle.xarch_steps.specs.Plausible.{MayBe, MayEnd, add_input};
-ghost use Rattle.xarch_steps.specs.Readings.{keyed_of};
+ghost use Rattle.xarch_steps.specs.Readings.{document_of, keyed_of};
 
 use crate::archives::{archive_from, archive_length, begin, file_from, header_from, store};
 use crate::inputs::{length_of, read_whole};
 use crate::limits;
-use crate::readings::read_doc;
+use crate::readings::{doc_from, keyed_from};
 use archive_tree::Archive;
-use jsonml_tree::Tree;
-use key_annotate::{AnnotateFault, keyed};
 use key_spec::Spec;
 use keyed_tree::Keyed;
 use nested_merge::merge;
@@ -77,26 +75,27 @@ fn read_added<F: Folder>(
     let doc_length = length_of(alloc, folder, doc, Quantity::Document, limits::DOCUMENT)?;
     let bytes = read_whole(alloc, folder, archive, length)?;
     let (spec, n) = header_from(alloc, archive, &bytes)?;
-    let doc = read_doc(alloc, folder, doc, doc_length)?;
-    let keyed = added_from(alloc, &spec, &doc)?;
+    let text = read_whole(alloc, folder, doc, doc_length)?;
+    let keyed = added_from(alloc, &spec, &text)?;
     check_room(n)?;
     Ok((bytes, keyed))
 }
 
-// The keyed tree of a document that satisfies the keys, and what holds of it.
-fn added_from(alloc: Global, spec: &Spec, doc: &Tree) -> Result<Keyed, Fault>
-    requires element { IsElement (tree_view doc.now) }
-    requires items_fit { ItemsFit (tree_view doc.now) }
-    requires well_formed { IsWellFormed (tree_view doc.now) }
+// The keyed tree of the document that some bytes spell, where it satisfies the keys, and what holds of it.
+//
+// The tree owns its texts: the document is let go here, before the archive is decoded.
+fn added_from(alloc: Global, spec: &Spec, text: &[u8]) -> Result<Keyed, Fault>
+    requires { length text.now ≤ 67108864 }
     ensures cause { IsInside (fault_of result) }
-    ensures told { Matches keyed_view (keyed_of (spec_view spec.now) (tree_view doc.now)) result }
-    ensures stands { IfOk result (λ k. Stands (spec_view spec.now) (tree_view doc.now) (keyed_view k)) }
+    ensures told { Matches keyed_view (and_then (document_of text.now) (keyed_of (spec_view spec.now))) result }
+    ensures element { IfOk result (λ k. IsElement (keyed_view k)) }
+    ensures ordered { IfOk result (λ k. IsOrdered (keyed_view k)) }
+    ensures well_formed { IfOk result (λ k. IsKeyedWellFormed (keyed_view k)) }
+    ensures keyed { IfOk result (λ k. IsKeyedBy (spec_view spec.now) (keyed_view k)) }
 {
-    match keyed(alloc, spec, doc) {
-        Ok(keyed) => Ok(keyed),
-        Err(AnnotateFault::Key(fault)) => Err(Fault::KeyFault(fault)),
-        Err(AnnotateFault::Memory) => Err(Fault::Memory),
-    }
+    let doc = doc_from(alloc, text)?;
+    let keyed = keyed_from(alloc, spec, &doc)?;
+    Ok(keyed.own(alloc)?)
 }
 
 /// Nothing, where an archive of n versions may have one more.

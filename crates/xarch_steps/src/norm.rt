@@ -6,10 +6,10 @@ ghost use Rattle.xa_outside.specs.Numbers.{PullsAtMost};
 ghost use Rattle.xarch_steps.specs.Ends.{EndsAs, IsOfCommand, fault_of};
 ghost use Rattle.xarch_steps.specs.Norm.{norm_of};
 
-use crate::inputs::length_of;
+use crate::inputs::{length_of, read_whole};
 use crate::limits;
 use crate::put::write_keyed;
-use crate::readings::{keyed_from, read_doc, read_spec};
+use crate::readings::{doc_from, keyed_from, read_spec};
 use std::alloc::Global;
 use xa_outside::{Folder, Sink};
 use xarch_words::{Fault, Quantity};
@@ -40,7 +40,8 @@ pub(crate) fn run_norm<F: Folder, O: Sink>(
     )?;
     let doc_length = length_of(alloc, folder, doc, Quantity::Document, limits::DOCUMENT)?;
     let spec = read_spec(alloc, folder, spec, spec_length)?;
-    let doc = read_doc(alloc, folder, doc, doc_length)?;
+    let bytes = read_whole(alloc, folder, doc, doc_length)?;
+    let doc = doc_from(alloc, &bytes)?;
     let keyed = keyed_from(alloc, &spec, &doc)?;
     write_keyed(&keyed, out)
 }

@@ -12,12 +12,11 @@ ghost use Rattle.key_annotate.specs.LentView.{bare_view, lent_view};
 ghost use Rattle.xarch_steps.specs.KeyedText.{element_calls, inside_of};
 
 use crate::put::Printable;
-use jsonml_text::{Printer, print_content};
-use jsonml_tree::Tree;
+use jsonml_text::{Printer, print_lent_content};
 use key_annotate::{Bare, LentKeyed};
 use xa_outside::{Failed, Sink};
 
-impl Printable for LentKeyed<'_> {
+impl Printable for LentKeyed<'_, '_> {
     ghost keyed = { lent_view };
 
     fn print<K: Sink>(&self, printer: &mut Printer, sink: &mut K) -> Result<(), Failed> {
@@ -27,7 +26,7 @@ impl Printable for LentKeyed<'_> {
 
 #[cycle(print)]
 fn print_keyed<K: Sink>(
-    keyed: &LentKeyed<'_>,
+    keyed: &LentKeyed<'_, '_>,
     printer: &mut Printer,
     sink: &mut K,
 ) -> Result<(), Failed>
@@ -41,7 +40,7 @@ fn print_keyed<K: Sink>(
 
 #[cycle(print)]
 fn print_behind_tag<K: Sink>(
-    keyed: &LentKeyed<'_>,
+    keyed: &LentKeyed<'_, '_>,
     printer: &mut Printer,
     sink: &mut K,
 ) -> Result<(), Failed>
@@ -55,7 +54,7 @@ fn print_behind_tag<K: Sink>(
 
 #[cycle(print)]
 fn print_inside<K: Sink>(
-    keyed: &LentKeyed<'_>,
+    keyed: &LentKeyed<'_, '_>,
     printer: &mut Printer,
     sink: &mut K,
 ) -> Result<(), Failed>
@@ -65,7 +64,7 @@ fn print_inside<K: Sink>(
 {
     match keyed {
         LentKeyed::Inner { kids, .. } => print_kids(kids, printer, sink),
-        LentKeyed::Leaf { content, .. } => print_content(content, printer, sink),
+        LentKeyed::Leaf { content, .. } => print_lent_content(*content, printer, sink),
         LentKeyed::Flat { leaves, .. } => print_leaves(leaves, printer, sink),
         // In a keyed tree of a document an attribute has no kids, and is printed by its parent.
         LentKeyed::Attr(_) => Ok(()),
@@ -75,7 +74,7 @@ fn print_inside<K: Sink>(
 /// The kids that are attributes, and then the elements.
 #[cycle(print)]
 fn print_kids<K: Sink>(
-    kids: &[LentKeyed<'_>],
+    kids: &[LentKeyed<'_, '_>],
     printer: &mut Printer,
     sink: &mut K,
 ) -> Result<(), Failed>
@@ -89,7 +88,7 @@ fn print_kids<K: Sink>(
 }
 
 fn print_attributes<K: Sink>(
-    kids: &[LentKeyed<'_>],
+    kids: &[LentKeyed<'_, '_>],
     printer: &mut Printer,
     sink: &mut K,
 ) -> Result<(), Failed>
@@ -105,7 +104,7 @@ fn print_attributes<K: Sink>(
 
 /// The attribute that a kid spells, if it is named by one.
 fn print_attribute<K: Sink>(
-    kid: &LentKeyed<'_>,
+    kid: &LentKeyed<'_, '_>,
     printer: &mut Printer,
     sink: &mut K,
 ) -> Result<(), Failed>
@@ -123,7 +122,7 @@ fn print_attribute<K: Sink>(
 
 #[cycle(print)]
 fn print_elements<K: Sink>(
-    kids: &[LentKeyed<'_>],
+    kids: &[LentKeyed<'_, '_>],
     printer: &mut Printer,
     sink: &mut K,
 ) -> Result<(), Failed>
@@ -140,7 +139,7 @@ fn print_elements<K: Sink>(
 /// A kid that is named by a tag.
 #[cycle(print)]
 fn print_element<K: Sink>(
-    kid: &LentKeyed<'_>,
+    kid: &LentKeyed<'_, '_>,
     printer: &mut Printer,
     sink: &mut K,
 ) -> Result<(), Failed>
@@ -157,7 +156,7 @@ fn print_element<K: Sink>(
 }
 
 /// The tag of a node, or the name of an attribute.
-fn name_of<'a>(keyed: &'a LentKeyed<'_>) -> &'a str
+fn name_of<'a>(keyed: &'a LentKeyed<'_, '_>) -> &'a str
     ensures { result.now ≡ name_bytes (label_of (lent_view keyed.now)).name }
 {
     match keyed {
@@ -170,7 +169,7 @@ fn name_of<'a>(keyed: &'a LentKeyed<'_>) -> &'a str
 
 /// Elements that the document has as they are.
 fn print_leaves<K: Sink>(
-    leaves: &[Bare<'_>],
+    leaves: &[Bare<'_, '_>],
     printer: &mut Printer,
     sink: &mut K,
 ) -> Result<(), Failed>
@@ -184,17 +183,21 @@ fn print_leaves<K: Sink>(
     Ok(())
 }
 
-fn print_leaf<K: Sink>(leaf: &Bare<'_>, printer: &mut Printer, sink: &mut K) -> Result<(), Failed>
+fn print_leaf<K: Sink>(
+    leaf: &Bare<'_, '_>,
+    printer: &mut Printer,
+    sink: &mut K,
+) -> Result<(), Failed>
     requires { AllMayCome printer.old (calls_of (plain (bare_view leaf.now))) }
     ensures prints { Prints (K.taken sink.old) (K.taken sink.new) printer.old printer.new (calls_of (plain (bare_view leaf.now))) result }
     ensures cause { HasCause (K.faults sink.old) (K.faults sink.new) result }
 {
-    printer.begin_elem(sink, leaf.tag())?;
+    printer.begin_elem(sink, leaf.tag)?;
     print_behind_leaf(leaf, printer, sink)
 }
 
 fn print_behind_leaf<K: Sink>(
-    leaf: &Bare<'_>,
+    leaf: &Bare<'_, '_>,
     printer: &mut Printer,
     sink: &mut K,
 ) -> Result<(), Failed>
@@ -202,22 +205,6 @@ fn print_behind_leaf<K: Sink>(
     ensures prints { Prints (K.taken sink.old) (K.taken sink.new) printer.old printer.new (content_calls (inside_of (bare_view leaf.now)) ++ end ∷ []) result }
     ensures cause { HasCause (K.faults sink.old) (K.faults sink.new) result }
 {
-    print_inside_leaf(leaf, printer, sink)?;
+    print_lent_content(leaf.content, printer, sink)?;
     printer.end_elem(sink)
-}
-
-#[tactic(auto, using(crate::proofs::Ending::endings, jsonml_tree::proofs::Trees::trees))]
-fn print_inside_leaf<K: Sink>(
-    leaf: &Bare<'_>,
-    printer: &mut Printer,
-    sink: &mut K,
-) -> Result<(), Failed>
-    requires { AllMayCome printer.old (content_calls (inside_of (bare_view leaf.now))) }
-    ensures prints { Prints (K.taken sink.old) (K.taken sink.new) printer.old printer.new (content_calls (inside_of (bare_view leaf.now))) result }
-    ensures cause { HasCause (K.faults sink.old) (K.faults sink.new) result }
-{
-    match leaf.elem {
-        Tree::Elem { content, .. } => print_content(content, printer, sink),
-        Tree::Text(_) => Ok(()),
-    }
 }

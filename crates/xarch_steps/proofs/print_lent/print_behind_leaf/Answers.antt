@@ -5,19 +5,19 @@ use Rattle.key_annotate.specs.LentView.{bare_view}
 use Rattle.xarch_steps.specs.KeyedText.{inside_of}
 use Rattle.xarch_steps.proofs.print_lent.print_behind_leaf.Goals as goal
 
-pub print_inside_leaf-requires : goal.print_inside_leaf-requires
-print_inside_leaf-requires g c = AllMayCome-front c.args.printer.now (content_calls (inside_of (bare_view c.args.leaf.now))) (end ∷ []) c.requires
+pub print_lent_content-requires : goal.print_lent_content-requires
+print_lent_content-requires g c = AllMayCome-front c.args.printer.now (content_calls (inside_of (bare_view c.args.leaf.now))) (end ∷ []) c.requires
 
-pub returns-in_err-print_inside_leaf-clause-prints : goal.returns-in_err-print_inside_leaf-clause-prints
-returns-in_err-print_inside_leaf-clause-prints g c =
-    Prints-failed (g.K.Sink.taken c.args.sink.now) (g.K.Sink.taken c.print_inside_leaf.new.sink) c.args.printer.now c.print_inside_leaf.new.printer (content_calls (inside_of (bare_view c.args.leaf.now))) (end ∷ [])
-    c.from_residual.result c.from_residual.ensures.0 c.in_err-print_inside_leaf.ensures.prints.bytes
+pub returns-in_err-print_lent_content-clause-prints : goal.returns-in_err-print_lent_content-clause-prints
+returns-in_err-print_lent_content-clause-prints g c =
+    Prints-failed (g.K.Sink.taken c.args.sink.now) (g.K.Sink.taken c.print_lent_content.new.sink) c.args.printer.now c.print_lent_content.new.printer (content_calls (inside_of (bare_view c.args.leaf.now))) (end ∷ [])
+    c.from_residual.result c.from_residual.ensures.0 c.in_err-print_lent_content.ensures.prints.bytes
 
 pub end_elem-requires : goal.end_elem-requires
 end_elem-requires g c =
-    (AllMayCome-back c.args.printer.now c.print_inside_leaf.new.printer (content_calls (inside_of (bare_view c.args.leaf.now))) (end ∷ []) c.in_ok-print_inside_leaf.ensures.prints.pen c.requires).0
+    (AllMayCome-back c.args.printer.now c.print_lent_content.new.printer (content_calls (inside_of (bare_view c.args.leaf.now))) (end ∷ []) c.in_ok-print_lent_content.ensures.prints.pen c.requires).0
 
 pub returns-clause-prints : goal.returns-clause-prints
 returns-clause-prints g c =
-    Prints-after (g.K.Sink.taken c.args.sink.now) (g.K.Sink.taken c.print_inside_leaf.new.sink) (g.K.Sink.taken c.end_elem.new.sink) c.args.printer.now c.print_inside_leaf.new.printer c.end_elem.new.self
-    (content_calls (inside_of (bare_view c.args.leaf.now))) (end ∷ []) c.end_elem.result c.in_ok-print_inside_leaf.ensures.prints.bytes c.in_ok-print_inside_leaf.ensures.prints.pen c.end_elem.ensures.prints
+    Prints-after (g.K.Sink.taken c.args.sink.now) (g.K.Sink.taken c.print_lent_content.new.sink) (g.K.Sink.taken c.end_elem.new.sink) c.args.printer.now c.print_lent_content.new.printer c.end_elem.new.self
+    (content_calls (inside_of (bare_view c.args.leaf.now))) (end ∷ []) c.end_elem.result c.in_ok-print_lent_content.ensures.prints.bytes c.in_ok-print_lent_content.ensures.prints.pen c.end_elem.ensures.prints

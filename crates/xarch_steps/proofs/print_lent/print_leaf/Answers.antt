@@ -1,8 +1,6 @@
-use Rattle.std.proofs.Common.{◌∷◌, [], ◌++◌, List, ap, subst, sym}
+use Rattle.std.proofs.Common.{◌∷◌, [], ◌++◌, List, refl, subst, sym}
 use Rattle.jsonml_text.specs.Calls.{Call, begin, end, Prints, content_calls}
 use Rattle.jsonml_text.proofs.Walks.{Prints-after, Prints-failed}
-use Rattle.keyed_tree.specs.Data.{PlainLabel}
-use Rattle.keyed_tree.specs.Plain.{name_bytes}
 use Rattle.key_annotate.specs.LentView.{bare_view}
 use Rattle.xarch_steps.specs.KeyedText.{inside_of}
 use Rattle.xarch_steps.proofs.KeyedCalls.{calls-named}
@@ -15,9 +13,9 @@ returns-in_err-begin_elem-clause-prints g c =
     let p = c.args.printer.now in
     let q = c.begin_elem.new.self in
     let k = bare_view c.args.leaf.now in
-    let whole = calls-named k c.tag.result.now (sym (ap (λ (l : PlainLabel). name_bytes l.name) c.tag.ensures)) in
+    let whole = calls-named k c.args.leaf.now.tag.now refl in
     subst (λ (l : List Call). Prints a b p q l c.from_residual.result) (sym whole)
-    (Prints-failed a b p q (begin c.tag.result.now ∷ []) (content_calls (inside_of k) ++ end ∷ []) c.from_residual.result c.from_residual.ensures.0 c.in_err-begin_elem.ensures.prints.bytes)
+    (Prints-failed a b p q (begin c.args.leaf.now.tag.now ∷ []) (content_calls (inside_of k) ++ end ∷ []) c.from_residual.result c.from_residual.ensures.0 c.in_err-begin_elem.ensures.prints.bytes)
 
 pub returns-clause-prints : goal.returns-clause-prints
 returns-clause-prints g c =
@@ -28,6 +26,6 @@ returns-clause-prints g c =
     let q = c.begin_elem.new.self in
     let r = c.print_behind_leaf.new.printer in
     let k = bare_view c.args.leaf.now in
-    let whole = calls-named k c.tag.result.now (sym (ap (λ (l : PlainLabel). name_bytes l.name) c.tag.ensures)) in
+    let whole = calls-named k c.args.leaf.now.tag.now refl in
     subst (λ (l : List Call). Prints a d p r l c.print_behind_leaf.result) (sym whole)
-    (Prints-after a b d p q r (begin c.tag.result.now ∷ []) (content_calls (inside_of k) ++ end ∷ []) c.print_behind_leaf.result c.in_ok-begin_elem.ensures.prints.bytes c.in_ok-begin_elem.ensures.prints.pen c.print_behind_leaf.ensures.prints)
+    (Prints-after a b d p q r (begin c.args.leaf.now.tag.now ∷ []) (content_calls (inside_of k) ++ end ∷ []) c.print_behind_leaf.result c.in_ok-begin_elem.ensures.prints.bytes c.in_ok-begin_elem.ensures.prints.pen c.print_behind_leaf.ensures.prints)
