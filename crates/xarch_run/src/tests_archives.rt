@@ -1,7 +1,17 @@
+ghost use Rattle.std.specs.Prelude.{◌≤◌, IfOk, length};
+ghost use Rattle.key_spec.specs.View.{spec_view};
+ghost use Rattle.keyed_tree.specs.View.{keyed_view};
+ghost use Rattle.archive_file.specs.KeyedBy.{IsKeyedBy};
+
 use crate::tests::{COMPANY, JOHN, TINY, answer};
+use jsonml_text::read_document;
+use key_annotate::keyed;
+use key_spec::Spec;
+use keyed_tree::Keyed;
 use std::alloc::{AllocError, Global};
 use std::test::Fail;
 use xa_outside::{FolderCall, FolderFail, MemFolder, MemSink};
+use xarch_steps::file_of_versions;
 
 /// Elements that are told apart by an attribute.
 pub(crate) const BY_ID: &[u8] = b"(/, (db, {}))\n(/db, (e, {@id}))\n";
@@ -147,6 +157,30 @@ fn a_salary_that_returns_is_kept_once(rt: HostRuntime) -> Result<(), Fail> {
     assert!(rt; gets(alloc, &mut folder, "1", JOHN)?);
     assert!(rt; gets(alloc, &mut folder, "2", JOHN_RAISED)?);
     assert!(rt; gets(alloc, &mut folder, "3", JOHN)?);
+    Ok(())
+}
+
+/// The keyed tree of a document.
+fn keyed_document(alloc: Global, spec: &Spec, doc: &[u8]) -> Result<Keyed, Fail>
+    requires { length doc.now ≤ 1000 }
+    ensures { IfOk result (λ k. IsKeyedBy (spec_view spec.now) (keyed_view k)) }
+{
+    let doc = read_document(alloc, doc)?;
+    Ok(keyed(alloc, spec, &doc)?)
+}
+
+#[test]
+fn merging_all_documents_gives_the_file_that_adding_them_left(rt: HostRuntime) -> Result<(), Fail> {
+    let alloc = rt.alloc();
+    let (folder, statuses) = archive(alloc, COMPANY, &[JOHN, JOHN_RAISED, JOHN])?;
+    assert_eq!(rt; statuses.as_slice(), [0u8, 0, 0, 0].as_slice());
+    let spec = Spec::parse(alloc, COMPANY)?;
+    let first = keyed_document(alloc, &spec, JOHN)?;
+    let second = keyed_document(alloc, &spec, JOHN_RAISED)?;
+    let third = keyed_document(alloc, &spec, JOHN)?;
+    let versions = vec![in alloc; first, second, third]?;
+    let bytes = file_of_versions(alloc, &spec, &versions)?;
+    assert!(rt; has_bytes(&folder, &bytes));
     Ok(())
 }
 

@@ -7,6 +7,7 @@ pub mod InitEnds
 pub mod KeptCalls
 pub mod KeyedCalls
 pub mod MayEnds
+pub mod MergedLemmas
 pub mod Merging
 pub mod OneStep
 pub mod Running

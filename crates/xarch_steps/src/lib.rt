@@ -9,6 +9,7 @@ mod history;
 mod init;
 mod inputs;
 mod limits;
+mod merged;
 mod norm;
 mod print_kept;
 mod print_lent;
@@ -17,4 +18,5 @@ mod readings;
 mod stats;
 mod step;
 
+pub use merged::file_of_versions;
 pub use step::take_step;
