@@ -1,21 +1,17 @@
 -- The loop of a batch, whatever the folder and the input tell.
-use Rattle.std.proofs.Common.{◌≡◌, ◌≢◌, ◌⊎◌, inl, inr, ℕ, ◌+◌, ◌<◌, ◌≤◌, List, [], ◌∷◌, ◌++◌, length, Bool, true, false, Option, None, Some, Result, Ok, Err, refl, sym, ap, ◌∙◌, subst, arith, append_assoc, length-append}
+use Rattle.std.proofs.Common.{◌≡◌, ◌≢◌, inl, inr, ℕ, ◌≤◌, List, [], ◌∷◌, ◌++◌, Bool, true, false, Option, None, Some, Ok, Err, refl, sym, ap, ◌∙◌, subst, arith}
 use Rattle.std.specs.Io.KnownBytes.{Consumes, prepend_known}
-use Rattle.std.proofs.KnownBytes.{Consumes-nil, Consumes-trans, prepend_known-nil}
-use Rattle.xa_outside.specs.Causes.{Rose}
-use Rattle.xa_outside.specs.Filled.{ConsumesSome}
+use Rattle.std.proofs.KnownBytes.{Consumes-trans, prepend_known-nil}
 use Rattle.xa_outside.specs.Folder.{Files}
 use Rattle.xa_outside.specs.Taken.{Taken}
-use Rattle.xa_outside.proofs.CauseLemmas.{Rose-later}
 use Rattle.xarch_words.specs.Lines.{fault_line, fault_status}
 use Rattle.xarch_words.specs.Refusal.{memory}
 use Rattle.xarch_steps.specs.Ran.{Says}
-use Rattle.xarch_run.specs.Batch.{BatchEnds, IsAnswer, ReadsAsSaid, scene}
+use Rattle.xarch_run.specs.Batch.{BatchEnds, ReadsAsSaid, scene}
 use Rattle.xarch_run.specs.Faults.{stop_fault}
-use Rattle.xarch_run.specs.Feed.{HasItsCause, ahead, budget, pending}
-use Rattle.xarch_run.specs.Lines.{without_blanks}
+use Rattle.xarch_run.specs.Feed.{ahead, budget, pending}
 use Rattle.xarch_run.specs.Shown.{Shows}
-use Rattle.xarch_run.specs.Taking.{TakesEnded, TakesLine}
+use Rattle.xarch_run.specs.Taking.{TakesLine}
 use Rattle.xarch_run.specs.Turns.{IsLastStatus, LineRuns}
 use Rattle.xarch_run.specs.declared.feed.Feed.{Feed}
 use Rattle.xarch_run.specs.declared.lines.Lines.{Lines}

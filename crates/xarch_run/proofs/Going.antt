@@ -1,5 +1,5 @@
 -- How far a batch has come, and how it ends from there.
-use Rattle.std.proofs.Common.{◌≡◌, ◌⊎◌, inl, inr, ℕ, ◌+◌, ◌<◌, ◌≤◌, List, [], ◌∷◌, ◌++◌, length, Bool, true, false, Option, None, Some, Result, Ok, Err, refl, sym, ap, ◌∙◌, subst, arith, append_assoc, append-nil, length-append}
+use Rattle.std.proofs.Common.{◌≡◌, inl, inr, ℕ, ◌+◌, ◌<◌, ◌≤◌, List, [], ◌∷◌, ◌++◌, length, Bool, true, false, Option, None, Some, Ok, Err, refl, sym, ap, ◌∙◌, subst, arith, append_assoc, append-nil, length-append}
 use Rattle.std.specs.Io.KnownBytes.{Consumes, IsAtEnd}
 use Rattle.std.proofs.KnownBytes.{Consumes-trans}
 use Rattle.xa_outside.specs.Folder.{Files}
@@ -7,12 +7,12 @@ use Rattle.xa_outside.specs.Taken.{Taken}
 use Rattle.xarch_words.specs.Lines.{fault_line}
 use Rattle.xarch_words.specs.Refusal.{batch, limit, refused, in_fault, memory}
 use Rattle.xarch_steps.specs.Ran.{Says}
-use Rattle.xarch_run.specs.Batch.{AllRun, BatchEnds, Gains, NoMemory, PastLimit, ReadFailed, ReadsAsSaid, RunsOver, StoppedAt, scene}
+use Rattle.xarch_run.specs.Batch.{BatchEnds, RunsOver, scene}
 use Rattle.xarch_run.specs.Feed.{ahead, budget}
-use Rattle.xarch_run.specs.Lines.{has_line_feed, is_blank, lines_of, ended_lines_of, without_blanks}
+use Rattle.xarch_run.specs.Lines.{is_blank, lines_of, without_blanks}
 use Rattle.xarch_run.specs.Shown.{Shows}
 use Rattle.xarch_run.specs.Taking.{TakesLine, TakesEnded, TakesLast, FailsIn, EndsIn}
-use Rattle.xarch_run.specs.Turns.{LineRuns, LineStops, NoWords}
+use Rattle.xarch_run.specs.Turns.{LineRuns, NoWords}
 use Rattle.xarch_run.specs.declared.lines.Lines.{Lines}
 use Rattle.xarch_run.proofs.Cuts.{Cuts, Cuts-none, Cuts-line, Cuts-last, Cuts-ended, without_blanks-other}
 use Rattle.xarch_run.proofs.Runs.{RunsOver-none, RunsOver-trans, RunsOver-said, StoppedAt-after}

@@ -6,7 +6,7 @@ use Rattle.std.proofs.KnownBytes.{Consumes-nil, Consumes-trans, Consumes-kept}
 use Rattle.xarch_run.specs.Feed.{Fills, ahead, budget, pending}
 use Rattle.xarch_run.specs.Lines.{IsFirstLineFeed, has_line_feed}
 use Rattle.xarch_run.specs.Shown.{Shows}
-use Rattle.xarch_run.specs.Taking.{EndsIn, FailsIn, PutsAll, PutsEnd, TakesEnded, TakesLast, TakesLine}
+use Rattle.xarch_run.specs.Taking.{PutsAll, PutsEnd, TakesLine}
 use Rattle.xarch_run.specs.declared.feed.Feed.{Feed}
 use Rattle.xarch_run.specs.declared.line.Line.{Line}
 use Rattle.xarch_run.specs.declared.lines.Lines.{Lines}

@@ -1,6 +1,5 @@
 -- Runs of lines, one behind another.
-use Rattle.std.proofs.Common.{◌≡◌, ℕ, ◌+◌, ◌<◌, ◌≤◌, List, [], ◌∷◌, ◌++◌, length, take, Option, None, Some, refl, sym, ap, ◌∙◌, subst, arith, append_assoc, append-nil}
-use Rattle.std.specs.List.{flat_map}
+use Rattle.std.proofs.Common.{◌≡◌, ℕ, ◌≤◌, List, [], ◌∷◌, ◌++◌, refl, sym, ap, ◌∙◌, subst, arith, append_assoc, append-nil}
 use Rattle.std.proofs.lemmas.Grind.{flat_map-append}
 use Rattle.xa_outside.specs.Causes.{Rose}
 use Rattle.xa_outside.specs.Folder.{Files}
@@ -11,7 +10,7 @@ use Rattle.xarch_steps.specs.Outcome.{Step}
 use Rattle.xarch_steps.specs.Ran.{Says}
 use Rattle.xarch_run.specs.Steps.{LineMay, StepsAre, files_after, lines_said, outs, turn_text}
 use Rattle.xarch_run.specs.Lines.{lines_of}
-use Rattle.xarch_run.specs.Batch.{Gains, RunsOver, Scene, Stops, StoppedAt, scene}
+use Rattle.xarch_run.specs.Batch.{Gains, RunsOver, Stops, StoppedAt, scene}
 
 -- ---- steps
 

@@ -1,21 +1,21 @@
 -- What one line did, from the answer of its command and its status line.
-use Rattle.std.proofs.Common.{◌≡◌, ◌≢◌, ◌⊎◌, inl, inr, ℕ, ◌==◌, ◌≤◌, List, [], ◌∷◌, ◌++◌, length, take, nat_lt, Bool, true, false, cond, Option, None, Some, Result, Ok, Err, refl, sym, ap, ◌∙◌, subst, arith, append-nil}
+use Rattle.std.proofs.Common.{◌≡◌, ◌≢◌, ◌⊎◌, inl, inr, ℕ, ◌==◌, ◌≤◌, List, [], ◌∷◌, ◌++◌, length, take, nat_lt, Bool, true, false, cond, Option, None, Some, Result, Ok, Err, refl, sym, ap, ◌∙◌, subst, arith}
 use Rattle.std.specs.Prelude.{MatchBool, MatchOption}
 use Rattle.std.proofs.lemmas.Bool.{eqb-true}
 use Rattle.xa_outside.specs.Causes.{Rose}
 use Rattle.xa_outside.proofs.CauseLemmas.{Rose-later}
 use Rattle.xa_outside.specs.Folder.{Files}
-use Rattle.xa_outside.specs.Taken.{Taken, Takes, TakesNone, TakesPrefix}
+use Rattle.xa_outside.specs.Taken.{Taken, Takes}
 use Rattle.xa_outside.proofs.Output.{Takes-nil, Takes-kept, Takes-trans}
 use Rattle.xarch_words.specs.Lines.{fault_line, fault_status, refusal_status}
 use Rattle.xarch_words.specs.Refusal.{Refusal, usage, no_file, exists, bad_spec, bad_json, bad_shape, key_fault, no_version, bad_path, damaged, line, limit, PlainFault, refused, folder_fault, out_fault, in_fault, memory}
 use Rattle.xarch_steps.specs.Outcome.{Step, step_from}
-use Rattle.xarch_steps.specs.Plausible.{Plausible, Tried, Wrote, WrotePrefix}
-use Rattle.xarch_steps.specs.Ran.{Ran, Said, Says, line_after, outside_of, status_after}
-use Rattle.xarch_run.specs.Batch.{EndsTheBatch, Faults, FaultStatusFails, Gains, IsPart, RunsOver, StatusFails, Stops, WriteFails, scene}
+use Rattle.xarch_steps.specs.Plausible.{Plausible, Tried, Wrote}
+use Rattle.xarch_steps.specs.Ran.{Said, Says, line_after, outside_of, status_after}
+use Rattle.xarch_run.specs.Batch.{EndsTheBatch, Gains, IsPart, RunsOver, scene}
 use Rattle.xarch_run.specs.Lines.{is_blank, without_blanks}
 use Rattle.xarch_run.specs.Steps.{LineMay, WordsMay, status_line}
-use Rattle.xarch_run.specs.Turns.{IsLastStatus, IsSilent, IsUntouched, LastStatus, LineFaults, LinePrefix, LineRuns, LineStops, LineTakes, LineTried, LineWrote, NoStatus, NoWords, StatusComes, StatusEnds, StatusLost}
+use Rattle.xarch_run.specs.Turns.{IsLastStatus, IsUntouched, LastStatus, LineFaults, LineRuns, LineStops, LineTakes, LineTried, LineWrote, NoStatus, NoWords, StatusComes, StatusEnds, StatusLost}
 use Rattle.xarch_run.specs.Words.{words_of}
 use Rattle.xarch_run.proofs.Cuts.{without_blanks-blank, without_blanks-other}
 use Rattle.xarch_run.proofs.Runs.{Gains-trans, RunsOver-none, RunsOver-one}

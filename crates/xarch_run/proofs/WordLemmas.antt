@@ -1,5 +1,5 @@
 -- What the words of a line are read from.
-use Rattle.std.proofs.Common.{◌≡◌, ℕ, List, [], ◌∷◌, ◌++◌, map, Bool, true, false, cond, Option, Some, None, option_map, String, Global, refl, sym, ap, ◌∙◌, append_assoc, append-nil}
+use Rattle.std.proofs.Common.{◌≡◌, ℕ, List, [], ◌∷◌, ◌++◌, Bool, true, false, cond, Option, Some, None, option_map, String, Global, refl, sym, ap, ◌∙◌, append_assoc, append-nil}
 use Rattle.std.specs.Prelude.{option_and_then, string_bytes}
 use Rattle.std.proofs.lemmas.List.{map-append}
 use Rattle.std.specs.Str.{IsUtf8, is_utf8}

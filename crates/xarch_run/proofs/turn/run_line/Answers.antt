@@ -1,5 +1,4 @@
-use Rattle.std.proofs.Common.{◌≡◌, Some, inl, true, false, sym, ◌∙◌}
-use Rattle.xa_outside.specs.Folder.{Files}
+use Rattle.std.proofs.Common.{◌≡◌, inl, true, false, sym, ◌∙◌}
 use Rattle.xarch_run.specs.Lines.{is_blank}
 use Rattle.xarch_run.proofs.TurnLemmas.{runs-blank, runs-ended, runs-unread}
 use Rattle.xarch_run.proofs.turn.run_line.Goals as goal

@@ -1,4 +1,4 @@
-use Rattle.std.proofs.Common.{◌≡◌, ℕ, List, length, nat_lt, true, false, Some, None, option_map, sym, ap, ◌∙◌}
+use Rattle.std.proofs.Common.{◌≡◌, length, nat_lt, true, false, Some, None, option_map, sym, ap, ◌∙◌}
 use Rattle.xarch_words.specs.Refusal.{line, limit, usage}
 use Rattle.xarch_words.specs.View.{words_view}
 use Rattle.xarch_run.specs.Words.{words_of}

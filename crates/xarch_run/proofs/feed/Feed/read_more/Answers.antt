@@ -1,4 +1,4 @@
-use Rattle.std.proofs.Common.{◌≡◌, ℕ, ◌<◌, length, ap, arith}
+use Rattle.std.proofs.Common.{◌≡◌, ◌<◌, length, ap, arith}
 use Rattle.xarch_run.specs.Feed.{pending}
 use Rattle.xarch_run.proofs.FeedLemmas.{past_read}
 use Rattle.xarch_run.proofs.feed.Feed.read_more.Goals as goal

@@ -1,4 +1,4 @@
-use Rattle.std.proofs.Common.{◌≡◌, ◌∙◌, rules}
+use Rattle.std.proofs.Common.{◌∙◌}
 use Rattle.xarch_run.proofs.LineLemmas.{shows-whole}
 use Rattle.xarch_run.proofs.line.Line.bytes.Goals as goal
 

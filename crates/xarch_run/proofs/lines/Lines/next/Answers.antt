@@ -1,4 +1,4 @@
-use Rattle.std.proofs.Common.{◌≡◌, ◌<◌, ◌≤◌, Bool, true, false, Ok, refl, subst, arith, rules}
+use Rattle.std.proofs.Common.{◌≡◌, ◌<◌, Bool, true, Ok, refl, subst, rules}
 use Rattle.xarch_run.specs.Feed.{Fills, budget}
 use Rattle.xarch_run.specs.Taking.{PutsPiece}
 use Rattle.xarch_run.specs.declared.lines.Lines.{Lines}
