@@ -50,7 +50,7 @@ number _ = pos 0
 abbrev by_parts : PlainScalar → PlainScalar → Ordering
 by_parts = then_cmp (on rank nat_cmp) (then_cmp (on number int_cmp) (on bytes text_cmp))
 
-then-Equal : (o : Ordering) → ordering_then o Equal ≡ o
+pub then-Equal : (o : Ordering) → ordering_then o Equal ≡ o
 then-Equal o = grind arith
 
 as_parts : (x y : PlainScalar) → by_parts x y ≡ scalar_cmp x y

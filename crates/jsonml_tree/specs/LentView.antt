@@ -1,16 +1,13 @@
 -- The plain data that a lent tree stands for.
-use Rattle.std.specs.Prelude.{ℕ, List, [], map}
+pub use Rattle.jsonml_tree.specs.Data.{only_text}
+use Rattle.std.specs.Prelude.{List, map}
 use Rattle.std.specs.Cow.{cow_str_bytes}
-use Rattle.jsonml_tree.specs.Data.{PlainTree, text, element, PlainContent, content, PlainTrees, no_trees, tree, trees_of}
+use Rattle.jsonml_tree.specs.Data.{PlainTree, text, element, PlainContent, content, PlainTrees, trees_of}
 use Rattle.jsonml_tree.specs.View.{attr_view}
 use Rattle.jsonml_tree.specs.declared.lent.LentContent.{LentContent}
 use Rattle.jsonml_tree.specs.declared.lent.LentContent.TheVariants as lent
 use Rattle.jsonml_tree.specs.declared.lent.LentRow.{LentRow, LentRow-F, fold-LentRow}
 use Rattle.jsonml_tree.specs.declared.lent.LentTree.{LentTree, LentTree-F, fold-LentTree}
-
--- the content of one text and nothing else
-abbrev pub only_text : List ℕ → PlainContent
-only_text s = content [] (tree (text s) no_trees)
 
 -- one level, with each value inside already seen as its data
 abbrev pub lent_tree_step : LentTree-F PlainTree PlainContent → PlainTree

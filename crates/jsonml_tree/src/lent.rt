@@ -1,13 +1,12 @@
 //! Trees whose texts are lent: by the bytes of a document, say.
-#![tactic(auto, using(crate::proofs::Trees::trees, crate::proofs::LentTrees::lent_trees))]
 
-ghost use Rattle.std.specs.Prelude.{◌≡◌, IfOk, map, string_bytes};
-ghost use Rattle.std.specs.Cow.{cow_str_bytes};
-ghost use Rattle.jsonml_tree.specs.LentView.{only_text, lent_content_view, lent_row_view, lent_tree_view};
+ghost use Rattle.std.specs.Prelude.{◌≡◌, IfOk, IfSome, map};
+ghost use Rattle.jsonml_tree.specs.Data.{only_text};
+ghost use Rattle.jsonml_tree.specs.LentView.{lent_content_view, lent_row_view, lent_tree_view};
 ghost use Rattle.jsonml_tree.specs.View.{content_view, tree_view};
 
 use crate::scalar::Attr;
-use crate::tree::{Content, Tree, copy_attrs};
+use crate::tree::{Content, Tree, copy_attrs, element_of, text_of};
 use std::alloc::{AllocError, Global};
 use std::borrow::CowStr;
 
@@ -46,28 +45,39 @@ pub enum LentContent<'a, 'b> {
 
 impl<'a> LentTree<'a> {
     /// The same tree, whose texts it lends. Attributes are copied, and it recurses as deep as elements nest.
+    ///
+    /// An element that holds one text and nothing else becomes a leaf.
     #[cycle(lend)]
     pub fn lend(alloc: Global, tree: &'a Tree) -> Result<LentTree<'a>, AllocError>
         ensures { IfOk result (λ t. lent_tree_view t ≡ tree_view tree.now) }
     {
         match tree {
             Tree::Text(text) => Ok(LentTree::Text(CowStr::Borrowed(text.as_str()))),
-            Tree::Elem { tag, content } => Ok(LentTree::Elem {
-                tag: CowStr::Borrowed(tag.as_str()),
-                row: lend_row(alloc, content)?,
-            }),
+            Tree::Elem { tag, content } => {
+                let tag = CowStr::Borrowed(tag.as_str());
+                match only_text(content) {
+                    Some(text) => Ok(LentTree::Leaf {
+                        tag,
+                        text: CowStr::Borrowed(text),
+                    }),
+                    None => Ok(LentTree::Elem {
+                        tag,
+                        row: lend_row(alloc, content)?,
+                    }),
+                }
+            }
         }
     }
 
-    /// The same tree, which keeps a copy of each text. It recurses as deep as elements nest.
+    /// The same tree, which keeps its texts: none is copied. It recurses as deep as elements nest.
     #[cycle(keep)]
-    pub fn keep(alloc: Global, tree: &Tree) -> Result<LentTree<'a>, AllocError>
-        ensures { IfOk result (λ t. lent_tree_view t ≡ tree_view tree.now) }
+    pub fn keep(alloc: Global, tree: Tree) -> Result<LentTree<'a>, AllocError>
+        ensures { IfOk result (λ t. lent_tree_view t ≡ tree_view tree) }
     {
         match tree {
-            Tree::Text(text) => Ok(LentTree::Text(kept(alloc, text)?)),
+            Tree::Text(text) => Ok(LentTree::Text(CowStr::Owned(text))),
             Tree::Elem { tag, content } => Ok(LentTree::Elem {
-                tag: kept(alloc, tag)?,
+                tag: CowStr::Owned(tag),
                 row: kept_row(alloc, content)?,
             }),
         }
@@ -79,15 +89,11 @@ impl<'a> LentTree<'a> {
         ensures { IfOk result (λ t. tree_view t ≡ lent_tree_view self.now) }
     {
         match self {
-            LentTree::Text(text) => Ok(Tree::Text(String::from_str(alloc, text.as_str())?)),
-            LentTree::Leaf { tag, text } => Ok(Tree::Elem {
-                tag: String::from_str(alloc, tag.as_str())?,
-                content: own_text(alloc, text.as_str())?,
-            }),
-            LentTree::Elem { tag, row } => Ok(Tree::Elem {
-                tag: String::from_str(alloc, tag.as_str())?,
-                content: own_row(alloc, row)?,
-            }),
+            LentTree::Text(text) => text_of(alloc, text.as_str()),
+            LentTree::Leaf { tag, text } => {
+                element_of(alloc, tag.as_str(), Content::of_text(alloc, text.as_str())?)
+            }
+            LentTree::Elem { tag, row } => element_of(alloc, tag.as_str(), own_row(alloc, row)?),
         }
     }
 }
@@ -98,37 +104,41 @@ impl LentContent<'_, '_> {
         ensures { IfOk result (λ c. content_view c ≡ lent_content_view self.now) }
     {
         match self {
-            LentContent::Text(text) => own_text(alloc, text),
+            LentContent::Text(text) => Content::of_text(alloc, text),
             LentContent::Row(row) => own_row(alloc, row),
         }
     }
 }
 
-fn kept<'a>(alloc: Global, text: &String) -> Result<CowStr<'a, Global>, AllocError>
-    ensures { IfOk result (λ t. cow_str_bytes t ≡ string_bytes text.now) }
-{
-    Ok(CowStr::Owned(String::from_str(alloc, text.as_str())?))
-}
-
 #[cycle(keep)]
-fn kept_row<'a>(alloc: Global, content: &Content) -> Result<LentRow<'a>, AllocError>
-    ensures { IfOk result (λ row. lent_row_view row ≡ content_view content.now) }
+fn kept_row<'a>(alloc: Global, content: Content) -> Result<LentRow<'a>, AllocError>
+    ensures { IfOk result (λ row. lent_row_view row ≡ content_view content) }
 {
     Ok(LentRow {
-        attrs: copy_attrs(alloc, &content.attrs)?,
-        items: kept_items(alloc, &content.items)?,
+        attrs: content.attrs,
+        items: kept_items(alloc, content.items)?,
     })
 }
 
 #[cycle(keep)]
-fn kept_items<'a>(alloc: Global, trees: &[Tree]) -> Result<Vec<LentTree<'a>>, AllocError>
-    ensures { IfOk result (λ v. map lent_tree_view v.items ≡ map tree_view trees.now) }
+fn kept_items<'a>(alloc: Global, trees: Vec<Tree>) -> Result<Vec<LentTree<'a>>, AllocError>
+    ensures { IfOk result (λ v. map lent_tree_view v.items ≡ map tree_view trees.items) }
 {
     let mut items = Vec::with_capacity(alloc, trees.len())?;
     for tree in trees {
-        items.push(LentTree::keep(alloc, tree)?)?;
+        items.push_reserved(LentTree::keep(alloc, tree)?);
     }
     Ok(items)
+}
+
+/// The text of a content that holds it and nothing else.
+fn only_text(content: &Content) -> Option<&str>
+    ensures { IfSome result (λ s. content_view content.now ≡ only_text s.now) }
+{
+    match content.items.as_slice() {
+        [Tree::Text(text)] if content.attrs.is_empty() => Some(text.as_str()),
+        _ => None,
+    }
 }
 
 #[cycle(lend)]
@@ -147,19 +157,9 @@ fn lend_items<'a>(alloc: Global, trees: &'a [Tree]) -> Result<Vec<LentTree<'a>>,
 {
     let mut items = Vec::with_capacity(alloc, trees.len())?;
     for tree in trees {
-        items.push(LentTree::lend(alloc, tree)?)?;
+        items.push_reserved(LentTree::lend(alloc, tree)?);
     }
     Ok(items)
-}
-
-/// The content of this text alone.
-fn own_text(alloc: Global, text: &str) -> Result<Content, AllocError>
-    ensures { IfOk result (λ c. content_view c ≡ only_text text.now) }
-{
-    let mut items = Vec::with_capacity(alloc, 1)?;
-    items.push(Tree::Text(String::from_str(alloc, text)?))?;
-    let attrs = Vec::new(alloc);
-    Ok(Content { attrs, items })
 }
 
 #[cycle(own)]
@@ -178,7 +178,7 @@ fn own_items(alloc: Global, items: &[LentTree<'_>]) -> Result<Vec<Tree>, AllocEr
 {
     let mut trees = Vec::with_capacity(alloc, items.len())?;
     for item in items {
-        trees.push(item.own(alloc)?)?;
+        trees.push_reserved(item.own(alloc)?);
     }
     Ok(trees)
 }

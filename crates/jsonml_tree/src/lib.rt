@@ -8,3 +8,6 @@ mod tree;
 pub use lent::{LentContent, LentRow, LentTree};
 pub use scalar::{Attr, Scalar};
 pub use tree::{Content, Place, Tree};
+
+/// How deep the elements of a document may nest: its root is at depth 1.
+pub const GREATEST_DEPTH: u32 = 120;

@@ -1,6 +1,6 @@
 ghost use Rattle.std.specs.Prelude.{◌≡◌, ◌↔◌, ◌<◌, ◌^◌, IsTrue, IfOk, map};
 ghost use Rattle.std.specs.Cmp.Lexicographic.{slice_cmp};
-ghost use Rattle.jsonml_tree.specs.Data.{tree_depth, trees_depth};
+ghost use Rattle.jsonml_tree.specs.Data.{text, element, only_text, tree_depth, trees_depth};
 ghost use Rattle.jsonml_tree.specs.Order.{attr_cmp, tree_cmp, content_cmp};
 ghost use Rattle.jsonml_tree.specs.View.{tree_view, content_view, items_view, attr_view};
 
@@ -36,6 +36,17 @@ pub enum Tree {
 }
 
 impl Content {
+    /// The content of one text and nothing else.
+    pub fn of_text(alloc: Global, text: &str) -> Result<Content, AllocError>
+        ensures { IfOk result (λ c. content_view c ≡ only_text text.now) }
+    {
+        let text = String::from_str(alloc, text)?;
+        let mut items = Vec::with_capacity(alloc, 1)?;
+        items.push_reserved(Tree::Text(text));
+        let attrs = Vec::new(alloc);
+        Ok(Content { attrs, items })
+    }
+
     /// Whether both are the same value. It takes no memory, and recurses as deep as elements nest.
     #[tactic(auto, using(crate::specs::Laws::equal))]
     pub fn same(&self, other: &Content) -> bool
@@ -48,7 +59,6 @@ impl Content {
     /// By the list of attributes, each by its name and then its value, then by the list of items. A list that
     /// another one continues comes before it.
     #[cycle(order)]
-    #[tactic(auto, using(crate::proofs::Trees::trees))]
     pub fn order(&self, other: &Content) -> Ordering
         ensures { result ≡ content_cmp (content_view self.now) (content_view other.now) }
     {
@@ -110,11 +120,8 @@ impl Tree {
         ensures { IfOk result (λ t. tree_view t ≡ tree_view self.now) }
     {
         match self {
-            Tree::Text(text) => Ok(Tree::Text(String::from_str(alloc, text.as_str())?)),
-            Tree::Elem { tag, content } => Ok(Tree::Elem {
-                tag: String::from_str(alloc, tag.as_str())?,
-                content: content.copy(alloc)?,
-            }),
+            Tree::Text(text) => text_of(alloc, text.as_str()),
+            Tree::Elem { tag, content } => element_of(alloc, tag.as_str(), content.copy(alloc)?),
         }
     }
 }
@@ -243,6 +250,23 @@ impl Ord for Tree {
     }
 }
 
+/// The text of these bytes.
+pub(crate) fn text_of(alloc: Global, bytes: &str) -> Result<Tree, AllocError>
+    ensures { IfOk result (λ t. tree_view t ≡ text bytes.now) }
+{
+    Ok(Tree::Text(String::from_str(alloc, bytes)?))
+}
+
+/// The element of this tag and content.
+pub(crate) fn element_of(alloc: Global, tag: &str, content: Content) -> Result<Tree, AllocError>
+    ensures { IfOk result (λ t. tree_view t ≡ element tag.now (content_view content)) }
+{
+    Ok(Tree::Elem {
+        tag: String::from_str(alloc, tag)?,
+        content,
+    })
+}
+
 fn order_attrs(ours: &[Attr], theirs: &[Attr]) -> Ordering
     ensures { result ≡ slice_cmp attr_cmp (map attr_view ours.now) (map attr_view theirs.now) }
 {
@@ -289,7 +313,7 @@ pub(crate) fn copy_attrs(alloc: Global, attrs: &[Attr]) -> Result<Vec<Attr>, All
 {
     let mut copies = Vec::with_capacity(alloc, attrs.len())?;
     for attr in attrs {
-        copies.push(attr.copy(alloc)?)?;
+        copies.push_reserved(attr.copy(alloc)?);
     }
     Ok(copies)
 }
@@ -300,7 +324,7 @@ fn copy_items(alloc: Global, items: &[Tree]) -> Result<Vec<Tree>, AllocError>
 {
     let mut copies = Vec::with_capacity(alloc, items.len())?;
     for item in items {
-        copies.push(item.copy(alloc)?)?;
+        copies.push_reserved(item.copy(alloc)?);
     }
     Ok(copies)
 }

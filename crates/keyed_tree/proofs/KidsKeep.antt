@@ -1,9 +1,9 @@
 -- What a tree's kids keep of what is said of the tree, and which paths it holds.
-use Rattle.std.proofs.Common.{◌≡◌, ◌↔◌, ◌<◌, ◌&&◌, IsTrue, true≢false, List, [], ◌∷◌, map, length, drop, get_or, arith, Option, Some, None, IfSome, is_some, Any, refl, ap, sym, subst, inl, inr}
+use Rattle.std.proofs.Common.{◌≡◌, ◌↔◌, ◌<◌, ◌&&◌, IsTrue, true≢false, List, [], ◌∷◌, map, length, drop, get_or, arith, Option, Some, None, IfSome, IsNone, is_some, Any, refl, ap, sym, subst, inl, inr}
 use Rattle.std.specs.Option.{option_map, option_and_then}
 use Rattle.std.specs.Ordering.{is_eq}
 use Rattle.keyed_tree.specs.Data.{PlainLabel, PlainKeyed, inner, leaf, label_of, PlainKids, no_kids, kid, kids_from, kids_list, kids_of}
-use Rattle.keyed_tree.specs.Kids.{ascend, Ascend, is_ordered, are_ordered, IsOrdered, kid_at}
+use Rattle.keyed_tree.specs.Kids.{ascend, Ascend, is_ordered, are_ordered, IsOrdered, kid_at, HasNoKid}
 use Rattle.keyed_tree.specs.Lists.{Has}
 use Rattle.keyed_tree.specs.Order.{label_cmp}
 use Rattle.keyed_tree.specs.Laws.{label_cmp-is_eq}
@@ -12,7 +12,7 @@ use Rattle.keyed_tree.specs.Holds.{Holds}
 use Rattle.keyed_tree.specs.Proper.{is_tag, is_proper, are_proper, IsProper}
 use Rattle.keyed_tree.specs.WellFormed.{is_label_well_formed, is_keyed_well_formed, are_kids_well_formed, IsKeyedWellFormed}
 use Rattle.keyed_tree.proofs.Lists.{any_has, has_any}
-use Rattle.keyed_tree.proofs.Kids.{both, kids_from-kids_list, kids_ascend, found_at, has_found}
+use Rattle.keyed_tree.proofs.Kids.{both, kids_from-kids_list, kids_ascend, found_at, has_found, not_found}
 
 pub ordered_kids : (t : PlainKeyed) → IsOrdered t → Ascend (kids_from (kids_of t))
 ordered_kids (inner l ks) h = rw (kids_from-kids_list ks) (both (ascend ks) (are_ordered ks) h).0
@@ -53,6 +53,19 @@ pub found_keeps : {X : Type 0} (view : X → PlainKeyed) (P : PlainKeyed → Typ
     → ((c : PlainKeyed) → Has c (kids_of t) → P c) → option_map view o ≡ kid_at l (kids_of t) → IfSome o (λ x. P (view x))
 found_keeps view P l t None h e = tt
 found_keeps view P l t (Some x) h e = h (view x) (has_found l (view x) (kids_of t) (sym e)).0
+
+-- a kid that is lent out by its label is one, and has the label
+pub found_kid : {X : Type 0} (view : X → PlainKeyed) (l : PlainLabel) (t : PlainKeyed) (o : Option X) → option_map view o ≡ kid_at l (kids_of t) → IfSome o (λ x. Has (view x) (kids_of t))
+found_kid view l t o e = found_keeps view (λ c. Has c (kids_of t)) l t o (λ c m. m) e
+
+pub found_label : {X : Type 0} (view : X → PlainKeyed) (l : PlainLabel) (t : PlainKeyed) (o : Option X) → option_map view o ≡ kid_at l (kids_of t) → IfSome o (λ x. label_of (view x) ≡ l)
+found_label view l t None e = tt
+found_label view l t (Some x) e = (has_found l (view x) (kids_of t) (sym e)).1
+
+-- and none is lent out exactly where no kid has the label
+pub found_none : {X : Type 0} (view : X → PlainKeyed) (l : PlainLabel) (t : PlainKeyed) (o : Option X) → option_map view o ≡ kid_at l (kids_of t) → IsNone o ↔ HasNoKid l t
+found_none view l t None e = (λ h. not_found l (kids_of t) (sym e), λ h. refl)
+found_none view l t (Some x) e = (λ h. absurd (true≢false h), λ h. (let found = has_found l (view x) (kids_of t) (sym e) in absurd (h (view x) found.0 found.1)))
 
 -- ---- paths
 

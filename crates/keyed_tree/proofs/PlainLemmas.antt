@@ -3,11 +3,11 @@ use Rattle.std.proofs.Common.{◌≡◌, ℕ, true, ◌&&◌, IsTrue, true≢fal
 use Rattle.std.specs.List.{AllByRecursion}
 use Rattle.std.specs.Ordering.{is_lt}
 use Rattle.std.specs.declared.cmp.Ordering.TheVariants.{Less}
+use Rattle.jsonml_tree.specs.Laws.{then-Equal}
 use Rattle.jsonml_tree.specs.Order.{text_cmp}
 use Rattle.jsonml_tree.specs.WellFormed.{ascends, is_ascending, is_in_range, are_in_range, are_well_formed, IsWellFormed}
 use Rattle.keyed_tree.specs.Data.{PlainName, attr, tag, PlainKey, scalar, inside, PlainLabel, PlainKeyed, inner, leaf, label_of, PlainKids, no_kids, kid, kids_list}
 use Rattle.keyed_tree.specs.Order.{label_cmp}
-use Rattle.keyed_tree.specs.Laws.{then-Equal}
 use Rattle.keyed_tree.specs.Kids.{ascend}
 use Rattle.keyed_tree.specs.Lists.{Ascends}
 use Rattle.keyed_tree.specs.Proper.{is_tag, is_proper, are_proper, IsProper}

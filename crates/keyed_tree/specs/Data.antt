@@ -7,6 +7,10 @@ pub data PlainName : Type 0 where
   attr : List ℕ → PlainName
   tag : List ℕ → PlainName
 
+abbrev pub name_bytes : PlainName → List ℕ
+name_bytes (attr s) = s
+name_bytes (tag s) = s
+
 -- a key value, and likewise the body of a leaf
 pub data PlainKey : Type 0 where
   scalar : PlainScalar → PlainKey

@@ -1,8 +1,9 @@
 -- Kids that ascend by label, and the kid with a label.
-use Rattle.std.specs.Prelude.{Bool, true, ◌&&◌, List, Option, IsTrue}
+use Rattle.std.specs.Prelude.{◌≢◌, Bool, true, ◌&&◌, List, Option, IsTrue}
 use Rattle.std.specs.List.{find}
 use Rattle.std.specs.Ordering.{is_eq, is_lt}
-use Rattle.keyed_tree.specs.Data.{PlainLabel, PlainKeyed, inner, leaf, PlainKids, no_kids, kid, label_of}
+use Rattle.keyed_tree.specs.Data.{PlainLabel, PlainKeyed, inner, leaf, PlainKids, no_kids, kid, label_of, kids_of}
+use Rattle.keyed_tree.specs.Lists.{Has}
 use Rattle.keyed_tree.specs.Order.{label_cmp}
 
 -- each label is above the one before it, the first above this one
@@ -34,3 +35,7 @@ IsOrdered k = IsTrue (is_ordered k)
 -- the kid with the label: the first, where several have it
 abbrev pub kid_at : PlainLabel → List PlainKeyed → Option PlainKeyed
 kid_at l ks = find (λ k. is_eq (label_cmp (label_of k) l)) ks
+
+-- no kid has the label
+abbrev pub HasNoKid : PlainLabel → PlainKeyed → Type 0
+HasNoKid l t = (k : PlainKeyed) → Has k (kids_of t) → label_of k ≢ l

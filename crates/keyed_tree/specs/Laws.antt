@@ -1,28 +1,21 @@
 -- The laws of the order of labels.
-use Rattle.std.proofs.Common.{◌≡◌, ℕ, List, [], IsTrue, ◌↔◌, refl, ap, subst, arith}
+use Rattle.std.proofs.Common.{◌≡◌, ℕ, [], IsTrue, ◌↔◌, refl, ap, subst}
 use Rattle.std.proofs.lemmas.Cmp.{nat_cmp_total, nat_list_cmp_total, lists_total, on_total, then_total}
 use Rattle.std.proofs.lemmas.Map.Lookups.{CmpEqualImpliesEq, exact_bytes}
 use Rattle.std.specs.Cmp.{IsTotalOrder}
 use Rattle.std.specs.Cmp.Lexicographic.{slice_cmp}
-use Rattle.std.specs.Ordering.{ordering_then, is_eq, nat_cmp, on, then_cmp}
+use Rattle.std.specs.Ordering.{is_eq, nat_cmp, on, then_cmp}
 use Rattle.std.specs.declared.cmp.Ordering.{Ordering}
 use Rattle.std.specs.declared.cmp.Ordering.TheVariants.{Equal}
 use Rattle.jsonml_tree.specs.Data.{PlainScalar, null, PlainContent, content, no_trees}
 use Rattle.jsonml_tree.specs.Order.{text_cmp, scalar_cmp, content_cmp}
-use Rattle.jsonml_tree.specs.Laws.{scalar_cmp_total, scalar_cmp_exact, content_cmp_total, content_cmp_exact, lists_exact, both_equal, is_eq_exact, equal_exact}
-use Rattle.keyed_tree.specs.Data.{PlainName, attr, tag, PlainKey, scalar, inside, PlainLabel}
+use Rattle.jsonml_tree.specs.Laws.{scalar_cmp_total, scalar_cmp_exact, content_cmp_total, content_cmp_exact, lists_exact, both_equal, is_eq_exact, equal_exact, then-Equal}
+use Rattle.keyed_tree.specs.Data.{PlainName, attr, tag, name_bytes, PlainKey, scalar, inside, PlainLabel}
 use Rattle.keyed_tree.specs.Order.{name_cmp, key_cmp, label_cmp}
-
-pub then-Equal : (o : Ordering) → ordering_then o Equal ≡ o
-then-Equal o = grind arith
 
 abbrev name_rank : PlainName → ℕ
 name_rank (attr s) = 0
 name_rank (tag s) = 1
-
-abbrev name_bytes : PlainName → List ℕ
-name_bytes (attr s) = s
-name_bytes (tag s) = s
 
 abbrev name_parts : PlainName → PlainName → Ordering
 name_parts = then_cmp (on name_rank nat_cmp) (on name_bytes text_cmp)

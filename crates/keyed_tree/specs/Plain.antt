@@ -1,11 +1,8 @@
 -- The element that a proper keyed tree spells.
-use Rattle.std.specs.Prelude.{ℕ, List, [], ◌∷◌}
+pub use Rattle.keyed_tree.specs.Data.{name_bytes}
+use Rattle.std.specs.Prelude.{List, [], ◌∷◌}
 use Rattle.jsonml_tree.specs.Data.{PlainAttr, PlainTree, element, PlainContent, content, PlainTrees, no_trees, tree}
 use Rattle.keyed_tree.specs.Data.{PlainName, attr, tag, PlainKey, scalar, inside, PlainKeyed, inner, leaf, PlainKids, no_kids, kid, label_of}
-
-abbrev pub name_bytes : PlainName → List ℕ
-name_bytes (attr s) = s
-name_bytes (tag s) = s
 
 -- the content of a leaf's body; a scalar, which a proper tree has at attributes alone, spells no content
 abbrev pub content_of : PlainKey → PlainContent

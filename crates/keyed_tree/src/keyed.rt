@@ -1,17 +1,20 @@
-ghost use Rattle.std.specs.Prelude.{◌≡◌, ◌↔◌, IsTrue, IfOk, IfSome, map, [], string_bytes};
+//! Keyed elements, what is asked of them, and the elements that they spell.
+
+ghost use Rattle.std.specs.Prelude.{◌≡◌, ◌↔◌, IsTrue, IfOk, IfSome, IsNone, map, []};
 ghost use Rattle.std.specs.Option.{option_map, option_to_list};
 ghost use Rattle.jsonml_tree.specs.View.{attr_view, tree_view, content_view};
 ghost use Rattle.jsonml_tree.specs.Data.{content, list_of};
 ghost use Rattle.jsonml_tree.specs.WellFormed.{IsWellFormed};
 ghost use Rattle.keyed_tree.specs.Data.{label_of, kids_of, kids_from};
-ghost use Rattle.keyed_tree.specs.Kids.{ascend, Ascend, is_ordered, are_ordered, IsOrdered, kid_at};
+ghost use Rattle.keyed_tree.specs.Kids.{ascend, Ascend, is_ordered, are_ordered, IsOrdered, kid_at, HasNoKid};
+ghost use Rattle.keyed_tree.specs.Lists.{Has};
 ghost use Rattle.keyed_tree.specs.Same.{is_same, are_same};
 ghost use Rattle.keyed_tree.specs.Paths.{node_at};
 ghost use Rattle.keyed_tree.specs.Holds.{Holds};
 ghost use Rattle.keyed_tree.specs.WellFormed.{IsKeyedWellFormed};
-ghost use Rattle.keyed_tree.specs.Proper.{is_tag, IsElement, is_proper, are_proper, IsProper};
-ghost use Rattle.keyed_tree.specs.Plain.{name_bytes, content_of, attr_onto, attrs_among, items_among, plain};
-ghost use Rattle.keyed_tree.specs.View.{name_view, key_view, label_view, keyed_view};
+ghost use Rattle.keyed_tree.specs.Proper.{IsElement, is_proper, are_proper, IsProper};
+ghost use Rattle.keyed_tree.specs.Plain.{content_of, attr_onto, attrs_among, items_among, plain};
+ghost use Rattle.keyed_tree.specs.View.{key_view, label_view, keyed_view};
 
 use crate::label::{KeyVal, Label, Name};
 use jsonml_tree::{Attr, Content, Tree};
@@ -84,9 +87,10 @@ impl Keyed {
         requires { Ascend (kids_from (kids_of (keyed_view self.now))) }
         ensures found { option_map (λ k. keyed_view k.now) result
             ≡ kid_at (label_view label.now) (kids_of (keyed_view self.now)) }
+        ensures label { IfSome result (λ k. label_of (keyed_view k.now) ≡ label_view label.now) }
+        ensures kid { IfSome result (λ k. Has (keyed_view k.now) (kids_of (keyed_view self.now))) }
+        ensures none { IsNone result ↔ HasNoKid (label_view label.now) (keyed_view self.now) }
         ensures ordered { IsOrdered (keyed_view self.now) → IfSome result (λ k. IsOrdered (keyed_view k.now)) }
-        ensures proper { IsProper (keyed_view self.now) → IfSome result (λ k. IsProper (keyed_view k.now)) }
-        ensures well_formed { IsKeyedWellFormed (keyed_view self.now) → IfSome result (λ k. IsKeyedWellFormed (keyed_view k.now)) }
     {
         match self {
             Keyed::Inner { kids, .. } => find_kid(kids, label),
@@ -114,6 +118,47 @@ impl Keyed {
         ensures well_formed { IsKeyedWellFormed (keyed_view self.now) → IfOk result (λ t. IsWellFormed (tree_view t)) }
     {
         spell(alloc, self)
+    }
+
+    /// Whether the tree is named by a tag. It takes no memory.
+    pub fn is_element(&self) -> bool
+        ensures { IsTrue result ↔ IsElement (keyed_view self.now) }
+    {
+        match self {
+            Keyed::Inner { label, .. } => label.name.is_tag(),
+            Keyed::Leaf { label, .. } => label.name.is_tag(),
+        }
+    }
+
+    /// Whether kids ascend strictly at every node. It takes no memory, and recurses as deep as nodes nest.
+    #[cycle(ordered)]
+    pub fn is_ordered(&self) -> bool
+        ensures { result ≡ is_ordered (keyed_view self.now) }
+    {
+        match self {
+            Keyed::Inner { kids, .. } => do_ascend(kids) && are_ordered(kids),
+            Keyed::Leaf { .. } => true,
+        }
+    }
+
+    /// Whether the tree is proper: kids ascend strictly at every node, a node named by an attribute is a leaf without
+    /// key values whose body is a scalar, and a leaf named by a tag has a content as body. It takes no memory, and
+    /// recurses as deep as nodes nest.
+    #[cycle(proper)]
+    pub fn is_proper(&self) -> bool
+        ensures { result ≡ is_proper (keyed_view self.now) }
+    {
+        match self {
+            Keyed::Inner { label, kids } => {
+                label.name.is_tag() && do_ascend(kids) && are_proper(kids)
+            }
+            Keyed::Leaf { label, body } => match (&label.name, body) {
+                (Name::Attr(_), KeyVal::Scalar(_)) => label.keys.is_empty(),
+                (Name::Attr(_), KeyVal::Content(_)) => false,
+                (Name::Tag(_), KeyVal::Scalar(_)) => false,
+                (Name::Tag(_), KeyVal::Content(_)) => true,
+            },
+        }
     }
 
     // The node that the path leads to, from a kid of this one on.
@@ -151,7 +196,7 @@ fn copy_kids(alloc: Global, kids: &[Keyed]) -> Result<Vec<Keyed>, AllocError>
 {
     let mut copies = Vec::with_capacity(alloc, kids.len())?;
     for kid in kids {
-        copies.push(kid.copy(alloc)?)?;
+        copies.push_reserved(kid.copy(alloc)?);
     }
     Ok(copies)
 }
@@ -172,11 +217,11 @@ fn spell(alloc: Global, tree: &Keyed) -> Result<Tree, AllocError>
 {
     match tree {
         Keyed::Inner { label, kids } => Ok(Tree::Elem {
-            tag: copy_bytes(alloc, &label.name)?,
+            tag: String::from_str(alloc, label.name.as_str())?,
             content: gather(alloc, kids)?,
         }),
         Keyed::Leaf { label, body } => Ok(Tree::Elem {
-            tag: copy_bytes(alloc, &label.name)?,
+            tag: String::from_str(alloc, label.name.as_str())?,
             content: copy_content(alloc, body)?,
         }),
     }
@@ -189,19 +234,19 @@ fn gather(alloc: Global, kids: &[Keyed]) -> Result<Content, AllocError>
     ensures { IfOk result (λ c. content_view c
         ≡ content (attrs_among (kids_from (map keyed_view kids.now))) (items_among (kids_from (map keyed_view kids.now)))) }
 {
-    Ok(Content {
-        attrs: attrs_of(alloc, kids)?,
-        items: items_of(alloc, kids)?,
-    })
+    let attrs = attrs_of(alloc, kids)?;
+    let items = items_of(alloc, kids, kids.len().saturating_sub(attrs.len()))?;
+    Ok(Content { attrs, items })
 }
 
+// The items of an inner node with these kids, of which so many are likely to be elements.
 #[cycle(plain)]
-fn items_of(alloc: Global, kids: &[Keyed]) -> Result<Vec<Tree>, AllocError>
+fn items_of(alloc: Global, kids: &[Keyed], likely: usize) -> Result<Vec<Tree>, AllocError>
     ensures { IfOk result (λ v. map tree_view v.items ≡ list_of (items_among (kids_from (map keyed_view kids.now)))) }
 {
-    let mut items = Vec::with_capacity(alloc, kids.len())?;
+    let mut items = Vec::with_capacity(alloc, likely)?;
     for kid in kids {
-        if names_element(&kid.label().name) {
+        if kid.label().name.is_tag() {
             items.push(spell(alloc, kid)?)?;
         }
     }
@@ -246,67 +291,6 @@ fn copy_content(alloc: Global, body: &KeyVal) -> Result<Content, AllocError>
             attrs: Vec::new(alloc),
             items: Vec::new(alloc),
         }),
-    }
-}
-
-fn copy_bytes(alloc: Global, name: &Name) -> Result<String, AllocError>
-    ensures { IfOk result (λ s. string_bytes s ≡ name_bytes (name_view name.now)) }
-{
-    match name {
-        Name::Attr(text) => String::from_str(alloc, text.as_str()),
-        Name::Tag(text) => String::from_str(alloc, text.as_str()),
-    }
-}
-
-fn names_element(name: &Name) -> bool
-    ensures { result ≡ is_tag (name_view name.now) }
-{
-    match name {
-        Name::Attr(_) => false,
-        Name::Tag(_) => true,
-    }
-}
-
-impl Keyed {
-    /// Whether the tree is named by a tag. It takes no memory.
-    pub fn is_element(&self) -> bool
-        ensures { IsTrue result ↔ IsElement (keyed_view self.now) }
-    {
-        match self {
-            Keyed::Inner { label, .. } => names_element(&label.name),
-            Keyed::Leaf { label, .. } => names_element(&label.name),
-        }
-    }
-
-    /// Whether kids ascend strictly at every node. It takes no memory, and recurses as deep as nodes nest.
-    #[cycle(ordered)]
-    pub fn is_ordered(&self) -> bool
-        ensures { result ≡ is_ordered (keyed_view self.now) }
-    {
-        match self {
-            Keyed::Inner { kids, .. } => do_ascend(kids) && are_ordered(kids),
-            Keyed::Leaf { .. } => true,
-        }
-    }
-
-    /// Whether the tree is proper: kids ascend strictly at every node, a node named by an attribute is a leaf without
-    /// key values whose body is a scalar, and a leaf named by a tag has a content as body. It takes no memory, and
-    /// recurses as deep as nodes nest.
-    #[cycle(proper)]
-    pub fn is_proper(&self) -> bool
-        ensures { result ≡ is_proper (keyed_view self.now) }
-    {
-        match self {
-            Keyed::Inner { label, kids } => {
-                names_element(&label.name) && do_ascend(kids) && are_proper(kids)
-            }
-            Keyed::Leaf { label, body } => match (&label.name, body) {
-                (Name::Attr(_), KeyVal::Scalar(_)) => label.keys.is_empty(),
-                (Name::Attr(_), KeyVal::Content(_)) => false,
-                (Name::Tag(_), KeyVal::Scalar(_)) => false,
-                (Name::Tag(_), KeyVal::Content(_)) => true,
-            },
-        }
     }
 }
 

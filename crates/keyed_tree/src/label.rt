@@ -1,7 +1,9 @@
-// What names a node, and what a leaf holds.
+//! What names a node, and what a leaf holds.
 ghost use Rattle.std.specs.Prelude.{◌≡◌, ◌↔◌, IsTrue, IfOk, map};
 ghost use Rattle.std.specs.Cmp.Lexicographic.{slice_cmp};
+ghost use Rattle.keyed_tree.specs.Data.{name_bytes};
 ghost use Rattle.keyed_tree.specs.Order.{name_cmp, key_cmp, label_cmp};
+ghost use Rattle.keyed_tree.specs.Proper.{is_tag};
 ghost use Rattle.keyed_tree.specs.View.{name_view, key_view, label_view};
 
 use jsonml_tree::{Content, Scalar};
@@ -16,6 +18,26 @@ pub enum Name {
 }
 
 impl Name {
+    /// Whether it is the tag of an element.
+    pub fn is_tag(&self) -> bool
+        ensures { result ≡ is_tag (name_view self.now) }
+    {
+        match self {
+            Name::Attr(_) => false,
+            Name::Tag(_) => true,
+        }
+    }
+
+    /// The name of the attribute or the tag of the element, as it stands in a document.
+    pub fn as_str(&self) -> &str
+        ensures { result.now ≡ name_bytes (name_view self.now) }
+    {
+        match self {
+            Name::Attr(text) => text.as_str(),
+            Name::Tag(text) => text.as_str(),
+        }
+    }
+
     pub(crate) fn order(&self, other: &Name) -> Ordering
         ensures { result ≡ name_cmp (name_view self.now) (name_view other.now) }
     {
@@ -262,7 +284,7 @@ fn copy_keys(alloc: Global, keys: &[KeyVal]) -> Result<Vec<KeyVal>, AllocError>
 {
     let mut copies = Vec::with_capacity(alloc, keys.len())?;
     for key in keys {
-        copies.push(key.copy(alloc)?)?;
+        copies.push_reserved(key.copy(alloc)?);
     }
     Ok(copies)
 }

@@ -1,0 +1,31 @@
+use Rattle.std.proofs.Common.{arith}
+use Rattle.std.proofs.lemmas.Grind.{common_steps}
+use Rattle.jsonml_tree.proofs.Trees.{trees}
+use Rattle.jsonml_tree.proofs.tree.+order.Goals as goal
+
+pub Content::order-returns : goal.Content::order-returns
+Content::order-returns t c = grind (arith, trees)
+
+pub Tree::order-returns-in-Text-Text : goal.Tree::order-returns-in-Text-Text
+Tree::order-returns-in-Text-Text t c = grind (arith, trees)
+
+pub Tree::order-returns-in-Elem-Elem : goal.Tree::order-returns-in-Elem-Elem
+Tree::order-returns-in-Elem-Elem t c = grind (arith, trees)
+
+pub order_items-loop-a-init : goal.order_items-loop-a-init
+order_items-loop-a-init t c = grind (arith, common_steps)
+
+pub order_items-returns-in_default : goal.order_items-returns-in_default
+order_items-returns-in_default t c = grind (arith, common_steps)
+
+pub order_items-returns-in_default-order : goal.order_items-returns-in_default-order
+order_items-returns-in_default-order t c = grind (arith, common_steps)
+
+pub order_items-loop-a-preserved : goal.order_items-loop-a-preserved
+order_items-loop-a-preserved t c = grind (arith, common_steps)
+
+pub order_items-returns-then-is_some : goal.order_items-returns-then-is_some
+order_items-returns-then-is_some t c = grind (arith, common_steps)
+
+pub order_items-returns-else-is_some : goal.order_items-returns-else-is_some
+order_items-returns-else-is_some t c = grind (arith, common_steps)
