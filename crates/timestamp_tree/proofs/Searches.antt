@@ -1,13 +1,13 @@
 -- What a search finds, and how many nodes it visits.
-use Rattle.std.proofs.Common.{◌≡◌, ℕ, zero, suc, ◌+◌, ◌*◌, ◌<◌, ◌≤◌, max, Bool, true, false, ◌||◌, List, [], ◌∷◌, ◌++◌, length, refl, sym, ap, subst, ◌∙◌, arith}
+use Rattle.std.proofs.Common.{◌≡◌, ℕ, zero, suc, ◌+◌, ◌*◌, ◌≤◌, max, Bool, true, false, ◌||◌, List, [], ◌∷◌, ◌++◌, length, refl, sym, ap, subst, ◌∙◌, arith}
 use Rattle.std.proofs.lemmas.List.{length-append, append-nil}
 use Rattle.std.specs.Int.{div_ceil}
 use Rattle.std.proofs.Math.Nat.{mul-le-mul_left, mul-suc}
 use Rattle.version_set.specs.Members.{members, has}
-use Rattle.timestamp_tree.specs.Data.{PlainTs, leaf, node, top, leaves, height}
+use Rattle.timestamp_tree.specs.Data.{PlainTs, leaf, node, leaves, height}
 use Rattle.timestamp_tree.specs.Tree.{IsTree}
 use Rattle.timestamp_tree.specs.Search.{answers_from, answers, visits}
-use Rattle.timestamp_tree.proofs.Trees.{some_has, top_has, left_half, leaves_some}
+use Rattle.timestamp_tree.proofs.Trees.{some_has, top_has, left_half}
 
 -- ---- answers
 

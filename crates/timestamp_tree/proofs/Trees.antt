@@ -1,15 +1,14 @@
 -- Trees over lists of sets.
-use Rattle.std.proofs.Common.{◌≡◌, ℕ, zero, suc, ◌+◌, ◌-◌, ◌*◌, ◌/◌, ◌<◌, ◌≤◌, max, Bool, true, false, ◌||◌, leb, List, [], ◌∷◌, ◌++◌, length, map, take, drop, refl, sym, ap, subst, ◌∙◌, append_assoc, arith}
+use Rattle.std.proofs.Common.{◌≡◌, ℕ, zero, suc, ◌+◌, ◌*◌, ◌<◌, ◌≤◌, Bool, true, false, ◌||◌, leb, List, [], ◌∷◌, ◌++◌, length, take, drop, refl, sym, ap, subst, ◌∙◌, arith}
 use Rattle.std.specs.List.{flat_map, AllByRecursion}
-use Rattle.std.proofs.lemmas.Bool.{leb-false, lt-leb}
 use Rattle.std.proofs.lemmas.Bool.Decides.{nat_tests}
-use Rattle.std.proofs.lemmas.List.{length-append, length-map, take_at, drop_at, take-append-drop, length-take, length-drop}
+use Rattle.std.proofs.lemmas.List.{length-append, take_at, drop_at, take-append-drop, length-take, length-drop}
 use Rattle.version_set.specs.Pairs.{IsCanonical}
-use Rattle.version_set.specs.Members.{members, has, united}
+use Rattle.version_set.specs.Members.{members, has}
 use Rattle.version_set.proofs.SetLemmas.{has-either, members-united, IsCanonical-united}
 use Rattle.timestamp_tree.specs.Data.{PlainTs, leaf, node, top, leaves, height}
-use Rattle.timestamp_tree.specs.Bytes.{pair_bytes, set_bytes, tree_bytes}
-use Rattle.timestamp_tree.specs.Tree.{half, joined, first_of, tree_within, tree_of, IsTree}
+use Rattle.timestamp_tree.specs.Bytes.{pair_bytes, set_bytes, stored, tree_bytes}
+use Rattle.timestamp_tree.specs.Tree.{half, joined, tree_within, tree_of, IsTree}
 
 pub leaves_some : (t : PlainTs) → 1 ≤ length (leaves t)
 leaves_some (leaf s) = omega arith
@@ -100,11 +99,14 @@ length-pairs (p ∷ ps) = omega (arith, length-pairs ps)
 pub length-set_bytes : (ps : List (ℕ × ℕ)) → length (set_bytes ps) ≡ 4 + 8 * length ps
 length-set_bytes ps = omega (arith, length-pairs ps)
 
+pub length-stored : (s : List (ℕ × ℕ)) (n : ℕ) → length (stored s n) ≡ length (set_bytes s) + 8
+length-stored s n = length-append (set_bytes s) _
+
 pub length-leaf : (s : List (ℕ × ℕ)) → length (tree_bytes (leaf s)) ≡ length (set_bytes s) + 8
-length-leaf s = length-append (set_bytes s) _
+length-leaf s = length-stored s 0
 
 pub length-node : (s : List (ℕ × ℕ)) (n : ℕ) (l r : PlainTs) → length (tree_bytes (node s n l r)) ≡ length (set_bytes s) + 8 + (length (tree_bytes l) + length (tree_bytes r))
-length-node s n l r = length-append (set_bytes s) _ ∙ omega (arith, length-append (tree_bytes l) (tree_bytes r))
+length-node s n l r = omega (arith, length-append (stored s n) (tree_bytes l ++ tree_bytes r), length-stored s n, length-append (tree_bytes l) (tree_bytes r))
 
 -- ---- the tree of a list
 

@@ -10,7 +10,11 @@ pair_bytes p = u32_bytes p.0 ++ u32_bytes p.1
 abbrev pub set_bytes : List (ℕ × ℕ) → List ℕ
 set_bytes ps = list_bytes pair_bytes ps
 
--- the set, the byte size of the left part, the left part and the right part
+-- a node without its parts: its set, and the byte size of its left part
+abbrev pub stored : List (ℕ × ℕ) → ℕ → List ℕ
+stored s n = set_bytes s ++ u64_bytes n
+
+-- the node, the left part and the right part
 abbrev pub tree_bytes : PlainTs → List ℕ
-tree_bytes (leaf s) = set_bytes s ++ u64_bytes 0
-tree_bytes (node s n l r) = set_bytes s ++ (u64_bytes n ++ (tree_bytes l ++ tree_bytes r))
+tree_bytes (leaf s) = stored s 0
+tree_bytes (node s n l r) = stored s n ++ (tree_bytes l ++ tree_bytes r)

@@ -1,7 +1,8 @@
 pub mod Data
 pub mod Bytes
+pub mod Reading
 pub mod Tree
 pub mod Search
-pub mod NodeView
+pub mod PartView
 pub mod View
 pub mod Prefix

@@ -1,26 +1,26 @@
 // Making a tree.
-ghost use Rattle.std.specs.Prelude.{◌≡◌, ◌+◌, ◌<◌, length, map, IfOk};
+ghost use Rattle.std.specs.Prelude.{◌≡◌, ℕ, ◌<◌, length, map, IfOk};
 ghost use Rattle.version_set.specs.View.{pairs_of};
 ghost use Rattle.timestamp_tree.specs.Data.{leaves};
-ghost use Rattle.timestamp_tree.specs.Bytes.{set_bytes, tree_bytes};
+ghost use Rattle.timestamp_tree.specs.Bytes.{stored, tree_bytes};
 ghost use Rattle.timestamp_tree.specs.Tree.{IsTree, joined};
-ghost use Rattle.timestamp_tree.specs.NodeView.{node_view};
+ghost use Rattle.timestamp_tree.specs.PartView.{part_view};
 
-use crate::node::{Node, set_of};
+use crate::part::{Part, set_of};
 use std::alloc::{AllocError, Global};
 use version_set::VersionSet;
 
 /// The tree over these sets, and its size in bytes.
-pub fn build(alloc: Global, sets: &[VersionSet]) -> Result<(Node, u64), AllocError>
+pub fn build(alloc: Global, sets: &[VersionSet]) -> Result<(Part, u64), AllocError>
     requires { 0 < length sets.now }
-    ensures tree { IfOk result (λ made. IsTree (node_view made.0)) }
-    ensures leaves { IfOk result (λ made. leaves (node_view made.0) ≡ map pairs_of sets.now) }
-    ensures size { IfOk result (λ made. made.1 ≡ length (tree_bytes (node_view made.0))) }
+    ensures tree { IfOk result (λ made. IsTree (part_view made.0)) }
+    ensures leaves { IfOk result (λ made. leaves (part_view made.0) ≡ map pairs_of sets.now) }
+    ensures size { IfOk result (λ made. made.1 ≡ length (tree_bytes (part_view made.0))) }
 {
     if sets.len() == 1 {
         let set = sets[0].copy()?;
         let size = own_size(&set);
-        return Ok((Node::Leaf(set), size));
+        return Ok((Part::Leaf { set }, size));
     }
     let (front, back) = sets.split_at(sets.len().div_ceil(2));
     let (left, left_size) = build(alloc, front)?;
@@ -31,27 +31,33 @@ pub fn build(alloc: Global, sets: &[VersionSet]) -> Result<(Node, u64), AllocErr
 /// The tree with these two parts, and its size in bytes. One whose size is past a u64 finds no memory.
 fn join(
     alloc: Global,
-    left: Node,
+    left: Part,
     left_size: u64,
-    right: Node,
+    right: Part,
     right_size: u64,
-) -> Result<(Node, u64), AllocError>
-    requires left { left_size ≡ length (tree_bytes (node_view left)) }
-    requires right { right_size ≡ length (tree_bytes (node_view right)) }
-    ensures tree { IfOk result (λ made. node_view made.0 ≡ joined (node_view left) (node_view right)) }
-    ensures size { IfOk result (λ made. made.1 ≡ length (tree_bytes (node_view made.0))) }
+) -> Result<(Part, u64), AllocError>
+    requires left { left_size ≡ length (tree_bytes (part_view left)) }
+    requires right { right_size ≡ length (tree_bytes (part_view right)) }
+    ensures tree { IfOk result (λ made. part_view made.0 ≡ joined (part_view left) (part_view right)) }
+    ensures size { IfOk result (λ made. made.1 ≡ length (tree_bytes (part_view made.0))) }
 {
     let set = set_of(&left).union(set_of(&right))?;
     let parts = left_size.checked_add(right_size).ok_or(AllocError)?;
     let size = own_size(&set).checked_add(parts).ok_or(AllocError)?;
     let left = Box::new(alloc, left)?;
     let right = Box::new(alloc, right)?;
-    Ok((Node::Inner(set, left_size, left, right), size))
+    let joined = Part::Inner {
+        set,
+        left_size,
+        left,
+        right,
+    };
+    Ok((joined, size))
 }
 
 /// The bytes of a node without its parts.
 fn own_size(set: &VersionSet) -> u64
-    ensures { result ≡ length (set_bytes (pairs_of set.now)) + 8 }
+    ensures { (left_size : ℕ) → result ≡ length (stored (pairs_of set.now) left_size) }
 {
     12 + 8 * u64::from(set.count())
 }

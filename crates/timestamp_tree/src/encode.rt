@@ -3,10 +3,10 @@ ghost use Rattle.std.specs.Prelude.{◌≡◌, ◌++◌, OnOk};
 ghost use Rattle.std.specs.List.{flat_map};
 ghost use Rattle.version_set.specs.View.{pairs_of};
 ghost use Rattle.xa_fields.specs.Laws.{Grows};
-ghost use Rattle.timestamp_tree.specs.Bytes.{pair_bytes, set_bytes, tree_bytes};
-ghost use Rattle.timestamp_tree.specs.NodeView.{node_view};
+ghost use Rattle.timestamp_tree.specs.Bytes.{pair_bytes, set_bytes, stored, tree_bytes};
+ghost use Rattle.timestamp_tree.specs.PartView.{part_view};
 
-use crate::node::Node;
+use crate::part::Part;
 use std::alloc::AllocError;
 use version_set::VersionSet;
 use xa_fields::{put_u32, put_u64};
@@ -33,20 +33,31 @@ fn put_pairs(out: &mut Vec<u8>, pairs: &[(u32, u32)]) -> Result<(), AllocError>
     Ok(())
 }
 
+/// Appends a node without its parts, and on a refusal some of it.
+#[tactic(auto, using(xa_fields::proofs::Combinators::growth))]
+fn put_stored(out: &mut Vec<u8>, set: &VersionSet, left_size: u64) -> Result<(), AllocError>
+    ensures ok { OnOk result (out.new.items ≡ out.old.items ++ stored (pairs_of set.now) left_size) }
+    ensures grows { Grows out.old.items out.new.items }
+{
+    put_set(out, set)?;
+    put_u64(out, left_size)
+}
+
 /// Appends a tree in preorder, and on a refusal some of it.
 #[tactic(auto, using(xa_fields::proofs::Combinators::growth, crate::proofs::Views::views))]
-pub fn put_node(out: &mut Vec<u8>, node: &Node) -> Result<(), AllocError>
-    ensures ok { OnOk result (out.new.items ≡ out.old.items ++ tree_bytes (node_view node.now)) }
+pub fn put_node(out: &mut Vec<u8>, node: &Part) -> Result<(), AllocError>
+    ensures ok { OnOk result (out.new.items ≡ out.old.items ++ tree_bytes (part_view node.now)) }
     ensures grows { Grows out.old.items out.new.items }
 {
     match node {
-        Node::Leaf(set) => {
-            put_set(out, set)?;
-            put_u64(out, 0)
-        }
-        Node::Inner(set, left_size, left, right) => {
-            put_set(out, set)?;
-            put_u64(out, *left_size)?;
+        Part::Leaf { set } => put_stored(out, set, 0),
+        Part::Inner {
+            set,
+            left_size,
+            left,
+            right,
+        } => {
+            put_stored(out, set, *left_size)?;
             put_node(out, left)?;
             put_node(out, right)
         }

@@ -3,7 +3,7 @@
 
 mod build;
 mod encode;
-mod node;
+mod part;
 mod select;
 mod steps;
 mod tree;

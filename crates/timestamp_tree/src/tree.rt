@@ -5,11 +5,11 @@ ghost use Rattle.timestamp_tree.specs.Bytes.{tree_bytes};
 ghost use Rattle.timestamp_tree.specs.Tree.{IsTree, IsTree-prop, tree_of};
 ghost use Rattle.timestamp_tree.specs.Search.{answers, visits};
 ghost use Rattle.timestamp_tree.specs.Prefix.{AppendsPrefix};
-ghost use Rattle.timestamp_tree.specs.NodeView.{node_view};
+ghost use Rattle.timestamp_tree.specs.PartView.{part_view};
 
 use crate::build::build;
 use crate::encode::put_node;
-use crate::node::{Node, height_of};
+use crate::part::{Part, height_of};
 use crate::select::select_from;
 use crate::steps::Steps;
 use std::alloc::{AllocError, Global};
@@ -17,15 +17,15 @@ use std::sync::ledger::Ledger;
 use version_set::VersionSet;
 
 /// A binary tree over a list of sets. Its leaves are the sets, and each inner node has the union of the sets below it.
-#[derive(Debug, Drop)]
+#[derive(Drop)]
 pub struct TsTree {
-    root: Node,
+    root: Part,
     count: u32,
     size: u64,
-    pub ghost is_tree: { IsTree (node_view root) } by { IsTree-prop (node_view root) },
-    ghost counted: { count ≡ length (leaves (node_view root)) },
-    ghost few: { length (leaves (node_view root)) < 2 ^ 32 },
-    ghost sized: { size ≡ length (tree_bytes (node_view root)) },
+    pub ghost is_tree: { IsTree (part_view root) } by { IsTree-prop (part_view root) },
+    ghost counted: { count ≡ length (leaves (part_view root)) },
+    ghost few: { length (leaves (part_view root)) < 2 ^ 32 },
+    ghost sized: { size ≡ length (tree_bytes (part_view root)) },
 }
 
 impl TsTree {

@@ -5,7 +5,7 @@ use Rattle.std.specs.List.{flat_map, AllByRecursion}
 use Rattle.std.proofs.lemmas.Bool.{eqb-true}
 use Rattle.std.proofs.lemmas.List.{append-nil, nil_from_length, take_all, take_at, length-take, take-take}
 use Rattle.xa_fields.specs.Spelling.{u32_bytes, list_bytes}
-use Rattle.xa_fields.specs.Reading.{Reader, ◌>>=◌, number_at, many_at, list_at, both_at, only_at, made_at, whole}
+use Rattle.xa_fields.specs.Reading.{Reader, ◌>>=◌, number_at, many_at, list_at, both_at, only_at, whole}
 use Rattle.xa_fields.specs.Laws.{IsBytes, Takes, Read, Reads, Grows}
 use Rattle.xa_fields.proofs.Fields.{bind_some, some_is, Takes-then, Takes-none, u32_reads}
 
@@ -111,23 +111,6 @@ only_reads {A} test read spell Fits h = record {
       let p = passed (test a.0.0) a.0 x a.2 in
       subst (λ (y : A × List ℕ). Read spell (λ (a : A). Fits a × IsTrue (test a)) bytes y) p.1 (record { takes = t.takes; fits = (t.fits, p.0) });
   again = λ a rest fits. rw (h.again a rest fits.0) (let e = fits.1 in rw e refl);
-}
-
--- ---- what is made of a value
-
--- made and unmade are each other's way back
-pub made_reads : {A B : Type 0} (make : A → B) (unmake : B → A) (read : Reader A) (spell : A → List ℕ) (Fits : A → Type 0) → ((a : A) → unmake (make a) ≡ a) → ((b : B) → make (unmake b) ≡ b) → Reads read spell Fits
-    → Reads (made_at make read) (λ b. spell (unmake b)) (λ b. Fits (unmake b))
-unfolding made_at
-made_reads {A} {B} make unmake read spell Fits there back h = record {
-  takes = λ bytes x fits e.
-      let a = bind_some (read bytes) (λ a. Some (make a.0, a.1)) x e in
-      let t = h.takes bytes a.0 fits a.1 in
-      let made : B × List ℕ = (make a.0.0, a.0.1) in
-      let same = sym (there a.0.0) in
-      subst (λ (y : B × List ℕ). Read (λ (b : B). spell (unmake b)) (λ (b : B). Fits (unmake b)) bytes y) (some_is made x a.2)
-      (record { takes = subst (λ (v : A). Takes bytes (spell v) a.0.1) same t.takes; fits = subst Fits same t.fits });
-  again = λ b rest fits. rw (h.again (unmake b) rest fits) (ap (λ (v : B). Some (v, rest)) (back b));
 }
 
 -- ---- all of the bytes

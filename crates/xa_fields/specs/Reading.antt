@@ -38,6 +38,20 @@ many_at one (suc n) bytes = do
 unfoldable pub list_at : {A : Type 0} → Reader A → Reader (List A)
 list_at one bytes = number_at w32 bytes >>= λ n. many_at one n.0 n.1
 
+-- so many values one behind another, each of which may follow what stands before it: `next` gives what stands before the
+-- one behind, or nothing where the value may not follow
+unfoldable pub chain_at : {A S : Type 0} → Reader A → (S → A → Option S) → S → ℕ → Reader (List A)
+chain_at one next s zero bytes = Some ([], bytes)
+chain_at one next s (suc n) bytes = do
+  first ← one bytes
+  t ← next s first.0
+  others ← chain_at one next t n first.1
+  Some (first.0 ∷ others.0, others.1)
+
+-- a count, and so many values that follow one another
+unfoldable pub chained_at : {A S : Type 0} → Reader A → (S → A → Option S) → S → Reader (List A)
+chained_at one next s bytes = number_at w32 bytes >>= λ n. chain_at one next s n.0 n.1
+
 -- a value, and another behind it
 unfoldable pub both_at : {A B : Type 0} → Reader A → Reader B → Reader (A × B)
 both_at first second bytes = do
@@ -50,12 +64,6 @@ unfoldable pub only_at : {A : Type 0} → (A → Bool) → Reader A → Reader A
 only_at test read bytes = do
   a ← read bytes
   if test a.0 then Some a else None
-
--- what is made of a value
-unfoldable pub made_at : {A B : Type 0} → (A → B) → Reader A → Reader B
-made_at make read bytes = do
-  a ← read bytes
-  Some (make a.0, a.1)
 
 -- the value that all of the bytes are
 unfoldable pub whole : {A : Type 0} → Reader A → List ℕ → Option A

@@ -16,7 +16,6 @@ pub fn take_u8(bytes: &[u8], at: usize) -> Option<(u8, usize)>
 }
 
 /// The number at the offset, and the offset behind it.
-
 pub fn take_u32(bytes: &[u8], at: usize) -> Option<(u32, usize)>
     ensures found { option_map (λ r. (r.0, drop r.1 bytes.now)) result ≡ number_at w32 (drop at bytes.now) }
     ensures none { IsNone result ↔ (length bytes.now < at + 4) }

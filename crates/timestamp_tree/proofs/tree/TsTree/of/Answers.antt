@@ -1,8 +1,8 @@
 use Rattle.std.proofs.Common.{ap, ◌∙◌}
-use Rattle.timestamp_tree.specs.NodeView.{node_view}
+use Rattle.timestamp_tree.specs.PartView.{part_view}
 use Rattle.timestamp_tree.specs.Tree.{tree_of}
 use Rattle.timestamp_tree.proofs.Trees.{tree_is}
 use Rattle.timestamp_tree.proofs.tree.TsTree.of.Goals as goal
 
 pub returns-clause-tree : goal.returns-clause-tree
-returns-clause-tree c = tree_is (node_view c.in_ok-root.root) c.in_ok-root.ensures.tree ∙ ap tree_of c.in_ok-root.ensures.leaves
+returns-clause-tree c = tree_is (part_view c.in_ok-root.root) c.in_ok-root.ensures.tree ∙ ap tree_of c.in_ok-root.ensures.leaves
