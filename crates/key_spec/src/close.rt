@@ -96,12 +96,25 @@ fn put_along(
     ensures { OnOk result (placed_rules closed.new ≡ fold (replace_key rule_cmp) (placed_rules closed.old) (implied_along (below (names_view from.now.context.items) (string_bytes from.now.tag)) (names_view tags.now))) }
 {
     let mut here = copy_names(alloc, &from.context)?;
-    here.push(copy_name(alloc, &from.tag)?)?;
+    push_copy(alloc, &mut here, &from.tag)?;
     for tag in tags {
-        put(alloc, closed, unkeyed(alloc, &here, tag)?)?;
-        here.push(copy_name(alloc, tag)?)?;
+        put_unkeyed(alloc, closed, &here, tag)?;
+        push_copy(alloc, &mut here, tag)?;
     }
     Ok(())
+}
+
+/// Puts the rule with this context and tag and no key paths in its place.
+fn put_unkeyed(
+    alloc: Global,
+    closed: &mut BTreeSet<Placed>,
+    context: &[String],
+    tag: &String,
+) -> Result<(), AllocError>
+    ensures { OnOk result (placed_rules closed.new ≡ replace_key rule_cmp (placed_rules closed.old) (record { context = names_view context.now; tag = string_bytes tag.now; paths = [] })) }
+{
+    let rule = unkeyed(alloc, context, tag)?;
+    put(alloc, closed, rule)
 }
 
 /// Puts a rule in its place, where it replaces one with the same context and tag.
@@ -129,9 +142,17 @@ fn copy_names(alloc: Global, names: &[String]) -> Result<Vec<String>, AllocError
 {
     let mut copies = Vec::with_capacity(alloc, names.len())?;
     for name in names {
-        copies.push(copy_name(alloc, name)?)?;
+        push_copy(alloc, &mut copies, name)?;
     }
     Ok(copies)
+}
+
+fn push_copy(alloc: Global, names: &mut Vec<String>, name: &String) -> Result<(), AllocError>
+    ensures { OnOk result (names_view names.new.items ≡ names_view names.old.items ++ string_bytes name.now ∷ []) }
+{
+    let copy = copy_name(alloc, name)?;
+    names.push(copy)?;
+    Ok(())
 }
 
 fn copy_name(alloc: Global, name: &String) -> Result<String, AllocError>

@@ -19,7 +19,7 @@ const MAX_PATHS: usize = 16;
 const MAX_TAGS: usize = 8;
 
 /// The rule of a line, with the line's number.
-#[derive(Debug, Drop)]
+#[derive(Drop)]
 pub(crate) struct Given {
     pub line: u32,
     pub rule: Rule,

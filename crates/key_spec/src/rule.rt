@@ -45,16 +45,14 @@ pub(crate) fn push_rule(text: &mut String, rule: &Rule) -> Result<(), AllocError
     text.push_str(rule.tag.as_str())?;
     text.push_str(", {")?;
     push_paths(text, &rule.paths)?;
-    text.push_str("}))")?;
-    Ok(())
+    text.push_str("}))")
 }
 
 fn push_context(text: &mut String, context: &[String]) -> Result<(), AllocError>
     ensures { OnOk result (string_bytes text.new ≡ string_bytes text.old ++ context_text (names_view context.now)) }
 {
     if context.is_empty() {
-        text.push_str("/")?;
-        Ok(())
+        text.push_str("/")
     } else {
         push_slashed(text, context)
     }
@@ -75,8 +73,7 @@ pub(crate) fn push_step(text: &mut String, name: &str) -> Result<(), AllocError>
     ensures { OnOk result (string_bytes text.new ≡ string_bytes text.old ++ (codes "/" ++ name.now)) }
 {
     text.push_str("/")?;
-    text.push_str(name)?;
-    Ok(())
+    text.push_str(name)
 }
 
 fn push_paths(text: &mut String, paths: &[KeyPath]) -> Result<(), AllocError>
@@ -105,8 +102,7 @@ fn push_path(text: &mut String, path: &KeyPath) -> Result<(), AllocError>
                 push_tags(text, &path.tags)?;
                 text.push_str("/@")?;
             }
-            text.push_str(name.as_str())?;
-            Ok(())
+            text.push_str(name.as_str())
         }
     }
 }
@@ -115,10 +111,7 @@ fn push_tags(text: &mut String, tags: &[String]) -> Result<(), AllocError>
     ensures { OnOk result (string_bytes text.new ≡ string_bytes text.old ++ tags_text (names_view tags.now)) }
 {
     match tags.split_first() {
-        None => {
-            text.push_str(".")?;
-            Ok(())
-        }
+        None => text.push_str("."),
         Some((first, others)) => {
             text.push_str(first.as_str())?;
             push_slashed(text, others)
