@@ -1,3 +1,4 @@
+pub mod AtContext
 pub mod CloseLemmas
 pub mod CanonicalLines
 pub mod ClosedLaws

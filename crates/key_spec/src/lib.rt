@@ -3,6 +3,7 @@
 
 mod close;
 mod closing;
+mod context;
 mod fault;
 mod form;
 mod given;
@@ -15,6 +16,7 @@ mod spec;
 mod texts;
 mod token;
 
+pub use context::rule_with_tag;
 pub use fault::SpecFault;
 pub use rule::{KeyPath, Rule};
 pub use spec::Spec;

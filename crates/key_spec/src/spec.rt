@@ -1,14 +1,15 @@
-ghost use Rattle.std.specs.Prelude.{◌≡◌, ◌≤◌, Ok, IfOk, IfErr, IfSome, map, option_map, length, string_bytes, vec_len};
+ghost use Rattle.std.specs.Prelude.{◌≡◌, ◌≤◌, Ok, IsTrue, IfOk, IfErr, IfSome, map, option_map, length, string_bytes, vec_len};
 ghost use Rattle.key_spec.specs.Closed.{closed, IsClosed};
 ghost use Rattle.key_spec.specs.Canonical.{canonical};
-ghost use Rattle.std.specs.List.{list_any};
+ghost use Rattle.std.specs.List.{filter, list_any};
 ghost use Rattle.std.specs.List.Sorted.{IsStrictlySortedBy};
 ghost use Rattle.std.specs.Ordering.{is_eq};
 ghost use Rattle.key_spec.specs.RuleView.{names_view, rule_view};
-ghost use Rattle.key_spec.specs.Rules.{path_cmp, rule_cmp};
+ghost use Rattle.key_spec.specs.Rules.{path_cmp, rule_cmp, tag_cmp, has_context};
 
 use crate::close::close;
 use crate::closing::check_closing;
+use crate::context::{FEW, at_context, ends_below};
 use crate::fault::SpecFault;
 use crate::given::read_lines;
 use crate::order::{are_same, order_paths, order_place, stands_at};
@@ -18,9 +19,6 @@ use std::alloc::{AllocError, Global};
 /// At most so many bytes of canonical text.
 const MAX_TEXT: usize = 1_048_576;
 
-/// So many rules are looked at one after the other; more are looked up by halving.
-const FEW: usize = 64;
-
 /// A closed specification: all given and implied rules, ascending by context and then by tag.
 #[derive(Debug, Drop)]
 pub struct Spec {
@@ -29,7 +27,7 @@ pub struct Spec {
 }
 
 impl Spec {
-    ghost use Rattle.key_spec.specs.Rules.{rule_of, is_frontier};
+    ghost use Rattle.key_spec.specs.Rules.{rule_of, is_frontier, ends_below, EndsBelow};
     ghost use Rattle.key_spec.specs.View.{spec_view, IsRefusal};
 
     /// The closed rules of a text of lines such as `(/db/dept, (emp, {fn, ln}))`, or its first fault.
@@ -99,6 +97,22 @@ impl Spec {
         self.rules
             .binary_search_by(|rule| order_paths(&rule.context, path))
             .is_err()
+    }
+
+    /// The rules with this context, which stand together, looked up by halving.
+    pub fn rules_at(&self, path: &[String]) -> &[Rule]
+        ensures rules { map rule_view result.now ≡ filter (has_context (names_view path.now)) (spec_view self.now) }
+        ensures ascending { IsStrictlySortedBy tag_cmp (map rule_view result.now) }
+    {
+        at_context(&self.rules, path)
+    }
+
+    /// Whether no rule's context goes on behind this path, looked up by halving.
+    pub fn ends_below(&self, path: &[String]) -> bool
+        ensures value { result ≡ ends_below (spec_view self.now) (names_view path.now) }
+        ensures frontier { IsTrue result → EndsBelow (spec_view self.now) (names_view path.now) }
+    {
+        ends_below(&self.rules, path)
     }
 
     /// The canonical text: one line for each rule, in their order. What it specifies is this specification again.
