@@ -6,6 +6,7 @@ pub mod ClosingLemmas
 pub mod FewPaths
 pub mod FormLemmas
 pub mod LineLemmas
+pub mod ListLaws
 pub mod Members
 pub mod NameLaws
 pub mod NameLemmas

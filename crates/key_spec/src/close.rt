@@ -6,6 +6,7 @@ ghost use Rattle.key_spec.specs.Rules.{rule_cmp, below};
 ghost use Rattle.key_spec.specs.Closed.{implied_along, implied_by, implied_rules, closed_rules};
 ghost use Rattle.key_spec.specs.View.{names_view, path_view, rule_view, rules_view, placed_rules};
 
+use crate::copies::{copy_name, copy_names, push_copy};
 use crate::given::Given;
 use crate::place::{Placed, place_of};
 use crate::rule::Rule;
@@ -135,28 +136,4 @@ fn unkeyed(alloc: Global, context: &[String], tag: &String) -> Result<Rule, Allo
         tag: copy_name(alloc, tag)?,
         paths: Vec::new(alloc),
     })
-}
-
-fn copy_names(alloc: Global, names: &[String]) -> Result<Vec<String>, AllocError>
-    ensures { IfOk result (λ copies. names_view copies.items ≡ names_view names.now) }
-{
-    let mut copies = Vec::with_capacity(alloc, names.len())?;
-    for name in names {
-        push_copy(alloc, &mut copies, name)?;
-    }
-    Ok(copies)
-}
-
-fn push_copy(alloc: Global, names: &mut Vec<String>, name: &String) -> Result<(), AllocError>
-    ensures { OnOk result (names_view names.new.items ≡ names_view names.old.items ++ string_bytes name.now ∷ []) }
-{
-    let copy = copy_name(alloc, name)?;
-    names.push(copy)?;
-    Ok(())
-}
-
-fn copy_name(alloc: Global, name: &String) -> Result<String, AllocError>
-    ensures { IfOk result (λ copy. string_bytes copy ≡ string_bytes name.now) }
-{
-    String::from_str(alloc, name.as_str())
 }

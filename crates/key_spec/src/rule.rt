@@ -3,6 +3,7 @@ ghost use Rattle.key_spec.specs.Names.{slashed, tags_text, path_text, context_te
 ghost use Rattle.key_spec.specs.Canonical.{rule_text, paths_text};
 ghost use Rattle.key_spec.specs.View.{names_view, path_view, rule_view};
 
+use crate::copies::{copy_name, copy_names};
 use std::alloc::{AllocError, Global};
 
 /// A key path: the tags from element to child element, and then an attribute of the last one where one is given.
@@ -32,6 +33,19 @@ impl KeyPath {
         let mut text = String::new(alloc);
         push_path(&mut text, self)?;
         Ok(text)
+    }
+
+    pub fn copy(&self, alloc: Global) -> Result<KeyPath, AllocError>
+        ensures { IfOk result (λ copy. path_view copy ≡ path_view self.now) }
+    {
+        let attr = match &self.attr {
+            None => None,
+            Some(name) => Some(copy_name(alloc, name)?),
+        };
+        Ok(KeyPath {
+            tags: copy_names(alloc, &self.tags)?,
+            attr,
+        })
     }
 }
 

@@ -1,6 +1,6 @@
 use Rattle.std.proofs.Common.{arith}
 use Rattle.std.proofs.lemmas.Grind.{common_steps}
-use Rattle.key_spec.proofs.close.copy_names.Goals as goal
+use Rattle.key_spec.proofs.copies.copy_names.Goals as goal
 
 pub loop-name-preserved : goal.loop-name-preserved
 loop-name-preserved c = grind (arith, common_steps)
