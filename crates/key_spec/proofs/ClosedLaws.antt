@@ -1,7 +1,7 @@
 -- What holds of the closed rules of a text.
 use Rattle.std.proofs.Common.{◌≡◌, ℕ, ◌≤◌, Bool, true, false, cond, not, ◌&&◌, ◌⊎◌, inl, inr, ⊎_elim, List, [], ◌∷◌, ◌++◌, length, ltb, map, flat_map, refl, ap, ap₂, sym, ◌∙◌, subst, arith, Option, Some, None, Ok, is_some, option_map}
 use Rattle.std.proofs.lemmas.Bool.{cond-false, or_left, and_from, and_left, and_right, not_from_true, not_from_false, false_from_ne_true, lt-ltb}
-use Rattle.std.specs.List.{cons_option}
+use Rattle.std.specs.List.{cons_option, list_any}
 use Rattle.std.specs.List.Sorted.{IsStrictlySortedBy}
 use Rattle.std.specs.Option.{option_or}
 use Rattle.std.specs.Ordering.{is_eq}
@@ -13,8 +13,9 @@ use Rattle.key_spec.specs.Rules.{path_cmp, rule_cmp, below}
 use Rattle.key_spec.specs.Laws.{rule_cmp_total}
 use Rattle.key_spec.specs.Canonical.{canonical}
 use Rattle.key_spec.specs.Closed.{given_rules, paths_why, rule_why, line_fault, first_of_all, target_of, implied_along, implied_by, implied_rules, end_at, frontier_ends, has_path, has_place, lacks_context, is_keyed_twice, passes_end, closing_why, closing_fault, closed_rules, within_limits, closed}
+use Rattle.key_spec.specs.ClosedList.{IsClosedList}
 use Rattle.key_spec.proofs.ClosingLemmas.{implied_rules-named}
-use Rattle.key_spec.proofs.Members.{In, In-left, In-right, In-cases, In-flat_map, to_flat_map, In-map, to_map, from_any, to_any, from_all, In-put_all, Covers, put_all-new, one_place, same_sorted}
+use Rattle.key_spec.proofs.Members.{In, from-Contains, to-Contains, In-left, In-right, In-cases, In-flat_map, to_flat_map, In-map, to_map, from_any, to_any, from_all, In-put_all, Covers, put_all-new, one_place, same_sorted}
 use Rattle.key_spec.proofs.OrderLaws.{path_cmp-Decides, rule_cmp-Equal}
 use Rattle.key_spec.proofs.ParseLemmas.{lines_of, rules_of, given_rules-named, limits-kept}
 use Rattle.key_spec.proofs.SearchLemmas.{closed-parts, limits-ok, closed_rules-sorted}
@@ -36,7 +37,7 @@ unkeyed_same r s e a b =
     λ i. record { context = context i; tag = tag i; paths = paths i }
 
 -- a path that some rule has as its target
-to_path : (rules : List PlainRule) (r : PlainRule) (p : List (List ℕ)) → In r rules → target_of r ≡ p → has_path (map target_of rules) p ≡ true
+pub to_path : (rules : List PlainRule) (r : PlainRule) (p : List (List ℕ)) → In r rules → target_of r ≡ p → has_path (map target_of rules) p ≡ true
 to_path rules r p h e = to_any (λ q. is_eq (path_cmp q p)) (map target_of rules) (target_of r) (to_map target_of rules r h) ((path_cmp-Decides (target_of r) p).1 e)
 
 pub from_path : (rules : List PlainRule) (p : List (List ℕ)) → has_path (map target_of rules) p ≡ true → (r : PlainRule) × In r rules × (target_of r ≡ p)
@@ -220,24 +221,6 @@ module _ (text : List ℕ) (rs : List PlainRule) (closes : closed text ≡ Ok rs
           let found = from_path (rules_of text ++ implied_rules (rules_of text)) r.context known in
           inr (at (found.0, swapped found.0 found.1, found.2))
 
-  -- ---- given as lines of their own, closed rules have no fault
-
-  context_fine : (r : PlainRule) → In r rs → lacks_context rs r ≡ false
-  context_fine r h =
-      ⊎_elim
-      (λ e. and_left (ltb 0 (length r.context)) _ (ap (λ q. ltb 0 (length q)) e))
-      (λ f. and_right _ (not (has_path (map target_of (rs ++ implied_rules rs)) r.context)) (not_from_true _ (to_path (rs ++ implied_rules rs) f.0 r.context (In-left f.0 rs (implied_rules rs) f.1) f.2)))
-      (has_context r h)
-
-  keys_fine : (r : PlainRule) → In r rs → is_keyed_twice rs r ≡ false
-  keys_fine r h =
-      by_test (has_place (implied_rules rs) r)
-      (λ e. let found = from_path (implied_rules rs) (target_of r) e in
-      let i = implied_again found.0 found.1 in
-      let none : r.paths ≡ [] = ⊎_elim (λ l. implied_unkeyed (rules_of text) r l) (λ l. unkeyed r found.0 l i found.2) (from_closed r h) in
-      and_left (ltb 0 (length r.paths)) _ (ap (λ ps. ltb 0 (length ps)) none))
-      (λ e. and_right (ltb 0 (length r.paths)) _ e)
-
   -- a rule on the way of a given one
   on_way : (r s : PlainRule) → In r rs → In s (r ∷ implied_by r) → (g : PlainRule) × In g (rules_of text) × In s (g ∷ implied_by g)
   on_way r s h k =
@@ -258,9 +241,6 @@ module _ (text : List ℕ) (rs : List PlainRule) (closes : closed text ≡ Ok rs
       let twice : passes_end (rules_of text) way.0 ≡ true = to_any (λ (s : PlainRule). has_path (frontier_ends (rules_of text)) s.context) (way.0 ∷ implied_by way.0) past.0 way.2 again in
       let no : true ≡ false = sym twice ∙ (given_fine way.0 way.1).way in cc)
 
-  pub closed_fine : (r : PlainRule) → In r rs → IsFine rs r
-  closed_fine r h = record { context = context_fine r h; keys = keys_fine r h; way = way_fine r h }
-
   pub closed_paths : (r : PlainRule) → In r rs → paths_why r.paths ≡ None
   closed_paths r h =
       ⊎_elim
@@ -275,17 +255,6 @@ module _ (text : List ℕ) (rs : List PlainRule) (closes : closed text ≡ Ok rs
       (λ l. from_all is_named (implied_rules (rules_of text)) r (implied_rules-named (rules_of text) names) l)
       (λ l. from_all is_named (rules_of text) r names l)
       (from_closed r h)
-
-  -- closing them again gives them again
-  pub closed_again : closed_rules rs ≡ rs
-  closed_again =
-      let inside = λ (z : PlainRule) (h : In z (closed_rules rs)).
-      let found : In z rs = ⊎_elim (λ no. absurd no) (λ l. ⊎_elim (λ i. implied_closed z (implied_again z i)) (λ g. g) (In-cases z (implied_rules rs) rs l)) (In-put_all rule_cmp_total [] (implied_rules rs ++ rs) z h) in found in
-      let outside = λ (z : PlainRule) (h : In z rs).
-      let c = put_all-new rule_cmp_total [] (implied_rules rs ++ rs) z (In-right z (implied_rules rs) rs h) in
-      let same : c.0 ≡ z = one_place rule_cmp_total rs c.0 z sorted (inside c.0 c.1) h c.2 in
-      let found : In z (closed_rules rs) = subst (λ r. In r (closed_rules rs)) same c.1 in found in
-      same_sorted rule_cmp_total (closed_rules rs) rs (closed_rules-sorted rs) sorted inside outside
 
   pub closed_within : within_limits rs ≡ Ok rs
   closed_within =
@@ -302,3 +271,19 @@ module _ (text : List ℕ) (rs : List PlainRule) (closes : closed text ≡ Ok rs
       let at_end : has_path (frontier_ends rs) r.context ≡ true = to_any (λ q. is_eq (path_cmp q r.context)) (frontier_ends rs) p g ((path_cmp-Decides p r.context).1 (sym same)) in
       let past : passes_end rs r ≡ true = or_left (has_path (frontier_ends rs) r.context) _ at_end in
       let no : true ≡ false = sym past ∙ way_fine r h in cc
+
+  pub closed_list : IsClosedList rs
+  closed_list =
+      let kept = limits-ok (closed_rules (rules_of text)) rs (closed-parts text rs closes).2 in
+      record {
+        ascending = sorted;
+        named = λ r h. closed_named r (from-Contains rs r h);
+        keys = λ r h. closed_paths r (from-Contains rs r h);
+        contexts = λ r h. ⊎_elim (λ e. inl e) (λ f. inr (to-Contains (map target_of rs) r.context (subst (λ p. In p (map target_of rs)) f.2 (to_map target_of rs f.0 f.1)))) (has_context r (from-Contains rs r h));
+        implied = λ r i h g. to-Contains rs i (implied_closed i (implied_again i (to_flat_map implied_by rs r i (from-Contains rs r h) (from-Contains (implied_by r) i g))));
+        ends = λ p h. not_from_false _ (false_from_ne_true (list_any (λ (r : PlainRule). is_eq (path_cmp r.context p)) rs) (λ e.
+        let found = from_any (λ (r : PlainRule). is_eq (path_cmp r.context p)) rs e in
+        closed_open found.0 p found.1 (from-Contains (frontier_ends rs) p h) found.2));
+        few = subst (λ xs. length xs ≤ 4096) kept.0 kept.1;
+        short = subst (λ xs. length (canonical xs) ≤ 1048576) kept.0 kept.2;
+      }

@@ -1,5 +1,5 @@
 -- What tokens spell, one step after another.
-use Rattle.std.proofs.Common.{◌≡◌, ℕ, ◌<◌, false, List, [], ◌∷◌, ◌++◌, length, refl, ap, sym, ◌∙◌, arith, eqb, Option, Some, None, option_map, eqb-true, drop, suc, append_assoc}
+use Rattle.std.proofs.Common.{◌≡◌, ℕ, ◌<◌, false, List, [], ◌∷◌, ◌++◌, length, refl, ap, sym, ◌∙◌, arith, eqb, Option, Some, None, option_map, option_and_then, eqb-true, drop, suc, append_assoc}
 use Rattle.std.proofs.lemmas.Bool.{cond-false, cond-true, ne_eqb, and_left, and_from, not_from_false}
 use Rattle.std.specs.List.{prefix_len}
 use Rattle.key_spec.specs.Data.{PlainPath}
@@ -130,6 +130,20 @@ pub is_end-two : (ts us : List Token) (line bs : List ℕ) → behind 41 ts ≡ 
 is_end-two ts us line bs e f cut =
     ap is_end (behind-some 41 ts us e ∙ ap (λ vs. sign 41 ∷ vs) (behind-some 41 us (tokens line) f)) ∙ two_ends (tokens line)
     ∙ ap (λ vs. eqb (length vs) 0) (sym (tokens-trimmed line) ∙ ap tokens (sym cut)) ∙ tokens-none bs (ap begins_blank cut ∙ trimmed-begins line)
+
+end_neither : (ts : List Token) (o : Option (List Token)) → behind 41 ts ≡ o → option_and_then (behind 41) o ≡ None → is_end ts ≡ false
+end_neither ts None e f = is_end-none ts e
+end_neither ts (Some us) e f = is_end-one ts us e f
+
+pub is_end-neither : (ts : List Token) → option_and_then (behind 41) (behind 41 ts) ≡ None → is_end ts ≡ false
+is_end-neither ts f = end_neither ts (behind 41 ts) refl f
+
+end_both : (ts : List Token) (o : Option (List Token)) (line bs : List ℕ) → behind 41 ts ≡ o → option_and_then (behind 41) o ≡ Some (tokens line) → bs ≡ drop (prefix_len is_blank line) line → is_end ts ≡ eqb (length bs) 0
+end_both ts None line bs e f cut = cc
+end_both ts (Some us) line bs e f cut = is_end-two ts us line bs e f cut
+
+pub is_end-both : (ts : List Token) (line bs : List ℕ) → option_and_then (behind 41) (behind 41 ts) ≡ Some (tokens line) → bs ≡ drop (prefix_len is_blank line) line → is_end ts ≡ eqb (length bs) 0
+is_end-both ts line bs f cut = end_both ts (behind 41 ts) line bs refl f cut
 
 -- one more path is read: those so far and those that are left are still all of them
 pub one_more_path : (whole left rest : Option (List PlainPath × List Token)) (front : List PlainPath) (path : PlainPath)

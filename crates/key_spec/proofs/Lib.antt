@@ -1,3 +1,4 @@
+pub mod AtContext
 pub mod CloseLemmas
 pub mod CanonicalLines
 pub mod ClosedLaws
@@ -5,6 +6,7 @@ pub mod ClosingLemmas
 pub mod FewPaths
 pub mod FormLemmas
 pub mod LineLemmas
+pub mod ListLaws
 pub mod Members
 pub mod NameLaws
 pub mod NameLemmas

@@ -1,11 +1,11 @@
 -- What is an element of a list, and lists that ascend strictly by their elements.
-use Rattle.std.proofs.Common.{◌≡◌, Bool, true, ◌⊎◌, inl, inr, ⊎_elim, List, [], ◌∷◌, ◌++◌, map, flat_map, fold, refl, ap, sym, ◌∙◌, subst}
+use Rattle.std.proofs.Common.{◌≡◌, Bool, true, ◌⊎◌, inl, inr, ⊎_elim, List, [], ◌∷◌, ◌++◌, map, flat_map, fold, refl, ap, sym, ◌∙◌, subst, arith, zero, suc, ℕ, ◌<◌, length}
 use Rattle.std.proofs.lemmas.Bool.{or_cases, or_left, or_right, and_parts, and_from}
 use Rattle.std.proofs.lemmas.Cmp.{tied_back, tied_itself}
 use Rattle.std.proofs.lemmas.Map.Keys.{sorted_head, sorted_tail}
 use Rattle.std.specs.BTreeSet.{replace_key}
 use Rattle.std.specs.Cmp.{IsTotalOrder}
-use Rattle.std.specs.List.{list_any, list_all, AllByRecursion}
+use Rattle.std.specs.List.{list_any, list_all, AllByRecursion, Contains}
 use Rattle.std.specs.List.Sorted.{IsStrictlySortedBy}
 use Rattle.std.specs.Ordering.{match_ordering}
 use Rattle.std.specs.declared.cmp.Ordering.{Ordering}
@@ -29,6 +29,17 @@ module _ {X : Type 0} where
   In-cases x [] ys h = inr h
   In-cases x (y ∷ more) ys (inl e) = inl (inl e)
   In-cases x (y ∷ more) ys (inr h) = ⊎_elim (λ l. inl (inr l)) (λ r. inr r) (In-cases x more ys h)
+
+  -- the same by places
+  pub from-Contains : (xs : List X) (x : X) → Contains xs x → In x xs
+  from-Contains [] x c = absurd (omega (arith, c.1))
+  from-Contains (y ∷ ys) x (zero, h, e) = inl (sym e)
+  from-Contains (y ∷ ys) x (suc k, h, e) = inr (from-Contains ys x (k, omega arith, e))
+
+  pub to-Contains : (xs : List X) (x : X) → In x xs → Contains xs x
+  to-Contains [] x h = absurd h
+  to-Contains (y ∷ ys) x (inl e) = (0, omega arith, sym e)
+  to-Contains (y ∷ ys) x (inr h) = let c = to-Contains ys x h in (suc c.0, omega (arith, c.1), c.2)
 
   -- some element passes a test
   pub from_any : (p : X → Bool) (xs : List X) → list_any p xs ≡ true → (x : X) × In x xs × (p x ≡ true)

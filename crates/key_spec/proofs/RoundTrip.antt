@@ -17,13 +17,15 @@ use Rattle.key_spec.specs.Rules.{rule_cmp, place_cmp, below}
 use Rattle.key_spec.specs.Laws.{rule_cmp_total}
 use Rattle.key_spec.specs.Canonical.{canonical}
 use Rattle.key_spec.specs.Closed.{target_of, has_place, closing_fault, closed_rules, within_limits, closed, IsClosed, given_rules}
+use Rattle.key_spec.specs.ClosedList.{IsClosedList}
 use Rattle.key_spec.specs.RuleView.{names_view, path_view, rule_view}
 use Rattle.key_spec.specs.declared.rule.KeyPath.{KeyPath}
 use Rattle.key_spec.specs.declared.rule.Rule.{Rule}
 use Rattle.key_spec.proofs.CanonicalLines.{IsTextPath, IsText, number_from, numbered_rules, given-canonical, first-canonical}
-use Rattle.key_spec.proofs.ClosedLaws.{from_path, IsFine, fine_why, closed_fine, closed_paths, closed_named, closed_again, closed_within, closed_ascends}
+use Rattle.key_spec.proofs.ClosedLaws.{from_path, IsFine, fine_why, closed_list}
+use Rattle.key_spec.proofs.ListLaws.{below-injective, list-fine, list-again, list-within}
 use Rattle.key_spec.proofs.ClosingLemmas.{closing_fault-none}
-use Rattle.key_spec.proofs.Members.{In, In-map, In-right, head_less}
+use Rattle.key_spec.proofs.Members.{In, to-Contains, In-map, In-right, head_less}
 use Rattle.key_spec.proofs.ParseLemmas.{lines_of, rules_of, closed-limits}
 
 -- ---- the texts of rules are UTF-8
@@ -44,19 +46,6 @@ rule_utf8 : (rule : Rule) → IsText (rule_view rule)
 rule_utf8 rule = record { context = names_utf8 rule.context.items; tag = IsUtf8-string_bytes rule.tag; paths = paths_utf8 rule.paths.items }
 
 -- ---- the second pass over rules that ascend
-
--- a context and a tag can be told from their target
-below-injective : (c d : List (List ℕ)) (t u : List ℕ) → below c t ≡ below d u → (c ≡ d) × (t ≡ u)
-below-injective [] [] t u e = (refl, cc)
-below-injective [] (y ∷ []) t u e = cc
-below-injective [] (y ∷ z ∷ zs) t u e = cc
-below-injective (x ∷ []) [] t u e = cc
-below-injective (x ∷ w ∷ ws) [] t u e = cc
-below-injective (x ∷ xs) (y ∷ ys) t u e =
-    let first : x ≡ y = cc in
-    let tails : below xs t ≡ below ys u = cc in
-    let rest = below-injective xs ys t u tails in
-    (ap₂ (λ n ns. n ∷ ns) first rest.0, rest.1)
 
 before_less : (before more : List PlainRule) (rule b : PlainRule) → IsStrictlySortedBy rule_cmp (before ++ rule ∷ more) → In b before → rule_cmp b rule ≡ Less
 before_less [] more rule b s h = absurd h
@@ -84,24 +73,24 @@ all_closing rules before (rule ∷ more) n e s fine =
 
 -- ---- the round trip
 
-pub closed-canonical : (rules : List PlainRule) → IsClosed rules → ((r : PlainRule) → In r rules → IsText r) → closed (canonical rules) ≡ Ok rules
+pub closed-canonical : (rules : List PlainRule) → IsClosedList rules → ((r : PlainRule) → In r rules → IsText r) → closed (canonical rules) ≡ Ok rules
 closed-canonical rules h utf8 =
-    let named = λ (r : PlainRule) (g : In r rules). let both : (is_named r ≡ true) × IsText r = (closed_named h.0 rules h.1 r g, utf8 r g) in both in
+    let named = λ (r : PlainRule) (g : In r rules). let both : (is_named r ≡ true) × IsText r = (h.named r (to-Contains rules r g), utf8 r g) in both in
     let given = given-canonical 1 rules named in
-    let none = first-canonical 1 rules named (closed_paths h.0 rules h.1) in
+    let none = first-canonical 1 rules named (λ r g. h.keys r (to-Contains rules r g)) in
     let read : rules_of (canonical rules) ≡ rules = ap (map (λ (g : GivenRule). g.rule)) given ∙ numbered_rules 1 rules in
     let closing : closing_fault (rules_of (canonical rules)) [] (given_rules (lines_of (canonical rules))) ≡ None =
-    ap₂ (λ rs gs. closing_fault rs [] gs) read given ∙ all_closing rules [] rules 1 refl (closed_ascends h.0 rules h.1) (closed_fine h.0 rules h.1) in
+    ap₂ (λ rs gs. closing_fault rs [] gs) read given ∙ all_closing rules [] rules 1 refl h.ascending (list-fine rules h) in
     closed-limits (canonical rules) none closing
     ∙ ap (λ rs. within_limits (closed_rules rs)) read
-    ∙ ap within_limits (closed_again h.0 rules h.1)
-    ∙ closed_within h.0 rules h.1
+    ∙ ap within_limits (list-again rules h)
+    ∙ list-within rules h
 
 rules_utf8 : (rules : List Rule) (r : PlainRule) → In r (map rule_view rules) → IsText r
 rules_utf8 rules r h = let found = In-map rule_view rules r h in subst IsText (sym found.2) (rule_utf8 found.0)
 
 pub round_trip : (rules : List Rule) → IsClosed (map rule_view rules) → closed (canonical (map rule_view rules)) ≡ Ok (map rule_view rules)
-round_trip rules h = closed-canonical (map rule_view rules) h (rules_utf8 rules)
+round_trip rules h = closed-canonical (map rule_view rules) (closed_list h.0 (map rule_view rules) h.1) (rules_utf8 rules)
 
 -- ---- an answer is given in one way
 

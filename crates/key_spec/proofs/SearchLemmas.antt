@@ -7,7 +7,7 @@ use Rattle.std.proofs.lemmas.List.Elements.{All-from_recursion}
 use Rattle.std.proofs.lemmas.List.Sorted.{searchable_from_sorted}
 use Rattle.std.proofs.Math.Logic.{∥∥₁_elim}
 use Rattle.std.proofs.lemmas.Map.Keys.{IsStrictlySortedBy-prop, sorted_head, sorted_tail}
-use Rattle.std.specs.Cmp.{Equal-is}
+use Rattle.std.specs.Cmp.{Equal-is, IsTotalOrder}
 use Rattle.std.specs.List.{list_any}
 use Rattle.std.specs.List.Sorted.{IsStrictlySortedBy, IsNonDecreasingBy, IsSearchInRange, IsBinarySearchResult}
 use Rattle.std.specs.Ordering.{is_eq, is_lt, ordering_index, ordering_then}
@@ -64,16 +64,16 @@ kept-sorted rules h = ∥∥₁_elim h (IsStrictlySortedBy-prop rule_cmp rules) 
 -- ---- the rule at a place
 
 -- where a list ascends, what compares equal to a key is the one that is found
-pub find-one : (rules : List PlainRule) (key rule : PlainRule) (i : ℕ) → IsStrictlySortedBy rule_cmp rules → i < length rules → get_or rules i rule ≡ rule → rule_cmp rule key ≡ Equal
-    → find (λ r. is_eq (rule_cmp r key)) rules ≡ Some rule
-find-one [] key rule i s h here e = absurd (omega arith)
-find-one (r ∷ rules) key rule zero s h here e = cond-true (is_eq (rule_cmp r key)) (Some r) _ ((Equal-is (rule_cmp r key)).1 (ap (λ x. rule_cmp x key) here ∙ e)) ∙ ap (λ x. Some x) here
-find-one (r ∷ rules) key rule (suc i) s h here e =
-    let less : rule_cmp r rule ≡ Less = subst (λ x. rule_cmp r x ≡ Less) here (All-from_recursion (λ y. rule_cmp r y ≡ Less) rules (sorted_head rule_cmp r rules s) i rule (omega arith)) in
-    let apart : is_eq (rule_cmp r key) ≡ false = false_from_ne_true (is_eq (rule_cmp r key)) (λ f.
-    let same : rule_cmp r key ≡ Equal = (Equal-is (rule_cmp r key)).0 f in
-    let no : Less ≡ Equal = sym less ∙ rule_cmp_total.congr r key rule same ∙ tied_back rule_cmp_total rule key e in cc) in
-    cond-false (is_eq (rule_cmp r key)) (Some r) _ apart ∙ find-one rules key rule i (sorted_tail rule_cmp r rules s) (omega arith) here e
+find-one : {R : PlainRule → PlainRule → Ordering} (o : IsTotalOrder R) (rules : List PlainRule) (key rule : PlainRule) (i : ℕ) → IsStrictlySortedBy R rules → i < length rules → get_or rules i rule ≡ rule
+    → R rule key ≡ Equal → find (λ r. is_eq (R r key)) rules ≡ Some rule
+find-one o [] key rule i s h here e = absurd (omega arith)
+find-one {R} o (r ∷ rules) key rule zero s h here e = cond-true (is_eq (R r key)) (Some r) _ ((Equal-is (R r key)).1 (ap (λ x. R x key) here ∙ e)) ∙ ap (λ x. Some x) here
+find-one {R} o (r ∷ rules) key rule (suc i) s h here e =
+    let less : R r rule ≡ Less = subst (λ x. R r x ≡ Less) here (All-from_recursion (λ y. R r y ≡ Less) rules (sorted_head R r rules s) i rule (omega arith)) in
+    let apart : is_eq (R r key) ≡ false = false_from_ne_true (is_eq (R r key)) (λ f.
+    let same : R r key ≡ Equal = (Equal-is (R r key)).0 f in
+    let no : Less ≡ Equal = sym less ∙ o.congr r key rule same ∙ tied_back o rule key e in cc) in
+    cond-false (is_eq (R r key)) (Some r) _ apart ∙ find-one o rules key rule i (sorted_tail R r rules s) (omega arith) here e
 
 -- where nothing compares equal, nothing is found
 pub find-none : {X : Type 0} (f : X → PlainRule) (p : PlainRule → Bool) (xs : List X) → ((i : ℕ) (d : X) → i < length xs → p (f (get_or xs i d)) ≡ false) → find p (map f xs) ≡ None
@@ -84,11 +84,12 @@ pub any-none : {X : Type 0} (f : X → PlainRule) (p : PlainRule → Bool) (xs :
 any-none f p [] fails = refl
 any-none f p (x ∷ xs) fails = or_from (p (f x)) (list_any p (map f xs)) (fails 0 x (omega arith)) (any-none f p xs (λ i d h. fails (suc i) d (omega arith)))
 
--- rules that ascend can be searched by their places, and by their contexts
-pub by_place : {X : Type 0} (f : X → PlainRule) (xs : List X) (key : PlainRule) → IsStrictlySortedBy rule_cmp (map f xs) → IsNonDecreasingBy (λ y. ordering_index (rule_cmp (f y) key)) xs
-by_place f xs key s =
-    searchable_from_sorted rule_cmp_total f xs key (λ k d l h. subst₂ (λ a b. is_lt (rule_cmp a b) ≡ false) (get_or-map f xs (k + 1) d (f d) (omega arith)) (get_or-map f xs k d (f d) (omega arith))
-    (not_less rule_cmp_total (map f xs) s k (f d) (simp length-map h)))
+-- rules that ascend can be searched by an order, and by their contexts
+by_order : {R : PlainRule → PlainRule → Ordering} (o : IsTotalOrder R) {X : Type 0} (f : X → PlainRule) (xs : List X) (key : PlainRule) → IsStrictlySortedBy R (map f xs)
+    → IsNonDecreasingBy (λ y. ordering_index (R (f y) key)) xs
+by_order {R} o f xs key s =
+    searchable_from_sorted o f xs key (λ k d l h. subst₂ (λ a b. is_lt (R a b) ≡ false) (get_or-map f xs (k + 1) d (f d) (omega arith)) (get_or-map f xs k d (f d) (omega arith))
+    (not_less o (map f xs) s k (f d) (simp length-map h)))
 
 context_not_less : (r s : PlainRule) → is_lt (rule_cmp r s) ≡ false → is_lt (path_cmp r.context s.context) ≡ false
 context_not_less r s e = by_context (path_cmp r.context s.context) e
@@ -110,23 +111,27 @@ not_equal o (inr e) = ap is_eq e
 
 -- ---- what a search answers
 
-module _ {X : Type 0} (f : X → PlainRule) (items lent : List X) (same : lent ≡ items) (s : IsStrictlySortedBy rule_cmp (map f items)) where
-  sorted : IsStrictlySortedBy rule_cmp (map f lent)
-  sorted = subst (λ xs. IsStrictlySortedBy rule_cmp (map f xs)) (sym same) s
+module _ {R : PlainRule → PlainRule → Ordering} (o : IsTotalOrder R) {X : Type 0} (f : X → PlainRule) (items lent : List X) (same : lent ≡ items) (s : IsStrictlySortedBy R (map f items)) where
+  sorted : IsStrictlySortedBy R (map f lent)
+  sorted = subst (λ xs. IsStrictlySortedBy R (map f xs)) (sym same) s
 
-  pub search-found : (key : PlainRule) (at : ℕ) (x : X) → at < length lent → x ≡ get_or lent at x → ((d : X) → rule_cmp (f (get_or lent at d)) key ≡ Equal)
-      → Some (f x) ≡ find (λ r. is_eq (rule_cmp r key)) (map f items)
+  pub search-found : (key : PlainRule) (at : ℕ) (x : X) → at < length lent → x ≡ get_or lent at x → ((d : X) → R (f (get_or lent at d)) key ≡ Equal)
+      → Some (f x) ≡ find (λ r. is_eq (R r key)) (map f items)
   search-found key at x h here e =
       let place : get_or (map f lent) at (f x) ≡ f x = get_or-map f lent at x (f x) h ∙ ap f (sym here) in
-      sym (find-one (map f lent) key (f x) at sorted (simp length-map h) place (ap (λ y. rule_cmp (f y) key) here ∙ e x)) ∙ ap (λ xs. find (λ r. is_eq (rule_cmp r key)) (map f xs)) same
+      sym (find-one o (map f lent) key (f x) at sorted (simp length-map h) place (ap (λ y. R (f y) key) here ∙ e x)) ∙ ap (λ xs. find (λ r. is_eq (R r key)) (map f xs)) same
 
   pub search-none : (key : PlainRule) (at : ℕ)
-      → (IsNonDecreasingBy (λ y. ordering_index (rule_cmp (f y) key)) lent → ((k : ℕ) (d : X) → 0 ≤ k → k < at → rule_cmp (f (get_or lent k d)) key ≡ Less) × ((k : ℕ) (d : X) → at ≤ k → k < length lent → rule_cmp (f (get_or lent k d)) key ≡ Greater))
-      → None ≡ find (λ r. is_eq (rule_cmp r key)) (map f items)
+      → (IsNonDecreasingBy (λ y. ordering_index (R (f y) key)) lent → ((k : ℕ) (d : X) → 0 ≤ k → k < at → R (f (get_or lent k d)) key ≡ Less) × ((k : ℕ) (d : X) → at ≤ k → k < length lent → R (f (get_or lent k d)) key ≡ Greater))
+      → None ≡ find (λ r. is_eq (R r key)) (map f items)
   search-none key at parts =
-      let both = parts (by_place f lent key sorted) in
-      sym (find-none f (λ r. is_eq (rule_cmp r key)) lent (λ k d h. not_equal _ (⊎_elim (λ l. inl (both.0 k d (omega arith) l)) (λ g. inr (both.1 k d g h)) (cases_lt k at))))
-      ∙ ap (λ xs. find (λ r. is_eq (rule_cmp r key)) (map f xs)) same
+      let both = parts (by_order o f lent key sorted) in
+      sym (find-none f (λ r. is_eq (R r key)) lent (λ k d h. not_equal _ (⊎_elim (λ l. inl (both.0 k d (omega arith) l)) (λ g. inr (both.1 k d g h)) (cases_lt k at))))
+      ∙ ap (λ xs. find (λ r. is_eq (R r key)) (map f xs)) same
+
+module _ {X : Type 0} (f : X → PlainRule) (items lent : List X) (same : lent ≡ items) (s : IsStrictlySortedBy rule_cmp (map f items)) where
+  ascends : IsStrictlySortedBy rule_cmp (map f lent)
+  ascends = subst (λ xs. IsStrictlySortedBy rule_cmp (map f xs)) (sym same) s
 
   context-found : (path : List (List ℕ)) (at : ℕ) → at < length lent → ((d : X) → path_cmp (f (get_or lent at d)).context path ≡ Equal)
       → list_any (λ (r : PlainRule). is_eq (path_cmp r.context path)) (map f items) ≡ true
@@ -141,7 +146,7 @@ module _ {X : Type 0} (f : X → PlainRule) (items lent : List X) (same : lent �
       → (IsNonDecreasingBy (λ y. ordering_index (path_cmp (f y).context path)) lent → ((k : ℕ) (d : X) → 0 ≤ k → k < at → path_cmp (f (get_or lent k d)).context path ≡ Less) × ((k : ℕ) (d : X) → at ≤ k → k < length lent → path_cmp (f (get_or lent k d)).context path ≡ Greater))
       → list_any (λ (r : PlainRule). is_eq (path_cmp r.context path)) (map f items) ≡ false
   context-none path at parts =
-      let both = parts (by_context f lent path sorted) in
+      let both = parts (by_context f lent path ascends) in
       ap (λ xs. list_any (λ (r : PlainRule). is_eq (path_cmp r.context path)) (map f xs)) (sym same)
       ∙ any-none f (λ (r : PlainRule). is_eq (path_cmp r.context path)) lent (λ k d h. not_equal _ (⊎_elim (λ l. inl (both.0 k d (omega arith) l)) (λ g. inr (both.1 k d g h)) (cases_lt k at)))
 

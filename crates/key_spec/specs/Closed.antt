@@ -34,12 +34,12 @@ repeats earlier [] = false
 repeats earlier (path ∷ more) = list_any (is_same_path path) earlier || repeats (earlier ++ path ∷ []) more
 
 -- the key path `.`
-abbrev pub is_target : PlainPath → Bool
-is_target path = length path.tags == 0 && is_none path.attr
+abbrev pub is_dot : PlainPath → Bool
+is_dot path = length path.tags == 0 && is_none path.attr
 
 -- a key path stands twice, or `.` beside another
 abbrev pub clashes : List PlainPath → Bool
-clashes paths = repeats [] paths || (nat_lt 1 (length paths) && list_any is_target paths)
+clashes paths = repeats [] paths || (nat_lt 1 (length paths) && list_any is_dot paths)
 
 -- more than 16 key paths, or one of more than 8 tags
 abbrev pub exceeds : List PlainPath → Bool

@@ -1,5 +1,6 @@
 pub mod Canonical
 pub mod Closed
+pub mod ClosedList
 pub mod Data
 pub mod Form
 pub mod Laws

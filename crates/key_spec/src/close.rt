@@ -6,6 +6,7 @@ ghost use Rattle.key_spec.specs.Rules.{rule_cmp, below};
 ghost use Rattle.key_spec.specs.Closed.{implied_along, implied_by, implied_rules, closed_rules};
 ghost use Rattle.key_spec.specs.View.{names_view, path_view, rule_view, rules_view, placed_rules};
 
+use crate::copies::{copy_name, copy_names, push_copy};
 use crate::given::Given;
 use crate::place::{Placed, place_of};
 use crate::rule::Rule;
@@ -96,12 +97,25 @@ fn put_along(
     ensures { OnOk result (placed_rules closed.new ≡ fold (replace_key rule_cmp) (placed_rules closed.old) (implied_along (below (names_view from.now.context.items) (string_bytes from.now.tag)) (names_view tags.now))) }
 {
     let mut here = copy_names(alloc, &from.context)?;
-    here.push(copy_name(alloc, &from.tag)?)?;
+    push_copy(alloc, &mut here, &from.tag)?;
     for tag in tags {
-        put(alloc, closed, unkeyed(alloc, &here, tag)?)?;
-        here.push(copy_name(alloc, tag)?)?;
+        put_unkeyed(alloc, closed, &here, tag)?;
+        push_copy(alloc, &mut here, tag)?;
     }
     Ok(())
+}
+
+/// Puts the rule with this context and tag and no key paths in its place.
+fn put_unkeyed(
+    alloc: Global,
+    closed: &mut BTreeSet<Placed>,
+    context: &[String],
+    tag: &String,
+) -> Result<(), AllocError>
+    ensures { OnOk result (placed_rules closed.new ≡ replace_key rule_cmp (placed_rules closed.old) (record { context = names_view context.now; tag = string_bytes tag.now; paths = [] })) }
+{
+    let rule = unkeyed(alloc, context, tag)?;
+    put(alloc, closed, rule)
 }
 
 /// Puts a rule in its place, where it replaces one with the same context and tag.
@@ -122,20 +136,4 @@ fn unkeyed(alloc: Global, context: &[String], tag: &String) -> Result<Rule, Allo
         tag: copy_name(alloc, tag)?,
         paths: Vec::new(alloc),
     })
-}
-
-fn copy_names(alloc: Global, names: &[String]) -> Result<Vec<String>, AllocError>
-    ensures { IfOk result (λ copies. names_view copies.items ≡ names_view names.now) }
-{
-    let mut copies = Vec::with_capacity(alloc, names.len())?;
-    for name in names {
-        copies.push(copy_name(alloc, name)?)?;
-    }
-    Ok(copies)
-}
-
-fn copy_name(alloc: Global, name: &String) -> Result<String, AllocError>
-    ensures { IfOk result (λ copy. string_bytes copy ≡ string_bytes name.now) }
-{
-    String::from_str(alloc, name.as_str())
 }

@@ -1,5 +1,5 @@
 // The second pass: how the rules of all lines fit together.
-ghost use Rattle.std.specs.Prelude.{◌≡◌, [], true, None, IfOk, IfErr, OnOk, map, flat_map, string_bytes};
+ghost use Rattle.std.specs.Prelude.{◌≡◌, [], ◌∷◌, true, None, IfOk, IfErr, OnOk, map, flat_map, string_bytes};
 ghost use Rattle.std.specs.BTreeSet.{contains_text};
 ghost use Rattle.std.specs.List.{list_all, list_any};
 ghost use Rattle.key_spec.specs.Names.{slashed, is_named};
@@ -28,20 +28,45 @@ pub(crate) fn check_closing(alloc: Global, given: &[Given]) -> Result<(), SpecFa
     ensures none { OnOk result (closing_fault (rules_view given.now) [] (map given_view given.now) ≡ None) }
     ensures fault { IfErr result (λ e. IsFault e (closing_fault (rules_view given.now) [] (map given_view given.now))) }
 {
-    let marks = Marks {
+    let marks = read_marks(alloc, given)?;
+    check_each(alloc, &marks, &mut no_texts(alloc), given)
+}
+
+fn read_marks(alloc: Global, given: &[Given]) -> Result<Marks, AllocError>
+    ensures given { IfOk result (λ marks. Holds marks.given (map target_text (rules_view given.now))) }
+    ensures implied { IfOk result (λ marks. Holds marks.implied (flat_map implied_texts (rules_view given.now))) }
+    ensures ends { IfOk result (λ marks. Holds marks.ends (flat_map end_texts (rules_view given.now))) }
+{
+    Ok(Marks {
         given: given_texts(alloc, given)?,
         implied: all_implied_texts(alloc, given)?,
         ends: all_end_texts(alloc, given)?,
-    };
-    let mut earlier = no_texts(alloc);
+    })
+}
+
+/// Checks one rule after the other, and takes in their targets.
+fn check_each(
+    alloc: Global,
+    marks: &Marks,
+    earlier: &mut BTreeSet<String>,
+    given: &[Given],
+) -> Result<(), SpecFault>
+    requires named { list_all is_named (rules_view given.now) ≡ true }
+    requires given { Holds marks.now.given (map target_text (rules_view given.now)) }
+    requires implied { Holds marks.now.implied (flat_map implied_texts (rules_view given.now)) }
+    requires ends { Holds marks.now.ends (flat_map end_texts (rules_view given.now)) }
+    requires earlier { Holds earlier.old [] }
+    ensures none { OnOk result (closing_fault (rules_view given.now) [] (map given_view given.now) ≡ None) }
+    ensures fault { IfErr result (λ e. IsFault e (closing_fault (rules_view given.now) [] (map given_view given.now))) }
+{
     for one in given {
-        if let Some(why) = closing_why(alloc, &marks, &earlier, &one.rule)? {
+        if let Some(why) = closing_why(alloc, marks, earlier, &one.rule)? {
             return Err(SpecFault::Bad {
                 line: one.line,
                 why,
             });
         }
-        add_text(&mut earlier, target_text(alloc, &one.rule)?)?;
+        add_target(alloc, earlier, &one.rule)?;
     }
     Ok(())
 }
@@ -126,9 +151,17 @@ fn given_texts(alloc: Global, given: &[Given]) -> Result<BTreeSet<String>, Alloc
 {
     let mut texts = no_texts(alloc);
     for one in given {
-        add_text(&mut texts, target_text(alloc, &one.rule)?)?;
+        add_target(alloc, &mut texts, &one.rule)?;
     }
     Ok(texts)
+}
+
+fn add_target(alloc: Global, texts: &mut BTreeSet<String>, rule: &Rule) -> Result<(), AllocError>
+    ensures { OnOk result (Adds texts.old texts.new (target_text (rule_view rule.now) ∷ [])) }
+{
+    let text = target_text(alloc, rule)?;
+    add_text(texts, text)?;
+    Ok(())
 }
 
 fn all_implied_texts(alloc: Global, given: &[Given]) -> Result<BTreeSet<String>, AllocError>

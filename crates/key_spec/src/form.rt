@@ -6,7 +6,7 @@ ghost use Rattle.key_spec.specs.View.{names_view, path_view, rule_view};
 
 use crate::name::{is_name, read_context, read_path};
 use crate::rule::{KeyPath, Rule};
-use crate::token::{behind, first_word, trimmed};
+use crate::token::{behind, behind_both, first_word, trimmed};
 use std::alloc::{AllocError, Global};
 
 /// The rule that a line gives, where it is UTF-8 and of the form of a rule.
@@ -48,19 +48,13 @@ fn read_place(alloc: Global, line: &str) -> Result<Option<(Vec<String>, String, 
     let Some((context, rest)) = read_context_word(alloc, rest)? else {
         return Ok(None);
     };
-    let Some(rest) = behind(rest, ',') else {
-        return Ok(None);
-    };
-    let Some(rest) = behind(rest, '(') else {
+    let Some(rest) = behind_both(rest, ',', '(') else {
         return Ok(None);
     };
     let Some((tag, rest)) = read_tag_word(alloc, rest)? else {
         return Ok(None);
     };
-    let Some(rest) = behind(rest, ',') else {
-        return Ok(None);
-    };
-    let Some(rest) = behind(rest, '{') else {
+    let Some(rest) = behind_both(rest, ',', '{') else {
         return Ok(None);
     };
     Ok(Some((context, tag, rest)))
@@ -137,10 +131,7 @@ fn read_path_word(alloc: Global, line: &str) -> Result<Option<(KeyPath, &str)>, 
 fn ends(line: &str) -> bool
     ensures { result ≡ is_end (tokens line.now) }
 {
-    let Some(rest) = behind(line, ')') else {
-        return false;
-    };
-    let Some(rest) = behind(rest, ')') else {
+    let Some(rest) = behind_both(line, ')', ')') else {
         return false;
     };
     trimmed(rest).is_empty()

@@ -3,7 +3,7 @@ ghost use Rattle.std.specs.Prelude.{◌≡◌, ◌+◌, ◌≤◌, ◌<◌, ◌^
 ghost use Rattle.std.specs.List.{list_all, list_any};
 ghost use Rattle.key_spec.specs.Names.{is_named_path};
 ghost use Rattle.key_spec.specs.Lines.{lines};
-ghost use Rattle.key_spec.specs.Closed.{numbered, given_rules, given_by, line_fault, first_of_all, repeats, clashes, exceeds, paths_why, is_target};
+ghost use Rattle.key_spec.specs.Closed.{numbered, given_rules, given_by, line_fault, first_of_all, repeats, clashes, exceeds, paths_why, is_dot};
 ghost use Rattle.key_spec.specs.View.{given_view, path_view, IsFault};
 
 use crate::fault::SpecFault;
@@ -19,7 +19,7 @@ const MAX_PATHS: usize = 16;
 const MAX_TAGS: usize = 8;
 
 /// The rule of a line, with the line's number.
-#[derive(Debug, Drop)]
+#[derive(Drop)]
 pub(crate) struct Given {
     pub line: u32,
     pub rule: Rule,
@@ -104,7 +104,7 @@ fn repeats(alloc: Global, paths: &[KeyPath]) -> Result<bool, AllocError>
 
 /// Whether `.` is one of the key paths.
 fn has_target(paths: &[KeyPath]) -> bool
-    ensures { result ≡ list_any is_target (map path_view paths.now) }
+    ensures { result ≡ list_any is_dot (map path_view paths.now) }
 {
     for path in paths {
         if path.tags.is_empty() && path.attr.is_none() {

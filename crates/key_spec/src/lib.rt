@@ -3,6 +3,8 @@
 
 mod close;
 mod closing;
+mod context;
+mod copies;
 mod fault;
 mod form;
 mod given;
@@ -15,7 +17,10 @@ mod spec;
 mod texts;
 mod token;
 
+pub use context::rule_with_tag;
+pub use copies::copy_names;
 pub use fault::SpecFault;
+pub use name::is_name;
 pub use rule::{KeyPath, Rule};
-pub use spec::Spec;
+pub use spec::{Spec, may_be_canonical};
 

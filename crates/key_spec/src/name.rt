@@ -7,8 +7,8 @@ ghost use Rattle.key_spec.specs.View.{names_view, path_view};
 use crate::rule::KeyPath;
 use std::alloc::{AllocError, Global};
 
-/// Whether the text is a name.
-pub(crate) fn is_name(text: &str) -> bool
+/// Whether a specification may name an element or an attribute so.
+pub fn is_name(text: &str) -> bool
     ensures { result ≡ is_name text.now }
 {
     !text.is_empty() && are_name_bytes(text.as_bytes()) && text != "."

@@ -1,7 +1,7 @@
 // The order of paths, and where a rule stands to a context and a tag.
 ghost use Rattle.std.specs.Prelude.{◌≡◌, string_bytes};
 ghost use Rattle.std.specs.Ordering.{is_eq};
-ghost use Rattle.key_spec.specs.Rules.{path_cmp, place_cmp};
+ghost use Rattle.key_spec.specs.Rules.{path_cmp, place_cmp, goes_behind};
 ghost use Rattle.key_spec.specs.View.{names_view};
 
 use crate::rule::Rule;
@@ -61,4 +61,20 @@ pub(crate) fn are_same(ours: &[String], theirs: &[String]) -> bool
         }
     }
     others.next().is_none()
+}
+
+/// Whether the names begin with the path and go on.
+pub(crate) fn goes_behind(path: &[String], names: &[String]) -> bool
+    ensures { result ≡ goes_behind (names_view path.now) (names_view names.now) }
+{
+    let mut others = names.iter();
+    for a in path {
+        let Some(b) = others.next() else {
+            return false;
+        };
+        if a.as_str() != b.as_str() {
+            return false;
+        }
+    }
+    others.next().is_some()
 }

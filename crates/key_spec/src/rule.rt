@@ -3,6 +3,7 @@ ghost use Rattle.key_spec.specs.Names.{slashed, tags_text, path_text, context_te
 ghost use Rattle.key_spec.specs.Canonical.{rule_text, paths_text};
 ghost use Rattle.key_spec.specs.View.{names_view, path_view, rule_view};
 
+use crate::copies::{copy_name, copy_names};
 use std::alloc::{AllocError, Global};
 
 /// A key path: the tags from element to child element, and then an attribute of the last one where one is given.
@@ -33,6 +34,19 @@ impl KeyPath {
         push_path(&mut text, self)?;
         Ok(text)
     }
+
+    pub fn copy(&self, alloc: Global) -> Result<KeyPath, AllocError>
+        ensures { IfOk result (λ copy. path_view copy ≡ path_view self.now) }
+    {
+        let attr = match &self.attr {
+            None => None,
+            Some(name) => Some(copy_name(alloc, name)?),
+        };
+        Ok(KeyPath {
+            tags: copy_names(alloc, &self.tags)?,
+            attr,
+        })
+    }
 }
 
 /// Writes a rule as `(/db/dept, (emp, {fn, ln}))` at the end of the text.
@@ -45,16 +59,14 @@ pub(crate) fn push_rule(text: &mut String, rule: &Rule) -> Result<(), AllocError
     text.push_str(rule.tag.as_str())?;
     text.push_str(", {")?;
     push_paths(text, &rule.paths)?;
-    text.push_str("}))")?;
-    Ok(())
+    text.push_str("}))")
 }
 
 fn push_context(text: &mut String, context: &[String]) -> Result<(), AllocError>
     ensures { OnOk result (string_bytes text.new ≡ string_bytes text.old ++ context_text (names_view context.now)) }
 {
     if context.is_empty() {
-        text.push_str("/")?;
-        Ok(())
+        text.push_str("/")
     } else {
         push_slashed(text, context)
     }
@@ -75,8 +87,7 @@ pub(crate) fn push_step(text: &mut String, name: &str) -> Result<(), AllocError>
     ensures { OnOk result (string_bytes text.new ≡ string_bytes text.old ++ (codes "/" ++ name.now)) }
 {
     text.push_str("/")?;
-    text.push_str(name)?;
-    Ok(())
+    text.push_str(name)
 }
 
 fn push_paths(text: &mut String, paths: &[KeyPath]) -> Result<(), AllocError>
@@ -105,8 +116,7 @@ fn push_path(text: &mut String, path: &KeyPath) -> Result<(), AllocError>
                 push_tags(text, &path.tags)?;
                 text.push_str("/@")?;
             }
-            text.push_str(name.as_str())?;
-            Ok(())
+            text.push_str(name.as_str())
         }
     }
 }
@@ -115,10 +125,7 @@ fn push_tags(text: &mut String, tags: &[String]) -> Result<(), AllocError>
     ensures { OnOk result (string_bytes text.new ≡ string_bytes text.old ++ tags_text (names_view tags.now)) }
 {
     match tags.split_first() {
-        None => {
-            text.push_str(".")?;
-            Ok(())
-        }
+        None => text.push_str("."),
         Some((first, others)) => {
             text.push_str(first.as_str())?;
             push_slashed(text, others)

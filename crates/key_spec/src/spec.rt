@@ -1,14 +1,18 @@
-ghost use Rattle.std.specs.Prelude.{◌≡◌, ◌≤◌, Ok, IfOk, IfErr, IfSome, map, option_map, length, string_bytes, vec_len};
+ghost use Rattle.std.specs.Prelude.{◌≡◌, ℕ, ◌≤◌, nat_le, List, None, Ok, IsTrue, IfOk, IfErr, IfSome, map, option_map, length, string_bytes, vec_len};
+ghost use Rattle.std.specs.Bool.{OnFalse};
+ghost use Rattle.key_spec.specs.Data.{PlainRule};
+ghost use Rattle.key_spec.specs.Canonical.{canonical, spelled_by};
 ghost use Rattle.key_spec.specs.Closed.{closed, IsClosed};
-ghost use Rattle.key_spec.specs.Canonical.{canonical};
-ghost use Rattle.std.specs.List.{list_any};
+ghost use Rattle.key_spec.specs.ClosedList.{IsClosedList};
+ghost use Rattle.std.specs.List.{filter, list_any};
 ghost use Rattle.std.specs.List.Sorted.{IsStrictlySortedBy};
 ghost use Rattle.std.specs.Ordering.{is_eq};
 ghost use Rattle.key_spec.specs.RuleView.{names_view, rule_view};
-ghost use Rattle.key_spec.specs.Rules.{path_cmp, rule_cmp};
+ghost use Rattle.key_spec.specs.Rules.{path_cmp, rule_cmp, tag_cmp, has_context};
 
 use crate::close::close;
 use crate::closing::check_closing;
+use crate::context::{FEW, at_context, ends_below};
 use crate::fault::SpecFault;
 use crate::given::read_lines;
 use crate::order::{are_same, order_paths, order_place, stands_at};
@@ -18,9 +22,6 @@ use std::alloc::{AllocError, Global};
 /// At most so many bytes of canonical text.
 const MAX_TEXT: usize = 1_048_576;
 
-/// So many rules are looked at one after the other; more are looked up by halving.
-const FEW: usize = 64;
-
 /// A closed specification: all given and implied rules, ascending by context and then by tag.
 #[derive(Debug, Drop)]
 pub struct Spec {
@@ -29,13 +30,24 @@ pub struct Spec {
 }
 
 impl Spec {
-    ghost use Rattle.key_spec.specs.Rules.{rule_of, is_frontier};
+    ghost use Rattle.key_spec.specs.Rules.{rule_of, is_frontier, ends_below, EndsBelow};
     ghost use Rattle.key_spec.specs.View.{spec_view, IsRefusal};
 
     /// The closed rules of a text of lines such as `(/db/dept, (emp, {fn, ln}))`, or its first fault.
     ///
-    /// Blank lines and those that begin with `#` are skipped. It sorts once and looks up by halving.
+    /// Blank lines and those that begin with `#` are skipped. It sorts once, and looks nothing up rule by rule.
     pub fn parse(alloc: Global, text: &[u8]) -> Result<Spec, SpecFault>
+        requires { length text.now ≤ 1048576 }
+        ensures found { IfOk result (λ spec. closed text.now ≡ Ok (spec_view spec)) }
+        ensures fault { IfErr result (λ e. IsRefusal e (closed text.now)) }
+
+        // Whatever a text specifies is a closed list.
+        ensures list { (rules : List PlainRule) → closed text.now ≡ Ok rules → IsClosedList rules }
+    {
+        Spec::read(alloc, text)
+    }
+
+    fn read(alloc: Global, text: &[u8]) -> Result<Spec, SpecFault>
         requires { length text.now ≤ 1048576 }
         ensures found { IfOk result (λ spec. closed text.now ≡ Ok (spec_view spec)) }
         ensures fault { IfErr result (λ e. IsRefusal e (closed text.now)) }
@@ -51,15 +63,47 @@ impl Spec {
         Ok(Spec { rules })
     }
 
+    /// The specification of which this is the canonical text, if it is one's.
+    pub fn read_canonical(alloc: Global, text: &[u8]) -> Result<Option<Spec>, AllocError>
+        ensures { IfOk result (λ found. option_map spec_view found ≡ spelled_by text.now (closed text.now)) }
+    {
+        if !may_be_canonical(text.len()) {
+            return Ok(None);
+        }
+        match Spec::read(alloc, text) {
+            Ok(spec) => spec.if_written(alloc, text),
+            Err(SpecFault::Bad { .. }) => Ok(None),
+            Err(SpecFault::Memory) => Err(AllocError),
+        }
+    }
+
+    /// The specification that the text gives, if it is written so.
+    fn if_written(self, alloc: Global, text: &[u8]) -> Result<Option<Spec>, AllocError>
+        requires { closed text.now ≡ Ok (spec_view self) }
+        ensures { IfOk result (λ found. option_map spec_view found ≡ spelled_by text.now (closed text.now)) }
+    {
+        let written = canonical_text(alloc, &self.rules)?;
+        if written.as_bytes() == text {
+            Ok(Some(self))
+        } else {
+            Ok(None)
+        }
+    }
+
     /// The rules, ascending by context and then by tag.
     pub fn rules(&self) -> &[Rule]
         ensures rules { map rule_view result.now ≡ spec_view self.now }
         ensures ascending { IsStrictlySortedBy rule_cmp (spec_view self.now) }
+        ensures list { IsClosedList (spec_view self.now) }
+
+        // Their canonical text specifies them again.
+        ensures closed { closed (canonical (spec_view self.now)) ≡ Ok (spec_view self.now) }
+        ensures short { length (canonical (spec_view self.now)) ≤ 1048576 }
     {
         &self.rules
     }
 
-    /// The rule with this context and tag, looked up by halving.
+    /// The rule with this context and tag, looked up by halving where there are many.
     pub fn rule(&self, context: &[String], tag: &str) -> Option<&Rule>
         ensures few_paths { IfSome result (λ r. vec_len r.now.paths ≤ 16) }
         ensures rule { option_map (λ r. rule_view r.now) result ≡ rule_of (spec_view self.now) (names_view context.now) tag.now }
@@ -89,7 +133,7 @@ impl Spec {
         None
     }
 
-    /// Whether no rule has this path as its context, looked up by halving.
+    /// Whether no rule has this path as its context, looked up by halving where there are many.
     pub fn is_frontier(&self, path: &[String]) -> bool
         ensures { result ≡ is_frontier (spec_view self.now) (names_view path.now) }
     {
@@ -101,13 +145,38 @@ impl Spec {
             .is_err()
     }
 
+    /// The rules with this context, which stand together, looked up by halving.
+    pub fn rules_at(&self, path: &[String]) -> &[Rule]
+        ensures rules { map rule_view result.now ≡ filter (has_context (names_view path.now)) (spec_view self.now) }
+        ensures ascending { IsStrictlySortedBy tag_cmp (map rule_view result.now) }
+    {
+        at_context(&self.rules, path)
+    }
+
+    /// Whether no rule's context goes on behind this path, looked up by halving.
+    pub fn ends_below(&self, path: &[String]) -> bool
+        ensures value { result ≡ ends_below (spec_view self.now) (names_view path.now) }
+        ensures frontier { IsTrue result → EndsBelow (spec_view self.now) (names_view path.now) }
+    {
+        ends_below(&self.rules, path)
+    }
+
     /// The canonical text: one line for each rule, in their order. What it specifies is this specification again.
     pub fn text(&self, alloc: Global) -> Result<String, AllocError>
         ensures text { IfOk result (λ text. string_bytes text ≡ canonical (spec_view self.now)) }
         ensures again { closed (canonical (spec_view self.now)) ≡ Ok (spec_view self.now) }
+        ensures short { length (canonical (spec_view self.now)) ≤ 1048576 }
     {
         canonical_text(alloc, &self.rules)
     }
+}
+
+/// Whether a canonical text may have so many bytes.
+pub fn may_be_canonical(len: usize) -> bool
+    ensures few { result ≡ nat_le len 1048576 }
+    ensures many { OnFalse result ((text : List ℕ) → length text ≡ len → spelled_by text (closed text) ≡ None) }
+{
+    len <= MAX_TEXT
 }
 
 /// Whether one of the rules has this context.

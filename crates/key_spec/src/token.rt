@@ -1,5 +1,5 @@
 // The tokens of a line, taken off one by one.
-ghost use Rattle.std.specs.Prelude.{◌≡◌, ◌≤◌, option_map, length, drop, true};
+ghost use Rattle.std.specs.Prelude.{◌≡◌, ◌≤◌, option_map, option_and_then, length, drop, true};
 ghost use Rattle.std.specs.List.{prefix_len};
 ghost use Rattle.key_spec.specs.Lines.{is_blank};
 ghost use Rattle.key_spec.specs.Form.{tokens, behind, first_word, is_sign, is_word_byte};
@@ -12,6 +12,15 @@ pub(crate) fn behind(line: &str, sign: char) -> Option<&str>
     ensures { option_map (λ rest. tokens rest.now) result ≡ behind sign (tokens line.now) }
 {
     trimmed(line).strip_prefix(sign)
+}
+
+/// What stands behind these two signs, where they are the next two tokens.
+pub(crate) fn behind_both(line: &str, first: char, second: char) -> Option<&str>
+    requires first { is_sign first ≡ true }
+    requires second { is_sign second ≡ true }
+    ensures { option_map (λ rest. tokens rest.now) result ≡ option_and_then (behind second) (behind first (tokens line.now)) }
+{
+    behind(behind(line, first)?, second)
 }
 
 /// The next token and what stands behind it, where it is a word.

@@ -1,3 +1,4 @@
+use Rattle.std.proofs.lemmas.Grind.{common_steps}
 use Rattle.std.proofs.Common.{◌≡◌, [], length, map, fold, ap, ◌∙◌, arith}
 use Rattle.std.proofs.lemmas.Bool.{OnFalse_at}
 use Rattle.std.proofs.lemmas.List.Sums.{fold-append}
@@ -19,3 +20,12 @@ returns-then-not-branch-clause-none c =
     let grown = length-put_all rule_cmp (fold put [] (implied_rules rules)) rules in
     let whole = ap length (fold-append put [] (implied_rules rules) rules) in
     omega (arith, many, ap length same, grown, whole)
+
+pub returns-then-len-gt-MAX_RULES-clause-none : goal.returns-then-len-gt-MAX_RULES-clause-none
+returns-then-len-gt-MAX_RULES-clause-none c = grind (arith, common_steps)
+
+pub returns-clause-some : goal.returns-clause-some
+returns-clause-some c = grind (arith, common_steps)
+
+pub returns-clause-few : goal.returns-clause-few
+returns-clause-few c = grind (arith, common_steps)

@@ -1,3 +1,4 @@
+use Rattle.std.proofs.lemmas.Grind.{common_steps}
 use Rattle.std.proofs.Common.{◌≡◌, ◌+◌, length, drop, fold, sym, ap, ◌∙◌, arith}
 use Rattle.std.proofs.lemmas.List.{length-map}
 use Rattle.std.proofs.lemmas.List.Sums.{fold-append}
@@ -27,3 +28,6 @@ returns-then-len-gt-MAX_RULES-clause-many c =
     let size : length now ≡ c.len.result = length-map c.put_implied.new.closed.keys placed_view ∙ sym c.len.ensures.len in
     let same = ap length all in
     omega (arith, grown, size, same, c.if-len-gt-MAX_RULES.true)
+
+pub loop-one-preserved : goal.loop-one-preserved
+loop-one-preserved c = grind (arith, common_steps)

@@ -1,3 +1,5 @@
+use Rattle.std.proofs.Common.{arith}
+use Rattle.std.proofs.lemmas.Grind.{common_steps}
 use Rattle.std.proofs.Common.{◌≡◌, ◌∙◌, sym, ap, subst, lit<, true, false, length, get_or, Some, None, eqb, rules}
 use Rattle.std.proofs.lemmas.Bool.{cond-true, cond-false}
 use Rattle.std.proofs.lemmas.List.Folds.{list_all_at}
@@ -22,3 +24,6 @@ returns c =
     let end = YieldsList-end yields c.loop-part.yielded _ c.loop-part.yielded_by _ _ c.in-None.is c.next.ensures.steps in
     let all : list_all is_name parts ≡ true = subst (λ xs. list_all is_name xs ≡ true) end.0 c.loop-part.invariant.names in
     ap (λ xs. Some xs) (c.loop-part.invariant.same ∙ end.0) ∙ sym (cond-true (list_all is_name parts) (Some parts) None all)
+
+pub loop-part-preserved : goal.loop-part-preserved
+loop-part-preserved c = grind (arith, common_steps)

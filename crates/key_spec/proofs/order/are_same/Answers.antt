@@ -1,3 +1,4 @@
+use Rattle.std.proofs.lemmas.Grind.{common_steps}
 use Rattle.std.proofs.Common.{◌≡◌, ◌≢◌, true, false, ◌+◌, ◌∷◌, length, drop, string_bytes, rules, sym, ap, ◌∙◌, arith}
 use Rattle.std.proofs.lemmas.List.{length-map}
 use Rattle.std.specs.Ordering.{is_eq}
@@ -36,3 +37,12 @@ loop-a-preserved c =
     let theirs : names_view c.loop-a.others.rest.now ≡ b ∷ ys = search rules in
     let same : bytes_eq a b ≡ true = search rules in
     c.loop-a.invariant ∙ ap (λ l. is_eq (path_cmp l (names_view c.loop-a.others.rest.now))) ours ∙ ap (λ l. is_eq (path_cmp (a ∷ xs) l)) theirs ∙ same-step a b xs ys same
+
+pub loop-a-init : goal.loop-a-init
+loop-a-init c = grind (arith, common_steps)
+
+pub returns-in_default : goal.returns-in_default
+returns-in_default c = grind (arith, common_steps)
+
+pub returns : goal.returns
+returns c = grind (arith, common_steps)

@@ -2,6 +2,7 @@ use Rattle.std.proofs.Common.{◌≡◌, ◌<◌, ◌≤◌, [], length, map, ge
 use Rattle.std.proofs.lemmas.List.{length-map}
 use Rattle.std.proofs.lemmas.Fn.{always_returns_same}
 use Rattle.key_spec.specs.Data.{PlainRule}
+use Rattle.key_spec.specs.Laws.{rule_cmp_total}
 use Rattle.key_spec.specs.Rules.{rule_cmp}
 use Rattle.key_spec.specs.RuleView.{rule_view, names_view}
 use Rattle.key_spec.specs.declared.rule.Rule.{Rule}
@@ -14,7 +15,7 @@ returns-in-Ok-clause-rule c =
     let key : PlainRule = record { context = names_view c.args.context.now; tag = c.args.tag.now; paths = [] } in
     let by = always_returns_same _ (λ a r. r ≡ rule_cmp (rule_view a.0.now) key) _ (λ a r f k. search (rules, of_calls)) in
     let items = c.args.self.now.rules.items in
-    search-found rule_view items c.deref.result.now c.deref.ensures.value (kept-sorted (map rule_view items) c.args.self.now.closed) key c.in-Ok.at c.index.result.now
+    search-found rule_cmp_total rule_view items c.deref.result.now c.deref.ensures.value (kept-sorted (map rule_view items) c.args.self.now.closed) key c.in-Ok.at c.index.result.now
     c.in-Ok.ensures.bound (c.index.ensures ∙ ap (λ xs. get_or xs c.in-Ok.at c.index.result.now) (sym c.deref.ensures.value)) (c.in-Ok.ensures.position (λ (r : Rule). rule_cmp (rule_view r) key) by)
 
 pub returns-in-Err-clause-rule : goal.returns-in-Err-clause-rule
@@ -22,7 +23,7 @@ returns-in-Err-clause-rule c =
     let key : PlainRule = record { context = names_view c.args.context.now; tag = c.args.tag.now; paths = [] } in
     let by = always_returns_same _ (λ a r. r ≡ rule_cmp (rule_view a.0.now) key) _ (λ a r f k. search (rules, of_calls)) in
     let items = c.args.self.now.rules.items in
-    search-none rule_view items c.deref.result.now c.deref.ensures.value (kept-sorted (map rule_view items) c.args.self.now.closed) key c.in-Err.field-0
+    search-none rule_cmp_total rule_view items c.deref.result.now c.deref.ensures.value (kept-sorted (map rule_view items) c.args.self.now.closed) key c.in-Err.field-0
     (c.in-Err.ensures.position (λ (r : Rule). rule_cmp (rule_view r) key) by)
 
 pub returns-in-Ok-clause-few_paths : goal.returns-in-Ok-clause-few_paths

@@ -1,3 +1,4 @@
+use Rattle.std.proofs.lemmas.Grind.{common_steps}
 use Rattle.std.proofs.Common.{◌≡◌, ◌<◌, ◌≤◌, length, get_or, sym, ap, subst, ◌∙◌, arith}
 use Rattle.std.proofs.lemmas.List.{length-map}
 use Rattle.key_spec.specs.RuleView.{rule_view}
@@ -15,3 +16,6 @@ returns-then-stands_at-clause-few_paths c =
     let here : c.rule-item.result ≡ get_or items i c.rule-item.result = c.rule-item.is ∙ ap (λ xs. get_or xs i c.rule-item.result) lent.ensures.value in
     let short : length c.rule-item.result.paths.items ≤ 16 = simp length-map at (subst (λ (r : Rule). length (rule_view r).paths ≤ 16) (sym here) few) in
     omega (arith, c.rule-item.result.paths.ok.0)
+
+pub loop-rule-preserved : goal.loop-rule-preserved
+loop-rule-preserved c = grind (arith, common_steps)

@@ -2,7 +2,7 @@ use Rattle.std.proofs.Common.{◌≡◌, [], map, take, drop}
 use Rattle.key_spec.specs.Closed.{closing_fault}
 use Rattle.key_spec.specs.Texts.{Holds, target_text}
 use Rattle.key_spec.specs.View.{rules_view, given_view}
-use Rattle.key_spec.proofs.closing.check_closing.Given as goal
+use Rattle.key_spec.proofs.closing.check_each.Given as goal
 
 -- what is left decides, and the texts are those of the earlier targets
 abbrev pub invariant-loop-one : goal.invariant-loop-one

@@ -1,6 +1,6 @@
 use Rattle.std.proofs.Common.{◌≡◌, take}
 use Rattle.key_spec.specs.View.{names_view}
-use Rattle.key_spec.proofs.close.copy_names.Given as goal
+use Rattle.key_spec.proofs.copies.copy_names.Given as goal
 
 abbrev pub invariant-loop-name : goal.invariant-loop-name
 invariant-loop-name l = names_view l.copies.items ≡ names_view (take l.name-index l.names)
