@@ -6,14 +6,10 @@ mod encode;
 mod fault;
 mod front;
 mod goes;
-#[cfg(test)]
-mod keyed_tests;
 mod keyedness;
 mod lead;
 mod level;
 mod reading;
-#[cfg(test)]
-mod tests;
 
 pub use decode::decode_file;
 pub use encode::encode_file;

@@ -7,8 +7,6 @@ mod file;
 mod memory;
 mod record;
 mod scan;
-#[cfg(test)]
-mod tests;
 
 pub use counts::Counts;
 pub use fault::StatsFault;

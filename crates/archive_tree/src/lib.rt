@@ -5,8 +5,6 @@ mod archive;
 mod check;
 mod node;
 mod read;
-#[cfg(test)]
-mod tests;
 
 pub use archive::Archive;
 pub use node::{ANode, Alt, effective};

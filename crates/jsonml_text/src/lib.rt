@@ -18,8 +18,6 @@ mod scan;
 mod stop;
 mod straight;
 mod string;
-#[cfg(test)]
-mod tests;
 mod word;
 
 pub use document::{content_of, lend_document, read_document};

@@ -3,8 +3,6 @@
 
 mod lent;
 mod scalar;
-#[cfg(test)]
-mod tests;
 mod tree;
 
 pub use lent::{LentContent, LentRow, LentTree};

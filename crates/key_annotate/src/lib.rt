@@ -10,8 +10,6 @@ mod fronted;
 mod label;
 mod lent;
 mod order;
-#[cfg(test)]
-mod tests;
 
 pub use annotate::{keyed, lent_keyed};
 pub use bare::Bare;

@@ -7,8 +7,6 @@ mod label;
 mod lent;
 mod lent_node;
 mod node;
-#[cfg(test)]
-mod tests;
 mod user_path;
 mod walk;
 

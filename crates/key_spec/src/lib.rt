@@ -19,5 +19,3 @@ pub use fault::SpecFault;
 pub use rule::{KeyPath, Rule};
 pub use spec::Spec;
 
-#[cfg(test)]
-mod tests;

@@ -3,8 +3,6 @@
 
 mod keyed;
 mod label;
-#[cfg(test)]
-mod tests;
 
 pub use keyed::{Body, Keyed};
 pub use label::{KeyVal, Label, Name};

@@ -9,8 +9,6 @@ mod planning;
 mod prepare;
 mod space;
 mod stamp;
-#[cfg(test)]
-mod tests;
 mod version;
 
 pub use alike::is_alike;

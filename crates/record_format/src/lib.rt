@@ -19,8 +19,6 @@ mod take_directory;
 mod take_parts;
 mod take_records;
 mod take_values;
-#[cfg(test)]
-mod tests;
 mod views;
 
 pub use fault::RecFault;

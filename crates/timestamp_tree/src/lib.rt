@@ -6,8 +6,6 @@ mod encode;
 mod node;
 mod select;
 mod steps;
-#[cfg(test)]
-mod tests;
 mod tree;
 
 pub use encode::put_set;

@@ -3,8 +3,6 @@
 
 mod pairs;
 mod set;
-#[cfg(test)]
-mod tests;
 mod text;
 
 pub use set::VersionSet;

@@ -3,8 +3,6 @@
 
 mod put;
 mod take;
-#[cfg(test)]
-mod tests;
 
 pub use put::{put_text, put_u32, put_u64};
 pub use take::{take_text, take_u8, take_u32, take_u64};

@@ -20,8 +20,6 @@ mod script;
 mod sink;
 mod source;
 mod sure;
-#[cfg(test)]
-mod tests;
 
 pub use buffered::Buffered;
 pub use folder::{Folder, fill_at};

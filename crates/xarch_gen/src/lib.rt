@@ -5,8 +5,6 @@ mod company;
 mod document;
 mod elements;
 mod employee;
-#[cfg(test)]
-mod tests;
 
 pub use company::company_spec;
 pub use document::sample;

@@ -10,16 +10,6 @@ mod lines;
 mod program;
 mod say;
 mod stop;
-#[cfg(test)]
-mod tests;
-#[cfg(test)]
-mod tests_archives;
-#[cfg(test)]
-mod tests_batch;
-#[cfg(test)]
-mod tests_counts;
-#[cfg(test)]
-mod tests_history;
 mod turn;
 mod words;
 

@@ -3,8 +3,6 @@
 
 mod fault;
 mod line;
-#[cfg(test)]
-mod tests;
 mod words;
 
 pub use fault::{Fault, Quantity, status};

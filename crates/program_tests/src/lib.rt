@@ -1,0 +1,17 @@
+//! Tests of the outside, of the words of a command line, and of whole commands and batches.
+#![tactic(auto)]
+
+#[cfg(test)]
+mod batches;
+#[cfg(test)]
+mod commands;
+#[cfg(test)]
+mod histories;
+#[cfg(test)]
+mod numbers;
+#[cfg(test)]
+mod outside;
+#[cfg(test)]
+mod words;
+#[cfg(test)]
+mod worked_archives;
