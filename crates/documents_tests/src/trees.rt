@@ -87,7 +87,7 @@ fn a_lent_tree_owns_the_same_tree(rt: HostRuntime) -> Result<(), Fail> {
     let department = element(alloc, "dept", vec![in alloc; name]?)?;
     let lent = LentTree::lend(alloc, &department)?;
     assert!(rt; lent.own(alloc)?.same(&department));
-    let kept = LentTree::keep(alloc, &department)?;
+    let kept = LentTree::keep(alloc, department.copy(alloc)?)?;
     assert!(rt; kept.own(alloc)?.same(&department));
     let content = LentContent::Text("finance").own(alloc)?;
     let finance = Content {

@@ -21,7 +21,8 @@ impl Scalar {
     #[tactic(auto, using(crate::specs::Laws::equal))]
     pub fn same(&self, other: &Scalar) -> bool
         ensures equal { IsTrue result ↔ (scalar_view self.now ≡ scalar_view other.now) }
-        ensures order { IsTrue result ↔ (scalar_cmp (scalar_view self.now) (scalar_view other.now) ≡ Ordering.Equal) }
+        ensures order { IsTrue result
+            ↔ (scalar_cmp (scalar_view self.now) (scalar_view other.now) ≡ Ordering.Equal) }
     {
         self.order(other).is_eq()
     }

@@ -51,7 +51,8 @@ impl Content {
     #[tactic(auto, using(crate::specs::Laws::equal))]
     pub fn same(&self, other: &Content) -> bool
         ensures equal { IsTrue result ↔ (content_view self.now ≡ content_view other.now) }
-        ensures order { IsTrue result ↔ (content_cmp (content_view self.now) (content_view other.now) ≡ Ordering.Equal) }
+        ensures order { IsTrue result
+            ↔ (content_cmp (content_view self.now) (content_view other.now) ≡ Ordering.Equal) }
     {
         self.order(other).is_eq()
     }
@@ -82,7 +83,8 @@ impl Tree {
     #[tactic(auto, using(crate::specs::Laws::equal))]
     pub fn same(&self, other: &Tree) -> bool
         ensures equal { IsTrue result ↔ (tree_view self.now ≡ tree_view other.now) }
-        ensures order { IsTrue result ↔ (tree_cmp (tree_view self.now) (tree_view other.now) ≡ Ordering.Equal) }
+        ensures order { IsTrue result
+            ↔ (tree_cmp (tree_view self.now) (tree_view other.now) ≡ Ordering.Equal) }
     {
         self.order(other).is_eq()
     }

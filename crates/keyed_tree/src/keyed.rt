@@ -90,7 +90,8 @@ impl Keyed {
         ensures label { IfSome result (λ k. label_of (keyed_view k.now) ≡ label_view label.now) }
         ensures kid { IfSome result (λ k. Has (keyed_view k.now) (kids_of (keyed_view self.now))) }
         ensures none { IsNone result ↔ HasNoKid (label_view label.now) (keyed_view self.now) }
-        ensures ordered { IsOrdered (keyed_view self.now) → IfSome result (λ k. IsOrdered (keyed_view k.now)) }
+        ensures ordered { IsOrdered (keyed_view self.now)
+            → IfSome result (λ k. IsOrdered (keyed_view k.now)) }
     {
         match self {
             Keyed::Inner { kids, .. } => find_kid(kids, label),
@@ -115,7 +116,8 @@ impl Keyed {
         requires element { IsElement (keyed_view self.now) }
         requires proper { IsProper (keyed_view self.now) }
         ensures spelled { IfOk result (λ t. tree_view t ≡ plain (keyed_view self.now)) }
-        ensures well_formed { IsKeyedWellFormed (keyed_view self.now) → IfOk result (λ t. IsWellFormed (tree_view t)) }
+        ensures well_formed { IsKeyedWellFormed (keyed_view self.now)
+            → IfOk result (λ t. IsWellFormed (tree_view t)) }
     {
         spell(alloc, self)
     }
@@ -164,7 +166,8 @@ impl Keyed {
     // The node that the path leads to, from a kid of this one on.
     fn at(&self, path: &[Label]) -> Option<&Keyed>
         requires { IsOrdered (keyed_view self.now) }
-        ensures { option_map (λ k. keyed_view k.now) result ≡ node_at (map label_view path.now) (keyed_view self.now) }
+        ensures { option_map (λ k. keyed_view k.now) result
+            ≡ node_at (map label_view path.now) (keyed_view self.now) }
     {
         let mut node = self;
         for label in path {
@@ -176,7 +179,8 @@ impl Keyed {
 
 #[cycle(same)]
 fn all_match(ours: &[Keyed], theirs: &[Keyed]) -> bool
-    ensures { result ≡ are_same (kids_from (map keyed_view ours.now)) (kids_from (map keyed_view theirs.now)) }
+    ensures { result
+        ≡ are_same (kids_from (map keyed_view ours.now)) (kids_from (map keyed_view theirs.now)) }
 {
     let mut others = theirs.iter();
     for a in ours {
@@ -203,7 +207,8 @@ fn copy_kids(alloc: Global, kids: &[Keyed]) -> Result<Vec<Keyed>, AllocError>
 
 fn find_kid<'a>(kids: &'a [Keyed], label: &Label) -> Option<&'a Keyed>
     requires { Ascend (kids_from (map keyed_view kids.now)) }
-    ensures { option_map (λ k. keyed_view k.now) result ≡ kid_at (label_view label.now) (map keyed_view kids.now) }
+    ensures { option_map (λ k. keyed_view k.now) result
+        ≡ kid_at (label_view label.now) (map keyed_view kids.now) }
 {
     match kids.binary_search_by(|kid| kid.label().order(label)) {
         Ok(at) => Some(&kids[at]),
@@ -242,7 +247,8 @@ fn gather(alloc: Global, kids: &[Keyed]) -> Result<Content, AllocError>
 // The items of an inner node with these kids, of which so many are likely to be elements.
 #[cycle(plain)]
 fn items_of(alloc: Global, kids: &[Keyed], likely: usize) -> Result<Vec<Tree>, AllocError>
-    ensures { IfOk result (λ v. map tree_view v.items ≡ list_of (items_among (kids_from (map keyed_view kids.now)))) }
+    ensures { IfOk result (λ v. map tree_view v.items
+        ≡ list_of (items_among (kids_from (map keyed_view kids.now)))) }
 {
     let mut items = Vec::with_capacity(alloc, likely)?;
     for kid in kids {
@@ -254,7 +260,8 @@ fn items_of(alloc: Global, kids: &[Keyed], likely: usize) -> Result<Vec<Tree>, A
 }
 
 fn attrs_of(alloc: Global, kids: &[Keyed]) -> Result<Vec<Attr>, AllocError>
-    ensures { IfOk result (λ v. map attr_view v.items ≡ attrs_among (kids_from (map keyed_view kids.now))) }
+    ensures { IfOk result (λ v. map attr_view v.items
+        ≡ attrs_among (kids_from (map keyed_view kids.now))) }
 {
     let mut attrs = Vec::new(alloc);
     for kid in kids {
@@ -267,7 +274,8 @@ fn attrs_of(alloc: Global, kids: &[Keyed]) -> Result<Vec<Attr>, AllocError>
 
 // The attribute that a leaf spells, if it is named by one.
 fn attr_of(alloc: Global, kid: &Keyed) -> Result<Option<Attr>, AllocError>
-    ensures { IfOk result (λ a. map attr_view (option_to_list a) ≡ attr_onto (keyed_view kid.now) []) }
+    ensures { IfOk result (λ a. map attr_view (option_to_list a)
+        ≡ attr_onto (keyed_view kid.now) []) }
 {
     match kid {
         Keyed::Inner { .. } => Ok(None),

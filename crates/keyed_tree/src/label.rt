@@ -71,7 +71,8 @@ impl KeyVal {
     #[tactic(auto, using(crate::specs::Laws::equal))]
     pub fn same(&self, other: &KeyVal) -> bool
         ensures equal { IsTrue result ↔ (key_view self.now ≡ key_view other.now) }
-        ensures order { IsTrue result ↔ (key_cmp (key_view self.now) (key_view other.now) ≡ Ordering.Equal) }
+        ensures order { IsTrue result
+            ↔ (key_cmp (key_view self.now) (key_view other.now) ≡ Ordering.Equal) }
     {
         self.order(other).is_eq()
     }
@@ -111,7 +112,8 @@ impl Label {
     #[tactic(auto, using(crate::specs::Laws::equal))]
     pub fn same(&self, other: &Label) -> bool
         ensures equal { IsTrue result ↔ (label_view self.now ≡ label_view other.now) }
-        ensures order { IsTrue result ↔ (label_cmp (label_view self.now) (label_view other.now) ≡ Ordering.Equal) }
+        ensures order { IsTrue result
+            ↔ (label_cmp (label_view self.now) (label_view other.now) ≡ Ordering.Equal) }
     {
         self.order(other).is_eq()
     }

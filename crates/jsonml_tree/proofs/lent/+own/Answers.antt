@@ -18,3 +18,6 @@ own_items-loop-item-preserved t c = grind (arith, common_steps)
 
 pub own_items-returns : goal.own_items-returns
 own_items-returns t c = grind (arith, common_steps)
+
+pub LentTree::own-returns-in_ok-of_text-in-Leaf : goal.LentTree::own-returns-in_ok-of_text-in-Leaf
+LentTree::own-returns-in_ok-of_text-in-Leaf t c = grind (arith, trees, lent_trees)
