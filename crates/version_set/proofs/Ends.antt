@@ -1,5 +1,5 @@
 -- The last interval of a list.
-use Rattle.std.proofs.Common.{◌≡◌, ℕ, ◌+◌, ◌-◌, ◌<◌, ◌≤◌, ◌&&◌, ◌||◌, Bool, true, false, List, [], ◌∷◌, ◌++◌, length, max, min, get_or, take, take_all, refl, sym, ap, subst, ◌∙◌, arith, leb}
+use Rattle.std.proofs.Common.{◌≡◌, ◌↔◌, ℕ, ◌+◌, ◌-◌, ◌<◌, ◌≤◌, ◌&&◌, ◌||◌, Bool, true, false, List, [], ◌∷◌, ◌++◌, length, max, min, get_or, take, take_all, refl, sym, ap, subst, ◌∙◌, arith, leb}
 use Rattle.std.proofs.lemmas.List.{take_more}
 use Rattle.std.proofs.lemmas.Bool.Decides.{nat_tests}
 use Rattle.version_set.specs.Pairs.{IsFrom, IsCanonical, last_of}
@@ -119,6 +119,22 @@ IsFrom-end : (low : ℕ) (ps : List (ℕ × ℕ)) (q : ℕ × ℕ) → IsFrom lo
 IsFrom-end low [] q c le behind order = (le, order, tt)
 IsFrom-end low (p ∷ []) q c le behind order = (c.0, c.1, (behind, order, tt))
 IsFrom-end low (p ∷ r ∷ ps) q c le behind order = (c.0, c.1, IsFrom-end (p.1 + 2) (r ∷ ps) q c.2 (omega (arith, end_within (p.1 + 2) r ps c.2)) behind order)
+
+-- where the next interval may begin
+pub end_of-get : (ps : List (ℕ × ℕ)) (d : ℕ × ℕ) → 1 ≤ length ps → (get_or ps (length ps - 1) d).1 + 2 ≡ end_of ps
+end_of-get ps d some =
+    let n = length ps - 1 in
+    let whole : ps ≡ take n ps ++ get_or ps n d ∷ [] = sym (take_all (n + 1) ps (omega arith)) ∙ take_more ps n d (omega arith) in
+    sym (ap end_of whole ∙ end_of-append (take n ps) (get_or ps n d))
+
+ends_before : (low : ℕ) (ps : List (ℕ × ℕ)) (q : ℕ × ℕ) → 1 ≤ low → IsFrom low (ps ++ q ∷ []) → (end_of ps ≤ q.0) × (q.0 ≤ q.1)
+ends_before low [] q le c = (omega (arith, c.0), c.1)
+ends_before low (p ∷ []) q le c = (c.2.0, c.2.1)
+ends_before low (p ∷ r ∷ ps) q le c = ends_before (p.1 + 2) (r ∷ ps) q (omega arith) c.2
+
+-- an interval may stand behind those of a set exactly where it begins behind their end
+pub may_stand : (ps : List (ℕ × ℕ)) (q : ℕ × ℕ) → IsCanonical ps → ((end_of ps ≤ q.0) × (q.0 ≤ q.1)) ↔ IsCanonical (ps ++ q ∷ [])
+may_stand ps q c = (λ h. IsFrom-end 1 ps q c (omega (arith, end_positive ps c, h.0)) h.0 h.1, ends_before 1 ps q (omega arith))
 
 within_both : (our their : ℕ × ℕ) (n : ℕ) → (leb (max our.0 their.0) n && leb n (min our.1 their.1)) ≡ ((leb our.0 n && leb n our.1) && (leb their.0 n && leb n their.1))
 within_both our their n = grind (arith, nat_tests)

@@ -5,7 +5,7 @@ use Rattle.std.proofs.lemmas.Int.{ints}
 use Rattle.std.proofs.lemmas.List.{map-append}
 use Rattle.std.proofs.lemmas.Bool.Decides.{nat_tests}
 use Rattle.version_set.specs.Pairs.{IsFrom, IsCanonical}
-use Rattle.version_set.specs.Members.{numbers, members, has, moved, whole_number, IsVersion}
+use Rattle.version_set.specs.Members.{numbers, members, has, moved, moved_pair, whole_number, IsVersion}
 use Rattle.version_set.proofs.MembersLemmas.{has-members, has-append}
 
 whole : (z : ℤ) → pos 1 ≤ℤ z → pos (whole_number z) ≡ z
@@ -23,10 +23,6 @@ map-range : (by : ℤ) (a k : ℕ) → pos 1 ≤ℤ (pos a +ℤ by) → map (mov
 map-range by a zero h = refl
 map-range by a (suc k) h =
     ap (λ (ns : List ℕ). moved by a ∷ ns) (map-range by (a + 1) k (omega (arith, ints)) ∙ ap (λ (n : ℕ). range_with_len n k) (moved-+ by a 1 h))
-
--- an interval with both ends moved
-abbrev pub moved_pair : ℤ → ℕ × ℕ → ℕ × ℕ
-moved_pair by p = (moved by p.0, moved by p.1)
 
 map-numbers : (by : ℤ) (p : ℕ × ℕ) → p.0 ≤ p.1 → pos 1 ≤ℤ (pos p.0 +ℤ by) → map (moved by) (numbers p) ≡ numbers (moved_pair by p)
 map-numbers by p order h =

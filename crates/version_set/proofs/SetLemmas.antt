@@ -4,7 +4,7 @@ use Rattle.std.specs.List.{range_with_len}
 use Rattle.std.proofs.lemmas.Bool.{cases_lt, cases_eq, lt-ltb, le-ltb, eqb-true, false≢true}
 use Rattle.std.proofs.lemmas.Bool.Decides.{nat_tests}
 use Rattle.version_set.specs.Pairs.{IsFrom, IsCanonical, last_of}
-use Rattle.version_set.specs.Members.{members, has, AscendsFrom, intervals, put, either, united, greatest}
+use Rattle.version_set.specs.Members.{members, has, AscendsFrom, intervals, put, either, united, common, greatest}
 use Rattle.version_set.proofs.MembersLemmas.{Ascends-weaker, same_numbers, members_ascend, members-intervals, IsFrom-intervals, intervals-members}
 
 -- ---- the numbers of one of two lists
@@ -115,6 +115,9 @@ pub members_both : (ps qs both : List (ℕ × ℕ)) → IsCanonical ps → IsCan
 members_both ps qs both c e h =
     same_numbers 1 1 (members both) (filter (has (members qs)) (members ps)) (members_ascend 1 both e) (filter_ascends 1 (has (members qs)) (members ps) (members_ascend 1 ps c))
     (λ n. h n ∙ sym (has-filter (has (members qs)) (members ps) n))
+
+pub pairs_common : (ps qs both : List (ℕ × ℕ)) → IsCanonical both → members both ≡ filter (has (members qs)) (members ps) → both ≡ common ps qs
+pairs_common ps qs both c e = sym (intervals-members 1 both c) ∙ ap intervals e
 
 -- ---- the greatest number
 

@@ -1,5 +1,5 @@
 -- The numbers of a list of intervals, and what is said of ascending lists of numbers.
-use Rattle.std.specs.Prelude.{ℕ, ◌+◌, ◌-◌, ◌≤◌, ◌==◌, ◌||◌, Bool, false, List, [], ◌∷◌, ◌++◌, ⊤, nat_lt, if◌then◌else◌, max, ℤ, pos, negsuc, ◌+ℤ◌, ◌≤ℤ◌}
+use Rattle.std.specs.Prelude.{ℕ, ◌+◌, ◌-◌, ◌≤◌, ◌==◌, ◌||◌, Bool, false, List, [], ◌∷◌, ◌++◌, ⊤, nat_lt, if◌then◌else◌, max, filter, ℤ, pos, negsuc, ◌+ℤ◌, ◌≤ℤ◌}
 use Rattle.std.specs.List.{range_with_len}
 
 -- the numbers of one interval, from its first to its last
@@ -53,6 +53,10 @@ with_last ps n = intervals (members ps ++ n ∷ [])
 abbrev pub united : List (ℕ × ℕ) → List (ℕ × ℕ) → List (ℕ × ℕ)
 united ps qs = intervals (either (members ps) (members qs))
 
+-- the intervals of the numbers that are in both
+abbrev pub common : List (ℕ × ℕ) → List (ℕ × ℕ) → List (ℕ × ℕ)
+common ps qs = intervals (filter (has (members qs)) (members ps))
+
 -- the greatest of the numbers, 0 where there is none
 abbrev pub greatest : List ℕ → ℕ
 greatest [] = 0
@@ -69,3 +73,7 @@ whole_number (negsuc n) = 0
 -- n and by together, where that is not negative
 abbrev pub moved : ℤ → ℕ → ℕ
 moved by n = whole_number (pos n +ℤ by)
+
+-- an interval with both ends moved
+abbrev pub moved_pair : ℤ → ℕ × ℕ → ℕ × ℕ
+moved_pair by p = (moved by p.0, moved by p.1)

@@ -26,3 +26,11 @@ pub record Shares (old : List (ℕ × ℕ)) (our their : ℕ × ℕ) (new : List
   pub canonical : IsCanonical new
   pub end : end_of new ≤ max (end_of old) (min our.1 their.1 + 2)
   pub numbers : (n : ℕ) → has (members new) n ≡ (has (members old) n || (has (numbers our) n && has (numbers their) n))
+
+-- all has the numbers of either
+abbrev pub IsUnion : List (ℕ × ℕ) → List (ℕ × ℕ) → List (ℕ × ℕ) → Type 0
+IsUnion ours theirs all = (n : ℕ) → has (members all) n ≡ (has (members ours) n || has (members theirs) n)
+
+-- both has the numbers that both have
+abbrev pub IsMeet : List (ℕ × ℕ) → List (ℕ × ℕ) → List (ℕ × ℕ) → Type 0
+IsMeet ours theirs both = (n : ℕ) → has (members both) n ≡ (has (members ours) n && has (members theirs) n)

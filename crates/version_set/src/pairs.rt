@@ -1,8 +1,8 @@
 // Work on lists of intervals.
-ghost use Rattle.std.specs.Prelude.{◌≡◌, ℕ, ◌+◌, ◌≤◌, ◌<◌, ◌++◌, [], ◌∷◌, ◌||◌, ◌&&◌, ◌↔◌, IsTrue, IfOk, OnOk, max, map, length, pos, ◌+ℤ◌};
+ghost use Rattle.std.specs.Prelude.{◌≡◌, ℕ, ◌+◌, ◌≤◌, ◌<◌, ◌++◌, [], ◌∷◌, ◌↔◌, IsTrue, IsOk, IfOk, OnOk, OnErr, max, map, length, pos, ◌+ℤ◌};
 ghost use Rattle.version_set.specs.Pairs.{IsCanonical, last_of};
-ghost use Rattle.version_set.specs.Members.{members, has, moved, IsVersion};
-ghost use Rattle.version_set.specs.Walk.{start_of, end_of, Joins, Shares};
+ghost use Rattle.version_set.specs.Members.{members, has, moved, moved_pair, IsVersion};
+ghost use Rattle.version_set.specs.Walk.{start_of, end_of, Joins, Shares, IsUnion, IsMeet};
 ghost use Rattle.smallvec.specs.SmallVec.{HasRoomFor, small_vec_len};
 
 use smallvec::SmallVec;
@@ -31,24 +31,46 @@ pub fn count_of(pairs: &[(u32, u32)]) -> u32
     pairs.len() as u32
 }
 
+/// Where the next interval may begin.
+fn next_low(pairs: &[(u32, u32)]) -> u64
+    ensures { result ≡ end_of pairs.now }
+{
+    match pairs {
+        [.., (_, to)] => u64::from(*to) + 2,
+        [] => 1,
+    }
+}
+
+/// Whether the interval may stand behind these.
+pub fn may_follow(pairs: &[(u32, u32)], pair: (u32, u32)) -> bool
+    requires { IsCanonical pairs.now }
+    ensures { IsTrue result ↔ IsCanonical (pairs.now ++ pair ∷ []) }
+{
+    next_low(pairs) <= u64::from(pair.0) && pair.0 <= pair.1
+}
+
 /// Adds an interval that begins behind the others, and joins it to the last one where they touch.
-pub fn put_last(pairs: &mut Pairs, pair: (u32, u32))
+/// It takes memory only where they do not, and on a refusal nothing changes.
+pub fn put_last(pairs: &mut Pairs, pair: (u32, u32)) -> Result<(), AllocError>
     requires canonical { IsCanonical pairs.old.items }
     requires behind { start_of pairs.old.items ≤ pair.0 }
     requires order { pair.0 ≤ pair.1 }
-    requires room { HasRoomFor pairs.old 1 }
-    ensures joins { Joins pairs.old.items pair pairs.new.items }
+    ensures joins { OnOk result (Joins pairs.old.items pair pairs.new.items) }
     ensures len { small_vec_len pairs.new ≤ small_vec_len pairs.old + 1 }
-    ensures capacity { pairs.new.capacity ≡ pairs.old.capacity }
+    ensures succeeds { HasRoomFor pairs.old 1 → IsOk result }
+    ensures capacity { HasRoomFor pairs.old 1 → pairs.new.capacity ≡ pairs.old.capacity }
+    ensures err { OnErr result (pairs.new.items ≡ pairs.old.items) }
 {
+    prove!(pairs.len() <= pairs.capacity());
     match pairs.pop() {
         Some((from, to)) if pair.0 - 1 <= to => pairs.push_reserved((from, to.max(pair.1))),
         Some(last) => {
             pairs.push_reserved(last);
-            pairs.push_reserved(pair);
+            pairs.push(pair)?;
         }
-        None => pairs.push_reserved(pair),
+        None => pairs.push(pair)?,
     }
+    Ok(())
 }
 
 /// The intervals of the numbers that are in either, where they touch as one.
@@ -56,31 +78,45 @@ pub fn unite(alloc: Global, ours: &[(u32, u32)], theirs: &[(u32, u32)]) -> Resul
     requires ours { IsCanonical ours.now }
     requires theirs { IsCanonical theirs.now }
     ensures canonical { IfOk result (λ v. IsCanonical v.items) }
-    ensures numbers { IfOk result (λ v. (n : ℕ) → has (members v.items) n ≡ (has (members ours.now) n || has (members theirs.now) n)) }
+    ensures numbers { IfOk result (λ v. IsUnion ours.now theirs.now v.items) }
 {
     let mut all = SmallVec::new(alloc);
+    put_union(&mut all, ours, theirs)?;
+    Ok(all)
+}
+
+fn put_union(
+    all: &mut Pairs,
+    ours: &[(u32, u32)],
+    theirs: &[(u32, u32)],
+) -> Result<(), AllocError>
+    requires empty { all.old.items ≡ [] }
+    requires ours { IsCanonical ours.now }
+    requires theirs { IsCanonical theirs.now }
+    ensures canonical { OnOk result (IsCanonical all.new.items) }
+    ensures numbers { OnOk result (IsUnion ours.now theirs.now all.new.items) }
+{
     let (mut i, mut j) = (0, 0);
     loop {
-        all.reserve(1)?;
         match (ours.get(i), theirs.get(j)) {
             (Some(our), Some(their)) => {
                 if our.0 <= their.0 {
-                    put_last(&mut all, *our);
+                    put_last(all, *our)?;
                     i += 1;
                 } else {
-                    put_last(&mut all, *their);
+                    put_last(all, *their)?;
                     j += 1;
                 }
             }
             (Some(our), None) => {
-                put_last(&mut all, *our);
+                put_last(all, *our)?;
                 i += 1;
             }
             (None, Some(their)) => {
-                put_last(&mut all, *their);
+                put_last(all, *their)?;
                 j += 1;
             }
-            (None, None) => return Ok(all),
+            (None, None) => return Ok(()),
         }
     }
 }
@@ -94,7 +130,7 @@ pub fn intersect(
     requires ours { IsCanonical ours.now }
     requires theirs { IsCanonical theirs.now }
     ensures canonical { IfOk result (λ v. IsCanonical v.items) }
-    ensures numbers { IfOk result (λ v. (n : ℕ) → has (members v.items) n ≡ (has (members ours.now) n && has (members theirs.now) n)) }
+    ensures numbers { IfOk result (λ v. IsMeet ours.now theirs.now v.items) }
 {
     let mut both = SmallVec::new(alloc);
     let (mut i, mut j) = (0, 0);
@@ -151,6 +187,7 @@ pub fn shifted(alloc: Global, pairs: &[(u32, u32)], by: i64) -> Result<Pairs, Al
     requires canonical { IsCanonical pairs.now }
     requires fits { (n : ℕ) → IsTrue (has (members pairs.now) n) → IsVersion (pos n +ℤ by) }
     ensures canonical { IfOk result (λ v. IsCanonical v.items) }
+    ensures pairs { IfOk result (λ v. v.items ≡ map (moved_pair by) pairs.now) }
     ensures members { IfOk result (λ v. members v.items ≡ map (moved by) (members pairs.now)) }
 {
     let mut shifted = SmallVec::with_capacity(alloc, pairs.len())?;

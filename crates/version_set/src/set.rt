@@ -1,12 +1,12 @@
-ghost use Rattle.std.specs.Prelude.{◌≡◌, ℕ, ◌+◌, ◌≤◌, ◌<◌, ◌++◌, ◌↔◌, [], ◌∷◌, length, map, filter, pos, ◌+ℤ◌, IsTrue, OnOk, IfOk, SomeIff, option_map};
+ghost use Rattle.std.specs.Prelude.{◌≡◌, ℕ, ◌+◌, ◌≤◌, ◌<◌, ◌++◌, ◌↔◌, [], ◌∷◌, length, map, filter, pos, ◌+ℤ◌, IsTrue, OnOk, OnErr, IfOk, SomeIff, option_map, if◌then◌else◌};
 ghost use Rattle.std.specs.List.{range_with_len};
 ghost use Rattle.std.specs.String.{string_bytes};
 ghost use Rattle.version_set.specs.Pairs.{IsCanonical, IsFrom-prop, last_of};
-ghost use Rattle.version_set.specs.Members.{members, has, greatest, either, united, upto_pairs, with_last, moved, IsVersion};
+ghost use Rattle.version_set.specs.Members.{members, has, greatest, intervals, either, united, common, upto_pairs, with_last, moved, moved_pair, IsVersion};
 ghost use Rattle.version_set.specs.Text.{set_text};
 
 use crate::pairs::{
-    Pairs, count_of, holds, intersect, is_canonical, last_in, put_last, shifted, unite,
+    Pairs, count_of, holds, intersect, is_canonical, last_in, may_follow, put_last, shifted, unite,
 };
 use crate::text::text_of;
 use smallvec::SmallVec;
@@ -56,7 +56,8 @@ impl VersionSet {
 
     /// The set of these intervals. None where they do not ascend, touch one another or hold 0.
     pub fn from_pairs(alloc: Global, pairs: &[(u32, u32)]) -> Result<Option<VersionSet>, AllocError>
-        ensures { IfOk result (λ set. SomeIff (option_map pairs_of set) (IsCanonical pairs.now) pairs.now) }
+        ensures { IfOk result (λ set.
+            SomeIff (option_map pairs_of set) (IsCanonical pairs.now) pairs.now) }
     {
         if !is_canonical(pairs) {
             return Ok(None);
@@ -96,7 +97,8 @@ impl VersionSet {
 
     /// Whether both sets have the same numbers.
     pub fn same(&self, other: &VersionSet) -> bool
-        ensures members { IsTrue result ↔ (members (pairs_of self.now) ≡ members (pairs_of other.now)) }
+        ensures members { IsTrue result
+            ↔ (members (pairs_of self.now) ≡ members (pairs_of other.now)) }
 
         // Sets with the same numbers have the same intervals.
         ensures pairs { IsTrue result ↔ (pairs_of self.now ≡ pairs_of other.now) }
@@ -121,13 +123,34 @@ impl VersionSet {
         ensures pairs { pairs_of self.new ≡ with_last (pairs_of self.old) n }
         ensures spare { spare_of self.old ≤ spare_of self.new + 1 }
     {
-        put_last(&mut self.pairs, (n, n));
+        match put_last(&mut self.pairs, (n, n)) {
+            Ok(()) => {}
+            Err(_) => unreachable!(),
+        }
+    }
+
+    /// Adds an interval behind the others, and answers whether it may stand there: not where it
+    /// begins before them, touches one or holds no number from 1 on.
+    pub fn push_pair(&mut self, pair: (u32, u32)) -> Result<bool, AllocError>
+        ensures exact { IfOk result (λ may.
+            IsTrue may ↔ IsCanonical (pairs_of self.old ++ pair ∷ [])) }
+        ensures pairs { IfOk result (λ may.
+            pairs_of self.new ≡ (if may then pairs_of self.old ++ pair ∷ [] else pairs_of self.old)) }
+        ensures err { OnErr result (pairs_of self.new ≡ pairs_of self.old) }
+    {
+        if !may_follow(self.pairs.as_slice(), pair) {
+            return Ok(false);
+        }
+        self.pairs.push(pair)?;
+        Ok(true)
     }
 
     /// The numbers that are in one of the sets.
     pub fn union(&self, other: &VersionSet) -> Result<VersionSet, AllocError>
-        ensures members { IfOk result (λ set. members (pairs_of set) ≡ either (members (pairs_of self.now)) (members (pairs_of other.now))) }
-        ensures pairs { IfOk result (λ set. pairs_of set ≡ united (pairs_of self.now) (pairs_of other.now)) }
+        ensures members { IfOk result (λ set. members (pairs_of set)
+            ≡ either (members (pairs_of self.now)) (members (pairs_of other.now))) }
+        ensures pairs { IfOk result (λ set.
+            pairs_of set ≡ united (pairs_of self.now) (pairs_of other.now)) }
     {
         let alloc = *self.pairs.allocator();
         let pairs = unite(alloc, self.pairs(), other.pairs())?;
@@ -136,7 +159,10 @@ impl VersionSet {
 
     /// The numbers that are in both sets.
     pub fn meet(&self, other: &VersionSet) -> Result<VersionSet, AllocError>
-        ensures { IfOk result (λ set. members (pairs_of set) ≡ filter (has (members (pairs_of other.now))) (members (pairs_of self.now))) }
+        ensures members { IfOk result (λ set. members (pairs_of set)
+            ≡ filter (has (members (pairs_of other.now))) (members (pairs_of self.now))) }
+        ensures pairs { IfOk result (λ set.
+            pairs_of set ≡ common (pairs_of self.now) (pairs_of other.now)) }
     {
         let alloc = *self.pairs.allocator();
         let pairs = intersect(alloc, self.pairs(), other.pairs())?;
@@ -154,8 +180,11 @@ impl VersionSet {
 
     /// The set with `by` added to each number.
     pub fn shift(&self, by: i64) -> Result<VersionSet, AllocError>
-        requires { (n : ℕ) → IsTrue (has (members (pairs_of self.now)) n) → IsVersion (pos n +ℤ by) }
-        ensures { IfOk result (λ set. members (pairs_of set) ≡ map (moved by) (members (pairs_of self.now))) }
+        requires { (n : ℕ) → IsTrue (has (members (pairs_of self.now)) n)
+            → IsVersion (pos n +ℤ by) }
+        ensures members { IfOk result (λ set.
+            members (pairs_of set) ≡ map (moved by) (members (pairs_of self.now))) }
+        ensures pairs { IfOk result (λ set. pairs_of set ≡ map (moved_pair by) (pairs_of self.now)) }
     {
         let alloc = *self.pairs.allocator();
         let pairs = shifted(alloc, self.pairs(), by)?;
@@ -164,7 +193,9 @@ impl VersionSet {
 
     /// The intervals with `,` between each two, as `1-2,4`, or `none`.
     pub fn text(&self) -> Result<String, AllocError>
-        ensures { IfOk result (λ text. string_bytes text ≡ set_text (pairs_of self.now)) }
+        ensures pairs { IfOk result (λ text. string_bytes text ≡ set_text (pairs_of self.now)) }
+        ensures members { IfOk result (λ text.
+            string_bytes text ≡ set_text (intervals (members (pairs_of self.now)))) }
     {
         text_of(*self.pairs.allocator(), self.pairs())
     }

@@ -2,6 +2,7 @@
 use Rattle.std.proofs.Common.{◌≡◌, ℕ, suc, ◌+◌, ◌^◌, ◌<◌, ◌≤◌, Bool, true, false, cond, ltb, ◌||◌, not, List, [], ◌∷◌, ◌++◌, length, take, drop, Option, Some, None, refl, sym, ap, subst, ◌∙◌, append_assoc, arith, inl, inr}
 use Rattle.std.specs.Int.{Width, w32, w64, byte_len, from_be_bytes, to_be_bytes}
 use Rattle.std.specs.Str.{is_utf8}
+use Rattle.std.specs.Array.{IsFirstChunk}
 use Rattle.std.proofs.lemmas.Str.{is_utf8-from_IsUtf8, IsUtf8-from_is_utf8}
 use Rattle.std.proofs.lemmas.Bool.{cases_lt, ltb-false, le-ltb}
 use Rattle.std.proofs.lemmas.List.{take_at, drop_at, drop-drop, take-append-drop, length-append, length-take, get_or-drop, get_or-take, get_or_past}
@@ -107,6 +108,13 @@ u32_reads = record { takes = number_read w32 (2 ^ 32) wide32; again = number_aga
 
 pub u64_reads : Reads (number_at w64) u64_bytes (λ n. n < 2 ^ 64)
 u64_reads = record { takes = number_read w64 (2 ^ 64) wide64; again = number_again w64 (2 ^ 64) wide64 }
+
+-- the number that the eight bytes at the offset make
+pub number_stands : (bytes rest front : List ℕ) (at n : ℕ) → rest ≡ drop at bytes → IsFirstChunk rest front 8 → n ≡ from_be_bytes w64 front → done (n, drop (at + 8) bytes) ≡ number_at w64 (drop at bytes)
+number_stands bytes rest front at n e chunk is =
+    let long : ltb (length (drop at bytes)) 8 ≡ false = le-ltb _ _ (omega (arith, chunk.enough, ap length e)) in
+    let number : n ≡ from_be_bytes w64 (take 8 (drop at bytes)) = is ∙ ap (from_be_bytes w64) (chunk.same ∙ ap (take 8) e) in
+    rw long (λ i. Some (number i, sym (drop-drop 8 at bytes) i))
 
 -- ---- texts
 

@@ -1,11 +1,12 @@
 -- Bytes that come or go piece by piece.
-use Rattle.std.proofs.Common.{◌≡◌, ℕ, ◌+◌, ◌-◌, ◌<◌, ◌≤◌, List, [], ◌++◌, Option, None, Some, sym, ap, ◌∙◌, arith, length, take, drop, length-append, length-take-le, drop-drop, take_all, length-drop}
+use Rattle.std.proofs.Common.{◌≡◌, true, leb, le-leb, inl, inr, subst, refl, ℕ, ◌+◌, ◌-◌, ◌<◌, ◌≤◌, List, [], ◌++◌, Option, None, Some, sym, ap, ◌∙◌, arith, length, take, drop, length-append, length-take-le, drop-drop, take_all, length-drop}
 use Rattle.std.proofs.Math.Seq.{take-append-add}
+use Rattle.std.proofs.lemmas.Bool.{cases_lt}
 use Rattle.std.proofs.lemmas.List.{take-append-le}
 use lib.Seq.{take-add}
 use borrow.Rule.Slice.PartMut.{put_mid, post_of}
 use Rattle.std.specs.FinMap as map
-use Rattle.xa_outside.specs.Folder.{Files, bytes_or_none, Gives, FillsFrom}
+use Rattle.xa_outside.specs.Folder.{Files, bytes_or_none, front, front_of, Gives, FillsFrom}
 
 -- these bytes stand in the file at the offset
 abbrev pub StandsAt : Option Files → List ℕ → ℕ → List ℕ → Type 0
@@ -43,3 +44,25 @@ FillsFrom-end (Some fs) name at done room left a b len none fits some p q =
 pub take-rest : (at n : ℕ) (xs : List ℕ) → at ≤ length xs → take at xs ++ take n (take (length xs - at) (drop at xs)) ≡ take (at + n) xs
 take-rest at n xs within =
     ap (λ l. take at xs ++ take n l) (take_all (length xs - at) (drop at xs) (omega (arith, length-drop at xs))) ∙ sym (take-add at n xs)
+
+-- ---- the front of a file
+
+front-take : (n : ℕ) (xs : List ℕ) → front n (take n xs) ≡ front n xs
+front-take n xs =
+    elim (cases_lt (length xs) n) [
+      | inl short ↦ ap (front n) (take_all n xs (omega arith))
+      | inr le ↦
+          let len : length (take n xs) ≡ n = length-take-le n xs le in
+          let here : leb n (length (take n xs)) ≡ true = le-leb _ _ (omega (arith, len)) in
+          let there : leb n (length xs) ≡ true = le-leb _ _ le in
+          rw (here, there) (ap Some (take_all n (take n xs) (omega (arith, len))))
+    ]
+
+-- what was read from the beginning of a file, where files are told
+pub read_is : (f : Option Files) (fs : Files) (name bytes : List ℕ) (n : ℕ) → f ≡ Some fs → FillsFrom f name 0 bytes n → bytes ≡ take n (bytes_or_none (map.get fs name))
+read_is f fs name bytes n e p = subst (λ (g : Option Files). FillsFrom g name 0 bytes n) e p
+
+pub front_is : (f : Option Files) (fs : Files) (name bytes : List ℕ) (n : ℕ) → f ≡ Some fs → FillsFrom f name 0 bytes n → front n bytes ≡ front_of fs name n
+front_is f fs name bytes n e p = ap (front n) (read_is f fs name bytes n e p) ∙ front-take n (bytes_or_none (map.get fs name))
+
+pub ruleset fronts = (read_is, front_is)

@@ -1,5 +1,5 @@
 -- What a folder tells, and what its calls do.
-use Rattle.std.specs.Prelude.{◌≡◌, ℕ, List, [], ◌++◌, length, take, drop, Option, Some, None, option_map, option_and_then, ⊤, ◌<◌, ◌≤◌}
+use Rattle.std.specs.Prelude.{◌≡◌, ℕ, List, [], ◌++◌, length, take, drop, Option, Some, None, option_map, option_and_then, ⊤, ◌<◌, ◌≤◌, nat_le, if◌then◌else◌}
 use Rattle.std.specs.Ordering.{nat_cmp}
 use Rattle.std.specs.Cmp.Lexicographic.{slice_cmp}
 use Rattle.std.specs.FinMap as map
@@ -13,6 +13,14 @@ Files = map.FinMap (slice_cmp nat_cmp) (List ℕ)
 abbrev pub bytes_or_none : Option (List ℕ) → List ℕ
 bytes_or_none None = []
 bytes_or_none (Some bytes) = bytes
+
+-- so many bytes from the front, where there are so many
+abbrev pub front : ℕ → List ℕ → Option (List ℕ)
+front n bytes = if nat_le n (length bytes) then Some (take n bytes) else None
+
+-- so many bytes from the front of a file, where it has so many; a name without a file has no bytes
+abbrev pub front_of : Files → List ℕ → ℕ → Option (List ℕ)
+front_of files name n = front n (bytes_or_none (map.get files name))
 
 -- `files` with this draft under the name, where both are told
 abbrev pub committed : Option Files → Option (List ℕ) → List ℕ → Option Files

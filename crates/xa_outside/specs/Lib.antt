@@ -1,5 +1,6 @@
 pub mod Buffered
 pub mod Causes
+pub mod Fault
 pub mod Filled
 pub mod Folder
 pub mod FolderPlan

@@ -31,20 +31,25 @@ impl<'a, O: Sink> Buffered<'a, O> {
         }
     }
 
-    /// Passes on all that waits. What a failure leaves still waits, and a later flush goes on with it.
+    /// Passes on all that waits. What a failure leaves still waits, and a later flush goes on
+    /// with it.
     pub fn flush(&mut self) -> Result<(), Failed>
-        ensures bytes { TakesNone (buffered_taken O.taken self.old) (buffered_taken O.taken self.new) }
+        ensures bytes { TakesNone (buffered_taken O.taken self.old)
+            (buffered_taken O.taken self.new) }
         ensures empty { OnOk result (waiting_bytes self.new ≡ []) }
-        ensures cause { HasCause (buffered_faults O.faults self.old) (buffered_faults O.faults self.new) result }
+        ensures cause { HasCause (buffered_faults O.faults self.old)
+            (buffered_faults O.faults self.new) result }
     {
         self.pass_on()
     }
 
     fn pass_on(&mut self) -> Result<(), Failed>
-        ensures bytes { TakesNone (buffered_taken O.taken self.old) (buffered_taken O.taken self.new) }
+        ensures bytes { TakesNone (buffered_taken O.taken self.old)
+            (buffered_taken O.taken self.new) }
         ensures empty { OnOk result (waiting_bytes self.new ≡ []) }
         ensures room { OnOk result (held_end self.new.held ≡ 0) }
-        ensures cause { HasCause (buffered_faults O.faults self.old) (buffered_faults O.faults self.new) result }
+        ensures cause { HasCause (buffered_faults O.faults self.old)
+            (buffered_faults O.faults self.new) result }
     {
         let (written, result) = write_out(self.held.waiting(), self.out);
         self.held.drop_front(written);
@@ -53,9 +58,11 @@ impl<'a, O: Sink> Buffered<'a, O> {
 
     fn make_room(&mut self, count: usize) -> Result<(), Failed>
         requires { count < 8192 }
-        ensures bytes { TakesNone (buffered_taken O.taken self.old) (buffered_taken O.taken self.new) }
+        ensures bytes { TakesNone (buffered_taken O.taken self.old)
+            (buffered_taken O.taken self.new) }
         ensures room { OnOk result (held_end self.new.held + count ≤ 8192) }
-        ensures cause { HasCause (buffered_faults O.faults self.old) (buffered_faults O.faults self.new) result }
+        ensures cause { HasCause (buffered_faults O.faults self.old)
+            (buffered_faults O.faults self.new) result }
     {
         if self.held.has_room(count) {
             return Ok(());
@@ -67,8 +74,10 @@ impl<'a, O: Sink> Buffered<'a, O> {
     fn write_through(&mut self, piece: &[u8]) -> Result<usize, Failed>
         ensures bound { WritesAtMost result piece.now }
         ensures some { IfOk result (λ n. 0 < length piece.now → 0 < n) }
-        ensures bytes { Writes (buffered_taken O.taken self.old) (buffered_taken O.taken self.new) result piece.now }
-        ensures cause { HasCause (buffered_faults O.faults self.old) (buffered_faults O.faults self.new) result }
+        ensures bytes { Writes (buffered_taken O.taken self.old)
+            (buffered_taken O.taken self.new) result piece.now }
+        ensures cause { HasCause (buffered_faults O.faults self.old)
+            (buffered_faults O.faults self.new) result }
     {
         self.pass_on()?;
         self.out.write(piece)

@@ -31,7 +31,8 @@ pub trait Folder {
     /// Puts bytes of a file at the front of the buffer, and answers how many.
     fn read_at(&mut self, name: &str, at: u64, buf: &mut [u8]) -> Result<usize, Failed>
         ensures bound { ReadsAtMost result buf.new }
-        ensures bytes { IfOk result (λ n. Gives (files self.old) name.now at (take n buf.new) (length buf.new)) }
+        ensures bytes { IfOk result (λ n.
+            Gives (files self.old) name.now at (take n buf.new) (length buf.new)) }
         ensures files { files self.new ≡ files self.old }
         ensures draft { draft self.new ≡ draft self.old }
         ensures numbers { IfOk result (λ n. numbers self.new ≡ after_pull (numbers self.old) n) }
@@ -50,15 +51,19 @@ pub trait Folder {
     /// Adds a piece to the draft, and on a failure a prefix of it.
     fn append(&mut self, piece: &[u8]) -> Result<(), Failed>
         ensures files { files self.new ≡ files self.old }
-        ensures ok { OnOk result (Drafts (draft self.old) (draft self.new) (numbers self.old) (numbers self.new) piece.now) }
-        ensures err { OnErr result (DraftsPrefix (draft self.old) (draft self.new) (numbers self.old) (numbers self.new) piece.now) }
+        ensures ok { OnOk result (Drafts (draft self.old) (draft self.new)
+            (numbers self.old) (numbers self.new) piece.now) }
+        ensures err { OnErr result (DraftsPrefix (draft self.old) (draft self.new)
+            (numbers self.old) (numbers self.new) piece.now) }
         ensures cause { HasCause (faults self.old) (faults self.new) result };
 
     /// Makes the draft a file of this name, and empties the draft.
     fn commit(&mut self, name: &str) -> Result<(), Failed>
-        ensures files { OnOk result (files self.new ≡ committed (files self.old) (draft self.old) name.now) }
+        ensures files { OnOk result (files self.new
+            ≡ committed (files self.old) (draft self.old) name.now) }
         ensures draft { OnOk result (draft self.new ≡ emptied (draft self.old)) }
-        ensures err { OnErr result ((files self.new ≡ files self.old) × (draft self.new ≡ draft self.old)) }
+        ensures err { OnErr result ((files self.new ≡ files self.old)
+            × (draft self.new ≡ draft self.old)) }
         ensures numbers { numbers self.new ≡ numbers self.old }
         ensures cause { HasCause (faults self.old) (faults self.new) result };
 
@@ -75,7 +80,8 @@ pub fn fill_at<F: Folder>(
 ) -> Result<usize, Failed>
     requires { at + length buf.old < 2 ^ 64 }
     ensures bound { ReadsAtMost result buf.new }
-    ensures bytes { IfOk result (λ n. FillsFrom (F.files folder.old) name.now at (take n buf.new) (length buf.new)) }
+    ensures bytes { IfOk result (λ n.
+        FillsFrom (F.files folder.old) name.now at (take n buf.new) (length buf.new)) }
     ensures files { F.files folder.new ≡ F.files folder.old }
     ensures draft { F.draft folder.new ≡ F.draft folder.old }
     ensures numbers { Pulls (F.numbers folder.old) (F.numbers folder.new) result (length buf.old) }

@@ -35,7 +35,8 @@ impl FolderScript {
     pub(crate) fn next_fails(&mut self, call: FolderCall) -> bool
         ensures listed { IsTrue result ↔ IsNextListed (folder_plan_of self.old) call }
         ensures plan { folder_plan_of self.new ≡ after_call (folder_plan_of self.old) call }
-        ensures count { listed_made (folder_plan_of self.new) ≡ listed_made (folder_plan_of self.old) + (if result then 1 else 0) }
+        ensures count { listed_made (folder_plan_of self.new)
+            ≡ listed_made (folder_plan_of self.old) + (if result then 1 else 0) }
     {
         match self.count(call) {
             Some(number) => lists(&self.fails, call, number),
@@ -45,7 +46,9 @@ impl FolderScript {
 
     fn count(&mut self, call: FolderCall) -> Option<u64>
         ensures plan { folder_plan_of self.new ≡ after_call (folder_plan_of self.old) call }
-        ensures number { result ≡ (if made_of (folder_plan_of self.old).made call == 2 ^ 64 - 1 then None else Some (made_of (folder_plan_of self.old).made call + 1)) }
+        ensures number { result
+            ≡ (if made_of (folder_plan_of self.old).made call == 2 ^ 64 - 1 then None
+            else Some (made_of (folder_plan_of self.old).made call + 1)) }
     {
         match call {
             FolderCall::Length => count_up(&mut self.length),

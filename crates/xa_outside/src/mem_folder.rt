@@ -29,7 +29,13 @@ impl MemFolder {
 
     pub fn new(alloc: Global, fails: Vec<FolderFail>) -> MemFolder
         ensures { folder_state result
-            ≡ record { files = map.empty; draft = []; numbers = numbers_none; plan = record { fails = fails.items; made = made_none }; starved = 0 } }
+            ≡ record {
+              files = map.empty;
+              draft = [];
+              numbers = numbers_none;
+              plan = record { fails = fails.items; made = made_none };
+              starved = 0;
+            } }
     {
         MemFolder {
             alloc,
@@ -44,7 +50,9 @@ impl MemFolder {
     /// Makes these bytes the file of this name.
     pub fn put(&mut self, name: &str, bytes: Vec<u8>) -> Result<(), AllocError>
         ensures ok { OnOk result (folder_state self.new
-            ≡ record (folder_state self.old) { files = map.insert (folder_state self.old).files name.now bytes.items }) }
+            ≡ record (folder_state self.old) {
+              files = map.insert (folder_state self.old).files name.now bytes.items;
+            }) }
         ensures err { OnErr result (folder_state self.new ≡ folder_state self.old) }
     {
         match self.files.insert(name, bytes) {
@@ -72,7 +80,9 @@ impl MemFolder {
         ensures exact { IsTrue result ↔ (IsNextListed (folder_state self.old).plan call
             ⊎ (2 ^ 64 - 1 ≤ (folder_state self.old).starved)) }
         ensures plan { folder_state self.new
-            ≡ record (folder_state self.old) { plan = after_call (folder_state self.old).plan call } }
+            ≡ record (folder_state self.old) {
+              plan = after_call (folder_state self.old).plan call;
+            } }
         ensures rose { OnTrue result (Rose (folder_faults self.old) (folder_faults self.new)) }
         ensures later { folder_faults self.old ≤ folder_faults self.new }
     {
@@ -107,12 +117,14 @@ impl Folder for MemFolder {
     ghost metered = { λ f. meter_law f.meter };
 
     fn length(&mut self, name: &str) -> Result<Option<u64>, Failed>
-        ensures told { IfOk result (λ r. TellsLength (Some (folder_state self.old).files) name.now r) }
+        ensures told { IfOk result (λ r.
+            TellsLength (Some (folder_state self.old).files) name.now r) }
         ensures files { Some (folder_state self.new).files ≡ Some (folder_state self.old).files }
         ensures draft { Some (folder_state self.new).draft ≡ Some (folder_state self.old).draft }
         ensures numbers { (folder_state self.new).numbers ≡ (folder_state self.old).numbers }
         ensures cause { HasCause (folder_faults self.old) (folder_faults self.new) result }
-        ensures by_plan { CallsByPlan FolderCall.Length (folder_state self.old) (folder_state self.new) result }
+        ensures by_plan { CallsByPlan FolderCall.Length
+            (folder_state self.old) (folder_state self.new) result }
     {
         if self.refuses(FolderCall::Length) {
             return Err(Failed);
@@ -132,9 +144,11 @@ impl Folder for MemFolder {
         ensures draft { Some (folder_state self.new).draft ≡ Some (folder_state self.old).draft }
         ensures numbers { IfOk result (λ n. (folder_state self.new).numbers
             ≡ after_pull (folder_state self.old).numbers n) }
-        ensures numbers_err { OnErr result ((folder_state self.new).numbers ≡ (folder_state self.old).numbers) }
+        ensures numbers_err { OnErr result ((folder_state self.new).numbers
+            ≡ (folder_state self.old).numbers) }
         ensures cause { HasCause (folder_faults self.old) (folder_faults self.new) result }
-        ensures by_plan { CallsByPlan FolderCall.ReadAt (folder_state self.old) (folder_state self.new) result }
+        ensures by_plan { CallsByPlan FolderCall.ReadAt
+            (folder_state self.old) (folder_state self.new) result }
     {
         if self.refuses(FolderCall::ReadAt) {
             return Err(Failed);
@@ -149,12 +163,17 @@ impl Folder for MemFolder {
 
     fn begin(&mut self) -> Result<(), Failed>
         ensures files { Some (folder_state self.new).files ≡ Some (folder_state self.old).files }
-        ensures draft { OnOk result (Some (folder_state self.new).draft ≡ emptied (Some (folder_state self.old).draft)) }
-        ensures draft_err { OnErr result (Some (folder_state self.new).draft ≡ Some (folder_state self.old).draft) }
-        ensures numbers { OnOk result ((folder_state self.new).numbers ≡ after_begin (folder_state self.old).numbers) }
-        ensures numbers_err { OnErr result ((folder_state self.new).numbers ≡ (folder_state self.old).numbers) }
+        ensures draft { OnOk result (Some (folder_state self.new).draft
+            ≡ emptied (Some (folder_state self.old).draft)) }
+        ensures draft_err { OnErr result (Some (folder_state self.new).draft
+            ≡ Some (folder_state self.old).draft) }
+        ensures numbers { OnOk result ((folder_state self.new).numbers
+            ≡ after_begin (folder_state self.old).numbers) }
+        ensures numbers_err { OnErr result ((folder_state self.new).numbers
+            ≡ (folder_state self.old).numbers) }
         ensures cause { HasCause (folder_faults self.old) (folder_faults self.new) result }
-        ensures by_plan { CallsByPlan FolderCall.Begin (folder_state self.old) (folder_state self.new) result }
+        ensures by_plan { CallsByPlan FolderCall.Begin
+            (folder_state self.old) (folder_state self.new) result }
     {
         if self.refuses(FolderCall::Begin) {
             return Err(Failed);
@@ -166,12 +185,15 @@ impl Folder for MemFolder {
 
     fn append(&mut self, piece: &[u8]) -> Result<(), Failed>
         ensures files { Some (folder_state self.new).files ≡ Some (folder_state self.old).files }
-        ensures ok { OnOk result (Drafts (Some (folder_state self.old).draft) (Some (folder_state self.new).draft)
+        ensures ok { OnOk result (Drafts (Some (folder_state self.old).draft)
+            (Some (folder_state self.new).draft)
             (folder_state self.old).numbers (folder_state self.new).numbers piece.now) }
-        ensures err { OnErr result (DraftsPrefix (Some (folder_state self.old).draft) (Some (folder_state self.new).draft)
+        ensures err { OnErr result (DraftsPrefix (Some (folder_state self.old).draft)
+            (Some (folder_state self.new).draft)
             (folder_state self.old).numbers (folder_state self.new).numbers piece.now) }
         ensures cause { HasCause (folder_faults self.old) (folder_faults self.new) result }
-        ensures by_plan { CallsByPlan FolderCall.Append (folder_state self.old) (folder_state self.new) result }
+        ensures by_plan { CallsByPlan FolderCall.Append
+            (folder_state self.old) (folder_state self.new) result }
     {
         if self.refuses(FolderCall::Append) {
             return Err(Failed);
@@ -185,13 +207,17 @@ impl Folder for MemFolder {
 
     fn commit(&mut self, name: &str) -> Result<(), Failed>
         ensures files { OnOk result (Some (folder_state self.new).files
-            ≡ committed (Some (folder_state self.old).files) (Some (folder_state self.old).draft) name.now) }
-        ensures draft { OnOk result (Some (folder_state self.new).draft ≡ emptied (Some (folder_state self.old).draft)) }
-        ensures err { OnErr result ((Some (folder_state self.new).files ≡ Some (folder_state self.old).files)
+            ≡ committed (Some (folder_state self.old).files)
+            (Some (folder_state self.old).draft) name.now) }
+        ensures draft { OnOk result (Some (folder_state self.new).draft
+            ≡ emptied (Some (folder_state self.old).draft)) }
+        ensures err { OnErr result ((Some (folder_state self.new).files
+            ≡ Some (folder_state self.old).files)
             × (Some (folder_state self.new).draft ≡ Some (folder_state self.old).draft)) }
         ensures numbers { (folder_state self.new).numbers ≡ (folder_state self.old).numbers }
         ensures cause { HasCause (folder_faults self.old) (folder_faults self.new) result }
-        ensures by_plan { CallsByPlan FolderCall.Commit (folder_state self.old) (folder_state self.new) result }
+        ensures by_plan { CallsByPlan FolderCall.Commit
+            (folder_state self.old) (folder_state self.new) result }
     {
         if self.refuses(FolderCall::Commit) {
             return Err(Failed);

@@ -20,7 +20,8 @@ impl MemSink {
 
     /// The writes numbered in `fails`, counted from 1, fail.
     pub fn new(alloc: Global, fails: Vec<u64>) -> MemSink
-        ensures { sink_state result ≡ record { taken = []; plan = record { fails = fails.items; made = 0 }; starved = 0 } }
+        ensures { sink_state result
+            ≡ record { taken = []; plan = record { fails = fails.items; made = 0 }; starved = 0 } }
     {
         MemSink {
             taken: Vec::new(alloc),
@@ -56,7 +57,8 @@ impl Sink for MemSink {
         ensures bound { WritesAtMost result piece.now }
         ensures whole { IfOk result (λ n. n ≡ length piece.now) }
         ensures some { IfOk result (λ n. 0 < length piece.now → 0 < n) }
-        ensures bytes { Writes (plainly (Some (sink_state self.old).taken)) (plainly (Some (sink_state self.new).taken)) result piece.now }
+        ensures bytes { Writes (plainly (Some (sink_state self.old).taken))
+            (plainly (Some (sink_state self.new).taken)) result piece.now }
         ensures cause { HasCause (sink_faults self.old) (sink_faults self.new) result }
         ensures by_plan { WritesByPlan (sink_state self.old) (sink_state self.new) result }
     {

@@ -22,7 +22,8 @@ impl MemSource {
 
     /// The reads numbered in `fails`, counted from 1, fail.
     pub fn new(bytes: Vec<u8>, fails: Vec<u64>) -> MemSource
-        ensures { source_state result ≡ record { rest = bytes.items; plan = record { fails = fails.items; made = 0 } } }
+        ensures { source_state result
+            ≡ record { rest = bytes.items; plan = record { fails = fails.items; made = 0 } } }
     {
         MemSource {
             bytes,
@@ -42,8 +43,10 @@ impl Source for MemSource {
     /// Gives as much as there is, and as there is room for.
     fn read(&mut self, buf: &mut [u8]) -> Result<usize, Failed>
         ensures bound { ReadsAtMost result buf.new }
-        ensures count { IfOk result (λ n. n ≡ min (length buf.new) (length (source_state self.old).rest)) }
-        ensures bytes { ReadConsumes (Some (source_state self.old).rest) (Some (source_state self.new).rest) result buf.new }
+        ensures count { IfOk result (λ n.
+            n ≡ min (length buf.new) (length (source_state self.old).rest)) }
+        ensures bytes { ReadConsumes (Some (source_state self.old).rest)
+            (Some (source_state self.new).rest) result buf.new }
         ensures cause { HasCause (source_faults self.old) (source_faults self.new) result }
         ensures listed { IsErr result ↔ IsNextListed (source_state self.old).plan }
         ensures plan { (source_state self.new).plan ≡ after_call (source_state self.old).plan }

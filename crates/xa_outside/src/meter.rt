@@ -1,6 +1,7 @@
 ghost use Rattle.std.specs.Prelude.{◌≡◌, ◌-◌, ◌^◌, ◌<◌, ◌≤◌};
 
-/// What a folder counts of the bytes that go through it. Each number stands still at its last value.
+/// What a folder counts of the bytes that go through it.
+/// Each number stands still at its last value.
 #[derive(Clone, Copy, Debug, PartialEq, Eq)]
 pub struct Meter {
     /// The bytes that `read_at` gave.

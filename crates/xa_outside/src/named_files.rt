@@ -33,7 +33,8 @@ impl NamedFiles {
 
     /// Gives these bytes to the name, in place of older ones. On refusal the bytes come back.
     pub(crate) fn insert(&mut self, name: &str, bytes: Vec<u8>) -> Result<(), Vec<u8>>
-        ensures ok { OnOk result (stored_files self.new ≡ map.insert (stored_files self.old) name.now bytes.items) }
+        ensures ok { OnOk result (stored_files self.new
+            ≡ map.insert (stored_files self.old) name.now bytes.items) }
         ensures err { OnErr result (stored_files self.new ≡ stored_files self.old) }
         ensures back { IfErr result (λ back. back ≡ bytes) }
     {

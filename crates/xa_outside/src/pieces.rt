@@ -7,8 +7,9 @@ ghost use Rattle.xa_outside.specs.Causes.{HasCause};
 use crate::{Buffered, Failed, Sink, put_all};
 
 /// Writes the pieces, one after the other.
-pub fn put_pieces<K: Sink>(sink: &mut K, pieces: &[&[u8]]) -> Result<(), Failed>
-    ensures bytes { Puts (K.taken sink.old) (K.taken sink.new) result (flat_map (λ p. p.now) pieces.now) }
+pub(crate) fn put_pieces<K: Sink>(sink: &mut K, pieces: &[&[u8]]) -> Result<(), Failed>
+    ensures bytes { Puts (K.taken sink.old) (K.taken sink.new) result
+        (flat_map (λ p. p.now) pieces.now) }
     ensures cause { HasCause (K.faults sink.old) (K.faults sink.new) result }
 {
     for piece in pieces {
@@ -19,7 +20,8 @@ pub fn put_pieces<K: Sink>(sink: &mut K, pieces: &[&[u8]]) -> Result<(), Failed>
 
 /// Writes the pieces, one after the other, in as few writes as a buffer allows.
 pub fn put_buffered<O: Sink>(out: &mut O, pieces: &[&[u8]]) -> Result<(), Failed>
-    ensures bytes { Puts (O.taken out.old) (O.taken out.new) result (flat_map (λ p. p.now) pieces.now) }
+    ensures bytes { Puts (O.taken out.old) (O.taken out.new) result
+        (flat_map (λ p. p.now) pieces.now) }
     ensures cause { HasCause (O.faults out.old) (O.faults out.new) result }
 {
     let mut buffered = Buffered::new(out);

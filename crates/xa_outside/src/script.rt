@@ -22,7 +22,8 @@ impl Script {
     pub(crate) fn next_fails(&mut self) -> bool
         ensures listed { IsTrue result ↔ IsNextListed (plan_of self.old) }
         ensures plan { plan_of self.new ≡ after_call (plan_of self.old) }
-        ensures count { listed_made (plan_of self.new) ≡ listed_made (plan_of self.old) + (if result then 1 else 0) }
+        ensures count { listed_made (plan_of self.new)
+            ≡ listed_made (plan_of self.old) + (if result then 1 else 0) }
     {
         match count_up(&mut self.made) {
             Some(number) => self.fails.contains(&number),
@@ -31,7 +32,8 @@ impl Script {
     }
 }
 
-/// Counts one more call, and answers its number. A call behind the last value has none, and is listed nowhere.
+/// Counts one more call, and answers its number. A call behind the last value has none, and
+/// is listed nowhere.
 pub(crate) fn count_up(made: &mut u64) -> Option<u64>
     ensures after { made.new ≡ capped (made.old + 1) }
     ensures number { result ≡ (if made.old == 2 ^ 64 - 1 then None else Some (made.old + 1)) }

@@ -8,10 +8,10 @@ returns-in-Some-clause-joins c =
     joins_touching c.args.pairs.now.items front _ (c.in-Some.from, c.in-Some.to) c.args.pair c.requires.canonical c.requires.behind c.in-Some.ensures.items (omega (arith, start_positive 1 c.args.pairs.now.items (omega arith) c.requires.canonical))
     (c.push_reserved.ensures.items ∙ ap (λ (n : ℕ). front ++ (c.in-Some.from, n) ∷ []) c.max.ensures)
 
-pub returns-in-Some-2-clause-joins : goal.returns-in-Some-2-clause-joins
-returns-in-Some-2-clause-joins c =
+pub returns-in_ok-push-in-Some-2-clause-joins : goal.returns-in_ok-push-in-Some-2-clause-joins
+returns-in_ok-push-in-Some-2-clause-joins c =
     joins_apart c.args.pairs.now.items c.pop.new.self.items _ (c.in-Some.from, c.in-Some.to) c.args.pair c.requires.canonical c.in-Some.ensures.items (omega arith) c.requires.order
-    (c.push_reserved-in-Some-2-2.ensures.items ∙ ap (λ (ps : List (ℕ × ℕ)). ps ++ c.args.pair ∷ []) c.push_reserved-in-Some-2.ensures.items)
+    (c.in_ok-push-in-Some-2.ensures.ok ∙ ap (λ (ps : List (ℕ × ℕ)). ps ++ c.args.pair ∷ []) c.push_reserved-in-Some-2.ensures.items)
 
 pub overflow_sub-pair : goal.overflow_sub-pair
 overflow_sub-pair c = omega (arith, start_positive 1 c.args.pairs.now.items (omega arith) c.requires.canonical, c.requires.behind)

@@ -1,10 +1,10 @@
 use Rattle.std.proofs.Common.{ℕ, ℤ, pos, ◌+ℤ◌, arith, List, ◌≡◌, get_or, map, take, take_all, subst, sym, ap, ◌∙◌}
 use Rattle.version_set.specs.Pairs.{IsCanonical}
-use Rattle.version_set.specs.Members.{members, IsVersion}
+use Rattle.version_set.specs.Members.{members, moved_pair, IsVersion}
 use Rattle.std.proofs.lemmas.Int.{to_z-of_z}
 use mir.Val.{SFits, to_z, of_z}
 use mir.Syntax.{w64}
-use Rattle.version_set.proofs.Moves.{ends_in, members-moved, IsCanonical-moved, moved_pair}
+use Rattle.version_set.proofs.Moves.{ends_in, members-moved, IsCanonical-moved}
 use Rattle.version_set.proofs.pairs.shifted.Goals as goal
 
 same_by : (P : ℤ → Type 0) (by : ℤ) → SFits w64 by → P by → P (to_z w64 (of_z w64 by))
@@ -24,6 +24,11 @@ pub returns-clause-canonical : goal.returns-clause-canonical
 returns-clause-canonical c =
     let all : c.loop-from.shifted.items ≡ map (moved_pair c.args.by) c.args.pairs.now = c.loop-from.invariant ∙ ap (λ (by : ℤ). map (moved_pair by) (take c.loop-from.from-index c.args.pairs.now)) (to_z-of_z w64 c.args.by c.ranges.by) ∙ ap (map (moved_pair c.args.by)) (take_all c.loop-from.from-index c.args.pairs.now (omega arith)) in
     subst (λ (ps : List (ℕ × ℕ)). IsCanonical ps) (sym all) (IsCanonical-moved c.args.by c.args.pairs.now c.requires.canonical c.requires.fits)
+
+pub returns-clause-pairs : goal.returns-clause-pairs
+returns-clause-pairs c =
+    let all : c.loop-from.shifted.items ≡ map (moved_pair c.args.by) c.args.pairs.now = c.loop-from.invariant ∙ ap (λ (by : ℤ). map (moved_pair by) (take c.loop-from.from-index c.args.pairs.now)) (to_z-of_z w64 c.args.by c.ranges.by) ∙ ap (map (moved_pair c.args.by)) (take_all c.loop-from.from-index c.args.pairs.now (omega arith)) in
+    all
 
 pub returns-clause-members : goal.returns-clause-members
 returns-clause-members c =

@@ -8,10 +8,10 @@ put_last-requires-clause-behind c = omega (arith, start_within 1 c.args.self.now
 
 pub returns-clause-members : goal.returns-clause-members
 returns-clause-members c =
-    let j = c.put_last.ensures.joins in
+    let j = c.in-Ok.ensures.joins in
     members_added _ _ c.args.n c.args.self.now.canonical j.canonical c.requires.above j.numbers
 
 pub returns-clause-pairs : goal.returns-clause-pairs
 returns-clause-pairs c =
-    let j = c.put_last.ensures.joins in
+    let j = c.in-Ok.ensures.joins in
     pairs_added c.args.self.now.pairs.items _ c.args.n j.canonical (members_added _ _ c.args.n c.args.self.now.canonical j.canonical c.requires.above j.numbers)
