@@ -13,7 +13,7 @@ use Rattle.std.specs.Str.Lines.{strip_carriage_return}
 use Rattle.key_spec.specs.Data.{PlainPath, PlainRule, GivenRule}
 use Rattle.key_spec.specs.Names.{is_name, is_name_byte, slashed, context_text, context_of, ends_text, path_text, path_of, is_optional_name, is_named_path, is_named}
 use Rattle.key_spec.specs.Lines.{lines, filled}
-use Rattle.key_spec.specs.Form.{Token, sign, word, tokens, is_word_byte, begins_word, word_with, first_as, name_of, some_paths, paths_of, place_of, spelled, line_rule}
+use Rattle.key_spec.specs.Form.{Token, sign, word, tokens, is_word_byte, begins_word, word_with, first_as, name_of, some_paths, paths_of, head_of, spelled, line_rule}
 use Rattle.key_spec.specs.Canonical.{paths_text, rule_text, canonical}
 use Rattle.key_spec.specs.Closed.{numbered, given_rules, rule_why, line_fault, first_of_all, paths_why}
 use Rattle.key_spec.proofs.FormLemmas.{some_paths-last, some_paths-more}
@@ -192,9 +192,9 @@ paths_of-text (path ∷ more) e =
 
 -- ---- the rule
 
-place_of-tokens : (context : List (List ℕ)) (text tag : List ℕ) (us : List Token) → context_of text ≡ Some context → name_of tag ≡ Some tag
-    → place_of (sign 40 ∷ word text ∷ sign 44 ∷ sign 40 ∷ word tag ∷ sign 44 ∷ sign 123 ∷ us) ≡ Some ((context, tag), us)
-place_of-tokens context text tag us e f = rw (e, f) refl
+head_of-tokens : (context : List (List ℕ)) (text tag : List ℕ) (us : List Token) → context_of text ≡ Some context → name_of tag ≡ Some tag
+    → head_of (sign 40 ∷ word text ∷ sign 44 ∷ sign 40 ∷ word tag ∷ sign 44 ∷ sign 123 ∷ us) ≡ Some ((context, tag), us)
+head_of-tokens context text tag us e f = rw (e, f) refl
 
 rule_tokens : (rule : PlainRule) → is_named rule ≡ true
     → tokens (rule_text rule) ≡ sign 40 ∷ word (context_text rule.context) ∷ sign 44 ∷ sign 40 ∷ word rule.tag ∷ sign 44 ∷ sign 123 ∷ tokens (paths_text rule.paths ++ codes "}))")
@@ -213,7 +213,7 @@ rule_tokens rule e =
     tokens-sign 40 (context_text rule.context ++ behind_context) refl
     ∙ ap (λ ts. sign 40 ∷ ts) (context_read ∙ ap (λ ts. word (context_text rule.context) ∷ sign 44 ∷ sign 40 ∷ ts) tag_read)
 
-spelled-tokens : (context : List (List ℕ)) (tag : List ℕ) (paths : List PlainPath) (ts us : List Token) → place_of ts ≡ Some ((context, tag), us) → paths_of us ≡ Some (paths, sign 41 ∷ sign 41 ∷ [])
+spelled-tokens : (context : List (List ℕ)) (tag : List ℕ) (paths : List PlainPath) (ts us : List Token) → head_of ts ≡ Some ((context, tag), us) → paths_of us ≡ Some (paths, sign 41 ∷ sign 41 ∷ [])
     → spelled ts ≡ Some (record { context = context; tag = tag; paths = paths })
 spelled-tokens context tag paths ts us e f = rw (e, f) refl
 
@@ -225,7 +225,7 @@ spelled-text rule e =
     let us = tokens (paths_text rule.paths ++ codes "}))") in
     let ts = sign 40 ∷ word (context_text rule.context) ∷ sign 44 ∷ sign 40 ∷ word rule.tag ∷ sign 44 ∷ sign 123 ∷ us in
     ap spelled (rule_tokens rule e)
-    ∙ spelled-tokens rule.context rule.tag rule.paths ts us (place_of-tokens rule.context (context_text rule.context) rule.tag us (context_of-text rule.context place.0) name) (paths_of-text rule.paths parts.1)
+    ∙ spelled-tokens rule.context rule.tag rule.paths ts us (head_of-tokens rule.context (context_text rule.context) rule.tag us (context_of-text rule.context place.0) name) (paths_of-text rule.paths parts.1)
 
 -- ---- UTF-8
 

@@ -5,7 +5,7 @@ use Rattle.std.specs.List.{list_all}
 use Rattle.std.specs.Str.{is_utf8}
 use Rattle.key_spec.specs.Data.{PlainPath, PlainRule}
 use Rattle.key_spec.specs.Names.{is_name, is_named_path, is_named, context_of, path_of}
-use Rattle.key_spec.specs.Form.{Token, sign, word, tokens, behind, first_as, name_of, path_with, some_paths, paths_of, place_of, is_end, spelled, line_rule, ◌>>=◌}
+use Rattle.key_spec.specs.Form.{Token, sign, word, tokens, behind, first_as, name_of, path_with, some_paths, paths_of, head_of, is_end, spelled, line_rule, ◌>>=◌}
 use Rattle.key_spec.proofs.FormLemmas.{some_same}
 use Rattle.key_spec.proofs.NameLaws.{context_of-named, path_of-named}
 use Rattle.key_spec.proofs.TokenLemmas.{by_test}
@@ -74,8 +74,8 @@ paths_of-named (sign b ∷ ts) all e =
 abbrev place : Type 0
 place = (List (List ℕ) × List ℕ) × List Token
 
-place_of-named : (ts : List Token) (found : place) → place_of ts ≡ Some found → (list_all is_name found.0.0 ≡ true) × (is_name found.0.1 ≡ true)
-place_of-named ts found e =
+head_of-named : (ts : List Token) (found : place) → head_of ts ≡ Some found → (list_all is_name found.0.0 ≡ true) × (is_name found.0.1 ≡ true)
+head_of-named ts found e =
     let a = step_of (behind 40 ts) _ found e in
     let context = step_of (first_as context_of a.0) _ found a.2 in
     let b = step_of (behind 44 context.0.1) _ found context.2 in
@@ -98,10 +98,10 @@ place_of-named ts found e =
 
 pub spelled-named : (ts : List Token) (rule : PlainRule) → spelled ts ≡ Some rule → is_named rule ≡ true
 spelled-named ts rule e =
-    let at = step_of (place_of ts) _ rule e in
+    let at = step_of (head_of ts) _ rule e in
     let paths = step_of (paths_of at.0.1) _ rule at.2 in
     let made : PlainRule = record { context = at.0.0.0; tag = at.0.0.1; paths = paths.0.0 } in
-    let both = place_of-named ts at.0 at.1 in
+    let both = head_of-named ts at.0 at.1 in
     let named : is_named made ≡ true = and_from _ _ (and_from _ _ both.0 both.1) (paths_of-named at.0.1 paths.0 paths.1) in
     by_test (is_end paths.0.1)
     (λ f. subst (λ r. is_named r ≡ true) (some_same made rule (sym (cond-true (is_end paths.0.1) (Some made) None f) ∙ paths.2)) named)

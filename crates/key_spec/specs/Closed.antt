@@ -67,10 +67,14 @@ first_of_all f (x ∷ xs) = option_or (f x) (first_of_all f xs)
 abbrev pub target_of : PlainRule → List (List ℕ)
 target_of rule = below rule.context rule.tag
 
--- the rules without key paths for the tags on the way from the element at a path
+-- a rule without key paths
+abbrev pub unkeyed : List (List ℕ) → List ℕ → PlainRule
+unkeyed context tag = record { context = context; tag = tag; paths = [] }
+
+-- those for the tags on the way from the element at a path
 abbrev pub implied_along : List (List ℕ) → List (List ℕ) → List PlainRule
 implied_along path [] = []
-implied_along path (tag ∷ tags) = record { context = path; tag = tag; paths = [] } ∷ implied_along (below path tag) tags
+implied_along path (tag ∷ tags) = unkeyed path tag ∷ implied_along (below path tag) tags
 
 -- the rules that a rule's key paths imply
 abbrev pub implied_by : PlainRule → List PlainRule
@@ -123,9 +127,13 @@ closing_fault rules earlier (given ∷ more) =
 
 -- ---- the closed rules
 
+-- these and the others in ascending order, each in the place of an earlier one with its context and tag
+abbrev pub after_all : List PlainRule → List PlainRule → List PlainRule
+after_all rules others = fold (replace_key rule_cmp) rules others
+
 -- all given and implied rules, each context and tag once, in ascending order
 abbrev pub closed_rules : List PlainRule → List PlainRule
-closed_rules rules = fold (replace_key rule_cmp) [] (implied_rules rules ++ rules)
+closed_rules rules = after_all [] (implied_rules rules ++ rules)
 
 -- at most 4,096 rules, whose canonical text has at most 1,048,576 bytes
 abbrev pub within_limits : List PlainRule → Result (List PlainRule) PlainSpecFault

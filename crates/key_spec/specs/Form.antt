@@ -75,8 +75,8 @@ abbrev pub ◌>>=◌ : {X Y : Type 0} → Option X → (X → Option Y) → Opti
 o >>= f = option_and_then f o
 
 -- `( context , ( tag , {` and what follows it
-abbrev pub place_of : List Token → Option ((List (List ℕ) × List ℕ) × List Token)
-place_of ts = do
+abbrev pub head_of : List Token → Option ((List (List ℕ) × List ℕ) × List Token)
+head_of ts = do
   a ← behind 40 ts
   context ← first_as context_of a
   b ← behind 44 context.1
@@ -94,7 +94,7 @@ is_end _ = false
 -- the rule whose tokens these are
 abbrev pub spelled : List Token → Option PlainRule
 spelled ts = do
-  place ← place_of ts
+  place ← head_of ts
   paths ← paths_of place.1
   if is_end paths.1 then Some (record { context = place.0.0; tag = place.0.1; paths = paths.0 }) else None
 

@@ -3,6 +3,7 @@ pub use Rattle.key_spec.specs.RuleView.{names_view, path_view, rule_view}
 use Rattle.std.specs.Prelude.{◌≡◌, List, map, Option, Some, Result, Err}
 use Rattle.std.specs.BTreeSet.{BTreeSet}
 use Rattle.key_spec.specs.Data.{PlainRule, GivenRule, PlainSpecFault}
+use Rattle.key_spec.specs.Closed.{after_all}
 use Rattle.key_spec.specs.declared.spec.Spec.{Spec}
 use Rattle.key_spec.specs.declared.given.Given.{Given}
 use Rattle.key_spec.specs.declared.place.Placed.{Placed}
@@ -26,6 +27,10 @@ placed_view p = rule_view p.rule
 -- the rules of a set, in its order
 abbrev pub placed_rules : BTreeSet Placed → List PlainRule
 placed_rules set = map placed_view set.keys
+
+-- the new set is the old one with these rules put in their places, one after the other
+abbrev pub Puts : BTreeSet Placed → BTreeSet Placed → List PlainRule → Type 0
+Puts old new rules = placed_rules new ≡ after_all (placed_rules old) rules
 
 -- the fault that was found; want of memory says nothing
 abbrev pub IsFault : SpecFault → Option PlainSpecFault → Type 0

@@ -1,10 +1,8 @@
 // The closed rules: all given and implied rules in ascending order.
 ghost use Rattle.std.specs.Prelude.{◌≡◌, ◌++◌, ◌∷◌, ◌<◌, ◌≤◌, [], length, map, fold, IfOk, OnOk, IfSome, IfNone, string_bytes};
-ghost use Rattle.std.specs.BTreeSet.{replace_key};
 ghost use Rattle.std.specs.Bool.{OnTrue, OnFalse};
-ghost use Rattle.key_spec.specs.Rules.{rule_cmp, below};
-ghost use Rattle.key_spec.specs.Closed.{implied_along, implied_by, implied_rules, closed_rules};
-ghost use Rattle.key_spec.specs.View.{names_view, path_view, rule_view, rules_view, placed_rules};
+ghost use Rattle.key_spec.specs.Closed.{target_of, unkeyed, implied_along, implied_by, implied_rules, after_all, closed_rules};
+ghost use Rattle.key_spec.specs.View.{names_view, path_view, rule_view, rules_view, placed_rules, Puts};
 
 use crate::copies::{copy_name, copy_names, push_copy};
 use crate::given::Given;
@@ -18,9 +16,12 @@ const MAX_RULES: usize = 4096;
 
 /// The closed rules, unless there are too many.
 pub(crate) fn close(alloc: Global, given: Vec<Given>) -> Result<Option<Vec<Rule>>, AllocError>
-    ensures some { IfOk result (λ found. IfSome found (λ rules. map rule_view rules.items ≡ closed_rules (rules_view given.items))) }
-    ensures few { IfOk result (λ found. IfSome found (λ rules. length (closed_rules (rules_view given.items)) ≤ 4096)) }
-    ensures none { IfOk result (λ found. IfNone found (4096 < length (closed_rules (rules_view given.items)))) }
+    ensures some { IfOk result (λ found. IfSome found
+        (λ rules. map rule_view rules.items ≡ closed_rules (rules_view given.items))) }
+    ensures few { IfOk result
+        (λ found. IfSome found (λ rules. length (closed_rules (rules_view given.items)) ≤ 4096)) }
+    ensures none { IfOk result
+        (λ found. IfNone found (4096 < length (closed_rules (rules_view given.items)))) }
 {
     let mut closed = BTreeSet::new(alloc);
     if !put_all_implied(alloc, &mut closed, &given)? {
@@ -39,8 +40,10 @@ fn put_all_implied(
     closed: &mut BTreeSet<Placed>,
     given: &[Given],
 ) -> Result<bool, AllocError>
-    ensures all { IfOk result (λ few. OnTrue few (placed_rules closed.new ≡ fold (replace_key rule_cmp) (placed_rules closed.old) (implied_rules (rules_view given.now)))) }
-    ensures many { IfOk result (λ few. OnFalse few (4096 < length (fold (replace_key rule_cmp) (placed_rules closed.old) (implied_rules (rules_view given.now))))) }
+    ensures all { IfOk result
+        (λ few. OnTrue few (Puts closed.old closed.new (implied_rules (rules_view given.now)))) }
+    ensures many { IfOk result (λ few. OnFalse few
+        (4096 < length (after_all (placed_rules closed.old) (implied_rules (rules_view given.now))))) }
 {
     for one in given {
         put_implied(alloc, closed, &one.rule)?;
@@ -68,7 +71,7 @@ fn put_given(
     closed: &mut BTreeSet<Placed>,
     given: Vec<Given>,
 ) -> Result<(), AllocError>
-    ensures { OnOk result (placed_rules closed.new ≡ fold (replace_key rule_cmp) (placed_rules closed.old) (rules_view given.items)) }
+    ensures { OnOk result (Puts closed.old closed.new (rules_view given.items)) }
 {
     for one in given {
         let Given { line: _, rule } = one;
@@ -79,7 +82,7 @@ fn put_given(
 
 /// Puts the rules that a rule implies in their places.
 fn put_implied(alloc: Global, closed: &mut BTreeSet<Placed>, rule: &Rule) -> Result<(), AllocError>
-    ensures { OnOk result (placed_rules closed.new ≡ fold (replace_key rule_cmp) (placed_rules closed.old) (implied_by (rule_view rule.now))) }
+    ensures { OnOk result (Puts closed.old closed.new (implied_by (rule_view rule.now))) }
 {
     for path in &rule.paths {
         put_along(alloc, closed, rule, &path.tags)?;
@@ -94,7 +97,8 @@ fn put_along(
     from: &Rule,
     tags: &[String],
 ) -> Result<(), AllocError>
-    ensures { OnOk result (placed_rules closed.new ≡ fold (replace_key rule_cmp) (placed_rules closed.old) (implied_along (below (names_view from.now.context.items) (string_bytes from.now.tag)) (names_view tags.now))) }
+    ensures { OnOk result
+        (Puts closed.old closed.new (implied_along (target_of (rule_view from.now)) (names_view tags.now))) }
 {
     let mut here = copy_names(alloc, &from.context)?;
     push_copy(alloc, &mut here, &from.tag)?;
@@ -112,7 +116,8 @@ fn put_unkeyed(
     context: &[String],
     tag: &String,
 ) -> Result<(), AllocError>
-    ensures { OnOk result (placed_rules closed.new ≡ replace_key rule_cmp (placed_rules closed.old) (record { context = names_view context.now; tag = string_bytes tag.now; paths = [] })) }
+    ensures { OnOk result
+        (Puts closed.old closed.new (unkeyed (names_view context.now) (string_bytes tag.now) ∷ [])) }
 {
     let rule = unkeyed(alloc, context, tag)?;
     put(alloc, closed, rule)
@@ -120,7 +125,7 @@ fn put_unkeyed(
 
 /// Puts a rule in its place, where it replaces one with the same context and tag.
 fn put(alloc: Global, closed: &mut BTreeSet<Placed>, rule: Rule) -> Result<(), AllocError>
-    ensures { OnOk result (placed_rules closed.new ≡ replace_key rule_cmp (placed_rules closed.old) (rule_view rule)) }
+    ensures { OnOk result (Puts closed.old closed.new (rule_view rule ∷ [])) }
 {
     let bytes = place_of(alloc, &rule)?;
     closed.replace(Placed { bytes, rule })?;
@@ -129,7 +134,8 @@ fn put(alloc: Global, closed: &mut BTreeSet<Placed>, rule: Rule) -> Result<(), A
 
 /// The rule with this context and tag and no key paths.
 fn unkeyed(alloc: Global, context: &[String], tag: &String) -> Result<Rule, AllocError>
-    ensures { IfOk result (λ rule. rule_view rule ≡ record { context = names_view context.now; tag = string_bytes tag.now; paths = [] }) }
+    ensures { IfOk result (λ rule. rule_view rule
+        ≡ unkeyed (names_view context.now) (string_bytes tag.now)) }
 {
     Ok(Rule {
         context: copy_names(alloc, context)?,

@@ -25,17 +25,22 @@ struct Marks {
 /// Whether the rules fit together, or the first fault of a line among the others.
 pub(crate) fn check_closing(alloc: Global, given: &[Given]) -> Result<(), SpecFault>
     requires { list_all is_named (rules_view given.now) ≡ true }
-    ensures none { OnOk result (closing_fault (rules_view given.now) [] (map given_view given.now) ≡ None) }
-    ensures fault { IfErr result (λ e. IsFault e (closing_fault (rules_view given.now) [] (map given_view given.now))) }
+    ensures none { OnOk result
+        (closing_fault (rules_view given.now) [] (map given_view given.now) ≡ None) }
+    ensures fault { IfErr result
+        (λ e. IsFault e (closing_fault (rules_view given.now) [] (map given_view given.now))) }
 {
     let marks = read_marks(alloc, given)?;
     check_each(alloc, &marks, &mut no_texts(alloc), given)
 }
 
 fn read_marks(alloc: Global, given: &[Given]) -> Result<Marks, AllocError>
-    ensures given { IfOk result (λ marks. Holds marks.given (map target_text (rules_view given.now))) }
-    ensures implied { IfOk result (λ marks. Holds marks.implied (flat_map implied_texts (rules_view given.now))) }
-    ensures ends { IfOk result (λ marks. Holds marks.ends (flat_map end_texts (rules_view given.now))) }
+    ensures given { IfOk result
+        (λ marks. Holds marks.given (map target_text (rules_view given.now))) }
+    ensures implied { IfOk result
+        (λ marks. Holds marks.implied (flat_map implied_texts (rules_view given.now))) }
+    ensures ends { IfOk result
+        (λ marks. Holds marks.ends (flat_map end_texts (rules_view given.now))) }
 {
     Ok(Marks {
         given: given_texts(alloc, given)?,
@@ -56,8 +61,10 @@ fn check_each(
     requires implied { Holds marks.now.implied (flat_map implied_texts (rules_view given.now)) }
     requires ends { Holds marks.now.ends (flat_map end_texts (rules_view given.now)) }
     requires earlier { Holds earlier.old [] }
-    ensures none { OnOk result (closing_fault (rules_view given.now) [] (map given_view given.now) ≡ None) }
-    ensures fault { IfErr result (λ e. IsFault e (closing_fault (rules_view given.now) [] (map given_view given.now))) }
+    ensures none { OnOk result
+        (closing_fault (rules_view given.now) [] (map given_view given.now) ≡ None) }
+    ensures fault { IfErr result
+        (λ e. IsFault e (closing_fault (rules_view given.now) [] (map given_view given.now))) }
 {
     for one in given {
         if let Some(why) = closing_why(alloc, marks, earlier, &one.rule)? {
@@ -78,7 +85,9 @@ fn closing_why(
     earlier: &BTreeSet<String>,
     rule: &Rule,
 ) -> Result<Option<u8>, AllocError>
-    ensures { IfOk result (λ why. why ≡ text_why marks.now.given marks.now.implied marks.now.ends earlier.now (rule_view rule.now)) }
+    ensures { IfOk result
+        (λ why. why
+            ≡ text_why marks.now.given marks.now.implied marks.now.ends earlier.now (rule_view rule.now)) }
 {
     if lacks_context(alloc, marks, rule)? {
         return Ok(Some(2));
@@ -98,7 +107,8 @@ fn closing_why(
 
 /// Whether the context is not `/` and no rule's target.
 fn lacks_context(alloc: Global, marks: &Marks, rule: &Rule) -> Result<bool, AllocError>
-    ensures { IfOk result (λ yes. yes ≡ text_lacks_context marks.now.given marks.now.implied (rule_view rule.now)) }
+    ensures { IfOk result (λ yes.
+        yes ≡ text_lacks_context marks.now.given marks.now.implied (rule_view rule.now)) }
 {
     if rule.context.is_empty() {
         return Ok(false);
@@ -134,7 +144,8 @@ fn leads_past(
     target: &str,
     tags: &[String],
 ) -> Result<bool, AllocError>
-    ensures { IfOk result (λ yes. yes ≡ list_any (contains_text ends.now) (contexts_along target.now (names_view tags.now))) }
+    ensures { IfOk result (λ yes.
+        yes ≡ list_any (contains_text ends.now) (contexts_along target.now (names_view tags.now))) }
 {
     let mut here = String::from_str(alloc, target)?;
     for tag in tags {
@@ -191,7 +202,8 @@ fn add_along(
     target: &str,
     tags: &[String],
 ) -> Result<(), AllocError>
-    ensures { OnOk result (Adds texts.old texts.new (texts_along target.now (names_view tags.now))) }
+    ensures { OnOk result
+        (Adds texts.old texts.new (texts_along target.now (names_view tags.now))) }
 {
     let mut here = String::from_str(alloc, target)?;
     for tag in tags {

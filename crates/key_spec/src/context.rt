@@ -14,7 +14,8 @@ pub(crate) const FEW: usize = 64;
 /// The rules with this context.
 pub(crate) fn at_context<'a>(rules: &'a [Rule], path: &[String]) -> &'a [Rule]
     requires { IsStrictlySortedBy rule_cmp (map rule_view rules.now) }
-    ensures { map rule_view result.now ≡ filter (has_context (names_view path.now)) (map rule_view rules.now) }
+    ensures { map rule_view result.now
+        ≡ filter (has_context (names_view path.now)) (map rule_view rules.now) }
 {
     up_to(not_before(rules, path), path)
 }
@@ -32,21 +33,24 @@ pub(crate) fn ends_below(rules: &[Rule], path: &[String]) -> bool
 
 fn not_before<'a>(rules: &'a [Rule], path: &[String]) -> &'a [Rule]
     requires { IsStrictlySortedBy rule_cmp (map rule_view rules.now) }
-    ensures { map rule_view result.now ≡ filter (λ r. not (is_before (names_view path.now) r)) (map rule_view rules.now) }
+    ensures { map rule_view result.now
+        ≡ filter (λ r. not (is_before (names_view path.now) r)) (map rule_view rules.now) }
 {
     &rules[rules.partition_point(|rule| order_paths(&rule.context, path).is_lt())..]
 }
 
 fn up_to<'a>(rules: &'a [Rule], path: &[String]) -> &'a [Rule]
     requires { IsStrictlySortedBy rule_cmp (map rule_view rules.now) }
-    ensures { map rule_view result.now ≡ filter (is_up_to (names_view path.now)) (map rule_view rules.now) }
+    ensures { map rule_view result.now
+        ≡ filter (is_up_to (names_view path.now)) (map rule_view rules.now) }
 {
     &rules[..rules.partition_point(|rule| order_paths(&rule.context, path).is_le())]
 }
 
 fn behind<'a>(rules: &'a [Rule], path: &[String]) -> &'a [Rule]
     requires { IsStrictlySortedBy rule_cmp (map rule_view rules.now) }
-    ensures { map rule_view result.now ≡ filter (λ r. not (is_up_to (names_view path.now) r)) (map rule_view rules.now) }
+    ensures { map rule_view result.now
+        ≡ filter (λ r. not (is_up_to (names_view path.now) r)) (map rule_view rules.now) }
 {
     &rules[rules.partition_point(|rule| order_paths(&rule.context, path).is_le())..]
 }

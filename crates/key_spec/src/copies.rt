@@ -16,7 +16,8 @@ pub fn copy_names(alloc: Global, names: &[String]) -> Result<Vec<String>, AllocE
 }
 
 pub(crate) fn push_copy(alloc: Global, names: &mut Vec<String>, name: &String) -> Result<(), AllocError>
-    ensures { OnOk result (names_view names.new.items ≡ names_view names.old.items ++ string_bytes name.now ∷ []) }
+    ensures { OnOk result (names_view names.new.items
+        ≡ names_view names.old.items ++ string_bytes name.now ∷ []) }
 {
     let copy = copy_name(alloc, name)?;
     names.push(copy)?;

@@ -1,7 +1,7 @@
 // The rule that a line gives.
 ghost use Rattle.std.specs.Prelude.{◌≡◌, IfOk, map, option_map, string_bytes};
 ghost use Rattle.key_spec.specs.Names.{context_of, path_of};
-ghost use Rattle.key_spec.specs.Form.{tokens, first_as, name_of, place_of, paths_of, some_paths, spelled, line_rule, is_end};
+ghost use Rattle.key_spec.specs.Form.{tokens, first_as, name_of, head_of, paths_of, some_paths, spelled, line_rule, is_end};
 ghost use Rattle.key_spec.specs.View.{names_view, path_view, rule_view};
 
 use crate::name::{is_name, read_context, read_path};
@@ -40,7 +40,9 @@ fn read_text(alloc: Global, line: &str) -> Result<Option<Rule>, AllocError>
 
 /// The context and the tag, and what stands behind the brace after them.
 fn read_place(alloc: Global, line: &str) -> Result<Option<(Vec<String>, String, &str)>, AllocError>
-    ensures { IfOk result (λ found. option_map (λ f. ((names_view f.0.items, string_bytes f.1), tokens f.2.now)) found ≡ place_of (tokens line.now)) }
+    ensures { IfOk result (λ found.
+        option_map (λ f. ((names_view f.0.items, string_bytes f.1), tokens f.2.now)) found
+        ≡ head_of (tokens line.now)) }
 {
     let Some(rest) = behind(line, '(') else {
         return Ok(None);
@@ -61,7 +63,8 @@ fn read_place(alloc: Global, line: &str) -> Result<Option<(Vec<String>, String, 
 }
 
 fn read_context_word(alloc: Global, line: &str) -> Result<Option<(Vec<String>, &str)>, AllocError>
-    ensures { IfOk result (λ found. option_map (λ f. (names_view f.0.items, tokens f.1.now)) found ≡ first_as context_of (tokens line.now)) }
+    ensures { IfOk result (λ found. option_map (λ f. (names_view f.0.items, tokens f.1.now)) found
+        ≡ first_as context_of (tokens line.now)) }
 {
     let Some((text, rest)) = first_word(line) else {
         return Ok(None);
@@ -73,7 +76,8 @@ fn read_context_word(alloc: Global, line: &str) -> Result<Option<(Vec<String>, &
 }
 
 fn read_tag_word(alloc: Global, line: &str) -> Result<Option<(String, &str)>, AllocError>
-    ensures { IfOk result (λ found. option_map (λ f. (string_bytes f.0, tokens f.1.now)) found ≡ first_as name_of (tokens line.now)) }
+    ensures { IfOk result (λ found. option_map (λ f. (string_bytes f.0, tokens f.1.now)) found
+        ≡ first_as name_of (tokens line.now)) }
 {
     let Some((text, rest)) = first_word(line) else {
         return Ok(None);
@@ -86,7 +90,9 @@ fn read_tag_word(alloc: Global, line: &str) -> Result<Option<(String, &str)>, Al
 
 /// The key paths up to the closing brace, and what stands behind it.
 fn read_paths(alloc: Global, line: &str) -> Result<Option<(Vec<KeyPath>, &str)>, AllocError>
-    ensures { IfOk result (λ found. option_map (λ f. (map path_view f.0.items, tokens f.1.now)) found ≡ paths_of (tokens line.now)) }
+    ensures { IfOk result (λ found.
+        option_map (λ f. (map path_view f.0.items, tokens f.1.now)) found
+        ≡ paths_of (tokens line.now)) }
 {
     if let Some(rest) = behind(line, '}') {
         return Ok(Some((Vec::new(alloc), rest)));
@@ -96,7 +102,9 @@ fn read_paths(alloc: Global, line: &str) -> Result<Option<(Vec<KeyPath>, &str)>,
 
 /// One key path or more with commas between them, up to the closing brace.
 fn read_some_paths(alloc: Global, line: &str) -> Result<Option<(Vec<KeyPath>, &str)>, AllocError>
-    ensures { IfOk result (λ found. option_map (λ f. (map path_view f.0.items, tokens f.1.now)) found ≡ some_paths (tokens line.now)) }
+    ensures { IfOk result (λ found.
+        option_map (λ f. (map path_view f.0.items, tokens f.1.now)) found
+        ≡ some_paths (tokens line.now)) }
 {
     let mut paths = Vec::new(alloc);
     let mut left = line;
@@ -116,7 +124,8 @@ fn read_some_paths(alloc: Global, line: &str) -> Result<Option<(Vec<KeyPath>, &s
 }
 
 fn read_path_word(alloc: Global, line: &str) -> Result<Option<(KeyPath, &str)>, AllocError>
-    ensures { IfOk result (λ found. option_map (λ f. (path_view f.0, tokens f.1.now)) found ≡ first_as path_of (tokens line.now)) }
+    ensures { IfOk result (λ found. option_map (λ f. (path_view f.0, tokens f.1.now)) found
+        ≡ first_as path_of (tokens line.now)) }
 {
     let Some((text, rest)) = first_word(line) else {
         return Ok(None);

@@ -28,9 +28,12 @@ pub(crate) struct Given {
 /// The rules that the lines of the text give, or the first fault of a line for itself.
 pub(crate) fn read_lines(alloc: Global, text: &[u8]) -> Result<Vec<Given>, SpecFault>
     requires { length text.now < 2 ^ 32 }
-    ensures none { IfOk result (λ given. first_of_all line_fault (numbered 1 (lines text.now)) ≡ None) }
-    ensures all { IfOk result (λ given. map given_view given.items ≡ given_rules (numbered 1 (lines text.now))) }
-    ensures fault { IfErr result (λ e. IsFault e (first_of_all line_fault (numbered 1 (lines text.now)))) }
+    ensures none { IfOk result
+        (λ given. first_of_all line_fault (numbered 1 (lines text.now)) ≡ None) }
+    ensures all { IfOk result (λ given. map given_view given.items
+        ≡ given_rules (numbered 1 (lines text.now))) }
+    ensures fault { IfErr result
+        (λ e. IsFault e (first_of_all line_fault (numbered 1 (lines text.now)))) }
 {
     let mut given = Vec::new(alloc);
     let mut rest = text;

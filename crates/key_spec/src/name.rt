@@ -36,7 +36,8 @@ fn is_name_byte(b: u8) -> bool
 
 /// The context that is written so: `/`, or a slash before each name.
 pub(crate) fn read_context(alloc: Global, text: &str) -> Result<Option<Vec<String>>, AllocError>
-    ensures { IfOk result (λ found. option_map (λ names. names_view names.items) found ≡ context_of text.now) }
+    ensures { IfOk result (λ found. option_map (λ names. names_view names.items) found
+        ≡ context_of text.now) }
 {
     match text.strip_prefix('/') {
         None => Ok(None),
@@ -52,7 +53,8 @@ pub(crate) fn read_context(alloc: Global, text: &str) -> Result<Option<Vec<Strin
 
 /// The names between the slashes, where each is one.
 fn read_names(alloc: Global, text: &str) -> Result<Option<Vec<String>>, AllocError>
-    ensures { IfOk result (λ found. option_map (λ names. names_view names.items) found ≡ names_of text.now) }
+    ensures { IfOk result (λ found. option_map (λ names. names_view names.items) found
+        ≡ names_of text.now) }
 {
     let mut names = Vec::new(alloc);
     for part in text.split('/') {
@@ -79,7 +81,8 @@ pub(crate) fn read_path(alloc: Global, text: &str) -> Result<Option<KeyPath>, Al
 }
 
 fn read_tags_path(alloc: Global, text: &str) -> Result<Option<KeyPath>, AllocError>
-    ensures { IfOk result (λ found. option_map path_view found ≡ option_map (λ ts. record { tags = ts; attr = None }) (names_of text.now)) }
+    ensures { IfOk result (λ found. option_map path_view found
+        ≡ option_map (λ ts. record { tags = ts; attr = None }) (names_of text.now)) }
 {
     let Some(tags) = read_names(alloc, text)? else {
         return Ok(None);
@@ -88,7 +91,8 @@ fn read_tags_path(alloc: Global, text: &str) -> Result<Option<KeyPath>, AllocErr
 }
 
 fn read_attr_path(alloc: Global, front: &str, name: &str) -> Result<Option<KeyPath>, AllocError>
-    ensures { IfOk result (λ found. option_map path_view found ≡ attr_path (tags_before front.now) name.now) }
+    ensures { IfOk result (λ found. option_map path_view found
+        ≡ attr_path (tags_before front.now) name.now) }
 {
     if !is_name(name) {
         return Ok(None);
@@ -105,7 +109,8 @@ fn read_attr_path(alloc: Global, front: &str, name: &str) -> Result<Option<KeyPa
 
 /// The tags in front of an attribute: none, or names joined by slashes and one more slash.
 fn read_tags_before(alloc: Global, front: &str) -> Result<Option<Vec<String>>, AllocError>
-    ensures { IfOk result (λ found. option_map (λ names. names_view names.items) found ≡ tags_before front.now) }
+    ensures { IfOk result (λ found. option_map (λ names. names_view names.items) found
+        ≡ tags_before front.now) }
 {
     if front.is_empty() {
         return Ok(Some(Vec::new(alloc)));

@@ -1,15 +1,16 @@
 // The order of paths, and where a rule stands to a context and a tag.
-ghost use Rattle.std.specs.Prelude.{◌≡◌, string_bytes};
+ghost use Rattle.std.specs.Prelude.{◌≡◌};
 ghost use Rattle.std.specs.Ordering.{is_eq};
-ghost use Rattle.key_spec.specs.Rules.{path_cmp, place_cmp, goes_behind};
-ghost use Rattle.key_spec.specs.View.{names_view};
+ghost use Rattle.key_spec.specs.Rules.{path_cmp, rule_cmp, goes_behind};
+ghost use Rattle.key_spec.specs.Closed.{unkeyed};
+ghost use Rattle.key_spec.specs.View.{names_view, rule_view};
 
 use crate::rule::Rule;
 use std::cmp::Ordering;
 
 /// Where a rule stands to a context and tag.
 pub(crate) fn order_place(rule: &Rule, context: &[String], tag: &str) -> Ordering
-    ensures { result ≡ place_cmp (names_view rule.now.context.items) (string_bytes rule.now.tag) (names_view context.now) tag.now }
+    ensures { result ≡ rule_cmp (rule_view rule.now) (unkeyed (names_view context.now) tag.now) }
 {
     order_paths(&rule.context, context).then(rule.tag.as_str().cmp(tag))
 }
@@ -38,7 +39,8 @@ pub(crate) fn order_paths(ours: &[String], theirs: &[String]) -> Ordering
 /// Whether a rule has this context and tag.
 #[tactic(auto, using(crate::proofs::SameNames::same))]
 pub(crate) fn stands_at(rule: &Rule, context: &[String], tag: &str) -> bool
-    ensures { result ≡ is_eq (place_cmp (names_view rule.now.context.items) (string_bytes rule.now.tag) (names_view context.now) tag.now) }
+    ensures { result
+        ≡ is_eq (rule_cmp (rule_view rule.now) (unkeyed (names_view context.now) tag.now)) }
 {
     rule.tag.as_str() == tag && are_same(&rule.context, context)
 }

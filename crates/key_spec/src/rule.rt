@@ -51,7 +51,8 @@ impl KeyPath {
 
 /// Writes a rule as `(/db/dept, (emp, {fn, ln}))` at the end of the text.
 pub(crate) fn push_rule(text: &mut String, rule: &Rule) -> Result<(), AllocError>
-    ensures { OnOk result (string_bytes text.new ≡ string_bytes text.old ++ rule_text (rule_view rule.now)) }
+    ensures { OnOk result (string_bytes text.new
+        ≡ string_bytes text.old ++ rule_text (rule_view rule.now)) }
 {
     text.push_str("(")?;
     push_context(text, &rule.context)?;
@@ -63,7 +64,8 @@ pub(crate) fn push_rule(text: &mut String, rule: &Rule) -> Result<(), AllocError
 }
 
 fn push_context(text: &mut String, context: &[String]) -> Result<(), AllocError>
-    ensures { OnOk result (string_bytes text.new ≡ string_bytes text.old ++ context_text (names_view context.now)) }
+    ensures { OnOk result (string_bytes text.new
+        ≡ string_bytes text.old ++ context_text (names_view context.now)) }
 {
     if context.is_empty() {
         text.push_str("/")
@@ -74,7 +76,8 @@ fn push_context(text: &mut String, context: &[String]) -> Result<(), AllocError>
 
 /// Writes each name behind a slash of its own at the end of the text.
 pub(crate) fn push_slashed(text: &mut String, names: &[String]) -> Result<(), AllocError>
-    ensures { OnOk result (string_bytes text.new ≡ string_bytes text.old ++ slashed (names_view names.now)) }
+    ensures { OnOk result (string_bytes text.new
+        ≡ string_bytes text.old ++ slashed (names_view names.now)) }
 {
     for name in names {
         push_step(text, name.as_str())?;
@@ -84,14 +87,16 @@ pub(crate) fn push_slashed(text: &mut String, names: &[String]) -> Result<(), Al
 
 /// Writes a slash and the name at the end of the text.
 pub(crate) fn push_step(text: &mut String, name: &str) -> Result<(), AllocError>
-    ensures { OnOk result (string_bytes text.new ≡ string_bytes text.old ++ (codes "/" ++ name.now)) }
+    ensures { OnOk result (string_bytes text.new
+        ≡ string_bytes text.old ++ (codes "/" ++ name.now)) }
 {
     text.push_str("/")?;
     text.push_str(name)
 }
 
 fn push_paths(text: &mut String, paths: &[KeyPath]) -> Result<(), AllocError>
-    ensures { OnOk result (string_bytes text.new ≡ string_bytes text.old ++ paths_text (map path_view paths.now)) }
+    ensures { OnOk result (string_bytes text.new
+        ≡ string_bytes text.old ++ paths_text (map path_view paths.now)) }
 {
     let Some((first, others)) = paths.split_first() else {
         return Ok(());
@@ -105,7 +110,8 @@ fn push_paths(text: &mut String, paths: &[KeyPath]) -> Result<(), AllocError>
 }
 
 fn push_path(text: &mut String, path: &KeyPath) -> Result<(), AllocError>
-    ensures { OnOk result (string_bytes text.new ≡ string_bytes text.old ++ path_text (path_view path.now)) }
+    ensures { OnOk result (string_bytes text.new
+        ≡ string_bytes text.old ++ path_text (path_view path.now)) }
 {
     match &path.attr {
         None => push_tags(text, &path.tags),
@@ -122,7 +128,8 @@ fn push_path(text: &mut String, path: &KeyPath) -> Result<(), AllocError>
 }
 
 fn push_tags(text: &mut String, tags: &[String]) -> Result<(), AllocError>
-    ensures { OnOk result (string_bytes text.new ≡ string_bytes text.old ++ tags_text (names_view tags.now)) }
+    ensures { OnOk result (string_bytes text.new
+        ≡ string_bytes text.old ++ tags_text (names_view tags.now)) }
 {
     match tags.split_first() {
         None => text.push_str("."),

@@ -65,7 +65,8 @@ impl Spec {
 
     /// The specification of which this is the canonical text, if it is one's.
     pub fn read_canonical(alloc: Global, text: &[u8]) -> Result<Option<Spec>, AllocError>
-        ensures { IfOk result (λ found. option_map spec_view found ≡ spelled_by text.now (closed text.now)) }
+        ensures { IfOk result (λ found. option_map spec_view found
+            ≡ spelled_by text.now (closed text.now)) }
     {
         if !may_be_canonical(text.len()) {
             return Ok(None);
@@ -80,7 +81,8 @@ impl Spec {
     /// The specification that the text gives, if it is written so.
     fn if_written(self, alloc: Global, text: &[u8]) -> Result<Option<Spec>, AllocError>
         requires { closed text.now ≡ Ok (spec_view self) }
-        ensures { IfOk result (λ found. option_map spec_view found ≡ spelled_by text.now (closed text.now)) }
+        ensures { IfOk result (λ found. option_map spec_view found
+            ≡ spelled_by text.now (closed text.now)) }
     {
         let written = canonical_text(alloc, &self.rules)?;
         if written.as_bytes() == text {
@@ -106,7 +108,8 @@ impl Spec {
     /// The rule with this context and tag, looked up by halving where there are many.
     pub fn rule(&self, context: &[String], tag: &str) -> Option<&Rule>
         ensures few_paths { IfSome result (λ r. vec_len r.now.paths ≤ 16) }
-        ensures rule { option_map (λ r. rule_view r.now) result ≡ rule_of (spec_view self.now) (names_view context.now) tag.now }
+        ensures rule { option_map (λ r. rule_view r.now) result
+            ≡ rule_of (spec_view self.now) (names_view context.now) tag.now }
     {
         if self.rules.len() <= FEW {
             return self.rule_in_turn(context, tag);
@@ -123,7 +126,8 @@ impl Spec {
     /// The rule with this context and tag, looked for rule by rule.
     fn rule_in_turn(&self, context: &[String], tag: &str) -> Option<&Rule>
         ensures few_paths { IfSome result (λ r. vec_len r.now.paths ≤ 16) }
-        ensures rule { option_map (λ r. rule_view r.now) result ≡ rule_of (spec_view self.now) (names_view context.now) tag.now }
+        ensures rule { option_map (λ r. rule_view r.now) result
+            ≡ rule_of (spec_view self.now) (names_view context.now) tag.now }
     {
         for rule in &self.rules {
             if stands_at(rule, context, tag) {
@@ -147,7 +151,8 @@ impl Spec {
 
     /// The rules with this context, which stand together, looked up by halving.
     pub fn rules_at(&self, path: &[String]) -> &[Rule]
-        ensures rules { map rule_view result.now ≡ filter (has_context (names_view path.now)) (spec_view self.now) }
+        ensures rules { map rule_view result.now
+            ≡ filter (has_context (names_view path.now)) (spec_view self.now) }
         ensures ascending { IsStrictlySortedBy tag_cmp (map rule_view result.now) }
     {
         at_context(&self.rules, path)
@@ -174,14 +179,15 @@ impl Spec {
 /// Whether a canonical text may have so many bytes.
 pub fn may_be_canonical(len: usize) -> bool
     ensures few { result ≡ nat_le len 1048576 }
-    ensures many { OnFalse result ((text : List ℕ) → length text ≡ len → spelled_by text (closed text) ≡ None) }
+    ensures many { OnFalse result ((text : List ℕ) → length text
+        ≡ len → spelled_by text (closed text) ≡ None) }
 {
     len <= MAX_TEXT
 }
 
 /// Whether one of the rules has this context.
 fn is_context(rules: &[Rule], path: &[String]) -> bool
-    ensures { result ≡ list_any (λ r. is_eq (path_cmp r.context (names_view path.now))) (map rule_view rules.now) }
+    ensures { result ≡ list_any (has_context (names_view path.now)) (map rule_view rules.now) }
 {
     for rule in rules {
         if are_same(&rule.context, path) {

@@ -18,7 +18,8 @@ pub(crate) fn behind(line: &str, sign: char) -> Option<&str>
 pub(crate) fn behind_both(line: &str, first: char, second: char) -> Option<&str>
     requires first { is_sign first ≡ true }
     requires second { is_sign second ≡ true }
-    ensures { option_map (λ rest. tokens rest.now) result ≡ option_and_then (behind second) (behind first (tokens line.now)) }
+    ensures { option_map (λ rest. tokens rest.now) result
+        ≡ option_and_then (behind second) (behind first (tokens line.now)) }
 {
     behind(behind(line, first)?, second)
 }
