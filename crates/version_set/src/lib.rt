@@ -6,5 +6,6 @@ mod set;
 #[cfg(test)]
 mod tests;
 mod text;
+mod within;
 
 pub use set::VersionSet;
