@@ -3,10 +3,12 @@
 
 mod archive;
 mod check;
+mod laws;
 mod node;
 mod read;
 #[cfg(test)]
 mod tests;
 
 pub use archive::Archive;
+pub use laws::archives_stand_for_one_list;
 pub use node::{ANode, Alt, effective};
