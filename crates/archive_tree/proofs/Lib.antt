@@ -9,5 +9,8 @@ pub mod Versions
 pub mod Necessary
 pub mod Sufficient
 pub mod Rebuilt
+pub mod Counts
 pub mod Tells
+pub mod Tiles
+pub mod Told
 pub mod Differ

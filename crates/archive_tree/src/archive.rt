@@ -32,7 +32,7 @@ impl Archive {
     ghost use Rattle.archive_tree.specs.Stands.{ArchiveOf, version_of};
     ghost use Rattle.archive_tree.specs.History.{hist};
     ghost use Rattle.archive_tree.specs.Parts.{IsArchive};
-    ghost use Rattle.archive_tree.specs.Read.{read_root};
+    ghost use Rattle.archive_tree.specs.Read.{version_at};
     ghost use Rattle.archive_tree.specs.Seek.{seek};
     ghost use Rattle.archive_tree.specs.ArchiveView.{archive_view};
 
@@ -105,6 +105,7 @@ impl Archive {
     pub fn version(&self, alloc: Global, i: u32) -> Result<Option<Keyed>, AllocError>
         ensures found { IfOk result (λ o. IsSome o ↔ ((1 ≤ i) × (i ≤ (archive_view self.now).n))) }
         ensures item { (vs : List PlainKeyed) → ArchiveOf vs (archive_view self.now) → IfOk result (λ o. option_map keyed_view o ≡ version_of vs i) }
+        ensures read { IfOk result (λ o. option_map keyed_view o ≡ version_at i (archive_view self.now)) }
         ensures well_formed { IfOk result (λ o. IfSome o (λ k. IsKeyedWellFormed (keyed_view k))) }
     {
         self.tree_at(alloc, i)
@@ -112,7 +113,7 @@ impl Archive {
 
     // What the nodes have at the number.
     fn tree_at(&self, alloc: Global, i: u32) -> Result<Option<Keyed>, AllocError>
-        ensures { IfOk result (λ o. option_map keyed_view o ≡ read_root i (range_with_len 1 (archive_view self.now).n) (archive_view self.now).kids) }
+        ensures { IfOk result (λ o. option_map keyed_view o ≡ version_at i (archive_view self.now)) }
     {
         let all = VersionSet::upto(alloc, self.n);
         read_version(alloc, i, &all, &self.kids)

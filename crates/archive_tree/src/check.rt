@@ -1,15 +1,13 @@
 // Whether parts are those of an archive.
-ghost use Rattle.std.specs.Prelude.{◌≡◌, IfOk, Some, map, []};
-ghost use Rattle.std.specs.Option.{option_map};
-ghost use Rattle.std.specs.List.{list_all};
+ghost use Rattle.std.specs.Prelude.{◌≡◌, IfOk, Some, map};
+ghost use Rattle.std.specs.List.{list_all, flat_map};
 ghost use Rattle.version_set.specs.Members.{members, has};
 ghost use Rattle.version_set.specs.View.{pairs_of};
 ghost use Rattle.keyed_tree.specs.Proper.{is_tag};
 ghost use Rattle.keyed_tree.specs.View.{name_view};
-ghost use Rattle.archive_tree.specs.Data.{PlainArchive, eff};
 ghost use Rattle.archive_tree.specs.Stands.{head_or, bodies, labels};
 ghost use Rattle.archive_tree.specs.Parts.{alt_sets, node_sets};
-ghost use Rattle.archive_tree.specs.PartsTest.{is_none, is_same, is_stamp_well, are_apart, are_parts, are_stamps_well, do_firsts_rise, do_differ, are_alts_well, is_node_well, are_nodes_well, are_elements, is_archive};
+ghost use Rattle.archive_tree.specs.PartsTest.{is_none, is_same, is_stamp_well, are_parts, are_stamps_well, do_firsts_rise, do_differ, are_alts_well, is_node_well, are_nodes_well, are_elements, is_archive, do_tile};
 ghost use Rattle.archive_tree.specs.Seek.{rise};
 ghost use Rattle.archive_tree.specs.View.{stamp_view, alt_view, node_view, nodes_view};
 
@@ -40,12 +38,12 @@ fn is_node_well(alloc: Global, parent: &VersionSet, node: &ANode) -> Result<bool
     let set = effective(node.stamp(), parent);
     match node {
         ANode::Inner { stamp, kids, .. } => Ok(
-            is_stamp_well(stamp, parent)?
+            is_stamp_well(stamp, parent)
                 && do_labels_rise(kids)
                 && are_nodes_well(alloc, set, kids)?,
         ),
         ANode::Leaf { stamp, alts, .. } => {
-            Ok(is_stamp_well(stamp, parent)? && are_alts_well(alloc, set, alts)?)
+            Ok(is_stamp_well(stamp, parent) && are_alts_well(alloc, set, alts)?)
         }
     }
 }
@@ -99,40 +97,77 @@ fn is_tag(name: &Name) -> bool
 }
 
 fn are_kids_parts(alloc: Global, set: &VersionSet, nodes: &[ANode]) -> Result<bool, AllocError>
-    ensures { IfOk result (λ b. b ≡ are_parts [] (members (pairs_of set.now)) (node_sets (members (pairs_of set.now)) (nodes_view nodes.now))) }
+    ensures { IfOk result (λ b. b ≡ are_parts (members (pairs_of set.now)) (node_sets (members (pairs_of set.now)) (nodes_view nodes.now))) }
 {
-    let mut union = VersionSet::empty(alloc);
+    let mut parts = Vec::with_capacity(alloc, nodes.len())?;
     for node in nodes {
-        let part = effective(node.stamp(), set);
-        if !are_apart(&union, part)? {
-            return Ok(false);
-        }
-        union = union.union(part)?;
+        parts.push(effective(node.stamp(), set))?;
     }
-    Ok(is_same(&union, set))
+    are_parts(alloc, set, &parts)
+}
+
+// Whether the sets are pairwise disjoint and together the set: their intervals are sorted and gone along once.
+fn are_parts(alloc: Global, set: &VersionSet, parts: &[&VersionSet]) -> Result<bool, AllocError>
+    ensures { IfOk result (λ b. b ≡ are_parts (members (pairs_of set.now)) (map (λ s. members (pairs_of s.now)) parts.now)) }
+{
+    let mut pairs = pairs_of_all(alloc, parts)?;
+    pairs.sort_unstable_by_key(|pair| pair.0);
+    Ok(do_tile(set.pairs(), &pairs))
+}
+
+fn pairs_of_all(alloc: Global, sets: &[&VersionSet]) -> Result<Vec<(u32, u32)>, AllocError>
+    ensures { IfOk result (λ v. v.items ≡ flat_map (λ s. pairs_of s.now) sets.now) }
+{
+    let mut pairs = Vec::new(alloc);
+    for set in sets {
+        pairs.extend_from_slice(set.pairs())?;
+    }
+    Ok(pairs)
+}
+
+// Whether the later intervals follow one upon another through the first ones, and end with them.
+fn do_tile(whole: &[(u32, u32)], pairs: &[(u32, u32)]) -> bool
+    ensures { result ≡ do_tile 0 whole.now pairs.now }
+{
+    let mut at = 0;
+    let mut low = 0;
+    for (from, to) in pairs {
+        if at == whole.len() {
+            return false;
+        }
+        let (first, last) = whole[at];
+        if *from != first.max(low) || *to > last {
+            return false;
+        }
+        if *to < last {
+            low = *to + 1;
+            continue;
+        }
+        at += 1;
+        low = 0;
+    }
+    at == whole.len()
 }
 
 // The alternatives of a leaf that has the set.
 fn are_alts_well(alloc: Global, set: &VersionSet, alts: &[Alt]) -> Result<bool, AllocError>
     ensures { IfOk result (λ b. b ≡ are_alts_well (members (pairs_of set.now)) (map alt_view alts.now)) }
 {
-    Ok(
-        are_stamps_well(set, alts)?
-            && do_firsts_rise(set, alts)
-            && are_alts_parts(alloc, set, alts)?
-            && do_bodies_differ(alloc, alts)?,
-    )
+    if !are_stamps_well(set, alts) || !do_firsts_rise(set, alts) {
+        return Ok(false);
+    }
+    Ok(are_alts_parts(alloc, set, alts)? && do_bodies_differ(alloc, alts)?)
 }
 
-fn are_stamps_well(set: &VersionSet, alts: &[Alt]) -> Result<bool, AllocError>
-    ensures { IfOk result (λ b. b ≡ are_stamps_well (members (pairs_of set.now)) (map alt_view alts.now)) }
+fn are_stamps_well(set: &VersionSet, alts: &[Alt]) -> bool
+    ensures { result ≡ are_stamps_well (members (pairs_of set.now)) (map alt_view alts.now) }
 {
     for alt in alts {
-        if !is_stamp_well(&alt.stamp, set)? {
-            return Ok(false);
+        if !is_stamp_well(&alt.stamp, set) {
+            return false;
         }
     }
-    Ok(true)
+    true
 }
 
 fn do_firsts_rise(set: &VersionSet, alts: &[Alt]) -> bool
@@ -160,17 +195,13 @@ fn first_number(set: &VersionSet) -> u32
 }
 
 fn are_alts_parts(alloc: Global, set: &VersionSet, alts: &[Alt]) -> Result<bool, AllocError>
-    ensures { IfOk result (λ b. b ≡ are_parts [] (members (pairs_of set.now)) (alt_sets (members (pairs_of set.now)) (map alt_view alts.now))) }
+    ensures { IfOk result (λ b. b ≡ are_parts (members (pairs_of set.now)) (alt_sets (members (pairs_of set.now)) (map alt_view alts.now))) }
 {
-    let mut union = VersionSet::empty(alloc);
+    let mut parts = Vec::with_capacity(alloc, alts.len())?;
     for alt in alts {
-        let part = effective(&alt.stamp, set);
-        if !are_apart(&union, part)? {
-            return Ok(false);
-        }
-        union = union.union(part)?;
+        parts.push(effective(&alt.stamp, set))?;
     }
-    Ok(is_same(&union, set))
+    are_parts(alloc, set, &parts)
 }
 
 fn do_bodies_differ(alloc: Global, alts: &[Alt]) -> Result<bool, AllocError>
@@ -186,39 +217,26 @@ fn do_bodies_differ(alloc: Global, alts: &[Alt]) -> Result<bool, AllocError>
 }
 
 // A stored set is not empty, lies in the parent's and differs from it; without one the parent's is not empty.
-fn is_stamp_well(stamp: &Option<VersionSet>, parent: &VersionSet) -> Result<bool, AllocError>
-    ensures { IfOk result (λ b. b ≡ is_stamp_well (stamp_view stamp.now) (members (pairs_of parent.now))) }
+fn is_stamp_well(stamp: &Option<VersionSet>, parent: &VersionSet) -> bool
+    ensures { result ≡ is_stamp_well (stamp_view stamp.now) (members (pairs_of parent.now)) }
 {
     match stamp {
-        None => Ok(!is_empty(parent)),
+        None => !is_empty(parent),
         Some(set) => is_stored_well(set, parent),
     }
 }
 
 #[tactic(auto, using(crate::proofs::Tells::canonical))]
-fn is_stored_well(set: &VersionSet, parent: &VersionSet) -> Result<bool, AllocError>
-    ensures { IfOk result (λ b. b ≡ is_stamp_well (Some (pairs_of set.now)) (members (pairs_of parent.now))) }
+fn is_stored_well(set: &VersionSet, parent: &VersionSet) -> bool
+    ensures { result ≡ is_stamp_well (Some (pairs_of set.now)) (members (pairs_of parent.now)) }
 {
-    if is_empty(set) || is_same(set, parent) {
-        return Ok(false);
-    }
-    is_within(set, parent)
+    !is_empty(set) && !is_same(set, parent) && is_within(set, parent)
 }
 
-#[tactic(auto, using(crate::proofs::Tells::sets))]
-fn is_within(set: &VersionSet, other: &VersionSet) -> Result<bool, AllocError>
-    ensures { IfOk result (λ b. b ≡ list_all (has (members (pairs_of other.now))) (members (pairs_of set.now))) }
+fn is_within(set: &VersionSet, other: &VersionSet) -> bool
+    ensures { result ≡ list_all (has (members (pairs_of other.now))) (members (pairs_of set.now)) }
 {
-    let both = set.meet(other)?;
-    Ok(is_same(&both, set))
-}
-
-#[tactic(auto, using(crate::proofs::Tells::sets))]
-fn are_apart(one: &VersionSet, other: &VersionSet) -> Result<bool, AllocError>
-    ensures { IfOk result (λ b. b ≡ are_apart (members (pairs_of one.now)) (members (pairs_of other.now))) }
-{
-    let both = other.meet(one)?;
-    Ok(is_empty(&both))
+    set.is_within(other)
 }
 
 fn is_same(one: &VersionSet, other: &VersionSet) -> bool

@@ -3,8 +3,10 @@
 
 mod archive;
 mod check;
+mod laws;
 mod node;
 mod read;
 
 pub use archive::Archive;
+pub use laws::archives_stand_for_one_list;
 pub use node::{ANode, Alt, effective};

@@ -4,3 +4,4 @@ pub mod Ends
 pub mod Walks
 pub mod Moves
 pub mod Sets
+pub mod Inside

@@ -4,5 +4,6 @@
 mod pairs;
 mod set;
 mod text;
+mod within;
 
 pub use set::VersionSet;
