@@ -11,6 +11,7 @@ ghost use Rattle.record_format.specs.Reading.{attr_at, attrs_at, item_at, item_o
 ghost use Rattle.record_format.specs.Compares.{Compares, placed, ordered};
 
 use crate::lent::{lend_attr, lend_scalar};
+use crate::limits::DEEPEST;
 use jsonml_tree::{Attr, Content, Tree};
 use keyed_tree::KeyVal;
 use std::cmp::Ordering;
@@ -207,6 +208,6 @@ fn order_content_value(bytes: &[u8], at: usize, other: &KeyVal) -> Option<(Order
 {
     match other {
         KeyVal::Scalar(_) => Some((Ordering::Greater, at)),
-        KeyVal::Content(other) => order_content(120, bytes, at, other),
+        KeyVal::Content(other) => order_content(DEEPEST, bytes, at, other),
     }
 }
