@@ -12,7 +12,7 @@ ghost use Rattle.archive_tree.specs.ArchiveView.{archive_view};
 ghost use Rattle.archive_tree.specs.Stands.{AllAlike, ArchiveOf};
 ghost use Rattle.archive_file.specs.Faults.{IfDamage};
 ghost use Rattle.archive_file.specs.KeyedBy.{AreKeyedBy};
-ghost use Rattle.archive_file.specs.Laid.{Finds};
+ghost use Rattle.archive_file.specs.Laid.{are_nested, Finds};
 ghost use Rattle.archive_file.specs.Sound.{SoundAs};
 
 use crate::encode::encode_file;
@@ -61,6 +61,7 @@ pub fn decode_file(alloc: Global, bytes: &[u8]) -> Result<(Spec, Archive), FileF
 fn read_archive(alloc: Global, bytes: &[u8]) -> Result<(Spec, Archive), FileFault>
     ensures found { (rules : List PlainRule) (vs : List PlainKeyed) → SoundAs rules vs bytes.now → Finds result (λ r. (spec_view r.0 ≡ rules) × ArchiveOf vs (archive_view r.1)) }
     ensures few { IfOk result (λ r. (archive_view r.1).n ≤ 999999) }
+    ensures nested { IfOk result (λ r. IsTrue (are_nested 120 (archive_view r.1).kids)) }
 {
     let (spec, n, at) = read_header(alloc, bytes)?;
     let (kids, _) = read_row(alloc, bytes, at, DEEPEST)?;
