@@ -2,9 +2,8 @@
 //
 // What stands in the ENDs is not read: whoever asks for the nodes compares the bytes with those of the archive that they make.
 ghost use Rattle.std.specs.Prelude.{◌≡◌, ◌≤◌, ◌<◌, ◌∷◌, ℕ, List, [], length, drop, map, Some, None, IsTrue, IfOk, IfErr};
-ghost use Rattle.keyed_tree.specs.View.{label_view};
 ghost use Rattle.archive_tree.specs.Data.{PlainAlt, PlainNode, PlainNodes};
-ghost use Rattle.archive_tree.specs.View.{stamp_view, alt_view, node_view, nodes_view};
+ghost use Rattle.archive_tree.specs.View.{alt_view, node_view, nodes_view};
 ghost use Rattle.archive_tree.specs.WellFormed.{are_alts_well_formed, IsNodeWellFormed, AreNodesWellFormed};
 ghost use Rattle.record_format.specs.Bounds.{IsRec};
 ghost use Rattle.record_format.specs.Reading.{record_at};

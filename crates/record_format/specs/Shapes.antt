@@ -5,7 +5,7 @@ use Rattle.std.specs.List.{AllByRecursion}
 use Rattle.jsonml_tree.specs.Data.{PlainScalar, null, boolean, whole, string, PlainAttr, PlainTree, text, element, PlainContent, content, PlainTrees, no_trees, tree, list_of, content_depth}
 use Rattle.jsonml_tree.specs.WellFormed.{is_ascending}
 use Rattle.keyed_tree.specs.Data.{PlainKey, scalar, inside, PlainLabel}
-use Rattle.record_format.specs.Data.{PlainEntry, PlainDir}
+use Rattle.record_format.specs.Data.{PlainDir}
 use Rattle.record_format.specs.Bounds.{text_of, deepest, IsSet, IsEntry}
 
 -- ---- shapes: texts are UTF-8, numbers are in range, attributes ascend by name, and elements nest at most so deep

@@ -1,5 +1,5 @@
 // Whether values have an encoding.
-ghost use Rattle.std.specs.Prelude.{◌≡◌, ◌↔◌, ◌<◌, ◌^◌, length, map, Some, IsTrue};
+ghost use Rattle.std.specs.Prelude.{◌≡◌, ◌↔◌, map, Some, IsTrue};
 ghost use Rattle.jsonml_tree.specs.WellFormed.{is_ascending};
 ghost use Rattle.jsonml_tree.specs.View.{scalar_view, attr_view, tree_view, content_view, items_view};
 ghost use Rattle.keyed_tree.specs.View.{name_view, key_view, label_view};

@@ -6,7 +6,7 @@ ghost use Rattle.jsonml_tree.specs.Order.{attr_cmp, tree_cmp, content_cmp};
 ghost use Rattle.jsonml_tree.specs.View.{attr_view, tree_view, content_view};
 ghost use Rattle.keyed_tree.specs.Order.{key_cmp};
 ghost use Rattle.keyed_tree.specs.View.{key_view};
-ghost use Rattle.xa_fields.specs.Reading.{many_at, list_at};
+ghost use Rattle.xa_fields.specs.Reading.{many_at};
 ghost use Rattle.record_format.specs.Reading.{attr_at, attrs_at, item_at, item_of, content_at, content_below, value_of, value_at};
 ghost use Rattle.record_format.specs.Compares.{Compares, placed, ordered};
 
