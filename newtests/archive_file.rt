@@ -39,30 +39,30 @@ fn is_damage(alloc: Global, pieces: &[&[u8]]) -> Result<bool, AllocError> {
 
 #[test]
 fn the_pieces_are_a_sound_archive(rt: HostRuntime) -> Result<(), Fail> {
-    assert!(rt; is_sound(rt.alloc(), &[&HEADER, &LEAF, &ALT, &LEAF_END, &END, &TAIL])?);
+    assert!(rt; is_sound(rt.alloc(), &[HEADER.as_slice(), LEAF.as_slice(), ALT.as_slice(), LEAF_END.as_slice(), END.as_slice(), TAIL.as_slice()])?);
     Ok(())
 }
 
 #[test]
 fn a_row_has_nodes_alone(rt: HostRuntime) -> Result<(), Fail> {
     let alloc = rt.alloc();
-    assert!(rt; is_damage(alloc, &[&HEADER, &ALT, &END, &TAIL])?);
-    assert!(rt; is_damage(alloc, &[&HEADER, &LEAF_END, &END, &TAIL])?);
-    assert!(rt; is_damage(alloc, &[&HEADER, &LEAF, &ALT, &LEAF_END, &ALT, &END, &TAIL])?);
-    assert!(rt; is_damage(alloc, &[&HEADER, b"\0\0\0\0\0\0\0\0\0", &END, &TAIL])?);
-    assert!(rt; is_damage(alloc, &[&HEADER, b"\x06\0\0\0\0\0\0\0\0", &END, &TAIL])?);
-    assert!(rt; is_damage(alloc, &[&HEADER, &LEAF, &ALT, &LEAF_END, &TAIL])?);
+    assert!(rt; is_damage(alloc, &[HEADER.as_slice(), ALT.as_slice(), END.as_slice(), TAIL.as_slice()])?);
+    assert!(rt; is_damage(alloc, &[HEADER.as_slice(), LEAF_END.as_slice(), END.as_slice(), TAIL.as_slice()])?);
+    assert!(rt; is_damage(alloc, &[HEADER.as_slice(), LEAF.as_slice(), ALT.as_slice(), LEAF_END.as_slice(), ALT.as_slice(), END.as_slice(), TAIL.as_slice()])?);
+    assert!(rt; is_damage(alloc, &[HEADER.as_slice(), b"\0\0\0\0\0\0\0\0\0".as_slice(), END.as_slice(), TAIL.as_slice()])?);
+    assert!(rt; is_damage(alloc, &[HEADER.as_slice(), b"\x06\0\0\0\0\0\0\0\0".as_slice(), END.as_slice(), TAIL.as_slice()])?);
+    assert!(rt; is_damage(alloc, &[HEADER.as_slice(), LEAF.as_slice(), ALT.as_slice(), LEAF_END.as_slice(), TAIL.as_slice()])?);
     Ok(())
 }
 
 #[test]
 fn a_leaf_has_alternatives_alone(rt: HostRuntime) -> Result<(), Fail> {
     let alloc = rt.alloc();
-    assert!(rt; is_damage(alloc, &[&HEADER, &LEAF, &LEAF_END, &END, &TAIL])?);
-    assert!(rt; is_damage(alloc, &[&HEADER, &LEAF, &ALT, &INNER, &LEAF_END, &END, &TAIL])?);
-    assert!(rt; is_damage(alloc, &[&HEADER, &LEAF, &ALT, &LEAF, &LEAF_END, &END, &TAIL])?);
-    assert!(rt; is_damage(alloc, &[&HEADER, &LEAF, &ALT, &END, &LEAF_END, &END, &TAIL])?);
-    assert!(rt; is_damage(alloc, &[&HEADER, &LEAF, &ALT, b"\x05\0\0\0\0\0\0\0\x01\0", &END, &TAIL])?);
+    assert!(rt; is_damage(alloc, &[HEADER.as_slice(), LEAF.as_slice(), LEAF_END.as_slice(), END.as_slice(), TAIL.as_slice()])?);
+    assert!(rt; is_damage(alloc, &[HEADER.as_slice(), LEAF.as_slice(), ALT.as_slice(), INNER.as_slice(), LEAF_END.as_slice(), END.as_slice(), TAIL.as_slice()])?);
+    assert!(rt; is_damage(alloc, &[HEADER.as_slice(), LEAF.as_slice(), ALT.as_slice(), LEAF.as_slice(), LEAF_END.as_slice(), END.as_slice(), TAIL.as_slice()])?);
+    assert!(rt; is_damage(alloc, &[HEADER.as_slice(), LEAF.as_slice(), ALT.as_slice(), END.as_slice(), LEAF_END.as_slice(), END.as_slice(), TAIL.as_slice()])?);
+    assert!(rt; is_damage(alloc, &[HEADER.as_slice(), LEAF.as_slice(), ALT.as_slice(), b"\x05\0\0\0\0\0\0\0\x01\0".as_slice(), END.as_slice(), TAIL.as_slice()])?);
     Ok(())
 }
 
@@ -72,10 +72,10 @@ fn the_directory_is_that_of_the_row(rt: HostRuntime) -> Result<(), Fail> {
     let alloc = rt.alloc();
     let mut end = END;
     end[56] = 1;
-    assert!(rt; is_damage(alloc, &[&HEADER, &LEAF, &ALT, &LEAF_END, &end, &TAIL])?);
+    assert!(rt; is_damage(alloc, &[HEADER.as_slice(), LEAF.as_slice(), ALT.as_slice(), LEAF_END.as_slice(), end.as_slice(), TAIL.as_slice()])?);
     let none = *b"\x04\0\0\0\0\0\0\0\x04\0\0\0\0";
-    assert!(rt; is_damage(alloc, &[&HEADER, &LEAF, &ALT, &LEAF_END, &none, b"\0\0\0\0\0\0\0\x04"])?);
-    assert!(rt; is_damage(alloc, &[&HEADER, &LEAF, &ALT, &LEAF_END, &END, b"\0\0\0\0\0\0\0\x31"])?);
+    assert!(rt; is_damage(alloc, &[HEADER.as_slice(), LEAF.as_slice(), ALT.as_slice(), LEAF_END.as_slice(), none.as_slice(), b"\0\0\0\0\0\0\0\x04".as_slice()])?);
+    assert!(rt; is_damage(alloc, &[HEADER.as_slice(), LEAF.as_slice(), ALT.as_slice(), LEAF_END.as_slice(), END.as_slice(), b"\0\0\0\0\0\0\0\x31".as_slice()])?);
     Ok(())
 }
 
@@ -84,17 +84,17 @@ fn a_header_has_its_fields(rt: HostRuntime) -> Result<(), Fail> {
     let alloc = rt.alloc();
     let mut other = HEADER;
     other[4] = b'2';
-    assert!(rt; is_damage(alloc, &[&other, &LEAF, &ALT, &LEAF_END, &END, &TAIL])?);
+    assert!(rt; is_damage(alloc, &[other.as_slice(), LEAF.as_slice(), ALT.as_slice(), LEAF_END.as_slice(), END.as_slice(), TAIL.as_slice()])?);
     let mut long = HEADER;
     for place in 6..10 {
         long[place] = 255;
     }
-    assert!(rt; is_damage(alloc, &[&long, &LEAF, &ALT, &LEAF_END, &END, &TAIL])?);
+    assert!(rt; is_damage(alloc, &[long.as_slice(), LEAF.as_slice(), ALT.as_slice(), LEAF_END.as_slice(), END.as_slice(), TAIL.as_slice()])?);
     let mut many = HEADER;
     many[25] = 15;
     many[26] = 66;
     many[27] = 64;
-    assert!(rt; is_damage(alloc, &[&many, &LEAF, &ALT, &LEAF_END, &END, &TAIL])?);
+    assert!(rt; is_damage(alloc, &[many.as_slice(), LEAF.as_slice(), ALT.as_slice(), LEAF_END.as_slice(), END.as_slice(), TAIL.as_slice()])?);
     Ok(())
 }
 
@@ -103,18 +103,18 @@ fn a_header_has_its_fields(rt: HostRuntime) -> Result<(), Fail> {
 fn the_specification_is_canonical(rt: HostRuntime) -> Result<(), Fail> {
     let alloc = rt.alloc();
     let blank = *b"XARC1\n\0\0\0\x0f(/, (db, {}))\n\n\0\0\0\x01";
-    assert!(rt; is_damage(alloc, &[&blank, &LEAF, &ALT, &LEAF_END, &END, &TAIL])?);
+    assert!(rt; is_damage(alloc, &[blank.as_slice(), LEAF.as_slice(), ALT.as_slice(), LEAF_END.as_slice(), END.as_slice(), TAIL.as_slice()])?);
     let bare = *b"XARC1\n\0\0\0\x0d(/, (db, {}))\0\0\0\x01";
-    assert!(rt; is_damage(alloc, &[&bare, &LEAF, &ALT, &LEAF_END, &END, &TAIL])?);
+    assert!(rt; is_damage(alloc, &[bare.as_slice(), LEAF.as_slice(), ALT.as_slice(), LEAF_END.as_slice(), END.as_slice(), TAIL.as_slice()])?);
     let none = *b"XARC1\n\0\0\0\0\0\0\0\x01";
-    assert!(rt; is_damage(alloc, &[&none, &LEAF, &ALT, &LEAF_END, &END, &TAIL])?);
+    assert!(rt; is_damage(alloc, &[none.as_slice(), LEAF.as_slice(), ALT.as_slice(), LEAF_END.as_slice(), END.as_slice(), TAIL.as_slice()])?);
     Ok(())
 }
 
 // Each may be open where the file ends.
 #[test]
 fn no_more_than_120_inner_nodes_are_open(rt: HostRuntime) -> Result<(), Fail> {
-    let mut bytes = joined(rt.alloc(), &[&HEADER])?;
+    let mut bytes = joined(rt.alloc(), &[HEADER.as_slice()])?;
     for _ in 0..121 {
         bytes.extend_from_slice(&INNER)?;
     }
@@ -134,21 +134,21 @@ fn counts_in_a_file_are_not_trusted(rt: HostRuntime) -> Result<(), Fail> {
     for place in 16..20 {
         keys[place] = 255;
     }
-    assert!(rt; is_damage(alloc, &[&HEADER, &keys, &ALT, &LEAF_END, &END, &TAIL])?);
+    assert!(rt; is_damage(alloc, &[HEADER.as_slice(), keys.as_slice(), ALT.as_slice(), LEAF_END.as_slice(), END.as_slice(), TAIL.as_slice()])?);
     let mut attrs = ALT;
     for place in 11..15 {
         attrs[place] = 255;
     }
-    assert!(rt; is_damage(alloc, &[&HEADER, &LEAF, &attrs, &LEAF_END, &END, &TAIL])?);
+    assert!(rt; is_damage(alloc, &[HEADER.as_slice(), LEAF.as_slice(), attrs.as_slice(), LEAF_END.as_slice(), END.as_slice(), TAIL.as_slice()])?);
     let mut items = ALT;
     for place in 15..19 {
         items[place] = 255;
     }
-    assert!(rt; is_damage(alloc, &[&HEADER, &LEAF, &items, &LEAF_END, &END, &TAIL])?);
+    assert!(rt; is_damage(alloc, &[HEADER.as_slice(), LEAF.as_slice(), items.as_slice(), LEAF_END.as_slice(), END.as_slice(), TAIL.as_slice()])?);
     let mut children = END;
     for place in 9..13 {
         children[place] = 255;
     }
-    assert!(rt; is_damage(alloc, &[&HEADER, &LEAF, &ALT, &LEAF_END, &children, &TAIL])?);
+    assert!(rt; is_damage(alloc, &[HEADER.as_slice(), LEAF.as_slice(), ALT.as_slice(), LEAF_END.as_slice(), children.as_slice(), TAIL.as_slice()])?);
     Ok(())
 }
