@@ -17,11 +17,12 @@ use Rattle.record_format.specs.Nodes.{Piece, piece_bytes, entries_from, dir_of, 
 use Rattle.record_format.specs.Files.{root_pieces, file_records, tail_bytes, header_bytes, file_bytes, longest, HasFile}
 use Rattle.archive_tree.specs.View.{node_view, nodes_view}
 use Rattle.archive_tree.specs.declared.node.ANode.{ANode}
-use Rattle.record_format.specs.Checks.{value_fits, label_fits}
+use Rattle.record_format.specs.Checks.{value_fits, label_fits, stamp_fits}
 use Rattle.record_format.proofs.Encodable.{label_there, label_back, value_there, value_back}
-use Rattle.archive_file.specs.Goes.{fits_four, stamp_goes, alts_go, node_goes, nodes_go, row_goes, HasBody, HasParts, HaveParts}
-use Rattle.archive_file.proofs.FrontLaws.{canonical-short}
-use Rattle.archive_file.proofs.GoesLaws.{both-hold, lt-of, of-lt, stamp-goes, goes-stamp}
+use Rattle.record_format.proofs.HeaderLaws.{canonical_short}
+use Rattle.record_format.proofs.Sets.{stamp_there, stamp_back}
+use Rattle.archive_file.specs.Goes.{fits_four, alts_go, node_goes, nodes_go, row_goes, HasBody, HasParts, HaveParts}
+use Rattle.archive_file.proofs.GoesLaws.{both-hold, lt-of, of-lt}
 
 -- ---- lists
 
@@ -127,18 +128,18 @@ set-in (Some s) parent h g = h.0
 alts-fit : (xs : List PlainAlt) → IsTrue (alts_go xs) → length (flat_map rec_bytes (map alt_of xs ++ leaf_end ∷ [])) < 2 ^ 64 → AllByRecursion IsRec (map alt_of xs ++ leaf_end ∷ [])
 alts-fit [] h g = (record { body = tt; short = omega arith }, tt)
 alts-fit (x ∷ xs) h g =
-    let one = both (stamp_goes x.stamp) (value_fits x.body && alts_go xs) h in
+    let one = both (stamp_fits x.stamp) (value_fits x.body && alts_go xs) h in
     let two = both (value_fits x.body) (alts_go xs) one.1 in
     let whole = length-append (rec_bytes (alt_of x)) (flat_map rec_bytes (map alt_of xs ++ leaf_end ∷ [])) in
     let first = rec-length (alt_of x) in
-    (record { body = (stamp-goes x.stamp one.0, value_there x.body two.0); short = omega arith }, alts-fit xs two.1 (omega arith))
+    (record { body = (stamp_there x.stamp one.0, value_there x.body two.0); short = omega arith }, alts-fit xs two.1 (omega arith))
 
 mutual
   node-fine : (parent : List (ℕ × ℕ)) (k : PlainNode) → IsSet parent → IsTrue (node_goes k) → length (piece_bytes (node_piece parent k)) < 2 ^ 64 → Fine (node_piece parent k)
   node-fine parent (leaf_node l s xs) set h g =
-      let one = both (label_fits l) (stamp_goes s && alts_go xs) h in
-      let two = both (stamp_goes s) (alts_go xs) one.1 in
-      let stamp = stamp-goes s two.0 in
+      let one = both (label_fits l) (stamp_fits s && alts_go xs) h in
+      let two = both (stamp_fits s) (alts_go xs) one.1 in
+      let stamp = stamp_there s two.0 in
       let whole = length-append (rec_bytes (leaf_rec l s)) (flat_map rec_bytes (map alt_of xs ++ leaf_end ∷ [])) in
       let first = rec-length (leaf_rec l s) in
       record {
@@ -147,10 +148,10 @@ mutual
         set = set-in s parent stamp set;
       }
   node-fine parent (inner_node l s ks) set h g =
-      let one = both (label_fits l) (stamp_goes s && (fits_four (length (nodes_list ks)) && nodes_go ks)) h in
-      let two = both (stamp_goes s) (fits_four (length (nodes_list ks)) && nodes_go ks) one.1 in
+      let one = both (label_fits l) (stamp_fits s && (fits_four (length (nodes_list ks)) && nodes_go ks)) h in
+      let two = both (stamp_fits s) (fits_four (length (nodes_list ks)) && nodes_go ks) one.1 in
       let three = both (fits_four (length (nodes_list ks))) (nodes_go ks) two.1 in
-      let stamp = stamp-goes s two.0 in
+      let stamp = stamp_there s two.0 in
       let own = set-in s parent stamp set in
       let ps = node_pieces (set_in s parent) ks in
       let end = end_rec (dir_of ps) in
@@ -179,7 +180,7 @@ mutual
 alts-from : (xs : List PlainAlt) → AllByRecursion IsRec (map alt_of xs ++ leaf_end ∷ []) → IsTrue (alts_go xs)
 alts-from [] h = refl
 alts-from (x ∷ xs) h =
-    both-hold (stamp_goes x.stamp) (value_fits x.body && alts_go xs) (goes-stamp x.stamp h.0.body.0)
+    both-hold (stamp_fits x.stamp) (value_fits x.body && alts_go xs) (stamp_back x.stamp h.0.body.0)
     (both-hold (value_fits x.body) (alts_go xs) (value_back x.body h.0.body.1) (alts-from xs h.1))
 
 pub few-from : (set : List (ℕ × ℕ)) (ks : PlainNodes) → AllByRecursion IsRec (closed_by_end (node_pieces set ks)) → IsTrue (fits_four (length (nodes_list ks)))
@@ -195,13 +196,13 @@ few-from set ks h =
 mutual
   node-from : (parent : List (ℕ × ℕ)) (k : PlainNode) → AllByRecursion IsRec ((node_piece parent k).records) → IsTrue (node_goes k)
   node-from parent (leaf_node l s xs) h =
-      both-hold (label_fits l) (stamp_goes s && alts_go xs) (label_back l h.0.body.0)
-      (both-hold (stamp_goes s) (alts_go xs) (goes-stamp s h.0.body.1) (alts-from xs h.1))
+      both-hold (label_fits l) (stamp_fits s && alts_go xs) (label_back l h.0.body.0)
+      (both-hold (stamp_fits s) (alts_go xs) (stamp_back s h.0.body.1) (alts-from xs h.1))
   node-from parent (inner_node l s ks) h =
       let ps = node_pieces (set_in s parent) ks in
       let kids = all-front IsRec (records_of ps) (end_rec (dir_of ps) ∷ []) h.1 in
-      both-hold (label_fits l) (stamp_goes s && (fits_four (length (nodes_list ks)) && nodes_go ks)) (label_back l h.0.body.0)
-      (both-hold (stamp_goes s) (fits_four (length (nodes_list ks)) && nodes_go ks) (goes-stamp s h.0.body.1)
+      both-hold (label_fits l) (stamp_fits s && (fits_four (length (nodes_list ks)) && nodes_go ks)) (label_back l h.0.body.0)
+      (both-hold (stamp_fits s) (fits_four (length (nodes_list ks)) && nodes_go ks) (stamp_back s h.0.body.1)
       (both-hold (fits_four (length (nodes_list ks))) (nodes_go ks) (few-from (set_in s parent) ks h.1) (nodes-from (set_in s parent) ks kids)))
 
   nodes-from : (parent : List (ℕ × ℕ)) (ks : PlainNodes) → AllByRecursion IsRec (records_of (node_pieces parent ks)) → IsTrue (nodes_go ks)
@@ -236,7 +237,7 @@ has-file rules a spec few goes short =
     let body = length-append (flat_map rec_bytes (file_records a)) (tail_bytes a) in
     let row = ap length (closed-bytes ps) ∙ length-append (flat_map piece_bytes ps) (rec_bytes end) in
     let fine = nodes-fine (upto_pairs a.n) a.kids (upto-set a.n few) two.1 (omega arith) in
-    let text = canonical-short (canonical rules) rules spec in
+    let text = canonical_short (canonical rules) rules spec in
     record { text = omega arith; count = few; records = closed-fits ps fine (omega arith) (omega arith); short = short }
 
 pub file-goes : (rules : List PlainRule) (a : PlainArchive) → HasFile rules a → IsTrue (row_goes a.kids)
@@ -252,20 +253,20 @@ pieces-map set (x ∷ xs) = ap (λ (ps : List Piece). node_piece set (node_view 
 bodies-go : (xs : List PlainAlt) → IsTrue (alts_go xs) → AllByRecursion HasBody xs
 bodies-go [] h = tt
 bodies-go (x ∷ xs) h =
-    let one = both (stamp_goes x.stamp) (value_fits x.body && alts_go xs) h in
+    let one = both (stamp_fits x.stamp) (value_fits x.body && alts_go xs) h in
     let two = both (value_fits x.body) (alts_go xs) one.1 in
     (value_there x.body two.0, bodies-go xs two.1)
 
 mutual
   parts-of : (k : PlainNode) → IsTrue (node_goes k) → HasParts k
   parts-of (inner_node l s ks) h =
-      let one = both (label_fits l) (stamp_goes s && (fits_four (length (nodes_list ks)) && nodes_go ks)) h in
-      let two = both (stamp_goes s) (fits_four (length (nodes_list ks)) && nodes_go ks) one.1 in
+      let one = both (label_fits l) (stamp_fits s && (fits_four (length (nodes_list ks)) && nodes_go ks)) h in
+      let two = both (stamp_fits s) (fits_four (length (nodes_list ks)) && nodes_go ks) one.1 in
       let three = both (fits_four (length (nodes_list ks))) (nodes_go ks) two.1 in
       (label_there l one.0, lt-of (length (nodes_list ks)) (2 ^ 32) three.0, parts-of-each ks three.1)
   parts-of (leaf_node l s xs) h =
-      let one = both (label_fits l) (stamp_goes s && alts_go xs) h in
-      let two = both (stamp_goes s) (alts_go xs) one.1 in
+      let one = both (label_fits l) (stamp_fits s && alts_go xs) h in
+      let two = both (stamp_fits s) (alts_go xs) one.1 in
       (label_there l one.0, bodies-go xs two.1)
 
   parts-of-each : (ks : PlainNodes) → IsTrue (nodes_go ks) → HaveParts ks

@@ -3,11 +3,13 @@ use Rattle.std.proofs.Common.{◌≡◌, ◌≤◌, ℕ, zero, suc, true, List, 
 use Rattle.std.specs.Prelude.{nat_le}
 use Rattle.std.proofs.lemmas.Bool.Decides.{nat_tests}
 use Rattle.std.specs.Result.{IsOk}
+use Rattle.std.specs.List.{AllByRecursion}
 use Rattle.jsonml_tree.specs.Data.{PlainTree, text, element, PlainContent, tree_depth}
 use Rattle.jsonml_tree.specs.Fits.{IsElement}
 use Rattle.jsonml_tree.specs.WellFormed.{IsWellFormed}
 use Rattle.keyed_tree.specs.Data.{PlainKeyed, label_of}
 use Rattle.keyed_tree.specs.Plain.{plain}
+use Rattle.keyed_tree.specs.Proper.{IsProper}
 use Rattle.keyed_tree.specs.WellFormed.{IsKeyedWellFormed}
 use Rattle.keyed_tree.proofs.PlainLemmas.{plain_well_formed}
 use Rattle.key_spec.specs.Data.{PlainRule}
@@ -20,7 +22,8 @@ use Rattle.key_annotate.specs.Stands.{Stands}
 use Rattle.key_annotate.proofs.ProperLemmas.{keyed-proper, keyed_tree-depth}
 use Rattle.key_annotate.proofs.Unique.{keyed_tree-one}
 use Rattle.archive_file.specs.Fits.{fits}
-use Rattle.archive_file.specs.KeyedBy.{IsKeyedBy}
+use Rattle.archive_file.specs.KeyedBy.{IsKeyedBy, AreKeyedBy}
+use Rattle.archive_file.specs.Sound.{SoundAs}
 use Rattle.archive_file.proofs.FitsLaws.{content-fits, inside_of, tag_of, plain-is, stands-at}
 use Rattle.archive_file.proofs.Ways.{PathsLead}
 
@@ -78,3 +81,21 @@ fit-keyed rules lead k well h =
 -- the keyed tree of a document that satisfies the rules and is not too deep is keyed by them
 pub stands-keyed : (rules : List PlainRule) (t : PlainTree) (k : PlainKeyed) → IsElement t → IsWellFormed t → tree_depth t ≤ 120 → Stands rules t k → IsKeyedBy rules k
 stands-keyed rules t k e w d h = record { document = t; element = e; well_formed = w; shallow = d; satisfies = h.satisfies; stands = h.keyed }
+
+-- ---- what is keyed is proper, and spells a document that is not too deep
+
+keyed-plain : (rules : List PlainRule) (k : PlainKeyed) → IsKeyedBy rules k → IsProper k × (tree_depth (plain k) ≤ 120)
+keyed-plain rules k h =
+    let t = h.document in
+    let same = keyed_tree-one rules t k h.well_formed h.satisfies h.stands in
+    let depth = keyed_tree-depth rules t h.element in
+    let shallow : tree_depth t ≤ 120 = h.shallow in
+    let short : tree_depth (plain (keyed_tree rules t)) ≤ 120 = omega arith in
+    (keyed-proper rules t k h.stands, subst (λ z. tree_depth (plain z) ≤ 120) (sym same) short)
+
+all-plain : (rules : List PlainRule) (vs : List PlainKeyed) → AreKeyedBy rules vs → AllByRecursion (λ v. IsProper v × (tree_depth (plain v) ≤ 120)) vs
+all-plain rules [] h = tt
+all-plain rules (v ∷ vs) h = (keyed-plain rules v h.0, all-plain rules vs h.1)
+
+pub sound-plain : (rules : List PlainRule) (vs : List PlainKeyed) (bytes : List ℕ) → SoundAs rules vs bytes → AllByRecursion (λ v. IsProper v × (tree_depth (plain v) ≤ 120)) vs
+sound-plain rules vs bytes s = all-plain rules vs s.keyed

@@ -6,7 +6,6 @@ pub mod Nodes
 pub mod AllVersions
 pub mod KeyedLaws
 pub mod AlikeLaws
-pub mod Growing
 pub mod ClosedWays
 pub mod ArchiveKeyed
 pub mod FrontLaws

@@ -1,5 +1,5 @@
 -- What the writing of nodes and files needs.
-use Rattle.std.proofs.Common.{◌≡◌, ℕ, suc, ◌+◌, ◌-◌, ◌^◌, ◌<◌, ◌≤◌, false, List, [], ◌∷◌, ◌++◌, map, take, drop, length, get_or, drop-cons, Some, None, Result, Ok, Err, unwrap_or, refl, sym, ap, subst, ◌∙◌, append_assoc, arith}
+use Rattle.std.proofs.Common.{◌≡◌, ℕ, suc, ◌+◌, ◌-◌, ◌^◌, ◌<◌, ◌≤◌, false, List, [], ◌∷◌, ◌++◌, map, take, drop, length, get_or, drop-cons, Some, None, Result, Ok, Err, IfOk, unwrap_or, refl, sym, ap, subst, ◌∙◌, append_assoc, arith}
 use Rattle.std.specs.List.{flat_map}
 use Rattle.std.specs.Result.{OnOk}
 use Rattle.std.proofs.lemmas.Bool.{true≢false}
@@ -23,6 +23,10 @@ use Rattle.archive_file.proofs.FileLaws.{closed-bytes, one-record, entries-more,
 pub on-ok : {X E P Q : Type 0} (r : Result X E) → (P → Q) → OnOk r P → OnOk r Q
 on-ok (Ok x) f h = f h
 on-ok (Err e) f h = tt
+
+pub if-ok : {X E : Type 0} {P Q : X → Type 0} (r : Result X E) → ((x : X) → P x → Q x) → IfOk r P → IfOk r Q
+if-ok (Ok x) f h = f x h
+if-ok (Err e) f h = tt
 
 pub view-length : (xs : List ANode) → length (nodes_list (nodes_view xs)) ≡ length xs
 view-length [] = refl
@@ -65,6 +69,14 @@ leaf-bytes old one two three parent n l s xs e f g h =
     let tail : flat_map rec_bytes (map alt_of xs ++ leaf_end ∷ []) ≡ both = flat_map-append rec_bytes (map alt_of xs) (leaf_end ∷ []) ∙ ap (λ (z : List ℕ). alts ++ z) (one-record leaf_end) in
     h ∙ ap (λ (z : List ℕ). z ++ end) g ∙ append_assoc one alts end ∙ ap (λ (z : List ℕ). z ++ both) f ∙ append_assoc old (rec_bytes (leaf_rec l s)) both
     ∙ ap (λ (z : List ℕ). old ++ (rec_bytes (leaf_rec l s) ++ z)) (sym tail) ∙ ap (λ (k : PlainNode). old ++ piece_bytes (node_piece parent k)) (sym e)
+
+pub leaf-dir : (parent : List (ℕ × ℕ)) (n : PlainNode) (l : PlainLabel) (s : Stamp) (xs : List PlainAlt) → n ≡ leaf_node l s xs → 0 ≡ (node_piece parent n).dir
+leaf-dir parent n l s xs e = ap (λ (k : PlainNode). (node_piece parent k).dir) (sym e)
+
+pub row-dir : (one two : List ℕ) (m n : ℕ) (ps : List Piece) (d : PlainDir) → d ≡ dir_of ps → two ≡ one ++ rec_bytes (end_rec d) → m ≡ length two → n ≡ length one → m - n - 9 ≡ length (dir_bytes (dir_of ps))
+row-dir one two m n ps d f g long short =
+    let size : m - n - 9 ≡ length (dir_bytes d) = omega (arith, ap length g, length-append one (rec_bytes (end_rec d))) in
+    size ∙ ap (λ (z : PlainDir). length (dir_bytes z)) f
 
 pub row-bytes : (old one two : List ℕ) (ps : List Piece) (d : PlainDir) → one ≡ old ++ flat_map piece_bytes ps → d ≡ dir_of ps → two ≡ one ++ rec_bytes (end_rec d) → two ≡ old ++ flat_map rec_bytes (closed_by_end ps)
 row-bytes old one two ps d e f g =

@@ -10,6 +10,7 @@ use Rattle.archive_tree.specs.Data.{PlainAlt, PlainNode, nodes_from}
 use Rattle.archive_tree.specs.WellFormed.{are_alts_well_formed, is_node_well_formed, are_nodes_well_formed}
 use Rattle.record_format.specs.Bounds.{IsScalar, IsAttr, IsItem, IsInside, AreItems, IsValue, IsLabel}
 use Rattle.keyed_tree.proofs.Kids.{both}
+use Rattle.archive_file.specs.Laid.{is_nested, are_nested}
 use Rattle.archive_file.proofs.GoesLaws.{both-hold}
 
 range-pos : (n : ℕ) → n < 2 ^ 64 → IsTrue (is_in_range (whole (pos n)))
@@ -64,3 +65,10 @@ nodes-more [] k h g = both-hold (is_node_well_formed k) true g refl
 nodes-more (j ∷ ks) k h g =
     let two = both (is_node_well_formed j) (are_nodes_well_formed (nodes_from ks)) h in
     both-hold (is_node_well_formed j) (are_nodes_well_formed (nodes_from (ks ++ k ∷ []))) two.0 (nodes-more ks k two.1 g)
+
+-- one more node that nests no deeper
+pub nested-more : (d : ℕ) (ks : List PlainNode) (k : PlainNode) → IsTrue (are_nested d (nodes_from ks)) → IsTrue (is_nested d k) → IsTrue (are_nested d (nodes_from (ks ++ k ∷ [])))
+nested-more d [] k h g = both-hold (is_nested d k) true g refl
+nested-more d (j ∷ ks) k h g =
+    let two = both (is_nested d j) (are_nested d (nodes_from ks)) h in
+    both-hold (is_nested d j) (are_nested d (nodes_from (ks ++ k ∷ []))) two.0 (nested-more d ks k two.1 g)

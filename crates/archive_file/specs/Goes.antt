@@ -1,32 +1,22 @@
 -- Which nodes go into the fields of a file, as tests.
-use Rattle.std.specs.Prelude.{ℕ, ◌^◌, Bool, true, false, ◌&&◌, nat_lt, nat_le, List, [], ◌∷◌, length, Some, None, ⊤, ◌<◌}
+use Rattle.std.specs.Prelude.{ℕ, ◌^◌, Bool, true, ◌&&◌, nat_lt, List, [], ◌∷◌, length, ⊤, ◌<◌}
 use Rattle.std.specs.List.{AllByRecursion}
-use Rattle.archive_tree.specs.Data.{Stamp, PlainAlt, PlainNode, inner_node, leaf_node, PlainNodes, no_nodes, node, nodes_list}
-use Rattle.version_set.specs.Pairs.{last_of}
-use Rattle.archive_tree.specs.PartsTest.{is_from}
-use Rattle.record_format.specs.Bounds.{most, IsValue, IsLabel}
-use Rattle.record_format.specs.Checks.{value_fits, label_fits}
+use Rattle.archive_tree.specs.Data.{PlainAlt, PlainNode, inner_node, leaf_node, PlainNodes, no_nodes, node, nodes_list}
+use Rattle.record_format.specs.Bounds.{IsValue, IsLabel}
+use Rattle.record_format.specs.Checks.{value_fits, label_fits, stamp_fits}
 
 -- the number fits four bytes
 abbrev pub fits_four : ℕ → Bool
 fits_four n = nat_lt n (2 ^ 32)
 
-abbrev pub is_some_set : List (ℕ × ℕ) → Bool
-is_some_set [] = false
-is_some_set (p ∷ ps) = true
-
-abbrev pub stamp_goes : Stamp → Bool
-stamp_goes None = true
-stamp_goes (Some s) = is_from 1 s && (is_some_set s && nat_le (last_of s) most)
-
 abbrev pub alts_go : List PlainAlt → Bool
 alts_go [] = true
-alts_go (x ∷ xs) = stamp_goes x.stamp && (value_fits x.body && alts_go xs)
+alts_go (x ∷ xs) = stamp_fits x.stamp && (value_fits x.body && alts_go xs)
 
 abbrev mutual
   pub node_goes : PlainNode → Bool
-  node_goes (inner_node l s ks) = label_fits l && (stamp_goes s && (fits_four (length (nodes_list ks)) && nodes_go ks))
-  node_goes (leaf_node l s xs) = label_fits l && (stamp_goes s && alts_go xs)
+  node_goes (inner_node l s ks) = label_fits l && (stamp_fits s && (fits_four (length (nodes_list ks)) && nodes_go ks))
+  node_goes (leaf_node l s xs) = label_fits l && (stamp_fits s && alts_go xs)
 
   pub nodes_go : PlainNodes → Bool
   nodes_go no_nodes = true

@@ -1,16 +1,18 @@
 // The archive of a file.
 ghost use Rattle.std.specs.Prelude.{◌≡◌, ◌≤◌, ℕ, List, IsTrue, bytes_eq, IfOk, IfErr};
 ghost use Rattle.std.specs.List.{AllByRecursion};
+ghost use Rattle.jsonml_tree.specs.Data.{tree_depth};
 ghost use Rattle.jsonml_tree.specs.Fits.{ItemsFit};
 ghost use Rattle.key_spec.specs.Data.{PlainRule};
 ghost use Rattle.key_spec.specs.View.{spec_view};
 ghost use Rattle.keyed_tree.specs.Data.{PlainKeyed};
 ghost use Rattle.keyed_tree.specs.Plain.{plain};
+ghost use Rattle.keyed_tree.specs.Proper.{IsProper};
 ghost use Rattle.archive_tree.specs.ArchiveView.{archive_view};
 ghost use Rattle.archive_tree.specs.Stands.{AllAlike, ArchiveOf};
 ghost use Rattle.archive_file.specs.Faults.{IfDamage};
 ghost use Rattle.archive_file.specs.KeyedBy.{AreKeyedBy};
-ghost use Rattle.archive_file.specs.Laid.{Finds};
+ghost use Rattle.archive_file.specs.Laid.{are_nested, Finds};
 ghost use Rattle.archive_file.specs.Sound.{SoundAs};
 
 use crate::encode::encode_file;
@@ -20,10 +22,8 @@ use crate::keyedness::is_keyed;
 use crate::reading::read_row;
 use archive_tree::Archive;
 use key_spec::Spec;
+use record_format::DEEPEST;
 use std::alloc::{AllocError, Global};
-
-/// Inner nodes nest at most so deep.
-const MAX_DEPTH: u32 = 120;
 
 /// The specification and the archive of a file, or Damage where the bytes are no sound archive.
 ///
@@ -39,6 +39,9 @@ pub fn decode_file(alloc: Global, bytes: &[u8]) -> Result<(Spec, Archive), FileF
 
     // No element of a version has more than 4,294,967,295 items.
     ensures items { (rules : List PlainRule) (vs : List PlainKeyed) → SoundAs rules vs bytes.now → AllByRecursion (λ v. ItemsFit (plain v)) vs }
+
+    // Each version is proper, and as a document no deeper than others.
+    ensures plain { (rules : List PlainRule) (vs : List PlainKeyed) → SoundAs rules vs bytes.now → AllByRecursion (λ v. IsProper v × (tree_depth (plain v) ≤ 120)) vs }
 
     // It can be written again.
     ensures few { IfOk result (λ r. (archive_view r.1).n ≤ 999999) }
@@ -58,9 +61,10 @@ pub fn decode_file(alloc: Global, bytes: &[u8]) -> Result<(Spec, Archive), FileF
 fn read_archive(alloc: Global, bytes: &[u8]) -> Result<(Spec, Archive), FileFault>
     ensures found { (rules : List PlainRule) (vs : List PlainKeyed) → SoundAs rules vs bytes.now → Finds result (λ r. (spec_view r.0 ≡ rules) × ArchiveOf vs (archive_view r.1)) }
     ensures few { IfOk result (λ r. (archive_view r.1).n ≤ 999999) }
+    ensures nested { IfOk result (λ r. IsTrue (are_nested 120 (archive_view r.1).kids)) }
 {
     let (spec, n, at) = read_header(alloc, bytes)?;
-    let (kids, _) = read_row(alloc, bytes, at, MAX_DEPTH)?;
+    let (kids, _) = read_row(alloc, bytes, at, DEEPEST)?;
     match Archive::of_parts(alloc, n, kids)? {
         Some(archive) => Ok((spec, archive)),
         None => Err(FileFault::Damage),

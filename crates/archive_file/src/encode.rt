@@ -10,11 +10,10 @@ ghost use Rattle.archive_tree.specs.ArchiveView.{archive_view};
 ghost use Rattle.archive_tree.specs.Data.{nodes_list};
 ghost use Rattle.archive_tree.specs.Stands.{ArchiveOf};
 ghost use Rattle.archive_tree.specs.View.{alt_view, node_view, nodes_view};
-ghost use Rattle.xa_fields.specs.Spelling.{u32_bytes, text_bytes};
 ghost use Rattle.record_format.specs.View.{entry_view, dir_view};
 ghost use Rattle.record_format.specs.Spelling.{rec_bytes, dir_bytes};
 ghost use Rattle.record_format.specs.Nodes.{piece_bytes, dir_of, closed_by_end, alt_of, node_piece, node_pieces};
-ghost use Rattle.record_format.specs.Files.{header_bytes, file_bytes, FileOf};
+ghost use Rattle.record_format.specs.Files.{file_bytes, FileOf};
 ghost use Rattle.archive_file.specs.KeyedBy.{AreKeyedBy};
 ghost use Rattle.archive_file.specs.Goes.{HasBody, HasParts, HaveParts};
 ghost use Rattle.archive_file.specs.Faults.{IfTooLong};
@@ -23,13 +22,12 @@ use crate::fault::EncodeFault;
 use crate::goes::row_goes;
 use archive_tree::{ANode, Alt, Archive, effective};
 use key_spec::Spec;
-use record_format::{Dir, Entry, put_alt, put_end, put_inner, put_leaf, put_leaf_end};
+use record_format::{
+    Dir, Entry, put_alt, put_end, put_header, put_inner, put_leaf, put_leaf_end,
+};
 use std::alloc::{AllocError, Global};
 use version_set::VersionSet;
-use xa_fields::{put_text, put_u32, put_u64};
-
-/// The first bytes of each archive file.
-const MAGIC: [u8; 6] = *b"XARC1\n";
+use xa_fields::put_u64;
 
 /// An archive file has at most so many bytes.
 const LONGEST: usize = 274_877_906_944;
@@ -67,16 +65,6 @@ fn file_of(alloc: Global, spec: &Spec, archive: &Archive) -> Result<Vec<u8>, All
     let dir = put_row(alloc, &mut out, &all, archive.kids())?;
     put_u64(&mut out, dir)?;
     Ok(out)
-}
-
-fn put_header(alloc: Global, out: &mut Vec<u8>, spec: &Spec, n: u32) -> Result<(), AllocError>
-    ensures bytes { OnOk result (out.new.items ≡ out.old.items ++ header_bytes (spec_view spec.now) n) }
-    ensures spec { OnOk result (closed (canonical (spec_view spec.now)) ≡ Ok (spec_view spec.now)) }
-{
-    let text = spec.text(alloc)?;
-    out.extend_from_slice(&MAGIC)?;
-    put_text(out, text.as_str())?;
-    put_u32(out, n)
 }
 
 // The records of the kids of a node that has the set, and the END behind them. It answers the length of the END's body.

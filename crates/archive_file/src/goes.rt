@@ -1,40 +1,19 @@
 // Which nodes go into the fields of a file.
-ghost use Rattle.std.specs.Prelude.{◌≡◌, map, Some};
-ghost use Rattle.version_set.specs.View.{pairs_of};
-ghost use Rattle.archive_tree.specs.View.{stamp_view, alt_view, node_view, nodes_view};
-ghost use Rattle.archive_file.specs.Goes.{stamp_goes, alts_go, node_goes, nodes_go, row_goes};
+ghost use Rattle.std.specs.Prelude.{◌≡◌, map};
+ghost use Rattle.archive_tree.specs.View.{alt_view, node_view, nodes_view};
+ghost use Rattle.archive_file.specs.Goes.{alts_go, node_goes, nodes_go, row_goes};
 
 use archive_tree::{ANode, Alt};
-use record_format::{is_label, is_value};
-use version_set::VersionSet;
+use record_format::{is_label, is_stamp, is_value};
 
 /// Counts have four bytes.
 const FOUR_BYTES: usize = 4_294_967_296;
-
-/// The greatest number of a version.
-const MAX_VERSIONS: u32 = 999_999;
-
-fn stamp_goes(stamp: &Option<VersionSet>) -> bool
-    ensures { result ≡ stamp_goes (stamp_view stamp.now) }
-{
-    match stamp {
-        None => true,
-        Some(set) => set_goes(set),
-    }
-}
-
-#[tactic(auto, using(archive_tree::proofs::Tells::canonical))]
-fn set_goes(set: &VersionSet) -> bool
-    ensures { result ≡ stamp_goes (Some (pairs_of set.now)) }
-{
-    !set.pairs().is_empty() && set.last() <= MAX_VERSIONS
-}
 
 fn alts_go(alts: &[Alt]) -> bool
     ensures { result ≡ alts_go (map alt_view alts.now) }
 {
     for alt in alts {
-        if !stamp_goes(&alt.stamp) || !is_value(&alt.body) {
+        if !is_stamp(&alt.stamp) || !is_value(&alt.body) {
             return false;
         }
     }
@@ -48,13 +27,13 @@ fn node_goes(node: &ANode) -> bool
 {
     match node {
         ANode::Inner { label, stamp, kids } => {
-            if !is_label(label) || !stamp_goes(stamp) || kids.len() >= FOUR_BYTES {
+            if !is_label(label) || !is_stamp(stamp) || kids.len() >= FOUR_BYTES {
                 return false;
             }
             nodes_go(kids)
         }
         ANode::Leaf { label, stamp, alts } => {
-            is_label(label) && stamp_goes(stamp) && alts_go(alts)
+            is_label(label) && is_stamp(stamp) && alts_go(alts)
         }
     }
 }

@@ -18,10 +18,8 @@ use crate::level::are_shallow;
 use archive_tree::{ANode, Alt, Archive};
 use key_spec::Spec;
 use keyed_tree::{KeyVal, Name};
+use record_format::DEEPEST;
 use std::alloc::{AllocError, Global};
-
-/// The deepest level on which an element may stand.
-const MAX_DEPTH: u32 = 120;
 
 /// Whether every version of the archive is the keyed tree of a document that satisfies the keys, with elements at most
 /// 120 deep.
@@ -41,7 +39,7 @@ pub fn is_keyed(alloc: Global, spec: &Spec, archive: &Archive) -> Result<bool, A
 fn are_nodes_keyed(alloc: Global, spec: &Spec, archive: &Archive) -> Result<bool, AllocError>
     ensures { IfOk result (λ b. b ≡ is_archive_keyed (spec_view spec.now) (archive_view archive.now)) }
 {
-    if !are_shallow(archive.kids(), MAX_DEPTH) {
+    if !are_shallow(archive.kids(), DEEPEST) {
         return Ok(false);
     }
     let mut path = Vec::new(alloc);

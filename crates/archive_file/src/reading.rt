@@ -2,15 +2,14 @@
 //
 // What stands in the ENDs is not read: whoever asks for the nodes compares the bytes with those of the archive that they make.
 ghost use Rattle.std.specs.Prelude.{◌≡◌, ◌≤◌, ◌<◌, ◌∷◌, ℕ, List, [], length, drop, map, Some, None, IsTrue, IfOk, IfErr};
-ghost use Rattle.keyed_tree.specs.View.{label_view};
 ghost use Rattle.archive_tree.specs.Data.{PlainAlt, PlainNode, PlainNodes};
-ghost use Rattle.archive_tree.specs.View.{stamp_view, alt_view, node_view, nodes_view};
+ghost use Rattle.archive_tree.specs.View.{alt_view, node_view, nodes_view};
 ghost use Rattle.archive_tree.specs.WellFormed.{are_alts_well_formed, IsNodeWellFormed, AreNodesWellFormed};
 ghost use Rattle.record_format.specs.Bounds.{IsRec};
 ghost use Rattle.record_format.specs.Reading.{record_at};
 ghost use Rattle.record_format.specs.View.{rec_view};
 ghost use Rattle.archive_file.specs.Faults.{IfDamage};
-ghost use Rattle.archive_file.specs.Laid.{AltsAt, NodeAt, RowAt, Finds};
+ghost use Rattle.archive_file.specs.Laid.{is_nested, are_nested, AltsAt, NodeAt, RowAt, Finds};
 
 use crate::fault::FileFault;
 use archive_tree::{ANode, Alt};
@@ -66,6 +65,7 @@ fn read_node(
 ) -> Result<(ANode, usize), FileFault>
     ensures found { (parent : List (ℕ × ℕ)) (k : PlainNode) (rest : List ℕ) → NodeAt parent k rest depth (drop at bytes.now) → Finds result (λ r. (node_view r.0 ≡ k) × (drop r.1 bytes.now ≡ rest)) }
     ensures well_formed { IfOk result (λ r. IsNodeWellFormed (node_view r.0)) }
+    ensures nested { IfOk result (λ r. IsTrue (is_nested depth (node_view r.0))) }
     ensures further { IfOk result (λ r. at < r.1) }
     ensures within { IfOk result (λ r. r.1 ≤ length bytes.now) }
 {
@@ -99,6 +99,7 @@ pub fn read_row(
 ) -> Result<(Vec<ANode>, usize), FileFault>
     ensures found { (set : List (ℕ × ℕ)) (ks : PlainNodes) (rest : List ℕ) → RowAt set ks rest depth (drop start bytes.now) → Finds result (λ r. (nodes_view r.0.items ≡ ks) × (drop r.1 bytes.now ≡ rest)) }
     ensures well_formed { IfOk result (λ r. AreNodesWellFormed (nodes_view r.0.items)) }
+    ensures nested { IfOk result (λ r. IsTrue (are_nested depth (nodes_view r.0.items))) }
     ensures further { IfOk result (λ r. start ≤ r.1) }
     ensures within { IfOk result (λ r. r.1 ≤ length bytes.now) }
 {

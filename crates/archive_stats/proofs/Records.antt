@@ -1,14 +1,12 @@
 -- What the bytes of a record tell of it.
-use Rattle.std.proofs.Common.{◌≡◌, ℕ, ◌+◌, Bool, true, false, cond, List, [], ◌∷◌, ◌++◌, length, Some, None, refl, sym, ap, ◌∙◌, append_assoc, arith}
+use Rattle.std.proofs.Common.{◌≡◌, ℕ, ◌+◌, Bool, true, false, cond, List, length, Some, None, refl, ap, ◌∙◌, arith}
 use Rattle.std.specs.Prelude.{max}
-use Rattle.std.proofs.lemmas.List.{append-nil, length-append}
 use Rattle.keyed_tree.specs.Data.{PlainKey, PlainLabel}
 use Rattle.archive_tree.specs.Data.{Stamp}
-use Rattle.xa_fields.specs.Spelling.{u64_bytes}
 use Rattle.record_format.specs.Bounds.{IsRec}
 use Rattle.record_format.specs.Data.{PlainRec, inner_rec, leaf_rec, alt_rec}
 use Rattle.record_format.specs.Reading.{whole_record}
-use Rattle.record_format.specs.Spelling.{label_bytes, stamp_bytes, framed, rec_bytes}
+use Rattle.record_format.specs.Spelling.{rec_bytes}
 use Rattle.record_format.specs.Whole.{has_parts, with_parts}
 use Rattle.record_format.proofs.Records.{whole_record_only}
 use Rattle.archive_stats.specs.Counts.{PlainCounts}
@@ -24,20 +22,6 @@ pub shown-is : (bytes : List ℕ) (x r : PlainRec) → IsRec r → bytes ≡ rec
 shown-is bytes x r h e shown =
     let whole : whole_record bytes ≡ Some r = ap whole_record e ∙ whole_record_only r h in
     is-part (has_parts r) x r (shown ∙ ap with_parts whole)
-
--- ---- where the timestamp stands
-
--- what stands before the timestamp of a record that opens a node
-abbrev pub before-stamp : ℕ → PlainLabel → Stamp → List ℕ
-before-stamp kind l s = kind ∷ (u64_bytes (length (label_bytes l ++ stamp_bytes s)) ++ label_bytes l)
-
-pub opening-stamp : (kind : ℕ) (l : PlainLabel) (s : Stamp) → framed kind (label_bytes l ++ stamp_bytes s) ≡ before-stamp kind l s ++ (stamp_bytes s ++ [])
-opening-stamp kind l s =
-    ap (λ (bs : List ℕ). kind ∷ bs) (sym (append_assoc (u64_bytes (length (label_bytes l ++ stamp_bytes s))) (label_bytes l) (stamp_bytes s)))
-    ∙ ap (λ (bs : List ℕ). before-stamp kind l s ++ bs) (sym (append-nil (stamp_bytes s)))
-
-pub before-length : (kind : ℕ) (l : PlainLabel) (s : Stamp) → 9 + length (label_bytes l) ≡ length (before-stamp kind l s)
-before-length kind l s = omega (arith, length-append (u64_bytes (length (label_bytes l ++ stamp_bytes s))) (label_bytes l))
 
 -- ---- the counts with one more record
 

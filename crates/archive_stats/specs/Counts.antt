@@ -1,11 +1,10 @@
 -- What is counted of an archive and of its file.
-use Rattle.std.specs.Prelude.{ℕ, ◌+◌, max, Bool, true, false, not, List, [], ◌∷◌, ◌++◌, length, fold, count_by, sum_by, if◌then◌else◌}
+use Rattle.std.specs.Prelude.{ℕ, ◌+◌, Bool, true, false, not, List, [], ◌∷◌, ◌++◌, length, count_by, sum_by, if◌then◌else◌}
 use Rattle.std.specs.Option.{is_some}
 use Rattle.key_spec.specs.Data.{PlainRule}
 use Rattle.archive_tree.specs.Data.{PlainAlt, PlainNode, inner_node, leaf_node, PlainNodes, no_nodes, node, node_stamp, PlainArchive}
-use Rattle.record_format.specs.Data.{PlainRec, inner_rec, leaf_rec, alt_rec, end_rec, leaf_end}
-use Rattle.record_format.specs.Spelling.{rec_bytes}
-use Rattle.record_format.specs.Files.{header_bytes, file_records, file_bytes}
+use Rattle.record_format.specs.Files.{file_bytes}
+pub use Rattle.record_format.specs.Files.{weight, largest}
 
 pub record PlainCounts : Type 0 where
   pub versions : ℕ
@@ -43,20 +42,6 @@ alts_of (leaf_node l s xs) = xs
 -- the timestamps that the node and its alternatives store
 abbrev pub stamps_of : PlainNode → ℕ
 stamps_of k = (if is_some (node_stamp k) then 1 else 0) + count_by (λ (x : PlainAlt). is_some x.stamp) (alts_of k)
-
--- ---- records
-
--- the bytes of a record, without the body of an END
-abbrev pub weight : PlainRec → ℕ
-weight (inner_rec l s) = length (rec_bytes (inner_rec l s))
-weight (leaf_rec l s) = length (rec_bytes (leaf_rec l s))
-weight (alt_rec s b) = length (rec_bytes (alt_rec s b))
-weight (end_rec d) = 9
-weight leaf_end = length (rec_bytes leaf_end)
-
--- the greatest of the header's bytes and each record's, the body of an END not counted
-abbrev pub largest : List PlainRule → PlainArchive → ℕ
-largest rules a = fold (λ most r. max most (weight r)) (length (header_bytes rules a.n)) (file_records a)
 
 -- ---- the seven numbers
 

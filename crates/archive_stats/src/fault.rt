@@ -1,6 +1,5 @@
 // Why a file gives no counts.
-use archive_file::FileFault;
-use std::alloc::{AllocError, AllocFailed};
+use std::alloc::AllocError;
 
 /// Why a file gives no counts: its bytes are no sound archive, the folder failed, or there is no memory.
 #[derive(Clone, Copy, Debug, PartialEq, Eq)]

@@ -1,15 +1,15 @@
 // The counts of an archive file in a folder.
-ghost use Rattle.std.specs.Prelude.{◌≡◌, ◌≤◌, ℕ, List, Some, None, IfOk, IfErr, vec_len};
+ghost use Rattle.std.specs.Prelude.{◌≡◌, ◌≤◌, ℕ, List, Some, None, IfOk, IfErr};
 ghost use Rattle.key_spec.specs.Data.{PlainRule};
 ghost use Rattle.keyed_tree.specs.Data.{PlainKeyed};
 ghost use Rattle.archive_tree.specs.Data.{PlainArchive};
 ghost use Rattle.archive_tree.specs.Stands.{ArchiveOf};
-ghost use Rattle.archive_file.specs.Sound.{Sound, SoundAs};
+ghost use Rattle.archive_file.specs.Sound.{SoundAs};
 ghost use Rattle.xa_outside.specs.Causes.{Rose};
 ghost use Rattle.xa_outside.specs.Folder.{Files};
 ghost use Rattle.xa_outside.specs.Numbers.{PullsAtMost};
 ghost use Rattle.archive_stats.specs.Counts.{counts};
-ghost use Rattle.archive_stats.specs.Pieces.{front_of, IsSoundFront};
+ghost use Rattle.archive_stats.specs.Pieces.{front_of};
 ghost use Rattle.archive_stats.specs.View.{counts_view, IfDamage, IfFolder};
 
 use crate::counts::Counts;
@@ -34,11 +34,10 @@ pub fn stats<F: Folder>(
     ensures later { F.faults folder.old ≤ F.faults folder.new }
     ensures cause { IfErr result (λ e. IfFolder e (Rose (F.faults folder.old) (F.faults folder.new))) }
 
-    // Where files are told, the counts are those of a sound archive, and Damage is for bytes that are none.
+    // Where files are told, the counts of a sound archive are its own, and Damage is only for bytes that are none.
     ensures counts { (files : Files) (bytes : List ℕ) (rules : List PlainRule) (vs : List PlainKeyed) (a : PlainArchive)
         → F.files folder.old ≡ Some files → front_of files name.now length ≡ Some bytes → SoundAs rules vs bytes → ArchiveOf vs a
         → IfOk result (λ c. counts_view c ≡ counts rules a) }
-    ensures sound { (files : Files) → F.files folder.old ≡ Some files → IfOk result (λ _. ∥ IsSoundFront (front_of files name.now length) ∥₁) }
     ensures damage { (files : Files) (bytes : List ℕ) → F.files folder.old ≡ Some files → front_of files name.now length ≡ Some bytes
         → IfErr result (λ e. IfDamage e ((rules : List PlainRule) (vs : List PlainKeyed) → ¬ (SoundAs rules vs bytes))) }
 {
@@ -72,7 +71,6 @@ fn read_front<F: Folder>(
 // What is counted of the archive that the bytes are.
 fn count_sound(alloc: Global, bytes: &[u8]) -> Result<Counts, StatsFault>
     ensures counts { (rules : List PlainRule) (vs : List PlainKeyed) (a : PlainArchive) → SoundAs rules vs bytes.now → ArchiveOf vs a → IfOk result (λ c. counts_view c ≡ counts rules a) }
-    ensures sound { IfOk result (λ _. ∥ Sound bytes.now ∥₁) }
     ensures damage { IfErr result (λ e. IfDamage e ((rules : List PlainRule) (vs : List PlainKeyed) → ¬ (SoundAs rules vs bytes.now))) }
     ensures no_folder { IfErr result (λ e. IfFolder e ⊥) }
 {

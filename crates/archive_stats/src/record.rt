@@ -1,15 +1,14 @@
 // What one record adds to the counts.
-ghost use Rattle.std.specs.Prelude.{◌≡◌, ◌≤◌, ◌+◌, ◌-◌, ◌^◌, ◌++◌, ℕ, List, length, if◌then◌else◌};
-ghost use Rattle.std.specs.Option.{is_some};
-ghost use Rattle.archive_tree.specs.Data.{Stamp};
+ghost use Rattle.std.specs.Prelude.{◌≡◌, ◌≤◌, ◌+◌, ◌-◌, ◌^◌, ℕ};
 ghost use Rattle.record_format.specs.Bounds.{IsRec};
 ghost use Rattle.record_format.specs.Data.{PlainRec};
-ghost use Rattle.record_format.specs.Spelling.{rec_bytes, stamp_bytes};
-ghost use Rattle.archive_stats.specs.Tally.{counted, IsBelow};
+ghost use Rattle.record_format.specs.ShownViews.{shown_stamp};
+ghost use Rattle.record_format.specs.Spelling.{rec_bytes};
+ghost use Rattle.archive_stats.specs.Tally.{is_stored, counted, IsBelow};
 ghost use Rattle.archive_stats.specs.View.{counts_view};
 
 use crate::counts::Counts;
-use record_format::{View, view};
+use record_format::{StampView, View, view};
 
 /// A record without its body: a byte of its kind, and eight of the body's length.
 const FRAME: usize = 9;
@@ -22,21 +21,21 @@ pub(crate) fn with_record(counts: Counts, bytes: &[u8]) -> Counts
 {
     let largest = counts.largest.max(bytes.len() as u64);
     match view(bytes) {
-        Some(View::Inner { label, .. }) => Counts {
+        Some(View::Inner { stamp, .. }) => Counts {
             inner: counts.inner + 1,
-            stamps: counts.stamps + stored(bytes, FRAME + label.bytes().len()),
+            stamps: counts.stamps + stored(&stamp),
             largest,
             ..counts
         },
-        Some(View::Leaf { label, .. }) => Counts {
+        Some(View::Leaf { stamp, .. }) => Counts {
             leaves: counts.leaves + 1,
-            stamps: counts.stamps + stored(bytes, FRAME + label.bytes().len()),
+            stamps: counts.stamps + stored(&stamp),
             largest,
             ..counts
         },
-        Some(View::Alt { .. }) => Counts {
+        Some(View::Alt { stamp, .. }) => Counts {
             alternatives: counts.alternatives + 1,
-            stamps: counts.stamps + stored(bytes, FRAME),
+            stamps: counts.stamps + stored(&stamp),
             largest,
             ..counts
         },
@@ -47,13 +46,10 @@ pub(crate) fn with_record(counts: Counts, bytes: &[u8]) -> Counts
     }
 }
 
-// 1 where the timestamp at the offset is stored, and 0 where it is inherited.
-fn stored(bytes: &[u8], at: usize) -> u64
-    ensures is { (front rest : List ℕ) (s : Stamp) → bytes.now ≡ front ++ (stamp_bytes s ++ rest) → at ≡ length front → result ≡ (if is_some s then 1 else 0) }
+// 1 where the timestamp is stored, and 0 where it is inherited.
+fn stored(stamp: &StampView<'_>) -> u64
+    ensures is { result ≡ is_stored (shown_stamp stamp.now) }
     ensures one { result ≤ 1 }
 {
-    match bytes.get(at) {
-        Some(1) => 1,
-        _ => 0,
-    }
+    if stamp.is_stored() { 1 } else { 0 }
 }

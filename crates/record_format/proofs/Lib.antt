@@ -15,7 +15,9 @@ pub mod WholeDirectories
 pub mod Records
 pub mod Pieces
 pub mod Encodable
+pub mod Sets
 pub mod Apart
+pub mod ShapeLaws
 pub mod HeaderLaws
 pub mod Local
 pub mod LentParts
@@ -26,4 +28,3 @@ pub mod ValueOrders
 pub mod ShownParts
 pub mod SomeSets
 pub mod Frames
-pub mod Example

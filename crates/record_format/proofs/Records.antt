@@ -103,6 +103,9 @@ frame_only kind body rest short =
     let behind : drop (length body) (body ++ rest) ≡ rest = drop_at body rest (length body) refl in
     ap (λ (b : List ℕ). frame_at (kind ∷ b)) (append_assoc (u64_bytes (length body)) body rest) ∙ rw n (rw (long, front, behind) refl)
 
+pub frame_reads : Reads frame_at (λ p. framed p.0 p.1) (λ p. IsBytes p.1 × (length p.1 < 2 ^ 64))
+frame_reads = record { takes = frame_found; again = λ p rest fits. frame_only p.0 p.1 rest fits.1 }
+
 -- ---- records
 
 record_found : (bytes : List ℕ) (x : PlainRec × List ℕ) → IsBytes bytes → record_at bytes ≡ Some x → Read rec_bytes IsRec bytes x

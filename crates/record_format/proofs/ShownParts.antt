@@ -1,5 +1,5 @@
 -- What the bytes of a lent part show.
-use Rattle.std.proofs.Common.{◌≡◌, ℕ, cond, ◌==◌, List, length, Option, Some, None, refl, sym, ap, ◌∙◌}
+use Rattle.std.proofs.Common.{◌≡◌, ℕ, cond, ◌==◌, List, length, Option, Some, None, refl, sym, ap, subst, ◌∙◌}
 use Rattle.std.specs.Prelude.{IsSome}
 use Rattle.std.specs.declared.cmp.Ordering.{Ordering}
 use Rattle.keyed_tree.specs.Data.{PlainKey, PlainLabel}
@@ -8,13 +8,13 @@ use Rattle.xa_fields.specs.Reading.{Reader, whole}
 use Rattle.xa_fields.specs.Laws.{IsBytes}
 use Rattle.xa_fields.proofs.Fields.{bind_some, some_is}
 use Rattle.xa_fields.proofs.Combinators.{whole_takes}
-use Rattle.record_format.specs.Bounds.{IsLabel, IsValue}
+use Rattle.record_format.specs.Bounds.{IsLabel, IsStamp, IsValue}
 use Rattle.record_format.specs.Compares.{Compares}
 use Rattle.record_format.specs.Reading.{label_at, stamp_at, value_at}
 use Rattle.record_format.specs.ShownViews.{label_in, stamp_in, value_in}
-use Rattle.record_format.specs.Spelling.{label_bytes, value_bytes}
+use Rattle.record_format.specs.Spelling.{label_bytes, stamp_bytes, value_bytes}
 use Rattle.record_format.specs.Whole.{IsLabelBytes, IsStampBytes, IsValueBytes}
-use Rattle.record_format.proofs.Parts.{label_reads}
+use Rattle.record_format.proofs.Parts.{label_reads, stamp_reads}
 use Rattle.record_format.proofs.Readers.{passed_some}
 use Rattle.record_format.proofs.Values.{value_reads}
 
@@ -42,10 +42,30 @@ label_spelled bytes fits h =
     let w = some_value (whole label_at bytes) h in
     (whole_takes label_at label_bytes IsLabel label_reads bytes w.0 fits w.1).0 ∙ ap (λ (o : Option PlainLabel). label_bytes (label_in o)) (sym w.1)
 
+pub label_is : (bytes : List ℕ) → IsBytes bytes → IsLabelBytes bytes → IsLabel (label_in (whole label_at bytes))
+label_is bytes fits h =
+    let w = some_value (whole label_at bytes) h in
+    subst (λ (o : Option PlainLabel). IsLabel (label_in o)) (sym w.1) (whole_takes label_at label_bytes IsLabel label_reads bytes w.0 fits w.1).1
+
+pub stamp_spelled : (bytes : List ℕ) → IsBytes bytes → IsStampBytes bytes → bytes ≡ stamp_bytes (stamp_in (whole stamp_at bytes))
+stamp_spelled bytes fits h =
+    let w = some_value (whole stamp_at bytes) h in
+    (whole_takes stamp_at stamp_bytes IsStamp stamp_reads bytes w.0 fits w.1).0 ∙ ap (λ (o : Option Stamp). stamp_bytes (stamp_in o)) (sym w.1)
+
+pub stamp_is : (bytes : List ℕ) → IsBytes bytes → IsStampBytes bytes → IsStamp (stamp_in (whole stamp_at bytes))
+stamp_is bytes fits h =
+    let w = some_value (whole stamp_at bytes) h in
+    subst (λ (o : Option Stamp). IsStamp (stamp_in o)) (sym w.1) (whole_takes stamp_at stamp_bytes IsStamp stamp_reads bytes w.0 fits w.1).1
+
 pub value_spelled : (bytes : List ℕ) → IsBytes bytes → IsValueBytes bytes → bytes ≡ value_bytes (value_in (whole value_at bytes))
 value_spelled bytes fits h =
     let w = some_value (whole value_at bytes) h in
     (whole_takes value_at value_bytes IsValue value_reads bytes w.0 fits w.1).0 ∙ ap (λ (o : Option PlainKey). value_bytes (value_in o)) (sym w.1)
+
+pub value_is : (bytes : List ℕ) → IsBytes bytes → IsValueBytes bytes → IsValue (value_in (whole value_at bytes))
+value_is bytes fits h =
+    let w = some_value (whole value_at bytes) h in
+    subst (λ (o : Option PlainKey). IsValue (value_in o)) (sym w.1) (whole_takes value_at value_bytes IsValue value_reads bytes w.0 fits w.1).1
 
 -- ---- orders
 

@@ -1,10 +1,13 @@
 -- Which values have an encoding, as tests.
-use Rattle.std.specs.Prelude.{ℕ, zero, suc, pos, negsuc, Bool, true, false, ◌&&◌, ◌^◌, List, [], ◌∷◌, length, Option, Some, None, nat_lt}
+use Rattle.std.specs.Prelude.{ℕ, zero, suc, pos, negsuc, Bool, true, false, ◌&&◌, ◌^◌, List, [], ◌∷◌, length, Option, Some, None, nat_lt, nat_le}
 use Rattle.std.specs.Str.{is_utf8}
 use Rattle.jsonml_tree.specs.Data.{PlainScalar, null, boolean, whole, string, PlainAttr, PlainTree, text, element, PlainContent, content, PlainTrees, no_trees, tree, list_of}
 use Rattle.jsonml_tree.specs.WellFormed.{ascends, is_ascending}
 use Rattle.keyed_tree.specs.Data.{PlainKey, scalar, inside, PlainLabel}
-use Rattle.record_format.specs.Bounds.{text_of, deepest}
+use Rattle.version_set.specs.Pairs.{last_of}
+use Rattle.archive_tree.specs.Data.{Stamp}
+use Rattle.archive_tree.specs.PartsTest.{is_from}
+use Rattle.record_format.specs.Bounds.{text_of, deepest, most}
 
 abbrev pub text_fits : List ℕ → Bool
 text_fits s = nat_lt (length s) (2 ^ 32) && is_utf8 s
@@ -52,3 +55,16 @@ values_fit (k ∷ ks) = value_fits k && values_fit ks
 
 abbrev pub label_fits : PlainLabel → Bool
 label_fits l = text_fits (text_of l.name) && nat_lt (length l.keys) (2 ^ 32) && values_fit l.keys
+
+-- ---- sets
+
+abbrev pub is_some_set : List (ℕ × ℕ) → Bool
+is_some_set [] = false
+is_some_set (p ∷ ps) = true
+
+abbrev pub set_fits : List (ℕ × ℕ) → Bool
+set_fits s = is_from 1 s && nat_le (last_of s) most
+
+abbrev pub stamp_fits : Stamp → Bool
+stamp_fits None = true
+stamp_fits (Some s) = is_some_set s && set_fits s

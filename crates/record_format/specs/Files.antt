@@ -1,5 +1,5 @@
 -- The archive file of a specification and a list of versions.
-use Rattle.std.specs.Prelude.{◌≡◌, ℕ, ◌≤◌, ◌<◌, ◌^◌, List, [], ◌∷◌, ◌++◌, length, codes}
+use Rattle.std.specs.Prelude.{◌≡◌, ℕ, ◌≤◌, ◌<◌, ◌^◌, max, List, [], ◌∷◌, ◌++◌, length, fold, codes}
 use Rattle.std.specs.List.{flat_map, AllByRecursion}
 use Rattle.key_spec.specs.Data.{PlainRule}
 use Rattle.key_spec.specs.Canonical.{canonical}
@@ -8,7 +8,7 @@ use Rattle.keyed_tree.specs.Data.{PlainKeyed}
 use Rattle.archive_tree.specs.Data.{PlainArchive}
 use Rattle.archive_tree.specs.Stands.{ArchiveOf}
 use Rattle.xa_fields.specs.Spelling.{u32_bytes, u64_bytes, text_bytes}
-use Rattle.record_format.specs.Data.{PlainRec}
+use Rattle.record_format.specs.Data.{PlainRec, inner_rec, leaf_rec, alt_rec, end_rec, leaf_end}
 use Rattle.record_format.specs.Spelling.{dir_bytes, rec_bytes}
 use Rattle.record_format.specs.Bounds.{IsRec, most}
 use Rattle.record_format.specs.Nodes.{Piece, dir_of, closed_by_end, node_pieces}
@@ -35,6 +35,18 @@ tail_bytes a = u64_bytes (length (dir_bytes (dir_of (root_pieces a))))
 
 abbrev pub file_bytes : List PlainRule → PlainArchive → List ℕ
 file_bytes rules a = header_bytes rules a.n ++ (flat_map rec_bytes (file_records a) ++ tail_bytes a)
+
+-- the bytes of a record, without the body of an END
+abbrev pub weight : PlainRec → ℕ
+weight (inner_rec l s) = length (rec_bytes (inner_rec l s))
+weight (leaf_rec l s) = length (rec_bytes (leaf_rec l s))
+weight (alt_rec s b) = length (rec_bytes (alt_rec s b))
+weight (end_rec d) = 9
+weight leaf_end = length (rec_bytes leaf_end)
+
+-- the greatest of the header's bytes and each record's, the body of an END not counted
+abbrev pub largest : List PlainRule → PlainArchive → ℕ
+largest rules a = fold (λ most r. max most (weight r)) (length (header_bytes rules a.n)) (file_records a)
 
 -- how many bytes an archive file may have
 abbrev pub longest : ℕ

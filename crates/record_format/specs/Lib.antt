@@ -2,6 +2,7 @@ pub mod Data
 pub mod View
 pub mod Spelling
 pub mod Bounds
+pub mod Shapes
 pub mod Checks
 pub mod Reading
 pub mod Nodes

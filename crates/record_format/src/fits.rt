@@ -1,14 +1,18 @@
 // Whether values have an encoding.
-ghost use Rattle.std.specs.Prelude.{◌≡◌, ◌↔◌, ◌<◌, ◌^◌, length, map, IsTrue};
+ghost use Rattle.std.specs.Prelude.{◌≡◌, ◌↔◌, map, Some, IsTrue};
 ghost use Rattle.jsonml_tree.specs.WellFormed.{is_ascending};
 ghost use Rattle.jsonml_tree.specs.View.{scalar_view, attr_view, tree_view, content_view, items_view};
 ghost use Rattle.keyed_tree.specs.View.{name_view, key_view, label_view};
-ghost use Rattle.record_format.specs.Bounds.{IsLabel, IsValue, text_of};
-ghost use Rattle.record_format.specs.Checks.{text_fits, scalar_fits, each_attr_fits, attrs_fit, item_fits, items_fit, content_fits, value_fits, values_fit, label_fits};
+ghost use Rattle.version_set.specs.View.{pairs_of};
+ghost use Rattle.archive_tree.specs.View.{stamp_view};
+ghost use Rattle.record_format.specs.Bounds.{IsLabel, IsSet, IsStamp, IsValue, text_of};
+ghost use Rattle.record_format.specs.Checks.{text_fits, scalar_fits, each_attr_fits, attrs_fit, item_fits, items_fit, content_fits, value_fits, values_fit, label_fits, set_fits, stamp_fits};
 
 use crate::lent::is_above;
+use crate::limits::{DEEPEST, MOST_VERSIONS};
 use jsonml_tree::{Attr, Content, Scalar, Tree};
 use keyed_tree::{KeyVal, Label, Name};
+use version_set::VersionSet;
 
 fn text_fits(text: &str) -> bool
     ensures { result ≡ text_fits text.now }
@@ -104,7 +108,7 @@ fn value_fits(value: &KeyVal) -> bool
 {
     match value {
         KeyVal::Scalar(scalar) => scalar_fits(scalar),
-        KeyVal::Content(content) => content_fits(120, content),
+        KeyVal::Content(content) => content_fits(DEEPEST, content),
     }
 }
 
@@ -149,4 +153,42 @@ pub fn is_value(value: &KeyVal) -> bool
     ensures exact { result ≡ value_fits (key_view value.now) }
 {
     value_fits(value)
+}
+
+#[tactic(auto, using(archive_tree::proofs::Tells::canonical))]
+fn set_fits(set: &VersionSet) -> bool
+    ensures { result ≡ set_fits (pairs_of set.now) }
+{
+    set.last() <= MOST_VERSIONS
+}
+
+/// Whether a set may stand in a directory. It takes no memory.
+pub fn is_set(set: &VersionSet) -> bool
+    ensures is { IsTrue result ↔ IsSet (pairs_of set.now) }
+    ensures exact { result ≡ set_fits (pairs_of set.now) }
+{
+    set_fits(set)
+}
+
+fn stamp_fits(stamp: &Option<VersionSet>) -> bool
+    ensures { result ≡ stamp_fits (stamp_view stamp.now) }
+{
+    match stamp {
+        None => true,
+        Some(set) => some_set_fits(set),
+    }
+}
+
+fn some_set_fits(set: &VersionSet) -> bool
+    ensures { result ≡ stamp_fits (Some (pairs_of set.now)) }
+{
+    !set.pairs().is_empty() && set_fits(set)
+}
+
+/// Whether a timestamp has an encoding. It takes no memory.
+pub fn is_stamp(stamp: &Option<VersionSet>) -> bool
+    ensures is { IsTrue result ↔ IsStamp (stamp_view stamp.now) }
+    ensures exact { result ≡ stamp_fits (stamp_view stamp.now) }
+{
+    stamp_fits(stamp)
 }

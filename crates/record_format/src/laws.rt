@@ -1,14 +1,17 @@
 // What follows from the definitions.
-ghost use Rattle.std.specs.Prelude.{◌≡◌, ℕ, List, [], ◌++◌, length, Some, Ok};
+ghost use Rattle.std.specs.Prelude.{◌≡◌, ◌↔◌, ℕ, ◌<◌, ◌^◌, List, [], ◌++◌, length, Some, Ok};
 ghost use Rattle.key_spec.specs.Canonical.{canonical};
 ghost use Rattle.key_spec.specs.Closed.{closed};
 ghost use Rattle.key_spec.specs.Data.{PlainRule};
-ghost use Rattle.keyed_tree.specs.Data.{PlainKeyed};
-ghost use Rattle.record_format.specs.Data.{PlainRec};
-ghost use Rattle.record_format.specs.Spelling.{rec_bytes};
-ghost use Rattle.record_format.specs.Bounds.{IsRec};
+ghost use Rattle.keyed_tree.specs.Data.{PlainKey, PlainLabel, PlainKeyed};
+ghost use Rattle.xa_fields.specs.Laws.{IsBytes, Reads};
+ghost use Rattle.record_format.specs.Data.{PlainDir, PlainRec};
+ghost use Rattle.record_format.specs.Spelling.{framed, rec_bytes};
+ghost use Rattle.record_format.specs.Bounds.{IsValue, IsLabel, IsDir, IsRec};
 ghost use Rattle.record_format.specs.Files.{FileOf};
 ghost use Rattle.record_format.specs.Fronts.{fixed, header};
+ghost use Rattle.record_format.specs.Reading.{frame_at, record_at};
+ghost use Rattle.record_format.specs.Shapes.{IsShapedValue, FitsValue, IsShapedLabel, FitsLabel, IsShapedDir, FitsDir};
 
 /// An encoding has one value, and none is the front of another.
 pub fn encodings_tell_records_apart()
@@ -22,4 +25,17 @@ pub fn versions_have_one_file()
     ensures one_file { (rules : List PlainRule) (versions : List PlainKeyed) (a b : List ℕ) → FileOf rules versions a → FileOf rules versions b → a ≡ b }
     ensures header { (rules : List PlainRule) (versions : List PlainKeyed) (bytes : List ℕ) → closed (canonical rules) ≡ Ok rules → FileOf rules versions bytes → header bytes ≡ Some (rules, length versions) }
     ensures fixed { (rules : List PlainRule) (versions : List PlainKeyed) (bytes : List ℕ) → FileOf rules versions bytes → fixed bytes ≡ Some (length versions) }
+{}
+
+/// What is read of some bytes is spelled so, and what is spelled so is read.
+pub fn records_are_read_as_spelled()
+    ensures records { Reads record_at rec_bytes IsRec }
+    ensures frames { Reads frame_at (λ p. framed p.0 p.1) (λ p. IsBytes p.1 × (length p.1 < 2 ^ 64)) }
+{}
+
+/// What has an encoding is in shape, and its lengths and counts fit their fields.
+pub fn encodings_are_of_shape_and_fit()
+    ensures values { (k : PlainKey) → IsValue k ↔ (IsShapedValue k × FitsValue k) }
+    ensures labels { (l : PlainLabel) → IsLabel l ↔ (IsShapedLabel l × FitsLabel l) }
+    ensures directories { (d : PlainDir) → IsDir d ↔ (IsShapedDir d × FitsDir d) }
 {}

@@ -1,5 +1,5 @@
 // The order of labels as they stand in bytes. A comparison ends where it is decided.
-ghost use Rattle.std.specs.Prelude.{◌≡◌, length, drop, map};
+ghost use Rattle.std.specs.Prelude.{◌≡◌, drop, map};
 ghost use Rattle.std.specs.Cmp.Lexicographic.{slice_cmp};
 ghost use Rattle.keyed_tree.specs.Order.{key_cmp, label_cmp};
 ghost use Rattle.keyed_tree.specs.View.{key_view, label_view};

@@ -6,11 +6,12 @@ ghost use Rattle.jsonml_tree.specs.Order.{attr_cmp, tree_cmp, content_cmp};
 ghost use Rattle.jsonml_tree.specs.View.{attr_view, tree_view, content_view};
 ghost use Rattle.keyed_tree.specs.Order.{key_cmp};
 ghost use Rattle.keyed_tree.specs.View.{key_view};
-ghost use Rattle.xa_fields.specs.Reading.{many_at, list_at};
+ghost use Rattle.xa_fields.specs.Reading.{many_at};
 ghost use Rattle.record_format.specs.Reading.{attr_at, attrs_at, item_at, item_of, content_at, content_below, value_of, value_at};
 ghost use Rattle.record_format.specs.Compares.{Compares, placed, ordered};
 
 use crate::lent::{lend_attr, lend_scalar};
+use crate::limits::DEEPEST;
 use jsonml_tree::{Attr, Content, Tree};
 use keyed_tree::KeyVal;
 use std::cmp::Ordering;
@@ -207,6 +208,6 @@ fn order_content_value(bytes: &[u8], at: usize, other: &KeyVal) -> Option<(Order
 {
     match other {
         KeyVal::Scalar(_) => Some((Ordering::Greater, at)),
-        KeyVal::Content(other) => order_content(120, bytes, at, other),
+        KeyVal::Content(other) => order_content(DEEPEST, bytes, at, other),
     }
 }

@@ -1,5 +1,5 @@
 // Appending scalars, contents and key values.
-ghost use Rattle.std.specs.Prelude.{◌≡◌, ◌<◌, ◌^◌, ◌++◌, length, OnOk, map};
+ghost use Rattle.std.specs.Prelude.{◌≡◌, ◌++◌, OnOk, map};
 ghost use Rattle.std.specs.List.{flat_map, AllByRecursion};
 ghost use Rattle.jsonml_tree.specs.View.{scalar_view, attr_view, tree_view, content_view, items_view};
 ghost use Rattle.keyed_tree.specs.View.{key_view};

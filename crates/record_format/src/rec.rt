@@ -2,7 +2,7 @@ use keyed_tree::{Body, Label};
 use version_set::VersionSet;
 
 /// Where a child stands: the offset of its first byte from that of the first child, its length, and the length of the body of its END, or 0 for a leaf.
-#[derive(Clone, Copy, Debug, PartialEq, Eq)]
+#[derive(Clone, Copy)]
 pub struct Entry {
     pub start: u64,
     pub length: u64,
@@ -10,14 +10,14 @@ pub struct Entry {
 }
 
 /// The directory of a node: an entry and the effective set of each child.
-#[derive(Debug, Drop)]
+#[derive(Drop)]
 pub struct Dir {
     pub entries: Vec<Entry>,
     pub sets: Vec<VersionSet>,
 }
 
 /// A record of an archive file.
-#[derive(Debug, Drop)]
+#[derive(Drop)]
 pub enum Rec {
     Inner {
         label: Label,

@@ -1,13 +1,16 @@
 // What lent parts answer.
 ghost use Rattle.std.specs.Prelude.{◌≡◌, ◌↔◌, IsTrue, IfOk};
+ghost use Rattle.std.specs.Option.{is_some};
 ghost use Rattle.keyed_tree.specs.Order.{key_cmp, label_cmp};
 ghost use Rattle.keyed_tree.specs.View.{key_view, label_view};
+ghost use Rattle.archive_tree.specs.Data.{Stamp};
 ghost use Rattle.archive_tree.specs.View.{stamp_view};
-ghost use Rattle.record_format.specs.Spelling.{label_bytes, value_bytes};
+ghost use Rattle.record_format.specs.Bounds.{IsLabel, IsStamp, IsValue};
+ghost use Rattle.record_format.specs.Spelling.{label_bytes, stamp_bytes, value_bytes};
 ghost use Rattle.xa_fields.specs.Reading.{whole};
-ghost use Rattle.record_format.specs.Reading.{label_at, value_at};
-ghost use Rattle.record_format.specs.Whole.{IsLabelBytes, IsValueBytes};
-ghost use Rattle.record_format.specs.ShownViews.{label_in, value_in, shown_label, shown_stamp, shown_body};
+ghost use Rattle.record_format.specs.Reading.{label_at, stamp_at, value_at};
+ghost use Rattle.record_format.specs.Whole.{IsLabelBytes, IsStampBytes, IsValueBytes};
+ghost use Rattle.record_format.specs.ShownViews.{label_in, stamp_in, value_in, shown_label, shown_stamp, shown_body};
 
 use crate::order_parts::order_label;
 use crate::order_values::order_value;
@@ -20,14 +23,34 @@ use version_set::VersionSet;
 
 fn label_spelled(bytes: &[u8]) -> &[u8]
     requires { IsLabelBytes bytes.now }
-    ensures { result.now ≡ label_bytes (label_in (whole label_at bytes.now)) }
+    ensures spelled { result.now ≡ label_bytes (label_in (whole label_at bytes.now)) }
+    ensures is { IsLabel (label_in (whole label_at bytes.now)) }
 {
     bytes
 }
 
+fn stamp_spelled(bytes: &[u8]) -> &[u8]
+    requires { IsStampBytes bytes.now }
+    ensures spelled { result.now ≡ stamp_bytes (stamp_in (whole stamp_at bytes.now)) }
+    ensures is { IsStamp (stamp_in (whole stamp_at bytes.now)) }
+{
+    bytes
+}
+
+// Whether the bytes, those of a timestamp, have a set.
+fn has_set(bytes: &[u8]) -> bool
+    ensures { (s : Stamp) → bytes.now ≡ stamp_bytes s → result ≡ is_some s }
+{
+    match bytes.get(0) {
+        Some(1) => true,
+        _ => false,
+    }
+}
+
 fn body_spelled(bytes: &[u8]) -> &[u8]
     requires { IsValueBytes bytes.now }
-    ensures { result.now ≡ value_bytes (value_in (whole value_at bytes.now)) }
+    ensures spelled { result.now ≡ value_bytes (value_in (whole value_at bytes.now)) }
+    ensures is { IsValue (value_in (whole value_at bytes.now)) }
 {
     bytes
 }
@@ -35,7 +58,8 @@ fn body_spelled(bytes: &[u8]) -> &[u8]
 impl<'a> LabelView<'a> {
     /// The encoding of the label that is shown.
     pub fn bytes(&self) -> &'a [u8]
-        ensures { result.now ≡ label_bytes (shown_label self.now) }
+        ensures spelled { result.now ≡ label_bytes (shown_label self.now) }
+        ensures is { IsLabel (shown_label self.now) }
     {
         label_spelled(self.bytes)
     }
@@ -52,6 +76,21 @@ impl<'a> LabelView<'a> {
 }
 
 impl<'a> StampView<'a> {
+    /// The encoding of the timestamp that is shown.
+    pub fn bytes(&self) -> &'a [u8]
+        ensures spelled { result.now ≡ stamp_bytes (shown_stamp self.now) }
+        ensures is { IsStamp (shown_stamp self.now) }
+    {
+        stamp_spelled(self.bytes)
+    }
+
+    /// Whether the timestamp is stored. It takes no memory.
+    pub fn is_stored(&self) -> bool
+        ensures { result ≡ is_some (shown_stamp self.now) }
+    {
+        has_set(self.bytes())
+    }
+
     /// The set that is shown, or None where the timestamp is inherited.
     pub fn copy(&self, alloc: Global) -> Result<Option<VersionSet>, AllocError>
         ensures { IfOk result (λ stamp. stamp_view stamp ≡ shown_stamp self.now) }
@@ -66,7 +105,8 @@ impl<'a> StampView<'a> {
 impl<'a> BodyView<'a> {
     /// The encoding of the body that is shown.
     pub fn bytes(&self) -> &'a [u8]
-        ensures { result.now ≡ value_bytes (shown_body self.now) }
+        ensures spelled { result.now ≡ value_bytes (shown_body self.now) }
+        ensures is { IsValue (shown_body self.now) }
     {
         body_spelled(self.bytes)
     }

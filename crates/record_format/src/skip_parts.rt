@@ -1,7 +1,7 @@
 // Passing over labels, sets and timestamps, without memory.
 ghost use Rattle.std.specs.Prelude.{◌≡◌, ◌≤◌, length, drop, option_map, IfSome};
 ghost use Rattle.xa_fields.specs.Reading.{many_at};
-ghost use Rattle.record_format.specs.Reading.{value_at, label_at, pair_at, next_pair, chain_at, set_at, stamp_of, stamp_at};
+ghost use Rattle.record_format.specs.Reading.{value_at, label_at, pair_at, next_pair, chain_at, stamp_of, stamp_at};
 ghost use Rattle.record_format.specs.Behind.{behind};
 
 use crate::lent::lend_name;

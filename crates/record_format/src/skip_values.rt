@@ -5,6 +5,7 @@ ghost use Rattle.record_format.specs.Reading.{attr_at, next_attr, chain_at, attr
 ghost use Rattle.record_format.specs.Behind.{behind};
 
 use crate::lent::{is_above, lend_attr, lend_scalar};
+use crate::limits::DEEPEST;
 use xa_fields::{take_text, take_u8, take_u32};
 
 #[tactic(auto, using(crate::proofs::Skips::skips), unfolding(crate::specs::Reading::chained_at))]
@@ -121,7 +122,7 @@ fn skip_value_of(kind: u8, bytes: &[u8], at: usize) -> Option<usize>
             let (_, at) = lend_scalar(bytes, at)?;
             Some(at)
         }
-        1 => skip_content(120, bytes, at),
+        1 => skip_content(DEEPEST, bytes, at),
         _ => None,
     }
 }

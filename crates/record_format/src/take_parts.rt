@@ -8,6 +8,7 @@ ghost use Rattle.record_format.specs.Reading.{Gives, value_at, label_at, pair_at
 
 use crate::fault::RecFault;
 use crate::lent::lend_name;
+use crate::limits::MOST_VERSIONS;
 use crate::take_values::take_value;
 use keyed_tree::{KeyVal, Label};
 use std::alloc::Global;
@@ -51,7 +52,7 @@ fn take_values(
     Ok((values, at))
 }
 
-/// The interval at the offset, where it may begin at `low` or later, and the offset behind it.
+/// The interval at the offset, and the offset behind it.
 #[tactic(auto, unfolding(xa_fields::specs::Reading::both_at))]
 pub fn lend_pair(bytes: &[u8], at: usize) -> Option<((u32, u32), usize)>
     ensures found { option_map (λ r. (r.0, drop r.1 bytes.now)) result ≡ pair_at (drop at bytes.now) }
@@ -66,7 +67,7 @@ pub fn lend_pair(bytes: &[u8], at: usize) -> Option<((u32, u32), usize)>
 pub fn next_low(low: u32, pair: (u32, u32)) -> Option<u32>
     ensures { result ≡ next_pair low pair }
 {
-    if low <= pair.0 && pair.0 <= pair.1 && pair.1 <= 999_999 {
+    if low <= pair.0 && pair.0 <= pair.1 && pair.1 <= MOST_VERSIONS {
         Some(pair.1 + 2)
     } else {
         None

@@ -7,6 +7,7 @@ ghost use Rattle.record_format.specs.Reading.{Gives, attr_at, next_attr, chain_a
 
 use crate::fault::RecFault;
 use crate::lent::{copy_attr, is_above, lend_attr, lend_scalar};
+use crate::limits::DEEPEST;
 use jsonml_tree::{Attr, Content, Tree};
 use keyed_tree::KeyVal;
 use std::alloc::Global;
@@ -185,7 +186,7 @@ fn take_value_of(
             Ok((KeyVal::Scalar(scalar.copy(alloc)?), at))
         }
         1 => {
-            let (content, at) = take_content(alloc, 120, bytes, at)?;
+            let (content, at) = take_content(alloc, DEEPEST, bytes, at)?;
             Ok((KeyVal::Content(content), at))
         }
         _ => Err(RecFault::Damage),

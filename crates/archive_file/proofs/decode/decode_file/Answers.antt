@@ -1,6 +1,7 @@
 use Rattle.key_spec.specs.View.{spec_view}
 use Rattle.archive_file.proofs.AlikeLaws.{keyed-alike}
 use Rattle.archive_file.proofs.FewItems.{sound-few}
+use Rattle.archive_file.proofs.KeyedLaws.{sound-plain}
 use Rattle.archive_file.proofs.OneReading.{sound-one}
 use Rattle.archive_file.proofs.decode.decode_file.Goals as goal
 
@@ -30,3 +31,15 @@ returns-clause-items c = λ rules vs s. sound-few rules vs c.args.bytes.now s
 
 pub returns-clause-alike : goal.returns-clause-alike
 returns-clause-alike c = λ vs h. keyed-alike (spec_view c.in_ok-spec.spec) vs h
+
+pub returns-in_err-spec-clause-plain : goal.returns-in_err-spec-clause-plain
+returns-in_err-spec-clause-plain c = λ rules vs s. sound-plain rules vs c.args.bytes.now s
+
+pub returns-in_err-is_file-clause-plain : goal.returns-in_err-is_file-clause-plain
+returns-in_err-is_file-clause-plain c = λ rules vs s. sound-plain rules vs c.args.bytes.now s
+
+pub returns-then-not-branch-clause-plain : goal.returns-then-not-branch-clause-plain
+returns-then-not-branch-clause-plain c = λ rules vs s. sound-plain rules vs c.args.bytes.now s
+
+pub returns-clause-plain : goal.returns-clause-plain
+returns-clause-plain c = λ rules vs s. sound-plain rules vs c.args.bytes.now s

@@ -1,9 +1,11 @@
-use Rattle.std.proofs.Common.{sym, subst, drop}
+use Rattle.std.proofs.Common.{IsTrue, sym, subst, drop}
 use Rattle.key_spec.specs.View.{spec_view}
 use Rattle.version_set.specs.Members.{upto_pairs}
+use Rattle.archive_tree.specs.Data.{PlainArchive}
 use Rattle.archive_tree.specs.Stands.{ArchiveOf}
 use Rattle.archive_tree.specs.View.{nodes_view}
 use Rattle.record_format.specs.Files.{tail_bytes}
+use Rattle.archive_file.specs.Laid.{are_nested}
 use Rattle.archive_file.proofs.LaidLaws.{finds-handed, fails-handed}
 use Rattle.archive_file.proofs.SoundLaws.{sound-row, sound-reads, sound-has-header, sound-archive}
 use Rattle.archive_file.proofs.decode.read_archive.Goals as goal
@@ -36,3 +38,8 @@ returns-in-None-clause-found c = λ rules vs s. (
     let row = c.in_ok-kids.ensures.found (upto_pairs a.n) a.kids (tail_bytes a) (sound-row rules vs bytes s (drop c.in_ok-spec.at bytes) h.now_is) in
     let none = rw c.in-None.is at c.in_ok-archive.ensures.none in
     none vs (sound-archive rules vs bytes s c.in_ok-spec.n (nodes_view c.in_ok-kids.kids.items) h.count row.0))
+
+pub returns-in-Some-clause-nested : goal.returns-in-Some-clause-nested
+returns-in-Some-clause-nested c =
+    let parts = rw c.in-Some.is at c.in_ok-archive.ensures.parts in
+    subst (λ (a : PlainArchive). IsTrue (are_nested 120 a.kids)) (sym parts) c.in_ok-kids.ensures.nested

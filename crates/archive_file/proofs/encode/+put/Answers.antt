@@ -8,7 +8,7 @@ use Rattle.archive_tree.specs.declared.node.ANode.{ANode, the_lemmas}
 use Rattle.archive_tree.proofs.NodeViews.{node_view-Inner, node_view-Leaf}
 use Rattle.record_format.specs.Nodes.{Piece, piece_bytes, entries_from, node_piece, node_pieces}
 use Rattle.record_format.specs.View.{entry_view}
-use Rattle.archive_file.proofs.PutLaws.{on-ok, inner-parts, inner-bytes, leaf-bytes, row-bytes, more-wrote, more-entries, more-sets, piece-set, all-pieces, parts-on, count-on}
+use Rattle.archive_file.proofs.PutLaws.{on-ok, if-ok, inner-parts, inner-bytes, inner-dir, leaf-bytes, leaf-dir, row-bytes, row-dir, more-wrote, more-entries, more-sets, piece-set, all-pieces, parts-on, count-on}
 use Rattle.archive_file.proofs.encode.+put.Goals as goal
 
 pub put_node-put_row-requires : goal.put_node-put_row-requires
@@ -72,3 +72,20 @@ put_nodes-returns-clause-dir t c =
 pub put_row-returns-clause-bytes : goal.put_row-returns-clause-bytes
 put_row-returns-clause-bytes t c =
     row-bytes _ _ _ (node_pieces (pairs_of c.args.set.now) (nodes_view c.args.nodes.now)) _ c.in_ok-dir.ensures.bytes c.in_ok-dir.ensures.dir (rw (c.deref.ensures.value, c.deref-2.ensures.value) at c.in_ok-put_end.ensures.ok)
+
+pub put_row-returns-clause-dir : goal.put_row-returns-clause-dir
+put_row-returns-clause-dir t c =
+    row-dir c.put_nodes.new.out.items c.put_end.new.out.items c.len.result c.len-at.result (node_pieces (pairs_of c.args.set.now) (nodes_view c.args.nodes.now)) _ c.in_ok-dir.ensures.dir
+    (rw (c.deref.ensures.value, c.deref-2.ensures.value) at c.in_ok-put_end.ensures.ok) (omega arith) (omega arith)
+
+pub put_node-returns-in_ok-put_inner-in-Inner-clause-dir : goal.put_node-returns-in_ok-put_inner-in-Inner-clause-dir
+put_node-returns-in_ok-put_inner-in-Inner-clause-dir t c =
+    let i = c.in-Inner in
+    if-ok c.put_row.result
+    (λ d h. inner-dir d (pairs_of c.args.parent.now) (pairs_of c.effective.result.now) (node_view c.args.node.now) (label_view i.label) (stamp_view i.stamp) (nodes_view i.kids.items) (ap node_view i.is ∙ node_view-Inner i.label i.stamp i.kids) c.effective.ensures.pairs h)
+    (rw c.deref.ensures.value at c.put_row.ensures.dir)
+
+pub put_node-returns-in_ok-put_leaf_end-in-Leaf-clause-dir : goal.put_node-returns-in_ok-put_leaf_end-in-Leaf-clause-dir
+put_node-returns-in_ok-put_leaf_end-in-Leaf-clause-dir t c =
+    let i = c.in-Leaf in
+    leaf-dir (pairs_of c.args.parent.now) (node_view c.args.node.now) (label_view i.label) (stamp_view i.stamp) (map alt_view i.alts.items) (ap node_view i.is ∙ node_view-Leaf i.label i.stamp i.alts)

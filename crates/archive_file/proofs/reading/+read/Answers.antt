@@ -1,4 +1,4 @@
-use Rattle.std.proofs.Common.{IsTrue, List, [], ◌∷◌, sym, ap, ◌∙◌, map, drop, subst, refl, arith}
+use Rattle.std.proofs.Common.{◌-◌, ltb, IsTrue, List, [], ◌∷◌, sym, ap, ◌∙◌, map, drop, subst, refl, arith}
 use Rattle.std.proofs.lemmas.List.{map-append}
 use Rattle.keyed_tree.specs.View.{label_view}
 use Rattle.keyed_tree.specs.WellFormed.{is_label_well_formed}
@@ -7,9 +7,10 @@ use Rattle.archive_tree.specs.WellFormed.{are_alts_well_formed, are_nodes_well_f
 use Rattle.archive_tree.specs.View.{stamp_view, alt_view, node_view, nodes_view}
 use Rattle.archive_tree.proofs.NodeViews.{node_view-Inner, node_view-Leaf}
 use Rattle.record_format.specs.Nodes.{set_in}
-use Rattle.archive_file.proofs.GoesLaws.{both-hold}
+use Rattle.archive_file.proofs.GoesLaws.{both-hold, of-lt}
 use Rattle.archive_file.proofs.LaidLaws.{RowLeft, node-none, node-kind, node-inner, node-leaf, row-start, row-frame, row-end, row-node, frame-on, finds-handed, fails-handed}
-use Rattle.archive_file.proofs.WellLaws.{label-well, nodes-more}
+use Rattle.archive_file.specs.Laid.{is_nested, are_nested}
+use Rattle.archive_file.proofs.WellLaws.{label-well, nodes-more, nested-more}
 use Rattle.archive_file.proofs.reading.+read.Goals as goal
 
 pub read_node-returns-in_err-rec-clause-found : goal.read_node-returns-in_err-rec-clause-found
@@ -41,6 +42,15 @@ read_node-returns-in-Inner-clause-well_formed t c =
     let ks = c.in_ok-kids-in-Inner.kids in
     let is = rw c.in-Inner.is at c.in_ok-rec.ensures.is in
     subst IsNodeWellFormed (sym (node_view-Inner l s ks)) (both-hold (is_label_well_formed (label_view l)) (are_nodes_well_formed (nodes_view ks.items)) (label-well (label_view l) is.body.0) c.in_ok-kids-in-Inner.ensures.well_formed)
+
+pub read_node-returns-in-Inner-clause-nested : goal.read_node-returns-in-Inner-clause-nested
+read_node-returns-in-Inner-clause-nested t c =
+    let d = c.args.depth in
+    let ks = c.in_ok-kids-in-Inner.kids in
+    subst (λ (k : PlainNode). IsTrue (is_nested d k)) (sym (node_view-Inner c.in-Inner.label c.in-Inner.stamp ks)) (both-hold (ltb 0 d) (are_nested (d - 1) (nodes_view ks.items)) (of-lt 0 d (omega arith)) c.in_ok-kids-in-Inner.ensures.nested)
+
+pub read_node-returns-in-Leaf-clause-nested : goal.read_node-returns-in-Leaf-clause-nested
+read_node-returns-in-Leaf-clause-nested t c = subst (λ (k : PlainNode). IsTrue (is_nested c.args.depth k)) (sym (node_view-Leaf c.in-Leaf.label c.in-Leaf.stamp c.in_ok-alts-in-Leaf.alts)) refl
 
 pub read_node-returns-in_err-alts-in-Leaf-clause-found : goal.read_node-returns-in_err-alts-in-Leaf-clause-found
 read_node-returns-in_err-alts-in-Leaf-clause-found t c = λ parent k rest h. (
@@ -83,6 +93,7 @@ read_row-loop-kind-init t c =
     record {
       left = λ set ks rest h. rw c.new-nodes.ensures.items (row-start set ks rest c.args.depth (drop c.args.start c.args.bytes.now) h);
       well_formed = rw c.new-nodes.ensures.items refl;
+      nested = rw c.new-nodes.ensures.items refl;
       further = omega arith;
     }
 
@@ -119,5 +130,6 @@ read_row-loop-kind-preserved t c =
           let read = c.in_ok-node.ensures.found set i.first i.behind i.lies in
           subst (λ (done : List PlainNode). RowLeft set ks rest c.args.depth done (drop c.in_ok-node.end c.args.bytes.now)) (sym pushed) (i.on (node_view node) (drop c.in_ok-node.end c.args.bytes.now) read.0 read.1));
       well_formed = subst (λ (done : List PlainNode). IsTrue (are_nodes_well_formed (nodes_from done))) (sym pushed) (nodes-more (map node_view l.nodes.items) (node_view node) l.invariant.well_formed c.in_ok-node.ensures.well_formed);
+      nested = subst (λ (done : List PlainNode). IsTrue (are_nested c.args.depth (nodes_from done))) (sym pushed) (nested-more c.args.depth (map node_view l.nodes.items) (node_view node) l.invariant.nested c.in_ok-node.ensures.nested);
       further = omega (arith, c.in_ok-node.ensures.further);
     }

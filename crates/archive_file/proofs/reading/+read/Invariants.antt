@@ -1,8 +1,8 @@
-use Rattle.std.proofs.Common.{◌≤◌, ◌+◌, ◌*◌, ◌-◌, ℕ, List, map, drop, length}
+use Rattle.std.proofs.Common.{◌≤◌, ◌+◌, ◌*◌, ◌-◌, ℕ, IsTrue, List, map, drop, length}
 use Rattle.archive_tree.specs.Data.{PlainNodes}
 use Rattle.archive_tree.specs.View.{node_view, nodes_view}
 use Rattle.archive_tree.specs.WellFormed.{AreNodesWellFormed}
-use Rattle.archive_file.specs.Laid.{RowAt}
+use Rattle.archive_file.specs.Laid.{are_nested, RowAt}
 use Rattle.archive_file.proofs.LaidLaws.{RowLeft}
 use Rattle.archive_file.proofs.reading.+read.Given as goal
 
@@ -18,6 +18,7 @@ invariant-read_row-loop-kind l =
     record {
       left : (set : List (ℕ × ℕ)) (ks : PlainNodes) (rest : List ℕ) → RowAt set ks rest l.depth (drop l.fn.start l.bytes) → RowLeft set ks rest l.depth (map node_view l.nodes.items) (drop l.at l.bytes);
       well_formed : AreNodesWellFormed (nodes_view l.nodes.items);
+      nested : IsTrue (are_nested l.depth (nodes_view l.nodes.items));
       further : l.fn.start ≤ l.at;
     }
 

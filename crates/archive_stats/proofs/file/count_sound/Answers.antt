@@ -1,5 +1,4 @@
 use Rattle.std.proofs.Common.{◌≡◌, List, sym, ap, subst, ◌∙◌}
-use Rattle.std.proofs.Math.Logic.{∥∥₁_map}
 use Rattle.key_spec.specs.Data.{PlainRule}
 use Rattle.key_spec.specs.View.{spec_view}
 use Rattle.archive_tree.specs.ArchiveView.{archive_view}
@@ -21,7 +20,3 @@ returns-in_ok-count_file-in-Ok-clause-counts c = λ rules vs a sound is. (
     let P : List PlainRule → Type 0 = λ rs. HasFile rs a × (bytes ≡ file_bytes rs a) → counts_view found.field-0 ≡ counts rs a in
     let counted : P (spec_view c.in-Ok.spec) = λ h. found.ensures a n h.0 h.1 in
     subst P read.0 counted (file-of rules vs a bytes is sound.file))
-
-pub returns-in_ok-count_file-in-Ok-clause-sound : goal.returns-in_ok-count_file-in-Ok-clause-sound
-returns-in_ok-count_file-in-Ok-clause-sound c =
-    ∥∥₁_map c.in-Ok.archive.stands (λ k. record { rules = spec_view c.in-Ok.spec; versions = k.versions; is = c.in-Ok.ensures.sound k.versions k.is })

@@ -1,11 +1,11 @@
 use Rattle.std.proofs.Common.{length, ap, arith}
 use Rattle.key_spec.specs.Canonical.{canonical}
 use Rattle.key_spec.specs.View.{spec_view}
-use Rattle.archive_file.proofs.FrontLaws.{canonical-short}
-use Rattle.archive_file.proofs.encode.put_header.Goals as goal
+use Rattle.record_format.proofs.HeaderLaws.{canonical_short}
+use Rattle.record_format.proofs.headers.put_header.Goals as goal
 
 pub put_text-requires : goal.put_text-requires
 put_text-requires c =
     let rules = spec_view c.args.spec.now in
-    let short = canonical-short (canonical rules) rules c.in_ok-text.ensures.again in
+    let short = canonical_short (canonical rules) rules c.in_ok-text.ensures.again in
     omega (arith, short, ap length c.as_str.ensures.value, ap length c.in_ok-text.ensures.text)

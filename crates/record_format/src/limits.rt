@@ -1,0 +1,10 @@
+// The numbers of the format.
+
+/// The first bytes of each archive file.
+pub(crate) const MAGIC: [u8; 6] = *b"XARC1\n";
+
+/// An archive has at most so many versions.
+pub const MOST_VERSIONS: u32 = 999_999;
+
+/// Elements nest at most so deep.
+pub const DEEPEST: u32 = 120;
