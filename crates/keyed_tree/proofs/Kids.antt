@@ -23,9 +23,6 @@ pub kids_from-kids_list : (ks : PlainKids) → kids_from (kids_list ks) ≡ ks
 kids_from-kids_list no_kids = refl
 kids_from-kids_list (kid k ks) = ap (λ z. kid k z) (kids_from-kids_list ks)
 
-pub kids_from-injective : (ks js : List PlainKeyed) → kids_from ks ≡ kids_from js → ks ≡ js
-kids_from-injective ks js e = sym (kids_list-kids_from ks) ∙ ap kids_list e ∙ kids_list-kids_from js
-
 pub kids_list-injective : (ks js : PlainKids) → kids_list ks ≡ kids_list js → ks ≡ js
 kids_list-injective ks js e = sym (kids_from-kids_list ks) ∙ ap kids_from e ∙ kids_from-kids_list js
 

@@ -28,16 +28,6 @@ pub kid_ordered : (t c : PlainKeyed) → IsOrdered t → Has c (kids_of t) → I
 kid_ordered (inner l ks) c h m = are_ordered-has ks c (both (ascend ks) (are_ordered ks) h).1 m
 kid_ordered (leaf l b) c h m = absurd m
 
-are_proper-has : (ks : PlainKids) (c : PlainKeyed) → IsTrue (are_proper ks) → Has c (kids_list ks) → IsProper c
-are_proper-has no_kids c h m = absurd m
-are_proper-has (kid k ks) c h m =
-    let two = both (is_proper k) (are_proper ks) h in
-    elim m [ inl e ↦ subst IsProper e two.0 | inr n ↦ are_proper-has ks c two.1 n ]
-
-pub kid_proper : (t c : PlainKeyed) → IsProper t → Has c (kids_of t) → IsProper c
-kid_proper (inner l ks) c h m = are_proper-has ks c (both (is_tag l.name && ascend ks) (are_proper ks) h).1 m
-kid_proper (leaf l b) c h m = absurd m
-
 are_well-has : (ks : PlainKids) (c : PlainKeyed) → IsTrue (are_kids_well_formed ks) → Has c (kids_list ks) → IsKeyedWellFormed c
 are_well-has no_kids c h m = absurd m
 are_well-has (kid k ks) c h m =
