@@ -85,11 +85,7 @@ pub fn unite(alloc: Global, ours: &[(u32, u32)], theirs: &[(u32, u32)]) -> Resul
     Ok(all)
 }
 
-fn put_union(
-    all: &mut Pairs,
-    ours: &[(u32, u32)],
-    theirs: &[(u32, u32)],
-) -> Result<(), AllocError>
+fn put_union(all: &mut Pairs, ours: &[(u32, u32)], theirs: &[(u32, u32)]) -> Result<(), AllocError>
     requires empty { all.old.items ≡ [] }
     requires ours { IsCanonical ours.now }
     requires theirs { IsCanonical theirs.now }

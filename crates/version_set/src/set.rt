@@ -130,12 +130,12 @@ impl VersionSet {
     }
 
     /// Adds an interval behind the others, and answers whether it may stand there: not where it
-    /// begins before them, touches one or holds no number from 1 on.
+    /// touches them or begins before their end, begins at 0, or ends before it begins.
     pub fn push_pair(&mut self, pair: (u32, u32)) -> Result<bool, AllocError>
         ensures exact { IfOk result (λ may.
             IsTrue may ↔ IsCanonical (pairs_of self.old ++ pair ∷ [])) }
-        ensures pairs { IfOk result (λ may.
-            pairs_of self.new ≡ (if may then pairs_of self.old ++ pair ∷ [] else pairs_of self.old)) }
+        ensures pairs { IfOk result (λ may. pairs_of self.new
+            ≡ (if may then pairs_of self.old ++ pair ∷ [] else pairs_of self.old)) }
         ensures err { OnErr result (pairs_of self.new ≡ pairs_of self.old) }
     {
         if !may_follow(self.pairs.as_slice(), pair) {
@@ -184,7 +184,8 @@ impl VersionSet {
             → IsVersion (pos n +ℤ by) }
         ensures members { IfOk result (λ set.
             members (pairs_of set) ≡ map (moved by) (members (pairs_of self.now))) }
-        ensures pairs { IfOk result (λ set. pairs_of set ≡ map (moved_pair by) (pairs_of self.now)) }
+        ensures pairs { IfOk result (λ set.
+            pairs_of set ≡ map (moved_pair by) (pairs_of self.now)) }
     {
         let alloc = *self.pairs.allocator();
         let pairs = shifted(alloc, self.pairs(), by)?;

@@ -22,7 +22,8 @@ pub fn text_of(alloc: Global, pairs: &[(u32, u32)]) -> Result<String, AllocError
 
 /// Appends intervals, each behind a `,`.
 fn put_others(text: &mut String, others: &[(u32, u32)]) -> Result<(), AllocError>
-    ensures { OnOk result (string_bytes text.new ≡ string_bytes text.old ++ flat_map (λ p. codes "," ++ pair_text p) others.now) }
+    ensures { OnOk result (string_bytes text.new
+        ≡ string_bytes text.old ++ flat_map (λ p. codes "," ++ pair_text p) others.now) }
 {
     for pair in others {
         text.push(',')?;

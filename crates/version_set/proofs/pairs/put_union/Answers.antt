@@ -1,5 +1,4 @@
-use Rattle.std.proofs.Common.{◌≡◌, ℕ, List, sym, subst, arith}
-use Rattle.version_set.specs.Walk.{Joins}
+use Rattle.std.proofs.Common.{ℕ, List, sym, subst, arith}
 use Rattle.version_set.proofs.Walks.{Unites, Unites-starts, Unites-swap, unite_both, unite_one}
 use Rattle.version_set.proofs.pairs.put_union.Goals as goal
 

@@ -1,8 +1,6 @@
 use Rattle.std.proofs.Common.{◌∙◌, ap, sym}
-use Rattle.std.specs.String.{string_bytes}
 use Rattle.std.proofs.lemmas.Result.{IfOk-weaker}
 use Rattle.version_set.specs.Text.{set_text}
-use Rattle.version_set.specs.Pairs.{IsCanonical}
 use Rattle.version_set.proofs.MembersLemmas.{intervals-members}
 use Rattle.version_set.proofs.set.VersionSet.text.Goals as goal
 
