@@ -2,7 +2,8 @@
 use Rattle.std.proofs.Common.{◌≡◌, ℕ, suc, ◌+◌, true, false, cond, List, [], ◌∷◌, ◌++◌, length, Some, None, IfSome, refl, ap, sym, subst, ◌∙◌, arith, inl, inr, length-append}
 use Rattle.std.specs.List.{AllByRecursion, enumerate_from, range_with_len}
 use Rattle.std.specs.Ordering.{is_eq}
-use Rattle.version_set.specs.Members.{members}
+use Rattle.version_set.specs.Members.{members, upto_pairs}
+use Rattle.version_set.proofs.Sets.{members-upto_pairs, IsCanonical-upto_pairs}
 use Rattle.keyed_tree.specs.Data.{PlainLabel, PlainKeyed, label_of}
 use Rattle.keyed_tree.specs.Kids.{IsOrdered, kid_at}
 use Rattle.keyed_tree.specs.Laws.{label_cmp-is_eq}
@@ -13,10 +14,10 @@ use Rattle.keyed_tree.proofs.Lists.{has_all}
 use Rattle.archive_tree.specs.Data.{PlainNodes, no_nodes, node, node_label, PlainArchive}
 use Rattle.archive_tree.specs.Stands.{nums, passed, rooted, numbered, RowStands, EachStands, ArchiveOf}
 use Rattle.archive_tree.proofs.Those.{onto, all_those, labelled, rooted_has, nums-enumerate}
-use Rattle.nested_merge.specs.Merged.{upto, merged_row, with_version}
+use Rattle.nested_merge.specs.Merged.{merged_row, with_version}
 use Rattle.nested_merge.specs.Alike.{AlikeAll}
 use Rattle.nested_merge.proofs.Picked.{those-append, nums-append, all_append}
-use Rattle.nested_merge.proofs.Stamps.{Below, members-upto, IsCanonical-upto, range_below}
+use Rattle.nested_merge.proofs.Stamps.{Below, range_below}
 use Rattle.nested_merge.proofs.Grown.{Fits, EachFits, row_grows, nodes_grow}
 use Rattle.nested_merge.proofs.Alikes.{all_alike, AlikeBelow, alike_below, fits}
 
@@ -36,8 +37,8 @@ numbered_has n i t [] m = absurd m
 numbered_has n i t (v ∷ vs) m = elim m [ inl e ↦ inl (ap (λ (z : ℕ × PlainKeyed). z.1) e) | inr x ↦ inr (numbered_has (n + 1) i t vs x) ]
 
 module _ (vs : List PlainKeyed) (a : PlainArchive) (k : PlainKeyed) (h : ArchiveOf vs a) (alike : AlikeAll vs k) where
-  set : members (upto a.n) ≡ nums (numbered vs)
-  set = members-upto a.n ∙ sym (nums-enumerate 1 vs ∙ ap (range_with_len 1) h.count)
+  set : members (upto_pairs a.n) ≡ nums (numbered vs)
+  set = members-upto_pairs a.n ∙ sym (nums-enumerate 1 vs ∙ ap (range_with_len 1) h.count)
 
   alike_roots : (l : PlainLabel) → label_of k ≡ l → AllByRecursion (λ w. AlikeBelow w.1 k) (rooted (numbered vs) l)
   alike_roots l e = has_all (λ (w : ℕ × PlainKeyed). AlikeBelow w.1 k) (rooted (numbered vs) l)
@@ -59,10 +60,10 @@ module _ (vs : List PlainKeyed) (a : PlainArchive) (k : PlainKeyed) (h : Archive
       let u = rooted (numbered vs) in
       let u' = rooted (numbered (vs ++ k ∷ [])) in
       let low : Below (n + 1) (nums (numbered vs)) = subst (λ z. Below (n + 1) z) (sym (nums-enumerate 1 vs)) (range_below (n + 1) 1 (length vs) (let c = h.count in omega arith)) in
-      let old : RowStands a.kids u (EachStands a.kids u (members (upto n))) = subst (λ z. RowStands a.kids u (EachStands a.kids u z)) (sym set) h.row in
-      let row = row_grows (n + 1) (upto n) (omega arith) (IsCanonical-upto n) u u' (λ l. all_those _ _ (numbered vs) low) (k ∷ []) (root_more vs k n h.count) a.kids (nodes_grow a.kids) (tt, tt) (λ c m. elim m [ inl e ↦ subst IsOrdered e o | inr x ↦ absurd x ]) (root_fits a.kids h.row.kids) old in
-      let numbers : members (upto n) ++ (n + 1) ∷ [] ≡ nums (numbered (vs ++ k ∷ [])) = ap (λ z. z ++ (n + 1) ∷ []) set ∙ sym (nums-append (numbered vs) (n + 1) k) ∙ ap nums (sym (numbered-append vs k n h.count)) in
-      let new = merged_row (n + 1) (upto n) a.kids (k ∷ []) in
+      let old : RowStands a.kids u (EachStands a.kids u (members (upto_pairs n))) = subst (λ z. RowStands a.kids u (EachStands a.kids u z)) (sym set) h.row in
+      let row = row_grows (n + 1) (upto_pairs n) (omega arith) (IsCanonical-upto_pairs n) u u' (λ l. all_those _ _ (numbered vs) low) (k ∷ []) (root_more vs k n h.count) a.kids (nodes_grow a.kids) (tt, tt) (λ c m. elim m [ inl e ↦ subst IsOrdered e o | inr x ↦ absurd x ]) (root_fits a.kids h.row.kids) old in
+      let numbers : members (upto_pairs n) ++ (n + 1) ∷ [] ≡ nums (numbered (vs ++ k ∷ [])) = ap (λ z. z ++ (n + 1) ∷ []) set ∙ sym (nums-append (numbered vs) (n + 1) k) ∙ ap nums (sym (numbered-append vs k n h.count)) in
+      let new = merged_row (n + 1) (upto_pairs n) a.kids (k ∷ []) in
       record {
         count = length-append vs (k ∷ []) ∙ (let c = h.count in omega arith);
         ordered = all_append IsOrdered vs (k ∷ []) h.ordered (o, tt);

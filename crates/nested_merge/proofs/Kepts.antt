@@ -4,6 +4,7 @@ use Rattle.std.proofs.lemmas.List.{take_more, map-append}
 use Rattle.std.proofs.Math.Bool.{Bool-set}
 use Rattle.std.proofs.Math.Logic.{∥∥₁_elim, ∥∥₁_map}
 use Rattle.std.specs.List.{AllByRecursion}
+use Rattle.version_set.specs.Members.{upto_pairs}
 use Rattle.keyed_tree.specs.Data.{PlainKeyed}
 use Rattle.keyed_tree.specs.Kids.{IsOrdered}
 use Rattle.keyed_tree.specs.Lists.{Has}
@@ -14,8 +15,8 @@ use Rattle.archive_tree.specs.Stands.{AllAlike, ArchiveOf, Kept}
 use Rattle.archive_tree.proofs.Readings.{one_list}
 use Rattle.nested_merge.specs.Alike.{AlikeAll}
 use Rattle.nested_merge.specs.Below.{are_nodes_below}
-use Rattle.nested_merge.specs.Laws.{version_at}
-use Rattle.nested_merge.specs.Merged.{upto, merged_row, with_version}
+use Rattle.archive_tree.specs.Read.{version_at}
+use Rattle.nested_merge.specs.Merged.{merged_row, with_version}
 use Rattle.nested_merge.proofs.ArchiveGrows.{archive_grows}
 use Rattle.nested_merge.proofs.Bounds.{archive_below}
 use Rattle.nested_merge.proofs.VersionsStay.{stays, added, read_alike}
@@ -24,7 +25,7 @@ pub kept_below : (a : PlainArchive) → ∥ Kept a ∥₁ → IsTrue (are_nodes_
 kept_below a kept = ∥∥₁_elim {P = IsTrue (are_nodes_below (a.n + 1) a.kids)} kept (Bool-set (are_nodes_below (a.n + 1) a.kids) true) (λ k. archive_below k.versions a k.is)
 
 -- the parts that a merge makes are those of the archive with the version
-pub made_version : (a : PlainArchive) (k : PlainKeyed) (n : ℕ) (ks js : PlainNodes) → ◌≡◌ {A = PlainArchive} (record { n = n; kids = ks }) a → js ≡ merged_row (n + 1) (upto n) ks (k ∷ [])
+pub made_version : (a : PlainArchive) (k : PlainKeyed) (n : ℕ) (ks js : PlainNodes) → ◌≡◌ {A = PlainArchive} (record { n = n; kids = ks }) a → js ≡ merged_row (n + 1) (upto_pairs n) ks (k ∷ [])
     → ◌≡◌ {A = PlainArchive} (record { n = n + 1; kids = js }) (with_version a k)
 made_version a k n ks js parts grown = (λ i. record { n = n + 1; kids = grown i }) ∙ ap (λ (z : PlainArchive). with_version z k) parts
 

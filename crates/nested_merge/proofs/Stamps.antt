@@ -1,7 +1,6 @@
 -- Stamps as a version is added.
-use Rattle.std.proofs.Common.{◌≡◌, ◌≢◌, ℕ, zero, suc, ◌+◌, ◌-◌, ◌==◌, ◌<◌, ◌≤◌, false, List, [], ◌∷◌, ◌++◌, Some, None, refl, ap, sym, subst, ◌∙◌, arith}
-use Rattle.std.proofs.lemmas.List.{append_cancel_right, append-nil}
-use Rattle.std.proofs.lemmas.Bool.Decides.{nat_tests}
+use Rattle.std.proofs.Common.{◌≡◌, ◌≢◌, ℕ, zero, suc, ◌+◌, ◌-◌, ◌==◌, ◌<◌, ◌≤◌, List, [], ◌∷◌, ◌++◌, Some, None, refl, ap, sym, subst, ◌∙◌, arith}
+use Rattle.std.proofs.lemmas.List.{append_cancel_right}
 use Rattle.std.specs.List.{AllByRecursion, range_with_len}
 use Rattle.std.specs.Option.{unwrap_or}
 use Rattle.version_set.specs.Pairs.{IsCanonical, last_of}
@@ -10,7 +9,7 @@ use Rattle.version_set.proofs.MembersLemmas.{members-with_last, IsCanonical-with
 use Rattle.version_set.proofs.SetLemmas.{greatest-members}
 use Rattle.archive_tree.specs.Data.{Stamp, eff}
 use Rattle.archive_tree.specs.Stands.{Stamped}
-use Rattle.nested_merge.specs.Merged.{upto, grown, kept, started}
+use Rattle.nested_merge.specs.Merged.{grown, kept, started}
 
 abbrev pub Below : ℕ → List ℕ → Type 0
 Below n ms = AllByRecursion (λ m. m < n) ms
@@ -111,19 +110,6 @@ eff_canonical None q ns ps h c = c
 eff_canonical (Some t) q ns ps h c = h.canonical t refl
 
 -- ---- the numbers from 1 to n
-
-upto-suc : (n : ℕ) → upto (suc n) ≡ (1, suc n) ∷ []
-upto-suc n = (let e : (suc n == 0) ≡ false = grind (arith, nat_tests) in rw e)
-
-pub members-upto : (n : ℕ) → members (upto n) ≡ range_with_len 1 n
-members-upto zero = refl
-members-upto (suc n) =
-    let e : suc n + 1 - 1 ≡ suc n = omega arith in
-    ap members (upto-suc n) ∙ ap (λ (k : ℕ). range_with_len 1 k ++ []) e ∙ append-nil (range_with_len 1 (suc n))
-
-pub IsCanonical-upto : (n : ℕ) → IsCanonical (upto n)
-IsCanonical-upto zero = tt
-IsCanonical-upto (suc n) = subst IsCanonical (sym (upto-suc n)) (let here : IsCanonical ((1, suc n) ∷ []) = (omega arith, omega arith, tt) in here)
 
 pub range_below : (n a m : ℕ) → a + m ≤ n → Below n (range_with_len a m)
 range_below n a zero h = tt

@@ -1,17 +1,13 @@
 -- What the nodes of an archive become with one more version.
-use Rattle.std.specs.Prelude.{ℕ, ◌+◌, ◌==◌, Bool, List, [], ◌∷◌, ◌++◌, map, Option, Some, None, if◌then◌else◌}
+use Rattle.std.specs.Prelude.{ℕ, ◌+◌, Bool, List, [], ◌∷◌, ◌++◌, map, Option, Some, None, if◌then◌else◌}
 use Rattle.std.specs.Option.{unwrap_or}
 use Rattle.std.specs.List.{list_any}
 use Rattle.std.specs.Ordering.{is_eq, is_lt, is_le}
-use Rattle.version_set.specs.Members.{with_last}
+use Rattle.version_set.specs.Members.{upto_pairs, with_last}
 use Rattle.keyed_tree.specs.Data.{PlainKey, PlainLabel, PlainKeyed, inner, leaf, PlainKids, no_kids, kid, kids_list, label_of}
 use Rattle.keyed_tree.specs.Kids.{kid_at}
 use Rattle.keyed_tree.specs.Order.{key_cmp, label_cmp}
 use Rattle.archive_tree.specs.Data.{Stamp, PlainAlt, PlainNode, inner_node, leaf_node, PlainNodes, no_nodes, node, node_label, PlainArchive}
-
--- the intervals of the numbers from 1 to n
-abbrev pub upto : ℕ → List (ℕ × ℕ)
-upto n = if n == 0 then [] else (1, n) ∷ []
 
 -- the stamp of what version n has too
 abbrev pub grown : ℕ → Stamp → Stamp
@@ -89,4 +85,4 @@ abbrev mutual
 
 -- an archive with one more version
 abbrev pub with_version : PlainArchive → PlainKeyed → PlainArchive
-with_version a k = record { n = a.n + 1; kids = merged_row (a.n + 1) (upto a.n) a.kids (k ∷ []) }
+with_version a k = record { n = a.n + 1; kids = merged_row (a.n + 1) (upto_pairs a.n) a.kids (k ∷ []) }

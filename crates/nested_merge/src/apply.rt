@@ -1,5 +1,5 @@
 // The nodes that a plan makes. Nothing here takes memory.
-ghost use Rattle.std.specs.Prelude.{◌≡◌, ◌≤◌, IsTrue, length, map, vec_len};
+ghost use Rattle.std.specs.Prelude.{◌≡◌, ◌≤◌, IsTrue, map, vec_len};
 ghost use Rattle.archive_tree.specs.Data.{nodes_list};
 ghost use Rattle.archive_tree.specs.View.{stamp_view, alt_view, node_view, nodes_view};
 ghost use Rattle.nested_merge.specs.Plan.{keep, is_roomy, are_roomy, changed, applied_alts, applied, applied_row, steps_from};

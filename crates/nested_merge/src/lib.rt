@@ -4,6 +4,7 @@
 mod alike;
 mod apply;
 mod fresh;
+mod laws;
 mod plan;
 mod planning;
 mod prepare;
@@ -12,4 +13,5 @@ mod stamp;
 mod version;
 
 pub use alike::is_alike;
+pub use laws::archives_grow_by_a_version;
 pub use version::{merge, merge_all};

@@ -1,11 +1,11 @@
 // The plan of one more version, and room for each row that it makes.
 ghost use Rattle.std.specs.Prelude.{◌≡◌, ◌+◌, ◌≤◌, ◌<◌, [], ◌∷◌, IfOk, IsTrue, map, vec_len};
+ghost use Rattle.version_set.specs.Members.{upto_pairs};
 ghost use Rattle.version_set.specs.View.{pairs_of};
 ghost use Rattle.keyed_tree.specs.Data.{kids_from};
 ghost use Rattle.keyed_tree.specs.Kids.{ascend, are_ordered, IsOrdered};
 ghost use Rattle.keyed_tree.specs.View.{key_view, keyed_view};
 ghost use Rattle.archive_tree.specs.View.{alt_view, node_view, nodes_view};
-ghost use Rattle.nested_merge.specs.Merged.{upto};
 ghost use Rattle.nested_merge.specs.Plan.{steps_list, gone_step, started_step, planned_alts, planned, planned_row};
 ghost use Rattle.nested_merge.specs.PlanView.{room_of, alt_step_view, step_view, change_view};
 
@@ -25,7 +25,7 @@ pub fn plan_of(alloc: Global, n: u32, old: &[ANode], new: &Keyed) -> Result<Plan
     requires room { n < 4294967295 }
     requires ordered { IsOrdered (keyed_view new.now) }
     ensures steps { IfOk result (λ p. map step_view p.steps.items
-        ≡ steps_list (planned_row (n + 1) (upto n) (nodes_view old.now) (keyed_view new.now ∷ []))) }
+        ≡ steps_list (planned_row (n + 1) (upto_pairs n) (nodes_view old.now) (keyed_view new.now ∷ []))) }
     ensures room { IfOk result (λ p. vec_len p.steps ≤ room_of p.space) }
 {
     let all = VersionSet::upto(alloc, n);

@@ -1,18 +1,20 @@
 // An archive with one more version.
 ghost use Rattle.std.specs.Prelude.{◌≡◌, ◌+◌, ◌≤◌, ◌<◌, ◌++◌, ℕ, List, [], ◌∷◌, Some, IsTrue, IfOk, IfErr, map, length};
 ghost use Rattle.std.specs.List.{AllByRecursion};
+ghost use Rattle.version_set.specs.Members.{upto_pairs};
 ghost use Rattle.keyed_tree.specs.Data.{PlainKeyed};
 ghost use Rattle.keyed_tree.specs.Kids.{IsOrdered};
 ghost use Rattle.keyed_tree.specs.Proper.{IsElement};
 ghost use Rattle.keyed_tree.specs.WellFormed.{IsKeyedWellFormed};
 ghost use Rattle.keyed_tree.specs.View.{keyed_view};
 ghost use Rattle.archive_tree.specs.ArchiveView.{archive_view};
+ghost use Rattle.archive_tree.specs.Read.{version_at};
 ghost use Rattle.archive_tree.specs.Stands.{ArchiveOf};
 ghost use Rattle.archive_tree.specs.View.{nodes_view};
 ghost use Rattle.nested_merge.specs.Alike.{AlikeAll};
 ghost use Rattle.nested_merge.specs.Below.{are_nodes_below};
-ghost use Rattle.nested_merge.specs.Laws.{AreVersions, HasOneArchive, version_at};
-ghost use Rattle.nested_merge.specs.Merged.{upto, merged_row};
+ghost use Rattle.nested_merge.specs.Laws.{AreVersions, HasOneArchive};
+ghost use Rattle.nested_merge.specs.Merged.{merged_row, with_version};
 
 use crate::apply::applied_kids;
 use crate::planning::plan_of;
@@ -34,6 +36,7 @@ pub fn merge(alloc: Global, old: Archive, new: &Keyed) -> Result<Archive, (Alloc
     requires alike { (vs : List PlainKeyed) → ArchiveOf vs (archive_view old) → AlikeAll vs (keyed_view new.now) }
     ensures archive { IfOk result (λ a. (vs : List PlainKeyed) → ArchiveOf vs (archive_view old)
         → ArchiveOf (vs ++ keyed_view new.now ∷ []) (archive_view a)) }
+    ensures merged { IfOk result (λ a. archive_view a ≡ with_version (archive_view old) (keyed_view new.now)) }
     ensures count { IfOk result (λ a. (archive_view a).n ≡ (archive_view old).n + 1) }
 
     // Every earlier version is read as before, and the new one at the new number.
@@ -59,7 +62,7 @@ fn grown_kids(
     requires room { n < 4294967295 }
     requires below { IsTrue (are_nodes_below (n + 1) (nodes_view old.items)) }
     requires ordered { IsOrdered (keyed_view new.now) }
-    ensures grown { IfOk result (λ v. nodes_view v.items ≡ merged_row (n + 1) (upto n) (nodes_view old.items) (keyed_view new.now ∷ [])) }
+    ensures grown { IfOk result (λ v. nodes_view v.items ≡ merged_row (n + 1) (upto_pairs n) (nodes_view old.items) (keyed_view new.now ∷ [])) }
     ensures refused { IfErr result (λ e. nodes_view e.1.items ≡ nodes_view old.items) }
 {
     let plan = match plan_of(alloc, n, &old, new) {

@@ -2,7 +2,7 @@ use Rattle.std.proofs.Common.{◌≡◌, ◌+◌, [], ◌∷◌, map, ◌∙◌,
 use Rattle.std.proofs.lemmas.Grind.{common_steps}
 use Rattle.keyed_tree.specs.View.{keyed_view}
 use Rattle.archive_tree.specs.View.{node_view, nodes_view}
-use Rattle.nested_merge.specs.Merged.{upto}
+use Rattle.version_set.specs.Members.{upto_pairs}
 use Rattle.nested_merge.specs.Plan.{steps_list, planned_row}
 use Rattle.nested_merge.specs.PlanView.{step_view}
 use Rattle.nested_merge.proofs.PlannedVersion.{plan_roomy, plan_made}
@@ -13,7 +13,7 @@ applied_kids-requires-clause-roomy c =
     let n = c.args.n in
     let k = keyed_view c.args.new.now in
     let ss = map step_view c.in-Ok.plan.steps.items in
-    let planned : ss ≡ steps_list (planned_row (n + 1) (upto n) (nodes_view c.args.old.items) (k ∷ [])) = c.in-Ok.ensures.steps ∙ (λ i. steps_list (planned_row (n + 1) (upto n) (nodes_view (c.deref.ensures.value i)) (k ∷ []))) in
+    let planned : ss ≡ steps_list (planned_row (n + 1) (upto_pairs n) (nodes_view c.args.old.items) (k ∷ [])) = c.in-Ok.ensures.steps ∙ (λ i. steps_list (planned_row (n + 1) (upto_pairs n) (nodes_view (c.deref.ensures.value i)) (k ∷ []))) in
     plan_roomy n (nodes_view c.args.old.items) k ss planned
 
 pub returns-in-Ok-prepare_kids-clause-grown : goal.returns-in-Ok-prepare_kids-clause-grown
@@ -21,5 +21,5 @@ returns-in-Ok-prepare_kids-clause-grown c =
     let n = c.args.n in
     let k = keyed_view c.args.new.now in
     let ss = map step_view c.in-Ok.plan.steps.items in
-    let planned : ss ≡ steps_list (planned_row (n + 1) (upto n) (nodes_view c.args.old.items) (k ∷ [])) = c.in-Ok.ensures.steps ∙ (λ i. steps_list (planned_row (n + 1) (upto n) (nodes_view (c.deref.ensures.value i)) (k ∷ []))) in
+    let planned : ss ≡ steps_list (planned_row (n + 1) (upto_pairs n) (nodes_view c.args.old.items) (k ∷ [])) = c.in-Ok.ensures.steps ∙ (λ i. steps_list (planned_row (n + 1) (upto_pairs n) (nodes_view (c.deref.ensures.value i)) (k ∷ []))) in
     plan_made n (nodes_view c.args.old.items) k ss planned _ (map node_view c.applied_kids.result.items) (grind (arith, common_steps)) c.applied_kids.ensures

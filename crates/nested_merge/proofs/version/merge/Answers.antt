@@ -5,7 +5,7 @@ use Rattle.archive_tree.specs.Data.{PlainArchive}
 use Rattle.archive_tree.specs.Stands.{ArchiveOf, Kept}
 use Rattle.archive_tree.specs.View.{nodes_view}
 use Rattle.archive_tree.specs.WellFormed.{AreNodesWellFormed}
-use Rattle.nested_merge.specs.Laws.{version_at}
+use Rattle.archive_tree.specs.Read.{version_at}
 use Rattle.nested_merge.proofs.ArchiveGrows.{archive_grows}
 use Rattle.nested_merge.proofs.Kepts.{kept_below, made_version, kept_grows, kept_stays, kept_added}
 use Rattle.nested_merge.proofs.WellFormedGrows.{version_well}
@@ -34,6 +34,9 @@ returns-in-Ok-clause-archive c = λ vs h.
     let k = keyed_view c.args.new.now in
     let made = c.new.ensures.parts ∙ made_version a k _ _ _ c.into_parts-n.ensures.parts c.in-Ok.ensures.grown in
     subst (λ (z : PlainArchive). ArchiveOf (vs ++ k ∷ []) z) (sym made) (archive_grows vs a k h (c.requires.alike vs h) c.requires.ordered c.requires.element)
+
+pub returns-in-Ok-clause-merged : goal.returns-in-Ok-clause-merged
+returns-in-Ok-clause-merged c = c.new.ensures.parts ∙ made_version (archive_view c.args.old) (keyed_view c.args.new.now) _ _ _ c.into_parts-n.ensures.parts c.in-Ok.ensures.grown
 
 pub returns-in-Ok-clause-earlier : goal.returns-in-Ok-clause-earlier
 returns-in-Ok-clause-earlier c = λ i from to.
