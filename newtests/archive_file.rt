@@ -37,32 +37,85 @@ fn is_damage(alloc: Global, pieces: &[&[u8]]) -> Result<bool, AllocError> {
     Ok(matches!(decode_file(alloc, &bytes), Err(FileFault::Damage)))
 }
 
+// Whether the file of one leaf with one alternative is damaged, made of these pieces.
+fn is_damaged_by(
+    alloc: Global,
+    header: &[u8],
+    leaf: &[u8],
+    alt: &[u8],
+    end: &[u8],
+) -> Result<bool, AllocError> {
+    is_damage(alloc, &[header, leaf, alt, LEAF_END.as_slice(), end, TAIL.as_slice()])
+}
+
 #[test]
 fn the_pieces_are_a_sound_archive(rt: HostRuntime) -> Result<(), Fail> {
-    assert!(rt; is_sound(rt.alloc(), &[HEADER.as_slice(), LEAF.as_slice(), ALT.as_slice(), LEAF_END.as_slice(), END.as_slice(), TAIL.as_slice()])?);
+    let pieces = [
+        HEADER.as_slice(), LEAF.as_slice(), ALT.as_slice(), LEAF_END.as_slice(), END.as_slice(),
+        TAIL.as_slice(),
+    ];
+    assert!(rt; is_sound(rt.alloc(), &pieces)?);
     Ok(())
 }
 
 #[test]
 fn a_row_has_nodes_alone(rt: HostRuntime) -> Result<(), Fail> {
     let alloc = rt.alloc();
-    assert!(rt; is_damage(alloc, &[HEADER.as_slice(), ALT.as_slice(), END.as_slice(), TAIL.as_slice()])?);
-    assert!(rt; is_damage(alloc, &[HEADER.as_slice(), LEAF_END.as_slice(), END.as_slice(), TAIL.as_slice()])?);
-    assert!(rt; is_damage(alloc, &[HEADER.as_slice(), LEAF.as_slice(), ALT.as_slice(), LEAF_END.as_slice(), ALT.as_slice(), END.as_slice(), TAIL.as_slice()])?);
-    assert!(rt; is_damage(alloc, &[HEADER.as_slice(), b"\0\0\0\0\0\0\0\0\0".as_slice(), END.as_slice(), TAIL.as_slice()])?);
-    assert!(rt; is_damage(alloc, &[HEADER.as_slice(), b"\x06\0\0\0\0\0\0\0\0".as_slice(), END.as_slice(), TAIL.as_slice()])?);
-    assert!(rt; is_damage(alloc, &[HEADER.as_slice(), LEAF.as_slice(), ALT.as_slice(), LEAF_END.as_slice(), TAIL.as_slice()])?);
+    let pieces = [
+        HEADER.as_slice(), ALT.as_slice(), END.as_slice(), TAIL.as_slice(),
+    ];
+    assert!(rt; is_damage(alloc, &pieces)?);
+    let pieces = [
+        HEADER.as_slice(), LEAF_END.as_slice(), END.as_slice(), TAIL.as_slice(),
+    ];
+    assert!(rt; is_damage(alloc, &pieces)?);
+    let pieces = [
+        HEADER.as_slice(), LEAF.as_slice(), ALT.as_slice(), LEAF_END.as_slice(), ALT.as_slice(),
+        END.as_slice(), TAIL.as_slice(),
+    ];
+    assert!(rt; is_damage(alloc, &pieces)?);
+    let pieces = [
+        HEADER.as_slice(), b"\0\0\0\0\0\0\0\0\0".as_slice(), END.as_slice(), TAIL.as_slice(),
+    ];
+    assert!(rt; is_damage(alloc, &pieces)?);
+    let pieces = [
+        HEADER.as_slice(), b"\x06\0\0\0\0\0\0\0\0".as_slice(), END.as_slice(), TAIL.as_slice(),
+    ];
+    assert!(rt; is_damage(alloc, &pieces)?);
+    let pieces = [
+        HEADER.as_slice(), LEAF.as_slice(), ALT.as_slice(), LEAF_END.as_slice(), TAIL.as_slice(),
+    ];
+    assert!(rt; is_damage(alloc, &pieces)?);
     Ok(())
 }
 
 #[test]
 fn a_leaf_has_alternatives_alone(rt: HostRuntime) -> Result<(), Fail> {
     let alloc = rt.alloc();
-    assert!(rt; is_damage(alloc, &[HEADER.as_slice(), LEAF.as_slice(), LEAF_END.as_slice(), END.as_slice(), TAIL.as_slice()])?);
-    assert!(rt; is_damage(alloc, &[HEADER.as_slice(), LEAF.as_slice(), ALT.as_slice(), INNER.as_slice(), LEAF_END.as_slice(), END.as_slice(), TAIL.as_slice()])?);
-    assert!(rt; is_damage(alloc, &[HEADER.as_slice(), LEAF.as_slice(), ALT.as_slice(), LEAF.as_slice(), LEAF_END.as_slice(), END.as_slice(), TAIL.as_slice()])?);
-    assert!(rt; is_damage(alloc, &[HEADER.as_slice(), LEAF.as_slice(), ALT.as_slice(), END.as_slice(), LEAF_END.as_slice(), END.as_slice(), TAIL.as_slice()])?);
-    assert!(rt; is_damage(alloc, &[HEADER.as_slice(), LEAF.as_slice(), ALT.as_slice(), b"\x05\0\0\0\0\0\0\0\x01\0".as_slice(), END.as_slice(), TAIL.as_slice()])?);
+    let pieces = [
+        HEADER.as_slice(), LEAF.as_slice(), LEAF_END.as_slice(), END.as_slice(), TAIL.as_slice(),
+    ];
+    assert!(rt; is_damage(alloc, &pieces)?);
+    let pieces = [
+        HEADER.as_slice(), LEAF.as_slice(), ALT.as_slice(), INNER.as_slice(), LEAF_END.as_slice(),
+        END.as_slice(), TAIL.as_slice(),
+    ];
+    assert!(rt; is_damage(alloc, &pieces)?);
+    let pieces = [
+        HEADER.as_slice(), LEAF.as_slice(), ALT.as_slice(), LEAF.as_slice(), LEAF_END.as_slice(),
+        END.as_slice(), TAIL.as_slice(),
+    ];
+    assert!(rt; is_damage(alloc, &pieces)?);
+    let pieces = [
+        HEADER.as_slice(), LEAF.as_slice(), ALT.as_slice(), END.as_slice(), LEAF_END.as_slice(),
+        END.as_slice(), TAIL.as_slice(),
+    ];
+    assert!(rt; is_damage(alloc, &pieces)?);
+    let pieces = [
+        HEADER.as_slice(), LEAF.as_slice(), ALT.as_slice(),
+        b"\x05\0\0\0\0\0\0\0\x01\0".as_slice(), END.as_slice(), TAIL.as_slice(),
+    ];
+    assert!(rt; is_damage(alloc, &pieces)?);
     Ok(())
 }
 
@@ -72,10 +125,18 @@ fn the_directory_is_that_of_the_row(rt: HostRuntime) -> Result<(), Fail> {
     let alloc = rt.alloc();
     let mut end = END;
     end[56] = 1;
-    assert!(rt; is_damage(alloc, &[HEADER.as_slice(), LEAF.as_slice(), ALT.as_slice(), LEAF_END.as_slice(), end.as_slice(), TAIL.as_slice()])?);
+    assert!(rt; is_damaged_by(alloc, &HEADER, &LEAF, &ALT, &end)?);
     let none = *b"\x04\0\0\0\0\0\0\0\x04\0\0\0\0";
-    assert!(rt; is_damage(alloc, &[HEADER.as_slice(), LEAF.as_slice(), ALT.as_slice(), LEAF_END.as_slice(), none.as_slice(), b"\0\0\0\0\0\0\0\x04".as_slice()])?);
-    assert!(rt; is_damage(alloc, &[HEADER.as_slice(), LEAF.as_slice(), ALT.as_slice(), LEAF_END.as_slice(), END.as_slice(), b"\0\0\0\0\0\0\0\x31".as_slice()])?);
+    let pieces = [
+        HEADER.as_slice(), LEAF.as_slice(), ALT.as_slice(), LEAF_END.as_slice(), none.as_slice(),
+        b"\0\0\0\0\0\0\0\x04".as_slice(),
+    ];
+    assert!(rt; is_damage(alloc, &pieces)?);
+    let pieces = [
+        HEADER.as_slice(), LEAF.as_slice(), ALT.as_slice(), LEAF_END.as_slice(), END.as_slice(),
+        b"\0\0\0\0\0\0\0\x31".as_slice(),
+    ];
+    assert!(rt; is_damage(alloc, &pieces)?);
     Ok(())
 }
 
@@ -84,17 +145,17 @@ fn a_header_has_its_fields(rt: HostRuntime) -> Result<(), Fail> {
     let alloc = rt.alloc();
     let mut other = HEADER;
     other[4] = b'2';
-    assert!(rt; is_damage(alloc, &[other.as_slice(), LEAF.as_slice(), ALT.as_slice(), LEAF_END.as_slice(), END.as_slice(), TAIL.as_slice()])?);
+    assert!(rt; is_damaged_by(alloc, &other, &LEAF, &ALT, &END)?);
     let mut long = HEADER;
     for place in 6..10 {
         long[place] = 255;
     }
-    assert!(rt; is_damage(alloc, &[long.as_slice(), LEAF.as_slice(), ALT.as_slice(), LEAF_END.as_slice(), END.as_slice(), TAIL.as_slice()])?);
+    assert!(rt; is_damaged_by(alloc, &long, &LEAF, &ALT, &END)?);
     let mut many = HEADER;
     many[25] = 15;
     many[26] = 66;
     many[27] = 64;
-    assert!(rt; is_damage(alloc, &[many.as_slice(), LEAF.as_slice(), ALT.as_slice(), LEAF_END.as_slice(), END.as_slice(), TAIL.as_slice()])?);
+    assert!(rt; is_damaged_by(alloc, &many, &LEAF, &ALT, &END)?);
     Ok(())
 }
 
@@ -103,11 +164,11 @@ fn a_header_has_its_fields(rt: HostRuntime) -> Result<(), Fail> {
 fn the_specification_is_canonical(rt: HostRuntime) -> Result<(), Fail> {
     let alloc = rt.alloc();
     let blank = *b"XARC1\n\0\0\0\x0f(/, (db, {}))\n\n\0\0\0\x01";
-    assert!(rt; is_damage(alloc, &[blank.as_slice(), LEAF.as_slice(), ALT.as_slice(), LEAF_END.as_slice(), END.as_slice(), TAIL.as_slice()])?);
+    assert!(rt; is_damaged_by(alloc, &blank, &LEAF, &ALT, &END)?);
     let bare = *b"XARC1\n\0\0\0\x0d(/, (db, {}))\0\0\0\x01";
-    assert!(rt; is_damage(alloc, &[bare.as_slice(), LEAF.as_slice(), ALT.as_slice(), LEAF_END.as_slice(), END.as_slice(), TAIL.as_slice()])?);
+    assert!(rt; is_damaged_by(alloc, &bare, &LEAF, &ALT, &END)?);
     let none = *b"XARC1\n\0\0\0\0\0\0\0\x01";
-    assert!(rt; is_damage(alloc, &[none.as_slice(), LEAF.as_slice(), ALT.as_slice(), LEAF_END.as_slice(), END.as_slice(), TAIL.as_slice()])?);
+    assert!(rt; is_damaged_by(alloc, &none, &LEAF, &ALT, &END)?);
     Ok(())
 }
 
@@ -134,21 +195,21 @@ fn counts_in_a_file_are_not_trusted(rt: HostRuntime) -> Result<(), Fail> {
     for place in 16..20 {
         keys[place] = 255;
     }
-    assert!(rt; is_damage(alloc, &[HEADER.as_slice(), keys.as_slice(), ALT.as_slice(), LEAF_END.as_slice(), END.as_slice(), TAIL.as_slice()])?);
+    assert!(rt; is_damaged_by(alloc, &HEADER, &keys, &ALT, &END)?);
     let mut attrs = ALT;
     for place in 11..15 {
         attrs[place] = 255;
     }
-    assert!(rt; is_damage(alloc, &[HEADER.as_slice(), LEAF.as_slice(), attrs.as_slice(), LEAF_END.as_slice(), END.as_slice(), TAIL.as_slice()])?);
+    assert!(rt; is_damaged_by(alloc, &HEADER, &LEAF, &attrs, &END)?);
     let mut items = ALT;
     for place in 15..19 {
         items[place] = 255;
     }
-    assert!(rt; is_damage(alloc, &[HEADER.as_slice(), LEAF.as_slice(), items.as_slice(), LEAF_END.as_slice(), END.as_slice(), TAIL.as_slice()])?);
+    assert!(rt; is_damaged_by(alloc, &HEADER, &LEAF, &items, &END)?);
     let mut children = END;
     for place in 9..13 {
         children[place] = 255;
     }
-    assert!(rt; is_damage(alloc, &[HEADER.as_slice(), LEAF.as_slice(), ALT.as_slice(), LEAF_END.as_slice(), children.as_slice(), TAIL.as_slice()])?);
+    assert!(rt; is_damaged_by(alloc, &HEADER, &LEAF, &ALT, &children)?);
     Ok(())
 }
