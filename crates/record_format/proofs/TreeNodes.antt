@@ -32,8 +32,7 @@ flat-append (x ∷ xs) ys = ap (λ (b : List ℕ). node_bytes x ++ b) (flat-appe
 pub tree_bytes-is : (t : PlainTs) → tree_bytes t ≡ flat_map node_bytes (nodes_of t)
 tree_bytes-is (leaf s) = sym (append-nil (set_bytes s ++ u64_bytes 0))
 tree_bytes-is (node s n l r) =
-    ap (λ (b : List ℕ). set_bytes s ++ (u64_bytes n ++ b)) ((λ i. tree_bytes-is l i ++ tree_bytes-is r i) ∙ sym (flat-append (nodes_of l) (nodes_of r)))
-    ∙ sym (append_assoc (set_bytes s) (u64_bytes n) (flat_map node_bytes (nodes_of l ++ nodes_of r)))
+    ap (λ (b : List ℕ). (set_bytes s ++ u64_bytes n) ++ b) ((λ i. tree_bytes-is l i ++ tree_bytes-is r i) ∙ sym (flat-append (nodes_of l) (nodes_of r)))
 
 pub length-nodes_of : (t : PlainTs) → length (nodes_of t) + 1 ≡ 2 * length (leaves t)
 length-nodes_of (leaf s) = refl

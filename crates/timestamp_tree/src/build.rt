@@ -28,7 +28,8 @@ pub fn build(alloc: Global, sets: &[VersionSet]) -> Result<(Part, u64), AllocErr
     join(alloc, left, left_size, right, right_size)
 }
 
-/// The tree with these two parts, and its size in bytes. One whose size is past a u64 finds no memory.
+/// The tree with these two parts, and its size in bytes.
+/// One whose size is past a u64 finds no memory.
 fn join(
     alloc: Global,
     left: Part,
@@ -38,7 +39,8 @@ fn join(
 ) -> Result<(Part, u64), AllocError>
     requires left { left_size ≡ length (tree_bytes (part_view left)) }
     requires right { right_size ≡ length (tree_bytes (part_view right)) }
-    ensures tree { IfOk result (λ made. part_view made.0 ≡ joined (part_view left) (part_view right)) }
+    ensures tree { IfOk result (λ made.
+        part_view made.0 ≡ joined (part_view left) (part_view right)) }
     ensures size { IfOk result (λ made. made.1 ≡ length (tree_bytes (part_view made.0))) }
 {
     let set = set_of(&left).union(set_of(&right))?;

@@ -11,7 +11,8 @@ use std::alloc::AllocError;
 use version_set::VersionSet;
 use xa_fields::{put_u32, put_u64};
 
-/// Appends the number of intervals and the intervals, and on a refusal some of it.
+/// Appends the number of intervals and the intervals, and on a refusal some of it. It is for the
+/// spelling of records, which take back what a refusal left.
 #[tactic(auto, using(xa_fields::proofs::Combinators::growth))]
 pub fn put_set(out: &mut Vec<u8>, set: &VersionSet) -> Result<(), AllocError>
     ensures ok { OnOk result (out.new.items ≡ out.old.items ++ set_bytes (pairs_of set.now)) }

@@ -11,7 +11,8 @@ use crate::steps::Steps;
 use std::alloc::AllocError;
 use std::sync::ledger::Ledger;
 
-/// Appends the positions of the sets that hold i. The tree is over `count` sets, the first of which has the position `first`.
+/// Appends the positions of the sets that hold i. The tree is over `count` sets, the first of
+/// which has the position `first`.
 #[tactic(auto, using(crate::proofs::Views::views))]
 pub fn select_from<L: Ledger>(
     node: &Part,
@@ -24,8 +25,10 @@ pub fn select_from<L: Ledger>(
     requires tree { IsTree (part_view node.now) }
     requires count { count ≡ length (leaves (part_view node.now)) }
     requires few { first + count ≤ 2 ^ 32 }
-    ensures ok { OnOk result (out.new.items ≡ out.old.items ++ answers_from i first (leaves (part_view node.now))) }
-    ensures err { OnErr result (AppendsPrefix out.old.items out.new.items (answers_from i first (leaves (part_view node.now)))) }
+    ensures ok { OnOk result (out.new.items
+        ≡ out.old.items ++ answers_from i first (leaves (part_view node.now))) }
+    ensures err { OnErr result (AppendsPrefix out.old.items out.new.items
+        (answers_from i first (leaves (part_view node.now)))) }
     ensures exact { OnOk result (steps.new ≡ steps.old + visits (part_view node.now) i) }
     ensures cost { steps.new ≤ steps.old + visits (part_view node.now) i }
 {

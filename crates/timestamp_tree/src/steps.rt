@@ -21,7 +21,9 @@ impl<L: Ledger> Model for Steps<L> {
 }
 
 impl<L: Ledger> Steps<L> {
-    /// No step yet. `Blank::new(1)` serves a caller that gives the ledger the name and the parts of that blank.
+    /// No step yet.
+    ///
+    /// `Blank::new(1)` serves a caller that gives the ledger the name and the parts of that blank.
     pub fn new(blank: Blank) -> Steps<L>
         requires name { blank.name ≡ L.name }
         requires parts { blank.parts ≡ L.parts }

@@ -16,7 +16,9 @@ use std::alloc::{AllocError, Global};
 use std::sync::ledger::Ledger;
 use version_set::VersionSet;
 
-/// A binary tree over a list of sets. Its leaves are the sets, and each inner node has the union of the sets below it.
+/// A binary tree over a list of sets.
+///
+/// Its leaves are the sets, and each inner node has the union of the sets below it.
 #[derive(Drop)]
 pub struct TsTree {
     root: Part,
@@ -31,7 +33,9 @@ pub struct TsTree {
 impl TsTree {
     ghost use Rattle.timestamp_tree.specs.View.{ts_view};
 
-    /// The tree over these sets. It copies each of them once, and makes one union for each inner node.
+    /// The tree over these sets.
+    ///
+    /// It copies each of them once, and makes one union for each inner node.
     pub fn of(alloc: Global, sets: &[VersionSet]) -> Result<TsTree, AllocError>
         requires some { 1 ≤ length sets.now }
         requires few { length sets.now < 2 ^ 32 }
@@ -50,29 +54,36 @@ impl TsTree {
         height_of(&self.root)
     }
 
-    /// Appends the positions, from 0, of the sets that hold i. A step is a visited node. On a refusal the first of them were appended.
+    /// Appends the positions, from 0, of the sets that hold i, and on a refusal the first of them.
+    ///
+    /// A step is a visited node.
     pub fn select<L: Ledger>(
         &self,
         i: u32,
         out: &mut Vec<u32>,
         steps: &mut Steps<L>,
     ) -> Result<(), AllocError>
-        ensures ok { OnOk result (out.new.items ≡ out.old.items ++ answers (leaves (ts_view self.now)) i) }
-        ensures err { OnErr result (AppendsPrefix out.old.items out.new.items (answers (leaves (ts_view self.now)) i)) }
+        ensures ok { OnOk result (out.new.items
+            ≡ out.old.items ++ answers (leaves (ts_view self.now)) i) }
+        ensures err { OnErr result (AppendsPrefix out.old.items out.new.items
+            (answers (leaves (ts_view self.now)) i)) }
 
         // It visits as many nodes as are to be visited, and no more on a refusal.
         ensures exact { OnOk result (steps.new ≡ steps.old + visits (ts_view self.now) i) }
         ensures cost { steps.new ≤ steps.old + visits (ts_view self.now) i }
 
         // Each visited inner node that has i is above an answer, and adds two visits.
-        ensures bound { visits (ts_view self.now) i ≤ 1 + 2 * length (answers (leaves (ts_view self.now)) i) * height (ts_view self.now) }
+        ensures bound { visits (ts_view self.now) i
+            ≤ 1 + 2 * length (answers (leaves (ts_view self.now)) i) * height (ts_view self.now) }
     {
         select_from(&self.root, i, 0, self.count, out, steps)
     }
 
-    /// Appends the nodes in preorder: the set, the byte size of the left part or 0, the left part and the right part. On a refusal nothing changes.
+    /// Appends the nodes in preorder: the set, the byte size of the left part or 0, the left part
+    /// and the right part. On a refusal nothing changes.
     pub fn encode(&self, out: &mut Vec<u8>) -> Result<(), AllocError>
-        ensures ok { OnOk result (out.new.items ≡ out.old.items ++ tree_bytes (ts_view self.now)) }
+        ensures ok { OnOk result (out.new.items
+            ≡ out.old.items ++ tree_bytes (ts_view self.now)) }
         ensures err { OnErr result (out.new.items ≡ out.old.items) }
     {
         let before = out.len();
