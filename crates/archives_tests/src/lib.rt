@@ -6,6 +6,10 @@ mod archives;
 #[cfg(test)]
 mod counts;
 #[cfg(test)]
+mod damaged_files;
+#[cfg(test)]
+mod damaged_records;
+#[cfg(test)]
 mod fields;
 #[cfg(test)]
 mod files;

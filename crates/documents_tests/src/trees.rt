@@ -97,3 +97,16 @@ fn a_lent_tree_owns_the_same_tree(rt: HostRuntime) -> Result<(), Fail> {
     assert!(rt; content.same(&finance));
     Ok(())
 }
+
+#[test]
+fn an_element_of_one_text_is_lent_as_a_leaf(rt: HostRuntime) -> Result<(), Fail> {
+    let alloc = rt.alloc();
+    let name = Tree::Elem {
+        tag: String::from_str(alloc, "name")?,
+        content: Content::of_text(alloc, "finance")?,
+    };
+    let lent = LentTree::lend(alloc, &name)?;
+    assert!(rt; matches!(&lent, LentTree::Leaf { .. }));
+    assert!(rt; lent.own(alloc)?.same(&name));
+    Ok(())
+}

@@ -1,7 +1,8 @@
 use std::test::Fail;
 use xa_outside::{
-    Buffered, Failed, Folder, FolderCall, FolderFail, MemFolder, MemSink, MemSource, Sink, Source,
-    SureFolder, SureSink, SureSource, fill, fill_at, put_all, put_buffered,
+    Buffered, Failed, Folder, FolderCall, FolderFail, MemFolder, MemSink, MemSource, ReadFault,
+    Sink, Source, SureFolder, SureSink, SureSource, fill, fill_at, put_all, put_buffered,
+    read_front,
 };
 
 #[test]
@@ -110,5 +111,34 @@ fn pieces_leave_a_buffer_together(rt: HostRuntime) -> Result<(), Fail> {
     let mut sink = MemSink::new(alloc, vec![in alloc; 4]?);
     assert!(rt; put_buffered(&mut sink, &[b"a", &long, b"b", b"c"]).is_ok());
     assert_eq!(rt; sink.taken().len(), 10003);
+    Ok(())
+}
+
+#[test]
+fn the_front_of_a_file_is_read(rt: HostRuntime) -> Result<(), Fail> {
+    let alloc = rt.alloc();
+    let mut folder = MemFolder::new(alloc, Vec::new(alloc));
+    folder.put("a", vec![in alloc; 1, 2, 3]?)?;
+    let front = read_front(alloc, &mut folder, "a", 2).map_err(|_| Fail::from("no front"))?;
+    assert!(rt; front.as_slice() == [1, 2].as_slice());
+    let all = read_front(alloc, &mut folder, "a", 5).map_err(|_| Fail::from("no file"))?;
+    assert!(rt; all.as_slice() == [1, 2, 3].as_slice());
+    let none = read_front(alloc, &mut folder, "b", 5).map_err(|_| Fail::from("no name"))?;
+    assert!(rt; none.is_empty());
+    Ok(())
+}
+
+#[test]
+fn a_front_is_not_read_where_the_folder_fails(rt: HostRuntime) -> Result<(), Fail> {
+    let alloc = rt.alloc();
+    let fails = vec![in alloc;
+        FolderFail {
+            call: FolderCall::ReadAt,
+            number: 1,
+        },
+    ]?;
+    let mut folder = MemFolder::new(alloc, fails);
+    folder.put("a", vec![in alloc; 1, 2, 3]?)?;
+    assert!(rt; read_front(alloc, &mut folder, "a", 2) == Err(ReadFault::Folder));
     Ok(())
 }

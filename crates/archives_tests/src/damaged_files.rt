@@ -45,13 +45,20 @@ fn is_damaged_by(
     alt: &[u8],
     end: &[u8],
 ) -> Result<bool, AllocError> {
-    is_damage(alloc, &[header, leaf, alt, LEAF_END.as_slice(), end, TAIL.as_slice()])
+    is_damage(
+        alloc,
+        &[header, leaf, alt, LEAF_END.as_slice(), end, TAIL.as_slice()],
+    )
 }
 
 #[test]
 fn the_pieces_are_a_sound_archive(rt: HostRuntime) -> Result<(), Fail> {
     let pieces = [
-        HEADER.as_slice(), LEAF.as_slice(), ALT.as_slice(), LEAF_END.as_slice(), END.as_slice(),
+        HEADER.as_slice(),
+        LEAF.as_slice(),
+        ALT.as_slice(),
+        LEAF_END.as_slice(),
+        END.as_slice(),
         TAIL.as_slice(),
     ];
     assert!(rt; is_sound(rt.alloc(), &pieces)?);
@@ -62,28 +69,49 @@ fn the_pieces_are_a_sound_archive(rt: HostRuntime) -> Result<(), Fail> {
 fn a_row_has_nodes_alone(rt: HostRuntime) -> Result<(), Fail> {
     let alloc = rt.alloc();
     let pieces = [
-        HEADER.as_slice(), ALT.as_slice(), END.as_slice(), TAIL.as_slice(),
+        HEADER.as_slice(),
+        ALT.as_slice(),
+        END.as_slice(),
+        TAIL.as_slice(),
     ];
     assert!(rt; is_damage(alloc, &pieces)?);
     let pieces = [
-        HEADER.as_slice(), LEAF_END.as_slice(), END.as_slice(), TAIL.as_slice(),
+        HEADER.as_slice(),
+        LEAF_END.as_slice(),
+        END.as_slice(),
+        TAIL.as_slice(),
     ];
     assert!(rt; is_damage(alloc, &pieces)?);
     let pieces = [
-        HEADER.as_slice(), LEAF.as_slice(), ALT.as_slice(), LEAF_END.as_slice(), ALT.as_slice(),
-        END.as_slice(), TAIL.as_slice(),
+        HEADER.as_slice(),
+        LEAF.as_slice(),
+        ALT.as_slice(),
+        LEAF_END.as_slice(),
+        ALT.as_slice(),
+        END.as_slice(),
+        TAIL.as_slice(),
     ];
     assert!(rt; is_damage(alloc, &pieces)?);
     let pieces = [
-        HEADER.as_slice(), b"\0\0\0\0\0\0\0\0\0".as_slice(), END.as_slice(), TAIL.as_slice(),
+        HEADER.as_slice(),
+        b"\0\0\0\0\0\0\0\0\0".as_slice(),
+        END.as_slice(),
+        TAIL.as_slice(),
     ];
     assert!(rt; is_damage(alloc, &pieces)?);
     let pieces = [
-        HEADER.as_slice(), b"\x06\0\0\0\0\0\0\0\0".as_slice(), END.as_slice(), TAIL.as_slice(),
+        HEADER.as_slice(),
+        b"\x06\0\0\0\0\0\0\0\0".as_slice(),
+        END.as_slice(),
+        TAIL.as_slice(),
     ];
     assert!(rt; is_damage(alloc, &pieces)?);
     let pieces = [
-        HEADER.as_slice(), LEAF.as_slice(), ALT.as_slice(), LEAF_END.as_slice(), TAIL.as_slice(),
+        HEADER.as_slice(),
+        LEAF.as_slice(),
+        ALT.as_slice(),
+        LEAF_END.as_slice(),
+        TAIL.as_slice(),
     ];
     assert!(rt; is_damage(alloc, &pieces)?);
     Ok(())
@@ -93,27 +121,50 @@ fn a_row_has_nodes_alone(rt: HostRuntime) -> Result<(), Fail> {
 fn a_leaf_has_alternatives_alone(rt: HostRuntime) -> Result<(), Fail> {
     let alloc = rt.alloc();
     let pieces = [
-        HEADER.as_slice(), LEAF.as_slice(), LEAF_END.as_slice(), END.as_slice(), TAIL.as_slice(),
+        HEADER.as_slice(),
+        LEAF.as_slice(),
+        LEAF_END.as_slice(),
+        END.as_slice(),
+        TAIL.as_slice(),
     ];
     assert!(rt; is_damage(alloc, &pieces)?);
     let pieces = [
-        HEADER.as_slice(), LEAF.as_slice(), ALT.as_slice(), INNER.as_slice(), LEAF_END.as_slice(),
-        END.as_slice(), TAIL.as_slice(),
+        HEADER.as_slice(),
+        LEAF.as_slice(),
+        ALT.as_slice(),
+        INNER.as_slice(),
+        LEAF_END.as_slice(),
+        END.as_slice(),
+        TAIL.as_slice(),
     ];
     assert!(rt; is_damage(alloc, &pieces)?);
     let pieces = [
-        HEADER.as_slice(), LEAF.as_slice(), ALT.as_slice(), LEAF.as_slice(), LEAF_END.as_slice(),
-        END.as_slice(), TAIL.as_slice(),
+        HEADER.as_slice(),
+        LEAF.as_slice(),
+        ALT.as_slice(),
+        LEAF.as_slice(),
+        LEAF_END.as_slice(),
+        END.as_slice(),
+        TAIL.as_slice(),
     ];
     assert!(rt; is_damage(alloc, &pieces)?);
     let pieces = [
-        HEADER.as_slice(), LEAF.as_slice(), ALT.as_slice(), END.as_slice(), LEAF_END.as_slice(),
-        END.as_slice(), TAIL.as_slice(),
+        HEADER.as_slice(),
+        LEAF.as_slice(),
+        ALT.as_slice(),
+        END.as_slice(),
+        LEAF_END.as_slice(),
+        END.as_slice(),
+        TAIL.as_slice(),
     ];
     assert!(rt; is_damage(alloc, &pieces)?);
     let pieces = [
-        HEADER.as_slice(), LEAF.as_slice(), ALT.as_slice(),
-        b"\x05\0\0\0\0\0\0\0\x01\0".as_slice(), END.as_slice(), TAIL.as_slice(),
+        HEADER.as_slice(),
+        LEAF.as_slice(),
+        ALT.as_slice(),
+        b"\x05\0\0\0\0\0\0\0\x01\0".as_slice(),
+        END.as_slice(),
+        TAIL.as_slice(),
     ];
     assert!(rt; is_damage(alloc, &pieces)?);
     Ok(())
@@ -128,12 +179,20 @@ fn the_directory_is_that_of_the_row(rt: HostRuntime) -> Result<(), Fail> {
     assert!(rt; is_damaged_by(alloc, &HEADER, &LEAF, &ALT, &end)?);
     let none = *b"\x04\0\0\0\0\0\0\0\x04\0\0\0\0";
     let pieces = [
-        HEADER.as_slice(), LEAF.as_slice(), ALT.as_slice(), LEAF_END.as_slice(), none.as_slice(),
+        HEADER.as_slice(),
+        LEAF.as_slice(),
+        ALT.as_slice(),
+        LEAF_END.as_slice(),
+        none.as_slice(),
         b"\0\0\0\0\0\0\0\x04".as_slice(),
     ];
     assert!(rt; is_damage(alloc, &pieces)?);
     let pieces = [
-        HEADER.as_slice(), LEAF.as_slice(), ALT.as_slice(), LEAF_END.as_slice(), END.as_slice(),
+        HEADER.as_slice(),
+        LEAF.as_slice(),
+        ALT.as_slice(),
+        LEAF_END.as_slice(),
+        END.as_slice(),
         b"\0\0\0\0\0\0\0\x31".as_slice(),
     ];
     assert!(rt; is_damage(alloc, &pieces)?);

@@ -26,8 +26,18 @@ fn the_record_that_closes_a_leaf_has_no_body(rt: HostRuntime) {
 
 #[test]
 fn a_record_is_no_longer_than_the_bytes(rt: HostRuntime) {
-    assert!(rt; is_damage(rt.alloc(), b"\x05\xff\xff\xff\xff\xff\xff\xff\xff".as_slice()));
-    assert!(rt; is_damage(rt.alloc(), b"\x03\xff\xff\xff\xff\xff\xff\xff\xff\0\0\0".as_slice()));
+    assert!(rt;
+        is_damage(
+            rt.alloc(),
+            b"\x05\xff\xff\xff\xff\xff\xff\xff\xff".as_slice()
+        )
+    );
+    assert!(rt;
+        is_damage(
+            rt.alloc(),
+            b"\x03\xff\xff\xff\xff\xff\xff\xff\xff\0\0\0".as_slice()
+        )
+    );
 }
 
 // A value is a scalar or a content, a scalar of six kinds, and an item of two.
@@ -46,9 +56,24 @@ fn values_have_known_kinds(rt: HostRuntime) {
 
 #[test]
 fn names_and_timestamps_have_known_kinds(rt: HostRuntime) {
-    assert!(rt; is_record(rt.alloc(), b"\x02\0\0\0\0\0\0\0\x0a\x01\0\0\0\0\0\0\0\0\0".as_slice()));
-    assert!(rt; is_damage(rt.alloc(), b"\x02\0\0\0\0\0\0\0\x0a\x02\0\0\0\0\0\0\0\0\0".as_slice()));
-    assert!(rt; is_damage(rt.alloc(), b"\x02\0\0\0\0\0\0\0\x0a\x01\0\0\0\0\0\0\0\0\x02".as_slice()));
+    assert!(rt;
+        is_record(
+            rt.alloc(),
+            b"\x02\0\0\0\0\0\0\0\x0a\x01\0\0\0\0\0\0\0\0\0".as_slice()
+        )
+    );
+    assert!(rt;
+        is_damage(
+            rt.alloc(),
+            b"\x02\0\0\0\0\0\0\0\x0a\x02\0\0\0\0\0\0\0\0\0".as_slice()
+        )
+    );
+    assert!(rt;
+        is_damage(
+            rt.alloc(),
+            b"\x02\0\0\0\0\0\0\0\x0a\x01\0\0\0\0\0\0\0\0\x02".as_slice()
+        )
+    );
     assert!(rt; is_damage(rt.alloc(), b"\x03\0\0\0\0\0\0\0\x03\x02\0\0".as_slice()));
 }
 
@@ -91,7 +116,12 @@ fn stored_sets_are_sets_of_versions(rt: HostRuntime) {
     one[21] = 63;
     one[17] = 0;
     assert!(rt; is_damage(rt.alloc(), &one));
-    assert!(rt; is_damage(rt.alloc(), b"\x03\0\0\0\0\0\0\0\x07\x01\0\0\0\0\0\0".as_slice()));
+    assert!(rt;
+        is_damage(
+            rt.alloc(),
+            b"\x03\0\0\0\0\0\0\0\x07\x01\0\0\0\0\0\0".as_slice()
+        )
+    );
     assert!(rt;
         is_damage(
             rt.alloc(),
@@ -103,7 +133,8 @@ fn stored_sets_are_sets_of_versions(rt: HostRuntime) {
 // One child, and the one node of the tree over its set.
 #[test]
 fn a_directory_has_a_set_for_each_child(rt: HostRuntime) {
-    let mut end = *b"\x04\0\0\0\0\0\0\0\x30\0\0\0\x01\0\0\0\0\0\0\0\0\0\0\0\0\0\0\0\x31\0\0\0\0\0\0\0\0\0\0\0\x01\0\0\0\x01\0\0\0\x01\0\0\0\0\0\0\0\0";
+    let mut end =
+        *b"\x04\0\0\0\0\0\0\0\x30\0\0\0\x01\0\0\0\0\0\0\0\0\0\0\0\0\0\0\0\x31\0\0\0\0\0\0\0\0\0\0\0\x01\0\0\0\x01\0\0\0\x01\0\0\0\0\0\0\0\0";
     assert!(rt; is_record(rt.alloc(), &end));
     end[56] = 1;
     assert!(rt; is_damage(rt.alloc(), &end));
@@ -121,16 +152,42 @@ fn a_directory_has_a_set_for_each_child(rt: HostRuntime) {
 fn counts_are_not_trusted(rt: HostRuntime) {
     let alloc = rt.alloc();
     // a text, and the key values of a label
-    assert!(rt; is_damage(alloc, b"\x02\0\0\0\0\0\0\0\x0a\x01\xff\xff\xff\xff\0\0\0\0\0".as_slice()));
-    assert!(rt; is_damage(alloc, b"\x02\0\0\0\0\0\0\0\x0a\x01\0\0\0\0\xff\xff\xff\xff\0".as_slice()));
+    assert!(rt;
+        is_damage(
+            alloc,
+            b"\x02\0\0\0\0\0\0\0\x0a\x01\xff\xff\xff\xff\0\0\0\0\0".as_slice()
+        )
+    );
+    assert!(rt;
+        is_damage(
+            alloc,
+            b"\x02\0\0\0\0\0\0\0\x0a\x01\0\0\0\0\xff\xff\xff\xff\0".as_slice()
+        )
+    );
     // a stored set
-    assert!(rt; is_damage(alloc, b"\x03\0\0\0\0\0\0\0\x07\x01\xff\xff\xff\xff\0\0".as_slice()));
+    assert!(rt;
+        is_damage(
+            alloc,
+            b"\x03\0\0\0\0\0\0\0\x07\x01\xff\xff\xff\xff\0\0".as_slice()
+        )
+    );
     // the attributes, and the items
-    assert!(rt; is_damage(alloc, b"\x03\0\0\0\0\0\0\0\x0a\0\x01\xff\xff\xff\xff\0\0\0\0".as_slice()));
-    assert!(rt; is_damage(alloc, b"\x03\0\0\0\0\0\0\0\x0a\0\x01\0\0\0\0\xff\xff\xff\xff".as_slice()));
+    assert!(rt;
+        is_damage(
+            alloc,
+            b"\x03\0\0\0\0\0\0\0\x0a\0\x01\xff\xff\xff\xff\0\0\0\0".as_slice()
+        )
+    );
+    assert!(rt;
+        is_damage(
+            alloc,
+            b"\x03\0\0\0\0\0\0\0\x0a\0\x01\0\0\0\0\xff\xff\xff\xff".as_slice()
+        )
+    );
     // the children, and the set of a node of the tree
     assert!(rt; is_damage(alloc, b"\x04\0\0\0\0\0\0\0\x04\xff\xff\xff\xff".as_slice()));
-    let mut end = *b"\x04\0\0\0\0\0\0\0\x30\0\0\0\x01\0\0\0\0\0\0\0\0\0\0\0\0\0\0\0\x31\0\0\0\0\0\0\0\0\0\0\0\x01\0\0\0\x01\0\0\0\x01\0\0\0\0\0\0\0\0";
+    let mut end =
+        *b"\x04\0\0\0\0\0\0\0\x30\0\0\0\x01\0\0\0\0\0\0\0\0\0\0\0\0\0\0\0\x31\0\0\0\0\0\0\0\0\0\0\0\x01\0\0\0\x01\0\0\0\x01\0\0\0\0\0\0\0\0";
     for place in 37..41 {
         end[place] = 255;
     }
@@ -167,13 +224,21 @@ fn a_lent_timestamp_says_whether_it_is_stored(rt: HostRuntime) -> Result<(), Fai
         return Err("no ALT".into());
     };
     assert!(rt; stamp.is_stored());
-    assert_eq!(rt; stamp.bytes(), b"\x01\0\0\0\x01\0\0\0\x01\0\0\0\x02".as_slice());
+    assert_eq!(rt;
+        stamp.bytes(),
+        b"\x01\0\0\0\x01\0\0\0\x01\0\0\0\x02".as_slice()
+    );
     let inherited = *b"\x03\0\0\0\0\0\0\0\x03\0\0\0";
     let Some(View::Alt { stamp, .. }) = view(&inherited) else {
         return Err("no ALT".into());
     };
     assert!(rt; !stamp.is_stored());
     assert_eq!(rt; stamp.bytes(), b"\0".as_slice());
-    assert!(rt; matches!(decode(rt.alloc(), &inherited), Ok(Rec::Alt { stamp: None, .. })));
+    assert!(rt;
+        matches!(
+            decode(rt.alloc(), &inherited),
+            Ok(Rec::Alt { stamp: None, .. })
+        )
+    );
     Ok(())
 }
