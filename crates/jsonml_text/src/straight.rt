@@ -36,7 +36,13 @@ pub(crate) fn read_straight<'a>(alloc: Global, text: &'a str) -> Option<LentTree
     ensures shallow { IfSome result (λ t. tree_depth (lent_tree_view t) ≤ 120) }
 {
     let mut room = Room::new(alloc);
-    let end = push_item(alloc, text, skip_blanks(text, 0), GREATEST_DEPTH as usize, &mut room)?;
+    let end = push_item(
+        alloc,
+        text,
+        skip_blanks(text, 0),
+        GREATEST_DEPTH as usize,
+        &mut room,
+    )?;
     if end < text.len() {
         return None;
     }
