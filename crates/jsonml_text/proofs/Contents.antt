@@ -1,48 +1,55 @@
--- The content of an element, by its first value.
-use Rattle.std.proofs.Common.{◌≡◌, ℕ, ◌+◌, List, [], ◌∷◌, ◌++◌, length, map, Result, Ok, Err, Global, String, None, refl, ap, ◌∙◌, rules}
-use Rattle.std.specs.BTreeMap.{BTreeMap}
-use Rattle.std.proofs.lemmas.List.{length-map}
-use Rattle.serde_json.specs.Data.{Data, null, boolean, number, string, array, object, Items, item}
+-- The content of an element, by what stands in front.
+use Rattle.std.proofs.Common.{◌≡◌, ℕ, List, [], Result, Ok, Err, Option, Some, None, option_map, refl, ap, ◌∙◌}
+use Rattle.serde_json.specs.Data.{Data, null, boolean, number, string, array, object, Items, no_items, item, Members}
 use Rattle.serde_json.specs.Find.{as_object}
-use Rattle.serde_json.specs.View.{view as data_of, members_view}
-use Rattle.serde_json.specs.declared.value.Value.{Value, Object, the_lemmas}
-use Rattle.jsonml_tree.specs.Data.{PlainTree, PlainTrees, PlainContent, content, tree}
-use Rattle.jsonml_tree.specs.View.{tree_view}
-use Rattle.jsonml_tree.specs.declared.tree.Tree.{Tree}
+use Rattle.jsonml_tree.specs.Data.{PlainAttr, PlainTree, PlainTrees, PlainContent, content, tree}
+use Rattle.jsonml_text.specs.Front.{front_object}
 use Rattle.jsonml_text.specs.Spelled.{ShapeFault, and_then, mapped, attrs_at, item_at, content_at, items_at}
-use Rattle.jsonml_text.specs.Stops.{onto}
 
--- a fault of the attributes
-pub attrs_first : (place : List ℕ) (v : Value) (m : BTreeMap (String Global) Value) (ds : Items) (fault : ShapeFault) → v ≡ Object m → attrs_at place (members_view m.entries) ≡ Err fault → content_at place (item (data_of v) ds) ≡ Err fault
-attrs_first place v m ds fault is e =
-    let seen : data_of v ≡ object (members_view m.entries) = ap data_of is ∙ search (rules, the_lemmas) in
-    ap (λ d. content_at place (item d ds)) seen ∙ ap (λ r. and_then r (λ xs. mapped (content xs) (items_at place 1 ds))) e
+pub front_is : (d : Data) (ds : Items) → front_object (item d ds) ≡ option_map (λ ms. (ms, ds)) (as_object d)
+front_is null ds = refl
+front_is (boolean b) ds = refl
+front_is (number n) ds = refl
+front_is (string s) ds = refl
+front_is (array es) ds = refl
+front_is (object ms) ds = refl
 
--- ---- a first value that is no object is the first item
+-- an object in front, and the items behind it
+object_first : (place : List ℕ) (ds rest : Items) (ms : Members) → front_object ds ≡ Some (ms, rest) → content_at place ds ≡ and_then (attrs_at place ms) (λ xs. mapped (content xs) (items_at place 1 rest))
+object_first place no_items rest ms e = absurd (cc)
+object_first place (item null ds) rest ms e = absurd (cc)
+object_first place (item (boolean b) ds) rest ms e = absurd (cc)
+object_first place (item (number n) ds) rest ms e = absurd (cc)
+object_first place (item (string s) ds) rest ms e = absurd (cc)
+object_first place (item (array es) ds) rest ms e = absurd (cc)
+object_first place (item (object ns) ds) rest ms e =
+    let pair : (ns, ds) ≡ (ms, rest) = cc in
+    let members : ns ≡ ms = ap (λ (p : Members × Items). p.0) pair in
+    let behind : ds ≡ rest = ap (λ (p : Members × Items). p.1) pair in
+    ap (λ (ns : Members). and_then (attrs_at place ns) (λ xs. mapped (content xs) (items_at place 1 ds))) members
+    ∙ ap (λ (ds : Items). and_then (attrs_at place ms) (λ xs. mapped (content xs) (items_at place 1 ds))) behind
 
-abbrev behind : List ℕ → Data → Items → Result PlainContent ShapeFault
-behind place d ds = and_then (item_at (place ++ 1 ∷ []) d) (λ t. mapped (λ ts. content [] (tree t ts)) (items_at place 2 ds))
+pub attrs_fault : (place : List ℕ) (ds rest : Items) (ms : Members) (fault : ShapeFault) → front_object ds ≡ Some (ms, rest) → attrs_at place ms ≡ Err fault → content_at place ds ≡ Err fault
+attrs_fault place ds rest ms fault front e = object_first place ds rest ms front ∙ ap (λ r. and_then r (λ xs. mapped (content xs) (items_at place 1 rest))) e
 
-no_attrs : (place : List ℕ) (d : Data) (ds : Items) → as_object d ≡ None → content_at place (item d ds) ≡ behind place d ds
-no_attrs place null ds other = refl
-no_attrs place (boolean b) ds other = refl
-no_attrs place (number n) ds other = refl
-no_attrs place (string s) ds other = refl
-no_attrs place (array es) ds other = refl
-no_attrs place (object ms) ds other = absurd (cc)
+-- ---- with no object in front, all values are items
 
-into : (r : Result PlainTrees ShapeFault) (u : PlainTree) (us : PlainTrees) → mapped (tree u) r ≡ Ok us → mapped (λ us. content [] (tree u us)) r ≡ Ok (content [] us)
-into (Ok ts) u us e = let same : tree u ts ≡ us = cc in ap (λ ts. Ok (content [] ts)) same
-into (Err f) u us e = absurd (cc)
+one_after : (r : Result PlainTree ShapeFault) (s : Result PlainTrees ShapeFault) → and_then r (λ t. mapped (λ ts. content [] (tree t ts)) s) ≡ mapped (content []) (and_then r (λ t. mapped (tree t) s))
+one_after (Ok t) (Ok ts) = refl
+one_after (Ok t) (Err e) = refl
+one_after (Err e) s = refl
 
-with_first : (place : List ℕ) (r : Result PlainTree ShapeFault) (ts : List PlainTree) (us : PlainTrees) (ds : Items) → mapped (λ t. t ∷ []) r ≡ Ok ts → onto ts (items_at place (length ts + 1) ds) ≡ Ok us
-    → and_then r (λ t. mapped (λ us. content [] (tree t us)) (items_at place 2 ds)) ≡ Ok (content [] us)
-with_first place (Ok t) [] us ds first rest = absurd (cc)
-with_first place (Ok t) (u ∷ v ∷ ts) us ds first rest = absurd (cc)
-with_first place (Ok t) (u ∷ []) us ds first rest = let same : t ≡ u = cc in ap (λ x. mapped (λ us. content [] (tree x us)) (items_at place 2 ds)) same ∙ into (items_at place 2 ds) u us rest
-with_first place (Err f) ts us ds first rest = absurd (cc)
+pub all_items : (place : List ℕ) (ds : Items) → front_object ds ≡ None → content_at place ds ≡ mapped (content []) (items_at place 1 ds)
+all_items place no_items e = refl
+all_items place (item null ds) e = refl
+all_items place (item (boolean b) ds) e = refl
+all_items place (item (number n) ds) e = refl
+all_items place (item (string s) ds) e = one_after (item_at place (string s)) (items_at place 2 ds)
+all_items place (item (array es) ds) e = one_after _ (items_at place 2 ds)
+all_items place (item (object ms) ds) e = absurd (cc)
 
-pub item_first : (place : List ℕ) (d : Data) (vs : List Tree) (us : PlainTrees) (ds : Items) → as_object d ≡ None → mapped (λ t. t ∷ []) (item_at (place ++ 1 ∷ []) d) ≡ Ok (map tree_view vs)
-    → onto (map tree_view vs) (items_at place (length vs + 1) ds) ≡ Ok us → content_at place (item d ds) ≡ Ok (content [] us)
-item_first place d vs us ds other first rest =
-    no_attrs place d ds other ∙ with_first place (item_at (place ++ 1 ∷ []) d) (map tree_view vs) us ds first (ap (λ n. onto (map tree_view vs) (items_at place (n + 1) ds)) (length-map vs tree_view) ∙ rest)
+pub all_fault : (place : List ℕ) (ds : Items) (fault : ShapeFault) → front_object ds ≡ None → items_at place 1 ds ≡ Err fault → content_at place ds ≡ Err fault
+all_fault place ds fault front e = all_items place ds front ∙ ap (mapped (content [])) e
+
+pub all_content : (place : List ℕ) (ds : Items) (ts : PlainTrees) → front_object ds ≡ None → items_at place 1 ds ≡ Ok ts → content_at place ds ≡ Ok (content [] ts)
+all_content place ds ts front e = all_items place ds front ∙ ap (mapped (content [])) e

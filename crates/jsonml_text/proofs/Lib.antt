@@ -14,3 +14,4 @@ pub mod TreeWalk
 pub mod ReadBack
 pub mod RoundTrips
 pub mod Words
+pub mod OwnTexts

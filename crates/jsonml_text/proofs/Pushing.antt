@@ -1,6 +1,7 @@
 -- Trees that wait for the end of the element around them.
 use Rattle.std.proofs.Common.{◌≡◌, ℕ, ◌+◌, ◌-◌, ◌<◌, ◌≤◌, IsTrue, List, [], ◌∷◌, ◌++◌, length, drop, take, map, refl, sym, ap, ◌∙◌, subst, arith, append_assoc, append-nil}
 use Rattle.std.proofs.lemmas.List.{map-append, length-map, drop_at, take_at}
+use Rattle.std.specs.Str.{IsUtf8}
 use Rattle.json.specs.Lex.{after_value, comma, token}
 use Rattle.json.specs.Token.{Token, end_array, begin_array}
 use Rattle.jsonml_tree.specs.Data.{PlainAttr, PlainTree, text, element, PlainContent, content, PlainTrees, no_trees, tree, trees_of, tree_depth, content_depth, trees_depth}
@@ -10,9 +11,30 @@ use Rattle.jsonml_tree.specs.WellFormed.{are_well_formed}
 use Rattle.jsonml_tree.specs.declared.lent.LentTree.{LentTree}
 use Rattle.jsonml_text.specs.Kept.{IsKept, IsContentKept, AreAttrsKept}
 use Rattle.jsonml_text.specs.Straight.{lexemes, tokens_from, HasLexeme, HasString, HasTree, HasItems, HasContent}
-use Rattle.jsonml_text.specs.Pushed.{trees_before, depth_of, PushesTree, ReadsContent, ReadsItems, HasPushed}
+use Rattle.jsonml_text.specs.Pushed.{depth_of, PushesTree, ReadsContent, ReadsItems}
+use Rattle.jsonml_text.specs.Texts.{AreTexts, AreAttrTexts, AreContentTexts, AreItemTexts}
 use Rattle.jsonml_text.proofs.Keeping.{well_formed_push, fit_push, IsContentKept-parts}
 use Rattle.jsonml_text.proofs.Straightness.{HasTree-text, HasTree-element, HasItems-more, HasItems-end, HasContent-items, comma_passed, bracket_passed}
+
+-- these trees, and then the others
+abbrev pub trees_before : List PlainTree → PlainTrees → PlainTrees
+trees_before [] us = us
+trees_before (t ∷ ts) us = tree t (trees_before ts us)
+
+-- the same of the items up to some offset
+pub record HasPushed (levels : ℕ) (text : List ℕ) (at : ℕ) (old now : List LentTree) (end : ℕ) : Type 0 where
+  pub pushed : List LentTree
+  pub wait : now ≡ old ++ pushed
+  pub reads : (ts : PlainTrees) (rest : List Token) → HasItems (depth_of levels) text end ts rest → HasItems (depth_of levels) text at (trees_before (map lent_tree_view pushed) ts) rest
+  pub well_formed : IsTrue (are_well_formed (trees_of (map lent_tree_view pushed)))
+  pub fit : IsTrue (all_items_fit (trees_of (map lent_tree_view pushed)))
+  pub texts : AreItemTexts (trees_of (map lent_tree_view pushed))
+  pub shallow : trees_depth (trees_of (map lent_tree_view pushed)) ≤ levels
+  pub later : at ≤ end
+
+texts_push : (ts : List PlainTree) (t : PlainTree) → AreItemTexts (trees_of ts) → AreTexts t → AreItemTexts (trees_of (ts ++ t ∷ []))
+texts_push [] t h k = (k, tt)
+texts_push (u ∷ ts) t h k = (h.0, texts_push ts t h.1 k)
 
 before-push : (ts : List PlainTree) (t : PlainTree) (us : PlainTrees) → trees_before ts (tree t us) ≡ trees_before (ts ++ t ∷ []) us
 before-push [] t us = refl
@@ -33,6 +55,7 @@ PushesTree-text levels d at old new pushed s next waits is h =
       waits = waits;
       reads = subst (λ t. HasTree (depth_of levels) d at t next) (sym is) (HasTree-text (depth_of levels) d at s next h);
       kept = subst IsKept (sym is) (record { well_formed = refl; fits = refl });
+      texts = subst AreTexts (sym is) h.utf8;
       shallow = omega (arith, ap tree_depth is);
     }
 
@@ -44,6 +67,7 @@ HasPushed-none levels d at old =
       reads = λ ts rest h. h;
       well_formed = refl;
       fit = refl;
+      texts = tt;
       shallow = omega arith;
       later = omega arith;
     }
@@ -62,6 +86,7 @@ HasPushed-more levels d at old now new end mid next h sign same le more =
           (h.reads (tree t ts) rest (HasItems-more (depth_of levels) d end mid t next ts rest (comma_passed d end mid sign same) more.reads k));
       well_formed = subst (λ l. IsTrue (are_well_formed (trees_of l))) seen (well_formed_push done t h.well_formed more.kept.well_formed);
       fit = subst (λ l. IsTrue (all_items_fit (trees_of l))) seen (fit_push done t h.fit more.kept.fits);
+      texts = subst (λ l. AreItemTexts (trees_of l)) seen (texts_push done t h.texts more.texts);
       shallow = subst (λ l. trees_depth (trees_of l) ≤ levels) seen (depth-push done t levels h.shallow more.shallow);
       later = omega (arith, h.later, more.reads.later);
     }
@@ -80,6 +105,7 @@ ReadsItems-end levels d at old now new items waiting end next h sign same le wit
         fit = subst (λ l. IsTrue (all_items_fit (trees_of l))) views h.fit;
         few = omega (arith, length-map items lent_tree_view);
       };
+      texts = subst (λ l. AreItemTexts (trees_of l)) views h.texts;
       shallow = subst (λ l. trees_depth (trees_of l) ≤ levels) views h.shallow;
       later = omega (arith, h.later);
       within = within;
@@ -95,6 +121,7 @@ PushesTree-element levels d at named inside old now new pushed tag c next some s
       reads = subst (λ t. HasTree (depth_of levels) d at t next) (sym is)
           (HasTree-element (depth_of levels) (depth_of (levels - 1)) d at (at + 1) named tag inside c next deep sign same h k.reads (omega (arith, h.later, k.later)) k.within);
       kept = subst IsKept (sym is) (record { well_formed = k.kept.well_formed; fits = k.kept.fits });
+      texts = subst AreTexts (sym is) (h.utf8, k.texts);
       shallow = omega (arith, ap tree_depth is, k.shallow);
     }
 
@@ -106,26 +133,28 @@ HasContent-text depth d at mid s end next sign same h close again =
     HasContent-items depth d at (tree (text s) no_trees) rest
     (HasItems-more depth d at mid (text s) end no_trees rest (comma_passed d at mid sign same) (HasTree-text depth d mid s end h) (HasItems-end depth d end rest (bracket_passed d end next close again)))
 
-pub ReadsContent-text : (levels : ℕ) (d : List ℕ) (at : ℕ) (old : List LentTree) (s : List ℕ) (next : ℕ) → ((depth : ℕ) → HasContent depth d at (only_text s) (tokens_from after_value d next)) → at < next → next ≤ length d
+pub ReadsContent-text : (levels : ℕ) (d : List ℕ) (at : ℕ) (old : List LentTree) (s : List ℕ) (next : ℕ) → ((depth : ℕ) → HasContent depth d at (only_text s) (tokens_from after_value d next)) → IsUtf8 s → at < next → next ≤ length d
     → ReadsContent levels d at old old (only_text s) next
-ReadsContent-text levels d at old s next h later within =
+ReadsContent-text levels d at old s next h utf8 later within =
     record {
       same = refl;
       reads = h (depth_of levels);
       kept = record { well_formed = refl; fits = refl };
+      texts = (tt, (utf8, tt));
       shallow = omega arith;
       later = later;
       within = within;
     }
 
-pub ReadsContent-parts : (levels : ℕ) (d : List ℕ) (at begun : ℕ) (old new items : List LentTree) (c : PlainContent) (xs : List PlainAttr) (next : ℕ) → c ≡ content xs (trees_of (map lent_tree_view items)) → AreAttrsKept xs → at ≤ begun
+pub ReadsContent-parts : (levels : ℕ) (d : List ℕ) (at begun : ℕ) (old new items : List LentTree) (c : PlainContent) (xs : List PlainAttr) (next : ℕ) → c ≡ content xs (trees_of (map lent_tree_view items)) → AreAttrsKept xs → AreAttrTexts xs → at ≤ begun
     → ((depth : ℕ) (ts : PlainTrees) (rest : List Token) → 0 < depth → HasItems depth d begun ts rest → HasContent depth d at (content xs ts) rest) → ReadsItems levels d begun old new items next → ReadsContent levels d at old new c next
-ReadsContent-parts levels d at begun old new items c xs next is kept le whole h =
+ReadsContent-parts levels d at begun old new items c xs next is kept texts le whole h =
     let ts = trees_of (map lent_tree_view items) in
     record {
       same = h.same;
       reads = subst (λ x. HasContent (depth_of levels) d at x (tokens_from after_value d next)) (sym is) (whole (depth_of levels) ts (tokens_from after_value d next) (omega arith) h.reads);
       kept = subst IsContentKept (sym is) (IsContentKept-parts xs (map lent_tree_view items) kept h.kept);
+      texts = subst AreContentTexts (sym is) (texts, h.texts);
       shallow = omega (arith, ap content_depth is, h.shallow);
       later = omega (arith, h.later);
       within = h.within;

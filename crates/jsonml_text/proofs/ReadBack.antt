@@ -242,3 +242,11 @@ reads_value t well shallow =
     let tokens_of : tokens (tree_text t) ≡ outlined.json_tokens j ++ [] =
     ap tokens (tree_text-is t ∙ sym (print-outline (tree_data t))) ∙ tokens-print (outlined.json_tokens j) (ArePrintable-json_tokens j (tree_numbers t well)) ∙ sym (append-nil (outlined.json_tokens j)) in
     ap (option_and_then of_json) (ap (option_and_then (λ p. if_last p.0 p.1)) (ap (value max_depth) tokens_of ∙ value-json_tokens j max_depth [] (omega (arith, tree_nests t)))) ∙ tree_read t well
+
+-- the same of a scalar on its own
+pub reads_scalar : (s : PlainScalar) → IsTrue (is_in_range s) → read (scalar_text s) ≡ Some (scalar_data s)
+reads_scalar s fit =
+    let j = outline (scalar_data s) in
+    let tokens_of : tokens (scalar_text s) ≡ outlined.json_tokens j ++ [] =
+    ap tokens (scalar_text-is s ∙ sym (print-outline (scalar_data s))) ∙ tokens-print (outlined.json_tokens j) (ArePrintable-json_tokens j (scalar_numbers s fit)) ∙ sym (append-nil (outlined.json_tokens j)) in
+    ap (option_and_then of_json) (ap (option_and_then (λ p. if_last p.0 p.1)) (ap (value max_depth) tokens_of ∙ value-json_tokens j max_depth [] (omega (arith, scalar_flat s)))) ∙ scalar_read s fit

@@ -1,5 +1,5 @@
 -- The document of what is printed for a document.
-use Rattle.std.proofs.Common.{◌≡◌, ℕ, ◌+◌, ◌-◌, ◌≤◌, ◌^◌, ◌&&◌, ◌==◌, pos, negsuc, ℤ, Bool, true, false, cond, IsTrue, List, [], ◌∷◌, ◌++◌, length, map, take, Some, None, Ok, refl, sym, ap, ◌∙◌, subst, arith, append_assoc, length-append, decimal, le_refl}
+use Rattle.std.proofs.Common.{◌≡◌, ℕ, ◌+◌, ◌-◌, ◌≤◌, ◌^◌, ◌&&◌, ◌==◌, pos, negsuc, ℤ, option_and_then, Bool, true, false, cond, IsTrue, List, [], ◌∷◌, ◌++◌, length, map, take, Some, None, Ok, refl, sym, ap, ◌∙◌, subst, arith, append_assoc, length-append, decimal, le_refl}
 use Rattle.std.specs.Prelude.{nat_lt, slice_index}
 use Rattle.std.specs.List.{flat_map, join_with_byte}
 use Rattle.std.specs.Str.{IsUtf8}
@@ -10,6 +10,7 @@ use Rattle.std.proofs.Math.Seq.{take-length}
 use Rattle.std.proofs.lemmas.Str.{IsUtf8-append, IsUtf8-nil, IsUtf8-from_ascii}
 use Rattle.std.proofs.lemmas.Fmt.{IsAscii-decimal, IsAscii-signed}
 use Rattle.std.specs.Option.{option_or}
+use Rattle.std.specs.Result.{result_ok}
 use Rattle.json.proofs.Printed.Utf8.{IsUtf8-are_ascii, IsUtf8-quoted}
 use Rattle.json.specs.Print.{quoted}
 use Rattle.serde_json.specs.Read.{read}
@@ -18,15 +19,15 @@ use Rattle.jsonml_tree.specs.Data as plain
 use Rattle.jsonml_tree.specs.Data.{PlainScalar, PlainAttr, PlainTree, text, element, PlainContent, content, PlainTrees, no_trees, tree, tree_depth}
 use Rattle.jsonml_tree.specs.WellFormed.{is_in_range, is_ascending, are_in_range, is_well_formed, is_content_well_formed, are_well_formed}
 use Rattle.jsonml_text.specs.Reading.{reading, less_lf, ends_with_lf}
-use Rattle.jsonml_text.specs.Spelled.{and_then, mapped, whole_of, whole_at, scalar_at, attrs_at, item_at, content_at, items_at, root_of}
+use Rattle.jsonml_text.specs.Spelled.{and_then, mapped, whole_of, whole_at, scalar_at, scalar_in, attrs_at, item_at, content_at, items_at, root_of}
 use Rattle.jsonml_text.specs.Document.{doc, of_value, of_shape, unless_too_deep}
 use Rattle.jsonml_tree.specs.Fits.{IsElement}
 use Rattle.jsonml_text.specs.Texts.{IsScalarText, AreAttrTexts, AreTexts, AreContentTexts, AreItemTexts}
 use Rattle.jsonml_text.specs.Printed.{scalar_text, attr_text, attrs_text, tree_text, content_text, items_text, document_text}
-use Rattle.jsonml_text.specs.RoundTrip.{TextReadsBack, DocumentReadsBack}
+use Rattle.jsonml_text.specs.RoundTrip.{TextReadsBack, DocumentReadsBack, ScalarReadsBack}
 use Rattle.jsonml_text.proofs.Levels.{found_at}
 use Rattle.jsonml_text.proofs.Readings.{reading-Some}
-use Rattle.jsonml_text.proofs.ReadBack.{scalar_data, attrs_data, tree_data, content_data, items_data, reads_value, natural_small, negative_small}
+use Rattle.jsonml_text.proofs.ReadBack.{scalar_data, attrs_data, tree_data, content_data, items_data, reads_value, reads_scalar, natural_small, negative_small}
 use Rattle.jsonml_text.proofs.TreeWalk.{joined}
 
 -- ---- the value spells the tree
@@ -159,3 +160,6 @@ text_reads_back t elem well texts shallow = doc_from (tree_text t) t elem well t
 
 pub document_reads_back : (t : PlainTree) → DocumentReadsBack t
 document_reads_back t elem well texts shallow = doc_from (document_text t) t elem well texts shallow (lf_left_out (tree_text t))
+
+pub scalar_reads_back : (s : PlainScalar) → ScalarReadsBack s
+scalar_reads_back s fit = ap (option_and_then scalar_in) (reads_scalar s fit) ∙ ap result_ok (scalar_back [] s)

@@ -1,5 +1,5 @@
 -- The items of an element, one after the other.
-use Rattle.std.proofs.Common.{◌≡◌, ℕ, ◌+◌, List, [], ◌∷◌, ◌++◌, length, map, Result, Ok, Err, refl, sym, ap, ◌∙◌, subst, length-append}
+use Rattle.std.proofs.Common.{◌≡◌, ℕ, suc, ◌+◌, ◌<◌, List, [], ◌∷◌, ◌++◌, length, map, drop, get_or, drop-cons, add-one, Result, Ok, Err, refl, sym, ap, ◌∙◌, subst, length-append}
 use Rattle.std.specs.Result.{IsErrAnd}
 use Rattle.std.proofs.lemmas.List.{map-append}
 use Rattle.serde_json.specs.Data.{Data, Items, item}
@@ -9,7 +9,7 @@ use Rattle.jsonml_tree.specs.Data.{PlainTree, PlainTrees, no_trees, tree, trees_
 use Rattle.jsonml_tree.specs.View.{tree_view}
 use Rattle.jsonml_tree.specs.declared.tree.Tree.{Tree}
 use Rattle.jsonml_text.specs.Spelled.{ShapeFault, and_then, mapped, item_at, items_at}
-use Rattle.jsonml_text.specs.Stops.{Reads, onto}
+use Rattle.jsonml_text.specs.Stops.{Reads}
 use Rattle.jsonml_text.specs.declared.stop.Stop.{Stop}
 use Rattle.jsonml_text.specs.declared.stop.Stop.TheVariants.{Shape, Memory}
 
@@ -24,6 +24,11 @@ Reads-handed {A} {B} {T} {U} v w part whole before begun after stop (Err s) alon
     subst (λ (s : Stop). Reads w whole before after (Err s)) (sym e) (there stop p)
 
 -- ---- these trees and those of the rest
+
+-- these trees, and then the others
+abbrev pub onto : List PlainTree → Result PlainTrees ShapeFault → Result PlainTrees ShapeFault
+onto [] rest = rest
+onto (t ∷ ts) rest = mapped (tree t) (onto ts rest)
 
 pub onto-append : (ts : List PlainTree) (t : PlainTree) (r : Result PlainTrees ShapeFault) → onto (ts ++ t ∷ []) r ≡ onto ts (mapped (tree t) r)
 onto-append [] t r = refl
@@ -46,7 +51,11 @@ pub items_more : (place : List ℕ) (ts : List PlainTree) (n : ℕ) (d : Data) (
     → onto (ts ++ t ∷ []) (items_at place (n + 1) ds) ≡ onto ts (items_at place n (item d ds))
 items_more place ts n d ds t e = onto-append ts t _ ∙ ap (onto ts) (sym (ap (λ r. and_then r (λ t. mapped (tree t) (items_at place (n + 1) ds))) e))
 
--- the same, of the values that an iterator has left
+-- what is left of the values
+pub values_left : (vs : List Value) (i : ℕ) (v : Value) → i < length vs → v ≡ get_or vs i v → drop i vs ≡ v ∷ drop (i + 1) vs
+values_left vs i v within is = drop-cons vs i v within ∙ ap (λ u. u ∷ drop (suc i) vs) (sym is) ∙ ap (λ n. v ∷ drop n vs) (sym (add-one i))
+
+-- the same, of the values that are left
 pub items_stop : (place : List ℕ) (us : List Tree) (count : ℕ) (rest next : List Value) (v : Value) (fault : ShapeFault) → rest ≡ v ∷ next → count ≡ length us → item_at (place ++ (count + 1) ∷ []) (data_of v) ≡ Err fault
     → onto (map tree_view us) (items_at place (length us + 1) (items_view rest)) ≡ Err fault
 items_stop place us count rest next v fault is long e =

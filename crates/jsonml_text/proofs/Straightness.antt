@@ -2,6 +2,7 @@
 use Rattle.std.proofs.Common.{◌≡◌, ℕ, suc, ◌+◌, ◌-◌, ◌<◌, ◌≤◌, false, IsTrue, List, [], ◌∷◌, ◌++◌, length, take, drop, get_or, map, string_bytes, append_assoc, Some, None, Result, Ok, Err, option_map, option_and_then, refl, sym, ap, ◌∙◌, arith}
 use Rattle.std.proofs.lemmas.List.{drop_all, drop_more, take_more, map-append}
 use Rattle.std.specs.List.{insert}
+use Rattle.std.specs.Str.{IsUtf8}
 use Rattle.std.proofs.lemmas.Bool.{and_parts, and_from}
 use Rattle.std.proofs.lemmas.Cmp.{nat_list_cmp_total}
 use Rattle.std.specs.Ordering.{match_ordering, is_lt, ordering_reverse}
@@ -25,15 +26,24 @@ use Rattle.jsonml_text.specs.Document.{of_value, of_shape, unless_too_deep}
 use Rattle.jsonml_text.specs.Kept.{AreAttrsKept}
 use Rattle.jsonml_text.proofs.Levels.{found_at}
 use Rattle.jsonml_text.specs.Spelled.{ShapeFault, and_then, mapped, scalar_at, attrs_at, item_at, items_at, content_at, root_of}
-use Rattle.jsonml_text.specs.Straight.{lexemes, tokens_from, HasLexeme, HasString, HasKey, HasScalar, HasMembers, HasAttrs, HasItems, HasContent, HasTree, put_attr}
+use Rattle.jsonml_text.specs.Straight.{lexemes, tokens_from, HasLexeme, HasString, HasKey, HasScalar, HasAttrs, HasItems, HasContent, HasTree, put_attr}
 use Rattle.jsonml_text.proofs.Lexing.{tokens-string, tokens-key, tokens-begin_array, tokens-begin_object, tokens-end_object, tokens-comma, tokens-end_array}
+
+-- members up to the end of their object, and the tokens behind it; put among those before, they spell these attributes
+pub record HasMembers (depth : ℕ) (text : List ℕ) (at : ℕ) (before : Members) (xs : List PlainAttr) (rest : List Token) : Type 0 where
+  pub parsed : json.Members
+  pub members : Members
+  pub of : of_members parsed before ≡ Some members
+  pub spells : (place : List ℕ) → attrs_at place members ≡ Ok xs
+  pub reads : (n : ℕ) → length (tokens_from after_value text at) ≤ n → json.members (json.value depth) n (tokens_from after_value text at) ≡ Some (parsed, rest)
 
 -- ---- strings
 
-pub HasString-lexeme : (d : List ℕ) (at : ℕ) (s : List ℕ) (end next : ℕ) → HasLexeme d at (token (string s)) end → lexemes d next ≡ lexemes d end → end ≤ next → next ≤ length d → begins_colon (lexemes d next) ≡ false → HasString d at s next
-HasString-lexeme d at s end next h same le within none =
+pub HasString-lexeme : (d : List ℕ) (at : ℕ) (s : List ℕ) (end next : ℕ) → HasLexeme d at (token (string s)) end → lexemes d next ≡ lexemes d end → end ≤ next → next ≤ length d → begins_colon (lexemes d next) ≡ false → IsUtf8 s → HasString d at s next
+HasString-lexeme d at s end next h same le within none utf8 =
     record {
       reads = λ p may. ap (punctuate p) (h.lexed ∙ ap (λ ls. token (string s) ∷ ls) (sym same)) ∙ tokens-string p s (lexemes d next) may none;
+      utf8 = utf8;
       later = omega (arith, h.later);
       within = within;
     }

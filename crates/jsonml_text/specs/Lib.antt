@@ -4,6 +4,7 @@ pub mod Document
 pub mod Kept
 pub mod Views
 pub mod Stops
+pub mod Front
 pub mod Printed
 pub mod Pen
 pub mod Calls

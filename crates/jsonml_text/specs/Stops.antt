@@ -1,7 +1,6 @@
 -- For private clauses: where a reader of a part of a document stops.
-use Rattle.std.specs.Prelude.{◌≡◌, ℕ, List, [], ◌∷◌, Bool, MatchBool, Option, Some, None, Result, Ok, Err, ⊤}
-use Rattle.jsonml_tree.specs.Data.{PlainTree, PlainTrees, tree}
-use Rattle.jsonml_text.specs.Spelled.{ShapeFault, fault_at, mapped}
+use Rattle.std.specs.Prelude.{◌≡◌, ℕ, List, Bool, MatchBool, Option, Some, None, Result, Ok, Err, ⊤}
+use Rattle.jsonml_text.specs.Spelled.{ShapeFault, fault_at}
 use Rattle.jsonml_text.specs.declared.stop.Stop.{Stop}
 use Rattle.jsonml_text.specs.declared.stop.Stop.TheVariants.{Shape, Memory}
 
@@ -10,11 +9,6 @@ abbrev pub Reads : {A T : Type 0} → (T → A) → Result A ShapeFault → List
 Reads view defined before after (Ok x) = (defined ≡ Ok (view x)) × (after ≡ before)
 Reads view defined before after (Err (Shape why)) = defined ≡ fault_at after why
 Reads view defined before after (Err Memory) = ⊤
-
--- these trees, and then the others
-abbrev pub onto : List PlainTree → Result PlainTrees ShapeFault → Result PlainTrees ShapeFault
-onto [] rest = rest
-onto (t ∷ ts) rest = mapped (tree t) (onto ts rest)
 
 -- The place of the first one, if there is one; else the place is left as it was.
 abbrev pub Finds : Option (List ℕ) → List ℕ → List ℕ → Bool → Type 0

@@ -1,6 +1,7 @@
 -- For private clauses: what a text has from one offset to another.
 use Rattle.std.specs.Prelude.{◌≡◌, ℕ, ◌<◌, ◌≤◌, List, [], ◌∷◌, length, drop, Bool, true, false, Some, Ok}
 use Rattle.std.specs.Ordering.{match_ordering}
+use Rattle.std.specs.Str.{IsUtf8}
 use Rattle.json.specs.Token.{Token}
 use Rattle.json.specs.Token as token
 use Rattle.json.specs.Json as json
@@ -28,6 +29,7 @@ pub record HasLexeme (text : List ℕ) (at : ℕ) (l : Lexeme) (next : ℕ) : Ty
 -- a string that is a value, wherever one may begin
 pub record HasString (text : List ℕ) (at : ℕ) (s : List ℕ) (next : ℕ) : Type 0 where
   pub reads : (p : Place) → may_begin p ≡ true → tokens_from p text at ≡ token.string s ∷ tokens_from after_value text next
+  pub utf8 : IsUtf8 s
   pub later : at < next
   pub within : next ≤ length text
 
@@ -52,14 +54,6 @@ pub record HasMember (text : List ℕ) (at : ℕ) (x : PlainAttr) (next : ℕ) :
   pub begun : ℕ
   pub key : HasKey text at x.name begun
   pub scalar : HasScalar text begun x.value next
-
--- members up to the end of their object, and the tokens behind it; put among those before, they spell these attributes
-pub record HasMembers (depth : ℕ) (text : List ℕ) (at : ℕ) (before : Members) (xs : List PlainAttr) (rest : List Token) : Type 0 where
-  pub parsed : json.Members
-  pub members : Members
-  pub of : of_members parsed before ≡ Some members
-  pub spells : (place : List ℕ) → attrs_at place members ≡ Ok xs
-  pub reads : (n : ℕ) → length (tokens_from after_value text at) ≤ n → json.members (json.value depth) n (tokens_from after_value text at) ≡ Some (parsed, rest)
 
 -- an object that spells these attributes, wherever a value may begin, and the tokens behind it
 pub record HasAttrs (depth : ℕ) (text : List ℕ) (at : ℕ) (xs : List PlainAttr) (rest : List Token) : Type 0 where

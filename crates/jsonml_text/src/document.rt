@@ -1,14 +1,15 @@
-ghost use Rattle.std.specs.Prelude.{◌≡◌, ◌≤◌, IfOk, IfErr, IfSome, Some, IsTrue, option_map, length, map};
+ghost use Rattle.std.specs.Prelude.{◌≡◌, ◌≤◌, IfOk, IfErr, IfSome, Some, IsTrue, option_map, length};
 ghost use Rattle.serde_json.specs.View.{view as data_of, items_view};
 ghost use Rattle.jsonml_tree.specs.Data.{tree_depth};
 ghost use Rattle.jsonml_tree.specs.LentView.{lent_tree_view};
 ghost use Rattle.jsonml_tree.specs.View.{tree_view, content_view};
 ghost use Rattle.jsonml_tree.specs.WellFormed.{IsWellFormed, is_content_well_formed};
 ghost use Rattle.jsonml_text.specs.Reading.{reading, less_lf};
-ghost use Rattle.jsonml_text.specs.Spelled.{content_in};
-ghost use Rattle.jsonml_text.specs.Document.{doc, of_value};
+ghost use Rattle.jsonml_text.specs.Spelled.{root_of, content_in};
+ghost use Rattle.jsonml_text.specs.Document.{doc, of_shape, of_value};
 ghost use Rattle.jsonml_tree.specs.Fits.{IsElement, ItemsFit};
 ghost use Rattle.jsonml_text.specs.Kept.{IsKept};
+ghost use Rattle.jsonml_text.specs.Texts.{AreTexts};
 ghost use Rattle.jsonml_text.specs.Views.{refusal_of};
 
 use crate::DocFault;
@@ -25,6 +26,7 @@ use std::alloc::{AllocError, Global};
 /// Most documents are read in one pass, straight from the bytes into the tree. A document that is written in a rare way
 /// goes through a JSON value, and so do bytes that are no document, to tell why. It recurses as deep as JSON nests, which
 /// is at most 127 levels.
+#[tactic(auto, using(crate::proofs::OwnTexts::tree_texts))]
 pub fn read_document(alloc: Global, bytes: &[u8]) -> Result<Tree, DocFault>
     requires { length bytes.now ≤ 67108864 }
     ensures document { IfOk result (λ t. doc bytes.now ≡ Ok (tree_view t)) }
@@ -35,6 +37,7 @@ pub fn read_document(alloc: Global, bytes: &[u8]) -> Result<Tree, DocFault>
     ensures well_formed { IfOk result (λ t. IsWellFormed (tree_view t)) }
     ensures shallow { IfOk result (λ t. tree_depth (tree_view t) ≤ 120) }
     ensures items_fit { IfOk result (λ t. ItemsFit (tree_view t)) }
+    ensures texts { IfOk result (λ t. AreTexts (tree_view t)) }
 {
     match read_plainly(alloc, bytes) {
         Some(tree) => Ok(tree.own(alloc)?),
@@ -44,7 +47,9 @@ pub fn read_document(alloc: Global, bytes: &[u8]) -> Result<Tree, DocFault>
 
 /// The same document, whose texts are lent by the bytes.
 ///
-/// A text with escapes is a copy, and so is every text of a document that is written in a rare way.
+/// A tag or a text with escapes is a copy, and so are the names and the texts of attributes, and every text of a document
+/// that is written in a rare way.
+#[tactic(auto, using(crate::proofs::OwnTexts::kept_texts))]
 pub fn lend_document<'a>(alloc: Global, bytes: &'a [u8]) -> Result<LentTree<'a>, DocFault>
     requires { length bytes.now ≤ 67108864 }
     ensures document { IfOk result (λ t. doc bytes.now ≡ Ok (lent_tree_view t)) }
@@ -55,10 +60,11 @@ pub fn lend_document<'a>(alloc: Global, bytes: &'a [u8]) -> Result<LentTree<'a>,
     ensures well_formed { IfOk result (λ t. IsWellFormed (lent_tree_view t)) }
     ensures shallow { IfOk result (λ t. tree_depth (lent_tree_view t) ≤ 120) }
     ensures items_fit { IfOk result (λ t. ItemsFit (lent_tree_view t)) }
+    ensures texts { IfOk result (λ t. AreTexts (lent_tree_view t)) }
 {
     match read_plainly(alloc, bytes) {
         Some(tree) => Ok(tree),
-        None => Ok(LentTree::keep(alloc, &read_by_value(alloc, bytes)?)?),
+        None => Ok(LentTree::keep(alloc, read_by_value(alloc, bytes)?)?),
     }
 }
 
@@ -68,6 +74,7 @@ fn read_plainly<'a>(alloc: Global, bytes: &'a [u8]) -> Option<LentTree<'a>>
     ensures document { IfSome result (λ t. doc bytes.now ≡ Ok (lent_tree_view t)) }
     ensures element { IfSome result (λ t. IsElement (lent_tree_view t)) }
     ensures kept { IfSome result (λ t. IsKept (lent_tree_view t)) }
+    ensures texts { IfSome result (λ t. AreTexts (lent_tree_view t)) }
     ensures shallow { IfSome result (λ t. tree_depth (lent_tree_view t) ≤ 120) }
 {
     let text = str::from_utf8(without_line_feed(bytes)).ok()?;
@@ -75,8 +82,6 @@ fn read_plainly<'a>(alloc: Global, bytes: &'a [u8]) -> Option<LentTree<'a>>
 }
 
 /// The document of some bytes, by way of their JSON value.
-///
-/// The strings of the document are moved out of the value, and not copied.
 fn read_by_value(alloc: Global, bytes: &[u8]) -> Result<Tree, DocFault>
     ensures document { IfOk result (λ t. doc bytes.now ≡ Ok (tree_view t)) }
     ensures refused { IfErr result (λ f. IfSome (refusal_of f) (λ r. doc bytes.now ≡ Err r)) }
@@ -84,8 +89,24 @@ fn read_by_value(alloc: Global, bytes: &[u8]) -> Result<Tree, DocFault>
     ensures well_formed { IfOk result (λ t. IsWellFormed (tree_view t)) }
     ensures shallow { IfOk result (λ t. tree_depth (tree_view t) ≤ 120) }
     ensures items_fit { IfOk result (λ t. ItemsFit (tree_view t)) }
+    ensures texts { IfOk result (λ t. AreTexts (tree_view t)) }
 {
     let value = json_value(alloc, bytes)?;
+    document_of(alloc, &value)
+}
+
+/// The document that a value spells.
+#[tactic(auto, using(crate::proofs::OwnTexts::tree_texts))]
+fn document_of(alloc: Global, value: &Value) -> Result<Tree, DocFault>
+    ensures document { IfOk result (λ t. of_shape (root_of (data_of value.now)) ≡ Ok (tree_view t)) }
+    ensures refused { IfErr result
+        (λ f. IfSome (refusal_of f) (λ r. of_shape (root_of (data_of value.now)) ≡ Err r)) }
+    ensures element { IfOk result (λ t. IsElement (tree_view t)) }
+    ensures well_formed { IfOk result (λ t. IsWellFormed (tree_view t)) }
+    ensures shallow { IfOk result (λ t. tree_depth (tree_view t) ≤ 120) }
+    ensures items_fit { IfOk result (λ t. ItemsFit (tree_view t)) }
+    ensures texts { IfOk result (λ t. AreTexts (tree_view t)) }
+{
     let mut place = Vec::new(alloc);
     match read_root(alloc, value, &mut place) {
         Ok(tree) => if finds_too_deep(&tree, &mut place)? {
@@ -104,27 +125,18 @@ fn read_by_value(alloc: Global, bytes: &[u8]) -> Result<Tree, DocFault>
 }
 
 /// The content that some values spell: the first gives the attributes where it is an object, and all others are items.
-/// None where they have a shape fault. The values stay as they are, and are copied.
+/// None where they have a shape fault.
 pub fn content_of(alloc: Global, values: &[Value]) -> Result<Option<Content>, AllocError>
-    ensures content { IfOk result (λ o. option_map content_view o ≡ content_in (items_view values.now)) }
-    ensures well_formed { IfOk result (λ o. IfSome o (λ c. IsTrue (is_content_well_formed (content_view c)))) }
+    ensures content { IfOk result
+        (λ o. option_map content_view o ≡ content_in (items_view values.now)) }
+    ensures well_formed { IfOk result
+        (λ o. IfSome o (λ c. IsTrue (is_content_well_formed (content_view c)))) }
 {
-    let copies = copy_values(alloc, values)?;
-    match read_content(alloc, copies.into_iter(), &mut Vec::new(alloc)) {
+    match read_content(alloc, values, &mut Vec::new(alloc)) {
         Ok(content) => Ok(Some(content)),
         Err(Stop::Shape(_)) => Ok(None),
         Err(Stop::Memory) => Err(AllocError),
     }
-}
-
-fn copy_values(alloc: Global, values: &[Value]) -> Result<Vec<Value>, AllocError>
-    ensures { IfOk result (λ v. items_view v.items ≡ items_view values.now) }
-{
-    let mut copies = Vec::with_capacity(alloc, values.len())?;
-    for value in values {
-        copies.push(value.clone()?)?;
-    }
-    Ok(copies)
 }
 
 /// The bytes, less one line feed where they end in one.
@@ -142,7 +154,8 @@ fn without_line_feed(bytes: &[u8]) -> &[u8]
 #[tactic(auto, using(crate::proofs::Readings::readings), unfolding(crate::specs::Reading::reading))]
 fn json_value(alloc: Global, bytes: &[u8]) -> Result<Value, DocFault>
     ensures value { IfOk result (λ v. reading bytes.now ≡ Some (data_of v)) }
-    ensures refused { IfErr result (λ f. IfSome (refusal_of f) (λ r. of_value (reading bytes.now) ≡ Err r)) }
+    ensures refused { IfErr result
+        (λ f. IfSome (refusal_of f) (λ r. of_value (reading bytes.now) ≡ Err r)) }
 {
     match Value::from_slice(alloc, without_line_feed(bytes)) {
         Ok(value) => Ok(value),

@@ -1,8 +1,8 @@
 ghost use Rattle.std.specs.Prelude.{◌≡◌, ◌≤◌, ◌↔◌, [], None};
-ghost use Rattle.jsonml_tree.specs.Data.{PlainTree, tree_depth};
+ghost use Rattle.jsonml_tree.specs.Data.{PlainScalar, PlainTree, tree_depth};
 ghost use Rattle.jsonml_text.specs.Document.{too_deep_at};
 ghost use Rattle.jsonml_text.specs.Laws.{CallsPrint, CallsMayCome};
-ghost use Rattle.jsonml_text.specs.RoundTrip.{TextReadsBack, DocumentReadsBack};
+ghost use Rattle.jsonml_text.specs.RoundTrip.{TextReadsBack, DocumentReadsBack, ScalarReadsBack};
 
 /// A printer that is led through a whole element prints its text, and each of the calls may be made.
 pub fn calls_print_the_tree()
@@ -15,8 +15,10 @@ pub fn levels_end_with_the_depth()
     ensures { (t : PlainTree) → (too_deep_at [] t ≡ None) ↔ (tree_depth t ≤ 120) }
 {}
 
-/// What is printed for a document reads back as it, with or without a line feed behind it.
+/// What is printed for a document reads back as it, with or without a line feed behind it, and so does a scalar on its
+/// own.
 pub fn printed_documents_read_back()
     ensures text { (t : PlainTree) → TextReadsBack t }
     ensures document { (t : PlainTree) → DocumentReadsBack t }
+    ensures scalar { (s : PlainScalar) → ScalarReadsBack s }
 {}

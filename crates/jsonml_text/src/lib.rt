@@ -23,6 +23,7 @@ mod word;
 pub use document::{content_of, lend_document, read_document};
 pub use fault::DocFault;
 pub use laws::{calls_print_the_tree, levels_end_with_the_depth, printed_documents_read_back};
+pub use pieces::write_scalar;
 pub use print::{print_content, print_lent_content, write_tree};
 pub use printer::Printer;
 pub use scalar::scalar_of;

@@ -26,7 +26,8 @@ pub(crate) fn read_attributes(
     scratch: &mut Scratch,
 ) -> Option<(Vec<Attr>, usize)>
     requires { HasLexeme text.now at (token begin_object) (at + 1) }
-    ensures attrs { IfSome result (λ r. (depth : ℕ) → HasAttrs (depth + 1) text.now at (map attr_view r.0.items) (tokens_from after_value text.now r.1)) }
+    ensures attrs { IfSome result (λ r. (depth : ℕ) → HasAttrs (depth + 1) text.now at
+        (map attr_view r.0.items) (tokens_from after_value text.now r.1)) }
     ensures kept { IfSome result (λ r. AreAttrsKept (map attr_view r.0.items)) }
     ensures later { IfSome result (λ r. at < r.1) }
     ensures within { IfSome result (λ r. r.1 ≤ length text.now) }
@@ -68,7 +69,8 @@ fn read_attribute(
 
 /// Puts an attribute among others, in their order. Nothing where one has its name, or where there are many.
 fn put(attrs: &mut Vec<Attr>, attr: Attr) -> Option<()>
-    ensures { OnSome result (map attr_view attrs.new.items ≡ put_attr (attr_view attr) (map attr_view attrs.old.items)) }
+    ensures { OnSome result
+        (map attr_view attrs.new.items ≡ put_attr (attr_view attr) (map attr_view attrs.old.items)) }
 {
     if attrs.len() >= MOST {
         return None;
@@ -80,7 +82,8 @@ fn put(attrs: &mut Vec<Attr>, attr: Attr) -> Option<()>
 /// The place of a new name among those that ascend. Nothing where it is there already.
 fn place_of(attrs: &[Attr], name: &str) -> Option<usize>
     ensures within { IfSome result (λ i. i ≤ length attrs.now) }
-    ensures place { IfSome result (λ i. (a : Attr) → string_bytes a.name ≡ name.now → put_attr (attr_view a) (map attr_view attrs.now) ≡ map attr_view (insert attrs.now i a)) }
+    ensures place { IfSome result (λ i. (a : Attr) → string_bytes a.name ≡ name.now
+        → put_attr (attr_view a) (map attr_view attrs.now) ≡ map attr_view (insert attrs.now i a)) }
 {
     for (place, attr) in attrs.iter().enumerate() {
         match name.cmp(attr.name.as_str()) {

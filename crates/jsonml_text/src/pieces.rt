@@ -14,8 +14,9 @@ use jsonml_tree::Scalar;
 use xa_outside::{Failed, Sink, put_all};
 
 /// Writes a scalar as JSON.
-fn write_scalar<K: Sink>(value: &Scalar, sink: &mut K) -> Result<(), Failed>
-    ensures bytes { Puts (K.taken sink.old) (K.taken sink.new) result (scalar_text (scalar_view value.now)) }
+pub fn write_scalar<K: Sink>(value: &Scalar, sink: &mut K) -> Result<(), Failed>
+    ensures bytes { Puts (K.taken sink.old) (K.taken sink.new) result
+        (scalar_text (scalar_view value.now)) }
     ensures cause { HasCause (K.faults sink.old) (K.faults sink.new) result }
 {
     match value {
@@ -32,7 +33,8 @@ fn write_scalar<K: Sink>(value: &Scalar, sink: &mut K) -> Result<(), Failed>
 
 /// Writes a name and its value.
 fn write_pair<K: Sink>(name: &str, value: &Scalar, sink: &mut K) -> Result<(), Failed>
-    ensures bytes { Puts (K.taken sink.old) (K.taken sink.new) result (attr_text (record { name = name.now; value = scalar_view value.now })) }
+    ensures bytes { Puts (K.taken sink.old) (K.taken sink.new) result
+        (attr_text (record { name = name.now; value = scalar_view value.now })) }
     ensures cause { HasCause (K.faults sink.old) (K.faults sink.new) result }
 {
     write_quoted(name, sink)?;
@@ -40,7 +42,8 @@ fn write_pair<K: Sink>(name: &str, value: &Scalar, sink: &mut K) -> Result<(), F
 }
 
 fn write_value<K: Sink>(value: &Scalar, sink: &mut K) -> Result<(), Failed>
-    ensures bytes { Puts (K.taken sink.old) (K.taken sink.new) result (58 ∷ scalar_text (scalar_view value.now)) }
+    ensures bytes { Puts (K.taken sink.old) (K.taken sink.new) result
+        (58 ∷ scalar_text (scalar_view value.now)) }
     ensures cause { HasCause (K.faults sink.old) (K.faults sink.new) result }
 {
     put_all(sink, b":")?;
@@ -55,7 +58,8 @@ pub(crate) fn write_attribute<K: Sink>(
     sink: &mut K,
 ) -> Result<(), Failed>
     requires { IsTrue (takes_attribute last) }
-    ensures bytes { Puts (K.taken sink.old) (K.taken sink.new) result (attribute_lead last ++ attr_text (record { name = name.now; value = scalar_view value.now })) }
+    ensures bytes { Puts (K.taken sink.old) (K.taken sink.new) result
+        (attribute_lead last ++ attr_text (record { name = name.now; value = scalar_view value.now })) }
     ensures cause { HasCause (K.faults sink.old) (K.faults sink.new) result }
 {
     write_attribute_lead(last, sink)?;
@@ -76,7 +80,8 @@ fn write_attribute_lead<K: Sink>(last: Last, sink: &mut K) -> Result<(), Failed>
 
 /// Writes a text.
 pub(crate) fn write_text<K: Sink>(last: Last, text: &str, sink: &mut K) -> Result<(), Failed>
-    ensures bytes { Puts (K.taken sink.old) (K.taken sink.new) result (item_lead last ++ quoted text.now) }
+    ensures bytes { Puts (K.taken sink.old) (K.taken sink.new) result
+        (item_lead last ++ quoted text.now) }
     ensures cause { HasCause (K.faults sink.old) (K.faults sink.new) result }
 {
     write_text_lead(last, sink)?;
@@ -97,7 +102,8 @@ fn write_text_lead<K: Sink>(last: Last, sink: &mut K) -> Result<(), Failed>
 
 /// Writes the beginning of an element.
 pub(crate) fn write_begin<K: Sink>(last: Last, tag: &str, sink: &mut K) -> Result<(), Failed>
-    ensures bytes { Puts (K.taken sink.old) (K.taken sink.new) result (item_lead last ++ (91 ∷ quoted tag.now)) }
+    ensures bytes { Puts (K.taken sink.old) (K.taken sink.new) result
+        (item_lead last ++ (91 ∷ quoted tag.now)) }
     ensures cause { HasCause (K.faults sink.old) (K.faults sink.new) result }
 {
     write_begin_lead(last, sink)?;
@@ -106,7 +112,8 @@ pub(crate) fn write_begin<K: Sink>(last: Last, tag: &str, sink: &mut K) -> Resul
 
 /// Writes what comes before an element, its bracket, and the first quote of its tag, in one piece.
 fn write_begin_lead<K: Sink>(last: Last, sink: &mut K) -> Result<(), Failed>
-    ensures bytes { Puts (K.taken sink.old) (K.taken sink.new) result (item_lead last ++ 91 ∷ 34 ∷ []) }
+    ensures bytes { Puts (K.taken sink.old) (K.taken sink.new) result
+        (item_lead last ++ 91 ∷ 34 ∷ []) }
     ensures cause { HasCause (K.faults sink.old) (K.faults sink.new) result }
 {
     match last {

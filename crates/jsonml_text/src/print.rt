@@ -15,7 +15,8 @@ use xa_outside::{Failed, Sink};
 /// Prints an element as JSON without blanks, with no line feed behind it. It recurses as deep as elements nest.
 pub fn write_tree<K: Sink>(tree: &Tree, sink: &mut K) -> Result<(), Failed>
     requires { IsElement (tree_view tree.now) }
-    ensures bytes { Puts (K.taken sink.old) (K.taken sink.new) result (tree_text (tree_view tree.now)) }
+    ensures bytes { Puts (K.taken sink.old) (K.taken sink.new) result
+        (tree_text (tree_view tree.now)) }
     ensures cause { HasCause (K.faults sink.old) (K.faults sink.new) result }
 {
     let mut printer = Printer::new();
@@ -25,7 +26,8 @@ pub fn write_tree<K: Sink>(tree: &Tree, sink: &mut K) -> Result<(), Failed>
 #[cycle(print)]
 fn print_tree<K: Sink>(tree: &Tree, printer: &mut Printer, sink: &mut K) -> Result<(), Failed>
     requires { AllMayCome printer.old (calls_of (tree_view tree.now)) }
-    ensures prints { Prints (K.taken sink.old) (K.taken sink.new) printer.old printer.new (calls_of (tree_view tree.now)) result }
+    ensures prints { Prints (K.taken sink.old) (K.taken sink.new) printer.old printer.new
+        (calls_of (tree_view tree.now)) result }
     ensures cause { HasCause (K.faults sink.old) (K.faults sink.new) result }
 {
     match tree {
@@ -41,7 +43,8 @@ fn print_element<K: Sink>(
     printer: &mut Printer,
     sink: &mut K,
 ) -> Result<(), Failed>
-    requires { AllMayCome printer.old (begin tag.now ∷ (content_calls (content_view content.now) ++ end ∷ [])) }
+    requires { AllMayCome printer.old
+        (begin tag.now ∷ (content_calls (content_view content.now) ++ end ∷ [])) }
     ensures prints { Prints (K.taken sink.old) (K.taken sink.new) printer.old printer.new
         (begin tag.now ∷ (content_calls (content_view content.now) ++ end ∷ [])) result }
     ensures cause { HasCause (K.faults sink.old) (K.faults sink.new) result }
@@ -57,7 +60,8 @@ fn print_behind_tag<K: Sink>(
     sink: &mut K,
 ) -> Result<(), Failed>
     requires { AllMayCome printer.old (content_calls (content_view content.now) ++ end ∷ []) }
-    ensures prints { Prints (K.taken sink.old) (K.taken sink.new) printer.old printer.new (content_calls (content_view content.now) ++ end ∷ []) result }
+    ensures prints { Prints (K.taken sink.old) (K.taken sink.new) printer.old printer.new
+        (content_calls (content_view content.now) ++ end ∷ []) result }
     ensures cause { HasCause (K.faults sink.old) (K.faults sink.new) result }
 {
     print_content(content, printer, sink)?;
@@ -72,7 +76,8 @@ pub fn print_content<K: Sink>(
     sink: &mut K,
 ) -> Result<(), Failed>
     requires { AllMayCome printer.old (content_calls (content_view content.now)) }
-    ensures prints { Prints (K.taken sink.old) (K.taken sink.new) printer.old printer.new (content_calls (content_view content.now)) result }
+    ensures prints { Prints (K.taken sink.old) (K.taken sink.new) printer.old printer.new
+        (content_calls (content_view content.now)) result }
     ensures cause { HasCause (K.faults sink.old) (K.faults sink.new) result }
 {
     print_attrs(&content.attrs, printer, sink)?;
@@ -81,7 +86,8 @@ pub fn print_content<K: Sink>(
 
 fn print_attrs<K: Sink>(attrs: &[Attr], printer: &mut Printer, sink: &mut K) -> Result<(), Failed>
     requires { AllMayCome printer.old (flat_map (λ x. attribute (attr_view x) ∷ []) attrs.now) }
-    ensures prints { Prints (K.taken sink.old) (K.taken sink.new) printer.old printer.new (flat_map (λ x. attribute (attr_view x) ∷ []) attrs.now) result }
+    ensures prints { Prints (K.taken sink.old) (K.taken sink.new) printer.old printer.new
+        (flat_map (λ x. attribute (attr_view x) ∷ []) attrs.now) result }
     ensures cause { HasCause (K.faults sink.old) (K.faults sink.new) result }
 {
     for attr in attrs {
@@ -93,7 +99,8 @@ fn print_attrs<K: Sink>(attrs: &[Attr], printer: &mut Printer, sink: &mut K) -> 
 #[cycle(print)]
 fn print_items<K: Sink>(items: &[Tree], printer: &mut Printer, sink: &mut K) -> Result<(), Failed>
     requires { AllMayCome printer.old (flat_map (λ t. calls_of (tree_view t)) items.now) }
-    ensures prints { Prints (K.taken sink.old) (K.taken sink.new) printer.old printer.new (flat_map (λ t. calls_of (tree_view t)) items.now) result }
+    ensures prints { Prints (K.taken sink.old) (K.taken sink.new) printer.old printer.new
+        (flat_map (λ t. calls_of (tree_view t)) items.now) result }
     ensures cause { HasCause (K.faults sink.old) (K.faults sink.new) result }
 {
     for item in items {
@@ -109,7 +116,8 @@ pub fn print_lent_content<K: Sink>(
     sink: &mut K,
 ) -> Result<(), Failed>
     requires { AllMayCome printer.old (content_calls (lent_content_view content)) }
-    ensures prints { Prints (K.taken sink.old) (K.taken sink.new) printer.old printer.new (content_calls (lent_content_view content.entry)) result }
+    ensures prints { Prints (K.taken sink.old) (K.taken sink.new) printer.old printer.new
+        (content_calls (lent_content_view content.entry)) result }
     ensures cause { HasCause (K.faults sink.old) (K.faults sink.new) result }
 {
     match content {
@@ -125,7 +133,8 @@ fn print_lent_tree<K: Sink>(
     sink: &mut K,
 ) -> Result<(), Failed>
     requires { AllMayCome printer.old (calls_of (lent_tree_view tree.now)) }
-    ensures prints { Prints (K.taken sink.old) (K.taken sink.new) printer.old printer.new (calls_of (lent_tree_view tree.now)) result }
+    ensures prints { Prints (K.taken sink.old) (K.taken sink.new) printer.old printer.new
+        (calls_of (lent_tree_view tree.now)) result }
     ensures cause { HasCause (K.faults sink.old) (K.faults sink.new) result }
 {
     match tree {
@@ -142,7 +151,8 @@ fn print_leaf<K: Sink>(
     sink: &mut K,
 ) -> Result<(), Failed>
     requires { AllMayCome printer.old (begin tag.now ∷ text_call text.now ∷ end ∷ []) }
-    ensures prints { Prints (K.taken sink.old) (K.taken sink.new) printer.old printer.new (begin tag.now ∷ text_call text.now ∷ end ∷ []) result }
+    ensures prints { Prints (K.taken sink.old) (K.taken sink.new) printer.old printer.new
+        (begin tag.now ∷ text_call text.now ∷ end ∷ []) result }
     ensures cause { HasCause (K.faults sink.old) (K.faults sink.new) result }
 {
     printer.begin_elem(sink, tag)?;
@@ -155,7 +165,8 @@ fn print_behind_leaf_tag<K: Sink>(
     sink: &mut K,
 ) -> Result<(), Failed>
     requires { AllMayCome printer.old (text_call text.now ∷ end ∷ []) }
-    ensures prints { Prints (K.taken sink.old) (K.taken sink.new) printer.old printer.new (text_call text.now ∷ end ∷ []) result }
+    ensures prints { Prints (K.taken sink.old) (K.taken sink.new) printer.old printer.new
+        (text_call text.now ∷ end ∷ []) result }
     ensures cause { HasCause (K.faults sink.old) (K.faults sink.new) result }
 {
     printer.text(sink, text)?;
@@ -169,7 +180,8 @@ fn print_lent_element<K: Sink>(
     printer: &mut Printer,
     sink: &mut K,
 ) -> Result<(), Failed>
-    requires { AllMayCome printer.old (begin tag.now ∷ (content_calls (lent_row_view row.now) ++ end ∷ [])) }
+    requires { AllMayCome printer.old
+        (begin tag.now ∷ (content_calls (lent_row_view row.now) ++ end ∷ [])) }
     ensures prints { Prints (K.taken sink.old) (K.taken sink.new) printer.old printer.new
         (begin tag.now ∷ (content_calls (lent_row_view row.now) ++ end ∷ [])) result }
     ensures cause { HasCause (K.faults sink.old) (K.faults sink.new) result }
@@ -185,7 +197,8 @@ fn print_behind_lent_tag<K: Sink>(
     sink: &mut K,
 ) -> Result<(), Failed>
     requires { AllMayCome printer.old (content_calls (lent_row_view row.now) ++ end ∷ []) }
-    ensures prints { Prints (K.taken sink.old) (K.taken sink.new) printer.old printer.new (content_calls (lent_row_view row.now) ++ end ∷ []) result }
+    ensures prints { Prints (K.taken sink.old) (K.taken sink.new) printer.old printer.new
+        (content_calls (lent_row_view row.now) ++ end ∷ []) result }
     ensures cause { HasCause (K.faults sink.old) (K.faults sink.new) result }
 {
     print_lent_row(row, printer, sink)?;
@@ -199,7 +212,8 @@ fn print_lent_row<K: Sink>(
     sink: &mut K,
 ) -> Result<(), Failed>
     requires { AllMayCome printer.old (content_calls (lent_row_view row.now)) }
-    ensures prints { Prints (K.taken sink.old) (K.taken sink.new) printer.old printer.new (content_calls (lent_row_view row.now)) result }
+    ensures prints { Prints (K.taken sink.old) (K.taken sink.new) printer.old printer.new
+        (content_calls (lent_row_view row.now)) result }
     ensures cause { HasCause (K.faults sink.old) (K.faults sink.new) result }
 {
     print_attrs(&row.attrs, printer, sink)?;
@@ -213,7 +227,8 @@ fn print_lent_items<K: Sink>(
     sink: &mut K,
 ) -> Result<(), Failed>
     requires { AllMayCome printer.old (flat_map (λ t. calls_of (lent_tree_view t)) items.now) }
-    ensures prints { Prints (K.taken sink.old) (K.taken sink.new) printer.old printer.new (flat_map (λ t. calls_of (lent_tree_view t)) items.now) result }
+    ensures prints { Prints (K.taken sink.old) (K.taken sink.new) printer.old printer.new
+        (flat_map (λ t. calls_of (lent_tree_view t)) items.now) result }
     ensures cause { HasCause (K.faults sink.old) (K.faults sink.new) result }
 {
     for item in items {

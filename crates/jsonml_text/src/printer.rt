@@ -42,7 +42,8 @@ impl Printer {
     /// Begins an element: the outermost one, or an item of the one that is begun.
     pub fn begin_elem<K: Sink>(&mut self, sink: &mut K, tag: &str) -> Result<(), Failed>
         requires { MayCome self.old (begin tag.now) }
-        ensures prints { Prints (K.taken sink.old) (K.taken sink.new) self.old self.new (begin tag.now ∷ []) result }
+        ensures prints { Prints (K.taken sink.old) (K.taken sink.new) self.old self.new
+            (begin tag.now ∷ []) result }
         ensures cause { HasCause (K.faults sink.old) (K.faults sink.new) result }
     {
         write_begin(self.last, tag, sink)?;
@@ -53,7 +54,8 @@ impl Printer {
 
     /// Prints an attribute of the element that has just been begun. The names are to ascend by their bytes.
     pub fn attr<K: Sink>(&mut self, sink: &mut K, name: &str, value: &Scalar) -> Result<(), Failed>
-        requires { MayCome self.old (attribute (record { name = name.now; value = scalar_view value.now })) }
+        requires { MayCome self.old
+            (attribute (record { name = name.now; value = scalar_view value.now })) }
         ensures prints { Prints (K.taken sink.old) (K.taken sink.new) self.old self.new
             (attribute (record { name = name.now; value = scalar_view value.now }) ∷ []) result }
         ensures cause { HasCause (K.faults sink.old) (K.faults sink.new) result }
@@ -66,7 +68,8 @@ impl Printer {
     /// Prints a text as an item of the element that is begun.
     pub fn text<K: Sink>(&mut self, sink: &mut K, text: &str) -> Result<(), Failed>
         requires { MayCome self.old (text_call text.now) }
-        ensures prints { Prints (K.taken sink.old) (K.taken sink.new) self.old self.new (text_call text.now ∷ []) result }
+        ensures prints { Prints (K.taken sink.old) (K.taken sink.new) self.old self.new
+            (text_call text.now ∷ []) result }
         ensures cause { HasCause (K.faults sink.old) (K.faults sink.new) result }
     {
         write_text(self.last, text, sink)?;
@@ -77,7 +80,8 @@ impl Printer {
     /// Ends the element that is begun.
     pub fn end_elem<K: Sink>(&mut self, sink: &mut K) -> Result<(), Failed>
         requires { MayCome self.old end }
-        ensures prints { Prints (K.taken sink.old) (K.taken sink.new) self.old self.new (end ∷ []) result }
+        ensures prints { Prints (K.taken sink.old) (K.taken sink.new) self.old self.new
+            (end ∷ []) result }
         ensures cause { HasCause (K.faults sink.old) (K.faults sink.new) result }
     {
         write_end(self.last, sink)?;

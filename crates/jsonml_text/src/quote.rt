@@ -40,7 +40,8 @@ fn write_escaped<K: Sink>(bytes: &[u8], sink: &mut K) -> Result<(), Failed>
 
 /// Writes the bytes up to and with the first that has an escape, and answers how many these are.
 fn write_run<K: Sink>(bytes: &[u8], sink: &mut K) -> Result<usize, Failed>
-    ensures bytes { MatchResult result (λ n. Takes (K.taken sink.old) (K.taken sink.new) (escape (take n bytes.now)))
+    ensures bytes { MatchResult result
+        (λ n. Takes (K.taken sink.old) (K.taken sink.new) (escape (take n bytes.now)))
         (λ _. TakesPrefix (K.taken sink.old) (K.taken sink.new) (escape bytes.now)) }
     ensures within { IfOk result (λ n. n ≤ length bytes.now) }
     ensures some { IfOk result (λ n. 0 < length bytes.now → 0 < n) }

@@ -1,6 +1,7 @@
 ghost use Rattle.std.specs.Prelude.{◌≡◌, ℕ, ◌+◌, ◌<◌, ◌≤◌, IfSome, List, length, map, Ok};
 ghost use Rattle.std.specs.Bool.{OnFalse};
 ghost use Rattle.std.specs.Cow.{cow_str_bytes};
+ghost use Rattle.std.specs.Str.{IsUtf8};
 ghost use Rattle.json.specs.Lex.{after_value, token};
 ghost use Rattle.json.specs.Token.{Token, begin_array};
 ghost use Rattle.serde_json.specs.Read.{read};
@@ -12,18 +13,16 @@ ghost use Rattle.jsonml_text.specs.Document.{of_value};
 ghost use Rattle.jsonml_text.specs.Kept.{AreAttrsKept, IsKept};
 ghost use Rattle.jsonml_text.specs.Pushed.{PushesTree, ReadsContent, ReadsItems};
 ghost use Rattle.jsonml_text.specs.Straight.{tokens_from, HasContent, HasItems, HasLexeme};
+ghost use Rattle.jsonml_text.specs.Texts.{AreTexts};
 
 use crate::object::read_attributes;
 use crate::room::Room;
 use crate::scan::{is_sign, skip_blanks};
 use crate::string::read_text;
 use json::Scratch;
-use jsonml_tree::{Attr, LentRow, LentTree};
+use jsonml_tree::{Attr, GREATEST_DEPTH, LentRow, LentTree};
 use std::alloc::Global;
 use std::borrow::CowStr;
-
-/// The greatest level of an element; the root has level 1.
-const LEVELS: usize = 120;
 
 /// The tree of a whole document, in one pass over its text and with no value in between.
 ///
@@ -33,10 +32,17 @@ pub(crate) fn read_straight<'a>(alloc: Global, text: &'a str) -> Option<LentTree
     ensures tree { IfSome result (λ t. of_value (read text.now) ≡ Ok (lent_tree_view t)) }
     ensures element { IfSome result (λ t. IsElement (lent_tree_view t)) }
     ensures kept { IfSome result (λ t. IsKept (lent_tree_view t)) }
+    ensures texts { IfSome result (λ t. AreTexts (lent_tree_view t)) }
     ensures shallow { IfSome result (λ t. tree_depth (lent_tree_view t) ≤ 120) }
 {
     let mut room = Room::new(alloc);
-    let end = push_item(alloc, text, skip_blanks(text, 0), LEVELS, &mut room)?;
+    let end = push_item(
+        alloc,
+        text,
+        skip_blanks(text, 0),
+        GREATEST_DEPTH as usize,
+        &mut room,
+    )?;
     if end < text.len() {
         return None;
     }
@@ -63,7 +69,8 @@ fn push_item<'a>(
     levels: usize,
     room: &mut Room<'a>,
 ) -> Option<usize>
-    ensures { IfSome result (λ next. PushesTree levels text.now at room.old.trees.items room.new.trees.items next) }
+    ensures { IfSome result (λ next.
+        PushesTree levels text.now at room.old.trees.items room.new.trees.items next) }
 {
     if is_sign(text, at, b'[') {
         push_element(alloc, text, at, levels, room)
@@ -73,7 +80,8 @@ fn push_item<'a>(
 }
 
 fn push_text<'a>(alloc: Global, text: &'a str, at: usize, room: &mut Room<'a>) -> Option<usize>
-    ensures { (levels : ℕ) → IfSome result (λ next. PushesTree levels text.now at room.old.trees.items room.new.trees.items next) }
+    ensures { (levels : ℕ) → IfSome result (λ next.
+        PushesTree levels text.now at room.old.trees.items room.new.trees.items next) }
 {
     let (string, next) = read_text(alloc, text, at, b']', &mut room.scratch)?;
     room.trees.push(LentTree::Text(string)).ok()?;
@@ -90,7 +98,8 @@ fn push_element<'a>(
     room: &mut Room<'a>,
 ) -> Option<usize>
     requires { HasLexeme text.now at (token begin_array) (at + 1) }
-    ensures { IfSome result (λ next. PushesTree levels text.now at room.old.trees.items room.new.trees.items next) }
+    ensures { IfSome result (λ next.
+        PushesTree levels text.now at room.old.trees.items room.new.trees.items next) }
 {
     if levels == 0 {
         return None;
@@ -115,7 +124,8 @@ fn read_row<'a>(
     levels: usize,
     room: &mut Room<'a>,
 ) -> Option<(LentRow<'a>, usize)>
-    ensures { IfSome result (λ r. ReadsContent levels text.now at room.old.trees.items room.new.trees.items (lent_row_view r.0) r.1) }
+    ensures { IfSome result (λ r. ReadsContent levels text.now at
+        room.old.trees.items room.new.trees.items (lent_row_view r.0) r.1) }
 {
     let (attrs, begun) = attributes_behind(alloc, text, at, &mut room.scratch)?;
     let (items, next) = read_items(alloc, text, begun, levels, room)?;
@@ -129,7 +139,9 @@ fn text_alone<'a>(
     at: usize,
     scratch: &mut Scratch,
 ) -> Option<(CowStr<'a, Global>, usize)>
-    ensures content { IfSome result (λ r. (depth : ℕ) → HasContent depth text.now at (only_text (cow_str_bytes r.0)) (tokens_from after_value text.now r.1)) }
+    ensures content { IfSome result (λ r. (depth : ℕ) → HasContent depth text.now at
+        (only_text (cow_str_bytes r.0)) (tokens_from after_value text.now r.1)) }
+    ensures utf8 { IfSome result (λ r. IsUtf8 (cow_str_bytes r.0)) }
     ensures later { IfSome result (λ r. at < r.1) }
     ensures within { IfSome result (λ r. r.1 ≤ length text.now) }
 {
@@ -152,8 +164,9 @@ fn attributes_behind(
     at: usize,
     scratch: &mut Scratch,
 ) -> Option<(Vec<Attr>, usize)>
-    ensures content { IfSome result
-        (λ r. (depth : ℕ) (ts : PlainTrees) (rest : List Token) → 0 < depth → HasItems depth text.now r.1 ts rest → HasContent depth text.now at (content (map attr_view r.0.items) ts) rest) }
+    ensures content { IfSome result (λ r. (depth : ℕ) (ts : PlainTrees) (rest : List Token)
+        → 0 < depth → HasItems depth text.now r.1 ts rest
+        → HasContent depth text.now at (content (map attr_view r.0.items) ts) rest) }
     ensures kept { IfSome result (λ r. AreAttrsKept (map attr_view r.0.items)) }
     ensures later { IfSome result (λ r. at ≤ r.1) }
 {
@@ -176,7 +189,8 @@ fn read_items<'a>(
     levels: usize,
     room: &mut Room<'a>,
 ) -> Option<(Vec<LentTree<'a>>, usize)>
-    ensures { IfSome result (λ r. ReadsItems levels text.now at room.old.trees.items room.new.trees.items r.0.items r.1) }
+    ensures { IfSome result (λ r. ReadsItems levels text.now at
+        room.old.trees.items room.new.trees.items r.0.items r.1) }
 {
     let waiting = room.trees.len();
     let mut end = at;

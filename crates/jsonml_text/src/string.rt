@@ -1,5 +1,6 @@
 ghost use Rattle.std.specs.Prelude.{◌≡◌, ◌⊎◌, ◌-◌, ◌<◌, ◌≤◌, length, drop, slice_index, IfSome, string_bytes};
 ghost use Rattle.std.specs.Cow.{cow_str_bytes};
+ghost use Rattle.std.specs.Str.{IsUtf8};
 ghost use Rattle.json.specs.Lex.{token, between, in_string, lex};
 ghost use Rattle.json.specs.Token.{string};
 ghost use Rattle.jsonml_text.specs.Straight.{HasLexeme, HasString, HasKey};
@@ -56,7 +57,9 @@ fn read_string<'a>(
     at: usize,
     scratch: &mut Scratch,
 ) -> Option<(CowStr<'a, Global>, usize)>
-    ensures { IfSome result (λ r. HasLexeme text.now at (token (string (cow_str_bytes r.0))) r.1) }
+    ensures lexeme { IfSome result
+        (λ r. HasLexeme text.now at (token (string (cow_str_bytes r.0))) r.1) }
+    ensures utf8 { IfSome result (λ r. IsUtf8 (cow_str_bytes r.0)) }
 {
     let bytes = text.as_bytes();
     if at >= bytes.len() || bytes[at] != b'"' {
@@ -92,7 +95,8 @@ fn read_escaped(
 
 /// Where the text goes on behind the string whose content begins at an offset.
 fn string_end(text: &str, from: usize) -> Option<usize>
-    ensures passed { IfSome result (λ end. lex in_string (drop from text.now) ≡ lex between (drop end text.now)) }
+    ensures passed { IfSome result
+        (λ end. lex in_string (drop from text.now) ≡ lex between (drop end text.now)) }
     ensures quote { IfSome result (λ end. slice_index text.now (end - 1) ≡ 34) }
     ensures bounds { IfSome result (λ end. (from < end) × (end ≤ length text.now)) }
 {

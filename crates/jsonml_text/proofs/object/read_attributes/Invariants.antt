@@ -5,7 +5,8 @@ use Rattle.jsonml_tree.specs.Data.{PlainAttr}
 use Rattle.jsonml_tree.specs.View.{attr_view}
 use Rattle.jsonml_text.specs.Kept.{AreAttrsKept}
 use Rattle.jsonml_text.specs.Spelled.{attrs_at}
-use Rattle.jsonml_text.specs.Straight.{HasAttrs, HasMembers}
+use Rattle.jsonml_text.specs.Straight.{HasAttrs}
+use Rattle.jsonml_text.proofs.Straightness.{HasMembers}
 use Rattle.jsonml_text.proofs.object.read_attributes.Given as goal
 
 -- what is left of the object decides

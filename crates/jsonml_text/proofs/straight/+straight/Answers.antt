@@ -8,6 +8,7 @@ use Rattle.jsonml_tree.specs.View.{attr_view}
 use Rattle.jsonml_tree.specs.declared.lent.LentTree.{Leaf, Elem}
 use Rattle.jsonml_text.specs.Straight.{HasLexeme}
 use Rattle.jsonml_text.proofs.Pushing.{PushesTree-element, ReadsContent-text, ReadsContent-parts, HasPushed-more, ReadsItems-end}
+use Rattle.jsonml_text.proofs.OwnTexts.{attr_texts}
 use Rattle.jsonml_text.proofs.straight.+straight.Goals as goal
 
 pub push_element-returns-in-Some : goal.push_element-returns-in-Some
@@ -20,7 +21,7 @@ push_element-returns-in-Some t c =
     let sign : HasLexeme c.args.text.now c.args.at (token begin_array) (c.args.at + 1) = search rules in
     let waits : c.push.new.self.items ≡ old ++ Leaf tag held ∷ [] = search rules in
     PushesTree-element c.args.levels c.args.text.now c.args.at named.result c.in_ok-tag.inside old old c.push.new.self.items (Leaf tag held) (cow_str_bytes tag) (only_text (cow_str_bytes held)) c.in-Some.next
-    (omega arith) sign named.ensures.same c.in_ok-tag.ensures (ReadsContent-text (c.args.levels - 1) c.args.text.now c.in_ok-tag.inside old (cow_str_bytes held) c.in-Some.next c.in-Some.ensures.content c.in-Some.ensures.later c.in-Some.ensures.within)
+    (omega arith) sign named.ensures.same c.in_ok-tag.ensures (ReadsContent-text (c.args.levels - 1) c.args.text.now c.in_ok-tag.inside old (cow_str_bytes held) c.in-Some.next c.in-Some.ensures.content c.in-Some.ensures.utf8 c.in-Some.ensures.later c.in-Some.ensures.within)
     (omega (arith, named.ensures.later)) waits (lent_tree_view-Leaf tag held)
 
 pub push_element-returns : goal.push_element-returns
@@ -37,7 +38,7 @@ pub read_row-returns : goal.read_row-returns
 read_row-returns t c =
     let attrs = c.in_ok-attrs in
     let items = c.in_ok-items in
-    ReadsContent-parts c.args.levels c.args.text.now c.args.at attrs.begun c.args.room.now.trees.items c.read_items.new.room.trees.items items.items.items _ (map attr_view attrs.attrs.items) items.next (lent_row_view-is _) attrs.ensures.kept attrs.ensures.later
+    ReadsContent-parts c.args.levels c.args.text.now c.args.at attrs.begun c.args.room.now.trees.items c.read_items.new.room.trees.items items.items.items _ (map attr_view attrs.attrs.items) items.next (lent_row_view-is _) attrs.ensures.kept (attr_texts attrs.attrs.items) attrs.ensures.later
     attrs.ensures.content items.ensures
 
 pub read_items-items-preserved : goal.read_items-items-preserved

@@ -1,5 +1,5 @@
 use Rattle.std.proofs.Common.{◌+◌, ◌-◌, ◌*◌, length}
-use Rattle.jsonml_text.specs.Pushed.{HasPushed}
+use Rattle.jsonml_text.proofs.Pushing.{HasPushed}
 use Rattle.jsonml_text.proofs.straight.+straight.Given as goal
 
 abbrev pub decreases-push_element : goal.decreases-push_element

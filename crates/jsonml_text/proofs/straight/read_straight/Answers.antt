@@ -3,6 +3,7 @@ use Rattle.jsonml_tree.specs.Data.{tree_depth}
 use Rattle.jsonml_tree.specs.LentView.{lent_tree_view}
 use Rattle.jsonml_tree.specs.declared.lent.LentTree.{LentTree}
 use Rattle.jsonml_text.specs.Straight.{HasTree}
+use Rattle.jsonml_text.specs.Texts.{AreTexts}
 use Rattle.jsonml_text.proofs.Straightness.{document_read}
 use Rattle.jsonml_text.proofs.straight.read_straight.Goals as goal
 
@@ -10,6 +11,14 @@ only : (xs : List LentTree) (x y : LentTree) → xs ++ x ∷ [] ≡ y ∷ [] →
 only [] x y e = cc
 only (z ∷ []) x y e = absurd (cc)
 only (z ∷ w ∷ xs) x y e = absurd (cc)
+
+pub returns-clause-texts : goal.returns-clause-texts
+returns-clause-texts c =
+    let h = c.in_ok-end.ensures in
+    let t = c.in_ok-tree.tree in
+    let one : c.push_item.new.room.trees.items ≡ h.pushed ∷ [] = search rules in
+    let two : c.push_item.new.room.trees.items ≡ c.pop.new.self.items ++ t ∷ [] = search rules in
+    subst (λ (u : LentTree). AreTexts (lent_tree_view u)) (only c.pop.new.self.items t h.pushed (sym two ∙ one)) h.texts
 
 pub returns-clause-tree : goal.returns-clause-tree
 returns-clause-tree c =

@@ -1,5 +1,5 @@
 use Rattle.std.proofs.Common.{◌≡◌, ◌+◌, ◌-◌, ◌<◌, List, ℕ, take, drop, get_or, length, take_all, length-drop, arith, rules, subst, ap, sym, ◌∙◌}
-use Rattle.std.proofs.lemmas.Str.{IsCharBoundary-after_ascii}
+use Rattle.std.proofs.lemmas.Str.{IsCharBoundary-after_ascii, IsUtf8-string_bytes}
 use Rattle.json.specs.Lex.{token}
 use Rattle.json.specs.Print.{escape}
 use Rattle.json.specs.Token.{string}
@@ -15,8 +15,8 @@ range-requires-clause-start_boundary c = λ some.
     let quote : get_or d c.args.at 0 ≡ 34 = sym (ap (λ (l : List ℕ). get_or l c.args.at 0) same) ∙ c.if-bytes-at-ne34.false in
     IsCharBoundary-after_ascii d c.args.at c.utf8.text within (omega arith)
 
-pub returns-then-bytes-end-eq34 : goal.returns-then-bytes-end-eq34
-returns-then-bytes-end-eq34 c =
+pub returns-then-bytes-end-eq34-clause-lexeme : goal.returns-then-bytes-end-eq34-clause-lexeme
+returns-then-bytes-end-eq34-clause-lexeme c =
     let b = c.as_bytes-bytes.result.now in
     let d = c.args.text.now in
     let n = c.plain_run.result in
@@ -27,3 +27,6 @@ returns-then-bytes-end-eq34 c =
     let part : take n (drop (c.args.at + 1) b) ≡ c.range.result.now = search rules in
     subst (λ (l : List ℕ). HasLexeme l c.args.at (token (string c.range.result.now)) (c.args.at + 1 + n + 1)) same
     (subst (λ (s : List ℕ). HasLexeme b c.args.at (token (string s)) (c.args.at + 1 + n + 1)) part here)
+
+pub returns-clause-utf8 : goal.returns-clause-utf8
+returns-clause-utf8 c = IsUtf8-string_bytes c.in_ok-string.string

@@ -3,7 +3,7 @@ use Rattle.jsonml_tree.specs.View.{tree_view}
 use Rattle.jsonml_text.specs.Document.{too_deep_at}
 use Rattle.jsonml_text.specs.Stops.{Finds}
 use Rattle.jsonml_text.proofs.Levels.{depth_at}
-use Rattle.jsonml_text.proofs.document.read_by_value.Goals as goal
+use Rattle.jsonml_text.proofs.document.document_of.Goals as goal
 
 pub returns-else-branch-clause-shallow : goal.returns-else-branch-clause-shallow
 returns-else-branch-clause-shallow c =
