@@ -1,17 +1,17 @@
 -- The label of an element that is well formed is well formed.
-use Rattle.std.proofs.Common.{◌≡◌, ℕ, ◌+◌, Bool, true, false, cond, ◌&&◌, IsTrue, List, [], ◌∷◌, ◌++◌, Option, Some, None, Result, Ok, Err, IfOk, refl, ap, subst}
+use Rattle.std.proofs.Common.{◌≡◌, ℕ, ◌+◌, Bool, true, false, cond, ◌&&◌, IsTrue, List, [], ◌∷◌, ◌++◌, Option, Some, None, Result, Ok, Err, refl, ap, subst}
 use Rattle.std.specs.Option.{option_map}
 use Rattle.std.specs.List.{AllByRecursion, find, flat_map, cons_option}
 use Rattle.std.specs.Str.{bytes_eq}
-use Rattle.jsonml_tree.specs.Data.{PlainScalar, PlainAttr, text, element, PlainContent, content, PlainTrees, no_trees, tree}
-use Rattle.jsonml_tree.specs.WellFormed.{is_in_range, is_ascending, are_in_range, is_content_well_formed, are_well_formed}
+use Rattle.jsonml_tree.specs.Data.{PlainScalar, PlainAttr, PlainTree, text, element, PlainContent, content, PlainTrees, no_trees, tree}
+use Rattle.jsonml_tree.specs.WellFormed.{is_in_range, is_ascending, are_in_range, is_content_well_formed, are_well_formed, IsWellFormed}
 use Rattle.keyed_tree.specs.Data.{PlainKey, scalar, PlainLabel, tag}
 use Rattle.keyed_tree.specs.WellFormed.{is_key_well_formed, are_keys_well_formed, IsLabelWellFormed}
 use Rattle.keyed_tree.proofs.Kids.{both}
 use Rattle.key_spec.specs.Data.{PlainPath, PlainRule}
 use Rattle.key_spec.specs.Rules.{rule_of}
 use Rattle.key_rules.specs.Reach.{attrs_in, items_in, children, found, scalar_named, values_at, reach}
-use Rattle.key_rules.specs.Labels.{PlainLabelFault, and_then, one_of, keys_from, label_by, label_in}
+use Rattle.key_rules.specs.Labels.{PlainLabelFault, and_then, one_of, keys_from, label_by, label_in, tree_label}
 
 abbrev IsGood : PlainContent → Type 0
 IsGood c = IsTrue (is_content_well_formed c)
@@ -101,8 +101,7 @@ label_by-good (Some r) t c l h e =
 pub label_in-good : (rules : List PlainRule) (context : List (List ℕ)) (t : List ℕ) (c : PlainContent) (l : PlainLabel) → IsTrue (is_content_well_formed c) → label_in rules context t c ≡ Ok l → IsLabelWellFormed l
 label_in-good rules context t c l h e = label_by-good (rule_of rules context t) t c l h e
 
--- the same of the code's answer
-pub label_by_answer-good : {X E : Type 0} (view : X → PlainLabel) (r : Result X E) (rule : Option PlainRule) (t : List ℕ) (c : PlainContent)
-    → IfOk r (λ x. label_by rule t c ≡ Ok (view x)) → IsTrue (is_content_well_formed c) → IfOk r (λ x. IsLabelWellFormed (view x))
-label_by_answer-good view (Ok x) rule t c e h = label_by-good rule t c (view x) h e
-label_by_answer-good view (Err x) rule t c e h = tt
+-- the same of a tree
+pub tree_label-good : (rules : List PlainRule) (context : List (List ℕ)) (t : PlainTree) (l : PlainLabel) → IsWellFormed t → tree_label rules context t ≡ Ok l → IsLabelWellFormed l
+tree_label-good rules context (text s) l h e = cc
+tree_label-good rules context (element t c) l h e = label_in-good rules context t c l h e

@@ -4,8 +4,8 @@ use Rattle.std.specs.BTreeSet.{BTreeSet, contains}
 use Rattle.std.specs.Option.{option_or}
 use Rattle.std.specs.List.{slice_get, list_any}
 use Rattle.std.specs.Ordering.{on, is_eq}
-use Rattle.jsonml_tree.specs.View.{tree_view}
-use Rattle.jsonml_tree.specs.declared.tree.Tree.{Tree}
+use Rattle.jsonml_tree.specs.LentView.{lent_tree_view}
+use Rattle.jsonml_tree.specs.declared.lent.LentTree.{LentTree}
 use Rattle.keyed_tree.specs.Data.{PlainLabel}
 use Rattle.keyed_tree.specs.Order.{label_cmp}
 use Rattle.keyed_tree.specs.View.{label_view}
@@ -16,15 +16,15 @@ use Rattle.key_rules.specs.Faults.{item_fault, first_bad_item, is_label, is_amon
 use Rattle.key_rules.proofs.Repeats.{repeat_from, repeat_from-none, repeat_from-some, any_take-more, labels_at}
 use Rattle.key_rules.proofs.Rows.{map-more}
 
-abbrev pub labels_of : List PlainRule → List (List ℕ) → List Tree → List (Option PlainLabel)
-labels_of rules path items = map (item_label rules path) (map tree_view items)
+abbrev pub labels_of : List PlainRule → List (List ℕ) → List LentTree → List (Option PlainLabel)
+labels_of rules path items = map (item_label rules path) (map lent_tree_view items)
 
 abbrev pub has_label : BTreeSet Label → Label → Bool
 has_label = contains (on label_view label_cmp)
 
 -- before the item at i: none so far is bad, the set has their labels, and `repeated` is the first of them that repeats one
-pub record Looked (rules : List PlainRule) (path : List (List ℕ)) (at : ℕ → List ℕ) (items : List Tree) (i : ℕ) (labels : BTreeSet Label) (repeated : Option ℕ) : Type 0 where
-  pub bad : first_bad_item rules path at 1 (map tree_view items) ≡ first_bad_item rules path at (i + 1) (map tree_view (drop i items))
+pub record Looked (rules : List PlainRule) (path : List (List ℕ)) (at : ℕ → List ℕ) (items : List LentTree) (i : ℕ) (labels : BTreeSet Label) (repeated : Option ℕ) : Type 0 where
+  pub bad : first_bad_item rules path at 1 (map lent_tree_view items) ≡ first_bad_item rules path at (i + 1) (map lent_tree_view (drop i items))
   pub seen : (q : Label) → has_label labels q ≡ is_among (take i (labels_of rules path items)) (Some (label_view q))
   pub repeat : first_repeat (labels_of rules path items) ≡ option_or repeated (repeat_from (labels_of rules path items) i)
   pub before : IfSome repeated (λ n. n < i)
@@ -47,16 +47,16 @@ or_comm true false = refl
 or_comm false true = refl
 or_comm false false = refl
 
-module _ (rules : List PlainRule) (path : List (List ℕ)) (at : ℕ → List ℕ) (items : List Tree) (i : ℕ) (x : Tree) where
-  bad-more : i < length items → x ≡ get_or items i x → item_fault rules path (at (i + 1)) (tree_view x) ≡ None
-      → first_bad_item rules path at (i + 1) (map tree_view (drop i items)) ≡ first_bad_item rules path at (i + 1 + 1) (map tree_view (drop (i + 1) items))
+module _ (rules : List PlainRule) (path : List (List ℕ)) (at : ℕ → List ℕ) (items : List LentTree) (i : ℕ) (x : LentTree) where
+  bad-more : i < length items → x ≡ get_or items i x → item_fault rules path (at (i + 1)) (lent_tree_view x) ≡ None
+      → first_bad_item rules path at (i + 1) (map lent_tree_view (drop i items)) ≡ first_bad_item rules path at (i + 1 + 1) (map lent_tree_view (drop (i + 1) items))
   bad-more low is good =
-      let rest = first_bad_item rules path at (i + 1 + 1) (map tree_view (drop (i + 1) items)) in
-      ap (first_bad_item rules path at (i + 1)) (map-more tree_view items i x low is) ∙ ap (λ o. option_or o rest) good
+      let rest = first_bad_item rules path at (i + 1 + 1) (map lent_tree_view (drop (i + 1) items)) in
+      ap (first_bad_item rules path at (i + 1)) (map-more lent_tree_view items i x low is) ∙ ap (λ o. option_or o rest) good
 
   -- an item that is dropped
   pub looked-dropped : (s : BTreeSet Label) (r : Option ℕ) → i < length items → x ≡ get_or items i x
-      → item_fault rules path (at (i + 1)) (tree_view x) ≡ None → item_label rules path (tree_view x) ≡ None → Looked rules path at items i s r → Looked rules path at items (i + 1) s r
+      → item_fault rules path (at (i + 1)) (lent_tree_view x) ≡ None → item_label rules path (lent_tree_view x) ≡ None → Looked rules path at items i s r → Looked rules path at items (i + 1) s r
   looked-dropped s r low is good label h =
       let ls = labels_of rules path items in
       let here : slice_get ls i ≡ Some None = labels_at (item_label rules path) items i x low is ∙ ap (λ o. Some o) label in
@@ -67,7 +67,7 @@ module _ (rules : List PlainRule) (path : List (List ℕ)) (at : ℕ → List �
         before = IfSome-later r i h.before;
       }
 
-  seen-more : (s n : BTreeSet Label) (l : Label) (r : Option ℕ) → i < length items → x ≡ get_or items i x → item_label rules path (tree_view x) ≡ Some (label_view l)
+  seen-more : (s n : BTreeSet Label) (l : Label) (r : Option ℕ) → i < length items → x ≡ get_or items i x → item_label rules path (lent_tree_view x) ≡ Some (label_view l)
       → ((q : Label) → has_label n q ≡ cond (is_eq (label_cmp (label_view l) (label_view q))) true (has_label s q)) → Looked rules path at items i s r
       → (q : Label) → has_label n q ≡ is_among (take (i + 1) (labels_of rules path items)) (Some (label_view q))
   seen-more s n l r low is label added h q =
@@ -79,7 +79,7 @@ module _ (rules : List PlainRule) (path : List (List ℕ)) (at : ℕ → List �
 
   -- an element whose label is new
   pub looked-new : (s n : BTreeSet Label) (l : Label) (r : Option ℕ) → i < length items → x ≡ get_or items i x
-      → item_fault rules path (at (i + 1)) (tree_view x) ≡ None → item_label rules path (tree_view x) ≡ Some (label_view l)
+      → item_fault rules path (at (i + 1)) (lent_tree_view x) ≡ None → item_label rules path (lent_tree_view x) ≡ Some (label_view l)
       → ((q : Label) → has_label n q ≡ cond (is_eq (label_cmp (label_view l) (label_view q))) true (has_label s q)) → has_label s l ≡ false
       → Looked rules path at items i s r → Looked rules path at items (i + 1) n r
   looked-new s n l r low is good label added new h =
@@ -94,7 +94,7 @@ module _ (rules : List PlainRule) (path : List (List ℕ)) (at : ℕ → List �
 
   -- an element whose label an earlier one has
   pub looked-repeated : (s n : BTreeSet Label) (l : Label) (r : Option ℕ) → i < length items → x ≡ get_or items i x
-      → item_fault rules path (at (i + 1)) (tree_view x) ≡ None → item_label rules path (tree_view x) ≡ Some (label_view l)
+      → item_fault rules path (at (i + 1)) (lent_tree_view x) ≡ None → item_label rules path (lent_tree_view x) ≡ Some (label_view l)
       → ((q : Label) → has_label n q ≡ cond (is_eq (label_cmp (label_view l) (label_view q))) true (has_label s q)) → has_label s l ≡ true
       → Looked rules path at items i s r → Looked rules path at items (i + 1) n (option_or r (Some i))
   looked-repeated s n l r low is good label added old h =

@@ -8,12 +8,9 @@ use Rattle.std.specs.List.{flat_map}
 use Rattle.std.specs.Str.{bytes_eq}
 use Rattle.jsonml_tree.specs.Data.{PlainScalar, PlainTree, text, element, PlainContent, PlainTrees, no_trees, tree}
 use Rattle.keyed_tree.specs.Data.{PlainKey, scalar, inside}
-use Rattle.jsonml_tree.specs.View.{attr_view, content_view, items_view}
-use Rattle.jsonml_tree.specs.declared.tree.Content.{Content}
 use Rattle.jsonml_tree.specs.LentView.{only_text, lent_row_view, lent_items_view}
 use Rattle.jsonml_tree.specs.declared.lent.LentRow.{LentRow}
 use Rattle.jsonml_tree.proofs.LentTrees.{lent_row_view-is}
-use Rattle.jsonml_tree.proofs.Trees.{content_view-is}
 use Rattle.key_spec.specs.Data.{PlainPath}
 use Rattle.key_rules.specs.Reach.{attrs_in, items_in, children, found, scalar_named, values_at, reach}
 use Rattle.key_rules.specs.Few.{Few, no_key, one_key, several_keys, few, join, values_from, values_among}
@@ -83,22 +80,8 @@ pub among-nil : (p : PlainPath) (level : ℕ) → few (values_among p level no_t
 unfolding values_among
 among-nil p level = nothing p.attr
 
--- the items of a content and of a lent row, and the attributes of a content
-pub items_in-view : (c : Content) → items_in (content_view c) ≡ items_view c.items.items
-items_in-view c = ap items_in (content_view-is c)
-
-pub attrs_in-view : (c : Content) → attrs_in (content_view c) ≡ map attr_view c.attrs.items
-attrs_in-view c = ap attrs_in (content_view-is c)
-
 items_in-row : (row : LentRow) → items_in (lent_row_view row) ≡ lent_items_view row.items.items
 items_in-row row = ap items_in (lent_row_view-is row)
-
--- where the tags end at an element with the attribute, and without it
-pub own-some : (name : Option (List ℕ)) (n : List ℕ) (c : PlainContent) (v : PlainScalar) → name ≡ Some n → Some v ≡ scalar_named n (attrs_in c) → few (values_at name (c ∷ [])) ≡ one_key (scalar v)
-own-some name n c v d e = let f : scalar_named n (attrs_in c) ≡ Some v = sym e in rw (d, f) refl
-
-pub own-none : (name : Option (List ℕ)) (n : List ℕ) (c : PlainContent) → name ≡ Some n → None ≡ scalar_named n (attrs_in c) → few (values_at name (c ∷ [])) ≡ no_key
-own-none name n c d e = let f : scalar_named n (attrs_in c) ≡ None = sym e in rw (d, f) refl
 
 -- with tags to go, by the items; and without
 from-inside : (p : PlainPath) (level : ℕ) (c : PlainContent) → level < length p.tags → values_from p level c ≡ values_among p level (items_in c)
@@ -106,9 +89,6 @@ unfolding values_from values_among
 from-inside p level c h =
     let more : drop level p.tags ≡ get_or p.tags level [] ∷ drop (level + 1) p.tags = drop_more p.tags level [] h in
     rw more refl
-
-pub from-items : (p : PlainPath) (level : ℕ) (c : Content) → level < length p.tags → values_from p level (content_view c) ≡ values_among p level (items_view c.items.items)
-from-items p level c h = from-inside p level (content_view c) h ∙ ap (values_among p level) (items_in-view c)
 
 pub from-row : (p : PlainPath) (level : ℕ) (row : LentRow) → level < length p.tags → values_from p level (lent_row_view row) ≡ values_among p level (lent_items_view row.items.items)
 from-row p level row h = from-inside p level (lent_row_view row) h ∙ ap (values_among p level) (items_in-row row)
@@ -124,4 +104,4 @@ pub from-start : (p : PlainPath) (c : PlainContent) → values_from p 0 c ≡ re
 unfolding values_from
 from-start p c = refl
 
-pub ruleset nodes = (join-none, join_assoc, among-split, among-child, among-other, among-text, among-nil, from-items, from-row, from-text, from-end, from-start)
+pub ruleset nodes = (join-none, join_assoc, among-split, among-child, among-other, among-text, among-nil, from-row, from-text, from-end, from-start)

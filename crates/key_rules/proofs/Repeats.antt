@@ -5,8 +5,8 @@ use Rattle.std.specs.Option.{option_and_then}
 use Rattle.std.specs.List.{find, list_any, range_with_len, slice_get}
 use Rattle.std.specs.Ordering.{is_eq}
 use Rattle.jsonml_tree.specs.Data.{PlainTree}
-use Rattle.jsonml_tree.specs.View.{tree_view}
-use Rattle.jsonml_tree.specs.declared.tree.Tree.{Tree}
+use Rattle.jsonml_tree.specs.LentView.{lent_tree_view}
+use Rattle.jsonml_tree.specs.declared.lent.LentTree.{LentTree}
 use Rattle.keyed_tree.specs.Data.{PlainLabel}
 use Rattle.keyed_tree.specs.Order.{label_cmp}
 use Rattle.keyed_tree.specs.Laws.{label_cmp-is_eq}
@@ -150,7 +150,7 @@ any_take-more p (y ∷ ys) (suc i) x e =
     rw next (ap (λ b. p y || b) (any_take-more p ys i x e) ∙ or_assoc (p y) (list_any p (take i ys)) (p x))
 
 -- the label of the item at a position
-pub labels_at : (f : PlainTree → Option PlainLabel) (items : List Tree) (i : ℕ) (x : Tree) → i < length items → x ≡ get_or items i x → slice_get (map f (map tree_view items)) i ≡ Some (f (tree_view x))
+pub labels_at : (f : PlainTree → Option PlainLabel) (items : List LentTree) (i : ℕ) (x : LentTree) → i < length items → x ≡ get_or items i x → slice_get (map f (map lent_tree_view items)) i ≡ Some (f (lent_tree_view x))
 labels_at f [] i x h e = absurd (omega arith)
-labels_at f (t ∷ ts) zero x h e = ap (λ y. Some (f (tree_view y))) (sym e)
+labels_at f (t ∷ ts) zero x h e = ap (λ y. Some (f (lent_tree_view y))) (sym e)
 labels_at f (t ∷ ts) (suc i) x h e = labels_at f ts i x (omega arith) e

@@ -1,10 +1,13 @@
 -- What the checks of one item give.
-use Rattle.std.specs.Prelude.{ℕ, List, Option, Some, None}
+use Rattle.std.specs.Prelude.{◌≡◌, ℕ, List, Option, Some, None}
 use Rattle.std.specs.Option.{option_map}
 use Rattle.keyed_tree.specs.Data.{PlainLabel}
 use Rattle.keyed_tree.specs.View.{label_view}
 use Rattle.key_spec.specs.View.{path_view}
-use Rattle.key_rules.specs.Faults.{PlainKeyFault}
+use Rattle.key_spec.specs.Data.{PlainRule}
+use Rattle.jsonml_tree.specs.Data.{PlainTree}
+use Rattle.key_rules.specs.Faults.{PlainKeyFault, item_fault}
+use Rattle.key_rules.specs.Satisfies.{item_label}
 use Rattle.key_rules.specs.declared.check.Checked.{Checked}
 use Rattle.key_rules.specs.declared.check.Checked.TheVariants.{Dropped, Labelled, Bad}
 
@@ -19,3 +22,8 @@ abbrev pub checked_label : Checked → Option PlainLabel
 checked_label Dropped = None
 checked_label (Labelled l) = Some (label_view l)
 checked_label (Bad why p) = None
+
+-- these are the fault and the label of the item, wherever it stands
+pub record IsCheckOf (rules : List PlainRule) (path : List (List ℕ)) (t : PlainTree) (c : Checked) : Type 0 where
+  pub fault : (place : List ℕ) → item_fault rules path place t ≡ checked_fault place c
+  pub label : item_label rules path t ≡ checked_label c

@@ -1,12 +1,8 @@
 -- Labels that a document lends.
-use Rattle.std.specs.Prelude.{List, [], ◌∷◌, map, Option}
-use Rattle.std.specs.Result.{result_ok}
-use Rattle.jsonml_tree.specs.Data.{PlainContent}
+use Rattle.std.specs.Prelude.{List, [], ◌∷◌, map}
 use Rattle.jsonml_tree.specs.LentView.{only_text}
 use Rattle.jsonml_tree.specs.View.{scalar_view, content_view}
 use Rattle.keyed_tree.specs.Data.{PlainKey, scalar, inside, PlainLabel, tag}
-use Rattle.key_spec.specs.Data.{PlainPath}
-use Rattle.key_rules.specs.Labels.{keys_from}
 use Rattle.key_rules.specs.declared.lent.LentKey.{LentKey}
 use Rattle.key_rules.specs.declared.lent.LentKey.TheVariants.{Scalar, Text, Content}
 use Rattle.key_rules.specs.declared.lent.LentKeys.{LentKeys}
@@ -24,7 +20,3 @@ lent_keys_view (Row ks) = map lent_key_view ks.items
 
 abbrev pub lent_label_view : LentLabel → PlainLabel
 lent_label_view l = record { name = tag l.tag.now; keys = lent_keys_view l.keys }
-
--- the one value of each key path, where each has one
-abbrev pub lent_keys : List PlainPath → PlainContent → Option (List PlainKey)
-lent_keys ps c = result_ok (keys_from 1 ps c)

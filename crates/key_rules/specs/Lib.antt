@@ -5,6 +5,6 @@ pub mod Satisfies
 pub mod Faults
 pub mod View
 pub mod UserPaths
-pub mod LentNodes
 pub mod LentView
 pub mod Checks
+pub mod Spots

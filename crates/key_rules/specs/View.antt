@@ -1,5 +1,5 @@
 -- The plain data that each fault stands for.
-use Rattle.std.specs.Prelude.{ℕ, List, Option, Some, None, option_map, String, Vec}
+use Rattle.std.specs.Prelude.{◌≡◌, ℕ, List, Option, Some, None, IfSome, Result, Err, option_map, String, Vec}
 use Rattle.std.specs.Global.{Global}
 use Rattle.key_spec.specs.View.{path_view, names_view}
 use Rattle.key_rules.specs.Labels.{PlainLabelFault, unkeyed, missing, twice}
@@ -19,6 +19,10 @@ label_fault_view Unkeyed = Some unkeyed
 label_fault_view (Missing n) = Some (missing n)
 label_fault_view (Twice n) = Some (twice n)
 label_fault_view Memory = None
+
+-- the fault that is the answer; want of memory says nothing
+abbrev pub IsLabelFault : {A : Type 0} → LabelFault → Result A PlainLabelFault → Type 0
+IsLabelFault e answer = IfSome (label_fault_view e) (λ f. answer ≡ Err f)
 
 -- the number of the bad step, and nothing for want of memory
 abbrev pub path_fault_view : PathFault → Option ℕ

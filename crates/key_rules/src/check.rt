@@ -1,17 +1,18 @@
-#![tactic(auto, using(jsonml_tree::proofs::Trees::trees))]
+#![tactic(auto, using(jsonml_tree::proofs::LentTrees::lent_trees))]
 
-ghost use Rattle.std.specs.Prelude.{◌≡◌, ◌≤◌, ℕ, List, Some, None, IfOk, IfSome, vec_len, if◌then◌else◌};
+ghost use Rattle.std.specs.Prelude.{◌≡◌, ℕ, List, IfOk};
 ghost use Rattle.std.specs.Option.{option_map};
-ghost use Rattle.jsonml_tree.specs.View.{tree_view, content_view};
+ghost use Rattle.jsonml_tree.specs.Data.{text, element};
+ghost use Rattle.jsonml_tree.specs.LentView.{lent_content_view, lent_tree_view};
+ghost use Rattle.key_spec.specs.Data.{PlainRule};
 ghost use Rattle.key_spec.specs.View.{names_view, path_view, rule_view, spec_view};
-ghost use Rattle.key_rules.specs.Labels.{label_by};
-ghost use Rattle.key_rules.specs.Satisfies.{is_blank, ok_of, item_label};
-ghost use Rattle.key_rules.specs.Faults.{path_at, label_fault, item_fault};
-ghost use Rattle.key_rules.specs.Checks.{checked_fault, checked_label};
+ghost use Rattle.key_rules.specs.Satisfies.{is_blank};
+ghost use Rattle.key_rules.specs.Faults.{path_at};
+ghost use Rattle.key_rules.specs.Checks.{IsCheckOf};
 
 use crate::fault::LabelFault;
-use crate::label::read_label;
-use jsonml_tree::{Content, Tree};
+use crate::label::element_label;
+use jsonml_tree::{LentContent, LentTree};
 use key_spec::{KeyPath, Rule, Spec};
 use keyed_tree::Label;
 use std::alloc::{AllocError, Global};
@@ -32,28 +33,28 @@ pub(crate) fn check_item(
     alloc: Global,
     spec: &Spec,
     path: &[String],
-    item: &Tree,
+    item: &LentTree<'_>,
 ) -> Result<Checked, AllocError>
-    ensures fault { IfOk result
-        (λ c. (place : List ℕ) → item_fault (spec_view spec.now) (names_view path.now) place (tree_view item.now) ≡ checked_fault place c) }
-    ensures label { IfOk result (λ c. item_label (spec_view spec.now) (names_view path.now) (tree_view item.now) ≡ checked_label c) }
+    ensures { IfOk result
+        (λ c. IsCheckOf (spec_view spec.now) (names_view path.now) (lent_tree_view item.now) c) }
 {
     match item {
-        Tree::Text(text) => Ok(check_text(text.as_str())),
-        Tree::Elem { tag, content } => check_element(
-            alloc,
-            spec.rule(path, tag.as_str()),
-            tag.as_str(),
-            content,
-        ),
+        LentTree::Text(text) => Ok(check_text(text.as_str())),
+        LentTree::Leaf { tag, text } => {
+            let content = LentContent::Text(text.as_str());
+            check_element(alloc, spec, path, tag.as_str(), content)
+        }
+        LentTree::Elem { tag, row } => {
+            let content = LentContent::Row(row);
+            check_element(alloc, spec, path, tag.as_str(), content)
+        }
     }
 }
 
-fn check_text(text: &str) -> Checked
-    ensures fault { (place : List ℕ) → (if is_blank text.now then None else Some (record { place = place; why = 2; path = None })) ≡ checked_fault place result }
-    ensures label { checked_label result ≡ None }
+fn check_text(s: &str) -> Checked
+    ensures { (rules : List PlainRule) (path : List (List ℕ)) → IsCheckOf rules path (text s.now) result }
 {
-    if is_blank(text) {
+    if is_blank(s) {
         Checked::Dropped
     } else {
         Checked::Bad {
@@ -74,27 +75,26 @@ pub fn is_blank(text: &str) -> bool
 
 fn check_element(
     alloc: Global,
-    rule: Option<&Rule>,
+    spec: &Spec,
+    path: &[String],
     tag: &str,
-    content: &Content,
+    content: LentContent<'_, '_>,
 ) -> Result<Checked, AllocError>
-    requires { IfSome rule (λ r. vec_len r.now.paths ≤ 16) }
-    ensures fault { IfOk result
-        (λ c. (place : List ℕ) → let own = option_map (λ r. rule_view r.now) rule.entry in label_fault own place (label_by own tag.now (content_view content.now)) ≡ checked_fault place c) }
-    ensures label { IfOk result (λ c. ok_of (label_by (option_map (λ r. rule_view r.now) rule.entry) tag.now (content_view content.now)) ≡ checked_label c) }
+    ensures { IfOk result
+        (λ c. IsCheckOf (spec_view spec.now) (names_view path.now) (element tag.now (lent_content_view content.entry)) c) }
 {
-    match read_label(alloc, rule, tag, content) {
-        Ok(label) => Ok(Checked::Labelled(label)),
+    match element_label(alloc, spec, path, tag, content) {
+        Ok(label) => Ok(Checked::Labelled(label.copy(alloc)?)),
         Err(LabelFault::Unkeyed) => Ok(Checked::Bad {
             why: 1,
             key_path: None,
         }),
-        Err(LabelFault::Missing { path }) => {
-            let key_path = path_of(alloc, rule, path)?;
+        Err(LabelFault::Missing { path: number }) => {
+            let key_path = path_of(alloc, spec.rule(path, tag), number)?;
             Ok(Checked::Bad { why: 3, key_path })
         }
-        Err(LabelFault::Twice { path }) => {
-            let key_path = path_of(alloc, rule, path)?;
+        Err(LabelFault::Twice { path: number }) => {
+            let key_path = path_of(alloc, spec.rule(path, tag), number)?;
             Ok(Checked::Bad { why: 4, key_path })
         }
         Err(LabelFault::Memory) => Err(AllocError),

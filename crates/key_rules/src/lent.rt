@@ -1,24 +1,17 @@
-#![tactic(auto, using(jsonml_tree::proofs::Trees::trees, jsonml_tree::proofs::LentTrees::lent_trees))]
+#![tactic(auto, using(jsonml_tree::proofs::Trees::trees))]
 
-ghost use Rattle.std.specs.Prelude.{◌≡◌, map, IfOk, IfSome, string_bytes};
+ghost use Rattle.std.specs.Prelude.{◌≡◌, map, IfOk};
 ghost use Rattle.std.specs.Cmp.Lexicographic.{slice_cmp};
-ghost use Rattle.std.specs.Option.{option_map};
 ghost use Rattle.jsonml_tree.specs.Data.{text, no_trees, tree};
-ghost use Rattle.jsonml_tree.specs.LentView.{only_text, lent_content_view, lent_tree_view};
+ghost use Rattle.jsonml_tree.specs.LentView.{only_text};
 ghost use Rattle.jsonml_tree.specs.Order.{tree_cmp, trees_cmp, content_cmp};
 ghost use Rattle.jsonml_tree.specs.View.{tree_view, content_view, items_view};
 ghost use Rattle.keyed_tree.specs.Data.{inside};
 ghost use Rattle.keyed_tree.specs.Order.{key_cmp, label_cmp};
 ghost use Rattle.keyed_tree.specs.View.{key_view, label_view};
-ghost use Rattle.key_spec.specs.View.{names_view, path_view, rule_view, spec_view};
-ghost use Rattle.key_rules.specs.Labels.{label_by, tree_label};
-ghost use Rattle.key_rules.specs.LentNodes.{lent_node_view};
-ghost use Rattle.key_rules.specs.LentView.{lent_key_view, lent_keys_view, lent_label_view, lent_keys};
-ghost use Rattle.key_rules.specs.Satisfies.{ok_of};
+ghost use Rattle.key_rules.specs.LentView.{lent_key_view, lent_keys_view, lent_label_view};
 
-use crate::lent_node::{LentNode, LentReached, lent_nodes};
-use jsonml_tree::{Content, LentContent, LentTree, Scalar, Tree};
-use key_spec::{KeyPath, Rule, Spec};
+use jsonml_tree::{Content, Scalar, Tree};
 use keyed_tree::{KeyVal, Label, Name};
 use std::alloc::{AllocError, Global};
 use std::cmp::Ordering;
@@ -183,95 +176,4 @@ fn copy_text(alloc: Global, text: &str) -> Result<KeyVal, AllocError>
     let mut items = Vec::with_capacity(alloc, 1)?;
     items.push(Tree::Text(String::from_str(alloc, text)?))?;
     Ok(KeyVal::Content(Content { attrs, items }))
-}
-
-/// The key value of a node.
-fn lend_key<'a>(alloc: Global, node: LentNode<'a, '_>) -> Result<LentKey<'a>, AllocError>
-    ensures { IfOk result (λ k. lent_key_view k ≡ lent_node_view node.entry) }
-{
-    match node {
-        LentNode::Scalar(scalar) => Ok(LentKey::Scalar(scalar)),
-        LentNode::Content(LentContent::Text(text)) => Ok(LentKey::Text(text)),
-        LentNode::Content(content) => Ok(LentKey::Content(content.own(alloc)?)),
-    }
-}
-
-/// The label of a tree under a context, the tags from the root down to its parent, lent by the tree; none where it has
-/// none. A key value is copied only where it is more than a text.
-pub fn lent_label<'a>(
-    alloc: Global,
-    spec: &'a Spec,
-    context: &[String],
-    tree: &'a LentTree<'_>,
-) -> Result<Option<LentLabel<'a>>, AllocError>
-    ensures { IfOk result
-        (λ l. option_map lent_label_view l ≡ ok_of (tree_label (spec_view spec.now) (names_view context.now) (lent_tree_view tree.now))) }
-{
-    match tree {
-        LentTree::Text(_) => Ok(None),
-        LentTree::Leaf { tag, text } => {
-            let tag = tag.as_str();
-            let content = LentContent::Text(text.as_str());
-            lend_label(alloc, spec.rule(context, tag), tag, content)
-        }
-        LentTree::Elem { tag, row } => {
-            let tag = tag.as_str();
-            lend_label(alloc, spec.rule(context, tag), tag, LentContent::Row(row))
-        }
-    }
-}
-
-/// The label of an element by the rule for its place.
-fn lend_label<'a>(
-    alloc: Global,
-    rule: Option<&'a Rule>,
-    tag: &str,
-    content: LentContent<'a, '_>,
-) -> Result<Option<LentLabel<'a>>, AllocError>
-    requires { IfSome rule (λ r. string_bytes r.now.tag ≡ tag.now) }
-    ensures { IfOk result
-        (λ l. option_map lent_label_view l ≡ ok_of (label_by (option_map (λ r. rule_view r.now) rule.entry) tag.now (lent_content_view content.entry))) }
-{
-    let Some(rule) = rule else {
-        return Ok(None);
-    };
-    let tag = rule.tag.as_str();
-    match lend_keys(alloc, &rule.paths, content)? {
-        Some(keys) => Ok(Some(LentLabel { tag, keys })),
-        None => Ok(None),
-    }
-}
-
-/// The one value of each key path, or nothing where a path has none or several. One alone takes no row.
-fn lend_keys<'a>(
-    alloc: Global,
-    paths: &[KeyPath],
-    content: LentContent<'a, '_>,
-) -> Result<Option<LentKeys<'a>>, AllocError>
-    ensures { IfOk result (λ ks. option_map lent_keys_view ks ≡ lent_keys (map path_view paths.now) (lent_content_view content.entry)) }
-{
-    if let [path] = paths {
-        return match lent_nodes(path, content) {
-            LentReached::One(node) => Ok(Some(LentKeys::One(lend_key(alloc, node)?))),
-            _ => Ok(None),
-        };
-    }
-    lend_row(alloc, paths, content)
-}
-
-fn lend_row<'a>(
-    alloc: Global,
-    paths: &[KeyPath],
-    content: LentContent<'a, '_>,
-) -> Result<Option<LentKeys<'a>>, AllocError>
-    ensures { IfOk result (λ ks. option_map lent_keys_view ks ≡ lent_keys (map path_view paths.now) (lent_content_view content.entry)) }
-{
-    let mut keys = Vec::with_capacity(alloc, paths.len())?;
-    for path in paths {
-        let LentReached::One(node) = lent_nodes(path, content) else {
-            return Ok(None);
-        };
-        keys.push(lend_key(alloc, node)?)?;
-    }
-    Ok(Some(LentKeys::Row(keys)))
 }

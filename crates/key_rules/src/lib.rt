@@ -5,14 +5,13 @@ mod check;
 mod fault;
 mod label;
 mod lent;
-mod lent_node;
 mod node;
 mod user_path;
 mod walk;
 
 pub use check::is_blank;
 pub use fault::{KeyFault, LabelFault, PathFault};
-pub use label::label_of;
-pub use lent::{LentKey, LentKeys, LentLabel, lent_label};
+pub use label::{label_of, lent_label};
+pub use lent::{LentKey, LentKeys, LentLabel};
 pub use user_path::read_path;
-pub use walk::first_fault;
+pub use walk::{first_fault, first_lent_fault};

@@ -1,47 +1,34 @@
-#![tactic(auto, using(jsonml_tree::proofs::Trees::trees))]
+#![tactic(auto, using(jsonml_tree::proofs::LentTrees::lent_trees))]
 
-ghost use Rattle.std.specs.Prelude.{◌≡◌, ◌<◌, ◌≤◌, length, map, IfOk, [], ◌∷◌};
+ghost use Rattle.std.specs.Prelude.{◌≡◌, ◌<◌, ◌≤◌, length, map, [], ◌∷◌};
 ghost use Rattle.std.specs.Option.{option_map};
 ghost use Rattle.jsonml_tree.specs.Data.{tree, no_trees};
-ghost use Rattle.jsonml_tree.specs.View.{scalar_view, attr_view, tree_view, content_view, items_view};
-ghost use Rattle.keyed_tree.specs.View.{key_view};
+ghost use Rattle.jsonml_tree.specs.LentView.{only_text, lent_tree_view, lent_row_view, lent_content_view, lent_items_view};
+ghost use Rattle.jsonml_tree.specs.View.{scalar_view, attr_view};
 ghost use Rattle.key_spec.specs.View.{path_view};
 ghost use Rattle.key_rules.specs.Reach.{scalar_named, values_at, reach};
-ghost use Rattle.key_rules.specs.Few.{few, join, node_view, reached_view, values_from, values_among};
+ghost use Rattle.key_rules.specs.Few.{few, join, reached_view, values_from, values_among};
 
-use jsonml_tree::{Attr, Content, Scalar, Tree};
+use jsonml_tree::{Attr, LentContent, LentRow, LentTree, Scalar};
 use key_spec::KeyPath;
-use keyed_tree::KeyVal;
-use std::alloc::{AllocError, Global};
 
-/// A node of a key path, in the document: the scalar of an attribute, or the content of an element.
+/// A node of a key path, in a lent document: the scalar of an attribute, or the content of an element.
 #[derive(Clone, Copy)]
-pub(crate) enum Node<'a> {
+pub(crate) enum Node<'a, 'b> {
     Scalar(&'a Scalar),
-    Content(&'a Content),
-}
-
-impl Node<'_> {
-    pub(crate) fn copy(self, alloc: Global) -> Result<KeyVal, AllocError>
-        ensures { IfOk result (λ k. key_view k ≡ node_view self.entry) }
-    {
-        match self {
-            Node::Scalar(scalar) => Ok(KeyVal::Scalar(scalar.copy(alloc)?)),
-            Node::Content(content) => Ok(KeyVal::Content(content.copy(alloc)?)),
-        }
-    }
+    Content(LentContent<'a, 'b>),
 }
 
 /// The nodes that a search has found so far. It ends at the second.
 #[derive(Clone, Copy)]
-pub(crate) enum Reached<'a> {
+pub(crate) enum Reached<'a, 'b> {
     Nothing,
-    One(Node<'a>),
+    One(Node<'a, 'b>),
     Several,
 }
 
-impl<'a> Reached<'a> {
-    fn and(self, later: Reached<'a>) -> Reached<'a>
+impl<'a, 'b> Reached<'a, 'b> {
+    fn and(self, later: Reached<'a, 'b>) -> Reached<'a, 'b>
         ensures { reached_view result ≡ join (reached_view self.entry) (reached_view later.entry) }
     {
         match (self, later) {
@@ -54,32 +41,55 @@ impl<'a> Reached<'a> {
 
 /// The nodes of the key path at an element with this content.
 #[tactic(auto, using(crate::proofs::Nodes::nodes))]
-pub(crate) fn nodes_of<'a>(path: &KeyPath, content: &'a Content) -> Reached<'a>
-    ensures { reached_view result ≡ few (reach (content_view content.now) (path_view path.now)) }
+pub(crate) fn nodes_of<'a, 'b>(
+    path: &KeyPath,
+    content: LentContent<'a, 'b>,
+) -> Reached<'a, 'b>
+    ensures { reached_view result ≡ few (reach (lent_content_view content.entry) (path_view path.now)) }
 {
-    nodes_from(path, 0, content)
+    match content {
+        LentContent::Text(text) => nodes_of_text(path, 0, text),
+        LentContent::Row(row) => nodes_from(path, 0, row),
+    }
+}
+
+/// The nodes behind the tags from the given one on, where an element holds this text alone.
+#[tactic(auto, using(jsonml_tree::proofs::Trees::trees, jsonml_tree::proofs::LentTrees::lent_trees, crate::proofs::Nodes::nodes))]
+fn nodes_of_text<'a, 'b>(path: &KeyPath, level: usize, text: &'a str) -> Reached<'a, 'b>
+    requires { level ≤ length path.now.tags.items }
+    ensures { reached_view result ≡ few (values_from (path_view path.now) level (only_text text.now)) }
+{
+    if level == path.tags.len() {
+        own_text(path, text)
+    } else {
+        Reached::Nothing
+    }
 }
 
 /// The nodes behind the tags from the given one on.
 #[cycle(nodes)]
-#[tactic(auto, using(jsonml_tree::proofs::Trees::trees, crate::proofs::Nodes::nodes))]
-fn nodes_from<'a>(path: &KeyPath, level: usize, content: &'a Content) -> Reached<'a>
+#[tactic(auto, using(jsonml_tree::proofs::Trees::trees, jsonml_tree::proofs::LentTrees::lent_trees, crate::proofs::Nodes::nodes))]
+fn nodes_from<'a, 'b>(path: &KeyPath, level: usize, row: &'a LentRow<'b>) -> Reached<'a, 'b>
     requires { level ≤ length path.now.tags.items }
-    ensures { reached_view result ≡ few (values_from (path_view path.now) level (content_view content.now)) }
+    ensures { reached_view result ≡ few (values_from (path_view path.now) level (lent_row_view row.now)) }
 {
     if level == path.tags.len() {
-        own_node(path, content)
+        own_node(path, row)
     } else {
-        nodes_among(path, level, &content.items)
+        nodes_among(path, level, &row.items)
     }
 }
 
 /// The nodes behind the items that have the tag of this level.
 #[cycle(nodes)]
-#[tactic(auto, using(jsonml_tree::proofs::Trees::trees, crate::proofs::Nodes::nodes))]
-fn nodes_among<'a>(path: &KeyPath, level: usize, items: &'a [Tree]) -> Reached<'a>
+#[tactic(auto, using(jsonml_tree::proofs::LentTrees::lent_trees, crate::proofs::Nodes::nodes))]
+fn nodes_among<'a, 'b>(
+    path: &KeyPath,
+    level: usize,
+    items: &'a [LentTree<'b>],
+) -> Reached<'a, 'b>
     requires { level < length path.now.tags.items }
-    ensures { reached_view result ≡ few (values_among (path_view path.now) level (items_view items.now)) }
+    ensures { reached_view result ≡ few (values_among (path_view path.now) level (lent_items_view items.now)) }
 {
     let mut nodes = Reached::Nothing;
     for item in items {
@@ -92,36 +102,55 @@ fn nodes_among<'a>(path: &KeyPath, level: usize, items: &'a [Tree]) -> Reached<'
 }
 
 #[cycle(nodes)]
-#[tactic(auto, using(jsonml_tree::proofs::Trees::trees, crate::proofs::Nodes::nodes))]
-fn nodes_in<'a>(path: &KeyPath, level: usize, item: &'a Tree) -> Reached<'a>
+#[tactic(auto, using(jsonml_tree::proofs::LentTrees::lent_trees, crate::proofs::Nodes::nodes))]
+fn nodes_in<'a, 'b>(path: &KeyPath, level: usize, item: &'a LentTree<'b>) -> Reached<'a, 'b>
     requires { level < length path.now.tags.items }
-    ensures { reached_view result ≡ few (values_among (path_view path.now) level (tree (tree_view item.now) no_trees)) }
+    ensures { reached_view result ≡ few (values_among (path_view path.now) level (tree (lent_tree_view item.now) no_trees)) }
 {
     let tag = path.tags[level].as_str();
     match item {
-        Tree::Elem { tag: own, content } if own.as_str() == tag => nodes_from(
-            path,
-            level + 1,
-            content,
-        ),
-        _ => Reached::Nothing,
+        LentTree::Text(_) => Reached::Nothing,
+        LentTree::Leaf { tag: own, text } => {
+            if own.as_str() == tag {
+                nodes_of_text(path, level + 1, text.as_str())
+            } else {
+                Reached::Nothing
+            }
+        }
+        LentTree::Elem { tag: own, row } => {
+            if own.as_str() == tag {
+                nodes_from(path, level + 1, row)
+            } else {
+                Reached::Nothing
+            }
+        }
     }
 }
 
-/// Where the tags end: the content itself, or the attribute that the path names.
-fn own_node<'a>(path: &KeyPath, content: &'a Content) -> Reached<'a>
-    ensures { reached_view result ≡ few (values_at (path_view path.now).attr (content_view content.now ∷ [])) }
+/// Where the tags end: the text itself, and no attribute.
+fn own_text<'a, 'b>(path: &KeyPath, text: &'a str) -> Reached<'a, 'b>
+    ensures { reached_view result ≡ few (values_at (path_view path.now).attr (only_text text.now ∷ [])) }
+{
+    match &path.attr {
+        None => Reached::One(Node::Content(LentContent::Text(text))),
+        Some(_) => Reached::Nothing,
+    }
+}
+
+/// Where the tags end: the row itself, or the attribute that the path names.
+fn own_node<'a, 'b>(path: &KeyPath, row: &'a LentRow<'b>) -> Reached<'a, 'b>
+    ensures { reached_view result ≡ few (values_at (path_view path.now).attr (lent_row_view row.now ∷ [])) }
 {
     let Some(name) = &path.attr else {
-        return Reached::One(Node::Content(content));
+        return Reached::One(Node::Content(LentContent::Row(row)));
     };
-    match attribute(&content.attrs, name.as_str()) {
+    match attribute(&row.attrs, name.as_str()) {
         Some(scalar) => Reached::One(Node::Scalar(scalar)),
         None => Reached::Nothing,
     }
 }
 
-pub(crate) fn attribute<'a>(attrs: &'a [Attr], name: &str) -> Option<&'a Scalar>
+fn attribute<'a>(attrs: &'a [Attr], name: &str) -> Option<&'a Scalar>
     ensures { option_map (λ s. scalar_view s.now) result ≡ scalar_named name.now (map attr_view attrs.now) }
 {
     for attr in attrs {

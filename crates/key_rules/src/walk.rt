@@ -1,18 +1,20 @@
-#![tactic(auto, using(jsonml_tree::proofs::Trees::trees))]
+#![tactic(auto, using(jsonml_tree::proofs::LentTrees::lent_trees))]
 
 ghost use Rattle.std.specs.Prelude.{◌≡◌, ◌↔◌, ◌<◌, ◌≤◌, ◌+◌, ◌-◌, ◌^◌, ℕ, List, Some, None, IsTrue, IfOk, IfSome, OnOk, IsNone, length, map, []};
 ghost use Rattle.std.specs.Option.{option_map, option_or};
 ghost use Rattle.jsonml_tree.specs.Fits.{IsElement, content_items_fit, all_items_fit, ItemsFit};
-ghost use Rattle.jsonml_tree.specs.View.{tree_view, content_view, items_view};
+ghost use Rattle.jsonml_tree.specs.LentView.{only_text, lent_tree_view, lent_row_view, lent_items_view};
+ghost use Rattle.jsonml_tree.specs.View.{tree_view};
 ghost use Rattle.key_spec.specs.Rules.{below};
 ghost use Rattle.key_spec.specs.View.{names_view, path_view, spec_view};
 ghost use Rattle.key_rules.specs.Satisfies.{Satisfies};
 ghost use Rattle.key_rules.specs.Faults.{HasItsPath, first_bad_item, repeated_item, item_place, content_fault, tree_fault, row_fault, first_fault};
+ghost use Rattle.key_rules.specs.Spots.{SameSpot};
 ghost use Rattle.key_rules.specs.View.{fault_view};
 
-use crate::check::{Checked, check_item};
+use crate::check::{Checked, check_item, is_blank};
 use crate::fault::KeyFault;
-use jsonml_tree::{Content, Place, Tree};
+use jsonml_tree::{LentRow, LentTree, Place, Tree};
 use key_spec::{KeyPath, Spec};
 use std::alloc::{AllocError, Global};
 use std::collections::BTreeSet;
@@ -25,6 +27,17 @@ struct Spot {
 }
 
 impl Spot {
+    /// The root element of this tag.
+    fn root(alloc: Global, tag: &str) -> Result<Spot, AllocError>
+        ensures path { IfOk result (λ spot. names_view spot.path.items ≡ below [] tag.now) }
+        ensures place { IfOk result (λ spot. spot.place.items ≡ []) }
+    {
+        let mut path = Vec::with_capacity(alloc, 1)?;
+        path.push(String::from_str(alloc, tag)?)?;
+        let place = Vec::new(alloc);
+        Ok(Spot { path, place })
+    }
+
     /// The fault of the item at this position, from 0.
     fn fault(
         &self,
@@ -73,13 +86,13 @@ fn fault_among(
     alloc: Global,
     spec: &Spec,
     spot: &Spot,
-    items: &[Tree],
+    items: &[LentTree<'_>],
 ) -> Result<Option<KeyFault>, AllocError>
     requires { length items.now < 2 ^ 32 }
     ensures { IfOk result
         (λ f. option_map fault_view f
-        ≡ option_or (first_bad_item (spec_view spec.now) (names_view spot.now.path.items) (item_place spot.now.place.items) 1 (map tree_view items.now))
-        (repeated_item (spec_view spec.now) (names_view spot.now.path.items) (item_place spot.now.place.items) (map tree_view items.now))) }
+        ≡ option_or (first_bad_item (spec_view spec.now) (names_view spot.now.path.items) (item_place spot.now.place.items) 1 (map lent_tree_view items.now))
+        (repeated_item (spec_view spec.now) (names_view spot.now.path.items) (item_place spot.now.place.items) (map lent_tree_view items.now))) }
 {
     let mut labels = BTreeSet::new(alloc);
     let mut repeated = None;
@@ -102,28 +115,45 @@ fn fault_among(
     }
 }
 
-/// The first fault of the element at the spot, with this content, and of the elements in it.
+/// The first fault of the element at the spot, which holds this text alone.
+fn fault_in_text(
+    alloc: Global,
+    spec: &Spec,
+    spot: &Spot,
+    text: &str,
+) -> Result<Option<KeyFault>, AllocError>
+    ensures { IfOk result
+        (λ f. option_map fault_view f
+        ≡ content_fault (spec_view spec.now) (names_view spot.now.path.items) spot.now.place.items (only_text text.now)) }
+{
+    if spec.is_frontier(&spot.path) || is_blank(text) {
+        return Ok(None);
+    }
+    Ok(Some(spot.fault(alloc, 0, 2, None)?))
+}
+
+/// The first fault of the element at the spot, with this row, and of the elements in it.
 #[cycle(walk)]
-#[tactic(auto, using(jsonml_tree::proofs::Trees::trees, crate::proofs::Rows::fits))]
+#[tactic(auto, using(jsonml_tree::proofs::Trees::trees, jsonml_tree::proofs::LentTrees::lent_trees, crate::proofs::Rows::fits))]
 fn fault_inside(
     alloc: Global,
     spec: &Spec,
     spot: &mut Spot,
-    content: &Content,
+    row: &LentRow<'_>,
 ) -> Result<Option<KeyFault>, AllocError>
-    requires { IsTrue (content_items_fit (content_view content.now)) }
+    requires { IsTrue (content_items_fit (lent_row_view row.now)) }
     ensures fault { IfOk result
-        (λ f. option_map fault_view f ≡ content_fault (spec_view spec.now) (names_view spot.old.path.items) spot.old.place.items (content_view content.now)) }
-    ensures path { OnOk result (names_view spot.new.path.items ≡ names_view spot.old.path.items) }
-    ensures place { OnOk result (spot.new.place.items ≡ spot.old.place.items) }
+        (λ f. option_map fault_view f
+        ≡ content_fault (spec_view spec.now) (names_view spot.old.path.items) spot.old.place.items (lent_row_view row.now)) }
+    ensures stays { OnOk result (SameSpot spot.old spot.new) }
 {
     if spec.is_frontier(&spot.path) {
         return Ok(None);
     }
-    if let Some(fault) = fault_among(alloc, spec, spot, &content.items)? {
+    if let Some(fault) = fault_among(alloc, spec, spot, &row.items)? {
         return Ok(Some(fault));
     }
-    fault_below(alloc, spec, spot, &content.items)
+    fault_below(alloc, spec, spot, &row.items)
 }
 
 /// The first fault inside the items of the element at the spot.
@@ -132,15 +162,14 @@ fn fault_below(
     alloc: Global,
     spec: &Spec,
     spot: &mut Spot,
-    items: &[Tree],
+    items: &[LentTree<'_>],
 ) -> Result<Option<KeyFault>, AllocError>
     requires fit { length items.now ≤ 4294967295 }
-    requires items_fit { IsTrue (all_items_fit (items_view items.now)) }
+    requires items_fit { IsTrue (all_items_fit (lent_items_view items.now)) }
     ensures fault { IfOk result
         (λ f. option_map fault_view f
-        ≡ row_fault (spec_view spec.now) (names_view spot.old.path.items) (item_place spot.old.place.items) 1 (items_view items.now)) }
-    ensures path { OnOk result (names_view spot.new.path.items ≡ names_view spot.old.path.items) }
-    ensures place { OnOk result (spot.new.place.items ≡ spot.old.place.items) }
+        ≡ row_fault (spec_view spec.now) (names_view spot.old.path.items) (item_place spot.old.place.items) 1 (lent_items_view items.now)) }
+    ensures stays { OnOk result (SameSpot spot.old spot.new) }
 {
     for (position, item) in items.iter().enumerate() {
         let found = fault_in(alloc, spec, spot, position, item)?;
@@ -158,21 +187,27 @@ fn fault_in(
     spec: &Spec,
     spot: &mut Spot,
     position: usize,
-    item: &Tree,
+    item: &LentTree<'_>,
 ) -> Result<Option<KeyFault>, AllocError>
     requires position { position < 4294967295 }
-    requires items_fit { ItemsFit (tree_view item.now) }
+    requires items_fit { ItemsFit (lent_tree_view item.now) }
     ensures fault { IfOk result
         (λ f. option_map fault_view f
-        ≡ tree_fault (spec_view spec.now) (names_view spot.old.path.items) (item_place spot.old.place.items (position + 1)) (tree_view item.now)) }
-    ensures path { OnOk result (names_view spot.new.path.items ≡ names_view spot.old.path.items) }
-    ensures place { OnOk result (spot.new.place.items ≡ spot.old.place.items) }
+        ≡ tree_fault (spec_view spec.now) (names_view spot.old.path.items)
+          (item_place spot.old.place.items (position + 1)) (lent_tree_view item.now)) }
+    ensures stays { OnOk result (SameSpot spot.old spot.new) }
 {
     match item {
-        Tree::Text(_) => Ok(None),
-        Tree::Elem { tag, content } => {
+        LentTree::Text(_) => Ok(None),
+        LentTree::Leaf { tag, text } => {
             spot.enter(alloc, tag.as_str(), position)?;
-            let found = fault_inside(alloc, spec, spot, content)?;
+            let found = fault_in_text(alloc, spec, spot, text.as_str())?;
+            spot.leave();
+            Ok(found)
+        }
+        LentTree::Elem { tag, row } => {
+            spot.enter(alloc, tag.as_str(), position)?;
+            let found = fault_inside(alloc, spec, spot, row)?;
             spot.leave();
             Ok(found)
         }
@@ -183,7 +218,6 @@ fn fault_in(
 ///
 /// At each inner element its own items come first: the first that is bad by itself, else the first whose label an
 /// earlier one has. Each label is read once, and recursion is as deep as elements nest.
-#[tactic(auto, using(jsonml_tree::proofs::Trees::trees, crate::proofs::Law::law, crate::proofs::PathLaw::paths))]
 pub fn first_fault(alloc: Global, spec: &Spec, doc: &Tree) -> Result<Option<KeyFault>, AllocError>
     requires element { IsElement (tree_view doc.now) }
     requires items_fit { ItemsFit (tree_view doc.now) }
@@ -193,6 +227,26 @@ pub fn first_fault(alloc: Global, spec: &Spec, doc: &Tree) -> Result<Option<KeyF
     // The laws, of this specification and document.
     ensures key_path { IfSome (first_fault (spec_view spec.now) (tree_view doc.now)) HasItsPath }
     ensures law { (first_fault (spec_view spec.now) (tree_view doc.now) ≡ None) ↔ Satisfies (spec_view spec.now) (tree_view doc.now) }
+{
+    let lent = LentTree::lend(alloc, doc)?;
+    first_lent_fault(alloc, spec, &lent)
+}
+
+/// The same of a document that is lent. Nothing of it is copied but labels, those of one inner element at a time.
+#[tactic(auto, using(jsonml_tree::proofs::LentTrees::lent_trees, crate::proofs::Law::law, crate::proofs::PathLaw::paths))]
+pub fn first_lent_fault(
+    alloc: Global,
+    spec: &Spec,
+    doc: &LentTree<'_>,
+) -> Result<Option<KeyFault>, AllocError>
+    requires element { IsElement (lent_tree_view doc.now) }
+    requires items_fit { ItemsFit (lent_tree_view doc.now) }
+    ensures fault { IfOk result (λ f. option_map fault_view f ≡ first_fault (spec_view spec.now) (lent_tree_view doc.now)) }
+    ensures none { IfOk result (λ f. IsNone f ↔ Satisfies (spec_view spec.now) (lent_tree_view doc.now)) }
+
+    // The laws, of this specification and document.
+    ensures key_path { IfSome (first_fault (spec_view spec.now) (lent_tree_view doc.now)) HasItsPath }
+    ensures law { (first_fault (spec_view spec.now) (lent_tree_view doc.now) ≡ None) ↔ Satisfies (spec_view spec.now) (lent_tree_view doc.now) }
 {
     if let Checked::Bad { why, key_path } = check_item(alloc, spec, &[], doc)? {
         let place = Place {
@@ -205,26 +259,14 @@ pub fn first_fault(alloc: Global, spec: &Spec, doc: &Tree) -> Result<Option<KeyF
         }));
     }
     match doc {
-        Tree::Text(_) => Ok(None),
-        Tree::Elem { tag, content } => fault_from(alloc, spec, tag.as_str(), content),
+        LentTree::Text(_) => Ok(None),
+        LentTree::Leaf { tag, text } => {
+            let spot = Spot::root(alloc, tag.as_str())?;
+            fault_in_text(alloc, spec, &spot, text.as_str())
+        }
+        LentTree::Elem { tag, row } => {
+            let mut spot = Spot::root(alloc, tag.as_str())?;
+            fault_inside(alloc, spec, &mut spot, row)
+        }
     }
-}
-
-/// The first fault inside the root element.
-fn fault_from(
-    alloc: Global,
-    spec: &Spec,
-    tag: &str,
-    content: &Content,
-) -> Result<Option<KeyFault>, AllocError>
-    requires { IsTrue (content_items_fit (content_view content.now)) }
-    ensures { IfOk result (λ f. option_map fault_view f ≡ content_fault (spec_view spec.now) (below [] tag.now) [] (content_view content.now)) }
-{
-    let mut path = Vec::with_capacity(alloc, 1)?;
-    path.push(String::from_str(alloc, tag)?)?;
-    let mut spot = Spot {
-        path,
-        place: Vec::new(alloc),
-    };
-    fault_inside(alloc, spec, &mut spot, content)
 }
