@@ -5,7 +5,7 @@ use Rattle.std.proofs.lemmas.List.{append-nil}
 use Rattle.std.proofs.lemmas.Bool.Decides.{nat_tests}
 use Rattle.version_set.specs.Pairs.{IsCanonical, last_of}
 use Rattle.version_set.specs.Members.{members, has, AscendsFrom, greatest, upto_pairs}
-use Rattle.version_set.proofs.MembersLemmas.{covers, has-members, members_ascend, ascends_past, members-injective, members-with_last, IsCanonical-with_last}
+use Rattle.version_set.proofs.MembersLemmas.{covers, has-members, ascends_past, members-injective, members-with_last, IsCanonical-with_last}
 use Rattle.version_set.proofs.SetLemmas.{has-either, has-filter, members-united, IsCanonical-united, greatest-members}
 
 -- n is in one of the intervals

@@ -1,5 +1,5 @@
 -- Bytes that come or go piece by piece.
-use Rattle.std.proofs.Common.{◌≡◌, true, leb, le-leb, inl, inr, subst, refl, ℕ, ◌+◌, ◌-◌, ◌<◌, ◌≤◌, List, [], ◌++◌, Option, None, Some, sym, ap, ◌∙◌, arith, length, take, drop, length-append, length-take-le, drop-drop, take_all, length-drop}
+use Rattle.std.proofs.Common.{◌≡◌, true, leb, le-leb, inl, inr, subst, ℕ, ◌+◌, ◌-◌, ◌<◌, ◌≤◌, List, [], ◌++◌, Option, None, Some, sym, ap, ◌∙◌, arith, length, take, drop, length-append, length-take-le, drop-drop, take_all, length-drop}
 use Rattle.std.proofs.Math.Seq.{take-append-add}
 use Rattle.std.proofs.lemmas.Bool.{cases_lt}
 use Rattle.std.proofs.lemmas.List.{take-append-le}

@@ -1,8 +1,8 @@
-ghost use Rattle.std.specs.Prelude.{◌≡◌, ◌+◌, ◌^◌, ◌<◌, ◌≤◌, List, [], ◌++◌, ℕ, Option, option_map, length, take, IfOk, OnOk, OnErr, IfErr};
+ghost use Rattle.std.specs.Prelude.{◌≡◌, ◌+◌, ◌^◌, ◌<◌, ◌≤◌, List, [], ◌++◌, ℕ, Option, length, take, IfOk, OnOk, OnErr};
 ghost use Rattle.std.specs.Io.{ReadsAtMost};
 ghost use Rattle.xa_outside.specs.Causes.{HasCause};
 ghost use Rattle.xa_outside.specs.Folder.{Files, TellsLength, Gives, FillsFrom, Drafts, DraftsPrefix, emptied, committed};
-ghost use Rattle.xa_outside.specs.Numbers.{Numbers, IsMeter, Pulls, after_pull, after_draft, after_begin};
+ghost use Rattle.xa_outside.specs.Numbers.{Numbers, IsMeter, Pulls, after_pull, after_begin};
 
 use crate::Failed;
 

@@ -1,5 +1,5 @@
 ghost use Rattle.std.specs.Prelude.{◌≡◌, ◌+◌, ◌-◌, ◌^◌, ◌==◌, ◌↔◌, IsTrue, None, Some, if◌then◌else◌};
-ghost use Rattle.xa_outside.specs.FolderPlan.{FolderPlan, IsNextListed, after_call, count_call, is_call, is_listed, listed_made, made_none, made_of};
+ghost use Rattle.xa_outside.specs.FolderPlan.{IsNextListed, after_call, is_call, is_listed, listed_made, made_none, made_of};
 
 use crate::folder_call::{FolderCall, FolderFail};
 use crate::script::count_up;
