@@ -13,7 +13,7 @@ mod order;
 #[cfg(test)]
 mod tests;
 
-pub use annotate::{keyed, lent_keyed};
+pub use annotate::{keyed, keyed_laws, lent_keyed};
 pub use bare::Bare;
 pub use fault::AnnotateFault;
 pub use fronted::Fronted;
