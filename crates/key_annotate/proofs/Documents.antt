@@ -4,26 +4,34 @@ use Rattle.jsonml_tree.specs.Data.{PlainTree}
 use Rattle.jsonml_tree.specs.Fits.{IsElement}
 use Rattle.jsonml_tree.specs.WellFormed.{IsWellFormed}
 use Rattle.keyed_tree.specs.Data.{PlainKeyed}
+use Rattle.keyed_tree.specs.WellFormed.{IsKeyedWellFormed}
 use Rattle.key_spec.specs.Data.{PlainRule}
 use Rattle.key_rules.specs.Satisfies.{Satisfies}
 use Rattle.key_rules.proofs.Law.{first_fault-None}
 use Rattle.key_annotate.specs.Annotated.{keyed_tree}
 use Rattle.key_annotate.specs.Ordered.{built_tree}
-use Rattle.key_annotate.specs.Laws.{HasOneTree, HasProperTrees, HasAlikeTrees}
+use Rattle.key_annotate.specs.KeyedOf.{IsKeyedTreeOf}
+use Rattle.key_annotate.specs.Laws.{KeyedLaws}
 use Rattle.key_annotate.specs.Stands.{Stands}
 use Rattle.key_annotate.proofs.Alikes.{keyed-alike}
 use Rattle.key_annotate.proofs.Built.{built_tree-None, built_tree-Some}
 use Rattle.key_annotate.proofs.Unique.{keyed_tree-keyed, keyed_tree-one}
 use Rattle.key_annotate.proofs.ProperLemmas.{keyed-proper, keyed-element, proper-ordered, keyed_tree-well, keyed_tree-depth}
 
-pub has-one-tree : (rules : List PlainRule) (t : PlainTree) → IsElement t → IsWellFormed t → Satisfies rules t → HasOneTree rules t
-has-one-tree rules t e w s = record { stands = keyed_tree-keyed rules t w s e; alone = λ k h. keyed_tree-one rules t k w s h }
-
-pub has-proper-trees : (rules : List PlainRule) (t : PlainTree) → HasProperTrees rules t
-has-proper-trees rules t = record { proper = λ k h. keyed-proper rules t k h }
-
-pub has-alike-trees : (rules : List PlainRule) (t : PlainTree) → HasAlikeTrees rules t
-has-alike-trees rules t = record { alike = λ u k j h g. keyed-alike rules t u k j h g }
+pub keyed-laws : (rules : List PlainRule) (t : PlainTree) → IsElement t → IsWellFormed t → KeyedLaws rules t
+keyed-laws rules t e w =
+    let alone : Satisfies rules t → (k : PlainKeyed) → IsKeyedTreeOf rules t k → k ≡ keyed_tree rules t = λ s k h. keyed_tree-one rules t k w s h in
+    record {
+      satisfied = λ s. (first_fault-None rules t).1 s;
+      one = λ s. record { stands = keyed_tree-keyed rules t w s e; alone = alone s };
+      well_formed = λ s k h. subst IsKeyedWellFormed (sym (alone s k h)) (keyed_tree-well rules t w);
+      proper = record {
+        element = λ k h. keyed-element rules t k h;
+        proper = λ k h. keyed-proper rules t k h;
+        ordered = λ k h. proper-ordered k (keyed-proper rules t k h);
+      };
+      alike = record { alike = λ u k j h g. keyed-alike rules t u k j h g };
+    }
 
 -- a tree that was built
 pub stands : (rules : List PlainRule) (t : PlainTree) (k : PlainKeyed) → IsElement t → IsWellFormed t → Some k ≡ built_tree rules [] t → Stands rules t k
@@ -48,4 +56,4 @@ stands rules t k e w d =
 pub not-built : (rules : List PlainRule) (t : PlainTree) → IsElement t → IsWellFormed t → None ≡ built_tree rules [] t → ¬ Satisfies rules t
 not-built rules t e w d = λ s. built_tree-None rules t w s e (sym d)
 
-pub ruleset documents = (has-one-tree, has-proper-trees, has-alike-trees, stands, not-built)
+pub ruleset documents = (keyed-laws, stands, not-built)

@@ -1,15 +1,15 @@
 #![tactic(auto, using(jsonml_tree::proofs::Trees::trees, keyed_tree::proofs::Views::views, crate::proofs::LentViews::lent_views))]
 
 ghost use Rattle.std.specs.Prelude.{◌≡◌, [], Some, IfOk, IfErr, IfSome};
+ghost use Rattle.jsonml_tree.specs.Data.{PlainTree};
 ghost use Rattle.jsonml_tree.specs.Fits.{IsElement, ItemsFit};
 ghost use Rattle.jsonml_tree.specs.WellFormed.{IsWellFormed};
 ghost use Rattle.jsonml_tree.specs.LentView.{lent_tree_view};
 ghost use Rattle.jsonml_tree.specs.View.{tree_view};
 ghost use Rattle.keyed_tree.specs.View.{keyed_view};
 ghost use Rattle.key_spec.specs.View.{spec_view};
-ghost use Rattle.key_rules.specs.Satisfies.{Satisfies};
 ghost use Rattle.key_rules.specs.Faults.{first_fault};
-ghost use Rattle.key_annotate.specs.Laws.{HasOneTree, HasProperTrees, HasAlikeTrees};
+ghost use Rattle.key_annotate.specs.Laws.{KeyedLaws};
 ghost use Rattle.key_annotate.specs.LentView.{lent_view};
 ghost use Rattle.key_annotate.specs.Stands.{Stands};
 ghost use Rattle.key_annotate.specs.View.{key_fault};
@@ -18,7 +18,7 @@ use crate::build::build;
 use crate::fault::AnnotateFault;
 use crate::lent::LentKeyed;
 use jsonml_tree::{LentTree, Tree};
-use key_rules::first_fault;
+use key_rules::first_lent_fault;
 use key_spec::Spec;
 use keyed_tree::Keyed;
 use std::alloc::Global;
@@ -31,12 +31,9 @@ pub fn keyed(alloc: Global, spec: &Spec, doc: &Tree) -> Result<Keyed, AnnotateFa
     requires items_fit { ItemsFit (tree_view doc.now) }
     requires well_formed { IsWellFormed (tree_view doc.now) }
     ensures stands { IfOk result (λ k. Stands (spec_view spec.now) (tree_view doc.now) (keyed_view k)) }
-    ensures key { IfErr result (λ e. IfSome (key_fault e) (λ f. first_fault (spec_view spec.now) (tree_view doc.now) ≡ Some f)) }
-
-    // The laws, of this specification and document.
-    ensures one { Satisfies (spec_view spec.now) (tree_view doc.now) → HasOneTree (spec_view spec.now) (tree_view doc.now) }
-    ensures proper { HasProperTrees (spec_view spec.now) (tree_view doc.now) }
-    ensures alike { HasAlikeTrees (spec_view spec.now) (tree_view doc.now) }
+    ensures key { IfErr result
+        (λ e. IfSome (key_fault e) (λ f. first_fault (spec_view spec.now) (tree_view doc.now) ≡ Some f)) }
+    ensures laws { KeyedLaws (spec_view spec.now) (tree_view doc.now) }
 {
     let lent = LentTree::lend(alloc, doc)?;
     let tree = lent_keyed(alloc, spec, &lent)?;
@@ -46,7 +43,7 @@ pub fn keyed(alloc: Global, spec: &Spec, doc: &Tree) -> Result<Keyed, AnnotateFa
 /// The keyed tree of a document, lent by the document, or its first key fault.
 ///
 /// It is built in one pass, which reads each label once, copies no more than key values that are more than a text, and sorts
-/// the kids of each node once; the first fault is looked for only where that pass meets one, in a copy of the document.
+/// the kids of each node once; the first fault is looked for only where that pass meets one.
 /// Recursion is as deep as elements nest.
 #[tactic(auto, using(crate::proofs::Documents::documents))]
 pub fn lent_keyed<'a, 't>(
@@ -58,20 +55,22 @@ pub fn lent_keyed<'a, 't>(
     requires items_fit { ItemsFit (lent_tree_view doc.now) }
     requires well_formed { IsWellFormed (lent_tree_view doc.now) }
     ensures stands { IfOk result (λ k. Stands (spec_view spec.now) (lent_tree_view doc.now) (lent_view k)) }
-    ensures key { IfErr result (λ e. IfSome (key_fault e) (λ f. first_fault (spec_view spec.now) (lent_tree_view doc.now) ≡ Some f)) }
-
-    // The laws, of this specification and document.
-    ensures one { Satisfies (spec_view spec.now) (lent_tree_view doc.now) → HasOneTree (spec_view spec.now) (lent_tree_view doc.now) }
-    ensures proper { HasProperTrees (spec_view spec.now) (lent_tree_view doc.now) }
-    ensures alike { HasAlikeTrees (spec_view spec.now) (lent_tree_view doc.now) }
+    ensures key { IfErr result
+        (λ e. IfSome (key_fault e) (λ f. first_fault (spec_view spec.now) (lent_tree_view doc.now) ≡ Some f)) }
+    ensures laws { KeyedLaws (spec_view spec.now) (lent_tree_view doc.now) }
 {
     let mut path = Vec::new(alloc);
     if let Some(tree) = build(alloc, spec, &mut path, doc)? {
         return Ok(tree);
     }
-    let owned = doc.own(alloc)?;
-    match first_fault(alloc, spec, &owned)? {
+    match first_lent_fault(alloc, spec, doc)? {
         Some(fault) => Err(AnnotateFault::Key(fault)),
         None => unreachable!(),
     }
+}
+
+/// The laws of all documents under a specification, for proofs. It does nothing.
+pub fn keyed_laws(spec: &Spec)
+    ensures { (t : PlainTree) → IsElement t → IsWellFormed t → KeyedLaws (spec_view spec.now) t }
+{
 }

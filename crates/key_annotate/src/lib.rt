@@ -11,7 +11,7 @@ mod label;
 mod lent;
 mod order;
 
-pub use annotate::{keyed, lent_keyed};
+pub use annotate::{keyed, keyed_laws, lent_keyed};
 pub use bare::Bare;
 pub use fault::AnnotateFault;
 pub use fronted::Fronted;

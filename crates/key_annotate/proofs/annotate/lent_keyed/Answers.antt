@@ -4,11 +4,8 @@ use Rattle.jsonml_tree.specs.LentView.{lent_tree_view}
 use Rattle.key_annotate.specs.LentView.{lent_view}
 use Rattle.key_spec.specs.View.{names_view, spec_view}
 use Rattle.key_annotate.specs.Ordered.{built_tree}
-use Rattle.key_annotate.proofs.Documents.{has-one-tree, stands}
+use Rattle.key_annotate.proofs.Documents.{keyed-laws, stands}
 use Rattle.key_annotate.proofs.annotate.lent_keyed.Goals as goal
-
-pub returns-in_err-tree-clause-one : goal.returns-in_err-tree-clause-one
-returns-in_err-tree-clause-one c = λ s. has-one-tree (spec_view c.args.spec.now) (lent_tree_view c.args.doc.now) c.requires.element c.requires.well_formed s
 
 pub returns-in-Some-clause-stands : goal.returns-in-Some-clause-stands
 returns-in-Some-clause-stands c =
@@ -18,5 +15,5 @@ returns-in-Some-clause-stands c =
     ap (option_map lent_view) (sym c.in-Some.is) ∙ c.in_ok-tree.ensures.tree ∙ ap (λ (names : List (String Global)). built_tree rules' (names_view names) t) c.new-path.ensures.items in
     stands rules' t (lent_view c.in-Some.tree) c.requires.element c.requires.well_formed built
 
-pub returns-in-Some-clause-one : goal.returns-in-Some-clause-one
-returns-in-Some-clause-one c = λ s. has-one-tree (spec_view c.args.spec.now) (lent_tree_view c.args.doc.now) c.requires.element c.requires.well_formed s
+pub returns-in-Some-clause-laws : goal.returns-in-Some-clause-laws
+returns-in-Some-clause-laws c = keyed-laws (spec_view c.args.spec.now) (lent_tree_view c.args.doc.now) c.requires.element c.requires.well_formed
