@@ -1,5 +1,6 @@
 -- How the parts of a command lead to its end.
-use Rattle.std.proofs.Common.{◌≡◌, ◌≢◌, ℕ, ◌+◌, ◌≤◌, Option, Some, None, IsSome, Result, Ok, Err, refl, sym, ap, ◌∙◌, subst, arith}
+use Rattle.std.specs.Result.{IsErrAnd}
+use Rattle.std.proofs.Common.{◌≡◌, ◌≢◌, ℕ, ◌+◌, ◌≤◌, Option, Some, None, IsSome, Result, Ok, Err, IfOk, OnOk, refl, sym, ap, ◌∙◌, subst, arith}
 use Rattle.xa_outside.specs.Folder.{Files}
 use Rattle.xa_outside.specs.Numbers.{Numbers, IsMeter, PullsAtMost}
 use Rattle.xa_outside.proofs.NumberLemmas.{PullsAtMost-none, PullsAtMost-more, PullsAtMost-trans}
@@ -10,7 +11,7 @@ use Rattle.xarch_words.specs.Refusal.{Refusal, usage, PlainFault, refused, folde
 use Rattle.xarch_words.specs.View.{fault_view}
 use Rattle.xarch_words.specs.declared.fault.Fault.{Fault}
 use Rattle.xarch_steps.specs.Outcome.{Outcome, and_then, output_of}
-use Rattle.xarch_steps.specs.Ends.{fault_of, IsInside, IsOfFolder, IsOfOutput, IsOfCommand, HasItsCause, IsDefined, EndsAs}
+use Rattle.xarch_steps.specs.Ends.{Matches, fault_of, IsInside, IsOfFolder, IsOfOutput, IsOfCommand, HasItsCause, IsDefined, EndsAs}
 
 -- ---- causes
 
@@ -133,5 +134,66 @@ PullsAtMost-one limit n a b c fits e p = PullsAtMost-more n limit a c fits (subs
 -- and another one
 pub PullsAtMost-two : (limit n k : ℕ) (a b c d : Numbers) → n + k ≤ limit → b ≡ a → PullsAtMost n b c → PullsAtMost k c d → PullsAtMost limit a d
 PullsAtMost-two limit n k a b c d fits e p q = PullsAtMost-more (n + k) limit a d fits (PullsAtMost-trans n k a c d (subst (λ m. PullsAtMost n m c) e p) q)
+
+-- ---- parts of a definition
+
+-- a refusal that is named is the defined one
+pub IsDefined-only : {A : Type 0} (x : Result A Refusal) (r : Refusal) (v : PlainFault) → x ≡ Err r → ((q : Refusal) → v ≡ refused q → q ≡ r) → IsDefined x v
+unfolding IsDefined
+IsDefined-only x r (refused q) e only = e ∙ ap (λ s. Err s) (sym (only q refl))
+IsDefined-only x r folder_fault e only = tt
+IsDefined-only x r out_fault e only = tt
+IsDefined-only x r in_fault e only = tt
+IsDefined-only x r memory e only = tt
+
+-- what is refused before a value is looked at is refused whatever comes of it
+pub IsDefined-whatever : {A B C : Type 0} (x : Result A Refusal) (g : A → B) (f : A → Result C Refusal) (v : PlainFault) → IsDefined (and_then x (λ a. Ok (g a))) v → IsDefined (and_then x f) v
+unfolding IsDefined
+IsDefined-whatever (Err e) g f (refused r) p = let same : e ≡ r = cc in ap (λ s. Err s) same
+IsDefined-whatever (Ok a) g f (refused r) p = absurd cc
+IsDefined-whatever x g f folder_fault p = tt
+IsDefined-whatever x g f out_fault p = tt
+IsDefined-whatever x g f in_fault p = tt
+IsDefined-whatever x g f memory p = tt
+
+-- two steps that a definition takes one by one
+pub IsDefined-inner : {A B C : Type 0} (x : Result A Refusal) (g : A → Result B Refusal) (f : B → Result C Refusal) (v : PlainFault) → IsDefined (and_then x g) v → IsDefined (and_then x (λ a. and_then (g a) f)) v
+unfolding IsDefined
+IsDefined-inner (Ok a) g f v p = IsDefined-here (g a) f v p
+IsDefined-inner (Err e) g f (refused r) p = let same : e ≡ r = cc in ap (λ s. Err s) same
+IsDefined-inner (Err e) g f folder_fault p = tt
+IsDefined-inner (Err e) g f out_fault p = tt
+IsDefined-inner (Err e) g f in_fault p = tt
+IsDefined-inner (Err e) g f memory p = tt
+
+pub IsDefined-inner-next : {A B C : Type 0} (x : Result A Refusal) (g : A → Result B Refusal) (f : B → Result C Refusal) (y : B) (v : PlainFault) → and_then x g ≡ Ok y → IsDefined (f y) v
+    → IsDefined (and_then x (λ a. and_then (g a) f)) v
+IsDefined-inner-next (Ok a) g f y v e p = subst (λ z. IsDefined (and_then z f) v) (sym e) p
+IsDefined-inner-next (Err e) g f y v h p = absurd cc
+
+pub and_then-inner : {A B C : Type 0} (x : Result A Refusal) (g : A → Result B Refusal) (f : B → Result C Refusal) (y : B) → and_then x g ≡ Ok y → and_then x (λ a. and_then (g a) f) ≡ f y
+and_then-inner (Ok a) g f y p = ap (λ z. and_then z f) p
+and_then-inner (Err e) g f y p = absurd cc
+
+-- a call ends with the fault of a part of it
+pub IfOk-passed : {T : Type 0} (r : Result T Fault) (f : Fault) (P : T → Type 0) → IsErrAnd r (λ g. g ≡ f) → IfOk r P
+IfOk-passed (Ok u) f P h = absurd h
+IfOk-passed (Err g) f P h = tt
+
+pub OnOk-passed : {T : Type 0} (r : Result T Fault) (f : Fault) (P : Type 0) → IsErrAnd r (λ g. g ≡ f) → OnOk r P
+OnOk-passed (Ok u) f P h = absurd h
+OnOk-passed (Err g) f P h = tt
+
+pub inside-passed : {T : Type 0} (r : Result T Fault) (f : Fault) → IsErrAnd r (λ g. g ≡ f) → IsInside (Some (fault_view f)) → IsInside (fault_of r)
+inside-passed (Ok u) f h p = absurd h
+inside-passed (Err g) f h p = subst (λ (z : Fault). IsInside (Some (fault_view z))) (sym h) p
+
+pub Matches-passed : {A T : Type 0} (view : T → A) (x : Result A Refusal) (r : Result T Fault) (f : Fault) → IsErrAnd r (λ g. g ≡ f) → IsDefined x (fault_view f) → Matches view x r
+Matches-passed view x (Ok u) f h p = absurd h
+Matches-passed view x (Err g) f h p = subst (λ (z : Fault). IsDefined x (fault_view z)) (sym h) p
+
+-- the rest of a definition behind its first step
+pub Matches-next : {A B T : Type 0} (view : T → B) (x : Result A Refusal) (f : A → Result B Refusal) (y : A) (r : Result T Fault) → x ≡ Ok y → Matches view (f y) r → Matches view (and_then x f) r
+Matches-next view x f y r e p = subst (λ z. Matches view (and_then z f) r) (sym e) p
 
 pub ruleset endings = (IsOfFolder-inside, IsOfFolder-later, IsOfCommand-inside, IsOfCommand-folder, IsOfCommand-output, IsDefined-here, IsDefined-next, EndsAs-stopped)

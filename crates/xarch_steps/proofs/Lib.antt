@@ -1,14 +1,17 @@
 pub mod AddEnds
 pub mod DemoEnds
 pub mod Ending
+pub mod FolderLemmas
 pub mod GetEnds
 pub mod HistoryEnds
 pub mod InitEnds
+pub mod InputLemmas
 pub mod KeptCalls
 pub mod KeyedCalls
 pub mod MayEnds
 pub mod MergedLemmas
 pub mod Merging
+pub mod NormEnds
 pub mod OneStep
 pub mod Running
 pub mod SampleLemmas

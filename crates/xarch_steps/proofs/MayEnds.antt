@@ -1,12 +1,14 @@
 -- How the parts of a command lead to an end that it may have.
-use Rattle.std.proofs.Common.{◌≡◌, inl, inr, ℕ, List, [], Option, Some, None, Result, Ok, Err, IfErr, OnOk, refl, sym, ◌∙◌, subst}
+use Rattle.std.proofs.Common.{◌≡◌, inl, inr, ℕ, List, [], Option, Some, None, Result, Ok, Err, IfErr, OnOk, refl, sym, ap, ◌∙◌, subst}
 use Rattle.std.specs.Result.{IsErrAnd}
-use Rattle.xa_outside.specs.Folder.{Files}
+use Rattle.std.specs.FinMap as map
+use Rattle.xa_outside.specs.Folder.{Files, committed}
 use Rattle.xa_outside.specs.Taken.{Taken, Takes, TakesNone, TakesPrefix, Puts}
 use Rattle.xa_outside.proofs.Output.{Takes-nil, Takes-kept, TakesNone-refl, TakesPrefix-all}
 use Rattle.xarch_words.specs.Refusal.{Refusal, PlainFault, refused, folder_fault, out_fault, in_fault, memory}
 use Rattle.xarch_words.specs.View.{fault_view}
 use Rattle.xarch_words.specs.declared.fault.Fault.{Fault}
+use Rattle.xarch_steps.specs.Archives.{IsDrafted}
 use Rattle.xarch_steps.specs.Ends.{fault_of, IsDefined, IsOfOutput, TellsOnly, EndsAs}
 use Rattle.xarch_steps.specs.Outcome.{Outcome, output_of}
 use Rattle.xarch_steps.specs.Plausible.{MayEnd}
@@ -79,6 +81,10 @@ pub IfErr-passed : {T : Type 0} (r : Result T Fault) (f : Fault) (P : Fault → 
 IfErr-passed (Ok x) f P h p = tt
 IfErr-passed (Err g) f P h p = subst P (sym h) p
 
+pub IfErr-more : {T : Type 0} (r : Result T Fault) (P Q : Fault → Type 0) → ((f : Fault) → P f → Q f) → IfErr r P → IfErr r Q
+IfErr-more (Ok x) P Q h p = tt
+IfErr-more (Err f) P Q h p = h f p
+
 -- a refusal of a step is the defined one
 pub defined_refused : {A : Type 0} (x : Result A Refusal) (v : PlainFault) (q : Refusal) → IsDefined x v → v ≡ refused q → x ≡ Err q
 unfolding IsDefined
@@ -87,6 +93,40 @@ defined_refused x v q d e = subst (IsDefined x) e d
 -- told files stay
 pub tells_same : (after : Option Files) (files : Files) → after ≡ Some files → TellsOnly after files
 tells_same after files e = λ f told. let both : Some files ≡ Some f = sym e ∙ told in let same : files ≡ f = cc in sym same
+
+-- told files with the draft under the name
+committed-tells : (files : Files) (draft : Option (List ℕ)) (name bytes : List ℕ) → ((d : List ℕ) → draft ≡ Some d → d ≡ bytes) → TellsOnly (committed (Some files) draft name) (map.insert files name bytes)
+committed-tells files None name bytes h = λ after e. absurd cc
+committed-tells files (Some d) name bytes h = λ after e.
+    let same : map.insert files name d ≡ after = cc in
+    sym same ∙ ap (map.insert files name) (h d refl)
+
+-- the same of a commit
+pub commit-tells : (r : Result Unit Fault) (files : Files) (after before : Option Files) (draft : Option (List ℕ)) (name bytes : List ℕ) → OnOk r (after ≡ committed before draft name) → before ≡ Some files → IsDrafted draft bytes
+    → OnOk r (TellsOnly after (map.insert files name bytes))
+commit-tells (Ok u) files after before draft name bytes e told drafted = λ f is. committed-tells files draft name bytes drafted f (sym (ap (λ b. committed b draft name) told) ∙ sym e ∙ is)
+commit-tells (Err f) files after before draft name bytes e told drafted = tt
+
+-- a call ended with this fault of a part of it
+pub passed-fault : (r : Result Unit Fault) (f : Fault) (v : PlainFault) → IsErrAnd r (λ g. g ≡ f) → fault_view f ≡ v → fault_of r ≡ Some v
+passed-fault (Ok u) f v h e = absurd h
+passed-fault (Err g) f v h e = ap (λ (z : Fault). Some (fault_view z)) h ∙ ap (λ w. Some w) e
+
+-- ---- against other definitions
+
+-- an end that a command may have, where more is allowed
+pub MayEnd-more : (M N : Result Outcome Refusal → Type 0) → ((r : Result Outcome Refusal) → M r → N r) → (e : Option PlainFault) (after : Option Files) (old new : Taken) → MayEnd M e after old new → MayEnd N e after old new
+unfolding MayEnd
+MayEnd-more M N h None after old new d = record { outcome = d.outcome; may = h (Ok d.outcome) d.may; files = d.files; output = d.output }
+MayEnd-more M N h (Some (refused q)) after old new d = record { may = h (Err q) d.may; output = d.output }
+MayEnd-more M N h (Some folder_fault) after old new d = elim d [ inl n ↦ inl n | inr p ↦ inr (record { outcome = p.outcome; may = h p.outcome p.may; output = p.output }) ]
+MayEnd-more M N h (Some out_fault) after old new d = elim d [ inl n ↦ inl n | inr p ↦ inr (record { outcome = p.outcome; may = h p.outcome p.may; output = p.output }) ]
+MayEnd-more M N h (Some in_fault) after old new d = elim d [ inl n ↦ inl n | inr p ↦ inr (record { outcome = p.outcome; may = h p.outcome p.may; output = p.output }) ]
+MayEnd-more M N h (Some memory) after old new d = elim d [ inl n ↦ inl n | inr p ↦ inr (record { outcome = p.outcome; may = h p.outcome p.may; output = p.output }) ]
+
+-- the end of a part that knows the files, where these are told
+pub MayEnd-told : (M : Result Outcome Refusal → Type 0) (files : Files) (e : Option PlainFault) (after : Option Files) (old new : Taken) → after ≡ Some files → MayEnd M e (Some files) old new → MayEnd M e after old new
+MayEnd-told M files e after old new told ends = subst (λ f. MayEnd M e f old new) (sym told) ends
 
 -- ---- against one definition
 
@@ -107,13 +147,3 @@ EndsAs-may M r one (Some in_fault) after old new d =
     elim d [ inl n ↦ no_prefix old new (output_of r) n | inr p ↦ subst (λ (x : Result Outcome Refusal). TakesPrefix old new (output_of x)) (one p.outcome p.may) p.output ]
 EndsAs-may M r one (Some memory) after old new d =
     elim d [ inl n ↦ no_prefix old new (output_of r) n | inr p ↦ subst (λ (x : Result Outcome Refusal). TakesPrefix old new (output_of x)) (one p.outcome p.may) p.output ]
-
--- the defined end is one that a command may have
-pub MayEnd-exact : (r : Result Outcome Refusal) (e : Option PlainFault) (after : Option Files) (old new : Taken) → EndsAs r e after old new → MayEnd (λ s. s ≡ r) e after old new
-unfolding MayEnd EndsAs
-MayEnd-exact r None after old new d = record { outcome = d.outcome; may = sym d.is; files = d.files; output = d.output }
-MayEnd-exact r (Some (refused q)) after old new d = record { may = sym d.is; output = d.output }
-MayEnd-exact r (Some folder_fault) after old new d = inr (record { outcome = r; may = refl; output = d })
-MayEnd-exact r (Some out_fault) after old new d = inr (record { outcome = r; may = refl; output = d })
-MayEnd-exact r (Some in_fault) after old new d = inr (record { outcome = r; may = refl; output = d })
-MayEnd-exact r (Some memory) after old new d = inr (record { outcome = r; may = refl; output = d })

@@ -2,6 +2,10 @@
 use Rattle.std.proofs.Common.{◌≡◌, inl, inr, ℕ, ◌<◌, ◌≤◌, true, IsTrue, List, [], ◌∷◌, ◌++◌, length, Result, Ok, Err, IfErr, Vec, Global, Some, refl, sym, ap, ◌∙◌, subst, arith}
 use Rattle.std.proofs.Math.Bool.{Bool-set}
 use Rattle.std.proofs.Math.Logic.{∥∥₁_elim}
+use Rattle.jsonml_tree.specs.Data.{PlainTree, tree_depth}
+use Rattle.jsonml_tree.specs.Fits as fits
+use Rattle.jsonml_tree.specs.WellFormed.{IsWellFormed}
+use Rattle.key_annotate.specs.Stands.{Stands}
 use Rattle.key_spec.specs.Data.{PlainRule}
 use Rattle.keyed_tree.specs.Data.{PlainKeyed}
 use Rattle.keyed_tree.specs.Kids.{IsOrdered}
@@ -25,7 +29,7 @@ use Rattle.record_format.specs.Fronts.{header}
 use Rattle.xarch_words.specs.Refusal.{archive, Refusal, limit, refused}
 use Rattle.xarch_words.specs.View.{fault_view}
 use Rattle.xarch_words.specs.declared.fault.Fault.{Fault}
-use Rattle.xarch_steps.specs.Added.{Goes, IsTooLong}
+use Rattle.xarch_steps.specs.Added.{Goes, IsOverlong, IsTooLong, IsVersionBy}
 use Rattle.xarch_steps.specs.Archives.{IsRefusal, NoRefusal}
 
 -- the versions of an archive that has some can be told
@@ -68,6 +72,10 @@ module _ (rules : List PlainRule) (old : PlainArchive) (bytes : List ℕ) (k : P
       let same = one_list (v.versions ++ k ∷ []) us new (merged v.versions v.is) h in
       subst (AreKeyedBy rules) same (follows_keyed v.versions v.is)
 
+  -- a refusal of the file of the new archive is that of a sound archive
+  pub overlong : (q : Refusal) → q ≡ limit archive 274877906944 → IsOverlong bytes q
+  overlong q e = let v = opened old kept in record { is = e; rules = rules; versions = v.versions; sound = sound v.versions v.is }
+
 -- where no file was made, the versions have none
 pub too_long_after : (rules given : List PlainRule) (new : PlainArchive) (vs : List PlainKeyed) (k : PlainKeyed) (r : Result (Vec ℕ Global) Fault) (q : Refusal) → given ≡ rules → ArchiveOf (vs ++ k ∷ []) new
     → IfErr r (λ f. IsRefusal (limit archive 274877906944) (fault_view f))
@@ -93,3 +101,12 @@ goes_on rules n bytes k front element ordered formed keyed below = record {
         room = subst (λ m. m < 999999) (ap (λ (p : List PlainRule × ℕ). p.1) same) below;
       };
 }
+
+-- the keyed tree of a document that satisfies the keys can be a version
+pub version-by : (rules : List PlainRule) (t : PlainTree) (k j : PlainKeyed) → fits.IsElement t → IsWellFormed t → tree_depth t ≤ 120 → Stands rules t k → j ≡ k → IsVersionBy rules j
+version-by rules t k j element formed shallow stands e = subst (IsVersionBy rules) (sym e) (record {
+  element = stands.element;
+  ordered = stands.ordered;
+  well_formed = stands.well_formed;
+  keyed = record { document = t; element = element; well_formed = formed; shallow = shallow; satisfies = stands.satisfies; stands = stands.keyed };
+})

@@ -2,15 +2,18 @@
 use Rattle.std.proofs.Common.{◌≡◌, ◌≢◌, ◌⊎◌, ◌↔◌, inl, inr, ℕ, ◌<◌, List, [], Option, Some, None, IsSome, Result, Ok, Err, OnErr, refl, sym, ap, ◌∙◌, subst, arith}
 use Rattle.xa_outside.specs.Causes.{HasCause, Rose}
 use Rattle.xa_outside.specs.Folder.{Files}
+use Rattle.xa_outside.specs.Numbers.{Numbers, IsMeter}
+use Rattle.xa_outside.proofs.NumberLemmas.{PullsAtMost-none}
 use Rattle.xa_outside.specs.Taken.{Taken, TakesNone, TakesPrefix, Puts}
 use Rattle.xa_outside.proofs.Output.{Takes-nil, Takes-kept, TakesPrefix-none, TakesPrefix-all}
-use Rattle.xarch_words.specs.Commands.{PlainCommand, command_of, demo}
+use Rattle.xarch_words.specs.Commands.{PlainCommand, norm, init, add, get, history, stats, batch, demo, command_of}
 use Rattle.xarch_words.specs.Refusal.{Refusal, usage, no_file, exists, bad_spec, bad_json, bad_shape, key_fault, no_version, bad_path, damaged, limit, PlainFault, refused, folder_fault, out_fault, in_fault, memory}
 use Rattle.xarch_words.specs.Lines.{refusal_status}
 use Rattle.xarch_words.specs.declared.fault.Fault.{Fault}
 use Rattle.xarch_steps.specs.Outcome.{Outcome, Step, output_of, step_from}
 use Rattle.xarch_steps.specs.Ends.{fault_of, IsOfCommand, HasItsCause, EndsAs}
-use Rattle.xarch_steps.specs.Ran.{IsLongDemo, status_after, line_after, outside_of, Says}
+use Rattle.xarch_steps.specs.Folders.{Counts}
+use Rattle.xarch_steps.specs.Ran.{CountsAsSaid, IsLongDemo, OnlyReads, PullsAsSaid, made_name, most_pulled, status_after, line_after, outside_of, Says}
 use Rattle.xarch_steps.specs.Plausible.{MayBe, MayDo, MayEnd, Plausible, PutSome, Tried, Wrote}
 use Rattle.xarch_steps.specs.Step.{StepIs, alone, single_of}
 use Rattle.xarch_steps.proofs.Ending.{IsOfCommand-usage}
@@ -213,3 +216,57 @@ fault_of-OnErr P (Err f) p some = p
 -- a `demo` of too many documents is one by itself
 pub long_demo-alone : (words : List (List ℕ)) (seed count : ℕ) (name : List ℕ) → command_of words ≡ Some (demo seed count name) → 1000 < count → IsLongDemo (single_of words)
 long_demo-alone words seed count name is long = subst (λ (c : Option PlainCommand). IsLongDemo (alone c)) (sym is) long
+
+pub OnErr-of : (r : Result Unit Fault) (P : Type 0) → (IsSome (fault_of r) → P) → OnErr r P
+OnErr-of (Ok u) P h = tt
+OnErr-of (Err f) P h = h refl
+
+-- ---- what is pulled
+
+only_makes_none : (command : PlainCommand) → OnlyReads (Some command) → made_name command ≡ None
+only_makes_none (norm spec doc) h = refl
+only_makes_none (init archive spec) h = absurd h
+only_makes_none (add archive doc) h = absurd h
+only_makes_none (get archive i) h = refl
+only_makes_none (history archive path) h = refl
+only_makes_none (stats archive) h = refl
+only_makes_none batch h = absurd h
+only_makes_none (demo seed count archive) h = absurd h
+
+-- a command that only reads makes no file
+pub makes_none : (words : List (List ℕ)) (command : PlainCommand) → single_of words ≡ Some command → OnlyReads (single_of words) → made_name command ≡ None
+makes_none words command some h = only_makes_none command (subst OnlyReads some h)
+
+said_of : (command : PlainCommand) (told : Option Files) (before after : Numbers) → Counts (made_name command) (most_pulled command told) before after → CountsAsSaid (Some command) told before after
+said_of (norm spec doc) told before after h = h
+said_of (init archive spec) told before after h = h
+said_of (add archive doc) told before after h = h
+said_of (get archive i) told before after h = h
+said_of (history archive path) told before after h = h
+said_of (stats archive) told before after h = h
+said_of batch told before after h = tt
+said_of (demo seed count archive) told before after h = h
+
+pulled_of : (command : PlainCommand) (told : Option Files) (before after : Numbers) → Counts (made_name command) (most_pulled command told) before after → PullsAsSaid (Some command) before after
+pulled_of (norm spec doc) told before after h = h
+pulled_of (init archive spec) told before after h = tt
+pulled_of (add archive doc) told before after h = tt
+pulled_of (get archive i) told before after h = tt
+pulled_of (history archive path) told before after h = tt
+pulled_of (stats archive) told before after h = tt
+pulled_of batch told before after h = tt
+pulled_of (demo seed count archive) told before after h = tt
+
+module _ (words : List (List ℕ)) (command : PlainCommand) (told : Option Files) (before after : Numbers) (some : single_of words ≡ Some command) (h : Counts (made_name command) (most_pulled command told) before after) where
+  pub counts_as_said : CountsAsSaid (single_of words) told before after
+  counts_as_said = subst (λ (o : Option PlainCommand). CountsAsSaid o told before after) (sym some) (said_of command told before after h)
+
+  pub pulls_as_said : PullsAsSaid (single_of words) before after
+  pulls_as_said = subst (λ (o : Option PlainCommand). PullsAsSaid o before after) (sym some) (pulled_of command told before after h)
+
+module _ (words : List (List ℕ)) (m : Numbers) (none : single_of words ≡ None) (is : IsMeter m) where
+  pub nothing_counted : (told : Option Files) → CountsAsSaid (single_of words) told m m
+  nothing_counted told = subst (λ (o : Option PlainCommand). CountsAsSaid o told m m) (sym none) (PullsAtMost-none 0 m is)
+
+  pub nothing_pulled : PullsAsSaid (single_of words) m m
+  nothing_pulled = subst (λ (o : Option PlainCommand). PullsAsSaid o m m) (sym none) (PullsAtMost-none 0 m is)

@@ -1,5 +1,5 @@
 -- How the parts of `stats` lead to its end.
-use Rattle.std.proofs.Common.{◌≡◌, inl, inr, ℕ, true, nat_le, List, length, Option, Some, None, Result, Ok, Err, refl, sym, ap, ◌∙◌, arith}
+use Rattle.std.proofs.Common.{◌≡◌, inl, inr, ℕ, true, nat_le, List, length, Option, Some, None, Result, Ok, Err, refl, sym, ap, ◌∙◌, subst, arith}
 use Rattle.std.proofs.Math.Seq.{take-length}
 use Rattle.std.proofs.lemmas.Bool.{le-leb}
 use Rattle.std.specs.FinMap as map
@@ -76,3 +76,7 @@ module _ (files : Files) (name : List ℕ) where
     whatever = given_by (map.get files name) n (λ _. MayWrite files name) (Err (damaged name)) e (λ _. inl refl);
     sound = λ rules vs a. absurd (h a.bytes rules vs (whole_front a.bytes n a.there e) a.sound);
   }
+
+  -- the refusal that is named
+  pub refuses_only : (q : Refusal) → q ≡ damaged name → MayBe files (stats name) (Err (damaged name)) → MayBe files (stats name) (Err q)
+  refuses_only q e may = subst (λ (r : Refusal). MayBe files (stats name) (Err r)) (sym e) may

@@ -42,6 +42,10 @@ pub record IsSampleFile (seed count : ℕ) (bytes : List ℕ) (c : PlainCounts) 
 abbrev pub demo_input : Files → ℕ → List ℕ → Result Unit Refusal
 demo_input files count name = and_then (at_most demo 1000 count) (λ _. free_in files name)
 
+-- the bytes come under the name, and the counts are written
+abbrev pub told_and_stored : Files → List ℕ → List ℕ → PlainCounts → Outcome
+told_and_stored files name bytes tally = record { files = finite.insert files name bytes; output = counts_text tally }
+
 -- the file comes under the name, and its counts are written
 pub record Makes (files : Files) (name : List ℕ) (seed count : ℕ) (r : Result Outcome Refusal) : Type 0 where
   pub bytes : List ℕ

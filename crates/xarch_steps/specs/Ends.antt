@@ -1,5 +1,5 @@
 -- How a command, or a part of it, ends, against its definition.
-use Rattle.std.specs.Prelude.{◌≡◌, ℕ, Option, Some, None, Result, Ok, Err, ⊤}
+use Rattle.std.specs.Prelude.{◌≡◌, ◌≤◌, ℕ, Option, Some, None, Result, Ok, Err, ⊤}
 use Rattle.xa_outside.specs.Causes.{Rose}
 use Rattle.xa_outside.specs.Folder.{Files}
 use Rattle.xa_outside.specs.Taken.{Taken, Takes, TakesNone, TakesPrefix}
@@ -43,6 +43,12 @@ HasItsCause folder_before folder_now out_before out_now (Some folder_fault) = Ro
 HasItsCause folder_before folder_now out_before out_now (Some out_fault) = Rose out_before out_now
 HasItsCause folder_before folder_now out_before out_now (Some in_fault) = ⊥
 HasItsCause folder_before folder_now out_before out_now _ = ⊤
+
+-- no count of faults falls, and a fault has its cause
+pub record IsCaused (folder_before folder_now out_before out_now : ℕ) (ended : Option PlainFault) : Type 0 where
+  pub folder_later : folder_before ≤ folder_now
+  pub out_later : out_before ≤ out_now
+  pub cause : IsOfCommand folder_before folder_now out_before out_now ended
 
 -- a refusal is the defined one; a fault of the outside says nothing of the definition
 unfoldable pub IsDefined : {A : Type 0} → Result A Refusal → PlainFault → Type 0

@@ -1,7 +1,7 @@
 -- The input files of a command.
-use Rattle.std.specs.Prelude.{ℕ, List, length, nat_le, Result, Ok, Err, if◌then◌else◌}
+use Rattle.std.specs.Prelude.{ℕ, ◌^◌, ◌-◌, List, length, nat_le, Option, Some, None, Result, Ok, Err, if◌then◌else◌}
 use Rattle.std.specs.FinMap as map
-use Rattle.xa_outside.specs.Folder.{Files}
+use Rattle.xa_outside.specs.Folder.{Files, bytes_or_none}
 use Rattle.xarch_words.specs.Refusal.{PlainQuantity, Refusal, no_file, limit}
 use Rattle.xarch_steps.specs.Outcome.{and_then, or_refuse}
 
@@ -24,3 +24,8 @@ length_in files name quantity most = and_then (file_of files name) (λ bytes. at
 -- what the bytes of the file of this name are read as
 abbrev pub read_in : {A : Type 0} → Files → List ℕ → (List ℕ → Result A Refusal) → Result A Refusal
 read_in files name reading = and_then (file_of files name) reading
+
+-- the length of the file of this name, and the greatest of all lengths where files are not told
+abbrev pub size_in : Option Files → List ℕ → ℕ
+size_in None name = 2 ^ 64 - 1
+size_in (Some files) name = length (bytes_or_none (map.get files name))

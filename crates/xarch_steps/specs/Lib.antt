@@ -13,5 +13,6 @@ pub mod Stats
 pub mod Demo
 pub mod Step
 pub mod Ends
+pub mod Folders
 pub mod Ran
 pub mod Plausible

@@ -1,5 +1,5 @@
 -- What a call of the program did, against what is defined.
-use Rattle.std.specs.Prelude.{◌≡◌, ℕ, ◌<◌, ◌==◌, List, [], Option, Some, None, if◌then◌else◌, ⊤}
+use Rattle.std.specs.Prelude.{◌≡◌, ℕ, ◌+◌, ◌<◌, ◌==◌, List, [], Option, Some, None, if◌then◌else◌, ⊤}
 use Rattle.std.specs.Option.{option_map_or}
 use Rattle.xa_outside.specs.Causes.{Rose}
 use Rattle.xa_outside.specs.Folder.{Files}
@@ -10,6 +10,8 @@ use Rattle.xarch_words.specs.Lines.{fault_status, fault_line}
 use Rattle.xarch_words.specs.Refusal.{PlainFault, folder_fault, out_fault, in_fault, memory}
 use Rattle.xarch_steps.specs.Outcome.{Step}
 use Rattle.xarch_steps.specs.Ends.{TellsOnly}
+use Rattle.xarch_steps.specs.Folders.{Counts}
+use Rattle.xarch_steps.specs.Inputs.{size_in}
 
 -- 0 where it did what it should, else the status of its fault
 abbrev pub status_after : Option PlainFault → ℕ
@@ -46,39 +48,54 @@ pub record Said (answer : ℕ) (old new : Taken) (before now : ℕ) : Type 0 whe
   pub status : answer ≡ status_after fault
   pub line : Says old new before now (line_after fault)
 
+-- The name of the file that a command makes or replaces, if it does. A batch is no one command.
+abbrev pub made_name : PlainCommand → Option (List ℕ)
+made_name (norm spec doc) = None
+made_name (init archive spec) = Some archive
+made_name (add archive doc) = Some archive
+made_name (get archive i) = None
+made_name (history archive path) = None
+made_name (stats archive) = None
+made_name batch = None
+made_name (demo seed count archive) = Some archive
+
+-- How many bytes a command pulls at most: those of a specification and of a document at their limits, and those of an archive
+-- whole, each of them once.
+abbrev pub most_pulled : PlainCommand → Option Files → ℕ
+most_pulled (norm spec doc) told = 68157440
+most_pulled (init archive spec) told = 1048576
+most_pulled (add archive doc) told = size_in told archive + 67108864
+most_pulled (get archive i) told = size_in told archive
+most_pulled (history archive path) told = size_in told archive
+most_pulled (stats archive) told = size_in told archive
+most_pulled batch told = 0
+most_pulled (demo seed count archive) told = 0
+
+abbrev pub IsNoName : Option (List ℕ) → Type 0
+IsNoName None = ⊤
+IsNoName (Some name) = ⊥
+
 -- a command that only reads files, or no command at all
 abbrev pub OnlyReads : Option PlainCommand → Type 0
 OnlyReads None = ⊤
-OnlyReads (Some (norm spec doc)) = ⊤
-OnlyReads (Some (init archive spec)) = ⊥
-OnlyReads (Some (add archive doc)) = ⊥
-OnlyReads (Some (get archive i)) = ⊤
-OnlyReads (Some (history archive path)) = ⊤
-OnlyReads (Some (stats archive)) = ⊤
 OnlyReads (Some batch) = ⊥
-OnlyReads (Some (demo seed count archive)) = ⊥
+OnlyReads (Some command) = IsNoName (made_name command)
 
 -- a `demo` of too many documents
 abbrev pub IsLongDemo : Option PlainCommand → Type 0
-IsLongDemo None = ⊥
-IsLongDemo (Some (norm spec doc)) = ⊥
-IsLongDemo (Some (init archive spec)) = ⊥
-IsLongDemo (Some (add archive doc)) = ⊥
-IsLongDemo (Some (get archive i)) = ⊥
-IsLongDemo (Some (history archive path)) = ⊥
-IsLongDemo (Some (stats archive)) = ⊥
-IsLongDemo (Some batch) = ⊥
 IsLongDemo (Some (demo seed count archive)) = 1000 < count
+IsLongDemo _ = ⊥
 
 -- How many bytes a command pulls at most, where that is said of it: `norm` those of a specification and of a document at
 -- their limits, and words that are no command none.
 abbrev pub PullsAsSaid : Option PlainCommand → Numbers → Numbers → Type 0
 PullsAsSaid None before after = PullsAtMost 0 before after
 PullsAsSaid (Some (norm spec doc)) before after = PullsAtMost 68157440 before after
-PullsAsSaid (Some (init archive spec)) before after = ⊤
-PullsAsSaid (Some (add archive doc)) before after = ⊤
-PullsAsSaid (Some (get archive i)) before after = ⊤
-PullsAsSaid (Some (history archive path)) before after = ⊤
-PullsAsSaid (Some (stats archive)) before after = ⊤
-PullsAsSaid (Some batch) before after = ⊤
-PullsAsSaid (Some (demo seed count archive)) before after = ⊤
+PullsAsSaid (Some _) before after = ⊤
+
+-- What is pulled and drafted, from files that are told or not: nothing for words that are no command. Of a batch nothing is
+-- said.
+abbrev pub CountsAsSaid : Option PlainCommand → Option Files → Numbers → Numbers → Type 0
+CountsAsSaid None told before after = PullsAtMost 0 before after
+CountsAsSaid (Some batch) told before after = ⊤
+CountsAsSaid (Some command) told before after = Counts (made_name command) (most_pulled command told) before after

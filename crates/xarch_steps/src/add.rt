@@ -1,33 +1,34 @@
-#![tactic(auto, using(crate::proofs::Ending::endings), unfolding(crate::specs::Ends::IsInside, crate::specs::Ends::IsDefined, crate::specs::Readings::keyed_of))]
+#![tactic(auto, using(crate::proofs::Ending::endings), unfolding(crate::specs::Ends::IsInside, crate::specs::Ends::IsDefined))]
 
-ghost use Rattle.std.specs.Prelude.{◌≡◌, ◌≢◌, ◌⊎◌, ◌+◌, ◌<◌, ◌≤◌, ◌++◌, ◌∷◌, [], ℕ, List, Some, None, IfOk, IfErr, OnErr, length};
+ghost use Rattle.std.specs.Prelude.{◌≡◌, ◌+◌, ◌<◌, ◌≤◌, ◌++◌, ◌∷◌, [], ℕ, List, Some, Ok, IfOk, IfErr, length};
 ghost use Rattle.xa_outside.specs.Folder.{Files};
 ghost use Rattle.xa_outside.specs.Taken.{Taken};
+ghost use Rattle.jsonml_tree.specs.Data.{tree_depth};
+ghost use Rattle.jsonml_tree.specs.Fits.{IsElement, ItemsFit};
+ghost use Rattle.jsonml_tree.specs.LentView.{lent_tree_view};
+ghost use Rattle.jsonml_tree.specs.WellFormed.{IsWellFormed};
 ghost use Rattle.key_spec.specs.Data.{PlainRule};
 ghost use Rattle.key_spec.specs.View.{spec_view};
 ghost use Rattle.keyed_tree.specs.Data.{PlainKeyed};
-ghost use Rattle.keyed_tree.specs.Kids.{IsOrdered};
-ghost use Rattle.keyed_tree.specs.Proper.{IsElement};
 ghost use Rattle.keyed_tree.specs.View.{keyed_view};
-ghost use Rattle.keyed_tree.specs.WellFormed.{IsKeyedWellFormed};
-ghost use Rattle.archive_file.specs.KeyedBy.{IsKeyedBy};
 ghost use Rattle.archive_file.specs.Sound.{SoundAs};
 ghost use Rattle.xarch_words.specs.Commands.{add};
-ghost use Rattle.xarch_words.specs.Refusal as refusal;
 ghost use Rattle.xarch_words.specs.Refusal.{Refusal, refused};
 ghost use Rattle.xarch_words.specs.View.{fault_view};
-ghost use Rattle.xarch_steps.specs.Add.{room_behind};
-ghost use Rattle.xarch_steps.specs.Added.{Goes, IsMerging, IsTooLong};
-ghost use Rattle.xarch_steps.specs.Ends.{IsInside, IsOfFolder, Matches, fault_of};
+ghost use Rattle.xarch_steps.specs.Add.{added_behind, room_behind};
+ghost use Rattle.xarch_steps.specs.Added.{Goes, IsMerging, IsTooLong, IsVersionBy};
+ghost use Rattle.xarch_steps.specs.Ends.{IsCaused, IsInside, Matches, fault_of};
+ghost use Rattle.xarch_steps.specs.Folders.{Keeps, ReadsOnly};
+ghost use Rattle.xarch_steps.specs.Inputs.{file_length, read_in, size_in};
 ghost use Rattle.xarch_steps.specs.Outcome.{and_then};
 ghost use Rattle.xarch_steps.specs.Plausible.{MayBe, MayEnd, add_input};
 ghost use Rattle.xarch_steps.specs.Readings.{document_of, keyed_of};
 
-use crate::archives::{archive_from, archive_length, begin, file_from, header_from, store};
-use crate::inputs::{length_of, read_whole};
+use crate::archives::{archive_from, begin, file_from, header_from, store};
+use crate::inputs::{length_of, limited_length, read_whole};
 use crate::limits;
 use crate::readings::{doc_from, keyed_from};
-use archive_tree::Archive;
+use jsonml_tree::LentTree;
 use key_spec::Spec;
 use keyed_tree::Keyed;
 use nested_merge::merge;
@@ -42,11 +43,9 @@ pub(crate) fn run_add<F: Folder>(
     doc: &str,
     folder: &mut F,
 ) -> Result<(), Fault>
-    ensures refused { OnErr result (F.files folder.new ≡ F.files folder.old) }
-    ensures untold { F.files folder.old ≡ None → F.files folder.new ≡ None }
-    ensures draft_untold { F.draft folder.old ≡ None → F.draft folder.new ≡ None }
-    ensures folder_later { F.faults folder.old ≤ F.faults folder.new }
-    ensures cause { IsOfFolder (F.faults folder.old) (F.faults folder.new) (fault_of result) }
+    ensures keeps { Keeps F.files F.draft F.numbers (Some archive.now) (size_in (F.files folder.old) archive.now + 67108864)
+        folder.old folder.new (fault_of result) }
+    ensures caused { (out : ℕ) → IsCaused (F.faults folder.old) (F.faults folder.new) out out (fault_of result) }
     ensures may { (files : Files) (t : Taken) → F.files folder.old ≡ Some files
         → MayEnd (MayBe files (add archive.now doc.now)) (fault_of result) (F.files folder.new) t t }
 {
@@ -63,39 +62,87 @@ fn read_added<F: Folder>(
     doc: &str,
     folder: &mut F,
 ) -> Result<(Vec<u8>, Keyed), Fault>
-    ensures files { F.files folder.new ≡ F.files folder.old }
-    ensures draft { F.draft folder.new ≡ F.draft folder.old }
-    ensures later { F.faults folder.old ≤ F.faults folder.new }
-    ensures cause { IsOfFolder (F.faults folder.old) (F.faults folder.new) (fault_of result) }
+    ensures reads { ReadsOnly F.files F.draft F.numbers F.faults (size_in (F.files folder.old) archive.now + 67108864)
+        folder.old folder.new (fault_of result) }
     ensures told { (files : Files) → F.files folder.old ≡ Some files
         → Matches (λ r. (r.0.items, keyed_view r.1)) (add_input files archive.now doc.now) result }
     ensures goes { IfOk result (λ r. Goes r.0.items (keyed_view r.1)) }
 {
-    let length = archive_length(alloc, folder, archive)?;
-    let doc_length = length_of(alloc, folder, doc, Quantity::Document, limits::DOCUMENT)?;
+    let length = length_of(alloc, folder, archive)?;
+    let doc_length = limited_length(alloc, folder, doc, Quantity::Document, limits::DOCUMENT)?;
     let bytes = read_whole(alloc, folder, archive, length)?;
-    let (spec, n) = header_from(alloc, archive, &bytes)?;
-    let text = read_whole(alloc, folder, doc, doc_length)?;
-    let keyed = added_from(alloc, &spec, &text)?;
-    check_room(n)?;
+    let keyed = read_keyed(alloc, archive, &bytes, doc, doc_length, folder)?;
     Ok((bytes, keyed))
 }
 
-// The keyed tree of the document that some bytes spell, where it satisfies the keys, and what holds of it.
+// The keyed tree of the document in a file of this length, which goes behind the versions of the archive of this name in
+// these bytes.
+fn read_keyed<F: Folder>(
+    alloc: Global,
+    name: &str,
+    bytes: &[u8],
+    doc: &str,
+    length: u64,
+    folder: &mut F,
+) -> Result<Keyed, Fault>
+    requires { length ≤ 67108864 }
+    ensures reads { ReadsOnly F.files F.draft F.numbers F.faults 67108864 folder.old folder.new (fault_of result) }
+    ensures told { (files : Files) → F.files folder.old ≡ Some files → file_length files doc.now ≡ Ok length
+        → Matches keyed_view (added_behind files name.now doc.now bytes.now) result }
+    ensures goes { IfOk result (λ k. Goes bytes.now (keyed_view k)) }
+{
+    let (spec, n) = header_from(alloc, name, bytes)?;
+    let keyed = keyed_in(alloc, &spec, doc, length, folder)?;
+    check_room(n)?;
+    Ok(keyed)
+}
+
+// The keyed tree of the document in a file of this length.
+fn keyed_in<F: Folder>(
+    alloc: Global,
+    spec: &Spec,
+    doc: &str,
+    length: u64,
+    folder: &mut F,
+) -> Result<Keyed, Fault>
+    requires { length ≤ 67108864 }
+    ensures reads { ReadsOnly F.files F.draft F.numbers F.faults 67108864 folder.old folder.new (fault_of result) }
+    ensures told { (files : Files) → F.files folder.old ≡ Some files → file_length files doc.now ≡ Ok length
+        → Matches keyed_view (and_then (read_in files doc.now document_of) (keyed_of (spec_view spec.now))) result }
+    ensures version { IfOk result (λ k. IsVersionBy (spec_view spec.now) (keyed_view k)) }
+{
+    let text = read_whole(alloc, folder, doc, length)?;
+    added_from(alloc, spec, &text)
+}
+
+// The keyed tree of the document that some bytes spell, where it satisfies the keys.
 //
 // The tree owns its texts: the document is let go here, before the archive is decoded.
 fn added_from(alloc: Global, spec: &Spec, text: &[u8]) -> Result<Keyed, Fault>
     requires { length text.now ≤ 67108864 }
     ensures cause { IsInside (fault_of result) }
     ensures told { Matches keyed_view (and_then (document_of text.now) (keyed_of (spec_view spec.now))) result }
-    ensures element { IfOk result (λ k. IsElement (keyed_view k)) }
-    ensures ordered { IfOk result (λ k. IsOrdered (keyed_view k)) }
-    ensures well_formed { IfOk result (λ k. IsKeyedWellFormed (keyed_view k)) }
-    ensures keyed { IfOk result (λ k. IsKeyedBy (spec_view spec.now) (keyed_view k)) }
+    ensures version { IfOk result (λ k. IsVersionBy (spec_view spec.now) (keyed_view k)) }
 {
     let doc = doc_from(alloc, text)?;
-    let keyed = keyed_from(alloc, spec, &doc)?;
-    Ok(keyed.own(alloc)?)
+    owned_from(alloc, spec, &doc)
+}
+
+// The keyed tree of a document that satisfies the keys, with texts of its own.
+fn owned_from(alloc: Global, spec: &Spec, doc: &LentTree<'_>) -> Result<Keyed, Fault>
+    requires element { IsElement (lent_tree_view doc.now) }
+    requires items_fit { ItemsFit (lent_tree_view doc.now) }
+    requires well_formed { IsWellFormed (lent_tree_view doc.now) }
+    requires shallow { tree_depth (lent_tree_view doc.now) ≤ 120 }
+    ensures cause { IsInside (fault_of result) }
+    ensures told { Matches keyed_view (keyed_of (spec_view spec.now) (lent_tree_view doc.now)) result }
+    ensures version { IfOk result (λ k. IsVersionBy (spec_view spec.now) (keyed_view k)) }
+{
+    let keyed = keyed_from(alloc, spec, doc)?;
+    match keyed.own(alloc) {
+        Ok(keyed) => Ok(keyed),
+        Err(_) => Err(Fault::Memory),
+    }
 }
 
 /// Nothing, where an archive of n versions may have one more.
@@ -118,7 +165,7 @@ fn check_room(n: u32) -> Result<(), Fault>
 fn merged_file(alloc: Global, name: &str, bytes: &[u8], new: &Keyed) -> Result<Vec<u8>, Fault>
     requires { Goes bytes.now (keyed_view new.now) }
     ensures cause { IsInside (fault_of result) }
-    ensures refused { IfErr result (λ f. IsMerging name.now (fault_view f)) }
+    ensures refused { IfErr result (λ f. IsMerging name.now bytes.now (fault_view f)) }
     ensures sound { (rules : List PlainRule) (vs : List PlainKeyed) → SoundAs rules vs bytes.now
         → IfOk result (λ v. SoundAs rules (vs ++ keyed_view new.now ∷ []) v.items) }
     ensures too_long { (rules : List PlainRule) (vs : List PlainKeyed) (q : Refusal) → SoundAs rules vs bytes.now

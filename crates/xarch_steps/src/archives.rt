@@ -1,6 +1,6 @@
 #![tactic(auto, using(crate::proofs::Ending::endings), unfolding(crate::specs::Ends::IsInside, crate::specs::Ends::IsOfFolder, crate::specs::Ends::IsDefined))]
 
-ghost use Rattle.std.specs.Prelude.{◌≡◌, ◌≤◌, ℕ, List, Some, None, Ok, Err, IfOk, IfErr, OnOk, OnErr, IsErr};
+ghost use Rattle.std.specs.Prelude.{◌≡◌, ◌≤◌, ℕ, List, Some, IfOk, IfErr, OnOk};
 ghost use Rattle.std.specs.FinMap as map;
 ghost use Rattle.xa_outside.specs.Folder.{Files, committed};
 ghost use Rattle.key_spec.specs.Data.{PlainRule};
@@ -16,12 +16,12 @@ ghost use Rattle.xarch_words.specs.Refusal as refusal;
 ghost use Rattle.xarch_words.specs.Refusal.{folder_fault};
 ghost use Rattle.xarch_words.specs.View.{fault_view};
 ghost use Rattle.xarch_steps.specs.Archives.{IsBlank, IsDrafted, IsRefusal, NoRefusal, free_in};
-ghost use Rattle.xarch_steps.specs.Ends.{IsInside, IsOfFolder, Matches, TellsOnly, fault_of};
-ghost use Rattle.xarch_steps.specs.Inputs;
+ghost use Rattle.xarch_steps.specs.Ends.{IsCaused, IsInside, Matches, TellsOnly, fault_of};
+ghost use Rattle.xarch_steps.specs.Folders.{Begins, ReadsOnly, WritesOnly};
 ghost use Rattle.xarch_steps.specs.Outcome.{or_refuse};
 
-use crate::inputs::no_file;
 use crate::limits;
+use crate::names::{damaged, exists};
 use archive_file::{EncodeFault, FileFault, decode_file, encode_file, header_of};
 use archive_tree::Archive;
 use key_spec::Spec;
@@ -31,11 +31,7 @@ use xarch_words::{Fault, Quantity};
 
 /// Empties the draft, as each command does first that makes a file.
 pub(crate) fn begin<F: Folder>(folder: &mut F) -> Result<(), Fault>
-    ensures files { F.files folder.new ≡ F.files folder.old }
-    ensures draft { OnOk result (IsBlank (F.draft folder.new)) }
-    ensures draft_untold { F.draft folder.old ≡ None → F.draft folder.new ≡ None }
-    ensures later { F.faults folder.old ≤ F.faults folder.new }
-    ensures cause { IsOfFolder (F.faults folder.old) (F.faults folder.new) (fault_of result) }
+    ensures begins { Begins F.files F.draft F.numbers F.faults folder.old folder.new (fault_of result) }
     ensures fault { IfErr result (λ f. fault_view f ≡ folder_fault) }
 {
     match folder.begin() {
@@ -46,43 +42,12 @@ pub(crate) fn begin<F: Folder>(folder: &mut F) -> Result<(), Fault>
 
 /// Nothing, where the name has no file yet.
 pub(crate) fn check_free<F: Folder>(alloc: Global, folder: &mut F, name: &str) -> Result<(), Fault>
-    ensures files { F.files folder.new ≡ F.files folder.old }
-    ensures draft { F.draft folder.new ≡ F.draft folder.old }
-    ensures later { F.faults folder.old ≤ F.faults folder.new }
-    ensures cause { IsOfFolder (F.faults folder.old) (F.faults folder.new) (fault_of result) }
+    ensures reads { ReadsOnly F.files F.draft F.numbers F.faults 0 folder.old folder.new (fault_of result) }
     ensures told { (files : Files) → F.files folder.old ≡ Some files → Matches (λ _. tt) (free_in files name.now) result }
 {
     match folder.length(name) {
         Ok(None) => Ok(()),
-        Ok(Some(_)) => exists(alloc, name),
-        Err(_) => Err(Fault::FolderFault),
-    }
-}
-
-fn exists(alloc: Global, name: &str) -> Result<(), Fault>
-    ensures cause { IsInside (fault_of result) }
-    ensures told { Matches {A = Unit {0}} (λ _. tt) (Err (refusal.exists name.now)) result }
-    ensures refused { IsErr result }
-{
-    let name = String::from_str(alloc, name)?;
-    Err(Fault::Exists { name })
-}
-
-/// The length of the file of an archive, whatever it is.
-pub(crate) fn archive_length<F: Folder>(
-    alloc: Global,
-    folder: &mut F,
-    name: &str,
-) -> Result<u64, Fault>
-    ensures files { F.files folder.new ≡ F.files folder.old }
-    ensures draft { F.draft folder.new ≡ F.draft folder.old }
-    ensures later { F.faults folder.old ≤ F.faults folder.new }
-    ensures cause { IsOfFolder (F.faults folder.old) (F.faults folder.new) (fault_of result) }
-    ensures told { (files : Files) → F.files folder.old ≡ Some files → Matches (λ n. n) (Inputs.file_length files name.now) result }
-{
-    match folder.length(name) {
-        Ok(Some(length)) => Ok(length),
-        Ok(None) => no_file(alloc, name),
+        Ok(Some(_)) => Err(exists(alloc, name)),
         Err(_) => Err(Fault::FolderFault),
     }
 }
@@ -90,12 +55,10 @@ pub(crate) fn archive_length<F: Folder>(
 /// Makes the bytes the file of this name.
 pub(crate) fn store<F: Folder>(folder: &mut F, name: &str, bytes: &[u8]) -> Result<(), Fault>
     requires blank { IsBlank (F.draft folder.old) }
-    ensures stored { (files : Files) → F.files folder.old ≡ Some files → OnOk result (TellsOnly (F.files folder.new) (map.insert files name.now bytes.now)) }
-    ensures kept { OnErr result (F.files folder.new ≡ F.files folder.old) }
-    ensures untold { F.files folder.old ≡ None → F.files folder.new ≡ None }
-    ensures draft_untold { F.draft folder.old ≡ None → F.draft folder.new ≡ None }
-    ensures later { F.faults folder.old ≤ F.faults folder.new }
-    ensures cause { IsOfFolder (F.faults folder.old) (F.faults folder.new) (fault_of result) }
+    ensures writes { WritesOnly F.files F.draft F.numbers folder.old folder.new (fault_of result) }
+    ensures caused { (out : ℕ) → IsCaused (F.faults folder.old) (F.faults folder.new) out out (fault_of result) }
+    ensures stored { (files : Files) → F.files folder.old ≡ Some files
+        → OnOk result (TellsOnly (F.files folder.new) (map.insert files name.now bytes.now)) }
     ensures fault { IfErr result (λ f. fault_view f ≡ folder_fault) }
 {
     draft(folder, bytes)?;
@@ -105,11 +68,10 @@ pub(crate) fn store<F: Folder>(folder: &mut F, name: &str, bytes: &[u8]) -> Resu
 /// Adds the bytes to a draft that is empty.
 pub(crate) fn draft<F: Folder>(folder: &mut F, bytes: &[u8]) -> Result<(), Fault>
     requires blank { IsBlank (F.draft folder.old) }
+    ensures writes { WritesOnly F.files F.draft F.numbers folder.old folder.new (fault_of result) }
+    ensures caused { (out : ℕ) → IsCaused (F.faults folder.old) (F.faults folder.new) out out (fault_of result) }
     ensures drafted { OnOk result (IsDrafted (F.draft folder.new) bytes.now) }
     ensures files { F.files folder.new ≡ F.files folder.old }
-    ensures draft_untold { F.draft folder.old ≡ None → F.draft folder.new ≡ None }
-    ensures later { F.faults folder.old ≤ F.faults folder.new }
-    ensures cause { IsOfFolder (F.faults folder.old) (F.faults folder.new) (fault_of result) }
     ensures fault { IfErr result (λ f. fault_view f ≡ folder_fault) }
 {
     match folder.append(bytes) {
@@ -120,11 +82,9 @@ pub(crate) fn draft<F: Folder>(folder: &mut F, bytes: &[u8]) -> Result<(), Fault
 
 /// Makes the draft the file of this name.
 pub(crate) fn commit<F: Folder>(folder: &mut F, name: &str) -> Result<(), Fault>
+    ensures writes { WritesOnly F.files F.draft F.numbers folder.old folder.new (fault_of result) }
+    ensures caused { (out : ℕ) → IsCaused (F.faults folder.old) (F.faults folder.new) out out (fault_of result) }
     ensures committed { OnOk result (F.files folder.new ≡ committed (F.files folder.old) (F.draft folder.old) name.now) }
-    ensures kept { OnErr result (F.files folder.new ≡ F.files folder.old) }
-    ensures draft_untold { F.draft folder.old ≡ None → F.draft folder.new ≡ None }
-    ensures later { F.faults folder.old ≤ F.faults folder.new }
-    ensures cause { IsOfFolder (F.faults folder.old) (F.faults folder.new) (fault_of result) }
     ensures fault { IfErr result (λ f. fault_view f ≡ folder_fault) }
 {
     match folder.commit(name) {
@@ -132,7 +92,6 @@ pub(crate) fn commit<F: Folder>(folder: &mut F, name: &str) -> Result<(), Fault>
         Err(_) => Err(Fault::FolderFault),
     }
 }
-
 /// The specification and the number of versions of the archive of this name, whose bytes these are.
 pub(crate) fn header_from(alloc: Global, name: &str, bytes: &[u8]) -> Result<(Spec, u32), Fault>
     ensures cause { IsInside (fault_of result) }
@@ -141,10 +100,7 @@ pub(crate) fn header_from(alloc: Global, name: &str, bytes: &[u8]) -> Result<(Sp
 {
     match header_of(alloc, bytes) {
         Ok(header) => Ok(header),
-        Err(FileFault::Damage) => {
-            let name = String::from_str(alloc, name)?;
-            Err(Fault::Damaged { name })
-        }
+        Err(FileFault::Damage) => Err(damaged(alloc, name)),
         Err(FileFault::Memory) => Err(Fault::Memory),
     }
 }
@@ -157,18 +113,17 @@ pub(crate) fn archive_from(
 ) -> Result<(Spec, Archive), Fault>
     ensures cause { IsInside (fault_of result) }
     ensures damaged { IfErr result (λ f. IsRefusal (refusal.damaged name.now) (fault_view f)) }
-    ensures sound { IfOk result (λ r. (vs : List PlainKeyed) → ArchiveOf vs (archive_view r.1) → SoundAs (spec_view r.0) vs bytes.now) }
+    ensures sound { IfOk result (λ r. (vs : List PlainKeyed) → ArchiveOf vs (archive_view r.1)
+        → SoundAs (spec_view r.0) vs bytes.now) }
     ensures only { (rules : List PlainRule) (vs : List PlainKeyed) → SoundAs rules vs bytes.now
         → IfOk result (λ r. (spec_view r.0 ≡ rules) × ArchiveOf vs (archive_view r.1)) }
-    ensures reads { (rules : List PlainRule) (vs : List PlainKeyed) → SoundAs rules vs bytes.now → IfErr result (λ f. NoRefusal (fault_view f)) }
+    ensures reads { (rules : List PlainRule) (vs : List PlainKeyed) → SoundAs rules vs bytes.now
+        → IfErr result (λ f. NoRefusal (fault_view f)) }
     ensures alike { IfOk result (λ r. (vs : List PlainKeyed) → AreKeyedBy (spec_view r.0) vs → AllAlike vs) }
 {
     match decode_file(alloc, bytes) {
         Ok(read) => Ok(read),
-        Err(FileFault::Damage) => {
-            let name = String::from_str(alloc, name)?;
-            Err(Fault::Damaged { name })
-        }
+        Err(FileFault::Damage) => Err(damaged(alloc, name)),
         Err(FileFault::Memory) => Err(Fault::Memory),
     }
 }

@@ -1,6 +1,6 @@
 #![tactic(auto, using(crate::proofs::Ending::endings), unfolding(crate::specs::Ends::IsInside, crate::specs::Ends::IsOfFolder, crate::specs::Ends::IsDefined))]
 
-ghost use Rattle.std.specs.Prelude.{◌≡◌, ◌≤◌, ◌<◌, ◌+◌, ℕ, List, Some, None, IfOk, IfErr, OnErr, OnOk};
+ghost use Rattle.std.specs.Prelude.{◌≡◌, ◌≤◌, ◌<◌, ◌+◌, ℕ, List, Some, Ok, IfOk, IfErr, OnOk};
 ghost use Rattle.xa_outside.specs.Folder.{Files};
 ghost use Rattle.jsonml_tree.specs.View.{tree_view};
 ghost use Rattle.key_spec.specs.View.{spec_view};
@@ -16,9 +16,10 @@ ghost use Rattle.xarch_gen.specs.Company.{company_rules};
 ghost use Rattle.xarch_words.specs.Refusal as refusal;
 ghost use Rattle.xarch_words.specs.Refusal.{Refusal, refused};
 ghost use Rattle.xarch_words.specs.View.{fault_view};
-ghost use Rattle.xarch_steps.specs.Archives.{IsBlank, IsRefusal, free_in};
-ghost use Rattle.xarch_steps.specs.Demo.{DemoIs, IsSampleArchive, IsSampleFile, samples};
-ghost use Rattle.xarch_steps.specs.Ends.{IsInside, IsOfCommand, IsOfFolder, Matches, fault_of};
+ghost use Rattle.xarch_steps.specs.Archives.{IsBlank, IsRefusal};
+ghost use Rattle.xarch_steps.specs.Demo.{DemoIs, IsSampleArchive, IsSampleFile, MakesOrNone, samples, told_and_stored};
+ghost use Rattle.xarch_steps.specs.Ends.{IsCaused, IsInside, Matches, fault_of};
+ghost use Rattle.xarch_steps.specs.Folders.{Keeps, WritesOnly};
 ghost use Rattle.xarch_steps.specs.Inputs;
 ghost use Rattle.xarch_steps.specs.Plausible.{MayEnd};
 
@@ -47,22 +48,56 @@ pub(crate) fn run_demo<F: Folder, O: Sink>(
     folder: &mut F,
     out: &mut O,
 ) -> Result<(), Fault>
-    ensures refused { OnErr result (F.files folder.new ≡ F.files folder.old) }
-    ensures untold { F.files folder.old ≡ None → F.files folder.new ≡ None }
-    ensures draft_untold { F.draft folder.old ≡ None → F.draft folder.new ≡ None }
-    ensures folder_later { F.faults folder.old ≤ F.faults folder.new }
-    ensures out_later { O.faults out.old ≤ O.faults out.new }
-    ensures cause { IsOfCommand (F.faults folder.old) (F.faults folder.new) (O.faults out.old) (O.faults out.new) (fault_of result) }
+    ensures keeps { Keeps F.files F.draft F.numbers (Some archive.now) 0 folder.old folder.new (fault_of result) }
+    ensures caused { IsCaused (F.faults folder.old) (F.faults folder.new) (O.faults out.old) (O.faults out.new) (fault_of result) }
     ensures may { (files : Files) → F.files folder.old ≡ Some files
         → MayEnd (DemoIs files seed count archive.now) (fault_of result) (F.files folder.new) (O.taken out.old) (O.taken out.new) }
     ensures many { 1000 < count → fault_of result ≡ Some (refused (refusal.limit refusal.demo 1000)) }
 {
     check_few(count)?;
-    begin_new(alloc, folder, archive)?;
+    begin(folder)?;
+    check_free(alloc, folder, archive)?;
+    make_sample(alloc, seed, count, archive, folder, out)
+}
+
+// Writes the counts of the archive of these documents, and then makes it.
+fn make_sample<F: Folder, O: Sink>(
+    alloc: Global,
+    seed: u32,
+    count: u32,
+    archive: &str,
+    folder: &mut F,
+    out: &mut O,
+) -> Result<(), Fault>
+    requires few { count ≤ 1000 }
+    requires blank { IsBlank (F.draft folder.old) }
+    ensures writes { WritesOnly F.files F.draft F.numbers folder.old folder.new (fault_of result) }
+    ensures caused { IsCaused (F.faults folder.old) (F.faults folder.new) (O.faults out.old) (O.faults out.new) (fault_of result) }
+    ensures may { (files : Files) → F.files folder.old ≡ Some files
+        → MayEnd (MakesOrNone files archive.now seed count) (fault_of result) (F.files folder.new) (O.taken out.old) (O.taken out.new) }
+{
     let (bytes, counts) = sample_file(alloc, seed, count)?;
-    draft(folder, &bytes)?;
-    write_counts(&counts, out)?;
-    commit(folder, archive)
+    tell_then_store(archive, &bytes, &counts, folder, out)
+}
+
+// Drafts the bytes, writes the counts, and makes the draft the file of this name.
+fn tell_then_store<F: Folder, O: Sink>(
+    name: &str,
+    bytes: &[u8],
+    counts: &Counts,
+    folder: &mut F,
+    out: &mut O,
+) -> Result<(), Fault>
+    requires blank { IsBlank (F.draft folder.old) }
+    ensures writes { WritesOnly F.files F.draft F.numbers folder.old folder.new (fault_of result) }
+    ensures caused { IsCaused (F.faults folder.old) (F.faults folder.new) (O.faults out.old) (O.faults out.new) (fault_of result) }
+    ensures may { (files : Files) → F.files folder.old ≡ Some files
+        → MayEnd (λ r. r ≡ Ok (told_and_stored files name.now bytes.now (counts_view counts.now)))
+            (fault_of result) (F.files folder.new) (O.taken out.old) (O.taken out.new) }
+{
+    draft(folder, bytes)?;
+    write_counts(counts, out)?;
+    commit(folder, name)
 }
 
 /// Nothing, where there are not too many documents. It takes no memory.
@@ -74,19 +109,6 @@ fn check_few(count: u32) -> Result<(), Fault>
 {
     at_most(u64::from(count), Quantity::Demo, limits::DEMO)?;
     Ok(())
-}
-
-/// Empties the draft for an archive whose name has no file yet.
-fn begin_new<F: Folder>(alloc: Global, folder: &mut F, name: &str) -> Result<(), Fault>
-    ensures files { F.files folder.new ≡ F.files folder.old }
-    ensures draft { OnOk result (IsBlank (F.draft folder.new)) }
-    ensures draft_untold { F.draft folder.old ≡ None → F.draft folder.new ≡ None }
-    ensures later { F.faults folder.old ≤ F.faults folder.new }
-    ensures cause { IsOfFolder (F.faults folder.old) (F.faults folder.new) (fault_of result) }
-    ensures told { (files : Files) → F.files folder.old ≡ Some files → Matches (λ _. tt) (free_in files name.now) result }
-{
-    begin(folder)?;
-    check_free(alloc, folder, name)
 }
 
 /// The file of the first documents of a seed, and what is counted of it.

@@ -1,6 +1,6 @@
 #![tactic(auto, using(crate::proofs::Ending::endings), unfolding(crate::specs::Ends::IsInside, crate::specs::Ends::IsDefined))]
 
-ghost use Rattle.std.specs.Prelude.{◌≡◌, ◌≤◌, ℕ, List, Some, IfOk, IfErr, IsSome};
+ghost use Rattle.std.specs.Prelude.{◌≡◌, ℕ, List, Some, None, IfOk, IfErr, IsSome};
 ghost use Rattle.xa_outside.specs.Folder.{Files};
 ghost use Rattle.key_spec.specs.Data.{PlainRule};
 ghost use Rattle.keyed_tree.specs.Data.{PlainKeyed};
@@ -12,12 +12,15 @@ ghost use Rattle.xarch_words.specs.Commands.{get};
 ghost use Rattle.xarch_words.specs.Refusal as refusal;
 ghost use Rattle.xarch_words.specs.View.{fault_view};
 ghost use Rattle.xarch_steps.specs.Archives.{IsRefusal, NoRefusal};
-ghost use Rattle.xarch_steps.specs.Ends.{IsInside, IsOfCommand, IsOfFolder, Matches, fault_of};
+ghost use Rattle.xarch_steps.specs.Ends.{IsCaused, IsInside, Matches, fault_of};
+ghost use Rattle.xarch_steps.specs.Folders.{Keeps, ReadsOnly};
+ghost use Rattle.xarch_steps.specs.Inputs.{size_in};
 ghost use Rattle.xarch_steps.specs.Outcome.{and_then, or_refuse};
 ghost use Rattle.xarch_steps.specs.Plausible.{MayBe, MayEnd, get_input, is_version};
 
-use crate::archives::{archive_from, archive_length};
-use crate::inputs::read_whole;
+use crate::archives::archive_from;
+use crate::inputs::read_file;
+use crate::names::damaged;
 use crate::put::write_keyed;
 use archive_file::fixed_of;
 use keyed_tree::Keyed;
@@ -33,11 +36,9 @@ pub(crate) fn run_get<F: Folder, O: Sink>(
     folder: &mut F,
     out: &mut O,
 ) -> Result<(), Fault>
-    ensures files { F.files folder.new ≡ F.files folder.old }
-    ensures draft { F.draft folder.new ≡ F.draft folder.old }
-    ensures folder_later { F.faults folder.old ≤ F.faults folder.new }
-    ensures out_later { O.faults out.old ≤ O.faults out.new }
-    ensures cause { IsOfCommand (F.faults folder.old) (F.faults folder.new) (O.faults out.old) (O.faults out.new) (fault_of result) }
+    ensures keeps { Keeps F.files F.draft F.numbers None (size_in (F.files folder.old) archive.now)
+        folder.old folder.new (fault_of result) }
+    ensures caused { IsCaused (F.faults folder.old) (F.faults folder.new) (O.faults out.old) (O.faults out.new) (fault_of result) }
     ensures may { (files : Files) → F.files folder.old ≡ Some files
         → MayEnd (MayBe files (get archive.now version)) (fault_of result) (F.files folder.new) (O.taken out.old) (O.taken out.new) }
 {
@@ -53,15 +54,12 @@ fn read_counted<F: Folder>(
     version: u32,
     folder: &mut F,
 ) -> Result<Vec<u8>, Fault>
-    ensures files { F.files folder.new ≡ F.files folder.old }
-    ensures draft { F.draft folder.new ≡ F.draft folder.old }
-    ensures later { F.faults folder.old ≤ F.faults folder.new }
-    ensures cause { IsOfFolder (F.faults folder.old) (F.faults folder.new) (fault_of result) }
+    ensures reads { ReadsOnly F.files F.draft F.numbers F.faults (size_in (F.files folder.old) archive.now)
+        folder.old folder.new (fault_of result) }
     ensures told { (files : Files) → F.files folder.old ≡ Some files
         → Matches (λ v. v.items) (get_input files archive.now version) result }
 {
-    let length = archive_length(alloc, folder, archive)?;
-    let bytes = read_whole(alloc, folder, archive, length)?;
+    let bytes = read_file(alloc, folder, archive)?;
     check_version(alloc, archive, &bytes, version)?;
     Ok(bytes)
 }
@@ -74,10 +72,7 @@ fn check_version(alloc: Global, name: &str, bytes: &[u8], version: u32) -> Resul
     match fixed_of(bytes) {
         Some(n) if 1 <= version && version <= n => Ok(()),
         Some(n) => Err(Fault::NoVersion { i: version, n }),
-        None => {
-            let name = String::from_str(alloc, name)?;
-            Err(Fault::Damaged { name })
-        }
+        None => Err(damaged(alloc, name)),
     }
 }
 
@@ -87,7 +82,8 @@ fn version_from(alloc: Global, name: &str, bytes: &[u8], version: u32) -> Result
     ensures damaged { IfErr result (λ f. IsRefusal (refusal.damaged name.now) (fault_view f)) }
     ensures item { (rules : List PlainRule) (vs : List PlainKeyed) → SoundAs rules vs bytes.now
         → IfOk result (λ k. version_of vs version ≡ Some (keyed_view k)) }
-    ensures reads { (rules : List PlainRule) (vs : List PlainKeyed) → SoundAs rules vs bytes.now → IsSome (version_of vs version)
+    ensures reads { (rules : List PlainRule) (vs : List PlainKeyed) → SoundAs rules vs bytes.now
+        → IsSome (version_of vs version)
         → IfErr result (λ f. NoRefusal (fault_view f)) }
 {
     let (_, archive) = archive_from(alloc, name, bytes)?;
@@ -95,9 +91,6 @@ fn version_from(alloc: Global, name: &str, bytes: &[u8], version: u32) -> Result
         Some(keyed) => Ok(keyed),
 
         // Its header counts other versions than it has.
-        None => {
-            let name = String::from_str(alloc, name)?;
-            Err(Fault::Damaged { name })
-        }
+        None => Err(damaged(alloc, name)),
     }
 }

@@ -1,6 +1,6 @@
 #![tactic(auto, using(crate::proofs::Ending::endings), unfolding(crate::specs::Ends::IsInside, crate::specs::Ends::IsDefined, crate::specs::History::labels_of))]
 
-ghost use Rattle.std.specs.Prelude.{◌≡◌, ◌≤◌, ◌++◌, ℕ, List, Some, IfOk, IfErr, map, codes, string_bytes};
+ghost use Rattle.std.specs.Prelude.{◌≡◌, ◌++◌, ℕ, List, Some, None, IfOk, IfErr, map, codes, string_bytes};
 ghost use Rattle.version_set.specs.Members.{members};
 ghost use Rattle.version_set.specs.Text.{set_text};
 ghost use Rattle.version_set.specs.View.{pairs_of};
@@ -15,12 +15,14 @@ ghost use Rattle.xarch_words.specs.Commands.{history};
 ghost use Rattle.xarch_words.specs.Refusal as refusal;
 ghost use Rattle.xarch_words.specs.View.{fault_view};
 ghost use Rattle.xarch_steps.specs.Archives.{IsRefusal, NoRefusal};
-ghost use Rattle.xarch_steps.specs.Ends.{IsInside, IsOfCommand, IsOfFolder, Matches, fault_of};
+ghost use Rattle.xarch_steps.specs.Ends.{IsCaused, IsInside, Matches, fault_of};
+ghost use Rattle.xarch_steps.specs.Folders.{Keeps, ReadsOnly};
 ghost use Rattle.xarch_steps.specs.History.{labels_of};
+ghost use Rattle.xarch_steps.specs.Inputs.{size_in};
 ghost use Rattle.xarch_steps.specs.Plausible.{MayBe, MayEnd, history_input};
 
-use crate::archives::{archive_from, archive_length, header_from};
-use crate::inputs::read_whole;
+use crate::archives::{archive_from, header_from};
+use crate::inputs::read_file;
 use crate::put::write_bytes;
 use key_rules::{PathFault, read_path};
 use key_spec::Spec;
@@ -38,11 +40,9 @@ pub(crate) fn run_history<F: Folder, O: Sink>(
     folder: &mut F,
     out: &mut O,
 ) -> Result<(), Fault>
-    ensures files { F.files folder.new ≡ F.files folder.old }
-    ensures draft { F.draft folder.new ≡ F.draft folder.old }
-    ensures folder_later { F.faults folder.old ≤ F.faults folder.new }
-    ensures out_later { O.faults out.old ≤ O.faults out.new }
-    ensures cause { IsOfCommand (F.faults folder.old) (F.faults folder.new) (O.faults out.old) (O.faults out.new) (fault_of result) }
+    ensures keeps { Keeps F.files F.draft F.numbers None (size_in (F.files folder.old) archive.now)
+        folder.old folder.new (fault_of result) }
+    ensures caused { IsCaused (F.faults folder.old) (F.faults folder.new) (O.faults out.old) (O.faults out.new) (fault_of result) }
     ensures may { (files : Files) → F.files folder.old ≡ Some files
         → MayEnd (MayBe files (history archive.now path.now)) (fault_of result) (F.files folder.new) (O.taken out.old) (O.taken out.new) }
 {
@@ -59,15 +59,12 @@ fn read_asked<F: Folder>(
     path: &str,
     folder: &mut F,
 ) -> Result<(Vec<u8>, Vec<Label>), Fault>
-    ensures files { F.files folder.new ≡ F.files folder.old }
-    ensures draft { F.draft folder.new ≡ F.draft folder.old }
-    ensures later { F.faults folder.old ≤ F.faults folder.new }
-    ensures cause { IsOfFolder (F.faults folder.old) (F.faults folder.new) (fault_of result) }
+    ensures reads { ReadsOnly F.files F.draft F.numbers F.faults (size_in (F.files folder.old) archive.now)
+        folder.old folder.new (fault_of result) }
     ensures told { (files : Files) → F.files folder.old ≡ Some files
         → Matches (λ r. (r.0.items, map label_view r.1.items)) (history_input files archive.now path.now) result }
 {
-    let length = archive_length(alloc, folder, archive)?;
-    let bytes = read_whole(alloc, folder, archive, length)?;
+    let bytes = read_file(alloc, folder, archive)?;
     let (spec, _) = header_from(alloc, archive, &bytes)?;
     let labels = labels_from(alloc, &spec, path)?;
     Ok((bytes, labels))

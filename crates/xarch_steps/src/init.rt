@@ -1,15 +1,16 @@
 #![tactic(auto, using(crate::proofs::Ending::endings))]
 
-ghost use Rattle.std.specs.Prelude.{◌≡◌, ◌≤◌, Some, None, OnErr};
+ghost use Rattle.std.specs.Prelude.{◌≡◌, ℕ, Some};
 ghost use Rattle.xa_outside.specs.Folder.{Files};
 ghost use Rattle.xa_outside.specs.Taken.{Taken};
 ghost use Rattle.key_spec.specs.View.{spec_view};
-ghost use Rattle.xarch_steps.specs.Ends.{IsOfFolder, Matches, fault_of};
+ghost use Rattle.xarch_steps.specs.Ends.{IsCaused, Matches, fault_of};
+ghost use Rattle.xarch_steps.specs.Folders.{Keeps, ReadsOnly};
 ghost use Rattle.xarch_steps.specs.Init.{InitIs, init_rules};
 ghost use Rattle.xarch_steps.specs.Plausible.{MayEnd};
 
 use crate::archives::{begin, check_free, file_from, store};
-use crate::inputs::length_of;
+use crate::inputs::limited_length;
 use crate::limits;
 use crate::readings::read_spec;
 use archive_tree::Archive;
@@ -25,11 +26,8 @@ pub(crate) fn run_init<F: Folder>(
     spec: &str,
     folder: &mut F,
 ) -> Result<(), Fault>
-    ensures refused { OnErr result (F.files folder.new ≡ F.files folder.old) }
-    ensures untold { F.files folder.old ≡ None → F.files folder.new ≡ None }
-    ensures draft_untold { F.draft folder.old ≡ None → F.draft folder.new ≡ None }
-    ensures folder_later { F.faults folder.old ≤ F.faults folder.new }
-    ensures cause { IsOfFolder (F.faults folder.old) (F.faults folder.new) (fault_of result) }
+    ensures keeps { Keeps F.files F.draft F.numbers (Some archive.now) 1048576 folder.old folder.new (fault_of result) }
+    ensures caused { (out : ℕ) → IsCaused (F.faults folder.old) (F.faults folder.new) out out (fault_of result) }
     ensures may { (files : Files) (t : Taken) → F.files folder.old ≡ Some files
         → MayEnd (InitIs files archive.now spec.now) (fault_of result) (F.files folder.new) t t }
 {
@@ -46,14 +44,12 @@ fn new_rules<F: Folder>(
     spec: &str,
     folder: &mut F,
 ) -> Result<Spec, Fault>
-    ensures files { F.files folder.new ≡ F.files folder.old }
-    ensures draft { F.draft folder.new ≡ F.draft folder.old }
-    ensures later { F.faults folder.old ≤ F.faults folder.new }
-    ensures cause { IsOfFolder (F.faults folder.old) (F.faults folder.new) (fault_of result) }
-    ensures told { (files : Files) → F.files folder.old ≡ Some files → Matches spec_view (init_rules files archive.now spec.now) result }
+    ensures reads { ReadsOnly F.files F.draft F.numbers F.faults 1048576 folder.old folder.new (fault_of result) }
+    ensures told { (files : Files) → F.files folder.old ≡ Some files
+        → Matches spec_view (init_rules files archive.now spec.now) result }
 {
     check_free(alloc, folder, archive)?;
-    let length = length_of(
+    let length = limited_length(
         alloc,
         folder,
         spec,

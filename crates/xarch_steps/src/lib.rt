@@ -10,6 +10,7 @@ mod init;
 mod inputs;
 mod limits;
 mod merged;
+mod names;
 mod norm;
 mod print_kept;
 mod print_lent;

@@ -1,15 +1,23 @@
-#![tactic(auto, using(crate::proofs::Ending::endings))]
+#![tactic(auto)]
 
-ghost use Rattle.std.specs.Prelude.{◌≡◌, ◌≤◌, Some};
+ghost use Rattle.std.specs.Prelude.{◌≡◌, ◌≤◌, ℕ, Some, None, IfOk, Result, length, vec_len};
 ghost use Rattle.xa_outside.specs.Folder.{Files};
-ghost use Rattle.xa_outside.specs.Numbers.{PullsAtMost};
-ghost use Rattle.xarch_steps.specs.Ends.{EndsAs, IsOfCommand, fault_of};
-ghost use Rattle.xarch_steps.specs.Norm.{norm_of};
+ghost use Rattle.jsonml_tree.specs.Fits.{IsElement, ItemsFit};
+ghost use Rattle.jsonml_tree.specs.LentView.{lent_tree_view};
+ghost use Rattle.jsonml_tree.specs.WellFormed.{IsWellFormed};
+ghost use Rattle.key_spec.specs.View.{spec_view};
+ghost use Rattle.xarch_words.specs.Commands.{norm};
+ghost use Rattle.xarch_steps.specs.Ends.{IsCaused, Matches, fault_of};
+ghost use Rattle.xarch_steps.specs.Folders.{Keeps, ReadsOnly};
+ghost use Rattle.xarch_steps.specs.Norm.{norm_from, norm_input, norm_of_tree};
+ghost use Rattle.xarch_steps.specs.Plausible.{MayBe, MayEnd};
 
-use crate::inputs::{length_of, read_whole};
+use crate::inputs::{limited_length, read_whole};
 use crate::limits;
 use crate::put::write_keyed;
 use crate::readings::{doc_from, keyed_from, read_spec};
+use jsonml_tree::LentTree;
+use key_spec::Spec;
 use std::alloc::Global;
 use xa_outside::{Folder, Sink};
 use xarch_words::{Fault, Quantity};
@@ -22,26 +30,71 @@ pub(crate) fn run_norm<F: Folder, O: Sink>(
     folder: &mut F,
     out: &mut O,
 ) -> Result<(), Fault>
-    ensures files { F.files folder.new ≡ F.files folder.old }
-    ensures draft { F.draft folder.new ≡ F.draft folder.old }
-    ensures numbers { PullsAtMost 68157440 (F.numbers folder.old) (F.numbers folder.new) }
-    ensures folder_later { F.faults folder.old ≤ F.faults folder.new }
-    ensures out_later { O.faults out.old ≤ O.faults out.new }
-    ensures cause { IsOfCommand (F.faults folder.old) (F.faults folder.new) (O.faults out.old) (O.faults out.new) (fault_of result) }
-    ensures told { (files : Files) → F.files folder.old ≡ Some files
-        → EndsAs (norm_of files spec.now doc.now) (fault_of result) (F.files folder.new) (O.taken out.old) (O.taken out.new) }
+    ensures keeps { Keeps F.files F.draft F.numbers None 68157440 folder.old folder.new (fault_of result) }
+    ensures caused { IsCaused (F.faults folder.old) (F.faults folder.new) (O.faults out.old) (O.faults out.new) (fault_of result) }
+    ensures may { (files : Files) → F.files folder.old ≡ Some files
+        → MayEnd (MayBe files (norm spec.now doc.now)) (fault_of result) (F.files folder.new) (O.taken out.old) (O.taken out.new) }
 {
-    let spec_length = length_of(
+    let (spec, bytes) = read_both(alloc, spec, doc, folder)?;
+    write_ordered(alloc, &spec, &bytes, out)
+}
+
+// The specification, and the bytes of the document. Both lengths are judged before either is read.
+fn read_both<F: Folder>(
+    alloc: Global,
+    spec: &str,
+    doc: &str,
+    folder: &mut F,
+) -> Result<(Spec, Vec<u8>), Fault>
+    ensures reads { ReadsOnly F.files F.draft F.numbers F.faults 68157440 folder.old folder.new (fault_of result) }
+    ensures short { IfOk result (λ r. vec_len r.1 ≤ 67108864) }
+    ensures told { (files : Files) → F.files folder.old ≡ Some files
+        → Matches (λ r. (spec_view r.0, r.1.items)) (norm_input files spec.now doc.now) result }
+{
+    let spec_length = limited_length(
         alloc,
         folder,
         spec,
         Quantity::Specification,
         limits::SPECIFICATION,
     )?;
-    let doc_length = length_of(alloc, folder, doc, Quantity::Document, limits::DOCUMENT)?;
+    let doc_length = limited_length(alloc, folder, doc, Quantity::Document, limits::DOCUMENT)?;
     let spec = read_spec(alloc, folder, spec, spec_length)?;
     let bytes = read_whole(alloc, folder, doc, doc_length)?;
-    let doc = doc_from(alloc, &bytes)?;
-    let keyed = keyed_from(alloc, &spec, &doc)?;
+    Ok((spec, bytes))
+}
+
+// Writes the document that these bytes spell in the order of its keys.
+fn write_ordered<O: Sink>(
+    alloc: Global,
+    spec: &Spec,
+    bytes: &[u8],
+    out: &mut O,
+) -> Result<(), Fault>
+    requires { length bytes.now ≤ 67108864 }
+    ensures caused { (before now : ℕ) → before ≤ now
+        → IsCaused before now (O.faults out.old) (O.faults out.new) (fault_of result) }
+    ensures may { (files : Files) → MayEnd (λ r. r ≡ norm_from files (spec_view spec.now) bytes.now)
+        (fault_of result) (Some files) (O.taken out.old) (O.taken out.new) }
+{
+    let doc = doc_from(alloc, bytes)?;
+    write_tree(alloc, spec, &doc, out)
+}
+
+fn write_tree<O: Sink>(
+    alloc: Global,
+    spec: &Spec,
+    doc: &LentTree<'_>,
+    out: &mut O,
+) -> Result<(), Fault>
+    requires element { IsElement (lent_tree_view doc.now) }
+    requires items_fit { ItemsFit (lent_tree_view doc.now) }
+    requires well_formed { IsWellFormed (lent_tree_view doc.now) }
+    ensures caused { (before now : ℕ) → before ≤ now
+        → IsCaused before now (O.faults out.old) (O.faults out.new) (fault_of result) }
+    ensures may { (files : Files) → MayEnd (λ r. r ≡ norm_of_tree files (spec_view spec.now) (lent_tree_view doc.now))
+        (fault_of result) (Some files) (O.taken out.old) (O.taken out.new) }
+{
+    let keyed = keyed_from(alloc, spec, doc)?;
     write_keyed(&keyed, out)
 }

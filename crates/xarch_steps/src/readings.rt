@@ -2,7 +2,6 @@
 
 ghost use Rattle.std.specs.Prelude.{◌≡◌, ◌≤◌, Some, Ok, IfOk, length};
 ghost use Rattle.xa_outside.specs.Folder.{Files};
-ghost use Rattle.xa_outside.specs.Numbers.{PullsAtMost};
 ghost use Rattle.jsonml_tree.specs.Data.{tree_depth};
 ghost use Rattle.jsonml_tree.specs.Fits.{IsElement, ItemsFit};
 ghost use Rattle.jsonml_tree.specs.LentView.{lent_tree_view};
@@ -10,9 +9,9 @@ ghost use Rattle.jsonml_tree.specs.WellFormed.{IsWellFormed};
 ghost use Rattle.key_annotate.specs.LentView.{lent_view};
 ghost use Rattle.key_annotate.specs.Stands.{Stands};
 ghost use Rattle.key_spec.specs.View.{spec_view};
-ghost use Rattle.xarch_words.specs.Refusal.{specification};
-ghost use Rattle.xarch_steps.specs.Ends.{IsInside, IsOfFolder, Matches, fault_of};
-ghost use Rattle.xarch_steps.specs.Inputs.{length_in, read_in};
+ghost use Rattle.xarch_steps.specs.Ends.{IsInside, Matches, fault_of};
+ghost use Rattle.xarch_steps.specs.Folders.{ReadsOnly};
+ghost use Rattle.xarch_steps.specs.Inputs.{file_length, read_in};
 ghost use Rattle.xarch_steps.specs.Readings.{document_of, keyed_of, rules_of};
 
 use crate::inputs::read_whole;
@@ -34,12 +33,8 @@ pub(crate) fn read_spec<F: Folder>(
     length: u64,
 ) -> Result<Spec, Fault>
     requires { length ≤ 1048576 }
-    ensures files { F.files folder.new ≡ F.files folder.old }
-    ensures draft { F.draft folder.new ≡ F.draft folder.old }
-    ensures later { F.faults folder.old ≤ F.faults folder.new }
-    ensures cause { IsOfFolder (F.faults folder.old) (F.faults folder.new) (fault_of result) }
-    ensures numbers { PullsAtMost length (F.numbers folder.old) (F.numbers folder.new) }
-    ensures told { (files : Files) → F.files folder.old ≡ Some files → length_in files name.now specification 1048576 ≡ Ok length
+    ensures reads { ReadsOnly F.files F.draft F.numbers F.faults length folder.old folder.new (fault_of result) }
+    ensures told { (files : Files) → F.files folder.old ≡ Some files → file_length files name.now ≡ Ok length
         → Matches spec_view (read_in files name.now rules_of) result }
 {
     let bytes = read_whole(alloc, folder, name, length)?;

@@ -1,6 +1,6 @@
-#![tactic(auto, using(crate::proofs::Ending::endings), unfolding(crate::specs::Ends::IsInside, crate::specs::Ends::IsOfFolder, crate::specs::Ends::IsDefined))]
+#![tactic(auto, using(crate::proofs::Ending::endings), unfolding(crate::specs::Ends::IsInside, crate::specs::Ends::IsOfFolder))]
 
-ghost use Rattle.std.specs.Prelude.{◌≡◌, ◌≤◌, ◌++◌, Ok, Err, Some, IfOk, IfErr, ℕ, codes};
+ghost use Rattle.std.specs.Prelude.{◌≡◌, ◌≤◌, ◌++◌, Ok, Err, Some, None, IfOk, IfErr, codes};
 ghost use Rattle.xa_outside.specs.Causes.{HasCause};
 ghost use Rattle.xa_outside.specs.Folder.{Files};
 ghost use Rattle.xa_outside.specs.Taken.{Puts};
@@ -8,11 +8,14 @@ ghost use Rattle.archive_stats.specs.View.{counts_view};
 ghost use Rattle.xarch_words.specs.Commands as commands;
 ghost use Rattle.xarch_words.specs.Refusal.{Refusal, refused};
 ghost use Rattle.xarch_words.specs.View.{fault_view};
-ghost use Rattle.xarch_steps.specs.Ends.{IsOfCommand, IsOfFolder, IsOfOutput, fault_of};
+ghost use Rattle.xarch_steps.specs.Ends.{IsCaused, IsOfOutput, fault_of};
+ghost use Rattle.xarch_steps.specs.Folders.{Keeps, ReadsOnly};
+ghost use Rattle.xarch_steps.specs.Inputs.{size_in};
 ghost use Rattle.xarch_steps.specs.Plausible.{MayBe, MayEnd};
 ghost use Rattle.xarch_steps.specs.Stats.{counts_text, nodes_text, sizes_text};
 
-use crate::archives::archive_length;
+use crate::inputs::length_of;
+use crate::names::damaged;
 use archive_stats::{Counts, StatsFault, stats};
 use itoa::{Buffer, Integer};
 use std::alloc::Global;
@@ -26,11 +29,9 @@ pub(crate) fn run_stats<F: Folder, O: Sink>(
     folder: &mut F,
     out: &mut O,
 ) -> Result<(), Fault>
-    ensures files { F.files folder.new ≡ F.files folder.old }
-    ensures draft { F.draft folder.new ≡ F.draft folder.old }
-    ensures folder_later { F.faults folder.old ≤ F.faults folder.new }
-    ensures out_later { O.faults out.old ≤ O.faults out.new }
-    ensures cause { IsOfCommand (F.faults folder.old) (F.faults folder.new) (O.faults out.old) (O.faults out.new) (fault_of result) }
+    ensures keeps { Keeps F.files F.draft F.numbers None (size_in (F.files folder.old) archive.now)
+        folder.old folder.new (fault_of result) }
+    ensures caused { IsCaused (F.faults folder.old) (F.faults folder.new) (O.faults out.old) (O.faults out.new) (fault_of result) }
     ensures may { (files : Files) → F.files folder.old ≡ Some files
         → MayEnd (MayBe files (commands.stats archive.now)) (fault_of result) (F.files folder.new) (O.taken out.old) (O.taken out.new) }
 {
@@ -40,22 +41,17 @@ pub(crate) fn run_stats<F: Folder, O: Sink>(
 
 // The counts of the archive.
 fn counts_in<F: Folder>(alloc: Global, archive: &str, folder: &mut F) -> Result<Counts, Fault>
-    ensures files { F.files folder.new ≡ F.files folder.old }
-    ensures draft { F.draft folder.new ≡ F.draft folder.old }
-    ensures later { F.faults folder.old ≤ F.faults folder.new }
-    ensures cause { IsOfFolder (F.faults folder.old) (F.faults folder.new) (fault_of result) }
+    ensures reads { ReadsOnly F.files F.draft F.numbers F.faults (size_in (F.files folder.old) archive.now)
+        folder.old folder.new (fault_of result) }
     ensures counts { (files : Files) → F.files folder.old ≡ Some files
         → IfOk result (λ c. MayBe files (commands.stats archive.now) (Ok (record { files = files; output = counts_text (counts_view c) }))) }
     ensures refused { (files : Files) (q : Refusal) → F.files folder.old ≡ Some files
         → IfErr result (λ f. fault_view f ≡ refused q → MayBe files (commands.stats archive.now) (Err q)) }
 {
-    let length = archive_length(alloc, folder, archive)?;
+    let length = length_of(alloc, folder, archive)?;
     match stats(alloc, folder, archive, length) {
         Ok(counts) => Ok(counts),
-        Err(StatsFault::Damage) => {
-            let name = String::from_str(alloc, archive)?;
-            Err(Fault::Damaged { name })
-        }
+        Err(StatsFault::Damage) => Err(damaged(alloc, archive)),
         Err(StatsFault::Folder) => Err(Fault::FolderFault),
         Err(StatsFault::Memory) => Err(Fault::Memory),
     }

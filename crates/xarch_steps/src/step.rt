@@ -7,10 +7,11 @@ ghost use Rattle.xarch_words.specs.Commands.{command_of, demo};
 ghost use Rattle.xarch_words.specs.Refusal as refusal;
 ghost use Rattle.xarch_words.specs.Refusal.{limit, refused, usage};
 ghost use Rattle.xarch_words.specs.View.{command_view, words_view};
-ghost use Rattle.xarch_steps.specs.Ends.{HasItsCause, IsOfCommand, fault_of};
+ghost use Rattle.xarch_steps.specs.Ends.{HasItsCause, IsCaused, fault_of};
+ghost use Rattle.xarch_steps.specs.Folders.{Keeps};
 ghost use Rattle.xarch_steps.specs.Outcome.{Step};
 ghost use Rattle.xarch_steps.specs.Plausible.{MayBe, MayDo, MayEnd, Tried, Wrote};
-ghost use Rattle.xarch_steps.specs.Ran.{IsLongDemo, OnlyReads, PullsAsSaid, Said, Says, line_after, outside_of, status_after};
+ghost use Rattle.xarch_steps.specs.Ran.{CountsAsSaid, IsLongDemo, OnlyReads, PullsAsSaid, Said, Says, line_after, made_name, most_pulled, outside_of, status_after};
 ghost use Rattle.xarch_steps.specs.Step.{StepIs, alone, single_of};
 
 use crate::add::run_add;
@@ -64,8 +65,9 @@ pub fn take_step<F: Folder, O: Sink, E: Sink>(
     ensures untold { F.files folder.old ≡ None → F.files folder.new ≡ None }
     ensures draft_untold { F.draft folder.old ≡ None → F.draft folder.new ≡ None }
 
-    // What is pulled, and that no count of faults falls.
+    // What is pulled and drafted, and that no count of faults falls.
     ensures numbers { PullsAsSaid (single_of (words_view words.now)) (F.numbers folder.old) (F.numbers folder.new) }
+    ensures counts { CountsAsSaid (single_of (words_view words.now)) (F.files folder.old) (F.numbers folder.old) (F.numbers folder.new) }
     ensures folder_later { F.faults folder.old ≤ F.faults folder.new }
     ensures out_later { O.faults out.old ≤ O.faults out.new }
     ensures err_later { E.faults err.old ≤ E.faults err.new }
@@ -94,6 +96,7 @@ fn command_words<F: Folder, O: Sink>(
     ensures files { OnlyReads (single_of (words_view words.now)) → F.files folder.new ≡ F.files folder.old }
     ensures draft { OnlyReads (single_of (words_view words.now)) → F.draft folder.new ≡ F.draft folder.old }
     ensures numbers { PullsAsSaid (single_of (words_view words.now)) (F.numbers folder.old) (F.numbers folder.new) }
+    ensures counts { CountsAsSaid (single_of (words_view words.now)) (F.files folder.old) (F.numbers folder.old) (F.numbers folder.new) }
 {
     match single_command(words) {
         None => Err(Fault::Usage),
@@ -120,17 +123,11 @@ fn run_command<F: Folder, O: Sink>(
     out: &mut O,
 ) -> Result<(), Fault>
     requires { alone (Some (command_view command)) ≡ Some (command_view command) }
-    ensures cause { IsOfCommand (F.faults folder.old) (F.faults folder.new) (O.faults out.old) (O.faults out.new) (fault_of result) }
-    ensures folder_later { F.faults folder.old ≤ F.faults folder.new }
-    ensures out_later { O.faults out.old ≤ O.faults out.new }
+    ensures keeps { Keeps F.files F.draft F.numbers (made_name (command_view command.entry)) (most_pulled (command_view command.entry) (F.files folder.old))
+        folder.old folder.new (fault_of result) }
+    ensures caused { IsCaused (F.faults folder.old) (F.faults folder.new) (O.faults out.old) (O.faults out.new) (fault_of result) }
     ensures may { (files : Files) → F.files folder.old ≡ Some files
         → MayEnd (MayBe files (command_view command.entry)) (fault_of result) (F.files folder.new) (O.taken out.old) (O.taken out.new) }
-    ensures refused { OnErr result (F.files folder.new ≡ F.files folder.old) }
-    ensures untold { F.files folder.old ≡ None → F.files folder.new ≡ None }
-    ensures draft_untold { F.draft folder.old ≡ None → F.draft folder.new ≡ None }
-    ensures files { OnlyReads (Some (command_view command.entry)) → F.files folder.new ≡ F.files folder.old }
-    ensures draft { OnlyReads (Some (command_view command.entry)) → F.draft folder.new ≡ F.draft folder.old }
-    ensures numbers { PullsAsSaid (Some (command_view command.entry)) (F.numbers folder.old) (F.numbers folder.new) }
     ensures long_demo { IsLongDemo (Some (command_view command.entry)) → fault_of result ≡ Some (refused (limit refusal.demo 1000)) }
 {
     match command {

@@ -1,8 +1,9 @@
-use Rattle.std.proofs.Common.{arith}
+use Rattle.std.proofs.Common.{inl, inr, arith}
 use Rattle.key_spec.specs.View.{spec_view}
 use Rattle.keyed_tree.specs.View.{keyed_view}
 use Rattle.archive_tree.specs.ArchiveView.{archive_view}
-use Rattle.xarch_steps.proofs.Merging.{room, alike_all, keyed_after, too_long_after}
+use Rattle.xarch_steps.proofs.Merging.{room, alike_all, keyed_after, overlong, too_long_after}
+use Rattle.xarch_steps.proofs.MayEnds.{IfErr-more, IfErr-passed}
 use Rattle.xarch_steps.proofs.add.merged_file.Goals as goal
 
 pub merge-requires-clause-room : goal.merge-requires-clause-room
@@ -28,3 +29,11 @@ pub returns-in-Ok-clause-too_long : goal.returns-in-Ok-clause-too_long
 returns-in-Ok-clause-too_long c = λ rules vs q sound.
     let given = c.in_ok-spec.ensures.only rules vs sound in
     too_long_after rules (spec_view c.in_ok-spec.spec) (archive_view c.in-Ok.archive) vs (keyed_view c.args.new.now) c.file_from.result q given.0 (c.in-Ok.ensures.archive vs given.1) c.file_from.ensures.limit c.file_from.ensures.too_long
+
+pub returns-in_err-spec-clause-refused : goal.returns-in_err-spec-clause-refused
+returns-in_err-spec-clause-refused c = IfErr-passed c.from_residual.result _ _ c.from_residual.ensures.1 (λ q e. inl (c.in_err-spec.ensures.damaged q e))
+
+pub returns-in-Ok-clause-refused : goal.returns-in-Ok-clause-refused
+returns-in-Ok-clause-refused c =
+    IfErr-more c.file_from.result _ _ (λ f limit q e.
+    inr (overlong (spec_view c.in_ok-spec.spec) (archive_view c.in_ok-spec.archive) c.args.bytes.now (keyed_view c.args.new.now) c.in_ok-spec.archive.stands c.in_ok-spec.ensures.sound c.requires q (limit q e))) c.file_from.ensures.limit

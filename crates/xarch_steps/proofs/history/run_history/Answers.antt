@@ -6,6 +6,7 @@ use Rattle.keyed_tree.specs.declared.label.Label.{Label}
 use Rattle.xarch_words.specs.Commands.{history}
 use Rattle.xarch_words.specs.Refusal.{Refusal, memory, refused}
 use Rattle.xarch_steps.specs.Plausible.{MayBe, history_input}
+use Rattle.xarch_steps.proofs.FolderLemmas.{caused-passed, caused-read, caused-written, keeps-read, reads-inside}
 use Rattle.xarch_steps.proofs.HistoryEnds.{intervals-are, may_refuse_early, may_write, may_refuse}
 use Rattle.xarch_steps.proofs.MayEnds.{MayEnd-passed, MayEnd-written, defined_refused, tells_same}
 use Rattle.xarch_steps.proofs.history.run_history.Goals as goal
@@ -43,4 +44,28 @@ returns-clause-may g c = λ files told.
     MayEnd-written (MayBe files (history c.args.archive.now c.args.path.now)) (record { files = files; output = c.as_bytes.result.now }) c.write_bytes.result _ _ _ _ _
     (may_write files c.args.archive.now c.args.path.now c.deref.result.now (map label_view c.deref-2.result.now) input c.as_bytes.result.now
     (λ rules vs sound. c.as_bytes.ensures.value ∙ c.in_ok-line.ensures.text ∙ ap (λ ps. set_text ps ++ codes "\n") (sym (intervals-are (pairs_of set) _ set.canonical (c.in_ok-versions.ensures.members rules vs sound)))))
-    (tells_same _ files (c.in_ok-bytes.ensures.files ∙ told)) c.write_bytes.ensures.bytes c.write_bytes.ensures.cause
+    (tells_same _ files (c.in_ok-bytes.ensures.reads.same_files ∙ told)) c.write_bytes.ensures.bytes c.write_bytes.ensures.cause
+
+pub returns-in_err-bytes-clause-keeps : goal.returns-in_err-bytes-clause-keeps
+returns-in_err-bytes-clause-keeps g c = keeps-read _ _ _ _ _ c.in_err-bytes.ensures.reads
+
+pub returns-in_err-bytes-clause-caused : goal.returns-in_err-bytes-clause-caused
+returns-in_err-bytes-clause-caused g c = caused-passed _ _ _ _ c.from_residual.result _ c.from_residual.ensures.1 (caused-read _ _ _ _ _ c.in_err-bytes.ensures.reads)
+
+pub returns-in_err-versions-clause-keeps : goal.returns-in_err-versions-clause-keeps
+returns-in_err-versions-clause-keeps g c = keeps-read _ _ _ _ _ c.in_ok-bytes.ensures.reads
+
+pub returns-in_err-versions-clause-caused : goal.returns-in_err-versions-clause-caused
+returns-in_err-versions-clause-caused g c = caused-passed _ _ _ _ c.from_residual-in_err-versions.result _ c.from_residual-in_err-versions.ensures.1 (caused-read _ _ _ _ _ (reads-inside _ _ _ _ c.in_ok-bytes.ensures.reads c.in_err-versions.ensures.cause))
+
+pub returns-in_err-line-clause-keeps : goal.returns-in_err-line-clause-keeps
+returns-in_err-line-clause-keeps g c = keeps-read _ _ _ _ _ c.in_ok-bytes.ensures.reads
+
+pub returns-in_err-line-clause-caused : goal.returns-in_err-line-clause-caused
+returns-in_err-line-clause-caused g c = caused-passed _ _ _ _ c.from_residual-in_err-line.result _ c.from_residual-in_err-line.ensures.1 (caused-read _ _ _ _ _ (reads-inside _ _ _ _ c.in_ok-bytes.ensures.reads c.in_err-line.ensures.cause))
+
+pub returns-clause-keeps : goal.returns-clause-keeps
+returns-clause-keeps g c = keeps-read _ _ _ _ _ c.in_ok-bytes.ensures.reads
+
+pub returns-clause-caused : goal.returns-clause-caused
+returns-clause-caused g c = caused-written _ _ _ _ _ _ c.in_ok-bytes.ensures.reads c.write_bytes.ensures.later c.write_bytes.ensures.cause

@@ -1,40 +1,35 @@
-use Rattle.std.proofs.Common.{◌≡◌, ℕ, ◌+◌, ◌≤◌, Some, refl, sym, ap, ◌∙◌, arith}
-use Rattle.key_annotate.specs.LentView.{lent_view}
-use Rattle.xarch_steps.specs.KeyedText.{keyed_text}
-use Rattle.xarch_steps.specs.Readings.{document_of}
-use Rattle.xarch_steps.proofs.Ending.{and_then-Ok, EndsAs-written, PullsAtMost-two}
+use Rattle.std.proofs.Common.{◌≡◌, List, ℕ, Ok, arith, sym, ap, ◌∙◌}
+use Rattle.key_spec.specs.View.{spec_view}
+use Rattle.xarch_steps.specs.Norm.{norm_from, norm_of}
+use Rattle.xarch_steps.specs.Plausible.{MayBe}
+use Rattle.xarch_steps.proofs.FolderLemmas.{caused-passed, caused-read, caused-then, keeps-read}
+use Rattle.xarch_steps.proofs.MayEnds.{MayEnd-more, MayEnd-passed, MayEnd-told, defined_refused}
+use Rattle.xarch_steps.proofs.NormEnds.{norm-goes_on, norm-refused}
 use Rattle.xarch_steps.proofs.norm.run_norm.Goals as goal
 
-pub returns-clause-told : goal.returns-clause-told
-returns-clause-told g c = λ files told.
-    let told1 : g.F.Folder.files c.length_of.new.folder ≡ Some files = c.in_ok-spec_length.ensures.files ∙ told in
-    let told2 : g.F.Folder.files c.length_of-2.new.folder ≡ Some files = c.in_ok-doc_length.ensures.files ∙ told1 in
-    let told3 : g.F.Folder.files c.read_spec.new.folder ≡ Some files = c.in_ok-spec.ensures.files ∙ told2 in
-    let told4 : g.F.Folder.files c.read_whole.new.folder ≡ Some files = c.in_ok-bytes.ensures.files ∙ told3 in
-    let spec_length = c.in_ok-spec_length.ensures.told files told in
-    let doc_length = c.in_ok-doc_length.ensures.told files told1 in
-    let rules = c.in_ok-spec.ensures.told files told2 spec_length in
-    let file = c.in_ok-bytes.ensures.told files _ _ told3 doc_length in
-    let tree = and_then-Ok _ document_of _ _ file (ap document_of (sym c.deref.ensures.value) ∙ c.in_ok-doc.ensures.told) in
-    let defined = and_then-Ok _ _ _ _ spec_length (and_then-Ok _ _ _ _ doc_length (and_then-Ok _ _ _ _ rules (and_then-Ok _ _ _ _ tree (and_then-Ok _ _ _ _ c.in_ok-keyed.ensures.told refl)))) in
-    EndsAs-written _ (record { files = files; output = keyed_text (lent_view c.in_ok-keyed.keyed) }) c.write_keyed.result _ _ _ _ _ defined told4 c.write_keyed.ensures.bytes c.write_keyed.ensures.cause
+pub returns-in_err-spec-clause-keeps : goal.returns-in_err-spec-clause-keeps
+returns-in_err-spec-clause-keeps g c = keeps-read _ _ _ _ _ c.in_err-spec.ensures.reads
 
--- both files are within the limits of a command
-within : (n k : ℕ) → n ≤ 1048576 → k ≤ 67108864 → n + k ≤ 68157440
-within n k short long = omega (arith, short, long)
+pub returns-in_err-spec-clause-caused : goal.returns-in_err-spec-clause-caused
+returns-in_err-spec-clause-caused g c = caused-passed _ _ _ _ c.from_residual.result _ c.from_residual.ensures.1 (caused-read _ _ _ _ _ c.in_err-spec.ensures.reads)
 
-pub returns-in_err-bytes-clause-numbers : goal.returns-in_err-bytes-clause-numbers
-returns-in_err-bytes-clause-numbers g c =
-    PullsAtMost-two _ _ _ _ _ _ _ (within _ _ c.in_ok-spec_length.ensures.bound c.in_ok-doc_length.ensures.bound) (c.in_ok-doc_length.ensures.numbers ∙ c.in_ok-spec_length.ensures.numbers) c.in_ok-spec.ensures.numbers c.in_err-bytes.ensures.numbers
+pub returns-in_err-spec-clause-may : goal.returns-in_err-spec-clause-may
+unfolding MayBe
+returns-in_err-spec-clause-may g c = λ files told.
+    MayEnd-passed (λ r. r ≡ norm_of files c.args.spec.now c.args.doc.now) c.from_residual.result c.in_err-spec.field-0.0 _ _ c.from_residual.ensures.1
+    (λ q e. sym (defined_refused (norm_of files c.args.spec.now c.args.doc.now) _ q (norm-refused files c.args.spec.now c.args.doc.now _ (c.in_err-spec.ensures.told files told)) e))
 
-pub returns-in_err-doc-clause-numbers : goal.returns-in_err-doc-clause-numbers
-returns-in_err-doc-clause-numbers g c =
-    PullsAtMost-two _ _ _ _ _ _ _ (within _ _ c.in_ok-spec_length.ensures.bound c.in_ok-doc_length.ensures.bound) (c.in_ok-doc_length.ensures.numbers ∙ c.in_ok-spec_length.ensures.numbers) c.in_ok-spec.ensures.numbers c.in_ok-bytes.ensures.numbers
+pub returns-clause-keeps : goal.returns-clause-keeps
+returns-clause-keeps g c = keeps-read _ _ _ _ _ c.in_ok-spec.ensures.reads
 
-pub returns-in_err-keyed-clause-numbers : goal.returns-in_err-keyed-clause-numbers
-returns-in_err-keyed-clause-numbers g c =
-    PullsAtMost-two _ _ _ _ _ _ _ (within _ _ c.in_ok-spec_length.ensures.bound c.in_ok-doc_length.ensures.bound) (c.in_ok-doc_length.ensures.numbers ∙ c.in_ok-spec_length.ensures.numbers) c.in_ok-spec.ensures.numbers c.in_ok-bytes.ensures.numbers
+pub returns-clause-caused : goal.returns-clause-caused
+returns-clause-caused g c = caused-then _ _ _ _ _ _ _ (caused-read _ _ _ _ _ c.in_ok-spec.ensures.reads) (c.write_ordered.ensures.caused _ _ (omega arith))
 
-pub returns-clause-numbers : goal.returns-clause-numbers
-returns-clause-numbers g c =
-    PullsAtMost-two _ _ _ _ _ _ _ (within _ _ c.in_ok-spec_length.ensures.bound c.in_ok-doc_length.ensures.bound) (c.in_ok-doc_length.ensures.numbers ∙ c.in_ok-spec_length.ensures.numbers) c.in_ok-spec.ensures.numbers c.in_ok-bytes.ensures.numbers
+pub returns-clause-may : goal.returns-clause-may
+unfolding MayBe
+returns-clause-may g c = λ files told.
+    let rules = spec_view c.in_ok-spec.spec in
+    let input = c.in_ok-spec.ensures.told files told ∙ ap (λ (b : List ℕ). Ok (rules, b)) (sym c.deref.ensures.value) in
+    let same = norm-goes_on files c.args.spec.now c.args.doc.now rules c.deref.result.now input in
+    MayEnd-told _ files _ _ _ _ (c.in_ok-spec.ensures.reads.same_files ∙ told)
+    (MayEnd-more (λ r. r ≡ norm_from files rules c.deref.result.now) (λ r. r ≡ norm_of files c.args.spec.now c.args.doc.now) (λ r e. e ∙ sym same) _ _ _ _ (c.write_ordered.ensures.may files))

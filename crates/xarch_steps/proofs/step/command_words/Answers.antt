@@ -3,7 +3,7 @@ use Rattle.xarch_words.specs.View.{command_view, words_view}
 use Rattle.xarch_steps.specs.Ends.{HasItsCause}
 use Rattle.xarch_steps.specs.Ran.{IsLongDemo}
 use Rattle.xarch_steps.proofs.Ending.{HasItsCause-command}
-use Rattle.xarch_steps.proofs.Running.{MayEnd-usage, MayEnd-command, usage-command}
+use Rattle.xarch_steps.proofs.Running.{MayEnd-usage, MayEnd-command, OnErr-of, counts_as_said, makes_none, nothing_counted, nothing_pulled, pulls_as_said, usage-command}
 use Rattle.xarch_steps.proofs.step.command_words.Goals as goal
 
 pub returns-in-None-clause-cause : goal.returns-in-None-clause-cause
@@ -14,10 +14,10 @@ pub returns-in-None-clause-may : goal.returns-in-None-clause-may
 returns-in-None-clause-may g c = λ files told. MayEnd-usage files (words_view c.args.words.now) _ _ (sym c.in-None.ensures.is)
 
 pub returns-in-Some-clause-usage : goal.returns-in-Some-clause-usage
-returns-in-Some-clause-usage g c = usage-command (words_view c.args.words.now) (command_view c.in-Some.command) _ _ _ _ _ (sym c.in-Some.ensures.is) c.run_command.ensures.cause
+returns-in-Some-clause-usage g c = usage-command (words_view c.args.words.now) (command_view c.in-Some.command) _ _ _ _ _ (sym c.in-Some.ensures.is) c.run_command.ensures.caused.cause
 
 pub returns-in-Some-clause-cause : goal.returns-in-Some-clause-cause
-returns-in-Some-clause-cause g c = HasItsCause-command _ _ _ _ _ c.run_command.ensures.cause
+returns-in-Some-clause-cause g c = HasItsCause-command _ _ _ _ _ c.run_command.ensures.caused.cause
 
 pub returns-in-Some-clause-may : goal.returns-in-Some-clause-may
 returns-in-Some-clause-may g c =
@@ -28,3 +28,36 @@ returns-in-None-clause-long_demo g c = λ long. absurd (subst IsLongDemo (sym c.
 
 pub returns-in-Some-clause-long_demo : goal.returns-in-Some-clause-long_demo
 returns-in-Some-clause-long_demo g c = λ long. c.run_command.ensures.long_demo (subst IsLongDemo (sym c.in-Some.ensures.is) long)
+
+pub returns-in-None-clause-numbers : goal.returns-in-None-clause-numbers
+returns-in-None-clause-numbers g c = nothing_pulled (words_view c.args.words.now) _ (sym c.in-None.ensures.is) (g.met.F.Folder.metered c.args.folder.now)
+
+pub returns-in-None-clause-counts : goal.returns-in-None-clause-counts
+returns-in-None-clause-counts g c = nothing_counted (words_view c.args.words.now) _ (sym c.in-None.ensures.is) (g.met.F.Folder.metered c.args.folder.now) _
+
+pub returns-in-Some-clause-folder_later : goal.returns-in-Some-clause-folder_later
+returns-in-Some-clause-folder_later g c = c.run_command.ensures.caused.folder_later
+
+pub returns-in-Some-clause-out_later : goal.returns-in-Some-clause-out_later
+returns-in-Some-clause-out_later g c = c.run_command.ensures.caused.out_later
+
+pub returns-in-Some-clause-refused : goal.returns-in-Some-clause-refused
+returns-in-Some-clause-refused g c = OnErr-of c.run_command.result _ c.run_command.ensures.keeps.refused
+
+pub returns-in-Some-clause-untold : goal.returns-in-Some-clause-untold
+returns-in-Some-clause-untold g c = c.run_command.ensures.keeps.untold
+
+pub returns-in-Some-clause-draft_untold : goal.returns-in-Some-clause-draft_untold
+returns-in-Some-clause-draft_untold g c = c.run_command.ensures.keeps.draft_untold
+
+pub returns-in-Some-clause-files : goal.returns-in-Some-clause-files
+returns-in-Some-clause-files g c = λ only. c.run_command.ensures.keeps.same_files (makes_none (words_view c.args.words.now) (command_view c.in-Some.command) (sym c.in-Some.ensures.is) only)
+
+pub returns-in-Some-clause-draft : goal.returns-in-Some-clause-draft
+returns-in-Some-clause-draft g c = λ only. c.run_command.ensures.keeps.same_draft (makes_none (words_view c.args.words.now) (command_view c.in-Some.command) (sym c.in-Some.ensures.is) only)
+
+pub returns-in-Some-clause-numbers : goal.returns-in-Some-clause-numbers
+returns-in-Some-clause-numbers g c = pulls_as_said (words_view c.args.words.now) (command_view c.in-Some.command) _ _ _ (sym c.in-Some.ensures.is) c.run_command.ensures.keeps.counts
+
+pub returns-in-Some-clause-counts : goal.returns-in-Some-clause-counts
+returns-in-Some-clause-counts g c = counts_as_said (words_view c.args.words.now) (command_view c.in-Some.command) _ _ _ (sym c.in-Some.ensures.is) c.run_command.ensures.keeps.counts

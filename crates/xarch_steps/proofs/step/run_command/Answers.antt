@@ -1,11 +1,88 @@
 use Rattle.xarch_steps.specs.Plausible.{MayBe}
-use Rattle.xarch_steps.proofs.MayEnds.{MayEnd-exact}
 use Rattle.xarch_steps.proofs.step.run_command.Goals as goal
 
+pub returns-in-Norm-clause-keeps : goal.returns-in-Norm-clause-keeps
+returns-in-Norm-clause-keeps g c = rw c.in-Norm.is c.run_norm.ensures.keeps
+
+pub returns-in-Norm-clause-caused : goal.returns-in-Norm-clause-caused
+returns-in-Norm-clause-caused g c = c.run_norm.ensures.caused
+
 pub returns-in-Norm-clause-may : goal.returns-in-Norm-clause-may
-unfolding MayBe
-returns-in-Norm-clause-may g c = λ files told. rw c.in-Norm.is (MayEnd-exact _ _ _ _ _ (c.run_norm.ensures.told files told))
+returns-in-Norm-clause-may g c = λ files told. rw c.in-Norm.is (c.run_norm.ensures.may files told)
+
+pub returns-in-Norm-clause-long_demo : goal.returns-in-Norm-clause-long_demo
+returns-in-Norm-clause-long_demo g c = λ long. absurd (rw c.in-Norm.is at long)
+
+pub returns-in-Init-clause-keeps : goal.returns-in-Init-clause-keeps
+returns-in-Init-clause-keeps g c = rw c.in-Init.is c.run_init.ensures.keeps
+
+pub returns-in-Init-clause-caused : goal.returns-in-Init-clause-caused
+returns-in-Init-clause-caused g c = c.run_init.ensures.caused _
 
 pub returns-in-Init-clause-may : goal.returns-in-Init-clause-may
 unfolding MayBe
 returns-in-Init-clause-may g c = λ files told. rw c.in-Init.is (c.run_init.ensures.may files (g.O.Sink.taken c.args.out.now) told)
+
+pub returns-in-Init-clause-long_demo : goal.returns-in-Init-clause-long_demo
+returns-in-Init-clause-long_demo g c = λ long. absurd (rw c.in-Init.is at long)
+
+pub returns-in-Add-clause-keeps : goal.returns-in-Add-clause-keeps
+returns-in-Add-clause-keeps g c = rw c.in-Add.is c.run_add.ensures.keeps
+
+pub returns-in-Add-clause-caused : goal.returns-in-Add-clause-caused
+returns-in-Add-clause-caused g c = c.run_add.ensures.caused _
+
+pub returns-in-Add-clause-may : goal.returns-in-Add-clause-may
+returns-in-Add-clause-may g c = λ files told. rw c.in-Add.is (c.run_add.ensures.may files (g.O.Sink.taken c.args.out.now) told)
+
+pub returns-in-Add-clause-long_demo : goal.returns-in-Add-clause-long_demo
+returns-in-Add-clause-long_demo g c = λ long. absurd (rw c.in-Add.is at long)
+
+pub returns-in-Get-clause-keeps : goal.returns-in-Get-clause-keeps
+returns-in-Get-clause-keeps g c = rw c.in-Get.is c.run_get.ensures.keeps
+
+pub returns-in-Get-clause-caused : goal.returns-in-Get-clause-caused
+returns-in-Get-clause-caused g c = c.run_get.ensures.caused
+
+pub returns-in-Get-clause-may : goal.returns-in-Get-clause-may
+returns-in-Get-clause-may g c = λ files told. rw c.in-Get.is (c.run_get.ensures.may files told)
+
+pub returns-in-Get-clause-long_demo : goal.returns-in-Get-clause-long_demo
+returns-in-Get-clause-long_demo g c = λ long. absurd (rw c.in-Get.is at long)
+
+pub returns-in-History-clause-keeps : goal.returns-in-History-clause-keeps
+returns-in-History-clause-keeps g c = rw c.in-History.is c.run_history.ensures.keeps
+
+pub returns-in-History-clause-caused : goal.returns-in-History-clause-caused
+returns-in-History-clause-caused g c = c.run_history.ensures.caused
+
+pub returns-in-History-clause-may : goal.returns-in-History-clause-may
+returns-in-History-clause-may g c = λ files told. rw c.in-History.is (c.run_history.ensures.may files told)
+
+pub returns-in-History-clause-long_demo : goal.returns-in-History-clause-long_demo
+returns-in-History-clause-long_demo g c = λ long. absurd (rw c.in-History.is at long)
+
+pub returns-in-Stats-clause-keeps : goal.returns-in-Stats-clause-keeps
+returns-in-Stats-clause-keeps g c = rw c.in-Stats.is c.run_stats.ensures.keeps
+
+pub returns-in-Stats-clause-caused : goal.returns-in-Stats-clause-caused
+returns-in-Stats-clause-caused g c = c.run_stats.ensures.caused
+
+pub returns-in-Stats-clause-may : goal.returns-in-Stats-clause-may
+returns-in-Stats-clause-may g c = λ files told. rw c.in-Stats.is (c.run_stats.ensures.may files told)
+
+pub returns-in-Stats-clause-long_demo : goal.returns-in-Stats-clause-long_demo
+returns-in-Stats-clause-long_demo g c = λ long. absurd (rw c.in-Stats.is at long)
+
+pub returns-in-Demo-clause-keeps : goal.returns-in-Demo-clause-keeps
+returns-in-Demo-clause-keeps g c = rw c.in-Demo.is c.run_demo.ensures.keeps
+
+pub returns-in-Demo-clause-caused : goal.returns-in-Demo-clause-caused
+returns-in-Demo-clause-caused g c = c.run_demo.ensures.caused
+
+pub returns-in-Demo-clause-may : goal.returns-in-Demo-clause-may
+unfolding MayBe
+returns-in-Demo-clause-may g c = λ files told. rw c.in-Demo.is (c.run_demo.ensures.may files told)
+
+pub returns-in-Demo-clause-long_demo : goal.returns-in-Demo-clause-long_demo
+returns-in-Demo-clause-long_demo g c = λ long. c.run_demo.ensures.many (rw c.in-Demo.is at long)
