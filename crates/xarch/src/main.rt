@@ -3,9 +3,16 @@
 
 use disk::DiskFolder;
 use std::env;
+use std::io::ErrorKind;
 use std::process::ExitCode;
 use streams::{ReaderSource, WriterSink};
 use xarch_run::run;
+
+/// The status of words that are no command.
+const USAGE: u8 = 2;
+
+/// The status of want of memory.
+const MEMORY: u8 = 16;
 
 mod disk;
 mod opened;
@@ -13,18 +20,24 @@ mod streams;
 #[cfg(test)]
 mod tests;
 
-/// The words after the program's name, or none where one of them is no text.
-fn words_of(rt: &HostRuntime) -> Option<Vec<String>> {
+/// The words after the program's name. Where one of them is no text they are no command; else no memory was found.
+fn words_of(rt: &HostRuntime) -> Result<Vec<String>, u8> {
+    let given = match env::args(rt) {
+        Ok(given) => given,
+        Err(error) if error.kind() == ErrorKind::OutOfMemory => return Err(MEMORY),
+        Err(_) => return Err(USAGE),
+    };
     let mut words = Vec::new(rt.alloc());
-    for word in env::args(rt).ok()?.skip(1) {
-        words.push(word).ok()?;
+    for word in given.skip(1) {
+        words.push(word).map_err(|_| MEMORY)?;
     }
-    Some(words)
+    Ok(words)
 }
 
 fn main(rt: HostRuntime) -> ExitCode {
-    let Some(words) = words_of(&rt) else {
-        return ExitCode::from(2);
+    let words = match words_of(&rt) {
+        Ok(words) => words,
+        Err(status) => return ExitCode::from(status),
     };
     let mut folder = DiskFolder::new(&rt, rt.alloc());
     let mut input = ReaderSource::new(rt.reader());

@@ -1,6 +1,9 @@
 use crate::disk::DiskFolder;
 use crate::streams::{ReaderSource, WriterSink};
 use std::fs;
+use std::fs::Permissions;
+use std::os::unix::fs::PermissionsExt;
+use std::rt::Files;
 use std::test::Fail;
 use xa_outside::{Folder, Sink, Source, fill_at};
 
@@ -38,6 +41,43 @@ fn the_real_folder_reads_what_was_committed(rt: HostRuntime) -> Result<(), Fail>
     assert!(rt; folder.commit(".xarch-draft").is_err());
     folder.discard();
     assert!(rt; fs::open(&rt, ".xarch-draft").is_err());
+    Ok(())
+}
+
+/// A draft of these bytes, committed under this name.
+fn store(folder: &mut DiskFolder<HostRuntime>, name: &str, bytes: &[u8]) -> Result<(), Fail> {
+    folder.begin().map_err(|_| "begin")?;
+    folder.append(bytes).map_err(|_| "append")?;
+    Ok(folder.commit(name).map_err(|_| "commit")?)
+}
+
+#[test]
+fn a_file_that_stands_open_is_read_anew_after_a_commit(rt: HostRuntime) -> Result<(), Fail> {
+    let name = "xarch-test-of-a-second-commit";
+    let mut folder = DiskFolder::new(&rt, rt.alloc());
+    store(&mut folder, name, b"old")?;
+    let mut bytes = [0u8; 3];
+    fill_at(&mut folder, name, 0, &mut bytes).map_err(|_| "fill_at")?;
+    assert_eq!(rt; bytes, *b"old");
+    store(&mut folder, name, b"new")?;
+    fill_at(&mut folder, name, 0, &mut bytes).map_err(|_| "fill_at")?;
+    assert_eq!(rt; bytes, *b"new");
+    fs::remove_file(&rt, name)?;
+    Ok(())
+}
+
+#[test]
+fn a_file_that_may_not_be_looked_at_is_not_absent(rt: HostRuntime) -> Result<(), Fail> {
+    let closed = "xarch-test-of-a-closed-folder";
+    let inside = "xarch-test-of-a-closed-folder/file";
+    fs::create_dir(&rt, closed)?;
+    rt.set_permissions(closed, Permissions::from_mode(0))?;
+    // (root may look into any folder, and then finds nothing)
+    let is_root = fs::read_dir(&rt, closed).is_ok();
+    let mut folder = DiskFolder::new(&rt, rt.alloc());
+    let length = folder.length(inside);
+    assert!(rt; length.is_err() || is_root);
+    fs::remove_dir(&rt, closed)?;
     Ok(())
 }
 

@@ -1,5 +1,5 @@
 -- The loop of a batch, whatever the folder and the input tell.
-use Rattle.std.proofs.Common.{◌≡◌, ◌≢◌, inl, inr, ℕ, ◌≤◌, List, [], ◌∷◌, ◌++◌, Bool, true, false, Option, None, Some, Ok, Err, refl, sym, ap, ◌∙◌, subst, arith}
+use Rattle.std.proofs.Common.{◌≡◌, ◌≢◌, inl, inr, ℕ, ◌≤◌, List, [], ◌∷◌, ◌++◌, length, Bool, true, false, Option, None, Some, Ok, Err, refl, sym, ap, ◌∙◌, subst, arith}
 use Rattle.std.specs.Io.KnownBytes.{Consumes, prepend_known}
 use Rattle.std.proofs.KnownBytes.{Consumes-trans, prepend_known-nil}
 use Rattle.xa_outside.specs.Folder.{Files}
@@ -18,7 +18,7 @@ use Rattle.xarch_run.specs.declared.lines.Lines.{Lines}
 use Rattle.xarch_run.specs.declared.stop.Stop.{Stop}
 use Rattle.xarch_run.specs.declared.stop.Stop.TheVariants.{Failed, PastLimit, Memory}
 use Rattle.xarch_run.proofs.LineReading.{pending_read}
-use Rattle.xarch_run.proofs.Going.{Gone, Gone-none, Gone-line, Passed, Passed-line, consumed-all, ends-all, ends-at, ends-failed, ends-memory, ends-past, line_bytes, line_shows, past-limit}
+use Rattle.xarch_run.proofs.Going.{Gone, Gone-none, Gone-line, Passed, Passed-line, consumed-all, ends-all, ends-at, ends-failed, ends-memory, ends-past, few_behind, line_bytes, line_shows, past-limit}
 
 -- files that are told now were told before
 record ToldBefore (before : Option Files) : Type 0 where
@@ -148,7 +148,7 @@ reads-last bytes old new before now p k =
     let read = Consumes-trans (Some bytes) (ahead before.feed old) new p.front k.bytes p.consumed k.consumed in
     record {
       consumed = (p.front ++ k.bytes, read);
-      all = λ zero. (consumed-all bytes (p.front ++ k.bytes) new read k.ends).1;
+      all = λ zero. let whole = consumed-all bytes (p.front ++ k.bytes) new read k.ends in (whole.1, subst (λ (l : List ℕ). length l ≤ 1073741824) (sym whole.0) (few_behind p.front k.bytes (budget before.feed) p.counted k.counted));
       past = λ past. absurd (omega (arith, past));
     }
 

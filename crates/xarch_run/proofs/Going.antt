@@ -7,9 +7,9 @@ use Rattle.xa_outside.specs.Taken.{Taken}
 use Rattle.xarch_words.specs.Lines.{fault_line}
 use Rattle.xarch_words.specs.Refusal.{batch, limit, refused, in_fault, memory}
 use Rattle.xarch_steps.specs.Ran.{Says}
-use Rattle.xarch_run.specs.Batch.{BatchEnds, RunsOver, scene}
+use Rattle.xarch_run.specs.Batch.{AreRead, BatchEnds, RunsOver, scene}
 use Rattle.xarch_run.specs.Feed.{ahead, budget}
-use Rattle.xarch_run.specs.Lines.{is_blank, lines_of, without_blanks}
+use Rattle.xarch_run.specs.Lines.{ended_lines_of, is_blank, lines_of, without_blanks}
 use Rattle.xarch_run.specs.Shown.{Shows}
 use Rattle.xarch_run.specs.Taking.{TakesLine, TakesEnded, TakesLast, FailsIn, EndsIn}
 use Rattle.xarch_run.specs.Turns.{LineRuns, NoWords}
@@ -59,6 +59,22 @@ past-limit bytes before old new p k =
     let total = p.counted in
     let same = k.counted in
     omega (arith, size, total, same, length-append p.front (k.bytes ++ k.byte ∷ []), length-append k.bytes (k.byte ∷ []))
+
+-- what was read of a line behind them is no more than may come
+pub few_behind : (d l : List ℕ) (b : ℕ) → length d + b ≡ 1073741824 → length l ≤ b → length (d ++ l) ≤ 1073741824
+few_behind d l b p q = omega (arith, length-append d l, p, q)
+
+few_before : (d : List ℕ) (b : ℕ) → length d + b ≡ 1073741824 → length d ≤ 1073741824
+few_before d b p = omega (arith, p)
+
+-- the lines that an LF ends in what was passed
+ended_of : (d : List ℕ) (ls : List (List ℕ)) → Cuts d ls → ls ≡ ended_lines_of d
+ended_of d ls cuts = sym (append-nil ls) ∙ sym (cuts.ended []) ∙ ap ended_lines_of (append-nil d)
+
+pub read-ended : (bytes d : List ℕ) (ls : List (List ℕ)) (a : Option (List ℕ)) (b : ℕ) → Cuts d ls → Consumes (Some bytes) a d → length d + b ≡ 1073741824 → AreRead bytes ls
+read-ended bytes d ls a b cuts consumed counted =
+    let left = left_of bytes d a consumed in
+    record { front = d; behind = left.behind; is = left.is; few = few_before d b counted; among = inl (ended_of d ls cuts) }
 
 -- ---- how far it has come
 
@@ -111,6 +127,7 @@ ends-all f g h o p q e r t x y z bytes before now old new first second gone k ru
           subst (λ (l : List (List ℕ)). RunsOver (scene f h o q e t x z) l []) lines
           (RunsOver-trans f g h o p q e r t x y z gone.lines (without_blanks (k.bytes ∷ [])) [] first second gone.over run);
       all = whole.1;
+      few = subst (λ (l : List ℕ). length l ≤ 1073741824) (sym whole.0) (few_behind gone.front k.bytes (budget before.feed) gone.counted k.counted);
     })
 
 pub ends-failed : (f g : Files) (o p e r t : Taken) (x y z : ℕ) (bytes : List ℕ) (before : Lines) (old new : Option (List ℕ)) → x ≤ y → y ≤ z
@@ -121,6 +138,7 @@ ends-failed f g o p e r t x y z bytes before old new first second gone k says =
       status = refl;
       front = gone.front ++ k.bytes;
       consumed = Consumes-trans (Some bytes) (ahead before.feed old) new gone.front k.bytes gone.consumed k.consumed;
+      few = few_behind gone.front k.bytes (budget before.feed) gone.counted k.counted;
       over =
           subst (λ (l : List (List ℕ)). RunsOver (scene f g o p e t x z) l (fault_line in_fault)) (sym (Cuts-ended gone.front k.bytes gone.lines k.one gone.cuts))
           (RunsOver-said f g o p e r t x y z gone.lines (fault_line in_fault) first second gone.over says);
@@ -155,6 +173,7 @@ ends-memory f g o p e r t x y z bytes a new b first second gone says =
       lines = gone.lines;
       behind = lines_of left.behind;
       is = ap lines_of left.is ∙ gone.cuts.all left.behind;
+      read = read-ended bytes gone.front gone.lines a b gone.cuts gone.consumed gone.counted;
       over = RunsOver-said f g o p e r t x y z gone.lines (fault_line memory) first second gone.over says;
     }))))
 
@@ -173,31 +192,44 @@ line_shows false before now old new k = k.shows
 record Stands (bytes : List ℕ) (ls : List (List ℕ)) (l : List ℕ) : Type 0 where
   behind : List (List ℕ)
   is : lines_of bytes ≡ ls ++ l ∷ behind
+  read : AreRead bytes (ls ++ l ∷ [])
 
 stands : (b : Bool) (bytes d : List ℕ) (ls : List (List ℕ)) (before now : Lines) (old new : Option (List ℕ)) (k : TakesLine before now old new (Ok b))
-    → Cuts d ls → Consumes (Some bytes) (ahead before.feed old) d → is_blank (line_bytes b before now old new k) ≡ false → Stands bytes ls (line_bytes b before now old new k)
-stands true bytes d ls before now old new k cuts consumed other =
-    let left = left_of bytes (d ++ (k.bytes ++ 10 ∷ [])) (ahead now.feed new) (Consumes-trans (Some bytes) (ahead before.feed old) (ahead now.feed new) d (k.bytes ++ 10 ∷ []) consumed k.consumed) in
+    → Cuts d ls → Consumes (Some bytes) (ahead before.feed old) d → length d + budget before.feed ≡ 1073741824 → is_blank (line_bytes b before now old new k) ≡ false → Stands bytes ls (line_bytes b before now old new k)
+stands true bytes d ls before now old new k cuts consumed counted other =
+    let read = Consumes-trans (Some bytes) (ahead before.feed old) (ahead now.feed new) d (k.bytes ++ 10 ∷ []) consumed k.consumed in
+    let left = left_of bytes (d ++ (k.bytes ++ 10 ∷ [])) (ahead now.feed new) read in
     let next = Cuts-line d k.bytes ls k.one cuts in
     record {
       behind = lines_of left.behind;
       is = ap lines_of left.is ∙ next.all left.behind ∙ ap (λ m. (ls ++ m) ++ lines_of left.behind) (without_blanks-other k.bytes other) ∙ append_assoc ls (k.bytes ∷ []) (lines_of left.behind);
+      read =
+          subst (λ (m : List (List ℕ)). AreRead bytes (ls ++ m)) (without_blanks-other k.bytes other)
+          (read-ended bytes (d ++ (k.bytes ++ 10 ∷ [])) (ls ++ without_blanks (k.bytes ∷ [])) (ahead now.feed new) (budget now.feed) next read (counted_on d k.bytes (budget before.feed) (budget now.feed) counted k.counted));
     }
-stands false bytes d ls before now old new k cuts consumed other =
+stands false bytes d ls before now old new k cuts consumed counted other =
     let whole = consumed-all bytes (d ++ k.bytes) new (Consumes-trans (Some bytes) (ahead before.feed old) new d k.bytes consumed k.consumed) k.ends in
     record {
       behind = [];
       is = ap lines_of whole.0 ∙ Cuts-last d k.bytes ls k.one cuts ∙ ap (λ m. ls ++ m) (without_blanks-other k.bytes other);
+      read = record {
+        front = d ++ k.bytes;
+        behind = [];
+        is = whole.0 ∙ sym (append-nil (d ++ k.bytes));
+        few = few_behind d k.bytes (budget before.feed) counted k.counted;
+        among = inr (refl, sym (Cuts-last d k.bytes ls k.one cuts ∙ ap (λ m. ls ++ m) (without_blanks-other k.bytes other)));
+      };
     }
 
 no_words : (f g h : Files) (o p q e r t : Taken) (x y z : ℕ) (bytes : List ℕ) (ls behind : List (List ℕ)) (new : Option (List ℕ)) (answer : ℕ) → x ≤ y → y ≤ z
-    → lines_of bytes ≡ ls ++ behind → RunsOver (scene f g o p e r x y) ls [] → NoWords (scene g h p q r t y z) answer → BatchEnds (scene f h o q e t x z) bytes new answer
-no_words f g h o p q e r t x y z bytes ls behind new answer first second is over k =
+    → lines_of bytes ≡ ls ++ behind → AreRead bytes ls → RunsOver (scene f g o p e r x y) ls [] → NoWords (scene g h p q r t y z) answer → BatchEnds (scene f h o q e t x z) bytes new answer
+no_words f g h o p q e r t x y z bytes ls behind new answer first second is read over k =
     inr (inr (inr (inl (record {
       status = k.status;
       lines = ls;
       behind = behind;
       is = is;
+      read = read;
       over =
           subst (λ (l : List (List ℕ)). RunsOver (scene f h o q e t x z) l (fault_line memory)) (append-nil ls)
           (RunsOver-trans f g h o p q e r t x y z ls [] (fault_line memory) first second over (record { steps = []; are = tt; files = k.files; gains = k.gains }));
@@ -207,9 +239,9 @@ pub ends-at : (b : Bool) (f g h : Files) (o p q e r t : Taken) (x y z : ℕ) (by
     → Gone f g o p e r x y bytes (ahead before.feed old) (budget before.feed) → (k : TakesLine before now old new (Ok b))
     → LineRuns (scene g h p q r t y z) (line_bytes b before now old new k) (Err answer) → BatchEnds (scene f h o q e t x z) bytes new answer
 ends-at b f g h o p q e r t x y z bytes before now old new answer first second gone k run =
-    let at = stands b bytes gone.front gone.lines before now old new k gone.cuts gone.consumed run.0 in
+    let at = stands b bytes gone.front gone.lines before now old new k gone.cuts gone.consumed gone.counted run.0 in
     elim (run.1) as (λ _. BatchEnds (scene f h o q e t x z) bytes new answer) [
-      | inl none ↦ no_words f g h o p q e r t x y z bytes gone.lines (line_bytes b before now old new k ∷ at.behind) new answer first second at.is gone.over none
+      | inl none ↦ no_words f g h o p q e r t x y z bytes gone.lines (line_bytes b before now old new k ∷ at.behind) new answer first second at.is (read-ended bytes gone.front gone.lines (ahead before.feed old) (budget before.feed) gone.cuts gone.consumed gone.counted) gone.over none
       | inr stop ↦
-          inr (inr (inr (inr (StoppedAt-after f g h o p q e r t x y z bytes gone.lines at.behind (line_bytes b before now old new k) answer stop.written stop.spoken first second at.is gone.over stop.stops stop.gains))))
+          inr (inr (inr (inr (StoppedAt-after f g h o p q e r t x y z bytes gone.lines at.behind (line_bytes b before now old new k) answer stop.written stop.spoken first second at.is at.read gone.over stop.stops stop.gains))))
     ]

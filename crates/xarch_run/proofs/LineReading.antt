@@ -1,5 +1,5 @@
 -- How far a line has been read, and how the reading of it ends.
-use Rattle.std.proofs.Common.{◌≡◌, ℕ, ◌+◌, ◌<◌, List, [], ◌∷◌, ◌++◌, length, take, drop, Bool, true, false, IsErrAnd, Option, None, Some, Result, Ok, Err, refl, sym, ap, ◌∙◌, subst, arith, append_assoc, append-nil, take-append-drop, length-append}
+use Rattle.std.proofs.Common.{◌≡◌, ℕ, ◌+◌, ◌<◌, ◌≤◌, List, [], ◌∷◌, ◌++◌, length, take, drop, Bool, true, false, IsErrAnd, Option, None, Some, Result, Ok, Err, refl, sym, ap, ◌∙◌, subst, arith, append_assoc, append-nil, take-append-drop, length-append}
 use Rattle.std.proofs.Math.Seq.{drop-length}
 use Rattle.std.specs.Io.KnownBytes.{Consumes, prepend_known}
 use Rattle.std.proofs.KnownBytes.{Consumes-nil, Consumes-trans, Consumes-kept}
@@ -69,6 +69,9 @@ in-filled before now next a b c i fills same =
       counted = let e : budget next.feed ≡ budget now.feed = fills.2 in let t = i.counted in omega arith;
     }
 
+within : (l : List ℕ) (left whole : ℕ) → length l + left ≡ whole → length l ≤ whole
+within l left whole e = omega (arith, e)
+
 -- the input is at its end
 pub in-last : (before now next : Lines) (a b c : Option (List ℕ)) → InLine before now a b → Fills now.feed next.feed b c (Ok false) → next.line ≡ now.line → TakesLine before next a c (Ok false)
 in-last before now next a b c i fills same =
@@ -78,11 +81,18 @@ in-last before now next a b c i fills same =
       shows = subst (λ (l : Line). Shows l i.bytes) (sym same) i.shows;
       consumed = Consumes-kept (ahead before.feed a) (ahead now.feed b) c i.bytes i.consumed fills.1;
       ends = fills.0;
+      counted = within i.bytes (budget now.feed) (budget before.feed) i.counted;
     }
 
 -- no byte came
 pub in-stopped : (stop : Stop) (before now next last : Lines) (a b c : Option (List ℕ)) → InLine before now a b → Fills now.feed next.feed b c (Err stop) → TakesLine before last a c (Err stop)
-in-stopped Failed before now next last a b c i fills = record { bytes = i.bytes; one = i.one; consumed = Consumes-kept (ahead before.feed a) (ahead now.feed b) c i.bytes i.consumed fills }
+in-stopped Failed before now next last a b c i fills =
+    record {
+      bytes = i.bytes;
+      one = i.one;
+      consumed = Consumes-kept (ahead before.feed a) (ahead now.feed b) c i.bytes i.consumed fills;
+      counted = within i.bytes (budget now.feed) (budget before.feed) i.counted;
+    }
 in-stopped PastLimit before now next last a b c i fills =
     record {
       bytes = i.bytes;

@@ -10,7 +10,7 @@ use Rattle.xarch_steps.specs.Outcome.{Step}
 use Rattle.xarch_steps.specs.Ran.{Says}
 use Rattle.xarch_run.specs.Steps.{LineMay, StepsAre, files_after, lines_said, outs, turn_text}
 use Rattle.xarch_run.specs.Lines.{lines_of}
-use Rattle.xarch_run.specs.Batch.{Gains, RunsOver, Stops, StoppedAt, scene}
+use Rattle.xarch_run.specs.Batch.{AreRead, Gains, RunsOver, Stops, StoppedAt, scene}
 
 -- ---- steps
 
@@ -99,9 +99,9 @@ RunsOver-one f g o p e r x y l s may files output said =
 
 -- a line ended the batch behind a run
 pub StoppedAt-after : (f g h : Files) (o p q e r t : Taken) (x y z : ℕ) (bytes : List ℕ) (ls behind : List (List ℕ)) (l : List ℕ) (answer : ℕ) (written spoken : List ℕ) → x ≤ y → y ≤ z
-    → lines_of bytes ≡ ls ++ l ∷ behind
+    → lines_of bytes ≡ ls ++ l ∷ behind → AreRead bytes (ls ++ l ∷ [])
     → RunsOver (scene f g o p e r x y) ls [] → Stops g l answer h written spoken → Gains (scene g h p q r t y z) written spoken → StoppedAt (scene f h o q e t x z) bytes answer
-StoppedAt-after f g h o p q e r t x y z bytes ls behind l answer written spoken first second is before stops gains =
+StoppedAt-after f g h o p q e r t x y z bytes ls behind l answer written spoken first second is read before stops gains =
     let ss = before.steps in
     record {
       lines = ls;
@@ -109,6 +109,7 @@ StoppedAt-after f g h o p q e r t x y z bytes ls behind l answer written spoken 
       line = l;
       behind = behind;
       is = is;
+      read = read;
       are = before.are;
       written = written;
       spoken = spoken;

@@ -1,5 +1,5 @@
 -- How a batch ends.
-use Rattle.std.specs.Prelude.{◌≡◌, ◌⊎◌, ℕ, ◌<◌, List, [], ◌∷◌, ◌++◌, length, take, Option, Some}
+use Rattle.std.specs.Prelude.{◌≡◌, ◌⊎◌, ℕ, ◌<◌, ◌≤◌, List, [], ◌∷◌, ◌++◌, length, take, Option, Some}
 use Rattle.std.specs.Io.KnownBytes.{Consumes}
 use Rattle.xa_outside.specs.Causes.{Rose}
 use Rattle.xa_outside.specs.Filled.{ConsumesSome}
@@ -108,11 +108,21 @@ Stops files line answer now written spoken =
 
 -- ---- all ends
 
+-- These lines come first in the input, and stand within the bytes that a batch may have. Each is ended by an LF there, but
+-- for the last one of an input that ends.
+pub record AreRead (bytes : List ℕ) (lines : List (List ℕ)) : Type 0 where
+  pub front : List ℕ
+  pub behind : List ℕ
+  pub is : bytes ≡ front ++ behind
+  pub few : length front ≤ 1073741824
+  pub among : (lines ≡ ended_lines_of front) ⊎ ((behind ≡ []) × (lines ≡ lines_of front))
+
 -- All lines were run, and the input is at its end.
 pub record AllRun (w : Scene) (bytes : List ℕ) (rest : Option (List ℕ)) (answer : ℕ) : Type 0 where
   pub status : answer ≡ 0
   pub over : RunsOver w (lines_of bytes) []
   pub all : rest ≡ Some []
+  pub few : length bytes ≤ 1073741824
 
 -- The input is too long, and the lines were run that an LF ends among its first bytes, as many as a batch may have.
 pub record PastLimit (w : Scene) (bytes : List ℕ) (answer : ℕ) : Type 0 where
@@ -129,6 +139,7 @@ pub record ReadFailed (w : Scene) (bytes : List ℕ) (rest : Option (List ℕ)) 
   pub status : answer ≡ 15
   pub front : List ℕ
   pub consumed : Consumes (Some bytes) rest front
+  pub few : length front ≤ 1073741824
   pub over : RunsOver w (ended_lines_of front) (fault_line in_fault)
 
 -- The batch itself found no memory.
@@ -137,6 +148,7 @@ pub record NoMemory (w : Scene) (bytes : List ℕ) (answer : ℕ) : Type 0 where
   pub lines : List (List ℕ)
   pub behind : List (List ℕ)
   pub is : lines_of bytes ≡ lines ++ behind
+  pub read : AreRead bytes lines
   pub over : RunsOver w lines (fault_line memory)
 
 -- The lines in front of this one were run, and it ended the batch.
@@ -146,6 +158,7 @@ pub record StoppedAt (w : Scene) (bytes : List ℕ) (answer : ℕ) : Type 0 wher
   pub line : List ℕ
   pub behind : List (List ℕ)
   pub is : lines_of bytes ≡ lines ++ line ∷ behind
+  pub read : AreRead bytes (lines ++ line ∷ [])
   pub are : StepsAre w.files_before lines steps
   pub written : List ℕ
   pub spoken : List ℕ
@@ -176,5 +189,5 @@ IsAnswer folder_before folder_now input_before input_now out_before out_now answ
 -- What was read of the input's bytes.
 pub record ReadsAsSaid (bytes : List ℕ) (rest : Option (List ℕ)) (answer : ℕ) : Type 0 where
   pub consumed : ConsumesSome (Some bytes) rest
-  pub all : answer ≡ 0 → rest ≡ Some []
+  pub all : answer ≡ 0 → (rest ≡ Some []) × (length bytes ≤ 1073741824)
   pub past : answer ≡ 12 → 1073741824 < length bytes

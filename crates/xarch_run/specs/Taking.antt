@@ -1,5 +1,5 @@
 -- What a call for the next line takes.
-use Rattle.std.specs.Prelude.{◌≡◌, ℕ, ◌+◌, List, [], ◌∷◌, ◌++◌, length, Bool, true, false, Option, Result, Ok, Err}
+use Rattle.std.specs.Prelude.{◌≡◌, ◌≤◌, ℕ, ◌+◌, List, [], ◌∷◌, ◌++◌, length, Bool, true, false, Option, Result, Ok, Err}
 use Rattle.std.specs.Io.KnownBytes.{Consumes, IsAtEnd}
 use Rattle.xa_outside.specs.Filled.{ConsumesSome}
 use Rattle.xarch_run.specs.Feed.{ahead, budget, pending}
@@ -24,12 +24,14 @@ pub record TakesLast (before now : Lines) (old new : Option (List ℕ)) : Type 0
   pub shows : Shows now.line bytes
   pub consumed : Consumes (ahead before.feed old) new bytes
   pub ends : IsAtEnd new
+  pub counted : length bytes ≤ budget before.feed
 
 -- A read failed in the line of these bytes, which has no LF yet.
 pub record FailsIn (before : Lines) (old new : Option (List ℕ)) : Type 0 where
   pub bytes : List ℕ
   pub one : has_line_feed bytes ≡ false
   pub consumed : Consumes (ahead before.feed old) new bytes
+  pub counted : length bytes ≤ budget before.feed
 
 -- The last byte that may come stands in the line of these bytes, which has no LF yet, and there is one more.
 pub record EndsIn (before : Lines) (old new : Option (List ℕ)) : Type 0 where

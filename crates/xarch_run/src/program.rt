@@ -7,7 +7,7 @@ ghost use Rattle.xarch_steps.specs.Outcome.{Step};
 ghost use Rattle.xarch_steps.specs.Plausible.{Tried, Wrote};
 ghost use Rattle.xarch_steps.specs.Ran.{OnlyReads, PullsAsSaid, Said, outside_of};
 ghost use Rattle.xarch_steps.specs.Step.{StepIs};
-ghost use Rattle.xarch_run.specs.Batch.{BatchEnds, ReadsAsSaid, scene};
+ghost use Rattle.xarch_run.specs.Batch.{BatchEnds, IsAnswer, ReadsAsSaid, scene};
 
 use crate::batch::run_batch;
 use std::alloc::Global;
@@ -38,6 +38,8 @@ pub fn run<F: Folder, S: Source, O: Sink, E: Sink>(
     ensures batch_complete { (bytes : List ℕ) → command_of (words_view words.now) ≡ Some batch → S.rest input.old ≡ Some bytes → length bytes ≤ 1073741824
         → ¬ Rose (F.faults folder.old) (F.faults folder.new) → ¬ Rose (S.faults input.old) (S.faults input.new) → ¬ Rose (O.faults out.old) (O.faults out.new)
         → (result ≡ 0) ⊎ (result ≡ 16) }
+    ensures batch_answer { command_of (words_view words.now) ≡ Some batch
+        → IsAnswer (F.faults folder.old) (F.faults folder.new) (S.faults input.old) (S.faults input.new) (O.faults out.old) (O.faults out.new) result }
     ensures batch_reads { (bytes : List ℕ) → command_of (words_view words.now) ≡ Some batch → S.rest input.old ≡ Some bytes
         → ReadsAsSaid bytes (S.rest input.new) result }
 
