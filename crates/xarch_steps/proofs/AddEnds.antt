@@ -1,5 +1,5 @@
 -- How the parts of `add` lead to its end.
-use Rattle.std.proofs.Common.{◌≡◌, ◌⊎◌, inl, inr, ℕ, List, [], ◌∷◌, ◌++◌, length, Option, Some, None, Result, Ok, Err, refl, sym, ap, ◌∙◌, subst}
+use Rattle.std.proofs.Common.{◌≡◌, ◌⊎◌, inl, inr, ℕ, List, [], ◌∷◌, ◌++◌, length, Result, Ok, Err, refl, sym, ap, ◌∙◌, subst}
 use Rattle.std.specs.FinMap as map
 use Rattle.xa_outside.specs.Folder.{Files}
 use Rattle.jsonml_tree.specs.Data.{PlainTree}
@@ -59,15 +59,6 @@ module _ (files : Files) (name doc bytes : List ℕ) (n : ℕ) (there : file_of 
   pub input-refused : (v : PlainFault) → IsDefined (added_behind files name doc bytes) v → IsDefined (add_input files name doc) v
   input-refused v p = subst (λ x. IsDefined x v) (sym input-behind) (IsDefined-here (added_behind files name doc bytes) (λ k. Ok (bytes, k)) v p)
 
--- the bytes that were read are those of the archive
-from_there : (x : Option (List ℕ)) (r : Refusal) (f : List ℕ → Result (List ℕ × PlainKeyed) Refusal) (bytes : List ℕ) (k : PlainKeyed) → ((b : List ℕ) → f b ≡ Ok (bytes, k) → b ≡ bytes) → and_then (or_refuse x r) f ≡ Ok (bytes, k) → x ≡ Some bytes
-from_there None r f bytes k only e = absurd cc
-from_there (Some b) r f bytes k only e = ap (λ (z : List ℕ). Some z) (only b e)
-
-beside-only : (b : List ℕ) (x : Result ℕ Refusal) (y : Result PlainKeyed Refusal) (bytes : List ℕ) (k : PlainKeyed) → and_then x (λ _. beside b y) ≡ Ok (bytes, k) → b ≡ bytes
-beside-only b (Err e) y bytes k h = absurd cc
-beside-only b (Ok n) y bytes k h = (beside-given b bytes y k h).0
-
 -- ---- what may come
 
 module _ (files : Files) (name doc : List ℕ) where
@@ -98,12 +89,6 @@ module _ (files : Files) (name doc : List ℕ) where
   module _ (bytes : List ℕ) (k : PlainKeyed) (input : add_input files name doc ≡ Ok (bytes, k)) where
     given : (rules : List PlainRule) (vs : List PlainKeyed) (a : ArchiveIs files name rules vs) → (a.bytes ≡ bytes) × (added files doc rules (length vs) ≡ Ok k)
     given rules vs a = beside-given a.bytes bytes (added files doc rules (length vs)) k (sym (input_sound rules vs a) ∙ input)
-
-    there : map.get files name ≡ Some bytes
-    there =
-        from_there (map.get files name) (no_file name) _ bytes k
-        (λ b e. beside-only b (length_in files doc document 67108864) (added_behind files name doc b) bytes k
-        (sym (ap (λ x. and_then (length_in files doc document 67108864) (λ _. x)) (beside-keyed b (or_refuse (header b) (damaged name)) (read_in files doc document_of) keyed_of room_behind)) ∙ e)) input
 
     -- the new file comes
     pub may_replace : (new : List ℕ) → ((rules : List PlainRule) (vs : List PlainKeyed) → SoundAs rules vs bytes → SoundAs rules (vs ++ k ∷ []) new)

@@ -9,7 +9,7 @@ use Rattle.xarch_words.specs.Refusal.{PlainFault, refused, folder_fault, out_fau
 use Rattle.xarch_words.specs.View.{fault_view}
 use Rattle.xarch_words.specs.declared.fault.Fault.{Fault}
 use Rattle.xarch_steps.specs.Ends.{fault_of, IsInside, IsOfFolder, IsOfOutput, IsOfCommand, IsCaused}
-use Rattle.xarch_steps.specs.Folders.{ReadsOnly, Begins, WritesOnly, PullsThenDrafts, Counts, Keeps}
+use Rattle.xarch_steps.specs.Folders.{ReadsOnly, Begins, WritesOnly, Keeps}
 use Rattle.xarch_steps.specs.Inputs.{size_in}
 use Rattle.xarch_steps.proofs.Ending.{IsOfFolder-inside, IsOfFolder-later, IsOfCommand-inside, IsOfCommand-folder, IsOfCommand-output}
 

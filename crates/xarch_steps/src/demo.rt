@@ -93,7 +93,7 @@ fn tell_then_store<F: Folder, O: Sink>(
     ensures caused { IsCaused (F.faults folder.old) (F.faults folder.new) (O.faults out.old) (O.faults out.new) (fault_of result) }
     ensures may { (files : Files) → F.files folder.old ≡ Some files
         → MayEnd (λ r. r ≡ Ok (told_and_stored files name.now bytes.now (counts_view counts.now)))
-            (fault_of result) (F.files folder.new) (O.taken out.old) (O.taken out.new) }
+        (fault_of result) (F.files folder.new) (O.taken out.old) (O.taken out.new) }
 {
     draft(folder, bytes)?;
     write_counts(counts, out)?;

@@ -15,11 +15,7 @@ use xa_outside::{Folder, fill_at};
 use xarch_words::{Fault, Quantity};
 
 /// The length of a named file.
-pub(crate) fn length_of<F: Folder>(
-    alloc: Global,
-    folder: &mut F,
-    name: &str,
-) -> Result<u64, Fault>
+pub(crate) fn length_of<F: Folder>(alloc: Global, folder: &mut F, name: &str) -> Result<u64, Fault>
     ensures reads { ReadsOnly F.files F.draft F.numbers F.faults 0 folder.old folder.new (fault_of result) }
     ensures told { (files : Files) → F.files folder.old ≡ Some files → Matches (λ n. n) (file_length files name.now) result }
     ensures size { IfOk result (λ n. n ≤ size_in (F.files folder.old) name.now) }

@@ -1,5 +1,4 @@
-use Rattle.std.proofs.Common.{◌≡◌, inl, inr, List, ℕ, Ok, Err, refl, sym, ap, ◌∙◌, subst, arith}
-use Rattle.xarch_words.specs.Refusal as refusal
+use Rattle.std.proofs.Common.{◌≡◌, inl, inr, List, ℕ, Ok, Err, sym, ap, ◌∙◌, subst, arith}
 use Rattle.archive_stats.specs.View.{counts_view}
 use Rattle.xarch_steps.specs.Demo.{IsSampleFile, MakesOrNone, told_and_stored}
 use Rattle.xarch_steps.proofs.FolderLemmas.{caused-inside, caused-passed, writes-none}
