@@ -1,5 +1,5 @@
 // Making a tree.
-ghost use Rattle.std.specs.Prelude.{◌≡◌, ℕ, ◌<◌, length, map, IfOk};
+ghost use Rattle.std.specs.Prelude.{◌≡◌, ℕ, ◌+◌, ◌<◌, length, map, IfOk};
 ghost use Rattle.version_set.specs.View.{pairs_of};
 ghost use Rattle.timestamp_tree.specs.Data.{leaves};
 ghost use Rattle.timestamp_tree.specs.Bytes.{stored, tree_bytes};
@@ -29,7 +29,6 @@ pub fn build(alloc: Global, sets: &[VersionSet]) -> Result<(Part, u64), AllocErr
 }
 
 /// The tree with these two parts, and its size in bytes.
-/// One whose size is past a u64 finds no memory.
 fn join(
     alloc: Global,
     left: Part,
@@ -44,10 +43,8 @@ fn join(
     ensures size { IfOk result (λ made. made.1 ≡ length (tree_bytes (part_view made.0))) }
 {
     let set = set_of(&left).union(set_of(&right))?;
-    let parts = left_size.checked_add(right_size).ok_or(AllocError)?;
-    let size = own_size(&set).checked_add(parts).ok_or(AllocError)?;
-    let left = Box::new(alloc, left)?;
-    let right = Box::new(alloc, right)?;
+    let size = whole_size(&set, left_size, right_size)?;
+    let (left, right) = boxed(alloc, left, right)?;
     let joined = Part::Inner {
         set,
         left_size,
@@ -55,6 +52,23 @@ fn join(
         right,
     };
     Ok((joined, size))
+}
+
+fn boxed(alloc: Global, left: Part, right: Part) -> Result<(Box<Part>, Box<Part>), AllocError>
+    ensures { IfOk result (λ both. (both.0.value ≡ left) × (both.1.value ≡ right)) }
+{
+    let left = Box::new(alloc, left)?;
+    let right = Box::new(alloc, right)?;
+    Ok((left, right))
+}
+
+/// The bytes of a node with its parts. A size past a u64 finds no memory.
+fn whole_size(set: &VersionSet, left_size: u64, right_size: u64) -> Result<u64, AllocError>
+    ensures { IfOk result (λ size.
+        size ≡ length (stored (pairs_of set.now) left_size) + (left_size + right_size)) }
+{
+    let parts = left_size.checked_add(right_size).ok_or(AllocError)?;
+    own_size(set).checked_add(parts).ok_or(AllocError)
 }
 
 /// The bytes of a node without its parts.

@@ -41,7 +41,10 @@ pub fn select_from<L: Ledger>(
             Ok(())
         }
         Part::Inner {
-            set, left, right, ..
+            set,
+            left,
+            right,
+            ..
         } => {
             if !set.contains(i) {
                 return Ok(());

@@ -1,4 +1,4 @@
-ghost use Rattle.std.specs.Prelude.{◌≡◌, ℕ, ◌+◌, ◌*◌, ◌≤◌, ◌<◌, ◌^◌, ◌++◌, length, map, IfOk, OnOk, OnErr};
+ghost use Rattle.std.specs.Prelude.{◌≡◌, ◌+◌, ◌*◌, ◌≤◌, ◌<◌, ◌^◌, ◌++◌, length, map, IfOk, OnOk, OnErr};
 ghost use Rattle.version_set.specs.View.{pairs_of};
 ghost use Rattle.timestamp_tree.specs.Data.{leaves, height};
 ghost use Rattle.timestamp_tree.specs.Bytes.{tree_bytes};
