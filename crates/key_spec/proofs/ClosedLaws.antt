@@ -282,8 +282,8 @@ module _ (text : List ℕ) (rs : List PlainRule) (closes : closed text ≡ Ok rs
         contexts = λ r h. ⊎_elim (λ e. inl e) (λ f. inr (to-Contains (map target_of rs) r.context (subst (λ p. In p (map target_of rs)) f.2 (to_map target_of rs f.0 f.1)))) (has_context r (from-Contains rs r h));
         implied = λ r i h g. to-Contains rs i (implied_closed i (implied_again i (to_flat_map implied_by rs r i (from-Contains rs r h) (from-Contains (implied_by r) i g))));
         ends = λ p h. not_from_false _ (false_from_ne_true (list_any (λ (r : PlainRule). is_eq (path_cmp r.context p)) rs) (λ e.
-        let found = from_any (λ (r : PlainRule). is_eq (path_cmp r.context p)) rs e in
-        closed_open found.0 p found.1 (from-Contains (frontier_ends rs) p h) found.2));
+            let found = from_any (λ (r : PlainRule). is_eq (path_cmp r.context p)) rs e in
+            closed_open found.0 p found.1 (from-Contains (frontier_ends rs) p h) found.2));
         few = subst (λ xs. length xs ≤ 4096) kept.0 kept.1;
         short = subst (λ xs. length (canonical xs) ≤ 1048576) kept.0 kept.2;
       }

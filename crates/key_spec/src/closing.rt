@@ -87,7 +87,7 @@ fn closing_why(
 ) -> Result<Option<u8>, AllocError>
     ensures { IfOk result
         (λ why. why
-            ≡ text_why marks.now.given marks.now.implied marks.now.ends earlier.now (rule_view rule.now)) }
+        ≡ text_why marks.now.given marks.now.implied marks.now.ends earlier.now (rule_view rule.now)) }
 {
     if lacks_context(alloc, marks, rule)? {
         return Ok(Some(2));

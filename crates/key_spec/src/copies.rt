@@ -15,7 +15,11 @@ pub fn copy_names(alloc: Global, names: &[String]) -> Result<Vec<String>, AllocE
     Ok(copies)
 }
 
-pub(crate) fn push_copy(alloc: Global, names: &mut Vec<String>, name: &String) -> Result<(), AllocError>
+pub(crate) fn push_copy(
+    alloc: Global,
+    names: &mut Vec<String>,
+    name: &String,
+) -> Result<(), AllocError>
     ensures { OnOk result (names_view names.new.items
         ≡ names_view names.old.items ++ string_bytes name.now ∷ []) }
 {
