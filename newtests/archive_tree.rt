@@ -19,7 +19,7 @@ fn two_bodies(alloc: Global, first: &[(u32, u32)], second: &[(u32, u32)]) -> Res
         body: body_of(alloc, "95K")?,
     };
     let salary = leaf(tag(alloc, "sal")?, vec![in alloc; old, new]?);
-    vec![in alloc; salary]
+    Ok(vec![in alloc; salary]?)
 }
 
 #[test]
