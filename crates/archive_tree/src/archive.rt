@@ -53,7 +53,8 @@ impl Archive {
         ensures parts { archive_view result ≡ record { n = n; kids = nodes_view kids.items } }
 
         // A list has one archive.
-        ensures one_archive { (vs : List PlainKeyed) (b : PlainArchive) → ArchiveOf vs (archive_view result) → ArchiveOf vs b → archive_view result ≡ b }
+        ensures one_archive { (vs : List PlainKeyed) (b : PlainArchive) → ArchiveOf vs (archive_view result)
+            → ArchiveOf vs b → archive_view result ≡ b }
     {
         Archive { n, kids }
     }
@@ -61,11 +62,14 @@ impl Archive {
     /// The archive of these parts, or None where no list of versions has an archive of these parts.
     pub fn of_parts(alloc: Global, n: u32, kids: Vec<ANode>) -> Result<Option<Archive>, AllocError>
         requires { AreNodesWellFormed (nodes_view kids.items) }
-        ensures none { IfOk result (λ o. IfNone o ((vs : List PlainKeyed) → ¬ (ArchiveOf vs (record { n = n; kids = nodes_view kids.items })))) }
-        ensures parts { IfOk result (λ o. IfSome o (λ a. archive_view a ≡ record { n = n; kids = nodes_view kids.items })) }
+        ensures none { IfOk result (λ o. IfNone o
+            ((vs : List PlainKeyed) → ¬ (ArchiveOf vs (record { n = n; kids = nodes_view kids.items })))) }
+        ensures parts { IfOk result (λ o. IfSome o (λ a. archive_view a
+            ≡ record { n = n; kids = nodes_view kids.items })) }
 
         // Parts are those of an archive exactly where they meet the conditions.
-        ensures conditions { IfOk result (λ o. IsSome o ↔ IsArchive (record { n = n; kids = nodes_view kids.items })) }
+        ensures conditions { IfOk result (λ o. IsSome o
+            ↔ IsArchive (record { n = n; kids = nodes_view kids.items })) }
     {
         if are_archive_parts(alloc, n, &kids)? {
             Ok(Some(Archive { n, kids }))
@@ -76,7 +80,8 @@ impl Archive {
 
     /// The number of versions, and the kids of the virtual root. It takes no memory.
     pub fn into_parts(self) -> (u32, Vec<ANode>)
-        ensures parts { record { n = result.0; kids = nodes_view result.1.items } ≡ archive_view self }
+        ensures parts { record { n = result.0; kids = nodes_view result.1.items }
+            ≡ archive_view self }
         ensures stands { ∥ Kept (record { n = result.0; kids = nodes_view result.1.items }) ∥₁ }
         ensures well_formed { AreNodesWellFormed (nodes_view result.1.items) }
     {
@@ -96,16 +101,20 @@ impl Archive {
         ensures well_formed { AreNodesWellFormed (nodes_view result.now) }
 
         // An archive stands for one list.
-        ensures one_list { (vs us : List PlainKeyed) → ArchiveOf vs (archive_view self.now) → ArchiveOf us (archive_view self.now) → vs ≡ us }
+        ensures one_list { (vs us : List PlainKeyed) → ArchiveOf vs (archive_view self.now)
+            → ArchiveOf us (archive_view self.now) → vs ≡ us }
     {
         &self.kids
     }
 
-    /// The version of that number. None where there is none. Only what that version holds is copied.
+    /// The version of that number. None where there is none. Only what that version holds is
+    /// copied.
     pub fn version(&self, alloc: Global, i: u32) -> Result<Option<Keyed>, AllocError>
         ensures found { IfOk result (λ o. IsSome o ↔ ((1 ≤ i) × (i ≤ (archive_view self.now).n))) }
-        ensures item { (vs : List PlainKeyed) → ArchiveOf vs (archive_view self.now) → IfOk result (λ o. option_map keyed_view o ≡ version_of vs i) }
-        ensures read { IfOk result (λ o. option_map keyed_view o ≡ version_at i (archive_view self.now)) }
+        ensures item { (vs : List PlainKeyed) → ArchiveOf vs (archive_view self.now)
+            → IfOk result (λ o. option_map keyed_view o ≡ version_of vs i) }
+        ensures read { IfOk result (λ o. option_map keyed_view o
+            ≡ version_at i (archive_view self.now)) }
         ensures well_formed { IfOk result (λ o. IfSome o (λ k. IsKeyedWellFormed (keyed_view k))) }
     {
         self.tree_at(alloc, i)
@@ -113,25 +122,29 @@ impl Archive {
 
     // What the nodes have at the number.
     fn tree_at(&self, alloc: Global, i: u32) -> Result<Option<Keyed>, AllocError>
-        ensures { IfOk result (λ o. option_map keyed_view o ≡ version_at i (archive_view self.now)) }
+        ensures { IfOk result (λ o. option_map keyed_view o
+            ≡ version_at i (archive_view self.now)) }
     {
         let all = VersionSet::upto(alloc, self.n);
         read_version(alloc, i, &all, &self.kids)
     }
 
-    /// The numbers of the versions that hold the path: for the empty path, all. Each label is looked for by halving.
+    /// The numbers of the versions that hold the path: for the empty path, all. Each label is
+    /// looked for by halving.
     pub fn history(&self, alloc: Global, path: &[Label]) -> Result<VersionSet, AllocError>
         ensures members { (vs : List PlainKeyed) → ArchiveOf vs (archive_view self.now)
             → IfOk result (λ s. members (pairs_of s) ≡ hist vs (map label_view path.now)) }
         ensures holds { (vs : List PlainKeyed) → ArchiveOf vs (archive_view self.now)
-            → IfOk result (λ s. (i : ℕ) (k : PlainKeyed) → version_of vs i ≡ Some k → IsTrue (has (members (pairs_of s)) i) ↔ Holds (map label_view path.now) k) }
+            → IfOk result (λ s. (i : ℕ) (k : PlainKeyed) → version_of vs i ≡ Some k
+            → IsTrue (has (members (pairs_of s)) i) ↔ Holds (map label_view path.now) k) }
     {
         self.set_at(alloc, path)
     }
 
     // The set of the node that the path leads to.
     fn set_at(&self, alloc: Global, path: &[Label]) -> Result<VersionSet, AllocError>
-        ensures { IfOk result (λ s. members (pairs_of s) ≡ seek (map label_view path.now) (range_with_len 1 (archive_view self.now).n) (archive_view self.now).kids) }
+        ensures { IfOk result (λ s. members (pairs_of s)
+            ≡ seek (map label_view path.now) (range_with_len 1 (archive_view self.now).n) (archive_view self.now).kids) }
     {
         let all = VersionSet::upto(alloc, self.n);
         match follow(&all, &self.kids, path) {

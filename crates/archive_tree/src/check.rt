@@ -33,7 +33,8 @@ pub fn are_archive_parts(alloc: Global, n: u32, kids: &[ANode]) -> Result<bool, 
 // The node, with all below it, under a parent that has the set.
 #[cycle(check)]
 fn is_node_well(alloc: Global, parent: &VersionSet, node: &ANode) -> Result<bool, AllocError>
-    ensures { IfOk result (λ b. b ≡ is_node_well (node_view node.now) (members (pairs_of parent.now))) }
+    ensures { IfOk result (λ b. b
+        ≡ is_node_well (node_view node.now) (members (pairs_of parent.now))) }
 {
     let set = effective(node.stamp(), parent);
     match node {
@@ -50,7 +51,8 @@ fn is_node_well(alloc: Global, parent: &VersionSet, node: &ANode) -> Result<bool
 
 #[cycle(check)]
 fn are_nodes_well(alloc: Global, set: &VersionSet, nodes: &[ANode]) -> Result<bool, AllocError>
-    ensures { IfOk result (λ b. b ≡ are_nodes_well (nodes_view nodes.now) (members (pairs_of set.now))) }
+    ensures { IfOk result (λ b. b
+        ≡ are_nodes_well (nodes_view nodes.now) (members (pairs_of set.now))) }
 {
     for node in nodes {
         if !is_node_well(alloc, set, node)? {
@@ -97,7 +99,8 @@ fn is_tag(name: &Name) -> bool
 }
 
 fn are_kids_parts(alloc: Global, set: &VersionSet, nodes: &[ANode]) -> Result<bool, AllocError>
-    ensures { IfOk result (λ b. b ≡ are_parts (members (pairs_of set.now)) (node_sets (members (pairs_of set.now)) (nodes_view nodes.now))) }
+    ensures { IfOk result (λ b. b
+        ≡ are_parts (members (pairs_of set.now)) (node_sets (members (pairs_of set.now)) (nodes_view nodes.now))) }
 {
     let mut parts = Vec::with_capacity(alloc, nodes.len())?;
     for node in nodes {
@@ -106,9 +109,11 @@ fn are_kids_parts(alloc: Global, set: &VersionSet, nodes: &[ANode]) -> Result<bo
     are_parts(alloc, set, &parts)
 }
 
-// Whether the sets are pairwise disjoint and together the set: their intervals are sorted and gone along once.
+// Whether the sets are pairwise disjoint and together the set: their intervals are sorted and gone
+// along once.
 fn are_parts(alloc: Global, set: &VersionSet, parts: &[&VersionSet]) -> Result<bool, AllocError>
-    ensures { IfOk result (λ b. b ≡ are_parts (members (pairs_of set.now)) (map (λ s. members (pairs_of s.now)) parts.now)) }
+    ensures { IfOk result (λ b. b
+        ≡ are_parts (members (pairs_of set.now)) (map (λ s. members (pairs_of s.now)) parts.now)) }
 {
     let mut pairs = pairs_of_all(alloc, parts)?;
     pairs.sort_unstable_by_key(|pair| pair.0);
@@ -151,7 +156,8 @@ fn do_tile(whole: &[(u32, u32)], pairs: &[(u32, u32)]) -> bool
 
 // The alternatives of a leaf that has the set.
 fn are_alts_well(alloc: Global, set: &VersionSet, alts: &[Alt]) -> Result<bool, AllocError>
-    ensures { IfOk result (λ b. b ≡ are_alts_well (members (pairs_of set.now)) (map alt_view alts.now)) }
+    ensures { IfOk result (λ b. b
+        ≡ are_alts_well (members (pairs_of set.now)) (map alt_view alts.now)) }
 {
     if !are_stamps_well(set, alts) || !do_firsts_rise(set, alts) {
         return Ok(false);
@@ -195,7 +201,8 @@ fn first_number(set: &VersionSet) -> u32
 }
 
 fn are_alts_parts(alloc: Global, set: &VersionSet, alts: &[Alt]) -> Result<bool, AllocError>
-    ensures { IfOk result (λ b. b ≡ are_parts (members (pairs_of set.now)) (alt_sets (members (pairs_of set.now)) (map alt_view alts.now))) }
+    ensures { IfOk result (λ b. b
+        ≡ are_parts (members (pairs_of set.now)) (alt_sets (members (pairs_of set.now)) (map alt_view alts.now))) }
 {
     let mut parts = Vec::with_capacity(alloc, alts.len())?;
     for alt in alts {
@@ -216,7 +223,8 @@ fn do_bodies_differ(alloc: Global, alts: &[Alt]) -> Result<bool, AllocError>
     Ok(true)
 }
 
-// A stored set is not empty, lies in the parent's and differs from it; without one the parent's is not empty.
+// A stored set is not empty, lies in the parent's and differs from it; without one the parent's is
+// not empty.
 fn is_stamp_well(stamp: &Option<VersionSet>, parent: &VersionSet) -> bool
     ensures { result ≡ is_stamp_well (stamp_view stamp.now) (members (pairs_of parent.now)) }
 {

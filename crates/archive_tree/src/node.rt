@@ -12,7 +12,8 @@ ghost use Rattle.archive_tree.specs.View.{stamp_view, node_view, nodes_view};
 use keyed_tree::{Body, Label};
 use version_set::VersionSet;
 
-/// One of the bodies that a leaf has had, with the versions that have it, where they are not all the leaf's.
+/// One of the bodies that a leaf has had, with the versions that have it, where they are not all
+/// the leaf's.
 #[derive(Debug, Drop)]
 pub struct Alt {
     pub stamp: Option<VersionSet>,
@@ -69,7 +70,8 @@ impl ANode {
 
 /// The stored set, else the parent's. It takes no memory.
 pub fn effective<'a>(stamp: &'a Option<VersionSet>, parent: &'a VersionSet) -> &'a VersionSet
-    ensures members { members (pairs_of result.now) ≡ eff (stamp_view stamp.now) (members (pairs_of parent.now)) }
+    ensures members { members (pairs_of result.now)
+        ≡ eff (stamp_view stamp.now) (members (pairs_of parent.now)) }
     ensures pairs { pairs_of result.now ≡ unwrap_or (stamp_view stamp.now) (pairs_of parent.now) }
 {
     match stamp {
@@ -81,7 +83,8 @@ pub fn effective<'a>(stamp: &'a Option<VersionSet>, parent: &'a VersionSet) -> &
 /// The node with that label, by halving. It takes no memory.
 pub(crate) fn find_node<'a>(nodes: &'a [ANode], label: &Label) -> Option<&'a ANode>
     requires { IsTrue (rise (labels (nodes_view nodes.now))) }
-    ensures { option_map (λ k. node_view k.now) result ≡ node_with (label_view label.now) (map node_view nodes.now) }
+    ensures { option_map (λ k. node_view k.now) result
+        ≡ node_with (label_view label.now) (map node_view nodes.now) }
 {
     match nodes.binary_search_by(|node| node.label().order(label)) {
         Ok(at) => Some(&nodes[at]),

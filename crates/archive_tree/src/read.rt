@@ -24,7 +24,8 @@ pub fn read_node(
     parent: &VersionSet,
     node: &ANode,
 ) -> Result<Keyed, AllocError>
-    ensures { IfOk result (λ k. keyed_view k ≡ read i (members (pairs_of parent.now)) (node_view node.now)) }
+    ensures { IfOk result (λ k. keyed_view k
+        ≡ read i (members (pairs_of parent.now)) (node_view node.now)) }
 {
     let set = effective(node.stamp(), parent);
     match node {
@@ -46,7 +47,8 @@ pub fn read_version(
     all: &VersionSet,
     nodes: &[ANode],
 ) -> Result<Option<Keyed>, AllocError>
-    ensures { IfOk result (λ o. option_map keyed_view o ≡ read_root i (members (pairs_of all.now)) (nodes_view nodes.now)) }
+    ensures { IfOk result (λ o. option_map keyed_view o
+        ≡ read_root i (members (pairs_of all.now)) (nodes_view nodes.now)) }
 {
     for node in nodes {
         if effective(node.stamp(), all).contains(i) {
@@ -63,7 +65,8 @@ fn read_kids(
     set: &VersionSet,
     nodes: &[ANode],
 ) -> Result<Vec<Keyed>, AllocError>
-    ensures { IfOk result (λ v. map keyed_view v.items ≡ kids_list (read_row i (members (pairs_of set.now)) (nodes_view nodes.now))) }
+    ensures { IfOk result (λ v. map keyed_view v.items
+        ≡ kids_list (read_row i (members (pairs_of set.now)) (nodes_view nodes.now))) }
 {
     let mut kids = Vec::new(alloc);
     for node in nodes {
@@ -75,7 +78,8 @@ fn read_kids(
 }
 
 fn read_body(alloc: Global, i: u32, set: &VersionSet, alts: &[Alt]) -> Result<Body, AllocError>
-    ensures { IfOk result (λ b. key_view b ≡ body_at i (members (pairs_of set.now)) (map alt_view alts.now)) }
+    ensures { IfOk result (λ b. key_view b
+        ≡ body_at i (members (pairs_of set.now)) (map alt_view alts.now)) }
 {
     for alt in alts {
         if effective(&alt.stamp, set).contains(i) {
@@ -89,7 +93,8 @@ fn read_body(alloc: Global, i: u32, set: &VersionSet, alts: &[Alt]) -> Result<Bo
 /// The set of the node that the path leads to, below nodes whose parent has the set.
 pub fn follow<'a>(all: &'a VersionSet, nodes: &'a [ANode], path: &[Label]) -> Option<&'a VersionSet>
     requires { AreRowsSorted (nodes_view nodes.now) }
-    ensures { seek (map label_view path.now) (members (pairs_of all.now)) (nodes_view nodes.now) ≡ members_in (option_map (λ s. pairs_of s.now) result) }
+    ensures { seek (map label_view path.now) (members (pairs_of all.now)) (nodes_view nodes.now)
+        ≡ members_in (option_map (λ s. pairs_of s.now) result) }
 {
     let mut set = all;
     let mut nodes = nodes;

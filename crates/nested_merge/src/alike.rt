@@ -12,11 +12,12 @@ ghost use Rattle.nested_merge.specs.Fits.{fits, all_fit};
 use archive_tree::{ANode, Archive};
 use keyed_tree::Keyed;
 
-/// Whether a path that the version and an old one hold ends in an inner node in both or in a leaf in both, as `merge`
-/// asks. It takes no memory, and recurses as deep as nodes nest.
+/// Whether a path that the version and an old one hold ends in an inner node in both or in a leaf
+/// in both, as `merge` asks. It takes no memory, and recurses as deep as nodes nest.
 pub fn is_alike(old: &Archive, new: &Keyed) -> bool
     requires { IsOrdered (keyed_view new.now) }
-    ensures { IsTrue result ↔ ((vs : List PlainKeyed) → ArchiveOf vs (archive_view old.now) → AlikeAll vs (keyed_view new.now)) }
+    ensures { IsTrue result
+        ↔ ((vs : List PlainKeyed) → ArchiveOf vs (archive_view old.now) → AlikeAll vs (keyed_view new.now)) }
 {
     root_fits(old.kids(), new)
 }

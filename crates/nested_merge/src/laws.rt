@@ -8,8 +8,10 @@ ghost use Rattle.archive_tree.specs.Stands.{ArchiveOf};
 ghost use Rattle.nested_merge.specs.Alike.{AlikeAll};
 ghost use Rattle.nested_merge.specs.Merged.{with_version};
 
-/// The archive of a list with one more version is the one that `with_version` makes, node by node, of the list's archive.
+/// The archive of a list with one more version is the one that `with_version` makes, node by node,
+/// of the list's archive.
 pub fn archives_grow_by_a_version()
-    ensures grows { (vs : List PlainKeyed) (a : PlainArchive) (k : PlainKeyed) → ArchiveOf vs a → AlikeAll vs k
+    ensures grows { (vs : List PlainKeyed) (a : PlainArchive) (k : PlainKeyed) → ArchiveOf vs a
+        → AlikeAll vs k
         → IsOrdered k → IsElement k → ArchiveOf (vs ++ k ∷ []) (with_version a k) }
 {}

@@ -48,7 +48,8 @@ pub enum Change {
     },
 }
 
-/// What one more version changes along the kids of the virtual root, with room for each row and all that is new.
+/// What one more version changes along the kids of the virtual root, with room for each row and all
+/// that is new.
 #[derive(Debug, Drop)]
 pub struct Plan {
     pub steps: Vec<Step>,

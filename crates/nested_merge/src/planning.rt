@@ -105,7 +105,8 @@ fn planned_node(
     }
 }
 
-// The kids of a node that had the set, with its kids in version n: a walk along both rows, in the order of the labels.
+// The kids of a node that had the set, with its kids in version n: a walk along both rows, in the
+// order of the labels.
 #[cycle(plan)]
 #[tactic(auto, using(crate::proofs::Plans::plans))]
 fn planned_kids(

@@ -23,26 +23,31 @@ use archive_tree::{ANode, Archive};
 use keyed_tree::Keyed;
 use std::alloc::{AllocError, Global};
 
-/// The archive of the old versions followed by the new one. Where memory runs out, the old archive comes back.
+/// The archive of the old versions followed by the new one. Where memory runs out, the old archive
+/// comes back.
 ///
-/// It goes once along the nodes of the version and those of the archive beside them, in the order of their labels, and
-/// recurses as deep as they nest. A plan takes all the memory first: room for each row, what is new, and each set that
-/// changes. Then the old nodes are moved into their places, and none is copied.
+/// It goes once along the nodes of the version and those of the archive beside them, in the order
+/// of their labels, and recurses as deep as they nest. A plan takes all the memory first: room for
+/// each row, what is new, and each set that changes. Then the old nodes are moved into their
+/// places, and none is copied.
 pub fn merge(alloc: Global, old: Archive, new: &Keyed) -> Result<Archive, (AllocError, Archive)>
     requires room { (archive_view old).n < 4294967295 }
     requires element { IsElement (keyed_view new.now) }
     requires ordered { IsOrdered (keyed_view new.now) }
     requires well_formed { IsKeyedWellFormed (keyed_view new.now) }
-    requires alike { (vs : List PlainKeyed) → ArchiveOf vs (archive_view old) → AlikeAll vs (keyed_view new.now) }
+    requires alike { (vs : List PlainKeyed) → ArchiveOf vs (archive_view old)
+        → AlikeAll vs (keyed_view new.now) }
     ensures archive { IfOk result (λ a. (vs : List PlainKeyed) → ArchiveOf vs (archive_view old)
         → ArchiveOf (vs ++ keyed_view new.now ∷ []) (archive_view a)) }
-    ensures merged { IfOk result (λ a. archive_view a ≡ with_version (archive_view old) (keyed_view new.now)) }
+    ensures merged { IfOk result (λ a. archive_view a
+        ≡ with_version (archive_view old) (keyed_view new.now)) }
     ensures count { IfOk result (λ a. (archive_view a).n ≡ (archive_view old).n + 1) }
 
     // Every earlier version is read as before, and the new one at the new number.
     ensures earlier { IfOk result (λ a. (i : ℕ) → 1 ≤ i → i ≤ (archive_view old).n
         → version_at i (archive_view a) ≡ version_at i (archive_view old)) }
-    ensures newest { IfOk result (λ a. version_at ((archive_view old).n + 1) (archive_view a) ≡ Some (keyed_view new.now)) }
+    ensures newest { IfOk result (λ a. version_at ((archive_view old).n + 1) (archive_view a)
+        ≡ Some (keyed_view new.now)) }
     ensures refused { IfErr result (λ e. archive_view e.1 ≡ archive_view old) }
 {
     let (n, kids) = old.into_parts();
@@ -62,7 +67,8 @@ fn grown_kids(
     requires room { n < 4294967295 }
     requires below { IsTrue (are_nodes_below (n + 1) (nodes_view old.items)) }
     requires ordered { IsOrdered (keyed_view new.now) }
-    ensures grown { IfOk result (λ v. nodes_view v.items ≡ merged_row (n + 1) (upto_pairs n) (nodes_view old.items) (keyed_view new.now ∷ [])) }
+    ensures grown { IfOk result (λ v. nodes_view v.items
+        ≡ merged_row (n + 1) (upto_pairs n) (nodes_view old.items) (keyed_view new.now ∷ [])) }
     ensures refused { IfErr result (λ e. nodes_view e.1.items ≡ nodes_view old.items) }
 {
     let plan = match plan_of(alloc, n, &old, new) {

@@ -7,7 +7,8 @@ ghost use Rattle.version_set.specs.View.{pairs_of};
 use crate::set::VersionSet;
 
 impl VersionSet {
-    /// Whether each number of this set is in the other. Each interval is looked for by halving, and nothing takes memory.
+    /// Whether each number of this set is in the other. Each interval is looked for by halving, and
+    /// nothing takes memory.
     pub fn is_within(&self, other: &VersionSet) -> bool
         ensures { IsTrue result ↔ ((n : ℕ) → IsTrue (has (members (pairs_of self.now)) n)
             → IsTrue (has (members (pairs_of other.now)) n)) }
