@@ -1,3 +1,4 @@
+use Rattle.std.proofs.lemmas.Grind.{common_steps}
 use Rattle.std.proofs.Common.{rules, ◌≡◌, ◌<◌, ◌∷◌, ◌++◌, map, ℕ, suc, ◌+◌, List, length, drop, get_or, sym, ap, ◌∙◌, append_assoc, drop-cons, arith}
 use Rattle.std.specs.List.{flat_map}
 use Rattle.record_format.specs.View.{entry_view}
@@ -19,3 +20,9 @@ loop-entry-preserved c =
       wrote = one_more _ _ _ c.args.entries.now c.loop-entry.entry-index (record { start = 0; length = 0; dir = 0 }) c.loop-entry-test.true (search rules) c.loop-entry.invariant.wrote;
       grows = grows_on _ _ _ c.loop-entry.invariant.grows c.put_entry.ensures.grows;
     }
+
+pub returns-in_err-put_entry-clause-grows : goal.returns-in_err-put_entry-clause-grows
+returns-in_err-put_entry-clause-grows c = grows_on _ _ _ c.loop-entry.invariant.grows c.put_entry.ensures.grows
+
+pub returns-clause-ok : goal.returns-clause-ok
+returns-clause-ok c = grind (arith, common_steps)

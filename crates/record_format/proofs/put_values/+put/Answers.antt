@@ -1,4 +1,5 @@
-use Rattle.std.proofs.Common.{rules, ◌≡◌, ℕ, List, ◌++◌, length, map, sym, ap, ◌∙◌, append_assoc}
+use Rattle.xa_fields.proofs.Combinators.{growth}
+use Rattle.std.proofs.Common.{rules, ◌≡◌, ℕ, List, ◌++◌, length, map, sym, ap, ◌∙◌, append_assoc, arith}
 use Rattle.std.proofs.lemmas.List.{length-map}
 use Rattle.jsonml_tree.specs.Data.{PlainAttr, PlainTree, trees_of, list_of}
 use Rattle.jsonml_tree.specs.View.{attr_view, tree_view, content_view}
@@ -22,3 +23,18 @@ parts c o p q r m em e f g =
 pub put_content-returns-clause-ok : goal.put_content-returns-clause-ok
 put_content-returns-clause-ok t c =
     parts c.args.content.now c.args.out.now.items c.put_attrs.new.out.items c.put_u32.new.out.items c.put_items.new.out.items c.len.result (search rules) (search rules) (search rules) (search rules)
+
+pub put_item-returns-in_err-put_text-in-Elem-clause-grows : goal.put_item-returns-in_err-put_text-in-Elem-clause-grows
+put_item-returns-in_err-put_text-in-Elem-clause-grows t c = grind (arith, growth)
+
+pub put_item-returns-in_ok-put_text-in-Elem-clause-grows : goal.put_item-returns-in_ok-put_text-in-Elem-clause-grows
+put_item-returns-in_ok-put_text-in-Elem-clause-grows t c = grind (arith, growth)
+
+pub put_content-returns-in_err-put_u32-clause-grows : goal.put_content-returns-in_err-put_u32-clause-grows
+put_content-returns-in_err-put_u32-clause-grows t c = grind (arith, growth)
+
+pub put_content-returns-in_err-put_items-clause-grows : goal.put_content-returns-in_err-put_items-clause-grows
+put_content-returns-in_err-put_items-clause-grows t c = grind (arith, growth)
+
+pub put_content-returns-clause-grows : goal.put_content-returns-clause-grows
+put_content-returns-clause-grows t c = grind (arith, growth)
