@@ -6,11 +6,22 @@ use std::process::Abort;
 use std::test::Fail;
 use xa_outside::MemSink;
 
-// A document that begins so, goes on with 70,000 elements, and has more than a mebibyte.
-fn with_many_elements(alloc: Global, head: &[u8]) -> Result<Vec<u8>, AllocError> {
+// A document that begins so and goes on with a text of more than a mebibyte.
+fn with_long_text(alloc: Global, head: &[u8]) -> Result<Vec<u8>, AllocError> {
     let mut document = Vec::from_slice(alloc, head)?;
-    for _ in 0..70_000 {
-        document.extend_from_slice(b",[\"e\",\"0123456789\"]")?;
+    document.extend_from_slice(b",\"")?;
+    for _ in 0..17_000 {
+        document.extend_from_slice(b"0123456789012345678901234567890123456789012345678901234567890123")?;
+    }
+    document.extend_from_slice(b"\"]")?;
+    Ok(document)
+}
+
+// A document that begins so and goes on with 66,000 empty texts.
+fn with_many_items(alloc: Global, head: &[u8]) -> Result<Vec<u8>, AllocError> {
+    let mut document = Vec::from_slice(alloc, head)?;
+    for _ in 0..66_000 {
+        document.extend_from_slice(b",\"\"")?;
     }
     document.extend_from_slice(b"]")?;
     Ok(document)
@@ -51,7 +62,7 @@ fn assert_reads_as(rt: &impl Abort, alloc: Global, document: &[u8], text: &[u8])
 #[test]
 fn documents_above_a_mebibyte_are_read(rt: HostRuntime) -> Result<(), Fail> {
     let alloc = rt.alloc();
-    let document = with_many_elements(alloc, b"[\"db\"")?;
+    let document = with_long_text(alloc, b"[\"db\"")?;
     assert!(rt; document.len() > 1_048_576 && document.len() < 67_108_864);
     assert_reads_as(&rt, alloc, &document, &document);
     Ok(())
@@ -61,10 +72,23 @@ fn documents_above_a_mebibyte_are_read(rt: HostRuntime) -> Result<(), Fail> {
 #[test]
 fn large_documents_in_a_rare_form_are_read(rt: HostRuntime) -> Result<(), Fail> {
     let alloc = rt.alloc();
-    let document = with_many_elements(alloc, b"[\"db\",{\"a\":1,\"a\":2}")?;
-    let text = with_many_elements(alloc, b"[\"db\",{\"a\":2}")?;
+    let document = with_long_text(alloc, b"[\"db\",{\"a\":1,\"a\":2}")?;
+    let text = with_long_text(alloc, b"[\"db\",{\"a\":2}")?;
     assert!(rt; document.len() > 1_048_576 && document.len() < 67_108_864);
     assert_reads_as(&rt, alloc, &document, &text);
+    Ok(())
+}
+
+#[test]
+fn more_items_than_two_bytes_count_are_read(rt: HostRuntime) -> Result<(), Fail> {
+    let alloc = rt.alloc();
+    let document = with_many_items(alloc, b"[\"db\"")?;
+    assert!(rt; document.len() < 67_108_864);
+    assert_reads_as(&rt, alloc, &document, &document);
+    let rare = with_many_items(alloc, b"[\"db\",{\"a\":1,\"a\":2}")?;
+    let text = with_many_items(alloc, b"[\"db\",{\"a\":2}")?;
+    assert!(rt; rare.len() < 67_108_864);
+    assert_reads_as(&rt, alloc, &rare, &text);
     Ok(())
 }
 
