@@ -22,9 +22,7 @@ use crate::fault::EncodeFault;
 use crate::goes::row_goes;
 use archive_tree::{ANode, Alt, Archive, effective};
 use key_spec::Spec;
-use record_format::{
-    Dir, Entry, put_alt, put_end, put_header, put_inner, put_leaf, put_leaf_end,
-};
+use record_format::{Dir, Entry, put_alt, put_end, put_header, put_inner, put_leaf, put_leaf_end};
 use std::alloc::{AllocError, Global};
 use version_set::VersionSet;
 use xa_fields::put_u64;

@@ -2,8 +2,7 @@
 use keyed_tree::{Body, Label, Name};
 use record_format::{
     Entry, Rec, RecFault, View, decode, encode, is_label, is_value, put_alt, put_end, put_inner,
-    put_leaf, put_leaf_end, take_frame, take_label, take_record, take_set, take_stamp, take_value,
-    view, view_body,
+    put_leaf, put_leaf_end, take_frame, take_record, view, view_body,
 };
 use std::alloc::Global;
 use std::test::Fail;
@@ -186,24 +185,5 @@ fn parts_are_put_and_taken_by_themselves(rt: HostRuntime) -> Result<(), Fail> {
     let set = VersionSet::single(rt.alloc(), 1);
     put_end(rt.alloc(), &mut out, &[entry], &[set])?;
     assert_eq!(rt; out.as_slice(), END.as_slice());
-    Ok(())
-}
-
-#[test]
-fn values_are_read_at_an_offset(rt: HostRuntime) -> Result<(), Fail> {
-    let Ok((label, at)) = take_label(rt.alloc(), &INNER, 9) else {
-        return Err("no label".into());
-    };
-    assert_eq!(rt; (label.keys.len(), at), (0, 19));
-    let Ok((stamp, at)) = take_stamp(rt.alloc(), &INNER, at) else {
-        return Err("no timestamp".into());
-    };
-    assert!(rt; stamp.is_some());
-    assert_eq!(rt; at, 40);
-    let Ok((set, at)) = take_set(rt.alloc(), &INNER, 20) else {
-        return Err("no set".into());
-    };
-    assert_eq!(rt; (set.last(), at), (4, 40));
-    assert!(rt; matches!(take_value(rt.alloc(), &ALT, 10), Ok((Body::Content(_), 19))));
     Ok(())
 }

@@ -11,7 +11,9 @@ fn with_long_text(alloc: Global, head: &[u8]) -> Result<Vec<u8>, AllocError> {
     let mut document = Vec::from_slice(alloc, head)?;
     document.extend_from_slice(b",\"")?;
     for _ in 0..17_000 {
-        document.extend_from_slice(b"0123456789012345678901234567890123456789012345678901234567890123")?;
+        document.extend_from_slice(
+            b"0123456789012345678901234567890123456789012345678901234567890123",
+        )?;
     }
     document.extend_from_slice(b"\"]")?;
     Ok(document)

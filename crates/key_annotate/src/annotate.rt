@@ -72,5 +72,4 @@ pub fn lent_keyed<'a, 't>(
 /// The laws of all documents under a specification, for proofs. It does nothing.
 pub fn keyed_laws(spec: &Spec)
     ensures { (t : PlainTree) → IsElement t → IsWellFormed t → KeyedLaws (spec_view spec.now) t }
-{
-}
+{}

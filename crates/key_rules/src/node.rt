@@ -41,10 +41,7 @@ impl<'a, 'b> Reached<'a, 'b> {
 
 /// The nodes of the key path at an element with this content.
 #[tactic(auto, using(crate::proofs::Nodes::nodes))]
-pub(crate) fn nodes_of<'a, 'b>(
-    path: &KeyPath,
-    content: LentContent<'a, 'b>,
-) -> Reached<'a, 'b>
+pub(crate) fn nodes_of<'a, 'b>(path: &KeyPath, content: LentContent<'a, 'b>) -> Reached<'a, 'b>
     ensures { reached_view result ≡ few (reach (lent_content_view content.entry) (path_view path.now)) }
 {
     match content {
@@ -83,11 +80,7 @@ fn nodes_from<'a, 'b>(path: &KeyPath, level: usize, row: &'a LentRow<'b>) -> Rea
 /// The nodes behind the items that have the tag of this level.
 #[cycle(nodes)]
 #[tactic(auto, using(jsonml_tree::proofs::LentTrees::lent_trees, crate::proofs::Nodes::nodes))]
-fn nodes_among<'a, 'b>(
-    path: &KeyPath,
-    level: usize,
-    items: &'a [LentTree<'b>],
-) -> Reached<'a, 'b>
+fn nodes_among<'a, 'b>(path: &KeyPath, level: usize, items: &'a [LentTree<'b>]) -> Reached<'a, 'b>
     requires { level < length path.now.tags.items }
     ensures { reached_view result ≡ few (values_among (path_view path.now) level (lent_items_view items.now)) }
 {

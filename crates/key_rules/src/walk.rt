@@ -194,7 +194,7 @@ fn fault_in(
     ensures fault { IfOk result
         (λ f. option_map fault_view f
         ≡ tree_fault (spec_view spec.now) (names_view spot.old.path.items)
-          (item_place spot.old.place.items (position + 1)) (lent_tree_view item.now)) }
+        (item_place spot.old.place.items (position + 1)) (lent_tree_view item.now)) }
     ensures stays { OnOk result (SameSpot spot.old spot.new) }
 {
     match item {

@@ -23,4 +23,3 @@ pub use fault::SpecFault;
 pub use name::is_name;
 pub use rule::{KeyPath, Rule};
 pub use spec::{Spec, may_be_canonical};
-

@@ -97,11 +97,13 @@ values_are [] h f = tt
 values_are (k ∷ ks) h f = ((value_parts k).1 (h.0, f.0), values_are ks h.1 f.1)
 
 pub label_parts : (l : PlainLabel) → IsLabel l ↔ (IsShapedLabel l × FitsLabel l)
-label_parts l =
-    (λ h. (record { name = h.name.utf8; keys = values_shape l.keys h.keys }, record { name = h.name.short; few = h.few; keys = values_fit l.keys h.keys }),
-     λ h. record { name = text_is (text_of l.name) h.0.name h.1.name; few = h.1.few; keys = values_are l.keys h.0.keys h.1.keys })
+label_parts l = (
+  λ h. (record { name = h.name.utf8; keys = values_shape l.keys h.keys }, record { name = h.name.short; few = h.few; keys = values_fit l.keys h.keys }),
+  λ h. record { name = text_is (text_of l.name) h.0.name h.1.name; few = h.1.few; keys = values_are l.keys h.0.keys h.1.keys },
+)
 
 pub dir_parts : (d : PlainDir) → IsDir d ↔ (IsShapedDir d × FitsDir d)
-dir_parts d =
-    (λ h. (record { sets = h.sets; paired = h.paired }, record { few = h.few; entries = h.entries }),
-     λ h. record { few = h.1.few; entries = h.1.entries; sets = h.0.sets; paired = h.0.paired })
+dir_parts d = (
+  λ h. (record { sets = h.sets; paired = h.paired }, record { few = h.few; entries = h.entries }),
+  λ h. record { few = h.1.few; entries = h.1.entries; sets = h.0.sets; paired = h.0.paired },
+)
