@@ -1,6 +1,6 @@
 ghost use Rattle.std.specs.Prelude.{◌≤◌, length};
 
-use jsonml_text::read_document;
+use jsonml_text::{lend_document, read_document};
 use jsonml_tree::LentTree;
 use key_rules::{PathFault, first_fault, first_lent_fault, lent_label, read_path};
 use key_spec::Spec;
@@ -69,11 +69,14 @@ fn leaf<'a>(tag: &'a str, text: &'a str) -> LentTree<'a> {
 fn a_text_alone_above_the_frontier_is_the_fault(rt: HostRuntime) -> Result<(), Fail> {
     let alloc = rt.alloc();
     let spec = Spec::parse(alloc, NESTED)?;
-    let fault = first_lent_fault(alloc, &spec, &leaf("a", "x"))?.ok_or("no fault")?;
+    let text = lend_document(alloc, br#"["a","x"]"#)?;
+    let fault = first_lent_fault(alloc, &spec, &text)?.ok_or("no fault")?;
     assert_eq!(rt; fault.why, 2);
     assert!(rt; fault.place.steps.as_slice() == [1].as_slice());
-    assert!(rt; first_lent_fault(alloc, &spec, &leaf("a", " "))?.is_none());
-    let fault = first_lent_fault(alloc, &spec, &leaf("b", ""))?.ok_or("no fault")?;
+    let blank = lend_document(alloc, br#"["a"," "]"#)?;
+    assert!(rt; first_lent_fault(alloc, &spec, &blank)?.is_none());
+    let other = lend_document(alloc, br#"["b",""]"#)?;
+    let fault = first_lent_fault(alloc, &spec, &other)?.ok_or("no fault")?;
     assert_eq!(rt; fault.why, 1);
     assert!(rt; fault.place.steps.is_empty());
     Ok(())
