@@ -369,7 +369,7 @@ fn two_bodies(
         body: body_of(alloc, "95K")?,
     };
     let salary = leaf(tag(alloc, "sal")?, vec![in alloc; old, new]?);
-    vec![in alloc; salary]
+    Ok(vec![in alloc; salary]?)
 }
 
 #[test]
