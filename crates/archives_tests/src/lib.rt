@@ -6,10 +6,6 @@ mod archives;
 #[cfg(test)]
 mod counts;
 #[cfg(test)]
-mod damaged_files;
-#[cfg(test)]
-mod damaged_records;
-#[cfg(test)]
 mod fields;
 #[cfg(test)]
 mod files;
