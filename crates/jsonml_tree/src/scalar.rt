@@ -1,5 +1,5 @@
 ghost use Rattle.std.specs.Prelude.{◌≡◌, ◌↔◌, IsTrue, IfOk};
-ghost use Rattle.jsonml_tree.specs.Order.{scalar_cmp, attr_cmp};
+ghost use Rattle.jsonml_tree.specs.Order.{scalar_cmp};
 ghost use Rattle.jsonml_tree.specs.View.{scalar_view, attr_view};
 
 use std::alloc::{AllocError, Global};
@@ -119,24 +119,14 @@ impl Ord for Scalar {
     }
 }
 
-/// An attribute of an element.
-#[derive(Debug, Drop)]
+/// An attribute of an element. Attributes are in order by the bytes of their names, then by value.
+#[derive(Debug, Drop, PartialEq, Eq, PartialOrd, Ord)]
 pub struct Attr {
     pub name: String,
     pub value: Scalar,
 }
 
 impl Attr {
-    /// By the bytes of the name, then by value.
-    pub(crate) fn order(&self, other: &Attr) -> Ordering
-        ensures { result ≡ attr_cmp (attr_view self.now) (attr_view other.now) }
-    {
-        self.name
-            .as_str()
-            .cmp(other.name.as_str())
-            .then(self.value.order(&other.value))
-    }
-
     pub(crate) fn copy(&self, alloc: Global) -> Result<Attr, AllocError>
         ensures { IfOk result (λ a. attr_view a ≡ attr_view self.now) }
     {

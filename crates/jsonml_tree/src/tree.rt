@@ -1,7 +1,7 @@
 ghost use Rattle.std.specs.Prelude.{◌≡◌, ◌↔◌, ◌<◌, ◌^◌, IsTrue, IfOk, map};
 ghost use Rattle.std.specs.Cmp.Lexicographic.{slice_cmp};
 ghost use Rattle.jsonml_tree.specs.Data.{text, element, only_text, tree_depth, trees_depth};
-ghost use Rattle.jsonml_tree.specs.Order.{attr_cmp, tree_cmp, content_cmp};
+ghost use Rattle.jsonml_tree.specs.Order.{tree_cmp, content_cmp};
 ghost use Rattle.jsonml_tree.specs.View.{tree_view, content_view, items_view, attr_view};
 
 use crate::scalar::Attr;
@@ -63,7 +63,10 @@ impl Content {
     pub fn order(&self, other: &Content) -> Ordering
         ensures { result ≡ content_cmp (content_view self.now) (content_view other.now) }
     {
-        order_attrs(&self.attrs, &other.attrs).then(order_items(&self.items, &other.items))
+        self.attrs
+            .as_slice()
+            .cmp(other.attrs.as_slice())
+            .then(order_items(&self.items, &other.items))
     }
 
     /// A content of its own with the same value.
@@ -267,26 +270,6 @@ pub(crate) fn element_of(alloc: Global, tag: &str, content: Content) -> Result<T
         tag: String::from_str(alloc, tag)?,
         content,
     })
-}
-
-fn order_attrs(ours: &[Attr], theirs: &[Attr]) -> Ordering
-    ensures { result ≡ slice_cmp attr_cmp (map attr_view ours.now) (map attr_view theirs.now) }
-{
-    let mut others = theirs.iter();
-    for a in ours {
-        let Some(b) = others.next() else {
-            return Ordering::Greater;
-        };
-        match a.order(b) {
-            Ordering::Equal => {}
-            order => return order,
-        }
-    }
-    if others.next().is_some() {
-        Ordering::Less
-    } else {
-        Ordering::Equal
-    }
 }
 
 #[cycle(order)]

@@ -234,10 +234,11 @@ fn spell(alloc: Global, tree: &Keyed) -> Result<Tree, AllocError>
 
 // The content of an inner node with these kids.
 #[cycle(plain)]
-#[tactic(auto, using(jsonml_tree::proofs::Trees::trees))]
 fn gather(alloc: Global, kids: &[Keyed]) -> Result<Content, AllocError>
     ensures { IfOk result (λ c. content_view c
-        ≡ content (attrs_among (kids_from (map keyed_view kids.now))) (items_among (kids_from (map keyed_view kids.now)))) }
+        ≡ content
+        (attrs_among (kids_from (map keyed_view kids.now)))
+        (items_among (kids_from (map keyed_view kids.now)))) }
 {
     let attrs = attrs_of(alloc, kids)?;
     let items = items_of(alloc, kids, kids.len().saturating_sub(attrs.len()))?;

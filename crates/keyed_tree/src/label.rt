@@ -1,6 +1,5 @@
 //! What names a node, and what a leaf holds.
 ghost use Rattle.std.specs.Prelude.{◌≡◌, ◌↔◌, IsTrue, IfOk, map};
-ghost use Rattle.std.specs.Cmp.Lexicographic.{slice_cmp};
 ghost use Rattle.keyed_tree.specs.Data.{name_bytes};
 ghost use Rattle.keyed_tree.specs.Order.{name_cmp, key_cmp, label_cmp};
 ghost use Rattle.keyed_tree.specs.Proper.{is_tag};
@@ -125,7 +124,7 @@ impl Label {
     {
         self.name
             .order(&other.name)
-            .then(order_keys(&self.keys, &other.keys))
+            .then(self.keys.as_slice().cmp(other.keys.as_slice()))
     }
 
     /// A label of its own with the same value.
@@ -258,26 +257,6 @@ impl Ord for Label {
 
     fn cmp(&self, other: &Label) -> Ordering {
         self.order(other)
-    }
-}
-
-fn order_keys(ours: &[KeyVal], theirs: &[KeyVal]) -> Ordering
-    ensures { result ≡ slice_cmp key_cmp (map key_view ours.now) (map key_view theirs.now) }
-{
-    let mut others = theirs.iter();
-    for a in ours {
-        let Some(b) = others.next() else {
-            return Ordering::Greater;
-        };
-        match a.order(b) {
-            Ordering::Equal => {}
-            order => return order,
-        }
-    }
-    if others.next().is_some() {
-        Ordering::Less
-    } else {
-        Ordering::Equal
     }
 }
 

@@ -1,10 +1,18 @@
-use Rattle.std.proofs.Common.{arith}
+use Rattle.std.proofs.Common.{◌≡◌, ◌∙◌, map, refl, arith}
 use Rattle.std.proofs.lemmas.Grind.{common_steps}
+use Rattle.std.specs.Cmp.Lexicographic.{slice_cmp}
+use Rattle.jsonml_tree.specs.Order.{attr_cmp}
+use Rattle.jsonml_tree.specs.View.{attr_view}
+use Rattle.jsonml_tree.specs.contracts.scalar.AttrOrd.TheImpl as AttrOrd
+use Rattle.jsonml_tree.proofs.Rows.{slice_cmp-map}
 use Rattle.jsonml_tree.proofs.Trees.{trees}
 use Rattle.jsonml_tree.proofs.tree.+order.Goals as goal
 
 pub Content::order-returns : goal.Content::order-returns
-Content::order-returns t c = grind (arith, trees)
+Content::order-returns t c =
+    let attrs : c.cmp.result ≡ slice_cmp attr_cmp (map attr_view c.as_slice.result.now) (map attr_view c.as_slice-2.result.now) =
+    c.cmp.ensures ∙ slice_cmp-map attr_view AttrOrd.cmp-value.it attr_cmp (λ x y. refl) c.as_slice.result.now c.as_slice-2.result.now in
+    grind (arith, trees)
 
 pub Tree::order-returns-in-Text-Text : goal.Tree::order-returns-in-Text-Text
 Tree::order-returns-in-Text-Text t c = grind (arith, trees)
