@@ -5,7 +5,7 @@ use Rattle.std.proofs.Math.Seq.{take-append-add, take-length}
 use Rattle.std.proofs.lemmas.List.{take-append-le}
 use Rattle.xa_outside.specs.Numbers.{Numbers, IsMeter, after_draft}
 use Rattle.xa_outside.specs.Folder.{Drafts, DraftsPrefix}
-use Rattle.xa_outside.proofs.NumberLemmas.{after_draft-none, after_draft-twice}
+use Rattle.xa_outside.specs.NumberLaws.{after_draft-none, after_draft-twice}
 
 grown_none : (d : Option (List ℕ)) → d ≡ option_map (λ x. x ++ []) d
 grown_none None = refl

@@ -3,5 +3,4 @@ pub mod CauseLemmas
 pub mod DraftLemmas
 pub mod FileLemmas
 pub mod Fronts
-pub mod NumberLemmas
 pub mod Output

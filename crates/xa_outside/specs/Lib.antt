@@ -1,4 +1,6 @@
 pub mod Buffered
+pub mod BufferedLaws
+pub mod CauseLaws
 pub mod Causes
 pub mod Fault
 pub mod Filled
@@ -8,7 +10,9 @@ pub mod Held
 pub mod InMemory
 pub mod Meter
 pub mod NamedFiles
+pub mod NumberLaws
 pub mod Numbers
 pub mod Planned
 pub mod Scripts
 pub mod Taken
+pub mod TakenLaws

@@ -1,4 +1,4 @@
-#![tactic(auto, using(crate::proofs::Output::outputs))]
+#![tactic(auto, using(crate::specs::TakenLaws::outputs))]
 
 ghost use Rattle.std.specs.List.{flat_map};
 ghost use Rattle.xa_outside.specs.Taken.{Puts};

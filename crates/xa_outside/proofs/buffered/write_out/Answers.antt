@@ -1,6 +1,6 @@
 use Rattle.std.proofs.Common.{subst, rules}
 use Rattle.xa_outside.specs.Taken.{Takes}
-use Rattle.xa_outside.proofs.Output.{Takes-nil, Takes-trans, Takes-kept}
+use Rattle.xa_outside.specs.TakenLaws.{Takes-nil, Takes-trans, Takes-kept}
 use Rattle.xa_outside.proofs.Fronts.{take-rest}
 use Rattle.xa_outside.proofs.buffered.write_out.Goals as goal
 

@@ -1,5 +1,5 @@
-use Rattle.xa_outside.proofs.CauseLemmas.{Rose-later}
-use Rattle.xa_outside.proofs.NumberLemmas.{PullsAtMost-none, PullsAtMost-more, PullsAtMost-trans}
+use Rattle.xa_outside.specs.CauseLaws.{Rose-later}
+use Rattle.xa_outside.specs.NumberLaws.{PullsAtMost-none, PullsAtMost-more, PullsAtMost-trans}
 use Rattle.xa_outside.proofs.laws.reads_add_up.Goals as goal
 
 pub returns-clause-none : goal.returns-clause-none

@@ -1,4 +1,4 @@
-use Rattle.xa_outside.proofs.Output.{Takes-nil, Takes-trans, Takes-kept, TakesNone-refl, TakesPrefix-none, TakesPrefix-all, TakesPrefix-after, TakesPrefix-more}
+use Rattle.xa_outside.specs.TakenLaws.{Takes-nil, Takes-trans, Takes-kept, TakesNone-refl, TakesPrefix-none, TakesPrefix-all, TakesPrefix-after, TakesPrefix-more}
 use Rattle.xa_outside.proofs.laws.writes_add_up.Goals as goal
 
 pub returns-clause-none : goal.returns-clause-none

@@ -1,5 +1,5 @@
 use Rattle.std.proofs.Common.{rules}
-use Rattle.xa_outside.proofs.BufferedLemmas.{Puts-unflushed, Puts-flushed}
+use Rattle.xa_outside.specs.BufferedLaws.{Puts-unflushed, Puts-flushed}
 use Rattle.xa_outside.proofs.pieces.put_buffered.Goals as goal
 
 pub returns-in_err-put_pieces-clause-bytes : goal.returns-in_err-put_pieces-clause-bytes

@@ -1,5 +1,5 @@
 use Rattle.std.proofs.Common.{List, ℕ, Bor, rules}
-use Rattle.xa_outside.proofs.Output.{Takes-nil, Takes-piece, Puts-piece}
+use Rattle.xa_outside.specs.TakenLaws.{Takes-nil, Takes-piece, Puts-piece}
 use Rattle.xa_outside.proofs.pieces.put_pieces.Goals as goal
 
 pub loop-piece-init : goal.loop-piece-init

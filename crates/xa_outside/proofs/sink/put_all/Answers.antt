@@ -1,6 +1,6 @@
 use Rattle.std.proofs.Common.{subst, rules}
 use Rattle.xa_outside.specs.Taken.{Takes}
-use Rattle.xa_outside.proofs.Output.{Takes-nil, Takes-trans, Puts-stopped}
+use Rattle.xa_outside.specs.TakenLaws.{Takes-nil, Takes-trans, Puts-stopped}
 use Rattle.xa_outside.proofs.Fronts.{take-rest}
 use Rattle.xa_outside.proofs.sink.put_all.Goals as goal
 

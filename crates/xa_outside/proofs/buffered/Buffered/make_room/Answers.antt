@@ -1,4 +1,4 @@
-use Rattle.xa_outside.proofs.Output.{TakesNone-refl}
+use Rattle.xa_outside.specs.TakenLaws.{TakesNone-refl}
 use Rattle.xa_outside.proofs.buffered.Buffered.make_room.Goals as goal
 
 pub returns-then-has_room-clause-bytes : goal.returns-then-has_room-clause-bytes

@@ -1,4 +1,4 @@
-use Rattle.xa_outside.proofs.Output.{Writes-after_none}
+use Rattle.xa_outside.specs.TakenLaws.{Writes-after_none}
 use Rattle.xa_outside.proofs.BufferedLemmas.{Writes-passed}
 use Rattle.xa_outside.proofs.buffered.Buffered.write_through.Goals as goal
 
