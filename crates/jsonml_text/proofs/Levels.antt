@@ -46,5 +46,3 @@ mutual
   pub found_from : (place : List ℕ) (n : ℕ) (ts : PlainTrees) → length place + 1 + trees_depth ts ≤ 120 → too_deep_from place n ts ≡ None
   found_from place n no_trees shallow = refl
   found_from place n (tree t ts) shallow = none_from _ _ (found_at (place ++ n ∷ []) t (omega (arith, one_more place n))) (found_from place (n + 1) ts (omega arith))
-
--- ---- among the items of an element, one after the other

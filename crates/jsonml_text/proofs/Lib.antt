@@ -4,13 +4,10 @@ pub mod Keeping
 pub mod Contents
 pub mod Readings
 pub mod Levels
-pub mod Escapes
 pub mod Lexing
 pub mod Contained
 pub mod Straightness
 pub mod Pushing
-pub mod Walks
-pub mod TreeWalk
 pub mod ReadBack
 pub mod RoundTrips
 pub mod Words

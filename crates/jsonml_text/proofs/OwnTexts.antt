@@ -2,9 +2,7 @@
 use Rattle.std.proofs.Common.{◌≡◌, ◌⊎◌, inl, inr, ℕ, zero, suc, ◌<◌, List, [], ◌∷◌, map, String, Global, string_bytes, arith, sym, ap, ◌∙◌, subst, refl}
 use Rattle.std.proofs.lemmas.Str.{IsUtf8-string_bytes}
 use Rattle.jsonml_tree.specs.Data.{element, content, trees_of, tree_depth, trees_depth}
-use Rattle.jsonml_tree.specs.LentView.{lent_tree_view}
 use Rattle.jsonml_tree.specs.View.{scalar_view, attr_view, tree_view}
-use Rattle.jsonml_tree.specs.declared.lent.LentTree.{LentTree}
 use Rattle.jsonml_tree.specs.declared.scalar.Attr.{Attr}
 use Rattle.jsonml_tree.specs.declared.scalar.Scalar.{Scalar}
 use Rattle.jsonml_tree.specs.declared.scalar.Scalar.TheVariants as scalar
@@ -59,7 +57,3 @@ texts_below (suc n) t below =
 
 pub tree_texts : (t : Tree) → AreTexts (tree_view t)
 tree_texts t = texts_below (suc (tree_depth (tree_view t))) t (omega arith)
-
--- so are those of a lent tree that stands for one
-pub kept_texts : (l : LentTree) (t : Tree) → lent_tree_view l ≡ tree_view t → AreTexts (lent_tree_view l)
-kept_texts l t is = subst AreTexts (sym is) (tree_texts t)

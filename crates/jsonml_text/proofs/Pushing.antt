@@ -1,5 +1,5 @@
 -- Trees that wait for the end of the element around them.
-use Rattle.std.proofs.Common.{◌≡◌, ℕ, ◌+◌, ◌-◌, ◌<◌, ◌≤◌, IsTrue, List, [], ◌∷◌, ◌++◌, length, drop, take, map, refl, sym, ap, ◌∙◌, subst, arith, append_assoc, append-nil}
+use Rattle.std.proofs.Common.{◌≡◌, ℕ, ◌+◌, ◌-◌, ◌<◌, ◌≤◌, IsTrue, List, [], ◌∷◌, ◌++◌, length, drop, take, map, refl, sym, ap, ◌∙◌, subst, arith, append_assoc}
 use Rattle.std.proofs.lemmas.List.{map-append, length-map, drop_at, take_at}
 use Rattle.std.specs.Str.{IsUtf8}
 use Rattle.json.specs.Lex.{after_value, comma, token}
@@ -57,19 +57,6 @@ PushesTree-text levels d at old new pushed s next waits is h =
       kept = subst IsKept (sym is) (record { well_formed = refl; fits = refl });
       texts = subst AreTexts (sym is) h.utf8;
       shallow = omega (arith, ap tree_depth is);
-    }
-
-pub HasPushed-none : (levels : ℕ) (d : List ℕ) (at : ℕ) (old : List LentTree) → HasPushed levels d at old old at
-HasPushed-none levels d at old =
-    record {
-      pushed = [];
-      wait = sym (append-nil old);
-      reads = λ ts rest h. h;
-      well_formed = refl;
-      fit = refl;
-      texts = tt;
-      shallow = omega arith;
-      later = omega arith;
     }
 
 pub HasPushed-more : (levels : ℕ) (d : List ℕ) (at : ℕ) (old now new : List LentTree) (end mid next : ℕ) → HasPushed levels d at old now end → HasLexeme d end comma (end + 1) → lexemes d mid ≡ lexemes d (end + 1) → end + 1 ≤ mid → PushesTree levels d mid now new next

@@ -25,8 +25,8 @@ use Rattle.jsonml_tree.specs.Data as plain
 use Rattle.jsonml_tree.specs.Data.{PlainScalar, PlainAttr, PlainTree, text, element, PlainContent, content, PlainTrees, no_trees, tree, tree_depth, content_depth, trees_depth}
 use Rattle.jsonml_tree.specs.Order.{text_cmp}
 use Rattle.jsonml_tree.specs.WellFormed.{is_in_range, ascends, is_ascending, are_in_range, is_well_formed, is_content_well_formed, are_well_formed}
-use Rattle.jsonml_text.proofs.TreeWalk.{joined}
-use Rattle.jsonml_text.specs.Printed.{scalar_text, attr_text, tree_text, content_text, items_text}
+use Rattle.jsonml_print.proofs.TreeWalk.{joined}
+use Rattle.jsonml_print.specs.Printed.{scalar_text, attr_text, tree_text, content_text, items_text}
 
 -- ---- the value that spells a tree
 

@@ -23,12 +23,12 @@ use Rattle.jsonml_text.specs.Spelled.{and_then, mapped, whole_of, whole_at, scal
 use Rattle.jsonml_text.specs.Document.{doc, of_value, of_shape, unless_too_deep}
 use Rattle.jsonml_tree.specs.Fits.{IsElement}
 use Rattle.jsonml_text.specs.Texts.{IsScalarText, AreAttrTexts, AreTexts, AreContentTexts, AreItemTexts}
-use Rattle.jsonml_text.specs.Printed.{scalar_text, attr_text, attrs_text, tree_text, content_text, items_text, document_text}
+use Rattle.jsonml_print.specs.Printed.{scalar_text, attr_text, attrs_text, tree_text, content_text, items_text, document_text}
 use Rattle.jsonml_text.specs.RoundTrip.{TextReadsBack, DocumentReadsBack, ScalarReadsBack}
 use Rattle.jsonml_text.proofs.Levels.{found_at}
 use Rattle.jsonml_text.proofs.Readings.{reading-Some}
 use Rattle.jsonml_text.proofs.ReadBack.{scalar_data, attrs_data, tree_data, content_data, items_data, reads_value, reads_scalar, natural_small, negative_small}
-use Rattle.jsonml_text.proofs.TreeWalk.{joined}
+use Rattle.jsonml_print.proofs.TreeWalk.{joined}
 
 -- ---- the value spells the tree
 

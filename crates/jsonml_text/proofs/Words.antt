@@ -13,7 +13,7 @@ use Rattle.serde_json.specs.Find.{of_integer}
 use Rattle.serde_json.specs.Written.{outline, number_text}
 use Rattle.jsonml_tree.specs.Data.{PlainScalar, null, boolean, whole, string}
 use Rattle.jsonml_tree.specs.WellFormed.{is_in_range}
-use Rattle.jsonml_text.specs.Printed.{scalar_text}
+use Rattle.jsonml_print.specs.Printed.{scalar_text}
 use Rattle.jsonml_text.specs.Straight.{lexemes, tokens_from, HasString, HasScalar, is_word}
 use Rattle.jsonml_text.proofs.Lexing.{lexed-null, lexed-true, lexed-false, tokens-number, tokens-boolean, tokens-null}
 use Rattle.jsonml_text.proofs.ReadBack.{scalar_data, scalar_read, whole_read, whole_text}

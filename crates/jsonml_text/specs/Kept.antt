@@ -1,8 +1,9 @@
--- For private clauses: what a reader keeps true of the parts that it has made.
+-- For private clauses: what a reader keeps true of the parts that it has made, and what every document is.
 use Rattle.std.specs.Prelude.{◌≤◌, List, length, IsTrue}
-use Rattle.jsonml_tree.specs.Data.{PlainAttr, PlainTree, PlainContent, trees_of}
-use Rattle.jsonml_tree.specs.WellFormed.{is_ascending, are_in_range, is_well_formed, is_content_well_formed, are_well_formed}
-use Rattle.jsonml_tree.specs.Fits.{items_fit, content_items_fit, all_items_fit}
+use Rattle.jsonml_tree.specs.Data.{PlainAttr, PlainTree, PlainContent, trees_of, tree_depth}
+use Rattle.jsonml_tree.specs.WellFormed.{is_ascending, are_in_range, is_well_formed, is_content_well_formed, are_well_formed, IsWellFormed}
+use Rattle.jsonml_tree.specs.Fits.{IsElement, ItemsFit, items_fit, content_items_fit, all_items_fit}
+use Rattle.jsonml_text.specs.Texts.{AreTexts}
 
 pub record AreAttrsKept (xs : List PlainAttr) : Type 0 where
   pub ascending : IsTrue (is_ascending xs)
@@ -20,3 +21,10 @@ pub record AreKept (ts : List PlainTree) : Type 0 where
   pub well_formed : IsTrue (are_well_formed (trees_of ts))
   pub fit : IsTrue (all_items_fit (trees_of ts))
   pub few : length ts ≤ 4294967295
+
+pub record IsDocument (t : PlainTree) : Type 0 where
+  pub element : IsElement t
+  pub well_formed : IsWellFormed t
+  pub shallow : tree_depth t ≤ 120
+  pub items_fit : ItemsFit t
+  pub texts : AreTexts t

@@ -5,10 +5,6 @@ pub mod Kept
 pub mod Views
 pub mod Stops
 pub mod Front
-pub mod Printed
-pub mod Pen
-pub mod Calls
-pub mod Laws
 pub mod Straight
 pub mod Pushed
 pub mod Texts

@@ -7,7 +7,7 @@ use Rattle.jsonml_text.specs.Document.{doc}
 use Rattle.jsonml_tree.specs.Fits.{IsElement}
 use Rattle.jsonml_text.specs.Spelled.{scalar_in}
 use Rattle.jsonml_text.specs.Texts.{AreTexts}
-use Rattle.jsonml_text.specs.Printed.{scalar_text, tree_text, document_text}
+use Rattle.jsonml_print.specs.Printed.{scalar_text, tree_text, document_text}
 
 -- without the line feed
 abbrev pub TextReadsBack : PlainTree → Type 0

@@ -8,7 +8,7 @@ ghost use Rattle.jsonml_text.specs.Reading.{reading, less_lf};
 ghost use Rattle.jsonml_text.specs.Spelled.{root_of, content_in};
 ghost use Rattle.jsonml_text.specs.Document.{doc, of_shape, of_value};
 ghost use Rattle.jsonml_tree.specs.Fits.{IsElement, ItemsFit};
-ghost use Rattle.jsonml_text.specs.Kept.{IsKept};
+ghost use Rattle.jsonml_text.specs.Kept.{IsDocument};
 ghost use Rattle.jsonml_text.specs.Texts.{AreTexts};
 ghost use Rattle.jsonml_text.specs.Views.{refusal_of};
 
@@ -26,7 +26,6 @@ use std::alloc::{AllocError, Global};
 /// Most documents are read in one pass, straight from the bytes into the tree. A document that is written in a rare way
 /// goes through a JSON value, and so do bytes that are no document, to tell why. It recurses as deep as JSON nests, which
 /// is at most 127 levels.
-#[tactic(auto, using(crate::proofs::OwnTexts::tree_texts))]
 pub fn read_document(alloc: Global, bytes: &[u8]) -> Result<Tree, DocFault>
     requires { length bytes.now ≤ 67108864 }
     ensures document { IfOk result (λ t. doc bytes.now ≡ Ok (tree_view t)) }
@@ -39,17 +38,13 @@ pub fn read_document(alloc: Global, bytes: &[u8]) -> Result<Tree, DocFault>
     ensures items_fit { IfOk result (λ t. ItemsFit (tree_view t)) }
     ensures texts { IfOk result (λ t. AreTexts (tree_view t)) }
 {
-    match read_plainly(alloc, bytes) {
-        Some(tree) => Ok(tree.own(alloc)?),
-        None => read_by_value(alloc, bytes),
-    }
+    Ok(lend_document(alloc, bytes)?.own(alloc)?)
 }
 
 /// The same document, whose texts are lent by the bytes.
 ///
 /// A tag or a text with escapes is a copy, and so are the names and the texts of attributes, and every text of a document
 /// that is written in a rare way.
-#[tactic(auto, using(crate::proofs::OwnTexts::kept_texts))]
 pub fn lend_document<'a>(alloc: Global, bytes: &'a [u8]) -> Result<LentTree<'a>, DocFault>
     requires { length bytes.now ≤ 67108864 }
     ensures document { IfOk result (λ t. doc bytes.now ≡ Ok (lent_tree_view t)) }
@@ -72,10 +67,7 @@ pub fn lend_document<'a>(alloc: Global, bytes: &'a [u8]) -> Result<LentTree<'a>,
 #[tactic(auto, using(crate::proofs::Readings::readings))]
 fn read_plainly<'a>(alloc: Global, bytes: &'a [u8]) -> Option<LentTree<'a>>
     ensures document { IfSome result (λ t. doc bytes.now ≡ Ok (lent_tree_view t)) }
-    ensures element { IfSome result (λ t. IsElement (lent_tree_view t)) }
-    ensures kept { IfSome result (λ t. IsKept (lent_tree_view t)) }
-    ensures texts { IfSome result (λ t. AreTexts (lent_tree_view t)) }
-    ensures shallow { IfSome result (λ t. tree_depth (lent_tree_view t) ≤ 120) }
+    ensures kept { IfSome result (λ t. IsDocument (lent_tree_view t)) }
 {
     let text = str::from_utf8(without_line_feed(bytes)).ok()?;
     read_straight(alloc, text)
@@ -85,27 +77,19 @@ fn read_plainly<'a>(alloc: Global, bytes: &'a [u8]) -> Option<LentTree<'a>>
 fn read_by_value(alloc: Global, bytes: &[u8]) -> Result<Tree, DocFault>
     ensures document { IfOk result (λ t. doc bytes.now ≡ Ok (tree_view t)) }
     ensures refused { IfErr result (λ f. IfSome (refusal_of f) (λ r. doc bytes.now ≡ Err r)) }
-    ensures element { IfOk result (λ t. IsElement (tree_view t)) }
-    ensures well_formed { IfOk result (λ t. IsWellFormed (tree_view t)) }
-    ensures shallow { IfOk result (λ t. tree_depth (tree_view t) ≤ 120) }
-    ensures items_fit { IfOk result (λ t. ItemsFit (tree_view t)) }
-    ensures texts { IfOk result (λ t. AreTexts (tree_view t)) }
+    ensures kept { IfOk result (λ t. IsDocument (tree_view t)) }
 {
     let value = json_value(alloc, bytes)?;
     document_of(alloc, &value)
 }
 
 /// The document that a value spells.
-#[tactic(auto, using(crate::proofs::OwnTexts::tree_texts))]
 fn document_of(alloc: Global, value: &Value) -> Result<Tree, DocFault>
-    ensures document { IfOk result (λ t. of_shape (root_of (data_of value.now)) ≡ Ok (tree_view t)) }
+    ensures document { IfOk result
+        (λ t. of_shape (root_of (data_of value.now)) ≡ Ok (tree_view t)) }
     ensures refused { IfErr result
         (λ f. IfSome (refusal_of f) (λ r. of_shape (root_of (data_of value.now)) ≡ Err r)) }
-    ensures element { IfOk result (λ t. IsElement (tree_view t)) }
-    ensures well_formed { IfOk result (λ t. IsWellFormed (tree_view t)) }
-    ensures shallow { IfOk result (λ t. tree_depth (tree_view t) ≤ 120) }
-    ensures items_fit { IfOk result (λ t. ItemsFit (tree_view t)) }
-    ensures texts { IfOk result (λ t. AreTexts (tree_view t)) }
+    ensures kept { IfOk result (λ t. IsDocument (tree_view t)) }
 {
     let mut place = Vec::new(alloc);
     match read_root(alloc, value, &mut place) {

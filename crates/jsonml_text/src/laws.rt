@@ -1,14 +1,7 @@
 ghost use Rattle.std.specs.Prelude.{◌≡◌, ◌≤◌, ◌↔◌, [], None};
 ghost use Rattle.jsonml_tree.specs.Data.{PlainScalar, PlainTree, tree_depth};
 ghost use Rattle.jsonml_text.specs.Document.{too_deep_at};
-ghost use Rattle.jsonml_text.specs.Laws.{CallsPrint, CallsMayCome};
 ghost use Rattle.jsonml_text.specs.RoundTrip.{TextReadsBack, DocumentReadsBack, ScalarReadsBack};
-
-/// A printer that is led through a whole element prints its text, and each of the calls may be made.
-pub fn calls_print_the_tree()
-    ensures text { (t : PlainTree) → CallsPrint t }
-    ensures may_come { (t : PlainTree) → CallsMayCome t }
-{}
 
 /// A tree has an element that stands too deep exactly where its depth is above 120.
 pub fn levels_end_with_the_depth()

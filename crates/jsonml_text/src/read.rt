@@ -1,17 +1,17 @@
-ghost use Rattle.std.specs.Prelude.{◌≡◌, ◌+◌, ◌≤◌, ◌∷◌, [], ◌++◌, OnOk, IfOk, map, option_map};
-ghost use Rattle.serde_json.specs.View.{view as data_of, items_view, members_view};
+ghost use Rattle.std.specs.Prelude.{◌≡◌, ℕ, ◌+◌, ◌≤◌, List, ◌∷◌, [], ◌++◌, OnOk, IfOk, map};
+ghost use Rattle.serde_json.specs.View.{view as data_of, items_view};
 ghost use Rattle.jsonml_tree.specs.Data.{content};
 ghost use Rattle.jsonml_tree.specs.Fits.{IsElement};
 ghost use Rattle.jsonml_tree.specs.View.{attr_view, tree_view, content_view, items_view as trees_view};
 ghost use Rattle.jsonml_text.specs.Kept.{AreAttrsKept, IsKept, IsContentKept, AreKept};
 ghost use Rattle.jsonml_text.specs.Spelled.{root_of, item_at, element_at, content_at, items_at};
-ghost use Rattle.jsonml_text.specs.Front.{front_object};
+ghost use Rattle.jsonml_text.specs.Front.{front_at};
 ghost use Rattle.jsonml_text.specs.Stops.{Reads};
 
 use crate::scalar::read_attrs;
 use crate::stop::Stop;
 use jsonml_tree::{Attr, Content, Tree};
-use serde_json::{Map, Value};
+use serde_json::Value;
 use std::alloc::Global;
 
 /// The element that a whole document spells, at the empty place.
@@ -46,7 +46,8 @@ fn read_item(alloc: Global, value: &Value, place: &mut Vec<u32>) -> Result<Tree,
 #[cycle(read)]
 fn read_element(alloc: Global, values: &[Value], place: &mut Vec<u32>) -> Result<Tree, Stop>
     ensures tree { Reads tree_view
-        (element_at place.old.items (items_view values.now)) place.old.items place.new.items result }
+        (element_at place.old.items (items_view values.now))
+        place.old.items place.new.items result }
     ensures element { IfOk result (λ t. IsElement (tree_view t)) }
     ensures kept { IfOk result (λ t. IsKept (tree_view t)) }
 {
@@ -69,30 +70,29 @@ pub(crate) fn read_content(
     place: &mut Vec<u32>,
 ) -> Result<Content, Stop>
     ensures content { Reads content_view
-        (content_at place.old.items (items_view values.now)) place.old.items place.new.items result }
+        (content_at place.old.items (items_view values.now))
+        place.old.items place.new.items result }
     ensures kept { IfOk result (λ c. IsContentKept (content_view c)) }
 {
-    match object_in_front(values) {
-        Some((members, rest)) => {
-            let attrs = read_attrs(alloc, members)?;
-            let items = read_items(alloc, rest, place)?;
-            Ok(content_from(attrs, items))
-        }
-        None => {
-            let items = read_items(alloc, values, place)?;
-            Ok(content_from(Vec::new(alloc), items))
-        }
-    }
+    let (attrs, behind) = attrs_in_front(alloc, values)?;
+    let items = read_items(alloc, behind, place)?;
+    Ok(content_from(attrs, items))
 }
 
-/// The members of the object in front, if one stands there, and the values behind it.
-#[tactic(auto, using(crate::proofs::Contents::front_is))]
-fn object_in_front(values: &[Value]) -> Option<(&Map<String, Value>, &[Value])>
-    ensures { option_map (λ r. (members_view r.0.now.entries, items_view r.1.now)) result
-        ≡ front_object (items_view values.now) }
+/// The attributes that an object in front spells, if one stands there, and the values behind it.
+#[tactic(auto, using(crate::proofs::Contents::fronts))]
+fn attrs_in_front(alloc: Global, values: &[Value]) -> Result<(Vec<Attr>, &[Value]), Stop>
+    ensures front { (place : List ℕ) → Reads (λ r. (map attr_view r.0.items, items_view r.1.now))
+        (front_at place (items_view values.now)) place place result }
+    ensures kept { IfOk result (λ r. AreAttrsKept (map attr_view r.0.items)) }
 {
-    let (first, rest) = values.split_first()?;
-    Some((first.as_object()?, rest))
+    match values.split_first() {
+        Some((first, rest)) => match first.as_object() {
+            Some(members) => Ok((read_attrs(alloc, members)?, rest)),
+            None => Ok((Vec::new(alloc), values)),
+        },
+        None => Ok((Vec::new(alloc), values)),
+    }
 }
 
 fn content_from(attrs: Vec<Attr>, items: Vec<Tree>) -> Content
@@ -109,7 +109,8 @@ fn content_from(attrs: Vec<Attr>, items: Vec<Tree>) -> Content
 #[cycle(read)]
 fn read_items(alloc: Global, values: &[Value], place: &mut Vec<u32>) -> Result<Vec<Tree>, Stop>
     ensures trees { Reads (λ v. trees_view v.items)
-        (items_at place.old.items 1 (items_view values.now)) place.old.items place.new.items result }
+        (items_at place.old.items 1 (items_view values.now))
+        place.old.items place.new.items result }
     ensures kept { IfOk result (λ v. AreKept (map tree_view v.items)) }
 {
     let mut items = Vec::with_capacity(alloc, values.len())?;

@@ -5,15 +5,14 @@ ghost use Rattle.std.specs.Str.{IsUtf8};
 ghost use Rattle.json.specs.Lex.{after_value, token};
 ghost use Rattle.json.specs.Token.{Token, begin_array};
 ghost use Rattle.serde_json.specs.Read.{read};
-ghost use Rattle.jsonml_tree.specs.Data.{PlainTrees, content, tree_depth};
+ghost use Rattle.jsonml_tree.specs.Data.{PlainTrees, content};
 ghost use Rattle.jsonml_tree.specs.Fits.{IsElement};
 ghost use Rattle.jsonml_tree.specs.LentView.{only_text, lent_tree_view, lent_row_view};
 ghost use Rattle.jsonml_tree.specs.View.{attr_view};
 ghost use Rattle.jsonml_text.specs.Document.{of_value};
-ghost use Rattle.jsonml_text.specs.Kept.{AreAttrsKept, IsKept};
+ghost use Rattle.jsonml_text.specs.Kept.{AreAttrsKept, IsDocument};
 ghost use Rattle.jsonml_text.specs.Pushed.{PushesTree, ReadsContent, ReadsItems};
 ghost use Rattle.jsonml_text.specs.Straight.{tokens_from, HasContent, HasItems, HasLexeme};
-ghost use Rattle.jsonml_text.specs.Texts.{AreTexts};
 
 use crate::object::read_attributes;
 use crate::room::Room;
@@ -30,10 +29,7 @@ use std::borrow::CowStr;
 /// than it is printed in, or an object with a name twice or more than 64 names.
 pub(crate) fn read_straight<'a>(alloc: Global, text: &'a str) -> Option<LentTree<'a>>
     ensures tree { IfSome result (λ t. of_value (read text.now) ≡ Ok (lent_tree_view t)) }
-    ensures element { IfSome result (λ t. IsElement (lent_tree_view t)) }
-    ensures kept { IfSome result (λ t. IsKept (lent_tree_view t)) }
-    ensures texts { IfSome result (λ t. AreTexts (lent_tree_view t)) }
-    ensures shallow { IfSome result (λ t. tree_depth (lent_tree_view t) ≤ 120) }
+    ensures kept { IfSome result (λ t. IsDocument (lent_tree_view t)) }
 {
     let mut room = Room::new(alloc);
     let end = push_item(

@@ -5,9 +5,9 @@ ghost use Rattle.json.specs.Lex.{token, between, in_string, lex};
 ghost use Rattle.json.specs.Token.{string};
 ghost use Rattle.jsonml_text.specs.Straight.{HasLexeme, HasString, HasKey};
 
-use crate::quote::plain_run;
 use crate::scan::{ends_value, is_sign, skip_blanks};
 use json::{Reader, Scratch, Token};
+use jsonml_print::plain_run;
 use std::alloc::Global;
 use std::borrow::CowStr;
 

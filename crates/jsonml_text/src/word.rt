@@ -3,7 +3,7 @@ ghost use Rattle.std.specs.Fmt.{signed_decimal};
 ghost use Rattle.jsonml_tree.specs.Data.{whole};
 ghost use Rattle.jsonml_tree.specs.View.{scalar_view};
 ghost use Rattle.jsonml_tree.specs.WellFormed.{is_in_range};
-ghost use Rattle.jsonml_text.specs.Printed.{scalar_text};
+ghost use Rattle.jsonml_print.specs.Printed.{scalar_text};
 ghost use Rattle.jsonml_text.specs.Straight.{HasScalar, is_word};
 
 use crate::scan::{skip_blanks, word_end};

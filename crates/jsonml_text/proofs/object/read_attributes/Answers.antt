@@ -1,3 +1,4 @@
+use Rattle.std.proofs.lemmas.Grind.{common_steps}
 use Rattle.std.proofs.Common.{◌≡◌, ◌+◌, ◌∷◌, [], List, map, Ok, refl, arith, rules, subst, sym, ap, ◌∙◌}
 use Rattle.json.specs.Lex.{after_value}
 use Rattle.serde_json.specs.Data.{no_members, put}
@@ -70,3 +71,33 @@ returns-then-is_sign-2-clause-attrs c = λ depth.
     let xs = map attr_view c.members.attrs.items in
     let rest = tokens_from after_value d (end + 1) in
     o.2 xs rest (HasMembers-end depth d end o.0 xs rest o.1 (brace_passed d end (c.if-is_sign-2.ensures refl)))
+
+pub returns-else-is_sign-2-clause-attrs : goal.returns-else-is_sign-2-clause-attrs
+returns-else-is_sign-2-clause-attrs c = grind (arith, common_steps)
+
+pub returns-else-is_sign-2-clause-kept : goal.returns-else-is_sign-2-clause-kept
+returns-else-is_sign-2-clause-kept c = grind (arith, common_steps)
+
+pub returns-else-is_sign-2-clause-later : goal.returns-else-is_sign-2-clause-later
+returns-else-is_sign-2-clause-later c = grind (arith, common_steps)
+
+pub returns-else-is_sign-2-clause-within : goal.returns-else-is_sign-2-clause-within
+returns-else-is_sign-2-clause-within c = grind (arith, common_steps)
+
+pub returns-then-is_sign-2-clause-kept : goal.returns-then-is_sign-2-clause-kept
+returns-then-is_sign-2-clause-kept c = grind (arith, common_steps)
+
+pub returns-then-is_sign-2-clause-later : goal.returns-then-is_sign-2-clause-later
+returns-then-is_sign-2-clause-later c = grind (arith, common_steps)
+
+pub returns-then-is_sign-2-clause-within : goal.returns-then-is_sign-2-clause-within
+returns-then-is_sign-2-clause-within c = grind (arith, common_steps)
+
+pub returns-then-is_sign-clause-kept : goal.returns-then-is_sign-clause-kept
+returns-then-is_sign-clause-kept c = grind (arith, common_steps)
+
+pub returns-then-is_sign-clause-later : goal.returns-then-is_sign-clause-later
+returns-then-is_sign-clause-later c = grind (arith, common_steps)
+
+pub returns-then-is_sign-clause-within : goal.returns-then-is_sign-clause-within
+returns-then-is_sign-clause-within c = grind (arith, common_steps)

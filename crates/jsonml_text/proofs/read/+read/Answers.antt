@@ -1,16 +1,18 @@
-use Rattle.std.proofs.Common.{◌≡◌, ◌<◌, ◌++◌, ◌∷◌, [], ◌+◌, List, ℕ, Ok, Err, Some, None, map, length, drop, rules, arith, sym, ap, ◌∙◌, subst, Vec, Global}
+use Rattle.jsonml_tree.proofs.Trees.{trees}
+use Rattle.std.proofs.lemmas.Grind.{common_steps}
+use Rattle.std.proofs.Common.{◌≡◌, ◌<◌, ◌++◌, ◌∷◌, [], ◌+◌, List, ℕ, Ok, Err, map, length, drop, rules, arith, sym, ap, ◌∙◌, subst, Vec, Global, Bor}
 use Rattle.std.proofs.lemmas.List.{map-append, length-map, drop_all}
 use Rattle.serde_json.specs.Data.{items_depth}
-use Rattle.serde_json.specs.View.{view as data_of, items_view, members_view}
+use Rattle.serde_json.specs.View.{view as data_of, items_view}
+use Rattle.serde_json.specs.declared.value.Value.{Value}
 use Rattle.jsonml_tree.specs.Data.{content}
-use Rattle.jsonml_tree.specs.View.{tree_view, attr_view, items_view as trees_view}
+use Rattle.jsonml_tree.specs.View.{tree_view, attr_view, content_view, items_view as trees_view}
 use Rattle.jsonml_tree.specs.declared.scalar.Attr.{Attr}
 use Rattle.jsonml_tree.specs.declared.tree.Tree.{Tree}
-use Rattle.jsonml_text.specs.Front.{front_object}
 use Rattle.jsonml_text.specs.Kept.{AreKept}
-use Rattle.jsonml_text.specs.Spelled.{item_at, items_at}
+use Rattle.jsonml_text.specs.Spelled.{mapped, item_at}
+use Rattle.jsonml_text.proofs.Contents.{front_fault, front_items, behind_depth}
 use Rattle.jsonml_text.proofs.Spelling.{Reads-handed, values_left, items_stop, items_step, items_done}
-use Rattle.jsonml_text.proofs.Contents.{attrs_fault}
 use Rattle.jsonml_text.proofs.Keeping.{AreKept-push}
 use Rattle.jsonml_text.proofs.read.+read.Goals as goal
 
@@ -55,9 +57,78 @@ read_items-returns-clause-trees t c =
     let vs = c.args.values.now in
     (sym c.loop-value.invariant.so_far ∙ items_done c.args.place.now.items c.loop-value.items.items (drop c.loop-value.value-index vs) (drop_all c.loop-value.value-index vs (omega arith)), c.loop-value.invariant.place)
 
-pub read_content-returns-in_err-attrs-in-Some-clause-content : goal.read_content-returns-in_err-attrs-in-Some-clause-content
-read_content-returns-in_err-attrs-in-Some-clause-content t c =
+pub read_element-returns-in-None-clause-element : goal.read_element-returns-in-None-clause-element
+read_element-returns-in-None-clause-element t c = grind (arith, common_steps)
+
+pub read_element-returns-in-None-clause-kept : goal.read_element-returns-in-None-clause-kept
+read_element-returns-in-None-clause-kept t c = grind (arith, common_steps)
+
+pub read_element-returns-in-None-clause-tree : goal.read_element-returns-in-None-clause-tree
+read_element-returns-in-None-clause-tree t c = grind (arith, common_steps)
+
+pub read_element-returns-in_ok-content-in-Some-String-default-clause-element : goal.read_element-returns-in_ok-content-in-Some-String-default-clause-element
+read_element-returns-in_ok-content-in-Some-String-default-clause-element t c = grind (arith, trees)
+
+pub read_element-returns-in_ok-content-in-Some-String-default-clause-kept : goal.read_element-returns-in_ok-content-in-Some-String-default-clause-kept
+read_element-returns-in_ok-content-in-Some-String-default-clause-kept t c = grind (arith, trees)
+
+pub read_item-returns-in-Array-clause-kept : goal.read_item-returns-in-Array-clause-kept
+read_item-returns-in-Array-clause-kept t c = grind (arith, common_steps)
+
+pub read_item-returns-in_ok-from_str-in-String-clause-kept : goal.read_item-returns-in_ok-from_str-in-String-clause-kept
+read_item-returns-in_ok-from_str-in-String-clause-kept t c = grind (arith, trees)
+
+pub read_item_at-returns-clause-fits : goal.read_item_at-returns-clause-fits
+read_item_at-returns-clause-fits t c = grind (arith, common_steps)
+
+pub read_item_at-returns-clause-kept : goal.read_item_at-returns-clause-kept
+read_item_at-returns-clause-kept t c = grind (arith, common_steps)
+
+pub read_item_at-returns-clause-tree : goal.read_item_at-returns-clause-tree
+read_item_at-returns-clause-tree t c = grind (arith, common_steps)
+
+pub read_item_at-returns-in_default-clause-fits : goal.read_item_at-returns-in_default-clause-fits
+read_item_at-returns-in_default-clause-fits t c = grind (arith, common_steps)
+
+pub read_item_at-returns-in_default-clause-kept : goal.read_item_at-returns-in_default-clause-kept
+read_item_at-returns-in_default-clause-kept t c = grind (arith, common_steps)
+
+pub read_item_at-returns-in_default-clause-tree : goal.read_item_at-returns-in_default-clause-tree
+read_item_at-returns-in_default-clause-tree t c = grind (arith, common_steps)
+
+pub read_items-loop-value-init : goal.read_items-loop-value-init
+read_items-loop-value-init t c = grind (arith, common_steps)
+
+pub read_items-returns-clause-kept : goal.read_items-returns-clause-kept
+read_items-returns-clause-kept t c = grind (arith, common_steps)
+
+-- ---- the attributes in front, and then the items
+
+pub read_content-returns-in_err-attrs-clause-content : goal.read_content-returns-in_err-attrs-clause-content
+read_content-returns-in_err-attrs-clause-content t c =
     let place = c.args.place.now.items in
-    Reads-handed {T = Vec Attr Global} (λ v. map attr_view v.items) _ _ _ place place _ c.in_err-attrs-in-Some.field-0.0 _
-    (λ fault e. attrs_fault place (items_view c.args.values.now) (items_view c.in-Some.rest.now) (members_view c.in-Some.members.now.entries) fault (sym c.in-Some.ensures) e)
-    (c.in_err-attrs-in-Some.ensures.attrs place) c.from_residual.ensures.1
+    Reads-handed (λ (r : Vec Attr Global × Bor (List Value)). (map attr_view r.0.items, items_view r.1.now)) content_view _ _ place place place c.in_err-attrs.field-0.0 _
+    (λ fault e. front_fault place (items_view c.args.values.now) fault e) (c.in_err-attrs.ensures.front place) c.from_residual.ensures.1
+
+pub read_content-read_items-requires : goal.read_content-read_items-requires
+read_content-read_items-requires t c =
+    let place = c.args.place.now.items in
+    omega (arith, c.decreases, behind_depth place (items_view c.args.values.now) (items_view c.in_ok-attrs.behind.now) (map attr_view c.in_ok-attrs.attrs.items) (c.in_ok-attrs.ensures.front place).0)
+
+pub read_content-returns-in_err-items-clause-content : goal.read_content-returns-in_err-items-clause-content
+read_content-returns-in_err-items-clause-content t c =
+    let place = c.args.place.now.items in
+    let xs = map attr_view c.in_ok-attrs.attrs.items in
+    Reads-handed (λ (v : Vec Tree Global). trees_view v.items) content_view _ _ place place c.read_items.new.place.items c.in_err-items.field-0.0 _
+    (λ fault e. front_items place (items_view c.args.values.now) (items_view c.in_ok-attrs.behind.now) xs (c.in_ok-attrs.ensures.front place).0 ∙ ap (mapped (content xs)) e)
+    c.in_err-items.ensures.trees c.from_residual-in_err-items.ensures.1
+
+pub read_content-returns-clause-content : goal.read_content-returns-clause-content
+read_content-returns-clause-content t c =
+    let place = c.args.place.now.items in
+    let xs = map attr_view c.in_ok-attrs.attrs.items in (
+      front_items place (items_view c.args.values.now) (items_view c.in_ok-attrs.behind.now) xs (c.in_ok-attrs.ensures.front place).0
+          ∙ ap (mapped (content xs)) c.in_ok-items.ensures.trees.0
+          ∙ ap (λ x. Ok x) (sym c.content_from.ensures.content),
+      c.in_ok-items.ensures.trees.1,
+    )

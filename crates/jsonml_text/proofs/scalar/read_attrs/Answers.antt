@@ -1,3 +1,4 @@
+use Rattle.std.proofs.lemmas.Grind.{common_steps}
 use Rattle.std.proofs.Common.{◌≡◌, ◌++◌, ◌∷◌, [], List, ℕ, Ok, map, length, string_bytes, arith, rules, sym, ap, ◌∙◌, subst, IsTrue}
 use Rattle.std.proofs.lemmas.List.{map-append}
 use Rattle.jsonml_tree.specs.Data.{PlainAttr}
@@ -43,3 +44,9 @@ returns-clause-kept c =
       ascending = is_ascending-from_sorted _ done (names_kept [] c.args.members.now.entries done whole) c.iter-name-items.ensures.ordered;
       in_range = c.loop-name.invariant.in_range;
     }
+
+pub loop-name-init : goal.loop-name-init
+loop-name-init c = grind (arith, common_steps)
+
+pub returns-clause-attrs : goal.returns-clause-attrs
+returns-clause-attrs c = grind (arith, common_steps)

@@ -1,3 +1,4 @@
+use Rattle.std.proofs.lemmas.Grind.{common_steps}
 use Rattle.std.proofs.Common.{◌≡◌, ◌+◌, ◌-◌, ◌++◌, ◌∷◌, [], map, length, arith, refl, rules}
 use Rattle.json.specs.Lex.{token}
 use Rattle.json.specs.Token.{begin_array}
@@ -54,3 +55,15 @@ read_items-returns t c =
     let many : c.len-waiting.result ≡ length old = search rules in
     ReadsItems-end c.args.levels c.args.text.now c.args.at old c.items.room.trees.items c.take_from.new.self.trees.items taken.field-0.items c.len-waiting.result c.items.end next.result c.items.invariant (c.if-not-is_sign.ensures refl) next.ensures.same
     next.ensures.later next.ensures.within many taken.ensures.taken taken.ensures.left taken.ensures.few
+
+pub push_element-returns-then-levels-eq0 : goal.push_element-returns-then-levels-eq0
+push_element-returns-then-levels-eq0 t c = grind (arith, common_steps)
+
+pub push_item-returns-else-is_sign : goal.push_item-returns-else-is_sign
+push_item-returns-else-is_sign t c = grind (arith, common_steps)
+
+pub push_item-returns-then-is_sign : goal.push_item-returns-then-is_sign
+push_item-returns-then-is_sign t c = grind (arith, common_steps)
+
+pub read_items-returns-then-not-is_sign : goal.read_items-returns-then-not-is_sign
+read_items-returns-then-not-is_sign t c = grind (arith, common_steps)

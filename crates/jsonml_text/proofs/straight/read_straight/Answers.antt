@@ -2,6 +2,7 @@ use Rattle.std.proofs.Common.{◌≡◌, ◌++◌, ◌∷◌, [], List, length, 
 use Rattle.jsonml_tree.specs.Data.{tree_depth}
 use Rattle.jsonml_tree.specs.LentView.{lent_tree_view}
 use Rattle.jsonml_tree.specs.declared.lent.LentTree.{LentTree}
+use Rattle.jsonml_text.specs.Kept.{IsKept}
 use Rattle.jsonml_text.specs.Straight.{HasTree}
 use Rattle.jsonml_text.specs.Texts.{AreTexts}
 use Rattle.jsonml_text.proofs.Straightness.{document_read}
@@ -12,13 +13,21 @@ only [] x y e = cc
 only (z ∷ []) x y e = absurd (cc)
 only (z ∷ w ∷ xs) x y e = absurd (cc)
 
-pub returns-clause-texts : goal.returns-clause-texts
-returns-clause-texts c =
+pub returns-clause-kept : goal.returns-clause-kept
+returns-clause-kept c =
     let h = c.in_ok-end.ensures in
     let t = c.in_ok-tree.tree in
     let one : c.push_item.new.room.trees.items ≡ h.pushed ∷ [] = search rules in
     let two : c.push_item.new.room.trees.items ≡ c.pop.new.self.items ++ t ∷ [] = search rules in
-    subst (λ (u : LentTree). AreTexts (lent_tree_view u)) (only c.pop.new.self.items t h.pushed (sym two ∙ one)) h.texts
+    let same : h.pushed ≡ t = only c.pop.new.self.items t h.pushed (sym two ∙ one) in
+    let kept : IsKept (lent_tree_view t) = subst (λ (u : LentTree). IsKept (lent_tree_view u)) same h.kept in
+    record {
+      element = c.if-is_text.ensures;
+      well_formed = kept.well_formed;
+      shallow = omega (arith, ap (λ (u : LentTree). tree_depth (lent_tree_view u)) same, h.shallow);
+      items_fit = kept.fits;
+      texts = subst (λ (u : LentTree). AreTexts (lent_tree_view u)) same h.texts;
+    }
 
 pub returns-clause-tree : goal.returns-clause-tree
 returns-clause-tree c =

@@ -1,3 +1,4 @@
+use Rattle.std.proofs.lemmas.Grind.{common_steps}
 use Rattle.std.proofs.Common.{◌≡◌, ◌+◌, ◌-◌, ◌<◌, List, ℕ, take, drop, get_or, length, take_all, length-drop, arith, rules, subst, ap, sym, ◌∙◌}
 use Rattle.std.proofs.lemmas.Str.{IsCharBoundary-after_ascii, IsUtf8-string_bytes}
 use Rattle.json.specs.Lex.{token}
@@ -30,3 +31,15 @@ returns-then-bytes-end-eq34-clause-lexeme c =
 
 pub returns-clause-utf8 : goal.returns-clause-utf8
 returns-clause-utf8 c = IsUtf8-string_bytes c.in_ok-string.string
+
+pub returns-clause-lexeme : goal.returns-clause-lexeme
+returns-clause-lexeme c = grind (arith, common_steps)
+
+pub returns-then-at-bytes-clause-lexeme : goal.returns-then-at-bytes-clause-lexeme
+returns-then-at-bytes-clause-lexeme c = grind (arith, common_steps)
+
+pub returns-then-at-bytes-clause-utf8 : goal.returns-then-at-bytes-clause-utf8
+returns-then-at-bytes-clause-utf8 c = grind (arith, common_steps)
+
+pub returns-then-bytes-end-eq34-clause-utf8 : goal.returns-then-bytes-end-eq34-clause-utf8
+returns-then-bytes-end-eq34-clause-utf8 c = grind (arith, common_steps)

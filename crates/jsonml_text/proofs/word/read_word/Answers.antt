@@ -1,6 +1,6 @@
 use Rattle.std.proofs.Common.{◌≡◌, ◌-◌, List, ℕ, take, drop, subst}
 use Rattle.jsonml_tree.specs.View.{scalar_view}
-use Rattle.jsonml_text.specs.Printed.{scalar_text}
+use Rattle.jsonml_print.specs.Printed.{scalar_text}
 use Rattle.jsonml_text.proofs.Words.{HasScalar-word}
 use Rattle.jsonml_text.proofs.word.read_word.Goals as goal
 

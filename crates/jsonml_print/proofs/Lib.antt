@@ -1,0 +1,3 @@
+pub mod Escapes
+pub mod Walks
+pub mod TreeWalk

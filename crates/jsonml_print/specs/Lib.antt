@@ -1,0 +1,4 @@
+pub mod Printed
+pub mod Pen
+pub mod Calls
+pub mod Laws

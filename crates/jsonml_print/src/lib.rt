@@ -1,0 +1,15 @@
+//! Printing of documents, whole or call by call.
+#![tactic(auto)]
+
+mod last;
+mod laws;
+mod pieces;
+mod print;
+mod printer;
+mod quote;
+
+pub use laws::calls_print_the_tree;
+pub use pieces::write_scalar;
+pub use print::{print_content, print_lent_content, write_tree};
+pub use printer::Printer;
+pub use quote::plain_run;
