@@ -1,6 +1,6 @@
 -- What holds of the closed rules of a text.
-use Rattle.std.proofs.Common.{◌≡◌, ℕ, ◌≤◌, Bool, true, false, cond, not, ◌&&◌, ◌⊎◌, inl, inr, ⊎_elim, List, [], ◌∷◌, ◌++◌, length, ltb, map, flat_map, refl, ap, ap₂, sym, ◌∙◌, subst, arith, Option, Some, None, Ok, is_some, option_map}
-use Rattle.std.proofs.lemmas.Bool.{cond-false, or_left, and_from, and_left, and_right, not_from_true, not_from_false, false_from_ne_true, lt-ltb}
+use Rattle.std.proofs.Common.{◌≡◌, ℕ, ◌≤◌, Bool, true, false, cond, ◌&&◌, ◌⊎◌, inl, inr, ⊎_elim, List, [], ◌∷◌, ◌++◌, length, ltb, map, flat_map, refl, ap, ap₂, sym, ◌∙◌, subst, arith, Option, Some, None, Ok, is_some, option_map}
+use Rattle.std.proofs.lemmas.Bool.{cond-false, or_left, and_from, not_from_false, false_from_ne_true, lt-ltb}
 use Rattle.std.specs.List.{cons_option, list_any}
 use Rattle.std.specs.List.Sorted.{IsStrictlySortedBy}
 use Rattle.std.specs.Option.{option_or}
@@ -15,7 +15,7 @@ use Rattle.key_spec.specs.Canonical.{canonical}
 use Rattle.key_spec.specs.Closed.{given_rules, paths_why, rule_why, line_fault, first_of_all, target_of, implied_along, implied_by, implied_rules, end_at, frontier_ends, has_path, has_place, lacks_context, is_keyed_twice, passes_end, closing_why, closing_fault, closed_rules, within_limits, closed}
 use Rattle.key_spec.specs.ClosedList.{IsClosedList}
 use Rattle.key_spec.proofs.ClosingLemmas.{implied_rules-named}
-use Rattle.key_spec.proofs.Members.{In, from-Contains, to-Contains, In-left, In-right, In-cases, In-flat_map, to_flat_map, In-map, to_map, from_any, to_any, from_all, In-put_all, Covers, put_all-new, one_place, same_sorted}
+use Rattle.key_spec.proofs.Members.{In, from-Contains, to-Contains, In-left, In-right, In-cases, In-flat_map, to_flat_map, In-map, to_map, from_any, to_any, from_all, In-put_all, Covers, put_all-new}
 use Rattle.key_spec.proofs.OrderLaws.{path_cmp-Decides, rule_cmp-Equal}
 use Rattle.key_spec.proofs.ParseLemmas.{lines_of, rules_of, given_rules-named, limits-kept}
 use Rattle.key_spec.proofs.SearchLemmas.{closed-parts, limits-ok, closed_rules-sorted}

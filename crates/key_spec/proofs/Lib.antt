@@ -23,3 +23,4 @@ pub mod SpecLaws
 pub mod Steps
 pub mod TextLemmas
 pub mod TokenLemmas
+pub mod MarkLemmas

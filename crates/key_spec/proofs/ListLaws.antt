@@ -1,12 +1,12 @@
 -- Given as lines of their own, the rules of a closed list have no fault, and close to themselves.
-use Rattle.std.proofs.Common.{◌≡◌, ℕ, Bool, true, false, cond, not, inl, inr, ⊎_elim, List, [], ◌∷◌, ◌++◌, length, ltb, map, refl, ap, ap₂, sym, ◌∙◌, subst, Ok}
+use Rattle.std.proofs.Common.{◌≡◌, ℕ, true, false, not, inl, inr, ⊎_elim, List, [], ◌∷◌, ◌++◌, length, ltb, map, refl, ap, ap₂, sym, ◌∙◌, subst, Ok}
 use Rattle.std.proofs.lemmas.Bool.{and_left, and_right, not_from_true, false_from_ne_true}
 use Rattle.std.proofs.lemmas.Cmp.{tied_itself}
 use Rattle.std.specs.List.{list_any}
 use Rattle.std.specs.Ordering.{is_eq}
 use Rattle.std.specs.declared.cmp.Ordering.TheVariants.{Equal}
 use Rattle.key_spec.specs.Data.{PlainRule}
-use Rattle.key_spec.specs.Rules.{path_cmp, rule_cmp, place_cmp, below, is_frontier}
+use Rattle.key_spec.specs.Rules.{path_cmp, rule_cmp, place_cmp, below}
 use Rattle.key_spec.specs.Laws.{rule_cmp_total}
 use Rattle.key_spec.specs.Closed.{target_of, implied_by, implied_rules, frontier_ends, has_path, has_place, lacks_context, is_keyed_twice, passes_end, closed_rules, within_limits}
 use Rattle.key_spec.specs.ClosedList.{IsClosedList}

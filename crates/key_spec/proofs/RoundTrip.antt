@@ -13,7 +13,7 @@ use Rattle.std.specs.List.Sorted.{IsStrictlySortedBy}
 use Rattle.std.specs.declared.cmp.Ordering.TheVariants.{Less, Equal}
 use Rattle.key_spec.specs.Data.{PlainPath, PlainRule, GivenRule, PlainSpecFault}
 use Rattle.key_spec.specs.Names.{is_named}
-use Rattle.key_spec.specs.Rules.{rule_cmp, place_cmp, below}
+use Rattle.key_spec.specs.Rules.{rule_cmp, place_cmp}
 use Rattle.key_spec.specs.Laws.{rule_cmp_total}
 use Rattle.key_spec.specs.Canonical.{canonical}
 use Rattle.key_spec.specs.Closed.{target_of, has_place, closing_fault, closed_rules, within_limits, closed, IsClosed, given_rules}

@@ -1,11 +1,11 @@
 -- Names that are the same, by length and bytes, against their order.
-use Rattle.std.proofs.Common.{◌≡◌, ◌≢◌, ℕ, suc, Bool, true, false, ◌&&◌, List, [], ◌∷◌, length, refl, ap, ◌∙◌}
+use Rattle.std.proofs.Common.{◌≡◌, ◌≢◌, ℕ, suc, ◌<◌, ◌≤◌, Bool, true, false, ◌&&◌, List, [], ◌∷◌, length, take, refl, ap, sym, ◌∙◌, arith}
 use Rattle.std.proofs.lemmas.Map.Text.{is_eq-slice_cmp}
 use Rattle.std.specs.Ordering.{is_eq, ordering_then}
 use Rattle.std.specs.declared.cmp.Ordering.{Ordering}
 use Rattle.std.specs.declared.cmp.Ordering.TheVariants.{Less, Equal, Greater}
 use Rattle.std.specs.Str.{bytes_eq}
-use Rattle.key_spec.specs.Rules.{name_cmp, path_cmp, place_cmp}
+use Rattle.key_spec.specs.Rules.{name_cmp, path_cmp, place_cmp, goes_behind}
 
 pub is_eq-then : (o r : Ordering) → is_eq (ordering_then o r) ≡ is_eq o && is_eq r
 is_eq-then Less r = refl
@@ -38,5 +38,26 @@ same-place context tag other name = is_eq-then (path_cmp context other) (name_cm
     swap true false c e = ap (λ d. d && true) e
     swap false true c e = ap (λ d. d && false) e
     swap false false c e = ap (λ d. d && false) e
+
+-- ---- names behind a path
+
+pub behind-short : (path names : List (List ℕ)) → length names ≤ length path → goes_behind path names ≡ false
+behind-short [] [] h = refl
+behind-short [] (n ∷ names) h = absurd (omega (arith, h))
+behind-short (s ∷ path) [] h = refl
+behind-short (s ∷ path) (n ∷ names) h = and-false (bytes_eq s n) (goes_behind path names) (behind-short path names (omega (arith, h)))
+
+pub behind-long : (path names : List (List ℕ)) → length path < length names → goes_behind path names ≡ is_eq (path_cmp path (take (length path) names))
+behind-long [] [] h = absurd (omega (arith, h))
+behind-long [] (n ∷ names) h = refl
+behind-long (s ∷ path) [] h = absurd (omega (arith, h))
+behind-long (s ∷ path) (n ∷ names) h = one (bytes_eq s n) refl (behind-long path names (omega (arith, h)))
+  where
+    cut : List (List ℕ)
+    cut = take (length path) names
+
+    one : (b : Bool) → bytes_eq s n ≡ b → goes_behind path names ≡ is_eq (path_cmp path cut) → (b && goes_behind path names) ≡ is_eq (path_cmp (s ∷ path) (n ∷ cut))
+    one true e more = more ∙ sym (same-step s n path cut e)
+    one false e more = sym (other-step s n path cut e)
 
 pub ruleset same = (same-step, other-step, other-length, same-place)

@@ -11,7 +11,7 @@ use Rattle.key_spec.specs.Data.{PlainRule, PlainSpecFault}
 use Rattle.key_spec.specs.Canonical.{canonical, spelled_by}
 use Rattle.key_spec.specs.Closed.{closed, implied_by, frontier_ends, IsClosed}
 use Rattle.key_spec.specs.Laws.{rule_cmp_total}
-use Rattle.key_spec.specs.Rules.{path_cmp, rule_cmp, place_cmp, is_frontier}
+use Rattle.key_spec.specs.Rules.{path_cmp, place_cmp, is_frontier}
 use Rattle.key_spec.specs.View.{spec_view}
 use Rattle.key_spec.specs.declared.spec.Spec.{Spec}
 use Rattle.key_spec.proofs.ClosedLaws.{closed_ascends, closed_list, implied_closed, implied_again, implied_unkeyed, closed_open}

@@ -11,3 +11,4 @@ pub mod RuleView
 pub mod Rules
 pub mod Texts
 pub mod View
+pub mod Marks

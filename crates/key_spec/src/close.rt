@@ -1,8 +1,8 @@
 // The closed rules: all given and implied rules in ascending order.
-ghost use Rattle.std.specs.Prelude.{◌≡◌, ◌++◌, ◌∷◌, ◌<◌, ◌≤◌, [], length, map, fold, IfOk, OnOk, IfSome, IfNone, string_bytes};
+ghost use Rattle.std.specs.Prelude.{◌≡◌, ◌++◌, ◌∷◌, ◌<◌, ◌≤◌, [], length, map, IfOk, OnOk, IfSome, IfNone, string_bytes};
 ghost use Rattle.std.specs.Bool.{OnTrue, OnFalse};
 ghost use Rattle.key_spec.specs.Closed.{target_of, unkeyed, implied_along, implied_by, implied_rules, after_all, closed_rules};
-ghost use Rattle.key_spec.specs.View.{names_view, path_view, rule_view, rules_view, placed_rules, Puts};
+ghost use Rattle.key_spec.specs.View.{names_view, rule_view, rules_view, placed_rules, Puts};
 
 use crate::copies::{copy_name, copy_names, push_copy};
 use crate::given::Given;
@@ -43,7 +43,8 @@ fn put_all_implied(
     ensures all { IfOk result
         (λ few. OnTrue few (Puts closed.old closed.new (implied_rules (rules_view given.now)))) }
     ensures many { IfOk result (λ few. OnFalse few
-        (4096 < length (after_all (placed_rules closed.old) (implied_rules (rules_view given.now))))) }
+        (4096 < length
+        (after_all (placed_rules closed.old) (implied_rules (rules_view given.now))))) }
 {
     for one in given {
         put_implied(alloc, closed, &one.rule)?;
@@ -98,7 +99,8 @@ fn put_along(
     tags: &[String],
 ) -> Result<(), AllocError>
     ensures { OnOk result
-        (Puts closed.old closed.new (implied_along (target_of (rule_view from.now)) (names_view tags.now))) }
+        (Puts closed.old closed.new
+        (implied_along (target_of (rule_view from.now)) (names_view tags.now))) }
 {
     let mut here = copy_names(alloc, &from.context)?;
     push_copy(alloc, &mut here, &from.tag)?;
@@ -117,7 +119,8 @@ fn put_unkeyed(
     tag: &String,
 ) -> Result<(), AllocError>
     ensures { OnOk result
-        (Puts closed.old closed.new (unkeyed (names_view context.now) (string_bytes tag.now) ∷ [])) }
+        (Puts closed.old closed.new
+        (unkeyed (names_view context.now) (string_bytes tag.now) ∷ [])) }
 {
     let rule = unkeyed(alloc, context, tag)?;
     put(alloc, closed, rule)

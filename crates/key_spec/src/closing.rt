@@ -1,9 +1,10 @@
 // The second pass: how the rules of all lines fit together.
-ghost use Rattle.std.specs.Prelude.{◌≡◌, [], ◌∷◌, true, None, IfOk, IfErr, OnOk, map, flat_map, string_bytes};
+ghost use Rattle.std.specs.Prelude.{◌≡◌, [], ◌∷◌, true, None, IfOk, IfErr, OnOk, map, string_bytes};
 ghost use Rattle.std.specs.BTreeSet.{contains_text};
 ghost use Rattle.std.specs.List.{list_all, list_any};
 ghost use Rattle.key_spec.specs.Names.{slashed, is_named};
 ghost use Rattle.key_spec.specs.Closed.{closing_fault};
+ghost use Rattle.key_spec.specs.Marks.{HoldMarks, AddMarks};
 ghost use Rattle.key_spec.specs.Texts.{Holds, Adds, target_text, texts_along, contexts_along, implied_texts, end_text, end_texts, text_lacks_context, text_passes_end, text_why};
 ghost use Rattle.key_spec.specs.View.{names_view, path_view, rule_view, given_view, rules_view, IsFault};
 
@@ -35,18 +36,40 @@ pub(crate) fn check_closing(alloc: Global, given: &[Given]) -> Result<(), SpecFa
 }
 
 fn read_marks(alloc: Global, given: &[Given]) -> Result<Marks, AllocError>
-    ensures given { IfOk result
-        (λ marks. Holds marks.given (map target_text (rules_view given.now))) }
-    ensures implied { IfOk result
-        (λ marks. Holds marks.implied (flat_map implied_texts (rules_view given.now))) }
-    ensures ends { IfOk result
-        (λ marks. Holds marks.ends (flat_map end_texts (rules_view given.now))) }
+    ensures { IfOk result (λ marks. HoldMarks marks (rules_view given.now)) }
 {
-    Ok(Marks {
-        given: given_texts(alloc, given)?,
-        implied: all_implied_texts(alloc, given)?,
-        ends: all_end_texts(alloc, given)?,
-    })
+    let mut marks = no_marks(alloc);
+    for one in given {
+        add_marks(alloc, &mut marks, &one.rule)?;
+    }
+    Ok(marks)
+}
+
+fn no_marks(alloc: Global) -> Marks
+    ensures { HoldMarks result [] }
+{
+    let given = no_texts(alloc);
+    let implied = no_texts(alloc);
+    let ends = no_texts(alloc);
+    Marks {
+        given,
+        implied,
+        ends,
+    }
+}
+
+/// Takes in the target of a rule, those of the rules that it implies, and its frontier ends.
+fn add_marks(alloc: Global, marks: &mut Marks, rule: &Rule) -> Result<(), AllocError>
+    ensures { OnOk result (AddMarks marks.old marks.new (target_text (rule_view rule.now) ∷ [])
+        (implied_texts (rule_view rule.now)) (end_texts (rule_view rule.now))) }
+{
+    let target = target_text(alloc, rule)?;
+    for path in &rule.paths {
+        add_along(alloc, &mut marks.implied, target.as_str(), &path.tags)?;
+        add_end(alloc, &mut marks.ends, target.as_str(), path)?;
+    }
+    add_text(&mut marks.given, target)?;
+    Ok(())
 }
 
 /// Checks one rule after the other, and takes in their targets.
@@ -57,9 +80,7 @@ fn check_each(
     given: &[Given],
 ) -> Result<(), SpecFault>
     requires named { list_all is_named (rules_view given.now) ≡ true }
-    requires given { Holds marks.now.given (map target_text (rules_view given.now)) }
-    requires implied { Holds marks.now.implied (flat_map implied_texts (rules_view given.now)) }
-    requires ends { Holds marks.now.ends (flat_map end_texts (rules_view given.now)) }
+    requires marks { HoldMarks marks.now (rules_view given.now) }
     requires earlier { Holds earlier.old [] }
     ensures none { OnOk result
         (closing_fault (rules_view given.now) [] (map given_view given.now) ≡ None) }
@@ -85,52 +106,78 @@ fn closing_why(
     earlier: &BTreeSet<String>,
     rule: &Rule,
 ) -> Result<Option<u8>, AllocError>
-    ensures { IfOk result
-        (λ why. why
-        ≡ text_why marks.now.given marks.now.implied marks.now.ends earlier.now (rule_view rule.now)) }
+    ensures { IfOk result (λ why.
+        why ≡ text_why marks.now.given marks.now.implied marks.now.ends earlier.now
+        (rule_view rule.now)) }
 {
-    if lacks_context(alloc, marks, rule)? {
+    let context = path_text(alloc, &rule.context)?;
+    let target = target_text(alloc, rule)?;
+    why_at(
+        alloc,
+        marks,
+        earlier,
+        rule,
+        context.as_str(),
+        target.as_str(),
+    )
+}
+
+/// The same, by the texts of the rule's context and target.
+fn why_at(
+    alloc: Global,
+    marks: &Marks,
+    earlier: &BTreeSet<String>,
+    rule: &Rule,
+    context: &str,
+    target: &str,
+) -> Result<Option<u8>, AllocError>
+    requires context { context.now ≡ slashed (rule_view rule.now).context }
+    requires target { target.now ≡ target_text (rule_view rule.now) }
+    ensures { IfOk result (λ why.
+        why ≡ text_why marks.now.given marks.now.implied marks.now.ends earlier.now
+        (rule_view rule.now)) }
+{
+    if lacks_context(marks, rule, context) {
         return Ok(Some(2));
     }
-    let target = target_text(alloc, rule)?;
-    if has_text(earlier, target.as_str()) {
+    if has_text(earlier, target) {
         return Ok(Some(3));
     }
-    if !rule.paths.is_empty() && has_text(&marks.implied, target.as_str()) {
+    if !rule.paths.is_empty() && has_text(&marks.implied, target) {
         return Ok(Some(5));
     }
-    if passes_end(alloc, &marks.ends, rule)? {
+    if passes_end(alloc, &marks.ends, rule, context, target)? {
         return Ok(Some(6));
     }
     Ok(None)
 }
 
 /// Whether the context is not `/` and no rule's target.
-fn lacks_context(alloc: Global, marks: &Marks, rule: &Rule) -> Result<bool, AllocError>
-    ensures { IfOk result (λ yes.
-        yes ≡ text_lacks_context marks.now.given marks.now.implied (rule_view rule.now)) }
+fn lacks_context(marks: &Marks, rule: &Rule, context: &str) -> bool
+    requires { context.now ≡ slashed (rule_view rule.now).context }
+    ensures { result ≡ text_lacks_context marks.now.given marks.now.implied (rule_view rule.now) }
 {
-    if rule.context.is_empty() {
-        return Ok(false);
-    }
-    let context = path_text(alloc, &rule.context)?;
-    if has_text(&marks.given, context.as_str()) {
-        return Ok(false);
-    }
-    Ok(!has_text(&marks.implied, context.as_str()))
+    !rule.context.is_empty()
+        && !(has_text(&marks.given, context) || has_text(&marks.implied, context))
 }
 
 /// Whether the rule or one that it implies has a frontier end as its context.
-fn passes_end(alloc: Global, ends: &BTreeSet<String>, rule: &Rule) -> Result<bool, AllocError>
+fn passes_end(
+    alloc: Global,
+    ends: &BTreeSet<String>,
+    rule: &Rule,
+    context: &str,
+    target: &str,
+) -> Result<bool, AllocError>
+    requires context { context.now ≡ slashed (rule_view rule.now).context }
+    requires target { target.now ≡ target_text (rule_view rule.now) }
     ensures { IfOk result (λ yes. yes ≡ text_passes_end ends.now (rule_view rule.now)) }
 {
-    let context = path_text(alloc, &rule.context)?;
-    if has_text(ends, context.as_str()) {
+    if has_text(ends, context) {
         return Ok(true);
     }
-    let target = target_text(alloc, rule)?;
     for path in &rule.paths {
-        if leads_past(alloc, ends, target.as_str(), &path.tags)? {
+        if leads_past(alloc, ends, target, &path.tags)? {
             return Ok(true);
         }
     }
@@ -157,41 +204,11 @@ fn leads_past(
     Ok(false)
 }
 
-fn given_texts(alloc: Global, given: &[Given]) -> Result<BTreeSet<String>, AllocError>
-    ensures { IfOk result (λ texts. Holds texts (map target_text (rules_view given.now))) }
-{
-    let mut texts = no_texts(alloc);
-    for one in given {
-        add_target(alloc, &mut texts, &one.rule)?;
-    }
-    Ok(texts)
-}
-
 fn add_target(alloc: Global, texts: &mut BTreeSet<String>, rule: &Rule) -> Result<(), AllocError>
     ensures { OnOk result (Adds texts.old texts.new (target_text (rule_view rule.now) ∷ [])) }
 {
     let text = target_text(alloc, rule)?;
     add_text(texts, text)?;
-    Ok(())
-}
-
-fn all_implied_texts(alloc: Global, given: &[Given]) -> Result<BTreeSet<String>, AllocError>
-    ensures { IfOk result (λ texts. Holds texts (flat_map implied_texts (rules_view given.now))) }
-{
-    let mut texts = no_texts(alloc);
-    for one in given {
-        add_implied(alloc, &mut texts, &one.rule)?;
-    }
-    Ok(texts)
-}
-
-fn add_implied(alloc: Global, texts: &mut BTreeSet<String>, rule: &Rule) -> Result<(), AllocError>
-    ensures { OnOk result (Adds texts.old texts.new (implied_texts (rule_view rule.now))) }
-{
-    let target = target_text(alloc, rule)?;
-    for path in &rule.paths {
-        add_along(alloc, texts, target.as_str(), &path.tags)?;
-    }
     Ok(())
 }
 
@@ -209,26 +226,6 @@ fn add_along(
     for tag in tags {
         push_step(&mut here, tag.as_str())?;
         add_text(texts, String::from_str(alloc, here.as_str())?)?;
-    }
-    Ok(())
-}
-
-fn all_end_texts(alloc: Global, given: &[Given]) -> Result<BTreeSet<String>, AllocError>
-    ensures { IfOk result (λ texts. Holds texts (flat_map end_texts (rules_view given.now))) }
-{
-    let mut texts = no_texts(alloc);
-    for one in given {
-        add_ends(alloc, &mut texts, &one.rule)?;
-    }
-    Ok(texts)
-}
-
-fn add_ends(alloc: Global, texts: &mut BTreeSet<String>, rule: &Rule) -> Result<(), AllocError>
-    ensures { OnOk result (Adds texts.old texts.new (end_texts (rule_view rule.now))) }
-{
-    let target = target_text(alloc, rule)?;
-    for path in &rule.paths {
-        add_end(alloc, texts, target.as_str(), path)?;
     }
     Ok(())
 }

@@ -69,14 +69,8 @@ pub(crate) fn are_same(ours: &[String], theirs: &[String]) -> bool
 pub(crate) fn goes_behind(path: &[String], names: &[String]) -> bool
     ensures { result ≡ goes_behind (names_view path.now) (names_view names.now) }
 {
-    let mut others = names.iter();
-    for a in path {
-        let Some(b) = others.next() else {
-            return false;
-        };
-        if a.as_str() != b.as_str() {
-            return false;
-        }
+    if names.len() <= path.len() {
+        return false;
     }
-    others.next().is_some()
+    are_same(path, &names[..path.len()])
 }

@@ -6,9 +6,8 @@ ghost use Rattle.key_spec.specs.Closed.{closed, IsClosed};
 ghost use Rattle.key_spec.specs.ClosedList.{IsClosedList};
 ghost use Rattle.std.specs.List.{filter, list_any};
 ghost use Rattle.std.specs.List.Sorted.{IsStrictlySortedBy};
-ghost use Rattle.std.specs.Ordering.{is_eq};
 ghost use Rattle.key_spec.specs.RuleView.{names_view, rule_view};
-ghost use Rattle.key_spec.specs.Rules.{path_cmp, rule_cmp, tag_cmp, has_context};
+ghost use Rattle.key_spec.specs.Rules.{rule_cmp, tag_cmp, has_context};
 
 use crate::close::close;
 use crate::closing::check_closing;

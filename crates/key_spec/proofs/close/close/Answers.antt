@@ -29,3 +29,18 @@ returns-clause-some c = grind (arith, common_steps)
 
 pub returns-clause-few : goal.returns-clause-few
 returns-clause-few c = grind (arith, common_steps)
+
+pub returns-then-not-branch-clause-some : goal.returns-then-not-branch-clause-some
+returns-then-not-branch-clause-some c = grind (arith, common_steps)
+
+pub returns-then-not-branch-clause-few : goal.returns-then-not-branch-clause-few
+returns-then-not-branch-clause-few c = grind (arith, common_steps)
+
+pub returns-then-len-gt-MAX_RULES-clause-some : goal.returns-then-len-gt-MAX_RULES-clause-some
+returns-then-len-gt-MAX_RULES-clause-some c = grind (arith, common_steps)
+
+pub returns-then-len-gt-MAX_RULES-clause-few : goal.returns-then-len-gt-MAX_RULES-clause-few
+returns-then-len-gt-MAX_RULES-clause-few c = grind (arith, common_steps)
+
+pub returns-clause-none : goal.returns-clause-none
+returns-clause-none c = grind (arith, common_steps)

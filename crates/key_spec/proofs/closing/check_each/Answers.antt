@@ -18,7 +18,7 @@ returns-in-Some-clause-fault c =
     let before = rules_view (take i given) in
     let named = named_rules all before (rules_view (drop (i + 1) given)) (rule_view item.rule) (map-split (λ (g : Given). rule_view g.rule) given i item (omega arith) c.one-item.is) c.requires.named in
     let why : closing_why all before (rule_view item.rule) ≡ Some c.in-Some.why =
-    sym (text_why-is _ _ _ _ all before (rule_view item.rule) c.requires.given c.requires.implied c.requires.ends c.loop-one.invariant.texts c.requires.named named.0 named.1)
+    sym (text_why-is _ _ _ _ all before (rule_view item.rule) c.requires.marks.given c.requires.marks.implied c.requires.marks.ends c.loop-one.invariant.texts c.requires.named named.0 named.1)
     ∙ sym c.in_ok-why.ensures ∙ c.in-Some.is in
     c.loop-one.invariant.left ∙ ap (closing_fault all before) (map-drop given_view given i item (omega arith) c.one-item.is)
     ∙ closing_fault-found all before (given_view item) (map given_view (drop (i + 1) given)) c.in-Some.why why
@@ -34,7 +34,7 @@ loop-one-preserved c =
     let named = named_rules all before (rules_view (drop (i + 1) given)) (rule_view item.rule) (map-split (λ (g : Given). rule_view g.rule) given i item (omega arith) c.one-item.is) c.requires.named in
     let fine : c.in_ok-why.field-0 ≡ None = search rules in
     let why : closing_why all before (rule_view item.rule) ≡ None =
-    sym (text_why-is _ _ _ _ all before (rule_view item.rule) c.requires.given c.requires.implied c.requires.ends c.loop-one.invariant.texts c.requires.named named.0 named.1)
+    sym (text_why-is _ _ _ _ all before (rule_view item.rule) c.requires.marks.given c.requires.marks.implied c.requires.marks.ends c.loop-one.invariant.texts c.requires.named named.0 named.1)
     ∙ sym c.in_ok-why.ensures ∙ fine in
     let longer : rules_view (take (i + 1) given) ≡ before ++ rule_view item.rule ∷ [] = map-take (λ (g : Given). rule_view g.rule) given i item (omega arith) c.one-item.is in
     let texts : map target_text before ++ text ∷ [] ≡ map target_text (rules_view (take (i + 1) given)) =

@@ -2,17 +2,5 @@ use Rattle.std.proofs.Common.{arith}
 use Rattle.std.proofs.lemmas.Grind.{common_steps}
 use Rattle.key_spec.proofs.closing.closing_why.Goals as goal
 
-pub returns-then-branch : goal.returns-then-branch
-returns-then-branch c = grind (arith, common_steps)
-
-pub returns-then-has_text : goal.returns-then-has_text
-returns-then-has_text c = grind (arith, common_steps)
-
-pub returns-then-has_text-2 : goal.returns-then-has_text-2
-returns-then-has_text-2 c = grind (arith, common_steps)
-
-pub returns-then-branch-2 : goal.returns-then-branch-2
-returns-then-branch-2 c = grind (arith, common_steps)
-
 pub returns : goal.returns
 returns c = grind (arith, common_steps)

@@ -9,10 +9,8 @@ use Rattle.key_spec.proofs.closing.passes_end.Goals as goal
 
 pub returns-then-has_text : goal.returns-then-has_text
 returns-then-has_text c =
-    let text : c.as_str.result.now ≡ slashed (names_view c.args.rule.now.context.items) =
-    c.as_str.ensures.value ∙ c.in_ok-context.ensures ∙ ap (λ xs. slashed (names_view xs)) c.deref.ensures.value in
     let found : contains_text c.args.ends.now (slashed (names_view c.args.rule.now.context.items)) ≡ true =
-    ap (contains_text c.args.ends.now) (sym text) ∙ sym c.has_text.ensures ∙ c.if-has_text.true in
+    ap (contains_text c.args.ends.now) (sym c.requires.context) ∙ sym c.has_text.ensures ∙ c.if-has_text.true in
     sym (or_left _ _ found)
 
 pub loop-path-preserved : goal.loop-path-preserved
@@ -23,3 +21,6 @@ returns-then-branch c = grind (arith, common_steps)
 
 pub returns : goal.returns
 returns c = grind (arith, common_steps)
+
+pub loop-path-init : goal.loop-path-init
+loop-path-init c = grind (arith, common_steps)

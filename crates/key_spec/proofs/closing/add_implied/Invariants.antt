@@ -1,8 +1,0 @@
-use Rattle.std.proofs.Common.{take, map, flat_map}
-use Rattle.key_spec.specs.Data.{PlainPath}
-use Rattle.key_spec.specs.Texts.{Adds, texts_along, target_text}
-use Rattle.key_spec.specs.View.{path_view, rule_view}
-use Rattle.key_spec.proofs.closing.add_implied.Given as goal
-
-abbrev pub invariant-loop-path : goal.invariant-loop-path
-invariant-loop-path l = Adds l.initial.texts l.texts (flat_map (λ (path : PlainPath). texts_along (target_text (rule_view l.rule)) path.tags) (map path_view (take l.path-index l.rule.paths.items)))
