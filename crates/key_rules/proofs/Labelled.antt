@@ -1,16 +1,19 @@
 -- The label of an element that is well formed is well formed.
-use Rattle.std.proofs.Common.{◌≡◌, ℕ, ◌+◌, Bool, true, false, cond, ◌&&◌, IsTrue, List, [], ◌∷◌, ◌++◌, Option, Some, None, Result, Ok, Err, refl, ap, subst}
+use Rattle.std.proofs.Common.{◌≡◌, ℕ, ◌+◌, Bool, true, false, cond, ◌&&◌, IsTrue, List, [], ◌∷◌, ◌++◌, Option, Some, None, Result, Ok, Err, IfOk, refl, ap, subst}
 use Rattle.std.specs.Option.{option_map}
 use Rattle.std.specs.List.{AllByRecursion, find, flat_map, cons_option}
 use Rattle.std.specs.Str.{bytes_eq}
 use Rattle.jsonml_tree.specs.Data.{PlainScalar, PlainAttr, PlainTree, text, element, PlainContent, content, PlainTrees, no_trees, tree}
 use Rattle.jsonml_tree.specs.WellFormed.{is_in_range, is_ascending, are_in_range, is_content_well_formed, are_well_formed, IsWellFormed}
 use Rattle.keyed_tree.specs.Data.{PlainKey, scalar, PlainLabel, tag}
+use Rattle.keyed_tree.specs.View.{label_view}
+use Rattle.keyed_tree.specs.declared.label.Label.{Label}
 use Rattle.keyed_tree.specs.WellFormed.{is_key_well_formed, are_keys_well_formed, IsLabelWellFormed}
 use Rattle.keyed_tree.proofs.Kids.{both}
 use Rattle.key_spec.specs.Data.{PlainPath, PlainRule}
 use Rattle.key_spec.specs.Rules.{rule_of}
 use Rattle.key_rules.specs.Reach.{attrs_in, items_in, children, found, scalar_named, values_at, reach}
+use Rattle.key_rules.specs.declared.fault.LabelFault.{LabelFault}
 use Rattle.key_rules.specs.Labels.{PlainLabelFault, and_then, one_of, keys_from, label_by, label_in, tree_label}
 
 abbrev IsGood : PlainContent → Type 0
@@ -105,3 +108,9 @@ label_in-good rules context t c l h e = label_by-good (rule_of rules context t) 
 pub tree_label-good : (rules : List PlainRule) (context : List (List ℕ)) (t : PlainTree) (l : PlainLabel) → IsWellFormed t → tree_label rules context t ≡ Ok l → IsLabelWellFormed l
 tree_label-good rules context (text s) l h e = cc
 tree_label-good rules context (element t c) l h e = label_in-good rules context t c l h e
+
+-- the same of an answer
+pub tree_label-all : (rules : List PlainRule) (context : List (List ℕ)) (t : PlainTree) (r : Result Label LabelFault) → IsWellFormed t
+    → IfOk r (λ l. tree_label rules context t ≡ Ok (label_view l)) → IfOk r (λ l. IsLabelWellFormed (label_view l))
+tree_label-all rules context t (Ok l) h e = tree_label-good rules context t (label_view l) h e
+tree_label-all rules context t (Err x) h e = tt

@@ -1,5 +1,5 @@
 -- There is no first fault exactly where the keys are satisfied.
-use Rattle.std.proofs.Common.{◌≡◌, ◌↔◌, ℕ, zero, suc, ◌+◌, Bool, true, false, cond, IsTrue, List, [], ◌∷◌, map, Option, Some, None, Result, Ok, Err, refl, sym, ap, inl, inr, arith, true≢false}
+use Rattle.std.proofs.Common.{◌≡◌, ◌↔◌, ℕ, zero, suc, ◌+◌, Bool, true, false, cond, IsTrue, List, [], ◌∷◌, map, Option, Some, None, Result, Ok, Err, IfOk, refl, sym, ap, inl, inr, arith, true≢false}
 use Rattle.std.specs.Result.{IsOk}
 use Rattle.std.specs.Bool.{OnFalse}
 use Rattle.std.specs.Option.{option_and_then, option_map, option_or, IsNone}
@@ -123,5 +123,11 @@ first_fault-root rules t = let none = one_label (item_label rules [] t) in rw no
 pub none-where : {A : Type 0} (view : A → PlainKeyFault) (o : Option A) (rules : List PlainRule) (t : PlainTree) → option_map view o ≡ first_fault rules t → IsNone o ↔ Satisfies rules t
 none-where view None rules t e = (λ _. (first_fault-None rules t).0 (sym e), λ _. refl)
 none-where view (Some x) rules t e = (λ h. absurd (true≢false h), λ s. let none = (first_fault-None rules t).1 s in cc)
+
+-- the same of an answer
+pub none-in : {A E : Type 0} (view : A → PlainKeyFault) (r : Result (Option A) E) (rules : List PlainRule) (t : PlainTree)
+    → IfOk r (λ f. option_map view f ≡ first_fault rules t) → IfOk r (λ f. IsNone f ↔ Satisfies rules t)
+none-in view (Ok f) rules t e = none-where view f rules t e
+none-in view (Err x) rules t h = tt
 
 pub ruleset law = (first_fault-None, first_fault-root, none-where)

@@ -1,12 +1,12 @@
 -- Nodes found one after the other, of which only none, one and several are told apart.
-use Rattle.std.proofs.Common.{◌≡◌, ℕ, ◌+◌, ◌<◌, ◌≤◌, true, false, cond, List, [], ◌∷◌, ◌++◌, map, drop, get_or, length, Option, Some, None, refl, sym, ap, ◌∙◌}
+use Rattle.std.proofs.Common.{◌≡◌, ℕ, ◌+◌, ◌<◌, ◌≤◌, true, false, cond, List, [], ◌∷◌, ◌++◌, map, drop, get_or, length, Option, Some, None, refl, ap, ◌∙◌}
 use Rattle.std.proofs.lemmas.List.{map-append, append-nil, drop_more, drop_all}
 use Rattle.std.proofs.lemmas.Grind.{flat_map-append}
 use Rattle.std.proofs.lemmas.List.Elements.{filter_map-append}
 use Rattle.std.specs.Option.{option_map}
 use Rattle.std.specs.List.{flat_map}
 use Rattle.std.specs.Str.{bytes_eq}
-use Rattle.jsonml_tree.specs.Data.{PlainScalar, PlainTree, text, element, PlainContent, PlainTrees, no_trees, tree}
+use Rattle.jsonml_tree.specs.Data.{PlainTree, text, element, PlainContent, PlainTrees, no_trees, tree}
 use Rattle.keyed_tree.specs.Data.{PlainKey, scalar, inside}
 use Rattle.jsonml_tree.specs.LentView.{only_text, lent_row_view, lent_items_view}
 use Rattle.jsonml_tree.specs.declared.lent.LentRow.{LentRow}

@@ -1,5 +1,5 @@
 -- How the steps of a user's path are read one after the other, and what the labels that are read are.
-use Rattle.std.proofs.Common.{◌≡◌, ◌≢◌, ℕ, suc, ◌+◌, ◌<◌, ◌≤◌, ◌||◌, Bool, true, false, cond, List, [], ◌∷◌, ◌++◌, map, drop, get_or, length, Option, Some, None, Result, Ok, Err, IfOk, IsTrue, Vec, Global, MatchOption, Bor, refl, sym, ap, ◌∙◌, subst, true≢false, eqb, eqb-true, append_assoc, append-nil, arith}
+use Rattle.std.proofs.Common.{◌≡◌, ◌≢◌, ℕ, suc, ◌+◌, ◌<◌, ◌≤◌, ◌||◌, ◌==◌, Bool, true, false, cond, List, [], ◌∷◌, ◌++◌, map, drop, get_or, length, Option, Some, None, Result, Ok, Err, IfOk, IsTrue, Vec, Global, MatchOption, Bor, refl, sym, ap, ◌∙◌, subst, true≢false, eqb, eqb-true, append_assoc, append-nil}
 use Rattle.std.proofs.lemmas.List.{drop_more, drop_all}
 use Rattle.std.specs.List.{AllByRecursion}
 use Rattle.std.specs.Option.{option_map, option_and_then}
@@ -14,7 +14,7 @@ use Rattle.key_spec.specs.Data.{PlainPath, PlainRule}
 use Rattle.key_spec.specs.Rules.{rule_of, is_frontier, below}
 use Rattle.key_rules.specs.declared.fault.PathFault.{PathFault}
 use Rattle.key_rules.proofs.Labelled.{both_true}
-use Rattle.key_rules.specs.UserPaths.{value_by, values_by, has_sign, behind_sign, element_step, is_root, attr_step, word_step, tagged_step, list_step, step_label, onward, led_by, step_then, labels_from, HasRule, IsLast, NameHasRule, path_behind, HaveRules}
+use Rattle.key_rules.specs.UserPaths.{value_by, values_by, has_sign, behind_sign, element_step, attr_step, tagged_step, step_label, onward, led_by, step_then, labels_from, HasRule, NameHasRule, path_behind, HaveRules}
 
 -- ---- the sign of an attribute
 
@@ -105,12 +105,12 @@ abbrev EndsAt : PlainName → List PlainLabel → Type 0
 EndsAt name ls = (n : List ℕ) → name ≡ attr n → ls ≡ []
 
 module _ (rules : List PlainRule) (path : List (List ℕ)) (l : PlainLabel) (ls : List PlainLabel) (More : Type 0) where
-  attr-rules : (name : List ℕ) (e : Bool) → (is_root path || is_frontier rules path) ≡ e → cond e None (Some (record { name = attr name; keys = [] })) ≡ Some l → EndsAt l.name ls
+  attr-rules : (name : List ℕ) (e : Bool) → (length path == 0 || is_frontier rules path) ≡ e → cond e None (Some (record { name = attr name; keys = [] })) ≡ Some l → EndsAt l.name ls
       → NameHasRule rules path l.name l.keys ls More
   attr-rules name true e f last = cc
   attr-rules name false e f last =
-      let both = or_none (is_root path) (is_frontier rules path) e in
-      let behind : path ≢ [] = λ h. true≢false (sym (ap is_root h) ∙ both.0) in
+      let both = or_none (length path == 0) (is_frontier rules path) e in
+      let behind : path ≢ [] = λ h. true≢false (sym (ap (λ p. length p == 0) h) ∙ both.0) in
       let own : PlainLabel = record { name = attr name; keys = [] } in
       let same : own ≡ l = cc in
       subst (λ (k : PlainLabel). EndsAt k.name ls → NameHasRule rules path k.name k.keys ls More) same (λ last. record { behind = behind; above = both.1; unkeyed = refl; last = last name refl }) last
@@ -130,7 +130,7 @@ module _ (rules : List PlainRule) (path : List (List ℕ)) (l : PlainLabel) (ls 
 
   word-rules : (s : List ℕ) (e : Bool) → cond e (attr_step rules path (behind_sign s)) (element_step rules path s no_items) ≡ Some l → EndsAt l.name ls → More
       → NameHasRule rules path l.name l.keys ls More
-  word-rules s true f last more = attr-rules (behind_sign s) (is_root path || is_frontier rules path) refl f last
+  word-rules s true f last more = attr-rules (behind_sign s) (length path == 0 || is_frontier rules path) refl f last
   word-rules s false f last more = element-rules s no_items (rule_of rules path s) refl f more
 
   tagged-rules : (s : List ℕ) (ds : Items) (e : Bool) → cond e None (element_step rules path s ds) ≡ Some l → More → NameHasRule rules path l.name l.keys ls More

@@ -1,9 +1,9 @@
 -- The labels that a user's path names, or its first bad step.
-use Rattle.std.specs.Prelude.{◌≡◌, ◌≢◌, ℕ, ◌+◌, ◌==◌, ◌||◌, Bool, true, false, List, [], ◌∷◌, length, Option, Some, None, Result, Ok, Err, if◌then◌else◌, ⊤}
+use Rattle.std.specs.Prelude.{◌≡◌, ◌≢◌, ℕ, ◌+◌, ◌==◌, ◌||◌, Bool, false, List, [], ◌∷◌, length, Option, Some, None, Result, Ok, Err, if◌then◌else◌, ⊤}
 use Rattle.std.specs.Option.{option_map, option_and_then}
 use Rattle.serde_json.specs.Data.{Data, null, boolean, number, string, array, object, Items, no_items, item}
 use Rattle.serde_json.specs.Read.{read}
-use Rattle.jsonml_tree.specs.Data.{text, PlainContent, content, no_trees, tree}
+use Rattle.jsonml_tree.specs.Data.{PlainContent, only_text}
 use Rattle.jsonml_text.specs.Spelled.{scalar_in, content_in}
 use Rattle.keyed_tree.specs.Data.{PlainName, attr, tag, PlainKey, scalar, inside, PlainLabel}
 use Rattle.key_spec.specs.Data.{PlainPath, PlainRule}
@@ -16,7 +16,7 @@ abbrev pub content_value : Data → Option PlainContent
 content_value null = None
 content_value (boolean b) = None
 content_value (number n) = None
-content_value (string s) = Some (content [] (tree (text s) no_trees))
+content_value (string s) = Some (only_text s)
 content_value (array ds) = content_in ds
 content_value (object ms) = None
 
@@ -47,13 +47,9 @@ behind_sign (b ∷ bs) = bs
 abbrev pub element_step : List PlainRule → List (List ℕ) → List ℕ → Items → Option PlainLabel
 element_step rules path t values = option_and_then (λ r. option_map (λ ks. record { name = tag t; keys = ks }) (values_by r.paths values)) (rule_of rules path t)
 
-abbrev pub is_root : List (List ℕ) → Bool
-is_root [] = true
-is_root (t ∷ ts) = false
-
 -- an attribute of the element at this path, where there is one that is not at the frontier
 abbrev pub attr_step : List PlainRule → List (List ℕ) → List ℕ → Option PlainLabel
-attr_step rules path name = if is_root path || is_frontier rules path then None else Some (record { name = attr name; keys = [] })
+attr_step rules path name = if length path == 0 || is_frontier rules path then None else Some (record { name = attr name; keys = [] })
 
 abbrev pub word_step : List PlainRule → List (List ℕ) → List ℕ → Option PlainLabel
 word_step rules path s = if has_sign s then attr_step rules path (behind_sign s) else element_step rules path s no_items

@@ -52,7 +52,8 @@ pub(crate) fn check_item(
 }
 
 fn check_text(s: &str) -> Checked
-    ensures { (rules : List PlainRule) (path : List (List ℕ)) → IsCheckOf rules path (text s.now) result }
+    ensures { (rules : List PlainRule) (path : List (List ℕ)) →
+        IsCheckOf rules path (text s.now) result }
 {
     if is_blank(s) {
         Checked::Dropped
@@ -81,7 +82,8 @@ fn check_element(
     content: LentContent<'_, '_>,
 ) -> Result<Checked, AllocError>
     ensures { IfOk result
-        (λ c. IsCheckOf (spec_view spec.now) (names_view path.now) (element tag.now (lent_content_view content.entry)) c) }
+        (λ c. IsCheckOf (spec_view spec.now) (names_view path.now)
+        (element tag.now (lent_content_view content.entry)) c) }
 {
     match element_label(alloc, spec, path, tag, content) {
         Ok(label) => Ok(Checked::Labelled(label.copy(alloc)?)),
@@ -103,7 +105,9 @@ fn check_element(
 
 /// A copy of the rule's key path of this number, counted from 1.
 fn path_of(alloc: Global, rule: Option<&Rule>, number: u32) -> Result<Option<KeyPath>, AllocError>
-    ensures { IfOk result (λ p. option_map path_view p ≡ path_at (option_map (λ r. rule_view r.now) rule.entry) number) }
+    ensures { IfOk result
+        (λ p. option_map path_view p
+        ≡ path_at (option_map (λ r. rule_view r.now) rule.entry) number) }
 {
     let Some(rule) = rule else {
         return Ok(None);
@@ -111,26 +115,5 @@ fn path_of(alloc: Global, rule: Option<&Rule>, number: u32) -> Result<Option<Key
     let Some(path) = rule.paths.get(number.saturating_sub(1) as usize) else {
         return Ok(None);
     };
-    Ok(Some(copy_path(alloc, path)?))
-}
-
-fn copy_path(alloc: Global, path: &KeyPath) -> Result<KeyPath, AllocError>
-    ensures { IfOk result (λ p. path_view p ≡ path_view path.now) }
-{
-    let tags = copy_names(alloc, &path.tags)?;
-    let attr = match &path.attr {
-        None => None,
-        Some(name) => Some(String::from_str(alloc, name.as_str())?),
-    };
-    Ok(KeyPath { tags, attr })
-}
-
-fn copy_names(alloc: Global, names: &[String]) -> Result<Vec<String>, AllocError>
-    ensures { IfOk result (λ copies. names_view copies.items ≡ names_view names.now) }
-{
-    let mut copies = Vec::with_capacity(alloc, names.len())?;
-    for name in names {
-        copies.push(String::from_str(alloc, name.as_str())?)?;
-    }
-    Ok(copies)
+    Ok(Some(path.copy(alloc)?))
 }

@@ -1,6 +1,6 @@
 #![tactic(auto, using(jsonml_tree::proofs::LentTrees::lent_trees))]
 
-ghost use Rattle.std.specs.Prelude.{◌≡◌, ◌≤◌, length, map, Ok, Err, IfOk, IfErr, IfSome};
+ghost use Rattle.std.specs.Prelude.{◌≡◌, ◌≤◌, length, map, Ok, Err, IfOk, IfErr};
 ghost use Rattle.std.specs.Option.{option_map};
 ghost use Rattle.jsonml_tree.specs.Fits.{IsElement};
 ghost use Rattle.jsonml_tree.specs.LentView.{lent_content_view, lent_tree_view};
@@ -35,13 +35,33 @@ pub fn label_of(
 ) -> Result<Label, LabelFault>
     requires { IsElement (tree_view elem.now) }
     ensures label { IfOk result
-        (λ l. tree_label (spec_view spec.now) (names_view context.now) (tree_view elem.now) ≡ Ok (label_view l)) }
+        (λ l. tree_label (spec_view spec.now) (names_view context.now) (tree_view elem.now)
+        ≡ Ok (label_view l)) }
     ensures fault { IfErr result
-        (λ e. IsLabelFault e (tree_label (spec_view spec.now) (names_view context.now) (tree_view elem.now))) }
-    ensures well_formed { IsWellFormed (tree_view elem.now) → IfOk result (λ l. IsLabelWellFormed (label_view l)) }
+        (λ e. IsLabelFault e
+        (tree_label (spec_view spec.now) (names_view context.now) (tree_view elem.now))) }
+    ensures well_formed { IsWellFormed (tree_view elem.now) →
+        IfOk result (λ l. IsLabelWellFormed (label_view l)) }
 {
     let lent = LentTree::lend(alloc, elem)?;
-    let label = read_label(alloc, spec, context, &lent)?;
+    copy_label(alloc, spec, context, &lent)
+}
+
+/// A label of its own of a tree under a context, or why it has none.
+fn copy_label(
+    alloc: Global,
+    spec: &Spec,
+    context: &[String],
+    tree: &LentTree<'_>,
+) -> Result<Label, LabelFault>
+    ensures label { IfOk result
+        (λ l. tree_label (spec_view spec.now) (names_view context.now) (lent_tree_view tree.now)
+        ≡ Ok (label_view l)) }
+    ensures fault { IfErr result
+        (λ e. IsLabelFault e
+        (tree_label (spec_view spec.now) (names_view context.now) (lent_tree_view tree.now))) }
+{
+    let label = read_label(alloc, spec, context, tree)?;
     Ok(label.copy(alloc)?)
 }
 
@@ -55,7 +75,8 @@ pub fn lent_label<'a>(
 ) -> Result<Option<LentLabel<'a>>, AllocError>
     ensures { IfOk result
         (λ l. option_map lent_label_view l
-        ≡ ok_of (tree_label (spec_view spec.now) (names_view context.now) (lent_tree_view tree.now))) }
+        ≡ ok_of (tree_label (spec_view spec.now) (names_view context.now)
+        (lent_tree_view tree.now))) }
 {
     match read_label(alloc, spec, context, tree) {
         Ok(label) => Ok(Some(label)),
@@ -72,9 +93,11 @@ fn read_label<'a>(
     tree: &'a LentTree<'_>,
 ) -> Result<LentLabel<'a>, LabelFault>
     ensures label { IfOk result
-        (λ l. tree_label (spec_view spec.now) (names_view context.now) (lent_tree_view tree.now) ≡ Ok (lent_label_view l)) }
+        (λ l. tree_label (spec_view spec.now) (names_view context.now) (lent_tree_view tree.now)
+        ≡ Ok (lent_label_view l)) }
     ensures fault { IfErr result
-        (λ e. IsLabelFault e (tree_label (spec_view spec.now) (names_view context.now) (lent_tree_view tree.now))) }
+        (λ e. IsLabelFault e
+        (tree_label (spec_view spec.now) (names_view context.now) (lent_tree_view tree.now))) }
 {
     match tree {
         LentTree::Text(_) => Err(LabelFault::Unkeyed),
@@ -98,9 +121,12 @@ pub(crate) fn element_label<'a>(
     content: LentContent<'a, '_>,
 ) -> Result<LentLabel<'a>, LabelFault>
     ensures label { IfOk result
-        (λ l. label_in (spec_view spec.now) (names_view context.now) tag.now (lent_content_view content.entry) ≡ Ok (lent_label_view l)) }
+        (λ l. label_in (spec_view spec.now) (names_view context.now) tag.now
+        (lent_content_view content.entry) ≡ Ok (lent_label_view l)) }
     ensures fault { IfErr result
-        (λ e. IsLabelFault e (label_in (spec_view spec.now) (names_view context.now) tag.now (lent_content_view content.entry))) }
+        (λ e. IsLabelFault e
+        (label_in (spec_view spec.now) (names_view context.now) tag.now
+        (lent_content_view content.entry))) }
 {
     let Some(rule) = spec.rule(context, tag) else {
         return Err(LabelFault::Unkeyed);
@@ -122,9 +148,11 @@ fn lend_keys<'a>(
 ) -> Result<LentKeys<'a>, LabelFault>
     requires { length paths.now ≤ 16 }
     ensures keys { IfOk result
-        (λ ks. keys_from 1 (map path_view paths.now) (lent_content_view content.entry) ≡ Ok (lent_keys_view ks)) }
+        (λ ks. keys_from 1 (map path_view paths.now) (lent_content_view content.entry)
+        ≡ Ok (lent_keys_view ks)) }
     ensures fault { IfErr result
-        (λ e. IsLabelFault e (keys_from 1 (map path_view paths.now) (lent_content_view content.entry))) }
+        (λ e. IsLabelFault e
+        (keys_from 1 (map path_view paths.now) (lent_content_view content.entry))) }
 {
     if let [path] = paths {
         return Ok(LentKeys::One(lend_one(alloc, path, 1, content)?));
@@ -146,9 +174,11 @@ fn lend_one<'a>(
     content: LentContent<'a, '_>,
 ) -> Result<LentKey<'a>, LabelFault>
     ensures key { IfOk result
-        (λ k. one_of number (reach (lent_content_view content.entry) (path_view path.now)) ≡ Ok (lent_key_view k)) }
+        (λ k. one_of number (reach (lent_content_view content.entry) (path_view path.now))
+        ≡ Ok (lent_key_view k)) }
     ensures fault { IfErr result
-        (λ e. IsLabelFault e (one_of number (reach (lent_content_view content.entry) (path_view path.now)))) }
+        (λ e. IsLabelFault e
+        (one_of number (reach (lent_content_view content.entry) (path_view path.now)))) }
 {
     match nodes_of(path, content) {
         Reached::Nothing => Err(LabelFault::Missing { path: number }),

@@ -6,7 +6,6 @@ ghost use Rattle.jsonml_tree.specs.Data.{text, no_trees, tree};
 ghost use Rattle.jsonml_tree.specs.LentView.{only_text};
 ghost use Rattle.jsonml_tree.specs.Order.{tree_cmp, trees_cmp, content_cmp};
 ghost use Rattle.jsonml_tree.specs.View.{tree_view, content_view, items_view};
-ghost use Rattle.keyed_tree.specs.Data.{inside};
 ghost use Rattle.keyed_tree.specs.Order.{key_cmp, label_cmp};
 ghost use Rattle.keyed_tree.specs.View.{key_view, label_view};
 ghost use Rattle.key_rules.specs.LentView.{lent_key_view, lent_keys_view, lent_label_view};
@@ -76,7 +75,8 @@ fn order_lent(ours: &LentKeys<'_>, theirs: &LentKeys<'_>) -> Ordering
 }
 
 fn order_keys(ours: &[LentKey<'_>], theirs: &[LentKey<'_>]) -> Ordering
-    ensures { result ≡ slice_cmp key_cmp (map lent_key_view ours.now) (map lent_key_view theirs.now) }
+    ensures { result
+        ≡ slice_cmp key_cmp (map lent_key_view ours.now) (map lent_key_view theirs.now) }
 {
     let mut others = theirs.iter();
     for a in ours {
@@ -163,17 +163,18 @@ fn copy_key(alloc: Global, key: &LentKey<'_>) -> Result<KeyVal, AllocError>
 {
     match key {
         LentKey::Scalar(scalar) => Ok(KeyVal::Scalar(scalar.copy(alloc)?)),
-        LentKey::Text(text) => copy_text(alloc, text),
+        LentKey::Text(text) => Ok(KeyVal::Content(text_content(alloc, text)?)),
         LentKey::Content(content) => Ok(KeyVal::Content(content.copy(alloc)?)),
     }
 }
 
 /// The content of this text alone.
-fn copy_text(alloc: Global, text: &str) -> Result<KeyVal, AllocError>
-    ensures { IfOk result (λ k. key_view k ≡ inside (only_text text.now)) }
+pub(crate) fn text_content(alloc: Global, text: &str) -> Result<Content, AllocError>
+    ensures { IfOk result (λ c. content_view c ≡ only_text text.now) }
 {
-    let attrs = Vec::new(alloc);
+    let text = String::from_str(alloc, text)?;
     let mut items = Vec::with_capacity(alloc, 1)?;
-    items.push(Tree::Text(String::from_str(alloc, text)?))?;
-    Ok(KeyVal::Content(Content { attrs, items }))
+    items.push(Tree::Text(text))?;
+    let attrs = Vec::new(alloc);
+    Ok(Content { attrs, items })
 }

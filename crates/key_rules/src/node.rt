@@ -42,7 +42,8 @@ impl<'a, 'b> Reached<'a, 'b> {
 /// The nodes of the key path at an element with this content.
 #[tactic(auto, using(crate::proofs::Nodes::nodes))]
 pub(crate) fn nodes_of<'a, 'b>(path: &KeyPath, content: LentContent<'a, 'b>) -> Reached<'a, 'b>
-    ensures { reached_view result ≡ few (reach (lent_content_view content.entry) (path_view path.now)) }
+    ensures { reached_view result
+        ≡ few (reach (lent_content_view content.entry) (path_view path.now)) }
 {
     match content {
         LentContent::Text(text) => nodes_of_text(path, 0, text),
@@ -54,7 +55,8 @@ pub(crate) fn nodes_of<'a, 'b>(path: &KeyPath, content: LentContent<'a, 'b>) -> 
 #[tactic(auto, using(jsonml_tree::proofs::Trees::trees, jsonml_tree::proofs::LentTrees::lent_trees, crate::proofs::Nodes::nodes))]
 fn nodes_of_text<'a, 'b>(path: &KeyPath, level: usize, text: &'a str) -> Reached<'a, 'b>
     requires { level ≤ length path.now.tags.items }
-    ensures { reached_view result ≡ few (values_from (path_view path.now) level (only_text text.now)) }
+    ensures { reached_view result
+        ≡ few (values_from (path_view path.now) level (only_text text.now)) }
 {
     if level == path.tags.len() {
         own_text(path, text)
@@ -68,7 +70,8 @@ fn nodes_of_text<'a, 'b>(path: &KeyPath, level: usize, text: &'a str) -> Reached
 #[tactic(auto, using(jsonml_tree::proofs::Trees::trees, jsonml_tree::proofs::LentTrees::lent_trees, crate::proofs::Nodes::nodes))]
 fn nodes_from<'a, 'b>(path: &KeyPath, level: usize, row: &'a LentRow<'b>) -> Reached<'a, 'b>
     requires { level ≤ length path.now.tags.items }
-    ensures { reached_view result ≡ few (values_from (path_view path.now) level (lent_row_view row.now)) }
+    ensures { reached_view result
+        ≡ few (values_from (path_view path.now) level (lent_row_view row.now)) }
 {
     if level == path.tags.len() {
         own_node(path, row)
@@ -82,7 +85,8 @@ fn nodes_from<'a, 'b>(path: &KeyPath, level: usize, row: &'a LentRow<'b>) -> Rea
 #[tactic(auto, using(jsonml_tree::proofs::LentTrees::lent_trees, crate::proofs::Nodes::nodes))]
 fn nodes_among<'a, 'b>(path: &KeyPath, level: usize, items: &'a [LentTree<'b>]) -> Reached<'a, 'b>
     requires { level < length path.now.tags.items }
-    ensures { reached_view result ≡ few (values_among (path_view path.now) level (lent_items_view items.now)) }
+    ensures { reached_view result
+        ≡ few (values_among (path_view path.now) level (lent_items_view items.now)) }
 {
     let mut nodes = Reached::Nothing;
     for item in items {
@@ -98,7 +102,8 @@ fn nodes_among<'a, 'b>(path: &KeyPath, level: usize, items: &'a [LentTree<'b>]) 
 #[tactic(auto, using(jsonml_tree::proofs::LentTrees::lent_trees, crate::proofs::Nodes::nodes))]
 fn nodes_in<'a, 'b>(path: &KeyPath, level: usize, item: &'a LentTree<'b>) -> Reached<'a, 'b>
     requires { level < length path.now.tags.items }
-    ensures { reached_view result ≡ few (values_among (path_view path.now) level (tree (lent_tree_view item.now) no_trees)) }
+    ensures { reached_view result
+        ≡ few (values_among (path_view path.now) level (tree (lent_tree_view item.now) no_trees)) }
 {
     let tag = path.tags[level].as_str();
     match item {
@@ -122,7 +127,8 @@ fn nodes_in<'a, 'b>(path: &KeyPath, level: usize, item: &'a LentTree<'b>) -> Rea
 
 /// Where the tags end: the text itself, and no attribute.
 fn own_text<'a, 'b>(path: &KeyPath, text: &'a str) -> Reached<'a, 'b>
-    ensures { reached_view result ≡ few (values_at (path_view path.now).attr (only_text text.now ∷ [])) }
+    ensures { reached_view result
+        ≡ few (values_at (path_view path.now).attr (only_text text.now ∷ [])) }
 {
     match &path.attr {
         None => Reached::One(Node::Content(LentContent::Text(text))),
@@ -132,7 +138,8 @@ fn own_text<'a, 'b>(path: &KeyPath, text: &'a str) -> Reached<'a, 'b>
 
 /// Where the tags end: the row itself, or the attribute that the path names.
 fn own_node<'a, 'b>(path: &KeyPath, row: &'a LentRow<'b>) -> Reached<'a, 'b>
-    ensures { reached_view result ≡ few (values_at (path_view path.now).attr (lent_row_view row.now ∷ [])) }
+    ensures { reached_view result
+        ≡ few (values_at (path_view path.now).attr (lent_row_view row.now ∷ [])) }
 {
     let Some(name) = &path.attr else {
         return Reached::One(Node::Content(LentContent::Row(row)));
@@ -144,7 +151,8 @@ fn own_node<'a, 'b>(path: &KeyPath, row: &'a LentRow<'b>) -> Reached<'a, 'b>
 }
 
 fn attribute<'a>(attrs: &'a [Attr], name: &str) -> Option<&'a Scalar>
-    ensures { option_map (λ s. scalar_view s.now) result ≡ scalar_named name.now (map attr_view attrs.now) }
+    ensures { option_map (λ s. scalar_view s.now) result
+        ≡ scalar_named name.now (map attr_view attrs.now) }
 {
     for attr in attrs {
         if attr.name.as_str() == name {

@@ -5,7 +5,6 @@ ghost use Rattle.std.specs.List.{AllByRecursion};
 ghost use Rattle.std.specs.Option.{option_map, option_and_then};
 ghost use Rattle.serde_json.specs.Read.{read};
 ghost use Rattle.serde_json.specs.View.{view as data_of, items_view};
-ghost use Rattle.jsonml_tree.specs.Data.{text, content, no_trees, tree};
 ghost use Rattle.jsonml_tree.specs.View.{content_view};
 ghost use Rattle.jsonml_tree.specs.WellFormed.{is_content_well_formed};
 ghost use Rattle.keyed_tree.specs.View.{name_view, key_view, label_view};
@@ -15,8 +14,9 @@ ghost use Rattle.key_rules.specs.UserPaths.{content_value, value_by, values_by, 
 ghost use Rattle.key_rules.specs.View.{path_fault_view, here_view};
 
 use crate::fault::PathFault;
+use crate::lent::text_content;
 use jsonml_text::{content_of, scalar_of};
-use jsonml_tree::{Content, Tree};
+use jsonml_tree::Content;
 use key_spec::{KeyPath, Spec};
 use keyed_tree::{KeyVal, Label, Name};
 use serde_json::Value;
@@ -28,12 +28,17 @@ use std::alloc::{AllocError, Global};
 /// `["dept", "finance"]`; or `@` and the name of an attribute. A key value is a scalar for a key path that ends in an
 /// attribute, else a string or an array of items.
 pub fn read_path(alloc: Global, spec: &Spec, text: &str) -> Result<Vec<Label>, PathFault>
-    ensures labels { IfOk result (λ ls. user_path (spec_view spec.now) text.now ≡ Ok (map label_view ls.items)) }
-    ensures fault { IfErr result (λ e. IfSome (path_fault_view e) (λ step. user_path (spec_view spec.now) text.now ≡ Err step)) }
+    ensures labels { IfOk result
+        (λ ls. user_path (spec_view spec.now) text.now ≡ Ok (map label_view ls.items)) }
+    ensures fault { IfErr result
+        (λ e. IfSome (path_fault_view e)
+        (λ step. user_path (spec_view spec.now) text.now ≡ Err step)) }
 
     // What every path that is read is.
-    ensures well_formed { IfOk result (λ ls. AllByRecursion IsLabelWellFormed (map label_view ls.items)) }
-    ensures rules { IfOk result (λ ls. HaveRules (spec_view spec.now) [] (map label_view ls.items)) }
+    ensures well_formed { IfOk result
+        (λ ls. AllByRecursion IsLabelWellFormed (map label_view ls.items)) }
+    ensures rules { IfOk result
+        (λ ls. HaveRules (spec_view spec.now) [] (map label_view ls.items)) }
 {
     match path_value(alloc, text)? {
         Value::Array(steps) => read_steps(alloc, spec, &steps),
@@ -44,7 +49,8 @@ pub fn read_path(alloc: Global, spec: &Spec, text: &str) -> Result<Vec<Label>, P
 /// The JSON value of the text.
 fn path_value(alloc: Global, text: &str) -> Result<Value, PathFault>
     ensures value { IfOk result (λ v. read text.now ≡ Some (data_of v)) }
-    ensures fault { IfErr result (λ e. IfSome (path_fault_view e) (λ step. (step ≡ 0) × (read text.now ≡ None))) }
+    ensures fault { IfErr result
+        (λ e. IfSome (path_fault_view e) (λ step. (step ≡ 0) × (read text.now ≡ None))) }
 {
     match Value::from_str(alloc, text) {
         Ok(value) => Ok(value),
@@ -58,10 +64,14 @@ fn path_value(alloc: Global, text: &str) -> Result<Value, PathFault>
 
 #[tactic(auto, using(crate::proofs::UserPathLemmas::one_on))]
 fn read_steps(alloc: Global, spec: &Spec, steps: &[Value]) -> Result<Vec<Label>, PathFault>
-    ensures labels { IfOk result (λ ls. labels_from (spec_view spec.now) 1 (Some []) (items_view steps.now) ≡ Ok (map label_view ls.items)) }
+    ensures labels { IfOk result
+        (λ ls. labels_from (spec_view spec.now) 1 (Some []) (items_view steps.now)
+        ≡ Ok (map label_view ls.items)) }
     ensures fault { IfErr result
-        (λ e. IfSome (path_fault_view e) (λ step. labels_from (spec_view spec.now) 1 (Some []) (items_view steps.now) ≡ Err step)) }
-    ensures well_formed { IfOk result (λ ls. AllByRecursion IsLabelWellFormed (map label_view ls.items)) }
+        (λ e. IfSome (path_fault_view e)
+        (λ step. labels_from (spec_view spec.now) 1 (Some []) (items_view steps.now) ≡ Err step)) }
+    ensures well_formed { IfOk result
+        (λ ls. AllByRecursion IsLabelWellFormed (map label_view ls.items)) }
 {
     let mut labels = Vec::new(alloc);
     let mut here = Some(Vec::new(alloc));
@@ -86,7 +96,8 @@ fn go_on(
     here: Option<Vec<String>>,
     name: &Name,
 ) -> Result<Option<Vec<String>>, AllocError>
-    ensures { IfOk result (λ further. here_view further ≡ onward (here_view here) (name_view name.now)) }
+    ensures { IfOk result
+        (λ further. here_view further ≡ onward (here_view here) (name_view name.now)) }
 {
     match (here, name) {
         (Some(mut path), Name::Tag(tag)) => {
@@ -105,7 +116,9 @@ fn read_next(
     step: &Value,
 ) -> Result<Option<Label>, AllocError>
     ensures label { IfOk result
-        (λ l. option_map label_view l ≡ option_and_then (λ path. step_label (spec_view spec.now) path (data_of step.now)) (here_view here.now)) }
+        (λ l. option_map label_view l
+        ≡ option_and_then
+        (λ path. step_label (spec_view spec.now) path (data_of step.now)) (here_view here.now)) }
     ensures well_formed { IfOk result (λ l. IfSome l (λ l. IsLabelWellFormed (label_view l))) }
 {
     match here {
@@ -120,7 +133,9 @@ fn read_step(
     path: &[String],
     step: &Value,
 ) -> Result<Option<Label>, AllocError>
-    ensures label { IfOk result (λ l. option_map label_view l ≡ step_label (spec_view spec.now) (names_view path.now) (data_of step.now)) }
+    ensures label { IfOk result
+        (λ l. option_map label_view l
+        ≡ step_label (spec_view spec.now) (names_view path.now) (data_of step.now)) }
     ensures well_formed { IfOk result (λ l. IfSome l (λ l. IsLabelWellFormed (label_view l))) }
 {
     match step {
@@ -136,7 +151,9 @@ fn read_word(
     path: &[String],
     word: &str,
 ) -> Result<Option<Label>, AllocError>
-    ensures label { IfOk result (λ l. option_map label_view l ≡ word_step (spec_view spec.now) (names_view path.now) word.now) }
+    ensures label { IfOk result
+        (λ l. option_map label_view l
+        ≡ word_step (spec_view spec.now) (names_view path.now) word.now) }
     ensures well_formed { IfOk result (λ l. IfSome l (λ l. IsLabelWellFormed (label_view l))) }
 {
     match attr_name(word) {
@@ -147,7 +164,8 @@ fn read_word(
 
 /// What stands behind an `@` in front.
 fn attr_name(word: &str) -> Option<&str>
-    ensures { option_map (λ name. name.now) result ≡ (if has_sign word.now then Some (behind_sign word.now) else None) }
+    ensures { option_map (λ name. name.now) result
+        ≡ (if has_sign word.now then Some (behind_sign word.now) else None) }
 {
     word.strip_prefix('@')
 }
@@ -158,7 +176,9 @@ fn read_attr(
     path: &[String],
     name: &str,
 ) -> Result<Option<Label>, AllocError>
-    ensures label { IfOk result (λ l. option_map label_view l ≡ attr_step (spec_view spec.now) (names_view path.now) name.now) }
+    ensures label { IfOk result
+        (λ l. option_map label_view l
+        ≡ attr_step (spec_view spec.now) (names_view path.now) name.now) }
     ensures well_formed { IfOk result (λ l. IfSome l (λ l. IsLabelWellFormed (label_view l))) }
 {
     if path.is_empty() || spec.is_frontier(path) {
@@ -176,7 +196,9 @@ fn read_list(
     path: &[String],
     values: &[Value],
 ) -> Result<Option<Label>, AllocError>
-    ensures label { IfOk result (λ l. option_map label_view l ≡ list_step (spec_view spec.now) (names_view path.now) (items_view values.now)) }
+    ensures label { IfOk result
+        (λ l. option_map label_view l
+        ≡ list_step (spec_view spec.now) (names_view path.now) (items_view values.now)) }
     ensures well_formed { IfOk result (λ l. IfSome l (λ l. IsLabelWellFormed (label_view l))) }
 {
     let Some((first, others)) = values.split_first() else {
@@ -198,7 +220,9 @@ fn read_element(
     tag: &str,
     values: &[Value],
 ) -> Result<Option<Label>, AllocError>
-    ensures label { IfOk result (λ l. option_map label_view l ≡ element_step (spec_view spec.now) (names_view path.now) tag.now (items_view values.now)) }
+    ensures label { IfOk result
+        (λ l. option_map label_view l
+        ≡ element_step (spec_view spec.now) (names_view path.now) tag.now (items_view values.now)) }
     ensures well_formed { IfOk result (λ l. IfSome l (λ l. IsLabelWellFormed (label_view l))) }
 {
     let Some(rule) = spec.rule(path, tag) else {
@@ -220,8 +244,11 @@ fn read_values(
     paths: &[KeyPath],
     values: &[Value],
 ) -> Result<Option<Vec<KeyVal>>, AllocError>
-    ensures keys { IfOk result (λ ks. option_map (λ ks. map key_view ks.items) ks ≡ values_by (map path_view paths.now) (items_view values.now)) }
-    ensures well_formed { IfOk result (λ ks. IfSome ks (λ ks. AllByRecursion IsKeyWellFormed (map key_view ks.items))) }
+    ensures keys { IfOk result
+        (λ ks. option_map (λ ks. map key_view ks.items) ks
+        ≡ values_by (map path_view paths.now) (items_view values.now)) }
+    ensures well_formed { IfOk result
+        (λ ks. IfSome ks (λ ks. AllByRecursion IsKeyWellFormed (map key_view ks.items))) }
 {
     let mut keys = Vec::with_capacity(alloc, paths.len())?;
     let mut others = values.iter();
@@ -242,7 +269,8 @@ fn read_values(
 
 /// The value for a key path: a scalar where it names an attribute, else a content.
 fn read_value(alloc: Global, path: &KeyPath, value: &Value) -> Result<Option<KeyVal>, AllocError>
-    ensures key { IfOk result (λ k. option_map key_view k ≡ value_by (path_view path.now).attr (data_of value.now)) }
+    ensures key { IfOk result
+        (λ k. option_map key_view k ≡ value_by (path_view path.now).attr (data_of value.now)) }
     ensures well_formed { IfOk result (λ k. IfSome k (λ k. IsKeyWellFormed (key_view k))) }
 {
     match path.attr {
@@ -252,24 +280,14 @@ fn read_value(alloc: Global, path: &KeyPath, value: &Value) -> Result<Option<Key
 }
 
 fn read_content(alloc: Global, value: &Value) -> Result<Option<Content>, AllocError>
-    ensures content { IfOk result (λ c. option_map content_view c ≡ content_value (data_of value.now)) }
-    ensures well_formed { IfOk result (λ c. IfSome c (λ c. IsTrue (is_content_well_formed (content_view c)))) }
+    ensures content { IfOk result
+        (λ c. option_map content_view c ≡ content_value (data_of value.now)) }
+    ensures well_formed { IfOk result
+        (λ c. IfSome c (λ c. IsTrue (is_content_well_formed (content_view c)))) }
 {
     match value {
         Value::String(word) => Ok(Some(text_content(alloc, word.as_str())?)),
         Value::Array(values) => content_of(alloc, values),
         _ => Ok(None),
     }
-}
-
-/// The content of one text.
-fn text_content(alloc: Global, word: &str) -> Result<Content, AllocError>
-    ensures content { IfOk result (λ c. content_view c ≡ content [] (tree (text word.now) no_trees)) }
-{
-    let mut items = Vec::with_capacity(alloc, 1)?;
-    items.push(Tree::Text(String::from_str(alloc, word)?))?;
-    Ok(Content {
-        attrs: Vec::new(alloc),
-        items,
-    })
 }

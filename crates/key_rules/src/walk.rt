@@ -48,7 +48,12 @@ impl Spot {
     ) -> Result<KeyFault, AllocError>
         requires { position < 4294967295 }
         ensures { IfOk result
-            (λ f. fault_view f ≡ record { place = item_place self.now.place.items (position + 1); why = why; path = option_map path_view key_path }) }
+            (λ f. fault_view f
+            ≡ record {
+              place = item_place self.now.place.items (position + 1);
+              why = why;
+              path = option_map path_view key_path;
+            }) }
     {
         let mut steps = Vec::with_capacity(alloc, self.place.len() + 1)?;
         steps.extend_from_slice(&self.place)?;
@@ -63,8 +68,10 @@ impl Spot {
     /// Goes on to the element of this tag at this position.
     fn enter(&mut self, alloc: Global, tag: &str, position: usize) -> Result<(), AllocError>
         requires { position < 4294967295 }
-        ensures path { OnOk result (names_view self.new.path.items ≡ below (names_view self.old.path.items) tag.now) }
-        ensures place { OnOk result (self.new.place.items ≡ item_place self.old.place.items (position + 1)) }
+        ensures path { OnOk result
+            (names_view self.new.path.items ≡ below (names_view self.old.path.items) tag.now) }
+        ensures place { OnOk result
+            (self.new.place.items ≡ item_place self.old.place.items (position + 1)) }
     {
         self.path.push(String::from_str(alloc, tag)?)?;
         self.place.push(position as u32 + 1)?;
@@ -73,8 +80,10 @@ impl Spot {
 
     /// Goes back to the element around this one.
     fn leave(&mut self)
-        ensures path { (path : List (List ℕ)) (tag : List ℕ) → names_view self.old.path.items ≡ below path tag → names_view self.new.path.items ≡ path }
-        ensures place { (place : List ℕ) (n : ℕ) → self.old.place.items ≡ item_place place n → self.new.place.items ≡ place }
+        ensures path { (path : List (List ℕ)) (tag : List ℕ) → names_view self.old.path.items
+            ≡ below path tag → names_view self.new.path.items ≡ path }
+        ensures place { (place : List ℕ) (n : ℕ) → self.old.place.items ≡ item_place place n →
+            self.new.place.items ≡ place }
     {
         self.path.pop();
         self.place.pop();
@@ -91,8 +100,11 @@ fn fault_among(
     requires { length items.now < 2 ^ 32 }
     ensures { IfOk result
         (λ f. option_map fault_view f
-        ≡ option_or (first_bad_item (spec_view spec.now) (names_view spot.now.path.items) (item_place spot.now.place.items) 1 (map lent_tree_view items.now))
-        (repeated_item (spec_view spec.now) (names_view spot.now.path.items) (item_place spot.now.place.items) (map lent_tree_view items.now))) }
+        ≡ option_or
+        (first_bad_item (spec_view spec.now) (names_view spot.now.path.items)
+        (item_place spot.now.place.items) 1 (map lent_tree_view items.now))
+        (repeated_item (spec_view spec.now) (names_view spot.now.path.items)
+        (item_place spot.now.place.items) (map lent_tree_view items.now))) }
 {
     let mut labels = BTreeSet::new(alloc);
     let mut repeated = None;
@@ -124,7 +136,8 @@ fn fault_in_text(
 ) -> Result<Option<KeyFault>, AllocError>
     ensures { IfOk result
         (λ f. option_map fault_view f
-        ≡ content_fault (spec_view spec.now) (names_view spot.now.path.items) spot.now.place.items (only_text text.now)) }
+        ≡ content_fault (spec_view spec.now) (names_view spot.now.path.items) spot.now.place.items
+        (only_text text.now)) }
 {
     if spec.is_frontier(&spot.path) || is_blank(text) {
         return Ok(None);
@@ -144,7 +157,8 @@ fn fault_inside(
     requires { IsTrue (content_items_fit (lent_row_view row.now)) }
     ensures fault { IfOk result
         (λ f. option_map fault_view f
-        ≡ content_fault (spec_view spec.now) (names_view spot.old.path.items) spot.old.place.items (lent_row_view row.now)) }
+        ≡ content_fault (spec_view spec.now) (names_view spot.old.path.items) spot.old.place.items
+        (lent_row_view row.now)) }
     ensures stays { OnOk result (SameSpot spot.old spot.new) }
 {
     if spec.is_frontier(&spot.path) {
@@ -168,7 +182,8 @@ fn fault_below(
     requires items_fit { IsTrue (all_items_fit (lent_items_view items.now)) }
     ensures fault { IfOk result
         (λ f. option_map fault_view f
-        ≡ row_fault (spec_view spec.now) (names_view spot.old.path.items) (item_place spot.old.place.items) 1 (lent_items_view items.now)) }
+        ≡ row_fault (spec_view spec.now) (names_view spot.old.path.items)
+        (item_place spot.old.place.items) 1 (lent_items_view items.now)) }
     ensures stays { OnOk result (SameSpot spot.old spot.new) }
 {
     for (position, item) in items.iter().enumerate() {
@@ -221,19 +236,21 @@ fn fault_in(
 pub fn first_fault(alloc: Global, spec: &Spec, doc: &Tree) -> Result<Option<KeyFault>, AllocError>
     requires element { IsElement (tree_view doc.now) }
     requires items_fit { ItemsFit (tree_view doc.now) }
-    ensures fault { IfOk result (λ f. option_map fault_view f ≡ first_fault (spec_view spec.now) (tree_view doc.now)) }
-    ensures none { IfOk result (λ f. IsNone f ↔ Satisfies (spec_view spec.now) (tree_view doc.now)) }
+    ensures fault { IfOk result
+        (λ f. option_map fault_view f ≡ first_fault (spec_view spec.now) (tree_view doc.now)) }
+    ensures none { IfOk result
+        (λ f. IsNone f ↔ Satisfies (spec_view spec.now) (tree_view doc.now)) }
 
     // The laws, of this specification and document.
     ensures key_path { IfSome (first_fault (spec_view spec.now) (tree_view doc.now)) HasItsPath }
-    ensures law { (first_fault (spec_view spec.now) (tree_view doc.now) ≡ None) ↔ Satisfies (spec_view spec.now) (tree_view doc.now) }
+    ensures law { (first_fault (spec_view spec.now) (tree_view doc.now) ≡ None)
+        ↔ Satisfies (spec_view spec.now) (tree_view doc.now) }
 {
     let lent = LentTree::lend(alloc, doc)?;
-    first_lent_fault(alloc, spec, &lent)
+    fault_of(alloc, spec, &lent)
 }
 
 /// The same of a document that is lent. Nothing of it is copied but labels, those of one inner element at a time.
-#[tactic(auto, using(jsonml_tree::proofs::LentTrees::lent_trees, crate::proofs::Law::law, crate::proofs::PathLaw::paths))]
 pub fn first_lent_fault(
     alloc: Global,
     spec: &Spec,
@@ -241,12 +258,27 @@ pub fn first_lent_fault(
 ) -> Result<Option<KeyFault>, AllocError>
     requires element { IsElement (lent_tree_view doc.now) }
     requires items_fit { ItemsFit (lent_tree_view doc.now) }
-    ensures fault { IfOk result (λ f. option_map fault_view f ≡ first_fault (spec_view spec.now) (lent_tree_view doc.now)) }
-    ensures none { IfOk result (λ f. IsNone f ↔ Satisfies (spec_view spec.now) (lent_tree_view doc.now)) }
+    ensures fault { IfOk result
+        (λ f. option_map fault_view f ≡ first_fault (spec_view spec.now) (lent_tree_view doc.now)) }
+    ensures none { IfOk result
+        (λ f. IsNone f ↔ Satisfies (spec_view spec.now) (lent_tree_view doc.now)) }
 
     // The laws, of this specification and document.
-    ensures key_path { IfSome (first_fault (spec_view spec.now) (lent_tree_view doc.now)) HasItsPath }
-    ensures law { (first_fault (spec_view spec.now) (lent_tree_view doc.now) ≡ None) ↔ Satisfies (spec_view spec.now) (lent_tree_view doc.now) }
+    ensures key_path { IfSome
+        (first_fault (spec_view spec.now) (lent_tree_view doc.now)) HasItsPath }
+    ensures law { (first_fault (spec_view spec.now) (lent_tree_view doc.now) ≡ None)
+        ↔ Satisfies (spec_view spec.now) (lent_tree_view doc.now) }
+{
+    fault_of(alloc, spec, doc)
+}
+
+/// The first fault of a lent document: at its own place, or else inside.
+#[tactic(auto, using(jsonml_tree::proofs::LentTrees::lent_trees, crate::proofs::Law::law))]
+fn fault_of(alloc: Global, spec: &Spec, doc: &LentTree<'_>) -> Result<Option<KeyFault>, AllocError>
+    requires element { IsElement (lent_tree_view doc.now) }
+    requires items_fit { ItemsFit (lent_tree_view doc.now) }
+    ensures { IfOk result (λ f.
+        option_map fault_view f ≡ first_fault (spec_view spec.now) (lent_tree_view doc.now)) }
 {
     if let Checked::Bad { why, key_path } = check_item(alloc, spec, &[], doc)? {
         let place = Place {
