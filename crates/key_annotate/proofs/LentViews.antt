@@ -1,15 +1,18 @@
 -- The view of each shape of a lent keyed tree.
-use Rattle.std.proofs.Common.{◌≡◌, map, rules, Vec, Global, Bor}
+use Rattle.std.proofs.Common.{◌≡◌, true, refl, map, rules, Vec, Global, Bor}
 use Rattle.jsonml_tree.specs.LentView.{lent_content_view}
 use Rattle.jsonml_tree.specs.View.{attr_view}
 use Rattle.jsonml_tree.specs.declared.lent.LentContent.{LentContent}
 use Rattle.jsonml_tree.specs.declared.scalar.Attr as tree
 use Rattle.keyed_tree.specs.Data.{inner, leaf, inside, kids_from}
 use Rattle.key_annotate.specs.KeyedOf.{attr_leaf}
-use Rattle.key_annotate.specs.LabelView.{keyed_label_view}
+use Rattle.keyed_tree.specs.Proper.{is_tag}
+use Rattle.key_annotate.specs.LabelView.{keyed_label_view, values_view}
 use Rattle.key_annotate.specs.LentView.{bare_view, lent_view}
 use Rattle.key_annotate.specs.declared.bare.Bare.{Bare}
 use Rattle.key_annotate.specs.declared.label.KeyedLabel.{KeyedLabel}
+use Rattle.key_annotate.specs.declared.label.Values.{Values}
+use Rattle.key_annotate.specs.declared.label.Values.TheVariants.{Text, Other}
 use Rattle.key_annotate.specs.declared.lent.LentKeyed.{LentKeyed, Attr, Leaf, Inner, Flat, the_lemmas}
 
 pub lent_view-Attr : (a : Bor tree.Attr) → lent_view (Attr a) ≡ attr_leaf (attr_view a.now)
@@ -23,5 +26,13 @@ lent_view-Inner l ks = search (rules, the_lemmas)
 
 pub lent_view-Flat : (l : KeyedLabel) (ls : Vec Bare Global) → lent_view (Flat l ls) ≡ inner (keyed_label_view l) (kids_from (map bare_view ls.items))
 lent_view-Flat l ls = search (rules, the_lemmas)
+
+-- the label of an element is named by a tag
+values-tagged : (v : Values) → is_tag (values_view v).name ≡ true
+values-tagged (Text t f) = refl
+values-tagged (Other l) = refl
+
+pub label-tagged : (l : KeyedLabel) → is_tag (keyed_label_view l).name ≡ true
+label-tagged l = values-tagged l.values
 
 pub ruleset lent_views = (lent_view-Attr, lent_view-Leaf, lent_view-Inner, lent_view-Flat)

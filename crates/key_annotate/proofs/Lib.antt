@@ -11,3 +11,4 @@ pub mod Alikes
 pub mod Documents
 pub mod Bares
 pub mod RulesAt
+pub mod Insides

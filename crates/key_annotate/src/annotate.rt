@@ -30,13 +30,29 @@ pub fn keyed(alloc: Global, spec: &Spec, doc: &Tree) -> Result<Keyed, AnnotateFa
     requires element { IsElement (tree_view doc.now) }
     requires items_fit { ItemsFit (tree_view doc.now) }
     requires well_formed { IsWellFormed (tree_view doc.now) }
-    ensures stands { IfOk result (λ k. Stands (spec_view spec.now) (tree_view doc.now) (keyed_view k)) }
+    ensures stands { IfOk result
+        (λ k. Stands (spec_view spec.now) (tree_view doc.now) (keyed_view k)) }
     ensures key { IfErr result
-        (λ e. IfSome (key_fault e) (λ f. first_fault (spec_view spec.now) (tree_view doc.now) ≡ Some f)) }
+        (λ e. IfSome (key_fault e)
+        (λ f. first_fault (spec_view spec.now) (tree_view doc.now) ≡ Some f)) }
     ensures laws { KeyedLaws (spec_view spec.now) (tree_view doc.now) }
 {
     let lent = LentTree::lend(alloc, doc)?;
-    let tree = lent_keyed(alloc, spec, &lent)?;
+    own_keyed(alloc, spec, &lent)
+}
+
+/// The keyed tree of a lent document as a value of its own, or its first key fault.
+fn own_keyed(alloc: Global, spec: &Spec, doc: &LentTree<'_>) -> Result<Keyed, AnnotateFault>
+    requires element { IsElement (lent_tree_view doc.now) }
+    requires items_fit { ItemsFit (lent_tree_view doc.now) }
+    requires well_formed { IsWellFormed (lent_tree_view doc.now) }
+    ensures stands { IfOk result
+        (λ k. Stands (spec_view spec.now) (lent_tree_view doc.now) (keyed_view k)) }
+    ensures key { IfErr result
+        (λ e. IfSome (key_fault e)
+        (λ f. first_fault (spec_view spec.now) (lent_tree_view doc.now) ≡ Some f)) }
+{
+    let tree = lent_keyed(alloc, spec, doc)?;
     Ok(tree.own(alloc)?)
 }
 
@@ -54,9 +70,11 @@ pub fn lent_keyed<'a, 't>(
     requires element { IsElement (lent_tree_view doc.now) }
     requires items_fit { ItemsFit (lent_tree_view doc.now) }
     requires well_formed { IsWellFormed (lent_tree_view doc.now) }
-    ensures stands { IfOk result (λ k. Stands (spec_view spec.now) (lent_tree_view doc.now) (lent_view k)) }
+    ensures stands { IfOk result
+        (λ k. Stands (spec_view spec.now) (lent_tree_view doc.now) (lent_view k)) }
     ensures key { IfErr result
-        (λ e. IfSome (key_fault e) (λ f. first_fault (spec_view spec.now) (lent_tree_view doc.now) ≡ Some f)) }
+        (λ e. IfSome (key_fault e)
+        (λ f. first_fault (spec_view spec.now) (lent_tree_view doc.now) ≡ Some f)) }
     ensures laws { KeyedLaws (spec_view spec.now) (lent_tree_view doc.now) }
 {
     let mut path = Vec::new(alloc);

@@ -29,7 +29,9 @@ pub(crate) fn build<'a, 't>(
     path: &mut Vec<String>,
     elem: &'a LentTree<'t>,
 ) -> Result<Option<LentKeyed<'a, 't>>, AllocError>
-    ensures tree { IfOk result (λ k. option_map lent_view k ≡ built_tree (spec_view spec.now) (names_view path.old.items) (lent_tree_view elem.now)) }
+    ensures tree { IfOk result
+        (λ k. option_map lent_view k
+        ≡ built_tree (spec_view spec.now) (names_view path.old.items) (lent_tree_view elem.now)) }
     ensures path { OnOk result (names_view path.new.items ≡ names_view path.old.items) }
 {
     let Some(label) = lent_label(alloc, spec, path, elem)? else {
@@ -51,7 +53,9 @@ fn build_node<'a, 't>(
     elem: &'a LentTree<'t>,
 ) -> Result<Option<LentKeyed<'a, 't>>, AllocError>
     ensures node { IfOk result
-        (λ k. option_map lent_view k ≡ node_in (spec_view spec.now) (names_view path.old.items) (lent_label_view label.entry) (lent_tree_view elem.now)) }
+        (λ k. option_map lent_view k
+        ≡ node_in (spec_view spec.now) (names_view path.old.items) (lent_label_view label.entry)
+        (lent_tree_view elem.now)) }
     ensures path { OnOk result (names_view path.new.items ≡ names_view path.old.items) }
 {
     let Some(content) = content_of(elem) else {
@@ -90,7 +94,9 @@ fn build_kids<'a, 't>(
     elem: &'a LentTree<'t>,
 ) -> Result<Option<Vec<LentKeyed<'a, 't>>>, AllocError>
     ensures kids { IfOk result
-        (λ o. option_map (λ ks. map lent_view ks.items) o ≡ option_and_then (kids_inside (spec_view spec.now) (names_view path.old.items)) (held (lent_tree_view elem.now))) }
+        (λ o. option_map (λ ks. map lent_view ks.items) o
+        ≡ option_and_then (kids_inside (spec_view spec.now) (names_view path.old.items))
+        (held (lent_tree_view elem.now))) }
     ensures path { OnOk result (names_view path.new.items ≡ names_view path.old.items) }
 {
     match elem {
@@ -131,7 +137,8 @@ fn attr_kids<'a, 't>(
     alloc: Global,
     row: &'a LentRow<'t>,
 ) -> Result<Vec<LentKeyed<'a, 't>>, AllocError>
-    ensures { IfOk result (λ ks. map lent_view ks.items ≡ map attr_leaf (map attr_view row.now.attrs.items)) }
+    ensures { IfOk result
+        (λ ks. map lent_view ks.items ≡ map attr_leaf (map attr_view row.now.attrs.items)) }
 {
     let mut kids = Vec::with_capacity(alloc, row.attrs.len() + row.items.len())?;
     for attr in &row.attrs {
@@ -151,7 +158,10 @@ fn add_items<'a, 't>(
 ) -> Result<Option<Vec<LentKeyed<'a, 't>>>, AllocError>
     ensures kids { IfOk result
         (λ o. option_map (λ ks. map lent_view ks.items) o
-        ≡ option_map (λ ks. map lent_view kids.entry.items ++ ks) (built_items (spec_view spec.now) (names_view path.old.items) (lent_items_view items.now))) }
+        ≡ option_map
+        (λ ks. map lent_view kids.entry.items ++ ks)
+        (built_items (spec_view spec.now) (names_view path.old.items)
+        (lent_items_view items.now))) }
     ensures path { OnOk result (names_view path.new.items ≡ names_view path.old.items) }
 {
     for item in items {

@@ -1,16 +1,14 @@
 #![tactic(auto, using(jsonml_tree::proofs::Trees::trees, jsonml_tree::proofs::LentTrees::lent_trees, keyed_tree::proofs::Views::views, crate::proofs::LentViews::lent_views))]
 
-ghost use Rattle.std.specs.Prelude.{◌≡◌, ℕ, List, IsTrue, IfOk, IfSome, Some, map};
-ghost use Rattle.std.specs.List.{filter, take_while};
+ghost use Rattle.std.specs.Prelude.{◌≡◌, IfOk, IfSome, Some, map};
 ghost use Rattle.std.specs.List.Sorted.{IsStrictlySortedBy};
 ghost use Rattle.std.specs.Option.{option_map};
-ghost use Rattle.std.specs.Ordering.{is_eq};
 ghost use Rattle.jsonml_tree.specs.Data.{element};
 ghost use Rattle.jsonml_tree.specs.LentView.{lent_content_view, lent_items_view, lent_tree_view};
 ghost use Rattle.keyed_tree.specs.Data.{inner, kids_from};
-ghost use Rattle.key_spec.specs.Rules.{below, path_cmp, rule_cmp};
+ghost use Rattle.key_spec.specs.Rules.{EndsBelow, tag_cmp};
 ghost use Rattle.key_spec.specs.View.{names_view, rule_view, spec_view};
-ghost use Rattle.key_annotate.specs.Flat.{EndsBelow, IsBare, has_context};
+ghost use Rattle.key_annotate.specs.Flat.{IsBare};
 ghost use Rattle.key_annotate.specs.LabelView.{keyed_label_view};
 ghost use Rattle.key_annotate.specs.LentView.{bare_view, lent_view};
 ghost use Rattle.key_annotate.specs.Ordered.{built_items, kids_in_order, kids_inside};
@@ -20,7 +18,7 @@ use crate::label::KeyedLabel;
 use crate::lent::LentKeyed;
 use crate::order::in_order;
 use jsonml_tree::{LentContent, LentTree};
-use key_spec::{Rule, Spec};
+use key_spec::{Rule, Spec, rule_with_tag};
 use std::alloc::{AllocError, Global};
 
 /// The kids of an inner element, not in order yet, where it is plain to see that all are elements without key values.
@@ -32,42 +30,16 @@ pub(crate) fn bare_kids<'a, 't>(
 ) -> Result<Option<Vec<Bare<'a, 't>>>, AllocError>
     ensures { IfOk result
         (λ o. IfSome o
-        (λ v. kids_inside (spec_view spec.now) (names_view path.now) (lent_content_view content.entry) ≡ kids_in_order (map bare_view v.items))) }
+        (λ v. kids_inside (spec_view spec.now) (names_view path.now)
+        (lent_content_view content.entry) ≡ kids_in_order (map bare_view v.items))) }
 {
     let LentContent::Row(row) = content else {
         return Ok(None);
     };
-    if !row.attrs.is_empty() || !ends_below(spec.rules(), path) {
+    if !row.attrs.is_empty() || !spec.ends_below(path) {
         return Ok(None);
     }
     bare_items(alloc, spec, path, &row.items)
-}
-
-/// Whether no rule looks into an element right below this path.
-fn ends_below(rules: &[Rule], path: &[String]) -> bool
-    ensures { IsTrue result → EndsBelow (map rule_view rules.now) (names_view path.now) }
-{
-    for rule in rules {
-        if continues(&rule.context, path) {
-            return false;
-        }
-    }
-    true
-}
-
-/// Whether the names begin with the path, and go on.
-fn continues(names: &[String], path: &[String]) -> bool
-    ensures { (t : List ℕ) → names_view names.now ≡ below (names_view path.now) t → IsTrue result }
-{
-    if names.len() <= path.len() {
-        return false;
-    }
-    for i in 0..path.len() {
-        if names[i].as_str() != path[i].as_str() {
-            return false;
-        }
-    }
-    true
 }
 
 /// The items, where each of them is an element without key values.
@@ -78,9 +50,12 @@ fn bare_items<'a, 't>(
     items: &'a [LentTree<'t>],
 ) -> Result<Option<Vec<Bare<'a, 't>>>, AllocError>
     requires { EndsBelow (spec_view spec.now) (names_view path.now) }
-    ensures { IfOk result (λ o. IfSome o (λ v. built_items (spec_view spec.now) (names_view path.now) (lent_items_view items.now) ≡ Some (map bare_view v.items))) }
+    ensures { IfOk result
+        (λ o. IfSome o
+        (λ v. built_items (spec_view spec.now) (names_view path.now) (lent_items_view items.now)
+        ≡ Some (map bare_view v.items))) }
 {
-    let rules = rules_at(spec.rules(), path);
+    let rules = spec.rules_at(path);
     let mut leaves = Vec::with_capacity(alloc, items.len())?;
     for item in items {
         match bare(rules, item) {
@@ -91,56 +66,11 @@ fn bare_items<'a, 't>(
     Ok(Some(leaves))
 }
 
-/// The rules with this context, which stand together.
-fn rules_at<'a>(rules: &'a [Rule], path: &[String]) -> &'a [Rule]
-    requires { IsStrictlySortedBy rule_cmp (map rule_view rules.now) }
-    ensures { map rule_view result.now ≡ filter (has_context (names_view path.now)) (map rule_view rules.now) }
-{
-    let rules = rules_from(rules, path);
-    for i in 0..rules.len() {
-        if !are_same(&rules[i].context, path) {
-            return &rules[..i];
-        }
-    }
-    rules
-}
-
-/// The rules from the first one with this context on.
-fn rules_from<'a>(rules: &'a [Rule], path: &[String]) -> &'a [Rule]
-    requires { IsStrictlySortedBy rule_cmp (map rule_view rules.now) }
-    ensures { take_while (has_context (names_view path.now)) (map rule_view result.now) ≡ filter (has_context (names_view path.now)) (map rule_view rules.now) }
-{
-    for i in 0..rules.len() {
-        if are_same(&rules[i].context, path) {
-            return &rules[i..];
-        }
-    }
-    &[]
-}
-
-/// Whether the names are the same.
-#[tactic(auto, using(key_spec::proofs::SameNames::same))]
-fn are_same(ours: &[String], theirs: &[String]) -> bool
-    ensures { result ≡ is_eq (path_cmp (names_view ours.now) (names_view theirs.now)) }
-{
-    if ours.len() != theirs.len() {
-        return false;
-    }
-    let mut others = theirs.iter();
-    for a in ours {
-        let Some(b) = others.next() else {
-            return false;
-        };
-        if a.as_str() != b.as_str() {
-            return false;
-        }
-    }
-    others.next().is_none()
-}
-
 /// The item by the rules of its context, where it is an element without key values.
 fn bare<'a, 't>(rules: &'a [Rule], item: &'a LentTree<'t>) -> Option<Bare<'a, 't>>
-    ensures { IfSome result (λ b. IsBare (map rule_view rules.now) (lent_tree_view item.now) (bare_view b)) }
+    requires { IsStrictlySortedBy tag_cmp (map rule_view rules.now) }
+    ensures { IfSome result
+        (λ b. IsBare (map rule_view rules.now) (lent_tree_view item.now) (bare_view b)) }
 {
     match item {
         LentTree::Text(_) => None,
@@ -159,21 +89,19 @@ fn bare_of<'a, 't>(
     tag: &str,
     content: LentContent<'a, 't>,
 ) -> Option<Bare<'a, 't>>
-    ensures { IfSome result (λ b. IsBare (map rule_view rules.now) (element tag.now (lent_content_view content.entry)) (bare_view b)) }
+    requires { IsStrictlySortedBy tag_cmp (map rule_view rules.now) }
+    ensures { IfSome result
+        (λ b. IsBare (map rule_view rules.now) (element tag.now (lent_content_view content.entry))
+        (bare_view b)) }
 {
-    for rule in rules {
-        if rule.tag.as_str() == tag {
-            return if rule.paths.is_empty() {
-                Some(Bare {
-                    tag: rule.tag.as_str(),
-                    content,
-                })
-            } else {
-                None
-            };
-        }
+    let Some(rule) = rule_with_tag(rules, tag) else {
+        return None;
+    };
+    if !rule.paths.is_empty() {
+        return None;
     }
-    None
+    let tag = rule.tag.as_str();
+    Some(Bare { tag, content })
 }
 
 /// An inner node with these kids, unless two have the same label.
@@ -181,7 +109,10 @@ pub(crate) fn flat_node<'a, 't>(
     label: KeyedLabel<'a>,
     leaves: Vec<Bare<'a, 't>>,
 ) -> Option<LentKeyed<'a, 't>>
-    ensures { option_map lent_view result ≡ option_map (λ ks. inner (keyed_label_view label.entry) (kids_from ks)) (kids_in_order (map bare_view leaves.entry.items)) }
+    ensures { option_map lent_view result
+        ≡ option_map
+        (λ ks. inner (keyed_label_view label.entry) (kids_from ks))
+        (kids_in_order (map bare_view leaves.entry.items)) }
 {
     let leaves = in_order(leaves)?;
     Some(LentKeyed::Flat { label, leaves })

@@ -7,7 +7,7 @@ use std::cmp::Ordering;
 
 /// A text with its first sixteen bytes beside it, which mostly settle a comparison without a look at the text.
 #[derive(Clone, Copy)]
-pub struct Fronted<'a> {
+pub(crate) struct Fronted<'a> {
     text: &'a str,
     front: u64,
     next: u64,

@@ -6,7 +6,7 @@ ghost use Rattle.keyed_tree.specs.Plain.{name_bytes};
 ghost use Rattle.keyed_tree.specs.View.{label_view};
 ghost use Rattle.key_rules.specs.LentView.{lent_label_view};
 ghost use Rattle.key_annotate.specs.FrontedText.{fronted_text};
-ghost use Rattle.key_annotate.specs.LabelView.{keyed_label_view, text_label};
+ghost use Rattle.key_annotate.specs.LabelView.{keyed_label_view, text_label, values_view};
 
 use crate::fronted::Fronted;
 use key_rules::{LentKey, LentKeys, LentLabel};
@@ -14,9 +14,15 @@ use keyed_tree::Label;
 use std::alloc::{AllocError, Global};
 use std::cmp::Ordering;
 
-/// The label of a keyed tree that a document lends. Most have one key value that is a text.
+/// The label of a keyed tree that a document lends.
 #[derive(Drop)]
-pub enum KeyedLabel<'a> {
+pub struct KeyedLabel<'a> {
+    values: Values<'a>,
+}
+
+/// A tag and its key values. Mostly it is one, and a text.
+#[derive(Drop)]
+enum Values<'a> {
     Text { tag: &'a str, key: Fronted<'a> },
     Other(LentLabel<'a>),
 }
@@ -25,22 +31,17 @@ impl<'a> KeyedLabel<'a> {
     pub(crate) fn new(label: LentLabel<'a>) -> KeyedLabel<'a>
         ensures { keyed_label_view result ≡ lent_label_view label.entry }
     {
-        match &label.keys {
-            LentKeys::One(LentKey::Text(text)) => KeyedLabel::Text {
-                tag: label.tag,
-                key: Fronted::new(text),
-            },
-            _ => KeyedLabel::Other(label),
-        }
+        let values = values_of(label);
+        KeyedLabel { values }
     }
 
     /// The tag.
     pub fn tag(&self) -> &'a str
         ensures { result.now ≡ name_bytes (keyed_label_view self.now).name }
     {
-        match self {
-            KeyedLabel::Text { tag, .. } => tag,
-            KeyedLabel::Other(label) => label.tag,
+        match &self.values {
+            Values::Text { tag, .. } => tag,
+            Values::Other(label) => label.tag,
         }
     }
 
@@ -48,30 +49,43 @@ impl<'a> KeyedLabel<'a> {
     pub(crate) fn order(&self, other: &KeyedLabel<'_>) -> Ordering
         ensures { result ≡ label_cmp (keyed_label_view self.now) (keyed_label_view other.now) }
     {
-        match (self, other) {
-            (KeyedLabel::Text { tag: a, key: k }, KeyedLabel::Text { tag: b, key: l }) =>
-                match a.cmp(b) {
-                    Ordering::Equal => k.order(l),
-                    order => order,
-                },
-            (KeyedLabel::Text { tag, key }, KeyedLabel::Other(label)) => lent_label(tag, key).order(
-                label,
-            ),
-            (KeyedLabel::Other(label), KeyedLabel::Text { tag, key }) => label.order(&lent_label(
-                tag, key,
-            )),
-            (KeyedLabel::Other(a), KeyedLabel::Other(b)) => a.order(b),
-        }
+        order_values(&self.values, &other.values)
     }
 
     /// A label of its own with the same value.
     pub(crate) fn copy(&self, alloc: Global) -> Result<Label, AllocError>
         ensures { IfOk result (λ l. label_view l ≡ keyed_label_view self.now) }
     {
-        match self {
-            KeyedLabel::Text { tag, key } => lent_label(tag, key).copy(alloc),
-            KeyedLabel::Other(label) => label.copy(alloc),
+        match &self.values {
+            Values::Text { tag, key } => lent_label(tag, key).copy(alloc),
+            Values::Other(label) => label.copy(alloc),
         }
+    }
+}
+
+fn values_of<'a>(label: LentLabel<'a>) -> Values<'a>
+    ensures { values_view result ≡ lent_label_view label.entry }
+{
+    match &label.keys {
+        LentKeys::One(LentKey::Text(text)) => Values::Text {
+            tag: label.tag,
+            key: Fronted::new(text),
+        },
+        _ => Values::Other(label),
+    }
+}
+
+fn order_values(ours: &Values<'_>, theirs: &Values<'_>) -> Ordering
+    ensures { result ≡ label_cmp (values_view ours.now) (values_view theirs.now) }
+{
+    match (ours, theirs) {
+        (Values::Text { tag: a, key: k }, Values::Text { tag: b, key: l }) => match a.cmp(b) {
+            Ordering::Equal => k.order(l),
+            order => order,
+        },
+        (Values::Text { tag, key }, Values::Other(label)) => lent_label(tag, key).order(label),
+        (Values::Other(label), Values::Text { tag, key }) => label.order(&lent_label(tag, key)),
+        (Values::Other(a), Values::Other(b)) => a.order(b),
     }
 }
 

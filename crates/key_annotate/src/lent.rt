@@ -79,7 +79,8 @@ impl LentKeyed<'_, '_> {
 
 /// An attribute against a kid.
 fn order_attr(attr: &Attr, other: &LentKeyed<'_, '_>) -> Ordering
-    ensures { result ≡ label_cmp (label_of (attr_leaf (attr_view attr.now))) (label_of (lent_view other.now)) }
+    ensures { result
+        ≡ label_cmp (label_of (attr_leaf (attr_view attr.now))) (label_of (lent_view other.now)) }
 {
     match other {
         LentKeyed::Attr(other) => attr.name.as_str().cmp(other.name.as_str()),

@@ -21,7 +21,8 @@ pub(crate) trait Labelled {
 
 /// The kids in the order of their labels, unless two have the same label. It takes no memory.
 pub(crate) fn in_order<K: Labelled + Drop>(mut kids: Vec<K>) -> Option<Vec<K>>
-    ensures { option_map (λ ks. map K.keyed ks.items) result ≡ kids_in_order (map K.keyed kids.items) }
+    ensures { option_map (λ ks. map K.keyed ks.items) result
+        ≡ kids_in_order (map K.keyed kids.items) }
 {
     kids.sort_unstable_by(|a, b| a.order(b));
     if ascends(&kids) { Some(kids) } else { None }

@@ -1,4 +1,5 @@
-use Rattle.std.proofs.Common.{◌≡◌, [], Some, List, String, Global, ap, sym, ◌∙◌}
+use Rattle.std.proofs.lemmas.Grind.{common_steps}
+use Rattle.std.proofs.Common.{◌≡◌, [], Some, List, String, Global, ap, sym, ◌∙◌, arith}
 use Rattle.std.specs.Option.{option_map}
 use Rattle.jsonml_tree.specs.LentView.{lent_tree_view}
 use Rattle.key_annotate.specs.LentView.{lent_view}
@@ -17,3 +18,12 @@ returns-in-Some-clause-stands c =
 
 pub returns-in-Some-clause-laws : goal.returns-in-Some-clause-laws
 returns-in-Some-clause-laws c = keyed-laws (spec_view c.args.spec.now) (lent_tree_view c.args.doc.now) c.requires.element c.requires.well_formed
+
+pub returns-in-Some-clause-key : goal.returns-in-Some-clause-key
+returns-in-Some-clause-key c = grind (arith, common_steps)
+
+pub returns-clause-stands : goal.returns-clause-stands
+returns-clause-stands c = grind (arith, common_steps)
+
+pub returns-clause-key : goal.returns-clause-key
+returns-clause-key c = grind (arith, common_steps)

@@ -1,3 +1,4 @@
+use Rattle.std.proofs.lemmas.Grind.{common_steps}
 use Rattle.std.proofs.Common.{◌≡◌, suc, ◌+◌, ◌-◌, ◌*◌, ◌<◌, drop, subst, sym, ap, ◌∙◌, arith}
 use Rattle.key_annotate.specs.Front.{spelled}
 use Rattle.key_annotate.proofs.Fronts.{power, power-small, step}
@@ -27,3 +28,12 @@ loop-at-preserved c =
     step k n at s ∙ ap (λ b. spelled k (n * 256 + b) (drop (suc at) s)) (sym c.byte_at.ensures.byte) ∙ ap (λ m. spelled k (n * 256 + c.byte_at.result) (drop m s)) next in
     let small : n * 256 + c.byte_at.result < power (suc (at - c.args.from)) = omega (arith, c.loop-at.invariant.small, c.byte_at.ensures.bound) in
     record { rest = sym more ∙ now; small = subst (λ m. n * 256 + c.byte_at.result < power m) (sym done) small }
+
+pub loop-at-init : goal.loop-at-init
+loop-at-init c = grind (arith, common_steps)
+
+pub returns-clause-number : goal.returns-clause-number
+returns-clause-number c = grind (arith, common_steps)
+
+pub returns-clause-bytes : goal.returns-clause-bytes
+returns-clause-bytes c = grind (arith, common_steps)
