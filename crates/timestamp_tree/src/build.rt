@@ -11,10 +11,11 @@ use std::alloc::{AllocError, Global};
 use version_set::VersionSet;
 
 /// The tree over these sets, and its size in bytes.
-pub fn build(alloc: Global, sets: &[VersionSet]) -> Result<(Part, u64), AllocError>
+pub fn build(alloc: Global, sets: &[&VersionSet]) -> Result<(Part, u64), AllocError>
     requires { 0 < length sets.now }
     ensures tree { IfOk result (λ made. IsTree (part_view made.0)) }
-    ensures leaves { IfOk result (λ made. leaves (part_view made.0) ≡ map pairs_of sets.now) }
+    ensures leaves { IfOk result (λ made.
+        leaves (part_view made.0) ≡ map (λ s. pairs_of s.now) sets.now) }
     ensures size { IfOk result (λ made. made.1 ≡ length (tree_bytes (part_view made.0))) }
 {
     if sets.len() == 1 {

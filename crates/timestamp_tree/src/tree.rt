@@ -36,11 +36,13 @@ impl TsTree {
     /// The tree over these sets.
     ///
     /// It copies each of them once, and makes one union for each inner node.
-    pub fn of(alloc: Global, sets: &[VersionSet]) -> Result<TsTree, AllocError>
+    pub fn of(alloc: Global, sets: &[&VersionSet]) -> Result<TsTree, AllocError>
         requires some { 1 ≤ length sets.now }
         requires few { length sets.now < 2 ^ 32 }
-        ensures tree { IfOk result (λ tree. ts_view tree ≡ tree_of (map pairs_of sets.now)) }
-        ensures leaves { IfOk result (λ tree. leaves (ts_view tree) ≡ map pairs_of sets.now) }
+        ensures tree { IfOk result (λ tree.
+            ts_view tree ≡ tree_of (map (λ s. pairs_of s.now) sets.now)) }
+        ensures leaves { IfOk result (λ tree.
+            leaves (ts_view tree) ≡ map (λ s. pairs_of s.now) sets.now) }
     {
         let (root, size) = build(alloc, sets)?;
         let count = sets.len() as u32;

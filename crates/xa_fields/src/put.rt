@@ -1,8 +1,17 @@
 // Appending numbers and texts.
-ghost use Rattle.std.specs.Prelude.{◌≡◌, ◌<◌, ◌^◌, ◌++◌, length, OnOk, OnErr};
+ghost use Rattle.std.specs.Prelude.{◌≡◌, ◌<◌, ◌^◌, ◌++◌, ◌∷◌, [], length, OnOk, OnErr};
 ghost use Rattle.xa_fields.specs.Spelling.{u32_bytes, u64_bytes, text_bytes};
 
 use std::alloc::AllocError;
+
+/// Appends a byte.
+pub fn put_u8(out: &mut Vec<u8>, v: u8) -> Result<(), AllocError>
+    ensures ok { OnOk result (out.new.items ≡ out.old.items ++ v ∷ []) }
+    ensures err { OnErr result (out.new.items ≡ out.old.items) }
+{
+    out.push(v)?;
+    Ok(())
+}
 
 /// Appends four bytes, the highest first.
 pub fn put_u32(out: &mut Vec<u8>, v: u32) -> Result<(), AllocError>
