@@ -6,6 +6,7 @@ use Rattle.std.specs.Option.{option_and_then}
 use Rattle.std.specs.Ordering.{is_eq, is_lt}
 use Rattle.std.specs.declared.cmp.Ordering.TheVariants.{Less}
 use Rattle.std.proofs.lemmas.List.Folds.{Any-from_list_any, list_any-from_Any}
+use Rattle.keyed_tree.specs.Alike.{IsLeaf}
 use Rattle.keyed_tree.specs.Data.{PlainLabel, PlainKeyed, inner, leaf, label_of, kids_of}
 use Rattle.keyed_tree.specs.Kids.{IsOrdered, kid_at}
 use Rattle.keyed_tree.specs.Holds.{Holds}
@@ -17,7 +18,7 @@ use Rattle.keyed_tree.proofs.Lists.{any_has, has_any}
 use Rattle.keyed_tree.proofs.Kids.{both, is_lt-Less}
 use Rattle.keyed_tree.proofs.KidsKeep.{holds_at}
 use Rattle.archive_tree.specs.Data.{eff, PlainNode, inner_node, leaf_node, PlainNodes, no_nodes, node, node_label, node_stamp, node_kids, nodes_list, nodes_from, PlainArchive}
-use Rattle.archive_tree.specs.Stands.{nums, those, passed, under, rooted, numbered, labels, IsLeaf, RowStands, StandsFor, EachStands, ArchiveOf}
+use Rattle.archive_tree.specs.Stands.{nums, those, passed, under, rooted, numbered, labels, RowStands, StandsFor, EachStands, ArchiveOf}
 use Rattle.archive_tree.specs.History.{held, hist}
 use Rattle.archive_tree.specs.Seek.{node_with, enter, seek, rise_from, rise, is_sorted, are_sorted, AreRowsSorted}
 use Rattle.archive_tree.proofs.Parts.{each_has, stands_nums, nodes_list-nodes_from}

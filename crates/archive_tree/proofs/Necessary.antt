@@ -3,6 +3,7 @@ use Rattle.std.proofs.Common.{◌≡◌, ◌≢◌, ◌+◌, ℕ, true, List, []
 use Rattle.std.specs.List.{AllByRecursion, enumerate_from}
 use Rattle.std.specs.Ordering.{nat_cmp}
 use Rattle.std.specs.declared.cmp.Ordering.TheVariants.{Less}
+use Rattle.keyed_tree.specs.Alike.{IsLeaf}
 use Rattle.keyed_tree.specs.Data.{PlainKey, PlainLabel, PlainKeyed, inner, leaf, label_of, kids_of}
 use Rattle.keyed_tree.specs.Kids.{kid_at}
 use Rattle.keyed_tree.specs.Laws.{label_cmp_total, key_cmp-is_eq}
@@ -11,7 +12,7 @@ use Rattle.keyed_tree.specs.Order.{label_cmp}
 use Rattle.keyed_tree.specs.Proper.{is_tag, IsElement}
 use Rattle.keyed_tree.proofs.Lists.{all_has, has_all, has_map, source, not_itself}
 use Rattle.archive_tree.specs.Data.{Stamp, eff, PlainAlt, PlainNode, inner_node, leaf_node, PlainNodes, no_nodes, node, node_label, node_stamp, nodes_list, PlainArchive}
-use Rattle.archive_tree.specs.Stands.{AllDiffer, nums, those, passed, has_body, nums_with, under, rooted, numbered, first_num, bodies, Stamped, IsLeaf, AltStands, StandsFor, EachStands, ArchiveOf}
+use Rattle.archive_tree.specs.Stands.{AllDiffer, nums, those, passed, has_body, nums_with, under, rooted, numbered, first_num, bodies, Stamped, AltStands, StandsFor, EachStands, ArchiveOf}
 use Rattle.archive_tree.specs.Parts.{IsStampWell, Apart, AllApart, alt_sets, AreAltsWell, IsNodeWell, AreNodesWell, IsArchive}
 use Rattle.archive_tree.proofs.Parts.{stands_some, stands_nums}
 use Rattle.archive_tree.proofs.Those.{labelled, those_has, has_those, nums_has, has_nums, one_tree, passed_true, passes, has_rooted, rooted_has, Orderly, orderly_under, orderly_rooted, orderly_numbered}

@@ -2,10 +2,11 @@
 use Rattle.std.proofs.Common.{◌≡◌, ◌≢◌, ℕ, List, [], ◌∷◌, Some, None, refl, ap, sym, subst, ◌∙◌, inl, inr}
 use Rattle.std.specs.List.{AllByRecursion}
 use Rattle.version_set.proofs.MembersLemmas.{members-injective}
+use Rattle.keyed_tree.specs.Alike.{IsInner, IsLeaf}
 use Rattle.keyed_tree.specs.Data.{PlainLabel, PlainKeyed, inner, leaf, label_of}
 use Rattle.keyed_tree.specs.Lists.{Has}
 use Rattle.archive_tree.specs.Data.{Stamp, eff, PlainNode, inner_node, leaf_node, PlainNodes, no_nodes, node, node_label, node_stamp, nodes_list, nodes_from}
-use Rattle.archive_tree.specs.Stands.{nums, Stamped, IsInner, IsLeaf, StandsFor, EachStands}
+use Rattle.archive_tree.specs.Stands.{nums, Stamped, StandsFor, EachStands}
 
 pub nodes_list-nodes_from : (ks : List PlainNode) → nodes_list (nodes_from ks) ≡ ks
 nodes_list-nodes_from [] = refl

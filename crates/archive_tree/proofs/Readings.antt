@@ -3,6 +3,7 @@ use Rattle.std.proofs.Common.{◌≡◌, ◌≢◌, ℕ, ◌+◌, true, false, c
 use Rattle.std.specs.List.{AllByRecursion, enumerate_from, range_with_len}
 use Rattle.std.specs.declared.cmp.Ordering.TheVariants.{Less}
 use Rattle.version_set.specs.Members.{has}
+use Rattle.keyed_tree.specs.Alike.{IsInner, IsLeaf}
 use Rattle.keyed_tree.specs.Data.{PlainKey, PlainLabel, PlainKeyed, inner, leaf, label_of, PlainKids, kid, kids_list, kids_of}
 use Rattle.keyed_tree.specs.Kids.{IsOrdered, kid_at}
 use Rattle.keyed_tree.specs.Laws.{label_cmp_total, key_cmp-is_eq}
@@ -11,7 +12,7 @@ use Rattle.keyed_tree.specs.Order.{label_cmp}
 use Rattle.keyed_tree.proofs.Lists.{all_has, has_map, source, same_items}
 use Rattle.keyed_tree.proofs.Kids.{kids_list-injective, kids_ascend, found_at, has_found}
 use Rattle.archive_tree.specs.Data.{eff, PlainAlt, PlainNode, inner_node, leaf_node, PlainNodes, no_nodes, node, node_label, node_stamp, nodes_list, PlainArchive}
-use Rattle.archive_tree.specs.Stands.{nums, those, passed, has_body, nums_with, under, rooted, numbered, labels, bodies, IsInner, IsLeaf, RowStands, AltStands, StandsFor, EachStands, ArchiveOf}
+use Rattle.archive_tree.specs.Stands.{nums, those, passed, has_body, nums_with, under, rooted, numbered, labels, bodies, RowStands, AltStands, StandsFor, EachStands, ArchiveOf}
 use Rattle.archive_tree.specs.Read.{body_at, read, read_row, read_root}
 use Rattle.archive_tree.proofs.Numbers.{has-Has, Has-has}
 use Rattle.archive_tree.proofs.Parts.{each_has, stands_nums}

@@ -4,6 +4,7 @@ use Rattle.std.specs.List.{AllByRecursion, enumerate_from, range_with_len}
 use Rattle.std.specs.Option.{unwrap_or, option_and_then}
 use Rattle.std.specs.Ordering.{nat_cmp}
 use Rattle.version_set.specs.Members.{has}
+use Rattle.keyed_tree.specs.Alike.{IsInner, Alike}
 use Rattle.keyed_tree.specs.Data.{tag, PlainLabel, PlainKeyed, inner, leaf, label_of, no_kids, kid, kids_list}
 use Rattle.keyed_tree.specs.Kids.{are_ordered, IsOrdered, kid_at}
 use Rattle.keyed_tree.specs.Laws.{label_cmp_total}
@@ -14,7 +15,7 @@ use Rattle.keyed_tree.specs.Proper.{is_tag, IsElement}
 use Rattle.keyed_tree.proofs.Lists.{all_has, has_map, source}
 use Rattle.keyed_tree.proofs.Kids.{all-ascend, has_found}
 use Rattle.archive_tree.specs.Data.{eff, PlainNode, inner_node, leaf_node, PlainNodes, no_nodes, node, node_label, node_stamp, nodes_list, PlainArchive}
-use Rattle.archive_tree.specs.Stands.{nums, rooted, numbered, passed, labels, IsInner, StandsFor, Alike, Kept}
+use Rattle.archive_tree.specs.Stands.{nums, rooted, numbered, passed, labels, StandsFor, Kept}
 use Rattle.archive_tree.specs.Parts.{IsNodeWell, AreNodesWell, IsArchive}
 use Rattle.archive_tree.specs.Read.{read, read_row, read_root}
 use Rattle.archive_tree.proofs.Numbers.{has-Has, Has-has, range-ascend}

@@ -7,6 +7,7 @@ use Rattle.std.specs.declared.cmp.Ordering.TheVariants.{Less}
 use Rattle.std.specs.Cmp.{IsTotalOrder}
 use Rattle.std.proofs.lemmas.Cmp.{nat_cmp_total}
 use Rattle.version_set.specs.Members.{has}
+use Rattle.keyed_tree.specs.Alike.{IsInner, IsLeaf}
 use Rattle.keyed_tree.specs.Data.{PlainKey, PlainLabel, PlainKeyed, inner, leaf, label_of, kids_of, kids_list}
 use Rattle.keyed_tree.specs.Kids.{kid_at}
 use Rattle.keyed_tree.specs.Laws.{label_cmp_total, key_cmp-is_eq}
@@ -15,7 +16,7 @@ use Rattle.keyed_tree.specs.Order.{label_cmp}
 use Rattle.keyed_tree.proofs.Lists.{all_has, has_all, has_map, source, not_itself, same_items}
 use Rattle.keyed_tree.proofs.Kids.{found_at, has_found}
 use Rattle.archive_tree.specs.Data.{Stamp, eff, PlainAlt, PlainNode, inner_node, leaf_node, PlainNodes, no_nodes, node, node_label, node_stamp, nodes_list}
-use Rattle.archive_tree.specs.Stands.{AllDiffer, nums, those, passed, has_body, nums_with, under, first_num, bodies, labels, Stamped, IsInner, IsLeaf, AltStands, StandsFor}
+use Rattle.archive_tree.specs.Stands.{AllDiffer, nums, those, passed, has_body, nums_with, under, first_num, bodies, labels, Stamped, AltStands, StandsFor}
 use Rattle.archive_tree.specs.Parts.{IsStampWell, Apart, AllApart, AreAltsWell, IsNodeWell, AreNodesWell}
 use Rattle.archive_tree.specs.Read.{body_at, read, read_row}
 use Rattle.archive_tree.proofs.Numbers.{has-Has, Has-has, members-ascend, same_numbers}

@@ -53,8 +53,10 @@ impl Archive {
         ensures parts { archive_view result ≡ record { n = n; kids = nodes_view kids.items } }
 
         // A list has one archive.
-        ensures one_archive { (vs : List PlainKeyed) (b : PlainArchive) → ArchiveOf vs (archive_view result)
-            → ArchiveOf vs b → archive_view result ≡ b }
+        ensures one_archive { (vs : List PlainKeyed) (b : PlainArchive)
+            → ArchiveOf vs (archive_view result)
+            → ArchiveOf vs b
+            → archive_view result ≡ b }
     {
         Archive { n, kids }
     }
@@ -63,7 +65,8 @@ impl Archive {
     pub fn of_parts(alloc: Global, n: u32, kids: Vec<ANode>) -> Result<Option<Archive>, AllocError>
         requires { AreNodesWellFormed (nodes_view kids.items) }
         ensures none { IfOk result (λ o. IfNone o
-            ((vs : List PlainKeyed) → ¬ (ArchiveOf vs (record { n = n; kids = nodes_view kids.items })))) }
+            ((vs : List PlainKeyed)
+            → ¬ (ArchiveOf vs (record { n = n; kids = nodes_view kids.items })))) }
         ensures parts { IfOk result (λ o. IfSome o (λ a. archive_view a
             ≡ record { n = n; kids = nodes_view kids.items })) }
 
@@ -144,7 +147,10 @@ impl Archive {
     // The set of the node that the path leads to.
     fn set_at(&self, alloc: Global, path: &[Label]) -> Result<VersionSet, AllocError>
         ensures { IfOk result (λ s. members (pairs_of s)
-            ≡ seek (map label_view path.now) (range_with_len 1 (archive_view self.now).n) (archive_view self.now).kids) }
+            ≡ seek
+            (map label_view path.now)
+            (range_with_len 1 (archive_view self.now).n)
+            (archive_view self.now).kids) }
     {
         let all = VersionSet::upto(alloc, self.n);
         match follow(&all, &self.kids, path) {

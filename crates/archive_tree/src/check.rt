@@ -3,8 +3,6 @@ ghost use Rattle.std.specs.Prelude.{◌≡◌, IfOk, Some, map};
 ghost use Rattle.std.specs.List.{list_all, flat_map};
 ghost use Rattle.version_set.specs.Members.{members, has};
 ghost use Rattle.version_set.specs.View.{pairs_of};
-ghost use Rattle.keyed_tree.specs.Proper.{is_tag};
-ghost use Rattle.keyed_tree.specs.View.{name_view};
 ghost use Rattle.archive_tree.specs.Stands.{head_or, bodies, labels};
 ghost use Rattle.archive_tree.specs.Parts.{alt_sets, node_sets};
 ghost use Rattle.archive_tree.specs.PartsTest.{is_none, is_same, is_stamp_well, are_parts, are_stamps_well, do_firsts_rise, do_differ, are_alts_well, is_node_well, are_nodes_well, are_elements, is_archive, do_tile};
@@ -12,7 +10,6 @@ ghost use Rattle.archive_tree.specs.Seek.{rise};
 ghost use Rattle.archive_tree.specs.View.{stamp_view, alt_view, node_view, nodes_view};
 
 use crate::node::{ANode, Alt, effective};
-use keyed_tree::Name;
 use std::alloc::{AllocError, Global};
 use std::collections::BTreeSet;
 use version_set::VersionSet;
@@ -82,25 +79,18 @@ fn are_elements(nodes: &[ANode]) -> bool
     ensures { result ≡ are_elements (nodes_view nodes.now) }
 {
     for node in nodes {
-        if !is_tag(&node.label().name) {
+        if !node.label().name.is_tag() {
             return false;
         }
     }
     true
 }
 
-fn is_tag(name: &Name) -> bool
-    ensures { result ≡ is_tag (name_view name.now) }
-{
-    match name {
-        Name::Attr(_) => false,
-        Name::Tag(_) => true,
-    }
-}
-
 fn are_kids_parts(alloc: Global, set: &VersionSet, nodes: &[ANode]) -> Result<bool, AllocError>
     ensures { IfOk result (λ b. b
-        ≡ are_parts (members (pairs_of set.now)) (node_sets (members (pairs_of set.now)) (nodes_view nodes.now))) }
+        ≡ are_parts
+        (members (pairs_of set.now))
+        (node_sets (members (pairs_of set.now)) (nodes_view nodes.now))) }
 {
     let mut parts = Vec::with_capacity(alloc, nodes.len())?;
     for node in nodes {
@@ -202,7 +192,9 @@ fn first_number(set: &VersionSet) -> u32
 
 fn are_alts_parts(alloc: Global, set: &VersionSet, alts: &[Alt]) -> Result<bool, AllocError>
     ensures { IfOk result (λ b. b
-        ≡ are_parts (members (pairs_of set.now)) (alt_sets (members (pairs_of set.now)) (map alt_view alts.now))) }
+        ≡ are_parts
+        (members (pairs_of set.now))
+        (alt_sets (members (pairs_of set.now)) (map alt_view alts.now))) }
 {
     let mut parts = Vec::with_capacity(alloc, alts.len())?;
     for alt in alts {

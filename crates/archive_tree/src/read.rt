@@ -17,7 +17,6 @@ use version_set::VersionSet;
 
 /// The tree of a node in a version that has it. Only what that version holds is copied.
 #[cycle(read)]
-#[tactic(auto, using(crate::proofs::NodeViews::readings))]
 pub fn read_node(
     alloc: Global,
     i: u32,

@@ -1,12 +1,13 @@
 -- A tree that is alike with the versions of a node fits that node.
 use Rattle.std.proofs.Common.{◌≡◌, ◌≢◌, ◌↔◌, ℕ, List, [], ◌∷◌, ◌++◌, Some, None, IfSome, refl, sym, subst, ◌∙◌, ◌⊎◌, inl, inr}
 use Rattle.std.specs.List.{AllByRecursion}
+use Rattle.keyed_tree.specs.Alike.{IsInner, IsLeaf, EndsAt, Alike, AllAlike}
 use Rattle.keyed_tree.specs.Data.{PlainLabel, PlainKeyed, inner, leaf, label_of, kids_of}
 use Rattle.keyed_tree.specs.Kids.{kid_at}
 use Rattle.keyed_tree.specs.Lists.{Has}
 use Rattle.keyed_tree.specs.Paths.{node_at}
 use Rattle.archive_tree.specs.Data.{PlainNode, inner_node, leaf_node, PlainNodes, no_nodes, node, node_label}
-use Rattle.archive_tree.specs.Stands.{nums, under, StandsFor, EachStands, IsInner, IsLeaf, EndsAt, Alike, AllAlike}
+use Rattle.archive_tree.specs.Stands.{nums, under, StandsFor, EachStands}
 use Rattle.archive_tree.proofs.Parts.{not_both_kinds}
 use Rattle.nested_merge.specs.Alike.{AlikeAll}
 use Rattle.nested_merge.proofs.Picked.{all_picked}

@@ -6,6 +6,7 @@ use Rattle.std.proofs.Math.Logic.{∥∥₁_elim}
 use Rattle.std.specs.List.{enumerate_from}
 use Rattle.std.specs.Option.{option_and_then}
 use Rattle.std.specs.Ordering.{is_eq}
+use Rattle.keyed_tree.specs.Alike.{IsInner, IsLeaf}
 use Rattle.keyed_tree.specs.Data.{PlainLabel, PlainKeyed, inner, leaf, label_of, kids_of, kids_list}
 use Rattle.keyed_tree.specs.Kids.{kid_at}
 use Rattle.keyed_tree.specs.Laws.{label_cmp-is_eq}
@@ -15,7 +16,7 @@ use Rattle.keyed_tree.specs.Paths.{node_at}
 use Rattle.keyed_tree.proofs.Kids.{both}
 use Rattle.keyed_tree.proofs.Lists.{all_has, source}
 use Rattle.archive_tree.specs.Data.{PlainNode, inner_node, leaf_node, PlainNodes, no_nodes, node, node_label, nodes_list, PlainArchive}
-use Rattle.archive_tree.specs.Stands.{nums, under, rooted, numbered, StandsFor, IsInner, IsLeaf, ArchiveOf, Kept}
+use Rattle.archive_tree.specs.Stands.{nums, under, rooted, numbered, StandsFor, ArchiveOf, Kept}
 use Rattle.archive_tree.proofs.Parts.{each_has, not_both_kinds}
 use Rattle.archive_tree.proofs.Those.{has_those, has_rooted}
 use Rattle.archive_tree.proofs.Readings.{some_has}

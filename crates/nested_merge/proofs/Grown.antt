@@ -6,6 +6,7 @@ use Rattle.std.specs.List.{AllByRecursion}
 use Rattle.std.specs.declared.cmp.Ordering.TheVariants.{Less}
 use Rattle.version_set.specs.Pairs.{IsCanonical}
 use Rattle.version_set.specs.Members.{members}
+use Rattle.keyed_tree.specs.Alike.{IsInner, IsLeaf}
 use Rattle.keyed_tree.specs.Data.{PlainLabel, PlainKeyed, inner, leaf, label_of, kids_list, kids_of}
 use Rattle.keyed_tree.specs.Kids.{ascend, are_ordered, IsOrdered, kid_at}
 use Rattle.keyed_tree.specs.Laws.{label_cmp_total}
@@ -15,7 +16,7 @@ use Rattle.keyed_tree.proofs.Lists.{all_has, has_map, not_itself, not_both}
 use Rattle.keyed_tree.proofs.Kids.{both, ascend-all, found_at, has_found}
 use Rattle.keyed_tree.proofs.KidsKeep.{kid_ordered}
 use Rattle.archive_tree.specs.Data.{Stamp, PlainNode, inner_node, leaf_node, PlainNodes, no_nodes, node, node_label, nodes_list}
-use Rattle.archive_tree.specs.Stands.{Stamped, nums, under, labels, CommonStands, RowStands, StandsFor, EachStands, IsInner, IsLeaf}
+use Rattle.archive_tree.specs.Stands.{Stamped, nums, under, labels, CommonStands, RowStands, StandsFor, EachStands}
 use Rattle.nested_merge.specs.Merged.{grown, started, vanished, fresh, fresh_onto, below, above, turn, merged, merged_row}
 use Rattle.archive_tree.proofs.Those.{onto, all_those}
 use Rattle.nested_merge.proofs.Picked.{those-append, nums-append, all_append, no_items, some_push}

@@ -5,13 +5,14 @@ use Rattle.std.proofs.Math.Bool.{Bool-set}
 use Rattle.std.proofs.Math.Logic.{∥∥₁_elim, ∥∥₁_map}
 use Rattle.std.specs.List.{AllByRecursion}
 use Rattle.version_set.specs.Members.{upto_pairs}
+use Rattle.keyed_tree.specs.Alike.{AllAlike}
 use Rattle.keyed_tree.specs.Data.{PlainKeyed}
 use Rattle.keyed_tree.specs.Kids.{IsOrdered}
 use Rattle.keyed_tree.specs.Lists.{Has}
 use Rattle.keyed_tree.specs.Proper.{IsElement}
 use Rattle.keyed_tree.proofs.Lists.{all_has, has_map}
 use Rattle.archive_tree.specs.Data.{PlainNodes, PlainArchive}
-use Rattle.archive_tree.specs.Stands.{AllAlike, ArchiveOf, Kept}
+use Rattle.archive_tree.specs.Stands.{ArchiveOf, Kept}
 use Rattle.archive_tree.proofs.Readings.{one_list}
 use Rattle.nested_merge.specs.Alike.{AlikeAll}
 use Rattle.nested_merge.specs.Below.{are_nodes_below}

@@ -4,6 +4,7 @@ use Rattle.std.proofs.lemmas.List.{append-nil}
 use Rattle.std.proofs.Math.Bool.{Bool-set}
 use Rattle.std.proofs.Math.Logic.{∥∥₁_elim}
 use Rattle.std.specs.List.{AllByRecursion}
+use Rattle.keyed_tree.specs.Alike.{AllAlike}
 use Rattle.keyed_tree.specs.Data.{PlainKeyed}
 use Rattle.keyed_tree.specs.Kids.{IsOrdered}
 use Rattle.keyed_tree.specs.Lists.{Has}
@@ -11,14 +12,15 @@ use Rattle.keyed_tree.specs.Proper.{IsElement}
 use Rattle.keyed_tree.specs.Same.{is_same}
 use Rattle.keyed_tree.proofs.SameLemmas.{is_same-exact}
 use Rattle.archive_tree.specs.Data.{no_nodes, PlainArchive}
-use Rattle.archive_tree.specs.Stands.{nums, numbered, AllAlike, ArchiveOf, Kept}
+use Rattle.archive_tree.specs.Read.{version_at}
+use Rattle.archive_tree.specs.Stands.{nums, numbered, ArchiveOf, Kept}
 use Rattle.archive_tree.proofs.Numbers.{has_range}
 use Rattle.archive_tree.proofs.OneArchive.{one_archive}
 use Rattle.archive_tree.proofs.Readings.{numbers, version_read}
 use Rattle.archive_tree.proofs.Those.{nums_has}
 use Rattle.nested_merge.specs.Merged.{with_version}
 use Rattle.nested_merge.specs.Alike.{AlikeAll}
-use Rattle.nested_merge.specs.Laws.{AreVersions, HasOneArchive, version_at}
+use Rattle.nested_merge.specs.Laws.{AreVersions, HasOneArchive}
 use Rattle.nested_merge.proofs.ArchiveGrows.{archive_grows, numbered-append}
 use Rattle.nested_merge.proofs.Weave.{has_left, has_right}
 

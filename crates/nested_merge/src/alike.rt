@@ -17,7 +17,8 @@ use keyed_tree::Keyed;
 pub fn is_alike(old: &Archive, new: &Keyed) -> bool
     requires { IsOrdered (keyed_view new.now) }
     ensures { IsTrue result
-        ↔ ((vs : List PlainKeyed) → ArchiveOf vs (archive_view old.now) → AlikeAll vs (keyed_view new.now)) }
+        ↔ ((vs : List PlainKeyed) → ArchiveOf vs (archive_view old.now)
+        → AlikeAll vs (keyed_view new.now)) }
 {
     root_fits(old.kids(), new)
 }
@@ -35,7 +36,6 @@ fn root_fits(nodes: &[ANode], tree: &Keyed) -> bool
 }
 
 #[cycle(fits)]
-#[tactic(auto, using(crate::proofs::Rows::rows))]
 fn fits(node: &ANode, tree: &Keyed) -> bool
     requires { IsOrdered (keyed_view tree.now) }
     ensures { result ≡ fits (node_view node.now) (keyed_view tree.now) }
@@ -48,7 +48,6 @@ fn fits(node: &ANode, tree: &Keyed) -> bool
 }
 
 #[cycle(fits)]
-#[tactic(auto, using(crate::proofs::Rows::rows, keyed_tree::proofs::KidsKeep::keeps))]
 fn all_fit(nodes: &[ANode], tree: &Keyed) -> bool
     requires { IsOrdered (keyed_view tree.now) }
     ensures { result ≡ all_fit (nodes_view nodes.now) (kids_of (keyed_view tree.now)) }

@@ -13,7 +13,10 @@ use archive_tree::{ANode, Alt};
 
 fn changed_alt(n: u32, mark: Mark, old: Alt) -> Alt
     requires { IsTrue (is_stamp_ready n old.stamp (mark_view mark)) }
-    ensures { alt_view result ≡ record { stamp = changed n (stamp_view old.stamp) (mark_view mark); body = (alt_view old).body } }
+    ensures { alt_view result ≡ record {
+      stamp = changed n (stamp_view old.stamp) (mark_view mark);
+      body = (alt_view old).body;
+    } }
 {
     Alt {
         stamp: changed_stamp(n, old.stamp, mark),
@@ -24,7 +27,8 @@ fn changed_alt(n: u32, mark: Mark, old: Alt) -> Alt
 fn applied_alts(n: u32, steps: Vec<AltStep>, space: Space<Alt>, old: Vec<Alt>) -> Vec<Alt>
     requires room { vec_len steps ≤ room_of space }
     requires ready { IsTrue (are_alts_ready n old.items (map alt_step_view steps.items)) }
-    ensures { map alt_view result.items ≡ applied_alts n (map alt_view old.items) (map alt_step_view steps.items) }
+    ensures { map alt_view result.items
+        ≡ applied_alts n (map alt_view old.items) (map alt_step_view steps.items) }
 {
     let mut left = old.into_iter();
     let mut alts = space.into_items();
@@ -41,7 +45,6 @@ fn applied_alts(n: u32, steps: Vec<AltStep>, space: Space<Alt>, old: Vec<Alt>) -
 }
 
 // A node that keeps what is below it.
-#[tactic(auto, using(crate::proofs::Plans::plans))]
 fn marked_node(n: u32, mark: Mark, old: ANode) -> ANode
     requires { IsTrue (is_ready n old (keep (mark_view mark))) }
     ensures { node_view result ≡ applied n (node_view old) (keep (mark_view mark)) }
@@ -61,7 +64,6 @@ fn marked_node(n: u32, mark: Mark, old: ANode) -> ANode
 }
 
 #[cycle(apply)]
-#[tactic(auto, using(crate::proofs::Plans::plans))]
 fn applied_node(n: u32, change: Change, old: ANode) -> ANode
     requires roomy { IsTrue (is_roomy (change_view change)) }
     requires ready { IsTrue (is_ready n old (change_view change)) }
@@ -94,9 +96,11 @@ fn applied_node(n: u32, change: Change, old: ANode) -> ANode
 pub fn applied_kids(n: u32, steps: Vec<Step>, space: Space<ANode>, old: Vec<ANode>) -> Vec<ANode>
     requires room { vec_len steps ≤ room_of space }
     requires roomy { IsTrue (are_roomy (steps_from (map step_view steps.items))) }
-    requires ready { IsTrue (are_ready (map (is_ready n) old.items) (steps_from (map step_view steps.items))) }
+    requires ready { IsTrue
+        (are_ready (map (is_ready n) old.items) (steps_from (map step_view steps.items))) }
     ensures { map node_view result.items
-        ≡ nodes_list (applied_row n (nodes_view old.items) (steps_from (map step_view steps.items))) }
+        ≡ nodes_list
+        (applied_row n (nodes_view old.items) (steps_from (map step_view steps.items))) }
 {
     let mut left = old.into_iter();
     let mut kids = space.into_items();

@@ -1,16 +1,15 @@
 // The nodes of one version alone.
-ghost use Rattle.std.specs.Prelude.{◌≡◌, IfOk, None, map};
-ghost use Rattle.keyed_tree.specs.View.{keyed_view};
-ghost use Rattle.archive_tree.specs.View.{stamp_view, node_view};
+ghost use Rattle.std.specs.Prelude.{◌≡◌, IfOk, None, [], ◌∷◌, map};
+ghost use Rattle.keyed_tree.specs.View.{key_view, keyed_view};
+ghost use Rattle.archive_tree.specs.View.{stamp_view, alt_view, node_view};
 ghost use Rattle.nested_merge.specs.Merged.{fresh};
 
 use archive_tree::{ANode, Alt};
-use keyed_tree::Keyed;
+use keyed_tree::{Body, Keyed};
 use std::alloc::{AllocError, Global};
 use version_set::VersionSet;
 
 #[cycle(fresh)]
-#[tactic(auto, using(crate::proofs::Rows::rows))]
 pub fn fresh_node(
     alloc: Global,
     stamp: Option<VersionSet>,
@@ -24,19 +23,23 @@ pub fn fresh_node(
             stamp,
             kids: fresh_nodes(alloc, kids)?,
         }),
-        Keyed::Leaf { label, body } => {
-            let mut alts = Vec::with_capacity(alloc, 1)?;
-            alts.push(Alt {
-                stamp: None,
-                body: body.copy(alloc)?,
-            })?;
-            Ok(ANode::Leaf {
-                label: label.copy(alloc)?,
-                stamp,
-                alts,
-            })
-        }
+        Keyed::Leaf { label, body } => Ok(ANode::Leaf {
+            label: label.copy(alloc)?,
+            stamp,
+            alts: only_alt(alloc, body)?,
+        }),
     }
+}
+
+// The alternatives of a leaf that has one body alone.
+fn only_alt(alloc: Global, body: &Body) -> Result<Vec<Alt>, AllocError>
+    ensures { IfOk result (λ v. map alt_view v.items
+        ≡ record { stamp = None; body = key_view body.now } ∷ []) }
+{
+    let body = body.copy(alloc)?;
+    let mut alts = Vec::with_capacity(alloc, 1)?;
+    alts.push_reserved(Alt { stamp: None, body });
+    Ok(alts)
 }
 
 #[cycle(fresh)]
@@ -45,7 +48,7 @@ fn fresh_nodes(alloc: Global, new: &[Keyed]) -> Result<Vec<ANode>, AllocError>
 {
     let mut nodes = Vec::with_capacity(alloc, new.len())?;
     for kid in new {
-        nodes.push(fresh_node(alloc, None, kid)?)?;
+        nodes.push_reserved(fresh_node(alloc, None, kid)?);
     }
     Ok(nodes)
 }

@@ -3,7 +3,7 @@ use archive_tree::{ANode, Alt};
 use version_set::VersionSet;
 
 /// What becomes of a stamp.
-#[derive(Debug, Drop)]
+#[derive(Drop)]
 pub enum Mark {
     /// It stays as it is.
     Stay,
@@ -14,7 +14,7 @@ pub enum Mark {
 }
 
 /// A step along the alternatives of a leaf.
-#[derive(Debug, Drop)]
+#[derive(Drop)]
 pub enum AltStep {
     /// The next alternative.
     Old(Mark),
@@ -23,7 +23,7 @@ pub enum AltStep {
 
 /// A step along a row of nodes.
 #[cycle(plan)]
-#[derive(Debug, Drop)]
+#[derive(Drop)]
 pub enum Step {
     /// A node that the version alone has.
     Fresh(ANode),
@@ -33,7 +33,7 @@ pub enum Step {
 
 /// What becomes of a node: of its stamp, and of what lies below it.
 #[cycle(plan)]
-#[derive(Debug, Drop)]
+#[derive(Drop)]
 pub enum Change {
     Keep(Mark),
     Kids {
@@ -50,7 +50,7 @@ pub enum Change {
 
 /// What one more version changes along the kids of the virtual root, with room for each row and all
 /// that is new.
-#[derive(Debug, Drop)]
+#[derive(Drop)]
 pub struct Plan {
     pub steps: Vec<Step>,
     pub space: Space<ANode>,

@@ -25,7 +25,8 @@ pub fn plan_of(alloc: Global, n: u32, old: &[ANode], new: &Keyed) -> Result<Plan
     requires room { n < 4294967295 }
     requires ordered { IsOrdered (keyed_view new.now) }
     ensures steps { IfOk result (λ p. map step_view p.steps.items
-        ≡ steps_list (planned_row (n + 1) (upto_pairs n) (nodes_view old.now) (keyed_view new.now ∷ []))) }
+        ≡ steps_list
+        (planned_row (n + 1) (upto_pairs n) (nodes_view old.now) (keyed_view new.now ∷ []))) }
     ensures room { IfOk result (λ p. vec_len p.steps ≤ room_of p.space) }
 {
     let all = VersionSet::upto(alloc, n);
@@ -46,28 +47,27 @@ fn planned_alts(
     ensures { IfOk result (λ v. map alt_step_view v.items
         ≡ planned_alts n (pairs_of set.now) (key_view body.now) (map alt_view alts.now)) }
 {
-    let mut steps = Vec::with_capacity(alloc, alts.len())?;
+    let mut steps = Vec::with_capacity(alloc, alts.len() + 1)?;
     let mut found = false;
     for alt in alts {
         if alt.body.order(body).is_eq() {
             found = true;
-            steps.push(AltStep::Old(Mark::Grow))?;
+            steps.push_reserved(AltStep::Old(Mark::Grow));
         } else {
-            steps.push(AltStep::Old(kept_mark(set, &alt.stamp)?))?;
+            steps.push_reserved(AltStep::Old(kept_mark(set, &alt.stamp)?));
         }
     }
     if !found {
-        steps.push(AltStep::New(Alt {
+        steps.push_reserved(AltStep::New(Alt {
             stamp: Some(VersionSet::single(alloc, n)),
             body: body.copy(alloc)?,
-        }))?;
+        }));
     }
     Ok(steps)
 }
 
 // A node, under a parent that had the set, with its tree in version n.
 #[cycle(plan)]
-#[tactic(auto, using(crate::proofs::Plans::plans))]
 fn planned_node(
     alloc: Global,
     n: u32,
@@ -108,7 +108,6 @@ fn planned_node(
 // The kids of a node that had the set, with its kids in version n: a walk along both rows, in the
 // order of the labels.
 #[cycle(plan)]
-#[tactic(auto, using(crate::proofs::Plans::plans))]
 fn planned_kids(
     alloc: Global,
     n: u32,
@@ -120,7 +119,8 @@ fn planned_kids(
     requires ascending { IsTrue (ascend (kids_from (map keyed_view new.now))) }
     requires ordered { IsTrue (are_ordered (kids_from (map keyed_view new.now))) }
     ensures { IfOk result (λ v. map step_view v.items
-        ≡ steps_list (planned_row n (pairs_of set.now) (nodes_view old.now) (map keyed_view new.now))) }
+        ≡ steps_list
+        (planned_row n (pairs_of set.now) (nodes_view old.now) (map keyed_view new.now))) }
 {
     let mut steps = Vec::with_capacity(alloc, old.len())?;
     let mut i = 0;
@@ -158,7 +158,8 @@ fn planned_kids(
 // A node that version n does not have, while its parent, with the set before, does.
 #[tactic(auto, using(crate::proofs::Plans::plans))]
 fn gone_step(parent: &VersionSet, node: &ANode) -> Result<Step, AllocError>
-    ensures { IfOk result (λ s. step_view s ≡ gone_step (pairs_of parent.now) (node_view node.now)) }
+    ensures { IfOk result
+        (λ s. step_view s ≡ gone_step (pairs_of parent.now) (node_view node.now)) }
 {
     Ok(Step::Old(Change::Keep(kept_mark(parent, node.stamp())?)))
 }
@@ -167,7 +168,8 @@ fn gone_step(parent: &VersionSet, node: &ANode) -> Result<Step, AllocError>
 #[tactic(auto, using(crate::proofs::Plans::plans))]
 fn started_step(alloc: Global, n: u32, parent: &VersionSet, kid: &Keyed) -> Result<Step, AllocError>
     requires { 1 ≤ n }
-    ensures { IfOk result (λ s. step_view s ≡ started_step n (pairs_of parent.now) (keyed_view kid.now)) }
+    ensures { IfOk result
+        (λ s. step_view s ≡ started_step n (pairs_of parent.now) (keyed_view kid.now)) }
 {
     Ok(Step::Fresh(fresh_node(alloc, started_stamp(alloc, n, parent), kid)?))
 }

@@ -56,7 +56,8 @@ fn prepare_alts(n: u32, steps: &[AltStep], alts: &mut [Alt]) -> Result<(), Alloc
 pub fn prepare_kids(n: u32, steps: &[Step], nodes: &mut [ANode]) -> Result<(), AllocError>
     requires { IsTrue (are_nodes_below n (nodes_view nodes.old)) }
     ensures same { nodes_view nodes.new ≡ nodes_view nodes.old }
-    ensures ready { OnOk result (IsTrue (are_ready (map (is_ready n) nodes.new) (steps_from (map step_view steps.now)))) }
+    ensures ready { OnOk result (IsTrue
+        (are_ready (map (is_ready n) nodes.new) (steps_from (map step_view steps.now)))) }
 {
     let mut i = 0;
     for step in steps {

@@ -3,7 +3,7 @@ ghost use Rattle.std.specs.Prelude.{◌≡◌, ◌<◌, ◌≤◌, ◌++◌, [],
 use std::alloc::{AllocError, Global};
 
 /// A list that is still empty, with its room.
-#[derive(Debug, Drop)]
+#[derive(Drop)]
 pub struct Space<T> {
     items: Vec<T>,
     pub ghost empty: { vec_len items ≡ 0 },

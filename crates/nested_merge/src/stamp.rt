@@ -14,7 +14,8 @@ use version_set::VersionSet;
 
 // What becomes of a stamp without version n, under a parent with it that had the set before.
 pub fn kept_mark(parent: &VersionSet, stamp: &Option<VersionSet>) -> Result<Mark, AllocError>
-    ensures { IfOk result (λ m. mark_view m ≡ kept_mark (pairs_of parent.now) (stamp_view stamp.now)) }
+    ensures { IfOk result
+        (λ m. mark_view m ≡ kept_mark (pairs_of parent.now) (stamp_view stamp.now)) }
 {
     match stamp {
         None => Ok(Mark::Store(parent.copy()?)),

@@ -1,3 +1,5 @@
+use Rattle.nested_merge.proofs.Plans.{plans}
+use Rattle.std.proofs.lemmas.Grind.{common_steps}
 use Rattle.std.proofs.Common.{◌≡◌, IsTrue, [], arith, map, length, length-append, refl, ap, subst, ◌∙◌}
 use Rattle.std.proofs.lemmas.Bool.{leb-true}
 use Rattle.std.proofs.lemmas.List.{nil_from_length, length-map}
@@ -104,3 +106,24 @@ applied_node-applied_alts-requires-clause-room t c =
     let all = length-map i.steps.items alt_step_view in
     let n = i.steps.ok.0 in
     omega arith
+
+pub applied_kids-loop-step-init : goal.applied_kids-loop-step-init
+applied_kids-loop-step-init t c = grind (arith, common_steps)
+
+pub applied_kids-returns : goal.applied_kids-returns
+applied_kids-returns t c = grind (arith, common_steps)
+
+pub applied_node-returns-in-Inner : goal.applied_node-returns-in-Inner
+applied_node-returns-in-Inner t c = grind (arith, plans)
+
+pub applied_node-returns-in-Keep : goal.applied_node-returns-in-Keep
+applied_node-returns-in-Keep t c = grind (arith, plans)
+
+pub applied_node-returns-in-Leaf : goal.applied_node-returns-in-Leaf
+applied_node-returns-in-Leaf t c = grind (arith, plans)
+
+pub applied_node-returns-in_default : goal.applied_node-returns-in_default
+applied_node-returns-in_default t c = grind (arith, plans)
+
+pub applied_node-returns-in_default-old : goal.applied_node-returns-in_default-old
+applied_node-returns-in_default-old t c = grind (arith, plans)

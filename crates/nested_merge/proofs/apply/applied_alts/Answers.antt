@@ -1,3 +1,4 @@
+use Rattle.std.proofs.lemmas.Grind.{common_steps}
 use Rattle.std.proofs.Common.{◌≡◌, [], map, length, ap, arith}
 use Rattle.std.proofs.lemmas.List.{nil_from_length}
 use Rattle.std.specs.Vec.Iter.{into_iter_items}
@@ -19,3 +20,15 @@ loop-step-preserved c =
       ready = rw empty (no_alts c.args.n (map alt_step_view (into_iter_items c.next.new.self)));
       room = (let r = l.invariant.room in let n = ap length steps in omega arith);
     }
+
+pub loop-step-init : goal.loop-step-init
+loop-step-init c = grind (arith, common_steps)
+
+pub loop-step-preserved-in-New : goal.loop-step-preserved-in-New
+loop-step-preserved-in-New c = grind (arith, common_steps)
+
+pub loop-step-preserved-in-Some-next : goal.loop-step-preserved-in-Some-next
+loop-step-preserved-in-Some-next c = grind (arith, common_steps)
+
+pub returns : goal.returns
+returns c = grind (arith, common_steps)

@@ -1,3 +1,5 @@
+use Rattle.nested_merge.proofs.Plans.{plans}
+use Rattle.std.proofs.lemmas.Grind.{common_steps}
 use Rattle.std.proofs.Common.{◌≡◌, ◌+◌, arith, sym, ap, ◌∙◌, map, drop}
 use Rattle.std.specs.Option.{unwrap_or}
 use Rattle.std.specs.declared.cmp.Ordering.TheVariants.{Equal, Greater}
@@ -92,3 +94,24 @@ planned_node-returns-in_ok-space-in-Leaf-Leaf t c =
     c.in_ok-steps-in-Leaf-Leaf.ensures ∙ (λ j. planned_alts n (c.effective-in-Leaf-Leaf.ensures.pairs j) (key_view i.body) (map alt_view (c.deref-in-Leaf-Leaf.ensures.value j))) in
     steps.planned_alts v c.in_ok-space-in-Leaf-Leaf.space Grow (planned_alts n q (key_view i.body) xs) row (c.in_ok-space-in-Leaf-Leaf.ensures ∙ c.len-in-Leaf-Leaf.ensures)
     ∙ sym (λ j. planned n (pairs_of c.args.parent.now) (old j) (new j))
+
+pub planned_kids-loop-steps-init : goal.planned_kids-loop-steps-init
+planned_kids-loop-steps-init t c = grind (arith, common_steps)
+
+pub planned_kids-loop-steps-preserved-in-Less : goal.planned_kids-loop-steps-preserved-in-Less
+planned_kids-loop-steps-preserved-in-Less t c = grind (arith, common_steps)
+
+pub planned_kids-loop-steps-preserved-in-None-Some : goal.planned_kids-loop-steps-preserved-in-None-Some
+planned_kids-loop-steps-preserved-in-None-Some t c = grind (arith, common_steps)
+
+pub planned_kids-loop-steps-preserved-in-Some-None : goal.planned_kids-loop-steps-preserved-in-Some-None
+planned_kids-loop-steps-preserved-in-Some-None t c = grind (arith, common_steps)
+
+pub planned_kids-returns-in-None-None : goal.planned_kids-returns-in-None-None
+planned_kids-returns-in-None-None t c = grind (arith, common_steps)
+
+pub planned_node-returns-in-Inner-Leaf : goal.planned_node-returns-in-Inner-Leaf
+planned_node-returns-in-Inner-Leaf t c = grind (arith, plans)
+
+pub planned_node-returns-in-Leaf-Inner : goal.planned_node-returns-in-Leaf-Inner
+planned_node-returns-in-Leaf-Inner t c = grind (arith, plans)

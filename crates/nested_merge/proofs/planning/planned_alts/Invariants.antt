@@ -1,4 +1,4 @@
-use Rattle.std.proofs.Common.{◌≡◌, map, take}
+use Rattle.std.proofs.Common.{◌≡◌, ◌+◌, length, map, take, vec_len, vec_capacity}
 use Rattle.version_set.specs.View.{pairs_of}
 use Rattle.keyed_tree.specs.View.{key_view}
 use Rattle.nested_merge.specs.Merged.{has_alt}
@@ -13,4 +13,6 @@ invariant-loop-alt l =
     record {
       done : map alt_step_view l.steps.items ≡ map (planned_alt (pairs_of l.set) (key_view l.body)) before;
       known : l.found ≡ has_alt (key_view l.body) before;
+      count : vec_len l.steps ≡ l.alt-index;
+      room : vec_capacity l.steps ≡ length l.alts + 1;
     }

@@ -1,3 +1,4 @@
+use Rattle.std.proofs.lemmas.Grind.{common_steps}
 use Rattle.std.proofs.Common.{◌≡◌, ◌&&◌, true, IsTrue, ◌∷◌, ◌++◌, map, take, refl, subst, sym, ap, ◌∙◌, arith}
 use Rattle.std.proofs.Math.Seq.{map-set_same}
 use Rattle.archive_tree.specs.Data.{nodes_from}
@@ -62,3 +63,12 @@ pub prepare_kids-returns-clause-ready : goal.prepare_kids-returns-clause-ready
 prepare_kids-returns-clause-ready t c =
     let l = c.loop-step in
     all_steps (λ ks ss. are_ready (map (is_ready c.args.n) ks) (steps_from (map step_view ss))) l.nodes c.args.steps.now l.i l.step-index l.invariant.decides (omega arith) (λ rest. refl)
+
+pub prepare_kids-loop-step-init : goal.prepare_kids-loop-step-init
+prepare_kids-loop-step-init t c = grind (arith, common_steps)
+
+pub prepare_kids-returns-clause-same : goal.prepare_kids-returns-clause-same
+prepare_kids-returns-clause-same t c = grind (arith, common_steps)
+
+pub prepare_kids-returns-then-i-nodes-clause-same : goal.prepare_kids-returns-then-i-nodes-clause-same
+prepare_kids-returns-then-i-nodes-clause-same t c = grind (arith, common_steps)

@@ -23,3 +23,18 @@ returns-in-Ok-prepare_kids-clause-grown c =
     let ss = map step_view c.in-Ok.plan.steps.items in
     let planned : ss ≡ steps_list (planned_row (n + 1) (upto_pairs n) (nodes_view c.args.old.items) (k ∷ [])) = c.in-Ok.ensures.steps ∙ (λ i. steps_list (planned_row (n + 1) (upto_pairs n) (nodes_view (c.deref.ensures.value i)) (k ∷ []))) in
     plan_made n (nodes_view c.args.old.items) k ss planned _ (map node_view c.applied_kids.result.items) (grind (arith, common_steps)) c.applied_kids.ensures
+
+pub returns-in-Err-clause-grown : goal.returns-in-Err-clause-grown
+returns-in-Err-clause-grown c = grind (arith, common_steps)
+
+pub returns-in-Err-clause-refused : goal.returns-in-Err-clause-refused
+returns-in-Err-clause-refused c = grind (arith, common_steps)
+
+pub returns-in-Err-prepare_kids-clause-grown : goal.returns-in-Err-prepare_kids-clause-grown
+returns-in-Err-prepare_kids-clause-grown c = grind (arith, common_steps)
+
+pub returns-in-Err-prepare_kids-clause-refused : goal.returns-in-Err-prepare_kids-clause-refused
+returns-in-Err-prepare_kids-clause-refused c = grind (arith, common_steps)
+
+pub returns-in-Ok-prepare_kids-clause-refused : goal.returns-in-Ok-prepare_kids-clause-refused
+returns-in-Ok-prepare_kids-clause-refused c = grind (arith, common_steps)

@@ -1,4 +1,5 @@
-use Rattle.std.proofs.Common.{◌≡◌, ◌+◌, ◌++◌, [], ◌∷◌, sym, ap, subst, ◌∙◌}
+use Rattle.std.proofs.lemmas.Grind.{common_steps}
+use Rattle.std.proofs.Common.{◌≡◌, ◌+◌, ◌++◌, [], ◌∷◌, sym, ap, subst, ◌∙◌, arith}
 use Rattle.keyed_tree.specs.View.{keyed_view}
 use Rattle.archive_tree.specs.ArchiveView.{archive_view}
 use Rattle.archive_tree.specs.Data.{PlainArchive}
@@ -51,3 +52,27 @@ returns-in-Ok-clause-newest c =
     let k = keyed_view c.args.new.now in
     let made = c.new.ensures.parts ∙ made_version a k _ _ _ c.into_parts-n.ensures.parts c.in-Ok.ensures.grown in
     ap (version_at (a.n + 1)) made ∙ kept_added a k c.args.old.stands c.requires.alike c.requires.ordered c.requires.element
+
+pub returns-in-Err-clause-archive : goal.returns-in-Err-clause-archive
+returns-in-Err-clause-archive c = grind (arith, common_steps)
+
+pub returns-in-Err-clause-count : goal.returns-in-Err-clause-count
+returns-in-Err-clause-count c = grind (arith, common_steps)
+
+pub returns-in-Err-clause-earlier : goal.returns-in-Err-clause-earlier
+returns-in-Err-clause-earlier c = grind (arith, common_steps)
+
+pub returns-in-Err-clause-merged : goal.returns-in-Err-clause-merged
+returns-in-Err-clause-merged c = grind (arith, common_steps)
+
+pub returns-in-Err-clause-newest : goal.returns-in-Err-clause-newest
+returns-in-Err-clause-newest c = grind (arith, common_steps)
+
+pub returns-in-Err-clause-refused : goal.returns-in-Err-clause-refused
+returns-in-Err-clause-refused c = grind (arith, common_steps)
+
+pub returns-in-Ok-clause-count : goal.returns-in-Ok-clause-count
+returns-in-Ok-clause-count c = grind (arith, common_steps)
+
+pub returns-in-Ok-clause-refused : goal.returns-in-Ok-clause-refused
+returns-in-Ok-clause-refused c = grind (arith, common_steps)

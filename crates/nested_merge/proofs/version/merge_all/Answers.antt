@@ -1,3 +1,4 @@
+use Rattle.std.proofs.lemmas.Grind.{common_steps}
 use Rattle.std.proofs.Common.{arith}
 use Rattle.keyed_tree.specs.Kids.{IsOrdered}
 use Rattle.keyed_tree.specs.Proper.{IsElement}
@@ -25,3 +26,15 @@ returns-in-Err-clause-one_archive c = one_archive_of
 
 pub returns-clause-one_archive : goal.returns-clause-one_archive
 returns-clause-one_archive c = one_archive_of
+
+pub loop-version-init : goal.loop-version-init
+loop-version-init c = grind (arith, common_steps)
+
+pub loop-version-preserved : goal.loop-version-preserved
+loop-version-preserved c = grind (arith, common_steps)
+
+pub returns-clause-archive : goal.returns-clause-archive
+returns-clause-archive c = grind (arith, common_steps)
+
+pub returns-in-Err-clause-archive : goal.returns-in-Err-clause-archive
+returns-in-Err-clause-archive c = grind (arith, common_steps)
