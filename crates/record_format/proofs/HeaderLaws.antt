@@ -1,52 +1,26 @@
 -- The front of an archive file is its header.
-use Rattle.std.proofs.Common.{◌≡◌, ℕ, ◌<◌, ◌≤◌, ◌^◌, Bool, true, false, cond, ltb, leb, ◌||◌, List, ◌++◌, length, take, drop, Some, None, Result, Ok, Err, refl, sym, ap, ◌∙◌, append_assoc, arith}
+use Rattle.std.proofs.Common.{◌≡◌, ℕ, ◌<◌, ◌≤◌, ◌^◌, true, false, ltb, leb, List, ◌++◌, length, take, drop, Some, Ok, refl, sym, ap, ◌∙◌, append_assoc, arith}
 use Rattle.std.specs.Prelude.{bytes_eq}
 use Rattle.std.specs.Option.{option_map}
 use Rattle.std.specs.List.{flat_map}
 use Rattle.std.specs.Int.{w32}
-use Rattle.std.proofs.lemmas.Bool.{ltb-false, le-ltb, le-leb}
+use Rattle.std.proofs.lemmas.Bool.{le-ltb, le-leb}
 use Rattle.std.proofs.lemmas.List.{take_at, drop_at, length-append}
 use Rattle.std.proofs.lemmas.Slice.Eq.{bytes_eq-Decides}
-use Rattle.key_spec.specs.Data.{PlainRule, PlainSpecFault}
-use Rattle.key_spec.specs.Canonical.{canonical}
-use Rattle.key_spec.specs.Closed.{closed, within_limits}
-use Rattle.key_spec.proofs.ClosedLaws.{closed_within}
+use Rattle.key_spec.specs.Data.{PlainRule}
+use Rattle.key_spec.specs.Canonical.{canonical, spelled_by}
+use Rattle.key_spec.specs.Closed.{closed}
 use Rattle.keyed_tree.specs.Data.{PlainKeyed}
 use Rattle.archive_tree.proofs.OneArchive.{one_archive}
 use Rattle.xa_fields.specs.Spelling.{u32_bytes, text_bytes}
 use Rattle.xa_fields.specs.Reading.{number_at, only_at}
 use Rattle.xa_fields.proofs.Fields.{u32_reads}
-use Rattle.record_format.specs.Bounds.{most}
+use Rattle.record_parts.specs.Bounds.{most}
 use Rattle.record_format.specs.Spelling.{rec_bytes}
 use Rattle.record_format.specs.Files.{header_bytes, file_records, tail_bytes, file_bytes, FileOf}
-use Rattle.record_format.specs.Fronts.{bytes_at, front_at, fixed, spelled_by, header_at, header}
-use Rattle.record_format.proofs.Local.{both_read}
-
--- ---- specifications
-
-limits_kept : (a b : Bool) (f : PlainSpecFault) (rules : List PlainRule) → cond (a || b) (Err f) (Ok rules) ≡ Ok rules → b ≡ false
-limits_kept true b f rules e = absurd cc
-limits_kept false true f rules e = absurd cc
-limits_kept false false f rules e = refl
-
--- a specification has a short text
-pub canonical_short : (text : List ℕ) (rules : List PlainRule) → closed text ≡ Ok rules → length (canonical rules) ≤ 1048576
-canonical_short text rules e =
-    let kept : within_limits rules ≡ Ok rules = closed_within text rules e in
-    ltb-false _ _ (limits_kept (ltb 4096 (length rules)) (ltb 1048576 (length (canonical rules))) _ rules kept)
-
-other_text : (xs ys : List ℕ) → ¬ (xs ≡ ys) → bytes_eq xs ys ≡ false
-other_text xs ys h = elim (bytes_eq xs ys) as (λ b. bytes_eq xs ys ≡ b → b ≡ false) [ true ↦ λ e. absurd (h ((bytes_eq-Decides xs ys).0 e)) | false ↦ λ e. refl ] refl
-
-spelled_of : (text : List ℕ) (answer : Result (List PlainRule) PlainSpecFault) → closed text ≡ answer → 1048576 < length text → spelled_by text answer ≡ None
-spelled_of text (Err f) e long = refl
-spelled_of text (Ok rules) e long =
-    let short = canonical_short text rules e in
-    ap (λ b. cond b (Some rules) None) (other_text (canonical rules) text (λ same. omega (arith, ap length same)))
-
--- a text that is longer is no specification's
-pub spelled_long : (text : List ℕ) → 1048576 < length text → spelled_by text (closed text) ≡ None
-spelled_long text long = spelled_of text (closed text) refl long
+use Rattle.record_format.specs.Fronts.{bytes_at, front_at, fixed, header_at, header}
+use Rattle.record_parts.proofs.Local.{both_read}
+use Rattle.record_format.proofs.WholeDirectories.{same_bytes}
 
 -- ---- headers
 
@@ -71,15 +45,12 @@ front_again rules n rest short le =
     both_read bytes_at (only_at (λ n. leb n most) (number_at w32)) ((text_bytes (canonical rules) ++ u32_bytes n) ++ rest) (u32_bytes n ++ rest) rest (canonical rules) n
     (ap bytes_at (append_assoc (text_bytes (canonical rules)) (u32_bytes n) rest) ∙ bytes_again (canonical rules) (u32_bytes n ++ rest) short) (count_again n rest le)
 
-same_text : (text : List ℕ) → bytes_eq text text ≡ true
-same_text text = grind (arith, bytes_eq-Decides)
-
 -- a header is read again
 pub header_again : (rules : List PlainRule) (n : ℕ) (rest : List ℕ) → closed (canonical rules) ≡ Ok rules → length (canonical rules) < 2 ^ 32 → n ≤ most → header_at (header_bytes rules n ++ rest) ≡ Some ((rules, n), rest)
 unfolding header_at
 header_again rules n rest again short le =
     let front = front_again rules n rest short le in
-    let same = same_text (canonical rules) in
+    let same = same_bytes (canonical rules) in
     let spelled : spelled_by (canonical rules) (closed (canonical rules)) ≡ Some rules = ap (spelled_by (canonical rules)) again ∙ rw same refl in
     rw front (rw spelled refl)
 

@@ -13,16 +13,19 @@ use Rattle.xa_fields.specs.Laws.{IsBytes, Takes, Read, Reads}
 use Rattle.xa_fields.proofs.Fields.{IsBytes-drop, IsBytes-take, bind_some, guard_some, some_is, Takes-then, byte_reads, u64_reads}
 use Rattle.xa_fields.proofs.Combinators.{both_reads, whole_takes, whole_again}
 use Rattle.record_format.specs.Data.{PlainRec, inner_rec, leaf_rec, alt_rec, end_rec, leaf_end}
-use Rattle.record_format.specs.Spelling.{value_bytes, label_bytes, stamp_bytes, kind_of, body_bytes, framed, rec_bytes}
-use Rattle.record_format.specs.Bounds.{IsValue, IsLabel, IsStamp, IsBody, IsRec}
+use Rattle.record_parts.specs.Spelling.{value_bytes, label_bytes, stamp_bytes}
+use Rattle.record_format.specs.Spelling.{kind_of, body_bytes, framed, rec_bytes}
+use Rattle.record_parts.specs.Bounds.{IsValue, IsLabel, IsStamp}
+use Rattle.record_format.specs.Bounds.{IsBody, IsRec}
 use Rattle.record_format.specs.View.{rec_view}
 use Rattle.record_format.specs.declared.rec.Rec.{Rec}
-use Rattle.record_format.specs.declared.fault.RecFault.{RecFault}
-use Rattle.record_format.specs.declared.fault.RecFault.TheVariants.{Damage}
-use Rattle.record_format.specs.Reading.{Gives, value_at, label_at, stamp_at, whole_dir, record_of, frame_at, record_at, whole_record}
-use Rattle.record_format.proofs.Readers.{passed_some}
-use Rattle.record_format.proofs.Values.{value_reads}
-use Rattle.record_format.proofs.Parts.{label_reads, stamp_reads}
+use Rattle.record_parts.specs.declared.fault.RecFault.{RecFault}
+use Rattle.record_parts.specs.declared.fault.RecFault.TheVariants.{Damage}
+use Rattle.record_parts.specs.Reading.{Gives, value_at, label_at, stamp_at}
+use Rattle.record_format.specs.Reading.{whole_dir, record_of, frame_at, record_at, whole_record}
+use Rattle.record_parts.proofs.Readers.{passed_some}
+use Rattle.record_parts.proofs.Values.{value_reads}
+use Rattle.record_parts.proofs.Parts.{label_reads, stamp_reads}
 use Rattle.record_format.proofs.WholeDirectories.{whole_dir_found, whole_dir_only}
 
 -- ---- bodies

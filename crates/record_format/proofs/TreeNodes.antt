@@ -2,13 +2,13 @@
 use Rattle.std.proofs.Common.{◌≡◌, ℕ, ◌+◌, ◌*◌, ◌<◌, ◌^◌, ◌==◌, Bool, true, false, cond, List, [], ◌∷◌, ◌++◌, length, refl, sym, ap, subst, ◌∙◌, append_assoc, arith}
 use Rattle.std.specs.List.{flat_map, AllByRecursion}
 use Rattle.std.proofs.lemmas.List.{append-nil, length-append}
-use Rattle.std.proofs.lemmas.Bool.Decides.{nat_tests}
 use Rattle.xa_fields.specs.Spelling.{u64_bytes}
 use Rattle.timestamp_tree.specs.Data.{PlainTs, leaf, node, top, leaves}
 use Rattle.timestamp_tree.specs.Bytes.{set_bytes, tree_bytes}
 use Rattle.timestamp_tree.specs.Tree.{IsTree}
 use Rattle.timestamp_tree.proofs.Trees.{length-set_bytes, length-leaf, length-node}
-use Rattle.record_format.specs.Bounds.{IsSet}
+use Rattle.record_parts.specs.Bounds.{IsSet}
+use Rattle.record_parts.proofs.Readers.{not_zero}
 use Rattle.record_format.specs.Reading.{leaf_sets}
 use Rattle.record_format.proofs.Unions.{IsSet-united}
 
@@ -50,13 +50,10 @@ some_bytes : (t : PlainTs) → 0 < length (tree_bytes t)
 some_bytes (leaf s) = omega (arith, length-leaf s, length-set_bytes s)
 some_bytes (node s n l r) = omega (arith, length-node s n l r, length-set_bytes s)
 
-no_leaf : (n : ℕ) → 0 < n → (n == 0) ≡ false
-no_leaf n lt = grind (arith, nat_tests)
-
 pub leaf_sets-nodes_of : (t : PlainTs) → IsTree t → leaf_sets (nodes_of t) ≡ leaves t
 leaf_sets-nodes_of (leaf s) h = refl
 leaf_sets-nodes_of (node s n l r) h =
-    let inner = no_leaf n (omega (arith, h.1, some_bytes l)) in
+    let inner = not_zero n (omega (arith, h.1, some_bytes l)) in
     rw inner (leaf_sets-append (nodes_of l) (nodes_of r) ∙ (λ i. leaf_sets-nodes_of l h.3 i ++ leaf_sets-nodes_of r h.4 i))
 
 All-append : (xs ys : List (List (ℕ × ℕ))) → AllByRecursion IsSet (xs ++ ys) → AllByRecursion IsSet xs × AllByRecursion IsSet ys

@@ -1,10 +1,10 @@
 -- A union of sets is within what both are within.
-use Rattle.std.proofs.Common.{ℕ, ◌+◌, ◌≤◌, max, Bool, true, false, cond, ltb, ◌==◌, List, [], ◌∷◌, sym, subst, arith}
-use Rattle.std.specs.List.{AllByRecursion}
-use Rattle.version_set.specs.Pairs.{IsFrom, last_of}
+use Rattle.std.proofs.Common.{ℕ, ◌≤◌, max, Bool, true, false, cond, ltb, ◌==◌, List, [], ◌∷◌, sym, subst, arith}
+use Rattle.version_set.specs.Pairs.{last_of}
 use Rattle.version_set.specs.Members.{members, greatest, put, either, united}
 use Rattle.version_set.proofs.SetLemmas.{members-united, IsCanonical-united, greatest-members}
-use Rattle.record_format.specs.Bounds.{IsSet, most}
+use Rattle.record_parts.specs.Bounds.{IsSet, most}
+use Rattle.record_parts.proofs.Sets.{below_last, last_below}
 
 one_of : (b : Bool) (xs ys : List ℕ) (n : ℕ) → greatest xs ≤ n → greatest ys ≤ n → greatest (cond b xs ys) ≤ n
 one_of true xs ys n p q = p
@@ -20,27 +20,12 @@ greatest-either : (ns ms : List ℕ) → greatest (either ns ms) ≤ max (greate
 greatest-either [] ms = omega arith
 greatest-either (n ∷ ns) ms = omega (arith, greatest-either ns ms, greatest-put n (either ns ms))
 
-last_within : (low m : ℕ) (ps : List (ℕ × ℕ)) → IsFrom low ps → last_of ps ≤ m → AllByRecursion (λ p. p.1 ≤ m) ps
-last_within low m [] h le = tt
-last_within low m (p ∷ []) h le = (le, tt)
-last_within low m (p ∷ q ∷ ps) h le =
-    let rest = last_within (p.1 + 2) m (q ∷ ps) h.2 le in
-    let a : p.1 + 2 ≤ q.0 = h.2.0 in
-    let b : q.0 ≤ q.1 = h.2.1 in
-    let c : q.1 ≤ m = rest.0 in
-    (omega arith, rest)
-
-within_last : (m : ℕ) (ps : List (ℕ × ℕ)) → AllByRecursion (λ p. p.1 ≤ m) ps → last_of ps ≤ m
-within_last m [] h = omega arith
-within_last m (p ∷ []) h = h.0
-within_last m (p ∷ q ∷ ps) h = within_last m (q ∷ ps) h.1
-
 pub IsSet-united : (ps qs : List (ℕ × ℕ)) → IsSet ps → IsSet qs → IsSet (united ps qs)
 IsSet-united ps qs p q =
     let canonical = IsCanonical-united ps qs p.canonical q.canonical in
     let of : greatest (members (united ps qs)) ≤ max (greatest (members ps)) (greatest (members qs)) =
     subst (λ (ns : List ℕ). greatest ns ≤ max (greatest (members ps)) (greatest (members qs))) (sym (members-united ps qs p.canonical q.canonical)) (greatest-either (members ps) (members qs)) in
-    let first = within_last most ps p.within in
-    let second = within_last most qs q.within in
+    let first = last_below most ps p.within in
+    let second = last_below most qs q.within in
     let last : last_of (united ps qs) ≤ most = omega (arith, of, first, second, greatest-members 1 ps p.canonical, greatest-members 1 qs q.canonical, greatest-members 1 (united ps qs) canonical) in
-    record { canonical = canonical; within = last_within 1 most (united ps qs) canonical last }
+    record { canonical = canonical; within = below_last 1 most (united ps qs) canonical last }

@@ -19,14 +19,17 @@ use Rattle.timestamp_tree.specs.Tree.{IsTree, tree_of}
 use Rattle.timestamp_tree.proofs.Trees.{leaves-tree_of, IsTree-tree_of}
 use Rattle.record_format.specs.Data.{PlainDir}
 use Rattle.record_format.specs.Spelling.{entry_bytes, sets_bytes, dir_bytes}
-use Rattle.record_format.specs.Bounds.{IsSet, IsEntry, IsDir}
-use Rattle.record_format.specs.Reading.{entry_at, set_at, tree_node_at, leaf_sets, with_leaf_sets, node_count, entries_and_leaves, spells_dir, whole_dir}
-use Rattle.record_format.proofs.Readers.{passed_some}
-use Rattle.record_format.proofs.Parts.{entry_reads, set_reads}
+use Rattle.record_parts.specs.Bounds.{IsSet, most}
+use Rattle.record_format.specs.Bounds.{IsEntry, IsDir}
+use Rattle.record_format.specs.Reading.{entry_at, leaf_sets, with_leaf_sets, node_count, entries_and_leaves, spells_dir, whole_dir}
+use Rattle.timestamp_tree.specs.Reading.{set_at, stored_at}
+use Rattle.record_parts.proofs.Readers.{passed_some}
+use Rattle.record_format.proofs.Entries.{entry_reads}
+use Rattle.record_parts.proofs.Parts.{set_reads}
 use Rattle.record_format.proofs.TreeNodes.{Node, nodes_of, node_bytes, IsNode, tree_bytes-is, length-nodes_of, leaf_sets-nodes_of, each_node, each_leaf_set}
 
-node_reads : Reads tree_node_at node_bytes IsNode
-node_reads = both_reads set_at (number_at w64) set_bytes u64_bytes IsSet (λ n. n < 2 ^ 64) set_reads u64_reads
+node_reads : Reads (stored_at most) node_bytes IsNode
+node_reads = both_reads (set_at most) (number_at w64) set_bytes u64_bytes IsSet (λ n. n < 2 ^ 64) set_reads u64_reads
 
 -- ---- what is read
 
@@ -43,11 +46,11 @@ gathered None y e = absurd cc
 candidate : (bytes : List ℕ) (x : PlainDir × List ℕ) → IsBytes bytes → entries_and_leaves bytes ≡ Some x → IsCandidate x.0
 unfolding entries_and_leaves
 candidate bytes x fits e =
-    let a = bind_some (list_at entry_at bytes) (λ entries. with_leaf_sets (many_at tree_node_at (node_count (length entries.0)) entries.1) >>= λ sets. Some (record { entries = entries.0; sets = sets.0 }, sets.1)) x e in
-    let b = bind_some (with_leaf_sets (many_at tree_node_at (node_count (length a.0.0)) a.0.1)) (λ sets. Some (record { entries = a.0.0; sets = sets.0 }, sets.1)) x a.2 in
-    let g = gathered (many_at tree_node_at (node_count (length a.0.0)) a.0.1) b.0 b.1 in
+    let a = bind_some (list_at entry_at bytes) (λ entries. with_leaf_sets (many_at (stored_at most) (node_count (length entries.0)) entries.1) >>= λ sets. Some (record { entries = entries.0; sets = sets.0 }, sets.1)) x e in
+    let b = bind_some (with_leaf_sets (many_at (stored_at most) (node_count (length a.0.0)) a.0.1)) (λ sets. Some (record { entries = a.0.0; sets = sets.0 }, sets.1)) x a.2 in
+    let g = gathered (many_at (stored_at most) (node_count (length a.0.0)) a.0.1) b.0 b.1 in
     let s = (list_reads entry_at entry_bytes IsEntry entry_reads).takes bytes a.0 fits a.1 in
-    let t = (many_reads tree_node_at node_bytes IsNode (node_count (length a.0.0)) node_reads).takes a.0.1 g.0 s.takes.rest_fits g.1 in
+    let t = (many_reads (stored_at most) node_bytes IsNode (node_count (length a.0.0)) node_reads).takes a.0.1 g.0 s.takes.rest_fits g.1 in
     let made : PlainDir × List ℕ = (record { entries = a.0.0; sets = b.0.0 }, b.0.1) in
     let sets : AllByRecursion IsSet b.0.0 = subst (λ (y : List (List (ℕ × ℕ)) × List ℕ). AllByRecursion IsSet y.0) g.2 (each_leaf_set g.0.0 t.fits.0) in
     subst (λ (y : PlainDir × List ℕ). IsCandidate y.0) (some_is made x b.2) (record { few = s.fits.few; entries = s.fits.each; sets = sets })
@@ -79,7 +82,7 @@ canonical_sets : (sets : List (List (ℕ × ℕ))) → AllByRecursion IsSet sets
 canonical_sets [] h = tt
 canonical_sets (s ∷ sets) h = (h.0.canonical, canonical_sets sets h.1)
 
-sets_again : (sets : List (List (ℕ × ℕ))) → AllByRecursion IsSet sets → length (sets_bytes sets) < 2 ^ 64 → with_leaf_sets (many_at tree_node_at (node_count (length sets)) (sets_bytes sets)) ≡ Some (sets, [])
+sets_again : (sets : List (List (ℕ × ℕ))) → AllByRecursion IsSet sets → length (sets_bytes sets) < 2 ^ 64 → with_leaf_sets (many_at (stored_at most) (node_count (length sets)) (sets_bytes sets)) ≡ Some (sets, [])
 unfolding many_at
 sets_again [] h short = refl
 sets_again (s ∷ ss) h short =
@@ -90,10 +93,10 @@ sets_again (s ∷ ss) h short =
     let fits : AllByRecursion IsNode (nodes_of t) = each_node t is (subst (λ (xs : List (List (ℕ × ℕ))). AllByRecursion IsSet xs) (sym own) h) short in
     let count : length (nodes_of t) ≡ node_count (length sets) = omega (arith, length-nodes_of t, ap length own) in
     let spelled : tree_bytes t ≡ flat_map node_bytes (nodes_of t) ++ [] = tree_bytes-is t ∙ sym (append-nil (flat_map node_bytes (nodes_of t))) in
-    let read : many_at tree_node_at (node_count (length sets)) (flat_map node_bytes (nodes_of t) ++ []) ≡ Some (nodes_of t, []) = (many_reads tree_node_at node_bytes IsNode (node_count (length sets)) node_reads).again (nodes_of t) [] (fits, count) in
-    ap (λ (b : List ℕ). with_leaf_sets (many_at tree_node_at (node_count (length sets)) b)) spelled ∙ ap with_leaf_sets read ∙ ap (λ (xs : List (List (ℕ × ℕ))). Some (xs, [])) (leaf_sets-nodes_of t is ∙ own)
+    let read : many_at (stored_at most) (node_count (length sets)) (flat_map node_bytes (nodes_of t) ++ []) ≡ Some (nodes_of t, []) = (many_reads (stored_at most) node_bytes IsNode (node_count (length sets)) node_reads).again (nodes_of t) [] (fits, count) in
+    ap (λ (b : List ℕ). with_leaf_sets (many_at (stored_at most) (node_count (length sets)) b)) spelled ∙ ap with_leaf_sets read ∙ ap (λ (xs : List (List (ℕ × ℕ))). Some (xs, [])) (leaf_sets-nodes_of t is ∙ own)
 
-same_bytes : (xs : List ℕ) → bytes_eq xs xs ≡ true
+pub same_bytes : (xs : List ℕ) → bytes_eq xs xs ≡ true
 same_bytes xs = grind (arith, bytes_eq-Decides)
 
 same_count : (m n : ℕ) → m ≡ n → (m == n) ≡ true
@@ -104,8 +107,8 @@ unfolding entries_and_leaves
 candidate_again d h short =
     let few : length (sets_bytes d.sets) < 2 ^ 64 = omega (arith, length-append (list_bytes entry_bytes d.entries) (sets_bytes d.sets)) in
     let entries = (list_reads entry_at entry_bytes IsEntry entry_reads).again d.entries (sets_bytes d.sets) (record { few = h.few; each = h.entries }) in
-    let sets : with_leaf_sets (many_at tree_node_at (node_count (length d.entries)) (sets_bytes d.sets)) ≡ Some (d.sets, []) =
-    ap (λ (k : ℕ). with_leaf_sets (many_at tree_node_at (node_count k) (sets_bytes d.sets))) (sym h.paired) ∙ sets_again d.sets h.sets few in
+    let sets : with_leaf_sets (many_at (stored_at most) (node_count (length d.entries)) (sets_bytes d.sets)) ≡ Some (d.sets, []) =
+    ap (λ (k : ℕ). with_leaf_sets (many_at (stored_at most) (node_count k) (sets_bytes d.sets))) (sym h.paired) ∙ sets_again d.sets h.sets few in
     rw entries (rw sets refl)
 
 pub whole_dir_only : (d : PlainDir) → IsDir d → length (dir_bytes d) < 2 ^ 64 → whole_dir (dir_bytes d) ≡ Some d

@@ -1,84 +1,9 @@
--- Which values and records have an encoding: each text is UTF-8, each number, length and count fits its field, attributes
--- ascend by name, the numbers of sets are at most 999,999, and elements nest at most 120 deep.
-use Rattle.std.specs.Prelude.{ℕ, ◌≡◌, ◌≢◌, ◌<◌, ◌≤◌, ◌^◌, pos, negsuc, List, [], length, Some, None, ⊤, IsTrue}
+-- Which records have an encoding: each part has one, and each number, length and count fits its field.
+use Rattle.std.specs.Prelude.{◌≡◌, ◌<◌, ◌^◌, length, ⊤}
 use Rattle.std.specs.List.{AllByRecursion}
-use Rattle.jsonml_tree.specs.Data.{PlainScalar, null, boolean, whole, string, PlainAttr, PlainTree, text, element, PlainContent, content, PlainTrees, no_trees, tree, list_of, content_depth}
-use Rattle.jsonml_tree.specs.WellFormed.{is_ascending}
-use Rattle.keyed_tree.specs.Data.{PlainName, attr, tag, PlainKey, scalar, inside, PlainLabel}
-use Rattle.archive_tree.specs.Data.{Stamp}
-use Rattle.version_set.specs.Pairs.{IsCanonical}
-use Rattle.xa_fields.specs.Spelling.{IsText}
+use Rattle.record_parts.specs.Bounds.{IsValue, IsLabel, IsSet, IsStamp}
 use Rattle.record_format.specs.Data.{PlainEntry, PlainDir, PlainRec, inner_rec, leaf_rec, alt_rec, end_rec, leaf_end}
 use Rattle.record_format.specs.Spelling.{body_bytes}
-
--- ---- values
-
-abbrev pub IsScalar : PlainScalar → Type 0
-IsScalar null = ⊤
-IsScalar (boolean b) = ⊤
-IsScalar (whole (pos n)) = n < 2 ^ 64
-IsScalar (whole (negsuc n)) = n < 2 ^ 63
-IsScalar (string s) = IsText s
-
-pub record IsAttr (a : PlainAttr) : Type 0 where
-  pub name : IsText a.name
-  pub value : IsScalar a.value
-
-pub record AreAttrs (xs : List PlainAttr) : Type 0 where
-  pub few : length xs < 2 ^ 32
-  pub each : AllByRecursion IsAttr xs
-  pub ascending : IsTrue (is_ascending xs)
-
--- whatever the depth
-abbrev mutual
-  pub IsItem : PlainTree → Type 0
-  IsItem (text s) = IsText s
-  IsItem (element t c) = IsText t × IsInside c
-
-  pub IsInside : PlainContent → Type 0
-  IsInside (content xs ts) = AreAttrs xs × (length (list_of ts) < 2 ^ 32) × AreItems ts
-
-  pub AreItems : PlainTrees → Type 0
-  AreItems no_trees = ⊤
-  AreItems (tree t ts) = IsItem t × AreItems ts
-
--- a content whose elements nest at most so deep
-pub record IsContent (limit : ℕ) (c : PlainContent) : Type 0 where
-  pub inside : IsInside c
-  pub depth : content_depth c ≤ limit
-
--- how deep elements may nest
-abbrev pub deepest : ℕ
-deepest = 120
-
-abbrev pub IsValue : PlainKey → Type 0
-IsValue (scalar s) = IsScalar s
-IsValue (inside c) = IsContent deepest c
-
--- ---- the parts of records
-
-abbrev pub text_of : PlainName → List ℕ
-text_of (attr s) = s
-text_of (tag s) = s
-
-pub record IsLabel (l : PlainLabel) : Type 0 where
-  pub name : IsText (text_of l.name)
-  pub few : length l.keys < 2 ^ 32
-  pub keys : AllByRecursion IsValue l.keys
-
--- the greatest number of a version
-abbrev pub most : ℕ
-most = 999999
-
--- the intervals of a set of such numbers
-pub record IsSet (s : List (ℕ × ℕ)) : Type 0 where
-  pub canonical : IsCanonical s
-  pub within : AllByRecursion (λ p. p.1 ≤ most) s
-
--- a stored set is not empty
-abbrev pub IsStamp : Stamp → Type 0
-IsStamp None = ⊤
-IsStamp (Some s) = IsSet s × (s ≢ [])
 
 pub record IsEntry (e : PlainEntry) : Type 0 where
   pub start : e.start < 2 ^ 64
@@ -90,8 +15,6 @@ pub record IsDir (d : PlainDir) : Type 0 where
   pub entries : AllByRecursion IsEntry d.entries
   pub sets : AllByRecursion IsSet d.sets
   pub paired : length d.sets ≡ length d.entries
-
--- ---- records
 
 abbrev pub IsBody : PlainRec → Type 0
 IsBody (inner_rec l s) = IsLabel l × IsStamp s

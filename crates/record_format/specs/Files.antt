@@ -10,7 +10,8 @@ use Rattle.archive_tree.specs.Stands.{ArchiveOf}
 use Rattle.xa_fields.specs.Spelling.{u32_bytes, u64_bytes, text_bytes}
 use Rattle.record_format.specs.Data.{PlainRec, inner_rec, leaf_rec, alt_rec, end_rec, leaf_end}
 use Rattle.record_format.specs.Spelling.{dir_bytes, rec_bytes}
-use Rattle.record_format.specs.Bounds.{IsRec, most}
+use Rattle.record_format.specs.Bounds.{IsRec}
+use Rattle.record_parts.specs.Bounds.{most}
 use Rattle.record_format.specs.Nodes.{Piece, dir_of, closed_by_end, node_pieces}
 
 -- `XARC1` and a line feed

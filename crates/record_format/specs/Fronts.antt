@@ -1,11 +1,11 @@
 -- What stands at the front of an archive file.
-use Rattle.std.specs.Prelude.{ℕ, List, length, take, drop, Option, Some, None, Result, Ok, Err, option_map, nat_lt, nat_le, bytes_eq, if◌then◌else◌}
+use Rattle.std.specs.Prelude.{ℕ, List, length, take, drop, Option, Some, None, option_map, nat_lt, nat_le, bytes_eq, if◌then◌else◌}
 use Rattle.std.specs.Int.{w32}
-use Rattle.key_spec.specs.Data.{PlainRule, PlainSpecFault}
-use Rattle.key_spec.specs.Canonical.{canonical}
+use Rattle.key_spec.specs.Data.{PlainRule}
+use Rattle.key_spec.specs.Canonical.{spelled_by}
 use Rattle.key_spec.specs.Closed.{closed}
 use Rattle.xa_fields.specs.Reading.{Reader, ◌>>=◌, number_at, both_at, only_at}
-use Rattle.record_format.specs.Bounds.{most}
+use Rattle.record_parts.specs.Bounds.{most}
 use Rattle.record_format.specs.Files.{magic}
 
 -- a length of four bytes, and that many bytes
@@ -21,11 +21,6 @@ front_at bytes = if bytes_eq (take (length magic) bytes) magic then both_at byte
 -- the number of versions, where the fields of a header stand there
 abbrev pub fixed : List ℕ → Option ℕ
 fixed bytes = option_map (λ x. x.0.1) (front_at bytes)
-
--- the specification of which the text is the canonical text
-abbrev pub spelled_by : List ℕ → Result (List PlainRule) PlainSpecFault → Option (List PlainRule)
-spelled_by text (Ok rules) = if bytes_eq (canonical rules) text then Some rules else None
-spelled_by text (Err fault) = None
 
 -- the specification and the number of versions, where a header stands there, and the bytes behind it
 unfoldable pub header_at : Reader (List PlainRule × ℕ)

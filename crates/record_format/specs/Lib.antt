@@ -3,13 +3,9 @@ pub mod View
 pub mod Spelling
 pub mod Bounds
 pub mod Shapes
-pub mod Checks
 pub mod Reading
 pub mod Nodes
 pub mod Files
 pub mod Fronts
-pub mod Shown
-pub mod Behind
 pub mod Whole
-pub mod Compares
 pub mod ShownViews

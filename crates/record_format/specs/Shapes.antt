@@ -1,84 +1,14 @@
--- What values, labels and directories are apart from the fit of lengths and counts, and which lengths and counts fit.
-use Rattle.std.specs.Prelude.{ℕ, ◌≡◌, ◌<◌, ◌≤◌, ◌^◌, pos, negsuc, List, length, ⊤, IsTrue}
-use Rattle.std.specs.Str.{IsUtf8}
+-- What directories are apart from the fit of lengths and counts, and which lengths and counts fit.
+use Rattle.std.specs.Prelude.{◌≡◌, ◌<◌, ◌^◌, length}
 use Rattle.std.specs.List.{AllByRecursion}
-use Rattle.jsonml_tree.specs.Data.{PlainScalar, null, boolean, whole, string, PlainAttr, PlainTree, text, element, PlainContent, content, PlainTrees, no_trees, tree, list_of, content_depth}
-use Rattle.jsonml_tree.specs.WellFormed.{is_ascending}
-use Rattle.keyed_tree.specs.Data.{PlainKey, scalar, inside, PlainLabel}
+use Rattle.record_parts.specs.Bounds.{IsSet}
 use Rattle.record_format.specs.Data.{PlainDir}
-use Rattle.record_format.specs.Bounds.{text_of, deepest, IsSet, IsEntry}
-
--- ---- shapes: texts are UTF-8, numbers are in range, attributes ascend by name, and elements nest at most so deep
-
-abbrev pub IsShapedScalar : PlainScalar → Type 0
-IsShapedScalar null = ⊤
-IsShapedScalar (boolean b) = ⊤
-IsShapedScalar (whole (pos n)) = n < 2 ^ 64
-IsShapedScalar (whole (negsuc n)) = n < 2 ^ 63
-IsShapedScalar (string s) = IsUtf8 s
-
-abbrev pub IsShapedAttr : PlainAttr → Type 0
-IsShapedAttr a = IsUtf8 a.name × IsShapedScalar a.value
-
-abbrev mutual
-  pub IsShapedItem : PlainTree → Type 0
-  IsShapedItem (text s) = IsUtf8 s
-  IsShapedItem (element t c) = IsUtf8 t × IsShapedInside c
-
-  pub IsShapedInside : PlainContent → Type 0
-  IsShapedInside (content xs ts) = AllByRecursion IsShapedAttr xs × IsTrue (is_ascending xs) × AreShapedItems ts
-
-  pub AreShapedItems : PlainTrees → Type 0
-  AreShapedItems no_trees = ⊤
-  AreShapedItems (tree t ts) = IsShapedItem t × AreShapedItems ts
-
-abbrev pub IsShapedValue : PlainKey → Type 0
-IsShapedValue (scalar s) = IsShapedScalar s
-IsShapedValue (inside c) = IsShapedInside c × (content_depth c ≤ deepest)
-
-pub record IsShapedLabel (l : PlainLabel) : Type 0 where
-  pub name : IsUtf8 (text_of l.name)
-  pub keys : AllByRecursion IsShapedValue l.keys
+use Rattle.record_format.specs.Bounds.{IsEntry}
 
 -- each entry has its set
 pub record IsShapedDir (d : PlainDir) : Type 0 where
   pub sets : AllByRecursion IsSet d.sets
   pub paired : length d.sets ≡ length d.entries
-
--- ---- lengths and counts
-
-abbrev pub FitsText : List ℕ → Type 0
-FitsText s = length s < 2 ^ 32
-
-abbrev pub FitsScalar : PlainScalar → Type 0
-FitsScalar null = ⊤
-FitsScalar (boolean b) = ⊤
-FitsScalar (whole n) = ⊤
-FitsScalar (string s) = FitsText s
-
-abbrev pub FitsAttr : PlainAttr → Type 0
-FitsAttr a = FitsText a.name × FitsScalar a.value
-
-abbrev mutual
-  pub FitsItem : PlainTree → Type 0
-  FitsItem (text s) = FitsText s
-  FitsItem (element t c) = FitsText t × FitsInside c
-
-  pub FitsInside : PlainContent → Type 0
-  FitsInside (content xs ts) = (length xs < 2 ^ 32) × AllByRecursion FitsAttr xs × (length (list_of ts) < 2 ^ 32) × FitItems ts
-
-  pub FitItems : PlainTrees → Type 0
-  FitItems no_trees = ⊤
-  FitItems (tree t ts) = FitsItem t × FitItems ts
-
-abbrev pub FitsValue : PlainKey → Type 0
-FitsValue (scalar s) = FitsScalar s
-FitsValue (inside c) = FitsInside c
-
-pub record FitsLabel (l : PlainLabel) : Type 0 where
-  pub name : FitsText (text_of l.name)
-  pub few : length l.keys < 2 ^ 32
-  pub keys : AllByRecursion FitsValue l.keys
 
 pub record FitsDir (d : PlainDir) : Type 0 where
   pub few : length d.entries < 2 ^ 32

@@ -7,30 +7,38 @@ ghost use Rattle.keyed_tree.specs.Data.{PlainKey, PlainLabel, PlainKeyed};
 ghost use Rattle.xa_fields.specs.Laws.{IsBytes, Reads};
 ghost use Rattle.record_format.specs.Data.{PlainDir, PlainRec};
 ghost use Rattle.record_format.specs.Spelling.{framed, rec_bytes};
-ghost use Rattle.record_format.specs.Bounds.{IsValue, IsLabel, IsDir, IsRec};
+ghost use Rattle.record_parts.specs.Bounds.{IsValue, IsLabel};
+ghost use Rattle.record_format.specs.Bounds.{IsDir, IsRec};
 ghost use Rattle.record_format.specs.Files.{FileOf};
 ghost use Rattle.record_format.specs.Fronts.{fixed, header};
 ghost use Rattle.record_format.specs.Reading.{frame_at, record_at};
-ghost use Rattle.record_format.specs.Shapes.{IsShapedValue, FitsValue, IsShapedLabel, FitsLabel, IsShapedDir, FitsDir};
+ghost use Rattle.record_parts.specs.Shapes.{IsShapedValue, FitsValue, IsShapedLabel, FitsLabel};
+ghost use Rattle.record_format.specs.Shapes.{IsShapedDir, FitsDir};
 
 /// An encoding has one value, and none is the front of another.
 pub fn encodings_tell_records_apart()
     ensures one_value { (r s : PlainRec) → IsRec r → IsRec s → rec_bytes r ≡ rec_bytes s → r ≡ s }
-    ensures no_front { (r s : PlainRec) (rest : List ℕ) → IsRec r → IsRec s → rec_bytes r ≡ rec_bytes s ++ rest → rest ≡ [] }
+    ensures no_front { (r s : PlainRec) (rest : List ℕ) → IsRec r → IsRec s
+        → rec_bytes r ≡ rec_bytes s ++ rest → rest ≡ [] }
 {}
 
-/// Versions have at most one archive file under a specification. Its front is the header with their number and, where the
-/// canonical text of the specification specifies it, with the specification.
+/// Versions have at most one archive file under a specification. Its front is the header with their
+/// number and, where the canonical text of the specification specifies it, with the specification.
 pub fn versions_have_one_file()
-    ensures one_file { (rules : List PlainRule) (versions : List PlainKeyed) (a b : List ℕ) → FileOf rules versions a → FileOf rules versions b → a ≡ b }
-    ensures header { (rules : List PlainRule) (versions : List PlainKeyed) (bytes : List ℕ) → closed (canonical rules) ≡ Ok rules → FileOf rules versions bytes → header bytes ≡ Some (rules, length versions) }
-    ensures fixed { (rules : List PlainRule) (versions : List PlainKeyed) (bytes : List ℕ) → FileOf rules versions bytes → fixed bytes ≡ Some (length versions) }
+    ensures one_file { (rules : List PlainRule) (versions : List PlainKeyed) (a b : List ℕ)
+        → FileOf rules versions a → FileOf rules versions b → a ≡ b }
+    ensures header { (rules : List PlainRule) (versions : List PlainKeyed) (bytes : List ℕ)
+        → closed (canonical rules) ≡ Ok rules → FileOf rules versions bytes
+        → header bytes ≡ Some (rules, length versions) }
+    ensures fixed { (rules : List PlainRule) (versions : List PlainKeyed) (bytes : List ℕ)
+        → FileOf rules versions bytes → fixed bytes ≡ Some (length versions) }
 {}
 
 /// What is read of some bytes is spelled so, and what is spelled so is read.
 pub fn records_are_read_as_spelled()
     ensures records { Reads record_at rec_bytes IsRec }
-    ensures frames { Reads frame_at (λ p. framed p.0 p.1) (λ p. IsBytes p.1 × (length p.1 < 2 ^ 64)) }
+    ensures frames { Reads frame_at (λ p. framed p.0 p.1)
+        (λ p. IsBytes p.1 × (length p.1 < 2 ^ 64)) }
 {}
 
 /// What has an encoding is in shape, and its lengths and counts fit their fields.

@@ -8,17 +8,19 @@ ghost use Rattle.xa_fields.specs.Laws.{Grows};
 ghost use Rattle.record_format.specs.Data.{inner_rec, leaf_rec, alt_rec, end_rec, leaf_end};
 ghost use Rattle.record_format.specs.View.{entry_view, rec_view};
 ghost use Rattle.record_format.specs.Spelling.{framed, rec_bytes};
-ghost use Rattle.record_format.specs.Bounds.{IsLabel, IsValue, IsRec};
+ghost use Rattle.record_parts.specs.Bounds.{IsLabel, IsValue};
+ghost use Rattle.record_format.specs.Bounds.{IsRec};
 
-use crate::put_parts::{put_directory, put_label, put_stamp};
-use crate::put_values::put_value;
-use crate::rec::{Entry, Rec};
+use crate::put_directory::{lend_sets, put_directory};
+use crate::rec::{ALT, END, Entry, INNER, LEAF, LEAF_END, Rec};
 use keyed_tree::{Body, Label};
+use record_parts::{put_label, put_stamp, put_value};
 use std::alloc::{AllocError, Global};
 use version_set::VersionSet;
-use xa_fields::put_u64;
+use xa_fields::{put_u8, put_u64};
 
-/// Appends the kind of a record, and eight bytes for the length of its body, and answers where the body begins.
+/// Appends the kind of a record, and eight bytes for the length of its body, and answers where the
+/// body begins.
 #[tactic(auto, using(xa_fields::proofs::Combinators::growth))]
 fn open(out: &mut Vec<u8>, kind: u8) -> Result<usize, AllocError>
     ensures ok { OnOk result (out.new.items ≡ out.old.items ++ kind ∷ u64_bytes 0) }
@@ -26,14 +28,15 @@ fn open(out: &mut Vec<u8>, kind: u8) -> Result<usize, AllocError>
     ensures grows { Grows out.old.items out.new.items }
 {
     let at = out.len() + 9;
-    out.push(kind)?;
+    put_u8(out, kind)?;
     put_u64(out, 0)?;
     Ok(at)
 }
 
 fn set_u64(out: &mut Vec<u8>, at: usize, n: u64)
     requires { at + 8 ≤ length out.old.items }
-    ensures { out.new.items ≡ take at out.old.items ++ (u64_bytes n ++ drop (at + 8) out.old.items) }
+    ensures { out.new.items
+        ≡ take at out.old.items ++ (u64_bytes n ++ drop (at + 8) out.old.items) }
 {
     out[at..at + 8].copy_from_slice(&n.to_be_bytes());
 }
@@ -42,7 +45,9 @@ fn set_u64(out: &mut Vec<u8>, at: usize, n: u64)
 fn close(out: &mut Vec<u8>, at: usize)
     requires room { 9 ≤ at }
     requires within { at ≤ length out.old.items }
-    ensures { (front body : List ℕ) (kind : ℕ) → out.old.items ≡ (front ++ kind ∷ u64_bytes 0) ++ body → at ≡ length front + 9 → out.new.items ≡ front ++ framed kind body }
+    ensures { (front body : List ℕ) (kind : ℕ)
+        → out.old.items ≡ (front ++ kind ∷ u64_bytes 0) ++ body → at ≡ length front + 9
+        → out.new.items ≡ front ++ framed kind body }
 {
     let length = (out.len() - at) as u64;
     set_u64(out, at - 8, length);
@@ -56,10 +61,11 @@ pub fn put_inner(
     stamp: &Option<VersionSet>,
 ) -> Result<(), AllocError>
     requires { IsLabel (label_view label.now) }
-    ensures ok { OnOk result (out.new.items ≡ out.old.items ++ rec_bytes (inner_rec (label_view label.now) (stamp_view stamp.now))) }
+    ensures ok { OnOk result (out.new.items
+        ≡ out.old.items ++ rec_bytes (inner_rec (label_view label.now) (stamp_view stamp.now))) }
     ensures grows { Grows out.old.items out.new.items }
 {
-    let at = open(out, 1)?;
+    let at = open(out, INNER)?;
     put_label(out, label)?;
     put_stamp(out, stamp)?;
     close(out, at);
@@ -74,10 +80,11 @@ pub fn put_leaf(
     stamp: &Option<VersionSet>,
 ) -> Result<(), AllocError>
     requires { IsLabel (label_view label.now) }
-    ensures ok { OnOk result (out.new.items ≡ out.old.items ++ rec_bytes (leaf_rec (label_view label.now) (stamp_view stamp.now))) }
+    ensures ok { OnOk result (out.new.items
+        ≡ out.old.items ++ rec_bytes (leaf_rec (label_view label.now) (stamp_view stamp.now))) }
     ensures grows { Grows out.old.items out.new.items }
 {
-    let at = open(out, 2)?;
+    let at = open(out, LEAF)?;
     put_label(out, label)?;
     put_stamp(out, stamp)?;
     close(out, at);
@@ -88,10 +95,11 @@ pub fn put_leaf(
 #[tactic(auto, using(xa_fields::proofs::Combinators::growth))]
 pub fn put_alt(out: &mut Vec<u8>, stamp: &Option<VersionSet>, body: &Body) -> Result<(), AllocError>
     requires { IsValue (key_view body.now) }
-    ensures ok { OnOk result (out.new.items ≡ out.old.items ++ rec_bytes (alt_rec (stamp_view stamp.now) (key_view body.now))) }
+    ensures ok { OnOk result (out.new.items
+        ≡ out.old.items ++ rec_bytes (alt_rec (stamp_view stamp.now) (key_view body.now))) }
     ensures grows { Grows out.old.items out.new.items }
 {
-    let at = open(out, 3)?;
+    let at = open(out, ALT)?;
     put_stamp(out, stamp)?;
     put_value(out, body)?;
     close(out, at);
@@ -104,14 +112,17 @@ pub fn put_end(
     alloc: Global,
     out: &mut Vec<u8>,
     entries: &[Entry],
-    sets: &[VersionSet],
+    sets: &[&VersionSet],
 ) -> Result<(), AllocError>
     requires few { length entries.now < 2 ^ 32 }
     requires paired { length sets.now ≡ length entries.now }
-    ensures ok { OnOk result (out.new.items ≡ out.old.items ++ rec_bytes (end_rec (record { entries = map entry_view entries.now; sets = map pairs_of sets.now }))) }
+    ensures ok { OnOk result (out.new.items ≡ out.old.items ++ rec_bytes (end_rec (record {
+      entries = map entry_view entries.now;
+      sets = map (λ s. pairs_of s.now) sets.now;
+    }))) }
     ensures grows { Grows out.old.items out.new.items }
 {
-    let at = open(out, 4)?;
+    let at = open(out, END)?;
     put_directory(alloc, out, entries, sets)?;
     close(out, at);
     Ok(())
@@ -123,7 +134,7 @@ pub fn put_leaf_end(out: &mut Vec<u8>) -> Result<(), AllocError>
     ensures ok { OnOk result (out.new.items ≡ out.old.items ++ rec_bytes leaf_end) }
     ensures grows { Grows out.old.items out.new.items }
 {
-    open(out, 5)?;
+    open(out, LEAF_END)?;
     Ok(())
 }
 
@@ -137,7 +148,10 @@ fn put_record(alloc: Global, rec: &Rec, out: &mut Vec<u8>) -> Result<(), AllocEr
         Rec::Inner { label, stamp } => put_inner(out, label, stamp),
         Rec::Leaf { label, stamp } => put_leaf(out, label, stamp),
         Rec::Alt { stamp, body } => put_alt(out, stamp, body),
-        Rec::End { dir } => put_end(alloc, out, &dir.entries, &dir.sets),
+        Rec::End { dir } => {
+            let sets = lend_sets(alloc, &dir.sets)?;
+            put_end(alloc, out, &dir.entries, &sets)
+        }
         Rec::LeafEnd => put_leaf_end(out),
     }
 }

@@ -1,7 +1,24 @@
+// Records.
 use keyed_tree::{Body, Label};
 use version_set::VersionSet;
 
-/// Where a child stands: the offset of its first byte from that of the first child, its length, and the length of the body of its END, or 0 for a leaf.
+/// The kind of the record that opens an inner node.
+pub const INNER: u8 = 1;
+
+/// The kind of the record that opens a leaf.
+pub const LEAF: u8 = 2;
+
+/// The kind of the record of an alternative.
+pub const ALT: u8 = 3;
+
+/// The kind of the record that closes an inner node.
+pub const END: u8 = 4;
+
+/// The kind of the record that closes a leaf.
+pub const LEAF_END: u8 = 5;
+
+/// Where a child stands: the offset of its first byte from that of the first child, its length, and
+/// the length of the body of its END, or 0 for a leaf.
 #[derive(Clone, Copy)]
 pub struct Entry {
     pub start: u64,

@@ -1,21 +1,24 @@
 // Reading directories.
-ghost use Rattle.std.specs.Prelude.{◌≡◌, ℕ, ◌≤◌, ◌<◌, ◌^◌, ◌++◌, ◌∷◌, [], length, drop, map, IfOk, OnOk, IfErr, IfSome, option_map};
+ghost use Rattle.std.specs.Prelude.{◌≡◌, ◌≤◌, ◌<◌, ◌^◌, ◌++◌, ◌∷◌, [], length, drop, map, IfOk, OnOk, IfErr, IfSome, option_map};
 ghost use Rattle.version_set.specs.View.{pairs_of};
 ghost use Rattle.xa_fields.specs.Reading.{many_at, whole};
+ghost use Rattle.record_parts.specs.Bounds.{most};
 ghost use Rattle.record_format.specs.View.{entry_view, dir_view};
-ghost use Rattle.record_format.specs.Reading.{Gives, entry_at, tree_node_at, leaf_sets, with_leaf_sets, node_count, entries_and_leaves, spells_dir, whole_dir};
+ghost use Rattle.record_parts.specs.Reading.{Gives};
+ghost use Rattle.record_format.specs.Reading.{entry_at, leaf_sets, with_leaf_sets, node_count, entries_and_leaves, spells_dir, whole_dir};
+ghost use Rattle.timestamp_tree.specs.Reading.{stored_at};
 
-use crate::fault::RecFault;
-use crate::put_parts::put_directory;
+use crate::put_directory::{lend_sets, put_directory};
 use crate::rec::{Dir, Entry};
-use crate::take_parts::take_set;
+use record_parts::{RecFault, take_set};
 use std::alloc::{AllocError, Global};
 use version_set::VersionSet;
 use xa_fields::{take_u32, take_u64};
 
 #[tactic(auto, unfolding(crate::specs::Reading::entry_at))]
 fn lend_entry(bytes: &[u8], at: usize) -> Option<(Entry, usize)>
-    ensures found { option_map (λ r. (entry_view r.0, drop r.1 bytes.now)) result ≡ entry_at (drop at bytes.now) }
+    ensures found { option_map (λ r. (entry_view r.0, drop r.1 bytes.now)) result
+        ≡ entry_at (drop at bytes.now) }
     ensures next { IfSome result (λ r. r.1 ≤ length bytes.now) }
 {
     let (start, at) = take_u64(bytes, at)?;
@@ -31,7 +34,8 @@ fn take_entries(
     at: usize,
 ) -> Result<(Vec<Entry>, usize), RecFault>
     requires { at ≤ length bytes.now }
-    ensures found { Gives (λ r. (map entry_view r.0.items, drop r.1 bytes.now)) result (many_at entry_at count (drop at bytes.now)) }
+    ensures found { Gives (λ r. (map entry_view r.0.items, drop r.1 bytes.now)) result
+        (many_at entry_at count (drop at bytes.now)) }
     ensures next { IfOk result (λ r. r.1 ≤ length bytes.now) }
 {
     let mut entries = Vec::new(alloc);
@@ -46,10 +50,12 @@ fn take_entries(
     Ok((entries, at))
 }
 
-/// The node of a timestamp tree at the offset, as its set and the size of its left part, and the offset behind it.
+/// The node of a timestamp tree at the offset, as its set and the size of its left part, and the
+/// offset behind it.
 #[tactic(auto, unfolding(xa_fields::specs::Reading::both_at))]
 fn take_node(alloc: Global, bytes: &[u8], at: usize) -> Result<(VersionSet, u64, usize), RecFault>
-    ensures found { Gives (λ r. ((pairs_of r.0, r.1), drop r.2 bytes.now)) result (tree_node_at (drop at bytes.now)) }
+    ensures found { Gives (λ r. ((pairs_of r.0, r.1), drop r.2 bytes.now)) result
+        (stored_at most (drop at bytes.now)) }
     ensures next { IfOk result (λ r. r.2 ≤ length bytes.now) }
 {
     let (set, at) = take_set(alloc, bytes, at)?;
@@ -60,7 +66,8 @@ fn take_node(alloc: Global, bytes: &[u8], at: usize) -> Result<(VersionSet, u64,
 }
 
 fn push_leaf(sets: &mut Vec<VersionSet>, set: VersionSet, left: u64) -> Result<(), RecFault>
-    ensures ok { OnOk result (map pairs_of sets.new.items ≡ map pairs_of sets.old.items ++ leaf_sets ((pairs_of set, left) ∷ [])) }
+    ensures ok { OnOk result (map pairs_of sets.new.items
+        ≡ map pairs_of sets.old.items ++ leaf_sets ((pairs_of set, left) ∷ [])) }
     ensures err { IfErr result (λ e. e ≡ RecFault.Memory) }
 {
     if left == 0 {
@@ -69,7 +76,8 @@ fn push_leaf(sets: &mut Vec<VersionSet>, set: VersionSet, left: u64) -> Result<(
     Ok(())
 }
 
-/// The sets of the leaves among so many nodes of a tree at the offset, and the offset behind the nodes.
+/// The sets of the leaves among so many nodes of a tree at the offset, and the offset behind the
+/// nodes.
 fn take_leaf_sets(
     alloc: Global,
     count: u64,
@@ -77,7 +85,8 @@ fn take_leaf_sets(
     at: usize,
 ) -> Result<(Vec<VersionSet>, usize), RecFault>
     requires { at ≤ length bytes.now }
-    ensures found { Gives (λ r. (map pairs_of r.0.items, drop r.1 bytes.now)) result (with_leaf_sets (many_at tree_node_at count (drop at bytes.now))) }
+    ensures found { Gives (λ r. (map pairs_of r.0.items, drop r.1 bytes.now)) result
+        (with_leaf_sets (many_at (stored_at most) count (drop at bytes.now))) }
     ensures next { IfOk result (λ r. r.1 ≤ length bytes.now) }
 {
     let mut sets = Vec::new(alloc);
@@ -124,8 +133,9 @@ fn is_spelled(alloc: Global, dir: &Dir, bytes: &[u8]) -> Result<bool, AllocError
     if dir.sets.len() != dir.entries.len() {
         return Ok(false);
     }
+    let sets = lend_sets(alloc, &dir.sets)?;
     let mut spelled = Vec::new(alloc);
-    put_directory(alloc, &mut spelled, &dir.entries, &dir.sets)?;
+    put_directory(alloc, &mut spelled, &dir.entries, &sets)?;
     Ok(spelled.as_slice() == bytes)
 }
 

@@ -1,15 +1,10 @@
 use Rattle.xa_fields.proofs.Combinators.{growth}
 use Rattle.std.proofs.Common.{length, ap, arith}
-use Rattle.key_spec.specs.Canonical.{canonical}
-use Rattle.key_spec.specs.View.{spec_view}
-use Rattle.record_format.proofs.HeaderLaws.{canonical_short}
 use Rattle.record_format.proofs.headers.put_header.Goals as goal
 
 pub put_text-requires : goal.put_text-requires
 put_text-requires c =
-    let rules = spec_view c.args.spec.now in
-    let short = canonical_short (canonical rules) rules c.in_ok-text.ensures.again in
-    omega (arith, short, ap length c.as_str.ensures.value, ap length c.in_ok-text.ensures.text)
+    omega (arith, c.in_ok-text.ensures.short, ap length c.as_str.ensures.value, ap length c.in_ok-text.ensures.text)
 
 pub returns-in_err-put_text-clause-grows : goal.returns-in_err-put_text-clause-grows
 returns-in_err-put_text-clause-grows c = grind (arith, growth)

@@ -1,4 +1,5 @@
-use Rattle.record_format.proofs.ShapeLaws.{value_parts, label_parts, dir_parts}
+use Rattle.record_parts.proofs.ShapeLaws.{value_parts, label_parts}
+use Rattle.record_format.proofs.ShapeLaws.{dir_parts}
 use Rattle.record_format.proofs.laws.encodings_are_of_shape_and_fit.Goals as goal
 
 pub returns-clause-values : goal.returns-clause-values

@@ -1,6 +1,7 @@
 use Rattle.std.proofs.Common.{ap, subst, ◌∙◌, arith}
 use Rattle.record_format.specs.View.{rec_view}
-use Rattle.record_format.specs.Reading.{Gives, whole_record}
+use Rattle.record_parts.specs.Reading.{Gives}
+use Rattle.record_format.specs.Reading.{whole_record}
 use Rattle.record_format.proofs.Records.{is_found, is_damage, whole_record_only}
 use Rattle.record_format.proofs.take_records.decode.Goals as goal
 

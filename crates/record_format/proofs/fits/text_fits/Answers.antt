@@ -1,5 +1,0 @@
-use Rattle.record_format.proofs.Encodable.{text_test}
-use Rattle.record_format.proofs.fits.text_fits.Goals as goal
-
-pub returns : goal.returns
-returns c = text_test c.args.text.now c.utf8.text

@@ -1,0 +1,85 @@
+// Appending directories.
+ghost use Rattle.std.specs.Prelude.{◌≡◌, ◌++◌, ◌<◌, ◌^◌, length, IfOk, OnOk, map};
+ghost use Rattle.std.specs.List.{flat_map};
+ghost use Rattle.version_set.specs.View.{pairs_of};
+ghost use Rattle.xa_fields.specs.Laws.{Grows};
+ghost use Rattle.record_format.specs.View.{entry_view};
+ghost use Rattle.record_format.specs.Spelling.{entry_bytes, sets_bytes, dir_bytes};
+
+use crate::rec::Entry;
+use std::alloc::{AllocError, Global};
+use timestamp_tree::TsTree;
+use version_set::VersionSet;
+use xa_fields::{put_u32, put_u64};
+
+#[tactic(auto, using(xa_fields::proofs::Combinators::growth))]
+fn put_entry(out: &mut Vec<u8>, entry: &Entry) -> Result<(), AllocError>
+    ensures ok { OnOk result (out.new.items
+        ≡ out.old.items ++ entry_bytes (entry_view entry.now)) }
+    ensures grows { Grows out.old.items out.new.items }
+{
+    put_u64(out, entry.start)?;
+    put_u64(out, entry.length)?;
+    put_u64(out, entry.dir)
+}
+
+#[tactic(auto, using(xa_fields::proofs::Combinators::growth))]
+fn put_entries(out: &mut Vec<u8>, entries: &[Entry]) -> Result<(), AllocError>
+    ensures ok { OnOk result (out.new.items
+        ≡ out.old.items ++ flat_map entry_bytes (map entry_view entries.now)) }
+    ensures grows { Grows out.old.items out.new.items }
+{
+    for entry in entries {
+        put_entry(out, entry)?;
+    }
+    Ok(())
+}
+
+#[tactic(auto, using(xa_fields::proofs::Combinators::growth))]
+fn put_sets(alloc: Global, out: &mut Vec<u8>, sets: &[&VersionSet]) -> Result<(), AllocError>
+    requires { length sets.now < 2 ^ 32 }
+    ensures ok { OnOk result (out.new.items
+        ≡ out.old.items ++ sets_bytes (map (λ s. pairs_of s.now) sets.now)) }
+    ensures grows { Grows out.old.items out.new.items }
+{
+    if sets.is_empty() {
+        return Ok(());
+    }
+    TsTree::of(alloc, sets)?.encode(out)
+}
+
+/// Appends a directory: the number of children, their entries, and the timestamp tree over their
+/// sets where there are any. It copies each set once and makes a union for each inner node of the
+/// tree. On a refusal some of it was appended.
+#[tactic(auto, using(xa_fields::proofs::Combinators::growth))]
+pub fn put_directory(
+    alloc: Global,
+    out: &mut Vec<u8>,
+    entries: &[Entry],
+    sets: &[&VersionSet],
+) -> Result<(), AllocError>
+    requires few { length entries.now < 2 ^ 32 }
+    requires paired { length sets.now ≡ length entries.now }
+    ensures ok { OnOk result (out.new.items ≡ out.old.items ++ dir_bytes (record {
+      entries = map entry_view entries.now;
+      sets = map (λ s. pairs_of s.now) sets.now;
+    })) }
+    ensures grows { Grows out.old.items out.new.items }
+{
+    put_u32(out, entries.len() as u32)?;
+    put_entries(out, entries)?;
+    put_sets(alloc, out, sets)
+}
+
+/// The sets, lent.
+pub fn lend_sets(alloc: Global, sets: &[VersionSet]) -> Result<Vec<&VersionSet>, AllocError>
+    ensures sets { IfOk result (λ lent.
+        map (λ s. pairs_of s.now) lent.items ≡ map pairs_of sets.now) }
+    ensures count { IfOk result (λ lent. length lent.items ≡ length sets.now) }
+{
+    let mut lent = Vec::with_capacity(alloc, sets.len())?;
+    for set in sets {
+        lent.push(set)?;
+    }
+    Ok(lent)
+}

@@ -1,0 +1,116 @@
+-- Comparing contents and items with values.
+use Rattle.std.proofs.Common.{◌≡◌, ◌≢◌, ℕ, ◌-◌, ◌<◌, true, false, List, drop, map, Option, Some, None, String, Global, string_bytes, refl, sym, ap, subst, ◌∙◌}
+use Rattle.std.specs.Int.{w32}
+use Rattle.std.specs.Ordering.{is_ne}
+use Rattle.std.specs.declared.cmp.Ordering.{Ordering}
+use Rattle.std.specs.declared.cmp.Ordering.TheVariants.{Less, Greater}
+use Rattle.std.specs.Cmp.Lexicographic.{slice_cmp}
+use Rattle.jsonml_tree.specs.Data.{PlainAttr, PlainTree, text, element, PlainContent, content, trees_of}
+use Rattle.jsonml_tree.specs.Order.{text_cmp, attr_cmp, tree_cmp, content_cmp}
+use Rattle.jsonml_tree.specs.View.{attr_view, tree_view, content_view}
+use Rattle.jsonml_tree.specs.declared.scalar.Attr.{Attr}
+use Rattle.jsonml_tree.specs.declared.tree.Tree.{Tree, Text, Elem}
+use Rattle.jsonml_tree.specs.declared.tree.Content.{Content}
+use Rattle.jsonml_tree.proofs.Trees.{content_view-is, tree_view-Text, tree_view-Elem}
+use Rattle.xa_fields.specs.Reading.{Reader, byte_at, number_at, text_at, many_at, list_at}
+use Rattle.record_parts.specs.Compares.{Compares}
+use Rattle.record_parts.specs.Reading.{attrs_at, content_by, content_at, item_at, item_of, content_below}
+use Rattle.record_parts.proofs.Leads.{not_equal, is_equal}
+use Rattle.record_parts.proofs.Compared.{exactly, nothing, same_read, Splits, first_fails, first_decides, second_decides, list_is, list_none, content_splits, element_splits, element_above, text_compare, text_none, item_is, item_none, no_item}
+use Rattle.record_parts.proofs.Deep.{none_below, one_below}
+
+-- ---- contents
+
+abbrev by_attrs : List Attr → List PlainAttr → Ordering
+by_attrs xs ys = slice_cmp attr_cmp ys (map attr_view xs)
+
+abbrev by_items : List Tree → List PlainTree → Ordering
+by_items us ts = slice_cmp tree_cmp ts (map tree_view us)
+
+abbrev by_content : Content → PlainContent → Ordering
+by_content c x = content_cmp x (content_view c)
+
+abbrev made : List PlainAttr → List PlainTree → PlainContent
+made xs ts = content xs (trees_of ts)
+
+splits : (one : Reader PlainTree) (b : List ℕ) (c : Content) (xs : List Attr) (us : List Tree) → xs ≡ c.attrs.items → us ≡ c.items.items → Splits (content_by one b) (attrs_at b) (list_at one) made (by_content c) (by_attrs xs) (by_items us)
+splits one b c xs us e f =
+    subst (λ (d : PlainContent). Splits (content_by one b) (attrs_at b) (list_at one) made (λ x. content_cmp x d) (by_attrs xs) (by_items us))
+    ((λ i. content (map attr_view (e i)) (trees_of (map tree_view (f i)))) ∙ sym (content_view-is c)) (content_splits one b (map attr_view xs) (map tree_view us))
+
+pub content_fails : (depth at : ℕ) (bytes : List ℕ) (c : Content) (xs : List Attr) → xs ≡ c.attrs.items → Compares (by_attrs xs) (attrs_at (drop at bytes)) bytes None → Compares (by_content c) (content_at depth (drop at bytes)) bytes None
+content_fails depth at bytes c xs e h =
+    first_fails (content_at depth (drop at bytes)) (attrs_at (drop at bytes)) (list_at (item_at depth)) made (by_content c) (by_attrs xs) (by_items c.items.items) bytes (splits (item_at depth) (drop at bytes) c xs c.items.items e refl) h
+
+pub content_decides : (depth at : ℕ) (bytes : List ℕ) (c : Content) (xs : List Attr) (o : Ordering) (n : ℕ) → xs ≡ c.attrs.items → is_ne o ≡ true → Compares (by_attrs xs) (attrs_at (drop at bytes)) bytes (Some (o, n)) → Compares (by_content c) (content_at depth (drop at bytes)) bytes (Some (o, n))
+content_decides depth at bytes c xs o n e ne h =
+    first_decides (content_at depth (drop at bytes)) (attrs_at (drop at bytes)) (list_at (item_at depth)) made (by_content c) (by_attrs xs) (by_items c.items.items) bytes o n n (splits (item_at depth) (drop at bytes) c xs c.items.items e refl) h (not_equal o ne)
+
+pub content_goes : (depth at : ℕ) (bytes : List ℕ) (c : Content) (xs : List Attr) (us : List Tree) (o : Ordering) (n : ℕ) (q : Option (Ordering × ℕ)) → xs ≡ c.attrs.items → us ≡ c.items.items → is_ne o ≡ false → Compares (by_attrs xs) (attrs_at (drop at bytes)) bytes (Some (o, n))
+    → Compares (by_items us) (list_at (item_at depth) (drop n bytes)) bytes q → Compares (by_content c) (content_at depth (drop at bytes)) bytes q
+content_goes depth at bytes c xs us o n q e f eq h k =
+    second_decides (content_at depth (drop at bytes)) (attrs_at (drop at bytes)) (list_at (item_at depth)) made (by_content c) (by_attrs xs) (by_items us) bytes o n q (splits (item_at depth) (drop at bytes) c xs us e f) h (is_equal o eq) k
+
+pub items_none : (depth : ℕ) (bytes file : List ℕ) (us : List Tree) → None ≡ number_at w32 bytes → Compares (by_items us) (list_at (item_at depth) bytes) file None
+items_none depth bytes file us e = nothing (by_items us) (list_at (item_at depth) bytes) file None (list_none (item_at depth) bytes e)
+
+pub items_counted : (depth n : ℕ) (bytes after file : List ℕ) (us : List Tree) (q : Option (Ordering × ℕ)) → Some (n, after) ≡ number_at w32 bytes → Compares (by_items us) (many_at (item_at depth) n after) file q → Compares (by_items us) (list_at (item_at depth) bytes) file q
+items_counted depth n bytes after file us q e h = same_read (by_items us) (list_at (item_at depth) bytes) (many_at (item_at depth) n after) file q (list_is (item_at depth) n bytes after e) h
+
+pub below_none : (depth : ℕ) (bytes file : List ℕ) (c : Content) → depth ≡ 0 → Compares (by_content c) (content_below depth bytes) file None
+below_none depth bytes file c e = nothing (by_content c) (content_below depth bytes) file None (none_below depth bytes e)
+
+pub below_goes : (depth : ℕ) (bytes file : List ℕ) (c : Content) (q : Option (Ordering × ℕ)) → 0 < depth → Compares (by_content c) (content_at (depth - 1) bytes) file q → Compares (by_content c) (content_below depth bytes) file q
+below_goes depth bytes file c q lt h = same_read (by_content c) (content_below depth bytes) (content_at (depth - 1) bytes) file q (one_below depth bytes lt) h
+
+-- ---- items
+
+abbrev by_item : Tree → PlainTree → Ordering
+by_item t x = tree_cmp x (tree_view t)
+
+pub no_kind_byte : (depth : ℕ) (bytes file : List ℕ) (t : Tree) → None ≡ byte_at bytes → Compares (by_item t) (item_at depth bytes) file None
+no_kind_byte depth bytes file t e = nothing (by_item t) (item_at depth bytes) file None (item_none depth bytes e)
+
+pub of_kind : (depth kind : ℕ) (bytes after file : List ℕ) (t : Tree) (q : Option (Ordering × ℕ)) → Some (kind, after) ≡ byte_at bytes → Compares (by_item t) (item_of (content_below depth) kind after) file q → Compares (by_item t) (item_at depth bytes) file q
+of_kind depth kind bytes after file t q e h = same_read (by_item t) (item_at depth bytes) (item_of (content_below depth) kind after) file q (item_is depth kind bytes after e) h
+
+pub of_no_kind : (depth kind : ℕ) (bytes file : List ℕ) (t : Tree) → kind ≢ 0 → kind ≢ 1 → Compares (by_item t) (item_of (content_below depth) kind bytes) file None
+of_no_kind depth kind bytes file t f g = nothing (by_item t) (item_of (content_below depth) kind bytes) file None (no_item (content_below depth) kind bytes f g)
+
+pub text_fails : (inner : Reader PlainContent) (bytes file : List ℕ) (t : Tree) → None ≡ text_at bytes → Compares (by_item t) (item_of inner 0 bytes) file None
+text_fails inner bytes file t e = nothing (by_item t) (item_of inner 0 bytes) file None (text_none inner bytes e)
+
+pub text_text : (inner : Reader PlainContent) (bytes file s : List ℕ) (n : ℕ) (t : Tree) (u : String Global) (o : Ordering) → t ≡ Text u → Some (s, drop n file) ≡ text_at bytes → o ≡ text_cmp s (string_bytes u) → Compares (by_item t) (item_of inner 0 bytes) file (Some (o, n))
+text_text inner bytes file s n t u o is e f = text_compare inner bytes file s n (tree_view t) o e (f ∙ ap (λ (x : PlainTree). tree_cmp (text s) x) (sym (ap tree_view is ∙ tree_view-Text u)))
+
+pub text_element : (inner : Reader PlainContent) (bytes file s : List ℕ) (n : ℕ) (t : Tree) (u : String Global) (d : Content) → t ≡ Elem u d → Some (s, drop n file) ≡ text_at bytes → Compares (by_item t) (item_of inner 0 bytes) file (Some (Less, n))
+text_element inner bytes file s n t u d is e = text_compare inner bytes file s n (tree_view t) Less e (ap (λ (x : PlainTree). tree_cmp (text s) x) (sym (ap tree_view is ∙ tree_view-Elem u d)))
+
+element_parts : (depth : ℕ) (bytes : List ℕ) (t : Tree) (u : String Global) (d : Content) → t ≡ Elem u d
+    → Splits (item_of (content_below depth) 1 bytes) (text_at bytes) (content_below depth) element (by_item t) (λ s. text_cmp s (string_bytes u)) (by_content d)
+element_parts depth bytes t u d is =
+    subst (λ (x : PlainTree). Splits (item_of (content_below depth) 1 bytes) (text_at bytes) (content_below depth) element (λ y. tree_cmp y x) (λ s. text_cmp s (string_bytes u)) (by_content d))
+    (sym (ap tree_view is ∙ tree_view-Elem u d)) (element_splits (content_below depth) bytes (string_bytes u) (content_view d))
+
+no_text : (depth : ℕ) (bytes : List ℕ) → None ≡ text_at bytes → item_of (content_below depth) 1 bytes ≡ None
+unfolding item_of
+no_text depth bytes e = (let f = sym e in rw f refl)
+
+pub element_fails : (depth : ℕ) (bytes file : List ℕ) (t : Tree) → None ≡ text_at bytes → Compares (by_item t) (item_of (content_below depth) 1 bytes) file None
+element_fails depth bytes file t e = nothing (by_item t) (item_of (content_below depth) 1 bytes) file None (no_text depth bytes e)
+
+pub element_text : (depth : ℕ) (bytes file : List ℕ) (n : ℕ) (t : Tree) (u : String Global) → t ≡ Text u → Compares (by_item t) (item_of (content_below depth) 1 bytes) file (Some (Greater, n))
+element_text depth bytes file n t u is =
+    subst (λ (x : PlainTree). Compares (λ y. tree_cmp y x) (item_of (content_below depth) 1 bytes) file (Some (Greater, n))) (sym (ap tree_view is ∙ tree_view-Text u)) (element_above (content_below depth) bytes file (string_bytes u) n)
+
+pub element_decides : (depth : ℕ) (bytes file s : List ℕ) (n : ℕ) (t : Tree) (u : String Global) (d : Content) (o : Ordering) → t ≡ Elem u d → Some (s, drop n file) ≡ text_at bytes → o ≡ text_cmp s (string_bytes u) → is_ne o ≡ true
+    → Compares (by_item t) (item_of (content_below depth) 1 bytes) file (Some (o, n))
+element_decides depth bytes file s n t u d o is e f ne =
+    first_decides (item_of (content_below depth) 1 bytes) (text_at bytes) (content_below depth) element (by_item t) (λ s. text_cmp s (string_bytes u)) (by_content d) file o n n (element_parts depth bytes t u d is)
+    (exactly (λ s. text_cmp s (string_bytes u)) (text_at bytes) file s n o e f) (not_equal o ne)
+
+pub element_goes : (depth : ℕ) (bytes file s : List ℕ) (n : ℕ) (t : Tree) (u : String Global) (d : Content) (o : Ordering) (q : Option (Ordering × ℕ)) → t ≡ Elem u d → Some (s, drop n file) ≡ text_at bytes → o ≡ text_cmp s (string_bytes u) → is_ne o ≡ false
+    → Compares (by_content d) (content_below depth (drop n file)) file q → Compares (by_item t) (item_of (content_below depth) 1 bytes) file q
+element_goes depth bytes file s n t u d o q is e f eq h =
+    second_decides (item_of (content_below depth) 1 bytes) (text_at bytes) (content_below depth) element (by_item t) (λ s. text_cmp s (string_bytes u)) (by_content d) file o n q (element_parts depth bytes t u d is)
+    (exactly (λ s. text_cmp s (string_bytes u)) (text_at bytes) file s n o e f) (is_equal o eq) h

@@ -1,0 +1,93 @@
+-- Comparing key values and labels with values.
+use Rattle.std.proofs.Common.{◌≡◌, ◌≢◌, ℕ, true, false, List, drop, map, Option, Some, None, refl, sym, ap, subst, ◌∙◌}
+use Rattle.std.specs.Int.{w32}
+use Rattle.std.specs.Ordering.{is_ne}
+use Rattle.std.specs.declared.cmp.Ordering.{Ordering}
+use Rattle.std.specs.declared.cmp.Ordering.TheVariants.{Less, Greater}
+use Rattle.std.specs.Cmp.Lexicographic.{slice_cmp}
+use Rattle.jsonml_tree.specs.Data.{PlainScalar}
+use Rattle.jsonml_tree.specs.Order.{scalar_cmp, content_cmp}
+use Rattle.jsonml_tree.specs.View.{scalar_view, content_view}
+use Rattle.jsonml_tree.specs.declared.scalar.Scalar as values
+use Rattle.jsonml_tree.specs.declared.tree.Content as contents
+use Rattle.keyed_tree.specs.Data.{PlainName, PlainKey, scalar, PlainLabel}
+use Rattle.keyed_tree.specs.Order.{name_cmp, key_cmp, label_cmp}
+use Rattle.keyed_tree.specs.View.{key_view, name_view, label_view}
+use Rattle.keyed_tree.specs.declared.label.KeyVal.{KeyVal}
+use Rattle.keyed_tree.specs.declared.label.KeyVal.TheVariants.{Scalar, Content}
+use Rattle.keyed_tree.specs.declared.label.Label.{Label}
+use Rattle.xa_fields.specs.Reading.{byte_at, number_at, many_at, list_at}
+use Rattle.record_parts.specs.Bounds.{deepest}
+use Rattle.record_parts.specs.Compares.{Compares}
+use Rattle.record_parts.specs.Reading.{scalar_at, content_at, value_of, value_at, name_at, label_at}
+use Rattle.record_parts.proofs.Leads.{not_equal, is_equal}
+use Rattle.record_parts.proofs.Compared.{exactly, nothing, same_read, first_decides, second_decides, list_is, list_none, label_splits, value_is, value_none, no_kind, scalar_compare, scalar_none, content_above, content_compare}
+
+-- ---- key values
+
+abbrev by_value : KeyVal → PlainKey → Ordering
+by_value k x = key_cmp x (key_view k)
+
+pub scalar_fails : (bytes file : List ℕ) (k : KeyVal) → None ≡ scalar_at bytes → Compares (by_value k) (value_of 0 bytes) file None
+scalar_fails bytes file k e = nothing (by_value k) (value_of 0 bytes) file None (scalar_none bytes e)
+
+pub scalar_scalar : (bytes file : List ℕ) (s : PlainScalar) (n : ℕ) (k : KeyVal) (u : values.Scalar) (o : Ordering) → k ≡ Scalar u → Some (s, drop n file) ≡ scalar_at bytes → o ≡ scalar_cmp s (scalar_view u) → Compares (by_value k) (value_of 0 bytes) file (Some (o, n))
+scalar_scalar bytes file s n k u o is e f = scalar_compare bytes file s n (key_view k) o e (f ∙ ap (by_value_of (scalar s)) (sym is))
+  where
+    by_value_of : PlainKey → KeyVal → Ordering
+    by_value_of x k = key_cmp x (key_view k)
+
+pub scalar_content : (bytes file : List ℕ) (s : PlainScalar) (n : ℕ) (k : KeyVal) (d : contents.Content) → k ≡ Content d → Some (s, drop n file) ≡ scalar_at bytes → Compares (by_value k) (value_of 0 bytes) file (Some (Less, n))
+scalar_content bytes file s n k d is e = scalar_compare bytes file s n (key_view k) Less e (ap (λ (x : KeyVal). key_cmp (scalar s) (key_view x)) (sym is))
+
+pub content_scalar : (bytes file : List ℕ) (n : ℕ) (k : KeyVal) (u : values.Scalar) → k ≡ Scalar u → Compares (by_value k) (value_of 1 bytes) file (Some (Greater, n))
+content_scalar bytes file n k u is = subst (λ (x : KeyVal). Compares (by_value x) (value_of 1 bytes) file (Some (Greater, n))) (sym is) (content_above bytes file (scalar_view u) n)
+
+pub content_content : (bytes file : List ℕ) (k : KeyVal) (d : contents.Content) (q : Option (Ordering × ℕ)) → k ≡ Content d → Compares (λ c. content_cmp c (content_view d)) (content_at deepest bytes) file q → Compares (by_value k) (value_of 1 bytes) file q
+content_content bytes file k d q is h = subst (λ (x : KeyVal). Compares (by_value x) (value_of 1 bytes) file q) (sym is) (content_compare bytes file (content_view d) q h)
+
+pub no_value_byte : (bytes file : List ℕ) (k : KeyVal) → None ≡ byte_at bytes → Compares (by_value k) (value_at bytes) file None
+no_value_byte bytes file k e = nothing (by_value k) (value_at bytes) file None (value_none bytes e)
+
+pub of_value_kind : (kind : ℕ) (bytes after file : List ℕ) (k : KeyVal) (q : Option (Ordering × ℕ)) → Some (kind, after) ≡ byte_at bytes → Compares (by_value k) (value_of kind after) file q → Compares (by_value k) (value_at bytes) file q
+of_value_kind kind bytes after file k q e h = same_read (by_value k) (value_at bytes) (value_of kind after) file q (value_is kind bytes after e) h
+
+pub of_no_value_kind : (kind : ℕ) (bytes file : List ℕ) (k : KeyVal) → kind ≢ 0 → kind ≢ 1 → Compares (by_value k) (value_of kind bytes) file None
+of_no_value_kind kind bytes file k f g = nothing (by_value k) (value_of kind bytes) file None (no_kind kind bytes f g)
+
+-- ---- labels
+
+abbrev by_label : Label → PlainLabel → Ordering
+by_label m x = label_cmp x (label_view m)
+
+abbrev by_keys : List KeyVal → List PlainKey → Ordering
+by_keys us ks = slice_cmp key_cmp ks (map key_view us)
+
+abbrev by_name : Label → PlainName → Ordering
+by_name m n = name_cmp n (name_view m.name)
+
+abbrev made : PlainName → List PlainKey → PlainLabel
+made n ks = record { name = n; keys = ks }
+
+no_name : (bytes : List ℕ) → None ≡ name_at bytes → label_at bytes ≡ None
+unfolding label_at
+no_name bytes e = (let f = sym e in rw f refl)
+
+pub label_fails : (bytes file : List ℕ) (m : Label) → None ≡ name_at bytes → Compares (by_label m) (label_at bytes) file None
+label_fails bytes file m e = nothing (by_label m) (label_at bytes) file None (no_name bytes e)
+
+pub label_decides : (bytes file : List ℕ) (m : Label) (x : PlainName) (o : Ordering) (n : ℕ) → Some (x, drop n file) ≡ name_at bytes → o ≡ by_name m x → is_ne o ≡ true → Compares (by_label m) (label_at bytes) file (Some (o, n))
+label_decides bytes file m x o n e is ne =
+    first_decides (label_at bytes) (name_at bytes) (list_at value_at) made (by_label m) (by_name m) (by_keys m.keys.items) file o n n (label_splits bytes (label_view m)) (exactly (by_name m) (name_at bytes) file x n o e is) (not_equal o ne)
+
+pub label_goes : (bytes file : List ℕ) (m : Label) (x : PlainName) (us : List KeyVal) (o : Ordering) (n : ℕ) (q : Option (Ordering × ℕ)) → us ≡ m.keys.items → Some (x, drop n file) ≡ name_at bytes → o ≡ by_name m x → is_ne o ≡ false
+    → Compares (by_keys us) (list_at value_at (drop n file)) file q → Compares (by_label m) (label_at bytes) file q
+label_goes bytes file m x us o n q same e is eq h =
+    second_decides (label_at bytes) (name_at bytes) (list_at value_at) made (by_label m) (by_name m) (by_keys m.keys.items) file o n q (label_splits bytes (label_view m)) (exactly (by_name m) (name_at bytes) file x n o e is) (is_equal o eq)
+    (subst (λ (ks : List KeyVal). Compares (by_keys ks) (list_at value_at (drop n file)) file q) same h)
+
+pub keys_none : (bytes file : List ℕ) (us : List KeyVal) → None ≡ number_at w32 bytes → Compares (by_keys us) (list_at value_at bytes) file None
+keys_none bytes file us e = nothing (by_keys us) (list_at value_at bytes) file None (list_none value_at bytes e)
+
+pub keys_counted : (n : ℕ) (bytes after file : List ℕ) (us : List KeyVal) (q : Option (Ordering × ℕ)) → Some (n, after) ≡ number_at w32 bytes → Compares (by_keys us) (many_at value_at n after) file q → Compares (by_keys us) (list_at value_at bytes) file q
+keys_counted n bytes after file us q e h = same_read (by_keys us) (list_at value_at bytes) (many_at value_at n after) file q (list_is value_at n bytes after e) h

@@ -1,0 +1,39 @@
+use Rattle.std.proofs.Common.{◌∷◌, [], ◌-◌, map, drop, sym, ◌∙◌}
+use Rattle.std.specs.declared.cmp.Ordering.TheVariants.{Less, Equal}
+use Rattle.jsonml_tree.specs.Order.{attr_cmp}
+use Rattle.jsonml_tree.specs.View.{attr_view}
+use Rattle.xa_fields.specs.Reading.{many_at}
+use Rattle.record_parts.specs.Reading.{attr_at}
+use Rattle.record_parts.proofs.Leads.{goes_on, decided, longer, failed, ends, view_none, view_first, not_equal, is_equal, equal_end, less_end, leads_at}
+use Rattle.record_parts.proofs.order_values.order_each_attr.Goals as goal
+
+pub returns-in_default : goal.returns-in_default
+returns-in_default c =
+    longer attr_cmp attr_at c.args.count c.loop.counter c.loop.at (drop c.loop.at c.args.bytes.now) c.args.bytes.now (many_at attr_at c.args.count (drop c.args.at c.args.bytes.now)) (map attr_view c.args.others.now) c.loop-test.true
+    (leads_at attr_cmp (many_at attr_at c.args.count (drop c.args.at c.args.bytes.now)) (map attr_view c.args.others.now) (map attr_view c.loop.rest.now) [] (many_at attr_at (c.args.count - c.loop.counter) (drop c.loop.at c.args.bytes.now)) (view_none attr_view c.loop.rest.now c.in_default.ensures.cases) c.loop.invariant.leads)
+
+pub returns-in_default-order_attr : goal.returns-in_default-order_attr
+returns-in_default-order_attr c =
+    failed attr_cmp attr_at c.args.count c.loop.counter (drop c.loop.at c.args.bytes.now) c.args.bytes.now (many_at attr_at c.args.count (drop c.args.at c.args.bytes.now)) (map attr_view c.args.others.now) (map attr_view c.in-Some.tail.now) (attr_view c.in-Some.other.now) c.loop-test.true c.in_default-order_attr.ensures.found
+    (leads_at attr_cmp (many_at attr_at c.args.count (drop c.args.at c.args.bytes.now)) (map attr_view c.args.others.now) (map attr_view c.loop.rest.now) (attr_view c.in-Some.other.now ∷ map attr_view c.in-Some.tail.now) (many_at attr_at (c.args.count - c.loop.counter) (drop c.loop.at c.args.bytes.now)) (view_first attr_view c.loop.rest.now c.in-Some.tail.now c.in-Some.other.now c.in-Some.ensures.cases.0) c.loop.invariant.leads)
+
+pub returns-then-is_ne : goal.returns-then-is_ne
+returns-then-is_ne c =
+    decided attr_cmp attr_at c.args.count c.loop.counter c.in-Some-order_attr.next (drop c.loop.at c.args.bytes.now) c.args.bytes.now (drop c.in-Some-order_attr.next c.args.bytes.now) (many_at attr_at c.args.count (drop c.args.at c.args.bytes.now)) (map attr_view c.args.others.now) (map attr_view c.in-Some.tail.now) (attr_view c.in-Some.other.now) c.in-Some-order_attr.order c.loop-test.true
+    (not_equal c.in-Some-order_attr.order (sym c.is_ne.ensures ∙ c.if-is_ne.true)) c.in-Some-order_attr.ensures.found
+    (leads_at attr_cmp (many_at attr_at c.args.count (drop c.args.at c.args.bytes.now)) (map attr_view c.args.others.now) (map attr_view c.loop.rest.now) (attr_view c.in-Some.other.now ∷ map attr_view c.in-Some.tail.now) (many_at attr_at (c.args.count - c.loop.counter) (drop c.loop.at c.args.bytes.now)) (view_first attr_view c.loop.rest.now c.in-Some.tail.now c.in-Some.other.now c.in-Some.ensures.cases.0) c.loop.invariant.leads)
+
+pub loop-preserved : goal.loop-preserved
+loop-preserved c =
+    record {
+      within = c.in-Some-order_attr.ensures.next;
+      leads = goes_on attr_cmp attr_at c.args.count c.loop.counter (drop c.loop.at c.args.bytes.now) (drop c.in-Some-order_attr.next c.args.bytes.now) (many_at attr_at c.args.count (drop c.args.at c.args.bytes.now)) (map attr_view c.args.others.now) (map attr_view c.in-Some.tail.now) (attr_view c.in-Some.other.now) c.in-Some-order_attr.order c.loop-test.true
+          (is_equal c.in-Some-order_attr.order (sym c.is_ne.ensures ∙ c.if-is_ne.false)) c.in-Some-order_attr.ensures.found
+          (leads_at attr_cmp (many_at attr_at c.args.count (drop c.args.at c.args.bytes.now)) (map attr_view c.args.others.now) (map attr_view c.loop.rest.now) (attr_view c.in-Some.other.now ∷ map attr_view c.in-Some.tail.now) (many_at attr_at (c.args.count - c.loop.counter) (drop c.loop.at c.args.bytes.now)) (view_first attr_view c.loop.rest.now c.in-Some.tail.now c.in-Some.other.now c.in-Some.ensures.cases.0) c.loop.invariant.leads);
+    }
+
+pub returns-then-is_empty : goal.returns-then-is_empty
+returns-then-is_empty c = ends attr_cmp attr_at c.args.count c.loop.counter c.loop.at c.args.bytes.now (many_at attr_at c.args.count (drop c.args.at c.args.bytes.now)) (map attr_view c.args.others.now) (map attr_view c.loop.rest.now) Equal c.loop-test.false (equal_end attr_cmp attr_view c.loop.rest.now (sym c.is_empty.ensures ∙ c.if-is_empty.true)) c.loop.invariant.leads
+
+pub returns : goal.returns
+returns c = ends attr_cmp attr_at c.args.count c.loop.counter c.loop.at c.args.bytes.now (many_at attr_at c.args.count (drop c.args.at c.args.bytes.now)) (map attr_view c.args.others.now) (map attr_view c.loop.rest.now) Less c.loop-test.false (less_end attr_cmp attr_view c.loop.rest.now (sym c.is_empty.ensures ∙ c.if-is_empty.false)) c.loop.invariant.leads

@@ -1,0 +1,10 @@
+pub mod Spelling
+pub mod Bounds
+pub mod Shapes
+pub mod Checks
+pub mod Reading
+pub mod Shown
+pub mod Behind
+pub mod Whole
+pub mod Compares
+pub mod ShownViews

@@ -1,0 +1,37 @@
+// Lending labels, timestamps and bodies that stand one behind another.
+ghost use Rattle.std.specs.Prelude.{◌≡◌, option_map};
+ghost use Rattle.xa_fields.specs.Reading.{both_at, whole};
+ghost use Rattle.record_parts.specs.Reading.{label_at, stamp_at, value_at};
+ghost use Rattle.record_parts.specs.ShownViews.{shown_label, shown_stamp, shown_body};
+
+use crate::skip_parts::{skip_label, skip_stamp};
+use crate::skip_values::skip_value;
+use crate::views::{BodyView, LabelView, StampView};
+
+/// The label and the timestamp that all of the bytes are.
+pub fn lend_opening(body: &[u8]) -> Option<(LabelView<'_>, StampView<'_>)>
+    ensures { option_map (λ v. (shown_label v.0, shown_stamp v.1)) result
+        ≡ whole (both_at label_at stamp_at) body.now }
+{
+    let middle = skip_label(body, 0)?;
+    let end = skip_stamp(body, middle)?;
+    if end < body.len() {
+        return None;
+    }
+    let (label, stamp) = body.split_at(middle);
+    Some((LabelView { bytes: label }, StampView { bytes: stamp }))
+}
+
+/// The timestamp and the body that all of the bytes are.
+pub fn lend_alternative(body: &[u8]) -> Option<(StampView<'_>, BodyView<'_>)>
+    ensures { option_map (λ v. (shown_stamp v.0, shown_body v.1)) result
+        ≡ whole (both_at stamp_at value_at) body.now }
+{
+    let middle = skip_stamp(body, 0)?;
+    let end = skip_value(body, middle)?;
+    if end < body.len() {
+        return None;
+    }
+    let (stamp, value) = body.split_at(middle);
+    Some((StampView { bytes: stamp }, BodyView { bytes: value }))
+}

@@ -1,0 +1,29 @@
+//! The parts of an archive file's records: bytes of labels, timestamps, key values and bodies, both
+//! ways.
+#![tactic(auto)]
+
+mod fault;
+mod fits;
+mod lend_parts;
+mod lent;
+mod limits;
+mod order_parts;
+mod order_values;
+mod put_parts;
+mod put_values;
+mod shown;
+mod skip_parts;
+mod skip_values;
+mod take_parts;
+mod take_values;
+mod views;
+
+pub use fault::RecFault;
+pub use fits::{is_label, is_set, is_stamp, is_value};
+pub use lend_parts::{lend_alternative, lend_opening};
+pub use limits::{DEEPEST, MOST_VERSIONS};
+pub use put_parts::{put_label, put_stamp};
+pub use put_values::put_value;
+pub use take_parts::{take_label, take_set, take_stamp};
+pub use take_values::take_value;
+pub use views::{BodyView, LabelView, StampView};

@@ -1,0 +1,7 @@
+// The numbers of the format.
+
+/// An archive has at most so many versions.
+pub const MOST_VERSIONS: u32 = 999_999;
+
+/// Elements nest at most so deep.
+pub const DEEPEST: u32 = 120;

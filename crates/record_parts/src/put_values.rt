@@ -1,0 +1,150 @@
+// Appending scalars, contents and key values.
+ghost use Rattle.std.specs.Prelude.{◌≡◌, ◌++◌, OnOk, map};
+ghost use Rattle.std.specs.List.{flat_map, AllByRecursion};
+ghost use Rattle.jsonml_tree.specs.Data.{whole};
+ghost use Rattle.jsonml_tree.specs.View.{scalar_view, attr_view, tree_view, content_view, items_view};
+ghost use Rattle.keyed_tree.specs.View.{key_view};
+ghost use Rattle.xa_fields.specs.Spelling.{list_bytes};
+ghost use Rattle.xa_fields.specs.Laws.{Grows};
+ghost use Rattle.record_parts.specs.Spelling.{scalar_bytes, attr_bytes, content_bytes, item_bytes, items_bytes, value_bytes};
+ghost use Rattle.record_parts.specs.Bounds.{IsScalar, IsAttr, AreAttrs, IsItem, AreItems, IsInside, IsValue};
+
+use jsonml_tree::{Attr, Content, Scalar, Tree};
+use keyed_tree::KeyVal;
+use std::alloc::AllocError;
+use xa_fields::{put_text, put_u8, put_u32, put_u64};
+
+#[tactic(auto, using(xa_fields::proofs::Combinators::growth))]
+fn put_scalar(out: &mut Vec<u8>, scalar: &Scalar) -> Result<(), AllocError>
+    requires { IsScalar (scalar_view scalar.now) }
+    ensures ok { OnOk result (out.new.items
+        ≡ out.old.items ++ scalar_bytes (scalar_view scalar.now)) }
+    ensures grows { Grows out.old.items out.new.items }
+{
+    match scalar {
+        Scalar::Null => put_u8(out, 0),
+        Scalar::Bool(false) => put_u8(out, 1),
+        Scalar::Bool(true) => put_u8(out, 2),
+        Scalar::Whole(n) => put_whole(out, *n),
+        Scalar::Text(text) => {
+            put_u8(out, 5)?;
+            put_text(out, text.as_str())
+        }
+    }
+}
+
+#[tactic(auto, using(xa_fields::proofs::Combinators::growth))]
+fn put_whole(out: &mut Vec<u8>, n: i128) -> Result<(), AllocError>
+    requires { IsScalar (whole n) }
+    ensures ok { OnOk result (out.new.items ≡ out.old.items ++ scalar_bytes (whole n)) }
+    ensures grows { Grows out.old.items out.new.items }
+{
+    if n >= 0 {
+        put_u8(out, 3)?;
+        put_u64(out, n as u64)
+    } else {
+        put_u8(out, 4)?;
+        put_u64(out, (-1 - n) as u64)
+    }
+}
+
+#[tactic(auto, using(xa_fields::proofs::Combinators::growth))]
+fn put_attr(out: &mut Vec<u8>, attr: &Attr) -> Result<(), AllocError>
+    requires { IsAttr (attr_view attr.now) }
+    ensures ok { OnOk result (out.new.items ≡ out.old.items ++ attr_bytes (attr_view attr.now)) }
+    ensures grows { Grows out.old.items out.new.items }
+{
+    put_text(out, attr.name.as_str())?;
+    put_scalar(out, &attr.value)
+}
+
+#[tactic(auto, using(xa_fields::proofs::Combinators::growth, jsonml_tree::proofs::Trees::trees))]
+fn put_attrs(out: &mut Vec<u8>, attrs: &[Attr]) -> Result<(), AllocError>
+    requires { AreAttrs (map attr_view attrs.now) }
+    ensures ok { OnOk result (out.new.items
+        ≡ out.old.items ++ list_bytes attr_bytes (map attr_view attrs.now)) }
+    ensures grows { Grows out.old.items out.new.items }
+{
+    put_u32(out, attrs.len() as u32)?;
+    put_each_attr(out, attrs)
+}
+
+#[tactic(auto, using(xa_fields::proofs::Combinators::growth))]
+fn put_each_attr(out: &mut Vec<u8>, attrs: &[Attr]) -> Result<(), AllocError>
+    requires { AllByRecursion IsAttr (map attr_view attrs.now) }
+    ensures ok { OnOk result (out.new.items
+        ≡ out.old.items ++ flat_map attr_bytes (map attr_view attrs.now)) }
+    ensures grows { Grows out.old.items out.new.items }
+{
+    for attr in attrs {
+        put_attr(out, attr)?;
+    }
+    Ok(())
+}
+
+#[cycle(put)]
+#[tactic(auto, using(xa_fields::proofs::Combinators::growth, jsonml_tree::proofs::Trees::trees, crate::proofs::Contents::insides))]
+fn put_content(out: &mut Vec<u8>, content: &Content) -> Result<(), AllocError>
+    requires { IsInside (content_view content.now) }
+    ensures ok { OnOk result (out.new.items
+        ≡ out.old.items ++ content_bytes (content_view content.now)) }
+    ensures grows { Grows out.old.items out.new.items }
+{
+    put_attrs(out, &content.attrs)?;
+    put_u32(out, content.items.len() as u32)?;
+    put_items(out, &content.items)?;
+    Ok(())
+}
+
+#[cycle(put)]
+#[tactic(auto, using(xa_fields::proofs::Combinators::growth, jsonml_tree::proofs::Trees::trees))]
+fn put_items(out: &mut Vec<u8>, items: &[Tree]) -> Result<(), AllocError>
+    requires { AreItems (items_view items.now) }
+    ensures ok { OnOk result (out.new.items ≡ out.old.items ++ items_bytes (items_view items.now)) }
+    ensures grows { Grows out.old.items out.new.items }
+{
+    for item in items {
+        put_item(out, item)?;
+    }
+    Ok(())
+}
+
+#[cycle(put)]
+#[tactic(auto, using(xa_fields::proofs::Combinators::growth, jsonml_tree::proofs::Trees::trees))]
+fn put_item(out: &mut Vec<u8>, item: &Tree) -> Result<(), AllocError>
+    requires { IsItem (tree_view item.now) }
+    ensures ok { OnOk result (out.new.items ≡ out.old.items ++ item_bytes (tree_view item.now)) }
+    ensures grows { Grows out.old.items out.new.items }
+{
+    match item {
+        Tree::Text(text) => {
+            put_u8(out, 0)?;
+            put_text(out, text.as_str())
+        }
+        Tree::Elem { tag, content } => {
+            put_u8(out, 1)?;
+            put_text(out, tag.as_str())?;
+            put_content(out, content)
+        }
+    }
+}
+
+/// Appends a key value or a body: a byte of its kind, and the scalar or the content. On a refusal
+/// some of it was appended.
+#[tactic(auto, using(xa_fields::proofs::Combinators::growth))]
+pub fn put_value(out: &mut Vec<u8>, value: &KeyVal) -> Result<(), AllocError>
+    requires { IsValue (key_view value.now) }
+    ensures ok { OnOk result (out.new.items ≡ out.old.items ++ value_bytes (key_view value.now)) }
+    ensures grows { Grows out.old.items out.new.items }
+{
+    match value {
+        KeyVal::Scalar(scalar) => {
+            put_u8(out, 0)?;
+            put_scalar(out, scalar)
+        }
+        KeyVal::Content(content) => {
+            put_u8(out, 1)?;
+            put_content(out, content)
+        }
+    }
+}
