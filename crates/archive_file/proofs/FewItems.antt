@@ -13,7 +13,8 @@ use Rattle.version_set.specs.Members.{has, upto_pairs}
 use Rattle.archive_tree.specs.Data.{eff, PlainAlt, PlainNode, inner_node, leaf_node, PlainNodes, no_nodes, node, node_stamp, nodes_list}
 use Rattle.archive_tree.specs.Read.{body_at, read, read_row}
 use Rattle.record_format.specs.Data.{end_rec, leaf_end}
-use Rattle.record_format.specs.Bounds.{IsRec, IsItem, IsInside, AreItems, IsValue}
+use Rattle.record_format.specs.Bounds.{IsRec}
+use Rattle.record_parts.specs.Bounds.{IsItem, IsInside, AreItems, IsValue}
 use Rattle.record_format.specs.Nodes.{dir_of, alt_of, set_in, node_piece, node_pieces}
 use Rattle.archive_file.specs.Sound.{SoundAs}
 use Rattle.archive_file.proofs.ArchiveKeyed.{read-of}

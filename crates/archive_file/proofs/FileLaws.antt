@@ -1,26 +1,25 @@
 -- Which archives have a file, as far as the records of their nodes go.
-use Rattle.std.proofs.Common.{◌≡◌, ℕ, zero, suc, ◌+◌, ◌^◌, ◌<◌, ◌≤◌, false, cond, eqb, ◌&&◌, IsTrue, List, [], ◌∷◌, ◌++◌, map, length, Some, None, Ok, refl, sym, ap, subst, ◌∙◌, arith}
+use Rattle.std.proofs.Common.{◌≡◌, ℕ, zero, suc, ◌+◌, ◌^◌, ◌<◌, ◌≤◌, false, cond, eqb, ◌&&◌, IsTrue, List, [], ◌∷◌, ◌++◌, map, length, Some, None, refl, sym, ap, subst, ◌∙◌, arith}
 use Rattle.std.specs.List.{flat_map, AllByRecursion}
 use Rattle.std.proofs.lemmas.List.{length-append, append-nil}
 use Rattle.std.proofs.lemmas.Bool.Decides.{nat_tests}
 use Rattle.std.proofs.lemmas.Grind.{flat_map-append}
 use Rattle.key_spec.specs.Data.{PlainRule}
 use Rattle.key_spec.specs.Canonical.{canonical}
-use Rattle.key_spec.specs.Closed.{closed}
 use Rattle.keyed_tree.proofs.Kids.{both}
 use Rattle.archive_tree.specs.Data.{Stamp, PlainAlt, PlainNode, inner_node, leaf_node, PlainNodes, no_nodes, node, nodes_list, PlainArchive}
 use Rattle.version_set.specs.Members.{upto_pairs}
 use Rattle.record_format.specs.Data.{PlainEntry, PlainRec, inner_rec, leaf_rec, end_rec, leaf_end}
 use Rattle.record_format.specs.Spelling.{body_bytes, rec_bytes}
-use Rattle.record_format.specs.Bounds.{most, IsSet, IsStamp, IsEntry, IsDir, IsRec}
+use Rattle.record_parts.specs.Bounds.{most, IsSet, IsStamp}
+use Rattle.record_format.specs.Bounds.{IsEntry, IsDir, IsRec}
 use Rattle.record_format.specs.Nodes.{Piece, piece_bytes, entries_from, dir_of, closed_by_end, alt_of, set_in, node_piece, node_pieces}
 use Rattle.record_format.specs.Files.{root_pieces, file_records, tail_bytes, header_bytes, file_bytes, longest, HasFile}
 use Rattle.archive_tree.specs.View.{node_view, nodes_view}
 use Rattle.archive_tree.specs.declared.node.ANode.{ANode}
-use Rattle.record_format.specs.Checks.{value_fits, label_fits, stamp_fits}
-use Rattle.record_format.proofs.Encodable.{label_there, label_back, value_there, value_back}
-use Rattle.record_format.proofs.HeaderLaws.{canonical_short}
-use Rattle.record_format.proofs.Sets.{stamp_there, stamp_back}
+use Rattle.record_parts.specs.Checks.{value_fits, label_fits, stamp_fits}
+use Rattle.record_parts.proofs.Encodable.{label_there, label_back, value_there, value_back}
+use Rattle.record_parts.proofs.Sets.{stamp_there, stamp_back}
 use Rattle.archive_file.specs.Goes.{fits_four, alts_go, node_goes, nodes_go, row_goes, HasBody, HasParts, HaveParts}
 use Rattle.archive_file.proofs.GoesLaws.{both-hold, lt-of, of-lt}
 
@@ -121,7 +120,7 @@ closed-fits ps h few g =
     } in
     all-append IsRec (records_of ps) (end ∷ []) (records-fit ps h) (record { body = is_dir; short = omega arith }, tt)
 
-set-in : (s : Stamp) (parent : List (ℕ × ℕ)) → IsStamp s → IsSet parent → IsSet (set_in s parent)
+pub set-in : (s : Stamp) (parent : List (ℕ × ℕ)) → IsStamp s → IsSet parent → IsSet (set_in s parent)
 set-in None parent h g = g
 set-in (Some s) parent h g = h.0
 
@@ -219,15 +218,15 @@ row-from set ks h =
 
 -- ---- files
 
-upto-set : (n : ℕ) → n ≤ most → IsSet (upto_pairs n)
+pub upto-set : (n : ℕ) → n ≤ most → IsSet (upto_pairs n)
 upto-set zero h = record { canonical = tt; within = tt }
 upto-set (suc n) h =
     let some : eqb (suc n) 0 ≡ false = grind (arith, nat_tests) in
     let one : ((1, suc n) ∷ []) ≡ upto_pairs (suc n) = ap (λ b. cond b [] ((1, suc n) ∷ [])) (sym some) in
     subst IsSet one (record { canonical = (omega arith, omega arith, tt); within = (h, tt) })
 
-pub has-file : (rules : List PlainRule) (a : PlainArchive) → closed (canonical rules) ≡ Ok rules → a.n ≤ most → IsTrue (row_goes a.kids) → length (file_bytes rules a) ≤ longest → HasFile rules a
-has-file rules a spec few goes short =
+pub has-file : (rules : List PlainRule) (a : PlainArchive) → length (canonical rules) ≤ 1048576 → a.n ≤ most → IsTrue (row_goes a.kids) → length (file_bytes rules a) ≤ longest → HasFile rules a
+has-file rules a text few goes short =
     let ps = root_pieces a in
     let end = end_rec (dir_of ps) in
     let two = both (fits_four (length (nodes_list a.kids))) (nodes_go a.kids) goes in
@@ -237,7 +236,6 @@ has-file rules a spec few goes short =
     let body = length-append (flat_map rec_bytes (file_records a)) (tail_bytes a) in
     let row = ap length (closed-bytes ps) ∙ length-append (flat_map piece_bytes ps) (rec_bytes end) in
     let fine = nodes-fine (upto_pairs a.n) a.kids (upto-set a.n few) two.1 (omega arith) in
-    let text = canonical_short (canonical rules) rules spec in
     record { text = omega arith; count = few; records = closed-fits ps fine (omega arith) (omega arith); short = short }
 
 pub file-goes : (rules : List PlainRule) (a : PlainArchive) → HasFile rules a → IsTrue (row_goes a.kids)
@@ -277,3 +275,13 @@ pub row-parts : (ks : PlainNodes) → IsTrue (row_goes ks) → (length (nodes_li
 row-parts ks h =
     let two = both (fits_four (length (nodes_list ks))) (nodes_go ks) h in
     (lt-of (length (nodes_list ks)) (2 ^ 32) two.0, parts-of-each ks two.1)
+
+-- ---- an END has an encoding where the nodes in front of it have theirs
+
+pub row-closes : (set : List (ℕ × ℕ)) (ks : PlainNodes) → IsSet set → AllByRecursion IsRec (records_of (node_pieces set ks)) → length (nodes_list ks) < 2 ^ 32
+    → length (flat_map rec_bytes (closed_by_end (node_pieces set ks))) < 2 ^ 64 → AllByRecursion IsRec (closed_by_end (node_pieces set ks))
+row-closes set ks is records few short =
+    let ps = node_pieces set ks in
+    let whole = ap length (closed-bytes ps) ∙ length-append (flat_map piece_bytes ps) (rec_bytes (end_rec (dir_of ps))) in
+    let count = pieces-length set ks in
+    closed-fits ps (nodes-fine set ks is (nodes-from set ks records) (omega arith)) (omega arith) short

@@ -12,7 +12,7 @@ use Rattle.keyed_tree.specs.Kids.{ascend}
 use Rattle.keyed_tree.specs.Laws.{label_cmp_total}
 use Rattle.keyed_tree.specs.Lists.{Ascends, Has}
 use Rattle.keyed_tree.specs.Order.{label_cmp}
-use Rattle.keyed_tree.specs.Plain.{name_bytes, content_of, attr_before, attr_onto, attrs_among, item_onto, items_among, plain}
+use Rattle.keyed_tree.specs.Plain.{name_bytes, attr_before, attr_onto, attrs_among, item_onto, items_among, plain}
 use Rattle.keyed_tree.specs.Proper.{is_tag, has_no_keys, is_scalar}
 use Rattle.keyed_tree.proofs.Kids.{kids_from-kids_list, ascend-all}
 use Rattle.keyed_tree.proofs.Lists.{any_has, has_all, has_any, not_itself}
@@ -23,8 +23,10 @@ use Rattle.key_rules.specs.Reach.{reach}
 use Rattle.key_rules.specs.Satisfies.{ItemIsGood, ItemsSatisfy, ContentSatisfies, EachSatisfies}
 use Rattle.key_rules.proofs.Law as law
 use Rattle.key_annotate.specs.Annotated.{label_or_bare, annotated, annotated_items}
+use Rattle.key_annotate.specs.Inside.{inside_of}
 use Rattle.key_annotate.specs.KeyedOf.{attr_leaf, InnerKeyed, ContentKeyed, EachIsKid, IsOfItem}
 use Rattle.key_annotate.proofs.InOrder.{Apart}
+use Rattle.key_annotate.proofs.Insides.{plain-is}
 use Rattle.key_annotate.proofs.KidsOf.{label-name, annotated-label, apart-differ}
 use Rattle.key_annotate.proofs.Sorted.{has_at}
 use Rattle.archive_file.specs.Fits.{leads, has_keys, is_attr_leaf, fits, each_fits}
@@ -165,17 +167,8 @@ module _ (rules : List PlainRule) (lead : PathsLead rules) where
 
 -- ---- what fits stands for the element that it spells
 
--- the content that a node spells
-abbrev pub inside_of : PlainKeyed → PlainContent
-inside_of (leaf l b) = content_of b
-inside_of (inner l ks) = content (attrs_among ks) (items_among ks)
-
 abbrev pub tag_of : PlainKeyed → List ℕ
 tag_of k = name_bytes (label_of k).name
-
-pub plain-is : (k : PlainKeyed) → plain k ≡ element (tag_of k) (inside_of k)
-plain-is (inner l ks) = refl
-plain-is (leaf l b) = refl
 
 -- the node stands for that element under a context
 pub record StandsAt (rules : List PlainRule) (context : List (List ℕ)) (k : PlainKeyed) : Type 0 where

@@ -9,8 +9,11 @@ use Rattle.jsonml_tree.specs.Fits.{IsElement}
 use Rattle.jsonml_tree.specs.WellFormed.{IsWellFormed}
 use Rattle.keyed_tree.specs.Data.{PlainKeyed, label_of}
 use Rattle.keyed_tree.specs.Plain.{plain}
+use Rattle.keyed_tree.specs.Kids.{IsOrdered}
 use Rattle.keyed_tree.specs.Proper.{IsProper}
+use Rattle.keyed_tree.specs.Proper as keyed
 use Rattle.keyed_tree.specs.WellFormed.{IsKeyedWellFormed}
+use Rattle.keyed_tree.proofs.KidsKeep.{proper_ordered}
 use Rattle.keyed_tree.proofs.PlainLemmas.{plain_well_formed}
 use Rattle.key_spec.specs.Data.{PlainRule}
 use Rattle.key_spec.specs.Rules.{below}
@@ -19,12 +22,14 @@ use Rattle.key_rules.specs.Satisfies.{AreApart, ContentSatisfies, Satisfies}
 use Rattle.key_annotate.specs.Annotated.{keyed_tree}
 use Rattle.key_annotate.specs.KeyedOf.{ContentKeyed, IsKeyedTreeOf}
 use Rattle.key_annotate.specs.Stands.{Stands}
-use Rattle.key_annotate.proofs.ProperLemmas.{keyed-proper, keyed_tree-depth}
+use Rattle.key_annotate.specs.Inside.{inside_of}
+use Rattle.key_annotate.proofs.Insides.{plain-is}
+use Rattle.key_annotate.proofs.ProperLemmas.{keyed-element, keyed-proper, keyed_tree-depth, keyed_tree-well}
 use Rattle.key_annotate.proofs.Unique.{keyed_tree-one}
 use Rattle.archive_file.specs.Fits.{fits}
 use Rattle.archive_file.specs.KeyedBy.{IsKeyedBy, AreKeyedBy}
 use Rattle.archive_file.specs.Sound.{SoundAs}
-use Rattle.archive_file.proofs.FitsLaws.{content-fits, inside_of, tag_of, plain-is, stands-at}
+use Rattle.archive_file.proofs.FitsLaws.{content-fits, tag_of, stands-at}
 use Rattle.archive_file.proofs.Ways.{PathsLead}
 
 -- what holds of a tree that is keyed
@@ -82,7 +87,21 @@ fit-keyed rules lead k well h =
 pub stands-keyed : (rules : List PlainRule) (t : PlainTree) (k : PlainKeyed) → IsElement t → IsWellFormed t → tree_depth t ≤ 120 → Stands rules t k → IsKeyedBy rules k
 stands-keyed rules t k e w d h = record { document = t; element = e; well_formed = w; shallow = d; satisfies = h.satisfies; stands = h.keyed }
 
--- ---- what is keyed is proper, and spells a document that is not too deep
+-- ---- what is keyed is an element, proper, ordered and well formed
+
+pub keyed-is_element : (rules : List PlainRule) (k : PlainKeyed) → IsKeyedBy rules k → keyed.IsElement k
+keyed-is_element rules k h = keyed-element rules h.document k h.stands
+
+pub keyed-is_proper : (rules : List PlainRule) (k : PlainKeyed) → IsKeyedBy rules k → IsProper k
+keyed-is_proper rules k h = keyed-proper rules h.document k h.stands
+
+pub keyed-is_ordered : (rules : List PlainRule) (k : PlainKeyed) → IsKeyedBy rules k → IsOrdered k
+keyed-is_ordered rules k h = proper_ordered k (keyed-is_proper rules k h)
+
+pub keyed-is_well_formed : (rules : List PlainRule) (k : PlainKeyed) → IsKeyedBy rules k → IsKeyedWellFormed k
+keyed-is_well_formed rules k h = subst IsKeyedWellFormed (sym (keyed_tree-one rules h.document k h.well_formed h.satisfies h.stands)) (keyed_tree-well rules h.document h.well_formed)
+
+-- ---- it spells a document that is not too deep
 
 keyed-plain : (rules : List PlainRule) (k : PlainKeyed) → IsKeyedBy rules k → IsProper k × (tree_depth (plain k) ≤ 120)
 keyed-plain rules k h =

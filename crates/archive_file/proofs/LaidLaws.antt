@@ -42,6 +42,13 @@ none-read None x e f = absurd cc
 pub record-is : (bytes : List ℕ) (at next : ℕ) (r : PlainRec) → IsBytes bytes → record_at (drop at bytes) ≡ Some (r, drop next bytes) → IsRec r
 record-is bytes at next r h e = (record_reads.takes (drop at bytes) (r, drop next bytes) (IsBytes-drop at bytes h) e).fits
 
+-- and spells it
+pub record-spelled : (bytes : List ℕ) (at next : ℕ) (r : PlainRec) → IsBytes bytes → record_at (drop at bytes) ≡ Some (r, drop next bytes) → drop at bytes ≡ rec_bytes r ++ drop next bytes
+record-spelled bytes at next r h e = (record_reads.takes (drop at bytes) (r, drop next bytes) (IsBytes-drop at bytes h) e).takes.parts
+
+pub frame-spelled : (bytes : List ℕ) (at next kind : ℕ) (body : List ℕ) → IsBytes bytes → frame_at (drop at bytes) ≡ Some ((kind, body), drop next bytes) → drop at bytes ≡ framed kind body ++ drop next bytes
+frame-spelled bytes at next kind body h e = (frame_found (drop at bytes) ((kind, body), drop next bytes) (IsBytes-drop at bytes h) e).takes.parts
+
 pub record-on : (bytes : List ℕ) (at next : ℕ) (r : PlainRec) → IsBytes bytes → record_at (drop at bytes) ≡ Some (r, drop next bytes) → next ≤ length bytes → at < next
 record-on bytes at next r h e le =
     let read = record_reads.takes (drop at bytes) (r, drop next bytes) (IsBytes-drop at bytes h) e in
@@ -262,10 +269,10 @@ pub record NodeFirst (set : List (ℕ × ℕ)) (ks : PlainNodes) (rest : List �
   pub on : (k : PlainNode) (after : List ℕ) → k ≡ first → after ≡ behind → RowLeft set ks rest depth (done ++ k ∷ []) after
 
 row-cases : (set : List (ℕ × ℕ)) (ks : PlainNodes) (rest : List ℕ) (depth : ℕ) (done : List PlainNode) (left : PlainNodes) (now : List ℕ) → ks ≡ nodes_from (done ++ nodes_list left) → NodesAt set (end_of set ks) left rest depth now
-    → (f : (ℕ × List ℕ) × List ℕ) → frame_at now ≡ Some f → ((f.0.0 ≡ 4) × (nodes_from done ≡ ks) × (f.1 ≡ rest)) ⊎ ((¬ (f.0.0 ≡ 4)) × NodeFirst set ks rest depth done now)
+    → (f : (ℕ × List ℕ) × List ℕ) → frame_at now ≡ Some f → ((f.0.0 ≡ 4) × (nodes_from done ≡ ks) × (f.1 ≡ rest) × (f.0.1 ≡ body_bytes (end_of set ks))) ⊎ ((¬ (f.0.0 ≡ 4)) × NodeFirst set ks rest depth done now)
 row-cases set ks rest depth done no_nodes now split h f e =
     let p = same-read (frame_at now) _ f (first-frame (end_of set ks) [] rest now h.records.0 h.bytes) e in
-    inl (ap (λ (z : (ℕ × List ℕ) × List ℕ). z.0.0) (sym p), sym (split ∙ ap nodes_from (append-nil done)), ap (λ (z : (ℕ × List ℕ) × List ℕ). z.1) (sym p))
+    inl (ap (λ (z : (ℕ × List ℕ) × List ℕ). z.0.0) (sym p), sym (split ∙ ap nodes_from (append-nil done)), ap (λ (z : (ℕ × List ℕ) × List ℕ). z.1) (sym p), ap (λ (z : (ℕ × List ℕ) × List ℕ). z.0.1) (sym p))
 row-cases set ks rest depth done (node k left) now split h f e =
     let end = end_of set ks in
     let t = then-node set end k left rest depth now h in
@@ -286,9 +293,9 @@ row-cases set ks rest depth done (node k left) now split h f e =
     )
 
 pub row-end : (set : List (ℕ × ℕ)) (ks : PlainNodes) (rest : List ℕ) (depth : ℕ) (done : List PlainNode) (now : List ℕ) → RowLeft set ks rest depth done now
-    → (kind : ℕ) (body after : List ℕ) → frame_at now ≡ Some ((kind, body), after) → kind ≡ 4 → (nodes_from done ≡ ks) × (after ≡ rest)
+    → (kind : ℕ) (body after : List ℕ) → frame_at now ≡ Some ((kind, body), after) → kind ≡ 4 → (nodes_from done ≡ ks) × (after ≡ rest) × (body ≡ body_bytes (end_of set ks))
 row-end set ks rest depth done now h kind body after e four =
-    elim (row-cases set ks rest depth done h.left now h.split h.lies ((kind, body), after) e) [ inl x ↦ (x.1, x.2) | inr y ↦ absurd (y.0 four) ]
+    elim (row-cases set ks rest depth done h.left now h.split h.lies ((kind, body), after) e) [ inl x ↦ (x.1, x.2, x.3) | inr y ↦ absurd (y.0 four) ]
 
 pub row-node : (set : List (ℕ × ℕ)) (ks : PlainNodes) (rest : List ℕ) (depth : ℕ) (done : List PlainNode) (now : List ℕ) → RowLeft set ks rest depth done now
     → (kind : ℕ) (body after : List ℕ) → frame_at now ≡ Some ((kind, body), after) → ¬ (kind ≡ 4) → NodeFirst set ks rest depth done now

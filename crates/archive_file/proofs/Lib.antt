@@ -14,6 +14,7 @@ pub mod FileLaws
 pub mod PutLaws
 pub mod LaidLaws
 pub mod WellLaws
+pub mod ReadLaws
 pub mod SoundLaws
 pub mod OneReading
 pub mod FewItems

@@ -39,7 +39,7 @@ inner-parts n l s xs e h =
     let few = parts.1 in
     (omega arith, parts.2)
 
-set_in-is : (s : Stamp) (parent : List (ℕ × ℕ)) → unwrap_or s parent ≡ set_in s parent
+pub set_in-is : (s : Stamp) (parent : List (ℕ × ℕ)) → unwrap_or s parent ≡ set_in s parent
 set_in-is None parent = refl
 set_in-is (Some s) parent = refl
 

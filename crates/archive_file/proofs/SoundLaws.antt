@@ -1,6 +1,6 @@
 -- What a sound archive says of its bytes.
-use Rattle.std.proofs.Common.{◌≡◌, ℕ, ◌-◌, Bool, true, false, cond, ltb, not, ◌&&◌, IsTrue, List, [], ◌∷◌, ◌++◌, map, length, Option, Some, None, refl, sym, ap, subst, ◌∙◌, true≢false}
-use Rattle.std.specs.List.{AllByRecursion}
+use Rattle.std.proofs.Common.{◌≡◌, ℕ, ◌-◌, ◌≤◌, Bool, true, false, cond, ltb, not, ◌&&◌, IsTrue, List, [], ◌∷◌, ◌++◌, map, length, Option, Some, None, refl, sym, ap, subst, ◌∙◌, true≢false, arith}
+use Rattle.std.specs.List.{flat_map, AllByRecursion}
 use Rattle.key_spec.specs.Data.{PlainRule}
 use Rattle.key_spec.specs.Canonical.{canonical}
 use Rattle.key_spec.specs.Rules.{rule_of, is_frontier, below}
@@ -9,17 +9,20 @@ use Rattle.keyed_tree.specs.Plain.{name_bytes}
 use Rattle.keyed_tree.specs.Proper.{is_tag}
 use Rattle.keyed_tree.specs.WellFormed.{is_label_well_formed, is_key_well_formed}
 use Rattle.keyed_tree.proofs.Kids.{both}
-use Rattle.archive_tree.specs.Data.{PlainAlt, PlainNode, inner_node, leaf_node, PlainNodes, no_nodes, node, node_label}
+use Rattle.archive_tree.specs.Data.{PlainAlt, PlainNode, inner_node, leaf_node, PlainNodes, no_nodes, node, node_label, PlainArchive}
 use Rattle.archive_tree.specs.Stands.{ArchiveOf}
 use Rattle.archive_tree.specs.WellFormed.{are_alts_well_formed, is_node_well_formed, are_nodes_well_formed, IsNodeWellFormed, AreNodesWellFormed}
 use Rattle.xa_fields.proofs.Fields.{some_is}
 use Rattle.version_set.specs.Members.{upto_pairs}
+use Rattle.xa_fields.specs.Spelling.{u64_bytes}
 use Rattle.record_format.specs.Data.{end_rec, leaf_end}
+use Rattle.record_format.specs.Spelling.{dir_bytes, rec_bytes}
 use Rattle.record_format.specs.Bounds.{IsRec}
+use Rattle.record_parts.specs.Bounds.{most}
 use Rattle.record_format.specs.Nodes.{dir_of, alt_of, set_in, node_piece, node_pieces, closed_by_end}
-use Rattle.record_format.specs.Files.{tail_bytes}
+use Rattle.record_format.specs.Files.{header_bytes, file_records, tail_bytes, file_bytes, longest, FileOf}
 use Rattle.record_format.specs.Fronts.{header_at}
-use Rattle.archive_file.specs.Laid.{is_nested, are_nested, RowAt}
+use Rattle.archive_file.specs.Laid.{is_nested, are_nested, IsFront, RowAt}
 use Rattle.archive_file.specs.NodeFits.{node_has_keys, is_attr_node, node_fits, nodes_fit, is_shallow, are_shallow}
 use Rattle.archive_file.specs.Sound.{SoundAs}
 use Rattle.archive_file.proofs.ArchiveKeyed.{archive-keyed}
@@ -49,7 +52,7 @@ mutual
       let more = records_of (node_pieces parent ks) in
       both-hold (is_node_well_formed k) (are_nodes_well_formed ks) (node-well parent k (all-front IsRec p.records more h)) (nodes-well parent ks (all-back IsRec p.records more h))
 
-row-well : (set : List (ℕ × ℕ)) (ks : PlainNodes) → AllByRecursion IsRec (closed_by_end (node_pieces set ks)) → AreNodesWellFormed ks
+pub row-well : (set : List (ℕ × ℕ)) (ks : PlainNodes) → AllByRecursion IsRec (closed_by_end (node_pieces set ks)) → AreNodesWellFormed ks
 row-well set ks h = (let ps = node_pieces set ks in nodes-well set ks (all-front IsRec (records_of ps) (end_rec (dir_of ps) ∷ []) h))
 
 -- ---- inner nodes stand for elements, so they nest no deeper
@@ -121,3 +124,26 @@ pub sound-archive : (rules : List PlainRule) (vs : List PlainKeyed) (bytes : Lis
 sound-archive rules vs bytes s n ks e f =
     let same : s.file.archive ≡ record { n = n; kids = ks } = (λ i. record { n = sym e i; kids = sym f i }) in
     subst (ArchiveOf vs) same s.file.is
+
+-- what stands behind its nodes
+pub sound-tail : (rules : List PlainRule) (vs : List PlainKeyed) (bytes : List ℕ) (s : SoundAs rules vs bytes) (n : ℕ) (ks : PlainNodes) (rest : List ℕ) (dir : ℕ) → n ≡ s.file.archive.n → ks ≡ s.file.archive.kids
+    → rest ≡ tail_bytes s.file.archive → dir ≡ length (dir_bytes (dir_of (node_pieces (upto_pairs n) ks))) → rest ≡ u64_bytes dir
+sound-tail rules vs bytes s n ks rest dir count kids e d =
+    e ∙ ap u64_bytes (λ i. length (dir_bytes (dir_of (node_pieces (upto_pairs (sym count i)) (sym kids i))))) ∙ ap u64_bytes (sym d)
+
+pub sound-short : (rules : List PlainRule) (vs : List PlainKeyed) (bytes : List ℕ) (s : SoundAs rules vs bytes) → length bytes ≤ longest
+sound-short rules vs bytes s = (let short = s.file.has.short in omega (arith, ap length s.file.spelled))
+
+-- ---- what was read makes a file
+
+pub read-file : (rules : List PlainRule) (n : ℕ) (ks : PlainNodes) (rest now bytes : List ℕ) (dir depth : ℕ) → IsFront rules n now bytes → n ≤ most → RowAt (upto_pairs n) ks rest depth now → rest ≡ u64_bytes dir
+    → dir ≡ length (dir_bytes (dir_of (node_pieces (upto_pairs n) ks))) → length bytes ≤ longest → (a : PlainArchive) → a ≡ record { n = n; kids = ks } → (vs : List PlainKeyed) → ArchiveOf vs a → FileOf rules vs bytes
+read-file rules n ks rest now bytes dir depth front few row tail d short a same vs at =
+    let own : PlainArchive = record { n = n; kids = ks } in
+    let spelled : bytes ≡ file_bytes rules own = front.bytes ∙ ap (λ (z : List ℕ). header_bytes rules n ++ z) (row.bytes ∙ ap (λ (z : List ℕ). flat_map rec_bytes (file_records own) ++ z) (tail ∙ ap u64_bytes d)) in
+    record {
+      archive = own;
+      is = subst (ArchiveOf vs) same at;
+      has = record { text = front.text; count = few; records = row.records; short = omega (arith, ap length spelled) };
+      spelled = spelled;
+    }

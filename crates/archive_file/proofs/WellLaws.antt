@@ -8,7 +8,7 @@ use Rattle.keyed_tree.specs.Data.{PlainKey, scalar, inside, PlainLabel}
 use Rattle.keyed_tree.specs.WellFormed.{is_key_well_formed, are_keys_well_formed, IsKeyWellFormed, IsLabelWellFormed}
 use Rattle.archive_tree.specs.Data.{PlainAlt, PlainNode, nodes_from}
 use Rattle.archive_tree.specs.WellFormed.{are_alts_well_formed, is_node_well_formed, are_nodes_well_formed}
-use Rattle.record_format.specs.Bounds.{IsScalar, IsAttr, IsItem, IsInside, AreItems, IsValue, IsLabel}
+use Rattle.record_parts.specs.Bounds.{IsScalar, IsAttr, IsItem, IsInside, AreItems, IsValue, IsLabel}
 use Rattle.keyed_tree.proofs.Kids.{both}
 use Rattle.archive_file.specs.Laid.{is_nested, are_nested}
 use Rattle.archive_file.proofs.GoesLaws.{both-hold}

@@ -2,8 +2,8 @@
 use Rattle.std.specs.Prelude.{ℕ, ◌^◌, Bool, true, ◌&&◌, nat_lt, List, [], ◌∷◌, length, ⊤, ◌<◌}
 use Rattle.std.specs.List.{AllByRecursion}
 use Rattle.archive_tree.specs.Data.{PlainAlt, PlainNode, inner_node, leaf_node, PlainNodes, no_nodes, node, nodes_list}
-use Rattle.record_format.specs.Bounds.{IsValue, IsLabel}
-use Rattle.record_format.specs.Checks.{value_fits, label_fits, stamp_fits}
+use Rattle.record_parts.specs.Bounds.{IsValue, IsLabel}
+use Rattle.record_parts.specs.Checks.{value_fits, label_fits, stamp_fits}
 
 -- the number fits four bytes
 abbrev pub fits_four : ℕ → Bool

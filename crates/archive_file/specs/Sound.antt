@@ -4,7 +4,7 @@ use Rattle.key_spec.specs.Data.{PlainRule}
 use Rattle.key_spec.specs.Canonical.{canonical}
 use Rattle.key_spec.specs.Closed.{closed}
 use Rattle.keyed_tree.specs.Data.{PlainKeyed}
-use Rattle.record_format.specs.Bounds.{most}
+use Rattle.record_parts.specs.Bounds.{most}
 use Rattle.record_format.specs.Files.{FileOf}
 use Rattle.archive_file.specs.KeyedBy.{AreKeyedBy}
 

@@ -1,34 +1,34 @@
 // The file of an archive.
-ghost use Rattle.std.specs.Prelude.{◌≡◌, ◌≤◌, ◌<◌, ◌^◌, ◌++◌, ℕ, List, length, map, Ok, ◌-◌, OnOk, IfOk, IfErr};
+ghost use Rattle.std.specs.Prelude.{◌≡◌, ◌≤◌, ◌<◌, ◌^◌, ◌++◌, ℕ, List, length, map, OnOk, IfOk, IfErr};
 ghost use Rattle.std.specs.List.{flat_map, AllByRecursion};
 ghost use Rattle.version_set.specs.View.{pairs_of};
 ghost use Rattle.keyed_tree.specs.Data.{PlainKeyed};
 ghost use Rattle.key_spec.specs.Canonical.{canonical};
-ghost use Rattle.key_spec.specs.Closed.{closed};
 ghost use Rattle.key_spec.specs.View.{spec_view};
 ghost use Rattle.archive_tree.specs.ArchiveView.{archive_view};
 ghost use Rattle.archive_tree.specs.Data.{nodes_list};
 ghost use Rattle.archive_tree.specs.Stands.{ArchiveOf};
 ghost use Rattle.archive_tree.specs.View.{alt_view, node_view, nodes_view};
-ghost use Rattle.record_format.specs.View.{entry_view, dir_view};
+ghost use Rattle.record_format.specs.View.{entry_view};
 ghost use Rattle.record_format.specs.Spelling.{rec_bytes, dir_bytes};
-ghost use Rattle.record_format.specs.Nodes.{piece_bytes, dir_of, closed_by_end, alt_of, node_piece, node_pieces};
+ghost use Rattle.record_format.specs.Nodes.{piece_bytes, entries_from, dir_of, closed_by_end, alt_of, node_piece, node_pieces};
 ghost use Rattle.record_format.specs.Files.{file_bytes, FileOf};
 ghost use Rattle.archive_file.specs.KeyedBy.{AreKeyedBy};
 ghost use Rattle.archive_file.specs.Goes.{HasBody, HasParts, HaveParts};
 ghost use Rattle.archive_file.specs.Faults.{IfTooLong};
 
+use crate::ends::{entry_of, sets_of};
 use crate::fault::EncodeFault;
 use crate::goes::row_goes;
 use archive_tree::{ANode, Alt, Archive, effective};
 use key_spec::Spec;
-use record_format::{Dir, Entry, put_alt, put_end, put_header, put_inner, put_leaf, put_leaf_end};
+use record_format::{Entry, put_alt, put_end, put_header, put_inner, put_leaf, put_leaf_end};
 use std::alloc::{AllocError, Global};
 use version_set::VersionSet;
 use xa_fields::put_u64;
 
 /// An archive file has at most so many bytes.
-const LONGEST: usize = 274_877_906_944;
+pub(crate) const LONGEST: usize = 274_877_906_944;
 
 /// The bytes of the archive file of an archive under a specification that keys its versions.
 ///
@@ -36,10 +36,12 @@ const LONGEST: usize = 274_877_906_944;
 /// is written once; a directory of k children takes k log k steps.
 pub fn encode_file(alloc: Global, spec: &Spec, archive: &Archive) -> Result<Vec<u8>, EncodeFault>
     requires few { (archive_view archive.now).n ≤ 999999 }
-    requires keyed { (vs : List PlainKeyed) → ArchiveOf vs (archive_view archive.now) → AreKeyedBy (spec_view spec.now) vs }
-    ensures file { IfOk result (λ v. (vs : List PlainKeyed) → ArchiveOf vs (archive_view archive.now) → FileOf (spec_view spec.now) vs v.items) }
-    ensures too_long { IfErr result
-        (λ e. IfTooLong e ((vs : List PlainKeyed) (bytes : List ℕ) → ArchiveOf vs (archive_view archive.now) → ¬ (FileOf (spec_view spec.now) vs bytes))) }
+    requires keyed { (vs : List PlainKeyed)
+        → ArchiveOf vs (archive_view archive.now) → AreKeyedBy (spec_view spec.now) vs }
+    ensures file { IfOk result (λ v. (vs : List PlainKeyed)
+        → ArchiveOf vs (archive_view archive.now) → FileOf (spec_view spec.now) vs v.items) }
+    ensures too_long { IfErr result (λ e. IfTooLong e ((vs : List PlainKeyed) (bytes : List ℕ)
+        → ArchiveOf vs (archive_view archive.now) → ¬ (FileOf (spec_view spec.now) vs bytes))) }
 {
     if !row_goes(archive.kids()) {
         return Err(EncodeFault::TooLong);
@@ -55,7 +57,7 @@ fn file_of(alloc: Global, spec: &Spec, archive: &Archive) -> Result<Vec<u8>, All
     requires few { length (nodes_list (archive_view archive.now).kids) < 2 ^ 32 }
     requires parts { HaveParts (archive_view archive.now).kids }
     ensures bytes { IfOk result (λ v. v.items ≡ file_bytes (spec_view spec.now) (archive_view archive.now)) }
-    ensures spec { IfOk result (λ v. closed (canonical (spec_view spec.now)) ≡ Ok (spec_view spec.now)) }
+    ensures short { IfOk result (λ v. length (canonical (spec_view spec.now)) ≤ 1048576) }
 {
     let mut out = Vec::new(alloc);
     put_header(alloc, &mut out, spec, archive.n())?;
@@ -79,13 +81,14 @@ fn put_row(
     ensures bytes { OnOk result (out.new.items ≡ out.old.items ++ flat_map rec_bytes (closed_by_end (node_pieces (pairs_of set.now) (nodes_view nodes.now)))) }
     ensures dir { IfOk result (λ d. d ≡ length (dir_bytes (dir_of (node_pieces (pairs_of set.now) (nodes_view nodes.now))))) }
 {
-    let dir = put_nodes(alloc, out, set, nodes)?;
+    let entries = put_nodes(alloc, out, set, nodes)?;
+    let sets = sets_of(alloc, set, nodes)?;
     let at = out.len();
-    put_end(alloc, out, &dir.entries, &dir.sets)?;
+    put_end(alloc, out, &entries, &sets)?;
     Ok((out.len() - at - 9) as u64)
 }
 
-// The records of the nodes, and the directory of the node that has them as its kids.
+// The records of the nodes. It answers their entries in the directory of the node that has them as its kids.
 #[cycle(put)]
 #[tactic(auto, using(archive_tree::proofs::NodeViews::nodes))]
 fn put_nodes(
@@ -93,37 +96,20 @@ fn put_nodes(
     out: &mut Vec<u8>,
     set: &VersionSet,
     nodes: &[ANode],
-) -> Result<Dir, AllocError>
+) -> Result<Vec<Entry>, AllocError>
     requires { HaveParts (nodes_view nodes.now) }
     ensures bytes { OnOk result (out.new.items ≡ out.old.items ++ flat_map piece_bytes (node_pieces (pairs_of set.now) (nodes_view nodes.now))) }
-    ensures dir { IfOk result (λ d. dir_view d ≡ dir_of (node_pieces (pairs_of set.now) (nodes_view nodes.now))) }
-    ensures entries { IfOk result (λ d. length d.entries.items ≡ length nodes.now) }
-    ensures sets { IfOk result (λ d. length d.sets.items ≡ length nodes.now) }
+    ensures entries { IfOk result (λ es. map entry_view es.items ≡ entries_from 0 (node_pieces (pairs_of set.now) (nodes_view nodes.now))) }
+    ensures each { IfOk result (λ es. length es.items ≡ length nodes.now) }
 {
     let base = out.len();
     let mut entries = Vec::new(alloc);
-    let mut sets = Vec::new(alloc);
     for node in nodes {
         let start = out.len();
         let dir = put_node(alloc, out, set, node)?;
-        let entry = entry_of(base, start, out.len(), dir);
-        entries.push(entry)?;
-        sets.push(effective(node.stamp(), set).copy()?)?;
+        entries.push(entry_of(base, start, out.len(), dir))?;
     }
-    Ok(Dir { entries, sets })
-}
-
-// The entry of what stands from the start to the end, in a row that begins at the base.
-fn entry_of(base: usize, start: usize, end: usize, dir: u64) -> Entry
-    requires after { base ≤ start }
-    requires within { start ≤ end }
-    ensures { entry_view result ≡ record { start = start - base; length = end - start; dir = dir } }
-{
-    Entry {
-        start: (start - base) as u64,
-        length: (end - start) as u64,
-        dir,
-    }
+    Ok(entries)
 }
 
 // The records of a node under a parent that has the set. It answers the length of the body of its END, or 0 for a leaf.

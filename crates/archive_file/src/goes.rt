@@ -3,11 +3,9 @@ ghost use Rattle.std.specs.Prelude.{◌≡◌, map};
 ghost use Rattle.archive_tree.specs.View.{alt_view, node_view, nodes_view};
 ghost use Rattle.archive_file.specs.Goes.{alts_go, node_goes, nodes_go, row_goes};
 
+use crate::ends::FOUR_BYTES;
 use archive_tree::{ANode, Alt};
 use record_format::{is_label, is_stamp, is_value};
-
-/// Counts have four bytes.
-const FOUR_BYTES: usize = 4_294_967_296;
 
 fn alts_go(alts: &[Alt]) -> bool
     ensures { result ≡ alts_go (map alt_view alts.now) }

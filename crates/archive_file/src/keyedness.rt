@@ -28,7 +28,8 @@ use std::alloc::{AllocError, Global};
 /// path looked up by halving at each of its tags. It stops at the first node that does not fit. Recursion is at most
 /// 120 levels deep, and takes memory only for the path of the node.
 pub fn is_keyed(alloc: Global, spec: &Spec, archive: &Archive) -> Result<bool, AllocError>
-    ensures keyed { (vs : List PlainKeyed) → ArchiveOf vs (archive_view archive.now) → IfOk result (λ b. IsTrue b ↔ AreKeyedBy (spec_view spec.now) vs) }
+    ensures keyed { (vs : List PlainKeyed) → ArchiveOf vs (archive_view archive.now)
+        → IfOk result (λ b. IsTrue b ↔ AreKeyedBy (spec_view spec.now) vs) }
 
     // A law: versions that are keyed by one specification are alike.
     ensures alike { (vs : List PlainKeyed) → AreKeyedBy (spec_view spec.now) vs → AllAlike vs }

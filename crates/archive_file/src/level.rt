@@ -4,15 +4,14 @@ ghost use Rattle.std.specs.List.{list_all};
 ghost use Rattle.jsonml_tree.specs.Data.{tree_depth, trees_depth, content_depth};
 ghost use Rattle.jsonml_tree.specs.View.{tree_view, items_view};
 ghost use Rattle.keyed_tree.specs.Plain.{content_of};
-ghost use Rattle.keyed_tree.specs.Proper.{is_tag};
-ghost use Rattle.keyed_tree.specs.View.{key_view, name_view};
+ghost use Rattle.keyed_tree.specs.View.{key_view};
 ghost use Rattle.archive_tree.specs.Data.{PlainAlt};
 ghost use Rattle.archive_tree.specs.View.{alt_view, node_view, nodes_view};
 ghost use Rattle.archive_file.specs.NodeFits.{is_shallow, are_shallow};
 
 use archive_tree::{ANode, Alt};
 use jsonml_tree::Tree;
-use keyed_tree::{Body, KeyVal, Name};
+use keyed_tree::{Body, KeyVal};
 
 /// Whether elements nest at most so deep from these nodes on. It goes no deeper than that.
 #[cycle(level)]
@@ -21,7 +20,7 @@ pub(crate) fn are_shallow(nodes: &[ANode], left: u32) -> bool
     ensures { result ≡ are_shallow left (nodes_view nodes.now) }
 {
     for node in nodes {
-        if is_tag(&node.label().name) && !is_shallow(node, left) {
+        if node.label().name.is_tag() && !is_shallow(node, left) {
             return false;
         }
     }
@@ -36,15 +35,6 @@ fn is_shallow(node: &ANode, left: u32) -> bool
     match node {
         ANode::Inner { kids, .. } => left > 0 && are_shallow(kids, left - 1),
         ANode::Leaf { alts, .. } => are_alts_shallow(alts, left),
-    }
-}
-
-pub(crate) fn is_tag(name: &Name) -> bool
-    ensures { result ≡ is_tag (name_view name.now) }
-{
-    match name {
-        Name::Attr(_) => false,
-        Name::Tag(_) => true,
     }
 }
 

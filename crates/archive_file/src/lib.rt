@@ -3,10 +3,12 @@
 
 mod decode;
 mod encode;
+mod ends;
 mod fault;
 mod front;
 mod goes;
 mod keyedness;
+mod laws;
 mod lead;
 mod level;
 mod reading;
@@ -16,3 +18,4 @@ pub use encode::encode_file;
 pub use fault::{EncodeFault, FileFault};
 pub use front::{fixed_of, header_of};
 pub use keyedness::is_keyed;
+pub use laws::{keyed_versions_can_be_merged, sound_archives_have_one_reading};

@@ -1,27 +1,30 @@
 // The nodes that lie in the bytes of a file.
 //
-// What stands in the ENDs is not read: whoever asks for the nodes compares the bytes with those of the archive that they make.
-ghost use Rattle.std.specs.Prelude.{◌≡◌, ◌≤◌, ◌<◌, ◌∷◌, ℕ, List, [], length, drop, map, Some, None, IsTrue, IfOk, IfErr};
+// Each END is compared with the one that the nodes in front of it make, so the bytes are known to be those of the nodes.
+ghost use Rattle.std.specs.Prelude.{◌≡◌, ◌≤◌, ◌<◌, ◌++◌, ℕ, List, length, drop, map, Some, None, IfOk, IfErr};
+ghost use Rattle.version_set.specs.View.{pairs_of};
 ghost use Rattle.archive_tree.specs.Data.{PlainAlt, PlainNode, PlainNodes};
 ghost use Rattle.archive_tree.specs.View.{alt_view, node_view, nodes_view};
-ghost use Rattle.archive_tree.specs.WellFormed.{are_alts_well_formed, IsNodeWellFormed, AreNodesWellFormed};
 ghost use Rattle.record_format.specs.Bounds.{IsRec};
+ghost use Rattle.record_parts.specs.Bounds.{IsSet};
+ghost use Rattle.record_format.specs.Nodes.{dir_of, node_piece, node_pieces};
 ghost use Rattle.record_format.specs.Reading.{record_at};
+ghost use Rattle.record_format.specs.Spelling.{dir_bytes, rec_bytes};
 ghost use Rattle.record_format.specs.View.{rec_view};
 ghost use Rattle.archive_file.specs.Faults.{IfDamage};
-ghost use Rattle.archive_file.specs.Laid.{is_nested, are_nested, AltsAt, NodeAt, RowAt, Finds};
+ghost use Rattle.archive_file.specs.Laid.{AltsAt, NodeAt, RowAt, Finds};
 
+use crate::ends::{entry_of, is_directory};
 use crate::fault::FileFault;
-use archive_tree::{ANode, Alt};
-use record_format::{Rec, RecFault, take_frame, take_record};
+use archive_tree::{ANode, Alt, effective};
+use record_format::{END, Rec, RecFault, take_frame, take_record};
 use std::alloc::Global;
-
-/// The kind of the record that closes a row.
-const END: u8 = 4;
+use version_set::VersionSet;
 
 fn read_record(alloc: Global, bytes: &[u8], at: usize) -> Result<(Rec, usize), FileFault>
     ensures found { IfOk result (λ r. record_at (drop at bytes.now) ≡ Some (rec_view r.0, drop r.1 bytes.now)) }
     ensures is { IfOk result (λ r. IsRec (rec_view r.0)) }
+    ensures spelled { IfOk result (λ r. drop at bytes.now ≡ rec_bytes (rec_view r.0) ++ drop r.1 bytes.now) }
     ensures further { IfOk result (λ r. at < r.1) }
     ensures within { IfOk result (λ r. r.1 ≤ length bytes.now) }
     ensures damage { IfErr result (λ e. IfDamage e (record_at (drop at bytes.now) ≡ None)) }
@@ -36,7 +39,7 @@ fn read_record(alloc: Global, bytes: &[u8], at: usize) -> Result<(Rec, usize), F
 // The alternatives of a leaf, to the record that closes it, and the offset behind that. Most leaves have one.
 fn read_alts(alloc: Global, bytes: &[u8], start: usize) -> Result<(Vec<Alt>, usize), FileFault>
     ensures found { (xs : List PlainAlt) (rest : List ℕ) → AltsAt xs rest (drop start bytes.now) → Finds result (λ r. (map alt_view r.0.items ≡ xs) × (drop r.1 bytes.now ≡ rest)) }
-    ensures well_formed { IfOk result (λ r. IsTrue (are_alts_well_formed (map alt_view r.0.items))) }
+    ensures lie { IfOk result (λ r. AltsAt (map alt_view r.0.items) (drop r.1 bytes.now) (drop start bytes.now)) }
     ensures further { IfOk result (λ r. start < r.1) }
     ensures within { IfOk result (λ r. r.1 ≤ length bytes.now) }
 {
@@ -55,17 +58,21 @@ fn read_alts(alloc: Global, bytes: &[u8], start: usize) -> Result<(Vec<Alt>, usi
     }
 }
 
-// The node at the offset, in which inner nodes nest at most so deep, and the offset behind it.
+// The node at the offset under a parent that has the set, in which inner nodes nest at most so deep. With it come the offset
+// behind it and the length of the body of its END, or 0 for a leaf.
 #[cycle(read)]
 fn read_node(
     alloc: Global,
     bytes: &[u8],
     at: usize,
     depth: u32,
-) -> Result<(ANode, usize), FileFault>
-    ensures found { (parent : List (ℕ × ℕ)) (k : PlainNode) (rest : List ℕ) → NodeAt parent k rest depth (drop at bytes.now) → Finds result (λ r. (node_view r.0 ≡ k) × (drop r.1 bytes.now ≡ rest)) }
-    ensures well_formed { IfOk result (λ r. IsNodeWellFormed (node_view r.0)) }
-    ensures nested { IfOk result (λ r. IsTrue (is_nested depth (node_view r.0))) }
+    parent: &VersionSet,
+) -> Result<(ANode, usize, u64), FileFault>
+    requires { IsSet (pairs_of parent.now) }
+    ensures found { (k : PlainNode) (rest : List ℕ) → NodeAt (pairs_of parent.now) k rest depth (drop at bytes.now)
+        → Finds result (λ r. (node_view r.0 ≡ k) × (drop r.1 bytes.now ≡ rest)) }
+    ensures lies { IfOk result (λ r. NodeAt (pairs_of parent.now) (node_view r.0) (drop r.1 bytes.now) depth (drop at bytes.now)) }
+    ensures dir { IfOk result (λ r. r.2 ≡ (node_piece (pairs_of parent.now) (node_view r.0)).dir) }
     ensures further { IfOk result (λ r. at < r.1) }
     ensures within { IfOk result (λ r. r.1 ≤ length bytes.now) }
 {
@@ -75,12 +82,13 @@ fn read_node(
             if depth == 0 {
                 return Err(FileFault::Damage);
             }
-            let (kids, end) = read_row(alloc, bytes, next, depth - 1)?;
-            Ok((ANode::Inner { label, stamp, kids }, end))
+            let set = effective(&stamp, parent);
+            let (kids, end, dir) = read_row(alloc, bytes, next, depth - 1, set)?;
+            Ok((ANode::Inner { label, stamp, kids }, end, dir))
         }
         Rec::Leaf { label, stamp } => {
             let (alts, end) = read_alts(alloc, bytes, next)?;
-            Ok((ANode::Leaf { label, stamp, alts }, end))
+            Ok((ANode::Leaf { label, stamp, alts }, end, 0))
         }
         Rec::Alt { .. } => Err(FileFault::Damage),
         Rec::End { .. } => Err(FileFault::Damage),
@@ -88,31 +96,39 @@ fn read_node(
     }
 }
 
-/// The nodes from the offset to the END that closes their row, in which inner nodes nest at most so deep, and the offset
-/// behind that END.
+/// The nodes from the offset to the END that closes their row under a node that has the set, in which inner nodes nest at most
+/// so deep. With them come the offset behind that END and the length of its body.
 #[cycle(read)]
 pub fn read_row(
     alloc: Global,
     bytes: &[u8],
     start: usize,
     depth: u32,
-) -> Result<(Vec<ANode>, usize), FileFault>
-    ensures found { (set : List (ℕ × ℕ)) (ks : PlainNodes) (rest : List ℕ) → RowAt set ks rest depth (drop start bytes.now) → Finds result (λ r. (nodes_view r.0.items ≡ ks) × (drop r.1 bytes.now ≡ rest)) }
-    ensures well_formed { IfOk result (λ r. AreNodesWellFormed (nodes_view r.0.items)) }
-    ensures nested { IfOk result (λ r. IsTrue (are_nested depth (nodes_view r.0.items))) }
+    set: &VersionSet,
+) -> Result<(Vec<ANode>, usize, u64), FileFault>
+    requires { IsSet (pairs_of set.now) }
+    ensures found { (ks : PlainNodes) (rest : List ℕ) → RowAt (pairs_of set.now) ks rest depth (drop start bytes.now)
+        → Finds result (λ r. (nodes_view r.0.items ≡ ks) × (drop r.1 bytes.now ≡ rest)) }
+    ensures lie { IfOk result (λ r. RowAt (pairs_of set.now) (nodes_view r.0.items) (drop r.1 bytes.now) depth (drop start bytes.now)) }
+    ensures dir { IfOk result (λ r. r.2 ≡ length (dir_bytes (dir_of (node_pieces (pairs_of set.now) (nodes_view r.0.items))))) }
     ensures further { IfOk result (λ r. start ≤ r.1) }
     ensures within { IfOk result (λ r. r.1 ≤ length bytes.now) }
 {
     let mut nodes = Vec::new(alloc);
+    let mut entries = Vec::new(alloc);
     let mut at = start;
     loop {
-        let Some((kind, _, next)) = take_frame(bytes, at) else {
+        let Some((kind, body, next)) = take_frame(bytes, at) else {
             return Err(FileFault::Damage);
         };
         if kind == END {
-            return Ok((nodes, next));
+            if !is_directory(alloc, body, set, &nodes, &entries)? {
+                return Err(FileFault::Damage);
+            }
+            return Ok((nodes, next, body.len() as u64));
         }
-        let (node, end) = read_node(alloc, bytes, at, depth)?;
+        let (node, end, dir) = read_node(alloc, bytes, at, depth, set)?;
+        entries.push(entry_of(start, at, end, dir))?;
         nodes.push(node)?;
         at = end;
     }

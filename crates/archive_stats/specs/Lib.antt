@@ -1,4 +1,3 @@
 pub mod Counts
-pub mod Pieces
 pub mod Tally
 pub mod View

@@ -21,12 +21,15 @@ use std::alloc::{AllocError, Global};
 /// It encodes the file once, and goes over its records.
 pub fn counts_of(alloc: Global, spec: &Spec, archive: &Archive) -> Result<Counts, AllocError>
     requires few { (archive_view archive.now).n ≤ 999999 }
-    requires keyed { (vs : List PlainKeyed) → ArchiveOf vs (archive_view archive.now) → AreKeyedBy (spec_view spec.now) vs }
-    requires file { (vs : List PlainKeyed) → ArchiveOf vs (archive_view archive.now) → (bytes : List ℕ) × FileOf (spec_view spec.now) vs bytes }
-    ensures { IfOk result (λ c. counts_view c ≡ counts (spec_view spec.now) (archive_view archive.now)) }
+    requires keyed { (vs : List PlainKeyed)
+        → ArchiveOf vs (archive_view archive.now) → AreKeyedBy (spec_view spec.now) vs }
+    requires file { (vs : List PlainKeyed)
+        → ArchiveOf vs (archive_view archive.now) → (bytes : List ℕ) × FileOf (spec_view spec.now) vs bytes }
+    ensures { IfOk result (λ c. counts_view c
+        ≡ counts (spec_view spec.now) (archive_view archive.now)) }
 {
     match encode_file(alloc, spec, archive) {
-        Ok(bytes) => count_file(alloc, spec, archive.n(), &bytes),
+        Ok(bytes) => Ok(count_file(archive.n(), &bytes)),
         Err(EncodeFault::TooLong) => unreachable!(),
         Err(EncodeFault::Memory) => Err(AllocError),
     }

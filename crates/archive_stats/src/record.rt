@@ -2,7 +2,7 @@
 ghost use Rattle.std.specs.Prelude.{◌≡◌, ◌≤◌, ◌+◌, ◌-◌, ◌^◌, ℕ};
 ghost use Rattle.record_format.specs.Bounds.{IsRec};
 ghost use Rattle.record_format.specs.Data.{PlainRec};
-ghost use Rattle.record_format.specs.ShownViews.{shown_stamp};
+ghost use Rattle.record_parts.specs.ShownViews.{shown_stamp};
 ghost use Rattle.record_format.specs.Spelling.{rec_bytes};
 ghost use Rattle.archive_stats.specs.Tally.{is_stored, counted, IsBelow};
 ghost use Rattle.archive_stats.specs.View.{counts_view};

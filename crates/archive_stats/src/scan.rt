@@ -1,11 +1,11 @@
 // The counts of a file, from its bytes.
-ghost use Rattle.std.specs.Prelude.{◌≡◌, ◌≤◌, ◌<◌, ◌++◌, ℕ, List, length, drop, IfOk};
+ghost use Rattle.std.specs.Prelude.{◌≡◌, ◌≤◌, ◌<◌, ◌++◌, ℕ, List, length, drop};
 ghost use Rattle.std.specs.List.{flat_map, AllByRecursion};
-ghost use Rattle.key_spec.specs.View.{spec_view};
+ghost use Rattle.key_spec.specs.Data.{PlainRule};
 ghost use Rattle.archive_tree.specs.Data.{PlainArchive};
 ghost use Rattle.record_format.specs.Bounds.{IsRec};
 ghost use Rattle.record_format.specs.Data.{PlainRec};
-ghost use Rattle.record_format.specs.Files.{HasFile, file_bytes};
+ghost use Rattle.record_format.specs.Files.{HasFile, header_bytes, file_bytes};
 ghost use Rattle.record_format.specs.Spelling.{rec_bytes};
 ghost use Rattle.archive_stats.specs.Counts.{counts};
 ghost use Rattle.archive_stats.specs.Tally.{tallied, before_records};
@@ -13,24 +13,32 @@ ghost use Rattle.archive_stats.specs.View.{counts_view};
 
 use crate::counts::Counts;
 use crate::record::with_record;
-use key_spec::Spec;
 use record_format::take_frame;
-use std::alloc::{AllocError, Global};
+use xa_fields::take_u32;
 
-/// A header without its text: six bytes of magic, and four for each of the text's length and the number of versions.
+/// The length of a header's text stands behind six bytes of magic.
+const TEXT_LENGTH: usize = 6;
+
+/// A header without its text: the magic, and four bytes for each of the text's length and the number of versions.
 const FIELDS: usize = 14;
 
-/// The counts of the file with these bytes, which has so many versions under the specification.
-pub(crate) fn count_file(
-    alloc: Global,
-    spec: &Spec,
-    versions: u32,
-    bytes: &[u8],
-) -> Result<Counts, AllocError>
-    ensures { IfOk result (λ c. (a : PlainArchive) → a.n ≡ versions → HasFile (spec_view spec.now) a → bytes.now ≡ file_bytes (spec_view spec.now) a → counts_view c ≡ counts (spec_view spec.now) a) }
+/// The counts of the file with these bytes, which has so many versions.
+pub(crate) fn count_file(versions: u32, bytes: &[u8]) -> Counts
+    ensures { (rules : List PlainRule) (a : PlainArchive) → a.n ≡ versions → HasFile rules a → bytes.now ≡ file_bytes rules a
+        → counts_view result ≡ counts rules a }
 {
-    let text = spec.text(alloc)?;
-    Ok(count_records(versions, FIELDS + text.as_bytes().len(), bytes))
+    count_records(versions, header_length(bytes), bytes)
+}
+
+// The length of the header of a file, from the length of the text in it.
+fn header_length(bytes: &[u8]) -> usize
+    ensures { (rules : List PlainRule) (a : PlainArchive) → HasFile rules a → bytes.now ≡ file_bytes rules a
+        → result ≡ length (header_bytes rules a.n) }
+{
+    match take_u32(bytes, TEXT_LENGTH) {
+        Some((text, _)) => FIELDS + text as usize,
+        None => FIELDS,
+    }
 }
 
 // The counts of the records that stand one behind another from the offset on, which is the header's length.

@@ -1,4 +1,4 @@
-use Rattle.std.proofs.Common.{rules, ◌≡◌, ◌-◌, List, [], ◌∷◌, ◌++◌, length, ap, ◌∙◌, map, unwrap_or, arith}
+use Rattle.std.proofs.Common.{rules, ◌≡◌, ℕ, ◌-◌, List, [], ◌∷◌, ◌++◌, length, ap, ◌∙◌, map, arith}
 use Rattle.std.specs.List.{flat_map}
 use Rattle.std.proofs.lemmas.List.{map-append}
 use Rattle.version_set.specs.View.{pairs_of}
@@ -6,9 +6,10 @@ use Rattle.keyed_tree.specs.View.{label_view}
 use Rattle.archive_tree.specs.View.{stamp_view, alt_view, node_view, nodes_view}
 use Rattle.archive_tree.specs.declared.node.ANode.{ANode, the_lemmas}
 use Rattle.archive_tree.proofs.NodeViews.{node_view-Inner, node_view-Leaf}
-use Rattle.record_format.specs.Nodes.{Piece, piece_bytes, entries_from, node_piece, node_pieces}
+use Rattle.record_format.specs.Data.{PlainEntry, PlainDir}
+use Rattle.record_format.specs.Nodes.{Piece, piece_bytes, entries_from, dir_of, node_piece, node_pieces}
 use Rattle.record_format.specs.View.{entry_view}
-use Rattle.archive_file.proofs.PutLaws.{on-ok, if-ok, inner-parts, inner-bytes, inner-dir, leaf-bytes, leaf-dir, row-bytes, row-dir, more-wrote, more-entries, more-sets, piece-set, all-pieces, parts-on, count-on}
+use Rattle.archive_file.proofs.PutLaws.{on-ok, if-ok, inner-parts, inner-bytes, inner-dir, leaf-bytes, leaf-dir, row-bytes, row-dir, more-wrote, more-entries, all-pieces, parts-on, count-on}
 use Rattle.archive_file.proofs.encode.+put.Goals as goal
 
 pub put_node-put_row-requires : goal.put_node-put_row-requires
@@ -39,20 +40,17 @@ put_nodes-loop-node-preserved t c =
     let f = λ (k : ANode). node_piece (pairs_of c.args.set.now) (node_view k) in
     let here = c.loop-node-test.true in
     let is = c.node-item.is in
-    let set = c.in_ok-copy.ensures ∙ c.effective.ensures.pairs ∙ ap (λ s. unwrap_or s (pairs_of c.args.set.now)) c.stamp.ensures ∙ piece-set (pairs_of c.args.set.now) (node_view x) in
     let from : c.len-start.result ≡ length l.out.items = omega arith in
     let to : c.len.result ≡ length c.put_node.new.out.items = omega arith in
-    let entry : entry_view c.entry_of-entry.result ≡ record { start = length l.out.items - c.len-base.result; length = length c.put_node.new.out.items - length l.out.items; dir = c.in_ok-dir.dir } =
-    c.entry_of-entry.ensures ∙ (λ j. record { start = from j - c.len-base.result; length = to j - from j; dir = c.in_ok-dir.dir }) in
+    let entry : entry_view c.entry_of.result ≡ record { start = length l.out.items - c.len-base.result; length = length c.put_node.new.out.items - length l.out.items; dir = c.in_ok-dir.dir } =
+    c.entry_of.ensures ∙ (λ j. record { start = from j - c.len-base.result; length = to j - from j; dir = c.in_ok-dir.dir }) in
     record {
       goes = parts-on xs i x here l.invariant.goes;
       wrote = more-wrote f xs i x here is _ _ _ l.invariant.wrote c.in_ok-dir.ensures.bytes;
-      entries = ap (map entry_view) c.in_ok-push.ensures.items ∙ map-append entry_view l.entries.items (c.entry_of-entry.result ∷ [])
-          ∙ more-entries f xs i x here is c.args.out.now.items l.out.items c.put_node.new.out.items c.len-base.result c.in_ok-dir.dir (map entry_view l.entries.items) (entry_view c.entry_of-entry.result) l.invariant.wrote c.in_ok-dir.ensures.bytes l.invariant.base c.in_ok-dir.ensures.dir l.invariant.entries entry;
-      sets = ap (map pairs_of) c.in_ok-push-2.ensures.items ∙ map-append pairs_of l.sets.items (c.in_ok-copy.field-0 ∷ []) ∙ more-sets f xs i x here is (map pairs_of l.sets.items) (pairs_of c.in_ok-copy.field-0) l.invariant.sets set;
+      entries = ap (map entry_view) c.in_ok-push.ensures.items ∙ map-append entry_view l.entries.items (c.entry_of.result ∷ [])
+          ∙ more-entries f xs i x here is c.args.out.now.items l.out.items c.put_node.new.out.items c.len-base.result c.in_ok-dir.dir (map entry_view l.entries.items) (entry_view c.entry_of.result) l.invariant.wrote c.in_ok-dir.ensures.bytes l.invariant.base c.in_ok-dir.ensures.dir l.invariant.entries entry;
       base = l.invariant.base;
-      entry_count = count-on _ _ _ _ c.in_ok-push.ensures.items l.invariant.entry_count;
-      set_count = count-on _ _ _ _ c.in_ok-push-2.ensures.items l.invariant.set_count;
+      count = count-on _ _ _ _ c.in_ok-push.ensures.items l.invariant.count;
     }
 
 pub put_nodes-returns-clause-bytes : goal.put_nodes-returns-clause-bytes
@@ -61,22 +59,29 @@ put_nodes-returns-clause-bytes t c =
     let all = all-pieces (pairs_of c.args.set.now) c.args.nodes.now l.node-index c.loop-node-test.false in
     l.invariant.wrote ∙ ap (λ (ps : List Piece). c.args.out.now.items ++ flat_map piece_bytes ps) all
 
-pub put_nodes-returns-clause-dir : goal.put_nodes-returns-clause-dir
-put_nodes-returns-clause-dir t c =
+pub put_nodes-returns-clause-entries : goal.put_nodes-returns-clause-entries
+put_nodes-returns-clause-entries t c =
     let l = c.loop-node in
-    let all = all-pieces (pairs_of c.args.set.now) c.args.nodes.now l.node-index c.loop-node-test.false in
-    let entries = l.invariant.entries ∙ ap (entries_from 0) all in
-    let sets = l.invariant.sets ∙ ap (map (λ (p : Piece). p.set)) all in
-    (λ j. record { entries = entries j; sets = sets j })
+    l.invariant.entries ∙ ap (entries_from 0) (all-pieces (pairs_of c.args.set.now) c.args.nodes.now l.node-index c.loop-node-test.false)
+
+abbrev dir_made : List PlainEntry → List (List (ℕ × ℕ)) → PlainDir
+dir_made es sets = record { entries = es; sets = sets }
+
+-- the directory of the nodes
+row-dir-is : (ps : List Piece) (es : List PlainEntry) (sets : List (List (ℕ × ℕ))) → es ≡ entries_from 0 ps → sets ≡ map (λ (p : Piece). p.set) ps → dir_made es sets ≡ dir_of ps
+row-dir-is ps es sets e s = λ j. record { entries = e j; sets = s j }
 
 pub put_row-returns-clause-bytes : goal.put_row-returns-clause-bytes
 put_row-returns-clause-bytes t c =
-    row-bytes _ _ _ (node_pieces (pairs_of c.args.set.now) (nodes_view c.args.nodes.now)) _ c.in_ok-dir.ensures.bytes c.in_ok-dir.ensures.dir (rw (c.deref.ensures.value, c.deref-2.ensures.value) at c.in_ok-put_end.ensures.ok)
+    let ps = node_pieces (pairs_of c.args.set.now) (nodes_view c.args.nodes.now) in
+    let dir = row-dir-is ps _ _ c.in_ok-entries.ensures.entries c.in_ok-sets.ensures.sets in
+    row-bytes _ _ _ ps _ c.in_ok-entries.ensures.bytes dir (rw (c.deref.ensures.value, c.deref-2.ensures.value) at c.in_ok-put_end.ensures.ok)
 
 pub put_row-returns-clause-dir : goal.put_row-returns-clause-dir
 put_row-returns-clause-dir t c =
-    row-dir c.put_nodes.new.out.items c.put_end.new.out.items c.len.result c.len-at.result (node_pieces (pairs_of c.args.set.now) (nodes_view c.args.nodes.now)) _ c.in_ok-dir.ensures.dir
-    (rw (c.deref.ensures.value, c.deref-2.ensures.value) at c.in_ok-put_end.ensures.ok) (omega arith) (omega arith)
+    let ps = node_pieces (pairs_of c.args.set.now) (nodes_view c.args.nodes.now) in
+    let dir = row-dir-is ps _ _ c.in_ok-entries.ensures.entries c.in_ok-sets.ensures.sets in
+    row-dir c.put_nodes.new.out.items c.put_end.new.out.items c.len.result c.len-at.result ps _ dir (rw (c.deref.ensures.value, c.deref-2.ensures.value) at c.in_ok-put_end.ensures.ok) (omega arith) (omega arith)
 
 pub put_node-returns-in_ok-put_inner-in-Inner-clause-dir : goal.put_node-returns-in_ok-put_inner-in-Inner-clause-dir
 put_node-returns-in_ok-put_inner-in-Inner-clause-dir t c =

@@ -25,4 +25,4 @@ returns-clause-file c =
     let goes = ap row_goes (sym c.kids.ensures.nodes) ∙ sym c.row_goes.ensures ∙ c.if-not-row_goes.false in
     let few = c.requires.few in
     let bytes = c.in_ok-out.ensures.bytes in
-    λ vs at. record { archive = a; is = at; has = has-file rules a c.in_ok-out.ensures.spec few goes (omega (arith, ap length bytes)); spelled = bytes }
+    λ vs at. record { archive = a; is = at; has = has-file rules a c.in_ok-out.ensures.short few goes (omega (arith, ap length bytes)); spelled = bytes }

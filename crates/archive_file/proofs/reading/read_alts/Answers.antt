@@ -1,14 +1,13 @@
-use Rattle.std.proofs.Common.{IsTrue, List, [], ◌∷◌, sym, ap, ◌∙◌, map, drop, subst, arith}
-use Rattle.std.proofs.lemmas.List.{map-append}
-use Rattle.keyed_tree.specs.View.{key_view}
+use Rattle.std.proofs.Common.{List, [], ◌∷◌, ◌++◌, append_assoc, sym, ap, ◌∙◌, map, drop, subst, arith}
+use Rattle.std.proofs.lemmas.List.{map-append, append-nil}
 use Rattle.archive_tree.specs.Data.{PlainAlt}
-use Rattle.archive_tree.specs.WellFormed.{are_alts_well_formed}
 use Rattle.archive_tree.specs.View.{alt_view}
 use Rattle.archive_tree.specs.declared.node.Alt.{Alt}
 use Rattle.record_format.specs.View.{rec_view}
 use Rattle.record_format.specs.declared.rec.Rec.{Rec}
-use Rattle.archive_file.proofs.LaidLaws.{AltsLeft, alts-none, alts-kind, alts-next, alts-end, finds-handed}
-use Rattle.archive_file.proofs.WellLaws.{value-well, alts-more}
+use Rattle.archive_file.specs.Laid.{AltsAt}
+use Rattle.archive_file.proofs.LaidLaws.{AltsLeft, alts-start, alts-none, alts-kind, alts-next, alts-end, finds-handed}
+use Rattle.archive_file.proofs.ReadLaws.{alts-closed, alts-over}
 use Rattle.archive_file.proofs.reading.read_alts.Goals as goal
 
 pub returns-in_err-rec-clause-found : goal.returns-in_err-rec-clause-found
@@ -40,16 +39,34 @@ returns-in-End-clause-found c = λ xs rest h. (
     let kind = alts-kind xs rest (map alt_view l.alts.items) (drop l.at c.args.bytes.now) (l.invariant.left xs rest h) _ (drop c.in_ok-rec.next c.args.bytes.now) (rw c.in-End.is at c.in_ok-rec.ensures.found) in
     omega (arith, kind))
 
+pub returns-in-LeafEnd-clause-lie : goal.returns-in-LeafEnd-clause-lie
+returns-in-LeafEnd-clause-lie c =
+    let l = c.loop-alts in
+    let rest = drop c.in_ok-rec.next c.args.bytes.now in
+    let closed = alts-closed rest (drop l.at c.args.bytes.now) (rw c.in-LeafEnd.is at c.in_ok-rec.ensures.is) (rw c.in-LeafEnd.is at c.in_ok-rec.ensures.spelled) in
+    subst (λ (xs : List PlainAlt). AltsAt xs rest (drop c.args.start c.args.bytes.now)) (append-nil (map alt_view l.alts.items)) (l.invariant.done [] rest closed)
+
+pub loop-alts-init : goal.loop-alts-init
+loop-alts-init c =
+    record {
+      left = λ xs rest h. rw c.in_ok-alts.ensures.items (alts-start xs rest (drop c.args.start c.args.bytes.now) h);
+      done = λ xs rest h. rw c.in_ok-alts.ensures.items h;
+      further = omega arith;
+    }
+
 pub loop-alts-preserved : goal.loop-alts-preserved
 loop-alts-preserved c =
     let l = c.loop-alts in
     let alt : Alt = record { stamp = c.in-Alt.stamp; body = c.in-Alt.body } in
     let found = rw c.in-Alt.is at c.in_ok-rec.ensures.found in
     let is = rw c.in-Alt.is at c.in_ok-rec.ensures.is in
+    let spelled = rw c.in-Alt.is at c.in_ok-rec.ensures.spelled in
     let pushed = ap (map alt_view) c.in_ok-push-in-Alt.ensures.items ∙ map-append alt_view l.alts.items (alt ∷ []) in
     record {
       left = λ xs rest h. subst (λ (done : List PlainAlt). AltsLeft xs rest done (drop c.in_ok-rec.next c.args.bytes.now)) (sym pushed)
           (alts-next xs rest (map alt_view l.alts.items) (drop l.at c.args.bytes.now) (l.invariant.left xs rest h) (alt_view alt) (drop c.in_ok-rec.next c.args.bytes.now) found);
-      well_formed = subst (λ (done : List PlainAlt). IsTrue (are_alts_well_formed done)) (sym pushed) (alts-more (map alt_view l.alts.items) (alt_view alt) l.invariant.well_formed (value-well (key_view c.in-Alt.body) is.body.1));
+      done = λ xs rest h. subst (λ (done : List PlainAlt). AltsAt (done ++ xs) rest (drop c.args.start c.args.bytes.now)) (sym pushed)
+          (subst (λ (ys : List PlainAlt). AltsAt ys rest (drop c.args.start c.args.bytes.now)) (sym (append_assoc (map alt_view l.alts.items) (alt_view alt ∷ []) xs))
+          (l.invariant.done (alt_view alt ∷ xs) rest (alts-over (alt_view alt) xs rest (drop c.in_ok-rec.next c.args.bytes.now) (drop l.at c.args.bytes.now) is spelled h)));
       further = omega (arith, c.in_ok-rec.ensures.further);
     }

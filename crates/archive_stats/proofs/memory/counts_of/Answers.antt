@@ -1,13 +1,11 @@
-use Rattle.std.proofs.Common.{◌≡◌, ℕ, List, sym, ◌∙◌, IfOk}
+use Rattle.std.proofs.Common.{ℕ, List, sym, ◌∙◌}
 use Rattle.key_spec.specs.View.{spec_view}
 use Rattle.keyed_tree.specs.Data.{PlainKeyed}
 use Rattle.archive_tree.specs.ArchiveView.{archive_view}
-use Rattle.archive_tree.specs.Data.{PlainArchive}
 use Rattle.archive_tree.specs.Stands.{ArchiveOf}
-use Rattle.record_format.specs.Files.{file_bytes, HasFile, FileOf}
-use Rattle.archive_stats.specs.Counts.{counts}
+use Rattle.record_format.specs.Files.{FileOf}
 use Rattle.archive_stats.specs.View.{counts_view}
-use Rattle.archive_stats.proofs.Files.{kept-counts, kept-none, file-of, ok-so, too-long}
+use Rattle.archive_stats.proofs.Files.{kept-counts, kept-none, file-of, too-long}
 use Rattle.archive_stats.proofs.memory.counts_of.Goals as goal
 
 pub unreachable-requires : goal.unreachable-requires
@@ -22,7 +20,6 @@ pub returns-in-Ok : goal.returns-in-Ok
 returns-in-Ok c =
     let rules = spec_view c.args.spec.now in
     let a = archive_view c.args.archive.now in
-    let counted : IfOk c.count_file.result (λ k. (b : PlainArchive) → b.n ≡ c.n.result → HasFile rules b → c.deref.result.now ≡ file_bytes rules b → counts_view k ≡ counts rules b) = c.count_file.ensures in
-    kept-counts rules a c.count_file.result c.args.archive.now.stands (λ k. (
+    kept-counts rules a (counts_view c.count_file.result) c.args.archive.now.stands (λ k. (
     let file = file-of rules k.versions a c.in-Ok.bytes.items k.is (c.in-Ok.ensures.file k.versions k.is) in
-    ok-so c.count_file.result counted (λ x h. h a (sym c.n.ensures) file.0 (c.deref.ensures.value ∙ file.1))))
+    c.count_file.ensures rules a (sym c.n.ensures) file.0 (c.deref.ensures.value ∙ file.1)))

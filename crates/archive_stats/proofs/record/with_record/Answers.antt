@@ -1,7 +1,8 @@
 use Rattle.std.proofs.Common.{◌≡◌, ap, sym, ◌∙◌}
 use Rattle.record_format.specs.Data.{inner_rec, leaf_rec, alt_rec}
 use Rattle.record_format.specs.Spelling.{rec_bytes}
-use Rattle.record_format.specs.ShownViews.{shown_label, shown_stamp, shown_body, shown}
+use Rattle.record_parts.specs.ShownViews.{shown_label, shown_stamp, shown_body}
+use Rattle.record_format.specs.ShownViews.{shown}
 use Rattle.archive_stats.specs.Tally.{counted}
 use Rattle.archive_stats.specs.View.{counts_view}
 use Rattle.archive_stats.proofs.Records.{shown-is, inner-counted, leaf-counted, alt-counted}
