@@ -1,6 +1,7 @@
 -- The plain data that each value stands for.
 use Rattle.std.specs.Prelude.{ℕ, List, map, String, string_bytes}
 use Rattle.std.specs.declared.alloc.Global.{Global}
+use Rattle.jsonml_tree.specs.View.{place_view}
 use Rattle.key_rules.specs.View as keys
 use Rattle.xarch_words.specs.Commands as commands
 use Rattle.xarch_words.specs.Commands.{PlainCommand, norm, init, add, get, history, stats}
@@ -42,7 +43,7 @@ fault_view (NoFile name) = refused (no_file (string_bytes name))
 fault_view (Exists name) = refused (exists (string_bytes name))
 fault_view (BadSpec l why) = refused (bad_spec l why)
 fault_view BadJson = refused bad_json
-fault_view (BadShape place why) = refused (bad_shape place.steps.items why)
+fault_view (BadShape place why) = refused (bad_shape (place_view place) why)
 fault_view (KeyFault f) = refused (key_fault (keys.fault_view f))
 fault_view (NoVersion i n) = refused (no_version i n)
 fault_view (BadPath step) = refused (bad_path step)

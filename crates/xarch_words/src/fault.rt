@@ -1,5 +1,3 @@
-#![tactic(auto, using(crate::proofs::Pieces::pieces))]
-
 ghost use Rattle.std.specs.Prelude.{◌≡◌};
 ghost use Rattle.xarch_words.specs.Lines;
 ghost use Rattle.xarch_words.specs.View.{fault_view};
@@ -32,8 +30,9 @@ pub enum Quantity {
 
 /// Why a command ends without its answer.
 ///
-/// All but the last four are refusals, which the words and the files alone decide. The last four come from the
-/// outside: a call on the folder, on the output or on the input failed, or memory ran out.
+/// All but the last four are refusals, which the words and the files alone decide. The last four
+/// come from the outside: a call on the folder, on the output or on the input failed, or memory ran
+/// out.
 #[derive(Debug, Drop)]
 pub enum Fault {
     /// The words are no command.
@@ -42,7 +41,8 @@ pub enum Fault {
     NoFile { name: String },
     /// A file that is to be made is there.
     Exists { name: String },
-    /// The specification has no closed reading. Lines count from 1; line 0 stands for the specification as a whole.
+    /// The specification has no closed reading. Lines count from 1; line 0 stands for the
+    /// specification as a whole.
     BadSpec { line: u32, why: u8 },
     /// The bytes of a document are no JSON.
     BadJson,

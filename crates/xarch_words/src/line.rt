@@ -1,13 +1,15 @@
-#![tactic(auto, using(crate::proofs::Pieces::pieces))]
+#![tactic(auto, using(xa_outside::specs::TakenLaws::outputs))]
 
 ghost use Rattle.std.specs.Prelude.{[], ◌∷◌, ◌++◌, codes, option_map, string_bytes};
 ghost use Rattle.std.specs.Fmt.{decimal};
 ghost use Rattle.std.specs.List.{flat_map};
 ghost use Rattle.xa_outside.specs.Taken.{Puts};
 ghost use Rattle.xa_outside.specs.Causes.{HasCause};
+ghost use Rattle.jsonml_tree.specs.View.{place_view};
 ghost use Rattle.key_spec.specs.Names.{ends_text, path_text, slashed};
 ghost use Rattle.key_spec.specs.View.{names_view, path_view};
-ghost use Rattle.xarch_words.specs.Lines.{fault_line, fault_text, key_path_text, no_version_text, place_text, quantity_text, step_text, why_text};
+ghost use Rattle.xarch_words.specs.Lines.{fault_line, fault_text, key_path_text, no_version_text};
+ghost use Rattle.xarch_words.specs.Lines.{place_text, quantity_text, step_text, why_text};
 ghost use Rattle.xarch_words.specs.View.{fault_view, quantity_view};
 
 use crate::fault::{Fault, Quantity};
@@ -16,9 +18,11 @@ use key_rules::KeyFault;
 use key_spec::KeyPath;
 use xa_outside::{Buffered, Failed, Sink, put_all};
 
-/// Writes the line of a fault, with its LF, in one write where the sink takes it whole. It takes no memory.
+/// Writes the line of a fault, with its LF, in one write where the sink takes it whole. It takes
+/// no memory.
 pub fn write_fault<E: Sink>(fault: &Fault, err: &mut E) -> Result<(), Failed>
-    ensures bytes { Puts (E.taken err.old) (E.taken err.new) result (fault_line (fault_view fault.now)) }
+    ensures bytes { Puts (E.taken err.old) (E.taken err.new) result
+        (fault_line (fault_view fault.now)) }
     ensures cause { HasCause (E.faults err.old) (E.faults err.new) result }
 {
     let mut line = Buffered::new(err);
@@ -28,7 +32,8 @@ pub fn write_fault<E: Sink>(fault: &Fault, err: &mut E) -> Result<(), Failed>
 
 #[tactic(auto, unfolding(crate::specs::Lines::fault_line))]
 fn put_fault<E: Sink>(err: &mut E, fault: &Fault) -> Result<(), Failed>
-    ensures bytes { Puts (E.taken err.old) (E.taken err.new) result (fault_line (fault_view fault.now)) }
+    ensures bytes { Puts (E.taken err.old) (E.taken err.new) result
+        (fault_line (fault_view fault.now)) }
     ensures cause { HasCause (E.faults err.old) (E.faults err.new) result }
 {
     put_framed(err, b"xarch: ", fault, b"\n")
@@ -40,7 +45,8 @@ fn put_framed<E: Sink>(
     fault: &Fault,
     behind: &[u8],
 ) -> Result<(), Failed>
-    ensures bytes { Puts (E.taken err.old) (E.taken err.new) result (before.now ++ fault_text (fault_view fault.now) ++ behind.now) }
+    ensures bytes { Puts (E.taken err.old) (E.taken err.new) result
+        (before.now ++ fault_text (fault_view fault.now) ++ behind.now) }
     ensures cause { HasCause (E.faults err.old) (E.faults err.new) result }
 {
     put_all(err, before)?;
@@ -50,7 +56,8 @@ fn put_framed<E: Sink>(
 
 #[tactic(auto, unfolding(crate::specs::Lines::fault_text, crate::specs::Lines::refusal_text, crate::specs::Lines::key_path_text))]
 fn put_text<E: Sink>(err: &mut E, fault: &Fault) -> Result<(), Failed>
-    ensures bytes { Puts (E.taken err.old) (E.taken err.new) result (fault_text (fault_view fault.now)) }
+    ensures bytes { Puts (E.taken err.old) (E.taken err.new) result
+        (fault_text (fault_view fault.now)) }
     ensures cause { HasCause (E.faults err.old) (E.faults err.new) result }
 {
     match fault {
@@ -98,7 +105,8 @@ fn put_why<E: Sink>(err: &mut E, why: u8) -> Result<(), Failed>
 }
 
 fn put_line<E: Sink>(err: &mut E, before: &[u8], line: u32, why: u8) -> Result<(), Failed>
-    ensures bytes { Puts (E.taken err.old) (E.taken err.new) result (before.now ++ decimal line ++ why_text why) }
+    ensures bytes { Puts (E.taken err.old) (E.taken err.new) result
+        (before.now ++ decimal line ++ why_text why) }
     ensures cause { HasCause (E.faults err.old) (E.faults err.new) result }
 {
     put_number(err, before, line)?;
@@ -106,7 +114,8 @@ fn put_line<E: Sink>(err: &mut E, before: &[u8], line: u32, why: u8) -> Result<(
 }
 
 fn put_at<E: Sink>(err: &mut E, before: &[u8], place: &[u32], why: u8) -> Result<(), Failed>
-    ensures bytes { Puts (E.taken err.old) (E.taken err.new) result (before.now ++ place_text place.now ++ why_text why) }
+    ensures bytes { Puts (E.taken err.old) (E.taken err.new) result
+        (before.now ++ place_text place.now ++ why_text why) }
     ensures cause { HasCause (E.faults err.old) (E.faults err.new) result }
 {
     put_all(err, before)?;
@@ -151,7 +160,8 @@ fn put_numbers<E: Sink>(
     between: &[u8],
     second: u32,
 ) -> Result<(), Failed>
-    ensures bytes { Puts (E.taken err.old) (E.taken err.new) result (before.now ++ decimal first ++ (between.now ++ decimal second)) }
+    ensures bytes { Puts (E.taken err.old) (E.taken err.new) result
+        (before.now ++ decimal first ++ (between.now ++ decimal second)) }
     ensures cause { HasCause (E.faults err.old) (E.faults err.new) result }
 {
     put_number(err, before, first)?;
@@ -159,7 +169,8 @@ fn put_numbers<E: Sink>(
 }
 
 fn put_limit<E: Sink>(err: &mut E, quantity: Quantity, number: u64) -> Result<(), Failed>
-    ensures bytes { Puts (E.taken err.old) (E.taken err.new) result (codes "limit " ++ quantity_text (quantity_view quantity) ++ decimal number) }
+    ensures bytes { Puts (E.taken err.old) (E.taken err.new) result
+        (codes "limit " ++ quantity_text (quantity_view quantity) ++ decimal number) }
     ensures cause { HasCause (E.faults err.old) (E.faults err.new) result }
 {
     let before: &[u8] = match quantity {
@@ -177,7 +188,8 @@ fn put_limit<E: Sink>(err: &mut E, quantity: Quantity, number: u64) -> Result<()
 
 fn put_key_fault<E: Sink>(err: &mut E, before: &[u8], fault: &KeyFault) -> Result<(), Failed>
     ensures bytes { Puts (E.taken err.old) (E.taken err.new) result
-        (before.now ++ place_text fault.now.place.steps.items ++ why_text fault.now.why ++ key_path_text (option_map path_view fault.now.key_path)) }
+        (before.now ++ place_text (place_view fault.now.place) ++ why_text fault.now.why
+        ++ key_path_text (option_map path_view fault.now.key_path)) }
     ensures cause { HasCause (E.faults err.old) (E.faults err.new) result }
 {
     put_at(err, before, &fault.place.steps, fault.why)?;
@@ -186,7 +198,8 @@ fn put_key_fault<E: Sink>(err: &mut E, before: &[u8], fault: &KeyFault) -> Resul
 
 #[tactic(auto, unfolding(crate::specs::Lines::key_path_text))]
 fn put_key_path<E: Sink>(err: &mut E, path: &Option<KeyPath>) -> Result<(), Failed>
-    ensures bytes { Puts (E.taken err.old) (E.taken err.new) result (key_path_text (option_map path_view path.now)) }
+    ensures bytes { Puts (E.taken err.old) (E.taken err.new) result
+        (key_path_text (option_map path_view path.now)) }
     ensures cause { HasCause (E.faults err.old) (E.faults err.new) result }
 {
     match path {
@@ -196,7 +209,8 @@ fn put_key_path<E: Sink>(err: &mut E, path: &Option<KeyPath>) -> Result<(), Fail
 }
 
 fn put_path<E: Sink>(err: &mut E, before: &[u8], path: &KeyPath) -> Result<(), Failed>
-    ensures bytes { Puts (E.taken err.old) (E.taken err.new) result (before.now ++ path_text (path_view path.now)) }
+    ensures bytes { Puts (E.taken err.old) (E.taken err.new) result
+        (before.now ++ path_text (path_view path.now)) }
     ensures cause { HasCause (E.faults err.old) (E.faults err.new) result }
 {
     put_all(err, before)?;
@@ -208,7 +222,8 @@ fn put_path<E: Sink>(err: &mut E, before: &[u8], path: &KeyPath) -> Result<(), F
 
 /// A path without tags.
 fn put_short_path<E: Sink>(err: &mut E, attr: &Option<String>) -> Result<(), Failed>
-    ensures bytes { Puts (E.taken err.old) (E.taken err.new) result (ends_text [] (option_map string_bytes attr.now)) }
+    ensures bytes { Puts (E.taken err.old) (E.taken err.new) result
+        (ends_text [] (option_map string_bytes attr.now)) }
     ensures cause { HasCause (E.faults err.old) (E.faults err.new) result }
 {
     match attr {
@@ -224,7 +239,8 @@ fn put_long_path<E: Sink>(
     rest: &[String],
     attr: &Option<String>,
 ) -> Result<(), Failed>
-    ensures bytes { Puts (E.taken err.old) (E.taken err.new) result (ends_text (first.now ∷ names_view rest.now) (option_map string_bytes attr.now)) }
+    ensures bytes { Puts (E.taken err.old) (E.taken err.new) result
+        (ends_text (first.now ∷ names_view rest.now) (option_map string_bytes attr.now)) }
     ensures cause { HasCause (E.faults err.old) (E.faults err.new) result }
 {
     put_all(err, first.as_bytes())?;
@@ -236,7 +252,8 @@ fn put_long_path<E: Sink>(
 }
 
 fn put_tags<E: Sink>(err: &mut E, tags: &[String]) -> Result<(), Failed>
-    ensures bytes { Puts (E.taken err.old) (E.taken err.new) result (slashed (names_view tags.now)) }
+    ensures bytes { Puts (E.taken err.old) (E.taken err.new) result
+        (slashed (names_view tags.now)) }
     ensures cause { HasCause (E.faults err.old) (E.faults err.new) result }
 {
     for tag in tags {

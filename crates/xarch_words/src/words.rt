@@ -1,7 +1,7 @@
-#![tactic(auto, using(crate::proofs::Pieces::pieces))]
-
 ghost use Rattle.std.specs.Prelude.{◌≡◌, option_map};
-ghost use Rattle.xarch_words.specs.Commands.{command_of, command_of_four, command_of_one, command_of_three, command_of_two, demo_of, get, number_of, question_of};
+ghost use Rattle.xarch_words.specs.Commands.{command_of, command_of_four, command_of_one};
+ghost use Rattle.xarch_words.specs.Commands.{command_of_three, command_of_two, demo_of, get};
+ghost use Rattle.xarch_words.specs.Commands.{number_of, question_of};
 ghost use Rattle.xarch_words.specs.View.{command_view, words_view};
 
 use itoa::Buffer;
@@ -123,7 +123,8 @@ fn version_of<'a>(archive: &'a str, word: &str) -> Option<Command<'a>>
 }
 
 fn four_words<'a>(word: &str, seed: &str, count: &str, archive: &'a str) -> Option<Command<'a>>
-    ensures { option_map command_view result ≡ command_of_four word.now seed.now count.now archive.now }
+    ensures { option_map command_view result
+        ≡ command_of_four word.now seed.now count.now archive.now }
 {
     match word {
         "demo" => demo_from(seed, count, archive),

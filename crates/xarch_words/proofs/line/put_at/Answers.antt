@@ -1,4 +1,4 @@
-use Rattle.xa_outside.proofs.Output.{Takes-trans, Puts-after}
+use Rattle.xa_outside.specs.TakenLaws.{Takes-trans, Puts-after}
 use Rattle.xarch_words.proofs.line.put_at.Goals as goal
 
 pub returns-clause-bytes : goal.returns-clause-bytes

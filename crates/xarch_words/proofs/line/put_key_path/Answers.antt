@@ -1,4 +1,4 @@
-use Rattle.xa_outside.proofs.Output.{Takes-nil}
+use Rattle.xa_outside.specs.TakenLaws.{Takes-nil}
 use Rattle.xarch_words.specs.Lines.{key_path_text}
 use Rattle.xarch_words.proofs.line.put_key_path.Goals as goal
 

@@ -1,4 +1,4 @@
-use Rattle.xa_outside.proofs.Output.{Takes-trans}
+use Rattle.xa_outside.specs.TakenLaws.{Takes-trans}
 use Rattle.xarch_words.proofs.line.put_long_path.Goals as goal
 
 pub returns-in-None-clause-bytes : goal.returns-in-None-clause-bytes

@@ -1,7 +1,7 @@
 use Rattle.std.proofs.Common.{◌≡◌, List, ℕ, [], ◌∷◌, ◌++◌, length, refl, ap, sym, ◌∙◌, subst, option_map, String, Global, string_bytes}
 use Rattle.key_spec.specs.View.{names_view}
 use Rattle.xa_outside.specs.Taken.{Puts}
-use Rattle.xa_outside.proofs.Output.{Puts-after}
+use Rattle.xa_outside.specs.TakenLaws.{Puts-after}
 use Rattle.key_spec.specs.Names.{ends_text}
 use Rattle.xarch_words.proofs.line.put_path.Goals as goal
 

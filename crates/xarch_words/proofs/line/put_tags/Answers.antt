@@ -2,7 +2,7 @@ use Rattle.std.proofs.Common.{◌≡◌, ◌<◌, ℕ, List, [], ◌∷◌, ◌+
 use Rattle.std.proofs.lemmas.List.{length-map, get_or-map}
 use Rattle.key_spec.specs.View.{names_view}
 use Rattle.xa_outside.specs.Taken.{Takes, TakesPrefix}
-use Rattle.xa_outside.proofs.Output.{Takes-nil, Takes-piece, Puts-piece}
+use Rattle.xa_outside.specs.TakenLaws.{Takes-nil, Takes-piece, Puts-piece}
 use Rattle.xarch_words.proofs.line.put_tags.Goals as goal
 
 -- one tag, behind a slash
