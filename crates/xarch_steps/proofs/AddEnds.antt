@@ -1,13 +1,15 @@
 -- How the parts of `add` lead to its end.
-use Rattle.std.proofs.Common.{◌≡◌, ◌⊎◌, inl, inr, ℕ, List, [], ◌∷◌, ◌++◌, length, Result, Ok, Err, refl, sym, ap, ◌∙◌, subst}
+use Rattle.std.proofs.Common.{◌≡◌, ◌⊎◌, inl, inr, ℕ, List, [], ◌∷◌, ◌++◌, length, Option, Some, None, Result, Ok, Err, refl, sym, ap, ◌∙◌, subst}
 use Rattle.std.specs.FinMap as map
 use Rattle.xa_outside.specs.Folder.{Files}
 use Rattle.jsonml_tree.specs.Data.{PlainTree}
 use Rattle.key_spec.specs.Data.{PlainRule}
 use Rattle.keyed_tree.specs.Data.{PlainKeyed}
+use Rattle.key_spec.specs.Canonical.{canonical}
+use Rattle.key_spec.specs.Closed.{closed}
+use Rattle.record_format.specs.Files.{FileOf}
 use Rattle.record_format.specs.Fronts.{header}
 use Rattle.archive_file.specs.Sound.{SoundAs}
-use Rattle.archive_file.proofs.FrontLaws.{sound-header}
 use Rattle.xarch_words.specs.Commands.{add}
 use Rattle.xarch_words.specs.Refusal.{document, Refusal, no_file, damaged, PlainFault}
 use Rattle.xarch_steps.specs.Add.{added, added_behind, room_behind}
@@ -59,9 +61,20 @@ module _ (files : Files) (name doc bytes : List ℕ) (n : ℕ) (there : file_of 
   pub input-refused : (v : PlainFault) → IsDefined (added_behind files name doc bytes) v → IsDefined (add_input files name doc) v
   input-refused v p = subst (λ x. IsDefined x v) (sym input-behind) (IsDefined-here (added_behind files name doc bytes) (λ k. Ok (bytes, k)) v p)
 
+-- the bytes that were read are those of the archive
+from_there : (x : Option (List ℕ)) (r : Refusal) (f : List ℕ → Result (List ℕ × PlainKeyed) Refusal) (bytes : List ℕ) (k : PlainKeyed) → ((b : List ℕ) → f b ≡ Ok (bytes, k) → b ≡ bytes) → and_then (or_refuse x r) f ≡ Ok (bytes, k) → x ≡ Some bytes
+from_there None r f bytes k only e = absurd cc
+from_there (Some b) r f bytes k only e = ap (λ (z : List ℕ). Some z) (only b e)
+
+beside-only : (b : List ℕ) (x : Result ℕ Refusal) (y : Result PlainKeyed Refusal) (bytes : List ℕ) (k : PlainKeyed) → and_then x (λ _. beside b y) ≡ Ok (bytes, k) → b ≡ bytes
+beside-only b (Err e) y bytes k h = absurd cc
+beside-only b (Ok n) y bytes k h = (beside-given b bytes y k h).0
+
 -- ---- what may come
 
-module _ (files : Files) (name doc : List ℕ) where
+-- From what is known of all archive files: their header stands in front.
+module _ (fronted : (rules : List PlainRule) (vs : List PlainKeyed) (bytes : List ℕ) → closed (canonical rules) ≡ Ok rules → FileOf rules vs bytes → header bytes ≡ Some (rules, length vs))
+    (files : Files) (name doc : List ℕ) where
   -- over a sound archive the document is read by its rules
   input_sound : (rules : List PlainRule) (vs : List PlainKeyed) (a : ArchiveIs files name rules vs) → add_input files name doc ≡ beside a.bytes (added files doc rules (length vs))
   input_sound rules vs a =
@@ -73,7 +86,7 @@ module _ (files : Files) (name doc : List ℕ) where
       and_then (keyed_of h.0 t) (λ k.
       and_then (room_behind h.1) (λ _.
       Ok (bytes, k)))))))) a.there
-      ∙ ap (λ o. and_then (length_in files doc document 67108864) (λ _. and_then (or_refuse o (damaged name)) behind)) (sound-header rules vs a.bytes a.sound)
+      ∙ ap (λ o. and_then (length_in files doc document 67108864) (λ _. and_then (or_refuse o (damaged name)) behind)) (fronted rules vs a.bytes a.sound.specification a.sound.file)
       ∙ beside-all a.bytes (length_in files doc document 67108864) (read_in files doc document_of) (keyed_of rules) (room_behind (length vs))
 
   -- a refusal before the records are looked at
@@ -89,6 +102,13 @@ module _ (files : Files) (name doc : List ℕ) where
   module _ (bytes : List ℕ) (k : PlainKeyed) (input : add_input files name doc ≡ Ok (bytes, k)) where
     given : (rules : List PlainRule) (vs : List PlainKeyed) (a : ArchiveIs files name rules vs) → (a.bytes ≡ bytes) × (added files doc rules (length vs) ≡ Ok k)
     given rules vs a = beside-given a.bytes bytes (added files doc rules (length vs)) k (sym (input_sound rules vs a) ∙ input)
+
+    -- they are the bytes of the archive
+    was_read : map.get files name ≡ Some bytes
+    was_read =
+        from_there (map.get files name) (no_file name) _ bytes k
+        (λ b e. beside-only b (length_in files doc document 67108864) (added_behind files name doc b) bytes k
+        (sym (ap (λ x. and_then (length_in files doc document 67108864) (λ _. x)) (beside-keyed b (or_refuse (header b) (damaged name)) (read_in files doc document_of) keyed_of room_behind)) ∙ e)) input
 
     -- the new file comes
     pub may_replace : (new : List ℕ) → ((rules : List PlainRule) (vs : List PlainKeyed) → SoundAs rules vs bytes → SoundAs rules (vs ++ k ∷ []) new)
@@ -109,7 +129,7 @@ module _ (files : Files) (name doc : List ℕ) where
     unfolding MayBe
     may_refuse q either h = record {
       whatever = subst (λ x. GoesOn x (λ _. MayAdd files name) (Err q)) (sym input)
-          (elim either [ inl e ↦ inl (ap (λ s. Err s) e) | inr o ↦ inr (inl (ap (λ s. Err s) o.is)) ]);
+          (elim either [ inl e ↦ inl (ap (λ s. Err s) e) | inr o ↦ inr (inl (record { is = ap (λ s. Err s) o.is; rules = o.rules; versions = o.versions; there = record { bytes = bytes; there = was_read; sound = o.sound } })) ]);
       sound = λ rules vs a.
           let g = given rules vs a in
           let t = h rules vs (subst (SoundAs rules vs) g.0 a.sound) in

@@ -1,20 +1,11 @@
 -- How the parts of `demo` lead to its end.
-use Rattle.std.proofs.Common.{◌≡◌, inl, inr, ℕ, List, Option, Some, None, Result, Ok, Err, OnOk, refl, sym, ap, ◌∙◌, subst}
-use Rattle.std.specs.FinMap as map
-use Rattle.std.specs.Result.{IsErrAnd}
+use Rattle.std.proofs.Common.{◌≡◌, ℕ, List, Result, Ok, Err, refl, sym, ap, ◌∙◌, subst}
 use Rattle.xa_outside.specs.Folder.{Files}
-use Rattle.record_format.specs.Files.{FileOf}
-use Rattle.archive_stats.specs.Counts.{PlainCounts}
-use Rattle.xarch_gen.specs.Company.{company_rules}
-use Rattle.xarch_words.specs.Refusal.{archive, Refusal, limit, PlainFault}
-use Rattle.xarch_words.specs.View.{fault_view}
-use Rattle.xarch_words.specs.declared.fault.Fault.{Fault}
-use Rattle.xarch_steps.specs.Archives.{GoesOn, IsDrafted, free_in}
-use Rattle.xarch_steps.specs.Demo.{DemoIs, IsSampleFile, MakesOrNone, demo_input, samples}
-use Rattle.xarch_steps.specs.Ends.{TellsOnly, fault_of}
+use Rattle.xarch_words.specs.Refusal.{Refusal}
+use Rattle.xarch_steps.specs.Archives.{GoesOn, free_in}
+use Rattle.xarch_steps.specs.Demo.{DemoIs, MakesOrNone, demo_input}
 use Rattle.xarch_steps.specs.Inputs.{at_most}
 use Rattle.xarch_steps.specs.Outcome.{Outcome, and_then}
-use Rattle.xarch_steps.specs.Stats.{counts_text}
 use Rattle.xarch_words.specs.Refusal as refusal
 
 module _ (files : Files) (seed count : ℕ) (name : List ℕ) where

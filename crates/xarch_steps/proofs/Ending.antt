@@ -1,17 +1,12 @@
 -- How the parts of a command lead to its end.
 use Rattle.std.specs.Result.{IsErrAnd}
-use Rattle.std.proofs.Common.{◌≡◌, ◌≢◌, ℕ, ◌+◌, ◌≤◌, Option, Some, None, IsSome, Result, Ok, Err, IfOk, OnOk, refl, sym, ap, ◌∙◌, subst, arith}
-use Rattle.xa_outside.specs.Folder.{Files}
-use Rattle.xa_outside.specs.Numbers.{Numbers, IsMeter, PullsAtMost}
-use Rattle.xa_outside.proofs.NumberLemmas.{PullsAtMost-none, PullsAtMost-more, PullsAtMost-trans}
-use Rattle.xa_outside.specs.Taken.{Taken, TakesPrefix, Puts}
-use Rattle.xa_outside.proofs.CauseLemmas.{Rose-later}
-use Rattle.xa_outside.proofs.Output.{TakesNone-refl, TakesPrefix-none}
+use Rattle.std.proofs.Common.{◌≡◌, ◌≢◌, ℕ, ◌≤◌, Option, Some, None, Result, Ok, Err, IfOk, OnOk, refl, sym, ap, ◌∙◌, subst}
+use Rattle.xa_outside.specs.CauseLaws.{Rose-later}
 use Rattle.xarch_words.specs.Refusal.{Refusal, usage, PlainFault, refused, folder_fault, out_fault, in_fault, memory}
 use Rattle.xarch_words.specs.View.{fault_view}
 use Rattle.xarch_words.specs.declared.fault.Fault.{Fault}
-use Rattle.xarch_steps.specs.Outcome.{Outcome, and_then, output_of}
-use Rattle.xarch_steps.specs.Ends.{Matches, fault_of, IsInside, IsOfFolder, IsOfOutput, IsOfCommand, HasItsCause, IsDefined, EndsAs}
+use Rattle.xarch_steps.specs.Outcome.{and_then}
+use Rattle.xarch_steps.specs.Ends.{Matches, fault_of, IsInside, IsOfFolder, IsOfOutput, IsOfCommand, HasItsCause, IsDefined}
 
 -- ---- causes
 
@@ -93,48 +88,6 @@ IsDefined-next {A} {B} x f y v e p = subst (λ (z : Result A Refusal). IsDefined
 pub and_then-Ok : {A B : Type 0} (x : Result A Refusal) (f : A → Result B Refusal) (y : A) (z : Result B Refusal) → x ≡ Ok y → f y ≡ z → and_then x f ≡ z
 and_then-Ok x f y z e p = ap (λ w. and_then w f) e ∙ p
 
--- ---- ends
-
--- nothing was written yet
-pub EndsAs-stopped : (defined : Result Outcome Refusal) (v : PlainFault) (after : Option Files) (t : Taken) → IsDefined defined v → EndsAs defined (Some v) after t t
-unfolding EndsAs IsDefined
-EndsAs-stopped defined (refused r) after t p = record { is = p; output = TakesNone-refl t }
-EndsAs-stopped defined folder_fault after t p = TakesPrefix-none t (output_of defined)
-EndsAs-stopped defined out_fault after t p = TakesPrefix-none t (output_of defined)
-EndsAs-stopped defined in_fault after t p = TakesPrefix-none t (output_of defined)
-EndsAs-stopped defined memory after t p = TakesPrefix-none t (output_of defined)
-
--- the write of a defined output failed
-output_end : (defined : Result Outcome Refusal) (o : Outcome) (v : Option PlainFault) (after : Option Files) (old new : Taken) (p q : ℕ) → IsSome v → IsOfOutput p q v → defined ≡ Ok o → TakesPrefix old new o.output → EndsAs defined v after old new
-unfolding EndsAs IsOfOutput
-output_end defined o None after old new p q some cause e bytes = cc
-output_end defined o (Some (refused r)) after old new p q some cause e bytes = absurd cause
-output_end defined o (Some folder_fault) after old new p q some cause e bytes = absurd cause
-output_end defined o (Some out_fault) after old new p q some cause e bytes = subst (TakesPrefix old new) (sym (ap output_of e)) bytes
-output_end defined o (Some in_fault) after old new p q some cause e bytes = absurd cause
-output_end defined o (Some memory) after old new p q some cause e bytes = absurd cause
-
--- the defined output is written, and files stay
-pub EndsAs-written : (defined : Result Outcome Refusal) (o : Outcome) (result : Result Unit Fault) (after : Option Files) (old new : Taken) (p q : ℕ)
-    → defined ≡ Ok o → after ≡ Some o.files → Puts old new result o.output → IsOfOutput p q (fault_of result) → EndsAs defined (fault_of result) after old new
-unfolding EndsAs IsOfOutput
-EndsAs-written defined o (Ok u) after old new p q e same bytes cause = record { outcome = o; is = e; files = λ f told. grind (arith, same, told); output = bytes }
-EndsAs-written defined o (Err f) after old new p q e same bytes cause = output_end defined o (Some (fault_view f)) after old new p q refl cause e bytes
-
--- ---- what was pulled
-
--- nothing more than before
-pub PullsAtMost-same : (limit : ℕ) (a b : Numbers) → IsMeter a → b ≡ a → PullsAtMost limit a b
-PullsAtMost-same limit a b is e = subst (PullsAtMost limit a) (sym e) (PullsAtMost-none limit a is)
-
--- a file that was read after calls that pulled nothing
-pub PullsAtMost-one : (limit n : ℕ) (a b c : Numbers) → n ≤ limit → b ≡ a → PullsAtMost n b c → PullsAtMost limit a c
-PullsAtMost-one limit n a b c fits e p = PullsAtMost-more n limit a c fits (subst (λ m. PullsAtMost n m c) e p)
-
--- and another one
-pub PullsAtMost-two : (limit n k : ℕ) (a b c d : Numbers) → n + k ≤ limit → b ≡ a → PullsAtMost n b c → PullsAtMost k c d → PullsAtMost limit a d
-PullsAtMost-two limit n k a b c d fits e p q = PullsAtMost-more (n + k) limit a d fits (PullsAtMost-trans n k a c d (subst (λ m. PullsAtMost n m c) e p) q)
-
 -- ---- parts of a definition
 
 -- a refusal that is named is the defined one
@@ -196,4 +149,4 @@ Matches-passed view x (Err g) f h p = subst (λ (z : Fault). IsDefined x (fault_
 pub Matches-next : {A B T : Type 0} (view : T → B) (x : Result A Refusal) (f : A → Result B Refusal) (y : A) (r : Result T Fault) → x ≡ Ok y → Matches view (f y) r → Matches view (and_then x f) r
 Matches-next view x f y r e p = subst (λ z. Matches view (and_then z f) r) (sym e) p
 
-pub ruleset endings = (IsOfFolder-inside, IsOfFolder-later, IsOfCommand-inside, IsOfCommand-folder, IsOfCommand-output, IsDefined-here, IsDefined-next, EndsAs-stopped)
+pub ruleset endings = (IsOfFolder-inside, IsOfFolder-later, IsOfCommand-inside, IsOfCommand-folder, IsOfCommand-output, IsDefined-here, IsDefined-next)

@@ -1,17 +1,60 @@
 -- What the parts of a command do to a folder makes up what the command does to it.
-use Rattle.std.proofs.Common.{◌≡◌, inl, inr, ℕ, ◌+◌, ◌≤◌, List, Option, Some, None, IsSome, Result, Ok, Err, refl, sym, ap, ◌∙◌, subst, arith}
+use Rattle.std.proofs.Common.{◌≡◌, ◌⊎◌, inl, inr, ℕ, ◌+◌, ◌≤◌, List, [], ◌++◌, length, Option, Some, None, IsSome, option_map, Result, Ok, Err, refl, sym, ap, ◌∙◌, subst, arith}
 use Rattle.std.specs.Result.{IsErrAnd}
-use Rattle.xa_outside.specs.Folder.{Files}
+use Rattle.xa_outside.specs.Folder.{Drafts, Files, committed, emptied}
 use Rattle.xa_outside.specs.Numbers.{Numbers, IsMeter, PullsAtMost, after_begin, after_draft, after_pull}
-use Rattle.xa_outside.proofs.NumberLemmas.{PullsAtMost-none, PullsAtMost-more, PullsAtMost-trans, after_draft-none, after_draft-twice}
-use Rattle.xa_outside.proofs.CauseLemmas.{Rose-later}
+use Rattle.xa_outside.specs.NumberLaws.{PullsAtMost-none, PullsAtMost-more, PullsAtMost-trans, after_draft-none, after_draft-twice}
+use Rattle.xa_outside.specs.CauseLaws.{Rose-later}
 use Rattle.xarch_words.specs.Refusal.{PlainFault, refused, folder_fault, out_fault, in_fault, memory}
 use Rattle.xarch_words.specs.View.{fault_view}
 use Rattle.xarch_words.specs.declared.fault.Fault.{Fault}
+use Rattle.xarch_steps.specs.Archives.{IsBlank}
 use Rattle.xarch_steps.specs.Ends.{fault_of, IsInside, IsOfFolder, IsOfOutput, IsOfCommand, IsCaused}
-use Rattle.xarch_steps.specs.Folders.{ReadsOnly, Begins, WritesOnly, Keeps}
+use Rattle.xarch_steps.specs.Folders.{ReadsOnly, Begins, WritesOnly, Keeps, IsTold}
 use Rattle.xarch_steps.specs.Inputs.{size_in}
 use Rattle.xarch_steps.proofs.Ending.{IsOfFolder-inside, IsOfFolder-later, IsOfCommand-inside, IsOfCommand-folder, IsOfCommand-output}
+
+-- ---- what stays told
+
+-- where files and draft stay
+read_told : (f g : Option Files) (d e : Option (List ℕ)) → g ≡ f → e ≡ d → IsTold f d → IsTold g e
+read_told f g d e same kept t = (subst (λ x. IsSome x) (sym same) t.0, subst (λ x. IsSome x) (sym kept) t.1)
+
+-- where files stay, and the draft stays told
+begin_told : (f g : Option Files) (d e : Option (List ℕ)) → g ≡ f → (IsSome d → IsSome e) → IsTold f d → IsTold g e
+begin_told f g d e same kept t = (subst (λ x. IsSome x) (sym same) t.0, kept t.1)
+
+emptied_told : (d : Option (List ℕ)) → IsSome d → IsSome (emptied d)
+emptied_told None some = some
+emptied_told (Some bytes) some = refl
+
+committed_told : (f : Option Files) (d : Option (List ℕ)) (name : List ℕ) → IsTold f d → IsSome (committed f d name)
+committed_told None d name t = t.0
+committed_told (Some files) None name t = t.1
+committed_told (Some files) (Some bytes) name t = refl
+
+-- a draft that was emptied, or stays
+pub begun_told : (d e : Option (List ℕ)) → (e ≡ emptied d) ⊎ (e ≡ d) → IsSome d → IsSome e
+begun_told d e either some = elim either [ inl empty ↦ subst (λ x. IsSome x) (sym empty) (emptied_told d some) | inr kept ↦ subst (λ x. IsSome x) (sym kept) some ]
+
+pub emptied_untold : (d e : Option (List ℕ)) → e ≡ emptied d → d ≡ None → e ≡ None
+emptied_untold d e empty none = empty ∙ ap emptied none
+
+pub emptied_blank : (d e : Option (List ℕ)) → e ≡ emptied d → IsBlank e
+emptied_blank None e empty = λ bytes is. let wrong : None ≡ Some bytes = sym empty ∙ is in absurd cc
+emptied_blank (Some old) e empty = λ bytes is. let same : Some [] ≡ Some bytes = sym empty ∙ is in cc
+
+appended_told : (d : Option (List ℕ)) (piece : List ℕ) → IsSome d → IsSome (option_map (λ b. b ++ piece) d)
+appended_told None piece some = some
+appended_told (Some bytes) piece some = refl
+
+-- a draft that grew
+pub drafted_told : (f g : Option Files) (d e : Option (List ℕ)) (piece : List ℕ) → g ≡ f → e ≡ option_map (λ b. b ++ piece) d → IsTold f d → IsTold g e
+drafted_told f g d e piece same grown = begin_told f g d e same (λ some. subst (λ x. IsSome x) (sym grown) (appended_told d piece some))
+
+-- a draft that became a file
+pub stored_told : (f g : Option Files) (d e : Option (List ℕ)) (name : List ℕ) → g ≡ committed f d name → e ≡ emptied d → IsTold f d → IsTold g e
+stored_told f g d e name made empty t = (subst (λ x. IsSome x) (sym made) (committed_told f d name t), subst (λ x. IsSome x) (sym empty) (emptied_told d t.1))
 
 -- ---- causes
 
@@ -57,16 +100,50 @@ module _ {S : Type 0} {files : S → Option Files} {draft : S → Option (List �
     refused = λ some. q.refused some ∙ same;
     untold = λ e. q.untold (p.untold e);
     draft_untold = λ e. q.draft_untold (p.draft_untold e);
+    told = λ t. q.told (p.told t);
     drafted = p.drafted + q.drafted;
     counted = q.counted ∙ ap (λ m. after_draft m q.drafted) p.counted ∙ after_draft-twice (numbers a) p.drafted q.drafted;
   }
 
   pub writes-none : (a : S) (v : Option PlainFault) → IsMeter (numbers a) → WritesOnly files draft numbers a a v
-  writes-none a v is = record { refused = λ _. refl; untold = λ e. e; draft_untold = λ e. e; drafted = 0; counted = sym (after_draft-none (numbers a) is) }
+  writes-none a v is = record { refused = λ _. refl; untold = λ e. e; draft_untold = λ e. e; told = λ t. t; drafted = 0; counted = sym (after_draft-none (numbers a) is) }
+
+  -- a piece was drafted, or a prefix of it
+  pub writes-drafted : (a b : S) (v : Option PlainFault) (piece : List ℕ) → files b ≡ files a → Drafts (draft a) (draft b) (numbers a) (numbers b) piece → WritesOnly files draft numbers a b v
+  writes-drafted a b v piece same p = record {
+    refused = λ _. same;
+    untold = λ none. same ∙ none;
+    draft_untold = λ none. p.draft ∙ ap (option_map (λ d. d ++ piece)) none;
+    told = drafted_told _ _ _ _ piece same p.draft;
+    drafted = length piece;
+    counted = p.numbers;
+  }
+
+  -- the draft became a file
+  pub writes-committed : (a b : S) (name : List ℕ) → IsMeter (numbers a) → files b ≡ committed (files a) (draft a) name → draft b ≡ emptied (draft a) → numbers b ≡ numbers a → WritesOnly files draft numbers a b None
+  writes-committed a b name is made empty same = record {
+    refused = λ some. cc;
+    untold = λ none. made ∙ ap (λ f. committed f (draft a) name) none;
+    draft_untold = emptied_untold _ _ empty;
+    told = stored_told _ _ _ _ name made empty;
+    drafted = 0;
+    counted = same ∙ sym (after_draft-none (numbers a) is);
+  }
+
+  -- nothing was written
+  pub writes-refused : (a b : S) (v : Option PlainFault) → IsMeter (numbers a) → files b ≡ files a → draft b ≡ draft a → numbers b ≡ numbers a → WritesOnly files draft numbers a b v
+  writes-refused a b v is same kept still = record {
+    refused = λ _. same;
+    untold = λ none. same ∙ none;
+    draft_untold = λ none. kept ∙ none;
+    told = read_told _ _ _ _ same kept;
+    drafted = 0;
+    counted = still ∙ sym (after_draft-none (numbers a) is);
+  }
 
   -- it drafted, and files stay
   pub writes-kept : (a b : S) (v w : Option PlainFault) → WritesOnly files draft numbers a b v → files b ≡ files a → WritesOnly files draft numbers a b w
-  writes-kept a b v w p same = record { refused = λ _. same; untold = p.untold; draft_untold = p.draft_untold; drafted = p.drafted; counted = p.counted }
+  writes-kept a b v w p same = record { refused = λ _. same; untold = p.untold; draft_untold = p.draft_untold; told = p.told; drafted = p.drafted; counted = p.counted }
 
   pub writes-passed : {T : Type 0} (a b : S) (r : Result T Fault) (f : Fault) → IsErrAnd r (λ g. g ≡ f) → WritesOnly files draft numbers a b (Some (fault_view f)) → WritesOnly files draft numbers a b (fault_of r)
   writes-passed a b (Ok u) f h p = absurd h
@@ -74,7 +151,7 @@ module _ {S : Type 0} {files : S → Option Files} {draft : S → Option (List �
 
   -- a command that has done nothing
   pub keeps-none : (name : List ℕ) (most : ℕ) (a : S) (w : Option PlainFault) → Keeps files draft numbers (Some name) most a a w
-  keeps-none name most a w = record { refused = λ _. refl; same_files = λ _. refl; same_draft = λ _. refl; untold = λ e. e; draft_untold = λ e. e; counts = inl refl }
+  keeps-none name most a w = record { refused = λ _. refl; same_files = λ _. refl; same_draft = λ _. refl; untold = λ e. e; draft_untold = λ e. e; told = λ t. t; counts = inl refl }
 
 module _ {S : Type 0} {files : S → Option Files} {draft : S → Option (List ℕ)} {numbers : S → Numbers} {faults : S → ℕ} where
   -- ---- parts that only read
@@ -128,6 +205,7 @@ module _ {S : Type 0} {files : S → Option Files} {draft : S → Option (List �
     same_draft = λ _. p.same_draft;
     untold = λ e. p.same_files ∙ e;
     draft_untold = λ e. p.same_draft ∙ e;
+    told = read_told _ _ _ _ p.same_files p.same_draft;
     counts = p.pulls;
   }
 
@@ -148,6 +226,7 @@ module _ {S : Type 0} {files : S → Option Files} {draft : S → Option (List �
       same_draft = λ e. cc;
       untold = λ e. p.same_files ∙ e;
       draft_untold = p.draft_untold;
+      told = begin_told _ _ _ _ p.same_files p.draft_told;
       counts = inl (p.failed failed);
     }
 
@@ -161,6 +240,7 @@ module _ {S : Type 0} {files : S → Option Files} {draft : S → Option (List �
           same_draft = λ e. cc;
           untold = λ e. q.same_files ∙ p.same_files ∙ e;
           draft_untold = λ e. q.same_draft ∙ p.draft_untold e;
+          told = λ t. read_told _ _ _ _ q.same_files q.same_draft (begin_told _ _ _ _ p.same_files p.draft_told t);
           counts = inr (record { pulled = q.pulls.count; drafted = 0; within = q.pulls.within; is = begun });
         }
 
@@ -173,6 +253,7 @@ module _ {S : Type 0} {files : S → Option Files} {draft : S → Option (List �
       same_draft = λ e. cc;
       untold = λ e. w.untold (q.same_files ∙ p.same_files ∙ e);
       draft_untold = λ e. w.draft_untold (q.same_draft ∙ p.draft_untold e);
+      told = λ t. w.told (read_told _ _ _ _ q.same_files q.same_draft (begin_told _ _ _ _ p.same_files p.draft_told t));
       counts = inr (record {
         pulled = q.pulls.count;
         drafted = w.drafted;

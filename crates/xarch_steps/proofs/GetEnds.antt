@@ -7,14 +7,14 @@ use Rattle.xa_outside.specs.Folder.{Files}
 use Rattle.key_spec.specs.Data.{PlainRule}
 use Rattle.keyed_tree.specs.Data.{PlainKeyed}
 use Rattle.archive_tree.specs.Stands.{version_of}
+use Rattle.record_format.specs.Files.{FileOf}
 use Rattle.record_format.specs.Fronts.{fixed}
 use Rattle.archive_file.specs.Sound.{SoundAs}
-use Rattle.archive_file.proofs.FrontLaws.{sound-fixed}
 use Rattle.xarch_words.specs.Commands.{get}
 use Rattle.xarch_words.specs.Refusal.{Refusal, no_file, no_version, damaged}
 use Rattle.xarch_steps.specs.Archives.{ArchiveIs, GoesOn}
 use Rattle.xarch_steps.specs.Get.{version_text}
-use Rattle.xarch_steps.specs.KeyedText.{keyed_text}
+use Rattle.keyed_print.specs.KeyedText.{keyed_text}
 use Rattle.xarch_steps.specs.Outcome.{Outcome, and_then, or_refuse}
 use Rattle.xarch_steps.specs.Plausible.{MayWrite, MayBe, get_input, is_version}
 
@@ -35,12 +35,13 @@ version_there vs (suc j) = elim (slice_get_cases vs j).1 [
       inr (rw (low, high) refl, h.1)
 ]
 
-module _ (files : Files) (name : List ℕ) (i : ℕ) where
+-- From what is known of all archive files: the number of their versions stands in their header.
+module _ (counted : (rules : List PlainRule) (vs : List PlainKeyed) (bytes : List ℕ) → FileOf rules vs bytes → fixed bytes ≡ Some (length vs)) (files : Files) (name : List ℕ) (i : ℕ) where
   -- over a sound archive the number is judged by its versions
   input_sound : (rules : List PlainRule) (vs : List PlainKeyed) (a : ArchiveIs files name rules vs) → get_input files name i ≡ and_then (is_version (length vs) i) (λ _. Ok a.bytes)
   input_sound rules vs a =
       ap (λ o. and_then (or_refuse o (no_file name)) (λ bytes. and_then (or_refuse (fixed bytes) (damaged name)) (λ n. and_then (is_version n i) (λ _. Ok bytes)))) a.there
-      ∙ ap (λ o. and_then (or_refuse o (damaged name)) (λ n. and_then (is_version n i) (λ _. Ok a.bytes))) (sound-fixed rules vs a.bytes a.sound)
+      ∙ ap (λ o. and_then (or_refuse o (damaged name)) (λ n. and_then (is_version n i) (λ _. Ok a.bytes))) (counted rules vs a.bytes a.sound.file)
 
   abbrev wrong_number : List PlainKeyed → Result (List ℕ) Refusal
   wrong_number vs = Err (no_version i (length vs))

@@ -1,25 +1,20 @@
 -- How the parts of `history` lead to its end.
-use Rattle.std.proofs.Common.{◌≡◌, inl, inr, ℕ, List, Result, Ok, Err, refl, sym, ap, ◌∙◌, subst}
-use Rattle.version_set.specs.Members.{intervals, members}
-use Rattle.version_set.specs.Pairs.{IsCanonical}
-use Rattle.version_set.proofs.MembersLemmas.{intervals-members}
+use Rattle.std.proofs.Common.{◌≡◌, inl, inr, ℕ, List, length, Some, Result, Ok, Err, refl, sym, ap, ◌∙◌, subst}
 use Rattle.xa_outside.specs.Folder.{Files}
 use Rattle.key_spec.specs.Data.{PlainRule}
 use Rattle.keyed_tree.specs.Data.{PlainLabel, PlainKeyed}
 use Rattle.archive_tree.specs.History.{hist}
+use Rattle.key_spec.specs.Canonical.{canonical}
+use Rattle.key_spec.specs.Closed.{closed}
+use Rattle.record_format.specs.Files.{FileOf}
 use Rattle.record_format.specs.Fronts.{header}
 use Rattle.archive_file.specs.Sound.{SoundAs}
-use Rattle.archive_file.proofs.FrontLaws.{sound-header}
 use Rattle.xarch_words.specs.Commands.{history}
 use Rattle.xarch_words.specs.Refusal.{Refusal, no_file, damaged}
 use Rattle.xarch_steps.specs.Archives.{ArchiveIs, GoesOn}
 use Rattle.xarch_steps.specs.History.{labels_of, numbers_text}
 use Rattle.xarch_steps.specs.Outcome.{Outcome, and_then, or_refuse}
 use Rattle.xarch_steps.specs.Plausible.{MayWrite, MayBe, history_input}
-
--- the intervals of a set are the fewest that hold its numbers
-pub intervals-are : (ps : List (ℕ × ℕ)) (ns : List ℕ) → IsCanonical ps → members ps ≡ ns → intervals ns ≡ ps
-intervals-are ps ns canonical e = ap intervals (sym e) ∙ intervals-members 1 ps canonical
 
 abbrev beside : List ℕ → Result (List PlainLabel) Refusal → Result (List ℕ × List PlainLabel) Refusal
 beside bytes x = and_then x (λ ls. Ok (bytes, ls))
@@ -32,12 +27,14 @@ beside-given : (bytes b : List ℕ) (x : Result (List PlainLabel) Refusal) (ls :
 beside-given bytes b (Ok ks) ls e = let same : (bytes, ks) ≡ (b, ls) = cc in (ap (λ (p : List ℕ × List PlainLabel). p.0) same, ap (λ (p : List ℕ × List PlainLabel). Ok p.1) same)
 beside-given bytes b (Err r) ls e = absurd cc
 
-module _ (files : Files) (name path : List ℕ) where
+-- From what is known of all archive files: their header stands in front.
+module _ (fronted : (rules : List PlainRule) (vs : List PlainKeyed) (bytes : List ℕ) → closed (canonical rules) ≡ Ok rules → FileOf rules vs bytes → header bytes ≡ Some (rules, length vs))
+    (files : Files) (name path : List ℕ) where
   -- over a sound archive the path is read by its rules
   input_sound : (rules : List PlainRule) (vs : List PlainKeyed) (a : ArchiveIs files name rules vs) → history_input files name path ≡ beside a.bytes (labels_of rules path)
   input_sound rules vs a =
       ap (λ o. and_then (or_refuse o (no_file name)) (λ bytes. and_then (or_refuse (header bytes) (damaged name)) (λ h. and_then (labels_of h.0 path) (λ ls. Ok (bytes, ls))))) a.there
-      ∙ ap (λ o. and_then (or_refuse o (damaged name)) (λ (h : List PlainRule × ℕ). and_then (labels_of h.0 path) (λ ls. Ok (a.bytes, ls)))) (sound-header rules vs a.bytes a.sound)
+      ∙ ap (λ o. and_then (or_refuse o (damaged name)) (λ (h : List PlainRule × ℕ). and_then (labels_of h.0 path) (λ ls. Ok (a.bytes, ls)))) (fronted rules vs a.bytes a.sound.specification a.sound.file)
 
   -- a refusal before the records are looked at
   pub may_refuse_early : (q : Refusal) → history_input files name path ≡ Err q → MayBe files (history name path) (Err q)

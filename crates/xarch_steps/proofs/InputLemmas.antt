@@ -1,11 +1,12 @@
 -- The length of an input file, before its bytes are read.
-use Rattle.std.proofs.Common.{◌≡◌, ℕ, Bool, true, false, nat_le, List, length, Result, Ok, Err, if◌then◌else◌, sym, ap, subst}
-use Rattle.xa_outside.specs.Folder.{Files}
+use Rattle.std.proofs.Common.{◌≡◌, ℕ, Bool, true, false, nat_le, List, length, take, Option, Some, None, Result, Ok, Err, if◌then◌else◌, sym, ap, ◌∙◌, subst}
+use Rattle.std.proofs.Math.Seq.{take-length}
+use Rattle.xa_outside.specs.Folder.{Files, bytes_or_none}
 use Rattle.xarch_words.specs.Refusal.{PlainQuantity, Refusal, limit, PlainFault, refused, folder_fault, out_fault, in_fault, memory}
 use Rattle.xarch_words.specs.declared.fault.Fault.{Fault}
 use Rattle.xarch_steps.specs.Ends.{IsDefined, Matches}
 use Rattle.xarch_steps.specs.Inputs.{at_most, file_length, file_of, length_in}
-use Rattle.xarch_steps.specs.Outcome.{and_then}
+use Rattle.xarch_steps.specs.Outcome.{and_then, or_refuse}
 
 within : (n m : ℕ) (r : Refusal) (c : Bool) → (if c then Ok m else Err r) ≡ Ok n → (let x : Result ℕ Refusal = Ok m in x ≡ Ok n)
 within n m r true h = h
@@ -24,6 +25,11 @@ pub limited : (x : Result (List ℕ) Refusal) (quantity : PlainQuantity) (most n
     → Matches (λ k. k) (and_then x (λ bytes. at_most quantity most (length bytes))) r
 limited (Ok bytes) quantity most n r h m = let same : length bytes ≡ n = cc in subst (λ k. Matches (λ j. j) (at_most quantity most k) r) (sym same) m
 limited (Err e) quantity most n r h m = absurd cc
+
+-- as many bytes as a file has from its front are all of them
+pub front_is_whole : (o : Option (List ℕ)) (r : Refusal) (n : ℕ) (front : List ℕ) → and_then (or_refuse o r) (λ bytes. Ok (length bytes)) ≡ Ok n → front ≡ take n (bytes_or_none o) → or_refuse o r ≡ Ok front
+front_is_whole None r n front e is = absurd cc
+front_is_whole (Some bytes) r n front e is = let same : length bytes ≡ n = cc in ap (λ (l : List ℕ). Ok l) (sym (is ∙ ap (λ k. take k bytes) (sym same) ∙ take-length bytes))
 
 -- a file that has no length is not there
 pub IsDefined-file : (x : Result (List ℕ) Refusal) (v : PlainFault) → IsDefined (and_then x (λ bytes. Ok (length bytes))) v → IsDefined x v

@@ -6,8 +6,6 @@ pub mod GetEnds
 pub mod HistoryEnds
 pub mod InitEnds
 pub mod InputLemmas
-pub mod KeptCalls
-pub mod KeyedCalls
 pub mod MayEnds
 pub mod MergedLemmas
 pub mod Merging
@@ -16,3 +14,4 @@ pub mod OneStep
 pub mod Running
 pub mod SampleLemmas
 pub mod StatsEnds
+pub mod Succeeding

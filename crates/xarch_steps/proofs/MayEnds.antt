@@ -1,17 +1,17 @@
 -- How the parts of a command lead to an end that it may have.
-use Rattle.std.proofs.Common.{◌≡◌, inl, inr, ℕ, List, [], Option, Some, None, Result, Ok, Err, IfErr, OnOk, refl, sym, ap, ◌∙◌, subst}
+use Rattle.std.proofs.Common.{◌≡◌, ◌⊎◌, inl, inr, ℕ, List, [], take, Option, Some, None, Result, Ok, Err, IfErr, OnOk, refl, sym, ap, ◌∙◌, subst}
 use Rattle.std.specs.Result.{IsErrAnd}
 use Rattle.std.specs.FinMap as map
 use Rattle.xa_outside.specs.Folder.{Files, committed}
 use Rattle.xa_outside.specs.Taken.{Taken, Takes, TakesNone, TakesPrefix, Puts}
-use Rattle.xa_outside.proofs.Output.{Takes-nil, Takes-kept, TakesNone-refl, TakesPrefix-all}
+use Rattle.xa_outside.specs.TakenLaws.{Takes-nil, Takes-kept, TakesNone-refl, TakesPrefix-all}
 use Rattle.xarch_words.specs.Refusal.{Refusal, PlainFault, refused, folder_fault, out_fault, in_fault, memory}
 use Rattle.xarch_words.specs.View.{fault_view}
 use Rattle.xarch_words.specs.declared.fault.Fault.{Fault}
 use Rattle.xarch_steps.specs.Archives.{IsDrafted}
-use Rattle.xarch_steps.specs.Ends.{fault_of, IsDefined, IsOfOutput, TellsOnly, EndsAs}
+use Rattle.xarch_steps.specs.Ends.{fault_of, EndsGained, Gained, IsDefined, IsOfOutput, TellsOnly}
 use Rattle.xarch_steps.specs.Outcome.{Outcome, output_of}
-use Rattle.xarch_steps.specs.Plausible.{MayEnd}
+use Rattle.xarch_steps.specs.Plausible.{MayEnd, PutSome}
 
 module _ (M : Result Outcome Refusal → Type 0) where
   -- nothing was written yet
@@ -112,8 +112,6 @@ pub passed-fault : (r : Result Unit Fault) (f : Fault) (v : PlainFault) → IsEr
 passed-fault (Ok u) f v h e = absurd h
 passed-fault (Err g) f v h e = ap (λ (z : Fault). Some (fault_view z)) h ∙ ap (λ w. Some w) e
 
--- ---- against other definitions
-
 -- an end that a command may have, where more is allowed
 pub MayEnd-more : (M N : Result Outcome Refusal → Type 0) → ((r : Result Outcome Refusal) → M r → N r) → (e : Option PlainFault) (after : Option Files) (old new : Taken) → MayEnd M e after old new → MayEnd N e after old new
 unfolding MayEnd
@@ -128,22 +126,62 @@ MayEnd-more M N h (Some memory) after old new d = elim d [ inl n ↦ inl n | inr
 pub MayEnd-told : (M : Result Outcome Refusal → Type 0) (files : Files) (e : Option PlainFault) (after : Option Files) (old new : Taken) → after ≡ Some files → MayEnd M e (Some files) old new → MayEnd M e after old new
 MayEnd-told M files e after old new told ends = subst (λ f. MayEnd M e f old new) (sym told) ends
 
--- ---- against one definition
+-- ---- what the output gained
 
-no_prefix : (old new : Taken) (piece : List ℕ) → TakesNone old new → TakesPrefix old new piece
-no_prefix old new piece none = record { count = 0; takes = Takes-kept old old new [] (Takes-nil old) none }
+gained_nothing : (t : Taken) → Gained t t
+gained_nothing t = record { bytes = []; takes = Takes-nil t }
 
--- an end that a command may have is that which is defined, where no other is allowed
-pub EndsAs-may : (M : Result Outcome Refusal → Type 0) (r : Result Outcome Refusal) → ((s : Result Outcome Refusal) → M s → s ≡ r)
-    → (e : Option PlainFault) (after : Option Files) (old new : Taken) → MayEnd M e after old new → EndsAs r e after old new
-unfolding MayEnd EndsAs
-EndsAs-may M r one None after old new d = record { outcome = d.outcome; is = sym (one (Ok d.outcome) d.may); files = d.files; output = d.output }
-EndsAs-may M r one (Some (refused q)) after old new d = record { is = sym (one (Err q) d.may); output = d.output }
-EndsAs-may M r one (Some folder_fault) after old new d =
-    elim d [ inl n ↦ no_prefix old new (output_of r) n | inr p ↦ subst (λ (x : Result Outcome Refusal). TakesPrefix old new (output_of x)) (one p.outcome p.may) p.output ]
-EndsAs-may M r one (Some out_fault) after old new d =
-    elim d [ inl n ↦ no_prefix old new (output_of r) n | inr p ↦ subst (λ (x : Result Outcome Refusal). TakesPrefix old new (output_of x)) (one p.outcome p.may) p.output ]
-EndsAs-may M r one (Some in_fault) after old new d =
-    elim d [ inl n ↦ no_prefix old new (output_of r) n | inr p ↦ subst (λ (x : Result Outcome Refusal). TakesPrefix old new (output_of x)) (one p.outcome p.may) p.output ]
-EndsAs-may M r one (Some memory) after old new d =
-    elim d [ inl n ↦ no_prefix old new (output_of r) n | inr p ↦ subst (λ (x : Result Outcome Refusal). TakesPrefix old new (output_of x)) (one p.outcome p.may) p.output ]
+gained_prefix : (old new : Taken) (piece : List ℕ) → TakesPrefix old new piece → Gained old new
+gained_prefix old new piece p = record { bytes = take p.count piece; takes = p.takes }
+
+-- nothing was written yet
+pub gained-none : (v : Option PlainFault) (t : Taken) → EndsGained v t t
+unfolding EndsGained
+gained-none None t = gained_nothing t
+gained-none (Some (refused r)) t = TakesNone-refl t
+gained-none (Some folder_fault) t = gained_nothing t
+gained-none (Some out_fault) t = gained_nothing t
+gained-none (Some in_fault) t = gained_nothing t
+gained-none (Some memory) t = gained_nothing t
+
+gained_failed : (v : PlainFault) (old new : Taken) (piece : List ℕ) (p q : ℕ) → TakesPrefix old new piece → IsOfOutput p q (Some v) → EndsGained (Some v) old new
+unfolding EndsGained IsOfOutput
+gained_failed (refused r) old new piece p q bytes cause = absurd cause
+gained_failed folder_fault old new piece p q bytes cause = absurd cause
+gained_failed out_fault old new piece p q bytes cause = gained_prefix old new piece bytes
+gained_failed in_fault old new piece p q bytes cause = absurd cause
+gained_failed memory old new piece p q bytes cause = absurd cause
+
+-- a piece was written last
+pub gained-written : (result : Result Unit Fault) (old new : Taken) (piece : List ℕ) (p q : ℕ) → Puts old new result piece → IsOfOutput p q (fault_of result) → EndsGained (fault_of result) old new
+unfolding EndsGained
+gained-written (Ok u) old new piece p q bytes cause = record { bytes = piece; takes = bytes }
+gained-written (Err f) old new piece p q bytes cause = gained_failed (fault_view f) old new piece p q bytes cause
+
+-- a part failed to write a piece
+pub gained-put_failed : (r : Result Unit Fault) (f : Fault) (old new : Taken) (piece : List ℕ) (p q : ℕ) → IsErrAnd r (λ g. g ≡ f) → TakesPrefix old new piece → IsOfOutput p q (Some (fault_view f)) → EndsGained (fault_of r) old new
+gained-put_failed (Ok u) f old new piece p q h bytes cause = absurd h
+gained-put_failed (Err g) f old new piece p q h bytes cause = subst (λ (z : Fault). EndsGained (Some (fault_view z)) old new) (sym h) (gained_failed (fault_view f) old new piece p q bytes cause)
+
+gained_then : (v : PlainFault) (old new : Taken) → Gained old new → v ≡ folder_fault → EndsGained (Some v) old new
+unfolding EndsGained
+gained_then v old new g e = subst (λ (z : PlainFault). EndsGained (Some z) old new) (sym e) g
+
+-- a piece was written, and then the folder may have failed
+pub gained-committed : (r : Result Unit Fault) (old new : Taken) (piece : List ℕ) → Takes old new piece → IfErr r (λ f. fault_view f ≡ folder_fault) → EndsGained (fault_of r) old new
+unfolding EndsGained
+gained-committed (Ok u) old new piece bytes fault = record { bytes = piece; takes = bytes }
+gained-committed (Err f) old new piece bytes fault = gained_then (fault_view f) old new (record { bytes = piece; takes = bytes }) fault
+
+gained_some : (M : Result Outcome Refusal → Type 0) (old new : Taken) → TakesNone old new ⊎ PutSome M old new → Gained old new
+gained_some M old new d = elim d [ inl none ↦ record { bytes = []; takes = Takes-kept old old new [] (Takes-nil old) none } | inr p ↦ gained_prefix old new (output_of p.outcome) p.output ]
+
+-- by an end that a command may have
+pub gained-may : (M : Result Outcome Refusal → Type 0) (e : Option PlainFault) (after : Option Files) (old new : Taken) → MayEnd M e after old new → EndsGained e old new
+unfolding MayEnd EndsGained
+gained-may M None after old new d = record { bytes = d.outcome.output; takes = d.output }
+gained-may M (Some (refused q)) after old new d = d.output
+gained-may M (Some folder_fault) after old new d = gained_some M old new d
+gained-may M (Some out_fault) after old new d = gained_some M old new d
+gained-may M (Some in_fault) after old new d = gained_some M old new d
+gained-may M (Some memory) after old new d = gained_some M old new d

@@ -1,55 +1,29 @@
--- Versions that are keyed by one specification can be merged, and the archive that this gives has no others.
-use Rattle.std.proofs.Common.{◌≡◌, ◌≢◌, ℕ, ◌≤◌, List, map, length, Some, Result, Ok, Err, IfOk, IfErr, Vec, Global, ap, sym, ◌∙◌, subst}
+-- The file of versions that are keyed by one specification.
+use Rattle.std.proofs.Common.{◌≡◌, ◌≢◌, ℕ, ◌≤◌, List, [], ◌∷◌, map, length, Some, Result, Ok, Err, IfOk, IfErr, Vec, Global, ap, sym, ◌∙◌, subst}
 use Rattle.std.proofs.lemmas.List.{length-map}
 use Rattle.std.specs.FinMap as finite
 use Rattle.std.specs.List.{AllByRecursion}
 use Rattle.xa_outside.specs.Folder.{Files}
 use Rattle.key_spec.specs.Data.{PlainRule}
 use Rattle.keyed_tree.specs.Data.{PlainKeyed}
-use Rattle.keyed_tree.specs.Kids.{IsOrdered}
-use Rattle.keyed_tree.specs.Proper.{IsElement}
-use Rattle.keyed_tree.specs.WellFormed.{IsKeyedWellFormed}
-use Rattle.keyed_tree.proofs.KidsKeep.{proper_ordered}
-use Rattle.keyed_tree.proofs.Lists.{all_has, has_all}
-use Rattle.key_annotate.proofs.ProperLemmas.{keyed-element, keyed-proper, keyed_tree-well}
-use Rattle.key_annotate.proofs.Unique.{keyed_tree-one}
 use Rattle.archive_tree.specs.Data.{PlainArchive}
 use Rattle.archive_tree.specs.Stands.{ArchiveOf}
-use Rattle.archive_tree.proofs.Readings.{one_list}
-use Rattle.nested_merge.specs.Laws.{AreVersions}
 use Rattle.record_format.specs.Files.{FileOf}
 use Rattle.archive_file.specs.Faults.{IfTooLong}
-use Rattle.archive_file.specs.KeyedBy.{IsKeyedBy, AreKeyedBy}
+use Rattle.archive_file.specs.KeyedBy.{AreKeyedBy}
 use Rattle.archive_file.specs.declared.fault.EncodeFault.{EncodeFault}
 use Rattle.archive_file.specs.declared.fault.EncodeFault.TheVariants.{TooLong, Memory}
-use Rattle.archive_file.proofs.AlikeLaws.{keyed-alike}
 use Rattle.xarch_steps.specs.Archives.{ArchiveIs}
 
--- ---- what is keyed is a version
+-- what holds of each that is one holds of all
+pub all_more : (P Q : PlainKeyed → Type 0) → ((k : PlainKeyed) → P k → Q k) → (vs : List PlainKeyed) → AllByRecursion P vs → AllByRecursion Q vs
+all_more P Q f [] h = tt
+all_more P Q f (v ∷ vs) h = (f v h.0, all_more P Q f vs h.1)
 
-module _ (rules : List PlainRule) (k : PlainKeyed) (h : IsKeyedBy rules k) where
-  element : IsElement k
-  element = keyed-element rules h.document k h.stands
-
-  ordered : IsOrdered k
-  ordered = proper_ordered k (keyed-proper rules h.document k h.stands)
-
-  well_formed : IsKeyedWellFormed k
-  well_formed = subst IsKeyedWellFormed (sym (keyed_tree-one rules h.document k h.well_formed h.satisfies h.stands)) (keyed_tree-well rules h.document h.well_formed)
-
-module _ (rules : List PlainRule) (vs : List PlainKeyed) (keyed : AreKeyedBy rules vs) where
-  each : (P : PlainKeyed → Type 0) → ((k : PlainKeyed) → IsKeyedBy rules k → P k) → AllByRecursion P vs
-  each P f = has_all P vs (λ k m. f k (all_has (IsKeyedBy rules) vs k keyed m))
-
-  pub are_versions : AreVersions vs
-  are_versions = record { ordered = each IsOrdered (ordered rules); elements = each IsElement (element rules); alike = keyed-alike rules vs keyed }
-
-  pub all_well_formed : AllByRecursion IsKeyedWellFormed vs
-  all_well_formed = each IsKeyedWellFormed (well_formed rules)
-
-  -- the archive that they have has no others
-  pub only_keyed : (a : PlainArchive) → ArchiveOf vs a → (us : List PlainKeyed) → ArchiveOf us a → AreKeyedBy rules us
-  only_keyed a is us h = subst (AreKeyedBy rules) (one_list vs us a is h) keyed
+-- the archive that they have has no others
+pub only_keyed : ((vs us : List PlainKeyed) (a : PlainArchive) → ArchiveOf vs a → ArchiveOf us a → vs ≡ us)
+    → (rules : List PlainRule) (vs : List PlainKeyed) → AreKeyedBy rules vs → (a : PlainArchive) → ArchiveOf vs a → (us : List PlainKeyed) → ArchiveOf us a → AreKeyedBy rules us
+only_keyed one_list rules vs keyed a is us h = subst (AreKeyedBy rules) (one_list vs us a is h) keyed
 
 -- it counts as many as there are
 pub few_merged : {X : Type 0} (view : X → PlainKeyed) (xs : List X) (a : PlainArchive) → ArchiveOf (map view xs) a → length xs ≤ 999999 → a.n ≤ 999999

@@ -1,7 +1,6 @@
 -- What the merge of a document into a sound archive needs, and what it makes.
-use Rattle.std.proofs.Common.{◌≡◌, inl, inr, ℕ, ◌<◌, ◌≤◌, true, IsTrue, List, [], ◌∷◌, ◌++◌, length, Result, Ok, Err, IfErr, Vec, Global, Some, refl, sym, ap, ◌∙◌, subst, arith}
-use Rattle.std.proofs.Math.Bool.{Bool-set}
-use Rattle.std.proofs.Math.Logic.{∥∥₁_elim}
+use Rattle.std.proofs.Common.{◌≡◌, inl, inr, ℕ, ◌<◌, ◌≤◌, List, [], ◌∷◌, ◌++◌, length, Result, Ok, Err, IfErr, Vec, Global, Some, refl, sym, ap, ◌∙◌, subst, arith}
+use Rattle.std.specs.List.{AllByRecursion}
 use Rattle.jsonml_tree.specs.Data.{PlainTree, tree_depth}
 use Rattle.jsonml_tree.specs.Fits as fits
 use Rattle.jsonml_tree.specs.WellFormed.{IsWellFormed}
@@ -13,17 +12,10 @@ use Rattle.keyed_tree.specs.Lists.{Has}
 use Rattle.keyed_tree.specs.Proper.{IsElement}
 use Rattle.keyed_tree.specs.WellFormed.{IsKeyedWellFormed}
 use Rattle.archive_tree.specs.Data.{PlainArchive}
-use Rattle.archive_tree.specs.PartsTest.{is_archive}
 use Rattle.archive_tree.specs.Stands.{AllAlike, ArchiveOf, Kept}
-use Rattle.archive_tree.proofs.Necessary.{necessary}
-use Rattle.archive_tree.proofs.Readings.{one_list}
-use Rattle.archive_tree.proofs.Rebuilt.{sufficient}
-use Rattle.archive_tree.proofs.Tells.{archive_tells}
 use Rattle.nested_merge.specs.Alike.{AlikeAll}
-use Rattle.nested_merge.proofs.Picked.{all_append}
 use Rattle.archive_file.specs.KeyedBy.{IsKeyedBy, AreKeyedBy}
 use Rattle.archive_file.specs.Sound.{SoundAs}
-use Rattle.archive_file.proofs.FrontLaws.{sound-header}
 use Rattle.record_format.specs.Files.{FileOf}
 use Rattle.record_format.specs.Fronts.{header}
 use Rattle.xarch_words.specs.Refusal.{archive, Refusal, limit, refused}
@@ -31,12 +23,6 @@ use Rattle.xarch_words.specs.View.{fault_view}
 use Rattle.xarch_words.specs.declared.fault.Fault.{Fault}
 use Rattle.xarch_steps.specs.Added.{Goes, IsOverlong, IsTooLong, IsVersionBy}
 use Rattle.xarch_steps.specs.Archives.{IsRefusal, NoRefusal}
-
--- the versions of an archive that has some can be told
-opened : (a : PlainArchive) → ∥ Kept a ∥₁ → Kept a
-opened a kept =
-    let passed = ∥∥₁_elim {P = IsTrue (is_archive a)} kept (Bool-set (is_archive a) true) (λ k. (archive_tells a).1 (necessary k.versions a k.is)) in
-    sufficient a ((archive_tells a).0 passed)
 
 pub has_front : (xs : List PlainKeyed) (x v : PlainKeyed) → Has v xs → Has v (xs ++ x ∷ [])
 has_front [] x v m = absurd m
@@ -46,18 +32,25 @@ pub has_last : (xs : List PlainKeyed) (x : PlainKeyed) → Has x (xs ++ x ∷ []
 has_last [] x = inl refl
 has_last (y ∷ ys) x = inr (has_last ys x)
 
+-- what holds of all of them and of one more
+pub all_behind : (P : PlainKeyed → Type 0) (xs : List PlainKeyed) (x : PlainKeyed) → AllByRecursion P xs → P x → AllByRecursion P (xs ++ x ∷ [])
+all_behind P [] x h p = (p, tt)
+all_behind P (y ∷ ys) x h p = (h.0, all_behind P ys x h.1 p)
+
 -- an archive has as many versions as it counts
 pub few_of : (vs : List PlainKeyed) (a : PlainArchive) → ArchiveOf vs a → a.n ≤ 999999 → length vs ≤ 999999
 few_of vs a h few = (let count = h.count in omega (arith, count, few))
 
-module _ (rules : List PlainRule) (old : PlainArchive) (bytes : List ℕ) (k : PlainKeyed) (kept : ∥ Kept old ∥₁)
+-- From what is known of all archives: one stands for one list, and the list of one that has some can be told.
+module _ (one_list : (vs us : List PlainKeyed) (a : PlainArchive) → ArchiveOf vs a → ArchiveOf us a → vs ≡ us) (told : (a : PlainArchive) → ∥ Kept a ∥₁ → Kept a)
+    (rules : List PlainRule) (old : PlainArchive) (bytes : List ℕ) (k : PlainKeyed) (kept : ∥ Kept old ∥₁)
     (sound : (vs : List PlainKeyed) → ArchiveOf vs old → SoundAs rules vs bytes) (goes : Goes bytes k) where
   follows_keyed : (vs : List PlainKeyed) → ArchiveOf vs old → AreKeyedBy rules (vs ++ k ∷ [])
-  follows_keyed vs h = all_append (IsKeyedBy rules) vs (k ∷ []) (sound vs h).keyed ((goes.follows rules vs (sound vs h)).keyed, tt)
+  follows_keyed vs h = all_behind (IsKeyedBy rules) vs k (sound vs h).keyed (goes.follows rules vs (sound vs h)).keyed
 
   pub room : old.n < 999999
   room =
-      let v = opened old kept in
+      let v = told old kept in
       let below = (goes.follows rules v.versions (sound v.versions v.is)).room in
       let count = v.is.count in
       omega (arith, below, count)
@@ -68,13 +61,13 @@ module _ (rules : List PlainRule) (old : PlainArchive) (bytes : List ℕ) (k : P
   -- the merged archive has versions that are keyed, and no others
   pub keyed_after : (new : PlainArchive) → ((vs : List PlainKeyed) → ArchiveOf vs old → ArchiveOf (vs ++ k ∷ []) new) → (us : List PlainKeyed) → ArchiveOf us new → AreKeyedBy rules us
   keyed_after new merged us h =
-      let v = opened old kept in
+      let v = told old kept in
       let same = one_list (v.versions ++ k ∷ []) us new (merged v.versions v.is) h in
       subst (AreKeyedBy rules) same (follows_keyed v.versions v.is)
 
   -- a refusal of the file of the new archive is that of a sound archive
   pub overlong : (q : Refusal) → q ≡ limit archive 274877906944 → IsOverlong bytes q
-  overlong q e = let v = opened old kept in record { is = e; rules = rules; versions = v.versions; sound = sound v.versions v.is }
+  overlong q e = let v = told old kept in record { is = e; rules = rules; versions = v.versions; sound = sound v.versions v.is }
 
 -- where no file was made, the versions have none
 pub too_long_after : (rules given : List PlainRule) (new : PlainArchive) (vs : List PlainKeyed) (k : PlainKeyed) (r : Result (Vec ℕ Global) Fault) (q : Refusal) → given ≡ rules → ArchiveOf (vs ++ k ∷ []) new
@@ -88,13 +81,14 @@ too_long_after rules given new vs k (Err f) q same is limits none = λ e. record
 }
 
 -- a document that was keyed by the rules in front of an archive goes behind its versions
-pub goes_on : (rules : List PlainRule) (n : ℕ) (bytes : List ℕ) (k : PlainKeyed) → header bytes ≡ Some (rules, n) → IsElement k → IsOrdered k → IsKeyedWellFormed k → IsKeyedBy rules k → n < 999999 → Goes bytes k
-goes_on rules n bytes k front element ordered formed keyed below = record {
+pub goes_on : (rules : List PlainRule) (n : ℕ) (bytes : List ℕ) (k : PlainKeyed) → header bytes ≡ Some (rules, n) → ((others : List PlainRule) (vs : List PlainKeyed) → SoundAs others vs bytes → header bytes ≡ Some (others, length vs))
+    → IsElement k → IsOrdered k → IsKeyedWellFormed k → IsKeyedBy rules k → n < 999999 → Goes bytes k
+goes_on rules n bytes k front judged element ordered formed keyed below = record {
   element = element;
   ordered = ordered;
   well_formed = formed;
   follows = λ others vs sound.
-      let both : Some (rules, n) ≡ Some (others, length vs) = sym front ∙ sound-header others vs bytes sound in
+      let both : Some (rules, n) ≡ Some (others, length vs) = sym front ∙ judged others vs sound in
       let same : (rules, n) ≡ (others, length vs) = cc in
       record {
         keyed = subst (λ z. IsKeyedBy z k) (ap (λ (p : List PlainRule × ℕ). p.0) same) keyed;

@@ -1,12 +1,12 @@
--- What a command may do is what is defined, where that is.
+-- What a command may do is what is defined, where that is. It is so since versions have one archive and one file.
 use Rattle.std.proofs.Common.{◌≡◌, inl, inr, ℕ, List, [], ◌∷◌, ◌++◌, length, Option, Some, None, Result, Ok, Err, sym, ap, ◌∙◌, subst}
 use Rattle.std.specs.FinMap as map
 use Rattle.xa_outside.specs.Folder.{Files}
 use Rattle.key_spec.specs.Data.{PlainRule}
 use Rattle.keyed_tree.specs.Data.{PlainKeyed}
 use Rattle.archive_tree.specs.Data.{PlainArchive}
-use Rattle.archive_tree.proofs.OneArchive.{one_archive}
-use Rattle.record_format.specs.Files.{FileOf, file_bytes}
+use Rattle.archive_tree.specs.Stands.{ArchiveOf}
+use Rattle.record_format.specs.Files.{FileOf}
 use Rattle.archive_stats.specs.Counts.{PlainCounts, counts}
 use Rattle.xarch_gen.specs.Company.{company_rules}
 use Rattle.xarch_words.specs.Commands.{PlainCommand, norm, init, add, get, history, stats, batch, demo}
@@ -21,71 +21,69 @@ use Rattle.xarch_steps.specs.Plausible.{MayAdd, MayWrite, MayBe, MayDo, Plausibl
 use Rattle.xarch_steps.specs.Stats.{CountsFrom, counts_text}
 use Rattle.xarch_steps.specs.Step.{OutcomeIs, DoesOrRefuses, Defines, StepIs, single_of}
 
--- versions have one file
-pub one_file : (rules : List PlainRule) (vs : List PlainKeyed) (b c : List ℕ) → FileOf rules vs b → FileOf rules vs c → b ≡ c
-one_file rules vs b c h g = h.spelled ∙ ap (file_bytes rules) (one_archive vs h.archive g.archive h.is g.is) ∙ sym g.spelled
+module _ (one_archive : (vs : List PlainKeyed) (a b : PlainArchive) → ArchiveOf vs a → ArchiveOf vs b → a ≡ b)
+    (one_file : (rules : List PlainRule) (vs : List PlainKeyed) (b c : List ℕ) → FileOf rules vs b → FileOf rules vs c → b ≡ c) where
+  one_stored : (files : Files) (name : List ℕ) (rules : List PlainRule) (vs : List PlainKeyed) (r s : Result Outcome Refusal) → Stores files name rules vs r → Stores files name rules vs s → s ≡ r
+  one_stored files name rules vs r s (inl p) (inl q) =
+      let same = one_file rules vs q.bytes p.bytes q.sound.file p.sound.file in
+      q.is ∙ ap (λ b. Ok (record { files = map.insert files name b; output = [] })) same ∙ sym p.is
+  one_stored files name rules vs r s (inl p) (inr q) = absurd (q.none p.bytes p.sound.file)
+  one_stored files name rules vs r s (inr p) (inl q) = absurd (p.none q.bytes q.sound.file)
+  one_stored files name rules vs r s (inr p) (inr q) = q.is ∙ sym p.is
 
-one_stored : (files : Files) (name : List ℕ) (rules : List PlainRule) (vs : List PlainKeyed) (r s : Result Outcome Refusal) → Stores files name rules vs r → Stores files name rules vs s → s ≡ r
-one_stored files name rules vs r s (inl p) (inl q) =
-    let same = one_file rules vs q.bytes p.bytes q.sound.file p.sound.file in
-    q.is ∙ ap (λ b. Ok (record { files = map.insert files name b; output = [] })) same ∙ sym p.is
-one_stored files name rules vs r s (inl p) (inr q) = absurd (q.none p.bytes p.sound.file)
-one_stored files name rules vs r s (inr p) (inl q) = absurd (p.none q.bytes q.sound.file)
-one_stored files name rules vs r s (inr p) (inr q) = q.is ∙ sym p.is
+  one_way : {A : Type 0} (x : Result A Refusal) (P : A → Result Outcome Refusal → Type 0) → ((a : A) (r s : Result Outcome Refusal) → P a r → P a s → s ≡ r) → (r s : Result Outcome Refusal) → GoesOn x P r → GoesOn x P s → s ≡ r
+  one_way (Ok a) P h r s p q = h a r s p q
+  one_way (Err e) P h r s p q = q ∙ sym p
 
-one_way : {A : Type 0} (x : Result A Refusal) (P : A → Result Outcome Refusal → Type 0) → ((a : A) (r s : Result Outcome Refusal) → P a r → P a s → s ≡ r) → (r s : Result Outcome Refusal) → GoesOn x P r → GoesOn x P s → s ≡ r
-one_way (Ok a) P h r s p q = h a r s p q
-one_way (Err e) P h r s p q = q ∙ sym p
+  -- what begins with a file that is not there is refused
+  absent : {A : Type 0} (files : Files) (name : List ℕ) (f : List ℕ → Result A Refusal) → map.get files name ≡ None → and_then (file_of files name) f ≡ Err (no_file name)
+  absent files name f e = ap (λ o. and_then (or_refuse o (no_file name)) f) e
 
--- what begins with a file that is not there is refused
-absent : {A : Type 0} (files : Files) (name : List ℕ) (f : List ℕ → Result A Refusal) → map.get files name ≡ None → and_then (file_of files name) f ≡ Err (no_file name)
-absent files name f e = ap (λ o. and_then (or_refuse o (no_file name)) f) e
+  file_absent : (files : Files) (name : List ℕ) → map.get files name ≡ None → file_of files name ≡ Err (no_file name)
+  file_absent files name e = ap (λ o. or_refuse o (no_file name)) e
 
-file_absent : (files : Files) (name : List ℕ) → map.get files name ≡ None → file_of files name ≡ Err (no_file name)
-file_absent files name e = ap (λ o. or_refuse o (no_file name)) e
+  -- versions have one archive, and it has one count
+  one_counted : (files : Files) (rules : List PlainRule) (vs : List PlainKeyed) (r s : Result Outcome Refusal) → CountsFrom files rules vs r → CountsFrom files rules vs s → s ≡ r
+  one_counted files rules vs r s p q =
+      q.is ∙ ap (λ (a : PlainArchive). Ok (record { files = files; output = counts_text (counts rules a) })) (one_archive vs q.archive p.archive q.of p.of) ∙ sym p.is
 
--- versions have one archive, and it has one count
-one_counted : (files : Files) (rules : List PlainRule) (vs : List PlainKeyed) (r s : Result Outcome Refusal) → CountsFrom files rules vs r → CountsFrom files rules vs s → s ≡ r
-one_counted files rules vs r s p q =
-    q.is ∙ ap (λ (a : PlainArchive). Ok (record { files = files; output = counts_text (counts rules a) })) (one_archive vs q.archive p.archive q.of p.of) ∙ sym p.is
+  one_made : (files : Files) (name : List ℕ) (seed count : ℕ) (r s : Result Outcome Refusal) → MakesOrNone files name seed count r → MakesOrNone files name seed count s → s ≡ r
+  one_made files name seed count r s (inl p) (inl q) =
+      let same = one_file company_rules (samples seed count) q.bytes p.bytes q.made.sound.file p.made.sound.file in
+      let archives = one_archive (samples seed count) q.made.archive p.made.archive q.made.of p.made.of in
+      let tallies : q.tally ≡ p.tally = q.made.tells ∙ ap (counts company_rules) archives ∙ sym p.made.tells in
+      q.is
+      ∙ ap (λ b. Ok (record { files = map.insert files name b; output = counts_text q.tally })) same
+      ∙ ap (λ (c : PlainCounts). Ok (record { files = map.insert files name p.bytes; output = counts_text c })) tallies
+      ∙ sym p.is
+  one_made files name seed count r s (inl p) (inr q) = absurd (q.none p.bytes p.made.sound.file)
+  one_made files name seed count r s (inr p) (inl q) = absurd (p.none q.bytes q.made.sound.file)
+  one_made files name seed count r s (inr p) (inr q) = q.is ∙ sym p.is
 
-one_made : (files : Files) (name : List ℕ) (seed count : ℕ) (r s : Result Outcome Refusal) → MakesOrNone files name seed count r → MakesOrNone files name seed count s → s ≡ r
-one_made files name seed count r s (inl p) (inl q) =
-    let same = one_file company_rules (samples seed count) q.bytes p.bytes q.made.sound.file p.made.sound.file in
-    let archives = one_archive (samples seed count) q.made.archive p.made.archive q.made.of p.made.of in
-    let tallies : q.tally ≡ p.tally = q.made.tells ∙ ap (counts company_rules) archives ∙ sym p.made.tells in
-    q.is
-    ∙ ap (λ b. Ok (record { files = map.insert files name b; output = counts_text q.tally })) same
-    ∙ ap (λ (c : PlainCounts). Ok (record { files = map.insert files name p.bytes; output = counts_text c })) tallies
-    ∙ sym p.is
-one_made files name seed count r s (inl p) (inr q) = absurd (q.none p.bytes p.made.sound.file)
-one_made files name seed count r s (inr p) (inl q) = absurd (p.none q.bytes q.made.sound.file)
-one_made files name seed count r s (inr p) (inr q) = q.is ∙ sym p.is
+  one : (files : Files) (command : PlainCommand) (r s : Result Outcome Refusal) → OutcomeIs files command r → MayBe files command s → s ≡ r
+  unfolding OutcomeIs MayBe
+  one files (norm spec doc) r s p q = q ∙ sym p
+  one files (init name spec) r s p q = one_way (init_rules files name spec) (λ rules. Stores files name rules []) (λ rules. one_stored files name rules []) r s p q
+  one files (add name doc) r s (inl p) q = subst (λ x. GoesOn x (λ _. MayAdd files name) s) (absent files name _ p.absent) q.whatever ∙ sym p.is
+  one files (add name doc) r s (inr p) q =
+      one_way (added files doc p.rules (length p.versions)) (λ k. Stores files name p.rules (p.versions ++ k ∷ [])) (λ k. one_stored files name p.rules (p.versions ++ k ∷ [])) r s p.rest (q.sound p.rules p.versions p.archive)
+  one files (get name i) r s (inl p) q = subst (λ x. GoesOn x (λ _. MayWrite files name) s) (absent files name _ p.absent) q.whatever ∙ sym p.is
+  one files (get name i) r s (inr p) q = q.sound p.rules p.versions p.archive ∙ sym p.rest
+  one files (history name path) r s (inl p) q = subst (λ x. GoesOn x (λ _. MayWrite files name) s) (absent files name _ p.absent) q.whatever ∙ sym p.is
+  one files (history name path) r s (inr p) q = q.sound p.rules p.versions p.archive ∙ sym p.rest
+  one files (stats name) r s (inl p) q = subst (λ x. GoesOn x (λ _. MayWrite files name) s) (file_absent files name p.absent) q.whatever ∙ sym p.is
+  one files (stats name) r s (inr p) q = one_counted files p.rules p.versions r s p.rest (q.sound p.rules p.versions p.archive)
+  one files batch r s p q = q ∙ sym p
+  one files (demo seed count name) r s p q = one_way (demo_input files count name) (λ _. MakesOrNone files name seed count) (λ _. one_made files name seed count) r s p q
 
-one : (files : Files) (command : PlainCommand) (r s : Result Outcome Refusal) → OutcomeIs files command r → MayBe files command s → s ≡ r
-unfolding OutcomeIs MayBe
-one files (norm spec doc) r s p q = q ∙ sym p
-one files (init name spec) r s p q = one_way (init_rules files name spec) (λ rules. Stores files name rules []) (λ rules. one_stored files name rules []) r s p q
-one files (add name doc) r s (inl p) q = subst (λ x. GoesOn x (λ _. MayAdd files name) s) (absent files name _ p.absent) q.whatever ∙ sym p.is
-one files (add name doc) r s (inr p) q =
-    one_way (added files doc p.rules (length p.versions)) (λ k. Stores files name p.rules (p.versions ++ k ∷ [])) (λ k. one_stored files name p.rules (p.versions ++ k ∷ [])) r s p.rest (q.sound p.rules p.versions p.archive)
-one files (get name i) r s (inl p) q = subst (λ x. GoesOn x (λ _. MayWrite files name) s) (absent files name _ p.absent) q.whatever ∙ sym p.is
-one files (get name i) r s (inr p) q = q.sound p.rules p.versions p.archive ∙ sym p.rest
-one files (history name path) r s (inl p) q = subst (λ x. GoesOn x (λ _. MayWrite files name) s) (absent files name _ p.absent) q.whatever ∙ sym p.is
-one files (history name path) r s (inr p) q = q.sound p.rules p.versions p.archive ∙ sym p.rest
-one files (stats name) r s (inl p) q = subst (λ x. GoesOn x (λ _. MayWrite files name) s) (file_absent files name p.absent) q.whatever ∙ sym p.is
-one files (stats name) r s (inr p) q = one_counted files p.rules p.versions r s p.rest (q.sound p.rules p.versions p.archive)
-one files batch r s p q = q ∙ sym p
-one files (demo seed count name) r s p q = one_way (demo_input files count name) (λ _. MakesOrNone files name seed count) (λ _. one_made files name seed count) r s p q
+  one_does : (files : Files) (command : Option PlainCommand) (r s : Result Outcome Refusal) → DoesOrRefuses files command r → MayDo files command s → s ≡ r
+  one_does files None r s p q = q ∙ sym p
+  one_does files (Some command) r s p q = one files command r s p q
 
-one_does : (files : Files) (command : Option PlainCommand) (r s : Result Outcome Refusal) → DoesOrRefuses files command r → MayDo files command s → s ≡ r
-one_does files None r s p q = q ∙ sym p
-one_does files (Some command) r s p q = one files command r s p q
+  -- the words may have no other outcome than the defined one
+  pub one_outcome : (files : Files) (words : List (List ℕ)) (r s : Result Outcome Refusal) → Defines files words r → MayDo files (single_of words) s → s ≡ r
+  one_outcome files words r s p q = one_does files (single_of words) r s p q
 
--- the words may have no other outcome than the defined one
-pub one_outcome : (files : Files) (words : List (List ℕ)) (r s : Result Outcome Refusal) → Defines files words r → MayDo files (single_of words) s → s ≡ r
-one_outcome files words r s p q = one_does files (single_of words) r s p q
-
--- no other step than the defined one
-pub one_step : (files : Files) (words : List (List ℕ)) (s t : Step) → StepIs files words s → Plausible files words t → s ≡ t
-one_step files words s t p q = p.is ∙ sym (ap (step_from files) (one_outcome files words p.outcome q.outcome p.defined q.may)) ∙ sym q.is
+  -- no other step than the defined one
+  pub one_step : (files : Files) (words : List (List ℕ)) (s t : Step) → StepIs files words s → Plausible files words t → s ≡ t
+  one_step files words s t p q = p.is ∙ sym (ap (step_from files) (one_outcome files words p.outcome q.outcome p.defined q.may)) ∙ sym q.is

@@ -3,21 +3,26 @@ use Rattle.std.proofs.Common.{◌≡◌, ◌≢◌, ◌⊎◌, ◌↔◌, inl, i
 use Rattle.xa_outside.specs.Causes.{HasCause, Rose}
 use Rattle.xa_outside.specs.Folder.{Files}
 use Rattle.xa_outside.specs.Numbers.{Numbers, IsMeter}
-use Rattle.xa_outside.proofs.NumberLemmas.{PullsAtMost-none}
+use Rattle.xa_outside.specs.NumberLaws.{PullsAtMost-none}
 use Rattle.xa_outside.specs.Taken.{Taken, TakesNone, TakesPrefix, Puts}
-use Rattle.xa_outside.proofs.Output.{Takes-nil, Takes-kept, TakesPrefix-none, TakesPrefix-all}
+use Rattle.xa_outside.specs.TakenLaws.{Takes-nil, Takes-kept, TakesPrefix-none, TakesPrefix-all}
+use Rattle.key_spec.specs.Data.{PlainRule}
+use Rattle.keyed_tree.specs.Data.{PlainKeyed}
+use Rattle.archive_tree.specs.Data.{PlainArchive}
+use Rattle.archive_tree.specs.Stands.{ArchiveOf}
+use Rattle.record_format.specs.Files.{FileOf}
 use Rattle.xarch_words.specs.Commands.{PlainCommand, norm, init, add, get, history, stats, batch, demo, command_of}
 use Rattle.xarch_words.specs.Refusal.{Refusal, usage, no_file, exists, bad_spec, bad_json, bad_shape, key_fault, no_version, bad_path, damaged, limit, PlainFault, refused, folder_fault, out_fault, in_fault, memory}
 use Rattle.xarch_words.specs.Lines.{refusal_status}
 use Rattle.xarch_words.specs.declared.fault.Fault.{Fault}
 use Rattle.xarch_steps.specs.Outcome.{Outcome, Step, output_of, step_from}
-use Rattle.xarch_steps.specs.Ends.{fault_of, IsOfCommand, HasItsCause, EndsAs}
+use Rattle.xarch_steps.specs.Ends.{fault_of, EndsGained, Gained, IsOfCommand, HasItsCause}
 use Rattle.xarch_steps.specs.Folders.{Counts}
-use Rattle.xarch_steps.specs.Ran.{CountsAsSaid, IsLongDemo, OnlyReads, PullsAsSaid, made_name, most_pulled, status_after, line_after, outside_of, Says}
+use Rattle.xarch_steps.specs.Ran.{CountsAsSaid, IsLongDemo, OnlyReads, made_name, most_pulled, status_after, line_after, outside_of, Says}
 use Rattle.xarch_steps.specs.Plausible.{MayBe, MayDo, MayEnd, Plausible, PutSome, Tried, Wrote}
 use Rattle.xarch_steps.specs.Step.{StepIs, alone, single_of}
 use Rattle.xarch_steps.proofs.Ending.{IsOfCommand-usage}
-use Rattle.xarch_steps.proofs.MayEnds.{MayEnd-stopped, EndsAs-may}
+use Rattle.xarch_steps.proofs.MayEnds.{MayEnd-stopped}
 use Rattle.xarch_steps.proofs.OneStep.{one_outcome, one_step}
 
 -- ---- statuses
@@ -107,18 +112,6 @@ status_after-input a b c d (Some out_fault) p h = omega (arith, h)
 status_after-input a b c d (Some in_fault) p h = p
 status_after-input a b c d (Some memory) p h = omega (arith, h)
 
--- what should succeed does, where no count rose
-pub complete-from : (files : Files) (defined : Result Outcome Refusal) (e : Option PlainFault) (after : Option Files) (old new : Taken) (a b c d : ℕ) → EndsAs defined e after old new → HasItsCause a b c d e
-    → (step_from files defined).status ≡ 0 → ¬ Rose a b → ¬ Rose c d → (status_after e ≡ 0) ⊎ (status_after e ≡ 16)
-unfolding EndsAs HasItsCause
-complete-from files defined None after old new a b c d ends cause zero folder out = inl refl
-complete-from files defined (Some (refused r)) after old new a b c d ends cause zero folder out =
-    refusal_some r ((refusal_status r ≡ 0) ⊎ (refusal_status r ≡ 16)) (sym (ap (λ (d : Result Outcome Refusal). (step_from files d).status) ends.is) ∙ zero)
-complete-from files defined (Some folder_fault) after old new a b c d ends cause zero folder out = absurd (folder cause)
-complete-from files defined (Some out_fault) after old new a b c d ends cause zero folder out = absurd (out cause)
-complete-from files defined (Some in_fault) after old new a b c d ends cause zero folder out = absurd cause
-complete-from files defined (Some memory) after old new a b c d ends cause zero folder out = inr refl
-
 -- ---- from the words to a command
 
 pub MayEnd-usage : (files : Files) (words : List (List ℕ)) (after : Option Files) (t : Taken) → single_of words ≡ None → MayEnd (MayDo files (single_of words)) (Some (refused usage)) after t t
@@ -130,68 +123,100 @@ pub MayEnd-command : (files : Files) (words : List (List ℕ)) (command : PlainC
     → single_of words ≡ Some command → MayEnd (MayBe files command) e after old new → MayEnd (MayDo files (single_of words)) e after old new
 MayEnd-command files words command e after old new some ends = subst (λ (o : Option PlainCommand). MayEnd (MayDo files o) e after old new) (sym some) ends
 
--- the end of a command is that which is defined
-pub EndsAs-defined : (files : Files) (words : List (List ℕ)) (s : Step) (e : Option PlainFault) (after : Option Files) (old new : Taken)
-    → (is : StepIs files words s) → MayEnd (MayDo files (single_of words)) e after old new → EndsAs is.outcome e after old new
-EndsAs-defined files words s e after old new is ends = EndsAs-may (MayDo files (single_of words)) is.outcome (λ x m. one_outcome files words is.outcome x is.defined m) e after old new ends
-
--- where it is no fault of the outside, a step is taken that may be taken
-pub Tried-from : (files : Files) (words : List (List ℕ)) (e : Option PlainFault) (before after : Option Files) (old new err_old err_new : Taken) (p q : ℕ) → before ≡ Some files → (IsSome e → after ≡ before)
-    → MayEnd (MayDo files (single_of words)) e after old new → Says err_old err_new p q (line_after e) → outside_of (status_after e) ≡ None → Tried files words (status_after e) after old new err_old err_new p q
-unfolding MayEnd
-Tried-from files words None before after old new err_old err_new p q told stays ends says plain =
-    let may : Plausible files words (step_from files (Ok ends.outcome)) = record { outcome = Ok ends.outcome; may = ends.may; is = refl } in
-    record {
-      step = step_from files (Ok ends.outcome);
-      may = may;
-      defined = λ s is. one_step files words s (step_from files (Ok ends.outcome)) is may;
-      ran = record { status = refl; files = ends.files; output = ends.output; line = says };
-    }
-Tried-from files words (Some (refused r)) before after old new err_old err_new p q told stays ends says plain =
-    let may : Plausible files words (step_from files (Err r)) = record { outcome = Err r; may = ends.may; is = refl } in
-    record {
-      step = step_from files (Err r);
-      may = may;
-      defined = λ s is. one_step files words s (step_from files (Err r)) is may;
-      ran = record {
-        status = refl;
-        files = λ f is. let same : after ≡ before = stays refl in grind (arith, told, same, is);
-        output = Takes-kept old old new [] (Takes-nil old) ends.output;
-        line = says;
-      };
-    }
-Tried-from files words (Some folder_fault) before after old new err_old err_new p q told stays ends says plain = cc
-Tried-from files words (Some out_fault) before after old new err_old err_new p q told stays ends says plain = cc
-Tried-from files words (Some in_fault) before after old new err_old err_new p q told stays ends says plain = cc
-Tried-from files words (Some memory) before after old new err_old err_new p q told stays ends says plain = cc
-
 output_from : (files : Files) (outcome : Result Outcome Refusal) (old new : Taken) → TakesPrefix old new (output_of outcome) → TakesPrefix old new (step_from files outcome).output
 output_from files (Ok o) old new p = p
 output_from files (Err r) old new p = p
 
--- a prefix of the output of a step that may be taken
-wrote_some : (files : Files) (words : List (List ℕ)) (outcome : Result Outcome Refusal) (old new : Taken) → MayDo files (single_of words) outcome → TakesPrefix old new (output_of outcome) → Wrote files words old new
-wrote_some files words outcome old new m p =
-    let may : Plausible files words (step_from files outcome) = record { outcome = outcome; may = m; is = refl } in
-    inr (record {
-      step = step_from files outcome;
-      may = may;
-      defined = λ s is. one_step files words s (step_from files outcome) is may;
-      output = output_from files outcome old new p;
-    })
+-- From what is known of all versions: they have one archive and one file.
+module _ (one_archive : (vs : List PlainKeyed) (a b : PlainArchive) → ArchiveOf vs a → ArchiveOf vs b → a ≡ b)
+    (one_file : (rules : List PlainRule) (vs : List PlainKeyed) (b c : List ℕ) → FileOf rules vs b → FileOf rules vs c → b ≡ c) where
+  -- what should succeed does, where no count rose
+  pub complete-from : (files : Files) (words : List (List ℕ)) (s : Step) (e : Option PlainFault) (after : Option Files) (old new : Taken) (a b c d : ℕ) → StepIs files words s
+      → MayEnd (MayDo files (single_of words)) e after old new → HasItsCause a b c d e → s.status ≡ 0 → ¬ Rose a b → ¬ Rose c d → (status_after e ≡ 0) ⊎ (status_after e ≡ 16)
+  unfolding MayEnd HasItsCause
+  complete-from files words s None after old new a b c d is ends cause zero folder out = inl refl
+  complete-from files words s (Some (refused r)) after old new a b c d is ends cause zero folder out =
+      let same : Err r ≡ is.outcome = one_outcome one_archive one_file files words is.outcome (Err r) is.defined ends.may in
+      let status : refusal_status r ≡ 0 = ap (λ (o : Result Outcome Refusal). (step_from files o).status) same ∙ sym (ap (λ (x : Step). x.status) is.is) ∙ zero in
+      refusal_some r ((refusal_status r ≡ 0) ⊎ (refusal_status r ≡ 16)) status
+  complete-from files words s (Some folder_fault) after old new a b c d is ends cause zero folder out = absurd (folder cause)
+  complete-from files words s (Some out_fault) after old new a b c d is ends cause zero folder out = absurd (out cause)
+  complete-from files words s (Some in_fault) after old new a b c d is ends cause zero folder out = absurd cause
+  complete-from files words s (Some memory) after old new a b c d is ends cause zero folder out = inr refl
 
-wrote_outside : (files : Files) (words : List (List ℕ)) (old new : Taken) → (TakesNone old new) ⊎ (PutSome (MayDo files (single_of words)) old new) → Wrote files words old new
-wrote_outside files words old new d = elim d [ inl n ↦ inl n | inr p ↦ wrote_some files words p.outcome old new p.may p.output ]
+  -- where it is no fault of the outside, a step is taken that may be taken
+  pub Tried-from : (files : Files) (words : List (List ℕ)) (e : Option PlainFault) (before after : Option Files) (old new err_old err_new : Taken) (p q : ℕ) → before ≡ Some files → (IsSome e → after ≡ before)
+      → MayEnd (MayDo files (single_of words)) e after old new → Says err_old err_new p q (line_after e) → outside_of (status_after e) ≡ None → Tried files words (status_after e) after old new err_old err_new p q
+  unfolding MayEnd
+  Tried-from files words None before after old new err_old err_new p q told stays ends says plain =
+      let may : Plausible files words (step_from files (Ok ends.outcome)) = record { outcome = Ok ends.outcome; may = ends.may; is = refl } in
+      record {
+        step = step_from files (Ok ends.outcome);
+        may = may;
+        defined = λ s is. one_step one_archive one_file files words s (step_from files (Ok ends.outcome)) is may;
+        ran = record { status = refl; files = ends.files; output = ends.output; line = says };
+      }
+  Tried-from files words (Some (refused r)) before after old new err_old err_new p q told stays ends says plain =
+      let may : Plausible files words (step_from files (Err r)) = record { outcome = Err r; may = ends.may; is = refl } in
+      record {
+        step = step_from files (Err r);
+        may = may;
+        defined = λ s is. one_step one_archive one_file files words s (step_from files (Err r)) is may;
+        ran = record {
+          status = refl;
+          files = λ f is. let same : after ≡ before = stays refl in grind (arith, told, same, is);
+          output = Takes-kept old old new [] (Takes-nil old) ends.output;
+          line = says;
+        };
+      }
+  Tried-from files words (Some folder_fault) before after old new err_old err_new p q told stays ends says plain = cc
+  Tried-from files words (Some out_fault) before after old new err_old err_new p q told stays ends says plain = cc
+  Tried-from files words (Some in_fault) before after old new err_old err_new p q told stays ends says plain = cc
+  Tried-from files words (Some memory) before after old new err_old err_new p q told stays ends says plain = cc
 
--- whatever its end, it has written nothing, or such a prefix
-pub Wrote-from : (files : Files) (words : List (List ℕ)) (e : Option PlainFault) (after : Option Files) (old new : Taken) → MayEnd (MayDo files (single_of words)) e after old new → Wrote files words old new
-unfolding MayEnd
-Wrote-from files words None after old new ends = wrote_some files words (Ok ends.outcome) old new ends.may (TakesPrefix-all old new ends.outcome.output ends.output)
-Wrote-from files words (Some (refused r)) after old new ends = inl ends.output
-Wrote-from files words (Some folder_fault) after old new ends = wrote_outside files words old new ends
-Wrote-from files words (Some out_fault) after old new ends = wrote_outside files words old new ends
-Wrote-from files words (Some in_fault) after old new ends = wrote_outside files words old new ends
-Wrote-from files words (Some memory) after old new ends = wrote_outside files words old new ends
+  -- a prefix of the output of a step that may be taken
+  wrote_some : (files : Files) (words : List (List ℕ)) (outcome : Result Outcome Refusal) (old new : Taken) → MayDo files (single_of words) outcome → TakesPrefix old new (output_of outcome) → Wrote files words old new
+  wrote_some files words outcome old new m p =
+      let may : Plausible files words (step_from files outcome) = record { outcome = outcome; may = m; is = refl } in
+      inr (record {
+        step = step_from files outcome;
+        may = may;
+        defined = λ s is. one_step one_archive one_file files words s (step_from files outcome) is may;
+        output = output_from files outcome old new p;
+      })
+
+  wrote_outside : (files : Files) (words : List (List ℕ)) (old new : Taken) → (TakesNone old new) ⊎ (PutSome (MayDo files (single_of words)) old new) → Wrote files words old new
+  wrote_outside files words old new d = elim d [ inl n ↦ inl n | inr p ↦ wrote_some files words p.outcome old new p.may p.output ]
+
+  -- whatever its end, it has written nothing, or such a prefix
+  pub Wrote-from : (files : Files) (words : List (List ℕ)) (e : Option PlainFault) (after : Option Files) (old new : Taken) → MayEnd (MayDo files (single_of words)) e after old new → Wrote files words old new
+  unfolding MayEnd
+  Wrote-from files words None after old new ends = wrote_some files words (Ok ends.outcome) old new ends.may (TakesPrefix-all old new ends.outcome.output ends.output)
+  Wrote-from files words (Some (refused r)) after old new ends = inl ends.output
+  Wrote-from files words (Some folder_fault) after old new ends = wrote_outside files words old new ends
+  Wrote-from files words (Some out_fault) after old new ends = wrote_outside files words old new ends
+  Wrote-from files words (Some in_fault) after old new ends = wrote_outside files words old new ends
+  Wrote-from files words (Some memory) after old new ends = wrote_outside files words old new ends
+
+-- ---- what the output gained
+
+pub gained-any : (e : Option PlainFault) (old new : Taken) → EndsGained e old new → Gained old new
+unfolding EndsGained
+gained-any None old new g = g
+gained-any (Some (refused r)) old new g = record { bytes = []; takes = Takes-kept old old new [] (Takes-nil old) g }
+gained-any (Some folder_fault) old new g = g
+gained-any (Some out_fault) old new g = g
+gained-any (Some in_fault) old new g = g
+gained-any (Some memory) old new g = g
+
+pub gained-refused : (e : Option PlainFault) (old new : Taken) → EndsGained e old new → status_after e ≢ 0 → outside_of (status_after e) ≡ None → TakesNone old new
+unfolding EndsGained
+gained-refused None old new g some plain = absurd (some refl)
+gained-refused (Some (refused r)) old new g some plain = g
+gained-refused (Some folder_fault) old new g some plain = cc
+gained-refused (Some out_fault) old new g some plain = cc
+gained-refused (Some in_fault) old new g some plain = cc
+gained-refused (Some memory) old new g some plain = cc
 
 -- a command does not end as words that are none
 pub usage-command : (words : List (List ℕ)) (command : PlainCommand) (a b p q : ℕ) (e : Option PlainFault) → single_of words ≡ Some command → IsOfCommand a b p q e
@@ -247,26 +272,9 @@ said_of (stats archive) told before after h = h
 said_of batch told before after h = tt
 said_of (demo seed count archive) told before after h = h
 
-pulled_of : (command : PlainCommand) (told : Option Files) (before after : Numbers) → Counts (made_name command) (most_pulled command told) before after → PullsAsSaid (Some command) before after
-pulled_of (norm spec doc) told before after h = h
-pulled_of (init archive spec) told before after h = tt
-pulled_of (add archive doc) told before after h = tt
-pulled_of (get archive i) told before after h = tt
-pulled_of (history archive path) told before after h = tt
-pulled_of (stats archive) told before after h = tt
-pulled_of batch told before after h = tt
-pulled_of (demo seed count archive) told before after h = tt
+pub counts_as_said : (words : List (List ℕ)) (command : PlainCommand) (told : Option Files) (before after : Numbers)
+    → single_of words ≡ Some command → Counts (made_name command) (most_pulled command told) before after → CountsAsSaid (single_of words) told before after
+counts_as_said words command told before after some h = subst (λ (o : Option PlainCommand). CountsAsSaid o told before after) (sym some) (said_of command told before after h)
 
-module _ (words : List (List ℕ)) (command : PlainCommand) (told : Option Files) (before after : Numbers) (some : single_of words ≡ Some command) (h : Counts (made_name command) (most_pulled command told) before after) where
-  pub counts_as_said : CountsAsSaid (single_of words) told before after
-  counts_as_said = subst (λ (o : Option PlainCommand). CountsAsSaid o told before after) (sym some) (said_of command told before after h)
-
-  pub pulls_as_said : PullsAsSaid (single_of words) before after
-  pulls_as_said = subst (λ (o : Option PlainCommand). PullsAsSaid o before after) (sym some) (pulled_of command told before after h)
-
-module _ (words : List (List ℕ)) (m : Numbers) (none : single_of words ≡ None) (is : IsMeter m) where
-  pub nothing_counted : (told : Option Files) → CountsAsSaid (single_of words) told m m
-  nothing_counted told = subst (λ (o : Option PlainCommand). CountsAsSaid o told m m) (sym none) (PullsAtMost-none 0 m is)
-
-  pub nothing_pulled : PullsAsSaid (single_of words) m m
-  nothing_pulled = subst (λ (o : Option PlainCommand). PullsAsSaid o m m) (sym none) (PullsAtMost-none 0 m is)
+pub nothing_counted : (words : List (List ℕ)) (m : Numbers) → single_of words ≡ None → IsMeter m → (told : Option Files) → CountsAsSaid (single_of words) told m m
+nothing_counted words m none is told = subst (λ (o : Option PlainCommand). CountsAsSaid o told m m) (sym none) (PullsAtMost-none 0 m is)

@@ -10,16 +10,13 @@ use Rattle.key_spec.specs.Data.{PlainRule}
 use Rattle.keyed_tree.specs.Data.{PlainKeyed}
 use Rattle.keyed_tree.specs.Lists.{Has}
 use Rattle.archive_tree.specs.Data.{PlainArchive}
-use Rattle.archive_tree.specs.Stands.{ArchiveOf}
-use Rattle.archive_tree.proofs.Readings.{one_list}
+use Rattle.archive_tree.specs.Stands.{AllAlike, ArchiveOf}
 use Rattle.nested_merge.specs.Alike.{AlikeAll}
-use Rattle.nested_merge.proofs.Picked.{all_append}
 use Rattle.archive_file.specs.KeyedBy.{IsKeyedBy, AreKeyedBy}
-use Rattle.archive_file.proofs.AlikeLaws.{keyed-alike}
 use Rattle.xarch_gen.specs.Company.{company_rules}
 use Rattle.xarch_gen.specs.Sample.{sample_of}
 use Rattle.xarch_steps.specs.Demo.{IsSampleArchive, sample_tree, samples}
-use Rattle.xarch_steps.proofs.Merging.{has_front, has_last}
+use Rattle.xarch_steps.proofs.Merging.{all_behind, has_front, has_last}
 
 samples-more : (seed n : ℕ) → samples seed (n + 1) ≡ samples seed n ++ sample_tree seed (n + 1) ∷ []
 samples-more seed n = map-range_with_len_more (sample_tree seed) 1 n (n + 1) (omega arith)
@@ -42,7 +39,7 @@ module _ (rules : List PlainRule) (seed n : ℕ) (t : PlainTree) (k : PlainKeyed
 
   module _ (a : PlainArchive) (sampled : IsSampleArchive seed n a) where
     all_keyed : AreKeyedBy company_rules (samples seed n ++ k ∷ [])
-    all_keyed = all_append (IsKeyedBy company_rules) (samples seed n) (k ∷ []) sampled.keyed (keyed_by, tt)
+    all_keyed = all_behind (IsKeyedBy company_rules) (samples seed n) k sampled.keyed keyed_by
 
     -- there is room for it
     pub room : n < 1000 → a.n < 4294967295
@@ -52,11 +49,12 @@ module _ (rules : List PlainRule) (seed n : ℕ) (t : PlainTree) (k : PlainKeyed
         omega (arith, count, many)
 
     -- it goes with the documents before it
-    pub alike : (vs : List PlainKeyed) → ArchiveOf vs a → AlikeAll vs k
-    alike vs h v m =
+    pub alike : ((vs us : List PlainKeyed) (a : PlainArchive) → ArchiveOf vs a → ArchiveOf us a → vs ≡ us) → ((rules : List PlainRule) (vs : List PlainKeyed) → AreKeyedBy rules vs → AllAlike vs)
+        → (vs : List PlainKeyed) → ArchiveOf vs a → AlikeAll vs k
+    alike one_list keyed_alike vs h v m =
         let one : vs ≡ samples seed n = one_list vs (samples seed n) a h sampled.archive in
         let there : Has v (samples seed n) = subst (Has v) one m in
-        keyed-alike company_rules (samples seed n ++ k ∷ []) all_keyed v k (has_front (samples seed n) k v there) (has_last (samples seed n) k)
+        keyed_alike company_rules (samples seed n ++ k ∷ []) all_keyed v k (has_front (samples seed n) k v there) (has_last (samples seed n) k)
 
     -- and comes behind them
     pub sampled_next : (b : PlainArchive) → ((vs : List PlainKeyed) → ArchiveOf vs a → ArchiveOf (vs ++ k ∷ []) b) → IsSampleArchive seed (n + 1) b
@@ -73,7 +71,8 @@ few_versions seed count a sampled few =
     let many : length (samples seed count) ≡ count = length-map-range_with_len (sample_tree seed) 1 count in
     omega (arith, versions, many)
 
-pub only_keyed : (rules : List PlainRule) (seed count : ℕ) (a : PlainArchive) → rules ≡ company_rules → IsSampleArchive seed count a → (vs : List PlainKeyed) → ArchiveOf vs a → AreKeyedBy rules vs
-only_keyed rules seed count a same sampled vs h =
+pub only_keyed : ((vs us : List PlainKeyed) (a : PlainArchive) → ArchiveOf vs a → ArchiveOf us a → vs ≡ us)
+    → (rules : List PlainRule) (seed count : ℕ) (a : PlainArchive) → rules ≡ company_rules → IsSampleArchive seed count a → (vs : List PlainKeyed) → ArchiveOf vs a → AreKeyedBy rules vs
+only_keyed one_list rules seed count a same sampled vs h =
     let one : samples seed count ≡ vs = one_list (samples seed count) vs a sampled.archive h in
     subst (λ r. AreKeyedBy r vs) (sym same) (subst (AreKeyedBy company_rules) one sampled.keyed)

@@ -3,14 +3,13 @@ use Rattle.std.proofs.Common.{◌≡◌, inl, inr, ℕ, true, nat_le, List, leng
 use Rattle.std.proofs.Math.Seq.{take-length}
 use Rattle.std.proofs.lemmas.Bool.{le-leb}
 use Rattle.std.specs.FinMap as map
-use Rattle.xa_outside.specs.Folder.{Files, bytes_or_none}
+use Rattle.xa_outside.specs.Folder.{Files, bytes_or_none, front, front_of}
 use Rattle.key_spec.specs.Data.{PlainRule}
 use Rattle.keyed_tree.specs.Data.{PlainKeyed}
 use Rattle.archive_tree.specs.Data.{PlainArchive}
 use Rattle.archive_tree.specs.Stands.{ArchiveOf}
 use Rattle.archive_file.specs.Sound.{SoundAs}
 use Rattle.archive_stats.specs.Counts.{PlainCounts, counts}
-use Rattle.archive_stats.specs.Pieces.{front, front_of}
 use Rattle.xarch_words.specs.Commands.{stats}
 use Rattle.xarch_words.specs.Refusal.{Refusal, no_file, damaged}
 use Rattle.xarch_steps.specs.Archives.{GoesOn}

@@ -1,12 +1,11 @@
--- How a command, or a part of it, ends, against its definition.
-use Rattle.std.specs.Prelude.{◌≡◌, ◌≤◌, ℕ, Option, Some, None, Result, Ok, Err, ⊤}
+-- With what fault a command, or a part of it, ends.
+use Rattle.std.specs.Prelude.{◌≡◌, ◌≤◌, ℕ, List, Option, Some, None, Result, Ok, Err, ⊤}
 use Rattle.xa_outside.specs.Causes.{Rose}
 use Rattle.xa_outside.specs.Folder.{Files}
-use Rattle.xa_outside.specs.Taken.{Taken, Takes, TakesNone, TakesPrefix}
+use Rattle.xa_outside.specs.Taken.{Taken, Takes, TakesNone}
 use Rattle.xarch_words.specs.Refusal.{Refusal, usage, PlainFault, refused, folder_fault, out_fault, in_fault, memory}
 use Rattle.xarch_words.specs.View.{fault_view}
 use Rattle.xarch_words.specs.declared.fault.Fault.{Fault}
-use Rattle.xarch_steps.specs.Outcome.{Outcome, output_of}
 
 -- the fault with which a call ended, if any
 abbrev pub fault_of : {T : Type 0} → Result T Fault → Option PlainFault
@@ -60,24 +59,16 @@ abbrev pub Matches : {A T : Type 0} → (T → A) → Result A Refusal → Resul
 Matches view defined (Ok x) = defined ≡ Ok (view x)
 Matches view defined (Err f) = IsDefined defined (fault_view f)
 
+-- the sink gained some bytes
+pub record Gained (old new : Taken) : Type 0 where
+  pub bytes : List ℕ
+  pub takes : Takes old new bytes
+
+-- What the output gained, whatever the folder tells: nothing where the command was refused.
+unfoldable pub EndsGained : Option PlainFault → Taken → Taken → Type 0
+EndsGained (Some (refused r)) old new = TakesNone old new
+EndsGained ended old new = Gained old new
+
 -- where files are told, they are these
 abbrev pub TellsOnly : Option Files → Files → Type 0
 TellsOnly told files = (after : Files) → told ≡ Some after → after ≡ files
-
--- a command that did what is defined
-pub record Did (defined : Result Outcome Refusal) (after : Option Files) (old new : Taken) : Type 0 where
-  pub outcome : Outcome
-  pub is : defined ≡ Ok outcome
-  pub files : TellsOnly after outcome.files
-  pub output : Takes old new outcome.output
-
--- a command that was refused as it is defined
-pub record WasRefused (defined : Result Outcome Refusal) (r : Refusal) (old new : Taken) : Type 0 where
-  pub is : defined ≡ Err r
-  pub output : TakesNone old new
-
--- A command does what is defined, or is refused as it is defined. A fault of the outside leaves a prefix of the output.
-unfoldable pub EndsAs : Result Outcome Refusal → Option PlainFault → Option Files → Taken → Taken → Type 0
-EndsAs defined None after old new = Did defined after old new
-EndsAs defined (Some (refused r)) after old new = WasRefused defined r old new
-EndsAs defined (Some _) after old new = TakesPrefix old new (output_of defined)

@@ -7,6 +7,10 @@ use Rattle.xarch_words.specs.Refusal.{PlainFault}
 use Rattle.xarch_steps.specs.Archives.{IsBlank}
 use Rattle.xarch_steps.specs.Ends.{IsOfFolder}
 
+-- files and draft are both told
+abbrev pub IsTold : Option Files → Option (List ℕ) → Type 0
+IsTold files draft = IsSome files × IsSome draft
+
 -- It is only read from: files and draft stay, and at most so many bytes are pulled.
 pub record ReadsOnly {S : Type 0} (files : S → Option Files) (draft : S → Option (List ℕ)) (numbers : S → Numbers) (faults : S → ℕ)
     (most : ℕ) (old new : S) (ended : Option PlainFault) : Type 0 where
@@ -22,6 +26,7 @@ pub record Begins {S : Type 0} (files : S → Option Files) (draft : S → Optio
   pub same_files : files new ≡ files old
   pub blank : ended ≡ None → IsBlank (draft new)
   pub draft_untold : draft old ≡ None → draft new ≡ None
+  pub draft_told : IsSome (draft old) → IsSome (draft new)
   pub begun : ended ≡ None → numbers new ≡ after_begin (numbers old)
   pub failed : IsSome ended → numbers new ≡ numbers old
   pub later : faults old ≤ faults new
@@ -33,6 +38,7 @@ pub record WritesOnly {S : Type 0} (files : S → Option Files) (draft : S → O
   pub refused : IsSome ended → files new ≡ files old
   pub untold : files old ≡ None → files new ≡ None
   pub draft_untold : draft old ≡ None → draft new ≡ None
+  pub told : IsTold (files old) (draft old) → IsTold (files new) (draft new)
   pub drafted : ℕ
   pub counted : numbers new ≡ after_draft (numbers old) drafted
 
@@ -57,4 +63,5 @@ pub record Keeps {S : Type 0} (files : S → Option Files) (draft : S → Option
   pub same_draft : made ≡ None → draft new ≡ draft old
   pub untold : files old ≡ None → files new ≡ None
   pub draft_untold : draft old ≡ None → draft new ≡ None
+  pub told : IsTold (files old) (draft old) → IsTold (files new) (draft new)
   pub counts : Counts made most (numbers old) (numbers new)

@@ -6,7 +6,7 @@ use Rattle.keyed_tree.specs.Data.{PlainKeyed}
 use Rattle.archive_tree.specs.Stands.{version_of}
 use Rattle.xarch_words.specs.Refusal.{Refusal, no_version}
 use Rattle.xarch_steps.specs.Archives.{Opens}
-use Rattle.xarch_steps.specs.KeyedText.{keyed_text}
+use Rattle.keyed_print.specs.KeyedText.{keyed_text}
 use Rattle.xarch_steps.specs.Outcome.{Outcome, and_then, or_refuse}
 
 -- the text of the version of that number, which counts from 1

@@ -1,6 +1,5 @@
 pub mod Outcome
 pub mod Inputs
-pub mod KeyedText
 pub mod Readings
 pub mod Archives
 pub mod Norm
@@ -16,3 +15,4 @@ pub mod Ends
 pub mod Folders
 pub mod Ran
 pub mod Plausible
+pub mod Succeeds

@@ -5,7 +5,7 @@ use Rattle.jsonml_tree.specs.Data.{PlainTree}
 use Rattle.key_spec.specs.Data.{PlainRule}
 use Rattle.xarch_words.specs.Refusal.{document, specification, Refusal}
 use Rattle.xarch_steps.specs.Inputs.{file_of, length_in, read_in}
-use Rattle.xarch_steps.specs.KeyedText.{keyed_text}
+use Rattle.keyed_print.specs.KeyedText.{keyed_text}
 use Rattle.xarch_steps.specs.Outcome.{Outcome, and_then}
 use Rattle.xarch_steps.specs.Readings.{rules_of, document_of, keyed_of}
 

@@ -72,8 +72,15 @@ pub record Written (files : Files) (r : Result Outcome Refusal) : Type 0 where
   pub output : List ℕ
   pub is : r ≡ Ok (record { files = files; output = output })
 
+-- the archive of this name is sound, and would be too long
+pub record Overlong (files : Files) (name : List ℕ) (r : Result Outcome Refusal) : Type 0 where
+  pub is : r ≡ Err (limit archive 274877906944)
+  pub rules : List PlainRule
+  pub versions : List PlainKeyed
+  pub there : ArchiveIs files name rules versions
+
 abbrev pub MayAdd : Files → List ℕ → Result Outcome Refusal → Type 0
-MayAdd files name r = (r ≡ Err (damaged name)) ⊎ (r ≡ Err (limit archive 274877906944)) ⊎ Replaced files name r
+MayAdd files name r = (r ≡ Err (damaged name)) ⊎ Overlong files name r ⊎ Replaced files name r
 
 abbrev pub MayWrite : Files → List ℕ → Result Outcome Refusal → Type 0
 MayWrite files name r = (r ≡ Err (damaged name)) ⊎ Written files r

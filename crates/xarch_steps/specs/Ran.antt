@@ -86,13 +86,6 @@ abbrev pub IsLongDemo : Option PlainCommand → Type 0
 IsLongDemo (Some (demo seed count archive)) = 1000 < count
 IsLongDemo _ = ⊥
 
--- How many bytes a command pulls at most, where that is said of it: `norm` those of a specification and of a document at
--- their limits, and words that are no command none.
-abbrev pub PullsAsSaid : Option PlainCommand → Numbers → Numbers → Type 0
-PullsAsSaid None before after = PullsAtMost 0 before after
-PullsAsSaid (Some (norm spec doc)) before after = PullsAtMost 68157440 before after
-PullsAsSaid (Some _) before after = ⊤
-
 -- What is pulled and drafted, from files that are told or not: nothing for words that are no command. Of a batch nothing is
 -- said.
 abbrev pub CountsAsSaid : Option PlainCommand → Option Files → Numbers → Numbers → Type 0

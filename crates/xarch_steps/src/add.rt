@@ -28,10 +28,12 @@ use crate::archives::{archive_from, begin, file_from, header_from, store};
 use crate::inputs::{length_of, limited_length, read_whole};
 use crate::limits;
 use crate::readings::{doc_from, keyed_from};
+use archive_tree::archives_stand_for_one_list;
 use jsonml_tree::LentTree;
 use key_spec::Spec;
 use keyed_tree::Keyed;
 use nested_merge::merge;
+use record_format::versions_have_one_file;
 use std::alloc::Global;
 use xa_outside::Folder;
 use xarch_words::{Fault, Quantity};
@@ -43,12 +45,17 @@ pub(crate) fn run_add<F: Folder>(
     doc: &str,
     folder: &mut F,
 ) -> Result<(), Fault>
-    ensures keeps { Keeps F.files F.draft F.numbers (Some archive.now) (size_in (F.files folder.old) archive.now + 67108864)
+    ensures keeps { Keeps F.files F.draft F.numbers (Some archive.now)
+        (size_in (F.files folder.old) archive.now + 67108864)
         folder.old folder.new (fault_of result) }
-    ensures caused { (out : ℕ) → IsCaused (F.faults folder.old) (F.faults folder.new) out out (fault_of result) }
+    ensures caused { (out : ℕ)
+        → IsCaused (F.faults folder.old) (F.faults folder.new) out out (fault_of result) }
     ensures may { (files : Files) (t : Taken) → F.files folder.old ≡ Some files
-        → MayEnd (MayBe files (add archive.now doc.now)) (fault_of result) (F.files folder.new) t t }
+        → MayEnd (MayBe files (add archive.now doc.now)) (fault_of result)
+        (F.files folder.new) t t }
 {
+    // A law, for the proof of `may`.
+    versions_have_one_file();
     begin(folder)?;
     let (bytes, keyed) = read_added(alloc, archive, doc, folder)?;
     let file = merged_file(alloc, archive, &bytes, &keyed)?;
@@ -62,7 +69,8 @@ fn read_added<F: Folder>(
     doc: &str,
     folder: &mut F,
 ) -> Result<(Vec<u8>, Keyed), Fault>
-    ensures reads { ReadsOnly F.files F.draft F.numbers F.faults (size_in (F.files folder.old) archive.now + 67108864)
+    ensures reads { ReadsOnly F.files F.draft F.numbers F.faults
+        (size_in (F.files folder.old) archive.now + 67108864)
         folder.old folder.new (fault_of result) }
     ensures told { (files : Files) → F.files folder.old ≡ Some files
         → Matches (λ r. (r.0.items, keyed_view r.1)) (add_input files archive.now doc.now) result }
@@ -75,8 +83,8 @@ fn read_added<F: Folder>(
     Ok((bytes, keyed))
 }
 
-// The keyed tree of the document in a file of this length, which goes behind the versions of the archive of this name in
-// these bytes.
+// The keyed tree of the document in a file of this length, which goes behind the versions of the
+// archive of this name in these bytes.
 fn read_keyed<F: Folder>(
     alloc: Global,
     name: &str,
@@ -86,8 +94,10 @@ fn read_keyed<F: Folder>(
     folder: &mut F,
 ) -> Result<Keyed, Fault>
     requires { length ≤ 67108864 }
-    ensures reads { ReadsOnly F.files F.draft F.numbers F.faults 67108864 folder.old folder.new (fault_of result) }
-    ensures told { (files : Files) → F.files folder.old ≡ Some files → file_length files doc.now ≡ Ok length
+    ensures reads { ReadsOnly F.files F.draft F.numbers F.faults 67108864 folder.old folder.new
+        (fault_of result) }
+    ensures told { (files : Files) → F.files folder.old ≡ Some files
+        → file_length files doc.now ≡ Ok length
         → Matches keyed_view (added_behind files name.now doc.now bytes.now) result }
     ensures goes { IfOk result (λ k. Goes bytes.now (keyed_view k)) }
 {
@@ -106,9 +116,12 @@ fn keyed_in<F: Folder>(
     folder: &mut F,
 ) -> Result<Keyed, Fault>
     requires { length ≤ 67108864 }
-    ensures reads { ReadsOnly F.files F.draft F.numbers F.faults 67108864 folder.old folder.new (fault_of result) }
-    ensures told { (files : Files) → F.files folder.old ≡ Some files → file_length files doc.now ≡ Ok length
-        → Matches keyed_view (and_then (read_in files doc.now document_of) (keyed_of (spec_view spec.now))) result }
+    ensures reads { ReadsOnly F.files F.draft F.numbers F.faults 67108864 folder.old folder.new
+        (fault_of result) }
+    ensures told { (files : Files) → F.files folder.old ≡ Some files
+        → file_length files doc.now ≡ Ok length
+        → Matches keyed_view
+        (and_then (read_in files doc.now document_of) (keyed_of (spec_view spec.now))) result }
     ensures version { IfOk result (λ k. IsVersionBy (spec_view spec.now) (keyed_view k)) }
 {
     let text = read_whole(alloc, folder, doc, length)?;
@@ -121,7 +134,8 @@ fn keyed_in<F: Folder>(
 fn added_from(alloc: Global, spec: &Spec, text: &[u8]) -> Result<Keyed, Fault>
     requires { length text.now ≤ 67108864 }
     ensures cause { IsInside (fault_of result) }
-    ensures told { Matches keyed_view (and_then (document_of text.now) (keyed_of (spec_view spec.now))) result }
+    ensures told { Matches keyed_view
+        (and_then (document_of text.now) (keyed_of (spec_view spec.now))) result }
     ensures version { IfOk result (λ k. IsVersionBy (spec_view spec.now) (keyed_view k)) }
 {
     let doc = doc_from(alloc, text)?;
@@ -135,7 +149,8 @@ fn owned_from(alloc: Global, spec: &Spec, doc: &LentTree<'_>) -> Result<Keyed, F
     requires well_formed { IsWellFormed (lent_tree_view doc.now) }
     requires shallow { tree_depth (lent_tree_view doc.now) ≤ 120 }
     ensures cause { IsInside (fault_of result) }
-    ensures told { Matches keyed_view (keyed_of (spec_view spec.now) (lent_tree_view doc.now)) result }
+    ensures told { Matches keyed_view
+        (keyed_of (spec_view spec.now) (lent_tree_view doc.now)) result }
     ensures version { IfOk result (λ k. IsVersionBy (spec_view spec.now) (keyed_view k)) }
 {
     let keyed = keyed_from(alloc, spec, doc)?;
@@ -168,9 +183,13 @@ fn merged_file(alloc: Global, name: &str, bytes: &[u8], new: &Keyed) -> Result<V
     ensures refused { IfErr result (λ f. IsMerging name.now bytes.now (fault_view f)) }
     ensures sound { (rules : List PlainRule) (vs : List PlainKeyed) → SoundAs rules vs bytes.now
         → IfOk result (λ v. SoundAs rules (vs ++ keyed_view new.now ∷ []) v.items) }
-    ensures too_long { (rules : List PlainRule) (vs : List PlainKeyed) (q : Refusal) → SoundAs rules vs bytes.now
-        → IfErr result (λ f. fault_view f ≡ refused q → IsTooLong rules (vs ++ keyed_view new.now ∷ []) q) }
+    ensures too_long { (rules : List PlainRule) (vs : List PlainKeyed) (q : Refusal)
+        → SoundAs rules vs bytes.now
+        → IfErr result (λ f. fault_view f ≡ refused q
+        → IsTooLong rules (vs ++ keyed_view new.now ∷ []) q) }
 {
+    // A law, for the proofs of all clauses.
+    archives_stand_for_one_list();
     let (spec, archive) = archive_from(alloc, name, bytes)?;
     match merge(alloc, archive, new) {
         Ok(archive) => file_from(alloc, &spec, &archive),

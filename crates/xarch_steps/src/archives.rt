@@ -1,6 +1,6 @@
 #![tactic(auto, using(crate::proofs::Ending::endings), unfolding(crate::specs::Ends::IsInside, crate::specs::Ends::IsOfFolder, crate::specs::Ends::IsDefined))]
 
-ghost use Rattle.std.specs.Prelude.{◌≡◌, ◌≤◌, ℕ, List, Some, IfOk, IfErr, OnOk};
+ghost use Rattle.std.specs.Prelude.{◌≡◌, ◌≤◌, ℕ, List, length, Some, IfOk, IfErr, OnOk};
 ghost use Rattle.std.specs.FinMap as map;
 ghost use Rattle.xa_outside.specs.Folder.{Files, committed};
 ghost use Rattle.key_spec.specs.Data.{PlainRule};
@@ -31,7 +31,8 @@ use xarch_words::{Fault, Quantity};
 
 /// Empties the draft, as each command does first that makes a file.
 pub(crate) fn begin<F: Folder>(folder: &mut F) -> Result<(), Fault>
-    ensures begins { Begins F.files F.draft F.numbers F.faults folder.old folder.new (fault_of result) }
+    ensures begins { Begins F.files F.draft F.numbers F.faults folder.old folder.new
+        (fault_of result) }
     ensures fault { IfErr result (λ f. fault_view f ≡ folder_fault) }
 {
     match folder.begin() {
@@ -42,8 +43,10 @@ pub(crate) fn begin<F: Folder>(folder: &mut F) -> Result<(), Fault>
 
 /// Nothing, where the name has no file yet.
 pub(crate) fn check_free<F: Folder>(alloc: Global, folder: &mut F, name: &str) -> Result<(), Fault>
-    ensures reads { ReadsOnly F.files F.draft F.numbers F.faults 0 folder.old folder.new (fault_of result) }
-    ensures told { (files : Files) → F.files folder.old ≡ Some files → Matches (λ _. tt) (free_in files name.now) result }
+    ensures reads { ReadsOnly F.files F.draft F.numbers F.faults 0 folder.old folder.new
+        (fault_of result) }
+    ensures told { (files : Files) → F.files folder.old ≡ Some files
+        → Matches (λ _. tt) (free_in files name.now) result }
 {
     match folder.length(name) {
         Ok(None) => Ok(()),
@@ -56,7 +59,8 @@ pub(crate) fn check_free<F: Folder>(alloc: Global, folder: &mut F, name: &str) -
 pub(crate) fn store<F: Folder>(folder: &mut F, name: &str, bytes: &[u8]) -> Result<(), Fault>
     requires blank { IsBlank (F.draft folder.old) }
     ensures writes { WritesOnly F.files F.draft F.numbers folder.old folder.new (fault_of result) }
-    ensures caused { (out : ℕ) → IsCaused (F.faults folder.old) (F.faults folder.new) out out (fault_of result) }
+    ensures caused { (out : ℕ)
+        → IsCaused (F.faults folder.old) (F.faults folder.new) out out (fault_of result) }
     ensures stored { (files : Files) → F.files folder.old ≡ Some files
         → OnOk result (TellsOnly (F.files folder.new) (map.insert files name.now bytes.now)) }
     ensures fault { IfErr result (λ f. fault_view f ≡ folder_fault) }
@@ -69,7 +73,8 @@ pub(crate) fn store<F: Folder>(folder: &mut F, name: &str, bytes: &[u8]) -> Resu
 pub(crate) fn draft<F: Folder>(folder: &mut F, bytes: &[u8]) -> Result<(), Fault>
     requires blank { IsBlank (F.draft folder.old) }
     ensures writes { WritesOnly F.files F.draft F.numbers folder.old folder.new (fault_of result) }
-    ensures caused { (out : ℕ) → IsCaused (F.faults folder.old) (F.faults folder.new) out out (fault_of result) }
+    ensures caused { (out : ℕ)
+        → IsCaused (F.faults folder.old) (F.faults folder.new) out out (fault_of result) }
     ensures drafted { OnOk result (IsDrafted (F.draft folder.new) bytes.now) }
     ensures files { F.files folder.new ≡ F.files folder.old }
     ensures fault { IfErr result (λ f. fault_view f ≡ folder_fault) }
@@ -83,8 +88,10 @@ pub(crate) fn draft<F: Folder>(folder: &mut F, bytes: &[u8]) -> Result<(), Fault
 /// Makes the draft the file of this name.
 pub(crate) fn commit<F: Folder>(folder: &mut F, name: &str) -> Result<(), Fault>
     ensures writes { WritesOnly F.files F.draft F.numbers folder.old folder.new (fault_of result) }
-    ensures caused { (out : ℕ) → IsCaused (F.faults folder.old) (F.faults folder.new) out out (fault_of result) }
-    ensures committed { OnOk result (F.files folder.new ≡ committed (F.files folder.old) (F.draft folder.old) name.now) }
+    ensures caused { (out : ℕ)
+        → IsCaused (F.faults folder.old) (F.faults folder.new) out out (fault_of result) }
+    ensures committed { OnOk result
+        (F.files folder.new ≡ committed (F.files folder.old) (F.draft folder.old) name.now) }
     ensures fault { IfErr result (λ f. fault_view f ≡ folder_fault) }
 {
     match folder.commit(name) {
@@ -92,11 +99,15 @@ pub(crate) fn commit<F: Folder>(folder: &mut F, name: &str) -> Result<(), Fault>
         Err(_) => Err(Fault::FolderFault),
     }
 }
+
 /// The specification and the number of versions of the archive of this name, whose bytes these are.
 pub(crate) fn header_from(alloc: Global, name: &str, bytes: &[u8]) -> Result<(Spec, u32), Fault>
     ensures cause { IsInside (fault_of result) }
-    ensures told { Matches (λ h. (spec_view h.0, h.1)) (or_refuse (header bytes.now) (refusal.damaged name.now)) result }
+    ensures told { Matches (λ h. (spec_view h.0, h.1))
+        (or_refuse (header bytes.now) (refusal.damaged name.now)) result }
     ensures header { IfOk result (λ h. header bytes.now ≡ Some (spec_view h.0, h.1)) }
+    ensures sound { (rules : List PlainRule) (vs : List PlainKeyed) → SoundAs rules vs bytes.now
+        → header bytes.now ≡ Some (rules, length vs) }
 {
     match header_of(alloc, bytes) {
         Ok(header) => Ok(header),
@@ -119,7 +130,8 @@ pub(crate) fn archive_from(
         → IfOk result (λ r. (spec_view r.0 ≡ rules) × ArchiveOf vs (archive_view r.1)) }
     ensures reads { (rules : List PlainRule) (vs : List PlainKeyed) → SoundAs rules vs bytes.now
         → IfErr result (λ f. NoRefusal (fault_view f)) }
-    ensures alike { IfOk result (λ r. (vs : List PlainKeyed) → AreKeyedBy (spec_view r.0) vs → AllAlike vs) }
+    ensures alike { IfOk result (λ r. (vs : List PlainKeyed) → AreKeyedBy (spec_view r.0) vs
+        → AllAlike vs) }
 {
     match decode_file(alloc, bytes) {
         Ok(read) => Ok(read),
@@ -131,13 +143,19 @@ pub(crate) fn archive_from(
 /// The bytes of the file of an archive.
 pub(crate) fn file_from(alloc: Global, spec: &Spec, archive: &Archive) -> Result<Vec<u8>, Fault>
     requires few { (archive_view archive.now).n ≤ 999999 }
-    requires keyed { (vs : List PlainKeyed) → ArchiveOf vs (archive_view archive.now) → AreKeyedBy (spec_view spec.now) vs }
+    requires keyed { (vs : List PlainKeyed) → ArchiveOf vs (archive_view archive.now)
+        → AreKeyedBy (spec_view spec.now) vs }
     ensures cause { IsInside (fault_of result) }
-    ensures sound { IfOk result (λ v. (vs : List PlainKeyed) → ArchiveOf vs (archive_view archive.now) → SoundAs (spec_view spec.now) vs v.items) }
-    ensures limit { IfErr result (λ f. IsRefusal (refusal.limit refusal.archive 274877906944) (fault_view f)) }
-    ensures too_long { (vs : List PlainKeyed) (bytes : List ℕ) → ArchiveOf vs (archive_view archive.now) → FileOf (spec_view spec.now) vs bytes
+    ensures sound { IfOk result (λ v. (vs : List PlainKeyed)
+        → ArchiveOf vs (archive_view archive.now) → SoundAs (spec_view spec.now) vs v.items) }
+    ensures limit { IfErr result
+        (λ f. IsRefusal (refusal.limit refusal.archive 274877906944) (fault_view f)) }
+    ensures too_long { (vs : List PlainKeyed) (bytes : List ℕ)
+        → ArchiveOf vs (archive_view archive.now) → FileOf (spec_view spec.now) vs bytes
         → IfErr result (λ f. NoRefusal (fault_view f)) }
 {
+    // The rules are closed.
+    let _ = spec.rules();
     match encode_file(alloc, spec, archive) {
         Ok(bytes) => Ok(bytes),
         Err(EncodeFault::TooLong) => Err(Fault::Limit {

@@ -18,7 +18,7 @@ ghost use Rattle.xarch_words.specs.Refusal.{Refusal, refused};
 ghost use Rattle.xarch_words.specs.View.{fault_view};
 ghost use Rattle.xarch_steps.specs.Archives.{IsBlank, IsRefusal};
 ghost use Rattle.xarch_steps.specs.Demo.{DemoIs, IsSampleArchive, IsSampleFile, MakesOrNone, samples, told_and_stored};
-ghost use Rattle.xarch_steps.specs.Ends.{IsCaused, IsInside, Matches, fault_of};
+ghost use Rattle.xarch_steps.specs.Ends.{EndsGained, IsCaused, IsInside, Matches, fault_of};
 ghost use Rattle.xarch_steps.specs.Folders.{Keeps, WritesOnly};
 ghost use Rattle.xarch_steps.specs.Inputs;
 ghost use Rattle.xarch_steps.specs.Plausible.{MayEnd};
@@ -27,8 +27,9 @@ use crate::archives::{begin, check_free, commit, draft, file_from};
 use crate::inputs::at_most;
 use crate::limits;
 use crate::stats::write_counts;
+use archive_file::keyed_versions_can_be_merged;
 use archive_stats::{Counts, counts_of};
-use archive_tree::Archive;
+use archive_tree::{Archive, archives_stand_for_one_list};
 use jsonml_tree::Tree;
 use key_annotate::{AnnotateFault, keyed};
 use key_spec::Spec;
@@ -39,7 +40,8 @@ use xa_outside::{Folder, Sink};
 use xarch_gen::{company_spec, sample};
 use xarch_words::{Fault, Quantity};
 
-/// Makes an archive of the first documents of a seed, and writes how much it holds before it is there.
+/// Makes an archive of the first documents of a seed, and writes how much it holds before it is
+/// there.
 pub(crate) fn run_demo<F: Folder, O: Sink>(
     alloc: Global,
     seed: u32,
@@ -48,11 +50,16 @@ pub(crate) fn run_demo<F: Folder, O: Sink>(
     folder: &mut F,
     out: &mut O,
 ) -> Result<(), Fault>
-    ensures keeps { Keeps F.files F.draft F.numbers (Some archive.now) 0 folder.old folder.new (fault_of result) }
-    ensures caused { IsCaused (F.faults folder.old) (F.faults folder.new) (O.faults out.old) (O.faults out.new) (fault_of result) }
+    ensures keeps { Keeps F.files F.draft F.numbers (Some archive.now) 0 folder.old folder.new
+        (fault_of result) }
+    ensures caused { IsCaused (F.faults folder.old) (F.faults folder.new) (O.faults out.old)
+        (O.faults out.new) (fault_of result) }
     ensures may { (files : Files) → F.files folder.old ≡ Some files
-        → MayEnd (DemoIs files seed count archive.now) (fault_of result) (F.files folder.new) (O.taken out.old) (O.taken out.new) }
-    ensures many { 1000 < count → fault_of result ≡ Some (refused (refusal.limit refusal.demo 1000)) }
+        → MayEnd (DemoIs files seed count archive.now) (fault_of result) (F.files folder.new)
+        (O.taken out.old) (O.taken out.new) }
+    ensures many { 1000 < count
+        → fault_of result ≡ Some (refused (refusal.limit refusal.demo 1000)) }
+    ensures gained { EndsGained (fault_of result) (O.taken out.old) (O.taken out.new) }
 {
     check_few(count)?;
     begin(folder)?;
@@ -72,9 +79,12 @@ fn make_sample<F: Folder, O: Sink>(
     requires few { count ≤ 1000 }
     requires blank { IsBlank (F.draft folder.old) }
     ensures writes { WritesOnly F.files F.draft F.numbers folder.old folder.new (fault_of result) }
-    ensures caused { IsCaused (F.faults folder.old) (F.faults folder.new) (O.faults out.old) (O.faults out.new) (fault_of result) }
+    ensures caused { IsCaused (F.faults folder.old) (F.faults folder.new) (O.faults out.old)
+        (O.faults out.new) (fault_of result) }
     ensures may { (files : Files) → F.files folder.old ≡ Some files
-        → MayEnd (MakesOrNone files archive.now seed count) (fault_of result) (F.files folder.new) (O.taken out.old) (O.taken out.new) }
+        → MayEnd (MakesOrNone files archive.now seed count) (fault_of result) (F.files folder.new)
+        (O.taken out.old) (O.taken out.new) }
+    ensures gained { EndsGained (fault_of result) (O.taken out.old) (O.taken out.new) }
 {
     let (bytes, counts) = sample_file(alloc, seed, count)?;
     tell_then_store(archive, &bytes, &counts, folder, out)
@@ -90,10 +100,12 @@ fn tell_then_store<F: Folder, O: Sink>(
 ) -> Result<(), Fault>
     requires blank { IsBlank (F.draft folder.old) }
     ensures writes { WritesOnly F.files F.draft F.numbers folder.old folder.new (fault_of result) }
-    ensures caused { IsCaused (F.faults folder.old) (F.faults folder.new) (O.faults out.old) (O.faults out.new) (fault_of result) }
+    ensures caused { IsCaused (F.faults folder.old) (F.faults folder.new) (O.faults out.old)
+        (O.faults out.new) (fault_of result) }
     ensures may { (files : Files) → F.files folder.old ≡ Some files
         → MayEnd (λ r. r ≡ Ok (told_and_stored files name.now bytes.now (counts_view counts.now)))
         (fault_of result) (F.files folder.new) (O.taken out.old) (O.taken out.new) }
+    ensures gained { EndsGained (fault_of result) (O.taken out.old) (O.taken out.new) }
 {
     draft(folder, bytes)?;
     write_counts(counts, out)?;
@@ -116,9 +128,14 @@ fn sample_file(alloc: Global, seed: u32, count: u32) -> Result<(Vec<u8>, Counts)
     requires { count ≤ 1000 }
     ensures cause { IsInside (fault_of result) }
     ensures made { IfOk result (λ r. IsSampleFile seed count r.0.items (counts_view r.1)) }
-    ensures limit { IfErr result (λ f. IsRefusal (refusal.limit refusal.archive 274877906944) (fault_view f)) }
-    ensures too_long { (q : Refusal) (bytes : List ℕ) → IfErr result (λ f. fault_view f ≡ refused q → ¬ FileOf company_rules (samples seed count) bytes) }
+    ensures limit { IfErr result
+        (λ f. IsRefusal (refusal.limit refusal.archive 274877906944) (fault_view f)) }
+    ensures too_long { (q : Refusal) (bytes : List ℕ)
+        → IfErr result (λ f. fault_view f ≡ refused q
+        → ¬ FileOf company_rules (samples seed count) bytes) }
 {
+    // A law, for what `file_from` and `counts_of` require.
+    archives_stand_for_one_list();
     let spec = company_spec(alloc)?;
     let archive = sample_archive(alloc, &spec, seed, count)?;
     let bytes = file_from(alloc, &spec, &archive)?;
@@ -152,6 +169,9 @@ fn with_sample(
     requires documents { IsSampleArchive seed before (archive_view archive) }
     ensures { IfOk result (λ a. IsSampleArchive seed (before + 1) (archive_view a)) }
 {
+    // Laws, for what `merge` requires.
+    archives_stand_for_one_list();
+    keyed_versions_can_be_merged();
     let document = sample(alloc, seed, before + 1)?;
     let keyed = tree_of(alloc, spec, &document)?;
     match merge(alloc, archive, &keyed) {
@@ -166,7 +186,8 @@ fn tree_of(alloc: Global, spec: &Spec, document: &Tree) -> Result<Keyed, AllocEr
     requires items_fit { ItemsFit (tree_view document.now) }
     requires well_formed { IsWellFormed (tree_view document.now) }
     requires satisfies { Satisfies (spec_view spec.now) (tree_view document.now) }
-    ensures { IfOk result (λ k. Stands (spec_view spec.now) (tree_view document.now) (keyed_view k)) }
+    ensures { IfOk result
+        (λ k. Stands (spec_view spec.now) (tree_view document.now) (keyed_view k)) }
 {
     match keyed(alloc, spec, document) {
         Ok(keyed) => Ok(keyed),

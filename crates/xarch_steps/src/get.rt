@@ -1,6 +1,6 @@
 #![tactic(auto, using(crate::proofs::Ending::endings), unfolding(crate::specs::Ends::IsInside, crate::specs::Ends::IsDefined))]
 
-ghost use Rattle.std.specs.Prelude.{◌≡◌, ℕ, List, Some, None, IfOk, IfErr, IsSome};
+ghost use Rattle.std.specs.Prelude.{◌≡◌, List, Some, None, IfOk, IfErr, IsSome};
 ghost use Rattle.xa_outside.specs.Folder.{Files};
 ghost use Rattle.key_spec.specs.Data.{PlainRule};
 ghost use Rattle.keyed_tree.specs.Data.{PlainKeyed};
@@ -12,7 +12,7 @@ ghost use Rattle.xarch_words.specs.Commands.{get};
 ghost use Rattle.xarch_words.specs.Refusal as refusal;
 ghost use Rattle.xarch_words.specs.View.{fault_view};
 ghost use Rattle.xarch_steps.specs.Archives.{IsRefusal, NoRefusal};
-ghost use Rattle.xarch_steps.specs.Ends.{IsCaused, IsInside, Matches, fault_of};
+ghost use Rattle.xarch_steps.specs.Ends.{EndsGained, IsCaused, IsInside, Matches, fault_of};
 ghost use Rattle.xarch_steps.specs.Folders.{Keeps, ReadsOnly};
 ghost use Rattle.xarch_steps.specs.Inputs.{size_in};
 ghost use Rattle.xarch_steps.specs.Outcome.{and_then, or_refuse};
@@ -24,6 +24,7 @@ use crate::names::damaged;
 use crate::put::write_keyed;
 use archive_file::fixed_of;
 use keyed_tree::Keyed;
+use record_format::versions_have_one_file;
 use std::alloc::Global;
 use xa_outside::{Folder, Sink};
 use xarch_words::Fault;
@@ -38,10 +39,15 @@ pub(crate) fn run_get<F: Folder, O: Sink>(
 ) -> Result<(), Fault>
     ensures keeps { Keeps F.files F.draft F.numbers None (size_in (F.files folder.old) archive.now)
         folder.old folder.new (fault_of result) }
-    ensures caused { IsCaused (F.faults folder.old) (F.faults folder.new) (O.faults out.old) (O.faults out.new) (fault_of result) }
+    ensures caused { IsCaused (F.faults folder.old) (F.faults folder.new) (O.faults out.old)
+        (O.faults out.new) (fault_of result) }
     ensures may { (files : Files) → F.files folder.old ≡ Some files
-        → MayEnd (MayBe files (get archive.now version)) (fault_of result) (F.files folder.new) (O.taken out.old) (O.taken out.new) }
+        → MayEnd (MayBe files (get archive.now version)) (fault_of result) (F.files folder.new)
+        (O.taken out.old) (O.taken out.new) }
+    ensures gained { EndsGained (fault_of result) (O.taken out.old) (O.taken out.new) }
 {
+    // A law, for the proof of `may`.
+    versions_have_one_file();
     let bytes = read_counted(alloc, archive, version, folder)?;
     let keyed = version_from(alloc, archive, &bytes, version)?;
     write_keyed(&keyed, out)
@@ -54,7 +60,8 @@ fn read_counted<F: Folder>(
     version: u32,
     folder: &mut F,
 ) -> Result<Vec<u8>, Fault>
-    ensures reads { ReadsOnly F.files F.draft F.numbers F.faults (size_in (F.files folder.old) archive.now)
+    ensures reads { ReadsOnly F.files F.draft F.numbers F.faults
+        (size_in (F.files folder.old) archive.now)
         folder.old folder.new (fault_of result) }
     ensures told { (files : Files) → F.files folder.old ≡ Some files
         → Matches (λ v. v.items) (get_input files archive.now version) result }
@@ -67,7 +74,9 @@ fn read_counted<F: Folder>(
 // Nothing, where the header of the archive of this name counts the version.
 fn check_version(alloc: Global, name: &str, bytes: &[u8], version: u32) -> Result<(), Fault>
     ensures cause { IsInside (fault_of result) }
-    ensures told { Matches (λ _. tt) (and_then (or_refuse (fixed bytes.now) (refusal.damaged name.now)) (λ n. is_version n version)) result }
+    ensures told { Matches (λ _. tt)
+        (and_then (or_refuse (fixed bytes.now) (refusal.damaged name.now))
+        (λ n. is_version n version)) result }
 {
     match fixed_of(bytes) {
         Some(n) if 1 <= version && version <= n => Ok(()),

@@ -26,8 +26,10 @@ pub(crate) fn run_init<F: Folder>(
     spec: &str,
     folder: &mut F,
 ) -> Result<(), Fault>
-    ensures keeps { Keeps F.files F.draft F.numbers (Some archive.now) 1048576 folder.old folder.new (fault_of result) }
-    ensures caused { (out : ℕ) → IsCaused (F.faults folder.old) (F.faults folder.new) out out (fault_of result) }
+    ensures keeps { Keeps F.files F.draft F.numbers (Some archive.now) 1048576 folder.old folder.new
+        (fault_of result) }
+    ensures caused { (out : ℕ)
+        → IsCaused (F.faults folder.old) (F.faults folder.new) out out (fault_of result) }
     ensures may { (files : Files) (t : Taken) → F.files folder.old ≡ Some files
         → MayEnd (InitIs files archive.now spec.now) (fault_of result) (F.files folder.new) t t }
 {
@@ -44,7 +46,8 @@ fn new_rules<F: Folder>(
     spec: &str,
     folder: &mut F,
 ) -> Result<Spec, Fault>
-    ensures reads { ReadsOnly F.files F.draft F.numbers F.faults 1048576 folder.old folder.new (fault_of result) }
+    ensures reads { ReadsOnly F.files F.draft F.numbers F.faults 1048576 folder.old folder.new
+        (fault_of result) }
     ensures told { (files : Files) → F.files folder.old ≡ Some files
         → Matches spec_view (init_rules files archive.now spec.now) result }
 {

@@ -11,13 +11,15 @@ ghost use Rattle.xarch_steps.specs.Inputs.{file_length, file_of, length_in, size
 
 use crate::names::no_file;
 use std::alloc::Global;
-use xa_outside::{Folder, fill_at};
+use xa_outside::{Folder, ReadFault, read_front};
 use xarch_words::{Fault, Quantity};
 
 /// The length of a named file.
 pub(crate) fn length_of<F: Folder>(alloc: Global, folder: &mut F, name: &str) -> Result<u64, Fault>
-    ensures reads { ReadsOnly F.files F.draft F.numbers F.faults 0 folder.old folder.new (fault_of result) }
-    ensures told { (files : Files) → F.files folder.old ≡ Some files → Matches (λ n. n) (file_length files name.now) result }
+    ensures reads { ReadsOnly F.files F.draft F.numbers F.faults 0 folder.old folder.new
+        (fault_of result) }
+    ensures told { (files : Files) → F.files folder.old ≡ Some files
+        → Matches (λ n. n) (file_length files name.now) result }
     ensures size { IfOk result (λ n. n ≤ size_in (F.files folder.old) name.now) }
 {
     match folder.length(name) {
@@ -35,7 +37,8 @@ pub(crate) fn limited_length<F: Folder>(
     quantity: Quantity,
     most: u64,
 ) -> Result<u64, Fault>
-    ensures reads { ReadsOnly F.files F.draft F.numbers F.faults 0 folder.old folder.new (fault_of result) }
+    ensures reads { ReadsOnly F.files F.draft F.numbers F.faults 0 folder.old folder.new
+        (fault_of result) }
     ensures bound { IfOk result (λ n. n ≤ most) }
     ensures told { (files : Files) → F.files folder.old ≡ Some files
         → Matches (λ n. n) (length_in files name.now (quantity_view quantity) most) result }
@@ -49,7 +52,8 @@ pub(crate) fn at_most(number: u64, quantity: Quantity, most: u64) -> Result<u64,
     ensures cause { IsInside (fault_of result) }
     ensures bound { IfOk result (λ n. n ≤ most) }
     ensures told { Matches (λ n. n) (Inputs.at_most (quantity_view quantity) most number) result }
-    ensures refused { IfErr result (λ f. fault_view f ≡ refusal.refused (refusal.limit (quantity_view quantity) most)) }
+    ensures refused { IfErr result
+        (λ f. fault_view f ≡ refusal.refused (refusal.limit (quantity_view quantity) most)) }
 {
     if number <= most {
         Ok(number)
@@ -68,18 +72,17 @@ pub(crate) fn read_whole<F: Folder>(
     name: &str,
     length: u64,
 ) -> Result<Vec<u8>, Fault>
-    ensures reads { ReadsOnly F.files F.draft F.numbers F.faults length folder.old folder.new (fault_of result) }
+    ensures reads { ReadsOnly F.files F.draft F.numbers F.faults length folder.old folder.new
+        (fault_of result) }
     ensures short { IfOk result (λ v. vec_len v ≤ length) }
-    ensures told { (files : Files) → F.files folder.old ≡ Some files → file_length files name.now ≡ Ok length
+    ensures told { (files : Files) → F.files folder.old ≡ Some files
+        → file_length files name.now ≡ Ok length
         → Matches (λ v. v.items) (file_of files name.now) result }
 {
-    let mut bytes = vec![in alloc; 0u8; length as usize]?;
-    match fill_at(folder, name, 0, &mut bytes) {
-        Ok(count) => {
-            bytes.truncate(count);
-            Ok(bytes)
-        }
-        Err(_) => Err(Fault::FolderFault),
+    match read_front(alloc, folder, name, length) {
+        Ok(bytes) => Ok(bytes),
+        Err(ReadFault::Folder) => Err(Fault::FolderFault),
+        Err(ReadFault::Memory) => Err(Fault::Memory),
     }
 }
 
@@ -89,8 +92,10 @@ pub(crate) fn read_file<F: Folder>(
     folder: &mut F,
     name: &str,
 ) -> Result<Vec<u8>, Fault>
-    ensures reads { ReadsOnly F.files F.draft F.numbers F.faults (size_in (F.files folder.old) name.now) folder.old folder.new (fault_of result) }
-    ensures told { (files : Files) → F.files folder.old ≡ Some files → Matches (λ v. v.items) (file_of files name.now) result }
+    ensures reads { ReadsOnly F.files F.draft F.numbers F.faults
+        (size_in (F.files folder.old) name.now) folder.old folder.new (fault_of result) }
+    ensures told { (files : Files) → F.files folder.old ≡ Some files
+        → Matches (λ v. v.items) (file_of files name.now) result }
 {
     let length = length_of(alloc, folder, name)?;
     read_whole(alloc, folder, name, length)

@@ -1,4 +1,5 @@
-//! The commands of the program, one at a time: what each does to the files and writes to the output.
+//! The commands of the program, one at a time: what each does to the files and writes to the
+//! output.
 #![tactic(auto)]
 
 mod add;
@@ -12,8 +13,6 @@ mod limits;
 mod merged;
 mod names;
 mod norm;
-mod print_kept;
-mod print_lent;
 mod put;
 mod readings;
 mod stats;

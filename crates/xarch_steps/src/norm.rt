@@ -7,7 +7,7 @@ ghost use Rattle.jsonml_tree.specs.LentView.{lent_tree_view};
 ghost use Rattle.jsonml_tree.specs.WellFormed.{IsWellFormed};
 ghost use Rattle.key_spec.specs.View.{spec_view};
 ghost use Rattle.xarch_words.specs.Commands.{norm};
-ghost use Rattle.xarch_steps.specs.Ends.{IsCaused, Matches, fault_of};
+ghost use Rattle.xarch_steps.specs.Ends.{EndsGained, IsCaused, Matches, fault_of};
 ghost use Rattle.xarch_steps.specs.Folders.{Keeps, ReadsOnly};
 ghost use Rattle.xarch_steps.specs.Norm.{norm_from, norm_input, norm_of_tree};
 ghost use Rattle.xarch_steps.specs.Plausible.{MayBe, MayEnd};
@@ -30,10 +30,14 @@ pub(crate) fn run_norm<F: Folder, O: Sink>(
     folder: &mut F,
     out: &mut O,
 ) -> Result<(), Fault>
-    ensures keeps { Keeps F.files F.draft F.numbers None 68157440 folder.old folder.new (fault_of result) }
-    ensures caused { IsCaused (F.faults folder.old) (F.faults folder.new) (O.faults out.old) (O.faults out.new) (fault_of result) }
+    ensures keeps { Keeps F.files F.draft F.numbers None 68157440 folder.old folder.new
+        (fault_of result) }
+    ensures caused { IsCaused (F.faults folder.old) (F.faults folder.new) (O.faults out.old)
+        (O.faults out.new) (fault_of result) }
     ensures may { (files : Files) → F.files folder.old ≡ Some files
-        → MayEnd (MayBe files (norm spec.now doc.now)) (fault_of result) (F.files folder.new) (O.taken out.old) (O.taken out.new) }
+        → MayEnd (MayBe files (norm spec.now doc.now)) (fault_of result) (F.files folder.new)
+        (O.taken out.old) (O.taken out.new) }
+    ensures gained { EndsGained (fault_of result) (O.taken out.old) (O.taken out.new) }
 {
     let (spec, bytes) = read_both(alloc, spec, doc, folder)?;
     write_ordered(alloc, &spec, &bytes, out)
@@ -46,7 +50,8 @@ fn read_both<F: Folder>(
     doc: &str,
     folder: &mut F,
 ) -> Result<(Spec, Vec<u8>), Fault>
-    ensures reads { ReadsOnly F.files F.draft F.numbers F.faults 68157440 folder.old folder.new (fault_of result) }
+    ensures reads { ReadsOnly F.files F.draft F.numbers F.faults 68157440 folder.old folder.new
+        (fault_of result) }
     ensures short { IfOk result (λ r. vec_len r.1 ≤ 67108864) }
     ensures told { (files : Files) → F.files folder.old ≡ Some files
         → Matches (λ r. (spec_view r.0, r.1.items)) (norm_input files spec.now doc.now) result }
@@ -92,7 +97,8 @@ fn write_tree<O: Sink>(
     requires well_formed { IsWellFormed (lent_tree_view doc.now) }
     ensures caused { (before now : ℕ) → before ≤ now
         → IsCaused before now (O.faults out.old) (O.faults out.new) (fault_of result) }
-    ensures may { (files : Files) → MayEnd (λ r. r ≡ norm_of_tree files (spec_view spec.now) (lent_tree_view doc.now))
+    ensures may { (files : Files)
+        → MayEnd (λ r. r ≡ norm_of_tree files (spec_view spec.now) (lent_tree_view doc.now))
         (fault_of result) (Some files) (O.taken out.old) (O.taken out.new) }
 {
     let keyed = keyed_from(alloc, spec, doc)?;

@@ -33,8 +33,10 @@ pub(crate) fn read_spec<F: Folder>(
     length: u64,
 ) -> Result<Spec, Fault>
     requires { length ≤ 1048576 }
-    ensures reads { ReadsOnly F.files F.draft F.numbers F.faults length folder.old folder.new (fault_of result) }
-    ensures told { (files : Files) → F.files folder.old ≡ Some files → file_length files name.now ≡ Ok length
+    ensures reads { ReadsOnly F.files F.draft F.numbers F.faults length folder.old folder.new
+        (fault_of result) }
+    ensures told { (files : Files) → F.files folder.old ≡ Some files
+        → file_length files name.now ≡ Ok length
         → Matches spec_view (read_in files name.now rules_of) result }
 {
     let bytes = read_whole(alloc, folder, name, length)?;
@@ -85,8 +87,10 @@ pub(crate) fn keyed_from<'a, 'b>(
     requires items_fit { ItemsFit (lent_tree_view doc.now) }
     requires well_formed { IsWellFormed (lent_tree_view doc.now) }
     ensures cause { IsInside (fault_of result) }
-    ensures told { Matches lent_view (keyed_of (spec_view spec.now) (lent_tree_view doc.now)) result }
-    ensures stands { IfOk result (λ k. Stands (spec_view spec.now) (lent_tree_view doc.now) (lent_view k)) }
+    ensures told { Matches lent_view
+        (keyed_of (spec_view spec.now) (lent_tree_view doc.now)) result }
+    ensures stands { IfOk result
+        (λ k. Stands (spec_view spec.now) (lent_tree_view doc.now) (lent_view k)) }
 {
     match lent_keyed(alloc, spec, doc) {
         Ok(keyed) => Ok(keyed),

@@ -8,7 +8,7 @@ ghost use Rattle.archive_stats.specs.View.{counts_view};
 ghost use Rattle.xarch_words.specs.Commands as commands;
 ghost use Rattle.xarch_words.specs.Refusal.{Refusal, refused};
 ghost use Rattle.xarch_words.specs.View.{fault_view};
-ghost use Rattle.xarch_steps.specs.Ends.{IsCaused, IsOfOutput, fault_of};
+ghost use Rattle.xarch_steps.specs.Ends.{EndsGained, IsCaused, IsOfOutput, fault_of};
 ghost use Rattle.xarch_steps.specs.Folders.{Keeps, ReadsOnly};
 ghost use Rattle.xarch_steps.specs.Inputs.{size_in};
 ghost use Rattle.xarch_steps.specs.Plausible.{MayBe, MayEnd};
@@ -31,9 +31,12 @@ pub(crate) fn run_stats<F: Folder, O: Sink>(
 ) -> Result<(), Fault>
     ensures keeps { Keeps F.files F.draft F.numbers None (size_in (F.files folder.old) archive.now)
         folder.old folder.new (fault_of result) }
-    ensures caused { IsCaused (F.faults folder.old) (F.faults folder.new) (O.faults out.old) (O.faults out.new) (fault_of result) }
+    ensures caused { IsCaused (F.faults folder.old) (F.faults folder.new) (O.faults out.old)
+        (O.faults out.new) (fault_of result) }
     ensures may { (files : Files) → F.files folder.old ≡ Some files
-        → MayEnd (MayBe files (commands.stats archive.now)) (fault_of result) (F.files folder.new) (O.taken out.old) (O.taken out.new) }
+        → MayEnd (MayBe files (commands.stats archive.now)) (fault_of result) (F.files folder.new)
+        (O.taken out.old) (O.taken out.new) }
+    ensures gained { EndsGained (fault_of result) (O.taken out.old) (O.taken out.new) }
 {
     let counts = counts_in(alloc, archive, folder)?;
     write_counts(&counts, out)
@@ -41,12 +44,15 @@ pub(crate) fn run_stats<F: Folder, O: Sink>(
 
 // The counts of the archive.
 fn counts_in<F: Folder>(alloc: Global, archive: &str, folder: &mut F) -> Result<Counts, Fault>
-    ensures reads { ReadsOnly F.files F.draft F.numbers F.faults (size_in (F.files folder.old) archive.now)
+    ensures reads { ReadsOnly F.files F.draft F.numbers F.faults
+        (size_in (F.files folder.old) archive.now)
         folder.old folder.new (fault_of result) }
     ensures counts { (files : Files) → F.files folder.old ≡ Some files
-        → IfOk result (λ c. MayBe files (commands.stats archive.now) (Ok (record { files = files; output = counts_text (counts_view c) }))) }
+        → IfOk result (λ c. MayBe files (commands.stats archive.now)
+        (Ok (record { files = files; output = counts_text (counts_view c) }))) }
     ensures refused { (files : Files) (q : Refusal) → F.files folder.old ≡ Some files
-        → IfErr result (λ f. fault_view f ≡ refused q → MayBe files (commands.stats archive.now) (Err q)) }
+        → IfErr result (λ f. fault_view f ≡ refused q
+        → MayBe files (commands.stats archive.now) (Err q)) }
 {
     let length = length_of(alloc, folder, archive)?;
     match stats(alloc, folder, archive, length) {
@@ -60,7 +66,8 @@ fn counts_in<F: Folder>(alloc: Global, archive: &str, folder: &mut F) -> Result<
 /// Writes the seven lines of counts.
 #[tactic(auto, unfolding(crate::specs::Ends::IsOfOutput))]
 pub(crate) fn write_counts<O: Sink>(counts: &Counts, out: &mut O) -> Result<(), Fault>
-    ensures bytes { Puts (O.taken out.old) (O.taken out.new) result (counts_text (counts_view counts.now)) }
+    ensures bytes { Puts (O.taken out.old) (O.taken out.new) result
+        (counts_text (counts_view counts.now)) }
     ensures later { O.faults out.old ≤ O.faults out.new }
     ensures cause { IsOfOutput (O.faults out.old) (O.faults out.new) (fault_of result) }
 {
@@ -71,7 +78,8 @@ pub(crate) fn write_counts<O: Sink>(counts: &Counts, out: &mut O) -> Result<(), 
 }
 
 fn put_counts<O: Sink>(counts: &Counts, out: &mut O) -> Result<(), Failed>
-    ensures bytes { Puts (O.taken out.old) (O.taken out.new) result (counts_text (counts_view counts.now)) }
+    ensures bytes { Puts (O.taken out.old) (O.taken out.new) result
+        (counts_text (counts_view counts.now)) }
     ensures cause { HasCause (O.faults out.old) (O.faults out.new) result }
 {
     let mut lines = Buffered::new(out);
@@ -79,18 +87,20 @@ fn put_counts<O: Sink>(counts: &Counts, out: &mut O) -> Result<(), Failed>
     lines.flush()
 }
 
-#[tactic(auto, using(xarch_words::proofs::Pieces::pieces), unfolding(crate::specs::Stats::counts_text))]
+#[tactic(auto, using(xa_outside::specs::TakenLaws::outputs), unfolding(crate::specs::Stats::counts_text))]
 fn put_lines<K: Sink>(counts: &Counts, sink: &mut K) -> Result<(), Failed>
-    ensures bytes { Puts (K.taken sink.old) (K.taken sink.new) result (counts_text (counts_view counts.now)) }
+    ensures bytes { Puts (K.taken sink.old) (K.taken sink.new) result
+        (counts_text (counts_view counts.now)) }
     ensures cause { HasCause (K.faults sink.old) (K.faults sink.new) result }
 {
     put_nodes(counts, sink)?;
     put_sizes(counts, sink)
 }
 
-#[tactic(auto, using(xarch_words::proofs::Pieces::pieces), unfolding(crate::specs::Stats::nodes_text))]
+#[tactic(auto, using(xa_outside::specs::TakenLaws::outputs), unfolding(crate::specs::Stats::nodes_text))]
 fn put_nodes<K: Sink>(counts: &Counts, sink: &mut K) -> Result<(), Failed>
-    ensures bytes { Puts (K.taken sink.old) (K.taken sink.new) result (nodes_text (counts_view counts.now)) }
+    ensures bytes { Puts (K.taken sink.old) (K.taken sink.new) result
+        (nodes_text (counts_view counts.now)) }
     ensures cause { HasCause (K.faults sink.old) (K.faults sink.new) result }
 {
     put_count(sink, b"versions ", counts.versions)?;
@@ -99,9 +109,10 @@ fn put_nodes<K: Sink>(counts: &Counts, sink: &mut K) -> Result<(), Failed>
     put_count(sink, b"alternatives ", counts.alternatives)
 }
 
-#[tactic(auto, using(xarch_words::proofs::Pieces::pieces), unfolding(crate::specs::Stats::sizes_text))]
+#[tactic(auto, using(xa_outside::specs::TakenLaws::outputs), unfolding(crate::specs::Stats::sizes_text))]
 fn put_sizes<K: Sink>(counts: &Counts, sink: &mut K) -> Result<(), Failed>
-    ensures bytes { Puts (K.taken sink.old) (K.taken sink.new) result (sizes_text (counts_view counts.now)) }
+    ensures bytes { Puts (K.taken sink.old) (K.taken sink.new) result
+        (sizes_text (counts_view counts.now)) }
     ensures cause { HasCause (K.faults sink.old) (K.faults sink.new) result }
 {
     put_count(sink, b"stamps ", counts.stamps)?;
@@ -110,9 +121,10 @@ fn put_sizes<K: Sink>(counts: &Counts, sink: &mut K) -> Result<(), Failed>
 }
 
 /// A number behind its name, and a line feed.
-#[tactic(auto, using(xarch_words::proofs::Pieces::pieces))]
+#[tactic(auto, using(xa_outside::specs::TakenLaws::outputs))]
 fn put_count<K: Sink, N: Integer>(sink: &mut K, name: &[u8], number: N) -> Result<(), Failed>
-    ensures bytes { Puts (K.taken sink.old) (K.taken sink.new) result (name.now ++ N.text number ++ codes "\n") }
+    ensures bytes { Puts (K.taken sink.old) (K.taken sink.new) result
+        (name.now ++ N.text number ++ codes "\n") }
     ensures cause { HasCause (K.faults sink.old) (K.faults sink.new) result }
 {
     let mut buffer = Buffer::new();

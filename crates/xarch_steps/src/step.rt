@@ -3,16 +3,18 @@
 ghost use Rattle.std.specs.Prelude.{◌≡◌, ◌≢◌, ◌≤◌, ◌<◌, ◌↔◌, ◌⊎◌, ℕ, List, Some, None, OnErr, option_map};
 ghost use Rattle.xa_outside.specs.Causes.{Rose};
 ghost use Rattle.xa_outside.specs.Folder.{Files};
-ghost use Rattle.xarch_words.specs.Commands.{command_of, demo};
+ghost use Rattle.xa_outside.specs.Taken.{TakesNone};
+ghost use Rattle.xarch_words.specs.Commands.{PlainCommand, command_of, demo};
 ghost use Rattle.xarch_words.specs.Refusal as refusal;
 ghost use Rattle.xarch_words.specs.Refusal.{limit, refused, usage};
 ghost use Rattle.xarch_words.specs.View.{command_view, words_view};
-ghost use Rattle.xarch_steps.specs.Ends.{HasItsCause, IsCaused, fault_of};
-ghost use Rattle.xarch_steps.specs.Folders.{Keeps};
+ghost use Rattle.xarch_steps.specs.Ends.{EndsGained, Gained, HasItsCause, IsCaused, fault_of};
+ghost use Rattle.xarch_steps.specs.Folders.{IsTold, Keeps};
 ghost use Rattle.xarch_steps.specs.Outcome.{Step};
 ghost use Rattle.xarch_steps.specs.Plausible.{MayBe, MayDo, MayEnd, Tried, Wrote};
-ghost use Rattle.xarch_steps.specs.Ran.{CountsAsSaid, IsLongDemo, OnlyReads, PullsAsSaid, Said, Says, line_after, made_name, most_pulled, outside_of, status_after};
+ghost use Rattle.xarch_steps.specs.Ran.{CountsAsSaid, IsLongDemo, OnlyReads, Said, Says, line_after, made_name, most_pulled, outside_of, status_after};
 ghost use Rattle.xarch_steps.specs.Step.{StepIs, alone, single_of};
+ghost use Rattle.xarch_steps.specs.Succeeds.{ShouldSucceed};
 
 use crate::add::run_add;
 use crate::demo::run_demo;
@@ -21,14 +23,17 @@ use crate::history::run_history;
 use crate::init::run_init;
 use crate::norm::run_norm;
 use crate::stats::run_stats;
+use archive_tree::archives_stand_for_one_list;
+use record_format::versions_have_one_file;
 use std::alloc::Global;
 use xa_outside::{Folder, Sink};
 use xarch_words::{Command, Fault, read_words, status, write_fault};
 
 /// Takes the step of one command, and answers its status.
 ///
-/// Words that are no command, and `batch`, are refused. Every fault writes one line to `err`; a failure of `err` changes
-/// no status. Input files are read whole, each directly before the first step that judges its bytes.
+/// Words that are no command, and `batch`, are refused. Every fault writes one line to `err`; a
+/// failure of `err` changes no status. Input files are read whole, each directly before the first
+/// step that judges its bytes.
 pub fn take_step<F: Folder, O: Sink, E: Sink>(
     alloc: Global,
     words: &[String],
@@ -36,42 +41,66 @@ pub fn take_step<F: Folder, O: Sink, E: Sink>(
     out: &mut O,
     err: &mut E,
 ) -> u8
-    // What is done where files are told: one of the steps that the words may have the program take, and the one that is
-    // defined where the archive that they name is absent or sound. Status, files, output and line are that step's, but
-    // after a fault of the outside, which leaves a prefix of its output.
+    // What is done where files are told: one of the steps that the words may have the program take,
+    // and the one that is defined where the archive that they name is absent or sound. Status,
+    // files, output and line are that step's, but after a fault of the outside, which leaves a
+    // prefix of its output.
     ensures tried { (files : Files) → F.files folder.old ≡ Some files → outside_of result ≡ None
-        → Tried files (words_view words.now) result (F.files folder.new) (O.taken out.old) (O.taken out.new) (E.taken err.old) (E.taken err.new) (E.faults err.old) (E.faults err.new) }
+        → Tried files (words_view words.now) result (F.files folder.new) (O.taken out.old)
+        (O.taken out.new) (E.taken err.old) (E.taken err.new) (E.faults err.old)
+        (E.faults err.new) }
     ensures wrote { (files : Files) → F.files folder.old ≡ Some files
         → Wrote files (words_view words.now) (O.taken out.old) (O.taken out.new) }
 
-    // What should succeed does.
-    ensures complete { (files : Files) (s : Step) → F.files folder.old ≡ Some files → StepIs files (words_view words.now) s → s.status ≡ 0
-        → ¬ Rose (F.faults folder.old) (F.faults folder.new) → ¬ Rose (O.faults out.old) (O.faults out.new) → (result ≡ 0) ⊎ (result ≡ 16) }
+    // What is written whatever the folder tells: nothing where a command is refused.
+    ensures gained { Gained (O.taken out.old) (O.taken out.new) }
+    ensures nothing { result ≢ 0 → outside_of result ≡ None
+        → TakesNone (O.taken out.old) (O.taken out.new) }
+
+    // What should succeed does: in plain conditions on the files, and wherever a step is defined.
+    ensures succeeds { (files : Files) (command : PlainCommand) → F.files folder.old ≡ Some files
+        → command_of (words_view words.now) ≡ Some command → ShouldSucceed files command
+        → ¬ Rose (F.faults folder.old) (F.faults folder.new)
+        → ¬ Rose (O.faults out.old) (O.faults out.new) → (result ≡ 0) ⊎ (result ≡ 16) }
+    ensures complete { (files : Files) (s : Step) → F.files folder.old ≡ Some files
+        → StepIs files (words_view words.now) s → s.status ≡ 0
+        → ¬ Rose (F.faults folder.old) (F.faults folder.new)
+        → ¬ Rose (O.faults out.old) (O.faults out.new) → (result ≡ 0) ⊎ (result ≡ 16) }
 
     // Whatever the folder tells, the answer is 0 or the status of a fault, whose line is said.
-    ensures said { Said result (E.taken err.old) (E.taken err.new) (E.faults err.old) (E.faults err.new) }
+    ensures said { Said result (E.taken err.old) (E.taken err.new) (E.faults err.old)
+        (E.faults err.new) }
 
     // When a fault comes, whatever the folder tells.
     ensures usage { (result ≡ 2) ↔ (single_of (words_view words.now) ≡ None) }
-    ensures long_demo { (seed count : ℕ) (name : List ℕ) → command_of (words_view words.now) ≡ Some (demo seed count name) → 1000 < count → result ≡ 12 }
+    ensures long_demo { (seed count : ℕ) (name : List ℕ)
+        → command_of (words_view words.now) ≡ Some (demo seed count name) → 1000 < count
+        → result ≡ 12 }
     ensures folder_fault { result ≡ 13 → Rose (F.faults folder.old) (F.faults folder.new) }
     ensures out_fault { result ≡ 14 → Rose (O.faults out.old) (O.faults out.new) }
     ensures never_input_fault { result ≢ 15 }
 
     // What stays: all files after a fault, and files and draft where the command only reads.
     ensures refused { result ≢ 0 → F.files folder.new ≡ F.files folder.old }
-    ensures files { OnlyReads (single_of (words_view words.now)) → F.files folder.new ≡ F.files folder.old }
-    ensures draft { OnlyReads (single_of (words_view words.now)) → F.draft folder.new ≡ F.draft folder.old }
+    ensures files { OnlyReads (single_of (words_view words.now))
+        → F.files folder.new ≡ F.files folder.old }
+    ensures draft { OnlyReads (single_of (words_view words.now))
+        → F.draft folder.new ≡ F.draft folder.old }
     ensures untold { F.files folder.old ≡ None → F.files folder.new ≡ None }
     ensures draft_untold { F.draft folder.old ≡ None → F.draft folder.new ≡ None }
+    ensures told { IsTold (F.files folder.old) (F.draft folder.old)
+        → IsTold (F.files folder.new) (F.draft folder.new) }
 
     // What is pulled and drafted, and that no count of faults falls.
-    ensures numbers { PullsAsSaid (single_of (words_view words.now)) (F.numbers folder.old) (F.numbers folder.new) }
-    ensures counts { CountsAsSaid (single_of (words_view words.now)) (F.files folder.old) (F.numbers folder.old) (F.numbers folder.new) }
+    ensures counts { CountsAsSaid (single_of (words_view words.now)) (F.files folder.old)
+        (F.numbers folder.old) (F.numbers folder.new) }
     ensures folder_later { F.faults folder.old ≤ F.faults folder.new }
     ensures out_later { O.faults out.old ≤ O.faults out.new }
     ensures err_later { E.faults err.old ≤ E.faults err.new }
 {
+    // Laws, for the proofs of `tried`, `wrote` and `complete`.
+    archives_stand_for_one_list();
+    versions_have_one_file();
     let ended = command_words(alloc, words, folder, out);
     finish(&ended, err)
 }
@@ -83,20 +112,29 @@ fn command_words<F: Folder, O: Sink>(
     folder: &mut F,
     out: &mut O,
 ) -> Result<(), Fault>
-    ensures usage { (fault_of result ≡ Some (refused usage)) ↔ (single_of (words_view words.now) ≡ None) }
-    ensures long_demo { IsLongDemo (single_of (words_view words.now)) → fault_of result ≡ Some (refused (limit refusal.demo 1000)) }
-    ensures cause { HasItsCause (F.faults folder.old) (F.faults folder.new) (O.faults out.old) (O.faults out.new) (fault_of result) }
+    ensures usage { (fault_of result ≡ Some (refused usage))
+        ↔ (single_of (words_view words.now) ≡ None) }
+    ensures long_demo { IsLongDemo (single_of (words_view words.now))
+        → fault_of result ≡ Some (refused (limit refusal.demo 1000)) }
+    ensures cause { HasItsCause (F.faults folder.old) (F.faults folder.new) (O.faults out.old)
+        (O.faults out.new) (fault_of result) }
     ensures folder_later { F.faults folder.old ≤ F.faults folder.new }
     ensures out_later { O.faults out.old ≤ O.faults out.new }
     ensures may { (files : Files) → F.files folder.old ≡ Some files
-        → MayEnd (MayDo files (single_of (words_view words.now))) (fault_of result) (F.files folder.new) (O.taken out.old) (O.taken out.new) }
+        → MayEnd (MayDo files (single_of (words_view words.now))) (fault_of result)
+        (F.files folder.new) (O.taken out.old) (O.taken out.new) }
     ensures refused { OnErr result (F.files folder.new ≡ F.files folder.old) }
     ensures untold { F.files folder.old ≡ None → F.files folder.new ≡ None }
     ensures draft_untold { F.draft folder.old ≡ None → F.draft folder.new ≡ None }
-    ensures files { OnlyReads (single_of (words_view words.now)) → F.files folder.new ≡ F.files folder.old }
-    ensures draft { OnlyReads (single_of (words_view words.now)) → F.draft folder.new ≡ F.draft folder.old }
-    ensures numbers { PullsAsSaid (single_of (words_view words.now)) (F.numbers folder.old) (F.numbers folder.new) }
-    ensures counts { CountsAsSaid (single_of (words_view words.now)) (F.files folder.old) (F.numbers folder.old) (F.numbers folder.new) }
+    ensures told { IsTold (F.files folder.old) (F.draft folder.old)
+        → IsTold (F.files folder.new) (F.draft folder.new) }
+    ensures files { OnlyReads (single_of (words_view words.now))
+        → F.files folder.new ≡ F.files folder.old }
+    ensures draft { OnlyReads (single_of (words_view words.now))
+        → F.draft folder.new ≡ F.draft folder.old }
+    ensures counts { CountsAsSaid (single_of (words_view words.now)) (F.files folder.old)
+        (F.numbers folder.old) (F.numbers folder.new) }
+    ensures gained { EndsGained (fault_of result) (O.taken out.old) (O.taken out.new) }
 {
     match single_command(words) {
         None => Err(Fault::Usage),
@@ -123,12 +161,17 @@ fn run_command<F: Folder, O: Sink>(
     out: &mut O,
 ) -> Result<(), Fault>
     requires { alone (Some (command_view command)) ≡ Some (command_view command) }
-    ensures keeps { Keeps F.files F.draft F.numbers (made_name (command_view command.entry)) (most_pulled (command_view command.entry) (F.files folder.old))
+    ensures keeps { Keeps F.files F.draft F.numbers (made_name (command_view command.entry))
+        (most_pulled (command_view command.entry) (F.files folder.old))
         folder.old folder.new (fault_of result) }
-    ensures caused { IsCaused (F.faults folder.old) (F.faults folder.new) (O.faults out.old) (O.faults out.new) (fault_of result) }
+    ensures caused { IsCaused (F.faults folder.old) (F.faults folder.new) (O.faults out.old)
+        (O.faults out.new) (fault_of result) }
     ensures may { (files : Files) → F.files folder.old ≡ Some files
-        → MayEnd (MayBe files (command_view command.entry)) (fault_of result) (F.files folder.new) (O.taken out.old) (O.taken out.new) }
-    ensures long_demo { IsLongDemo (Some (command_view command.entry)) → fault_of result ≡ Some (refused (limit refusal.demo 1000)) }
+        → MayEnd (MayBe files (command_view command.entry)) (fault_of result) (F.files folder.new)
+        (O.taken out.old) (O.taken out.new) }
+    ensures long_demo { IsLongDemo (Some (command_view command.entry))
+        → fault_of result ≡ Some (refused (limit refusal.demo 1000)) }
+    ensures gained { EndsGained (fault_of result) (O.taken out.old) (O.taken out.new) }
 {
     match command {
         Command::Norm { spec, doc } => run_norm(alloc, spec, doc, folder, out),
@@ -149,7 +192,8 @@ fn run_command<F: Folder, O: Sink>(
 /// Says how a command ended, and answers its status.
 fn finish<E: Sink>(ended: &Result<(), Fault>, err: &mut E) -> u8
     ensures status { result ≡ status_after (fault_of ended.now) }
-    ensures line { Says (E.taken err.old) (E.taken err.new) (E.faults err.old) (E.faults err.new) (line_after (fault_of ended.now)) }
+    ensures line { Says (E.taken err.old) (E.taken err.new) (E.faults err.old) (E.faults err.new)
+        (line_after (fault_of ended.now)) }
     ensures later { E.faults err.old ≤ E.faults err.new }
 {
     match ended {

@@ -8,22 +8,26 @@ use Rattle.xarch_steps.proofs.add.merged_file.Goals as goal
 
 pub merge-requires-clause-room : goal.merge-requires-clause-room
 merge-requires-clause-room c =
-    let below = room (spec_view c.in_ok-spec.spec) (archive_view c.in_ok-spec.archive) c.args.bytes.now (keyed_view c.args.new.now) c.in_ok-spec.archive.stands c.in_ok-spec.ensures.sound c.requires in
+    let l = c.archives_stand_for_one_list.ensures in
+    let below = room l.one_list l.told (spec_view c.in_ok-spec.spec) (archive_view c.in_ok-spec.archive) c.args.bytes.now (keyed_view c.args.new.now) c.in_ok-spec.archive.stands c.in_ok-spec.ensures.sound c.requires in
     omega (arith, below)
 
 pub merge-requires-clause-alike : goal.merge-requires-clause-alike
 merge-requires-clause-alike c =
-    alike_all (spec_view c.in_ok-spec.spec) (archive_view c.in_ok-spec.archive) c.args.bytes.now (keyed_view c.args.new.now) c.in_ok-spec.archive.stands c.in_ok-spec.ensures.sound c.requires c.in_ok-spec.ensures.alike
+    let l = c.archives_stand_for_one_list.ensures in
+    alike_all l.one_list l.told (spec_view c.in_ok-spec.spec) (archive_view c.in_ok-spec.archive) c.args.bytes.now (keyed_view c.args.new.now) c.in_ok-spec.archive.stands c.in_ok-spec.ensures.sound c.requires c.in_ok-spec.ensures.alike
 
 pub file_from-requires-clause-few : goal.file_from-requires-clause-few
 file_from-requires-clause-few c =
-    let below = room (spec_view c.in_ok-spec.spec) (archive_view c.in_ok-spec.archive) c.args.bytes.now (keyed_view c.args.new.now) c.in_ok-spec.archive.stands c.in_ok-spec.ensures.sound c.requires in
+    let l = c.archives_stand_for_one_list.ensures in
+    let below = room l.one_list l.told (spec_view c.in_ok-spec.spec) (archive_view c.in_ok-spec.archive) c.args.bytes.now (keyed_view c.args.new.now) c.in_ok-spec.archive.stands c.in_ok-spec.ensures.sound c.requires in
     let count = c.in-Ok.ensures.count in
     omega (arith, below, count)
 
 pub file_from-requires-clause-keyed : goal.file_from-requires-clause-keyed
 file_from-requires-clause-keyed c =
-    keyed_after (spec_view c.in_ok-spec.spec) (archive_view c.in_ok-spec.archive) c.args.bytes.now (keyed_view c.args.new.now) c.in_ok-spec.archive.stands c.in_ok-spec.ensures.sound c.requires (archive_view c.in-Ok.archive) c.in-Ok.ensures.archive
+    let l = c.archives_stand_for_one_list.ensures in
+    keyed_after l.one_list l.told (spec_view c.in_ok-spec.spec) (archive_view c.in_ok-spec.archive) c.args.bytes.now (keyed_view c.args.new.now) c.in_ok-spec.archive.stands c.in_ok-spec.ensures.sound c.requires (archive_view c.in-Ok.archive) c.in-Ok.ensures.archive
 
 pub returns-in-Ok-clause-too_long : goal.returns-in-Ok-clause-too_long
 returns-in-Ok-clause-too_long c = λ rules vs q sound.
@@ -35,5 +39,6 @@ returns-in_err-spec-clause-refused c = IfErr-passed c.from_residual.result _ _ c
 
 pub returns-in-Ok-clause-refused : goal.returns-in-Ok-clause-refused
 returns-in-Ok-clause-refused c =
+    let l = c.archives_stand_for_one_list.ensures in
     IfErr-more c.file_from.result _ _ (λ f limit q e.
-    inr (overlong (spec_view c.in_ok-spec.spec) (archive_view c.in_ok-spec.archive) c.args.bytes.now (keyed_view c.args.new.now) c.in_ok-spec.archive.stands c.in_ok-spec.ensures.sound c.requires q (limit q e))) c.file_from.ensures.limit
+    inr (overlong l.one_list l.told (spec_view c.in_ok-spec.spec) (archive_view c.in_ok-spec.archive) c.args.bytes.now (keyed_view c.args.new.now) c.in_ok-spec.archive.stands c.in_ok-spec.ensures.sound c.requires q (limit q e))) c.file_from.ensures.limit

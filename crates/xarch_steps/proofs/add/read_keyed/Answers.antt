@@ -46,4 +46,4 @@ returns-clause-told g c = λ files told length. and_then-Ok _ _ _ _ c.in_ok-spec
 
 pub returns-clause-goes : goal.returns-clause-goes
 returns-clause-goes g c = let v = c.in_ok-keyed.ensures.version in
-    goes_on (spec_view c.in_ok-spec.spec) c.in_ok-spec.n c.args.bytes.now (keyed_view c.in_ok-keyed.keyed) c.in_ok-spec.ensures.header v.element v.ordered v.well_formed v.keyed c.in_ok-check_room.ensures.below
+    goes_on (spec_view c.in_ok-spec.spec) c.in_ok-spec.n c.args.bytes.now (keyed_view c.in_ok-keyed.keyed) c.in_ok-spec.ensures.header c.in_ok-spec.ensures.sound v.element v.ordered v.well_formed v.keyed c.in_ok-check_room.ensures.below

@@ -17,14 +17,14 @@ pub returns-in_err-bytes-clause-may : goal.returns-in_err-bytes-clause-may
 returns-in_err-bytes-clause-may g c = λ files t told.
     let input = c.in_err-bytes.ensures.told files (c.in_ok-begin.ensures.begins.same_files ∙ told) in
     MayEnd-passed (MayBe files (add c.args.archive.now c.args.doc.now)) c.from_residual-in_err-bytes.result c.in_err-bytes.field-0.0 _ t c.from_residual-in_err-bytes.ensures.1
-    (λ q e. may_refuse_early files c.args.archive.now c.args.doc.now q (defined_refused (add_input files c.args.archive.now c.args.doc.now) _ q input e))
+    (λ q e. may_refuse_early c.versions_have_one_file.ensures.header files c.args.archive.now c.args.doc.now q (defined_refused (add_input files c.args.archive.now c.args.doc.now) _ q input e))
 
 pub returns-in_err-file-clause-may : goal.returns-in_err-file-clause-may
 returns-in_err-file-clause-may g c = λ files t told.
     let k = keyed_view c.in_ok-bytes.keyed in
     let input = c.in_ok-bytes.ensures.told files (c.in_ok-begin.ensures.begins.same_files ∙ told) ∙ ap (λ (b : List ℕ). Ok (b, k)) (sym c.deref.ensures.value) in
     MayEnd-passed (MayBe files (add c.args.archive.now c.args.doc.now)) c.from_residual-in_err-file.result c.in_err-file.field-0.0 _ t c.from_residual-in_err-file.ensures.1
-    (λ q e. may_refuse files c.args.archive.now c.args.doc.now c.deref.result.now k input q (c.in_err-file.ensures.refused q e) (λ rules vs sound. c.in_err-file.ensures.too_long rules vs q sound e))
+    (λ q e. may_refuse c.versions_have_one_file.ensures.header files c.args.archive.now c.args.doc.now c.deref.result.now k input q (c.in_err-file.ensures.refused q e) (λ rules vs sound. c.in_err-file.ensures.too_long rules vs q sound e))
 
 pub returns-clause-may : goal.returns-clause-may
 returns-clause-may g c = λ files t told.
@@ -34,7 +34,7 @@ returns-clause-may g c = λ files t told.
     let input = c.in_ok-bytes.ensures.told files told1 ∙ ap (λ (b : List ℕ). Ok (b, k)) (sym c.deref.ensures.value) in
     let new = c.deref-2.result.now in
     MayEnd-stored (MayBe files (add c.args.archive.now c.args.doc.now)) (map.insert files c.args.archive.now new) c.store.result _ t
-    (may_replace files c.args.archive.now c.args.doc.now c.deref.result.now k input new (λ rules vs sound. subst (λ b. SoundAs rules (vs ++ k ∷ []) b) (sym c.deref-2.ensures.value) (c.in_ok-file.ensures.sound rules vs sound)))
+    (may_replace c.versions_have_one_file.ensures.header files c.args.archive.now c.args.doc.now c.deref.result.now k input new (λ rules vs sound. subst (λ b. SoundAs rules (vs ++ k ∷ []) b) (sym c.deref-2.ensures.value) (c.in_ok-file.ensures.sound rules vs sound)))
     (c.store.ensures.stored files told2) c.store.ensures.fault
 
 pub returns-in_err-begin-clause-keeps : goal.returns-in_err-begin-clause-keeps

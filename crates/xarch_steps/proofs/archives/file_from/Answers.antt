@@ -1,10 +1,9 @@
-use Rattle.key_spec.proofs.RoundTrip.{kept_round_trip}
 use Rattle.xarch_steps.proofs.Merging.{few_of}
 use Rattle.xarch_steps.proofs.archives.file_from.Goals as goal
 
 pub returns-in-Ok-clause-sound : goal.returns-in-Ok-clause-sound
 returns-in-Ok-clause-sound c = λ vs h. record {
-  specification = kept_round_trip c.args.spec.now.rules.items c.args.spec.now.closed;
+  specification = c.rules.ensures.closed;
   keyed = c.requires.keyed vs h;
   few = few_of vs _ h c.requires.few;
   file = c.in-Ok.ensures.file vs h;

@@ -2,7 +2,7 @@ use Rattle.std.proofs.Common.{◌≡◌, inl, inr, List, ℕ, Ok, Err, sym, ap, 
 use Rattle.archive_stats.specs.View.{counts_view}
 use Rattle.xarch_steps.specs.Demo.{IsSampleFile, MakesOrNone, told_and_stored}
 use Rattle.xarch_steps.proofs.FolderLemmas.{caused-inside, caused-passed, writes-none}
-use Rattle.xarch_steps.proofs.MayEnds.{MayEnd-more, MayEnd-passed}
+use Rattle.xarch_steps.proofs.MayEnds.{MayEnd-more, MayEnd-passed, gained-none}
 use Rattle.xarch_steps.proofs.demo.make_sample.Goals as goal
 
 pub returns-in_err-bytes-clause-writes : goal.returns-in_err-bytes-clause-writes
@@ -23,3 +23,9 @@ returns-clause-may g c = λ files told.
     let file : IsSampleFile c.args.seed c.args.count bytes counts = subst (λ (b : List ℕ). IsSampleFile c.args.seed c.args.count b counts) (sym c.deref.ensures.value) c.in_ok-bytes.ensures.made in
     MayEnd-more (λ r. r ≡ Ok (told_and_stored files c.args.archive.now bytes counts)) (MakesOrNone files c.args.archive.now c.args.seed c.args.count) (λ r e. inl (record { bytes = bytes; tally = counts; made = file; is = e })) _ _ _ _
     (c.tell_then_store.ensures.may files told)
+
+pub returns-in_err-bytes-clause-gained : goal.returns-in_err-bytes-clause-gained
+returns-in_err-bytes-clause-gained g c = gained-none _ _
+
+pub returns-clause-gained : goal.returns-clause-gained
+returns-clause-gained g c = c.tell_then_store.ensures.gained

@@ -1,11 +1,11 @@
-use Rattle.std.proofs.Common.{List, ℕ, refl, sym, ◌∙◌, arith}
+use Rattle.std.proofs.Common.{refl, sym, ◌∙◌, arith}
 use Rattle.xarch_words.specs.Refusal as refusal
 use Rattle.xarch_steps.specs.Archives.{free_in}
 use Rattle.xarch_steps.specs.Demo.{DemoIs, MakesOrNone}
 use Rattle.xarch_steps.specs.Inputs.{at_most}
 use Rattle.xarch_steps.proofs.DemoEnds.{goes_on, refused_many, refused_name}
 use Rattle.xarch_steps.proofs.FolderLemmas.{caused-begin, caused-begun, caused-inside, caused-passed, caused-then, keeps-begun, keeps-made, keeps-none, keeps-not_begun}
-use Rattle.xarch_steps.proofs.MayEnds.{MayEnd-folder, MayEnd-more, MayEnd-passed, defined_refused, passed-fault}
+use Rattle.xarch_steps.proofs.MayEnds.{MayEnd-folder, MayEnd-more, MayEnd-passed, defined_refused, gained-none, passed-fault}
 use Rattle.xarch_steps.proofs.demo.run_demo.Goals as goal
 
 pub returns-in_err-check_few-clause-keeps : goal.returns-in_err-check_few-clause-keeps
@@ -68,3 +68,15 @@ returns-clause-may g c = λ files told.
 
 pub returns-clause-many : goal.returns-clause-many
 returns-clause-many g c = λ many. absurd (let few = c.in_ok-check_few.ensures.bound in omega (arith, many, few))
+
+pub returns-in_err-check_few-clause-gained : goal.returns-in_err-check_few-clause-gained
+returns-in_err-check_few-clause-gained g c = gained-none _ _
+
+pub returns-in_err-begin-clause-gained : goal.returns-in_err-begin-clause-gained
+returns-in_err-begin-clause-gained g c = gained-none _ _
+
+pub returns-in_err-check_free-clause-gained : goal.returns-in_err-check_free-clause-gained
+returns-in_err-check_free-clause-gained g c = gained-none _ _
+
+pub returns-clause-gained : goal.returns-clause-gained
+returns-clause-gained g c = c.make_sample.ensures.gained

@@ -7,7 +7,7 @@ pub file_from-requires-clause-few : goal.file_from-requires-clause-few
 file_from-requires-clause-few c = few_versions c.args.seed c.args.count (archive_view c.in_ok-archive.archive) c.in_ok-archive.ensures c.requires
 
 pub file_from-requires-clause-keyed : goal.file_from-requires-clause-keyed
-file_from-requires-clause-keyed c = only_keyed (spec_view c.in_ok-spec.spec) c.args.seed c.args.count (archive_view c.in_ok-archive.archive) c.in_ok-spec.ensures.rules c.in_ok-archive.ensures
+file_from-requires-clause-keyed c = only_keyed c.archives_stand_for_one_list.ensures.one_list (spec_view c.in_ok-spec.spec) c.args.seed c.args.count (archive_view c.in_ok-archive.archive) c.in_ok-spec.ensures.rules c.in_ok-archive.ensures
 
 pub counts_of-requires-clause-keyed : goal.counts_of-requires-clause-keyed
-counts_of-requires-clause-keyed c = only_keyed (spec_view c.in_ok-spec.spec) c.args.seed c.args.count (archive_view c.in_ok-archive.archive) c.in_ok-spec.ensures.rules c.in_ok-archive.ensures
+counts_of-requires-clause-keyed c = only_keyed c.archives_stand_for_one_list.ensures.one_list (spec_view c.in_ok-spec.spec) c.args.seed c.args.count (archive_view c.in_ok-archive.archive) c.in_ok-spec.ensures.rules c.in_ok-archive.ensures

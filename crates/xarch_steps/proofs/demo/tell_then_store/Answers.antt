@@ -2,7 +2,7 @@ use Rattle.std.proofs.Common.{◌≡◌, Ok, refl, arith, ◌∙◌}
 use Rattle.archive_stats.specs.View.{counts_view}
 use Rattle.xarch_steps.specs.Demo.{told_and_stored}
 use Rattle.xarch_steps.proofs.FolderLemmas.{caused-output, caused-passed, caused-then, writes-kept, writes-passed, writes-then}
-use Rattle.xarch_steps.proofs.MayEnds.{MayEnd-committed, MayEnd-folder, MayEnd-put_failed, commit-tells}
+use Rattle.xarch_steps.proofs.MayEnds.{MayEnd-committed, MayEnd-folder, MayEnd-put_failed, commit-tells, gained-committed, gained-none, gained-put_failed}
 use Rattle.xarch_steps.proofs.demo.tell_then_store.Goals as goal
 
 pub returns-in_err-draft-clause-writes : goal.returns-in_err-draft-clause-writes
@@ -38,3 +38,12 @@ returns-clause-may g c = λ files told.
     let outcome = told_and_stored files c.args.name.now c.args.bytes.now (counts_view c.args.counts.now) in
     MayEnd-committed (λ r. r ≡ Ok outcome) outcome c.commit.result _ _ _ refl c.in_ok-write_counts.ensures.bytes
     (commit-tells c.commit.result files _ _ _ c.args.name.now c.args.bytes.now c.commit.ensures.committed (c.in_ok-draft.ensures.files ∙ told) c.in_ok-draft.ensures.drafted) c.commit.ensures.fault
+
+pub returns-in_err-draft-clause-gained : goal.returns-in_err-draft-clause-gained
+returns-in_err-draft-clause-gained g c = gained-none _ _
+
+pub returns-in_err-write_counts-clause-gained : goal.returns-in_err-write_counts-clause-gained
+returns-in_err-write_counts-clause-gained g c = gained-put_failed c.from_residual-in_err-write_counts.result _ _ _ _ _ _ c.from_residual-in_err-write_counts.ensures.1 c.in_err-write_counts.ensures.bytes c.in_err-write_counts.ensures.cause
+
+pub returns-clause-gained : goal.returns-clause-gained
+returns-clause-gained g c = gained-committed c.commit.result _ _ _ c.in_ok-write_counts.ensures.bytes c.commit.ensures.fault

@@ -15,7 +15,7 @@ pub merge-requires-clause-alike : goal.merge-requires-clause-alike
 merge-requires-clause-alike c =
     let d = c.in_ok-document.ensures in
     alike (spec_view c.args.spec.now) c.args.seed c.args.before (tree_view c.in_ok-document.document) (keyed_view c.in_ok-keyed.keyed) c.requires.rules d.document d.element d.well_formed d.shallow c.in_ok-keyed.ensures (archive_view c.args.archive)
-    c.requires.documents
+    c.requires.documents c.archives_stand_for_one_list.ensures.one_list c.keyed_versions_can_be_merged.ensures.alike
 
 pub returns-in-Ok : goal.returns-in-Ok
 returns-in-Ok c =

@@ -1,9 +1,10 @@
-use Rattle.std.proofs.Common.{◌≡◌, List, ℕ, Ok, arith, sym, ap, ◌∙◌}
+use Rattle.std.proofs.Common.{◌≡◌, List, [], ℕ, Ok, arith, sym, ap, ◌∙◌}
+use Rattle.std.specs.FinMap as map
 use Rattle.key_spec.specs.View.{spec_view}
 use Rattle.xarch_steps.specs.Norm.{norm_from, norm_of}
 use Rattle.xarch_steps.specs.Plausible.{MayBe}
 use Rattle.xarch_steps.proofs.FolderLemmas.{caused-passed, caused-read, caused-then, keeps-read}
-use Rattle.xarch_steps.proofs.MayEnds.{MayEnd-more, MayEnd-passed, MayEnd-told, defined_refused}
+use Rattle.xarch_steps.proofs.MayEnds.{MayEnd-more, MayEnd-passed, MayEnd-told, defined_refused, gained-may, gained-none}
 use Rattle.xarch_steps.proofs.NormEnds.{norm-goes_on, norm-refused}
 use Rattle.xarch_steps.proofs.norm.run_norm.Goals as goal
 
@@ -33,3 +34,9 @@ returns-clause-may g c = λ files told.
     let same = norm-goes_on files c.args.spec.now c.args.doc.now rules c.deref.result.now input in
     MayEnd-told _ files _ _ _ _ (c.in_ok-spec.ensures.reads.same_files ∙ told)
     (MayEnd-more (λ r. r ≡ norm_from files rules c.deref.result.now) (λ r. r ≡ norm_of files c.args.spec.now c.args.doc.now) (λ r e. e ∙ sym same) _ _ _ _ (c.write_ordered.ensures.may files))
+
+pub returns-in_err-spec-clause-gained : goal.returns-in_err-spec-clause-gained
+returns-in_err-spec-clause-gained g c = gained-none _ _
+
+pub returns-clause-gained : goal.returns-clause-gained
+returns-clause-gained g c = gained-may _ _ _ _ _ (c.write_ordered.ensures.may (map.from_entries []))

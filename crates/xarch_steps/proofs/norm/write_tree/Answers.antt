@@ -2,7 +2,7 @@ use Rattle.std.proofs.Common.{◌≡◌, Some, refl, sym}
 use Rattle.jsonml_tree.specs.LentView.{lent_tree_view}
 use Rattle.key_annotate.specs.LentView.{lent_view}
 use Rattle.key_spec.specs.View.{spec_view}
-use Rattle.xarch_steps.specs.KeyedText.{keyed_text}
+use Rattle.keyed_print.specs.KeyedText.{keyed_text}
 use Rattle.xarch_steps.specs.Norm.{norm_of_tree}
 use Rattle.xarch_steps.proofs.Ending.{IsDefined-here, and_then-Ok}
 use Rattle.xarch_steps.proofs.FolderLemmas.{caused-inside, caused-output, caused-passed}

@@ -1,6 +1,6 @@
 use Rattle.std.proofs.Common.{List, ℕ, ◌∙◌, subst}
 use Rattle.xa_outside.specs.Taken.{Takes, TakesPrefix}
-use Rattle.xa_outside.proofs.Output.{Takes-trans, TakesPrefix-after, TakesPrefix-more, Puts-after, Puts-failed}
+use Rattle.xa_outside.specs.TakenLaws.{Takes-trans, TakesPrefix-after, TakesPrefix-more, Puts-after, Puts-failed}
 use Rattle.xarch_steps.proofs.stats.put_count.Goals as goal
 
 pub returns-clause-bytes : goal.returns-clause-bytes

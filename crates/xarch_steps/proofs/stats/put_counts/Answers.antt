@@ -1,5 +1,5 @@
 use Rattle.std.proofs.Common.{rules}
-use Rattle.xa_outside.proofs.BufferedLemmas.{Puts-unflushed, Puts-flushed}
+use Rattle.xa_outside.specs.BufferedLaws.{Puts-unflushed, Puts-flushed}
 use Rattle.xarch_steps.proofs.stats.put_counts.Goals as goal
 
 pub returns-in_err-put_lines-clause-bytes : goal.returns-in_err-put_lines-clause-bytes

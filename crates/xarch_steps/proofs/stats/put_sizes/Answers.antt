@@ -1,4 +1,4 @@
-use Rattle.xa_outside.proofs.Output.{Takes-trans, TakesPrefix-after, TakesPrefix-more, Puts-after, Puts-failed}
+use Rattle.xa_outside.specs.TakenLaws.{Takes-trans, TakesPrefix-after, TakesPrefix-more, Puts-after, Puts-failed}
 use Rattle.xarch_steps.specs.Stats.{sizes_text}
 use Rattle.xarch_steps.proofs.stats.put_sizes.Goals as goal
 

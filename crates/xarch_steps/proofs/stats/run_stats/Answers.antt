@@ -4,7 +4,7 @@ use Rattle.xarch_words.specs.Commands.{stats}
 use Rattle.xarch_steps.specs.Plausible.{MayBe}
 use Rattle.xarch_steps.specs.Stats.{counts_text}
 use Rattle.xarch_steps.proofs.FolderLemmas.{caused-passed, caused-read, caused-written, keeps-read}
-use Rattle.xarch_steps.proofs.MayEnds.{MayEnd-passed, MayEnd-written, tells_same}
+use Rattle.xarch_steps.proofs.MayEnds.{MayEnd-passed, MayEnd-written, gained-none, gained-written, tells_same}
 use Rattle.xarch_steps.proofs.stats.run_stats.Goals as goal
 
 pub returns-in_err-counts-clause-may : goal.returns-in_err-counts-clause-may
@@ -27,3 +27,9 @@ returns-clause-keeps g c = keeps-read _ _ _ _ _ c.in_ok-counts.ensures.reads
 
 pub returns-clause-caused : goal.returns-clause-caused
 returns-clause-caused g c = caused-written _ _ _ _ _ _ c.in_ok-counts.ensures.reads c.write_counts.ensures.later c.write_counts.ensures.cause
+
+pub returns-in_err-counts-clause-gained : goal.returns-in_err-counts-clause-gained
+returns-in_err-counts-clause-gained g c = gained-none _ _
+
+pub returns-clause-gained : goal.returns-clause-gained
+returns-clause-gained g c = gained-written c.write_counts.result _ _ _ _ _ c.write_counts.ensures.bytes c.write_counts.ensures.cause

@@ -3,7 +3,8 @@ use Rattle.xarch_words.specs.View.{command_view, words_view}
 use Rattle.xarch_steps.specs.Ends.{HasItsCause}
 use Rattle.xarch_steps.specs.Ran.{IsLongDemo}
 use Rattle.xarch_steps.proofs.Ending.{HasItsCause-command}
-use Rattle.xarch_steps.proofs.Running.{MayEnd-usage, MayEnd-command, OnErr-of, counts_as_said, makes_none, nothing_counted, nothing_pulled, pulls_as_said, usage-command}
+use Rattle.xarch_steps.proofs.Running.{MayEnd-usage, MayEnd-command, OnErr-of, counts_as_said, makes_none, nothing_counted, usage-command}
+use Rattle.xarch_steps.proofs.MayEnds.{gained-none}
 use Rattle.xarch_steps.proofs.step.command_words.Goals as goal
 
 pub returns-in-None-clause-cause : goal.returns-in-None-clause-cause
@@ -29,9 +30,6 @@ returns-in-None-clause-long_demo g c = λ long. absurd (subst IsLongDemo (sym c.
 pub returns-in-Some-clause-long_demo : goal.returns-in-Some-clause-long_demo
 returns-in-Some-clause-long_demo g c = λ long. c.run_command.ensures.long_demo (subst IsLongDemo (sym c.in-Some.ensures.is) long)
 
-pub returns-in-None-clause-numbers : goal.returns-in-None-clause-numbers
-returns-in-None-clause-numbers g c = nothing_pulled (words_view c.args.words.now) _ (sym c.in-None.ensures.is) (g.met.F.Folder.metered c.args.folder.now)
-
 pub returns-in-None-clause-counts : goal.returns-in-None-clause-counts
 returns-in-None-clause-counts g c = nothing_counted (words_view c.args.words.now) _ (sym c.in-None.ensures.is) (g.met.F.Folder.metered c.args.folder.now) _
 
@@ -56,8 +54,14 @@ returns-in-Some-clause-files g c = λ only. c.run_command.ensures.keeps.same_fil
 pub returns-in-Some-clause-draft : goal.returns-in-Some-clause-draft
 returns-in-Some-clause-draft g c = λ only. c.run_command.ensures.keeps.same_draft (makes_none (words_view c.args.words.now) (command_view c.in-Some.command) (sym c.in-Some.ensures.is) only)
 
-pub returns-in-Some-clause-numbers : goal.returns-in-Some-clause-numbers
-returns-in-Some-clause-numbers g c = pulls_as_said (words_view c.args.words.now) (command_view c.in-Some.command) _ _ _ (sym c.in-Some.ensures.is) c.run_command.ensures.keeps.counts
+pub returns-in-Some-clause-told : goal.returns-in-Some-clause-told
+returns-in-Some-clause-told g c = c.run_command.ensures.keeps.told
 
 pub returns-in-Some-clause-counts : goal.returns-in-Some-clause-counts
 returns-in-Some-clause-counts g c = counts_as_said (words_view c.args.words.now) (command_view c.in-Some.command) _ _ _ (sym c.in-Some.ensures.is) c.run_command.ensures.keeps.counts
+
+pub returns-in-None-clause-gained : goal.returns-in-None-clause-gained
+returns-in-None-clause-gained g c = gained-none _ _
+
+pub returns-in-Some-clause-gained : goal.returns-in-Some-clause-gained
+returns-in-Some-clause-gained g c = c.run_command.ensures.gained

@@ -1,4 +1,5 @@
 use Rattle.xarch_steps.specs.Plausible.{MayBe}
+use Rattle.xarch_steps.proofs.MayEnds.{gained-none}
 use Rattle.xarch_steps.proofs.step.run_command.Goals as goal
 
 pub returns-in-Norm-clause-keeps : goal.returns-in-Norm-clause-keeps
@@ -86,3 +87,24 @@ returns-in-Demo-clause-may g c = λ files told. rw c.in-Demo.is (c.run_demo.ensu
 
 pub returns-in-Demo-clause-long_demo : goal.returns-in-Demo-clause-long_demo
 returns-in-Demo-clause-long_demo g c = λ long. c.run_demo.ensures.many (rw c.in-Demo.is at long)
+
+pub returns-in-Norm-clause-gained : goal.returns-in-Norm-clause-gained
+returns-in-Norm-clause-gained g c = c.run_norm.ensures.gained
+
+pub returns-in-Init-clause-gained : goal.returns-in-Init-clause-gained
+returns-in-Init-clause-gained g c = gained-none _ _
+
+pub returns-in-Add-clause-gained : goal.returns-in-Add-clause-gained
+returns-in-Add-clause-gained g c = gained-none _ _
+
+pub returns-in-Get-clause-gained : goal.returns-in-Get-clause-gained
+returns-in-Get-clause-gained g c = c.run_get.ensures.gained
+
+pub returns-in-History-clause-gained : goal.returns-in-History-clause-gained
+returns-in-History-clause-gained g c = c.run_history.ensures.gained
+
+pub returns-in-Stats-clause-gained : goal.returns-in-Stats-clause-gained
+returns-in-Stats-clause-gained g c = c.run_stats.ensures.gained
+
+pub returns-in-Demo-clause-gained : goal.returns-in-Demo-clause-gained
+returns-in-Demo-clause-gained g c = c.run_demo.ensures.gained

@@ -1,23 +1,24 @@
 use Rattle.std.proofs.Common.{◌≡◌, ◌⊎◌, ℕ, sym, ap, subst, ◌∙◌}
 use Rattle.xarch_words.specs.View.{words_view}
 use Rattle.xarch_steps.specs.Ends.{fault_of}
-use Rattle.xarch_steps.specs.Outcome.{Step}
 use Rattle.xarch_steps.specs.Plausible.{Tried}
 use Rattle.xarch_steps.specs.Ran.{outside_of, status_after}
-use Rattle.xarch_steps.proofs.Running.{complete-from, long_demo-alone, fault_of-OnErr, folder_fault-caused, out_fault-caused, status_after-input, EndsAs-defined, Tried-from, Wrote-from}
+use Rattle.xarch_steps.proofs.Running.{complete-from, long_demo-alone, fault_of-OnErr, folder_fault-caused, out_fault-caused, status_after-input, gained-any, gained-refused, Tried-from, Wrote-from}
+use Rattle.xarch_steps.proofs.Succeeding.{succeeds-from}
 use Rattle.xarch_steps.proofs.step.take_step.Goals as goal
 
 pub returns-clause-tried : goal.returns-clause-tried
 returns-clause-tried g c = λ files told plain.
     let words = words_view c.args.words.now in
     let tried =
-    Tried-from files words (fault_of c.command_words-ended.result) _ _ _ _ _ _ _ _ told (fault_of-OnErr _ c.command_words-ended.result c.command_words-ended.ensures.refused) (c.command_words-ended.ensures.may files told)
+    Tried-from c.archives_stand_for_one_list.ensures.one_archive c.versions_have_one_file.ensures.one_file files words (fault_of c.command_words-ended.result) _ _ _ _ _ _ _ _ told (fault_of-OnErr _ c.command_words-ended.result c.command_words-ended.ensures.refused) (c.command_words-ended.ensures.may files told)
     c.finish.ensures.line (ap outside_of (sym c.finish.ensures.status) ∙ plain) in
     subst (λ (n : ℕ). Tried files words n (g.F.Folder.files c.command_words-ended.new.folder) (g.O.Sink.taken c.args.out.now) (g.O.Sink.taken c.command_words-ended.new.out)
     (g.E.Sink.taken c.args.err.now) (g.E.Sink.taken c.finish.new.err) (g.E.Sink.faults c.args.err.now) (g.E.Sink.faults c.finish.new.err)) (sym c.finish.ensures.status) tried
 
 pub returns-clause-wrote : goal.returns-clause-wrote
-returns-clause-wrote g c = λ files told. Wrote-from files (words_view c.args.words.now) (fault_of c.command_words-ended.result) _ _ _ (c.command_words-ended.ensures.may files told)
+returns-clause-wrote g c = λ files told.
+    Wrote-from c.archives_stand_for_one_list.ensures.one_archive c.versions_have_one_file.ensures.one_file files (words_view c.args.words.now) (fault_of c.command_words-ended.result) _ _ _ (c.command_words-ended.ensures.may files told)
 
 pub returns-clause-folder_fault : goal.returns-clause-folder_fault
 returns-clause-folder_fault g c = λ is. folder_fault-caused _ _ _ _ _ c.command_words-ended.ensures.cause (sym c.finish.ensures.status ∙ is)
@@ -30,10 +31,9 @@ returns-clause-never_input_fault g c = λ is. status_after-input _ _ _ _ _ c.com
 
 pub returns-clause-complete : goal.returns-clause-complete
 returns-clause-complete g c = λ files s told is zero folder out.
-    let ended = fault_of c.command_words-ended.result in
-    let ends = EndsAs-defined files (words_view c.args.words.now) s ended _ _ _ is (c.command_words-ended.ensures.may files told) in
     subst (λ (n : ℕ). (n ≡ 0) ⊎ (n ≡ 16)) (sym c.finish.ensures.status)
-    (complete-from files is.outcome ended _ _ _ _ _ _ _ ends c.command_words-ended.ensures.cause (sym (ap (λ (x : Step). x.status) is.is) ∙ zero) folder out)
+    (complete-from c.archives_stand_for_one_list.ensures.one_archive c.versions_have_one_file.ensures.one_file files (words_view c.args.words.now) s (fault_of c.command_words-ended.result) _ _ _ _ _ _ _ is
+    (c.command_words-ended.ensures.may files told) c.command_words-ended.ensures.cause zero folder out)
 
 pub returns-clause-said : goal.returns-clause-said
 returns-clause-said g c = record { fault = fault_of c.command_words-ended.result; status = c.finish.ensures.status; line = c.finish.ensures.line }
@@ -42,3 +42,14 @@ pub returns-clause-long_demo : goal.returns-clause-long_demo
 returns-clause-long_demo g c = λ seed count name is long.
     let fault = c.command_words-ended.ensures.long_demo (long_demo-alone (words_view c.args.words.now) seed count name is long) in
     c.finish.ensures.status ∙ ap status_after fault
+
+pub returns-clause-gained : goal.returns-clause-gained
+returns-clause-gained g c = gained-any _ _ _ c.command_words-ended.ensures.gained
+
+pub returns-clause-nothing : goal.returns-clause-nothing
+returns-clause-nothing g c = λ some plain. gained-refused _ _ _ c.command_words-ended.ensures.gained (λ zero. some (c.finish.ensures.status ∙ zero)) (ap outside_of (sym c.finish.ensures.status) ∙ plain)
+
+pub returns-clause-succeeds : goal.returns-clause-succeeds
+returns-clause-succeeds g c = λ files command told is should folder out.
+    subst (λ (n : ℕ). (n ≡ 0) ⊎ (n ≡ 16)) (sym c.finish.ensures.status)
+    (succeeds-from files (words_view c.args.words.now) command (fault_of c.command_words-ended.result) _ _ _ _ _ _ _ is should (c.command_words-ended.ensures.may files told) c.command_words-ended.ensures.cause folder out)
