@@ -1,13 +1,17 @@
--- The files that a batch left are those after steps of its lines.
-use Rattle.std.proofs.Common.{◌≡◌, inl, inr, ℕ, Bool, true, false, cond, not, List, [], ◌∷◌, ◌++◌, Option, Some, None, refl, sym, ap, ◌∙◌, append-nil}
+-- A batch ran the first of its lines, and all of them where it answered 0.
+use Rattle.std.proofs.Common.{◌≡◌, ◌≢◌, inl, inr, ℕ, Bool, true, false, cond, not, List, [], ◌∷◌, ◌++◌, map, Option, Some, None, refl, sym, ap, ◌∙◌, subst, append-nil, arith}
 use Rattle.std.specs.Io.KnownBytes.{Consumes}
 use Rattle.std.proofs.lemmas.List.Elements.{filter-append}
+use Rattle.xa_outside.specs.Folder.{Files}
+use Rattle.xarch_words.specs.Commands.{batch, command_of}
+use Rattle.xarch_words.specs.Lines.{fault_status}
+use Rattle.xarch_words.specs.Refusal.{PlainFault}
 use Rattle.xarch_steps.specs.Outcome.{Step}
-use Rattle.xarch_run.specs.Batch.{BatchEnds, RunsOver, Scene, Stops}
-use Rattle.xarch_run.specs.HandedIn.{BatchSteps}
+use Rattle.xarch_run.specs.Batch.{BatchEnds, EndsTheBatch, RunsOver, Scene, Stops}
+use Rattle.xarch_run.specs.Calls.{Call, DidCommands}
 use Rattle.xarch_run.specs.Lines.{cut, cut_ended, in_front, in_front_ended, is_blank, is_line_feed, lines_of, ended_lines_of, without_blanks}
-use Rattle.xarch_run.specs.Steps.{StepsAre, files_after}
-use Rattle.xarch_run.proofs.Runs.{StepsAre-append, files_after-append}
+use Rattle.xarch_run.specs.Steps.{Leads, line_command}
+use Rattle.xarch_run.proofs.Runs.{Leads-append, told-before}
 
 -- ---- the lines of the front of an input come first among its lines
 
@@ -34,40 +38,80 @@ ended-first front behind =
 
 -- ---- each end
 
-over-first : (w : Scene) (bytes : List ℕ) (ls : List (List ℕ)) (spoken : List ℕ) → RunsOver w ls spoken → ComesFirst ls (lines_of bytes) → BatchSteps w bytes
-over-first w bytes ls spoken over f = record { lines = ls; steps = over.steps; behind = f.behind; front = f.is; are = over.are; files = over.files }
+-- The first lines took these steps, and all of them where the answer is 0.
+record RunsFirst (before now : Files) (bytes : List ℕ) (answer : ℕ) : Type 0 where
+  lines : List (List ℕ)
+  steps : List Step
+  behind : List (List ℕ)
+  first : lines_of bytes ≡ lines ++ behind
+  all : answer ≡ 0 → behind ≡ []
+  leads : Leads before lines steps now
 
-module _ (w : Scene) (bytes : List ℕ) (lines : List (List ℕ)) (steps : List Step) (line : List ℕ) (behind : List (List ℕ)) (is : lines_of bytes ≡ lines ++ line ∷ behind) (are : StepsAre w.files_before lines steps) where
+over-first : (w : Scene) (before now : Files) (bytes : List ℕ) (answer : ℕ) (ls : List (List ℕ)) (spoken : List ℕ) → w.files_before ≡ Some before → w.files_now ≡ Some now
+    → RunsOver w ls spoken → ComesFirst ls (lines_of bytes) → answer ≢ 0 → RunsFirst before now bytes answer
+over-first w before now bytes answer ls spoken told after over f other =
+    record { lines = ls; steps = over.steps; behind = f.behind; first = f.is; all = λ zero. absurd (other zero); leads = over.are.leads before now told after }
+
+module _ (before between now : Files) (bytes : List ℕ) (answer : ℕ) (lines : List (List ℕ)) (steps : List Step) (line : List ℕ) (behind : List (List ℕ)) (is : lines_of bytes ≡ lines ++ line ∷ behind)
+    (leads : Leads before lines steps between) where
   -- the line that ended the batch changed no file
-  before-it : w.files_now ≡ files_after w.files_before steps → BatchSteps w bytes
-  before-it kept = record { lines = lines; steps = steps; behind = line ∷ behind; front = is; are = are; files = kept }
+  before-it : answer ≢ 0 → now ≡ between → RunsFirst before now bytes answer
+  before-it other kept = record { lines = lines; steps = steps; behind = line ∷ behind; first = is; all = λ zero. absurd (other zero); leads = subst (Leads before lines steps) (sym kept) leads }
 
   one-more : (ls : List (List ℕ)) → ls ++ line ∷ behind ≡ (ls ++ line ∷ []) ++ behind
   one-more [] = refl
   one-more (l ∷ ls) = ap (λ (x : List (List ℕ)). l ∷ x) (one-more ls)
 
-  stops-first : (answer : ℕ) (written spoken : List ℕ) → Stops (files_after w.files_before steps) line answer w.files_now written spoken → BatchSteps w bytes
-  stops-first answer written spoken (inl f) = before-it f.files_kept
-  stops-first answer written spoken (inr (inl f)) = before-it f.files_kept
-  stops-first answer written spoken (inr (inr (inl f))) = record {
+  ends-other : (fault : PlainFault) → EndsTheBatch fault → answer ≡ fault_status fault → answer ≢ 0
+  ends-other fault (inl e) is zero = let at : answer ≡ 13 = is ∙ ap fault_status e in omega (arith, at, zero)
+  ends-other fault (inr e) is zero = let at : answer ≡ 16 = is ∙ ap fault_status e in omega (arith, at, zero)
+
+  no-output : answer ≡ 14 → answer ≢ 0
+  no-output is zero = omega (arith, is, zero)
+
+  same-told : (f g : Option Files) → f ≡ Some between → g ≡ Some now → g ≡ f → now ≡ between
+  same-told f g told after same = (let both : Some now ≡ Some between = sym after ∙ same ∙ told in cc)
+
+  stops-first : (f g : Option Files) (written spoken : List ℕ) → f ≡ Some between → g ≡ Some now → Stops f g line answer written spoken → RunsFirst before now bytes answer
+  stops-first f g written spoken told after (inl k) = before-it (ends-other k.fault k.kind k.status) (same-told f g told after k.files_kept)
+  stops-first f g written spoken told after (inr (inl k)) = before-it (no-output k.status) (same-told f g told after k.files_kept)
+  stops-first f g written spoken told after (inr (inr (inl k))) = record {
     lines = lines ++ line ∷ [];
-    steps = steps ++ f.step ∷ [];
+    steps = steps ++ k.step ∷ [];
     behind = behind;
-    front = is ∙ one-more lines;
-    are = StepsAre-append w.files_before lines (line ∷ []) steps (f.step ∷ []) are (f.may, tt);
-    files = f.files_now ∙ sym (files_after-append w.files_before steps (f.step ∷ []));
+    first = is ∙ one-more lines;
+    all = λ zero. absurd (no-output k.status zero);
+    leads = Leads-append before between now lines (line ∷ []) steps (k.step ∷ []) leads (record { are = (k.may.may between now told after, tt); files = k.files_now between now told after });
   }
-  stops-first answer written spoken (inr (inr (inr f))) = before-it f.files_kept
+  stops-first f g written spoken told after (inr (inr (inr k))) = before-it (no-output k.status) (same-told f g told after k.files_kept)
 
 read-first : (bytes : List ℕ) (rest : Option (List ℕ)) (front : List ℕ) → Consumes (Some bytes) rest front → ComesFirst (ended_lines_of front) (lines_of bytes)
 read-first bytes None front h = absurd h
 read-first bytes (Some left) front h = (let f = ended-first front left in record { behind = f.behind; is = ap lines_of h ∙ f.is })
 
-pub batch-steps : (w : Scene) (bytes : List ℕ) (rest : Option (List ℕ)) (answer : ℕ) → BatchEnds w bytes rest answer → BatchSteps w bytes
-batch-steps w bytes rest answer (inl e) = over-first w bytes (lines_of bytes) [] e.over (record { behind = []; is = sym (append-nil (lines_of bytes)) })
-batch-steps w bytes rest answer (inr (inl e)) =
+ends-first : (w : Scene) (before now : Files) (bytes : List ℕ) (rest : Option (List ℕ)) (answer : ℕ) → w.files_before ≡ Some before → w.files_now ≡ Some now → BatchEnds w bytes rest answer → RunsFirst before now bytes answer
+ends-first w before now bytes rest answer told after (inl e) =
+    record { lines = lines_of bytes; steps = e.over.steps; behind = []; first = sym (append-nil (lines_of bytes)); all = λ _. refl; leads = e.over.are.leads before now told after }
+ends-first w before now bytes rest answer told after (inr (inl e)) =
     let f = ended-first e.front e.behind in
-    over-first w bytes (ended_lines_of e.front) _ e.over (record { behind = f.behind; is = ap lines_of e.is ∙ f.is })
-batch-steps w bytes rest answer (inr (inr (inl e))) = over-first w bytes (ended_lines_of e.front) _ e.over (read-first bytes rest e.front e.consumed)
-batch-steps w bytes rest answer (inr (inr (inr (inl e)))) = over-first w bytes e.lines _ e.over (record { behind = e.behind; is = e.is })
-batch-steps w bytes rest answer (inr (inr (inr (inr e)))) = stops-first w bytes e.lines e.steps e.line e.behind e.is e.are answer e.written e.spoken e.stops
+    let is = e.status in
+    over-first w before now bytes answer (ended_lines_of e.front) _ told after e.over (record { behind = f.behind; is = ap lines_of e.is ∙ f.is }) (λ zero. omega (arith, is, zero))
+ends-first w before now bytes rest answer told after (inr (inr (inl e))) =
+    let is = e.status in
+    over-first w before now bytes answer (ended_lines_of e.front) _ told after e.over (read-first bytes rest e.front e.consumed) (λ zero. omega (arith, is, zero))
+ends-first w before now bytes rest answer told after (inr (inr (inr (inl e)))) =
+    let is = e.status in
+    over-first w before now bytes answer e.lines _ told after e.over (record { behind = e.behind; is = e.is }) (λ zero. omega (arith, is, zero))
+ends-first w before now bytes rest answer told after (inr (inr (inr (inr e)))) =
+    let mid = told-before e.between w.files_now now e.untold after in
+    stops-first before mid.files now bytes answer e.lines e.steps e.line e.behind e.is (e.are.leads before mid.files told mid.is) e.between w.files_now e.written e.spoken mid.is after e.stops
+
+pub batch-did : (w : Scene) (files now : Files) (call : Call) (rest : Option (List ℕ)) → w.files_before ≡ Some files → w.files_now ≡ Some now → command_of call.words ≡ Some batch → BatchEnds w call.input rest call.answer
+    → DidCommands files call now
+batch-did w files now call rest told after many ends =
+    let k = ends-first w files now call.input rest call.answer told after ends in
+    record {
+      commands = map line_command k.lines;
+      steps = k.steps;
+      did = inr (inr (record { many = many; lines = k.lines; behind = k.behind; first = k.first; all = k.all; leads = k.leads; command = refl }));
+    }

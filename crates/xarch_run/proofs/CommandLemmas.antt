@@ -1,9 +1,10 @@
 -- Commands by themselves, and a batch.
 use Rattle.std.proofs.Common.{◌≡◌, ◌⊎◌, ◌↔◌, inl, inr, ℕ, List, Bool, true, false, IsTrue, Option, None, Some, refl, sym, ◌∙◌, subst, arith}
 use Rattle.xa_outside.specs.Causes.{Rose}
+use Rattle.xa_outside.specs.Folder.{Files}
 use Rattle.xa_outside.specs.Numbers.{Numbers}
 use Rattle.xarch_words.specs.Commands.{PlainCommand, norm, init, add, get, history, stats, batch, demo}
-use Rattle.xarch_steps.specs.Ran.{OnlyReads, PullsAsSaid}
+use Rattle.xarch_steps.specs.Ran.{CountsAsSaid, OnlyReads}
 use Rattle.xarch_steps.specs.Step.{alone}
 use Rattle.xarch_run.specs.Batch.{IsAnswer}
 
@@ -18,16 +19,16 @@ alone-reads (Some (stats archive)) h = h
 alone-reads (Some batch) h = absurd h
 alone-reads (Some (demo seed count archive)) h = absurd h
 
-pub alone-pulls : (c : Option PlainCommand) (before after : Numbers) → PullsAsSaid (alone c) before after → PullsAsSaid c before after
-alone-pulls None before after h = h
-alone-pulls (Some (norm spec doc)) before after h = h
-alone-pulls (Some (init archive spec)) before after h = h
-alone-pulls (Some (add archive doc)) before after h = h
-alone-pulls (Some (get archive i)) before after h = h
-alone-pulls (Some (history archive path)) before after h = tt
-alone-pulls (Some (stats archive)) before after h = tt
-alone-pulls (Some batch) before after h = tt
-alone-pulls (Some (demo seed count archive)) before after h = tt
+pub alone-counts : (c : Option PlainCommand) (told : Option Files) (before after : Numbers) → CountsAsSaid (alone c) told before after → CountsAsSaid c told before after
+alone-counts None told before after h = h
+alone-counts (Some (norm spec doc)) told before after h = h
+alone-counts (Some (init archive spec)) told before after h = h
+alone-counts (Some (add archive doc)) told before after h = h
+alone-counts (Some (get archive i)) told before after h = h
+alone-counts (Some (history archive path)) told before after h = h
+alone-counts (Some (stats archive)) told before after h = h
+alone-counts (Some batch) told before after h = tt
+alone-counts (Some (demo seed count archive)) told before after h = h
 
 -- what is no command by itself is none, or a batch
 pub none-alone : (c : Option PlainCommand) → alone c ≡ None → ¬ (c ≡ Some batch) → c ≡ None
@@ -58,8 +59,8 @@ batch-none c e none = cc
 pub batch-demo : (c : Option PlainCommand) (seed count : ℕ) (name : List ℕ) → c ≡ Some batch → c ≡ Some (demo seed count name) → ⊥
 batch-demo c seed count name e is = (let wrong : Some batch ≡ Some (demo seed count name) = sym e ∙ is in absurd cc)
 
-pub batch-pulls : (c : Option PlainCommand) (before after : Numbers) → c ≡ Some batch → PullsAsSaid c before after
-batch-pulls c before after e = subst (λ (d : Option PlainCommand). PullsAsSaid d before after) (sym e) tt
+pub batch-counts : (c : Option PlainCommand) (told : Option Files) (before after : Numbers) → c ≡ Some batch → CountsAsSaid c told before after
+batch-counts c told before after e = subst (λ (d : Option PlainCommand). CountsAsSaid d told before after) (sym e) tt
 
 -- ---- the answers of a batch
 

@@ -15,7 +15,7 @@ use Rattle.xarch_run.specs.Taking.{TakesLine, TakesEnded, TakesLast, FailsIn, En
 use Rattle.xarch_run.specs.Turns.{LineRuns, NoWords}
 use Rattle.xarch_run.specs.declared.lines.Lines.{Lines}
 use Rattle.xarch_run.proofs.Cuts.{Cuts, Cuts-none, Cuts-line, Cuts-last, Cuts-ended, without_blanks-other}
-use Rattle.xarch_run.proofs.Runs.{RunsOver-none, RunsOver-trans, RunsOver-said, StoppedAt-after}
+use Rattle.xarch_run.proofs.Runs.{AreSteps-none, RunsOver-none, RunsOver-trans, RunsOver-said, StoppedAt-after}
 
 -- ---- what was read
 
@@ -41,14 +41,6 @@ pub record Passed (bytes : List ℕ) (ahead_now : Option (List ℕ)) (budget_now
 
 counted_on : (d l : List ℕ) (a b : ℕ) → length d + a ≡ 1073741824 → length l + 1 + b ≡ a → length (d ++ (l ++ 10 ∷ [])) + b ≡ 1073741824
 counted_on d l a b p q = omega (arith, length-append d (l ++ 10 ∷ []), length-append l (10 ∷ []))
-
-pub Passed-line : (bytes : List ℕ) (before now : Lines) (old new : Option (List ℕ)) → Passed bytes (ahead before.feed old) (budget before.feed) → TakesEnded before now old new → Passed bytes (ahead now.feed new) (budget now.feed)
-Passed-line bytes before now old new p t =
-    record {
-      front = p.front ++ (t.bytes ++ 10 ∷ []);
-      consumed = Consumes-trans (Some bytes) (ahead before.feed old) (ahead now.feed new) p.front (t.bytes ++ 10 ∷ []) p.consumed t.consumed;
-      counted = counted_on p.front t.bytes (budget before.feed) (budget now.feed) p.counted t.counted;
-    }
 
 -- there is a byte more than there may be
 pub past-limit : (bytes : List ℕ) (before : Lines) (old new : Option (List ℕ)) → Passed bytes (ahead before.feed old) (budget before.feed) → EndsIn before old new → 1073741824 < length bytes
@@ -79,7 +71,7 @@ read-ended bytes d ls a b cuts consumed counted =
 -- ---- how far it has come
 
 -- The lines that end among the bytes that were passed were run.
-pub record Gone (f g : Files) (o p e r : Taken) (x y : ℕ) (bytes : List ℕ) (ahead_now : Option (List ℕ)) (budget_now : ℕ) : Type 0 where
+pub record Gone (f g : Option Files) (o p e r : Taken) (x y : ℕ) (bytes : List ℕ) (ahead_now : Option (List ℕ)) (budget_now : ℕ) : Type 0 where
   pub front : List ℕ
   pub lines : List (List ℕ)
   pub cuts : Cuts front lines
@@ -87,7 +79,11 @@ pub record Gone (f g : Files) (o p e r : Taken) (x y : ℕ) (bytes : List ℕ) (
   pub counted : length front + budget_now ≡ 1073741824
   pub over : RunsOver (scene f g o p e r x y) lines []
 
-pub Gone-none : (f : Files) (o e : Taken) (x : ℕ) (bytes : List ℕ) (a : Option (List ℕ)) (b : ℕ) → a ≡ Some bytes → b ≡ 1073741824 → Gone f f o o e e x x bytes a b
+-- the bytes that were passed
+pub Gone-passed : (f g : Option Files) (o p e r : Taken) (x y : ℕ) (bytes : List ℕ) (a : Option (List ℕ)) (b : ℕ) → Gone f g o p e r x y bytes a b → Passed bytes a b
+Gone-passed f g o p e r x y bytes a b gone = record { front = gone.front; consumed = gone.consumed; counted = gone.counted }
+
+pub Gone-none : (f : Option Files) (o e : Taken) (x : ℕ) (bytes : List ℕ) (a : Option (List ℕ)) (b : ℕ) → a ≡ Some bytes → b ≡ 1073741824 → Gone f f o o e e x x bytes a b
 Gone-none f o e x bytes a b is full =
     record {
       front = [];
@@ -95,42 +91,42 @@ Gone-none f o e x bytes a b is full =
       cuts = Cuts-none;
       consumed = subst (λ (u : Option (List ℕ)). Consumes (Some bytes) u []) (sym is) refl;
       counted = omega (arith, full);
-      over = RunsOver-none f o e x;
+      over = RunsOver-none f f o e x refl;
     }
 
 -- one more line was run, which an LF ended
-pub Gone-line : (f g h : Files) (o p q e r t : Taken) (x y z : ℕ) (bytes : List ℕ) (before now : Lines) (old new : Option (List ℕ)) → x ≤ y → y ≤ z
+pub Gone-line : (f g h : Option Files) (o p q e r t : Taken) (x y z : ℕ) (bytes : List ℕ) (before now : Lines) (old new : Option (List ℕ)) → x ≤ y → y ≤ z → (g ≡ None → h ≡ None)
     → Gone f g o p e r x y bytes (ahead before.feed old) (budget before.feed) → (k : TakesEnded before now old new)
     → RunsOver (scene g h p q r t y z) (without_blanks (k.bytes ∷ [])) [] → Gone f h o q e t x z bytes (ahead now.feed new) (budget now.feed)
-Gone-line f g h o p q e r t x y z bytes before now old new first second gone k run =
+Gone-line f g h o p q e r t x y z bytes before now old new first second untold gone k run =
     record {
       front = gone.front ++ (k.bytes ++ 10 ∷ []);
       lines = gone.lines ++ without_blanks (k.bytes ∷ []);
       cuts = Cuts-line gone.front k.bytes gone.lines k.one gone.cuts;
       consumed = Consumes-trans (Some bytes) (ahead before.feed old) (ahead now.feed new) gone.front (k.bytes ++ 10 ∷ []) gone.consumed k.consumed;
       counted = counted_on gone.front k.bytes (budget before.feed) (budget now.feed) gone.counted k.counted;
-      over = RunsOver-trans f g h o p q e r t x y z gone.lines (without_blanks (k.bytes ∷ [])) [] first second gone.over run;
+      over = RunsOver-trans f g h o p q e r t x y z gone.lines (without_blanks (k.bytes ∷ [])) [] first second untold gone.over run;
     }
 
 -- ---- ends
 
 -- the line behind the last LF was run
-pub ends-all : (f g h : Files) (o p q e r t : Taken) (x y z : ℕ) (bytes : List ℕ) (before now : Lines) (old new : Option (List ℕ)) → x ≤ y → y ≤ z
+pub ends-all : (f g h : Option Files) (o p q e r t : Taken) (x y z : ℕ) (bytes : List ℕ) (before now : Lines) (old new : Option (List ℕ)) → x ≤ y → y ≤ z → (g ≡ None → h ≡ None)
     → Gone f g o p e r x y bytes (ahead before.feed old) (budget before.feed) → (k : TakesLast before now old new)
     → RunsOver (scene g h p q r t y z) (without_blanks (k.bytes ∷ [])) [] → BatchEnds (scene f h o q e t x z) bytes new 0
-ends-all f g h o p q e r t x y z bytes before now old new first second gone k run =
+ends-all f g h o p q e r t x y z bytes before now old new first second untold gone k run =
     let whole = consumed-all bytes (gone.front ++ k.bytes) new (Consumes-trans (Some bytes) (ahead before.feed old) new gone.front k.bytes gone.consumed k.consumed) k.ends in
     let lines : gone.lines ++ without_blanks (k.bytes ∷ []) ≡ lines_of bytes = sym (Cuts-last gone.front k.bytes gone.lines k.one gone.cuts) ∙ ap lines_of (sym whole.0) in
     inl (record {
       status = refl;
       over =
           subst (λ (l : List (List ℕ)). RunsOver (scene f h o q e t x z) l []) lines
-          (RunsOver-trans f g h o p q e r t x y z gone.lines (without_blanks (k.bytes ∷ [])) [] first second gone.over run);
+          (RunsOver-trans f g h o p q e r t x y z gone.lines (without_blanks (k.bytes ∷ [])) [] first second untold gone.over run);
       all = whole.1;
       few = subst (λ (l : List ℕ). length l ≤ 1073741824) (sym whole.0) (few_behind gone.front k.bytes (budget before.feed) gone.counted k.counted);
     })
 
-pub ends-failed : (f g : Files) (o p e r t : Taken) (x y z : ℕ) (bytes : List ℕ) (before : Lines) (old new : Option (List ℕ)) → x ≤ y → y ≤ z
+pub ends-failed : (f g : Option Files) (o p e r t : Taken) (x y z : ℕ) (bytes : List ℕ) (before : Lines) (old new : Option (List ℕ)) → x ≤ y → y ≤ z
     → Gone f g o p e r x y bytes (ahead before.feed old) (budget before.feed) → FailsIn before old new
     → Says r t y z (fault_line in_fault) → BatchEnds (scene f g o p e t x z) bytes new 15
 ends-failed f g o p e r t x y z bytes before old new first second gone k says =
@@ -144,7 +140,7 @@ ends-failed f g o p e r t x y z bytes before old new first second gone k says =
           (RunsOver-said f g o p e r t x y z gone.lines (fault_line in_fault) first second gone.over says);
     })))
 
-pub ends-past : (f g : Files) (o p e r t : Taken) (x y z : ℕ) (bytes : List ℕ) (before : Lines) (old new : Option (List ℕ)) → x ≤ y → y ≤ z
+pub ends-past : (f g : Option Files) (o p e r t : Taken) (x y z : ℕ) (bytes : List ℕ) (before : Lines) (old new : Option (List ℕ)) → x ≤ y → y ≤ z
     → Gone f g o p e r x y bytes (ahead before.feed old) (budget before.feed) → EndsIn before old new
     → Says r t y z (fault_line (refused (limit batch 1073741824))) → BatchEnds (scene f g o p e t x z) bytes new 12
 ends-past f g o p e r t x y z bytes before old new first second gone k says =
@@ -164,7 +160,7 @@ ends-past f g o p e r t x y z bytes before old new first second gone k says =
           (RunsOver-said f g o p e r t x _ z gone.lines (fault_line (refused (limit batch 1073741824))) first second gone.over says);
     }))
 
-pub ends-memory : (f g : Files) (o p e r t : Taken) (x y z : ℕ) (bytes : List ℕ) (a new : Option (List ℕ)) (b : ℕ) → x ≤ y → y ≤ z
+pub ends-memory : (f g : Option Files) (o p e r t : Taken) (x y z : ℕ) (bytes : List ℕ) (a new : Option (List ℕ)) (b : ℕ) → x ≤ y → y ≤ z
     → Gone f g o p e r x y bytes a b → Says r t y z (fault_line memory) → BatchEnds (scene f g o p e t x z) bytes new 16
 ends-memory f g o p e r t x y z bytes a new b first second gone says =
     let left = left_of bytes gone.front a gone.consumed in
@@ -221,9 +217,9 @@ stands false bytes d ls before now old new k cuts consumed counted other =
       };
     }
 
-no_words : (f g h : Files) (o p q e r t : Taken) (x y z : ℕ) (bytes : List ℕ) (ls behind : List (List ℕ)) (new : Option (List ℕ)) (answer : ℕ) → x ≤ y → y ≤ z
+no_words : (f g h : Option Files) (o p q e r t : Taken) (x y z : ℕ) (bytes : List ℕ) (ls behind : List (List ℕ)) (new : Option (List ℕ)) (answer : ℕ) → x ≤ y → y ≤ z → (g ≡ None → h ≡ None)
     → lines_of bytes ≡ ls ++ behind → AreRead bytes ls → RunsOver (scene f g o p e r x y) ls [] → NoWords (scene g h p q r t y z) answer → BatchEnds (scene f h o q e t x z) bytes new answer
-no_words f g h o p q e r t x y z bytes ls behind new answer first second is read over k =
+no_words f g h o p q e r t x y z bytes ls behind new answer first second untold is read over k =
     inr (inr (inr (inl (record {
       status = k.status;
       lines = ls;
@@ -232,16 +228,16 @@ no_words f g h o p q e r t x y z bytes ls behind new answer first second is read
       read = read;
       over =
           subst (λ (l : List (List ℕ)). RunsOver (scene f h o q e t x z) l (fault_line memory)) (append-nil ls)
-          (RunsOver-trans f g h o p q e r t x y z ls [] (fault_line memory) first second over (record { steps = []; are = tt; files = k.files; gains = k.gains }));
+          (RunsOver-trans f g h o p q e r t x y z ls [] (fault_line memory) first second untold over (record { steps = []; are = AreSteps-none g h k.files; gains = k.gains }));
     }))))
 
-pub ends-at : (b : Bool) (f g h : Files) (o p q e r t : Taken) (x y z : ℕ) (bytes : List ℕ) (before now : Lines) (old new : Option (List ℕ)) (answer : ℕ) → x ≤ y → y ≤ z
+pub ends-at : (b : Bool) (f g h : Option Files) (o p q e r t : Taken) (x y z : ℕ) (bytes : List ℕ) (before now : Lines) (old new : Option (List ℕ)) (answer : ℕ) → x ≤ y → y ≤ z → (g ≡ None → h ≡ None)
     → Gone f g o p e r x y bytes (ahead before.feed old) (budget before.feed) → (k : TakesLine before now old new (Ok b))
     → LineRuns (scene g h p q r t y z) (line_bytes b before now old new k) (Err answer) → BatchEnds (scene f h o q e t x z) bytes new answer
-ends-at b f g h o p q e r t x y z bytes before now old new answer first second gone k run =
+ends-at b f g h o p q e r t x y z bytes before now old new answer first second untold gone k run =
     let at = stands b bytes gone.front gone.lines before now old new k gone.cuts gone.consumed gone.counted run.0 in
     elim (run.1) as (λ _. BatchEnds (scene f h o q e t x z) bytes new answer) [
-      | inl none ↦ no_words f g h o p q e r t x y z bytes gone.lines (line_bytes b before now old new k ∷ at.behind) new answer first second at.is (read-ended bytes gone.front gone.lines (ahead before.feed old) (budget before.feed) gone.cuts gone.consumed gone.counted) gone.over none
+      | inl none ↦ no_words f g h o p q e r t x y z bytes gone.lines (line_bytes b before now old new k ∷ at.behind) new answer first second untold at.is (read-ended bytes gone.front gone.lines (ahead before.feed old) (budget before.feed) gone.cuts gone.consumed gone.counted) gone.over none
       | inr stop ↦
-          inr (inr (inr (inr (StoppedAt-after f g h o p q e r t x y z bytes gone.lines at.behind (line_bytes b before now old new k) answer stop.written stop.spoken first second at.is at.read gone.over stop.stops stop.gains))))
+          inr (inr (inr (inr (StoppedAt-after f g h o p q e r t x y z bytes gone.lines at.behind (line_bytes b before now old new k) answer stop.written stop.spoken first second untold at.is at.read gone.over stop.stops stop.gains))))
     ]

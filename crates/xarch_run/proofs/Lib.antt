@@ -2,12 +2,16 @@ pub mod WordLemmas
 pub mod Cuts
 pub mod FeedLemmas
 pub mod LineLemmas
+pub mod Statuses
 pub mod Runs
 pub mod Going
 pub mod TurnLemmas
 pub mod LineReading
 pub mod SayLemmas
+pub mod StaysLemmas
 pub mod BatchLemmas
 pub mod CommandLemmas
-pub mod HandedLemmas
+pub mod OneFile
+pub mod HeldLemmas
+pub mod CallLemmas
 pub mod BatchFronts

@@ -2,7 +2,7 @@
 use Rattle.std.proofs.Common.{◌≡◌, ℕ, List, Result, Ok, Err, subst}
 use Rattle.xa_outside.specs.Causes.{HasCause}
 use Rattle.xa_outside.specs.Taken.{Taken, Puts}
-use Rattle.xa_outside.proofs.Output.{TakesPrefix-all}
+use Rattle.xa_outside.specs.TakenLaws.{TakesPrefix-all}
 use Rattle.xarch_words.specs.Lines.{fault_line}
 use Rattle.xarch_words.specs.Refusal.{PlainFault}
 use Rattle.xarch_steps.specs.Ran.{Says}

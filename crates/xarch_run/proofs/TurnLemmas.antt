@@ -1,40 +1,32 @@
 -- What one line did, from the answer of its command and its status line.
-use Rattle.std.proofs.Common.{◌≡◌, ◌≢◌, ◌⊎◌, inl, inr, ℕ, ◌==◌, ◌≤◌, List, [], ◌∷◌, ◌++◌, length, take, nat_lt, Bool, true, false, cond, Option, None, Some, Result, Ok, Err, refl, sym, ap, ◌∙◌, subst, arith}
-use Rattle.std.specs.Prelude.{MatchBool, MatchOption}
+use Rattle.std.proofs.Common.{◌≡◌, ◌≢◌, ◌⊎◌, ◌↔◌, inl, inr, ℕ, ◌==◌, ◌≤◌, ◌<◌, List, [], ◌∷◌, ◌++◌, length, take, nat_lt, Bool, true, false, cond, Option, None, Some, Result, Ok, Err, refl, sym, ap, ◌∙◌, subst, arith}
+use Rattle.std.specs.FinMap as finite
+use Rattle.std.specs.Prelude.{MatchBool, MatchOption, option_and_then, if◌then◌else◌}
 use Rattle.std.proofs.lemmas.Bool.{eqb-true}
+use Rattle.std.proofs.Math.Seq.{take-nil}
 use Rattle.xa_outside.specs.Causes.{Rose}
-use Rattle.xa_outside.proofs.CauseLemmas.{Rose-later}
+use Rattle.xa_outside.specs.CauseLaws.{Rose-later}
 use Rattle.xa_outside.specs.Folder.{Files}
-use Rattle.xa_outside.specs.Taken.{Taken, Takes}
-use Rattle.xa_outside.proofs.Output.{Takes-nil, Takes-kept, Takes-trans}
+use Rattle.xa_outside.specs.Taken.{Taken, Takes, TakesNone, TakesPrefix}
+use Rattle.xa_outside.specs.TakenLaws.{Takes-nil, Takes-kept, Takes-trans, TakesPrefix-all}
+use Rattle.xarch_words.specs.Commands.{PlainCommand, norm, init, add, get, history, stats, batch, demo, command_of}
 use Rattle.xarch_words.specs.Lines.{fault_line, fault_status, refusal_status}
-use Rattle.xarch_words.specs.Refusal.{Refusal, usage, no_file, exists, bad_spec, bad_json, bad_shape, key_fault, no_version, bad_path, damaged, line, limit, PlainFault, refused, folder_fault, out_fault, in_fault, memory}
-use Rattle.xarch_steps.specs.Outcome.{Step, step_from}
-use Rattle.xarch_steps.specs.Plausible.{Plausible, Tried, Wrote}
-use Rattle.xarch_steps.specs.Ran.{Said, Says, line_after, outside_of, status_after}
+use Rattle.xarch_words.specs.Refusal.{Refusal, usage, line, limit, PlainFault, refused, folder_fault, out_fault, in_fault, memory}
+use Rattle.xarch_steps.specs.Ends.{Gained}
+use Rattle.xarch_steps.specs.Outcome.{Outcome, Step, step_from}
+use Rattle.xarch_steps.specs.Plausible.{MayDo, Plausible, Tried, Wrote}
+use Rattle.xarch_steps.specs.Ran.{IsLongDemo, OnlyReads, Said, Says, line_after, outside_of, status_after}
+use Rattle.xarch_steps.specs.Step.{alone, single_of}
 use Rattle.xarch_run.specs.Batch.{EndsTheBatch, Gains, IsPart, RunsOver, scene}
 use Rattle.xarch_run.specs.Lines.{is_blank, without_blanks}
-use Rattle.xarch_run.specs.Steps.{LineMay, WordsMay, status_line}
+use Rattle.xarch_run.specs.Steps.{IsStep, LineAnswers, LineMay, MakesNone, RefusesWith, SpelledAnswers, WordsAnswer, WordsMay, line_command, status_line}
 use Rattle.xarch_run.specs.Turns.{IsLastStatus, IsUntouched, LastStatus, LineFaults, LineRuns, LineStops, LineTakes, LineTried, LineWrote, NoStatus, NoWords, StatusComes, StatusEnds, StatusLost}
 use Rattle.xarch_run.specs.Words.{words_of}
 use Rattle.xarch_run.proofs.Cuts.{without_blanks-blank, without_blanks-other}
 use Rattle.xarch_run.proofs.Runs.{Gains-trans, RunsOver-none, RunsOver-one}
+use Rattle.xarch_run.proofs.Statuses.{outside_of-refusal, status-other, usage-only}
 
 -- ---- statuses
-
--- no refusal has the status of a fault of the outside
-outside_of-refusal : (r : Refusal) → outside_of (refusal_status r) ≡ None
-outside_of-refusal usage = refl
-outside_of-refusal (no_file n) = refl
-outside_of-refusal (exists n) = refl
-outside_of-refusal (bad_spec l w) = refl
-outside_of-refusal bad_json = refl
-outside_of-refusal (bad_shape p w) = refl
-outside_of-refusal (key_fault f) = refl
-outside_of-refusal (no_version i n) = refl
-outside_of-refusal (bad_path s) = refl
-outside_of-refusal (damaged n) = refl
-outside_of-refusal (limit q n) = refl
 
 outside_fault : (v : Option PlainFault) (answer : ℕ) (f : PlainFault) → answer ≡ status_after v → outside_of answer ≡ Some f → v ≡ Some f
 outside_fault None answer f e h = let none : outside_of answer ≡ None = ap outside_of e in cc
@@ -71,108 +63,278 @@ kind_of status fault h no_out no_in = kind_by status _ _ _ _ fault refl refl ref
 
 -- ---- the command of a line
 
-takes_by : (files : Files) (l : List ℕ) (answer : ℕ) (after : Option Files) (o p e r : Taken) (x y : ℕ) (v : Option PlainFault) → outside_of answer ≡ v
-    → (outside_of answer ≡ None → LineTried files l answer after o p e r x y) → ((f : PlainFault) → outside_of answer ≡ Some f → LineFaults files l f after o p e r x y)
-    → LineTakes files l answer after o p e r x y
-takes_by files l answer after o p e r x y None is tried faults =
-    subst (λ (v : Option PlainFault). MatchOption v (LineTried files l answer after o p e r x y) (λ f. LineFaults files l f after o p e r x y)) (sym is) (tried is)
-takes_by files l answer after o p e r x y (Some f) is tried faults =
-    subst (λ (v : Option PlainFault). MatchOption v (LineTried files l answer after o p e r x y) (λ g. LineFaults files l g after o p e r x y)) (sym is) (faults f is)
+takes_by : (f g : Option Files) (l : List ℕ) (answer : ℕ) (o p e r : Taken) (x y : ℕ) (v : Option PlainFault) → outside_of answer ≡ v
+    → (outside_of answer ≡ None → LineTried f g l answer o p e r x y) → ((fault : PlainFault) → outside_of answer ≡ Some fault → LineFaults f g l fault o p e r x y)
+    → LineTakes f g l answer o p e r x y
+takes_by f g l answer o p e r x y None is tried faults =
+    subst (λ (v : Option PlainFault). MatchOption v (LineTried f g l answer o p e r x y) (λ fault. LineFaults f g l fault o p e r x y)) (sym is) (tried is)
+takes_by f g l answer o p e r x y (Some fault) is tried faults =
+    subst (λ (v : Option PlainFault). MatchOption v (LineTried f g l answer o p e r x y) (λ fault. LineFaults f g l fault o p e r x y)) (sym is) (faults fault is)
 
-pub may_words : (files : Files) (l : List ℕ) (words : List (List ℕ)) (s : Step) → nat_lt 1048576 (length l) ≡ false → words_of l ≡ Some words → Plausible files words s → LineMay files l s
-may_words files l words s short is may =
-    subst (λ b. MatchBool b (s ≡ step_from files (Err (limit line 1048576))) (WordsMay files (words_of l) s)) (sym short) (subst (λ (w : Option (List (List ℕ))). WordsMay files w s) (sym is) may)
+-- what holds of a line that is short, by its words
+by-words : (P : Option (List (List ℕ)) → Type 0) (Q : Type 0) (l : List ℕ) (w : Option (List (List ℕ))) → nat_lt 1048576 (length l) ≡ false → words_of l ≡ w → P w → MatchBool (nat_lt 1048576 (length l)) Q (P (words_of l))
+by-words P Q l w short is p = subst (λ b. MatchBool b Q (P (words_of l))) (sym short) (subst P (sym is) p)
 
-pub may_none : (files : Files) (l : List ℕ) → nat_lt 1048576 (length l) ≡ false → words_of l ≡ None → LineMay files l (step_from files (Err usage))
-may_none files l short is =
-    let s = step_from files (Err usage) in
-    subst (λ b. MatchBool b (s ≡ step_from files (Err (limit line 1048576))) (WordsMay files (words_of l) s)) (sym short) (subst (λ (w : Option (List (List ℕ))). WordsMay files w s) (sym is) refl)
+-- and of one that is too long
+by-length : (P : Option (List (List ℕ)) → Type 0) (Q : Type 0) (l : List ℕ) → nat_lt 1048576 (length l) ≡ true → Q → MatchBool (nat_lt 1048576 (length l)) Q (P (words_of l))
+by-length P Q l long q = subst (λ b. MatchBool b Q (P (words_of l))) (sym long) q
 
-pub may_long : (files : Files) (l : List ℕ) → nat_lt 1048576 (length l) ≡ true → LineMay files l (step_from files (Err (limit line 1048576)))
-may_long files l long =
-    let s = step_from files (Err (limit line 1048576)) in
-    subst (λ b. MatchBool b (s ≡ s) (WordsMay files (words_of l) s)) (sym long) refl
+-- the files that are told, or none
+abbrev pub files_or_none : Option Files → Files
+files_or_none None = finite.empty
+files_or_none (Some files) = files
 
-wrote_line : (files : Files) (l : List ℕ) (words : List (List ℕ)) (o p : Taken) → ((s : Step) → Plausible files words s → LineMay files l s) → Wrote files words o p → LineWrote files l o p
-wrote_line files l words o p may (inl none) = inl none
-wrote_line files l words o p may (inr some) = inr (record { step = some.step; may = may some.step some.may; output = some.output })
+refuses : (files : Files) (q : Refusal) → RefusesWith q (step_from files (Err q))
+refuses files q = record { output = refl; line = refl; status = refl }
 
--- a command was run
-pub takes-step : (files : Files) (l : List ℕ) (words : List (List ℕ)) (answer : ℕ) (before after : Option Files) (o p e r : Taken) (x y : ℕ)
-    → nat_lt 1048576 (length l) ≡ false → words_of l ≡ Some words → before ≡ Some files
-    → (outside_of answer ≡ None → Tried files words answer after o p e r x y) → Wrote files words o p → Said answer e r x y → (answer ≢ 0 → after ≡ before)
-    → LineTakes files l answer after o p e r x y
-takes-step files l words answer before after o p e r x y short is told tried wrote said kept =
-    let may : (s : Step) → Plausible files words s → LineMay files l s = λ s q. may_words files l words s short is q in
-    takes_by files l answer after o p e r x y _ refl
-    (λ plain. let t = tried plain in record { step = t.step; may = may t.step t.may; ran = t.ran })
-    (λ f h. record {
-      wrote = wrote_line files l words o p may wrote;
-      kept = kept (λ zero. let none : outside_of answer ≡ None = ap outside_of zero in cc) ∙ told;
-      said = said_outside answer f e r x y said h;
-    })
+refused-step : (f g : Option Files) (l : List ℕ) (q : Refusal) → g ≡ f → LineAnswers l (step_from (files_or_none f) (Err q)) → ((a : Files) → LineMay a l (step_from a (Err q))) → IsStep f g l (step_from (files_or_none f) (Err q))
+refused-step f g l q same answers may = record { answers = answers; kept = λ _. same; may = λ a b p _. subst (λ (u : Files). LineMay a l (step_from u (Err q))) (sym (ap files_or_none p)) (may a) }
+
+pub long-step : (f g : Option Files) (l : List ℕ) → g ≡ f → nat_lt 1048576 (length l) ≡ true → IsStep f g l (step_from (files_or_none f) (Err (limit line 1048576)))
+long-step f g l same long =
+    let q = limit line 1048576 in
+    let s = step_from (files_or_none f) (Err q) in
+    refused-step f g l q same (by-length (λ w. WordsAnswer w s) (RefusesWith q s) l long (refuses (files_or_none f) q))
+    (λ a. by-length (λ w. WordsMay a w (step_from a (Err q))) (step_from a (Err q) ≡ step_from a (Err q)) l long refl)
+
+pub none-step : (f g : Option Files) (l : List ℕ) → g ≡ f → nat_lt 1048576 (length l) ≡ false → words_of l ≡ None → IsStep f g l (step_from (files_or_none f) (Err usage))
+none-step f g l same short is =
+    let s = step_from (files_or_none f) (Err usage) in
+    refused-step f g l usage same (by-words (λ w. WordsAnswer w s) (RefusesWith (limit line 1048576) s) l None short is (refuses (files_or_none f) usage))
+    (λ a. by-words (λ w. WordsMay a w (step_from a (Err usage))) (step_from a (Err usage) ≡ step_from a (Err (limit line 1048576))) l None short is refl)
 
 -- a line was refused
-pub takes-refused : (files : Files) (l : List ℕ) (q : Refusal) (answer : ℕ) (after : Option Files) (o e r : Taken) (x y : ℕ)
-    → LineMay files l (step_from files (Err q)) → answer ≡ fault_status (refused q) → after ≡ Some files → Says e r x y (fault_line (refused q)) → LineTakes files l answer after o o e r x y
-takes-refused files l q answer after o e r x y may is told says =
+pub takes-refused : (f g : Option Files) (l : List ℕ) (q : Refusal) (answer : ℕ) (o p e r : Taken) (x y : ℕ)
+    → IsStep f g l (step_from (files_or_none f) (Err q)) → answer ≡ fault_status (refused q) → g ≡ f → p ≡ o → Says e r x y (fault_line (refused q)) → LineTakes f g l answer o p e r x y
+takes-refused f g l q answer o p e r x y step is same none says =
     let plain : outside_of answer ≡ None = ap outside_of is ∙ outside_of-refusal q in
-    takes_by files l answer after o o e r x y None plain
-    (λ _. record { step = step_from files (Err q); may = may; ran = record { status = is; files = λ f now. let same : Some f ≡ Some files = sym now ∙ told in cc; output = Takes-nil o; line = says } })
-    (λ f h. cc)
+    takes_by f g l answer o p e r x y None plain
+    (λ _. record {
+      step = step_from (files_or_none f) (Err q);
+      may = step;
+      ran = record {
+        status = is;
+        files = λ h now. sym (ap files_or_none (sym same ∙ now));
+        output = subst (λ (u : Taken). Takes o u []) (sym none) (Takes-nil o);
+        line = says;
+      };
+    })
+    (λ fault h. cc)
+
+-- ---- what words answer
+
+-- the step of an outcome answers as it may
+spelled : (c : Option PlainCommand) (files : Files) (r : Result Outcome Refusal) → (c ≡ None → r ≡ Err usage) → ((step_from files r).status ≡ 2 → c ≡ None) → (IsLongDemo c → (step_from files r).status ≡ 12)
+    → SpelledAnswers c (step_from files r)
+spelled None files r none only long = subst (λ (z : Result Outcome Refusal). RefusesWith usage (step_from files z)) (sym (none refl)) (refuses files usage)
+spelled (Some command) files (Ok o) none only long = record { is = inl (record { line = refl; status = refl }); long_demo = long }
+spelled (Some command) files (Err q) none only long = record {
+  is = inr (record {
+    refusal = q;
+    other = λ is. let no : Some command ≡ None = only (ap refusal_status is) in absurd cc;
+    is = refuses files q;
+  });
+  long_demo = long;
+}
+
+-- what a call for a command says of the words that it was given, whatever the folder tells
+pub record Judged (words : List (List ℕ)) (answer : ℕ) : Type 0 where
+  pub none : single_of words ≡ None → answer ≡ 2
+  pub only : answer ≡ 2 → single_of words ≡ None
+  pub long : IsLongDemo (single_of words) → answer ≡ 12
+
+-- such a demo is one by itself
+long-alone : (c : Option PlainCommand) (answer : ℕ) → ((seed count : ℕ) (name : List ℕ) → c ≡ Some (demo seed count name) → 1000 < count → answer ≡ 12) → IsLongDemo (alone c) → answer ≡ 12
+long-alone None answer judged h = absurd h
+long-alone (Some (norm spec doc)) answer judged h = absurd h
+long-alone (Some (init archive spec)) answer judged h = absurd h
+long-alone (Some (add archive doc)) answer judged h = absurd h
+long-alone (Some (get archive i)) answer judged h = absurd h
+long-alone (Some (history archive path)) answer judged h = absurd h
+long-alone (Some (stats archive)) answer judged h = absurd h
+long-alone (Some batch) answer judged h = absurd h
+long-alone (Some (demo seed count archive)) answer judged h = judged seed count archive refl h
+
+pub judged : (words : List (List ℕ)) (answer : ℕ) → (answer ≡ 2) ↔ (single_of words ≡ None) → ((seed count : ℕ) (name : List ℕ) → command_of words ≡ Some (demo seed count name) → 1000 < count → answer ≡ 12) → Judged words answer
+judged words answer is_usage long_demo = record { none = is_usage.1; only = is_usage.0; long = long-alone (command_of words) answer long_demo }
+
+-- a step of the words that has this answer
+answered : (words : List (List ℕ)) (answer : ℕ) (files : Files) (r : Result Outcome Refusal) → Judged words answer → answer ≡ (step_from files r).status → (single_of words ≡ None → r ≡ Err usage) → SpelledAnswers (single_of words) (step_from files r)
+answered words answer files r j is none = spelled (single_of words) files r none (λ two. j.only (is ∙ two)) (λ long. sym is ∙ j.long long)
+
+-- the step behind a fault of the outside, of which some was written
+unfinished : (words : List (List ℕ)) (answer : ℕ) (fault : PlainFault) (files : Files) (o : Outcome) → Judged words answer → outside_of answer ≡ Some fault → SpelledAnswers (single_of words) (step_from files (Ok o))
+unfinished words answer fault files o j h =
+    spelled (single_of words) files (Ok o)
+    (λ none. let plain : outside_of answer ≡ None = ap outside_of (j.none none) in absurd cc)
+    (λ two. absurd (omega (arith, two)))
+    (λ long. let plain : outside_of answer ≡ None = ap outside_of (j.long long) in absurd cc)
+
+-- a step of the words that makes no file leaves what is told of files
+abbrev KeptBy : Option Files → Option Files → List (List ℕ) → Step → Type 0
+KeptBy f g words s = ((s.status ≢ 0) ⊎ OnlyReads (single_of words)) → g ≡ f
+
+spelled-command : (l : List ℕ) (words : List (List ℕ)) → nat_lt 1048576 (length l) ≡ false → words_of l ≡ Some words → line_command l ≡ single_of words
+spelled-command l words short is = ap (λ b. if b then None else option_and_then single_of (words_of l)) short ∙ ap (option_and_then single_of) is
+
+kept-line : (f g : Option Files) (l : List ℕ) (words : List (List ℕ)) (s : Step) → nat_lt 1048576 (length l) ≡ false → words_of l ≡ Some words → KeptBy f g words s → MakesNone l s → g ≡ f
+kept-line f g l words s short is kept (inl other) = kept (inl other)
+kept-line f g l words s short is kept (inr reads) = kept (inr (subst OnlyReads (spelled-command l words short is) reads))
+
+-- a step of the words from told files
+words-step : (f g : Option Files) (h : Files) (l : List ℕ) (words : List (List ℕ)) (s : Step) → f ≡ Some h → nat_lt 1048576 (length l) ≡ false → words_of l ≡ Some words → Plausible h words s → SpelledAnswers (single_of words) s → KeptBy f g words s → IsStep f g l s
+words-step f g h l words s told short is may answers kept = record {
+  kept = kept-line f g l words s short is kept;
+  answers = by-words (λ w. WordsAnswer w s) (RefusesWith (limit line 1048576) s) l (Some words) short is answers;
+  may = λ a b p _. (let same : Some h ≡ Some a = sym told ∙ p in by-words (λ w. WordsMay a w s) (s ≡ step_from a (Err (limit line 1048576))) l (Some words) short is (subst (λ (u : Files). Plausible u words s) (some-same h a same) may));
+}
+  where
+    some-same : (a b : Files) → Some a ≡ Some b → a ≡ b
+    some-same a b e = cc
+
+-- a step of the words where no files are told
+untold-step : (f g : Option Files) (l : List ℕ) (words : List (List ℕ)) (s : Step) → f ≡ None → nat_lt 1048576 (length l) ≡ false → words_of l ≡ Some words → SpelledAnswers (single_of words) s → KeptBy f g words s → IsStep f g l s
+untold-step f g l words s untold short is answers kept = record {
+  kept = kept-line f g l words s short is kept;
+  answers = by-words (λ w. WordsAnswer w s) (RefusesWith (limit line 1048576) s) l (Some words) short is answers;
+  may = λ a b p _. (let none : Some a ≡ None = sym p ∙ untold in absurd cc);
+}
+
+module _ (f g : Option Files) (l : List ℕ) (words : List (List ℕ)) (answer : ℕ) (o p e r : Taken) (x y : ℕ) (short : nat_lt 1048576 (length l) ≡ false) (is : words_of l ≡ Some words) (j : Judged words answer) (refused_kept : answer ≢ 0 → g ≡ f) (reads_kept : OnlyReads (single_of words) → g ≡ f) where
+  kept-by : (s : Step) → answer ≡ s.status → KeptBy f g words s
+  kept-by s same (inl other) = refused_kept (λ zero. other (sym same ∙ zero))
+  kept-by s same (inr reads) = reads_kept reads
+
+  kept-behind : (fault : PlainFault) → outside_of answer ≡ Some fault → g ≡ f
+  kept-behind fault outside = refused_kept (λ zero. let none : outside_of answer ≡ None = ap outside_of zero in cc)
+
+  -- where files are told
+  tried-told : (h : Files) → f ≡ Some h → Tried h words answer g o p e r x y → LineTried f g l answer o p e r x y
+  tried-told h told t = record {
+    step = t.step;
+    may =
+        words-step f g h l words t.step told short is t.may
+        (subst (SpelledAnswers (single_of words)) (sym t.may.is)
+        (answered words answer h t.may.outcome j (t.ran.status ∙ ap (λ (z : Step). z.status) t.may.is) (λ none. subst (λ c. MayDo h c t.may.outcome) none t.may.may)))
+        (kept-by t.step t.ran.status);
+    ran = t.ran;
+  }
+
+  wrote-told : (h : Files) (fault : PlainFault) → f ≡ Some h → outside_of answer ≡ Some fault → Wrote h words o p → LineWrote f g l o p
+  wrote-told h fault told outside (inl none) = inl (Takes-kept o o p [] (Takes-nil o) none)
+  wrote-told h fault told outside (inr some) = by_outcome some.may.outcome some.may.may some.may.is some.output
+    where
+      by_outcome : (v : Result Outcome Refusal) → MayDo h (single_of words) v → some.step ≡ step_from h v → TakesPrefix o p some.step.output → LineWrote f g l o p
+      by_outcome (Err q) may same prefix =
+          inl (subst (Takes o p) (ap (λ (z : Step). take prefix.count z.output) same ∙ take-nil prefix.count) prefix.takes)
+      by_outcome (Ok v) may same prefix = inr (record {
+        step = some.step;
+        may = words-step f g h l words some.step told short is some.may (subst (SpelledAnswers (single_of words)) (sym same) (unfinished words answer fault h v j outside)) (λ _. kept-behind fault outside);
+        output = prefix;
+      })
+
+  -- where they are not
+  tried-untold : f ≡ None → g ≡ None → outside_of answer ≡ None → Said answer e r x y → Gained o p → (answer ≢ 0 → outside_of answer ≡ None → TakesNone o p) → LineTried f g l answer o p e r x y
+  tried-untold untold still plain said gained nothing = by_fault said.fault said.status said.line
+    where
+      step-of : (v : Result Outcome Refusal) → answer ≡ (step_from finite.empty v).status → (single_of words ≡ None → v ≡ Err usage) → Takes o p (step_from finite.empty v).output → Says e r x y (step_from finite.empty v).line
+          → LineTried f g l answer o p e r x y
+      step-of v same none output says = record {
+        step = step_from finite.empty v;
+        may = untold-step f g l words (step_from finite.empty v) untold short is (answered words answer finite.empty v j same none) (kept-by (step_from finite.empty v) same);
+        ran = record { status = same; files = λ h now. (let no : Some h ≡ None = sym now ∙ still in absurd cc); output = output; line = says };
+      }
+
+      outside : {X : Type 0} (fault : PlainFault) → answer ≡ fault_status fault → outside_of (fault_status fault) ≡ Some fault → X
+      outside fault same some = let no : Some fault ≡ None = sym some ∙ sym (ap outside_of same) ∙ plain in absurd cc
+
+      by_fault : (v : Option PlainFault) → answer ≡ status_after v → Says e r x y (line_after v) → LineTried f g l answer o p e r x y
+      by_fault None same says =
+          step-of (Ok (record { files = finite.empty; output = gained.bytes })) same (λ none. let two = j.none none in absurd (omega (arith, same, two))) gained.takes says
+      by_fault (Some (refused q)) same says =
+          step-of (Err q) same (λ none. ap Err (usage-only q (sym same ∙ j.none none)))
+          (Takes-kept o o p [] (Takes-nil o) (nothing (λ zero. status-other q (sym same ∙ zero)) plain)) says
+      by_fault (Some folder_fault) same says = outside folder_fault same refl
+      by_fault (Some out_fault) same says = outside out_fault same refl
+      by_fault (Some in_fault) same says = outside in_fault same refl
+      by_fault (Some memory) same says = outside memory same refl
+
+  wrote-untold : (fault : PlainFault) → f ≡ None → outside_of answer ≡ Some fault → Gained o p → LineWrote f g l o p
+  wrote-untold fault untold outside gained =
+      let v : Outcome = record { files = finite.empty; output = gained.bytes } in
+      inr (record {
+        step = step_from finite.empty (Ok v);
+        may = untold-step f g l words (step_from finite.empty (Ok v)) untold short is (unfinished words answer fault finite.empty v j outside) (λ _. kept-behind fault outside);
+        output = TakesPrefix-all o p gained.bytes gained.takes;
+      })
+
+-- a command was run
+pub takes-step : (f g : Option Files) (l : List ℕ) (words : List (List ℕ)) (answer : ℕ) (o p e r : Taken) (x y : ℕ)
+    → nat_lt 1048576 (length l) ≡ false → words_of l ≡ Some words → Judged words answer → (f ≡ None → g ≡ None)
+    → ((h : Files) → f ≡ Some h → outside_of answer ≡ None → Tried h words answer g o p e r x y) → ((h : Files) → f ≡ Some h → Wrote h words o p)
+    → Said answer e r x y → Gained o p → (answer ≢ 0 → outside_of answer ≡ None → TakesNone o p) → (answer ≢ 0 → g ≡ f) → (OnlyReads (single_of words) → g ≡ f)
+    → LineTakes f g l answer o p e r x y
+takes-step f g l words answer o p e r x y short is j untold tried wrote said gained nothing kept reads =
+    takes_by f g l answer o p e r x y _ refl (λ plain. by_told f refl plain)
+    (λ fault h. record { wrote = part_told f refl fault h; kept = kept (λ zero. let none : outside_of answer ≡ None = ap outside_of zero in cc); said = said_outside answer fault e r x y said h })
+  where
+    by_told : (v : Option Files) → f ≡ v → outside_of answer ≡ None → LineTried f g l answer o p e r x y
+    by_told (Some h) told plain = tried-told f g l words answer o p e r x y short is j kept reads h told (tried h told plain)
+    by_told None none plain = tried-untold f g l words answer o p e r x y short is j kept reads none (untold none) plain said gained nothing
+
+    part_told : (v : Option Files) → f ≡ v → (fault : PlainFault) → outside_of answer ≡ Some fault → LineWrote f g l o p
+    part_told (Some h) told fault outside = wrote-told f g l words answer o p e r x y short is j kept reads h fault told outside (wrote h told)
+    part_told None none fault outside = wrote-untold f g l words answer o p e r x y short is j kept reads fault none outside gained
 
 -- ---- its status line
 
 -- what was written before a fault
-record Part (files : Files) (l : List ℕ) (o p : Taken) : Type 0 where
+record Part (f g : Option Files) (l : List ℕ) (o p : Taken) : Type 0 where
   part : List ℕ
-  front : IsPart files l part
+  front : IsPart f g l part
   takes : Takes o p part
 
-part_of : (files : Files) (l : List ℕ) (o p : Taken) → LineWrote files l o p → Part files l o p
-part_of files l o p (inl none) = record { part = []; front = inl refl; takes = Takes-kept o o p [] (Takes-nil o) none }
-part_of files l o p (inr some) =
+part_of : (f g : Option Files) (l : List ℕ) (o p : Taken) → LineWrote f g l o p → Part f g l o p
+part_of f g l o p (inl none) = record { part = []; front = inl refl; takes = none }
+part_of f g l o p (inr some) =
     record { part = take some.output.count some.step.output; front = inr (record { step = some.step; may = some.may; count = some.output.count; is = refl }); takes = some.output.takes }
 
-at_none : (files : Files) (l : List ℕ) (answer : ℕ) (after : Option Files) (o p e r : Taken) (x y : ℕ) → outside_of answer ≡ None → LineTakes files l answer after o p e r x y → LineTried files l answer after o p e r x y
-at_none files l answer after o p e r x y is k = subst (λ (v : Option PlainFault). MatchOption v (LineTried files l answer after o p e r x y) (λ f. LineFaults files l f after o p e r x y)) is k
+at_none : (f g : Option Files) (l : List ℕ) (answer : ℕ) (o p e r : Taken) (x y : ℕ) → outside_of answer ≡ None → LineTakes f g l answer o p e r x y → LineTried f g l answer o p e r x y
+at_none f g l answer o p e r x y is k = subst (λ (v : Option PlainFault). MatchOption v (LineTried f g l answer o p e r x y) (λ fault. LineFaults f g l fault o p e r x y)) is k
 
-at_some : (files : Files) (l : List ℕ) (answer : ℕ) (after : Option Files) (o p e r : Taken) (x y : ℕ) (f : PlainFault) → outside_of answer ≡ Some f → LineTakes files l answer after o p e r x y → LineFaults files l f after o p e r x y
-at_some files l answer after o p e r x y f is k = subst (λ (v : Option PlainFault). MatchOption v (LineTried files l answer after o p e r x y) (λ g. LineFaults files l g after o p e r x y)) is k
+at_some : (f g : Option Files) (l : List ℕ) (answer : ℕ) (o p e r : Taken) (x y : ℕ) (fault : PlainFault) → outside_of answer ≡ Some fault → LineTakes f g l answer o p e r x y → LineFaults f g l fault o p e r x y
+at_some f g l answer o p e r x y fault is k = subst (λ (v : Option PlainFault). MatchOption v (LineTried f g l answer o p e r x y) (λ fault. LineFaults f g l fault o p e r x y)) is k
 
 -- what was said before the status line stays
 calm : (e r : Taken) (x y z : ℕ) (d : List ℕ) → z ≡ y → Says e r x y d → ¬ Rose x z → Takes e r d
 calm e r x y z d same says h = says.whole (subst (λ n. ¬ Rose x n) same h)
 
 -- a blank line was skipped
-pub runs-blank : (f g : Files) (o e : Taken) (x : ℕ) (l : List ℕ) → is_blank l ≡ true → g ≡ f → RunsOver (scene f g o o e e x x) (without_blanks (l ∷ [])) []
-runs-blank f g o e x l blank same =
-    subst (λ (h : Files). RunsOver (scene f h o o e e x x) (without_blanks (l ∷ [])) []) (sym same)
-    (subst (λ (m : List (List ℕ)). RunsOver (scene f f o o e e x x) m []) (sym (without_blanks-blank l blank)) (RunsOver-none f o e x))
+pub runs-blank : (f g : Option Files) (o e : Taken) (x : ℕ) (l : List ℕ) → is_blank l ≡ true → g ≡ f → RunsOver (scene f g o o e e x x) (without_blanks (l ∷ [])) []
+runs-blank f g o e x l blank same = subst (λ (m : List (List ℕ)). RunsOver (scene f g o o e e x x) m []) (sym (without_blanks-blank l blank)) (RunsOver-none f g o e x same)
 
 -- its step was taken, and its status line came
-pub runs-took : (f g : Files) (o p q e r t : Taken) (x y z : ℕ) (l : List ℕ) (status : ℕ) (after : Option Files) → is_blank l ≡ false → after ≡ Some g
-    → LineTakes f l status after o p e r x y → StatusComes status p q r t y z → RunsOver (scene f g o q e t x z) (without_blanks (l ∷ [])) []
-runs-took f g o p q e r t x y z l status after other told took came =
-    let k = at_none f l status after o p e r x y came.other took in
+pub runs-took : (f g : Option Files) (o p q e r t : Taken) (x y z : ℕ) (l : List ℕ) (status : ℕ) → is_blank l ≡ false
+    → LineTakes f g l status o p e r x y → StatusComes status p q r t y z → RunsOver (scene f g o q e t x z) (without_blanks (l ∷ [])) []
+runs-took f g o p q e r t x y z l status other took came =
+    let k = at_none f g l status o p e r x y came.other took in
     let s = k.step in
     let written : Takes o q (s.output ++ status_line s.status) = subst (λ n. Takes o q (s.output ++ status_line n)) k.ran.status (Takes-trans o p q s.output (status_line status) k.ran.output came.output) in
     let one =
-    RunsOver-one f g o q e t x z l s k.may (k.ran.files g told) written
+    RunsOver-one f g o q e t x z l s k.may (λ a b _ now. k.ran.files b now) written
     (λ h. subst (λ (u : Taken). Takes e u s.line) (sym came.silent.taken) (calm e r x y z s.line came.silent.faults k.ran.line h)) in
     subst (λ (m : List (List ℕ)). RunsOver (scene f g o q e t x z) m []) (sym (without_blanks-other l other)) one
 
 -- a write of the command failed
-stops-write : (f g : Files) (o p q e r t : Taken) (x y z : ℕ) (l : List ℕ) (status answer : ℕ) (after : Option Files) → after ≡ Some g
-    → LineTakes f l status after o p e r x y → NoStatus status answer p q r t y z → LineStops (scene f g o q e t x z) l answer
-stops-write f g o p q e r t x y z l status answer after told took end =
-    let k = at_some f l status after o p e r x y out_fault (ap outside_of end.write_failed) took in
-    let w = part_of f l o p k.wrote in
-    let same : Some g ≡ Some f = sym told ∙ k.kept in
+stops-write : (f g : Option Files) (o p q e r t : Taken) (x y z : ℕ) (l : List ℕ) (status answer : ℕ)
+    → LineTakes f g l status o p e r x y → NoStatus status answer p q r t y z → LineStops (scene f g o q e t x z) l answer
+stops-write f g o p q e r t x y z l status answer took end =
+    let k = at_some f g l status o p e r x y out_fault (ap outside_of end.write_failed) took in
+    let w = part_of f g l o p k.wrote in
     record {
       written = w.part;
       spoken = fault_line out_fault;
-      stops = inr (inl (record { status = end.same; front = w.front; line_is = refl; files_kept = cc }));
+      stops = inr (inl (record { status = end.same; front = w.front; line_is = refl; files_kept = k.kept }));
       gains = record {
         output = subst (λ (u : Taken). Takes o u w.part) (sym end.output) w.takes;
         line = λ h. subst (λ (u : Taken). Takes e u (fault_line out_fault)) (sym end.silent.taken) (calm e r x y z (fault_line out_fault) end.silent.faults k.said h);
@@ -180,16 +342,24 @@ stops-write f g o p q e r t x y z l status answer after told took end =
     }
 
 -- the status line of a fault came
-stops-fault : (f g : Files) (o p q e r t : Taken) (x y z : ℕ) (l : List ℕ) (status answer : ℕ) (after : Option Files) (fault : PlainFault) → after ≡ Some g → outside_of status ≡ Some fault → Kind status fault
-    → LineTakes f l status after o p e r x y → LastStatus status answer p q r t y z → LineStops (scene f g o q e t x z) l answer
-stops-fault f g o p q e r t x y z l status answer after fault told is kind took end =
-    let k = at_some f l status after o p e r x y fault is took in
-    let w = part_of f l o p k.wrote in
-    let same : Some g ≡ Some f = sym told ∙ k.kept in
+stops-fault : (f g : Option Files) (o p q e r t : Taken) (x y z : ℕ) (l : List ℕ) (status answer : ℕ) (fault : PlainFault) → outside_of status ≡ Some fault → Kind status fault
+    → LineTakes f g l status o p e r x y → LastStatus status answer p q r t y z → LineStops (scene f g o q e t x z) l answer
+stops-fault f g o p q e r t x y z l status answer fault is kind took end =
+    let k = at_some f g l status o p e r x y fault is took in
+    let w = part_of f g l o p k.wrote in
     record {
       written = w.part ++ status_line status;
       spoken = fault_line fault;
-      stops = inl (record { fault = fault; kind = kind.kind; status = end.same ∙ kind.is; part = w.part; front = w.front; output = ap (λ n. w.part ++ status_line n) (sym end.same); line_is = refl; files_kept = cc });
+      stops = inl (record {
+        fault = fault;
+        kind = kind.kind;
+        status = end.same ∙ kind.is;
+        part = w.part;
+        front = w.front;
+        output = ap (λ n. w.part ++ status_line n) (sym end.same);
+        line_is = refl;
+        files_kept = k.kept;
+      });
       gains = record {
         output = Takes-trans o p q w.part (status_line status) w.takes end.output;
         line = λ h. subst (λ (u : Taken). Takes e u (fault_line fault)) (sym end.silent.taken) (calm e r x y z (fault_line fault) end.silent.faults k.said h);
@@ -197,10 +367,10 @@ stops-fault f g o p q e r t x y z l status answer after fault told is kind took 
     }
 
 -- the status line did not come
-stops-lost : (f g : Files) (o p q e r t : Taken) (x y z m n : ℕ) (l : List ℕ) (status answer : ℕ) (after : Option Files) (v : Option PlainFault) → x ≤ y → y ≤ z → after ≡ Some g → status ≢ 15 → outside_of status ≡ v
-    → LineTakes f l status after o p e r x y → StatusLost status answer p q r t y z m n → LineStops (scene f g o q e t x z) l answer
-stops-lost f g o p q e r t x y z m n l status answer after None first second told no_in is took end =
-    let k = at_none f l status after o p e r x y is took in
+stops-lost : (f g : Option Files) (o p q e r t : Taken) (x y z m n : ℕ) (l : List ℕ) (status answer : ℕ) (v : Option PlainFault) → x ≤ y → y ≤ z → status ≢ 15 → outside_of status ≡ v
+    → LineTakes f g l status o p e r x y → StatusLost status answer p q r t y z m n → LineStops (scene f g o q e t x z) l answer
+stops-lost f g o p q e r t x y z m n l status answer None first second no_in is took end =
+    let k = at_none f g l status o p e r x y is took in
     let s = k.step in
     let c = end.output.count in
     let before : Gains (scene f g o p e r x y) s.output s.line = record { output = k.ran.output; line = k.ran.line.whole } in
@@ -208,21 +378,38 @@ stops-lost f g o p q e r t x y z m n l status answer after None first second tol
     record {
       written = s.output ++ take c (status_line status);
       spoken = s.line ++ fault_line out_fault;
-      stops = inr (inr (inl (record { status = end.is; step = s; may = k.may; count = c; output = ap (λ u. s.output ++ take c (status_line u)) k.ran.status; line_is = refl; files_now = k.ran.files g told })));
+      stops = inr (inr (inl (record {
+        status = end.is;
+        step = s;
+        may = k.may;
+        count = c;
+        output = ap (λ u. s.output ++ take c (status_line u)) k.ran.status;
+        line_is = refl;
+        files_now = λ a b _ told. k.ran.files b told;
+      })));
       gains = Gains-trans f g g g f g o p q e r t x y z s.output (take c (status_line status)) s.line (fault_line out_fault) first second before now;
     }
-stops-lost f g o p q e r t x y z m n l status answer after (Some fault) first second told no_in is took end =
-    let k = at_some f l status after o p e r x y fault is took in
-    let w = part_of f l o p k.wrote in
+stops-lost f g o p q e r t x y z m n l status answer (Some fault) first second no_in is took end =
+    let k = at_some f g l status o p e r x y fault is took in
+    let w = part_of f g l o p k.wrote in
     let kind = kind_of status fault is end.other no_in in
     let c = end.output.count in
-    let same : Some g ≡ Some f = sym told ∙ k.kept in
     let before : Gains (scene f g o p e r x y) w.part (fault_line fault) = record { output = w.takes; line = k.said.whole } in
     let now : Gains (scene g g p q r t y z) (take c (status_line status)) (fault_line out_fault) = record { output = end.output.takes; line = end.line.whole } in
     record {
       written = w.part ++ take c (status_line status);
       spoken = fault_line fault ++ fault_line out_fault;
-      stops = inr (inr (inr (record { status = end.is; fault = fault; kind = kind.kind; part = w.part; front = w.front; count = c; output = ap (λ u. w.part ++ take c (status_line u)) kind.is; line_is = refl; files_kept = cc })));
+      stops = inr (inr (inr (record {
+        status = end.is;
+        fault = fault;
+        kind = kind.kind;
+        part = w.part;
+        front = w.front;
+        count = c;
+        output = ap (λ u. w.part ++ take c (status_line u)) kind.is;
+        line_is = refl;
+        files_kept = k.kept;
+      })));
       gains = Gains-trans f g g g f g o p q e r t x y z w.part (take c (status_line status)) (fault_line fault) (fault_line out_fault) first second before now;
     }
 
@@ -230,29 +417,25 @@ last_kind : (status : ℕ) → (status ≡ 13) ⊎ (status ≡ 16) → (fault : 
 last_kind status (inl e) = (folder_fault, ap outside_of e, record { kind = inl refl; is = e })
 last_kind status (inr e) = (memory, ap outside_of e, record { kind = inr refl; is = e })
 
-pub runs-stopped : (f g : Files) (o p q e r t : Taken) (x y z m n : ℕ) (l : List ℕ) (status answer : ℕ) (after : Option Files) → x ≤ y → y ≤ z → after ≡ Some g → status ≢ 15
-    → LineTakes f l status after o p e r x y → StatusEnds status p q r t y z m n (Err answer) → LineStops (scene f g o q e t x z) l answer
-runs-stopped f g o p q e r t x y z m n l status answer after first second told no_in took (inl end) = stops-write f g o p q e r t x y z l status answer after told took end
-runs-stopped f g o p q e r t x y z m n l status answer after first second told no_in took (inr (inl end)) =
-    stops-lost f g o p q e r t x y z m n l status answer after _ first second told no_in refl took end
-runs-stopped f g o p q e r t x y z m n l status answer after first second told no_in took (inr (inr end)) =
+pub runs-stopped : (f g : Option Files) (o p q e r t : Taken) (x y z m n : ℕ) (l : List ℕ) (status answer : ℕ) → x ≤ y → y ≤ z → status ≢ 15
+    → LineTakes f g l status o p e r x y → StatusEnds status p q r t y z m n (Err answer) → LineStops (scene f g o q e t x z) l answer
+runs-stopped f g o p q e r t x y z m n l status answer first second no_in took (inl end) = stops-write f g o p q e r t x y z l status answer took end
+runs-stopped f g o p q e r t x y z m n l status answer first second no_in took (inr (inl end)) = stops-lost f g o p q e r t x y z m n l status answer _ first second no_in refl took end
+runs-stopped f g o p q e r t x y z m n l status answer first second no_in took (inr (inr end)) =
     let k = last_kind status end.kind in
-    stops-fault f g o p q e r t x y z l status answer after k.0 told k.1 k.2 took end
+    stops-fault f g o p q e r t x y z l status answer k.0 k.1 k.2 took end
 
-pub runs-ended : (f g : Files) (o p q e r t : Taken) (x y z m n : ℕ) (l : List ℕ) (status : ℕ) (after : Option Files) (result : Result Unit ℕ) → x ≤ y → y ≤ z → is_blank l ≡ false → after ≡ Some g → status ≢ 15
-    → LineTakes f l status after o p e r x y → StatusEnds status p q r t y z m n result → LineRuns (scene f g o q e t x z) l result
-runs-ended f g o p q e r t x y z m n l status after (Ok u) first second other told no_in took end = runs-took f g o p q e r t x y z l status after other told took end
-runs-ended f g o p q e r t x y z m n l status after (Err answer) first second other told no_in took end =
-    (other, inr (runs-stopped f g o p q e r t x y z m n l status answer after first second told no_in took end))
+pub runs-ended : (f g : Option Files) (o p q e r t : Taken) (x y z m n : ℕ) (l : List ℕ) (status : ℕ) (result : Result Unit ℕ) → x ≤ y → y ≤ z → is_blank l ≡ false → status ≢ 15
+    → LineTakes f g l status o p e r x y → StatusEnds status p q r t y z m n result → LineRuns (scene f g o q e t x z) l result
+runs-ended f g o p q e r t x y z m n l status (Ok u) first second other no_in took end = runs-took f g o p q e r t x y z l status other took end
+runs-ended f g o p q e r t x y z m n l status (Err answer) first second other no_in took end = (other, inr (runs-stopped f g o p q e r t x y z m n l status answer first second no_in took end))
 
 -- no memory was there for the words
-pub runs-unread : (f g : Files) (o p e r t : Taken) (x y z : ℕ) (before after : Option Files) (answer : ℕ) → before ≡ Some f → after ≡ Some g → IsUntouched before after o p e r x y → answer ≡ 16
-    → Says r t y z (fault_line memory) → NoWords (scene f g o p e t x z) answer
-runs-unread f g o p e r t x y z before after answer told now same is says =
-    let files : Some g ≡ Some f = sym now ∙ same.files ∙ told in
+pub runs-unread : (f g : Option Files) (o p e r t : Taken) (x y z : ℕ) (answer : ℕ) → IsUntouched f g o p e r x y → answer ≡ 16 → Says r t y z (fault_line memory) → NoWords (scene f g o p e t x z) answer
+runs-unread f g o p e r t x y z answer same is says =
     record {
       status = is;
-      files = cc;
+      files = same.files;
       gains = record {
         output = subst (λ (u : Taken). Takes o u []) (sym same.output) (Takes-nil o);
         line = λ calm.

@@ -1,5 +1,5 @@
 -- How a batch ends.
-use Rattle.std.specs.Prelude.{◌≡◌, ◌⊎◌, ℕ, ◌<◌, ◌≤◌, List, [], ◌∷◌, ◌++◌, length, take, Option, Some}
+use Rattle.std.specs.Prelude.{◌≡◌, ◌⊎◌, ℕ, ◌<◌, ◌≤◌, List, [], ◌∷◌, ◌++◌, length, take, Option, Some, None}
 use Rattle.std.specs.Io.KnownBytes.{Consumes}
 use Rattle.xa_outside.specs.Causes.{Rose}
 use Rattle.xa_outside.specs.Filled.{ConsumesSome}
@@ -9,14 +9,14 @@ use Rattle.xarch_words.specs.Lines.{fault_line, fault_status}
 use Rattle.xarch_words.specs.Refusal.{batch, limit, PlainFault, refused, folder_fault, out_fault, in_fault, memory}
 use Rattle.xarch_steps.specs.Outcome.{Step}
 use Rattle.xarch_run.specs.Lines.{lines_of, ended_lines_of}
-use Rattle.xarch_run.specs.Steps.{LineMay, StepsAre, files_after, lines_said, outs, status_line}
+use Rattle.xarch_run.specs.Steps.{AreSteps, IfTold, IsStep, lines_said, outs, status_line}
 
 -- ---- what is seen
 
--- the files, the output, and the error sink with its count of faults, before and now
+-- the files where they are told, the output, and the error sink with its count of faults, before and now
 pub record Scene : Type 0 where
-  pub files_before : Files
-  pub files_now : Files
+  pub files_before : Option Files
+  pub files_now : Option Files
   pub out_before : Taken
   pub out_now : Taken
   pub err_before : Taken
@@ -24,87 +24,90 @@ pub record Scene : Type 0 where
   pub count_before : ℕ
   pub count_now : ℕ
 
-abbrev pub scene : Files → Files → Taken → Taken → Taken → Taken → ℕ → ℕ → Scene
+abbrev pub scene : Option Files → Option Files → Taken → Taken → Taken → Taken → ℕ → ℕ → Scene
 scene before now o p e f m n =
     record { files_before = before; files_now = now; out_before = o; out_now = p; err_before = e; err_now = f; count_before = m; count_now = n }
+
+-- what a folder, an output and an error sink show before and now
+abbrev pub shown : {F O E : Type 0} → (F → Option Files) → (O → Taken) → (E → Taken) → (E → ℕ) → F → F → O → O → E → E → Scene
+shown files taken said faults f g o p e r = scene (files f) (files g) (taken o) (taken p) (said e) (said r) (faults e) (faults r)
 
 -- what the output gained, and the error sink where it did not fail
 pub record Gains (w : Scene) (written spoken : List ℕ) : Type 0 where
   pub output : Takes w.out_before w.out_now written
   pub line : ¬ Rose w.count_before w.count_now → Takes w.err_before w.err_now spoken
 
--- Each line was run from the files that the one before left. Output and error sink gained what the steps write and say, and
+-- Each line was run, from the files that the one before left. Output and error sink gained what the steps write and say, and
 -- the error sink then this.
 pub record RunsOver (w : Scene) (lines : List (List ℕ)) (spoken : List ℕ) : Type 0 where
   pub steps : List Step
-  pub are : StepsAre w.files_before lines steps
-  pub files : w.files_now ≡ files_after w.files_before steps
+  pub are : AreSteps w.files_before w.files_now lines steps
   pub gains : Gains w (outs steps) (lines_said steps ++ spoken)
 
 -- ---- a line that ends the batch
 
 -- a prefix of what a step of the line writes
-pub record IsFront (files : Files) (line part : List ℕ) : Type 0 where
+pub record IsFront (before now : Option Files) (line part : List ℕ) : Type 0 where
   pub step : Step
-  pub may : LineMay files line step
+  pub may : IsStep before now line step
   pub count : ℕ
   pub is : part ≡ take count step.output
 
 -- what a command has written before a fault
-abbrev pub IsPart : Files → List ℕ → List ℕ → Type 0
-IsPart files line part = (part ≡ []) ⊎ IsFront files line part
+abbrev pub IsPart : Option Files → Option Files → List ℕ → List ℕ → Type 0
+IsPart before now line part = (part ≡ []) ⊎ IsFront before now line part
 
 -- after these faults of a command its status line still comes
 abbrev pub EndsTheBatch : PlainFault → Type 0
 EndsTheBatch fault = (fault ≡ folder_fault) ⊎ (fault ≡ memory)
 
 -- The command answered a fault, whose status line came.
-pub record Faults (files : Files) (line : List ℕ) (answer : ℕ) (now : Files) (written spoken : List ℕ) : Type 0 where
+pub record Faults (before now : Option Files) (line : List ℕ) (answer : ℕ) (written spoken : List ℕ) : Type 0 where
   pub fault : PlainFault
   pub kind : EndsTheBatch fault
   pub status : answer ≡ fault_status fault
   pub part : List ℕ
-  pub front : IsPart files line part
+  pub front : IsPart before now line part
   pub output : written ≡ part ++ status_line answer
   pub line_is : spoken ≡ fault_line fault
-  pub files_kept : now ≡ files
+  pub files_kept : now ≡ before
 
 -- A write of the command failed.
-pub record WriteFails (files : Files) (line : List ℕ) (answer : ℕ) (now : Files) (written spoken : List ℕ) : Type 0 where
+pub record WriteFails (before now : Option Files) (line : List ℕ) (answer : ℕ) (written spoken : List ℕ) : Type 0 where
   pub status : answer ≡ 14
-  pub front : IsPart files line written
+  pub front : IsPart before now line written
   pub line_is : spoken ≡ fault_line out_fault
-  pub files_kept : now ≡ files
+  pub files_kept : now ≡ before
 
 -- The command took its step, and the write of its status line failed.
-pub record StatusFails (files : Files) (line : List ℕ) (answer : ℕ) (now : Files) (written spoken : List ℕ) : Type 0 where
+pub record StatusFails (before now : Option Files) (line : List ℕ) (answer : ℕ) (written spoken : List ℕ) : Type 0 where
   pub status : answer ≡ 14
   pub step : Step
-  pub may : LineMay files line step
+  pub may : IsStep before now line step
   pub count : ℕ
   pub output : written ≡ step.output ++ take count (status_line step.status)
   pub line_is : spoken ≡ step.line ++ fault_line out_fault
-  pub files_now : now ≡ step.files
+  pub files_now : IfTold before now (λ f g. g ≡ step.files)
 
 -- The command answered a fault, and the write of its status line failed.
-pub record FaultStatusFails (files : Files) (line : List ℕ) (answer : ℕ) (now : Files) (written spoken : List ℕ) : Type 0 where
+pub record FaultStatusFails (before now : Option Files) (line : List ℕ) (answer : ℕ) (written spoken : List ℕ) : Type 0 where
   pub status : answer ≡ 14
   pub fault : PlainFault
   pub kind : EndsTheBatch fault
   pub part : List ℕ
-  pub front : IsPart files line part
+  pub front : IsPart before now line part
   pub count : ℕ
   pub output : written ≡ part ++ take count (status_line (fault_status fault))
   pub line_is : spoken ≡ fault_line fault ++ fault_line out_fault
-  pub files_kept : now ≡ files
+  pub files_kept : now ≡ before
 
--- How a line ends the batch with this answer: the files now, what the output gained, and what was said.
-abbrev pub Stops : Files → List ℕ → ℕ → Files → List ℕ → List ℕ → Type 0
-Stops files line answer now written spoken =
-    Faults files line answer now written spoken
-    ⊎ (WriteFails files line answer now written spoken
-    ⊎ (StatusFails files line answer now written spoken
-    ⊎ FaultStatusFails files line answer now written spoken))
+-- How a line ends the batch with this answer: the files before it and now, what the output gained, and what was said.
+abbrev pub Stops : Option Files → Option Files → List ℕ → ℕ → List ℕ → List ℕ → Type 0
+Stops before now line answer written spoken =
+    Faults before now line answer written spoken
+    ⊎ (WriteFails before now line answer written spoken
+    ⊎ (StatusFails before now line answer written spoken
+    ⊎ FaultStatusFails before now line answer written spoken))
 
 -- ---- all ends
 
@@ -151,7 +154,7 @@ pub record NoMemory (w : Scene) (bytes : List ℕ) (answer : ℕ) : Type 0 where
   pub read : AreRead bytes lines
   pub over : RunsOver w lines (fault_line memory)
 
--- The lines in front of this one were run, and it ended the batch.
+-- The lines in front of this one were run, and it ended the batch. Files that were not told between are not told now.
 pub record StoppedAt (w : Scene) (bytes : List ℕ) (answer : ℕ) : Type 0 where
   pub lines : List (List ℕ)
   pub steps : List Step
@@ -159,10 +162,12 @@ pub record StoppedAt (w : Scene) (bytes : List ℕ) (answer : ℕ) : Type 0 wher
   pub behind : List (List ℕ)
   pub is : lines_of bytes ≡ lines ++ line ∷ behind
   pub read : AreRead bytes (lines ++ line ∷ [])
-  pub are : StepsAre w.files_before lines steps
+  pub between : Option Files
+  pub untold : between ≡ None → w.files_now ≡ None
+  pub are : AreSteps w.files_before between lines steps
   pub written : List ℕ
   pub spoken : List ℕ
-  pub stops : Stops (files_after w.files_before steps) line answer w.files_now written spoken
+  pub stops : Stops between w.files_now line answer written spoken
   pub gains : Gains w (outs steps ++ written) (lines_said steps ++ spoken)
 
 -- how a batch over an input of these bytes ended, and what is left of it

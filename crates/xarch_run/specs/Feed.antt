@@ -28,8 +28,8 @@ Fills before now old new (Err PastLimit) = (b : ℕ) × Consumes (ahead before o
 Fills before now old new (Err Memory) = ⊥
 
 -- A failure of the input has its cause.
-abbrev pub HasItsCause : {T : Type 0} → ℕ → ℕ → Result T Stop → Type 0
-HasItsCause before now (Ok v) = ⊤
-HasItsCause before now (Err Failed) = Rose before now
-HasItsCause before now (Err PastLimit) = ⊤
-HasItsCause before now (Err Memory) = ⊤
+abbrev pub StopIsCaused : {T : Type 0} → ℕ → ℕ → Result T Stop → Type 0
+StopIsCaused before now (Ok v) = ⊤
+StopIsCaused before now (Err Failed) = Rose before now
+StopIsCaused before now (Err PastLimit) = ⊤
+StopIsCaused before now (Err Memory) = ⊤

@@ -6,6 +6,8 @@ pub mod Shown
 pub mod Taking
 pub mod Steps
 pub mod Batch
-pub mod HandedIn
+pub mod Stays
+pub mod Calls
+pub mod Held
 pub mod Turns
 pub mod Faults

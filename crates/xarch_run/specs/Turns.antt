@@ -1,44 +1,45 @@
 -- What running one line of a batch did.
-use Rattle.std.specs.Prelude.{◌≡◌, ◌≢◌, ◌⊎◌, ℕ, List, [], ◌∷◌, false, Option, Some, None, MatchOption, Result, Ok, Err}
+use Rattle.std.specs.Prelude.{◌≡◌, ◌≢◌, ◌⊎◌, ℕ, List, [], ◌∷◌, false, Option, None, MatchOption, Result, Ok, Err}
 use Rattle.xa_outside.specs.Causes.{Rose}
 use Rattle.xa_outside.specs.Folder.{Files}
-use Rattle.xa_outside.specs.Taken.{Taken, Takes, TakesNone, TakesPrefix}
+use Rattle.xa_outside.specs.Taken.{Taken, Takes, TakesPrefix}
 use Rattle.xarch_words.specs.Lines.{fault_line}
 use Rattle.xarch_words.specs.Refusal.{PlainFault, out_fault, memory}
 use Rattle.xarch_steps.specs.Outcome.{Step}
 use Rattle.xarch_steps.specs.Ran.{Ran, Says, outside_of}
 use Rattle.xarch_run.specs.Batch.{Gains, RunsOver, Scene, Stops}
 use Rattle.xarch_run.specs.Lines.{is_blank, without_blanks}
-use Rattle.xarch_run.specs.Steps.{LineMay, status_line}
+use Rattle.xarch_run.specs.Steps.{IsStep, status_line}
 
 -- ---- its step
 
 -- a step was taken that the line may have the program take
-pub record LineTried (files : Files) (line : List ℕ) (answer : ℕ) (after : Option Files) (old new err_old err_new : Taken) (before now : ℕ) : Type 0 where
+pub record LineTried (before after : Option Files) (line : List ℕ) (answer : ℕ) (old new err_old err_new : Taken) (count_before count_now : ℕ) : Type 0 where
   pub step : Step
-  pub may : LineMay files line step
-  pub ran : Ran step answer after old new err_old err_new before now
+  pub may : IsStep before after line step
+  pub ran : Ran step answer after old new err_old err_new count_before count_now
 
 -- a prefix was written of the output of such a step
-pub record LinePrefix (files : Files) (line : List ℕ) (old new : Taken) : Type 0 where
+pub record LinePrefix (before after : Option Files) (line : List ℕ) (old new : Taken) : Type 0 where
   pub step : Step
-  pub may : LineMay files line step
+  pub may : IsStep before after line step
   pub output : TakesPrefix old new step.output
 
 -- nothing was written, or such a prefix
-abbrev pub LineWrote : Files → List ℕ → Taken → Taken → Type 0
-LineWrote files line old new = TakesNone old new ⊎ LinePrefix files line old new
+abbrev pub LineWrote : Option Files → Option Files → List ℕ → Taken → Taken → Type 0
+LineWrote before after line old new = Takes old new [] ⊎ LinePrefix before after line old new
 
 -- A fault of the outside changed no file, and its line was said.
-pub record LineFaults (files : Files) (line : List ℕ) (fault : PlainFault) (after : Option Files) (old new err_old err_new : Taken) (before now : ℕ) : Type 0 where
-  pub wrote : LineWrote files line old new
-  pub kept : after ≡ Some files
-  pub said : Says err_old err_new before now (fault_line fault)
+pub record LineFaults (before after : Option Files) (line : List ℕ) (fault : PlainFault) (old new err_old err_new : Taken) (count_before count_now : ℕ) : Type 0 where
+  pub wrote : LineWrote before after line old new
+  pub kept : after ≡ before
+  pub said : Says err_old err_new count_before count_now (fault_line fault)
 
 -- its step was taken, or a fault of the outside came
-abbrev pub LineTakes : Files → List ℕ → ℕ → Option Files → Taken → Taken → Taken → Taken → ℕ → ℕ → Type 0
-LineTakes files line answer after old new err_old err_new before now =
-    MatchOption (outside_of answer) (LineTried files line answer after old new err_old err_new before now) (λ fault. LineFaults files line fault after old new err_old err_new before now)
+abbrev pub LineTakes : Option Files → Option Files → List ℕ → ℕ → Taken → Taken → Taken → Taken → ℕ → ℕ → Type 0
+LineTakes before after line answer old new err_old err_new count_before count_now =
+    MatchOption (outside_of answer) (LineTried before after line answer old new err_old err_new count_before count_now)
+    (λ fault. LineFaults before after line fault old new err_old err_new count_before count_now)
 
 -- Nothing was done.
 pub record IsUntouched (before after : Option Files) (old new err_old err_new : Taken) (count_before count_now : ℕ) : Type 0 where
@@ -101,7 +102,7 @@ pub record NoWords (w : Scene) (answer : ℕ) : Type 0 where
 pub record LineStops (w : Scene) (line : List ℕ) (answer : ℕ) : Type 0 where
   pub written : List ℕ
   pub spoken : List ℕ
-  pub stops : Stops w.files_before line answer w.files_now written spoken
+  pub stops : Stops w.files_before w.files_now line answer written spoken
   pub gains : Gains w written spoken
 
 -- it was run where it is not blank, or it ended the batch

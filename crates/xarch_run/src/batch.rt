@@ -1,8 +1,8 @@
-ghost use Rattle.std.specs.Prelude.{◌≡◌, ◌≤◌, ℕ, List, None, Some};
-ghost use Rattle.xa_outside.specs.Folder.{Files};
+ghost use Rattle.std.specs.Prelude.{◌≡◌, ◌≤◌, ℕ, List, Some};
 ghost use Rattle.xarch_words.specs.View.{fault_view};
-ghost use Rattle.xarch_run.specs.Batch.{BatchEnds, IsAnswer, ReadsAsSaid, scene};
+ghost use Rattle.xarch_run.specs.Batch.{BatchEnds, IsAnswer, ReadsAsSaid, shown};
 ghost use Rattle.xarch_run.specs.Faults.{stop_fault};
+ghost use Rattle.xarch_run.specs.Stays.{Stays};
 
 use crate::feed::BATCH_LIMIT;
 use crate::lines::Lines;
@@ -13,7 +13,8 @@ use std::alloc::Global;
 use xa_outside::{Folder, Sink, Source};
 use xarch_words::{Fault, Quantity};
 
-/// Runs the lines of the input, one after another, and answers the status with which the batch ends.
+/// Runs the lines of the input, one after another, and answers the status with which the batch
+/// ends.
 pub(crate) fn run_batch<F: Folder, S: Source, O: Sink, E: Sink>(
     alloc: Global,
     folder: &mut F,
@@ -21,13 +22,14 @@ pub(crate) fn run_batch<F: Folder, S: Source, O: Sink, E: Sink>(
     out: &mut O,
     err: &mut E,
 ) -> u8
-    ensures ends { (before now : Files) (bytes : List ℕ) → F.files folder.old ≡ Some before → F.files folder.new ≡ Some now → S.rest input.old ≡ Some bytes
-        → BatchEnds (scene before now (O.taken out.old) (O.taken out.new) (E.taken err.old) (E.taken err.new) (E.faults err.old) (E.faults err.new)) bytes (S.rest input.new) result }
-    ensures answer { IsAnswer (F.faults folder.old) (F.faults folder.new) (S.faults input.old) (S.faults input.new) (O.faults out.old) (O.faults out.new) result }
-    ensures read { (bytes : List ℕ) → S.rest input.old ≡ Some bytes → ReadsAsSaid bytes (S.rest input.new) result }
-    ensures untold { F.files folder.old ≡ None → F.files folder.new ≡ None }
-    ensures draft_untold { F.draft folder.old ≡ None → F.draft folder.new ≡ None }
-    ensures folder_later { F.faults folder.old ≤ F.faults folder.new }
+    ensures ends { (bytes : List ℕ) → S.rest input.old ≡ Some bytes
+        → BatchEnds (shown F.files O.taken E.taken E.faults folder.old folder.new
+        out.old out.new err.old err.new) bytes (S.rest input.new) result }
+    ensures answer { IsAnswer (F.faults folder.old) (F.faults folder.new) (S.faults input.old)
+        (S.faults input.new) (O.faults out.old) (O.faults out.new) result }
+    ensures read { (bytes : List ℕ) → S.rest input.old ≡ Some bytes
+        → ReadsAsSaid bytes (S.rest input.new) result }
+    ensures folder { Stays F.files F.draft F.faults folder.old folder.new }
     ensures input_later { S.faults input.old ≤ S.faults input.new }
     ensures out_later { O.faults out.old ≤ O.faults out.new }
     ensures err_later { E.faults err.old ≤ E.faults err.new }

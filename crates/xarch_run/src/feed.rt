@@ -1,4 +1,4 @@
-ghost use Rattle.std.specs.Prelude.{◌≡◌, ◌+◌, ◌<◌, ◌≤◌, ◌↔◌, [], IfOk, IsTrue, drop, length, take, vec_len};
+ghost use Rattle.std.specs.Prelude.{◌≡◌, ◌+◌, ◌<◌, ◌≤◌, [], IfOk, drop, length, vec_len};
 
 use crate::front::read_front;
 use crate::stop::Stop;
@@ -24,7 +24,7 @@ pub(crate) struct Feed {
 }
 
 impl Feed {
-    ghost use Rattle.xarch_run.specs.Feed.{Fills, HasItsCause, budget, pending};
+    ghost use Rattle.xarch_run.specs.Feed.{Fills, StopIsCaused, budget, pending};
 
     pub(crate) fn new(alloc: Global) -> Result<Feed, AllocError>
         ensures empty { IfOk result (λ f. pending f ≡ []) }
@@ -53,12 +53,12 @@ impl Feed {
         self.start += count;
     }
 
-    /// Whether a byte is pending, after a read where none was. It reads no byte past those that a batch may have but the
-    /// one behind them.
+    /// Whether a byte is pending, after a read where none was. It reads no byte past those that a
+    /// batch may have but the one behind them.
     pub(crate) fn has_more<S: Source>(&mut self, input: &mut S) -> Result<bool, Stop>
         ensures fills { Fills self.old self.new (S.rest input.old) (S.rest input.new) result }
         ensures later { S.faults input.old ≤ S.faults input.new }
-        ensures cause { HasItsCause (S.faults input.old) (S.faults input.new) result }
+        ensures cause { StopIsCaused (S.faults input.old) (S.faults input.new) result }
     {
         if self.start < self.end {
             return Ok(true);
@@ -70,7 +70,7 @@ impl Feed {
         requires { pending self.old ≡ [] }
         ensures fills { Fills self.old self.new (S.rest input.old) (S.rest input.new) result }
         ensures later { S.faults input.old ≤ S.faults input.new }
-        ensures cause { HasItsCause (S.faults input.old) (S.faults input.new) result }
+        ensures cause { StopIsCaused (S.faults input.old) (S.faults input.new) result }
     {
         let room = self.buffer.len().min(self.left.max(1));
         let count = match read_front(input, &mut self.buffer, room) {

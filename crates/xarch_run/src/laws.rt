@@ -1,67 +1,84 @@
 // What follows for the archives in a folder.
-ghost use Rattle.std.specs.Prelude.{◌≡◌, ◌≢◌, ℕ, List, ◌∷◌, ◌++◌, map, None, Option};
+ghost use Rattle.std.specs.Prelude.{◌≡◌, ℕ, List, ◌∷◌, ◌++◌, [], length, None, Ok, Option, Some};
 ghost use Rattle.std.specs.FinMap as finite;
 ghost use Rattle.xa_outside.specs.Folder.{Files};
-ghost use Rattle.key_spec.specs.Data.{PlainRule};
 ghost use Rattle.keyed_tree.specs.Data.{PlainKeyed};
-ghost use Rattle.xarch_steps.specs.Archives.{ArchiveIs};
-ghost use Rattle.xarch_steps.specs.Outcome.{Step};
-ghost use Rattle.xarch_steps.specs.Plausible.{Plausible};
-ghost use Rattle.xarch_steps.specs.Step.{single_of};
-ghost use Rattle.xarch_run.specs.Batch.{BatchEnds, Scene};
-ghost use Rattle.xarch_run.specs.HandedIn.{BatchSteps, BeginsWith, Begun, CallsAre, HoldsExactly, MakesArchive, NoneMakes, RefusalsKeep, handed_in, handed_in_by_calls, line_command};
-ghost use Rattle.xarch_run.specs.Steps.{LineMay, StepsAre, files_after};
+ghost use Rattle.record_format.specs.Files.{FileOf};
+ghost use Rattle.xarch_words.specs.Commands.{PlainCommand, add, get, history, stats};
+ghost use Rattle.xarch_steps.specs.Add.{added};
+ghost use Rattle.xarch_steps.specs.Get.{version_text};
+ghost use Rattle.xarch_steps.specs.History.{history_text};
+ghost use Rattle.xarch_steps.specs.Outcome.{Step, step_from};
+ghost use Rattle.xarch_run.specs.Calls.{Call, CallsDid, CommandMay, CommandsDid, LeadTo};
+ghost use Rattle.xarch_run.specs.Held.{Accepted, Begun, HandedIn, Held, Holds, HoldsExactly, MakesArchive, NoneMakes, RefusalsKeep, WritesCounts, held_after_all};
+ghost use Rattle.xarch_run.specs.Steps.{LineMay, files_after, line_command};
 
 use record_format::versions_have_one_file;
 
-/// After the lines of a batch an archive's file is exactly the encoding of the documents that were handed in to it, in
-/// order: of those that satisfied its keys and whose command answered 0. Refused commands changed no file.
+/// After any list of commands, an archive's file is exactly the encoding of the handed-in documents
+/// that satisfied its keys, in order, and refused commands changed no file; `get` of a number
+/// writes that version with keyed siblings in key order; and `history` writes exactly the versions
+/// that hold the element.
 ///
-/// The lines may name other archives, sound or not. The encoding of versions is that of the archive that `merge_all` makes
-/// of them, as `encode_file` spells it.
+/// The commands are those of calls of `run`, one after another, and of the lines of their batches.
+/// They may name other archives, sound or not. The encoding of versions is that of the archive that
+/// `merge_all` makes of them, as `encode_file` spells it.
 pub fn archives_hold_what_was_handed_in()
-    // An archive whose first line made it: its rules and first versions are those of that line.
-    ensures headline { (files : Files) (name : List ℕ) (rules : List PlainRule) (vs : List PlainKeyed) (first : List ℕ) (lines : List (List ℕ)) (s : Step) (steps : List Step)
-        → StepsAre files (first ∷ lines) (s ∷ steps) → s.status ≡ 0 → BeginsWith files name (line_command first) rules vs
-        → HoldsExactly (files_after files (s ∷ steps)) name rules (vs ++ handed_in rules files name (first ∷ lines) (s ∷ steps)) }
-    ensures made { (files : Files) (name line : List ℕ) (s : Step) → LineMay files line s → s.status ≡ 0 → MakesArchive name (line_command line)
-        → Begun files name (line_command line) s.files }
+    // The file is exactly the encoding of the documents that were handed in since its `init`, or of
+    // those of its `demo` and of the documents handed in since then.
+    ensures headline { (files : Files) (commands : List (Option PlainCommand)) (steps : List Step)
+        (name : List ℕ) (held : Held)
+        → CommandsDid files commands steps → HandedIn files name commands steps held
+        → HoldsExactly (files_after files steps) name held }
 
-    // An archive that stands already goes on from the versions that it has.
-    ensures kept { (files : Files) (name : List ℕ) (rules : List PlainRule) (vs : List PlainKeyed) (lines : List (List ℕ)) (steps : List Step)
-        → ArchiveIs files name rules vs → StepsAre files lines steps
-        → ArchiveIs (files_after files steps) name rules (vs ++ handed_in rules files name lines steps) }
+    // An `init` or a `demo` that was not refused made such an archive, and an archive that stands
+    // goes on from what it holds. A name that has no file gets one only by a command that makes an
+    // archive.
+    ensures made { (files : Files) (name : List ℕ) (command : Option PlainCommand) (s : Step)
+        → CommandMay files command s → s.status ≡ 0 → MakesArchive name command
+        → Begun files name command s.files }
+    ensures kept { (files : Files) (name : List ℕ) (commands : List (Option PlainCommand))
+        (steps : List Step) (held : Held) → Holds files name held → CommandsDid files commands steps
+        → Holds (files_after files steps) name (held_after_all files name commands steps held) }
+    ensures exactly { (files : Files) (name : List ℕ) (held : Held)
+        → Holds files name held → HoldsExactly files name held }
+    ensures absent { (files : Files) (name : List ℕ) (commands : List (Option PlainCommand))
+        (steps : List Step) → finite.get files name ≡ None → CommandsDid files commands steps
+        → NoneMakes name commands steps → finite.get (files_after files steps) name ≡ None }
 
-    // The file of an archive is the one encoding of its versions, and so that of the archive that merging them all gives.
-    ensures exactly { (files : Files) (name : List ℕ) (rules : List PlainRule) (vs : List PlainKeyed) → ArchiveIs files name rules vs → HoldsExactly files name rules vs }
+    // Refused commands changed no file.
+    ensures refused { (files : Files) (commands : List (Option PlainCommand)) (steps : List Step)
+        → CommandsDid files commands steps → RefusalsKeep files steps }
 
-    // A name that has no file gets one only by a command that makes an archive.
-    ensures absent { (files : Files) (name : List ℕ) (lines : List (List ℕ)) (steps : List Step)
-        → finite.get files name ≡ None → StepsAre files lines steps → NoneMakes name (map line_command lines) steps
-        → finite.get (files_after files steps) name ≡ None }
-    ensures refused { (files : Files) (lines : List (List ℕ)) (steps : List Step) → StepsAre files lines steps → RefusalsKeep files steps }
+    // A document is handed in exactly where it satisfies the keys within the limits, and its
+    // archive has a file.
+    ensures satisfied { (files : Files) (name doc : List ℕ) (held : Held) (s : Step)
+        (tree : PlainKeyed) (bytes : List ℕ)
+        → Holds files name held → CommandMay files (Some (add name doc)) s
+        → added files doc held.rules (length held.versions) ≡ Ok tree
+        → FileOf held.rules (held.versions ++ tree ∷ []) bytes → s.status ≡ 0 }
+    ensures accepted { (files : Files) (name doc : List ℕ) (held : Held) (s : Step)
+        → Holds files name held → CommandMay files (Some (add name doc)) s → s.status ≡ 0
+        → Accepted files name doc held s.files }
 
-    // However a batch ends, its files are those after steps of its lines.
-    ensures batch { (w : Scene) (bytes : List ℕ) (rest : Option (List ℕ)) (answer : ℕ) → BatchEnds w bytes rest answer → BatchSteps w bytes }
-{
-    versions_have_one_file();
-}
+    // What is written of an archive.
+    ensures gets { (files : Files) (name : List ℕ) (held : Held) (s : Step) (i : ℕ)
+        → Holds files name held → CommandMay files (Some (get name i)) s
+        → s ≡ step_from files (version_text files held.versions i) }
+    ensures tells { (files : Files) (name : List ℕ) (held : Held) (s : Step) (path : List ℕ)
+        → Holds files name held → CommandMay files (Some (history name path)) s
+        → s ≡ step_from files (history_text files held.rules held.versions path) }
+    ensures counts { (files : Files) (name : List ℕ) (held : Held) (s : Step)
+        → Holds files name held → CommandMay files (Some (stats name)) s
+        → WritesCounts files held s }
 
-/// The same after single calls, one after another, by their words. A call that answers a fault of the outside takes no
-/// step and changes no file.
-pub fn archives_hold_what_calls_handed_in()
-    ensures headline { (files : Files) (name : List ℕ) (rules : List PlainRule) (vs : List PlainKeyed) (first : List (List ℕ)) (calls : List (List (List ℕ))) (s : Step) (steps : List Step)
-        → CallsAre files (first ∷ calls) (s ∷ steps) → s.status ≡ 0 → BeginsWith files name (single_of first) rules vs
-        → HoldsExactly (files_after files (s ∷ steps)) name rules (vs ++ handed_in_by_calls rules files name (first ∷ calls) (s ∷ steps)) }
-    ensures made { (files : Files) (name : List ℕ) (words : List (List ℕ)) (s : Step) → Plausible files words s → s.status ≡ 0 → MakesArchive name (single_of words)
-        → Begun files name (single_of words) s.files }
-    ensures kept { (files : Files) (name : List ℕ) (rules : List PlainRule) (vs : List PlainKeyed) (calls : List (List (List ℕ))) (steps : List Step)
-        → ArchiveIs files name rules vs → CallsAre files calls steps
-        → ArchiveIs (files_after files steps) name rules (vs ++ handed_in_by_calls rules files name calls steps) }
-    ensures absent { (files : Files) (name : List ℕ) (calls : List (List (List ℕ))) (steps : List Step)
-        → finite.get files name ≡ None → CallsAre files calls steps → NoneMakes name (map single_of calls) steps
-        → finite.get (files_after files steps) name ≡ None }
-    ensures refused { (files : Files) (calls : List (List (List ℕ))) (steps : List Step) → CallsAre files calls steps → RefusalsKeep files steps }
+    // The commands are those that calls of `run` did, one after another, as its clause `did` says.
+    // Those of a batch are the ones that its lines spell.
+    ensures calls { (files now : Files) (calls : List Call) (commands : List (Option PlainCommand))
+        (steps : List Step)
+        → CallsDid files calls now commands steps → LeadTo files commands steps now }
+    ensures line { (files : Files) (line : List ℕ) (s : Step)
+        → LineMay files line s → CommandMay files (line_command line) s }
 {
     versions_have_one_file();
 }

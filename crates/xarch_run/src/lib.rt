@@ -13,6 +13,6 @@ mod stop;
 mod turn;
 mod words;
 
-pub use laws::{archives_hold_what_calls_handed_in, archives_hold_what_was_handed_in};
+pub use laws::archives_hold_what_was_handed_in;
 pub use program::run;
 pub use xarch_words::{Command, Fault, Quantity, read_words, status, write_fault};

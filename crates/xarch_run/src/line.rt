@@ -6,8 +6,8 @@ use std::alloc::{AllocError, Global};
 /// How many bytes a line may have.
 pub(crate) const LINE_LIMIT: usize = 1_048_576;
 
-/// A line as far as it has come. Of a longer line than there may be only the front is kept, with one byte more than a line
-/// may have.
+/// A line as far as it has come. Of a longer line than there may be only the front is kept, with
+/// one byte more than a line may have.
 #[derive(Drop)]
 pub(crate) struct Line {
     bytes: Vec<u8>,
@@ -36,7 +36,8 @@ impl Line {
 
     /// Puts a piece behind what has come.
     pub(crate) fn add(&mut self, piece: &[u8]) -> Result<(), AllocError>
-        ensures { (bytes : List ℕ) → Shows self.old bytes → OnOk result (Shows self.new (bytes ++ piece.now)) }
+        ensures { (bytes : List ℕ) → Shows self.old bytes
+            → OnOk result (Shows self.new (bytes ++ piece.now)) }
     {
         let room = LINE_LIMIT + 1 - self.bytes.len();
         self.bytes
@@ -61,7 +62,8 @@ impl Line {
 
     /// The whole line, where it is not too long.
     pub(crate) fn bytes(&self) -> &[u8]
-        ensures { (bytes : List ℕ) → Shows self.now bytes → nat_lt 1048576 (length bytes) ≡ false → result.now ≡ bytes }
+        ensures { (bytes : List ℕ) → Shows self.now bytes → nat_lt 1048576 (length bytes) ≡ false
+            → result.now ≡ bytes }
     {
         &self.bytes
     }

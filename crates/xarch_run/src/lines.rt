@@ -1,4 +1,4 @@
-ghost use Rattle.std.specs.Prelude.{◌≡◌, ◌≤◌, ◌<◌, ◌+◌, ◌∷◌, ℕ, List, [], IfOk, MatchOption, drop, length, take, false};
+ghost use Rattle.std.specs.Prelude.{◌≡◌, ◌≤◌, ℕ, List, [], IfOk};
 ghost use Rattle.std.specs.List.{position};
 ghost use Rattle.xarch_run.specs.Lines.{is_line_feed};
 
@@ -16,7 +16,7 @@ pub(crate) struct Lines {
 }
 
 impl Lines {
-    ghost use Rattle.xarch_run.specs.Feed.{HasItsCause, budget, pending};
+    ghost use Rattle.xarch_run.specs.Feed.{StopIsCaused, budget, pending};
     ghost use Rattle.xarch_run.specs.Shown.{Shows};
     ghost use Rattle.xarch_run.specs.Taking.{PutsPiece, TakesLine};
 
@@ -40,7 +40,7 @@ impl Lines {
     pub(crate) fn next<S: Source>(&mut self, input: &mut S) -> Result<bool, Stop>
         ensures takes { TakesLine self.old self.new (S.rest input.old) (S.rest input.new) result }
         ensures later { S.faults input.old ≤ S.faults input.new }
-        ensures cause { HasItsCause (S.faults input.old) (S.faults input.new) result }
+        ensures cause { StopIsCaused (S.faults input.old) (S.faults input.new) result }
     {
         self.line.clear();
         loop {
@@ -55,7 +55,8 @@ impl Lines {
 
     /// Puts the pending bytes to the line, up to the first LF, and answers whether there is one.
     fn take_piece(&mut self) -> Result<bool, AllocError>
-        ensures puts { (line : List ℕ) → Shows self.old.line line → IfOk result (PutsPiece self.old self.new line) }
+        ensures puts { (line : List ℕ) → Shows self.old.line line
+            → IfOk result (PutsPiece self.old self.new line) }
         ensures left { self.new.feed.left ≡ self.old.feed.left }
     {
         match line_feed_in(self.feed.pending()) {

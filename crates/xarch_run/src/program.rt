@@ -1,13 +1,18 @@
 ghost use Rattle.std.specs.Prelude.{◌≡◌, ◌≢◌, ◌≤◌, ◌<◌, ◌↔◌, ◌⊎◌, IsTrue, ℕ, List, length, Some, None};
 ghost use Rattle.xa_outside.specs.Causes.{Rose};
 ghost use Rattle.xa_outside.specs.Folder.{Files};
-ghost use Rattle.xarch_words.specs.Commands.{batch, command_of, demo};
+ghost use Rattle.xa_outside.specs.Taken.{TakesNone};
+ghost use Rattle.xarch_words.specs.Commands.{PlainCommand, batch, command_of, demo};
 ghost use Rattle.xarch_words.specs.View.{words_view};
+ghost use Rattle.xarch_steps.specs.Ends.{Gained};
+ghost use Rattle.xarch_steps.specs.Folders.{IsTold};
 ghost use Rattle.xarch_steps.specs.Outcome.{Step};
 ghost use Rattle.xarch_steps.specs.Plausible.{Tried, Wrote};
-ghost use Rattle.xarch_steps.specs.Ran.{OnlyReads, PullsAsSaid, Said, outside_of};
+ghost use Rattle.xarch_steps.specs.Ran.{CountsAsSaid, OnlyReads, Said, outside_of};
 ghost use Rattle.xarch_steps.specs.Step.{StepIs};
-ghost use Rattle.xarch_run.specs.Batch.{BatchEnds, IsAnswer, ReadsAsSaid, scene};
+ghost use Rattle.xarch_steps.specs.Succeeds.{ShouldSucceed};
+ghost use Rattle.xarch_run.specs.Batch.{BatchEnds, IsAnswer, ReadsAsSaid, shown};
+ghost use Rattle.xarch_run.specs.Calls.{DidCommands, call_of};
 
 use crate::batch::run_batch;
 use std::alloc::Global;
@@ -17,9 +22,10 @@ use xarch_words::{Command, read_words};
 
 /// Does what the words of a command line say, and answers the status.
 ///
-/// The words are those after the program's name. A batch takes its commands from the lines of `input`, which no other
-/// command reads. Every fault writes one line to `err`; a failure of `err` changes no status. Input files are read whole,
-/// each directly before the first step that judges its bytes.
+/// The words are those after the program's name. A batch takes its commands from the lines of
+/// `input`, which no other command reads. Every fault writes one line to `err`; a failure of `err`
+/// changes no status. Input files are read whole, each directly before the first step that judges
+/// its bytes.
 pub fn run<F: Folder, S: Source, O: Sink, E: Sink>(
     alloc: Global,
     words: &[String],
@@ -28,54 +34,98 @@ pub fn run<F: Folder, S: Source, O: Sink, E: Sink>(
     out: &mut O,
     err: &mut E,
 ) -> u8
-    // What a batch does where files and input are told: its lines are run in order, each as a command of its own, up to
-    // the end that the answer names.
-    ensures batch { (before now : Files) (bytes : List ℕ) → command_of (words_view words.now) ≡ Some batch
-        → F.files folder.old ≡ Some before → F.files folder.new ≡ Some now → S.rest input.old ≡ Some bytes
-        → BatchEnds (scene before now (O.taken out.old) (O.taken out.new) (E.taken err.old) (E.taken err.new) (E.faults err.old) (E.faults err.new)) bytes (S.rest input.new) result }
+    // What a batch does where the input is told: its lines are run in order, each as a command of
+    // its own, up to the end that the answer names. Where files are told, each is run from the
+    // files that the one before left.
+    ensures batch { (bytes : List ℕ) → command_of (words_view words.now) ≡ Some batch
+        → S.rest input.old ≡ Some bytes
+        → BatchEnds (shown F.files O.taken E.taken E.faults folder.old folder.new
+        out.old out.new err.old err.new) bytes (S.rest input.new) result }
 
-    // What should succeed in a batch does, whatever the folder tells.
-    ensures batch_complete { (bytes : List ℕ) → command_of (words_view words.now) ≡ Some batch → S.rest input.old ≡ Some bytes → length bytes ≤ 1073741824
-        → ¬ Rose (F.faults folder.old) (F.faults folder.new) → ¬ Rose (S.faults input.old) (S.faults input.new) → ¬ Rose (O.faults out.old) (O.faults out.new)
-        → (result ≡ 0) ⊎ (result ≡ 16) }
+    // What any call does where files are told, before and now: some commands, in order, each from
+    // the files that the one before left. What they come to is said by
+    // `archives_hold_what_was_handed_in`.
+    ensures did { (before now : Files) (bytes : List ℕ)
+        → F.files folder.old ≡ Some before → F.files folder.new ≡ Some now
+        → (command_of (words_view words.now) ≡ Some batch → S.rest input.old ≡ Some bytes)
+        → DidCommands before (call_of (words_view words.now) bytes result) now }
+
+    // What should succeed in a batch does.
+    ensures batch_complete { (bytes : List ℕ) → command_of (words_view words.now) ≡ Some batch
+        → S.rest input.old ≡ Some bytes → length bytes ≤ 1073741824
+        → ¬ Rose (F.faults folder.old) (F.faults folder.new)
+        → ¬ Rose (S.faults input.old) (S.faults input.new)
+        → ¬ Rose (O.faults out.old) (O.faults out.new) → (result ≡ 0) ⊎ (result ≡ 16) }
     ensures batch_answer { command_of (words_view words.now) ≡ Some batch
-        → IsAnswer (F.faults folder.old) (F.faults folder.new) (S.faults input.old) (S.faults input.new) (O.faults out.old) (O.faults out.new) result }
-    ensures batch_reads { (bytes : List ℕ) → command_of (words_view words.now) ≡ Some batch → S.rest input.old ≡ Some bytes
-        → ReadsAsSaid bytes (S.rest input.new) result }
+        → IsAnswer (F.faults folder.old) (F.faults folder.new) (S.faults input.old)
+        (S.faults input.new) (O.faults out.old) (O.faults out.new) result }
+    ensures batch_reads { (bytes : List ℕ) → command_of (words_view words.now) ≡ Some batch
+        → S.rest input.old ≡ Some bytes → ReadsAsSaid bytes (S.rest input.new) result }
 
-    // What any other command does where files are told: one of the steps that the words may have the program take, and the
-    // one that is defined where the archive that they name is absent or sound. Status, files, output and line are that
-    // step's, but after a fault of the outside, which leaves a prefix of its output.
-    ensures tried { (files : Files) → command_of (words_view words.now) ≢ Some batch → F.files folder.old ≡ Some files → outside_of result ≡ None
-        → Tried files (words_view words.now) result (F.files folder.new) (O.taken out.old) (O.taken out.new) (E.taken err.old) (E.taken err.new) (E.faults err.old) (E.faults err.new) }
-    ensures wrote { (files : Files) → command_of (words_view words.now) ≢ Some batch → F.files folder.old ≡ Some files
+    // What any other command does where files are told: one of the steps that the words may have
+    // the program take, and the one that is defined where the archive that they name is absent or
+    // sound. Status, files, output and line are that step's, but after a fault of the outside,
+    // which leaves a prefix of its output.
+    ensures tried { (files : Files) → command_of (words_view words.now) ≢ Some batch
+        → F.files folder.old ≡ Some files → outside_of result ≡ None
+        → Tried files (words_view words.now) result (F.files folder.new)
+        (O.taken out.old) (O.taken out.new) (E.taken err.old) (E.taken err.new)
+        (E.faults err.old) (E.faults err.new) }
+    ensures wrote { (files : Files) → command_of (words_view words.now) ≢ Some batch
+        → F.files folder.old ≡ Some files
         → Wrote files (words_view words.now) (O.taken out.old) (O.taken out.new) }
 
-    // What should succeed does.
-    ensures complete { (files : Files) (s : Step) → command_of (words_view words.now) ≢ Some batch → F.files folder.old ≡ Some files → StepIs files (words_view words.now) s → s.status ≡ 0
-        → ¬ Rose (F.faults folder.old) (F.faults folder.new) → ¬ Rose (O.faults out.old) (O.faults out.new) → (result ≡ 0) ⊎ (result ≡ 16) }
+    // What should succeed does: in plain conditions on the files, and wherever a step is defined.
+    ensures succeeds { (files : Files) (command : PlainCommand)
+        → command_of (words_view words.now) ≢ Some batch → F.files folder.old ≡ Some files
+        → command_of (words_view words.now) ≡ Some command → ShouldSucceed files command
+        → ¬ Rose (F.faults folder.old) (F.faults folder.new)
+        → ¬ Rose (O.faults out.old) (O.faults out.new) → (result ≡ 0) ⊎ (result ≡ 16) }
+    ensures complete { (files : Files) (s : Step) → command_of (words_view words.now) ≢ Some batch
+        → F.files folder.old ≡ Some files → StepIs files (words_view words.now) s → s.status ≡ 0
+        → ¬ Rose (F.faults folder.old) (F.faults folder.new)
+        → ¬ Rose (O.faults out.old) (O.faults out.new) → (result ≡ 0) ⊎ (result ≡ 16) }
 
-    // Whatever the folder tells, the answer is 0 or the status of a fault, whose line is said.
-    ensures said { command_of (words_view words.now) ≢ Some batch → Said result (E.taken err.old) (E.taken err.new) (E.faults err.old) (E.faults err.new) }
+    // Whatever the folder tells, the answer is 0 or the status of a fault, whose line is said; the
+    // output only gains, and nothing after a refusal.
+    ensures said { command_of (words_view words.now) ≢ Some batch
+        → Said result (E.taken err.old) (E.taken err.new) (E.faults err.old) (E.faults err.new) }
+    ensures gained { command_of (words_view words.now) ≢ Some batch
+        → Gained (O.taken out.old) (O.taken out.new) }
+    ensures nothing { command_of (words_view words.now) ≢ Some batch → result ≢ 0
+        → outside_of result ≡ None → TakesNone (O.taken out.old) (O.taken out.new) }
 
     // When a fault comes, whatever the folder tells.
     ensures usage { (result ≡ 2) ↔ (command_of (words_view words.now) ≡ None) }
-    ensures long_demo { (seed count : ℕ) (name : List ℕ) → command_of (words_view words.now) ≡ Some (demo seed count name) → 1000 < count → result ≡ 12 }
+    ensures long_demo { (seed count : ℕ) (name : List ℕ)
+        → command_of (words_view words.now) ≡ Some (demo seed count name) → 1000 < count
+        → result ≡ 12 }
     ensures folder_fault { result ≡ 13 → Rose (F.faults folder.old) (F.faults folder.new) }
     ensures out_fault { result ≡ 14 → Rose (O.faults out.old) (O.faults out.new) }
-    ensures input_fault { result ≡ 15 → (command_of (words_view words.now) ≡ Some batch) × Rose (S.faults input.old) (S.faults input.new) }
+    ensures input_fault { result ≡ 15
+        → (command_of (words_view words.now) ≡ Some batch)
+        × Rose (S.faults input.old) (S.faults input.new) }
 
-    // What stays: the input but in a batch, all files after a fault of a single command, and files and draft where the
-    // command only reads.
-    ensures input { command_of (words_view words.now) ≢ Some batch → S.rest input.new ≡ S.rest input.old }
-    ensures refused { command_of (words_view words.now) ≢ Some batch → result ≢ 0 → F.files folder.new ≡ F.files folder.old }
-    ensures files { OnlyReads (command_of (words_view words.now)) → F.files folder.new ≡ F.files folder.old }
-    ensures draft { OnlyReads (command_of (words_view words.now)) → F.draft folder.new ≡ F.draft folder.old }
+    // What stays: the input but in a batch, all files after a fault of a single command, and files
+    // and draft where the command only reads.
+    ensures input { command_of (words_view words.now) ≢ Some batch
+        → S.rest input.new ≡ S.rest input.old }
+    ensures refused { command_of (words_view words.now) ≢ Some batch → result ≢ 0
+        → F.files folder.new ≡ F.files folder.old }
+    ensures files { OnlyReads (command_of (words_view words.now))
+        → F.files folder.new ≡ F.files folder.old }
+    ensures draft { OnlyReads (command_of (words_view words.now))
+        → F.draft folder.new ≡ F.draft folder.old }
+
+    // Files and draft that are told stay told, and what is not told stays untold.
+    ensures told { IsTold (F.files folder.old) (F.draft folder.old)
+        → IsTold (F.files folder.new) (F.draft folder.new) }
     ensures untold { F.files folder.old ≡ None → F.files folder.new ≡ None }
     ensures draft_untold { F.draft folder.old ≡ None → F.draft folder.new ≡ None }
 
-    // What is pulled, and that no count of faults falls.
-    ensures numbers { PullsAsSaid (command_of (words_view words.now)) (F.numbers folder.old) (F.numbers folder.new) }
+    // What is pulled and drafted, and that no count of faults falls.
+    ensures counts { CountsAsSaid (command_of (words_view words.now)) (F.files folder.old)
+        (F.numbers folder.old) (F.numbers folder.new) }
     ensures folder_later { F.faults folder.old ≤ F.faults folder.new }
     ensures input_later { S.faults input.old ≤ S.faults input.new }
     ensures out_later { O.faults out.old ≤ O.faults out.new }

@@ -13,7 +13,8 @@ use xarch_words::{Fault, status, write_fault};
 /// Writes the line of a fault, and answers its status.
 pub(crate) fn say<E: Sink>(fault: &Fault, err: &mut E) -> u8
     ensures status { result ≡ fault_status (fault_view fault.now) }
-    ensures line { Says (E.taken err.old) (E.taken err.new) (E.faults err.old) (E.faults err.new) (fault_line (fault_view fault.now)) }
+    ensures line { Says (E.taken err.old) (E.taken err.new) (E.faults err.old) (E.faults err.new)
+        (fault_line (fault_view fault.now)) }
     ensures later { E.faults err.old ≤ E.faults err.new }
 {
     let _ = write_fault(fault, err);

@@ -1,8 +1,8 @@
-ghost use Rattle.std.specs.Prelude.{◌≡◌, ◌≢◌, ◌≤◌, ℕ, List, IfOk, IfErr, OnErr, None, Some};
+ghost use Rattle.std.specs.Prelude.{◌≡◌, ◌≢◌, ◌≤◌, ℕ, List, IfOk, IfErr, OnErr};
 ghost use Rattle.xa_outside.specs.Causes.{Rose};
-ghost use Rattle.xa_outside.specs.Folder.{Files};
-ghost use Rattle.xarch_run.specs.Batch.{scene};
+ghost use Rattle.xarch_run.specs.Batch.{shown};
 ghost use Rattle.xarch_run.specs.Shown.{Shows};
+ghost use Rattle.xarch_run.specs.Stays.{Stays};
 ghost use Rattle.xarch_run.specs.Turns.{IsLastStatus, IsUntouched, LineRuns, LineTakes, StatusEnds};
 
 use crate::line::{LINE_LIMIT, Line};
@@ -11,16 +11,10 @@ use crate::words::read_line_words;
 use std::alloc::{AllocError, Global};
 use xa_outside::{Folder, Sink};
 use xarch_steps::take_step;
-use xarch_words::{Fault, Quantity};
+use xarch_words::{Fault, Quantity, status};
 
-/// The statuses after which a batch does not go on.
-const FOLDER_FAULT: u8 = 13;
-
-const OUT_FAULT: u8 = 14;
-
-const MEMORY: u8 = 16;
-
-/// Runs one line, unless it is blank, and writes its status line. An error is the status with which it ends the batch.
+/// Runs one line, unless it is blank, and writes its status line. An error is the status with which
+/// it ends the batch.
 pub(crate) fn run_line<F: Folder, O: Sink, E: Sink>(
     alloc: Global,
     line: &Line,
@@ -28,12 +22,12 @@ pub(crate) fn run_line<F: Folder, O: Sink, E: Sink>(
     out: &mut O,
     err: &mut E,
 ) -> Result<(), u8>
-    ensures runs { (bytes : List ℕ) (before now : Files) → Shows line.now bytes → F.files folder.old ≡ Some before → F.files folder.new ≡ Some now
-        → LineRuns (scene before now (O.taken out.old) (O.taken out.new) (E.taken err.old) (E.taken err.new) (E.faults err.old) (E.faults err.new)) bytes result }
-    ensures status { IfErr result (IsLastStatus (F.faults folder.old) (F.faults folder.new) (O.faults out.old) (O.faults out.new)) }
-    ensures untold { F.files folder.old ≡ None → F.files folder.new ≡ None }
-    ensures draft_untold { F.draft folder.old ≡ None → F.draft folder.new ≡ None }
-    ensures folder_later { F.faults folder.old ≤ F.faults folder.new }
+    ensures runs { (bytes : List ℕ) → Shows line.now bytes
+        → LineRuns (shown F.files O.taken E.taken E.faults folder.old folder.new
+        out.old out.new err.old err.new) bytes result }
+    ensures status { IfErr result (IsLastStatus (F.faults folder.old) (F.faults folder.new)
+        (O.faults out.old) (O.faults out.new)) }
+    ensures folder { Stays F.files F.draft F.faults folder.old folder.new }
     ensures out_later { O.faults out.old ≤ O.faults out.new }
     ensures err_later { E.faults err.old ≤ E.faults err.new }
 {
@@ -46,7 +40,8 @@ pub(crate) fn run_line<F: Folder, O: Sink, E: Sink>(
     }
 }
 
-/// Has the words of a line done, and answers their status. On want of memory for the words nothing is done.
+/// Has the words of a line done, and answers their status. On want of memory for the words nothing
+/// is done.
 fn take_line<F: Folder, O: Sink, E: Sink>(
     alloc: Global,
     line: &Line,
@@ -54,15 +49,19 @@ fn take_line<F: Folder, O: Sink, E: Sink>(
     out: &mut O,
     err: &mut E,
 ) -> Result<u8, AllocError>
-    ensures takes { (bytes : List ℕ) (files : Files) → Shows line.now bytes → F.files folder.old ≡ Some files
-        → IfOk result (λ status. LineTakes files bytes status (F.files folder.new) (O.taken out.old) (O.taken out.new) (E.taken err.old) (E.taken err.new) (E.faults err.old) (E.faults err.new)) }
-    ensures no_words { OnErr result (IsUntouched (F.files folder.old) (F.files folder.new) (O.taken out.old) (O.taken out.new) (E.taken err.old) (E.taken err.new) (E.faults err.old) (E.faults err.new)) }
-    ensures folder_fault { IfOk result (λ status. status ≡ 13 → Rose (F.faults folder.old) (F.faults folder.new)) }
-    ensures out_fault { IfOk result (λ status. status ≡ 14 → Rose (O.faults out.old) (O.faults out.new)) }
+    ensures takes { (bytes : List ℕ) → Shows line.now bytes
+        → IfOk result (λ status. LineTakes (F.files folder.old) (F.files folder.new) bytes status
+        (O.taken out.old) (O.taken out.new) (E.taken err.old) (E.taken err.new)
+        (E.faults err.old) (E.faults err.new)) }
+    ensures no_words { OnErr result (IsUntouched (F.files folder.old) (F.files folder.new)
+        (O.taken out.old) (O.taken out.new) (E.taken err.old) (E.taken err.new)
+        (E.faults err.old) (E.faults err.new)) }
+    ensures folder_fault { IfOk result (λ status. status ≡ 13
+        → Rose (F.faults folder.old) (F.faults folder.new)) }
+    ensures out_fault { IfOk result (λ status. status ≡ 14
+        → Rose (O.faults out.old) (O.faults out.new)) }
     ensures never_input_fault { IfOk result (λ status. status ≢ 15) }
-    ensures untold { F.files folder.old ≡ None → F.files folder.new ≡ None }
-    ensures draft_untold { F.draft folder.old ≡ None → F.draft folder.new ≡ None }
-    ensures folder_later { F.faults folder.old ≤ F.faults folder.new }
+    ensures folder { Stays F.files F.draft F.faults folder.old folder.new }
     ensures out_later { O.faults out.old ≤ O.faults out.new }
     ensures err_later { E.faults err.old ≤ E.faults err.new }
 {
@@ -81,21 +80,24 @@ fn take_line<F: Folder, O: Sink, E: Sink>(
     }
 }
 
-/// Writes the status line, unless a write of the command failed. An error is the status with which the batch ends.
-fn end_line<O: Sink, E: Sink>(status: u8, out: &mut O, err: &mut E) -> Result<(), u8>
-    requires { status ≢ 15 }
-    ensures ends { StatusEnds status (O.taken out.old) (O.taken out.new) (E.taken err.old) (E.taken err.new) (E.faults err.old) (E.faults err.new) (O.faults out.old) (O.faults out.new) result }
+/// Writes the status line, unless a write of the command failed. An error is the status with which
+/// the batch ends.
+fn end_line<O: Sink, E: Sink>(answer: u8, out: &mut O, err: &mut E) -> Result<(), u8>
+    requires { answer ≢ 15 }
+    ensures ends { StatusEnds answer (O.taken out.old) (O.taken out.new) (E.taken err.old)
+        (E.taken err.new) (E.faults err.old) (E.faults err.new) (O.faults out.old)
+        (O.faults out.new) result }
     ensures out_later { O.faults out.old ≤ O.faults out.new }
     ensures err_later { E.faults err.old ≤ E.faults err.new }
 {
-    if status == OUT_FAULT {
-        return Err(status);
+    if answer == status(&Fault::OutFault) {
+        return Err(answer);
     }
-    if put_status(out, status).is_err() {
+    if put_status(out, answer).is_err() {
         return Err(say(&Fault::OutFault, err));
     }
-    if status == FOLDER_FAULT || status == MEMORY {
-        return Err(status);
+    if answer == status(&Fault::FolderFault) || answer == status(&Fault::Memory) {
+        return Err(answer);
     }
     Ok(())
 }

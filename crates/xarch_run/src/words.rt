@@ -35,7 +35,8 @@ fn json_value(alloc: Global, bytes: &[u8]) -> Result<Option<Value>, AllocError>
 
 /// The texts of values that are all strings. They are moved out of the values, and not copied.
 fn texts(alloc: Global, values: Vec<Value>) -> Result<Option<Vec<String>>, AllocError>
-    ensures { IfOk result (λ o. option_map (λ v. words_view v.items) o ≡ texts_of (items_view values.items)) }
+    ensures { IfOk result (λ o. option_map (λ v. words_view v.items) o
+        ≡ texts_of (items_view values.items)) }
 {
     let mut texts = Vec::with_capacity(alloc, values.len())?;
     for value in values {

@@ -1,25 +1,42 @@
-use Rattle.xarch_run.proofs.BatchFronts.{batch-steps}
-use Rattle.xarch_run.proofs.HandedLemmas.{exact, lines-absent, lines-from-beginning, lines-hold, lines-refused, line-begins}
+use Rattle.xarch_run.proofs.CallLemmas.{calls-did, line-may}
+use Rattle.xarch_run.proofs.HeldLemmas.{accepted, all-absent, all-hold, all-refused, counting, exact, getting, handed-holds, satisfying, step-begins, telling}
 use Rattle.xarch_run.proofs.laws.archives_hold_what_was_handed_in.Goals as goal
 
 pub returns-clause-headline : goal.returns-clause-headline
-returns-clause-headline c = λ files name rules vs first rest s steps are zero begins.
-    exact c.versions_have_one_file.ensures.one_file _ name rules _ (lines-from-beginning files name rules vs first rest s steps are zero begins)
+returns-clause-headline c = λ files commands steps name held did handed. exact c.versions_have_one_file.ensures.one_file _ name held (handed-holds files name commands steps held did handed)
 
 pub returns-clause-made : goal.returns-clause-made
-returns-clause-made c = line-begins
+returns-clause-made c = step-begins
 
 pub returns-clause-kept : goal.returns-clause-kept
-returns-clause-kept c = lines-hold
+returns-clause-kept c = all-hold
 
 pub returns-clause-exactly : goal.returns-clause-exactly
 returns-clause-exactly c = exact c.versions_have_one_file.ensures.one_file
 
 pub returns-clause-absent : goal.returns-clause-absent
-returns-clause-absent c = lines-absent
+returns-clause-absent c = all-absent
 
 pub returns-clause-refused : goal.returns-clause-refused
-returns-clause-refused c = lines-refused
+returns-clause-refused c = all-refused
 
-pub returns-clause-batch : goal.returns-clause-batch
-returns-clause-batch c = batch-steps
+pub returns-clause-satisfied : goal.returns-clause-satisfied
+returns-clause-satisfied c = λ files name doc held s tree bytes holds may is file. satisfying files name held s holds doc tree bytes may is file
+
+pub returns-clause-accepted : goal.returns-clause-accepted
+returns-clause-accepted c = λ files name doc held s holds may zero. accepted files name held s holds doc may zero
+
+pub returns-clause-gets : goal.returns-clause-gets
+returns-clause-gets c = λ files name held s i holds may. getting files name held s holds i may
+
+pub returns-clause-tells : goal.returns-clause-tells
+returns-clause-tells c = λ files name held s path holds may. telling files name held s holds path may
+
+pub returns-clause-counts : goal.returns-clause-counts
+returns-clause-counts c = λ files name held s holds may. counting files name held s holds may
+
+pub returns-clause-calls : goal.returns-clause-calls
+returns-clause-calls c = λ files now calls commands steps did. calls-did files calls now commands steps did
+
+pub returns-clause-line : goal.returns-clause-line
+returns-clause-line c = line-may

@@ -1,8 +1,12 @@
-use Rattle.std.proofs.Common.{ap, arith}
+use Rattle.std.proofs.Common.{ap, ◌∙◌, arith}
 use Rattle.xarch_words.specs.Commands.{command_of}
 use Rattle.xarch_words.specs.View.{words_view}
 use Rattle.xarch_steps.specs.Step.{alone}
-use Rattle.xarch_run.proofs.CommandLemmas.{alone-pulls, alone-reads, batch-demo, batch-none, none-alone, answer-calm, answer-folder, answer-input, answer-out, answer-words, batch-pulls, batch-reads, fails, holds}
+use Rattle.xarch_run.specs.Batch.{scene}
+use Rattle.xarch_run.specs.Calls.{call_of}
+use Rattle.xarch_run.proofs.BatchFronts.{batch-did}
+use Rattle.xarch_run.proofs.CallLemmas.{single-did}
+use Rattle.xarch_run.proofs.CommandLemmas.{alone-counts, alone-reads, batch-demo, batch-none, none-alone, answer-calm, answer-folder, answer-input, answer-out, answer-words, batch-counts, batch-reads, fails, holds}
 use Rattle.xarch_run.proofs.program.run.Goals as goal
 
 -- ---- a batch
@@ -20,6 +24,9 @@ returns-then-is_batch-clause-wrote g c = λ files other. absurd (other (holds _ 
 
 pub returns-then-is_batch-clause-complete : goal.returns-then-is_batch-clause-complete
 returns-then-is_batch-clause-complete g c = λ files s other. absurd (other (holds _ _ c.if-is_batch.true c.is_batch.ensures))
+
+pub returns-then-is_batch-clause-succeeds : goal.returns-then-is_batch-clause-succeeds
+returns-then-is_batch-clause-succeeds g c = λ files command other. absurd (other (holds _ _ c.if-is_batch.true c.is_batch.ensures))
 
 pub returns-then-is_batch-clause-said : goal.returns-then-is_batch-clause-said
 returns-then-is_batch-clause-said g c = λ other. absurd (other (holds _ _ c.if-is_batch.true c.is_batch.ensures))
@@ -50,8 +57,26 @@ returns-then-is_batch-clause-files g c = λ reads. absurd (batch-reads _ (holds 
 pub returns-then-is_batch-clause-draft : goal.returns-then-is_batch-clause-draft
 returns-then-is_batch-clause-draft g c = λ reads. absurd (batch-reads _ (holds _ _ c.if-is_batch.true c.is_batch.ensures) reads)
 
-pub returns-then-is_batch-clause-numbers : goal.returns-then-is_batch-clause-numbers
-returns-then-is_batch-clause-numbers g c = batch-pulls _ _ _ (holds _ _ c.if-is_batch.true c.is_batch.ensures)
+pub returns-then-is_batch-clause-counts : goal.returns-then-is_batch-clause-counts
+returns-then-is_batch-clause-counts g c = batch-counts _ _ _ _ (holds _ _ c.if-is_batch.true c.is_batch.ensures)
+
+pub returns-then-is_batch-clause-gained : goal.returns-then-is_batch-clause-gained
+returns-then-is_batch-clause-gained g c = λ other. absurd (other (holds _ _ c.if-is_batch.true c.is_batch.ensures))
+
+pub returns-then-is_batch-clause-nothing : goal.returns-then-is_batch-clause-nothing
+returns-then-is_batch-clause-nothing g c = λ other. absurd (other (holds _ _ c.if-is_batch.true c.is_batch.ensures))
+
+pub returns-then-is_batch-clause-told : goal.returns-then-is_batch-clause-told
+returns-then-is_batch-clause-told g c = c.run_batch.ensures.folder.told
+
+pub returns-then-is_batch-clause-untold : goal.returns-then-is_batch-clause-untold
+returns-then-is_batch-clause-untold g c = c.run_batch.ensures.folder.untold
+
+pub returns-then-is_batch-clause-draft_untold : goal.returns-then-is_batch-clause-draft_untold
+returns-then-is_batch-clause-draft_untold g c = c.run_batch.ensures.folder.draft_untold
+
+pub returns-then-is_batch-clause-folder_later : goal.returns-then-is_batch-clause-folder_later
+returns-then-is_batch-clause-folder_later g c = c.run_batch.ensures.folder.later
 
 pub returns-then-is_batch-clause-long_demo : goal.returns-then-is_batch-clause-long_demo
 returns-then-is_batch-clause-long_demo g c = λ seed count name is. absurd (batch-demo _ seed count name (holds _ _ c.if-is_batch.true c.is_batch.ensures) is)
@@ -62,7 +87,7 @@ pub returns-else-is_batch-clause-long_demo : goal.returns-else-is_batch-clause-l
 returns-else-is_batch-clause-long_demo g c = c.take_step.ensures.long_demo
 
 pub returns-else-is_batch-clause-batch : goal.returns-else-is_batch-clause-batch
-returns-else-is_batch-clause-batch g c = λ before now bytes is. absurd (fails _ _ c.if-is_batch.false c.is_batch.ensures is)
+returns-else-is_batch-clause-batch g c = λ bytes is. absurd (fails _ _ c.if-is_batch.false c.is_batch.ensures is)
 
 pub returns-else-is_batch-clause-batch_complete : goal.returns-else-is_batch-clause-batch_complete
 returns-else-is_batch-clause-batch_complete g c = λ bytes is. absurd (fails _ _ c.if-is_batch.false c.is_batch.ensures is)
@@ -82,14 +107,24 @@ returns-else-is_batch-clause-files g c = λ reads. c.take_step.ensures.files (al
 pub returns-else-is_batch-clause-draft : goal.returns-else-is_batch-clause-draft
 returns-else-is_batch-clause-draft g c = λ reads. c.take_step.ensures.draft (alone-reads (command_of (words_view c.args.words.now)) reads)
 
-pub returns-else-is_batch-clause-numbers : goal.returns-else-is_batch-clause-numbers
-returns-else-is_batch-clause-numbers g c = alone-pulls (command_of (words_view c.args.words.now)) _ _ c.take_step.ensures.numbers
+pub returns-else-is_batch-clause-counts : goal.returns-else-is_batch-clause-counts
+returns-else-is_batch-clause-counts g c = alone-counts (command_of (words_view c.args.words.now)) _ _ _ c.take_step.ensures.counts
 
 pub returns-then-is_batch-clause-batch : goal.returns-then-is_batch-clause-batch
-returns-then-is_batch-clause-batch g c = λ before now bytes _ told after input. c.run_batch.ensures.ends before now bytes told after input
+returns-then-is_batch-clause-batch g c = λ bytes _ input. c.run_batch.ensures.ends bytes input
+
+pub returns-then-is_batch-clause-did : goal.returns-then-is_batch-clause-did
+returns-then-is_batch-clause-did g c = λ before now bytes told after input.
+    let many = holds _ _ c.if-is_batch.true c.is_batch.ensures in
+    batch-did (scene _ _ _ _ _ _ _ _) before now (call_of (words_view c.args.words.now) bytes c.run_batch.result) _ told after many (c.run_batch.ensures.ends bytes (input many))
 
 pub returns-then-is_batch-clause-batch_reads : goal.returns-then-is_batch-clause-batch_reads
 returns-then-is_batch-clause-batch_reads g c = λ bytes _ input. c.run_batch.ensures.read bytes input
+
+pub returns-else-is_batch-clause-did : goal.returns-else-is_batch-clause-did
+returns-else-is_batch-clause-did g c = λ before now bytes told after _.
+    single-did before now (call_of (words_view c.args.words.now) bytes c.take_step.result) _ _ _ _ _ _ _ after (fails _ _ c.if-is_batch.false c.is_batch.ensures)
+    (c.take_step.ensures.tried before told) (λ other. c.take_step.ensures.refused other ∙ told)
 
 pub returns-else-is_batch-clause-tried : goal.returns-else-is_batch-clause-tried
 returns-else-is_batch-clause-tried g c = λ files _ told plain. c.take_step.ensures.tried files told plain
@@ -100,5 +135,14 @@ returns-else-is_batch-clause-wrote g c = λ files _ told. c.take_step.ensures.wr
 pub returns-else-is_batch-clause-complete : goal.returns-else-is_batch-clause-complete
 returns-else-is_batch-clause-complete g c = λ files s _ told is zero folder out. c.take_step.ensures.complete files s told is zero folder out
 
+pub returns-else-is_batch-clause-succeeds : goal.returns-else-is_batch-clause-succeeds
+returns-else-is_batch-clause-succeeds g c = λ files command _ told is should folder out. c.take_step.ensures.succeeds files command told is should folder out
+
 pub returns-else-is_batch-clause-said : goal.returns-else-is_batch-clause-said
 returns-else-is_batch-clause-said g c = λ _. c.take_step.ensures.said
+
+pub returns-else-is_batch-clause-gained : goal.returns-else-is_batch-clause-gained
+returns-else-is_batch-clause-gained g c = λ _. c.take_step.ensures.gained
+
+pub returns-else-is_batch-clause-nothing : goal.returns-else-is_batch-clause-nothing
+returns-else-is_batch-clause-nothing g c = λ _. c.take_step.ensures.nothing

@@ -1,0 +1,163 @@
+-- A command changes at most the file that it names.
+use Rattle.std.proofs.Common.{◌≡◌, inl, inr, ℕ, Bool, true, false, cond, List, [], ◌∷◌, ◌++◌, length, Some, None, Result, Ok, Err, refl, sym, ap, ◌∙◌}
+use Rattle.std.specs.FinMap as finite
+use Rattle.std.specs.Option.{option_map_or}
+use Rattle.std.specs.Str.{bytes_eq}
+use Rattle.std.proofs.lemmas.Cmp.{nat_list_cmp_total}
+use Rattle.std.proofs.lemmas.Map.Text.{is_eq-slice_cmp}
+use Rattle.std.proofs.lemmas.Slice.Eq.{bytes_eq-Decides}
+use Rattle.xa_outside.specs.Folder.{Files}
+use Rattle.key_spec.specs.Data.{PlainRule}
+use Rattle.keyed_tree.specs.Data.{PlainKeyed}
+use Rattle.xarch_gen.specs.Company.{company_rules}
+use Rattle.xarch_words.specs.Commands.{PlainCommand, norm, init, add, get, history, stats, batch, demo}
+use Rattle.xarch_words.specs.Refusal.{document, specification, Refusal, usage, no_file, exists, damaged, limit}
+use Rattle.xarch_words.specs.Refusal as refusal
+use Rattle.xarch_steps.specs.Archives.{ArchiveIs, GoesOn, Stores, free_in}
+use Rattle.xarch_steps.specs.Demo.{MakesOrNone, demo_input, samples}
+use Rattle.xarch_steps.specs.Init.{init_rules}
+use Rattle.xarch_steps.specs.Inputs.{file_of, length_in, read_in}
+use Rattle.xarch_steps.specs.Norm.{norm_of}
+use Rattle.xarch_steps.specs.Outcome.{Outcome, and_then, or_refuse}
+use Rattle.xarch_steps.specs.Plausible.{MayAdd, MayBe, MayWrite, add_input, get_input, history_input}
+use Rattle.xarch_steps.specs.Ran.{made_name}
+use Rattle.xarch_steps.specs.Readings.{document_of, keyed_of, rules_of}
+
+-- ---- files by name
+
+-- a new file is there
+pub new-there : (files : Files) (name bytes : List ℕ) → finite.get (finite.insert files name bytes) name ≡ Some bytes
+new-there files name bytes =
+    finite.get-insert nat_list_cmp_total files name bytes name ∙ ap (λ b. cond b (Some bytes) (finite.get files name)) (is_eq-slice_cmp name name ∙ (bytes_eq-Decides name name).1 refl)
+
+-- and every other name is as it was
+elsewhere : (files : Files) (other name bytes : List ℕ) → bytes_eq name other ≡ false → finite.get (finite.insert files other bytes) name ≡ finite.get files name
+elsewhere files other name bytes e =
+    finite.get-insert nat_list_cmp_total files other bytes name ∙ ap (λ b. cond b (Some bytes) (finite.get files name)) (is_eq-slice_cmp name other ∙ e)
+
+pub same-name : (xs ys : List ℕ) → bytes_eq xs ys ≡ true → xs ≡ ys
+same-name xs ys e = (bytes_eq-Decides xs ys).0 e
+
+-- ---- outcomes
+
+given : (o p : Outcome) (r : Result Outcome Refusal) → r ≡ Ok o → r ≡ Ok p → o ≡ p
+given o p r e f = cc
+
+pub never : {X : Type 0} (o : Outcome) (q : Refusal) (r : Result Outcome Refusal) → r ≡ Ok o → r ≡ Err q → X
+never o q r e f = absurd cc
+
+-- a chain that goes on has every value
+pub goes : {X A : Type 0} (o : Outcome) (x : Result A Refusal) (P : A → Result Outcome Refusal → Type 0) (r : Result Outcome Refusal) → r ≡ Ok o → GoesOn x P r → ((a : A) → x ≡ Ok a → P a r → X) → X
+goes o (Ok a) P r e h f = f a refl h
+goes o (Err q) P r e h f = never o q r e h
+
+-- ---- a command changes at most the file that it names
+
+-- the command makes or adds to the archive of this name
+abbrev pub is_for : List ℕ → PlainCommand → Bool
+is_for name command = option_map_or (bytes_eq name) (made_name command) false
+
+kept-by : (files : Files) (o : Outcome) (r : Result Outcome Refusal) (out : List ℕ) → r ≡ Ok o → r ≡ Ok (record { files = files; output = out }) → o.files ≡ files
+kept-by files o r out e f = ap (λ (p : Outcome). p.files) (given o (record { files = files; output = out }) r e f)
+
+chain-keeps : {A : Type 0} (files : Files) (o : Outcome) (x : Result A Refusal) (f : A → Result Outcome Refusal) → and_then x f ≡ Ok o → ((a : A) → f a ≡ Ok o → o.files ≡ files) → o.files ≡ files
+chain-keeps files o (Ok a) f e h = h a e
+chain-keeps files o (Err q) f e h = absurd cc
+
+norm-keeps : (files : Files) (spec doc : List ℕ) (o : Outcome) → norm_of files spec doc ≡ Ok o → o.files ≡ files
+norm-keeps files spec doc o e =
+    chain-keeps files o (length_in files spec specification 1048576) _ e (λ _ e1.
+    chain-keeps files o (length_in files doc document 67108864) _ e1 (λ _ e2.
+    chain-keeps files o (read_in files spec rules_of) _ e2 (λ rules e3.
+    chain-keeps files o (read_in files doc document_of) _ e3 (λ t e4.
+    chain-keeps files o (keyed_of rules t) _ e4 (λ k e5. kept-by files o (Ok o) _ refl (sym e5))))))
+
+module _ (files : Files) (name : List ℕ) (o : Outcome) where
+  abbrev Keeps : Type 0
+  Keeps = finite.get o.files name ≡ finite.get files name
+
+  same-files : o.files ≡ files → Keeps
+  same-files e = ap (λ (f : Files). finite.get f name) e
+
+  module _ (r : Result Outcome Refusal) (is : r ≡ Ok o) where
+    stored-elsewhere : (other bytes out : List ℕ) → bytes_eq name other ≡ false → r ≡ Ok (record { files = finite.insert files other bytes; output = out }) → Keeps
+    stored-elsewhere other bytes out e f = ap (λ (x : Files). finite.get x name) (kept-by (finite.insert files other bytes) o r out is f) ∙ elsewhere files other name bytes e
+
+    write-keeps : (other : List ℕ) → MayWrite files other r → Keeps
+    write-keeps other (inl q) = never o (damaged other) r is q
+    write-keeps other (inr w) = same-files (kept-by files o r w.output is w.is)
+
+    add-elsewhere : (other : List ℕ) → bytes_eq name other ≡ false → MayAdd files other r → Keeps
+    add-elsewhere other e (inl q) = never o (damaged other) r is q
+    add-elsewhere other e (inr (inl q)) = never o (limit refusal.archive 274877906944) r is q.is
+    add-elsewhere other e (inr (inr w)) = stored-elsewhere other w.bytes [] e w.is
+
+    stores-elsewhere : (other : List ℕ) (rules : List PlainRule) (vs : List PlainKeyed) → bytes_eq name other ≡ false → Stores files other rules vs r → Keeps
+    stores-elsewhere other rules vs e (inl s) = stored-elsewhere other s.bytes [] e s.is
+    stores-elsewhere other rules vs e (inr t) = never o (limit refusal.archive 274877906944) r is t.is
+
+    makes-elsewhere : (other : List ℕ) (seed count : ℕ) → bytes_eq name other ≡ false → MakesOrNone files other seed count r → Keeps
+    makes-elsewhere other seed count e (inl s) = stored-elsewhere other s.bytes _ e s.is
+    makes-elsewhere other seed count e (inr t) = never o (limit refusal.archive 274877906944) r is t.is
+
+    pub others-kept : (command : PlainCommand) → is_for name command ≡ false → MayBe files command r → Keeps
+    unfolding MayBe
+    others-kept (norm spec doc) e h = same-files (norm-keeps files spec doc o (sym h ∙ is))
+    others-kept (init other spec) e h = goes o (init_rules files other spec) (λ rules. Stores files other rules []) r is h (λ rules _ s. stores-elsewhere other rules [] e s)
+    others-kept (add other doc) e h = goes o (add_input files other doc) (λ _. MayAdd files other) r is h.whatever (λ _ _ m. add-elsewhere other e m)
+    others-kept (get other i) e h = goes o (get_input files other i) (λ _. MayWrite files other) r is h.whatever (λ _ _ m. write-keeps other m)
+    others-kept (history other path) e h = goes o (history_input files other path) (λ _. MayWrite files other) r is h.whatever (λ _ _ m. write-keeps other m)
+    others-kept (stats other) e h = goes o (file_of files other) (λ _. MayWrite files other) r is h.whatever (λ _ _ m. write-keeps other m)
+    others-kept batch e h = never o usage r is h
+    others-kept (demo seed count other) e h = goes o (demo_input files count other) (λ _. MakesOrNone files other seed count) r is h (λ _ _ m. makes-elsewhere other seed count e m)
+
+-- what begins with a file that is not there is refused
+pub absent : {A : Type 0} (files : Files) (name : List ℕ) (f : List ℕ → Result A Refusal) → finite.get files name ≡ None → and_then (file_of files name) f ≡ Err (no_file name)
+absent files name f e = ap (λ o. and_then (or_refuse o (no_file name)) f) e
+
+-- ---- a command on the archive of this name
+
+pub taken : (files : Files) (name bytes : List ℕ) → finite.get files name ≡ Some bytes → free_in files name ≡ Err (exists name)
+taken files name bytes e = rw e refl
+
+-- where the name is taken, neither goes on
+pub init-taken : {X : Type 0} (files : Files) (name spec bytes : List ℕ) (rules : List PlainRule) → finite.get files name ≡ Some bytes → init_rules files name spec ≡ Ok rules → X
+init-taken files name spec bytes rules e f =
+    let refused : init_rules files name spec ≡ Err (exists name) = ap (λ x. and_then x (λ _. and_then (length_in files spec specification 1048576) (λ _. read_in files spec rules_of))) (taken files name bytes e) in
+    absurd cc
+
+pub ends-refused : {X A B : Type 0} (x : Result A Refusal) (y : Result B Refusal) (q : Refusal) (b : B) → and_then x (λ _. y) ≡ Ok b → y ≡ Err q → X
+ends-refused (Ok a) y q b e f = absurd cc
+ends-refused (Err r) y q b e f = absurd cc
+
+-- what an added document is, is its keyed tree
+pub added-keyed : {D : Type 0} (x : Result ℕ Refusal) (y : Result D Refusal) (z : D → Result PlainKeyed Refusal) (w : Result Unit Refusal) (k : PlainKeyed)
+    → and_then x (λ _. and_then y (λ t. and_then (z t) (λ j. and_then w (λ _. Ok j)))) ≡ Ok k → and_then y z ≡ Ok k
+added-keyed (Err q) y z w k e = absurd cc
+added-keyed (Ok n) (Err q) z w k e = absurd cc
+added-keyed (Ok n) (Ok t) z w k e = last (z t) w e
+  where
+    last : (v : Result PlainKeyed Refusal) (w : Result Unit Refusal) → and_then v (λ j. and_then w (λ _. Ok j)) ≡ Ok k → v ≡ Ok k
+    last (Err q) w e = absurd cc
+    last (Ok j) (Err q) e = absurd cc
+    last (Ok j) (Ok u) e = e
+
+-- the rules of a new archive are those of its specification
+pub init-spelled : (x : Result Unit Refusal) (y : Result ℕ Refusal) (z : Result (List PlainRule) Refusal) (rules : List PlainRule) → and_then x (λ _. and_then y (λ _. z)) ≡ Ok rules → z ≡ Ok rules
+init-spelled (Err q) y z rules e = absurd cc
+init-spelled (Ok u) (Err q) z rules e = absurd cc
+init-spelled (Ok u) (Ok n) z rules e = e
+
+pub archive-moves : (files now : Files) (name : List ℕ) (rules : List PlainRule) (vs : List PlainKeyed) → ArchiveIs files name rules vs → finite.get now name ≡ finite.get files name → ArchiveIs now name rules vs
+archive-moves files now name rules vs a e = record { bytes = a.bytes; there = e ∙ a.there; sound = a.sound }
+
+-- the file of a stored archive
+pub stored-is : (files : Files) (o : Outcome) (name : List ℕ) (rules : List PlainRule) (vs : List PlainKeyed) → Stores files name rules vs (Ok o) → ArchiveIs o.files name rules vs
+stored-is files o name rules vs (inl s) =
+    record { bytes = s.bytes; there = ap (λ (x : Files). finite.get x name) (kept-by (finite.insert files name s.bytes) o (Ok o) [] refl s.is) ∙ new-there files name s.bytes; sound = s.sound }
+stored-is files o name rules vs (inr t) = absurd (never o (limit refusal.archive 274877906944) (Ok o) refl t.is)
+
+pub made-is : (files : Files) (o : Outcome) (name : List ℕ) (seed count : ℕ) → MakesOrNone files name seed count (Ok o) → ArchiveIs o.files name company_rules (samples seed count)
+made-is files o name seed count (inl s) =
+    record { bytes = s.bytes; there = ap (λ (x : Files). finite.get x name) (kept-by (finite.insert files name s.bytes) o (Ok o) _ refl s.is) ∙ new-there files name s.bytes; sound = s.made.sound }
+made-is files o name seed count (inr t) = absurd (never o (limit refusal.archive 274877906944) (Ok o) refl t.is)

@@ -1,0 +1,57 @@
+-- The statuses of refusals, which are those from 2 to 12.
+use Rattle.std.proofs.Common.{◌≡◌, ◌≢◌, ◌⊎◌, inl, inr, ℕ, ◌==◌, ◌≤◌, Bool, true, false, cond, None, Some, refl, ap, ◌∙◌, arith}
+use Rattle.std.proofs.lemmas.Bool.{eqb-true}
+use Rattle.xarch_words.specs.Lines.{refusal_status}
+use Rattle.xarch_words.specs.Refusal.{Refusal, usage, no_file, exists, bad_spec, bad_json, bad_shape, key_fault, no_version, bad_path, damaged, limit, folder_fault, out_fault, in_fault, memory}
+use Rattle.xarch_steps.specs.Ran.{outside_of}
+
+-- words that are no command have the status 2, and every other refusal one from 3 to 12
+by-status : (q : Refusal) → (q ≡ usage) ⊎ ((3 ≤ refusal_status q) × (refusal_status q ≤ 12))
+by-status usage = inl refl
+by-status (no_file n) = inr (omega arith, omega arith)
+by-status (exists n) = inr (omega arith, omega arith)
+by-status (bad_spec l w) = inr (omega arith, omega arith)
+by-status bad_json = inr (omega arith, omega arith)
+by-status (bad_shape p w) = inr (omega arith, omega arith)
+by-status (key_fault f) = inr (omega arith, omega arith)
+by-status (no_version i n) = inr (omega arith, omega arith)
+by-status (bad_path s) = inr (omega arith, omega arith)
+by-status (damaged n) = inr (omega arith, omega arith)
+by-status (limit q n) = inr (omega arith, omega arith)
+
+between : (q : Refusal) → (2 ≤ refusal_status q) × (refusal_status q ≤ 12)
+between q = elim (by-status q) [
+  | inl e ↦ let is : refusal_status q ≡ 2 = ap refusal_status e in (omega (arith, is), omega (arith, is))
+  | inr h ↦ let low = h.0 in (omega (arith, low), h.1)
+]
+
+pub usage-only : (q : Refusal) → refusal_status q ≡ 2 → q ≡ usage
+usage-only q two = elim (by-status q) [ inl e ↦ e | inr h ↦ let low = h.0 in absurd (omega (arith, low, two)) ]
+
+pub status-other : (q : Refusal) → refusal_status q ≢ 0
+status-other q zero = let low = (between q).0 in omega (arith, low, zero)
+
+other-number : (n m : ℕ) → n ≢ m → (n == m) ≡ false
+other-number n m other = by_test (n == m) refl
+  where
+    by_test : (b : Bool) → (n == m) ≡ b → b ≡ false
+    by_test true e = absurd (other (eqb-true n m e))
+    by_test false e = refl
+
+pub status-not-0 : (q : Refusal) → (refusal_status q == 0) ≡ false
+status-not-0 q = other-number (refusal_status q) 0 (status-other q)
+
+none-of : (a b c d : Bool) → a ≡ false → b ≡ false → c ≡ false → d ≡ false → cond a (Some folder_fault) (cond b (Some out_fault) (cond c (Some in_fault) (cond d (Some memory) None))) ≡ None
+none-of false false false false e f g h = refl
+none-of true b c d e f g h = absurd cc
+none-of false true c d e f g h = absurd cc
+none-of false false true d e f g h = absurd cc
+none-of false false false true e f g h = absurd cc
+
+-- no refusal has the status of a fault of the outside
+pub outside_of-refusal : (q : Refusal) → outside_of (refusal_status q) ≡ None
+outside_of-refusal q =
+    let n = refusal_status q in
+    let high = (between q).1 in
+    none-of (n == 13) (n == 14) (n == 15) (n == 16) (other-number n 13 (λ e. omega (arith, high, e))) (other-number n 14 (λ e. omega (arith, high, e))) (other-number n 15 (λ e. omega (arith, high, e)))
+    (other-number n 16 (λ e. omega (arith, high, e)))

@@ -1,0 +1,118 @@
+-- Commands in order, whether they are given by calls of the program or by the lines of a batch.
+use Rattle.std.specs.Prelude.{◌≡◌, ◌≢◌, ◌⊎◌, ℕ, List, [], ◌∷◌, ◌++◌, map, Option, Some, None, IsSome, Result, Err, ⊤}
+use Rattle.xa_outside.specs.Folder.{Files}
+use Rattle.xarch_words.specs.Commands.{PlainCommand, batch, command_of}
+use Rattle.xarch_words.specs.Refusal.{Refusal}
+use Rattle.xarch_steps.specs.Outcome.{Outcome, Step, step_from}
+use Rattle.xarch_steps.specs.Plausible.{MayBe, Plausible}
+use Rattle.xarch_steps.specs.Ran.{outside_of}
+use Rattle.xarch_steps.specs.Step.{single_of}
+use Rattle.xarch_run.specs.Lines.{lines_of}
+use Rattle.xarch_run.specs.Steps.{Leads, files_after, line_command}
+
+-- ---- one command
+
+-- it was refused
+pub record IsRefused (files : Files) (s : Step) : Type 0 where
+  pub refusal : Refusal
+  pub is : s ≡ step_from files (Err refusal)
+
+-- it took a step that it may take: the defined one, where the archive that it names is absent or sound
+pub record TakesStep (files : Files) (command : PlainCommand) (s : Step) : Type 0 where
+  pub outcome : Result Outcome Refusal
+  pub may : MayBe files command outcome
+  pub is : s ≡ step_from files outcome
+
+-- The step of a command. What is no command, or a line that is too long, is refused.
+abbrev pub CommandMay : Files → Option PlainCommand → Step → Type 0
+CommandMay files None s = IsRefused files s
+CommandMay files (Some command) s = TakesStep files command s
+
+-- One step for each command, each from the files that the one before left.
+abbrev pub CommandsDid : Files → List (Option PlainCommand) → List Step → Type 0
+CommandsDid files [] [] = ⊤
+CommandsDid files [] (s ∷ ss) = ⊥
+CommandsDid files (c ∷ cs) [] = ⊥
+CommandsDid files (c ∷ cs) (s ∷ ss) = CommandMay files c s × CommandsDid s.files cs ss
+
+-- ---- one call of `run`
+
+-- its words, the bytes of its input, and its answer
+pub record Call : Type 0 where
+  pub words : List (List ℕ)
+  pub input : List ℕ
+  pub answer : ℕ
+
+abbrev pub call_of : List (List ℕ) → List ℕ → ℕ → Call
+call_of words input answer = record { words = words; input = input; answer = answer }
+
+-- The words had the program take a step, which was answered.
+pub record StepTaken (files : Files) (call : Call) (now : Files) (commands : List (Option PlainCommand)) (steps : List Step) : Type 0 where
+  pub single : command_of call.words ≢ Some batch
+  pub step : Step
+  pub may : Plausible files call.words step
+  pub answered : call.answer ≡ step.status
+  pub left : now ≡ step.files
+  pub command : commands ≡ single_of call.words ∷ []
+  pub is : steps ≡ step ∷ []
+
+-- A fault of the outside, or want of memory: no command took its step, and no file changed.
+pub record StepFailed (files : Files) (call : Call) (now : Files) (commands : List (Option PlainCommand)) (steps : List Step) : Type 0 where
+  pub single : command_of call.words ≢ Some batch
+  pub fault : IsSome (outside_of call.answer)
+  pub left : now ≡ files
+  pub command : commands ≡ []
+  pub is : steps ≡ []
+
+-- The words were those of a batch. The first of its lines were run, and all of them where it answered 0.
+pub record LinesRun (files : Files) (call : Call) (now : Files) (commands : List (Option PlainCommand)) (steps : List Step) : Type 0 where
+  pub many : command_of call.words ≡ Some batch
+  pub lines : List (List ℕ)
+  pub behind : List (List ℕ)
+  pub first : lines_of call.input ≡ lines ++ behind
+  pub all : call.answer ≡ 0 → behind ≡ []
+  pub leads : Leads files lines steps now
+  pub command : commands ≡ map line_command lines
+
+-- The commands of one call, the steps that they took, and the files that the call left.
+abbrev pub CallDid : Files → Call → Files → List (Option PlainCommand) → List Step → Type 0
+CallDid files call now commands steps =
+    StepTaken files call now commands steps
+    ⊎ (StepFailed files call now commands steps
+    ⊎ LinesRun files call now commands steps)
+
+-- what it did are some commands
+pub record DidCommands (files : Files) (call : Call) (now : Files) : Type 0 where
+  pub commands : List (Option PlainCommand)
+  pub steps : List Step
+  pub did : CallDid files call now commands steps
+
+-- ---- calls in order
+
+-- the commands and steps of a call, and behind them those of the calls that follow it
+pub record CallThen (files : Files) (call : Call) (Rest : Files → List (Option PlainCommand) → List Step → Type 0) (commands : List (Option PlainCommand)) (steps : List Step) : Type 0 where
+  pub between : Files
+  pub first_commands : List (Option PlainCommand)
+  pub first_steps : List Step
+  pub did : CallDid files call between first_commands first_steps
+  pub later_commands : List (Option PlainCommand)
+  pub later_steps : List Step
+  pub rest : Rest between later_commands later_steps
+  pub all_commands : commands ≡ first_commands ++ later_commands
+  pub all_steps : steps ≡ first_steps ++ later_steps
+
+-- no commands and no steps
+pub record NothingDone (files now : Files) (commands : List (Option PlainCommand)) (steps : List Step) : Type 0 where
+  pub left : now ≡ files
+  pub command : commands ≡ []
+  pub is : steps ≡ []
+
+-- The commands of calls one after another, each on the files that the one before left, and the steps that they took.
+abbrev pub CallsDid : Files → List Call → Files → List (Option PlainCommand) → List Step → Type 0
+CallsDid files [] now commands steps = NothingDone files now commands steps
+CallsDid files (call ∷ calls) now commands steps = CallThen files call (λ between cs ss. CallsDid between calls now cs ss) commands steps
+
+-- the commands took these steps, one after another, and led to these files
+pub record LeadTo (files : Files) (commands : List (Option PlainCommand)) (steps : List Step) (now : Files) : Type 0 where
+  pub are : CommandsDid files commands steps
+  pub left : now ≡ files_after files steps
