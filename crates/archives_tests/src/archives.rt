@@ -1,347 +1,422 @@
-ghost use Rattle.std.specs.Prelude.{IsTrue, IfOk, map};
-ghost use Rattle.jsonml_tree.specs.View.{content_view};
-ghost use Rattle.jsonml_tree.specs.WellFormed.{is_content_well_formed};
-ghost use Rattle.keyed_tree.specs.View.{label_view};
-ghost use Rattle.keyed_tree.specs.WellFormed.{IsLabelWellFormed};
-ghost use Rattle.archive_tree.specs.WellFormed.{are_alts_well_formed, IsNodeWellFormed, AreNodesWellFormed};
-ghost use Rattle.archive_tree.specs.View.{alt_view, node_view, nodes_view};
-
-use archive_tree::{ANode, Alt, Archive, effective};
+use crate::shapes::{
+    COMPANY, COMPANY_OF_90, COMPANY_OF_95, COMPANY_OF_NONE, DATABASE, EMPLOYEE, FINANCE,
+    FIRST_NAME, LAST_NAME, NAME, Named, SALARIES, SALARY_90, Shape, TELEPHONE, Value, archive,
+    label, labels, nodes, tree,
+};
+use archive_tree::{ANode, Archive, effective};
 use jsonml_tree::{Content, Scalar, Tree};
-use keyed_tree::{Body, KeyVal, Keyed, Label, Name};
+use keyed_tree::{KeyVal, Keyed, Label};
 use std::alloc::{AllocError, Global};
 use std::test::Fail;
 use version_set::VersionSet;
 
-fn text(alloc: Global, bytes: &str) -> Result<String, AllocError> {
-    String::from_str(alloc, bytes)
-}
+/// The alternatives of the salary exchanged.
+const EXCHANGED: Shape = Shape::Inner(
+    DATABASE,
+    &[],
+    &[Shape::Inner(
+        FINANCE,
+        &[],
+        &[
+            Shape::Inner(
+                EMPLOYEE,
+                &[],
+                &[
+                    FIRST_NAME,
+                    LAST_NAME,
+                    Shape::Leaf(
+                        Named("sal", &[]),
+                        &[],
+                        &[
+                            (&[(2, 2)], Value::Text("95K")),
+                            (&[(1, 1), (3, 3)], Value::Text("90K")),
+                        ],
+                    ),
+                    TELEPHONE,
+                ],
+            ),
+            NAME,
+        ],
+    )],
+);
 
-// The content of one text.
-#[tactic(auto, using(jsonml_tree::proofs::Trees::trees))]
-fn words(alloc: Global, bytes: &str) -> Result<Content, AllocError>
-    ensures { IfOk result (λ c. IsTrue (is_content_well_formed (content_view c))) }
-{
-    let item = Tree::Text(text(alloc, bytes)?);
-    Ok(Content {
-        attrs: Vec::new(alloc),
-        items: vec![in alloc; item]?,
-    })
-}
+/// The employee is away in version 2.
+const RETURNING: Shape = Shape::Inner(
+    DATABASE,
+    &[],
+    &[Shape::Inner(
+        FINANCE,
+        &[],
+        &[
+            Shape::Inner(
+                EMPLOYEE,
+                &[(1, 1), (3, 3)],
+                &[FIRST_NAME, LAST_NAME, SALARY_90, TELEPHONE],
+            ),
+            NAME,
+        ],
+    )],
+);
 
-fn tag(alloc: Global, name: &str) -> Result<Label, AllocError>
-    ensures { IfOk result (λ l. IsLabelWellFormed (label_view l)) }
-{
-    Ok(Label {
-        name: Name::Tag(text(alloc, name)?),
-        keys: Vec::new(alloc),
-    })
-}
+const SALARY: Named = Named("sal", &[]);
 
-fn keyed_tag(alloc: Global, name: &str, key: &str) -> Result<Label, AllocError>
-    ensures { IfOk result (λ l. IsLabelWellFormed (label_view l)) }
-{
-    let key = KeyVal::Content(words(alloc, key)?);
-    Ok(Label {
-        name: Name::Tag(text(alloc, name)?),
-        keys: vec![in alloc; key]?,
-    })
-}
+/// Nodes, a number of versions, and whether they are the parts of an archive.
+const PARTS: &[(&str, u32, &[Shape], bool)] = &[
+    ("a salary that returns", 3, &[COMPANY], true),
+    ("an employee who returns", 3, &[RETURNING], true),
+    ("exchanged alternatives", 3, &[EXCHANGED], false),
+    ("a version without a salary", 4, &[COMPANY], false),
+    // Alternatives share no version and leave none out.
+    (
+        "two bodies",
+        5,
+        &[Shape::Leaf(
+            SALARY,
+            &[],
+            &[
+                (&[(1, 1), (3, 4)], Value::Text("90K")),
+                (&[(2, 2), (5, 5)], Value::Text("95K")),
+            ],
+        )],
+        true,
+    ),
+    (
+        "a shared version",
+        5,
+        &[Shape::Leaf(
+            SALARY,
+            &[],
+            &[
+                (&[(1, 1), (3, 4)], Value::Text("90K")),
+                (&[(2, 3), (5, 5)], Value::Text("95K")),
+            ],
+        )],
+        false,
+    ),
+    (
+        "a version left out",
+        5,
+        &[Shape::Leaf(
+            SALARY,
+            &[],
+            &[
+                (&[(1, 1), (3, 3)], Value::Text("90K")),
+                (&[(2, 2), (5, 5)], Value::Text("95K")),
+            ],
+        )],
+        false,
+    ),
+    (
+        "the last version left out",
+        5,
+        &[Shape::Leaf(
+            SALARY,
+            &[],
+            &[
+                (&[(1, 1), (3, 4)], Value::Text("90K")),
+                (&[(2, 2)], Value::Text("95K")),
+            ],
+        )],
+        false,
+    ),
+    (
+        "one version too many",
+        5,
+        &[Shape::Leaf(
+            SALARY,
+            &[],
+            &[
+                (&[(1, 1), (3, 4)], Value::Text("90K")),
+                (&[(2, 2), (5, 6)], Value::Text("95K")),
+            ],
+        )],
+        false,
+    ),
+];
 
-fn employee(alloc: Global) -> Result<Label, AllocError>
-    ensures { IfOk result (λ l. IsLabelWellFormed (label_view l)) }
-{
-    let first = KeyVal::Content(words(alloc, "John")?);
-    let last = KeyVal::Content(words(alloc, "Doe")?);
-    Ok(Label {
-        name: Name::Tag(text(alloc, "emp")?),
-        keys: vec![in alloc; first, last]?,
-    })
-}
-
-#[tactic(auto, using(archive_tree::proofs::NodeViews::nodes))]
-fn inner(label: Label, stamp: Option<VersionSet>, kids: Vec<ANode>) -> ANode
-    requires label { IsLabelWellFormed (label_view label) }
-    requires kids { AreNodesWellFormed (nodes_view kids.items) }
-    ensures { IsNodeWellFormed (node_view result) }
-{
-    ANode::Inner { label, stamp, kids }
-}
-
-#[tactic(auto, using(archive_tree::proofs::NodeViews::nodes))]
-fn leaf(label: Label, alts: Vec<Alt>) -> ANode
-    requires label { IsLabelWellFormed (label_view label) }
-    requires alts { IsTrue (are_alts_well_formed (map alt_view alts.items)) }
-    ensures { IsNodeWellFormed (node_view result) }
-{
-    ANode::Leaf {
-        label,
-        stamp: None,
-        alts,
-    }
-}
-
-// A leaf with one body in all versions of its parent.
-fn constant(alloc: Global, label: Label, body: &str) -> Result<ANode, AllocError>
-    requires { IsLabelWellFormed (label_view label) }
-    ensures { IfOk result (λ k. IsNodeWellFormed (node_view k)) }
-{
-    let alt = Alt {
-        stamp: None,
-        body: Body::Content(words(alloc, body)?),
-    };
-    Ok(leaf(label, vec![in alloc; alt]?))
-}
-
-fn odd(alloc: Global) -> Result<VersionSet, AllocError> {
-    let mut set = VersionSet::single(alloc, 1);
-    set.reserve_one()?;
-    if set.last() < 3 {
-        set.add_last(3);
-    }
-    Ok(set)
-}
-
-// The salary 90K in the versions 1 and 3, and 95K in version 2.
-fn salary(alloc: Global, exchanged: bool) -> Result<ANode, AllocError>
-    ensures { IfOk result (λ k. IsNodeWellFormed (node_view k)) }
-{
-    let old = Alt {
-        stamp: Some(odd(alloc)?),
-        body: Body::Content(words(alloc, "90K")?),
-    };
-    let new = Alt {
-        stamp: Some(VersionSet::single(alloc, 2)),
-        body: Body::Content(words(alloc, "95K")?),
-    };
-    let label = tag(alloc, "sal")?;
-    if exchanged {
-        Ok(leaf(label, vec![in alloc; new, old]?))
-    } else {
-        Ok(leaf(label, vec![in alloc; old, new]?))
-    }
-}
-
-fn person(alloc: Global, stamp: Option<VersionSet>, salary: ANode) -> Result<ANode, AllocError>
-    requires { IsNodeWellFormed (node_view salary) }
-    ensures { IfOk result (λ k. IsNodeWellFormed (node_view k)) }
-{
-    let first = constant(alloc, tag(alloc, "fn")?, "John")?;
-    let last = constant(alloc, tag(alloc, "ln")?, "Doe")?;
-    let tel = constant(alloc, keyed_tag(alloc, "tel", "123-4567")?, "123-4567")?;
-    let kids = vec![in alloc; first, last, salary, tel]?;
-    Ok(inner(employee(alloc)?, stamp, kids))
-}
-
-// The kids of the virtual root of a company with this person.
-fn company(alloc: Global, person: ANode) -> Result<Vec<ANode>, AllocError>
-    requires { IsNodeWellFormed (node_view person) }
-    ensures { IfOk result (λ v. AreNodesWellFormed (nodes_view v.items)) }
-{
-    let name = constant(alloc, tag(alloc, "name")?, "finance")?;
-    let kids = vec![in alloc; person, name]?;
-    let dept = inner(keyed_tag(alloc, "dept", "finance")?, None, kids);
-    let kids = vec![in alloc; dept]?;
-    let db = inner(tag(alloc, "db")?, None, kids);
-    Ok(vec![in alloc; db]?)
-}
-
-fn payroll(alloc: Global, exchanged: bool) -> Result<Vec<ANode>, AllocError>
-    ensures { IfOk result (λ v. AreNodesWellFormed (nodes_view v.items)) }
-{
-    company(alloc, person(alloc, None, salary(alloc, exchanged)?)?)
-}
-
-fn kid(label: Label, body: Content) -> Keyed {
-    Keyed::Leaf {
-        label,
-        body: Body::Content(body),
-    }
-}
-
-// The version of the company with this salary; without one the employee is not there.
-fn company_tree(alloc: Global, salary: Option<&str>) -> Result<Keyed, AllocError> {
-    let mut members = Vec::with_capacity(alloc, 2)?;
-    if let Some(salary) = salary {
-        let first = kid(tag(alloc, "fn")?, words(alloc, "John")?);
-        let last = kid(tag(alloc, "ln")?, words(alloc, "Doe")?);
-        let sal = kid(tag(alloc, "sal")?, words(alloc, salary)?);
-        let tel = kid(
-            keyed_tag(alloc, "tel", "123-4567")?,
-            words(alloc, "123-4567")?,
-        );
-        members.push(Keyed::Inner {
-            label: employee(alloc)?,
-            kids: vec![in alloc; first, last, sal, tel]?,
-        })?;
-    }
-    members.push(kid(tag(alloc, "name")?, words(alloc, "finance")?))?;
-    let dept = Keyed::Inner {
-        label: keyed_tag(alloc, "dept", "finance")?,
-        kids: members,
-    };
-    Ok(Keyed::Inner {
-        label: tag(alloc, "db")?,
-        kids: vec![in alloc; dept]?,
-    })
-}
-
-fn elem(alloc: Global, name: &str, items: Vec<Tree>) -> Result<Tree, AllocError> {
-    let content = Content {
-        attrs: Vec::new(alloc),
-        items,
-    };
-    Ok(Tree::Elem {
-        tag: text(alloc, name)?,
-        content,
-    })
-}
-
-fn word(alloc: Global, name: &str, bytes: &str) -> Result<Tree, AllocError> {
-    Ok(Tree::Elem {
-        tag: text(alloc, name)?,
-        content: words(alloc, bytes)?,
-    })
-}
-
-fn company_document(alloc: Global) -> Result<Tree, AllocError> {
-    let first = word(alloc, "fn", "John")?;
-    let last = word(alloc, "ln", "Doe")?;
-    let sal = word(alloc, "sal", "90K")?;
-    let tel = word(alloc, "tel", "123-4567")?;
-    let emp = elem(alloc, "emp", vec![in alloc; first, last, sal, tel]?)?;
-    let name = word(alloc, "name", "finance")?;
-    let dept = elem(alloc, "dept", vec![in alloc; emp, name]?)?;
-    elem(alloc, "db", vec![in alloc; dept]?)
-}
-
-fn salary_path(alloc: Global) -> Result<[Label; 4], AllocError> {
-    Ok([
-        tag(alloc, "db")?,
-        keyed_tag(alloc, "dept", "finance")?,
-        employee(alloc)?,
-        tag(alloc, "sal")?,
-    ])
+fn are_parts(alloc: Global, n: u32, shapes: &[Shape]) -> Result<bool, AllocError> {
+    let kids = nodes(alloc, shapes)?;
+    Ok(Archive::of_parts(alloc, n, kids)?.is_some())
 }
 
 #[test]
-fn salary_returns_as_one_alternative(rt: HostRuntime) -> Result<(), Fail> {
-    let alloc = rt.alloc();
-    let made = Archive::of_parts(alloc, 3, payroll(alloc, false)?)?;
-    let archive = made.expect(&rt, "the parts of an archive");
-    assert_eq!(rt; archive.n(), 3);
-    for (i, salary) in [(1, "90K"), (2, "95K"), (3, "90K")] {
-        let version = archive.version(alloc, i)?.expect(&rt, "a version");
-        assert!(rt; version.same(&company_tree(alloc, Some(salary))?));
+fn some_nodes_are_the_parts_of_an_archive(rt: HostRuntime) -> Result<(), Fail> {
+    for (name, n, shapes, wanted) in PARTS {
+        assert!(rt; are_parts(rt.alloc(), *n, shapes)? == *wanted, "{name}");
     }
-    assert!(rt; archive.version(alloc, 0)?.is_none());
-    assert!(rt; archive.version(alloc, 4)?.is_none());
     Ok(())
 }
 
+/// An archive of three versions, a number, and the version of that number, if there is one.
+const VERSIONS: &[(&[Shape], u32, Option<Shape>)] = &[
+    (&[COMPANY], 1, Some(COMPANY_OF_90)),
+    (&[COMPANY], 2, Some(COMPANY_OF_95)),
+    (&[COMPANY], 3, Some(COMPANY_OF_90)),
+    (&[COMPANY], 0, None),
+    (&[COMPANY], 4, None),
+    (&[RETURNING], 3, Some(COMPANY_OF_90)),
+    (&[RETURNING], 2, Some(COMPANY_OF_NONE)),
+];
+
+/// Whether this is the keyed tree of this shape.
+fn is_tree(alloc: Global, found: &Keyed, shape: &Shape) -> Result<bool, AllocError> {
+    let wanted = tree(alloc, shape)?;
+    Ok(found.same(&wanted))
+}
+
+/// Whether the archive has this version, or none.
+fn has_version(
+    alloc: Global,
+    archive: &Archive,
+    i: u32,
+    wanted: &Option<Shape>,
+) -> Result<bool, AllocError> {
+    match archive.version(alloc, i)? {
+        Some(version) => match wanted {
+            Some(shape) => is_tree(alloc, &version, shape),
+            None => Ok(false),
+        },
+        None => Ok(wanted.is_none()),
+    }
+}
+
+/// The same for the archive of these shapes.
+fn is_version(
+    alloc: Global,
+    shapes: &[Shape],
+    i: u32,
+    wanted: &Option<Shape>,
+) -> Result<bool, Fail> {
+    let archive = archive(alloc, 3, shapes)?;
+    Ok(has_version(alloc, &archive, i, wanted)?)
+}
+
 #[test]
-fn salary_has_been_there_all_along(rt: HostRuntime) -> Result<(), Fail> {
-    let alloc = rt.alloc();
-    let made = Archive::of_parts(alloc, 3, payroll(alloc, false)?)?;
-    let archive = made.expect(&rt, "the parts of an archive");
-    let all = VersionSet::upto(alloc, 3);
-    let path = salary_path(alloc)?;
-    assert!(rt; archive.history(alloc, &path)?.same(&all));
-    assert!(rt; archive.history(alloc, &[])?.same(&all));
-    let other = [tag(alloc, "db")?, tag(alloc, "dept")?];
-    assert!(rt;
-        archive
-            .history(alloc, &other)?
-            .same(&VersionSet::empty(alloc))
-    );
+fn archives_have_their_versions(rt: HostRuntime) -> Result<(), Fail> {
+    for (shapes, i, wanted) in VERSIONS {
+        assert!(rt; is_version(rt.alloc(), shapes, *i, wanted)?, "version {i}");
+    }
     Ok(())
+}
+
+/// An archive of three versions, a path, and the intervals of the versions that hold it.
+const HISTORIES: &[(&[Shape], &[Named], &[(u32, u32)])] = &[
+    (
+        &[COMPANY],
+        &[DATABASE, FINANCE, EMPLOYEE, SALARY],
+        &[(1, 3)],
+    ),
+    (&[COMPANY], &[], &[(1, 3)]),
+    (&[COMPANY], &[DATABASE, Named("dept", &[])], &[]),
+    (
+        &[RETURNING],
+        &[DATABASE, FINANCE, EMPLOYEE, SALARY],
+        &[(1, 1), (3, 3)],
+    ),
+];
+
+fn is_history(
+    alloc: Global,
+    archive: &Archive,
+    path: &[Named],
+    pairs: &[(u32, u32)],
+) -> Result<bool, AllocError> {
+    let path = labels(alloc, path)?;
+    let set = archive.history(alloc, &path)?;
+    Ok(set.pairs() == pairs)
+}
+
+/// The same for the archive of these shapes.
+fn holds(
+    alloc: Global,
+    shapes: &[Shape],
+    path: &[Named],
+    pairs: &[(u32, u32)],
+) -> Result<bool, Fail> {
+    let archive = archive(alloc, 3, shapes)?;
+    Ok(is_history(alloc, &archive, path, pairs)?)
+}
+
+#[test]
+fn paths_have_their_histories(rt: HostRuntime) -> Result<(), Fail> {
+    for (index, (shapes, path, pairs)) in HISTORIES.iter().enumerate() {
+        assert!(rt; holds(rt.alloc(), shapes, path, pairs)?, "path {index}");
+    }
+    Ok(())
+}
+
+fn element(alloc: Global, tag: &str, items: Vec<Tree>) -> Result<Tree, AllocError> {
+    let tag = String::from_str(alloc, tag)?;
+    let attrs = Vec::new(alloc);
+    let content = Content { attrs, items };
+    Ok(Tree::Elem { tag, content })
+}
+
+fn word(alloc: Global, tag: &str, text: &str) -> Result<Tree, AllocError> {
+    let tag = String::from_str(alloc, tag)?;
+    let content = Content::of_text(alloc, text)?;
+    Ok(Tree::Elem { tag, content })
+}
+
+/// Elements of these tags, each with one text.
+fn words(alloc: Global, words: &[(&str, &str)]) -> Result<Vec<Tree>, AllocError> {
+    let mut items = Vec::new(alloc);
+    for (tag, text) in words {
+        items.push(word(alloc, tag, text)?)?;
+    }
+    Ok(items)
+}
+
+/// The employee of the company with the salary 90K.
+fn person(alloc: Global) -> Result<Tree, AllocError> {
+    let person = [
+        ("fn", "John"),
+        ("ln", "Doe"),
+        ("sal", "90K"),
+        ("tel", "123-4567"),
+    ];
+    element(alloc, "emp", words(alloc, &person)?)
+}
+
+fn department(alloc: Global) -> Result<Tree, AllocError> {
+    let mut items = Vec::with_capacity(alloc, 2)?;
+    items.push(person(alloc)?)?;
+    items.push(word(alloc, "name", "finance")?)?;
+    element(alloc, "dept", items)
+}
+
+/// Whether this is the document of the company with the salary 90K.
+fn is_document(alloc: Global, tree: &Tree) -> Result<bool, AllocError> {
+    let departments = vec![in alloc; department(alloc)?]?;
+    let document = element(alloc, "db", departments)?;
+    Ok(tree.same(&document))
+}
+
+fn is_plain_again(alloc: Global, version: &Keyed) -> Result<bool, AllocError> {
+    if !version.is_element() || !version.is_proper() {
+        return Ok(false);
+    }
+    let plain = version.plain(alloc)?;
+    is_document(alloc, &plain)
+}
+
+fn is_keyed_copied(alloc: Global, tree: &Keyed) -> Result<bool, AllocError> {
+    let copy = tree.copy(alloc)?;
+    Ok(copy.same(tree))
+}
+
+fn are_version_and_copy_right(alloc: Global) -> Result<bool, AllocError> {
+    let version = tree(alloc, &COMPANY_OF_90)?;
+    Ok(is_plain_again(alloc, &version)? && is_keyed_copied(alloc, &version)?)
 }
 
 #[test]
 fn a_version_is_plain_again(rt: HostRuntime) -> Result<(), Fail> {
-    let alloc = rt.alloc();
-    let made = Archive::of_parts(alloc, 3, payroll(alloc, false)?)?;
-    let archive = made.expect(&rt, "the parts of an archive");
-    let version = archive.version(alloc, 1)?.expect(&rt, "a version");
-    assert!(rt; version.is_element() && version.is_proper());
-    assert!(rt; version.plain(alloc)?.same(&company_document(alloc)?));
-    assert!(rt; version.copy(alloc)?.same(&version));
+    assert!(rt; are_version_and_copy_right(rt.alloc())?);
     Ok(())
+}
+
+fn is_tree_copied(alloc: Global) -> Result<bool, AllocError> {
+    let person = person(alloc)?;
+    let copy = person.copy(alloc)?;
+    Ok(copy.same(&person))
+}
+
+fn is_content_copied(alloc: Global) -> Result<bool, AllocError> {
+    let salary = Content::of_text(alloc, "90K")?;
+    let copy = salary.copy(alloc)?;
+    Ok(copy.same(&salary))
+}
+
+fn is_scalar_copied(alloc: Global) -> Result<bool, AllocError> {
+    let whole = Scalar::Whole(90);
+    Ok(whole.copy(alloc)?.same(&whole))
+}
+
+fn is_label_copied(alloc: Global, label: &Label) -> Result<bool, AllocError> {
+    let copy = label.copy(alloc)?;
+    Ok(copy.same(label))
+}
+
+fn are_keys_copied(alloc: Global, keys: &[KeyVal]) -> Result<bool, AllocError> {
+    for key in keys {
+        if !key.copy(alloc)?.same(key) {
+            return Ok(false);
+        }
+    }
+    Ok(true)
+}
+
+fn is_employee_copied(alloc: Global) -> Result<bool, AllocError> {
+    let label = label(alloc, &EMPLOYEE)?;
+    Ok(is_label_copied(alloc, &label)? && are_keys_copied(alloc, &label.keys)?)
 }
 
 #[test]
 fn copies_are_the_same(rt: HostRuntime) -> Result<(), Fail> {
     let alloc = rt.alloc();
-    let document = company_document(alloc)?;
-    assert!(rt; document.copy(alloc)?.same(&document));
-    let salary = words(alloc, "90K")?;
-    assert!(rt; salary.copy(alloc)?.same(&salary));
-    let whole = Scalar::Whole(90);
-    assert!(rt; whole.copy(alloc)?.same(&whole));
-    let label = employee(alloc)?;
-    assert!(rt; label.copy(alloc)?.same(&label));
-    for key in &label.keys {
-        assert!(rt; key.copy(alloc)?.same(key));
-    }
+    assert!(rt; is_tree_copied(alloc)? && is_content_copied(alloc)?);
+    assert!(rt; is_scalar_copied(alloc)? && is_employee_copied(alloc)?);
     Ok(())
+}
+
+/// The archive of the parts of another.
+fn rebuilt(alloc: Global, archive: Archive) -> Result<Archive, Fail> {
+    let (n, kids) = archive.into_parts();
+    Ok(Archive::of_parts(alloc, n, kids)?.ok_or("no archive")?)
+}
+
+fn renewed(archive: Archive) -> Archive {
+    let (n, kids) = archive.into_parts();
+    Archive::new(n, kids)
+}
+
+fn is_rebuilt(alloc: Global) -> Result<bool, Fail> {
+    let made = rebuilt(alloc, archive(alloc, 3, &[COMPANY])?)?;
+    let archive = renewed(made);
+    Ok(has_version(alloc, &archive, 2, &Some(COMPANY_OF_95))?)
 }
 
 #[test]
 fn parts_that_were_taken_apart_are_an_archive_again(rt: HostRuntime) -> Result<(), Fail> {
-    let alloc = rt.alloc();
-    let made = Archive::of_parts(alloc, 3, payroll(alloc, false)?)?;
-    let archive = made.expect(&rt, "the parts of an archive");
-    let (n, kids) = archive.into_parts();
-    let again = Archive::of_parts(alloc, n, kids)?.expect(&rt, "the parts of an archive");
-    let (n, kids) = again.into_parts();
-    let same = Archive::new(n, kids);
-    let version = same.version(alloc, 2)?.expect(&rt, "a version");
-    assert!(rt; version.same(&company_tree(alloc, Some("95K"))?));
+    assert!(rt; is_rebuilt(rt.alloc())?);
     Ok(())
 }
 
-#[test]
-fn exchanged_alternatives_are_no_archive(rt: HostRuntime) -> Result<(), Fail> {
-    let alloc = rt.alloc();
-    assert!(rt; Archive::of_parts(alloc, 3, payroll(alloc, true)?)?.is_none());
-    assert!(rt; Archive::of_parts(alloc, 4, payroll(alloc, false)?)?.is_none());
-    Ok(())
-}
-
-#[test]
-fn an_employee_who_returns_carries_both_versions(rt: HostRuntime) -> Result<(), Fail> {
-    let alloc = rt.alloc();
-    let sal = constant(alloc, tag(alloc, "sal")?, "90K")?;
-    let john = person(alloc, Some(odd(alloc)?), sal)?;
-    let made = Archive::of_parts(alloc, 3, company(alloc, john)?)?;
-    let archive = made.expect(&rt, "the parts of an archive");
-    let there = archive.version(alloc, 3)?.expect(&rt, "a version");
-    assert!(rt; there.same(&company_tree(alloc, Some("90K"))?));
-    let away = archive.version(alloc, 2)?.expect(&rt, "a version");
-    assert!(rt; away.same(&company_tree(alloc, None)?));
-    let path = salary_path(alloc)?;
-    assert!(rt; archive.history(alloc, &path)?.same(&odd(alloc)?));
-    Ok(())
+fn has_nothing(alloc: Global) -> Result<bool, AllocError> {
+    let archive = Archive::empty(alloc);
+    let is_empty = archive.n() == 0 && archive.kids().is_empty();
+    Ok(has_version(alloc, &archive, 1, &None)? && is_empty)
 }
 
 #[test]
 fn the_empty_archive_has_no_version(rt: HostRuntime) -> Result<(), Fail> {
-    let alloc = rt.alloc();
-    let archive = Archive::empty(alloc);
-    assert_eq!(rt; archive.n(), 0);
-    assert!(rt; archive.kids().is_empty());
-    assert!(rt; archive.version(alloc, 1)?.is_none());
+    assert!(rt; has_nothing(rt.alloc())?);
     Ok(())
+}
+
+fn are_effective(nodes: &[ANode], parent: &VersionSet, pairs: &[(u32, u32)]) -> bool {
+    for node in nodes {
+        if !node.kids().is_empty() || effective(node.stamp(), parent).pairs() != pairs {
+            return false;
+        }
+    }
+    !nodes.is_empty()
+}
+
+/// A node with a set of its own.
+const STORED: &[Shape] = &[Shape::Leaf(SALARY, &[(1, 1), (3, 3)], &[])];
+
+/// Whether a node of this shape has these versions, where the parent has three.
+fn is_effective(alloc: Global, shapes: &[Shape], pairs: &[(u32, u32)]) -> Result<bool, AllocError> {
+    let parent = VersionSet::upto(alloc, 3);
+    let nodes = nodes(alloc, shapes)?;
+    Ok(are_effective(&nodes, &parent, pairs))
 }
 
 #[test]
 fn what_is_not_stored_is_the_parents(rt: HostRuntime) -> Result<(), Fail> {
-    let alloc = rt.alloc();
-    let parent = VersionSet::upto(alloc, 3);
-    let sal = salary(alloc, false)?;
-    assert!(rt; effective(sal.stamp(), &parent).same(&parent));
-    assert!(rt; sal.kids().is_empty());
-    let stored = Some(odd(alloc)?);
-    assert!(rt; effective(&stored, &parent).same(&odd(alloc)?));
+    assert!(rt; is_effective(rt.alloc(), &[SALARIES], &[(1, 3)])?);
+    assert!(rt; is_effective(rt.alloc(), STORED, &[(1, 1), (3, 3)])?);
     Ok(())
 }

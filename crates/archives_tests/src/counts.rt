@@ -1,79 +1,35 @@
+use crate::bytes::{COMPANY, COMPANY_WITHOUT_VERSIONS, FLOORS, TEXTS, TINY};
 use archive_file::decode_file;
 use archive_stats::{Counts, StatsFault, counts_of, stats};
-use std::alloc::Global;
-use std::process::Abort;
+use std::alloc::{AllocError, Global};
 use std::test::Fail;
 use xa_outside::{FolderCall, FolderFail, MemFolder, SureFolder};
 
-/// The company specification without versions.
-const NO_VERSIONS: &[u8] = b"\
-    XARC1\n\0\0\0\xbe(/, (db, {}))\n(/db, (dept, {name}))\n(/db/dept, (emp, {fn, ln}))\n(/db/dep\
-    t, (name, {}))\n(/db/dept/emp, (fn, {}))\n(/db/dept/emp, (ln, {}))\n(/db/dept/emp, (sal, {})\
-    )\n(/db/dept/emp, (tel, {.}))\n\0\0\0\0\x04\0\0\0\0\0\0\0\x04\0\0\0\0\0\0\0\0\0\0\0\x04";
+/// A file, and its seven numbers in the order in which they are printed.
+const COUNTED: &[(&str, &[u8], [u64; 7])] = &[
+    (
+        "an archive without versions has its header and an end",
+        COMPANY_WITHOUT_VERSIONS,
+        [0, 0, 0, 0, 0, 204, 225],
+    ),
+    (
+        "a salary that returns has two alternatives with timestamps",
+        COMPANY,
+        [3, 3, 5, 6, 2, 204, 1198],
+    ),
+    ("an attribute is a leaf", FLOORS, [2, 2, 2, 3, 2, 204, 669]),
+    (
+        "a record may be greater than the header",
+        TEXTS,
+        [3, 0, 1, 2, 2, 42, 202],
+    ),
+    (
+        "the body of an end is not counted",
+        TINY,
+        [1, 0, 1, 1, 0, 28, 142],
+    ),
+];
 
-/// Three versions of a company, in which a salary changes and returns.
-const SALARIES: &[u8] = b"\
-    XARC1\n\0\0\0\xbe(/, (db, {}))\n(/db, (dept, {name}))\n(/db/dept, (emp, {fn, ln}))\n(/db/dep\
-    t, (name, {}))\n(/db/dept/emp, (fn, {}))\n(/db/dept/emp, (ln, {}))\n(/db/dept/emp, (sal, {})\
-    )\n(/db/dept/emp, (tel, {.}))\n\0\0\0\x03\x01\0\0\0\0\0\0\0\x0c\x01\0\0\0\x02db\0\0\0\0\0\
-    \x01\0\0\0\0\0\0\0#\x01\0\0\0\x04dept\0\0\0\x01\x01\0\0\0\0\0\0\0\x01\0\0\0\0\x07finance\0\
-    \x01\0\0\0\0\0\0\00\x01\0\0\0\x03emp\0\0\0\x02\x01\0\0\0\0\0\0\0\x01\0\0\0\0\x04John\x01\0\0\
-    \0\0\0\0\0\x01\0\0\0\0\x03Doe\0\x02\0\0\0\0\0\0\0\x0c\x01\0\0\0\x02fn\0\0\0\0\0\x03\0\0\0\0\
-    \0\0\0\x13\0\x01\0\0\0\0\0\0\0\x01\0\0\0\0\x04John\x05\0\0\0\0\0\0\0\0\x02\0\0\0\0\0\0\0\x0c\
-    \x01\0\0\0\x02ln\0\0\0\0\0\x03\0\0\0\0\0\0\0\x12\0\x01\0\0\0\0\0\0\0\x01\0\0\0\0\x03Doe\x05\
-    \0\0\0\0\0\0\0\0\x02\0\0\0\0\0\0\0\x0d\x01\0\0\0\x03sal\0\0\0\0\0\x03\0\0\0\0\0\0\0&\x01\0\0\
-    \0\x02\0\0\0\x01\0\0\0\x01\0\0\0\x03\0\0\0\x03\x01\0\0\0\0\0\0\0\x01\0\0\0\0\x0390K\x03\0\0\
-    \0\0\0\0\0\x1e\x01\0\0\0\x01\0\0\0\x02\0\0\0\x02\x01\0\0\0\0\0\0\0\x01\0\0\0\0\x0395K\x05\0\
-    \0\0\0\0\0\0\0\x02\0\0\0\0\0\0\0#\x01\0\0\0\x03tel\0\0\0\x01\x01\0\0\0\0\0\0\0\x01\0\0\0\0\
-    \x08123-4567\0\x03\0\0\0\0\0\0\0\x17\0\x01\0\0\0\0\0\0\0\x01\0\0\0\0\x08123-4567\x05\0\0\0\0\
-    \0\0\0\0\x04\0\0\0\0\0\0\0\xf0\0\0\0\x04\0\0\0\0\0\0\0\0\0\0\0\0\0\0\0:\0\0\0\0\0\0\0\0\0\0\
-    \0\0\0\0\0:\0\0\0\0\0\0\09\0\0\0\0\0\0\0\0\0\0\0\0\0\0\0s\0\0\0\0\0\0\0u\0\0\0\0\0\0\0\0\0\0\
-    \0\0\0\0\0\xe8\0\0\0\0\0\0\0U\0\0\0\0\0\0\0\0\0\0\0\x01\0\0\0\x01\0\0\0\x03\0\0\0\0\0\0\0<\0\
-    \0\0\x01\0\0\0\x01\0\0\0\x03\0\0\0\0\0\0\0\x14\0\0\0\x01\0\0\0\x01\0\0\0\x03\0\0\0\0\0\0\0\0\
-    \0\0\0\x01\0\0\0\x01\0\0\0\x03\0\0\0\0\0\0\0\0\0\0\0\x01\0\0\0\x01\0\0\0\x03\0\0\0\0\0\0\0\
-    \x14\0\0\0\x01\0\0\0\x01\0\0\0\x03\0\0\0\0\0\0\0\0\0\0\0\x01\0\0\0\x01\0\0\0\x03\0\0\0\0\0\0\
-    \0\0\x02\0\0\0\0\0\0\0\x0e\x01\0\0\0\x04name\0\0\0\0\0\x03\0\0\0\0\0\0\0\x16\0\x01\0\0\0\0\0\
-    \0\0\x01\0\0\0\0\x07finance\x05\0\0\0\0\0\0\0\0\x04\0\0\0\0\0\0\0p\0\0\0\x02\0\0\0\0\0\0\0\0\
-    \0\0\0\0\0\0\x02o\0\0\0\0\0\0\0\xf0\0\0\0\0\0\0\x02o\0\0\0\0\0\0\0?\0\0\0\0\0\0\0\0\0\0\0\
-    \x01\0\0\0\x01\0\0\0\x03\0\0\0\0\0\0\0\x14\0\0\0\x01\0\0\0\x01\0\0\0\x03\0\0\0\0\0\0\0\0\0\0\
-    \0\x01\0\0\0\x01\0\0\0\x03\0\0\0\0\0\0\0\0\x04\0\0\0\0\0\0\00\0\0\0\x01\0\0\0\0\0\0\0\0\0\0\
-    \0\0\0\0\x03S\0\0\0\0\0\0\0p\0\0\0\x01\0\0\0\x01\0\0\0\x03\0\0\0\0\0\0\0\0\x04\0\0\0\0\0\0\0\
-    0\0\0\0\x01\0\0\0\0\0\0\0\0\0\0\0\0\0\0\x03\xa1\0\0\0\0\0\0\00\0\0\0\x01\0\0\0\x01\0\0\0\x03\
-    \0\0\0\0\0\0\0\0\0\0\0\0\0\0\00";
-
-/// Two versions of a department, whose attribute `floor` is a text and then a number.
-const FLOORS: &[u8] = b"\
-    XARC1\n\0\0\0\xbe(/, (db, {}))\n(/db, (dept, {name}))\n(/db/dept, (emp, {fn, ln}))\n(/db/dep\
-    t, (name, {}))\n(/db/dept/emp, (fn, {}))\n(/db/dept/emp, (ln, {}))\n(/db/dept/emp, (sal, {})\
-    )\n(/db/dept/emp, (tel, {.}))\n\0\0\0\x02\x01\0\0\0\0\0\0\0\x0c\x01\0\0\0\x02db\0\0\0\0\0\
-    \x01\0\0\0\0\0\0\0#\x01\0\0\0\x04dept\0\0\0\x01\x01\0\0\0\0\0\0\0\x01\0\0\0\0\x07finance\0\
-    \x02\0\0\0\0\0\0\0\x0f\0\0\0\0\x05floor\0\0\0\0\0\x03\0\0\0\0\0\0\0\x14\x01\0\0\0\x01\0\0\0\
-    \x01\0\0\0\x01\0\x05\0\0\0\x013\x03\0\0\0\0\0\0\0\x17\x01\0\0\0\x01\0\0\0\x02\0\0\0\x02\0\
-    \x03\0\0\0\0\0\0\0\x03\x05\0\0\0\0\0\0\0\0\x02\0\0\0\0\0\0\0\x0e\x01\0\0\0\x04name\0\0\0\0\0\
-    \x03\0\0\0\0\0\0\0\x16\0\x01\0\0\0\0\0\0\0\x01\0\0\0\0\x07finance\x05\0\0\0\0\0\0\0\0\x04\0\
-    \0\0\0\0\0\0p\0\0\0\x02\0\0\0\0\0\0\0\0\0\0\0\0\0\0\0^\0\0\0\0\0\0\0\0\0\0\0\0\0\0\0^\0\0\0\
-    \0\0\0\0?\0\0\0\0\0\0\0\0\0\0\0\x01\0\0\0\x01\0\0\0\x02\0\0\0\0\0\0\0\x14\0\0\0\x01\0\0\0\
-    \x01\0\0\0\x02\0\0\0\0\0\0\0\0\0\0\0\x01\0\0\0\x01\0\0\0\x02\0\0\0\0\0\0\0\0\x04\0\0\0\0\0\0\
-    \00\0\0\0\x01\0\0\0\0\0\0\0\0\0\0\0\0\0\0\x01B\0\0\0\0\0\0\0p\0\0\0\x01\0\0\0\x01\0\0\0\x02\
-    \0\0\0\0\0\0\0\0\x04\0\0\0\0\0\0\00\0\0\0\x01\0\0\0\0\0\0\0\0\0\0\0\0\0\0\x01\x90\0\0\0\0\0\
-    \0\00\0\0\0\x01\0\0\0\x01\0\0\0\x02\0\0\0\0\0\0\0\0\0\0\0\0\0\0\00";
-
-/// Three versions of one frontier element, the first two of which are equal.
-const TEXTS: &[u8] = b"\
-    XARC1\n\0\0\0\x0e(/, (db, {}))\n\0\0\0\x03\x02\0\0\0\0\0\0\0\x0c\x01\0\0\0\x02db\0\0\0\0\0\
-    \x03\0\0\0\0\0\0\0\x1c\x01\0\0\0\x01\0\0\0\x01\0\0\0\x02\x01\0\0\0\0\0\0\0\x01\0\0\0\0\x01a\
-    \x03\0\0\0\0\0\0\0!\x01\0\0\0\x01\0\0\0\x03\0\0\0\x03\x01\0\0\0\0\0\0\0\x02\0\0\0\0\0\0\0\0\
-    \0\x01a\x05\0\0\0\0\0\0\0\0\x04\0\0\0\0\0\0\00\0\0\0\x01\0\0\0\0\0\0\0\0\0\0\0\0\0\0\0m\0\0\
-    \0\0\0\0\0\0\0\0\0\x01\0\0\0\x01\0\0\0\x03\0\0\0\0\0\0\0\0\0\0\0\0\0\0\00";
-
-/// One version, an empty element.
-const TINY: &[u8] = b"\
-    XARC1\n\0\0\0\x0e(/, (db, {}))\n\0\0\0\x01\x02\0\0\0\0\0\0\0\x0c\x01\0\0\0\x02db\0\0\0\0\0\
-    \x03\0\0\0\0\0\0\0\n\0\x01\0\0\0\0\0\0\0\0\x05\0\0\0\0\0\0\0\0\x04\0\0\0\0\0\0\00\0\0\0\x01\
-    \0\0\0\0\0\0\0\0\0\0\0\0\0\0\01\0\0\0\0\0\0\0\0\0\0\0\x01\0\0\0\x01\0\0\0\x01\0\0\0\0\0\0\0\
-    \0\0\0\0\0\0\0\00";
-
-/// The seven numbers, in the order in which they are printed.
 fn numbers(counts: &Counts) -> [u64; 7] {
     [
         counts.versions as u64,
@@ -86,88 +42,86 @@ fn numbers(counts: &Counts) -> [u64; 7] {
     ]
 }
 
-/// Checks the counts of a file, and those of the archive that it is the file of.
-fn check_counts(
-    rt: &impl Abort,
-    alloc: Global,
-    file: &[u8],
-    expected: [u64; 7],
-) -> Result<(), Fail> {
+/// The counts of the archive that the bytes are the file of.
+fn decoded_counts(alloc: Global, file: &[u8]) -> Result<Counts, Fail> {
     let (spec, archive) = decode_file(alloc, file)?;
     if archive.n() > 999_999 {
         return Err(Fail::from("too many versions"));
     }
-    assert_eq!(rt; numbers(&counts_of(alloc, &spec, &archive)?), expected);
+    Ok(counts_of(alloc, &spec, &archive)?)
+}
+
+/// A folder in which the file of this name has these bytes.
+fn folder(alloc: Global, file: &[u8]) -> Result<SureFolder, AllocError> {
     let mut folder = SureFolder::new(alloc);
     folder.put("a.xar", Vec::from_slice(alloc, file)?)?;
-    assert_eq!(rt;
-        numbers(&stats(alloc, &mut folder, "a.xar", file.len() as u64)?),
-        expected
-    );
+    Ok(folder)
+}
+
+/// The counts that are read from such a folder.
+fn read_counts(alloc: Global, file: &[u8]) -> Result<Counts, Fail> {
+    let mut folder = folder(alloc, file)?;
+    Ok(stats(alloc, &mut folder, "a.xar", file.len() as u64)?)
+}
+
+#[test]
+fn archives_and_their_files_are_counted(rt: HostRuntime) -> Result<(), Fail> {
+    for (name, file, wanted) in COUNTED {
+        let decoded = decoded_counts(rt.alloc(), file)?;
+        let read = read_counts(rt.alloc(), file)?;
+        assert!(rt;
+            numbers(&decoded) == *wanted && numbers(&read) == *wanted,
+            "{name}"
+        );
+    }
     Ok(())
 }
 
-#[test]
-fn an_archive_without_versions_has_its_header_and_an_end(rt: HostRuntime) -> Result<(), Fail> {
-    check_counts(&rt, rt.alloc(), NO_VERSIONS, [0, 0, 0, 0, 0, 204, 225])
-}
+/// The name and the length of a file, and the bytes that are counted, or none where that is damage.
+const FRONTS: &[(&str, u64, Option<u64>)] = &[
+    ("a.xar", 142, Some(142)),
+    ("a.xar", 141, None),
+    ("a.xar", 147, None),
+    ("b.xar", 142, None),
+];
 
-#[test]
-fn a_salary_that_returns_has_two_alternatives_with_timestamps(rt: HostRuntime) -> Result<(), Fail> {
-    check_counts(&rt, rt.alloc(), SALARIES, [3, 3, 5, 6, 2, 204, 1198])
-}
-
-#[test]
-fn an_attribute_is_a_leaf(rt: HostRuntime) -> Result<(), Fail> {
-    check_counts(&rt, rt.alloc(), FLOORS, [2, 2, 2, 3, 2, 204, 669])
-}
-
-#[test]
-fn a_record_may_be_greater_than_the_header(rt: HostRuntime) -> Result<(), Fail> {
-    check_counts(&rt, rt.alloc(), TEXTS, [3, 0, 1, 2, 2, 42, 202])
-}
-
-#[test]
-fn the_body_of_an_end_is_not_counted(rt: HostRuntime) -> Result<(), Fail> {
-    check_counts(&rt, rt.alloc(), TINY, [1, 0, 1, 1, 0, 28, 142])
+fn is_counted(found: &Result<Counts, StatsFault>, bytes: &Option<u64>) -> bool {
+    match (found, bytes) {
+        (Ok(counts), Some(bytes)) => counts.bytes == *bytes,
+        (Err(StatsFault::Damage), None) => true,
+        _ => false,
+    }
 }
 
 #[test]
 fn only_the_first_bytes_of_a_file_are_read(rt: HostRuntime) -> Result<(), Fail> {
-    let alloc = rt.alloc();
-    let mut file = Vec::from_slice(alloc, TINY)?;
+    let mut file = Vec::from_slice(rt.alloc(), TINY)?;
     file.extend_from_slice(b"more")?;
-    let mut folder = SureFolder::new(alloc);
-    folder.put("a.xar", file)?;
-    assert_eq!(rt; stats(alloc, &mut folder, "a.xar", 142)?.bytes, 142);
-    assert_eq!(rt;
-        stats(alloc, &mut folder, "a.xar", 141),
-        Err(StatsFault::Damage)
-    );
-    assert_eq!(rt;
-        stats(alloc, &mut folder, "a.xar", 147),
-        Err(StatsFault::Damage)
-    );
-    assert_eq!(rt;
-        stats(alloc, &mut folder, "b.xar", 142),
-        Err(StatsFault::Damage)
-    );
+    let mut folder = folder(rt.alloc(), &file)?;
+    for (name, length, bytes) in FRONTS {
+        let found = stats(rt.alloc(), &mut folder, name, *length);
+        assert!(rt; is_counted(&found, bytes), "{name}, {length} bytes");
+    }
     Ok(())
 }
 
-#[test]
-fn a_failed_read_is_told_as_such(rt: HostRuntime) -> Result<(), Fail> {
-    let alloc = rt.alloc();
+/// A folder whose first read fails.
+fn failing_folder(alloc: Global, file: &[u8]) -> Result<MemFolder, AllocError> {
     let first_read = FolderFail {
         call: FolderCall::ReadAt,
         number: 1,
     };
     let mut folder = MemFolder::new(alloc, vec![in alloc; first_read]?);
-    folder.put("a.xar", Vec::from_slice(alloc, TINY)?)?;
-    assert_eq!(rt;
-        stats(alloc, &mut folder, "a.xar", 142),
-        Err(StatsFault::Folder)
-    );
-    assert_eq!(rt; stats(alloc, &mut folder, "a.xar", 142)?.bytes, 142);
+    folder.put("a.xar", Vec::from_slice(alloc, file)?)?;
+    Ok(folder)
+}
+
+#[test]
+fn a_failed_read_is_told_as_such(rt: HostRuntime) -> Result<(), Fail> {
+    let mut folder = failing_folder(rt.alloc(), TINY)?;
+    let first = stats(rt.alloc(), &mut folder, "a.xar", 142);
+    assert!(rt; first == Err(StatsFault::Folder));
+    let second = stats(rt.alloc(), &mut folder, "a.xar", 142);
+    assert!(rt; is_counted(&second, &Some(142)));
     Ok(())
 }

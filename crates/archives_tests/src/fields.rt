@@ -1,33 +1,34 @@
 // Known bytes.
+use std::alloc::{AllocError, Global};
 use std::test::Fail;
 use xa_fields::{put_text, put_u32, put_u64, take_text, take_u8, take_u32, take_u64};
 
+fn fields(alloc: Global) -> Result<Vec<u8>, AllocError> {
+    let mut out = Vec::new(alloc);
+    put_u32(&mut out, 14)?;
+    put_u64(&mut out, 48)?;
+    put_text(&mut out, "db")?;
+    Ok(out)
+}
+
+const FIELDS: &[u8] = b"\0\0\0\x0e\0\0\0\0\0\0\0\x30\0\0\0\x02db";
+
 #[test]
 fn numbers_and_texts_are_big_endian(rt: HostRuntime) -> Result<(), Fail> {
-    let mut out = Vec::new(rt.alloc());
-    put_u32(&mut out, 14)?;
-    assert_eq!(rt; out.as_slice(), b"\0\0\0\x0e".as_slice());
-    put_u64(&mut out, 48)?;
-    assert_eq!(rt; out.as_slice(), b"\0\0\0\x0e\0\0\0\0\0\0\0\x30".as_slice());
-    put_text(&mut out, "db")?;
-    assert_eq!(rt;
-        out.as_slice(),
-        b"\0\0\0\x0e\0\0\0\0\0\0\0\x30\0\0\0\x02db".as_slice()
-    );
-    assert_eq!(rt; take_u32(&out, 0), Some((14, 4)));
-    assert_eq!(rt; take_u64(&out, 4), Some((48, 12)));
-    let (text, after) = take_text(&out, 12).ok_or("no text")?;
-    assert_eq!(rt; text, "db");
-    assert_eq!(rt; after, 18);
-    assert_eq!(rt; take_u8(&out, 17), Some((b'b', 18)));
+    assert!(rt; fields(rt.alloc())?.as_slice() == FIELDS);
+    let are_numbers = take_u32(FIELDS, 0) == Some((14, 4))
+        && take_u64(FIELDS, 4) == Some((48, 12))
+        && take_u8(FIELDS, 17) == Some((b'b', 18));
+    assert!(rt; are_numbers && take_text(FIELDS, 12) == Some(("db", 18)));
     Ok(())
 }
 
 #[test]
 fn too_few_bytes_are_no_field(rt: HostRuntime) {
-    assert_eq!(rt; take_u32(b"\0\0\0", 0), None);
-    assert_eq!(rt; take_u64(b"\0\0\0\0\0\0\0\x30", 1), None);
-    assert_eq!(rt; take_u8(b"", 0), None);
+    let are_none = take_u32(b"\0\0\0", 0).is_none()
+        && take_u64(b"\0\0\0\0\0\0\0\x30", 1).is_none()
+        && take_u8(b"", 0).is_none();
+    assert!(rt; are_none);
 }
 
 #[test]

@@ -4,7 +4,13 @@
 #[cfg(test)]
 mod archives;
 #[cfg(test)]
+mod bytes;
+#[cfg(test)]
 mod counts;
+#[cfg(test)]
+mod damaged_files;
+#[cfg(test)]
+mod damaged_records;
 #[cfg(test)]
 mod fields;
 #[cfg(test)]
@@ -19,3 +25,5 @@ mod records;
 mod searches;
 #[cfg(test)]
 mod sets;
+#[cfg(test)]
+mod shapes;

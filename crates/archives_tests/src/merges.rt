@@ -1,122 +1,85 @@
 // Versions of small documents, and what is stored of them.
-ghost use Rattle.std.specs.Prelude.{IsTrue, IfOk, IfSome, map};
-ghost use Rattle.keyed_tree.specs.Data.{kids_from};
-ghost use Rattle.keyed_tree.specs.View.{key_view, label_view, keyed_view};
-ghost use Rattle.keyed_tree.specs.WellFormed.{IsKeyWellFormed, IsLabelWellFormed, are_kids_well_formed, IsKeyedWellFormed};
+ghost use Rattle.keyed_tree.specs.View.{keyed_view};
+ghost use Rattle.keyed_tree.specs.WellFormed.{IsKeyedWellFormed};
 
+use crate::shapes::{COMPANY_OF_90, COMPANY_OF_95, Named, Shape, Value, body, tree};
 use archive_tree::{ANode, Alt, Archive};
-use jsonml_tree::{Content, Tree};
-use keyed_tree::{Body, Keyed, Label, Name};
+use keyed_tree::Keyed;
 use nested_merge::{is_alike, merge};
 use std::alloc::{AllocError, Global};
 use std::test::Fail;
-use version_set::VersionSet;
 
-// The content of one text.
-fn words(alloc: Global, text: &str) -> Result<Body, AllocError>
-    ensures { IfOk result (λ b. IsKeyWellFormed (key_view b)) }
-{
-    let item = Tree::Text(String::from_str(alloc, text)?);
-    Ok(Body::Content(Content {
-        attrs: Vec::new(alloc),
-        items: vec![in alloc; item]?,
-    }))
-}
+/// The tiny document: an element without attributes and items.
+const TINY: Shape = Shape::Leaf(Named("db", &[]), &[], &[(&[], Value::Nothing)]);
 
-fn tag(alloc: Global, name: &str) -> Result<Label, AllocError>
-    ensures { IfOk result (λ l. IsLabelWellFormed (label_view l)) }
-{
-    Ok(Label {
-        name: Name::Tag(String::from_str(alloc, name)?),
-        keys: Vec::new(alloc),
-    })
-}
+const ANVIL_10: Shape = Shape::Leaf(
+    Named("item", &[Value::Text("anvil")]),
+    &[],
+    &[(&[], Value::Text("10"))],
+);
 
-fn with_key(alloc: Global, name: &str, key: &str) -> Result<Label, AllocError>
-    ensures { IfOk result (λ l. IsLabelWellFormed (label_view l)) }
-{
-    let key = words(alloc, key)?;
-    Ok(Label {
-        name: Name::Tag(String::from_str(alloc, name)?),
-        keys: vec![in alloc; key]?,
-    })
-}
+const ANVIL_12: Shape = Shape::Leaf(
+    Named("item", &[Value::Text("anvil")]),
+    &[],
+    &[(&[], Value::Text("12"))],
+);
 
-fn with_keys(alloc: Global, name: &str, first: &str, second: &str) -> Result<Label, AllocError>
-    ensures { IfOk result (λ l. IsLabelWellFormed (label_view l)) }
-{
-    let first = words(alloc, first)?;
-    let second = words(alloc, second)?;
-    Ok(Label {
-        name: Name::Tag(String::from_str(alloc, name)?),
-        keys: vec![in alloc; first, second]?,
-    })
-}
+const BELL: Shape = Shape::Leaf(
+    Named("item", &[Value::Text("bell")]),
+    &[],
+    &[(&[], Value::Text("7"))],
+);
 
-fn leaf(alloc: Global, label: Label, text: &str) -> Result<Keyed, AllocError>
-    requires { IsLabelWellFormed (label_view label) }
-    ensures { IfOk result (λ k. IsKeyedWellFormed (keyed_view k)) }
-{
-    let body = words(alloc, text)?;
-    Ok(Keyed::Leaf { label, body })
-}
+const CORD_10: Shape = Shape::Leaf(
+    Named("item", &[Value::Text("cord")]),
+    &[],
+    &[(&[], Value::Text("10"))],
+);
 
-#[tactic(auto, using(keyed_tree::proofs::Views::views))]
-fn node(label: Label, kids: Vec<Keyed>) -> Keyed
-    requires label { IsLabelWellFormed (label_view label) }
-    requires kids { IsTrue (are_kids_well_formed (kids_from (map keyed_view kids.items))) }
-    ensures { IsKeyedWellFormed (keyed_view result) }
-{
-    Keyed::Inner { label, kids }
-}
+const CORD_12: Shape = Shape::Leaf(
+    Named("item", &[Value::Text("cord")]),
+    &[],
+    &[(&[], Value::Text("12"))],
+);
 
-// The tiny document: an element without attributes and items.
-fn tiny(alloc: Global) -> Result<Keyed, AllocError>
-    ensures { IfOk result (λ k. IsKeyedWellFormed (keyed_view k)) }
-{
-    Ok(Keyed::Leaf {
-        label: tag(alloc, "db")?,
-        body: Body::Content(Content {
-            attrs: Vec::new(alloc),
-            items: Vec::new(alloc),
-        }),
-    })
-}
+/// Ten versions of a catalogue: some goods come and go, and prices change.
+const CATALOGUES: &[Shape] = &[
+    Shape::Inner(Named("catalogue", &[]), &[], &[ANVIL_10, BELL]),
+    Shape::Inner(Named("catalogue", &[]), &[], &[BELL, CORD_12]),
+    Shape::Inner(Named("catalogue", &[]), &[], &[ANVIL_10, BELL, CORD_10]),
+    Shape::Inner(Named("catalogue", &[]), &[], &[ANVIL_12, BELL]),
+    Shape::Inner(Named("catalogue", &[]), &[], &[BELL, CORD_10]),
+    Shape::Inner(Named("catalogue", &[]), &[], &[ANVIL_12, BELL, CORD_12]),
+    Shape::Inner(Named("catalogue", &[]), &[], &[ANVIL_10, BELL]),
+    Shape::Inner(Named("catalogue", &[]), &[], &[BELL, CORD_12]),
+    Shape::Inner(Named("catalogue", &[]), &[], &[ANVIL_10, BELL, CORD_10]),
+    Shape::Inner(Named("catalogue", &[]), &[], &[ANVIL_12, BELL]),
+];
 
-fn employee(alloc: Global, salary: &str) -> Result<Keyed, AllocError>
-    ensures { IfOk result (λ k. IsKeyedWellFormed (keyed_view k)) }
-{
-    let first = leaf(alloc, tag(alloc, "fn")?, "John")?;
-    let last = leaf(alloc, tag(alloc, "ln")?, "Doe")?;
-    let pay = leaf(alloc, tag(alloc, "sal")?, salary)?;
-    let phone = leaf(alloc, with_key(alloc, "tel", "123-4567")?, "123-4567")?;
-    let kids = vec![in alloc; first, last, pay, phone]?;
-    Ok(node(with_keys(alloc, "emp", "John", "Doe")?, kids))
-}
+/// A salary that changes and returns.
+const SALARIES: &[Shape] = &[COMPANY_OF_90, COMPANY_OF_95, COMPANY_OF_90];
 
-// The database of one department, with these kids beside its name.
-fn company(alloc: Global, staff: Option<Keyed>) -> Result<Keyed, AllocError>
-    requires { IfSome staff (λ k. IsKeyedWellFormed (keyed_view k)) }
-    ensures { IfOk result (λ k. IsKeyedWellFormed (keyed_view k)) }
-{
-    let name = leaf(alloc, tag(alloc, "name")?, "finance")?;
-    let kids = match staff {
-        Some(employee) => vec![in alloc; employee, name]?,
-        None => vec![in alloc; name]?,
-    };
-    let dept = node(with_key(alloc, "dept", "finance")?, kids);
-    let depts = vec![in alloc; dept]?;
-    Ok(node(tag(alloc, "db")?, depts))
-}
+/// Versions, and how many timestamps the nodes of their archive and the alternatives store.
+const MERGED: &[(&str, &[Shape], Option<usize>)] = &[
+    ("one version", &[TINY], Some(0)),
+    (
+        "a version that comes again stores no timestamp",
+        &[TINY, TINY],
+        Some(0),
+    ),
+    (
+        "only the two alternatives have sets of their own",
+        SALARIES,
+        Some(2),
+    ),
+    ("ten versions of a catalogue come back", CATALOGUES, None),
+];
 
 // The archive with one more version, which has to meet the conditions.
 fn grown(alloc: Global, old: Archive, new: &Keyed) -> Result<Archive, Fail>
     requires { IsKeyedWellFormed (keyed_view new.now) }
 {
-    if old.n() == u32::MAX {
-        return Err("there is no number left".into());
-    }
-    if !new.is_element() || !new.is_ordered() {
+    if old.n() == u32::MAX || !new.is_element() || !new.is_ordered() {
         return Err("this is no version".into());
     }
     if !is_alike(&old, new) {
@@ -126,6 +89,20 @@ fn grown(alloc: Global, old: Archive, new: &Keyed) -> Result<Archive, Fail>
         Ok(archive) => Ok(archive),
         Err((error, _)) => Err(error.into()),
     }
+}
+
+// The archive with the version of this shape.
+fn with_version(alloc: Global, old: Archive, shape: &Shape) -> Result<Archive, Fail> {
+    let version = tree(alloc, shape)?;
+    grown(alloc, old, &version)
+}
+
+fn merged(alloc: Global, versions: &[Shape]) -> Result<Archive, Fail> {
+    let mut archive = Archive::empty(alloc);
+    for version in versions {
+        archive = with_version(alloc, archive, version)?;
+    }
+    Ok(archive)
 }
 
 // How many timestamps the nodes and their alternatives store.
@@ -150,89 +127,97 @@ fn node_stamps(node: &ANode) -> usize {
     }
 }
 
-// The node at these places, each counted from 0 among its siblings.
-fn at<'a>(nodes: &'a [ANode], places: &[usize]) -> Option<&'a ANode> {
-    let mut row = nodes;
-    let mut found = None;
-    for place in places {
-        let node = row.get(*place)?;
-        row = node.kids();
-        found = Some(node);
-    }
-    found
+// Whether this is the keyed tree of this shape.
+fn is_tree(alloc: Global, found: &Keyed, shape: &Shape) -> Result<bool, AllocError> {
+    let wanted = tree(alloc, shape)?;
+    Ok(found.same(&wanted))
 }
 
-fn merged(alloc: Global, salaries: &[Option<&str>]) -> Result<Archive, Fail> {
-    let mut archive = Archive::empty(alloc);
-    for salary in salaries {
-        let staff = match salary {
-            Some(salary) => Some(employee(alloc, salary)?),
-            None => None,
-        };
-        archive = grown(alloc, archive, &company(alloc, staff)?)?;
+// Whether the archive has this version.
+fn has_version(
+    alloc: Global,
+    archive: &Archive,
+    i: u32,
+    shape: &Shape,
+) -> Result<bool, AllocError> {
+    match archive.version(alloc, i)? {
+        Some(version) => is_tree(alloc, &version, shape),
+        None => Ok(false),
     }
-    Ok(archive)
+}
+
+// Whether the archive has these versions and no more.
+fn has_versions(alloc: Global, archive: &Archive, versions: &[Shape]) -> Result<bool, AllocError> {
+    let mut i = 0u32;
+    for shape in versions {
+        i = i.saturating_add(1);
+        if !has_version(alloc, archive, i, shape)? {
+            return Ok(false);
+        }
+    }
+    Ok(archive.n() == i)
+}
+
+// Whether the versions come back from their archive, which stores so many timestamps.
+fn is_merged(alloc: Global, versions: &[Shape], stored: &Option<usize>) -> Result<bool, Fail> {
+    let archive = merged(alloc, versions)?;
+    let are_stored = stored.is_none_or(|wanted| wanted == stamps(archive.kids()));
+    Ok(are_stored && has_versions(alloc, &archive, versions)?)
 }
 
 #[test]
-fn a_version_that_comes_again_stores_no_timestamp(rt: HostRuntime) -> Result<(), Fail> {
-    let alloc = rt.alloc();
-    let version = tiny(alloc)?;
-    let once = grown(alloc, Archive::empty(alloc), &version)?;
-    assert_eq!(rt; (once.n(), stamps(once.kids())), (1, 0));
-    let twice = grown(alloc, once, &version)?;
-    assert_eq!(rt; (twice.n(), stamps(twice.kids())), (2, 0));
-    let last = twice.version(alloc, 2)?.expect(&rt, "a version");
-    assert!(rt; last.same(&version));
+fn merged_versions_come_back(rt: HostRuntime) -> Result<(), Fail> {
+    for (name, versions, stored) in MERGED {
+        assert!(rt; is_merged(rt.alloc(), versions, stored)?, "{name}");
+    }
     Ok(())
+}
+
+// The alternatives of the node at these places, each counted from 0 among its siblings.
+fn alternatives<'a>(kids: &'a [ANode], places: &[usize]) -> &'a [Alt] {
+    let mut nodes = kids;
+    for place in places {
+        match nodes.get(*place) {
+            Some(ANode::Inner { kids, .. }) => nodes = kids,
+            Some(ANode::Leaf { alts, .. }) => return alts,
+            None => return &[],
+        }
+    }
+    &[]
+}
+
+/// Whether an alternative has a set of this text, and this body.
+fn is_alternative(
+    alloc: Global,
+    alt: &Alt,
+    versions: &str,
+    value: &Value,
+) -> Result<bool, AllocError> {
+    let wanted = body(alloc, value)?;
+    match &alt.stamp {
+        Some(set) => Ok(set.text()?.as_str() == versions && alt.body.same(&wanted)),
+        None => Ok(false),
+    }
+}
+
+/// Whether these are the two salaries, in the order of their first versions.
+fn are_salaries(alloc: Global, alts: &[Alt]) -> Result<bool, AllocError> {
+    match alts {
+        [first, second] => Ok(
+            is_alternative(alloc, first, "1,3", &Value::Text("90K"))?
+                && is_alternative(alloc, second, "2", &Value::Text("95K"))?,
+        ),
+        _ => Ok(false),
+    }
+}
+
+fn has_two_salaries(alloc: Global, versions: &[Shape]) -> Result<bool, Fail> {
+    let archive = merged(alloc, versions)?;
+    Ok(are_salaries(alloc, alternatives(archive.kids(), &[0, 0, 0, 2]))?)
 }
 
 #[test]
 fn a_salary_that_returns_has_two_alternatives(rt: HostRuntime) -> Result<(), Fail> {
-    let alloc = rt.alloc();
-    let archive = merged(alloc, &[Some("90K"), Some("95K"), Some("90K")])?;
-    // Only the two alternatives have sets of their own.
-    assert_eq!(rt; stamps(archive.kids()), 2);
-    match at(archive.kids(), &[0, 0, 0, 2]) {
-        Some(ANode::Leaf { alts, .. }) => {
-            assert_eq!(rt; alts.len(), 2);
-            for (alt, (versions, salary)) in alts.iter().zip([("1,3", "90K"), ("2", "95K")]) {
-                let stamp = alt.stamp.as_ref().expect(&rt, "a set");
-                assert_eq!(rt; stamp.text()?.as_str(), versions);
-                assert!(rt; alt.body.same(&words(alloc, salary)?));
-            }
-        }
-        _ => assert!(rt; false),
-    }
-    Ok(())
-}
-
-// The goods of version v: some of them come and go, and prices change.
-fn catalogue(alloc: Global, v: usize) -> Result<Keyed, AllocError>
-    ensures { IfOk result (λ k. IsKeyedWellFormed (keyed_view k)) }
-{
-    let price = if v % 2 == 0 { "10" } else { "12" };
-    let anvil = leaf(alloc, with_key(alloc, "item", "anvil")?, price)?;
-    let bell = leaf(alloc, with_key(alloc, "item", "bell")?, "7")?;
-    let cord = leaf(alloc, with_key(alloc, "item", "cord")?, price)?;
-    let goods = match v % 3 {
-        0 => vec![in alloc; anvil, bell]?,
-        1 => vec![in alloc; bell, cord]?,
-        _ => vec![in alloc; anvil, bell, cord]?,
-    };
-    Ok(node(tag(alloc, "catalogue")?, goods))
-}
-
-#[test]
-fn ten_versions_of_a_catalogue_come_back(rt: HostRuntime) -> Result<(), Fail> {
-    let alloc = rt.alloc();
-    let mut archive = Archive::empty(alloc);
-    for v in 0..10 {
-        archive = grown(alloc, archive, &catalogue(alloc, v)?)?;
-    }
-    for (i, v) in (1..11).zip(0..10) {
-        let version = archive.version(alloc, i)?.expect(&rt, "a version");
-        assert!(rt; version.same(&catalogue(alloc, v)?));
-    }
+    assert!(rt; has_two_salaries(rt.alloc(), SALARIES)?);
     Ok(())
 }

@@ -4,13 +4,9 @@
 #[cfg(test)]
 mod annotations;
 #[cfg(test)]
-mod faults_and_paths;
-#[cfg(test)]
 mod keyed_trees;
 #[cfg(test)]
-mod large_documents;
-#[cfg(test)]
-mod rows_of_leaves;
+mod reading;
 #[cfg(test)]
 mod rules;
 #[cfg(test)]

@@ -1,238 +1,342 @@
-ghost use Rattle.std.specs.Prelude.{◌≤◌, length};
-
-use jsonml_text::read_document;
-use jsonml_tree::{Content, Tree};
-use key_rules::{LabelFault, PathFault, first_fault, label_of, read_path};
-use key_spec::Spec;
-use keyed_tree::{KeyVal, Label, Name};
+use crate::reading::{COMPANY, NESTED, Named, label, labels, lend, parse, read, texts};
+use jsonml_tree::LentTree;
+use key_annotate::{AnnotateFault, keyed};
+use key_rules::{
+    KeyFault, LabelFault, PathFault, first_fault, first_lent_fault, label_of, lent_label, read_path,
+};
+use key_spec::KeyPath;
+use keyed_tree::Label;
 use std::alloc::{AllocError, Global};
-use std::process::Abort;
+use std::borrow::CowStr;
+use std::cmp::Ordering;
 use std::test::Fail;
 
-const COMPANY: &[u8] = b"# company
-(/, (db, {}))
-(/db, (dept, {name}))
-(/db/dept, (emp, {fn, ln}))
-(/db/dept/emp, (sal, {}))
-(/db/dept/emp, (tel, {.}))
-";
+/// The place of a fault, why it is one, and the tag that is the key path, if one is to stand there.
+struct Wanted(&'static [u32], u8, Option<&'static str>);
 
-/// The path of a department's element.
-fn department(alloc: Global) -> Result<Vec<String>, AllocError> {
-    Ok(vec![in alloc;
-        String::from_str(alloc, "db")?,
-        String::from_str(alloc, "dept")?,
-    ]?)
-}
-
-/// The content of one text, as a key value.
-fn value(alloc: Global, text: &str) -> Result<KeyVal, AllocError> {
-    let items = vec![in alloc; Tree::Text(String::from_str(alloc, text)?)]?;
-    Ok(KeyVal::Content(Content {
-        attrs: Vec::new(alloc),
-        items,
-    }))
-}
-
-/// Checks the place, why, and the tag that is the key path, if one is to stand there.
-fn check_fault(
-    rt: &impl Abort,
-    alloc: Global,
-    text: &[u8],
-    steps: &[u32],
-    why: u8,
-    key: Option<&str>,
-) -> Result<(), Fail>
-    requires { length text.now ≤ 1000 }
-{
-    let spec = Spec::parse(alloc, COMPANY)?;
-    let doc = read_document(alloc, text)?;
-    let fault = first_fault(alloc, &spec, &doc)?.ok_or("no fault")?;
-    assert!(rt; fault.place.steps.as_slice() == steps);
-    assert_eq!(rt; fault.why, why);
-    match (fault.key_path, key) {
-        (None, None) => {}
-        (Some(path), Some(tag)) => {
-            assert!(rt; path.attr.is_none());
-            assert_eq!(rt; path.tags.len(), 1);
-            assert!(rt; path.tags[0].as_str() == tag);
-        }
-        _ => assert!(rt;
-            false,
-            "a key path stands where none is wanted, or none where one is"
-        ),
-    }
-    Ok(())
-}
-
-#[test]
-fn an_employee_without_a_last_name_misses_the_second_key_path(rt: HostRuntime) -> Result<(), Fail> {
-    let alloc = rt.alloc();
-    let spec = Spec::parse(alloc, COMPANY)?;
-    let context = department(alloc)?;
-    let john = read_document(alloc, br#"["emp",["fn","John"]]"#)?;
-    let is_missing = matches!(
-        label_of(alloc, &spec, &context, &john),
-        Err(LabelFault::Missing { path: 2 })
-    );
-    assert!(rt; is_missing);
-    Ok(())
-}
-
-#[test]
-fn an_employee_is_labelled_by_first_and_last_name(rt: HostRuntime) -> Result<(), Fail> {
-    let alloc = rt.alloc();
-    let spec = Spec::parse(alloc, COMPANY)?;
-    let context = department(alloc)?;
-    let john = read_document(
-        alloc,
-        br#"["emp",["ln","Doe"],["sal","90K"],["fn","John"]]"#,
-    )?;
-    let label = label_of(alloc, &spec, &context, &john)?;
-    let expected = Label {
-        name: Name::Tag(String::from_str(alloc, "emp")?),
-        keys: vec![in alloc; value(alloc, "John")?, value(alloc, "Doe")?]?,
-    };
-    assert!(rt; label.same(&expected));
-    let is_unkeyed = matches!(label_of(alloc, &spec, &[], &john), Err(LabelFault::Unkeyed));
-    assert!(rt; is_unkeyed);
-    Ok(())
-}
-
-#[test]
-fn a_document_that_satisfies_its_keys_has_no_fault(rt: HostRuntime) -> Result<(), Fail> {
-    let alloc = rt.alloc();
-    let spec = Spec::parse(alloc, COMPANY)?;
-    let doc = read_document(
-        alloc,
+/// A specification, a document, and its first fault.
+const FAULTS: &[(&str, &[u8], &[u8], Option<Wanted>)] = &[
+    (
+        "a document that satisfies its keys has no fault",
+        COMPANY,
         br#"["db","\n ",["dept",["emp",["fn","John"],["ln","Doe"]],["emp",["fn","Jane"],["ln","Doe"]],["name","finance"]]]"#,
-    )?;
-    assert!(rt; first_fault(alloc, &spec, &doc)?.is_none());
-    Ok(())
-}
-
-#[test]
-fn a_repeated_employee_is_the_fault(rt: HostRuntime) -> Result<(), Fail> {
-    check_fault(
-        &rt,
-        rt.alloc(),
+        None,
+    ),
+    (
+        "a repeated employee",
+        COMPANY,
         br#"["db",["dept",["name","finance"],["emp",["fn","John"],["ln","Doe"]],["emp",["fn","Jane"],["ln","Roe"]],["emp",["fn","John"],["ln","Doe"],["sal","1K"]]]]"#,
-        &[1, 4],
-        5,
-        None,
-    )
-}
-
-#[test]
-fn a_last_name_that_is_missing_or_stands_twice_is_the_fault(rt: HostRuntime) -> Result<(), Fail> {
-    let alloc = rt.alloc();
-    let without = br#"["db",["dept",["name","finance"],["emp",["fn","John"]]]]"#;
-    check_fault(&rt, alloc, without, &[1, 2], 3, Some("ln"))?;
-    let twice =
-        br#"["db",["dept",["name","finance"],["emp",["fn","John"],["ln","Doe"],["ln","Poe"]]]]"#;
-    check_fault(&rt, alloc, twice, &[1, 2], 4, Some("ln"))
-}
-
-#[test]
-fn a_string_and_an_element_without_a_rule_are_faults(rt: HostRuntime) -> Result<(), Fail> {
-    let alloc = rt.alloc();
-    check_fault(
-        &rt,
-        alloc,
+        Some(Wanted(&[1, 4], 5, None)),
+    ),
+    (
+        "a last name that is missing",
+        COMPANY,
+        br#"["db",["dept",["name","finance"],["emp",["fn","John"]]]]"#,
+        Some(Wanted(&[1, 2], 3, Some("ln"))),
+    ),
+    (
+        "a last name that stands twice",
+        COMPANY,
+        br#"["db",["dept",["name","finance"],["emp",["fn","John"],["ln","Doe"],["ln","Poe"]]]]"#,
+        Some(Wanted(&[1, 2], 4, Some("ln"))),
+    ),
+    (
+        "a string above the frontier",
+        COMPANY,
         br#"["db",["dept",["name","finance"],"x"]]"#,
-        &[1, 2],
-        2,
-        None,
-    )?;
-    check_fault(
-        &rt,
-        alloc,
+        Some(Wanted(&[1, 2], 2, None)),
+    ),
+    (
+        "an element without a rule",
+        COMPANY,
         br#"["db",["dept",["name","finance"],["boss"]]]"#,
-        &[1, 2],
-        1,
+        Some(Wanted(&[1, 2], 1, None)),
+    ),
+    (
+        "a root without a rule",
+        COMPANY,
+        br#"["shop"]"#,
+        Some(Wanted(&[], 1, None)),
+    ),
+    (
+        "the third key path stands beside its fault",
+        b"(/, (db, {}))\n(/db, (p, {x, y, z}))\n",
+        br#"["db",["p",["x","1"],["y","2"]]]"#,
+        Some(Wanted(&[1], 3, Some("z"))),
+    ),
+    (
+        "a text and a row that begins with it are two keys",
+        b"(/, (db, {}))\n(/db, (p, {k}))\n",
+        br#"["db",["p",["k","a"]],["p",["k","a",["b"]]]]"#,
         None,
-    )?;
-    check_fault(&rt, alloc, br#"["shop"]"#, &[], 1, None)
+    ),
+];
+
+/// The same for documents whose texts are lent.
+const LENT_FAULTS: &[(&str, &[u8], &[u8], Option<Wanted>)] = &[
+    (
+        "a text alone above the frontier",
+        NESTED,
+        br#"["a","x"]"#,
+        Some(Wanted(&[1], 2, None)),
+    ),
+    (
+        "a blank text alone above the frontier is no fault",
+        NESTED,
+        br#"["a"," "]"#,
+        None,
+    ),
+    (
+        "a root without a rule comes before its text",
+        NESTED,
+        br#"["b",""]"#,
+        Some(Wanted(&[], 1, None)),
+    ),
+];
+
+fn is_tag(path: &Option<KeyPath>, wanted: &Option<&str>) -> bool {
+    match (path, wanted) {
+        (None, None) => true,
+        (Some(KeyPath { tags, attr }), Some(tag)) => match tags.as_slice() {
+            [only] => attr.is_none() && only.as_str() == *tag,
+            _ => false,
+        },
+        _ => false,
+    }
 }
 
-/// Checks at which step a path is bad.
-fn check_bad_step(rt: &impl Abort, alloc: Global, path: &str, bad: u32) -> Result<(), Fail> {
-    let spec = Spec::parse(alloc, COMPANY)?;
-    match read_path(alloc, &spec, path) {
-        Err(PathFault::Bad { step }) => assert_eq!(rt; step, bad),
-        _ => assert!(rt; false, "no bad step"),
+fn is_wanted(fault: &Option<KeyFault>, wanted: &Option<Wanted>) -> bool {
+    match (fault, wanted) {
+        (None, None) => true,
+        (Some(fault), Some(Wanted(steps, why, tag))) => {
+            fault.place.steps.as_slice() == *steps
+                && fault.why == *why
+                && is_tag(&fault.key_path, tag)
+        }
+        _ => false,
+    }
+}
+
+fn is_fault(alloc: Global, spec: &[u8], doc: &[u8], wanted: &Option<Wanted>) -> Result<bool, Fail> {
+    let spec = parse(alloc, spec)?;
+    let doc = read(alloc, doc)?;
+    Ok(is_wanted(&first_fault(alloc, &spec, &doc)?, wanted))
+}
+
+fn is_fault_in_lent(
+    alloc: Global,
+    spec: &[u8],
+    doc: &[u8],
+    wanted: &Option<Wanted>,
+) -> Result<bool, Fail> {
+    let spec = parse(alloc, spec)?;
+    let doc = lend(alloc, doc)?;
+    Ok(is_wanted(&first_lent_fault(alloc, &spec, &doc)?, wanted))
+}
+
+#[test]
+fn the_first_fault_is_told(rt: HostRuntime) -> Result<(), Fail> {
+    for (name, spec, doc, wanted) in FAULTS {
+        assert!(rt; is_fault(rt.alloc(), spec, doc, wanted)?, "{name}");
+    }
+    for (name, spec, doc, wanted) in LENT_FAULTS {
+        assert!(rt; is_fault_in_lent(rt.alloc(), spec, doc, wanted)?, "{name}");
     }
     Ok(())
 }
 
-/// Checks that two paths name the same labels, and how many.
-fn check_same_path(
-    rt: &impl Abort,
+/// Whether a document has this fault in place of a keyed tree.
+fn is_refused(alloc: Global, doc: &[u8], wanted: &Option<Wanted>) -> Result<bool, Fail> {
+    let spec = parse(alloc, COMPANY)?;
+    let doc = read(alloc, doc)?;
+    match keyed(alloc, &spec, &doc) {
+        Err(AnnotateFault::Key(fault)) => Ok(is_wanted(&Some(fault), wanted)),
+        _ => Ok(false),
+    }
+}
+
+#[test]
+fn a_repeated_department_has_no_keyed_tree(rt: HostRuntime) -> Result<(), Fail> {
+    let doc = br#"["db",["dept",["name","finance"]],["dept",["name","finance"]]]"#;
+    assert!(rt; is_refused(rt.alloc(), doc, &Some(Wanted(&[2], 5, None)))?);
+    Ok(())
+}
+
+/// Why an element has no label: 0 where no rule is for it, and else the number of the key path that it misses.
+type Missing = u32;
+
+/// The path of an element's parent, the element, and its label.
+const LABELS: &[(&str, &[&str], &[u8], Result<Named, Missing>)] = &[
+    (
+        "an employee without a last name misses the second key path",
+        &["db", "dept"],
+        br#"["emp",["fn","John"]]"#,
+        Err(2),
+    ),
+    (
+        "an employee is labelled by first and last name",
+        &["db", "dept"],
+        br#"["emp",["ln","Doe"],["sal","90K"],["fn","John"]]"#,
+        Ok(("emp", &["John", "Doe"])),
+    ),
+    (
+        "an employee at the root has no rule",
+        &[],
+        br#"["emp",["ln","Doe"],["sal","90K"],["fn","John"]]"#,
+        Err(0),
+    ),
+];
+
+/// The label of an element, or why it has none.
+fn labelled(
     alloc: Global,
-    path: &str,
-    other: &str,
-    count: usize,
-) -> Result<(), Fail> {
-    let spec = Spec::parse(alloc, COMPANY)?;
-    let labels = read_path(alloc, &spec, path)?;
-    let others = read_path(alloc, &spec, other)?;
-    assert_eq!(rt; labels.len(), count);
-    assert!(rt; labels == others);
-    Ok(())
+    context: &[&str],
+    doc: &[u8],
+) -> Result<Result<Label, LabelFault>, Fail> {
+    let spec = parse(alloc, COMPANY)?;
+    let context = texts(alloc, context)?;
+    let doc = read(alloc, doc)?;
+    Ok(label_of(alloc, &spec, &context, &doc))
+}
+
+fn is_label(alloc: Global, found: &Label, named: &Named) -> Result<bool, AllocError> {
+    let wanted = label(alloc, named)?;
+    Ok(found.same(&wanted))
+}
+
+fn is_labelled(
+    alloc: Global,
+    context: &[&str],
+    doc: &[u8],
+    wanted: &Result<Named, Missing>,
+) -> Result<bool, Fail> {
+    let found = labelled(alloc, context, doc)?;
+    match (&found, wanted) {
+        (Ok(found), Ok(named)) => Ok(is_label(alloc, found, named)?),
+        (Err(LabelFault::Missing { path }), Err(wanted)) => Ok(path == wanted),
+        (Err(LabelFault::Unkeyed), Err(wanted)) => Ok(*wanted == 0),
+        _ => Ok(false),
+    }
 }
 
 #[test]
-fn a_department_is_named_by_its_key(rt: HostRuntime) -> Result<(), Fail> {
-    let alloc = rt.alloc();
-    let spec = Spec::parse(alloc, COMPANY)?;
-    let labels = read_path(alloc, &spec, r#"["db",["dept","finance"]]"#)?;
-    let db = Label {
-        name: Name::Tag(String::from_str(alloc, "db")?),
-        keys: Vec::new(alloc),
-    };
-    let dept = Label {
-        name: Name::Tag(String::from_str(alloc, "dept")?),
-        keys: vec![in alloc; value(alloc, "finance")?]?,
-    };
-    assert_eq!(rt; labels.len(), 2);
-    assert!(rt; labels[0].same(&db) && labels[1].same(&dept));
+fn elements_have_their_labels(rt: HostRuntime) -> Result<(), Fail> {
+    for (name, context, doc, wanted) in LABELS {
+        assert!(rt; is_labelled(rt.alloc(), context, doc, wanted)?, "{name}");
+    }
     Ok(())
 }
 
-#[test]
-fn a_step_without_key_values_and_a_content_may_be_arrays(rt: HostRuntime) -> Result<(), Fail> {
-    let alloc = rt.alloc();
-    check_same_path(
-        &rt,
-        alloc,
+/// A path, and its labels or its first bad step.
+const PATHS: &[(&[u8], &str, Result<&[Named], u32>)] = &[
+    (
+        COMPANY,
         r#"["db",["dept","finance"]]"#,
+        Ok(&[("db", &[]), ("dept", &["finance"])]),
+    ),
+    // A step without key values may be an array, and so may a content.
+    (
+        COMPANY,
         r#"[["db"],["dept",["finance"]]]"#,
-        2,
-    )?;
-    check_same_path(&rt, alloc, "[]", " [ ] ", 0)
+        Ok(&[("db", &[]), ("dept", &["finance"])]),
+    ),
+    (COMPANY, "[]", Ok(&[])),
+    (COMPANY, " [ ] ", Ok(&[])),
+    // An attribute is the last step.
+    (COMPANY, r#"["db","@x"]"#, Ok(&[("db", &[]), ("@x", &[])])),
+    (COMPANY, r#"["db","@x","@y"]"#, Err(3)),
+    (COMPANY, r#"["@x"]"#, Err(1)),
+    (COMPANY, "x", Err(0)),
+    (COMPANY, r#""db""#, Err(0)),
+    (COMPANY, r#"["db","dept"]"#, Err(2)),
+    (COMPANY, r#"["db",["dept","finance"],["name","x"]]"#, Err(3)),
+    (COMPANY, r#"["db",["dept","finance"],"name","y"]"#, Err(4)),
+    // A path may have six steps and more.
+    (
+        NESTED,
+        r#"["a","b","c","d","e","f"]"#,
+        Ok(&[
+            ("a", &[]),
+            ("b", &[]),
+            ("c", &[]),
+            ("d", &[]),
+            ("e", &[]),
+            ("f", &[]),
+        ]),
+    ),
+    (
+        NESTED,
+        r#"["a","b","c","d","e","f","g"]"#,
+        Ok(&[
+            ("a", &[]),
+            ("b", &[]),
+            ("c", &[]),
+            ("d", &[]),
+            ("e", &[]),
+            ("f", &[]),
+            ("g", &[]),
+        ]),
+    ),
+    (NESTED, r#"["a","b","c","d","e","f","g","h"]"#, Err(8)),
+];
+
+/// The labels of a path, or why it is none.
+fn path_of(alloc: Global, spec: &[u8], path: &str) -> Result<Result<Vec<Label>, PathFault>, Fail> {
+    let spec = parse(alloc, spec)?;
+    Ok(read_path(alloc, &spec, path))
+}
+
+fn are_labels(alloc: Global, found: &[Label], named: &[Named]) -> Result<bool, AllocError> {
+    let wanted = labels(alloc, named)?;
+    Ok(found == wanted.as_slice())
+}
+
+fn is_path(
+    alloc: Global,
+    spec: &[u8],
+    path: &str,
+    wanted: &Result<&[Named], u32>,
+) -> Result<bool, Fail> {
+    let found = path_of(alloc, spec, path)?;
+    match (&found, wanted) {
+        (Ok(found), Ok(named)) => Ok(are_labels(alloc, found, named)?),
+        (Err(PathFault::Bad { step }), Err(wanted)) => Ok(step == wanted),
+        _ => Ok(false),
+    }
 }
 
 #[test]
-fn an_attribute_is_the_last_step(rt: HostRuntime) -> Result<(), Fail> {
-    let alloc = rt.alloc();
-    let spec = Spec::parse(alloc, COMPANY)?;
-    let labels = read_path(alloc, &spec, r#"["db","@x"]"#)?;
-    let x = Label {
-        name: Name::Attr(String::from_str(alloc, "x")?),
-        keys: Vec::new(alloc),
-    };
-    assert_eq!(rt; labels.len(), 2);
-    assert!(rt; labels[1].same(&x));
-    check_bad_step(&rt, alloc, r#"["db","@x","@y"]"#, 3)?;
-    check_bad_step(&rt, alloc, r#"["@x"]"#, 1)
+fn paths_have_their_labels_or_a_bad_step(rt: HostRuntime) -> Result<(), Fail> {
+    for (spec, path, wanted) in PATHS {
+        assert!(rt; is_path(rt.alloc(), spec, path, wanted)?, "{path}");
+    }
+    Ok(())
+}
+
+/// A leaf of this tag and text.
+fn leaf<'a>(tag: &'a str, text: &'a str) -> LentTree<'a> {
+    LentTree::Leaf {
+        tag: CowStr::Borrowed(tag),
+        text: CowStr::Borrowed(text),
+    }
+}
+
+/// How the labels of two leaves are ordered, if they have labels.
+fn order_of_leaves(alloc: Global, one: &str, other: &str) -> Result<Option<Ordering>, Fail> {
+    let spec = parse(alloc, b"(/, (p, {.}))\n")?;
+    let (one, other) = (leaf("p", one), leaf("p", other));
+    let first = lent_label(alloc, &spec, &[], &one)?;
+    let second = lent_label(alloc, &spec, &[], &other)?;
+    match (&first, &second) {
+        (Some(first), Some(second)) => Ok(Some(first.order(second))),
+        _ => Ok(None),
+    }
 }
 
 #[test]
-fn the_first_bad_step_is_answered(rt: HostRuntime) -> Result<(), Fail> {
-    let alloc = rt.alloc();
-    check_bad_step(&rt, alloc, "x", 0)?;
-    check_bad_step(&rt, alloc, r#""db""#, 0)?;
-    check_bad_step(&rt, alloc, r#"["db","dept"]"#, 2)?;
-    check_bad_step(&rt, alloc, r#"["db",["dept","finance"],["name","x"]]"#, 3)?;
-    check_bad_step(&rt, alloc, r#"["db",["dept","finance"],"name","y"]"#, 4)
+fn lent_labels_come_in_the_order_of_their_texts(rt: HostRuntime) -> Result<(), Fail> {
+    let ascending = order_of_leaves(rt.alloc(), "a", "b")?;
+    let descending = order_of_leaves(rt.alloc(), "b", "a")?;
+    assert!(rt; ascending == Some(Ordering::Less) && descending == Some(Ordering::Greater));
+    Ok(())
 }

@@ -1,16 +1,9 @@
+use crate::reading::{COMPANY, parse, texts};
 use key_spec::{KeyPath, Spec, SpecFault};
 use std::alloc::{AllocError, Global};
 use std::test::Fail;
 
-const COMPANY: &str = "# company
-(/, (db, {}))
-(/db, (dept, {name}))
-(/db/dept, (emp, {fn, ln}))
-(/db/dept/emp, (sal, {}))
-(/db/dept/emp, (tel, {.}))
-";
-
-const COMPANY_TEXT: &str = "(/, (db, {}))
+const COMPANY_TEXT: &[u8] = b"(/, (db, {}))
 (/db, (dept, {name}))
 (/db/dept, (emp, {fn, ln}))
 (/db/dept, (name, {}))
@@ -20,7 +13,73 @@ const COMPANY_TEXT: &str = "(/, (db, {}))
 (/db/dept/emp, (tel, {.}))
 ";
 
-/// The line and why of a text's fault, or no line and no why.
+/// A text, and the canonical text of what it specifies.
+const CANONICAL: &[(&[u8], &[u8])] = &[
+    (COMPANY, COMPANY_TEXT),
+    (COMPANY_TEXT, COMPANY_TEXT),
+    // A carriage return belongs to the end of a line.
+    (
+        b"\r\n (\t/ ,(db , { } ) ) \r\n(/db, (e, {@id}))\r",
+        b"(/, (db, {}))\n(/db, (e, {@id}))\n",
+    ),
+];
+
+fn is_canonical(alloc: Global, text: &[u8], wanted: &[u8]) -> Result<bool, Fail> {
+    let spec = parse(alloc, text)?;
+    Ok(spec.text(alloc)?.as_bytes() == wanted)
+}
+
+#[test]
+fn specifications_have_their_canonical_texts(rt: HostRuntime) -> Result<(), Fail> {
+    assert_eq!(rt; COMPANY_TEXT.len(), 190);
+    for (index, (text, wanted)) in CANONICAL.iter().enumerate() {
+        assert!(rt; is_canonical(rt.alloc(), text, wanted)?, "text {index}");
+    }
+    Ok(())
+}
+
+/// A text, and the line and why of its fault, or no line and no why.
+const FAULTS: &[(&[u8], (u32, u8))] = &[
+    (b"(/, (db, {})", (1, 1)),
+    (b"(/db, (a, {}))", (1, 2)),
+    (b"(/, (db, {}))\n(/, (db, {}))", (2, 3)),
+    (b"(/, (db, {a, a}))", (1, 4)),
+    (b"(/, (db, {a}))\n(/db, (a, {b}))", (2, 5)),
+    (b"(/, (db, {a}))\n(/db/a, (c, {}))", (2, 6)),
+    (b"(/, (db, {a/b/c/d/e/f/g/h/i}))", (1, 7)),
+    // A key for an implied rule is refused also before the line that implies it.
+    (
+        b"(/, (db, {}))\n(/db/x, (a, {b}))\n(/db, (x, {a/c}))",
+        (2, 5),
+    ),
+    // The first pass comes before the second.
+    (b"(/db, (a, {}))\n(/, (db, {a, a}))", (2, 4)),
+    // A comment may hold any bytes.
+    (b" \t# \xff\xfe\n(/, (db, {}))\n", (0, 0)),
+    (b"(/, (d\xff, {}))\n", (1, 1)),
+    (b"(/, (db, {}))\r\r\n", (1, 1)),
+    // A dot stands alone.
+    (b"(/, (db, {.}))", (0, 0)),
+    (b"(/, (db, {., a}))", (1, 4)),
+    (b"(/, (., {}))", (1, 1)),
+    (b"(/, (db, {./a}))", (1, 1)),
+    (b"(/, (db, {a/@b, @b, a/b}))", (0, 0)),
+    // Blanks stand between tokens only.
+    (b"(/, (db, {}))\n(/db /a, (b, {}))", (2, 1)),
+    (b"(/, (db, {a,}))", (1, 1)),
+    (b"(/, (db, {})) x", (1, 1)),
+    // Sixteen key paths of eight tags are enough.
+    (
+        b"(/, (db, {a0, a1, a2, a3, a4, a5, a6, a7, a8, a9, a10, a11, a12, a13, a14, a15}))\n",
+        (0, 0),
+    ),
+    (
+        b"(/, (db, {a0, a1, a2, a3, a4, a5, a6, a7, a8, a9, a10, a11, a12, a13, a14, a15, a16}))\n",
+        (1, 7),
+    ),
+    (b"(/, (db, {a/b/c/d/e/f/g/h/@i}))", (0, 0)),
+];
+
 fn fault(alloc: Global, text: &[u8]) -> Result<(u32, u8), Fail> {
     if text.len() > 1_048_576 {
         return Err(Fail::from("too long"));
@@ -32,165 +91,80 @@ fn fault(alloc: Global, text: &[u8]) -> Result<(u32, u8), Fail> {
     }
 }
 
-fn parsed(alloc: Global, text: &str) -> Result<Spec, Fail> {
-    if text.len() > 1_048_576 {
-        return Err(Fail::from("too long"));
-    }
-    Ok(Spec::parse(alloc, text.as_bytes())?)
-}
-
-/// The canonical text of what a text specifies.
-fn canonical(alloc: Global, text: &str) -> Result<String, Fail> {
-    Ok(parsed(alloc, text)?.text(alloc)?)
-}
-
-fn names(alloc: Global, texts: &[&str]) -> Result<Vec<String>, AllocError> {
-    let mut names = Vec::new(alloc);
-    for text in texts {
-        names.push(String::from_str(alloc, text)?)?;
-    }
-    Ok(names)
-}
-
-#[test]
-fn the_company_specification_has_its_canonical_text(rt: HostRuntime) -> Result<(), Fail> {
-    let alloc = rt.alloc();
-    let text = canonical(alloc, COMPANY)?;
-    assert_eq!(rt; text.len(), 190);
-    assert_eq!(rt; text.as_str(), COMPANY_TEXT);
-    assert_eq!(rt; canonical(alloc, COMPANY_TEXT)?.as_str(), COMPANY_TEXT);
-    Ok(())
-}
-
 #[test]
 fn each_fault_has_its_line_and_why(rt: HostRuntime) -> Result<(), Fail> {
-    let alloc = rt.alloc();
-    assert_eq!(rt; fault(alloc, b"(/, (db, {})")?, (1, 1));
-    assert_eq!(rt; fault(alloc, b"(/db, (a, {}))")?, (1, 2));
-    assert_eq!(rt; fault(alloc, b"(/, (db, {}))\n(/, (db, {}))")?, (2, 3));
-    assert_eq!(rt; fault(alloc, b"(/, (db, {a, a}))")?, (1, 4));
-    assert_eq!(rt; fault(alloc, b"(/, (db, {a}))\n(/db, (a, {b}))")?, (2, 5));
-    assert_eq!(rt; fault(alloc, b"(/, (db, {a}))\n(/db/a, (c, {}))")?, (2, 6));
-    assert_eq!(rt; fault(alloc, b"(/, (db, {a/b/c/d/e/f/g/h/i}))")?, (1, 7));
-    Ok(())
-}
-
-#[test]
-fn a_key_for_an_implied_rule_is_refused_also_before_the_line_that_implies_it(
-    rt: HostRuntime,
-) -> Result<(), Fail> {
-    let alloc = rt.alloc();
-    assert_eq!(rt;
-        fault(
-            alloc,
-            b"(/, (db, {}))\n(/db/x, (a, {b}))\n(/db, (x, {a/c}))"
-        )?,
-        (2, 5)
-    );
-    Ok(())
-}
-
-#[test]
-fn the_first_pass_comes_before_the_second(rt: HostRuntime) -> Result<(), Fail> {
-    let alloc = rt.alloc();
-    assert_eq!(rt; fault(alloc, b"(/db, (a, {}))\n(/, (db, {a, a}))")?, (2, 4));
-    Ok(())
-}
-
-#[test]
-fn a_comment_may_hold_any_bytes(rt: HostRuntime) -> Result<(), Fail> {
-    let alloc = rt.alloc();
-    assert_eq!(rt; fault(alloc, b" \t# \xff\xfe\n(/, (db, {}))\n")?, (0, 0));
-    assert_eq!(rt; fault(alloc, b"(/, (d\xff, {}))\n")?, (1, 1));
-    Ok(())
-}
-
-#[test]
-fn a_carriage_return_belongs_to_the_end_of_a_line(rt: HostRuntime) -> Result<(), Fail> {
-    let alloc = rt.alloc();
-    let text = canonical(alloc, "\r\n (\t/ ,(db , { } ) ) \r\n(/db, (e, {@id}))\r")?;
-    assert_eq!(rt; text.as_str(), "(/, (db, {}))\n(/db, (e, {@id}))\n");
-    assert_eq!(rt; fault(alloc, b"(/, (db, {}))\r\r\n")?, (1, 1));
-    Ok(())
-}
-
-#[test]
-fn a_dot_stands_alone(rt: HostRuntime) -> Result<(), Fail> {
-    let alloc = rt.alloc();
-    assert_eq!(rt; fault(alloc, b"(/, (db, {.}))")?, (0, 0));
-    assert_eq!(rt; fault(alloc, b"(/, (db, {., a}))")?, (1, 4));
-    assert_eq!(rt; fault(alloc, b"(/, (., {}))")?, (1, 1));
-    assert_eq!(rt; fault(alloc, b"(/, (db, {./a}))")?, (1, 1));
-    assert_eq!(rt; fault(alloc, b"(/, (db, {a/@b, @b, a/b}))")?, (0, 0));
-    Ok(())
-}
-
-#[test]
-fn blanks_stand_between_tokens_only(rt: HostRuntime) -> Result<(), Fail> {
-    let alloc = rt.alloc();
-    assert_eq!(rt; fault(alloc, b"(/, (db, {}))\n(/db /a, (b, {}))")?, (2, 1));
-    assert_eq!(rt; fault(alloc, b"(/, (db, {a,}))")?, (1, 1));
-    assert_eq!(rt; fault(alloc, b"(/, (db, {})) x")?, (1, 1));
-    Ok(())
-}
-
-/// A rule with key paths `a0`, `a1` and so on.
-fn with_paths(alloc: Global, count: u32) -> Result<String, AllocError> {
-    let mut text = String::from_str(alloc, "(/, (db, {a0")?;
-    for i in 1..count {
-        text.push_str(format!(in alloc; ", a{i}")?.as_str())?;
+    for (index, (text, wanted)) in FAULTS.iter().enumerate() {
+        assert!(rt; fault(rt.alloc(), text)? == *wanted, "text {index}");
     }
-    text.push_str("}))\n")?;
-    Ok(text)
-}
-
-#[test]
-fn sixteen_key_paths_of_eight_tags_are_enough(rt: HostRuntime) -> Result<(), Fail> {
-    let alloc = rt.alloc();
-    assert_eq!(rt; fault(alloc, with_paths(alloc, 16)?.as_bytes())?, (0, 0));
-    assert_eq!(rt; fault(alloc, with_paths(alloc, 17)?.as_bytes())?, (1, 7));
-    assert_eq!(rt; fault(alloc, b"(/, (db, {a/b/c/d/e/f/g/h/@i}))")?, (0, 0));
     Ok(())
 }
 
-#[test]
-fn there_are_at_most_4096_closed_rules(rt: HostRuntime) -> Result<(), Fail> {
-    let alloc = rt.alloc();
+/// A rule with a key, 4,094 rules below it, and this line.
+fn with_rules(alloc: Global, last: &str) -> Result<String, AllocError> {
     let mut text = String::from_str(alloc, "(/, (r, {k}))\n")?;
     for i in 0..4094 {
         text.push_str(format!(in alloc; "(/r, (t{i}, {{}}))\n")?.as_str())?;
     }
-    assert_eq!(rt; fault(alloc, text.as_bytes())?, (0, 0));
-    text.push_str("(/r, (last, {}))")?;
-    assert_eq!(rt; fault(alloc, text.as_bytes())?, (0, 7));
+    text.push_str(last)?;
+    Ok(text)
+}
+
+fn fault_of_many(alloc: Global, last: &str) -> Result<(u32, u8), Fail> {
+    let text = with_rules(alloc, last)?;
+    fault(alloc, text.as_bytes())
+}
+
+#[test]
+fn there_are_at_most_4096_closed_rules(rt: HostRuntime) -> Result<(), Fail> {
+    assert!(rt; fault_of_many(rt.alloc(), "")? == (0, 0));
+    assert!(rt; fault_of_many(rt.alloc(), "(/r, (last, {}))")? == (0, 7));
     Ok(())
+}
+
+/// A rule of the company with two key paths, and where the frontier is.
+fn are_rules_found(alloc: Global, spec: &Spec) -> Result<bool, AllocError> {
+    let dept = texts(alloc, &["db", "dept"])?;
+    let tel = texts(alloc, &["db", "dept", "emp", "tel"])?;
+    Ok(
+        spec.rules().len() == 8
+            && spec.rule(&dept, "sal").is_none()
+            && spec.is_frontier(&tel)
+            && !spec.is_frontier(&dept),
+    )
+}
+
+/// Whether the employees' rule has these key paths.
+fn are_paths(alloc: Global, spec: &Spec, first: &str, second: &str) -> Result<bool, AllocError> {
+    let dept = texts(alloc, &["db", "dept"])?;
+    match spec.rule(&dept, "emp").map(|rule| rule.paths.as_slice()) {
+        Some([one, other]) => {
+            let is_first = one.text(alloc)?.as_str() == first;
+            Ok(is_first && other.text(alloc)?.as_str() == second)
+        }
+        _ => Ok(false),
+    }
+}
+
+fn are_found(alloc: Global) -> Result<bool, Fail> {
+    let spec = parse(alloc, COMPANY)?;
+    Ok(are_rules_found(alloc, &spec)? && are_paths(alloc, &spec, "fn", "ln")?)
 }
 
 #[test]
 fn rules_are_found_by_context_and_tag(rt: HostRuntime) -> Result<(), Fail> {
-    let alloc = rt.alloc();
-    let spec = parsed(alloc, COMPANY)?;
-    let dept = names(alloc, &["db", "dept"])?;
-    let tel = names(alloc, &["db", "dept", "emp", "tel"])?;
-    assert_eq!(rt; spec.rules().len(), 8);
-    assert!(rt; spec.rule(&dept, "sal").is_none());
-    let emp = spec.rule(&dept, "emp").ok_or("no rule")?;
-    let first = emp.paths.first().ok_or("no key path")?;
-    let second = emp.paths.get(1).ok_or("one key path")?;
-    assert_eq!(rt; first.text(alloc)?.as_str(), "fn");
-    assert_eq!(rt; second.text(alloc)?.as_str(), "ln");
-    assert!(rt; spec.is_frontier(&tel));
-    assert!(rt; !spec.is_frontier(&dept));
+    assert!(rt; are_found(rt.alloc())?);
     Ok(())
+}
+
+fn is_path_text(alloc: Global, tags: &[&str], attr: &str, text: &str) -> Result<bool, AllocError> {
+    let attr = Some(String::from_str(alloc, attr)?);
+    let tags = texts(alloc, tags)?;
+    let path = KeyPath { tags, attr };
+    Ok(path.text(alloc)?.as_str() == text)
 }
 
 #[test]
 fn key_paths_are_written_as_they_are_read(rt: HostRuntime) -> Result<(), Fail> {
-    let alloc = rt.alloc();
-    let path = KeyPath {
-        tags: names(alloc, &["a", "b"])?,
-        attr: Some(String::from_str(alloc, "c")?),
-    };
-    assert_eq!(rt; path.text(alloc)?.as_str(), "a/b/@c");
+    assert!(rt; is_path_text(rt.alloc(), &["a", "b"], "c", "a/b/@c")?);
     Ok(())
 }

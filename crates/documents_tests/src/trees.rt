@@ -1,112 +1,157 @@
-use jsonml_tree::{Attr, Content, LentContent, LentTree, Scalar, Tree};
+use crate::reading::read;
+use jsonml_tree::{Content, LentContent, LentTree, Scalar, Tree};
 use std::alloc::{AllocError, Global};
 use std::cmp::Ordering;
 use std::test::Fail;
 
-fn text(alloc: Global, bytes: &str) -> Result<String, AllocError> {
-    String::from_str(alloc, bytes)
-}
-
-fn element(alloc: Global, tag: &str, items: Vec<Tree>) -> Result<Tree, AllocError> {
-    let content = Content {
-        attrs: Vec::new(alloc),
-        items,
-    };
-    Ok(Tree::Elem {
-        tag: text(alloc, tag)?,
-        content,
-    })
-}
-
-#[test]
-fn scalars_go_by_kind_and_then_by_value(rt: HostRuntime) -> Result<(), Fail> {
-    let alloc = rt.alloc();
-    let ascending = [
+/// Scalars, each before the next: by kind and then by value.
+fn scalars(alloc: Global) -> Result<[Scalar; 6], AllocError> {
+    let three = String::from_str(alloc, "3")?;
+    Ok([
         Scalar::Null,
         Scalar::Bool(false),
         Scalar::Bool(true),
         Scalar::Whole(-1),
         Scalar::Whole(3),
-        Scalar::Text(text(alloc, "3")?),
-    ];
-    for pair in ascending.windows(2) {
-        assert_eq!(rt; pair[0].order(&pair[1]), Ordering::Less);
-        assert_eq!(rt; pair[1].order(&pair[0]), Ordering::Greater);
-        assert!(rt; pair[0].same(&pair[0]));
-        assert!(rt; pair[1].copy(alloc)?.same(&pair[1]));
+        Scalar::Text(three),
+    ])
+}
+
+fn ascend(alloc: Global, first: &Scalar, second: &Scalar) -> Result<bool, AllocError> {
+    let is_copied = second.copy(alloc)?.same(second);
+    Ok(
+        is_copied
+            && first.same(first)
+            && first.order(second) == Ordering::Less
+            && second.order(first) == Ordering::Greater,
+    )
+}
+
+/// The place of the first two scalars that do not ascend.
+fn first_descent(alloc: Global, scalars: &[Scalar]) -> Result<Option<usize>, AllocError> {
+    for (index, pair) in scalars.windows(2).enumerate() {
+        if !ascend(alloc, &pair[0], &pair[1])? {
+            return Ok(Some(index));
+        }
     }
+    Ok(None)
+}
+
+fn do_scalars_ascend(alloc: Global) -> Result<bool, AllocError> {
+    let scalars = scalars(alloc)?;
+    Ok(first_descent(alloc, &scalars)?.is_none())
+}
+
+#[test]
+fn scalars_go_by_kind_and_then_by_value(rt: HostRuntime) -> Result<(), Fail> {
+    assert!(rt; do_scalars_ascend(rt.alloc())?);
     Ok(())
+}
+
+fn items(tree: &Tree) -> &[Tree] {
+    match tree {
+        Tree::Text(_) => &[],
+        Tree::Elem { content, .. } => &content.items,
+    }
+}
+
+/// Whether the first of two items comes before the second.
+fn is_first_less(alloc: Global, document: &[u8]) -> Result<bool, Fail> {
+    let tree = read(alloc, document)?;
+    match items(&tree) {
+        [first, second] => Ok(first.order(second) == Ordering::Less && !first.same(second)),
+        _ => Ok(false),
+    }
 }
 
 #[test]
 fn the_text_z_comes_before_the_element_a(rt: HostRuntime) -> Result<(), Fail> {
-    let alloc = rt.alloc();
-    let z = Tree::Text(text(alloc, "z")?);
-    let a = element(alloc, "a", Vec::new(alloc))?;
-    assert_eq!(rt; z.order(&a), Ordering::Less);
-    assert!(rt; !z.same(&a));
+    assert!(rt; is_first_less(rt.alloc(), br#"["db","z",["a"]]"#)?);
     Ok(())
 }
 
+fn is_tree_copied(alloc: Global, tree: &Tree) -> Result<bool, AllocError> {
+    let copy = tree.copy(alloc)?;
+    Ok(copy.same(tree))
+}
+
+fn is_content_copied(alloc: Global, content: &Content) -> Result<bool, AllocError> {
+    let copy = content.copy(alloc)?;
+    Ok(copy.same(content))
+}
+
+/// Whether copies of a document and of its content are the same.
+fn is_copied(alloc: Global, document: &[u8]) -> Result<bool, Fail> {
+    let tree = read(alloc, document)?;
+    match &tree {
+        Tree::Text(_) => Ok(false),
+        Tree::Elem { content, .. } => {
+            Ok(is_tree_copied(alloc, &tree)? && is_content_copied(alloc, content)?)
+        }
+    }
+}
+
+/// Whether the copy of a document is another document.
+fn is_copied_as(alloc: Global, document: &[u8], other: &[u8]) -> Result<bool, Fail> {
+    let tree = read(alloc, document)?;
+    let copy = tree.copy(alloc)?;
+    Ok(copy.same(&read(alloc, other)?))
+}
+
+const DEPARTMENT: &[u8] = br#"["dept",{"floor":3},["name","finance"]]"#;
+
 #[test]
 fn a_copy_is_the_same_and_as_deep(rt: HostRuntime) -> Result<(), Fail> {
-    let alloc = rt.alloc();
-    let name = element(
-        alloc,
-        "name",
-        vec![in alloc; Tree::Text(text(alloc, "finance")?)]?,
-    )?;
-    let floor = Attr {
-        name: text(alloc, "floor")?,
-        value: Scalar::Whole(3),
-    };
-    let content = Content {
-        attrs: vec![in alloc; floor]?,
-        items: vec![in alloc; name]?,
-    };
-    assert!(rt; content.copy(alloc)?.same(&content));
-    let department = Tree::Elem {
-        tag: text(alloc, "dept")?,
-        content,
-    };
-    let copy = department.copy(alloc)?;
-    assert!(rt; copy.same(&department));
-    let empty = element(alloc, "dept", Vec::new(alloc))?;
-    assert!(rt; !copy.same(&empty));
+    assert!(rt; is_copied(rt.alloc(), DEPARTMENT)?);
+    assert!(rt; !is_copied_as(rt.alloc(), DEPARTMENT, br#"["dept"]"#)?);
     Ok(())
+}
+
+fn is_lent_as(alloc: Global, tree: &Tree) -> Result<bool, AllocError> {
+    let lent = LentTree::lend(alloc, tree)?;
+    let owned = lent.own(alloc)?;
+    Ok(owned.same(tree))
+}
+
+fn is_kept_as(alloc: Global, tree: &Tree) -> Result<bool, AllocError> {
+    let kept = LentTree::keep(alloc, tree.copy(alloc)?)?;
+    let owned = kept.own(alloc)?;
+    Ok(owned.same(tree))
+}
+
+/// Whether a tree that is lent, and one that is kept, own the same tree again.
+fn is_owned_again(alloc: Global, document: &[u8]) -> Result<bool, Fail> {
+    let tree = read(alloc, document)?;
+    Ok(is_lent_as(alloc, &tree)? && is_kept_as(alloc, &tree)?)
 }
 
 #[test]
 fn a_lent_tree_owns_the_same_tree(rt: HostRuntime) -> Result<(), Fail> {
-    let alloc = rt.alloc();
-    let name = element(
-        alloc,
-        "name",
-        vec![in alloc; Tree::Text(text(alloc, "finance")?)]?,
-    )?;
-    let department = element(alloc, "dept", vec![in alloc; name]?)?;
-    let lent = LentTree::lend(alloc, &department)?;
-    assert!(rt; lent.own(alloc)?.same(&department));
-    let kept = LentTree::keep(alloc, department.copy(alloc)?)?;
-    assert!(rt; kept.own(alloc)?.same(&department));
-    let content = LentContent::Text("finance").own(alloc)?;
-    let finance = Content {
-        attrs: Vec::new(alloc),
-        items: vec![in alloc; Tree::Text(text(alloc, "finance")?)]?,
-    };
-    assert!(rt; content.same(&finance));
+    assert!(rt; is_owned_again(rt.alloc(), br#"["dept",["name","finance"]]"#)?);
+    assert!(rt; is_owned_again(rt.alloc(), br#"["name","finance"]"#)?);
     Ok(())
+}
+
+fn is_lent_text(alloc: Global, text: &str) -> Result<bool, AllocError> {
+    let content = LentContent::Text(text).own(alloc)?;
+    let wanted = Content::of_text(alloc, text)?;
+    Ok(content.same(&wanted))
+}
+
+#[test]
+fn a_lent_text_is_a_content(rt: HostRuntime) -> Result<(), Fail> {
+    assert!(rt; is_lent_text(rt.alloc(), "finance")?);
+    Ok(())
+}
+
+fn is_lent_leaf(alloc: Global, document: &[u8]) -> Result<bool, Fail> {
+    let tree = read(alloc, document)?;
+    let lent = LentTree::lend(alloc, &tree)?;
+    Ok(matches!(&lent, LentTree::Leaf { .. }))
 }
 
 #[test]
 fn an_element_of_one_text_is_lent_as_a_leaf(rt: HostRuntime) -> Result<(), Fail> {
-    let alloc = rt.alloc();
-    let name = Tree::Elem {
-        tag: String::from_str(alloc, "name")?,
-        content: Content::of_text(alloc, "finance")?,
-    };
-    let lent = LentTree::lend(alloc, &name)?;
-    assert!(rt; matches!(&lent, LentTree::Leaf { .. }));
-    assert!(rt; lent.own(alloc)?.same(&name));
+    assert!(rt; is_lent_leaf(rt.alloc(), br#"["name","finance"]"#)?);
     Ok(())
 }

@@ -1,18 +1,11 @@
-use std::alloc::{AllocError, Global};
+use crate::cases::Output::{Is, PrefixOf};
+use crate::cases::Step::{Put, Run, RunOver};
+use crate::cases::{Case, NOTHING, Norm, Outside, Pieces, QUIET, Step, check, check_norms};
+use crate::documents::{COMPANY, JOHN, TINY};
 use std::test::Fail;
-use xa_outside::{FolderCall, FolderFail, MemFolder, MemSink, SureSource};
-use xarch_run::run;
+use xa_outside::{FolderCall, FolderFail};
 
-pub(crate) const COMPANY: &[u8] =
-    b"# company\n(/, (db, {}))\n(/db, (dept, {name}))\n(/db/dept, (emp, {fn, ln}))\n(/db/dept/emp, (sal, {}))\n(/db/dept/emp, (tel, {.}))\n";
-
-pub(crate) const TINY: &[u8] = b"(/, (db, {}))\n";
-
-/// One employee in key order.
-pub(crate) const JOHN: &[u8] =
-    b"[\"db\",[\"dept\",[\"emp\",[\"fn\",\"John\"],[\"ln\",\"Doe\"],[\"sal\",\"90K\"],[\"tel\",\"123-4567\"]],[\"name\",\"finance\"]]]\n";
-
-/// The same out of order.
+/// The employee out of order.
 const JOHN_SHUFFLED: &[u8] =
     b"[\"db\",[\"dept\",[\"emp\",[\"tel\",\"123-4567\"],[\"sal\",\"90K\"],[\"ln\",\"Doe\"],[\"fn\",\"John\"]],[\"name\",\"finance\"]]]";
 
@@ -20,340 +13,450 @@ const JOHN_SHUFFLED: &[u8] =
 const JOHN_INDENTED: &[u8] =
     b"[\"db\",\"\\n  \",[\"dept\",\"\\n    \",[\"name\",\"finance\"],\"\\n    \",[\"emp\",\"\\n      \",[\"fn\",\"John\"],[\"ln\",\"Doe\"],[\"sal\",\"90K\"],[\"tel\",\"123-4567\"],\"\\n    \"],\"\\n  \"],\"\\n\"]";
 
-pub(crate) fn texts(alloc: Global, texts: &[&str]) -> Result<Vec<String>, AllocError> {
-    let mut strings = Vec::new(alloc);
-    for text in texts {
-        strings.push(String::from_str(alloc, text)?)?;
-    }
-    Ok(strings)
-}
+const DB: Pieces = &[(b"[\"db\"]", 1)];
 
-/// A folder with a specification and a document, whose listed calls fail.
-fn folder(
-    alloc: Global,
-    spec: &[u8],
-    doc: &[u8],
-    fails: &[FolderFail],
-) -> Result<MemFolder, AllocError> {
-    let mut folder = MemFolder::new(alloc, Vec::from_slice(alloc, fails)?);
-    folder.put("spec", Vec::from_slice(alloc, spec)?)?;
-    folder.put("doc", Vec::from_slice(alloc, doc)?)?;
-    Ok(folder)
-}
+/// A text of 20,000 letters.
+const LONG: Pieces = &[(b"[\"db\",\"", 1), (b"a", 20_000), (b"\"]\n", 1)];
 
-/// What words answer, write and say.
-pub(crate) fn answer(
-    alloc: Global,
-    folder: &mut MemFolder,
-    words: &[&str],
-) -> Result<(u8, MemSink, MemSink), AllocError> {
-    let words = texts(alloc, words)?;
-    let mut input = SureSource::new(Vec::new(alloc));
-    let mut out = MemSink::new(alloc, Vec::new(alloc));
-    let mut err = MemSink::new(alloc, Vec::new(alloc));
-    let status = run(alloc, &words, folder, &mut input, &mut out, &mut err);
-    Ok((status, out, err))
-}
+/// A text of more than a mebibyte, more items than two bytes count, and 65 attributes.
+const LETTERS: (&[u8], usize) = (
+    b"0123456789012345678901234567890123456789012345678901234567890123",
+    17_000,
+);
 
-/// What `norm` answers, writes and says.
-fn norm(alloc: Global, spec: &[u8], doc: &[u8]) -> Result<(u8, MemSink, MemSink), AllocError> {
-    let mut folder = folder(alloc, spec, doc, &[])?;
-    answer(alloc, &mut folder, &["norm", "spec", "doc"])
-}
+const ITEMS: (&[u8], usize) = (b",\"\"", 66_000);
 
-#[test]
-fn a_document_out_of_order_prints_in_key_order(rt: HostRuntime) -> Result<(), Fail> {
-    let (status, out, err) = norm(rt.alloc(), COMPANY, JOHN_SHUFFLED)?;
-    assert_eq!(rt; status, 0);
-    assert_eq!(rt; out.taken(), JOHN);
-    assert!(rt; err.taken().is_empty());
-    Ok(())
-}
+const ATTRIBUTES: &[u8] = b"{\"a\":0,\
+    \"b00\":0,\"b01\":0,\"b02\":0,\"b03\":0,\"b04\":0,\"b05\":0,\"b06\":0,\"b07\":0,\
+    \"b10\":0,\"b11\":0,\"b12\":0,\"b13\":0,\"b14\":0,\"b15\":0,\"b16\":0,\"b17\":0,\
+    \"b20\":0,\"b21\":0,\"b22\":0,\"b23\":0,\"b24\":0,\"b25\":0,\"b26\":0,\"b27\":0,\
+    \"b30\":0,\"b31\":0,\"b32\":0,\"b33\":0,\"b34\":0,\"b35\":0,\"b36\":0,\"b37\":0,\
+    \"b40\":0,\"b41\":0,\"b42\":0,\"b43\":0,\"b44\":0,\"b45\":0,\"b46\":0,\"b47\":0,\
+    \"b50\":0,\"b51\":0,\"b52\":0,\"b53\":0,\"b54\":0,\"b55\":0,\"b56\":0,\"b57\":0,\
+    \"b60\":0,\"b61\":0,\"b62\":0,\"b63\":0,\"b64\":0,\"b65\":0,\"b66\":0,\"b67\":0,\
+    \"b70\":0,\"b71\":0,\"b72\":0,\"b73\":0,\"b74\":0,\"b75\":0,\"b76\":0,\"b77\":0}";
 
-#[test]
-fn blank_strings_of_indented_xml_are_dropped(rt: HostRuntime) -> Result<(), Fail> {
-    let (status, out, _err) = norm(rt.alloc(), COMPANY, JOHN_INDENTED)?;
-    assert_eq!(rt; status, 0);
-    assert_eq!(rt; out.taken(), JOHN);
-    Ok(())
-}
+/// Documents that have a keyed tree.
+const PRINTED: &[Norm] = &[
+    Norm(
+        "a document out of order prints in key order",
+        COMPANY,
+        &[(JOHN_SHUFFLED, 1)],
+        0,
+        Is(&[(JOHN, 1)]),
+        b"",
+    ),
+    Norm(
+        "blank strings of indented XML are dropped",
+        COMPANY,
+        &[(JOHN_INDENTED, 1)],
+        0,
+        Is(&[(JOHN, 1)]),
+        b"",
+    ),
+    Norm(
+        "an empty object at the frontier is no item",
+        TINY,
+        &[(b"[\"db\",{},\"a\"]", 1)],
+        0,
+        Is(&[(b"[\"db\",\"a\"]\n", 1)]),
+        b"",
+    ),
+    Norm(
+        "a string below the frontier stays",
+        TINY,
+        &[(b"[\"db\",\"a\"]", 1)],
+        0,
+        Is(&[(b"[\"db\",\"a\"]\n", 1)]),
+        b"",
+    ),
+    Norm(
+        "an empty string below the frontier stays",
+        TINY,
+        &[(b"[\"db\",\"\",\"a\"]", 1)],
+        0,
+        Is(&[(b"[\"db\",\"\",\"a\"]\n", 1)]),
+        b"",
+    ),
+    Norm(
+        "attributes of inner elements come first",
+        COMPANY,
+        &[(
+            b"[\"db\",[\"dept\",{\"floor\":3,\"area\":\"n\"},[\"name\",\"finance\"]]]",
+            1,
+        )],
+        0,
+        Is(&[(
+            b"[\"db\",[\"dept\",{\"area\":\"n\",\"floor\":3},[\"name\",\"finance\"]]]\n",
+            1,
+        )]),
+        b"",
+    ),
+    Norm(
+        "elements nest 120 deep",
+        TINY,
+        &[(b"[\"db\"", 1), (b",[\"a\"", 119), (b"]", 120)],
+        0,
+        Is(&[(b"[\"db\"", 1), (b",[\"a\"", 119), (b"]", 120), (b"\n", 1)]),
+        b"",
+    ),
+    Norm(
+        "a document above a mebibyte",
+        TINY,
+        &[(b"[\"db\",\"", 1), LETTERS, (b"\"]", 1)],
+        0,
+        Is(&[(b"[\"db\",\"", 1), LETTERS, (b"\"]\n", 1)]),
+        b"",
+    ),
+    Norm(
+        "more items than two bytes count",
+        TINY,
+        &[(b"[\"db\"", 1), ITEMS, (b"]", 1)],
+        0,
+        Is(&[(b"[\"db\"", 1), ITEMS, (b"]\n", 1)]),
+        b"",
+    ),
+    Norm(
+        "65 attributes",
+        TINY,
+        &[(b"[\"db\",", 1), (ATTRIBUTES, 1), (b"]", 1)],
+        0,
+        Is(&[(b"[\"db\",", 1), (ATTRIBUTES, 1), (b"]\n", 1)]),
+        b"",
+    ),
+];
 
-#[test]
-fn strings_below_the_frontier_stay(rt: HostRuntime) -> Result<(), Fail> {
-    let cases: [(&[u8], &[u8]); 3] = [
-        (b"[\"db\",{},\"a\"]", b"[\"db\",\"a\"]\n"),
-        (b"[\"db\",\"a\"]", b"[\"db\",\"a\"]\n"),
-        (b"[\"db\",\"\",\"a\"]", b"[\"db\",\"\",\"a\"]\n"),
-    ];
-    for (doc, output) in cases {
-        let (status, out, _err) = norm(rt.alloc(), TINY, doc)?;
-        assert_eq!(rt; status, 0);
-        assert_eq!(rt; out.taken(), output);
-    }
-    Ok(())
-}
-
-#[test]
-fn attributes_of_inner_elements_come_first(rt: HostRuntime) -> Result<(), Fail> {
-    let doc = b"[\"db\",[\"dept\",{\"floor\":3,\"area\":\"n\"},[\"name\",\"finance\"]]]";
-    let (status, out, _err) = norm(rt.alloc(), COMPANY, doc)?;
-    assert_eq!(rt; status, 0);
-    assert_eq!(rt;
-        out.taken(),
-        b"[\"db\",[\"dept\",{\"area\":\"n\",\"floor\":3},[\"name\",\"finance\"]]]\n".as_slice()
-    );
-    Ok(())
-}
-
-#[test]
-fn documents_that_do_not_satisfy_the_keys_are_refused(rt: HostRuntime) -> Result<(), Fail> {
-    let cases: [(&[u8], &[u8]); 6] = [
-        (
+/// Documents that do not satisfy the keys.
+const UNKEYED: &[Norm] = &[
+    Norm(
+        "the same employee twice",
+        COMPANY,
+        &[(
             b"[\"db\",[\"dept\",[\"name\",\"finance\"],[\"emp\",[\"fn\",\"John\"],[\"ln\",\"Doe\"]],[\"emp\",[\"fn\",\"Jane\"],[\"ln\",\"Roe\"]],[\"emp\",[\"fn\",\"John\"],[\"ln\",\"Doe\"],[\"sal\",\"1K\"]]]]",
-            b"xarch: key fault at /1/4, why 5\n",
-        ),
-        (
+            1,
+        )],
+        8,
+        NOTHING,
+        b"xarch: key fault at /1/4, why 5\n",
+    ),
+    Norm(
+        "no last name",
+        COMPANY,
+        &[(
             b"[\"db\",[\"dept\",[\"name\",\"finance\"],[\"emp\",[\"fn\",\"John\"]]]]",
-            b"xarch: key fault at /1/2, why 3, key path ln\n",
-        ),
-        (
+            1,
+        )],
+        8,
+        NOTHING,
+        b"xarch: key fault at /1/2, why 3, key path ln\n",
+    ),
+    Norm(
+        "two last names",
+        COMPANY,
+        &[(
             b"[\"db\",[\"dept\",[\"name\",\"finance\"],[\"emp\",[\"fn\",\"John\"],[\"ln\",\"Doe\"],[\"ln\",\"Poe\"]]]]",
-            b"xarch: key fault at /1/2, why 4, key path ln\n",
-        ),
-        (
-            b"[\"db\",[\"dept\",[\"name\",\"finance\"],\"x\"]]",
-            b"xarch: key fault at /1/2, why 2\n",
-        ),
-        (
-            b"[\"db\",[\"dept\",[\"name\",\"finance\"],[\"boss\"]]]",
-            b"xarch: key fault at /1/2, why 1\n",
-        ),
-        (b"[\"shop\"]", b"xarch: key fault at /, why 1\n"),
-    ];
-    for (doc, line) in cases {
-        let (status, out, err) = norm(rt.alloc(), COMPANY, doc)?;
-        assert_eq!(rt; status, 8);
-        assert!(rt; out.taken().is_empty());
-        assert_eq!(rt; err.taken(), line);
+            1,
+        )],
+        8,
+        NOTHING,
+        b"xarch: key fault at /1/2, why 4, key path ln\n",
+    ),
+    Norm(
+        "a string above the frontier",
+        COMPANY,
+        &[(b"[\"db\",[\"dept\",[\"name\",\"finance\"],\"x\"]]", 1)],
+        8,
+        NOTHING,
+        b"xarch: key fault at /1/2, why 2\n",
+    ),
+    Norm(
+        "an element without a rule",
+        COMPANY,
+        &[(b"[\"db\",[\"dept\",[\"name\",\"finance\"],[\"boss\"]]]", 1)],
+        8,
+        NOTHING,
+        b"xarch: key fault at /1/2, why 1\n",
+    ),
+    Norm(
+        "a root without a rule",
+        COMPANY,
+        &[(b"[\"shop\"]", 1)],
+        8,
+        NOTHING,
+        b"xarch: key fault at /, why 1\n",
+    ),
+];
+
+/// Documents that are no tree.
+const MISSHAPEN: &[Norm] = &[
+    Norm(
+        "an array without a tag",
+        TINY,
+        &[(b"[\"db\",[]]", 1)],
+        7,
+        NOTHING,
+        b"xarch: bad shape at /1, why 1\n",
+    ),
+    Norm(
+        "a tag that is a number",
+        TINY,
+        &[(b"[\"db\",[5]]", 1)],
+        7,
+        NOTHING,
+        b"xarch: bad shape at /1, why 2\n",
+    ),
+    Norm(
+        "a second object",
+        TINY,
+        &[(b"[\"db\",{\"a\":\"x\"},{}]", 1)],
+        7,
+        NOTHING,
+        b"xarch: bad shape at /1, why 3\n",
+    ),
+    Norm(
+        "an attribute that is an array",
+        TINY,
+        &[(b"[\"db\",{\"a\":[]}]", 1)],
+        7,
+        NOTHING,
+        b"xarch: bad shape at /, why 4\n",
+    ),
+    Norm(
+        "an attribute that is a fraction",
+        TINY,
+        &[(b"[\"db\",{\"a\":1.5}]", 1)],
+        7,
+        NOTHING,
+        b"xarch: bad shape at /, why 5\n",
+    ),
+    Norm(
+        "a root that is a string",
+        TINY,
+        &[(b"\"db\"", 1)],
+        7,
+        NOTHING,
+        b"xarch: bad shape at /, why 6\n",
+    ),
+    Norm(
+        "half an array",
+        TINY,
+        &[(b"[", 1)],
+        6,
+        NOTHING,
+        b"xarch: bad json\n",
+    ),
+    Norm(
+        "elements 121 deep",
+        TINY,
+        &[(b"[\"db\"", 1), (b",[\"a\"", 120), (b"]", 121)],
+        12,
+        NOTHING,
+        b"xarch: limit depth 120\n",
+    ),
+];
+
+/// Specifications that have no closed reading, each before a document that is no JSON.
+const MISSPECIFIED: &[Norm] = &[
+    Norm(
+        "a rule that is not closed",
+        b"(/, (db, {})",
+        &[(b"[", 1)],
+        5,
+        NOTHING,
+        b"xarch: bad specification, line 1, why 1\n",
+    ),
+    Norm(
+        "a context without a rule",
+        b"(/db, (a, {}))",
+        &[(b"[", 1)],
+        5,
+        NOTHING,
+        b"xarch: bad specification, line 1, why 2\n",
+    ),
+    Norm(
+        "a rule twice",
+        b"(/, (db, {}))\n(/, (db, {}))\n",
+        &[(b"[", 1)],
+        5,
+        NOTHING,
+        b"xarch: bad specification, line 2, why 3\n",
+    ),
+    Norm(
+        "a key path twice",
+        b"(/, (db, {a, a}))",
+        &[(b"[", 1)],
+        5,
+        NOTHING,
+        b"xarch: bad specification, line 1, why 4\n",
+    ),
+    Norm(
+        "a key for an implied rule",
+        b"(/, (db, {a}))\n(/db, (a, {b}))\n",
+        &[(b"[", 1)],
+        5,
+        NOTHING,
+        b"xarch: bad specification, line 2, why 5\n",
+    ),
+    Norm(
+        "a rule below a key path",
+        b"(/, (db, {a}))\n(/db/a, (c, {}))\n",
+        &[(b"[", 1)],
+        5,
+        NOTHING,
+        b"xarch: bad specification, line 2, why 6\n",
+    ),
+    Norm(
+        "a key path of nine tags",
+        b"(/, (db, {a/b/c/d/e/f/g/h/i}))",
+        &[(b"[", 1)],
+        5,
+        NOTHING,
+        b"xarch: bad specification, line 1, why 7\n",
+    ),
+];
+
+const NORM: &[&str] = &["norm", "spec", "doc"];
+
+const SPEC: Step = Put("spec", &[(TINY, 1)]);
+
+const DOCUMENT: Step = Put("doc", DB);
+
+const NO_COMMAND: &[u8] = b"xarch: these words are no command\n";
+
+const FOLDER_FAULT: Step = Run(NORM, 13, NOTHING, b"xarch: folder fault\n");
+
+const CASES: &[Case] = &[
+    Case {
+        name: "a document past its limit is not read",
+        fails: &[FolderFail {
+            call: FolderCall::ReadAt,
+            number: 1,
+        }],
+        steps: &[
+            SPEC,
+            Put("doc", &[(&[b' '; 65_536], 1_024), (b" ", 1)]),
+            Run(NORM, 12, NOTHING, b"xarch: limit document 67108864\n"),
+        ],
+    },
+    Case {
+        name: "a specification past its limit is refused first",
+        fails: &[],
+        steps: &[
+            Put("spec", &[(b" ", 1_048_577)]),
+            Put("doc", &[(b"[", 1)]),
+            Run(NORM, 12, NOTHING, b"xarch: limit specification 1048576\n"),
+        ],
+    },
+    Case {
+        name: "missing files and other words are refused",
+        fails: &[],
+        steps: &[
+            SPEC,
+            DOCUMENT,
+            Run(
+                &["norm", "nope", "none"],
+                3,
+                NOTHING,
+                b"xarch: no file nope\n",
+            ),
+            Run(
+                &["norm", "spec", "none"],
+                3,
+                NOTHING,
+                b"xarch: no file none\n",
+            ),
+            Run(&["fetch", "spec", "doc"], 2, NOTHING, NO_COMMAND),
+            Run(&["norm", "spec"], 2, NOTHING, NO_COMMAND),
+            Run(&["norm", "spec", "doc", "doc"], 2, NOTHING, NO_COMMAND),
+            Run(&["Norm", "spec", "doc"], 2, NOTHING, NO_COMMAND),
+            Run(&[], 2, NOTHING, NO_COMMAND),
+        ],
+    },
+    Case {
+        name: "the first length fails",
+        fails: &[FolderFail {
+            call: FolderCall::Length,
+            number: 1,
+        }],
+        steps: &[SPEC, DOCUMENT, FOLDER_FAULT],
+    },
+    Case {
+        name: "the second length fails",
+        fails: &[FolderFail {
+            call: FolderCall::Length,
+            number: 2,
+        }],
+        steps: &[SPEC, DOCUMENT, FOLDER_FAULT],
+    },
+    Case {
+        name: "the first read fails",
+        fails: &[FolderFail {
+            call: FolderCall::ReadAt,
+            number: 1,
+        }],
+        steps: &[SPEC, DOCUMENT, FOLDER_FAULT],
+    },
+    Case {
+        name: "the second read fails",
+        fails: &[FolderFail {
+            call: FolderCall::ReadAt,
+            number: 2,
+        }],
+        steps: &[SPEC, DOCUMENT, FOLDER_FAULT],
+    },
+    // Where the second write fails, the first has written something.
+    Case {
+        name: "a failing output has taken a prefix",
+        fails: &[],
+        steps: &[
+            SPEC,
+            Put("doc", LONG),
+            RunOver(
+                &Outside {
+                    output_fails: &[1],
+                    ..QUIET
+                },
+                NORM,
+                14,
+                NOTHING,
+                b"xarch: output fault\n",
+            ),
+            RunOver(
+                &Outside {
+                    output_fails: &[2],
+                    ..QUIET
+                },
+                NORM,
+                14,
+                PrefixOf(LONG, 1),
+                b"xarch: output fault\n",
+            ),
+        ],
+    },
+    Case {
+        name: "a failing error sink changes no status",
+        fails: &[],
+        steps: &[
+            SPEC,
+            DOCUMENT,
+            RunOver(
+                &Outside {
+                    error_fails: &[1],
+                    ..QUIET
+                },
+                &["norm", "spec", "none"],
+                3,
+                NOTHING,
+                b"",
+            ),
+        ],
+    },
+];
+
+#[test]
+fn documents_are_normed_or_refused(rt: HostRuntime) -> Result<(), Fail> {
+    for norms in [PRINTED, UNKEYED, MISSHAPEN, MISSPECIFIED] {
+        check_norms(&rt, rt.alloc(), norms)?;
     }
-    Ok(())
-}
-
-#[test]
-fn documents_of_a_bad_shape_are_refused(rt: HostRuntime) -> Result<(), Fail> {
-    let cases: [(&[u8], u8, &[u8]); 7] = [
-        (b"[\"db\",[]]", 7, b"xarch: bad shape at /1, why 1\n"),
-        (b"[\"db\",[5]]", 7, b"xarch: bad shape at /1, why 2\n"),
-        (
-            b"[\"db\",{\"a\":\"x\"},{}]",
-            7,
-            b"xarch: bad shape at /1, why 3\n",
-        ),
-        (b"[\"db\",{\"a\":[]}]", 7, b"xarch: bad shape at /, why 4\n"),
-        (
-            b"[\"db\",{\"a\":1.5}]",
-            7,
-            b"xarch: bad shape at /, why 5\n",
-        ),
-        (b"\"db\"", 7, b"xarch: bad shape at /, why 6\n"),
-        (b"[", 6, b"xarch: bad json\n"),
-    ];
-    for (doc, want, line) in cases {
-        let (status, out, err) = norm(rt.alloc(), TINY, doc)?;
-        assert_eq!(rt; status, want);
-        assert!(rt; out.taken().is_empty());
-        assert_eq!(rt; err.taken(), line);
-    }
-    Ok(())
-}
-
-/// `db` with elements `a` nested in it, up to this level.
-fn nested(alloc: Global, depth: usize) -> Result<Vec<u8>, AllocError> {
-    let mut bytes = Vec::from_slice(alloc, b"[\"db\"")?;
-    for _ in 1..depth {
-        bytes.extend_from_slice(b",[\"a\"")?;
-    }
-    for _ in 0..depth {
-        bytes.extend_from_slice(b"]")?;
-    }
-    Ok(bytes)
-}
-
-#[test]
-fn elements_nest_120_deep_and_no_deeper(rt: HostRuntime) -> Result<(), Fail> {
-    let deepest = nested(rt.alloc(), 120)?;
-    let (status, out, _err) = norm(rt.alloc(), TINY, &deepest)?;
-    assert_eq!(rt; status, 0);
-    assert!(rt; out.taken().starts_with(&deepest));
-    let (status, out, err) = norm(rt.alloc(), TINY, &nested(rt.alloc(), 121)?)?;
-    assert_eq!(rt; status, 12);
-    assert!(rt; out.taken().is_empty());
-    assert_eq!(rt; err.taken(), b"xarch: limit depth 120\n".as_slice());
-    Ok(())
-}
-
-#[test]
-fn a_document_past_its_limit_is_not_read(rt: HostRuntime) -> Result<(), Fail> {
-    let alloc = rt.alloc();
-    let read = FolderFail {
-        call: FolderCall::ReadAt,
-        number: 1,
-    };
-    let mut folder = folder(alloc, TINY, b"", &[read])?;
-    folder.put("doc", vec![in alloc; b' '; 67_108_865]?)?;
-    let (status, _out, err) = answer(alloc, &mut folder, &["norm", "spec", "doc"])?;
-    assert_eq!(rt; status, 12);
-    assert_eq!(rt; err.taken(), b"xarch: limit document 67108864\n".as_slice());
-    Ok(())
-}
-
-#[test]
-fn a_specification_past_its_limit_is_refused_first(rt: HostRuntime) -> Result<(), Fail> {
-    let alloc = rt.alloc();
-    let mut folder = folder(alloc, b"", b"[", &[])?;
-    folder.put("spec", vec![in alloc; b' '; 1_048_577]?)?;
-    let (status, _out, err) = answer(alloc, &mut folder, &["norm", "spec", "doc"])?;
-    assert_eq!(rt; status, 12);
-    assert_eq!(rt;
-        err.taken(),
-        b"xarch: limit specification 1048576\n".as_slice()
-    );
-    Ok(())
-}
-
-#[test]
-fn bad_specifications_are_refused_before_the_document(rt: HostRuntime) -> Result<(), Fail> {
-    let cases: [(&[u8], &[u8]); 7] = [
-        (
-            b"(/, (db, {})",
-            b"xarch: bad specification, line 1, why 1\n",
-        ),
-        (
-            b"(/db, (a, {}))",
-            b"xarch: bad specification, line 1, why 2\n",
-        ),
-        (
-            b"(/, (db, {}))\n(/, (db, {}))\n",
-            b"xarch: bad specification, line 2, why 3\n",
-        ),
-        (
-            b"(/, (db, {a, a}))",
-            b"xarch: bad specification, line 1, why 4\n",
-        ),
-        (
-            b"(/, (db, {a}))\n(/db, (a, {b}))\n",
-            b"xarch: bad specification, line 2, why 5\n",
-        ),
-        (
-            b"(/, (db, {a}))\n(/db/a, (c, {}))\n",
-            b"xarch: bad specification, line 2, why 6\n",
-        ),
-        (
-            b"(/, (db, {a/b/c/d/e/f/g/h/i}))",
-            b"xarch: bad specification, line 1, why 7\n",
-        ),
-    ];
-    for (spec, line) in cases {
-        let (status, out, err) = norm(rt.alloc(), spec, b"[")?;
-        assert_eq!(rt; status, 5);
-        assert!(rt; out.taken().is_empty());
-        assert_eq!(rt; err.taken(), line);
-    }
-    Ok(())
-}
-
-#[test]
-fn missing_files_and_other_words_are_refused(rt: HostRuntime) -> Result<(), Fail> {
-    let alloc = rt.alloc();
-    let cases: [(&[&str], u8, &[u8]); 7] = [
-        (&["norm", "nope", "none"], 3, b"xarch: no file nope\n"),
-        (&["norm", "spec", "none"], 3, b"xarch: no file none\n"),
-        (
-            &["fetch", "spec", "doc"],
-            2,
-            b"xarch: these words are no command\n",
-        ),
-        (&["norm", "spec"], 2, b"xarch: these words are no command\n"),
-        (
-            &["norm", "spec", "doc", "doc"],
-            2,
-            b"xarch: these words are no command\n",
-        ),
-        (
-            &["Norm", "spec", "doc"],
-            2,
-            b"xarch: these words are no command\n",
-        ),
-        (&[], 2, b"xarch: these words are no command\n"),
-    ];
-    for (words, want, line) in cases {
-        let mut folder = folder(alloc, TINY, b"[\"db\"]", &[])?;
-        let (status, out, err) = answer(alloc, &mut folder, words)?;
-        assert_eq!(rt; status, want);
-        assert!(rt; out.taken().is_empty());
-        assert_eq!(rt; err.taken(), line);
-    }
-    Ok(())
-}
-
-#[test]
-fn each_failing_call_of_the_folder_is_a_folder_fault(rt: HostRuntime) -> Result<(), Fail> {
-    let alloc = rt.alloc();
-    let cases = [
-        (FolderCall::Length, 1),
-        (FolderCall::Length, 2),
-        (FolderCall::ReadAt, 1),
-        (FolderCall::ReadAt, 2),
-    ];
-    for (call, number) in cases {
-        let mut folder = folder(alloc, TINY, b"[\"db\"]", &[FolderFail { call, number }])?;
-        let (status, out, err) = answer(alloc, &mut folder, &["norm", "spec", "doc"])?;
-        assert_eq!(rt; status, 13);
-        assert!(rt; out.taken().is_empty());
-        assert_eq!(rt; err.taken(), b"xarch: folder fault\n".as_slice());
-    }
-    Ok(())
-}
-
-/// A document with a text of 20,000 letters.
-fn long_document(alloc: Global) -> Result<Vec<u8>, AllocError> {
-    let mut bytes = Vec::from_slice(alloc, b"[\"db\",\"")?;
-    bytes.extend_from_slice(&vec![in alloc; b'a'; 20_000]?)?;
-    bytes.extend_from_slice(b"\"]\n")?;
-    Ok(bytes)
-}
-
-#[test]
-fn a_failing_output_has_taken_a_prefix(rt: HostRuntime) -> Result<(), Fail> {
-    let alloc = rt.alloc();
-    let doc = long_document(alloc)?;
-    let words = texts(alloc, &["norm", "spec", "doc"])?;
-    let mut before = 0;
-    for number in 1..3 {
-        let mut folder = folder(alloc, TINY, &doc, &[])?;
-        let mut input = SureSource::new(Vec::new(alloc));
-        let mut out = MemSink::new(alloc, vec![in alloc; number]?);
-        let mut err = MemSink::new(alloc, Vec::new(alloc));
-        let status = run(alloc, &words, &mut folder, &mut input, &mut out, &mut err);
-        assert_eq!(rt; status, 14);
-        assert!(rt; doc.starts_with(out.taken()));
-        assert!(rt; number == 1 || out.taken().len() > before);
-        before = out.taken().len();
-        assert_eq!(rt; err.taken(), b"xarch: output fault\n".as_slice());
-    }
-    Ok(())
-}
-
-#[test]
-fn a_failing_error_sink_changes_no_status(rt: HostRuntime) -> Result<(), Fail> {
-    let alloc = rt.alloc();
-    let words = texts(alloc, &["norm", "spec", "none"])?;
-    let mut folder = folder(alloc, TINY, b"[\"db\"]", &[])?;
-    let mut input = SureSource::new(Vec::new(alloc));
-    let mut out = MemSink::new(alloc, Vec::new(alloc));
-    let mut err = MemSink::new(alloc, vec![in alloc; 1]?);
-    let status = run(alloc, &words, &mut folder, &mut input, &mut out, &mut err);
-    assert_eq!(rt; status, 3);
-    assert!(rt; err.taken().is_empty());
-    Ok(())
+    check(&rt, rt.alloc(), CASES)
 }

@@ -4,7 +4,11 @@
 #[cfg(test)]
 mod batches;
 #[cfg(test)]
+mod cases;
+#[cfg(test)]
 mod commands;
+#[cfg(test)]
+mod documents;
 #[cfg(test)]
 mod histories;
 #[cfg(test)]

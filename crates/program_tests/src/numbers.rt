@@ -1,129 +1,206 @@
-use crate::commands::{COMPANY, JOHN, TINY, answer, texts};
-use crate::worked_archives::{FINANCE, JOHN_RAISED, archive};
-use std::alloc::{AllocError, Global};
+use crate::cases::Output::{AsBefore, BeginsWith, Holds, Is};
+use crate::cases::Step::{Archive, AreAlike, HasNo, Run, RunOver};
+use crate::cases::{Case, NOTHING, Outside, QUIET, check};
+use crate::documents::{
+    COMPANY, FINANCE, FLOOR_NUMBER, FLOOR_TEXT, JOHN, JOHN_RAISED, STRINGS, TINY,
+};
 use std::test::Fail;
-use xa_outside::{MemFolder, MemSink, SureSource};
-use xarch_run::run;
+use xa_outside::{FolderCall, FolderFail};
 
-/// The seven lines of these counts.
-fn lines_of(alloc: Global, counts: [u64; 7]) -> Result<String, AllocError> {
-    let [
-        versions,
-        inner,
-        leaves,
-        alternatives,
-        stamps,
-        largest,
-        bytes,
-    ] = counts;
-    format!(in alloc;
-        "versions {versions}\ninner {inner}\nleaves {leaves}\nalternatives {alternatives}\nstamps {stamps}\nlargest {largest}\nbytes {bytes}\n"
-    )
-}
+const STATS: &[&str] = &["stats", "A"];
 
-/// What `stats` writes of the archive of these documents.
-fn counted(alloc: Global, spec: &[u8], docs: &[&[u8]]) -> Result<MemSink, AllocError> {
-    let (mut folder, _statuses) = archive(alloc, spec, docs)?;
-    let (_status, out, _err) = answer(alloc, &mut folder, &["stats", "A"])?;
-    Ok(out)
-}
+const NONE: &[u8] =
+    b"versions 0\ninner 0\nleaves 0\nalternatives 0\nstamps 0\nlargest 204\nbytes 225\n";
 
-/// Whether `stats` writes these counts of the archive of these documents.
-fn counts(
-    alloc: Global,
-    spec: &[u8],
-    docs: &[&[u8]],
-    counts: [u64; 7],
-) -> Result<bool, AllocError> {
-    let out = counted(alloc, spec, docs)?;
-    Ok(out.taken() == lines_of(alloc, counts)?.as_bytes())
-}
+const CASES: &[Case] = &[
+    Case {
+        name: "no versions",
+        fails: &[],
+        steps: &[Archive(COMPANY, &[]), Run(STATS, 0, Is(&[(NONE, 1)]), b"")],
+    },
+    Case {
+        name: "one version",
+        fails: &[],
+        steps: &[
+            Archive(COMPANY, &[JOHN]),
+            Run(
+                STATS,
+                0,
+                Is(&[(
+                    b"versions 1\ninner 3\nleaves 5\nalternatives 5\nstamps 0\nlargest 204\nbytes 1139\n",
+                    1,
+                )]),
+                b"",
+            ),
+        ],
+    },
+    Case {
+        name: "the same version again",
+        fails: &[],
+        steps: &[
+            Archive(COMPANY, &[JOHN, JOHN]),
+            Run(
+                STATS,
+                0,
+                Is(&[(
+                    b"versions 2\ninner 3\nleaves 5\nalternatives 5\nstamps 0\nlargest 204\nbytes 1139\n",
+                    1,
+                )]),
+                b"",
+            ),
+        ],
+    },
+    Case {
+        name: "a salary that returns",
+        fails: &[],
+        steps: &[
+            Archive(COMPANY, &[JOHN, JOHN_RAISED, JOHN]),
+            Run(
+                STATS,
+                0,
+                Is(&[(
+                    b"versions 3\ninner 3\nleaves 5\nalternatives 6\nstamps 2\nlargest 204\nbytes 1198\n",
+                    1,
+                )]),
+                b"",
+            ),
+        ],
+    },
+    Case {
+        name: "an attribute that changes its kind",
+        fails: &[],
+        steps: &[
+            Archive(COMPANY, &[FLOOR_TEXT, FLOOR_NUMBER]),
+            Run(
+                STATS,
+                0,
+                Is(&[(
+                    b"versions 2\ninner 2\nleaves 2\nalternatives 3\nstamps 2\nlargest 204\nbytes 669\n",
+                    1,
+                )]),
+                b"",
+            ),
+        ],
+    },
+    Case {
+        name: "strings below the frontier",
+        fails: &[],
+        steps: &[
+            Archive(TINY, &STRINGS),
+            Run(
+                STATS,
+                0,
+                Is(&[(
+                    b"versions 3\ninner 0\nleaves 1\nalternatives 2\nstamps 2\nlargest 42\nbytes 202\n",
+                    1,
+                )]),
+                b"",
+            ),
+        ],
+    },
+    Case {
+        name: "one element",
+        fails: &[],
+        steps: &[
+            Archive(TINY, &[b"[\"db\"]"]),
+            Run(
+                STATS,
+                0,
+                Is(&[(
+                    b"versions 1\ninner 0\nleaves 1\nalternatives 1\nstamps 0\nlargest 28\nbytes 142\n",
+                    1,
+                )]),
+                b"",
+            ),
+        ],
+    },
+    Case {
+        name: "an absent employee stores one timestamp",
+        fails: &[],
+        steps: &[
+            Archive(COMPANY, &[JOHN, FINANCE, JOHN]),
+            Run(STATS, 0, Holds(b"\nstamps 1\n"), b""),
+        ],
+    },
+    Case {
+        name: "an absent department stores one timestamp",
+        fails: &[],
+        steps: &[
+            Archive(COMPANY, &[JOHN, b"[\"db\"]", JOHN]),
+            Run(STATS, 0, Holds(b"\nalternatives 5\nstamps 1\n"), b""),
+        ],
+    },
+    Case {
+        name: "a demonstration of no versions",
+        fails: &[],
+        steps: &[Run(&["demo", "7", "0", "A"], 0, Is(&[(NONE, 1)]), b"")],
+    },
+    Case {
+        name: "a demonstration is the same each time",
+        fails: &[],
+        steps: &[
+            Run(
+                &["demo", "7", "40", "A"],
+                0,
+                BeginsWith(b"versions 40\n"),
+                b"",
+            ),
+            Run(STATS, 0, AsBefore, b""),
+            Run(&["demo", "7", "40", "B"], 0, AsBefore, b""),
+            AreAlike("A", "B"),
+            Run(&["demo", "7", "40", "A"], 4, NOTHING, b"xarch: A exists\n"),
+        ],
+    },
+    // The first read of the folder fails, and is not that of `demo`.
+    Case {
+        name: "a demonstration reads nothing",
+        fails: &[FolderFail {
+            call: FolderCall::ReadAt,
+            number: 1,
+        }],
+        steps: &[
+            Run(
+                &["demo", "7", "2", "A"],
+                0,
+                BeginsWith(b"versions 2\n"),
+                b"",
+            ),
+            Run(STATS, 13, NOTHING, b"xarch: folder fault\n"),
+        ],
+    },
+    Case {
+        name: "too long a demonstration is refused",
+        fails: &[],
+        steps: &[
+            Run(
+                &["demo", "7", "1001", "A"],
+                12,
+                NOTHING,
+                b"xarch: limit demo 1000\n",
+            ),
+            HasNo("A"),
+        ],
+    },
+    Case {
+        name: "a demonstration that cannot be told is not made",
+        fails: &[],
+        steps: &[
+            RunOver(
+                &Outside {
+                    output_fails: &[1],
+                    ..QUIET
+                },
+                &["demo", "7", "2", "A"],
+                14,
+                NOTHING,
+                b"xarch: output fault\n",
+            ),
+            HasNo("A"),
+        ],
+    },
+];
 
 #[test]
-fn stats_counts_what_is_stored(rt: HostRuntime) -> Result<(), Fail> {
-    let alloc = rt.alloc();
-    assert!(rt; counts(alloc, COMPANY, &[], [0, 0, 0, 0, 0, 204, 225])?);
-    assert!(rt; counts(alloc, COMPANY, &[JOHN], [1, 3, 5, 5, 0, 204, 1139])?);
-    assert!(rt; counts(alloc, COMPANY, &[JOHN, JOHN], [2, 3, 5, 5, 0, 204, 1139])?);
-    let raised: [&[u8]; 3] = [JOHN, JOHN_RAISED, JOHN];
-    assert!(rt; counts(alloc, COMPANY, &raised, [3, 3, 5, 6, 2, 204, 1198])?);
-    let floors: [&[u8]; 2] = [
-        b"[\"db\",[\"dept\",{\"floor\":\"3\"},[\"name\",\"finance\"]]]",
-        b"[\"db\",[\"dept\",{\"floor\":3},[\"name\",\"finance\"]]]",
-    ];
-    assert!(rt; counts(alloc, COMPANY, &floors, [2, 2, 2, 3, 2, 204, 669])?);
-    let strings: [&[u8]; 3] = [
-        b"[\"db\",{},\"a\"]",
-        b"[\"db\",\"a\"]",
-        b"[\"db\",\"\",\"a\"]",
-    ];
-    assert!(rt; counts(alloc, TINY, &strings, [3, 0, 1, 2, 2, 42, 202])?);
-    assert!(rt; counts(alloc, TINY, &[b"[\"db\"]"], [1, 0, 1, 1, 0, 28, 142])?);
-    Ok(())
-}
-
-#[test]
-fn an_absent_node_stores_one_timestamp(rt: HostRuntime) -> Result<(), Fail> {
-    let alloc = rt.alloc();
-    let out = counted(alloc, COMPANY, &[JOHN, FINANCE, JOHN])?;
-    assert!(rt; has_line(out.taken(), b"\nstamps 1\n"));
-    let out = counted(alloc, COMPANY, &[JOHN, b"[\"db\"]", JOHN])?;
-    assert!(rt; has_line(out.taken(), b"\nalternatives 5\nstamps 1\n"));
-    Ok(())
-}
-
-fn has_line(text: &[u8], line: &[u8]) -> bool {
-    text.windows(line.len().max(1)).any(|part| part == line)
-}
-
-/// What `demo` writes, and the folder that it wrote to.
-fn demo(alloc: Global, count: &str) -> Result<(MemFolder, u8, MemSink, MemSink), AllocError> {
-    let mut folder = MemFolder::new(alloc, Vec::new(alloc));
-    let (status, out, err) = answer(alloc, &mut folder, &["demo", "7", count, "A"])?;
-    Ok((folder, status, out, err))
-}
-
-#[test]
-fn a_demonstration_is_the_same_each_time(rt: HostRuntime) -> Result<(), Fail> {
-    let alloc = rt.alloc();
-    let (_folder, status, out, _err) = demo(alloc, "0")?;
-    assert_eq!(rt; status, 0);
-    let none = lines_of(alloc, [0, 0, 0, 0, 0, 204, 225])?;
-    assert_eq!(rt; out.taken(), none.as_bytes());
-    let (mut folder, status, first, _err) = demo(alloc, "40")?;
-    assert_eq!(rt; status, 0);
-    assert!(rt; first.taken().starts_with(b"versions 40\n"));
-    let (_folder, _status, second, _err) = demo(alloc, "40")?;
-    assert_eq!(rt; second.taken(), first.taken());
-    let (status, counted, _err) = answer(alloc, &mut folder, &["stats", "A"])?;
-    assert_eq!(rt; status, 0);
-    assert_eq!(rt; counted.taken(), first.taken());
-    let (status, _out, err) = answer(alloc, &mut folder, &["demo", "7", "40", "A"])?;
-    assert_eq!(rt; status, 4);
-    assert_eq!(rt; err.taken(), b"xarch: A exists\n".as_slice());
-    Ok(())
-}
-
-#[test]
-fn too_long_a_demonstration_is_refused(rt: HostRuntime) -> Result<(), Fail> {
-    let (folder, status, out, err) = demo(rt.alloc(), "1001")?;
-    assert_eq!(rt; status, 12);
-    assert!(rt; out.taken().is_empty());
-    assert_eq!(rt; err.taken(), b"xarch: limit demo 1000\n".as_slice());
-    assert!(rt; folder.file("A").is_none());
-    Ok(())
-}
-
-#[test]
-fn a_demonstration_that_cannot_be_told_is_not_made(rt: HostRuntime) -> Result<(), Fail> {
-    let alloc = rt.alloc();
-    let words = texts(alloc, &["demo", "7", "2", "A"])?;
-    let mut folder = MemFolder::new(alloc, Vec::new(alloc));
-    let mut input = SureSource::new(Vec::new(alloc));
-    let mut out = MemSink::new(alloc, vec![in alloc; 1]?);
-    let mut err = MemSink::new(alloc, Vec::new(alloc));
-    let status = run(alloc, &words, &mut folder, &mut input, &mut out, &mut err);
-    assert_eq!(rt; status, 14);
-    assert!(rt; folder.file("A").is_none());
-    Ok(())
+fn stats_and_demo_count_what_is_stored(rt: HostRuntime) -> Result<(), Fail> {
+    check(&rt, rt.alloc(), CASES)
 }

@@ -1,3 +1,4 @@
+use std::alloc::{AllocError, Global};
 use std::test::Fail;
 use xa_outside::{
     Buffered, Failed, Folder, FolderCall, FolderFail, MemFolder, MemSink, MemSource, ReadFault,
@@ -5,140 +6,257 @@ use xa_outside::{
     read_front,
 };
 
-#[test]
-fn a_file_that_was_put_is_given_back(rt: HostRuntime) -> Result<(), Fail> {
-    let alloc = rt.alloc();
-    let mut folder = MemFolder::new(alloc, Vec::new(alloc));
-    folder.put("a", vec![in alloc; 1, 2]?)?;
-    folder.put("b", vec![in alloc; 3]?)?;
-    folder.put("a", vec![in alloc; 4, 5, 6]?)?;
-    assert!(rt; folder.file("a") == Some(&[4, 5, 6]));
-    assert!(rt; folder.file("b") == Some(&[3]));
-    assert!(rt; folder.file("c").is_none());
-    Ok(())
+/// A call of a folder, and what it answers.
+enum Call {
+    Begin(Result<(), Failed>),
+    Append(&'static [u8], Result<(), Failed>),
+    Commit(&'static str, Result<(), Failed>),
+    Length(&'static str, Result<Option<u64>, Failed>),
+    /// The byte at this offset of the file of this name.
+    Byte(&'static str, u64, u8),
+    /// A buffer of so many bytes, at most eight, is filled from this offset on.
+    Fill(&'static str, u32, usize, &'static [u8]),
+    /// The first bytes of the file of this name, at most so many.
+    Front(&'static str, u64, Result<&'static [u8], ReadFault>),
 }
 
-#[test]
-fn a_failed_write_keeps_what_was_taken(rt: HostRuntime) -> Result<(), Fail> {
-    let alloc = rt.alloc();
-    let mut sink = MemSink::new(alloc, vec![in alloc; 2]?);
-    assert!(rt; put_all(&mut sink, b"one").is_ok());
-    assert!(rt; put_all(&mut sink, b"two").is_err());
-    assert!(rt; put_all(&mut sink, b"three").is_ok());
-    assert!(rt; sink.taken() == b"onethree".as_slice());
-    assert_eq!(rt; sink.starved(), 0);
-    Ok(())
+fn is_byte<F: Folder>(folder: &mut F, name: &str, at: u64, byte: u8) -> bool {
+    let mut buf = [0; 1];
+    folder.read_at(name, at, &mut buf) == Ok(1) && buf[0] == byte
 }
 
-#[test]
-fn a_listed_read_fails_and_the_next_goes_on(rt: HostRuntime) -> Result<(), Fail> {
-    let alloc = rt.alloc();
-    let mut source = MemSource::new(vec![in alloc; 1, 2, 3, 4]?, vec![in alloc; 2]?);
-    let mut buf = [0; 3];
-    assert!(rt; source.read(&mut buf) == Ok(3));
-    assert!(rt; buf == [1, 2, 3]);
-    assert!(rt; source.read(&mut buf) == Err(Failed));
-    assert!(rt; fill(&mut source, &mut buf) == Ok(1));
-    assert!(rt; buf == [4, 2, 3]);
-    Ok(())
-}
-
-#[test]
-fn a_draft_becomes_a_file(rt: HostRuntime) -> Result<(), Fail> {
-    let alloc = rt.alloc();
-    let fails = vec![in alloc;
-        FolderFail {
-            call: FolderCall::Append,
-            number: 2
-        },
-    ]?;
-    let mut folder = MemFolder::new(alloc, fails);
-    assert!(rt; folder.begin().is_ok());
-    assert!(rt; folder.append(b"ab").is_ok());
-    assert!(rt; folder.append(b"xx").is_err());
-    assert!(rt; folder.append(b"cd").is_ok());
-    assert!(rt; folder.length("f") == Ok(None));
-    assert!(rt; folder.commit("f").is_ok());
-    assert!(rt; folder.length("f") == Ok(Some(4)));
+fn is_filled<F: Folder>(folder: &mut F, name: &str, at: u32, size: usize, bytes: &[u8]) -> bool {
     let mut buf = [0; 8];
-    assert!(rt; folder.read_at("f", 3, &mut buf[..1]) == Ok(1));
-    assert!(rt; buf[0] == b'd');
-    assert!(rt; fill_at(&mut folder, "f", 1, &mut buf) == Ok(3));
-    assert!(rt; &buf[..3] == b"bcd".as_slice());
-    assert_eq!(rt; folder.starved(), 0);
-    Ok(())
+    let part = &mut buf[..size.min(8)];
+    match fill_at(folder, name, at as u64, part) {
+        Ok(count) => count == bytes.len() && buf.starts_with(bytes),
+        Err(Failed) => false,
+    }
 }
 
-#[test]
-fn what_never_fails_answers(rt: HostRuntime) -> Result<(), Fail> {
-    let alloc = rt.alloc();
-    let mut buf = [0; 4];
-    let mut source = SureSource::new(vec![in alloc; 7, 8]?);
-    assert!(rt; fill(&mut source, &mut buf) == Ok(2));
-    assert!(rt; buf == [7, 8, 0, 0]);
-    let mut sink = SureSink::new();
-    assert!(rt; sink.write(b"gone") == Ok(4));
-    let mut folder = SureFolder::new(alloc);
-    folder.put("f", vec![in alloc; 1, 2, 3]?)?;
-    assert!(rt; folder.length("f") == Ok(Some(3)));
-    assert!(rt; fill_at(&mut folder, "f", 1, &mut buf) == Ok(2));
-    assert!(rt; buf == [2, 3, 0, 0]);
-    assert!(rt; folder.begin().is_ok() && folder.append(b"x").is_ok());
-    assert!(rt; folder.commit("g").is_ok());
-    Ok(())
+fn is_front<F: Folder>(
+    alloc: Global,
+    folder: &mut F,
+    name: &str,
+    length: u64,
+    wanted: &Result<&[u8], ReadFault>,
+) -> bool {
+    match (read_front(alloc, folder, name, length), wanted) {
+        (Ok(front), Ok(bytes)) => front.as_slice() == *bytes,
+        (Err(fault), Err(wanted)) => fault == *wanted,
+        _ => false,
+    }
 }
 
-#[test]
-fn a_failed_flush_keeps_the_rest(rt: HostRuntime) -> Result<(), Fail> {
-    let alloc = rt.alloc();
-    let mut sink = MemSink::new(alloc, vec![in alloc; 1]?);
-    let mut buffered = Buffered::new(&mut sink);
-    assert!(rt; put_all(&mut buffered, b"abc").is_ok());
-    assert!(rt; buffered.flush().is_err());
-    assert!(rt; put_all(&mut buffered, b"de").is_ok());
-    assert!(rt; buffered.flush().is_ok());
-    assert!(rt; sink.taken() == b"abcde".as_slice());
-    Ok(())
+fn is_answered<F: Folder>(alloc: Global, folder: &mut F, call: &Call) -> bool {
+    match call {
+        Call::Begin(wanted) => folder.begin() == *wanted,
+        Call::Append(bytes, wanted) => folder.append(bytes) == *wanted,
+        Call::Commit(name, wanted) => folder.commit(name) == *wanted,
+        Call::Length(name, wanted) => folder.length(name) == *wanted,
+        Call::Byte(name, at, byte) => is_byte(folder, name, *at, *byte),
+        Call::Fill(name, at, size, bytes) => is_filled(folder, name, *at, *size, bytes),
+        Call::Front(name, length, wanted) => is_front(alloc, folder, name, *length, wanted),
+    }
 }
 
-#[test]
-fn pieces_leave_a_buffer_together(rt: HostRuntime) -> Result<(), Fail> {
-    let alloc = rt.alloc();
-    let mut sink = MemSink::new(alloc, vec![in alloc; 2]?);
-    assert!(rt; put_buffered(&mut sink, &[b"a", b"bc", b"", b"d"]).is_ok());
-    assert!(rt; sink.taken() == b"abcd".as_slice());
-    let long = vec![in alloc; 9; 10000]?;
-    let mut sink = MemSink::new(alloc, vec![in alloc; 4]?);
-    assert!(rt; put_buffered(&mut sink, &[b"a", &long, b"b", b"c"]).is_ok());
-    assert_eq!(rt; sink.taken().len(), 10003);
-    Ok(())
+/// How many calls answer as they should, up to the first that does not.
+fn answered<F: Folder>(alloc: Global, folder: &mut F, calls: &[Call]) -> usize {
+    for (index, call) in calls.iter().enumerate() {
+        if !is_answered(alloc, folder, call) {
+            return index;
+        }
+    }
+    calls.len()
 }
 
-#[test]
-fn the_front_of_a_file_is_read(rt: HostRuntime) -> Result<(), Fail> {
-    let alloc = rt.alloc();
-    let mut folder = MemFolder::new(alloc, Vec::new(alloc));
-    folder.put("a", vec![in alloc; 1, 2, 3]?)?;
-    let front = read_front(alloc, &mut folder, "a", 2).map_err(|_| Fail::from("no front"))?;
-    assert!(rt; front.as_slice() == [1, 2].as_slice());
-    let all = read_front(alloc, &mut folder, "a", 5).map_err(|_| Fail::from("no file"))?;
-    assert!(rt; all.as_slice() == [1, 2, 3].as_slice());
-    let none = read_front(alloc, &mut folder, "b", 5).map_err(|_| Fail::from("no name"))?;
-    assert!(rt; none.is_empty());
-    Ok(())
-}
-
-#[test]
-fn a_front_is_not_read_where_the_folder_fails(rt: HostRuntime) -> Result<(), Fail> {
-    let alloc = rt.alloc();
-    let fails = vec![in alloc;
-        FolderFail {
+/// What is done with a folder in memory: its name, the calls that fail, the files that are put, and the calls.
+const FOLDERS: &[(&str, &[FolderFail], &[(&str, &[u8])], &[Call])] = &[
+    (
+        "a file that was put is given back",
+        &[],
+        &[("a", &[1, 2]), ("b", &[3]), ("a", &[4, 5, 6])],
+        &[
+            Call::Fill("a", 0, 8, &[4, 5, 6]),
+            Call::Fill("b", 0, 8, &[3]),
+            Call::Length("c", Ok(None)),
+        ],
+    ),
+    (
+        "a draft becomes a file",
+        &[FolderFail {
+            call: FolderCall::Append,
+            number: 2,
+        }],
+        &[],
+        &[
+            Call::Begin(Ok(())),
+            Call::Append(b"ab", Ok(())),
+            Call::Append(b"xx", Err(Failed)),
+            Call::Append(b"cd", Ok(())),
+            Call::Length("f", Ok(None)),
+            Call::Commit("f", Ok(())),
+            Call::Length("f", Ok(Some(4))),
+            Call::Byte("f", 3, b'd'),
+            Call::Fill("f", 1, 8, b"bcd"),
+        ],
+    ),
+    (
+        "the front of a file is read",
+        &[],
+        &[("a", &[1, 2, 3])],
+        &[
+            Call::Front("a", 2, Ok(&[1, 2])),
+            Call::Front("a", 5, Ok(&[1, 2, 3])),
+            Call::Front("b", 5, Ok(&[])),
+        ],
+    ),
+    (
+        "a front is not read where the folder fails",
+        &[FolderFail {
             call: FolderCall::ReadAt,
             number: 1,
-        },
-    ]?;
-    let mut folder = MemFolder::new(alloc, fails);
-    folder.put("a", vec![in alloc; 1, 2, 3]?)?;
-    assert!(rt; read_front(alloc, &mut folder, "a", 2) == Err(ReadFault::Folder));
+        }],
+        &[("a", &[1, 2, 3])],
+        &[Call::Front("a", 2, Err(ReadFault::Folder))],
+    ),
+];
+
+/// A folder with these files, whose listed calls fail.
+fn folder(
+    alloc: Global,
+    fails: &[FolderFail],
+    files: &[(&str, &[u8])],
+) -> Result<MemFolder, AllocError> {
+    let mut folder = MemFolder::new(alloc, Vec::from_slice(alloc, fails)?);
+    for (name, bytes) in files {
+        folder.put(name, Vec::from_slice(alloc, bytes)?)?;
+    }
+    Ok(folder)
+}
+
+/// The same for a folder in memory, or none where a growth was refused.
+fn answered_in_memory(
+    alloc: Global,
+    fails: &[FolderFail],
+    files: &[(&str, &[u8])],
+    calls: &[Call],
+) -> Result<Option<usize>, AllocError> {
+    let mut folder = folder(alloc, fails, files)?;
+    let answered = answered(alloc, &mut folder, calls);
+    Ok((folder.starved() == 0).then_some(answered))
+}
+
+#[test]
+fn folders_in_memory_answer(rt: HostRuntime) -> Result<(), Fail> {
+    for (name, fails, files, calls) in FOLDERS {
+        let answered = answered_in_memory(rt.alloc(), fails, files, calls)?;
+        assert!(rt; answered == Some(calls.len()), "{name}: {answered:?} calls");
+    }
+    Ok(())
+}
+
+/// Whether each name has the bytes that were put there last.
+fn are_given_back(alloc: Global) -> Result<bool, AllocError> {
+    let files: &[(&str, &[u8])] = &[("a", &[1, 2]), ("b", &[3]), ("a", &[4, 5, 6])];
+    let folder = folder(alloc, &[], files)?;
+    Ok(
+        folder.file("a") == Some(&[4, 5, 6])
+            && folder.file("b") == Some(&[3])
+            && folder.file("c").is_none(),
+    )
+}
+
+fn sure_folder(alloc: Global) -> Result<SureFolder, AllocError> {
+    let mut folder = SureFolder::new(alloc);
+    folder.put("f", Vec::from_slice(alloc, &[1, 2, 3])?)?;
+    Ok(folder)
+}
+
+const SURE: &[Call] = &[
+    Call::Length("f", Ok(Some(3))),
+    Call::Fill("f", 1, 4, &[2, 3]),
+    Call::Begin(Ok(())),
+    Call::Append(b"x", Ok(())),
+    Call::Commit("g", Ok(())),
+];
+
+fn answered_surely(alloc: Global) -> Result<usize, AllocError> {
+    let mut folder = sure_folder(alloc)?;
+    Ok(answered(alloc, &mut folder, SURE))
+}
+
+#[test]
+fn a_sure_folder_answers(rt: HostRuntime) -> Result<(), Fail> {
+    assert!(rt; answered_surely(rt.alloc())? == SURE.len());
+    assert!(rt; are_given_back(rt.alloc())?);
+    Ok(())
+}
+
+/// A failed write keeps what was taken.
+fn keeps_what_was_taken(alloc: Global) -> Result<bool, AllocError> {
+    let mut sink = MemSink::new(alloc, vec![in alloc; 2]?);
+    let is_written = put_all(&mut sink, b"one").is_ok()
+        && put_all(&mut sink, b"two").is_err()
+        && put_all(&mut sink, b"three").is_ok();
+    Ok(is_written && sink.taken() == b"onethree".as_slice() && sink.starved() == 0)
+}
+
+/// A failed flush keeps the rest.
+fn keeps_the_rest(alloc: Global) -> Result<bool, AllocError> {
+    let mut sink = MemSink::new(alloc, vec![in alloc; 1]?);
+    let mut buffered = Buffered::new(&mut sink);
+    let is_flushed = put_all(&mut buffered, b"abc").is_ok()
+        && buffered.flush().is_err()
+        && put_all(&mut buffered, b"de").is_ok()
+        && buffered.flush().is_ok();
+    Ok(is_flushed && sink.taken() == b"abcde".as_slice())
+}
+
+/// Pieces leave a buffer together: the second write would fail.
+fn leave_together(alloc: Global) -> Result<bool, AllocError> {
+    let mut sink = MemSink::new(alloc, vec![in alloc; 2]?);
+    let is_put = put_buffered(&mut sink, &[b"a", b"bc", b"", b"d"]).is_ok();
+    Ok(is_put && sink.taken() == b"abcd".as_slice())
+}
+
+/// A piece that is longer than the buffer goes by itself.
+fn leave_around_a_long_one(alloc: Global) -> Result<bool, AllocError> {
+    let long = vec![in alloc; 9; 10000]?;
+    let mut sink = MemSink::new(alloc, vec![in alloc; 4]?);
+    let is_put = put_buffered(&mut sink, &[b"a", &long, b"b", b"c"]).is_ok();
+    Ok(is_put && sink.taken().len() == 10003)
+}
+
+#[test]
+fn sinks_keep_what_they_took(rt: HostRuntime) -> Result<(), Fail> {
+    let alloc = rt.alloc();
+    assert!(rt; keeps_what_was_taken(alloc)?);
+    assert!(rt; keeps_the_rest(alloc)?);
+    assert!(rt; leave_together(alloc)? && leave_around_a_long_one(alloc)?);
+    assert!(rt; SureSink::new().write(b"gone") == Ok(4));
+    Ok(())
+}
+
+/// A listed read fails, and the next goes on.
+fn goes_on(alloc: Global) -> Result<bool, AllocError> {
+    let bytes = vec![in alloc; 1, 2, 3, 4]?;
+    let mut source = MemSource::new(bytes, vec![in alloc; 2]?);
+    let mut buf = [0; 3];
+    let is_read = source.read(&mut buf) == Ok(3) && buf == [1, 2, 3];
+    let fails = source.read(&mut buf) == Err(Failed);
+    Ok(is_read && fails && fill(&mut source, &mut buf) == Ok(1) && buf == [4, 2, 3])
+}
+
+/// A source that never fails ends.
+fn ends(alloc: Global) -> Result<bool, AllocError> {
+    let mut source = SureSource::new(vec![in alloc; 7, 8]?);
+    let mut buf = [0; 4];
+    Ok(fill(&mut source, &mut buf) == Ok(2) && buf == [7, 8, 0, 0])
+}
+
+#[test]
+fn sources_give_their_bytes(rt: HostRuntime) -> Result<(), Fail> {
+    assert!(rt; goes_on(rt.alloc())? && ends(rt.alloc())?);
     Ok(())
 }

@@ -1,3 +1,4 @@
+use crate::cases::texts;
 use jsonml_tree::Place;
 use key_rules::KeyFault;
 use key_spec::KeyPath;
@@ -6,315 +7,304 @@ use std::test::Fail;
 use xa_outside::MemSink;
 use xarch_words::{Command, Fault, Quantity, read_words, status, write_fault};
 
-fn texts(alloc: Global, texts: &[&str]) -> Result<Vec<String>, AllocError> {
-    let mut strings = Vec::new(alloc);
-    for text in texts {
-        strings.push(String::from_str(alloc, text)?)?;
-    }
-    Ok(strings)
+/// Words, and the command that they are.
+const COMMANDS: &[(&[&str], Option<Command<'static>>)] = &[
+    (
+        &["norm", "company.key", "doc.json"],
+        Some(Command::Norm {
+            spec: "company.key",
+            doc: "doc.json",
+        }),
+    ),
+    (&["fetch", "company.key", "doc.json"], None),
+    (&["norm", "company.key"], None),
+    // A number word is as it is printed.
+    (
+        &["get", "a.xar", "0"],
+        Some(Command::Get {
+            archive: "a.xar",
+            version: 0,
+        }),
+    ),
+    (
+        &["get", "a.xar", "1"],
+        Some(Command::Get {
+            archive: "a.xar",
+            version: 1,
+        }),
+    ),
+    (
+        &["get", "a.xar", "4294967295"],
+        Some(Command::Get {
+            archive: "a.xar",
+            version: 4_294_967_295,
+        }),
+    ),
+    (&["get", "a.xar", "4294967296"], None),
+    (&["get", "a.xar", "01"], None),
+    (&["get", "a.xar", "+1"], None),
+    (&["get", "a.xar", ""], None),
+    (&["get", "a.xar"], None),
+    (&[], None),
+    (
+        &["init", "a.xar", "company.key"],
+        Some(Command::Init {
+            archive: "a.xar",
+            spec: "company.key",
+        }),
+    ),
+    (
+        &["add", "a.xar", "doc.json"],
+        Some(Command::Add {
+            archive: "a.xar",
+            doc: "doc.json",
+        }),
+    ),
+    (
+        &["history", "a.xar", "[\"db\"]"],
+        Some(Command::History {
+            archive: "a.xar",
+            path: "[\"db\"]",
+        }),
+    ),
+    (
+        &["stats", "a.xar"],
+        Some(Command::Stats { archive: "a.xar" }),
+    ),
+    (&["batch"], Some(Command::Batch)),
+    (
+        &["demo", "7", "40", "a.xar"],
+        Some(Command::Demo {
+            seed: 7,
+            count: 40,
+            archive: "a.xar",
+        }),
+    ),
+    (&["check", "a.xar"], None),
+    (&["stats"], None),
+    (&["batch", "a.xar"], None),
+    (&["history", "a.xar"], None),
+    (&["demo", "7", "a.xar"], None),
+    (&["demo", "7", "040", "a.xar"], None),
+    (&["demo", "-7", "40", "a.xar"], None),
+    (&["demo", "7", "40", "a.xar", "b.xar"], None),
+];
+
+fn is_command(
+    alloc: Global,
+    words: &[&str],
+    command: &Option<Command<'_>>,
+) -> Result<bool, AllocError> {
+    let words = texts(alloc, words)?;
+    Ok(read_words(&words) == *command)
 }
+
+#[test]
+fn words_are_a_command_or_none(rt: HostRuntime) -> Result<(), Fail> {
+    for (index, (words, command)) in COMMANDS.iter().enumerate() {
+        assert!(rt; is_command(rt.alloc(), words, command)?, "words {index}");
+    }
+    Ok(())
+}
+
+/// The status of a fault, the file that it names, if it names one, and its line.
+const FAULTS: &[(u8, &str, &str)] = &[
+    (2, "", "xarch: these words are no command\n"),
+    (3, "doc.json", "xarch: no file doc.json\n"),
+    (4, "a.xar", "xarch: a.xar exists\n"),
+    (5, "", "xarch: bad specification, line 2, why 5\n"),
+    (6, "", "xarch: bad json\n"),
+    (9, "", "xarch: no version 4 of 3\n"),
+    (10, "", "xarch: bad path, step 3\n"),
+    (11, "a.xar", "xarch: damaged archive a.xar\n"),
+    (13, "", "xarch: folder fault\n"),
+    (14, "", "xarch: output fault\n"),
+    (15, "", "xarch: input fault\n"),
+    (16, "", "xarch: out of memory\n"),
+];
+
+/// A fault of this status.
+fn fault_of(alloc: Global, status: u8, name: &str) -> Result<Fault, AllocError> {
+    let name = String::from_str(alloc, name)?;
+    Ok(match status {
+        2 => Fault::Usage,
+        3 => Fault::NoFile { name },
+        4 => Fault::Exists { name },
+        5 => Fault::BadSpec { line: 2, why: 5 },
+        6 => Fault::BadJson,
+        9 => Fault::NoVersion { i: 4, n: 3 },
+        10 => Fault::BadPath { step: 3 },
+        11 => Fault::Damaged { name },
+        13 => Fault::FolderFault,
+        14 => Fault::OutFault,
+        15 => Fault::InFault,
+        _ => Fault::Memory,
+    })
+}
+
+/// Whether the fault has this status and this line.
+fn is_said(alloc: Global, fault: &Fault, answer: u8, line: &str) -> bool {
+    let mut err = MemSink::new(alloc, Vec::new(alloc));
+    let is_written = write_fault(fault, &mut err).is_ok();
+    is_written && status(fault) == answer && err.taken() == line.as_bytes()
+}
+
+fn is_fault_said(alloc: Global, answer: u8, name: &str, line: &str) -> Result<bool, AllocError> {
+    let fault = fault_of(alloc, answer, name)?;
+    Ok(is_said(alloc, &fault, answer, line))
+}
+
+#[test]
+fn faults_tell_where_and_why(rt: HostRuntime) -> Result<(), Fail> {
+    for (answer, name, line) in FAULTS {
+        assert!(rt; is_fault_said(rt.alloc(), *answer, name, line)?, "{line}");
+    }
+    Ok(())
+}
+
+/// A quantity, the number that it is above, and the line.
+const LIMITS: &[(Quantity, u64, &str)] = &[
+    (
+        Quantity::Document,
+        67_108_864,
+        "xarch: limit document 67108864\n",
+    ),
+    (Quantity::Depth, 120, "xarch: limit depth 120\n"),
+    (
+        Quantity::Specification,
+        1_048_576,
+        "xarch: limit specification 1048576\n",
+    ),
+    (
+        Quantity::Versions,
+        999_999,
+        "xarch: limit versions 999999\n",
+    ),
+    (
+        Quantity::Archive,
+        274_877_906_944,
+        "xarch: limit archive 274877906944\n",
+    ),
+    (Quantity::Line, 1_048_576, "xarch: limit line 1048576\n"),
+    (
+        Quantity::Batch,
+        1_073_741_824,
+        "xarch: limit batch 1073741824\n",
+    ),
+    (Quantity::Demo, 1_000, "xarch: limit demo 1000\n"),
+];
+
+fn is_limit_said(alloc: Global, quantity: Quantity, number: u64, line: &str) -> bool {
+    let fault = Fault::Limit { quantity, number };
+    is_said(alloc, &fault, 12, line)
+}
+
+#[test]
+fn limits_tell_numbers(rt: HostRuntime) {
+    for (quantity, number, line) in LIMITS {
+        assert!(rt;
+            is_limit_said(rt.alloc(), *quantity, *number, line),
+            "{line}"
+        );
+    }
+}
+
+/// A key path: its tags, and its attribute.
+struct Path(&'static [&'static str], Option<&'static str>);
+
+/// Why a place does not satisfy the keys, the key path that is to blame, and the line.
+const KEY_FAULTS: &[(u8, Option<Path>, &str)] = &[
+    (5, None, "xarch: key fault at /1/4, why 5\n"),
+    (
+        3,
+        Some(Path(&["ln"], None)),
+        "xarch: key fault at /1/4, why 3, key path ln\n",
+    ),
+    (
+        4,
+        Some(Path(&["a", "b"], Some("c"))),
+        "xarch: key fault at /1/4, why 4, key path a/b/@c\n",
+    ),
+    (
+        3,
+        Some(Path(&[], Some("id"))),
+        "xarch: key fault at /1/4, why 3, key path @id\n",
+    ),
+    (
+        3,
+        Some(Path(&[], None)),
+        "xarch: key fault at /1/4, why 3, key path .\n",
+    ),
+];
 
 fn place(alloc: Global, steps: &[u32]) -> Result<Place, AllocError> {
     let steps = Vec::from_slice(alloc, steps)?;
     Ok(Place { steps })
 }
 
-fn key_path(alloc: Global, tags: &[&str], attr: Option<&str>) -> Result<KeyPath, AllocError> {
-    let tags = texts(alloc, tags)?;
-    let attr = match attr {
+fn key_path(alloc: Global, path: &Path) -> Result<KeyPath, AllocError> {
+    let attr = match path.1 {
         Some(name) => Some(String::from_str(alloc, name)?),
         None => None,
     };
+    let tags = texts(alloc, path.0)?;
     Ok(KeyPath { tags, attr })
 }
 
-// The status of a fault, and its line.
-fn said(alloc: Global, fault: &Fault) -> (u8, MemSink) {
-    let mut err = MemSink::new(alloc, Vec::new(alloc));
-    let _ = write_fault(fault, &mut err);
-    (status(fault), err)
-}
-
-#[test]
-fn three_words_spell_norm(rt: HostRuntime) -> Result<(), Fail> {
-    let alloc = rt.alloc();
-    let words = texts(alloc, &["norm", "company.key", "doc.json"])?;
-    let norm = Command::Norm {
-        spec: "company.key",
-        doc: "doc.json",
+fn key_fault(alloc: Global, why: u8, path: &Option<Path>) -> Result<Fault, AllocError> {
+    let key_path = match path {
+        Some(path) => Some(key_path(alloc, path)?),
+        None => None,
     };
-    assert!(rt; read_words(&words) == Some(norm));
-    let other = texts(alloc, &["fetch", "company.key", "doc.json"])?;
-    assert!(rt; read_words(&other).is_none());
-    let short = texts(alloc, &["norm", "company.key"])?;
-    assert!(rt; read_words(&short).is_none());
-    Ok(())
+    let place = place(alloc, &[1, 4])?;
+    Ok(Fault::KeyFault(KeyFault {
+        place,
+        why,
+        key_path,
+    }))
 }
 
-#[test]
-fn a_number_word_is_as_it_is_printed(rt: HostRuntime) -> Result<(), Fail> {
-    let alloc = rt.alloc();
-    let cases: [(&str, Option<u32>); 7] = [
-        ("0", Some(0)),
-        ("1", Some(1)),
-        ("4294967295", Some(4_294_967_295)),
-        ("4294967296", None),
-        ("01", None),
-        ("+1", None),
-        ("", None),
-    ];
-    for (word, number) in cases {
-        let words = texts(alloc, &["get", "a.xar", word])?;
-        let get = number.map(|version| Command::Get {
-            archive: "a.xar",
-            version,
-        });
-        assert!(rt; read_words(&words) == get);
-    }
-    let short = texts(alloc, &["get", "a.xar"])?;
-    assert!(rt; read_words(&short).is_none());
-    assert!(rt; read_words(&[]).is_none());
-    Ok(())
-}
-
-#[test]
-fn init_and_add_name_their_files(rt: HostRuntime) -> Result<(), Fail> {
-    let alloc = rt.alloc();
-    let words = texts(alloc, &["init", "a.xar", "company.key"])?;
-    let init = Command::Init {
-        archive: "a.xar",
-        spec: "company.key",
-    };
-    assert!(rt; read_words(&words) == Some(init));
-    let words = texts(alloc, &["add", "a.xar", "doc.json"])?;
-    let add = Command::Add {
-        archive: "a.xar",
-        doc: "doc.json",
-    };
-    assert!(rt; read_words(&words) == Some(add));
-    Ok(())
-}
-
-#[test]
-fn questions_name_their_archive(rt: HostRuntime) -> Result<(), Fail> {
-    let alloc = rt.alloc();
-    let words = texts(alloc, &["history", "a.xar", "[\"db\"]"])?;
-    let history = Command::History {
-        archive: "a.xar",
-        path: "[\"db\"]",
-    };
-    assert!(rt; read_words(&words) == Some(history));
-    let words = texts(alloc, &["stats", "a.xar"])?;
-    assert!(rt; read_words(&words) == Some(Command::Stats { archive: "a.xar" }));
-    let words = texts(alloc, &["batch"])?;
-    assert!(rt; read_words(&words) == Some(Command::Batch));
-    let words = texts(alloc, &["demo", "7", "40", "a.xar"])?;
-    let demo = Command::Demo {
-        seed: 7,
-        count: 40,
-        archive: "a.xar",
-    };
-    assert!(rt; read_words(&words) == Some(demo));
-    Ok(())
-}
-
-#[test]
-fn other_words_are_no_command(rt: HostRuntime) -> Result<(), Fail> {
-    let alloc = rt.alloc();
-    let cases: [&[&str]; 8] = [
-        &["check", "a.xar"],
-        &["stats"],
-        &["batch", "a.xar"],
-        &["history", "a.xar"],
-        &["demo", "7", "a.xar"],
-        &["demo", "7", "040", "a.xar"],
-        &["demo", "-7", "40", "a.xar"],
-        &["demo", "7", "40", "a.xar", "b.xar"],
-    ];
-    for case in cases {
-        let words = texts(alloc, case)?;
-        assert!(rt; read_words(&words).is_none());
-    }
-    Ok(())
-}
-
-/// Whether each fault has this status and this line.
-fn are_said(alloc: Global, cases: &[(Fault, u8, &[u8])]) -> bool {
-    for (fault, status, line) in cases {
-        let (answer, err) = said(alloc, fault);
-        if answer != *status || err.taken() != *line {
-            return false;
-        }
-    }
-    true
-}
-
-fn limit(quantity: Quantity, number: u64) -> Fault {
-    Fault::Limit { quantity, number }
-}
-
-#[test]
-fn faults_of_files_name_them(rt: HostRuntime) -> Result<(), Fail> {
-    let alloc = rt.alloc();
-    let cases: [(Fault, u8, &[u8]); 3] = [
-        (
-            Fault::NoFile {
-                name: String::from_str(alloc, "doc.json")?,
-            },
-            3,
-            b"xarch: no file doc.json\n",
-        ),
-        (
-            Fault::Exists {
-                name: String::from_str(alloc, "a.xar")?,
-            },
-            4,
-            b"xarch: a.xar exists\n",
-        ),
-        (
-            Fault::Damaged {
-                name: String::from_str(alloc, "a.xar")?,
-            },
-            11,
-            b"xarch: damaged archive a.xar\n",
-        ),
-    ];
-    assert!(rt; are_said(alloc, &cases));
-    Ok(())
-}
-
-#[test]
-fn faults_tell_where_and_why(rt: HostRuntime) -> Result<(), Fail> {
-    let alloc = rt.alloc();
-    let cases: [(Fault, u8, &[u8]); 9] = [
-        (Fault::Usage, 2, b"xarch: these words are no command\n"),
-        (
-            Fault::BadSpec { line: 2, why: 5 },
-            5,
-            b"xarch: bad specification, line 2, why 5\n",
-        ),
-        (Fault::BadJson, 6, b"xarch: bad json\n"),
-        (
-            Fault::BadShape {
-                place: place(alloc, &[])?,
-                why: 4,
-            },
-            7,
-            b"xarch: bad shape at /, why 4\n",
-        ),
-        (Fault::BadPath { step: 3 }, 10, b"xarch: bad path, step 3\n"),
-        (Fault::FolderFault, 13, b"xarch: folder fault\n"),
-        (Fault::OutFault, 14, b"xarch: output fault\n"),
-        (Fault::InFault, 15, b"xarch: input fault\n"),
-        (Fault::Memory, 16, b"xarch: out of memory\n"),
-    ];
-    assert!(rt; are_said(alloc, &cases));
-    Ok(())
-}
-
-#[test]
-fn faults_tell_numbers(rt: HostRuntime) -> Result<(), Fail> {
-    let cases: [(Fault, u8, &[u8]); 9] = [
-        (
-            Fault::NoVersion { i: 4, n: 3 },
-            9,
-            b"xarch: no version 4 of 3\n",
-        ),
-        (
-            limit(Quantity::Document, 67_108_864),
-            12,
-            b"xarch: limit document 67108864\n",
-        ),
-        (limit(Quantity::Depth, 120), 12, b"xarch: limit depth 120\n"),
-        (
-            limit(Quantity::Specification, 1_048_576),
-            12,
-            b"xarch: limit specification 1048576\n",
-        ),
-        (
-            limit(Quantity::Versions, 999_999),
-            12,
-            b"xarch: limit versions 999999\n",
-        ),
-        (
-            limit(Quantity::Archive, 274_877_906_944),
-            12,
-            b"xarch: limit archive 274877906944\n",
-        ),
-        (
-            limit(Quantity::Line, 1_048_576),
-            12,
-            b"xarch: limit line 1048576\n",
-        ),
-        (
-            limit(Quantity::Batch, 1_073_741_824),
-            12,
-            b"xarch: limit batch 1073741824\n",
-        ),
-        (
-            limit(Quantity::Demo, 1_000),
-            12,
-            b"xarch: limit demo 1000\n",
-        ),
-    ];
-    assert!(rt; are_said(rt.alloc(), &cases));
-    Ok(())
+fn is_key_fault_said(
+    alloc: Global,
+    why: u8,
+    path: &Option<Path>,
+    line: &str,
+) -> Result<bool, AllocError> {
+    let fault = key_fault(alloc, why, path)?;
+    Ok(is_said(alloc, &fault, 8, line))
 }
 
 #[test]
 fn a_key_fault_names_its_key_path(rt: HostRuntime) -> Result<(), Fail> {
-    let alloc = rt.alloc();
-    let cases: [(u8, Option<KeyPath>, &[u8]); 5] = [
-        (5, None, b"xarch: key fault at /1/4, why 5\n"),
-        (
-            3,
-            Some(key_path(alloc, &["ln"], None)?),
-            b"xarch: key fault at /1/4, why 3, key path ln\n",
-        ),
-        (
-            4,
-            Some(key_path(alloc, &["a", "b"], Some("c"))?),
-            b"xarch: key fault at /1/4, why 4, key path a/b/@c\n",
-        ),
-        (
-            3,
-            Some(key_path(alloc, &[], Some("id"))?),
-            b"xarch: key fault at /1/4, why 3, key path @id\n",
-        ),
-        (
-            3,
-            Some(key_path(alloc, &[], None)?),
-            b"xarch: key fault at /1/4, why 3, key path .\n",
-        ),
-    ];
-    for (why, key_path, line) in cases {
-        let place = place(alloc, &[1, 4])?;
-        let fault = Fault::KeyFault(KeyFault {
-            place,
-            why,
-            key_path,
-        });
-        let (answer, err) = said(alloc, &fault);
-        assert_eq!(rt; answer, 8);
-        assert_eq!(rt; err.taken(), line);
+    for (why, path, line) in KEY_FAULTS {
+        assert!(rt; is_key_fault_said(rt.alloc(), *why, path, line)?, "{line}");
     }
     Ok(())
 }
 
+fn is_root_said(alloc: Global) -> Result<bool, AllocError> {
+    let place = place(alloc, &[])?;
+    let fault = Fault::BadShape { place, why: 4 };
+    Ok(is_said(alloc, &fault, 7, "xarch: bad shape at /, why 4\n"))
+}
+
+#[test]
+fn the_root_is_a_place(rt: HostRuntime) -> Result<(), Fail> {
+    assert!(rt; is_root_said(rt.alloc())?);
+    Ok(())
+}
+
+/// Whether a sink whose listed write fails has taken these bytes of a line.
+fn is_taken(alloc: Global, fail: u64, wanted: &str) -> Result<bool, AllocError> {
+    let mut err = MemSink::new(alloc, vec![in alloc; fail]?);
+    let fault = fault_of(alloc, 3, "doc.json")?;
+    let is_written = write_fault(&fault, &mut err).is_ok();
+    Ok(is_written != wanted.is_empty() && err.taken() == wanted.as_bytes())
+}
+
 #[test]
 fn a_line_goes_in_one_write(rt: HostRuntime) -> Result<(), Fail> {
-    let alloc = rt.alloc();
-    let fault = Fault::NoFile {
-        name: String::from_str(alloc, "doc.json")?,
-    };
-    let mut second_fails = MemSink::new(alloc, vec![in alloc; 2]?);
-    assert!(rt; write_fault(&fault, &mut second_fails).is_ok());
-    assert_eq!(rt;
-        second_fails.taken(),
-        b"xarch: no file doc.json\n".as_slice()
-    );
-    let mut first_fails = MemSink::new(alloc, vec![in alloc; 1]?);
-    assert!(rt; write_fault(&fault, &mut first_fails).is_err());
-    assert!(rt; first_fails.taken().is_empty());
+    assert!(rt; is_taken(rt.alloc(), 2, "xarch: no file doc.json\n")?);
+    assert!(rt; is_taken(rt.alloc(), 1, "")?);
     Ok(())
 }

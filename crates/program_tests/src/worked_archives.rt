@@ -3,160 +3,314 @@ ghost use Rattle.key_spec.specs.View.{spec_view};
 ghost use Rattle.keyed_tree.specs.View.{keyed_view};
 ghost use Rattle.archive_file.specs.KeyedBy.{IsKeyedBy};
 
-use crate::commands::{COMPANY, JOHN, TINY, answer};
+use crate::cases::Output::Is;
+use crate::cases::Step::{Archive, AreAlike, Has, HasLength, Put, Run};
+use crate::cases::{Case, NOTHING, Pieces, Step, archive_of, check};
+use crate::documents::{
+    BY_ID, COMPANY, EIGHT_ELEMENTS, FINANCE, FLOOR_NUMBER, FLOOR_TEXT, JOHN, JOHN_RAISED, STRINGS,
+    TINY,
+};
 use jsonml_text::read_document;
 use key_annotate::keyed;
 use key_spec::Spec;
 use keyed_tree::Keyed;
-use std::alloc::{AllocError, Global};
+use std::alloc::Global;
 use std::test::Fail;
-use xa_outside::{FolderCall, FolderFail, MemFolder, MemSink};
+use xa_outside::{FolderCall, FolderFail};
 use xarch_steps::file_of_versions;
-
-/// Elements that are told apart by an attribute.
-pub(crate) const BY_ID: &[u8] = b"(/, (db, {}))\n(/db, (e, {@id}))\n";
-
-/// The employee with another salary.
-pub(crate) const JOHN_RAISED: &[u8] =
-    b"[\"db\",[\"dept\",[\"emp\",[\"fn\",\"John\"],[\"ln\",\"Doe\"],[\"sal\",\"95K\"],[\"tel\",\"123-4567\"]],[\"name\",\"finance\"]]]\n";
-
-/// The department without employees.
-pub(crate) const FINANCE: &[u8] = b"[\"db\",[\"dept\",[\"name\",\"finance\"]]]\n";
 
 /// The same employee twice in one department.
 const JOHN_TWICE: &[u8] =
     b"[\"db\",[\"dept\",[\"name\",\"finance\"],[\"emp\",[\"fn\",\"John\"],[\"ln\",\"Doe\"]],[\"emp\",[\"fn\",\"Jane\"],[\"ln\",\"Roe\"]],[\"emp\",[\"fn\",\"John\"],[\"ln\",\"Doe\"],[\"sal\",\"1K\"]]]]";
 
-/// Versions in which eight elements come and go.
-pub(crate) const EIGHT_ELEMENTS: [&[u8]; 6] = [
-    b"[\"db\",[\"e\",{\"id\":1}],[\"e\",{\"id\":2}],[\"e\",{\"id\":4}]]",
-    b"[\"db\",[\"e\",{\"id\":3}]]",
-    b"[\"db\",[\"e\",{\"id\":5}],[\"e\",{\"id\":6}]]",
-    b"[\"db\",[\"e\",{\"id\":7}],[\"e\",{\"id\":8}]]",
-    b"[\"db\",[\"e\",{\"id\":3}]]",
-    b"[\"db\"]",
-];
+const DB: &[u8] = b"[\"db\"]";
 
 /// The number of versions of an archive of one, and of a full one.
 const ONE: &[u8] = b"\x00\x00\x00\x01";
 
 const FULL: &[u8] = b"\x00\x0f\x42\x3f";
 
-/// The archive of so many versions, all of them an element `db` that holds nothing.
-fn db_archive(alloc: Global, count: &[u8]) -> Result<Vec<u8>, AllocError> {
-    let pieces: [&[u8]; 15] = [
-        b"XARC1\n",
-        b"\x00\x00\x00\x0e(/, (db, {}))\n",
-        count,
-        b"\x02\x00\x00\x00\x00\x00\x00\x00\x0c",
-        b"\x01\x00\x00\x00\x02db\x00\x00\x00\x00\x00",
-        b"\x03\x00\x00\x00\x00\x00\x00\x00\x0a",
-        b"\x00\x01\x00\x00\x00\x00\x00\x00\x00\x00",
-        b"\x05\x00\x00\x00\x00\x00\x00\x00\x00",
-        b"\x04\x00\x00\x00\x00\x00\x00\x00\x30",
-        b"\x00\x00\x00\x01",
-        b"\x00\x00\x00\x00\x00\x00\x00\x00\x00\x00\x00\x00\x00\x00\x00\x31\x00\x00\x00\x00\x00\x00\x00\x00",
-        b"\x00\x00\x00\x01\x00\x00\x00\x01",
-        count,
-        b"\x00\x00\x00\x00\x00\x00\x00\x00",
-        b"\x00\x00\x00\x00\x00\x00\x00\x30",
-    ];
-    let mut bytes = Vec::new(alloc);
-    for piece in pieces {
-        bytes.extend_from_slice(piece)?;
-    }
-    Ok(bytes)
-}
+/// The parts of an archive whose versions are all an element `db` that holds nothing, around the number of versions.
+const FRONT: &[u8] = b"XARC1\n\x00\x00\x00\x0e(/, (db, {}))\n";
 
-/// The length of the archive.
-fn length_in(folder: &MemFolder) -> usize {
-    match folder.file("A") {
-        Some(file) => file.len(),
-        None => 0,
-    }
-}
+const MIDDLE: &[u8] = b"\
+    \x02\x00\x00\x00\x00\x00\x00\x00\x0c\x01\x00\x00\x00\x02db\x00\x00\x00\x00\x00\
+    \x03\x00\x00\x00\x00\x00\x00\x00\x0a\x00\x01\x00\x00\x00\x00\x00\x00\x00\x00\
+    \x05\x00\x00\x00\x00\x00\x00\x00\x00\
+    \x04\x00\x00\x00\x00\x00\x00\x00\x30\x00\x00\x00\x01\
+    \x00\x00\x00\x00\x00\x00\x00\x00\x00\x00\x00\x00\x00\x00\x00\x31\x00\x00\x00\x00\x00\x00\x00\x00\
+    \x00\x00\x00\x01\x00\x00\x00\x01";
 
-/// Whether the archive has these bytes.
-fn has_bytes(folder: &MemFolder, bytes: &[u8]) -> bool {
-    match folder.file("A") {
-        Some(file) => file == bytes,
-        None => false,
-    }
-}
+const BACK: &[u8] = b"\x00\x00\x00\x00\x00\x00\x00\x00\x00\x00\x00\x00\x00\x00\x00\x30";
 
-/// What `add` answers for this document.
-fn add(alloc: Global, folder: &mut MemFolder, doc: &[u8]) -> Result<u8, AllocError> {
-    folder.put("doc", Vec::from_slice(alloc, doc)?)?;
-    let (status, _out, _err) = answer(alloc, folder, &["add", "A", "doc"])?;
-    Ok(status)
-}
+/// The last byte is cut off.
+const CUT_BACK: &[u8] = b"\x00\x00\x00\x00\x00\x00\x00\x00\x00\x00\x00\x00\x00\x00\x00";
 
-/// A folder with an archive to which these documents were added, and what each command answered.
-pub(crate) fn archive(
-    alloc: Global,
-    spec: &[u8],
-    docs: &[&[u8]],
-) -> Result<(MemFolder, Vec<u8>), AllocError> {
-    let mut folder = MemFolder::new(alloc, Vec::new(alloc));
-    folder.put("spec", Vec::from_slice(alloc, spec)?)?;
-    let (status, _out, _err) = answer(alloc, &mut folder, &["init", "A", "spec"])?;
-    let mut statuses = Vec::new(alloc);
-    statuses.push(status)?;
-    for doc in docs {
-        let status = add(alloc, &mut folder, doc)?;
-        statuses.push(status)?;
-    }
-    Ok((folder, statuses))
-}
+const ARCHIVE_OF_ONE: Pieces = &[(FRONT, 1), (ONE, 1), (MIDDLE, 1), (ONE, 1), (BACK, 1)];
 
-/// Whether `get` writes this for a version.
-fn gets(
-    alloc: Global,
-    folder: &mut MemFolder,
-    version: &str,
-    output: &[u8],
-) -> Result<bool, AllocError> {
-    let (_status, out, _err) = answer(alloc, folder, &["get", "A", version])?;
-    Ok(out.taken() == output)
-}
+const FULL_ARCHIVE: Pieces = &[(FRONT, 1), (FULL, 1), (MIDDLE, 1), (FULL, 1), (BACK, 1)];
+
+const CUT_ARCHIVE: Pieces = &[(FRONT, 1), (ONE, 1), (MIDDLE, 1), (ONE, 1), (CUT_BACK, 1)];
+
+/// `get` writes this for version 1, 2 or 3.
+const JOHN_FIRST: Step = Run(&["get", "A", "1"], 0, Is(&[(JOHN, 1)]), b"");
+
+const JOHN_THIRD: Step = Run(&["get", "A", "3"], 0, Is(&[(JOHN, 1)]), b"");
+
+const NO_COMMAND: &[u8] = b"xarch: these words are no command\n";
+
+const CASES: &[Case] = &[
+    Case {
+        name: "init makes an archive of no versions",
+        fails: &[],
+        steps: &[
+            Archive(COMPANY, &[]),
+            HasLength("A", 225),
+            Run(
+                &["get", "A", "1"],
+                9,
+                NOTHING,
+                b"xarch: no version 1 of 0\n",
+            ),
+            Run(&["init", "A", "spec"], 4, NOTHING, b"xarch: A exists\n"),
+        ],
+    },
+    Case {
+        name: "an archive of one element has these bytes",
+        fails: &[],
+        steps: &[
+            Archive(TINY, &[DB]),
+            HasLength("A", 142),
+            Has("A", ARCHIVE_OF_ONE),
+        ],
+    },
+    Case {
+        name: "a salary that returns is kept once",
+        fails: &[],
+        steps: &[
+            Archive(COMPANY, &[JOHN, JOHN_RAISED, JOHN]),
+            HasLength("A", 1198),
+            JOHN_FIRST,
+            Run(&["get", "A", "2"], 0, Is(&[(JOHN_RAISED, 1)]), b""),
+            JOHN_THIRD,
+        ],
+    },
+    Case {
+        name: "an employee vanishes and returns",
+        fails: &[],
+        steps: &[
+            Archive(COMPANY, &[JOHN, FINANCE, JOHN]),
+            JOHN_FIRST,
+            Run(&["get", "A", "2"], 0, Is(&[(FINANCE, 1)]), b""),
+            JOHN_THIRD,
+        ],
+    },
+    Case {
+        name: "an empty database stands between two full ones",
+        fails: &[],
+        steps: &[
+            Archive(COMPANY, &[JOHN, DB, JOHN]),
+            JOHN_FIRST,
+            Run(&["get", "A", "2"], 0, Is(&[(b"[\"db\"]\n", 1)]), b""),
+            JOHN_THIRD,
+        ],
+    },
+    Case {
+        name: "a refused document leaves the archive",
+        fails: &[],
+        steps: &[
+            Archive(COMPANY, &[JOHN, JOHN]),
+            HasLength("A", 1139),
+            Run(&["init", "B", "spec"], 0, NOTHING, b""),
+            Put("doc", &[(JOHN, 1)]),
+            Run(&["add", "B", "doc"], 0, NOTHING, b""),
+            Put("twice", &[(JOHN_TWICE, 1)]),
+            Run(
+                &["add", "B", "twice"],
+                8,
+                NOTHING,
+                b"xarch: key fault at /1/4, why 5\n",
+            ),
+            Run(&["add", "B", "doc"], 0, NOTHING, b""),
+            AreAlike("A", "B"),
+        ],
+    },
+    Case {
+        name: "an attribute changes its kind",
+        fails: &[],
+        steps: &[
+            Archive(COMPANY, &[FLOOR_TEXT, FLOOR_NUMBER]),
+            HasLength("A", 669),
+            Run(&["get", "A", "1"], 0, Is(&[(FLOOR_TEXT, 1)]), b""),
+            Run(&["get", "A", "2"], 0, Is(&[(FLOOR_NUMBER, 1)]), b""),
+        ],
+    },
+    Case {
+        name: "strings below the frontier are kept apart",
+        fails: &[],
+        steps: &[Archive(TINY, &STRINGS), HasLength("A", 202)],
+    },
+    Case {
+        name: "eight elements come and go",
+        fails: &[],
+        steps: &[
+            Archive(BY_ID, &EIGHT_ELEMENTS),
+            Run(
+                &["get", "A", "3"],
+                0,
+                Is(&[(b"[\"db\",[\"e\",{\"id\":5}],[\"e\",{\"id\":6}]]\n", 1)]),
+                b"",
+            ),
+            Run(
+                &["get", "A", "5"],
+                0,
+                Is(&[(b"[\"db\",[\"e\",{\"id\":3}]]\n", 1)]),
+                b"",
+            ),
+            Run(&["get", "A", "6"], 0, Is(&[(b"[\"db\"]\n", 1)]), b""),
+        ],
+    },
+    Case {
+        name: "a full archive takes no more versions",
+        fails: &[],
+        steps: &[
+            Put("A", FULL_ARCHIVE),
+            Put("doc", &[(DB, 1)]),
+            Run(&["get", "A", "999999"], 0, Is(&[(b"[\"db\"]\n", 1)]), b""),
+            Run(
+                &["add", "A", "doc"],
+                12,
+                NOTHING,
+                b"xarch: limit versions 999999\n",
+            ),
+            Has("A", FULL_ARCHIVE),
+        ],
+    },
+    Case {
+        name: "number words and missing names are refused",
+        fails: &[],
+        steps: &[
+            Archive(TINY, &[]),
+            Run(&["get", "A"], 2, NOTHING, NO_COMMAND),
+            Run(&["get", "A", "01"], 2, NOTHING, NO_COMMAND),
+            Run(&["get", "A", "4294967296"], 2, NOTHING, NO_COMMAND),
+            Run(&["get", "B", "1"], 3, NOTHING, b"xarch: no file B\n"),
+            Run(&["add", "B", "none"], 3, NOTHING, b"xarch: no file B\n"),
+            Run(&["init", "B", "none"], 3, NOTHING, b"xarch: no file none\n"),
+        ],
+    },
+    Case {
+        name: "a damaged archive is left as it is",
+        fails: &[],
+        steps: &[
+            Put("A", CUT_ARCHIVE),
+            HasLength("A", 141),
+            Put("doc", &[(DB, 1)]),
+            Run(
+                &["get", "A", "1"],
+                11,
+                NOTHING,
+                b"xarch: damaged archive A\n",
+            ),
+            Has("A", CUT_ARCHIVE),
+            Run(
+                &["add", "A", "doc"],
+                11,
+                NOTHING,
+                b"xarch: damaged archive A\n",
+            ),
+            Has("A", CUT_ARCHIVE),
+        ],
+    },
+];
+
+/// A document is not added, since a call of the folder fails, and the archive stays as it was.
+const NOT_ADDED: &[Step] = &[
+    Put("A", ARCHIVE_OF_ONE),
+    Put("doc", &[(DB, 1)]),
+    Run(&["add", "A", "doc"], 13, NOTHING, b"xarch: folder fault\n"),
+    Has("A", ARCHIVE_OF_ONE),
+];
+
+const FAILING_FOLDERS: &[Case] = &[
+    Case {
+        name: "no draft is begun",
+        fails: &[FolderFail {
+            call: FolderCall::Begin,
+            number: 1,
+        }],
+        steps: NOT_ADDED,
+    },
+    Case {
+        name: "the first length fails",
+        fails: &[FolderFail {
+            call: FolderCall::Length,
+            number: 1,
+        }],
+        steps: NOT_ADDED,
+    },
+    Case {
+        name: "the second length fails",
+        fails: &[FolderFail {
+            call: FolderCall::Length,
+            number: 2,
+        }],
+        steps: NOT_ADDED,
+    },
+    Case {
+        name: "the first read fails",
+        fails: &[FolderFail {
+            call: FolderCall::ReadAt,
+            number: 1,
+        }],
+        steps: NOT_ADDED,
+    },
+    Case {
+        name: "the second read fails",
+        fails: &[FolderFail {
+            call: FolderCall::ReadAt,
+            number: 2,
+        }],
+        steps: NOT_ADDED,
+    },
+    Case {
+        name: "nothing is appended",
+        fails: &[FolderFail {
+            call: FolderCall::Append,
+            number: 1,
+        }],
+        steps: NOT_ADDED,
+    },
+    Case {
+        name: "the draft is not committed",
+        fails: &[FolderFail {
+            call: FolderCall::Commit,
+            number: 1,
+        }],
+        steps: NOT_ADDED,
+    },
+];
+
+/// A second draft is not begun.
+const ONE_DRAFT: &[Case] = &[Case {
+    name: "a document is added by one draft",
+    fails: &[FolderFail {
+        call: FolderCall::Begin,
+        number: 2,
+    }],
+    steps: &[
+        Put("A", ARCHIVE_OF_ONE),
+        Put("doc", &[(DB, 1)]),
+        Run(&["add", "A", "doc"], 0, NOTHING, b""),
+        Run(&["get", "A", "2"], 0, Is(&[(b"[\"db\"]\n", 1)]), b""),
+    ],
+}];
 
 #[test]
-fn init_makes_an_archive_of_no_versions(rt: HostRuntime) -> Result<(), Fail> {
-    let alloc = rt.alloc();
-    let (mut folder, statuses) = archive(alloc, COMPANY, &[])?;
-    assert_eq!(rt; statuses.as_slice(), [0u8].as_slice());
-    assert_eq!(rt; length_in(&folder), 225);
-    let (status, out, err) = answer(alloc, &mut folder, &["get", "A", "1"])?;
-    assert_eq!(rt; status, 9);
-    assert!(rt; out.taken().is_empty());
-    assert_eq!(rt; err.taken(), b"xarch: no version 1 of 0\n".as_slice());
-    let (status, out, err) = answer(alloc, &mut folder, &["init", "A", "spec"])?;
-    assert_eq!(rt; status, 4);
-    assert!(rt; out.taken().is_empty());
-    assert_eq!(rt; err.taken(), b"xarch: A exists\n".as_slice());
-    Ok(())
-}
-
-#[test]
-fn an_archive_of_one_element_has_these_bytes(rt: HostRuntime) -> Result<(), Fail> {
-    let alloc = rt.alloc();
-    let (folder, statuses) = archive(alloc, TINY, &[b"[\"db\"]"])?;
-    assert_eq!(rt; statuses.as_slice(), [0u8, 0].as_slice());
-    let bytes = db_archive(alloc, ONE)?;
-    assert_eq!(rt; bytes.len(), 142);
-    assert!(rt; has_bytes(&folder, &bytes));
-    Ok(())
-}
-
-#[test]
-fn a_salary_that_returns_is_kept_once(rt: HostRuntime) -> Result<(), Fail> {
-    let alloc = rt.alloc();
-    let (mut folder, statuses) = archive(alloc, COMPANY, &[JOHN, JOHN_RAISED, JOHN])?;
-    assert_eq!(rt; statuses.as_slice(), [0u8, 0, 0, 0].as_slice());
-    assert_eq!(rt; length_in(&folder), 1198);
-    assert!(rt; gets(alloc, &mut folder, "1", JOHN)?);
-    assert!(rt; gets(alloc, &mut folder, "2", JOHN_RAISED)?);
-    assert!(rt; gets(alloc, &mut folder, "3", JOHN)?);
+fn archives_keep_their_versions(rt: HostRuntime) -> Result<(), Fail> {
+    for cases in [CASES, FAILING_FOLDERS, ONE_DRAFT] {
+        check(&rt, rt.alloc(), cases)?;
+    }
     Ok(())
 }
 
@@ -169,179 +323,25 @@ fn keyed_document(alloc: Global, spec: &Spec, doc: &[u8]) -> Result<Keyed, Fail>
     Ok(keyed(alloc, spec, &doc)?)
 }
 
-#[test]
-fn merging_all_documents_gives_the_file_that_adding_them_left(rt: HostRuntime) -> Result<(), Fail> {
-    let alloc = rt.alloc();
-    let (folder, statuses) = archive(alloc, COMPANY, &[JOHN, JOHN_RAISED, JOHN])?;
-    assert_eq!(rt; statuses.as_slice(), [0u8, 0, 0, 0].as_slice());
+/// The file of the archive of these three versions, made at once.
+fn file_of_three(alloc: Global) -> Result<Vec<u8>, Fail> {
     let spec = Spec::parse(alloc, COMPANY)?;
     let first = keyed_document(alloc, &spec, JOHN)?;
     let second = keyed_document(alloc, &spec, JOHN_RAISED)?;
     let third = keyed_document(alloc, &spec, JOHN)?;
     let versions = vec![in alloc; first, second, third]?;
-    let bytes = file_of_versions(alloc, &spec, &versions)?;
-    assert!(rt; has_bytes(&folder, &bytes));
-    Ok(())
+    Ok(file_of_versions(alloc, &spec, &versions)?)
+}
+
+/// Whether the file made at once is the one that adding the versions left.
+fn is_file_the_same(alloc: Global) -> Result<bool, Fail> {
+    let merged = file_of_three(alloc)?;
+    let added = archive_of(alloc, COMPANY, &[JOHN, JOHN_RAISED, JOHN])?;
+    Ok(merged == added)
 }
 
 #[test]
-fn an_employee_vanishes_and_returns(rt: HostRuntime) -> Result<(), Fail> {
-    let alloc = rt.alloc();
-    let (mut folder, _statuses) = archive(alloc, COMPANY, &[JOHN, FINANCE, JOHN])?;
-    assert!(rt; gets(alloc, &mut folder, "1", JOHN)?);
-    assert!(rt; gets(alloc, &mut folder, "2", FINANCE)?);
-    assert!(rt; gets(alloc, &mut folder, "3", JOHN)?);
-    Ok(())
-}
-
-#[test]
-fn an_empty_database_stands_between_two_full_ones(rt: HostRuntime) -> Result<(), Fail> {
-    let alloc = rt.alloc();
-    let (mut folder, _statuses) = archive(alloc, COMPANY, &[JOHN, b"[\"db\"]", JOHN])?;
-    assert!(rt; gets(alloc, &mut folder, "1", JOHN)?);
-    assert!(rt; gets(alloc, &mut folder, "2", b"[\"db\"]\n")?);
-    assert!(rt; gets(alloc, &mut folder, "3", JOHN)?);
-    Ok(())
-}
-
-#[test]
-fn a_refused_document_leaves_the_archive(rt: HostRuntime) -> Result<(), Fail> {
-    let alloc = rt.alloc();
-    let (good, _statuses) = archive(alloc, COMPANY, &[JOHN, JOHN])?;
-    let (folder, statuses) = archive(alloc, COMPANY, &[JOHN, JOHN_TWICE, JOHN])?;
-    assert_eq!(rt; statuses.as_slice(), [0u8, 0, 8, 0].as_slice());
-    assert_eq!(rt; length_in(&good), 1139);
-    let file = good.file("A");
-    assert!(rt; file.is_some());
-    if let Some(bytes) = file {
-        assert!(rt; has_bytes(&folder, bytes));
-    }
-    Ok(())
-}
-
-#[test]
-fn an_attribute_changes_its_kind(rt: HostRuntime) -> Result<(), Fail> {
-    let alloc = rt.alloc();
-    let text = b"[\"db\",[\"dept\",{\"floor\":\"3\"},[\"name\",\"finance\"]]]\n";
-    let number = b"[\"db\",[\"dept\",{\"floor\":3},[\"name\",\"finance\"]]]\n";
-    let (mut folder, statuses) = archive(alloc, COMPANY, &[text, number])?;
-    assert_eq!(rt; statuses.as_slice(), [0u8, 0, 0].as_slice());
-    assert_eq!(rt; length_in(&folder), 669);
-    assert!(rt; gets(alloc, &mut folder, "1", text)?);
-    assert!(rt; gets(alloc, &mut folder, "2", number)?);
-    Ok(())
-}
-
-#[test]
-fn strings_below_the_frontier_are_kept_apart(rt: HostRuntime) -> Result<(), Fail> {
-    let alloc = rt.alloc();
-    let docs: [&[u8]; 3] = [
-        b"[\"db\",{},\"a\"]",
-        b"[\"db\",\"a\"]",
-        b"[\"db\",\"\",\"a\"]",
-    ];
-    let (folder, statuses) = archive(alloc, TINY, &docs)?;
-    assert_eq!(rt; statuses.as_slice(), [0u8, 0, 0, 0].as_slice());
-    assert_eq!(rt; length_in(&folder), 202);
-    Ok(())
-}
-
-#[test]
-fn eight_elements_come_and_go(rt: HostRuntime) -> Result<(), Fail> {
-    let alloc = rt.alloc();
-    let (mut folder, statuses) = archive(alloc, BY_ID, &EIGHT_ELEMENTS)?;
-    assert!(rt; statuses.iter().all(|status| *status == 0));
-    let cases: [(&str, &[u8]); 3] = [
-        ("3", b"[\"db\",[\"e\",{\"id\":5}],[\"e\",{\"id\":6}]]\n"),
-        ("5", b"[\"db\",[\"e\",{\"id\":3}]]\n"),
-        ("6", b"[\"db\"]\n"),
-    ];
-    for (version, output) in cases {
-        assert!(rt; gets(alloc, &mut folder, version, output)?);
-    }
-    Ok(())
-}
-
-#[test]
-fn a_full_archive_takes_no_more_versions(rt: HostRuntime) -> Result<(), Fail> {
-    let alloc = rt.alloc();
-    let full = db_archive(alloc, FULL)?;
-    let mut folder = MemFolder::new(alloc, Vec::new(alloc));
-    folder.put("A", Vec::from_slice(alloc, &full)?)?;
-    folder.put("doc", Vec::from_slice(alloc, b"[\"db\"]")?)?;
-    assert!(rt; gets(alloc, &mut folder, "999999", b"[\"db\"]\n")?);
-    let (status, out, err) = answer(alloc, &mut folder, &["add", "A", "doc"])?;
-    assert_eq!(rt; status, 12);
-    assert!(rt; out.taken().is_empty());
-    assert_eq!(rt; err.taken(), b"xarch: limit versions 999999\n".as_slice());
-    assert!(rt; has_bytes(&folder, &full));
-    Ok(())
-}
-
-#[test]
-fn number_words_and_missing_names_are_refused(rt: HostRuntime) -> Result<(), Fail> {
-    let alloc = rt.alloc();
-    let no_command: &[u8] = b"xarch: these words are no command\n";
-    let cases: [(&[&str], u8, &[u8]); 6] = [
-        (&["get", "A"], 2, no_command),
-        (&["get", "A", "01"], 2, no_command),
-        (&["get", "A", "4294967296"], 2, no_command),
-        (&["get", "B", "1"], 3, b"xarch: no file B\n"),
-        (&["add", "B", "none"], 3, b"xarch: no file B\n"),
-        (&["init", "B", "none"], 3, b"xarch: no file none\n"),
-    ];
-    for (words, want, line) in cases {
-        let (mut folder, _statuses) = archive(alloc, TINY, &[])?;
-        let (status, out, err) = answer(alloc, &mut folder, words)?;
-        assert_eq!(rt; status, want);
-        assert!(rt; out.taken().is_empty());
-        assert_eq!(rt; err.taken(), line);
-    }
-    Ok(())
-}
-
-#[test]
-fn a_damaged_archive_is_left_as_it_is(rt: HostRuntime) -> Result<(), Fail> {
-    let alloc = rt.alloc();
-    let cases: [&[&str]; 2] = [&["get", "A", "1"], &["add", "A", "doc"]];
-    let mut bytes = db_archive(alloc, ONE)?;
-    bytes.truncate(141);
-    for words in cases {
-        let mut folder = MemFolder::new(alloc, Vec::new(alloc));
-        folder.put("A", Vec::from_slice(alloc, &bytes)?)?;
-        folder.put("doc", Vec::from_slice(alloc, b"[\"db\"]")?)?;
-        let (status, out, err) = answer(alloc, &mut folder, words)?;
-        assert_eq!(rt; status, 11);
-        assert!(rt; out.taken().is_empty());
-        assert_eq!(rt; err.taken(), b"xarch: damaged archive A\n".as_slice());
-        assert!(rt; has_bytes(&folder, &bytes));
-    }
-    Ok(())
-}
-
-#[test]
-fn a_failing_folder_leaves_the_archive(rt: HostRuntime) -> Result<(), Fail> {
-    let alloc = rt.alloc();
-    let bytes = db_archive(alloc, ONE)?;
-    let cases = [
-        (FolderCall::Begin, 1),
-        (FolderCall::Length, 1),
-        (FolderCall::Length, 2),
-        (FolderCall::ReadAt, 1),
-        (FolderCall::ReadAt, 2),
-        (FolderCall::Append, 1),
-        (FolderCall::Commit, 1),
-    ];
-    for (call, number) in cases {
-        let fails = Vec::from_slice(alloc, &[FolderFail { call, number }])?;
-        let mut folder = MemFolder::new(alloc, fails);
-        folder.put("A", Vec::from_slice(alloc, &bytes)?)?;
-        folder.put("doc", Vec::from_slice(alloc, b"[\"db\"]")?)?;
-        let (status, out, err) = answer(alloc, &mut folder, &["add", "A", "doc"])?;
-        assert_eq!(rt; status, 13);
-        assert!(rt; out.taken().is_empty());
-        assert_eq!(rt; err.taken(), b"xarch: folder fault\n".as_slice());
-        assert!(rt; has_bytes(&folder, &bytes));
-    }
+fn merging_all_documents_gives_the_file_that_adding_them_left(rt: HostRuntime) -> Result<(), Fail> {
+    assert!(rt; is_file_the_same(rt.alloc())?);
     Ok(())
 }

@@ -1,5 +1,6 @@
 use crate::disk::DiskFolder;
 use crate::streams::{ReaderSource, WriterSink};
+use std::alloc::{AllocError, Global};
 use std::fs;
 use std::fs::Permissions;
 use std::os::unix::fs::PermissionsExt;
@@ -7,61 +8,66 @@ use std::rt::Files;
 use std::test::Fail;
 use xa_outside::{Folder, Sink, Source, fill_at};
 
-const NAME: &str = "xarch-test-of-the-folder";
+/// Whether a draft of these pieces is committed under this name.
+fn is_stored(folder: &mut DiskFolder<HostRuntime>, name: &str, pieces: &[&[u8]]) -> bool {
+    let mut is_written = folder.begin().is_ok();
+    for piece in pieces {
+        is_written = is_written && folder.append(piece).is_ok();
+    }
+    is_written && folder.commit(name).is_ok()
+}
+
+/// Whether these bytes stand in the file of this name from the offset on.
+fn holds(
+    folder: &mut DiskFolder<HostRuntime>,
+    alloc: Global,
+    name: &str,
+    at: u32,
+    bytes: &[u8],
+) -> Result<bool, AllocError> {
+    let mut found = vec![in alloc; 0u8; bytes.len()]?;
+    let count = fill_at(folder, name, at as u64, &mut found);
+    Ok(count == Ok(bytes.len()) && found.as_slice() == bytes)
+}
+
+/// Whether neither the length nor a byte of what has this name is told.
+fn is_refused(folder: &mut DiskFolder<HostRuntime>, name: &str) -> bool {
+    let mut one = [0u8; 1];
+    folder.length(name).is_err() && folder.read_at(name, 0, &mut one).is_err()
+}
 
 #[test]
 fn the_real_folder_reads_what_was_committed(rt: HostRuntime) -> Result<(), Fail> {
-    let alloc = rt.alloc();
-    let mut folder = DiskFolder::new(&rt, alloc);
-    let long = vec![in alloc; b'x'; 70_000]?;
-    folder.begin().map_err(|_| "begin")?;
-    folder.append(b"first, ").map_err(|_| "append")?;
-    folder.append(&long).map_err(|_| "append")?;
-    folder.append(b", last").map_err(|_| "append")?;
-    folder.commit(NAME).map_err(|_| "commit")?;
-    let length = folder.length(NAME).map_err(|_| "length")?;
-    assert_eq!(rt; length, Some(70_013));
-    let mut bytes = [0u8; 6];
-    let count = fill_at(&mut folder, NAME, 70_007, &mut bytes).map_err(|_| "fill_at")?;
-    assert_eq!(rt; count, 6);
-    assert_eq!(rt; bytes, *b", last");
-    let mut whole = vec![in alloc; 0u8; 70_000]?;
-    let count = fill_at(&mut folder, NAME, 7, &mut whole).map_err(|_| "fill_at")?;
-    assert_eq!(rt; count, 70_000);
-    assert!(rt; whole == long);
-    fs::remove_file(&rt, NAME)?;
-    let absent = folder.length(NAME).map_err(|_| "length")?;
-    assert_eq!(rt; absent, None);
-    let mut one = [0u8; 1];
-    assert!(rt; folder.length(".").is_err());
-    assert!(rt; folder.read_at(".", 0, &mut one).is_err());
-    assert!(rt; folder.length(".xarch-draft").is_err());
-    assert!(rt; folder.read_at(".xarch-draft", 0, &mut one).is_err());
-    folder.begin().map_err(|_| "begin")?;
-    assert!(rt; folder.commit(".xarch-draft").is_err());
-    folder.discard();
-    assert!(rt; fs::open(&rt, ".xarch-draft").is_err());
+    let name = "xarch-test-of-the-folder";
+    let long = vec![in rt.alloc(); b'x'; 70_000]?;
+    let mut folder = DiskFolder::new(&rt, rt.alloc());
+    let is_stored = is_stored(&mut folder, name, &[b"first, ", &long, b", last"]);
+    assert!(rt; is_stored && folder.length(name) == Ok(Some(70_013)));
+    assert!(rt; holds(&mut folder, rt.alloc(), name, 70_007, b", last")?);
+    assert!(rt; holds(&mut folder, rt.alloc(), name, 7, &long)?);
+    fs::remove_file(&rt, name)?;
+    assert!(rt; folder.length(name) == Ok(None));
     Ok(())
 }
 
-/// A draft of these bytes, committed under this name.
-fn store(folder: &mut DiskFolder<HostRuntime>, name: &str, bytes: &[u8]) -> Result<(), Fail> {
-    folder.begin().map_err(|_| "begin")?;
-    folder.append(bytes).map_err(|_| "append")?;
-    Ok(folder.commit(name).map_err(|_| "commit")?)
+#[test]
+fn folders_and_the_draft_are_no_files(rt: HostRuntime) {
+    let mut folder = DiskFolder::new(&rt, rt.alloc());
+    assert!(rt; is_refused(&mut folder, ".") && is_refused(&mut folder, ".xarch-draft"));
+    let is_begun = folder.begin().is_ok();
+    assert!(rt; is_begun && folder.commit(".xarch-draft").is_err());
+    folder.discard();
+    assert!(rt; fs::open(&rt, ".xarch-draft").is_err());
 }
 
 #[test]
 fn a_file_that_stands_open_is_read_anew_after_a_commit(rt: HostRuntime) -> Result<(), Fail> {
     let name = "xarch-test-of-a-second-commit";
     let mut folder = DiskFolder::new(&rt, rt.alloc());
-    store(&mut folder, name, b"old")?;
-    let mut bytes = [0u8; 3];
-    fill_at(&mut folder, name, 0, &mut bytes).map_err(|_| "fill_at")?;
-    assert_eq!(rt; bytes, *b"old");
-    store(&mut folder, name, b"new")?;
-    fill_at(&mut folder, name, 0, &mut bytes).map_err(|_| "fill_at")?;
-    assert_eq!(rt; bytes, *b"new");
+    for bytes in [b"old", b"new"] {
+        let is_stored = is_stored(&mut folder, name, &[bytes]);
+        assert!(rt; is_stored && holds(&mut folder, rt.alloc(), name, 0, bytes)?);
+    }
     fs::remove_file(&rt, name)?;
     Ok(())
 }
@@ -82,26 +88,14 @@ fn a_file_that_may_not_be_looked_at_is_not_absent(rt: HostRuntime) -> Result<(),
 }
 
 #[test]
-fn the_standard_input_ends(rt: HostRuntime) -> Result<(), Fail> {
+fn the_standard_input_ends(rt: HostRuntime) {
     let mut input = ReaderSource::new(rt.reader());
     let mut bytes = [0u8; 0];
-    let count = input.read(&mut bytes).map_err(|_| "read")?;
-    assert_eq!(rt; count, 0);
-    Ok(())
+    assert!(rt; input.read(&mut bytes) == Ok(0));
 }
 
 #[test]
-fn the_standard_output_takes_a_piece(rt: HostRuntime) -> Result<(), Fail> {
-    let mut out = WriterSink::new(rt.stdout());
-    let count = out.write(b"\n").map_err(|_| "write")?;
-    assert_eq!(rt; count, 1);
-    Ok(())
-}
-
-#[test]
-fn the_standard_error_takes_a_piece(rt: HostRuntime) -> Result<(), Fail> {
-    let mut err = WriterSink::new(rt.stderr());
-    let count = err.write(b"\n").map_err(|_| "write")?;
-    assert_eq!(rt; count, 1);
-    Ok(())
+fn the_standard_output_and_error_take_a_piece(rt: HostRuntime) {
+    let is_written = WriterSink::new(rt.stdout()).write(b"\n") == Ok(1);
+    assert!(rt; is_written && WriterSink::new(rt.stderr()).write(b"\n") == Ok(1));
 }

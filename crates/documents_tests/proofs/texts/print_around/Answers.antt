@@ -1,10 +1,10 @@
 use Rattle.std.proofs.Common.{◌∷◌, [], ◌++◌, refl, subst, sym}
 use Rattle.jsonml_tree.specs.Data.{element}
 use Rattle.jsonml_tree.specs.LentView.{lent_content_view}
-use Rattle.jsonml_text.specs.Pen.{Pen}
-use Rattle.jsonml_text.specs.Calls.{begin, end, AllMayCome, content_calls}
-use Rattle.jsonml_text.proofs.TreeWalk.{calls_may_come}
-use Rattle.jsonml_text.proofs.Walks.{AllMayCome-front, AllMayCome-back}
+use Rattle.jsonml_print.specs.Pen.{Pen}
+use Rattle.jsonml_print.specs.Calls.{begin, end, AllMayCome, content_calls}
+use Rattle.jsonml_print.proofs.TreeWalk.{calls_may_come}
+use Rattle.jsonml_print.proofs.Walks.{AllMayCome-front, AllMayCome-back}
 use Rattle.documents_tests.proofs.texts.print_around.Goals as goal
 
 pub print_lent_content-requires : goal.print_lent_content-requires
