@@ -55,6 +55,11 @@ const PRINTED: &[(&str, Pieces, Pieces)] = &[
     ),
     ("all kinds of items", &[(LENT, 1)], &[(LENT, 1)]),
     (
+        "names of attributes with escapes",
+        &[(b"[\"a\",{\"\\u006e\":1,\"m\\n\":\"x\"}]", 1)],
+        &[(b"[\"a\",{\"m\\n\":\"x\",\"n\":1}]", 1)],
+    ),
+    (
         "one line feed at the end is left out",
         &[(b"[\"db\"]\n", 1)],
         &[(b"[\"db\"]", 1)],

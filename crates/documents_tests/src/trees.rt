@@ -1,5 +1,5 @@
-use crate::reading::read;
-use jsonml_tree::{Content, LentContent, LentTree, Scalar, Tree};
+use crate::reading::{lend, read};
+use jsonml_tree::{Content, LentAttr, LentContent, LentScalar, LentTree, Scalar, Tree};
 use std::alloc::{AllocError, Global};
 use std::cmp::Ordering;
 use std::test::Fail;
@@ -18,12 +18,13 @@ fn scalars(alloc: Global) -> Result<[Scalar; 6], AllocError> {
 }
 
 fn ascend(alloc: Global, first: &Scalar, second: &Scalar) -> Result<bool, AllocError> {
-    let is_copied = second.copy(alloc)?.same(second);
+    let is_copied = second.copy(alloc)?.same(second) && second.lend().own(alloc)?.same(second);
     Ok(
         is_copied
             && first.same(first)
             && first.order(second) == Ordering::Less
-            && second.order(first) == Ordering::Greater,
+            && second.order(first) == Ordering::Greater
+            && first.lend().order(second.lend()) == Ordering::Less,
     )
 }
 
@@ -129,6 +130,7 @@ fn is_owned_again(alloc: Global, document: &[u8]) -> Result<bool, Fail> {
 fn a_lent_tree_owns_the_same_tree(rt: HostRuntime) -> Result<(), Fail> {
     assert!(rt; is_owned_again(rt.alloc(), br#"["dept",["name","finance"]]"#)?);
     assert!(rt; is_owned_again(rt.alloc(), br#"["name","finance"]"#)?);
+    assert!(rt; is_owned_again(rt.alloc(), DEPARTMENT)?);
     Ok(())
 }
 
@@ -153,5 +155,31 @@ fn is_lent_leaf(alloc: Global, document: &[u8]) -> Result<bool, Fail> {
 #[test]
 fn an_element_of_one_text_is_lent_as_a_leaf(rt: HostRuntime) -> Result<(), Fail> {
     assert!(rt; is_lent_leaf(rt.alloc(), br#"["name","finance"]"#)?);
+    Ok(())
+}
+
+fn attrs<'a, 'b>(tree: &'a LentTree<'b>) -> &'a [LentAttr<'b>] {
+    match tree {
+        LentTree::Elem { row, .. } => &row.attrs,
+        _ => &[],
+    }
+}
+
+/// Whether a document has one attribute, of this name and text.
+fn is_attribute_lent(alloc: Global, document: &[u8], name: &str, text: &str) -> Result<bool, Fail> {
+    let tree = lend(alloc, document)?;
+    match attrs(&tree) {
+        [attr] => Ok(
+            attr.name() == name && attr.value().order(LentScalar::Text(text)) == Ordering::Equal,
+        ),
+        _ => Ok(false),
+    }
+}
+
+#[test]
+fn an_attribute_is_lent_with_escapes_and_without(rt: HostRuntime) -> Result<(), Fail> {
+    assert!(rt; is_attribute_lent(rt.alloc(), br#"["a",{"n":"x"}]"#, "n", "x")?);
+    assert!(rt; is_attribute_lent(rt.alloc(), br#"["a",{"n":"\u0078"}]"#, "n", "x")?);
+    assert!(rt; is_attribute_lent(rt.alloc(), br#"["a",{"\u006e":"x"}]"#, "n", "x")?);
     Ok(())
 }

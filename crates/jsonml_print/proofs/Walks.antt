@@ -9,8 +9,6 @@ use Rattle.xa_outside.proofs.Output.{Takes-trans}
 use Rattle.xa_outside.specs.Taken.{TakesPrefix}
 use Rattle.xa_outside.proofs.Output.{TakesPrefix-after, TakesPrefix-more}
 use Rattle.jsonml_tree.specs.Data.{PlainAttr, PlainTree, PlainContent, content, trees_of, tree_depth, content_depth, trees_depth}
-use Rattle.jsonml_tree.specs.View.{attr_view}
-use Rattle.jsonml_tree.specs.declared.scalar.Attr.{Attr}
 use Rattle.jsonml_print.specs.Pen.{Pen}
 use Rattle.jsonml_print.specs.Calls.{Call, attribute, after, piece, printed, reached, AllMayCome, Prints, calls_of, content_calls, items_calls}
 
@@ -98,9 +96,9 @@ module _ {X : Type 0} (f : X → List Call) where
   walk_rest q r xs i x within e may = AllMayCome-back q r (f (get_or xs i x)) (flat_map f (drop (i + 1) xs)) e (subst (AllMayCome q) (turn xs i x within) may)
 
 -- the calls of attributes and of items, one after another
-pub attrs_calls-is : (xs : List Attr) → flat_map (λ x. attribute (attr_view x) ∷ []) xs ≡ map attribute (map attr_view xs)
-attrs_calls-is [] = refl
-attrs_calls-is (x ∷ xs) = ap (λ l. attribute (attr_view x) ∷ l) (attrs_calls-is xs)
+attrs_calls-is : {Y : Type 0} (named : Y → PlainAttr) (xs : List Y) → flat_map (λ x. attribute (named x) ∷ []) xs ≡ map attribute (map named xs)
+attrs_calls-is named [] = refl
+attrs_calls-is named (x ∷ xs) = ap (λ l. attribute (named x) ∷ l) (attrs_calls-is named xs)
 
 -- the same of trees of either kind, which are seen through a view
 module _ {X : Type 0} (view : X → PlainTree) where
@@ -108,12 +106,12 @@ module _ {X : Type 0} (view : X → PlainTree) where
   items_calls-is [] = refl
   items_calls-is (t ∷ ts) = ap (λ l. calls_of (view t) ++ l) (items_calls-is ts)
 
-  pub content_calls-is : (c : PlainContent) (xs ys : List Attr) (ts us : List X) → c ≡ content (map attr_view ys) (trees_of (map view us)) → xs ≡ ys → ts ≡ us
-      → content_calls c ≡ flat_map (λ x. attribute (attr_view x) ∷ []) xs ++ flat_map (λ t. calls_of (view t)) ts
-  content_calls-is c xs ys ts us is e f =
+  pub content_calls-is : {Y : Type 0} (named : Y → PlainAttr) (c : PlainContent) (xs ys : List Y) (ts us : List X) → c ≡ content (map named ys) (trees_of (map view us)) → xs ≡ ys → ts ≡ us
+      → content_calls c ≡ flat_map (λ x. attribute (named x) ∷ []) xs ++ flat_map (λ t. calls_of (view t)) ts
+  content_calls-is named c xs ys ts us is e f =
       ap content_calls is
-      ∙ ap (λ l. l ++ items_calls (trees_of (map view us))) (sym (attrs_calls-is ys) ∙ ap (flat_map (λ x. attribute (attr_view x) ∷ [])) (sym e))
-      ∙ ap (λ l. flat_map (λ x. attribute (attr_view x) ∷ []) xs ++ l) (sym (items_calls-is us) ∙ ap (flat_map (λ t. calls_of (view t))) (sym f))
+      ∙ ap (λ l. l ++ items_calls (trees_of (map view us))) (sym (attrs_calls-is named ys) ∙ ap (flat_map (λ x. attribute (named x) ∷ [])) (sym e))
+      ∙ ap (λ l. flat_map (λ x. attribute (named x) ∷ []) xs ++ l) (sym (items_calls-is us) ∙ ap (flat_map (λ t. calls_of (view t))) (sym f))
 
   pub content_depth-is : (c : PlainContent) (xs : List PlainAttr) (ts us : List X) → c ≡ content xs (trees_of (map view us)) → ts ≡ us → content_depth c ≡ trees_depth (trees_of (map view ts))
   content_depth-is c xs ts us is e = ap content_depth is ∙ ap (λ l. trees_depth (trees_of (map view l))) (sym e)

@@ -2,6 +2,7 @@ ghost use Rattle.std.specs.Prelude.{◌++◌, ◌∷◌, []};
 ghost use Rattle.std.specs.List.{flat_map};
 ghost use Rattle.xa_outside.specs.Taken.{Puts};
 ghost use Rattle.xa_outside.specs.Causes.{HasCause};
+ghost use Rattle.jsonml_tree.specs.LentAttrs.{lent_attr_view};
 ghost use Rattle.jsonml_tree.specs.LentView.{lent_tree_view, lent_row_view, lent_content_view};
 ghost use Rattle.jsonml_tree.specs.View.{tree_view, content_view, attr_view};
 ghost use Rattle.jsonml_tree.specs.Fits.{IsElement};
@@ -9,7 +10,7 @@ ghost use Rattle.jsonml_print.specs.Printed.{tree_text};
 ghost use Rattle.jsonml_print.specs.Calls.{begin, attribute, text as text_call, end, AllMayCome, Prints, calls_of, content_calls};
 
 use crate::Printer;
-use jsonml_tree::{Attr, Content, LentContent, LentRow, LentTree, Tree};
+use jsonml_tree::{Attr, Content, LentAttr, LentContent, LentRow, LentTree, Tree};
 use xa_outside::{Failed, Sink};
 
 /// Prints an element as JSON without blanks, with no line feed behind it. It recurses as deep as elements nest.
@@ -175,8 +176,25 @@ fn print_lent_row<K: Sink>(
         (content_calls (lent_row_view row.now)) result }
     ensures cause { HasCause (K.faults sink.old) (K.faults sink.new) result }
 {
-    print_attrs(&row.attrs, printer, sink)?;
+    print_lent_attrs(&row.attrs, printer, sink)?;
     print_lent_items(&row.items, printer, sink)
+}
+
+fn print_lent_attrs<K: Sink>(
+    attrs: &[LentAttr<'_>],
+    printer: &mut Printer,
+    sink: &mut K,
+) -> Result<(), Failed>
+    requires { AllMayCome printer.old
+        (flat_map (λ x. attribute (lent_attr_view x) ∷ []) attrs.now) }
+    ensures prints { Prints (K.taken sink.old) (K.taken sink.new) printer.old printer.new
+        (flat_map (λ x. attribute (lent_attr_view x) ∷ []) attrs.now) result }
+    ensures cause { HasCause (K.faults sink.old) (K.faults sink.new) result }
+{
+    for attr in attrs {
+        printer.lent_attr(sink, attr)?;
+    }
+    Ok(())
 }
 
 #[cycle(print_lent)]

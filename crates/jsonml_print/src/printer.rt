@@ -1,12 +1,13 @@
 ghost use Rattle.std.specs.Prelude.{◌≡◌, ◌∷◌, []};
 ghost use Rattle.xa_outside.specs.Causes.{HasCause};
+ghost use Rattle.jsonml_tree.specs.LentAttrs.{lent_attr_view};
 ghost use Rattle.jsonml_tree.specs.View.{scalar_view};
 ghost use Rattle.jsonml_print.specs.Pen.{fresh};
 ghost use Rattle.jsonml_print.specs.Calls.{begin, attribute, text as text_call, end, MayCome, Prints};
 
 use crate::last::Last;
 use crate::pieces::{write_attribute, write_begin, write_end, write_text};
-use jsonml_tree::Scalar;
+use jsonml_tree::{LentAttr, Scalar};
 use std::marker::Model;
 use xa_outside::{Failed, Sink};
 
@@ -60,7 +61,19 @@ impl Printer {
             (attribute (record { name = name.now; value = scalar_view value.now }) ∷ []) result }
         ensures cause { HasCause (K.faults sink.old) (K.faults sink.new) result }
     {
-        write_attribute(self.last, name, value, sink)?;
+        write_attribute(self.last, name, value.lend(), sink)?;
+        self.last = Last::Attribute;
+        Ok(())
+    }
+
+    /// Prints an attribute that is lent, the same way.
+    pub fn lent_attr<K: Sink>(&mut self, sink: &mut K, attr: &LentAttr<'_>) -> Result<(), Failed>
+        requires { MayCome self.old (attribute (lent_attr_view attr.now)) }
+        ensures prints { Prints (K.taken sink.old) (K.taken sink.new) self.old self.new
+            (attribute (lent_attr_view attr.now) ∷ []) result }
+        ensures cause { HasCause (K.faults sink.old) (K.faults sink.new) result }
+    {
+        write_attribute(self.last, attr.name(), attr.value(), sink)?;
         self.last = Last::Attribute;
         Ok(())
     }

@@ -27,7 +27,7 @@ pub(crate) fn write_behind_quote<K: Sink>(text: &str, sink: &mut K) -> Result<()
 }
 
 /// Writes bytes with their escapes, in as few and as long pieces as can be.
-fn write_escaped<K: Sink>(bytes: &[u8], sink: &mut K) -> Result<(), Failed>
+pub(crate) fn write_escaped<K: Sink>(bytes: &[u8], sink: &mut K) -> Result<(), Failed>
     ensures bytes { Puts (K.taken sink.old) (K.taken sink.new) result (escape bytes.now) }
     ensures cause { HasCause (K.faults sink.old) (K.faults sink.new) result }
 {

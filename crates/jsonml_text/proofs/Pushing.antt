@@ -12,7 +12,7 @@ use Rattle.jsonml_tree.specs.declared.lent.LentTree.{LentTree}
 use Rattle.jsonml_text.specs.Kept.{IsKept, IsContentKept, AreAttrsKept}
 use Rattle.jsonml_text.specs.Straight.{lexemes, tokens_from, HasLexeme, HasString, HasTree, HasItems, HasContent}
 use Rattle.jsonml_text.specs.Pushed.{depth_of, PushesTree, ReadsContent, ReadsItems}
-use Rattle.jsonml_text.specs.Texts.{AreTexts, AreAttrTexts, AreContentTexts, AreItemTexts}
+use Rattle.jsonml_text.specs.Texts.{AreTexts, AreContentTexts, AreItemTexts}
 use Rattle.jsonml_text.proofs.Keeping.{well_formed_push, fit_push, IsContentKept-parts}
 use Rattle.jsonml_text.proofs.Straightness.{HasTree-text, HasTree-element, HasItems-more, HasItems-end, HasContent-items, comma_passed, bracket_passed}
 
@@ -133,15 +133,15 @@ ReadsContent-text levels d at old s next h utf8 later within =
       within = within;
     }
 
-pub ReadsContent-parts : (levels : ℕ) (d : List ℕ) (at begun : ℕ) (old new items : List LentTree) (c : PlainContent) (xs : List PlainAttr) (next : ℕ) → c ≡ content xs (trees_of (map lent_tree_view items)) → AreAttrsKept xs → AreAttrTexts xs → at ≤ begun
+pub ReadsContent-parts : (levels : ℕ) (d : List ℕ) (at begun : ℕ) (old new items : List LentTree) (c : PlainContent) (xs : List PlainAttr) (next : ℕ) → c ≡ content xs (trees_of (map lent_tree_view items)) → AreAttrsKept xs → at ≤ begun
     → ((depth : ℕ) (ts : PlainTrees) (rest : List Token) → 0 < depth → HasItems depth d begun ts rest → HasContent depth d at (content xs ts) rest) → ReadsItems levels d begun old new items next → ReadsContent levels d at old new c next
-ReadsContent-parts levels d at begun old new items c xs next is kept texts le whole h =
+ReadsContent-parts levels d at begun old new items c xs next is kept le whole h =
     let ts = trees_of (map lent_tree_view items) in
     record {
       same = h.same;
       reads = subst (λ x. HasContent (depth_of levels) d at x (tokens_from after_value d next)) (sym is) (whole (depth_of levels) ts (tokens_from after_value d next) (omega arith) h.reads);
       kept = subst IsContentKept (sym is) (IsContentKept-parts xs (map lent_tree_view items) kept h.kept);
-      texts = subst AreContentTexts (sym is) (texts, h.texts);
+      texts = subst AreContentTexts (sym is) (kept.texts, h.texts);
       shallow = omega (arith, ap content_depth is, h.shallow);
       later = omega (arith, h.later);
       within = h.within;

@@ -1,5 +1,5 @@
 -- Parts of a text that has a document, put together.
-use Rattle.std.proofs.Common.{◌≡◌, ℕ, suc, ◌+◌, ◌-◌, ◌<◌, ◌≤◌, false, IsTrue, List, [], ◌∷◌, ◌++◌, length, take, drop, get_or, map, string_bytes, append_assoc, Some, None, Result, Ok, Err, option_map, option_and_then, refl, sym, ap, ◌∙◌, arith}
+use Rattle.std.proofs.Common.{◌≡◌, ℕ, suc, ◌+◌, ◌-◌, ◌<◌, ◌≤◌, false, IsTrue, List, [], ◌∷◌, ◌++◌, length, take, drop, get_or, map, append_assoc, Some, None, Result, Ok, Err, option_map, option_and_then, refl, sym, ap, ◌∙◌, arith}
 use Rattle.std.proofs.lemmas.List.{drop_all, drop_more, take_more, map-append}
 use Rattle.std.specs.List.{insert}
 use Rattle.std.specs.Str.{IsUtf8}
@@ -19,13 +19,14 @@ use Rattle.serde_json.specs.Read.{of_json, of_items, of_members, read, max_depth
 use Rattle.jsonml_tree.specs.Data.{PlainAttr, PlainScalar, PlainTree, text, element, PlainContent, content, PlainTrees, no_trees, tree, tree_depth}
 use Rattle.jsonml_tree.specs.Fits.{IsElement}
 use Rattle.jsonml_tree.specs.Order.{text_cmp}
-use Rattle.jsonml_tree.specs.View.{attr_view, scalar_view}
-use Rattle.jsonml_tree.specs.declared.scalar.Attr.{Attr}
+use Rattle.jsonml_tree.specs.LentAttrs.{lent_attr_view}
+use Rattle.jsonml_tree.specs.declared.lent_attr.LentAttr.{LentAttr}
 use Rattle.jsonml_tree.specs.WellFormed.{ascends, is_ascending, is_in_range, are_in_range}
 use Rattle.jsonml_text.specs.Document.{of_value, of_shape, unless_too_deep}
 use Rattle.jsonml_text.specs.Kept.{AreAttrsKept}
 use Rattle.jsonml_text.proofs.Levels.{found_at}
 use Rattle.jsonml_text.specs.Spelled.{ShapeFault, and_then, mapped, scalar_at, attrs_at, item_at, items_at, content_at, root_of}
+use Rattle.jsonml_text.specs.Texts.{IsScalarText, AreAttrTexts}
 use Rattle.jsonml_text.specs.Straight.{lexemes, tokens_from, HasLexeme, HasString, HasKey, HasScalar, HasAttrs, HasItems, HasContent, HasTree, put_attr}
 use Rattle.jsonml_text.proofs.Lexing.{tokens-string, tokens-key, tokens-begin_array, tokens-begin_object, tokens-end_object, tokens-comma, tokens-end_array}
 
@@ -49,10 +50,11 @@ HasString-lexeme d at s end next h same le within none utf8 =
     }
 
 pub HasKey-lexemes : (d : List ℕ) (at : ℕ) (s : List ℕ) (end mid after next : ℕ) → HasLexeme d at (token (string s)) end → lexemes d mid ≡ lexemes d end → HasLexeme d mid colon after → lexemes d next ≡ lexemes d after
-    → end ≤ mid → after ≤ next → next ≤ length d → HasKey d at s next
-HasKey-lexemes d at s end mid after next h same k again le more within =
+    → end ≤ mid → after ≤ next → next ≤ length d → IsUtf8 s → HasKey d at s next
+HasKey-lexemes d at s end mid after next h same k again le more within utf8 =
     record {
       reads = λ p may. ap (punctuate p) (h.lexed ∙ ap (λ ls. token (string s) ∷ ls) (sym same ∙ k.lexed ∙ ap (λ ls. colon ∷ ls) (sym again))) ∙ tokens-key p s (lexemes d next) may;
+      utf8 = utf8;
       later = omega (arith, h.later, k.later);
       within = within;
     }
@@ -240,37 +242,47 @@ are_in_range-put : (a : PlainAttr) (xs : List PlainAttr) → IsTrue (is_in_range
 are_in_range-put a [] p h = and_from _ _ p refl
 are_in_range-put a (x ∷ xs) p h = let both = and_parts (is_in_range x.value) _ h in range_put (text_cmp a.name x.name) a x xs (put_attr a xs) p both.0 both.1 (are_in_range-put a xs p both.1)
 
-pub AreAttrsKept-put : (a : PlainAttr) (xs : List PlainAttr) → IsTrue (is_in_range a.value) → AreAttrsKept xs → AreAttrsKept (put_attr a xs)
-AreAttrsKept-put a xs p h = record { ascending = is_ascending-put a xs h.ascending; in_range = are_in_range-put a xs p h.in_range }
+texts_put : (o : Ordering) (a x : PlainAttr) (xs more : List PlainAttr) → IsUtf8 a.name → IsScalarText a.value → AreAttrTexts (x ∷ xs) → AreAttrTexts more
+    → AreAttrTexts (match_ordering o (a ∷ x ∷ xs) (record { name = x.name; value = a.value } ∷ xs) (x ∷ more))
+texts_put Less a x xs more n v h k = (n, v, h)
+texts_put Equal a x xs more n v h k = (h.0, v, h.2)
+texts_put Greater a x xs more n v h k = (h.0, h.1, k)
+
+are_texts-put : (a : PlainAttr) (xs : List PlainAttr) → IsUtf8 a.name → IsScalarText a.value → AreAttrTexts xs → AreAttrTexts (put_attr a xs)
+are_texts-put a [] n v h = (n, v, tt)
+are_texts-put a (x ∷ xs) n v h = texts_put (text_cmp a.name x.name) a x xs (put_attr a xs) n v h (are_texts-put a xs n v h.2)
+
+pub AreAttrsKept-put : (a : PlainAttr) (xs : List PlainAttr) → IsTrue (is_in_range a.value) → IsUtf8 a.name → IsScalarText a.value → AreAttrsKept xs → AreAttrsKept (put_attr a xs)
+AreAttrsKept-put a xs p n v h = record { ascending = is_ascending-put a xs h.ascending; in_range = are_in_range-put a xs p h.in_range; texts = are_texts-put a xs n v h.texts }
 
 -- ---- the place of a name
 
-module _ (a : Attr) (xs : List Attr) (i : ℕ) (x : Attr) (within : i < length xs) (here : get_or xs i x ≡ x) where
-  at_place : put_attr (attr_view a) (map attr_view (drop i xs)) ≡ put_attr (attr_view a) (attr_view x ∷ map attr_view (drop (i + 1) xs))
-  at_place = ap (λ l. put_attr (attr_view a) (map attr_view l)) (drop_more xs i x within ∙ ap (λ y. y ∷ drop (i + 1) xs) here)
+module _ (a : LentAttr) (xs : List LentAttr) (i : ℕ) (x : LentAttr) (within : i < length xs) (here : get_or xs i x ≡ x) where
+  at_place : put_attr (lent_attr_view a) (map lent_attr_view (drop i xs)) ≡ put_attr (lent_attr_view a) (lent_attr_view x ∷ map lent_attr_view (drop (i + 1) xs))
+  at_place = ap (λ l. put_attr (lent_attr_view a) (map lent_attr_view l)) (drop_more xs i x within ∙ ap (λ y. y ∷ drop (i + 1) xs) here)
 
-  pub place_next : text_cmp (string_bytes a.name) (string_bytes x.name) ≡ Greater
-      → map attr_view (take i xs) ++ put_attr (attr_view a) (map attr_view (drop i xs)) ≡ map attr_view (take (i + 1) xs) ++ put_attr (attr_view a) (map attr_view (drop (i + 1) xs))
+  pub place_next : text_cmp (lent_attr_view a).name (lent_attr_view x).name ≡ Greater
+      → map lent_attr_view (take i xs) ++ put_attr (lent_attr_view a) (map lent_attr_view (drop i xs)) ≡ map lent_attr_view (take (i + 1) xs) ++ put_attr (lent_attr_view a) (map lent_attr_view (drop (i + 1) xs))
   place_next above =
-      let y = attr_view x in
-      let rest = put_attr (attr_view a) (map attr_view (drop (i + 1) xs)) in
-      let more : map attr_view (take (i + 1) xs) ≡ map attr_view (take i xs) ++ y ∷ [] =
-      ap (map attr_view) (take_more xs i x within ∙ ap (λ z. take i xs ++ z ∷ []) here) ∙ map-append attr_view (take i xs) (x ∷ []) in
-      ap (λ l. map attr_view (take i xs) ++ l) (at_place ∙ ap (λ o. match_ordering o (attr_view a ∷ y ∷ map attr_view (drop (i + 1) xs)) (record { name = y.name; value = scalar_view a.value } ∷ map attr_view (drop (i + 1) xs)) (y ∷ rest)) above)
-      ∙ sym (append_assoc (map attr_view (take i xs)) (y ∷ []) rest) ∙ ap (λ l. l ++ rest) (sym more)
+      let y = lent_attr_view x in
+      let rest = put_attr (lent_attr_view a) (map lent_attr_view (drop (i + 1) xs)) in
+      let more : map lent_attr_view (take (i + 1) xs) ≡ map lent_attr_view (take i xs) ++ y ∷ [] =
+      ap (map lent_attr_view) (take_more xs i x within ∙ ap (λ z. take i xs ++ z ∷ []) here) ∙ map-append lent_attr_view (take i xs) (x ∷ []) in
+      ap (λ l. map lent_attr_view (take i xs) ++ l) (at_place ∙ ap (λ o. match_ordering o (lent_attr_view a ∷ y ∷ map lent_attr_view (drop (i + 1) xs)) (record { name = y.name; value = (lent_attr_view a).value } ∷ map lent_attr_view (drop (i + 1) xs)) (y ∷ rest)) above)
+      ∙ sym (append_assoc (map lent_attr_view (take i xs)) (y ∷ []) rest) ∙ ap (λ l. l ++ rest) (sym more)
 
-  pub place_here : text_cmp (string_bytes a.name) (string_bytes x.name) ≡ Less → map attr_view (take i xs) ++ put_attr (attr_view a) (map attr_view (drop i xs)) ≡ map attr_view (insert xs i a)
+  pub place_here : text_cmp (lent_attr_view a).name (lent_attr_view x).name ≡ Less → map lent_attr_view (take i xs) ++ put_attr (lent_attr_view a) (map lent_attr_view (drop i xs)) ≡ map lent_attr_view (insert xs i a)
   place_here below =
-      let y = attr_view x in
-      let rest = map attr_view (drop (i + 1) xs) in
-      let behind : attr_view a ∷ y ∷ rest ≡ map attr_view (a ∷ drop i xs) = ap (λ l. map attr_view (a ∷ l)) (sym (drop_more xs i x within ∙ ap (λ z. z ∷ drop (i + 1) xs) here)) in
-      ap (λ l. map attr_view (take i xs) ++ l) (at_place ∙ ap (λ o. match_ordering o (attr_view a ∷ y ∷ rest) (record { name = y.name; value = scalar_view a.value } ∷ rest) (y ∷ put_attr (attr_view a) rest)) below ∙ behind)
-      ∙ sym (map-append attr_view (take i xs) (a ∷ drop i xs))
+      let y = lent_attr_view x in
+      let rest = map lent_attr_view (drop (i + 1) xs) in
+      let behind : lent_attr_view a ∷ y ∷ rest ≡ map lent_attr_view (a ∷ drop i xs) = ap (λ l. map lent_attr_view (a ∷ l)) (sym (drop_more xs i x within ∙ ap (λ z. z ∷ drop (i + 1) xs) here)) in
+      ap (λ l. map lent_attr_view (take i xs) ++ l) (at_place ∙ ap (λ o. match_ordering o (lent_attr_view a ∷ y ∷ rest) (record { name = y.name; value = (lent_attr_view a).value } ∷ rest) (y ∷ put_attr (lent_attr_view a) rest)) below ∙ behind)
+      ∙ sym (map-append lent_attr_view (take i xs) (a ∷ drop i xs))
 
-pub place_last : (a : Attr) (xs : List Attr) (i : ℕ) → i ≡ length xs → map attr_view (take i xs) ++ put_attr (attr_view a) (map attr_view (drop i xs)) ≡ map attr_view (insert xs i a)
+pub place_last : (a : LentAttr) (xs : List LentAttr) (i : ℕ) → i ≡ length xs → map lent_attr_view (take i xs) ++ put_attr (lent_attr_view a) (map lent_attr_view (drop i xs)) ≡ map lent_attr_view (insert xs i a)
 place_last a xs i end =
     let none : drop i xs ≡ [] = drop_all i xs (omega arith) in
-    ap (λ l. map attr_view (take i xs) ++ put_attr (attr_view a) (map attr_view l)) none ∙ ap (λ l. map attr_view (take i xs) ++ map attr_view (a ∷ l)) (sym none) ∙ sym (map-append attr_view (take i xs) (a ∷ drop i xs))
+    ap (λ l. map lent_attr_view (take i xs) ++ put_attr (lent_attr_view a) (map lent_attr_view l)) none ∙ ap (λ l. map lent_attr_view (take i xs) ++ map lent_attr_view (a ∷ l)) (sym none) ∙ sym (map-append lent_attr_view (take i xs) (a ∷ drop i xs))
 
 -- ---- objects
 

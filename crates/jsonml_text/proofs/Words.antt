@@ -1,5 +1,5 @@
 -- Scalars in a text, behind the names of attributes.
-use Rattle.std.proofs.Common.{◌≡◌, ℕ, ◌+◌, ◌-◌, ◌≤◌, true, false, IsTrue, List, ◌∷◌, ◌++◌, length, take, drop, Some, refl, sym, ap, ap₂, ◌∙◌, arith}
+use Rattle.std.proofs.Common.{◌≡◌, ℕ, ◌+◌, ◌-◌, ◌≤◌, true, false, IsTrue, List, ◌∷◌, ◌++◌, length, take, drop, Some, refl, sym, ap, ap₂, ◌∙◌, subst, arith}
 use Rattle.std.proofs.lemmas.List.{take-append-drop, drop-drop}
 use Rattle.json.specs.Token as token
 use Rattle.json.specs.Json as json
@@ -11,10 +11,11 @@ use Rattle.json.proofs.Printed.Numbers.{lex-number}
 use Rattle.serde_json.specs.Data as value
 use Rattle.serde_json.specs.Find.{of_integer}
 use Rattle.serde_json.specs.Written.{outline, number_text}
-use Rattle.jsonml_tree.specs.Data.{PlainScalar, null, boolean, whole, string}
+use Rattle.jsonml_tree.specs.Data.{PlainAttr, PlainScalar, null, boolean, whole, string}
 use Rattle.jsonml_tree.specs.WellFormed.{is_in_range}
 use Rattle.jsonml_print.specs.Printed.{scalar_text}
-use Rattle.jsonml_text.specs.Straight.{lexemes, tokens_from, HasString, HasScalar, is_word}
+use Rattle.jsonml_text.specs.Texts.{IsScalarText}
+use Rattle.jsonml_text.specs.Straight.{lexemes, tokens_from, HasString, HasKey, HasScalar, HasMember, is_word}
 use Rattle.jsonml_text.proofs.Lexing.{lexed-null, lexed-true, lexed-false, tokens-number, tokens-boolean, tokens-null}
 use Rattle.jsonml_text.proofs.ReadBack.{scalar_data, scalar_read, whole_read, whole_text}
 use Rattle.jsonml_text.proofs.RoundTrips.{scalar_back}
@@ -27,6 +28,7 @@ HasScalar-string d at s next h =
       of = refl;
       spells = λ place. refl;
       reads = λ depth. ap (json.value depth) (h.reads fresh refl) ∙ value_is depth (token.string s ∷ tokens_from after_value d next);
+      utf8 = h.utf8;
       later = omega (arith, h.later);
       within = h.within;
     }
@@ -50,6 +52,12 @@ reads_word d at rest (whole n) depth is word fits ended =
     ap (json.value depth) (ap (punctuate fresh) lexed ∙ tokens-number s (lex between rest)) ∙ value_is depth (token.number s ∷ ts)
 reads_word d at rest (string s) depth is word fits ended = absurd (cc)
 
+word_text : (x : PlainScalar) → IsTrue (is_word x) → IsScalarText x
+word_text null word = tt
+word_text (boolean b) word = tt
+word_text (whole n) word = tt
+word_text (string s) word = absurd (cc)
+
 pub HasScalar-word : (d : List ℕ) (at end next : ℕ) (x : PlainScalar) → at ≤ end → take (end - at) (drop at d) ≡ scalar_text x → IsTrue (is_word x) → IsTrue (is_in_range x) → IsTrue (ends_word (drop end d)) → lexemes d next ≡ lexemes d end → end ≤ next
     → next ≤ length d → HasScalar d at x next
 HasScalar-word d at end next x le is word fits ended same later within =
@@ -62,6 +70,11 @@ HasScalar-word d at end next x le is word fits ended same later within =
       of = scalar_read x fits;
       spells = λ place. scalar_back place x;
       reads = λ depth. reads_word d at (drop end d) x depth whole word fits ended ∙ ap (λ ls. Some (outline (scalar_data x), punctuate after_value ls)) (sym same);
+      utf8 = word_text x word;
       later = omega arith;
       within = within;
     }
+
+-- a name and its value are an attribute
+pub HasMember-parts : (d : List ℕ) (at : ℕ) (k : List ℕ) (begun : ℕ) (x : PlainScalar) (next : ℕ) (a : PlainAttr) → a ≡ record { name = k; value = x } → HasKey d at k begun → HasScalar d begun x next → HasMember d at a next
+HasMember-parts d at k begun x next a is key scalar = subst (λ (y : PlainAttr). HasMember d at y next) (sym is) (record { begun = begun; key = key; scalar = scalar })

@@ -3,11 +3,12 @@ use Rattle.std.specs.Prelude.{◌≤◌, List, length, IsTrue}
 use Rattle.jsonml_tree.specs.Data.{PlainAttr, PlainTree, PlainContent, trees_of, tree_depth}
 use Rattle.jsonml_tree.specs.WellFormed.{is_ascending, are_in_range, is_well_formed, is_content_well_formed, are_well_formed, IsWellFormed}
 use Rattle.jsonml_tree.specs.Fits.{IsElement, ItemsFit, items_fit, content_items_fit, all_items_fit}
-use Rattle.jsonml_text.specs.Texts.{AreTexts}
+use Rattle.jsonml_text.specs.Texts.{AreTexts, AreAttrTexts}
 
 pub record AreAttrsKept (xs : List PlainAttr) : Type 0 where
   pub ascending : IsTrue (is_ascending xs)
   pub in_range : IsTrue (are_in_range xs)
+  pub texts : AreAttrTexts xs
 
 pub record IsKept (t : PlainTree) : Type 0 where
   pub well_formed : IsTrue (is_well_formed t)

@@ -10,6 +10,7 @@ use Rattle.serde_json.specs.Data.{Data, Items, Members, no_members}
 use Rattle.serde_json.specs.Read.{of_json, of_items, of_members}
 use Rattle.jsonml_tree.specs.Data.{PlainScalar, null, boolean, whole, string, PlainAttr, PlainTree, PlainContent, PlainTrees}
 use Rattle.jsonml_tree.specs.Order.{text_cmp}
+use Rattle.jsonml_text.specs.Texts.{IsScalarText}
 use Rattle.jsonml_text.specs.Spelled.{scalar_at, attrs_at, item_at, content_at, items_at}
 
 -- the lexemes from an offset on
@@ -36,6 +37,7 @@ pub record HasString (text : List ℕ) (at : ℕ) (s : List ℕ) (next : ℕ) : 
 -- a name with its colon
 pub record HasKey (text : List ℕ) (at : ℕ) (s : List ℕ) (next : ℕ) : Type 0 where
   pub reads : (p : Place) → may_begin p ≡ true → tokens_from p text at ≡ token.key s ∷ tokens_from fresh text next
+  pub utf8 : IsUtf8 s
   pub later : at < next
   pub within : next ≤ length text
 
@@ -46,6 +48,7 @@ pub record HasScalar (text : List ℕ) (at : ℕ) (x : PlainScalar) (next : ℕ)
   pub of : of_json parsed ≡ Some value
   pub spells : (place : List ℕ) → scalar_at place value ≡ Ok x
   pub reads : (depth : ℕ) → json.value depth (tokens_from fresh text at) ≡ Some (parsed, tokens_from after_value text next)
+  pub utf8 : IsScalarText x
   pub later : at ≤ next
   pub within : next ≤ length text
 

@@ -43,7 +43,7 @@ pub fn read_document(alloc: Global, bytes: &[u8]) -> Result<Tree, DocFault>
 
 /// The same document, whose texts are lent by the bytes.
 ///
-/// A tag or a text with escapes is a copy, and so are the names and the texts of attributes, and every text of a document
+/// A tag or a text with escapes is a copy, and so is an attribute whose name or text has some, and every text of a document
 /// that is written in a rare way.
 pub fn lend_document<'a>(alloc: Global, bytes: &'a [u8]) -> Result<LentTree<'a>, DocFault>
     requires { length bytes.now ≤ 67108864 }

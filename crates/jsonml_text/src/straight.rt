@@ -7,8 +7,8 @@ ghost use Rattle.json.specs.Token.{Token, begin_array};
 ghost use Rattle.serde_json.specs.Read.{read};
 ghost use Rattle.jsonml_tree.specs.Data.{PlainTrees, content};
 ghost use Rattle.jsonml_tree.specs.Fits.{IsElement};
+ghost use Rattle.jsonml_tree.specs.LentAttrs.{lent_attr_view};
 ghost use Rattle.jsonml_tree.specs.LentView.{only_text, lent_tree_view, lent_row_view};
-ghost use Rattle.jsonml_tree.specs.View.{attr_view};
 ghost use Rattle.jsonml_text.specs.Document.{of_value};
 ghost use Rattle.jsonml_text.specs.Kept.{AreAttrsKept, IsDocument};
 ghost use Rattle.jsonml_text.specs.Pushed.{PushesTree, ReadsContent, ReadsItems};
@@ -19,7 +19,7 @@ use crate::room::Room;
 use crate::scan::{is_sign, skip_blanks};
 use crate::string::read_text;
 use json::Scratch;
-use jsonml_tree::{Attr, GREATEST_DEPTH, LentRow, LentTree};
+use jsonml_tree::{GREATEST_DEPTH, LentAttr, LentRow, LentTree};
 use std::alloc::Global;
 use std::borrow::CowStr;
 
@@ -154,16 +154,16 @@ fn text_alone<'a>(
 }
 
 /// The attributes behind a tag, if there are any, and where the text goes on behind them and their blanks.
-fn attributes_behind(
+fn attributes_behind<'a>(
     alloc: Global,
-    text: &str,
+    text: &'a str,
     at: usize,
     scratch: &mut Scratch,
-) -> Option<(Vec<Attr>, usize)>
+) -> Option<(Vec<LentAttr<'a>>, usize)>
     ensures content { IfSome result (λ r. (depth : ℕ) (ts : PlainTrees) (rest : List Token)
         → 0 < depth → HasItems depth text.now r.1 ts rest
-        → HasContent depth text.now at (content (map attr_view r.0.items) ts) rest) }
-    ensures kept { IfSome result (λ r. AreAttrsKept (map attr_view r.0.items)) }
+        → HasContent depth text.now at (content (map lent_attr_view r.0.items) ts) rest) }
+    ensures kept { IfSome result (λ r. AreAttrsKept (map lent_attr_view r.0.items)) }
     ensures later { IfSome result (λ r. at ≤ r.1) }
 {
     if is_sign(text, at, b',') {

@@ -3,7 +3,7 @@ pub use Rattle.jsonml_tree.specs.Data.{only_text}
 use Rattle.std.specs.Prelude.{List, map}
 use Rattle.std.specs.Cow.{cow_str_bytes}
 use Rattle.jsonml_tree.specs.Data.{PlainTree, text, element, PlainContent, content, PlainTrees, trees_of}
-use Rattle.jsonml_tree.specs.View.{attr_view}
+use Rattle.jsonml_tree.specs.LentAttrs.{lent_attr_view}
 use Rattle.jsonml_tree.specs.declared.lent.LentContent.{LentContent}
 use Rattle.jsonml_tree.specs.declared.lent.LentContent.TheVariants as lent
 use Rattle.jsonml_tree.specs.declared.lent.LentRow.{LentRow, LentRow-F, fold-LentRow}
@@ -16,7 +16,7 @@ lent_tree_step (LentTree-F.Leaf t s) = element (cow_str_bytes t) (only_text (cow
 lent_tree_step (LentTree-F.Elem t row) = element (cow_str_bytes t) row
 
 abbrev pub lent_row_step : LentRow-F PlainTree PlainContent → PlainContent
-lent_row_step row = content (map attr_view row.attrs.items) (trees_of row.items.items)
+lent_row_step row = content (map lent_attr_view row.attrs.items) (trees_of row.items.items)
 
 abbrev pub lent_tree_view : LentTree → PlainTree
 lent_tree_view = fold-LentTree PlainTree PlainContent lent_tree_step lent_row_step

@@ -4,4 +4,5 @@ pub mod Order
 pub mod Laws
 pub mod WellFormed
 pub mod Fits
+pub mod LentAttrs
 pub mod LentView

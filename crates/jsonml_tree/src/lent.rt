@@ -5,8 +5,8 @@ ghost use Rattle.jsonml_tree.specs.Data.{only_text};
 ghost use Rattle.jsonml_tree.specs.LentView.{lent_content_view, lent_row_view, lent_tree_view};
 ghost use Rattle.jsonml_tree.specs.View.{content_view, tree_view};
 
-use crate::scalar::Attr;
-use crate::tree::{Content, Tree, copy_attrs, element_of, text_of};
+use crate::lent_attr::{LentAttr, keep_attrs, lend_attrs, own_attrs};
+use crate::tree::{Content, Tree, element_of, text_of};
 use std::alloc::{AllocError, Global};
 use std::borrow::CowStr;
 
@@ -32,7 +32,7 @@ pub enum LentTree<'a> {
 #[cycle(lent)]
 #[derive(Drop)]
 pub struct LentRow<'a> {
-    pub attrs: Vec<Attr>,
+    pub attrs: Vec<LentAttr<'a>>,
     pub items: Vec<LentTree<'a>>,
 }
 
@@ -44,7 +44,7 @@ pub enum LentContent<'a, 'b> {
 }
 
 impl<'a> LentTree<'a> {
-    /// The same tree, whose texts it lends. Attributes are copied, and it recurses as deep as elements nest.
+    /// The same tree, whose texts it lends. It takes memory for rows, and recurses as deep as elements nest.
     ///
     /// An element that holds one text and nothing else becomes a leaf.
     #[cycle(lend)]
@@ -115,7 +115,7 @@ fn kept_row<'a>(alloc: Global, content: Content) -> Result<LentRow<'a>, AllocErr
     ensures { IfOk result (λ row. lent_row_view row ≡ content_view content) }
 {
     Ok(LentRow {
-        attrs: content.attrs,
+        attrs: keep_attrs(alloc, content.attrs)?,
         items: kept_items(alloc, content.items)?,
     })
 }
@@ -146,7 +146,7 @@ fn lend_row<'a>(alloc: Global, content: &'a Content) -> Result<LentRow<'a>, Allo
     ensures { IfOk result (λ row. lent_row_view row ≡ content_view content.now) }
 {
     Ok(LentRow {
-        attrs: copy_attrs(alloc, &content.attrs)?,
+        attrs: lend_attrs(alloc, &content.attrs)?,
         items: lend_items(alloc, &content.items)?,
     })
 }
@@ -167,7 +167,7 @@ fn own_row(alloc: Global, row: &LentRow<'_>) -> Result<Content, AllocError>
     ensures { IfOk result (λ c. content_view c ≡ lent_row_view row.now) }
 {
     Ok(Content {
-        attrs: copy_attrs(alloc, &row.attrs)?,
+        attrs: own_attrs(alloc, &row.attrs)?,
         items: own_items(alloc, &row.items)?,
     })
 }

@@ -2,10 +2,12 @@
 #![tactic(auto)]
 
 mod lent;
+mod lent_attr;
 mod scalar;
 mod tree;
 
 pub use lent::{LentContent, LentRow, LentTree};
+pub use lent_attr::{LentAttr, LentScalar};
 pub use scalar::{Attr, Scalar};
 pub use tree::{Content, Place, Tree};
 

@@ -1,7 +1,9 @@
 ghost use Rattle.std.specs.Prelude.{◌≡◌, ◌↔◌, IsTrue, IfOk};
+ghost use Rattle.jsonml_tree.specs.LentAttrs.{lent_scalar_view};
 ghost use Rattle.jsonml_tree.specs.Order.{scalar_cmp};
 ghost use Rattle.jsonml_tree.specs.View.{scalar_view, attr_view};
 
+use crate::lent_attr::LentScalar;
 use std::alloc::{AllocError, Global};
 use std::cmp::Ordering;
 
@@ -27,34 +29,30 @@ impl Scalar {
         self.order(other).is_eq()
     }
 
+    /// The same scalar, whose text it lends.
+    pub fn lend(&self) -> LentScalar<'_>
+        ensures { lent_scalar_view result ≡ scalar_view self.now }
+    {
+        match self {
+            Scalar::Null => LentScalar::Null,
+            Scalar::Bool(b) => LentScalar::Bool(*b),
+            Scalar::Whole(n) => LentScalar::Whole(*n),
+            Scalar::Text(text) => LentScalar::Text(text.as_str()),
+        }
+    }
+
     /// Null, then false, then true, then whole numbers by value, then texts by their bytes.
     pub fn order(&self, other: &Scalar) -> Ordering
         ensures { result ≡ scalar_cmp (scalar_view self.now) (scalar_view other.now) }
     {
-        match (self, other) {
-            (Scalar::Null, Scalar::Null) => Ordering::Equal,
-            (Scalar::Null, _) => Ordering::Less,
-            (_, Scalar::Null) => Ordering::Greater,
-            (Scalar::Bool(a), Scalar::Bool(b)) => a.cmp(b),
-            (Scalar::Bool(_), _) => Ordering::Less,
-            (_, Scalar::Bool(_)) => Ordering::Greater,
-            (Scalar::Whole(a), Scalar::Whole(b)) => a.cmp(b),
-            (Scalar::Whole(_), Scalar::Text(_)) => Ordering::Less,
-            (Scalar::Text(_), Scalar::Whole(_)) => Ordering::Greater,
-            (Scalar::Text(a), Scalar::Text(b)) => a.as_str().cmp(b.as_str()),
-        }
+        self.lend().order(other.lend())
     }
 
     /// A scalar of its own with the same value.
     pub fn copy(&self, alloc: Global) -> Result<Scalar, AllocError>
         ensures { IfOk result (λ s. scalar_view s ≡ scalar_view self.now) }
     {
-        match self {
-            Scalar::Null => Ok(Scalar::Null),
-            Scalar::Bool(b) => Ok(Scalar::Bool(*b)),
-            Scalar::Whole(n) => Ok(Scalar::Whole(*n)),
-            Scalar::Text(text) => Ok(Scalar::Text(String::from_str(alloc, text.as_str())?)),
-        }
+        self.lend().own(alloc)
     }
 }
 

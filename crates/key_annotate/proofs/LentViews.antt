@@ -1,9 +1,9 @@
 -- The view of each shape of a lent keyed tree.
 use Rattle.std.proofs.Common.{◌≡◌, true, refl, map, rules, Vec, Global, Bor}
+use Rattle.jsonml_tree.specs.LentAttrs.{lent_attr_view}
 use Rattle.jsonml_tree.specs.LentView.{lent_content_view}
-use Rattle.jsonml_tree.specs.View.{attr_view}
 use Rattle.jsonml_tree.specs.declared.lent.LentContent.{LentContent}
-use Rattle.jsonml_tree.specs.declared.scalar.Attr as tree
+use Rattle.jsonml_tree.specs.declared.lent_attr.LentAttr.{LentAttr}
 use Rattle.keyed_tree.specs.Data.{inner, leaf, inside, kids_from}
 use Rattle.key_annotate.specs.KeyedOf.{attr_leaf}
 use Rattle.keyed_tree.specs.Proper.{is_tag}
@@ -15,7 +15,7 @@ use Rattle.key_annotate.specs.declared.label.Values.{Values}
 use Rattle.key_annotate.specs.declared.label.Values.TheVariants.{Text, Other}
 use Rattle.key_annotate.specs.declared.lent.LentKeyed.{LentKeyed, Attr, Leaf, Inner, Flat, the_lemmas}
 
-pub lent_view-Attr : (a : Bor tree.Attr) → lent_view (Attr a) ≡ attr_leaf (attr_view a.now)
+pub lent_view-Attr : (a : Bor LentAttr) → lent_view (Attr a) ≡ attr_leaf (lent_attr_view a.now)
 lent_view-Attr a = search (rules, the_lemmas)
 
 pub lent_view-Leaf : (l : KeyedLabel) (c : LentContent) → lent_view (Leaf l c) ≡ leaf (keyed_label_view l) (inside (lent_content_view c))

@@ -12,3 +12,4 @@ pub mod Documents
 pub mod Bares
 pub mod RulesAt
 pub mod Insides
+pub mod TextKeys

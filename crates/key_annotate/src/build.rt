@@ -2,8 +2,8 @@
 
 ghost use Rattle.std.specs.Prelude.{◌≡◌, ◌++◌, IfOk, OnOk, map};
 ghost use Rattle.std.specs.Option.{option_and_then, option_map};
+ghost use Rattle.jsonml_tree.specs.LentAttrs.{lent_attr_view};
 ghost use Rattle.jsonml_tree.specs.LentView.{lent_content_view, lent_items_view, lent_row_view, lent_tree_view};
-ghost use Rattle.jsonml_tree.specs.View.{attr_view};
 ghost use Rattle.key_rules.specs.LentView.{lent_label_view};
 ghost use Rattle.key_spec.specs.View.{names_view, spec_view};
 ghost use Rattle.key_annotate.specs.KeyedOf.{attr_leaf};
@@ -138,7 +138,7 @@ fn attr_kids<'a, 't>(
     row: &'a LentRow<'t>,
 ) -> Result<Vec<LentKeyed<'a, 't>>, AllocError>
     ensures { IfOk result
-        (λ ks. map lent_view ks.items ≡ map attr_leaf (map attr_view row.now.attrs.items)) }
+        (λ ks. map lent_view ks.items ≡ map attr_leaf (map lent_attr_view row.now.attrs.items)) }
 {
     let mut kids = Vec::with_capacity(alloc, row.attrs.len() + row.items.len())?;
     for attr in &row.attrs {

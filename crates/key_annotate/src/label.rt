@@ -1,14 +1,14 @@
 #![tactic(auto, using(jsonml_tree::proofs::Trees::trees, keyed_tree::proofs::Views::views))]
 
 ghost use Rattle.std.specs.Prelude.{◌≡◌, IfOk};
-ghost use Rattle.keyed_tree.specs.Order.{label_cmp};
+ghost use Rattle.keyed_tree.specs.Order.{key_cmp, label_cmp};
 ghost use Rattle.keyed_tree.specs.Plain.{name_bytes};
 ghost use Rattle.keyed_tree.specs.View.{label_view};
-ghost use Rattle.key_rules.specs.LentView.{lent_label_view};
-ghost use Rattle.key_annotate.specs.FrontedText.{fronted_text};
-ghost use Rattle.key_annotate.specs.LabelView.{keyed_label_view, text_label, values_view};
+ghost use Rattle.key_rules.specs.LentView.{lent_key_view, lent_label_view};
+ghost use Rattle.key_annotate.specs.LabelView.{key_of_text, keyed_label_view, label_of_one, text_key_view, values_view};
 
 use crate::fronted::Fronted;
+use jsonml_tree::LentScalar;
 use key_rules::{LentKey, LentKeys, LentLabel};
 use keyed_tree::Label;
 use std::alloc::{AllocError, Global};
@@ -23,8 +23,43 @@ pub struct KeyedLabel<'a> {
 /// A tag and its key values. Mostly it is one, and a text.
 #[derive(Drop)]
 enum Values<'a> {
-    Text { tag: &'a str, key: Fronted<'a> },
+    Text { tag: &'a str, key: TextKey<'a> },
     Other(LentLabel<'a>),
+}
+
+/// A key value that is one text: a scalar, or all that an element holds.
+#[derive(Clone, Copy)]
+struct TextKey<'a> {
+    text: Fronted<'a>,
+    is_scalar: bool,
+}
+
+impl<'a> TextKey<'a> {
+    /// A scalar before a content, and both by the bytes of their texts.
+    #[tactic(auto, using(crate::proofs::TextKeys::same_kind))]
+    fn order(&self, other: &TextKey<'_>) -> Ordering
+        ensures { result ≡ key_cmp (text_key_view self.now) (text_key_view other.now) }
+    {
+        if self.is_scalar == other.is_scalar {
+            return self.text.order(&other.text);
+        }
+        if self.is_scalar {
+            Ordering::Less
+        } else {
+            Ordering::Greater
+        }
+    }
+
+    /// The key value as the document lends it.
+    fn lent(&self) -> LentKey<'a>
+        ensures { lent_key_view result ≡ text_key_view self.now }
+    {
+        if self.is_scalar {
+            LentKey::Scalar(LentScalar::Text(self.text.text()))
+        } else {
+            LentKey::Text(self.text.text())
+        }
+    }
 }
 
 impl<'a> KeyedLabel<'a> {
@@ -67,12 +102,20 @@ fn values_of<'a>(label: LentLabel<'a>) -> Values<'a>
     ensures { values_view result ≡ lent_label_view label.entry }
 {
     match &label.keys {
-        LentKeys::One(LentKey::Text(text)) => Values::Text {
-            tag: label.tag,
-            key: Fronted::new(text),
-        },
+        LentKeys::One(LentKey::Text(text)) => text_values(label.tag, text, false),
+        LentKeys::One(LentKey::Scalar(LentScalar::Text(text))) => {
+            text_values(label.tag, text, true)
+        }
         _ => Values::Other(label),
     }
+}
+
+fn text_values<'a>(tag: &'a str, text: &'a str, is_scalar: bool) -> Values<'a>
+    ensures { values_view result ≡ label_of_one tag.now (key_of_text is_scalar text.now) }
+{
+    let text = Fronted::new(text);
+    let key = TextKey { text, is_scalar };
+    Values::Text { tag, key }
 }
 
 fn order_values(ours: &Values<'_>, theirs: &Values<'_>) -> Ordering
@@ -90,9 +133,9 @@ fn order_values(ours: &Values<'_>, theirs: &Values<'_>) -> Ordering
 }
 
 /// The label as the document lends it.
-fn lent_label<'a>(tag: &'a str, key: &Fronted<'a>) -> LentLabel<'a>
-    ensures { lent_label_view result ≡ text_label tag.now (fronted_text key.now) }
+fn lent_label<'a>(tag: &'a str, key: &TextKey<'a>) -> LentLabel<'a>
+    ensures { lent_label_view result ≡ label_of_one tag.now (text_key_view key.now) }
 {
-    let keys = LentKeys::One(LentKey::Text(key.text()));
+    let keys = LentKeys::One(key.lent());
     LentLabel { tag, keys }
 }

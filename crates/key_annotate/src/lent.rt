@@ -1,7 +1,7 @@
 #![tactic(auto, using(jsonml_tree::proofs::Trees::trees, keyed_tree::proofs::Views::views, crate::proofs::LentViews::lent_views))]
 
 ghost use Rattle.std.specs.Prelude.{◌≡◌, IfOk, map};
-ghost use Rattle.jsonml_tree.specs.View.{attr_view};
+ghost use Rattle.jsonml_tree.specs.LentAttrs.{lent_attr_view};
 ghost use Rattle.keyed_tree.specs.Data.{label_of};
 ghost use Rattle.keyed_tree.specs.Order.{label_cmp};
 ghost use Rattle.keyed_tree.specs.View.{keyed_view};
@@ -12,7 +12,7 @@ ghost use Rattle.key_annotate.specs.LentView.{bare_view, lent_view};
 use crate::bare::Bare;
 use crate::label::KeyedLabel;
 use crate::order::Labelled;
-use jsonml_tree::{Attr, LentContent};
+use jsonml_tree::{LentAttr, LentContent};
 use keyed_tree::{KeyVal, Keyed, Label, Name};
 use std::alloc::{AllocError, Global};
 use std::cmp::Ordering;
@@ -24,7 +24,7 @@ use std::cmp::Ordering;
 /// for key values that are more than a text.
 #[derive(Drop)]
 pub enum LentKeyed<'a, 't> {
-    Attr(&'a Attr),
+    Attr(&'a LentAttr<'t>),
     Leaf {
         label: KeyedLabel<'a>,
         content: LentContent<'a, 't>,
@@ -78,12 +78,12 @@ impl LentKeyed<'_, '_> {
 }
 
 /// An attribute against a kid.
-fn order_attr(attr: &Attr, other: &LentKeyed<'_, '_>) -> Ordering
-    ensures { result
-        ≡ label_cmp (label_of (attr_leaf (attr_view attr.now))) (label_of (lent_view other.now)) }
+fn order_attr(attr: &LentAttr<'_>, other: &LentKeyed<'_, '_>) -> Ordering
+    ensures { result ≡ label_cmp
+        (label_of (attr_leaf (lent_attr_view attr.now))) (label_of (lent_view other.now)) }
 {
     match other {
-        LentKeyed::Attr(other) => attr.name.as_str().cmp(other.name.as_str()),
+        LentKeyed::Attr(other) => attr.name().cmp(other.name()),
         LentKeyed::Leaf { .. } => Ordering::Less,
         LentKeyed::Inner { .. } => Ordering::Less,
         LentKeyed::Flat { .. } => Ordering::Less,
@@ -123,14 +123,14 @@ fn own_leaves(alloc: Global, leaves: &[Bare<'_, '_>]) -> Result<Vec<Keyed>, Allo
     Ok(copies)
 }
 
-fn own_attr(alloc: Global, attr: &Attr) -> Result<Keyed, AllocError>
-    ensures { IfOk result (λ k. keyed_view k ≡ attr_leaf (attr_view attr.now)) }
+fn own_attr(alloc: Global, attr: &LentAttr<'_>) -> Result<Keyed, AllocError>
+    ensures { IfOk result (λ k. keyed_view k ≡ attr_leaf (lent_attr_view attr.now)) }
 {
-    let name = Name::Attr(String::from_str(alloc, attr.name.as_str())?);
+    let name = Name::Attr(String::from_str(alloc, attr.name())?);
     let label = Label {
         name,
         keys: Vec::new(alloc),
     };
-    let body = KeyVal::Scalar(attr.value.copy(alloc)?);
+    let body = KeyVal::Scalar(attr.value().own(alloc)?);
     Ok(Keyed::Leaf { label, body })
 }

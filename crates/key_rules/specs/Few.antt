@@ -3,8 +3,8 @@ use Rattle.std.specs.Prelude.{ℕ, ◌+◌, List, [], ◌∷◌, drop, get_or}
 use Rattle.jsonml_tree.specs.Data.{PlainTrees, PlainContent}
 use Rattle.keyed_tree.specs.Data.{PlainKey, scalar, inside}
 use Rattle.std.specs.List.{flat_map}
+use Rattle.jsonml_tree.specs.LentAttrs.{lent_scalar_view}
 use Rattle.jsonml_tree.specs.LentView.{lent_content_view}
-use Rattle.jsonml_tree.specs.View.{scalar_view}
 use Rattle.key_spec.specs.Data.{PlainPath}
 use Rattle.key_rules.specs.Reach.{children, found, values_at}
 use Rattle.key_rules.specs.declared.node.Node.{Node}
@@ -31,7 +31,7 @@ join (one_key k) several_keys = several_keys
 join several_keys f = several_keys
 
 abbrev pub node_view : Node → PlainKey
-node_view (Scalar s) = scalar (scalar_view s.now)
+node_view (Scalar s) = scalar (lent_scalar_view s)
 node_view (Content c) = inside (lent_content_view c)
 
 abbrev pub reached_view : Reached → Few

@@ -1,7 +1,8 @@
 -- Labels that a document lends.
 use Rattle.std.specs.Prelude.{List, [], ◌∷◌, map}
+use Rattle.jsonml_tree.specs.LentAttrs.{lent_scalar_view}
 use Rattle.jsonml_tree.specs.LentView.{only_text}
-use Rattle.jsonml_tree.specs.View.{scalar_view, content_view}
+use Rattle.jsonml_tree.specs.View.{content_view}
 use Rattle.keyed_tree.specs.Data.{PlainKey, scalar, inside, PlainLabel, tag}
 use Rattle.key_rules.specs.declared.lent.LentKey.{LentKey}
 use Rattle.key_rules.specs.declared.lent.LentKey.TheVariants.{Scalar, Text, Content}
@@ -10,7 +11,7 @@ use Rattle.key_rules.specs.declared.lent.LentKeys.TheVariants.{One, Row}
 use Rattle.key_rules.specs.declared.lent.LentLabel.{LentLabel}
 
 abbrev pub lent_key_view : LentKey → PlainKey
-lent_key_view (Scalar s) = scalar (scalar_view s.now)
+lent_key_view (Scalar s) = scalar (lent_scalar_view s)
 lent_key_view (Text s) = inside (only_text s.now)
 lent_key_view (Content c) = inside (content_view c)
 

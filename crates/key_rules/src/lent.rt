@@ -10,7 +10,7 @@ ghost use Rattle.keyed_tree.specs.Order.{key_cmp, label_cmp};
 ghost use Rattle.keyed_tree.specs.View.{key_view, label_view};
 ghost use Rattle.key_rules.specs.LentView.{lent_key_view, lent_keys_view, lent_label_view};
 
-use jsonml_tree::{Content, Scalar, Tree};
+use jsonml_tree::{Content, LentScalar, Tree};
 use keyed_tree::{KeyVal, Label, Name};
 use std::alloc::{AllocError, Global};
 use std::cmp::Ordering;
@@ -19,7 +19,7 @@ use std::slice;
 /// A key value that a document lends. A content of one text and nothing else is seen as its text; another one is copied.
 #[derive(Drop)]
 pub enum LentKey<'a> {
-    Scalar(&'a Scalar),
+    Scalar(LentScalar<'a>),
     Text(&'a str),
     Content(Content),
 }
@@ -100,7 +100,7 @@ fn order_key(a: &LentKey<'_>, b: &LentKey<'_>) -> Ordering
 {
     match (a, b) {
         (LentKey::Text(a), LentKey::Text(b)) => a.cmp(b),
-        (LentKey::Scalar(a), LentKey::Scalar(b)) => a.order(b),
+        (LentKey::Scalar(a), LentKey::Scalar(b)) => a.order(*b),
         (LentKey::Scalar(_), _) => Ordering::Less,
         (_, LentKey::Scalar(_)) => Ordering::Greater,
         (LentKey::Text(a), LentKey::Content(b)) => order_text(a, b),
@@ -162,7 +162,7 @@ fn copy_key(alloc: Global, key: &LentKey<'_>) -> Result<KeyVal, AllocError>
     ensures { IfOk result (λ k. key_view k ≡ lent_key_view key.now) }
 {
     match key {
-        LentKey::Scalar(scalar) => Ok(KeyVal::Scalar(scalar.copy(alloc)?)),
+        LentKey::Scalar(scalar) => Ok(KeyVal::Scalar(scalar.own(alloc)?)),
         LentKey::Text(text) => Ok(KeyVal::Content(text_content(alloc, text)?)),
         LentKey::Content(content) => Ok(KeyVal::Content(content.copy(alloc)?)),
     }

@@ -3,19 +3,19 @@
 ghost use Rattle.std.specs.Prelude.{◌≡◌, ◌<◌, ◌≤◌, length, map, [], ◌∷◌};
 ghost use Rattle.std.specs.Option.{option_map};
 ghost use Rattle.jsonml_tree.specs.Data.{tree, no_trees};
+ghost use Rattle.jsonml_tree.specs.LentAttrs.{lent_attr_view, lent_scalar_view};
 ghost use Rattle.jsonml_tree.specs.LentView.{only_text, lent_tree_view, lent_row_view, lent_content_view, lent_items_view};
-ghost use Rattle.jsonml_tree.specs.View.{scalar_view, attr_view};
 ghost use Rattle.key_spec.specs.View.{path_view};
 ghost use Rattle.key_rules.specs.Reach.{scalar_named, values_at, reach};
 ghost use Rattle.key_rules.specs.Few.{few, join, reached_view, values_from, values_among};
 
-use jsonml_tree::{Attr, LentContent, LentRow, LentTree, Scalar};
+use jsonml_tree::{LentAttr, LentContent, LentRow, LentScalar, LentTree};
 use key_spec::KeyPath;
 
 /// A node of a key path, in a lent document: the scalar of an attribute, or the content of an element.
 #[derive(Clone, Copy)]
 pub(crate) enum Node<'a, 'b> {
-    Scalar(&'a Scalar),
+    Scalar(LentScalar<'a>),
     Content(LentContent<'a, 'b>),
 }
 
@@ -150,13 +150,13 @@ fn own_node<'a, 'b>(path: &KeyPath, row: &'a LentRow<'b>) -> Reached<'a, 'b>
     }
 }
 
-fn attribute<'a>(attrs: &'a [Attr], name: &str) -> Option<&'a Scalar>
-    ensures { option_map (λ s. scalar_view s.now) result
-        ≡ scalar_named name.now (map attr_view attrs.now) }
+fn attribute<'a>(attrs: &'a [LentAttr<'_>], name: &str) -> Option<LentScalar<'a>>
+    ensures { option_map lent_scalar_view result
+        ≡ scalar_named name.now (map lent_attr_view attrs.now) }
 {
     for attr in attrs {
-        if attr.name.as_str() == name {
-            return Some(&attr.value);
+        if attr.name() == name {
+            return Some(attr.value());
         }
     }
     None

@@ -9,9 +9,9 @@ use Rattle.keyed_tree.specs.Data.{PlainName, attr, tag, PlainKey, scalar, inside
 use Rattle.keyed_tree.specs.Proper.{is_tag}
 use Rattle.keyed_tree.specs.Plain.{name_bytes, attr_before, attr_onto, attrs_among, item_onto, items_among, plain}
 use Rattle.jsonml_tree.specs.LentView.{lent_content_view}
-use Rattle.jsonml_tree.specs.View.{attr_view}
+use Rattle.jsonml_tree.specs.LentAttrs.{lent_attr_view}
 use Rattle.jsonml_tree.specs.declared.lent.LentContent.{LentContent}
-use Rattle.jsonml_tree.specs.declared.scalar.Attr as tree
+use Rattle.jsonml_tree.specs.declared.lent_attr.LentAttr.{LentAttr}
 use Rattle.key_annotate.specs.LentView.{bare_view, lent_view}
 use Rattle.key_annotate.proofs.LentViews.{lent_view-Attr, lent_view-Leaf, lent_view-Inner, lent_view-Flat, label-tagged}
 use Rattle.key_annotate.specs.declared.bare.Bare.{Bare}
@@ -83,7 +83,7 @@ untold : (l : KeyedLabel) (c : PlainContent) → attr_before (keyed_label_view l
 untold l c = by-tag (keyed_label_view l).name c (label-tagged l)
 
 -- an attribute has no calls among the elements
-pub kid_calls-Attr : (k : LentKeyed) (a : Bor tree.Attr) → k ≡ Attr a → kid_calls k ≡ []
+pub kid_calls-Attr : (k : LentKeyed) (a : Bor LentAttr) → k ≡ Attr a → kid_calls k ≡ []
 kid_calls-Attr k a e = ap kid_calls e ∙ ap element_calls (lent_view-Attr a)
 
 -- no element weighs more than the heaviest
@@ -96,7 +96,7 @@ most_at f xs i x within is = subst (λ y. f y ≤ most f xs) (sym is) (at f xs i
     at f (x ∷ xs) (suc i) d within = omega (arith, at f xs i d (omega (arith, within)))
 
 -- an attribute has its one call among the attributes, and any other kid has none
-pub attr_calls-Attr : (k : LentKeyed) (a : Bor tree.Attr) → k ≡ Attr a → attr_calls k ≡ attribute (attr_view a.now) ∷ []
+pub attr_calls-Attr : (k : LentKeyed) (a : Bor LentAttr) → k ≡ Attr a → attr_calls k ≡ attribute (lent_attr_view a.now) ∷ []
 attr_calls-Attr k a e = ap attr_calls e ∙ ap (λ v. map attribute (attr_onto v [])) (lent_view-Attr a)
 
 pub attr_calls-Leaf : (k : LentKeyed) (l : KeyedLabel) (c : LentContent) → k ≡ Leaf l c → attr_calls k ≡ []
@@ -109,7 +109,7 @@ pub attr_calls-Flat : (k : LentKeyed) (l : KeyedLabel) (ls : Vec Bare Global) �
 attr_calls-Flat k l ls e = ap attr_calls e ∙ ap (λ v. map attribute (attr_onto v [])) (lent_view-Flat l ls)
 
 -- what stands behind the tag of each shape
-pub inside_of-Attr : (k : LentKeyed) (a : Bor tree.Attr) → k ≡ Attr a → content_calls (inside_of (lent_view k)) ≡ []
+pub inside_of-Attr : (k : LentKeyed) (a : Bor LentAttr) → k ≡ Attr a → content_calls (inside_of (lent_view k)) ≡ []
 inside_of-Attr k a e = ap (λ j. content_calls (inside_of (lent_view j))) e ∙ ap (λ v. content_calls (inside_of v)) (lent_view-Attr a)
 
 -- an element without key values is among the elements, and not among the attributes

@@ -123,7 +123,7 @@ fn print_attribute<K: Sink>(
     ensures cause { HasCause (K.faults sink.old) (K.faults sink.new) result }
 {
     match kid {
-        LentKeyed::Attr(attr) => printer.attr(sink, attr.name.as_str(), &attr.value),
+        LentKeyed::Attr(attr) => printer.lent_attr(sink, attr),
         LentKeyed::Leaf { .. } => Ok(()),
         LentKeyed::Inner { .. } => Ok(()),
         LentKeyed::Flat { .. } => Ok(()),
@@ -172,7 +172,7 @@ fn name_of<'a>(keyed: &'a LentKeyed<'_, '_>) -> &'a str
     ensures { result.now ≡ name_bytes (label_of (lent_view keyed.now)).name }
 {
     match keyed {
-        LentKeyed::Attr(attr) => attr.name.as_str(),
+        LentKeyed::Attr(attr) => attr.name(),
         LentKeyed::Leaf { label, .. } => label.tag(),
         LentKeyed::Flat { label, .. } => label.tag(),
         LentKeyed::Inner { label, .. } => label.tag(),

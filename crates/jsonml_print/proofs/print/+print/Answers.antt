@@ -69,7 +69,7 @@ trees_calls ts = flat_map (λ t. calls_of (tree_view t)) ts
 pub print_content-print_attrs-requires : goal.print_content-print_attrs-requires
 print_content-print_attrs-requires g t c =
     let p = c.args.printer.now in
-    let whole = content_calls-is tree_view (content_view c.args.content.now) c.deref.result.now _ _ _ (content_view-is c.args.content.now) c.deref.ensures.value refl in
+    let whole = content_calls-is tree_view attr_view (content_view c.args.content.now) c.deref.result.now _ _ _ (content_view-is c.args.content.now) c.deref.ensures.value refl in
     AllMayCome-front p (attrs_calls c.deref.result.now) _ (subst (AllMayCome p) whole c.requires)
 
 pub print_content-returns-in_err-print_attrs-clause-prints : goal.print_content-returns-in_err-print_attrs-clause-prints
@@ -78,7 +78,7 @@ print_content-returns-in_err-print_attrs-clause-prints g t c =
     let b = g.K.Sink.taken c.print_attrs.new.sink in
     let p = c.args.printer.now in
     let q = c.print_attrs.new.printer in
-    let whole = content_calls-is tree_view (content_view c.args.content.now) c.deref.result.now _ _ _ (content_view-is c.args.content.now) c.deref.ensures.value refl in
+    let whole = content_calls-is tree_view attr_view (content_view c.args.content.now) c.deref.result.now _ _ _ (content_view-is c.args.content.now) c.deref.ensures.value refl in
     subst (λ (l : List Call). Prints a b p q l c.from_residual.result) (sym whole) (Prints-failed a b p q (attrs_calls c.deref.result.now) _ c.from_residual.result c.from_residual.ensures.0 c.in_err-print_attrs.ensures.prints.bytes)
 
 pub print_content-print_items-requires : goal.print_content-print_items-requires
@@ -87,7 +87,7 @@ print_content-print_items-requires g t c =
     let q = c.print_attrs.new.printer in
     let xs = c.deref.result.now in
     let ts = c.deref-2.result.now in
-    let whole = content_calls-is tree_view (content_view c.args.content.now) xs _ ts _ (content_view-is c.args.content.now) c.deref.ensures.value c.deref-2.ensures.value in
+    let whole = content_calls-is tree_view attr_view (content_view c.args.content.now) xs _ ts _ (content_view-is c.args.content.now) c.deref.ensures.value c.deref-2.ensures.value in
     let deep = content_depth-is tree_view (content_view c.args.content.now) _ ts _ (content_view-is c.args.content.now) c.deref-2.ensures.value in
     λ κs lives. (omega (arith, c.decreases, deep), (lives, AllMayCome-back p q (attrs_calls xs) (trees_calls ts) c.in_ok-print_attrs.ensures.prints.pen (subst (AllMayCome p) whole c.requires)))
 
@@ -101,7 +101,7 @@ print_content-returns-clause-prints g t c =
     let r = c.print_items.new.printer in
     let xs = c.deref.result.now in
     let ts = c.deref-2.result.now in
-    let whole = content_calls-is tree_view (content_view c.args.content.now) xs _ ts _ (content_view-is c.args.content.now) c.deref.ensures.value c.deref-2.ensures.value in
+    let whole = content_calls-is tree_view attr_view (content_view c.args.content.now) xs _ ts _ (content_view-is c.args.content.now) c.deref.ensures.value c.deref-2.ensures.value in
     subst (λ (l : List Call). Prints a d p r l c.print_items.result) (sym whole)
     (Prints-after a b d p q r (attrs_calls xs) (trees_calls ts) c.print_items.result c.in_ok-print_attrs.ensures.prints.bytes c.in_ok-print_attrs.ensures.prints.pen c.print_items.ensures.prints)
 

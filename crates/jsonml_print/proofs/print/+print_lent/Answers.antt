@@ -6,8 +6,8 @@ use Rattle.xa_outside.specs.Taken.{Takes, TakesPrefix}
 use Rattle.xa_outside.proofs.Output.{Takes-nil}
 use Rattle.jsonml_tree.proofs.LentTrees.{lent_trees, lent_row_view-is}
 use Rattle.jsonml_tree.specs.LentView.{lent_tree_view, lent_row_view}
-use Rattle.jsonml_tree.specs.View.{attr_view}
-use Rattle.jsonml_tree.specs.declared.scalar.Attr.{Attr}
+use Rattle.jsonml_tree.specs.LentAttrs.{lent_attr_view}
+use Rattle.jsonml_tree.specs.declared.lent_attr.LentAttr.{LentAttr}
 use Rattle.jsonml_tree.specs.declared.lent.LentTree.{LentTree}
 use Rattle.jsonml_tree.specs.Data.{content_depth}
 use Rattle.jsonml_print.specs.Calls.{Call, begin, attribute, end, printed, reached, AllMayCome, Prints, calls_of, content_calls}
@@ -61,50 +61,50 @@ print_lent_element-returns-clause-prints g t c =
 
 -- the calls of the attributes, and then those of the items
 
-abbrev attrs_calls : List Attr → List Call
-attrs_calls xs = flat_map (λ x. attribute (attr_view x) ∷ []) xs
+abbrev attrs_calls : List LentAttr → List Call
+attrs_calls xs = flat_map (λ x. attribute (lent_attr_view x) ∷ []) xs
 
 abbrev trees_calls : List LentTree → List Call
 trees_calls ts = flat_map (λ t. calls_of (lent_tree_view t)) ts
 
-pub print_lent_row-print_attrs-requires : goal.print_lent_row-print_attrs-requires
-print_lent_row-print_attrs-requires g t c =
+pub print_lent_row-print_lent_attrs-requires : goal.print_lent_row-print_lent_attrs-requires
+print_lent_row-print_lent_attrs-requires g t c =
     let p = c.args.printer.now in
-    let whole = content_calls-is lent_tree_view (lent_row_view c.args.row.now) c.deref.result.now _ _ _ (lent_row_view-is c.args.row.now) c.deref.ensures.value refl in
+    let whole = content_calls-is lent_tree_view lent_attr_view (lent_row_view c.args.row.now) c.deref.result.now _ _ _ (lent_row_view-is c.args.row.now) c.deref.ensures.value refl in
     AllMayCome-front p (attrs_calls c.deref.result.now) _ (subst (AllMayCome p) whole c.requires)
 
-pub print_lent_row-returns-in_err-print_attrs-clause-prints : goal.print_lent_row-returns-in_err-print_attrs-clause-prints
-print_lent_row-returns-in_err-print_attrs-clause-prints g t c =
+pub print_lent_row-returns-in_err-print_lent_attrs-clause-prints : goal.print_lent_row-returns-in_err-print_lent_attrs-clause-prints
+print_lent_row-returns-in_err-print_lent_attrs-clause-prints g t c =
     let a = g.K.Sink.taken c.args.sink.now in
-    let b = g.K.Sink.taken c.print_attrs.new.sink in
+    let b = g.K.Sink.taken c.print_lent_attrs.new.sink in
     let p = c.args.printer.now in
-    let q = c.print_attrs.new.printer in
-    let whole = content_calls-is lent_tree_view (lent_row_view c.args.row.now) c.deref.result.now _ _ _ (lent_row_view-is c.args.row.now) c.deref.ensures.value refl in
-    subst (λ (l : List Call). Prints a b p q l c.from_residual.result) (sym whole) (Prints-failed a b p q (attrs_calls c.deref.result.now) _ c.from_residual.result c.from_residual.ensures.0 c.in_err-print_attrs.ensures.prints.bytes)
+    let q = c.print_lent_attrs.new.printer in
+    let whole = content_calls-is lent_tree_view lent_attr_view (lent_row_view c.args.row.now) c.deref.result.now _ _ _ (lent_row_view-is c.args.row.now) c.deref.ensures.value refl in
+    subst (λ (l : List Call). Prints a b p q l c.from_residual.result) (sym whole) (Prints-failed a b p q (attrs_calls c.deref.result.now) _ c.from_residual.result c.from_residual.ensures.0 c.in_err-print_lent_attrs.ensures.prints.bytes)
 
 pub print_lent_row-print_lent_items-requires : goal.print_lent_row-print_lent_items-requires
 print_lent_row-print_lent_items-requires g t c =
     let p = c.args.printer.now in
-    let q = c.print_attrs.new.printer in
+    let q = c.print_lent_attrs.new.printer in
     let xs = c.deref.result.now in
     let ts = c.deref-2.result.now in
-    let whole = content_calls-is lent_tree_view (lent_row_view c.args.row.now) xs _ ts _ (lent_row_view-is c.args.row.now) c.deref.ensures.value c.deref-2.ensures.value in
+    let whole = content_calls-is lent_tree_view lent_attr_view (lent_row_view c.args.row.now) xs _ ts _ (lent_row_view-is c.args.row.now) c.deref.ensures.value c.deref-2.ensures.value in
     let deep = content_depth-is lent_tree_view (lent_row_view c.args.row.now) _ ts _ (lent_row_view-is c.args.row.now) c.deref-2.ensures.value in
-    λ κs lives. (omega (arith, c.decreases, deep), (lives, AllMayCome-back p q (attrs_calls xs) (trees_calls ts) c.in_ok-print_attrs.ensures.prints.pen (subst (AllMayCome p) whole c.requires)))
+    λ κs lives. (omega (arith, c.decreases, deep), (lives, AllMayCome-back p q (attrs_calls xs) (trees_calls ts) c.in_ok-print_lent_attrs.ensures.prints.pen (subst (AllMayCome p) whole c.requires)))
 
 pub print_lent_row-returns-clause-prints : goal.print_lent_row-returns-clause-prints
 print_lent_row-returns-clause-prints g t c =
     let a = g.K.Sink.taken c.args.sink.now in
-    let b = g.K.Sink.taken c.print_attrs.new.sink in
+    let b = g.K.Sink.taken c.print_lent_attrs.new.sink in
     let d = g.K.Sink.taken c.print_lent_items.new.sink in
     let p = c.args.printer.now in
-    let q = c.print_attrs.new.printer in
+    let q = c.print_lent_attrs.new.printer in
     let r = c.print_lent_items.new.printer in
     let xs = c.deref.result.now in
     let ts = c.deref-2.result.now in
-    let whole = content_calls-is lent_tree_view (lent_row_view c.args.row.now) xs _ ts _ (lent_row_view-is c.args.row.now) c.deref.ensures.value c.deref-2.ensures.value in
+    let whole = content_calls-is lent_tree_view lent_attr_view (lent_row_view c.args.row.now) xs _ ts _ (lent_row_view-is c.args.row.now) c.deref.ensures.value c.deref-2.ensures.value in
     subst (λ (l : List Call). Prints a d p r l c.print_lent_items.result) (sym whole)
-    (Prints-after a b d p q r (attrs_calls xs) (trees_calls ts) c.print_lent_items.result c.in_ok-print_attrs.ensures.prints.bytes c.in_ok-print_attrs.ensures.prints.pen c.print_lent_items.ensures.prints)
+    (Prints-after a b d p q r (attrs_calls xs) (trees_calls ts) c.print_lent_items.result c.in_ok-print_lent_attrs.ensures.prints.bytes c.in_ok-print_lent_attrs.ensures.prints.pen c.print_lent_items.ensures.prints)
 
 abbrev calls : LentTree → List Call
 calls t = calls_of (lent_tree_view t)

@@ -8,6 +8,7 @@ use Rattle.jsonml_tree.specs.declared.scalar.Attr.{Attr}
 use Rattle.serde_json.specs.View.{members_view}
 use Rattle.jsonml_text.specs.Spelled.{mapped, attrs_at}
 use Rattle.jsonml_text.proofs.Spelling.{Reads-handed}
+use Rattle.jsonml_text.proofs.OwnTexts.{attr_texts}
 use Rattle.jsonml_text.proofs.Attributes.{attrs_stop, attrs_step, attrs_done, in_range_push, names_kept, is_ascending-from_sorted}
 use Rattle.jsonml_text.proofs.scalar.read_attrs.Goals as goal
 
@@ -43,6 +44,7 @@ returns-clause-kept c =
     record {
       ascending = is_ascending-from_sorted _ done (names_kept [] c.args.members.now.entries done whole) c.iter-name-items.ensures.ordered;
       in_range = c.loop-name.invariant.in_range;
+      texts = attr_texts c.loop-name.attrs.items;
     }
 
 pub loop-name-init : goal.loop-name-init

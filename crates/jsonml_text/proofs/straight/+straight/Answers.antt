@@ -5,11 +5,10 @@ use Rattle.json.specs.Token.{begin_array}
 use Rattle.std.specs.Cow.{cow_str_bytes}
 use Rattle.jsonml_tree.proofs.LentTrees.{lent_tree_view-Leaf, lent_tree_view-Elem, lent_row_view-is}
 use Rattle.jsonml_tree.specs.LentView.{only_text, lent_row_view}
-use Rattle.jsonml_tree.specs.View.{attr_view}
+use Rattle.jsonml_tree.specs.LentAttrs.{lent_attr_view}
 use Rattle.jsonml_tree.specs.declared.lent.LentTree.{Leaf, Elem}
 use Rattle.jsonml_text.specs.Straight.{HasLexeme}
 use Rattle.jsonml_text.proofs.Pushing.{PushesTree-element, ReadsContent-text, ReadsContent-parts, HasPushed-more, ReadsItems-end}
-use Rattle.jsonml_text.proofs.OwnTexts.{attr_texts}
 use Rattle.jsonml_text.proofs.straight.+straight.Goals as goal
 
 pub push_element-returns-in-Some : goal.push_element-returns-in-Some
@@ -39,7 +38,7 @@ pub read_row-returns : goal.read_row-returns
 read_row-returns t c =
     let attrs = c.in_ok-attrs in
     let items = c.in_ok-items in
-    ReadsContent-parts c.args.levels c.args.text.now c.args.at attrs.begun c.args.room.now.trees.items c.read_items.new.room.trees.items items.items.items _ (map attr_view attrs.attrs.items) items.next (lent_row_view-is _) attrs.ensures.kept (attr_texts attrs.attrs.items) attrs.ensures.later
+    ReadsContent-parts c.args.levels c.args.text.now c.args.at attrs.begun c.args.room.now.trees.items c.read_items.new.room.trees.items items.items.items _ (map lent_attr_view attrs.attrs.items) items.next (lent_row_view-is _) attrs.ensures.kept attrs.ensures.later
     attrs.ensures.content items.ensures
 
 pub read_items-items-preserved : goal.read_items-items-preserved

@@ -1,6 +1,6 @@
 use Rattle.std.proofs.Common.{arith}
 use Rattle.std.proofs.lemmas.Grind.{common_steps}
-use Rattle.jsonml_print.proofs.pieces.write_scalar.Goals as goal
+use Rattle.jsonml_print.proofs.pieces.write_lent_scalar.Goals as goal
 
 pub returns-in-Bool-false-clause-bytes : goal.returns-in-Bool-false-clause-bytes
 returns-in-Bool-false-clause-bytes g c = grind (arith, common_steps)
