@@ -231,6 +231,3 @@ follow_some view path i x ps ks k low e some =
 
 pub follow_sorted : (l : PlainLabel) (ks : List PlainNode) (k : PlainNode) → AreRowsSorted (nodes_from ks) → Some k ≡ node_with l ks → AreRowsSorted (node_kids k)
 follow_sorted l ks k h some = kids_sorted l (nodes_from ks) k h (ap (node_with l) (nodes_list-nodes_from ks) ∙ sym some)
-
-pub rows_rise : (ks : PlainNodes) → AreRowsSorted ks → IsTrue (rise (labels ks))
-rows_rise ks h = (both (rise (labels ks)) (are_sorted ks) h).0

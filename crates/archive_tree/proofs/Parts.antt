@@ -32,10 +32,6 @@ pub stands_some : (a : PlainNode) (ws : List (ℕ × PlainKeyed)) (ps : List ℕ
 stands_some (inner_node l s ks) ws ps h = h.common.some
 stands_some (leaf_node l s xs) ws ps h = h.common.some
 
-pub stands_labelled : (a : PlainNode) (ws : List (ℕ × PlainKeyed)) (ps : List ℕ) → StandsFor a ws ps → AllByRecursion (λ w. label_of w.1 ≡ node_label a) ws
-stands_labelled (inner_node l s ks) ws ps h = h.common.labelled
-stands_labelled (leaf_node l s xs) ws ps h = h.common.labelled
-
 pub stands_stamped : (a : PlainNode) (ws : List (ℕ × PlainKeyed)) (ps : List ℕ) → StandsFor a ws ps → Stamped (node_stamp a) (nums ws) ps
 stands_stamped (inner_node l s ks) ws ps h = h.common.stamped
 stands_stamped (leaf_node l s xs) ws ps h = h.common.stamped

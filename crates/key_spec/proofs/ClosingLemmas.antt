@@ -58,13 +58,6 @@ along_texts p (tag ∷ tags) =
     let down = sym (slashed-below p tag) in
     ap (λ t. t ∷ texts_along t tags) down ∙ ap (λ ts. slashed (below p tag) ∷ ts) (along_texts (below p tag) tags)
 
--- the same function of each element of lists that are joined
-flat_map-texts : {X Y : Type 0} (f : X → List Y) (g : X → List path) (h : Y → path) (xs : List X) → ((x : X) → map slashed (map h (f x)) ≡ map slashed (g x)) → map slashed (map h (flat_map f xs)) ≡ map slashed (flat_map g xs)
-flat_map-texts f g h [] same = refl
-flat_map-texts f g h (x ∷ xs) same =
-    ap (map slashed) (map-append h (f x) (flat_map f xs)) ∙ map-append slashed (map h (f x)) (map h (flat_map f xs))
-    ∙ ap₂ (λ a b. a ++ b) (same x) (flat_map-texts f g h xs same) ∙ sym (map-append slashed (g x) (flat_map g xs))
-
 -- texts of lists that are joined
 texts-flat_map : {X : Type 0} (f : X → List (List ℕ)) (g : X → List path) (xs : List X) → ((x : X) → f x ≡ map slashed (g x)) → flat_map f xs ≡ map slashed (flat_map g xs)
 texts-flat_map f g [] same = refl

@@ -76,15 +76,6 @@ some_paths-stop (word bytes ∷ []) path us e last more = refl
 some_paths-stop (word bytes ∷ word next ∷ ts) path us e last more = refl
 some_paths-stop (word bytes ∷ sign b ∷ ts) path us e last more = ap (λ f. path_with f (some_paths ts)) e ∙ path_with-stop path us (some_paths ts) last more
 
--- a step takes tokens away
-pub first_as-shorter : {X : Type 0} (f : List ℕ → Option X) (ts : List Token) (x : X) (us : List Token) → first_as f ts ≡ Some (x, us) → length us < length ts
-first_as-shorter f [] x us e = cc
-first_as-shorter f (sign b ∷ ts) x us e = cc
-first_as-shorter f (word bytes ∷ ts) x us e = let rest = ap length (first_as-rest (f bytes) ts x us e) in omega (arith, rest)
-
-pub behind-shorter : (c : ℕ) (ts us : List Token) → behind c ts ≡ Some us → length us < length ts
-behind-shorter c ts us e = let all = ap length (behind-some c ts us e) in omega (arith, all)
-
 -- ---- the end
 
 pub is_end-none : (ts : List Token) → behind 41 ts ≡ None → is_end ts ≡ false

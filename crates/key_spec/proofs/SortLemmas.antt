@@ -58,7 +58,3 @@ module _ {X : Type 0} {R : X → X → Ordering} (o : IsTotalOrder R) where
 pub sorted-nil : {X : Type 0} (R : X → X → Ordering) → IsStrictlySortedBy R []
 unfolding IsStrictlySortedBy
 sorted-nil R = tt
-
-pub sorted-cons : {X : Type 0} (R : X → X → Ordering) (x : X) (xs : List X) → AllByRecursion (λ y. R x y ≡ Less) xs → IsStrictlySortedBy R xs → IsStrictlySortedBy R (x ∷ xs)
-unfolding IsStrictlySortedBy
-sorted-cons R x xs a s = (a, s)

@@ -53,9 +53,6 @@ canonical_short text rules e = (closed_list text rules e).short
 spelled-test : (text : List ℕ) (rules : List PlainRule) (b : Bool) → closed text ≡ Ok rules → bytes_eq (canonical rules) text ≡ b → spelled_by text (closed text) ≡ cond b (Some rules) None
 spelled-test text rules b e f = ap (spelled_by text) e ∙ ap (λ c. cond c (Some rules) None) f
 
-pub spelled-same : (text : List ℕ) (rules : List PlainRule) → closed text ≡ Ok rules → canonical rules ≡ text → spelled_by text (closed text) ≡ Some rules
-spelled-same text rules e f = spelled-test text rules true e ((bytes_eq-Decides (canonical rules) text).1 f)
-
 pub spelled-other : (text : List ℕ) (rules : List PlainRule) → closed text ≡ Ok rules → ¬ (canonical rules ≡ text) → spelled_by text (closed text) ≡ None
 spelled-other text rules e f = spelled-test text rules false e (false_from_ne_true (bytes_eq (canonical rules) text) (λ g. f ((bytes_eq-Decides (canonical rules) text).0 g)))
 

@@ -79,10 +79,6 @@ differ_push b (y ∷ ys) h g = (all_append (λ z. y ≢ z) ys (b ∷ []) h.0 ((�
 nat_less : (m n : ℕ) → m < n → nat_cmp m n ≡ Less
 nat_less m n h = grind (arith, nat_tests)
 
-all_less : (n : ℕ) (xs : List ℕ) → Below n xs → AllByRecursion (λ m. nat_cmp m n ≡ Less) xs
-all_less n [] h = tt
-all_less n (x ∷ xs) h = (nat_less x n h.0, all_less n xs h.1)
-
 ascends_push : (n : ℕ) (xs : List ℕ) → Ascends nat_cmp xs → Below n xs → Ascends nat_cmp (xs ++ n ∷ [])
 ascends_push n [] a h = (tt, tt)
 ascends_push n (x ∷ xs) a h = (all_append (λ y. nat_cmp x y ≡ Less) xs (n ∷ []) a.0 (nat_less x n h.0, tt), ascends_push n xs a.1 h.1)

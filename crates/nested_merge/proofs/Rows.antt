@@ -20,7 +20,6 @@ use Rattle.archive_tree.specs.View.{stamp_view, alt_view, node_view}
 use Rattle.archive_tree.specs.declared.node.Alt.{Alt}
 use Rattle.archive_tree.specs.declared.node.ANode.{ANode, Inner, Leaf, the_lemmas}
 use Rattle.archive_tree.proofs.Parts.{nodes_from-nodes_list}
-use Rattle.nested_merge.specs.Below.{is_node_below, are_nodes_below}
 use Rattle.nested_merge.specs.Merged.{fresh, fresh_row, above}
 use Rattle.nested_merge.specs.Plan.{PlainStep, old_step, steps_list, gone_step, planned, planned_row}
 
@@ -88,9 +87,6 @@ ascend_tail c (d ∷ ds) h = (both (is_lt (label_cmp (label_of c) (label_of d)))
 
 pub ordered_tail : (c : PlainKeyed) (cs : List PlainKeyed) → IsTrue (are_ordered (kids_from (c ∷ cs))) → IsTrue (are_ordered (kids_from cs))
 ordered_tail c cs h = (both (is_ordered c) (are_ordered (kids_from cs)) h).1
-
-pub below_tail : (n : ℕ) (k : PlainNode) (ks : List PlainNode) → IsTrue (are_nodes_below n (nodes_from (k ∷ ks))) → IsTrue (is_node_below n k) × IsTrue (are_nodes_below n (nodes_from ks))
-below_tail n k ks h = both (is_node_below n k) (are_nodes_below n (nodes_from ks)) h
 
 pub pushed : {X Y : Type 0} (view : X → Y) (xs more : List X) (x : X) (y : Y) → more ≡ xs ++ x ∷ [] → view x ≡ y → map view more ≡ map view xs ++ y ∷ []
 pushed view xs more x y e f = ap (map view) e ∙ map-append view xs (x ∷ []) ∙ ap (λ z. map view xs ++ z ∷ []) f

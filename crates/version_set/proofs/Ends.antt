@@ -92,14 +92,6 @@ joins_apart old front new p q canonical e apart order is =
           ∙ (λ i. sym (has-members (front ++ p ∷ []) n) i || (covers_one q n ∙ sym (has-numbers q n)) i);
     })
 
--- the first interval
-pub joins_first : (q : ℕ × ℕ) → 1 ≤ q.0 → q.0 ≤ q.1 → Joins [] q (q ∷ [])
-joins_first q positive order = record {
-  canonical = (positive, order, tt);
-  start = omega arith;
-  numbers = λ n. has-members (q ∷ []) n ∙ covers_one q n ∙ sym (has-numbers q n);
-}
-
 -- ---- common numbers
 
 end_of-append : (front : List (ℕ × ℕ)) (p : ℕ × ℕ) → end_of (front ++ p ∷ []) ≡ p.1 + 2

@@ -6,7 +6,7 @@ use Rattle.std.proofs.lemmas.Bool.Decides.{nat_tests}
 use Rattle.version_set.specs.Pairs.{IsFrom, IsCanonical}
 use Rattle.version_set.specs.Members.{members, has, numbers}
 use Rattle.version_set.proofs.MembersLemmas.{covers, has-members, has-append, has-numbers, not_below, members_ascend}
-use Rattle.version_set.proofs.Walks.{ends_rise, covers_at, covers_past, drop_at}
+use Rattle.version_set.proofs.Walks.{covers_at, covers_past, drop_at}
 
 -- all numbers from the first to the last are in the intervals
 abbrev pub AllBetween : ℕ → ℕ → List (ℕ × ℕ) → Type 0

@@ -24,9 +24,6 @@ range_above : (low k n : ℕ) → low + k ≤ n → has (range_with_len low k) n
 range_above low zero n le = refl
 range_above low (suc k) n le = let e = range_above (low + 1) k n (omega arith) in grind (arith, nat_tests)
 
-same_at : (low n : ℕ) → low ≡ n → (low == n) ≡ true
-same_at low n e = eq-eqb low n e
-
 within_more : (low k n : ℕ) → low ≤ n → (low < n → has (range_with_len (low + 1) k) n ≡ true) → has (range_with_len low (suc k)) n ≡ true
 within_more low k n le rest = grind (arith, nat_tests)
 
@@ -98,10 +95,6 @@ same_numbers low high (x ∷ xs) (y ∷ ys) a b h =
     λ i. first i ∷ others i
 
 -- ---- the intervals of ascending numbers
-
-range_push : (a m : ℕ) → range_with_len a (suc m) ≡ range_with_len a m ++ (a + m) ∷ []
-range_push a zero = (let e : a + 0 ≡ a = omega arith in rw e)
-range_push a (suc m) = (let e : a + suc m ≡ (a + 1) + m = omega arith in rw e (ap (λ z. a ∷ z) (range_push (a + 1) m)))
 
 pub IsFrom-weaker : (low high : ℕ) (ps : List (ℕ × ℕ)) → low ≤ high → IsFrom high ps → IsFrom low ps
 IsFrom-weaker low high [] le c = tt

@@ -65,9 +65,6 @@ Unites-next ours theirs rest left right all new p u e behind j =
           ∙ u.numbers n;
     }
 
-pub Unites-ends : (ours theirs all : List (ℕ × ℕ)) → Unites ours theirs [] [] all → (n : ℕ) → has (members all) n ≡ (has (members ours) n || has (members theirs) n)
-Unites-ends ours theirs all u n = or_comm false (has (members all) n) ∙ u.numbers n
-
 -- the intervals from i on
 pub left_from : (low i : ℕ) (ps : List (ℕ × ℕ)) (p : ℕ × ℕ) → i < length ps → p ≡ get_or ps i p → IsFrom low (drop i ps) → (low ≤ p.0) × (p.0 ≤ p.1) × IsFrom (p.1 + 2) (drop (i + 1) ps)
 left_from low i ps p lt e c =
@@ -94,11 +91,6 @@ pub unite_one : (ours theirs all new : List (ℕ × ℕ)) (i j : ℕ) (our : ℕ
 unite_one ours theirs all new i j our u lt e le joins =
     let behind : IsFrom our.0 (drop j theirs) = rw (none_left j theirs le) tt in
     Unites-next ours theirs (drop (i + 1) ours) (drop i ours) (drop j theirs) all new our u (split_at i ours our lt e) behind joins
-
--- neither
-pub unite_none : (ours theirs all : List (ℕ × ℕ)) (i j : ℕ) → Unites ours theirs (drop i ours) (drop j theirs) all → length ours ≤ i → length theirs ≤ j → (n : ℕ) → has (members all) n ≡ (has (members ours) n || has (members theirs) n)
-unite_none ours theirs all i j u le le' =
-    Unites-ends ours theirs all (subst (λ (ps : List (ℕ × ℕ)). Unites ours theirs ps [] all) (none_left i ours le) (subst (λ (ps : List (ℕ × ℕ)). Unites ours theirs (drop i ours) ps all) (none_left j theirs le') u))
 
 -- ---- the common numbers
 

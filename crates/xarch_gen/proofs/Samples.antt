@@ -199,5 +199,3 @@ sample-depth seed k =
     let P : PlainTree → Type 0 = λ t. tree_depth t ≤ 3 in
     let inside = each-shallow 3 (map (department_of seed k) (range_with_len 0 4)) (each-made P (department_of seed k) (department-depth seed k) (range_with_len 0 4)) in
     omega arith
-
-pub ruleset samples = (sample-satisfies, sample-element, sample-formed, sample-fits, sample-depth)

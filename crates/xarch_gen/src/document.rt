@@ -1,5 +1,5 @@
 // The documents of the generator.
-ghost use Rattle.std.specs.Prelude.{◌≡◌, ◌<◌, ◌≤◌, IfOk, map};
+ghost use Rattle.std.specs.Prelude.{◌≡◌, ◌<◌, ◌≤◌, IfOk};
 ghost use Rattle.jsonml_tree.specs.Data.{tree_depth};
 ghost use Rattle.jsonml_tree.specs.Fits.{IsElement, ItemsFit};
 ghost use Rattle.jsonml_tree.specs.View.{tree_view};

@@ -1,5 +1,5 @@
 // Employees as the generator draws them.
-ghost use Rattle.std.specs.Prelude.{◌≡◌, ◌<◌, ◌≤◌, ◌+◌, ◌*◌, ◌^◌, ◌++◌, ℕ, IfOk, map, codes, decimal, string_bytes};
+ghost use Rattle.std.specs.Prelude.{◌≡◌, ◌<◌, ◌≤◌, ◌+◌, ◌*◌, ◌^◌, ◌++◌, IfOk, codes, decimal, string_bytes};
 ghost use Rattle.jsonml_tree.specs.View.{tree_view};
 ghost use Rattle.xarch_gen.specs.Sample.{next, draw, phase, is_present, salary, has_telephone, employee_of};
 

@@ -4,7 +4,6 @@ use Rattle.std.specs.Fmt.{decimal}
 use Rattle.std.specs.List.{flat_map}
 use Rattle.key_spec.specs.Data.{PlainPath}
 use Rattle.key_spec.specs.Names.{path_text}
-use Rattle.key_rules.specs.Faults.{PlainKeyFault}
 use Rattle.xarch_words.specs.Refusal.{PlainQuantity, document, depth, versions, specification, archive, line, batch, demo, Refusal, usage, no_file, exists, bad_spec, bad_json, bad_shape, key_fault, no_version, bad_path, damaged, limit, PlainFault, refused, folder_fault, out_fault, in_fault, memory}
 
 abbrev pub refusal_status : Refusal → ℕ

@@ -1,4 +1,4 @@
-use Rattle.std.proofs.Common.{ℕ, ltb, ltb-true, ltb-false, IsTrue, true, false, sym, arith, rules, true≢false}
+use Rattle.std.proofs.Common.{ℕ, ltb, ltb-true, ltb-false, sym, arith, rules, true≢false}
 use Rattle.std.proofs.lemmas.List.Sorted.{IsPartitionPoint-from_clause, IsPartitionedBy-ltb}
 use Rattle.version_set.proofs.Walks.{ends_rise}
 use Rattle.version_set.proofs.Inside.{spans_begun, spans_later, spans_past}

@@ -1,4 +1,4 @@
-use Rattle.std.proofs.Common.{◌≡◌, List, ℕ, [], ◌∷◌, ◌++◌, length, refl, ap, sym, ◌∙◌, subst, option_map, String, Global, string_bytes}
+use Rattle.std.proofs.Common.{◌≡◌, List, [], ◌∷◌, ◌++◌, length, refl, ap, sym, ◌∙◌, subst, option_map, String, Global, string_bytes}
 use Rattle.key_spec.specs.View.{names_view}
 use Rattle.xa_outside.specs.Taken.{Puts}
 use Rattle.xa_outside.specs.TakenLaws.{Puts-after}

@@ -1,4 +1,4 @@
-use Rattle.std.proofs.Common.{ℕ, true, false, sym, ◌∙◌, arith, true≢false}
+use Rattle.std.proofs.Common.{true, sym, ◌∙◌, true≢false}
 use Rattle.version_set.specs.View.{pairs_of}
 use Rattle.version_set.proofs.Inside.{order_of, within_kept, within_not, within_all}
 use Rattle.version_set.proofs.set.VersionSet.is_within.Goals as goal
