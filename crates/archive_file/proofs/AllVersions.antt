@@ -19,8 +19,8 @@ use Rattle.archive_tree.specs.Parts.{IsNodeWell, AreNodesWell}
 use Rattle.archive_tree.specs.Read.{body_at, read, read_row}
 use Rattle.archive_tree.specs.Stands.{has_body}
 use Rattle.archive_tree.proofs.Readings.{read_ascends}
-use Rattle.archive_file.specs.Fits.{attr_label, bare_label, ends_in, leads, has_keys, is_attr_leaf, fits, each_fits}
-use Rattle.archive_file.specs.NodeFits.{bodies_are, node_leads, node_has_keys, is_attr_node, node_fits, nodes_fit, is_shallow, are_shallow}
+use Rattle.archive_file.proofs.Fits.{leads, has_keys, is_attr_leaf, fits, each_fits}
+use Rattle.archive_file.specs.NodeFits.{attr_label, bare_label, ends_in, bodies_are, node_leads, node_has_keys, is_attr_node, node_fits, nodes_fit, is_shallow, are_shallow}
 use Rattle.archive_file.proofs.Levels.{above-le, inside-le, both-le, zero-le}
 use Rattle.archive_file.proofs.Tells.{Tells, tells-same, tells-and, tells-as, tells-choice, tells-besides, tells-part, tells-pairs, eff-ascends, stamp-of, well-has, alts-tell, always-tells}
 

@@ -22,7 +22,7 @@ use Rattle.archive_tree.proofs.Parts.{stands_nums}
 use Rattle.archive_tree.proofs.Readings.{all_numbers, root_stands, node_reads, some_has}
 use Rattle.archive_tree.proofs.Those.{orderly_rooted, orderly_numbered, nums_has, has_nums, rooted_has, has_rooted}
 use Rattle.keyed_tree.proofs.Kids.{both}
-use Rattle.archive_file.specs.Fits.{fits}
+use Rattle.archive_file.proofs.Fits.{fits}
 use Rattle.archive_file.specs.KeyedBy.{IsKeyedBy, AreKeyedBy}
 use Rattle.archive_file.specs.NodeFits.{node_fits, nodes_fit, is_attr_node, is_shallow, are_shallow, is_archive_keyed}
 use Rattle.archive_file.proofs.AllVersions.{fits-tell, level-tells}

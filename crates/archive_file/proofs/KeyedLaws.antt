@@ -26,7 +26,7 @@ use Rattle.key_annotate.specs.Inside.{inside_of}
 use Rattle.key_annotate.proofs.Insides.{plain-is}
 use Rattle.key_annotate.proofs.ProperLemmas.{keyed-element, keyed-proper, keyed_tree-depth, keyed_tree-well}
 use Rattle.key_annotate.proofs.Unique.{keyed_tree-one}
-use Rattle.archive_file.specs.Fits.{fits}
+use Rattle.archive_file.proofs.Fits.{fits}
 use Rattle.archive_file.specs.KeyedBy.{IsKeyedBy, AreKeyedBy}
 use Rattle.archive_file.specs.Sound.{SoundAs}
 use Rattle.archive_file.proofs.FitsLaws.{content-fits, tag_of, stands-at}

@@ -1,3 +1,4 @@
+pub mod Fits
 pub mod Ways
 pub mod FitsLaws
 pub mod Tells
@@ -12,6 +13,7 @@ pub mod FrontLaws
 pub mod GoesLaws
 pub mod FileLaws
 pub mod PutLaws
+pub mod Least
 pub mod LaidLaws
 pub mod WellLaws
 pub mod ReadLaws

@@ -14,15 +14,14 @@ use Rattle.key_spec.specs.Data.{PlainRule}
 use Rattle.key_spec.specs.Rules.{rule_of, below}
 use Rattle.key_spec.specs.View.{names_view}
 use Rattle.key_rules.proofs.Rows.{map-more}
-use Rattle.archive_tree.specs.Data.{Stamp, PlainNode, inner_node, leaf_node, PlainNodes, no_nodes, node, node_label, node_stamp, node_kids, nodes_list, nodes_from}
+use Rattle.archive_tree.specs.Data.{Stamp, PlainNode, inner_node, leaf_node, PlainNodes, no_nodes, node, node_label, node_stamp, node_kids, nodes_list}
 use Rattle.archive_tree.specs.Seek.{node_with, rise, is_sorted, are_sorted, AreRowsSorted}
 use Rattle.archive_tree.specs.Stands.{labels}
 use Rattle.archive_tree.specs.View.{node_view, nodes_view}
 use Rattle.archive_tree.specs.declared.node.ANode.{ANode}
 use Rattle.archive_tree.proofs.Histories.{node_has, rise-all}
 use Rattle.archive_tree.proofs.Parts.{nodes_list-nodes_from}
-use Rattle.archive_file.specs.Fits.{bare_label, on_some}
-use Rattle.archive_file.specs.NodeFits.{lasting, node_leads, node_has_keys, node_fits, inside_fits}
+use Rattle.archive_file.specs.NodeFits.{bare_label, on_some, lasting, node_leads, node_has_keys, node_fits, inside_fits}
 
 pub node_fits-is : (rules : List PlainRule) (context : List (List ℕ)) (k : PlainNode)
     → node_fits rules context k ≡ (is_tag (node_label k).name && (node_has_keys (rule_of rules context (name_bytes (node_label k).name)) (node_label k).keys k && inside_fits rules (below context (name_bytes (node_label k).name)) k))
@@ -71,12 +70,6 @@ pub ruleset sorted = (sorted-labels, sorted-row, sorted-inner)
 -- the labels of a slice of nodes
 pub labels-rise : (ks : List ANode) → IsTrue (rise (labels (nodes_view ks))) → Ascends label_cmp (map node_label (map node_view ks))
 labels-rise ks h = subst (λ js. Ascends label_cmp (map node_label js)) (nodes_list-nodes_from (map node_view ks)) (rise-all (labels (nodes_view ks)) h)
-
--- the next node of a slice, and what is left of it
-pub next-sorted : (ks : List ANode) (i : ℕ) (x : ANode) → i < length ks → x ≡ get_or ks i x → IsTrue (are_sorted (nodes_view (drop i ks))) → IsTrue (is_sorted (node_view x)) × IsTrue (are_sorted (nodes_view (drop (i + 1) ks)))
-next-sorted ks i x low e h =
-    let more = ap nodes_from (map-more node_view ks i x low e) in
-    and_parts (is_sorted (node_view x)) (are_sorted (nodes_view (drop (i + 1) ks))) (subst (λ z. IsTrue (are_sorted z)) more h)
 
 row-has : (ks : PlainNodes) (c : PlainNode) → IsTrue (are_sorted ks) → Has c (nodes_list ks) → IsTrue (is_sorted c)
 row-has no_nodes c h m = absurd m

@@ -8,7 +8,7 @@ use Rattle.std.proofs.lemmas.Grind.{flat_map-append}
 use Rattle.key_spec.specs.Data.{PlainRule}
 use Rattle.key_spec.proofs.Steps.{map-take}
 use Rattle.keyed_tree.specs.Data.{PlainLabel, PlainKeyed}
-use Rattle.archive_tree.specs.Data.{Stamp, PlainAlt, PlainNode, inner_node, leaf_node, node_stamp, PlainNodes, nodes_list, PlainArchive}
+use Rattle.archive_tree.specs.Data.{Stamp, PlainAlt, PlainNode, inner_node, leaf_node, PlainNodes, nodes_list, PlainArchive}
 use Rattle.archive_tree.specs.Stands.{ArchiveOf}
 use Rattle.archive_tree.specs.View.{node_view, nodes_view}
 use Rattle.archive_tree.specs.declared.node.ANode.{ANode}
@@ -42,11 +42,6 @@ inner-parts n l s xs e h =
 pub set_in-is : (s : Stamp) (parent : List (ℕ × ℕ)) → unwrap_or s parent ≡ set_in s parent
 set_in-is None parent = refl
 set_in-is (Some s) parent = refl
-
--- the effective set of a node
-pub piece-set : (parent : List (ℕ × ℕ)) (k : PlainNode) → unwrap_or (node_stamp k) parent ≡ (node_piece parent k).set
-piece-set parent (inner_node l s ks) = set_in-is s parent
-piece-set parent (leaf_node l s xs) = set_in-is s parent
 
 pub inner-bytes : (old one two : List ℕ) (parent set : List (ℕ × ℕ)) (n : PlainNode) (l : PlainLabel) (s : Stamp) (ks : PlainNodes) → n ≡ inner_node l s ks → set ≡ unwrap_or s parent → one ≡ old ++ rec_bytes (inner_rec l s)
     → two ≡ one ++ flat_map rec_bytes (closed_by_end (node_pieces set ks)) → two ≡ old ++ piece_bytes (node_piece parent n)

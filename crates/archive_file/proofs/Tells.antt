@@ -22,8 +22,7 @@ use Rattle.archive_tree.proofs.Histories.{node_has, no_node}
 use Rattle.archive_tree.proofs.Numbers.{has-Has, Has-has, members-ascend, same_numbers}
 use Rattle.archive_tree.proofs.Readings.{read_label, read_ascends, in_row, origin}
 use Rattle.archive_tree.proofs.Sufficient.{one_item, one_part}
-use Rattle.archive_file.specs.Fits.{on_some}
-use Rattle.archive_file.specs.NodeFits.{always}
+use Rattle.archive_file.specs.NodeFits.{on_some, always}
 
 -- the test passes at each of the numbers exactly where the one test passes
 abbrev pub Tells : List ℕ → (ℕ → Bool) → Bool → Type 0

@@ -30,7 +30,8 @@ use Rattle.key_annotate.proofs.InOrder.{Apart}
 use Rattle.key_annotate.proofs.KidsOf.{label-name, annotated-label, differ-apart}
 use Rattle.key_annotate.proofs.Sorted.{at_has}
 use Rattle.archive_tree.specs.Stands.{has_body}
-use Rattle.archive_file.specs.Fits.{attr_label, bare_label, on_some, ends_in, leads_here, leads}
+use Rattle.archive_file.specs.NodeFits.{attr_label, bare_label, on_some, ends_in}
+use Rattle.archive_file.proofs.Fits.{leads_here, leads}
 
 -- ---- the ways of key paths
 

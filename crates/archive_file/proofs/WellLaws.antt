@@ -6,8 +6,7 @@ use Rattle.jsonml_tree.specs.Data.{PlainScalar, null, boolean, whole, string, Pl
 use Rattle.jsonml_tree.specs.WellFormed.{is_in_range, is_ascending, are_in_range, is_well_formed, is_content_well_formed, are_well_formed}
 use Rattle.keyed_tree.specs.Data.{PlainKey, scalar, inside, PlainLabel}
 use Rattle.keyed_tree.specs.WellFormed.{is_key_well_formed, are_keys_well_formed, IsKeyWellFormed, IsLabelWellFormed}
-use Rattle.archive_tree.specs.Data.{PlainAlt, PlainNode, nodes_from}
-use Rattle.archive_tree.specs.WellFormed.{are_alts_well_formed, is_node_well_formed, are_nodes_well_formed}
+use Rattle.archive_tree.specs.Data.{PlainNode, nodes_from}
 use Rattle.record_parts.specs.Bounds.{IsScalar, IsAttr, IsItem, IsInside, AreItems, IsValue, IsLabel}
 use Rattle.keyed_tree.proofs.Kids.{both}
 use Rattle.archive_file.specs.Laid.{is_nested, are_nested}
@@ -53,18 +52,6 @@ values-well (v ∷ vs) h = both-hold (is_key_well_formed v) (are_keys_well_forme
 
 pub label-well : (l : PlainLabel) → IsLabel l → IsLabelWellFormed l
 label-well l h = values-well l.keys h.keys
-
-pub alts-more : (xs : List PlainAlt) (x : PlainAlt) → IsTrue (are_alts_well_formed xs) → IsKeyWellFormed x.body → IsTrue (are_alts_well_formed (xs ++ x ∷ []))
-alts-more [] x h g = both-hold (is_key_well_formed x.body) true g refl
-alts-more (y ∷ xs) x h g =
-    let two = both (is_key_well_formed y.body) (are_alts_well_formed xs) h in
-    both-hold (is_key_well_formed y.body) (are_alts_well_formed (xs ++ x ∷ [])) two.0 (alts-more xs x two.1 g)
-
-pub nodes-more : (ks : List PlainNode) (k : PlainNode) → IsTrue (are_nodes_well_formed (nodes_from ks)) → IsTrue (is_node_well_formed k) → IsTrue (are_nodes_well_formed (nodes_from (ks ++ k ∷ [])))
-nodes-more [] k h g = both-hold (is_node_well_formed k) true g refl
-nodes-more (j ∷ ks) k h g =
-    let two = both (is_node_well_formed j) (are_nodes_well_formed (nodes_from ks)) h in
-    both-hold (is_node_well_formed j) (are_nodes_well_formed (nodes_from (ks ++ k ∷ []))) two.0 (nodes-more ks k two.1 g)
 
 -- one more node that nests no deeper
 pub nested-more : (d : ℕ) (ks : List PlainNode) (k : PlainNode) → IsTrue (are_nested d (nodes_from ks)) → IsTrue (is_nested d k) → IsTrue (are_nested d (nodes_from (ks ++ k ∷ [])))

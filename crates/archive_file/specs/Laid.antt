@@ -1,5 +1,5 @@
 -- How nodes lie in the bytes of a file.
-use Rattle.std.specs.Prelude.{◌≡◌, ℕ, ◌-◌, Bool, true, ◌&&◌, nat_lt, List, [], ◌∷◌, ◌++◌, ◌<◌, ◌^◌, length, map, Result, Ok, Err, ⊤, IsTrue}
+use Rattle.std.specs.Prelude.{◌≡◌, ℕ, List, [], ◌∷◌, ◌++◌, ◌<◌, ◌^◌, length, map, Result, Ok, Err, ⊤, IsTrue}
 use Rattle.std.specs.List.{flat_map, AllByRecursion}
 use Rattle.key_spec.specs.Canonical.{canonical}
 use Rattle.key_spec.specs.Closed.{closed}
@@ -9,19 +9,10 @@ use Rattle.record_format.specs.Data.{PlainEntry, PlainDir, leaf_end}
 use Rattle.record_format.specs.Spelling.{rec_bytes}
 use Rattle.record_format.specs.Bounds.{IsRec}
 use Rattle.record_format.specs.Files.{header_bytes}
+pub use Rattle.record_format.specs.Nested.{is_nested, are_nested}
 use Rattle.record_format.specs.Nodes.{Piece, piece_bytes, closed_by_end, alt_of, node_piece, node_pieces}
 use Rattle.archive_file.specs.declared.fault.FileFault.{FileFault}
 use Rattle.archive_file.specs.declared.fault.FileFault.TheVariants.{Damage}
-
--- inner nodes nest at most so deep
-abbrev mutual
-  pub is_nested : ℕ → PlainNode → Bool
-  is_nested d (inner_node l s ks) = nat_lt 0 d && are_nested (d - 1) ks
-  is_nested d (leaf_node l s xs) = true
-
-  pub are_nested : ℕ → PlainNodes → Bool
-  are_nested d no_nodes = true
-  are_nested d (node k ks) = is_nested d k && are_nested d ks
 
 -- the effective sets of nodes under a parent that has the set
 abbrev pub sets_in : List (ℕ × ℕ) → PlainNodes → List (List (ℕ × ℕ))

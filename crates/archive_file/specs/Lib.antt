@@ -1,7 +1,7 @@
 pub mod KeyedBy
-pub mod Fits
 pub mod NodeFits
 pub mod Sound
 pub mod Faults
 pub mod Goes
 pub mod Laid
+pub mod Sizes

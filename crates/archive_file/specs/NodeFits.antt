@@ -2,18 +2,43 @@
 use Rattle.std.specs.Prelude.{ℕ, ◌-◌, Bool, true, false, not, ◌&&◌, nat_lt, List, [], ◌∷◌, Option, Some, None, if◌then◌else◌}
 use Rattle.std.specs.Cmp.Lexicographic.{pointwise}
 use Rattle.std.specs.List.{list_all}
-use Rattle.std.specs.Option.{is_none}
+use Rattle.std.specs.Option.{option_map, is_none}
 use Rattle.std.specs.Ordering.{is_eq}
-use Rattle.jsonml_tree.specs.Data.{content_depth}
-use Rattle.keyed_tree.specs.Data.{PlainKey}
+use Rattle.jsonml_tree.specs.Data.{PlainContent, content_depth}
+use Rattle.keyed_tree.specs.Data.{attr, tag, PlainKey, scalar, inside, PlainLabel}
 use Rattle.keyed_tree.specs.Order.{key_cmp}
 use Rattle.keyed_tree.specs.Plain.{name_bytes, content_of}
 use Rattle.keyed_tree.specs.Proper.{is_tag, has_no_keys, is_scalar, is_content}
 use Rattle.key_spec.specs.Data.{PlainPath, PlainRule}
 use Rattle.key_spec.specs.Rules.{rule_of, is_frontier, below}
+use Rattle.key_rules.specs.Reach.{attrs_in, scalar_named}
 use Rattle.archive_tree.specs.Data.{PlainAlt, PlainNode, inner_node, leaf_node, PlainNodes, no_nodes, node, node_label, node_stamp, node_kids, nodes_list, PlainArchive}
 use Rattle.archive_tree.specs.Seek.{node_with}
-use Rattle.archive_file.specs.Fits.{attr_label, bare_label, on_some, ends_in}
+
+-- ---- where a key path ends
+
+-- the label of an attribute
+abbrev pub attr_label : List ℕ → PlainLabel
+attr_label s = record { name = attr s; keys = [] }
+
+-- the label of an element without key values
+abbrev pub bare_label : List ℕ → PlainLabel
+bare_label t = record { name = tag t; keys = [] }
+
+-- the test of what is there, and false where nothing is
+abbrev pub on_some : {X : Type 0} → (X → Bool) → Option X → Bool
+on_some p None = false
+on_some p (Some x) = p x
+
+-- what a key path has at the element where its tags end: the content, or the scalar of the attribute that it names
+abbrev pub end_value : Option (List ℕ) → PlainContent → Option PlainKey
+end_value None c = Some (inside c)
+end_value (Some name) c = option_map (λ s. scalar s) (scalar_named name (attrs_in c))
+
+-- a key path whose tags end at a leaf with that body has the value
+abbrev pub ends_in : Option (List ℕ) → PlainKey → PlainKey → Bool
+ends_in at v (scalar s) = false
+ends_in at v (inside c) = on_some (λ w. is_eq (key_cmp w v)) (end_value at c)
 
 -- ---- where a key path leads, in every version that has the node
 

@@ -11,7 +11,8 @@ ghost use Rattle.keyed_tree.specs.Data.{PlainKeyed};
 ghost use Rattle.keyed_tree.specs.Plain.{plain};
 ghost use Rattle.keyed_tree.specs.Proper.{IsProper};
 ghost use Rattle.archive_tree.specs.ArchiveView.{archive_view};
-ghost use Rattle.archive_tree.specs.Stands.{AllAlike, ArchiveOf};
+ghost use Rattle.keyed_tree.specs.Alike.{AllAlike};
+ghost use Rattle.archive_tree.specs.Stands.{ArchiveOf};
 ghost use Rattle.xa_fields.specs.Spelling.{u64_bytes};
 ghost use Rattle.record_format.specs.Files.{longest, FileOf};
 ghost use Rattle.archive_file.specs.Faults.{IfDamage};
@@ -76,7 +77,8 @@ pub fn decode_file(alloc: Global, bytes: &[u8]) -> Result<(Spec, Archive), FileF
 fn read_archive(alloc: Global, bytes: &[u8]) -> Result<(Spec, Archive), FileFault>
     ensures found { (rules : List PlainRule) (vs : List PlainKeyed) → SoundAs rules vs bytes.now
         → Finds result (λ r. (spec_view r.0 ≡ rules) × ArchiveOf vs (archive_view r.1)) }
-    ensures specification { IfOk result (λ r. closed (canonical (spec_view r.0)) ≡ Ok (spec_view r.0)) }
+    ensures specification { IfOk result (λ r. closed (canonical (spec_view r.0))
+        ≡ Ok (spec_view r.0)) }
     ensures file { IfOk result (λ r. (vs : List PlainKeyed)
         → ArchiveOf vs (archive_view r.1) → FileOf (spec_view r.0) vs bytes.now) }
     ensures few { IfOk result (λ r. (archive_view r.1).n ≤ 999999) }
@@ -97,7 +99,8 @@ fn read_archive(alloc: Global, bytes: &[u8]) -> Result<(Spec, Archive), FileFaul
 // Whether a file may have so many bytes, and those from the offset on are the length of the body of the root's END.
 fn is_closed(bytes: &[u8], at: usize, dir: u64) -> bool
     requires { at ≤ length bytes.now }
-    ensures { result ≡ (nat_le (length bytes.now) longest && bytes_eq (drop at bytes.now) (u64_bytes dir)) }
+    ensures { result ≡ (nat_le (length bytes.now) longest
+        && bytes_eq (drop at bytes.now) (u64_bytes dir)) }
 {
     bytes.len() <= LONGEST && is_tail(&bytes[at..], dir)
 }

@@ -22,7 +22,9 @@ use crate::fault::EncodeFault;
 use crate::goes::row_goes;
 use archive_tree::{ANode, Alt, Archive, effective};
 use key_spec::Spec;
-use record_format::{Entry, put_alt, put_end, put_header, put_inner, put_leaf, put_leaf_end};
+use record_format::{
+    Entry, FRAME, put_alt, put_end, put_header, put_inner, put_leaf, put_leaf_end,
+};
 use std::alloc::{AllocError, Global};
 use version_set::VersionSet;
 use xa_fields::put_u64;
@@ -56,7 +58,8 @@ pub fn encode_file(alloc: Global, spec: &Spec, archive: &Archive) -> Result<Vec<
 fn file_of(alloc: Global, spec: &Spec, archive: &Archive) -> Result<Vec<u8>, AllocError>
     requires few { length (nodes_list (archive_view archive.now).kids) < 2 ^ 32 }
     requires parts { HaveParts (archive_view archive.now).kids }
-    ensures bytes { IfOk result (λ v. v.items ≡ file_bytes (spec_view spec.now) (archive_view archive.now)) }
+    ensures bytes { IfOk result (λ v. v.items
+        ≡ file_bytes (spec_view spec.now) (archive_view archive.now)) }
     ensures short { IfOk result (λ v. length (canonical (spec_view spec.now)) ≤ 1048576) }
 {
     let mut out = Vec::new(alloc);
@@ -78,14 +81,17 @@ fn put_row(
 ) -> Result<u64, AllocError>
     requires few { length nodes.now < 2 ^ 32 }
     requires parts { HaveParts (nodes_view nodes.now) }
-    ensures bytes { OnOk result (out.new.items ≡ out.old.items ++ flat_map rec_bytes (closed_by_end (node_pieces (pairs_of set.now) (nodes_view nodes.now)))) }
-    ensures dir { IfOk result (λ d. d ≡ length (dir_bytes (dir_of (node_pieces (pairs_of set.now) (nodes_view nodes.now))))) }
+    ensures bytes { OnOk result (out.new.items
+        ≡ out.old.items ++ flat_map rec_bytes
+        (closed_by_end (node_pieces (pairs_of set.now) (nodes_view nodes.now)))) }
+    ensures dir { IfOk result (λ d. d
+        ≡ length (dir_bytes (dir_of (node_pieces (pairs_of set.now) (nodes_view nodes.now))))) }
 {
     let entries = put_nodes(alloc, out, set, nodes)?;
     let sets = sets_of(alloc, set, nodes)?;
     let at = out.len();
     put_end(alloc, out, &entries, &sets)?;
-    Ok((out.len() - at - 9) as u64)
+    Ok((out.len() - at - FRAME) as u64)
 }
 
 // The records of the nodes. It answers their entries in the directory of the node that has them as its kids.
@@ -98,8 +104,11 @@ fn put_nodes(
     nodes: &[ANode],
 ) -> Result<Vec<Entry>, AllocError>
     requires { HaveParts (nodes_view nodes.now) }
-    ensures bytes { OnOk result (out.new.items ≡ out.old.items ++ flat_map piece_bytes (node_pieces (pairs_of set.now) (nodes_view nodes.now))) }
-    ensures entries { IfOk result (λ es. map entry_view es.items ≡ entries_from 0 (node_pieces (pairs_of set.now) (nodes_view nodes.now))) }
+    ensures bytes { OnOk result (out.new.items
+        ≡ out.old.items
+        ++ flat_map piece_bytes (node_pieces (pairs_of set.now) (nodes_view nodes.now))) }
+    ensures entries { IfOk result (λ es. map entry_view es.items
+        ≡ entries_from 0 (node_pieces (pairs_of set.now) (nodes_view nodes.now))) }
     ensures each { IfOk result (λ es. length es.items ≡ length nodes.now) }
 {
     let base = out.len();
@@ -122,8 +131,10 @@ fn put_node(
     node: &ANode,
 ) -> Result<u64, AllocError>
     requires { HasParts (node_view node.now) }
-    ensures bytes { OnOk result (out.new.items ≡ out.old.items ++ piece_bytes (node_piece (pairs_of parent.now) (node_view node.now))) }
-    ensures dir { IfOk result (λ d. d ≡ (node_piece (pairs_of parent.now) (node_view node.now)).dir) }
+    ensures bytes { OnOk result (out.new.items
+        ≡ out.old.items ++ piece_bytes (node_piece (pairs_of parent.now) (node_view node.now))) }
+    ensures dir { IfOk result (λ d. d
+        ≡ (node_piece (pairs_of parent.now) (node_view node.now)).dir) }
 {
     match node {
         ANode::Inner { label, stamp, kids } => {
@@ -141,7 +152,8 @@ fn put_node(
 
 fn put_alts(out: &mut Vec<u8>, alts: &[Alt]) -> Result<(), AllocError>
     requires { AllByRecursion HasBody (map alt_view alts.now) }
-    ensures { OnOk result (out.new.items ≡ out.old.items ++ flat_map rec_bytes (map alt_of (map alt_view alts.now))) }
+    ensures { OnOk result (out.new.items ≡ out.old.items
+        ++ flat_map rec_bytes (map alt_of (map alt_view alts.now))) }
 {
     for alt in alts {
         put_alt(out, &alt.stamp, &alt.body)?;

@@ -17,7 +17,8 @@ use std::alloc::Global;
 pub fn read_header(alloc: Global, bytes: &[u8]) -> Result<(Spec, u32, usize), FileFault>
     ensures found { IfOk result (λ r. header_at bytes.now
         ≡ Some ((spec_view r.0, r.1), drop r.2 bytes.now)) }
-    ensures spelled { IfOk result (λ r. IsFront (spec_view r.0) r.1 (drop r.2 bytes.now) bytes.now) }
+    ensures spelled { IfOk result (λ r. IsFront (spec_view r.0) r.1
+        (drop r.2 bytes.now) bytes.now) }
     ensures next { IfOk result (λ r. r.2 ≤ length bytes.now) }
     ensures few { IfOk result (λ r. r.1 ≤ 999999) }
     ensures damage { IfErr result (λ e. IfDamage e (header_at bytes.now ≡ None)) }

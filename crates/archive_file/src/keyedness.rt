@@ -8,7 +8,8 @@ ghost use Rattle.key_spec.specs.View.{spec_view};
 ghost use Rattle.archive_tree.specs.ArchiveView.{archive_view};
 ghost use Rattle.archive_tree.specs.Data.{PlainAlt, node_label};
 ghost use Rattle.archive_tree.specs.Seek.{is_sorted, are_sorted};
-ghost use Rattle.archive_tree.specs.Stands.{AllAlike, ArchiveOf};
+ghost use Rattle.keyed_tree.specs.Alike.{AllAlike};
+ghost use Rattle.archive_tree.specs.Stands.{ArchiveOf};
 ghost use Rattle.archive_tree.specs.View.{alt_view, node_view, nodes_view};
 ghost use Rattle.archive_file.specs.KeyedBy.{AreKeyedBy};
 ghost use Rattle.archive_file.specs.NodeFits.{is_attr_node, inside_fits, node_fits, nodes_fit, is_archive_keyed};
@@ -38,7 +39,8 @@ pub fn is_keyed(alloc: Global, spec: &Spec, archive: &Archive) -> Result<bool, A
 }
 
 fn are_nodes_keyed(alloc: Global, spec: &Spec, archive: &Archive) -> Result<bool, AllocError>
-    ensures { IfOk result (λ b. b ≡ is_archive_keyed (spec_view spec.now) (archive_view archive.now)) }
+    ensures { IfOk result (λ b. b ≡ is_archive_keyed (spec_view spec.now)
+        (archive_view archive.now)) }
 {
     if !are_shallow(archive.kids(), DEEPEST) {
         return Ok(false);
@@ -56,7 +58,8 @@ fn nodes_fit(
     nodes: &[ANode],
 ) -> Result<bool, AllocError>
     requires { IsTrue (are_sorted (nodes_view nodes.now)) }
-    ensures fits { IfOk result (λ b. b ≡ nodes_fit (spec_view spec.now) (names_view path.old.items) (nodes_view nodes.now)) }
+    ensures fits { IfOk result (λ b. b ≡ nodes_fit (spec_view spec.now) (names_view path.old.items)
+        (nodes_view nodes.now)) }
     ensures path { OnOk result (names_view path.new.items ≡ names_view path.old.items) }
 {
     for node in nodes {
@@ -78,7 +81,9 @@ fn kid_fits(
 ) -> Result<bool, AllocError>
     requires { IsTrue (is_sorted (node_view node.now)) }
     ensures fits { IfOk result
-        (λ b. b ≡ (if is_tag (node_label (node_view node.now)).name then node_fits (spec_view spec.now) (names_view path.old.items) (node_view node.now) else is_attr_node (node_view node.now))) }
+        (λ b. b ≡ (if is_tag (node_label (node_view node.now)).name
+        then node_fits (spec_view spec.now) (names_view path.old.items) (node_view node.now)
+        else is_attr_node (node_view node.now))) }
     ensures path { OnOk result (names_view path.new.items ≡ names_view path.old.items) }
 {
     match &node.label().name {
@@ -98,7 +103,8 @@ fn node_fits(
 ) -> Result<bool, AllocError>
     requires name { (node_label (node_view node.now)).name ≡ tag name.now }
     requires sorted { IsTrue (is_sorted (node_view node.now)) }
-    ensures fits { IfOk result (λ b. b ≡ node_fits (spec_view spec.now) (names_view path.old.items) (node_view node.now)) }
+    ensures fits { IfOk result (λ b. b ≡ node_fits (spec_view spec.now) (names_view path.old.items)
+        (node_view node.now)) }
     ensures path { OnOk result (names_view path.new.items ≡ names_view path.old.items) }
 {
     if !has_keys(spec, path, name, node) {
@@ -120,7 +126,8 @@ fn is_body_fit(
     node: &ANode,
 ) -> Result<bool, AllocError>
     requires { IsTrue (is_sorted (node_view node.now)) }
-    ensures fits { IfOk result (λ b. b ≡ inside_fits (spec_view spec.now) (names_view path.old.items) (node_view node.now)) }
+    ensures fits { IfOk result (λ b. b ≡ inside_fits (spec_view spec.now)
+        (names_view path.old.items) (node_view node.now)) }
     ensures path { OnOk result (names_view path.new.items ≡ names_view path.old.items) }
 {
     match node {

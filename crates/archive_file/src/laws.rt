@@ -5,7 +5,7 @@ ghost use Rattle.keyed_tree.specs.Data.{PlainKeyed};
 ghost use Rattle.keyed_tree.specs.Kids.{IsOrdered};
 ghost use Rattle.keyed_tree.specs.Proper.{IsElement, IsProper};
 ghost use Rattle.keyed_tree.specs.WellFormed.{IsKeyedWellFormed};
-ghost use Rattle.archive_tree.specs.Stands.{AllAlike};
+ghost use Rattle.keyed_tree.specs.Alike.{AllAlike};
 ghost use Rattle.record_format.specs.Fronts.{fixed, header};
 ghost use Rattle.archive_file.specs.KeyedBy.{IsKeyedBy, AreKeyedBy};
 ghost use Rattle.archive_file.specs.Sound.{SoundAs};

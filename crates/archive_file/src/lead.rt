@@ -17,8 +17,7 @@ ghost use Rattle.archive_tree.specs.Data.{PlainAlt, node_label};
 ghost use Rattle.archive_tree.specs.Seek.{node_with, rise, is_sorted};
 ghost use Rattle.archive_tree.specs.Stands.{labels};
 ghost use Rattle.archive_tree.specs.View.{alt_view, node_view, nodes_view};
-ghost use Rattle.archive_file.specs.Fits.{attr_label, bare_label, ends_in};
-ghost use Rattle.archive_file.specs.NodeFits.{bodies_are, lasting, always, node_leads_here, node_leads, node_has_keys};
+ghost use Rattle.archive_file.specs.NodeFits.{attr_label, bare_label, ends_in, bodies_are, lasting, always, node_leads_here, node_leads, node_has_keys};
 
 use archive_tree::{ANode, Alt};
 use jsonml_tree::{Attr, Content, Scalar};
@@ -30,7 +29,8 @@ use std::cmp::Ordering;
 #[tactic(auto, using(crate::proofs::Nodes::sorted))]
 pub(crate) fn has_keys(spec: &Spec, context: &[String], tag: &str, node: &ANode) -> bool
     requires { IsTrue (is_sorted (node_view node.now)) }
-    ensures { result ≡ node_has_keys (rule_of (spec_view spec.now) (names_view context.now) tag.now) (node_label (node_view node.now)).keys (node_view node.now) }
+    ensures { result ≡ node_has_keys (rule_of (spec_view spec.now) (names_view context.now) tag.now)
+        (node_label (node_view node.now)).keys (node_view node.now) }
 {
     match spec.rule(context, tag) {
         Some(rule) => do_lead(&rule.paths, &node.label().keys, node),
@@ -40,7 +40,8 @@ pub(crate) fn has_keys(spec: &Spec, context: &[String], tag: &str, node: &ANode)
 
 fn do_lead(paths: &[KeyPath], keys: &[KeyVal], node: &ANode) -> bool
     requires { IsTrue (is_sorted (node_view node.now)) }
-    ensures { result ≡ pointwise (λ (p : PlainPath) v. node_leads p.tags p.attr v (node_view node.now)) (map path_view paths.now) (map key_view keys.now) }
+    ensures { result ≡ pointwise (λ (p : PlainPath) v. node_leads p.tags p.attr v
+        (node_view node.now)) (map path_view paths.now) (map key_view keys.now) }
 {
     let mut values = keys.iter();
     for path in paths {
@@ -57,7 +58,8 @@ fn do_lead(paths: &[KeyPath], keys: &[KeyVal], node: &ANode) -> bool
 /// Whether the key path leads from the node to the value in every version.
 fn leads(path: &KeyPath, value: &KeyVal, from: &ANode) -> bool
     requires { IsTrue (is_sorted (node_view from.now)) }
-    ensures { result ≡ node_leads (path_view path.now).tags (path_view path.now).attr (key_view value.now) (node_view from.now) }
+    ensures { result ≡ node_leads (path_view path.now).tags (path_view path.now).attr
+        (key_view value.now) (node_view from.now) }
 {
     let mut node = from;
     for tag in &path.tags {
@@ -72,7 +74,8 @@ fn leads(path: &KeyPath, value: &KeyVal, from: &ANode) -> bool
 #[tactic(auto, using(archive_tree::proofs::NodeViews::nodes, crate::proofs::Nodes::sorted))]
 fn leads_here(attr: &Option<String>, value: &KeyVal, node: &ANode) -> bool
     requires { IsTrue (is_sorted (node_view node.now)) }
-    ensures { result ≡ node_leads_here (option_map string_bytes attr.now) (key_view value.now) (node_view node.now) }
+    ensures { result ≡ node_leads_here (option_map string_bytes attr.now) (key_view value.now)
+        (node_view node.now) }
 {
     match node {
         ANode::Inner { kids, .. } => match attr {
@@ -85,7 +88,8 @@ fn leads_here(attr: &Option<String>, value: &KeyVal, node: &ANode) -> bool
 
 fn has_attr(kids: &[ANode], name: &str, value: &KeyVal) -> bool
     requires { IsTrue (rise (labels (nodes_view kids.now))) }
-    ensures { result ≡ always (bodies_are (key_view value.now)) (node_with (attr_label name.now) (map node_view kids.now)) }
+    ensures { result ≡ always (bodies_are (key_view value.now)) (node_with (attr_label name.now)
+        (map node_view kids.now)) }
 {
     match attr_kid(kids, name) {
         Some(kid) => are_bodies(value, kid),
@@ -96,7 +100,8 @@ fn has_attr(kids: &[ANode], name: &str, value: &KeyVal) -> bool
 /// The kid that is an element of that tag without key values, where all versions of its parent have it.
 fn bare_kid<'a>(kids: &'a [ANode], tag: &str) -> Option<&'a ANode>
     requires { IsTrue (rise (labels (nodes_view kids.now))) }
-    ensures { option_map (λ k. node_view k.now) result ≡ lasting (node_with (bare_label tag.now) (map node_view kids.now)) }
+    ensures { option_map (λ k. node_view k.now) result
+        ≡ lasting (node_with (bare_label tag.now) (map node_view kids.now)) }
 {
     match kids.binary_search_by(|kid| order_bare(kid.label(), tag)) {
         Ok(at) => lasting(&kids[at]),
@@ -107,7 +112,8 @@ fn bare_kid<'a>(kids: &'a [ANode], tag: &str) -> Option<&'a ANode>
 /// The kid that is the attribute of that name, where all versions of its parent have it.
 fn attr_kid<'a>(kids: &'a [ANode], name: &str) -> Option<&'a ANode>
     requires { IsTrue (rise (labels (nodes_view kids.now))) }
-    ensures { option_map (λ k. node_view k.now) result ≡ lasting (node_with (attr_label name.now) (map node_view kids.now)) }
+    ensures { option_map (λ k. node_view k.now) result
+        ≡ lasting (node_with (attr_label name.now) (map node_view kids.now)) }
 {
     match kids.binary_search_by(|kid| order_attr(kid.label(), name)) {
         Ok(at) => lasting(&kids[at]),
@@ -166,7 +172,8 @@ fn are_bodies(value: &KeyVal, node: &ANode) -> bool
 }
 
 fn are_alts(value: &KeyVal, alts: &[Alt]) -> bool
-    ensures { result ≡ list_all (λ (x : PlainAlt). is_eq (key_cmp x.body (key_view value.now))) (map alt_view alts.now) }
+    ensures { result ≡ list_all (λ (x : PlainAlt). is_eq (key_cmp x.body (key_view value.now)))
+        (map alt_view alts.now) }
 {
     for alt in alts {
         if !alt.body.order(value).is_eq() {
@@ -178,7 +185,8 @@ fn are_alts(value: &KeyVal, alts: &[Alt]) -> bool
 
 // Each content has the value, or its attribute has it where one is named.
 fn do_end(attr: &Option<String>, value: &KeyVal, alts: &[Alt]) -> bool
-    ensures { result ≡ list_all (λ (x : PlainAlt). ends_in (option_map string_bytes attr.now) (key_view value.now) x.body) (map alt_view alts.now) }
+    ensures { result ≡ list_all (λ (x : PlainAlt). ends_in (option_map string_bytes attr.now)
+        (key_view value.now) x.body) (map alt_view alts.now) }
 {
     for alt in alts {
         if !ends_in(attr, value, &alt.body) {
@@ -189,7 +197,8 @@ fn do_end(attr: &Option<String>, value: &KeyVal, alts: &[Alt]) -> bool
 }
 
 fn ends_in(attr: &Option<String>, value: &KeyVal, body: &Body) -> bool
-    ensures { result ≡ ends_in (option_map string_bytes attr.now) (key_view value.now) (key_view body.now) }
+    ensures { result ≡ ends_in (option_map string_bytes attr.now) (key_view value.now)
+        (key_view body.now) }
 {
     match body {
         KeyVal::Scalar(_) => false,
@@ -210,7 +219,8 @@ fn is_content(content: &Content, value: &KeyVal) -> bool
 }
 
 fn is_attr_value(content: &Content, name: &str, value: &KeyVal) -> bool
-    ensures { result ≡ ends_in (Some name.now) (key_view value.now) (inside (content_view content.now)) }
+    ensures { result ≡ ends_in (Some name.now) (key_view value.now)
+        (inside (content_view content.now)) }
 {
     match attribute(&content.attrs, name) {
         Some(own) => is_scalar(own, value),
@@ -228,7 +238,8 @@ fn is_scalar(own: &Scalar, value: &KeyVal) -> bool
 }
 
 fn attribute<'a>(attrs: &'a [Attr], name: &str) -> Option<&'a Scalar>
-    ensures { option_map (λ s. scalar_view s.now) result ≡ scalar_named name.now (map attr_view attrs.now) }
+    ensures { option_map (λ s. scalar_view s.now) result
+        ≡ scalar_named name.now (map attr_view attrs.now) }
 {
     for attr in attrs {
         if attr.name.as_str() == name {

@@ -39,7 +39,8 @@ fn is_shallow(node: &ANode, left: u32) -> bool
 }
 
 fn are_alts_shallow(alts: &[Alt], left: u32) -> bool
-    ensures { result ≡ list_all (λ (x : PlainAlt). nat_lt (content_depth (content_of x.body)) left) (map alt_view alts.now) }
+    ensures { result ≡ list_all (λ (x : PlainAlt). nat_lt (content_depth (content_of x.body)) left)
+        (map alt_view alts.now) }
 {
     for alt in alts {
         if !is_body_shallow(&alt.body, left) {

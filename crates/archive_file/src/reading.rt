@@ -22,9 +22,11 @@ use std::alloc::Global;
 use version_set::VersionSet;
 
 fn read_record(alloc: Global, bytes: &[u8], at: usize) -> Result<(Rec, usize), FileFault>
-    ensures found { IfOk result (λ r. record_at (drop at bytes.now) ≡ Some (rec_view r.0, drop r.1 bytes.now)) }
+    ensures found { IfOk result (λ r. record_at (drop at bytes.now)
+        ≡ Some (rec_view r.0, drop r.1 bytes.now)) }
     ensures is { IfOk result (λ r. IsRec (rec_view r.0)) }
-    ensures spelled { IfOk result (λ r. drop at bytes.now ≡ rec_bytes (rec_view r.0) ++ drop r.1 bytes.now) }
+    ensures spelled { IfOk result (λ r. drop at bytes.now
+        ≡ rec_bytes (rec_view r.0) ++ drop r.1 bytes.now) }
     ensures further { IfOk result (λ r. at < r.1) }
     ensures within { IfOk result (λ r. r.1 ≤ length bytes.now) }
     ensures damage { IfErr result (λ e. IfDamage e (record_at (drop at bytes.now) ≡ None)) }
@@ -38,8 +40,10 @@ fn read_record(alloc: Global, bytes: &[u8], at: usize) -> Result<(Rec, usize), F
 
 // The alternatives of a leaf, to the record that closes it, and the offset behind that. Most leaves have one.
 fn read_alts(alloc: Global, bytes: &[u8], start: usize) -> Result<(Vec<Alt>, usize), FileFault>
-    ensures found { (xs : List PlainAlt) (rest : List ℕ) → AltsAt xs rest (drop start bytes.now) → Finds result (λ r. (map alt_view r.0.items ≡ xs) × (drop r.1 bytes.now ≡ rest)) }
-    ensures lie { IfOk result (λ r. AltsAt (map alt_view r.0.items) (drop r.1 bytes.now) (drop start bytes.now)) }
+    ensures found { (xs : List PlainAlt) (rest : List ℕ) → AltsAt xs rest (drop start bytes.now)
+        → Finds result (λ r. (map alt_view r.0.items ≡ xs) × (drop r.1 bytes.now ≡ rest)) }
+    ensures lie { IfOk result (λ r. AltsAt (map alt_view r.0.items) (drop r.1 bytes.now)
+        (drop start bytes.now)) }
     ensures further { IfOk result (λ r. start < r.1) }
     ensures within { IfOk result (λ r. r.1 ≤ length bytes.now) }
 {
@@ -69,9 +73,11 @@ fn read_node(
     parent: &VersionSet,
 ) -> Result<(ANode, usize, u64), FileFault>
     requires { IsSet (pairs_of parent.now) }
-    ensures found { (k : PlainNode) (rest : List ℕ) → NodeAt (pairs_of parent.now) k rest depth (drop at bytes.now)
+    ensures found { (k : PlainNode) (rest : List ℕ)
+        → NodeAt (pairs_of parent.now) k rest depth (drop at bytes.now)
         → Finds result (λ r. (node_view r.0 ≡ k) × (drop r.1 bytes.now ≡ rest)) }
-    ensures lies { IfOk result (λ r. NodeAt (pairs_of parent.now) (node_view r.0) (drop r.1 bytes.now) depth (drop at bytes.now)) }
+    ensures lies { IfOk result (λ r. NodeAt (pairs_of parent.now) (node_view r.0)
+        (drop r.1 bytes.now) depth (drop at bytes.now)) }
     ensures dir { IfOk result (λ r. r.2 ≡ (node_piece (pairs_of parent.now) (node_view r.0)).dir) }
     ensures further { IfOk result (λ r. at < r.1) }
     ensures within { IfOk result (λ r. r.1 ≤ length bytes.now) }
@@ -107,10 +113,13 @@ pub fn read_row(
     set: &VersionSet,
 ) -> Result<(Vec<ANode>, usize, u64), FileFault>
     requires { IsSet (pairs_of set.now) }
-    ensures found { (ks : PlainNodes) (rest : List ℕ) → RowAt (pairs_of set.now) ks rest depth (drop start bytes.now)
+    ensures found { (ks : PlainNodes) (rest : List ℕ)
+        → RowAt (pairs_of set.now) ks rest depth (drop start bytes.now)
         → Finds result (λ r. (nodes_view r.0.items ≡ ks) × (drop r.1 bytes.now ≡ rest)) }
-    ensures lie { IfOk result (λ r. RowAt (pairs_of set.now) (nodes_view r.0.items) (drop r.1 bytes.now) depth (drop start bytes.now)) }
-    ensures dir { IfOk result (λ r. r.2 ≡ length (dir_bytes (dir_of (node_pieces (pairs_of set.now) (nodes_view r.0.items))))) }
+    ensures lie { IfOk result (λ r. RowAt (pairs_of set.now) (nodes_view r.0.items)
+        (drop r.1 bytes.now) depth (drop start bytes.now)) }
+    ensures dir { IfOk result (λ r. r.2
+        ≡ length (dir_bytes (dir_of (node_pieces (pairs_of set.now) (nodes_view r.0.items))))) }
     ensures further { IfOk result (λ r. start ≤ r.1) }
     ensures within { IfOk result (λ r. r.1 ≤ length bytes.now) }
 {

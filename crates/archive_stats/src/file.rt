@@ -1,5 +1,5 @@
 // The counts of an archive file in a folder.
-ghost use Rattle.std.specs.Prelude.{◌≡◌, ◌≤◌, ℕ, List, Some, IfOk, IfErr};
+ghost use Rattle.std.specs.Prelude.{◌≡◌, ◌≤◌, ℕ, List, Some, None, IfOk, IfErr};
 ghost use Rattle.key_spec.specs.Data.{PlainRule};
 ghost use Rattle.keyed_tree.specs.Data.{PlainKeyed};
 ghost use Rattle.archive_tree.specs.Data.{PlainArchive};
@@ -39,11 +39,16 @@ pub fn stats<F: Folder>(
     ensures counts { (files : Files) (bytes : List ℕ) (rules : List PlainRule)
         (vs : List PlainKeyed) (a : PlainArchive)
         → F.files folder.old ≡ Some files → front_of files name.now length ≡ Some bytes
-        → SoundAs rules vs bytes → ArchiveOf vs a → IfOk result (λ c. counts_view c ≡ counts rules a) }
+        → SoundAs rules vs bytes → ArchiveOf vs a
+        → IfOk result (λ c. counts_view c ≡ counts rules a) }
     ensures damage { (files : Files) (bytes : List ℕ)
         → F.files folder.old ≡ Some files → front_of files name.now length ≡ Some bytes
         → IfErr result (λ e. IfDamage e ((rules : List PlainRule) (vs : List PlainKeyed)
         → ¬ (SoundAs rules vs bytes))) }
+
+    // There are no counts of a file that has fewer bytes.
+    ensures short { (files : Files) → F.files folder.old ≡ Some files
+        → front_of files name.now length ≡ None → IfOk result (λ c. ⊥) }
 {
     match read_front(alloc, folder, name, length) {
         Ok(bytes) if (bytes.len() as u64) < length => Err(StatsFault::Damage),
@@ -55,8 +60,11 @@ pub fn stats<F: Folder>(
 
 // What is counted of the archive that the bytes are.
 fn count_sound(alloc: Global, bytes: &[u8]) -> Result<Counts, StatsFault>
-    ensures counts { (rules : List PlainRule) (vs : List PlainKeyed) (a : PlainArchive) → SoundAs rules vs bytes.now → ArchiveOf vs a → IfOk result (λ c. counts_view c ≡ counts rules a) }
-    ensures damage { IfErr result (λ e. IfDamage e ((rules : List PlainRule) (vs : List PlainKeyed) → ¬ (SoundAs rules vs bytes.now))) }
+    ensures counts { (rules : List PlainRule) (vs : List PlainKeyed) (a : PlainArchive)
+        → SoundAs rules vs bytes.now → ArchiveOf vs a
+        → IfOk result (λ c. counts_view c ≡ counts rules a) }
+    ensures damage { IfErr result (λ e. IfDamage e ((rules : List PlainRule) (vs : List PlainKeyed)
+        → ¬ (SoundAs rules vs bytes.now))) }
     ensures no_folder { IfErr result (λ e. IfFolder e ⊥) }
 {
     match decode_file(alloc, bytes) {

@@ -24,7 +24,8 @@ pub fn counts_of(alloc: Global, spec: &Spec, archive: &Archive) -> Result<Counts
     requires keyed { (vs : List PlainKeyed)
         → ArchiveOf vs (archive_view archive.now) → AreKeyedBy (spec_view spec.now) vs }
     requires file { (vs : List PlainKeyed)
-        → ArchiveOf vs (archive_view archive.now) → (bytes : List ℕ) × FileOf (spec_view spec.now) vs bytes }
+        → ArchiveOf vs (archive_view archive.now)
+        → (bytes : List ℕ) × FileOf (spec_view spec.now) vs bytes }
     ensures { IfOk result (λ c. counts_view c
         ≡ counts (spec_view spec.now) (archive_view archive.now)) }
 {

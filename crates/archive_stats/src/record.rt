@@ -8,16 +8,15 @@ ghost use Rattle.archive_stats.specs.Tally.{is_stored, counted, IsBelow};
 ghost use Rattle.archive_stats.specs.View.{counts_view};
 
 use crate::counts::Counts;
-use record_format::{StampView, View, view};
-
-/// A record without its body: a byte of its kind, and eight of the body's length.
-const FRAME: usize = 9;
+use record_format::{FRAME, StampView, View, view};
 
 /// The counts with one more record, which has these bytes.
 pub(crate) fn with_record(counts: Counts, bytes: &[u8]) -> Counts
     requires { IsBelow (2 ^ 64 - 2) (counts_view counts) }
-    ensures counted { (r : PlainRec) → IsRec r → bytes.now ≡ rec_bytes r → counts_view result ≡ counted (counts_view counts) r }
-    ensures below { (n : ℕ) → IsBelow n (counts_view counts) → IsBelow (n + 1) (counts_view result) }
+    ensures counted { (r : PlainRec) → IsRec r → bytes.now ≡ rec_bytes r
+        → counts_view result ≡ counted (counts_view counts) r }
+    ensures below { (n : ℕ) → IsBelow n (counts_view counts)
+        → IsBelow (n + 1) (counts_view result) }
 {
     let largest = counts.largest.max(bytes.len() as u64);
     match view(bytes) {

@@ -24,7 +24,8 @@ const FIELDS: usize = 14;
 
 /// The counts of the file with these bytes, which has so many versions.
 pub(crate) fn count_file(versions: u32, bytes: &[u8]) -> Counts
-    ensures { (rules : List PlainRule) (a : PlainArchive) → a.n ≡ versions → HasFile rules a → bytes.now ≡ file_bytes rules a
+    ensures { (rules : List PlainRule) (a : PlainArchive) → a.n ≡ versions → HasFile rules a
+        → bytes.now ≡ file_bytes rules a
         → counts_view result ≡ counts rules a }
 {
     count_records(versions, header_length(bytes), bytes)
@@ -32,7 +33,8 @@ pub(crate) fn count_file(versions: u32, bytes: &[u8]) -> Counts
 
 // The length of the header of a file, from the length of the text in it.
 fn header_length(bytes: &[u8]) -> usize
-    ensures { (rules : List PlainRule) (a : PlainArchive) → HasFile rules a → bytes.now ≡ file_bytes rules a
+    ensures { (rules : List PlainRule) (a : PlainArchive) → HasFile rules a
+        → bytes.now ≡ file_bytes rules a
         → result ≡ length (header_bytes rules a.n) }
 {
     match take_u32(bytes, TEXT_LENGTH) {
@@ -43,7 +45,8 @@ fn header_length(bytes: &[u8]) -> usize
 
 // The counts of the records that stand one behind another from the offset on, which is the header's length.
 fn count_records(versions: u32, header: usize, bytes: &[u8]) -> Counts
-    ensures { (records : List PlainRec) (tail : List ℕ) → AllByRecursion IsRec records → drop header bytes.now ≡ flat_map rec_bytes records ++ tail → length tail < 9
+    ensures { (records : List PlainRec) (tail : List ℕ) → AllByRecursion IsRec records
+        → drop header bytes.now ≡ flat_map rec_bytes records ++ tail → length tail < 9
         → counts_view result ≡ tallied (before_records versions header (length bytes.now)) records }
 {
     let mut counts = Counts {

@@ -9,3 +9,4 @@ pub mod ShapeLaws
 pub mod HeaderLaws
 pub mod LentParts
 pub mod Frames
+pub mod Pieces

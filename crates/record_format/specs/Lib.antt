@@ -4,6 +4,7 @@ pub mod Spelling
 pub mod Bounds
 pub mod Shapes
 pub mod Reading
+pub mod Nested
 pub mod Nodes
 pub mod Files
 pub mod Fronts

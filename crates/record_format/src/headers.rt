@@ -1,5 +1,5 @@
 // The header of an archive file.
-ghost use Rattle.std.specs.Prelude.{◌≡◌, ◌≤◌, ◌++◌, length, drop, Ok, option_map, nat_le, bytes_eq, IfOk, IfSome, IfErr, OnOk};
+ghost use Rattle.std.specs.Prelude.{◌≡◌, ◌≤◌, ◌++◌, length, drop, Ok, option_map, nat_le, bytes_eq, IfOk, IfSome, OnOk};
 ghost use Rattle.std.specs.Int.{w32};
 ghost use Rattle.key_spec.specs.Canonical.{canonical, spelled_by};
 ghost use Rattle.key_spec.specs.Closed.{closed};

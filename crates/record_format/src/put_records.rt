@@ -12,7 +12,7 @@ ghost use Rattle.record_parts.specs.Bounds.{IsLabel, IsValue};
 ghost use Rattle.record_format.specs.Bounds.{IsRec};
 
 use crate::put_directory::{lend_sets, put_directory};
-use crate::rec::{ALT, END, Entry, INNER, LEAF, LEAF_END, Rec};
+use crate::rec::{ALT, END, Entry, FRAME, INNER, LEAF, LEAF_END, Rec};
 use keyed_tree::{Body, Label};
 use record_parts::{put_label, put_stamp, put_value};
 use std::alloc::{AllocError, Global};
@@ -22,12 +22,12 @@ use xa_fields::{put_u8, put_u64};
 /// Appends the kind of a record, and eight bytes for the length of its body, and answers where the
 /// body begins.
 #[tactic(auto, using(xa_fields::proofs::Combinators::growth))]
-fn open(out: &mut Vec<u8>, kind: u8) -> Result<usize, AllocError>
+pub fn open(out: &mut Vec<u8>, kind: u8) -> Result<usize, AllocError>
     ensures ok { OnOk result (out.new.items ≡ out.old.items ++ kind ∷ u64_bytes 0) }
     ensures at { IfOk result (λ at. at ≡ length out.old.items + 9) }
     ensures grows { Grows out.old.items out.new.items }
 {
-    let at = out.len() + 9;
+    let at = out.len() + FRAME;
     put_u8(out, kind)?;
     put_u64(out, 0)?;
     Ok(at)
@@ -42,7 +42,7 @@ fn set_u64(out: &mut Vec<u8>, at: usize, n: u64)
 }
 
 /// Sets the length of the body that begins at this offset and goes to the end.
-fn close(out: &mut Vec<u8>, at: usize)
+pub fn close(out: &mut Vec<u8>, at: usize)
     requires room { 9 ≤ at }
     requires within { at ≤ length out.old.items }
     ensures { (front body : List ℕ) (kind : ℕ)

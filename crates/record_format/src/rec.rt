@@ -2,6 +2,9 @@
 use keyed_tree::{Body, Label};
 use version_set::VersionSet;
 
+/// A record has so many bytes before its body: one of its kind, and eight of the body's length.
+pub const FRAME: usize = 9;
+
 /// The kind of the record that opens an inner node.
 pub const INNER: u8 = 1;
 

@@ -4,8 +4,7 @@ use Rattle.keyed_tree.specs.Order.{label_cmp}
 use Rattle.keyed_tree.proofs.Kids.{search_seen}
 use Rattle.archive_tree.specs.Data.{node_label}
 use Rattle.archive_tree.specs.View.{node_view}
-use Rattle.archive_file.specs.Fits.{attr_label}
-use Rattle.archive_file.specs.NodeFits.{lasting}
+use Rattle.archive_file.specs.NodeFits.{attr_label, lasting}
 use Rattle.archive_file.proofs.Nodes.{labels-rise}
 use Rattle.archive_file.proofs.lead.attr_kid.Goals as goal
 

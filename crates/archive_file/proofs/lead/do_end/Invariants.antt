@@ -3,7 +3,7 @@ use Rattle.std.specs.List.{list_all}
 use Rattle.keyed_tree.specs.View.{key_view}
 use Rattle.archive_tree.specs.Data.{PlainAlt}
 use Rattle.archive_tree.specs.View.{alt_view}
-use Rattle.archive_file.specs.Fits.{ends_in}
+use Rattle.archive_file.specs.NodeFits.{ends_in}
 use Rattle.archive_file.proofs.lead.do_end.Given as goal
 
 -- what is left decides

@@ -2,8 +2,7 @@ use Rattle.std.proofs.Common.{◌≡◌, ◌∙◌, None, Some, map, arith, sym,
 use Rattle.keyed_tree.specs.View.{key_view}
 use Rattle.archive_tree.specs.Seek.{node_with}
 use Rattle.archive_tree.specs.View.{node_view}
-use Rattle.archive_file.specs.Fits.{bare_label}
-use Rattle.archive_file.specs.NodeFits.{lasting}
+use Rattle.archive_file.specs.NodeFits.{bare_label, lasting}
 use Rattle.archive_file.proofs.Nodes.{stops-at, goes-on-at, lasting-sorted}
 use Rattle.archive_file.proofs.lead.leads.Goals as goal
 

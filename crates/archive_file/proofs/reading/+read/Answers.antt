@@ -123,6 +123,18 @@ read_node-returns-clause-found t c = λ k rest h. (
     let kind = node-kind (pairs_of c.args.parent.now) k rest c.args.depth (drop c.args.at c.args.bytes.now) h _ (drop c.in_ok-rec.next c.args.bytes.now) (rw c.in-LeafEnd.is at c.in_ok-rec.ensures.found) in
     absurd (omega (arith, kind)))
 
+pub read_node-returns-in-Inner-clause-further : goal.read_node-returns-in-Inner-clause-further
+read_node-returns-in-Inner-clause-further t c = omega (arith, c.in_ok-rec.ensures.further, c.in_ok-kids-in-Inner.ensures.further)
+
+pub read_node-returns-in-Inner-clause-within : goal.read_node-returns-in-Inner-clause-within
+read_node-returns-in-Inner-clause-within t c = c.in_ok-kids-in-Inner.ensures.within
+
+pub read_node-returns-in-Leaf-clause-further : goal.read_node-returns-in-Leaf-clause-further
+read_node-returns-in-Leaf-clause-further t c = omega (arith, c.in_ok-rec.ensures.further, c.in_ok-alts-in-Leaf.ensures.further)
+
+pub read_node-returns-in-Leaf-clause-within : goal.read_node-returns-in-Leaf-clause-within
+read_node-returns-in-Leaf-clause-within t c = c.in_ok-alts-in-Leaf.ensures.within
+
 -- ---- rows
 
 pub read_row-loop-kind-init : goal.read_row-loop-kind-init
@@ -230,3 +242,6 @@ read_row-loop-kind-preserved t c =
       each = omega (arith, ap length c.in_ok-push.ensures.items, ap length c.in_ok-push-2.ensures.items, length-append l.entries.items (entry ∷ []), length-append l.nodes.items (read.node ∷ []), l.invariant.each);
       further = omega (arith, read.ensures.further);
     }
+
+pub read_row-returns-then-kind-eq-END-clause-within : goal.read_row-returns-then-kind-eq-END-clause-within
+read_row-returns-then-kind-eq-END-clause-within t c = c.in-Some.ensures.next

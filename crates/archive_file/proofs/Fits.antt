@@ -1,43 +1,17 @@
 -- What holds at each node of a keyed tree that is keyed by a specification.
-use Rattle.std.specs.Prelude.{ℕ, Bool, true, false, not, ◌&&◌, List, [], ◌∷◌, Option, Some, None, if◌then◌else◌}
+use Rattle.std.proofs.Common.{Bool, true, false, ◌&&◌, List, [], ◌∷◌, Option, Some, None, ℕ}
+use Rattle.std.specs.Prelude.{not, if◌then◌else◌}
 use Rattle.std.specs.Cmp.Lexicographic.{pointwise}
-use Rattle.std.specs.Option.{option_map}
-use Rattle.std.specs.Ordering.{is_eq}
-use Rattle.jsonml_tree.specs.Data.{PlainContent}
-use Rattle.keyed_tree.specs.Data.{attr, tag, PlainKey, scalar, inside, PlainLabel, PlainKeyed, inner, leaf, PlainKids, no_kids, kid, label_of, kids_of}
+use Rattle.keyed_tree.specs.Data.{PlainKey, PlainKeyed, inner, leaf, PlainKids, no_kids, kid, label_of, kids_of}
 use Rattle.keyed_tree.specs.Kids.{ascend, kid_at}
-use Rattle.keyed_tree.specs.Order.{key_cmp}
 use Rattle.keyed_tree.specs.Plain.{name_bytes}
 use Rattle.keyed_tree.specs.Proper.{is_tag, has_no_keys, is_scalar, is_content}
 use Rattle.key_spec.specs.Data.{PlainPath, PlainRule}
 use Rattle.key_spec.specs.Rules.{rule_of, is_frontier, below}
-use Rattle.key_rules.specs.Reach.{attrs_in, scalar_named}
 use Rattle.archive_tree.specs.Stands.{has_body}
+use Rattle.archive_file.specs.NodeFits.{attr_label, bare_label, on_some, ends_in}
 
 -- ---- where a key path leads
-
--- the label of an attribute
-abbrev pub attr_label : List ℕ → PlainLabel
-attr_label s = record { name = attr s; keys = [] }
-
--- the label of an element without key values
-abbrev pub bare_label : List ℕ → PlainLabel
-bare_label t = record { name = tag t; keys = [] }
-
--- the test of what is there, and false where nothing is
-abbrev pub on_some : {X : Type 0} → (X → Bool) → Option X → Bool
-on_some p None = false
-on_some p (Some x) = p x
-
--- what a key path has at the element where its tags end: the content, or the scalar of the attribute that it names
-abbrev pub end_value : Option (List ℕ) → PlainContent → Option PlainKey
-end_value None c = Some (inside c)
-end_value (Some name) c = option_map (λ s. scalar s) (scalar_named name (attrs_in c))
-
--- a key path whose tags end at a leaf with that body has the value
-abbrev pub ends_in : Option (List ℕ) → PlainKey → PlainKey → Bool
-ends_in at v (scalar s) = false
-ends_in at v (inside c) = on_some (λ w. is_eq (key_cmp w v)) (end_value at c)
 
 -- A key path whose tags end at the node has the value. Above the frontier it has that of the attribute that it names.
 abbrev pub leads_here : Option (List ℕ) → PlainKey → PlainKeyed → Bool
