@@ -1,0 +1,4 @@
+pub mod WalkLaws
+pub mod FitLaws
+pub mod CallLaws
+pub mod GivenLaws

@@ -1,0 +1,15 @@
+use Rattle.record_writer.proofs.WalkLaws.{appended-append, after-append, walk-spells}
+use Rattle.record_writer.proofs.FitLaws.{walk-fits-exactly}
+use Rattle.record_writer.proofs.laws.walks_spell_files.Goals as goal
+
+pub returns-clause-file : goal.returns-clause-file
+returns-clause-file c = walk-spells
+
+pub returns-clause-appended : goal.returns-clause-appended
+returns-clause-appended c = appended-append
+
+pub returns-clause-after : goal.returns-clause-after
+returns-clause-after c = after-append
+
+pub returns-clause-fits : goal.returns-clause-fits
+returns-clause-fits c = walk-fits-exactly

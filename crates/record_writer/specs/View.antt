@@ -1,0 +1,14 @@
+-- What contracts see of a writer.
+use Rattle.std.specs.Prelude.{◌≡◌}
+use Rattle.record_writer.specs.Data.{PlainWriter, WriterCall}
+use Rattle.record_writer.specs.Calls.{appended, after}
+use Rattle.record_writer.specs.Rows.{held}
+use Rattle.record_writer.specs.declared.writer.Writer.{Writer}
+
+abbrev pub writer_view : Writer → PlainWriter
+writer_view w = held w.written w.row w.inners.items w.leaf
+
+-- the writer has spelled what a call appends, and holds what it holds afterwards
+pub record IsReady (old : PlainWriter) (c : WriterCall) (w : Writer) : Type 0 where
+  pub bytes : w.record.items ≡ appended old c
+  pub is : writer_view w ≡ after old c

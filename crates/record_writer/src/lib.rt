@@ -1,0 +1,14 @@
+//! Writing an archive file into the draft of a folder, record by record.
+#![tactic(auto)]
+
+mod fault;
+mod given;
+mod laws;
+mod rows;
+mod spell;
+mod writer;
+
+pub use fault::WriteFault;
+pub use given::{BodyFrom, LabelFrom};
+pub use laws::walks_spell_files;
+pub use writer::Writer;

@@ -1,0 +1,73 @@
+// The nodes that stand begun.
+ghost use Rattle.std.specs.Prelude.{◌≡◌, length};
+
+use record_format::{Dir, Entry};
+use std::alloc::{AllocError, Global};
+use version_set::VersionSet;
+
+/// The finished children of a node that stands begun, or of the virtual root.
+#[derive(Drop)]
+pub struct Row {
+    /// The offset of the first child's first byte.
+    pub start: u64,
+    pub dir: Dir,
+    pub ghost paired: { length dir.sets.items ≡ length dir.entries.items },
+}
+
+/// An inner node that stands begun.
+#[derive(Drop)]
+pub struct Inner {
+    /// The offset of its first byte.
+    pub begin: u64,
+    /// Its effective set.
+    pub set: VersionSet,
+    /// The row that it stands in.
+    pub row: Row,
+}
+
+/// A leaf that stands begun.
+#[derive(Drop)]
+pub struct Leaf {
+    /// The offset of its first byte.
+    pub begin: u64,
+    /// Its effective set.
+    pub set: VersionSet,
+}
+
+impl Row {
+    ghost use Rattle.std.specs.Prelude.{◌≤◌, OnOk};
+    ghost use Rattle.version_set.specs.View.{pairs_of};
+    ghost use Rattle.record_writer.specs.Calls.{row_from, with_child};
+    ghost use Rattle.record_writer.specs.Rows.{row_view};
+
+    /// A row without children.
+    pub fn new(alloc: Global, start: u64) -> Row
+        ensures { row_view result ≡ row_from start }
+    {
+        let dir = Dir {
+            entries: Vec::new(alloc),
+            sets: Vec::new(alloc),
+        };
+        Row { start, dir }
+    }
+
+    /// Adds a child from one offset to another, with the length of the body of its END or 0.
+    pub fn add(&mut self, begin: u64, end: u64, dir: u64, set: VersionSet) -> Result<(), AllocError>
+        requires behind { self.old.start ≤ begin }
+        requires within { begin ≤ end }
+        ensures added { OnOk result (row_view self.new
+            ≡ with_child (row_view self.old) begin end dir (pairs_of set)) }
+        ensures start { self.new.start ≡ self.old.start }
+    {
+        self.dir.entries.reserve(1)?;
+        self.dir.sets.reserve(1)?;
+        let entry = Entry {
+            start: begin - self.start,
+            length: end - begin,
+            dir,
+        };
+        self.dir.entries.push_reserved(entry);
+        self.dir.sets.push_reserved(set);
+        Ok(())
+    }
+}

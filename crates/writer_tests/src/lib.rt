@@ -1,0 +1,7 @@
+//! Tests of the writer of archive files.
+#![tactic(auto)]
+
+#[cfg(test)]
+mod files;
+#[cfg(test)]
+mod refusals;
