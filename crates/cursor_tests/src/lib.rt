@@ -1,0 +1,7 @@
+//! Tests of the cursor over the records of a file.
+#![tactic(auto)]
+
+#[cfg(test)]
+mod cursors;
+#[cfg(test)]
+mod headers;

@@ -1,0 +1,83 @@
+-- What fills a buffer from the first bytes of a file.
+use Rattle.std.proofs.Common.{◌≡◌, ℕ, ◌+◌, ◌≤◌, true, false, ltb, leb, List, [], ◌∷◌, ◌++◌, length, take, drop, Option, Some, refl, sym, ap, ◌∙◌, arith, length-take-le, drop-drop, take_all, length-drop}
+use Rattle.std.specs.Prelude.{slice_index_or}
+use Rattle.std.specs.Int.{w64, from_be_bytes}
+use Rattle.std.specs.FinMap as map
+use Rattle.std.proofs.lemmas.Bool.{le-ltb}
+use Rattle.std.proofs.lemmas.Bool.Decides.{nat_tests}
+use Rattle.std.proofs.lemmas.List.{drop-take, drop_all, take_at, take-append-le}
+use Rattle.std.proofs.Math.Seq.{take-add}
+use Rattle.xa_fields.specs.Reading.{byte_at, number_at}
+use Rattle.xa_fields.proofs.Fields.{some_is}
+use Rattle.xa_outside.specs.Folder.{Files, bytes_or_none, front}
+use Rattle.record_parts.proofs.Readers.{passed_some}
+use Rattle.record_cursor.specs.Moves.{TellsFront}
+use Rattle.record_cursor.specs.Faults.{IfDamage}
+use Rattle.record_cursor.specs.Steps.{IsFrame}
+use Rattle.record_cursor.specs.declared.fault.CursorFault.{CursorFault}
+use Rattle.record_cursor.specs.declared.fault.CursorFault.TheVariants.{Damage, Folder, Memory}
+
+-- the first bytes of a file, and that it has so many
+record Fronted (file : List ℕ) (end : ℕ) (bytes : List ℕ) : Type 0 where
+  is : bytes ≡ take end file
+  within : end ≤ length file
+
+le-of : (m n : ℕ) → leb m n ≡ true → m ≤ n
+le-of m n h = grind (arith, nat_tests)
+
+fronted : (file bytes : List ℕ) (end : ℕ) → front end file ≡ Some bytes → Fronted file end bytes
+fronted file bytes end e = (let p = passed_some (leb end (length file)) (take end file) bytes e in record { is = sym p.1; within = le-of _ _ p.0 })
+
+pub front-length : (told : Option Files) (name bytes : List ℕ) (end : ℕ) → TellsFront told name end bytes → length bytes ≡ end
+front-length told name bytes end h =
+    let f = fronted (bytes_or_none (map.get h.0 name)) bytes end h.2 in
+    ap length f.is ∙ length-take-le _ _ f.within
+
+-- damage is not answered
+pub no-damage : (e : CursorFault) (Q : Type 0) → IfDamage e ⊥ → IfDamage e Q
+no-damage Damage Q h = absurd h
+no-damage Folder Q h = tt
+no-damage Memory Q h = tt
+
+pub damage-map : (e : CursorFault) (P Q : Type 0) → (P → Q) → IfDamage e P → IfDamage e Q
+damage-map Damage P Q f h = f h
+damage-map Folder P Q f h = tt
+damage-map Memory P Q f h = tt
+
+pub take-front : (n m : ℕ) (xs : List ℕ) → n + m ≤ length xs → take n (take (n + m) xs) ≡ take n xs
+take-front n m xs fits =
+    let len : length (take n xs) ≡ n = length-take-le n xs (omega arith) in
+    ap (take n) (take-add n m xs) ∙ take-append-le n (take n xs) (take m (drop n xs)) (omega (arith, len)) ∙ take_all n (take n xs) (omega (arith, len))
+
+-- ---- frames
+
+front-byte : (rest out : List ℕ) → out ≡ take 9 rest → 9 ≤ length rest → byte_at rest ≡ Some (slice_index_or out 0 0, drop 1 rest)
+front-byte [] out e long = absurd (omega arith)
+front-byte (b ∷ rest) out e long = ap (λ (bs : List ℕ). Some (slice_index_or bs 0 0, rest)) (sym e)
+
+front-number : (more : List ℕ) → 8 ≤ length more → number_at w64 (take 8 more) ≡ Some (from_be_bytes w64 (take 8 more), []) × (number_at w64 more ≡ Some (from_be_bytes w64 (take 8 more), drop 8 more))
+front-number more long = (
+    let len : length (take 8 more) ≡ 8 = length-take-le _ _ long in
+    let here : ltb (length (take 8 more)) 8 ≡ false = le-ltb _ _ (omega (arith, len)) in
+    let there : ltb (length more) 8 ≡ false = le-ltb _ _ long in
+    let all : take 8 (take 8 more) ≡ take 8 more = take_all 8 (take 8 more) (omega (arith, len)) in
+    let none : drop 8 (take 8 more) ≡ [] = drop_all 8 (take 8 more) (omega (arith, len)) in
+    (rw (here, all, none) refl, rw there refl))
+
+-- the frame that was read is the one that stands there
+pub frame-of : (rest out behind : List ℕ) (kind size : ℕ) → out ≡ take 9 rest → 9 ≤ length rest → kind ≡ slice_index_or out 0 0 → Some (size, behind) ≡ number_at w64 (drop 1 out) → IsFrame rest (kind, size)
+frame-of rest out behind kind size e long k n =
+    let more = drop 1 rest in
+    let room : 8 ≤ length more = omega (arith, length-drop 1 rest) in
+    let nine : drop 1 out ≡ take 8 more = ap (drop 1) e ∙ drop-take 1 8 rest in
+    let two = front-number more room in
+    let same = some_is (size, behind) (from_be_bytes w64 (take 8 more), []) (n ∙ ap (number_at w64) nine ∙ two.0) in
+    let is : size ≡ from_be_bytes w64 (take 8 more) = ap (λ (x : ℕ × List ℕ). x.0) same in
+    record {
+      kind = front-byte rest out e long ∙ ap (λ (b : ℕ). Some (b, drop 1 rest)) (sym k);
+      size = two.1 ∙ (λ i. Some (sym is i, drop-drop 8 1 rest i));
+    }
+
+-- the front of a buffer that was filled
+pub whole-front : (len : ℕ) (out rest : List ℕ) → length out ≡ len → take len (out ++ rest) ≡ out
+whole-front len out rest is = take_at out rest len is

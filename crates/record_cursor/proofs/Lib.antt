@@ -1,0 +1,5 @@
+pub mod Bodies
+pub mod Fills
+pub mod Comes
+pub mod Items
+pub mod Headers

@@ -1,0 +1,26 @@
+use Rattle.std.proofs.Common.{◌≡◌, None, Some, drop, sym, ap, ◌∙◌, arith}
+use Rattle.std.proofs.lemmas.List.{drop_all}
+use Rattle.record_cursor.specs.Items.{finish}
+use Rattle.record_cursor.specs.Next.{next_of, tail_at}
+use Rattle.record_cursor.specs.Places.{finished}
+use Rattle.record_cursor.specs.View.{place_view}
+use Rattle.record_cursor.specs.declared.place.Place.{Place}
+use Rattle.record_cursor.proofs.Fills.{front-length, damage-map}
+use Rattle.record_cursor.proofs.Comes.{ends, ends-not, ended}
+use Rattle.record_cursor.proofs.step.read_step.Goals as goal
+
+pub returns-in-Ok-clause-told : goal.returns-in-Ok-clause-told
+returns-in-Ok-clause-told g c = λ bytes tells. (
+    let len = front-length (g.F.Folder.files c.args.folder.now) c.args.name.now bytes c.args.length tells in
+    ap (λ (p : Place). next_of (place_view p) (drop c.args.at bytes)) c.in-Tail.is ∙ ends c.in-Tail.size (drop c.args.at bytes) (c.in-Ok.ensures.told bytes tells)
+    ∙ ap (λ bs. Some (finish, (finished, bs))) (sym (drop_all c.args.length bytes (omega (arith, len)))))
+
+pub returns-in-Err-clause-told : goal.returns-in-Err-clause-told
+returns-in-Err-clause-told g c = λ bytes tells. (
+    damage-map c.in-Err.fault (tail_at c.in-Tail.size (drop c.args.at bytes) ≡ None) (next_of (place_view c.args.place) (drop c.args.at bytes) ≡ None)
+    (λ e. ap (λ (p : Place). next_of (place_view p) (drop c.args.at bytes)) c.in-Tail.is ∙ ends-not c.in-Tail.size (drop c.args.at bytes) e) (c.in-Err.ensures.told bytes tells))
+
+pub returns-in-Finished-clause-told : goal.returns-in-Finished-clause-told
+returns-in-Finished-clause-told g c = λ bytes tells. (
+    ap (λ (p : Place). next_of (place_view p) (drop c.args.at bytes)) c.in-Finished.is ∙ ended (drop c.args.at bytes)
+    ∙ ap (λ (p : Place). Some (finish, (place_view p, drop c.args.at bytes))) (sym c.in-Finished.is))

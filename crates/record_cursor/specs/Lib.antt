@@ -1,0 +1,7 @@
+pub mod Items
+pub mod Places
+pub mod Next
+pub mod View
+pub mod Faults
+pub mod Moves
+pub mod Steps

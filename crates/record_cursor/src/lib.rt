@@ -1,0 +1,22 @@
+//! Reading an archive file record by record, over any folder.
+//!
+//! A header is read first; a cursor then gives one record after another, each read once and lent
+//! out of one buffer.
+#![tactic(auto)]
+
+mod cursor;
+mod fault;
+mod fill;
+mod front;
+mod header;
+mod item;
+mod laws;
+mod place;
+mod step;
+
+pub use cursor::Cursor;
+pub use fault::CursorFault;
+pub use front::read_header;
+pub use header::Header;
+pub use item::Item;
+pub use laws::{files_give_their_items, records_give_their_items};

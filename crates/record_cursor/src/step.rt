@@ -1,0 +1,198 @@
+// Reading one record, and judging whether it may come.
+ghost use Rattle.std.specs.Prelude.{◌≡◌, ◌+◌, ◌-◌, ◌<◌, ◌≤◌, ◌^◌, ℕ, List, [], drop, take, Some, IfOk, OnOk, bytes_eq, vec_len};
+ghost use Rattle.xa_fields.specs.Spelling.{u64_bytes};
+ghost use Rattle.xa_outside.specs.Numbers.{PullsAtMost, after_pull};
+ghost use Rattle.record_cursor.specs.Items.{PlainItem, finish};
+ghost use Rattle.record_cursor.specs.Moves.{TellsFront};
+ghost use Rattle.record_cursor.specs.Next.{item_in, next_of, tail_at};
+ghost use Rattle.record_cursor.specs.Steps.{OnlyReads, fault_of, Filled, Finds, IsFrame, IsInside, MayCome, IsRead, IsReadOf, read_item, body_read, Leads, step_view};
+ghost use Rattle.record_cursor.specs.View.{place_view};
+
+use crate::fault::CursorFault;
+use crate::fill::{fill, fill_buffer};
+use crate::item::Read;
+use crate::place::{Place, behind};
+use record_format::{END, LEAF_END};
+use xa_fields::take_u64;
+use xa_outside::Folder;
+
+/// A record without its body: a byte of its kind, and eight of the body's length.
+const FRAME: u64 = 9;
+
+/// The END's length once more, behind it.
+const TAIL: u64 = 8;
+
+/// What was read, and where the cursor stands behind it.
+#[derive(Clone, Copy)]
+pub(crate) struct Step {
+    pub(crate) read: Read,
+    pub(crate) place: Place,
+    pub(crate) at: u64,
+}
+
+/// What comes next where the cursor stands, with the parts to lend at the front of the buffer.
+pub(crate) fn read_step<F: Folder>(
+    folder: &mut F,
+    name: &str,
+    length: u64,
+    at: u64,
+    place: Place,
+    buffer: &mut Vec<u8>,
+) -> Result<Step, CursorFault>
+    requires { at ≤ length }
+    ensures reads { OnlyReads F.files F.draft F.faults folder.old folder.new (fault_of result) }
+    ensures pulls { PullsAtMost (length - at) (F.numbers folder.old) (F.numbers folder.new) }
+    ensures leads { IfOk result (λ step. (i : PlainItem) → IsRead step.read (vec_len buffer.new) i
+        → Leads (place_view place) at (F.numbers folder.old) (F.numbers folder.new) step i) }
+    ensures within { IfOk result (λ step. step.at ≤ length) }
+    ensures told { (bytes : List ℕ) → TellsFront (F.files folder.old) name.now length bytes
+        → Finds (step_view bytes buffer.new.items) result
+        (next_of (place_view place) (drop at bytes)) }
+{
+    match place {
+        Place::Nodes { .. } | Place::Leaf { .. } => {
+            read_record(folder, name, length, at, place, buffer)
+        }
+        Place::Tail { length: size } => match read_tail(folder, name, length, at, size) {
+            Ok(()) => Ok(Step {
+                read: Read::Finish,
+                place: Place::Finished,
+                at: length,
+            }),
+            Err(fault) => Err(fault),
+        },
+        Place::Finished => Ok(Step {
+            read: Read::Finish,
+            place,
+            at,
+        }),
+    }
+}
+
+/// A record that may come where the cursor stands.
+fn read_record<F: Folder>(
+    folder: &mut F,
+    name: &str,
+    length: u64,
+    at: u64,
+    place: Place,
+    buffer: &mut Vec<u8>,
+) -> Result<Step, CursorFault>
+    requires within { at ≤ length }
+    requires inside { IsInside (place_view place) }
+    ensures reads { OnlyReads F.files F.draft F.faults folder.old folder.new (fault_of result) }
+    ensures pulls { PullsAtMost (length - at) (F.numbers folder.old) (F.numbers folder.new) }
+    ensures leads { IfOk result (λ step. (i : PlainItem) → IsRead step.read (vec_len buffer.new) i
+        → Leads (place_view place) at (F.numbers folder.old) (F.numbers folder.new) step i) }
+    ensures within { IfOk result (λ step. step.at ≤ length) }
+    ensures told { (bytes : List ℕ) → TellsFront (F.files folder.old) name.now length bytes
+        → Finds (step_view bytes buffer.new.items) result
+        (next_of (place_view place) (drop at bytes)) }
+{
+    if length - at < FRAME {
+        return Err(CursorFault::Damage);
+    }
+    let (kind, size) = match read_frame(folder, name, at) {
+        Ok(frame) => frame,
+        Err(fault) => return Err(fault),
+    };
+    let body = at + FRAME;
+    if length - body < size {
+        return Err(CursorFault::Damage);
+    }
+    let Some(place) = behind(place, kind, size) else {
+        return Err(CursorFault::Damage);
+    };
+    match read_body(folder, name, body, kind, size, buffer) {
+        Ok(read) => Ok(Step {
+            read,
+            place,
+            at: body + size,
+        }),
+        Err(fault) => Err(fault),
+    }
+}
+
+/// The kind of the record at the offset, and the length of its body.
+fn read_frame<F: Folder>(folder: &mut F, name: &str, at: u64) -> Result<(u8, u64), CursorFault>
+    requires { at + 9 < 2 ^ 64 }
+    ensures reads { OnlyReads F.files F.draft F.faults folder.old folder.new (fault_of result) }
+    ensures numbers { OnOk result
+        (F.numbers folder.new ≡ after_pull (F.numbers folder.old) 9) }
+    ensures pulls { PullsAtMost 9 (F.numbers folder.old) (F.numbers folder.new) }
+    ensures told { (end : ℕ) (bytes : List ℕ) → TellsFront (F.files folder.old) name.now end bytes
+        → at + 9 ≤ end → Filled result (IsFrame (drop at bytes)) }
+{
+    let mut frame = [0; 9];
+    match fill(folder, name, at, &mut frame) {
+        Ok(()) => match take_u64(&frame, 1) {
+            Some((size, _)) => Ok((frame[0], size)),
+            None => Err(CursorFault::Damage),
+        },
+        Err(fault) => Err(fault),
+    }
+}
+
+/// The body of the record of this kind, where it has parts to lend. That of an END is passed over.
+fn read_body<F: Folder>(
+    folder: &mut F,
+    name: &str,
+    at: u64,
+    kind: u8,
+    size: u64,
+    buffer: &mut Vec<u8>,
+) -> Result<Read, CursorFault>
+    requires fits { at + size < 2 ^ 64 }
+    requires comes { MayCome kind size }
+    ensures reads { OnlyReads F.files F.draft F.faults folder.old folder.new (fault_of result) }
+    ensures numbers { IfOk result (λ read.
+        F.numbers folder.new ≡ after_pull (F.numbers folder.old) (body_read read (vec_len buffer.new))) }
+    ensures pulls { PullsAtMost size (F.numbers folder.old) (F.numbers folder.new) }
+    ensures is { IfOk result (λ read. IsReadOf kind size read (vec_len buffer.new)) }
+    ensures told { (end : ℕ) (bytes : List ℕ) → TellsFront (F.files folder.old) name.now end bytes
+        → at + size ≤ end → Filled result (λ read. item_in kind (take size (drop at bytes))
+        ≡ read_item read buffer.new.items) }
+{
+    match kind {
+        END => Ok(Read::End { length: size }),
+        LEAF_END => Ok(Read::LeafEnd),
+        _ => match fill_buffer(folder, name, at, size as usize, buffer) {
+            Ok(()) => Ok(Read::Parts { kind }),
+            Err(fault) => Err(fault),
+        },
+    }
+}
+
+/// Whether the file ends here as it should, behind the END of the root, whose body has this size.
+fn read_tail<F: Folder>(
+    folder: &mut F,
+    name: &str,
+    length: u64,
+    at: u64,
+    size: u64,
+) -> Result<(), CursorFault>
+    requires { at ≤ length }
+    ensures reads { OnlyReads F.files F.draft F.faults folder.old folder.new (fault_of result) }
+    ensures numbers { OnOk result
+        (F.numbers folder.new ≡ after_pull (F.numbers folder.old) 8) }
+    ensures pulls { PullsAtMost (length - at) (F.numbers folder.old) (F.numbers folder.new) }
+    ensures end { OnOk result (length ≡ at + 8) }
+    ensures told { (bytes : List ℕ) → TellsFront (F.files folder.old) name.now length bytes
+        → Finds (λ _. Some (finish, [])) result (tail_at size (drop at bytes)) }
+{
+    if length - at != TAIL {
+        return Err(CursorFault::Damage);
+    }
+    let mut tail = [0; 8];
+    match fill(folder, name, at, &mut tail) {
+        Ok(()) if is_tail(&tail, size) => Ok(()),
+        Ok(()) => Err(CursorFault::Damage),
+        Err(fault) => Err(fault),
+    }
+}
+
+fn is_tail(tail: &[u8], size: u64) -> bool
+    ensures { result ≡ bytes_eq tail.now (u64_bytes size) }
+{
+    tail == size.to_be_bytes().as_slice()
+}
