@@ -14,13 +14,13 @@ use Rattle.xarch_words.specs.Commands.{add}
 use Rattle.xarch_words.specs.Refusal.{document, Refusal, no_file, damaged, PlainFault}
 use Rattle.xarch_steps.specs.Add.{added, added_behind, room_behind}
 use Rattle.xarch_steps.specs.Added.{IsOverlong, IsTooLong}
-use Rattle.xarch_steps.specs.Archives.{ArchiveIs, GoesOn, Stores}
-use Rattle.xarch_steps.specs.Ends.{IsDefined}
-use Rattle.xarch_steps.specs.Inputs.{file_of, length_in, read_in}
-use Rattle.xarch_steps.specs.Outcome.{Outcome, and_then, or_refuse}
+use Rattle.xarch_parts.specs.Archives.{ArchiveIs, GoesOn, Stores}
+use Rattle.xarch_parts.specs.Ends.{IsDefined}
+use Rattle.xarch_parts.specs.Inputs.{file_of, length_in, read_in}
+use Rattle.xarch_parts.specs.Outcome.{Outcome, and_then, or_refuse}
 use Rattle.xarch_steps.specs.Plausible.{MayAdd, MayBe, add_input}
-use Rattle.xarch_steps.specs.Readings.{document_of, keyed_of}
-use Rattle.xarch_steps.proofs.Ending.{IsDefined-here, and_then-Ok}
+use Rattle.xarch_parts.specs.Readings.{document_of, keyed_of}
+use Rattle.xarch_parts.specs.EndLaws.{IsDefined-here, and_then-Ok}
 
 -- ---- the keyed tree of the document, with the bytes of the archive
 

@@ -2,10 +2,10 @@
 use Rattle.std.proofs.Common.{◌≡◌, ℕ, List, Result, Ok, Err, refl, sym, ap, ◌∙◌, subst}
 use Rattle.xa_outside.specs.Folder.{Files}
 use Rattle.xarch_words.specs.Refusal.{Refusal}
-use Rattle.xarch_steps.specs.Archives.{GoesOn, free_in}
+use Rattle.xarch_parts.specs.Archives.{GoesOn, free_in}
 use Rattle.xarch_steps.specs.Demo.{DemoIs, MakesOrNone, demo_input}
-use Rattle.xarch_steps.specs.Inputs.{at_most}
-use Rattle.xarch_steps.specs.Outcome.{Outcome, and_then}
+use Rattle.xarch_parts.specs.Inputs.{at_most}
+use Rattle.xarch_parts.specs.Outcome.{Outcome, and_then}
 use Rattle.xarch_words.specs.Refusal as refusal
 
 module _ (files : Files) (seed count : ℕ) (name : List ℕ) where

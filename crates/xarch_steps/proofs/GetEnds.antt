@@ -12,10 +12,10 @@ use Rattle.record_format.specs.Fronts.{fixed}
 use Rattle.archive_file.specs.Sound.{SoundAs}
 use Rattle.xarch_words.specs.Commands.{get}
 use Rattle.xarch_words.specs.Refusal.{Refusal, no_file, no_version, damaged}
-use Rattle.xarch_steps.specs.Archives.{ArchiveIs, GoesOn}
+use Rattle.xarch_parts.specs.Archives.{ArchiveIs, GoesOn}
 use Rattle.xarch_steps.specs.Get.{version_text}
 use Rattle.keyed_print.specs.KeyedText.{keyed_text}
-use Rattle.xarch_steps.specs.Outcome.{Outcome, and_then, or_refuse}
+use Rattle.xarch_parts.specs.Outcome.{Outcome, and_then, or_refuse}
 use Rattle.xarch_steps.specs.Plausible.{MayWrite, MayBe, get_input, is_version}
 
 -- ---- numbers of versions

@@ -11,9 +11,9 @@ use Rattle.record_format.specs.Fronts.{header}
 use Rattle.archive_file.specs.Sound.{SoundAs}
 use Rattle.xarch_words.specs.Commands.{history}
 use Rattle.xarch_words.specs.Refusal.{Refusal, no_file, damaged}
-use Rattle.xarch_steps.specs.Archives.{ArchiveIs, GoesOn}
+use Rattle.xarch_parts.specs.Archives.{ArchiveIs, GoesOn}
 use Rattle.xarch_steps.specs.History.{labels_of, numbers_text}
-use Rattle.xarch_steps.specs.Outcome.{Outcome, and_then, or_refuse}
+use Rattle.xarch_parts.specs.Outcome.{Outcome, and_then, or_refuse}
 use Rattle.xarch_steps.specs.Plausible.{MayWrite, MayBe, history_input}
 
 abbrev beside : List ℕ → Result (List PlainLabel) Refusal → Result (List ℕ × List PlainLabel) Refusal

@@ -1,13 +1,22 @@
 -- How the parts of `init` lead to its end.
-use Rattle.std.proofs.Common.{◌≡◌, inl, inr, ℕ, List, [], Ok, Err, refl, sym, ap, subst}
+use Rattle.std.proofs.Common.{◌≡◌, inl, inr, ℕ, List, [], ◌∷◌, Ok, Err, refl, sym, ap, subst, arith}
 use Rattle.std.specs.FinMap as map
 use Rattle.xa_outside.specs.Folder.{Files}
 use Rattle.key_spec.specs.Data.{PlainRule}
+use Rattle.keyed_tree.specs.Data.{PlainKeyed}
+use Rattle.archive_tree.specs.Data.{PlainArchive}
+use Rattle.archive_tree.specs.Stands.{ArchiveOf}
 use Rattle.record_format.specs.Files.{FileOf}
+use Rattle.archive_file.specs.KeyedBy.{AreKeyedBy}
 use Rattle.archive_file.specs.Sound.{SoundAs}
 use Rattle.xarch_words.specs.Refusal.{archive, Refusal, limit}
-use Rattle.xarch_steps.specs.Archives.{GoesOn, Stores}
+use Rattle.xarch_parts.specs.Archives.{GoesOn, Stores}
 use Rattle.xarch_steps.specs.Init.{InitIs, init_rules}
+
+-- the archive of no versions has no others
+pub none_keyed : (rules : List PlainRule) (a : PlainArchive) → ArchiveOf [] a → (vs : List PlainKeyed) → ArchiveOf vs a → AreKeyedBy rules vs
+none_keyed rules a e [] h = tt
+none_keyed rules a e (v ∷ vs) h = absurd (let none = e.count in let some = h.count in omega (arith, none, some))
 
 module _ (files : Files) (name spec : List ℕ) where
   -- a refusal before anything is made

@@ -1,13 +1,8 @@
 pub mod AddEnds
 pub mod DemoEnds
-pub mod Ending
-pub mod FolderLemmas
 pub mod GetEnds
 pub mod HistoryEnds
 pub mod InitEnds
-pub mod InputLemmas
-pub mod MayEnds
-pub mod MergedLemmas
 pub mod Merging
 pub mod NormEnds
 pub mod OneStep

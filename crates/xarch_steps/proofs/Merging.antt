@@ -1,5 +1,5 @@
 -- What the merge of a document into a sound archive needs, and what it makes.
-use Rattle.std.proofs.Common.{◌≡◌, inl, inr, ℕ, ◌<◌, ◌≤◌, List, [], ◌∷◌, ◌++◌, length, Result, Ok, Err, IfErr, Vec, Global, Some, refl, sym, ap, ◌∙◌, subst, arith}
+use Rattle.std.proofs.Common.{◌≡◌, inl, inr, ℕ, ◌<◌, ◌≤◌, List, [], ◌∷◌, ◌++◌, length, Result, Ok, Err, IfOk, IfErr, Vec, Global, Some, refl, sym, ap, ◌∙◌, subst, arith}
 use Rattle.std.specs.List.{AllByRecursion}
 use Rattle.jsonml_tree.specs.Data.{PlainTree, tree_depth}
 use Rattle.jsonml_tree.specs.Fits as fits
@@ -10,19 +10,23 @@ use Rattle.keyed_tree.specs.Data.{PlainKeyed}
 use Rattle.keyed_tree.specs.Kids.{IsOrdered}
 use Rattle.keyed_tree.specs.Lists.{Has}
 use Rattle.keyed_tree.specs.Proper.{IsElement}
+use Rattle.keyed_tree.specs.View.{keyed_view}
+use Rattle.keyed_tree.specs.declared.keyed.Keyed.{Keyed}
 use Rattle.keyed_tree.specs.WellFormed.{IsKeyedWellFormed}
 use Rattle.archive_tree.specs.Data.{PlainArchive}
-use Rattle.archive_tree.specs.Stands.{AllAlike, ArchiveOf, Kept}
+use Rattle.keyed_tree.specs.Alike.{AllAlike}
+use Rattle.archive_tree.specs.Stands.{ArchiveOf, Kept}
 use Rattle.nested_merge.specs.Alike.{AlikeAll}
 use Rattle.archive_file.specs.KeyedBy.{IsKeyedBy, AreKeyedBy}
 use Rattle.archive_file.specs.Sound.{SoundAs}
 use Rattle.record_format.specs.Files.{FileOf}
 use Rattle.record_format.specs.Fronts.{header}
-use Rattle.xarch_words.specs.Refusal.{archive, Refusal, limit, refused}
+use Rattle.xarch_words.specs.Refusal.{archive, Refusal, limit, PlainFault, memory, refused}
 use Rattle.xarch_words.specs.View.{fault_view}
 use Rattle.xarch_words.specs.declared.fault.Fault.{Fault}
 use Rattle.xarch_steps.specs.Added.{Goes, IsOverlong, IsTooLong, IsVersionBy}
-use Rattle.xarch_steps.specs.Archives.{IsRefusal, NoRefusal}
+use Rattle.xarch_parts.specs.Archives.{IsRefusal, NoRefusal}
+use Rattle.xarch_parts.specs.Ends.{IsDefined, IsInside, Matches, fault_of}
 
 pub has_front : (xs : List PlainKeyed) (x v : PlainKeyed) → Has v xs → Has v (xs ++ x ∷ [])
 has_front [] x v m = absurd m
@@ -36,10 +40,6 @@ has_last (y ∷ ys) x = inr (has_last ys x)
 pub all_behind : (P : PlainKeyed → Type 0) (xs : List PlainKeyed) (x : PlainKeyed) → AllByRecursion P xs → P x → AllByRecursion P (xs ++ x ∷ [])
 all_behind P [] x h p = (p, tt)
 all_behind P (y ∷ ys) x h p = (h.0, all_behind P ys x h.1 p)
-
--- an archive has as many versions as it counts
-pub few_of : (vs : List PlainKeyed) (a : PlainArchive) → ArchiveOf vs a → a.n ≤ 999999 → length vs ≤ 999999
-few_of vs a h few = (let count = h.count in omega (arith, count, few))
 
 -- From what is known of all archives: one stands for one list, and the list of one that has some can be told.
 module _ (one_list : (vs us : List PlainKeyed) (a : PlainArchive) → ArchiveOf vs a → ArchiveOf us a → vs ≡ us) (told : (a : PlainArchive) → ∥ Kept a ∥₁ → Kept a)
@@ -68,6 +68,12 @@ module _ (one_list : (vs us : List PlainKeyed) (a : PlainArchive) → ArchiveOf 
   -- a refusal of the file of the new archive is that of a sound archive
   pub overlong : (q : Refusal) → q ≡ limit archive 274877906944 → IsOverlong bytes q
   overlong q e = let v = told old kept in record { is = e; rules = rules; versions = v.versions; sound = sound v.versions v.is }
+
+-- the file that was made is the archive of the versions
+pub sound_after : (rules given : List PlainRule) (new : PlainArchive) (vs : List PlainKeyed) (k : PlainKeyed) (r : Result (Vec ℕ Global) Fault) → given ≡ rules → ArchiveOf (vs ++ k ∷ []) new
+    → IfOk r (λ v. (us : List PlainKeyed) → ArchiveOf us new → SoundAs given us v.items) → IfOk r (λ v. SoundAs rules (vs ++ k ∷ []) v.items)
+sound_after rules given new vs k (Ok v) same is h = subst (λ z. SoundAs z (vs ++ k ∷ []) v.items) same (h (vs ++ k ∷ []) is)
+sound_after rules given new vs k (Err f) same is h = tt
 
 -- where no file was made, the versions have none
 pub too_long_after : (rules given : List PlainRule) (new : PlainArchive) (vs : List PlainKeyed) (k : PlainKeyed) (r : Result (Vec ℕ Global) Fault) (q : Refusal) → given ≡ rules → ArchiveOf (vs ++ k ∷ []) new
@@ -104,3 +110,19 @@ version-by rules t k j element formed shallow stands e = subst (IsVersionBy rule
   well_formed = stands.well_formed;
   keyed = record { document = t; element = element; well_formed = formed; shallow = shallow; satisfies = stands.satisfies; stands = stands.keyed };
 })
+
+-- ---- a tree that is copied, where memory suffices
+
+pub inside-memory : {T : Type 0} (r : Result T Fault) → IfErr r (λ f. fault_view f ≡ memory) → IsInside (fault_of r)
+unfolding IsInside
+inside-memory (Ok x) short = tt
+inside-memory (Err f) short = subst (λ (v : PlainFault). IsInside (Some v)) (sym short) tt
+
+pub Matches-owned : (x : Result PlainKeyed Refusal) (k : PlainKeyed) (r : Result Keyed Fault) → x ≡ Ok k → IfOk r (λ j. keyed_view j ≡ k) → IfErr r (λ f. fault_view f ≡ memory) → Matches keyed_view x r
+unfolding IsDefined
+Matches-owned x k (Ok j) is same short = is ∙ ap (λ (z : PlainKeyed). Ok z) (sym same)
+Matches-owned x k (Err f) is same short = subst (λ (v : PlainFault). IsDefined x v) (sym short) tt
+
+pub version-owned : (rules : List PlainRule) (t : PlainTree) (k : PlainKeyed) (r : Result Keyed Fault) → fits.IsElement t → IsWellFormed t → tree_depth t ≤ 120 → Stands rules t k → IfOk r (λ j. keyed_view j ≡ k) → IfOk r (λ j. IsVersionBy rules (keyed_view j))
+version-owned rules t k (Ok j) element formed shallow stands same = version-by rules t k (keyed_view j) element formed shallow stands same
+version-owned rules t k (Err f) element formed shallow stands same = tt

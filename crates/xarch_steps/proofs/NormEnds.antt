@@ -4,12 +4,12 @@ use Rattle.xa_outside.specs.Folder.{Files}
 use Rattle.jsonml_tree.specs.Data.{PlainTree}
 use Rattle.key_spec.specs.Data.{PlainRule}
 use Rattle.xarch_words.specs.Refusal.{document, specification, Refusal, PlainFault}
-use Rattle.xarch_steps.specs.Ends.{IsDefined}
-use Rattle.xarch_steps.specs.Inputs.{file_of, length_in, read_in}
+use Rattle.xarch_parts.specs.Ends.{IsDefined}
+use Rattle.xarch_parts.specs.Inputs.{file_of, length_in, read_in}
 use Rattle.xarch_steps.specs.Norm.{norm_from, norm_input, norm_of, norm_of_tree}
-use Rattle.xarch_steps.specs.Outcome.{Outcome, and_then}
-use Rattle.xarch_steps.specs.Readings.{document_of, rules_of}
-use Rattle.xarch_steps.proofs.Ending.{IsDefined-here}
+use Rattle.xarch_parts.specs.Outcome.{Outcome, and_then}
+use Rattle.xarch_parts.specs.Readings.{document_of, rules_of}
+use Rattle.xarch_parts.specs.EndLaws.{IsDefined-here}
 
 -- the inputs first, and then what comes of them
 behind : (x y : Result ℕ Refusal) (z : Result (List PlainRule) Refusal) (w : Result (List ℕ) Refusal) (D : List ℕ → Result PlainTree Refusal) (K : List PlainRule → PlainTree → Result Outcome Refusal)

@@ -12,11 +12,11 @@ use Rattle.xarch_gen.specs.Company.{company_rules}
 use Rattle.xarch_words.specs.Commands.{PlainCommand, norm, init, add, get, history, stats, batch, demo}
 use Rattle.xarch_words.specs.Refusal.{Refusal, no_file}
 use Rattle.xarch_steps.specs.Add.{added}
-use Rattle.xarch_steps.specs.Archives.{GoesOn, Stores}
+use Rattle.xarch_parts.specs.Archives.{GoesOn, Stores}
 use Rattle.xarch_steps.specs.Demo.{MakesOrNone, demo_input, samples}
 use Rattle.xarch_steps.specs.Init.{init_rules}
-use Rattle.xarch_steps.specs.Inputs.{file_of}
-use Rattle.xarch_steps.specs.Outcome.{Outcome, Step, and_then, or_refuse, step_from}
+use Rattle.xarch_parts.specs.Inputs.{file_of}
+use Rattle.xarch_parts.specs.Outcome.{Outcome, Step, and_then, or_refuse, step_from}
 use Rattle.xarch_steps.specs.Plausible.{MayAdd, MayWrite, MayBe, MayDo, Plausible}
 use Rattle.xarch_steps.specs.Stats.{CountsFrom, counts_text}
 use Rattle.xarch_steps.specs.Step.{OutcomeIs, DoesOrRefuses, Defines, StepIs, single_of}

@@ -13,16 +13,17 @@ use Rattle.archive_tree.specs.Stands.{ArchiveOf}
 use Rattle.record_format.specs.Files.{FileOf}
 use Rattle.xarch_words.specs.Commands.{PlainCommand, norm, init, add, get, history, stats, batch, demo, command_of}
 use Rattle.xarch_words.specs.Refusal.{Refusal, usage, no_file, exists, bad_spec, bad_json, bad_shape, key_fault, no_version, bad_path, damaged, limit, PlainFault, refused, folder_fault, out_fault, in_fault, memory}
-use Rattle.xarch_words.specs.Lines.{refusal_status}
+use Rattle.xarch_words.specs.Lines.{fault_line, refusal_status}
 use Rattle.xarch_words.specs.declared.fault.Fault.{Fault}
-use Rattle.xarch_steps.specs.Outcome.{Outcome, Step, output_of, step_from}
-use Rattle.xarch_steps.specs.Ends.{fault_of, EndsGained, Gained, IsOfCommand, HasItsCause}
-use Rattle.xarch_steps.specs.Folders.{Counts}
+use Rattle.xarch_parts.specs.Outcome.{Outcome, Step, output_of, step_from}
+use Rattle.xarch_parts.specs.Ends.{fault_of, EndsGained, Gained, IsOfCommand, HasItsCause}
+use Rattle.xarch_parts.specs.Folders.{Counts}
 use Rattle.xarch_steps.specs.Ran.{CountsAsSaid, IsLongDemo, OnlyReads, made_name, most_pulled, status_after, line_after, outside_of, Says}
-use Rattle.xarch_steps.specs.Plausible.{MayBe, MayDo, MayEnd, Plausible, PutSome, Tried, Wrote}
+use Rattle.xarch_parts.specs.Allowed.{MayEnd, PutSome}
+use Rattle.xarch_steps.specs.Plausible.{MayBe, MayDo, Plausible, Tried, Wrote}
 use Rattle.xarch_steps.specs.Step.{StepIs, alone, single_of}
-use Rattle.xarch_steps.proofs.Ending.{IsOfCommand-usage}
-use Rattle.xarch_steps.proofs.MayEnds.{MayEnd-stopped}
+use Rattle.xarch_parts.specs.EndLaws.{IsOfCommand-usage}
+use Rattle.xarch_parts.specs.AllowedLaws.{MayEnd-stopped}
 use Rattle.xarch_steps.proofs.OneStep.{one_outcome, one_step}
 
 -- ---- statuses
@@ -241,6 +242,10 @@ fault_of-OnErr P (Err f) p some = p
 -- a `demo` of too many documents is one by itself
 pub long_demo-alone : (words : List (List ℕ)) (seed count : ℕ) (name : List ℕ) → command_of words ≡ Some (demo seed count name) → 1000 < count → IsLongDemo (single_of words)
 long_demo-alone words seed count name is long = subst (λ (c : Option PlainCommand). IsLongDemo (alone c)) (sym is) long
+
+-- the line of a fault that is known
+pub says-fault : (ended : Option PlainFault) (f : PlainFault) (old new : Taken) (before now : ℕ) → ended ≡ Some f → Says old new before now (line_after ended) → Says old new before now (fault_line f)
+says-fault ended f old new before now is says = subst (λ (v : Option PlainFault). Says old new before now (line_after v)) is says
 
 pub OnErr-of : (r : Result Unit Fault) (P : Type 0) → (IsSome (fault_of r) → P) → OnErr r P
 OnErr-of (Ok u) P h = tt

@@ -1,5 +1,5 @@
 -- The archive of generated documents, one after another.
-use Rattle.std.proofs.Common.{◌≡◌, ℕ, ◌+◌, ◌<◌, ◌≤◌, List, [], ◌∷◌, ◌++◌, length, sym, ap, ◌∙◌, subst, arith}
+use Rattle.std.proofs.Common.{◌≡◌, ℕ, ◌+◌, ◌<◌, ◌≤◌, List, [], ◌∷◌, ◌++◌, length, Result, Ok, Err, IfOk, sym, ap, ◌∙◌, subst, arith}
 use Rattle.std.proofs.lemmas.List.FromFn.{length-map-range_with_len, map-range_with_len_more}
 use Rattle.jsonml_tree.specs.Data.{PlainTree, tree_depth}
 use Rattle.jsonml_tree.specs.Fits.{IsElement}
@@ -9,8 +9,11 @@ use Rattle.key_annotate.specs.Stands.{Stands}
 use Rattle.key_spec.specs.Data.{PlainRule}
 use Rattle.keyed_tree.specs.Data.{PlainKeyed}
 use Rattle.keyed_tree.specs.Lists.{Has}
+use Rattle.keyed_tree.specs.View.{keyed_view}
+use Rattle.keyed_tree.specs.declared.keyed.Keyed.{Keyed}
 use Rattle.archive_tree.specs.Data.{PlainArchive}
-use Rattle.archive_tree.specs.Stands.{AllAlike, ArchiveOf}
+use Rattle.keyed_tree.specs.Alike.{AllAlike}
+use Rattle.archive_tree.specs.Stands.{ArchiveOf}
 use Rattle.nested_merge.specs.Alike.{AlikeAll}
 use Rattle.archive_file.specs.KeyedBy.{IsKeyedBy, AreKeyedBy}
 use Rattle.xarch_gen.specs.Company.{company_rules}
@@ -25,21 +28,27 @@ samples-more seed n = map-range_with_len_more (sample_tree seed) 1 n (n + 1) (om
 pub sampled_none : (seed : ℕ) (a : PlainArchive) → ArchiveOf [] a → IsSampleArchive seed 0 a
 sampled_none seed a h = record { archive = h; keyed = tt }
 
+-- the keyed tree of a document
+module _ (rules : List PlainRule) (t : PlainTree) (k : PlainKeyed) (same : rules ≡ company_rules) (stands : Stands rules t k) where
+  pub tree_is : (seed n : ℕ) → t ≡ sample_of seed n → k ≡ sample_tree seed n
+  tree_is seed n is = stands.tree ∙ ap (λ r. keyed_tree r t) same ∙ ap (keyed_tree company_rules) is
+
+  pub keyed_by : IsElement t → IsWellFormed t → tree_depth t ≤ 120 → IsKeyedBy company_rules k
+  keyed_by element formed shallow = subst (λ r. IsKeyedBy r k) same (record { document = t; element = element; well_formed = formed; shallow = shallow; satisfies = stands.satisfies; stands = stands.keyed })
+
+-- what holds of a part holds of the whole that ends with it
+pub of_tree : {E : Type 0} (r : Result Keyed E) (P Q : PlainKeyed → Type 0) → ((k : PlainKeyed) → P k → Q k) → IfOk r (λ k. P (keyed_view k)) → IfOk r (λ k. Q (keyed_view k))
+of_tree (Ok k) P Q h p = h (keyed_view k) p
+of_tree (Err e) P Q h p = tt
+
 -- what the keyed tree of the next document is
-module _ (rules : List PlainRule) (seed n : ℕ) (t : PlainTree) (k : PlainKeyed) (same : rules ≡ company_rules) (is : t ≡ sample_of seed (n + 1)) (element : IsElement t) (formed : IsWellFormed t) (shallow : tree_depth t ≤ 120)
-    (stands : Stands rules t k) where
-  tree_is : k ≡ sample_tree seed (n + 1)
-  tree_is = stands.tree ∙ ap (λ r. keyed_tree r t) same ∙ ap (keyed_tree company_rules) is
-
-  keyed_by : IsKeyedBy company_rules k
-  keyed_by = subst (λ r. IsKeyedBy r k) same (record { document = t; element = element; well_formed = formed; shallow = shallow; satisfies = stands.satisfies; stands = stands.keyed })
-
+module _ (seed n : ℕ) (k : PlainKeyed) (tree : k ≡ sample_tree seed (n + 1)) (keyed : IsKeyedBy company_rules k) where
   with_next : samples seed n ++ k ∷ [] ≡ samples seed (n + 1)
-  with_next = ap (λ (j : PlainKeyed). samples seed n ++ j ∷ []) tree_is ∙ sym (samples-more seed n)
+  with_next = ap (λ (j : PlainKeyed). samples seed n ++ j ∷ []) tree ∙ sym (samples-more seed n)
 
   module _ (a : PlainArchive) (sampled : IsSampleArchive seed n a) where
     all_keyed : AreKeyedBy company_rules (samples seed n ++ k ∷ [])
-    all_keyed = all_behind (IsKeyedBy company_rules) (samples seed n) k sampled.keyed keyed_by
+    all_keyed = all_behind (IsKeyedBy company_rules) (samples seed n) k sampled.keyed keyed
 
     -- there is room for it
     pub room : n < 1000 → a.n < 4294967295

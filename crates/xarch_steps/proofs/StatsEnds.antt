@@ -12,9 +12,9 @@ use Rattle.archive_file.specs.Sound.{SoundAs}
 use Rattle.archive_stats.specs.Counts.{PlainCounts, counts}
 use Rattle.xarch_words.specs.Commands.{stats}
 use Rattle.xarch_words.specs.Refusal.{Refusal, no_file, damaged}
-use Rattle.xarch_steps.specs.Archives.{GoesOn}
-use Rattle.xarch_steps.specs.Inputs.{file_length}
-use Rattle.xarch_steps.specs.Outcome.{Outcome, and_then, or_refuse}
+use Rattle.xarch_parts.specs.Archives.{GoesOn}
+use Rattle.xarch_parts.specs.Inputs.{file_length}
+use Rattle.xarch_parts.specs.Outcome.{Outcome, and_then, or_refuse}
 use Rattle.xarch_steps.specs.Plausible.{MayWrite, MayBe}
 use Rattle.xarch_steps.specs.Stats.{counts_text}
 

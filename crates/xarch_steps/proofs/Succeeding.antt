@@ -10,13 +10,14 @@ use Rattle.record_format.specs.Files.{FileOf}
 use Rattle.xarch_gen.specs.Company.{company_rules}
 use Rattle.xarch_words.specs.Commands.{PlainCommand, norm, init, add, get, history, stats, batch, demo, command_of}
 use Rattle.xarch_words.specs.Refusal.{Refusal, no_version, PlainFault, refused, folder_fault, out_fault, in_fault, memory}
-use Rattle.xarch_steps.specs.Archives.{GoesOn, Stores}
+use Rattle.xarch_parts.specs.Archives.{GoesOn, Stores}
 use Rattle.xarch_steps.specs.Demo.{MakesOrNone, samples}
-use Rattle.xarch_steps.specs.Ends.{HasItsCause}
+use Rattle.xarch_parts.specs.Ends.{HasItsCause}
 use Rattle.xarch_steps.specs.History.{numbers_text}
 use Rattle.keyed_print.specs.KeyedText.{keyed_text}
-use Rattle.xarch_steps.specs.Outcome.{and_then, or_refuse}
-use Rattle.xarch_steps.specs.Plausible.{MayBe, MayDo, MayEnd}
+use Rattle.xarch_parts.specs.Outcome.{and_then, or_refuse}
+use Rattle.xarch_parts.specs.Allowed.{MayEnd}
+use Rattle.xarch_steps.specs.Plausible.{MayBe, MayDo}
 use Rattle.xarch_steps.specs.Ran.{status_after}
 use Rattle.xarch_steps.specs.Step.{alone, single_of}
 use Rattle.xarch_steps.specs.Succeeds.{ShouldSucceed}
@@ -32,7 +33,7 @@ not_stored files name rules vs bytes q file s = elim s [ inl p ↦ clash q _ p.i
 not_made : (files : Files) (name : List ℕ) (seed count : ℕ) (bytes : List ℕ) (q : Refusal) → FileOf company_rules (samples seed count) bytes → MakesOrNone files name seed count (Err q) → ⊥
 not_made files name seed count bytes q file s = elim s [ inl p ↦ clash q _ p.is | inr p ↦ p.none bytes file ]
 
-never_refused : (files : Files) (command : PlainCommand) (q : Refusal) → ShouldSucceed files command → MayBe files command (Err q) → ⊥
+pub never_refused : (files : Files) (command : PlainCommand) (q : Refusal) → ShouldSucceed files command → MayBe files command (Err q) → ⊥
 unfolding ShouldSucceed MayBe
 never_refused files (norm spec doc) q h m = clash q h.value (m ∙ h.is)
 never_refused files (init name spec) q h m =

@@ -5,10 +5,10 @@ use Rattle.key_spec.specs.Data.{PlainRule}
 use Rattle.keyed_tree.specs.Data.{PlainKeyed}
 use Rattle.record_format.specs.Fronts.{header}
 use Rattle.xarch_words.specs.Refusal.{document, versions, Refusal, damaged, limit}
-use Rattle.xarch_steps.specs.Archives.{GoesOn, Opens, Stores}
-use Rattle.xarch_steps.specs.Inputs.{length_in, read_in}
-use Rattle.xarch_steps.specs.Outcome.{Outcome, and_then, or_refuse}
-use Rattle.xarch_steps.specs.Readings.{document_of, keyed_of}
+use Rattle.xarch_parts.specs.Archives.{GoesOn, Opens, Stores}
+use Rattle.xarch_parts.specs.Inputs.{length_in, read_in}
+use Rattle.xarch_parts.specs.Outcome.{Outcome, and_then, or_refuse}
+use Rattle.xarch_parts.specs.Readings.{document_of, keyed_of}
 
 -- an archive of n versions may have one more
 abbrev pub room_behind : ℕ → Result Unit Refusal

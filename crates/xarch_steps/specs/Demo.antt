@@ -13,9 +13,9 @@ use Rattle.archive_stats.specs.Counts.{PlainCounts, counts}
 use Rattle.xarch_gen.specs.Company.{company_rules}
 use Rattle.xarch_gen.specs.Sample.{sample_of}
 use Rattle.xarch_words.specs.Refusal.{demo, Refusal}
-use Rattle.xarch_steps.specs.Archives.{GoesOn, TooLong, free_in}
-use Rattle.xarch_steps.specs.Inputs.{at_most}
-use Rattle.xarch_steps.specs.Outcome.{Outcome, and_then}
+use Rattle.xarch_parts.specs.Archives.{GoesOn, TooLong, free_in}
+use Rattle.xarch_parts.specs.Inputs.{at_most}
+use Rattle.xarch_parts.specs.Outcome.{Outcome, and_then}
 use Rattle.xarch_steps.specs.Stats.{counts_text}
 
 -- the keyed tree of a document of the generator

@@ -5,9 +5,9 @@ use Rattle.key_spec.specs.Data.{PlainRule}
 use Rattle.keyed_tree.specs.Data.{PlainKeyed}
 use Rattle.archive_tree.specs.Stands.{version_of}
 use Rattle.xarch_words.specs.Refusal.{Refusal, no_version}
-use Rattle.xarch_steps.specs.Archives.{Opens}
+use Rattle.xarch_parts.specs.Archives.{Opens}
 use Rattle.keyed_print.specs.KeyedText.{keyed_text}
-use Rattle.xarch_steps.specs.Outcome.{Outcome, and_then, or_refuse}
+use Rattle.xarch_parts.specs.Outcome.{Outcome, and_then, or_refuse}
 
 -- the text of the version of that number, which counts from 1
 abbrev pub version_text : Files → List PlainKeyed → ℕ → Result Outcome Refusal

@@ -8,9 +8,9 @@ use Rattle.key_rules.specs.UserPaths.{user_path}
 use Rattle.keyed_tree.specs.Data.{PlainLabel, PlainKeyed}
 use Rattle.archive_tree.specs.History.{hist}
 use Rattle.xarch_words.specs.Refusal.{Refusal, bad_path}
-use Rattle.xarch_steps.specs.Archives.{Opens}
-use Rattle.xarch_steps.specs.Outcome.{Outcome, and_then}
-use Rattle.xarch_steps.specs.Readings.{refused_as}
+use Rattle.xarch_parts.specs.Archives.{Opens}
+use Rattle.xarch_parts.specs.Outcome.{Outcome, and_then}
+use Rattle.xarch_parts.specs.Readings.{refused_as}
 
 -- the labels that a path spells under the rules
 unfoldable pub labels_of : List PlainRule → List ℕ → Result (List PlainLabel) Refusal

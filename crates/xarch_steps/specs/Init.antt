@@ -3,10 +3,10 @@ use Rattle.std.specs.Prelude.{ℕ, List, [], Result}
 use Rattle.xa_outside.specs.Folder.{Files}
 use Rattle.key_spec.specs.Data.{PlainRule}
 use Rattle.xarch_words.specs.Refusal.{specification, Refusal}
-use Rattle.xarch_steps.specs.Archives.{free_in, GoesOn, Stores}
-use Rattle.xarch_steps.specs.Inputs.{length_in, read_in}
-use Rattle.xarch_steps.specs.Outcome.{Outcome, and_then}
-use Rattle.xarch_steps.specs.Readings.{rules_of}
+use Rattle.xarch_parts.specs.Archives.{free_in, GoesOn, Stores}
+use Rattle.xarch_parts.specs.Inputs.{length_in, read_in}
+use Rattle.xarch_parts.specs.Outcome.{Outcome, and_then}
+use Rattle.xarch_parts.specs.Readings.{rules_of}
 
 -- the rules of the new archive: its name is free, and the specification is there, short enough and has a closed reading
 abbrev pub init_rules : Files → List ℕ → List ℕ → Result (List PlainRule) Refusal

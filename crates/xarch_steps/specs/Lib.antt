@@ -1,7 +1,3 @@
-pub mod Outcome
-pub mod Inputs
-pub mod Readings
-pub mod Archives
 pub mod Norm
 pub mod Init
 pub mod Add
@@ -11,8 +7,6 @@ pub mod History
 pub mod Stats
 pub mod Demo
 pub mod Step
-pub mod Ends
-pub mod Folders
 pub mod Ran
 pub mod Plausible
 pub mod Succeeds

@@ -4,10 +4,10 @@ use Rattle.xa_outside.specs.Folder.{Files}
 use Rattle.jsonml_tree.specs.Data.{PlainTree}
 use Rattle.key_spec.specs.Data.{PlainRule}
 use Rattle.xarch_words.specs.Refusal.{document, specification, Refusal}
-use Rattle.xarch_steps.specs.Inputs.{file_of, length_in, read_in}
+use Rattle.xarch_parts.specs.Inputs.{file_of, length_in, read_in}
 use Rattle.keyed_print.specs.KeyedText.{keyed_text}
-use Rattle.xarch_steps.specs.Outcome.{Outcome, and_then}
-use Rattle.xarch_steps.specs.Readings.{rules_of, document_of, keyed_of}
+use Rattle.xarch_parts.specs.Outcome.{Outcome, and_then}
+use Rattle.xarch_parts.specs.Readings.{rules_of, document_of, keyed_of}
 
 -- The refusals stand in the order in which they are tried: the lengths of both files, then the specification, the
 -- document, and the keys.

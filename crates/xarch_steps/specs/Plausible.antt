@@ -2,24 +2,23 @@
 use Rattle.std.specs.Prelude.{◌≡◌, ◌⊎◌, ℕ, List, [], ◌&&◌, nat_le, Option, Some, None, Result, Ok, Err, if◌then◌else◌}
 use Rattle.std.specs.FinMap as map
 use Rattle.xa_outside.specs.Folder.{Files}
-use Rattle.xa_outside.specs.Taken.{Taken, Takes, TakesNone, TakesPrefix}
+use Rattle.xa_outside.specs.Taken.{Taken, TakesNone, TakesPrefix}
 use Rattle.key_spec.specs.Data.{PlainRule}
 use Rattle.keyed_tree.specs.Data.{PlainLabel, PlainKeyed}
 use Rattle.record_format.specs.Fronts.{fixed, header}
 use Rattle.xarch_words.specs.Commands.{PlainCommand, norm, init, add, get, history, stats, batch, demo}
-use Rattle.xarch_words.specs.Refusal.{archive, document, Refusal, usage, damaged, no_version, limit, PlainFault, refused}
+use Rattle.xarch_words.specs.Refusal.{archive, document, Refusal, usage, damaged, no_version, limit}
 use Rattle.xarch_steps.specs.Add.{AddsTo, room_behind}
-use Rattle.xarch_steps.specs.Archives.{ArchiveIs, GoesOn}
+use Rattle.xarch_parts.specs.Archives.{ArchiveIs, GoesOn}
 use Rattle.xarch_steps.specs.Demo.{DemoIs}
-use Rattle.xarch_steps.specs.Ends.{TellsOnly}
 use Rattle.xarch_steps.specs.Get.{GetsFrom}
 use Rattle.xarch_steps.specs.History.{TellsFrom, labels_of}
 use Rattle.xarch_steps.specs.Init.{InitIs}
-use Rattle.xarch_steps.specs.Inputs.{file_of, length_in, read_in}
+use Rattle.xarch_parts.specs.Inputs.{file_of, length_in, read_in}
 use Rattle.xarch_steps.specs.Norm.{norm_of}
-use Rattle.xarch_steps.specs.Outcome.{Outcome, Step, and_then, or_refuse, output_of, step_from}
+use Rattle.xarch_parts.specs.Outcome.{Outcome, Step, and_then, or_refuse, step_from}
 use Rattle.xarch_steps.specs.Ran.{Ran}
-use Rattle.xarch_steps.specs.Readings.{document_of, keyed_of}
+use Rattle.xarch_parts.specs.Readings.{document_of, keyed_of}
 use Rattle.xarch_steps.specs.Stats.{CountsFrom}
 use Rattle.xarch_steps.specs.Step.{StepIs, single_of}
 
@@ -106,11 +105,15 @@ abbrev pub MayDo : Files → Option PlainCommand → Result Outcome Refusal → 
 MayDo files None r = r ≡ Err usage
 MayDo files (Some command) r = MayBe files command r
 
--- a step that the words may have the program take
-pub record Plausible (files : Files) (words : List (List ℕ)) (s : Step) : Type 0 where
+-- a step that a command may have the program take, or that what is no command may
+pub record MayStep (files : Files) (c : Option PlainCommand) (s : Step) : Type 0 where
   pub outcome : Result Outcome Refusal
-  pub may : MayDo files (single_of words) outcome
+  pub may : MayDo files c outcome
   pub is : s ≡ step_from files outcome
+
+-- a step that the words may have the program take
+abbrev pub Plausible : Files → List (List ℕ) → Step → Type 0
+Plausible files words s = MayStep files (single_of words) s
 
 -- A step was taken that the words may have the program take: the defined one, where one is defined.
 pub record Tried (files : Files) (words : List (List ℕ)) (answer : ℕ) (after : Option Files) (old new err_old err_new : Taken) (before now : ℕ) : Type 0 where
@@ -129,29 +132,3 @@ pub record WrotePrefix (files : Files) (words : List (List ℕ)) (old new : Take
 -- nothing was written, or such a prefix
 abbrev pub Wrote : Files → List (List ℕ) → Taken → Taken → Type 0
 Wrote files words old new = TakesNone old new ⊎ WrotePrefix files words old new
-
--- ---- how a command ends
-
--- it did what it may do
-pub record DidSome (allowed : Result Outcome Refusal → Type 0) (after : Option Files) (old new : Taken) : Type 0 where
-  pub outcome : Outcome
-  pub may : allowed (Ok outcome)
-  pub files : TellsOnly after outcome.files
-  pub output : Takes old new outcome.output
-
--- it was refused as it may be
-pub record RefusedBy (allowed : Result Outcome Refusal → Type 0) (r : Refusal) (old new : Taken) : Type 0 where
-  pub may : allowed (Err r)
-  pub output : TakesNone old new
-
--- it has written a prefix of what it may write
-pub record PutSome (allowed : Result Outcome Refusal → Type 0) (old new : Taken) : Type 0 where
-  pub outcome : Result Outcome Refusal
-  pub may : allowed outcome
-  pub output : TakesPrefix old new (output_of outcome)
-
--- After a fault of the outside it has written nothing, or a prefix of what it may write.
-unfoldable pub MayEnd : (Result Outcome Refusal → Type 0) → Option PlainFault → Option Files → Taken → Taken → Type 0
-MayEnd allowed None after old new = DidSome allowed after old new
-MayEnd allowed (Some (refused r)) after old new = RefusedBy allowed r old new
-MayEnd allowed (Some _) after old new = TakesNone old new ⊎ PutSome allowed old new

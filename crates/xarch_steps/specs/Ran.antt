@@ -8,10 +8,10 @@ use Rattle.xa_outside.specs.Taken.{Taken, Takes, TakesPrefix}
 use Rattle.xarch_words.specs.Commands.{PlainCommand, norm, init, add, get, history, stats, batch, demo}
 use Rattle.xarch_words.specs.Lines.{fault_status, fault_line}
 use Rattle.xarch_words.specs.Refusal.{PlainFault, folder_fault, out_fault, in_fault, memory}
-use Rattle.xarch_steps.specs.Outcome.{Step}
-use Rattle.xarch_steps.specs.Ends.{TellsOnly}
-use Rattle.xarch_steps.specs.Folders.{Counts}
-use Rattle.xarch_steps.specs.Inputs.{size_in}
+use Rattle.xarch_parts.specs.Outcome.{Step}
+use Rattle.xarch_parts.specs.Ends.{TellsOnly}
+use Rattle.xarch_parts.specs.Folders.{Counts}
+use Rattle.xarch_parts.specs.Inputs.{size_in}
 
 -- 0 where it did what it should, else the status of its fault
 abbrev pub status_after : Option PlainFault → ℕ

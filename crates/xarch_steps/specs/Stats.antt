@@ -7,8 +7,8 @@ use Rattle.archive_tree.specs.Data.{PlainArchive}
 use Rattle.archive_tree.specs.Stands.{ArchiveOf}
 use Rattle.archive_stats.specs.Counts.{PlainCounts, counts}
 use Rattle.xarch_words.specs.Refusal.{Refusal}
-use Rattle.xarch_steps.specs.Archives.{Opens}
-use Rattle.xarch_steps.specs.Outcome.{Outcome}
+use Rattle.xarch_parts.specs.Archives.{Opens}
+use Rattle.xarch_parts.specs.Outcome.{Outcome}
 
 -- a number behind its name, and a line feed
 abbrev pub count_line : List ℕ → ℕ → List ℕ

@@ -9,7 +9,7 @@ use Rattle.xarch_steps.specs.Get.{GetIs}
 use Rattle.xarch_steps.specs.History.{HistoryIs}
 use Rattle.xarch_steps.specs.Init.{InitIs}
 use Rattle.xarch_steps.specs.Norm.{norm_of}
-use Rattle.xarch_steps.specs.Outcome.{Outcome, Step, step_from}
+use Rattle.xarch_parts.specs.Outcome.{Outcome, Step, step_from}
 use Rattle.xarch_steps.specs.Stats.{StatsIs}
 
 -- What a command does to these files. It is defined where the archive that it names is absent or sound.

@@ -9,7 +9,7 @@ use Rattle.xarch_gen.specs.Company.{company_rules}
 use Rattle.xarch_words.specs.Commands.{PlainCommand, norm, init, add, get, history, stats, batch, demo}
 use Rattle.xarch_words.specs.Refusal.{Refusal}
 use Rattle.xarch_steps.specs.Add.{added}
-use Rattle.xarch_steps.specs.Archives.{ArchiveIs}
+use Rattle.xarch_parts.specs.Archives.{ArchiveIs}
 use Rattle.xarch_steps.specs.Demo.{demo_input, samples}
 use Rattle.xarch_steps.specs.History.{labels_of}
 use Rattle.xarch_steps.specs.Init.{init_rules}

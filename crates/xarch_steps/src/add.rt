@@ -1,4 +1,4 @@
-#![tactic(auto, using(crate::proofs::Ending::endings), unfolding(crate::specs::Ends::IsInside, crate::specs::Ends::IsDefined))]
+#![tactic(auto, using(xarch_parts::specs::EndLaws::endings), unfolding(xarch_parts::specs::Ends::IsInside, xarch_parts::specs::Ends::IsDefined))]
 
 ghost use Rattle.std.specs.Prelude.{◌≡◌, ◌+◌, ◌<◌, ◌≤◌, ◌++◌, ◌∷◌, [], ℕ, List, Some, Ok, IfOk, IfErr, length};
 ghost use Rattle.xa_outside.specs.Folder.{Files};
@@ -7,35 +7,39 @@ ghost use Rattle.jsonml_tree.specs.Data.{tree_depth};
 ghost use Rattle.jsonml_tree.specs.Fits.{IsElement, ItemsFit};
 ghost use Rattle.jsonml_tree.specs.LentView.{lent_tree_view};
 ghost use Rattle.jsonml_tree.specs.WellFormed.{IsWellFormed};
+ghost use Rattle.key_annotate.specs.LentView.{lent_view};
 ghost use Rattle.key_spec.specs.Data.{PlainRule};
 ghost use Rattle.key_spec.specs.View.{spec_view};
 ghost use Rattle.keyed_tree.specs.Data.{PlainKeyed};
 ghost use Rattle.keyed_tree.specs.View.{keyed_view};
 ghost use Rattle.archive_file.specs.Sound.{SoundAs};
 ghost use Rattle.xarch_words.specs.Commands.{add};
-ghost use Rattle.xarch_words.specs.Refusal.{Refusal, refused};
+ghost use Rattle.xarch_words.specs.Refusal.{Refusal, memory, refused};
 ghost use Rattle.xarch_words.specs.View.{fault_view};
 ghost use Rattle.xarch_steps.specs.Add.{added_behind, room_behind};
 ghost use Rattle.xarch_steps.specs.Added.{Goes, IsMerging, IsTooLong, IsVersionBy};
-ghost use Rattle.xarch_steps.specs.Ends.{IsCaused, IsInside, Matches, fault_of};
-ghost use Rattle.xarch_steps.specs.Folders.{Keeps, ReadsOnly};
-ghost use Rattle.xarch_steps.specs.Inputs.{file_length, read_in, size_in};
-ghost use Rattle.xarch_steps.specs.Outcome.{and_then};
-ghost use Rattle.xarch_steps.specs.Plausible.{MayBe, MayEnd, add_input};
-ghost use Rattle.xarch_steps.specs.Readings.{document_of, keyed_of};
+ghost use Rattle.xarch_parts.specs.Ends.{IsCaused, IsInside, Matches, fault_of};
+ghost use Rattle.xarch_parts.specs.Folders.{Keeps, ReadsOnly};
+ghost use Rattle.xarch_parts.specs.Inputs.{file_length, read_in, size_in};
+ghost use Rattle.xarch_parts.specs.Outcome.{and_then};
+ghost use Rattle.xarch_parts.specs.Allowed.{MayEnd};
+ghost use Rattle.xarch_steps.specs.Plausible.{MayBe, add_input};
+ghost use Rattle.xarch_parts.specs.Readings.{document_of, keyed_of};
 
-use crate::archives::{archive_from, begin, file_from, header_from, store};
-use crate::inputs::{length_of, limited_length, read_whole};
 use crate::limits;
-use crate::readings::{doc_from, keyed_from};
 use archive_tree::archives_stand_for_one_list;
 use jsonml_tree::LentTree;
+use key_annotate::LentKeyed;
 use key_spec::Spec;
 use keyed_tree::Keyed;
 use nested_merge::merge;
 use record_format::versions_have_one_file;
 use std::alloc::Global;
 use xa_outside::Folder;
+use xarch_parts::{
+    archive_from, begin, doc_from, file_from, header_from, keyed_from, length_of, limited_length,
+    read_whole, store,
+};
 use xarch_words::{Fault, Quantity};
 
 /// Adds a document to an archive as its next version.
@@ -154,6 +158,14 @@ fn owned_from(alloc: Global, spec: &Spec, doc: &LentTree<'_>) -> Result<Keyed, F
     ensures version { IfOk result (λ k. IsVersionBy (spec_view spec.now) (keyed_view k)) }
 {
     let keyed = keyed_from(alloc, spec, doc)?;
+    owned(alloc, &keyed)
+}
+
+// The keyed tree with texts of its own.
+fn owned(alloc: Global, keyed: &LentKeyed<'_, '_>) -> Result<Keyed, Fault>
+    ensures same { IfOk result (λ k. keyed_view k ≡ lent_view keyed.now) }
+    ensures memory { IfErr result (λ f. fault_view f ≡ memory) }
+{
     match keyed.own(alloc) {
         Ok(keyed) => Ok(keyed),
         Err(_) => Err(Fault::Memory),

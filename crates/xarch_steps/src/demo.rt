@@ -1,4 +1,4 @@
-#![tactic(auto, using(crate::proofs::Ending::endings), unfolding(crate::specs::Ends::IsInside, crate::specs::Ends::IsOfFolder, crate::specs::Ends::IsDefined))]
+#![tactic(auto, using(xarch_parts::specs::EndLaws::endings), unfolding(xarch_parts::specs::Ends::IsInside, xarch_parts::specs::Ends::IsOfFolder, xarch_parts::specs::Ends::IsDefined))]
 
 ghost use Rattle.std.specs.Prelude.{◌≡◌, ◌≤◌, ◌<◌, ◌+◌, ℕ, List, Some, Ok, IfOk, IfErr, OnOk};
 ghost use Rattle.xa_outside.specs.Folder.{Files};
@@ -10,21 +10,20 @@ ghost use Rattle.jsonml_tree.specs.WellFormed.{IsWellFormed};
 ghost use Rattle.key_annotate.specs.Stands.{Stands};
 ghost use Rattle.key_rules.specs.Satisfies.{Satisfies};
 ghost use Rattle.archive_tree.specs.ArchiveView.{archive_view};
+ghost use Rattle.archive_file.specs.KeyedBy.{IsKeyedBy};
 ghost use Rattle.record_format.specs.Files.{FileOf};
 ghost use Rattle.archive_stats.specs.View.{counts_view};
 ghost use Rattle.xarch_gen.specs.Company.{company_rules};
 ghost use Rattle.xarch_words.specs.Refusal as refusal;
 ghost use Rattle.xarch_words.specs.Refusal.{Refusal, refused};
 ghost use Rattle.xarch_words.specs.View.{fault_view};
-ghost use Rattle.xarch_steps.specs.Archives.{IsBlank, IsRefusal};
-ghost use Rattle.xarch_steps.specs.Demo.{DemoIs, IsSampleArchive, IsSampleFile, MakesOrNone, samples, told_and_stored};
-ghost use Rattle.xarch_steps.specs.Ends.{EndsGained, IsCaused, IsInside, Matches, fault_of};
-ghost use Rattle.xarch_steps.specs.Folders.{Keeps, WritesOnly};
-ghost use Rattle.xarch_steps.specs.Inputs;
-ghost use Rattle.xarch_steps.specs.Plausible.{MayEnd};
+ghost use Rattle.xarch_parts.specs.Archives.{IsBlank, IsRefusal};
+ghost use Rattle.xarch_steps.specs.Demo.{DemoIs, IsSampleArchive, IsSampleFile, MakesOrNone, sample_tree, samples, told_and_stored};
+ghost use Rattle.xarch_parts.specs.Ends.{EndsGained, IsCaused, IsInside, Matches, fault_of};
+ghost use Rattle.xarch_parts.specs.Folders.{Keeps, WritesOnly};
+ghost use Rattle.xarch_parts.specs.Inputs;
+ghost use Rattle.xarch_parts.specs.Allowed.{MayEnd};
 
-use crate::archives::{begin, check_free, commit, draft, file_from};
-use crate::inputs::at_most;
 use crate::limits;
 use crate::stats::write_counts;
 use archive_file::keyed_versions_can_be_merged;
@@ -38,6 +37,7 @@ use nested_merge::merge;
 use std::alloc::{AllocError, Global};
 use xa_outside::{Folder, Sink};
 use xarch_gen::{company_spec, sample};
+use xarch_parts::{at_most, begin, check_free, commit, draft, file_from};
 use xarch_words::{Fault, Quantity};
 
 /// Makes an archive of the first documents of a seed, and writes how much it holds before it is
@@ -172,12 +172,23 @@ fn with_sample(
     // Laws, for what `merge` requires.
     archives_stand_for_one_list();
     keyed_versions_can_be_merged();
-    let document = sample(alloc, seed, before + 1)?;
-    let keyed = tree_of(alloc, spec, &document)?;
+    let keyed = sample_keyed(alloc, spec, seed, before + 1)?;
     match merge(alloc, archive, &keyed) {
         Ok(archive) => Ok(archive),
         Err((error, _)) => Err(error),
     }
+}
+
+/// The keyed tree of the document of this number.
+fn sample_keyed(alloc: Global, spec: &Spec, seed: u32, document: u32) -> Result<Keyed, AllocError>
+    requires rules { spec_view spec.now ≡ company_rules }
+    requires first { 1 ≤ document }
+    requires last { document ≤ 1000 }
+    ensures tree { IfOk result (λ k. keyed_view k ≡ sample_tree seed document) }
+    ensures keyed { IfOk result (λ k. IsKeyedBy company_rules (keyed_view k)) }
+{
+    let tree = sample(alloc, seed, document)?;
+    tree_of(alloc, spec, &tree)
 }
 
 /// The keyed tree of a document that satisfies the keys.

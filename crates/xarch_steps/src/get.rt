@@ -1,4 +1,4 @@
-#![tactic(auto, using(crate::proofs::Ending::endings), unfolding(crate::specs::Ends::IsInside, crate::specs::Ends::IsDefined))]
+#![tactic(auto, using(xarch_parts::specs::EndLaws::endings), unfolding(xarch_parts::specs::Ends::IsInside, xarch_parts::specs::Ends::IsDefined))]
 
 ghost use Rattle.std.specs.Prelude.{◌≡◌, List, Some, None, IfOk, IfErr, IsSome};
 ghost use Rattle.xa_outside.specs.Folder.{Files};
@@ -11,22 +11,20 @@ ghost use Rattle.archive_file.specs.Sound.{SoundAs};
 ghost use Rattle.xarch_words.specs.Commands.{get};
 ghost use Rattle.xarch_words.specs.Refusal as refusal;
 ghost use Rattle.xarch_words.specs.View.{fault_view};
-ghost use Rattle.xarch_steps.specs.Archives.{IsRefusal, NoRefusal};
-ghost use Rattle.xarch_steps.specs.Ends.{EndsGained, IsCaused, IsInside, Matches, fault_of};
-ghost use Rattle.xarch_steps.specs.Folders.{Keeps, ReadsOnly};
-ghost use Rattle.xarch_steps.specs.Inputs.{size_in};
-ghost use Rattle.xarch_steps.specs.Outcome.{and_then, or_refuse};
-ghost use Rattle.xarch_steps.specs.Plausible.{MayBe, MayEnd, get_input, is_version};
+ghost use Rattle.xarch_parts.specs.Archives.{IsRefusal, NoRefusal};
+ghost use Rattle.xarch_parts.specs.Ends.{EndsGained, IsCaused, IsInside, Matches, fault_of};
+ghost use Rattle.xarch_parts.specs.Folders.{Keeps, ReadsOnly};
+ghost use Rattle.xarch_parts.specs.Inputs.{size_in};
+ghost use Rattle.xarch_parts.specs.Outcome.{and_then, or_refuse};
+ghost use Rattle.xarch_parts.specs.Allowed.{MayEnd};
+ghost use Rattle.xarch_steps.specs.Plausible.{MayBe, get_input, is_version};
 
-use crate::archives::archive_from;
-use crate::inputs::read_file;
-use crate::names::damaged;
-use crate::put::write_keyed;
 use archive_file::fixed_of;
 use keyed_tree::Keyed;
 use record_format::versions_have_one_file;
 use std::alloc::Global;
 use xa_outside::{Folder, Sink};
+use xarch_parts::{archive_from, damaged, read_file, write_keyed};
 use xarch_words::Fault;
 
 /// Writes a version of an archive in key order.

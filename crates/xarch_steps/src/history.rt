@@ -1,4 +1,4 @@
-#![tactic(auto, using(crate::proofs::Ending::endings), unfolding(crate::specs::Ends::IsInside, crate::specs::Ends::IsDefined, crate::specs::History::labels_of))]
+#![tactic(auto, using(xarch_parts::specs::EndLaws::endings), unfolding(xarch_parts::specs::Ends::IsInside, xarch_parts::specs::Ends::IsDefined, crate::specs::History::labels_of))]
 
 ghost use Rattle.std.specs.Prelude.{◌≡◌, List, Some, None, IfOk, IfErr, map, string_bytes};
 ghost use Rattle.version_set.specs.Members.{members};
@@ -13,16 +13,14 @@ ghost use Rattle.archive_file.specs.Sound.{SoundAs};
 ghost use Rattle.xarch_words.specs.Commands.{history};
 ghost use Rattle.xarch_words.specs.Refusal as refusal;
 ghost use Rattle.xarch_words.specs.View.{fault_view};
-ghost use Rattle.xarch_steps.specs.Archives.{IsRefusal, NoRefusal};
-ghost use Rattle.xarch_steps.specs.Ends.{EndsGained, IsCaused, IsInside, Matches, fault_of};
-ghost use Rattle.xarch_steps.specs.Folders.{Keeps, ReadsOnly};
+ghost use Rattle.xarch_parts.specs.Archives.{IsRefusal, NoRefusal};
+ghost use Rattle.xarch_parts.specs.Ends.{EndsGained, IsCaused, IsInside, Matches, fault_of};
+ghost use Rattle.xarch_parts.specs.Folders.{Keeps, ReadsOnly};
 ghost use Rattle.xarch_steps.specs.History.{labels_of, numbers_text};
-ghost use Rattle.xarch_steps.specs.Inputs.{size_in};
-ghost use Rattle.xarch_steps.specs.Plausible.{MayBe, MayEnd, history_input};
+ghost use Rattle.xarch_parts.specs.Inputs.{size_in};
+ghost use Rattle.xarch_parts.specs.Allowed.{MayEnd};
+ghost use Rattle.xarch_steps.specs.Plausible.{MayBe, history_input};
 
-use crate::archives::{archive_from, header_from};
-use crate::inputs::read_file;
-use crate::put::write_bytes;
 use key_rules::{PathFault, read_path};
 use key_spec::Spec;
 use keyed_tree::Label;
@@ -30,6 +28,7 @@ use record_format::versions_have_one_file;
 use std::alloc::Global;
 use version_set::VersionSet;
 use xa_outside::{Folder, Sink};
+use xarch_parts::{archive_from, header_from, read_file, write_bytes};
 use xarch_words::Fault;
 
 /// Writes the versions of an archive that hold the element at a path.

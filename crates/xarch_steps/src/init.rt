@@ -1,22 +1,20 @@
-#![tactic(auto, using(crate::proofs::Ending::endings))]
+#![tactic(auto, using(xarch_parts::specs::EndLaws::endings))]
 
 ghost use Rattle.std.specs.Prelude.{◌≡◌, ℕ, Some};
 ghost use Rattle.xa_outside.specs.Folder.{Files};
 ghost use Rattle.xa_outside.specs.Taken.{Taken};
 ghost use Rattle.key_spec.specs.View.{spec_view};
-ghost use Rattle.xarch_steps.specs.Ends.{IsCaused, Matches, fault_of};
-ghost use Rattle.xarch_steps.specs.Folders.{Keeps, ReadsOnly};
+ghost use Rattle.xarch_parts.specs.Ends.{IsCaused, Matches, fault_of};
+ghost use Rattle.xarch_parts.specs.Folders.{Keeps, ReadsOnly};
 ghost use Rattle.xarch_steps.specs.Init.{InitIs, init_rules};
-ghost use Rattle.xarch_steps.specs.Plausible.{MayEnd};
+ghost use Rattle.xarch_parts.specs.Allowed.{MayEnd};
 
-use crate::archives::{begin, check_free, file_from, store};
-use crate::inputs::limited_length;
 use crate::limits;
-use crate::readings::read_spec;
 use archive_tree::Archive;
 use key_spec::Spec;
 use std::alloc::Global;
 use xa_outside::Folder;
+use xarch_parts::{begin, check_free, file_from, limited_length, read_spec, store};
 use xarch_words::{Fault, Quantity};
 
 /// Makes an archive of no versions.

@@ -3,20 +3,15 @@
 #![tactic(auto)]
 
 mod add;
-mod archives;
 mod demo;
 mod get;
 mod history;
 mod init;
-mod inputs;
+mod laws;
 mod limits;
-mod merged;
-mod names;
 mod norm;
-mod put;
-mod readings;
 mod stats;
 mod step;
 
-pub use merged::file_of_versions;
+pub use laws::what_should_succeed_is_not_refused;
 pub use step::take_step;

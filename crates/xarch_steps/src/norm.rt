@@ -7,19 +7,18 @@ ghost use Rattle.jsonml_tree.specs.LentView.{lent_tree_view};
 ghost use Rattle.jsonml_tree.specs.WellFormed.{IsWellFormed};
 ghost use Rattle.key_spec.specs.View.{spec_view};
 ghost use Rattle.xarch_words.specs.Commands.{norm};
-ghost use Rattle.xarch_steps.specs.Ends.{EndsGained, IsCaused, Matches, fault_of};
-ghost use Rattle.xarch_steps.specs.Folders.{Keeps, ReadsOnly};
+ghost use Rattle.xarch_parts.specs.Ends.{EndsGained, IsCaused, Matches, fault_of};
+ghost use Rattle.xarch_parts.specs.Folders.{Keeps, ReadsOnly};
 ghost use Rattle.xarch_steps.specs.Norm.{norm_from, norm_input, norm_of_tree};
-ghost use Rattle.xarch_steps.specs.Plausible.{MayBe, MayEnd};
+ghost use Rattle.xarch_parts.specs.Allowed.{MayEnd};
+ghost use Rattle.xarch_steps.specs.Plausible.{MayBe};
 
-use crate::inputs::{limited_length, read_whole};
 use crate::limits;
-use crate::put::write_keyed;
-use crate::readings::{doc_from, keyed_from, read_spec};
 use jsonml_tree::LentTree;
 use key_spec::Spec;
 use std::alloc::Global;
 use xa_outside::{Folder, Sink};
+use xarch_parts::{doc_from, keyed_from, limited_length, read_spec, read_whole, write_keyed};
 use xarch_words::{Fault, Quantity};
 
 /// Writes a document in the order of its keys.

@@ -1,4 +1,4 @@
-#![tactic(auto, using(crate::proofs::Ending::endings), unfolding(crate::specs::Ends::IsInside, crate::specs::Ends::IsOfFolder))]
+#![tactic(auto, using(xarch_parts::specs::EndLaws::endings), unfolding(xarch_parts::specs::Ends::IsInside, xarch_parts::specs::Ends::IsOfFolder))]
 
 ghost use Rattle.std.specs.Prelude.{◌≡◌, ◌≤◌, ◌++◌, Ok, Err, Some, None, IfOk, IfErr, codes};
 ghost use Rattle.xa_outside.specs.Causes.{HasCause};
@@ -8,18 +8,18 @@ ghost use Rattle.archive_stats.specs.View.{counts_view};
 ghost use Rattle.xarch_words.specs.Commands as commands;
 ghost use Rattle.xarch_words.specs.Refusal.{Refusal, refused};
 ghost use Rattle.xarch_words.specs.View.{fault_view};
-ghost use Rattle.xarch_steps.specs.Ends.{EndsGained, IsCaused, IsOfOutput, fault_of};
-ghost use Rattle.xarch_steps.specs.Folders.{Keeps, ReadsOnly};
-ghost use Rattle.xarch_steps.specs.Inputs.{size_in};
-ghost use Rattle.xarch_steps.specs.Plausible.{MayBe, MayEnd};
+ghost use Rattle.xarch_parts.specs.Ends.{EndsGained, IsCaused, IsOfOutput, fault_of};
+ghost use Rattle.xarch_parts.specs.Folders.{Keeps, ReadsOnly};
+ghost use Rattle.xarch_parts.specs.Inputs.{size_in};
+ghost use Rattle.xarch_parts.specs.Allowed.{MayEnd};
+ghost use Rattle.xarch_steps.specs.Plausible.{MayBe};
 ghost use Rattle.xarch_steps.specs.Stats.{counts_text, nodes_text, sizes_text};
 
-use crate::inputs::length_of;
-use crate::names::damaged;
 use archive_stats::{Counts, StatsFault, stats};
 use itoa::{Buffer, Integer};
 use std::alloc::Global;
 use xa_outside::{Buffered, Failed, Folder, Sink, put_all};
+use xarch_parts::{damaged, length_of};
 use xarch_words::Fault;
 
 /// Writes how much an archive holds.
@@ -64,7 +64,7 @@ fn counts_in<F: Folder>(alloc: Global, archive: &str, folder: &mut F) -> Result<
 }
 
 /// Writes the seven lines of counts.
-#[tactic(auto, unfolding(crate::specs::Ends::IsOfOutput))]
+#[tactic(auto, unfolding(xarch_parts::specs::Ends::IsOfOutput))]
 pub(crate) fn write_counts<O: Sink>(counts: &Counts, out: &mut O) -> Result<(), Fault>
     ensures bytes { Puts (O.taken out.old) (O.taken out.new) result
         (counts_text (counts_view counts.now)) }

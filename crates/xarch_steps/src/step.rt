@@ -1,17 +1,19 @@
-#![tactic(auto, using(crate::proofs::Ending::endings))]
+#![tactic(auto, using(xarch_parts::specs::EndLaws::endings))]
 
 ghost use Rattle.std.specs.Prelude.{◌≡◌, ◌≢◌, ◌≤◌, ◌<◌, ◌↔◌, ◌⊎◌, ℕ, List, Some, None, OnErr, option_map};
 ghost use Rattle.xa_outside.specs.Causes.{Rose};
 ghost use Rattle.xa_outside.specs.Folder.{Files};
 ghost use Rattle.xa_outside.specs.Taken.{TakesNone};
 ghost use Rattle.xarch_words.specs.Commands.{PlainCommand, command_of, demo};
+ghost use Rattle.xarch_words.specs.Lines.{fault_line};
 ghost use Rattle.xarch_words.specs.Refusal as refusal;
 ghost use Rattle.xarch_words.specs.Refusal.{limit, refused, usage};
 ghost use Rattle.xarch_words.specs.View.{command_view, words_view};
-ghost use Rattle.xarch_steps.specs.Ends.{EndsGained, Gained, HasItsCause, IsCaused, fault_of};
-ghost use Rattle.xarch_steps.specs.Folders.{IsTold, Keeps};
-ghost use Rattle.xarch_steps.specs.Outcome.{Step};
-ghost use Rattle.xarch_steps.specs.Plausible.{MayBe, MayDo, MayEnd, Tried, Wrote};
+ghost use Rattle.xarch_parts.specs.Ends.{EndsGained, Gained, HasItsCause, IsCaused, fault_of};
+ghost use Rattle.xarch_parts.specs.Folders.{IsTold, Keeps};
+ghost use Rattle.xarch_parts.specs.Outcome.{Step};
+ghost use Rattle.xarch_parts.specs.Allowed.{MayEnd};
+ghost use Rattle.xarch_steps.specs.Plausible.{MayBe, MayDo, Tried, Wrote};
 ghost use Rattle.xarch_steps.specs.Ran.{CountsAsSaid, IsLongDemo, OnlyReads, Said, Says, line_after, made_name, most_pulled, outside_of, status_after};
 ghost use Rattle.xarch_steps.specs.Step.{StepIs, alone, single_of};
 ghost use Rattle.xarch_steps.specs.Succeeds.{ShouldSucceed};
@@ -57,7 +59,7 @@ pub fn take_step<F: Folder, O: Sink, E: Sink>(
     ensures nothing { result ≢ 0 → outside_of result ≡ None
         → TakesNone (O.taken out.old) (O.taken out.new) }
 
-    // What should succeed does: in plain conditions on the files, and wherever a step is defined.
+    // What should succeed does: in conditions on the files, and wherever a step is defined.
     ensures succeeds { (files : Files) (command : PlainCommand) → F.files folder.old ≡ Some files
         → command_of (words_view words.now) ≡ Some command → ShouldSucceed files command
         → ¬ Rose (F.faults folder.old) (F.faults folder.new)
@@ -75,7 +77,8 @@ pub fn take_step<F: Folder, O: Sink, E: Sink>(
     ensures usage { (result ≡ 2) ↔ (single_of (words_view words.now) ≡ None) }
     ensures long_demo { (seed count : ℕ) (name : List ℕ)
         → command_of (words_view words.now) ≡ Some (demo seed count name) → 1000 < count
-        → result ≡ 12 }
+        → (result ≡ 12) × Says (E.taken err.old) (E.taken err.new) (E.faults err.old)
+        (E.faults err.new) (fault_line (refused (limit refusal.demo 1000))) }
     ensures folder_fault { result ≡ 13 → Rose (F.faults folder.old) (F.faults folder.new) }
     ensures out_fault { result ≡ 14 → Rose (O.faults out.old) (O.faults out.new) }
     ensures never_input_fault { result ≢ 15 }
@@ -153,7 +156,7 @@ fn single_command(words: &[String]) -> Option<Command<'_>>
     }
 }
 
-#[tactic(auto, using(crate::proofs::Ending::endings), unfolding(crate::specs::Plausible::MayBe))]
+#[tactic(auto, using(xarch_parts::specs::EndLaws::endings), unfolding(crate::specs::Plausible::MayBe))]
 fn run_command<F: Folder, O: Sink>(
     alloc: Global,
     command: Command<'_>,

@@ -1,4 +1,4 @@
-use Rattle.xarch_steps.proofs.Ending.{IfOk-passed, IsDefined-here, Matches-next, Matches-passed, inside-passed}
+use Rattle.xarch_parts.specs.EndLaws.{IfOk-passed, IsDefined-here, Matches-next, Matches-passed, inside-passed}
 use Rattle.xarch_steps.proofs.add.added_from.Goals as goal
 
 pub returns-in_err-doc-clause-cause : goal.returns-in_err-doc-clause-cause

@@ -1,12 +1,12 @@
 use Rattle.std.proofs.Common.{List, ℕ, Ok, sym, ap, ◌∙◌, subst}
 use Rattle.key_spec.specs.View.{spec_view}
 use Rattle.keyed_tree.specs.View.{keyed_view}
-use Rattle.xarch_steps.specs.Ends.{Matches}
-use Rattle.xarch_steps.specs.Outcome.{and_then}
-use Rattle.xarch_steps.specs.Readings.{document_of, keyed_of}
-use Rattle.xarch_steps.specs.Inputs.{file_of}
-use Rattle.xarch_steps.proofs.Ending.{IfOk-passed, IsDefined-here, Matches-passed}
-use Rattle.xarch_steps.proofs.FolderLemmas.{reads-inside, reads-more, reads-passed}
+use Rattle.xarch_parts.specs.Ends.{Matches}
+use Rattle.xarch_parts.specs.Outcome.{and_then}
+use Rattle.xarch_parts.specs.Readings.{document_of, keyed_of}
+use Rattle.xarch_parts.specs.Inputs.{file_of}
+use Rattle.xarch_parts.specs.EndLaws.{IfOk-passed, IsDefined-here, Matches-passed}
+use Rattle.xarch_parts.specs.FolderLaws.{reads-inside, reads-more, reads-passed}
 use Rattle.xarch_steps.proofs.add.keyed_in.Goals as goal
 
 pub returns-in_err-text-clause-reads : goal.returns-in_err-text-clause-reads

@@ -1,11 +1,11 @@
 use Rattle.std.proofs.Common.{◌≡◌, List, ℕ, Ok, length, arith, sym, ap, ◌∙◌, subst}
 use Rattle.keyed_tree.specs.View.{keyed_view}
 use Rattle.xarch_steps.specs.Added.{Goes}
-use Rattle.xarch_steps.specs.Inputs.{file_of}
+use Rattle.xarch_parts.specs.Inputs.{file_of}
 use Rattle.xarch_steps.proofs.AddEnds.{beside, input-behind, input-refused}
-use Rattle.xarch_steps.proofs.Ending.{IfOk-passed, IsDefined-here, IsDefined-whatever, Matches-passed}
-use Rattle.xarch_steps.proofs.FolderLemmas.{reads-more, reads-passed, reads-then}
-use Rattle.xarch_steps.proofs.InputLemmas.{IsDefined-length, length_in-length}
+use Rattle.xarch_parts.specs.EndLaws.{IfOk-passed, IsDefined-here, IsDefined-whatever, Matches-passed}
+use Rattle.xarch_parts.specs.FolderLaws.{reads-more, reads-passed, reads-then}
+use Rattle.xarch_parts.specs.InputLaws.{IsDefined-length, length_in-length}
 use Rattle.xarch_steps.proofs.add.read_added.Goals as goal
 
 pub returns-in_err-length-clause-reads : goal.returns-in_err-length-clause-reads

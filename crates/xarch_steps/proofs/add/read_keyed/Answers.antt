@@ -3,11 +3,11 @@ use Rattle.key_spec.specs.View.{spec_view}
 use Rattle.keyed_tree.specs.View.{keyed_view}
 use Rattle.xarch_words.specs.View.{fault_view}
 use Rattle.xarch_steps.specs.Add.{room_behind}
-use Rattle.xarch_steps.specs.Inputs.{read_in}
-use Rattle.xarch_steps.specs.Outcome.{and_then}
-use Rattle.xarch_steps.specs.Readings.{document_of, keyed_of}
-use Rattle.xarch_steps.proofs.Ending.{IfOk-passed, IsDefined-here, IsDefined-inner, IsDefined-inner-next, IsDefined-next, Matches-passed, and_then-Ok, and_then-inner}
-use Rattle.xarch_steps.proofs.FolderLemmas.{reads-inside, reads-none, reads-passed}
+use Rattle.xarch_parts.specs.Inputs.{read_in}
+use Rattle.xarch_parts.specs.Outcome.{and_then}
+use Rattle.xarch_parts.specs.Readings.{document_of, keyed_of}
+use Rattle.xarch_parts.specs.EndLaws.{IfOk-passed, IsDefined-here, IsDefined-inner, IsDefined-inner-next, IsDefined-next, Matches-passed, and_then-Ok, and_then-inner}
+use Rattle.xarch_parts.specs.FolderLaws.{reads-inside, reads-none, reads-passed}
 use Rattle.xarch_steps.proofs.Merging.{goes_on}
 use Rattle.xarch_steps.proofs.add.read_keyed.Goals as goal
 

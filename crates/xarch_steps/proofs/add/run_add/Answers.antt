@@ -5,8 +5,8 @@ use Rattle.archive_file.specs.Sound.{SoundAs}
 use Rattle.xarch_words.specs.Commands.{add}
 use Rattle.xarch_steps.specs.Plausible.{MayBe, add_input}
 use Rattle.xarch_steps.proofs.AddEnds.{may_refuse_early, may_replace, may_refuse}
-use Rattle.xarch_steps.proofs.FolderLemmas.{caused-begin, caused-begun, caused-passed, caused-then, keeps-begun, keeps-made, keeps-not_begun, reads-inside, sized}
-use Rattle.xarch_steps.proofs.MayEnds.{MayEnd-passed, MayEnd-folder, MayEnd-stored, defined_refused}
+use Rattle.xarch_parts.specs.FolderLaws.{caused-begin, caused-begun, caused-passed, caused-then, keeps-begun, keeps-made, keeps-not_begun, reads-inside, sized}
+use Rattle.xarch_parts.specs.AllowedLaws.{MayEnd-passed, MayEnd-folder, MayEnd-stored, defined_refused}
 use Rattle.xarch_steps.proofs.add.run_add.Goals as goal
 
 pub returns-in_err-begin-clause-may : goal.returns-in_err-begin-clause-may
@@ -60,3 +60,6 @@ returns-clause-keeps g c = keeps-made _ _ _ _ _ _ _ c.in_ok-begin.ensures.begins
 
 pub returns-clause-caused : goal.returns-clause-caused
 returns-clause-caused g c = λ out. caused-then _ _ _ _ _ _ _ (caused-begun _ _ _ _ _ _ c.in_ok-begin.ensures.begins c.in_ok-bytes.ensures.reads) (c.store.ensures.caused out)
+
+pub store-requires : goal.store-requires
+store-requires g c = record { blank = λ b e. c.in_ok-begin.ensures.begins.blank refl b (sym c.in_ok-bytes.ensures.reads.same_draft ∙ e) }

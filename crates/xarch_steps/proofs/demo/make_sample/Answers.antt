@@ -1,8 +1,8 @@
 use Rattle.std.proofs.Common.{◌≡◌, inl, inr, List, ℕ, Ok, Err, sym, ap, ◌∙◌, subst, arith}
 use Rattle.archive_stats.specs.View.{counts_view}
 use Rattle.xarch_steps.specs.Demo.{IsSampleFile, MakesOrNone, told_and_stored}
-use Rattle.xarch_steps.proofs.FolderLemmas.{caused-inside, caused-passed, writes-none}
-use Rattle.xarch_steps.proofs.MayEnds.{MayEnd-more, MayEnd-passed, gained-none}
+use Rattle.xarch_parts.specs.FolderLaws.{caused-inside, caused-passed, writes-none}
+use Rattle.xarch_parts.specs.AllowedLaws.{MayEnd-more, MayEnd-passed, gained-none}
 use Rattle.xarch_steps.proofs.demo.make_sample.Goals as goal
 
 pub returns-in_err-bytes-clause-writes : goal.returns-in_err-bytes-clause-writes

@@ -1,11 +1,11 @@
 use Rattle.std.proofs.Common.{refl, sym, ◌∙◌, arith}
 use Rattle.xarch_words.specs.Refusal as refusal
-use Rattle.xarch_steps.specs.Archives.{free_in}
+use Rattle.xarch_parts.specs.Archives.{free_in}
 use Rattle.xarch_steps.specs.Demo.{DemoIs, MakesOrNone}
-use Rattle.xarch_steps.specs.Inputs.{at_most}
+use Rattle.xarch_parts.specs.Inputs.{at_most}
 use Rattle.xarch_steps.proofs.DemoEnds.{goes_on, refused_many, refused_name}
-use Rattle.xarch_steps.proofs.FolderLemmas.{caused-begin, caused-begun, caused-inside, caused-passed, caused-then, keeps-begun, keeps-made, keeps-none, keeps-not_begun}
-use Rattle.xarch_steps.proofs.MayEnds.{MayEnd-folder, MayEnd-more, MayEnd-passed, defined_refused, gained-none, passed-fault}
+use Rattle.xarch_parts.specs.FolderLaws.{caused-begin, caused-begun, caused-inside, caused-passed, caused-then, keeps-begun, keeps-made, keeps-none, keeps-not_begun}
+use Rattle.xarch_parts.specs.AllowedLaws.{MayEnd-folder, MayEnd-more, MayEnd-passed, defined_refused, gained-none, passed-fault}
 use Rattle.xarch_steps.proofs.demo.run_demo.Goals as goal
 
 pub returns-in_err-check_few-clause-keeps : goal.returns-in_err-check_few-clause-keeps

@@ -1,8 +1,8 @@
 use Rattle.std.proofs.Common.{◌≡◌, Ok, refl, arith, ◌∙◌}
 use Rattle.archive_stats.specs.View.{counts_view}
 use Rattle.xarch_steps.specs.Demo.{told_and_stored}
-use Rattle.xarch_steps.proofs.FolderLemmas.{caused-output, caused-passed, caused-then, writes-kept, writes-passed, writes-then}
-use Rattle.xarch_steps.proofs.MayEnds.{MayEnd-committed, MayEnd-folder, MayEnd-put_failed, commit-tells, gained-committed, gained-none, gained-put_failed}
+use Rattle.xarch_parts.specs.FolderLaws.{caused-output, caused-passed, caused-then, writes-kept, writes-passed, writes-then}
+use Rattle.xarch_parts.specs.AllowedLaws.{MayEnd-committed, MayEnd-folder, MayEnd-put_failed, commit-tells, gained-committed, gained-none, gained-put_failed}
 use Rattle.xarch_steps.proofs.demo.tell_then_store.Goals as goal
 
 pub returns-in_err-draft-clause-writes : goal.returns-in_err-draft-clause-writes

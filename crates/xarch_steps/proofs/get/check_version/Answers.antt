@@ -1,8 +1,8 @@
 use Rattle.std.proofs.Common.{ap, sym}
 use Rattle.record_format.specs.Fronts.{fixed}
 use Rattle.xarch_words.specs.Refusal.{damaged}
-use Rattle.xarch_steps.specs.Outcome.{or_refuse}
-use Rattle.xarch_steps.proofs.Ending.{IsDefined-here, IsDefined-only}
+use Rattle.xarch_parts.specs.Outcome.{or_refuse}
+use Rattle.xarch_parts.specs.EndLaws.{IsDefined-here, IsDefined-only}
 use Rattle.xarch_steps.proofs.get.check_version.Goals as goal
 
 pub returns-in-None-clause-told : goal.returns-in-None-clause-told

@@ -2,10 +2,10 @@ use Rattle.std.proofs.Common.{◌≡◌, List, ℕ, Ok, sym, ap, ◌∙◌}
 use Rattle.record_format.specs.Fronts.{fixed}
 use Rattle.xarch_words.specs.Refusal.{damaged}
 use Rattle.xarch_words.specs.View.{fault_view}
-use Rattle.xarch_steps.specs.Outcome.{or_refuse}
+use Rattle.xarch_parts.specs.Outcome.{or_refuse}
 use Rattle.xarch_steps.specs.Plausible.{is_version}
-use Rattle.xarch_steps.proofs.Ending.{IsDefined-here, IsDefined-inner, IsDefined-next, Matches-passed, and_then-Ok, and_then-inner}
-use Rattle.xarch_steps.proofs.FolderLemmas.{reads-inside, reads-passed}
+use Rattle.xarch_parts.specs.EndLaws.{IsDefined-here, IsDefined-inner, IsDefined-next, Matches-passed, and_then-Ok, and_then-inner}
+use Rattle.xarch_parts.specs.FolderLaws.{reads-inside, reads-passed}
 use Rattle.xarch_steps.proofs.get.read_counted.Goals as goal
 
 pub returns-in_err-bytes-clause-reads : goal.returns-in_err-bytes-clause-reads

@@ -3,9 +3,9 @@ use Rattle.keyed_tree.specs.View.{keyed_view}
 use Rattle.xarch_words.specs.Commands.{get}
 use Rattle.keyed_print.specs.KeyedText.{keyed_text}
 use Rattle.xarch_steps.specs.Plausible.{MayBe, get_input}
-use Rattle.xarch_steps.proofs.FolderLemmas.{caused-passed, caused-read, caused-written, keeps-read, reads-inside}
+use Rattle.xarch_parts.specs.FolderLaws.{caused-passed, caused-read, caused-written, keeps-read, reads-inside}
 use Rattle.xarch_steps.proofs.GetEnds.{may_refuse_early, may_write, may_refuse}
-use Rattle.xarch_steps.proofs.MayEnds.{MayEnd-passed, MayEnd-written, defined_refused, gained-none, gained-written, tells_same}
+use Rattle.xarch_parts.specs.AllowedLaws.{MayEnd-passed, MayEnd-written, defined_refused, gained-none, gained-written, tells_same}
 use Rattle.xarch_steps.proofs.get.run_get.Goals as goal
 
 pub returns-in_err-bytes-clause-keeps : goal.returns-in_err-bytes-clause-keeps

@@ -1,8 +1,8 @@
 use Rattle.std.proofs.Common.{◌≡◌, List, ℕ, Ok, map, sym, ap, ◌∙◌}
 use Rattle.keyed_tree.specs.View.{label_view}
-use Rattle.xarch_steps.specs.Outcome.{and_then}
-use Rattle.xarch_steps.proofs.Ending.{IsDefined-here, IsDefined-next, Matches-passed, and_then-Ok}
-use Rattle.xarch_steps.proofs.FolderLemmas.{reads-inside, reads-passed}
+use Rattle.xarch_parts.specs.Outcome.{and_then}
+use Rattle.xarch_parts.specs.EndLaws.{IsDefined-here, IsDefined-next, Matches-passed, and_then-Ok}
+use Rattle.xarch_parts.specs.FolderLaws.{reads-inside, reads-passed}
 use Rattle.xarch_steps.proofs.history.read_asked.Goals as goal
 
 pub returns-in_err-bytes-clause-reads : goal.returns-in_err-bytes-clause-reads

@@ -5,9 +5,9 @@ use Rattle.xarch_words.specs.Commands.{history}
 use Rattle.xarch_words.specs.Refusal.{Refusal, memory, refused}
 use Rattle.xarch_steps.specs.History.{numbers_text}
 use Rattle.xarch_steps.specs.Plausible.{MayBe, history_input}
-use Rattle.xarch_steps.proofs.FolderLemmas.{caused-passed, caused-read, caused-written, keeps-read, reads-inside}
+use Rattle.xarch_parts.specs.FolderLaws.{caused-passed, caused-read, caused-written, keeps-read, reads-inside}
 use Rattle.xarch_steps.proofs.HistoryEnds.{may_refuse_early, may_write, may_refuse}
-use Rattle.xarch_steps.proofs.MayEnds.{MayEnd-passed, MayEnd-written, defined_refused, gained-none, gained-written, tells_same}
+use Rattle.xarch_parts.specs.AllowedLaws.{MayEnd-passed, MayEnd-written, defined_refused, gained-none, gained-written, tells_same}
 use Rattle.xarch_steps.proofs.history.run_history.Goals as goal
 
 pub returns-in_err-bytes-clause-may : goal.returns-in_err-bytes-clause-may

@@ -1,7 +1,7 @@
 use Rattle.std.proofs.Common.{arith, ◌∙◌}
-use Rattle.xarch_steps.proofs.Ending.{IsDefined-here, IsDefined-next, Matches-next, Matches-passed}
-use Rattle.xarch_steps.proofs.FolderLemmas.{reads-more, reads-passed, reads-then}
-use Rattle.xarch_steps.proofs.InputLemmas.{length_in-length}
+use Rattle.xarch_parts.specs.EndLaws.{IsDefined-here, IsDefined-next, Matches-next, Matches-passed}
+use Rattle.xarch_parts.specs.FolderLaws.{reads-more, reads-passed, reads-then}
+use Rattle.xarch_parts.specs.InputLaws.{length_in-length}
 use Rattle.xarch_steps.proofs.init.new_rules.Goals as goal
 
 pub returns-in_err-check_free-clause-reads : goal.returns-in_err-check_free-clause-reads

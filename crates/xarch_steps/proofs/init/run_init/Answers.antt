@@ -1,11 +1,12 @@
-use Rattle.std.proofs.Common.{[], refl, sym, ◌∙◌, subst}
+use Rattle.std.proofs.Common.{[], arith, refl, sym, ◌∙◌, subst}
 use Rattle.std.specs.FinMap as map
 use Rattle.key_spec.specs.View.{spec_view}
+use Rattle.archive_tree.specs.ArchiveView.{archive_view}
 use Rattle.archive_file.specs.Sound.{SoundAs}
 use Rattle.xarch_steps.specs.Init.{InitIs, init_rules}
-use Rattle.xarch_steps.proofs.FolderLemmas.{caused-begin, caused-begun, caused-passed, caused-then, keeps-begun, keeps-made, keeps-not_begun, reads-inside}
-use Rattle.xarch_steps.proofs.InitEnds.{init_refused_early, init_stored, init_refused}
-use Rattle.xarch_steps.proofs.MayEnds.{MayEnd-passed, MayEnd-folder, MayEnd-stored, defined_refused}
+use Rattle.xarch_parts.specs.FolderLaws.{caused-begin, caused-begun, caused-passed, caused-then, keeps-begun, keeps-made, keeps-not_begun, reads-inside}
+use Rattle.xarch_steps.proofs.InitEnds.{init_refused_early, init_stored, init_refused, none_keyed}
+use Rattle.xarch_parts.specs.AllowedLaws.{MayEnd-passed, MayEnd-folder, MayEnd-stored, defined_refused}
 use Rattle.xarch_steps.proofs.init.run_init.Goals as goal
 
 pub returns-in_err-begin-clause-may : goal.returns-in_err-begin-clause-may
@@ -57,3 +58,12 @@ returns-clause-keeps g c = keeps-made _ _ _ _ _ _ _ c.in_ok-begin.ensures.begins
 
 pub returns-clause-caused : goal.returns-clause-caused
 returns-clause-caused g c = λ out. caused-then _ _ _ _ _ _ _ (caused-begun _ _ _ _ _ _ c.in_ok-begin.ensures.begins c.in_ok-spec.ensures.reads) (c.store.ensures.caused out)
+
+pub file_from-requires-clause-few : goal.file_from-requires-clause-few
+file_from-requires-clause-few g c = let count = c.empty.ensures.count in omega (arith, count)
+
+pub file_from-requires-clause-keyed : goal.file_from-requires-clause-keyed
+file_from-requires-clause-keyed g c = none_keyed (spec_view c.in_ok-spec.spec) (archive_view c.empty.result) c.empty.ensures
+
+pub store-requires : goal.store-requires
+store-requires g c = record { blank = λ b e. c.in_ok-begin.ensures.begins.blank refl b (sym c.in_ok-spec.ensures.reads.same_draft ∙ e) }

@@ -1,7 +1,7 @@
 use Rattle.std.proofs.Common.{Ok, arith, refl, ◌∙◌}
-use Rattle.xarch_steps.proofs.Ending.{IfOk-passed, IsDefined-here, IsDefined-next, Matches-passed, and_then-Ok}
-use Rattle.xarch_steps.proofs.FolderLemmas.{reads-more, reads-passed, reads-then}
-use Rattle.xarch_steps.proofs.InputLemmas.{length_in-length}
+use Rattle.xarch_parts.specs.EndLaws.{IfOk-passed, IsDefined-here, IsDefined-next, Matches-passed, and_then-Ok}
+use Rattle.xarch_parts.specs.FolderLaws.{reads-more, reads-passed, reads-then}
+use Rattle.xarch_parts.specs.InputLaws.{length_in-length}
 use Rattle.xarch_steps.proofs.norm.read_both.Goals as goal
 
 pub returns-in_err-spec_length-clause-reads : goal.returns-in_err-spec_length-clause-reads

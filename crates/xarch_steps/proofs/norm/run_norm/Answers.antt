@@ -3,8 +3,8 @@ use Rattle.std.specs.FinMap as map
 use Rattle.key_spec.specs.View.{spec_view}
 use Rattle.xarch_steps.specs.Norm.{norm_from, norm_of}
 use Rattle.xarch_steps.specs.Plausible.{MayBe}
-use Rattle.xarch_steps.proofs.FolderLemmas.{caused-passed, caused-read, caused-then, keeps-read}
-use Rattle.xarch_steps.proofs.MayEnds.{MayEnd-more, MayEnd-passed, MayEnd-told, defined_refused, gained-may, gained-none}
+use Rattle.xarch_parts.specs.FolderLaws.{caused-passed, caused-read, caused-then, keeps-read}
+use Rattle.xarch_parts.specs.AllowedLaws.{MayEnd-more, MayEnd-passed, MayEnd-told, defined_refused, gained-may, gained-none}
 use Rattle.xarch_steps.proofs.NormEnds.{norm-goes_on, norm-refused}
 use Rattle.xarch_steps.proofs.norm.run_norm.Goals as goal
 

@@ -2,10 +2,10 @@ use Rattle.std.proofs.Common.{◌≡◌, sym, ap, ◌∙◌}
 use Rattle.jsonml_tree.specs.LentView.{lent_tree_view}
 use Rattle.key_spec.specs.View.{spec_view}
 use Rattle.xarch_steps.specs.Norm.{norm_from, norm_of_tree}
-use Rattle.xarch_steps.specs.Outcome.{and_then}
-use Rattle.xarch_steps.proofs.Ending.{IsDefined-here}
-use Rattle.xarch_steps.proofs.FolderLemmas.{caused-inside, caused-passed}
-use Rattle.xarch_steps.proofs.MayEnds.{MayEnd-more, MayEnd-passed, defined_refused}
+use Rattle.xarch_parts.specs.Outcome.{and_then}
+use Rattle.xarch_parts.specs.EndLaws.{IsDefined-here}
+use Rattle.xarch_parts.specs.FolderLaws.{caused-inside, caused-passed}
+use Rattle.xarch_parts.specs.AllowedLaws.{MayEnd-more, MayEnd-passed, defined_refused}
 use Rattle.xarch_steps.proofs.norm.write_ordered.Goals as goal
 
 pub returns-in_err-doc-clause-caused : goal.returns-in_err-doc-clause-caused

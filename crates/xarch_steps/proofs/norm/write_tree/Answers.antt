@@ -4,9 +4,9 @@ use Rattle.key_annotate.specs.LentView.{lent_view}
 use Rattle.key_spec.specs.View.{spec_view}
 use Rattle.keyed_print.specs.KeyedText.{keyed_text}
 use Rattle.xarch_steps.specs.Norm.{norm_of_tree}
-use Rattle.xarch_steps.proofs.Ending.{IsDefined-here, and_then-Ok}
-use Rattle.xarch_steps.proofs.FolderLemmas.{caused-inside, caused-output, caused-passed}
-use Rattle.xarch_steps.proofs.MayEnds.{MayEnd-passed, MayEnd-written, defined_refused, tells_same}
+use Rattle.xarch_parts.specs.EndLaws.{IsDefined-here, and_then-Ok}
+use Rattle.xarch_parts.specs.FolderLaws.{caused-inside, caused-output, caused-passed}
+use Rattle.xarch_parts.specs.AllowedLaws.{MayEnd-passed, MayEnd-written, defined_refused, tells_same}
 use Rattle.xarch_steps.proofs.norm.write_tree.Goals as goal
 
 pub returns-in_err-keyed-clause-caused : goal.returns-in_err-keyed-clause-caused

@@ -1,10 +1,10 @@
 use Rattle.std.proofs.Common.{◌∙◌, arith}
 use Rattle.archive_stats.specs.View.{counts_view}
-use Rattle.xarch_steps.specs.Ends.{IsInside, IsOfFolder}
-use Rattle.xarch_steps.specs.Inputs.{file_length}
-use Rattle.xarch_steps.proofs.Ending.{IfOk-passed, IsOfFolder-inside}
-use Rattle.xarch_steps.proofs.FolderLemmas.{reads-behind, reads-more, reads-passed}
-use Rattle.xarch_steps.proofs.MayEnds.{IfErr-passed, defined_refused}
+use Rattle.xarch_parts.specs.Ends.{IsInside, IsOfFolder}
+use Rattle.xarch_parts.specs.Inputs.{file_length}
+use Rattle.xarch_parts.specs.EndLaws.{IfOk-passed, IsOfFolder-inside}
+use Rattle.xarch_parts.specs.FolderLaws.{reads-behind, reads-more, reads-passed}
+use Rattle.xarch_parts.specs.AllowedLaws.{IfErr-passed, defined_refused}
 use Rattle.xarch_steps.proofs.StatsEnds.{may_refuse_early, may_count, may_refuse, refuses_only}
 use Rattle.xarch_steps.proofs.stats.counts_in.Goals as goal
 

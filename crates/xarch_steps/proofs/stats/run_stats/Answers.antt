@@ -3,8 +3,8 @@ use Rattle.archive_stats.specs.View.{counts_view}
 use Rattle.xarch_words.specs.Commands.{stats}
 use Rattle.xarch_steps.specs.Plausible.{MayBe}
 use Rattle.xarch_steps.specs.Stats.{counts_text}
-use Rattle.xarch_steps.proofs.FolderLemmas.{caused-passed, caused-read, caused-written, keeps-read}
-use Rattle.xarch_steps.proofs.MayEnds.{MayEnd-passed, MayEnd-written, gained-none, gained-written, tells_same}
+use Rattle.xarch_parts.specs.FolderLaws.{caused-passed, caused-read, caused-written, keeps-read}
+use Rattle.xarch_parts.specs.AllowedLaws.{MayEnd-passed, MayEnd-written, gained-none, gained-written, tells_same}
 use Rattle.xarch_steps.proofs.stats.run_stats.Goals as goal
 
 pub returns-in_err-counts-clause-may : goal.returns-in_err-counts-clause-may

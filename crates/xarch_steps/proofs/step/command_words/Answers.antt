@@ -1,10 +1,10 @@
 use Rattle.std.proofs.Common.{sym, subst, rules}
 use Rattle.xarch_words.specs.View.{command_view, words_view}
-use Rattle.xarch_steps.specs.Ends.{HasItsCause}
+use Rattle.xarch_parts.specs.Ends.{HasItsCause}
 use Rattle.xarch_steps.specs.Ran.{IsLongDemo}
-use Rattle.xarch_steps.proofs.Ending.{HasItsCause-command}
+use Rattle.xarch_parts.specs.EndLaws.{HasItsCause-command}
 use Rattle.xarch_steps.proofs.Running.{MayEnd-usage, MayEnd-command, OnErr-of, counts_as_said, makes_none, nothing_counted, usage-command}
-use Rattle.xarch_steps.proofs.MayEnds.{gained-none}
+use Rattle.xarch_parts.specs.AllowedLaws.{gained-none}
 use Rattle.xarch_steps.proofs.step.command_words.Goals as goal
 
 pub returns-in-None-clause-cause : goal.returns-in-None-clause-cause

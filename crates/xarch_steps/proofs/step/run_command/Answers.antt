@@ -1,5 +1,5 @@
 use Rattle.xarch_steps.specs.Plausible.{MayBe}
-use Rattle.xarch_steps.proofs.MayEnds.{gained-none}
+use Rattle.xarch_parts.specs.AllowedLaws.{gained-none}
 use Rattle.xarch_steps.proofs.step.run_command.Goals as goal
 
 pub returns-in-Norm-clause-keeps : goal.returns-in-Norm-clause-keeps

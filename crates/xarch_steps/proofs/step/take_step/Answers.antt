@@ -1,9 +1,9 @@
 use Rattle.std.proofs.Common.{◌≡◌, ◌⊎◌, ℕ, sym, ap, subst, ◌∙◌}
 use Rattle.xarch_words.specs.View.{words_view}
-use Rattle.xarch_steps.specs.Ends.{fault_of}
+use Rattle.xarch_parts.specs.Ends.{fault_of}
 use Rattle.xarch_steps.specs.Plausible.{Tried}
 use Rattle.xarch_steps.specs.Ran.{outside_of, status_after}
-use Rattle.xarch_steps.proofs.Running.{complete-from, long_demo-alone, fault_of-OnErr, folder_fault-caused, out_fault-caused, status_after-input, gained-any, gained-refused, Tried-from, Wrote-from}
+use Rattle.xarch_steps.proofs.Running.{complete-from, long_demo-alone, fault_of-OnErr, folder_fault-caused, out_fault-caused, status_after-input, gained-any, gained-refused, says-fault, Tried-from, Wrote-from}
 use Rattle.xarch_steps.proofs.Succeeding.{succeeds-from}
 use Rattle.xarch_steps.proofs.step.take_step.Goals as goal
 
@@ -41,7 +41,7 @@ returns-clause-said g c = record { fault = fault_of c.command_words-ended.result
 pub returns-clause-long_demo : goal.returns-clause-long_demo
 returns-clause-long_demo g c = λ seed count name is long.
     let fault = c.command_words-ended.ensures.long_demo (long_demo-alone (words_view c.args.words.now) seed count name is long) in
-    c.finish.ensures.status ∙ ap status_after fault
+    (c.finish.ensures.status ∙ ap status_after fault, says-fault _ _ _ _ _ _ fault c.finish.ensures.line)
 
 pub returns-clause-gained : goal.returns-clause-gained
 returns-clause-gained g c = gained-any _ _ _ c.command_words-ended.ensures.gained

@@ -1,0 +1,74 @@
+-- The archive that a file holds.
+use Rattle.std.specs.Prelude.{◌≡◌, ◌⊎◌, ℕ, List, [], Option, Some, None, Result, Ok, Err}
+use Rattle.std.specs.FinMap as map
+use Rattle.xa_outside.specs.Folder.{Files}
+use Rattle.key_spec.specs.Data.{PlainRule}
+use Rattle.keyed_tree.specs.Data.{PlainKeyed}
+use Rattle.record_format.specs.Files.{FileOf}
+use Rattle.archive_file.specs.Sound.{SoundAs}
+use Rattle.xarch_words.specs.Refusal.{Refusal, no_file, exists, archive, limit, PlainFault, refused}
+use Rattle.xarch_parts.specs.Outcome.{Outcome}
+
+-- the file of this name is the sound archive of these versions under these rules
+pub record ArchiveIs (files : Files) (name : List ℕ) (rules : List PlainRule) (vs : List PlainKeyed) : Type 0 where
+  pub bytes : List ℕ
+  pub there : map.get files name ≡ Some bytes
+  pub sound : SoundAs rules vs bytes
+
+-- where the draft is told, it is empty
+abbrev pub IsBlank : Option (List ℕ) → Type 0
+IsBlank draft = (bytes : List ℕ) → draft ≡ Some bytes → bytes ≡ []
+
+-- where the draft is told, it is these bytes
+abbrev pub IsDrafted : Option (List ℕ) → List ℕ → Type 0
+IsDrafted draft bytes = (told : List ℕ) → draft ≡ Some told → told ≡ bytes
+
+-- if the fault is a refusal, it is this one
+abbrev pub IsRefusal : Refusal → PlainFault → Type 0
+IsRefusal r fault = (q : Refusal) → fault ≡ refused q → q ≡ r
+
+-- the fault is no refusal
+abbrev pub NoRefusal : PlainFault → Type 0
+NoRefusal fault = (q : Refusal) → ¬ (fault ≡ refused q)
+
+-- the name has no file yet
+abbrev pub free_in : Files → List ℕ → Result Unit Refusal
+free_in files name = unless_there name (map.get files name)
+  where
+    unless_there : List ℕ → Option (List ℕ) → Result Unit Refusal
+    unless_there name None = Ok tt
+    unless_there name (Some bytes) = Err (exists name)
+
+-- The file of these versions comes under the name. It is a sound archive.
+pub record Stored (files : Files) (name : List ℕ) (rules : List PlainRule) (vs : List PlainKeyed) (r : Result Outcome Refusal) : Type 0 where
+  pub bytes : List ℕ
+  pub sound : SoundAs rules vs bytes
+  pub is : r ≡ Ok (record { files = map.insert files name bytes; output = [] })
+
+-- no file can hold these versions
+pub record TooLong (rules : List PlainRule) (vs : List PlainKeyed) (r : Result Outcome Refusal) : Type 0 where
+  pub none : (bytes : List ℕ) → ¬ FileOf rules vs bytes
+  pub is : r ≡ Err (limit archive 274877906944)
+
+-- the archive file of these versions comes under the name, where there is one
+abbrev pub Stores : Files → List ℕ → List PlainRule → List PlainKeyed → Result Outcome Refusal → Type 0
+Stores files name rules vs r = Stored files name rules vs r ⊎ TooLong rules vs r
+
+-- go on with the value, or stay refused
+abbrev pub GoesOn : {A : Type 0} → Result A Refusal → (A → Result Outcome Refusal → Type 0) → Result Outcome Refusal → Type 0
+GoesOn (Ok x) P r = P x r
+GoesOn (Err e) P r = r ≡ Err e
+
+-- the archive of this name is not there, or it is sound, and then the rest is said of its rules and versions
+pub record Missing (files : Files) (name : List ℕ) (r : Result Outcome Refusal) : Type 0 where
+  pub absent : map.get files name ≡ None
+  pub is : r ≡ Err (no_file name)
+
+pub record Opened (files : Files) (name : List ℕ) (P : List PlainRule → List PlainKeyed → Result Outcome Refusal → Type 0) (r : Result Outcome Refusal) : Type 0 where
+  pub rules : List PlainRule
+  pub versions : List PlainKeyed
+  pub archive : ArchiveIs files name rules versions
+  pub rest : P rules versions r
+
+abbrev pub Opens : Files → List ℕ → (List PlainRule → List PlainKeyed → Result Outcome Refusal → Type 0) → Result Outcome Refusal → Type 0
+Opens files name P r = Missing files name r ⊎ Opened files name P r

@@ -1,0 +1,11 @@
+pub mod Outcome
+pub mod Inputs
+pub mod Readings
+pub mod Archives
+pub mod Ends
+pub mod EndLaws
+pub mod Folders
+pub mod FolderLaws
+pub mod InputLaws
+pub mod Allowed
+pub mod AllowedLaws

@@ -1,0 +1,18 @@
+//! What the commands of the program share: how input files are read, and archives read and
+//! stored, how output is written, and the words for what a command may do.
+#![tactic(auto)]
+
+mod archives;
+mod inputs;
+mod limits;
+mod merged;
+mod names;
+mod put;
+mod readings;
+
+pub use archives::{archive_from, begin, check_free, commit, draft, file_from, header_from, store};
+pub use inputs::{at_most, length_of, limited_length, read_file, read_whole};
+pub use merged::file_of_versions;
+pub use names::damaged;
+pub use put::{write_bytes, write_keyed};
+pub use readings::{doc_from, keyed_from, read_spec};
