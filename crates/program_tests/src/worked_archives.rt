@@ -17,7 +17,7 @@ use keyed_tree::Keyed;
 use std::alloc::Global;
 use std::test::Fail;
 use xa_outside::{FolderCall, FolderFail};
-use xarch_steps::file_of_versions;
+use xarch_parts::file_of_versions;
 
 /// The same employee twice in one department.
 const JOHN_TWICE: &[u8] =

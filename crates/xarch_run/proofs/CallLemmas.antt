@@ -4,12 +4,12 @@ use Rattle.std.specs.Prelude.{IsSome, MatchBool, option_and_then, if◌then◌el
 use Rattle.xa_outside.specs.Folder.{Files}
 use Rattle.xa_outside.specs.Taken.{Taken}
 use Rattle.xarch_words.specs.Commands.{PlainCommand, batch, command_of}
-use Rattle.xarch_words.specs.Refusal.{line, PlainFault, Refusal, usage, limit}
-use Rattle.xarch_steps.specs.Outcome.{Outcome, Step, step_from}
+use Rattle.xarch_words.specs.Refusal.{line, PlainFault, Refusal, limit}
+use Rattle.xarch_parts.specs.Outcome.{Outcome, Step, step_from}
 use Rattle.xarch_steps.specs.Plausible.{MayDo, Plausible, Tried}
 use Rattle.xarch_steps.specs.Ran.{outside_of}
 use Rattle.xarch_steps.specs.Step.{single_of}
-use Rattle.xarch_run.specs.Calls.{Call, CallDid, CallsDid, CommandMay, CommandsDid, DidCommands, LeadTo}
+use Rattle.xarch_run.specs.Calls.{Call, CallDid, CallsDid, CommandMay, CommandsDid, DidCommands, CommandsLead}
 use Rattle.xarch_run.specs.Steps.{LineMay, StepsAre, WordsMay, files_after, line_command}
 use Rattle.xarch_run.specs.Words.{words_of}
 use Rattle.xarch_run.proofs.Runs.{files_after-append}
@@ -17,21 +17,21 @@ use Rattle.xarch_run.proofs.Runs.{files_after-append}
 -- ---- one command
 
 by-command : (files : Files) (command : Option PlainCommand) (r : Result Outcome Refusal) (s : Step) → MayDo files command r → s ≡ step_from files r → CommandMay files command s
-by-command files None r s may is = record { refusal = usage; is = is ∙ ap (step_from files) may }
+by-command files None r s may is = inl (is ∙ ap (step_from files) may)
 by-command files (Some command) r s may is = record { outcome = r; may = may; is = is }
 
-words-may : (files : Files) (words : List (List ℕ)) (s : Step) → Plausible files words s → CommandMay files (single_of words) s
+pub words-may : (files : Files) (words : List (List ℕ)) (s : Step) → Plausible files words s → CommandMay files (single_of words) s
 words-may files words s p = by-command files (single_of words) p.outcome s p.may p.is
 
 spelled-may : (files : Files) (words : Option (List (List ℕ))) (s : Step) → WordsMay files words s → CommandMay files (option_and_then single_of words) s
-spelled-may files None s is = record { refusal = usage; is = is }
+spelled-may files None s is = inl is
 spelled-may files (Some words) s p = words-may files words s p
 
 pub line-may : (files : Files) (l : List ℕ) (s : Step) → LineMay files l s → CommandMay files (line_command l) s
 line-may files l s h = by_length (nat_lt 1048576 (length l)) h
   where
     by_length : (b : Bool) → MatchBool b (s ≡ step_from files (Err (limit line 1048576))) (WordsMay files (words_of l) s) → CommandMay files (if b then None else option_and_then single_of (words_of l)) s
-    by_length true is = record { refusal = limit line 1048576; is = is }
+    by_length true is = inr is
     by_length false h = spelled-may files (words_of l) s h
 
 lines-did : (files : Files) (ls : List (List ℕ)) (ss : List Step) → StepsAre files ls ss → CommandsDid files (map line_command ls) ss
@@ -42,11 +42,11 @@ lines-did files (l ∷ ls) (s ∷ ss) h = (line-may files l s h.0, lines-did s.f
 
 -- ---- calls
 
-did-is : (files now : Files) (cs ds : List (Option PlainCommand)) (ss ts : List Step) → cs ≡ ds → ss ≡ ts → LeadTo files ds ts now → LeadTo files cs ss now
+did-is : (files now : Files) (cs ds : List (Option PlainCommand)) (ss ts : List Step) → cs ≡ ds → ss ≡ ts → CommandsLead files ds ts now → CommandsLead files cs ss now
 did-is files now cs ds ss ts same_commands same_steps did =
-    subst (λ (xs : List (Option PlainCommand)). LeadTo files xs ss now) (sym same_commands) (subst (λ (xs : List Step). LeadTo files ds xs now) (sym same_steps) did)
+    subst (λ (xs : List (Option PlainCommand)). CommandsLead files xs ss now) (sym same_commands) (subst (λ (xs : List Step). CommandsLead files ds xs now) (sym same_steps) did)
 
-pub call-did : (files : Files) (call : Call) (now : Files) (cs : List (Option PlainCommand)) (ss : List Step) → CallDid files call now cs ss → LeadTo files cs ss now
+pub call-did : (files : Files) (call : Call) (now : Files) (cs : List (Option PlainCommand)) (ss : List Step) → CallDid files call now cs ss → CommandsLead files cs ss now
 call-did files call now cs ss (inl k) =
     did-is files now cs (single_of call.words ∷ []) ss (k.step ∷ []) k.command k.is (record { are = (words-may files call.words k.step k.may, tt); left = k.left })
 call-did files call now cs ss (inr (inl k)) = did-is files now cs [] ss [] k.command k.is (record { are = tt; left = k.left })
@@ -59,14 +59,14 @@ commands-append files [] ds (s ∷ ss) ts p q = absurd p
 commands-append files (c ∷ cs) ds [] ts p q = absurd p
 commands-append files (c ∷ cs) ds (s ∷ ss) ts p q = (p.0, commands-append s.files cs ds ss ts p.1 q)
 
-did-append : (files between now : Files) (cs ds : List (Option PlainCommand)) (ss ts : List Step) → LeadTo files cs ss between → LeadTo between ds ts now → LeadTo files (cs ++ ds) (ss ++ ts) now
+did-append : (files between now : Files) (cs ds : List (Option PlainCommand)) (ss ts : List Step) → CommandsLead files cs ss between → CommandsLead between ds ts now → CommandsLead files (cs ++ ds) (ss ++ ts) now
 did-append files between now cs ds ss ts p q =
     record {
       are = commands-append files cs ds ss ts p.are (subst (λ (f : Files). CommandsDid f ds ts) p.left q.are);
       left = q.left ∙ ap (λ (f : Files). files_after f ts) p.left ∙ sym (files_after-append files ss ts);
     }
 
-pub calls-did : (files : Files) (calls : List Call) (now : Files) (cs : List (Option PlainCommand)) (ss : List Step) → CallsDid files calls now cs ss → LeadTo files cs ss now
+pub calls-did : (files : Files) (calls : List Call) (now : Files) (cs : List (Option PlainCommand)) (ss : List Step) → CallsDid files calls now cs ss → CommandsLead files cs ss now
 calls-did files [] now cs ss k = did-is files now cs [] ss [] k.command k.is (record { are = tt; left = k.left })
 calls-did files (call ∷ calls) now cs ss k =
     did-is files now cs (k.first_commands ++ k.later_commands) ss (k.first_steps ++ k.later_steps) k.all_commands k.all_steps

@@ -6,6 +6,7 @@ use Rattle.xa_outside.specs.Numbers.{Numbers}
 use Rattle.xarch_words.specs.Commands.{PlainCommand, norm, init, add, get, history, stats, batch, demo}
 use Rattle.xarch_steps.specs.Ran.{CountsAsSaid, OnlyReads}
 use Rattle.xarch_steps.specs.Step.{alone}
+use Rattle.xarch_steps.specs.Succeeds.{ShouldSucceed}
 use Rattle.xarch_run.specs.Batch.{IsAnswer}
 
 pub alone-reads : (c : Option PlainCommand) → OnlyReads c → OnlyReads (alone c)
@@ -55,6 +56,11 @@ batch-reads c e h = subst OnlyReads e h
 
 pub batch-none : (c : Option PlainCommand) → c ≡ Some batch → c ≡ None → ⊥
 batch-none c e none = cc
+
+-- nothing is said of when it should succeed
+pub batch-fails : (files : Files) (c : Option PlainCommand) (command : PlainCommand) → c ≡ Some batch → c ≡ Some command → ShouldSucceed files command → ⊥
+unfolding ShouldSucceed
+batch-fails files c command e is should = (let same : command ≡ batch = cc in subst (ShouldSucceed files) same should)
 
 pub batch-demo : (c : Option PlainCommand) (seed count : ℕ) (name : List ℕ) → c ≡ Some batch → c ≡ Some (demo seed count name) → ⊥
 batch-demo c seed count name e is = (let wrong : Some batch ≡ Some (demo seed count name) = sym e ∙ is in absurd cc)

@@ -236,8 +236,9 @@ pub ends-at : (b : Bool) (f g h : Option Files) (o p q e r t : Taken) (x y z : �
     → LineRuns (scene g h p q r t y z) (line_bytes b before now old new k) (Err answer) → BatchEnds (scene f h o q e t x z) bytes new answer
 ends-at b f g h o p q e r t x y z bytes before now old new answer first second untold gone k run =
     let at = stands b bytes gone.front gone.lines before now old new k gone.cuts gone.consumed gone.counted run.0 in
+    let earlier = read-ended bytes gone.front gone.lines (ahead before.feed old) (budget before.feed) gone.cuts gone.consumed gone.counted in
     elim (run.1) as (λ _. BatchEnds (scene f h o q e t x z) bytes new answer) [
-      | inl none ↦ no_words f g h o p q e r t x y z bytes gone.lines (line_bytes b before now old new k ∷ at.behind) new answer first second untold at.is (read-ended bytes gone.front gone.lines (ahead before.feed old) (budget before.feed) gone.cuts gone.consumed gone.counted) gone.over none
+      | inl none ↦ no_words f g h o p q e r t x y z bytes gone.lines (line_bytes b before now old new k ∷ at.behind) new answer first second untold at.is earlier gone.over none
       | inr stop ↦
-          inr (inr (inr (inr (StoppedAt-after f g h o p q e r t x y z bytes gone.lines at.behind (line_bytes b before now old new k) answer stop.written stop.spoken first second untold at.is at.read gone.over stop.stops stop.gains))))
+          inr (inr (inr (inr (StoppedAt-after f g h o p q e r t x y z bytes gone.lines at.behind (line_bytes b before now old new k) answer stop.written stop.spoken first second untold at.is earlier at.read gone.over stop.stops stop.gains))))
     ]

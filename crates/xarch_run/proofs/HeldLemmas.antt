@@ -1,101 +1,179 @@
 -- What was handed in to an archive is what its file holds.
-use Rattle.std.proofs.Common.{◌≡◌, ◌≢◌, inl, inr, ℕ, ◌==◌, Bool, true, false, List, [], ◌∷◌, ◌++◌, length, Option, Some, None, Result, Ok, Err, refl, sym, ap, ◌∙◌, subst}
+use Rattle.std.proofs.Common.{◌≡◌, ◌≢◌, inl, inr, ℕ, zero, suc, Bool, true, false, List, [], ◌∷◌, ◌++◌, length, Option, Some, None, Result, Ok, Err, refl, sym, ap, ◌∙◌, subst}
 use Rattle.std.specs.FinMap as finite
+use Rattle.std.specs.List.{AllByRecursion}
 use Rattle.std.specs.Str.{bytes_eq}
-use Rattle.std.specs.Prelude.{if◌then◌else◌}
-use Rattle.std.proofs.lemmas.Bool.{false≢true}
 use Rattle.xa_outside.specs.Folder.{Files}
 use Rattle.key_spec.specs.Data.{PlainRule}
 use Rattle.keyed_tree.specs.Data.{PlainKeyed}
+use Rattle.keyed_tree.specs.Kids.{IsOrdered}
+use Rattle.archive_tree.specs.Stands.{version_of}
 use Rattle.record_format.specs.Files.{FileOf}
+use Rattle.archive_file.specs.KeyedBy.{IsKeyedBy}
+use Rattle.archive_file.specs.Sound.{SoundAs}
 use Rattle.xarch_gen.specs.Company.{company_rules}
 use Rattle.xarch_words.specs.Commands.{PlainCommand, norm, init, add, get, history, stats, batch, demo}
-use Rattle.xarch_words.specs.Refusal.{document, specification, Refusal, exists, no_file}
+use Rattle.xarch_words.specs.Refusal.{specification, Refusal, exists, no_file}
 use Rattle.xarch_words.specs.Refusal as refusal
-use Rattle.xarch_steps.specs.Add.{added, room_behind}
-use Rattle.xarch_steps.specs.Archives.{ArchiveIs, GoesOn, Stores, free_in}
+use Rattle.xarch_steps.specs.Add.{added}
+use Rattle.xarch_parts.specs.Archives.{ArchiveIs, GoesOn, Stores, free_in}
 use Rattle.xarch_steps.specs.Demo.{MakesOrNone, demo_input, samples}
 use Rattle.xarch_steps.specs.Get.{version_text}
 use Rattle.xarch_steps.specs.History.{history_text}
 use Rattle.xarch_steps.specs.Init.{init_rules}
-use Rattle.xarch_steps.specs.Inputs.{at_most, length_in, read_in}
-use Rattle.xarch_steps.specs.Outcome.{Outcome, Step, step_from}
+use Rattle.xarch_parts.specs.Inputs.{at_most, length_in, read_in}
+use Rattle.xarch_parts.specs.Outcome.{Outcome, Step, step_from}
 use Rattle.xarch_steps.specs.Plausible.{MayAdd, MayBe, add_input}
-use Rattle.xarch_steps.specs.Readings.{document_of, keyed_of, rules_of}
+use Rattle.xarch_parts.specs.Readings.{rules_of}
+use Rattle.xarch_steps.specs.Succeeds.{ShouldSucceed}
 use Rattle.xarch_run.specs.Calls.{CommandMay, CommandsDid}
-use Rattle.xarch_run.specs.Held.{Accepted, BeginsWith, Begun, HandedIn, Held, Holds, HoldsExactly, MakesArchive, NoneMakes, RefusalsKeep, WritesCounts, held_after, held_after_all, held_by, keyed_in, with_keyed}
+use Rattle.xarch_run.specs.Held.{Accepted, AddsDoc, BeginsWith, Begun, HandedIn, Held, HeldAfter, HeldBy, Holds, HoldsBehind, HoldsExactly, IsHandedIn, MakesArchive, NoneMakes, RefusalsKeep, WritesCounts, with_keyed}
 use Rattle.xarch_run.specs.Steps.{files_after}
-use Rattle.xarch_run.proofs.OneFile.{absent, added-keyed, archive-moves, ends-refused, goes, init-spelled, init-taken, made-is, others-kept, same-name, stored-is, taken}
-use Rattle.xarch_run.proofs.Statuses.{status-not-0, status-other}
+use Rattle.xarch_run.proofs.OneFile.{absent, archive-moves, ends-refused, goes, init-spelled, init-taken, is_for, made-is, other-name, others-kept, same-name, stored-is, taken}
+use Rattle.xarch_run.proofs.Statuses.{status-other}
 
 by-name : (b : Bool) {P : Type 0} → (b ≡ true → P) → (b ≡ false → P) → P
 by-name true h g = h refl
 by-name false h g = g refl
 
+-- what is no command changes no file
+none-kept : (files : Files) (s : Step) → CommandMay files None s → s.files ≡ files
+none-kept files s (inl is) = ap (λ (z : Step). z.files) is
+none-kept files s (inr is) = ap (λ (z : Step). z.files) is
+
 -- ---- one command over an archive
 
-module _ (files : Files) (name : List ℕ) (h : Held) (a : Holds files name h) (o : Outcome) where
+-- what the archive holds behind a command
+record Goes (files : Files) (name : List ℕ) (h : Held) (command : Option PlainCommand) (now : Files) : Type 0 where
+  held : Held
+  first : HeldBy files name command h held
+  archive : Holds now name held
+
+module _ (files : Files) (name : List ℕ) (h : Held) (a : Holds files name h) where
+  -- a document that is handed in is not refused
+  not-refused : (doc : List ℕ) (k : PlainKeyed) (q : Refusal) → IsHandedIn files doc h k → MayBe files (add name doc) (Err q) → ⊥
+  unfolding MayBe
+  not-refused doc k q handed m =
+      let adds = m.sound h.rules h.versions a in
+      stored (subst (λ x. GoesOn x (λ j. Stores files name h.rules (h.versions ++ j ∷ [])) (Err q)) handed.satisfies adds)
+    where
+      stored : Stores files name h.rules (h.versions ++ k ∷ []) (Err q) → ⊥
+      stored (inl st) = (let no : ◌≡◌ {A = Result Outcome Refusal} (Err q) (Ok _) = st.is in cc)
+      stored (inr long) = long.none handed.bytes handed.file
+
+  -- one that is not refused was handed in
+  was-handed : (doc : List ℕ) (o : Outcome) → MayBe files (add name doc) (Ok o) → Accepted files name doc h o.files
+  unfolding MayBe
+  was-handed doc o m =
+      goes o (added files doc h.rules (length h.versions)) (λ k. Stores files name h.rules (h.versions ++ k ∷ [])) (Ok o) refl (m.sound h.rules h.versions a) (λ k is s.
+      let archive = stored-is files o name h.rules (h.versions ++ k ∷ []) s in
+      record { tree = k; handed = record { satisfies = is; bytes = archive.bytes; file = archive.sound.file }; archive = archive })
+
   -- where its file is as it was
-  same-held : finite.get o.files name ≡ finite.get files name → Holds o.files name h
-  same-held e = archive-moves files o.files name h.rules h.versions a e
+  same-held : (o : Outcome) → finite.get o.files name ≡ finite.get files name → Holds o.files name h
+  same-held o e = archive-moves files o.files name h.rules h.versions a e
 
-  add-by : (x : Held) (b : Bool) → (b ≡ true → Holds o.files name x) → (b ≡ false → Holds o.files name h) → Holds o.files name (if b then x else h)
-  add-by x true this other = this refl
-  add-by x false this other = other refl
+  unchanged : (o : Outcome) (command : PlainCommand) → is_for name command ≡ false → MayBe files command (Ok o) → Holds o.files name h
+  unchanged o command e m = same-held o (others-kept files name o (Ok o) refl command e m)
 
-  add-here : (other doc : List ℕ) → bytes_eq name other ≡ true → MayBe files (add other doc) (Ok o) → Holds o.files name (with_keyed h (keyed_in h.rules files doc))
-  unfolding MayBe
-  add-here other doc e m =
+  add-goes : (o : Outcome) (other doc : List ℕ) → MayBe files (add other doc) (Ok o) → Goes files name h (Some (add other doc)) o.files
+  add-goes o other doc m = by-name (bytes_eq name other)
+      (λ e.
       let same = same-name name other e in
-      let here : Holds files other h = subst (λ n. Holds files n h) same a in
-      goes o (added files doc h.rules (length h.versions)) (λ k. Stores files other h.rules (h.versions ++ k ∷ [])) (Ok o) refl (m.sound h.rules h.versions here) (λ k is s.
-      subst (λ x. Holds o.files name (with_keyed h x)) (sym (added-keyed (length_in files doc document 67108864) (read_in files doc document_of) (keyed_of h.rules) (room_behind (length h.versions)) k is))
-      (subst (λ n. Holds o.files n (with_keyed h (Ok k))) (sym same) (stored-is files o other h.rules (h.versions ++ k ∷ []) s)))
+      let k = was-handed doc o (subst (λ n. MayBe files (add n doc) (Ok o)) (sym same) m) in
+      record { held = with_keyed h k.tree; first = inl (same, inl (record { tree = k.tree; handed = k.handed; is = refl })); archive = k.archive })
+      (λ e. record { held = h; first = inr (other-name name other e, refl); archive = unchanged o (add other doc) e m })
 
-  init-here : (other spec : List ℕ) → bytes_eq name other ≡ true → MayBe files (init other spec) (Ok o) → Holds o.files name h
+  init-here : (o : Outcome) (other spec : List ℕ) → bytes_eq name other ≡ true → MayBe files (init other spec) (Ok o) → Holds o.files name h
   unfolding MayBe
-  init-here other spec e m =
+  init-here o other spec e m =
       let taken-here = subst (λ n. finite.get files n ≡ Some a.bytes) (same-name name other e) a.there in
       goes o (init_rules files other spec) (λ rules. Stores files other rules []) (Ok o) refl m (λ new is _. init-taken files other spec a.bytes new taken-here is)
 
-  demo-here : (seed count : ℕ) (other : List ℕ) → bytes_eq name other ≡ true → MayBe files (demo seed count other) (Ok o) → Holds o.files name h
+  demo-here : (o : Outcome) (seed count : ℕ) (other : List ℕ) → bytes_eq name other ≡ true → MayBe files (demo seed count other) (Ok o) → Holds o.files name h
   unfolding MayBe
-  demo-here seed count other e m =
+  demo-here o seed count other e m =
       let taken-here = subst (λ n. finite.get files n ≡ Some a.bytes) (same-name name other e) a.there in
       goes o (demo_input files count other) (λ _. MakesOrNone files other seed count) (Ok o) refl m (λ u is _. ends-refused (at_most refusal.demo 1000 count) (free_in files other) (exists other) u is (taken files other a.bytes taken-here))
 
-  one-holds : (command : PlainCommand) → MayBe files command (Ok o) → Holds o.files name (held_by files name (Some command) h)
-  one-holds (norm spec doc) m = same-held (others-kept files name o (Ok o) refl (norm spec doc) refl m)
-  one-holds (init other spec) m = by-name (bytes_eq name other) (λ e. init-here other spec e m) (λ e. same-held (others-kept files name o (Ok o) refl (init other spec) e m))
-  one-holds (add other doc) m =
-      add-by (with_keyed h (keyed_in h.rules files doc)) (bytes_eq name other) (λ e. add-here other doc e m) (λ e. same-held (others-kept files name o (Ok o) refl (add other doc) e m))
-  one-holds (get other i) m = same-held (others-kept files name o (Ok o) refl (get other i) refl m)
-  one-holds (history other path) m = same-held (others-kept files name o (Ok o) refl (history other path) refl m)
-  one-holds (stats other) m = same-held (others-kept files name o (Ok o) refl (stats other) refl m)
-  one-holds batch m = same-held (others-kept files name o (Ok o) refl batch refl m)
-  one-holds (demo seed count other) m = by-name (bytes_eq name other) (λ e. demo-here seed count other e m) (λ e. same-held (others-kept files name o (Ok o) refl (demo seed count other) e m))
+  done-goes : (o : Outcome) (command : PlainCommand) → MayBe files command (Ok o) → Goes files name h (Some command) o.files
+  done-goes o (norm spec doc) m = record { held = h; first = refl; archive = unchanged o (norm spec doc) refl m }
+  done-goes o (init other spec) m =
+      record { held = h; first = refl; archive = by-name (bytes_eq name other) (λ e. init-here o other spec e m) (λ e. unchanged o (init other spec) e m) }
+  done-goes o (add other doc) m = add-goes o other doc m
+  done-goes o (get other i) m = record { held = h; first = refl; archive = unchanged o (get other i) refl m }
+  done-goes o (history other path) m = record { held = h; first = refl; archive = unchanged o (history other path) refl m }
+  done-goes o (stats other) m = record { held = h; first = refl; archive = unchanged o (stats other) refl m }
+  done-goes o batch m = record { held = h; first = refl; archive = unchanged o batch refl m }
+  done-goes o (demo seed count other) m =
+      record { held = h; first = refl; archive = by-name (bytes_eq name other) (λ e. demo-here o seed count other e m) (λ e. unchanged o (demo seed count other) e m) }
+
+  refused-goes : (q : Refusal) (command : PlainCommand) → MayBe files command (Err q) → Goes files name h (Some command) files
+  refused-goes q (norm spec doc) m = record { held = h; first = refl; archive = a }
+  refused-goes q (init other spec) m = record { held = h; first = refl; archive = a }
+  refused-goes q (add other doc) m = by-name (bytes_eq name other)
+      (λ e.
+      let same = same-name name other e in
+      record { held = h; first = inl (same, inr (record { none = λ k handed. not-refused doc k q handed (subst (λ n. MayBe files (add n doc) (Err q)) (sym same) m); is = refl })); archive = a })
+      (λ e. record { held = h; first = inr (other-name name other e, refl); archive = a })
+  refused-goes q (get other i) m = record { held = h; first = refl; archive = a }
+  refused-goes q (history other path) m = record { held = h; first = refl; archive = a }
+  refused-goes q (stats other) m = record { held = h; first = refl; archive = a }
+  refused-goes q batch m = record { held = h; first = refl; archive = a }
+  refused-goes q (demo seed count other) m = record { held = h; first = refl; archive = a }
+
+  outcome-goes : (command : PlainCommand) (r : Result Outcome Refusal) → MayBe files command r → Goes files name h (Some command) (step_from files r).files
+  outcome-goes command (Ok o) m = done-goes o command m
+  outcome-goes command (Err q) m = refused-goes q command m
+
+  step-goes : (command : Option PlainCommand) (s : Step) → CommandMay files command s → Goes files name h command s.files
+  step-goes None s m = record { held = h; first = refl; archive = subst (λ (u : Files). Holds u name h) (sym (none-kept files s m)) a }
+  step-goes (Some command) s m = subst (λ (z : Step). Goes files name h (Some command) z.files) (sym m.is) (outcome-goes command m.outcome m.may)
 
 -- ---- what steps leave
 
-module _ (files : Files) (name : List ℕ) (h : Held) (a : Holds files name h) where
-  refused-holds : (command : Option PlainCommand) (s : Step) (q : Refusal) → s ≡ step_from files (Err q) → Holds s.files name (held_after files name command s.status h)
-  refused-holds command s q is =
-      subst (λ (z : Step). Holds z.files name (held_after files name command z.status h)) (sym is)
-      (subst (λ b. Holds files name (if b then held_by files name command h else h)) (sym (status-not-0 q)) a)
-
-  outcome-holds : (command : PlainCommand) (s : Step) (r : Result Outcome Refusal) → MayBe files command r → s ≡ step_from files r → Holds s.files name (held_after files name (Some command) s.status h)
-  outcome-holds command s (Err q) m is = refused-holds (Some command) s q is
-  outcome-holds command s (Ok o) m is = subst (λ (z : Step). Holds z.files name (held_after files name (Some command) z.status h)) (sym is) (one-holds files name h a o command m)
-
-  step-holds : (command : Option PlainCommand) (s : Step) → CommandMay files command s → Holds s.files name (held_after files name command s.status h)
-  step-holds None s m = refused-holds None s m.refusal m.is
-  step-holds (Some command) s m = outcome-holds command s m.outcome m.may m.is
-
-pub all-hold : (files : Files) (name : List ℕ) (cs : List (Option PlainCommand)) (ss : List Step) (h : Held) → Holds files name h → CommandsDid files cs ss → Holds (files_after files ss) name (held_after_all files name cs ss h)
-all-hold files name [] [] h a did = a
+pub all-hold : (files : Files) (name : List ℕ) (cs : List (Option PlainCommand)) (ss : List Step) (h : Held) → Holds files name h → CommandsDid files cs ss → HoldsBehind files name cs ss h
+all-hold files name [] [] h a did = record { held = h; after = refl; archive = a }
 all-hold files name [] (s ∷ ss) h a did = absurd did
 all-hold files name (c ∷ cs) [] h a did = absurd did
-all-hold files name (c ∷ cs) (s ∷ ss) h a did = all-hold s.files name cs ss (held_after files name c s.status h) (step-holds files name h a c s did.0) did.1
+all-hold files name (c ∷ cs) (s ∷ ss) h a did =
+    let one = step-goes files name h a c s did.0 in
+    let rest = all-hold s.files name cs ss one.held one.archive did.1 in
+    record { held = rest.held; after = record { between = one.held; first = one.first; rest = rest.after }; archive = rest.archive }
+
+-- what is held is one thing
+one-tree : (files : Files) (doc : List ℕ) (h : Held) (k j : PlainKeyed) → IsHandedIn files doc h k → IsHandedIn files doc h j → k ≡ j
+one-tree files doc h k j p q = same (added files doc h.rules (length h.versions)) p.satisfies q.satisfies
+  where
+    same : (x : Result PlainKeyed Refusal) → x ≡ Ok k → x ≡ Ok j → k ≡ j
+    same x e f = cc
+
+one-added : (files : Files) (doc : List ℕ) (h i j : Held) → AddsDoc files doc h i → AddsDoc files doc h j → i ≡ j
+one-added files doc h i j (inl p) (inl q) = p.is ∙ ap (with_keyed h) (one-tree files doc h p.tree q.tree p.handed q.handed) ∙ sym q.is
+one-added files doc h i j (inl p) (inr q) = absurd (q.none p.tree p.handed)
+one-added files doc h i j (inr p) (inl q) = absurd (p.none q.tree q.handed)
+one-added files doc h i j (inr p) (inr q) = p.is ∙ sym q.is
+
+one-by : (files : Files) (name : List ℕ) (command : Option PlainCommand) (h i j : Held) → HeldBy files name command h i → HeldBy files name command h j → i ≡ j
+one-by files name None h i j p q = p ∙ sym q
+one-by files name (Some (norm spec doc)) h i j p q = p ∙ sym q
+one-by files name (Some (init other spec)) h i j p q = p ∙ sym q
+one-by files name (Some (add other doc)) h i j (inl p) (inl q) = one-added files doc h i j p.1 q.1
+one-by files name (Some (add other doc)) h i j (inl p) (inr q) = absurd (q.0 p.0)
+one-by files name (Some (add other doc)) h i j (inr p) (inl q) = absurd (p.0 q.0)
+one-by files name (Some (add other doc)) h i j (inr p) (inr q) = p.1 ∙ sym q.1
+one-by files name (Some (get other i)) h j k p q = p ∙ sym q
+one-by files name (Some (history other path)) h i j p q = p ∙ sym q
+one-by files name (Some (stats other)) h i j p q = p ∙ sym q
+one-by files name (Some batch) h i j p q = p ∙ sym q
+one-by files name (Some (demo seed count other)) h i j p q = p ∙ sym q
+
+one-after : (files : Files) (name : List ℕ) (cs : List (Option PlainCommand)) (ss : List Step) (h i j : Held) → HeldAfter files name cs ss h i → HeldAfter files name cs ss h j → i ≡ j
+one-after files name [] ss h i j p q = p ∙ sym q
+one-after files name (c ∷ cs) [] h i j p q = absurd p
+one-after files name (c ∷ cs) (s ∷ ss) h i j p q =
+    let same = one-by files name c h p.between q.between p.first q.first in
+    one-after s.files name cs ss q.between i j (subst (λ (m : Held). HeldAfter s.files name cs ss m i) same p.rest) q.rest
 
 -- ---- refusals
 
@@ -107,8 +185,8 @@ outcome-refused files s r is = subst (λ (z : Step). z.status ≢ 0 → z.files 
     kept (Err q) other = refl
 
 step-refused : (files : Files) (command : Option PlainCommand) (s : Step) → CommandMay files command s → s.status ≢ 0 → s.files ≡ files
-step-refused files None s m = outcome-refused files s (Err m.refusal) m.is
-step-refused files (Some command) s m = outcome-refused files s m.outcome m.is
+step-refused files None s m other = none-kept files s m
+step-refused files (Some command) s m other = outcome-refused files s m.outcome m.is other
 
 pub all-refused : (files : Files) (cs : List (Option PlainCommand)) (ss : List Step) → CommandsDid files cs ss → RefusalsKeep files ss
 all-refused files [] [] did = tt
@@ -117,8 +195,8 @@ all-refused files (c ∷ cs) [] did = tt
 all-refused files (c ∷ cs) (s ∷ ss) did = (step-refused files c s did.0, all-refused s.files cs ss did.1)
 
 refused-status : {X : Type 0} (files : Files) (s : Step) (q : Refusal) → s ≡ step_from files (Err q) → s.status ≡ 0 → X
-refused-status files s q is zero =
-    absurd (status-other q (sym (ap (λ (z : Step). z.status) is) ∙ zero))
+refused-status files s q is success =
+    absurd (status-other q (sym (ap (λ (z : Step). z.status) is) ∙ success))
 
 -- ---- how an archive begins
 
@@ -150,12 +228,12 @@ command-begins files name (demo seed count other) o makes m = demo-begins files 
 
 outcome-begins : (files : Files) (name : List ℕ) (command : PlainCommand) (s : Step) (r : Result Outcome Refusal) → MayBe files command r → s ≡ step_from files r → s.status ≡ 0 → MakesArchive name (Some command)
     → Begun files name (Some command) s.files
-outcome-begins files name command s (Err q) m is zero makes = refused-status files s q is zero
-outcome-begins files name command s (Ok o) m is zero makes = subst (λ (z : Step). Begun files name (Some command) z.files) (sym is) (command-begins files name command o makes m)
+outcome-begins files name command s (Err q) m is success makes = refused-status files s q is success
+outcome-begins files name command s (Ok o) m is success makes = subst (λ (z : Step). Begun files name (Some command) z.files) (sym is) (command-begins files name command o makes m)
 
 pub step-begins : (files : Files) (name : List ℕ) (command : Option PlainCommand) (s : Step) → CommandMay files command s → s.status ≡ 0 → MakesArchive name command → Begun files name command s.files
-step-begins files name None s m zero makes = absurd makes
-step-begins files name (Some command) s m zero makes = outcome-begins files name command s m.outcome m.may m.is zero makes
+step-begins files name None s m success makes = absurd makes
+step-begins files name (Some command) s m success makes = outcome-begins files name command s m.outcome m.may m.is success makes
 
 -- what begins an archive makes one
 begins-makes : (files : Files) (name : List ℕ) (command : Option PlainCommand) (h : Held) → BeginsWith files name command h → MakesArchive name command
@@ -185,8 +263,8 @@ same-beginning files name (Some batch) h g b c = absurd b
 same-beginning files name (Some (demo seed count other)) h g b c = let same : h ≡ g = b.1 ∙ sym c.1 in (ap (λ (z : Held). z.rules) same, ap (λ (z : Held). z.versions) same)
 
 step-archive : (files : Files) (name : List ℕ) (command : Option PlainCommand) (s : Step) (h : Held) → CommandMay files command s → s.status ≡ 0 → BeginsWith files name command h → Holds s.files name h
-step-archive files name command s h m zero b =
-    let begun = step-begins files name command s m zero (begins-makes files name command h b) in
+step-archive files name command s h m success b =
+    let begun = step-begins files name command s m success (begins-makes files name command h b) in
     let same = same-beginning files name command begun.held h begun.begins b in
     subst (λ us. ArchiveIs s.files name h.rules us) same.1 (subst (λ r. ArchiveIs s.files name r begun.held.versions) same.0 begun.archive)
 
@@ -196,7 +274,8 @@ pub handed-holds : (files : Files) (name : List ℕ) (cs : List (Option PlainCom
 handed-holds files name [] ss h did made = absurd made
 handed-holds files name (c ∷ cs) [] h did made = absurd made
 handed-holds files name (c ∷ cs) (s ∷ ss) h did (inl made) =
-    subst (Holds (files_after s.files ss) name) (sym made.is) (all-hold s.files name cs ss made.first (step-archive files name c s made.first did.0 made.answered made.begins) did.1)
+    let behind = all-hold s.files name cs ss made.first (step-archive files name c s made.first did.0 made.answered made.begins) did.1 in
+    subst (Holds (files_after s.files ss) name) (one-after s.files name cs ss made.first behind.held h behind.after made.after) behind.archive
 handed-holds files name (c ∷ cs) (s ∷ ss) h did (inr later) = handed-holds s.files name cs ss h did.1 later
 
 -- no other bytes are the encoding
@@ -244,7 +323,7 @@ outcome-absent files name command s (Ok o) none m is refused =
     subst (λ (z : Step). finite.get z.files name ≡ None) (sym is) (one-absent files name none o command (λ makes. refused makes (ap (λ (z : Step). z.status) is)) m)
 
 step-absent : (files : Files) (name : List ℕ) (command : Option PlainCommand) (s : Step) → finite.get files name ≡ None → CommandMay files command s → (MakesArchive name command → s.status ≢ 0) → finite.get s.files name ≡ None
-step-absent files name None s none m refused = subst (λ (z : Step). finite.get z.files name ≡ None) (sym m.is) none
+step-absent files name None s none m refused = subst (λ (u : Files). finite.get u name ≡ None) (sym (none-kept files s m)) none
 step-absent files name (Some command) s none m refused = outcome-absent files name command s m.outcome none m.may m.is refused
 
 pub all-absent : (files : Files) (name : List ℕ) (cs : List (Option PlainCommand)) (ss : List Step) → finite.get files name ≡ None → CommandsDid files cs ss → NoneMakes name cs ss → finite.get (files_after files ss) name ≡ None
@@ -256,29 +335,19 @@ all-absent files name (c ∷ cs) (s ∷ ss) none did refused = all-absent s.file
 -- ---- commands over an archive
 
 module _ (files : Files) (name : List ℕ) (h : Held) (s : Step) (a : Holds files name h) where
-  pub satisfying : (doc : List ℕ) (k : PlainKeyed) (bytes : List ℕ) → CommandMay files (Some (add name doc)) s → added files doc h.rules (length h.versions) ≡ Ok k → FileOf h.rules (h.versions ++ k ∷ []) bytes
-      → s.status ≡ 0
-  unfolding MayBe
-  satisfying doc k bytes m is file =
-      let adds = m.may.sound h.rules h.versions a in
-      stored (subst (λ x. GoesOn x (λ j. Stores files name h.rules (h.versions ++ j ∷ [])) m.outcome) is adds)
+  pub satisfying : (doc : List ℕ) (k : PlainKeyed) → CommandMay files (Some (add name doc)) s → IsHandedIn files doc h k → s.status ≡ 0
+  satisfying doc k m handed = by_outcome m.outcome m.may m.is
     where
-      stored : Stores files name h.rules (h.versions ++ k ∷ []) m.outcome → s.status ≡ 0
-      stored (inl st) = ap (λ (z : Step). z.status) (m.is ∙ ap (step_from files) st.is)
-      stored (inr long) = absurd (long.none bytes file)
-
-  accepting : (doc : List ℕ) (r : Result Outcome Refusal) → MayBe files (add name doc) r → s ≡ step_from files r → s.status ≡ 0 → Accepted files name doc h s.files
-  unfolding MayBe
-  accepting doc (Err q) m is zero = refused-status files s q is zero
-  accepting doc (Ok o) m is zero =
-      goes o (added files doc h.rules (length h.versions)) (λ k. Stores files name h.rules (h.versions ++ k ∷ [])) (Ok o) refl (m.sound h.rules h.versions a) (λ k given st. record {
-        tree = k;
-        satisfies = given;
-        archive = subst (λ (z : Step). Holds z.files name (with_keyed h (Ok k))) (sym is) (stored-is files o name h.rules (h.versions ++ k ∷ []) st);
-      })
+      by_outcome : (r : Result Outcome Refusal) → MayBe files (add name doc) r → s ≡ step_from files r → s.status ≡ 0
+      by_outcome (Ok o) may is = ap (λ (z : Step). z.status) is
+      by_outcome (Err q) may is = absurd (not-refused files name h a doc k q handed may)
 
   pub accepted : (doc : List ℕ) → CommandMay files (Some (add name doc)) s → s.status ≡ 0 → Accepted files name doc h s.files
-  accepted doc m zero = accepting doc m.outcome m.may m.is zero
+  accepted doc m success = by_outcome m.outcome m.may m.is
+    where
+      by_outcome : (r : Result Outcome Refusal) → MayBe files (add name doc) r → s ≡ step_from files r → Accepted files name doc h s.files
+      by_outcome (Ok o) may is = subst (λ (z : Step). Accepted files name doc h z.files) (sym is) (was-handed files name h a doc o may)
+      by_outcome (Err q) may is = refused-status files s q is success
 
   pub getting : (i : ℕ) → CommandMay files (Some (get name i)) s → s ≡ step_from files (version_text files h.versions i)
   unfolding MayBe
@@ -291,3 +360,38 @@ module _ (files : Files) (name : List ℕ) (h : Held) (s : Step) (a : Holds file
   pub counting : CommandMay files (Some (stats name)) s → WritesCounts files h s
   unfolding MayBe
   counting m = record { outcome = m.outcome; counts = m.may.sound h.rules h.versions a; is = m.is }
+
+-- ---- what is held
+
+-- a file holds one thing
+pub one-held : ((rules others : List PlainRule) (vs us : List PlainKeyed) (bytes : List ℕ) → SoundAs rules vs bytes → SoundAs others us bytes → (rules ≡ others) × (vs ≡ us))
+    → (files : Files) (name : List ℕ) (h i : Held) → Holds files name h → Holds files name i → h ≡ i
+one-held one files name h i a b =
+    let same = one h.rules i.rules h.versions i.versions b.bytes (subst (SoundAs h.rules h.versions) (same-bytes a.bytes b.bytes (finite.get files name) a.there b.there) a.sound) b.sound in
+    both h.rules i.rules h.versions i.versions same.0 same.1
+  where
+    same-bytes : (x y : List ℕ) (o : Option (List ℕ)) → o ≡ Some x → o ≡ Some y → x ≡ y
+    same-bytes x y o e f = cc
+
+    both : (r t : List PlainRule) (v u : List PlainKeyed) → r ≡ t → v ≡ u → ◌≡◌ {A = Held} (record { rules = r; versions = v }) (record { rules = t; versions = u })
+    both r t v u e f = cc
+
+-- what holds of all versions holds of each
+at-version : (P : PlainKeyed → Type 0) (vs : List PlainKeyed) (i : ℕ) (k : PlainKeyed) → AllByRecursion P vs → version_of vs i ≡ Some k → P k
+at-version P vs zero k all is = absurd cc
+at-version P [] (suc i) k all is = absurd cc
+at-version P (v ∷ vs) (suc zero) k all is = (let same : v ≡ k = cc in subst P same all.0)
+at-version P (v ∷ vs) (suc (suc i)) k all is = at-version P vs (suc i) k all.1 is
+
+pub in-order : (files : Files) (name : List ℕ) (h : Held) (i : ℕ) (k : PlainKeyed) → Holds files name h → version_of h.versions i ≡ Some k → IsOrdered k × IsKeyedBy h.rules k
+in-order files name h i k a is = (at-version IsOrdered h.versions i k a.sound.file.is.ordered is, at-version (IsKeyedBy h.rules) h.versions i k a.sound.keyed is)
+
+-- ---- what should succeed
+
+pub should-succeed : ((files : Files) (command : PlainCommand) (q : Refusal) → ShouldSucceed files command → MayBe files command (Err q) → ⊥)
+    → (files : Files) (command : PlainCommand) (s : Step) → CommandMay files (Some command) s → ShouldSucceed files command → s.status ≡ 0
+should-succeed never files command s m should = by_outcome m.outcome m.may m.is
+  where
+    by_outcome : (r : Result Outcome Refusal) → MayBe files command r → s ≡ step_from files r → s.status ≡ 0
+    by_outcome (Ok o) may is = ap (λ (z : Step). z.status) is
+    by_outcome (Err q) may is = absurd (never files command q should may)

@@ -6,7 +6,7 @@ use Rattle.std.proofs.lemmas.Bool.{eqb-true, lt-ltb, ltb-true, ltb-false, not-fa
 use Rattle.std.specs.List.{position, position_or_len}
 use Rattle.xarch_run.specs.Shown.{Shows}
 use Rattle.xarch_run.specs.declared.line.Line.{Line}
-use Rattle.xarch_run.specs.Lines.{is_blank_byte, is_blank, is_line_feed, has_line_feed, IsFirstLineFeed}
+use Rattle.xarch_run.specs.Lines.{is_blank_byte, is_blank, is_line_feed, has_line_feed}
 
 pub is_blank-append : (a b : List ℕ) → is_blank (a ++ b) ≡ (is_blank a && is_blank b)
 is_blank-append a b = list_all-append is_blank_byte a b
@@ -85,6 +85,12 @@ before_next x xs false n e h =
 before_first_feed : (xs : List ℕ) → has_line_feed (take (position_or_len is_line_feed xs) xs) ≡ false
 before_first_feed [] = refl
 before_first_feed (x ∷ xs) = before_next x xs (x == 10) (position_or_len is_line_feed xs) refl (before_first_feed xs)
+
+-- there is an LF at this place, and none before it
+pub record IsFirstLineFeed (bytes : List ℕ) (at : ℕ) : Type 0 where
+  pub in_range : at < length bytes
+  pub none : has_line_feed (take at bytes) ≡ false
+  pub one : drop at bytes ≡ 10 ∷ drop (at + 1) bytes
 
 at_first_feed : (xs : List ℕ) → position_or_len is_line_feed xs < length xs → IsFirstLineFeed xs (position_or_len is_line_feed xs)
 at_first_feed xs h =

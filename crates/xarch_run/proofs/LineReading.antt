@@ -4,7 +4,7 @@ use Rattle.std.proofs.Math.Seq.{drop-length}
 use Rattle.std.specs.Io.KnownBytes.{Consumes, prepend_known}
 use Rattle.std.proofs.KnownBytes.{Consumes-nil, Consumes-trans, Consumes-kept}
 use Rattle.xarch_run.specs.Feed.{Fills, ahead, budget, pending}
-use Rattle.xarch_run.specs.Lines.{IsFirstLineFeed, has_line_feed}
+use Rattle.xarch_run.specs.Lines.{has_line_feed}
 use Rattle.xarch_run.specs.Shown.{Shows}
 use Rattle.xarch_run.specs.Taking.{PutsAll, PutsEnd, TakesLine}
 use Rattle.xarch_run.specs.declared.feed.Feed.{Feed}
@@ -13,7 +13,7 @@ use Rattle.xarch_run.specs.declared.lines.Lines.{Lines}
 use Rattle.xarch_run.specs.declared.stop.Stop.{Stop}
 use Rattle.xarch_run.specs.declared.stop.Stop.TheVariants.{Failed, PastLimit, Memory}
 use Rattle.xarch_run.proofs.FeedLemmas.{Consumes-pending}
-use Rattle.xarch_run.proofs.LineLemmas.{has_line_feed-append}
+use Rattle.xarch_run.proofs.LineLemmas.{IsFirstLineFeed, has_line_feed-append}
 
 -- ---- one piece
 

@@ -1,5 +1,5 @@
 -- A command changes at most the file that it names.
-use Rattle.std.proofs.Common.{◌≡◌, inl, inr, ℕ, Bool, true, false, cond, List, [], ◌∷◌, ◌++◌, length, Some, None, Result, Ok, Err, refl, sym, ap, ◌∙◌}
+use Rattle.std.proofs.Common.{◌≡◌, ◌≢◌, inl, inr, ℕ, Bool, true, false, cond, List, [], length, Some, None, Result, Ok, Err, refl, sym, ap, ◌∙◌}
 use Rattle.std.specs.FinMap as finite
 use Rattle.std.specs.Option.{option_map_or}
 use Rattle.std.specs.Str.{bytes_eq}
@@ -13,15 +13,15 @@ use Rattle.xarch_gen.specs.Company.{company_rules}
 use Rattle.xarch_words.specs.Commands.{PlainCommand, norm, init, add, get, history, stats, batch, demo}
 use Rattle.xarch_words.specs.Refusal.{document, specification, Refusal, usage, no_file, exists, damaged, limit}
 use Rattle.xarch_words.specs.Refusal as refusal
-use Rattle.xarch_steps.specs.Archives.{ArchiveIs, GoesOn, Stores, free_in}
+use Rattle.xarch_parts.specs.Archives.{ArchiveIs, GoesOn, Stores, free_in}
 use Rattle.xarch_steps.specs.Demo.{MakesOrNone, demo_input, samples}
 use Rattle.xarch_steps.specs.Init.{init_rules}
-use Rattle.xarch_steps.specs.Inputs.{file_of, length_in, read_in}
+use Rattle.xarch_parts.specs.Inputs.{file_of, length_in, read_in}
 use Rattle.xarch_steps.specs.Norm.{norm_of}
-use Rattle.xarch_steps.specs.Outcome.{Outcome, and_then, or_refuse}
+use Rattle.xarch_parts.specs.Outcome.{Outcome, and_then, or_refuse}
 use Rattle.xarch_steps.specs.Plausible.{MayAdd, MayBe, MayWrite, add_input, get_input, history_input}
 use Rattle.xarch_steps.specs.Ran.{made_name}
-use Rattle.xarch_steps.specs.Readings.{document_of, keyed_of, rules_of}
+use Rattle.xarch_parts.specs.Readings.{document_of, keyed_of, rules_of}
 
 -- ---- files by name
 
@@ -37,6 +37,9 @@ elsewhere files other name bytes e =
 
 pub same-name : (xs ys : List ℕ) → bytes_eq xs ys ≡ true → xs ≡ ys
 same-name xs ys e = (bytes_eq-Decides xs ys).0 e
+
+pub other-name : (xs ys : List ℕ) → bytes_eq xs ys ≡ false → xs ≢ ys
+other-name xs ys e = λ same. (let yes : bytes_eq xs ys ≡ true = (bytes_eq-Decides xs ys).1 same in cc)
 
 -- ---- outcomes
 
@@ -129,18 +132,6 @@ init-taken files name spec bytes rules e f =
 pub ends-refused : {X A B : Type 0} (x : Result A Refusal) (y : Result B Refusal) (q : Refusal) (b : B) → and_then x (λ _. y) ≡ Ok b → y ≡ Err q → X
 ends-refused (Ok a) y q b e f = absurd cc
 ends-refused (Err r) y q b e f = absurd cc
-
--- what an added document is, is its keyed tree
-pub added-keyed : {D : Type 0} (x : Result ℕ Refusal) (y : Result D Refusal) (z : D → Result PlainKeyed Refusal) (w : Result Unit Refusal) (k : PlainKeyed)
-    → and_then x (λ _. and_then y (λ t. and_then (z t) (λ j. and_then w (λ _. Ok j)))) ≡ Ok k → and_then y z ≡ Ok k
-added-keyed (Err q) y z w k e = absurd cc
-added-keyed (Ok n) (Err q) z w k e = absurd cc
-added-keyed (Ok n) (Ok t) z w k e = last (z t) w e
-  where
-    last : (v : Result PlainKeyed Refusal) (w : Result Unit Refusal) → and_then v (λ j. and_then w (λ _. Ok j)) ≡ Ok k → v ≡ Ok k
-    last (Err q) w e = absurd cc
-    last (Ok j) (Err q) e = absurd cc
-    last (Ok j) (Ok u) e = e
 
 -- the rules of a new archive are those of its specification
 pub init-spelled : (x : Result Unit Refusal) (y : Result ℕ Refusal) (z : Result (List PlainRule) Refusal) (rules : List PlainRule) → and_then x (λ _. and_then y (λ _. z)) ≡ Ok rules → z ≡ Ok rules

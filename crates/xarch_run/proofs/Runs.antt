@@ -6,9 +6,9 @@ use Rattle.xa_outside.specs.Folder.{Files}
 use Rattle.xa_outside.specs.Taken.{Taken, Takes}
 use Rattle.xa_outside.specs.CauseLaws.{Rose-later}
 use Rattle.xa_outside.specs.TakenLaws.{Takes-nil, Takes-trans}
-use Rattle.xarch_steps.specs.Outcome.{Step}
+use Rattle.xarch_parts.specs.Outcome.{Step}
 use Rattle.xarch_steps.specs.Ran.{Says}
-use Rattle.xarch_run.specs.Steps.{AllAnswer, AllMakeNone, AreSteps, IfTold, IsStep, Leads, StepsAre, files_after, lines_said, outs, turn_text}
+use Rattle.xarch_run.specs.Steps.{AllAnswer, AllMakeNone, AreSteps, IfTold, IsStep, LinesLead, StepsAre, files_after, lines_said, outs, turn_text}
 use Rattle.xarch_run.specs.Lines.{lines_of}
 use Rattle.xarch_run.specs.Batch.{AreRead, Gains, RunsOver, Stops, StoppedAt, scene}
 
@@ -30,8 +30,8 @@ AllAnswer-append [] ms (s ∷ ss) ts p q = absurd p
 AllAnswer-append (l ∷ ls) ms [] ts p q = absurd p
 AllAnswer-append (l ∷ ls) ms (s ∷ ss) ts p q = (p.0, AllAnswer-append ls ms ss ts p.1 q)
 
-pub Leads-append : (f g h : Files) (ls ms : List (List ℕ)) (ss ts : List Step) → Leads f ls ss g → Leads g ms ts h → Leads f (ls ++ ms) (ss ++ ts) h
-Leads-append f g h ls ms ss ts p q =
+pub LinesLead-append : (f g h : Files) (ls ms : List (List ℕ)) (ss ts : List Step) → LinesLead f ls ss g → LinesLead g ms ts h → LinesLead f (ls ++ ms) (ss ++ ts) h
+LinesLead-append f g h ls ms ss ts p q =
     record {
       are = StepsAre-append f ls ms ss ts p.are (subst (λ (u : Files). StepsAre u ms ts) p.files q.are);
       files = q.files ∙ ap (λ (u : Files). files_after u ts) p.files ∙ sym (files_after-append f ss ts);
@@ -70,8 +70,8 @@ AreSteps-append f g h ls ms ss ts untold p q =
     record {
       answers = AllAnswer-append ls ms ss ts p.answers q.answers;
       leads =
-          IfTold-trans (λ a b. Leads a ls ss b) (λ b c. Leads b ms ts c) (λ a c. Leads a (ls ++ ms) (ss ++ ts) c) f g h untold
-          (λ a b c first second. Leads-append a b c ls ms ss ts first second) p.leads q.leads;
+          IfTold-trans (λ a b. LinesLead a ls ss b) (λ b c. LinesLead b ms ts c) (λ a c. LinesLead a (ls ++ ms) (ss ++ ts) c) f g h untold
+          (λ a b c first second. LinesLead-append a b c ls ms ss ts first second) p.leads q.leads;
       kept = λ h. (let both = AllMakeNone-split ls ms ss ts p.answers h in q.kept both.1 ∙ p.kept both.0);
     }
 
@@ -147,9 +147,9 @@ RunsOver-one f g o p e r x y l s may files output said =
 
 -- a line ended the batch behind a run
 pub StoppedAt-after : (f g h : Option Files) (o p q e r t : Taken) (x y z : ℕ) (bytes : List ℕ) (ls behind : List (List ℕ)) (l : List ℕ) (answer : ℕ) (written spoken : List ℕ) → x ≤ y → y ≤ z → (g ≡ None → h ≡ None)
-    → lines_of bytes ≡ ls ++ l ∷ behind → AreRead bytes (ls ++ l ∷ [])
+    → lines_of bytes ≡ ls ++ l ∷ behind → AreRead bytes ls → AreRead bytes (ls ++ l ∷ [])
     → RunsOver (scene f g o p e r x y) ls [] → Stops g h l answer written spoken → Gains (scene g h p q r t y z) written spoken → StoppedAt (scene f h o q e t x z) bytes answer
-StoppedAt-after f g h o p q e r t x y z bytes ls behind l answer written spoken first second untold is read before stops gains =
+StoppedAt-after f g h o p q e r t x y z bytes ls behind l answer written spoken first second untold is earlier read before stops gains =
     let ss = before.steps in
     record {
       lines = ls;
@@ -157,6 +157,7 @@ StoppedAt-after f g h o p q e r t x y z bytes ls behind l answer written spoken 
       line = l;
       behind = behind;
       is = is;
+      first = earlier;
       read = read;
       between = g;
       untold = untold;

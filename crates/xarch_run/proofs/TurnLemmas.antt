@@ -1,25 +1,28 @@
 -- What one line did, from the answer of its command and its status line.
-use Rattle.std.proofs.Common.{◌≡◌, ◌≢◌, ◌⊎◌, ◌↔◌, inl, inr, ℕ, ◌==◌, ◌≤◌, ◌<◌, List, [], ◌∷◌, ◌++◌, length, take, nat_lt, Bool, true, false, cond, Option, None, Some, Result, Ok, Err, refl, sym, ap, ◌∙◌, subst, arith}
+use Rattle.std.proofs.Common.{◌≡◌, ◌≢◌, ◌⊎◌, ◌↔◌, inl, inr, ℕ, ◌==◌, ◌≤◌, ◌<◌, List, [], ◌∷◌, ◌++◌, length, take, nat_le, nat_lt, Bool, true, false, cond, Option, None, Some, Result, Ok, Err, refl, sym, ap, ◌∙◌, subst, arith}
 use Rattle.std.specs.FinMap as finite
-use Rattle.std.specs.Prelude.{MatchBool, MatchOption, option_and_then, if◌then◌else◌}
-use Rattle.std.proofs.lemmas.Bool.{eqb-true}
+use Rattle.std.specs.Prelude.{IsSome, MatchBool, MatchOption, option_and_then, if◌then◌else◌}
+use Rattle.std.proofs.lemmas.Bool.{eqb-true, leb-true, ltb-false, ltb-true}
 use Rattle.std.proofs.Math.Seq.{take-nil}
 use Rattle.xa_outside.specs.Causes.{Rose}
 use Rattle.xa_outside.specs.CauseLaws.{Rose-later}
 use Rattle.xa_outside.specs.Folder.{Files}
 use Rattle.xa_outside.specs.Taken.{Taken, Takes, TakesNone, TakesPrefix}
 use Rattle.xa_outside.specs.TakenLaws.{Takes-nil, Takes-kept, Takes-trans, TakesPrefix-all}
-use Rattle.xarch_words.specs.Commands.{PlainCommand, norm, init, add, get, history, stats, batch, demo, command_of}
+use Rattle.xarch_words.specs.Commands.{PlainCommand, norm, init, add, get, history, stats, batch, demo}
 use Rattle.xarch_words.specs.Lines.{fault_line, fault_status, refusal_status}
+use Rattle.xarch_words.specs.Refusal as refusal
 use Rattle.xarch_words.specs.Refusal.{Refusal, usage, line, limit, PlainFault, refused, folder_fault, out_fault, in_fault, memory}
-use Rattle.xarch_steps.specs.Ends.{Gained}
-use Rattle.xarch_steps.specs.Outcome.{Outcome, Step, step_from}
-use Rattle.xarch_steps.specs.Plausible.{MayDo, Plausible, Tried, Wrote}
+use Rattle.xarch_parts.specs.Ends.{Gained}
+use Rattle.xarch_parts.specs.Archives.{GoesOn, free_in}
+use Rattle.xarch_steps.specs.Demo.{MakesOrNone}
+use Rattle.xarch_parts.specs.Outcome.{Outcome, Step, and_then, step_from}
+use Rattle.xarch_steps.specs.Plausible.{MayBe, MayDo, Plausible, Tried, Wrote}
 use Rattle.xarch_steps.specs.Ran.{IsLongDemo, OnlyReads, Said, Says, line_after, outside_of, status_after}
 use Rattle.xarch_steps.specs.Step.{alone, single_of}
 use Rattle.xarch_run.specs.Batch.{EndsTheBatch, Gains, IsPart, RunsOver, scene}
 use Rattle.xarch_run.specs.Lines.{is_blank, without_blanks}
-use Rattle.xarch_run.specs.Steps.{IsStep, LineAnswers, LineMay, MakesNone, RefusesWith, SpelledAnswers, WordsAnswer, WordsMay, line_command, status_line}
+use Rattle.xarch_run.specs.Steps.{IsStep, LineAnswers, LineMay, MakesNone, MayFault, RefusesWith, SpelledAnswers, WordsAnswer, WordsMay, line_command, status_line}
 use Rattle.xarch_run.specs.Turns.{IsLastStatus, IsUntouched, LastStatus, LineFaults, LineRuns, LineStops, LineTakes, LineTried, LineWrote, NoStatus, NoWords, StatusComes, StatusEnds, StatusLost}
 use Rattle.xarch_run.specs.Words.{words_of}
 use Rattle.xarch_run.proofs.Cuts.{without_blanks-blank, without_blanks-other}
@@ -121,20 +124,55 @@ takes-refused f g l q answer o p e r x y step is same none says =
     })
     (λ fault h. cc)
 
+refuses-by : (files : Files) (r : Result Outcome Refusal) (q : Refusal) → r ≡ Err q → RefusesWith q (step_from files r)
+refuses-by files r q is = subst (λ (z : Result Outcome Refusal). RefusesWith q (step_from files z)) (sym is) (refuses files q)
+
 -- ---- what words answer
 
+-- a `demo` of too many documents has no other outcome than its refusal
+long-refused : (files : Files) (c : Option PlainCommand) (r : Result Outcome Refusal) → IsLongDemo c → MayDo files c r → r ≡ Err (limit refusal.demo 1000)
+unfolding MayBe
+long-refused files None r long may = absurd long
+long-refused files (Some (norm spec doc)) r long may = absurd long
+long-refused files (Some (init archive spec)) r long may = absurd long
+long-refused files (Some (add archive doc)) r long may = absurd long
+long-refused files (Some (get archive i)) r long may = absurd long
+long-refused files (Some (history archive path)) r long may = absurd long
+long-refused files (Some (stats archive)) r long may = absurd long
+long-refused files (Some batch) r long may = absurd long
+long-refused files (Some (demo seed count archive)) r long may = by_test (nat_le count 1000) refl
+  where
+    by_test : (b : Bool) → nat_le count 1000 ≡ b → r ≡ Err (limit refusal.demo 1000)
+    by_test true e = (let few = leb-true count 1000 e in absurd (omega (arith, few, long)))
+    by_test false e = subst (λ b. GoesOn (and_then (if b then Ok count else Err (limit refusal.demo 1000)) (λ _. free_in files archive)) (λ _. MakesOrNone files archive seed count) r) e may
+
+long-or-not : (c : Option PlainCommand) → IsLongDemo c ⊎ ¬ IsLongDemo c
+long-or-not None = inr (λ long. long)
+long-or-not (Some (norm spec doc)) = inr (λ long. long)
+long-or-not (Some (init archive spec)) = inr (λ long. long)
+long-or-not (Some (add archive doc)) = inr (λ long. long)
+long-or-not (Some (get archive i)) = inr (λ long. long)
+long-or-not (Some (history archive path)) = inr (λ long. long)
+long-or-not (Some (stats archive)) = inr (λ long. long)
+long-or-not (Some batch) = inr (λ long. long)
+long-or-not (Some (demo seed count archive)) = by_test (nat_lt 1000 count) refl
+  where
+    by_test : (b : Bool) → nat_lt 1000 count ≡ b → (1000 < count) ⊎ ¬ (1000 < count)
+    by_test true e = inl (ltb-true 1000 count e)
+    by_test false e = inr (λ long. let few = ltb-false 1000 count e in omega (arith, few, long))
+
 -- the step of an outcome answers as it may
-spelled : (c : Option PlainCommand) (files : Files) (r : Result Outcome Refusal) → (c ≡ None → r ≡ Err usage) → ((step_from files r).status ≡ 2 → c ≡ None) → (IsLongDemo c → (step_from files r).status ≡ 12)
+spelled : (c : Option PlainCommand) (files : Files) (r : Result Outcome Refusal) → (c ≡ None → r ≡ Err usage) → ((step_from files r).status ≡ 2 → c ≡ None) → (IsLongDemo c → r ≡ Err (limit refusal.demo 1000))
     → SpelledAnswers c (step_from files r)
 spelled None files r none only long = subst (λ (z : Result Outcome Refusal). RefusesWith usage (step_from files z)) (sym (none refl)) (refuses files usage)
-spelled (Some command) files (Ok o) none only long = record { is = inl (record { line = refl; status = refl }); long_demo = long }
+spelled (Some command) files (Ok o) none only long = record { is = inl (record { line = refl; status = refl }); long_demo = λ h. refuses-by files (Ok o) (limit refusal.demo 1000) (long h) }
 spelled (Some command) files (Err q) none only long = record {
   is = inr (record {
     refusal = q;
     other = λ is. let no : Some command ≡ None = only (ap refusal_status is) in absurd cc;
     is = refuses files q;
   });
-  long_demo = long;
+  long_demo = λ h. refuses-by files (Err q) (limit refusal.demo 1000) (long h);
 }
 
 -- what a call for a command says of the words that it was given, whatever the folder tells
@@ -144,7 +182,7 @@ pub record Judged (words : List (List ℕ)) (answer : ℕ) : Type 0 where
   pub long : IsLongDemo (single_of words) → answer ≡ 12
 
 -- such a demo is one by itself
-long-alone : (c : Option PlainCommand) (answer : ℕ) → ((seed count : ℕ) (name : List ℕ) → c ≡ Some (demo seed count name) → 1000 < count → answer ≡ 12) → IsLongDemo (alone c) → answer ≡ 12
+pub long-alone : (c : Option PlainCommand) (P : Type 0) → ((seed count : ℕ) (name : List ℕ) → c ≡ Some (demo seed count name) → 1000 < count → P) → IsLongDemo (alone c) → P
 long-alone None answer judged h = absurd h
 long-alone (Some (norm spec doc)) answer judged h = absurd h
 long-alone (Some (init archive spec)) answer judged h = absurd h
@@ -155,12 +193,12 @@ long-alone (Some (stats archive)) answer judged h = absurd h
 long-alone (Some batch) answer judged h = absurd h
 long-alone (Some (demo seed count archive)) answer judged h = judged seed count archive refl h
 
-pub judged : (words : List (List ℕ)) (answer : ℕ) → (answer ≡ 2) ↔ (single_of words ≡ None) → ((seed count : ℕ) (name : List ℕ) → command_of words ≡ Some (demo seed count name) → 1000 < count → answer ≡ 12) → Judged words answer
-judged words answer is_usage long_demo = record { none = is_usage.1; only = is_usage.0; long = long-alone (command_of words) answer long_demo }
+pub judged : (words : List (List ℕ)) (answer : ℕ) → (answer ≡ 2) ↔ (single_of words ≡ None) → (IsLongDemo (single_of words) → answer ≡ 12) → Judged words answer
+judged words answer is_usage long_demo = record { none = is_usage.1; only = is_usage.0; long = long_demo }
 
 -- a step of the words that has this answer
-answered : (words : List (List ℕ)) (answer : ℕ) (files : Files) (r : Result Outcome Refusal) → Judged words answer → answer ≡ (step_from files r).status → (single_of words ≡ None → r ≡ Err usage) → SpelledAnswers (single_of words) (step_from files r)
-answered words answer files r j is none = spelled (single_of words) files r none (λ two. j.only (is ∙ two)) (λ long. sym is ∙ j.long long)
+answered : (words : List (List ℕ)) (answer : ℕ) (files : Files) (r : Result Outcome Refusal) → Judged words answer → answer ≡ (step_from files r).status → (single_of words ≡ None → r ≡ Err usage) → (IsLongDemo (single_of words) → r ≡ Err (limit refusal.demo 1000)) → SpelledAnswers (single_of words) (step_from files r)
+answered words answer files r j is none long = spelled (single_of words) files r none (λ two. j.only (is ∙ two)) long
 
 -- the step behind a fault of the outside, of which some was written
 unfinished : (words : List (List ℕ)) (answer : ℕ) (fault : PlainFault) (files : Files) (o : Outcome) → Judged words answer → outside_of answer ≡ Some fault → SpelledAnswers (single_of words) (step_from files (Ok o))
@@ -180,6 +218,19 @@ spelled-command l words short is = ap (λ b. if b then None else option_and_then
 kept-line : (f g : Option Files) (l : List ℕ) (words : List (List ℕ)) (s : Step) → nat_lt 1048576 (length l) ≡ false → words_of l ≡ Some words → KeptBy f g words s → MakesNone l s → g ≡ f
 kept-line f g l words s short is kept (inl other) = kept (inl other)
 kept-line f g l words s short is kept (inr reads) = kept (inr (subst OnlyReads (spelled-command l words short is) reads))
+
+-- only a command has a fault of the outside, and no `demo` of too many documents
+may-fault : (l : List ℕ) (words : List (List ℕ)) (answer : ℕ) (fault : PlainFault) → nat_lt 1048576 (length l) ≡ false → words_of l ≡ Some words → Judged words answer → outside_of answer ≡ Some fault → MayFault l
+may-fault l words answer fault short is j h =
+    let spells = sym (spelled-command l words short is) in
+    record {
+      command = subst IsSome spells (some (single_of words) j.none);
+      short = λ long. (let no : outside_of answer ≡ None = ap outside_of (j.long (subst IsLongDemo (sym spells) long)) in cc);
+    }
+  where
+    some : (c : Option PlainCommand) → (c ≡ None → answer ≡ 2) → IsSome c
+    some None two = (let no : outside_of answer ≡ None = ap outside_of (two refl) in absurd cc)
+    some (Some command) two = refl
 
 -- a step of the words from told files
 words-step : (f g : Option Files) (h : Files) (l : List ℕ) (words : List (List ℕ)) (s : Step) → f ≡ Some h → nat_lt 1048576 (length l) ≡ false → words_of l ≡ Some words → Plausible h words s → SpelledAnswers (single_of words) s → KeptBy f g words s → IsStep f g l s
@@ -215,7 +266,8 @@ module _ (f g : Option Files) (l : List ℕ) (words : List (List ℕ)) (answer :
     may =
         words-step f g h l words t.step told short is t.may
         (subst (SpelledAnswers (single_of words)) (sym t.may.is)
-        (answered words answer h t.may.outcome j (t.ran.status ∙ ap (λ (z : Step). z.status) t.may.is) (λ none. subst (λ c. MayDo h c t.may.outcome) none t.may.may)))
+        (answered words answer h t.may.outcome j (t.ran.status ∙ ap (λ (z : Step). z.status) t.may.is) (λ none. subst (λ c. MayDo h c t.may.outcome) none t.may.may)
+        (λ long. long-refused h (single_of words) t.may.outcome long t.may.may)))
         (kept-by t.step t.ran.status);
     ran = t.ran;
   }
@@ -234,30 +286,37 @@ module _ (f g : Option Files) (l : List ℕ) (words : List (List ℕ)) (answer :
       })
 
   -- where they are not
-  tried-untold : f ≡ None → g ≡ None → outside_of answer ≡ None → Said answer e r x y → Gained o p → (answer ≢ 0 → outside_of answer ≡ None → TakesNone o p) → LineTried f g l answer o p e r x y
-  tried-untold untold still plain said gained nothing = by_fault said.fault said.status said.line
+  tried-untold : f ≡ None → g ≡ None → outside_of answer ≡ None → Said answer e r x y → Gained o p → (answer ≢ 0 → outside_of answer ≡ None → TakesNone o p) → (IsLongDemo (single_of words) → Says e r x y (fault_line (refused (limit refusal.demo 1000)))) → LineTried f g l answer o p e r x y
+  tried-untold untold still plain said gained nothing long_said = by_length (long-or-not (single_of words))
     where
-      step-of : (v : Result Outcome Refusal) → answer ≡ (step_from finite.empty v).status → (single_of words ≡ None → v ≡ Err usage) → Takes o p (step_from finite.empty v).output → Says e r x y (step_from finite.empty v).line
+      step-of : (v : Result Outcome Refusal) → answer ≡ (step_from finite.empty v).status → (single_of words ≡ None → v ≡ Err usage) → (IsLongDemo (single_of words) → v ≡ Err (limit refusal.demo 1000)) → Takes o p (step_from finite.empty v).output → Says e r x y (step_from finite.empty v).line
           → LineTried f g l answer o p e r x y
-      step-of v same none output says = record {
+      step-of v same none long output says = record {
         step = step_from finite.empty v;
-        may = untold-step f g l words (step_from finite.empty v) untold short is (answered words answer finite.empty v j same none) (kept-by (step_from finite.empty v) same);
+        may = untold-step f g l words (step_from finite.empty v) untold short is (answered words answer finite.empty v j same none long) (kept-by (step_from finite.empty v) same);
         ran = record { status = same; files = λ h now. (let no : Some h ≡ None = sym now ∙ still in absurd cc); output = output; line = says };
       }
 
       outside : {X : Type 0} (fault : PlainFault) → answer ≡ fault_status fault → outside_of (fault_status fault) ≡ Some fault → X
       outside fault same some = let no : Some fault ≡ None = sym some ∙ sym (ap outside_of same) ∙ plain in absurd cc
 
-      by_fault : (v : Option PlainFault) → answer ≡ status_after v → Says e r x y (line_after v) → LineTried f g l answer o p e r x y
-      by_fault None same says =
-          step-of (Ok (record { files = finite.empty; output = gained.bytes })) same (λ none. let two = j.none none in absurd (omega (arith, same, two))) gained.takes says
-      by_fault (Some (refused q)) same says =
-          step-of (Err q) same (λ none. ap Err (usage-only q (sym same ∙ j.none none)))
+      by_fault : (v : Option PlainFault) → answer ≡ status_after v → Says e r x y (line_after v) → ¬ IsLongDemo (single_of words) → LineTried f g l answer o p e r x y
+      by_fault None same says short =
+          step-of (Ok (record { files = finite.empty; output = gained.bytes })) same (λ none. let two = j.none none in absurd (omega (arith, same, two))) (λ long. absurd (short long)) gained.takes says
+      by_fault (Some (refused q)) same says short =
+          step-of (Err q) same (λ none. ap Err (usage-only q (sym same ∙ j.none none))) (λ long. absurd (short long))
           (Takes-kept o o p [] (Takes-nil o) (nothing (λ zero. status-other q (sym same ∙ zero)) plain)) says
-      by_fault (Some folder_fault) same says = outside folder_fault same refl
-      by_fault (Some out_fault) same says = outside out_fault same refl
-      by_fault (Some in_fault) same says = outside in_fault same refl
-      by_fault (Some memory) same says = outside memory same refl
+      by_fault (Some folder_fault) same says short = outside folder_fault same refl
+      by_fault (Some out_fault) same says short = outside out_fault same refl
+      by_fault (Some in_fault) same says short = outside in_fault same refl
+      by_fault (Some memory) same says short = outside memory same refl
+
+      by_length : IsLongDemo (single_of words) ⊎ ¬ IsLongDemo (single_of words) → LineTried f g l answer o p e r x y
+      by_length (inl long) =
+          let is : answer ≡ 12 = j.long long in
+          step-of (Err (limit refusal.demo 1000)) is (λ none. let two = j.none none in absurd (omega (arith, is, two))) (λ _. refl)
+          (Takes-kept o o p [] (Takes-nil o) (nothing (λ zero. omega (arith, is, zero)) plain)) (long_said long)
+      by_length (inr short) = by_fault said.fault said.status said.line short
 
   wrote-untold : (fault : PlainFault) → f ≡ None → outside_of answer ≡ Some fault → Gained o p → LineWrote f g l o p
   wrote-untold fault untold outside gained =
@@ -273,14 +332,14 @@ pub takes-step : (f g : Option Files) (l : List ℕ) (words : List (List ℕ)) (
     → nat_lt 1048576 (length l) ≡ false → words_of l ≡ Some words → Judged words answer → (f ≡ None → g ≡ None)
     → ((h : Files) → f ≡ Some h → outside_of answer ≡ None → Tried h words answer g o p e r x y) → ((h : Files) → f ≡ Some h → Wrote h words o p)
     → Said answer e r x y → Gained o p → (answer ≢ 0 → outside_of answer ≡ None → TakesNone o p) → (answer ≢ 0 → g ≡ f) → (OnlyReads (single_of words) → g ≡ f)
-    → LineTakes f g l answer o p e r x y
-takes-step f g l words answer o p e r x y short is j untold tried wrote said gained nothing kept reads =
+    → (IsLongDemo (single_of words) → Says e r x y (fault_line (refused (limit refusal.demo 1000)))) → LineTakes f g l answer o p e r x y
+takes-step f g l words answer o p e r x y short is j untold tried wrote said gained nothing kept reads long_said =
     takes_by f g l answer o p e r x y _ refl (λ plain. by_told f refl plain)
-    (λ fault h. record { wrote = part_told f refl fault h; kept = kept (λ zero. let none : outside_of answer ≡ None = ap outside_of zero in cc); said = said_outside answer fault e r x y said h })
+    (λ fault h. record { spelled = may-fault l words answer fault short is j h; wrote = part_told f refl fault h; kept = kept (λ zero. let none : outside_of answer ≡ None = ap outside_of zero in cc); said = said_outside answer fault e r x y said h })
   where
     by_told : (v : Option Files) → f ≡ v → outside_of answer ≡ None → LineTried f g l answer o p e r x y
     by_told (Some h) told plain = tried-told f g l words answer o p e r x y short is j kept reads h told (tried h told plain)
-    by_told None none plain = tried-untold f g l words answer o p e r x y short is j kept reads none (untold none) plain said gained nothing
+    by_told None none plain = tried-untold f g l words answer o p e r x y short is j kept reads none (untold none) plain said gained nothing long_said
 
     part_told : (v : Option Files) → f ≡ v → (fault : PlainFault) → outside_of answer ≡ Some fault → LineWrote f g l o p
     part_told (Some h) told fault outside = wrote-told f g l words answer o p e r x y short is j kept reads h fault told outside (wrote h told)
@@ -334,7 +393,7 @@ stops-write f g o p q e r t x y z l status answer took end =
     record {
       written = w.part;
       spoken = fault_line out_fault;
-      stops = inr (inl (record { status = end.same; front = w.front; line_is = refl; files_kept = k.kept }));
+      stops = inr (inl (record { status = end.same; spelled = k.spelled; front = w.front; line_is = refl; files_kept = k.kept }));
       gains = record {
         output = subst (λ (u : Taken). Takes o u w.part) (sym end.output) w.takes;
         line = λ h. subst (λ (u : Taken). Takes e u (fault_line out_fault)) (sym end.silent.taken) (calm e r x y z (fault_line out_fault) end.silent.faults k.said h);
@@ -352,6 +411,7 @@ stops-fault f g o p q e r t x y z l status answer fault is kind took end =
       spoken = fault_line fault;
       stops = inl (record {
         fault = fault;
+        spelled = k.spelled;
         kind = kind.kind;
         status = end.same ∙ kind.is;
         part = w.part;
@@ -402,6 +462,7 @@ stops-lost f g o p q e r t x y z m n l status answer (Some fault) first second n
       stops = inr (inr (inr (record {
         status = end.is;
         fault = fault;
+        spelled = k.spelled;
         kind = kind.kind;
         part = w.part;
         front = w.front;

@@ -7,9 +7,9 @@ use Rattle.xa_outside.specs.Folder.{Files}
 use Rattle.xa_outside.specs.Taken.{Taken, Takes}
 use Rattle.xarch_words.specs.Lines.{fault_line, fault_status}
 use Rattle.xarch_words.specs.Refusal.{batch, limit, PlainFault, refused, folder_fault, out_fault, in_fault, memory}
-use Rattle.xarch_steps.specs.Outcome.{Step}
+use Rattle.xarch_parts.specs.Outcome.{Step}
 use Rattle.xarch_run.specs.Lines.{lines_of, ended_lines_of}
-use Rattle.xarch_run.specs.Steps.{AreSteps, IfTold, IsStep, lines_said, outs, status_line}
+use Rattle.xarch_run.specs.Steps.{AreSteps, IfTold, IsStep, MayFault, lines_said, outs, status_line}
 
 -- ---- what is seen
 
@@ -62,8 +62,9 @@ abbrev pub EndsTheBatch : PlainFault → Type 0
 EndsTheBatch fault = (fault ≡ folder_fault) ⊎ (fault ≡ memory)
 
 -- The command answered a fault, whose status line came.
-pub record Faults (before now : Option Files) (line : List ℕ) (answer : ℕ) (written spoken : List ℕ) : Type 0 where
+pub record CommandFaults (before now : Option Files) (line : List ℕ) (answer : ℕ) (written spoken : List ℕ) : Type 0 where
   pub fault : PlainFault
+  pub spelled : MayFault line
   pub kind : EndsTheBatch fault
   pub status : answer ≡ fault_status fault
   pub part : List ℕ
@@ -75,6 +76,7 @@ pub record Faults (before now : Option Files) (line : List ℕ) (answer : ℕ) (
 -- A write of the command failed.
 pub record WriteFails (before now : Option Files) (line : List ℕ) (answer : ℕ) (written spoken : List ℕ) : Type 0 where
   pub status : answer ≡ 14
+  pub spelled : MayFault line
   pub front : IsPart before now line written
   pub line_is : spoken ≡ fault_line out_fault
   pub files_kept : now ≡ before
@@ -93,6 +95,7 @@ pub record StatusFails (before now : Option Files) (line : List ℕ) (answer : �
 pub record FaultStatusFails (before now : Option Files) (line : List ℕ) (answer : ℕ) (written spoken : List ℕ) : Type 0 where
   pub status : answer ≡ 14
   pub fault : PlainFault
+  pub spelled : MayFault line
   pub kind : EndsTheBatch fault
   pub part : List ℕ
   pub front : IsPart before now line part
@@ -104,7 +107,7 @@ pub record FaultStatusFails (before now : Option Files) (line : List ℕ) (answe
 -- How a line ends the batch with this answer: the files before it and now, what the output gained, and what was said.
 abbrev pub Stops : Option Files → Option Files → List ℕ → ℕ → List ℕ → List ℕ → Type 0
 Stops before now line answer written spoken =
-    Faults before now line answer written spoken
+    CommandFaults before now line answer written spoken
     ⊎ (WriteFails before now line answer written spoken
     ⊎ (StatusFails before now line answer written spoken
     ⊎ FaultStatusFails before now line answer written spoken))
@@ -128,7 +131,7 @@ pub record AllRun (w : Scene) (bytes : List ℕ) (rest : Option (List ℕ)) (ans
   pub few : length bytes ≤ 1073741824
 
 -- The input is too long, and the lines were run that an LF ends among its first bytes, as many as a batch may have.
-pub record PastLimit (w : Scene) (bytes : List ℕ) (answer : ℕ) : Type 0 where
+pub record InputTooLong (w : Scene) (bytes : List ℕ) (answer : ℕ) : Type 0 where
   pub status : answer ≡ 12
   pub front : List ℕ
   pub behind : List ℕ
@@ -154,13 +157,14 @@ pub record NoMemory (w : Scene) (bytes : List ℕ) (answer : ℕ) : Type 0 where
   pub read : AreRead bytes lines
   pub over : RunsOver w lines (fault_line memory)
 
--- The lines in front of this one were run, and it ended the batch. Files that were not told between are not told now.
+-- The lines in front of this one were run, and it ended the batch. All of them were read. Files that were not told between are not told now.
 pub record StoppedAt (w : Scene) (bytes : List ℕ) (answer : ℕ) : Type 0 where
   pub lines : List (List ℕ)
   pub steps : List Step
   pub line : List ℕ
   pub behind : List (List ℕ)
   pub is : lines_of bytes ≡ lines ++ line ∷ behind
+  pub first : AreRead bytes lines
   pub read : AreRead bytes (lines ++ line ∷ [])
   pub between : Option Files
   pub untold : between ≡ None → w.files_now ≡ None
@@ -174,7 +178,7 @@ pub record StoppedAt (w : Scene) (bytes : List ℕ) (answer : ℕ) : Type 0 wher
 abbrev pub BatchEnds : Scene → List ℕ → Option (List ℕ) → ℕ → Type 0
 BatchEnds w bytes rest answer =
     AllRun w bytes rest answer
-    ⊎ (PastLimit w bytes answer
+    ⊎ (InputTooLong w bytes answer
     ⊎ (ReadFailed w bytes rest answer
     ⊎ (NoMemory w bytes answer
     ⊎ StoppedAt w bytes answer)))

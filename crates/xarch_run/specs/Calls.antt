@@ -1,32 +1,23 @@
 -- Commands in order, whether they are given by calls of the program or by the lines of a batch.
-use Rattle.std.specs.Prelude.{◌≡◌, ◌≢◌, ◌⊎◌, ℕ, List, [], ◌∷◌, ◌++◌, map, Option, Some, None, IsSome, Result, Err, ⊤}
+use Rattle.std.specs.Prelude.{◌≡◌, ◌≢◌, ◌⊎◌, ℕ, List, [], ◌∷◌, ◌++◌, map, Option, Some, None, IsSome, Err, ⊤}
 use Rattle.xa_outside.specs.Folder.{Files}
 use Rattle.xarch_words.specs.Commands.{PlainCommand, batch, command_of}
-use Rattle.xarch_words.specs.Refusal.{Refusal}
-use Rattle.xarch_steps.specs.Outcome.{Outcome, Step, step_from}
-use Rattle.xarch_steps.specs.Plausible.{MayBe, Plausible}
+use Rattle.xarch_words.specs.Refusal.{line, usage, limit}
+use Rattle.xarch_parts.specs.Outcome.{Step, step_from}
+use Rattle.xarch_steps.specs.Plausible.{MayStep, Plausible}
 use Rattle.xarch_steps.specs.Ran.{outside_of}
 use Rattle.xarch_steps.specs.Step.{single_of}
+use Rattle.xarch_run.specs.Batch.{AreRead}
 use Rattle.xarch_run.specs.Lines.{lines_of}
-use Rattle.xarch_run.specs.Steps.{Leads, files_after, line_command}
+use Rattle.xarch_run.specs.Steps.{LinesLead, files_after, line_command}
 
 -- ---- one command
 
--- it was refused
-pub record IsRefused (files : Files) (s : Step) : Type 0 where
-  pub refusal : Refusal
-  pub is : s ≡ step_from files (Err refusal)
-
--- it took a step that it may take: the defined one, where the archive that it names is absent or sound
-pub record TakesStep (files : Files) (command : PlainCommand) (s : Step) : Type 0 where
-  pub outcome : Result Outcome Refusal
-  pub may : MayBe files command outcome
-  pub is : s ≡ step_from files outcome
-
--- The step of a command. What is no command, or a line that is too long, is refused.
+-- The step of a command: the defined one, where the archive that it names is absent or sound, and else one that it may take.
+-- What is no command is refused as that, or as a line that is too long.
 abbrev pub CommandMay : Files → Option PlainCommand → Step → Type 0
-CommandMay files None s = IsRefused files s
-CommandMay files (Some command) s = TakesStep files command s
+CommandMay files None s = (s ≡ step_from files (Err usage)) ⊎ (s ≡ step_from files (Err (limit line 1048576)))
+CommandMay files (Some command) s = MayStep files (Some command) s
 
 -- One step for each command, each from the files that the one before left.
 abbrev pub CommandsDid : Files → List (Option PlainCommand) → List Step → Type 0
@@ -64,14 +55,16 @@ pub record StepFailed (files : Files) (call : Call) (now : Files) (commands : Li
   pub command : commands ≡ []
   pub is : steps ≡ []
 
--- The words were those of a batch. The first of its lines were run, and all of them where it answered 0.
+-- The words were those of a batch. The first of its lines were run, which stand within the bytes that a batch may have, and
+-- all of them where it answered 0. What each of them was answered is said by the steps of `BatchEnds` alone.
 pub record LinesRun (files : Files) (call : Call) (now : Files) (commands : List (Option PlainCommand)) (steps : List Step) : Type 0 where
   pub many : command_of call.words ≡ Some batch
   pub lines : List (List ℕ)
   pub behind : List (List ℕ)
   pub first : lines_of call.input ≡ lines ++ behind
   pub all : call.answer ≡ 0 → behind ≡ []
-  pub leads : Leads files lines steps now
+  pub read : AreRead call.input lines
+  pub leads : LinesLead files lines steps now
   pub command : commands ≡ map line_command lines
 
 -- The commands of one call, the steps that they took, and the files that the call left.
@@ -113,6 +106,6 @@ CallsDid files [] now commands steps = NothingDone files now commands steps
 CallsDid files (call ∷ calls) now commands steps = CallThen files call (λ between cs ss. CallsDid between calls now cs ss) commands steps
 
 -- the commands took these steps, one after another, and led to these files
-pub record LeadTo (files : Files) (commands : List (Option PlainCommand)) (steps : List Step) (now : Files) : Type 0 where
+pub record CommandsLead (files : Files) (commands : List (Option PlainCommand)) (steps : List Step) (now : Files) : Type 0 where
   pub are : CommandsDid files commands steps
   pub left : now ≡ files_after files steps

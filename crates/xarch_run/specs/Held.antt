@@ -1,7 +1,6 @@
 -- What an archive holds after commands: the documents that were handed in to it.
-use Rattle.std.specs.Prelude.{◌≡◌, ◌≢◌, ◌↔◌, ◌⊎◌, ℕ, ◌==◌, List, [], ◌∷◌, ◌++◌, length, Option, Some, None, Result, Ok, Err, if◌then◌else◌, ⊤}
+use Rattle.std.specs.Prelude.{◌≡◌, ◌≢◌, ◌↔◌, ◌⊎◌, ℕ, List, [], ◌∷◌, ◌++◌, length, Option, Some, Result, Ok, ⊤}
 use Rattle.std.specs.FinMap as finite
-use Rattle.std.specs.Str.{bytes_eq}
 use Rattle.xa_outside.specs.Folder.{Files}
 use Rattle.key_spec.specs.Data.{PlainRule}
 use Rattle.keyed_tree.specs.Data.{PlainKeyed}
@@ -10,12 +9,13 @@ use Rattle.xarch_gen.specs.Company.{company_rules}
 use Rattle.xarch_words.specs.Commands.{PlainCommand, init, add, demo}
 use Rattle.xarch_words.specs.Refusal.{Refusal}
 use Rattle.xarch_steps.specs.Add.{added}
-use Rattle.xarch_steps.specs.Archives.{ArchiveIs}
+use Rattle.xarch_parts.specs.Archives.{ArchiveIs}
 use Rattle.xarch_steps.specs.Demo.{samples}
-use Rattle.xarch_steps.specs.Inputs.{read_in}
-use Rattle.xarch_steps.specs.Outcome.{Outcome, Step, and_then, step_from}
-use Rattle.xarch_steps.specs.Readings.{rules_of, document_of, keyed_of}
+use Rattle.xarch_parts.specs.Inputs.{read_in}
+use Rattle.xarch_parts.specs.Outcome.{Outcome, Step, step_from}
+use Rattle.xarch_parts.specs.Readings.{rules_of}
 use Rattle.xarch_steps.specs.Stats.{CountsFrom}
+use Rattle.xarch_run.specs.Steps.{files_after}
 
 -- the rules of an archive, and its versions in order
 pub record Held : Type 0 where
@@ -62,36 +62,62 @@ NoneMakes name (c ∷ cs) (s ∷ ss) = (MakesArchive name c → s.status ≢ 0) 
 
 -- ---- how it goes on
 
--- the keyed tree under the rules of the document in this file, where it is a document that satisfies the keys
-abbrev pub keyed_in : List PlainRule → Files → List ℕ → Result PlainKeyed Refusal
-keyed_in rules files doc = and_then (read_in files doc document_of) (keyed_of rules)
+-- The document in this file is handed in to an archive that holds this, and this is its keyed tree: within the limits it
+-- satisfies the keys, and the versions with it have a file.
+pub record IsHandedIn (files : Files) (doc : List ℕ) (h : Held) (k : PlainKeyed) : Type 0 where
+  pub satisfies : added files doc h.rules (length h.versions) ≡ Ok k
+  pub bytes : List ℕ
+  pub file : FileOf h.rules (h.versions ++ k ∷ []) bytes
 
 -- with this tree as its next version
-abbrev pub with_keyed : Held → Result PlainKeyed Refusal → Held
-with_keyed h (Ok k) = record { rules = h.rules; versions = h.versions ++ k ∷ [] }
-with_keyed h (Err r) = h
+abbrev pub with_keyed : Held → PlainKeyed → Held
+with_keyed h k = record { rules = h.rules; versions = h.versions ++ k ∷ [] }
 
--- What the archive of this name holds after a command that was not refused: an `add` to it hands its document in.
-abbrev pub held_by : Files → List ℕ → Option PlainCommand → Held → Held
-held_by files name (Some (add archive doc)) h = if bytes_eq name archive then with_keyed h (keyed_in h.rules files doc) else h
-held_by files name _ h = h
+-- the document is handed in, and its tree comes behind the versions
+pub record ComesIn (files : Files) (doc : List ℕ) (h i : Held) : Type 0 where
+  pub tree : PlainKeyed
+  pub handed : IsHandedIn files doc h tree
+  pub is : i ≡ with_keyed h tree
 
--- what it holds after a command that answered this status
-abbrev pub held_after : Files → List ℕ → Option PlainCommand → ℕ → Held → Held
-held_after files name command status h = if status == 0 then held_by files name command h else h
+-- the document is not handed in, and the versions are as they were
+pub record StaysOut (files : Files) (doc : List ℕ) (h i : Held) : Type 0 where
+  pub none : (k : PlainKeyed) → ¬ IsHandedIn files doc h k
+  pub is : i ≡ h
 
--- what it holds after commands that took these steps, each from the files that the one before left
-abbrev pub held_after_all : Files → List ℕ → List (Option PlainCommand) → List Step → Held → Held
-held_after_all files name [] ss h = h
-held_after_all files name (c ∷ cs) [] h = h
-held_after_all files name (c ∷ cs) (s ∷ ss) h = held_after_all s.files name cs ss (held_after files name c s.status h)
+-- what an archive holds before a document comes to it and behind that
+abbrev pub AddsDoc : Files → List ℕ → Held → Held → Type 0
+AddsDoc files doc h i = ComesIn files doc h i ⊎ StaysOut files doc h i
+
+-- What the archive of this name holds before a command and behind it: a document comes to it by an `add` that names it, and no
+-- other command changes what it holds.
+abbrev pub HeldBy : Files → List ℕ → Option PlainCommand → Held → Held → Type 0
+HeldBy files name (Some (add archive doc)) h i = ((name ≡ archive) × AddsDoc files doc h i) ⊎ ((name ≢ archive) × (i ≡ h))
+HeldBy files name _ h i = i ≡ h
+
+-- what it holds behind the first command, from where the rest is said
+pub record HeldThen (files : Files) (name : List ℕ) (c : Option PlainCommand) (Rest : Held → Type 0) (h : Held) : Type 0 where
+  pub between : Held
+  pub first : HeldBy files name c h between
+  pub rest : Rest between
+
+-- what it holds before commands that took these steps and behind them, each from the files that the one before left
+abbrev pub HeldAfter : Files → List ℕ → List (Option PlainCommand) → List Step → Held → Held → Type 0
+HeldAfter files name [] ss h i = i ≡ h
+HeldAfter files name (c ∷ cs) [] h i = ⊥
+HeldAfter files name (c ∷ cs) (s ∷ ss) h i = HeldThen files name c (λ m. HeldAfter s.files name cs ss m i) h
+
+-- What the archive of this name holds behind these commands is what it held and what was handed in.
+pub record HoldsBehind (files : Files) (name : List ℕ) (cs : List (Option PlainCommand)) (ss : List Step) (h : Held) : Type 0 where
+  pub held : Held
+  pub after : HeldAfter files name cs ss h held
+  pub archive : Holds (files_after files ss) name held
 
 -- A command made the archive of this name, and those behind it took it to what it holds.
 pub record MadeBy (files : Files) (name : List ℕ) (c : Option PlainCommand) (s : Step) (cs : List (Option PlainCommand)) (ss : List Step) (h : Held) : Type 0 where
   pub answered : s.status ≡ 0
   pub first : Held
   pub begins : BeginsWith files name c first
-  pub is : h ≡ held_after_all s.files name cs ss first
+  pub after : HeldAfter s.files name cs ss first h
 
 -- What was handed in to the archive of this name: one of these commands made it, wherever it stands among them, and this is
 -- what the archive holds after all of them.
@@ -100,11 +126,11 @@ HandedIn files name [] ss h = ⊥
 HandedIn files name (c ∷ cs) [] h = ⊥
 HandedIn files name (c ∷ cs) (s ∷ ss) h = MadeBy files name c s cs ss h ⊎ HandedIn s.files name cs ss h
 
--- The document in this file satisfied the keys within the limits, and its keyed tree came behind the versions.
+-- The document in this file was handed in, and its keyed tree came behind the versions.
 pub record Accepted (files : Files) (name doc : List ℕ) (h : Held) (now : Files) : Type 0 where
   pub tree : PlainKeyed
-  pub satisfies : added files doc h.rules (length h.versions) ≡ Ok tree
-  pub archive : Holds now name (with_keyed h (Ok tree))
+  pub handed : IsHandedIn files doc h tree
+  pub archive : Holds now name (with_keyed h tree)
 
 -- ---- what else steps do
 

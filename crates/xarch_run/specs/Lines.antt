@@ -1,5 +1,5 @@
 -- The lines of a batch.
-use Rattle.std.specs.Prelude.{◌≡◌, ℕ, ◌+◌, ◌<◌, ◌==◌, ◌||◌, length, take, drop, false, List, [], ◌∷◌, Bool, not, filter, if◌then◌else◌}
+use Rattle.std.specs.Prelude.{ℕ, ◌==◌, ◌||◌, List, [], ◌∷◌, Bool, not, filter, if◌then◌else◌}
 use Rattle.std.specs.List.{list_all, list_any}
 
 -- space, tab or CR
@@ -46,9 +46,3 @@ lines_of bytes = without_blanks (cut bytes)
 -- those of them that an LF ends
 abbrev pub ended_lines_of : List ℕ → List (List ℕ)
 ended_lines_of bytes = without_blanks (cut_ended bytes)
-
--- there is an LF at this place, and none before it
-pub record IsFirstLineFeed (bytes : List ℕ) (at : ℕ) : Type 0 where
-  pub in_range : at < length bytes
-  pub none : has_line_feed (take at bytes) ≡ false
-  pub one : drop at bytes ≡ 10 ∷ drop (at + 1) bytes

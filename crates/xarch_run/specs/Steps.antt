@@ -1,12 +1,12 @@
 -- The steps that the lines of a batch have the program take.
-use Rattle.std.specs.Prelude.{◌≡◌, ◌≢◌, ◌⊎◌, ℕ, List, [], ◌∷◌, ◌++◌, length, nat_lt, MatchBool, Option, Some, None, option_and_then, Err, codes, if◌then◌else◌, ⊤}
+use Rattle.std.specs.Prelude.{◌≡◌, ◌≢◌, ◌⊎◌, ℕ, List, [], ◌∷◌, ◌++◌, length, nat_lt, MatchBool, Option, Some, None, IsSome, option_and_then, Err, codes, if◌then◌else◌, ⊤}
 use Rattle.std.specs.Fmt.{decimal}
 use Rattle.std.specs.List.{flat_map}
 use Rattle.xa_outside.specs.Folder.{Files}
 use Rattle.xarch_words.specs.Commands.{PlainCommand}
 use Rattle.xarch_words.specs.Lines.{fault_line, refusal_status}
-use Rattle.xarch_words.specs.Refusal.{line, Refusal, usage, limit, refused}
-use Rattle.xarch_steps.specs.Outcome.{Step, step_from}
+use Rattle.xarch_words.specs.Refusal.{demo, line, Refusal, usage, limit, refused}
+use Rattle.xarch_parts.specs.Outcome.{Step, step_from}
 use Rattle.xarch_steps.specs.Plausible.{Plausible}
 use Rattle.xarch_steps.specs.Ran.{IsLongDemo, OnlyReads}
 use Rattle.xarch_steps.specs.Step.{single_of}
@@ -45,7 +45,7 @@ pub record DoesCommand (s : Step) : Type 0 where
 -- What a command answers: it was done, or it was refused, and a `demo` of too many documents is refused.
 pub record CommandAnswers (command : PlainCommand) (s : Step) : Type 0 where
   pub is : DoesCommand s ⊎ RefusesCommand s
-  pub long_demo : IsLongDemo (Some command) → s.status ≡ 12
+  pub long_demo : IsLongDemo (Some command) → RefusesWith (limit demo 1000) s
 
 -- words that are no command by themselves are refused
 abbrev pub SpelledAnswers : Option PlainCommand → Step → Type 0
@@ -65,6 +65,11 @@ LineAnswers l s = MatchBool (nat_lt 1048576 (length l)) (RefusesWith (limit line
 -- the command that a line of a batch spells, if it is not too long and spells one
 abbrev pub line_command : List ℕ → Option PlainCommand
 line_command l = if nat_lt 1048576 (length l) then None else option_and_then single_of (words_of l)
+
+-- It may end in a fault of the outside, or in want of memory: the line spells a command, and no `demo` of too many documents.
+pub record MayFault (l : List ℕ) : Type 0 where
+  pub command : IsSome (line_command l)
+  pub short : ¬ IsLongDemo (line_command l)
 
 -- its step makes no file: it was refused, or the command only reads
 abbrev pub MakesNone : List ℕ → Step → Type 0
@@ -111,7 +116,7 @@ abbrev pub IfTold : Option Files → Option Files → (Files → Files → Type 
 IfTold before now P = (f g : Files) → before ≡ Some f → now ≡ Some g → P f g
 
 -- the lines took these steps from the files before, and the last one left those that are there now
-pub record Leads (before : Files) (lines : List (List ℕ)) (steps : List Step) (now : Files) : Type 0 where
+pub record LinesLead (before : Files) (lines : List (List ℕ)) (steps : List Step) (now : Files) : Type 0 where
   pub are : StepsAre before lines steps
   pub files : now ≡ files_after before steps
 
@@ -119,7 +124,7 @@ pub record Leads (before : Files) (lines : List (List ℕ)) (steps : List Step) 
 -- step made a file, files are as before, and are told if they were.
 pub record AreSteps (before now : Option Files) (lines : List (List ℕ)) (steps : List Step) : Type 0 where
   pub answers : AllAnswer lines steps
-  pub leads : IfTold before now (λ f g. Leads f lines steps g)
+  pub leads : IfTold before now (λ f g. LinesLead f lines steps g)
   pub kept : AllMakeNone lines steps → now ≡ before
 
 -- the step of one line from the files before

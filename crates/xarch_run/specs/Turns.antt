@@ -5,11 +5,11 @@ use Rattle.xa_outside.specs.Folder.{Files}
 use Rattle.xa_outside.specs.Taken.{Taken, Takes, TakesPrefix}
 use Rattle.xarch_words.specs.Lines.{fault_line}
 use Rattle.xarch_words.specs.Refusal.{PlainFault, out_fault, memory}
-use Rattle.xarch_steps.specs.Outcome.{Step}
+use Rattle.xarch_parts.specs.Outcome.{Step}
 use Rattle.xarch_steps.specs.Ran.{Ran, Says, outside_of}
 use Rattle.xarch_run.specs.Batch.{Gains, RunsOver, Scene, Stops}
 use Rattle.xarch_run.specs.Lines.{is_blank, without_blanks}
-use Rattle.xarch_run.specs.Steps.{IsStep, status_line}
+use Rattle.xarch_run.specs.Steps.{IsStep, MayFault, status_line}
 
 -- ---- its step
 
@@ -29,8 +29,9 @@ pub record LinePrefix (before after : Option Files) (line : List ℕ) (old new :
 abbrev pub LineWrote : Option Files → Option Files → List ℕ → Taken → Taken → Type 0
 LineWrote before after line old new = Takes old new [] ⊎ LinePrefix before after line old new
 
--- A fault of the outside changed no file, and its line was said.
+-- A fault of the outside changed no file, and its line was said. It comes to a command alone.
 pub record LineFaults (before after : Option Files) (line : List ℕ) (fault : PlainFault) (old new err_old err_new : Taken) (count_before count_now : ℕ) : Type 0 where
+  pub spelled : MayFault line
   pub wrote : LineWrote before after line old new
   pub kept : after ≡ before
   pub said : Says err_old err_new count_before count_now (fault_line fault)

@@ -1,19 +1,25 @@
 // What follows for the archives in a folder.
-ghost use Rattle.std.specs.Prelude.{◌≡◌, ℕ, List, ◌∷◌, ◌++◌, [], length, None, Ok, Option, Some};
+ghost use Rattle.std.specs.Prelude.{◌≡◌, ℕ, List, None, Option, Some};
 ghost use Rattle.std.specs.FinMap as finite;
 ghost use Rattle.xa_outside.specs.Folder.{Files};
 ghost use Rattle.keyed_tree.specs.Data.{PlainKeyed};
-ghost use Rattle.record_format.specs.Files.{FileOf};
+ghost use Rattle.keyed_tree.specs.Kids.{IsOrdered};
+ghost use Rattle.archive_tree.specs.Stands.{version_of};
+ghost use Rattle.archive_file.specs.KeyedBy.{IsKeyedBy};
 ghost use Rattle.xarch_words.specs.Commands.{PlainCommand, add, get, history, stats};
-ghost use Rattle.xarch_steps.specs.Add.{added};
 ghost use Rattle.xarch_steps.specs.Get.{version_text};
 ghost use Rattle.xarch_steps.specs.History.{history_text};
-ghost use Rattle.xarch_steps.specs.Outcome.{Step, step_from};
-ghost use Rattle.xarch_run.specs.Calls.{Call, CallsDid, CommandMay, CommandsDid, LeadTo};
-ghost use Rattle.xarch_run.specs.Held.{Accepted, Begun, HandedIn, Held, Holds, HoldsExactly, MakesArchive, NoneMakes, RefusalsKeep, WritesCounts, held_after_all};
+ghost use Rattle.xarch_parts.specs.Outcome.{Step, step_from};
+ghost use Rattle.xarch_steps.specs.Plausible.{Plausible};
+ghost use Rattle.xarch_steps.specs.Step.{single_of};
+ghost use Rattle.xarch_steps.specs.Succeeds.{ShouldSucceed};
+ghost use Rattle.xarch_run.specs.Calls.{Call, CallsDid, CommandMay, CommandsDid, CommandsLead};
+ghost use Rattle.xarch_run.specs.Held.{Accepted, Begun, HandedIn, Held, Holds, HoldsBehind, HoldsExactly, IsHandedIn, MakesArchive, NoneMakes, RefusalsKeep, WritesCounts};
 ghost use Rattle.xarch_run.specs.Steps.{LineMay, files_after, line_command};
 
+use archive_file::sound_archives_have_one_reading;
 use record_format::versions_have_one_file;
+use xarch_steps::what_should_succeed_is_not_refused;
 
 /// After any list of commands, an archive's file is exactly the encoding of the handed-in documents
 /// that satisfied its keys, in order, and refused commands changed no file; `get` of a number
@@ -21,11 +27,12 @@ use record_format::versions_have_one_file;
 /// that hold the element.
 ///
 /// The commands are those of calls of `run`, one after another, and of the lines of their batches.
-/// They may name other archives, sound or not. The encoding of versions is that of the archive that
-/// `merge_all` makes of them, as `encode_file` spells it.
+/// They may name other archives, sound or not. That merging all of the versions gives the bytes of
+/// the file is clause `held` of `xarch_parts::file_of_versions`.
 pub fn archives_hold_what_was_handed_in()
     // The file is exactly the encoding of the documents that were handed in since its `init`, or of
-    // those of its `demo` and of the documents handed in since then.
+    // those of its `demo` and of the documents handed in since then. A document of an `add` is
+    // handed in exactly where it satisfies the keys within the limits (`HeldAfter`).
     ensures headline { (files : Files) (commands : List (Option PlainCommand)) (steps : List Step)
         (name : List ℕ) (held : Held)
         → CommandsDid files commands steps → HandedIn files name commands steps held
@@ -39,9 +46,11 @@ pub fn archives_hold_what_was_handed_in()
         → Begun files name command s.files }
     ensures kept { (files : Files) (name : List ℕ) (commands : List (Option PlainCommand))
         (steps : List Step) (held : Held) → Holds files name held → CommandsDid files commands steps
-        → Holds (files_after files steps) name (held_after_all files name commands steps held) }
+        → HoldsBehind files name commands steps held }
     ensures exactly { (files : Files) (name : List ℕ) (held : Held)
         → Holds files name held → HoldsExactly files name held }
+    ensures only { (files : Files) (name : List ℕ) (held other : Held)
+        → Holds files name held → Holds files name other → held ≡ other }
     ensures absent { (files : Files) (name : List ℕ) (commands : List (Option PlainCommand))
         (steps : List Step) → finite.get files name ≡ None → CommandsDid files commands steps
         → NoneMakes name commands steps → finite.get (files_after files steps) name ≡ None }
@@ -50,21 +59,27 @@ pub fn archives_hold_what_was_handed_in()
     ensures refused { (files : Files) (commands : List (Option PlainCommand)) (steps : List Step)
         → CommandsDid files commands steps → RefusalsKeep files steps }
 
-    // A document is handed in exactly where it satisfies the keys within the limits, and its
-    // archive has a file.
+    // An `add` is not refused exactly where its document satisfies the keys within the limits, and
+    // the versions with it have a file.
     ensures satisfied { (files : Files) (name doc : List ℕ) (held : Held) (s : Step)
-        (tree : PlainKeyed) (bytes : List ℕ)
+        (tree : PlainKeyed)
         → Holds files name held → CommandMay files (Some (add name doc)) s
-        → added files doc held.rules (length held.versions) ≡ Ok tree
-        → FileOf held.rules (held.versions ++ tree ∷ []) bytes → s.status ≡ 0 }
+        → IsHandedIn files doc held tree → s.status ≡ 0 }
     ensures accepted { (files : Files) (name doc : List ℕ) (held : Held) (s : Step)
         → Holds files name held → CommandMay files (Some (add name doc)) s → s.status ≡ 0
         → Accepted files name doc held s.files }
 
-    // What is written of an archive.
+    // What should succeed is not refused, and so not in a batch.
+    ensures should { (files : Files) (command : PlainCommand) (s : Step)
+        → CommandMay files (Some command) s → ShouldSucceed files command → s.status ≡ 0 }
+
+    // What is written of an archive. Siblings with keys stand in key order in each of its versions.
     ensures gets { (files : Files) (name : List ℕ) (held : Held) (s : Step) (i : ℕ)
         → Holds files name held → CommandMay files (Some (get name i)) s
         → s ≡ step_from files (version_text files held.versions i) }
+    ensures in_order { (files : Files) (name : List ℕ) (held : Held) (i : ℕ) (tree : PlainKeyed)
+        → Holds files name held → version_of held.versions i ≡ Some tree
+        → IsOrdered tree × IsKeyedBy held.rules tree }
     ensures tells { (files : Files) (name : List ℕ) (held : Held) (s : Step) (path : List ℕ)
         → Holds files name held → CommandMay files (Some (history name path)) s
         → s ≡ step_from files (history_text files held.rules held.versions path) }
@@ -73,12 +88,17 @@ pub fn archives_hold_what_was_handed_in()
         → WritesCounts files held s }
 
     // The commands are those that calls of `run` did, one after another, as its clause `did` says.
-    // Those of a batch are the ones that its lines spell.
+    // Those of a batch are the ones that its lines spell, and that of any other call is the one that
+    // its words spell.
     ensures calls { (files now : Files) (calls : List Call) (commands : List (Option PlainCommand))
         (steps : List Step)
-        → CallsDid files calls now commands steps → LeadTo files commands steps now }
+        → CallsDid files calls now commands steps → CommandsLead files commands steps now }
     ensures line { (files : Files) (line : List ℕ) (s : Step)
         → LineMay files line s → CommandMay files (line_command line) s }
+    ensures words { (files : Files) (words : List (List ℕ)) (s : Step)
+        → Plausible files words s → CommandMay files (single_of words) s }
 {
     versions_have_one_file();
+    sound_archives_have_one_reading();
+    what_should_succeed_is_not_refused();
 }

@@ -3,12 +3,15 @@ ghost use Rattle.xa_outside.specs.Causes.{Rose};
 ghost use Rattle.xa_outside.specs.Folder.{Files};
 ghost use Rattle.xa_outside.specs.Taken.{TakesNone};
 ghost use Rattle.xarch_words.specs.Commands.{PlainCommand, batch, command_of, demo};
+ghost use Rattle.xarch_words.specs.Lines.{fault_line};
+ghost use Rattle.xarch_words.specs.Refusal as refusal;
+ghost use Rattle.xarch_words.specs.Refusal.{limit, refused};
 ghost use Rattle.xarch_words.specs.View.{words_view};
-ghost use Rattle.xarch_steps.specs.Ends.{Gained};
-ghost use Rattle.xarch_steps.specs.Folders.{IsTold};
-ghost use Rattle.xarch_steps.specs.Outcome.{Step};
+ghost use Rattle.xarch_parts.specs.Ends.{Gained};
+ghost use Rattle.xarch_parts.specs.Folders.{IsTold};
+ghost use Rattle.xarch_parts.specs.Outcome.{Step};
 ghost use Rattle.xarch_steps.specs.Plausible.{Tried, Wrote};
-ghost use Rattle.xarch_steps.specs.Ran.{CountsAsSaid, OnlyReads, Said, outside_of};
+ghost use Rattle.xarch_steps.specs.Ran.{CountsAsSaid, OnlyReads, Said, Says, outside_of};
 ghost use Rattle.xarch_steps.specs.Step.{StepIs};
 ghost use Rattle.xarch_steps.specs.Succeeds.{ShouldSucceed};
 ghost use Rattle.xarch_run.specs.Batch.{BatchEnds, IsAnswer, ReadsAsSaid, shown};
@@ -50,7 +53,8 @@ pub fn run<F: Folder, S: Source, O: Sink, E: Sink>(
         → (command_of (words_view words.now) ≡ Some batch → S.rest input.old ≡ Some bytes)
         → DidCommands before (call_of (words_view words.now) bytes result) now }
 
-    // What should succeed in a batch does.
+    // Where nothing fails, a batch whose input is not too long runs all of its lines. That what
+    // should succeed among them does is clause `should` of `archives_hold_what_was_handed_in`.
     ensures batch_complete { (bytes : List ℕ) → command_of (words_view words.now) ≡ Some batch
         → S.rest input.old ≡ Some bytes → length bytes ≤ 1073741824
         → ¬ Rose (F.faults folder.old) (F.faults folder.new)
@@ -75,9 +79,8 @@ pub fn run<F: Folder, S: Source, O: Sink, E: Sink>(
         → F.files folder.old ≡ Some files
         → Wrote files (words_view words.now) (O.taken out.old) (O.taken out.new) }
 
-    // What should succeed does: in plain conditions on the files, and wherever a step is defined.
-    ensures succeeds { (files : Files) (command : PlainCommand)
-        → command_of (words_view words.now) ≢ Some batch → F.files folder.old ≡ Some files
+    // What should succeed does: in conditions on the files, and wherever a step is defined.
+    ensures succeeds { (files : Files) (command : PlainCommand) → F.files folder.old ≡ Some files
         → command_of (words_view words.now) ≡ Some command → ShouldSucceed files command
         → ¬ Rose (F.faults folder.old) (F.faults folder.new)
         → ¬ Rose (O.faults out.old) (O.faults out.new) → (result ≡ 0) ⊎ (result ≡ 16) }
@@ -99,7 +102,8 @@ pub fn run<F: Folder, S: Source, O: Sink, E: Sink>(
     ensures usage { (result ≡ 2) ↔ (command_of (words_view words.now) ≡ None) }
     ensures long_demo { (seed count : ℕ) (name : List ℕ)
         → command_of (words_view words.now) ≡ Some (demo seed count name) → 1000 < count
-        → result ≡ 12 }
+        → (result ≡ 12) × Says (E.taken err.old) (E.taken err.new) (E.faults err.old)
+        (E.faults err.new) (fault_line (refused (limit refusal.demo 1000))) }
     ensures folder_fault { result ≡ 13 → Rose (F.faults folder.old) (F.faults folder.new) }
     ensures out_fault { result ≡ 14 → Rose (O.faults out.old) (O.faults out.new) }
     ensures input_fault { result ≡ 15

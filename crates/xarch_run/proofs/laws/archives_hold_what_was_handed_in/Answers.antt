@@ -1,5 +1,5 @@
-use Rattle.xarch_run.proofs.CallLemmas.{calls-did, line-may}
-use Rattle.xarch_run.proofs.HeldLemmas.{accepted, all-absent, all-hold, all-refused, counting, exact, getting, handed-holds, satisfying, step-begins, telling}
+use Rattle.xarch_run.proofs.CallLemmas.{calls-did, line-may, words-may}
+use Rattle.xarch_run.proofs.HeldLemmas.{accepted, all-absent, all-hold, all-refused, counting, exact, getting, handed-holds, in-order, one-held, satisfying, should-succeed, step-begins, telling}
 use Rattle.xarch_run.proofs.laws.archives_hold_what_was_handed_in.Goals as goal
 
 pub returns-clause-headline : goal.returns-clause-headline
@@ -9,10 +9,13 @@ pub returns-clause-made : goal.returns-clause-made
 returns-clause-made c = step-begins
 
 pub returns-clause-kept : goal.returns-clause-kept
-returns-clause-kept c = all-hold
+returns-clause-kept c = λ files name commands steps held holds did. all-hold files name commands steps held holds did
 
 pub returns-clause-exactly : goal.returns-clause-exactly
 returns-clause-exactly c = exact c.versions_have_one_file.ensures.one_file
+
+pub returns-clause-only : goal.returns-clause-only
+returns-clause-only c = one-held c.sound_archives_have_one_reading.ensures.one
 
 pub returns-clause-absent : goal.returns-clause-absent
 returns-clause-absent c = all-absent
@@ -21,10 +24,16 @@ pub returns-clause-refused : goal.returns-clause-refused
 returns-clause-refused c = all-refused
 
 pub returns-clause-satisfied : goal.returns-clause-satisfied
-returns-clause-satisfied c = λ files name doc held s tree bytes holds may is file. satisfying files name held s holds doc tree bytes may is file
+returns-clause-satisfied c = λ files name doc held s tree holds may handed. satisfying files name held s holds doc tree may handed
 
 pub returns-clause-accepted : goal.returns-clause-accepted
 returns-clause-accepted c = λ files name doc held s holds may zero. accepted files name held s holds doc may zero
+
+pub returns-clause-should : goal.returns-clause-should
+returns-clause-should c = should-succeed c.what_should_succeed_is_not_refused.ensures
+
+pub returns-clause-in_order : goal.returns-clause-in_order
+returns-clause-in_order c = in-order
 
 pub returns-clause-gets : goal.returns-clause-gets
 returns-clause-gets c = λ files name held s i holds may. getting files name held s holds i may
@@ -40,3 +49,6 @@ returns-clause-calls c = λ files now calls commands steps did. calls-did files 
 
 pub returns-clause-line : goal.returns-clause-line
 returns-clause-line c = line-may
+
+pub returns-clause-words : goal.returns-clause-words
+returns-clause-words c = words-may

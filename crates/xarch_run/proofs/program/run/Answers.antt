@@ -6,7 +6,7 @@ use Rattle.xarch_run.specs.Batch.{scene}
 use Rattle.xarch_run.specs.Calls.{call_of}
 use Rattle.xarch_run.proofs.BatchFronts.{batch-did}
 use Rattle.xarch_run.proofs.CallLemmas.{single-did}
-use Rattle.xarch_run.proofs.CommandLemmas.{alone-counts, alone-reads, batch-demo, batch-none, none-alone, answer-calm, answer-folder, answer-input, answer-out, answer-words, batch-counts, batch-reads, fails, holds}
+use Rattle.xarch_run.proofs.CommandLemmas.{alone-counts, alone-reads, batch-demo, batch-none, none-alone, answer-calm, answer-folder, answer-input, answer-out, answer-words, batch-counts, batch-fails, batch-reads, fails, holds}
 use Rattle.xarch_run.proofs.program.run.Goals as goal
 
 -- ---- a batch
@@ -26,7 +26,7 @@ pub returns-then-is_batch-clause-complete : goal.returns-then-is_batch-clause-co
 returns-then-is_batch-clause-complete g c = λ files s other. absurd (other (holds _ _ c.if-is_batch.true c.is_batch.ensures))
 
 pub returns-then-is_batch-clause-succeeds : goal.returns-then-is_batch-clause-succeeds
-returns-then-is_batch-clause-succeeds g c = λ files command other. absurd (other (holds _ _ c.if-is_batch.true c.is_batch.ensures))
+returns-then-is_batch-clause-succeeds g c = λ files command _ is should _ _. absurd (batch-fails files _ command (holds _ _ c.if-is_batch.true c.is_batch.ensures) is should)
 
 pub returns-then-is_batch-clause-said : goal.returns-then-is_batch-clause-said
 returns-then-is_batch-clause-said g c = λ other. absurd (other (holds _ _ c.if-is_batch.true c.is_batch.ensures))
@@ -136,7 +136,7 @@ pub returns-else-is_batch-clause-complete : goal.returns-else-is_batch-clause-co
 returns-else-is_batch-clause-complete g c = λ files s _ told is zero folder out. c.take_step.ensures.complete files s told is zero folder out
 
 pub returns-else-is_batch-clause-succeeds : goal.returns-else-is_batch-clause-succeeds
-returns-else-is_batch-clause-succeeds g c = λ files command _ told is should folder out. c.take_step.ensures.succeeds files command told is should folder out
+returns-else-is_batch-clause-succeeds g c = λ files command told is should folder out. c.take_step.ensures.succeeds files command told is should folder out
 
 pub returns-else-is_batch-clause-said : goal.returns-else-is_batch-clause-said
 returns-else-is_batch-clause-said g c = λ _. c.take_step.ensures.said
