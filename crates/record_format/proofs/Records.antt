@@ -41,12 +41,12 @@ mapped f (Some x) y e = (x, refl, some_is (f x) y e)
 mapped f None y e = absurd cc
 
 -- a body of this kind
-record Body (kind : ℕ) (body : List ℕ) (r : PlainRec) : Type 0 where
-  kind_is : kind_of r ≡ kind
-  spelled : body ≡ body_bytes r
-  is : IsBody r
+pub record Body (kind : ℕ) (body : List ℕ) (r : PlainRec) : Type 0 where
+  pub kind_is : kind_of r ≡ kind
+  pub spelled : body ≡ body_bytes r
+  pub is : IsBody r
 
-body_found : (kind : ℕ) (body : List ℕ) (r : PlainRec) → IsBytes body → record_of kind body ≡ Some r → Body kind body r
+pub body_found : (kind : ℕ) (body : List ℕ) (r : PlainRec) → IsBytes body → record_of kind body ≡ Some r → Body kind body r
 unfolding record_of
 body_found zero body r fits e = absurd cc
 body_found (suc zero) body r fits e =
@@ -70,7 +70,7 @@ body_found (suc (suc (suc (suc (suc zero))))) body r fits e =
     subst (λ (y : PlainRec). Body 5 body y) p.1 (record { kind_is = refl; spelled = nil_from_length body (eqb-true _ _ p.0); is = tt })
 body_found (suc (suc (suc (suc (suc (suc k)))))) body r fits e = absurd cc
 
-body_only : (r : PlainRec) → IsRec r → record_of (kind_of r) (body_bytes r) ≡ Some r
+pub body_only : (r : PlainRec) → IsRec r → record_of (kind_of r) (body_bytes r) ≡ Some r
 unfolding record_of
 body_only (inner_rec l s) h = ap (option_map (λ (x : PlainLabel × Stamp). inner_rec x.0 x.1)) (whole_again (both_at label_at stamp_at) (λ p. label_bytes p.0 ++ stamp_bytes p.1) (λ p. IsLabel p.0 × IsStamp p.1) opening_reads (l, s) h.body)
 body_only (leaf_rec l s) h = ap (option_map (λ (x : PlainLabel × Stamp). leaf_rec x.0 x.1)) (whole_again (both_at label_at stamp_at) (λ p. label_bytes p.0 ++ stamp_bytes p.1) (λ p. IsLabel p.0 × IsStamp p.1) opening_reads (l, s) h.body)

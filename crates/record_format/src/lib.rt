@@ -19,7 +19,7 @@ pub use laws::{
 pub use lend_records::{view, view_body};
 pub use put_directory::lend_sets;
 pub use put_records::{close, encode, open, put_alt, put_end, put_inner, put_leaf, put_leaf_end};
-pub use rec::{ALT, Dir, END, Entry, FRAME, INNER, LEAF, LEAF_END, Rec};
+pub use rec::{ALT, Dir, END, Entry, FRAME, INNER, LEAF, LEAF_END, LONGEST, Rec};
 pub use record_parts::{
     BodyView, DEEPEST, LabelView, MOST_VERSIONS, RecFault, StampView, is_label, is_set, is_stamp,
     is_value,
