@@ -1,5 +1,5 @@
 -- The calls that walk an archive all fit exactly where there is a file of it.
-use Rattle.std.proofs.Common.{◌≡◌, ◌↔◌, ℕ, ◌+◌, ◌≤◌, ◌<◌, ◌^◌, List, [], ◌∷◌, ◌++◌, map, length, sym, ap, subst, ◌∙◌, arith}
+use Rattle.std.proofs.Common.{◌≡◌, ◌↔◌, ℕ, ◌+◌, ◌≤◌, ◌<◌, ◌^◌, List, [], ◌∷◌, ◌++◌, map, length, refl, sym, ap, subst, ◌∙◌, arith}
 use Rattle.std.specs.List.{flat_map, AllByRecursion}
 use Rattle.std.proofs.lemmas.List.{length-append}
 use Rattle.version_set.specs.Members.{upto_pairs}
@@ -15,10 +15,11 @@ use Rattle.record_format.specs.Spelling.{dir_bytes, rec_bytes}
 use Rattle.record_format.specs.Bounds.{IsDir, IsRec}
 use Rattle.record_format.specs.Nodes.{Piece, piece_bytes, dir_of, closed_by_end, alt_of, set_in, inner_piece, leaf_piece, node_piece, node_pieces}
 use Rattle.record_format.specs.Files.{header_bytes, root_pieces, file_records, tail_bytes, file_bytes, longest, HasFile}
+use Rattle.record_format.specs.Shapes.{IsShapedAlt, IsShapedNode, AreShapedNodes, IsShaped}
 use Rattle.record_format.proofs.Pieces.{all-append, all-front, all-back, records_of, closed-bytes, rec-length, entries-length, Fine, closed-fits, set-in, upto-set}
 use Rattle.record_writer.specs.Data.{OpenRow, OpenInner, PlainWriter, WriterCall, call_inner, call_leaf, call_alt, call_end_leaf, call_end_inner, call_finish}
 use Rattle.record_writer.specs.Calls.{row_from, with_child, started, leaf_begun, moved_on, after, after_all, Fits, AllFit}
-use Rattle.record_writer.specs.Walks.{alt_calls, node_calls, row_calls, walk_of, IsShapedAlt, IsShapedNode, AreShapedNodes, IsShaped}
+use Rattle.record_writer.specs.Walks.{alt_calls, node_calls, row_calls, walk_of}
 use Rattle.record_writer.proofs.WalkLaws.{between, with_pieces, with_pieces-dir, place, leaf-bytes, inner-bytes, alts-walked, node-walked, row-walked, behind_kids, root_row, root-dir, kids-walked}
 
 -- ---- calls one after the other
@@ -34,6 +35,9 @@ fit-front w (c ∷ cs) ds h = (h.0, fit-front (after w c) cs ds h.1)
 fit-back : (w v : PlainWriter) (cs ds : List WriterCall) → after_all w cs ≡ v → AllFit w (cs ++ ds) → AllFit v ds
 fit-back w v [] ds e h = subst (λ (x : PlainWriter). AllFit x ds) e h
 fit-back w v (c ∷ cs) ds e h = fit-back (after w c) v cs ds e h.1
+
+pub fit-both : (w : PlainWriter) (cs ds : List WriterCall) → AllFit w (cs ++ ds) ↔ (AllFit w cs × AllFit (after_all w cs) ds)
+fit-both w cs ds = (λ h. (fit-front w cs ds h, fit-back w (after_all w cs) cs ds refl h), λ h. fit-append w (after_all w cs) cs ds refl h.0 h.1)
 
 -- ---- directories
 

@@ -7,12 +7,12 @@ use Rattle.version_set.specs.Members.{upto_pairs}
 use Rattle.keyed_tree.specs.Data.{PlainLabel}
 use Rattle.key_spec.specs.Data.{PlainRule}
 use Rattle.archive_tree.specs.Data.{Stamp, PlainAlt, PlainNode, inner_node, leaf_node, PlainNodes, no_nodes, node, PlainArchive}
-use Rattle.xa_fields.specs.Spelling.{u64_bytes}
+use Rattle.xa_fields.specs.Spelling.{u64_bytes, list_bytes}
 use Rattle.record_format.specs.Data.{PlainEntry, PlainDir, inner_rec, leaf_rec, end_rec, leaf_end}
-use Rattle.record_format.specs.Spelling.{dir_bytes, rec_bytes}
+use Rattle.record_format.specs.Spelling.{entry_bytes, sets_bytes, dir_bytes, rec_bytes}
 use Rattle.record_format.specs.Nodes.{Piece, piece_bytes, entries_from, dir_of, closed_by_end, alt_of, set_in, inner_piece, leaf_piece, node_piece, node_pieces}
 use Rattle.record_format.specs.Files.{header_bytes, root_pieces, file_records, tail_bytes, file_bytes}
-use Rattle.record_format.proofs.Pieces.{one-record, closed-bytes}
+use Rattle.record_format.proofs.Pieces.{one-record, closed-bytes, rec-length}
 use Rattle.record_writer.specs.Data.{OpenRow, OpenInner, PlainWriter, WriterCall, call_inner, call_leaf, call_alt, call_end_leaf, call_end_inner, call_finish}
 use Rattle.record_writer.specs.Calls.{appended, row_from, with_child, started, leaf_begun, moved_on, after, all_appended, after_all}
 use Rattle.record_writer.specs.Walks.{alt_calls, node_calls, row_calls, walk_of}
@@ -166,6 +166,40 @@ mutual
       let far : m + length (flat_map piece_bytes ps) ≡ n + length (piece_bytes p ++ flat_map piece_bytes ps) = omega (arith, length-append (piece_bytes p) (flat_map piece_bytes ps)) in
       told (between n row is) _ _ _ _ _ refl (ap (λ (z : ℕ). between z (with_pieces next m ps) is) far)
       (then (between n row is) (between m next is) _ (node_calls parent k) (row_calls parent ks) _ _ (node-walked n row is parent k) (row-walked m next is parent ks))
+
+-- ---- what stands begun behind a walk
+
+-- a writer in which no leaf stands begun
+no-leaf : (w : PlainWriter) → w.leaf ≡ None → w ≡ between w.written w.row w.inners
+no-leaf w e = λ i. record { written = w.written; row = w.row; inners = w.inners; leaf = e i }
+
+closes : (w v : PlainWriter) (cs : List WriterCall) (bytes : List ℕ) → w.leaf ≡ None → v.leaf ≡ None → v.inners ≡ w.inners
+    → Walked (between w.written w.row w.inners) cs bytes v → ((after_all w cs).leaf ≡ None) × ((after_all w cs).inners ≡ w.inners)
+closes w v cs bytes e leaf inners h =
+    let leaves : after_all w cs ≡ v = ap (λ (x : PlainWriter). after_all x cs) (no-leaf w e) ∙ h.leaves in
+    (ap (λ (x : PlainWriter). x.leaf) leaves ∙ leaf, ap (λ (x : PlainWriter). x.inners) leaves ∙ inners)
+
+pub row-closes : (w : PlainWriter) (set : List (ℕ × ℕ)) (ks : PlainNodes) → w.leaf ≡ None → ((after_all w (row_calls set ks)).leaf ≡ None) × ((after_all w (row_calls set ks)).inners ≡ w.inners)
+row-closes w set ks e = closes w _ (row_calls set ks) _ e refl refl (row-walked w.written w.row w.inners set ks)
+
+pub node-closes : (w : PlainWriter) (set : List (ℕ × ℕ)) (k : PlainNode) → w.leaf ≡ None → ((after_all w (node_calls set k)).leaf ≡ None) × ((after_all w (node_calls set k)).inners ≡ w.inners)
+node-closes w set k e = closes w _ (node_calls set k) _ e refl refl (node-walked w.written w.row w.inners set k)
+
+pub alts-keep : (w : PlainWriter) (xs : List PlainAlt)
+    → ((after_all w (alt_calls xs)).leaf ≡ w.leaf) × ((after_all w (alt_calls xs)).inners ≡ w.inners) × ((after_all w (alt_calls xs)).row ≡ w.row)
+alts-keep w xs = (let leaves = (alts-walked w xs).leaves in (ap (λ (x : PlainWriter). x.leaf) leaves, ap (λ (x : PlainWriter). x.inners) leaves, ap (λ (x : PlainWriter). x.row) leaves))
+
+-- ---- how much is appended at least
+
+dir-size : (d : PlainDir) → 4 ≤ length (dir_bytes d)
+dir-size d = omega (arith, length-append (list_bytes entry_bytes d.entries) (sets_bytes d.sets))
+
+pub end-sizes : (w : PlainWriter) → (9 ≤ length (appended w call_end_inner)) × (21 ≤ length (appended w call_finish))
+end-sizes w =
+    let d = w.row.dir in
+    let end = rec-length (end_rec d) in
+    let count = dir-size d in
+    (omega arith, omega (arith, length-append (rec_bytes (end_rec d)) (u64_bytes (length (dir_bytes d)))))
 
 -- ---- archives
 

@@ -1,10 +1,7 @@
 -- The calls that walk an archive.
-use Rattle.std.specs.Prelude.{ℕ, ◌≤◌, List, [], ◌∷◌, ◌++◌, map, ⊤}
-use Rattle.std.specs.List.{AllByRecursion}
+use Rattle.std.specs.Prelude.{ℕ, List, [], ◌∷◌, ◌++◌, map}
 use Rattle.version_set.specs.Members.{upto_pairs}
 use Rattle.archive_tree.specs.Data.{PlainAlt, PlainNode, inner_node, leaf_node, PlainNodes, no_nodes, node, PlainArchive}
-use Rattle.record_parts.specs.Bounds.{IsStamp, most}
-use Rattle.record_parts.specs.Shapes.{IsShapedLabel, IsShapedValue}
 use Rattle.record_format.specs.Nodes.{set_in}
 use Rattle.record_writer.specs.Data.{WriterCall, call_inner, call_leaf, call_alt, call_end_leaf, call_end_inner, call_finish}
 
@@ -24,21 +21,3 @@ abbrev mutual
 -- the children of the virtual root, which has all versions, and the end
 abbrev pub walk_of : PlainArchive → List WriterCall
 walk_of a = row_calls (upto_pairs a.n) a.kids ++ call_finish ∷ []
-
--- ---- which archives are within the bounds of the format, but for the fit of lengths and counts
-
-abbrev pub IsShapedAlt : PlainAlt → Type 0
-IsShapedAlt x = IsStamp x.stamp × IsShapedValue x.body
-
-abbrev mutual
-  pub IsShapedNode : PlainNode → Type 0
-  IsShapedNode (inner_node l s ks) = IsShapedLabel l × IsStamp s × AreShapedNodes ks
-  IsShapedNode (leaf_node l s xs) = IsShapedLabel l × IsStamp s × AllByRecursion IsShapedAlt xs
-
-  pub AreShapedNodes : PlainNodes → Type 0
-  AreShapedNodes no_nodes = ⊤
-  AreShapedNodes (node k ks) = IsShapedNode k × AreShapedNodes ks
-
-pub record IsShaped (a : PlainArchive) : Type 0 where
-  pub count : a.n ≤ most
-  pub kids : AreShapedNodes a.kids

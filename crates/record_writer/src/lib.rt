@@ -10,5 +10,5 @@ mod writer;
 
 pub use fault::WriteFault;
 pub use given::{BodyFrom, LabelFrom};
-pub use laws::walks_spell_files;
+pub use laws::{walks_close_what_they_begin, walks_spell_files};
 pub use writer::Writer;

@@ -14,7 +14,9 @@ ghost use Rattle.record_writer.specs.Faults.{Prepares};
 
 use crate::fault::WriteFault;
 use crate::given::{BodyFrom, LabelFrom};
-use record_format::{ALT, Dir, close, is_label, is_value, lend_sets, open, put_end, put_leaf_end};
+use record_format::{
+    ALT, Dir, FRAME, LONGEST, close, is_label, is_value, lend_sets, open, put_end, put_leaf_end,
+};
 use record_parts::{put_label, put_stamp, put_value};
 use std::alloc::{AllocError, Global};
 use version_set::VersionSet;
@@ -22,12 +24,6 @@ use xa_fields::put_u64;
 
 /// Counts have four bytes.
 const FOUR_BYTES: usize = 4_294_967_296;
-
-/// A record without its body: a byte of its kind, and eight of the body's length.
-const FRAME: usize = 9;
-
-/// An archive file has at most so many bytes.
-const LONGEST: u64 = 274_877_906_944;
 
 fn label_fits(label: &LabelFrom<'_>) -> bool
     requires { IsShapedLabelFrom label.now }

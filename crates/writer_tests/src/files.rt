@@ -8,7 +8,7 @@ use jsonml_tree::{Content, Tree};
 use key_spec::Spec;
 use keyed_tree::{Body, Label, Name};
 use record_format::{View, view};
-use record_writer::{BodyFrom, LabelFrom, Writer};
+use record_writer::{BodyFrom, LabelFrom, WriteFault, Writer};
 use std::alloc::{AllocError, Global};
 use std::test::Fail;
 use version_set::VersionSet;
@@ -17,15 +17,30 @@ use xa_outside::{Folder, MemFolder};
 pub(crate) const SPECIFICATION: &[u8] = b"(/, (db, {}))\n";
 
 /// One version, an empty element `db`, whose body is a content.
-const TINY: &[u8] = b"\
+pub(crate) const TINY: &[u8] = b"\
     XARC1\n\0\0\0\x0e(/, (db, {}))\n\0\0\0\x01\x02\0\0\0\0\0\0\0\x0c\x01\0\0\0\x02db\0\0\0\0\0\x03\
     \0\0\0\0\0\0\0\n\0\x01\0\0\0\0\0\0\0\0\x05\0\0\0\0\0\0\0\0\x04\0\0\0\0\0\0\00\0\0\0\x01\0\0\0\
     \0\0\0\0\0\0\0\0\0\0\0\01\0\0\0\0\0\0\0\0\0\0\0\x01\0\0\0\x01\0\0\0\x01\0\0\0\0\0\0\0\0\0\0\0\
     \0\0\0\00";
 
-const LEAF: &[u8] = b"\x02\0\0\0\0\0\0\0\x0c\x01\0\0\0\x02db\0\0\0\0\0";
+/// A leaf `emp` with the key values false, -2 and the text `Doe`.
+const LEAF: &[u8] = b"\
+    \x02\0\0\0\0\0\0\0*\x01\0\0\0\x03emp\0\0\0\x03\0\x01\0\x04\0\0\0\0\0\0\0\x01\x01\0\0\0\0\0\
+    \0\0\x01\0\0\0\0\x03Doe\0";
 
-const ALT: &[u8] = b"\x03\0\0\0\0\0\0\0\x0a\0\x01\0\0\0\0\0\0\0\0";
+/// The attributes `id` and `up`, a text, and an element `y` with one in it.
+const ALT: &[u8] = b"\
+    \x03\0\0\0\0\0\0\07\0\x01\0\0\0\x02\0\0\0\x02id\x05\0\0\0\x017\0\0\0\x02up\x02\0\0\0\x02\0\
+    \0\0\0\x01x\x01\0\0\0\x01y\0\0\0\0\0\0\0\x01\0\0\0\0\x01z";
+
+/// One version of that leaf with that body.
+const LENT: &[u8] = b"\
+    XARC1\n\0\0\0\x0e(/, (db, {}))\n\0\0\0\x01\x02\0\0\0\0\0\0\0*\x01\0\0\0\x03emp\0\0\0\x03\0\
+    \x01\0\x04\0\0\0\0\0\0\0\x01\x01\0\0\0\0\0\0\0\x01\0\0\0\0\x03Doe\0\x03\0\0\0\0\0\0\07\0\
+    \x01\0\0\0\x02\0\0\0\x02id\x05\0\0\0\x017\0\0\0\x02up\x02\0\0\0\x02\0\0\0\0\x01x\x01\0\0\0\
+    \x01y\0\0\0\0\0\0\0\x01\0\0\0\0\x01z\x05\0\0\0\0\0\0\0\0\x04\0\0\0\0\0\0\00\0\0\0\x01\0\0\0\
+    \0\0\0\0\0\0\0\0\0\0\0\0|\0\0\0\0\0\0\0\0\0\0\0\x01\0\0\0\x01\0\0\0\x01\0\0\0\0\0\0\0\0\0\0\
+    \0\0\0\0\00";
 
 /// Two versions of an element `db`: in its child `a`, which the second alone has, the text `x`, and
 /// in its child `b` first the text `y` and then `z`.
@@ -65,15 +80,30 @@ pub(crate) fn body(alloc: Global, text: Option<&str>) -> Result<Body, AllocError
     }))
 }
 
-fn begun(alloc: Global) -> Result<MemFolder, Fail> {
+pub(crate) fn begun(alloc: Global) -> Result<MemFolder, Fail> {
     let mut folder = MemFolder::new(alloc, Vec::new(alloc));
     folder.begin()?;
     Ok(folder)
 }
 
 /// Whether the draft has these bytes. It is committed.
-fn is_drafted(mut folder: MemFolder, bytes: &[u8]) -> bool {
+pub(crate) fn is_drafted(mut folder: MemFolder, bytes: &[u8]) -> bool {
     folder.commit("a.xar").is_ok() && folder.file("a.xar") == Some(bytes)
+}
+
+// The five records of the file of one version.
+pub(crate) fn write_tiny(
+    alloc: Global,
+    folder: &mut MemFolder,
+    spec: &Spec,
+) -> Result<(), WriteFault> {
+    let all = VersionSet::single(alloc, 1);
+    let (label, content) = (tag(alloc, "db")?, body(alloc, None)?);
+    let mut writer = Writer::start(alloc, folder, spec, 1)?;
+    writer.leaf(folder, LabelFrom::New(&label), &None, &all)?;
+    writer.alt(folder, &None, BodyFrom::New(&content))?;
+    writer.end_leaf(folder)?;
+    writer.finish(folder)
 }
 
 #[test]
@@ -81,13 +111,7 @@ fn five_records_make_the_file_of_one_version(rt: HostRuntime) -> Result<(), Fail
     let alloc = rt.alloc();
     let mut folder = begun(alloc)?;
     let spec = Spec::parse(alloc, SPECIFICATION)?;
-    let all = VersionSet::single(alloc, 1);
-    let (label, content) = (tag(alloc, "db")?, body(alloc, None)?);
-    let mut writer = Writer::start(alloc, &mut folder, &spec, 1)?;
-    writer.leaf(&mut folder, LabelFrom::New(&label), &None, &all)?;
-    writer.alt(&mut folder, &None, BodyFrom::New(&content))?;
-    writer.end_leaf(&mut folder)?;
-    writer.finish(&mut folder)?;
+    write_tiny(alloc, &mut folder, &spec)?;
     assert!(rt; is_drafted(folder, TINY));
     Ok(())
 }
@@ -109,7 +133,7 @@ fn lent_parts_are_written_as_they_stand(rt: HostRuntime) -> Result<(), Fail> {
     writer.alt(&mut folder, &None, BodyFrom::Old(body))?;
     writer.end_leaf(&mut folder)?;
     writer.finish(&mut folder)?;
-    assert!(rt; is_drafted(folder, TINY));
+    assert!(rt; is_drafted(folder, LENT));
     Ok(())
 }
 

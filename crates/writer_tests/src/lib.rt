@@ -4,4 +4,6 @@
 #[cfg(test)]
 mod files;
 #[cfg(test)]
+mod levels;
+#[cfg(test)]
 mod refusals;

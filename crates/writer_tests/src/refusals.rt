@@ -1,25 +1,34 @@
 // Calls that a writer refuses.
-use crate::files::{SPECIFICATION, tag};
+use crate::files::{SPECIFICATION, TINY, is_drafted, write_tiny};
 use key_spec::Spec;
-use record_writer::{LabelFrom, WriteFault, Writer};
+use record_writer::WriteFault;
+use std::alloc::Global;
 use std::test::Fail;
-use version_set::VersionSet;
 use xa_outside::{Folder, FolderCall, FolderFail, MemFolder};
+
+// Whether the append of this number fails, and the draft then holds the records before it.
+fn stops_at(alloc: Global, number: u64, held: usize) -> Result<bool, Fail> {
+    let fail = FolderFail {
+        call: FolderCall::Append,
+        number,
+    };
+    let mut folder = MemFolder::new(alloc, vec![in alloc; fail]?);
+    folder.begin()?;
+    let spec = Spec::parse(alloc, SPECIFICATION)?;
+    let answer = write_tiny(alloc, &mut folder, &spec);
+    let Some(front) = TINY.get(..held) else {
+        return Ok(false);
+    };
+    Ok(answer == Err(WriteFault::Folder) && is_drafted(folder, front))
+}
 
 #[test]
 fn a_failed_append_is_a_fault_of_the_folder(rt: HostRuntime) -> Result<(), Fail> {
     let alloc = rt.alloc();
-    let second = FolderFail {
-        call: FolderCall::Append,
-        number: 2,
-    };
-    let mut folder = MemFolder::new(alloc, vec![in alloc; second]?);
-    folder.begin()?;
-    let spec = Spec::parse(alloc, SPECIFICATION)?;
-    let all = VersionSet::single(alloc, 1);
-    let label = tag(alloc, "db")?;
-    let mut writer = Writer::start(alloc, &mut folder, &spec, 1)?;
-    let begun = writer.leaf(&mut folder, LabelFrom::New(&label), &None, &all);
-    assert!(rt; begun == Err(WriteFault::Folder));
+    assert!(rt; stops_at(alloc, 1, 0)?);
+    assert!(rt; stops_at(alloc, 2, 28)?);
+    assert!(rt; stops_at(alloc, 3, 49)?);
+    assert!(rt; stops_at(alloc, 4, 68)?);
+    assert!(rt; stops_at(alloc, 5, 77)?);
     Ok(())
 }
