@@ -7,7 +7,7 @@ use std::test::Fail;
 use xa_outside::{FolderCall, MemFolder};
 
 /// What was given: its kind as in the file, 0 for the end, and the length of an END's body.
-fn told(found: Result<Item<'_>, CursorFault>) -> Result<(u8, u64), CursorFault> {
+pub(crate) fn told(found: Result<Item<'_>, CursorFault>) -> Result<(u8, u64), CursorFault> {
     match found {
         Ok(Item::Inner { .. }) => Ok((1, 0)),
         Ok(Item::Leaf { .. }) => Ok((2, 0)),
@@ -25,7 +25,7 @@ fn start(alloc: Global, folder: &mut MemFolder) -> Result<Cursor, CursorFault> {
 }
 
 /// The items of the file, of which the last comes again and again.
-const ITEMS: &[(u8, u64)] = &[(2, 0), (3, 0), (5, 0), (4, 48), (0, 0), (0, 0)];
+pub(crate) const ITEMS: &[(u8, u64)] = &[(2, 0), (3, 0), (5, 0), (4, 48), (0, 0), (0, 0)];
 
 #[test]
 fn each_record_is_given_in_order(rt: HostRuntime) -> Result<(), Fail> {
@@ -71,10 +71,16 @@ fn a_fault_leaves_the_cursor_where_it_stands(rt: HostRuntime) -> Result<(), Fail
     Ok(())
 }
 
-/// An offset and the byte that stands there instead, and how many items are given before damage.
+/// An offset and the byte that stands there instead, and how many items are given before damage. The
+/// label stands at 37: the kind of its name, the name's length and bytes, and the number of keys.
 const DAMAGED: &[(usize, u8, usize)] = &[
     (28, 3, 0),
     (36, 200, 0),
+    (37, 2, 0),
+    (41, 200, 0),
+    (42, 255, 0),
+    (47, 1, 0),
+    (48, 2, 0),
     (49, 4, 1),
     (49, 2, 1),
     (68, 1, 2),

@@ -62,6 +62,41 @@ fn a_header_ends_within_the_file(rt: HostRuntime) -> Result<(), Fail> {
     Ok(())
 }
 
+/// An offset and the byte that stands there instead: each byte of the magic, the length of the
+/// specification's text, the text, and a number of versions past 999,999.
+const BROKEN: &[(usize, u8)] = &[
+    (0, 120),
+    (1, 97),
+    (2, 114),
+    (3, 99),
+    (4, 50),
+    (5, 32),
+    (6, 1),
+    (8, 1),
+    (9, 13),
+    (9, 15),
+    (10, 91),
+    (12, 47),
+    (15, 32),
+    (23, 32),
+    (24, 1),
+    (25, 16),
+];
+
+#[test]
+fn no_header_has_a_broken_field(rt: HostRuntime) -> Result<(), Fail> {
+    for (at, byte) in BROKEN {
+        let mut file = Vec::from_slice(rt.alloc(), TINY)?;
+        if let Some(place) = file.get_mut(*at) {
+            *place = *byte;
+        }
+        let mut folder = folder(rt.alloc(), &file, FolderCall::ReadAt, 0)?;
+        let found = read_header(rt.alloc(), &mut folder, "a.xar", 142);
+        assert!(rt; is_read(&found) == Some(false), "byte {at}");
+    }
+    Ok(())
+}
+
 #[test]
 fn a_failed_call_is_told_as_such(rt: HostRuntime) -> Result<(), Fail> {
     let mut folder = folder(rt.alloc(), TINY, FolderCall::ReadAt, 2)?;

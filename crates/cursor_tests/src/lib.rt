@@ -4,4 +4,8 @@
 #[cfg(test)]
 mod cursors;
 #[cfg(test)]
+mod ends;
+#[cfg(test)]
 mod headers;
+#[cfg(test)]
+mod nested;

@@ -15,7 +15,7 @@ use Rattle.record_format.specs.Data.{PlainRec, inner_rec, leaf_rec, alt_rec, end
 use Rattle.record_format.specs.Spelling.{kind_of, body_bytes, rec_bytes}
 use Rattle.record_format.specs.Reading.{record_of, frame_at}
 use Rattle.record_format.specs.Whole.{has_parts, with_parts}
-use Rattle.record_cursor.proofs.Bodies.{Body, body_found}
+use Rattle.record_format.proofs.Records.{Body, body_found}
 use Rattle.record_parts.proofs.Readers.{passed_some}
 use Rattle.xa_fields.specs.Laws.{IsBytes}
 use Rattle.record_cursor.specs.Items.{PlainItem, leaf_end_item, end_item, finish, item_of}
@@ -48,7 +48,7 @@ not-ended : (depth : ℕ) (b : Bool) → after_found (among_nodes depth) (option
 not-ended depth true = refl
 not-ended depth false = tt
 
-past-end : (k : ℕ) → eqb (suc (suc (suc (suc (suc (suc k)))))) 4 ≡ false
+pub past-end : (k : ℕ) → eqb (suc (suc (suc (suc (suc (suc k)))))) 4 ≡ false
 past-end k = grind (arith, nat_tests)
 
 in-nodes : (depth kind : ℕ) (body : List ℕ) → after_found (among_nodes depth) (item_in kind body) (after_kind (among_nodes depth) kind (length body))
@@ -83,7 +83,7 @@ found-leads finished h kind body = absurd h
 -- ---- what comes next
 
 -- the item comes, where it may, before the rest
-abbrev with_item : Standing → List ℕ → PlainItem → Option (PlainItem × (Standing × List ℕ))
+abbrev pub with_item : Standing → List ℕ → PlainItem → Option (PlainItem × (Standing × List ℕ))
 with_item s rest i = after_item s i >>= λ t. Some (i, (t, rest))
 
 abbrev with_rest : List ℕ → PlainItem → Option (PlainItem × List ℕ)
@@ -103,7 +103,7 @@ record-read rest kind size f fits =
     rw (f.kind, f.size, long) refl
 
 -- a record stands there whose body is so long
-framed-next : (s : Standing) (rest : List ℕ) (kind size : ℕ) → IsInside s → IsFrame rest (kind, size) → size ≤ length (drop 9 rest) → next_of s rest ≡ (item_in kind (take size (drop 9 rest)) >>= with_item s (drop size (drop 9 rest)))
+pub framed-next : (s : Standing) (rest : List ℕ) (kind size : ℕ) → IsInside s → IsFrame rest (kind, size) → size ≤ length (drop 9 rest) → next_of s rest ≡ (item_in kind (take size (drop 9 rest)) >>= with_item s (drop size (drop 9 rest)))
 unfolding next_of
 framed-next (among_nodes depth) rest kind size h f fits = ap (λ (o : Option (PlainItem × List ℕ)). o >>= with_read (among_nodes depth)) (record-read rest kind size f fits) ∙ read-with (among_nodes depth) (item_in kind (take size (drop 9 rest))) (drop size (drop 9 rest))
 framed-next (in_leaf depth) rest kind size h f fits = ap (λ (o : Option (PlainItem × List ℕ)). o >>= with_read (in_leaf depth)) (record-read rest kind size f fits) ∙ read-with (in_leaf depth) (item_in kind (take size (drop 9 rest))) (drop size (drop 9 rest))

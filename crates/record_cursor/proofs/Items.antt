@@ -17,8 +17,7 @@ use Rattle.record_format.specs.Files.{header_bytes, root_pieces, file_records, t
 use Rattle.record_format.specs.Nested.{is_nested, are_nested}
 use Rattle.record_format.specs.Nodes.{Piece, dir_of, closed_by_end, alt_of, set_in, node_piece, node_pieces}
 use Rattle.record_format.specs.Spelling.{dir_bytes, kind_of, body_bytes, rec_bytes}
-use Rattle.record_format.proofs.Records.{frame_only}
-use Rattle.record_cursor.proofs.Bodies.{body_only}
+use Rattle.record_format.proofs.Records.{body_only, frame_only}
 use Rattle.record_format.proofs.WholeDirectories.{same_bytes}
 use Rattle.record_cursor.specs.Items.{PlainItem, end_item, finish, item_of, items_of}
 use Rattle.record_cursor.specs.Places.{Standing, among_nodes, in_leaf, behind_root, finished, closed_by, after_item, after_items}

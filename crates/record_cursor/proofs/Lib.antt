@@ -1,5 +1,7 @@
-pub mod Bodies
 pub mod Fills
+pub mod Sizes
 pub mod Comes
+pub mod Pulled
 pub mod Items
 pub mod Headers
+pub mod ItemLaws

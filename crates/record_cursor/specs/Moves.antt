@@ -4,8 +4,9 @@ use Rattle.key_spec.specs.View.{spec_view}
 use Rattle.xa_outside.specs.Folder.{Files, front_of}
 use Rattle.record_format.specs.Fronts.{header_at}
 use Rattle.record_cursor.specs.Faults.{IfDamage}
-use Rattle.record_cursor.specs.Places.{after_item}
-use Rattle.record_cursor.specs.Next.{next_of, size_of}
+use Rattle.record_cursor.specs.Items.{PlainItem}
+use Rattle.record_cursor.specs.Places.{Standing, after_item}
+use Rattle.record_cursor.specs.Next.{next_of, Gives, size_of}
 use Rattle.record_cursor.specs.View.{PlainCursor, shown_item}
 use Rattle.record_cursor.specs.declared.header.Header.{Header}
 use Rattle.record_cursor.specs.declared.item.Item.{Item}
@@ -21,6 +22,14 @@ TellsHeader (Err e) None = ⊤
 -- files are told, and these are the first bytes of the file of this name, so many
 abbrev pub TellsFront : Option Files → List ℕ → ℕ → List ℕ → Type 0
 TellsFront told name size bytes = (files : Files) × (told ≡ Some files) × (front_of files name size ≡ Some bytes)
+
+-- These items come next, one after another, in a file that is told.
+pub record Comes (told : Option Files) (c : PlainCursor) (is : List PlainItem) : Type 0 where
+  pub bytes : List ℕ
+  pub tells : TellsFront told c.name c.length bytes
+  pub standing : Standing
+  pub rest : List ℕ
+  pub gives : Gives c.standing (drop c.at bytes) is standing rest
 
 -- the cursor stands behind the item, which is what comes next in a file that is told
 pub record Goes (told : Option Files) (old : PlainCursor) (item : Item) (new : PlainCursor) : Type 0 where

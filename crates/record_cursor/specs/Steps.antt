@@ -124,6 +124,10 @@ IsReadOf kind n read.LeafEnd held = kind ≡ 5
 IsReadOf kind n (read.End m) held = (kind ≡ 4) × (m ≡ n)
 IsReadOf kind n read.Finish held = ⊥
 
+-- how many bytes of the body of a record of this kind, which may come, are read at most
+abbrev pub body_size : ℕ → ℕ → ℕ
+body_size kind n = if kind == 4 then 0 else n
+
 -- how many bytes of the body were read
 abbrev pub body_read : Read → ℕ → ℕ
 body_read (read.Parts kind) held = held

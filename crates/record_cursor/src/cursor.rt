@@ -1,13 +1,14 @@
-ghost use Rattle.std.specs.Prelude.{◌≡◌, ◌≤◌, ◌-◌, ⊤, ℕ, List, drop, None, IfOk, IfErr};
+ghost use Rattle.std.specs.Prelude.{◌≡◌, ◌≤◌, ◌-◌, ⊤, ℕ, List, ◌∷◌, drop, None, IfOk, IsOk, IfErr};
 ghost use Rattle.std.specs.Borrow.{sem, follows_so};
 ghost use mathlib.Core.Option.{none};
 ghost use Rattle.xa_outside.specs.Causes.{Rose};
 ghost use Rattle.xa_outside.specs.Numbers.{PullsAtMost, after_pull};
 ghost use Rattle.record_cursor.specs.contracts.cursor.Cursor.{the_row};
 ghost use Rattle.record_cursor.specs.Faults.{IfDamage, IfFolder};
-ghost use Rattle.record_cursor.specs.Moves.{TellsFront, Moves};
+ghost use Rattle.record_cursor.specs.Items.{PlainItem};
+ghost use Rattle.record_cursor.specs.Moves.{TellsFront, Comes, Moves};
 ghost use Rattle.record_cursor.specs.Next.{next_of, read_for};
-ghost use Rattle.record_cursor.specs.Places.{among_nodes};
+ghost use Rattle.record_cursor.specs.Places.{among_nodes, finished};
 ghost use Rattle.record_cursor.specs.View.{header_view, IsHeader, shown_item};
 
 use crate::fault::CursorFault;
@@ -87,6 +88,17 @@ impl Cursor {
         ensures later { F.faults folder.old ≤ F.faults folder.new }
         ensures cause { IfErr result (λ e.
             IfFolder e (Rose (F.faults folder.old) (F.faults folder.new))) }
+
+        // Where an item comes, no more is pulled than is read for it, whatever is answered, and the
+        // file is not damaged.
+        ensures reads { (i : PlainItem) (is : List PlainItem)
+            → Comes (F.files folder.old) self.old (i ∷ is) → PullsAtMost
+            (read_for self.old.standing i) (F.numbers folder.old) (F.numbers folder.new) }
+        ensures undamaged { (i : PlainItem) (is : List PlainItem)
+            → Comes (F.files folder.old) self.old (i ∷ is) → IfErr result (λ e. IfDamage e ⊥) }
+
+        // Behind the end it cannot fail.
+        ensures again { self.old.standing ≡ finished → IsOk result }
 
         // Where the file is told, it is damaged only where nothing that may come stands there.
         ensures damage { (bytes : List ℕ)

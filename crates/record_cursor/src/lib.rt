@@ -19,4 +19,4 @@ pub use fault::CursorFault;
 pub use front::read_header;
 pub use header::Header;
 pub use item::Item;
-pub use laws::{files_give_their_items, records_give_their_items};
+pub use laws::{cursors_give_what_comes, files_give_their_items, records_give_their_items};

@@ -1,23 +1,22 @@
 // Reading one record, and judging whether it may come.
-ghost use Rattle.std.specs.Prelude.{◌≡◌, ◌+◌, ◌-◌, ◌<◌, ◌≤◌, ◌^◌, ℕ, List, [], drop, take, Some, IfOk, OnOk, bytes_eq, vec_len};
+ghost use Rattle.std.specs.Prelude.{◌≡◌, ◌+◌, ◌-◌, ◌<◌, ◌≤◌, ◌^◌, ℕ, List, [], drop, take, Some, IfOk, OnOk, IsOkAnd, bytes_eq, vec_len};
 ghost use Rattle.xa_fields.specs.Spelling.{u64_bytes};
 ghost use Rattle.xa_outside.specs.Numbers.{PullsAtMost, after_pull};
 ghost use Rattle.record_cursor.specs.Items.{PlainItem, finish};
 ghost use Rattle.record_cursor.specs.Moves.{TellsFront};
-ghost use Rattle.record_cursor.specs.Next.{item_in, next_of, tail_at};
-ghost use Rattle.record_cursor.specs.Steps.{OnlyReads, fault_of, Filled, Finds, IsFrame, IsInside, MayCome, IsRead, IsReadOf, read_item, body_read, Leads, step_view};
+ghost use Rattle.record_cursor.specs.Next.{item_in, next_of, read_for, tail_at};
+ghost use Rattle.record_cursor.specs.Places.{Standing, finished};
+ghost use Rattle.record_cursor.specs.Steps.{OnlyReads, fault_of, Filled, Finds, IsFrame, IsInside, MayCome, IsRead, IsReadOf, read_item, body_size, body_read, Leads, step_view};
 ghost use Rattle.record_cursor.specs.View.{place_view};
+ghost use Rattle.record_cursor.specs.declared.item.Read.TheVariants.{Finish};
 
 use crate::fault::CursorFault;
 use crate::fill::{fill, fill_buffer};
 use crate::item::Read;
 use crate::place::{Place, behind};
-use record_format::{END, LEAF_END};
+use record_format::{END, FRAME, LEAF_END};
 use xa_fields::take_u64;
 use xa_outside::Folder;
-
-/// A record without its body: a byte of its kind, and eight of the body's length.
-const FRAME: u64 = 9;
 
 /// The END's length once more, behind it.
 const TAIL: u64 = 8;
@@ -48,6 +47,14 @@ pub(crate) fn read_step<F: Folder>(
     ensures told { (bytes : List ℕ) → TellsFront (F.files folder.old) name.now length bytes
         → Finds (step_view bytes buffer.new.items) result
         (next_of (place_view place) (drop at bytes)) }
+
+    // Where an item comes, no more is pulled than is read for it, whatever is answered.
+    ensures only { (bytes rest : List ℕ) (i : PlainItem) (t : Standing)
+        → TellsFront (F.files folder.old) name.now length bytes
+        → next_of (place_view place) (drop at bytes) ≡ Some (i, (t, rest))
+        → PullsAtMost (read_for (place_view place) i) (F.numbers folder.old) (F.numbers folder.new) }
+    ensures again { place_view place ≡ finished
+        → IsOkAnd result (λ step. step.read ≡ Finish) }
 {
     match place {
         Place::Nodes { .. } | Place::Leaf { .. } => {
@@ -88,15 +95,21 @@ fn read_record<F: Folder>(
     ensures told { (bytes : List ℕ) → TellsFront (F.files folder.old) name.now length bytes
         → Finds (step_view bytes buffer.new.items) result
         (next_of (place_view place) (drop at bytes)) }
+
+    // Where an item comes, no more is pulled than is read for it, whatever is answered.
+    ensures only { (bytes rest : List ℕ) (i : PlainItem) (t : Standing)
+        → TellsFront (F.files folder.old) name.now length bytes
+        → next_of (place_view place) (drop at bytes) ≡ Some (i, (t, rest))
+        → PullsAtMost (read_for (place_view place) i) (F.numbers folder.old) (F.numbers folder.new) }
 {
-    if length - at < FRAME {
+    if length - at < FRAME as u64 {
         return Err(CursorFault::Damage);
     }
     let (kind, size) = match read_frame(folder, name, at) {
         Ok(frame) => frame,
         Err(fault) => return Err(fault),
     };
-    let body = at + FRAME;
+    let body = at + FRAME as u64;
     if length - body < size {
         return Err(CursorFault::Damage);
     }
@@ -123,7 +136,7 @@ fn read_frame<F: Folder>(folder: &mut F, name: &str, at: u64) -> Result<(u8, u64
     ensures told { (end : ℕ) (bytes : List ℕ) → TellsFront (F.files folder.old) name.now end bytes
         → at + 9 ≤ end → Filled result (IsFrame (drop at bytes)) }
 {
-    let mut frame = [0; 9];
+    let mut frame = [0; FRAME];
     match fill(folder, name, at, &mut frame) {
         Ok(()) => match take_u64(&frame, 1) {
             Some((size, _)) => Ok((frame[0], size)),
@@ -147,7 +160,8 @@ fn read_body<F: Folder>(
     ensures reads { OnlyReads F.files F.draft F.faults folder.old folder.new (fault_of result) }
     ensures numbers { IfOk result (λ read.
         F.numbers folder.new ≡ after_pull (F.numbers folder.old) (body_read read (vec_len buffer.new))) }
-    ensures pulls { PullsAtMost size (F.numbers folder.old) (F.numbers folder.new) }
+    ensures pulls { PullsAtMost (body_size kind size)
+        (F.numbers folder.old) (F.numbers folder.new) }
     ensures is { IfOk result (λ read. IsReadOf kind size read (vec_len buffer.new)) }
     ensures told { (end : ℕ) (bytes : List ℕ) → TellsFront (F.files folder.old) name.now end bytes
         → at + size ≤ end → Filled result (λ read. item_in kind (take size (drop at bytes))
@@ -176,6 +190,7 @@ fn read_tail<F: Folder>(
     ensures numbers { OnOk result
         (F.numbers folder.new ≡ after_pull (F.numbers folder.old) 8) }
     ensures pulls { PullsAtMost (length - at) (F.numbers folder.old) (F.numbers folder.new) }
+    ensures few { PullsAtMost 8 (F.numbers folder.old) (F.numbers folder.new) }
     ensures end { OnOk result (length ≡ at + 8) }
     ensures told { (bytes : List ℕ) → TellsFront (F.files folder.old) name.now length bytes
         → Finds (λ _. Some (finish, [])) result (tail_at size (drop at bytes)) }

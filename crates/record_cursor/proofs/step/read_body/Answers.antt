@@ -2,9 +2,12 @@ use Rattle.std.proofs.Common.{rules, take, drop, sym, ap, ◌∙◌, arith, leng
 use Rattle.std.specs.Option.{option_map}
 use Rattle.record_format.specs.Reading.{record_of}
 use Rattle.record_format.specs.Whole.{with_parts}
+use Rattle.xa_outside.specs.NumberLaws.{PullsAtMost-more}
 use Rattle.record_cursor.specs.Items.{item_of}
+use Rattle.record_cursor.specs.Steps.{body_size}
 use Rattle.record_cursor.proofs.Fills.{front-length}
 use Rattle.record_cursor.proofs.Comes.{parts-of, leaf-end-of}
+use Rattle.record_cursor.proofs.Pulled.{body_size-all}
 use Rattle.record_cursor.proofs.step.read_body.Goals as goal
 
 pub returns-in-5-clause-told : goal.returns-in-5-clause-told
@@ -17,3 +20,15 @@ returns-in-Ok-clause-told g c = λ end bytes tells fits. (
     let there = c.in-Ok.ensures.told end bytes tells fits in
     parts-of c.args.kind (take c.args.size (drop c.args.at bytes)) (search rules) (search rules)
     ∙ ap (λ bs. option_map item_of (with_parts (record_of c.args.kind bs))) (sym there))
+
+pub returns-in-Ok-clause-pulls : goal.returns-in-Ok-clause-pulls
+returns-in-Ok-clause-pulls g c = (
+    let numbers = g.F.Folder.numbers in
+    PullsAtMost-more c.args.size (body_size c.args.kind c.args.size) (numbers c.args.folder.now) (numbers c.fill_buffer.new.folder)
+    (omega (arith, body_size-all c.args.kind c.args.size (search rules))) c.in-Ok.ensures.pulls)
+
+pub returns-in-Err-clause-pulls : goal.returns-in-Err-clause-pulls
+returns-in-Err-clause-pulls g c = (
+    let numbers = g.F.Folder.numbers in
+    PullsAtMost-more c.args.size (body_size c.args.kind c.args.size) (numbers c.args.folder.now) (numbers c.fill_buffer.new.folder)
+    (omega (arith, body_size-all c.args.kind c.args.size (search rules))) c.in-Err.ensures.pulls)

@@ -1,12 +1,14 @@
 use Rattle.std.proofs.Common.{◌≡◌, None, Some, drop, sym, ap, ◌∙◌, arith}
 use Rattle.std.proofs.lemmas.List.{drop_all}
 use Rattle.record_cursor.specs.Items.{finish}
-use Rattle.record_cursor.specs.Next.{next_of, tail_at}
+use Rattle.xa_outside.specs.NumberLaws.{PullsAtMost-more}
+use Rattle.record_cursor.specs.Next.{next_of, read_for, tail_at}
 use Rattle.record_cursor.specs.Places.{finished}
 use Rattle.record_cursor.specs.View.{place_view}
 use Rattle.record_cursor.specs.declared.place.Place.{Place}
 use Rattle.record_cursor.proofs.Fills.{front-length, damage-map}
 use Rattle.record_cursor.proofs.Comes.{ends, ends-not, ended}
+use Rattle.record_cursor.proofs.Pulled.{tail-most}
 use Rattle.record_cursor.proofs.step.read_step.Goals as goal
 
 pub returns-in-Ok-clause-told : goal.returns-in-Ok-clause-told
@@ -24,3 +26,9 @@ pub returns-in-Finished-clause-told : goal.returns-in-Finished-clause-told
 returns-in-Finished-clause-told g c = λ bytes tells. (
     ap (λ (p : Place). next_of (place_view p) (drop c.args.at bytes)) c.in-Finished.is ∙ ended (drop c.args.at bytes)
     ∙ ap (λ (p : Place). Some (finish, (place_view p, drop c.args.at bytes))) (sym c.in-Finished.is))
+
+pub returns-in-Err-clause-only : goal.returns-in-Err-clause-only
+returns-in-Err-clause-only g c = λ bytes rest i t tells e. (
+    let numbers = g.F.Folder.numbers in
+    PullsAtMost-more 8 (read_for (place_view c.args.place) i) (numbers c.args.folder.now) (numbers c.read_tail.new.folder)
+    (tail-most (place_view c.args.place) t c.in-Tail.size (drop c.args.at bytes) rest i (ap place_view c.in-Tail.is) e) c.in-Err.ensures.few)

@@ -1,20 +1,23 @@
-use Rattle.std.proofs.Common.{◌≡◌, ℕ, ◌-◌, List, drop, string_bytes, Some, None, refl, sym, ap, subst, ◌∙◌}
+use Rattle.std.proofs.Common.{◌≡◌, ℕ, ◌-◌, List, ◌∷◌, drop, string_bytes, Some, None, refl, sym, ap, subst, ◌∙◌}
 use Rattle.std.specs.Prelude.{vec_len}
 use Rattle.std.specs.Option.{option_map}
 use Rattle.xa_outside.specs.Numbers.{PullsAtMost, after_pull}
 use Rattle.record_cursor.specs.Faults.{IfDamage}
 use Rattle.record_cursor.specs.Items.{PlainItem}
-use Rattle.record_cursor.specs.Moves.{TellsFront, Goes}
+use Rattle.record_cursor.specs.Moves.{TellsFront, Comes, Goes}
 use Rattle.record_cursor.specs.Next.{next_of, read_for}
 use Rattle.record_cursor.specs.Places.{Standing}
 use Rattle.record_cursor.specs.Steps.{IsRead, read_item}
 use Rattle.record_cursor.specs.View.{PlainCursor, place_view, shown_item}
+use Rattle.record_cursor.proofs.Fills.{damage-map}
+use Rattle.record_cursor.proofs.ItemLaws.{PullsComing, pulls-coming, comes-some, no-end}
 use Rattle.record_cursor.proofs.cursor.Cursor.next.Goals as goal
 
 pub returns-in-Some : goal.returns-in-Some
 returns-in-Some g c =
     let e = c.in-Ok.ensures in
     let inside = c.self.inside in
+    let inside_view : PlainCursor = record { name = string_bytes inside.name; length = inside.length; standing = place_view inside.place; at = inside.at } in
     let told = g.F.Folder.files c.args.folder.now in
     let s = place_view inside.place in
     let t = place_view c.in-Ok.step.place in
@@ -44,6 +47,9 @@ returns-in-Some g c =
         pulls = subst (λ (v : PlainCursor). PullsAtMost (v.length - v.at) (g.F.Folder.numbers c.args.folder.now) (g.F.Folder.numbers c.read_step.new.folder)) c.self.view_is e.pulls;
         later = e.reads.later;
         cause = tt;
+        reads = subst (PullsComing told (g.F.Folder.numbers c.args.folder.now) (g.F.Folder.numbers c.read_step.new.folder)) c.self.view_is (pulls-coming told c.as_str-name.result.now inside_view (g.F.Folder.numbers c.args.folder.now) (g.F.Folder.numbers c.read_step.new.folder) c.as_str-name.ensures.value e.only);
+        undamaged = λ i is h. tt;
+        again = λ stands. refl;
         damage = λ bytes tells. tt;
       },
     )
@@ -52,6 +58,7 @@ pub returns-in-None : goal.returns-in-None
 returns-in-None g c =
     let e = c.in-Ok.ensures in
     let inside = c.self.inside in
+    let inside_view : PlainCursor = record { name = string_bytes inside.name; length = inside.length; standing = place_view inside.place; at = inside.at } in
     let told = g.F.Folder.files c.args.folder.now in
     let buffer : List ℕ = c.read_step.new.buffer.items in
     let read : read_item c.in-Ok.step.read buffer ≡ None = ap (read_item c.in-Ok.step.read) (sym c.as_slice.ensures.value) ∙ sym c.in-None.ensures.found in (
@@ -64,6 +71,11 @@ returns-in-None g c =
         pulls = subst (λ (v : PlainCursor). PullsAtMost (v.length - v.at) (g.F.Folder.numbers c.args.folder.now) (g.F.Folder.numbers c.read_step.new.folder)) c.self.view_is e.pulls;
         later = e.reads.later;
         cause = tt;
+        reads = subst (PullsComing told (g.F.Folder.numbers c.args.folder.now) (g.F.Folder.numbers c.read_step.new.folder)) c.self.view_is (pulls-coming told c.as_str-name.result.now inside_view (g.F.Folder.numbers c.args.folder.now) (g.F.Folder.numbers c.read_step.new.folder) c.as_str-name.ensures.value e.only);
+        undamaged = subst (λ (v : PlainCursor). (i : PlainItem) (is : List PlainItem) → Comes told v (i ∷ is) → ⊥) c.self.view_is (λ i is h. (
+            let named : TellsFront told c.as_str-name.result.now inside.length h.bytes = subst (λ (n : List ℕ). TellsFront told n inside.length h.bytes) (sym c.as_str-name.ensures.value) h.tells in
+            comes-some told inside_view i is h (e.told h.bytes named ∙ ap (option_map (λ (x : PlainItem). (x, (place_view c.in-Ok.step.place, drop c.in-Ok.step.at h.bytes)))) read)));
+        again = λ stands. absurd (no-end c.in-Ok.step.read buffer (e.again (ap (λ (v : PlainCursor). v.standing) c.self.view_is ∙ stands)) read);
         damage = subst (λ (v : PlainCursor). (bytes : List ℕ) → TellsFront told v.name v.length bytes → next_of v.standing (drop v.at bytes) ≡ None) c.self.view_is (λ bytes tells. (
             let named : TellsFront told c.as_str-name.result.now inside.length bytes = subst (λ (n : List ℕ). TellsFront told n inside.length bytes) (sym c.as_str-name.ensures.value) tells in
             e.told bytes named ∙ ap (option_map (λ (x : PlainItem). (x, (place_view c.in-Ok.step.place, drop c.in-Ok.step.at bytes)))) read));
@@ -74,6 +86,7 @@ pub returns-in-Err : goal.returns-in-Err
 returns-in-Err g c =
     let e = c.in-Err.ensures in
     let inside = c.self.inside in
+    let inside_view : PlainCursor = record { name = string_bytes inside.name; length = inside.length; standing = place_view inside.place; at = inside.at } in
     let told = g.F.Folder.files c.args.folder.now in (
       (refl, (λ w. tt), c.self.view_is),
       record {
@@ -84,6 +97,11 @@ returns-in-Err g c =
         pulls = subst (λ (v : PlainCursor). PullsAtMost (v.length - v.at) (g.F.Folder.numbers c.args.folder.now) (g.F.Folder.numbers c.read_step.new.folder)) c.self.view_is e.pulls;
         later = e.reads.later;
         cause = e.reads.cause;
+        reads = subst (PullsComing told (g.F.Folder.numbers c.args.folder.now) (g.F.Folder.numbers c.read_step.new.folder)) c.self.view_is (pulls-coming told c.as_str-name.result.now inside_view (g.F.Folder.numbers c.args.folder.now) (g.F.Folder.numbers c.read_step.new.folder) c.as_str-name.ensures.value e.only);
+        undamaged = subst (λ (v : PlainCursor). (i : PlainItem) (is : List PlainItem) → Comes told v (i ∷ is) → IfDamage c.in-Err.fault ⊥) c.self.view_is (λ i is h. (
+            let named : TellsFront told c.as_str-name.result.now inside.length h.bytes = subst (λ (n : List ℕ). TellsFront told n inside.length h.bytes) (sym c.as_str-name.ensures.value) h.tells in
+            damage-map c.in-Err.fault (next_of (place_view inside.place) (drop inside.at h.bytes) ≡ None) ⊥ (comes-some told inside_view i is h) (e.told h.bytes named)));
+        again = λ stands. absurd (e.again (ap (λ (v : PlainCursor). v.standing) c.self.view_is ∙ stands));
         damage = subst (λ (v : PlainCursor). (bytes : List ℕ) → TellsFront told v.name v.length bytes → IfDamage c.in-Err.fault (next_of v.standing (drop v.at bytes) ≡ None)) c.self.view_is (λ bytes tells. (
             let named : TellsFront told c.as_str-name.result.now inside.length bytes = subst (λ (n : List ℕ). TellsFront told n inside.length bytes) (sym c.as_str-name.ensures.value) tells in
             e.told bytes named));

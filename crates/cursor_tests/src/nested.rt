@@ -1,0 +1,114 @@
+// Walking over an archive whose nodes nest: `db`, in it `dept` with the attribute `n`, and in that
+// `emp`, whose text is `x` in the first version and `y` in the second.
+use crate::headers::folder;
+use record_cursor::{Cursor, Item, read_header};
+use std::alloc::{AllocError, Global};
+use std::test::Fail;
+use xa_outside::FolderCall;
+
+const HEADER: &[u8] = b"\
+    XARC1\n\0\0\0;(/, (db, {}))\n(/db, (dept, {@n}))\n(/db/dept, (emp, {@id}))\n\0\0\0\x02";
+
+/// The records of the file: the kind, and the two parts of the body, a directory as the first.
+const RECORDS: &[(u8, &[u8], &[u8])] = &[
+    (1, b"\x01\0\0\0\x02db\0\0\0\0", b"\0"),
+    (1, b"\x01\0\0\0\x04dept\0\0\0\x01\0\x05\0\0\0\x01f", b"\0"),
+    (2, b"\0\0\0\0\x01n\0\0\0\0", b"\0"),
+    (3, b"\0", b"\0\x05\0\0\0\x01f"),
+    (5, b"", b""),
+    (
+        2,
+        b"\x01\0\0\0\x03emp\0\0\0\x01\0\x03\0\0\0\0\0\0\0\x07",
+        b"\0",
+    ),
+    (
+        3,
+        b"\x01\0\0\0\x01\0\0\0\x01\0\0\0\x01",
+        b"\x01\0\0\0\x01\0\0\0\x02id\x03\0\0\0\0\0\0\0\x07\0\0\0\x01\0\0\0\0\x01x",
+    ),
+    (
+        3,
+        b"\x01\0\0\0\x01\0\0\0\x02\0\0\0\x02",
+        b"\x01\0\0\0\x01\0\0\0\x02id\x03\0\0\0\0\0\0\0\x07\0\0\0\x01\0\0\0\0\x01y",
+    ),
+    (5, b"", b""),
+    (
+        4,
+        b"\0\0\0\x02\0\0\0\0\0\0\0\0\0\0\0\0\0\0\0.\0\0\0\0\0\0\0\0\0\0\0\0\0\0\0.\0\0\0\0\0\0\0\x91\
+        \0\0\0\0\0\0\0\0\0\0\0\x01\0\0\0\x01\0\0\0\x02\0\0\0\0\0\0\0\x14\0\0\0\x01\0\0\0\x01\0\0\0\
+        \x02\0\0\0\0\0\0\0\0\0\0\0\x01\0\0\0\x01\0\0\0\x02\0\0\0\0\0\0\0\0",
+        b"",
+    ),
+    (
+        4,
+        b"\0\0\0\x01\0\0\0\0\0\0\0\0\0\0\0\0\0\0\x01V\0\0\0\0\0\0\0p\0\0\0\x01\0\0\0\x01\0\0\0\x02\
+        \0\0\0\0\0\0\0\0",
+        b"",
+    ),
+    (
+        4,
+        b"\0\0\0\x01\0\0\0\0\0\0\0\0\0\0\0\0\0\0\x01\xa4\0\0\0\0\0\0\00\0\0\0\x01\0\0\0\x01\0\0\0\
+        \x02\0\0\0\0\0\0\0\0",
+        b"",
+    ),
+];
+
+/// The length of the last directory once more.
+const TAIL: &[u8] = b"\0\0\0\0\0\0\00";
+
+/// The bytes of a record: its kind, the length of its body in eight bytes, and the body.
+pub(crate) fn record(
+    alloc: Global,
+    kind: u8,
+    first: &[u8],
+    second: &[u8],
+) -> Result<Vec<u8>, AllocError> {
+    let mut body = Vec::from_slice(alloc, first)?;
+    body.extend_from_slice(second)?;
+    let mut bytes = Vec::new(alloc);
+    bytes.push(kind)?;
+    bytes.extend_from_slice(&(body.len() as u64).to_be_bytes())?;
+    bytes.extend_from_slice(&body)?;
+    Ok(bytes)
+}
+
+fn file(alloc: Global) -> Result<Vec<u8>, AllocError> {
+    let mut file = Vec::from_slice(alloc, HEADER)?;
+    for (kind, first, second) in RECORDS {
+        file.extend_from_slice(&record(alloc, *kind, first, second)?)?;
+    }
+    file.extend_from_slice(TAIL)?;
+    Ok(file)
+}
+
+/// Whether the item is the record of this kind with these parts.
+fn is_given(item: &Item<'_>, kind: u8, first: &[u8], second: &[u8]) -> bool {
+    match item {
+        Item::Inner { label, stamp } => {
+            kind == 1 && label.bytes() == first && stamp.bytes() == second
+        }
+        Item::Leaf { label, stamp } => kind == 2
+            && label.bytes() == first
+            && stamp.bytes() == second,
+        Item::Alt { stamp, body } => kind == 3 && stamp.bytes() == first && body.bytes() == second,
+        Item::End { length } => kind == 4 && *length == first.len() as u64,
+        Item::LeafEnd => kind == 5,
+        Item::Finish => false,
+    }
+}
+
+#[test]
+fn nested_nodes_are_given_part_by_part(rt: HostRuntime) -> Result<(), Fail> {
+    let file = file(rt.alloc())?;
+    let mut folder = folder(rt.alloc(), &file, FolderCall::ReadAt, 100)?;
+    let header = read_header(rt.alloc(), &mut folder, "a.xar", 558)?;
+    assert!(rt; header.versions == 2);
+    let mut cursor = Cursor::start(rt.alloc(), "a.xar", &header)?;
+    for (kind, first, second) in RECORDS {
+        let item = cursor.next(&mut folder)?;
+        assert!(rt; is_given(&item, *kind, first, second), "kind {kind}");
+    }
+    let ends = matches!(cursor.next(&mut folder), Ok(Item::Finish));
+    assert!(rt; ends);
+    Ok(())
+}
