@@ -83,7 +83,7 @@ fn is_blank_dropped(alloc: Global) -> Result<bool, Fail> {
         text: CowStr::Borrowed(" "),
     };
     let tree = lent_keyed(alloc, &spec, &doc)?;
-    Ok(matches!(&tree, LentKeyed::Inner { kids, .. } if kids.is_empty()))
+    Ok(matches!(&tree, LentKeyed::Flat { leaves, .. } if leaves.is_empty()))
 }
 
 #[test]

@@ -1,8 +1,9 @@
 -- What the builder gives is a tree exactly where the keys are satisfied, and that tree is the keyed tree.
-use Rattle.std.proofs.Common.{◌≡◌, ◌≢◌, ℕ, zero, suc, ◌<◌, Bool, true, false, cond, ◌&&◌, IsTrue, true≢false, List, [], ◌∷◌, ◌++◌, map, Option, Some, None, Result, Ok, Err, refl, sym, subst, ◌∙◌, arith}
+use Rattle.std.proofs.Common.{◌≡◌, ◌≢◌, ℕ, zero, suc, ◌<◌, Bool, true, false, cond, ◌&&◌, IsTrue, true≢false, List, [], ◌∷◌, ◌++◌, map, Option, Some, None, Result, Ok, Err, refl, ap, sym, subst, ◌∙◌, arith}
 use Rattle.std.specs.Result.{IsOk}
 use Rattle.std.specs.Bool.{OnFalse}
 use Rattle.std.specs.List.{AllByRecursion, slice_get}
+use Rattle.std.specs.Option.{option_map}
 use Rattle.jsonml_tree.specs.Data.{PlainAttr, PlainTree, text, element, PlainContent, content, PlainTrees, no_trees, tree, list_of}
 use Rattle.jsonml_tree.specs.Fits.{is_element}
 use Rattle.jsonml_tree.specs.WellFormed.{is_ascending, are_in_range, is_content_well_formed, are_well_formed, IsWellFormed}
@@ -19,7 +20,7 @@ use Rattle.key_annotate.specs.Annotated.{in_order, label_or_bare, annotated, ann
 use Rattle.key_annotate.specs.Ordered.{all_kids, node_of, put_first, built, built_items, built_tree}
 use Rattle.key_annotate.proofs.InOrder.{Apart, rise-order, order-apart, ascend-rise, rise-ascend}
 use Rattle.key_annotate.proofs.KidsOf as of_items
-use Rattle.key_annotate.proofs.KidsOf.{items-tags, differ-apart, attrs-apart, apart-items}
+use Rattle.key_annotate.proofs.KidsOf.{IsItemKid, items-tags, differ-apart, attrs-apart, attrs-first}
 
 abbrev Good : List PlainRule → List (List ℕ) → PlainTrees → Type 0
 Good rules path ts = AllByRecursion (ItemIsGood rules path) (list_of ts)
@@ -37,15 +38,20 @@ OnFalse-map : (b : Bool) (P Q : Type 0) → (P → Q) → OnFalse b P → OnFals
 OnFalse-map true P Q f h = tt
 OnFalse-map false P Q f h = f h
 
-kids-some : (xs : List PlainAttr) (items : Option (List PlainKeyed)) (ks : List PlainKeyed) → items ≡ Some ks → Apart (map attr_leaf xs ++ ks) → all_kids xs items ≡ Some (in_order (map attr_leaf xs ++ ks))
-kids-some xs items ks e a =
-    let up : ascend (kids_from (in_order (map attr_leaf xs ++ ks))) ≡ true = rise-ascend (in_order (map attr_leaf xs ++ ks)) (rise-order (map attr_leaf xs ++ ks) a) in
-    rw e (rw up refl)
+kids-some : (xs : List PlainAttr) (items : Option (List PlainKeyed)) (ks : List PlainKeyed) → items ≡ Some ks → IsTrue (is_ascending xs) → AllByRecursion IsItemKid ks → Apart ks
+    → all_kids xs items ≡ Some (in_order (map attr_leaf xs ++ ks))
+kids-some xs items ks e h g a =
+    let up : ascend (kids_from (in_order ks)) ≡ true = rise-ascend (in_order ks) (rise-order ks a) in
+    let some : all_kids xs items ≡ Some (map attr_leaf xs ++ in_order ks) = rw e (rw up refl) in
+    some ∙ ap (λ js. Some js) (sym (attrs-first xs ks h g))
+
+items-apart : (rules : List PlainRule) (path : List (List ℕ)) (ts : PlainTrees) → Good rules path ts → AreApart rules path (list_of ts) → Apart (annotated_items rules path ts)
+items-apart rules path ts good apart = differ-apart rules path ts good ((apart-differ rules path (list_of ts)).0 apart)
 
 pub kids-apart : (rules : List PlainRule) (path : List (List ℕ)) (xs : List PlainAttr) (ts : PlainTrees) → IsTrue (is_ascending xs) → Good rules path ts → AreApart rules path (list_of ts)
     → Apart (map attr_leaf xs ++ annotated_items rules path ts)
 kids-apart rules path xs ts up good apart =
-    attrs-apart xs (annotated_items rules path ts) up (items-tags rules path ts) (differ-apart rules path ts good ((apart-differ rules path (list_of ts)).0 apart))
+    attrs-apart xs (annotated_items rules path ts) up (items-tags rules path ts) (items-apart rules path ts good apart)
 
 put-some : (a : Option PlainKeyed) (as' : Option (List PlainKeyed)) (k : PlainKeyed) (ks : List PlainKeyed) → a ≡ Some k → as' ≡ Some ks → put_first a as' ≡ Some (k ∷ ks)
 put-some a as' k ks e d = rw (e, d) refl
@@ -63,7 +69,7 @@ mutual
       let path = below context t in
       node-some (is_frontier rules path) (label_in rules context t (content xs ts)) t (content xs ts) (all_kids xs (built_items rules path ts)) (in_order (map attr_leaf xs ++ annotated_items rules path ts)) h
       (OnFalse-map (is_frontier rules path) (ItemsSatisfy rules path (list_of ts) (EachSatisfies rules path ts)) (all_kids xs (built_items rules path ts) ≡ Some (in_order (map attr_leaf xs ++ annotated_items rules path ts)))
-      (λ i. kids-some xs (built_items rules path ts) (annotated_items rules path ts) (items-some rules path ts two.1 i.good i.inside) (kids-apart rules path xs ts up i.good i.apart)) s)
+      (λ i. kids-some xs (built_items rules path ts) (annotated_items rules path ts) (items-some rules path ts two.1 i.good i.inside) up (items-tags rules path ts) (items-apart rules path ts i.good i.apart)) s)
 
   items-some : (rules : List PlainRule) (path : List (List ℕ)) (ts : PlainTrees) → IsTrue (are_well_formed ts)
       → Good rules path ts → EachSatisfies rules path ts → built_items rules path ts ≡ Some (annotated_items rules path ts)
@@ -84,17 +90,17 @@ node-back false (Ok l) c None k e = cc
 node-back false (Ok l) c (Some ks) k e = (refl, (ks, refl))
 node-back false (Err f) c kids k e = cc
 
--- the items' kids, of which no two and no attribute have one label
-record Parts (xs : List PlainAttr) (items : Option (List PlainKeyed)) : Type 0 where
+-- the items' kids, of which no two have one label
+record Parts (items : Option (List PlainKeyed)) : Type 0 where
   pub kids : List PlainKeyed
   pub is : items ≡ Some kids
-  pub apart : Apart (map attr_leaf xs ++ kids)
+  pub apart : Apart kids
 
-kids-back : (xs : List PlainAttr) (items : Option (List PlainKeyed)) (js : List PlainKeyed) → all_kids xs items ≡ Some js → Parts xs items
+kids-back : (xs : List PlainAttr) (items : Option (List PlainKeyed)) (js : List PlainKeyed) → all_kids xs items ≡ Some js → Parts items
 kids-back xs None js e = cc
 kids-back xs (Some ks) js e =
-    elim (ascend (kids_from (in_order (map attr_leaf xs ++ ks)))) as (λ b. ascend (kids_from (in_order (map attr_leaf xs ++ ks))) ≡ b → cond b (Some (in_order (map attr_leaf xs ++ ks))) None ≡ Some js → Parts xs (Some ks)) [
-      | true ↦ λ d f. record { kids = ks; is = refl; apart = order-apart (map attr_leaf xs ++ ks) (ascend-rise (in_order (map attr_leaf xs ++ ks)) d) }
+    elim (ascend (kids_from (in_order ks))) as (λ b. ascend (kids_from (in_order ks)) ≡ b → option_map (λ is. map attr_leaf xs ++ is) (cond b (Some (in_order ks)) None) ≡ Some js → Parts (Some ks)) [
+      | true ↦ λ d f. record { kids = ks; is = refl; apart = order-apart ks (ascend-rise (in_order ks) d) }
       | false ↦ λ d f. cc
     ] refl e
 
@@ -128,7 +134,7 @@ mutual
             let parts = kids-back xs (built_items rules path ts) i.0 i.1 in
             let each = some-items rules path ts parts.kids two.1 parts.is in
             let same : parts.kids ≡ annotated_items rules path ts = some_same parts.kids (annotated_items rules path ts) (sym parts.is ∙ items-some rules path ts two.1 each.0 each.1) in
-            let apart : Apart (annotated_items rules path ts) = subst Apart same (apart-items xs parts.kids parts.apart) in
+            let apart : Apart (annotated_items rules path ts) = subst Apart same parts.apart in
             record {
               good = each.0;
               apart = (apart-differ rules path (list_of ts)).1 (of_items.apart-differ rules path ts each.0 apart);

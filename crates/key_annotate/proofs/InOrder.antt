@@ -86,7 +86,7 @@ rise-put k (x ∷ xs) other up =
       | false ↦ λ e. (let less = not_less (label_of x) (label_of k) (λ d. other.0 (sym d)) e in ((less, below-trans (label_of k) (label_of x) xs less up.0), up))
     ] refl
 
-all-order : (P : PlainKeyed → Type 0) (ks : List PlainKeyed) → AllByRecursion P ks → AllByRecursion P (in_order ks)
+pub all-order : (P : PlainKeyed → Type 0) (ks : List PlainKeyed) → AllByRecursion P ks → AllByRecursion P (in_order ks)
 all-order P ks h = has_all P (in_order ks) (λ z m. all_has P ks z h (order-has z ks m))
 
 pub rise-order : (ks : List PlainKeyed) → Apart ks → Rise (in_order ks)

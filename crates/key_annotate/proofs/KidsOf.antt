@@ -3,12 +3,15 @@ use Rattle.std.proofs.Common.{◌≡◌, ◌≢◌, ℕ, zero, suc, Bool, true, 
 use Rattle.std.proofs.lemmas.Cmp.{nat_list_cmp_total, tied_itself}
 use Rattle.std.specs.Result.{IsOk}
 use Rattle.std.specs.List.{AllByRecursion, slice_get}
-use Rattle.std.specs.Ordering.{is_lt}
-use Rattle.std.specs.declared.cmp.Ordering.TheVariants.{Less}
+use Rattle.std.specs.Ordering.{is_lt, ordering_reverse, ordering_then}
+use Rattle.std.specs.declared.cmp.Ordering.TheVariants.{Less, Greater}
+use Rattle.std.specs.Cmp.Lexicographic.{slice_cmp}
+use Rattle.std.proofs.lemmas.Bool.{cond-false}
 use Rattle.jsonml_tree.specs.Data.{null, PlainAttr, text, element, PlainContent, content, PlainTrees, no_trees, tree, list_of}
 use Rattle.jsonml_tree.specs.Order.{text_cmp}
 use Rattle.jsonml_tree.specs.WellFormed.{ascends, is_ascending}
-use Rattle.keyed_tree.specs.Data.{PlainName, attr, tag, PlainLabel, PlainKeyed, label_of}
+use Rattle.keyed_tree.specs.Data.{PlainName, attr, tag, PlainKey, PlainLabel, PlainKeyed, label_of}
+use Rattle.keyed_tree.specs.Order.{key_cmp, label_cmp, name_cmp}
 use Rattle.keyed_tree.specs.Proper.{is_tag}
 use Rattle.keyed_tree.proofs.Kids.{both, is_lt-Less}
 use Rattle.key_spec.specs.Data.{PlainRule}
@@ -17,8 +20,8 @@ use Rattle.key_rules.specs.Labels.{PlainLabelFault, and_then, keys_from, label_b
 use Rattle.key_rules.specs.Satisfies.{ItemIsGood, ok_of, item_label}
 use Rattle.key_rules.proofs.Repeats.{Differ}
 use Rattle.key_annotate.specs.KeyedOf.{attr_leaf}
-use Rattle.key_annotate.specs.Annotated.{label_or_bare, annotated, annotated_items}
-use Rattle.key_annotate.proofs.InOrder.{Apart}
+use Rattle.key_annotate.specs.Annotated.{put_kid, in_order, label_or_bare, annotated, annotated_items}
+use Rattle.key_annotate.proofs.InOrder.{Apart, all-order}
 
 -- ---- names and labels
 
@@ -163,6 +166,32 @@ pub attrs-apart : (xs : List PlainAttr) (ks : List PlainKeyed) → IsTrue (is_as
 attrs-apart [] ks h g a = a
 attrs-apart (x ∷ xs) ks h g a = (others-first x xs ks (names-above x.name xs h) g, attrs-from x.name xs ks h g a)
 
-pub apart-items : (xs : List PlainAttr) (ks : List PlainKeyed) → Apart (map attr_leaf xs ++ ks) → Apart ks
-apart-items [] ks a = a
-apart-items (x ∷ xs) ks a = apart-items xs ks a.1
+-- a tag is not below an attribute
+tag_above : (a : PlainAttr) (l : PlainLabel) → IsTrue (is_tag l.name) → is_lt (label_cmp l (label_of (attr_leaf a))) ≡ false
+tag_above a l h = by-name l.name l.keys h
+  where
+    by-name : (n : PlainName) (keys : List PlainKey) → IsTrue (is_tag n) → is_lt (ordering_then (name_cmp n (attr a.name)) (slice_cmp key_cmp keys [])) ≡ false
+    by-name (attr s) keys h = absurd (true≢false (sym h))
+    by-name (tag s) keys h = refl
+
+-- nor is an attribute below one with a lower name
+attr_above : (a b : PlainAttr) → text_cmp a.name b.name ≡ Less → is_lt (label_cmp (label_of (attr_leaf b)) (label_of (attr_leaf a))) ≡ false
+attr_above a b less = let more : text_cmp b.name a.name ≡ Greater = nat_list_cmp_total.antisymm b.name a.name ∙ ap ordering_reverse less in rw more refl
+
+-- an attribute before those above it and the elements
+attr-put : (a : PlainAttr) (xs : List PlainAttr) (ks : List PlainKeyed) → AllByRecursion (λ b. text_cmp a.name b.name ≡ Less) xs → AllByRecursion IsItemKid ks
+    → put_kid (attr_leaf a) (map attr_leaf xs ++ ks) ≡ attr_leaf a ∷ (map attr_leaf xs ++ ks)
+attr-put a [] [] h g = refl
+attr-put a [] (k ∷ ks) h g = cond-false _ _ _ (tag_above a (label_of k) g.0)
+attr-put a (b ∷ xs) ks h g = cond-false _ _ _ (attr_above a b h.0)
+
+-- attributes in their order, and behind them the elements in theirs
+attrs-order : (last : List ℕ) (xs : List PlainAttr) (ks : List PlainKeyed) → IsTrue (ascends last xs) → AllByRecursion IsItemKid ks → in_order (map attr_leaf xs ++ ks) ≡ map attr_leaf xs ++ in_order ks
+attrs-order last [] ks h g = refl
+attrs-order last (x ∷ xs) ks h g =
+    let two = both (is_lt (text_cmp last x.name)) (ascends x.name xs) h in
+    ap (put_kid (attr_leaf x)) (attrs-order x.name xs ks two.1 g) ∙ attr-put x xs (in_order ks) (names-above x.name xs two.1) (all-order IsItemKid ks g)
+
+pub attrs-first : (xs : List PlainAttr) (ks : List PlainKeyed) → IsTrue (is_ascending xs) → AllByRecursion IsItemKid ks → in_order (map attr_leaf xs ++ ks) ≡ map attr_leaf xs ++ in_order ks
+attrs-first [] ks h g = refl
+attrs-first (x ∷ xs) ks h g = ap (put_kid (attr_leaf x)) (attrs-order x.name xs ks h g) ∙ attr-put x xs (in_order ks) (names-above x.name xs h) (all-order IsItemKid ks g)

@@ -1,5 +1,5 @@
 -- The keyed tree that a lent one is.
-use Rattle.std.specs.Prelude.{ℕ, List, [], map}
+use Rattle.std.specs.Prelude.{ℕ, List, [], ◌++◌, map}
 use Rattle.jsonml_tree.specs.Data.{PlainContent}
 use Rattle.jsonml_tree.specs.LentAttrs.{lent_attr_view}
 use Rattle.jsonml_tree.specs.LentView.{lent_content_view}
@@ -17,9 +17,8 @@ abbrev pub bare_view : Bare → PlainKeyed
 bare_view b = bare_leaf b.tag.now (lent_content_view b.content)
 
 abbrev pub lent_step : LentKeyed-F PlainKeyed → PlainKeyed
-lent_step (LentKeyed-F.Attr a) = attr_leaf (lent_attr_view a.now)
 lent_step (LentKeyed-F.Leaf l c) = leaf (keyed_label_view l) (inside (lent_content_view c))
-lent_step (LentKeyed-F.Inner l ks) = inner (keyed_label_view l) (kids_from ks.items)
+lent_step (LentKeyed-F.Inner l row ks) = inner (keyed_label_view l) (kids_from (map attr_leaf (map lent_attr_view row.now.attrs.items) ++ ks.items))
 lent_step (LentKeyed-F.Flat l ls) = inner (keyed_label_view l) (kids_from (map bare_view ls.items))
 
 abbrev pub lent_view : LentKeyed → PlainKeyed

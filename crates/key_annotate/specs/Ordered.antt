@@ -15,9 +15,9 @@ use Rattle.key_annotate.specs.Annotated.{in_order}
 abbrev pub kids_in_order : List PlainKeyed → Option (List PlainKeyed)
 kids_in_order ks = if ascend (kids_from (in_order ks)) then Some (in_order ks) else None
 
--- the kids of an inner element, from its attributes and those that its items give
+-- the kids of an inner element: its attributes, and behind them those that its items give, in the order of their labels
 abbrev pub all_kids : List PlainAttr → Option (List PlainKeyed) → Option (List PlainKeyed)
-all_kids xs items = option_and_then (λ ks. kids_in_order (map attr_leaf xs ++ ks)) items
+all_kids xs items = option_map (λ ks. map attr_leaf xs ++ ks) (option_and_then kids_in_order items)
 
 -- at the frontier a leaf, else an inner node
 abbrev pub node_of : Bool → Option PlainLabel → PlainContent → Option (List PlainKeyed) → Option PlainKeyed
@@ -40,7 +40,11 @@ abbrev mutual
   built_items rules path no_trees = Some []
   built_items rules path (tree t ts) = built_onto rules path t (built_items rules path ts)
 
--- the kids of an inner element with this path and content
+-- the kids that the items of an inner element with this path and content give, in the order of their labels
+abbrev pub items_inside : List PlainRule → List (List ℕ) → PlainContent → Option (List PlainKeyed)
+items_inside rules path (content xs ts) = option_and_then kids_in_order (built_items rules path ts)
+
+-- all kids of that element
 abbrev pub kids_inside : List PlainRule → List (List ℕ) → PlainContent → Option (List PlainKeyed)
 kids_inside rules path (content xs ts) = all_kids xs (built_items rules path ts)
 
@@ -49,9 +53,9 @@ abbrev pub held : PlainTree → Option PlainContent
 held (text s) = None
 held (element t c) = Some c
 
--- the node of an element with this path and label
-abbrev pub node_in : List PlainRule → List (List ℕ) → PlainLabel → PlainTree → Option PlainKeyed
-node_in rules path l t = option_and_then (λ c. node_of (is_frontier rules path) (Some l) c (kids_inside rules path c)) (held t)
+-- the node of an element with this path, label and content
+abbrev pub node_inside : List PlainRule → List (List ℕ) → PlainLabel → PlainContent → Option PlainKeyed
+node_inside rules path l c = node_of (is_frontier rules path) (Some l) c (kids_inside rules path c)
 
 -- the same of a tree, which is an element
 abbrev pub built_tree : List PlainRule → List (List ℕ) → PlainTree → Option PlainKeyed

@@ -1,14 +1,14 @@
 #![tactic(auto, using(jsonml_tree::proofs::Trees::trees, jsonml_tree::proofs::LentTrees::lent_trees, keyed_tree::proofs::Views::views, crate::proofs::LentViews::lent_views))]
 
-ghost use Rattle.std.specs.Prelude.{◌≡◌, ◌++◌, IfOk, OnOk, map};
+ghost use Rattle.std.specs.Prelude.{◌≡◌, IfOk, OnOk, map};
 ghost use Rattle.std.specs.Option.{option_and_then, option_map};
-ghost use Rattle.jsonml_tree.specs.LentAttrs.{lent_attr_view};
-ghost use Rattle.jsonml_tree.specs.LentView.{lent_content_view, lent_items_view, lent_row_view, lent_tree_view};
+ghost use Rattle.jsonml_tree.specs.Data.{only_text};
+ghost use Rattle.jsonml_tree.specs.LentView.{lent_items_view, lent_row_view, lent_tree_view};
 ghost use Rattle.key_rules.specs.LentView.{lent_label_view};
 ghost use Rattle.key_spec.specs.View.{names_view, spec_view};
-ghost use Rattle.key_annotate.specs.KeyedOf.{attr_leaf};
 ghost use Rattle.key_annotate.specs.LentView.{lent_view};
-ghost use Rattle.key_annotate.specs.Ordered.{built_items, built_tree, held, kids_inside, node_in};
+ghost use Rattle.key_annotate.specs.LabelView.{keyed_label_view};
+ghost use Rattle.key_annotate.specs.Ordered.{built_items, built_tree, held, items_inside, node_inside};
 
 use crate::flat::{bare_kids, flat_node};
 use crate::label::KeyedLabel;
@@ -54,65 +54,73 @@ fn build_node<'a, 't>(
 ) -> Result<Option<LentKeyed<'a, 't>>, AllocError>
     ensures node { IfOk result
         (λ k. option_map lent_view k
-        ≡ node_in (spec_view spec.now) (names_view path.old.items) (lent_label_view label.entry)
-        (lent_tree_view elem.now)) }
-    ensures path { OnOk result (names_view path.new.items ≡ names_view path.old.items) }
-{
-    let Some(content) = content_of(elem) else {
-        return Ok(None);
-    };
-    let label = KeyedLabel::new(label);
-    if spec.is_frontier(path) {
-        return Ok(Some(LentKeyed::Leaf { label, content }));
-    }
-    if let Some(leaves) = bare_kids(alloc, spec, path, content)? {
-        return Ok(flat_node(label, leaves));
-    }
-    let Some(kids) = build_kids(alloc, spec, path, elem)? else {
-        return Ok(None);
-    };
-    Ok(Some(LentKeyed::Inner { label, kids }))
-}
-
-/// What an element holds.
-fn content_of<'a, 't>(elem: &'a LentTree<'t>) -> Option<LentContent<'a, 't>>
-    ensures { option_map lent_content_view result ≡ held (lent_tree_view elem.now) }
-{
-    match elem {
-        LentTree::Text(_) => None,
-        LentTree::Leaf { text, .. } => Some(LentContent::Text(text.as_str())),
-        LentTree::Elem { row, .. } => Some(LentContent::Row(row)),
-    }
-}
-
-/// The kids of an inner element, in the order of their labels.
-#[cycle(build)]
-fn build_kids<'a, 't>(
-    alloc: Global,
-    spec: &'a Spec,
-    path: &mut Vec<String>,
-    elem: &'a LentTree<'t>,
-) -> Result<Option<Vec<LentKeyed<'a, 't>>>, AllocError>
-    ensures kids { IfOk result
-        (λ o. option_map (λ ks. map lent_view ks.items) o
-        ≡ option_and_then (kids_inside (spec_view spec.now) (names_view path.old.items))
+        ≡ option_and_then
+        (node_inside (spec_view spec.now) (names_view path.old.items)
+        (lent_label_view label.entry))
         (held (lent_tree_view elem.now))) }
     ensures path { OnOk result (names_view path.new.items ≡ names_view path.old.items) }
 {
+    let label = KeyedLabel::new(label);
     match elem {
         LentTree::Text(_) => Ok(None),
-        LentTree::Leaf { text, .. } => {
-            if is_blank(text.as_str()) {
-                Ok(Some(Vec::new(alloc)))
-            } else {
-                Ok(None)
-            }
-        }
-        LentTree::Elem { row, .. } => row_kids(alloc, spec, path, row),
+        LentTree::Leaf { text, .. } => Ok(text_node(alloc, spec, path, label, text.as_str())),
+        LentTree::Elem { row, .. } => row_node(alloc, spec, path, label, row),
     }
 }
 
-/// The kids of an inner element with this row.
+/// The node of an element that holds one text and nothing else.
+fn text_node<'a, 't>(
+    alloc: Global,
+    spec: &Spec,
+    path: &[String],
+    label: KeyedLabel<'a>,
+    text: &'a str,
+) -> Option<LentKeyed<'a, 't>>
+    ensures { option_map lent_view result
+        ≡ node_inside (spec_view spec.now) (names_view path.now) (keyed_label_view label.entry)
+        (only_text text.now) }
+{
+    let is_leaf = spec.is_frontier(path);
+    if is_leaf {
+        let content = LentContent::Text(text);
+        return Some(LentKeyed::Leaf { label, content });
+    }
+    if !is_blank(text) {
+        return None;
+    }
+    let leaves = Vec::new(alloc);
+    Some(LentKeyed::Flat { label, leaves })
+}
+
+/// The node of an element with this row.
+#[cycle(build)]
+fn row_node<'a, 't>(
+    alloc: Global,
+    spec: &'a Spec,
+    path: &mut Vec<String>,
+    label: KeyedLabel<'a>,
+    row: &'a LentRow<'t>,
+) -> Result<Option<LentKeyed<'a, 't>>, AllocError>
+    ensures node { IfOk result
+        (λ k. option_map lent_view k
+        ≡ node_inside (spec_view spec.now) (names_view path.old.items)
+        (keyed_label_view label.entry) (lent_row_view row.now)) }
+    ensures path { OnOk result (names_view path.new.items ≡ names_view path.old.items) }
+{
+    if spec.is_frontier(path) {
+        let content = LentContent::Row(row);
+        return Ok(Some(LentKeyed::Leaf { label, content }));
+    }
+    if let Some(leaves) = bare_kids(alloc, spec, path, row)? {
+        return Ok(flat_node(label, leaves));
+    }
+    let Some(kids) = row_kids(alloc, spec, path, row)? else {
+        return Ok(None);
+    };
+    Ok(Some(LentKeyed::Inner { label, row, kids }))
+}
+
+/// The kids that the items of an inner element with this row give, in the order of their labels.
 #[cycle(build)]
 fn row_kids<'a, 't>(
     alloc: Global,
@@ -122,48 +130,30 @@ fn row_kids<'a, 't>(
 ) -> Result<Option<Vec<LentKeyed<'a, 't>>>, AllocError>
     ensures kids { IfOk result
         (λ o. option_map (λ ks. map lent_view ks.items) o
-        ≡ kids_inside (spec_view spec.now) (names_view path.old.items) (lent_row_view row.now)) }
+        ≡ items_inside (spec_view spec.now) (names_view path.old.items) (lent_row_view row.now)) }
     ensures path { OnOk result (names_view path.new.items ≡ names_view path.old.items) }
 {
-    let kids = attr_kids(alloc, row)?;
-    let Some(kids) = add_items(alloc, spec, path, &row.items, kids)? else {
+    let Some(kids) = item_kids(alloc, spec, path, &row.items)? else {
         return Ok(None);
     };
     Ok(in_order(kids))
 }
 
-/// A leaf for each attribute, with room for the items' kids.
-fn attr_kids<'a, 't>(
-    alloc: Global,
-    row: &'a LentRow<'t>,
-) -> Result<Vec<LentKeyed<'a, 't>>, AllocError>
-    ensures { IfOk result
-        (λ ks. map lent_view ks.items ≡ map attr_leaf (map lent_attr_view row.now.attrs.items)) }
-{
-    let mut kids = Vec::with_capacity(alloc, row.attrs.len() + row.items.len())?;
-    for attr in &row.attrs {
-        kids.push(LentKeyed::Attr(attr))?;
-    }
-    Ok(kids)
-}
-
-/// The kids followed by those of the items, or nothing where an item has a fault.
+/// The kids that items give, or nothing where an item has a fault.
 #[cycle(build)]
-fn add_items<'a, 't>(
+fn item_kids<'a, 't>(
     alloc: Global,
     spec: &'a Spec,
     path: &mut Vec<String>,
     items: &'a [LentTree<'t>],
-    mut kids: Vec<LentKeyed<'a, 't>>,
 ) -> Result<Option<Vec<LentKeyed<'a, 't>>>, AllocError>
     ensures kids { IfOk result
         (λ o. option_map (λ ks. map lent_view ks.items) o
-        ≡ option_map
-        (λ ks. map lent_view kids.entry.items ++ ks)
-        (built_items (spec_view spec.now) (names_view path.old.items)
-        (lent_items_view items.now))) }
+        ≡ built_items (spec_view spec.now) (names_view path.old.items)
+        (lent_items_view items.now)) }
     ensures path { OnOk result (names_view path.new.items ≡ names_view path.old.items) }
 {
+    let mut kids = Vec::with_capacity(alloc, items.len())?;
     for item in items {
         match item {
             LentTree::Text(text) => {

@@ -4,7 +4,7 @@ ghost use Rattle.std.specs.Prelude.{◌≡◌, IfOk, IfSome, Some, map};
 ghost use Rattle.std.specs.List.Sorted.{IsStrictlySortedBy};
 ghost use Rattle.std.specs.Option.{option_map};
 ghost use Rattle.jsonml_tree.specs.Data.{element};
-ghost use Rattle.jsonml_tree.specs.LentView.{lent_content_view, lent_items_view, lent_tree_view};
+ghost use Rattle.jsonml_tree.specs.LentView.{lent_content_view, lent_items_view, lent_row_view, lent_tree_view};
 ghost use Rattle.keyed_tree.specs.Data.{inner, kids_from};
 ghost use Rattle.key_spec.specs.Rules.{EndsBelow, tag_cmp};
 ghost use Rattle.key_spec.specs.View.{names_view, rule_view, spec_view};
@@ -17,7 +17,7 @@ use crate::bare::Bare;
 use crate::label::KeyedLabel;
 use crate::lent::LentKeyed;
 use crate::order::in_order;
-use jsonml_tree::{LentContent, LentTree};
+use jsonml_tree::{LentContent, LentRow, LentTree};
 use key_spec::{Rule, Spec, rule_with_tag};
 use std::alloc::{AllocError, Global};
 
@@ -26,16 +26,13 @@ pub(crate) fn bare_kids<'a, 't>(
     alloc: Global,
     spec: &'a Spec,
     path: &[String],
-    content: LentContent<'a, 't>,
+    row: &'a LentRow<'t>,
 ) -> Result<Option<Vec<Bare<'a, 't>>>, AllocError>
     ensures { IfOk result
         (λ o. IfSome o
         (λ v. kids_inside (spec_view spec.now) (names_view path.now)
-        (lent_content_view content.entry) ≡ kids_in_order (map bare_view v.items))) }
+        (lent_row_view row.now) ≡ kids_in_order (map bare_view v.items))) }
 {
-    let LentContent::Row(row) = content else {
-        return Ok(None);
-    };
     if !row.attrs.is_empty() || !spec.ends_below(path) {
         return Ok(None);
     }

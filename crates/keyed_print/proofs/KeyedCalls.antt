@@ -3,21 +3,20 @@ use Rattle.std.proofs.Common.{◌≡◌, true, ℕ, zero, suc, ◌<◌, ◌≤�
 use denote.Param.Weighed.{most}
 use Rattle.std.proofs.lemmas.List.{map-append}
 use Rattle.std.specs.List.{flat_map}
-use Rattle.jsonml_tree.specs.Data.{PlainAttr, PlainContent, PlainTree, element, content, PlainTrees}
+use Rattle.jsonml_tree.specs.Data.{PlainAttr, PlainTree, content, PlainTrees}
 use Rattle.jsonml_print.specs.Calls.{Call, begin, attribute, end, calls_of, content_calls, items_calls}
 use Rattle.keyed_tree.specs.Data.{PlainName, attr, tag, PlainKey, scalar, inside, PlainKeyed, inner, leaf, label_of, kids_from}
 use Rattle.keyed_tree.specs.Proper.{is_tag}
 use Rattle.keyed_tree.specs.Plain.{name_bytes, attr_before, attr_onto, attrs_among, item_onto, items_among, plain}
-use Rattle.jsonml_tree.specs.LentView.{lent_content_view}
 use Rattle.jsonml_tree.specs.LentAttrs.{lent_attr_view}
-use Rattle.jsonml_tree.specs.declared.lent.LentContent.{LentContent}
+use Rattle.jsonml_tree.specs.declared.lent.LentRow.{LentRow}
 use Rattle.jsonml_tree.specs.declared.lent_attr.LentAttr.{LentAttr}
+use Rattle.key_annotate.specs.KeyedOf.{attr_leaf}
 use Rattle.key_annotate.specs.LentView.{bare_view, lent_view}
-use Rattle.key_annotate.proofs.LentViews.{lent_view-Attr, lent_view-Leaf, lent_view-Inner, lent_view-Flat, label-tagged}
+use Rattle.key_annotate.proofs.LentViews.{lent_view-Inner, lent_view-Flat, lent-tagged}
 use Rattle.key_annotate.specs.declared.bare.Bare.{Bare}
-use Rattle.key_annotate.specs.LabelView.{keyed_label_view}
 use Rattle.key_annotate.specs.declared.label.KeyedLabel.{KeyedLabel}
-use Rattle.key_annotate.specs.declared.lent.LentKeyed.{LentKeyed, Attr, Leaf, Inner, Flat}
+use Rattle.key_annotate.specs.declared.lent.LentKeyed.{LentKeyed, Inner, Flat}
 use Rattle.keyed_print.specs.KeyedText.{calls_by, element_calls}
 use Rattle.key_annotate.specs.Inside.{inside_of}
 use Rattle.key_annotate.proofs.Insides.{plain-is}
@@ -67,24 +66,42 @@ module _ {X : Type 0} (view : X → PlainKeyed) where
       → content_calls (content (attrs_among (kids_from (map view ks))) (items_among (kids_from (map view ks)))) ≡ flat_map (λ k. map attribute (attr_onto (view k) [])) ks ++ flat_map (λ k. element_calls (view k)) ks
   kids-calls ks = ap (λ l. l ++ items_calls (items_among (kids_from (map view ks)))) (attrs-calls ks) ∙ ap (λ l. flat_map attrs_at ks ++ l) (items-calls ks)
 
--- the calls of one kid
-abbrev pub attr_calls : LentKeyed → List Call
-attr_calls k = map attribute (attr_onto (lent_view k) [])
+-- the calls of one attribute, and of one kid
+abbrev pub attr_calls : LentAttr → List Call
+attr_calls x = attribute (lent_attr_view x) ∷ []
 
 abbrev pub kid_calls : LentKeyed → List Call
-kid_calls k = element_calls (lent_view k)
+kid_calls k = calls_of (plain (lent_view k))
 
--- the label of an element names no attribute
-by-tag : (n : PlainName) (c : PlainContent) → is_tag n ≡ true → attr_before n (inside c) [] ≡ []
-by-tag (attr s) c e = cc
-by-tag (tag s) c e = refl
+-- a kid that is named by a tag is among the elements, and not among the attributes
+before-tag : (n : PlainName) (b : PlainKey) (rest : List PlainAttr) → is_tag n ≡ true → attr_before n b rest ≡ rest
+before-tag (attr s) b rest e = cc
+before-tag (tag s) b rest e = refl
 
-untold : (l : KeyedLabel) (c : PlainContent) → attr_before (keyed_label_view l).name (inside c) [] ≡ []
-untold l c = by-tag (keyed_label_view l).name c (label-tagged l)
+onto-tag : (k : PlainKeyed) (rest : List PlainAttr) → is_tag (label_of k).name ≡ true → attr_onto k rest ≡ rest
+onto-tag (inner l ks) rest e = refl
+onto-tag (leaf l b) rest e = before-tag l.name b rest e
 
--- an attribute has no calls among the elements
-pub kid_calls-Attr : (k : LentKeyed) (a : Bor LentAttr) → k ≡ Attr a → kid_calls k ≡ []
-kid_calls-Attr k a e = ap kid_calls e ∙ ap element_calls (lent_view-Attr a)
+calls-tag : (n : PlainName) (cs : List Call) → is_tag n ≡ true → calls_by n cs ≡ cs
+calls-tag (attr s) cs e = cc
+calls-tag (tag s) cs e = refl
+
+-- attributes, and behind them such kids
+attrs-behind : (as' : List PlainAttr) (ks : List LentKeyed) → attrs_among (kids_from (map attr_leaf as' ++ map lent_view ks)) ≡ as'
+attrs-behind [] [] = refl
+attrs-behind [] (k ∷ ks) = onto-tag (lent_view k) (attrs_among (kids_from (map lent_view ks))) (lent-tagged k) ∙ attrs-behind [] ks
+attrs-behind (a ∷ as') ks = ap (λ xs. a ∷ xs) (attrs-behind as' ks)
+
+items-behind : (as' : List PlainAttr) (ks : List LentKeyed) → items_calls (items_among (kids_from (map attr_leaf as' ++ map lent_view ks))) ≡ flat_map kid_calls ks
+items-behind [] [] = refl
+items-behind [] (k ∷ ks) =
+    onto-calls (label_of (lent_view k)).name (plain (lent_view k)) (items_among (kids_from (map lent_view ks)))
+    ∙ ap (λ l. l ++ items_calls (items_among (kids_from (map lent_view ks)))) (calls-tag (label_of (lent_view k)).name (kid_calls k) (lent-tagged k)) ∙ ap (λ l. kid_calls k ++ l) (items-behind [] ks)
+items-behind (a ∷ as') ks = items-behind as' ks
+
+attrs-each : (xs : List LentAttr) → map attribute (map lent_attr_view xs) ≡ flat_map attr_calls xs
+attrs-each [] = refl
+attrs-each (x ∷ xs) = ap (λ l. attribute (lent_attr_view x) ∷ l) (attrs-each xs)
 
 -- no element weighs more than the heaviest
 pub most_at : {X : Type 0} (f : X → ℕ) (xs : List X) (i : ℕ) (x : X) → i < length xs → x ≡ get_or xs i x → f x ≤ most f xs
@@ -95,22 +112,15 @@ most_at f xs i x within is = subst (λ y. f y ≤ most f xs) (sym is) (at f xs i
     at f (x ∷ xs) zero d within = omega arith
     at f (x ∷ xs) (suc i) d within = omega (arith, at f xs i d (omega (arith, within)))
 
--- an attribute has its one call among the attributes, and any other kid has none
-pub attr_calls-Attr : (k : LentKeyed) (a : Bor LentAttr) → k ≡ Attr a → attr_calls k ≡ attribute (lent_attr_view a.now) ∷ []
-attr_calls-Attr k a e = ap attr_calls e ∙ ap (λ v. map attribute (attr_onto v [])) (lent_view-Attr a)
-
-pub attr_calls-Leaf : (k : LentKeyed) (l : KeyedLabel) (c : LentContent) → k ≡ Leaf l c → attr_calls k ≡ []
-attr_calls-Leaf k l c e = ap attr_calls e ∙ ap (λ v. map attribute (attr_onto v [])) (lent_view-Leaf l c) ∙ ap (map attribute) (untold l (lent_content_view c))
-
-pub attr_calls-Inner : (k : LentKeyed) (l : KeyedLabel) (ks : Vec LentKeyed Global) → k ≡ Inner l ks → attr_calls k ≡ []
-attr_calls-Inner k l ks e = ap attr_calls e ∙ ap (λ v. map attribute (attr_onto v [])) (lent_view-Inner l ks)
-
-pub attr_calls-Flat : (k : LentKeyed) (l : KeyedLabel) (ls : Vec Bare Global) → k ≡ Flat l ls → attr_calls k ≡ []
-attr_calls-Flat k l ls e = ap attr_calls e ∙ ap (λ v. map attribute (attr_onto v [])) (lent_view-Flat l ls)
-
--- what stands behind the tag of each shape
-pub inside_of-Attr : (k : LentKeyed) (a : Bor LentAttr) → k ≡ Attr a → content_calls (inside_of (lent_view k)) ≡ []
-inside_of-Attr k a e = ap (λ j. content_calls (inside_of (lent_view j))) e ∙ ap (λ v. content_calls (inside_of v)) (lent_view-Attr a)
+-- what stands behind the tag of an inner node
+pub inside_of-Inner : (k : LentKeyed) (l : KeyedLabel) (row : Bor LentRow) (ks : Vec LentKeyed Global) (xs : List LentAttr) (js : List LentKeyed) → k ≡ Inner l row ks → xs ≡ row.now.attrs.items → js ≡ ks.items
+    → content_calls (inside_of (lent_view k)) ≡ flat_map attr_calls xs ++ flat_map kid_calls js
+inside_of-Inner k l row ks xs js e d f =
+    let as' = map lent_attr_view row.now.attrs.items in
+    let rest = items_calls (items_among (kids_from (map attr_leaf as' ++ map lent_view ks.items))) in
+    ap (λ j. content_calls (inside_of (lent_view j))) e ∙ ap (λ v. content_calls (inside_of v)) (lent_view-Inner l row ks) ∙ ap (λ ys. map attribute ys ++ rest) (attrs-behind as' ks.items)
+    ∙ ap (λ cs. cs ++ rest) (attrs-each row.now.attrs.items) ∙ ap (λ cs. flat_map attr_calls row.now.attrs.items ++ cs) (items-behind as' ks.items)
+    ∙ ap (λ (ys : List LentAttr). flat_map attr_calls ys ++ flat_map kid_calls ks.items) (sym d) ∙ ap (λ (zs : List LentKeyed). flat_map attr_calls xs ++ flat_map kid_calls zs) (sym f)
 
 -- an element without key values is among the elements, and not among the attributes
 abbrev pub leaf_calls : Bare → List Call

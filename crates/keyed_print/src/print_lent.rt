@@ -1,18 +1,18 @@
 //! The printing of keyed trees that are lent from a document.
 
-ghost use Rattle.std.specs.Prelude.{◌≡◌, ◌++◌, ◌∷◌, [], map};
+ghost use Rattle.std.specs.Prelude.{◌≡◌, ◌++◌, ◌∷◌, []};
 ghost use Rattle.std.specs.List.{flat_map};
 ghost use Rattle.xa_outside.specs.Causes.{HasCause};
 ghost use Rattle.jsonml_print.specs.Calls.{AllMayCome, Prints, attribute, calls_of, content_calls, end};
-ghost use Rattle.jsonml_tree.specs.Data.{content};
-ghost use Rattle.keyed_tree.specs.Data.{kids_from, label_of};
-ghost use Rattle.keyed_tree.specs.Plain.{attr_onto, attrs_among, items_among, name_bytes, plain};
+ghost use Rattle.jsonml_tree.specs.LentAttrs.{lent_attr_view};
+ghost use Rattle.keyed_tree.specs.Data.{label_of};
+ghost use Rattle.keyed_tree.specs.Plain.{name_bytes, plain};
 ghost use Rattle.key_annotate.specs.LentView.{bare_view, lent_view};
-ghost use Rattle.keyed_print.specs.KeyedText.{element_calls};
 ghost use Rattle.key_annotate.specs.Inside.{inside_of};
 
 use crate::put::Printable;
 use jsonml_text::{Printer, print_lent_content};
+use jsonml_tree::LentAttr;
 use key_annotate::{Bare, LentKeyed};
 use xa_outside::{Failed, Sink};
 
@@ -67,67 +67,30 @@ fn print_inside<K: Sink>(
     ensures cause { HasCause (K.faults sink.old) (K.faults sink.new) result }
 {
     match keyed {
-        LentKeyed::Inner { kids, .. } => print_kids(kids, printer, sink),
+        LentKeyed::Inner { row, kids, .. } => {
+            print_attributes(&row.attrs, printer, sink)?;
+            print_elements(kids, printer, sink)
+        }
         LentKeyed::Leaf { content, .. } => print_lent_content(*content, printer, sink),
         LentKeyed::Flat { leaves, .. } => print_leaves(leaves, printer, sink),
-        // In a keyed tree of a document an attribute has no kids, and is printed by its parent.
-        LentKeyed::Attr(_) => Ok(()),
     }
-}
-
-/// The kids that are attributes, and then the elements.
-#[cycle(print)]
-fn print_kids<K: Sink>(
-    kids: &[LentKeyed<'_, '_>],
-    printer: &mut Printer,
-    sink: &mut K,
-) -> Result<(), Failed>
-    requires { AllMayCome printer.old
-        (content_calls (content (attrs_among (kids_from (map lent_view kids.now)))
-        (items_among (kids_from (map lent_view kids.now))))) }
-    ensures prints { Prints (K.taken sink.old) (K.taken sink.new) printer.old printer.new
-        (content_calls (content (attrs_among (kids_from (map lent_view kids.now)))
-        (items_among (kids_from (map lent_view kids.now))))) result }
-    ensures cause { HasCause (K.faults sink.old) (K.faults sink.new) result }
-{
-    print_attributes(kids, printer, sink)?;
-    print_elements(kids, printer, sink)
 }
 
 fn print_attributes<K: Sink>(
-    kids: &[LentKeyed<'_, '_>],
+    attrs: &[LentAttr<'_>],
     printer: &mut Printer,
     sink: &mut K,
 ) -> Result<(), Failed>
     requires { AllMayCome printer.old
-        (flat_map (λ k. map attribute (attr_onto (lent_view k) [])) kids.now) }
+        (flat_map (λ x. attribute (lent_attr_view x) ∷ []) attrs.now) }
     ensures prints { Prints (K.taken sink.old) (K.taken sink.new) printer.old printer.new
-        (flat_map (λ k. map attribute (attr_onto (lent_view k) [])) kids.now) result }
+        (flat_map (λ x. attribute (lent_attr_view x) ∷ []) attrs.now) result }
     ensures cause { HasCause (K.faults sink.old) (K.faults sink.new) result }
 {
-    for kid in kids {
-        print_attribute(kid, printer, sink)?;
+    for attr in attrs {
+        printer.lent_attr(sink, attr)?;
     }
     Ok(())
-}
-
-/// The attribute that a kid spells, if it is named by one.
-fn print_attribute<K: Sink>(
-    kid: &LentKeyed<'_, '_>,
-    printer: &mut Printer,
-    sink: &mut K,
-) -> Result<(), Failed>
-    requires { AllMayCome printer.old (map attribute (attr_onto (lent_view kid.now) [])) }
-    ensures prints { Prints (K.taken sink.old) (K.taken sink.new) printer.old printer.new
-        (map attribute (attr_onto (lent_view kid.now) [])) result }
-    ensures cause { HasCause (K.faults sink.old) (K.faults sink.new) result }
-{
-    match kid {
-        LentKeyed::Attr(attr) => printer.lent_attr(sink, attr),
-        LentKeyed::Leaf { .. } => Ok(()),
-        LentKeyed::Inner { .. } => Ok(()),
-        LentKeyed::Flat { .. } => Ok(()),
-    }
 }
 
 #[cycle(print)]
@@ -136,47 +99,21 @@ fn print_elements<K: Sink>(
     printer: &mut Printer,
     sink: &mut K,
 ) -> Result<(), Failed>
-    requires { AllMayCome printer.old (flat_map (λ k. element_calls (lent_view k)) kids.now) }
+    requires { AllMayCome printer.old (flat_map (λ k. calls_of (plain (lent_view k))) kids.now) }
     ensures prints { Prints (K.taken sink.old) (K.taken sink.new) printer.old printer.new
-        (flat_map (λ k. element_calls (lent_view k)) kids.now) result }
+        (flat_map (λ k. calls_of (plain (lent_view k))) kids.now) result }
     ensures cause { HasCause (K.faults sink.old) (K.faults sink.new) result }
 {
     for kid in kids {
-        print_element(kid, printer, sink)?;
+        print_keyed(kid, printer, sink)?;
     }
     Ok(())
 }
 
-/// A kid that is named by a tag.
-#[cycle(print)]
-fn print_element<K: Sink>(
-    kid: &LentKeyed<'_, '_>,
-    printer: &mut Printer,
-    sink: &mut K,
-) -> Result<(), Failed>
-    requires { AllMayCome printer.old (element_calls (lent_view kid.now)) }
-    ensures prints { Prints (K.taken sink.old) (K.taken sink.new) printer.old printer.new
-        (element_calls (lent_view kid.now)) result }
-    ensures cause { HasCause (K.faults sink.old) (K.faults sink.new) result }
-{
-    match kid {
-        LentKeyed::Attr(_) => Ok(()),
-        LentKeyed::Leaf { .. } => print_keyed(kid, printer, sink),
-        LentKeyed::Inner { .. } => print_keyed(kid, printer, sink),
-        LentKeyed::Flat { .. } => print_keyed(kid, printer, sink),
-    }
-}
-
-/// The tag of a node, or the name of an attribute.
 fn name_of<'a>(keyed: &'a LentKeyed<'_, '_>) -> &'a str
     ensures { result.now ≡ name_bytes (label_of (lent_view keyed.now)).name }
 {
-    match keyed {
-        LentKeyed::Attr(attr) => attr.name(),
-        LentKeyed::Leaf { label, .. } => label.tag(),
-        LentKeyed::Flat { label, .. } => label.tag(),
-        LentKeyed::Inner { label, .. } => label.tag(),
-    }
+    keyed.label().tag()
 }
 
 /// Elements that the document has as they are.

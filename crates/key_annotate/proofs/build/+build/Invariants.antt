@@ -7,10 +7,10 @@ use Rattle.key_annotate.proofs.Added.{after}
 use Rattle.key_annotate.proofs.build.+build.Given as goal
 
 -- the kids so far, followed by those of what is left
-abbrev pub invariant-add_items-loop-item : goal.invariant-add_items-loop-item
-invariant-add_items-loop-item l =
+abbrev pub invariant-item_kids-loop-item : goal.invariant-item_kids-loop-item
+invariant-item_kids-loop-item l =
     record {
-      kids : after (map lent_view l.fn.kids.items) (built_items (spec_view l.spec) (names_view l.fn.path.items) (lent_items_view l.items))
+      kids : built_items (spec_view l.spec) (names_view l.fn.path.items) (lent_items_view l.items)
           ≡ after (map lent_view l.kids.items) (built_items (spec_view l.spec) (names_view l.fn.path.items) (lent_items_view (drop l.item-index l.items)));
       path : names_view l.path.items ≡ names_view l.fn.path.items;
     }

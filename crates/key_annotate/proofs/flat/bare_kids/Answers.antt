@@ -2,8 +2,5 @@ use Rattle.std.proofs.Common.{arith}
 use Rattle.std.proofs.lemmas.Grind.{common_steps}
 use Rattle.key_annotate.proofs.flat.bare_kids.Goals as goal
 
-pub returns-in_default : goal.returns-in_default
-returns-in_default c = grind (arith, common_steps)
-
 pub returns-then-not-is_empty : goal.returns-then-not-is_empty
 returns-then-not-is_empty c = grind (arith, common_steps)

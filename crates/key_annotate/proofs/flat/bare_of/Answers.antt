@@ -1,4 +1,4 @@
-use Rattle.std.proofs.Common.{◌≡◌, [], map, length, ap, ◌∙◌, rules}
+use Rattle.std.proofs.Common.{◌≡◌, map, length, ap, ◌∙◌, rules}
 use Rattle.jsonml_tree.specs.LentView.{lent_content_view}
 use Rattle.key_spec.specs.View.{rule_view}
 use Rattle.key_annotate.specs.LentView.{bare_leaf}

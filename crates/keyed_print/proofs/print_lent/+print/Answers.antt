@@ -5,10 +5,10 @@ use Rattle.xa_outside.specs.TakenLaws.{Takes-nil}
 use Rattle.jsonml_print.specs.Calls.{Call, begin, end, printed, reached, AllMayCome, Prints, content_calls}
 use Rattle.jsonml_print.proofs.Walks.{AllMayCome-front, AllMayCome-back, Prints-after, Prints-failed, walk_stop, walk_bytes, walk_pen, walk_now, walk_rest}
 use Rattle.key_annotate.specs.LentView.{lent_view}
-use Rattle.key_annotate.specs.declared.lent.LentKeyed.{LentKeyed, size-LentKeyed}
+use Rattle.key_annotate.specs.declared.lent.LentKeyed.{LentKeyed, size-LentKeyed, the_lemmas}
 use Rattle.key_annotate.specs.Inside.{inside_of}
 use Rattle.key_annotate.specs.declared.bare.Bare.{Bare}
-use Rattle.keyed_print.proofs.KeyedCalls.{attr_calls, kid_calls, leaf_calls, kid_calls-Attr, inside_of-Attr, inside_of-Flat, calls-named, kids-calls, most_at}
+use Rattle.keyed_print.proofs.KeyedCalls.{attr_calls, kid_calls, leaf_calls, inside_of-Inner, inside_of-Flat, calls-named, most_at}
 use Rattle.keyed_print.proofs.print_lent.+print.Goals as goal
 
 pub print_elements-loop-kid-init : goal.print_elements-loop-kid-init
@@ -56,46 +56,54 @@ print_behind_tag-returns-clause-prints g t c =
     Prints-after (g.K.Sink.taken c.args.sink.now) (g.K.Sink.taken c.print_inside.new.sink) (g.K.Sink.taken c.end_elem.new.sink) c.args.printer.now c.print_inside.new.printer c.end_elem.new.self
     (content_calls (inside_of (lent_view c.args.keyed.now))) (end ∷ []) c.end_elem.result c.in_ok-print_inside.ensures.prints.bytes c.in_ok-print_inside.ensures.prints.pen c.end_elem.ensures.prints
 
-pub print_kids-print_attributes-requires : goal.print_kids-print_attributes-requires
-print_kids-print_attributes-requires g t c =
+pub print_inside-print_attributes-requires : goal.print_inside-print_attributes-requires
+print_inside-print_attributes-requires g t c =
     let p = c.args.printer.now in
-    let ks = c.args.kids.now in
-    AllMayCome-front p (flat_map attr_calls ks) (flat_map kid_calls ks) (subst (AllMayCome p) (kids-calls lent_view ks) c.requires)
+    let xs = c.deref.result.now in
+    let ks = c.in-Inner.kids.items in
+    let whole = inside_of-Inner c.args.keyed.now c.in-Inner.label c.in-Inner.row c.in-Inner.kids xs ks c.in-Inner.is c.deref.ensures.value refl in
+    AllMayCome-front p (flat_map attr_calls xs) (flat_map kid_calls ks) (subst (AllMayCome p) whole c.requires)
 
-pub print_kids-returns-in_err-print_attributes-clause-prints : goal.print_kids-returns-in_err-print_attributes-clause-prints
-print_kids-returns-in_err-print_attributes-clause-prints g t c =
+pub print_inside-returns-in_err-print_attributes-in-Inner-clause-prints : goal.print_inside-returns-in_err-print_attributes-in-Inner-clause-prints
+print_inside-returns-in_err-print_attributes-in-Inner-clause-prints g t c =
     let a = g.K.Sink.taken c.args.sink.now in
     let b = g.K.Sink.taken c.print_attributes.new.sink in
     let p = c.args.printer.now in
     let q = c.print_attributes.new.printer in
-    let ks = c.args.kids.now in
-    subst (λ (l : List Call). Prints a b p q l c.from_residual.result) (sym (kids-calls lent_view ks))
-    (Prints-failed a b p q (flat_map attr_calls ks) (flat_map kid_calls ks) c.from_residual.result c.from_residual.ensures.0 c.in_err-print_attributes.ensures.prints.bytes)
+    let xs = c.deref.result.now in
+    let ks = c.in-Inner.kids.items in
+    let whole = inside_of-Inner c.args.keyed.now c.in-Inner.label c.in-Inner.row c.in-Inner.kids xs ks c.in-Inner.is c.deref.ensures.value refl in
+    subst (λ (l : List Call). Prints a b p q l c.from_residual.result) (sym whole)
+    (Prints-failed a b p q (flat_map attr_calls xs) (flat_map kid_calls ks) c.from_residual.result c.from_residual.ensures.0 c.in_err-print_attributes-in-Inner.ensures.prints.bytes)
 
-pub print_kids-print_elements-requires : goal.print_kids-print_elements-requires
-print_kids-print_elements-requires g t c =
+pub print_inside-print_elements-requires : goal.print_inside-print_elements-requires
+print_inside-print_elements-requires g t c =
     let p = c.args.printer.now in
     let q = c.print_attributes.new.printer in
-    let ks = c.args.kids.now in
+    let xs = c.deref.result.now in
+    let ks = c.deref-in-Inner.result.now in
+    let whole = inside_of-Inner c.args.keyed.now c.in-Inner.label c.in-Inner.row c.in-Inner.kids xs ks c.in-Inner.is c.deref.ensures.value c.deref-in-Inner.ensures.value in
     λ κs lives. (
-      omega (arith, c.decreases),
-      (lives, AllMayCome-back p q (flat_map attr_calls ks) (flat_map kid_calls ks) c.in_ok-print_attributes.ensures.prints.pen (subst (AllMayCome p) (kids-calls lent_view ks) c.requires)),
+      search (rules, the_lemmas),
+      (lives, AllMayCome-back p q (flat_map attr_calls xs) (flat_map kid_calls ks) c.in_ok-print_attributes-in-Inner.ensures.prints.pen (subst (AllMayCome p) whole c.requires)),
     )
 
-pub print_kids-returns-clause-prints : goal.print_kids-returns-clause-prints
-print_kids-returns-clause-prints g t c =
+pub print_inside-returns-in_ok-print_attributes-in-Inner-clause-prints : goal.print_inside-returns-in_ok-print_attributes-in-Inner-clause-prints
+print_inside-returns-in_ok-print_attributes-in-Inner-clause-prints g t c =
     let a = g.K.Sink.taken c.args.sink.now in
     let b = g.K.Sink.taken c.print_attributes.new.sink in
     let d = g.K.Sink.taken c.print_elements.new.sink in
     let p = c.args.printer.now in
     let q = c.print_attributes.new.printer in
     let r = c.print_elements.new.printer in
-    let ks = c.args.kids.now in
-    subst (λ (l : List Call). Prints a d p r l c.print_elements.result) (sym (kids-calls lent_view ks))
-    (Prints-after a b d p q r (flat_map attr_calls ks) (flat_map kid_calls ks) c.print_elements.result c.in_ok-print_attributes.ensures.prints.bytes c.in_ok-print_attributes.ensures.prints.pen c.print_elements.ensures.prints)
+    let xs = c.deref.result.now in
+    let ks = c.deref-in-Inner.result.now in
+    let whole = inside_of-Inner c.args.keyed.now c.in-Inner.label c.in-Inner.row c.in-Inner.kids xs ks c.in-Inner.is c.deref.ensures.value c.deref-in-Inner.ensures.value in
+    subst (λ (l : List Call). Prints a d p r l c.print_elements.result) (sym whole)
+    (Prints-after a b d p q r (flat_map attr_calls xs) (flat_map kid_calls ks) c.print_elements.result c.in_ok-print_attributes-in-Inner.ensures.prints.bytes c.in_ok-print_attributes-in-Inner.ensures.prints.pen c.print_elements.ensures.prints)
 
-pub print_elements-print_element-requires : goal.print_elements-print_element-requires
-print_elements-print_element-requires g t c =
+pub print_elements-print_keyed-requires : goal.print_elements-print_keyed-requires
+print_elements-print_keyed-requires g t c =
     let ks = c.args.kids.now in
     let i = c.loop-kid.kid-index in
     let k = c.kid-item.result in
@@ -105,46 +113,40 @@ print_elements-print_element-requires g t c =
       (lives, subst (λ (v : LentKeyed). AllMayCome c.loop-kid.printer (kid_calls v)) (sym c.kid-item.is) (walk_now kid_calls c.loop-kid.printer ks i k within c.loop-kid.invariant.rest)),
     )
 
-pub print_elements-returns-in_err-print_element-clause-prints : goal.print_elements-returns-in_err-print_element-clause-prints
-print_elements-returns-in_err-print_element-clause-prints g t c =
+pub print_elements-returns-in_err-print_keyed-clause-prints : goal.print_elements-returns-in_err-print_keyed-clause-prints
+print_elements-returns-in_err-print_keyed-clause-prints g t c =
     let a = g.K.Sink.taken c.args.sink.now in
     let b = g.K.Sink.taken c.loop-kid.sink in
-    let d = g.K.Sink.taken c.print_element.new.sink in
+    let d = g.K.Sink.taken c.print_keyed.new.sink in
     let q = c.loop-kid.printer in
     let ks = c.args.kids.now in
     let i = c.loop-kid.kid-index in
     let k = c.kid-item.result in
     let within : i < length ks = search rules in
-    walk_stop kid_calls a b d c.args.printer.now q c.print_element.new.printer ks i k c.from_residual.result within c.loop-kid.invariant.bytes c.loop-kid.invariant.pen c.from_residual.ensures.0
-    (subst (λ (v : LentKeyed). TakesPrefix b d (printed q (kid_calls v))) c.kid-item.is c.in_err-print_element.ensures.prints.bytes)
+    walk_stop kid_calls a b d c.args.printer.now q c.print_keyed.new.printer ks i k c.from_residual.result within c.loop-kid.invariant.bytes c.loop-kid.invariant.pen c.from_residual.ensures.0
+    (subst (λ (v : LentKeyed). TakesPrefix b d (printed q (kid_calls v))) c.kid-item.is c.in_err-print_keyed.ensures.prints.bytes)
 
 pub print_elements-loop-kid-preserved : goal.print_elements-loop-kid-preserved
 print_elements-loop-kid-preserved g t c =
     let a = g.K.Sink.taken c.args.sink.now in
     let b = g.K.Sink.taken c.loop-kid.sink in
-    let d = g.K.Sink.taken c.print_element.new.sink in
+    let d = g.K.Sink.taken c.print_keyed.new.sink in
     let p = c.args.printer.now in
     let q = c.loop-kid.printer in
-    let r = c.print_element.new.printer in
+    let r = c.print_keyed.new.printer in
     let ks = c.args.kids.now in
     let i = c.loop-kid.kid-index in
     let k = c.kid-item.result in
     let within : i < length ks = search rules in
-    let pen : r ≡ reached q (kid_calls (get_or ks i k)) = subst (λ (v : LentKeyed). r ≡ reached q (kid_calls v)) c.kid-item.is c.in_ok-print_element.ensures.prints.pen in
+    let pen : r ≡ reached q (kid_calls (get_or ks i k)) = subst (λ (v : LentKeyed). r ≡ reached q (kid_calls v)) c.kid-item.is c.in_ok-print_keyed.ensures.prints.pen in
     record {
       bytes =
           walk_bytes kid_calls a b d p q ks i k within c.loop-kid.invariant.bytes c.loop-kid.invariant.pen
-          (subst (λ (v : LentKeyed). Takes b d (printed q (kid_calls v))) c.kid-item.is c.in_ok-print_element.ensures.prints.bytes);
+          (subst (λ (v : LentKeyed). Takes b d (printed q (kid_calls v))) c.kid-item.is c.in_ok-print_keyed.ensures.prints.bytes);
       pen = walk_pen kid_calls p q r ks i k within c.loop-kid.invariant.pen pen;
       rest = walk_rest kid_calls q r ks i k within pen c.loop-kid.invariant.rest;
       later = search rules;
     }
-
-pub print_element-returns-in-Attr-clause-prints : goal.print_element-returns-in-Attr-clause-prints
-print_element-returns-in-Attr-clause-prints g t c = rw (kid_calls-Attr c.args.kid.now c.in-Attr.field-0 c.in-Attr.is) (record { bytes = Takes-nil _; pen = refl })
-
-pub print_inside-returns-in-Attr-clause-prints : goal.print_inside-returns-in-Attr-clause-prints
-print_inside-returns-in-Attr-clause-prints g t c = rw (inside_of-Attr c.args.keyed.now c.in-Attr.field-0 c.in-Attr.is) (record { bytes = Takes-nil _; pen = refl })
 
 pub print_inside-print_leaves-requires : goal.print_inside-print_leaves-requires
 print_inside-print_leaves-requires g t c =

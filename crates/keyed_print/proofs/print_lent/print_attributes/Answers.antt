@@ -1,54 +1,51 @@
-use Rattle.std.proofs.Common.{◌≡◌, ◌<◌, length, get_or, rules, subst, sym}
-use Rattle.xa_outside.specs.Taken.{Takes, TakesPrefix}
+use Rattle.std.proofs.Common.{◌≡◌, ◌<◌, ◌∷◌, [], List, length, get_or, rules, subst, ap}
+use Rattle.xa_outside.specs.Taken.{Takes}
+use Rattle.xa_outside.specs.Taken.{TakesPrefix}
+use Rattle.jsonml_tree.specs.LentAttrs.{lent_attr_view}
+use Rattle.jsonml_tree.specs.declared.lent_attr.LentAttr.{LentAttr}
+use Rattle.jsonml_print.specs.Calls.{Call, attribute, printed, reached}
+use Rattle.jsonml_print.proofs.Walks.{walk_stop, walk_bytes, walk_pen, walk_rest}
 use Rattle.xa_outside.specs.TakenLaws.{Takes-nil}
-use Rattle.jsonml_print.specs.Calls.{AllMayCome, printed, reached}
-use Rattle.jsonml_print.proofs.Walks.{walk_stop, walk_bytes, walk_pen, walk_now, walk_rest}
-use Rattle.key_annotate.specs.declared.lent.LentKeyed.{LentKeyed}
-use Rattle.keyed_print.proofs.KeyedCalls.{attr_calls}
 use Rattle.keyed_print.proofs.print_lent.print_attributes.Goals as goal
 
-pub loop-kid-init : goal.loop-kid-init
-loop-kid-init g c = record { bytes = Takes-nil _; pen = search rules; rest = search rules; later = search rules }
+abbrev calls : LentAttr → List Call
+calls x = attribute (lent_attr_view x) ∷ []
 
-pub print_attribute-requires : goal.print_attribute-requires
-print_attribute-requires g c =
-    let ks = c.args.kids.now in
-    let i = c.loop-kid.kid-index in
-    let k = c.kid-item.result in
-    let within : i < length ks = search rules in
-    subst (λ (v : LentKeyed). AllMayCome c.loop-kid.printer (attr_calls v)) (sym c.kid-item.is) (walk_now attr_calls c.loop-kid.printer ks i k within c.loop-kid.invariant.rest)
-
-pub returns-in_err-print_attribute-clause-prints : goal.returns-in_err-print_attribute-clause-prints
-returns-in_err-print_attribute-clause-prints g c =
+pub returns-in_err-lent_attr-clause-prints : goal.returns-in_err-lent_attr-clause-prints
+returns-in_err-lent_attr-clause-prints g c =
     let a = g.K.Sink.taken c.args.sink.now in
-    let b = g.K.Sink.taken c.loop-kid.sink in
-    let d = g.K.Sink.taken c.print_attribute.new.sink in
-    let q = c.loop-kid.printer in
-    let ks = c.args.kids.now in
-    let i = c.loop-kid.kid-index in
-    let k = c.kid-item.result in
-    let within : i < length ks = search rules in
-    walk_stop attr_calls a b d c.args.printer.now q c.print_attribute.new.printer ks i k c.from_residual.result within c.loop-kid.invariant.bytes c.loop-kid.invariant.pen c.from_residual.ensures.0
-    (subst (λ (v : LentKeyed). TakesPrefix b d (printed q (attr_calls v))) c.kid-item.is c.in_err-print_attribute.ensures.prints.bytes)
-
-pub loop-kid-preserved : goal.loop-kid-preserved
-loop-kid-preserved g c =
-    let a = g.K.Sink.taken c.args.sink.now in
-    let b = g.K.Sink.taken c.loop-kid.sink in
-    let d = g.K.Sink.taken c.print_attribute.new.sink in
+    let b = g.K.Sink.taken c.loop-attr.sink in
+    let d = g.K.Sink.taken c.lent_attr.new.sink in
     let p = c.args.printer.now in
-    let q = c.loop-kid.printer in
-    let r = c.print_attribute.new.printer in
-    let ks = c.args.kids.now in
-    let i = c.loop-kid.kid-index in
-    let k = c.kid-item.result in
-    let within : i < length ks = search rules in
-    let pen : r ≡ reached q (attr_calls (get_or ks i k)) = subst (λ (v : LentKeyed). r ≡ reached q (attr_calls v)) c.kid-item.is c.in_ok-print_attribute.ensures.prints.pen in
+    let q = c.loop-attr.printer in
+    let xs = c.args.attrs.now in
+    let i = c.loop-attr.attr-index in
+    let x = c.attr-item.result in
+    let within : i < length xs = search rules in
+    let is : attribute (lent_attr_view x) ≡ attribute (lent_attr_view (get_or xs i x)) = ap (λ (y : LentAttr). attribute (lent_attr_view y)) c.attr-item.is in
+    walk_stop calls a b d p q c.lent_attr.new.self xs i x c.from_residual.result within c.loop-attr.invariant.bytes c.loop-attr.invariant.pen c.from_residual.ensures.0
+    (subst (λ (k : Call). TakesPrefix b d (printed q (k ∷ []))) is c.in_err-lent_attr.ensures.prints.bytes)
+
+pub loop-attr-preserved : goal.loop-attr-preserved
+loop-attr-preserved g c =
+    let a = g.K.Sink.taken c.args.sink.now in
+    let b = g.K.Sink.taken c.loop-attr.sink in
+    let d = g.K.Sink.taken c.lent_attr.new.sink in
+    let p = c.args.printer.now in
+    let q = c.loop-attr.printer in
+    let r = c.lent_attr.new.self in
+    let xs = c.args.attrs.now in
+    let i = c.loop-attr.attr-index in
+    let x = c.attr-item.result in
+    let within : i < length xs = search rules in
+    let is : attribute (lent_attr_view x) ≡ attribute (lent_attr_view (get_or xs i x)) = ap (λ (y : LentAttr). attribute (lent_attr_view y)) c.attr-item.is in
+    let pen : r ≡ reached q (calls (get_or xs i x)) = subst (λ (k : Call). r ≡ reached q (k ∷ [])) is c.in_ok-lent_attr.ensures.prints.pen in
     record {
-      bytes =
-          walk_bytes attr_calls a b d p q ks i k within c.loop-kid.invariant.bytes c.loop-kid.invariant.pen
-          (subst (λ (v : LentKeyed). Takes b d (printed q (attr_calls v))) c.kid-item.is c.in_ok-print_attribute.ensures.prints.bytes);
-      pen = walk_pen attr_calls p q r ks i k within c.loop-kid.invariant.pen pen;
-      rest = walk_rest attr_calls q r ks i k within pen c.loop-kid.invariant.rest;
+      bytes = walk_bytes calls a b d p q xs i x within c.loop-attr.invariant.bytes c.loop-attr.invariant.pen (subst (λ (k : Call). Takes b d (printed q (k ∷ []))) is c.in_ok-lent_attr.ensures.prints.bytes);
+      pen = walk_pen calls p q r xs i x within c.loop-attr.invariant.pen pen;
+      rest = walk_rest calls q r xs i x within pen c.loop-attr.invariant.rest;
       later = search rules;
     }
+
+pub loop-attr-init : goal.loop-attr-init
+loop-attr-init g c = record { bytes = Takes-nil _; pen = search rules; rest = search rules; later = search rules }
