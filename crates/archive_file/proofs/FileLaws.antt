@@ -1,18 +1,16 @@
 -- Which archives have a file, as far as the records of their nodes go.
-use Rattle.std.proofs.Common.{◌≡◌, ℕ, zero, suc, ◌+◌, ◌^◌, ◌<◌, ◌≤◌, false, cond, eqb, ◌&&◌, IsTrue, List, [], ◌∷◌, ◌++◌, map, length, Some, None, refl, sym, ap, subst, ◌∙◌, arith}
+use Rattle.std.proofs.Common.{◌≡◌, ℕ, ◌^◌, ◌<◌, ◌≤◌, ◌&&◌, IsTrue, List, [], ◌∷◌, ◌++◌, map, length, refl, ap, ◌∙◌, arith}
 use Rattle.std.specs.List.{flat_map, AllByRecursion}
-use Rattle.std.proofs.lemmas.List.{length-append, append-nil}
-use Rattle.std.proofs.lemmas.Bool.Decides.{nat_tests}
-use Rattle.std.proofs.lemmas.Grind.{flat_map-append}
+use Rattle.std.proofs.lemmas.List.{length-append}
 use Rattle.key_spec.specs.Data.{PlainRule}
 use Rattle.key_spec.specs.Canonical.{canonical}
 use Rattle.keyed_tree.proofs.Kids.{both}
-use Rattle.archive_tree.specs.Data.{Stamp, PlainAlt, PlainNode, inner_node, leaf_node, PlainNodes, no_nodes, node, nodes_list, PlainArchive}
+use Rattle.archive_tree.specs.Data.{PlainAlt, PlainNode, inner_node, leaf_node, PlainNodes, no_nodes, node, nodes_list, PlainArchive}
 use Rattle.version_set.specs.Members.{upto_pairs}
-use Rattle.record_format.specs.Data.{PlainEntry, PlainRec, inner_rec, leaf_rec, end_rec, leaf_end}
-use Rattle.record_format.specs.Spelling.{body_bytes, rec_bytes}
-use Rattle.record_parts.specs.Bounds.{most, IsSet, IsStamp}
-use Rattle.record_format.specs.Bounds.{IsEntry, IsDir, IsRec}
+use Rattle.record_format.specs.Data.{inner_rec, leaf_rec, end_rec, leaf_end}
+use Rattle.record_format.specs.Spelling.{rec_bytes}
+use Rattle.record_parts.specs.Bounds.{most, IsSet}
+use Rattle.record_format.specs.Bounds.{IsDir, IsRec}
 use Rattle.record_format.specs.Nodes.{Piece, piece_bytes, entries_from, dir_of, closed_by_end, alt_of, set_in, node_piece, node_pieces}
 use Rattle.record_format.specs.Files.{root_pieces, file_records, tail_bytes, header_bytes, file_bytes, longest, HasFile}
 pub use Rattle.record_format.proofs.Pieces.{all-append, all-front, all-back, records_of, one-record, closed-bytes, rec-length, entries-more, entries-length, pieces-length, Fine, closed-fits, set-in, upto-set}

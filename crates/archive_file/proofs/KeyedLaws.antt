@@ -112,6 +112,9 @@ keyed-plain rules k h =
     let short : tree_depth (plain (keyed_tree rules t)) ≤ 120 = omega arith in
     (keyed-proper rules t k h.stands, subst (λ z. tree_depth (plain z) ≤ 120) (sym same) short)
 
+pub keyed-shallow : (rules : List PlainRule) (k : PlainKeyed) → IsKeyedBy rules k → tree_depth (plain k) ≤ 120
+keyed-shallow rules k h = (keyed-plain rules k h).1
+
 all-plain : (rules : List PlainRule) (vs : List PlainKeyed) → AreKeyedBy rules vs → AllByRecursion (λ v. IsProper v × (tree_depth (plain v) ≤ 120)) vs
 all-plain rules [] h = tt
 all-plain rules (v ∷ vs) h = (keyed-plain rules v h.0, all-plain rules vs h.1)

@@ -20,3 +20,5 @@ pub mod ReadLaws
 pub mod SoundLaws
 pub mod OneReading
 pub mod FewItems
+pub mod ShapedVersions
+pub mod ShapedArchives

@@ -11,6 +11,7 @@ use Rattle.keyed_tree.specs.WellFormed.{is_label_well_formed, is_key_well_formed
 use Rattle.keyed_tree.proofs.Kids.{both}
 use Rattle.archive_tree.specs.Data.{PlainAlt, PlainNode, inner_node, leaf_node, PlainNodes, no_nodes, node, node_label, PlainArchive}
 use Rattle.archive_tree.specs.Stands.{ArchiveOf}
+use Rattle.archive_tree.proofs.OneArchive.{one_archive}
 use Rattle.archive_tree.specs.WellFormed.{are_alts_well_formed, is_node_well_formed, are_nodes_well_formed, IsNodeWellFormed, AreNodesWellFormed}
 use Rattle.xa_fields.proofs.Fields.{some_is}
 use Rattle.version_set.specs.Members.{upto_pairs}
@@ -18,7 +19,7 @@ use Rattle.xa_fields.specs.Spelling.{u64_bytes}
 use Rattle.record_format.specs.Data.{end_rec, leaf_end}
 use Rattle.record_format.specs.Spelling.{dir_bytes, rec_bytes}
 use Rattle.record_format.specs.Bounds.{IsRec}
-use Rattle.record_parts.specs.Bounds.{most}
+use Rattle.record_parts.specs.Bounds.{deepest, most}
 use Rattle.record_format.specs.Nodes.{dir_of, alt_of, set_in, node_piece, node_pieces, closed_by_end}
 use Rattle.record_format.specs.Files.{header_bytes, file_records, tail_bytes, file_bytes, longest, FileOf}
 use Rattle.record_format.specs.Fronts.{header_at}
@@ -89,6 +90,10 @@ sound-nested rules vs bytes s =
     let told = (archive-keyed vs a s.file.is rules (closed-lead rules (canonical rules, s.specification)) formed).1 s.keyed in
     let two = both (are_shallow 120 a.kids) (nodes_fit rules [] a.kids) told in
     nodes-nest rules [] 120 a.kids two.0 two.1
+
+-- the same of the archive of its versions
+pub versions-nested : (rules : List PlainRule) (vs : List PlainKeyed) (bytes : List ℕ) (a : PlainArchive) → SoundAs rules vs bytes → ArchiveOf vs a → IsTrue (are_nested deepest a.kids)
+versions-nested rules vs bytes a s at = subst (λ (b : PlainArchive). IsTrue (are_nested deepest b.kids)) (one_archive vs s.file.archive a s.file.is at) (sound-nested rules vs bytes s)
 
 -- ---- what a reader of its bytes finds
 

@@ -4,7 +4,7 @@ use Rattle.std.specs.List.{flat_map, AllByRecursion}
 use Rattle.key_spec.specs.Canonical.{canonical}
 use Rattle.key_spec.specs.Closed.{closed}
 use Rattle.key_spec.specs.Data.{PlainRule}
-use Rattle.archive_tree.specs.Data.{PlainAlt, PlainNode, inner_node, leaf_node, PlainNodes, no_nodes, node}
+use Rattle.archive_tree.specs.Data.{PlainAlt, PlainNode, PlainNodes}
 use Rattle.record_format.specs.Data.{PlainEntry, PlainDir, leaf_end}
 use Rattle.record_format.specs.Spelling.{rec_bytes}
 use Rattle.record_format.specs.Bounds.{IsRec}

@@ -20,14 +20,13 @@ ghost use Rattle.archive_file.specs.KeyedBy.{AreKeyedBy};
 ghost use Rattle.archive_file.specs.Laid.{are_nested, Finds};
 ghost use Rattle.archive_file.specs.Sound.{SoundAs};
 
-use crate::encode::LONGEST;
 use crate::fault::FileFault;
 use crate::front::read_header;
 use crate::keyedness::is_keyed;
 use crate::reading::read_row;
 use archive_tree::Archive;
 use key_spec::Spec;
-use record_format::DEEPEST;
+use record_format::{DEEPEST, LONGEST};
 use std::alloc::Global;
 use version_set::VersionSet;
 
@@ -102,7 +101,7 @@ fn is_closed(bytes: &[u8], at: usize, dir: u64) -> bool
     ensures { result ≡ (nat_le (length bytes.now) longest
         && bytes_eq (drop at bytes.now) (u64_bytes dir)) }
 {
-    bytes.len() <= LONGEST && is_tail(&bytes[at..], dir)
+    bytes.len() as u64 <= LONGEST && is_tail(&bytes[at..], dir)
 }
 
 fn is_tail(bytes: &[u8], dir: u64) -> bool

@@ -23,14 +23,11 @@ use crate::goes::row_goes;
 use archive_tree::{ANode, Alt, Archive, effective};
 use key_spec::Spec;
 use record_format::{
-    Entry, FRAME, put_alt, put_end, put_header, put_inner, put_leaf, put_leaf_end,
+    Entry, FRAME, LONGEST, put_alt, put_end, put_header, put_inner, put_leaf, put_leaf_end,
 };
 use std::alloc::{AllocError, Global};
 use version_set::VersionSet;
 use xa_fields::put_u64;
-
-/// An archive file has at most so many bytes.
-pub(crate) const LONGEST: usize = 274_877_906_944;
 
 /// The bytes of the archive file of an archive under a specification that keys its versions.
 ///
@@ -49,7 +46,7 @@ pub fn encode_file(alloc: Global, spec: &Spec, archive: &Archive) -> Result<Vec<
         return Err(EncodeFault::TooLong);
     }
     let out = file_of(alloc, spec, archive)?;
-    if out.len() > LONGEST {
+    if out.len() as u64 > LONGEST {
         return Err(EncodeFault::TooLong);
     }
     Ok(out)

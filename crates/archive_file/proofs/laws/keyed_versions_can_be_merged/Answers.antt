@@ -1,5 +1,6 @@
 use Rattle.archive_file.proofs.AlikeLaws.{keyed-alike}
 use Rattle.archive_file.proofs.KeyedLaws.{keyed-is_element, keyed-is_proper, keyed-is_ordered, keyed-is_well_formed}
+use Rattle.archive_file.proofs.ShapedArchives.{archive-shaped}
 use Rattle.archive_file.proofs.laws.keyed_versions_can_be_merged.Goals as goal
 
 pub returns-clause-alike : goal.returns-clause-alike
@@ -16,3 +17,6 @@ returns-clause-ordered c = keyed-is_ordered
 
 pub returns-clause-well_formed : goal.returns-clause-well_formed
 returns-clause-well_formed c = keyed-is_well_formed
+
+pub returns-clause-shaped : goal.returns-clause-shaped
+returns-clause-shaped c = archive-shaped
