@@ -1,0 +1,24 @@
+use Rattle.std.proofs.Common.{◌-◌, ◌*◌, ◌+◌, map}
+use Rattle.keyed_tree.specs.View.{keyed_view}
+use Rattle.stream_merge.specs.State.{state}
+use Rattle.stream_merge.specs.View.{inherited_view}
+use Rattle.stream_merge.proofs.MergedRows.{MergeOn}
+use Rattle.stream_merge.proofs.merge.+merge.Given as goal
+
+abbrev pub decreases-merge_child : goal.decreases-merge_child
+decreases-merge_child g l = 3 * (l.cursor.now.length - l.cursor.now.at)
+
+abbrev pub decreases-merge_row : goal.decreases-merge_row
+decreases-merge_row g l = 3 * (l.cursor.now.length - l.cursor.now.at) + 1
+
+abbrev pub decreases-merge_inner : goal.decreases-merge_inner
+decreases-merge_inner g l = 3 * (l.cursor.now.length - l.cursor.now.at) + 2
+
+-- so many nodes were merged with so many kids
+abbrev pub invariant-merge_row-loop-taken : goal.invariant-merge_row-loop-taken
+invariant-merge_row-loop-taken g l =
+    let f = g.F.Folder in
+    MergeOn (inherited_view l.from) (map keyed_view l.kids) l.done (state f.files f.draft f.numbers f.faults l.fn.folder l.fn.cursor l.fn.writer) (state f.files f.draft f.numbers f.faults l.folder l.cursor l.writer)
+
+abbrev pub decreases-merge_row-loop-taken : goal.decreases-merge_row-loop-taken
+decreases-merge_row-loop-taken g l = l.cursor.length - l.cursor.at

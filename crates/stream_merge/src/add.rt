@@ -1,0 +1,192 @@
+// Adding a version to the file of an archive.
+ghost use Rattle.std.specs.Prelude.{◌≡◌, ◌≢◌, ◌↔◌, ◌+◌, ◌-◌, ◌≤◌, ◌<◌, ◌++◌, ◌∷◌, [], ℕ, List, length, max, None, Err, IfErr, OnOk, OnErr};
+ghost use Rattle.archive_tree.specs.Data.{PlainArchive};
+ghost use Rattle.archive_tree.specs.Stands.{ArchiveOf};
+ghost use Rattle.archive_file.specs.KeyedBy.{IsKeyedBy};
+ghost use Rattle.archive_file.specs.Sound.{SoundAs};
+ghost use Rattle.key_spec.specs.Data.{PlainRule};
+ghost use Rattle.keyed_tree.specs.Data.{PlainKeyed};
+ghost use Rattle.keyed_tree.specs.Kids.{IsOrdered};
+ghost use Rattle.keyed_tree.specs.View.{keyed_view};
+ghost use Rattle.nested_merge.specs.Merged.{fresh};
+ghost use Rattle.record_cursor.specs.Moves.{TellsFront};
+ghost use Rattle.record_cursor.specs.Places.{among_nodes};
+ghost use Rattle.record_cursor.specs.View.{header_view, IsHeader};
+ghost use Rattle.record_format.specs.Files.{FileOf, header_bytes, largest};
+ghost use Rattle.record_format.specs.Shapes.{IsShapedNode};
+ghost use Rattle.record_writer.specs.View.{writer_view};
+ghost use Rattle.xa_outside.specs.Causes.{Rose};
+ghost use Rattle.xa_outside.specs.Folder.{committed};
+ghost use Rattle.stream_merge.specs.Added.{Added, IsBlank, IsHeaderOf, IfTooLong, IfFailed, UnlessFailed};
+ghost use Rattle.stream_merge.specs.Appended.{Reads, WritesNodes, Grows};
+ghost use Rattle.stream_merge.specs.Passes.{UnlessFolder, fault_of};
+ghost use Rattle.stream_merge.specs.State.{state, lead};
+ghost use Rattle.stream_merge.specs.View.{inherited_view};
+ghost use Rattle.stream_merge.specs.declared.fault.AddFault.TheVariants.{Damage, Limit};
+
+use crate::fault::{AddFault, MergeFault};
+use crate::inherited::Inherited;
+use crate::merge::merge_row;
+use keyed_tree::Keyed;
+use record_cursor::{Cursor, Header, Item};
+use record_format::MOST_VERSIONS;
+use record_writer::Writer;
+use std::alloc::Global;
+use std::slice;
+use version_set::VersionSet;
+use xa_outside::Folder;
+
+/// Adds a version to the archive in the file of this name, and makes that the file.
+///
+/// The records are read once, and each is written before the next is read; nothing is held of the
+/// archive but a record, and of the nodes that stand open their sets and the entries of their
+/// children. After a fault the files are as before.
+pub fn stream_add<F: Folder>(
+    alloc: Global,
+    folder: &mut F,
+    name: &str,
+    header: &Header,
+    cursor: Cursor,
+    new: &Keyed,
+) -> Result<(), AddFault>
+    requires header { IsHeader (header_view header.now) }
+    requires cursor { cursor ≡ record {
+      name = name.now;
+      length = (header_view header.now).length;
+      standing = among_nodes 0;
+      at = (header_view header.now).first;
+    } }
+    requires draft { IsBlank (F.draft folder.old) }
+    requires keyed { IsKeyedBy (header_view header.now).rules (keyed_view new.now) }
+
+    // The file of a sound archive becomes that of its versions and the new one.
+    ensures added { (bytes : List ℕ) (rules : List PlainRule) (vs : List PlainKeyed)
+        → TellsFront (F.files folder.old) name.now (header_view header.now).length bytes
+        → IsHeaderOf (header_view header.now) bytes → SoundAs rules vs bytes
+        → OnOk result (Added rules vs (keyed_view new.now) name.now
+        (F.files folder.old) (F.files folder.new) (F.draft folder.old)) }
+    ensures too_long { (bytes : List ℕ) (rules : List PlainRule) (vs : List PlainKeyed)
+        → TellsFront (F.files folder.old) name.now (header_view header.now).length bytes
+        → IsHeaderOf (header_view header.now) bytes → SoundAs rules vs bytes
+        → IfErr result (λ e. IfTooLong e ((file : List ℕ)
+        → ¬ (FileOf rules (vs ++ keyed_view new.now ∷ []) file))) }
+    ensures undamaged { (bytes : List ℕ) (rules : List PlainRule) (vs : List PlainKeyed)
+        → TellsFront (F.files folder.old) name.now (header_view header.now).length bytes
+        → IsHeaderOf (header_view header.now) bytes → SoundAs rules vs bytes
+        → IfErr result (λ e. e ≢ Damage) }
+    ensures refused { OnErr result (F.files folder.new ≡ F.files folder.old) }
+    ensures limit { (result ≡ Err Limit) ↔ ((header_view header.now).versions ≡ 999999) }
+    ensures later { F.faults folder.old ≤ F.faults folder.new }
+    ensures cause { IfFailed result (Rose (F.faults folder.old) (F.faults folder.new)) }
+
+    // The archive is read once, and over a sound one little of it is held.
+    ensures pulls { (F.numbers folder.new).pulled ≤ (F.numbers folder.old).pulled
+        + ((header_view header.now).length - (header_view header.now).first) }
+    ensures gap { (bytes : List ℕ) (rules : List PlainRule) (vs : List PlainKeyed)
+        (a : PlainArchive)
+        → TellsFront (F.files folder.old) name.now (header_view header.now).length bytes
+        → IsHeaderOf (header_view header.now) bytes → SoundAs rules vs bytes → ArchiveOf vs a
+        → UnlessFailed result ((F.numbers folder.new).gap
+        ≤ max (F.numbers folder.old).gap
+        (lead (F.numbers folder.old) - length (header_bytes rules a.n) + largest rules a)) }
+    ensures ahead { (bytes : List ℕ)
+        → TellsFront (F.files folder.old) name.now (header_view header.now).length bytes
+        → IsHeaderOf (header_view header.now) bytes
+        → OnOk result (lead (F.numbers folder.new) ≤ lead (F.numbers folder.old)
+        - (header_view header.now).first) }
+{
+    if header.versions >= MOST_VERSIONS {
+        return Err(AddFault::Limit);
+    }
+    append_version(alloc, folder, header, cursor, new)?;
+    commit(folder, name)
+}
+
+// Appends the archive with one more version to the draft.
+fn append_version<F: Folder>(
+    alloc: Global,
+    folder: &mut F,
+    header: &Header,
+    cursor: Cursor,
+    new: &Keyed,
+) -> Result<(), MergeFault>
+    requires room { (header_view header.now).versions < 999999 }
+    requires within { (header_view header.now).first ≤ (header_view header.now).length }
+    requires length { cursor.length ≡ (header_view header.now).length }
+    requires standing { cursor.standing ≡ among_nodes 0 }
+    requires first { cursor.at ≡ (header_view header.now).first }
+    requires keyed { IsKeyedBy (header_view header.now).rules (keyed_view new.now) }
+    ensures reads { Reads F.files F.numbers F.faults folder.old folder.new
+        ((header_view header.now).length - (header_view header.now).first)
+        (length (header_bytes (header_view header.now).rules
+        ((header_view header.now).versions + 1))) (fault_of result) }
+    ensures grows { (bytes : List ℕ) (rules : List PlainRule) (vs : List PlainKeyed)
+        → TellsFront (F.files folder.old) cursor.name cursor.length bytes
+        → IsHeaderOf (header_view header.now) bytes → SoundAs rules vs bytes
+        → Grows rules vs (keyed_view new.now) (F.draft folder.old) (F.draft folder.new)
+        (fault_of result) }
+    ensures gap { (bytes : List ℕ) (rules : List PlainRule) (vs : List PlainKeyed)
+        (a : PlainArchive)
+        → TellsFront (F.files folder.old) cursor.name cursor.length bytes
+        → IsHeaderOf (header_view header.now) bytes → SoundAs rules vs bytes → ArchiveOf vs a
+        → UnlessFolder (fault_of result) ((F.numbers folder.new).gap
+        ≤ max (F.numbers folder.old).gap
+        (lead (F.numbers folder.old) - length (header_bytes rules a.n) + largest rules a)) }
+{
+    let number = header.versions + 1;
+    let from = Inherited {
+        alloc,
+        number,
+        before: VersionSet::upto(alloc, header.versions),
+        now: VersionSet::upto(alloc, number),
+    };
+    let writer = Writer::start(alloc, folder, &header.spec, number)?;
+    append_nodes(folder, cursor, writer, new, &from)
+}
+
+// Appends the nodes of the archive with one more version to the draft, and what stands behind them.
+fn append_nodes<F: Folder>(
+    folder: &mut F,
+    cursor: Cursor,
+    writer: Writer,
+    new: &Keyed,
+    from: &Inherited,
+) -> Result<(), MergeFault>
+    requires within { cursor.at ≤ cursor.length }
+    requires no_leaf { (writer_view writer).leaf ≡ None }
+    requires no_inner { (writer_view writer).inners ≡ [] }
+    requires number { 1 ≤ (inherited_view from.now).number }
+    requires ordered { IsOrdered (keyed_view new.now) }
+    requires shaped { IsShapedNode (fresh None (keyed_view new.now)) }
+    ensures reads { Reads F.files F.numbers F.faults folder.old folder.new
+        (cursor.length - cursor.at) 0 (fault_of result) }
+    ensures nodes { WritesNodes (inherited_view from.entry.now) (keyed_view new.now)
+        (state F.files F.draft F.numbers F.faults folder.old cursor writer)
+        (state F.files F.draft F.numbers F.faults folder.new cursor writer)
+        (fault_of result) }
+{
+    let mut cursor = cursor;
+    let mut writer = writer;
+    merge_row(folder, &mut cursor, &mut writer, slice::from_ref(new), from)?;
+    writer.finish(folder)?;
+    match cursor.next(folder)? {
+        Item::Finish => Ok(()),
+        _ => Err(MergeFault::Damage),
+    }
+}
+
+// Makes the draft the file of this name.
+fn commit<F: Folder>(folder: &mut F, name: &str) -> Result<(), AddFault>
+    ensures files { OnOk result (F.files folder.new
+        ≡ committed (F.files folder.old) (F.draft folder.old) name.now) }
+    ensures refused { OnErr result (F.files folder.new ≡ F.files folder.old) }
+    ensures numbers { F.numbers folder.new ≡ F.numbers folder.old }
+    ensures later { F.faults folder.old ≤ F.faults folder.new }
+    ensures fault { IfErr result (λ e. e ≡ AddFault.Folder) }
+    ensures cause { OnErr result (Rose (F.faults folder.old) (F.faults folder.new)) }
+{
+    match folder.commit(name) {
+        Ok(()) => Ok(()),
+        Err(_) => Err(AddFault::Folder),
+    }
+}
