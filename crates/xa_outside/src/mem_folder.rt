@@ -68,6 +68,28 @@ impl MemFolder {
         self.files.get(name)
     }
 
+    /// The bytes that `read_at` gave.
+    pub fn pulled(&self) -> u64
+        ensures { result ≡ (folder_state self.now).numbers.pulled }
+    {
+        self.meter.pulled()
+    }
+
+    /// The bytes that `read_at` gave since the last `begin`.
+    pub fn since(&self) -> u64
+        ensures { result ≡ (folder_state self.now).numbers.since }
+    {
+        self.meter.since()
+    }
+
+    /// The most bytes by which what was given was ahead of what was appended, at any moment since
+    /// the last `begin`.
+    pub fn gap(&self) -> u64
+        ensures { result ≡ (folder_state self.now).numbers.gap }
+    {
+        self.meter.gap()
+    }
+
     /// How many growths were refused.
     pub fn starved(&self) -> u64
         ensures { result ≡ (folder_state self.now).starved }

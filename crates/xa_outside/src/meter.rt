@@ -33,6 +33,27 @@ impl Meter {
         }
     }
 
+    /// The bytes that `read_at` gave.
+    pub fn pulled(&self) -> u64
+        ensures { result ≡ (numbers self.now).pulled }
+    {
+        self.pulled
+    }
+
+    /// The bytes given since the last `begin`.
+    pub fn since(&self) -> u64
+        ensures { result ≡ (numbers self.now).since }
+    {
+        self.since
+    }
+
+    /// The greatest value of `since` less the bytes drafted, since the last `begin`.
+    pub fn gap(&self) -> u64
+        ensures { result ≡ (numbers self.now).gap }
+    {
+        self.gap
+    }
+
     pub fn pull(&mut self, count: usize)
         ensures { numbers self.new ≡ after_pull (numbers self.old) count }
     {
