@@ -48,3 +48,12 @@ pub record PullsAtMost (limit : ℕ) (old new : Numbers) : Type 0 where
 -- n bytes were pulled at `Ok(n)`, and at most `room` on a failure
 abbrev pub Pulls : {E : Type 0} → Numbers → Numbers → Result ℕ E → ℕ → Type 0
 Pulls old new r room = MatchResult r (λ n. new ≡ after_pull old n) (λ _. PullsAtMost room old new)
+
+-- bytes were pulled, at most so many, and others may have been drafted between them
+pub record PullsAndDrafts (limit : ℕ) (old new : Numbers) : Type 0 where
+  pub count : ℕ
+  pub within : count ≤ limit
+  pub pulled : new.pulled ≡ capped (old.pulled + count)
+  pub since : new.since ≡ capped (old.since + count)
+  pub drafted : old.drafted ≤ new.drafted
+  pub gap : old.gap ≤ new.gap
