@@ -2,22 +2,23 @@
 use Rattle.std.proofs.Common.{◌≡◌, ◌≢◌, ℕ, ◌+◌, ◌≤◌, Bool, true, false, cond, List, [], ◌∷◌, ◌++◌, length, take, drop, Option, Some, None, Result, Ok, Err, refl, sym, ap, subst, ◌∙◌, arith, length-take-le, length-drop}
 use Rattle.std.specs.Option.{option_map}
 use Rattle.std.specs.Prelude.{bytes_eq}
-use Rattle.std.specs.Result.{OnOk, OnErr, IsErrAnd}
+use Rattle.std.specs.Result.{IfErr, OnOk, OnErr, IsErrAnd}
 use Rattle.std.proofs.lemmas.Slice.Eq.{bytes_eq-Decides}
 use Rattle.key_spec.specs.Canonical.{canonical, spelled_by}
 use Rattle.key_spec.specs.Closed.{closed}
 use Rattle.key_spec.specs.Data.{PlainRule, PlainSpecFault}
 use Rattle.keyed_tree.specs.Data.{PlainKeyed}
+use Rattle.archive_file.specs.Sound.{SoundAs}
 use Rattle.xa_fields.proofs.Fields.{some_is}
-use Rattle.xa_outside.specs.Folder.{Files, committed}
+use Rattle.xa_outside.specs.Folder.{Files, committed, emptied}
 use Rattle.record_format.specs.Files.{header_bytes, FileOf}
 use Rattle.record_cursor.specs.Moves.{TellsFront}
 use Rattle.record_cursor.specs.View.{PlainHeader}
 use Rattle.record_cursor.proofs.Fills.{front-length}
 use Rattle.record_cursor.proofs.Headers.{header-is}
-use Rattle.stream_merge.specs.Added.{Added, IsBlank, IsHeaderOf, of_merge, IfTooLong, IfFailed, UnlessFailed}
+use Rattle.stream_merge.specs.Added.{Added, IsBlank, IsHeaderOf, of_merge, IfTooLong, IfFailed}
 use Rattle.stream_merge.specs.Appended.{Grows}
-use Rattle.stream_merge.specs.Passes.{IfFolder, UnlessFolder}
+use Rattle.stream_merge.specs.Passes.{IfFolder}
 use Rattle.stream_merge.specs.declared.fault.AddFault.{AddFault}
 use Rattle.stream_merge.specs.declared.fault.AddFault.TheVariants.{Damage, Limit}
 use Rattle.stream_merge.specs.declared.fault.AddFault.TheVariants as add
@@ -47,49 +48,34 @@ header-first h told name bytes n tells is within =
 
 -- ---- a fault before the commit
 
-pub err-is : {T : Type 0} (r : Result T AddFault) (e : AddFault) → IsErrAnd r (λ d. d ≡ e) → r ≡ Err e
-err-is (Ok x) e h = absurd h
-err-is (Err d) e h = ap Err h
+-- what is shown of the fault holds of the answer
+pub at-err : {T : Type 0} (r : Result T AddFault) (e : AddFault) → IsErrAnd r (λ d. d ≡ e) → (P : Result T AddFault → Type 0) → P (Err e) → P r
+at-err (Ok x) e h P p = absurd h
+at-err (Err d) e h P p = subst (λ (z : AddFault). P (Err z)) (sym h) p
 
-module _ (rules : List PlainRule) (vs : List PlainKeyed) (k : PlainKeyed) (old now : Option (List ℕ)) where
-  pub none-longer : (e : MergeFault) → Grows rules vs k old now (Some e) → IfTooLong (of_merge e) ((file : List ℕ) → ¬ FileOf rules (vs ++ k ∷ []) file)
-  none-longer merge.TooLong h = h
-  none-longer merge.Damage h = tt
-  none-longer merge.Folder h = tt
-  none-longer merge.Memory h = tt
+pub none-longer : (x : List ℕ) (rules : List PlainRule) (vs : List PlainKeyed) (k : PlainKeyed) (e : MergeFault) → Grows x rules vs k (Some e) → IfTooLong (of_merge e) ((file : List ℕ) → ¬ FileOf rules (vs ++ k ∷ []) file)
+none-longer x rules vs k merge.TooLong h = h
+none-longer x rules vs k merge.Damage h = tt
+none-longer x rules vs k merge.Folder h = tt
+none-longer x rules vs k merge.Memory h = tt
 
-  pub no-damage : (e : MergeFault) → Grows rules vs k old now (Some e) → of_merge e ≢ Damage
-  no-damage merge.Damage h = absurd h
-  no-damage merge.TooLong h = λ q. cc
-  no-damage merge.Folder h = λ q. cc
-  no-damage merge.Memory h = λ q. cc
+pub no-damage : (x : List ℕ) (rules : List PlainRule) (vs : List PlainKeyed) (k : PlainKeyed) (e : MergeFault) → Grows x rules vs k (Some e) → of_merge e ≢ Damage
+no-damage x rules vs k merge.Damage h = absurd h
+no-damage x rules vs k merge.TooLong h = λ q. cc
+no-damage x rules vs k merge.Folder h = λ q. cc
+no-damage x rules vs k merge.Memory h = λ q. cc
 
-pub no-limit : {T : Type 0} (r : Result T AddFault) (e : MergeFault) → r ≡ Err (of_merge e) → r ≢ Err Limit
-no-limit {T = T} r e is = λ q. other e (sym is ∙ q)
-  where
-    other : (e : MergeFault) → ◌≢◌ {A = Result T AddFault} (Err (of_merge e)) (Err Limit)
-    other merge.Damage = λ q. cc
-    other merge.Folder = λ q. cc
-    other merge.TooLong = λ q. cc
-    other merge.Memory = λ q. cc
+pub no-limit : {T : Type 0} (e : MergeFault) → ◌≢◌ {A = Result T AddFault} (Err (of_merge e)) (Err Limit)
+no-limit merge.Damage = λ q. cc
+no-limit merge.Folder = λ q. cc
+no-limit merge.TooLong = λ q. cc
+no-limit merge.Memory = λ q. cc
 
-pub failed-of : {T : Type 0} (r : Result T AddFault) (e : MergeFault) (P : Type 0) → r ≡ Err (of_merge e) → IfFolder (Some e) P → IfFailed r P
-failed-of {T = T} r e P is h = subst (λ (x : Result T AddFault). IfFailed x P) (sym is) (of e h)
-  where
-    of : (e : MergeFault) → IfFolder (Some e) P → IfFailed {T = T} (Err (of_merge e)) P
-    of merge.Damage h = tt
-    of merge.Folder h = h
-    of merge.TooLong h = tt
-    of merge.Memory h = tt
-
-pub unless-of : {T : Type 0} (r : Result T AddFault) (e : MergeFault) (P : Type 0) → r ≡ Err (of_merge e) → UnlessFolder (Some e) P → UnlessFailed r P
-unless-of {T = T} r e P is h = subst (λ (x : Result T AddFault). UnlessFailed x P) (sym is) (of e h)
-  where
-    of : (e : MergeFault) → UnlessFolder (Some e) P → UnlessFailed {T = T} (Err (of_merge e)) P
-    of merge.Damage h = h
-    of merge.Folder h = tt
-    of merge.TooLong h = h
-    of merge.Memory h = h
+pub failed-of : (T : Type 0) (e : MergeFault) (P : Type 0) → IfFolder (Some e) P → IfFailed {T = T} (Err (of_merge e)) P
+failed-of T merge.Damage P h = tt
+failed-of T merge.Folder P h = h
+failed-of T merge.TooLong P h = tt
+failed-of T merge.Memory P h = tt
 
 -- ---- the commit
 
@@ -97,26 +83,39 @@ blank-one : (o : Option (List ℕ)) (file : List ℕ) → IsBlank o → option_m
 blank-one None file h = refl
 blank-one (Some d) file h = ap (λ (b : List ℕ). Some (b ++ file)) (h d refl)
 
-pub commit-adds : {T : Type 0} (rules : List PlainRule) (vs : List PlainKeyed) (k : PlainKeyed) (name : List ℕ) (first mid last : Option Files) (old now : Option (List ℕ)) (r : Result T AddFault) → IsBlank old → mid ≡ first → Grows rules vs k old now None
-    → OnOk r (last ≡ committed mid now name) → OnOk r (Added rules vs k name first last old)
-commit-adds rules vs k name first mid last old now (Ok x) blank same g h = record {
-  bytes = g.file;
-  sound = g.sound;
-  stored = h ∙ (λ i. committed (same i) ((g.drafted ∙ blank-one old g.file blank) i) name);
+emptied-longer : (o : Option (List ℕ)) (bytes : List ℕ) → emptied (option_map (λ (d : List ℕ). d ++ bytes) o) ≡ emptied o
+emptied-longer None bytes = refl
+emptied-longer (Some d) bytes = refl
+
+-- what was appended is the file
+pub commit-adds : {T : Type 0} (h : PlainHeader) (k : PlainKeyed) (name x : List ℕ) (first mid last : Option Files) (old now rest : Option (List ℕ)) (r : Result T AddFault) → IsBlank old → mid ≡ first → now ≡ option_map (λ (d : List ℕ). d ++ x) old
+    → ((bytes : List ℕ) (rules : List PlainRule) (vs : List PlainKeyed) → TellsFront first name h.length bytes → IsHeaderOf h bytes → SoundAs rules vs bytes → SoundAs rules (vs ++ k ∷ []) x)
+    → OnOk r (last ≡ committed mid now name) → OnOk r (rest ≡ emptied now) → OnOk r (Added h name k first last old rest)
+commit-adds h k name x first mid last old now rest (Ok v) blank same longer sound stored empty = record {
+  bytes = x;
+  stored = stored ∙ (λ i. committed (same i) ((longer ∙ blank-one old x blank) i) name);
+  blank = empty ∙ ap emptied longer ∙ emptied-longer old x;
+  sound = sound;
 }
-commit-adds rules vs k name first mid last old now (Err e) blank same g h = tt
+commit-adds h k name x first mid last old now rest (Err e) blank same longer sound stored empty = tt
 
 pub on-ok : {T : Type 0} (r : Result T AddFault) (P : Type 0) → P → OnOk r P
 on-ok (Ok x) P p = p
 on-ok (Err e) P p = tt
 
-pub unless-failed : {T : Type 0} (r : Result T AddFault) (P : Type 0) → P → UnlessFailed r P
-unless-failed (Ok x) P p = p
-unless-failed (Err add.Damage) P p = p
-unless-failed (Err add.Folder) P p = tt
-unless-failed (Err add.Limit) P p = p
-unless-failed (Err add.TooLong) P p = p
-unless-failed (Err add.Memory) P p = p
+-- what holds where the commit failed
+pub commit-fails : {T : Type 0} (r : Result T AddFault) (P Q : Type 0) → (P → Q) → OnErr r P → OnErr r Q
+commit-fails (Ok v) P Q then h = tt
+commit-fails (Err e) P Q then h = then h
+
+-- it fails by the folder alone
+pub commit-err : {T : Type 0} (r : Result T AddFault) (P : AddFault → Type 0) → IfErr r (λ e. e ≡ add.Folder) → P add.Folder → IfErr r P
+commit-err (Ok v) P h p = tt
+commit-err (Err e) P h p = subst P (sym h) p
+
+pub no-commit-limit : {T : Type 0} (r : Result T AddFault) → IfErr r (λ e. e ≡ add.Folder) → r ≢ Err Limit
+no-commit-limit (Ok v) h q = absurd cc
+no-commit-limit (Err e) h q = (let other : Err e ≡ Err add.Folder = ap Err h in let same = sym other ∙ q in absurd cc)
 
 pub if-failed : {T : Type 0} (r : Result T AddFault) (P : Type 0) → OnErr r P → IfFailed r P
 if-failed (Ok x) P p = tt

@@ -1,184 +1,235 @@
 -- Merging the alternatives of a leaf, one after the other.
-use Rattle.std.proofs.Common.{◌≡◌, ◌≢◌, ℕ, ◌+◌, ◌-◌, ◌≤◌, ◌||◌, Bool, true, false, IsTrue, List, [], ◌∷◌, ◌++◌, length, map, Option, Some, None, Result, Ok, Err, IfOk, refl, sym, ap, subst, ◌∙◌, append_assoc, arith}
+use Rattle.std.proofs.Common.{◌≡◌, ◌≢◌, ℕ, ◌+◌, ◌-◌, ◌<◌, ◌≤◌, ◌||◌, Bool, true, false, IsTrue, List, [], ◌∷◌, ◌++◌, length, map, Option, Some, None, Result, Ok, Err, refl, sym, ap, subst, ◌∙◌, append_assoc, arith}
 use Rattle.std.specs.List.{AllByRecursion}
 use Rattle.std.specs.Ordering.{is_eq}
-use Rattle.std.specs.Result.{OnOk}
-use Rattle.std.proofs.lemmas.List.{append-nil, map-append, length-append}
-use Rattle.keyed_tree.specs.Data.{PlainKey}
+use Rattle.std.specs.Result.{IsErrAnd}
+use Rattle.std.proofs.lemmas.List.{map-append, length-append}
+use Rattle.xa_outside.specs.Numbers.{IsMeter}
+use Rattle.keyed_tree.specs.Data.{PlainKey, PlainLabel, PlainKeyed, PlainKids, inner, leaf}
 use Rattle.keyed_tree.specs.Order.{key_cmp}
 use Rattle.keyed_tree.proofs.Kids.{both}
-use Rattle.archive_tree.specs.Data.{Stamp, PlainAlt}
+use Rattle.archive_tree.specs.Data.{Stamp, PlainAlt, leaf_node}
 use Rattle.nested_merge.specs.Below.{is_stamp_below, are_alts_below}
+use Rattle.nested_merge.specs.Fits.{if_there, fits}
 use Rattle.nested_merge.specs.Merged.{merged_alt, has_alt, merged_alts}
 use Rattle.record_format.specs.Data.{alt_rec, leaf_end}
 use Rattle.record_format.specs.Spelling.{rec_bytes}
-use Rattle.record_cursor.specs.Items.{PlainItem, alt_item, leaf_end_item}
+use Rattle.record_cursor.specs.Items.{PlainItem, leaf_end_item}
 use Rattle.record_cursor.specs.Moves.{Comes}
-use Rattle.record_writer.specs.Calls.{after, after_all, all_appended}
-use Rattle.record_writer.specs.Data.{PlainWriter, OpenLeaf, WriterCall, call_alt, call_end_leaf}
+use Rattle.record_writer.specs.Calls.{appended, after, after_all, all_appended}
+use Rattle.record_writer.specs.Data.{PlainWriter, WriterCall, call_alt, call_end_leaf}
 use Rattle.record_writer.specs.Walks.{alt_calls}
-use Rattle.stream_merge.specs.Does.{Sends, Does}
+use Rattle.stream_merge.specs.Copied.{AltsCopied}
+use Rattle.stream_merge.specs.Does.{Sends, Sent, Does}
 use Rattle.stream_merge.specs.Items.{alt_items, IsWithin}
-use Rattle.stream_merge.specs.Meets.{new_alts, HasLeaf}
-use Rattle.stream_merge.specs.Passes.{Passes, Rests, fault_of}
-use Rattle.stream_merge.specs.State.{State, lead}
+use Rattle.stream_merge.specs.LeafMerged.{LeafMerged, AltsMerged, AltMerged}
+use Rattle.stream_merge.specs.Meets.{new_alts, alts_with, HasLeaf}
+use Rattle.stream_merge.specs.Passes.{Passes, Rests, Unless, fault_of}
+use Rattle.stream_merge.specs.State.{State}
+use Rattle.stream_merge.specs.View.{PlainInherited}
 use Rattle.stream_merge.specs.declared.fault.MergeFault.{MergeFault}
-use Rattle.stream_merge.proofs.States.{does-then, does-fault, does-sends}
+use Rattle.stream_merge.specs.declared.fault.MergeFault.TheVariants.{Damage}
+use Rattle.stream_merge.proofs.Copies.{no-more, rests-behind, ended-rests}
+use Rattle.stream_merge.proofs.Handed.{at-err}
+use Rattle.stream_merge.proofs.States.{passes-then, passes-none, passes-paid, does-then, does-fault, does-sends, sent-then, sent-fault}
 
 -- ---- a leaf ends
 
-leaf-gone : (w : PlainWriter) (l : Option OpenLeaf) → w.leaf ≡ l → l ≢ None → Rests w (after w call_end_leaf)
-leaf-gone w None e h = absurd (h refl)
-leaf-gone w (Some l) e h = rw e (record { no_leaf = refl; inners = refl })
+leaf-rests : (v w : PlainWriter) → w.inners ≡ v.inners → Rests v (after w call_end_leaf)
+leaf-rests v w same = rests-behind v w (after w call_end_leaf) None same (ended-rests w w.leaf (w.written + length (appended w call_end_leaf)) refl)
 
-pub leaf-rests : (v w : PlainWriter) → HasLeaf v w → Rests v (after w call_end_leaf)
-leaf-rests v w h = (let rest = leaf-gone w w.leaf refl h.leaf in record { no_leaf = rest.no_leaf; inners = rest.inners ∙ h.inners })
+some-same : (x y : Bool) → ◌≡◌ {A = Option Bool} (Some x) (Some y) → x ≡ y
+some-same x y e = cc
 
-pub leaf-stays : (v w : PlainWriter) (s : Stamp) (b : PlainKey) → HasLeaf v w → HasLeaf v (after w (call_alt s b))
-leaf-stays v w s b h = record { leaf = h.leaf; inners = h.inners }
+no-some : (x : Bool) → ¬ (◌≡◌ {A = Option Bool} (Some x) None)
+no-some x e = cc
 
-module _ (n : ℕ) (q : List (ℕ × ℕ)) (b : PlainKey) where
-  abbrev pub calls_of : List PlainAlt → List WriterCall
-  calls_of xs = alt_calls (map (merged_alt n q b) xs)
+or-more : (x y z now : Bool) → y ≡ z → ((x || y) || now) ≡ (x || (z || now))
+or-more true y z now e = refl
+or-more false y z now e = ap (λ (t : Bool). t || now) e
 
-  abbrev pub inside_calls : List PlainAlt → List WriterCall
-  inside_calls xs = alt_calls (merged_alts n q b xs) ++ call_end_leaf ∷ []
+or-false : (x : Bool) → x ≡ (x || false)
+or-false true = refl
+or-false false = refl
+
+module _ (own : PlainInherited) (b : PlainKey) where
+  abbrev calls_of : List PlainAlt → List WriterCall
+  calls_of xs = alt_calls (map (merged_alt own.number own.before b) xs)
 
   -- the calls that close the leaf
-  abbrev pub closing : Bool → List WriterCall
-  closing found = alt_calls (new_alts n b found) ++ call_end_leaf ∷ []
+  abbrev closing : Bool → List WriterCall
+  closing found = alt_calls (new_alts own.number b found) ++ call_end_leaf ∷ []
 
-  -- what is done where an alternative comes
-  abbrev pub AtAlt : Result (Option Bool) MergeFault → State → State → Type 0
-  AtAlt r t u = (w : ℕ) (x : PlainAlt) (next : List PlainItem) → IsWithin w (alt_item x.stamp x.body) → Comes t.files t.cursor (alt_item x.stamp x.body ∷ next) → IsTrue (is_stamp_below n x.stamp)
-      → IfOk r (λ (o : Option Bool). o ≡ Some (is_eq (key_cmp x.body b))) × Does w (alt_calls (merged_alt n q b x ∷ [])) next t u (fault_of r)
+  -- the alternatives that are left are merged, where found says whether one of those before them has the body, and the leaf is closed
+  pub record LeftMerged (found : Bool) (s t : State) (ended : Option MergeFault) : Type 0 where
+    pub appended : List ℕ
+    pub passes : Passes appended 0 s t ended
+    pub rests : Unless ended (Rests s.writer t.writer)
+    pub alternatives : (w : ℕ) (xs : List PlainAlt) (next : List PlainItem) → AllByRecursion (IsWithin w) (alt_items xs ++ leaf_end_item ∷ []) → Comes s.files s.cursor (alt_items xs ++ leaf_end_item ∷ next)
+        → IsTrue (are_alts_below own.number xs) → Does appended w (calls_of xs ++ closing (found || has_alt b xs)) next s t ended
 
-  -- what is done where the leaf ends
-  abbrev pub AtEnd : Result (Option Bool) MergeFault → State → State → Type 0
-  AtEnd r t u = (w : ℕ) (next : List PlainItem) → IsWithin w leaf_end_item → Comes t.files t.cursor (leaf_end_item ∷ next) → IfOk r (λ (o : Option Bool). o ≡ None) × Does w [] next t u (fault_of r)
+  -- So far it was done: what is done with those that are left makes the whole.
+  pub record Merging (found : Bool) (s t : State) : Type 0 where
+    pub begun : t.writer.leaf ≢ None
+    pub within : t.cursor.at ≤ t.cursor.length
+    pub rest : (u : State) (e : Option MergeFault) → LeftMerged found t u e → AltsMerged own b s u e
 
-  -- some alternatives were merged, and these are left
-  pub record Midway (w : ℕ) (xs : List PlainAlt) (next : List PlainItem) (found : Bool) (s t : State) : Type 0 where
-    pub done : List PlainAlt
-    pub left : List PlainAlt
-    pub parts : xs ≡ done ++ left
-    pub does : Does w (calls_of done) (alt_items left ++ leaf_end_item ∷ next) s t None
-    pub known : found ≡ has_alt b done
-    pub within : AllByRecursion (IsWithin w) (alt_items left ++ leaf_end_item ∷ [])
-    pub below : IsTrue (are_alts_below n left)
+  -- ---- the loop
 
-  -- all of them were
-  pub record Through (w : ℕ) (xs : List PlainAlt) (next : List PlainItem) (found : Bool) (s t : State) : Type 0 where
-    pub does : Does w (calls_of xs) next s t None
-    pub known : found ≡ has_alt b xs
+  all-left : (xs : List PlainAlt) → alt_calls (merged_alts own.number own.before b xs) ++ call_end_leaf ∷ [] ≡ calls_of xs ++ closing (has_alt b xs)
+  all-left xs =
+      let new = new_alts own.number b (has_alt b xs) in
+      ap (λ (z : List WriterCall). z ++ call_end_leaf ∷ []) (map-append (λ (x : PlainAlt). call_alt x.stamp x.body) (map (merged_alt own.number own.before b) xs) new)
+      ∙ append_assoc (calls_of xs) (alt_calls new) (call_end_leaf ∷ [])
 
-  calls-append : (xs ys : List PlainAlt) → calls_of (xs ++ ys) ≡ calls_of xs ++ calls_of ys
-  calls-append xs ys = ap alt_calls (map-append (merged_alt n q b) xs ys) ∙ map-append (λ (x : PlainAlt). call_alt x.stamp x.body) (map (merged_alt n q b) xs) (map (merged_alt n q b) ys)
-
-  has-more : (xs : List PlainAlt) (y : PlainAlt) → has_alt b (xs ++ y ∷ []) ≡ (has_alt b xs || is_eq (key_cmp y.body b))
-  has-more [] y = elim (is_eq (key_cmp y.body b)) as (λ (t : Bool). (t || false) ≡ t) [ true ↦ refl | false ↦ refl ]
-  has-more (x ∷ xs) y = elim (is_eq (key_cmp x.body b)) as (λ (t : Bool). (t || has_alt b (xs ++ y ∷ [])) ≡ ((t || has_alt b xs) || is_eq (key_cmp y.body b))) [ true ↦ refl | false ↦ has-more xs y ]
-
-  some-same : (x y : Bool) → ◌≡◌ {A = Option Bool} (Some x) (Some y) → x ≡ y
-  some-same x y e = cc
-
-  no-some : (x : Bool) → ¬ (◌≡◌ {A = Option Bool} (Some x) None)
-  no-some x e = cc
-
-  pub midway-none : (w : ℕ) (xs : List PlainAlt) (next : List PlainItem) (s : State) → Does w [] (alt_items xs ++ leaf_end_item ∷ next) s s None → AllByRecursion (IsWithin w) (alt_items xs ++ leaf_end_item ∷ []) → IsTrue (are_alts_below n xs)
-      → Midway w xs next false s s
-  midway-none w xs next s does within below = record { done = []; left = xs; parts = refl; does = does; known = refl; within = within; below = below }
+  pub merging-none : {s : State} → s.writer.leaf ≢ None → s.cursor.at ≤ s.cursor.length → Merging false s s
+  merging-none {s = s} begun within = record {
+    begun = begun;
+    within = within;
+    rest = λ u e h. record {
+      appended = h.appended;
+      passes = h.passes;
+      rests = h.rests;
+      alternatives = λ w xs next small comes below. subst (λ (cs : List WriterCall). Does h.appended w cs next s u e) (sym (all-left xs)) (h.alternatives w xs next small comes below);
+    };
+  }
 
   -- one more
-  more : (w : ℕ) (xs : List PlainAlt) (next : List PlainItem) (found same : Bool) (s t u : State) (done left : List PlainAlt) → xs ≡ done ++ left → found ≡ has_alt b done → AllByRecursion (IsWithin w) (alt_items left ++ leaf_end_item ∷ [])
-      → IsTrue (are_alts_below n left) → lead t.numbers ≤ lead s.numbers → Does w (calls_of done) (alt_items left ++ leaf_end_item ∷ next) s t None → AtAlt (Ok (Some same)) t u → AtEnd (Ok (Some same)) t u → Midway w xs next (found || same) s u
-  more w xs next found same s t u done [] parts known within below le does alt end = absurd (no-some same (end w next within.0 does.follows).0)
-  more w xs next found same s t u done (x ∷ left) parts known within below le does alt end =
-      let two = both (is_stamp_below n x.stamp) (are_alts_below n left) below in
-      let did = alt w x (alt_items left ++ leaf_end_item ∷ next) within.0 does.follows two.0 in
+  more : (found same : Bool) (s t u : State) (e : Option MergeFault) (m : AltMerged own b s t (Ok (Some same))) (h : LeftMerged (found || same) t u e) (w : ℕ) (xs : List PlainAlt) (next : List PlainItem) → AllByRecursion (IsWithin w) (alt_items xs ++ leaf_end_item ∷ [])
+      → Comes s.files s.cursor (alt_items xs ++ leaf_end_item ∷ next) → IsTrue (are_alts_below own.number xs) → Does (m.appended ++ h.appended) w (calls_of xs ++ closing (found || has_alt b xs)) next s u e
+  more found same s t u e m h w [] next small comes below = absurd (no-some same (m.end_taken w next small.0 comes).0)
+  more found same s t u e m h w (x ∷ xs) next small comes below =
+      let two = both (is_stamp_below own.number x.stamp) (are_alts_below own.number xs) below in
+      let did = m.alternative w x (alt_items xs ++ leaf_end_item ∷ next) small.0 comes two.0 in
+      let one = did.1 in
       let is : same ≡ is_eq (key_cmp x.body b) = some-same _ _ did.0 in
+      subst (λ (z : Bool). Does (m.appended ++ h.appended) w (calls_of (x ∷ xs) ++ closing z) next s u e) (or-more found same (is_eq (key_cmp x.body b)) (has_alt b xs) is)
+      (does-then m.appended h.appended s t u e w (calls_of (x ∷ [])) (calls_of xs ++ closing ((found || same) || has_alt b xs)) (alt_items xs ++ leaf_end_item ∷ next) next (no-more m.passes) one (h.alternatives w xs next small.1 one.follows two.1))
+
+  left-more : (found same : Bool) (s t u : State) (e : Option MergeFault) → AltMerged own b s t (Ok (Some same)) → LeftMerged (found || same) t u e → LeftMerged found s u e
+  left-more found same s t u e m h = record {
+    appended = m.appended ++ h.appended;
+    passes = passes-then m.appended h.appended s t u e 0 0 0 (omega arith) m.passes h.passes;
+    rests = (let begun = m.begun in rests-behind s.writer t.writer u.writer e begun.inners h.rests);
+    alternatives = more found same s t u e m h;
+  }
+
+  pub merging-more : {found same now : Bool} {s t u : State} {r : Option Bool} → (found || same) ≡ now → r ≡ Some same → Merging found s t → AltMerged own b t u (Ok r) → Merging now s u
+  merging-more {found = found} {same = same} {now = now} {s = s} {t = t} {u = u} {r = r} is some h m =
+      let one : AltMerged own b t u (Ok (Some same)) = subst (λ (z : Option Bool). AltMerged own b t u (Ok z)) some m in
+      let begun = one.begun in
+      let passes = one.passes in
       record {
-        done = done ++ x ∷ [];
-        left = left;
-        parts = parts ∙ sym (append_assoc done (x ∷ []) left);
-        does = subst (λ (cs : List WriterCall). Does w cs (alt_items left ++ leaf_end_item ∷ next) s u None) (sym (calls-append done (x ∷ [])))
-            (does-then s t u None w (calls_of done) (calls_of (x ∷ [])) (alt_items (x ∷ left) ++ leaf_end_item ∷ next) (alt_items left ++ leaf_end_item ∷ next) le does did.1);
-        known = (λ i. known i || is i) ∙ sym (has-more done x);
-        within = within.1;
-        below = two.1;
+        begun = begun.leaf;
+        within = passes.within;
+        rest = λ v e g. h.rest v e (left-more found same t u v e one (subst (λ (z : Bool). LeftMerged z u v e) (sym is) g));
       }
 
-  pub midway-more : (w : ℕ) (xs : List PlainAlt) (next : List PlainItem) (found same : Bool) (s t u : State) → lead t.numbers ≤ lead s.numbers → Midway w xs next found s t → AtAlt (Ok (Some same)) t u → AtEnd (Ok (Some same)) t u → Midway w xs next (found || same) s u
-  midway-more w xs next found same s t u le m alt end = more w xs next found same s t u m.done m.left m.parts m.known m.within m.below le m.does alt end
+  -- less is left to read
+  pub merging-nearer : {t u : State} {r : Option Bool} → AltMerged own b t u (Ok r) → u.cursor.length - u.cursor.at < t.cursor.length - t.cursor.at
+  merging-nearer {t = t} {u = u} m =
+      let p = m.passes in
+      let on : t.cursor.at < u.cursor.at = m.onward in
+      let length = p.same_length in
+      let within = p.within in
+      omega (arith, on, length, within)
 
-  -- the calls of some alternatives stand before those of the inside
-  inside-parts : (xs done left : List PlainAlt) → xs ≡ done ++ left → inside_calls xs ≡ calls_of done ++ (calls_of left ++ closing (has_alt b xs))
-  inside-parts xs done left e =
-      let new = new_alts n b (has_alt b xs) in
-      let last = closing (has_alt b xs) in
-      ap (λ (z : List WriterCall). z ++ call_end_leaf ∷ []) (map-append (λ (x : PlainAlt). call_alt x.stamp x.body) (map (merged_alt n q b) xs) new)
-      ∙ append_assoc (calls_of xs) (alt_calls new) (call_end_leaf ∷ [])
-      ∙ ap (λ (z : List WriterCall). z ++ last) (ap calls_of e ∙ calls-append done left)
-      ∙ append_assoc (calls_of done) (calls_of left) last
+  -- ---- behind the loop
 
-  inside-all : (xs : List PlainAlt) → inside_calls xs ≡ calls_of xs ++ closing (has_alt b xs)
-  inside-all xs = inside-parts xs xs [] (sym (append-nil xs))
+  fault : (found : Bool) (s t : State) (f : MergeFault) (m : AltMerged own b s t (Err f)) (w : ℕ) (xs : List PlainAlt) (next : List PlainItem) → AllByRecursion (IsWithin w) (alt_items xs ++ leaf_end_item ∷ []) → Comes s.files s.cursor (alt_items xs ++ leaf_end_item ∷ next)
+      → IsTrue (are_alts_below own.number xs) → Does m.appended w (calls_of xs ++ closing (found || has_alt b xs)) next s t (Some f)
+  fault found s t f m w [] next small comes below = does-fault m.appended m.appended s t f w [] (closing (found || false)) next next (m.end_taken w next small.0 comes).1
+  fault found s t f m w (x ∷ xs) next small comes below =
+      let two = both (is_stamp_below own.number x.stamp) (are_alts_below own.number xs) below in
+      let rest = alt_items xs ++ leaf_end_item ∷ next in
+      does-fault m.appended m.appended s t f w (calls_of (x ∷ [])) (calls_of xs ++ closing (found || has_alt b (x ∷ xs))) rest next (m.alternative w x rest small.0 comes two.0).1
 
-  fault : (w : ℕ) (xs : List PlainAlt) (next : List PlainItem) (e : MergeFault) (s t u : State) (done left : List PlainAlt) → xs ≡ done ++ left → AllByRecursion (IsWithin w) (alt_items left ++ leaf_end_item ∷ [])
-      → IsTrue (are_alts_below n left) → lead t.numbers ≤ lead s.numbers → Does w (calls_of done) (alt_items left ++ leaf_end_item ∷ next) s t None → AtAlt (Err e) t u → AtEnd (Err e) t u → Does w (inside_calls xs) next s u (Some e)
-  fault w xs next e s t u done [] parts within below le does alt end =
-      let did = (end w next within.0 does.follows).1 in
-      subst (λ (cs : List WriterCall). Does w cs next s u (Some e)) (sym (inside-parts xs done [] parts))
-      (does-then s t u (Some e) w (calls_of done) _ (leaf_end_item ∷ next) next le does (does-fault t u e w [] _ next next did))
-  fault w xs next e s t u done (x ∷ left) parts within below le does alt end =
-      let two = both (is_stamp_below n x.stamp) (are_alts_below n left) below in
-      let rest = alt_items left ++ leaf_end_item ∷ next in
-      let did = (alt w x rest within.0 does.follows two.0).1 in
-      subst (λ (cs : List WriterCall). Does w cs next s u (Some e)) (sym (inside-parts xs done (x ∷ left) parts))
-      (does-then s t u (Some e) w (calls_of done) _ (alt_items (x ∷ left) ++ leaf_end_item ∷ next) next le does (does-fault t u e w (calls_of (x ∷ [])) _ rest next did))
-
-  pub midway-fault : (w : ℕ) (xs : List PlainAlt) (next : List PlainItem) (found : Bool) (e : MergeFault) (s t u : State) → lead t.numbers ≤ lead s.numbers → Midway w xs next found s t → AtAlt (Err e) t u → AtEnd (Err e) t u → Does w (inside_calls xs) next s u (Some e)
-  midway-fault w xs next found e s t u le m alt end = fault w xs next e s t u m.done m.left m.parts m.within m.below le m.does alt end
-
-  over : (w : ℕ) (xs : List PlainAlt) (next : List PlainItem) (found : Bool) (s t u : State) (done left : List PlainAlt) → xs ≡ done ++ left → found ≡ has_alt b done → AllByRecursion (IsWithin w) (alt_items left ++ leaf_end_item ∷ [])
-      → IsTrue (are_alts_below n left) → lead t.numbers ≤ lead s.numbers → Does w (calls_of done) (alt_items left ++ leaf_end_item ∷ next) s t None → AtAlt (Ok None) t u → AtEnd (Ok None) t u → Through w xs next found s u
-  over w xs next found s t u done [] parts known within below le does alt end =
-      let did = (end w next within.0 does.follows).1 in
-      let all : xs ≡ done = parts ∙ append-nil done in
-      record {
-        does = subst (λ (ys : List PlainAlt). Does w (calls_of ys) next s u None) (sym all)
-            (subst (λ (cs : List WriterCall). Does w cs next s u None) (append-nil (calls_of done)) (does-then s t u None w (calls_of done) [] (leaf_end_item ∷ next) next le does did));
-        known = known ∙ ap (has_alt b) (sym all);
-      }
-  over w xs next found s t u done (x ∷ left) parts known within below le does alt end =
-      let two = both (is_stamp_below n x.stamp) (are_alts_below n left) below in
-      absurd (no-some (is_eq (key_cmp x.body b)) (sym (alt w x (alt_items left ++ leaf_end_item ∷ next) within.0 does.follows two.0).0))
-
-  pub midway-end : (w : ℕ) (xs : List PlainAlt) (next : List PlainItem) (found : Bool) (s t u : State) → lead t.numbers ≤ lead s.numbers → Midway w xs next found s t → AtAlt (Ok None) t u → AtEnd (Ok None) t u → Through w xs next found s u
-  midway-end w xs next found s t u le m alt end = over w xs next found s t u m.done m.left m.parts m.known m.within m.below le m.does alt end
-
-  -- behind them all the leaf is closed
-  pub through : (w : ℕ) (xs : List PlainAlt) (next : List PlainItem) (found : Bool) (s u v : State) (e : Option MergeFault) → Through w xs next found s u → Sends (closing found) u v e → Does w (inside_calls xs) next s v e
-  through w xs next found s u v e h sent =
-      subst (λ (cs : List WriterCall). Does w cs next s v e) (sym (inside-all xs ∙ ap (λ (t : Bool). calls_of xs ++ closing t) (sym h.known)))
-      (does-sends s u v e w (calls_of xs) (closing found) next h.does sent)
+  -- the next one fails
+  pub alts-failed : {T : Type 0} {found : Bool} {s t u : State} {f : MergeFault} (r : Result T MergeFault) → IsErrAnd r (λ d. d ≡ f) → Merging found s t → AltMerged own b t u (Err f) → AltsMerged own b s u (fault_of r)
+  alts-failed {found = found} {s = s} {t = t} {u = u} {f = f} r is h m = at-err r f is (λ z. AltsMerged own b s u (fault_of z))
+      (h.rest u (Some f) (record { appended = m.appended; passes = m.passes; rests = tt; alternatives = fault found t u f m }))
 
   -- the end of the leaf takes no less than what was read for it
-  pub closing-long : (w : PlainWriter) (found : Bool) → 9 ≤ length (all_appended w (closing found))
+  closing-long : (w : PlainWriter) (found : Bool) → 9 ≤ length (all_appended w (closing found))
   closing-long w true = omega arith
-  closing-long w false = (let e = length-append (rec_bytes (alt_rec (Some ((n, n) ∷ [])) b)) (rec_bytes leaf_end ++ []) in omega (arith, e))
+  closing-long w false = (let e = length-append (rec_bytes (alt_rec (Some ((own.number, own.number) ∷ [])) b)) (rec_bytes leaf_end ++ []) in omega (arith, e))
 
-  rests-behind : (v u : PlainWriter) (found : Bool) → HasLeaf v u → Rests v (after_all u (closing found))
-  rests-behind v u true h = leaf-rests v u h
-  rests-behind v u false h = leaf-rests v (after u (call_alt (Some ((n, n) ∷ [])) b)) (leaf-stays v u (Some ((n, n) ∷ [])) b h)
+  closed-rests : (v u : PlainWriter) (found : Bool) → u.inners ≡ v.inners → Rests v (after_all u (closing found))
+  closed-rests v u true same = leaf-rests v u same
+  closed-rests v u false same = leaf-rests v (after u (call_alt (Some ((own.number, own.number) ∷ [])) b)) same
 
-  pub closing-rests : {T : Type 0} (r : Result T MergeFault) (v : PlainWriter) (u z : State) (found : Bool) → HasLeaf v u.writer → Sends (closing found) u z (fault_of r) → OnOk r (Rests v z.writer)
-  closing-rests (Ok x) v u z found h sent = (let made = sent.made in subst (λ (w : PlainWriter). Rests v w) (sym made.writer) (rests-behind v u.writer found h))
-  closing-rests (Err e) v u z found h sent = tt
+  sent-rests : (v : PlainWriter) (u z : State) (found : Bool) (x : List ℕ) (e : Option MergeFault) → HasLeaf v u.writer → Sends x (closing found) u z e → Unless e (Rests v z.writer)
+  sent-rests v u z found x None h sent = (let made = sent.made in subst (λ (w : PlainWriter). Rests v w) (sym made.writer) (closed-rests v u.writer found h.inners))
+  sent-rests v u z found x (Some f) h sent = tt
 
-pub has-then : (v w u : PlainWriter) → HasLeaf v w → HasLeaf w u → HasLeaf v u
-has-then v w u h g = record { leaf = g.leaf; inners = g.inners ∙ h.inners }
+  closed : (found : Bool) (s t u : State) (e : Option MergeFault) (m : AltMerged own b s t (Ok None)) (x : List ℕ) → Sends x (closing found) t u e → (w : ℕ) (xs : List PlainAlt) (next : List PlainItem) → AllByRecursion (IsWithin w) (alt_items xs ++ leaf_end_item ∷ [])
+      → Comes s.files s.cursor (alt_items xs ++ leaf_end_item ∷ next) → IsTrue (are_alts_below own.number xs) → Does (m.appended ++ x) w (calls_of xs ++ closing (found || has_alt b xs)) next s u e
+  closed found s t u e m x sends w [] next small comes below =
+      subst (λ (z : Bool). Does (m.appended ++ x) w (closing z) next s u e) (or-false found) (does-sends m.appended x s t u e w [] (closing found) next (m.end_taken w next small.0 comes).1 sends)
+  closed found s t u e m x sends w (y ∷ xs) next small comes below =
+      let two = both (is_stamp_below own.number y.stamp) (are_alts_below own.number xs) below in
+      absurd (no-some (is_eq (key_cmp y.body b)) (sym (m.alternative w y (alt_items xs ++ leaf_end_item ∷ next) small.0 comes two.0).0))
 
--- nothing stays unpaid
-pub no-lead : (s t : State) → Passes 0 s t None → lead t.numbers ≤ lead s.numbers
-no-lead s t p = (let a = p.ahead in omega (arith, a))
+  -- the leaf has ended, and is closed
+  pub alts-closed : {found : Bool} {s t u v : State} {r : Option Bool} {e : Option MergeFault} → r ≡ None → Merging found s t → AltMerged own b t u (Ok r) → Sent (closing found) u v e → AltsMerged own b s v e
+  alts-closed {found = found} {s = s} {t = t} {u = u} {v = v} {r = r} {e = e} none h m sent =
+      let end : AltMerged own b t u (Ok None) = subst (λ (z : Option Bool). AltMerged own b t u (Ok z)) none m in
+      h.rest v e (record {
+        appended = end.appended ++ sent.appended;
+        passes = passes-paid end.appended sent.appended 9 t u v (closing found) e (closing-long u.writer found) end.passes sent.sends;
+        rests = sent-rests t.writer u v found sent.appended e end.begun sent.sends;
+        alternatives = closed found t u v e end sent.appended sent.sends;
+      })
+
+-- ---- closing a leaf
+
+module _ (n : ℕ) (b : PlainKey) {found : Bool} where
+  -- one of the alternatives has the body
+  pub closes-found : {s t : State} {e : Option MergeFault} → found ≡ true → Sent (call_end_leaf ∷ []) s t e → Sent (alt_calls (new_alts n b found) ++ call_end_leaf ∷ []) s t e
+  closes-found {s = s} {t = t} {e = e} is h = subst (λ (z : Bool). Sent (alt_calls (new_alts n b z) ++ call_end_leaf ∷ []) s t e) (sym is) h
+
+  -- none has it, and the one that begins is not written
+  pub closes-unsent : {s t : State} {f : MergeFault} {ps : List (ℕ × ℕ)} → found ≡ false → ps ≡ (n, n) ∷ [] → Sent (call_alt (Some ps) b ∷ []) s t (Some f) → Sent (alt_calls (new_alts n b found) ++ call_end_leaf ∷ []) s t (Some f)
+  closes-unsent {s = s} {t = t} {f = f} is new h =
+      subst (λ (z : Bool). Sent (alt_calls (new_alts n b z) ++ call_end_leaf ∷ []) s t (Some f)) (sym is)
+      (sent-fault s t f (call_alt (Some ((n, n) ∷ [])) b ∷ []) (call_end_leaf ∷ []) (subst (λ (z : List (ℕ × ℕ)). Sent (call_alt (Some z) b ∷ []) s t (Some f)) new h))
+
+  -- none has it, and the one that begins is written
+  pub closes-new : {s t u : State} {e : Option MergeFault} {ps : List (ℕ × ℕ)} → found ≡ false → ps ≡ (n, n) ∷ [] → Sent (call_alt (Some ps) b ∷ []) s t None → Sent (call_end_leaf ∷ []) t u e → Sent (alt_calls (new_alts n b found) ++ call_end_leaf ∷ []) s u e
+  closes-new {s = s} {t = t} {u = u} {e = e} is new h g =
+      subst (λ (z : Bool). Sent (alt_calls (new_alts n b z) ++ call_end_leaf ∷ []) s u e) (sym is)
+      (sent-then s t u e (call_alt (Some ((n, n) ∷ [])) b ∷ []) (call_end_leaf ∷ []) (subst (λ (z : List (ℕ × ℕ)). Sent (call_alt (Some z) b ∷ []) s t None) new h) g)
+
+-- ---- a leaf, with what the version has of it
+
+-- a leaf too
+pub leaf-merged : {own : PlainInherited} {kid : Option PlainKeyed} {l : PlainLabel} {b : PlainKey} {s t : State} {e : Option MergeFault} → kid ≡ Some (leaf l b) → AltsMerged own b s t e → LeafMerged own kid s t e
+leaf-merged {own = own} {kid = kid} {l = l} {b = b} {s = s} {t = t} {e = e} is h = record {
+  appended = h.appended;
+  passes = h.passes;
+  rests = h.rests;
+  inside = λ w m st xs next small comes below fit. (
+      subst (λ (o : Option PlainKeyed). Does h.appended w (alt_calls (alts_with own.number own.before xs o) ++ call_end_leaf ∷ []) next s t e) (sym is) (h.alternatives w xs next small comes below));
+}
+
+-- nothing
+pub leaf-copied : {own : PlainInherited} {kid : Option PlainKeyed} {s t : State} {e : Option MergeFault} → kid ≡ None → AltsCopied s t e → LeafMerged own kid s t e
+leaf-copied {own = own} {kid = kid} {s = s} {t = t} {e = e} is h = record {
+  appended = h.appended;
+  passes = h.passes;
+  rests = h.rests;
+  inside = λ w m st xs next small comes below fit. (
+      subst (λ (o : Option PlainKeyed). Does h.appended w (alt_calls (alts_with own.number own.before xs o) ++ call_end_leaf ∷ []) next s t e) (sym is) (h.alternatives w xs next small comes));
+}
+
+-- an inner node
+pub leaf-damaged : {own : PlainInherited} {kid : Option PlainKeyed} {l : PlainLabel} {ks : PlainKids} {s : State} → kid ≡ Some (inner l ks) → IsMeter s.numbers → s.cursor.at ≤ s.cursor.length → LeafMerged own kid s s (Some Damage)
+leaf-damaged {own = own} {kid = kid} {l = l} {ks = ks} {s = s} is meter within = record {
+  appended = [];
+  passes = passes-none s (Some Damage) meter within (λ e. absurd cc);
+  rests = tt;
+  inside = λ w m st xs next small comes below fit. absurd (no-fit m st xs (subst (λ (o : Option PlainKeyed). IsTrue (if_there o (λ c. fits (leaf_node m st xs) c))) is fit));
+}
+  where
+    no-fit : (m : PlainLabel) (st : Stamp) (xs : List PlainAlt) → ¬ IsTrue (fits (leaf_node m st xs) (inner l ks))
+    no-fit m st xs h = absurd cc

@@ -1,50 +1,37 @@
 -- What copying a node goes along.
-use Rattle.std.proofs.Common.{◌≡◌, ◌≢◌, ℕ, ◌+◌, ◌-◌, ◌*◌, ◌≤◌, ◌<◌, List, [], ◌∷◌, ◌++◌, length, Bool, Option, Some, None, Result, Ok, Err, refl, sym, ap, subst, ◌∙◌, append_assoc, arith}
+use Rattle.std.proofs.Common.{◌≡◌, ◌≢◌, ℕ, ◌+◌, ◌-◌, ◌*◌, ◌≤◌, ◌<◌, List, [], ◌∷◌, ◌++◌, length, Option, Some, None, Ok, Err, true, false, refl, sym, ap, subst, ◌∙◌, append_assoc, arith}
 use Rattle.std.specs.List.{AllByRecursion}
-use Rattle.std.specs.Result.{IsErrAnd}
-use Rattle.std.proofs.lemmas.List.{append-nil}
 use Rattle.keyed_tree.specs.Data.{PlainLabel}
-use Rattle.archive_tree.specs.Data.{Stamp, PlainNode, inner_node, leaf_node, PlainNodes}
-use Rattle.xa_outside.specs.Folder.{Files}
-use Rattle.record_format.specs.Data.{inner_rec}
+use Rattle.archive_tree.specs.Data.{Stamp, PlainNode, inner_node, leaf_node}
 use Rattle.record_format.specs.Nodes.{set_in}
 use Rattle.record_format.specs.Spelling.{rec_bytes}
 use Rattle.record_cursor.specs.Items.{PlainItem, inner_item, leaf_item, leaf_end_item, end_item}
-use Rattle.record_cursor.specs.Moves.{Comes, Goes}
+use Rattle.record_cursor.specs.Moves.{Comes}
 use Rattle.record_cursor.specs.Next.{read_for, size_of}
+use Rattle.record_cursor.specs.Places.{Standing}
 use Rattle.record_cursor.specs.View.{PlainCursor, shown_item}
 use Rattle.record_cursor.specs.declared.fault.CursorFault.{CursorFault}
 use Rattle.record_cursor.specs.declared.item.Item.{Item}
-use Rattle.record_cursor.specs.declared.item.Item.TheVariants.{Inner, Leaf, Alt, LeafEnd, End, Finish}
+use Rattle.record_cursor.specs.declared.item.Item.TheVariants as item
 use Rattle.record_parts.specs.declared.views.LabelView.{LabelView}
 use Rattle.record_parts.specs.declared.views.StampView.{StampView}
-use Rattle.record_writer.specs.Data.{PlainWriter, OpenInner, call_inner, call_leaf, call_end_leaf, call_end_inner}
-use Rattle.record_writer.specs.Calls.{appended, after, all_appended}
+use Rattle.record_writer.specs.Data.{PlainWriter, OpenInner, WriterCall, call_end_leaf, call_end_inner}
 use Rattle.record_writer.specs.Walks.{alt_calls, node_calls, row_calls}
-use Rattle.stream_merge.specs.Does.{Sends, Does}
+use Rattle.stream_merge.specs.Copied.{InsideCopied, ChildCopied, AltsCopied}
+use Rattle.stream_merge.specs.Does.{Sends, Sent, Does}
 use Rattle.stream_merge.specs.Items.{alt_items, end_of, node_items, row_items, IsWithin}
-use Rattle.stream_merge.specs.Meets.{HasLeaf}
-use Rattle.stream_merge.specs.Passes.{Passes, Rests, Opens, Closes, fault_of, of_cursor}
+use Rattle.stream_merge.specs.Meets.{call_of, opening_of, Begins}
+use Rattle.stream_merge.specs.Passes.{Passes, Rests, Opens, Closes, Unless, of_cursor, unpaid}
 use Rattle.stream_merge.specs.State.{State}
+use Rattle.stream_merge.specs.declared.begin.Kind.{Kind}
+use Rattle.stream_merge.specs.declared.begin.Kind.TheVariants.{Inner, Leaf}
 use Rattle.stream_merge.specs.declared.fault.MergeFault.{MergeFault}
-use Rattle.stream_merge.specs.declared.fault.MergeFault.TheVariants.{Memory}
-use Rattle.stream_merge.proofs.States.{passes-fault, does-then, does-fault, takes-only, takes-sends, Nexts, Stays, Front, gave-takes, gave-memory, failed-does}
-use Rattle.stream_merge.proofs.Copies.{AltsEnd, no-more}
-use Rattle.stream_merge.proofs.CopiedRows.{InsideDoes, NodeDoes, EndDoes, NodeClause, EndClause}
+use Rattle.stream_merge.specs.declared.fault.MergeFault.TheVariants.{Damage}
+use Rattle.stream_merge.proofs.States.{passes-then, passes-more, does-then, does-fault, takes-only, takes-sends, Takes, Nexts, Stays, Front, gave, gave-stop, gave-takes, gave-sent, failed, failed-does}
+use Rattle.stream_merge.proofs.Besides.{call-bytes, begins}
+use Rattle.stream_merge.proofs.Copies.{no-more, rests-behind}
 
--- ---- what is handed on
-
-pub err-is : {T : Type 0} (r : Result T MergeFault) (f : MergeFault) → IsErrAnd r (λ d. d ≡ f) → r ≡ Err f
-err-is (Ok x) f h = absurd h
-err-is (Err d) f h = ap Err h
-
-pub node-err : (q : List (ℕ × ℕ)) (s u : State) (r : Result Bool MergeFault) (f : MergeFault) → IsErrAnd r (λ d. d ≡ f) → NodeDoes q s u (Some f) → NodeClause q s u r
-node-err q s u r f is h = subst (λ (x : Result Bool MergeFault). NodeClause q s u x) (sym (err-is r f is)) (λ w k next small comes. (tt, h w k next small comes))
-
-pub end-err : (s u : State) (r : Result Bool MergeFault) (f : MergeFault) → IsErrAnd r (λ d. d ≡ f) → EndDoes s u (Some f) → EndClause s u r
-end-err s u r f is h = subst (λ (x : Result Bool MergeFault). EndClause s u x) (sym (err-is r f is)) (λ w n next small comes. (tt, h w n next small comes))
-
--- ---- before anything is written
+-- ---- nothing is written
 
 pub node-front : (q : List (ℕ × ℕ)) (w : ℕ) (k : PlainNode) (next : List PlainItem) → AllByRecursion (IsWithin w) (node_items q k) → Front w (node_items q k ++ next)
 node-front q w (inner_node l s ks) next small = record { item = inner_item l s; behind = (row_items (set_in s q) ks ++ end_of (set_in s q) ks ∷ []) ++ next; stand = refl; small = small.0 }
@@ -53,124 +40,75 @@ node-front q w (leaf_node l s xs) next small = record { item = leaf_item l s; be
 pub end-front : (w n : ℕ) (next : List PlainItem) → IsWithin w (end_item n) → Front w (end_item n ∷ next)
 end-front w n next small = record { item = end_item n; behind = next; stand = refl; small = small }
 
-pub node-failed : (q : List (ℕ × ℕ)) (s t : State) (e : CursorFault) → Stays s t e → NodeDoes q s t (Some (of_cursor e))
-node-failed q s t e h w k next small comes = failed-does w (node_items q k ++ next) s t e (node_calls q k) next h (node-front q w k next small) comes
+pub child-failed : (q : List (ℕ × ℕ)) (s t : State) (e : CursorFault) → s.cursor.at ≤ s.cursor.length → Stays s t e → ChildCopied q s t (Err (of_cursor e))
+child-failed q s t e within stays = record {
+  appended = [];
+  passes = failed 0 s t e within stays;
+  rests = tt;
+  onward = tt;
+  node_copied = λ w k next small comes. (tt, failed-does [] w (node_items q k ++ next) s t e (node_calls q k) next stays (node-front q w k next small) comes);
+  end_taken = λ w n next small comes. (tt, failed-does [] w (end_item n ∷ next) s t e [] next stays (end-front w n next small) comes);
+}
 
-pub end-failed : (s t : State) (e : CursorFault) → Stays s t e → EndDoes s t (Some (of_cursor e))
-end-failed s t e h w n next small comes = failed-does w (end_item n ∷ next) s t e [] next h (end-front w n next small) comes
+-- ---- what a node begins with, and what is behind it
 
-pub node-memory : (q : List (ℕ × ℕ)) (s t : State) (item : Item) → Nexts s t item → NodeDoes q s t (Some Memory)
-node-memory q s t item h w k next small comes = gave-memory w (node_items q k ++ next) s t item (node_calls q k) next h (node-front q w k next small) comes
+abbrev pub opening : Kind → PlainLabel → Stamp → PlainItem
+opening Inner l st = inner_item l st
+opening Leaf l st = leaf_item l st
 
--- ---- an inner node
+abbrev pub first : PlainNode → PlainItem
+first (inner_node l st ks) = inner_item l st
+first (leaf_node l st xs) = leaf_item l st
 
--- the node was begun, where its inner item comes
-begun-inner : (q : List (ℕ × ℕ)) (w : ℕ) (k : PlainNode) (next : List PlainItem) (s t u : State) (item : Item) (l : PlainLabel) (st : Stamp) (e : Option MergeFault) → shown_item item ≡ inner_item l st → Nexts s t item
-    → Sends (call_inner l st (set_in st q) ∷ []) t u e → AllByRecursion (IsWithin w) (node_items q k) → Comes s.files s.cursor (node_items q k ++ next)
-    → (ks : PlainNodes) × (k ≡ inner_node l st ks) × Does w (call_inner l st (set_in st q) ∷ []) (row_items (set_in st q) ks ++ end_of (set_in st q) ks ∷ next) s u e
-begun-inner q w (inner_node m z ks) next s t u item l st e shown read sent small comes =
-    let k = gave-takes w (inner_item m z) ((row_items (set_in z q) ks ++ end_of (set_in z q) ks ∷ []) ++ next) s t item read small.0 comes in
-    let same : inner_item l st ≡ inner_item m z = sym shown ∙ k.given in
+abbrev pub behind : List (ℕ × ℕ) → PlainNode → List PlainItem
+behind q (inner_node l st ks) = row_items (set_in st q) ks ++ end_of (set_in st q) ks ∷ []
+behind q (leaf_node l st xs) = alt_items xs ++ leaf_end_item ∷ []
+
+abbrev inside : List (ℕ × ℕ) → PlainNode → List WriterCall
+inside q (inner_node l st ks) = row_calls (set_in st q) ks ++ call_end_inner ∷ []
+inside q (leaf_node l st xs) = alt_calls xs ++ call_end_leaf ∷ []
+
+pub behind-small : (q : List (ℕ × ℕ)) (w : ℕ) (k : PlainNode) → AllByRecursion (IsWithin w) (node_items q k) → AllByRecursion (IsWithin w) (behind q k)
+behind-small q w (inner_node l st ks) small = small.1
+behind-small q w (leaf_node l st xs) small = small.1
+
+pub node-taken : (q : List (ℕ × ℕ)) (w : ℕ) (k : PlainNode) (next : List PlainItem) (s t : State) (item : Item) → Nexts s t item → AllByRecursion (IsWithin w) (node_items q k) → Comes s.files s.cursor (node_items q k ++ next)
+    → Takes w (first k) (behind q k ++ next) s t (shown_item item)
+node-taken q w (inner_node l st ks) next s t item read small comes = gave-takes w (inner_item l st) (behind q (inner_node l st ks) ++ next) s t item read small.0 comes
+node-taken q w (leaf_node l st xs) next s t item read small comes = gave-takes w (leaf_item l st) (behind q (leaf_node l st xs) ++ next) s t item read small.0 comes
+
+node-called : (kind : Kind) (l : PlainLabel) (st : Stamp) (q : List (ℕ × ℕ)) (k : PlainNode) → opening kind l st ≡ first k → call_of kind l st (set_in st q) ∷ inside q k ≡ node_calls q k
+node-called Inner l st q (inner_node m z ks) same =
     let labels : l ≡ m = cc in
     let stamps : st ≡ z = cc in
-    let does : Does w (call_inner l st (set_in st q) ∷ []) ((row_items (set_in z q) ks ++ end_of (set_in z q) ks ∷ []) ++ next) s u e =
-    takes-sends w (inner_item m z) ((row_items (set_in z q) ks ++ end_of (set_in z q) ks ∷ []) ++ next) s t u (shown_item item) (call_inner l st (set_in st q) ∷ []) e k sent in
-    let rest : (row_items (set_in z q) ks ++ end_of (set_in z q) ks ∷ []) ++ next ≡ row_items (set_in st q) ks ++ end_of (set_in st q) ks ∷ next =
-    append_assoc (row_items (set_in z q) ks) (end_of (set_in z q) ks ∷ []) next ∙ (λ j. row_items (set_in (sym stamps j) q) ks ++ end_of (set_in (sym stamps j) q) ks ∷ next) in
-    (ks, (λ j. inner_node (sym labels j) (sym stamps j) ks), subst (λ (is : List PlainItem). Does w (call_inner l st (set_in st q) ∷ []) is s u e) rest does)
-begun-inner q w (leaf_node m z xs) next s t u item l st e shown read sent small comes =
-    let k = gave-takes w (leaf_item m z) ((alt_items xs ++ leaf_end_item ∷ []) ++ next) s t item read small.0 comes in
-    let same : inner_item l st ≡ leaf_item m z = sym shown ∙ k.given in
-    absurd cc
-
-pub inner-fails : (q : List (ℕ × ℕ)) (s t u : State) (item : Item) (l : PlainLabel) (st : Stamp) (f : MergeFault) → shown_item item ≡ inner_item l st → Nexts s t item → Sends (call_inner l st (set_in st q) ∷ []) t u (Some f) → NodeDoes q s u (Some f)
-inner-fails q s t u item l st f shown read sent w k next small comes =
-    let b = begun-inner q w k next s t u item l st (Some f) shown read sent small comes in
-    let ks = b.0 in
-    subst (λ (j : PlainNode). Does w (node_calls q j) next s u (Some f)) (sym b.1)
-    (does-fault s u f w (call_inner l st (set_in st q) ∷ []) (row_calls (set_in st q) ks ++ call_end_inner ∷ []) (row_items (set_in st q) ks ++ end_of (set_in st q) ks ∷ next) next b.2)
-
-pub inner-does : (q own : List (ℕ × ℕ)) (s t u v : State) (item : Item) (l : PlainLabel) (st : Stamp) (e : Option MergeFault) → own ≡ set_in st q → shown_item item ≡ inner_item l st → Nexts s t item → Sends (call_inner l st (set_in st q) ∷ []) t u None
-    → Passes 0 s u None → InsideDoes own u v e → NodeDoes q s v e
-inner-does q own s t u v item l st e set shown read sent passes inside w k next small comes =
-    let b = begun-inner q w k next s t u item l st None shown read sent small comes in
-    let ks = b.0 in
-    let all : AllByRecursion (IsWithin w) (node_items q (inner_node l st ks)) = subst (λ (j : PlainNode). AllByRecursion (IsWithin w) (node_items q j)) b.1 small in
-    let rest = subst (λ (z : List (ℕ × ℕ)). InsideDoes z u v e) set inside w ks _ next all.1 (let d = b.2 in d.follows) in
-    subst (λ (j : PlainNode). Does w (node_calls q j) next s v e) (sym b.1)
-    (does-then s u v e w (call_inner l st (set_in st q) ∷ []) (row_calls (set_in st q) ks ++ call_end_inner ∷ []) (row_items (set_in st q) ks ++ end_of (set_in st q) ks ∷ next) next (no-more passes) b.2 rest)
-
--- ---- a leaf
-
-begun-leaf : (q : List (ℕ × ℕ)) (w : ℕ) (k : PlainNode) (next : List PlainItem) (s t u : State) (item : Item) (l : PlainLabel) (st : Stamp) (e : Option MergeFault) → shown_item item ≡ leaf_item l st → Nexts s t item
-    → Sends (call_leaf l st (set_in st q) ∷ []) t u e → AllByRecursion (IsWithin w) (node_items q k) → Comes s.files s.cursor (node_items q k ++ next)
-    → (xs : List _) × (k ≡ leaf_node l st xs) × Does w (call_leaf l st (set_in st q) ∷ []) (alt_items xs ++ leaf_end_item ∷ next) s u e
-begun-leaf q w (leaf_node m z xs) next s t u item l st e shown read sent small comes =
-    let k = gave-takes w (leaf_item m z) ((alt_items xs ++ leaf_end_item ∷ []) ++ next) s t item read small.0 comes in
-    let same : leaf_item l st ≡ leaf_item m z = sym shown ∙ k.given in
+    (λ j. call_of Inner (labels j) (stamps j) (set_in (stamps j) q) ∷ inside q (inner_node m z ks))
+node-called Leaf l st q (leaf_node m z xs) same =
     let labels : l ≡ m = cc in
     let stamps : st ≡ z = cc in
-    let does : Does w (call_leaf l st (set_in st q) ∷ []) ((alt_items xs ++ leaf_end_item ∷ []) ++ next) s u e =
-    takes-sends w (leaf_item m z) ((alt_items xs ++ leaf_end_item ∷ []) ++ next) s t u (shown_item item) (call_leaf l st (set_in st q) ∷ []) e k sent in
-    (xs, (λ j. leaf_node (sym labels j) (sym stamps j) xs), subst (λ (is : List PlainItem). Does w (call_leaf l st (set_in st q) ∷ []) is s u e) (append_assoc (alt_items xs) (leaf_end_item ∷ []) next) does)
-begun-leaf q w (inner_node m z ks) next s t u item l st e shown read sent small comes =
-    let k = gave-takes w (inner_item m z) ((row_items (set_in z q) ks ++ end_of (set_in z q) ks ∷ []) ++ next) s t item read small.0 comes in
-    let same : leaf_item l st ≡ inner_item m z = sym shown ∙ k.given in
-    absurd cc
+    (λ j. call_of Leaf (labels j) (stamps j) (set_in (stamps j) q) ∷ inside q (leaf_node m z xs))
+node-called Inner l st q (leaf_node m z xs) same = absurd cc
+node-called Leaf l st q (inner_node m z ks) same = absurd cc
 
-pub leaf-fails : (q : List (ℕ × ℕ)) (s t u : State) (item : Item) (l : PlainLabel) (st : Stamp) (f : MergeFault) → shown_item item ≡ leaf_item l st → Nexts s t item → Sends (call_leaf l st (set_in st q) ∷ []) t u (Some f) → NodeDoes q s u (Some f)
-leaf-fails q s t u item l st f shown read sent w k next small comes =
-    let b = begun-leaf q w k next s t u item l st (Some f) shown read sent small comes in
-    let xs = b.0 in
-    subst (λ (j : PlainNode). Does w (node_calls q j) next s u (Some f)) (sym b.1)
-    (does-fault s u f w (call_leaf l st (set_in st q) ∷ []) (alt_calls xs ++ call_end_leaf ∷ []) (alt_items xs ++ leaf_end_item ∷ next) next b.2)
+pub not-ended : (kind : Kind) (l : PlainLabel) (st : Stamp) (n : ℕ) → opening kind l st ≢ end_item n
+not-ended Inner l st n = λ e. absurd cc
+not-ended Leaf l st n = λ e. absurd cc
 
-pub leaf-does : (q : List (ℕ × ℕ)) (s t u v : State) (item : Item) (l : PlainLabel) (st : Stamp) (e : Option MergeFault) → shown_item item ≡ leaf_item l st → Nexts s t item → Sends (call_leaf l st (set_in st q) ∷ []) t u None → Passes 0 s u None → AltsEnd u v e → NodeDoes q s v e
-leaf-does q s t u v item l st e shown read sent passes inside w k next small comes =
-    let b = begun-leaf q w k next s t u item l st None shown read sent small comes in
-    let xs = b.0 in
-    let all : AllByRecursion (IsWithin w) (node_items q (leaf_node l st xs)) = subst (λ (j : PlainNode). AllByRecursion (IsWithin w) (node_items q j)) b.1 small in
-    let rest = inside w xs next all.1 (let d = b.2 in d.follows) in
-    subst (λ (j : PlainNode). Does w (node_calls q j) next s v e) (sym b.1)
-    (does-then s u v e w (call_leaf l st (set_in st q) ∷ []) (alt_calls xs ++ call_end_leaf ∷ []) (alt_items xs ++ leaf_end_item ∷ next) next (no-more passes) b.2 rest)
+pub not-first : (k : PlainNode) (n : ℕ) → end_item n ≢ first k
+not-first (inner_node l st ks) n = λ e. absurd cc
+not-first (leaf_node l st xs) n = λ e. absurd cc
 
--- ---- what was read for the opening is as long as what is written
+pub opening-read : (kind : Kind) (c : Standing) (l : PlainLabel) (st : Stamp) → read_for c (opening kind l st) ≡ length (rec_bytes (opening_of kind l st))
+opening-read Inner c l st = refl
+opening-read Leaf c l st = refl
 
-pub inner-paid : (s t : State) (i : PlainItem) (l : PlainLabel) (st : Stamp) (q : List (ℕ × ℕ)) → i ≡ inner_item l st → read_for s.cursor.standing i ≤ length (all_appended t.writer (call_inner l st q ∷ []))
-inner-paid s t i l st q e =
-    let read = ap (read_for s.cursor.standing) e in
-    let long : length (all_appended t.writer (call_inner l st q ∷ [])) ≡ length (appended t.writer (call_inner l st q)) = ap length (append-nil (appended t.writer (call_inner l st q))) in
-    omega (arith, read, long)
-
-pub leaf-paid : (s t : State) (i : PlainItem) (l : PlainLabel) (st : Stamp) (q : List (ℕ × ℕ)) → i ≡ leaf_item l st → read_for s.cursor.standing i ≤ length (all_appended t.writer (call_leaf l st q ∷ []))
-leaf-paid s t i l st q e =
-    let read = ap (read_for s.cursor.standing) e in
-    let long : length (all_appended t.writer (call_leaf l st q ∷ [])) ≡ length (appended t.writer (call_leaf l st q)) = ap length (append-nil (appended t.writer (call_leaf l st q))) in
-    omega (arith, read, long)
-
--- what is left gets less behind an opening
-pub inner-smaller : (told : Option Files) (a b : PlainCursor) (item : Item) (l : PlainLabel) (st : Stamp) → shown_item item ≡ inner_item l st → Goes told a item b → 3 * (b.length - b.at) + 2 < 3 * (a.length - a.at)
-inner-smaller told a b item l st e goes =
-    let moved = goes.moved in
-    let within = goes.within in
-    let long = goes.same_length in
-    let size = ap (size_of a.standing) e in
-    let more : 0 < length (rec_bytes (inner_rec l st)) = omega arith in
-    omega (arith, moved, within, long, size, more)
+pub opening-long : (kind : Kind) (c : Standing) (l : PlainLabel) (st : Stamp) → 0 < size_of c (opening kind l st)
+opening-long Inner c l st = omega arith
+opening-long Leaf c l st = omega arith
 
 -- ---- the writer
 
-pub opens-inner : (v w : PlainWriter) (l : PlainLabel) (st : Stamp) (q : List (ℕ × ℕ)) → v.leaf ≡ None → w ≡ after v (call_inner l st q) → Opens v w
-opens-inner v w l st q leaf e = record { no_leaf = ap (λ (x : PlainWriter). x.leaf) e ∙ leaf; opened = _; inners = ap (λ (x : PlainWriter). x.inners) e }
-
-pub opens-leaf : (v w : PlainWriter) (l : PlainLabel) (st : Stamp) (q : List (ℕ × ℕ)) → w ≡ after v (call_leaf l st q) → HasLeaf v w
-opens-leaf v w l st q e = record { leaf = (λ none. (let same = sym (ap (λ (x : PlainWriter). x.leaf) e) ∙ none in absurd cc)); inners = ap (λ (x : PlainWriter). x.inners) e }
-
-some-inner : (i : OpenInner) (is js : List OpenInner) → js ≡ i ∷ is → js ≢ []
-some-inner i is js e none = (let same = sym e ∙ none in absurd cc)
-
 pub opened-some : (v w : PlainWriter) → Opens v w → w.inners ≢ []
-opened-some v w h = some-inner h.opened v.inners w.inners h.inners
+opened-some v w h e = (let d = sym e ∙ h.inners in absurd cc)
 
 tails : (i j : OpenInner) (is js : List OpenInner) → i ∷ is ≡ j ∷ js → js ≡ is
 tails i j is js e = cc
@@ -179,45 +117,205 @@ tails i j is js e = cc
 pub opened-closed : (v w x : PlainWriter) → Opens v w → Closes w x → Rests v x
 opened-closed v w x h g = record { no_leaf = g.no_leaf; inners = tails h.opened g.closed v.inners x.inners (sym h.inners ∙ g.inners) }
 
-pub leaf-closed : (v w x : PlainWriter) → HasLeaf v w → Rests w x → Rests v x
-leaf-closed v w x h g = record { no_leaf = g.no_leaf; inners = g.inners ∙ h.inners }
+pub unless-closed : (v w x : PlainWriter) (e : Option MergeFault) → Opens v w → Unless e (Closes w x) → Unless e (Rests v x)
+unless-closed v w x None h g = opened-closed v w x h g
+unless-closed v w x (Some f) h g = tt
 
--- ---- other items
+-- ---- what is copied behind an opening
 
-pub given-node : (q : List (ℕ × ℕ)) (s t : State) (item : Item) (r : Result Bool MergeFault) (u : State) → ((l : PlainLabel) (st : Stamp) → shown_item item ≢ inner_item l st) → ((l : PlainLabel) (st : Stamp) → shown_item item ≢ leaf_item l st) → Nexts s t item → NodeClause q s u r
-given-node q s t item r u no-inner no-leaf read w (inner_node l z ks) next small comes = (let k = gave-takes w (inner_item l z) ((row_items (set_in z q) ks ++ end_of (set_in z q) ks ∷ []) ++ next) s t item read small.0 comes in absurd (no-inner l z k.given))
-given-node q s t item r u no-inner no-leaf read w (leaf_node l z xs) next small comes = (let k = gave-takes w (leaf_item l z) ((alt_items xs ++ leaf_end_item ∷ []) ++ next) s t item read small.0 comes in absurd (no-leaf l z k.given))
+pub record Part (kind : Kind) (q : List (ℕ × ℕ)) (l : PlainLabel) (st : Stamp) (s t : State) (ended : Option MergeFault) : Type 0 where
+  pub appended : List ℕ
+  pub passes : Passes appended 0 s t ended
+  pub rests : (v : PlainWriter) → Begins kind v s.writer → Unless ended (Rests v t.writer)
+  pub copied : (w : ℕ) (k : PlainNode) (next : List PlainItem) → opening kind l st ≡ first k → AllByRecursion (IsWithin w) (behind q k) → Comes s.files s.cursor (behind q k ++ next) → Does appended w (inside q k) next s t ended
 
-pub given-end : (s t : State) (item : Item) → Nexts s t item → EndDoes s t None
-given-end s t item read w n next small comes = takes-only w (end_item n) next s t (shown_item item) (gave-takes w (end_item n) next s t item read small comes)
+pub inside-part : (q own : List (ℕ × ℕ)) (l : PlainLabel) (st : Stamp) (s t : State) (e : Option MergeFault) → own ≡ set_in st q → InsideCopied own s t e → Part Inner q l st s t e
+inside-part q own l st s t e set h = record {
+  appended = h.appended;
+  passes = h.passes;
+  rests = λ v opens. unless-closed v s.writer t.writer e opens h.closed;
+  copied = kids;
+}
+  where
+    kids : (w : ℕ) (k : PlainNode) (next : List PlainItem) → inner_item l st ≡ first k → AllByRecursion (IsWithin w) (behind q k) → Comes s.files s.cursor (behind q k ++ next) → Does h.appended w (inside q k) next s t e
+    kids w (inner_node m z ks) next same =
+        let stamps : st ≡ z = cc in
+        let is : own ≡ set_in z q = set ∙ ap (λ (x : Stamp). set_in x q) stamps in
+        subst (λ (p : List (ℕ × ℕ)). AllByRecursion (IsWithin w) (row_items p ks ++ end_of p ks ∷ []) → Comes s.files s.cursor ((row_items p ks ++ end_of p ks ∷ []) ++ next) → Does h.appended w (row_calls p ks ++ call_end_inner ∷ []) next s t e) is
+        (λ small comes. h.inside w ks _ next small (subst (λ (xs : List PlainItem). Comes s.files s.cursor xs) (append_assoc (row_items own ks) (end_of own ks ∷ []) next) comes))
+    kids w (leaf_node m z xs) next same = absurd cc
 
-pub passes-err : {T : Type 0} (s u : State) (r : Result T MergeFault) (f : MergeFault) (m : ℕ) → IsErrAnd r (λ d. d ≡ f) → Passes 0 s u (Some f) → Passes m s u (fault_of r)
-passes-err s u r f m is h = subst (λ (x : Result _ MergeFault). Passes m s u (fault_of x)) (sym (err-is r f is)) (passes-fault s u f 0 m h)
+pub alts-part : (q : List (ℕ × ℕ)) (l : PlainLabel) (st : Stamp) (s t : State) (e : Option MergeFault) → AltsCopied s t e → Part Leaf q l st s t e
+alts-part q l st s t e h = record {
+  appended = h.appended;
+  passes = h.passes;
+  rests = λ v begun. rests-behind v s.writer t.writer e begun.inners h.rests;
+  copied = alternatives;
+}
+  where
+    alternatives : (w : ℕ) (k : PlainNode) (next : List PlainItem) → leaf_item l st ≡ first k → AllByRecursion (IsWithin w) (behind q k) → Comes s.files s.cursor (behind q k ++ next) → Does h.appended w (inside q k) next s t e
+    alternatives w (leaf_node m z xs) next same small comes = h.alternatives w xs next small (subst (λ (is : List PlainItem). Comes s.files s.cursor is) (append_assoc (alt_items xs) (leaf_end_item ∷ []) next) comes)
+    alternatives w (inner_node m z ks) next same small comes = absurd cc
+
+-- ---- a node is begun, and what is behind its opening copied
+
+-- an item that opens a node was given
+pub record Opener (kind : Kind) (s t : State) : Type 0 where
+  pub item : Item
+  pub label : PlainLabel
+  pub stamp : Stamp
+  pub shown : shown_item item ≡ opening kind label stamp
+  pub read : Nexts s t item
+
+-- what is left gets less behind it
+pub opening-smaller : (kind : Kind) (s t : State) (o : Opener kind s t) → 3 * (t.cursor.length - t.cursor.at) + 2 < 3 * (s.cursor.length - s.cursor.at)
+opening-smaller kind s t o =
+    let read = o.read in
+    let goes = read.goes in
+    let moved = goes.moved in
+    let within = goes.within in
+    let long = goes.same_length in
+    let size = ap (size_of s.cursor.standing) o.shown in
+    let more = opening-long kind s.cursor.standing o.label o.stamp in
+    omega (arith, moved, within, long, size, more)
+
+module _ (kind : Kind) (q : List (ℕ × ℕ)) (s t u : State) (o : Opener kind s t) where
+  abbrev call : WriterCall
+  call = call_of kind o.label o.stamp (set_in o.stamp q)
+
+  begun-passes : (x : List ℕ) (e : Option MergeFault) → Sends x (call ∷ []) t u e → Passes x 0 s u e
+  begun-passes x e sends =
+      let few = ap (read_for s.cursor.standing) o.shown in
+      let size = opening-read kind s.cursor.standing o.label o.stamp in
+      let long = ap length (call-bytes t.writer kind o.label o.stamp (set_in o.stamp q)) in
+      gave-sent x s t u o.item (call ∷ []) e (omega (arith, few, size, long)) o.read sends
+
+  begun-does : (x : List ℕ) (e : Option MergeFault) → Sends x (call ∷ []) t u e → (w : ℕ) (k : PlainNode) (next : List PlainItem) → AllByRecursion (IsWithin w) (node_items q k) → Comes s.files s.cursor (node_items q k ++ next)
+      → (opening kind o.label o.stamp ≡ first k) × Does x w (call ∷ []) (behind q k ++ next) s u e
+  begun-does x e sends w k next small comes =
+      let taken = node-taken q w k next s t o.item o.read small comes in
+      (sym o.shown ∙ taken.given, takes-sends x w (first k) (behind q k ++ next) s t u (shown_item o.item) (call ∷ []) e taken sends)
+
+  no-end : (w n : ℕ) (next : List PlainItem) → IsWithin w (end_item n) → Comes s.files s.cursor (end_item n ∷ next) → ⊥
+  no-end w n next small comes =
+      let taken = gave-takes w (end_item n) next s t o.item o.read small comes in
+      not-ended kind o.label o.stamp n (sym o.shown ∙ taken.given)
+
+  pub begun-writer : s.writer.leaf ≡ None → Sent (call ∷ []) t u None → Begins kind s.writer u.writer
+  begun-writer none sent =
+      let sends = sent.sends in
+      let made = sends.made in
+      let read = o.read in
+      let rests : Rests s.writer t.writer = record { no_leaf = ap (λ (w : PlainWriter). w.leaf) read.writer ∙ none; inners = ap (λ (w : PlainWriter). w.inners) read.writer } in
+      subst (λ (w : PlainWriter). Begins kind s.writer w) (sym made.writer) (begins kind s.writer t.writer o.label o.stamp (set_in o.stamp q) rests)
+
+  pub child-fails : (f : MergeFault) → Sent (call ∷ []) t u (Some f) → ChildCopied q s u (Err f)
+  child-fails f sent = record {
+    appended = sent.appended;
+    passes = begun-passes sent.appended (Some f) sent.sends;
+    rests = tt;
+    onward = tt;
+    node_copied = λ w k next small comes. (
+        let b = begun-does sent.appended (Some f) sent.sends w k next small comes in
+        (tt, subst (λ (cs : List WriterCall). Does sent.appended w cs next s u (Some f)) (node-called kind o.label o.stamp q k b.0) (does-fault sent.appended sent.appended s u f w (call ∷ []) (inside q k) (behind q k ++ next) next b.1)));
+    end_taken = λ w n next small comes. absurd (no-end w n next small comes);
+  }
+
+  module _ (v : State) (sent : Sent (call ∷ []) t u None) where
+    part-passes : (e : Option MergeFault) (h : Part kind q o.label o.stamp u v e) → Passes (sent.appended ++ h.appended) 0 s v e
+    part-passes e h = passes-then sent.appended h.appended s u v e 0 0 0 (omega arith) (begun-passes sent.appended None sent.sends) h.passes
+
+    part-does : (e : Option MergeFault) (h : Part kind q o.label o.stamp u v e) (w : ℕ) (k : PlainNode) (next : List PlainItem) → AllByRecursion (IsWithin w) (node_items q k) → Comes s.files s.cursor (node_items q k ++ next)
+        → Does (sent.appended ++ h.appended) w (node_calls q k) next s v e
+    part-does e h w k next small comes =
+        let b = begun-does sent.appended None sent.sends w k next small comes in
+        let d = b.1 in
+        subst (λ (cs : List WriterCall). Does (sent.appended ++ h.appended) w cs next s v e) (node-called kind o.label o.stamp q k b.0)
+        (does-then sent.appended h.appended s u v e w (call ∷ []) (inside q k) (behind q k ++ next) next (no-more (begun-passes sent.appended None sent.sends)) d (h.copied w k next b.0 (behind-small q w k small) d.follows))
+
+    pub child-part-fails : (f : MergeFault) → Part kind q o.label o.stamp u v (Some f) → ChildCopied q s v (Err f)
+    child-part-fails f h = record {
+      appended = sent.appended ++ h.appended;
+      passes = part-passes (Some f) h;
+      rests = tt;
+      onward = tt;
+      node_copied = λ w k next small comes. (tt, part-does (Some f) h w k next small comes);
+      end_taken = λ w n next small comes. absurd (no-end w n next small comes);
+    }
+
+    pub child-copied : s.writer.leaf ≡ None → Part kind q o.label o.stamp u v None → ChildCopied q s v (Ok true)
+    child-copied none h = record {
+      appended = sent.appended ++ h.appended;
+      passes = part-passes None h;
+      rests = h.rests s.writer (begun-writer none sent);
+      onward = (
+          let read = o.read in
+          let goes = read.goes in
+          let moved = goes.moved in
+          let size = ap (size_of s.cursor.standing) o.shown in
+          let more = opening-long kind s.cursor.standing o.label o.stamp in
+          let sends = sent.sends in
+          let stands = ap (λ (c : PlainCursor). c.at) sends.same_cursor in
+          let passes = h.passes in
+          let on = passes.onward in
+          omega (arith, moved, size, more, stands, on));
+      node_copied = λ w k next small comes. (refl, part-does None h w k next small comes);
+      end_taken = λ w n next small comes. absurd (no-end w n next small comes);
+    }
+
+-- ---- another item
+
+pub child-ended : (q : List (ℕ × ℕ)) (s t : State) (item : Item) (n : ℕ) → s.writer.leaf ≡ None → shown_item item ≡ end_item n → Nexts s t item → ChildCopied q s t (Ok false)
+child-ended q s t item n none shown read =
+    let few = ap (read_for s.cursor.standing) shown in
+    let size = ap (size_of s.cursor.standing) shown in
+    let goes = read.goes in
+    let moved = goes.moved in
+    record {
+      appended = [];
+      passes = passes-more [] s t None (read_for s.cursor.standing (shown_item item)) unpaid (omega (arith, few)) (gave s t item read);
+      rests = record { no_leaf = ap (λ (w : PlainWriter). w.leaf) read.writer ∙ none; inners = ap (λ (w : PlainWriter). w.inners) read.writer };
+      onward = omega (arith, moved, size);
+      node_copied = λ w k next small comes. (let taken = node-taken q w k next s t item read small comes in absurd (not-first k n (sym shown ∙ taken.given)));
+      end_taken = λ w m next small comes. (refl, takes-only w (end_item m) next s t (shown_item item) (gave-takes w (end_item m) next s t item read small comes));
+    }
 
 -- an item that opens no node, and no END
-pub not-inner : (item : Item) → ((l : LabelView) (s : StampView) → item ≢ Inner l s) → (l : PlainLabel) (st : Stamp) → shown_item item ≢ inner_item l st
-not-inner (Inner l s) h m st = absurd (h l s refl)
-not-inner (Leaf l s) h m st = λ e. absurd cc
-not-inner (Alt s b) h m st = λ e. absurd cc
-not-inner LeafEnd h m st = λ e. absurd cc
-not-inner (End n) h m st = λ e. absurd cc
-not-inner Finish h m st = λ e. absurd cc
+pub not-inner : (i : Item) → ((l : LabelView) (s : StampView) → i ≢ item.Inner l s) → (l : PlainLabel) (st : Stamp) → shown_item i ≢ inner_item l st
+not-inner (item.Inner l s) h m st = absurd (h l s refl)
+not-inner (item.Leaf l s) h m st = λ e. absurd cc
+not-inner (item.Alt s b) h m st = λ e. absurd cc
+not-inner item.LeafEnd h m st = λ e. absurd cc
+not-inner (item.End n) h m st = λ e. absurd cc
+not-inner item.Finish h m st = λ e. absurd cc
 
-pub not-leaf : (item : Item) → ((l : LabelView) (s : StampView) → item ≢ Leaf l s) → (l : PlainLabel) (st : Stamp) → shown_item item ≢ leaf_item l st
-not-leaf (Leaf l s) h m st = absurd (h l s refl)
-not-leaf (Inner l s) h m st = λ e. absurd cc
-not-leaf (Alt s b) h m st = λ e. absurd cc
-not-leaf LeafEnd h m st = λ e. absurd cc
-not-leaf (End n) h m st = λ e. absurd cc
-not-leaf Finish h m st = λ e. absurd cc
+pub not-leaf : (i : Item) → ((l : LabelView) (s : StampView) → i ≢ item.Leaf l s) → (l : PlainLabel) (st : Stamp) → shown_item i ≢ leaf_item l st
+not-leaf (item.Leaf l s) h m st = absurd (h l s refl)
+not-leaf (item.Inner l s) h m st = λ e. absurd cc
+not-leaf (item.Alt s b) h m st = λ e. absurd cc
+not-leaf item.LeafEnd h m st = λ e. absurd cc
+not-leaf (item.End n) h m st = λ e. absurd cc
+not-leaf item.Finish h m st = λ e. absurd cc
 
-pub not-closing : (item : Item) → ((n : ℕ) → item ≢ End n) → (n : ℕ) → shown_item item ≢ end_item n
-not-closing (End n) h m = absurd (h n refl)
-not-closing (Inner l s) h m = λ e. absurd cc
-not-closing (Leaf l s) h m = λ e. absurd cc
-not-closing (Alt s b) h m = λ e. absurd cc
-not-closing LeafEnd h m = λ e. absurd cc
-not-closing Finish h m = λ e. absurd cc
+pub not-closing : (i : Item) → ((n : ℕ) → i ≢ item.End n) → (n : ℕ) → shown_item i ≢ end_item n
+not-closing (item.End n) h m = absurd (h n refl)
+not-closing (item.Inner l s) h m = λ e. absurd cc
+not-closing (item.Leaf l s) h m = λ e. absurd cc
+not-closing (item.Alt s b) h m = λ e. absurd cc
+not-closing item.LeafEnd h m = λ e. absurd cc
+not-closing item.Finish h m = λ e. absurd cc
 
-pub given-no-end : (s t : State) (item : Item) (r : Result Bool MergeFault) (u : State) → ((n : ℕ) → shown_item item ≢ end_item n) → Nexts s t item → EndClause s u r
-given-no-end s t item r u no-end read w n next small comes = (let k = gave-takes w (end_item n) next s t item read small comes in absurd (no-end n k.given))
+pub child-damage : (q : List (ℕ × ℕ)) (s t : State) (i : Item) → ((l : LabelView) (z : StampView) → i ≢ item.Inner l z) → ((l : LabelView) (z : StampView) → i ≢ item.Leaf l z) → ((n : ℕ) → i ≢ item.End n) → Nexts s t i
+    → ChildCopied q s t (Err Damage)
+child-damage q s t i no-inner no-leaf no-end read = record {
+  appended = [];
+  passes = gave-stop 0 s t i Damage (λ e. absurd cc) read;
+  rests = tt;
+  onward = tt;
+  node_copied = λ w k next small comes. (let taken = node-taken q w k next s t i read small comes in absurd (no-first k taken.given));
+  end_taken = λ w n next small comes. (let taken = gave-takes w (end_item n) next s t i read small comes in absurd (not-closing i no-end n taken.given));
+}
+  where
+    no-first : (k : PlainNode) → shown_item i ≢ first k
+    no-first (inner_node l z ks) = not-inner i no-inner l z
+    no-first (leaf_node l z xs) = not-leaf i no-leaf l z

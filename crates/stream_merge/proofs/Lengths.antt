@@ -1,4 +1,4 @@
--- No record becomes shorter where a version is added to its stamp, or the inherited set is stored.
+-- No stamp becomes shorter where a version is added to it, and no record where its stamp does not.
 use Rattle.std.proofs.Common.{◌≡◌, ℕ, ◌+◌, ◌*◌, ◌≤◌, ◌==◌, Bool, true, false, cond, List, [], ◌∷◌, ◌++◌, length, Some, None, refl, sym, subst, ◌∙◌, arith}
 use Rattle.std.specs.Bool.{⊤}
 use Rattle.std.specs.List.{flat_map}
@@ -14,8 +14,8 @@ use Rattle.archive_tree.specs.Data.{Stamp}
 use Rattle.record_parts.specs.Spelling.{label_bytes, value_bytes, stamp_bytes}
 use Rattle.record_format.specs.Data.{alt_rec}
 use Rattle.record_format.specs.Spelling.{framed, rec_bytes}
-use Rattle.nested_merge.specs.Merged.{grown, kept}
-use Rattle.stream_merge.specs.Meets.{turned, opening_of}
+use Rattle.nested_merge.specs.Merged.{grown}
+use Rattle.stream_merge.specs.Meets.{opening_of}
 use Rattle.stream_merge.specs.declared.begin.Kind.{Kind}
 use Rattle.stream_merge.specs.declared.begin.Kind.TheVariants.{Inner, Leaf}
 
@@ -73,14 +73,6 @@ IsStored (Some s) = IsCanonical s
 pub grown_more : (n : ℕ) (s : Stamp) → IsStored s → length (stamp_bytes s) ≤ length (stamp_bytes (grown n s))
 grown_more n None c = omega arith
 grown_more n (Some s) c = (let e = set_size s in let f = set_size (with_last s n) in let le = with_last_more s n c in omega (arith, e, f, le))
-
-pub kept_more : (q : List (ℕ × ℕ)) (s : Stamp) → length (stamp_bytes s) ≤ length (stamp_bytes (kept q s))
-kept_more q None = omega arith
-kept_more q (Some s) = omega arith
-
-pub turned_more : (n : ℕ) (q : List (ℕ × ℕ)) (has : Bool) (s : Stamp) → IsStored s → length (stamp_bytes s) ≤ length (stamp_bytes (turned n q has s))
-turned_more n q true s c = grown_more n s c
-turned_more n q false s c = kept_more q s
 
 -- ---- records
 

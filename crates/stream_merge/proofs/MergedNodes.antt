@@ -1,9 +1,8 @@
 -- What merging a node goes along.
-use Rattle.std.proofs.Common.{◌≡◌, ◌≢◌, ℕ, ◌+◌, ◌-◌, ◌≤◌, true, false, true≢false, List, [], ◌∷◌, ◌++◌, length, map, take, drop, Option, Some, None, IfSome, Result, Ok, IsTrue, refl, sym, ap, subst, ◌∙◌, append_assoc, arith}
+use Rattle.std.proofs.Common.{◌≡◌, ◌≢◌, ℕ, ◌+◌, ◌-◌, ◌*◌, ◌≤◌, ◌<◌, true≢false, List, [], ◌∷◌, ◌++◌, length, map, take, drop, Option, Some, None, IfSome, Ok, Err, IsTrue, refl, sym, ap, subst, ◌∙◌, append_assoc, arith}
 use Rattle.std.specs.List.{AllByRecursion}
 use Rattle.std.proofs.lemmas.List.{take_all, length-drop, drop-map}
 use Rattle.std.specs.Option.{unwrap_or}
-use Rattle.std.specs.Result.{IsErrAnd}
 use Rattle.keyed_tree.specs.Data.{PlainKey, PlainLabel, PlainKeyed, inner, leaf, kids_from}
 use Rattle.keyed_tree.specs.Kids.{kid_at, are_ordered, IsOrdered}
 use Rattle.keyed_tree.proofs.Kids.{both, kids_list-kids_from}
@@ -13,285 +12,409 @@ use Rattle.nested_merge.specs.Fits.{if_there, fits, all_fit}
 use Rattle.nested_merge.specs.Merged.{fresh, fresh_row, above, merged_row}
 use Rattle.record_format.specs.Nodes.{set_in}
 use Rattle.record_format.specs.Shapes.{IsShapedNode, AreShapedNodes}
-use Rattle.record_format.specs.Spelling.{rec_bytes}
-use Rattle.record_cursor.specs.Items.{PlainItem, inner_item, leaf_item, leaf_end_item, end_item}
-use Rattle.record_cursor.specs.Moves.{Comes}
-use Rattle.record_cursor.specs.Next.{read_for}
-use Rattle.record_cursor.specs.View.{shown_item}
+use Rattle.record_cursor.specs.Items.{PlainItem, leaf_end_item, end_item}
+use Rattle.record_cursor.specs.Moves.{Comes, Goes}
+use Rattle.record_cursor.specs.Next.{read_for, size_of}
+use Rattle.record_cursor.specs.View.{PlainCursor, shown_item}
 use Rattle.record_cursor.specs.declared.fault.CursorFault.{CursorFault}
 use Rattle.record_cursor.specs.declared.item.Item.{Item}
-use Rattle.record_writer.specs.Data.{WriterCall, call_end_leaf, call_end_inner}
+use Rattle.record_cursor.specs.declared.item.Item.TheVariants as item
+use Rattle.record_parts.specs.declared.views.LabelView.{LabelView}
+use Rattle.record_parts.specs.declared.views.StampView.{StampView}
+use Rattle.record_writer.specs.Data.{PlainWriter, WriterCall, call_end_leaf, call_end_inner}
 use Rattle.record_writer.specs.Walks.{alt_calls, row_calls}
-use Rattle.stream_merge.specs.Does.{Sends, Does}
+use Rattle.xa_outside.specs.Folder.{Files}
+use Rattle.xa_outside.specs.Numbers.{IsMeter}
+use Rattle.stream_merge.specs.Beside.{BeganBeside, IsBegun}
+use Rattle.stream_merge.specs.Copied.{InsideCopied}
+use Rattle.stream_merge.specs.Does.{Sends, Sent, Does}
 use Rattle.stream_merge.specs.Items.{alt_items, end_of, node_items, row_items, IsWithin}
-use Rattle.stream_merge.specs.Meets.{opening_of, met, rest_of, Leaves, kids_with, alts_with, inherited_beside, calls_beside}
-use Rattle.stream_merge.specs.Passes.{Passes, Unless, of_cursor, unpaid}
-use Rattle.stream_merge.specs.State.{State, lead}
+use Rattle.stream_merge.specs.LeafMerged.{LeafMerged}
+use Rattle.stream_merge.specs.Meets.{met, rest_of, Leaves, kids_with, alts_with, inherited_beside, calls_beside, Begins}
+use Rattle.stream_merge.specs.Passes.{Passes, Rests, Unless, of_cursor, unpaid}
+use Rattle.stream_merge.specs.RowMerged.{RowMerged, ChildMerged, InsideMerged, IsOpen, BegunMerged}
+use Rattle.stream_merge.specs.State.{State}
 use Rattle.stream_merge.specs.View.{PlainInherited}
-use Rattle.stream_merge.specs.declared.begin.Kind.TheVariants as kind
+use Rattle.stream_merge.specs.declared.begin.Kind.{Kind}
+use Rattle.stream_merge.specs.declared.begin.Kind.TheVariants.{Inner, Leaf}
 use Rattle.stream_merge.specs.declared.fault.MergeFault.{MergeFault}
-use Rattle.stream_merge.proofs.States.{passes-then, passes-fault, gave, does-then, does-sends, does-fault, takes-sends, Nexts, Stays, gave-takes, failed-does}
-use Rattle.stream_merge.proofs.Copies.{no-more}
-use Rattle.stream_merge.proofs.CopiedRows.{InsideDoes}
-use Rattle.stream_merge.proofs.ChildCopies.{err-is, node-front, end-front}
-use Rattle.stream_merge.proofs.MergedRows.{RowMerges, MeetsNode, MeetsEnd}
+use Rattle.stream_merge.specs.declared.fault.MergeFault.TheVariants.{Damage}
+use Rattle.stream_merge.proofs.States.{passes-then, passes-none, passes-fault, passes-paid, gave, gave-stop, failed, does-then, does-sends, does-fault, takes-sends, Nexts, Stays, gave-takes, failed-does}
+use Rattle.stream_merge.proofs.Copies.{no-more, rests-behind}
+use Rattle.stream_merge.proofs.CopiedRows.{end-long, closes}
+use Rattle.stream_merge.proofs.ChildCopies.{node-front, end-front, opening, first, behind, behind-small, node-taken, not-ended, not-first, opening-read, opening-long, unless-closed, opened-some, not-inner, not-leaf, not-closing}
+use Rattle.stream_merge.proofs.Puts.{row-sent}
 use Rattle.stream_merge.proofs.Weaving.{inner_met, leaf_met, own_alone, kid_known}
-
--- the node is merged with the kids of the version, where it comes
-abbrev pub NodeMerges : PlainInherited → List PlainKeyed → State → State → Option MergeFault → Type 0
-NodeMerges h cs s u e =
-    (w : ℕ) (k : PlainNode) (next : List PlainItem) → AllByRecursion (IsWithin w) (node_items h.before k) → Comes s.files s.cursor (node_items h.before k ++ next) → IsTrue (is_node_below h.number k)
-    → IsTrue (if_there (kid_at (node_label k) cs) (λ c. fits k c)) → Does w (row_calls h.now (met h.number h.before k cs)) next s u e
-
--- the kids that are left are written, where an END comes
-abbrev pub EndMerges : PlainInherited → List PlainKeyed → State → State → Option MergeFault → Type 0
-EndMerges h cs s u e = (w : ℕ) (m : ℕ) (next : List PlainItem) → IsWithin w (end_item m) → Comes s.files s.cursor (end_item m ∷ next) → Does w (row_calls h.now (rest_of h.number h.before cs)) next s u e
-
--- the inside of an inner node is merged with its tree in the version, and the node is closed
-abbrev pub InsideMerges : PlainInherited → Option PlainKeyed → State → State → Option MergeFault → Type 0
-InsideMerges own o s u e =
-    (w : ℕ) (l : PlainLabel) (st : Stamp) (ks : PlainNodes) (m : ℕ) (next : List PlainItem) → AllByRecursion (IsWithin w) (row_items own.before ks ++ end_item m ∷ []) → Comes s.files s.cursor (row_items own.before ks ++ end_item m ∷ next)
-    → IsTrue (are_nodes_below own.number ks) → IsTrue (if_there o (λ c. fits (inner_node l st ks) c)) → Does w (row_calls own.now (kids_with own.number own.before ks o) ++ call_end_inner ∷ []) next s u e
-
--- and the alternatives of a leaf
-abbrev pub AltsMerge : PlainInherited → Option PlainKeyed → State → State → Option MergeFault → Type 0
-AltsMerge own o s u e =
-    (w : ℕ) (l : PlainLabel) (st : Stamp) (xs : List PlainAlt) (next : List PlainItem) → AllByRecursion (IsWithin w) (alt_items xs ++ leaf_end_item ∷ []) → Comes s.files s.cursor (alt_items xs ++ leaf_end_item ∷ next)
-    → IsTrue (are_alts_below own.number xs) → IsTrue (if_there o (λ c. fits (leaf_node l st xs) c)) → Does w (alt_calls (alts_with own.number own.before xs o) ++ call_end_leaf ∷ []) next s u e
-
--- ---- what is handed on
-
-pub meets-err : (h : PlainInherited) (cs : List PlainKeyed) (s u : State) (r : Result (Option ℕ) MergeFault) (f : MergeFault) → IsErrAnd r (λ d. d ≡ f) → NodeMerges h cs s u (Some f) → MeetsNode h cs s u r
-meets-err h cs s u r f is n = subst (λ (x : Result (Option ℕ) MergeFault). MeetsNode h cs s u x) (sym (err-is r f is)) (λ w k next small comes below fit. (tt, n w k next small comes below fit))
-
-pub ends-err : (h : PlainInherited) (cs : List PlainKeyed) (s u : State) (r : Result (Option ℕ) MergeFault) (f : MergeFault) → IsErrAnd r (λ d. d ≡ f) → EndMerges h cs s u (Some f) → MeetsEnd h cs s u r
-ends-err h cs s u r f is n = subst (λ (x : Result (Option ℕ) MergeFault). MeetsEnd h cs s u x) (sym (err-is r f is)) (λ w m next small comes. (tt, n w m next small comes))
 
 -- ---- before anything is written
 
-pub meets-failed : (h : PlainInherited) (cs : List PlainKeyed) (s t : State) (e : CursorFault) → Stays s t e → NodeMerges h cs s t (Some (of_cursor e))
-meets-failed h cs s t e stays w k next small comes below fit = failed-does w (node_items h.before k ++ next) s t e (row_calls h.now (met h.number h.before k cs)) next stays (node-front h.before w k next small) comes
+pub child-failed : (h : PlainInherited) (cs : List PlainKeyed) (s t : State) (e : CursorFault) → s.cursor.at ≤ s.cursor.length → Stays s t e → ChildMerged h cs s t (Err (of_cursor e))
+child-failed h cs s t e within stays = record {
+  appended = [];
+  passes = failed 0 s t e within stays;
+  rests = tt;
+  onward = tt;
+  within = tt;
+  node_merged = λ w k next small comes below fit. (tt, failed-does [] w (node_items h.before k ++ next) s t e (row_calls h.now (met h.number h.before k cs)) next stays (node-front h.before w k next small) comes);
+  end_taken = λ w m next small comes. (tt, failed-does [] w (end_item m ∷ next) s t e (row_calls h.now (rest_of h.number h.before cs)) next stays (end-front w m next small) comes);
+}
 
-pub ends-failed : (h : PlainInherited) (cs : List PlainKeyed) (s t : State) (e : CursorFault) → Stays s t e → EndMerges h cs s t (Some (of_cursor e))
-ends-failed h cs s t e stays w m next small comes = failed-does w (end_item m ∷ next) s t e (row_calls h.now (rest_of h.number h.before cs)) next stays (end-front w m next small) comes
+-- neither a node nor an END was given
+pub child-damage : (h : PlainInherited) (cs : List PlainKeyed) (s t : State) (i : Item) → ((l : LabelView) (z : StampView) → i ≢ item.Inner l z) → ((l : LabelView) (z : StampView) → i ≢ item.Leaf l z) → ((n : ℕ) → i ≢ item.End n) → Nexts s t i
+    → ChildMerged h cs s t (Err Damage)
+child-damage h cs s t i no-inner no-leaf no-end read = record {
+  appended = [];
+  passes = gave-stop 0 s t i Damage (λ e. absurd cc) read;
+  rests = tt;
+  onward = tt;
+  within = tt;
+  node_merged = λ w k next small comes below fit. (let taken = node-taken h.before w k next s t i read small comes in absurd (no-first k taken.given));
+  end_taken = λ w m next small comes. (let taken = gave-takes w (end_item m) next s t i read small comes in absurd (not-closing i no-end m taken.given));
+}
+  where
+    no-first : (k : PlainNode) → shown_item i ≢ first k
+    no-first (inner_node l z ks) = not-inner i no-inner l z
+    no-first (leaf_node l z xs) = not-leaf i no-leaf l z
 
--- ---- other items
+gave-fails : (x : List ℕ) (s t u : State) (item : Item) (f : MergeFault) → Nexts s t item → Passes x 0 t u (Some f) → Passes x 0 s u (Some f)
+gave-fails x s t u item f read h = (let n = read_for s.cursor.standing (shown_item item) in passes-fault x s u f n 0 (passes-then [] x s t u (Some f) n 0 n (omega arith) (gave s t item read) h))
 
-pub meets-no-node : (h : PlainInherited) (cs : List PlainKeyed) (s t : State) (item : Item) (r : Result (Option ℕ) MergeFault) (u : State) → ((l : PlainLabel) (st : Stamp) → shown_item item ≢ inner_item l st)
-    → ((l : PlainLabel) (st : Stamp) → shown_item item ≢ leaf_item l st) → Nexts s t item → MeetsNode h cs s u r
-meets-no-node h cs s t item r u no-inner no-leaf read w (inner_node l z ks) next small comes below fit =
-    (let k = gave-takes w (inner_item l z) ((row_items (set_in z h.before) ks ++ end_of (set_in z h.before) ks ∷ []) ++ next) s t item read small.0 comes in absurd (no-inner l z k.given))
-meets-no-node h cs s t item r u no-inner no-leaf read w (leaf_node l z xs) next small comes below fit =
-    (let k = gave-takes w (leaf_item l z) ((alt_items xs ++ leaf_end_item ∷ []) ++ next) s t item read small.0 comes in absurd (no-leaf l z k.given))
+-- ---- an END
 
-pub meets-no-end : (h : PlainInherited) (cs : List PlainKeyed) (s t : State) (item : Item) (r : Result (Option ℕ) MergeFault) (u : State) → ((n : ℕ) → shown_item item ≢ end_item n) → Nexts s t item → MeetsEnd h cs s u r
-meets-no-end h cs s t item r u no-end read w n next small comes = (let k = gave-takes w (end_item n) next s t item read small comes in absurd (no-end n k.given))
+module _ (h : PlainInherited) (cs : List PlainKeyed) (s t u : State) (item : Item) (n : ℕ) (read : Nexts s t item) (shown : shown_item item ≡ end_item n) where
+  abbrev rest : List WriterCall
+  rest = row_calls h.now (rest_of h.number h.before cs)
 
--- an END was given, and the kids that are left were written
-pub ends-sent : (h : PlainInherited) (cs : List PlainKeyed) (s t u : State) (item : Item) (e : Option MergeFault) → Nexts s t item → Sends (row_calls h.now (rest_of h.number h.before cs)) t u e → EndMerges h cs s u e
-ends-sent h cs s t u item e read sent w m next small comes = takes-sends w (end_item m) next s t u (shown_item item) (row_calls h.now (rest_of h.number h.before cs)) e (gave-takes w (end_item m) next s t item read small comes) sent
+  no-node : (w : ℕ) (k : PlainNode) (next : List PlainItem) → AllByRecursion (IsWithin w) (node_items h.before k) → Comes s.files s.cursor (node_items h.before k ++ next) → ⊥
+  no-node w k next small comes = (let taken = node-taken h.before w k next s t item read small comes in not-first k n (sym shown ∙ taken.given))
 
--- ---- an inner node
+  end-sent : (e : Option MergeFault) (sent : Sent rest t u e) (w m : ℕ) (next : List PlainItem) → IsWithin w (end_item m) → Comes s.files s.cursor (end_item m ∷ next) → Does sent.appended w rest next s u e
+  end-sent e sent w m next small comes = takes-sends sent.appended w (end_item m) next s t u (shown_item item) rest e (gave-takes w (end_item m) next s t item read small comes) sent.sends
+
+  -- the kids that are left could not be written
+  pub child-unended : (f : MergeFault) → Sent rest t u (Some f) → ChildMerged h cs s u (Err f)
+  child-unended f sent = record {
+    appended = sent.appended;
+    passes = (let sends = sent.sends in gave-fails sent.appended s t u item f read sends.passes);
+    rests = tt;
+    onward = tt;
+    within = tt;
+    node_merged = λ w k next small comes below fit. absurd (no-node w k next small comes);
+    end_taken = λ w m next small comes. (tt, end-sent (Some f) sent w m next small comes);
+  }
+
+  -- the kids that are left were written
+  pub child-ended : s.writer.leaf ≡ None → Sent rest t u None → ChildMerged h cs s u (Ok None)
+  child-ended none sent =
+      let size = ap (read_for s.cursor.standing) shown in
+      let long = ap (size_of s.cursor.standing) shown in
+      let goes = read.goes in
+      let moved = goes.moved in
+      let sends = sent.sends in
+      let at = ap (λ (c : PlainCursor). c.at) sends.same_cursor in
+      record {
+        appended = sent.appended;
+        passes = passes-then [] sent.appended s t u None (read_for s.cursor.standing (shown_item item)) 0 unpaid (omega (arith, size)) (gave s t item read) sends.passes;
+        rests = subst (λ (x : PlainWriter). Rests x u.writer) read.writer (row-sent t u h.now (rest_of h.number h.before cs) (ap (λ (x : PlainWriter). x.leaf) read.writer ∙ none) sent);
+        onward = omega (arith, moved, long, at);
+        within = tt;
+        node_merged = λ w k next small comes below fit. absurd (no-node w k next small comes);
+        end_taken = λ w m next small comes. (refl, end-sent None sent w m next small comes);
+      }
+
+-- ---- nodes
 
 set-is : (st : Stamp) (q : List (ℕ × ℕ)) → set_in st q ≡ unwrap_or st q
 set-is None q = refl
 set-is (Some s) q = refl
 
-pub is-inner : (q : List (ℕ × ℕ)) (w : ℕ) (k : PlainNode) (next : List PlainItem) (s t : State) (item : Item) (l : PlainLabel) (st : Stamp) → shown_item item ≡ inner_item l st → Nexts s t item → AllByRecursion (IsWithin w) (node_items q k)
-    → Comes s.files s.cursor (node_items q k ++ next) → (ks : PlainNodes) × (k ≡ inner_node l st ks)
-is-inner q w (inner_node m z ks) next s t item l st shown read small comes =
-    let k = gave-takes w (inner_item m z) ((row_items (set_in z q) ks ++ end_of (set_in z q) ks ∷ []) ++ next) s t item read small.0 comes in
-    let same : inner_item l st ≡ inner_item m z = sym shown ∙ k.given in
-    let labels : m ≡ l = cc in
-    let stamps : z ≡ st = cc in
-    (ks, (λ j. inner_node (labels j) (stamps j) ks))
-is-inner q w (leaf_node m z xs) next s t item l st shown read small comes =
-    let k = gave-takes w (leaf_item m z) ((alt_items xs ++ leaf_end_item ∷ []) ++ next) s t item read small.0 comes in
-    let same : inner_item l st ≡ leaf_item m z = sym shown ∙ k.given in
-    absurd cc
+-- the calls are made for what is inside, where it comes, which appends these bytes
+abbrev IsInside : Kind → List ℕ → PlainInherited → Option PlainKeyed → State → State → Option MergeFault → Type 0
+IsInside Inner x own o s t e =
+    (w : ℕ) (l : PlainLabel) (st : Stamp) (ks : PlainNodes) (m : ℕ) (next : List PlainItem) → AllByRecursion (IsWithin w) (row_items own.before ks ++ end_item m ∷ []) → Comes s.files s.cursor (row_items own.before ks ++ end_item m ∷ next)
+    → IsTrue (are_nodes_below own.number ks) → IsTrue (if_there o (λ c. fits (inner_node l st ks) c)) → Does x w (row_calls own.now (kids_with own.number own.before ks o) ++ call_end_inner ∷ []) next s t e
+IsInside Leaf x own o s t e =
+    (w : ℕ) (l : PlainLabel) (st : Stamp) (xs : List PlainAlt) (next : List PlainItem) → AllByRecursion (IsWithin w) (alt_items xs ++ leaf_end_item ∷ []) → Comes s.files s.cursor (alt_items xs ++ leaf_end_item ∷ next)
+    → IsTrue (are_alts_below own.number xs) → IsTrue (if_there o (λ c. fits (leaf_node l st xs) c)) → Does x w (alt_calls (alts_with own.number own.before xs o) ++ call_end_leaf ∷ []) next s t e
 
-pub is-leaf : (q : List (ℕ × ℕ)) (w : ℕ) (k : PlainNode) (next : List PlainItem) (s t : State) (item : Item) (l : PlainLabel) (st : Stamp) → shown_item item ≡ leaf_item l st → Nexts s t item → AllByRecursion (IsWithin w) (node_items q k)
-    → Comes s.files s.cursor (node_items q k ++ next) → (xs : List PlainAlt) × (k ≡ leaf_node l st xs)
-is-leaf q w (leaf_node m z xs) next s t item l st shown read small comes =
-    let k = gave-takes w (leaf_item m z) ((alt_items xs ++ leaf_end_item ∷ []) ++ next) s t item read small.0 comes in
-    let same : leaf_item l st ≡ leaf_item m z = sym shown ∙ k.given in
-    let labels : m ≡ l = cc in
-    let stamps : z ≡ st = cc in
-    (xs, (λ j. leaf_node (labels j) (stamps j) xs))
-is-leaf q w (inner_node m z ks) next s t item l st shown read small comes =
-    let k = gave-takes w (inner_item m z) ((row_items (set_in z q) ks ++ end_of (set_in z q) ks ∷ []) ++ next) s t item read small.0 comes in
-    let same : leaf_item l st ≡ inner_item m z = sym shown ∙ k.given in
-    absurd cc
+module _ (h : PlainInherited) (cs : List PlainKeyed) (l : PlainLabel) (st : Stamp) where
+  abbrev own : PlainInherited
+  own = inherited_beside h l st cs
 
-module _ (h : PlainInherited) (cs : List PlainKeyed) (s t u : State) (item : Item) (l : PlainLabel) (st : Stamp) (read : Nexts s t item) where
-  -- an inner node was begun beside the kids
-  inner-first : (w : ℕ) (ks : PlainNodes) (next : List PlainItem) (e : Option MergeFault) → (IsTrue (is_stamp_below h.number st) → Sends (calls_beside kind.Inner h l st cs) t u e) → AllByRecursion (IsWithin w) (node_items h.before (inner_node l st ks))
-      → Comes s.files s.cursor (node_items h.before (inner_node l st ks) ++ next) → IsTrue (is_node_below h.number (inner_node l st ks))
-      → Does w (calls_beside kind.Inner h l st cs) (row_items (unwrap_or st h.before) ks ++ end_of (set_in st h.before) ks ∷ next) s u e
-  inner-first w ks next e sends small comes below =
-      let X = (row_items (set_in st h.before) ks ++ end_of (set_in st h.before) ks ∷ []) ++ next in
-      let two = both (is_stamp_below h.number st) (are_nodes_below h.number ks) below in
-      let rest : X ≡ row_items (unwrap_or st h.before) ks ++ end_of (set_in st h.before) ks ∷ next =
-      append_assoc (row_items (set_in st h.before) ks) (end_of (set_in st h.before) ks ∷ []) next ∙ ap (λ (q : List (ℕ × ℕ)). row_items q ks ++ end_of (set_in st h.before) ks ∷ next) (set-is st h.before) in
-      subst (λ (is : List PlainItem). Does w (calls_beside kind.Inner h l st cs) is s u e) rest
-      (takes-sends w (inner_item l st) X s t u (shown_item item) (calls_beside kind.Inner h l st cs) e (gave-takes w (inner_item l st) X s t item read small.0 comes) (sends two.0))
+  abbrev its_kid : Option PlainKeyed
+  its_kid = kid_at l cs
 
-  pub inner-met-fails : (f : MergeFault) → shown_item item ≡ inner_item l st → (IsTrue (is_stamp_below h.number st) → Sends (calls_beside kind.Inner h l st cs) t u (Some f)) → NodeMerges h cs s u (Some f)
-  inner-met-fails f shown sends w k next small comes below fit =
-      let i = is-inner h.before w k next s t item l st shown read small comes in
-      let ks = i.0 in
-      let fit' = subst (λ (j : PlainNode). IsTrue (if_there (kid_at (node_label j) cs) (λ c. fits j c))) i.1 fit in
-      let own = inherited_beside h l st cs in
-      let first = inner-first w ks next (Some f) sends (subst (λ (j : PlainNode). AllByRecursion (IsWithin w) (node_items h.before j)) i.1 small) (subst (λ (j : PlainNode). Comes s.files s.cursor (node_items h.before j ++ next)) i.1 comes)
-      (subst (λ (j : PlainNode). IsTrue (is_node_below h.number j)) i.1 below) in
-      subst (λ (j : PlainNode). Does w (row_calls h.now (met h.number h.before j cs)) next s u (Some f)) (sym i.1)
-      (subst (λ (z : List WriterCall). Does w z next s u (Some f)) (sym (inner_met h l st cs ks fit'))
-      (does-fault s u f w (calls_beside kind.Inner h l st cs) (row_calls own.now (kids_with h.number own.before ks (kid_at l cs)) ++ call_end_inner ∷ []) (row_items (unwrap_or st h.before) ks ++ end_of (set_in st h.before) ks ∷ next) next first))
+  -- the calls for what is inside a node that was begun
+  abbrev inside : PlainNode → List WriterCall
+  inside (inner_node m z ks) = row_calls own.now (kids_with h.number own.before ks its_kid) ++ call_end_inner ∷ []
+  inside (leaf_node m z xs) = alt_calls (alts_with h.number own.before xs its_kid) ++ call_end_leaf ∷ []
 
-  pub inner-met : (v : State) (own : PlainInherited) (o : Option PlainKeyed) (e : Option MergeFault) → own ≡ inherited_beside h l st cs → o ≡ kid_at l cs → shown_item item ≡ inner_item l st
-      → (IsTrue (is_stamp_below h.number st) → Sends (calls_beside kind.Inner h l st cs) t u None) → Passes 0 s u None → InsideMerges own o u v e → NodeMerges h cs s v e
-  inner-met v own o e owns kid shown sends passes inside w k next small comes below fit =
-      let i = is-inner h.before w k next s t item l st shown read small comes in
-      let ks = i.0 in
-      let ib = inherited_beside h l st cs in
-      let fit' = subst (λ (j : PlainNode). IsTrue (if_there (kid_at (node_label j) cs) (λ c. fits j c))) i.1 fit in
-      let all = subst (λ (j : PlainNode). AllByRecursion (IsWithin w) (node_items h.before j)) i.1 small in
-      let low = subst (λ (j : PlainNode). IsTrue (is_node_below h.number j)) i.1 below in
-      let first = inner-first w ks next None sends all (subst (λ (j : PlainNode). Comes s.files s.cursor (node_items h.before j ++ next)) i.1 comes) low in
-      let within' : InsideMerges ib (kid_at l cs) u v e = subst (λ (z : PlainInherited). InsideMerges z (kid_at l cs) u v e) owns (subst (λ (z : Option PlainKeyed). InsideMerges own z u v e) kid inside) in
-      let rest = within' w l st ks _ next (subst (λ (q : List (ℕ × ℕ)). AllByRecursion (IsWithin w) (row_items q ks ++ end_of (set_in st h.before) ks ∷ [])) (set-is st h.before) all.1) first.follows (both (is_stamp_below h.number st) (are_nodes_below h.number ks) low).1 fit' in
-      subst (λ (j : PlainNode). Does w (row_calls h.now (met h.number h.before j cs)) next s v e) (sym i.1)
-      (subst (λ (z : List WriterCall). Does w z next s v e) (sym (inner_met h l st cs ks fit'))
-      (does-then s u v e w (calls_beside kind.Inner h l st cs) (row_calls ib.now (kids_with h.number ib.before ks (kid_at l cs)) ++ call_end_inner ∷ []) (row_items (unwrap_or st h.before) ks ++ end_of (set_in st h.before) ks ∷ next) next (no-more passes) first rest))
+  -- it fits the kid with its label, where there is one
+  abbrev HasPlace : PlainNode → Type 0
+  HasPlace k = IsTrue (if_there (kid_at (node_label k) cs) (λ c. fits k c))
 
-  -- a leaf was begun beside the kids
-  leaf-first : (w : ℕ) (xs : List PlainAlt) (next : List PlainItem) (e : Option MergeFault) → (IsTrue (is_stamp_below h.number st) → Sends (calls_beside kind.Leaf h l st cs) t u e) → AllByRecursion (IsWithin w) (node_items h.before (leaf_node l st xs))
-      → Comes s.files s.cursor (node_items h.before (leaf_node l st xs) ++ next) → IsTrue (is_node_below h.number (leaf_node l st xs)) → Does w (calls_beside kind.Leaf h l st cs) (alt_items xs ++ leaf_end_item ∷ next) s u e
-  leaf-first w xs next e sends small comes below =
-      let X = (alt_items xs ++ leaf_end_item ∷ []) ++ next in
-      let two = both (is_stamp_below h.number st) (are_alts_below h.number xs) below in
-      subst (λ (is : List PlainItem). Does w (calls_beside kind.Leaf h l st cs) is s u e) (append_assoc (alt_items xs) (leaf_end_item ∷ []) next)
-      (takes-sends w (leaf_item l st) X s t u (shown_item item) (calls_beside kind.Leaf h l st cs) e (gave-takes w (leaf_item l st) X s t item read small.0 comes) (sends two.0))
+  same-label : (kind : Kind) (k : PlainNode) → opening kind l st ≡ first k → node_label k ≡ l
+  same-label Inner (inner_node m z ks) same = cc
+  same-label Inner (leaf_node m z xs) same = absurd cc
+  same-label Leaf (inner_node m z ks) same = absurd cc
+  same-label Leaf (leaf_node m z xs) same = cc
 
-  pub leaf-met-fails : (f : MergeFault) → shown_item item ≡ leaf_item l st → (IsTrue (is_stamp_below h.number st) → Sends (calls_beside kind.Leaf h l st cs) t u (Some f)) → NodeMerges h cs s u (Some f)
-  leaf-met-fails f shown sends w k next small comes below fit =
-      let i = is-leaf h.before w k next s t item l st shown read small comes in
-      let xs = i.0 in
-      let fit' = subst (λ (j : PlainNode). IsTrue (if_there (kid_at (node_label j) cs) (λ c. fits j c))) i.1 fit in
-      let own = inherited_beside h l st cs in
-      let first = leaf-first w xs next (Some f) sends (subst (λ (j : PlainNode). AllByRecursion (IsWithin w) (node_items h.before j)) i.1 small) (subst (λ (j : PlainNode). Comes s.files s.cursor (node_items h.before j ++ next)) i.1 comes)
-      (subst (λ (j : PlainNode). IsTrue (is_node_below h.number j)) i.1 below) in
-      subst (λ (j : PlainNode). Does w (row_calls h.now (met h.number h.before j cs)) next s u (Some f)) (sym i.1)
-      (subst (λ (z : List WriterCall). Does w z next s u (Some f)) (sym (leaf_met h l st cs xs fit'))
-      (does-fault s u f w (calls_beside kind.Leaf h l st cs) (alt_calls (alts_with h.number own.before xs (kid_at l cs)) ++ call_end_leaf ∷ []) (alt_items xs ++ leaf_end_item ∷ next) next first))
+  stamp-below : (kind : Kind) (k : PlainNode) → opening kind l st ≡ first k → IsTrue (is_node_below h.number k) → IsTrue (is_stamp_below h.number st)
+  stamp-below Inner (inner_node m z ks) same below = (let stamps : z ≡ st = cc in subst (λ (x : Stamp). IsTrue (is_stamp_below h.number x)) stamps (both (is_stamp_below h.number z) (are_nodes_below h.number ks) below).0)
+  stamp-below Inner (leaf_node m z xs) same below = absurd cc
+  stamp-below Leaf (inner_node m z ks) same below = absurd cc
+  stamp-below Leaf (leaf_node m z xs) same below = (let stamps : z ≡ st = cc in subst (λ (x : Stamp). IsTrue (is_stamp_below h.number x)) stamps (both (is_stamp_below h.number z) (are_alts_below h.number xs) below).0)
 
-  pub leaf-met : (v : State) (own : PlainInherited) (o : Option PlainKeyed) (e : Option MergeFault) → own ≡ inherited_beside h l st cs → o ≡ kid_at l cs → shown_item item ≡ leaf_item l st
-      → (IsTrue (is_stamp_below h.number st) → Sends (calls_beside kind.Leaf h l st cs) t u None) → Passes 0 s u None → AltsMerge own o u v e → NodeMerges h cs s v e
-  leaf-met v own o e owns kid shown sends passes inside w k next small comes below fit =
-      let i = is-leaf h.before w k next s t item l st shown read small comes in
-      let xs = i.0 in
-      let ib = inherited_beside h l st cs in
-      let fit' = subst (λ (j : PlainNode). IsTrue (if_there (kid_at (node_label j) cs) (λ c. fits j c))) i.1 fit in
-      let all = subst (λ (j : PlainNode). AllByRecursion (IsWithin w) (node_items h.before j)) i.1 small in
-      let low = subst (λ (j : PlainNode). IsTrue (is_node_below h.number j)) i.1 below in
-      let first = leaf-first w xs next None sends all (subst (λ (j : PlainNode). Comes s.files s.cursor (node_items h.before j ++ next)) i.1 comes) low in
-      let within' : AltsMerge ib (kid_at l cs) u v e = subst (λ (z : PlainInherited). AltsMerge z (kid_at l cs) u v e) owns (subst (λ (z : Option PlainKeyed). AltsMerge own z u v e) kid inside) in
-      let rest = within' w l st xs next all.1 first.follows (both (is_stamp_below h.number st) (are_alts_below h.number xs) low).1 fit' in
-      subst (λ (j : PlainNode). Does w (row_calls h.now (met h.number h.before j cs)) next s v e) (sym i.1)
-      (subst (λ (z : List WriterCall). Does w z next s v e) (sym (leaf_met h l st cs xs fit'))
-      (does-then s u v e w (calls_beside kind.Leaf h l st cs) (alt_calls (alts_with h.number ib.before xs (kid_at l cs)) ++ call_end_leaf ∷ []) (alt_items xs ++ leaf_end_item ∷ next) next (no-more passes) first rest))
+  -- all calls for a node that was opened so
+  node-called : (kind : Kind) (k : PlainNode) → opening kind l st ≡ first k → HasPlace k → row_calls h.now (met h.number h.before k cs) ≡ calls_beside kind h l st cs ++ inside k
+  node-called Inner (inner_node m z ks) same =
+      let labels : l ≡ m = cc in
+      let stamps : st ≡ z = cc in
+      subst (λ (j : PlainNode). HasPlace j → row_calls h.now (met h.number h.before j cs) ≡ calls_beside Inner h l st cs ++ inside j) (λ i. inner_node (labels i) (stamps i) ks) (inner_met h l st cs ks)
+  node-called Inner (leaf_node m z xs) same = absurd cc
+  node-called Leaf (inner_node m z ks) same = absurd cc
+  node-called Leaf (leaf_node m z xs) same =
+      let labels : l ≡ m = cc in
+      let stamps : st ≡ z = cc in
+      subst (λ (j : PlainNode). HasPlace j → row_calls h.now (met h.number h.before j cs) ≡ calls_beside Leaf h l st cs ++ inside j) (λ i. leaf_node (labels i) (stamps i) xs) (leaf_met h l st cs xs)
 
-  -- the kids that are left behind the node
-  pub inner-meets : (v : State) (taken : ℕ) → shown_item item ≡ inner_item l st → Leaves cs (above l cs) taken → NodeMerges h cs s v None → MeetsNode h cs s v (Ok (Some taken))
-  inner-meets v taken shown left node_ w k next small comes below fit =
-      let i = is-inner h.before w k next s t item l st shown read small comes in
-      (subst (λ (j : PlainNode). Leaves cs (above (node_label j) cs) taken) (sym i.1) left, node_ w k next small comes below fit)
+  -- ---- what is merged behind an opening
 
-  pub leaf-meets : (v : State) (taken : ℕ) → shown_item item ≡ leaf_item l st → Leaves cs (above l cs) taken → NodeMerges h cs s v None → MeetsNode h cs s v (Ok (Some taken))
-  leaf-meets v taken shown left node_ w k next small comes below fit =
-      let i = is-leaf h.before w k next s t item l st shown read small comes in
-      (subst (λ (j : PlainNode). Leaves cs (above (node_label j) cs) taken) (sym i.1) left, node_ w k next small comes below fit)
+  -- what is done inside a node that is opened so, where it comes
+  abbrev IsDone : Kind → List ℕ → State → State → Option MergeFault → Type 0
+  IsDone kind x s t e =
+      (w : ℕ) (k : PlainNode) (next : List PlainItem) → opening kind l st ≡ first k → AllByRecursion (IsWithin w) (behind h.before k) → Comes s.files s.cursor (behind h.before k ++ next) → IsTrue (is_node_below h.number k) → HasPlace k
+      → Does x w (inside k) next s t e
+
+  record Part (kind : Kind) (s t : State) (e : Option MergeFault) : Type 0 where
+    appended : List ℕ
+    passes : Passes appended 0 s t e
+    rests : (v : PlainWriter) → Begins kind v s.writer → Unless e (Rests v t.writer)
+    done : IsDone kind appended s t e
+
+  module _ (o : Option PlainKeyed) (taken : ℕ) (inherits : PlainInherited) (begun : IsBegun h l st cs o taken inherits) (s t : State) (e : Option MergeFault) where
+    inside-part : InsideMerged inherits o s t e → Part Inner s t e
+    inside-part merged = record { appended = merged.appended; passes = merged.passes; rests = λ v opens. unless-closed v s.writer t.writer e opens merged.closed; done = done }
+      where
+        here : IsInside Inner merged.appended own its_kid s t e
+        here = subst (λ (z : PlainInherited). IsInside Inner merged.appended z its_kid s t e) begun.inherits (subst (λ (z : Option PlainKeyed). IsInside Inner merged.appended inherits z s t e) begun.same_kid merged.inside)
+
+        done : IsDone Inner merged.appended s t e
+        done w (inner_node m z ks) next same =
+            let labels : l ≡ m = cc in
+            let stamps : st ≡ z = cc in
+            let set = set_in st h.before in
+            subst (λ (j : PlainNode). AllByRecursion (IsWithin w) (behind h.before j) → Comes s.files s.cursor (behind h.before j ++ next) → IsTrue (is_node_below h.number j) → HasPlace j → Does merged.appended w (inside j) next s t e) (λ i. inner_node (labels i) (stamps i) ks)
+            (λ small comes below fit. here w l st ks _ next (subst (λ (q : List (ℕ × ℕ)). AllByRecursion (IsWithin w) (row_items q ks ++ end_of set ks ∷ [])) (set-is st h.before) small)
+            (subst (λ (is : List PlainItem). Comes s.files s.cursor is) (append_assoc (row_items set ks) (end_of set ks ∷ []) next ∙ ap (λ (q : List (ℕ × ℕ)). row_items q ks ++ end_of set ks ∷ next) (set-is st h.before)) comes)
+            (both (is_stamp_below h.number st) (are_nodes_below h.number ks) below).1 fit)
+        done w (leaf_node m z xs) next same = absurd cc
+
+    leaf-part : LeafMerged inherits o s t e → Part Leaf s t e
+    leaf-part merged = record { appended = merged.appended; passes = merged.passes; rests = λ v begins. rests-behind v s.writer t.writer e begins.inners merged.rests; done = done }
+      where
+        here : IsInside Leaf merged.appended own its_kid s t e
+        here = subst (λ (z : PlainInherited). IsInside Leaf merged.appended z its_kid s t e) begun.inherits (subst (λ (z : Option PlainKeyed). IsInside Leaf merged.appended inherits z s t e) begun.same_kid merged.inside)
+
+        done : IsDone Leaf merged.appended s t e
+        done w (leaf_node m z xs) next same small comes below fit =
+            let labels : m ≡ l = cc in
+            here w m z xs next small (subst (λ (is : List PlainItem). Comes s.files s.cursor is) (append_assoc (alt_items xs) (leaf_end_item ∷ []) next) comes) (both (is_stamp_below h.number z) (are_alts_below h.number xs) below).1
+            (subst (λ (j : PlainLabel). IsTrue (if_there (kid_at j cs) (λ c. fits (leaf_node m z xs) c))) labels fit)
+        done w (inner_node m z ks) next same small comes below fit = absurd cc
+
+    part : (kind : Kind) → BegunMerged kind inherits o s t e → Part kind s t e
+    part Inner merged = inside-part merged
+    part Leaf merged = leaf-part merged
+
+  -- ---- a node is begun, and what is behind its opening merged
+
+  module _ (kind : Kind) (s t u : State) (item : Item) (read : Nexts s t item) (shown : shown_item item ≡ opening kind l st) where
+    -- it was begun beside the kids
+    begun-does : (x : List ℕ) (w : ℕ) (k : PlainNode) (next : List PlainItem) (e : Option MergeFault) → (IsTrue (is_stamp_below h.number st) → Sends x (calls_beside kind h l st cs) t u e) → AllByRecursion (IsWithin w) (node_items h.before k)
+        → Comes s.files s.cursor (node_items h.before k ++ next) → IsTrue (is_node_below h.number k) → (opening kind l st ≡ first k) × Does x w (calls_beside kind h l st cs) (behind h.before k ++ next) s u e
+    begun-does x w k next e sends small comes below =
+        let taken = node-taken h.before w k next s t item read small comes in
+        let same = sym shown ∙ taken.given in
+        (same, takes-sends x w (first k) (behind h.before k ++ next) s t u (shown_item item) (calls_beside kind h l st cs) e taken (sends (stamp-below kind k same below)))
+
+    no-end : (w m : ℕ) (next : List PlainItem) → IsWithin w (end_item m) → Comes s.files s.cursor (end_item m ∷ next) → ⊥
+    no-end w m next small comes = (let taken = gave-takes w (end_item m) next s t item read small comes in not-ended kind l st m (sym shown ∙ taken.given))
+
+    -- it was not begun
+    pub child-unbegun : {B : Type 0} (f : MergeFault) → BeganBeside {T = B} kind h l st cs t u (Err f) → ChildMerged h cs s u (Err f)
+    child-unbegun f began = record {
+      appended = began.appended;
+      passes = gave-fails began.appended s t u item f read began.passes;
+      rests = tt;
+      onward = tt;
+      within = tt;
+      node_merged = λ w k next small comes below fit. (
+        tt,
+        let b = begun-does began.appended w k next (Some f) began.sends small comes below in
+            subst (λ (z : List WriterCall). Does began.appended w z next s u (Some f)) (sym (node-called kind k b.0 fit))
+            (does-fault began.appended began.appended s u f w (calls_beside kind h l st cs) (inside k) (behind h.before k ++ next) next b.1),
+      );
+      end_taken = λ w m next small comes. absurd (no-end w m next small comes);
+    }
+
+    module _ {B : Type 0} (b : B) (v : State) (began : BeganBeside kind h l st cs t u (Ok b)) (o : Option PlainKeyed) (taken : ℕ) (inherits : PlainInherited) (begun : IsBegun h l st cs o taken inherits) where
+      -- what was read for the item is written again
+      begun-passes : Passes began.appended 0 s u None
+      begun-passes =
+          let few = ap (read_for s.cursor.standing) shown in
+          let size = opening-read kind s.cursor.standing l st in
+          let n = read_for s.cursor.standing (shown_item item) in
+          let after : Passes began.appended n s u None = passes-then [] began.appended s t u None n 0 n (omega arith) (gave s t item read) began.passes in
+          record {
+            same_files = after.same_files;
+            lengthens = after.lengthens;
+            later = after.later;
+            cause = after.cause;
+            same_name = after.same_name;
+            same_length = after.same_length;
+            onward = after.onward;
+            within = after.within;
+            pulls = after.pulls;
+            ahead = (let read = gave s t item read in let ahead = read.ahead in let less = began.paid in omega (arith, few, size, ahead, less));
+          }
+
+      part-passes : (e : Option MergeFault) (part : Part kind u v e) → Passes (began.appended ++ part.appended) 0 s v e
+      part-passes e part = passes-then began.appended part.appended s u v e 0 0 0 (omega arith) begun-passes part.passes
+
+      part-does : (e : Option MergeFault) (part : Part kind u v e) (w : ℕ) (k : PlainNode) (next : List PlainItem) → AllByRecursion (IsWithin w) (node_items h.before k) → Comes s.files s.cursor (node_items h.before k ++ next)
+          → IsTrue (is_node_below h.number k) → HasPlace k → (opening kind l st ≡ first k) × Does (began.appended ++ part.appended) w (row_calls h.now (met h.number h.before k cs)) next s v e
+      part-does e part w k next small comes below fit =
+          let b = begun-does began.appended w k next None began.sends small comes below in
+          let d = b.1 in
+          let x = began.appended ++ part.appended in (
+            b.0,
+            subst (λ (z : List WriterCall). Does x w z next s v e) (sym (node-called kind k b.0 fit))
+                (does-then began.appended part.appended s u v e w (calls_beside kind h l st cs) (inside k) (behind h.before k ++ next) next (no-more begun-passes) d (part.done w k next b.0 (behind-small h.before w k small) d.follows below fit)),
+          )
+
+      -- what is inside it could not be merged
+      pub child-unmerged : (f : MergeFault) → BegunMerged kind inherits o u v (Some f) → ChildMerged h cs s v (Err f)
+      child-unmerged f merged =
+          let inner = part o taken inherits begun u v (Some f) kind merged in
+          record {
+            appended = began.appended ++ inner.appended;
+            passes = part-passes (Some f) inner;
+            rests = tt;
+            onward = tt;
+            within = tt;
+            node_merged = λ w k next small comes below fit. (tt, (part-does (Some f) inner w k next small comes below fit).1);
+            end_taken = λ w m next small comes. absurd (no-end w m next small comes);
+          }
+
+      pub child-merged : BegunMerged kind inherits o u v None → ChildMerged h cs s v (Ok (Some taken))
+      child-merged merged =
+          let inner = part o taken inherits begun u v None kind merged in
+          let goes = read.goes in
+          let moved = goes.moved in
+          let size = ap (size_of s.cursor.standing) shown in
+          let more = opening-long kind s.cursor.standing l st in
+          let passes = began.passes in
+          let second = passes.onward in
+          let inner_passes = inner.passes in
+          let third = inner_passes.onward in
+          let left = begun.left in
+          record {
+            appended = began.appended ++ inner.appended;
+            passes = part-passes None inner;
+            rests = subst (λ (x : PlainWriter). Rests x v.writer) read.writer (inner.rests t.writer began.begins);
+            onward = omega (arith, moved, size, more, second, third);
+            within = left.within;
+            node_merged = λ w k next small comes below fit. (
+                let d = part-does None inner w k next small comes below fit in
+                (subst (λ (j : PlainLabel). Leaves cs (above j cs) taken) (sym (same-label kind k d.0)) left, d.1)
+                );
+            end_taken = λ w m next small comes. absurd (no-end w m next small comes);
+          }
+
+-- ---- what is known where a node was begun
+
+-- less is left behind its opening
+pub opening-smaller : (kind : Kind) (told : Option Files) (a b : PlainCursor) (item : Item) (l : PlainLabel) (st : Stamp) → shown_item item ≡ opening kind l st → Goes told a item b → 4 * (b.length - b.at) + 3 < 4 * (a.length - a.at)
+opening-smaller kind told a b item l st e goes =
+    let moved = goes.moved in
+    let within = goes.within in
+    let long = goes.same_length in
+    let size = ap (size_of a.standing) e in
+    let more = opening-long kind a.standing l st in
+    omega (arith, moved, within, long, size, more)
+
+pub begun-open : (kind : Kind) (v w : PlainWriter) → Begins kind v w → IsOpen kind w
+begun-open Inner v w h = (h.no_leaf, opened-some v w h)
+begun-open Leaf v w h = h.leaf
+
+module _ (h : PlainInherited) (l : PlainLabel) (st : Stamp) (cs : List PlainKeyed) (kid : Option PlainKeyed) (taken : ℕ) (inherits : PlainInherited) (begun : IsBegun h l st cs kid taken inherits) where
+  pub begun-number : 1 ≤ h.number → 1 ≤ inherits.number
+  begun-number le = subst (λ (z : PlainInherited). 1 ≤ z.number) (sym begun.inherits) le
+
+  pub begun-kid : IsTrue (are_ordered (kids_from cs)) → AreShapedNodes (fresh_row (kids_from cs)) → IfSome kid (λ k. IsOrdered k × IsShapedNode (fresh None k))
+  begun-kid ordered shaped = subst (λ (z : Option PlainKeyed). IfSome z (λ k. IsOrdered k × IsShapedNode (fresh None k))) (sym begun.same_kid) (kid_known l cs ordered shaped)
+
+  pub begun-alone : kid ≡ None → inherits.now ≡ inherits.before
+  begun-alone none = subst (λ (z : PlainInherited). z.now ≡ z.before) (sym begun.inherits) (own_alone h l st cs (sym begun.same_kid ∙ none))
+
+pub kid-shaped : (o : Option PlainKeyed) → IfSome o (λ k. IsOrdered k × IsShapedNode (fresh None k)) → IfSome o (λ k. IsShapedNode (fresh None k))
+kid-shaped None h = h
+kid-shaped (Some k) h = h.1
 
 -- ---- the inside of an inner node
 
-pub inside-closed : (own : PlainInherited) (m : PlainLabel) (cs : List PlainKeyed) (s t u : State) (e : Option MergeFault) → RowMerges own cs s t None → Sends (call_end_inner ∷ []) t u e → InsideMerges own (Some (inner m (kids_from cs))) s u e
-inside-closed own m cs s t u e row sent w l st ks n next small comes below fit =
-    subst (λ (xs : List PlainKeyed). Does w (row_calls own.now (merged_row own.number own.before ks xs) ++ call_end_inner ∷ []) next s u e) (sym (kids_list-kids_from cs))
-    (does-sends s t u e w (row_calls own.now (merged_row own.number own.before ks cs)) (call_end_inner ∷ []) next (row w ks n next small comes below (subst (λ (xs : List PlainKeyed). IsTrue (all_fit ks xs)) (kids_list-kids_from cs) fit)) sent)
+module _ (own : PlainInherited) (kid : Option PlainKeyed) (m : PlainLabel) (xs cs : List PlainKeyed) (s t : State) (is : kid ≡ Some (inner m (kids_from cs))) (same : xs ≡ cs) where
+  -- the calls for its kids, and where they fit
+  kids-called : (x : List ℕ) (w : ℕ) (ks : PlainNodes) (next : List PlainItem) (u : State) (e : Option MergeFault) → Does x w (row_calls own.now (merged_row own.number own.before ks xs) ++ call_end_inner ∷ []) next s u e
+      → Does x w (row_calls own.now (kids_with own.number own.before ks kid) ++ call_end_inner ∷ []) next s u e
+  kids-called x w ks next u e does =
+      subst (λ (o : Option PlainKeyed). Does x w (row_calls own.now (kids_with own.number own.before ks o) ++ call_end_inner ∷ []) next s u e) (sym is)
+      (subst (λ (js : List PlainKeyed). Does x w (row_calls own.now (merged_row own.number own.before ks js) ++ call_end_inner ∷ []) next s u e) (same ∙ sym (kids_list-kids_from cs)) does)
 
-pub inside-fault : (own : PlainInherited) (m : PlainLabel) (cs : List PlainKeyed) (s u : State) (f : MergeFault) → RowMerges own cs s u (Some f) → InsideMerges own (Some (inner m (kids_from cs))) s u (Some f)
-inside-fault own m cs s u f row w l st ks n next small comes below fit =
-    subst (λ (xs : List PlainKeyed). Does w (row_calls own.now (merged_row own.number own.before ks xs) ++ call_end_inner ∷ []) next s u (Some f)) (sym (kids_list-kids_from cs))
-    (does-fault s u f w (row_calls own.now (merged_row own.number own.before ks cs)) (call_end_inner ∷ []) next next (row w ks n next small comes below (subst (λ (xs : List PlainKeyed). IsTrue (all_fit ks xs)) (kids_list-kids_from cs) fit)))
+  kids-fit : (l : PlainLabel) (st : Stamp) (ks : PlainNodes) → IsTrue (if_there kid (λ c. fits (inner_node l st ks) c)) → IsTrue (all_fit ks xs)
+  kids-fit l st ks fit = subst (λ (js : List PlainKeyed). IsTrue (all_fit ks js)) (kids_list-kids_from cs ∙ sym same) (subst (λ (o : Option PlainKeyed). IsTrue (if_there o (λ c. fits (inner_node l st ks) c))) is fit)
 
-pub inside-misfit : (own : PlainInherited) (m : PlainLabel) (b : PlainKey) (s u : State) (e : Option MergeFault) → InsideMerges own (Some (leaf m b)) s u e
-inside-misfit own m b s u e w l st ks n next small comes below fit = absurd (true≢false (sym fit))
+  pub inside-row-fails : (f : MergeFault) → RowMerged own xs s t (Some f) → InsideMerged own kid s t (Some f)
+  inside-row-fails f row = record {
+    appended = row.appended;
+    passes = passes-fault row.appended s t f unpaid 0 row.passes;
+    closed = tt;
+    inside = λ w l st ks n next small comes below fit. kids-called row.appended w ks next t (Some f)
+        (does-fault row.appended row.appended s t f w (row_calls own.now (merged_row own.number own.before ks xs)) (call_end_inner ∷ []) next next (row.row w ks n next small comes below (kids-fit l st ks fit)));
+  }
 
-pub inside-alone : (own : PlainInherited) (s u : State) (e : Option MergeFault) → own.now ≡ own.before → InsideDoes own.now s u e → InsideMerges own None s u e
-inside-alone own s u e same copied w l st ks n next small comes below fit =
-    copied w ks n next (subst (λ (q : List (ℕ × ℕ)). AllByRecursion (IsWithin w) (row_items q ks ++ end_item n ∷ [])) (sym same) small) (subst (λ (q : List (ℕ × ℕ)). Comes s.files s.cursor (row_items q ks ++ end_item n ∷ next)) (sym same) comes)
+  pub inside-row-closed : (u : State) (e : Option MergeFault) → s.writer.inners ≢ [] → RowMerged own xs s t None → Sent (call_end_inner ∷ []) t u e → InsideMerged own kid s u e
+  inside-row-closed u e some row sent =
+      let x = row.appended ++ sent.appended in
+      let sends = sent.sends in
+      record {
+        appended = x;
+        passes = passes-paid row.appended sent.appended unpaid s t u (call_end_inner ∷ []) e (end-long t.writer) row.passes sends;
+        closed = closes sent.appended s t u e some row.rests sends.made;
+        inside = λ w l st ks n next small comes below fit. kids-called x w ks next u e
+            (does-sends row.appended sent.appended s t u e w (row_calls own.now (merged_row own.number own.before ks xs)) (call_end_inner ∷ []) next (row.row w ks n next small comes below (kids-fit l st ks fit)) sends);
+      }
 
-pub inside-of : (own : PlainInherited) (o p : Option PlainKeyed) (s u : State) (e : Option MergeFault) → o ≡ p → InsideMerges own p s u e → InsideMerges own o s u e
-inside-of own o p s u e is h = subst (λ (z : Option PlainKeyed). InsideMerges own z s u e) (sym is) h
+-- a leaf cannot stand where the archive has an inner node
+pub inside-misfit : (own : PlainInherited) (kid : Option PlainKeyed) (m : PlainLabel) (b : PlainKey) (s : State) → kid ≡ Some (leaf m b) → IsMeter s.numbers → s.cursor.at ≤ s.cursor.length → InsideMerged own kid s s (Some Damage)
+inside-misfit own kid m b s is meter within = record {
+  appended = [];
+  passes = passes-none s (Some Damage) meter within (λ e. absurd cc);
+  closed = tt;
+  inside = λ w l st ks n next small comes below fit. absurd (true≢false (sym (subst (λ (o : Option PlainKeyed). IsTrue (if_there o (λ c. fits (inner_node l st ks) c))) is fit)));
+}
 
--- ---- what is read and written
-
--- what was read is paid by another part
-pub passes-less : (n k : ℕ) (s t u : State) (e : Option MergeFault) → n ≤ k → Unless e (lead u.numbers ≤ lead t.numbers - k) → Passes n s t None → Passes 0 t u e → Passes 0 s u e
-passes-less n k s t u e le less h g =
-    let after : Passes n s u e = passes-then s t u e n 0 n (omega arith) h g in
-    record {
-      same_files = after.same_files;
-      later = after.later;
-      cause = after.cause;
-      same_name = after.same_name;
-      same_length = after.same_length;
-      onward = after.onward;
-      within = after.within;
-      pulled = after.pulled;
-      ahead = ahead-by e less;
-    }
-  where
-    ahead-by : (e : Option MergeFault) → Unless e (lead u.numbers ≤ lead t.numbers - k) → Unless e (lead u.numbers ≤ lead s.numbers + 0)
-    ahead-by None p = (let a = h.ahead in omega (arith, a, p, le))
-    ahead-by (Some f) p = tt
-
-pub gave-fails : (s t u : State) (item : Item) (f : MergeFault) → Nexts s t item → Passes 0 t u (Some f) → Passes 0 s u (Some f)
-gave-fails s t u item f read h = (let n = read_for s.cursor.standing (shown_item item) in passes-fault s u f n 0 (passes-then s t u (Some f) n 0 n (omega arith) (gave s t item read) h))
-
-pub inner-read : (s t u : State) (item : Item) (l : PlainLabel) (st : Stamp) → shown_item item ≡ inner_item l st → Nexts s t item → lead u.numbers ≤ lead t.numbers - length (rec_bytes (opening_of kind.Inner l st)) → Passes 0 t u None → Passes 0 s u None
-inner-read s t u item l st e read less h =
-    let size = ap (read_for s.cursor.standing) e in
-    passes-less (read_for s.cursor.standing (shown_item item)) (length (rec_bytes (opening_of kind.Inner l st))) s t u None (omega (arith, size)) less (gave s t item read) h
-
-pub leaf-read : (s t u : State) (item : Item) (l : PlainLabel) (st : Stamp) → shown_item item ≡ leaf_item l st → Nexts s t item → lead u.numbers ≤ lead t.numbers - length (rec_bytes (opening_of kind.Leaf l st)) → Passes 0 t u None → Passes 0 s u None
-leaf-read s t u item l st e read less h =
-    let size = ap (read_for s.cursor.standing) e in
-    passes-less (read_for s.cursor.standing (shown_item item)) (length (rec_bytes (opening_of kind.Leaf l st))) s t u None (omega (arith, size)) less (gave s t item read) h
-
--- an END was read, to which nothing is written
-pub end-read : (s t u : State) (item : Item) (n : ℕ) (cs : List WriterCall) → shown_item item ≡ end_item n → Nexts s t item → Sends cs t u None → Passes unpaid s u None
-end-read s t u item n cs e read sent =
-    let size = ap (read_for s.cursor.standing) e in
-    passes-then s t u None (read_for s.cursor.standing (shown_item item)) 0 unpaid (omega (arith, size)) (gave s t item read) sent.passes
-
--- ---- what a node beside a row inherits
-
-pub beside-number : (h own : PlainInherited) (l : PlainLabel) (st : Stamp) (cs : List PlainKeyed) → own ≡ inherited_beside h l st cs → 1 ≤ h.number → 1 ≤ own.number
-beside-number h own l st cs e le = subst (λ (z : PlainInherited). 1 ≤ z.number) (sym e) le
-
-pub beside-kid : (l : PlainLabel) (cs : List PlainKeyed) (o : Option PlainKeyed) → o ≡ kid_at l cs → IsTrue (are_ordered (kids_from cs)) → AreShapedNodes (fresh_row (kids_from cs)) → IfSome o (λ k. IsOrdered k × IsShapedNode (fresh None k))
-beside-kid l cs o e ordered shaped = subst (λ (z : Option PlainKeyed). IfSome z (λ k. IsOrdered k × IsShapedNode (fresh None k))) (sym e) (kid_known l cs ordered shaped)
-
-shaped-alone : (o : Option PlainKeyed) → IfSome o (λ k. IsOrdered k × IsShapedNode (fresh None k)) → IfSome o (λ k. IsShapedNode (fresh None k))
-shaped-alone None h = h
-shaped-alone (Some k) h = h.1
-
-pub beside-shaped : (l : PlainLabel) (cs : List PlainKeyed) (o : Option PlainKeyed) → o ≡ kid_at l cs → IsTrue (are_ordered (kids_from cs)) → AreShapedNodes (fresh_row (kids_from cs)) → IfSome o (λ k. IsShapedNode (fresh None k))
-beside-shaped l cs o e ordered shaped = shaped-alone o (beside-kid l cs o e ordered shaped)
-
-pub beside-alone : (h own : PlainInherited) (l : PlainLabel) (st : Stamp) (cs : List PlainKeyed) (o : Option PlainKeyed) → own ≡ inherited_beside h l st cs → o ≡ kid_at l cs → o ≡ None → own.now ≡ own.before
-beside-alone h own l st cs o e kid none = subst (λ (z : PlainInherited). z.now ≡ z.before) (sym e) (own_alone h l st cs (sym kid ∙ none))
+pub inside-alone : (own : PlainInherited) (kid : Option PlainKeyed) (s u : State) (e : Option MergeFault) → kid ≡ None → own.now ≡ own.before → InsideCopied own.now s u e → InsideMerged own kid s u e
+inside-alone own kid s u e none same copied = record {
+  appended = copied.appended;
+  passes = copied.passes;
+  closed = copied.closed;
+  inside = λ w l st ks n next small comes below fit.
+      subst (λ (o : Option PlainKeyed). Does copied.appended w (row_calls own.now (kids_with own.number own.before ks o) ++ call_end_inner ∷ []) next s u e) (sym none)
+      (copied.inside w ks n next (subst (λ (q : List (ℕ × ℕ)). AllByRecursion (IsWithin w) (row_items q ks ++ end_item n ∷ [])) (sym same) small)
+      (subst (λ (q : List (ℕ × ℕ)). Comes s.files s.cursor (row_items q ks ++ end_item n ∷ next)) (sym same) comes));
+}
 
 -- the kids behind the first so many
 pub kids-left : {X : Type 0} (view : X → PlainKeyed) (n : ℕ) (xs : List X) → map view (take (length xs - n) (drop n xs)) ≡ drop n (map view xs)

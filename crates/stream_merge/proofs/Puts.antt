@@ -1,22 +1,40 @@
 -- The calls that write what one version alone has.
-use Rattle.std.proofs.Common.{◌≡◌, ◌≢◌, ℕ, ◌+◌, ◌<◌, List, [], ◌∷◌, ◌++◌, length, map, take, drop, get_or, Option, Some, None, refl, sym, ap, subst, ◌∙◌, append_assoc}
+use Rattle.std.proofs.Common.{◌≡◌, ◌≢◌, ℕ, ◌+◌, ◌<◌, ◌≤◌, List, [], ◌∷◌, ◌++◌, length, map, drop, get_or, Option, Some, None, Result, Vec, Global, refl, sym, ap, subst, ◌∙◌, arith}
 use Rattle.std.specs.Option.{unwrap_or}
-use Rattle.std.proofs.lemmas.List.{append-nil}
-use Rattle.key_spec.proofs.Steps.{map-take, map-split}
+use Rattle.std.specs.Result.{OnOk, IsErrAnd}
+use Rattle.xa_outside.specs.Folder.{Files}
+use Rattle.xa_outside.specs.Numbers.{Numbers, IsMeter}
+use Rattle.key_spec.proofs.Steps.{map-drop}
 use Rattle.keyed_tree.specs.Data.{PlainKey, PlainLabel, PlainKeyed, inner, leaf, kids_from}
+use Rattle.keyed_tree.specs.View.{key_view, label_view, keyed_view}
+use Rattle.keyed_tree.specs.declared.label.KeyVal.{KeyVal}
+use Rattle.keyed_tree.specs.declared.label.Label.{Label}
+use Rattle.keyed_tree.specs.declared.keyed.Keyed.{Keyed}
+use Rattle.keyed_tree.specs.declared.keyed.Keyed.TheVariants.{Inner, Leaf}
+use Rattle.keyed_tree.proofs.Views.{keyed_view-Inner, keyed_view-Leaf}
 use Rattle.archive_tree.specs.Data.{Stamp, PlainNode, PlainNodes, no_nodes, node}
 use Rattle.nested_merge.specs.Merged.{fresh, fresh_row, fresh_onto}
 use Rattle.record_format.specs.Nodes.{set_in}
+use Rattle.record_format.specs.Shapes.{IsShapedNode}
+use Rattle.record_parts.specs.Shapes.{IsShapedLabel, IsShapedValue}
 use Rattle.record_cursor.specs.Places.{finished}
 use Rattle.record_cursor.specs.View.{PlainCursor}
-use Rattle.record_writer.specs.Calls.{after, after_all}
+use Rattle.record_writer.specs.Calls.{appended, after, after_all, Fits}
 use Rattle.record_writer.specs.Data.{PlainWriter, WriterCall, call_inner, call_leaf, call_alt, call_end_inner, call_end_leaf}
+use Rattle.record_writer.specs.Faults.{TooLongUnless, Appends}
+use Rattle.record_writer.specs.View.{writer_view}
 use Rattle.record_writer.specs.Walks.{node_calls, row_calls}
+use Rattle.record_writer.specs.declared.fault.WriteFault.{WriteFault}
+use Rattle.record_writer.specs.declared.writer.Writer.{Writer}
 use Rattle.record_writer.proofs.WalkLaws.{row-walked, node-walked, between}
-use Rattle.stream_merge.specs.Does.{Sends}
-use Rattle.stream_merge.specs.Passes.{Rests, Opens}
-use Rattle.stream_merge.specs.State.{State}
+use Rattle.stream_merge.specs.Does.{Sent}
+use Rattle.stream_merge.specs.Meets.{call_of}
+use Rattle.stream_merge.specs.Passes.{Rests, Opens, fault_of}
+use Rattle.stream_merge.specs.State.{State, state}
+use Rattle.stream_merge.specs.declared.begin.Kind.{Kind}
 use Rattle.stream_merge.specs.declared.fault.MergeFault.{MergeFault}
+use Rattle.stream_merge.proofs.Handed.{sent-handed}
+use Rattle.stream_merge.proofs.States.{walks-none, passes-none, sent-then, sent-fault, call-sends, written}
 
 -- the calls that write these, each with the stamp, under a node that has the set
 abbrev pub fresh_calls : List (ℕ × ℕ) → Stamp → List PlainKeyed → List WriterCall
@@ -30,7 +48,11 @@ set-is : (s : Stamp) (parent : List (ℕ × ℕ)) → set_in s parent ≡ unwrap
 set-is None parent = refl
 set-is (Some t) parent = refl
 
-pub inner-calls : (parent set : List (ℕ × ℕ)) (s : Stamp) (k : PlainKeyed) (l : PlainLabel) (cs : List PlainKeyed) → k ≡ inner l (kids_from cs) → set ≡ unwrap_or s parent
+-- the call that begins a node of this kind, where it has this set
+pub call-is : (kind k : Kind) (l : PlainLabel) (s : Stamp) (parent set : List (ℕ × ℕ)) → kind ≡ k → set ≡ unwrap_or s parent → call_of kind l s (set_in s parent) ∷ [] ≡ call_of k l s set ∷ []
+call-is kind k l s parent set is same = ap (λ (z : Kind). call_of z l s (set_in s parent) ∷ []) is ∙ ap (λ (z : List (ℕ × ℕ)). call_of k l s z ∷ []) (set-is s parent ∙ sym same)
+
+inner-calls : (parent set : List (ℕ × ℕ)) (s : Stamp) (k : PlainKeyed) (l : PlainLabel) (cs : List PlainKeyed) → k ≡ inner l (kids_from cs) → set ≡ unwrap_or s parent
     → node_calls parent (fresh s k) ≡ call_inner l s set ∷ (fresh_calls set None cs ++ call_end_inner ∷ [])
 inner-calls parent set s k l cs e is =
     let same : set_in s parent ≡ set = set-is s parent ∙ sym is in
@@ -38,46 +60,50 @@ inner-calls parent set s k l cs e is =
     ∙ ap (λ (z : PlainNodes). call_inner l s (set_in s parent) ∷ (row_calls (set_in s parent) z ++ call_end_inner ∷ [])) (onto cs)
     ∙ ap (λ (z : List (ℕ × ℕ)). call_inner l s z ∷ (fresh_calls z None cs ++ call_end_inner ∷ [])) same
 
-pub leaf-calls : (parent set : List (ℕ × ℕ)) (s : Stamp) (k : PlainKeyed) (l : PlainLabel) (b : PlainKey) → k ≡ leaf l b → set ≡ unwrap_or s parent
+leaf-calls : (parent set : List (ℕ × ℕ)) (s : Stamp) (k : PlainKeyed) (l : PlainLabel) (b : PlainKey) → k ≡ leaf l b → set ≡ unwrap_or s parent
     → node_calls parent (fresh s k) ≡ call_leaf l s set ∷ (call_alt None b ∷ (call_end_leaf ∷ []))
 leaf-calls parent set s k l b e is =
     let same : set_in s parent ≡ set = set-is s parent ∙ sym is in
     ap (λ (z : PlainKeyed). node_calls parent (fresh s z)) e
     ∙ ap (λ (z : List (ℕ × ℕ)). call_leaf l s z ∷ (call_alt None b ∷ (call_end_leaf ∷ []))) same
 
+-- ---- what the calls need of a node
+
+pub inner-label : (k : Keyed) (l : Label) (kids : Vec Keyed Global) → k ≡ Inner l kids → IsShapedNode (fresh None (keyed_view k)) → IsShapedLabel (label_view l)
+inner-label k l kids is h = (let parts = subst (λ (z : PlainKeyed). IsShapedNode (fresh None z)) (ap keyed_view is ∙ keyed_view-Inner l kids) h in parts.0)
+
+leaf-shaped : (k : Keyed) (l : Label) (b : KeyVal) → k ≡ Leaf l b → IsShapedNode (fresh None (keyed_view k)) → IsShapedNode (fresh None (leaf (label_view l) (key_view b)))
+leaf-shaped k l b is h = subst (λ (z : PlainKeyed). IsShapedNode (fresh None z)) (ap keyed_view is ∙ keyed_view-Leaf l b) h
+
+pub leaf-label : (k : Keyed) (l : Label) (b : KeyVal) → k ≡ Leaf l b → IsShapedNode (fresh None (keyed_view k)) → IsShapedLabel (label_view l)
+leaf-label k l b is h = (let parts = leaf-shaped k l b is h in parts.0)
+
+pub leaf-value : (k : Keyed) (l : Label) (b : KeyVal) → k ≡ Leaf l b → IsShapedNode (fresh None (keyed_view k)) → IsShapedValue (key_view b)
+leaf-value k l b is h = (let parts = leaf-shaped k l b is h in parts.2.0.1)
+
+pub leaf-stands : (v w : PlainWriter) (l : PlainLabel) (s : Stamp) (set : List (ℕ × ℕ)) → w ≡ after v (call_leaf l s set) → w.leaf ≢ None
+leaf-stands v w l s set is none = (let d = sym none ∙ ap (λ (x : PlainWriter). x.leaf) is in absurd cc)
+
+pub leaf-stays : (v w : PlainWriter) (s : Stamp) (b : PlainKey) → w ≡ after v (call_alt s b) → v.leaf ≢ None → w.leaf ≢ None
+leaf-stays v w s b is stands none = stands (sym (ap (λ (x : PlainWriter). x.leaf) is) ∙ none)
+
 -- ---- a row, kid by kid
 
-pub fresh-append : (set : List (ℕ × ℕ)) (s : Stamp) (front bs : List PlainKeyed) → fresh_calls set s (front ++ bs) ≡ fresh_calls set s front ++ fresh_calls set s bs
-fresh-append set s [] bs = refl
-fresh-append set s (a ∷ front) bs =
-    ap (λ (z : List WriterCall). node_calls set (fresh s a) ++ z) (fresh-append set s front bs)
-    ∙ sym (append_assoc (node_calls set (fresh s a)) (fresh_calls set s front) (fresh_calls set s bs))
-
-module _ {X : Type 0} (view : X → PlainKeyed) (set : List (ℕ × ℕ)) (s : Stamp) (xs : List X) (i : ℕ) (x : X) (here : i < length xs) (is : x ≡ get_or xs i x) where
-  abbrev before : List PlainKeyed
-  before = map view (take i xs)
-
-  -- one kid more
-  pub calls-more : fresh_calls set s (map view (take (i + 1) xs)) ≡ fresh_calls set s before ++ node_calls set (fresh s (view x))
-  calls-more =
-      ap (fresh_calls set s) (map-take view xs i x here is)
-      ∙ fresh-append set s before (view x ∷ [])
-      ∙ ap (λ (z : List WriterCall). fresh_calls set s before ++ z) (append-nil (node_calls set (fresh s (view x))))
-
-  -- the kids so far, the next one, and those behind it
-  pub calls-parts : fresh_calls set s (map view xs) ≡ fresh_calls set s before ++ (node_calls set (fresh s (view x)) ++ fresh_calls set s (map view (drop (i + 1) xs)))
-  calls-parts = ap (fresh_calls set s) (map-split view xs i x here is) ∙ fresh-append set s before (view x ∷ map view (drop (i + 1) xs))
+-- the next kid and those behind it
+pub calls-left : {X : Type 0} (view : X → PlainKeyed) (set : List (ℕ × ℕ)) (s : Stamp) (xs : List X) (i : ℕ) (x : X) → i < length xs → x ≡ get_or xs i x
+    → fresh_calls set s (map view (drop i xs)) ≡ node_calls set (fresh s (view x)) ++ fresh_calls set s (map view (drop (i + 1) xs))
+calls-left view set s xs i x here is = ap (fresh_calls set s) (map-drop view xs i x here is)
 
 -- ---- what stands begun behind a row
 
-pub row-rests : (w : PlainWriter) (set : List (ℕ × ℕ)) (ks : PlainNodes) → w.leaf ≡ None → Rests w (after_all w (row_calls set ks))
+row-rests : (w : PlainWriter) (set : List (ℕ × ℕ)) (ks : PlainNodes) → w.leaf ≡ None → Rests w (after_all w (row_calls set ks))
 row-rests w set ks h =
     let e : w ≡ between w.written w.row w.inners = λ i. record { written = w.written; row = w.row; inners = w.inners; leaf = h i } in
     let walked = row-walked w.written w.row w.inners set ks in
     let is : after_all w (row_calls set ks) ≡ _ = ap (λ (v : PlainWriter). after_all v (row_calls set ks)) e ∙ walked.leaves in
     record { no_leaf = ap (λ (v : PlainWriter). v.leaf) is; inners = ap (λ (v : PlainWriter). v.inners) is }
 
-pub node-rests : (w : PlainWriter) (set : List (ℕ × ℕ)) (k : PlainNode) → w.leaf ≡ None → Rests w (after_all w (node_calls set k))
+node-rests : (w : PlainWriter) (set : List (ℕ × ℕ)) (k : PlainNode) → w.leaf ≡ None → Rests w (after_all w (node_calls set k))
 node-rests w set k h =
     let e : w ≡ between w.written w.row w.inners = λ i. record { written = w.written; row = w.row; inners = w.inners; leaf = h i } in
     let walked = node-walked w.written w.row w.inners set k in
@@ -86,8 +112,81 @@ node-rests w set k h =
 
 -- ---- one part behind another
 
-pub sends-as : (s t : State) (e : Option MergeFault) (cs ds : List WriterCall) → ds ≡ cs → Sends cs s t e → Sends ds s t e
-sends-as s t e cs ds is h = subst (λ (z : List WriterCall). Sends z s t e) (sym is) h
+pub sent-as : (s t : State) (e : Option MergeFault) (cs ds : List WriterCall) → ds ≡ cs → Sent cs s t e → Sent ds s t e
+sent-as s t e cs ds is h = subst (λ (z : List WriterCall). Sent z s t e) (sym is) h
+
+pub sent-nothing : (s : State) → IsMeter s.numbers → s.cursor.at ≤ s.cursor.length → Sent [] s s None
+sent-nothing s meter within = record {
+  appended = [];
+  sends = record { passes = passes-none s None meter within (λ e. absurd cc); made = walks-none s; same_cursor = refl; same_gap = refl; paid = omega arith };
+}
+
+-- one call of the writer
+pub call-sent : {S : Type 0} (files : S → Option Files) (draft : S → Option (List ℕ)) (numbers : S → Numbers) (faults : S → ℕ) → ((x : S) → IsMeter (numbers x)) → (c : PlainCursor) → c.at ≤ c.length
+    → (old new : S) (v w : Writer) (call : WriterCall) (r : Result (Unit {0}) WriteFault)
+    → Appends files draft numbers faults old new (appended (writer_view v) call) r → OnOk r (writer_view w ≡ after (writer_view v) call) → TooLongUnless (Fits (writer_view v) call) r
+    → Sent (call ∷ []) (state files draft numbers faults old c v) (state files draft numbers faults new c w) (written r)
+call-sent files draft numbers faults metered c within old new v w call r = call-sends files draft numbers faults old new c v w call r (metered old) within
+
+-- an inner node is begun, its kids are put, and it is closed
+module _ (parent set : List (ℕ × ℕ)) (s : Stamp) (k : Keyed) (l : Label) (kids : Vec Keyed Global) (is : k ≡ Inner l kids) (same : set ≡ unwrap_or s parent) (t u : State) where
+  abbrev inner_begun : List WriterCall
+  inner_begun = call_inner (label_view l) s set ∷ []
+
+  abbrev inner_kids : List WriterCall
+  inner_kids = fresh_calls set None (map keyed_view kids.items)
+
+  abbrev inner_whole : List WriterCall
+  inner_whole = node_calls parent (fresh s (keyed_view k))
+
+  inner-is : inner_whole ≡ inner_begun ++ (inner_kids ++ call_end_inner ∷ [])
+  inner-is = inner-calls parent set s (keyed_view k) (label_view l) (map keyed_view kids.items) (ap keyed_view is ∙ keyed_view-Inner l kids) same
+
+  inner-sent : (v : State) (e : Option MergeFault) → Sent (inner_begun ++ (inner_kids ++ call_end_inner ∷ [])) t v e → Sent inner_whole t v e
+  inner-sent v e a = sent-as t v e (inner_begun ++ (inner_kids ++ call_end_inner ∷ [])) inner_whole inner-is a
+
+  pub inner-fails : {T : Type 0} (r : Result T MergeFault) (e : MergeFault) → IsErrAnd r (λ d. d ≡ e) → Sent inner_begun t u (Some e) → Sent inner_whole t u (fault_of r)
+  inner-fails r e is a = sent-handed r e is inner_whole t u (inner-sent u (Some e) (sent-fault t u e inner_begun (inner_kids ++ call_end_inner ∷ []) a))
+
+  pub inner-kids-fail : {T : Type 0} (r : Result T MergeFault) (e : MergeFault) → IsErrAnd r (λ d. d ≡ e) → (v : State) → Sent inner_begun t u None → Sent inner_kids u v (Some e) → Sent inner_whole t v (fault_of r)
+  inner-kids-fail r e is v a b =
+      sent-handed r e is inner_whole t v (inner-sent v (Some e) (sent-then t u v (Some e) inner_begun (inner_kids ++ call_end_inner ∷ []) a (sent-fault u v e inner_kids (call_end_inner ∷ []) b)))
+
+  pub inner-put : (v w : State) (e : Option MergeFault) → Sent inner_begun t u None → Sent inner_kids u v None → Sent (call_end_inner ∷ []) v w e → Sent inner_whole t w e
+  inner-put v w e a b c = inner-sent w e (sent-then t u w e inner_begun (inner_kids ++ call_end_inner ∷ []) a (sent-then u v w e inner_kids (call_end_inner ∷ []) b c))
+
+  pub inner-end-fails : {T : Type 0} (r : Result T MergeFault) (e : MergeFault) → IsErrAnd r (λ d. d ≡ e) → (v w : State) → Sent inner_begun t u None → Sent inner_kids u v None → Sent (call_end_inner ∷ []) v w (Some e) → Sent inner_whole t w (fault_of r)
+  inner-end-fails r e is v w a b c = sent-handed r e is inner_whole t w (inner-put v w (Some e) a b c)
+
+-- a leaf is begun, its alternative is written, and it is closed
+module _ (parent set : List (ℕ × ℕ)) (s : Stamp) (k : Keyed) (l : Label) (body : KeyVal) (is : k ≡ Leaf l body) (same : set ≡ unwrap_or s parent) (t u : State) where
+  abbrev leaf_begun : List WriterCall
+  leaf_begun = call_leaf (label_view l) s set ∷ []
+
+  abbrev leaf_alt : List WriterCall
+  leaf_alt = call_alt None (key_view body) ∷ []
+
+  abbrev leaf_whole : List WriterCall
+  leaf_whole = node_calls parent (fresh s (keyed_view k))
+
+  leaf-is : leaf_whole ≡ leaf_begun ++ (leaf_alt ++ call_end_leaf ∷ [])
+  leaf-is = leaf-calls parent set s (keyed_view k) (label_view l) (key_view body) (ap keyed_view is ∙ keyed_view-Leaf l body) same
+
+  leaf-sent : (v : State) (e : Option MergeFault) → Sent (leaf_begun ++ (leaf_alt ++ call_end_leaf ∷ [])) t v e → Sent leaf_whole t v e
+  leaf-sent v e a = sent-as t v e (leaf_begun ++ (leaf_alt ++ call_end_leaf ∷ [])) leaf_whole leaf-is a
+
+  pub leaf-fails : {T : Type 0} (r : Result T MergeFault) (e : MergeFault) → IsErrAnd r (λ d. d ≡ e) → Sent leaf_begun t u (Some e) → Sent leaf_whole t u (fault_of r)
+  leaf-fails r e is a = sent-handed r e is leaf_whole t u (leaf-sent u (Some e) (sent-fault t u e leaf_begun (leaf_alt ++ call_end_leaf ∷ []) a))
+
+  pub leaf-alt-fails : {T : Type 0} (r : Result T MergeFault) (e : MergeFault) → IsErrAnd r (λ d. d ≡ e) → (v : State) → Sent leaf_begun t u None → Sent leaf_alt u v (Some e) → Sent leaf_whole t v (fault_of r)
+  leaf-alt-fails r e is v a b =
+      sent-handed r e is leaf_whole t v (leaf-sent v (Some e) (sent-then t u v (Some e) leaf_begun (leaf_alt ++ call_end_leaf ∷ []) a (sent-fault u v e leaf_alt (call_end_leaf ∷ []) b)))
+
+  pub leaf-put : (v w : State) (e : Option MergeFault) → Sent leaf_begun t u None → Sent leaf_alt u v None → Sent (call_end_leaf ∷ []) v w e → Sent leaf_whole t w e
+  leaf-put v w e a b c = leaf-sent w e (sent-then t u w e leaf_begun (leaf_alt ++ call_end_leaf ∷ []) a (sent-then u v w e leaf_alt (call_end_leaf ∷ []) b c))
+
+  pub leaf-end-fails : {T : Type 0} (r : Result T MergeFault) (e : MergeFault) → IsErrAnd r (λ d. d ≡ e) → (v w : State) → Sent leaf_begun t u None → Sent leaf_alt u v None → Sent (call_end_leaf ∷ []) v w (Some e) → Sent leaf_whole t w (fault_of r)
+  leaf-end-fails r e is v w a b c = sent-handed r e is leaf_whole t w (leaf-put v w (Some e) a b c)
 
 -- ---- writers behind what was sent
 
@@ -95,11 +194,11 @@ sends-as s t e cs ds is h = subst (λ (z : List WriterCall). Sends z s t e) (sym
 abbrev pub nowhere : PlainCursor
 nowhere = record { name = []; length = 0; standing = finished; at = 0 }
 
-pub row-sent : (s t : State) (set : List (ℕ × ℕ)) (ks : PlainNodes) → s.writer.leaf ≡ None → Sends (row_calls set ks) s t None → Rests s.writer t.writer
-row-sent s t set ks none h = (let made = h.made in subst (λ (w : PlainWriter). Rests s.writer w) (sym made.writer) (row-rests s.writer set ks none))
+pub row-sent : (s t : State) (set : List (ℕ × ℕ)) (ks : PlainNodes) → s.writer.leaf ≡ None → Sent (row_calls set ks) s t None → Rests s.writer t.writer
+row-sent s t set ks none h = (let sends = h.sends in let made = sends.made in subst (λ (w : PlainWriter). Rests s.writer w) (sym made.writer) (row-rests s.writer set ks none))
 
-pub node-sent : (s t : State) (set : List (ℕ × ℕ)) (k : PlainNode) → s.writer.leaf ≡ None → Sends (node_calls set k) s t None → Rests s.writer t.writer
-node-sent s t set k none h = (let made = h.made in subst (λ (w : PlainWriter). Rests s.writer w) (sym made.writer) (node-rests s.writer set k none))
+pub node-sent : (s t : State) (set : List (ℕ × ℕ)) (k : PlainNode) → s.writer.leaf ≡ None → Sent (node_calls set k) s t None → Rests s.writer t.writer
+node-sent s t set k none h = (let sends = h.sends in let made = sends.made in subst (λ (w : PlainWriter). Rests s.writer w) (sym made.writer) (node-rests s.writer set k none))
 
 begun-inner : (v : PlainWriter) (l : PlainLabel) (s : Stamp) (set : List (ℕ × ℕ)) → v.leaf ≡ None → Opens v (after v (call_inner l s set))
 begun-inner v l s set none = record { no_leaf = none; opened = record { begin = v.written; set = set; row = v.row }; inners = refl }
@@ -108,10 +207,10 @@ still-open : (v w u : PlainWriter) → Opens v w → Rests w u → Opens v u
 still-open v w u h g = record { no_leaf = g.no_leaf; opened = h.opened; inners = g.inners ∙ h.inners }
 
 -- an inner node stands begun behind its kids
-pub inside-open : (v : PlainWriter) (s t : State) (l : PlainLabel) (stamp : Stamp) (set q : List (ℕ × ℕ)) (ks : PlainNodes) → v.leaf ≡ None → s.writer ≡ after v (call_inner l stamp set) → Sends (row_calls q ks) s t None → Opens v t.writer
-inside-open v s t l stamp set q ks none is h =
+pub inside-open : (v : PlainWriter) (s t : State) (l : PlainLabel) (stamp : Stamp) (set : List (ℕ × ℕ)) (cs : List PlainKeyed) → v.leaf ≡ None → s.writer ≡ after v (call_inner l stamp set) → Sent (fresh_calls set None cs) s t None → Opens v t.writer
+inside-open v s t l stamp set cs none is h =
     let begun : Opens v s.writer = subst (λ (w : PlainWriter). Opens v w) (sym is) (begun-inner v l stamp set none) in
-    still-open v s.writer t.writer begun (row-sent s t q ks begun.no_leaf h)
+    still-open v s.writer t.writer begun (row-sent s t set (fresh_onto None cs no_nodes) begun.no_leaf h)
 
 pub is-open : (v w : PlainWriter) → Opens v w → w.inners ≢ []
 is-open v w h e = (let d = sym e ∙ h.inners in absurd cc)

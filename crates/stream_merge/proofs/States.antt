@@ -7,7 +7,8 @@ use Rattle.std.specs.Result.{OnOk, IsErrAnd}
 use Rattle.std.proofs.lemmas.List.{append-nil, length-append}
 use Rattle.xa_outside.specs.Causes.{Rose}
 use Rattle.xa_outside.specs.Folder.{Files}
-use Rattle.xa_outside.specs.Numbers.{Numbers, IsMeter, PullsAtMost, after_draft, after_pull}
+use Rattle.xa_outside.specs.Numbers.{Numbers, IsMeter, PullsAtMost, PullsAndDrafts, after_draft, after_pull}
+use Rattle.xa_outside.specs.NumberLaws.{PullsAtMost-of, PullsAndDrafts-none, PullsAndDrafts-of_pulls, PullsAndDrafts-of_draft, PullsAndDrafts-more, PullsAndDrafts-trans}
 use Rattle.xa_fields.proofs.Fields.{some_is}
 use Rattle.record_cursor.specs.Faults as cursor
 use Rattle.record_cursor.specs.Items.{PlainItem, inner_item, leaf_item, alt_item, leaf_end_item, end_item, finish}
@@ -25,9 +26,9 @@ use Rattle.record_writer.specs.View.{writer_view}
 use Rattle.record_writer.specs.declared.fault.WriteFault.{WriteFault}
 use Rattle.record_writer.specs.declared.fault.WriteFault.TheVariants as writer
 use Rattle.record_writer.specs.declared.writer.Writer.{Writer}
-use Rattle.stream_merge.specs.Does.{Walks, Made, Sends, Does}
+use Rattle.stream_merge.specs.Does.{Walks, Made, Sends, Sent, Does}
 use Rattle.stream_merge.specs.Items.{IsWithin}
-use Rattle.stream_merge.specs.Passes.{Unless, UnlessFolder, IfFolder, Pulled, Passes, fault_of, of_cursor, of_writer}
+use Rattle.stream_merge.specs.Passes.{Unless, IfFolder, may_pull, Passes, fault_of, of_cursor, of_writer}
 use Rattle.stream_merge.specs.State.{State, state, lead}
 use Rattle.stream_merge.specs.declared.fault.MergeFault.{MergeFault}
 use Rattle.stream_merge.specs.declared.fault.MergeFault.TheVariants.{Damage, Folder, TooLong, Memory}
@@ -58,9 +59,27 @@ fit-back w (c ∷ cs) ds h = fit-back (after w c) cs ds h.1
 
 -- ---- whatever the archive is
 
-pulled-then : (s t u : State) (e : Option MergeFault) → t.cursor.length ≡ s.cursor.length → Pulled s t None → Pulled t u e → Pulled s u e
-pulled-then s t u None same h g = omega (arith, h, g)
-pulled-then s t u (Some e) same h g = omega (arith, h, g, same)
+within-then : (s t u : State) (e : Option MergeFault) → t.cursor.length ≡ s.cursor.length → s.cursor.at ≤ t.cursor.at → t.cursor.at ≤ u.cursor.at → t.cursor.at ≤ t.cursor.length → (t.cursor.at - s.cursor.at) + may_pull t u e ≤ may_pull s u e
+within-then s t u None same first second within = omega (arith, first, second)
+within-then s t u (Some e) same first second within = omega (arith, same, first, within)
+
+pulls-then : (s t u : State) (e : Option MergeFault) → (t.cursor.at - s.cursor.at) + may_pull t u e ≤ may_pull s u e → PullsAndDrafts (may_pull s t None) s.numbers t.numbers → PullsAndDrafts (may_pull t u e) t.numbers u.numbers
+    → PullsAndDrafts (may_pull s u e) s.numbers u.numbers
+pulls-then s t u e fits h g = PullsAndDrafts-more ((t.cursor.at - s.cursor.at) + may_pull t u e) (may_pull s u e) s.numbers u.numbers fits (PullsAndDrafts-trans (t.cursor.at - s.cursor.at) (may_pull t u e) s.numbers t.numbers u.numbers h g)
+
+both-drafted : (o : Option (List ℕ)) (a b : List ℕ) → option_map (λ (d : List ℕ). d ++ b) (option_map (λ (d : List ℕ). d ++ a) o) ≡ option_map (λ (d : List ℕ). d ++ (a ++ b)) o
+both-drafted None a b = refl
+both-drafted (Some d) a b = ap Some (append_assoc d a b)
+
+none-drafted : (o : Option (List ℕ)) → o ≡ option_map (λ (d : List ℕ). d ++ []) o
+none-drafted None = refl
+none-drafted (Some d) = ap Some (sym (append-nil d))
+
+pub lengthens-then : (a b c : Option (List ℕ)) (x y : List ℕ) → b ≡ option_map (λ (d : List ℕ). d ++ x) a → c ≡ option_map (λ (d : List ℕ). d ++ y) b → c ≡ option_map (λ (d : List ℕ). d ++ (x ++ y)) a
+lengthens-then a b c x y h g = g ∙ ap (option_map (λ (d : List ℕ). d ++ y)) h ∙ both-drafted a x y
+
+pub lengthens-none : (a b : Option (List ℕ)) → b ≡ a → b ≡ option_map (λ (d : List ℕ). d ++ []) a
+lengthens-none a b e = e ∙ none-drafted a
 
 pub cause-then : (a b c : ℕ) (e : Option MergeFault) → a ≤ b → b ≤ c → IfFolder e (Rose b c) → IfFolder e (Rose a c)
 cause-then a b c None first second h = tt
@@ -73,16 +92,17 @@ ahead-then : (x y z : Numbers) (e : Option MergeFault) (a b m : ℕ) → a + b �
 ahead-then x y z None a b m le h g = omega (arith, le, h, g)
 ahead-then x y z (Some e) a b m le h g = tt
 
-pub passes-then : (s t u : State) (e : Option MergeFault) (a b m : ℕ) → a + b ≤ m → Passes a s t None → Passes b t u e → Passes m s u e
-passes-then s t u e a b m le h g = record {
+pub passes-then : (x y : List ℕ) (s t u : State) (e : Option MergeFault) (a b m : ℕ) → a + b ≤ m → Passes x a s t None → Passes y b t u e → Passes (x ++ y) m s u e
+passes-then x y s t u e a b m le h g = record {
   same_files = g.same_files ∙ h.same_files;
+  lengthens = lengthens-then s.draft t.draft u.draft x y h.lengthens g.lengthens;
   later = (let x = h.later in let y = g.later in omega (arith, x, y));
   cause = cause-then s.faults t.faults u.faults e h.later g.later g.cause;
   same_name = g.same_name ∙ h.same_name;
   same_length = g.same_length ∙ h.same_length;
   onward = (let x = h.onward in let y = g.onward in omega (arith, x, y));
   within = g.within;
-  pulled = pulled-then s t u e h.same_length h.pulled g.pulled;
+  pulls = pulls-then s t u e (within-then s t u e h.same_length h.onward g.onward h.within) h.pulls g.pulls;
   ahead = ahead-then s.numbers t.numbers u.numbers e a b m le h.ahead g.ahead;
 }
 
@@ -90,47 +110,50 @@ ahead-more : (x y : Numbers) (e : Option MergeFault) (a b : ℕ) → a ≤ b →
 ahead-more x y None a b le h = omega (arith, le, h)
 ahead-more x y (Some e) a b le h = tt
 
-pub passes-more : (s t : State) (e : Option MergeFault) (a b : ℕ) → a ≤ b → Passes a s t e → Passes b s t e
-passes-more s t e a b le h = record {
+-- the same bytes, written in another way
+pub passes-as : (x y : List ℕ) (m : ℕ) (s t : State) (e : Option MergeFault) → x ≡ y → Passes x m s t e → Passes y m s t e
+passes-as x y m s t e is h = subst (λ (z : List ℕ). Passes z m s t e) is h
+
+pub passes-more : (x : List ℕ) (s t : State) (e : Option MergeFault) (a b : ℕ) → a ≤ b → Passes x a s t e → Passes x b s t e
+passes-more x s t e a b le h = record {
   same_files = h.same_files;
+  lengthens = h.lengthens;
   later = h.later;
   cause = h.cause;
   same_name = h.same_name;
   same_length = h.same_length;
   onward = h.onward;
   within = h.within;
-  pulled = h.pulled;
+  pulls = h.pulls;
   ahead = ahead-more s.numbers t.numbers e a b le h.ahead;
 }
 
 -- after a fault nothing is said of what was read ahead
-pub passes-fault : (s t : State) (e : MergeFault) (a b : ℕ) → Passes a s t (Some e) → Passes b s t (Some e)
-passes-fault s t e a b h = record {
+pub passes-fault : (x : List ℕ) (s t : State) (e : MergeFault) (a b : ℕ) → Passes x a s t (Some e) → Passes x b s t (Some e)
+passes-fault x s t e a b h = record {
   same_files = h.same_files;
+  lengthens = h.lengthens;
   later = h.later;
   cause = h.cause;
   same_name = h.same_name;
   same_length = h.same_length;
   onward = h.onward;
   within = h.within;
-  pulled = h.pulled;
+  pulls = h.pulls;
   ahead = tt;
 }
 
-pulled-none : (s : State) (e : Option MergeFault) → s.cursor.at ≤ s.cursor.length → Pulled s s e
-pulled-none s None h = omega arith
-pulled-none s (Some e) h = omega (arith, h)
-
-pub passes-none : (s : State) (e : Option MergeFault) → s.cursor.at ≤ s.cursor.length → e ≢ Some Folder → Passes 0 s s e
-passes-none s e h n = record {
+pub passes-none : (s : State) (e : Option MergeFault) → IsMeter s.numbers → s.cursor.at ≤ s.cursor.length → e ≢ Some Folder → Passes [] 0 s s e
+passes-none s e meter h n = record {
   same_files = refl;
+  lengthens = lengthens-none s.draft s.draft refl;
   later = omega arith;
   cause = no-cause e n;
   same_name = refl;
   same_length = refl;
   onward = omega arith;
   within = h;
-  pulled = pulled-none s e h;
+  pulls = PullsAndDrafts-none (may_pull s s e) s.numbers meter;
   ahead = no-more s.numbers e;
 }
   where
@@ -147,41 +170,31 @@ passes-none s e h n = record {
 
 -- ---- calls of the writer
 
-pub made-then : (s t u : State) (e : Option MergeFault) (cs ds : List WriterCall) → Walks cs s t → Made ds t u e → Made (cs ++ ds) s u e
-made-then s t u None cs ds h g = record {
-  draft = g.draft ∙ ap (option_map (λ (d : List ℕ). d ++ all_appended t.writer ds)) h.draft ∙ both-drafted s.draft (all_appended s.writer cs) (all_appended t.writer ds)
-      ∙ ap (λ (v : PlainWriter). option_map (λ (d : List ℕ). d ++ (all_appended s.writer cs ++ all_appended v ds)) s.draft) h.writer
-      ∙ ap (λ (bs : List ℕ). option_map (λ (d : List ℕ). d ++ bs) s.draft) (sym (appended-append s.writer cs ds));
+pub made-then : (x y : List ℕ) (s t u : State) (e : Option MergeFault) (cs ds : List WriterCall) → Walks x cs s t → Made y ds t u e → Made (x ++ y) (cs ++ ds) s u e
+made-then x y s t u None cs ds h g = record {
+  same = (λ i. h.same i ++ g.same i) ∙ ap (λ (v : PlainWriter). all_appended s.writer cs ++ all_appended v ds) h.writer ∙ sym (appended-append s.writer cs ds);
   writer = g.writer ∙ ap (λ (v : PlainWriter). after_all v ds) h.writer ∙ sym (after-append s.writer cs ds);
   fit = fit-append s.writer cs ds h.fit (subst (λ (v : PlainWriter). AllFit v ds) h.writer g.fit);
 }
-  where
-    both-drafted : (o : Option (List ℕ)) (a b : List ℕ) → option_map (λ (d : List ℕ). d ++ b) (option_map (λ (d : List ℕ). d ++ a) o) ≡ option_map (λ (d : List ℕ). d ++ (a ++ b)) o
-    both-drafted None a b = refl
-    both-drafted (Some d) a b = ap Some (append_assoc d a b)
-made-then s t u (Some TooLong) cs ds h g = λ f. g (subst (λ (v : PlainWriter). AllFit v ds) (sym h.writer) (fit-back s.writer cs ds f))
-made-then s t u (Some Damage) cs ds h g = g
-made-then s t u (Some Folder) cs ds h g = tt
-made-then s t u (Some Memory) cs ds h g = tt
+made-then x y s t u (Some TooLong) cs ds h g = λ f. g (subst (λ (v : PlainWriter). AllFit v ds) (sym h.writer) (fit-back s.writer cs ds f))
+made-then x y s t u (Some Damage) cs ds h g = g
+made-then x y s t u (Some Folder) cs ds h g = tt
+made-then x y s t u (Some Memory) cs ds h g = tt
 
 -- a fault before further calls
-pub made-fault : (s t : State) (e : MergeFault) (cs ds : List WriterCall) → Made cs s t (Some e) → Made (cs ++ ds) s t (Some e)
-made-fault s t TooLong cs ds h = λ f. h (fit-front s.writer cs ds f)
-made-fault s t Damage cs ds h = h
-made-fault s t Folder cs ds h = tt
-made-fault s t Memory cs ds h = tt
+pub made-fault : (x y : List ℕ) (s t : State) (e : MergeFault) (cs ds : List WriterCall) → Made x cs s t (Some e) → Made y (cs ++ ds) s t (Some e)
+made-fault x y s t TooLong cs ds h = λ f. h (fit-front s.writer cs ds f)
+made-fault x y s t Damage cs ds h = h
+made-fault x y s t Folder cs ds h = tt
+made-fault x y s t Memory cs ds h = tt
 
-pub walks-none : (s : State) → Walks [] s s
-walks-none s = record { draft = same s.draft; writer = refl; fit = tt }
-  where
-    same : (o : Option (List ℕ)) → o ≡ option_map (λ (d : List ℕ). d ++ []) o
-    same None = refl
-    same (Some d) = ap Some (sym (append-nil d))
+pub walks-none : (s : State) → Walks [] [] s s
+walks-none s = record { same = refl; writer = refl; fit = tt }
 
-pub sends-then : (s t u : State) (e : Option MergeFault) (cs ds : List WriterCall) → Sends cs s t None → Sends ds t u e → Sends (cs ++ ds) s u e
-sends-then s t u e cs ds h g = record {
-  passes = passes-then s t u e 0 0 0 (omega arith) h.passes g.passes;
-  made = made-then s t u e cs ds h.made g.made;
+pub sends-then : (x y : List ℕ) (s t u : State) (e : Option MergeFault) (cs ds : List WriterCall) → Sends x cs s t None → Sends y ds t u e → Sends (x ++ y) (cs ++ ds) s u e
+sends-then x y s t u e cs ds h g = record {
+  passes = passes-then x y s t u e 0 0 0 (omega arith) h.passes g.passes;
+  made = made-then x y s t u e cs ds h.made g.made;
   same_cursor = g.same_cursor ∙ h.same_cursor;
   same_gap = g.same_gap ∙ h.same_gap;
   paid = paid-then e h.paid (subst (λ (v : PlainWriter). Unless e (lead u.numbers ≤ lead t.numbers - length (all_appended v ds))) (let w = h.made in w.writer) g.paid);
@@ -195,64 +208,52 @@ sends-then s t u e cs ds h g = record {
         omega (arith, long, a, b)
     paid-then (Some e) a b = tt
 
-pub sends-fault : (s t : State) (e : MergeFault) (cs ds : List WriterCall) → Sends cs s t (Some e) → Sends (cs ++ ds) s t (Some e)
-sends-fault s t e cs ds h = record { passes = h.passes; made = made-fault s t e cs ds h.made; same_cursor = h.same_cursor; same_gap = h.same_gap; paid = tt }
+pub sends-fault : (x : List ℕ) (s t : State) (e : MergeFault) (cs ds : List WriterCall) → Sends x cs s t (Some e) → Sends x (cs ++ ds) s t (Some e)
+sends-fault x s t e cs ds h = record { passes = h.passes; made = made-fault x x s t e cs ds h.made; same_cursor = h.same_cursor; same_gap = h.same_gap; paid = tt }
+
+pub sent-then : (s t u : State) (e : Option MergeFault) (cs ds : List WriterCall) → Sent cs s t None → Sent ds t u e → Sent (cs ++ ds) s u e
+sent-then s t u e cs ds h g = record { appended = h.appended ++ g.appended; sends = sends-then h.appended g.appended s t u e cs ds h.sends g.sends }
+
+pub sent-fault : (s t : State) (e : MergeFault) (cs ds : List WriterCall) → Sent cs s t (Some e) → Sent (cs ++ ds) s t (Some e)
+sent-fault s t e cs ds h = record { appended = h.appended; sends = sends-fault h.appended s t e cs ds h.sends }
 
 -- ---- what comes, and how far what was read is ahead
 
 comes-on : (s t : State) (next : List PlainItem) → t.files ≡ s.files → t.cursor ≡ s.cursor → Comes s.files s.cursor next → Comes t.files t.cursor next
 comes-on s t next f c h = subst (λ (x : Option Files). Comes x t.cursor next) (sym f) (subst (λ (x : PlainCursor). Comes s.files x next) (sym c) h)
 
-gap-sent : (s t : State) (e : Option MergeFault) (w : ℕ) → t.numbers.gap ≡ s.numbers.gap → UnlessFolder e (t.numbers.gap ≤ max s.numbers.gap (lead s.numbers + w))
-gap-sent s t None w h = omega (arith, h)
-gap-sent s t (Some Folder) w h = tt
-gap-sent s t (Some Damage) w h = omega (arith, h)
-gap-sent s t (Some TooLong) w h = omega (arith, h)
-gap-sent s t (Some Memory) w h = omega (arith, h)
-
 follows-sent : (s t : State) (e : Option MergeFault) (next : List PlainItem) → t.files ≡ s.files → t.cursor ≡ s.cursor → Comes s.files s.cursor next → Unless e (Comes t.files t.cursor next)
 follows-sent s t None next f c h = comes-on s t next f c h
 follows-sent s t (Some e) next f c h = tt
 
-pub sends-does : (s t : State) (e : Option MergeFault) (w : ℕ) (cs : List WriterCall) (next : List PlainItem) → Comes s.files s.cursor next → Sends cs s t e → Does w cs next s t e
-sends-does s t e w cs next comes h = record {
+pub sends-does : (x : List ℕ) (s t : State) (e : Option MergeFault) (w : ℕ) (cs : List WriterCall) (next : List PlainItem) → Comes s.files s.cursor next → Sends x cs s t e → Does x w cs next s t e
+sends-does x s t e w cs next comes h = record {
   made = h.made;
   follows = (let p = h.passes in follows-sent s t e next p.same_files h.same_cursor comes);
-  gap = gap-sent s t e w h.same_gap;
+  gap = (let a = h.same_gap in omega (arith, a));
 }
 
-gap-then : (x y z : Numbers) (e : Option MergeFault) (w : ℕ) → lead y ≤ lead x → y.gap ≤ max x.gap (lead x + w) → UnlessFolder e (z.gap ≤ max y.gap (lead y + w)) → UnlessFolder e (z.gap ≤ max x.gap (lead x + w))
-gap-then x y z None w l h g = omega (arith, l, h, g)
-gap-then x y z (Some Folder) w l h g = tt
-gap-then x y z (Some Damage) w l h g = omega (arith, l, h, g)
-gap-then x y z (Some TooLong) w l h g = omega (arith, l, h, g)
-gap-then x y z (Some Memory) w l h g = omega (arith, l, h, g)
-
 -- one part behind another that left no more unpaid
-pub does-then : (s t u : State) (e : Option MergeFault) (w : ℕ) (cs ds : List WriterCall) (mid next : List PlainItem) → lead t.numbers ≤ lead s.numbers → Does w cs mid s t None → Does w ds next t u e → Does w (cs ++ ds) next s u e
-does-then s t u e w cs ds mid next l h g = record {
-  made = made-then s t u e cs ds h.made g.made;
+pub does-as : (x y : List ℕ) (w : ℕ) (cs : List WriterCall) (next : List PlainItem) (s t : State) (e : Option MergeFault) → x ≡ y → Does x w cs next s t e → Does y w cs next s t e
+does-as x y w cs next s t e is h = subst (λ (z : List ℕ). Does z w cs next s t e) is h
+
+pub does-then : (x y : List ℕ) (s t u : State) (e : Option MergeFault) (w : ℕ) (cs ds : List WriterCall) (mid next : List PlainItem) → lead t.numbers ≤ lead s.numbers → Does x w cs mid s t None → Does y w ds next t u e → Does (x ++ y) w (cs ++ ds) next s u e
+does-then x y s t u e w cs ds mid next l h g = record {
+  made = made-then x y s t u e cs ds h.made g.made;
   follows = g.follows;
-  gap = gap-then s.numbers t.numbers u.numbers e w l h.gap g.gap;
+  gap = (let a = h.gap in let b = g.gap in omega (arith, l, a, b));
 }
 
 -- one part behind another, where the other only writes
-pub does-sends : (s t u : State) (e : Option MergeFault) (w : ℕ) (cs ds : List WriterCall) (next : List PlainItem) → Does w cs next s t None → Sends ds t u e → Does w (cs ++ ds) next s u e
-does-sends s t u e w cs ds next h g = record {
-  made = made-then s t u e cs ds h.made g.made;
+pub does-sends : (x y : List ℕ) (s t u : State) (e : Option MergeFault) (w : ℕ) (cs ds : List WriterCall) (next : List PlainItem) → Does x w cs next s t None → Sends y ds t u e → Does (x ++ y) w (cs ++ ds) next s u e
+does-sends x y s t u e w cs ds next h g = record {
+  made = made-then x y s t u e cs ds h.made g.made;
   follows = (let p = g.passes in follows-sent t u e next p.same_files g.same_cursor h.follows);
-  gap = gap-on e;
+  gap = (let a = g.same_gap in let b = h.gap in omega (arith, a, b));
 }
-  where
-    gap-on : (e : Option MergeFault) → UnlessFolder e (u.numbers.gap ≤ max s.numbers.gap (lead s.numbers + w))
-    gap-on None = (let a = g.same_gap in let b = h.gap in omega (arith, a, b))
-    gap-on (Some Folder) = tt
-    gap-on (Some Damage) = (let a = g.same_gap in let b = h.gap in omega (arith, a, b))
-    gap-on (Some TooLong) = (let a = g.same_gap in let b = h.gap in omega (arith, a, b))
-    gap-on (Some Memory) = (let a = g.same_gap in let b = h.gap in omega (arith, a, b))
 
-pub does-fault : (s t : State) (e : MergeFault) (w : ℕ) (cs ds : List WriterCall) (mid next : List PlainItem) → Does w cs mid s t (Some e) → Does w (cs ++ ds) next s t (Some e)
-does-fault s t e w cs ds mid next h = record { made = made-fault s t e cs ds h.made; follows = tt; gap = h.gap }
+pub does-fault : (x y : List ℕ) (s t : State) (e : MergeFault) (w : ℕ) (cs ds : List WriterCall) (mid next : List PlainItem) → Does x w cs mid s t (Some e) → Does y w (cs ++ ds) next s t (Some e)
+does-fault x y s t e w cs ds mid next h = record { made = made-fault x y s t e cs ds h.made; follows = tt; gap = h.gap }
 
 -- ---- one call of the writer
 
@@ -263,13 +264,13 @@ written (Err e) = Some (of_writer e)
 
 -- the numbers where so many bytes more were written
 pub record Wrote (n : ℕ) (x y : Numbers) : Type 0 where
-  pub same_pulled : y.pulled ≡ x.pulled
+  pub counts : PullsAndDrafts 0 x y
   pub same_gap : y.gap ≡ x.gap
   pub less : lead y ≤ lead x - n
 
 pub wrote-all : (n : ℕ) (x y : Numbers) → IsMeter x → y ≡ after_draft x n → Wrote n x y
 wrote-all n x y is e = record {
-  same_pulled = ap (λ (m : Numbers). m.pulled) e;
+  counts = PullsAndDrafts-of_draft 0 n x y is e;
   same_gap = ap (λ (m : Numbers). m.gap) e;
   less = (
       let small = is.since_small in
@@ -278,38 +279,32 @@ wrote-all n x y is e = record {
       omega (arith, small, drafted, since));
 }
 
-wrote-none : (x y : Numbers) → y ≡ x → Wrote 0 x y
-wrote-none x y e = record {
-  same_pulled = ap (λ (m : Numbers). m.pulled) e;
+wrote-none : (x y : Numbers) → IsMeter x → y ≡ x → Wrote 0 x y
+wrote-none x y is e = record {
+  counts = subst (λ (m : Numbers). PullsAndDrafts 0 x m) (sym e) (PullsAndDrafts-none 0 x is);
   same_gap = ap (λ (m : Numbers). m.gap) e;
   less = (let l = ap lead e in omega (arith, l));
 }
 
 -- a state in which only the writer, the draft, the numbers and the count of faults are others
-wrote-passes : (n : ℕ) (s t : State) (e : Option MergeFault) → s.cursor.at ≤ s.cursor.length → t.cursor ≡ s.cursor → t.files ≡ s.files → s.faults ≤ t.faults → IfFolder e (Rose s.faults t.faults) → Wrote n s.numbers t.numbers
-    → Passes 0 s t e
-wrote-passes n s t e within same files later cause h = record {
+wrote-passes : (x : List ℕ) (n : ℕ) (s t : State) (e : Option MergeFault) → s.cursor.at ≤ s.cursor.length → t.cursor ≡ s.cursor → t.files ≡ s.files → t.draft ≡ option_map (λ (d : List ℕ). d ++ x) s.draft → s.faults ≤ t.faults → IfFolder e (Rose s.faults t.faults) → Wrote n s.numbers t.numbers
+    → Passes x 0 s t e
+wrote-passes x n s t e within same files longer later cause h = record {
   same_files = files;
+  lengthens = longer;
   later = later;
   cause = cause;
   same_name = ap (λ (c : PlainCursor). c.name) same;
   same_length = ap (λ (c : PlainCursor). c.length) same;
   onward = (let at = ap (λ (c : PlainCursor). c.at) same in omega (arith, at));
   within = subst (λ (c : PlainCursor). c.at ≤ c.length) (sym same) within;
-  pulled = pulled-by e (ap (λ (c : PlainCursor). c.at) same) h.same_pulled;
+  pulls = PullsAndDrafts-more 0 (may_pull s t e) s.numbers t.numbers (omega arith) h.counts;
   ahead = ahead-by e h.less;
 }
   where
-    pulled-by : (e : Option MergeFault) → t.cursor.at ≡ s.cursor.at → t.numbers.pulled ≡ s.numbers.pulled → Pulled s t e
-    pulled-by None at p = omega (arith, at, p)
-    pulled-by (Some f) at p = omega (arith, p, within)
-
     ahead-by : (e : Option MergeFault) → lead t.numbers ≤ lead s.numbers - n → Unless e (lead t.numbers ≤ lead s.numbers + 0)
     ahead-by None l = omega (arith, l)
     ahead-by (Some f) l = tt
-
-draft-one : (old new : Option (List ℕ)) (w : PlainWriter) (call : WriterCall) → new ≡ option_map (λ (d : List ℕ). d ++ appended w call) old → new ≡ option_map (λ (d : List ℕ). d ++ all_appended w (call ∷ [])) old
-draft-one old new w call h = h ∙ ap (λ (bs : List ℕ). option_map (λ (d : List ℕ). d ++ bs) old) (sym (append-nil (appended w call)))
 
 -- a state where the writer holds this
 abbrev pub plain : {S : Type 0} → (S → Option Files) → (S → Option (List ℕ)) → (S → Numbers) → (S → ℕ) → S → PlainCursor → PlainWriter → State
@@ -319,57 +314,70 @@ plain files draft numbers faults folder cursor writer = record { files = files f
 pub plain-sends : {S : Type 0} (files : S → Option Files) (draft : S → Option (List ℕ)) (numbers : S → Numbers) (faults : S → ℕ) (old new : S) (c : PlainCursor) (v w : PlainWriter) (call : WriterCall)
     (r : Result (Unit {0}) WriteFault) → IsMeter (numbers old) → c.at ≤ c.length
     → Appends files draft numbers faults old new (appended v call) r → OnOk r (w ≡ after v call) → TooLongUnless (Fits v call) r
-    → Sends (call ∷ []) (plain files draft numbers faults old c v) (plain files draft numbers faults new c w) (written r)
+    → Sent (call ∷ []) (plain files draft numbers faults old c v) (plain files draft numbers faults new c w) (written r)
 plain-sends files draft numbers faults old new c v w call (Ok x) meter within did is fits =
     let long : length (all_appended v (call ∷ [])) ≡ length (appended v call) = ap length (append-nil (appended v call)) in
     let g = did.gains in
     let wrote : Wrote (length (appended v call)) (numbers old) (numbers new) = wrote-all (length (appended v call)) (numbers old) (numbers new) meter g.numbers in
     record {
-      passes = wrote-passes (length (appended v call)) (plain files draft numbers faults old c v) (plain files draft numbers faults new c w) None within refl did.same_files did.later tt wrote;
-      made = record { draft = draft-one (draft old) (draft new) v call g.draft; writer = is; fit = (fits, tt) };
-      same_cursor = refl;
-      same_gap = wrote.same_gap;
-      paid = (let l = wrote.less in omega (arith, long, l));
+      appended = appended v call;
+      sends = record {
+        passes = wrote-passes (appended v call) (length (appended v call)) (plain files draft numbers faults old c v) (plain files draft numbers faults new c w) None within refl did.same_files g.draft did.later tt wrote;
+        made = record { same = sym (append-nil (appended v call)); writer = is; fit = (fits, tt) };
+        same_cursor = refl;
+        same_gap = wrote.same_gap;
+        paid = (let l = wrote.less in omega (arith, long, l));
+      };
     }
 plain-sends files draft numbers faults old new c v w call (Err writer.TooLong) meter within did is fits =
-    let wrote : Wrote 0 (numbers old) (numbers new) = wrote-none (numbers old) (numbers new) did.gains.1 in
+    let wrote : Wrote 0 (numbers old) (numbers new) = wrote-none (numbers old) (numbers new) meter did.gains.1 in
     record {
-      passes = wrote-passes 0 (plain files draft numbers faults old c v) (plain files draft numbers faults new c w) (Some TooLong) within refl did.same_files did.later tt wrote;
-      made = λ f. fits f.0;
-      same_cursor = refl;
-      same_gap = wrote.same_gap;
-      paid = tt;
+      appended = [];
+      sends = record {
+        passes = wrote-passes [] 0 (plain files draft numbers faults old c v) (plain files draft numbers faults new c w) (Some TooLong) within refl did.same_files (lengthens-none (draft old) (draft new) did.gains.0) did.later tt wrote;
+        made = λ f. fits f.0;
+        same_cursor = refl;
+        same_gap = wrote.same_gap;
+        paid = tt;
+      };
     }
 plain-sends files draft numbers faults old new c v w call (Err writer.Folder) meter within did is fits =
     let g = did.gains in
     let d = g.drafts in
-    let wrote : Wrote (length (take g.count (appended v call))) (numbers old) (numbers new) = wrote-all (length (take g.count (appended v call))) (numbers old) (numbers new) meter d.numbers in
+    let piece : List ℕ = take g.count (appended v call) in
+    let wrote : Wrote (length piece) (numbers old) (numbers new) = wrote-all (length piece) (numbers old) (numbers new) meter d.numbers in
     record {
-      passes = wrote-passes (length (take g.count (appended v call))) (plain files draft numbers faults old c v) (plain files draft numbers faults new c w) (Some Folder) within refl did.same_files did.later did.cause wrote;
-      made = tt;
-      same_cursor = refl;
-      same_gap = wrote.same_gap;
-      paid = tt;
+      appended = piece;
+      sends = record {
+        passes = wrote-passes piece (length piece) (plain files draft numbers faults old c v) (plain files draft numbers faults new c w) (Some Folder) within refl did.same_files d.draft did.later did.cause wrote;
+        made = tt;
+        same_cursor = refl;
+        same_gap = wrote.same_gap;
+        paid = tt;
+      };
     }
 plain-sends files draft numbers faults old new c v w call (Err writer.Memory) meter within did is fits =
-    let wrote : Wrote 0 (numbers old) (numbers new) = wrote-none (numbers old) (numbers new) did.gains.1 in
+    let wrote : Wrote 0 (numbers old) (numbers new) = wrote-none (numbers old) (numbers new) meter did.gains.1 in
     record {
-      passes = wrote-passes 0 (plain files draft numbers faults old c v) (plain files draft numbers faults new c w) (Some Memory) within refl did.same_files did.later tt wrote;
-      made = tt;
-      same_cursor = refl;
-      same_gap = wrote.same_gap;
-      paid = tt;
+      appended = [];
+      sends = record {
+        passes = wrote-passes [] 0 (plain files draft numbers faults old c v) (plain files draft numbers faults new c w) (Some Memory) within refl did.same_files (lengthens-none (draft old) (draft new) did.gains.0) did.later tt wrote;
+        made = tt;
+        same_cursor = refl;
+        same_gap = wrote.same_gap;
+        paid = tt;
+      };
     }
 
 pub call-sends : {S : Type 0} (files : S → Option Files) (draft : S → Option (List ℕ)) (numbers : S → Numbers) (faults : S → ℕ) (old new : S) (c : PlainCursor) (v w : Writer) (call : WriterCall)
     (r : Result (Unit {0}) WriteFault) → IsMeter (numbers old) → c.at ≤ c.length
     → Appends files draft numbers faults old new (appended (writer_view v) call) r → OnOk r (writer_view w ≡ after (writer_view v) call) → TooLongUnless (Fits (writer_view v) call) r
-    → Sends (call ∷ []) (state files draft numbers faults old c v) (state files draft numbers faults new c w) (written r)
+    → Sent (call ∷ []) (state files draft numbers faults old c v) (state files draft numbers faults new c w) (written r)
 call-sends files draft numbers faults old new c v w call r = plain-sends files draft numbers faults old new c (writer_view v) (writer_view w) call r
 
 -- nothing is done where memory fails before the call
-pub sends-none : (s : State) (cs : List WriterCall) → s.cursor.at ≤ s.cursor.length → Sends cs s s (Some Memory)
-sends-none s cs within = record { passes = passes-none s (Some Memory) within (λ e. absurd cc); made = tt; same_cursor = refl; same_gap = refl; paid = tt }
+pub sent-none : (s : State) (cs : List WriterCall) → IsMeter s.numbers → s.cursor.at ≤ s.cursor.length → Sent cs s s (Some Memory)
+sent-none s cs meter within = record { appended = []; sends = record { passes = passes-none s (Some Memory) meter within (λ e. absurd cc); made = tt; same_cursor = refl; same_gap = refl; paid = tt } }
 
 -- ---- one call of the cursor
 
@@ -383,23 +391,23 @@ read-size c (end_item n) = omega arith
 read-size c finish = omega arith
 
 -- the item was read, and nothing else was done
-pub next-passes : {told : Option Files} (s t : State) (item : Item) → t.files ≡ s.files → t.numbers ≡ after_pull s.numbers (read_for s.cursor.standing (shown_item item)) → s.faults ≤ t.faults → Goes told s.cursor item t.cursor
-    → Passes (read_for s.cursor.standing (shown_item item)) s t None
-next-passes s t item files is later goes =
+pub next-passes : {told : Option Files} (s t : State) (item : Item) → t.files ≡ s.files → t.draft ≡ s.draft → t.numbers ≡ after_pull s.numbers (read_for s.cursor.standing (shown_item item)) → s.faults ≤ t.faults → Goes told s.cursor item t.cursor
+    → Passes [] (read_for s.cursor.standing (shown_item item)) s t None
+next-passes s t item files draft is later goes =
     let size = read-size s.cursor.standing (shown_item item) in
     let moved = goes.moved in
-    let pulled = ap (λ (m : Numbers). m.pulled) is in
     let since = ap (λ (m : Numbers). m.since) is in
     let drafted = ap (λ (m : Numbers). m.drafted) is in
     record {
       same_files = files;
+      lengthens = lengthens-none s.draft t.draft draft;
       later = later;
       cause = tt;
       same_name = goes.same_name;
       same_length = goes.same_length;
       onward = omega (arith, moved);
       within = goes.within;
-      pulled = omega (arith, moved, size, pulled);
+      pulls = PullsAndDrafts-of_pulls (t.cursor.at - s.cursor.at) s.numbers t.numbers (PullsAtMost-of (t.cursor.at - s.cursor.at) (read_for s.cursor.standing (shown_item item)) s.numbers t.numbers (omega (arith, moved, size)) is);
       ahead = omega (arith, since, drafted);
     }
 
@@ -409,21 +417,20 @@ cause-read read.Folder P h = h
 cause-read read.Memory P h = tt
 
 -- nothing was read that counts
-pub next-fault : (s t : State) (e : CursorFault) (m : ℕ) → s.cursor.at ≤ s.cursor.length → t.files ≡ s.files → PullsAtMost (s.cursor.length - s.cursor.at) s.numbers t.numbers → s.faults ≤ t.faults
-    → cursor.IfFolder e (Rose s.faults t.faults) → t.cursor ≡ s.cursor → Passes m s t (Some (of_cursor e))
-next-fault s t e m within files pulls later cause same =
-    let pulled = ap (λ (m : Numbers). m.pulled) pulls.pulled in
-    let few = pulls.within in
+pub next-fault : (s t : State) (e : CursorFault) (m : ℕ) → s.cursor.at ≤ s.cursor.length → t.files ≡ s.files → t.draft ≡ s.draft → PullsAtMost (s.cursor.length - s.cursor.at) s.numbers t.numbers → s.faults ≤ t.faults
+    → cursor.IfFolder e (Rose s.faults t.faults) → t.cursor ≡ s.cursor → Passes [] m s t (Some (of_cursor e))
+next-fault s t e m within files draft pulls later cause same =
     let at = ap (λ (c : PlainCursor). c.at) same in
     record {
       same_files = files;
+      lengthens = lengthens-none s.draft t.draft draft;
       later = later;
       cause = cause-read e (Rose s.faults t.faults) cause;
       same_name = ap (λ (c : PlainCursor). c.name) same;
       same_length = ap (λ (c : PlainCursor). c.length) same;
       onward = omega (arith, at);
       within = subst (λ (c : PlainCursor). c.at ≤ c.length) (sym same) within;
-      pulled = omega (arith, pulled, few, within);
+      pulls = PullsAndDrafts-of_pulls (s.cursor.length - s.cursor.at) s.numbers t.numbers pulls;
       ahead = tt;
     }
 
@@ -432,7 +439,6 @@ pub record Takes (w : ℕ) (i : PlainItem) (is : List PlainItem) (s t : State) (
   pub given : item ≡ i
   pub comes : Comes t.files t.cursor is
   pub gap : t.numbers.gap ≤ max s.numbers.gap (lead s.numbers + w)
-  pub same_draft : t.draft ≡ s.draft
   pub same_writer : t.writer ≡ s.writer
 
 pub gap-read : (w : ℕ) (i : PlainItem) (c : Standing) (x y : Numbers) → IsWithin w i → PullsAtMost (read_for c i) x y → y.gap ≤ max x.gap (lead x + w)
@@ -459,86 +465,75 @@ comes-next told a b item i is goes h =
     )
 
 -- an item where one comes that is told
-pub takes : (w : ℕ) (i : PlainItem) (is : List PlainItem) (s t : State) (item : Item) → IsWithin w i → t.files ≡ s.files → t.draft ≡ s.draft → t.writer ≡ s.writer → PullsAtMost (read_for s.cursor.standing i) s.numbers t.numbers
+pub takes : (w : ℕ) (i : PlainItem) (is : List PlainItem) (s t : State) (item : Item) → IsWithin w i → t.files ≡ s.files → t.writer ≡ s.writer → PullsAtMost (read_for s.cursor.standing i) s.numbers t.numbers
     → Goes s.files s.cursor item t.cursor → Comes s.files s.cursor (i ∷ is) → Takes w i is s t (shown_item item)
-takes w i is s t item small files draft same reads goes h =
+takes w i is s t item small files same reads goes h =
     let both = comes-next s.files s.cursor t.cursor item i is goes h in
     record {
       given = both.0;
       comes = subst (λ (x : Option Files). Comes x t.cursor is) (sym files) both.1;
       gap = gap-read w i s.cursor.standing s.numbers t.numbers small reads;
-      same_draft = draft;
       same_writer = same;
     }
 
-pub unless-folder : (e : Option MergeFault) (P : Type 0) → P → UnlessFolder e P
-unless-folder None P h = h
-unless-folder (Some Folder) P h = tt
-unless-folder (Some Damage) P h = h
-unless-folder (Some TooLong) P h = h
-unless-folder (Some Memory) P h = h
-
 -- a fault where an item comes that is told
-pub takes-fault : (w : ℕ) (i : PlainItem) (cs : List WriterCall) (next : List PlainItem) (s t : State) (e : CursorFault) → IsWithin w i → cursor.IfDamage e ⊥ → PullsAtMost (read_for s.cursor.standing i) s.numbers t.numbers → Does w cs next s t (Some (of_cursor e))
-takes-fault w i cs next s t e small whole reads = record {
+pub takes-fault : (x : List ℕ) (w : ℕ) (i : PlainItem) (cs : List WriterCall) (next : List PlainItem) (s t : State) (e : CursorFault) → IsWithin w i → cursor.IfDamage e ⊥ → PullsAtMost (read_for s.cursor.standing i) s.numbers t.numbers → Does x w cs next s t (Some (of_cursor e))
+takes-fault x w i cs next s t e small whole reads = record {
   made = none-made e whole;
   follows = tt;
-  gap = unless-folder (Some (of_cursor e)) (t.numbers.gap ≤ max s.numbers.gap (lead s.numbers + w)) (gap-read w i s.cursor.standing s.numbers t.numbers small reads);
+  gap = gap-read w i s.cursor.standing s.numbers t.numbers small reads;
 }
   where
-    none-made : (e : CursorFault) → cursor.IfDamage e ⊥ → Made cs s t (Some (of_cursor e))
+    none-made : (e : CursorFault) → cursor.IfDamage e ⊥ → Made x cs s t (Some (of_cursor e))
     none-made read.Damage h = h
     none-made read.Folder h = tt
     none-made read.Memory h = tt
 
 -- memory fails behind an item
-pub takes-memory : (w : ℕ) (i : PlainItem) (is : List PlainItem) (s t : State) (item : PlainItem) (cs : List WriterCall) (next : List PlainItem) → Takes w i is s t item → Does w cs next s t (Some Memory)
-takes-memory w i is s t item cs next h = record { made = tt; follows = tt; gap = h.gap }
+pub takes-memory : (x : List ℕ) (w : ℕ) (i : PlainItem) (is : List PlainItem) (s t : State) (item : PlainItem) (cs : List WriterCall) (next : List PlainItem) → Takes w i is s t item → Does x w cs next s t (Some Memory)
+takes-memory x w i is s t item cs next h = record { made = tt; follows = tt; gap = h.gap }
 
 -- an item to which nothing is written
-pub takes-only : (w : ℕ) (i : PlainItem) (is : List PlainItem) (s t : State) (item : PlainItem) → Takes w i is s t item → Does w [] is s t None
+pub takes-only : (w : ℕ) (i : PlainItem) (is : List PlainItem) (s t : State) (item : PlainItem) → Takes w i is s t item → Does [] w [] is s t None
 takes-only w i is s t item h = record {
-  made = record { draft = same s.draft t.draft h.same_draft; writer = h.same_writer; fit = tt };
+  made = record { same = refl; writer = h.same_writer; fit = tt };
   follows = h.comes;
   gap = h.gap;
 }
-  where
-    same : (o n : Option (List ℕ)) → n ≡ o → n ≡ option_map (λ (d : List ℕ). d ++ []) o
-    same None n e = e
-    same (Some d) n e = e ∙ ap Some (sym (append-nil d))
 
-made-before : (s t u : State) (cs : List WriterCall) (e : Option MergeFault) → t.draft ≡ s.draft → t.writer ≡ s.writer → Made cs t u e → Made cs s u e
-made-before s t u cs None d w h = record {
-  draft = h.draft ∙ (λ j. option_map (λ (d : List ℕ). d ++ all_appended (w j) cs) (d j));
+made-before : (x : List ℕ) (s t u : State) (cs : List WriterCall) (e : Option MergeFault) → t.writer ≡ s.writer → Made x cs t u e → Made x cs s u e
+made-before x s t u cs None w h = record {
+  same = h.same ∙ ap (λ (v : PlainWriter). all_appended v cs) w;
   writer = h.writer ∙ ap (λ (v : PlainWriter). after_all v cs) w;
   fit = subst (λ (v : PlainWriter). AllFit v cs) w h.fit;
 }
-made-before s t u cs (Some TooLong) d w h = λ f. h (subst (λ (v : PlainWriter). AllFit v cs) (sym w) f)
-made-before s t u cs (Some Damage) d w h = h
-made-before s t u cs (Some Folder) d w h = tt
-made-before s t u cs (Some Memory) d w h = tt
+made-before x s t u cs (Some TooLong) w h = λ f. h (subst (λ (v : PlainWriter). AllFit v cs) (sym w) f)
+made-before x s t u cs (Some Damage) w h = h
+made-before x s t u cs (Some Folder) w h = tt
+made-before x s t u cs (Some Memory) w h = tt
 
 -- an item, and calls for it that read nothing
-pub takes-sends : (w : ℕ) (i : PlainItem) (is : List PlainItem) (s t u : State) (item : PlainItem) (cs : List WriterCall) (e : Option MergeFault) → Takes w i is s t item → Sends cs t u e → Does w cs is s u e
-takes-sends w i is s t u item cs e h g = record {
-  made = made-before s t u cs e h.same_draft h.same_writer g.made;
+pub takes-sends : (x : List ℕ) (w : ℕ) (i : PlainItem) (is : List PlainItem) (s t u : State) (item : PlainItem) (cs : List WriterCall) (e : Option MergeFault) → Takes w i is s t item → Sends x cs t u e → Does x w cs is s u e
+takes-sends x w i is s t u item cs e h g = record {
+  made = made-before x s t u cs e h.same_writer g.made;
   follows = (let p = g.passes in follows-sent t u e is p.same_files g.same_cursor h.comes);
-  gap = (let a = g.same_gap in let b = h.gap in unless-folder e (u.numbers.gap ≤ max s.numbers.gap (lead s.numbers + w)) (omega (arith, a, b)));
+  gap = (let a = g.same_gap in let b = h.gap in omega (arith, a, b));
 }
 
 -- what was read for an item is written again, and nothing stays unpaid
-pub passes-paid : (n : ℕ) (s t u : State) (cs : List WriterCall) (e : Option MergeFault) → n ≤ length (all_appended t.writer cs) → Passes n s t None → Sends cs t u e → Passes 0 s u e
-passes-paid n s t u cs e le h g =
-    let after : Passes n s u e = passes-then s t u e n 0 n (omega arith) h g.passes in
+pub passes-paid : (x y : List ℕ) (n : ℕ) (s t u : State) (cs : List WriterCall) (e : Option MergeFault) → n ≤ length (all_appended t.writer cs) → Passes x n s t None → Sends y cs t u e → Passes (x ++ y) 0 s u e
+passes-paid x y n s t u cs e le h g =
+    let after : Passes (x ++ y) n s u e = passes-then x y s t u e n 0 n (omega arith) h g.passes in
     record {
       same_files = after.same_files;
+      lengthens = after.lengthens;
       later = after.later;
       cause = after.cause;
       same_name = after.same_name;
       same_length = after.same_length;
       onward = after.onward;
       within = after.within;
-      pulled = after.pulled;
+      pulls = after.pulls;
       ahead = ahead-by e g.paid;
     }
   where
@@ -547,8 +542,9 @@ passes-paid n s t u cs e le h g =
     ahead-by (Some f) p = tt
 
 -- behind an item no call is made
-pub passes-stop : (n m : ℕ) (s t : State) (f : MergeFault) → f ≢ Folder → t.cursor.at ≤ t.cursor.length → Passes n s t None → Passes m s t (Some f)
-passes-stop n m s t f not within h = passes-fault s t f n m (passes-then s t t (Some f) n 0 n (omega arith) h (passes-none t (Some f) within (λ e. not (some_is f Folder e))))
+pub passes-stop : (x : List ℕ) (n m : ℕ) (s t : State) (f : MergeFault) → IsMeter t.numbers → f ≢ Folder → t.cursor.at ≤ t.cursor.length → Passes x n s t None → Passes x m s t (Some f)
+passes-stop x n m s t f meter not within h =
+    passes-fault x s t f n m (passes-as (x ++ []) x n s t (Some f) (append-nil x) (passes-then x [] s t t (Some f) n 0 n (omega arith) h (passes-none t (Some f) meter within (λ e. not (some_is f Folder e)))))
 
 -- ---- a call of the cursor, and what comes next
 
@@ -560,11 +556,13 @@ pub record Nexts (s t : State) (item : Item) : Type 0 where
   pub numbers : t.numbers ≡ after_pull s.numbers (read_for s.cursor.standing (shown_item item))
   pub later : s.faults ≤ t.faults
   pub goes : Goes s.files s.cursor item t.cursor
+  pub meter : IsMeter t.numbers
   pub reads : (i : PlainItem) (is : List PlainItem) → Comes s.files s.cursor (i ∷ is) → PullsAtMost (read_for s.cursor.standing i) s.numbers t.numbers
 
 -- it failed
 pub record Stays (s t : State) (e : CursorFault) : Type 0 where
   pub files : t.files ≡ s.files
+  pub draft : t.draft ≡ s.draft
   pub pulls : PullsAtMost (s.cursor.length - s.cursor.at) s.numbers t.numbers
   pub later : s.faults ≤ t.faults
   pub cause : cursor.IfFolder e (Rose s.faults t.faults)
@@ -583,31 +581,31 @@ pub front-of : (w : ℕ) (is : List PlainItem) (last : PlainItem) (next : List P
 front-of w [] last next h = record { item = last; behind = next; stand = refl; small = h.0 }
 front-of w (i ∷ is) last next h = record { item = i; behind = is ++ last ∷ next; stand = refl; small = h.0 }
 
-pub gave : (s t : State) (item : Item) → Nexts s t item → Passes (read_for s.cursor.standing (shown_item item)) s t None
-gave s t item h = next-passes s t item h.files h.numbers h.later h.goes
+pub gave : (s t : State) (item : Item) → Nexts s t item → Passes [] (read_for s.cursor.standing (shown_item item)) s t None
+gave s t item h = next-passes s t item h.files h.draft h.numbers h.later h.goes
 
 pub gave-takes : (w : ℕ) (i : PlainItem) (is : List PlainItem) (s t : State) (item : Item) → Nexts s t item → IsWithin w i → Comes s.files s.cursor (i ∷ is) → Takes w i is s t (shown_item item)
-gave-takes w i is s t item h small comes = takes w i is s t item small h.files h.draft h.writer (h.reads i is comes) h.goes comes
+gave-takes w i is s t item h small comes = takes w i is s t item small h.files h.writer (h.reads i is comes) h.goes comes
 
 -- the item was given, and then the merge stops
-pub gave-stop : (m : ℕ) (s t : State) (item : Item) (f : MergeFault) → f ≢ Folder → Nexts s t item → Passes m s t (Some f)
-gave-stop m s t item f not h = passes-stop (read_for s.cursor.standing (shown_item item)) m s t f not (let g = h.goes in g.within) (gave s t item h)
+pub gave-stop : (m : ℕ) (s t : State) (item : Item) (f : MergeFault) → f ≢ Folder → Nexts s t item → Passes [] m s t (Some f)
+gave-stop m s t item f not h = passes-stop [] (read_for s.cursor.standing (shown_item item)) m s t f h.meter not (let g = h.goes in g.within) (gave s t item h)
 
-pub gave-memory : (w : ℕ) (is : List PlainItem) (s t : State) (item : Item) (cs : List WriterCall) (next : List PlainItem) → Nexts s t item → Front w is → Comes s.files s.cursor is → Does w cs next s t (Some Memory)
-gave-memory w is s t item cs next h f comes =
-    takes-memory w f.item f.behind s t (shown_item item) cs next (gave-takes w f.item f.behind s t item h f.small (subst (λ (xs : List PlainItem). Comes s.files s.cursor xs) f.stand comes))
+pub gave-memory : (x : List ℕ) (w : ℕ) (is : List PlainItem) (s t : State) (item : Item) (cs : List WriterCall) (next : List PlainItem) → Nexts s t item → Front w is → Comes s.files s.cursor is → Does x w cs next s t (Some Memory)
+gave-memory x w is s t item cs next h f comes =
+    takes-memory x w f.item f.behind s t (shown_item item) cs next (gave-takes w f.item f.behind s t item h f.small (subst (λ (xs : List PlainItem). Comes s.files s.cursor xs) f.stand comes))
 
 -- the item was given, and calls were made for it that read nothing
-pub gave-sent : (s t u : State) (item : Item) (cs : List WriterCall) (e : Option MergeFault) → read_for s.cursor.standing (shown_item item) ≤ length (all_appended t.writer cs) → Nexts s t item → Sends cs t u e → Passes 0 s u e
-gave-sent s t u item cs e le h g = passes-paid (read_for s.cursor.standing (shown_item item)) s t u cs e le (gave s t item h) g
+pub gave-sent : (x : List ℕ) (s t u : State) (item : Item) (cs : List WriterCall) (e : Option MergeFault) → read_for s.cursor.standing (shown_item item) ≤ length (all_appended t.writer cs) → Nexts s t item → Sends x cs t u e → Passes x 0 s u e
+gave-sent x s t u item cs e le h g = passes-paid [] x (read_for s.cursor.standing (shown_item item)) s t u cs e le (gave s t item h) g
 
-pub failed : (m : ℕ) (s t : State) (e : CursorFault) → s.cursor.at ≤ s.cursor.length → Stays s t e → Passes m s t (Some (of_cursor e))
-failed m s t e within h = next-fault s t e m within h.files h.pulls h.later h.cause h.same
+pub failed : (m : ℕ) (s t : State) (e : CursorFault) → s.cursor.at ≤ s.cursor.length → Stays s t e → Passes [] m s t (Some (of_cursor e))
+failed m s t e within h = next-fault s t e m within h.files h.draft h.pulls h.later h.cause h.same
 
-pub failed-does : (w : ℕ) (is : List PlainItem) (s t : State) (e : CursorFault) (cs : List WriterCall) (next : List PlainItem) → Stays s t e → Front w is → Comes s.files s.cursor is → Does w cs next s t (Some (of_cursor e))
-failed-does w is s t e cs next h f comes =
+pub failed-does : (x : List ℕ) (w : ℕ) (is : List PlainItem) (s t : State) (e : CursorFault) (cs : List WriterCall) (next : List PlainItem) → Stays s t e → Front w is → Comes s.files s.cursor is → Does x w cs next s t (Some (of_cursor e))
+failed-does x w is s t e cs next h f comes =
     let here = subst (λ (xs : List PlainItem). Comes s.files s.cursor xs) f.stand comes in
-    takes-fault w f.item cs next s t e f.small (h.undamaged f.item f.behind here) (h.reads f.item f.behind here)
+    takes-fault x w f.item cs next s t e f.small (h.undamaged f.item f.behind here) (h.reads f.item f.behind here)
 
 -- ---- what the code hands on
 
@@ -624,16 +622,16 @@ went told old new r item is h = subst (λ (x : Result Item CursorFault). Moves t
 pub stayed : (told : Option Files) (old new : PlainCursor) (r : Result Item CursorFault) (e : CursorFault) → r ≡ Err e → Moves told old r new → new ≡ old
 stayed told old new r e is h = subst (λ (x : Result Item CursorFault). Moves told old x new) is h
 
-pub does-none : (w : ℕ) (next : List PlainItem) (s : State) → Comes s.files s.cursor next → Does w [] next s s None
+pub does-none : (w : ℕ) (next : List PlainItem) (s : State) → Comes s.files s.cursor next → Does [] w [] next s s None
 does-none w next s comes = record { made = walks-none s; follows = comes; gap = omega arith }
 
 -- the call of the cursor gave the item, by its clauses
-pub nexts : (s t : State) (r : Result Item CursorFault) (item : Item) → r ≡ Ok item → t.files ≡ s.files → t.draft ≡ s.draft → t.writer ≡ s.writer → t.numbers ≡ after_pull s.numbers (read_for s.cursor.standing (shown_item item)) → s.faults ≤ t.faults
+pub nexts : (s t : State) (r : Result Item CursorFault) (item : Item) → IsMeter t.numbers → r ≡ Ok item → t.files ≡ s.files → t.draft ≡ s.draft → t.writer ≡ s.writer → t.numbers ≡ after_pull s.numbers (read_for s.cursor.standing (shown_item item)) → s.faults ≤ t.faults
     → ((i : PlainItem) (is : List PlainItem) → Comes s.files s.cursor (i ∷ is) → PullsAtMost (read_for s.cursor.standing i) s.numbers t.numbers) → Moves s.files s.cursor r t.cursor → Nexts s t item
-nexts s t r item is files draft same numbers later reads moves = record { files = files; draft = draft; writer = same; numbers = numbers; later = later; goes = went s.files s.cursor t.cursor r item is moves; reads = reads }
+nexts s t r item meter is files draft same numbers later reads moves = record { meter = meter; files = files; draft = draft; writer = same; numbers = numbers; later = later; goes = went s.files s.cursor t.cursor r item is moves; reads = reads }
 
 -- the call of the cursor failed, by its clauses
-pub stays-by : (s t : State) (r : Result Item CursorFault) (e : CursorFault) → r ≡ Err e → t.files ≡ s.files → PullsAtMost (s.cursor.length - s.cursor.at) s.numbers t.numbers → s.faults ≤ t.faults → cursor.IfFolder e (Rose s.faults t.faults)
+pub stays-by : (s t : State) (r : Result Item CursorFault) (e : CursorFault) → r ≡ Err e → t.files ≡ s.files → t.draft ≡ s.draft → PullsAtMost (s.cursor.length - s.cursor.at) s.numbers t.numbers → s.faults ≤ t.faults → cursor.IfFolder e (Rose s.faults t.faults)
     → ((i : PlainItem) (is : List PlainItem) → Comes s.files s.cursor (i ∷ is) → cursor.IfDamage e ⊥) → ((i : PlainItem) (is : List PlainItem) → Comes s.files s.cursor (i ∷ is) → PullsAtMost (read_for s.cursor.standing i) s.numbers t.numbers)
     → Moves s.files s.cursor r t.cursor → Stays s t e
-stays-by s t r e is files pulls later cause undamaged reads moves = record { files = files; pulls = pulls; later = later; cause = cause; same = stayed s.files s.cursor t.cursor r e is moves; undamaged = undamaged; reads = reads }
+stays-by s t r e is files draft pulls later cause undamaged reads moves = record { files = files; draft = draft; pulls = pulls; later = later; cause = cause; same = stayed s.files s.cursor t.cursor r e is moves; undamaged = undamaged; reads = reads }

@@ -131,12 +131,6 @@ module _ {X : Type 0} (view : X → PlainKeyed) (l : PlainLabel) (xs : List X) (
       ∙ below_more l (view x) (map view (take n xs)) (map view (drop (n + 1) xs)) t
       ∙ ap (λ (z : List PlainKeyed). z ++ below l (map view (drop (n + 1) xs))) (sym (map-take view xs n x here is))
 
-  -- there are no more kids
-  pub below-all : length xs ≤ n → below l (map view xs) ≡ map view (take n xs) ++ below l (map view (drop n xs)) → take n (map view xs) ≡ below l (map view xs)
-  below-all past whole =
-      take-map view n xs ∙ sym (append-nil (map view (take n xs)))
-      ∙ ap (λ (z : List PlainKeyed). map view (take n xs) ++ below l z) (sym (map-end view xs n past)) ∙ sym whole
-
   -- the next kid is not below the label
   pub below-until : (x : X) → n < length xs → x ≡ get_or xs n x → is_lt (label_cmp (label_of (view x)) l) ≡ false → below l (map view xs) ≡ map view (take n xs) ++ below l (map view (drop n xs)) → take n (map view xs) ≡ below l (map view xs)
   below-until x here is t whole =

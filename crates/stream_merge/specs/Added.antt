@@ -2,8 +2,9 @@
 use Rattle.std.specs.Prelude.{◌≡◌, ℕ, List, [], ◌∷◌, ◌++◌, drop, Option, Some, option_map, Result, Err, ⊤}
 use Rattle.key_spec.specs.Data.{PlainRule}
 use Rattle.keyed_tree.specs.Data.{PlainKeyed}
-use Rattle.xa_outside.specs.Folder.{Files, committed}
+use Rattle.xa_outside.specs.Folder.{Files, committed, emptied}
 use Rattle.archive_file.specs.Sound.{SoundAs}
+use Rattle.record_cursor.specs.Moves.{TellsFront}
 use Rattle.record_cursor.specs.View.{PlainHeader}
 use Rattle.record_format.specs.Fronts.{header_at}
 use Rattle.stream_merge.specs.declared.fault.AddFault.{AddFault}
@@ -19,11 +20,18 @@ IsBlank draft = (bytes : List ℕ) → draft ≡ Some bytes → bytes ≡ []
 abbrev pub IsHeaderOf : PlainHeader → List ℕ → Type 0
 IsHeaderOf h bytes = header_at bytes ≡ Some ((h.rules, h.versions), drop h.first bytes)
 
--- The sound archive of these versions, and of the new one behind them, came under the name by way of the draft, where both are told.
-pub record Added (rules : List PlainRule) (vs : List PlainKeyed) (new : PlainKeyed) (name : List ℕ) (files now : Option Files) (draft : Option (List ℕ)) : Type 0 where
+-- Some file came under the name by way of the draft, where both are told, and the draft is empty then. Where the file of before was the sound archive
+-- of some versions, this one is that of these and of the new one behind them.
+pub record Added (h : PlainHeader) (name : List ℕ) (new : PlainKeyed) (files now : Option Files) (draft rest : Option (List ℕ)) : Type 0 where
   pub bytes : List ℕ
-  pub sound : SoundAs rules (vs ++ new ∷ []) bytes
   pub stored : now ≡ committed files (option_map (λ _. bytes) draft) name
+  pub blank : rest ≡ emptied draft
+  pub sound : (front : List ℕ) (rules : List PlainRule) (vs : List PlainKeyed) → TellsFront files name h.length front → IsHeaderOf h front → SoundAs rules vs front → SoundAs rules (vs ++ new ∷ []) bytes
+
+-- a draft that is told gained some bytes
+pub record Lengthens (old new : Option (List ℕ)) : Type 0 where
+  pub bytes : List ℕ
+  pub is : new ≡ option_map (λ d. d ++ bytes) old
 
 -- ---- faults
 
@@ -42,8 +50,3 @@ IfTooLong other P = ⊤
 abbrev pub IfFailed : {T : Type 0} → Result T AddFault → Type 0 → Type 0
 IfFailed (Err Folder) P = P
 IfFailed other P = ⊤
-
--- where the folder did not fail, this holds
-abbrev pub UnlessFailed : {T : Type 0} → Result T AddFault → Type 0 → Type 0
-UnlessFailed (Err Folder) P = ⊤
-UnlessFailed other P = P

@@ -6,3 +6,7 @@ pub mod View
 pub mod Meets
 pub mod Added
 pub mod Appended
+pub mod Copied
+pub mod LeafMerged
+pub mod RowMerged
+pub mod Beside

@@ -1,6 +1,7 @@
 -- What a part of the merge does, whatever the archive is.
-use Rattle.std.specs.Prelude.{◌≡◌, ℕ, ◌+◌, ◌≤◌, ◌∷◌, Bool, true, false, Option, Some, None, Result, Ok, Err, ⊤}
+use Rattle.std.specs.Prelude.{◌≡◌, ℕ, ◌+◌, ◌-◌, ◌≤◌, List, ◌∷◌, ◌++◌, Bool, true, false, Option, Some, None, option_map, Result, Ok, Err, ⊤}
 use Rattle.xa_outside.specs.Causes.{Rose}
+use Rattle.xa_outside.specs.Numbers.{PullsAndDrafts}
 use Rattle.record_cursor.specs.declared.fault.CursorFault.{CursorFault}
 use Rattle.record_cursor.specs.declared.fault.CursorFault.TheVariants as cursor
 use Rattle.record_writer.specs.Data.{OpenInner, PlainWriter}
@@ -31,11 +32,6 @@ abbrev pub Unless : Option MergeFault → Type 0 → Type 0
 Unless None P = P
 Unless (Some e) P = ⊤
 
--- where the folder did not fail, this holds
-abbrev pub UnlessFolder : Option MergeFault → Type 0 → Type 0
-UnlessFolder (Some Folder) P = ⊤
-UnlessFolder other P = P
-
 -- where the folder failed, this holds
 abbrev pub IfFolder : Option MergeFault → Type 0 → Type 0
 IfFolder (Some Folder) P = P
@@ -43,22 +39,23 @@ IfFolder other P = ⊤
 
 -- ---- states
 
--- The bytes by which the cursor moved were pulled, or fewer; after a fault no more than it had left.
-abbrev pub Pulled : State → State → Option MergeFault → Type 0
-Pulled s t None = t.numbers.pulled + s.cursor.at ≤ s.numbers.pulled + t.cursor.at
-Pulled s t (Some e) = t.numbers.pulled + s.cursor.at ≤ s.numbers.pulled + s.cursor.length
+-- how many bytes may be pulled: those by which the cursor moved, and after a fault those that it had left
+abbrev pub may_pull : State → State → Option MergeFault → ℕ
+may_pull s t None = t.cursor.at - s.cursor.at
+may_pull s t (Some e) = s.cursor.length - s.cursor.at
 
--- The files stay, the folder fails only where its count rose, and the cursor goes on in its file and no further. What was read is ahead of what
--- was written by at most so many bytes more than before.
-pub record Passes (more : ℕ) (s t : State) (ended : Option MergeFault) : Type 0 where
+-- The files stay, the draft only grows, by these bytes, the folder fails only where its count rose, and the cursor goes on in its file and no further. What was
+-- read is ahead of what was written by at most so many bytes more than before.
+pub record Passes (x : List ℕ) (more : ℕ) (s t : State) (ended : Option MergeFault) : Type 0 where
   pub same_files : t.files ≡ s.files
+  pub lengthens : t.draft ≡ option_map (λ d. d ++ x) s.draft
   pub later : s.faults ≤ t.faults
   pub cause : IfFolder ended (Rose s.faults t.faults)
   pub same_name : t.cursor.name ≡ s.cursor.name
   pub same_length : t.cursor.length ≡ s.cursor.length
   pub onward : s.cursor.at ≤ t.cursor.at
   pub within : t.cursor.at ≤ t.cursor.length
-  pub pulled : Pulled s t ended
+  pub pulls : PullsAndDrafts (may_pull s t ended) s.numbers t.numbers
   pub ahead : Unless ended (lead t.numbers ≤ lead s.numbers + more)
 
 -- the kind and the length of an END, which were read and to which nothing was written

@@ -1,5 +1,5 @@
 -- What the kids of a node inherit.
-use Rattle.std.specs.Prelude.{ℕ, List, ◌∷◌, []}
+use Rattle.std.specs.Prelude.{ℕ, List}
 use Rattle.version_set.specs.View.{pairs_of}
 use Rattle.stream_merge.specs.declared.inherited.Inherited.{Inherited}
 

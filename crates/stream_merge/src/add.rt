@@ -16,11 +16,12 @@ ghost use Rattle.record_format.specs.Files.{FileOf, header_bytes, largest};
 ghost use Rattle.record_format.specs.Shapes.{IsShapedNode};
 ghost use Rattle.record_writer.specs.View.{writer_view};
 ghost use Rattle.xa_outside.specs.Causes.{Rose};
-ghost use Rattle.xa_outside.specs.Folder.{committed};
-ghost use Rattle.stream_merge.specs.Added.{Added, IsBlank, IsHeaderOf, IfTooLong, IfFailed, UnlessFailed};
-ghost use Rattle.stream_merge.specs.Appended.{Reads, WritesNodes, Grows};
-ghost use Rattle.stream_merge.specs.Passes.{UnlessFolder, fault_of};
-ghost use Rattle.stream_merge.specs.State.{state, lead};
+ghost use Rattle.xa_outside.specs.Folder.{committed, emptied};
+ghost use Rattle.xa_outside.specs.Numbers.{PullsAndDrafts};
+ghost use Rattle.stream_merge.specs.Added.{Added, IsBlank, IsHeaderOf, IfTooLong, IfFailed, Lengthens};
+ghost use Rattle.stream_merge.specs.Appended.{NodesAppended, VersionAppended};
+ghost use Rattle.stream_merge.specs.Passes.{fault_of};
+ghost use Rattle.stream_merge.specs.State.{lead};
 ghost use Rattle.stream_merge.specs.View.{inherited_view};
 ghost use Rattle.stream_merge.specs.declared.fault.AddFault.TheVariants.{Damage, Limit};
 
@@ -59,12 +60,12 @@ pub fn stream_add<F: Folder>(
     requires draft { IsBlank (F.draft folder.old) }
     requires keyed { IsKeyedBy (header_view header.now).rules (keyed_view new.now) }
 
-    // The file of a sound archive becomes that of its versions and the new one.
-    ensures added { (bytes : List ℕ) (rules : List PlainRule) (vs : List PlainKeyed)
-        → TellsFront (F.files folder.old) name.now (header_view header.now).length bytes
-        → IsHeaderOf (header_view header.now) bytes → SoundAs rules vs bytes
-        → OnOk result (Added rules vs (keyed_view new.now) name.now
-        (F.files folder.old) (F.files folder.new) (F.draft folder.old)) }
+    // The file of a sound archive becomes that of its versions and the new one. Whatever the
+    // archive is, no other file changes, and the draft is empty then, or has only grown.
+    ensures added { OnOk result (Added (header_view header.now) name.now (keyed_view new.now)
+        (F.files folder.old) (F.files folder.new) (F.draft folder.old) (F.draft folder.new)) }
+    ensures refused { OnErr result (F.files folder.new ≡ F.files folder.old) }
+    ensures drafted { OnErr result (Lengthens (F.draft folder.old) (F.draft folder.new)) }
     ensures too_long { (bytes : List ℕ) (rules : List PlainRule) (vs : List PlainKeyed)
         → TellsFront (F.files folder.old) name.now (header_view header.now).length bytes
         → IsHeaderOf (header_view header.now) bytes → SoundAs rules vs bytes
@@ -74,21 +75,21 @@ pub fn stream_add<F: Folder>(
         → TellsFront (F.files folder.old) name.now (header_view header.now).length bytes
         → IsHeaderOf (header_view header.now) bytes → SoundAs rules vs bytes
         → IfErr result (λ e. e ≢ Damage) }
-    ensures refused { OnErr result (F.files folder.new ≡ F.files folder.old) }
+
     ensures limit { (result ≡ Err Limit) ↔ ((header_view header.now).versions ≡ 999999) }
     ensures later { F.faults folder.old ≤ F.faults folder.new }
     ensures cause { IfFailed result (Rose (F.faults folder.old) (F.faults folder.new)) }
 
     // The archive is read once, and over a sound one little of it is held.
-    ensures pulls { (F.numbers folder.new).pulled ≤ (F.numbers folder.old).pulled
-        + ((header_view header.now).length - (header_view header.now).first) }
+    ensures pulls { PullsAndDrafts
+        ((header_view header.now).length - (header_view header.now).first)
+        (F.numbers folder.old) (F.numbers folder.new) }
     ensures gap { (bytes : List ℕ) (rules : List PlainRule) (vs : List PlainKeyed)
         (a : PlainArchive)
         → TellsFront (F.files folder.old) name.now (header_view header.now).length bytes
         → IsHeaderOf (header_view header.now) bytes → SoundAs rules vs bytes → ArchiveOf vs a
-        → UnlessFailed result ((F.numbers folder.new).gap
-        ≤ max (F.numbers folder.old).gap
-        (lead (F.numbers folder.old) - length (header_bytes rules a.n) + largest rules a)) }
+        → (F.numbers folder.new).gap ≤ max (F.numbers folder.old).gap
+        (lead (F.numbers folder.old) - length (header_bytes rules a.n) + largest rules a) }
     ensures ahead { (bytes : List ℕ)
         → TellsFront (F.files folder.old) name.now (header_view header.now).length bytes
         → IsHeaderOf (header_view header.now) bytes
@@ -116,22 +117,8 @@ fn append_version<F: Folder>(
     requires standing { cursor.standing ≡ among_nodes 0 }
     requires first { cursor.at ≡ (header_view header.now).first }
     requires keyed { IsKeyedBy (header_view header.now).rules (keyed_view new.now) }
-    ensures reads { Reads F.files F.numbers F.faults folder.old folder.new
-        ((header_view header.now).length - (header_view header.now).first)
-        (length (header_bytes (header_view header.now).rules
-        ((header_view header.now).versions + 1))) (fault_of result) }
-    ensures grows { (bytes : List ℕ) (rules : List PlainRule) (vs : List PlainKeyed)
-        → TellsFront (F.files folder.old) cursor.name cursor.length bytes
-        → IsHeaderOf (header_view header.now) bytes → SoundAs rules vs bytes
-        → Grows rules vs (keyed_view new.now) (F.draft folder.old) (F.draft folder.new)
-        (fault_of result) }
-    ensures gap { (bytes : List ℕ) (rules : List PlainRule) (vs : List PlainKeyed)
-        (a : PlainArchive)
-        → TellsFront (F.files folder.old) cursor.name cursor.length bytes
-        → IsHeaderOf (header_view header.now) bytes → SoundAs rules vs bytes → ArchiveOf vs a
-        → UnlessFolder (fault_of result) ((F.numbers folder.new).gap
-        ≤ max (F.numbers folder.old).gap
-        (lead (F.numbers folder.old) - length (header_bytes rules a.n) + largest rules a)) }
+    ensures { VersionAppended F.files F.draft F.numbers F.faults (header_view header.now)
+        (keyed_view new.now) folder.old folder.new cursor (fault_of result) }
 {
     let number = header.versions + 1;
     let from = Inherited {
@@ -140,34 +127,30 @@ fn append_version<F: Folder>(
         before: VersionSet::upto(alloc, header.versions),
         now: VersionSet::upto(alloc, number),
     };
+    let mut cursor = cursor;
     let writer = Writer::start(alloc, folder, &header.spec, number)?;
-    append_nodes(folder, cursor, writer, new, &from)
+    append_nodes(folder, &mut cursor, writer, new, &from)
 }
 
 // Appends the nodes of the archive with one more version to the draft, and what stands behind them.
 fn append_nodes<F: Folder>(
     folder: &mut F,
-    cursor: Cursor,
+    cursor: &mut Cursor,
     writer: Writer,
     new: &Keyed,
     from: &Inherited,
 ) -> Result<(), MergeFault>
-    requires within { cursor.at ≤ cursor.length }
+    requires within { cursor.old.at ≤ cursor.old.length }
     requires no_leaf { (writer_view writer).leaf ≡ None }
     requires no_inner { (writer_view writer).inners ≡ [] }
     requires number { 1 ≤ (inherited_view from.now).number }
     requires ordered { IsOrdered (keyed_view new.now) }
     requires shaped { IsShapedNode (fresh None (keyed_view new.now)) }
-    ensures reads { Reads F.files F.numbers F.faults folder.old folder.new
-        (cursor.length - cursor.at) 0 (fault_of result) }
-    ensures nodes { WritesNodes (inherited_view from.entry.now) (keyed_view new.now)
-        (state F.files F.draft F.numbers F.faults folder.old cursor writer)
-        (state F.files F.draft F.numbers F.faults folder.new cursor writer)
-        (fault_of result) }
+    ensures { NodesAppended F.files F.draft F.numbers F.faults (inherited_view from.entry.now)
+        (keyed_view new.now) folder.old folder.new cursor.old writer (fault_of result) }
 {
-    let mut cursor = cursor;
     let mut writer = writer;
-    merge_row(folder, &mut cursor, &mut writer, slice::from_ref(new), from)?;
+    merge_row(folder, cursor, &mut writer, slice::from_ref(new), from)?;
     writer.finish(folder)?;
     match cursor.next(folder)? {
         Item::Finish => Ok(()),
@@ -180,6 +163,8 @@ fn commit<F: Folder>(folder: &mut F, name: &str) -> Result<(), AddFault>
     ensures files { OnOk result (F.files folder.new
         ≡ committed (F.files folder.old) (F.draft folder.old) name.now) }
     ensures refused { OnErr result (F.files folder.new ≡ F.files folder.old) }
+    ensures draft { OnOk result (F.draft folder.new ≡ emptied (F.draft folder.old)) }
+    ensures kept { OnErr result (F.draft folder.new ≡ F.draft folder.old) }
     ensures numbers { F.numbers folder.new ≡ F.numbers folder.old }
     ensures later { F.faults folder.old ≤ F.faults folder.new }
     ensures fault { IfErr result (λ e. e ≡ AddFault.Folder) }

@@ -6,7 +6,7 @@ ghost use Rattle.record_format.specs.Nodes.{set_in};
 ghost use Rattle.record_cursor.specs.View.{PlainCursor};
 ghost use Rattle.record_parts.specs.ShownViews.{shown_label};
 ghost use Rattle.record_writer.specs.View.{writer_view};
-ghost use Rattle.stream_merge.specs.Does.{Sends};
+ghost use Rattle.stream_merge.specs.Does.{Sent};
 ghost use Rattle.stream_merge.specs.Meets.{call_of};
 ghost use Rattle.stream_merge.specs.Passes.{fault_of};
 ghost use Rattle.stream_merge.specs.State.{state};
@@ -36,7 +36,7 @@ pub(crate) fn begin_node<F: Folder>(
     parent: &VersionSet,
 ) -> Result<VersionSet, MergeFault>
     requires no_leaf { (writer_view writer.old).leaf ≡ None }
-    ensures sends { (c : PlainCursor) → c.at ≤ c.length → Sends
+    ensures sends { (c : PlainCursor) → c.at ≤ c.length → Sent
         (call_of kind (shown_label label.entry) (stamp_view stamp.now)
         (set_in (stamp_view stamp.now) (pairs_of parent.now)) ∷ [])
         (state F.files F.draft F.numbers F.faults folder.old c writer.old)

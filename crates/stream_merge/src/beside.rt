@@ -1,20 +1,16 @@
 // Beginning a node of the archive beside a row of the new version.
-ghost use Rattle.std.specs.Prelude.{◌≡◌, ◌≤◌, ◌<◌, ◌-◌, None, IfOk, OnOk, IsTrue, map, length};
+ghost use Rattle.std.specs.Prelude.{◌≡◌, ◌≤◌, None, IfOk, IsTrue, map};
 ghost use Rattle.std.specs.Option.{option_map};
 ghost use Rattle.keyed_tree.specs.Data.{kids_from};
-ghost use Rattle.keyed_tree.specs.Kids.{ascend, kid_at};
+ghost use Rattle.keyed_tree.specs.Kids.{ascend};
 ghost use Rattle.keyed_tree.specs.View.{keyed_view};
-ghost use Rattle.nested_merge.specs.Below.{is_stamp_below};
-ghost use Rattle.nested_merge.specs.Merged.{fresh, fresh_row, below, above};
+ghost use Rattle.nested_merge.specs.Merged.{fresh_row};
 ghost use Rattle.record_cursor.specs.View.{PlainCursor};
 ghost use Rattle.record_format.specs.Shapes.{AreShapedNodes};
-ghost use Rattle.record_format.specs.Spelling.{rec_bytes};
 ghost use Rattle.record_parts.specs.ShownViews.{shown_label, shown_stamp};
 ghost use Rattle.record_writer.specs.View.{writer_view};
-ghost use Rattle.stream_merge.specs.Does.{Sends};
-ghost use Rattle.stream_merge.specs.Meets.{opening_of, Leaves, Begins, calls_beside, inherited_beside};
-ghost use Rattle.stream_merge.specs.Passes.{Passes, fault_of};
-ghost use Rattle.stream_merge.specs.State.{state, lead};
+ghost use Rattle.stream_merge.specs.Beside.{BeganBeside, IsBegun};
+ghost use Rattle.stream_merge.specs.State.{state};
 ghost use Rattle.stream_merge.specs.View.{inherited_view};
 
 use crate::begin::{Kind, begin_node};
@@ -50,29 +46,14 @@ pub(crate) fn begin_beside<'k, F: Folder>(
     requires number { 1 ≤ (inherited_view from.now).number }
     requires ascending { IsTrue (ascend (kids_from (map keyed_view kids.now))) }
     requires shaped { AreShapedNodes (fresh_row (kids_from (map keyed_view kids.now))) }
-    ensures passes { (c : PlainCursor) → c.at ≤ c.length → Passes 0
-        (state F.files F.draft F.numbers F.faults folder.old c writer.old)
-        (state F.files F.draft F.numbers F.faults folder.new c writer.new)
-        (fault_of result) }
-    ensures gap { (F.numbers folder.new).gap ≡ (F.numbers folder.old).gap }
-    ensures paid { OnOk result (lead (F.numbers folder.new) ≤ lead (F.numbers folder.old)
-        - length (rec_bytes
-        (opening_of kind (shown_label label.entry) (shown_stamp stamp.entry)))) }
-    ensures begun { OnOk result (Begins kind (writer_view writer.old) (writer_view writer.new)) }
-    ensures sends { (c : PlainCursor) → c.at ≤ c.length
-        → IsTrue (is_stamp_below (inherited_view from.entry.now).number (shown_stamp stamp.entry))
-        → Sends (calls_beside kind (inherited_view from.entry.now) (shown_label label.entry)
-        (shown_stamp stamp.entry) (map keyed_view kids.now))
-        (state F.files F.draft F.numbers F.faults folder.old c writer.old)
-        (state F.files F.draft F.numbers F.faults folder.new c writer.new)
-        (fault_of result) }
-    ensures kid { IfOk result (λ b. option_map (λ k. keyed_view k.now) b.kid
-        ≡ kid_at (shown_label label.entry) (map keyed_view kids.now)) }
-    ensures left { IfOk result (λ b. Leaves (map keyed_view kids.now)
-        (above (shown_label label.entry) (map keyed_view kids.now)) b.taken) }
-    ensures own { IfOk result (λ b. inherited_view b.own ≡ inherited_beside
+    ensures begins { (c : PlainCursor) → c.at ≤ c.length → BeganBeside kind
         (inherited_view from.entry.now) (shown_label label.entry) (shown_stamp stamp.entry)
-        (map keyed_view kids.now)) }
+        (map keyed_view kids.now)
+        (state F.files F.draft F.numbers F.faults folder.old c writer.old)
+        (state F.files F.draft F.numbers F.faults folder.new c writer.new) result }
+    ensures begun { IfOk result (λ b. IsBegun (inherited_view from.entry.now)
+        (shown_label label.entry) (shown_stamp stamp.entry) (map keyed_view kids.now)
+        (option_map (λ k. keyed_view k.now) b.kid) b.taken (inherited_view b.own)) }
 {
     let below = count_below(&label, kids);
     put_started(folder, writer, &kids[..below], from)?;

@@ -1,21 +1,21 @@
 // Copying what the archive alone has, record by record.
-ghost use Rattle.std.specs.Prelude.{◌≡◌, ◌≢◌, ◌<◌, ◌≤◌, ◌++◌, ◌∷◌, [], ℕ, List, None, IfOk, OnOk, IsTrue, IsFalse};
-ghost use Rattle.std.specs.List.{AllByRecursion};
-ghost use Rattle.archive_tree.specs.Data.{PlainAlt, PlainNode, PlainNodes};
+ghost use Rattle.std.specs.Prelude.{◌≡◌, ◌≢◌, ◌≤◌, ◌∷◌, [], None, IfOk};
 ghost use Rattle.version_set.specs.View.{pairs_of};
-ghost use Rattle.record_cursor.specs.Items.{PlainItem, leaf_end_item, end_item};
-ghost use Rattle.record_cursor.specs.Moves.{Comes};
-ghost use Rattle.record_writer.specs.Data.{call_end_leaf, call_end_inner};
+ghost use Rattle.record_cursor.specs.View.{PlainCursor};
+ghost use Rattle.record_format.specs.Nodes.{set_in};
+ghost use Rattle.record_parts.specs.ShownViews.{shown_label, shown_stamp, shown_body};
+ghost use Rattle.record_writer.specs.Data.{call_alt};
 ghost use Rattle.record_writer.specs.View.{writer_view};
-ghost use Rattle.record_writer.specs.Walks.{alt_calls, node_calls, row_calls};
-ghost use Rattle.stream_merge.specs.Does.{Does};
-ghost use Rattle.stream_merge.specs.Items.{alt_items, node_items, row_items, IsWithin};
-ghost use Rattle.stream_merge.specs.Passes.{Passes, Rests, Closes, fault_of, unpaid, unpaid_at};
+ghost use Rattle.stream_merge.specs.Copied.{RowCopied, InsideCopied, ChildCopied, AltsCopied};
+ghost use Rattle.stream_merge.specs.Does.{Sent};
+ghost use Rattle.stream_merge.specs.Meets.{call_of};
+ghost use Rattle.stream_merge.specs.Passes.{fault_of};
 ghost use Rattle.stream_merge.specs.State.{state};
 
 use crate::begin::{Kind, begin_node};
-use crate::fault::MergeFault;
+use crate::fault::{MergeFault, written};
 use record_cursor::{Cursor, Item};
+use record_format::{BodyView, LabelView, StampView};
 use record_writer::{BodyFrom, Writer};
 use std::alloc::Global;
 use version_set::VersionSet;
@@ -34,23 +34,13 @@ pub(crate) fn copy_inner<F: Folder>(
     requires within { cursor.old.at ≤ cursor.old.length }
     requires no_leaf { (writer_view writer.old).leaf ≡ None }
     requires begun { (writer_view writer.old).inners ≢ [] }
-    ensures passes { Passes 0
-        (state F.files F.draft F.numbers F.faults folder.old cursor.old writer.old)
-        (state F.files F.draft F.numbers F.faults folder.new cursor.new writer.new)
-        (fault_of result) }
-    ensures closed { OnOk result (Closes (writer_view writer.old) (writer_view writer.new)) }
-    ensures inside { (w : ℕ) (ks : PlainNodes) (n : ℕ) (next : List PlainItem)
-        → AllByRecursion (IsWithin w) (row_items (pairs_of set.now) ks ++ end_item n ∷ [])
-        → Comes (F.files folder.old) cursor.old
-        (row_items (pairs_of set.now) ks ++ end_item n ∷ next)
-        → Does w (row_calls (pairs_of set.now) ks ++ call_end_inner ∷ []) next
+    ensures { InsideCopied (pairs_of set.now)
         (state F.files F.draft F.numbers F.faults folder.old cursor.old writer.old)
         (state F.files F.draft F.numbers F.faults folder.new cursor.new writer.new)
         (fault_of result) }
 {
     copy_row(alloc, folder, cursor, writer, set)?;
-    writer.end_inner(folder)?;
-    Ok(())
+    written(writer.end_inner(folder))
 }
 
 // Copies the rest of a row under a node that has the set, and takes the END behind it.
@@ -64,16 +54,7 @@ fn copy_row<F: Folder>(
 ) -> Result<(), MergeFault>
     requires within { cursor.old.at ≤ cursor.old.length }
     requires no_leaf { (writer_view writer.old).leaf ≡ None }
-    ensures passes { Passes unpaid
-        (state F.files F.draft F.numbers F.faults folder.old cursor.old writer.old)
-        (state F.files F.draft F.numbers F.faults folder.new cursor.new writer.new)
-        (fault_of result) }
-    ensures rests { OnOk result (Rests (writer_view writer.old) (writer_view writer.new)) }
-    ensures row { (w : ℕ) (ks : PlainNodes) (n : ℕ) (next : List PlainItem)
-        → AllByRecursion (IsWithin w) (row_items (pairs_of set.now) ks ++ end_item n ∷ [])
-        → Comes (F.files folder.old) cursor.old
-        (row_items (pairs_of set.now) ks ++ end_item n ∷ next)
-        → Does w (row_calls (pairs_of set.now) ks) next
+    ensures { RowCopied (pairs_of set.now)
         (state F.files F.draft F.numbers F.faults folder.old cursor.old writer.old)
         (state F.files F.draft F.numbers F.faults folder.new cursor.new writer.new)
         (fault_of result) }
@@ -94,44 +75,49 @@ fn copy_child<F: Folder>(
 ) -> Result<bool, MergeFault>
     requires within { cursor.old.at ≤ cursor.old.length }
     requires no_leaf { (writer_view writer.old).leaf ≡ None }
-    ensures passes { Passes (unpaid_at result)
+    ensures { ChildCopied (pairs_of set.now)
         (state F.files F.draft F.numbers F.faults folder.old cursor.old writer.old)
         (state F.files F.draft F.numbers F.faults folder.new cursor.new writer.new)
-        (fault_of result) }
-    ensures rests { OnOk result (Rests (writer_view writer.old) (writer_view writer.new)) }
-    ensures onward { OnOk result (cursor.old.at < cursor.new.at) }
-    ensures node { (w : ℕ) (k : PlainNode) (next : List PlainItem)
-        → AllByRecursion (IsWithin w) (node_items (pairs_of set.now) k)
-        → Comes (F.files folder.old) cursor.old (node_items (pairs_of set.now) k ++ next)
-        → IfOk result (λ more. IsTrue more)
-        × Does w (node_calls (pairs_of set.now) k) next
-        (state F.files F.draft F.numbers F.faults folder.old cursor.old writer.old)
-        (state F.files F.draft F.numbers F.faults folder.new cursor.new writer.new)
-        (fault_of result) }
-    ensures end { (w : ℕ) (n : ℕ) (next : List PlainItem) → IsWithin w (end_item n)
-        → Comes (F.files folder.old) cursor.old (end_item n ∷ next)
-        → IfOk result (λ more. IsFalse more)
-        × Does w [] next
-        (state F.files F.draft F.numbers F.faults folder.old cursor.old writer.old)
-        (state F.files F.draft F.numbers F.faults folder.new cursor.new writer.new)
-        (fault_of result) }
+        result }
 {
     match cursor.next(folder)? {
         Item::Inner { label, stamp } => {
-            let stamp = stamp.copy(alloc)?;
-            let set = begin_node(folder, writer, Kind::Inner, label, &stamp, set)?;
+            let set = copy_opening(alloc, folder, writer, Kind::Inner, label, stamp, set)?;
             copy_inner(alloc, folder, cursor, writer, &set)?;
             Ok(true)
         }
         Item::Leaf { label, stamp } => {
-            let stamp = stamp.copy(alloc)?;
-            begin_node(folder, writer, Kind::Leaf, label, &stamp, set)?;
+            copy_opening(alloc, folder, writer, Kind::Leaf, label, stamp, set)?;
             copy_alts(alloc, folder, cursor, writer)?;
             Ok(true)
         }
         Item::End { .. } => Ok(false),
         _ => Err(MergeFault::Damage),
     }
+}
+
+// Begins a node of the archive with the stamp that it has there, under a node that has the set. It
+// answers the node's set.
+fn copy_opening<F: Folder>(
+    alloc: Global,
+    folder: &mut F,
+    writer: &mut Writer,
+    kind: Kind,
+    label: LabelView<'_>,
+    stamp: StampView<'_>,
+    parent: &VersionSet,
+) -> Result<VersionSet, MergeFault>
+    requires no_leaf { (writer_view writer.old).leaf ≡ None }
+    ensures sends { (c : PlainCursor) → c.at ≤ c.length → Sent
+        (call_of kind (shown_label label.entry) (shown_stamp stamp.entry)
+        (set_in (shown_stamp stamp.entry) (pairs_of parent.now)) ∷ [])
+        (state F.files F.draft F.numbers F.faults folder.old c writer.old)
+        (state F.files F.draft F.numbers F.faults folder.new c writer.new) (fault_of result) }
+    ensures set { IfOk result (λ set.
+        pairs_of set ≡ set_in (shown_stamp stamp.entry) (pairs_of parent.now)) }
+{
+    let stamp = stamp.copy(alloc)?;
+    begin_node(folder, writer, kind, label, &stamp, parent)
 }
 
 /// Copies the alternatives of a leaf that was begun, as far as its end, and closes the leaf.
@@ -143,30 +129,34 @@ pub(crate) fn copy_alts<F: Folder>(
 ) -> Result<(), MergeFault>
     requires within { cursor.old.at ≤ cursor.old.length }
     requires leaf { (writer_view writer.old).leaf ≢ None }
-    ensures passes { Passes 0
-        (state F.files F.draft F.numbers F.faults folder.old cursor.old writer.old)
-        (state F.files F.draft F.numbers F.faults folder.new cursor.new writer.new)
-        (fault_of result) }
-    ensures rests { OnOk result (Rests (writer_view writer.old) (writer_view writer.new)) }
-    ensures alternatives { (w : ℕ) (xs : List PlainAlt) (next : List PlainItem)
-        → AllByRecursion (IsWithin w) (alt_items xs ++ leaf_end_item ∷ [])
-        → Comes (F.files folder.old) cursor.old (alt_items xs ++ leaf_end_item ∷ next)
-        → Does w (alt_calls xs ++ call_end_leaf ∷ []) next
+    ensures { AltsCopied
         (state F.files F.draft F.numbers F.faults folder.old cursor.old writer.old)
         (state F.files F.draft F.numbers F.faults folder.new cursor.new writer.new)
         (fault_of result) }
 {
     loop {
         match cursor.next(folder)? {
-            Item::Alt { stamp, body } => {
-                let stamp = stamp.copy(alloc)?;
-                writer.alt(folder, &stamp, BodyFrom::Old(body))?;
-            }
-            Item::LeafEnd => {
-                writer.end_leaf(folder)?;
-                return Ok(());
-            }
+            Item::Alt { stamp, body } => copy_alt(alloc, folder, writer, stamp, body)?,
+            Item::LeafEnd => return written(writer.end_leaf(folder)),
             _ => return Err(MergeFault::Damage),
         }
     }
+}
+
+// Copies an alternative of a leaf that was begun.
+fn copy_alt<F: Folder>(
+    alloc: Global,
+    folder: &mut F,
+    writer: &mut Writer,
+    stamp: StampView<'_>,
+    body: BodyView<'_>,
+) -> Result<(), MergeFault>
+    requires leaf { (writer_view writer.old).leaf ≢ None }
+    ensures { (c : PlainCursor) → c.at ≤ c.length → Sent
+        (call_alt (shown_stamp stamp.entry) (shown_body body.entry) ∷ [])
+        (state F.files F.draft F.numbers F.faults folder.old c writer.old)
+        (state F.files F.draft F.numbers F.faults folder.new c writer.new) (fault_of result) }
+{
+    let stamp = stamp.copy(alloc)?;
+    written(writer.alt(folder, &stamp, BodyFrom::Old(body)))
 }

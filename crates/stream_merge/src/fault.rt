@@ -1,5 +1,7 @@
 // Why no version was added.
 ghost use Rattle.std.specs.Prelude.{◌≡◌};
+ghost use Rattle.std.specs.Result.{result_map_both};
+ghost use Rattle.stream_merge.specs.Passes.{of_writer};
 
 use record_cursor::CursorFault;
 use record_writer::WriteFault;
@@ -81,5 +83,15 @@ impl From<MergeFault> for AddFault {
             MergeFault::TooLong => AddFault::TooLong,
             MergeFault::Memory => AddFault::Memory,
         }
+    }
+}
+
+/// What a call of the writer comes to.
+pub(crate) fn written(call: Result<(), WriteFault>) -> Result<(), MergeFault>
+    ensures { result ≡ result_map_both (λ x. x) of_writer call }
+{
+    match call {
+        Ok(()) => Ok(()),
+        Err(fault) => Err(MergeFault::from(fault)),
     }
 }

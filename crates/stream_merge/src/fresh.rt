@@ -13,7 +13,7 @@ ghost use Rattle.record_format.specs.Shapes.{IsShapedNode, AreShapedNodes};
 ghost use Rattle.record_parts.specs.ShownViews.{shown_label};
 ghost use Rattle.record_writer.specs.View.{writer_view};
 ghost use Rattle.record_writer.specs.Walks.{node_calls, row_calls};
-ghost use Rattle.stream_merge.specs.Does.{Sends};
+ghost use Rattle.stream_merge.specs.Does.{Sent};
 ghost use Rattle.stream_merge.specs.Meets.{rest_of, Leaves};
 ghost use Rattle.stream_merge.specs.Passes.{fault_of};
 ghost use Rattle.stream_merge.specs.State.{state};
@@ -38,7 +38,7 @@ pub(crate) fn put_started<F: Folder>(
     requires no_leaf { (writer_view writer.old).leaf ≡ None }
     requires number { 1 ≤ (inherited_view from.now).number }
     requires shaped { AreShapedNodes (fresh_row (kids_from (map keyed_view kids.now))) }
-    ensures sends { (c : PlainCursor) → c.at ≤ c.length → Sends
+    ensures sends { (c : PlainCursor) → c.at ≤ c.length → Sent
         (row_calls (inherited_view from.entry.now).now
         (rest_of (inherited_view from.entry.now).number (inherited_view from.entry.now).before
         (map keyed_view kids.now)))
@@ -60,7 +60,7 @@ fn put_kids<F: Folder>(
 ) -> Result<(), MergeFault>
     requires no_leaf { (writer_view writer.old).leaf ≡ None }
     requires shaped { AreShapedNodes (fresh_row (kids_from (map keyed_view kids.now))) }
-    ensures sends { (c : PlainCursor) → c.at ≤ c.length → Sends (row_calls (pairs_of parent.now)
+    ensures sends { (c : PlainCursor) → c.at ≤ c.length → Sent (row_calls (pairs_of parent.now)
         (fresh_onto (stamp_view stamp.now) (map keyed_view kids.now) no_nodes))
         (state F.files F.draft F.numbers F.faults folder.old c writer.old)
         (state F.files F.draft F.numbers F.faults folder.new c writer.new) (fault_of result) }
@@ -82,7 +82,7 @@ fn put_node<F: Folder>(
 ) -> Result<(), MergeFault>
     requires no_leaf { (writer_view writer.old).leaf ≡ None }
     requires shaped { IsShapedNode (fresh None (keyed_view new.now)) }
-    ensures sends { (c : PlainCursor) → c.at ≤ c.length → Sends (node_calls (pairs_of parent.now)
+    ensures sends { (c : PlainCursor) → c.at ≤ c.length → Sent (node_calls (pairs_of parent.now)
         (fresh (stamp_view stamp.now) (keyed_view new.now)))
         (state F.files F.draft F.numbers F.faults folder.old c writer.old)
         (state F.files F.draft F.numbers F.faults folder.new c writer.new) (fault_of result) }

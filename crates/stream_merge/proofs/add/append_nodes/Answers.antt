@@ -1,246 +1,107 @@
-use Rattle.std.proofs.Common.{◌≡◌, ◌+◌, ◌-◌, ◌≤◌, length, map, IsTrue, Option, Some, None, Ok, Err, List, [], ◌∷◌, ◌++◌, refl, sym, ap, subst, arith}
-use Rattle.version_set.specs.View.{pairs_of}
-use Rattle.keyed_tree.specs.Data.{PlainKeyed}
+use Rattle.std.proofs.Common.{None, Ok, Err, [], ◌∷◌, map, refl, ap}
 use Rattle.keyed_tree.specs.View.{keyed_view}
-use Rattle.nested_merge.specs.Fits.{all_fit}
-use Rattle.nested_merge.specs.Merged.{merged_row}
-use Rattle.record_cursor.specs.Items.{PlainItem, finish}
-use Rattle.record_cursor.specs.Next.{read_for}
-use Rattle.record_cursor.specs.View.{shown_item}
-use Rattle.record_writer.specs.Data.{call_finish}
-use Rattle.record_writer.specs.Calls.{appended, after}
+use Rattle.record_cursor.specs.View.{PlainCursor}
+use Rattle.record_writer.specs.Data.{PlainWriter, call_finish}
+use Rattle.record_writer.specs.Calls.{after}
 use Rattle.record_writer.specs.View.{writer_view}
-use Rattle.record_writer.specs.Walks.{row_calls}
-use Rattle.stream_merge.specs.Appended.{Reads, Ends}
-use Rattle.stream_merge.specs.Does.{Sends, Does}
-use Rattle.stream_merge.specs.Passes.{of_cursor, of_writer, unpaid}
-use Rattle.stream_merge.specs.State.{State, state}
-use Rattle.stream_merge.specs.declared.fault.MergeFault.{MergeFault}
-use Rattle.stream_merge.specs.declared.fault.MergeFault.TheVariants.{Damage}
-use Rattle.stream_merge.proofs.States.{Nexts, Stays, plain, plain-sends, passes-then, gave, gave-stop, failed, fault-from, went, stayed}
-use Rattle.stream_merge.proofs.Items.{finish-reads}
-use Rattle.stream_merge.proofs.Appending.{reads-fault, reads-all, finish-long, last-ahead, ends-before, ends-in, ends-failed, ends-all, ends-other, not-finish}
+use Rattle.record_writer.specs.declared.writer.Writer.{Writer}
+use Rattle.stream_merge.specs.Appended.{NodesAppended}
+use Rattle.stream_merge.specs.Does.{Sent}
+use Rattle.stream_merge.specs.Passes.{fault_of, of_cursor, of_writer}
+use Rattle.stream_merge.specs.State.{State}
+use Rattle.stream_merge.specs.View.{inherited_view}
+use Rattle.stream_merge.proofs.States.{plain, plain-sends, Nexts, nexts, stays-by}
+use Rattle.stream_merge.proofs.Handed.{at-err}
+use Rattle.stream_merge.proofs.Appending.{nodes-unmerged, nodes-unfinished, nodes-unread, nodes-other, nodes-appended}
+use Rattle.stream_merge.proofs.add.append_nodes.Given.{Over}
+use Rattle.stream_merge.proofs.add.append_nodes.Goals.{In_ok-finish, In_ok-next}
 use Rattle.stream_merge.proofs.add.append_nodes.Goals as goal
 
-pub returns-in_err-merge_row-clause-reads : goal.returns-in_err-merge_row-clause-reads
-returns-in_err-merge_row-clause-reads g c =
-    let f = g.F.Folder in
-    let r = c.in_err-merge_row in
-    subst (λ (o : Option MergeFault). Reads f.files f.numbers f.faults c.args.folder.now c.merge_row.new.folder (c.args.cursor.length - c.args.cursor.at) 0 o) (sym (fault-from c.from_residual.result r.field-0.0 c.from_residual.ensures.1))
-    (reads-fault f.files f.draft f.numbers f.faults c.args.folder.now c.merge_row.new.folder c.args.cursor c.merge_row.new.cursor (writer_view c.args.writer) (writer_view c.merge_row.new.writer) unpaid r.field-0.0 c.requires.within r.ensures.passes)
+abbrev at : (g : Over) → g.row.F.Denot → PlainCursor → PlainWriter → State
+at g = (let f = g.F.Folder in plain f.files f.draft f.numbers f.faults)
 
-pub returns-in_err-merge_row-clause-nodes : goal.returns-in_err-merge_row-clause-nodes
-returns-in_err-merge_row-clause-nodes g c w ks m all small comes below fit =
-    let f = g.F.Folder in
-    let r = c.in_err-merge_row in
-    let s : State = state f.files f.draft f.numbers f.faults c.args.folder.now c.args.cursor c.args.writer in
-    let t : State = state f.files f.draft f.numbers f.faults c.merge_row.new.folder c.merge_row.new.cursor c.merge_row.new.writer in
-    let one : map keyed_view c.from_ref.result.now ≡ keyed_view c.args.new.now ∷ [] = ap (map keyed_view) c.from_ref.ensures.value in
-    let row = subst (λ (cs : List PlainKeyed). Does w (row_calls (pairs_of c.args.from.now.now) (merged_row c.args.from.now.number (pairs_of c.args.from.now.before) ks cs)) (finish ∷ []) s t (Some r.field-0.0)) one
-    (r.ensures.row w ks m (finish ∷ []) all comes below (subst (λ (cs : List PlainKeyed). IsTrue (all_fit ks cs)) (sym one) fit)) in
-    let u : State = state f.files f.draft f.numbers f.faults c.merge_row.new.folder c.args.cursor c.args.writer in
-    subst (λ (o : Option MergeFault). Ends w ((row_calls (pairs_of c.args.from.now.now) (merged_row c.args.from.now.number (pairs_of c.args.from.now.before) ks (keyed_view c.args.new.now ∷ []))) ++ call_finish ∷ []) s u o) (sym (fault-from c.from_residual.result r.field-0.0 c.from_residual.ensures.1))
-    (ends-before w (row_calls (pairs_of c.args.from.now.now) (merged_row c.args.from.now.number (pairs_of c.args.from.now.before) ks (keyed_view c.args.new.now ∷ []))) (finish ∷ []) s t u r.field-0.0 refl row)
+-- the writer behind its last call
+abbrev last : Writer → PlainWriter
+last w = after (writer_view w) call_finish
 
-pub returns-in_err-finish-clause-reads : goal.returns-in_err-finish-clause-reads
-returns-in_err-finish-clause-reads g c =
+-- the last call was made
+sent : (g : Over) (c : In_ok-finish g) → Sent (call_finish ∷ []) (at g c.merge_row.new.folder c.merge_row.new.cursor (writer_view c.merge_row.new.writer)) (at g c.finish.new.folder c.merge_row.new.cursor (last c.merge_row.new.writer)) None
+sent g c =
     let f = g.F.Folder in
-    let r = c.in_ok-merge_row in
-    let s : State = state f.files f.draft f.numbers f.faults c.args.folder.now c.args.cursor c.args.writer in
-    let t : State = state f.files f.draft f.numbers f.faults c.merge_row.new.folder c.merge_row.new.cursor c.merge_row.new.writer in
-    let p = r.ensures.passes in
-    let v = writer_view c.merge_row.new.writer in
-    let x : State = plain f.files f.draft f.numbers f.faults c.finish.new.folder c.merge_row.new.cursor (after v call_finish) in
+    let w = c.merge_row.new.writer in
+    let passes = c.in_ok-merge_row.ensures.passes in
+    let i = c.in_ok-finish in
+    plain-sends f.files f.draft f.numbers f.faults c.merge_row.new.folder c.finish.new.folder c.merge_row.new.cursor (writer_view w) (last w) call_finish (Ok i.field-0) (g.met.F.Folder.metered c.merge_row.new.folder) passes.within i.ensures.folder refl i.ensures.too_long
+
+-- an item was given
+read : (g : Over) (c : In_ok-next g) → Nexts (at g c.finish.new.folder c.merge_row.new.cursor (last c.merge_row.new.writer)) (at g c.next.new.folder c.next.follows.lender-at-none (last c.merge_row.new.writer)) c.in_ok-next.field-0
+read g c =
+    let w = last c.merge_row.new.writer in
+    let i = c.in_ok-next in
+    nexts (at g c.finish.new.folder c.merge_row.new.cursor w) (at g c.next.new.folder c.next.follows.lender-at-none w) c.next.result i.field-0 (g.met.F.Folder.metered c.next.new.folder) i.was i.ensures.files i.ensures.draft refl i.ensures.numbers i.ensures.later i.ensures.reads
+    c.next.follows.holds-at-none
+
+pub returns-in_err-merge_row : goal.returns-in_err-merge_row
+returns-in_err-merge_row g c =
+    let f = g.F.Folder in
+    let h = inherited_view c.args.from.now in
+    let k = keyed_view c.args.new.now in
+    let m = c.merge_row.new.folder in
+    let e = c.in_err-merge_row in
+    let r = c.from_residual in
+    at-err r.result e.field-0.0 r.ensures.1 (λ r. NodesAppended f.files f.draft f.numbers f.faults h k c.args.folder.now m c.args.cursor.now c.args.writer (fault_of r))
+    (nodes-unmerged f.files f.draft f.numbers f.faults h k c.args.folder.now m c.args.cursor.now c.args.writer c.merge_row.new.cursor (writer_view c.merge_row.new.writer) (map keyed_view c.from_ref.result.now) (ap (map keyed_view) c.from_ref.ensures.value) e.field-0.0 e.ensures)
+
+pub returns-in_err-finish : goal.returns-in_err-finish
+returns-in_err-finish g c =
+    let f = g.F.Folder in
+    let h = inherited_view c.args.from.now in
+    let k = keyed_view c.args.new.now in
+    let m = c.merge_row.new.folder in
+    let d = c.merge_row.new.cursor in
+    let w = writer_view c.merge_row.new.writer in
+    let n = c.finish.new.folder in
+    let row = c.in_ok-merge_row.ensures in
+    let passes = row.passes in
     let e = c.in_err-finish in
-    let sends : Sends (call_finish ∷ []) t x (Some (of_writer e.field-0.0)) = plain-sends f.files f.draft f.numbers f.faults c.merge_row.new.folder c.finish.new.folder c.merge_row.new.cursor v (after v call_finish) call_finish (Err e.field-0.0) (g.met.F.Folder.metered c.merge_row.new.folder) p.within
-    e.ensures.folder tt e.ensures.too_long in
-    subst (λ (o : Option MergeFault). Reads f.files f.numbers f.faults c.args.folder.now c.finish.new.folder (c.args.cursor.length - c.args.cursor.at) 0 o) (sym (fault-from c.from_residual-in_err-finish.result (of_writer e.field-0.0) c.from_residual-in_err-finish.ensures.1))
-    (reads-fault f.files f.draft f.numbers f.faults c.args.folder.now c.finish.new.folder c.args.cursor c.merge_row.new.cursor (writer_view c.args.writer) (after v call_finish) unpaid (of_writer e.field-0.0) c.requires.within
-    (passes-then s t x (Some (of_writer e.field-0.0)) unpaid 0 unpaid (omega arith) p sends.passes))
+    let r = c.from_residual-in_err-finish in
+    let failed = plain-sends f.files f.draft f.numbers f.faults m n d w (after w call_finish) call_finish (Err e.field-0.0) (g.met.F.Folder.metered m) passes.within e.ensures.folder tt e.ensures.too_long in
+    at-err r.result (of_writer e.field-0.0) r.ensures.1 (λ r. NodesAppended f.files f.draft f.numbers f.faults h k c.args.folder.now n c.args.cursor.now c.args.writer (fault_of r))
+    (nodes-unfinished f.files f.draft f.numbers f.faults h k c.args.folder.now n c.args.cursor.now c.args.writer d (after w call_finish) (map keyed_view c.from_ref.result.now) (ap (map keyed_view) c.from_ref.ensures.value) (at g m d w) row (of_writer e.field-0.0) failed)
 
-pub returns-in_err-finish-clause-nodes : goal.returns-in_err-finish-clause-nodes
-returns-in_err-finish-clause-nodes g c w ks m all small comes below fit =
+pub returns-in_err-next : goal.returns-in_err-next
+returns-in_err-next g c =
     let f = g.F.Folder in
-    let r = c.in_ok-merge_row in
-    let s : State = state f.files f.draft f.numbers f.faults c.args.folder.now c.args.cursor c.args.writer in
-    let t : State = state f.files f.draft f.numbers f.faults c.merge_row.new.folder c.merge_row.new.cursor c.merge_row.new.writer in
-    let p = r.ensures.passes in
-    let v = writer_view c.merge_row.new.writer in
-    let x : State = plain f.files f.draft f.numbers f.faults c.finish.new.folder c.merge_row.new.cursor (after v call_finish) in
-    let e = c.in_err-finish in
-    let sends : Sends (call_finish ∷ []) t x (Some (of_writer e.field-0.0)) = plain-sends f.files f.draft f.numbers f.faults c.merge_row.new.folder c.finish.new.folder c.merge_row.new.cursor v (after v call_finish) call_finish (Err e.field-0.0) (g.met.F.Folder.metered c.merge_row.new.folder) p.within
-    e.ensures.folder tt e.ensures.too_long in
-    let one : map keyed_view c.from_ref.result.now ≡ keyed_view c.args.new.now ∷ [] = ap (map keyed_view) c.from_ref.ensures.value in
-    let row = subst (λ (cs : List PlainKeyed). Does w (row_calls (pairs_of c.args.from.now.now) (merged_row c.args.from.now.number (pairs_of c.args.from.now.before) ks cs)) (finish ∷ []) s t None) one
-    (r.ensures.row w ks m (finish ∷ []) all comes below (subst (λ (cs : List PlainKeyed). IsTrue (all_fit ks cs)) (sym one) fit)) in
-    let u : State = state f.files f.draft f.numbers f.faults c.finish.new.folder c.args.cursor c.args.writer in
-    subst (λ (o : Option MergeFault). Ends w ((row_calls (pairs_of c.args.from.now.now) (merged_row c.args.from.now.number (pairs_of c.args.from.now.before) ks (keyed_view c.args.new.now ∷ []))) ++ call_finish ∷ []) s u o) (sym (fault-from c.from_residual-in_err-finish.result (of_writer e.field-0.0) c.from_residual-in_err-finish.ensures.1))
-    (ends-in w (row_calls (pairs_of c.args.from.now.now) (merged_row c.args.from.now.number (pairs_of c.args.from.now.before) ks (keyed_view c.args.new.now ∷ []))) (finish ∷ []) s t x u (of_writer e.field-0.0) refl row sends)
-
-pub returns-in_err-next-clause-reads : goal.returns-in_err-next-clause-reads
-returns-in_err-next-clause-reads g c =
-    let f = g.F.Folder in
-    let r = c.in_ok-merge_row in
-    let s : State = state f.files f.draft f.numbers f.faults c.args.folder.now c.args.cursor c.args.writer in
-    let t : State = state f.files f.draft f.numbers f.faults c.merge_row.new.folder c.merge_row.new.cursor c.merge_row.new.writer in
-    let p = r.ensures.passes in
-    let v = writer_view c.merge_row.new.writer in
-    let x : State = plain f.files f.draft f.numbers f.faults c.finish.new.folder c.merge_row.new.cursor (after v call_finish) in
-    let sends : Sends (call_finish ∷ []) t x None = plain-sends f.files f.draft f.numbers f.faults c.merge_row.new.folder c.finish.new.folder c.merge_row.new.cursor v (after v call_finish) call_finish (Ok c.in_ok-finish.field-0) (g.met.F.Folder.metered c.merge_row.new.folder) p.within
-    c.in_ok-finish.ensures.folder refl c.in_ok-finish.ensures.too_long in
-    let y : State = plain f.files f.draft f.numbers f.faults c.next.new.folder c.next.follows.lender-at-none (after v call_finish) in
+    let h = inherited_view c.args.from.now in
+    let k = keyed_view c.args.new.now in
+    let m = c.merge_row.new in
+    let n = c.next.new.folder in
+    let d = c.next.follows.lender-at-none in
+    let w = last m.writer in
+    let q = at g c.finish.new.folder m.cursor w in
     let e = c.in_err-next in
-    let stays : Stays x y e.field-0.0 = record {
-      files = e.ensures.files;
-      pulls = e.ensures.pulls;
-      later = e.ensures.later;
-      cause = e.ensures.cause;
-      same = stayed (f.files c.finish.new.folder) c.merge_row.new.cursor c.next.follows.lender-at-none c.next.result e.field-0.0 e.was c.next.follows.holds-at-none;
-      undamaged = e.ensures.undamaged;
-      reads = e.ensures.reads;
-    } in
-    let q = passes-then s t x None unpaid 0 unpaid (omega arith) p sends.passes in
-    subst (λ (o : Option MergeFault). Reads f.files f.numbers f.faults c.args.folder.now c.next.new.folder (c.args.cursor.length - c.args.cursor.at) 0 o) (sym (fault-from c.from_residual-in_err-next.result (of_cursor e.field-0.0) c.from_residual-in_err-next.ensures.1))
-    (reads-fault f.files f.draft f.numbers f.faults c.args.folder.now c.next.new.folder c.args.cursor c.next.follows.lender-at-none (writer_view c.args.writer) (after v call_finish) unpaid (of_cursor e.field-0.0) c.requires.within
-    (passes-then s x y (Some (of_cursor e.field-0.0)) unpaid 0 unpaid (omega arith) q (failed 0 x y e.field-0.0 q.within stays)))
+    let r = c.from_residual-in_err-next in
+    let stays = stays-by q (at g n d w) c.next.result e.field-0.0 e.was e.ensures.files e.ensures.draft e.ensures.pulls e.ensures.later e.ensures.cause e.ensures.undamaged e.ensures.reads c.next.follows.holds-at-none in
+    at-err r.result (of_cursor e.field-0.0) r.ensures.1 (λ r. NodesAppended f.files f.draft f.numbers f.faults h k c.args.folder.now n c.args.cursor.now c.args.writer (fault_of r))
+    (nodes-unread f.files f.draft f.numbers f.faults h k c.args.folder.now n c.args.cursor.now c.args.writer d w (map keyed_view c.from_ref.result.now) (ap (map keyed_view) c.from_ref.ensures.value) (at g m.folder m.cursor (writer_view m.writer)) c.in_ok-merge_row.ensures q
+    (sent g (goal.at.returns-in_err-next g c).In_ok-finish) e.field-0.0 stays)
 
-pub returns-in_err-next-clause-nodes : goal.returns-in_err-next-clause-nodes
-returns-in_err-next-clause-nodes g c w ks m all small comes below fit =
+pub returns-in-Finish : goal.returns-in-Finish
+returns-in-Finish g c =
     let f = g.F.Folder in
-    let r = c.in_ok-merge_row in
-    let s : State = state f.files f.draft f.numbers f.faults c.args.folder.now c.args.cursor c.args.writer in
-    let t : State = state f.files f.draft f.numbers f.faults c.merge_row.new.folder c.merge_row.new.cursor c.merge_row.new.writer in
-    let p = r.ensures.passes in
-    let v = writer_view c.merge_row.new.writer in
-    let x : State = plain f.files f.draft f.numbers f.faults c.finish.new.folder c.merge_row.new.cursor (after v call_finish) in
-    let sends : Sends (call_finish ∷ []) t x None = plain-sends f.files f.draft f.numbers f.faults c.merge_row.new.folder c.finish.new.folder c.merge_row.new.cursor v (after v call_finish) call_finish (Ok c.in_ok-finish.field-0) (g.met.F.Folder.metered c.merge_row.new.folder) p.within
-    c.in_ok-finish.ensures.folder refl c.in_ok-finish.ensures.too_long in
-    let y : State = plain f.files f.draft f.numbers f.faults c.next.new.folder c.next.follows.lender-at-none (after v call_finish) in
-    let e = c.in_err-next in
-    let stays : Stays x y e.field-0.0 = record {
-      files = e.ensures.files;
-      pulls = e.ensures.pulls;
-      later = e.ensures.later;
-      cause = e.ensures.cause;
-      same = stayed (f.files c.finish.new.folder) c.merge_row.new.cursor c.next.follows.lender-at-none c.next.result e.field-0.0 e.was c.next.follows.holds-at-none;
-      undamaged = e.ensures.undamaged;
-      reads = e.ensures.reads;
-    } in
-    let one : map keyed_view c.from_ref.result.now ≡ keyed_view c.args.new.now ∷ [] = ap (map keyed_view) c.from_ref.ensures.value in
-    let row = subst (λ (cs : List PlainKeyed). Does w (row_calls (pairs_of c.args.from.now.now) (merged_row c.args.from.now.number (pairs_of c.args.from.now.before) ks cs)) (finish ∷ []) s t None) one
-    (r.ensures.row w ks m (finish ∷ []) all comes below (subst (λ (cs : List PlainKeyed). IsTrue (all_fit ks cs)) (sym one) fit)) in
-    let u : State = state f.files f.draft f.numbers f.faults c.next.new.folder c.args.cursor c.args.writer in
-    subst (λ (o : Option MergeFault). Ends w ((row_calls (pairs_of c.args.from.now.now) (merged_row c.args.from.now.number (pairs_of c.args.from.now.before) ks (keyed_view c.args.new.now ∷ []))) ++ call_finish ∷ []) s u o) (sym (fault-from c.from_residual-in_err-next.result (of_cursor e.field-0.0) c.from_residual-in_err-next.ensures.1))
-    (ends-failed w (row_calls (pairs_of c.args.from.now.now) (merged_row c.args.from.now.number (pairs_of c.args.from.now.before) ks (keyed_view c.args.new.now ∷ []))) s t x y u small refl p row sends e.field-0.0 stays)
+    let m = c.merge_row.new in
+    let w = last m.writer in
+    let here = goal.at.returns-in-Finish g c in
+    let gains = c.in_ok-finish.ensures.folder.gains in
+    nodes-appended f.files f.draft f.numbers f.faults (inherited_view c.args.from.now) (keyed_view c.args.new.now) c.args.folder.now c.next.new.folder c.args.cursor.now c.args.writer c.next.follows.lender-at-none w (map keyed_view c.from_ref.result.now)
+    (ap (map keyed_view) c.from_ref.ensures.value) (at g m.folder m.cursor (writer_view m.writer)) c.in_ok-merge_row.ensures (at g c.finish.new.folder m.cursor w) (sent g here.In_ok-finish) c.in_ok-next.field-0 c.in-Finish.is (g.met.F.Folder.metered m.folder) gains.numbers
+    (read g here.In_ok-next)
 
-pub returns-in-Finish-clause-reads : goal.returns-in-Finish-clause-reads
-returns-in-Finish-clause-reads g c =
+pub returns-in_default : goal.returns-in_default
+returns-in_default g c =
     let f = g.F.Folder in
-    let r = c.in_ok-merge_row in
-    let s : State = state f.files f.draft f.numbers f.faults c.args.folder.now c.args.cursor c.args.writer in
-    let t : State = state f.files f.draft f.numbers f.faults c.merge_row.new.folder c.merge_row.new.cursor c.merge_row.new.writer in
-    let p = r.ensures.passes in
-    let v = writer_view c.merge_row.new.writer in
-    let x : State = plain f.files f.draft f.numbers f.faults c.finish.new.folder c.merge_row.new.cursor (after v call_finish) in
-    let sends : Sends (call_finish ∷ []) t x None = plain-sends f.files f.draft f.numbers f.faults c.merge_row.new.folder c.finish.new.folder c.merge_row.new.cursor v (after v call_finish) call_finish (Ok c.in_ok-finish.field-0) (g.met.F.Folder.metered c.merge_row.new.folder) p.within
-    c.in_ok-finish.ensures.folder refl c.in_ok-finish.ensures.too_long in
-    let y : State = plain f.files f.draft f.numbers f.faults c.next.new.folder c.next.follows.lender-at-none (after v call_finish) in
-    let i = c.in_ok-next in
-    let read : Nexts x y i.field-0 = record {
-      files = i.ensures.files;
-      draft = i.ensures.draft;
-      writer = refl;
-      numbers = i.ensures.numbers;
-      later = i.ensures.later;
-      goes = went (f.files c.finish.new.folder) c.merge_row.new.cursor c.next.follows.lender-at-none c.next.result i.field-0 i.was c.next.follows.holds-at-none;
-      reads = i.ensures.reads;
-    } in
-    let q = passes-then s t x None unpaid 0 unpaid (omega arith) p sends.passes in
-    let size = read_for c.merge_row.new.cursor.standing (shown_item i.field-0) in
-    let few : size ≤ 8 = subst (λ (n : PlainItem). read_for c.merge_row.new.cursor.standing n ≤ 8) (sym (ap shown_item c.in-Finish.is)) (finish-reads c.merge_row.new.cursor.standing) in
-    let gained = c.in_ok-finish.ensures.folder.gains in
-    let less = last-ahead s.numbers t.numbers x.numbers y.numbers (length (appended v call_finish)) size (g.met.F.Folder.metered c.merge_row.new.folder) p.ahead (finish-long v) few gained.numbers i.ensures.numbers in
-    let goes = read.goes in
-    reads-all f.files f.draft f.numbers f.faults c.args.folder.now c.next.new.folder c.args.cursor c.next.follows.lender-at-none (writer_view c.args.writer) (after v call_finish) (unpaid + size) less (passes-then s x y None unpaid size (unpaid + size) (omega arith) q (gave x y i.field-0 read))
-
-pub returns-in-Finish-clause-nodes : goal.returns-in-Finish-clause-nodes
-returns-in-Finish-clause-nodes g c w ks m all small comes below fit =
-    let f = g.F.Folder in
-    let r = c.in_ok-merge_row in
-    let s : State = state f.files f.draft f.numbers f.faults c.args.folder.now c.args.cursor c.args.writer in
-    let t : State = state f.files f.draft f.numbers f.faults c.merge_row.new.folder c.merge_row.new.cursor c.merge_row.new.writer in
-    let p = r.ensures.passes in
-    let v = writer_view c.merge_row.new.writer in
-    let x : State = plain f.files f.draft f.numbers f.faults c.finish.new.folder c.merge_row.new.cursor (after v call_finish) in
-    let sends : Sends (call_finish ∷ []) t x None = plain-sends f.files f.draft f.numbers f.faults c.merge_row.new.folder c.finish.new.folder c.merge_row.new.cursor v (after v call_finish) call_finish (Ok c.in_ok-finish.field-0) (g.met.F.Folder.metered c.merge_row.new.folder) p.within
-    c.in_ok-finish.ensures.folder refl c.in_ok-finish.ensures.too_long in
-    let y : State = plain f.files f.draft f.numbers f.faults c.next.new.folder c.next.follows.lender-at-none (after v call_finish) in
-    let i = c.in_ok-next in
-    let read : Nexts x y i.field-0 = record {
-      files = i.ensures.files;
-      draft = i.ensures.draft;
-      writer = refl;
-      numbers = i.ensures.numbers;
-      later = i.ensures.later;
-      goes = went (f.files c.finish.new.folder) c.merge_row.new.cursor c.next.follows.lender-at-none c.next.result i.field-0 i.was c.next.follows.holds-at-none;
-      reads = i.ensures.reads;
-    } in
-    let one : map keyed_view c.from_ref.result.now ≡ keyed_view c.args.new.now ∷ [] = ap (map keyed_view) c.from_ref.ensures.value in
-    let row = subst (λ (cs : List PlainKeyed). Does w (row_calls (pairs_of c.args.from.now.now) (merged_row c.args.from.now.number (pairs_of c.args.from.now.before) ks cs)) (finish ∷ []) s t None) one
-    (r.ensures.row w ks m (finish ∷ []) all comes below (subst (λ (cs : List PlainKeyed). IsTrue (all_fit ks cs)) (sym one) fit)) in
-    let u : State = state f.files f.draft f.numbers f.faults c.next.new.folder c.args.cursor c.args.writer in
-    ends-all w (row_calls (pairs_of c.args.from.now.now) (merged_row c.args.from.now.number (pairs_of c.args.from.now.before) ks (keyed_view c.args.new.now ∷ []))) s t x y u small refl p row sends i.field-0 refl read
-
-pub returns-clause-reads : goal.returns-clause-reads
-returns-clause-reads g c =
-    let f = g.F.Folder in
-    let r = c.in_ok-merge_row in
-    let s : State = state f.files f.draft f.numbers f.faults c.args.folder.now c.args.cursor c.args.writer in
-    let t : State = state f.files f.draft f.numbers f.faults c.merge_row.new.folder c.merge_row.new.cursor c.merge_row.new.writer in
-    let p = r.ensures.passes in
-    let v = writer_view c.merge_row.new.writer in
-    let x : State = plain f.files f.draft f.numbers f.faults c.finish.new.folder c.merge_row.new.cursor (after v call_finish) in
-    let sends : Sends (call_finish ∷ []) t x None = plain-sends f.files f.draft f.numbers f.faults c.merge_row.new.folder c.finish.new.folder c.merge_row.new.cursor v (after v call_finish) call_finish (Ok c.in_ok-finish.field-0) (g.met.F.Folder.metered c.merge_row.new.folder) p.within
-    c.in_ok-finish.ensures.folder refl c.in_ok-finish.ensures.too_long in
-    let y : State = plain f.files f.draft f.numbers f.faults c.next.new.folder c.next.follows.lender-at-none (after v call_finish) in
-    let i = c.in_ok-next in
-    let read : Nexts x y i.field-0 = record {
-      files = i.ensures.files;
-      draft = i.ensures.draft;
-      writer = refl;
-      numbers = i.ensures.numbers;
-      later = i.ensures.later;
-      goes = went (f.files c.finish.new.folder) c.merge_row.new.cursor c.next.follows.lender-at-none c.next.result i.field-0 i.was c.next.follows.holds-at-none;
-      reads = i.ensures.reads;
-    } in
-    let q = passes-then s t x None unpaid 0 unpaid (omega arith) p sends.passes in
-    reads-fault f.files f.draft f.numbers f.faults c.args.folder.now c.next.new.folder c.args.cursor c.next.follows.lender-at-none (writer_view c.args.writer) (after v call_finish) unpaid Damage c.requires.within
-    (passes-then s x y (Some Damage) unpaid 0 unpaid (omega arith) q (gave-stop 0 x y i.field-0 Damage (λ e. absurd cc) read))
-
-pub returns-clause-nodes : goal.returns-clause-nodes
-returns-clause-nodes g c w ks m all small comes below fit =
-    let f = g.F.Folder in
-    let r = c.in_ok-merge_row in
-    let s : State = state f.files f.draft f.numbers f.faults c.args.folder.now c.args.cursor c.args.writer in
-    let t : State = state f.files f.draft f.numbers f.faults c.merge_row.new.folder c.merge_row.new.cursor c.merge_row.new.writer in
-    let p = r.ensures.passes in
-    let v = writer_view c.merge_row.new.writer in
-    let x : State = plain f.files f.draft f.numbers f.faults c.finish.new.folder c.merge_row.new.cursor (after v call_finish) in
-    let sends : Sends (call_finish ∷ []) t x None = plain-sends f.files f.draft f.numbers f.faults c.merge_row.new.folder c.finish.new.folder c.merge_row.new.cursor v (after v call_finish) call_finish (Ok c.in_ok-finish.field-0) (g.met.F.Folder.metered c.merge_row.new.folder) p.within
-    c.in_ok-finish.ensures.folder refl c.in_ok-finish.ensures.too_long in
-    let y : State = plain f.files f.draft f.numbers f.faults c.next.new.folder c.next.follows.lender-at-none (after v call_finish) in
-    let i = c.in_ok-next in
-    let read : Nexts x y i.field-0 = record {
-      files = i.ensures.files;
-      draft = i.ensures.draft;
-      writer = refl;
-      numbers = i.ensures.numbers;
-      later = i.ensures.later;
-      goes = went (f.files c.finish.new.folder) c.merge_row.new.cursor c.next.follows.lender-at-none c.next.result i.field-0 i.was c.next.follows.holds-at-none;
-      reads = i.ensures.reads;
-    } in
-    let one : map keyed_view c.from_ref.result.now ≡ keyed_view c.args.new.now ∷ [] = ap (map keyed_view) c.from_ref.ensures.value in
-    let row = subst (λ (cs : List PlainKeyed). Does w (row_calls (pairs_of c.args.from.now.now) (merged_row c.args.from.now.number (pairs_of c.args.from.now.before) ks cs)) (finish ∷ []) s t None) one
-    (r.ensures.row w ks m (finish ∷ []) all comes below (subst (λ (cs : List PlainKeyed). IsTrue (all_fit ks cs)) (sym one) fit)) in
-    let u : State = state f.files f.draft f.numbers f.faults c.next.new.folder c.args.cursor c.args.writer in
-    ends-other w (row_calls (pairs_of c.args.from.now.now) (merged_row c.args.from.now.number (pairs_of c.args.from.now.before) ks (keyed_view c.args.new.now ∷ []))) s t x y u small refl p row sends i.field-0 (Some Damage) (not-finish i.field-0 c.in_default.not-Finish) read
+    let m = c.merge_row.new in
+    let w = last m.writer in
+    let here = goal.at.returns-in_default g c in
+    nodes-other f.files f.draft f.numbers f.faults (inherited_view c.args.from.now) (keyed_view c.args.new.now) c.args.folder.now c.next.new.folder c.args.cursor.now c.args.writer c.next.follows.lender-at-none w (map keyed_view c.from_ref.result.now)
+    (ap (map keyed_view) c.from_ref.ensures.value) (at g m.folder m.cursor (writer_view m.writer)) c.in_ok-merge_row.ensures (at g c.finish.new.folder m.cursor w) (sent g here.In_ok-finish) c.in_ok-next.field-0 c.in_default.not-Finish (read g here.In_ok-next)

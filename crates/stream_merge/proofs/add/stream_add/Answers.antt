@@ -1,78 +1,107 @@
-use Rattle.std.proofs.Common.{◌≡◌, ◌≢◌, ◌+◌, ◌-◌, ◌≤◌, length, Result, List, [], ◌∷◌, ◌++◌, ℕ, sym, ap, subst, arith}
-use Rattle.std.specs.Prelude.{max}
-use Rattle.std.specs.Result.{IfErr}
+use Rattle.std.proofs.Common.{◌≡◌, ◌≢◌, ◌+◌, ◌-◌, ◌≤◌, Err, List, [], ◌∷◌, ◌++◌, ℕ, refl, sym, ap, subst, ◌∙◌, arith}
+use Rattle.std.specs.Result.{IfErr, OnOk, OnErr}
 use Rattle.keyed_tree.specs.View.{keyed_view}
-use Rattle.xa_outside.specs.Numbers.{Numbers}
+use Rattle.xa_outside.specs.Causes.{Rose}
+use Rattle.xa_outside.specs.Numbers.{Numbers, PullsAndDrafts}
+use Rattle.xa_outside.specs.NumberLaws.{PullsAndDrafts-none}
 use Rattle.record_cursor.specs.Moves.{TellsFront}
 use Rattle.record_cursor.specs.View.{PlainCursor, header_view}
-use Rattle.record_format.specs.Files.{FileOf, header_bytes, largest}
-use Rattle.xa_outside.specs.Causes.{Rose}
-use Rattle.stream_merge.specs.Added.{of_merge, IfTooLong}
+use Rattle.record_format.specs.Files.{FileOf}
+use Rattle.stream_merge.specs.Added.{Added, of_merge, IfTooLong, IfFailed, Lengthens}
 use Rattle.stream_merge.specs.State.{lead}
-use Rattle.stream_merge.specs.declared.fault.AddFault.{AddFault}
-use Rattle.stream_merge.specs.declared.fault.AddFault.TheVariants.{Damage}
-use Rattle.stream_merge.proofs.Adding.{header-first, err-is, none-longer, no-damage, no-limit, failed-of, unless-of, commit-adds, on-ok, unless-failed}
+use Rattle.stream_merge.specs.declared.fault.AddFault.TheVariants.{Damage, Limit}
+use Rattle.stream_merge.proofs.States.{lengthens-none}
+use Rattle.stream_merge.proofs.Adding.{header-first, at-err, none-longer, no-damage, no-limit, failed-of, commit-adds, commit-fails, commit-err, no-commit-limit, if-failed, on-ok}
 use Rattle.stream_merge.proofs.add.stream_add.Goals as goal
 
-pub returns-in_err-append_version-clause-too_long : goal.returns-in_err-append_version-clause-too_long
-returns-in_err-append_version-clause-too_long g c bytes rules vs tells is sound =
-    let f = g.F.Folder in
-    let e = c.in_err-append_version in
-    let k = keyed_view c.args.new.now in
-    let told : TellsFront (f.files c.args.folder.now) c.args.cursor.name c.args.cursor.length bytes = subst (λ (p : PlainCursor). TellsFront (f.files c.args.folder.now) p.name p.length bytes) (sym c.requires.cursor) tells in
-    subst (λ (r : Result (Unit {0}) AddFault). IfErr r (λ d. IfTooLong d ((file : List ℕ) → ¬ FileOf rules (vs ++ k ∷ []) file))) (sym (err-is c.from_residual.result (of_merge e.field-0.0) c.from_residual.ensures.1))
-    (none-longer rules vs k (f.draft c.args.folder.now) (f.draft c.append_version.new.folder) e.field-0.0 (e.ensures.grows bytes rules vs told is sound))
+pub append_version-requires : goal.append_version-requires
+append_version-requires g c =
+    let r = c.requires in
+    record {
+      room = (let few = r.header.few in omega (arith, few, c.if-header-ge-MOST_VERSIONS.false));
+      within = r.header.within;
+      length = ap (λ (p : PlainCursor). p.length) r.cursor;
+      standing = ap (λ (p : PlainCursor). p.standing) r.cursor;
+      first = ap (λ (p : PlainCursor). p.at) r.cursor;
+      keyed = r.keyed;
+    }
 
-pub returns-in_err-append_version-clause-undamaged : goal.returns-in_err-append_version-clause-undamaged
-returns-in_err-append_version-clause-undamaged g c bytes rules vs tells is sound =
-    let f = g.F.Folder in
-    let e = c.in_err-append_version in
-    let k = keyed_view c.args.new.now in
-    let told : TellsFront (f.files c.args.folder.now) c.args.cursor.name c.args.cursor.length bytes = subst (λ (p : PlainCursor). TellsFront (f.files c.args.folder.now) p.name p.length bytes) (sym c.requires.cursor) tells in
-    subst (λ (r : Result (Unit {0}) AddFault). IfErr r (λ d. d ≢ Damage)) (sym (err-is c.from_residual.result (of_merge e.field-0.0) c.from_residual.ensures.1))
-    (no-damage rules vs k (f.draft c.args.folder.now) (f.draft c.append_version.new.folder) e.field-0.0 (e.ensures.grows bytes rules vs told is sound))
-
-pub returns-in_err-append_version-clause-gap : goal.returns-in_err-append_version-clause-gap
-returns-in_err-append_version-clause-gap g c bytes rules vs a tells is sound of =
-    let f = g.F.Folder in
-    let e = c.in_err-append_version in
-    let told : TellsFront (f.files c.args.folder.now) c.args.cursor.name c.args.cursor.length bytes = subst (λ (p : PlainCursor). TellsFront (f.files c.args.folder.now) p.name p.length bytes) (sym c.requires.cursor) tells in
-    unless-of c.from_residual.result e.field-0.0 ((f.numbers c.append_version.new.folder).gap ≤ max (f.numbers c.args.folder.now).gap (lead (f.numbers c.args.folder.now) - length (header_bytes rules a.n) + largest rules a)) (err-is c.from_residual.result (of_merge e.field-0.0) c.from_residual.ensures.1) (e.ensures.gap bytes rules vs a told is sound of)
-
-pub returns-in_err-append_version-clause-cause : goal.returns-in_err-append_version-clause-cause
-returns-in_err-append_version-clause-cause g c =
-    let f = g.F.Folder in
-    let e = c.in_err-append_version in
-    failed-of c.from_residual.result e.field-0.0 (Rose (f.faults c.args.folder.now) (f.faults c.append_version.new.folder)) (err-is c.from_residual.result (of_merge e.field-0.0) c.from_residual.ensures.1) e.ensures.reads.cause
-
-pub returns-in_err-append_version-clause-limit : goal.returns-in_err-append_version-clause-limit
-returns-in_err-append_version-clause-limit g c =
-    let e = c.in_err-append_version in
-    (λ q. absurd (no-limit c.from_residual.result e.field-0.0 (err-is c.from_residual.result (of_merge e.field-0.0) c.from_residual.ensures.1) q), λ v. absurd (omega (arith, v, c.if-header-ge-MOST_VERSIONS.false)))
-
-pub returns-clause-added : goal.returns-clause-added
-returns-clause-added g c bytes rules vs tells is sound =
-    let f = g.F.Folder in
-    let i = c.in_ok-append_version in
-    let told : TellsFront (f.files c.args.folder.now) c.args.cursor.name c.args.cursor.length bytes = subst (λ (p : PlainCursor). TellsFront (f.files c.args.folder.now) p.name p.length bytes) (sym c.requires.cursor) tells in
-    commit-adds rules vs (keyed_view c.args.new.now) c.args.name.now (f.files c.args.folder.now) (f.files c.append_version.new.folder) (f.files c.commit.new.folder) (f.draft c.args.folder.now) (f.draft c.append_version.new.folder) c.commit.result
-    c.requires.draft i.ensures.reads.same_files (i.ensures.grows bytes rules vs told is sound) c.commit.ensures.files
-
-pub returns-clause-gap : goal.returns-clause-gap
-returns-clause-gap g c bytes rules vs a tells is sound of =
-    let f = g.F.Folder in
-    let i = c.in_ok-append_version in
-    let told : TellsFront (f.files c.args.folder.now) c.args.cursor.name c.args.cursor.length bytes = subst (λ (p : PlainCursor). TellsFront (f.files c.args.folder.now) p.name p.length bytes) (sym c.requires.cursor) tells in
-    let gap = i.ensures.gap bytes rules vs a told is sound of in
-    let same = ap (λ (m : Numbers). m.gap) c.commit.ensures.numbers in
-    unless-failed c.commit.result ((f.numbers c.commit.new.folder).gap ≤ max (f.numbers c.args.folder.now).gap (lead (f.numbers c.args.folder.now) - length (header_bytes rules a.n) + largest rules a)) (omega (arith, gap, same))
-
-pub returns-clause-ahead : goal.returns-clause-ahead
-returns-clause-ahead g c bytes tells is =
+pub returns-then-header-ge-MOST_VERSIONS : goal.returns-then-header-ge-MOST_VERSIONS
+returns-then-header-ge-MOST_VERSIONS g c =
     let f = g.F.Folder in
     let h = header_view c.args.header.now in
-    let i = c.in_ok-append_version in
-    let ahead = i.ensures.reads.ahead in
-    let same = ap lead c.commit.ensures.numbers in
-    let long = header-first h (f.files c.args.folder.now) c.args.name.now bytes (h.versions + 1) tells is c.requires.header.within in
-    on-ok c.commit.result (lead (f.numbers c.commit.new.folder) ≤ lead (f.numbers c.args.folder.now) - h.first) (omega (arith, ahead, same, long))
+    let few = c.requires.header.few in
+    record {
+      added = tt;
+      refused = refl;
+      drafted = record { bytes = []; is = lengthens-none (f.draft c.args.folder.now) (f.draft c.args.folder.now) refl };
+      too_long = λ bytes rules vs tells is sound. tt;
+      undamaged = λ bytes rules vs tells is sound e. absurd cc;
+      limit = (λ e. omega (arith, few, c.if-header-ge-MOST_VERSIONS.true), λ e. refl);
+      later = omega arith;
+      cause = tt;
+      pulls = PullsAndDrafts-none (h.length - h.first) (f.numbers c.args.folder.now) (g.met.F.Folder.metered c.args.folder.now);
+      gap = λ bytes rules vs a tells is sound of. omega arith;
+      ahead = λ bytes tells is. tt;
+    }
+
+pub returns-in_err-append_version : goal.returns-in_err-append_version
+returns-in_err-append_version g c =
+    let f = g.F.Folder in
+    let h = header_view c.args.header.now in
+    let k = keyed_view c.args.new.now in
+    let e = c.in_err-append_version in
+    let v = e.ensures in
+    let r = c.from_residual in
+    let old = c.args.folder.now in
+    let now = c.append_version.new.folder in
+    let told : (bytes : List ℕ) → TellsFront (f.files old) c.args.name.now h.length bytes → TellsFront (f.files old) c.args.cursor.name c.args.cursor.length bytes =
+    λ bytes tells. subst (λ (p : PlainCursor). TellsFront (f.files old) p.name p.length bytes) (sym c.requires.cursor) tells in
+    record {
+      added = at-err r.result (of_merge e.field-0.0) r.ensures.1 (λ r. OnOk r (Added h c.args.name.now k (f.files old) (f.files now) (f.draft old) (f.draft now))) tt;
+      refused = at-err r.result (of_merge e.field-0.0) r.ensures.1 (λ r. OnErr r (f.files now ≡ f.files old)) v.reads.same_files;
+      drafted = at-err r.result (of_merge e.field-0.0) r.ensures.1 (λ r. OnErr r (Lengthens (f.draft old) (f.draft now))) (record { bytes = v.appended; is = v.reads.lengthens });
+      too_long = λ bytes rules vs tells is sound. at-err r.result (of_merge e.field-0.0) r.ensures.1 (λ r. IfErr r (λ d. IfTooLong d ((file : List ℕ) → ¬ FileOf rules (vs ++ k ∷ []) file)))
+          (none-longer v.appended rules vs k e.field-0.0 (v.grows bytes rules vs (told bytes tells) is sound));
+      undamaged = λ bytes rules vs tells is sound. at-err r.result (of_merge e.field-0.0) r.ensures.1 (λ r. IfErr r (λ d. d ≢ Damage)) (no-damage v.appended rules vs k e.field-0.0 (v.grows bytes rules vs (told bytes tells) is sound));
+      limit = (λ q. absurd (at-err r.result (of_merge e.field-0.0) r.ensures.1 (λ r. r ≢ Err Limit) (no-limit e.field-0.0) q), λ v. absurd (omega (arith, v, c.if-header-ge-MOST_VERSIONS.false)));
+      later = v.reads.later;
+      cause = (let raised = Rose (f.faults old) (f.faults now) in at-err r.result (of_merge e.field-0.0) r.ensures.1 (λ r. IfFailed r raised) (failed-of (Unit {0}) e.field-0.0 raised v.reads.cause));
+      pulls = v.reads.pulls;
+      gap = λ bytes rules vs a tells is sound of. v.gap bytes rules vs a (told bytes tells) is sound of;
+      ahead = λ bytes tells is. at-err r.result (of_merge e.field-0.0) r.ensures.1 (λ r. OnOk r (lead (f.numbers now) ≤ lead (f.numbers old) - h.first)) tt;
+    }
+
+pub returns : goal.returns
+returns g c =
+    let f = g.F.Folder in
+    let h = header_view c.args.header.now in
+    let k = keyed_view c.args.new.now in
+    let v = c.in_ok-append_version.ensures in
+    let old = c.args.folder.now in
+    let mid = c.append_version.new.folder in
+    let now = c.commit.new.folder in
+    let r = c.commit.result in
+    let e = c.commit.ensures in
+    let told : (bytes : List ℕ) → TellsFront (f.files old) c.args.name.now h.length bytes → TellsFront (f.files old) c.args.cursor.name c.args.cursor.length bytes =
+    λ bytes tells. subst (λ (p : PlainCursor). TellsFront (f.files old) p.name p.length bytes) (sym c.requires.cursor) tells in
+    let first = v.reads.later in
+    let second = e.later in
+    record {
+      added = commit-adds h k c.args.name.now v.appended (f.files old) (f.files mid) (f.files now) (f.draft old) (f.draft mid) (f.draft now) r c.requires.draft v.reads.same_files v.reads.lengthens
+          (λ bytes rules vs tells. v.grows bytes rules vs (told bytes tells)) e.files e.draft;
+      refused = commit-fails r (f.files now ≡ f.files mid) (f.files now ≡ f.files old) (λ same. same ∙ v.reads.same_files) e.refused;
+      drafted = commit-fails r (f.draft now ≡ f.draft mid) (Lengthens (f.draft old) (f.draft now)) (λ kept. record { bytes = v.appended; is = kept ∙ v.reads.lengthens }) e.kept;
+      too_long = λ bytes rules vs tells is sound. commit-err r (λ d. IfTooLong d ((file : List ℕ) → ¬ FileOf rules (vs ++ k ∷ []) file)) e.fault tt;
+      undamaged = λ bytes rules vs tells is sound. commit-err r (λ d. d ≢ Damage) e.fault (λ q. absurd cc);
+      limit = (λ q. absurd (no-commit-limit r e.fault q), λ v. absurd (omega (arith, v, c.if-header-ge-MOST_VERSIONS.false)));
+      later = omega (arith, first, second);
+      cause = if-failed r (Rose (f.faults old) (f.faults now)) (commit-fails r (Rose (f.faults mid) (f.faults now)) (Rose (f.faults old) (f.faults now)) (λ rose. omega (arith, rose, first)) e.cause);
+      pulls = subst (λ (m : Numbers). PullsAndDrafts (h.length - h.first) (f.numbers old) m) (sym e.numbers) v.reads.pulls;
+      gap = λ bytes rules vs a tells is sound of. (let gap = v.gap bytes rules vs a (told bytes tells) is sound of in let same = ap (λ (m : Numbers). m.gap) e.numbers in omega (arith, gap, same));
+      ahead = λ bytes tells is. on-ok r (lead (f.numbers now) ≤ lead (f.numbers old) - h.first) (
+          let ahead = v.reads.ahead in
+          let same = ap lead e.numbers in
+          let long = header-first h (f.files old) c.args.name.now bytes (h.versions + 1) tells is c.requires.header.within in
+          omega (arith, ahead, same, long));
+    }

@@ -1,458 +1,237 @@
-use Rattle.std.proofs.Common.{◌≡◌, ◌<◌, ◌*◌, ◌+◌, ◌-◌, Option, Some, None, Ok, Err, [], ◌∷◌, false, refl, sym, ap, subst, ◌∙◌, arith}
+use Rattle.std.proofs.Common.{ℕ, ◌<◌, ◌*◌, ◌+◌, ◌-◌, Option, Some, None, Ok, Bool, refl, ap, subst, arith}
 use Rattle.version_set.specs.View.{pairs_of}
-use Rattle.archive_tree.specs.Data.{Stamp}
-use Rattle.archive_tree.specs.View.{stamp_view}
-use Rattle.record_cursor.specs.Items.{inner_item, leaf_item}
 use Rattle.record_cursor.specs.View.{PlainCursor, shown_item}
-use Rattle.record_format.specs.Nodes.{set_in}
-use Rattle.record_parts.specs.ShownViews.{shown_label}
-use Rattle.record_writer.specs.Data.{call_inner, call_leaf, call_end_inner}
-use Rattle.stream_merge.specs.Does.{Sends}
-use Rattle.stream_merge.specs.Passes.{Passes, of_cursor, of_writer}
+use Rattle.record_parts.specs.ShownViews.{shown_label, shown_stamp}
+use Rattle.record_writer.specs.Data.{call_end_inner}
+use Rattle.record_writer.specs.declared.writer.Writer.{Writer}
+use Rattle.stream_merge.specs.Copied.{RowCopied, InsideCopied, ChildCopied}
+use Rattle.stream_merge.specs.Passes.{fault_of, of_cursor}
 use Rattle.stream_merge.specs.State.{State, state}
+use Rattle.stream_merge.specs.declared.begin.Kind.TheVariants.{Inner, Leaf}
 use Rattle.stream_merge.specs.declared.fault.MergeFault.{MergeFault}
-use Rattle.stream_merge.specs.declared.fault.MergeFault.TheVariants.{Memory, Damage}
-use Rattle.stream_merge.proofs.States.{nexts, stays-by, call-sends, fault-from, passes-then, gave-sent}
-use Rattle.stream_merge.proofs.CopiedRows.{RowDoes, InsideDoes, row-start, row-more, row-done, row-fault, closed-does, closed-fault}
-use Rattle.stream_merge.proofs.ChildCopies.{passes-err, node-err, end-err, node-failed, end-failed, node-memory, inner-fails, inner-does, leaf-fails, leaf-does, inner-paid, leaf-paid, inner-smaller, opens-inner, opens-leaf, opened-some, opened-closed, leaf-closed, given-node, given-end, given-no-end, not-inner, not-leaf, not-closing}
+use Rattle.stream_merge.proofs.States.{written, Nexts, nexts, stays-by, call-sends}
+use Rattle.stream_merge.proofs.CopiedRows.{row-start, row-on, row-done, row-fault, inside-fault, inside-close}
+use Rattle.stream_merge.proofs.ChildCopies.{Opener, opening-smaller, inside-part, alts-part, begun-writer, opened-some, child-failed, child-fails, child-part-fails, child-copied, child-ended, child-damage}
+use Rattle.stream_merge.proofs.Handed.{at-err, called}
+use Rattle.stream_merge.proofs.copy.+copy.Given.{Over}
+use Rattle.stream_merge.proofs.copy.+copy.Goals.{copy_child-In_ok-label, copy_child-In-Inner, copy_child-In-Leaf}
 use Rattle.stream_merge.proofs.copy.+copy.Goals as goal
 
-pub copy_child-returns-in_err-label-clause-node : goal.copy_child-returns-in_err-label-clause-node
-copy_child-returns-in_err-label-clause-node g t c =
-    let f = g.F.Folder in
-    let s : State = state f.files f.draft f.numbers f.faults c.args.folder.now c.args.cursor.now c.args.writer.now in
-    let p : State = state f.files f.draft f.numbers f.faults c.next.new.folder c.next.follows.lender-at-none c.args.writer.now in
+abbrev at : (g : Over) → g.row.F.Denot → PlainCursor → Writer → State
+at g = (let f = g.F.Folder in state f.files f.draft f.numbers f.faults)
+
+-- ---- a node
+
+-- the item that was given
+read : (g : Over) (t : ℕ) (c : copy_child-In_ok-label g t) → Nexts (at g c.args.folder.now c.args.cursor.now c.args.writer.now) (at g c.next.new.folder c.next.follows.lender-at-none c.args.writer.now) c.in_ok-label.field-0
+read g t c =
+    let i = c.in_ok-label in
+    nexts (at g c.args.folder.now c.args.cursor.now c.args.writer.now) (at g c.next.new.folder c.next.follows.lender-at-none c.args.writer.now) c.next.result i.field-0 (g.met.F.Folder.metered c.next.new.folder) i.was i.ensures.files i.ensures.draft refl i.ensures.numbers
+    i.ensures.later i.ensures.reads c.next.follows.holds-at-none
+
+pub copy_child-returns-in_err-label : goal.copy_child-returns-in_err-label
+copy_child-returns-in_err-label g t c =
+    let q = pairs_of c.args.set.now in
     let e = c.in_err-label in
-    let stays = stays-by s p c.next.result e.field-0.0 e.was e.ensures.files e.ensures.pulls e.ensures.later e.ensures.cause e.ensures.undamaged e.ensures.reads c.next.follows.holds-at-none in
-    node-err (pairs_of c.args.set.now) s p c.from_residual.result (of_cursor e.field-0.0) c.from_residual.ensures.1 (node-failed (pairs_of c.args.set.now) s p e.field-0.0 stays)
+    let s = at g c.args.folder.now c.args.cursor.now c.args.writer.now in
+    let p = at g c.next.new.folder c.next.follows.lender-at-none c.args.writer.now in
+    let stays = stays-by s p c.next.result e.field-0.0 e.was e.ensures.files e.ensures.draft e.ensures.pulls e.ensures.later e.ensures.cause e.ensures.undamaged e.ensures.reads c.next.follows.holds-at-none in
+    at-err c.from_residual.result (of_cursor e.field-0.0) c.from_residual.ensures.1 (λ r. ChildCopied q s p r) (child-failed q s p e.field-0.0 c.requires.within stays)
 
-pub copy_child-returns-in_err-label-clause-end : goal.copy_child-returns-in_err-label-clause-end
-copy_child-returns-in_err-label-clause-end g t c =
-    let f = g.F.Folder in
-    let s : State = state f.files f.draft f.numbers f.faults c.args.folder.now c.args.cursor.now c.args.writer.now in
-    let p : State = state f.files f.draft f.numbers f.faults c.next.new.folder c.next.follows.lender-at-none c.args.writer.now in
-    let e = c.in_err-label in
-    let stays = stays-by s p c.next.result e.field-0.0 e.was e.ensures.files e.ensures.pulls e.ensures.later e.ensures.cause e.ensures.undamaged e.ensures.reads c.next.follows.holds-at-none in
-    end-err s p c.from_residual.result (of_cursor e.field-0.0) c.from_residual.ensures.1 (end-failed s p e.field-0.0 stays)
+abbrev inner : (g : Over) (t : ℕ) (c : copy_child-In-Inner g t) → Nexts (at g c.args.folder.now c.args.cursor.now c.args.writer.now) (at g c.next.new.folder c.next.follows.lender-at-none c.args.writer.now) c.in_ok-label.field-0 → Opener Inner (at g c.args.folder.now c.args.cursor.now c.args.writer.now) (at g c.next.new.folder c.next.follows.lender-at-none c.args.writer.now)
+inner g t c read = (let i = c.in-Inner in record { item = c.in_ok-label.field-0; label = shown_label i.label; stamp = shown_stamp i.stamp; shown = ap shown_item i.is; read = read })
 
-pub copy_child-returns-in_err-stamp-in-Inner-clause-node : goal.copy_child-returns-in_err-stamp-in-Inner-clause-node
-copy_child-returns-in_err-stamp-in-Inner-clause-node g t c =
-    let f = g.F.Folder in
-    let s : State = state f.files f.draft f.numbers f.faults c.args.folder.now c.args.cursor.now c.args.writer.now in
-    let p : State = state f.files f.draft f.numbers f.faults c.next.new.folder c.next.follows.lender-at-none c.args.writer.now in
-    let i = c.in_ok-label in
-    let read = nexts s p c.next.result i.field-0 i.was i.ensures.files i.ensures.draft refl i.ensures.numbers i.ensures.later i.ensures.reads c.next.follows.holds-at-none in
-    let goes = read.goes in
-    node-err (pairs_of c.args.set.now) s p c.from_residual-in_err-stamp-in-Inner.result Memory c.from_residual-in_err-stamp-in-Inner.ensures.1 (node-memory (pairs_of c.args.set.now) s p i.field-0 read)
+abbrev leaf : (g : Over) (t : ℕ) (c : copy_child-In-Leaf g t) → Nexts (at g c.args.folder.now c.args.cursor.now c.args.writer.now) (at g c.next.new.folder c.next.follows.lender-at-none c.args.writer.now) c.in_ok-label.field-0 → Opener Leaf (at g c.args.folder.now c.args.cursor.now c.args.writer.now) (at g c.next.new.folder c.next.follows.lender-at-none c.args.writer.now)
+leaf g t c read = (let i = c.in-Leaf in record { item = c.in_ok-label.field-0; label = shown_label i.label; stamp = shown_stamp i.stamp; shown = ap shown_item i.is; read = read })
 
-pub copy_child-returns-in_err-stamp-in-Leaf-clause-node : goal.copy_child-returns-in_err-stamp-in-Leaf-clause-node
-copy_child-returns-in_err-stamp-in-Leaf-clause-node g t c =
-    let f = g.F.Folder in
-    let s : State = state f.files f.draft f.numbers f.faults c.args.folder.now c.args.cursor.now c.args.writer.now in
-    let p : State = state f.files f.draft f.numbers f.faults c.next.new.folder c.next.follows.lender-at-none c.args.writer.now in
-    let i = c.in_ok-label in
-    let read = nexts s p c.next.result i.field-0 i.was i.ensures.files i.ensures.draft refl i.ensures.numbers i.ensures.later i.ensures.reads c.next.follows.holds-at-none in
-    let goes = read.goes in
-    node-err (pairs_of c.args.set.now) s p c.from_residual-in_err-stamp-in-Leaf.result Memory c.from_residual-in_err-stamp-in-Leaf.ensures.1 (node-memory (pairs_of c.args.set.now) s p i.field-0 read)
-
-pub copy_child-returns-in_err-set-in-Inner-clause-passes : goal.copy_child-returns-in_err-set-in-Inner-clause-passes
-copy_child-returns-in_err-set-in-Inner-clause-passes g t c =
-    let f = g.F.Folder in
-    let s : State = state f.files f.draft f.numbers f.faults c.args.folder.now c.args.cursor.now c.args.writer.now in
-    let p : State = state f.files f.draft f.numbers f.faults c.next.new.folder c.next.follows.lender-at-none c.args.writer.now in
-    let i = c.in_ok-label in
-    let read = nexts s p c.next.result i.field-0 i.was i.ensures.files i.ensures.draft refl i.ensures.numbers i.ensures.later i.ensures.reads c.next.follows.holds-at-none in
-    let goes = read.goes in
-    let a = c.in-Inner in
-    let st : Stamp = stamp_view c.in_ok-stamp-in-Inner.stamp in
-    let shown : shown_item i.field-0 ≡ inner_item (shown_label a.label) st = ap shown_item a.is ∙ ap (λ (z : Stamp). inner_item (shown_label a.label) z) (sym c.in_ok-stamp-in-Inner.ensures) in
-    let u : State = state f.files f.draft f.numbers f.faults c.begin_node.new.folder c.next.follows.lender-at-none c.begin_node.new.writer in
-    let sent : Sends (call_inner (shown_label a.label) st (set_in st (pairs_of c.args.set.now)) ∷ []) p u (Some c.in_err-set-in-Inner.field-0.0) = c.in_err-set-in-Inner.ensures.sends c.next.follows.lender-at-none goes.within in
-    let passes : Passes 0 s u (Some c.in_err-set-in-Inner.field-0.0) = gave-sent s p u i.field-0 (call_inner (shown_label a.label) st (set_in st (pairs_of c.args.set.now)) ∷ []) (Some c.in_err-set-in-Inner.field-0.0) (inner-paid s p (shown_item i.field-0) (shown_label a.label) st (set_in st (pairs_of c.args.set.now)) shown) read sent in
-    passes-err s u c.from_residual-in_err-set-in-Inner.result c.in_err-set-in-Inner.field-0.0 _ c.from_residual-in_err-set-in-Inner.ensures.1 passes
-
-pub copy_child-returns-in_err-set-in-Inner-clause-node : goal.copy_child-returns-in_err-set-in-Inner-clause-node
-copy_child-returns-in_err-set-in-Inner-clause-node g t c =
-    let f = g.F.Folder in
-    let s : State = state f.files f.draft f.numbers f.faults c.args.folder.now c.args.cursor.now c.args.writer.now in
-    let p : State = state f.files f.draft f.numbers f.faults c.next.new.folder c.next.follows.lender-at-none c.args.writer.now in
-    let i = c.in_ok-label in
-    let read = nexts s p c.next.result i.field-0 i.was i.ensures.files i.ensures.draft refl i.ensures.numbers i.ensures.later i.ensures.reads c.next.follows.holds-at-none in
-    let goes = read.goes in
-    let a = c.in-Inner in
-    let st : Stamp = stamp_view c.in_ok-stamp-in-Inner.stamp in
-    let shown : shown_item i.field-0 ≡ inner_item (shown_label a.label) st = ap shown_item a.is ∙ ap (λ (z : Stamp). inner_item (shown_label a.label) z) (sym c.in_ok-stamp-in-Inner.ensures) in
-    let u : State = state f.files f.draft f.numbers f.faults c.begin_node.new.folder c.next.follows.lender-at-none c.begin_node.new.writer in
-    let sent : Sends (call_inner (shown_label a.label) st (set_in st (pairs_of c.args.set.now)) ∷ []) p u (Some c.in_err-set-in-Inner.field-0.0) = c.in_err-set-in-Inner.ensures.sends c.next.follows.lender-at-none goes.within in
-    let passes : Passes 0 s u (Some c.in_err-set-in-Inner.field-0.0) = gave-sent s p u i.field-0 (call_inner (shown_label a.label) st (set_in st (pairs_of c.args.set.now)) ∷ []) (Some c.in_err-set-in-Inner.field-0.0) (inner-paid s p (shown_item i.field-0) (shown_label a.label) st (set_in st (pairs_of c.args.set.now)) shown) read sent in
-    node-err (pairs_of c.args.set.now) s u c.from_residual-in_err-set-in-Inner.result c.in_err-set-in-Inner.field-0.0 c.from_residual-in_err-set-in-Inner.ensures.1 (inner-fails (pairs_of c.args.set.now) s p u i.field-0 (shown_label a.label) st c.in_err-set-in-Inner.field-0.0 shown read sent)
+pub copy_child-returns-in_err-set-in-Inner : goal.copy_child-returns-in_err-set-in-Inner
+copy_child-returns-in_err-set-in-Inner g t c =
+    let z = goal.at.copy_child-returns-in_err-set-in-Inner g t c in
+    let q = pairs_of c.args.set.now in
+    let k : PlainCursor = c.next.follows.lender-at-none in
+    let s = at g c.args.folder.now c.args.cursor.now c.args.writer.now in
+    let p = at g c.next.new.folder k c.args.writer.now in
+    let u = at g c.copy_opening.new.folder k c.copy_opening.new.writer in
+    let gave = read g t z.In_ok-label in
+    let goes = gave.goes in
+    let o = inner g t z.In-Inner gave in
+    let e = c.in_err-set-in-Inner in
+    let r = c.from_residual-in_err-set-in-Inner in
+    at-err r.result e.field-0.0 r.ensures.1 (λ d. ChildCopied q s u d) (child-fails Inner q s p u o e.field-0.0 (e.ensures.sends k goes.within))
 
 pub copy_child-copy_inner-requires : goal.copy_child-copy_inner-requires
 copy_child-copy_inner-requires g t c κs within =
-    let f = g.F.Folder in
-    let s : State = state f.files f.draft f.numbers f.faults c.args.folder.now c.args.cursor.now c.args.writer.now in
-    let p : State = state f.files f.draft f.numbers f.faults c.next.new.folder c.next.follows.lender-at-none c.args.writer.now in
-    let i = c.in_ok-label in
-    let read = nexts s p c.next.result i.field-0 i.was i.ensures.files i.ensures.draft refl i.ensures.numbers i.ensures.later i.ensures.reads c.next.follows.holds-at-none in
-    let goes = read.goes in
-    let a = c.in-Inner in
-    let st : Stamp = stamp_view c.in_ok-stamp-in-Inner.stamp in
-    let shown : shown_item i.field-0 ≡ inner_item (shown_label a.label) st = ap shown_item a.is ∙ ap (λ (z : Stamp). inner_item (shown_label a.label) z) (sym c.in_ok-stamp-in-Inner.ensures) in
-    let u : State = state f.files f.draft f.numbers f.faults c.begin_node.new.folder c.next.follows.lender-at-none c.begin_node.new.writer in
-    let sent : Sends (call_inner (shown_label a.label) st (set_in st (pairs_of c.args.set.now)) ∷ []) p u (None) = c.in_ok-set-in-Inner.ensures.sends c.next.follows.lender-at-none goes.within in
-    let passes : Passes 0 s u (None) = gave-sent s p u i.field-0 (call_inner (shown_label a.label) st (set_in st (pairs_of c.args.set.now)) ∷ []) (None) (inner-paid s p (shown_item i.field-0) (shown_label a.label) st (set_in st (pairs_of c.args.set.now)) shown) read sent in
-    let made = sent.made in
-    let opens = opens-inner p.writer u.writer (shown_label a.label) st (set_in st (pairs_of c.args.set.now)) c.requires.no_leaf made.writer in
-    let b : PlainCursor = c.next.follows.lender-at-none in
-    let small = inner-smaller (f.files c.args.folder.now) c.args.cursor.now b i.field-0 (shown_label a.label) st shown goes in
-    let less : 3 * (b.length - b.at) + 2 < t = omega (arith, small, c.decreases) in
-    (less, (within, (goes.within, (opens.no_leaf, opened-some p.writer u.writer opens))))
-
-pub copy_child-returns-in_err-copy_inner-in-Inner-clause-passes : goal.copy_child-returns-in_err-copy_inner-in-Inner-clause-passes
-copy_child-returns-in_err-copy_inner-in-Inner-clause-passes g t c =
-    let f = g.F.Folder in
-    let s : State = state f.files f.draft f.numbers f.faults c.args.folder.now c.args.cursor.now c.args.writer.now in
-    let p : State = state f.files f.draft f.numbers f.faults c.next.new.folder c.next.follows.lender-at-none c.args.writer.now in
-    let i = c.in_ok-label in
-    let read = nexts s p c.next.result i.field-0 i.was i.ensures.files i.ensures.draft refl i.ensures.numbers i.ensures.later i.ensures.reads c.next.follows.holds-at-none in
-    let goes = read.goes in
-    let a = c.in-Inner in
-    let st : Stamp = stamp_view c.in_ok-stamp-in-Inner.stamp in
-    let shown : shown_item i.field-0 ≡ inner_item (shown_label a.label) st = ap shown_item a.is ∙ ap (λ (z : Stamp). inner_item (shown_label a.label) z) (sym c.in_ok-stamp-in-Inner.ensures) in
-    let u : State = state f.files f.draft f.numbers f.faults c.begin_node.new.folder c.next.follows.lender-at-none c.begin_node.new.writer in
-    let sent : Sends (call_inner (shown_label a.label) st (set_in st (pairs_of c.args.set.now)) ∷ []) p u (None) = c.in_ok-set-in-Inner.ensures.sends c.next.follows.lender-at-none goes.within in
-    let passes : Passes 0 s u (None) = gave-sent s p u i.field-0 (call_inner (shown_label a.label) st (set_in st (pairs_of c.args.set.now)) ∷ []) (None) (inner-paid s p (shown_item i.field-0) (shown_label a.label) st (set_in st (pairs_of c.args.set.now)) shown) read sent in
-    let made = sent.made in
-    let v : State = state f.files f.draft f.numbers f.faults c.copy_inner.new.folder c.copy_inner.new.cursor c.copy_inner.new.writer in
-    passes-err s v c.from_residual-in_err-copy_inner-in-Inner.result c.in_err-copy_inner-in-Inner.field-0.0 _ c.from_residual-in_err-copy_inner-in-Inner.ensures.1 (passes-then s u v (Some c.in_err-copy_inner-in-Inner.field-0.0) 0 0 0 (omega arith) passes c.in_err-copy_inner-in-Inner.ensures.passes)
-
-pub copy_child-returns-in_err-copy_inner-in-Inner-clause-node : goal.copy_child-returns-in_err-copy_inner-in-Inner-clause-node
-copy_child-returns-in_err-copy_inner-in-Inner-clause-node g t c =
-    let f = g.F.Folder in
-    let s : State = state f.files f.draft f.numbers f.faults c.args.folder.now c.args.cursor.now c.args.writer.now in
-    let p : State = state f.files f.draft f.numbers f.faults c.next.new.folder c.next.follows.lender-at-none c.args.writer.now in
-    let i = c.in_ok-label in
-    let read = nexts s p c.next.result i.field-0 i.was i.ensures.files i.ensures.draft refl i.ensures.numbers i.ensures.later i.ensures.reads c.next.follows.holds-at-none in
-    let goes = read.goes in
-    let a = c.in-Inner in
-    let st : Stamp = stamp_view c.in_ok-stamp-in-Inner.stamp in
-    let shown : shown_item i.field-0 ≡ inner_item (shown_label a.label) st = ap shown_item a.is ∙ ap (λ (z : Stamp). inner_item (shown_label a.label) z) (sym c.in_ok-stamp-in-Inner.ensures) in
-    let u : State = state f.files f.draft f.numbers f.faults c.begin_node.new.folder c.next.follows.lender-at-none c.begin_node.new.writer in
-    let sent : Sends (call_inner (shown_label a.label) st (set_in st (pairs_of c.args.set.now)) ∷ []) p u (None) = c.in_ok-set-in-Inner.ensures.sends c.next.follows.lender-at-none goes.within in
-    let passes : Passes 0 s u (None) = gave-sent s p u i.field-0 (call_inner (shown_label a.label) st (set_in st (pairs_of c.args.set.now)) ∷ []) (None) (inner-paid s p (shown_item i.field-0) (shown_label a.label) st (set_in st (pairs_of c.args.set.now)) shown) read sent in
-    let made = sent.made in
-    let v : State = state f.files f.draft f.numbers f.faults c.copy_inner.new.folder c.copy_inner.new.cursor c.copy_inner.new.writer in
-    node-err (pairs_of c.args.set.now) s v c.from_residual-in_err-copy_inner-in-Inner.result c.in_err-copy_inner-in-Inner.field-0.0 c.from_residual-in_err-copy_inner-in-Inner.ensures.1 (inner-does (pairs_of c.args.set.now) (pairs_of c.in_ok-set-in-Inner.set) s p u v i.field-0 (shown_label a.label) st (Some c.in_err-copy_inner-in-Inner.field-0.0) c.in_ok-set-in-Inner.ensures.set shown read sent passes c.in_err-copy_inner-in-Inner.ensures.inside)
-
-pub copy_child-returns-in_ok-copy_inner-in-Inner-clause-passes : goal.copy_child-returns-in_ok-copy_inner-in-Inner-clause-passes
-copy_child-returns-in_ok-copy_inner-in-Inner-clause-passes g t c =
-    let f = g.F.Folder in
-    let s : State = state f.files f.draft f.numbers f.faults c.args.folder.now c.args.cursor.now c.args.writer.now in
-    let p : State = state f.files f.draft f.numbers f.faults c.next.new.folder c.next.follows.lender-at-none c.args.writer.now in
-    let i = c.in_ok-label in
-    let read = nexts s p c.next.result i.field-0 i.was i.ensures.files i.ensures.draft refl i.ensures.numbers i.ensures.later i.ensures.reads c.next.follows.holds-at-none in
-    let goes = read.goes in
-    let a = c.in-Inner in
-    let st : Stamp = stamp_view c.in_ok-stamp-in-Inner.stamp in
-    let shown : shown_item i.field-0 ≡ inner_item (shown_label a.label) st = ap shown_item a.is ∙ ap (λ (z : Stamp). inner_item (shown_label a.label) z) (sym c.in_ok-stamp-in-Inner.ensures) in
-    let u : State = state f.files f.draft f.numbers f.faults c.begin_node.new.folder c.next.follows.lender-at-none c.begin_node.new.writer in
-    let sent : Sends (call_inner (shown_label a.label) st (set_in st (pairs_of c.args.set.now)) ∷ []) p u (None) = c.in_ok-set-in-Inner.ensures.sends c.next.follows.lender-at-none goes.within in
-    let passes : Passes 0 s u (None) = gave-sent s p u i.field-0 (call_inner (shown_label a.label) st (set_in st (pairs_of c.args.set.now)) ∷ []) (None) (inner-paid s p (shown_item i.field-0) (shown_label a.label) st (set_in st (pairs_of c.args.set.now)) shown) read sent in
-    let made = sent.made in
-    let v : State = state f.files f.draft f.numbers f.faults c.copy_inner.new.folder c.copy_inner.new.cursor c.copy_inner.new.writer in
-    passes-then s u v None 0 0 0 (omega arith) passes c.in_ok-copy_inner-in-Inner.ensures.passes
-
-pub copy_child-returns-in_ok-copy_inner-in-Inner-clause-rests : goal.copy_child-returns-in_ok-copy_inner-in-Inner-clause-rests
-copy_child-returns-in_ok-copy_inner-in-Inner-clause-rests g t c =
-    let f = g.F.Folder in
-    let s : State = state f.files f.draft f.numbers f.faults c.args.folder.now c.args.cursor.now c.args.writer.now in
-    let p : State = state f.files f.draft f.numbers f.faults c.next.new.folder c.next.follows.lender-at-none c.args.writer.now in
-    let i = c.in_ok-label in
-    let read = nexts s p c.next.result i.field-0 i.was i.ensures.files i.ensures.draft refl i.ensures.numbers i.ensures.later i.ensures.reads c.next.follows.holds-at-none in
-    let goes = read.goes in
-    let a = c.in-Inner in
-    let st : Stamp = stamp_view c.in_ok-stamp-in-Inner.stamp in
-    let shown : shown_item i.field-0 ≡ inner_item (shown_label a.label) st = ap shown_item a.is ∙ ap (λ (z : Stamp). inner_item (shown_label a.label) z) (sym c.in_ok-stamp-in-Inner.ensures) in
-    let u : State = state f.files f.draft f.numbers f.faults c.begin_node.new.folder c.next.follows.lender-at-none c.begin_node.new.writer in
-    let sent : Sends (call_inner (shown_label a.label) st (set_in st (pairs_of c.args.set.now)) ∷ []) p u (None) = c.in_ok-set-in-Inner.ensures.sends c.next.follows.lender-at-none goes.within in
-    let passes : Passes 0 s u (None) = gave-sent s p u i.field-0 (call_inner (shown_label a.label) st (set_in st (pairs_of c.args.set.now)) ∷ []) (None) (inner-paid s p (shown_item i.field-0) (shown_label a.label) st (set_in st (pairs_of c.args.set.now)) shown) read sent in
-    let made = sent.made in
-    let v : State = state f.files f.draft f.numbers f.faults c.copy_inner.new.folder c.copy_inner.new.cursor c.copy_inner.new.writer in
-    let opens = opens-inner p.writer u.writer (shown_label a.label) st (set_in st (pairs_of c.args.set.now)) c.requires.no_leaf made.writer in
-    opened-closed p.writer u.writer v.writer opens c.in_ok-copy_inner-in-Inner.ensures.closed
-
-pub copy_child-returns-in_ok-copy_inner-in-Inner-clause-node : goal.copy_child-returns-in_ok-copy_inner-in-Inner-clause-node
-copy_child-returns-in_ok-copy_inner-in-Inner-clause-node g t c =
-    let f = g.F.Folder in
-    let s : State = state f.files f.draft f.numbers f.faults c.args.folder.now c.args.cursor.now c.args.writer.now in
-    let p : State = state f.files f.draft f.numbers f.faults c.next.new.folder c.next.follows.lender-at-none c.args.writer.now in
-    let i = c.in_ok-label in
-    let read = nexts s p c.next.result i.field-0 i.was i.ensures.files i.ensures.draft refl i.ensures.numbers i.ensures.later i.ensures.reads c.next.follows.holds-at-none in
-    let goes = read.goes in
-    let a = c.in-Inner in
-    let st : Stamp = stamp_view c.in_ok-stamp-in-Inner.stamp in
-    let shown : shown_item i.field-0 ≡ inner_item (shown_label a.label) st = ap shown_item a.is ∙ ap (λ (z : Stamp). inner_item (shown_label a.label) z) (sym c.in_ok-stamp-in-Inner.ensures) in
-    let u : State = state f.files f.draft f.numbers f.faults c.begin_node.new.folder c.next.follows.lender-at-none c.begin_node.new.writer in
-    let sent : Sends (call_inner (shown_label a.label) st (set_in st (pairs_of c.args.set.now)) ∷ []) p u (None) = c.in_ok-set-in-Inner.ensures.sends c.next.follows.lender-at-none goes.within in
-    let passes : Passes 0 s u (None) = gave-sent s p u i.field-0 (call_inner (shown_label a.label) st (set_in st (pairs_of c.args.set.now)) ∷ []) (None) (inner-paid s p (shown_item i.field-0) (shown_label a.label) st (set_in st (pairs_of c.args.set.now)) shown) read sent in
-    let made = sent.made in
-    let v : State = state f.files f.draft f.numbers f.faults c.copy_inner.new.folder c.copy_inner.new.cursor c.copy_inner.new.writer in
-    λ w k next small comes. (refl, (inner-does (pairs_of c.args.set.now) (pairs_of c.in_ok-set-in-Inner.set) s p u v i.field-0 (shown_label a.label) st (None) c.in_ok-set-in-Inner.ensures.set shown read sent passes c.in_ok-copy_inner-in-Inner.ensures.inside) w k next small comes)
-
-pub copy_child-returns-in_err-begin_node-in-Leaf-clause-passes : goal.copy_child-returns-in_err-begin_node-in-Leaf-clause-passes
-copy_child-returns-in_err-begin_node-in-Leaf-clause-passes g t c =
-    let f = g.F.Folder in
-    let s : State = state f.files f.draft f.numbers f.faults c.args.folder.now c.args.cursor.now c.args.writer.now in
-    let p : State = state f.files f.draft f.numbers f.faults c.next.new.folder c.next.follows.lender-at-none c.args.writer.now in
-    let i = c.in_ok-label in
-    let read = nexts s p c.next.result i.field-0 i.was i.ensures.files i.ensures.draft refl i.ensures.numbers i.ensures.later i.ensures.reads c.next.follows.holds-at-none in
-    let goes = read.goes in
-    let a = c.in-Leaf in
-    let st : Stamp = stamp_view c.in_ok-stamp-in-Leaf.stamp in
-    let shown : shown_item i.field-0 ≡ leaf_item (shown_label a.label) st = ap shown_item a.is ∙ ap (λ (z : Stamp). leaf_item (shown_label a.label) z) (sym c.in_ok-stamp-in-Leaf.ensures) in
-    let u : State = state f.files f.draft f.numbers f.faults c.begin_node-in-Leaf.new.folder c.next.follows.lender-at-none c.begin_node-in-Leaf.new.writer in
-    let sent : Sends (call_leaf (shown_label a.label) st (set_in st (pairs_of c.args.set.now)) ∷ []) p u (Some c.in_err-begin_node-in-Leaf.field-0.0) = c.in_err-begin_node-in-Leaf.ensures.sends c.next.follows.lender-at-none goes.within in
-    let passes : Passes 0 s u (Some c.in_err-begin_node-in-Leaf.field-0.0) = gave-sent s p u i.field-0 (call_leaf (shown_label a.label) st (set_in st (pairs_of c.args.set.now)) ∷ []) (Some c.in_err-begin_node-in-Leaf.field-0.0) (leaf-paid s p (shown_item i.field-0) (shown_label a.label) st (set_in st (pairs_of c.args.set.now)) shown) read sent in
-    passes-err s u c.from_residual-in_err-begin_node-in-Leaf.result c.in_err-begin_node-in-Leaf.field-0.0 _ c.from_residual-in_err-begin_node-in-Leaf.ensures.1 passes
-
-pub copy_child-returns-in_err-begin_node-in-Leaf-clause-node : goal.copy_child-returns-in_err-begin_node-in-Leaf-clause-node
-copy_child-returns-in_err-begin_node-in-Leaf-clause-node g t c =
-    let f = g.F.Folder in
-    let s : State = state f.files f.draft f.numbers f.faults c.args.folder.now c.args.cursor.now c.args.writer.now in
-    let p : State = state f.files f.draft f.numbers f.faults c.next.new.folder c.next.follows.lender-at-none c.args.writer.now in
-    let i = c.in_ok-label in
-    let read = nexts s p c.next.result i.field-0 i.was i.ensures.files i.ensures.draft refl i.ensures.numbers i.ensures.later i.ensures.reads c.next.follows.holds-at-none in
-    let goes = read.goes in
-    let a = c.in-Leaf in
-    let st : Stamp = stamp_view c.in_ok-stamp-in-Leaf.stamp in
-    let shown : shown_item i.field-0 ≡ leaf_item (shown_label a.label) st = ap shown_item a.is ∙ ap (λ (z : Stamp). leaf_item (shown_label a.label) z) (sym c.in_ok-stamp-in-Leaf.ensures) in
-    let u : State = state f.files f.draft f.numbers f.faults c.begin_node-in-Leaf.new.folder c.next.follows.lender-at-none c.begin_node-in-Leaf.new.writer in
-    let sent : Sends (call_leaf (shown_label a.label) st (set_in st (pairs_of c.args.set.now)) ∷ []) p u (Some c.in_err-begin_node-in-Leaf.field-0.0) = c.in_err-begin_node-in-Leaf.ensures.sends c.next.follows.lender-at-none goes.within in
-    let passes : Passes 0 s u (Some c.in_err-begin_node-in-Leaf.field-0.0) = gave-sent s p u i.field-0 (call_leaf (shown_label a.label) st (set_in st (pairs_of c.args.set.now)) ∷ []) (Some c.in_err-begin_node-in-Leaf.field-0.0) (leaf-paid s p (shown_item i.field-0) (shown_label a.label) st (set_in st (pairs_of c.args.set.now)) shown) read sent in
-    node-err (pairs_of c.args.set.now) s u c.from_residual-in_err-begin_node-in-Leaf.result c.in_err-begin_node-in-Leaf.field-0.0 c.from_residual-in_err-begin_node-in-Leaf.ensures.1 (leaf-fails (pairs_of c.args.set.now) s p u i.field-0 (shown_label a.label) st c.in_err-begin_node-in-Leaf.field-0.0 shown read sent)
-
-pub copy_child-copy_alts-requires-clause-leaf : goal.copy_child-copy_alts-requires-clause-leaf
-copy_child-copy_alts-requires-clause-leaf g t c =
-    let f = g.F.Folder in
-    let s : State = state f.files f.draft f.numbers f.faults c.args.folder.now c.args.cursor.now c.args.writer.now in
-    let p : State = state f.files f.draft f.numbers f.faults c.next.new.folder c.next.follows.lender-at-none c.args.writer.now in
-    let i = c.in_ok-label in
-    let read = nexts s p c.next.result i.field-0 i.was i.ensures.files i.ensures.draft refl i.ensures.numbers i.ensures.later i.ensures.reads c.next.follows.holds-at-none in
-    let goes = read.goes in
-    let a = c.in-Leaf in
-    let st : Stamp = stamp_view c.in_ok-stamp-in-Leaf.stamp in
-    let shown : shown_item i.field-0 ≡ leaf_item (shown_label a.label) st = ap shown_item a.is ∙ ap (λ (z : Stamp). leaf_item (shown_label a.label) z) (sym c.in_ok-stamp-in-Leaf.ensures) in
-    let u : State = state f.files f.draft f.numbers f.faults c.begin_node-in-Leaf.new.folder c.next.follows.lender-at-none c.begin_node-in-Leaf.new.writer in
-    let sent : Sends (call_leaf (shown_label a.label) st (set_in st (pairs_of c.args.set.now)) ∷ []) p u (None) = c.in_ok-begin_node-in-Leaf.ensures.sends c.next.follows.lender-at-none goes.within in
-    let passes : Passes 0 s u (None) = gave-sent s p u i.field-0 (call_leaf (shown_label a.label) st (set_in st (pairs_of c.args.set.now)) ∷ []) (None) (leaf-paid s p (shown_item i.field-0) (shown_label a.label) st (set_in st (pairs_of c.args.set.now)) shown) read sent in
-    let made = sent.made in
-    let opens = opens-leaf p.writer u.writer (shown_label a.label) st (set_in st (pairs_of c.args.set.now)) made.writer in
-    opens.leaf
-
-pub copy_child-returns-in_err-copy_alts-in-Leaf-clause-passes : goal.copy_child-returns-in_err-copy_alts-in-Leaf-clause-passes
-copy_child-returns-in_err-copy_alts-in-Leaf-clause-passes g t c =
-    let f = g.F.Folder in
-    let s : State = state f.files f.draft f.numbers f.faults c.args.folder.now c.args.cursor.now c.args.writer.now in
-    let p : State = state f.files f.draft f.numbers f.faults c.next.new.folder c.next.follows.lender-at-none c.args.writer.now in
-    let i = c.in_ok-label in
-    let read = nexts s p c.next.result i.field-0 i.was i.ensures.files i.ensures.draft refl i.ensures.numbers i.ensures.later i.ensures.reads c.next.follows.holds-at-none in
-    let goes = read.goes in
-    let a = c.in-Leaf in
-    let st : Stamp = stamp_view c.in_ok-stamp-in-Leaf.stamp in
-    let shown : shown_item i.field-0 ≡ leaf_item (shown_label a.label) st = ap shown_item a.is ∙ ap (λ (z : Stamp). leaf_item (shown_label a.label) z) (sym c.in_ok-stamp-in-Leaf.ensures) in
-    let u : State = state f.files f.draft f.numbers f.faults c.begin_node-in-Leaf.new.folder c.next.follows.lender-at-none c.begin_node-in-Leaf.new.writer in
-    let sent : Sends (call_leaf (shown_label a.label) st (set_in st (pairs_of c.args.set.now)) ∷ []) p u (None) = c.in_ok-begin_node-in-Leaf.ensures.sends c.next.follows.lender-at-none goes.within in
-    let passes : Passes 0 s u (None) = gave-sent s p u i.field-0 (call_leaf (shown_label a.label) st (set_in st (pairs_of c.args.set.now)) ∷ []) (None) (leaf-paid s p (shown_item i.field-0) (shown_label a.label) st (set_in st (pairs_of c.args.set.now)) shown) read sent in
-    let made = sent.made in
-    let v : State = state f.files f.draft f.numbers f.faults c.copy_alts.new.folder c.copy_alts.new.cursor c.copy_alts.new.writer in
-    passes-err s v c.from_residual-in_err-copy_alts-in-Leaf.result c.in_err-copy_alts-in-Leaf.field-0.0 _ c.from_residual-in_err-copy_alts-in-Leaf.ensures.1 (passes-then s u v (Some c.in_err-copy_alts-in-Leaf.field-0.0) 0 0 0 (omega arith) passes c.in_err-copy_alts-in-Leaf.ensures.passes)
-
-pub copy_child-returns-in_err-copy_alts-in-Leaf-clause-node : goal.copy_child-returns-in_err-copy_alts-in-Leaf-clause-node
-copy_child-returns-in_err-copy_alts-in-Leaf-clause-node g t c =
-    let f = g.F.Folder in
-    let s : State = state f.files f.draft f.numbers f.faults c.args.folder.now c.args.cursor.now c.args.writer.now in
-    let p : State = state f.files f.draft f.numbers f.faults c.next.new.folder c.next.follows.lender-at-none c.args.writer.now in
-    let i = c.in_ok-label in
-    let read = nexts s p c.next.result i.field-0 i.was i.ensures.files i.ensures.draft refl i.ensures.numbers i.ensures.later i.ensures.reads c.next.follows.holds-at-none in
-    let goes = read.goes in
-    let a = c.in-Leaf in
-    let st : Stamp = stamp_view c.in_ok-stamp-in-Leaf.stamp in
-    let shown : shown_item i.field-0 ≡ leaf_item (shown_label a.label) st = ap shown_item a.is ∙ ap (λ (z : Stamp). leaf_item (shown_label a.label) z) (sym c.in_ok-stamp-in-Leaf.ensures) in
-    let u : State = state f.files f.draft f.numbers f.faults c.begin_node-in-Leaf.new.folder c.next.follows.lender-at-none c.begin_node-in-Leaf.new.writer in
-    let sent : Sends (call_leaf (shown_label a.label) st (set_in st (pairs_of c.args.set.now)) ∷ []) p u (None) = c.in_ok-begin_node-in-Leaf.ensures.sends c.next.follows.lender-at-none goes.within in
-    let passes : Passes 0 s u (None) = gave-sent s p u i.field-0 (call_leaf (shown_label a.label) st (set_in st (pairs_of c.args.set.now)) ∷ []) (None) (leaf-paid s p (shown_item i.field-0) (shown_label a.label) st (set_in st (pairs_of c.args.set.now)) shown) read sent in
-    let made = sent.made in
-    let v : State = state f.files f.draft f.numbers f.faults c.copy_alts.new.folder c.copy_alts.new.cursor c.copy_alts.new.writer in
-    node-err (pairs_of c.args.set.now) s v c.from_residual-in_err-copy_alts-in-Leaf.result c.in_err-copy_alts-in-Leaf.field-0.0 c.from_residual-in_err-copy_alts-in-Leaf.ensures.1 (leaf-does (pairs_of c.args.set.now) s p u v i.field-0 (shown_label a.label) st (Some c.in_err-copy_alts-in-Leaf.field-0.0) shown read sent passes c.in_err-copy_alts-in-Leaf.ensures.alternatives)
-
-pub copy_child-returns-in_ok-copy_alts-in-Leaf-clause-passes : goal.copy_child-returns-in_ok-copy_alts-in-Leaf-clause-passes
-copy_child-returns-in_ok-copy_alts-in-Leaf-clause-passes g t c =
-    let f = g.F.Folder in
-    let s : State = state f.files f.draft f.numbers f.faults c.args.folder.now c.args.cursor.now c.args.writer.now in
-    let p : State = state f.files f.draft f.numbers f.faults c.next.new.folder c.next.follows.lender-at-none c.args.writer.now in
-    let i = c.in_ok-label in
-    let read = nexts s p c.next.result i.field-0 i.was i.ensures.files i.ensures.draft refl i.ensures.numbers i.ensures.later i.ensures.reads c.next.follows.holds-at-none in
-    let goes = read.goes in
-    let a = c.in-Leaf in
-    let st : Stamp = stamp_view c.in_ok-stamp-in-Leaf.stamp in
-    let shown : shown_item i.field-0 ≡ leaf_item (shown_label a.label) st = ap shown_item a.is ∙ ap (λ (z : Stamp). leaf_item (shown_label a.label) z) (sym c.in_ok-stamp-in-Leaf.ensures) in
-    let u : State = state f.files f.draft f.numbers f.faults c.begin_node-in-Leaf.new.folder c.next.follows.lender-at-none c.begin_node-in-Leaf.new.writer in
-    let sent : Sends (call_leaf (shown_label a.label) st (set_in st (pairs_of c.args.set.now)) ∷ []) p u (None) = c.in_ok-begin_node-in-Leaf.ensures.sends c.next.follows.lender-at-none goes.within in
-    let passes : Passes 0 s u (None) = gave-sent s p u i.field-0 (call_leaf (shown_label a.label) st (set_in st (pairs_of c.args.set.now)) ∷ []) (None) (leaf-paid s p (shown_item i.field-0) (shown_label a.label) st (set_in st (pairs_of c.args.set.now)) shown) read sent in
-    let made = sent.made in
-    let v : State = state f.files f.draft f.numbers f.faults c.copy_alts.new.folder c.copy_alts.new.cursor c.copy_alts.new.writer in
-    passes-then s u v None 0 0 0 (omega arith) passes c.in_ok-copy_alts-in-Leaf.ensures.passes
-
-pub copy_child-returns-in_ok-copy_alts-in-Leaf-clause-rests : goal.copy_child-returns-in_ok-copy_alts-in-Leaf-clause-rests
-copy_child-returns-in_ok-copy_alts-in-Leaf-clause-rests g t c =
-    let f = g.F.Folder in
-    let s : State = state f.files f.draft f.numbers f.faults c.args.folder.now c.args.cursor.now c.args.writer.now in
-    let p : State = state f.files f.draft f.numbers f.faults c.next.new.folder c.next.follows.lender-at-none c.args.writer.now in
-    let i = c.in_ok-label in
-    let read = nexts s p c.next.result i.field-0 i.was i.ensures.files i.ensures.draft refl i.ensures.numbers i.ensures.later i.ensures.reads c.next.follows.holds-at-none in
-    let goes = read.goes in
-    let a = c.in-Leaf in
-    let st : Stamp = stamp_view c.in_ok-stamp-in-Leaf.stamp in
-    let shown : shown_item i.field-0 ≡ leaf_item (shown_label a.label) st = ap shown_item a.is ∙ ap (λ (z : Stamp). leaf_item (shown_label a.label) z) (sym c.in_ok-stamp-in-Leaf.ensures) in
-    let u : State = state f.files f.draft f.numbers f.faults c.begin_node-in-Leaf.new.folder c.next.follows.lender-at-none c.begin_node-in-Leaf.new.writer in
-    let sent : Sends (call_leaf (shown_label a.label) st (set_in st (pairs_of c.args.set.now)) ∷ []) p u (None) = c.in_ok-begin_node-in-Leaf.ensures.sends c.next.follows.lender-at-none goes.within in
-    let passes : Passes 0 s u (None) = gave-sent s p u i.field-0 (call_leaf (shown_label a.label) st (set_in st (pairs_of c.args.set.now)) ∷ []) (None) (leaf-paid s p (shown_item i.field-0) (shown_label a.label) st (set_in st (pairs_of c.args.set.now)) shown) read sent in
-    let made = sent.made in
-    let v : State = state f.files f.draft f.numbers f.faults c.copy_alts.new.folder c.copy_alts.new.cursor c.copy_alts.new.writer in
-    let opens = opens-leaf p.writer u.writer (shown_label a.label) st (set_in st (pairs_of c.args.set.now)) made.writer in
-    leaf-closed p.writer u.writer v.writer opens c.in_ok-copy_alts-in-Leaf.ensures.rests
-
-pub copy_child-returns-in_ok-copy_alts-in-Leaf-clause-node : goal.copy_child-returns-in_ok-copy_alts-in-Leaf-clause-node
-copy_child-returns-in_ok-copy_alts-in-Leaf-clause-node g t c =
-    let f = g.F.Folder in
-    let s : State = state f.files f.draft f.numbers f.faults c.args.folder.now c.args.cursor.now c.args.writer.now in
-    let p : State = state f.files f.draft f.numbers f.faults c.next.new.folder c.next.follows.lender-at-none c.args.writer.now in
-    let i = c.in_ok-label in
-    let read = nexts s p c.next.result i.field-0 i.was i.ensures.files i.ensures.draft refl i.ensures.numbers i.ensures.later i.ensures.reads c.next.follows.holds-at-none in
-    let goes = read.goes in
-    let a = c.in-Leaf in
-    let st : Stamp = stamp_view c.in_ok-stamp-in-Leaf.stamp in
-    let shown : shown_item i.field-0 ≡ leaf_item (shown_label a.label) st = ap shown_item a.is ∙ ap (λ (z : Stamp). leaf_item (shown_label a.label) z) (sym c.in_ok-stamp-in-Leaf.ensures) in
-    let u : State = state f.files f.draft f.numbers f.faults c.begin_node-in-Leaf.new.folder c.next.follows.lender-at-none c.begin_node-in-Leaf.new.writer in
-    let sent : Sends (call_leaf (shown_label a.label) st (set_in st (pairs_of c.args.set.now)) ∷ []) p u (None) = c.in_ok-begin_node-in-Leaf.ensures.sends c.next.follows.lender-at-none goes.within in
-    let passes : Passes 0 s u (None) = gave-sent s p u i.field-0 (call_leaf (shown_label a.label) st (set_in st (pairs_of c.args.set.now)) ∷ []) (None) (leaf-paid s p (shown_item i.field-0) (shown_label a.label) st (set_in st (pairs_of c.args.set.now)) shown) read sent in
-    let made = sent.made in
-    let v : State = state f.files f.draft f.numbers f.faults c.copy_alts.new.folder c.copy_alts.new.cursor c.copy_alts.new.writer in
-    λ w k next small comes. (refl, (leaf-does (pairs_of c.args.set.now) s p u v i.field-0 (shown_label a.label) st (None) shown read sent passes c.in_ok-copy_alts-in-Leaf.ensures.alternatives) w k next small comes)
-
-pub copy_child-returns-in-End-clause-node : goal.copy_child-returns-in-End-clause-node
-copy_child-returns-in-End-clause-node g t c =
-    let f = g.F.Folder in
-    let s : State = state f.files f.draft f.numbers f.faults c.args.folder.now c.args.cursor.now c.args.writer.now in
-    let p : State = state f.files f.draft f.numbers f.faults c.next.new.folder c.next.follows.lender-at-none c.args.writer.now in
-    let i = c.in_ok-label in
-    let read = nexts s p c.next.result i.field-0 i.was i.ensures.files i.ensures.draft refl i.ensures.numbers i.ensures.later i.ensures.reads c.next.follows.holds-at-none in
-    let goes = read.goes in
-    let a = c.in-End in
-    let shown = ap shown_item a.is in
-    given-node (pairs_of c.args.set.now) s p i.field-0 (Ok false) p (λ l z is. (let same = sym shown ∙ is in absurd cc)) (λ l z is. (let same = sym shown ∙ is in absurd cc)) read
-
-pub copy_child-returns-in-End-clause-end : goal.copy_child-returns-in-End-clause-end
-copy_child-returns-in-End-clause-end g t c =
-    let f = g.F.Folder in
-    let s : State = state f.files f.draft f.numbers f.faults c.args.folder.now c.args.cursor.now c.args.writer.now in
-    let p : State = state f.files f.draft f.numbers f.faults c.next.new.folder c.next.follows.lender-at-none c.args.writer.now in
-    let i = c.in_ok-label in
-    let read = nexts s p c.next.result i.field-0 i.was i.ensures.files i.ensures.draft refl i.ensures.numbers i.ensures.later i.ensures.reads c.next.follows.holds-at-none in
-    let goes = read.goes in
-    λ w n next small comes. (refl, given-end s p i.field-0 read w n next small comes)
-
-pub copy_child-returns-in_default-clause-node : goal.copy_child-returns-in_default-clause-node
-copy_child-returns-in_default-clause-node g t c =
-    let f = g.F.Folder in
-    let s : State = state f.files f.draft f.numbers f.faults c.args.folder.now c.args.cursor.now c.args.writer.now in
-    let p : State = state f.files f.draft f.numbers f.faults c.next.new.folder c.next.follows.lender-at-none c.args.writer.now in
-    let i = c.in_ok-label in
-    let read = nexts s p c.next.result i.field-0 i.was i.ensures.files i.ensures.draft refl i.ensures.numbers i.ensures.later i.ensures.reads c.next.follows.holds-at-none in
-    let goes = read.goes in
-    given-node (pairs_of c.args.set.now) s p i.field-0 (Err Damage) p (not-inner i.field-0 c.in_default.not-Inner) (not-leaf i.field-0 c.in_default.not-Leaf) read
-
-pub copy_child-returns-in_default-clause-end : goal.copy_child-returns-in_default-clause-end
-copy_child-returns-in_default-clause-end g t c =
-    let f = g.F.Folder in
-    let s : State = state f.files f.draft f.numbers f.faults c.args.folder.now c.args.cursor.now c.args.writer.now in
-    let p : State = state f.files f.draft f.numbers f.faults c.next.new.folder c.next.follows.lender-at-none c.args.writer.now in
-    let i = c.in_ok-label in
-    let read = nexts s p c.next.result i.field-0 i.was i.ensures.files i.ensures.draft refl i.ensures.numbers i.ensures.later i.ensures.reads c.next.follows.holds-at-none in
-    let goes = read.goes in
-    given-no-end s p i.field-0 (Err Damage) p (not-closing i.field-0 c.in_default.not-End) read
-
-pub copy_inner-returns-in_err-copy_row-clause-inside : goal.copy_inner-returns-in_err-copy_row-clause-inside
-copy_inner-returns-in_err-copy_row-clause-inside g t c =
-    let f = g.F.Folder in
+    let z = goal.at.copy_child-copy_inner-requires g t c in
     let q = pairs_of c.args.set.now in
-    let s : State = state f.files f.draft f.numbers f.faults c.args.folder.now c.args.cursor.now c.args.writer.now in
-    let m : State = state f.files f.draft f.numbers f.faults c.copy_row.new.folder c.copy_row.new.cursor c.copy_row.new.writer in
+    let k : PlainCursor = c.next.follows.lender-at-none in
+    let s = at g c.args.folder.now c.args.cursor.now c.args.writer.now in
+    let p = at g c.next.new.folder k c.args.writer.now in
+    let u = at g c.copy_opening.new.folder k c.copy_opening.new.writer in
+    let gave = read g t z.In_ok-label in
+    let goes = gave.goes in
+    let o = inner g t z.In-Inner gave in
+    let opens = begun-writer Inner q s p u o c.requires.no_leaf (c.in_ok-set-in-Inner.ensures.sends k goes.within) in
+    let small = opening-smaller Inner s p o in
+    let less : 3 * (k.length - k.at) + 2 < t = omega (arith, small, c.decreases) in
+    (less, (within, (goes.within, (opens.no_leaf, opened-some s.writer u.writer opens))))
+
+pub copy_child-returns-in_err-copy_inner-in-Inner : goal.copy_child-returns-in_err-copy_inner-in-Inner
+copy_child-returns-in_err-copy_inner-in-Inner g t c =
+    let z = goal.at.copy_child-returns-in_err-copy_inner-in-Inner g t c in
+    let q = pairs_of c.args.set.now in
+    let k : PlainCursor = c.next.follows.lender-at-none in
+    let s = at g c.args.folder.now c.args.cursor.now c.args.writer.now in
+    let p = at g c.next.new.folder k c.args.writer.now in
+    let u = at g c.copy_opening.new.folder k c.copy_opening.new.writer in
+    let v = at g c.copy_inner.new.folder c.copy_inner.new.cursor c.copy_inner.new.writer in
+    let gave = read g t z.In_ok-label in
+    let goes = gave.goes in
+    let o = inner g t z.In-Inner gave in
+    let set = c.in_ok-set-in-Inner in
+    let e = c.in_err-copy_inner-in-Inner in
+    let r = c.from_residual-in_err-copy_inner-in-Inner in
+    at-err r.result e.field-0.0 r.ensures.1 (λ d. ChildCopied q s v d)
+    (child-part-fails Inner q s p u o v (set.ensures.sends k goes.within) e.field-0.0 (inside-part q (pairs_of set.set) o.label o.stamp u v (Some e.field-0.0) set.ensures.set e.ensures))
+
+pub copy_child-returns-in_ok-copy_inner-in-Inner : goal.copy_child-returns-in_ok-copy_inner-in-Inner
+copy_child-returns-in_ok-copy_inner-in-Inner g t c =
+    let z = goal.at.copy_child-returns-in_ok-copy_inner-in-Inner g t c in
+    let q = pairs_of c.args.set.now in
+    let k : PlainCursor = c.next.follows.lender-at-none in
+    let s = at g c.args.folder.now c.args.cursor.now c.args.writer.now in
+    let p = at g c.next.new.folder k c.args.writer.now in
+    let u = at g c.copy_opening.new.folder k c.copy_opening.new.writer in
+    let v = at g c.copy_inner.new.folder c.copy_inner.new.cursor c.copy_inner.new.writer in
+    let gave = read g t z.In_ok-label in
+    let goes = gave.goes in
+    let o = inner g t z.In-Inner gave in
+    let set = c.in_ok-set-in-Inner in
+    child-copied Inner q s p u o v (set.ensures.sends k goes.within) c.requires.no_leaf (inside-part q (pairs_of set.set) o.label o.stamp u v None set.ensures.set c.in_ok-copy_inner-in-Inner.ensures)
+
+pub copy_child-returns-in_err-copy_opening-in-Leaf : goal.copy_child-returns-in_err-copy_opening-in-Leaf
+copy_child-returns-in_err-copy_opening-in-Leaf g t c =
+    let z = goal.at.copy_child-returns-in_err-copy_opening-in-Leaf g t c in
+    let q = pairs_of c.args.set.now in
+    let k : PlainCursor = c.next.follows.lender-at-none in
+    let s = at g c.args.folder.now c.args.cursor.now c.args.writer.now in
+    let p = at g c.next.new.folder k c.args.writer.now in
+    let u = at g c.copy_opening-in-Leaf.new.folder k c.copy_opening-in-Leaf.new.writer in
+    let gave = read g t z.In_ok-label in
+    let goes = gave.goes in
+    let o = leaf g t z.In-Leaf gave in
+    let e = c.in_err-copy_opening-in-Leaf in
+    let r = c.from_residual-in_err-copy_opening-in-Leaf in
+    at-err r.result e.field-0.0 r.ensures.1 (λ d. ChildCopied q s u d) (child-fails Leaf q s p u o e.field-0.0 (e.ensures.sends k goes.within))
+
+pub copy_child-copy_alts-requires : goal.copy_child-copy_alts-requires
+copy_child-copy_alts-requires g t c =
+    let z = goal.at.copy_child-copy_alts-requires g t c in
+    let q = pairs_of c.args.set.now in
+    let k : PlainCursor = c.next.follows.lender-at-none in
+    let s = at g c.args.folder.now c.args.cursor.now c.args.writer.now in
+    let p = at g c.next.new.folder k c.args.writer.now in
+    let u = at g c.copy_opening-in-Leaf.new.folder k c.copy_opening-in-Leaf.new.writer in
+    let gave = read g t z.In_ok-label in
+    let goes = gave.goes in
+    let o = leaf g t z.In-Leaf gave in
+    let begun = begun-writer Leaf q s p u o c.requires.no_leaf (c.in_ok-copy_opening-in-Leaf.ensures.sends k goes.within) in
+    record { within = goes.within; leaf = begun.leaf }
+
+pub copy_child-returns-in_err-copy_alts-in-Leaf : goal.copy_child-returns-in_err-copy_alts-in-Leaf
+copy_child-returns-in_err-copy_alts-in-Leaf g t c =
+    let z = goal.at.copy_child-returns-in_err-copy_alts-in-Leaf g t c in
+    let q = pairs_of c.args.set.now in
+    let k : PlainCursor = c.next.follows.lender-at-none in
+    let s = at g c.args.folder.now c.args.cursor.now c.args.writer.now in
+    let p = at g c.next.new.folder k c.args.writer.now in
+    let u = at g c.copy_opening-in-Leaf.new.folder k c.copy_opening-in-Leaf.new.writer in
+    let v = at g c.copy_alts.new.folder c.copy_alts.new.cursor c.copy_alts.new.writer in
+    let gave = read g t z.In_ok-label in
+    let goes = gave.goes in
+    let o = leaf g t z.In-Leaf gave in
+    let e = c.in_err-copy_alts-in-Leaf in
+    let r = c.from_residual-in_err-copy_alts-in-Leaf in
+    at-err r.result e.field-0.0 r.ensures.1 (λ d. ChildCopied q s v d)
+    (child-part-fails Leaf q s p u o v (c.in_ok-copy_opening-in-Leaf.ensures.sends k goes.within) e.field-0.0 (alts-part q o.label o.stamp u v (Some e.field-0.0) e.ensures))
+
+pub copy_child-returns-in_ok-copy_alts-in-Leaf : goal.copy_child-returns-in_ok-copy_alts-in-Leaf
+copy_child-returns-in_ok-copy_alts-in-Leaf g t c =
+    let z = goal.at.copy_child-returns-in_ok-copy_alts-in-Leaf g t c in
+    let q = pairs_of c.args.set.now in
+    let k : PlainCursor = c.next.follows.lender-at-none in
+    let s = at g c.args.folder.now c.args.cursor.now c.args.writer.now in
+    let p = at g c.next.new.folder k c.args.writer.now in
+    let u = at g c.copy_opening-in-Leaf.new.folder k c.copy_opening-in-Leaf.new.writer in
+    let v = at g c.copy_alts.new.folder c.copy_alts.new.cursor c.copy_alts.new.writer in
+    let gave = read g t z.In_ok-label in
+    let goes = gave.goes in
+    let o = leaf g t z.In-Leaf gave in
+    child-copied Leaf q s p u o v (c.in_ok-copy_opening-in-Leaf.ensures.sends k goes.within) c.requires.no_leaf (alts-part q o.label o.stamp u v None c.in_ok-copy_alts-in-Leaf.ensures)
+
+pub copy_child-returns-in-End : goal.copy_child-returns-in-End
+copy_child-returns-in-End g t c =
+    let s = at g c.args.folder.now c.args.cursor.now c.args.writer.now in
+    let p = at g c.next.new.folder c.next.follows.lender-at-none c.args.writer.now in
+    child-ended (pairs_of c.args.set.now) s p c.in_ok-label.field-0 _ c.requires.no_leaf (ap shown_item c.in-End.is) (read g t (goal.at.copy_child-returns-in-End g t c).In_ok-label)
+
+pub copy_child-returns-in_default : goal.copy_child-returns-in_default
+copy_child-returns-in_default g t c =
+    let d = c.in_default in
+    let s = at g c.args.folder.now c.args.cursor.now c.args.writer.now in
+    let p = at g c.next.new.folder c.next.follows.lender-at-none c.args.writer.now in
+    child-damage (pairs_of c.args.set.now) s p c.in_ok-label.field-0 d.not-Inner d.not-Leaf d.not-End (read g t (goal.at.copy_child-returns-in_default g t c).In_ok-label)
+
+-- ---- the inside of a node
+
+pub copy_inner-returns-in_err-copy_row : goal.copy_inner-returns-in_err-copy_row
+copy_inner-returns-in_err-copy_row g t c =
+    let q = pairs_of c.args.set.now in
+    let s = at g c.args.folder.now c.args.cursor.now c.args.writer.now in
+    let m = at g c.copy_row.new.folder c.copy_row.new.cursor c.copy_row.new.writer in
     let e = c.in_err-copy_row in
-    subst (λ (o : Option MergeFault). InsideDoes q s m o) (sym (fault-from c.from_residual.result e.field-0.0 c.from_residual.ensures.1)) (closed-fault q s m e.field-0.0 e.ensures.row)
+    at-err c.from_residual.result e.field-0.0 c.from_residual.ensures.1 (λ r. InsideCopied q s m (fault_of r)) (inside-fault q s m e.field-0.0 e.ensures)
 
-pub copy_inner-returns-in_err-end_inner-clause-inside : goal.copy_inner-returns-in_err-end_inner-clause-inside
-copy_inner-returns-in_err-end_inner-clause-inside g t c =
+pub copy_inner-returns : goal.copy_inner-returns
+copy_inner-returns g t c =
     let f = g.F.Folder in
     let q = pairs_of c.args.set.now in
-    let s : State = state f.files f.draft f.numbers f.faults c.args.folder.now c.args.cursor.now c.args.writer.now in
-    let m : State = state f.files f.draft f.numbers f.faults c.copy_row.new.folder c.copy_row.new.cursor c.copy_row.new.writer in
-    let u : State = state f.files f.draft f.numbers f.faults c.end_inner.new.folder c.copy_row.new.cursor c.end_inner.new.self in
-    let e = c.in_err-end_inner in
-    let k = c.in_ok-copy_row in
-    let before = k.ensures.passes in
-    let sent = call-sends f.files f.draft f.numbers f.faults c.copy_row.new.folder c.end_inner.new.folder c.copy_row.new.cursor c.copy_row.new.writer c.end_inner.new.self call_end_inner (Err e.field-0.0) (g.met.F.Folder.metered c.copy_row.new.folder) before.within e.ensures.folder e.ensures.after e.ensures.too_long in
-    subst (λ (o : Option MergeFault). InsideDoes q s u o) (sym (fault-from c.from_residual-in_err-end_inner.result (of_writer e.field-0.0) c.from_residual-in_err-end_inner.ensures.1)) (closed-does q s m u (Some (of_writer e.field-0.0)) k.ensures.row sent)
+    let s = at g c.args.folder.now c.args.cursor.now c.args.writer.now in
+    let m = at g c.copy_row.new.folder c.copy_row.new.cursor c.copy_row.new.writer in
+    let u = at g c.end_inner.new.folder c.copy_row.new.cursor c.end_inner.new.self in
+    let row : RowCopied q s m None = c.in_ok-copy_row.ensures in
+    let passes = row.passes in
+    let e = c.end_inner.ensures in
+    subst (λ (o : Option MergeFault). InsideCopied q s u o) (called c.end_inner.result c.written.result c.written.ensures)
+    (inside-close q s m u (written c.end_inner.result) c.requires.begun row
+    (call-sends f.files f.draft f.numbers f.faults c.copy_row.new.folder c.end_inner.new.folder c.copy_row.new.cursor c.copy_row.new.writer c.end_inner.new.self call_end_inner c.end_inner.result (g.met.F.Folder.metered c.copy_row.new.folder) passes.within e.folder e.after e.too_long))
 
-pub copy_inner-returns-clause-inside : goal.copy_inner-returns-clause-inside
-copy_inner-returns-clause-inside g t c =
-    let f = g.F.Folder in
-    let q = pairs_of c.args.set.now in
-    let s : State = state f.files f.draft f.numbers f.faults c.args.folder.now c.args.cursor.now c.args.writer.now in
-    let m : State = state f.files f.draft f.numbers f.faults c.copy_row.new.folder c.copy_row.new.cursor c.copy_row.new.writer in
-    let u : State = state f.files f.draft f.numbers f.faults c.end_inner.new.folder c.copy_row.new.cursor c.end_inner.new.self in
-    let e = c.in_ok-end_inner in
-    let k = c.in_ok-copy_row in
-    let before = k.ensures.passes in
-    let sent = call-sends f.files f.draft f.numbers f.faults c.copy_row.new.folder c.end_inner.new.folder c.copy_row.new.cursor c.copy_row.new.writer c.end_inner.new.self call_end_inner (Ok e.field-0) (g.met.F.Folder.metered c.copy_row.new.folder) before.within e.ensures.folder e.ensures.after e.ensures.too_long in
-    closed-does q s m u None k.ensures.row sent
+-- ---- a row
 
 pub copy_row-loop-init : goal.copy_row-loop-init
-copy_row-loop-init g t c =
-    let f = g.F.Folder in
-    let q = pairs_of c.args.set.now in
-    let s : State = state f.files f.draft f.numbers f.faults c.args.folder.now c.args.cursor.now c.args.writer.now in
-    row-start q s c.requires.within c.requires.no_leaf
+copy_row-loop-init g t c = row-start (pairs_of c.args.set.now) (at g c.args.folder.now c.args.cursor.now c.args.writer.now) c.requires.within c.requires.no_leaf
 
-pub copy_row-returns-in_err-copy_child-clause-row : goal.copy_row-returns-in_err-copy_child-clause-row
-copy_row-returns-in_err-copy_child-clause-row g t c =
-    let f = g.F.Folder in
+pub copy_row-returns-in_err-copy_child : goal.copy_row-returns-in_err-copy_child
+copy_row-returns-in_err-copy_child g t c =
     let q = pairs_of c.args.set.now in
-    let s : State = state f.files f.draft f.numbers f.faults c.args.folder.now c.args.cursor.now c.args.writer.now in
+    let s = at g c.args.folder.now c.args.cursor.now c.args.writer.now in
     let l = c.loop in
-    let m : State = state f.files f.draft f.numbers f.faults l.folder l.cursor l.writer in
-    let u : State = state f.files f.draft f.numbers f.faults c.copy_child.new.folder c.copy_child.new.cursor c.copy_child.new.writer in
+    let u = at g c.copy_child.new.folder c.copy_child.new.cursor c.copy_child.new.writer in
     let e = c.in_err-copy_child in
-    subst (λ (o : Option MergeFault). RowDoes q s u o) (sym (fault-from c.from_residual.result e.field-0.0 c.from_residual.ensures.1)) (row-fault q s m u e.field-0.0 l.invariant e.ensures.node e.ensures.end)
+    at-err c.from_residual.result e.field-0.0 c.from_residual.ensures.1 (λ r. RowCopied q s u (fault_of r)) (l.invariant.rest u (Some e.field-0.0) (row-fault q (at g l.folder l.cursor l.writer) u e.field-0.0 e.ensures))
 
 pub copy_row-loop-preserved : goal.copy_row-loop-preserved
 copy_row-loop-preserved g t c =
-    let f = g.F.Folder in
     let q = pairs_of c.args.set.now in
-    let s : State = state f.files f.draft f.numbers f.faults c.args.folder.now c.args.cursor.now c.args.writer.now in
+    let s = at g c.args.folder.now c.args.cursor.now c.args.writer.now in
     let l = c.loop in
-    let m : State = state f.files f.draft f.numbers f.faults l.folder l.cursor l.writer in
-    let u : State = state f.files f.draft f.numbers f.faults c.copy_child.new.folder c.copy_child.new.cursor c.copy_child.new.writer in
-    let e = c.in_ok-copy_child in
-    row-more q s m u e.field-0 c.if-branch.true l.invariant e.ensures.passes e.ensures.rests e.ensures.node e.ensures.end
+    let m = at g l.folder l.cursor l.writer in
+    let u = at g c.copy_child.new.folder c.copy_child.new.cursor c.copy_child.new.writer in
+    row-on q s m u l.invariant (subst (λ (more : Bool). ChildCopied q m u (Ok more)) c.if-branch.true c.in_ok-copy_child.ensures)
 
-pub copy_row-returns-clause-row : goal.copy_row-returns-clause-row
-copy_row-returns-clause-row g t c =
-    let f = g.F.Folder in
+pub copy_row-returns : goal.copy_row-returns
+copy_row-returns g t c =
     let q = pairs_of c.args.set.now in
-    let s : State = state f.files f.draft f.numbers f.faults c.args.folder.now c.args.cursor.now c.args.writer.now in
     let l = c.loop in
-    let m : State = state f.files f.draft f.numbers f.faults l.folder l.cursor l.writer in
-    let u : State = state f.files f.draft f.numbers f.faults c.copy_child.new.folder c.copy_child.new.cursor c.copy_child.new.writer in
-    let e = c.in_ok-copy_child in
-    row-done q s m u e.field-0 c.if-branch.false l.invariant e.ensures.node e.ensures.end
+    let m = at g l.folder l.cursor l.writer in
+    let u = at g c.copy_child.new.folder c.copy_child.new.cursor c.copy_child.new.writer in
+    l.invariant.rest u None (row-done q m u (subst (λ (more : Bool). ChildCopied q m u (Ok more)) c.if-branch.false c.in_ok-copy_child.ensures))

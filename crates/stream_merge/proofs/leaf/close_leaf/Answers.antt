@@ -1,29 +1,60 @@
-use Rattle.std.proofs.Common.{◌≡◌, ◌∷◌, [], ◌++◌, ℕ, List, Bool, Some, None, Ok, sym, ap, ◌∙◌}
+use Rattle.std.proofs.Common.{Some, Ok, Err}
 use Rattle.version_set.specs.View.{pairs_of}
 use Rattle.keyed_tree.specs.View.{key_view}
 use Rattle.record_writer.specs.Data.{call_alt, call_end_leaf}
-use Rattle.record_writer.specs.Walks.{alt_calls}
-use Rattle.stream_merge.specs.Meets.{new_alts}
-use Rattle.stream_merge.specs.State.{State, state}
-use Rattle.stream_merge.proofs.Puts.{sends-as}
-use Rattle.stream_merge.proofs.States.{call-sends, sends-then}
+use Rattle.stream_merge.proofs.Alternatives.{closes-found, closes-unsent, closes-new}
+use Rattle.stream_merge.proofs.Handed.{sent-handed}
+use Rattle.stream_merge.proofs.States.{call-sends}
 use Rattle.stream_merge.proofs.leaf.close_leaf.Goals as goal
+
+pub returns-in_err-end_leaf : goal.returns-in_err-end_leaf
+returns-in_err-end_leaf g c = record {
+  sends = λ c' within. (
+      let f = g.F.Folder in
+      let e = c.in_err-end_leaf in
+      let end = call-sends f.files f.draft f.numbers f.faults c.args.folder.now c.end_leaf.new.folder c' c.args.writer.now c.end_leaf.new.self call_end_leaf (Err e.field-0.0) (g.met.F.Folder.metered c.args.folder.now) within e.ensures.folder e.ensures.after e.ensures.too_long in
+      sent-handed _ _ c.from_residual.ensures.1 _ _ _ (closes-found c.args.number (key_view c.args.body.now) c.if-found.true end));
+}
+
+pub returns-then-found : goal.returns-then-found
+returns-then-found g c = record {
+  sends = λ c' within. (
+      let f = g.F.Folder in
+      let e = c.in_ok-end_leaf in
+      let end = call-sends f.files f.draft f.numbers f.faults c.args.folder.now c.end_leaf.new.folder c' c.args.writer.now c.end_leaf.new.self call_end_leaf (Ok e.field-0) (g.met.F.Folder.metered c.args.folder.now) within e.ensures.folder e.ensures.after e.ensures.too_long in
+      closes-found c.args.number (key_view c.args.body.now) c.if-found.true end);
+}
+
+pub returns-in_err-written : goal.returns-in_err-written
+returns-in_err-written g c = record {
+  sends = λ c' within. (
+      let f = g.F.Folder in
+      let b = key_view c.args.body.now in
+      let e = c.in_err-written in
+      let new = call-sends f.files f.draft f.numbers f.faults c.args.folder.now c.alt-written.new.folder c' c.args.writer.now c.alt-written.new.self (call_alt (Some (pairs_of c.single.result)) b) (Err e.field-0.0) (g.met.F.Folder.metered c.args.folder.now) within e.ensures.folder e.ensures.after e.ensures.too_long in
+      sent-handed _ _ c.from_residual-in_err-written.ensures.1 _ _ _ (closes-unsent c.args.number b c.if-found.false c.single.ensures.pairs new));
+}
+
+pub returns-in_err-end_leaf-2 : goal.returns-in_err-end_leaf-2
+returns-in_err-end_leaf-2 g c = record {
+  sends = λ c' within. (
+      let f = g.F.Folder in
+      let b = key_view c.args.body.now in
+      let a = c.in_ok-written in
+      let e = c.in_err-end_leaf-2 in
+      let new = call-sends f.files f.draft f.numbers f.faults c.args.folder.now c.alt-written.new.folder c' c.args.writer.now c.alt-written.new.self (call_alt (Some (pairs_of c.single.result)) b) (Ok a.field-0) (g.met.F.Folder.metered c.args.folder.now) within a.ensures.folder a.ensures.after a.ensures.too_long in
+      let end = call-sends f.files f.draft f.numbers f.faults c.alt-written.new.folder c.end_leaf-2.new.folder c' c.alt-written.new.self c.end_leaf-2.new.self call_end_leaf (Err e.field-0.0) (g.met.F.Folder.metered c.alt-written.new.folder) within e.ensures.folder e.ensures.after e.ensures.too_long in
+      sent-handed _ _ c.from_residual-in_err-end_leaf-2.ensures.1 _ _ _ (closes-new c.args.number b c.if-found.false c.single.ensures.pairs new end));
+}
 
 pub returns : goal.returns
 returns g c = record {
   sends = λ c' within. (
       let f = g.F.Folder in
-      let n = c.args.number in
       let b = key_view c.args.body.now in
-      let s : State = state f.files f.draft f.numbers f.faults c.args.folder.now c' c.args.writer.now in
-      let t : State = state f.files f.draft f.numbers f.faults c.alt.new.folder c' c.alt.new.self in
-      let u : State = state f.files f.draft f.numbers f.faults c.end_leaf-2.new.folder c' c.end_leaf-2.new.self in
-      let call = call_alt (Some (pairs_of c.single.result)) b in
-      let calls : alt_calls (new_alts n b c.args.found) ++ call_end_leaf ∷ [] ≡ call ∷ (call_end_leaf ∷ []) =
-      ap (λ (t : Bool). alt_calls (new_alts n b t) ++ call_end_leaf ∷ []) c.if-found.false ∙ ap (λ (ps : List (ℕ × ℕ)). call_alt (Some ps) b ∷ (call_end_leaf ∷ [])) (sym c.single.ensures.pairs) in
-      let one = c.in_ok-alt in
-      let two = c.in_ok-end_leaf-2 in
-      let first = call-sends f.files f.draft f.numbers f.faults c.args.folder.now c.alt.new.folder c' c.args.writer.now c.alt.new.self call (Ok one.field-0) (g.met.F.Folder.metered c.args.folder.now) within one.ensures.folder one.ensures.after one.ensures.too_long in
-      let last = call-sends f.files f.draft f.numbers f.faults c.alt.new.folder c.end_leaf-2.new.folder c' c.alt.new.self c.end_leaf-2.new.self call_end_leaf (Ok two.field-0) (g.met.F.Folder.metered c.alt.new.folder) within two.ensures.folder two.ensures.after two.ensures.too_long in
-      sends-as s u None (call ∷ (call_end_leaf ∷ [])) _ calls (sends-then s t u None (call ∷ []) (call_end_leaf ∷ []) first last));
+      let a = c.in_ok-written in
+      let e = c.in_ok-end_leaf-2 in
+      let new = call-sends f.files f.draft f.numbers f.faults c.args.folder.now c.alt-written.new.folder c' c.args.writer.now c.alt-written.new.self (call_alt (Some (pairs_of c.single.result)) b) (Ok a.field-0) (g.met.F.Folder.metered c.args.folder.now) within a.ensures.folder a.ensures.after a.ensures.too_long in
+      let end = call-sends f.files f.draft f.numbers f.faults c.alt-written.new.folder c.end_leaf-2.new.folder c' c.alt-written.new.self c.end_leaf-2.new.self call_end_leaf (Ok e.field-0) (g.met.F.Folder.metered c.alt-written.new.folder) within e.ensures.folder e.ensures.after e.ensures.too_long in
+      closes-new c.args.number b c.if-found.false c.single.ensures.pairs new end);
 }

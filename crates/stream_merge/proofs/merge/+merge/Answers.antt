@@ -1,699 +1,284 @@
-use Rattle.std.proofs.Common.{◌≡◌, ◌≤◌, ◌<◌, ◌*◌, ◌+◌, ◌-◌, ℕ, List, map, take, drop, length, IsTrue, IfSome, Option, Some, None, Ok, Err, refl, sym, ap, subst, ◌∙◌, arith}
+use Rattle.std.proofs.Common.{◌≡◌, ◌<◌, ◌*◌, ◌+◌, ◌-◌, ℕ, List, map, take, drop, length, IsTrue, Option, Some, None, refl, sym, ap, subst, ◌∙◌, arith}
 use Rattle.std.specs.Option.{option_map}
-use Rattle.std.proofs.lemmas.List.{length-map}
-use Rattle.keyed_tree.specs.Data.{PlainKeyed, inner, kids_from}
+use Rattle.keyed_tree.specs.Data.{PlainKeyed, inner, leaf, kids_from}
 use Rattle.keyed_tree.specs.Kids.{ascend, are_ordered}
-use Rattle.keyed_tree.specs.View.{keyed_view, label_view}
-use Rattle.keyed_tree.proofs.Views.{keyed_view-Inner}
-use Rattle.archive_tree.specs.Data.{Stamp}
+use Rattle.keyed_tree.specs.View.{key_view, keyed_view, label_view}
+use Rattle.keyed_tree.proofs.Views.{keyed_view-Inner, keyed_view-Leaf}
 use Rattle.nested_merge.specs.Merged.{fresh_row}
-use Rattle.record_cursor.specs.Items.{inner_item, leaf_item}
 use Rattle.record_cursor.specs.View.{PlainCursor, shown_item}
 use Rattle.record_format.specs.Shapes.{AreShapedNodes}
 use Rattle.record_parts.specs.ShownViews.{shown_label, shown_stamp}
 use Rattle.record_writer.specs.Data.{call_end_inner}
-use Rattle.record_writer.specs.Walks.{row_calls}
-use Rattle.stream_merge.specs.Meets.{rest_of}
-use Rattle.stream_merge.specs.Passes.{Passes, fault_of, of_cursor, of_writer, unpaid_with}
+use Rattle.record_writer.specs.View.{writer_view}
+use Rattle.record_writer.specs.declared.writer.Writer.{Writer}
+use Rattle.stream_merge.specs.Passes.{fault_of, of_cursor}
+use Rattle.stream_merge.specs.RowMerged.{RowMerged, ChildMerged, InsideMerged, IsOpen, BegunMerged}
 use Rattle.stream_merge.specs.State.{State, state}
 use Rattle.stream_merge.specs.View.{PlainInherited, inherited_view}
+use Rattle.stream_merge.specs.declared.begin.Kind.{Kind}
 use Rattle.stream_merge.specs.declared.fault.MergeFault.{MergeFault}
-use Rattle.stream_merge.specs.declared.fault.MergeFault.TheVariants.{Damage}
-use Rattle.stream_merge.proofs.States.{nexts, stays-by, call-sends, fault-from, passes-then}
-use Rattle.stream_merge.proofs.ChildCopies.{passes-err, inner-smaller, opened-some, opened-closed, leaf-closed, not-inner, not-leaf, not-closing}
-use Rattle.stream_merge.proofs.MergedRows.{RowMerges, MeetsNode, MeetsEnd, merge-start, merge-more, merge-done, merge-fault}
-use Rattle.stream_merge.proofs.MergedNodes.{InsideMerges, meets-err, ends-err, meets-failed, ends-failed, meets-no-node, meets-no-end, ends-sent, inner-met-fails, inner-met, leaf-met-fails, leaf-met, inner-meets, leaf-meets, inside-closed, inside-fault, inside-alone, inside-of, kids-left, gave-fails, inner-read, leaf-read, end-read, beside-number, beside-kid, beside-shaped, beside-alone}
-use Rattle.stream_merge.proofs.Puts.{row-sent}
+use Rattle.stream_merge.proofs.States.{written, Nexts, nexts, stays-by, call-sends}
+use Rattle.stream_merge.proofs.Handed.{at-err, called}
+use Rattle.stream_merge.proofs.ChildCopies.{opening}
+use Rattle.stream_merge.proofs.MergedRows.{merge-start, merge-more, merge-done, merge-fault}
+use Rattle.stream_merge.proofs.MergedNodes.{child-failed, child-damage, child-unended, child-ended, child-unbegun, child-unmerged, child-merged, opening-smaller, begun-open, begun-number, begun-kid, begun-alone, kid-shaped, inside-row-fails, inside-row-closed, inside-misfit, inside-alone, kids-left}
 use Rattle.stream_merge.proofs.Weaving.{ascend_drop, ordered_drop, shaped_drop}
+use Rattle.stream_merge.proofs.merge.+merge.Given.{Over}
+use Rattle.stream_merge.proofs.merge.+merge.Goals.{merge_child-In_ok-label, merge_child-Joined-branch-2, merge_child-in-Inner, merge_child-in-Leaf}
 use Rattle.stream_merge.proofs.merge.+merge.Goals as goal
 
-pub merge_child-returns-in_err-label-clause-node : goal.merge_child-returns-in_err-label-clause-node
-merge_child-returns-in_err-label-clause-node g t c =
-    let f = g.F.Folder in
+abbrev at : (g : Over) → g.row.F.Denot → PlainCursor → Writer → State
+at g = (let f = g.F.Folder in state f.files f.draft f.numbers f.faults)
+
+-- ---- a node
+
+-- the item that was given
+read : (g : Over) (t : ℕ) (c : merge_child-In_ok-label g t) → Nexts (at g c.args.folder.now c.args.cursor.now c.args.writer.now) (at g c.next.new.folder c.next.follows.lender-at-none c.args.writer.now) c.in_ok-label.field-0
+read g t c =
+    let i = c.in_ok-label in
+    nexts (at g c.args.folder.now c.args.cursor.now c.args.writer.now) (at g c.next.new.folder c.next.follows.lender-at-none c.args.writer.now) c.next.result i.field-0 (g.met.F.Folder.metered c.next.new.folder) i.was i.ensures.files i.ensures.draft refl i.ensures.numbers
+    i.ensures.later i.ensures.reads c.next.follows.holds-at-none
+
+-- it opens a node
+opens : (g : Over) (t : ℕ) (c : merge_child-Joined-branch-2 g t) → shown_item c.in_ok-label.field-0 ≡ opening c.match-branch-2.kind.0 (shown_label c.match-branch-2.kind.1) (shown_stamp c.match-branch-2.kind.2)
+opens g t c =
+    elim c.match-branch-2.branch [
+      | merge_child-in-Inner w ↦ ap shown_item w.in-Inner.is ∙ sym (ap (λ k. opening k.0 (shown_label k.1) (shown_stamp k.2)) w.kind-is)
+      | merge_child-in-Leaf w ↦ ap shown_item w.in-Leaf.is ∙ sym (ap (λ k. opening k.0 (shown_label k.1) (shown_stamp k.2)) w.kind-is)
+    ]
+
+pub merge_child-returns-in_err-label : goal.merge_child-returns-in_err-label
+merge_child-returns-in_err-label g t c =
     let h : PlainInherited = inherited_view c.args.from.now in
     let cs : List PlainKeyed = map keyed_view c.args.kids.now in
-    let s : State = state f.files f.draft f.numbers f.faults c.args.folder.now c.args.cursor.now c.args.writer.now in
-    let p : State = state f.files f.draft f.numbers f.faults c.next.new.folder c.next.follows.lender-at-none c.args.writer.now in
+    let s = at g c.args.folder.now c.args.cursor.now c.args.writer.now in
+    let p = at g c.next.new.folder c.next.follows.lender-at-none c.args.writer.now in
     let e = c.in_err-label in
-    let stays = stays-by s p c.next.result e.field-0.0 e.was e.ensures.files e.ensures.pulls e.ensures.later e.ensures.cause e.ensures.undamaged e.ensures.reads c.next.follows.holds-at-none in
-    meets-err h cs s p c.from_residual.result (of_cursor e.field-0.0) c.from_residual.ensures.1 (meets-failed h cs s p e.field-0.0 stays)
+    let stays = stays-by s p c.next.result e.field-0.0 e.was e.ensures.files e.ensures.draft e.ensures.pulls e.ensures.later e.ensures.cause e.ensures.undamaged e.ensures.reads c.next.follows.holds-at-none in
+    at-err c.from_residual.result (of_cursor e.field-0.0) c.from_residual.ensures.1 (ChildMerged h cs s p) (child-failed h cs s p e.field-0.0 c.requires.within stays)
 
-pub merge_child-returns-in_err-label-clause-end : goal.merge_child-returns-in_err-label-clause-end
-merge_child-returns-in_err-label-clause-end g t c =
-    let f = g.F.Folder in
+pub merge_child-returns-in_err-put_started-in-End : goal.merge_child-returns-in_err-put_started-in-End
+merge_child-returns-in_err-put_started-in-End g t c =
     let h : PlainInherited = inherited_view c.args.from.now in
     let cs : List PlainKeyed = map keyed_view c.args.kids.now in
-    let s : State = state f.files f.draft f.numbers f.faults c.args.folder.now c.args.cursor.now c.args.writer.now in
-    let p : State = state f.files f.draft f.numbers f.faults c.next.new.folder c.next.follows.lender-at-none c.args.writer.now in
-    let e = c.in_err-label in
-    let stays = stays-by s p c.next.result e.field-0.0 e.was e.ensures.files e.ensures.pulls e.ensures.later e.ensures.cause e.ensures.undamaged e.ensures.reads c.next.follows.holds-at-none in
-    ends-err h cs s p c.from_residual.result (of_cursor e.field-0.0) c.from_residual.ensures.1 (ends-failed h cs s p e.field-0.0 stays)
-
-pub merge_child-returns-in_err-begun-in-Inner-clause-passes : goal.merge_child-returns-in_err-begun-in-Inner-clause-passes
-merge_child-returns-in_err-begun-in-Inner-clause-passes g t c =
-    let f = g.F.Folder in
-    let h : PlainInherited = inherited_view c.args.from.now in
-    let cs : List PlainKeyed = map keyed_view c.args.kids.now in
-    let s : State = state f.files f.draft f.numbers f.faults c.args.folder.now c.args.cursor.now c.args.writer.now in
-    let p : State = state f.files f.draft f.numbers f.faults c.next.new.folder c.next.follows.lender-at-none c.args.writer.now in
-    let i = c.in_ok-label in
-    let read = nexts s p c.next.result i.field-0 i.was i.ensures.files i.ensures.draft refl i.ensures.numbers i.ensures.later i.ensures.reads c.next.follows.holds-at-none in
-    let goes = read.goes in
-    let a = c.in-Inner in
-    let l = shown_label a.label in
-    let st : Stamp = shown_stamp a.stamp in
-    let shown : shown_item i.field-0 ≡ inner_item l st = ap shown_item a.is in
-    let u : State = state f.files f.draft f.numbers f.faults c.begin_beside.new.folder c.next.follows.lender-at-none c.begin_beside.new.writer in
-    passes-err s u c.from_residual-in_err-begun-in-Inner.result c.in_err-begun-in-Inner.field-0.0 _ c.from_residual-in_err-begun-in-Inner.ensures.1 (gave-fails s p u i.field-0 c.in_err-begun-in-Inner.field-0.0 read (c.in_err-begun-in-Inner.ensures.passes c.next.follows.lender-at-none goes.within))
-
-pub merge_child-returns-in_err-begun-in-Inner-clause-node : goal.merge_child-returns-in_err-begun-in-Inner-clause-node
-merge_child-returns-in_err-begun-in-Inner-clause-node g t c =
-    let f = g.F.Folder in
-    let h : PlainInherited = inherited_view c.args.from.now in
-    let cs : List PlainKeyed = map keyed_view c.args.kids.now in
-    let s : State = state f.files f.draft f.numbers f.faults c.args.folder.now c.args.cursor.now c.args.writer.now in
-    let p : State = state f.files f.draft f.numbers f.faults c.next.new.folder c.next.follows.lender-at-none c.args.writer.now in
-    let i = c.in_ok-label in
-    let read = nexts s p c.next.result i.field-0 i.was i.ensures.files i.ensures.draft refl i.ensures.numbers i.ensures.later i.ensures.reads c.next.follows.holds-at-none in
-    let goes = read.goes in
-    let a = c.in-Inner in
-    let l = shown_label a.label in
-    let st : Stamp = shown_stamp a.stamp in
-    let shown : shown_item i.field-0 ≡ inner_item l st = ap shown_item a.is in
-    let u : State = state f.files f.draft f.numbers f.faults c.begin_beside.new.folder c.next.follows.lender-at-none c.begin_beside.new.writer in
-    meets-err h cs s u c.from_residual-in_err-begun-in-Inner.result c.in_err-begun-in-Inner.field-0.0 c.from_residual-in_err-begun-in-Inner.ensures.1 (inner-met-fails h cs s p u i.field-0 l st read c.in_err-begun-in-Inner.field-0.0 shown (c.in_err-begun-in-Inner.ensures.sends c.next.follows.lender-at-none goes.within))
-
-pub merge_child-returns-in_err-begun-in-Inner-clause-end : goal.merge_child-returns-in_err-begun-in-Inner-clause-end
-merge_child-returns-in_err-begun-in-Inner-clause-end g t c =
-    let f = g.F.Folder in
-    let h : PlainInherited = inherited_view c.args.from.now in
-    let cs : List PlainKeyed = map keyed_view c.args.kids.now in
-    let s : State = state f.files f.draft f.numbers f.faults c.args.folder.now c.args.cursor.now c.args.writer.now in
-    let p : State = state f.files f.draft f.numbers f.faults c.next.new.folder c.next.follows.lender-at-none c.args.writer.now in
-    let i = c.in_ok-label in
-    let read = nexts s p c.next.result i.field-0 i.was i.ensures.files i.ensures.draft refl i.ensures.numbers i.ensures.later i.ensures.reads c.next.follows.holds-at-none in
-    let goes = read.goes in
-    let a = c.in-Inner in
-    let l = shown_label a.label in
-    let st : Stamp = shown_stamp a.stamp in
-    let shown : shown_item i.field-0 ≡ inner_item l st = ap shown_item a.is in
-    let u : State = state f.files f.draft f.numbers f.faults c.begin_beside.new.folder c.next.follows.lender-at-none c.begin_beside.new.writer in
-    meets-no-end h cs s p i.field-0 c.from_residual-in_err-begun-in-Inner.result u (λ n is. (let same = sym shown ∙ is in absurd cc)) read
-
-pub merge_child-merge_inner-requires : goal.merge_child-merge_inner-requires
-merge_child-merge_inner-requires g t c κs within =
-    let f = g.F.Folder in
-    let h : PlainInherited = inherited_view c.args.from.now in
-    let cs : List PlainKeyed = map keyed_view c.args.kids.now in
-    let s : State = state f.files f.draft f.numbers f.faults c.args.folder.now c.args.cursor.now c.args.writer.now in
-    let p : State = state f.files f.draft f.numbers f.faults c.next.new.folder c.next.follows.lender-at-none c.args.writer.now in
-    let i = c.in_ok-label in
-    let read = nexts s p c.next.result i.field-0 i.was i.ensures.files i.ensures.draft refl i.ensures.numbers i.ensures.later i.ensures.reads c.next.follows.holds-at-none in
-    let goes = read.goes in
-    let a = c.in-Inner in
-    let l = shown_label a.label in
-    let st : Stamp = shown_stamp a.stamp in
-    let shown : shown_item i.field-0 ≡ inner_item l st = ap shown_item a.is in
-    let u : State = state f.files f.draft f.numbers f.faults c.begin_beside.new.folder c.next.follows.lender-at-none c.begin_beside.new.writer in
-    let b = c.in_ok-begun-in-Inner in
-    let own : PlainInherited = inherited_view b.begun.own in
-    let o : Option PlainKeyed = option_map (λ k. keyed_view k.now) b.begun.kid in
-    let passes : Passes 0 s u None = inner-read s p u i.field-0 l st shown read b.ensures.paid (b.ensures.passes c.next.follows.lender-at-none goes.within) in
     let d : PlainCursor = c.next.follows.lender-at-none in
-    let opens = b.ensures.begun in
-    let small = inner-smaller (f.files c.args.folder.now) c.args.cursor.now d i.field-0 l st shown goes in
-    let less : 3 * (d.length - d.at) + 2 < t = omega (arith, small, c.decreases) in
-    (less, (within, (goes.within, (opens.no_leaf, (opened-some p.writer u.writer opens, (beside-number h own l st cs b.ensures.own c.requires.number, (beside-kid l cs o b.ensures.kid c.requires.ordered c.requires.shaped, beside-alone h own l st cs o b.ensures.own b.ensures.kid)))))))
+    let s = at g c.args.folder.now c.args.cursor.now c.args.writer.now in
+    let p = at g c.next.new.folder d c.args.writer.now in
+    let u = at g c.put_started.new.folder d c.put_started.new.writer in
+    let gave = read g t (goal.at.merge_child-returns-in_err-put_started-in-End g t c).In_ok-label in
+    let goes = gave.goes in
+    let a = c.in-End in
+    let e = c.in_err-put_started-in-End in
+    let r = c.from_residual-in_err-put_started-in-End in
+    at-err r.result e.field-0.0 r.ensures.1 (ChildMerged h cs s u) (child-unended h cs s p u c.in_ok-label.field-0 a.length gave (ap shown_item a.is) e.field-0.0 (e.ensures.sends d goes.within))
 
-pub merge_child-returns-in_err-merge_inner-in-Inner-clause-passes : goal.merge_child-returns-in_err-merge_inner-in-Inner-clause-passes
-merge_child-returns-in_err-merge_inner-in-Inner-clause-passes g t c =
-    let f = g.F.Folder in
-    let s : State = state f.files f.draft f.numbers f.faults c.args.folder.now c.args.cursor.now c.args.writer.now in
-    let p : State = state f.files f.draft f.numbers f.faults c.next.new.folder c.next.follows.lender-at-none c.args.writer.now in
-    let i = c.in_ok-label in
-    let read = nexts s p c.next.result i.field-0 i.was i.ensures.files i.ensures.draft refl i.ensures.numbers i.ensures.later i.ensures.reads c.next.follows.holds-at-none in
-    let goes = read.goes in
-    let a = c.in-Inner in
-    let l = shown_label a.label in
-    let st : Stamp = shown_stamp a.stamp in
-    let shown : shown_item i.field-0 ≡ inner_item l st = ap shown_item a.is in
-    let u : State = state f.files f.draft f.numbers f.faults c.begin_beside.new.folder c.next.follows.lender-at-none c.begin_beside.new.writer in
-    let b = c.in_ok-begun-in-Inner in
-    let passes : Passes 0 s u None = inner-read s p u i.field-0 l st shown read b.ensures.paid (b.ensures.passes c.next.follows.lender-at-none goes.within) in
-    let v : State = state f.files f.draft f.numbers f.faults c.merge_inner.new.folder c.merge_inner.new.cursor c.merge_inner.new.writer in
-    passes-err s v c.from_residual-in_err-merge_inner-in-Inner.result c.in_err-merge_inner-in-Inner.field-0.0 _ c.from_residual-in_err-merge_inner-in-Inner.ensures.1 (passes-then s u v (Some c.in_err-merge_inner-in-Inner.field-0.0) 0 0 0 (omega arith) passes c.in_err-merge_inner-in-Inner.ensures.passes)
-
-pub merge_child-returns-in_err-merge_inner-in-Inner-clause-node : goal.merge_child-returns-in_err-merge_inner-in-Inner-clause-node
-merge_child-returns-in_err-merge_inner-in-Inner-clause-node g t c =
-    let f = g.F.Folder in
+pub merge_child-returns-in-End : goal.merge_child-returns-in-End
+merge_child-returns-in-End g t c =
     let h : PlainInherited = inherited_view c.args.from.now in
     let cs : List PlainKeyed = map keyed_view c.args.kids.now in
-    let s : State = state f.files f.draft f.numbers f.faults c.args.folder.now c.args.cursor.now c.args.writer.now in
-    let p : State = state f.files f.draft f.numbers f.faults c.next.new.folder c.next.follows.lender-at-none c.args.writer.now in
-    let i = c.in_ok-label in
-    let read = nexts s p c.next.result i.field-0 i.was i.ensures.files i.ensures.draft refl i.ensures.numbers i.ensures.later i.ensures.reads c.next.follows.holds-at-none in
-    let goes = read.goes in
-    let a = c.in-Inner in
-    let l = shown_label a.label in
-    let st : Stamp = shown_stamp a.stamp in
-    let shown : shown_item i.field-0 ≡ inner_item l st = ap shown_item a.is in
-    let u : State = state f.files f.draft f.numbers f.faults c.begin_beside.new.folder c.next.follows.lender-at-none c.begin_beside.new.writer in
-    let b = c.in_ok-begun-in-Inner in
+    let d : PlainCursor = c.next.follows.lender-at-none in
+    let s = at g c.args.folder.now c.args.cursor.now c.args.writer.now in
+    let p = at g c.next.new.folder d c.args.writer.now in
+    let u = at g c.put_started.new.folder d c.put_started.new.writer in
+    let gave = read g t (goal.at.merge_child-returns-in-End g t c).In_ok-label in
+    let goes = gave.goes in
+    let a = c.in-End in
+    child-ended h cs s p u c.in_ok-label.field-0 a.length gave (ap shown_item a.is) c.requires.no_leaf (c.in_ok-put_started-in-End.ensures.sends d goes.within)
+
+pub merge_child-returns-in_default : goal.merge_child-returns-in_default
+merge_child-returns-in_default g t c =
+    let h : PlainInherited = inherited_view c.args.from.now in
+    let cs : List PlainKeyed = map keyed_view c.args.kids.now in
+    let s = at g c.args.folder.now c.args.cursor.now c.args.writer.now in
+    let p = at g c.next.new.folder c.next.follows.lender-at-none c.args.writer.now in
+    let a = c.in_default in
+    child-damage h cs s p c.in_ok-label.field-0 a.not-Inner a.not-Leaf a.not-End (read g t (goal.at.merge_child-returns-in_default g t c).In_ok-label)
+
+pub merge_child-returns-in_err-begun : goal.merge_child-returns-in_err-begun
+merge_child-returns-in_err-begun g t c =
+    let h : PlainInherited = inherited_view c.args.from.now in
+    let cs : List PlainKeyed = map keyed_view c.args.kids.now in
+    let d : PlainCursor = c.next.follows.lender-at-none in
+    let s = at g c.args.folder.now c.args.cursor.now c.args.writer.now in
+    let p = at g c.next.new.folder d c.args.writer.now in
+    let u = at g c.begin_beside.new.folder d c.begin_beside.new.writer in
+    let here = goal.at.merge_child-returns-in_err-begun g t c in
+    let gave = read g t here.In_ok-label in
+    let goes = gave.goes in
+    let k = c.match-branch-2.kind in
+    let e = c.in_err-begun in
+    let r = c.from_residual-in_err-begun in
+    at-err r.result e.field-0.0 r.ensures.1 (ChildMerged h cs s u) (child-unbegun h cs (shown_label k.1) (shown_stamp k.2) k.0 s p u c.in_ok-label.field-0 gave (opens g t here.Joined-branch-2) e.field-0.0 (e.ensures.begins d goes.within))
+
+pub merge_child-merge_begun-requires : goal.merge_child-merge_begun-requires
+merge_child-merge_begun-requires g t c κs within =
+    let h : PlainInherited = inherited_view c.args.from.now in
+    let cs : List PlainKeyed = map keyed_view c.args.kids.now in
+    let d : PlainCursor = c.next.follows.lender-at-none in
+    let here = goal.at.merge_child-merge_begun-requires g t c in
+    let gave = read g t here.In_ok-label in
+    let goes = gave.goes in
+    let k = c.match-branch-2.kind in
+    let b = c.in_ok-begun in
+    let kid : Option PlainKeyed = option_map (λ k. keyed_view k.now) b.begun.kid in
     let own : PlainInherited = inherited_view b.begun.own in
-    let o : Option PlainKeyed = option_map (λ k. keyed_view k.now) b.begun.kid in
-    let passes : Passes 0 s u None = inner-read s p u i.field-0 l st shown read b.ensures.paid (b.ensures.passes c.next.follows.lender-at-none goes.within) in
-    let v : State = state f.files f.draft f.numbers f.faults c.merge_inner.new.folder c.merge_inner.new.cursor c.merge_inner.new.writer in
-    meets-err h cs s v c.from_residual-in_err-merge_inner-in-Inner.result c.in_err-merge_inner-in-Inner.field-0.0 c.from_residual-in_err-merge_inner-in-Inner.ensures.1 (inner-met h cs s p u i.field-0 l st read v own o (Some c.in_err-merge_inner-in-Inner.field-0.0) b.ensures.own b.ensures.kid shown (b.ensures.sends c.next.follows.lender-at-none goes.within) passes c.in_err-merge_inner-in-Inner.ensures.inside)
-
-pub merge_child-returns-in_err-merge_inner-in-Inner-clause-end : goal.merge_child-returns-in_err-merge_inner-in-Inner-clause-end
-merge_child-returns-in_err-merge_inner-in-Inner-clause-end g t c =
-    let f = g.F.Folder in
-    let h : PlainInherited = inherited_view c.args.from.now in
-    let cs : List PlainKeyed = map keyed_view c.args.kids.now in
-    let s : State = state f.files f.draft f.numbers f.faults c.args.folder.now c.args.cursor.now c.args.writer.now in
-    let p : State = state f.files f.draft f.numbers f.faults c.next.new.folder c.next.follows.lender-at-none c.args.writer.now in
-    let i = c.in_ok-label in
-    let read = nexts s p c.next.result i.field-0 i.was i.ensures.files i.ensures.draft refl i.ensures.numbers i.ensures.later i.ensures.reads c.next.follows.holds-at-none in
-    let goes = read.goes in
-    let a = c.in-Inner in
-    let l = shown_label a.label in
-    let st : Stamp = shown_stamp a.stamp in
-    let shown : shown_item i.field-0 ≡ inner_item l st = ap shown_item a.is in
-    let u : State = state f.files f.draft f.numbers f.faults c.begin_beside.new.folder c.next.follows.lender-at-none c.begin_beside.new.writer in
-    let v : State = state f.files f.draft f.numbers f.faults c.merge_inner.new.folder c.merge_inner.new.cursor c.merge_inner.new.writer in
-    meets-no-end h cs s p i.field-0 c.from_residual-in_err-merge_inner-in-Inner.result v (λ n is. (let same = sym shown ∙ is in absurd cc)) read
-
-pub merge_child-returns-in_ok-merge_inner-in-Inner-clause-passes : goal.merge_child-returns-in_ok-merge_inner-in-Inner-clause-passes
-merge_child-returns-in_ok-merge_inner-in-Inner-clause-passes g t c =
-    let f = g.F.Folder in
-    let s : State = state f.files f.draft f.numbers f.faults c.args.folder.now c.args.cursor.now c.args.writer.now in
-    let p : State = state f.files f.draft f.numbers f.faults c.next.new.folder c.next.follows.lender-at-none c.args.writer.now in
-    let i = c.in_ok-label in
-    let read = nexts s p c.next.result i.field-0 i.was i.ensures.files i.ensures.draft refl i.ensures.numbers i.ensures.later i.ensures.reads c.next.follows.holds-at-none in
-    let goes = read.goes in
-    let a = c.in-Inner in
-    let l = shown_label a.label in
-    let st : Stamp = shown_stamp a.stamp in
-    let shown : shown_item i.field-0 ≡ inner_item l st = ap shown_item a.is in
-    let u : State = state f.files f.draft f.numbers f.faults c.begin_beside.new.folder c.next.follows.lender-at-none c.begin_beside.new.writer in
-    let b = c.in_ok-begun-in-Inner in
-    let passes : Passes 0 s u None = inner-read s p u i.field-0 l st shown read b.ensures.paid (b.ensures.passes c.next.follows.lender-at-none goes.within) in
-    let v : State = state f.files f.draft f.numbers f.faults c.merge_inner.new.folder c.merge_inner.new.cursor c.merge_inner.new.writer in
-    passes-then s u v None 0 0 0 (omega arith) passes c.in_ok-merge_inner-in-Inner.ensures.passes
-
-pub merge_child-returns-in_ok-merge_inner-in-Inner-clause-rests : goal.merge_child-returns-in_ok-merge_inner-in-Inner-clause-rests
-merge_child-returns-in_ok-merge_inner-in-Inner-clause-rests g t c =
-    let f = g.F.Folder in
-    let p : State = state f.files f.draft f.numbers f.faults c.next.new.folder c.next.follows.lender-at-none c.args.writer.now in
-    let u : State = state f.files f.draft f.numbers f.faults c.begin_beside.new.folder c.next.follows.lender-at-none c.begin_beside.new.writer in
-    let b = c.in_ok-begun-in-Inner in
-    let v : State = state f.files f.draft f.numbers f.faults c.merge_inner.new.folder c.merge_inner.new.cursor c.merge_inner.new.writer in
-    opened-closed p.writer u.writer v.writer b.ensures.begun c.in_ok-merge_inner-in-Inner.ensures.closed
-
-pub merge_child-returns-in_ok-merge_inner-in-Inner-clause-node : goal.merge_child-returns-in_ok-merge_inner-in-Inner-clause-node
-merge_child-returns-in_ok-merge_inner-in-Inner-clause-node g t c =
-    let f = g.F.Folder in
-    let h : PlainInherited = inherited_view c.args.from.now in
-    let cs : List PlainKeyed = map keyed_view c.args.kids.now in
-    let s : State = state f.files f.draft f.numbers f.faults c.args.folder.now c.args.cursor.now c.args.writer.now in
-    let p : State = state f.files f.draft f.numbers f.faults c.next.new.folder c.next.follows.lender-at-none c.args.writer.now in
-    let i = c.in_ok-label in
-    let read = nexts s p c.next.result i.field-0 i.was i.ensures.files i.ensures.draft refl i.ensures.numbers i.ensures.later i.ensures.reads c.next.follows.holds-at-none in
-    let goes = read.goes in
-    let a = c.in-Inner in
-    let l = shown_label a.label in
-    let st : Stamp = shown_stamp a.stamp in
-    let shown : shown_item i.field-0 ≡ inner_item l st = ap shown_item a.is in
-    let u : State = state f.files f.draft f.numbers f.faults c.begin_beside.new.folder c.next.follows.lender-at-none c.begin_beside.new.writer in
-    let b = c.in_ok-begun-in-Inner in
-    let own : PlainInherited = inherited_view b.begun.own in
-    let o : Option PlainKeyed = option_map (λ k. keyed_view k.now) b.begun.kid in
-    let passes : Passes 0 s u None = inner-read s p u i.field-0 l st shown read b.ensures.paid (b.ensures.passes c.next.follows.lender-at-none goes.within) in
-    let v : State = state f.files f.draft f.numbers f.faults c.merge_inner.new.folder c.merge_inner.new.cursor c.merge_inner.new.writer in
-    inner-meets h cs s p u i.field-0 l st read v b.begun.taken shown b.ensures.left (inner-met h cs s p u i.field-0 l st read v own o (None) b.ensures.own b.ensures.kid shown (b.ensures.sends c.next.follows.lender-at-none goes.within) passes c.in_ok-merge_inner-in-Inner.ensures.inside)
-
-pub merge_child-returns-in_ok-merge_inner-in-Inner-clause-end : goal.merge_child-returns-in_ok-merge_inner-in-Inner-clause-end
-merge_child-returns-in_ok-merge_inner-in-Inner-clause-end g t c =
-    let f = g.F.Folder in
-    let h : PlainInherited = inherited_view c.args.from.now in
-    let cs : List PlainKeyed = map keyed_view c.args.kids.now in
-    let s : State = state f.files f.draft f.numbers f.faults c.args.folder.now c.args.cursor.now c.args.writer.now in
-    let p : State = state f.files f.draft f.numbers f.faults c.next.new.folder c.next.follows.lender-at-none c.args.writer.now in
-    let i = c.in_ok-label in
-    let read = nexts s p c.next.result i.field-0 i.was i.ensures.files i.ensures.draft refl i.ensures.numbers i.ensures.later i.ensures.reads c.next.follows.holds-at-none in
-    let goes = read.goes in
-    let a = c.in-Inner in
-    let l = shown_label a.label in
-    let st : Stamp = shown_stamp a.stamp in
-    let shown : shown_item i.field-0 ≡ inner_item l st = ap shown_item a.is in
-    let u : State = state f.files f.draft f.numbers f.faults c.begin_beside.new.folder c.next.follows.lender-at-none c.begin_beside.new.writer in
-    let v : State = state f.files f.draft f.numbers f.faults c.merge_inner.new.folder c.merge_inner.new.cursor c.merge_inner.new.writer in
-    let b = c.in_ok-begun-in-Inner in
-    meets-no-end h cs s p i.field-0 (Ok (Some b.begun.taken)) v (λ n is. (let same = sym shown ∙ is in absurd cc)) read
-
-pub merge_child-returns-in_ok-merge_inner-in-Inner-clause-within : goal.merge_child-returns-in_ok-merge_inner-in-Inner-clause-within
-merge_child-returns-in_ok-merge_inner-in-Inner-clause-within g t c =
-    let b = c.in_ok-begun-in-Inner in
-    let left = b.ensures.left in
-    let few = left.within in
-    omega (arith, few, length-map c.args.kids.now keyed_view)
-
-pub merge_child-returns-in_err-begun-in-Leaf-clause-passes : goal.merge_child-returns-in_err-begun-in-Leaf-clause-passes
-merge_child-returns-in_err-begun-in-Leaf-clause-passes g t c =
-    let f = g.F.Folder in
-    let h : PlainInherited = inherited_view c.args.from.now in
-    let cs : List PlainKeyed = map keyed_view c.args.kids.now in
-    let s : State = state f.files f.draft f.numbers f.faults c.args.folder.now c.args.cursor.now c.args.writer.now in
-    let p : State = state f.files f.draft f.numbers f.faults c.next.new.folder c.next.follows.lender-at-none c.args.writer.now in
-    let i = c.in_ok-label in
-    let read = nexts s p c.next.result i.field-0 i.was i.ensures.files i.ensures.draft refl i.ensures.numbers i.ensures.later i.ensures.reads c.next.follows.holds-at-none in
-    let goes = read.goes in
-    let a = c.in-Leaf in
-    let l = shown_label a.label in
-    let st : Stamp = shown_stamp a.stamp in
-    let shown : shown_item i.field-0 ≡ leaf_item l st = ap shown_item a.is in
-    let u : State = state f.files f.draft f.numbers f.faults c.begin_beside-in-Leaf.new.folder c.next.follows.lender-at-none c.begin_beside-in-Leaf.new.writer in
-    passes-err s u c.from_residual-in_err-begun-in-Leaf.result c.in_err-begun-in-Leaf.field-0.0 _ c.from_residual-in_err-begun-in-Leaf.ensures.1 (gave-fails s p u i.field-0 c.in_err-begun-in-Leaf.field-0.0 read (c.in_err-begun-in-Leaf.ensures.passes c.next.follows.lender-at-none goes.within))
-
-pub merge_child-returns-in_err-begun-in-Leaf-clause-node : goal.merge_child-returns-in_err-begun-in-Leaf-clause-node
-merge_child-returns-in_err-begun-in-Leaf-clause-node g t c =
-    let f = g.F.Folder in
-    let h : PlainInherited = inherited_view c.args.from.now in
-    let cs : List PlainKeyed = map keyed_view c.args.kids.now in
-    let s : State = state f.files f.draft f.numbers f.faults c.args.folder.now c.args.cursor.now c.args.writer.now in
-    let p : State = state f.files f.draft f.numbers f.faults c.next.new.folder c.next.follows.lender-at-none c.args.writer.now in
-    let i = c.in_ok-label in
-    let read = nexts s p c.next.result i.field-0 i.was i.ensures.files i.ensures.draft refl i.ensures.numbers i.ensures.later i.ensures.reads c.next.follows.holds-at-none in
-    let goes = read.goes in
-    let a = c.in-Leaf in
-    let l = shown_label a.label in
-    let st : Stamp = shown_stamp a.stamp in
-    let shown : shown_item i.field-0 ≡ leaf_item l st = ap shown_item a.is in
-    let u : State = state f.files f.draft f.numbers f.faults c.begin_beside-in-Leaf.new.folder c.next.follows.lender-at-none c.begin_beside-in-Leaf.new.writer in
-    meets-err h cs s u c.from_residual-in_err-begun-in-Leaf.result c.in_err-begun-in-Leaf.field-0.0 c.from_residual-in_err-begun-in-Leaf.ensures.1 (leaf-met-fails h cs s p u i.field-0 l st read c.in_err-begun-in-Leaf.field-0.0 shown (c.in_err-begun-in-Leaf.ensures.sends c.next.follows.lender-at-none goes.within))
-
-pub merge_child-returns-in_err-begun-in-Leaf-clause-end : goal.merge_child-returns-in_err-begun-in-Leaf-clause-end
-merge_child-returns-in_err-begun-in-Leaf-clause-end g t c =
-    let f = g.F.Folder in
-    let h : PlainInherited = inherited_view c.args.from.now in
-    let cs : List PlainKeyed = map keyed_view c.args.kids.now in
-    let s : State = state f.files f.draft f.numbers f.faults c.args.folder.now c.args.cursor.now c.args.writer.now in
-    let p : State = state f.files f.draft f.numbers f.faults c.next.new.folder c.next.follows.lender-at-none c.args.writer.now in
-    let i = c.in_ok-label in
-    let read = nexts s p c.next.result i.field-0 i.was i.ensures.files i.ensures.draft refl i.ensures.numbers i.ensures.later i.ensures.reads c.next.follows.holds-at-none in
-    let goes = read.goes in
-    let a = c.in-Leaf in
-    let l = shown_label a.label in
-    let st : Stamp = shown_stamp a.stamp in
-    let shown : shown_item i.field-0 ≡ leaf_item l st = ap shown_item a.is in
-    let u : State = state f.files f.draft f.numbers f.faults c.begin_beside-in-Leaf.new.folder c.next.follows.lender-at-none c.begin_beside-in-Leaf.new.writer in
-    meets-no-end h cs s p i.field-0 c.from_residual-in_err-begun-in-Leaf.result u (λ n is. (let same = sym shown ∙ is in absurd cc)) read
-
-pub merge_child-merge_leaf-requires : goal.merge_child-merge_leaf-requires
-merge_child-merge_leaf-requires g t c =
-    let f = g.F.Folder in
-    let h : PlainInherited = inherited_view c.args.from.now in
-    let cs : List PlainKeyed = map keyed_view c.args.kids.now in
-    let s : State = state f.files f.draft f.numbers f.faults c.args.folder.now c.args.cursor.now c.args.writer.now in
-    let p : State = state f.files f.draft f.numbers f.faults c.next.new.folder c.next.follows.lender-at-none c.args.writer.now in
-    let i = c.in_ok-label in
-    let read = nexts s p c.next.result i.field-0 i.was i.ensures.files i.ensures.draft refl i.ensures.numbers i.ensures.later i.ensures.reads c.next.follows.holds-at-none in
-    let goes = read.goes in
-    let a = c.in-Leaf in
-    let l = shown_label a.label in
-    let st : Stamp = shown_stamp a.stamp in
-    let shown : shown_item i.field-0 ≡ leaf_item l st = ap shown_item a.is in
-    let u : State = state f.files f.draft f.numbers f.faults c.begin_beside-in-Leaf.new.folder c.next.follows.lender-at-none c.begin_beside-in-Leaf.new.writer in
-    let b = c.in_ok-begun-in-Leaf in
-    let own : PlainInherited = inherited_view b.begun.own in
-    let o : Option PlainKeyed = option_map (λ k. keyed_view k.now) b.begun.kid in
-    let passes : Passes 0 s u None = leaf-read s p u i.field-0 l st shown read b.ensures.paid (b.ensures.passes c.next.follows.lender-at-none goes.within) in
-    let opens = b.ensures.begun in
-    record { within = goes.within; leaf = opens.leaf; number = beside-number h own l st cs b.ensures.own c.requires.number; kid = beside-shaped l cs o b.ensures.kid c.requires.ordered c.requires.shaped }
-
-pub merge_child-returns-in_err-merge_leaf-in-Leaf-clause-passes : goal.merge_child-returns-in_err-merge_leaf-in-Leaf-clause-passes
-merge_child-returns-in_err-merge_leaf-in-Leaf-clause-passes g t c =
-    let f = g.F.Folder in
-    let s : State = state f.files f.draft f.numbers f.faults c.args.folder.now c.args.cursor.now c.args.writer.now in
-    let p : State = state f.files f.draft f.numbers f.faults c.next.new.folder c.next.follows.lender-at-none c.args.writer.now in
-    let i = c.in_ok-label in
-    let read = nexts s p c.next.result i.field-0 i.was i.ensures.files i.ensures.draft refl i.ensures.numbers i.ensures.later i.ensures.reads c.next.follows.holds-at-none in
-    let goes = read.goes in
-    let a = c.in-Leaf in
-    let l = shown_label a.label in
-    let st : Stamp = shown_stamp a.stamp in
-    let shown : shown_item i.field-0 ≡ leaf_item l st = ap shown_item a.is in
-    let u : State = state f.files f.draft f.numbers f.faults c.begin_beside-in-Leaf.new.folder c.next.follows.lender-at-none c.begin_beside-in-Leaf.new.writer in
-    let b = c.in_ok-begun-in-Leaf in
-    let passes : Passes 0 s u None = leaf-read s p u i.field-0 l st shown read b.ensures.paid (b.ensures.passes c.next.follows.lender-at-none goes.within) in
-    let v : State = state f.files f.draft f.numbers f.faults c.merge_leaf.new.folder c.merge_leaf.new.cursor c.merge_leaf.new.writer in
-    passes-err s v c.from_residual-in_err-merge_leaf-in-Leaf.result c.in_err-merge_leaf-in-Leaf.field-0.0 _ c.from_residual-in_err-merge_leaf-in-Leaf.ensures.1 (passes-then s u v (Some c.in_err-merge_leaf-in-Leaf.field-0.0) 0 0 0 (omega arith) passes c.in_err-merge_leaf-in-Leaf.ensures.passes)
-
-pub merge_child-returns-in_err-merge_leaf-in-Leaf-clause-node : goal.merge_child-returns-in_err-merge_leaf-in-Leaf-clause-node
-merge_child-returns-in_err-merge_leaf-in-Leaf-clause-node g t c =
-    let f = g.F.Folder in
-    let h : PlainInherited = inherited_view c.args.from.now in
-    let cs : List PlainKeyed = map keyed_view c.args.kids.now in
-    let s : State = state f.files f.draft f.numbers f.faults c.args.folder.now c.args.cursor.now c.args.writer.now in
-    let p : State = state f.files f.draft f.numbers f.faults c.next.new.folder c.next.follows.lender-at-none c.args.writer.now in
-    let i = c.in_ok-label in
-    let read = nexts s p c.next.result i.field-0 i.was i.ensures.files i.ensures.draft refl i.ensures.numbers i.ensures.later i.ensures.reads c.next.follows.holds-at-none in
-    let goes = read.goes in
-    let a = c.in-Leaf in
-    let l = shown_label a.label in
-    let st : Stamp = shown_stamp a.stamp in
-    let shown : shown_item i.field-0 ≡ leaf_item l st = ap shown_item a.is in
-    let u : State = state f.files f.draft f.numbers f.faults c.begin_beside-in-Leaf.new.folder c.next.follows.lender-at-none c.begin_beside-in-Leaf.new.writer in
-    let b = c.in_ok-begun-in-Leaf in
-    let own : PlainInherited = inherited_view b.begun.own in
-    let o : Option PlainKeyed = option_map (λ k. keyed_view k.now) b.begun.kid in
-    let passes : Passes 0 s u None = leaf-read s p u i.field-0 l st shown read b.ensures.paid (b.ensures.passes c.next.follows.lender-at-none goes.within) in
-    let v : State = state f.files f.draft f.numbers f.faults c.merge_leaf.new.folder c.merge_leaf.new.cursor c.merge_leaf.new.writer in
-    meets-err h cs s v c.from_residual-in_err-merge_leaf-in-Leaf.result c.in_err-merge_leaf-in-Leaf.field-0.0 c.from_residual-in_err-merge_leaf-in-Leaf.ensures.1 (leaf-met h cs s p u i.field-0 l st read v own o (Some c.in_err-merge_leaf-in-Leaf.field-0.0) b.ensures.own b.ensures.kid shown (b.ensures.sends c.next.follows.lender-at-none goes.within) passes c.in_err-merge_leaf-in-Leaf.ensures.inside)
-
-pub merge_child-returns-in_err-merge_leaf-in-Leaf-clause-end : goal.merge_child-returns-in_err-merge_leaf-in-Leaf-clause-end
-merge_child-returns-in_err-merge_leaf-in-Leaf-clause-end g t c =
-    let f = g.F.Folder in
-    let h : PlainInherited = inherited_view c.args.from.now in
-    let cs : List PlainKeyed = map keyed_view c.args.kids.now in
-    let s : State = state f.files f.draft f.numbers f.faults c.args.folder.now c.args.cursor.now c.args.writer.now in
-    let p : State = state f.files f.draft f.numbers f.faults c.next.new.folder c.next.follows.lender-at-none c.args.writer.now in
-    let i = c.in_ok-label in
-    let read = nexts s p c.next.result i.field-0 i.was i.ensures.files i.ensures.draft refl i.ensures.numbers i.ensures.later i.ensures.reads c.next.follows.holds-at-none in
-    let goes = read.goes in
-    let a = c.in-Leaf in
-    let l = shown_label a.label in
-    let st : Stamp = shown_stamp a.stamp in
-    let shown : shown_item i.field-0 ≡ leaf_item l st = ap shown_item a.is in
-    let u : State = state f.files f.draft f.numbers f.faults c.begin_beside-in-Leaf.new.folder c.next.follows.lender-at-none c.begin_beside-in-Leaf.new.writer in
-    let v : State = state f.files f.draft f.numbers f.faults c.merge_leaf.new.folder c.merge_leaf.new.cursor c.merge_leaf.new.writer in
-    meets-no-end h cs s p i.field-0 c.from_residual-in_err-merge_leaf-in-Leaf.result v (λ n is. (let same = sym shown ∙ is in absurd cc)) read
-
-pub merge_child-returns-in_ok-merge_leaf-in-Leaf-clause-passes : goal.merge_child-returns-in_ok-merge_leaf-in-Leaf-clause-passes
-merge_child-returns-in_ok-merge_leaf-in-Leaf-clause-passes g t c =
-    let f = g.F.Folder in
-    let s : State = state f.files f.draft f.numbers f.faults c.args.folder.now c.args.cursor.now c.args.writer.now in
-    let p : State = state f.files f.draft f.numbers f.faults c.next.new.folder c.next.follows.lender-at-none c.args.writer.now in
-    let i = c.in_ok-label in
-    let read = nexts s p c.next.result i.field-0 i.was i.ensures.files i.ensures.draft refl i.ensures.numbers i.ensures.later i.ensures.reads c.next.follows.holds-at-none in
-    let goes = read.goes in
-    let a = c.in-Leaf in
-    let l = shown_label a.label in
-    let st : Stamp = shown_stamp a.stamp in
-    let shown : shown_item i.field-0 ≡ leaf_item l st = ap shown_item a.is in
-    let u : State = state f.files f.draft f.numbers f.faults c.begin_beside-in-Leaf.new.folder c.next.follows.lender-at-none c.begin_beside-in-Leaf.new.writer in
-    let b = c.in_ok-begun-in-Leaf in
-    let passes : Passes 0 s u None = leaf-read s p u i.field-0 l st shown read b.ensures.paid (b.ensures.passes c.next.follows.lender-at-none goes.within) in
-    let v : State = state f.files f.draft f.numbers f.faults c.merge_leaf.new.folder c.merge_leaf.new.cursor c.merge_leaf.new.writer in
-    passes-then s u v None 0 0 0 (omega arith) passes c.in_ok-merge_leaf-in-Leaf.ensures.passes
-
-pub merge_child-returns-in_ok-merge_leaf-in-Leaf-clause-rests : goal.merge_child-returns-in_ok-merge_leaf-in-Leaf-clause-rests
-merge_child-returns-in_ok-merge_leaf-in-Leaf-clause-rests g t c =
-    let f = g.F.Folder in
-    let p : State = state f.files f.draft f.numbers f.faults c.next.new.folder c.next.follows.lender-at-none c.args.writer.now in
-    let u : State = state f.files f.draft f.numbers f.faults c.begin_beside-in-Leaf.new.folder c.next.follows.lender-at-none c.begin_beside-in-Leaf.new.writer in
-    let b = c.in_ok-begun-in-Leaf in
-    let v : State = state f.files f.draft f.numbers f.faults c.merge_leaf.new.folder c.merge_leaf.new.cursor c.merge_leaf.new.writer in
-    leaf-closed p.writer u.writer v.writer b.ensures.begun c.in_ok-merge_leaf-in-Leaf.ensures.rests
-
-pub merge_child-returns-in_ok-merge_leaf-in-Leaf-clause-node : goal.merge_child-returns-in_ok-merge_leaf-in-Leaf-clause-node
-merge_child-returns-in_ok-merge_leaf-in-Leaf-clause-node g t c =
-    let f = g.F.Folder in
-    let h : PlainInherited = inherited_view c.args.from.now in
-    let cs : List PlainKeyed = map keyed_view c.args.kids.now in
-    let s : State = state f.files f.draft f.numbers f.faults c.args.folder.now c.args.cursor.now c.args.writer.now in
-    let p : State = state f.files f.draft f.numbers f.faults c.next.new.folder c.next.follows.lender-at-none c.args.writer.now in
-    let i = c.in_ok-label in
-    let read = nexts s p c.next.result i.field-0 i.was i.ensures.files i.ensures.draft refl i.ensures.numbers i.ensures.later i.ensures.reads c.next.follows.holds-at-none in
-    let goes = read.goes in
-    let a = c.in-Leaf in
-    let l = shown_label a.label in
-    let st : Stamp = shown_stamp a.stamp in
-    let shown : shown_item i.field-0 ≡ leaf_item l st = ap shown_item a.is in
-    let u : State = state f.files f.draft f.numbers f.faults c.begin_beside-in-Leaf.new.folder c.next.follows.lender-at-none c.begin_beside-in-Leaf.new.writer in
-    let b = c.in_ok-begun-in-Leaf in
-    let own : PlainInherited = inherited_view b.begun.own in
-    let o : Option PlainKeyed = option_map (λ k. keyed_view k.now) b.begun.kid in
-    let passes : Passes 0 s u None = leaf-read s p u i.field-0 l st shown read b.ensures.paid (b.ensures.passes c.next.follows.lender-at-none goes.within) in
-    let v : State = state f.files f.draft f.numbers f.faults c.merge_leaf.new.folder c.merge_leaf.new.cursor c.merge_leaf.new.writer in
-    leaf-meets h cs s p u i.field-0 l st read v b.begun.taken shown b.ensures.left (leaf-met h cs s p u i.field-0 l st read v own o (None) b.ensures.own b.ensures.kid shown (b.ensures.sends c.next.follows.lender-at-none goes.within) passes c.in_ok-merge_leaf-in-Leaf.ensures.inside)
-
-pub merge_child-returns-in_ok-merge_leaf-in-Leaf-clause-end : goal.merge_child-returns-in_ok-merge_leaf-in-Leaf-clause-end
-merge_child-returns-in_ok-merge_leaf-in-Leaf-clause-end g t c =
-    let f = g.F.Folder in
-    let h : PlainInherited = inherited_view c.args.from.now in
-    let cs : List PlainKeyed = map keyed_view c.args.kids.now in
-    let s : State = state f.files f.draft f.numbers f.faults c.args.folder.now c.args.cursor.now c.args.writer.now in
-    let p : State = state f.files f.draft f.numbers f.faults c.next.new.folder c.next.follows.lender-at-none c.args.writer.now in
-    let i = c.in_ok-label in
-    let read = nexts s p c.next.result i.field-0 i.was i.ensures.files i.ensures.draft refl i.ensures.numbers i.ensures.later i.ensures.reads c.next.follows.holds-at-none in
-    let goes = read.goes in
-    let a = c.in-Leaf in
-    let l = shown_label a.label in
-    let st : Stamp = shown_stamp a.stamp in
-    let shown : shown_item i.field-0 ≡ leaf_item l st = ap shown_item a.is in
-    let u : State = state f.files f.draft f.numbers f.faults c.begin_beside-in-Leaf.new.folder c.next.follows.lender-at-none c.begin_beside-in-Leaf.new.writer in
-    let v : State = state f.files f.draft f.numbers f.faults c.merge_leaf.new.folder c.merge_leaf.new.cursor c.merge_leaf.new.writer in
-    let b = c.in_ok-begun-in-Leaf in
-    meets-no-end h cs s p i.field-0 (Ok (Some b.begun.taken)) v (λ n is. (let same = sym shown ∙ is in absurd cc)) read
-
-pub merge_child-returns-in_ok-merge_leaf-in-Leaf-clause-within : goal.merge_child-returns-in_ok-merge_leaf-in-Leaf-clause-within
-merge_child-returns-in_ok-merge_leaf-in-Leaf-clause-within g t c =
-    let b = c.in_ok-begun-in-Leaf in
-    let left = b.ensures.left in
-    let few = left.within in
-    omega (arith, few, length-map c.args.kids.now keyed_view)
-
-pub merge_child-returns-in_err-put_started-in-End-clause-passes : goal.merge_child-returns-in_err-put_started-in-End-clause-passes
-merge_child-returns-in_err-put_started-in-End-clause-passes g t c =
-    let f = g.F.Folder in
-    let h : PlainInherited = inherited_view c.args.from.now in
-    let cs : List PlainKeyed = map keyed_view c.args.kids.now in
-    let s : State = state f.files f.draft f.numbers f.faults c.args.folder.now c.args.cursor.now c.args.writer.now in
-    let p : State = state f.files f.draft f.numbers f.faults c.next.new.folder c.next.follows.lender-at-none c.args.writer.now in
-    let i = c.in_ok-label in
-    let read = nexts s p c.next.result i.field-0 i.was i.ensures.files i.ensures.draft refl i.ensures.numbers i.ensures.later i.ensures.reads c.next.follows.holds-at-none in
-    let goes = read.goes in
-    let a = c.in-End in
-    let shown = ap shown_item a.is in
-    let u : State = state f.files f.draft f.numbers f.faults c.put_started.new.folder c.next.follows.lender-at-none c.put_started.new.writer in
-    let sent = c.in_err-put_started-in-End.ensures.sends c.next.follows.lender-at-none goes.within in
-    passes-err s u c.from_residual-in_err-put_started-in-End.result c.in_err-put_started-in-End.field-0.0 _ c.from_residual-in_err-put_started-in-End.ensures.1 (gave-fails s p u i.field-0 c.in_err-put_started-in-End.field-0.0 read sent.passes)
-
-pub merge_child-returns-in_err-put_started-in-End-clause-node : goal.merge_child-returns-in_err-put_started-in-End-clause-node
-merge_child-returns-in_err-put_started-in-End-clause-node g t c =
-    let f = g.F.Folder in
-    let h : PlainInherited = inherited_view c.args.from.now in
-    let cs : List PlainKeyed = map keyed_view c.args.kids.now in
-    let s : State = state f.files f.draft f.numbers f.faults c.args.folder.now c.args.cursor.now c.args.writer.now in
-    let p : State = state f.files f.draft f.numbers f.faults c.next.new.folder c.next.follows.lender-at-none c.args.writer.now in
-    let i = c.in_ok-label in
-    let read = nexts s p c.next.result i.field-0 i.was i.ensures.files i.ensures.draft refl i.ensures.numbers i.ensures.later i.ensures.reads c.next.follows.holds-at-none in
-    let goes = read.goes in
-    let a = c.in-End in
-    let shown = ap shown_item a.is in
-    let u : State = state f.files f.draft f.numbers f.faults c.put_started.new.folder c.next.follows.lender-at-none c.put_started.new.writer in
-    meets-no-node h cs s p i.field-0 c.from_residual-in_err-put_started-in-End.result u (λ l z is. (let same = sym shown ∙ is in absurd cc)) (λ l z is. (let same = sym shown ∙ is in absurd cc)) read
-
-pub merge_child-returns-in_err-put_started-in-End-clause-end : goal.merge_child-returns-in_err-put_started-in-End-clause-end
-merge_child-returns-in_err-put_started-in-End-clause-end g t c =
-    let f = g.F.Folder in
-    let h : PlainInherited = inherited_view c.args.from.now in
-    let cs : List PlainKeyed = map keyed_view c.args.kids.now in
-    let s : State = state f.files f.draft f.numbers f.faults c.args.folder.now c.args.cursor.now c.args.writer.now in
-    let p : State = state f.files f.draft f.numbers f.faults c.next.new.folder c.next.follows.lender-at-none c.args.writer.now in
-    let i = c.in_ok-label in
-    let read = nexts s p c.next.result i.field-0 i.was i.ensures.files i.ensures.draft refl i.ensures.numbers i.ensures.later i.ensures.reads c.next.follows.holds-at-none in
-    let goes = read.goes in
-    let a = c.in-End in
-    let shown = ap shown_item a.is in
-    let u : State = state f.files f.draft f.numbers f.faults c.put_started.new.folder c.next.follows.lender-at-none c.put_started.new.writer in
-    let sent = c.in_err-put_started-in-End.ensures.sends c.next.follows.lender-at-none goes.within in
-    ends-err h cs s u c.from_residual-in_err-put_started-in-End.result c.in_err-put_started-in-End.field-0.0 c.from_residual-in_err-put_started-in-End.ensures.1 (ends-sent h cs s p u i.field-0 (Some c.in_err-put_started-in-End.field-0.0) read sent)
-
-pub merge_child-returns-in_ok-put_started-in-End-clause-passes : goal.merge_child-returns-in_ok-put_started-in-End-clause-passes
-merge_child-returns-in_ok-put_started-in-End-clause-passes g t c =
-    let f = g.F.Folder in
-    let h : PlainInherited = inherited_view c.args.from.now in
-    let cs : List PlainKeyed = map keyed_view c.args.kids.now in
-    let s : State = state f.files f.draft f.numbers f.faults c.args.folder.now c.args.cursor.now c.args.writer.now in
-    let p : State = state f.files f.draft f.numbers f.faults c.next.new.folder c.next.follows.lender-at-none c.args.writer.now in
-    let i = c.in_ok-label in
-    let read = nexts s p c.next.result i.field-0 i.was i.ensures.files i.ensures.draft refl i.ensures.numbers i.ensures.later i.ensures.reads c.next.follows.holds-at-none in
-    let goes = read.goes in
-    let a = c.in-End in
-    let shown = ap shown_item a.is in
-    let u : State = state f.files f.draft f.numbers f.faults c.put_started.new.folder c.next.follows.lender-at-none c.put_started.new.writer in
-    let sent = c.in_ok-put_started-in-End.ensures.sends c.next.follows.lender-at-none goes.within in
-    end-read s p u i.field-0 a.length (row_calls h.now (rest_of h.number h.before cs)) shown read sent
-
-pub merge_child-returns-in_ok-put_started-in-End-clause-rests : goal.merge_child-returns-in_ok-put_started-in-End-clause-rests
-merge_child-returns-in_ok-put_started-in-End-clause-rests g t c =
-    let f = g.F.Folder in
-    let h : PlainInherited = inherited_view c.args.from.now in
-    let cs : List PlainKeyed = map keyed_view c.args.kids.now in
-    let s : State = state f.files f.draft f.numbers f.faults c.args.folder.now c.args.cursor.now c.args.writer.now in
-    let p : State = state f.files f.draft f.numbers f.faults c.next.new.folder c.next.follows.lender-at-none c.args.writer.now in
-    let i = c.in_ok-label in
-    let read = nexts s p c.next.result i.field-0 i.was i.ensures.files i.ensures.draft refl i.ensures.numbers i.ensures.later i.ensures.reads c.next.follows.holds-at-none in
-    let goes = read.goes in
-    let a = c.in-End in
-    let shown = ap shown_item a.is in
-    let u : State = state f.files f.draft f.numbers f.faults c.put_started.new.folder c.next.follows.lender-at-none c.put_started.new.writer in
-    let sent = c.in_ok-put_started-in-End.ensures.sends c.next.follows.lender-at-none goes.within in
-    row-sent p u h.now (rest_of h.number h.before cs) c.requires.no_leaf sent
-
-pub merge_child-returns-in_ok-put_started-in-End-clause-node : goal.merge_child-returns-in_ok-put_started-in-End-clause-node
-merge_child-returns-in_ok-put_started-in-End-clause-node g t c =
-    let f = g.F.Folder in
-    let h : PlainInherited = inherited_view c.args.from.now in
-    let cs : List PlainKeyed = map keyed_view c.args.kids.now in
-    let s : State = state f.files f.draft f.numbers f.faults c.args.folder.now c.args.cursor.now c.args.writer.now in
-    let p : State = state f.files f.draft f.numbers f.faults c.next.new.folder c.next.follows.lender-at-none c.args.writer.now in
-    let i = c.in_ok-label in
-    let read = nexts s p c.next.result i.field-0 i.was i.ensures.files i.ensures.draft refl i.ensures.numbers i.ensures.later i.ensures.reads c.next.follows.holds-at-none in
-    let goes = read.goes in
-    let a = c.in-End in
-    let shown = ap shown_item a.is in
-    let u : State = state f.files f.draft f.numbers f.faults c.put_started.new.folder c.next.follows.lender-at-none c.put_started.new.writer in
-    meets-no-node h cs s p i.field-0 (Ok None) u (λ l z is. (let same = sym shown ∙ is in absurd cc)) (λ l z is. (let same = sym shown ∙ is in absurd cc)) read
-
-pub merge_child-returns-in_ok-put_started-in-End-clause-end : goal.merge_child-returns-in_ok-put_started-in-End-clause-end
-merge_child-returns-in_ok-put_started-in-End-clause-end g t c =
-    let f = g.F.Folder in
-    let h : PlainInherited = inherited_view c.args.from.now in
-    let cs : List PlainKeyed = map keyed_view c.args.kids.now in
-    let s : State = state f.files f.draft f.numbers f.faults c.args.folder.now c.args.cursor.now c.args.writer.now in
-    let p : State = state f.files f.draft f.numbers f.faults c.next.new.folder c.next.follows.lender-at-none c.args.writer.now in
-    let i = c.in_ok-label in
-    let read = nexts s p c.next.result i.field-0 i.was i.ensures.files i.ensures.draft refl i.ensures.numbers i.ensures.later i.ensures.reads c.next.follows.holds-at-none in
-    let goes = read.goes in
-    let a = c.in-End in
-    let shown = ap shown_item a.is in
-    let u : State = state f.files f.draft f.numbers f.faults c.put_started.new.folder c.next.follows.lender-at-none c.put_started.new.writer in
-    let sent = c.in_ok-put_started-in-End.ensures.sends c.next.follows.lender-at-none goes.within in
-    λ w m next small comes. (refl, ends-sent h cs s p u i.field-0 None read sent w m next small comes)
-
-pub merge_child-returns-in_default-clause-node : goal.merge_child-returns-in_default-clause-node
-merge_child-returns-in_default-clause-node g t c =
-    let f = g.F.Folder in
-    let h : PlainInherited = inherited_view c.args.from.now in
-    let cs : List PlainKeyed = map keyed_view c.args.kids.now in
-    let s : State = state f.files f.draft f.numbers f.faults c.args.folder.now c.args.cursor.now c.args.writer.now in
-    let p : State = state f.files f.draft f.numbers f.faults c.next.new.folder c.next.follows.lender-at-none c.args.writer.now in
-    let i = c.in_ok-label in
-    let read = nexts s p c.next.result i.field-0 i.was i.ensures.files i.ensures.draft refl i.ensures.numbers i.ensures.later i.ensures.reads c.next.follows.holds-at-none in
-    let goes = read.goes in
-    meets-no-node h cs s p i.field-0 (Err Damage) p (not-inner i.field-0 c.in_default.not-Inner) (not-leaf i.field-0 c.in_default.not-Leaf) read
-
-pub merge_child-returns-in_default-clause-end : goal.merge_child-returns-in_default-clause-end
-merge_child-returns-in_default-clause-end g t c =
-    let f = g.F.Folder in
-    let h : PlainInherited = inherited_view c.args.from.now in
-    let cs : List PlainKeyed = map keyed_view c.args.kids.now in
-    let s : State = state f.files f.draft f.numbers f.faults c.args.folder.now c.args.cursor.now c.args.writer.now in
-    let p : State = state f.files f.draft f.numbers f.faults c.next.new.folder c.next.follows.lender-at-none c.args.writer.now in
-    let i = c.in_ok-label in
-    let read = nexts s p c.next.result i.field-0 i.was i.ensures.files i.ensures.draft refl i.ensures.numbers i.ensures.later i.ensures.reads c.next.follows.holds-at-none in
-    let goes = read.goes in
-    meets-no-end h cs s p i.field-0 (Err Damage) p (not-closing i.field-0 c.in_default.not-End) read
-
-pub merge_inner-returns-in_err-merge_row-in-Inner-clause-inside : goal.merge_inner-returns-in_err-merge_row-in-Inner-clause-inside
-merge_inner-returns-in_err-merge_row-in-Inner-clause-inside g t c =
-    let f = g.F.Folder in
-    let own : PlainInherited = inherited_view c.args.begun.now.own in
-    let o : Option PlainKeyed = option_map (λ k. keyed_view k.now) c.args.begun.now.kid in
-    let s : State = state f.files f.draft f.numbers f.faults c.args.folder.now c.args.cursor.now c.args.writer.now in
-    let k = c.in-Inner in
-    let cs : List PlainKeyed = map keyed_view k.kids.items in
-    let kid : o ≡ Some (inner (label_view k.label) (kids_from cs)) = ap (option_map (λ k. keyed_view k.now)) c.in-Some.is ∙ ap Some (ap keyed_view k.is ∙ keyed_view-Inner k.label k.kids) in
-    let same : map keyed_view c.deref.result.now ≡ cs = ap (map keyed_view) c.deref.ensures.value in
-    let m : State = state f.files f.draft f.numbers f.faults c.merge_row.new.folder c.merge_row.new.cursor c.merge_row.new.writer in
-    let e = c.in_err-merge_row-in-Inner in
-    let row : RowMerges own cs s m (Some e.field-0.0) = subst (λ (xs : List PlainKeyed). RowMerges own xs s m (Some e.field-0.0)) same e.ensures.row in
-    subst (λ (x : Option MergeFault). InsideMerges own o s m x) (sym (fault-from c.from_residual.result e.field-0.0 c.from_residual.ensures.1))
-    (inside-of own o (Some (inner (label_view k.label) (kids_from cs))) s m (Some e.field-0.0) kid (inside-fault own (label_view k.label) cs s m e.field-0.0 row))
-
-pub merge_inner-returns-in_err-end_inner-in-Inner-clause-inside : goal.merge_inner-returns-in_err-end_inner-in-Inner-clause-inside
-merge_inner-returns-in_err-end_inner-in-Inner-clause-inside g t c =
-    let f = g.F.Folder in
-    let own : PlainInherited = inherited_view c.args.begun.now.own in
-    let o : Option PlainKeyed = option_map (λ k. keyed_view k.now) c.args.begun.now.kid in
-    let s : State = state f.files f.draft f.numbers f.faults c.args.folder.now c.args.cursor.now c.args.writer.now in
-    let k = c.in-Inner in
-    let cs : List PlainKeyed = map keyed_view k.kids.items in
-    let kid : o ≡ Some (inner (label_view k.label) (kids_from cs)) = ap (option_map (λ k. keyed_view k.now)) c.in-Some.is ∙ ap Some (ap keyed_view k.is ∙ keyed_view-Inner k.label k.kids) in
-    let same : map keyed_view c.deref.result.now ≡ cs = ap (map keyed_view) c.deref.ensures.value in
-    let m : State = state f.files f.draft f.numbers f.faults c.merge_row.new.folder c.merge_row.new.cursor c.merge_row.new.writer in
-    let u : State = state f.files f.draft f.numbers f.faults c.end_inner.new.folder c.merge_row.new.cursor c.end_inner.new.self in
-    let e = c.in_err-end_inner-in-Inner in
-    let d = c.in_ok-merge_row-in-Inner in
-    let row : RowMerges own cs s m None = subst (λ (xs : List PlainKeyed). RowMerges own xs s m None) same d.ensures.row in
-    let before = d.ensures.passes in
-    let sent = call-sends f.files f.draft f.numbers f.faults c.merge_row.new.folder c.end_inner.new.folder c.merge_row.new.cursor c.merge_row.new.writer c.end_inner.new.self call_end_inner (Err e.field-0.0) (g.met.F.Folder.metered c.merge_row.new.folder) before.within e.ensures.folder e.ensures.after e.ensures.too_long in
-    subst (λ (x : Option MergeFault). InsideMerges own o s u x) (sym (fault-from c.from_residual-in_err-end_inner-in-Inner.result (of_writer e.field-0.0) c.from_residual-in_err-end_inner-in-Inner.ensures.1))
-    (inside-of own o (Some (inner (label_view k.label) (kids_from cs))) s u (Some (of_writer e.field-0.0)) kid (inside-closed own (label_view k.label) cs s m u (Some (of_writer e.field-0.0)) row sent))
-
-pub merge_inner-returns-in_ok-end_inner-in-Inner-clause-inside : goal.merge_inner-returns-in_ok-end_inner-in-Inner-clause-inside
-merge_inner-returns-in_ok-end_inner-in-Inner-clause-inside g t c =
-    let f = g.F.Folder in
-    let own : PlainInherited = inherited_view c.args.begun.now.own in
-    let o : Option PlainKeyed = option_map (λ k. keyed_view k.now) c.args.begun.now.kid in
-    let s : State = state f.files f.draft f.numbers f.faults c.args.folder.now c.args.cursor.now c.args.writer.now in
-    let k = c.in-Inner in
-    let cs : List PlainKeyed = map keyed_view k.kids.items in
-    let kid : o ≡ Some (inner (label_view k.label) (kids_from cs)) = ap (option_map (λ k. keyed_view k.now)) c.in-Some.is ∙ ap Some (ap keyed_view k.is ∙ keyed_view-Inner k.label k.kids) in
-    let same : map keyed_view c.deref.result.now ≡ cs = ap (map keyed_view) c.deref.ensures.value in
-    let m : State = state f.files f.draft f.numbers f.faults c.merge_row.new.folder c.merge_row.new.cursor c.merge_row.new.writer in
-    let u : State = state f.files f.draft f.numbers f.faults c.end_inner.new.folder c.merge_row.new.cursor c.end_inner.new.self in
-    let e = c.in_ok-end_inner-in-Inner in
-    let d = c.in_ok-merge_row-in-Inner in
-    let row : RowMerges own cs s m None = subst (λ (xs : List PlainKeyed). RowMerges own xs s m None) same d.ensures.row in
-    let before = d.ensures.passes in
-    let sent = call-sends f.files f.draft f.numbers f.faults c.merge_row.new.folder c.end_inner.new.folder c.merge_row.new.cursor c.merge_row.new.writer c.end_inner.new.self call_end_inner (Ok e.field-0) (g.met.F.Folder.metered c.merge_row.new.folder) before.within e.ensures.folder e.ensures.after e.ensures.too_long in
-    inside-of own o (Some (inner (label_view k.label) (kids_from cs))) s u None kid (inside-closed own (label_view k.label) cs s m u None row sent)
-
-pub merge_inner-returns-in-None-clause-inside : goal.merge_inner-returns-in-None-clause-inside
-merge_inner-returns-in-None-clause-inside g t c =
-    let f = g.F.Folder in
-    let own : PlainInherited = inherited_view c.args.begun.now.own in
-    let o : Option PlainKeyed = option_map (λ k. keyed_view k.now) c.args.begun.now.kid in
-    let s : State = state f.files f.draft f.numbers f.faults c.args.folder.now c.args.cursor.now c.args.writer.now in
-    let k = c.in-None in
-    let none : o ≡ None = ap (option_map (λ k. keyed_view k.now)) k.is in
-    let v : State = state f.files f.draft f.numbers f.faults c.copy_inner.new.folder c.copy_inner.new.cursor c.copy_inner.new.writer in
-    inside-of own o None s v (fault_of c.copy_inner.result) none (inside-alone own s v (fault_of c.copy_inner.result) (c.requires.alone none) c.copy_inner.ensures.inside)
-
-pub merge_row-loop-taken-init : goal.merge_row-loop-taken-init
-merge_row-loop-taken-init g t c =
-    let f = g.F.Folder in
-    let h : PlainInherited = inherited_view c.args.from.now in
-    let cs : List PlainKeyed = map keyed_view c.args.kids.now in
-    let s : State = state f.files f.draft f.numbers f.faults c.args.folder.now c.args.cursor.now c.args.writer.now in
-    merge-start h cs s c.requires.within c.requires.no_leaf
-
-pub merge_row-merge_child-requires : goal.merge_row-merge_child-requires
-merge_row-merge_child-requires g t c κs within =
-    let f = g.F.Folder in
-    let h : PlainInherited = inherited_view c.args.from.now in
-    let cs : List PlainKeyed = map keyed_view c.args.kids.now in
-    let s : State = state f.files f.draft f.numbers f.faults c.args.folder.now c.args.cursor.now c.args.writer.now in
-    let l = c.loop-taken in
-    let on = l.invariant in
-    let p : State = state f.files f.draft f.numbers f.faults l.folder l.cursor l.writer in
-    let left = kids-left keyed_view l.done c.args.kids.now in
-    let passes = on.passes in
-    let rests = on.rests in
-    let onward = passes.onward in
-    let same = passes.same_length in
-    let less : 3 * (l.cursor.length - l.cursor.at) < t = omega (arith, onward, same, c.decreases) in (
+    let l = shown_label k.1 in
+    let st = shown_stamp k.2 in
+    let began = b.ensures.begins d goes.within in
+    let known = b.ensures.begun in
+    let smaller = opening-smaller k.0 (g.F.Folder.files c.args.folder.now) c.args.cursor.now d c.in_ok-label.field-0 l st (opens g t here.Joined-branch-2) goes in
+    let less : 4 * (d.length - d.at) + 3 < t = omega (arith, smaller, c.decreases) in (
       less,
       (
         within,
         (
-          passes.within,
+          goes.within,
           (
-            rests.no_leaf,
+            begun-open k.0 (writer_view c.args.writer.now) (writer_view c.begin_beside.new.writer) began.begins,
+            (
+              begun-number h l st cs kid b.begun.taken own known c.requires.number,
+              (begun-kid h l st cs kid b.begun.taken own known c.requires.ordered c.requires.shaped, begun-alone h l st cs kid b.begun.taken own known),
+            ),
+          ),
+        ),
+      ),
+    )
+
+pub merge_child-returns-in_err-merge_begun : goal.merge_child-returns-in_err-merge_begun
+merge_child-returns-in_err-merge_begun g t c =
+    let h : PlainInherited = inherited_view c.args.from.now in
+    let cs : List PlainKeyed = map keyed_view c.args.kids.now in
+    let d : PlainCursor = c.next.follows.lender-at-none in
+    let s = at g c.args.folder.now c.args.cursor.now c.args.writer.now in
+    let p = at g c.next.new.folder d c.args.writer.now in
+    let u = at g c.begin_beside.new.folder d c.begin_beside.new.writer in
+    let here = goal.at.merge_child-returns-in_err-merge_begun g t c in
+    let gave = read g t here.In_ok-label in
+    let goes = gave.goes in
+    let k = c.match-branch-2.kind in
+    let b = c.in_ok-begun in
+    let kid : Option PlainKeyed = option_map (λ k. keyed_view k.now) b.begun.kid in
+    let own : PlainInherited = inherited_view b.begun.own in
+    let v = at g c.merge_begun.new.folder c.merge_begun.new.cursor c.merge_begun.new.writer in
+    let e = c.in_err-merge_begun in
+    let r = c.from_residual-in_err-merge_begun in
+    at-err r.result e.field-0.0 r.ensures.1 (ChildMerged h cs s v)
+    (child-unmerged h cs (shown_label k.1) (shown_stamp k.2) k.0 s p u c.in_ok-label.field-0 gave (opens g t here.Joined-branch-2) b.begun v (b.ensures.begins d goes.within) kid b.begun.taken own b.ensures.begun e.field-0.0 e.ensures)
+
+pub merge_child-returns : goal.merge_child-returns
+merge_child-returns g t c =
+    let h : PlainInherited = inherited_view c.args.from.now in
+    let cs : List PlainKeyed = map keyed_view c.args.kids.now in
+    let d : PlainCursor = c.next.follows.lender-at-none in
+    let s = at g c.args.folder.now c.args.cursor.now c.args.writer.now in
+    let p = at g c.next.new.folder d c.args.writer.now in
+    let u = at g c.begin_beside.new.folder d c.begin_beside.new.writer in
+    let here = goal.at.merge_child-returns g t c in
+    let gave = read g t here.In_ok-label in
+    let goes = gave.goes in
+    let k = c.match-branch-2.kind in
+    let b = c.in_ok-begun in
+    let kid : Option PlainKeyed = option_map (λ k. keyed_view k.now) b.begun.kid in
+    let own : PlainInherited = inherited_view b.begun.own in
+    let v = at g c.merge_begun.new.folder c.merge_begun.new.cursor c.merge_begun.new.writer in
+    child-merged h cs (shown_label k.1) (shown_stamp k.2) k.0 s p u c.in_ok-label.field-0 gave (opens g t here.Joined-branch-2) b.begun v (b.ensures.begins d goes.within) kid b.begun.taken own b.ensures.begun c.in_ok-merge_begun.ensures
+
+-- ---- the inside of a node
+
+pub merge_begun-merge_inner-requires : goal.merge_begun-merge_inner-requires
+merge_begun-merge_inner-requires g t c κs within =
+    let r = c.requires in
+    let stands = subst (λ (k : Kind). IsOpen k (writer_view c.args.writer.now)) c.in-Inner.is r.stands in
+    let less : 4 * (c.args.cursor.now.length - c.args.cursor.now.at) + 2 < t = omega (arith, c.decreases) in
+    (less, (within, (r.within, (stands.0, (stands.1, (r.number, (r.kid, r.alone)))))))
+
+pub merge_begun-merge_leaf-requires : goal.merge_begun-merge_leaf-requires
+merge_begun-merge_leaf-requires g t c =
+    let r = c.requires in
+    record { within = r.within; leaf = subst (λ (k : Kind). IsOpen k (writer_view c.args.writer.now)) c.in-Leaf.is r.stands; number = r.number; kid = kid-shaped (option_map (λ k. keyed_view k.now) c.args.begun.kid) r.kid }
+
+pub merge_begun-returns-in-Inner : goal.merge_begun-returns-in-Inner
+merge_begun-returns-in-Inner g t c =
+    let s = at g c.args.folder.now c.args.cursor.now c.args.writer.now in
+    let v = at g c.merge_inner.new.folder c.merge_inner.new.cursor c.merge_inner.new.writer in
+    subst (λ (k : Kind). BegunMerged k (inherited_view c.args.begun.own) (option_map (λ k. keyed_view k.now) c.args.begun.kid) s v (fault_of c.merge_inner.result)) (sym c.in-Inner.is) c.merge_inner.ensures
+
+pub merge_begun-returns : goal.merge_begun-returns
+merge_begun-returns g t c =
+    let s = at g c.args.folder.now c.args.cursor.now c.args.writer.now in
+    let v = at g c.merge_leaf.new.folder c.merge_leaf.new.cursor c.merge_leaf.new.writer in
+    subst (λ (k : Kind). BegunMerged k (inherited_view c.args.begun.own) (option_map (λ k. keyed_view k.now) c.args.begun.kid) s v (fault_of c.merge_leaf.result)) (sym c.in-Leaf.is) c.merge_leaf.ensures
+
+-- ---- the inside of an inner node
+
+pub merge_inner-returns-in_err-merge_row-in-Inner : goal.merge_inner-returns-in_err-merge_row-in-Inner
+merge_inner-returns-in_err-merge_row-in-Inner g t c =
+    let own : PlainInherited = inherited_view c.args.begun.now.own in
+    let o : Option PlainKeyed = option_map (λ k. keyed_view k.now) c.args.begun.now.kid in
+    let s = at g c.args.folder.now c.args.cursor.now c.args.writer.now in
+    let k = c.in-Inner in
+    let cs : List PlainKeyed = map keyed_view k.kids.items in
+    let is : o ≡ Some (inner (label_view k.label) (kids_from cs)) = ap (option_map (λ k. keyed_view k.now)) c.in-Some.is ∙ ap Some (ap keyed_view k.is ∙ keyed_view-Inner k.label k.kids) in
+    let m = at g c.merge_row.new.folder c.merge_row.new.cursor c.merge_row.new.writer in
+    let e = c.in_err-merge_row-in-Inner in
+    at-err c.from_residual.result e.field-0.0 c.from_residual.ensures.1 (λ r. InsideMerged own o s m (fault_of r)) (inside-row-fails own o (label_view k.label) (map keyed_view c.deref.result.now) cs s m is (ap (map keyed_view) c.deref.ensures.value) e.field-0.0 e.ensures)
+
+pub merge_inner-returns-in_ok-merge_row-in-Inner : goal.merge_inner-returns-in_ok-merge_row-in-Inner
+merge_inner-returns-in_ok-merge_row-in-Inner g t c =
+    let own : PlainInherited = inherited_view c.args.begun.now.own in
+    let o : Option PlainKeyed = option_map (λ k. keyed_view k.now) c.args.begun.now.kid in
+    let s = at g c.args.folder.now c.args.cursor.now c.args.writer.now in
+    let k = c.in-Inner in
+    let cs : List PlainKeyed = map keyed_view k.kids.items in
+    let is : o ≡ Some (inner (label_view k.label) (kids_from cs)) = ap (option_map (λ k. keyed_view k.now)) c.in-Some.is ∙ ap Some (ap keyed_view k.is ∙ keyed_view-Inner k.label k.kids) in
+    let m = at g c.merge_row.new.folder c.merge_row.new.cursor c.merge_row.new.writer in
+    let u = at g c.end_inner.new.folder c.merge_row.new.cursor c.end_inner.new.self in
+    let row = c.in_ok-merge_row-in-Inner.ensures in
+    let before = row.passes in
+    let f = g.F.Folder in
+    let e = c.end_inner.ensures in
+    subst (λ (x : Option MergeFault). InsideMerged own o s u x) (called c.end_inner.result c.written.result c.written.ensures)
+    (inside-row-closed own o (label_view k.label) (map keyed_view c.deref.result.now) cs s m is (ap (map keyed_view) c.deref.ensures.value) u (written c.end_inner.result) c.requires.begun row
+    (call-sends f.files f.draft f.numbers f.faults c.merge_row.new.folder c.end_inner.new.folder c.merge_row.new.cursor c.merge_row.new.writer c.end_inner.new.self call_end_inner c.end_inner.result (g.met.F.Folder.metered c.merge_row.new.folder) before.within e.folder e.after e.too_long))
+
+pub merge_inner-returns-in-Leaf : goal.merge_inner-returns-in-Leaf
+merge_inner-returns-in-Leaf g t c =
+    let o : Option PlainKeyed = option_map (λ k. keyed_view k.now) c.args.begun.now.kid in
+    let s = at g c.args.folder.now c.args.cursor.now c.args.writer.now in
+    let k = c.in-Leaf in
+    let is : o ≡ Some (leaf (label_view k.label) (key_view k.body)) = ap (option_map (λ k. keyed_view k.now)) c.in-Some.is ∙ ap Some (ap keyed_view k.is ∙ keyed_view-Leaf k.label k.body) in
+    inside-misfit (inherited_view c.args.begun.now.own) o (label_view k.label) (key_view k.body) s is (g.met.F.Folder.metered c.args.folder.now) c.requires.within
+
+pub merge_inner-returns-in-None : goal.merge_inner-returns-in-None
+merge_inner-returns-in-None g t c =
+    let own : PlainInherited = inherited_view c.args.begun.now.own in
+    let o : Option PlainKeyed = option_map (λ k. keyed_view k.now) c.args.begun.now.kid in
+    let s = at g c.args.folder.now c.args.cursor.now c.args.writer.now in
+    let v = at g c.copy_inner.new.folder c.copy_inner.new.cursor c.copy_inner.new.writer in
+    let none : o ≡ None = ap (option_map (λ k. keyed_view k.now)) c.in-None.is in
+    inside-alone own o s v (fault_of c.copy_inner.result) none (c.requires.alone none) c.copy_inner.ensures
+
+-- ---- a row
+
+pub merge_row-loop-taken-init : goal.merge_row-loop-taken-init
+merge_row-loop-taken-init g t c = merge-start (inherited_view c.args.from.now) (map keyed_view c.args.kids.now) (at g c.args.folder.now c.args.cursor.now c.args.writer.now) c.requires.within c.requires.no_leaf
+
+pub merge_row-merge_child-requires : goal.merge_row-merge_child-requires
+merge_row-merge_child-requires g t c κs within =
+    let cs : List PlainKeyed = map keyed_view c.args.kids.now in
+    let l = c.loop-taken in
+    let on = l.invariant in
+    let left = kids-left keyed_view l.done c.args.kids.now in
+    let onward = on.onward in
+    let same = on.same_length in
+    let less : 4 * (l.cursor.length - l.cursor.at) < t = omega (arith, onward, same, c.decreases) in (
+      less,
+      (
+        within,
+        (
+          on.within,
+          (
+            on.no_leaf,
             (
               c.requires.number,
               (
@@ -711,54 +296,36 @@ merge_row-merge_child-requires g t c κs within =
 
 pub merge_row-loop-taken-preserved : goal.merge_row-loop-taken-preserved
 merge_row-loop-taken-preserved g t c =
-    let f = g.F.Folder in
     let h : PlainInherited = inherited_view c.args.from.now in
     let cs : List PlainKeyed = map keyed_view c.args.kids.now in
-    let s : State = state f.files f.draft f.numbers f.faults c.args.folder.now c.args.cursor.now c.args.writer.now in
+    let s = at g c.args.folder.now c.args.cursor.now c.args.writer.now in
     let l = c.loop-taken in
-    let on = l.invariant in
-    let p : State = state f.files f.draft f.numbers f.faults l.folder l.cursor l.writer in
-    let left = kids-left keyed_view l.done c.args.kids.now in
-    let u : State = state f.files f.draft f.numbers f.faults c.merge_child.new.folder c.merge_child.new.cursor c.merge_child.new.writer in
+    let p = at g l.folder l.cursor l.writer in
+    let xs : List PlainKeyed = map keyed_view (take (length c.args.kids.now - l.done) (drop l.done c.args.kids.now)) in
+    let u = at g c.merge_child.new.folder c.merge_child.new.cursor c.merge_child.new.writer in
     let e = c.in_ok-taken in
-    let n = c.in-Some.taken in
-    let is = c.in-Some.is in
-    let few = subst (λ (z : Option ℕ). IfSome z (λ taken. taken ≤ length (take (length c.args.kids.now - l.done) (drop l.done c.args.kids.now)))) is e.ensures.within in
-    let passes : Passes 0 p u None = subst (λ (z : Option ℕ). Passes (unpaid_with (Ok z)) p u None) is e.ensures.passes in
-    let node_ : MeetsNode h (drop l.done cs) p u (Ok (Some n)) = subst (λ (xs : List PlainKeyed). MeetsNode h xs p u (Ok (Some n))) left (subst (λ (z : Option ℕ). MeetsNode h (map keyed_view (take (length c.args.kids.now - l.done) (drop l.done c.args.kids.now))) p u (Ok z)) is e.ensures.node) in
-    let end_ : MeetsEnd h (drop l.done cs) p u (Ok (Some n)) = subst (λ (xs : List PlainKeyed). MeetsEnd h xs p u (Ok (Some n))) left (subst (λ (z : Option ℕ). MeetsEnd h (map keyed_view (take (length c.args.kids.now - l.done) (drop l.done c.args.kids.now))) p u (Ok z)) is e.ensures.end) in
-    let small : n ≤ length (drop l.done cs) = omega (arith, few, ap length left, length-map (take (length c.args.kids.now - l.done) (drop l.done c.args.kids.now)) keyed_view) in
-    merge-more h cs l.done n s p u c.requires.ascending small on passes e.ensures.rests node_ end_
+    merge-more h cs xs l.done s p u c.requires.ascending l.invariant (kids-left keyed_view l.done c.args.kids.now) e.field-0 c.in-Some.taken c.in-Some.is e.ensures
 
-pub merge_row-returns-clause-row : goal.merge_row-returns-clause-row
-merge_row-returns-clause-row g t c =
-    let f = g.F.Folder in
+pub merge_row-returns : goal.merge_row-returns
+merge_row-returns g t c =
     let h : PlainInherited = inherited_view c.args.from.now in
     let cs : List PlainKeyed = map keyed_view c.args.kids.now in
-    let s : State = state f.files f.draft f.numbers f.faults c.args.folder.now c.args.cursor.now c.args.writer.now in
+    let s = at g c.args.folder.now c.args.cursor.now c.args.writer.now in
     let l = c.loop-taken in
-    let on = l.invariant in
-    let p : State = state f.files f.draft f.numbers f.faults l.folder l.cursor l.writer in
-    let left = kids-left keyed_view l.done c.args.kids.now in
-    let u : State = state f.files f.draft f.numbers f.faults c.merge_child.new.folder c.merge_child.new.cursor c.merge_child.new.writer in
+    let p = at g l.folder l.cursor l.writer in
+    let xs : List PlainKeyed = map keyed_view (take (length c.args.kids.now - l.done) (drop l.done c.args.kids.now)) in
+    let u = at g c.merge_child.new.folder c.merge_child.new.cursor c.merge_child.new.writer in
     let e = c.in_ok-taken in
-    let is = c.in_default.is in
-    let node_ : MeetsNode h (drop l.done cs) p u (Ok None) = subst (λ (xs : List PlainKeyed). MeetsNode h xs p u (Ok None)) left (subst (λ (z : Option ℕ). MeetsNode h (map keyed_view (take (length c.args.kids.now - l.done) (drop l.done c.args.kids.now))) p u (Ok z)) is e.ensures.node) in
-    let end_ : MeetsEnd h (drop l.done cs) p u (Ok None) = subst (λ (xs : List PlainKeyed). MeetsEnd h xs p u (Ok None)) left (subst (λ (z : Option ℕ). MeetsEnd h (map keyed_view (take (length c.args.kids.now - l.done) (drop l.done c.args.kids.now))) p u (Ok z)) is e.ensures.end) in
-    merge-done h cs l.done s p u c.requires.ascending on node_ end_
+    merge-done h cs xs l.done s p u c.requires.ascending l.invariant (kids-left keyed_view l.done c.args.kids.now) e.field-0 c.in_default.is e.ensures
 
-pub merge_row-returns-in_err-taken-clause-row : goal.merge_row-returns-in_err-taken-clause-row
-merge_row-returns-in_err-taken-clause-row g t c =
-    let f = g.F.Folder in
+pub merge_row-returns-in_err-taken : goal.merge_row-returns-in_err-taken
+merge_row-returns-in_err-taken g t c =
     let h : PlainInherited = inherited_view c.args.from.now in
     let cs : List PlainKeyed = map keyed_view c.args.kids.now in
-    let s : State = state f.files f.draft f.numbers f.faults c.args.folder.now c.args.cursor.now c.args.writer.now in
+    let s = at g c.args.folder.now c.args.cursor.now c.args.writer.now in
     let l = c.loop-taken in
-    let on = l.invariant in
-    let p : State = state f.files f.draft f.numbers f.faults l.folder l.cursor l.writer in
-    let left = kids-left keyed_view l.done c.args.kids.now in
-    let u : State = state f.files f.draft f.numbers f.faults c.merge_child.new.folder c.merge_child.new.cursor c.merge_child.new.writer in
+    let p = at g l.folder l.cursor l.writer in
+    let xs : List PlainKeyed = map keyed_view (take (length c.args.kids.now - l.done) (drop l.done c.args.kids.now)) in
+    let u = at g c.merge_child.new.folder c.merge_child.new.cursor c.merge_child.new.writer in
     let e = c.in_err-taken in
-    let node_ : MeetsNode h (drop l.done cs) p u (Err e.field-0.0) = subst (λ (xs : List PlainKeyed). MeetsNode h xs p u (Err e.field-0.0)) left e.ensures.node in
-    let end_ : MeetsEnd h (drop l.done cs) p u (Err e.field-0.0) = subst (λ (xs : List PlainKeyed). MeetsEnd h xs p u (Err e.field-0.0)) left e.ensures.end in
-    subst (λ (o : Option MergeFault). RowMerges h cs s u o) (sym (fault-from c.from_residual.result e.field-0.0 c.from_residual.ensures.1)) (merge-fault h cs l.done s p u e.field-0.0 c.requires.ascending on node_ end_)
+    at-err c.from_residual.result e.field-0.0 c.from_residual.ensures.1 (λ r. RowMerged h cs s u (fault_of r)) (merge-fault h cs xs l.done s p u c.requires.ascending l.invariant (kids-left keyed_view l.done c.args.kids.now) e.field-0.0 e.ensures)

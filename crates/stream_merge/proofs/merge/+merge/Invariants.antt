@@ -6,13 +6,16 @@ use Rattle.stream_merge.proofs.MergedRows.{MergeOn}
 use Rattle.stream_merge.proofs.merge.+merge.Given as goal
 
 abbrev pub decreases-merge_child : goal.decreases-merge_child
-decreases-merge_child g l = 3 * (l.cursor.now.length - l.cursor.now.at)
+decreases-merge_child g l = 4 * (l.cursor.now.length - l.cursor.now.at)
 
 abbrev pub decreases-merge_row : goal.decreases-merge_row
-decreases-merge_row g l = 3 * (l.cursor.now.length - l.cursor.now.at) + 1
+decreases-merge_row g l = 4 * (l.cursor.now.length - l.cursor.now.at) + 1
+
+abbrev pub decreases-merge_begun : goal.decreases-merge_begun
+decreases-merge_begun g l = 4 * (l.cursor.now.length - l.cursor.now.at) + 3
 
 abbrev pub decreases-merge_inner : goal.decreases-merge_inner
-decreases-merge_inner g l = 3 * (l.cursor.now.length - l.cursor.now.at) + 2
+decreases-merge_inner g l = 4 * (l.cursor.now.length - l.cursor.now.at) + 2
 
 -- so many nodes were merged with so many kids
 abbrev pub invariant-merge_row-loop-taken : goal.invariant-merge_row-loop-taken
