@@ -1,1 +1,2 @@
 pub mod MergedLemmas
+mod FrontLemmas

@@ -1,10 +1,12 @@
 -- The archive that a file holds.
-use Rattle.std.specs.Prelude.{◌≡◌, ◌⊎◌, ℕ, List, [], Option, Some, None, Result, Ok, Err}
+use Rattle.std.specs.Prelude.{◌≡◌, ◌⊎◌, ℕ, List, [], length, drop, Option, Some, None, Result, Ok, Err}
 use Rattle.std.specs.FinMap as map
 use Rattle.xa_outside.specs.Folder.{Files}
 use Rattle.key_spec.specs.Data.{PlainRule}
 use Rattle.keyed_tree.specs.Data.{PlainKeyed}
+use Rattle.record_cursor.specs.View.{PlainHeader}
 use Rattle.record_format.specs.Files.{FileOf}
+use Rattle.record_format.specs.Fronts.{header_at}
 use Rattle.archive_file.specs.Sound.{SoundAs}
 use Rattle.xarch_words.specs.Refusal.{Refusal, no_file, exists, archive, limit, PlainFault, refused}
 use Rattle.xarch_parts.specs.Outcome.{Outcome}
@@ -14,6 +16,13 @@ pub record ArchiveIs (files : Files) (name : List ℕ) (rules : List PlainRule) 
   pub bytes : List ℕ
   pub there : map.get files name ≡ Some bytes
   pub sound : SoundAs rules vs bytes
+
+-- the header stands in front of the file of this name, whose length it knows
+pub record IsFrontOf (files : Files) (name : List ℕ) (h : PlainHeader) : Type 0 where
+  pub bytes : List ℕ
+  pub there : map.get files name ≡ Some bytes
+  pub long : h.length ≡ length bytes
+  pub is : header_at bytes ≡ Some ((h.rules, h.versions), drop h.first bytes)
 
 -- where the draft is told, it is empty
 abbrev pub IsBlank : Option (List ℕ) → Type 0

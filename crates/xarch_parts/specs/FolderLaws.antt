@@ -2,15 +2,15 @@
 use Rattle.std.proofs.Common.{◌≡◌, ◌⊎◌, inl, inr, ℕ, ◌+◌, ◌≤◌, List, [], ◌++◌, length, Option, Some, None, IsSome, option_map, Result, Ok, Err, refl, sym, ap, ◌∙◌, subst, arith}
 use Rattle.std.specs.Result.{IsErrAnd}
 use Rattle.xa_outside.specs.Folder.{Drafts, Files, committed, emptied}
-use Rattle.xa_outside.specs.Numbers.{Numbers, IsMeter, PullsAtMost, after_begin, after_draft, after_pull}
-use Rattle.xa_outside.specs.NumberLaws.{PullsAtMost-none, PullsAtMost-more, PullsAtMost-trans, after_draft-none, after_draft-twice}
+use Rattle.xa_outside.specs.Numbers.{Numbers, IsMeter, PullsAtMost, PullsAndDrafts, after_begin, after_draft, after_pull}
+use Rattle.xa_outside.specs.NumberLaws.{PullsAtMost-none, PullsAtMost-more, PullsAtMost-trans, PullsAndDrafts-of_pulls, PullsAndDrafts-more, PullsAndDrafts-trans, after_draft-none, after_draft-twice}
 use Rattle.xa_outside.specs.CauseLaws.{Rose-later}
 use Rattle.xarch_words.specs.Refusal.{PlainFault, refused, folder_fault, out_fault, in_fault, memory}
 use Rattle.xarch_words.specs.View.{fault_view}
 use Rattle.xarch_words.specs.declared.fault.Fault.{Fault}
 use Rattle.xarch_parts.specs.Archives.{IsBlank}
 use Rattle.xarch_parts.specs.Ends.{fault_of, IsInside, IsOfFolder, IsOfOutput, IsOfCommand, IsCaused}
-use Rattle.xarch_parts.specs.Folders.{ReadsOnly, Begins, WritesOnly, Keeps, IsTold}
+use Rattle.xarch_parts.specs.Folders.{ReadsOnly, Begins, WritesOnly, Streams, Counts, CountsInTurn, Keeps, IsTold}
 use Rattle.xarch_parts.specs.Inputs.{size_in}
 use Rattle.xarch_parts.specs.EndLaws.{IsOfFolder-inside, IsOfFolder-later, IsOfCommand-inside, IsOfCommand-folder, IsOfCommand-output}
 
@@ -150,7 +150,7 @@ module _ {S : Type 0} {files : S → Option Files} {draft : S → Option (List �
   writes-passed a b (Err g) f h p = subst (λ (z : Fault). WritesOnly files draft numbers a b (Some (fault_view z))) (sym h) p
 
   -- a command that has done nothing
-  pub keeps-none : (name : List ℕ) (most : ℕ) (a : S) (w : Option PlainFault) → Keeps files draft numbers (Some name) most a a w
+  pub keeps-none : (name : List ℕ) (most : ℕ) (a : S) (w : Option PlainFault) → Keeps files draft numbers (Some name) (Counts (Some name) most) a a w
   keeps-none name most a w = record { refused = λ _. refl; same_files = λ _. refl; same_draft = λ _. refl; untold = λ e. e; draft_untold = λ e. e; told = λ t. t; counts = inl refl }
 
 module _ {S : Type 0} {files : S → Option Files} {draft : S → Option (List ℕ)} {numbers : S → Numbers} {faults : S → ℕ} where
@@ -198,7 +198,7 @@ module _ {S : Type 0} {files : S → Option Files} {draft : S → Option (List �
 
   -- ---- commands that only read
 
-  pub keeps-read : (most : ℕ) (a b : S) (v w : Option PlainFault) → ReadsOnly files draft numbers faults most a b v → Keeps files draft numbers None most a b w
+  pub keeps-read : (most : ℕ) (a b : S) (v w : Option PlainFault) → ReadsOnly files draft numbers faults most a b v → Keeps files draft numbers None (Counts None most) a b w
   keeps-read most a b v w p = record {
     refused = λ _. p.same_files;
     same_files = λ _. p.same_files;
@@ -219,7 +219,7 @@ module _ {S : Type 0} {files : S → Option Files} {draft : S → Option (List �
 
   module _ (name : List ℕ) (most : ℕ) where
     -- its begin failed
-    pub keeps-not_begun : (a b : S) (v w : Option PlainFault) → IsSome v → Begins files draft numbers faults a b v → Keeps files draft numbers (Some name) most a b w
+    pub keeps-not_begun : (a b : S) (v w : Option PlainFault) → IsSome v → Begins files draft numbers faults a b v → Keeps files draft numbers (Some name) (Counts (Some name) most) a b w
     keeps-not_begun a b v w failed p = record {
       refused = λ _. p.same_files;
       same_files = λ _. p.same_files;
@@ -231,7 +231,7 @@ module _ {S : Type 0} {files : S → Option Files} {draft : S → Option (List �
     }
 
     -- it read, and drafted nothing yet
-    pub keeps-begun : (a b c : S) (v w : Option PlainFault) → Begins files draft numbers faults a b None → ReadsOnly files draft numbers faults most b c v → Keeps files draft numbers (Some name) most a c w
+    pub keeps-begun : (a b c : S) (v w : Option PlainFault) → Begins files draft numbers faults a b None → ReadsOnly files draft numbers faults most b c v → Keeps files draft numbers (Some name) (Counts (Some name) most) a c w
     keeps-begun a b c v w p q =
         let begun : numbers c ≡ after_pull (after_begin (numbers a)) q.pulls.count = q.pulls.pulled ∙ ap (λ m. after_pull m q.pulls.count) (p.begun refl) in
         record {
@@ -246,7 +246,7 @@ module _ {S : Type 0} {files : S → Option Files} {draft : S → Option (List �
 
     -- it made its file, or failed when that was drafted
     pub keeps-made : (a b c d : S) (v : Option PlainFault) → Begins files draft numbers faults a b None → ReadsOnly files draft numbers faults most b c None → WritesOnly files draft numbers c d v
-        → Keeps files draft numbers (Some name) most a d v
+        → Keeps files draft numbers (Some name) (Counts (Some name) most) a d v
     keeps-made a b c d v p q w = record {
       refused = λ some. w.refused some ∙ q.same_files ∙ p.same_files;
       same_files = λ e. cc;
@@ -260,6 +260,42 @@ module _ {S : Type 0} {files : S → Option Files} {draft : S → Option (List �
         within = q.pulls.within;
         is = w.counted ∙ ap (λ m. after_draft m w.drafted) (q.pulls.pulled ∙ ap (λ m. after_pull m q.pulls.count) (p.begun refl));
       });
+    }
+
+  -- ---- commands that go over a file while they make the next
+
+  module _ (name : List ℕ) (most : ℕ) where
+    -- its begin failed
+    pub streams-not_begun : (a b : S) (v w : Option PlainFault) → IsSome v → Begins files draft numbers faults a b v → Keeps files draft numbers (Some name) (CountsInTurn most) a b w
+    streams-not_begun a b v w failed p =
+        let k = keeps-not_begun name most a b v w failed p in
+        record { refused = k.refused; same_files = k.same_files; same_draft = k.same_draft; untold = k.untold; draft_untold = k.draft_untold; told = k.told; counts = inl (p.failed failed) }
+
+    -- it read, and drafted nothing yet
+    pub streams-begun : (a b c : S) (v w : Option PlainFault) → Begins files draft numbers faults a b None → ReadsOnly files draft numbers faults most b c v → Keeps files draft numbers (Some name) (CountsInTurn most) a c w
+    streams-begun a b c v w p q =
+        let k = keeps-begun name most a b c v w p q in
+        record {
+          refused = k.refused;
+          same_files = k.same_files;
+          same_draft = k.same_draft;
+          untold = k.untold;
+          draft_untold = k.draft_untold;
+          told = k.told;
+          counts = inr (subst (λ m. PullsAndDrafts most m (numbers c)) (p.begun refl) (PullsAndDrafts-of_pulls most _ _ q.pulls));
+        }
+
+    -- it read, and then read and drafted in turn
+    pub streams-made : (n k : ℕ) (a b c d : S) (v : Option PlainFault) → n + k ≤ most → Begins files draft numbers faults a b None → ReadsOnly files draft numbers faults n b c None → Streams files draft numbers k c d v
+        → Keeps files draft numbers (Some name) (CountsInTurn most) a d v
+    streams-made n k a b c d v fits p q w = record {
+      refused = λ some. w.refused some ∙ q.same_files ∙ p.same_files;
+      same_files = λ e. cc;
+      same_draft = λ e. cc;
+      untold = λ e. w.untold (q.same_files ∙ p.same_files ∙ e);
+      draft_untold = λ e. w.draft_untold (q.same_draft ∙ p.draft_untold e);
+      told = λ t. w.told (read_told _ _ _ _ q.same_files q.same_draft (begin_told _ _ _ _ p.same_files p.draft_told t));
+      counts = inr (subst (λ m. PullsAndDrafts most m (numbers d)) (p.begun refl) (PullsAndDrafts-more (n + k) most _ _ fits (PullsAndDrafts-trans n k _ _ _ (PullsAndDrafts-of_pulls n _ _ q.pulls) w.counted)));
     }
 
   pub caused-begin : (a b : S) (v : Option PlainFault) (p : ℕ) → Begins files draft numbers faults a b v → IsCaused (faults a) (faults b) p p v

@@ -2,7 +2,7 @@
 -- stand first in each definition.
 use Rattle.std.specs.Prelude.{◌≡◌, ◌⊎◌, ◌≤◌, ℕ, List, Option, Some, None, IsSome}
 use Rattle.xa_outside.specs.Folder.{Files}
-use Rattle.xa_outside.specs.Numbers.{Numbers, PullsAtMost, after_begin, after_draft, after_pull}
+use Rattle.xa_outside.specs.Numbers.{Numbers, PullsAtMost, PullsAndDrafts, after_begin, after_draft, after_pull}
 use Rattle.xarch_words.specs.Refusal.{PlainFault}
 use Rattle.xarch_parts.specs.Archives.{IsBlank}
 use Rattle.xarch_parts.specs.Ends.{IsOfFolder}
@@ -42,6 +42,16 @@ pub record WritesOnly {S : Type 0} (files : S → Option Files) (draft : S → O
   pub drafted : ℕ
   pub counted : numbers new ≡ after_draft (numbers old) drafted
 
+-- It is read from and written to in turn: at most so many bytes are pulled, others are drafted, and the draft may become a file, which is the last
+-- thing that can fail.
+pub record Streams {S : Type 0} (files : S → Option Files) (draft : S → Option (List ℕ)) (numbers : S → Numbers)
+    (most : ℕ) (old new : S) (ended : Option PlainFault) : Type 0 where
+  pub refused : IsSome ended → files new ≡ files old
+  pub untold : files old ≡ None → files new ≡ None
+  pub draft_untold : draft old ≡ None → draft new ≡ None
+  pub told : IsTold (files old) (draft old) → IsTold (files new) (draft new)
+  pub counted : PullsAndDrafts most (numbers old) (numbers new)
+
 -- at most so many bytes are pulled, and then some are drafted
 pub record PullsThenDrafts (most : ℕ) (old new : Numbers) : Type 0 where
   pub pulled : ℕ
@@ -55,13 +65,17 @@ abbrev pub Counts : Option (List ℕ) → ℕ → Numbers → Numbers → Type 0
 Counts None most old new = PullsAtMost most old new
 Counts (Some name) most old new = (new ≡ old) ⊎ PullsThenDrafts most (after_begin old) new
 
--- What a command does that makes the file of this name, or none.
+-- One that goes over a file while it makes the next begins its draft once, before it reads, and then reads and drafts in turn; or nothing is begun.
+abbrev pub CountsInTurn : ℕ → Numbers → Numbers → Type 0
+CountsInTurn most old new = (new ≡ old) ⊎ PullsAndDrafts most (after_begin old) new
+
+-- What a command does that makes the file of this name, or none, and that pulls and drafts as said.
 pub record Keeps {S : Type 0} (files : S → Option Files) (draft : S → Option (List ℕ)) (numbers : S → Numbers)
-    (made : Option (List ℕ)) (most : ℕ) (old new : S) (ended : Option PlainFault) : Type 0 where
+    (made : Option (List ℕ)) (counting : Numbers → Numbers → Type 0) (old new : S) (ended : Option PlainFault) : Type 0 where
   pub refused : IsSome ended → files new ≡ files old
   pub same_files : made ≡ None → files new ≡ files old
   pub same_draft : made ≡ None → draft new ≡ draft old
   pub untold : files old ≡ None → files new ≡ None
   pub draft_untold : draft old ≡ None → draft new ≡ None
   pub told : IsTold (files old) (draft old) → IsTold (files new) (draft new)
-  pub counts : Counts made most (numbers old) (numbers new)
+  pub counts : counting (numbers old) (numbers new)

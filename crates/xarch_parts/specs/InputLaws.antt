@@ -1,8 +1,10 @@
 -- The length of an input file, before its bytes are read.
-use Rattle.std.proofs.Common.{◌≡◌, ℕ, Bool, true, false, nat_le, List, length, take, Option, Some, None, Result, Ok, Err, if◌then◌else◌, sym, ap, ◌∙◌, subst}
+use Rattle.std.proofs.Common.{◌≡◌, ℕ, Bool, true, false, nat_le, List, length, take, Option, Some, None, Result, Ok, Err, if◌then◌else◌, refl, sym, ap, ◌∙◌, subst, arith}
 use Rattle.std.proofs.Math.Seq.{take-length}
-use Rattle.xa_outside.specs.Folder.{Files, bytes_or_none}
-use Rattle.xarch_words.specs.Refusal.{PlainQuantity, Refusal, limit, PlainFault, refused, folder_fault, out_fault, in_fault, memory}
+use Rattle.std.proofs.lemmas.Bool.{le-leb}
+use Rattle.std.specs.FinMap as map
+use Rattle.xa_outside.specs.Folder.{Files, bytes_or_none, front, front_of}
+use Rattle.xarch_words.specs.Refusal.{PlainQuantity, Refusal, no_file, limit, PlainFault, refused, folder_fault, out_fault, in_fault, memory}
 use Rattle.xarch_words.specs.declared.fault.Fault.{Fault}
 use Rattle.xarch_parts.specs.Ends.{IsDefined, Matches}
 use Rattle.xarch_parts.specs.Inputs.{at_most, file_length, file_of, length_in}
@@ -46,3 +48,20 @@ pub IsDefined-length : {C : Type 0} (x : Result (List ℕ) Refusal) (n : ℕ) (f
     → IsDefined (and_then x f) v
 IsDefined-length (Ok bytes) n f v h p = p bytes
 IsDefined-length (Err e) n f v h p = absurd cc
+
+-- ---- the length of a file
+
+length_there : (o : Option (List ℕ)) (name bytes : List ℕ) (n : ℕ) → o ≡ Some bytes → and_then (or_refuse o (no_file name)) (λ b. Ok (length b)) ≡ Ok n → n ≡ length bytes
+length_there None name bytes n e h = absurd cc
+length_there (Some b) name bytes n e h = let l : length b ≡ n = cc in let same : b ≡ bytes = cc in sym l ∙ ap length same
+
+pub length-is : (files : Files) (name bytes : List ℕ) (n : ℕ) → map.get files name ≡ Some bytes → file_length files name ≡ Ok n → n ≡ length bytes
+length-is files name bytes n there long = length_there (map.get files name) name bytes n there long
+
+-- all bytes are the front of as many
+front-all : (bytes : List ℕ) → front (length bytes) bytes ≡ Some bytes
+front-all bytes = let fits : nat_le (length bytes) (length bytes) ≡ true = le-leb (length bytes) (length bytes) (omega arith) in rw (fits, take-length bytes) refl
+
+-- a file is its own front, as far as it is long
+pub whole_front : (files : Files) (name bytes : List ℕ) (n : ℕ) → map.get files name ≡ Some bytes → n ≡ length bytes → front_of files name n ≡ Some bytes
+whole_front files name bytes n there long = ap (λ o. front n (bytes_or_none o)) there ∙ ap (λ k. front k bytes) long ∙ front-all bytes

@@ -7,7 +7,9 @@ use Rattle.key_spec.specs.Closed.{closed}
 use Rattle.key_spec.specs.Data.{PlainRule, PlainSpecFault}
 use Rattle.key_rules.specs.Faults.{PlainKeyFault, first_fault}
 use Rattle.key_annotate.specs.Annotated.{keyed_tree}
-use Rattle.xarch_words.specs.Refusal.{depth, Refusal, bad_spec, bad_json, bad_shape, key_fault, limit}
+use Rattle.record_format.specs.Fronts.{header}
+use Rattle.xarch_words.specs.Refusal.{depth, Refusal, bad_spec, bad_json, bad_shape, key_fault, damaged, limit}
+use Rattle.xarch_parts.specs.Outcome.{or_refuse}
 
 -- the value, or what its fault is refused as
 abbrev pub refused_as : {A E : Type 0} → (E → Refusal) → Result A E → Result A Refusal
@@ -38,3 +40,7 @@ unless_faulty (Some f) k = Err (key_fault f)
 -- the keyed tree of a document that satisfies the keys
 unfoldable pub keyed_of : List PlainRule → PlainTree → Result PlainKeyed Refusal
 keyed_of rules t = unless_faulty (first_fault rules t) (keyed_tree rules t)
+
+-- the rules and the number of versions that stand in front of the archive of this name
+abbrev pub front_in : List ℕ → List ℕ → Result (List PlainRule × ℕ) Refusal
+front_in name bytes = or_refuse (header bytes) (damaged name)

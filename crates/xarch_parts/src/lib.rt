@@ -3,6 +3,7 @@
 #![tactic(auto)]
 
 mod archives;
+mod fronts;
 mod inputs;
 mod limits;
 mod merged;
@@ -11,6 +12,7 @@ mod put;
 mod readings;
 
 pub use archives::{archive_from, begin, check_free, commit, draft, file_from, header_from, store};
+pub use fronts::read_front;
 pub use inputs::{at_most, length_of, limited_length, read_file, read_whole};
 pub use merged::file_of_versions;
 pub use names::damaged;
