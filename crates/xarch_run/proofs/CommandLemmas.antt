@@ -4,6 +4,7 @@ use Rattle.xa_outside.specs.Causes.{Rose}
 use Rattle.xa_outside.specs.Folder.{Files}
 use Rattle.xa_outside.specs.Numbers.{Numbers}
 use Rattle.xarch_words.specs.Commands.{PlainCommand, norm, init, add, get, history, stats, batch, demo}
+use Rattle.xarch_steps.specs.OnePass.{GoesOnce}
 use Rattle.xarch_steps.specs.Ran.{CountsAsSaid, OnlyReads}
 use Rattle.xarch_steps.specs.Step.{alone}
 use Rattle.xarch_steps.specs.Succeeds.{ShouldSucceed}
@@ -30,6 +31,20 @@ alone-counts (Some (history archive path)) told before after h = h
 alone-counts (Some (stats archive)) told before after h = h
 alone-counts (Some batch) told before after h = tt
 alone-counts (Some (demo seed count archive)) told before after h = h
+
+pub alone-once : (c : Option PlainCommand) (told : Option Files) (before after : Numbers) (failed : Type 0) → GoesOnce (alone c) told before after failed → GoesOnce c told before after failed
+alone-once None told before after failed h = tt
+alone-once (Some (norm spec doc)) told before after failed h = tt
+alone-once (Some (init archive spec)) told before after failed h = tt
+alone-once (Some (add archive doc)) told before after failed h = h
+alone-once (Some (get archive i)) told before after failed h = tt
+alone-once (Some (history archive path)) told before after failed h = tt
+alone-once (Some (stats archive)) told before after failed h = tt
+alone-once (Some batch) told before after failed h = tt
+alone-once (Some (demo seed count archive)) told before after failed h = tt
+
+pub batch-once : (c : Option PlainCommand) (told : Option Files) (before after : Numbers) (failed : Type 0) → c ≡ Some batch → GoesOnce c told before after failed
+batch-once c told before after failed e = subst (λ (d : Option PlainCommand). GoesOnce d told before after failed) (sym e) tt
 
 -- what is no command by itself is none, or a batch
 pub none-alone : (c : Option PlainCommand) → alone c ≡ None → ¬ (c ≡ Some batch) → c ≡ None

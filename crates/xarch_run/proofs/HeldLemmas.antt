@@ -303,7 +303,7 @@ module _ (files : Files) (name : List ℕ) (none : finite.get files name ≡ Non
   unfolding MayBe
   add-absent other doc e m =
       let none-here = subst (λ n. finite.get files n ≡ None) (same-name name other e) none in
-      let refused : add_input files other doc ≡ Err (no_file other) = absent files other _ none-here in
+      let refused : add_input files other doc ≡ Err (no_file other) = rw none-here refl in
       goes o (add_input files other doc) (λ _. MayAdd files other) (Ok o) refl m.whatever (λ p is _. absurd cc)
 
   one-absent : (command : PlainCommand) → ¬ MakesArchive name (Some command) → MayBe files command (Ok o) → StaysAbsent

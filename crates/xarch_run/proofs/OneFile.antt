@@ -92,7 +92,7 @@ module _ (files : Files) (name : List ℕ) (o : Outcome) where
 
     add-elsewhere : (other : List ℕ) → bytes_eq name other ≡ false → MayAdd files other r → Keeps
     add-elsewhere other e (inl q) = never o (damaged other) r is q
-    add-elsewhere other e (inr (inl q)) = never o (limit refusal.archive 274877906944) r is q.is
+    add-elsewhere other e (inr (inl q)) = never o (limit refusal.archive 274877906944) r is q
     add-elsewhere other e (inr (inr w)) = stored-elsewhere other w.bytes [] e w.is
 
     stores-elsewhere : (other : List ℕ) (rules : List PlainRule) (vs : List PlainKeyed) → bytes_eq name other ≡ false → Stores files other rules vs r → Keeps

@@ -10,6 +10,7 @@ ghost use Rattle.xarch_words.specs.View.{words_view};
 ghost use Rattle.xarch_parts.specs.Ends.{Gained};
 ghost use Rattle.xarch_parts.specs.Folders.{IsTold};
 ghost use Rattle.xarch_parts.specs.Outcome.{Step};
+ghost use Rattle.xarch_steps.specs.OnePass.{GoesOnce};
 ghost use Rattle.xarch_steps.specs.Plausible.{Tried, Wrote};
 ghost use Rattle.xarch_steps.specs.Ran.{CountsAsSaid, OnlyReads, Said, Says, outside_of};
 ghost use Rattle.xarch_steps.specs.Step.{StepIs};
@@ -27,8 +28,8 @@ use xarch_words::{Command, read_words};
 ///
 /// The words are those after the program's name. A batch takes its commands from the lines of
 /// `input`, which no other command reads. Every fault writes one line to `err`; a failure of `err`
-/// changes no status. Input files are read whole, each directly before the first step that judges
-/// its bytes.
+/// changes no status. Input files are read directly before the first step that judges their bytes:
+/// whole, but the archive of `add`, which is read record by record.
 pub fn run<F: Folder, S: Source, O: Sink, E: Sink>(
     alloc: Global,
     words: &[String],
@@ -127,9 +128,12 @@ pub fn run<F: Folder, S: Source, O: Sink, E: Sink>(
     ensures untold { F.files folder.old ≡ None → F.files folder.new ≡ None }
     ensures draft_untold { F.draft folder.old ≡ None → F.draft folder.new ≡ None }
 
-    // What is pulled and drafted, and that no count of faults falls.
+    // What is pulled and drafted: over a sound archive `add` goes once, and little of it is read
+    // that is not yet written. No count of faults falls.
     ensures counts { CountsAsSaid (command_of (words_view words.now)) (F.files folder.old)
         (F.numbers folder.old) (F.numbers folder.new) }
+    ensures one_pass { GoesOnce (command_of (words_view words.now)) (F.files folder.old)
+        (F.numbers folder.old) (F.numbers folder.new) (result ≡ 13) }
     ensures folder_later { F.faults folder.old ≤ F.faults folder.new }
     ensures input_later { S.faults input.old ≤ S.faults input.new }
     ensures out_later { O.faults out.old ≤ O.faults out.new }

@@ -1,74 +1,65 @@
 -- How the parts of `add` lead to its end.
-use Rattle.std.proofs.Common.{◌≡◌, ◌⊎◌, inl, inr, ℕ, List, [], ◌∷◌, ◌++◌, length, Option, Some, None, Result, Ok, Err, refl, sym, ap, ◌∙◌, subst}
+use Rattle.std.proofs.Common.{◌≡◌, ◌≢◌, ◌⊎◌, inl, inr, ℕ, ◌<◌, ◌≤◌, nat_lt, true, List, [], ◌∷◌, ◌++◌, length, Option, Some, None, Result, Ok, Err, refl, sym, ap, ◌∙◌, subst, arith}
+use Rattle.std.proofs.lemmas.Bool.{lt-ltb}
 use Rattle.std.specs.FinMap as map
 use Rattle.xa_outside.specs.Folder.{Files}
+use Rattle.xa_outside.specs.Taken.{Taken}
 use Rattle.jsonml_tree.specs.Data.{PlainTree}
 use Rattle.key_spec.specs.Data.{PlainRule}
 use Rattle.keyed_tree.specs.Data.{PlainKeyed}
 use Rattle.key_spec.specs.Canonical.{canonical}
 use Rattle.key_spec.specs.Closed.{closed}
+use Rattle.record_cursor.specs.View.{PlainHeader}
 use Rattle.record_format.specs.Files.{FileOf}
 use Rattle.record_format.specs.Fronts.{header}
 use Rattle.archive_file.specs.Sound.{SoundAs}
 use Rattle.xarch_words.specs.Commands.{add}
-use Rattle.xarch_words.specs.Refusal.{document, Refusal, no_file, damaged, PlainFault}
-use Rattle.xarch_steps.specs.Add.{added, added_behind, room_behind}
-use Rattle.xarch_steps.specs.Added.{IsOverlong, IsTooLong}
+use Rattle.xarch_words.specs.Refusal.{archive, document, versions, Refusal, no_file, damaged, limit, PlainFault, refused, folder_fault, out_fault, in_fault, memory}
+use Rattle.xarch_steps.specs.Add.{added, room_behind}
+use Rattle.xarch_steps.specs.Added.{AddEnds}
 use Rattle.xarch_parts.specs.Archives.{ArchiveIs, GoesOn, Stores}
-use Rattle.xarch_parts.specs.Ends.{IsDefined}
-use Rattle.xarch_parts.specs.Inputs.{file_of, length_in, read_in}
+use Rattle.xarch_parts.specs.Inputs.{length_in, read_in}
 use Rattle.xarch_parts.specs.Outcome.{Outcome, and_then, or_refuse}
-use Rattle.xarch_steps.specs.Plausible.{MayAdd, MayBe, add_input}
-use Rattle.xarch_parts.specs.Readings.{document_of, keyed_of}
-use Rattle.xarch_parts.specs.EndLaws.{IsDefined-here, and_then-Ok}
+use Rattle.xarch_parts.specs.Readings.{document_of, front_in, keyed_of}
+use Rattle.xarch_parts.specs.Allowed.{MayEnd}
+use Rattle.xarch_parts.specs.AllowedLaws.{MayEnd-did, MayEnd-stopped}
+use Rattle.xa_outside.specs.TakenLaws.{Takes-nil}
+use Rattle.xarch_steps.specs.Plausible.{MayAdd, MayBe, add_input, add_read, keyed_behind}
 
--- ---- the keyed tree of the document, with the bytes of the archive
+-- ---- the rules of the archive and the keyed tree of the document
 
-abbrev pub beside : List ℕ → Result PlainKeyed Refusal → Result (List ℕ × PlainKeyed) Refusal
-beside bytes x = and_then x (λ k. Ok (bytes, k))
+abbrev pub beside : List PlainRule × ℕ → Result PlainKeyed Refusal → Result ((List PlainRule × ℕ) × PlainKeyed) Refusal
+beside h x = and_then x (λ k. Ok (h, k))
 
-beside-last : (bytes : List ℕ) (z : Result PlainKeyed Refusal) (w : Result Unit Refusal) → and_then z (λ k. and_then w (λ _. Ok (bytes, k))) ≡ beside bytes (and_then z (λ k. and_then w (λ _. Ok k)))
-beside-last bytes (Err e) w = refl
-beside-last bytes (Ok k) (Err e) = refl
-beside-last bytes (Ok k) (Ok u) = refl
+beside-refused : (h : List PlainRule × ℕ) (x : Result PlainKeyed Refusal) (q : Refusal) → beside h x ≡ Err q → x ≡ Err q
+beside-refused h (Ok k) q e = absurd cc
+beside-refused h (Err r) q e = let same : r ≡ q = cc in ap (λ s. Err s) same
 
-beside-all : (bytes : List ℕ) (x : Result ℕ Refusal) (y : Result PlainTree Refusal) (z : PlainTree → Result PlainKeyed Refusal) (w : Result Unit Refusal)
-    → and_then x (λ _. and_then y (λ t. and_then (z t) (λ k. and_then w (λ _. Ok (bytes, k))))) ≡ beside bytes (and_then x (λ _. and_then y (λ t. and_then (z t) (λ k. and_then w (λ _. Ok k)))))
-beside-all bytes (Err e) y z w = refl
-beside-all bytes (Ok n) (Err e) z w = refl
-beside-all bytes (Ok n) (Ok t) z w = beside-last bytes (z t) w
+beside-given : (h g : List PlainRule × ℕ) (x : Result PlainKeyed Refusal) (k : PlainKeyed) → beside h x ≡ Ok (g, k) → (h ≡ g) × (x ≡ Ok k)
+beside-given h g (Ok j) k e = let same : (h, j) ≡ (g, k) = cc in (ap (λ (p : (List PlainRule × ℕ) × PlainKeyed). p.0) same, ap (λ (p : (List PlainRule × ℕ) × PlainKeyed). Ok p.1) same)
+beside-given h g (Err r) k e = absurd cc
 
--- the header first, and then the document
-beside-keyed : (bytes : List ℕ) (x : Result (List PlainRule × ℕ) Refusal) (y : Result PlainTree Refusal) (z : List PlainRule → PlainTree → Result PlainKeyed Refusal) (w : ℕ → Result Unit Refusal)
-    → and_then x (λ h. and_then y (λ t. and_then (z h.0 t) (λ k. and_then (w h.1) (λ _. Ok (bytes, k))))) ≡ beside bytes (and_then x (λ h. and_then y (λ t. and_then (z h.0 t) (λ k. and_then (w h.1) (λ _. Ok k)))))
-beside-keyed bytes (Err e) y z w = refl
-beside-keyed bytes (Ok h) (Err e) z w = refl
-beside-keyed bytes (Ok h) (Ok t) z w = beside-last bytes (z h.0 t) (w h.1)
+abbrev with_room : (List PlainRule × ℕ) × PlainKeyed → Result ((List PlainRule × ℕ) × PlainKeyed) Refusal
+with_room p = and_then (room_behind p.0.1) (λ _. Ok p)
 
-beside-refused : (bytes : List ℕ) (x : Result PlainKeyed Refusal) (q : Refusal) → beside bytes x ≡ Err q → x ≡ Err q
-beside-refused bytes (Ok k) q e = absurd cc
-beside-refused bytes (Err r) q e = let same : r ≡ q = cc in ap (λ s. Err s) same
+room-last : (h : List PlainRule × ℕ) (k : PlainKeyed) (w : Result Unit Refusal) → and_then w (λ _. Ok (h, k)) ≡ beside h (and_then w (λ _. Ok k))
+room-last h k (Ok u) = refl
+room-last h k (Err e) = refl
 
-beside-given : (bytes b : List ℕ) (x : Result PlainKeyed Refusal) (k : PlainKeyed) → beside bytes x ≡ Ok (b, k) → (bytes ≡ b) × (x ≡ Ok k)
-beside-given bytes b (Ok j) k e = let same : (bytes, j) ≡ (b, k) = cc in (ap (λ (p : List ℕ × PlainKeyed). p.0) same, ap (λ (p : List ℕ × PlainKeyed). Ok p.1) same)
-beside-given bytes b (Err r) k e = absurd cc
+-- the document behind a header, and room for it
+behind-room : (h : List PlainRule × ℕ) (y : Result PlainTree Refusal) (z : PlainTree → Result PlainKeyed Refusal)
+    → and_then (and_then y (λ t. and_then (z t) (λ k. Ok (h, k)))) with_room ≡ beside h (and_then y (λ t. and_then (z t) (λ k. and_then (room_behind h.1) (λ _. Ok k))))
+behind-room h (Err e) z = refl
+behind-room h (Ok t) z = of (z t)
+  where
+    of : (x : Result PlainKeyed Refusal) → and_then (and_then x (λ k. Ok (h, k))) with_room ≡ beside h (and_then x (λ k. and_then (room_behind h.1) (λ _. Ok k)))
+    of (Err e) = refl
+    of (Ok k) = room-last h k (room_behind h.1)
 
--- what is added behind the bytes of the archive
-module _ (files : Files) (name doc bytes : List ℕ) (n : ℕ) (there : file_of files name ≡ Ok bytes) (short : length_in files doc document 67108864 ≡ Ok n) where
-  pub input-behind : add_input files name doc ≡ beside bytes (added_behind files name doc bytes)
-  input-behind = and_then-Ok _ _ _ _ there (and_then-Ok _ _ _ _ short (beside-keyed bytes (or_refuse (header bytes) (damaged name)) (read_in files doc document_of) keyed_of room_behind))
-
-  pub input-refused : (v : PlainFault) → IsDefined (added_behind files name doc bytes) v → IsDefined (add_input files name doc) v
-  input-refused v p = subst (λ x. IsDefined x v) (sym input-behind) (IsDefined-here (added_behind files name doc bytes) (λ k. Ok (bytes, k)) v p)
-
--- the bytes that were read are those of the archive
-from_there : (x : Option (List ℕ)) (r : Refusal) (f : List ℕ → Result (List ℕ × PlainKeyed) Refusal) (bytes : List ℕ) (k : PlainKeyed) → ((b : List ℕ) → f b ≡ Ok (bytes, k) → b ≡ bytes) → and_then (or_refuse x r) f ≡ Ok (bytes, k) → x ≡ Some bytes
-from_there None r f bytes k only e = absurd cc
-from_there (Some b) r f bytes k only e = ap (λ (z : List ℕ). Some z) (only b e)
-
-beside-only : (b : List ℕ) (x : Result ℕ Refusal) (y : Result PlainKeyed Refusal) (bytes : List ℕ) (k : PlainKeyed) → and_then x (λ _. beside b y) ≡ Ok (bytes, k) → b ≡ bytes
-beside-only b (Err e) y bytes k h = absurd cc
-beside-only b (Ok n) y bytes k h = (beside-given b bytes y k h).0
+length-room : (h : List PlainRule × ℕ) (x : Result ℕ Refusal) (y : Result ((List PlainRule × ℕ) × PlainKeyed) Refusal) (z : Result PlainKeyed Refusal) → and_then y with_room ≡ beside h z
+    → and_then (and_then x (λ _. y)) with_room ≡ beside h (and_then x (λ _. z))
+length-room h (Err e) y z same = refl
+length-room h (Ok n) y z same = same
 
 -- ---- what may come
 
@@ -76,62 +67,88 @@ beside-only b (Ok n) y bytes k h = (beside-given b bytes y k h).0
 module _ (fronted : (rules : List PlainRule) (vs : List PlainKeyed) (bytes : List ℕ) → closed (canonical rules) ≡ Ok rules → FileOf rules vs bytes → header bytes ≡ Some (rules, length vs))
     (files : Files) (name doc : List ℕ) where
   -- over a sound archive the document is read by its rules
-  input_sound : (rules : List PlainRule) (vs : List PlainKeyed) (a : ArchiveIs files name rules vs) → add_input files name doc ≡ beside a.bytes (added files doc rules (length vs))
+  input_sound : (rules : List PlainRule) (vs : List PlainKeyed) (a : ArchiveIs files name rules vs) → add_input files name doc ≡ beside (rules, length vs) (added files doc rules (length vs))
   input_sound rules vs a =
-      let behind : List PlainRule × ℕ → Result (List ℕ × PlainKeyed) Refusal = λ h. and_then (read_in files doc document_of) (λ t. and_then (keyed_of h.0 t) (λ k. and_then (room_behind h.1) (λ _. Ok (a.bytes, k)))) in
-      ap (λ o. and_then (or_refuse o (no_file name)) (λ bytes.
+      let h : List PlainRule × ℕ = (rules, length vs) in
+      let front : front_in name a.bytes ≡ Ok h = ap (λ o. or_refuse o (damaged name)) (fronted rules vs a.bytes a.sound.specification a.sound.file) in
+      ap (λ o. and_then (and_then (and_then (or_refuse o (no_file name)) (λ bytes. Ok (length bytes))) (λ _.
       and_then (length_in files doc document 67108864) (λ _.
-      and_then (or_refuse (header bytes) (damaged name)) (λ h.
-      and_then (read_in files doc document_of) (λ t.
-      and_then (keyed_of h.0 t) (λ k.
-      and_then (room_behind h.1) (λ _.
-      Ok (bytes, k)))))))) a.there
-      ∙ ap (λ o. and_then (length_in files doc document 67108864) (λ _. and_then (or_refuse o (damaged name)) behind)) (fronted rules vs a.bytes a.sound.specification a.sound.file)
-      ∙ beside-all a.bytes (length_in files doc document 67108864) (read_in files doc document_of) (keyed_of rules) (room_behind (length vs))
+      and_then (and_then (or_refuse o (no_file name)) (front_in name)) (keyed_behind files doc)))) with_room) a.there
+      ∙ ap (λ x. and_then (and_then (length_in files doc document 67108864) (λ _. and_then x (keyed_behind files doc))) with_room) front
+      ∙ length-room h (length_in files doc document 67108864) (keyed_behind files doc h) (and_then (read_in files doc document_of) (λ t. and_then (keyed_of rules t) (λ k. and_then (room_behind (length vs)) (λ _. Ok k))))
+      (behind-room h (read_in files doc document_of) (keyed_of rules))
 
   -- a refusal before the records are looked at
-  pub may_refuse_early : (q : Refusal) → add_input files name doc ≡ Err q → MayBe files (add name doc) (Err q)
+  may_refuse_input : (q : Refusal) → add_input files name doc ≡ Err q → MayBe files (add name doc) (Err q)
   unfolding MayBe
-  may_refuse_early q e = record {
+  may_refuse_input q e = record {
     whatever = subst (λ x. GoesOn x (λ _. MayAdd files name) (Err q)) (sym e) refl;
     sound = λ rules vs a.
-        let none = beside-refused a.bytes (added files doc rules (length vs)) q (sym (input_sound rules vs a) ∙ e) in
+        let none = beside-refused (rules, length vs) (added files doc rules (length vs)) q (sym (input_sound rules vs a) ∙ e) in
         subst (λ x. GoesOn x (λ k. Stores files name rules (vs ++ k ∷ [])) (Err q)) (sym none) refl;
   }
 
-  module _ (bytes : List ℕ) (k : PlainKeyed) (input : add_input files name doc ≡ Ok (bytes, k)) where
-    given : (rules : List PlainRule) (vs : List PlainKeyed) (a : ArchiveIs files name rules vs) → (a.bytes ≡ bytes) × (added files doc rules (length vs) ≡ Ok k)
-    given rules vs a = beside-given a.bytes bytes (added files doc rules (length vs)) k (sym (input_sound rules vs a) ∙ input)
+  pub may_refuse_early : (q : Refusal) → add_read files name doc ≡ Err q → MayBe files (add name doc) (Err q)
+  may_refuse_early q e = may_refuse_input q (ap (λ x. and_then x with_room) e)
 
-    -- they are the bytes of the archive
-    was_read : map.get files name ≡ Some bytes
-    was_read =
-        from_there (map.get files name) (no_file name) _ bytes k
-        (λ b e. beside-only b (length_in files doc document 67108864) (added_behind files name doc b) bytes k
-        (sym (ap (λ x. and_then (length_in files doc document 67108864) (λ _. x)) (beside-keyed b (or_refuse (header b) (damaged name)) (read_in files doc document_of) keyed_of room_behind)) ∙ e)) input
+  module _ (h : PlainHeader) (k : PlainKeyed) (read : add_read files name doc ≡ Ok ((h.rules, h.versions), k)) where
+    -- there is no room
+    may_refuse_room : h.versions ≡ 999999 → MayBe files (add name doc) (Err (limit versions 999999))
+    may_refuse_room full =
+        let none : room_behind h.versions ≡ Err (limit versions 999999) = ap room_behind full in
+        may_refuse_input (limit versions 999999) (ap (λ x. and_then x with_room) read ∙ ap (λ w. and_then w (λ _. Ok ((h.rules, h.versions), k))) none)
 
-    -- the new file comes
-    pub may_replace : (new : List ℕ) → ((rules : List PlainRule) (vs : List PlainKeyed) → SoundAs rules vs bytes → SoundAs rules (vs ++ k ∷ []) new)
-        → MayBe files (add name doc) (Ok (record { files = map.insert files name new; output = [] }))
-    unfolding MayBe
-    may_replace new h =
-        let r : Result Outcome Refusal = Ok (record { files = map.insert files name new; output = [] }) in
-        record {
-          whatever = subst (λ x. GoesOn x (λ _. MayAdd files name) r) (sym input) (inr (inr (record { bytes = new; is = refl })));
-          sound = λ rules vs a.
-              let g = given rules vs a in
-              subst (λ x. GoesOn x (λ k. Stores files name rules (vs ++ k ∷ [])) r) (sym g.1) (inl (record { bytes = new; sound = h rules vs (subst (SoundAs rules vs) g.0 a.sound); is = refl }));
-        }
+    module _ (room : h.versions < 999999) where
+      input : add_input files name doc ≡ Ok ((h.rules, h.versions), k)
+      input =
+          let some : room_behind h.versions ≡ Ok tt = (let fits : nat_lt h.versions 999999 ≡ true = lt-ltb h.versions 999999 room in rw fits refl) in
+          ap (λ x. and_then x with_room) read ∙ ap (λ w. and_then w (λ _. Ok ((h.rules, h.versions), k))) some
 
-    -- a refusal at the records
-    pub may_refuse : (q : Refusal) → (q ≡ damaged name) ⊎ IsOverlong bytes q → ((rules : List PlainRule) (vs : List PlainKeyed) → SoundAs rules vs bytes → IsTooLong rules (vs ++ k ∷ []) q)
-        → MayBe files (add name doc) (Err q)
-    unfolding MayBe
-    may_refuse q either h = record {
-      whatever = subst (λ x. GoesOn x (λ _. MayAdd files name) (Err q)) (sym input)
-          (elim either [ inl e ↦ inl (ap (λ s. Err s) e) | inr o ↦ inr (inl (record { is = ap (λ s. Err s) o.is; rules = o.rules; versions = o.versions; there = record { bytes = bytes; there = was_read; sound = o.sound } })) ]);
-      sound = λ rules vs a.
-          let g = given rules vs a in
-          let t = h rules vs (subst (SoundAs rules vs) g.0 a.sound) in
-          subst (λ x. GoesOn x (λ k. Stores files name rules (vs ++ k ∷ [])) (Err q)) (sym g.1) (inr (record { none = t.none; is = ap (λ s. Err s) t.is }));
-    }
+      given : (rules : List PlainRule) (vs : List PlainKeyed) (a : ArchiveIs files name rules vs) → added files doc rules (length vs) ≡ Ok k
+      given rules vs a = (beside-given (rules, length vs) (h.rules, h.versions) (added files doc rules (length vs)) k (sym (input_sound rules vs a) ∙ input)).1
+
+      -- the new file comes
+      may_replace : (new : List ℕ) → ((rules : List PlainRule) (vs : List PlainKeyed) → ArchiveIs files name rules vs → SoundAs rules (vs ++ k ∷ []) new)
+          → MayBe files (add name doc) (Ok (record { files = map.insert files name new; output = [] }))
+      unfolding MayBe
+      may_replace new sound =
+          let r : Result Outcome Refusal = Ok (record { files = map.insert files name new; output = [] }) in
+          record {
+            whatever = subst (λ x. GoesOn x (λ _. MayAdd files name) r) (sym input) (inr (inr (record { bytes = new; is = refl })));
+            sound = λ rules vs a. subst (λ x. GoesOn x (λ k. Stores files name rules (vs ++ k ∷ [])) r) (sym (given rules vs a)) (inl (record { bytes = new; sound = sound rules vs a; is = refl }));
+          }
+
+      may_be_damaged : ((rules : List PlainRule) (vs : List PlainKeyed) → ¬ ArchiveIs files name rules vs) → MayBe files (add name doc) (Err (damaged name))
+      unfolding MayBe
+      may_be_damaged none = record {
+        whatever = subst (λ x. GoesOn x (λ _. MayAdd files name) (Err (damaged name))) (sym input) (inl refl);
+        sound = λ rules vs a. absurd (none rules vs a);
+      }
+
+      may_be_long : ((rules : List PlainRule) (vs : List PlainKeyed) → ArchiveIs files name rules vs → (bytes : List ℕ) → ¬ FileOf rules (vs ++ k ∷ []) bytes) → MayBe files (add name doc) (Err (limit archive 274877906944))
+      unfolding MayBe
+      may_be_long none =
+          let r : Result Outcome Refusal = Err (limit archive 274877906944) in
+          record {
+            whatever = subst (λ x. GoesOn x (λ _. MayAdd files name) r) (sym input) (inr (inl refl));
+            sound = λ rules vs a. subst (λ x. GoesOn x (λ k. Stores files name rules (vs ++ k ∷ [])) r) (sym (given rules vs a)) (inr (record { none = none rules vs a; is = refl }));
+          }
+
+    below : h.versions ≤ 999999 → h.versions ≢ 999999 → h.versions < 999999
+    below few not = omega (arith, few, not)
+
+    -- with what the merge ends, the command may end
+    pub may-merged : (after : Option Files) (t : Taken) (ended : Option PlainFault) → h.versions ≤ 999999 → AddEnds files name h k after ended → MayEnd (MayBe files (add name doc)) ended after t t
+    may-merged after t None few ends =
+        let r = ends.1 in
+        MayEnd-did (MayBe files (add name doc)) (record { files = map.insert files name r.bytes; output = [] }) after t t (may_replace (below few ends.0) r.bytes r.sound) r.tells (Takes-nil t)
+    may-merged after t (Some (refused q)) few ends = MayEnd-stopped (MayBe files (add name doc)) (refused q) after t (λ p e. (let same : q ≡ p = cc in subst (λ z. MayBe files (add name doc) (Err z)) same (may-refused ends)))
+      where
+        may-refused : AddEnds files name h k after (Some (refused q)) → MayBe files (add name doc) (Err q)
+        may-refused (inl full) = subst (λ z. MayBe files (add name doc) (Err z)) (sym full.1) (may_refuse_room full.0)
+        may-refused (inr (not, inl d)) = subst (λ z. MayBe files (add name doc) (Err z)) (sym d.0) (may_be_damaged (below few not) d.1)
+        may-refused (inr (not, inr l)) = subst (λ z. MayBe files (add name doc) (Err z)) (sym l.0) (may_be_long (below few not) l.1)
+    may-merged after t (Some folder_fault) few ends = MayEnd-stopped (MayBe files (add name doc)) folder_fault after t (λ q e. absurd cc)
+    may-merged after t (Some out_fault) few ends = MayEnd-stopped (MayBe files (add name doc)) out_fault after t (λ q e. absurd cc)
+    may-merged after t (Some in_fault) few ends = MayEnd-stopped (MayBe files (add name doc)) in_fault after t (λ q e. absurd cc)
+    may-merged after t (Some memory) few ends = MayEnd-stopped (MayBe files (add name doc)) memory after t (λ q e. absurd cc)

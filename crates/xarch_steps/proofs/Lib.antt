@@ -1,4 +1,6 @@
 pub mod AddEnds
+pub mod MergeEnds
+pub mod OnePassEnds
 pub mod DemoEnds
 pub mod GetEnds
 pub mod HistoryEnds

@@ -1,5 +1,5 @@
 -- What a command may do is what is defined, where that is. It is so since versions have one archive and one file.
-use Rattle.std.proofs.Common.{◌≡◌, inl, inr, ℕ, List, [], ◌∷◌, ◌++◌, length, Option, Some, None, Result, Ok, Err, sym, ap, ◌∙◌, subst}
+use Rattle.std.proofs.Common.{◌≡◌, inl, inr, ℕ, List, [], ◌∷◌, ◌++◌, length, Option, Some, None, Result, Ok, Err, sym, ap, ◌∙◌, subst, refl}
 use Rattle.std.specs.FinMap as map
 use Rattle.xa_outside.specs.Folder.{Files}
 use Rattle.key_spec.specs.Data.{PlainRule}
@@ -17,7 +17,7 @@ use Rattle.xarch_steps.specs.Demo.{MakesOrNone, demo_input, samples}
 use Rattle.xarch_steps.specs.Init.{init_rules}
 use Rattle.xarch_parts.specs.Inputs.{file_of}
 use Rattle.xarch_parts.specs.Outcome.{Outcome, Step, and_then, or_refuse, step_from}
-use Rattle.xarch_steps.specs.Plausible.{MayAdd, MayWrite, MayBe, MayDo, Plausible}
+use Rattle.xarch_steps.specs.Plausible.{MayAdd, MayWrite, MayBe, MayDo, Plausible, add_input}
 use Rattle.xarch_steps.specs.Stats.{CountsFrom, counts_text}
 use Rattle.xarch_steps.specs.Step.{OutcomeIs, DoesOrRefuses, Defines, StepIs, single_of}
 
@@ -38,6 +38,9 @@ module _ (one_archive : (vs : List PlainKeyed) (a b : PlainArchive) → ArchiveO
   -- what begins with a file that is not there is refused
   absent : {A : Type 0} (files : Files) (name : List ℕ) (f : List ℕ → Result A Refusal) → map.get files name ≡ None → and_then (file_of files name) f ≡ Err (no_file name)
   absent files name f e = ap (λ o. and_then (or_refuse o (no_file name)) f) e
+
+  add_absent : (files : Files) (name doc : List ℕ) → map.get files name ≡ None → add_input files name doc ≡ Err (no_file name)
+  add_absent files name doc e = rw e refl
 
   file_absent : (files : Files) (name : List ℕ) → map.get files name ≡ None → file_of files name ≡ Err (no_file name)
   file_absent files name e = ap (λ o. or_refuse o (no_file name)) e
@@ -64,7 +67,7 @@ module _ (one_archive : (vs : List PlainKeyed) (a b : PlainArchive) → ArchiveO
   unfolding OutcomeIs MayBe
   one files (norm spec doc) r s p q = q ∙ sym p
   one files (init name spec) r s p q = one_way (init_rules files name spec) (λ rules. Stores files name rules []) (λ rules. one_stored files name rules []) r s p q
-  one files (add name doc) r s (inl p) q = subst (λ x. GoesOn x (λ _. MayAdd files name) s) (absent files name _ p.absent) q.whatever ∙ sym p.is
+  one files (add name doc) r s (inl p) q = subst (λ x. GoesOn x (λ _. MayAdd files name) s) (add_absent files name doc p.absent) q.whatever ∙ sym p.is
   one files (add name doc) r s (inr p) q =
       one_way (added files doc p.rules (length p.versions)) (λ k. Stores files name p.rules (p.versions ++ k ∷ [])) (λ k. one_stored files name p.rules (p.versions ++ k ∷ [])) r s p.rest (q.sound p.rules p.versions p.archive)
   one files (get name i) r s (inl p) q = subst (λ x. GoesOn x (λ _. MayWrite files name) s) (absent files name _ p.absent) q.whatever ∙ sym p.is

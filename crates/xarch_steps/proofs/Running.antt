@@ -18,7 +18,8 @@ use Rattle.xarch_words.specs.declared.fault.Fault.{Fault}
 use Rattle.xarch_parts.specs.Outcome.{Outcome, Step, output_of, step_from}
 use Rattle.xarch_parts.specs.Ends.{fault_of, EndsGained, Gained, IsOfCommand, HasItsCause}
 use Rattle.xarch_parts.specs.Folders.{Counts}
-use Rattle.xarch_steps.specs.Ran.{CountsAsSaid, IsLongDemo, OnlyReads, made_name, most_pulled, status_after, line_after, outside_of, Says}
+use Rattle.xarch_steps.specs.OnePass.{GoesOnce}
+use Rattle.xarch_steps.specs.Ran.{CountsAsSaid, IsLongDemo, OnlyReads, made_name, status_after, line_after, outside_of, Says}
 use Rattle.xarch_parts.specs.Allowed.{MayEnd, PutSome}
 use Rattle.xarch_steps.specs.Plausible.{MayBe, MayDo, Plausible, Tried, Wrote}
 use Rattle.xarch_steps.specs.Step.{StepIs, alone, single_of}
@@ -267,19 +268,25 @@ only_makes_none (demo seed count archive) h = absurd h
 pub makes_none : (words : List (List ℕ)) (command : PlainCommand) → single_of words ≡ Some command → OnlyReads (single_of words) → made_name command ≡ None
 makes_none words command some h = only_makes_none command (subst OnlyReads some h)
 
-said_of : (command : PlainCommand) (told : Option Files) (before after : Numbers) → Counts (made_name command) (most_pulled command told) before after → CountsAsSaid (Some command) told before after
-said_of (norm spec doc) told before after h = h
-said_of (init archive spec) told before after h = h
-said_of (add archive doc) told before after h = h
-said_of (get archive i) told before after h = h
-said_of (history archive path) told before after h = h
-said_of (stats archive) told before after h = h
-said_of batch told before after h = tt
-said_of (demo seed count archive) told before after h = h
-
 pub counts_as_said : (words : List (List ℕ)) (command : PlainCommand) (told : Option Files) (before after : Numbers)
-    → single_of words ≡ Some command → Counts (made_name command) (most_pulled command told) before after → CountsAsSaid (single_of words) told before after
-counts_as_said words command told before after some h = subst (λ (o : Option PlainCommand). CountsAsSaid o told before after) (sym some) (said_of command told before after h)
+    → single_of words ≡ Some command → CountsAsSaid (Some command) told before after → CountsAsSaid (single_of words) told before after
+counts_as_said words command told before after some h = subst (λ (o : Option PlainCommand). CountsAsSaid o told before after) (sym some) h
+
+pub goes_once : (words : List (List ℕ)) (o : Option PlainCommand) (told : Option Files) (before after : Numbers) (failed : Type 0)
+    → single_of words ≡ o → GoesOnce o told before after failed → GoesOnce (single_of words) told before after failed
+goes_once words o told before after failed is h = subst (λ (c : Option PlainCommand). GoesOnce c told before after failed) (sym is) h
+
+-- a status says that it failed, where the fault does
+pub once_by : (o : Option PlainCommand) (told : Option Files) (before after : Numbers) (P Q : Type 0) → (P → Q) → GoesOnce o told before after P → GoesOnce o told before after Q
+once_by None told before after P Q f h = tt
+once_by (Some (norm spec doc)) told before after P Q f h = tt
+once_by (Some (init archive spec)) told before after P Q f h = tt
+once_by (Some (add archive doc)) told before after P Q f h = λ files rules vs a is there of small not. h files rules vs a is there of small (λ p. not (f p))
+once_by (Some (get archive i)) told before after P Q f h = tt
+once_by (Some (history archive path)) told before after P Q f h = tt
+once_by (Some (stats archive)) told before after P Q f h = tt
+once_by (Some batch) told before after P Q f h = tt
+once_by (Some (demo seed count archive)) told before after P Q f h = tt
 
 pub nothing_counted : (words : List (List ℕ)) (m : Numbers) → single_of words ≡ None → IsMeter m → (told : Option Files) → CountsAsSaid (single_of words) told m m
 nothing_counted words m none is told = subst (λ (o : Option PlainCommand). CountsAsSaid o told m m) (sym none) (PullsAtMost-none 0 m is)

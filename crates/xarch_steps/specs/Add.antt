@@ -3,11 +3,10 @@ use Rattle.std.specs.Prelude.{ℕ, List, [], ◌∷◌, ◌++◌, length, nat_lt
 use Rattle.xa_outside.specs.Folder.{Files}
 use Rattle.key_spec.specs.Data.{PlainRule}
 use Rattle.keyed_tree.specs.Data.{PlainKeyed}
-use Rattle.record_format.specs.Fronts.{header}
-use Rattle.xarch_words.specs.Refusal.{document, versions, Refusal, damaged, limit}
+use Rattle.xarch_words.specs.Refusal.{document, versions, Refusal, limit}
 use Rattle.xarch_parts.specs.Archives.{GoesOn, Opens, Stores}
 use Rattle.xarch_parts.specs.Inputs.{length_in, read_in}
-use Rattle.xarch_parts.specs.Outcome.{Outcome, and_then, or_refuse}
+use Rattle.xarch_parts.specs.Outcome.{Outcome, and_then}
 use Rattle.xarch_parts.specs.Readings.{document_of, keyed_of}
 
 -- an archive of n versions may have one more
@@ -22,15 +21,6 @@ added files doc rules n =
     and_then (read_in files doc document_of) (λ t.
     and_then (keyed_of rules t) (λ k.
     and_then (room_behind n) (λ _.
-    Ok k))))
-
--- The keyed tree of the document under the rules in front of an archive of this name, where there is room behind its versions.
-abbrev pub added_behind : Files → List ℕ → List ℕ → List ℕ → Result PlainKeyed Refusal
-added_behind files name doc bytes =
-    and_then (or_refuse (header bytes) (damaged name)) (λ h.
-    and_then (read_in files doc document_of) (λ t.
-    and_then (keyed_of h.0 t) (λ k.
-    and_then (room_behind h.1) (λ _.
     Ok k))))
 
 -- what comes of the document where these are the archive's rules and versions

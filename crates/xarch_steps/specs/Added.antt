@@ -1,46 +1,56 @@
--- What is known of a document that goes into an archive.
-use Rattle.std.specs.Prelude.{◌≡◌, ◌⊎◌, ℕ, ◌<◌, List, length}
+-- What comes of a document that goes into an archive.
+use Rattle.std.specs.Prelude.{◌≡◌, ◌≢◌, ◌⊎◌, ℕ, ◌+◌, ◌-◌, ◌≤◌, max, List, [], ◌∷◌, ◌++◌, length, Option, Some, None, ⊤}
+use Rattle.std.specs.FinMap as map
+use Rattle.xa_outside.specs.Folder.{Files}
+use Rattle.xa_outside.specs.Numbers.{Numbers}
 use Rattle.key_spec.specs.Data.{PlainRule}
 use Rattle.keyed_tree.specs.Data.{PlainKeyed}
-use Rattle.keyed_tree.specs.Kids.{IsOrdered}
-use Rattle.keyed_tree.specs.Proper.{IsElement}
-use Rattle.keyed_tree.specs.WellFormed.{IsKeyedWellFormed}
-use Rattle.record_format.specs.Files.{FileOf}
-use Rattle.archive_file.specs.KeyedBy.{IsKeyedBy}
+use Rattle.keyed_tree.specs.View.{keyed_view}
+use Rattle.keyed_tree.specs.declared.keyed.Keyed.{Keyed}
+use Rattle.archive_tree.specs.Data.{PlainArchive}
+use Rattle.archive_tree.specs.Stands.{ArchiveOf}
 use Rattle.archive_file.specs.Sound.{SoundAs}
-use Rattle.xarch_words.specs.Refusal.{archive, Refusal, damaged, limit, PlainFault, refused}
+use Rattle.record_cursor.specs.View.{PlainHeader, header_view}
+use Rattle.record_cursor.specs.declared.header.Header.{Header}
+use Rattle.record_format.specs.Files.{FileOf, header_bytes, largest}
+use Rattle.stream_merge.specs.declared.fault.AddFault.{AddFault}
+use Rattle.stream_merge.specs.declared.fault.AddFault.TheVariants.{Damage, Folder, Limit, TooLong, Memory}
+use Rattle.xarch_words.specs.Refusal.{archive, versions, Refusal, damaged, limit, PlainFault, refused, folder_fault, memory}
+use Rattle.xarch_parts.specs.Archives.{ArchiveIs}
+use Rattle.xarch_parts.specs.Ends.{TellsOnly}
 
--- it is keyed by the rules, and there is room for it behind the versions
-pub record Follows (rules : List PlainRule) (vs : List PlainKeyed) (k : PlainKeyed) : Type 0 where
-  pub keyed : IsKeyedBy rules k
-  pub room : length vs < 999999
+-- the rules and the number of versions that a header gives, and a keyed tree
+abbrev pub added_view : Header → Keyed → (List PlainRule × ℕ) × PlainKeyed
+added_view h k = (((header_view h).rules, (header_view h).versions), keyed_view k)
 
--- it is the keyed tree of a document that is keyed by the rules
-pub record IsVersionBy (rules : List PlainRule) (k : PlainKeyed) : Type 0 where
-  pub element : IsElement k
-  pub ordered : IsOrdered k
-  pub well_formed : IsKeyedWellFormed k
-  pub keyed : IsKeyedBy rules k
+-- the fault of a merge, as it is told of the archive of this name
+abbrev pub IsToldAs : List ℕ → AddFault → PlainFault → Type 0
+IsToldAs name Damage fault = (fault ≡ refused (damaged name)) ⊎ (fault ≡ memory)
+IsToldAs name Folder fault = fault ≡ folder_fault
+IsToldAs name Limit fault = fault ≡ refused (limit versions 999999)
+IsToldAs name TooLong fault = fault ≡ refused (limit archive 274877906944)
+IsToldAs name Memory fault = fault ≡ memory
 
--- The keyed tree of a document, which follows the versions of the archive in these bytes, where they are a sound archive.
-pub record Goes (bytes : List ℕ) (k : PlainKeyed) : Type 0 where
-  pub element : IsElement k
-  pub ordered : IsOrdered k
-  pub well_formed : IsKeyedWellFormed k
-  pub follows : (rules : List PlainRule) (vs : List PlainKeyed) → SoundAs rules vs bytes → Follows rules vs k
+-- A file came under the name, which is that of the versions and the new one where the archive was sound.
+pub record Replaces (files : Files) (name : List ℕ) (new : PlainKeyed) (after : Option Files) : Type 0 where
+  pub bytes : List ℕ
+  pub tells : TellsOnly after (map.insert files name bytes)
+  pub sound : (rules : List PlainRule) (vs : List PlainKeyed) → ArchiveIs files name rules vs → SoundAs rules (vs ++ new ∷ []) bytes
 
--- the refusal says that the archive in these bytes, which is sound, would be too long
-pub record IsOverlong (bytes : List ℕ) (q : Refusal) : Type 0 where
-  pub is : q ≡ limit archive 274877906944
-  pub rules : List PlainRule
-  pub versions : List PlainKeyed
-  pub sound : SoundAs rules versions bytes
+-- The archive is damaged, which none is that is sound; or it would be too long, and so it would if it is sound.
+abbrev pub IsUnmerged : Files → List ℕ → PlainKeyed → Refusal → Type 0
+IsUnmerged files name new q =
+    ((q ≡ damaged name) × ((rules : List PlainRule) (vs : List PlainKeyed) → ¬ ArchiveIs files name rules vs))
+    ⊎ ((q ≡ limit archive 274877906944) × ((rules : List PlainRule) (vs : List PlainKeyed) → ArchiveIs files name rules vs → (bytes : List ℕ) → ¬ FileOf rules (vs ++ new ∷ []) bytes))
 
--- a refusal says that the archive of this name is damaged, or that it is sound and would be too long
-abbrev pub IsMerging : List ℕ → List ℕ → PlainFault → Type 0
-IsMerging name bytes fault = (q : Refusal) → fault ≡ refused q → (q ≡ damaged name) ⊎ IsOverlong bytes q
+-- With what the merge of a new version ends. The limit of versions is judged first.
+abbrev pub AddEnds : Files → List ℕ → PlainHeader → PlainKeyed → Option Files → Option PlainFault → Type 0
+AddEnds files name h new after None = (h.versions ≢ 999999) × Replaces files name new after
+AddEnds files name h new after (Some (refused q)) = ((h.versions ≡ 999999) × (q ≡ limit versions 999999)) ⊎ ((h.versions ≢ 999999) × IsUnmerged files name new q)
+AddEnds files name h new after (Some other) = ⊤
 
--- the refusal says that the archive would be too long, and so it would
-pub record IsTooLong (rules : List PlainRule) (vs : List PlainKeyed) (q : Refusal) : Type 0 where
-  pub is : q ≡ limit archive 274877906944
-  pub none : (bytes : List ℕ) → ¬ FileOf rules vs bytes
+-- It ends so, and over a sound archive what was read is little ahead of what was written.
+pub record Merges (files : Files) (name : List ℕ) (h : PlainHeader) (new : PlainKeyed) (after : Option Files) (x y : Numbers) (ended : Option PlainFault) : Type 0 where
+  pub ends : AddEnds files name h new after ended
+  pub gap : (rules : List PlainRule) (vs : List PlainKeyed) (a : PlainArchive) → ArchiveIs files name rules vs → ArchiveOf vs a
+      → y.gap ≤ max x.gap (x.since - x.drafted - length (header_bytes rules a.n) + largest rules a)

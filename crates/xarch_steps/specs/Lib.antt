@@ -2,6 +2,7 @@ pub mod Norm
 pub mod Init
 pub mod Add
 pub mod Added
+pub mod OnePass
 pub mod Get
 pub mod History
 pub mod Stats

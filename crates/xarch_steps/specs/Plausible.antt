@@ -14,28 +14,38 @@ use Rattle.xarch_steps.specs.Demo.{DemoIs}
 use Rattle.xarch_steps.specs.Get.{GetsFrom}
 use Rattle.xarch_steps.specs.History.{TellsFrom, labels_of}
 use Rattle.xarch_steps.specs.Init.{InitIs}
-use Rattle.xarch_parts.specs.Inputs.{file_of, length_in, read_in}
+use Rattle.xarch_parts.specs.Inputs.{file_length, file_of, length_in, read_in}
 use Rattle.xarch_steps.specs.Norm.{norm_of}
 use Rattle.xarch_parts.specs.Outcome.{Outcome, Step, and_then, or_refuse, step_from}
 use Rattle.xarch_steps.specs.Ran.{Ran}
-use Rattle.xarch_parts.specs.Readings.{document_of, keyed_of}
+use Rattle.xarch_parts.specs.Readings.{document_of, front_in, keyed_of}
 use Rattle.xarch_steps.specs.Stats.{CountsFrom}
 use Rattle.xarch_steps.specs.Step.{StepIs, single_of}
 
 -- ---- what is decided before the records of an archive are looked at
 
--- The bytes of the archive and the keyed tree of the document, or the first refusal: the archive is there, the document is
--- there and not too long, a header stands in front of the archive, the document is one and satisfies the keys, and there is
--- room for a version more.
-abbrev pub add_input : Files → List ℕ → List ℕ → Result (List ℕ × PlainKeyed) Refusal
-add_input files name doc =
-    and_then (file_of files name) (λ bytes.
-    and_then (length_in files doc document 67108864) (λ _.
-    and_then (or_refuse (header bytes) (damaged name)) (λ h.
+-- behind a header the keyed tree of the document, which is one and satisfies the keys
+abbrev pub keyed_behind : Files → List ℕ → List PlainRule × ℕ → Result ((List PlainRule × ℕ) × PlainKeyed) Refusal
+keyed_behind files doc h =
     and_then (read_in files doc document_of) (λ t.
     and_then (keyed_of h.0 t) (λ k.
-    and_then (room_behind h.1) (λ _.
-    Ok (bytes, k)))))))
+    Ok (h, k)))
+
+-- The rules and the number of versions of the archive and the keyed tree of the document, or the first refusal: the archive is
+-- there, the document is there and not too long, a header stands in front of the archive, the document is one and satisfies the
+-- keys.
+abbrev pub add_read : Files → List ℕ → List ℕ → Result ((List PlainRule × ℕ) × PlainKeyed) Refusal
+add_read files name doc =
+    and_then (file_length files name) (λ _.
+    and_then (length_in files doc document 67108864) (λ _.
+    and_then (read_in files name (front_in name)) (keyed_behind files doc)))
+
+-- And there is room for a version more.
+abbrev pub add_input : Files → List ℕ → List ℕ → Result ((List PlainRule × ℕ) × PlainKeyed) Refusal
+add_input files name doc =
+    and_then (add_read files name doc) (λ p.
+    and_then (room_behind p.0.1) (λ _.
+    Ok p))
 
 -- of n versions there is one of the number i
 abbrev pub is_version : ℕ → ℕ → Result Unit Refusal
@@ -71,15 +81,9 @@ pub record Written (files : Files) (r : Result Outcome Refusal) : Type 0 where
   pub output : List ℕ
   pub is : r ≡ Ok (record { files = files; output = output })
 
--- the archive of this name is sound, and would be too long
-pub record Overlong (files : Files) (name : List ℕ) (r : Result Outcome Refusal) : Type 0 where
-  pub is : r ≡ Err (limit archive 274877906944)
-  pub rules : List PlainRule
-  pub versions : List PlainKeyed
-  pub there : ArchiveIs files name rules versions
-
+-- The archive is damaged, or too long with the new version, or some file replaces it.
 abbrev pub MayAdd : Files → List ℕ → Result Outcome Refusal → Type 0
-MayAdd files name r = (r ≡ Err (damaged name)) ⊎ Overlong files name r ⊎ Replaced files name r
+MayAdd files name r = (r ≡ Err (damaged name)) ⊎ (r ≡ Err (limit archive 274877906944)) ⊎ Replaced files name r
 
 abbrev pub MayWrite : Files → List ℕ → Result Outcome Refusal → Type 0
 MayWrite files name r = (r ≡ Err (damaged name)) ⊎ Written files r

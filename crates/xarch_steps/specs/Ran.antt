@@ -10,7 +10,7 @@ use Rattle.xarch_words.specs.Lines.{fault_status, fault_line}
 use Rattle.xarch_words.specs.Refusal.{PlainFault, folder_fault, out_fault, in_fault, memory}
 use Rattle.xarch_parts.specs.Outcome.{Step}
 use Rattle.xarch_parts.specs.Ends.{TellsOnly}
-use Rattle.xarch_parts.specs.Folders.{Counts}
+use Rattle.xarch_parts.specs.Folders.{Counts, CountsInTurn}
 use Rattle.xarch_parts.specs.Inputs.{size_in}
 
 -- 0 where it did what it should, else the status of its fault
@@ -89,6 +89,7 @@ IsLongDemo _ = ⊥
 -- What is pulled and drafted, from files that are told or not: nothing for words that are no command. Of a batch nothing is
 -- said.
 abbrev pub CountsAsSaid : Option PlainCommand → Option Files → Numbers → Numbers → Type 0
-CountsAsSaid None told before after = PullsAtMost 0 before after
-CountsAsSaid (Some batch) told before after = ⊤
-CountsAsSaid (Some command) told before after = Counts (made_name command) (most_pulled command told) before after
+CountsAsSaid None told = PullsAtMost 0
+CountsAsSaid (Some batch) told = λ before after. ⊤
+CountsAsSaid (Some (add archive doc)) told = CountsInTurn (most_pulled (add archive doc) told)
+CountsAsSaid (Some command) told = Counts (made_name command) (most_pulled command told)

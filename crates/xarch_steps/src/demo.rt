@@ -20,6 +20,7 @@ ghost use Rattle.xarch_words.specs.View.{fault_view};
 ghost use Rattle.xarch_parts.specs.Archives.{IsBlank, IsRefusal};
 ghost use Rattle.xarch_steps.specs.Demo.{DemoIs, IsSampleArchive, IsSampleFile, MakesOrNone, sample_tree, samples, told_and_stored};
 ghost use Rattle.xarch_parts.specs.Ends.{EndsGained, IsCaused, IsInside, Matches, fault_of};
+ghost use Rattle.xarch_parts.specs.Folders as folders;
 ghost use Rattle.xarch_parts.specs.Folders.{Keeps, WritesOnly};
 ghost use Rattle.xarch_parts.specs.Inputs;
 ghost use Rattle.xarch_parts.specs.Allowed.{MayEnd};
@@ -50,8 +51,8 @@ pub(crate) fn run_demo<F: Folder, O: Sink>(
     folder: &mut F,
     out: &mut O,
 ) -> Result<(), Fault>
-    ensures keeps { Keeps F.files F.draft F.numbers (Some archive.now) 0 folder.old folder.new
-        (fault_of result) }
+    ensures keeps { Keeps F.files F.draft F.numbers (Some archive.now)
+        (folders.Counts (Some archive.now) 0) folder.old folder.new (fault_of result) }
     ensures caused { IsCaused (F.faults folder.old) (F.faults folder.new) (O.faults out.old)
         (O.faults out.new) (fault_of result) }
     ensures may { (files : Files) → F.files folder.old ≡ Some files

@@ -15,7 +15,7 @@ ghost use Rattle.xarch_words.specs.Refusal as refusal;
 ghost use Rattle.xarch_words.specs.View.{fault_view};
 ghost use Rattle.xarch_parts.specs.Archives.{IsRefusal, NoRefusal};
 ghost use Rattle.xarch_parts.specs.Ends.{EndsGained, IsCaused, IsInside, Matches, fault_of};
-ghost use Rattle.xarch_parts.specs.Folders.{Keeps, ReadsOnly};
+ghost use Rattle.xarch_parts.specs.Folders.{Counts, Keeps, ReadsOnly};
 ghost use Rattle.xarch_steps.specs.History.{labels_of, numbers_text};
 ghost use Rattle.xarch_parts.specs.Inputs.{size_in};
 ghost use Rattle.xarch_parts.specs.Allowed.{MayEnd};
@@ -39,7 +39,8 @@ pub(crate) fn run_history<F: Folder, O: Sink>(
     folder: &mut F,
     out: &mut O,
 ) -> Result<(), Fault>
-    ensures keeps { Keeps F.files F.draft F.numbers None (size_in (F.files folder.old) archive.now)
+    ensures keeps { Keeps F.files F.draft F.numbers None
+        (Counts None (size_in (F.files folder.old) archive.now))
         folder.old folder.new (fault_of result) }
     ensures caused { IsCaused (F.faults folder.old) (F.faults folder.new) (O.faults out.old)
         (O.faults out.new) (fault_of result) }

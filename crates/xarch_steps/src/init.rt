@@ -5,7 +5,7 @@ ghost use Rattle.xa_outside.specs.Folder.{Files};
 ghost use Rattle.xa_outside.specs.Taken.{Taken};
 ghost use Rattle.key_spec.specs.View.{spec_view};
 ghost use Rattle.xarch_parts.specs.Ends.{IsCaused, Matches, fault_of};
-ghost use Rattle.xarch_parts.specs.Folders.{Keeps, ReadsOnly};
+ghost use Rattle.xarch_parts.specs.Folders.{Counts, Keeps, ReadsOnly};
 ghost use Rattle.xarch_steps.specs.Init.{InitIs, init_rules};
 ghost use Rattle.xarch_parts.specs.Allowed.{MayEnd};
 
@@ -24,8 +24,8 @@ pub(crate) fn run_init<F: Folder>(
     spec: &str,
     folder: &mut F,
 ) -> Result<(), Fault>
-    ensures keeps { Keeps F.files F.draft F.numbers (Some archive.now) 1048576 folder.old folder.new
-        (fault_of result) }
+    ensures keeps { Keeps F.files F.draft F.numbers (Some archive.now)
+        (Counts (Some archive.now) 1048576) folder.old folder.new (fault_of result) }
     ensures caused { (out : ℕ)
         → IsCaused (F.faults folder.old) (F.faults folder.new) out out (fault_of result) }
     ensures may { (files : Files) (t : Taken) → F.files folder.old ≡ Some files

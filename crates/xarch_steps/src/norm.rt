@@ -8,7 +8,7 @@ ghost use Rattle.jsonml_tree.specs.WellFormed.{IsWellFormed};
 ghost use Rattle.key_spec.specs.View.{spec_view};
 ghost use Rattle.xarch_words.specs.Commands.{norm};
 ghost use Rattle.xarch_parts.specs.Ends.{EndsGained, IsCaused, Matches, fault_of};
-ghost use Rattle.xarch_parts.specs.Folders.{Keeps, ReadsOnly};
+ghost use Rattle.xarch_parts.specs.Folders.{Counts, Keeps, ReadsOnly};
 ghost use Rattle.xarch_steps.specs.Norm.{norm_from, norm_input, norm_of_tree};
 ghost use Rattle.xarch_parts.specs.Allowed.{MayEnd};
 ghost use Rattle.xarch_steps.specs.Plausible.{MayBe};
@@ -29,8 +29,8 @@ pub(crate) fn run_norm<F: Folder, O: Sink>(
     folder: &mut F,
     out: &mut O,
 ) -> Result<(), Fault>
-    ensures keeps { Keeps F.files F.draft F.numbers None 68157440 folder.old folder.new
-        (fault_of result) }
+    ensures keeps { Keeps F.files F.draft F.numbers None (Counts None 68157440)
+        folder.old folder.new (fault_of result) }
     ensures caused { IsCaused (F.faults folder.old) (F.faults folder.new) (O.faults out.old)
         (O.faults out.new) (fault_of result) }
     ensures may { (files : Files) → F.files folder.old ≡ Some files

@@ -9,6 +9,7 @@ ghost use Rattle.xarch_words.specs.Commands as commands;
 ghost use Rattle.xarch_words.specs.Refusal.{Refusal, refused};
 ghost use Rattle.xarch_words.specs.View.{fault_view};
 ghost use Rattle.xarch_parts.specs.Ends.{EndsGained, IsCaused, IsOfOutput, fault_of};
+ghost use Rattle.xarch_parts.specs.Folders as folders;
 ghost use Rattle.xarch_parts.specs.Folders.{Keeps, ReadsOnly};
 ghost use Rattle.xarch_parts.specs.Inputs.{size_in};
 ghost use Rattle.xarch_parts.specs.Allowed.{MayEnd};
@@ -29,7 +30,8 @@ pub(crate) fn run_stats<F: Folder, O: Sink>(
     folder: &mut F,
     out: &mut O,
 ) -> Result<(), Fault>
-    ensures keeps { Keeps F.files F.draft F.numbers None (size_in (F.files folder.old) archive.now)
+    ensures keeps { Keeps F.files F.draft F.numbers None
+        (folders.Counts None (size_in (F.files folder.old) archive.now))
         folder.old folder.new (fault_of result) }
     ensures caused { IsCaused (F.faults folder.old) (F.faults folder.new) (O.faults out.old)
         (O.faults out.new) (fault_of result) }

@@ -7,14 +7,15 @@ ghost use Rattle.xa_outside.specs.Taken.{TakesNone};
 ghost use Rattle.xarch_words.specs.Commands.{PlainCommand, command_of, demo};
 ghost use Rattle.xarch_words.specs.Lines.{fault_line};
 ghost use Rattle.xarch_words.specs.Refusal as refusal;
-ghost use Rattle.xarch_words.specs.Refusal.{limit, refused, usage};
+ghost use Rattle.xarch_words.specs.Refusal.{folder_fault, limit, refused, usage};
 ghost use Rattle.xarch_words.specs.View.{command_view, words_view};
 ghost use Rattle.xarch_parts.specs.Ends.{EndsGained, Gained, HasItsCause, IsCaused, fault_of};
 ghost use Rattle.xarch_parts.specs.Folders.{IsTold, Keeps};
 ghost use Rattle.xarch_parts.specs.Outcome.{Step};
 ghost use Rattle.xarch_parts.specs.Allowed.{MayEnd};
+ghost use Rattle.xarch_steps.specs.OnePass.{GoesOnce};
 ghost use Rattle.xarch_steps.specs.Plausible.{MayBe, MayDo, Tried, Wrote};
-ghost use Rattle.xarch_steps.specs.Ran.{CountsAsSaid, IsLongDemo, OnlyReads, Said, Says, line_after, made_name, most_pulled, outside_of, status_after};
+ghost use Rattle.xarch_steps.specs.Ran.{CountsAsSaid, IsLongDemo, OnlyReads, Said, Says, line_after, made_name, outside_of, status_after};
 ghost use Rattle.xarch_steps.specs.Step.{StepIs, alone, single_of};
 ghost use Rattle.xarch_steps.specs.Succeeds.{ShouldSucceed};
 
@@ -34,8 +35,8 @@ use xarch_words::{Command, Fault, read_words, status, write_fault};
 /// Takes the step of one command, and answers its status.
 ///
 /// Words that are no command, and `batch`, are refused. Every fault writes one line to `err`; a
-/// failure of `err` changes no status. Input files are read whole, each directly before the first
-/// step that judges its bytes.
+/// failure of `err` changes no status. Input files are read directly before the first step that
+/// judges their bytes: whole, but the archive of `add`, which is read record by record.
 pub fn take_step<F: Folder, O: Sink, E: Sink>(
     alloc: Global,
     words: &[String],
@@ -97,6 +98,8 @@ pub fn take_step<F: Folder, O: Sink, E: Sink>(
     // What is pulled and drafted, and that no count of faults falls.
     ensures counts { CountsAsSaid (single_of (words_view words.now)) (F.files folder.old)
         (F.numbers folder.old) (F.numbers folder.new) }
+    ensures one_pass { GoesOnce (single_of (words_view words.now)) (F.files folder.old)
+        (F.numbers folder.old) (F.numbers folder.new) (result ≡ 13) }
     ensures folder_later { F.faults folder.old ≤ F.faults folder.new }
     ensures out_later { O.faults out.old ≤ O.faults out.new }
     ensures err_later { E.faults err.old ≤ E.faults err.new }
@@ -137,6 +140,8 @@ fn command_words<F: Folder, O: Sink>(
         → F.draft folder.new ≡ F.draft folder.old }
     ensures counts { CountsAsSaid (single_of (words_view words.now)) (F.files folder.old)
         (F.numbers folder.old) (F.numbers folder.new) }
+    ensures one_pass { GoesOnce (single_of (words_view words.now)) (F.files folder.old)
+        (F.numbers folder.old) (F.numbers folder.new) (fault_of result ≡ Some folder_fault) }
     ensures gained { EndsGained (fault_of result) (O.taken out.old) (O.taken out.new) }
 {
     match single_command(words) {
@@ -165,7 +170,7 @@ fn run_command<F: Folder, O: Sink>(
 ) -> Result<(), Fault>
     requires { alone (Some (command_view command)) ≡ Some (command_view command) }
     ensures keeps { Keeps F.files F.draft F.numbers (made_name (command_view command.entry))
-        (most_pulled (command_view command.entry) (F.files folder.old))
+        (CountsAsSaid (Some (command_view command.entry)) (F.files folder.old))
         folder.old folder.new (fault_of result) }
     ensures caused { IsCaused (F.faults folder.old) (F.faults folder.new) (O.faults out.old)
         (O.faults out.new) (fault_of result) }
@@ -174,6 +179,8 @@ fn run_command<F: Folder, O: Sink>(
         (O.taken out.old) (O.taken out.new) }
     ensures long_demo { IsLongDemo (Some (command_view command.entry))
         → fault_of result ≡ Some (refused (limit refusal.demo 1000)) }
+    ensures one_pass { GoesOnce (Some (command_view command.entry)) (F.files folder.old)
+        (F.numbers folder.old) (F.numbers folder.new) (fault_of result ≡ Some folder_fault) }
     ensures gained { EndsGained (fault_of result) (O.taken out.old) (O.taken out.new) }
 {
     match command {

@@ -1,49 +1,71 @@
-use Rattle.std.proofs.Common.{◌≡◌, Ok, ap, ◌∙◌}
-use Rattle.key_spec.specs.View.{spec_view}
+use Rattle.std.proofs.Common.{◌≡◌, ◌+◌, ◌≤◌, Ok, arith, ◌∙◌}
 use Rattle.keyed_tree.specs.View.{keyed_view}
+use Rattle.record_cursor.specs.View.{header_view}
+use Rattle.xa_outside.specs.NumberLaws.{PullsAtMost-more, PullsAtMost-trans}
 use Rattle.xarch_words.specs.View.{fault_view}
-use Rattle.xarch_steps.specs.Add.{room_behind}
 use Rattle.xarch_parts.specs.Inputs.{read_in}
-use Rattle.xarch_parts.specs.Outcome.{and_then}
 use Rattle.xarch_parts.specs.Readings.{document_of, keyed_of}
-use Rattle.xarch_parts.specs.EndLaws.{IfOk-passed, IsDefined-here, IsDefined-inner, IsDefined-inner-next, IsDefined-next, Matches-passed, and_then-Ok, and_then-inner}
-use Rattle.xarch_parts.specs.FolderLaws.{reads-inside, reads-none, reads-passed}
-use Rattle.xarch_steps.proofs.Merging.{goes_on}
+use Rattle.xarch_parts.specs.EndLaws.{IfOk-passed, IsDefined-here, IsDefined-inner, IsDefined-next, Matches-passed, and_then-Ok, and_then-inner}
+use Rattle.xarch_parts.specs.FolderLaws.{reads-more, reads-passed, reads-then}
+use Rattle.xarch_steps.specs.OnePass.{front_size}
 use Rattle.xarch_steps.proofs.add.read_keyed.Goals as goal
 
-pub returns-in_err-spec-clause-reads : goal.returns-in_err-spec-clause-reads
-returns-in_err-spec-clause-reads g c = reads-passed _ _ _ c.from_residual.result _ c.from_residual.ensures.1 (reads-none _ _ _ (g.met.F.Folder.metered c.args.folder.now) c.in_err-spec.ensures.cause)
+pub returns-in_err-header-clause-reads : goal.returns-in_err-header-clause-reads
+returns-in_err-header-clause-reads g c = reads-passed _ _ _ c.from_residual.result _ c.from_residual.ensures.1 (reads-more c.args.size _ _ _ _ (omega arith) c.in_err-header.ensures.reads)
 
-pub returns-in_err-spec-clause-told : goal.returns-in_err-spec-clause-told
-returns-in_err-spec-clause-told g c = λ files told length. Matches-passed _ _ c.from_residual.result _ c.from_residual.ensures.1 (IsDefined-here _ _ _ c.in_err-spec.ensures.told)
+pub returns-in_err-header-clause-told : goal.returns-in_err-header-clause-told
+returns-in_err-header-clause-told g c = λ files told long doc. Matches-passed _ _ c.from_residual.result _ c.from_residual.ensures.1 (IsDefined-here _ _ _ (c.in_err-header.ensures.told files told long))
 
-pub returns-in_err-spec-clause-goes : goal.returns-in_err-spec-clause-goes
-returns-in_err-spec-clause-goes g c = IfOk-passed c.from_residual.result _ _ c.from_residual.ensures.1
+pub returns-in_err-header-clause-front : goal.returns-in_err-header-clause-front
+returns-in_err-header-clause-front g c = λ files told long. IfOk-passed c.from_residual.result _ _ c.from_residual.ensures.1
+
+pub returns-in_err-header-clause-few : goal.returns-in_err-header-clause-few
+returns-in_err-header-clause-few g c = λ files rules vs told long is. PullsAtMost-more (front_size rules vs) _ _ _ (omega arith) (c.in_err-header.ensures.few files rules vs told long is)
+
+pub returns-in_err-header-clause-once : goal.returns-in_err-header-clause-once
+returns-in_err-header-clause-once g c = IfOk-passed c.from_residual.result _ _ c.from_residual.ensures.1
+
+pub returns-in_err-header-clause-known : goal.returns-in_err-header-clause-known
+returns-in_err-header-clause-known g c = IfOk-passed c.from_residual.result _ _ c.from_residual.ensures.1
 
 pub returns-in_err-keyed-clause-reads : goal.returns-in_err-keyed-clause-reads
-returns-in_err-keyed-clause-reads g c = reads-passed _ _ _ c.from_residual-in_err-keyed.result _ c.from_residual-in_err-keyed.ensures.1 c.in_err-keyed.ensures.reads
+returns-in_err-keyed-clause-reads g c = let short = c.requires in
+    reads-passed _ _ _ c.from_residual-in_err-keyed.result _ c.from_residual-in_err-keyed.ensures.1 (reads-then c.args.size c.args.doc_size _ _ _ _ _ (omega (arith, short)) c.in_ok-header.ensures.reads c.in_err-keyed.ensures.reads)
 
 pub returns-in_err-keyed-clause-told : goal.returns-in_err-keyed-clause-told
-returns-in_err-keyed-clause-told g c = λ files told length. Matches-passed _ _ c.from_residual-in_err-keyed.result _ c.from_residual-in_err-keyed.ensures.1 (IsDefined-next _ _ _ _ c.in_ok-spec.ensures.told (IsDefined-inner (read_in files c.args.doc.now document_of) (keyed_of (spec_view c.in_ok-spec.spec)) (λ k. and_then (room_behind c.in_ok-spec.n) (λ _. Ok k)) (fault_view c.in_err-keyed.field-0.0) (c.in_err-keyed.ensures.told files told length)))
+returns-in_err-keyed-clause-told g c = λ files told long doc.
+    let h = header_view c.in_ok-header.header in
+    Matches-passed _ _ c.from_residual-in_err-keyed.result _ c.from_residual-in_err-keyed.ensures.1
+    (IsDefined-next _ _ (h.rules, h.versions) _ (c.in_ok-header.ensures.told files told long) (IsDefined-inner (read_in files c.args.doc.now document_of) (keyed_of h.rules) (λ k. Ok ((h.rules, h.versions), k)) (fault_view c.in_err-keyed.field-0.0) (c.in_err-keyed.ensures.told files (c.in_ok-header.ensures.reads.same_files ∙ told) doc)))
 
-pub returns-in_err-keyed-clause-goes : goal.returns-in_err-keyed-clause-goes
-returns-in_err-keyed-clause-goes g c = IfOk-passed c.from_residual-in_err-keyed.result _ _ c.from_residual-in_err-keyed.ensures.1
+pub returns-in_err-keyed-clause-front : goal.returns-in_err-keyed-clause-front
+returns-in_err-keyed-clause-front g c = λ files told long. IfOk-passed c.from_residual-in_err-keyed.result _ _ c.from_residual-in_err-keyed.ensures.1
 
-pub returns-in_err-check_room-clause-reads : goal.returns-in_err-check_room-clause-reads
-returns-in_err-check_room-clause-reads g c = reads-passed _ _ _ c.from_residual-in_err-check_room.result _ c.from_residual-in_err-check_room.ensures.1 (reads-inside _ _ _ _ c.in_ok-keyed.ensures.reads c.in_err-check_room.ensures.cause)
+pub returns-in_err-keyed-clause-few : goal.returns-in_err-keyed-clause-few
+returns-in_err-keyed-clause-few g c = λ files rules vs told long is. PullsAtMost-trans (front_size rules vs) c.args.doc_size _ _ _ (c.in_ok-header.ensures.few files rules vs told long is) c.in_err-keyed.ensures.reads.pulls
 
-pub returns-in_err-check_room-clause-told : goal.returns-in_err-check_room-clause-told
-returns-in_err-check_room-clause-told g c = λ files told length. Matches-passed _ _ c.from_residual-in_err-check_room.result _ c.from_residual-in_err-check_room.ensures.1 (IsDefined-next _ _ _ _ c.in_ok-spec.ensures.told (IsDefined-inner-next (read_in files c.args.doc.now document_of) (keyed_of (spec_view c.in_ok-spec.spec)) (λ k. and_then (room_behind c.in_ok-spec.n) (λ _. Ok k)) (keyed_view c.in_ok-keyed.keyed) (fault_view c.in_err-check_room.field-0.0) (c.in_ok-keyed.ensures.told files told length) (IsDefined-here (room_behind c.in_ok-spec.n) (λ _. Ok (keyed_view c.in_ok-keyed.keyed)) _ c.in_err-check_room.ensures.told)))
+pub returns-in_err-keyed-clause-once : goal.returns-in_err-keyed-clause-once
+returns-in_err-keyed-clause-once g c = IfOk-passed c.from_residual-in_err-keyed.result _ _ c.from_residual-in_err-keyed.ensures.1
 
-pub returns-in_err-check_room-clause-goes : goal.returns-in_err-check_room-clause-goes
-returns-in_err-check_room-clause-goes g c = IfOk-passed c.from_residual-in_err-check_room.result _ _ c.from_residual-in_err-check_room.ensures.1
+pub returns-in_err-keyed-clause-known : goal.returns-in_err-keyed-clause-known
+returns-in_err-keyed-clause-known g c = IfOk-passed c.from_residual-in_err-keyed.result _ _ c.from_residual-in_err-keyed.ensures.1
 
 pub returns-clause-reads : goal.returns-clause-reads
-returns-clause-reads g c = c.in_ok-keyed.ensures.reads
+returns-clause-reads g c = let short = c.requires in reads-then c.args.size c.args.doc_size _ _ _ _ _ (omega (arith, short)) c.in_ok-header.ensures.reads c.in_ok-keyed.ensures.reads
 
 pub returns-clause-told : goal.returns-clause-told
-returns-clause-told g c = λ files told length. and_then-Ok _ _ _ _ c.in_ok-spec.ensures.told (and_then-inner (read_in files c.args.doc.now document_of) (keyed_of (spec_view c.in_ok-spec.spec)) (λ k. and_then (room_behind c.in_ok-spec.n) (λ _. Ok k)) (keyed_view c.in_ok-keyed.keyed) (c.in_ok-keyed.ensures.told files told length) ∙ ap (λ x. and_then x (λ _. Ok (keyed_view c.in_ok-keyed.keyed))) c.in_ok-check_room.ensures.told)
+returns-clause-told g c = λ files told long doc.
+    let h = header_view c.in_ok-header.header in
+    and_then-Ok _ _ (h.rules, h.versions) _ (c.in_ok-header.ensures.told files told long) (and_then-inner (read_in files c.args.doc.now document_of) (keyed_of h.rules) (λ k. Ok ((h.rules, h.versions), k)) (keyed_view c.in_ok-keyed.keyed) (c.in_ok-keyed.ensures.told files (c.in_ok-header.ensures.reads.same_files ∙ told) doc))
 
-pub returns-clause-goes : goal.returns-clause-goes
-returns-clause-goes g c = let v = c.in_ok-keyed.ensures.version in
-    goes_on (spec_view c.in_ok-spec.spec) c.in_ok-spec.n c.args.bytes.now (keyed_view c.in_ok-keyed.keyed) c.in_ok-spec.ensures.header c.in_ok-spec.ensures.sound v.element v.ordered v.well_formed v.keyed c.in_ok-check_room.ensures.below
+pub returns-clause-front : goal.returns-clause-front
+returns-clause-front g c = c.in_ok-header.ensures.front
+
+pub returns-clause-few : goal.returns-clause-few
+returns-clause-few g c = λ files rules vs told long is. PullsAtMost-trans (front_size rules vs) c.args.doc_size _ _ _ (c.in_ok-header.ensures.few files rules vs told long is) c.in_ok-keyed.ensures.reads.pulls
+
+pub returns-clause-once : goal.returns-clause-once
+returns-clause-once g c = (c.in_ok-header.ensures.once.0, PullsAtMost-trans (header_view c.in_ok-header.header).first c.args.doc_size _ _ _ c.in_ok-header.ensures.once.1 c.in_ok-keyed.ensures.reads.pulls)
+
+pub returns-clause-known : goal.returns-clause-known
+returns-clause-known g c = (c.in_ok-header.ensures.header, c.in_ok-keyed.ensures.keyed)

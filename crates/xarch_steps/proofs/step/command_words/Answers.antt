@@ -1,9 +1,9 @@
-use Rattle.std.proofs.Common.{sym, subst, rules}
+use Rattle.std.proofs.Common.{None, Some, sym, subst, rules}
 use Rattle.xarch_words.specs.View.{command_view, words_view}
 use Rattle.xarch_parts.specs.Ends.{HasItsCause}
 use Rattle.xarch_steps.specs.Ran.{IsLongDemo}
 use Rattle.xarch_parts.specs.EndLaws.{HasItsCause-command}
-use Rattle.xarch_steps.proofs.Running.{MayEnd-usage, MayEnd-command, OnErr-of, counts_as_said, makes_none, nothing_counted, usage-command}
+use Rattle.xarch_steps.proofs.Running.{MayEnd-usage, MayEnd-command, OnErr-of, counts_as_said, goes_once, makes_none, nothing_counted, usage-command}
 use Rattle.xarch_parts.specs.AllowedLaws.{gained-none}
 use Rattle.xarch_steps.proofs.step.command_words.Goals as goal
 
@@ -65,3 +65,9 @@ returns-in-None-clause-gained g c = gained-none _ _
 
 pub returns-in-Some-clause-gained : goal.returns-in-Some-clause-gained
 returns-in-Some-clause-gained g c = c.run_command.ensures.gained
+
+pub returns-in-None-clause-one_pass : goal.returns-in-None-clause-one_pass
+returns-in-None-clause-one_pass g c = goes_once (words_view c.args.words.now) None _ _ _ _ (sym c.in-None.ensures.is) tt
+
+pub returns-in-Some-clause-one_pass : goal.returns-in-Some-clause-one_pass
+returns-in-Some-clause-one_pass g c = goes_once (words_view c.args.words.now) (Some (command_view c.in-Some.command)) _ _ _ _ (sym c.in-Some.ensures.is) c.run_command.ensures.one_pass

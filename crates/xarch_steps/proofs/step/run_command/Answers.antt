@@ -108,3 +108,24 @@ returns-in-Stats-clause-gained g c = c.run_stats.ensures.gained
 
 pub returns-in-Demo-clause-gained : goal.returns-in-Demo-clause-gained
 returns-in-Demo-clause-gained g c = c.run_demo.ensures.gained
+
+pub returns-in-Add-clause-one_pass : goal.returns-in-Add-clause-one_pass
+returns-in-Add-clause-one_pass g c = rw c.in-Add.is c.run_add.ensures.one_pass
+
+pub returns-in-Norm-clause-one_pass : goal.returns-in-Norm-clause-one_pass
+returns-in-Norm-clause-one_pass g c = rw c.in-Norm.is tt
+
+pub returns-in-Init-clause-one_pass : goal.returns-in-Init-clause-one_pass
+returns-in-Init-clause-one_pass g c = rw c.in-Init.is tt
+
+pub returns-in-Get-clause-one_pass : goal.returns-in-Get-clause-one_pass
+returns-in-Get-clause-one_pass g c = rw c.in-Get.is tt
+
+pub returns-in-History-clause-one_pass : goal.returns-in-History-clause-one_pass
+returns-in-History-clause-one_pass g c = rw c.in-History.is tt
+
+pub returns-in-Stats-clause-one_pass : goal.returns-in-Stats-clause-one_pass
+returns-in-Stats-clause-one_pass g c = rw c.in-Stats.is tt
+
+pub returns-in-Demo-clause-one_pass : goal.returns-in-Demo-clause-one_pass
+returns-in-Demo-clause-one_pass g c = rw c.in-Demo.is tt

@@ -1,9 +1,11 @@
-use Rattle.std.proofs.Common.{◌≡◌, ◌⊎◌, ℕ, sym, ap, subst, ◌∙◌}
+use Rattle.std.proofs.Common.{◌≡◌, ◌⊎◌, ℕ, Some, sym, ap, subst, ◌∙◌}
+use Rattle.xarch_words.specs.Refusal.{folder_fault}
 use Rattle.xarch_words.specs.View.{words_view}
 use Rattle.xarch_parts.specs.Ends.{fault_of}
 use Rattle.xarch_steps.specs.Plausible.{Tried}
 use Rattle.xarch_steps.specs.Ran.{outside_of, status_after}
-use Rattle.xarch_steps.proofs.Running.{complete-from, long_demo-alone, fault_of-OnErr, folder_fault-caused, out_fault-caused, status_after-input, gained-any, gained-refused, says-fault, Tried-from, Wrote-from}
+use Rattle.xarch_steps.specs.Step.{single_of}
+use Rattle.xarch_steps.proofs.Running.{complete-from, long_demo-alone, fault_of-OnErr, folder_fault-caused, out_fault-caused, status_after-input, gained-any, gained-refused, says-fault, once_by, Tried-from, Wrote-from}
 use Rattle.xarch_steps.proofs.Succeeding.{succeeds-from}
 use Rattle.xarch_steps.proofs.step.take_step.Goals as goal
 
@@ -53,3 +55,8 @@ pub returns-clause-succeeds : goal.returns-clause-succeeds
 returns-clause-succeeds g c = λ files command told is should folder out.
     subst (λ (n : ℕ). (n ≡ 0) ⊎ (n ≡ 16)) (sym c.finish.ensures.status)
     (succeeds-from files (words_view c.args.words.now) command (fault_of c.command_words-ended.result) _ _ _ _ _ _ _ is should (c.command_words-ended.ensures.may files told) c.command_words-ended.ensures.cause folder out)
+
+pub returns-clause-one_pass : goal.returns-clause-one_pass
+returns-clause-one_pass g c =
+    once_by (single_of (words_view c.args.words.now)) (g.F.Folder.files c.args.folder.now) (g.F.Folder.numbers c.args.folder.now) (g.F.Folder.numbers c.command_words-ended.new.folder) (fault_of c.command_words-ended.result ≡ Some folder_fault) (c.finish.result ≡ 13)
+    (λ is. c.finish.ensures.status ∙ ap status_after is) c.command_words-ended.ensures.one_pass
