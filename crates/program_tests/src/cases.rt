@@ -53,6 +53,9 @@ pub(crate) enum Step {
     HasNo(&'static str),
     /// The two files are the same.
     AreAlike(&'static str, &'static str),
+    /// Since the draft was begun last, no more bytes than these were read, and what was read was
+    /// ahead of what was written by no more than these.
+    HasRead(u64, u64),
 }
 
 /// A name, the calls of the folder that fail, and what is done.
@@ -237,6 +240,9 @@ fn is_met(alloc: Global, state: &mut State, step: &Step) -> Result<bool, AllocEr
         }
         Step::HasNo(name) => Ok(state.folder.file(name).is_none()),
         Step::AreAlike(name, other) => Ok(are_alike(&state.folder, name, other)),
+        Step::HasRead(most, ahead) => {
+            Ok(state.folder.since() <= *most && state.folder.gap() <= *ahead)
+        }
     }
 }
 

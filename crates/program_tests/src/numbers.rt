@@ -1,5 +1,5 @@
 use crate::cases::Output::{AsBefore, BeginsWith, Holds, Is};
-use crate::cases::Step::{Archive, AreAlike, HasNo, Run, RunOver};
+use crate::cases::Step::{Archive, AreAlike, HasNo, HasRead, Put, Run, RunOver};
 use crate::cases::{Case, NOTHING, Outside, QUIET, check};
 use crate::documents::{
     COMPANY, FINANCE, FLOOR_NUMBER, FLOOR_TEXT, JOHN, JOHN_RAISED, STRINGS, TINY,
@@ -149,6 +149,22 @@ const CASES: &[Case] = &[
             Run(&["demo", "7", "40", "B"], 0, AsBefore, b""),
             AreAlike("A", "B"),
             Run(&["demo", "7", "40", "A"], 4, NOTHING, b"xarch: A exists\n"),
+        ],
+    },
+    // The document has 103 bytes, the archive 63,894 and its longest record 204.
+    Case {
+        name: "adding goes over an archive once, and writes what it read before it reads on",
+        fails: &[],
+        steps: &[
+            Run(
+                &["demo", "7", "40", "A"],
+                0,
+                Holds(b"\nlargest 204\nbytes 63894\n"),
+                b"",
+            ),
+            Put("d", &[(JOHN, 1)]),
+            Run(&["add", "A", "d"], 0, NOTHING, b""),
+            HasRead(103 + 63_894, 103 + 204),
         ],
     },
     // The first read of the folder fails, and is not that of `demo`.

@@ -6,7 +6,8 @@ use std::fs::Permissions;
 use std::os::unix::fs::PermissionsExt;
 use std::rt::Files;
 use std::test::Fail;
-use xa_outside::{Folder, Sink, Source, fill_at};
+use xa_outside::{Folder, MemSink, MemSource, Sink, Source, fill_at};
+use xarch_run::run;
 
 /// Whether a draft of these pieces is committed under this name.
 fn is_stored(folder: &mut DiskFolder<HostRuntime>, name: &str, pieces: &[&[u8]]) -> bool {
@@ -84,6 +85,54 @@ fn a_file_that_may_not_be_looked_at_is_not_absent(rt: HostRuntime) -> Result<(),
     let length = folder.length(inside);
     assert!(rt; length.is_err() || is_root);
     fs::remove_dir(&rt, closed)?;
+    Ok(())
+}
+
+/// The status of these words, which write nothing and have no input.
+fn status_of(
+    folder: &mut DiskFolder<HostRuntime>,
+    alloc: Global,
+    words: &[&str],
+) -> Result<u8, AllocError> {
+    let mut texts = Vec::new(alloc);
+    for word in words {
+        texts.push(String::from_str(alloc, word)?)?;
+    }
+    let mut input = MemSource::new(Vec::new(alloc), Vec::new(alloc));
+    let mut out = MemSink::new(alloc, Vec::new(alloc));
+    let mut err = MemSink::new(alloc, Vec::new(alloc));
+    Ok(run(alloc, &texts, folder, &mut input, &mut out, &mut err))
+}
+
+/// An archive of one version that has no node.
+const DAMAGED: &[u8] = b"XARC1\n\0\0\0\x0e(/, (db, {}))\n\0\0\0\x01\x09\0\0\0\0\0\0\0\0";
+
+#[test]
+fn what_cannot_be_added_leaves_the_real_file(rt: HostRuntime) -> Result<(), Fail> {
+    let alloc = rt.alloc();
+    let words = ["add", "xarch-test-archive", "xarch-test-document"];
+    let [_, archive, doc] = words;
+    let mut folder = DiskFolder::new(&rt, alloc);
+    let is_archived = is_stored(&mut folder, archive, &[DAMAGED]);
+    assert!(rt; is_archived && is_stored(&mut folder, doc, &[b"[\"db\"]\n"]));
+    assert!(rt; status_of(&mut folder, alloc, &words)? == 11);
+    assert!(rt; holds(&mut folder, alloc, archive, 0, DAMAGED)?);
+
+    // A folder stands where the draft would have to be written.
+    folder.discard();
+    fs::create_dir(&rt, ".xarch-draft")?;
+    assert!(rt; status_of(&mut folder, alloc, &words)? == 13);
+    assert!(rt; holds(&mut folder, alloc, archive, 0, DAMAGED)?);
+    fs::remove_dir(&rt, ".xarch-draft")?;
+
+    // The document has 65 MiB.
+    let piece = vec![in alloc; b' '; 1_048_576]?;
+    assert!(rt; is_stored(&mut folder, doc, &[piece.as_slice(); 65]));
+    assert!(rt; status_of(&mut folder, alloc, &words)? == 12);
+    assert!(rt; holds(&mut folder, alloc, archive, 0, DAMAGED)?);
+    folder.discard();
+    fs::remove_file(&rt, doc)?;
+    fs::remove_file(&rt, archive)?;
     Ok(())
 }
 
