@@ -3,8 +3,10 @@
 
 #[cfg(test)]
 mod again;
+mod stand;
+#[cfg(test)]
 mod stopped;
+#[cfg(test)]
 mod walk;
 
-pub use stopped::Stopped;
-pub use walk::write_again;
+pub use stand::Stand;

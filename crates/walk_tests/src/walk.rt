@@ -2,8 +2,9 @@
 ghost use Rattle.std.specs.Prelude.{◌≡◌, ◌≢◌, ℕ, [], length, None, IfOk};
 ghost use Rattle.record_writer.specs.View.{writer_view};
 ghost use Rattle.walk_tests.specs.Agrees.{Agrees};
-ghost use Rattle.walk_tests.specs.declared.walk.Stand.TheVariants.{Nodes, Leaf};
+ghost use Rattle.walk_tests.specs.declared.stand.Stand.TheVariants.{Nodes, Leaf};
 
+use crate::stand::Stand;
 use crate::stopped::Stopped;
 use archive_tree::effective;
 use record_cursor::{Cursor, Item, read_header};
@@ -12,14 +13,6 @@ use record_writer::{BodyFrom, LabelFrom, Writer};
 use std::alloc::Global;
 use version_set::VersionSet;
 use xa_outside::Folder;
-
-/// Where the walk stands: among nodes, in a leaf, or behind the END of the virtual root.
-#[derive(Clone, Copy, Drop)]
-pub enum Stand {
-    Nodes,
-    Leaf,
-    Closed,
-}
 
 // The stored set, and the effective one.
 fn sets_of(

@@ -1,34 +1,38 @@
 // Calls that a writer refuses.
-use crate::files::{SPECIFICATION, TINY, is_drafted, write_tiny};
-use key_spec::Spec;
+use crate::files::{SPECIFICATION, TINY, drafted, parsed, write_tiny};
 use record_writer::WriteFault;
 use std::alloc::Global;
 use std::test::Fail;
 use xa_outside::{Folder, FolderCall, FolderFail, MemFolder};
 
-// Whether the append of this number fails, and the draft then holds the records before it.
-fn stops_at(alloc: Global, number: u64, held: usize) -> Result<bool, Fail> {
+/// The number of an append, and how many bytes the records before it have.
+const APPENDS: &[(u64, usize)] = &[(1, 0), (2, 28), (3, 49), (4, 68), (5, 77)];
+
+// A folder that has begun a draft, and whose append of this number fails.
+fn failing(alloc: Global, number: u64) -> Result<MemFolder, Fail> {
     let fail = FolderFail {
         call: FolderCall::Append,
         number,
     };
     let mut folder = MemFolder::new(alloc, vec![in alloc; fail]?);
     folder.begin()?;
-    let spec = Spec::parse(alloc, SPECIFICATION)?;
-    let answer = write_tiny(alloc, &mut folder, &spec);
-    let Some(front) = TINY.get(..held) else {
-        return Ok(false);
-    };
-    Ok(answer == Err(WriteFault::Folder) && is_drafted(folder, front))
+    Ok(folder)
+}
+
+// Fails unless the append of this number is a fault, and the draft has the records before it.
+fn stopped(alloc: Global, number: u64, held: usize) -> Result<(), Fail> {
+    let spec = parsed(alloc, SPECIFICATION)?;
+    let mut folder = failing(alloc, number)?;
+    match write_tiny(alloc, &mut folder, &spec) {
+        Err(WriteFault::Folder) => drafted(folder, TINY.get(..held).unwrap_or(&[])),
+        _ => Err("no fault of the folder".into()),
+    }
 }
 
 #[test]
 fn a_failed_append_is_a_fault_of_the_folder(rt: HostRuntime) -> Result<(), Fail> {
-    let alloc = rt.alloc();
-    assert!(rt; stops_at(alloc, 1, 0)?);
-    assert!(rt; stops_at(alloc, 2, 28)?);
-    assert!(rt; stops_at(alloc, 3, 49)?);
-    assert!(rt; stops_at(alloc, 4, 68)?);
-    assert!(rt; stops_at(alloc, 5, 77)?);
+    for (number, held) in APPENDS {
+        stopped(rt.alloc(), *number, *held)?;
+    }
     Ok(())
 }
