@@ -16,4 +16,6 @@ mod specifications;
 #[cfg(test)]
 mod texts;
 #[cfg(test)]
+mod told;
+#[cfg(test)]
 mod trees;

@@ -1,5 +1,5 @@
 //! Specifications, documents and labels that are made of texts.
-ghost use Rattle.std.specs.Prelude.{IfOk};
+ghost use Rattle.std.specs.Prelude.{IfSome};
 ghost use Rattle.jsonml_tree.specs.Fits.{IsElement, ItemsFit};
 ghost use Rattle.jsonml_tree.specs.LentView.{lent_tree_view};
 ghost use Rattle.jsonml_tree.specs.View.{tree_view};
@@ -7,10 +7,10 @@ ghost use Rattle.jsonml_tree.specs.WellFormed.{IsWellFormed};
 
 use jsonml_text::{lend_document, read_document};
 use jsonml_tree::{Content, LentTree, Tree};
+use key_annotate::keyed;
 use key_spec::Spec;
-use keyed_tree::{KeyVal, Label, Name};
+use keyed_tree::{KeyVal, Keyed, Label, Name};
 use std::alloc::{AllocError, Global};
-use std::test::Fail;
 
 pub(crate) const COMPANY: &[u8] = b"# company
 (/, (db, {}))
@@ -54,32 +54,61 @@ pub(crate) fn texts(alloc: Global, texts: &[&str]) -> Result<Vec<String>, AllocE
     Ok(strings)
 }
 
-pub(crate) fn parse(alloc: Global, text: &[u8]) -> Result<Spec, Fail> {
+pub(crate) fn parse(alloc: Global, text: &[u8]) -> Option<Spec> {
     if text.len() > 1_048_576 {
-        return Err(Fail::from("too long"));
+        return None;
     }
-    Ok(Spec::parse(alloc, text)?)
+    Spec::parse(alloc, text).ok()
 }
 
-pub(crate) fn read(alloc: Global, text: &[u8]) -> Result<Tree, Fail>
-    ensures element { IfOk result (λ t. IsElement (tree_view t)) }
-    ensures well_formed { IfOk result (λ t. IsWellFormed (tree_view t)) }
-    ensures items_fit { IfOk result (λ t. ItemsFit (tree_view t)) }
+pub(crate) fn read(alloc: Global, text: &[u8]) -> Option<Tree>
+    ensures element { IfSome result (λ t. IsElement (tree_view t)) }
+    ensures well_formed { IfSome result (λ t. IsWellFormed (tree_view t)) }
+    ensures items_fit { IfSome result (λ t. ItemsFit (tree_view t)) }
 {
     if text.len() > 67_108_864 {
-        return Err(Fail::from("too long"));
+        return None;
     }
-    Ok(read_document(alloc, text)?)
+    match read_document(alloc, text) {
+        Ok(tree) => Some(tree),
+        Err(_) => None,
+    }
 }
 
-pub(crate) fn lend<'a>(alloc: Global, text: &'a [u8]) -> Result<LentTree<'a>, Fail>
-    ensures element { IfOk result (λ t. IsElement (lent_tree_view t)) }
-    ensures items_fit { IfOk result (λ t. ItemsFit (lent_tree_view t)) }
+/// Whether this is the tree of the document.
+pub(crate) fn is_read(alloc: Global, tree: &Tree, text: &[u8]) -> bool {
+    match read(alloc, text) {
+        Some(wanted) => tree.same(&wanted),
+        None => false,
+    }
+}
+
+pub(crate) fn lend<'a>(alloc: Global, text: &'a [u8]) -> Option<LentTree<'a>>
+    ensures element { IfSome result (λ t. IsElement (lent_tree_view t)) }
+    ensures items_fit { IfSome result (λ t. ItemsFit (lent_tree_view t)) }
 {
     if text.len() > 67_108_864 {
-        return Err(Fail::from("too long"));
+        return None;
     }
-    Ok(lend_document(alloc, text)?)
+    match lend_document(alloc, text) {
+        Ok(tree) => Some(tree),
+        Err(_) => None,
+    }
+}
+
+fn keyed_doc(alloc: Global, spec: &Spec, doc: &[u8]) -> Option<Keyed> {
+    match read(alloc, doc) {
+        Some(doc) => keyed(alloc, spec, &doc).ok(),
+        None => None,
+    }
+}
+
+/// The keyed tree of a document by a specification.
+pub(crate) fn keyed_of(alloc: Global, spec: &[u8], doc: &[u8]) -> Option<Keyed> {
+    match parse(alloc, spec) {
+        Some(spec) => keyed_doc(alloc, &spec, doc),
+        None => None,
+    }
 }
 
 fn keys(alloc: Global, texts: &[&str]) -> Result<Vec<KeyVal>, AllocError> {

@@ -1,11 +1,16 @@
+ghost use Rattle.jsonml_tree.specs.Fits.{IsElement, ItemsFit};
+ghost use Rattle.jsonml_tree.specs.LentView.{lent_tree_view};
+ghost use Rattle.jsonml_tree.specs.View.{tree_view};
+
 use crate::reading::{COMPANY, NESTED, Named, label, labels, lend, parse, read, texts};
-use jsonml_tree::LentTree;
+use crate::told::told;
+use jsonml_tree::{LentTree, Tree};
 use key_annotate::{AnnotateFault, keyed};
 use key_rules::{
     KeyFault, LabelFault, PathFault, first_fault, first_lent_fault, label_of, lent_label, read_path,
 };
-use key_spec::KeyPath;
-use keyed_tree::Label;
+use key_spec::{KeyPath, Spec};
+use keyed_tree::{Keyed, Label};
 use std::alloc::{AllocError, Global};
 use std::borrow::CowStr;
 use std::cmp::Ordering;
@@ -105,61 +110,104 @@ fn is_tag(path: &Option<KeyPath>, wanted: &Option<&str>) -> bool {
     }
 }
 
-fn is_wanted(fault: &Option<KeyFault>, wanted: &Option<Wanted>) -> bool {
-    match (fault, wanted) {
-        (None, None) => true,
-        (Some(fault), Some(Wanted(steps, why, tag))) => {
-            fault.place.steps.as_slice() == *steps
-                && fault.why == *why
-                && is_tag(&fault.key_path, tag)
-        }
+fn is_this(fault: &KeyFault, wanted: &Wanted) -> bool {
+    let Wanted(steps, why, tag) = wanted;
+    fault.place.steps.as_slice() == *steps && fault.why == *why && is_tag(&fault.key_path, tag)
+}
+
+fn is_wanted(found: &Result<Option<KeyFault>, AllocError>, wanted: &Option<Wanted>) -> bool {
+    match (found, wanted) {
+        (Ok(Some(fault)), Some(wanted)) => is_this(fault, wanted),
+        (Ok(None), None) => true,
         _ => false,
     }
 }
 
-fn is_fault(alloc: Global, spec: &[u8], doc: &[u8], wanted: &Option<Wanted>) -> Result<bool, Fail> {
-    let spec = parse(alloc, spec)?;
-    let doc = read(alloc, doc)?;
-    Ok(is_wanted(&first_fault(alloc, &spec, &doc)?, wanted))
+fn is_first(alloc: Global, spec: &Spec, doc: &Tree, wanted: &Option<Wanted>) -> bool
+    requires element { IsElement (tree_view doc.now) }
+    requires items_fit { ItemsFit (tree_view doc.now) }
+{
+    let found = first_fault(alloc, spec, doc);
+    is_wanted(&found, wanted)
 }
 
-fn is_fault_in_lent(
-    alloc: Global,
-    spec: &[u8],
-    doc: &[u8],
-    wanted: &Option<Wanted>,
-) -> Result<bool, Fail> {
-    let spec = parse(alloc, spec)?;
-    let doc = lend(alloc, doc)?;
-    Ok(is_wanted(&first_lent_fault(alloc, &spec, &doc)?, wanted))
+fn is_fault_by(alloc: Global, spec: &Spec, doc: &[u8], wanted: &Option<Wanted>) -> bool {
+    match read(alloc, doc) {
+        Some(doc) => is_first(alloc, spec, &doc, wanted),
+        None => false,
+    }
+}
+
+fn is_fault(alloc: Global, spec: &[u8], doc: &[u8], wanted: &Option<Wanted>) -> bool {
+    match parse(alloc, spec) {
+        Some(spec) => is_fault_by(alloc, &spec, doc, wanted),
+        None => false,
+    }
+}
+
+fn is_first_in_lent(alloc: Global, spec: &Spec, doc: &LentTree<'_>, wanted: &Option<Wanted>) -> bool
+    requires element { IsElement (lent_tree_view doc.now) }
+    requires items_fit { ItemsFit (lent_tree_view doc.now) }
+{
+    let found = first_lent_fault(alloc, spec, doc);
+    is_wanted(&found, wanted)
+}
+
+fn is_fault_in_lent_by(alloc: Global, spec: &Spec, doc: &[u8], wanted: &Option<Wanted>) -> bool {
+    match lend(alloc, doc) {
+        Some(doc) => is_first_in_lent(alloc, spec, &doc, wanted),
+        None => false,
+    }
+}
+
+fn is_fault_in_lent(alloc: Global, spec: &[u8], doc: &[u8], wanted: &Option<Wanted>) -> bool {
+    match parse(alloc, spec) {
+        Some(spec) => is_fault_in_lent_by(alloc, &spec, doc, wanted),
+        None => false,
+    }
+}
+
+fn are_lent_faults(alloc: Global) -> Result<(), Fail> {
+    for (name, spec, doc, wanted) in LENT_FAULTS {
+        told(is_fault_in_lent(alloc, spec, doc, wanted), name)?;
+    }
+    Ok(())
 }
 
 #[test]
 fn the_first_fault_is_told(rt: HostRuntime) -> Result<(), Fail> {
     for (name, spec, doc, wanted) in FAULTS {
-        assert!(rt; is_fault(rt.alloc(), spec, doc, wanted)?, "{name}");
+        told(is_fault(rt.alloc(), spec, doc, wanted), name)?;
     }
-    for (name, spec, doc, wanted) in LENT_FAULTS {
-        assert!(rt; is_fault_in_lent(rt.alloc(), spec, doc, wanted)?, "{name}");
-    }
-    Ok(())
+    are_lent_faults(rt.alloc())
 }
 
-/// Whether a document has this fault in place of a keyed tree.
-fn is_refused(alloc: Global, doc: &[u8], wanted: &Option<Wanted>) -> Result<bool, Fail> {
-    let spec = parse(alloc, COMPANY)?;
-    let doc = read(alloc, doc)?;
-    match keyed(alloc, &spec, &doc) {
-        Err(AnnotateFault::Key(fault)) => Ok(is_wanted(&Some(fault), wanted)),
-        _ => Ok(false),
+/// Whether there is this fault in place of a keyed tree.
+fn is_refusal(found: &Result<Keyed, AnnotateFault>, wanted: &Wanted) -> bool {
+    match found {
+        Err(AnnotateFault::Key(fault)) => is_this(fault, wanted),
+        _ => false,
+    }
+}
+
+fn is_refused_by(alloc: Global, spec: &Spec, doc: &[u8], wanted: &Wanted) -> bool {
+    match read(alloc, doc) {
+        Some(doc) => is_refusal(&keyed(alloc, spec, &doc), wanted),
+        None => false,
+    }
+}
+
+fn is_refused(alloc: Global, doc: &[u8], wanted: &Wanted) -> bool {
+    match parse(alloc, COMPANY) {
+        Some(spec) => is_refused_by(alloc, &spec, doc, wanted),
+        None => false,
     }
 }
 
 #[test]
-fn a_repeated_department_has_no_keyed_tree(rt: HostRuntime) -> Result<(), Fail> {
+fn a_repeated_department_has_no_keyed_tree(rt: HostRuntime) {
     let doc = br#"["db",["dept",["name","finance"]],["dept",["name","finance"]]]"#;
-    assert!(rt; is_refused(rt.alloc(), doc, &Some(Wanted(&[2], 5, None)))?);
-    Ok(())
+    assert!(rt; is_refused(rt.alloc(), doc, &Wanted(&[2], 5, None)));
 }
 
 /// Why an element has no label: 0 where no rule is for it, and else the number of the key path that it misses.
@@ -187,21 +235,64 @@ const LABELS: &[(&str, &[&str], &[u8], Result<Named, Missing>)] = &[
     ),
 ];
 
-/// The label of an element, or why it has none.
-fn labelled(
-    alloc: Global,
-    context: &[&str],
-    doc: &[u8],
-) -> Result<Result<Label, LabelFault>, Fail> {
-    let spec = parse(alloc, COMPANY)?;
-    let context = texts(alloc, context)?;
-    let doc = read(alloc, doc)?;
-    Ok(label_of(alloc, &spec, &context, &doc))
+fn is_named(alloc: Global, found: &Label, named: &Named) -> bool {
+    match label(alloc, named) {
+        Ok(wanted) => found.same(&wanted),
+        Err(_) => false,
+    }
 }
 
-fn is_label(alloc: Global, found: &Label, named: &Named) -> Result<bool, AllocError> {
-    let wanted = label(alloc, named)?;
-    Ok(found.same(&wanted))
+/// Whether this is the label of an element, or why it has none.
+fn is_label(
+    alloc: Global,
+    found: &Result<Label, LabelFault>,
+    wanted: &Result<Named, Missing>,
+) -> bool {
+    match (found, wanted) {
+        (Ok(found), Ok(named)) => is_named(alloc, found, named),
+        (Err(LabelFault::Missing { path }), Err(wanted)) => path == wanted,
+        (Err(LabelFault::Unkeyed), Err(wanted)) => *wanted == 0,
+        _ => false,
+    }
+}
+
+fn has_label(
+    alloc: Global,
+    spec: &Spec,
+    context: &[String],
+    doc: &Tree,
+    wanted: &Result<Named, Missing>,
+) -> bool
+    requires { IsElement (tree_view doc.now) }
+{
+    let found = label_of(alloc, spec, context, doc);
+    is_label(alloc, &found, wanted)
+}
+
+fn is_labelled_in(
+    alloc: Global,
+    spec: &Spec,
+    context: &[String],
+    doc: &[u8],
+    wanted: &Result<Named, Missing>,
+) -> bool {
+    match read(alloc, doc) {
+        Some(doc) => has_label(alloc, spec, context, &doc, wanted),
+        None => false,
+    }
+}
+
+fn is_labelled_by(
+    alloc: Global,
+    spec: &Spec,
+    context: &[&str],
+    doc: &[u8],
+    wanted: &Result<Named, Missing>,
+) -> bool {
+    match texts(alloc, context) {
+        Ok(context) => is_labelled_in(alloc, spec, &context, doc, wanted),
+        Err(_) => false,
+    }
 }
 
 fn is_labelled(
@@ -209,20 +300,17 @@ fn is_labelled(
     context: &[&str],
     doc: &[u8],
     wanted: &Result<Named, Missing>,
-) -> Result<bool, Fail> {
-    let found = labelled(alloc, context, doc)?;
-    match (&found, wanted) {
-        (Ok(found), Ok(named)) => Ok(is_label(alloc, found, named)?),
-        (Err(LabelFault::Missing { path }), Err(wanted)) => Ok(path == wanted),
-        (Err(LabelFault::Unkeyed), Err(wanted)) => Ok(*wanted == 0),
-        _ => Ok(false),
+) -> bool {
+    match parse(alloc, COMPANY) {
+        Some(spec) => is_labelled_by(alloc, &spec, context, doc, wanted),
+        None => false,
     }
 }
 
 #[test]
 fn elements_have_their_labels(rt: HostRuntime) -> Result<(), Fail> {
     for (name, context, doc, wanted) in LABELS {
-        assert!(rt; is_labelled(rt.alloc(), context, doc, wanted)?, "{name}");
+        told(is_labelled(rt.alloc(), context, doc, wanted), name)?;
     }
     Ok(())
 }
@@ -280,35 +368,42 @@ const PATHS: &[(&[u8], &str, Result<&[Named], u32>)] = &[
     (NESTED, r#"["a","b","c","d","e","f","g","h"]"#, Err(8)),
 ];
 
-/// The labels of a path, or why it is none.
-fn path_of(alloc: Global, spec: &[u8], path: &str) -> Result<Result<Vec<Label>, PathFault>, Fail> {
-    let spec = parse(alloc, spec)?;
-    Ok(read_path(alloc, &spec, path))
+fn are_labels(alloc: Global, found: &[Label], named: &[Named]) -> bool {
+    match labels(alloc, named) {
+        Ok(wanted) => found == wanted.as_slice(),
+        Err(_) => false,
+    }
 }
 
-fn are_labels(alloc: Global, found: &[Label], named: &[Named]) -> Result<bool, AllocError> {
-    let wanted = labels(alloc, named)?;
-    Ok(found == wanted.as_slice())
-}
-
+/// Whether these are the labels of a path, or why it is none.
 fn is_path(
     alloc: Global,
-    spec: &[u8],
-    path: &str,
+    found: &Result<Vec<Label>, PathFault>,
     wanted: &Result<&[Named], u32>,
-) -> Result<bool, Fail> {
-    let found = path_of(alloc, spec, path)?;
-    match (&found, wanted) {
-        (Ok(found), Ok(named)) => Ok(are_labels(alloc, found, named)?),
-        (Err(PathFault::Bad { step }), Err(wanted)) => Ok(step == wanted),
-        _ => Ok(false),
+) -> bool {
+    match (found, wanted) {
+        (Ok(found), Ok(named)) => are_labels(alloc, found, named),
+        (Err(PathFault::Bad { step }), Err(wanted)) => step == wanted,
+        _ => false,
+    }
+}
+
+fn is_path_by(alloc: Global, spec: &Spec, path: &str, wanted: &Result<&[Named], u32>) -> bool {
+    let found = read_path(alloc, spec, path);
+    is_path(alloc, &found, wanted)
+}
+
+fn is_path_of(alloc: Global, spec: &[u8], path: &str, wanted: &Result<&[Named], u32>) -> bool {
+    match parse(alloc, spec) {
+        Some(spec) => is_path_by(alloc, &spec, path, wanted),
+        None => false,
     }
 }
 
 #[test]
 fn paths_have_their_labels_or_a_bad_step(rt: HostRuntime) -> Result<(), Fail> {
     for (spec, path, wanted) in PATHS {
-        assert!(rt; is_path(rt.alloc(), spec, path, wanted)?, "{path}");
+        told(is_path_of(rt.alloc(), spec, path, wanted), path)?;
     }
     Ok(())
 }
@@ -322,21 +417,25 @@ fn leaf<'a>(tag: &'a str, text: &'a str) -> LentTree<'a> {
 }
 
 /// How the labels of two leaves are ordered, if they have labels.
-fn order_of_leaves(alloc: Global, one: &str, other: &str) -> Result<Option<Ordering>, Fail> {
-    let spec = parse(alloc, b"(/, (p, {.}))\n")?;
+fn order_by(alloc: Global, spec: &Spec, one: &str, other: &str) -> Option<Ordering> {
     let (one, other) = (leaf("p", one), leaf("p", other));
-    let first = lent_label(alloc, &spec, &[], &one)?;
-    let second = lent_label(alloc, &spec, &[], &other)?;
+    let first = lent_label(alloc, spec, &[], &one);
+    let second = lent_label(alloc, spec, &[], &other);
     match (&first, &second) {
-        (Some(first), Some(second)) => Ok(Some(first.order(second))),
-        _ => Ok(None),
+        (Ok(Some(first)), Ok(Some(second))) => Some(first.order(second)),
+        _ => None,
     }
+}
+
+fn are_in_order(alloc: Global, spec: &Spec) -> bool {
+    order_by(alloc, spec, "a", "b") == Some(Ordering::Less)
+        && order_by(alloc, spec, "b", "a") == Some(Ordering::Greater)
 }
 
 #[test]
 fn lent_labels_come_in_the_order_of_their_texts(rt: HostRuntime) -> Result<(), Fail> {
-    let ascending = order_of_leaves(rt.alloc(), "a", "b")?;
-    let descending = order_of_leaves(rt.alloc(), "b", "a")?;
-    assert!(rt; ascending == Some(Ordering::Less) && descending == Some(Ordering::Greater));
-    Ok(())
+    match parse(rt.alloc(), b"(/, (p, {.}))\n") {
+        Some(spec) => told(are_in_order(rt.alloc(), &spec), "order"),
+        None => Err(Fail::new("no specification")),
+    }
 }

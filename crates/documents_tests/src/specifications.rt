@@ -1,4 +1,5 @@
 use crate::reading::{COMPANY, parse, texts};
+use crate::told::told;
 use key_spec::{KeyPath, Spec, SpecFault};
 use std::alloc::{AllocError, Global};
 use std::test::Fail;
@@ -14,28 +15,37 @@ const COMPANY_TEXT: &[u8] = b"(/, (db, {}))
 ";
 
 /// A text, and the canonical text of what it specifies.
-const CANONICAL: &[(&[u8], &[u8])] = &[
-    (COMPANY, COMPANY_TEXT),
-    (COMPANY_TEXT, COMPANY_TEXT),
+const CANONICAL: &[(&str, &[u8], &[u8])] = &[
+    ("the company", COMPANY, COMPANY_TEXT),
+    ("the canonical company", COMPANY_TEXT, COMPANY_TEXT),
     // A carriage return belongs to the end of a line.
     (
+        "blanks and carriage returns",
         b"\r\n (\t/ ,(db , { } ) ) \r\n(/db, (e, {@id}))\r",
         b"(/, (db, {}))\n(/db, (e, {@id}))\n",
     ),
 ];
 
-fn is_canonical(alloc: Global, text: &[u8], wanted: &[u8]) -> Result<bool, Fail> {
-    let spec = parse(alloc, text)?;
-    Ok(spec.text(alloc)?.as_bytes() == wanted)
+fn has_text(alloc: Global, spec: &Spec, wanted: &[u8]) -> bool {
+    match spec.text(alloc) {
+        Ok(text) => text.as_bytes() == wanted,
+        Err(_) => false,
+    }
+}
+
+fn is_canonical(alloc: Global, text: &[u8], wanted: &[u8]) -> bool {
+    match parse(alloc, text) {
+        Some(spec) => has_text(alloc, &spec, wanted),
+        None => false,
+    }
 }
 
 #[test]
 fn specifications_have_their_canonical_texts(rt: HostRuntime) -> Result<(), Fail> {
-    assert_eq!(rt; COMPANY_TEXT.len(), 190);
-    for (index, (text, wanted)) in CANONICAL.iter().enumerate() {
-        assert!(rt; is_canonical(rt.alloc(), text, wanted)?, "text {index}");
+    for (name, text, wanted) in CANONICAL {
+        told(is_canonical(rt.alloc(), text, wanted), name)?;
     }
-    Ok(())
+    told(COMPANY_TEXT.len() == 190, "the company's length")
 }
 
 /// A text, and the line and why of its fault, or no line and no why.
@@ -80,23 +90,27 @@ const FAULTS: &[(&[u8], (u32, u8))] = &[
     (b"(/, (db, {a/b/c/d/e/f/g/h/@i}))", (0, 0)),
 ];
 
-fn fault(alloc: Global, text: &[u8]) -> Result<(u32, u8), Fail> {
-    if text.len() > 1_048_576 {
-        return Err(Fail::from("too long"));
-    }
-    match Spec::parse(alloc, text) {
-        Ok(_) => Ok((0, 0)),
-        Err(SpecFault::Bad { line, why }) => Ok((line, why)),
-        Err(fault) => Err(Fail::from(fault)),
+fn fault_in(found: &Result<Spec, SpecFault>) -> Option<(u32, u8)> {
+    match found {
+        Ok(_) => Some((0, 0)),
+        Err(SpecFault::Bad { line, why }) => Some((*line, *why)),
+        Err(_) => None,
     }
 }
 
-#[test]
-fn each_fault_has_its_line_and_why(rt: HostRuntime) -> Result<(), Fail> {
-    for (index, (text, wanted)) in FAULTS.iter().enumerate() {
-        assert!(rt; fault(rt.alloc(), text)? == *wanted, "text {index}");
+fn fault(alloc: Global, text: &[u8]) -> Option<(u32, u8)> {
+    if text.len() > 1_048_576 {
+        return None;
     }
-    Ok(())
+    let found = Spec::parse(alloc, text);
+    fault_in(&found)
+}
+
+#[test]
+fn each_fault_has_its_line_and_why(rt: HostRuntime) {
+    for (index, (text, wanted)) in FAULTS.iter().enumerate() {
+        assert!(rt; fault(rt.alloc(), text) == Some(*wanted), "text {index}");
+    }
 }
 
 /// A rule with a key, 4,094 rules below it, and this line.
@@ -109,62 +123,90 @@ fn with_rules(alloc: Global, last: &str) -> Result<String, AllocError> {
     Ok(text)
 }
 
-fn fault_of_many(alloc: Global, last: &str) -> Result<(u32, u8), Fail> {
-    let text = with_rules(alloc, last)?;
-    fault(alloc, text.as_bytes())
-}
-
-#[test]
-fn there_are_at_most_4096_closed_rules(rt: HostRuntime) -> Result<(), Fail> {
-    assert!(rt; fault_of_many(rt.alloc(), "")? == (0, 0));
-    assert!(rt; fault_of_many(rt.alloc(), "(/r, (last, {}))")? == (0, 7));
-    Ok(())
-}
-
-/// A rule of the company with two key paths, and where the frontier is.
-fn are_rules_found(alloc: Global, spec: &Spec) -> Result<bool, AllocError> {
-    let dept = texts(alloc, &["db", "dept"])?;
-    let tel = texts(alloc, &["db", "dept", "emp", "tel"])?;
-    Ok(
-        spec.rules().len() == 8
-            && spec.rule(&dept, "sal").is_none()
-            && spec.is_frontier(&tel)
-            && !spec.is_frontier(&dept),
-    )
-}
-
-/// Whether the employees' rule has these key paths.
-fn are_paths(alloc: Global, spec: &Spec, first: &str, second: &str) -> Result<bool, AllocError> {
-    let dept = texts(alloc, &["db", "dept"])?;
-    match spec.rule(&dept, "emp").map(|rule| rule.paths.as_slice()) {
-        Some([one, other]) => {
-            let is_first = one.text(alloc)?.as_str() == first;
-            Ok(is_first && other.text(alloc)?.as_str() == second)
-        }
-        _ => Ok(false),
+fn fault_of_many(alloc: Global, last: &str) -> Option<(u32, u8)> {
+    match with_rules(alloc, last) {
+        Ok(text) => fault(alloc, text.as_bytes()),
+        Err(_) => None,
     }
 }
 
-fn are_found(alloc: Global) -> Result<bool, Fail> {
-    let spec = parse(alloc, COMPANY)?;
-    Ok(are_rules_found(alloc, &spec)? && are_paths(alloc, &spec, "fn", "ln")?)
+#[test]
+fn there_are_at_most_4096_closed_rules(rt: HostRuntime) {
+    let are_enough = fault_of_many(rt.alloc(), "") == Some((0, 0));
+    let is_too_many = fault_of_many(rt.alloc(), "(/r, (last, {}))") == Some((0, 7));
+    assert!(rt; are_enough && is_too_many);
+}
+
+/// Whether the frontier is at this context, or not.
+fn is_frontier(alloc: Global, spec: &Spec, context: &[&str], wanted: bool) -> bool {
+    match texts(alloc, context) {
+        Ok(context) => spec.is_frontier(&context) == wanted,
+        Err(_) => false,
+    }
+}
+
+fn is_path(alloc: Global, path: &KeyPath, text: &str) -> bool {
+    match path.text(alloc) {
+        Ok(found) => found.as_str() == text,
+        Err(_) => false,
+    }
+}
+
+fn are_two(alloc: Global, paths: &[KeyPath], first: &str, second: &str) -> bool {
+    match paths {
+        [one, other] => is_path(alloc, one, first) && is_path(alloc, other, second),
+        _ => false,
+    }
+}
+
+/// Whether the employees' rule has these key paths, and a salary none.
+fn are_rules(alloc: Global, spec: &Spec, dept: &[String], first: &str, second: &str) -> bool {
+    if spec.rule(dept, "sal").is_some() {
+        return false;
+    }
+    match spec.rule(dept, "emp") {
+        Some(rule) => are_two(alloc, rule.paths.as_slice(), first, second),
+        None => false,
+    }
+}
+
+fn are_paths(alloc: Global, spec: &Spec, first: &str, second: &str) -> bool {
+    match texts(alloc, &["db", "dept"]) {
+        Ok(dept) => are_rules(alloc, spec, &dept, first, second),
+        Err(_) => false,
+    }
+}
+
+/// A rule of the company with two key paths, and where the frontier is.
+fn are_found(alloc: Global, spec: &Spec) -> bool {
+    spec.rules().len() == 8
+        && are_paths(alloc, spec, "fn", "ln")
+        && is_frontier(alloc, spec, &["db", "dept", "emp", "tel"], true)
+        && is_frontier(alloc, spec, &["db", "dept"], false)
 }
 
 #[test]
 fn rules_are_found_by_context_and_tag(rt: HostRuntime) -> Result<(), Fail> {
-    assert!(rt; are_found(rt.alloc())?);
-    Ok(())
+    match parse(rt.alloc(), COMPANY) {
+        Some(spec) => told(are_found(rt.alloc(), &spec), "rules"),
+        None => Err(Fail::new("no specification")),
+    }
 }
 
-fn is_path_text(alloc: Global, tags: &[&str], attr: &str, text: &str) -> Result<bool, AllocError> {
+fn key_path(alloc: Global, tags: &[&str], attr: &str) -> Result<KeyPath, AllocError> {
     let attr = Some(String::from_str(alloc, attr)?);
     let tags = texts(alloc, tags)?;
-    let path = KeyPath { tags, attr };
-    Ok(path.text(alloc)?.as_str() == text)
+    Ok(KeyPath { tags, attr })
+}
+
+fn is_path_text(alloc: Global, tags: &[&str], attr: &str, text: &str) -> bool {
+    match key_path(alloc, tags, attr) {
+        Ok(path) => is_path(alloc, &path, text),
+        Err(_) => false,
+    }
 }
 
 #[test]
-fn key_paths_are_written_as_they_are_read(rt: HostRuntime) -> Result<(), Fail> {
-    assert!(rt; is_path_text(rt.alloc(), &["a", "b"], "c", "a/b/@c")?);
-    Ok(())
+fn key_paths_are_written_as_they_are_read(rt: HostRuntime) {
+    assert!(rt; is_path_text(rt.alloc(), &["a", "b"], "c", "a/b/@c"));
 }

@@ -2,6 +2,7 @@ ghost use Rattle.jsonml_tree.specs.Fits.{IsElement};
 ghost use Rattle.jsonml_tree.specs.View.{tree_view};
 
 use crate::reading::{Pieces, joined, lend, read};
+use crate::told::told;
 use jsonml_text::{
     DocFault, Printer, content_of, print_lent_content, read_document, scalar_of, write_tree,
 };
@@ -116,34 +117,57 @@ const PRINTED: &[(&str, Pieces, Pieces)] = &[
     ),
 ];
 
+fn is_owned(alloc: Global, lent: &LentTree<'_>, tree: &Tree) -> bool {
+    match lent.own(alloc) {
+        Ok(owned) => owned == *tree,
+        Err(_) => false,
+    }
+}
+
 /// Whether the document whose texts are lent is the same tree.
-fn is_lent(alloc: Global, document: &[u8], tree: &Tree) -> Result<bool, Fail> {
-    let lent = lend(alloc, document)?;
-    let owned = lent.own(alloc)?;
-    Ok(owned == *tree)
+fn is_lent(alloc: Global, document: &[u8], tree: &Tree) -> bool {
+    match lend(alloc, document) {
+        Some(lent) => is_owned(alloc, &lent, tree),
+        None => false,
+    }
 }
 
 /// Whether this is written of a tree.
-fn is_written(alloc: Global, tree: &Tree, text: Pieces) -> Result<bool, AllocError>
+fn is_put(sink: &mut MemSink, tree: &Tree, text: &[u8]) -> bool
     requires { IsElement (tree_view tree.now) }
 {
-    let text = joined(alloc, text)?;
+    write_tree(tree, sink).is_ok() && text == sink.taken()
+}
+
+fn is_written(alloc: Global, tree: &Tree, text: Pieces) -> bool
+    requires { IsElement (tree_view tree.now) }
+{
     let mut sink = MemSink::new(alloc, Vec::new(alloc));
-    let is_written = write_tree(tree, &mut sink).is_ok();
-    Ok(is_written && text.as_slice() == sink.taken())
+    match joined(alloc, text) {
+        Ok(text) => is_put(&mut sink, tree, text.as_slice()),
+        Err(_) => false,
+    }
 }
 
 /// Whether both ways to read a document give one tree, and this is printed of it.
-fn is_printed(alloc: Global, document: Pieces, text: Pieces) -> Result<bool, Fail> {
-    let document = joined(alloc, document)?;
-    let tree = read(alloc, &document)?;
-    Ok(is_lent(alloc, &document, &tree)? && is_written(alloc, &tree, text)?)
+fn is_read_and_written(alloc: Global, document: &[u8], text: Pieces) -> bool {
+    match read(alloc, document) {
+        Some(tree) => is_lent(alloc, document, &tree) && is_written(alloc, &tree, text),
+        None => false,
+    }
+}
+
+fn is_printed(alloc: Global, document: Pieces, text: Pieces) -> bool {
+    match joined(alloc, document) {
+        Ok(document) => is_read_and_written(alloc, &document, text),
+        Err(_) => false,
+    }
 }
 
 #[test]
 fn documents_are_printed(rt: HostRuntime) -> Result<(), Fail> {
     for (name, document, text) in PRINTED {
-        assert!(rt; is_printed(rt.alloc(), document, text)?, "{name}");
+        told(is_printed(rt.alloc(), document, text), name)?;
     }
     Ok(())
 }
@@ -161,14 +185,19 @@ const MISSHAPEN: &[(&[u8], &[u32], u8)] = &[
     (b"[\"db\",{},\"x\",[\"e\",[\"f\",null]],[]]", &[2, 1, 1], 3),
 ];
 
+fn is_bad_shape(found: &Result<Tree, DocFault>, steps: &[u32], code: u8) -> bool {
+    match found {
+        Err(DocFault::BadShape { place, why }) => place.steps.as_slice() == steps && *why == code,
+        _ => false,
+    }
+}
+
 fn is_misshapen(alloc: Global, document: &[u8], steps: &[u32], code: u8) -> bool {
     if document.len() > 1000 {
         return false;
     }
-    match read_document(alloc, document) {
-        Err(DocFault::BadShape { place, why }) => place.steps.as_slice() == steps && why == code,
-        _ => false,
-    }
+    let found = read_document(alloc, document);
+    is_bad_shape(&found, steps, code)
 }
 
 #[test]
@@ -181,28 +210,43 @@ fn shape_faults_have_their_place_and_why(rt: HostRuntime) {
     }
 }
 
-/// Whether the document is too deep, at the first item of the first item and so on.
-fn is_too_deep(alloc: Global, document: Pieces, steps: &[u32]) -> Result<bool, AllocError> {
-    let document = joined(alloc, document)?;
-    if document.len() > 10_000 {
-        return Ok(false);
+/// Whether this is too deep, at the first item of the first item and so on.
+fn is_deep_at(found: &Result<Tree, DocFault>, steps: &[u32]) -> bool {
+    match found {
+        Err(DocFault::TooDeep { place }) => place.steps.as_slice() == steps,
+        _ => false,
     }
-    match read_document(alloc, &document) {
-        Err(DocFault::TooDeep { place }) => Ok(place.steps.as_slice() == steps),
-        _ => Ok(false),
+}
+
+fn is_read_as_deep(alloc: Global, document: &[u8], steps: &[u32]) -> bool {
+    if document.len() > 10_000 {
+        return false;
+    }
+    let found = read_document(alloc, document);
+    is_deep_at(&found, steps)
+}
+
+fn is_too_deep(alloc: Global, document: Pieces, steps: &[u32]) -> bool {
+    match joined(alloc, document) {
+        Ok(document) => is_read_as_deep(alloc, &document, steps),
+        Err(_) => false,
     }
 }
 
 #[test]
-fn depth_121_is_too_deep_at_its_place(rt: HostRuntime) -> Result<(), Fail> {
+fn depth_121_is_too_deep_at_its_place(rt: HostRuntime) {
     let document: Pieces = &[(b"[\"db\"", 1), (b",[\"a\"", 120), (b"]", 121)];
-    assert!(rt; is_too_deep(rt.alloc(), document, &[1; 120])?);
-    Ok(())
+    assert!(rt; is_too_deep(rt.alloc(), document, &[1; 120]));
+}
+
+fn is_bad(found: &Result<Tree, DocFault>) -> bool {
+    matches!(found, Err(DocFault::BadJson))
 }
 
 #[test]
 fn half_an_array_is_bad_json(rt: HostRuntime) {
-    assert!(rt; matches!(read_document(rt.alloc(), b"["), Err(DocFault::BadJson)));
+    let found = read_document(rt.alloc(), b"[");
+    assert!(rt; is_bad(&found));
 }
 
 // Prints an element that holds more than a text.
@@ -221,45 +265,75 @@ fn print_around(tag: &str, content: LentContent<'_, '_>, sink: &mut MemSink) -> 
     printer.end_elem(sink)
 }
 
-fn is_lent_printed(alloc: Global) -> Result<bool, Fail> {
-    let lent = lend(alloc, LENT)?;
+fn is_printed_as(lent: &LentTree<'_>, sink: &mut MemSink, text: &[u8]) -> bool {
+    print_lent(lent, sink).is_some() && sink.taken() == text
+}
+
+fn is_lent_printed(alloc: Global) -> bool {
     let mut sink = MemSink::new(alloc, Vec::new(alloc));
-    Ok(print_lent(&lent, &mut sink).is_some() && sink.taken() == LENT)
-}
-
-#[test]
-fn a_lent_content_is_printed_between_calls(rt: HostRuntime) -> Result<(), Fail> {
-    assert!(rt; is_lent_printed(rt.alloc())?);
-    Ok(())
-}
-
-/// Whether this is the JSON text of the number 3.
-fn is_three(alloc: Global, text: &str) -> Result<bool, Fail> {
-    let value = Value::from_str(alloc, text)?;
-    Ok(scalar_of(alloc, &value)? == Some(Scalar::Whole(3)))
-}
-
-/// The content that the values of an array are, if they are one.
-fn content_in(alloc: Global, text: &str) -> Result<Option<Content>, Fail> {
-    match Value::from_str(alloc, text)? {
-        Value::Array(values) => Ok(content_of(alloc, &values)?),
-        _ => Err(Fail::from("no array")),
-    }
-}
-
-/// Whether the values of an array are the content of this text.
-fn is_content(alloc: Global, array: &str, text: &str) -> Result<bool, Fail> {
-    match content_in(alloc, array)? {
-        Some(content) => Ok(content.same(&Content::of_text(alloc, text)?)),
-        None => Ok(false),
+    match lend(alloc, LENT) {
+        Some(lent) => is_printed_as(&lent, &mut sink, LENT),
+        None => false,
     }
 }
 
 #[test]
-fn values_are_a_scalar_or_a_content(rt: HostRuntime) -> Result<(), Fail> {
-    assert!(rt; is_three(rt.alloc(), "3")? && !is_three(rt.alloc(), "[]")?);
-    assert!(rt; is_content(rt.alloc(), "[\"finance\"]", "finance")?);
-    Ok(())
+fn a_lent_content_is_printed_between_calls(rt: HostRuntime) {
+    assert!(rt; is_lent_printed(rt.alloc()));
+}
+
+/// Whether a scalar was found, the number 3, or none.
+fn is_three(found: &Result<Option<Scalar>, AllocError>, wanted: bool) -> bool {
+    match found {
+        Ok(Some(scalar)) => wanted && *scalar == Scalar::Whole(3),
+        Ok(None) => !wanted,
+        Err(_) => false,
+    }
+}
+
+/// Whether this is the JSON text of the number 3, or of no scalar.
+fn is_text_of_three(alloc: Global, text: &str, wanted: bool) -> bool {
+    match Value::from_str(alloc, text) {
+        Ok(value) => is_three(&scalar_of(alloc, &value), wanted),
+        Err(_) => false,
+    }
+}
+
+fn is_of_text(alloc: Global, content: &Content, text: &str) -> bool {
+    match Content::of_text(alloc, text) {
+        Ok(wanted) => content.same(&wanted),
+        Err(_) => false,
+    }
+}
+
+/// Whether values are the content of this text.
+fn are_content(alloc: Global, values: &[Value], text: &str) -> bool {
+    match content_of(alloc, values) {
+        Ok(Some(content)) => is_of_text(alloc, &content, text),
+        _ => false,
+    }
+}
+
+/// Whether a value is an array whose values are that.
+fn is_content(alloc: Global, value: &Value, text: &str) -> bool {
+    match value {
+        Value::Array(values) => are_content(alloc, values, text),
+        _ => false,
+    }
+}
+
+fn is_array_content(alloc: Global, array: &str, text: &str) -> bool {
+    match Value::from_str(alloc, array) {
+        Ok(value) => is_content(alloc, &value, text),
+        Err(_) => false,
+    }
+}
+
+#[test]
+fn values_are_a_scalar_or_a_content(rt: HostRuntime) {
+    let alloc = rt.alloc();
+    let are_scalars = is_text_of_three(alloc, "3", true) && is_text_of_three(alloc, "[]", false);
+    assert!(rt; are_scalars && is_array_content(alloc, "[\"finance\"]", "finance"));
 }
 
 /// What two elements in one another print by single calls.
@@ -286,15 +360,29 @@ fn a_list_of_calls_prints_the_same_text(rt: HostRuntime) {
 }
 
 /// Whether a write that fails leaves what was written before.
-fn is_prefix_left(alloc: Global) -> Result<bool, Fail> {
-    let tree = read(alloc, b"[\"db\",[\"e\"]]")?;
-    let mut sink = MemSink::new(alloc, vec![in alloc; 3]?);
-    let fails = write_tree(&tree, &mut sink).is_err();
-    Ok(fails && sink.taken() == b"[\"db".as_slice())
+fn is_prefix_left(sink: &mut MemSink, tree: &Tree) -> bool
+    requires { IsElement (tree_view tree.now) }
+{
+    write_tree(tree, sink).is_err() && sink.taken() == b"[\"db".as_slice()
+}
+
+/// Whether that is so where the sink fails at its third write.
+fn is_prefix_of(alloc: Global, document: &[u8], fails: Vec<u64>) -> bool {
+    let mut sink = MemSink::new(alloc, fails);
+    match read(alloc, document) {
+        Some(tree) => is_prefix_left(&mut sink, &tree),
+        None => false,
+    }
+}
+
+fn is_third_write_failed(alloc: Global) -> bool {
+    match vec![in alloc; 3] {
+        Ok(fails) => is_prefix_of(alloc, b"[\"db\",[\"e\"]]", fails),
+        Err(_) => false,
+    }
 }
 
 #[test]
-fn a_write_that_fails_leaves_a_prefix(rt: HostRuntime) -> Result<(), Fail> {
-    assert!(rt; is_prefix_left(rt.alloc())?);
-    Ok(())
+fn a_write_that_fails_leaves_a_prefix(rt: HostRuntime) {
+    assert!(rt; is_third_write_failed(rt.alloc()));
 }

@@ -1,4 +1,5 @@
 use crate::reading::{lend, read};
+use crate::told::told;
 use jsonml_tree::{Content, LentAttr, LentContent, LentScalar, LentTree, Scalar, Tree};
 use std::alloc::{AllocError, Global};
 use std::cmp::Ordering;
@@ -17,36 +18,44 @@ fn scalars(alloc: Global) -> Result<[Scalar; 6], AllocError> {
     ])
 }
 
-fn ascend(alloc: Global, first: &Scalar, second: &Scalar) -> Result<bool, AllocError> {
-    let is_copied = second.copy(alloc)?.same(second) && second.lend().own(alloc)?.same(second);
-    Ok(
-        is_copied
-            && first.same(first)
-            && first.order(second) == Ordering::Less
-            && second.order(first) == Ordering::Greater
-            && first.lend().order(second.lend()) == Ordering::Less,
-    )
+fn is_same_copy(copy: Result<Scalar, AllocError>, scalar: &Scalar) -> bool {
+    match &copy {
+        Ok(copy) => copy.same(scalar),
+        Err(_) => false,
+    }
 }
 
-/// The place of the first two scalars that do not ascend.
-fn first_descent(alloc: Global, scalars: &[Scalar]) -> Result<Option<usize>, AllocError> {
-    for (index, pair) in scalars.windows(2).enumerate() {
-        if !ascend(alloc, &pair[0], &pair[1])? {
-            return Ok(Some(index));
+fn is_scalar_copied(alloc: Global, scalar: &Scalar) -> bool {
+    is_same_copy(scalar.copy(alloc), scalar) && is_same_copy(scalar.lend().own(alloc), scalar)
+}
+
+fn ascend(first: &Scalar, second: &Scalar) -> bool {
+    first.same(first)
+        && first.order(second) == Ordering::Less
+        && second.order(first) == Ordering::Greater
+        && first.lend().order(second.lend()) == Ordering::Less
+}
+
+/// Whether each scalar comes before the next, which is copied.
+fn do_ascend(alloc: Global, scalars: &[Scalar]) -> bool {
+    for pair in scalars.windows(2) {
+        if !is_scalar_copied(alloc, &pair[1]) || !ascend(&pair[0], &pair[1]) {
+            return false;
         }
     }
-    Ok(None)
+    true
 }
 
-fn do_scalars_ascend(alloc: Global) -> Result<bool, AllocError> {
-    let scalars = scalars(alloc)?;
-    Ok(first_descent(alloc, &scalars)?.is_none())
+fn do_scalars_ascend(alloc: Global) -> bool {
+    match scalars(alloc) {
+        Ok(scalars) => do_ascend(alloc, &scalars),
+        Err(_) => false,
+    }
 }
 
 #[test]
-fn scalars_go_by_kind_and_then_by_value(rt: HostRuntime) -> Result<(), Fail> {
-    assert!(rt; do_scalars_ascend(rt.alloc())?);
-    Ok(())
+fn scalars_go_by_kind_and_then_by_value(rt: HostRuntime) {
+    assert!(rt; do_scalars_ascend(rt.alloc()));
 }
 
 fn items(tree: &Tree) -> &[Tree] {
@@ -57,105 +66,166 @@ fn items(tree: &Tree) -> &[Tree] {
 }
 
 /// Whether the first of two items comes before the second.
-fn is_first_less(alloc: Global, document: &[u8]) -> Result<bool, Fail> {
-    let tree = read(alloc, document)?;
-    match items(&tree) {
-        [first, second] => Ok(first.order(second) == Ordering::Less && !first.same(second)),
-        _ => Ok(false),
+fn is_less(items: &[Tree]) -> bool {
+    match items {
+        [first, second] => first.order(second) == Ordering::Less && !first.same(second),
+        _ => false,
+    }
+}
+
+fn is_first_less(alloc: Global, document: &[u8]) -> bool {
+    match read(alloc, document) {
+        Some(tree) => is_less(items(&tree)),
+        None => false,
     }
 }
 
 #[test]
-fn the_text_z_comes_before_the_element_a(rt: HostRuntime) -> Result<(), Fail> {
-    assert!(rt; is_first_less(rt.alloc(), br#"["db","z",["a"]]"#)?);
-    Ok(())
+fn the_text_z_comes_before_the_element_a(rt: HostRuntime) {
+    assert!(rt; is_first_less(rt.alloc(), br#"["db","z",["a"]]"#));
 }
 
-fn is_tree_copied(alloc: Global, tree: &Tree) -> Result<bool, AllocError> {
-    let copy = tree.copy(alloc)?;
-    Ok(copy.same(tree))
+fn is_tree_copied(alloc: Global, tree: &Tree) -> bool {
+    match tree.copy(alloc) {
+        Ok(copy) => copy.same(tree),
+        Err(_) => false,
+    }
 }
 
-fn is_content_copied(alloc: Global, content: &Content) -> Result<bool, AllocError> {
-    let copy = content.copy(alloc)?;
-    Ok(copy.same(content))
+fn is_content_copied(alloc: Global, content: &Content) -> bool {
+    match content.copy(alloc) {
+        Ok(copy) => copy.same(content),
+        Err(_) => false,
+    }
 }
 
-/// Whether copies of a document and of its content are the same.
-fn is_copied(alloc: Global, document: &[u8]) -> Result<bool, Fail> {
-    let tree = read(alloc, document)?;
-    match &tree {
-        Tree::Text(_) => Ok(false),
+/// Whether copies of an element and of its content are the same.
+fn are_copied(alloc: Global, tree: &Tree) -> bool {
+    match tree {
+        Tree::Text(_) => false,
         Tree::Elem { content, .. } => {
-            Ok(is_tree_copied(alloc, &tree)? && is_content_copied(alloc, content)?)
+            is_tree_copied(alloc, tree) && is_content_copied(alloc, content)
         }
     }
 }
 
-/// Whether the copy of a document is another document.
-fn is_copied_as(alloc: Global, document: &[u8], other: &[u8]) -> Result<bool, Fail> {
-    let tree = read(alloc, document)?;
-    let copy = tree.copy(alloc)?;
-    Ok(copy.same(&read(alloc, other)?))
+fn is_copied(alloc: Global, document: &[u8]) -> bool {
+    match read(alloc, document) {
+        Some(tree) => are_copied(alloc, &tree),
+        None => false,
+    }
+}
+
+fn copied(alloc: Global, document: &[u8]) -> Option<Tree> {
+    match read(alloc, document) {
+        Some(tree) => tree.copy(alloc).ok(),
+        None => None,
+    }
+}
+
+/// Whether the copy of a document is no other document.
+fn is_not_copied_as(alloc: Global, document: &[u8], other: &[u8]) -> bool {
+    match (copied(alloc, document), read(alloc, other)) {
+        (Some(copy), Some(other)) => !copy.same(&other),
+        _ => false,
+    }
 }
 
 const DEPARTMENT: &[u8] = br#"["dept",{"floor":3},["name","finance"]]"#;
 
 #[test]
-fn a_copy_is_the_same_and_as_deep(rt: HostRuntime) -> Result<(), Fail> {
-    assert!(rt; is_copied(rt.alloc(), DEPARTMENT)?);
-    assert!(rt; !is_copied_as(rt.alloc(), DEPARTMENT, br#"["dept"]"#)?);
-    Ok(())
+fn a_copy_is_the_same_and_as_deep(rt: HostRuntime) {
+    let is_copied = is_copied(rt.alloc(), DEPARTMENT);
+    assert!(rt; is_copied && is_not_copied_as(rt.alloc(), DEPARTMENT, br#"["dept"]"#));
 }
 
-fn is_lent_as(alloc: Global, tree: &Tree) -> Result<bool, AllocError> {
-    let lent = LentTree::lend(alloc, tree)?;
-    let owned = lent.own(alloc)?;
-    Ok(owned.same(tree))
+fn is_owned_as(alloc: Global, lent: &LentTree<'_>, tree: &Tree) -> bool {
+    match lent.own(alloc) {
+        Ok(owned) => owned.same(tree),
+        Err(_) => false,
+    }
 }
 
-fn is_kept_as(alloc: Global, tree: &Tree) -> Result<bool, AllocError> {
-    let kept = LentTree::keep(alloc, tree.copy(alloc)?)?;
-    let owned = kept.own(alloc)?;
-    Ok(owned.same(tree))
+fn is_lent_as(alloc: Global, tree: &Tree) -> bool {
+    match LentTree::lend(alloc, tree) {
+        Ok(lent) => is_owned_as(alloc, &lent, tree),
+        Err(_) => false,
+    }
 }
+
+fn is_kept_as(alloc: Global, kept: Tree, tree: &Tree) -> bool {
+    match LentTree::keep(alloc, kept) {
+        Ok(kept) => is_owned_as(alloc, &kept, tree),
+        Err(_) => false,
+    }
+}
+
+fn is_copy_kept(alloc: Global, tree: &Tree) -> bool {
+    match tree.copy(alloc) {
+        Ok(copy) => is_kept_as(alloc, copy, tree),
+        Err(_) => false,
+    }
+}
+
+/// Documents of three shapes.
+const SHAPES: &[(&str, &[u8])] = &[
+    ("an element", br#"["dept",["name","finance"]]"#),
+    ("a text", br#"["name","finance"]"#),
+    ("an attribute", DEPARTMENT),
+];
 
 /// Whether a tree that is lent, and one that is kept, own the same tree again.
-fn is_owned_again(alloc: Global, document: &[u8]) -> Result<bool, Fail> {
-    let tree = read(alloc, document)?;
-    Ok(is_lent_as(alloc, &tree)? && is_kept_as(alloc, &tree)?)
+fn is_owned_again(alloc: Global, document: &[u8]) -> bool {
+    match read(alloc, document) {
+        Some(tree) => is_lent_as(alloc, &tree) && is_copy_kept(alloc, &tree),
+        None => false,
+    }
 }
 
 #[test]
 fn a_lent_tree_owns_the_same_tree(rt: HostRuntime) -> Result<(), Fail> {
-    assert!(rt; is_owned_again(rt.alloc(), br#"["dept",["name","finance"]]"#)?);
-    assert!(rt; is_owned_again(rt.alloc(), br#"["name","finance"]"#)?);
-    assert!(rt; is_owned_again(rt.alloc(), DEPARTMENT)?);
+    for (name, document) in SHAPES {
+        told(is_owned_again(rt.alloc(), document), name)?;
+    }
     Ok(())
 }
 
-fn is_lent_text(alloc: Global, text: &str) -> Result<bool, AllocError> {
-    let content = LentContent::Text(text).own(alloc)?;
-    let wanted = Content::of_text(alloc, text)?;
-    Ok(content.same(&wanted))
+fn is_content_of(alloc: Global, content: &Content, text: &str) -> bool {
+    match Content::of_text(alloc, text) {
+        Ok(wanted) => content.same(&wanted),
+        Err(_) => false,
+    }
+}
+
+fn is_lent_text(alloc: Global, text: &str) -> bool {
+    match LentContent::Text(text).own(alloc) {
+        Ok(content) => is_content_of(alloc, &content, text),
+        Err(_) => false,
+    }
 }
 
 #[test]
-fn a_lent_text_is_a_content(rt: HostRuntime) -> Result<(), Fail> {
-    assert!(rt; is_lent_text(rt.alloc(), "finance")?);
-    Ok(())
+fn a_lent_text_is_a_content(rt: HostRuntime) {
+    assert!(rt; is_lent_text(rt.alloc(), "finance"));
 }
 
-fn is_lent_leaf(alloc: Global, document: &[u8]) -> Result<bool, Fail> {
-    let tree = read(alloc, document)?;
-    let lent = LentTree::lend(alloc, &tree)?;
-    Ok(matches!(&lent, LentTree::Leaf { .. }))
+fn is_leaf(lent: &LentTree<'_>) -> bool {
+    matches!(lent, LentTree::Leaf { .. })
+}
+
+fn is_lent_leaf(alloc: Global, tree: &Tree) -> bool {
+    match LentTree::lend(alloc, tree) {
+        Ok(lent) => is_leaf(&lent),
+        Err(_) => false,
+    }
 }
 
 #[test]
 fn an_element_of_one_text_is_lent_as_a_leaf(rt: HostRuntime) -> Result<(), Fail> {
-    assert!(rt; is_lent_leaf(rt.alloc(), br#"["name","finance"]"#)?);
-    Ok(())
+    match read(rt.alloc(), br#"["name","finance"]"#) {
+        Some(tree) => told(is_lent_leaf(rt.alloc(), &tree), "leaf"),
+        None => Err(Fail::new("no document")),
+    }
 }
 
 fn attrs<'a, 'b>(tree: &'a LentTree<'b>) -> &'a [LentAttr<'b>] {
@@ -165,21 +235,34 @@ fn attrs<'a, 'b>(tree: &'a LentTree<'b>) -> &'a [LentAttr<'b>] {
     }
 }
 
-/// Whether a document has one attribute, of this name and text.
-fn is_attribute_lent(alloc: Global, document: &[u8], name: &str, text: &str) -> Result<bool, Fail> {
-    let tree = lend(alloc, document)?;
-    match attrs(&tree) {
-        [attr] => Ok(
-            attr.name() == name && attr.value().order(LentScalar::Text(text)) == Ordering::Equal,
-        ),
-        _ => Ok(false),
+/// Whether there is one attribute, of this name and text.
+fn is_one(attrs: &[LentAttr<'_>], name: &str, text: &str) -> bool {
+    match attrs {
+        [attr] => {
+            attr.name() == name && attr.value().order(LentScalar::Text(text)) == Ordering::Equal
+        }
+        _ => false,
+    }
+}
+
+/// Elements with the attribute `n`, whose value is the text `x`.
+const ATTRIBUTES: &[(&str, &[u8])] = &[
+    ("no escape", br#"["a",{"n":"x"}]"#),
+    ("an escape in the value", br#"["a",{"n":"\u0078"}]"#),
+    ("an escape in the name", br#"["a",{"\u006e":"x"}]"#),
+];
+
+fn is_attribute_lent(alloc: Global, document: &[u8], name: &str, text: &str) -> bool {
+    match lend(alloc, document) {
+        Some(tree) => is_one(attrs(&tree), name, text),
+        None => false,
     }
 }
 
 #[test]
 fn an_attribute_is_lent_with_escapes_and_without(rt: HostRuntime) -> Result<(), Fail> {
-    assert!(rt; is_attribute_lent(rt.alloc(), br#"["a",{"n":"x"}]"#, "n", "x")?);
-    assert!(rt; is_attribute_lent(rt.alloc(), br#"["a",{"n":"\u0078"}]"#, "n", "x")?);
-    assert!(rt; is_attribute_lent(rt.alloc(), br#"["a",{"\u006e":"x"}]"#, "n", "x")?);
+    for (name, document) in ATTRIBUTES {
+        told(is_attribute_lent(rt.alloc(), document, "n", "x"), name)?;
+    }
     Ok(())
 }
