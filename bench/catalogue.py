@@ -38,5 +38,22 @@ def table(rows):
     return next(catalogue(rows, 1))
 
 
+def short_record(number, turn):
+    """A record of a hundred bytes. At another turn it has the same number and note, and other texts."""
+    year, place = 1800 + (number + 3 * turn) % 199, (number + 7 * turn) % 89
+    texts = f'["title","T{number}.{turn}"],["maker","M{(number + turn) % 397}"],["year","{year}"],["place","R{place}"]'
+    return f'["record",{{"id":{number}}},{texts},["note","N{number % 7}"]]'
+
+
+def short_table(records, turn, every):
+    """The text of a catalogue of short records. From turn to turn one of so many changes, and a tenth of these are replaced."""
+    rows = []
+    for number in range(records):
+        changes = turn if number % every == 0 else 0
+        replaced = changes if number % (10 * every) == 0 else 0
+        rows.append(short_record(number + records * replaced, changes))
+    return f'["catalogue",{",".join(rows)}]\n'
+
+
 def write(path, document):
     path.write_text(json.dumps(document, separators=(",", ":")) + "\n")

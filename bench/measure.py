@@ -21,6 +21,17 @@ def program():
     return str(Path(sys.argv[1] if len(sys.argv) > 1 else TOP / "crates/xarch/out/xarch").resolve())
 
 
+def programs():
+    """The words behind the script's name that are no numbers: the built program, or crates/xarch/out/xarch, and others beside it."""
+    words = [word for word in sys.argv[1:] if not word.isdigit()]
+    return [str(Path(word).resolve()) for word in words or [TOP / "crates/xarch/out/xarch"]]
+
+
+def numbers(default):
+    """The words behind the script's name that are numbers, or else these."""
+    return [int(word) for word in sys.argv[1:] if word.isdigit()] or default
+
+
 def spend(words, folder=None, output=None, stdin=None):
     """Runs a command in a folder: processor seconds, peak memory in bytes, status. Its output goes to a file, or nowhere.
 
