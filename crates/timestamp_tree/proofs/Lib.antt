@@ -2,3 +2,9 @@ pub mod Views
 pub mod Trees
 pub mod Searches
 pub mod Prefixes
+pub mod Reversed
+pub mod Repeated
+pub mod Intervals
+pub mod Stored
+pub mod Pieces
+pub mod Standing

@@ -6,3 +6,5 @@ pub mod Search
 pub mod PartView
 pub mod View
 pub mod Prefix
+pub mod Nodes
+pub mod Parts

@@ -36,7 +36,7 @@ fn put_pairs(out: &mut Vec<u8>, pairs: &[(u32, u32)]) -> Result<(), AllocError>
 
 /// Appends a node without its parts, and on a refusal some of it.
 #[tactic(auto, using(xa_fields::proofs::Combinators::growth))]
-fn put_stored(out: &mut Vec<u8>, set: &VersionSet, left_size: u64) -> Result<(), AllocError>
+pub fn put_stored(out: &mut Vec<u8>, set: &VersionSet, left_size: u64) -> Result<(), AllocError>
     ensures ok { OnOk result (out.new.items
         ≡ out.old.items ++ stored (pairs_of set.now) left_size) }
     ensures grows { Grows out.old.items out.new.items }

@@ -3,11 +3,21 @@
 
 mod build;
 mod encode;
+mod fault;
+mod laws;
+mod node;
 mod part;
+mod put;
 mod select;
 mod steps;
+mod take;
 mod tree;
 
 pub use encode::put_set;
+pub use fault::NodeFault;
+pub use laws::trees_stand_part_by_part;
+pub use node::{Node, node_at};
+pub use put::put_tree;
 pub use steps::Steps;
+pub use take::{lend_pair, take_pairs};
 pub use tree::TsTree;

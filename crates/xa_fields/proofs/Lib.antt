@@ -2,3 +2,4 @@ pub mod Utf8
 pub mod Fields
 pub mod Combinators
 pub mod Loops
+pub mod Chains
