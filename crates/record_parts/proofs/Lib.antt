@@ -1,12 +1,10 @@
 pub mod Readers
-pub mod Chains
 pub mod Values
 pub mod Parts
 pub mod Contents
 pub mod Deep
 pub mod Loops
 pub mod Names
-pub mod Taken
 pub mod Skips
 pub mod Encodable
 pub mod Sets

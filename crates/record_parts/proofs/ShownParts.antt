@@ -2,15 +2,18 @@
 use Rattle.std.proofs.Common.{◌≡◌, ℕ, cond, ◌==◌, List, length, Option, Some, None, refl, sym, ap, subst, ◌∙◌}
 use Rattle.std.specs.Prelude.{IsSome}
 use Rattle.std.specs.declared.cmp.Ordering.{Ordering}
-use Rattle.keyed_tree.specs.Data.{PlainKey, PlainLabel}
+use Rattle.std.specs.declared.cmp.Ordering.TheVariants.{Equal}
+use Rattle.keyed_tree.specs.Data.{PlainKey, PlainLabel, PlainName}
+use Rattle.keyed_tree.specs.Laws.{label_cmp-Equal}
+use Rattle.keyed_tree.specs.Order.{label_cmp}
 use Rattle.archive_tree.specs.Data.{Stamp}
-use Rattle.xa_fields.specs.Reading.{Reader, whole}
+use Rattle.xa_fields.specs.Reading.{Reader, ◌>>=◌, list_at, whole}
 use Rattle.xa_fields.specs.Laws.{IsBytes}
 use Rattle.xa_fields.proofs.Fields.{bind_some, some_is}
-use Rattle.xa_fields.proofs.Combinators.{whole_takes}
+use Rattle.xa_fields.proofs.Combinators.{whole_again, whole_takes}
 use Rattle.record_parts.specs.Bounds.{IsLabel, IsStamp, IsValue}
 use Rattle.record_parts.specs.Compares.{Compares}
-use Rattle.record_parts.specs.Reading.{label_at, stamp_at, value_at}
+use Rattle.record_parts.specs.Reading.{label_at, name_at, stamp_at, value_at}
 use Rattle.record_parts.specs.ShownViews.{label_in, stamp_in, value_in}
 use Rattle.record_parts.specs.Spelling.{label_bytes, stamp_bytes, value_bytes}
 use Rattle.record_parts.specs.Whole.{IsLabelBytes, IsStampBytes, IsValueBytes}
@@ -67,6 +70,44 @@ value_is bytes fits h =
     let w = some_value (whole value_at bytes) h in
     subst (λ (o : Option PlainKey). IsValue (value_in o)) (sym w.1) (whole_takes value_at value_bytes IsValue value_reads bytes w.0 fits w.1).1
 
+-- the value that the whole has
+pub label_there : (bytes : List ℕ) → IsLabelBytes bytes → Some (label_in (whole label_at bytes)) ≡ whole label_at bytes
+label_there bytes h = (let w = some_value (whole label_at bytes) h in ap (λ (o : Option PlainLabel). Some (label_in o)) w.1 ∙ sym w.1)
+
+pub value_there : (bytes : List ℕ) → IsValueBytes bytes → Some (value_in (whole value_at bytes)) ≡ whole value_at bytes
+value_there bytes h = (let w = some_value (whole value_at bytes) h in ap (λ (o : Option PlainKey). Some (value_in o)) w.1 ∙ sym w.1)
+
+-- ---- what was spelled is lent
+
+no_some : {A : Type 0} (a : A) → None ≡ Some a → ⊥
+no_some a e = absurd cc
+
+is_there : {A : Type 0} (o : Option A) (a : A) → o ≡ Some a → IsSome o
+is_there o a e = rw e refl
+
+pub spelled_label : (l : PlainLabel) (bytes : List ℕ) → IsLabel l → bytes ≡ label_bytes l → whole label_at bytes ≡ Some l
+spelled_label l bytes h e = ap (whole label_at) e ∙ whole_again label_at label_bytes IsLabel label_reads l h
+
+pub spelled_value : (k : PlainKey) (bytes : List ℕ) → IsValue k → bytes ≡ value_bytes k → whole value_at bytes ≡ Some k
+spelled_value k bytes h e = ap (whole value_at) e ∙ whole_again value_at value_bytes IsValue value_reads k h
+
+pub spelling_of_label : (l : PlainLabel) (bytes : List ℕ) → IsLabel l → bytes ≡ label_bytes l → IsLabelBytes bytes
+spelling_of_label l bytes h e = is_there (whole label_at bytes) l (spelled_label l bytes h e)
+
+pub spelling_of_value : (k : PlainKey) (bytes : List ℕ) → IsValue k → bytes ≡ value_bytes k → IsValueBytes bytes
+spelling_of_value k bytes h e = is_there (whole value_at bytes) k (spelled_value k bytes h e)
+
+-- ---- the same bytes
+
+pub same_labels : (a b : PlainLabel) → IsLabel a → IsLabel b → label_bytes a ≡ label_bytes b → a ≡ b
+same_labels a b h g e = some_is a b (sym (spelled_label a (label_bytes a) h refl) ∙ spelled_label b (label_bytes a) g e)
+
+pub equal_labels : (a b : PlainLabel) → IsLabel a → IsLabel b → label_bytes a ≡ label_bytes b → Equal ≡ label_cmp a b
+equal_labels a b h g e = sym ((label_cmp-Equal a b).1 (same_labels a b h g e))
+
+pub same_values : (a b : PlainKey) → IsValue a → IsValue b → value_bytes a ≡ value_bytes b → a ≡ b
+same_values a b h g e = some_is a b (sym (spelled_value a (value_bytes a) h refl) ∙ spelled_value b (value_bytes a) g e)
+
 -- ---- orders
 
 pub label_answer : (bytes : List ℕ) (f : PlainLabel → Ordering) (o : Ordering) (n : ℕ) → IsLabelBytes bytes → Compares f (label_at bytes) bytes (Some (o, n)) → o ≡ f (label_in (whole label_at bytes))
@@ -81,7 +122,34 @@ value_answer bytes f o n h c = (let a = front_of value_at bytes h in (c (a.value
 pub value_answered : (bytes : List ℕ) (f : PlainKey → Ordering) → IsValueBytes bytes → Compares f (value_at bytes) bytes None → ⊥
 value_answered bytes f h c = (let a = front_of value_at bytes h in c (a.value, a.rest) a.read_is)
 
-pub stamp_answer : (bytes : List ℕ) (s : Stamp) (rest : List ℕ) → IsStampBytes bytes → stamp_at bytes ≡ Some (s, rest) → s ≡ stamp_in (whole stamp_at bytes)
-stamp_answer bytes s rest h e =
-    let a = front_of stamp_at bytes h in
-    ap (λ (x : Stamp × List ℕ). x.0) (some_is (s, rest) (a.value, a.rest) (sym e ∙ a.read_is)) ∙ ap stamp_in (sym a.whole_is)
+-- ---- names
+
+-- the name that is read at the front is that of the label
+pub label_named : (bytes : List ℕ) (n : PlainName) (rest : List ℕ) → IsLabelBytes bytes → Some (n, rest) ≡ name_at bytes → n ≡ (label_in (whole label_at bytes)).name
+unfolding label_at
+label_named bytes n rest h e =
+    let f = front_of label_at bytes h in
+    let a = bind_some (name_at bytes) (λ x. list_at value_at x.1 >>= (λ ks. Some (record { name = x.0; keys = ks.0 }, ks.1))) (f.value, f.rest) f.read_is in
+    let b = bind_some (list_at value_at a.0.1) (λ ks. Some (record { name = a.0.0; keys = ks.0 }, ks.1)) (f.value, f.rest) a.2 in
+    ap (λ (x : PlainName × List ℕ). x.0) (some_is (n, rest) a.0 (e ∙ a.1))
+    ∙ ap (λ (x : PlainLabel × List ℕ). x.0.name) (some_is (record { name = a.0.0; keys = b.0.0 }, b.0.1) (f.value, f.rest) b.2)
+    ∙ ap (λ (o : Option PlainLabel). (label_in o).name) (sym f.whole_is)
+
+pub label_has_name : (bytes : List ℕ) → IsLabelBytes bytes → None ≡ name_at bytes → ⊥
+unfolding label_at
+label_has_name bytes h e =
+    let f = front_of label_at bytes h in
+    let a = bind_some (name_at bytes) (λ x. list_at value_at x.1 >>= (λ ks. Some (record { name = x.0; keys = ks.0 }, ks.1))) (f.value, f.rest) f.read_is in
+    no_some a.0 (e ∙ a.1)
+
+-- what was read at the front is what is shown
+found_in : {A : Type 0} (read : Reader A) (from : Option A → A) (same : (a : A) → from (Some a) ≡ a) (bytes : List ℕ) (a : A) (rest : List ℕ) → IsSome (whole read bytes) → read bytes ≡ Some (a, rest) → a ≡ from (whole read bytes)
+found_in {A} read from same bytes a rest h e =
+    let f = front_of read bytes h in
+    ap (λ (x : A × List ℕ). x.0) (some_is (a, rest) (f.value, f.rest) (sym e ∙ f.read_is)) ∙ sym (same f.value) ∙ ap from (sym f.whole_is)
+
+pub label_found : (bytes : List ℕ) (l : PlainLabel) (rest : List ℕ) → IsLabelBytes bytes → label_at bytes ≡ Some (l, rest) → l ≡ label_in (whole label_at bytes)
+label_found = found_in label_at label_in (λ l. refl)
+
+pub stamp_found : (bytes : List ℕ) (s : Stamp) (rest : List ℕ) → IsStampBytes bytes → stamp_at bytes ≡ Some (s, rest) → s ≡ stamp_in (whole stamp_at bytes)
+stamp_found = found_in stamp_at stamp_in (λ s. refl)

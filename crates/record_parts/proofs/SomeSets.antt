@@ -9,7 +9,7 @@ use Rattle.record_parts.specs.Bounds.{most}
 use Rattle.record_parts.specs.Behind.{behind}
 use Rattle.timestamp_tree.specs.Reading.{pair_at, next_pair}
 use Rattle.record_parts.specs.Reading.{stamp_of}
-use Rattle.record_parts.proofs.Chains.{chain_read}
+use Rattle.xa_fields.proofs.Chains.{chain_read}
 use Rattle.record_parts.proofs.Readers.{not_zero}
 use Rattle.record_parts.proofs.Parts.{IsPair, pair_reads}
 

@@ -1,12 +1,29 @@
-// Lending labels, timestamps and bodies that stand one behind another.
-ghost use Rattle.std.specs.Prelude.{◌≡◌, option_map};
+// Lending labels, timestamps and bodies out of bytes.
+ghost use Rattle.std.specs.Prelude.{◌≡◌, Some, option_map};
 ghost use Rattle.xa_fields.specs.Reading.{both_at, whole};
 ghost use Rattle.record_parts.specs.Reading.{label_at, stamp_at, value_at};
 ghost use Rattle.record_parts.specs.ShownViews.{shown_label, shown_stamp, shown_body};
+ghost use Rattle.record_parts.specs.Whole.{IsLabelBytes, IsValueBytes};
 
 use crate::skip_parts::{skip_label, skip_stamp};
 use crate::skip_values::skip_value;
 use crate::views::{BodyView, LabelView, StampView};
+
+/// The label that all of the bytes are.
+pub fn lend_label(bytes: &[u8]) -> LabelView<'_>
+    requires { IsLabelBytes bytes.now }
+    ensures { Some (shown_label result) ≡ whole label_at bytes.now }
+{
+    LabelView { bytes }
+}
+
+/// The body that all of the bytes are.
+pub fn lend_body(bytes: &[u8]) -> BodyView<'_>
+    requires { IsValueBytes bytes.now }
+    ensures { Some (shown_body result) ≡ whole value_at bytes.now }
+{
+    BodyView { bytes }
+}
 
 /// The label and the timestamp that all of the bytes are.
 pub fn lend_opening(body: &[u8]) -> Option<(LabelView<'_>, StampView<'_>)>

@@ -10,11 +10,13 @@ ghost use Rattle.record_parts.specs.Spelling.{label_bytes, stamp_bytes, value_by
 ghost use Rattle.xa_fields.specs.Reading.{whole};
 ghost use Rattle.record_parts.specs.Reading.{label_at, stamp_at, value_at};
 ghost use Rattle.record_parts.specs.Whole.{IsLabelBytes, IsStampBytes, IsValueBytes};
+ghost use Rattle.record_parts.specs.Shown.{shown_name};
 ghost use Rattle.record_parts.specs.ShownViews.{label_in, stamp_in, value_in, shown_label, shown_stamp, shown_body};
 
+use crate::lent::{NameView, lend_name};
 use crate::order_parts::order_label;
 use crate::order_values::order_value;
-use crate::take_parts::take_stamp;
+use crate::take_parts::{take_label, take_stamp};
 use crate::views::{BodyView, LabelView, StampView};
 use keyed_tree::{Body, Label};
 use std::alloc::{AllocError, Global};
@@ -64,6 +66,16 @@ impl<'a> LabelView<'a> {
         label_spelled(self.bytes)
     }
 
+    /// The name of the label that is shown.
+    pub fn name(&self) -> NameView<'a>
+        ensures { shown_name result ≡ (shown_label self.now).name }
+    {
+        match lend_name(self.bytes, 0) {
+            Some((name, _)) => name,
+            None => NameView::Tag(""),
+        }
+    }
+
     /// The order of the label that is shown. It takes no memory and builds no label.
     pub fn order(&self, other: &Label) -> Ordering
         ensures { result ≡ label_cmp (shown_label self.now) (label_view other.now) }
@@ -71,6 +83,27 @@ impl<'a> LabelView<'a> {
         match order_label(self.bytes, 0, other) {
             Some((order, _)) => order,
             None => Ordering::Equal,
+        }
+    }
+
+    /// The order of two labels that are shown. Where they differ, it takes memory for a copy.
+    pub fn compare(&self, alloc: Global, other: &LabelView<'_>) -> Result<Ordering, AllocError>
+        ensures { IfOk result (λ o. o ≡ label_cmp (shown_label self.now) (shown_label other.now)) }
+    {
+        if self.bytes() == other.bytes() {
+            return Ok(Ordering::Equal);
+        }
+        let other = other.copy(alloc)?;
+        Ok(self.order(&other))
+    }
+
+    /// A label of its own with the same value.
+    fn copy(&self, alloc: Global) -> Result<Label, AllocError>
+        ensures { IfOk result (λ l. label_view l ≡ shown_label self.now) }
+    {
+        match take_label(alloc, self.bytes, 0) {
+            Ok((label, _)) => Ok(label),
+            Err(_) => Err(AllocError),
         }
     }
 }
@@ -117,6 +150,13 @@ impl<'a> BodyView<'a> {
         ensures { IsTrue result ↔ (shown_body self.now ≡ key_view other.now) }
     {
         self.order(other).is_eq()
+    }
+
+    /// Whether both show the same body.
+    pub fn same_as(&self, other: &BodyView<'_>) -> bool
+        ensures { IsTrue result ↔ (shown_body self.now ≡ shown_body other.now) }
+    {
+        self.bytes() == other.bytes()
     }
 
     fn order(&self, other: &Body) -> Ordering

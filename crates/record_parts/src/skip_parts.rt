@@ -7,8 +7,9 @@ ghost use Rattle.timestamp_tree.specs.Reading.{pair_at, next_pair};
 ghost use Rattle.record_parts.specs.Behind.{behind};
 
 use crate::lent::lend_name;
+use crate::limits::MOST_VERSIONS;
 use crate::skip_values::skip_value;
-use crate::take_parts::{lend_pair, next_low};
+use timestamp_tree::lend_pair;
 use xa_fields::{take_u8, take_u32};
 
 /// The offset behind the label at the offset.
@@ -34,6 +35,17 @@ fn skip_values(count: u32, bytes: &[u8], at: usize) -> Option<usize>
         at = skip_value(bytes, at)?;
     }
     Some(at)
+}
+
+/// Where the interval behind this one may begin, if this one may begin at `low`.
+fn next_low(low: u32, pair: (u32, u32)) -> Option<u32>
+    ensures { result ≡ next_pair most low pair }
+{
+    if low <= pair.0 && pair.0 <= pair.1 && pair.1 <= MOST_VERSIONS {
+        Some(pair.1 + 2)
+    } else {
+        None
+    }
 }
 
 fn skip_pairs(count: u32, bytes: &[u8], at: usize) -> Option<usize>

@@ -1,12 +1,12 @@
 // Reading labels, sets, timestamps and directories.
-ghost use Rattle.std.specs.Prelude.{◌≡◌, ◌≤◌, length, drop, map, IfOk, IfSome, option_map};
+ghost use Rattle.std.specs.Prelude.{◌≡◌, ◌≤◌, length, drop, map, IfOk};
 ghost use Rattle.version_set.specs.View.{pairs_of};
 ghost use Rattle.keyed_tree.specs.View.{key_view, label_view};
 ghost use Rattle.archive_tree.specs.View.{stamp_view};
-ghost use Rattle.xa_fields.specs.Reading.{many_at, list_at, chain_at};
+ghost use Rattle.xa_fields.specs.Reading.{many_at, list_at};
 ghost use Rattle.record_parts.specs.Bounds.{most};
 ghost use Rattle.record_parts.specs.Reading.{Gives, value_at, label_at, stamp_of, stamp_at};
-ghost use Rattle.timestamp_tree.specs.Reading.{pair_at, next_pair, set_at};
+ghost use Rattle.timestamp_tree.specs.Reading.{set_at};
 
 use crate::fault::RecFault;
 use crate::lent::lend_name;
@@ -14,6 +14,7 @@ use crate::limits::MOST_VERSIONS;
 use crate::take_values::take_value;
 use keyed_tree::{KeyVal, Label};
 use std::alloc::Global;
+use timestamp_tree::take_pairs;
 use version_set::VersionSet;
 use xa_fields::{take_u8, take_u32};
 
@@ -56,57 +57,6 @@ fn take_values(
     Ok((values, at))
 }
 
-/// The interval at the offset, and the offset behind it.
-#[tactic(auto, unfolding(xa_fields::specs::Reading::both_at))]
-pub fn lend_pair(bytes: &[u8], at: usize) -> Option<((u32, u32), usize)>
-    ensures found { option_map (λ r. (r.0, drop r.1 bytes.now)) result
-        ≡ pair_at (drop at bytes.now) }
-    ensures next { IfSome result (λ r. r.1 ≤ length bytes.now) }
-{
-    let (from, at) = take_u32(bytes, at)?;
-    let (to, at) = take_u32(bytes, at)?;
-    Some(((from, to), at))
-}
-
-/// Where the interval behind this one may begin, if this one may begin at `low`.
-pub fn next_low(low: u32, pair: (u32, u32)) -> Option<u32>
-    ensures { result ≡ next_pair most low pair }
-{
-    if low <= pair.0 && pair.0 <= pair.1 && pair.1 <= MOST_VERSIONS {
-        Some(pair.1 + 2)
-    } else {
-        None
-    }
-}
-
-fn take_pairs(
-    alloc: Global,
-    count: u32,
-    bytes: &[u8],
-    at: usize,
-) -> Result<(Vec<(u32, u32)>, usize), RecFault>
-    requires { at ≤ length bytes.now }
-    ensures found { Gives (λ r. (r.0.items, drop r.1 bytes.now)) result
-        (chain_at pair_at (next_pair most) 1 count (drop at bytes.now)) }
-    ensures next { IfOk result (λ r. r.1 ≤ length bytes.now) }
-{
-    let mut pairs = Vec::new(alloc);
-    let mut at = at;
-    let mut low = 1;
-    for _ in 0..count {
-        let Some((pair, next)) = lend_pair(bytes, at) else {
-            return Err(RecFault::Damage);
-        };
-        let Some(behind) = next_low(low, pair) else {
-            return Err(RecFault::Damage);
-        };
-        pairs.push(pair)?;
-        low = behind;
-        at = next;
-    }
-    Ok((pairs, at))
-}
-
 /// The set at the offset, and the offset behind it.
 #[tactic(auto, unfolding(xa_fields::specs::Reading::chained_at))]
 pub fn take_set(alloc: Global, bytes: &[u8], at: usize) -> Result<(VersionSet, usize), RecFault>
@@ -117,9 +67,8 @@ pub fn take_set(alloc: Global, bytes: &[u8], at: usize) -> Result<(VersionSet, u
     let Some((count, at)) = take_u32(bytes, at) else {
         return Err(RecFault::Damage);
     };
-    let (pairs, at) = take_pairs(alloc, count, bytes, at)?;
-    match VersionSet::from_pairs(alloc, &pairs)? {
-        Some(set) => Ok((set, at)),
+    match take_pairs(alloc, bytes, at, count, MOST_VERSIONS)? {
+        Some((set, at)) => Ok((set, at)),
         None => Err(RecFault::Damage),
     }
 }
