@@ -1,6 +1,6 @@
 #![tactic(auto, using(jsonml_tree::proofs::Trees::trees, keyed_tree::proofs::Views::views))]
 
-ghost use Rattle.std.specs.Prelude.{◌≡◌, IfOk};
+ghost use Rattle.std.specs.Prelude.{◌≡◌, IfOk, IfSome};
 ghost use Rattle.keyed_tree.specs.Order.{key_cmp, label_cmp};
 ghost use Rattle.keyed_tree.specs.Plain.{name_bytes};
 ghost use Rattle.keyed_tree.specs.View.{label_view};
@@ -32,6 +32,14 @@ enum Values<'a> {
 struct TextKey<'a> {
     text: Fronted<'a>,
     is_scalar: bool,
+}
+
+/// A label with one key value that is one text: a scalar, or all that an element holds.
+#[derive(Clone, Copy)]
+pub struct OneText<'a> {
+    pub tag: &'a str,
+    pub text: &'a str,
+    pub is_scalar: bool,
 }
 
 impl<'a> TextKey<'a> {
@@ -87,8 +95,27 @@ impl<'a> KeyedLabel<'a> {
         order_values(&self.values, &other.values)
     }
 
+    /// The label's texts, where it has one key value and that is one text.
+    pub fn one_text(&self) -> Option<OneText<'a>>
+        ensures { IfSome result (λ one. keyed_label_view self.now
+            ≡ label_of_one one.tag.now (key_of_text one.is_scalar one.text.now)) }
+    {
+        match &self.values {
+            Values::Text { tag, key } => {
+                let text = key.text.text();
+                let is_scalar = key.is_scalar;
+                Some(OneText {
+                    tag,
+                    text,
+                    is_scalar,
+                })
+            }
+            Values::Other(_) => None,
+        }
+    }
+
     /// A label of its own with the same value.
-    pub(crate) fn copy(&self, alloc: Global) -> Result<Label, AllocError>
+    pub fn copy(&self, alloc: Global) -> Result<Label, AllocError>
         ensures { IfOk result (λ l. label_view l ≡ keyed_label_view self.now) }
     {
         match &self.values {

@@ -14,5 +14,5 @@ mod order;
 pub use annotate::{keyed, keyed_laws, lent_keyed};
 pub use bare::Bare;
 pub use fault::AnnotateFault;
-pub use label::KeyedLabel;
+pub use label::{KeyedLabel, OneText};
 pub use lent::LentKeyed;
