@@ -87,7 +87,7 @@ fn put_row(
     let entries = put_nodes(alloc, out, set, nodes)?;
     let sets = sets_of(alloc, set, nodes)?;
     let at = out.len();
-    put_end(alloc, out, &entries, &sets)?;
+    put_end(out, &entries, &sets)?;
     Ok((out.len() - at - FRAME) as u64)
 }
 

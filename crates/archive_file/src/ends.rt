@@ -74,7 +74,7 @@ pub(crate) fn is_directory(
         return Ok(false);
     }
     let mut own = Vec::new(alloc);
-    put_end(alloc, &mut own, entries, &sets)?;
+    put_end(&mut own, entries, &sets)?;
     Ok(are_same(&own[FRAME..], body))
 }
 

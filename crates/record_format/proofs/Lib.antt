@@ -10,3 +10,4 @@ pub mod HeaderLaws
 pub mod LentParts
 pub mod Frames
 pub mod Pieces
+pub mod DirLaws

@@ -64,7 +64,7 @@ append-All : (xs ys : List Node) → AllByRecursion IsNode xs → AllByRecursion
 append-All [] ys p q = q
 append-All (x ∷ xs) ys p q = (p.0, append-All xs ys p.1 q)
 
-IsSet-top : (t : PlainTs) → IsTree t → AllByRecursion IsSet (leaves t) → IsSet (top t)
+pub IsSet-top : (t : PlainTs) → IsTree t → AllByRecursion IsSet (leaves t) → IsSet (top t)
 IsSet-top (leaf s) h f = f.0
 IsSet-top (node s n l r) h f =
     let two = All-append (leaves l) (leaves r) f in

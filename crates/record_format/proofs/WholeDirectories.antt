@@ -28,7 +28,7 @@ use Rattle.record_format.proofs.Entries.{entry_reads}
 use Rattle.record_parts.proofs.Parts.{set_reads}
 use Rattle.record_format.proofs.TreeNodes.{Node, nodes_of, node_bytes, IsNode, tree_bytes-is, length-nodes_of, leaf_sets-nodes_of, each_node, each_leaf_set}
 
-node_reads : Reads (stored_at most) node_bytes IsNode
+pub node_reads : Reads (stored_at most) node_bytes IsNode
 node_reads = both_reads (set_at most) (number_at w64) set_bytes u64_bytes IsSet (λ n. n < 2 ^ 64) set_reads u64_reads
 
 -- ---- what is read
@@ -78,7 +78,7 @@ whole_dir_found bytes d fits e =
 
 -- ---- what is spelled
 
-canonical_sets : (sets : List (List (ℕ × ℕ))) → AllByRecursion IsSet sets → AllByRecursion IsCanonical sets
+pub canonical_sets : (sets : List (List (ℕ × ℕ))) → AllByRecursion IsSet sets → AllByRecursion IsCanonical sets
 canonical_sets [] h = tt
 canonical_sets (s ∷ sets) h = (h.0.canonical, canonical_sets sets h.1)
 

@@ -10,3 +10,6 @@ pub mod Files
 pub mod Fronts
 pub mod Whole
 pub mod ShownViews
+pub mod Seen
+pub mod Probed
+pub mod DirParts

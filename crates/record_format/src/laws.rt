@@ -1,13 +1,20 @@
 // What follows from the definitions.
-ghost use Rattle.std.specs.Prelude.{◌≡◌, ◌↔◌, ℕ, ◌<◌, ◌^◌, List, [], ◌++◌, length, Some, Ok};
+ghost use Rattle.std.specs.Prelude.{◌≡◌, ◌↔◌, ℕ, ◌<◌, ◌≤◌, ◌^◌, List, [], ◌++◌, length, Some, Ok};
+ghost use Rattle.std.specs.List.{slice_get, AllByRecursion};
 ghost use Rattle.key_spec.specs.Canonical.{canonical};
 ghost use Rattle.key_spec.specs.Closed.{closed};
 ghost use Rattle.key_spec.specs.Data.{PlainRule};
 ghost use Rattle.keyed_tree.specs.Data.{PlainKey, PlainLabel, PlainKeyed};
 ghost use Rattle.xa_fields.specs.Laws.{IsBytes, Reads};
+ghost use Rattle.timestamp_tree.specs.Bytes.{stored};
+ghost use Rattle.timestamp_tree.specs.Data.{top};
+ghost use Rattle.timestamp_tree.specs.Reading.{stored_at};
+ghost use Rattle.timestamp_tree.specs.Tree.{tree_of};
 ghost use Rattle.record_format.specs.Data.{PlainDir, PlainRec};
+ghost use Rattle.record_format.specs.DirParts.{DirParts, entry_of};
+ghost use Rattle.record_format.specs.Nodes.{Piece, dir_of};
 ghost use Rattle.record_format.specs.Spelling.{framed, rec_bytes};
-ghost use Rattle.record_parts.specs.Bounds.{IsValue, IsLabel};
+ghost use Rattle.record_parts.specs.Bounds.{IsValue, IsLabel, IsSet, most};
 ghost use Rattle.record_format.specs.Bounds.{IsDir, IsRec};
 ghost use Rattle.record_format.specs.Files.{FileOf};
 ghost use Rattle.record_format.specs.Fronts.{fixed, header};
@@ -46,4 +53,15 @@ pub fn encodings_are_of_shape_and_fit()
     ensures values { (k : PlainKey) → IsValue k ↔ (IsShapedValue k × FitsValue k) }
     ensures labels { (l : PlainLabel) → IsLabel l ↔ (IsShapedLabel l × FitsLabel l) }
     ensures directories { (d : PlainDir) → IsDir d ↔ (IsShapedDir d × FitsDir d) }
+{}
+
+/// Where the parts of a directory stand, and what is read of a node of its tree.
+pub fn directories_stand_part_by_part()
+    ensures parts { (d : PlainDir) → DirParts d }
+    ensures entries { (ps : List Piece) (i : ℕ) (p : Piece) → slice_get ps i ≡ Some p
+        → slice_get (dir_of ps).entries i ≡ Some (entry_of ps i p) }
+    ensures nodes { Reads (stored_at most) (λ p. stored p.0 p.1)
+        (λ p. IsSet p.0 × (p.1 < 2 ^ 64)) }
+    ensures sets { (sets : List (List (ℕ × ℕ))) → 1 ≤ length sets
+        → AllByRecursion IsSet sets → IsSet (top (tree_of sets)) }
 {}

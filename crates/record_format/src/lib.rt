@@ -13,8 +13,8 @@ mod views;
 
 pub use headers::{put_header, take_fixed, take_header};
 pub use laws::{
-    encodings_are_of_shape_and_fit, encodings_tell_records_apart, records_are_read_as_spelled,
-    versions_have_one_file,
+    directories_stand_part_by_part, encodings_are_of_shape_and_fit, encodings_tell_records_apart,
+    records_are_read_as_spelled, versions_have_one_file,
 };
 pub use lend_records::{view, view_body};
 pub use put_directory::lend_sets;

@@ -8,7 +8,7 @@ ghost use Rattle.record_format.specs.Spelling.{entry_bytes, sets_bytes, dir_byte
 
 use crate::rec::Entry;
 use std::alloc::{AllocError, Global};
-use timestamp_tree::TsTree;
+use timestamp_tree::put_tree;
 use version_set::VersionSet;
 use xa_fields::{put_u32, put_u64};
 
@@ -36,8 +36,7 @@ fn put_entries(out: &mut Vec<u8>, entries: &[Entry]) -> Result<(), AllocError>
 }
 
 #[tactic(auto, using(xa_fields::proofs::Combinators::growth))]
-fn put_sets(alloc: Global, out: &mut Vec<u8>, sets: &[&VersionSet]) -> Result<(), AllocError>
-    requires { length sets.now < 2 ^ 32 }
+fn put_sets(out: &mut Vec<u8>, sets: &[&VersionSet]) -> Result<(), AllocError>
     ensures ok { OnOk result (out.new.items
         ≡ out.old.items ++ sets_bytes (map (λ s. pairs_of s.now) sets.now)) }
     ensures grows { Grows out.old.items out.new.items }
@@ -45,15 +44,13 @@ fn put_sets(alloc: Global, out: &mut Vec<u8>, sets: &[&VersionSet]) -> Result<()
     if sets.is_empty() {
         return Ok(());
     }
-    TsTree::of(alloc, sets)?.encode(out)
+    put_tree(out, sets)
 }
 
 /// Appends a directory: the number of children, their entries, and the timestamp tree over their
-/// sets where there are any. It copies each set once and makes a union for each inner node of the
-/// tree. On a refusal some of it was appended.
+/// sets where there are any. On a refusal some of it was appended.
 #[tactic(auto, using(xa_fields::proofs::Combinators::growth))]
 pub fn put_directory(
-    alloc: Global,
     out: &mut Vec<u8>,
     entries: &[Entry],
     sets: &[&VersionSet],
@@ -68,7 +65,7 @@ pub fn put_directory(
 {
     put_u32(out, entries.len() as u32)?;
     put_entries(out, entries)?;
-    put_sets(alloc, out, sets)
+    put_sets(out, sets)
 }
 
 /// The sets, lent.

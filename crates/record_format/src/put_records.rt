@@ -108,12 +108,7 @@ pub fn put_alt(out: &mut Vec<u8>, stamp: &Option<VersionSet>, body: &Body) -> Re
 
 /// Appends the record that closes an inner node. On a refusal some of it was appended.
 #[tactic(auto, using(xa_fields::proofs::Combinators::growth))]
-pub fn put_end(
-    alloc: Global,
-    out: &mut Vec<u8>,
-    entries: &[Entry],
-    sets: &[&VersionSet],
-) -> Result<(), AllocError>
+pub fn put_end(out: &mut Vec<u8>, entries: &[Entry], sets: &[&VersionSet]) -> Result<(), AllocError>
     requires few { length entries.now < 2 ^ 32 }
     requires paired { length sets.now ≡ length entries.now }
     ensures ok { OnOk result (out.new.items ≡ out.old.items ++ rec_bytes (end_rec (record {
@@ -123,7 +118,7 @@ pub fn put_end(
     ensures grows { Grows out.old.items out.new.items }
 {
     let at = open(out, END)?;
-    put_directory(alloc, out, entries, sets)?;
+    put_directory(out, entries, sets)?;
     close(out, at);
     Ok(())
 }
@@ -150,7 +145,7 @@ fn put_record(alloc: Global, rec: &Rec, out: &mut Vec<u8>) -> Result<(), AllocEr
         Rec::Alt { stamp, body } => put_alt(out, stamp, body),
         Rec::End { dir } => {
             let sets = lend_sets(alloc, &dir.sets)?;
-            put_end(alloc, out, &dir.entries, &sets)
+            put_end(out, &dir.entries, &sets)
         }
         Rec::LeafEnd => put_leaf_end(out),
     }

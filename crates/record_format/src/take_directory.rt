@@ -135,7 +135,7 @@ fn is_spelled(alloc: Global, dir: &Dir, bytes: &[u8]) -> Result<bool, AllocError
     }
     let sets = lend_sets(alloc, &dir.sets)?;
     let mut spelled = Vec::new(alloc);
-    put_directory(alloc, &mut spelled, &dir.entries, &sets)?;
+    put_directory(&mut spelled, &dir.entries, &sets)?;
     Ok(spelled.as_slice() == bytes)
 }
 

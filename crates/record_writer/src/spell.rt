@@ -159,7 +159,7 @@ fn put_dir(alloc: Global, record: &mut Vec<u8>, dir: &Dir) -> Result<(), AllocEr
 {
     record.clear();
     let sets = lend_sets(alloc, &dir.sets)?;
-    put_end(alloc, record, &dir.entries, &sets)
+    put_end(record, &dir.entries, &sets)
 }
 
 /// Spells the record that closes an inner node with this directory. The timestamp tree over the
