@@ -1,11 +1,11 @@
 -- What fills a buffer from the first bytes of a file.
-use Rattle.std.proofs.Common.{◌≡◌, ℕ, ◌+◌, ◌≤◌, true, false, ltb, leb, List, [], ◌∷◌, ◌++◌, length, take, drop, Option, Some, refl, sym, ap, ◌∙◌, arith, length-take-le, drop-drop, take_all, length-drop}
+use Rattle.std.proofs.Common.{◌≡◌, ℕ, ◌+◌, ◌≤◌, true, false, ltb, leb, List, [], ◌∷◌, ◌++◌, length, take, drop, Option, Some, Result, Ok, Err, refl, sym, ap, ◌∙◌, arith, length-take-le, drop-drop, take_all, length-drop}
 use Rattle.std.specs.Prelude.{slice_index_or}
 use Rattle.std.specs.Int.{w64, from_be_bytes}
 use Rattle.std.specs.FinMap as map
 use Rattle.std.proofs.lemmas.Bool.{le-ltb}
 use Rattle.std.proofs.lemmas.Bool.Decides.{nat_tests}
-use Rattle.std.proofs.lemmas.List.{drop-take, drop_all, take_at, take-append-le}
+use Rattle.std.proofs.lemmas.List.{drop-take, drop_all, take-take, take_at, take-append-le}
 use Rattle.std.proofs.Math.Seq.{take-add}
 use Rattle.xa_fields.specs.Reading.{byte_at, number_at}
 use Rattle.xa_fields.proofs.Fields.{some_is}
@@ -13,7 +13,7 @@ use Rattle.xa_outside.specs.Folder.{Files, bytes_or_none, front}
 use Rattle.record_parts.proofs.Readers.{passed_some}
 use Rattle.record_cursor.specs.Moves.{TellsFront}
 use Rattle.record_cursor.specs.Faults.{IfDamage}
-use Rattle.record_cursor.specs.Steps.{IsFrame}
+use Rattle.record_cursor.specs.Steps.{IsFrame, Filled}
 use Rattle.record_cursor.specs.declared.fault.CursorFault.{CursorFault}
 use Rattle.record_cursor.specs.declared.fault.CursorFault.TheVariants.{Damage, Folder, Memory}
 
@@ -43,6 +43,10 @@ pub damage-map : (e : CursorFault) (P Q : Type 0) → (P → Q) → IfDamage e P
 damage-map Damage P Q f h = f h
 damage-map Folder P Q f h = tt
 damage-map Memory P Q f h = tt
+
+pub filled-map : {T : Type 0} (r : Result T CursorFault) (P Q : Type 0) → (P → Q) → Filled r (λ x. P) → Filled r (λ x. Q)
+filled-map (Ok x) P Q f h = f h
+filled-map (Err e) P Q f h = h
 
 pub take-front : (n m : ℕ) (xs : List ℕ) → n + m ≤ length xs → take n (take (n + m) xs) ≡ take n xs
 take-front n m xs fits =
@@ -81,3 +85,7 @@ frame-of rest out behind kind size e long k n =
 -- the front of a buffer that was filled
 pub whole-front : (len : ℕ) (out rest : List ℕ) → length out ≡ len → take len (out ++ rest) ≡ out
 whole-front len out rest is = take_at out rest len is
+
+-- the same, of longer room
+pub room-front : (n m : ℕ) (out rest : List ℕ) → n ≤ m → n ≤ length out → take n (take m (out ++ rest)) ≡ take n out
+room-front n m out rest fits within = take-take n m (out ++ rest) fits ∙ take-append-le n out rest within

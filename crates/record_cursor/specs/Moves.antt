@@ -7,7 +7,7 @@ use Rattle.record_cursor.specs.Faults.{IfDamage}
 use Rattle.record_cursor.specs.Items.{PlainItem}
 use Rattle.record_cursor.specs.Places.{Standing, after_item}
 use Rattle.record_cursor.specs.Next.{next_of, Gives, size_of}
-use Rattle.record_cursor.specs.View.{PlainCursor, shown_item}
+use Rattle.record_cursor.specs.View.{PlainCursor, PlainHeader, shown_item}
 use Rattle.record_cursor.specs.declared.header.Header.{Header}
 use Rattle.record_cursor.specs.declared.item.Item.{Item}
 use Rattle.record_cursor.specs.declared.fault.CursorFault.{CursorFault}
@@ -18,6 +18,10 @@ TellsHeader (Ok h) (Some bytes) = header_at bytes ≡ Some ((spec_view h.spec, h
 TellsHeader (Ok h) None = ⊥
 TellsHeader (Err e) (Some bytes) = IfDamage e (header_at bytes ≡ None)
 TellsHeader (Err e) None = ⊤
+
+-- the header is the one that stands at the front of the bytes
+abbrev pub IsHeaderOf : PlainHeader → List ℕ → Type 0
+IsHeaderOf h bytes = header_at bytes ≡ Some ((h.rules, h.versions), drop h.first bytes)
 
 -- files are told, and these are the first bytes of the file of this name, so many
 abbrev pub TellsFront : Option Files → List ℕ → ℕ → List ℕ → Type 0

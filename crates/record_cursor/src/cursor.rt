@@ -11,6 +11,7 @@ ghost use Rattle.record_cursor.specs.Next.{next_of, read_for};
 ghost use Rattle.record_cursor.specs.Places.{among_nodes, finished};
 ghost use Rattle.record_cursor.specs.View.{header_view, IsHeader, shown_item};
 
+use crate::buffer::Buffer;
 use crate::fault::CursorFault;
 use crate::header::Header;
 use crate::item::{Item, lend};
@@ -27,7 +28,7 @@ pub struct Cursor {
     length: u64,
     place: Place,
     at: u64,
-    buffer: Vec<u8>,
+    buffer: Buffer,
 }
 
 impl Model for Cursor {
@@ -64,8 +65,32 @@ impl Cursor {
             length: header.length,
             place: Place::Nodes { depth: 0 },
             at: header.first,
-            buffer: Vec::new(alloc),
+            buffer: Buffer::new(alloc),
         })
+    }
+
+    /// Puts the cursor before a record that opens a node, in the part of the file that ends here.
+    ///
+    /// It reads nothing.
+    pub fn seek(&mut self, at: u64, end: u64)
+        requires { at ≤ end }
+        ensures { self.new ≡ record {
+          name = self.old.name;
+          length = end;
+          standing = among_nodes 0;
+          at = at;
+        } }
+    {
+        self.length = end;
+        self.place = Place::Nodes { depth: 0 };
+        self.at = at;
+    }
+
+    /// The offset of what comes next.
+    pub fn at(&self) -> u64
+        ensures { result ≡ self.now.at }
+    {
+        self.at
     }
 
     /// The record that stands at the cursor, which moves behind it; behind the last record, that

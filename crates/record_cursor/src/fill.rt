@@ -1,5 +1,5 @@
 // Reading so many bytes of a file.
-ghost use Rattle.std.specs.Prelude.{◌≡◌, ◌+◌, ◌<◌, ◌≤◌, ◌^◌, ℕ, List, length, take, drop, OnOk};
+ghost use Rattle.std.specs.Prelude.{◌≡◌, ◌+◌, ◌<◌, ◌≤◌, ◌^◌, ℕ, List, length, take, drop, OnOk, IsTrue};
 ghost use Rattle.xa_outside.specs.Numbers.{PullsAtMost, after_pull};
 ghost use Rattle.record_cursor.specs.Moves.{TellsFront};
 ghost use Rattle.record_cursor.specs.Steps.{OnlyReads, fault_of, Filled};
@@ -8,7 +8,7 @@ use crate::fault::CursorFault;
 use xa_outside::{Folder, fill_at};
 
 /// Fills the buffer with the bytes of a file from the offset on. It is damaged where it has fewer.
-pub(crate) fn fill<F: Folder>(
+pub fn fill_part<F: Folder>(
     folder: &mut F,
     name: &str,
     at: u64,
@@ -30,29 +30,56 @@ pub(crate) fn fill<F: Folder>(
     }
 }
 
-/// Fills the buffer, which takes this size, with the bytes of a file from the offset on.
-pub(crate) fn fill_buffer<F: Folder>(
+/// Fills the front of the room with so many bytes of a file from the offset on.
+pub(crate) fn fill_front<F: Folder>(
     folder: &mut F,
     name: &str,
     at: u64,
     size: usize,
-    buffer: &mut Vec<u8>,
+    room: &mut Vec<u8>,
 ) -> Result<(), CursorFault>
     requires { at + size < 2 ^ 64 }
     ensures reads { OnlyReads F.files F.draft F.faults folder.old folder.new (fault_of result) }
     ensures numbers { OnOk result
         (F.numbers folder.new ≡ after_pull (F.numbers folder.old) size) }
     ensures pulls { PullsAtMost size (F.numbers folder.old) (F.numbers folder.new) }
-    ensures size { OnOk result (length buffer.new.items ≡ size) }
+    ensures size { OnOk result (size ≤ length room.new.items) }
     ensures told { (end : ℕ) (bytes : List ℕ) → TellsFront (F.files folder.old) name.now end bytes
         → at + size ≤ end
-        → Filled result (λ _. buffer.new.items ≡ take size (drop at bytes)) }
+        → Filled result (λ _. take size room.new.items ≡ take size (drop at bytes)) }
 {
-    if buffer.resize(size, 0).is_err() {
+    if !grows(room, size) {
         return Err(CursorFault::Memory);
     }
-    match fill(folder, name, at, buffer) {
+    match fill_first(folder, name, at, size, room) {
         Ok(()) => Ok(()),
         Err(fault) => Err(fault),
     }
+}
+
+fn fill_first<F: Folder>(
+    folder: &mut F,
+    name: &str,
+    at: u64,
+    size: usize,
+    room: &mut [u8],
+) -> Result<(), CursorFault>
+    requires fits { at + size < 2 ^ 64 }
+    requires within { size ≤ length room.old }
+    ensures reads { OnlyReads F.files F.draft F.faults folder.old folder.new (fault_of result) }
+    ensures numbers { OnOk result
+        (F.numbers folder.new ≡ after_pull (F.numbers folder.old) size) }
+    ensures pulls { PullsAtMost size (F.numbers folder.old) (F.numbers folder.new) }
+    ensures told { (end : ℕ) (bytes : List ℕ) → TellsFront (F.files folder.old) name.now end bytes
+        → at + size ≤ end
+        → Filled result (λ _. take size room.new ≡ take size (drop at bytes)) }
+{
+    fill_part(folder, name, at, &mut room[..size])
+}
+
+/// Makes room for so many bytes, where memory suffices.
+fn grows(room: &mut Vec<u8>, size: usize) -> bool
+    ensures { IsTrue result → size ≤ length room.new.items }
+{
+    room.len() >= size || room.resize(size, 0).is_ok()
 }

@@ -12,8 +12,9 @@ ghost use Rattle.record_cursor.specs.Moves.{TellsFront, TellsHeader};
 ghost use Rattle.record_cursor.specs.Steps.{OnlyReads, fault_of, Filled, Finds, FrontIs};
 ghost use Rattle.record_cursor.specs.View.{header_view, IsHeader};
 
+use crate::buffer::Buffer;
 use crate::fault::CursorFault;
-use crate::fill::{fill, fill_buffer};
+use crate::fill::fill_part;
 use crate::header::Header;
 use key_spec::{Spec, may_be_canonical};
 use record_format::{RecFault, take_header};
@@ -157,7 +158,7 @@ fn read_front<F: Folder>(
     if end < FIELDS {
         return Err(CursorFault::Damage);
     }
-    match fill(folder, name, 0, front) {
+    match fill_part(folder, name, 0, front) {
         Ok(()) => header_length(front, end),
         Err(fault) => Err(fault),
     }
@@ -202,10 +203,10 @@ fn read_rest<F: Folder>(
         → first ≤ end → front.now ≡ take 10 bytes
         → Filled result (λ v. v.items ≡ take first bytes) }
 {
-    let mut rest = Vec::new(alloc);
+    let mut rest = Buffer::new(alloc);
     let size = (first - FRONT as u64) as usize;
-    match fill_buffer(folder, name, FRONT as u64, size, &mut rest) {
-        Ok(()) => match join(alloc, front, &rest) {
+    match rest.fill(folder, name, FRONT as u64, size) {
+        Ok(()) => match join(alloc, front, rest.as_slice()) {
             Ok(bytes) => Ok(bytes),
             Err(_) => Err(CursorFault::Memory),
         },

@@ -4,6 +4,7 @@
 //! out of one buffer.
 #![tactic(auto)]
 
+mod buffer;
 mod cursor;
 mod fault;
 mod fill;
@@ -16,6 +17,7 @@ mod step;
 
 pub use cursor::Cursor;
 pub use fault::CursorFault;
+pub use fill::fill_part;
 pub use front::read_header;
 pub use header::Header;
 pub use item::Item;

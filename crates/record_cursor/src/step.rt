@@ -1,5 +1,5 @@
 // Reading one record, and judging whether it may come.
-ghost use Rattle.std.specs.Prelude.{◌≡◌, ◌+◌, ◌-◌, ◌<◌, ◌≤◌, ◌^◌, ℕ, List, [], drop, take, Some, IfOk, OnOk, IsOkAnd, bytes_eq, vec_len};
+ghost use Rattle.std.specs.Prelude.{◌≡◌, ◌+◌, ◌-◌, ◌<◌, ◌≤◌, ◌^◌, ℕ, List, [], drop, take, Some, IfOk, OnOk, IsOkAnd, bytes_eq, length as held};
 ghost use Rattle.xa_fields.specs.Spelling.{u64_bytes};
 ghost use Rattle.xa_outside.specs.Numbers.{PullsAtMost, after_pull};
 ghost use Rattle.record_cursor.specs.Items.{PlainItem, finish};
@@ -10,8 +10,9 @@ ghost use Rattle.record_cursor.specs.Steps.{OnlyReads, fault_of, Filled, Finds, 
 ghost use Rattle.record_cursor.specs.View.{place_view};
 ghost use Rattle.record_cursor.specs.declared.item.Read.TheVariants.{Finish};
 
+use crate::buffer::Buffer;
 use crate::fault::CursorFault;
-use crate::fill::{fill, fill_buffer};
+use crate::fill::fill_part;
 use crate::item::Read;
 use crate::place::{Place, behind};
 use record_format::{END, FRAME, LEAF_END};
@@ -29,23 +30,23 @@ pub(crate) struct Step {
     pub(crate) at: u64,
 }
 
-/// What comes next where the cursor stands, with the parts to lend at the front of the buffer.
+/// What comes next where the cursor stands, with the parts to lend in the buffer.
 pub(crate) fn read_step<F: Folder>(
     folder: &mut F,
     name: &str,
     length: u64,
     at: u64,
     place: Place,
-    buffer: &mut Vec<u8>,
+    buffer: &mut Buffer,
 ) -> Result<Step, CursorFault>
     requires { at ≤ length }
     ensures reads { OnlyReads F.files F.draft F.faults folder.old folder.new (fault_of result) }
     ensures pulls { PullsAtMost (length - at) (F.numbers folder.old) (F.numbers folder.new) }
-    ensures leads { IfOk result (λ step. (i : PlainItem) → IsRead step.read (vec_len buffer.new) i
+    ensures leads { IfOk result (λ step. (i : PlainItem) → IsRead step.read (held buffer.new) i
         → Leads (place_view place) at (F.numbers folder.old) (F.numbers folder.new) step i) }
     ensures within { IfOk result (λ step. step.at ≤ length) }
     ensures told { (bytes : List ℕ) → TellsFront (F.files folder.old) name.now length bytes
-        → Finds (step_view bytes buffer.new.items) result
+        → Finds (step_view bytes buffer.new) result
         (next_of (place_view place) (drop at bytes)) }
 
     // Where an item comes, no more is pulled than is read for it, whatever is answered.
@@ -83,17 +84,17 @@ fn read_record<F: Folder>(
     length: u64,
     at: u64,
     place: Place,
-    buffer: &mut Vec<u8>,
+    buffer: &mut Buffer,
 ) -> Result<Step, CursorFault>
     requires within { at ≤ length }
     requires inside { IsInside (place_view place) }
     ensures reads { OnlyReads F.files F.draft F.faults folder.old folder.new (fault_of result) }
     ensures pulls { PullsAtMost (length - at) (F.numbers folder.old) (F.numbers folder.new) }
-    ensures leads { IfOk result (λ step. (i : PlainItem) → IsRead step.read (vec_len buffer.new) i
+    ensures leads { IfOk result (λ step. (i : PlainItem) → IsRead step.read (held buffer.new) i
         → Leads (place_view place) at (F.numbers folder.old) (F.numbers folder.new) step i) }
     ensures within { IfOk result (λ step. step.at ≤ length) }
     ensures told { (bytes : List ℕ) → TellsFront (F.files folder.old) name.now length bytes
-        → Finds (step_view bytes buffer.new.items) result
+        → Finds (step_view bytes buffer.new) result
         (next_of (place_view place) (drop at bytes)) }
 
     // Where an item comes, no more is pulled than is read for it, whatever is answered.
@@ -137,7 +138,7 @@ fn read_frame<F: Folder>(folder: &mut F, name: &str, at: u64) -> Result<(u8, u64
         → at + 9 ≤ end → Filled result (IsFrame (drop at bytes)) }
 {
     let mut frame = [0; FRAME];
-    match fill(folder, name, at, &mut frame) {
+    match fill_part(folder, name, at, &mut frame) {
         Ok(()) => match take_u64(&frame, 1) {
             Some((size, _)) => Ok((frame[0], size)),
             None => Err(CursorFault::Damage),
@@ -153,24 +154,24 @@ fn read_body<F: Folder>(
     at: u64,
     kind: u8,
     size: u64,
-    buffer: &mut Vec<u8>,
+    buffer: &mut Buffer,
 ) -> Result<Read, CursorFault>
     requires fits { at + size < 2 ^ 64 }
     requires comes { MayCome kind size }
     ensures reads { OnlyReads F.files F.draft F.faults folder.old folder.new (fault_of result) }
     ensures numbers { IfOk result (λ read.
-        F.numbers folder.new ≡ after_pull (F.numbers folder.old) (body_read read (vec_len buffer.new))) }
+        F.numbers folder.new ≡ after_pull (F.numbers folder.old) (body_read read (held buffer.new))) }
     ensures pulls { PullsAtMost (body_size kind size)
         (F.numbers folder.old) (F.numbers folder.new) }
-    ensures is { IfOk result (λ read. IsReadOf kind size read (vec_len buffer.new)) }
+    ensures is { IfOk result (λ read. IsReadOf kind size read (held buffer.new)) }
     ensures told { (end : ℕ) (bytes : List ℕ) → TellsFront (F.files folder.old) name.now end bytes
         → at + size ≤ end → Filled result (λ read. item_in kind (take size (drop at bytes))
-        ≡ read_item read buffer.new.items) }
+        ≡ read_item read buffer.new) }
 {
     match kind {
         END => Ok(Read::End { length: size }),
         LEAF_END => Ok(Read::LeafEnd),
-        _ => match fill_buffer(folder, name, at, size as usize, buffer) {
+        _ => match buffer.fill(folder, name, at, size as usize) {
             Ok(()) => Ok(Read::Parts { kind }),
             Err(fault) => Err(fault),
         },
@@ -199,7 +200,7 @@ fn read_tail<F: Folder>(
         return Err(CursorFault::Damage);
     }
     let mut tail = [0; 8];
-    match fill(folder, name, at, &mut tail) {
+    match fill_part(folder, name, at, &mut tail) {
         Ok(()) if is_tail(&tail, size) => Ok(()),
         Ok(()) => Err(CursorFault::Damage),
         Err(fault) => Err(fault),

@@ -24,11 +24,11 @@ returns-in-Ok-clause-told g c = λ end bytes tells fits. (
 pub returns-in-Ok-clause-pulls : goal.returns-in-Ok-clause-pulls
 returns-in-Ok-clause-pulls g c = (
     let numbers = g.F.Folder.numbers in
-    PullsAtMost-more c.args.size (body_size c.args.kind c.args.size) (numbers c.args.folder.now) (numbers c.fill_buffer.new.folder)
+    PullsAtMost-more c.args.size (body_size c.args.kind c.args.size) (numbers c.args.folder.now) (numbers c.fill.new.folder)
     (omega (arith, body_size-all c.args.kind c.args.size (search rules))) c.in-Ok.ensures.pulls)
 
 pub returns-in-Err-clause-pulls : goal.returns-in-Err-clause-pulls
 returns-in-Err-clause-pulls g c = (
     let numbers = g.F.Folder.numbers in
-    PullsAtMost-more c.args.size (body_size c.args.kind c.args.size) (numbers c.args.folder.now) (numbers c.fill_buffer.new.folder)
+    PullsAtMost-more c.args.size (body_size c.args.kind c.args.size) (numbers c.args.folder.now) (numbers c.fill.new.folder)
     (omega (arith, body_size-all c.args.kind c.args.size (search rules))) c.in-Err.ensures.pulls)

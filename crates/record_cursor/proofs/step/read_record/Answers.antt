@@ -90,7 +90,7 @@ returns-in-Ok-read_body-clause-told g c = λ bytes tells. (
     let within : c.args.at + 9 ≤ c.args.length = omega (arith, c.requires.within, c.if-length-at.false) in
     let fits : c.args.at + 9 + c.in-Ok.frame.1 ≤ c.args.length = omega (arith, within, c.if-length-body.false) in
     let later = subst (λ (t : Option Files). TellsFront t c.args.name.now c.args.length bytes) (sym c.in-Ok.ensures.reads.same_files) tells in
-    stepped (place_view c.args.place) (place_view c.in-Some.place) bytes c.args.at c.in-Ok.frame.0 c.in-Ok.frame.1 (read_item c.in-Ok-read_body.read c.read_body.new.buffer.items)
+    stepped (place_view c.args.place) (place_view c.in-Some.place) bytes c.args.at c.in-Ok.frame.0 c.in-Ok.frame.1 (read_item c.in-Ok-read_body.read c.read_body.new.buffer)
     c.requires.inside (c.in-Ok.ensures.told c.args.length bytes tells within) (omega (arith, len, fits)) (sym c.in-Some.ensures) (c.in-Ok-read_body.ensures.told c.args.length bytes later fits))
 
 pub returns-in-Err-read_body-clause-told : goal.returns-in-Err-read_body-clause-told

@@ -7,12 +7,12 @@ use Rattle.record_cursor.proofs.step.read_tail.Goals as goal
 pub returns-in-Ok-clause-told : goal.returns-in-Ok-clause-told
 returns-in-Ok-clause-told g c = λ bytes tells. (
     let len = front-length (g.F.Folder.files c.args.folder.now) c.args.name.now bytes c.args.length tells in
-    tail-there c.args.size (drop c.args.at bytes) c.fill.new.out c.is_tail.result (c.in-Ok.ensures.told c.args.length bytes tells (omega arith)) (omega (arith, len, length-drop c.args.at bytes)) c.is_tail.ensures c.if-is_tail.true)
+    tail-there c.args.size (drop c.args.at bytes) c.fill_part.new.out c.is_tail.result (c.in-Ok.ensures.told c.args.length bytes tells (omega arith)) (omega (arith, len, length-drop c.args.at bytes)) c.is_tail.ensures c.if-is_tail.true)
 
 pub returns-in-Ok-2-clause-told : goal.returns-in-Ok-2-clause-told
 returns-in-Ok-2-clause-told g c = λ bytes tells. (
     let len = front-length (g.F.Folder.files c.args.folder.now) c.args.name.now bytes c.args.length tells in
-    tail-other c.args.size (drop c.args.at bytes) c.fill.new.out c.is_tail.result (c.in-Ok-2.ensures.told c.args.length bytes tells (omega arith)) (omega (arith, len, length-drop c.args.at bytes)) c.is_tail.ensures c.if-is_tail.false)
+    tail-other c.args.size (drop c.args.at bytes) c.fill_part.new.out c.is_tail.result (c.in-Ok-2.ensures.told c.args.length bytes tells (omega arith)) (omega (arith, len, length-drop c.args.at bytes)) c.is_tail.ensures c.if-is_tail.false)
 
 pub returns-in-Err-clause-told : goal.returns-in-Err-clause-told
 returns-in-Err-clause-told g c = λ bytes tells. no-damage c.in-Err.fault (tail_at c.args.size (drop c.args.at bytes) ≡ None) (c.in-Err.ensures.told c.args.length bytes tells (omega arith))

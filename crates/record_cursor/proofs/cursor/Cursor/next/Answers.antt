@@ -1,5 +1,5 @@
 use Rattle.std.proofs.Common.{◌≡◌, ℕ, ◌-◌, List, ◌∷◌, drop, string_bytes, Some, None, refl, sym, ap, subst, ◌∙◌}
-use Rattle.std.specs.Prelude.{vec_len}
+use Rattle.std.specs.Prelude.{length}
 use Rattle.std.specs.Option.{option_map}
 use Rattle.xa_outside.specs.Numbers.{PullsAtMost, after_pull}
 use Rattle.record_cursor.specs.Faults.{IfDamage}
@@ -22,8 +22,8 @@ returns-in-Some g c =
     let s = place_view inside.place in
     let t = place_view c.in-Ok.step.place in
     let i : PlainItem = shown_item c.in-Some.item in
-    let buffer : List ℕ = c.read_step.new.buffer.items in
-    let is : IsRead c.in-Ok.step.read (vec_len c.read_step.new.buffer) i = subst (λ (n : ℕ). IsRead c.in-Ok.step.read n i) c.as_slice.ensures.len c.in-Some.ensures.is in
+    let buffer : List ℕ = c.read_step.new.buffer in
+    let is : IsRead c.in-Ok.step.read (length c.read_step.new.buffer) i = subst (λ (n : ℕ). IsRead c.in-Ok.step.read n i) (ap length c.as_slice.ensures.value) c.in-Some.ensures.is in
     let read : read_item c.in-Ok.step.read buffer ≡ Some i = ap (read_item c.in-Ok.step.read) (sym c.as_slice.ensures.value) ∙ sym c.in-Some.ensures.found in
     let leads = e.leads i is in
     let new : PlainCursor = record { name = string_bytes inside.name; length = inside.length; standing = t; at = c.in-Ok.step.at } in
@@ -60,7 +60,7 @@ returns-in-None g c =
     let inside = c.self.inside in
     let inside_view : PlainCursor = record { name = string_bytes inside.name; length = inside.length; standing = place_view inside.place; at = inside.at } in
     let told = g.F.Folder.files c.args.folder.now in
-    let buffer : List ℕ = c.read_step.new.buffer.items in
+    let buffer : List ℕ = c.read_step.new.buffer in
     let read : read_item c.in-Ok.step.read buffer ≡ None = ap (read_item c.in-Ok.step.read) (sym c.as_slice.ensures.value) ∙ sym c.in-None.ensures.found in (
       (refl, (λ w. tt), c.self.view_is),
       record {
