@@ -49,12 +49,28 @@ impl<'a, R: Files> DiskFolder<'a, R> {
         }
     }
 
+    /// Puts what was read ahead of the named file at the front of the buffer: nothing of a file that does not stand open.
+    #[inline(never)]
+    fn copy_ahead(&self, name: &str, at: u64, buf: &mut [u8]) -> usize
+        ensures { result ≤ length buf.new }
+    {
+        match &self.opened {
+            Some(opened) if opened.is_named(name) => opened.copy_held(at, buf),
+            _ => 0,
+        }
+    }
+
     /// Opens the named file unless it stands open, and reads from it. None on a failure.
+    #[cold]
+    #[inline(never)]
     fn read_named(&mut self, name: &str, at: u64, buf: &mut [u8]) -> Option<usize>
         ensures bound { IfSome result (λ n. n ≤ length buf.new) }
         ensures meter { self.new.meter ≡ self.old.meter }
         ensures faults { self.new.faults ≡ self.old.faults }
     {
+        if name == DRAFT {
+            return None;
+        }
         if let Some(opened) = &mut self.opened {
             if opened.is_named(name) {
                 return opened.read(at, buf);
@@ -148,10 +164,11 @@ impl<R: Files> Folder for DiskFolder<'_, R> {
     }
 
     fn read_at(&mut self, name: &str, at: u64, buf: &mut [u8]) -> Result<usize, Failed> {
-        if name == DRAFT {
-            return Err(self.fail());
-        }
-        match self.read_named(name, at, buf) {
+        let count = match self.copy_ahead(name, at, buf) {
+            0 => self.read_named(name, at, buf),
+            held => Some(held),
+        };
+        match count {
             Some(count) => {
                 self.meter.pull(count);
                 Ok(count)

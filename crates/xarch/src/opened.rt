@@ -66,7 +66,6 @@ impl<F: Read + Seek + Drop> Opened<F> {
 
     /// Reads a page from where the file stands.
     fn refill(&mut self, at: u64) -> Option<()> {
-        self.page.clear();
         self.page.resize(PAGE, 0).ok()?;
         let count = self.file.read(&mut self.page).ok();
         self.page.truncate(count.unwrap_or(0));
@@ -75,7 +74,7 @@ impl<F: Read + Seek + Drop> Opened<F> {
     }
 
     /// Puts what the page holds from the offset on at the front of the buffer.
-    fn copy_held(&self, at: u64, buf: &mut [u8]) -> usize
+    pub fn copy_held(&self, at: u64, buf: &mut [u8]) -> usize
         ensures { result ≤ length buf.new }
     {
         if at < self.start || at - self.start >= self.page.len() as u64 {
