@@ -1,0 +1,2 @@
+pub mod StandsAt
+pub mod View
