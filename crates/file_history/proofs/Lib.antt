@@ -1,0 +1,10 @@
+pub mod Opening
+pub mod Budgets
+pub mod Searching
+pub mod Pulls
+pub mod Halves
+pub mod Probing
+pub mod Finding
+pub mod InRows
+pub mod Following
+pub mod WholeFiles

@@ -1,0 +1,80 @@
+use Rattle.std.proofs.Common.{map, sym, ap, subst, ◌∙◌}
+use Rattle.std.specs.Prelude.{◌≢◌}
+use Rattle.std.specs.List.{range_with_len}
+use Rattle.xa_outside.specs.Causes.{Rose}
+use Rattle.version_set.specs.Members.{upto_pairs}
+use Rattle.version_set.specs.View.{pairs_of}
+use Rattle.version_set.specs.declared.set.VersionSet.{VersionSet}
+use Rattle.keyed_tree.specs.View.{label_view}
+use Rattle.record_cursor.specs.View.{header_view}
+use Rattle.file_history.specs.declared.fault.HistoryFault.TheVariants.{Damage}
+use Rattle.file_history.proofs.WholeFiles.{sound-file, sound-archive, sound-set, no-damage-of, failed-of}
+use Rattle.file_history.proofs.follow.history.Goals as goal
+
+pub returns-in-Ok-clause-members : goal.returns-in-Ok-clause-members
+returns-in-Ok-clause-members g c = λ bytes rules vs tells stands sound. (
+    let h = header_view c.args.header.now in
+    let told = g.F.Folder.files c.args.folder.now in
+    let name = c.args.name.now in
+    let path = map label_view c.args.path.now in
+    let all = pairs_of c.upto-all.result in
+    let s = sound-file told name bytes h rules vs c.requires tells stands sound in
+    sound-set told name bytes h vs path (pairs_of c.in-Ok.set) all s (c.upto-all.ensures.members ∙ ap (range_with_len 1) s.versions)
+    (c.in-Ok.ensures.told bytes s.archive s.file (c.upto-all.ensures.pairs ∙ ap upto_pairs s.versions)))
+
+pub returns-in-Err-clause-undamaged : goal.returns-in-Err-clause-undamaged
+returns-in-Err-clause-undamaged g c = λ bytes rules vs tells stands sound. (
+    let h = header_view c.args.header.now in
+    let told = g.F.Folder.files c.args.folder.now in
+    let name = c.args.name.now in
+    let path = map label_view c.args.path.now in
+    let all = pairs_of c.upto-all.result in
+    let s = sound-file told name bytes h rules vs c.requires tells stands sound in
+    subst (λ e. e ≢ Damage) (sym c.from.ensures) (no-damage-of c.in-Err.fault (c.in-Err.ensures.told bytes s.archive s.file (c.upto-all.ensures.pairs ∙ ap upto_pairs s.versions))))
+
+pub returns-in-Ok-clause-few : goal.returns-in-Ok-clause-few
+returns-in-Ok-clause-few g c = λ bytes rules vs a tells stands sound is. (
+    let h = header_view c.args.header.now in
+    let told = g.F.Folder.files c.args.folder.now in
+    let name = c.args.name.now in
+    let path = map label_view c.args.path.now in
+    let all = pairs_of c.upto-all.result in
+    let s = sound-file told name bytes h rules vs c.requires tells stands sound in
+    let f = sound-archive told name bytes h vs a is s in
+    c.in-Ok.ensures.few bytes a f.0 (c.upto-all.ensures.pairs ∙ ap upto_pairs f.1))
+
+pub returns-in-Ok-clause-steps : goal.returns-in-Ok-clause-steps
+returns-in-Ok-clause-steps g c = λ bytes rules vs a tells stands sound is. (
+    let h = header_view c.args.header.now in
+    let told = g.F.Folder.files c.args.folder.now in
+    let name = c.args.name.now in
+    let path = map label_view c.args.path.now in
+    let all = pairs_of c.upto-all.result in
+    let s = sound-file told name bytes h rules vs c.requires tells stands sound in
+    let f = sound-archive told name bytes h vs a is s in
+    c.in-Ok.ensures.steps bytes a f.0 (c.upto-all.ensures.pairs ∙ ap upto_pairs f.1))
+
+pub returns-in-Err-clause-few : goal.returns-in-Err-clause-few
+returns-in-Err-clause-few g c = λ bytes rules vs a tells stands sound is. (
+    let h = header_view c.args.header.now in
+    let told = g.F.Folder.files c.args.folder.now in
+    let name = c.args.name.now in
+    let path = map label_view c.args.path.now in
+    let all = pairs_of c.upto-all.result in
+    let s = sound-file told name bytes h rules vs c.requires tells stands sound in
+    let f = sound-archive told name bytes h vs a is s in
+    c.in-Err.ensures.few bytes a f.0 (c.upto-all.ensures.pairs ∙ ap upto_pairs f.1))
+
+pub returns-in-Err-clause-steps : goal.returns-in-Err-clause-steps
+returns-in-Err-clause-steps g c = λ bytes rules vs a tells stands sound is. (
+    let h = header_view c.args.header.now in
+    let told = g.F.Folder.files c.args.folder.now in
+    let name = c.args.name.now in
+    let path = map label_view c.args.path.now in
+    let all = pairs_of c.upto-all.result in
+    let s = sound-file told name bytes h rules vs c.requires tells stands sound in
+    let f = sound-archive told name bytes h vs a is s in
+    c.in-Err.ensures.steps bytes a f.0 (c.upto-all.ensures.pairs ∙ ap upto_pairs f.1))
+
+pub returns-in-Err-clause-cause : goal.returns-in-Err-clause-cause
+returns-in-Err-clause-cause g c = failed-of VersionSet c.in-Err.fault c.from.result (Rose (g.F.Folder.faults c.args.folder.now) (g.F.Folder.faults c.search.new.folder)) c.from.ensures c.in-Err.ensures.reads.cause

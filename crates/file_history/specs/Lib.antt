@@ -1,0 +1,6 @@
+pub mod Told
+pub mod Pulled
+pub mod View
+pub mod Opened
+pub mod Parts
+pub mod Rows

@@ -1,0 +1,10 @@
+//! The history of an element, out of an archive's file: its children are searched by halving.
+#![tactic(auto)]
+
+mod fault;
+mod follow;
+mod open;
+mod search;
+
+pub use fault::HistoryFault;
+pub use follow::history;
