@@ -12,11 +12,11 @@ use Rattle.archive_file.specs.Sound.{SoundAs}
 use Rattle.xa_fields.proofs.Fields.{some_is}
 use Rattle.xa_outside.specs.Folder.{Files, committed, emptied}
 use Rattle.record_format.specs.Files.{header_bytes, FileOf}
-use Rattle.record_cursor.specs.Moves.{TellsFront}
+use Rattle.record_cursor.specs.Moves.{TellsFront, IsHeaderOf}
 use Rattle.record_cursor.specs.View.{PlainHeader}
 use Rattle.record_cursor.proofs.Fills.{front-length}
 use Rattle.record_cursor.proofs.Headers.{header-is}
-use Rattle.stream_merge.specs.Added.{Added, IsBlank, IsHeaderOf, of_merge, IfTooLong, IfFailed}
+use Rattle.stream_merge.specs.Added.{Added, IsBlank, of_merge, IfTooLong, IfFailed}
 use Rattle.stream_merge.specs.Appended.{Grows}
 use Rattle.stream_merge.specs.Passes.{IfFolder}
 use Rattle.stream_merge.specs.declared.fault.AddFault.{AddFault}

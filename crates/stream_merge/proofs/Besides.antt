@@ -1,26 +1,23 @@
 -- Beginning a node of the archive behind the kids of the version that come before it.
-use Rattle.std.proofs.Common.{◌≡◌, ◌≢◌, ℕ, ◌+◌, ◌-◌, ◌≤◌, Bool, true, false, List, [], ◌∷◌, ◌++◌, length, map, take, Option, Some, None, Result, Ok, Err, refl, sym, ap, subst, ◌∙◌, arith}
-use mir.Val.{bool_byte}
-use Rattle.std.specs.Bool.{IsTrue, if◌then◌else◌}
-use Rattle.std.specs.Option.{option_map, is_some, unwrap_or}
+use Rattle.std.proofs.Common.{◌≡◌, ◌≢◌, ℕ, ◌-◌, ◌≤◌, Bool, List, [], ◌∷◌, ◌++◌, length, Option, Some, None, Result, Ok, Err, IsTrue, refl, sym, ap, subst, ◌∙◌, append_assoc, arith}
+use Rattle.std.specs.Option.{option_map, is_some}
 use Rattle.std.specs.Result.{OnOk, IsErrAnd}
-use Rattle.std.proofs.lemmas.List.{append-nil, take-map}
+use Rattle.std.proofs.lemmas.List.{append-nil}
 use Rattle.keyed_tree.specs.Data.{PlainLabel, PlainKeyed}
 use Rattle.keyed_tree.specs.Kids.{kid_at}
-use Rattle.keyed_tree.specs.View.{keyed_view}
-use Rattle.keyed_tree.specs.declared.keyed.Keyed.{Keyed}
 use Rattle.archive_tree.specs.Data.{Stamp}
 use Rattle.nested_merge.specs.Below.{is_stamp_below}
 use Rattle.nested_merge.specs.Merged.{below, above}
 use Rattle.record_format.specs.Nodes.{set_in}
 use Rattle.record_format.specs.Spelling.{rec_bytes}
-use Rattle.record_writer.specs.Calls.{after, all_appended}
+use Rattle.record_writer.specs.Calls.{after, all_appended, AllFit}
 use Rattle.record_writer.specs.Data.{PlainWriter, OpenInner, WriterCall}
 use Rattle.record_writer.specs.Walks.{row_calls}
 use Rattle.xa_outside.specs.Numbers.{IsMeter}
-use Rattle.stream_merge.specs.Beside.{BeganBeside, IsBegun}
+use Rattle.stream_merge.specs.Beside.{BelowPut, BeganBeside, IsBegun, inherited_with}
 use Rattle.stream_merge.specs.Does.{Made, Sends, Sent}
-use Rattle.stream_merge.specs.Meets.{call_of, opening_of, turned, rest_of, Leaves, stamp_beside, calls_beside, Begins}
+use Rattle.stream_merge.specs.First.{SendsFirst}
+use Rattle.stream_merge.specs.Meets.{call_of, opening_of, turned, rest_of, stamp_beside, calls_beside, Begins}
 use Rattle.stream_merge.specs.Passes.{Rests, fault_of}
 use Rattle.stream_merge.specs.State.{State, lead}
 use Rattle.stream_merge.specs.View.{PlainInherited}
@@ -67,86 +64,76 @@ begins-sent : {T : Type 0} (r : Result T MergeFault) (v : PlainWriter) (t u : St
 begins-sent (Ok x) v t u y kind l stamp set rests second = (let b = second.made in subst (λ (w : PlainWriter). Begins kind v w) (sym b.writer) (begins kind v t.writer l stamp set rests))
 begins-sent (Err e) v t u y kind l stamp set rests second = tt
 
--- ---- how it ends, where so many kids, from the first, come before the node
+-- ---- how it ends, behind the kids that come before the node
 
-some-kid : {X : Type 0} (view : X → PlainKeyed) (o : Option X) (k : Option PlainKeyed) → option_map view o ≡ k → is_some o ≡ is_some k
-some-kid view None k e = ap (λ (z : Option PlainKeyed). is_some z) e
-some-kid view (Some x) k e = ap (λ (z : Option PlainKeyed). is_some z) e
+-- whether there is a kid with the label
+pub has-kid : {X : Type 0} (view : X → PlainKeyed) (o : Option X) (k : Option PlainKeyed) (has : Bool) → option_map view o ≡ k → has ≡ is_some o → has ≡ is_some k
+has-kid view None k has e there = there ∙ ap (λ (z : Option PlainKeyed). is_some z) e
+has-kid view (Some x) k has e there = there ∙ ap (λ (z : Option PlainKeyed). is_some z) e
 
--- the stamp that was made, where it was made by whether there is a kid with the label
-beside-is : {X : Type 0} (h : PlainInherited) (l : PlainLabel) (st : Stamp) (cs : List PlainKeyed) (view : X → PlainKeyed) (kid : Option X) (has : Bool) (stamp : Stamp) → option_map view kid ≡ kid_at l cs → has ≡ is_some kid
-    → stamp ≡ turned h.number h.before has st → stamp ≡ stamp_beside h l st cs
-beside-is h l st cs view kid has stamp same there is = is ∙ ap (λ (z : Bool). turned h.number h.before z st) (there ∙ some-kid view kid (kid_at l cs) same)
+-- what is known of the node
+pub begun-is : (h : PlainInherited) (l : PlainLabel) (st : Stamp) (cs : List PlainKeyed) (kid : Option PlainKeyed) (rest : List PlainKeyed) (own : PlainInherited) (has : Bool)
+    → kid ≡ kid_at l cs → rest ≡ above l cs → has ≡ is_some (kid_at l cs) → own ≡ inherited_with h has st → IsBegun h l st cs kid rest own
+begun-is h l st cs kid rest own has same left there is = record { same_kid = same; left = left; inherits = is ∙ ap (λ (z : Bool). inherited_with h z st) there }
 
-one-if : (b : Bool) → bool_byte b ≡ (if b then 1 else 0)
-one-if true = refl
-one-if false = refl
-
--- what is known of the node, behind n kids
-pub begun-is : {X : Type 0} (h : PlainInherited) (l : PlainLabel) (st : Stamp) (cs : List PlainKeyed) (view : X → PlainKeyed) (kid : Option X) (has : Bool) (stamp : Stamp) → option_map view kid ≡ kid_at l cs → has ≡ is_some kid
-    → stamp ≡ turned h.number h.before has st → (n one : ℕ) (own : PlainInherited) → Leaves cs (above l cs) (n + (if is_some kid then 1 else 0)) → one ≡ bool_byte has → own.number ≡ h.number → own.before ≡ unwrap_or st h.before → own.now ≡ set_in stamp h.now
-    → IsBegun h l st cs (option_map view kid) (n + one) own
-begun-is h l st cs view kid has stamp same there is n one own left byte number before now =
-    let set : own.now ≡ set_in (stamp_beside h l st cs) h.now = now ∙ ap (λ (z : Stamp). set_in z h.now) (beside-is h l st cs view kid has stamp same there is) in
-    let is-one : one ≡ (if is_some kid then 1 else 0) = byte ∙ one-if has ∙ ap (λ (b : Bool). if b then 1 else 0) there in
-    record { same_kid = same; left = subst (λ (z : ℕ). Leaves cs (above l cs) (n + z)) (sym is-one) left; inherits = λ i. record { number = number i; before = before i; now = set i } }
-
-module _ (kind : Kind) (h : PlainInherited) (l : PlainLabel) (st : Stamp) (kids : List Keyed) (n : ℕ) (low : take n (map keyed_view kids) ≡ below l (map keyed_view kids)) (s t : State) where
+module _ (kind : Kind) (h : PlainInherited) (l : PlainLabel) (st : Stamp) (cs : List PlainKeyed) (s t : State) where
   -- the calls that write those kids
   abbrev kids_before : List WriterCall
-  kids_before = row_calls h.now (rest_of h.number h.before (map keyed_view (take n kids)))
+  kids_before = row_calls h.now (rest_of h.number h.before (below l cs))
 
   -- the call that begins the node
-  abbrev node_begun : Stamp → List WriterCall
-  node_begun stamp = call_of kind l stamp (set_in stamp h.now) ∷ []
-
-  calls-are : (stamp : Stamp) → stamp ≡ stamp_beside h l st (map keyed_view kids) → kids_before ++ node_begun stamp ≡ calls_beside kind h l st (map keyed_view kids)
-  calls-are stamp is =
-      let front : map keyed_view (take n kids) ≡ below l (map keyed_view kids) = sym (take-map keyed_view n kids) ∙ low in
-      λ i. row_calls h.now (rest_of h.number h.before (front i)) ++ node_begun (is i)
+  abbrev node_begun : List WriterCall
+  node_begun = (let stamp = stamp_beside h l st cs in call_of kind l stamp (set_in stamp h.now) ∷ [])
 
   -- the kids were not all written
-  pub kids-fail : {T : Type 0} (r : Result T MergeFault) (e : MergeFault) → IsErrAnd r (λ d. d ≡ e) → Sent kids_before s t (Some e) → BeganBeside kind h l st (map keyed_view kids) s t r
-  kids-fail r e is first =
-      let stamp = stamp_beside h l st (map keyed_view kids) in
-      let sends = first.sends in
-      at-err r e is (λ z. BeganBeside kind h l st (map keyed_view kids) s t z) (record {
-        appended = first.appended;
-        passes = sends.passes;
-        same_gap = sends.same_gap;
+  pub kids-fail : {T : Type 0} (r : Result T MergeFault) (e : MergeFault) → IsErrAnd r (λ d. d ≡ e) → BelowPut h l cs s t (Some e) → BeganBeside kind h l st cs s t r
+  kids-fail r e is put =
+      at-err r e is (λ z. BeganBeside kind h l st cs s t z) (record {
+        appended = put.appended;
+        passes = put.passes;
+        same_gap = put.same_gap;
         paid = tt;
         begins = tt;
-        sends = λ small. subst (λ (cs : List WriterCall). Sends first.appended cs s t (Some e)) (calls-are stamp refl) (sends-fault first.appended s t e kids_before (node_begun stamp) sends);
+        sends = λ small. λ ds fit. (
+            let assoc = append_assoc kids_before node_begun ds in
+            subst (λ (z : List WriterCall). Sends put.appended z s t (Some e)) (sym assoc) (put.sends (node_begun ++ ds) (λ all. fit (subst (λ (z : List WriterCall). AllFit s.writer z) (sym assoc) all))));
       })
 
   -- the stamp was not made
-  pub stamp-fails : {T : Type 0} (r : Result T MergeFault) (e : MergeFault) → IsErrAnd r (λ d. d ≡ e) → IsMeter t.numbers → (e ≢ Folder) × (e ≢ TooLong) → (IsTrue (is_stamp_below h.number st) → e ≢ Damage) → Sent kids_before s t None
-      → BeganBeside kind h l st (map keyed_view kids) s t r
-  stamp-fails r e is meter inside damage first =
-      let sends = first.sends in
-      let passes = (let p = sends.passes in passes-stop first.appended 0 0 s t e meter inside.0 p.within p) in
-      at-err r e is (λ z. BeganBeside kind h l st (map keyed_view kids) s t z) (record {
-        appended = first.appended;
+  pub stamp-fails : {T : Type 0} (r : Result T MergeFault) (e : MergeFault) → IsErrAnd r (λ d. d ≡ e) → IsMeter t.numbers → (e ≢ Folder) × (e ≢ TooLong) → (IsTrue (is_stamp_below h.number st) → e ≢ Damage) → BelowPut h l cs s t None
+      → BeganBeside kind h l st cs s t r
+  stamp-fails r e is meter inside damage put =
+      let first = put.sends in
+      let passes = (let p = put.passes in passes-stop put.appended 0 0 s t e meter inside.0 p.within p) in
+      at-err r e is (λ z. BeganBeside kind h l st cs s t z) (record {
+        appended = put.appended;
         passes = passes;
-        same_gap = sends.same_gap;
+        same_gap = put.same_gap;
         paid = tt;
         begins = tt;
-        sends = λ small. record { passes = passes; made = stop-made first.appended (calls_beside kind h l st (map keyed_view kids)) s t e inside.1 (damage small); same_cursor = sends.same_cursor; same_gap = sends.same_gap; paid = tt };
+        sends = λ small. λ ds fit. record { passes = passes; made = stop-made put.appended (calls_beside kind h l st cs ++ ds) s t e inside.1 (damage small); same_cursor = first.same_cursor; same_gap = put.same_gap; paid = tt };
       })
 
   -- the node was begun, or was not
-  pub node-sent-beside : {T : Type 0} (r : Result T MergeFault) (u : State) {X : Type 0} (view : X → PlainKeyed) (kid : Option X) (has : Bool) (stamp : Stamp) → option_map view kid ≡ kid_at l (map keyed_view kids) → has ≡ is_some kid
-      → stamp ≡ turned h.number h.before has st → Longer st stamp → s.writer.leaf ≡ None → Sent kids_before s t None → Sent (node_begun stamp) t u (fault_of r) → BeganBeside kind h l st (map keyed_view kids) s u r
-  node-sent-beside r u view kid has stamp same there is longer none first second =
-      let a = first.sends in
+  pub node-sent-beside : {T : Type 0} (r : Result T MergeFault) (u : State) (has : Bool) (stamp : Stamp) (own given : PlainInherited) → has ≡ is_some (kid_at l cs) → stamp ≡ turned h.number h.before has st → own ≡ inherited_with h has st → given ≡ own → Longer st stamp
+      → s.writer.leaf ≡ None → BelowPut h l cs s t None → Sent (call_of kind l stamp given.now ∷ []) t u (fault_of r) → BeganBeside kind h l st cs s u r
+  node-sent-beside r u has stamp own given there is owns gives longer none put second =
+      let first = put.sends in
       let b = second.sends in
-      let begun : stamp ≡ stamp_beside h l st (map keyed_view kids) = beside-is h l st (map keyed_view kids) view kid has stamp same there is in
-      let rests = row-sent s t h.now (rest_of h.number h.before (map keyed_view (take n kids))) none first in
+      let rests = row-sent s t h.now (rest_of h.number h.before (below l cs)) none (record { appended = put.appended; sends = first }) in
+      let turns : turned h.number h.before has st ≡ stamp_beside h l st cs = ap (λ (z : Bool). turned h.number h.before z st) there in
+      let sets : given.now ≡ set_in (turned h.number h.before has st) h.now = ap (λ (z : PlainInherited). z.now) (gives ∙ owns) in
+      let called : call_of kind l stamp given.now ∷ [] ≡ node_begun = (λ i. call_of kind l (is i) (sets i) ∷ []) ∙ (λ i. call_of kind l (turns i) (set_in (turns i) h.now) ∷ []) in
+      let x = put.appended ++ second.appended in
       record {
-        appended = first.appended ++ second.appended;
-        passes = passes-then first.appended second.appended s t u (fault_of r) 0 0 0 (omega arith) a.passes b.passes;
-        same_gap = b.same_gap ∙ a.same_gap;
-        paid = opening-paid r s t u first.appended second.appended kids_before kind l st stamp (set_in stamp h.now) longer a b;
-        begins = begins-sent r s.writer t u second.appended kind l stamp (set_in stamp h.now) rests b;
-        sends = λ small. subst (λ (cs : List WriterCall). Sends (first.appended ++ second.appended) cs s u (fault_of r)) (calls-are stamp begun) (sends-then first.appended second.appended s t u (fault_of r) kids_before (node_begun stamp) a b);
+        appended = x;
+        passes = passes-then put.appended second.appended s t u (fault_of r) 0 0 0 (omega arith) first.passes b.passes;
+        same_gap = b.same_gap ∙ first.same_gap;
+        paid = opening-paid r s t u put.appended second.appended kids_before kind l st stamp given.now longer first b;
+        begins = begins-sent r s.writer t u second.appended kind l stamp given.now rests b;
+        sends = λ small. ends (fault_of r) (subst (λ (z : List WriterCall). Sends x (kids_before ++ z) s u (fault_of r)) called (sends-then put.appended second.appended s t u (fault_of r) kids_before (call_of kind l stamp given.now ∷ []) first b));
       }
+    where
+      ends : (e : Option MergeFault) → Sends (put.appended ++ second.appended) (calls_beside kind h l st cs) s u e → SendsFirst cs (put.appended ++ second.appended) (calls_beside kind h l st cs) s u e
+      ends None sends = sends
+      ends (Some f) sends = λ ds fit. sends-fault (put.appended ++ second.appended) s u f (calls_beside kind h l st cs) ds sends

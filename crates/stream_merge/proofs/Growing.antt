@@ -19,7 +19,7 @@ use Rattle.record_format.specs.Nodes.{dir_of, node_pieces}
 use Rattle.archive_file.specs.KeyedBy.{IsKeyedBy}
 use Rattle.archive_file.specs.Sound.{SoundAs}
 use Rattle.record_cursor.specs.Items.{items_of}
-use Rattle.record_cursor.specs.Moves.{TellsFront, Comes}
+use Rattle.record_cursor.specs.Moves.{TellsFront, Comes, IsHeaderOf}
 use Rattle.record_cursor.specs.Places.{Standing, among_nodes, finished}
 use Rattle.record_cursor.specs.Next.{Gives}
 use Rattle.record_cursor.specs.View.{PlainHeader, PlainCursor}
@@ -30,7 +30,6 @@ use Rattle.record_writer.specs.Faults.{Appends}
 use Rattle.record_writer.specs.View.{writer_view}
 use Rattle.record_writer.specs.Walks.{walk_of}
 use Rattle.record_writer.specs.declared.writer.Writer.{Writer}
-use Rattle.stream_merge.specs.Added.{IsHeaderOf}
 use Rattle.stream_merge.specs.Appended.{Ends, WritesNodes, Grows, NodesAppended, VersionAppended}
 use Rattle.stream_merge.specs.Passes.{Unless}
 use Rattle.stream_merge.specs.State.{State, state, lead}

@@ -1,8 +1,11 @@
 pub mod States
 pub mod Lengths
+pub mod Weights
 pub mod Weaving
 pub mod Taken
 pub mod Puts
+pub mod FitLabels
+pub mod Belows
 pub mod Alternatives
 pub mod Besides
 pub mod Handed
@@ -12,7 +15,7 @@ pub mod CopiedRows
 pub mod ChildCopies
 pub mod MergedRows
 pub mod MergedNodes
-pub mod OwnTexts
+pub mod DocumentTexts
 pub mod Items
 pub mod Whole
 pub mod Appending

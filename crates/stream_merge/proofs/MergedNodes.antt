@@ -1,11 +1,12 @@
 -- What merging a node goes along.
-use Rattle.std.proofs.Common.{◌≡◌, ◌≢◌, ℕ, ◌+◌, ◌-◌, ◌*◌, ◌≤◌, ◌<◌, true≢false, List, [], ◌∷◌, ◌++◌, length, map, take, drop, Option, Some, None, IfSome, Ok, Err, IsTrue, refl, sym, ap, subst, ◌∙◌, append_assoc, arith}
+use Rattle.std.proofs.Common.{◌≡◌, ◌≢◌, ℕ, ◌+◌, ◌-◌, ◌*◌, ◌≤◌, ◌<◌, true≢false, List, [], ◌∷◌, ◌++◌, Option, Some, None, IfSome, Ok, Err, IsTrue, refl, sym, ap, subst, ◌∙◌, append_assoc, arith}
 use Rattle.std.specs.List.{AllByRecursion}
-use Rattle.std.proofs.lemmas.List.{take_all, length-drop, drop-map}
 use Rattle.std.specs.Option.{unwrap_or}
 use Rattle.keyed_tree.specs.Data.{PlainKey, PlainLabel, PlainKeyed, inner, leaf, kids_from}
 use Rattle.keyed_tree.specs.Kids.{kid_at, are_ordered, IsOrdered}
 use Rattle.keyed_tree.proofs.Kids.{both, kids_list-kids_from}
+use Rattle.keyed_parts.specs.View.{kids_view}
+use Rattle.keyed_parts.specs.declared.kids.Kids.{Kids}
 use Rattle.archive_tree.specs.Data.{Stamp, PlainAlt, PlainNode, inner_node, leaf_node, PlainNodes, node_label}
 use Rattle.nested_merge.specs.Below.{is_stamp_below, are_alts_below, is_node_below, are_nodes_below}
 use Rattle.nested_merge.specs.Fits.{if_there, fits, all_fit}
@@ -21,6 +22,7 @@ use Rattle.record_cursor.specs.declared.item.Item.{Item}
 use Rattle.record_cursor.specs.declared.item.Item.TheVariants as item
 use Rattle.record_parts.specs.declared.views.LabelView.{LabelView}
 use Rattle.record_parts.specs.declared.views.StampView.{StampView}
+use Rattle.record_writer.specs.Calls.{AllFit}
 use Rattle.record_writer.specs.Data.{PlainWriter, WriterCall, call_end_leaf, call_end_inner}
 use Rattle.record_writer.specs.Walks.{alt_calls, row_calls}
 use Rattle.xa_outside.specs.Folder.{Files}
@@ -28,9 +30,10 @@ use Rattle.xa_outside.specs.Numbers.{IsMeter}
 use Rattle.stream_merge.specs.Beside.{BeganBeside, IsBegun}
 use Rattle.stream_merge.specs.Copied.{InsideCopied}
 use Rattle.stream_merge.specs.Does.{Sends, Sent, Does}
+use Rattle.stream_merge.specs.First.{HaveFitLabels}
 use Rattle.stream_merge.specs.Items.{alt_items, end_of, node_items, row_items, IsWithin}
 use Rattle.stream_merge.specs.LeafMerged.{LeafMerged}
-use Rattle.stream_merge.specs.Meets.{met, rest_of, Leaves, kids_with, alts_with, inherited_beside, calls_beside, Begins}
+use Rattle.stream_merge.specs.Meets.{met, rest_of, kids_with, alts_with, inherited_beside, calls_beside, Begins}
 use Rattle.stream_merge.specs.Passes.{Passes, Rests, Unless, of_cursor, unpaid}
 use Rattle.stream_merge.specs.RowMerged.{RowMerged, ChildMerged, InsideMerged, IsOpen, BegunMerged}
 use Rattle.stream_merge.specs.State.{State}
@@ -39,7 +42,7 @@ use Rattle.stream_merge.specs.declared.begin.Kind.{Kind}
 use Rattle.stream_merge.specs.declared.begin.Kind.TheVariants.{Inner, Leaf}
 use Rattle.stream_merge.specs.declared.fault.MergeFault.{MergeFault}
 use Rattle.stream_merge.specs.declared.fault.MergeFault.TheVariants.{Damage}
-use Rattle.stream_merge.proofs.States.{passes-then, passes-none, passes-fault, passes-paid, gave, gave-stop, failed, does-then, does-sends, does-fault, takes-sends, Nexts, Stays, gave-takes, failed-does}
+use Rattle.stream_merge.proofs.States.{passes-then, passes-none, passes-fault, passes-paid, gave, gave-stop, failed, does-then, does-sends, does-fault, does-stopped, takes-sends, Nexts, Stays, gave-takes, failed-does}
 use Rattle.stream_merge.proofs.Copies.{no-more, rests-behind}
 use Rattle.stream_merge.proofs.CopiedRows.{end-long, closes}
 use Rattle.stream_merge.proofs.ChildCopies.{node-front, end-front, opening, first, behind, behind-small, node-taken, not-ended, not-first, opening-read, opening-long, unless-closed, opened-some, not-inner, not-leaf, not-closing}
@@ -54,8 +57,8 @@ child-failed h cs s t e within stays = record {
   passes = failed 0 s t e within stays;
   rests = tt;
   onward = tt;
-  within = tt;
-  node_merged = λ w k next small comes below fit. (tt, failed-does [] w (node_items h.before k ++ next) s t e (row_calls h.now (met h.number h.before k cs)) next stays (node-front h.before w k next small) comes);
+  behind = tt;
+  node_merged = λ w k next small comes below fit. (tt, λ ds labels. failed-does [] w (node_items h.before k ++ next) s t e (row_calls h.now (met h.number h.before k cs) ++ ds) next stays (node-front h.before w k next small) comes);
   end_taken = λ w m next small comes. (tt, failed-does [] w (end_item m ∷ next) s t e (row_calls h.now (rest_of h.number h.before cs)) next stays (end-front w m next small) comes);
 }
 
@@ -67,7 +70,7 @@ child-damage h cs s t i no-inner no-leaf no-end read = record {
   passes = gave-stop 0 s t i Damage (λ e. absurd cc) read;
   rests = tt;
   onward = tt;
-  within = tt;
+  behind = tt;
   node_merged = λ w k next small comes below fit. (let taken = node-taken h.before w k next s t i read small comes in absurd (no-first k taken.given));
   end_taken = λ w m next small comes. (let taken = gave-takes w (end_item m) next s t i read small comes in absurd (not-closing i no-end m taken.given));
 }
@@ -98,7 +101,7 @@ module _ (h : PlainInherited) (cs : List PlainKeyed) (s t u : State) (item : Ite
     passes = (let sends = sent.sends in gave-fails sent.appended s t u item f read sends.passes);
     rests = tt;
     onward = tt;
-    within = tt;
+    behind = tt;
     node_merged = λ w k next small comes below fit. absurd (no-node w k next small comes);
     end_taken = λ w m next small comes. (tt, end-sent (Some f) sent w m next small comes);
   }
@@ -117,7 +120,7 @@ module _ (h : PlainInherited) (cs : List PlainKeyed) (s t u : State) (item : Ite
         passes = passes-then [] sent.appended s t u None (read_for s.cursor.standing (shown_item item)) 0 unpaid (omega (arith, size)) (gave s t item read) sends.passes;
         rests = subst (λ (x : PlainWriter). Rests x u.writer) read.writer (row-sent t u h.now (rest_of h.number h.before cs) (ap (λ (x : PlainWriter). x.leaf) read.writer ∙ none) sent);
         onward = omega (arith, moved, long, at);
-        within = tt;
+        behind = tt;
         node_merged = λ w k next small comes below fit. absurd (no-node w k next small comes);
         end_taken = λ w m next small comes. (refl, end-sent None sent w m next small comes);
       }
@@ -192,7 +195,7 @@ module _ (h : PlainInherited) (cs : List PlainKeyed) (l : PlainLabel) (st : Stam
     rests : (v : PlainWriter) → Begins kind v s.writer → Unless e (Rests v t.writer)
     done : IsDone kind appended s t e
 
-  module _ (o : Option PlainKeyed) (taken : ℕ) (inherits : PlainInherited) (begun : IsBegun h l st cs o taken inherits) (s t : State) (e : Option MergeFault) where
+  module _ (o : Option PlainKeyed) (left : List PlainKeyed) (inherits : PlainInherited) (begun : IsBegun h l st cs o left inherits) (s t : State) (e : Option MergeFault) where
     inside-part : InsideMerged inherits o s t e → Part Inner s t e
     inside-part merged = record { appended = merged.appended; passes = merged.passes; rests = λ v opens. unless-closed v s.writer t.writer e opens merged.closed; done = done }
       where
@@ -230,13 +233,16 @@ module _ (h : PlainInherited) (cs : List PlainKeyed) (l : PlainLabel) (st : Stam
   -- ---- a node is begun, and what is behind its opening merged
 
   module _ (kind : Kind) (s t u : State) (item : Item) (read : Nexts s t item) (shown : shown_item item ≡ opening kind l st) where
-    -- it was begun beside the kids
-    begun-does : (x : List ℕ) (w : ℕ) (k : PlainNode) (next : List PlainItem) (e : Option MergeFault) → (IsTrue (is_stamp_below h.number st) → Sends x (calls_beside kind h l st cs) t u e) → AllByRecursion (IsWithin w) (node_items h.before k)
-        → Comes s.files s.cursor (node_items h.before k ++ next) → IsTrue (is_node_below h.number k) → (opening kind l st ≡ first k) × Does x w (calls_beside kind h l st cs) (behind h.before k ++ next) s u e
-    begun-does x w k next e sends small comes below =
+    -- such a node comes
+    opened : (w : ℕ) (k : PlainNode) (next : List PlainItem) → AllByRecursion (IsWithin w) (node_items h.before k) → Comes s.files s.cursor (node_items h.before k ++ next) → opening kind l st ≡ first k
+    opened w k next small comes = (let taken = node-taken h.before w k next s t item read small comes in sym shown ∙ taken.given)
+
+    -- calls were made for it
+    begun-does : (x : List ℕ) (w : ℕ) (k : PlainNode) (next : List PlainItem) (e : Option MergeFault) (calls : List WriterCall) → (IsTrue (is_stamp_below h.number st) → Sends x calls t u e) → AllByRecursion (IsWithin w) (node_items h.before k)
+        → Comes s.files s.cursor (node_items h.before k ++ next) → IsTrue (is_node_below h.number k) → Does x w calls (behind h.before k ++ next) s u e
+    begun-does x w k next e calls sends small comes below =
         let taken = node-taken h.before w k next s t item read small comes in
-        let same = sym shown ∙ taken.given in
-        (same, takes-sends x w (first k) (behind h.before k ++ next) s t u (shown_item item) (calls_beside kind h l st cs) e taken (sends (stamp-below kind k same below)))
+        takes-sends x w (first k) (behind h.before k ++ next) s t u (shown_item item) calls e taken (sends (stamp-below kind k (opened w k next small comes) below))
 
     no-end : (w m : ℕ) (next : List PlainItem) → IsWithin w (end_item m) → Comes s.files s.cursor (end_item m ∷ next) → ⊥
     no-end w m next small comes = (let taken = gave-takes w (end_item m) next s t item read small comes in not-ended kind l st m (sym shown ∙ taken.given))
@@ -248,17 +254,22 @@ module _ (h : PlainInherited) (cs : List PlainKeyed) (l : PlainLabel) (st : Stam
       passes = gave-fails began.appended s t u item f read began.passes;
       rests = tt;
       onward = tt;
-      within = tt;
+      behind = tt;
       node_merged = λ w k next small comes below fit. (
         tt,
-        let b = begun-does began.appended w k next (Some f) began.sends small comes below in
-            subst (λ (z : List WriterCall). Does began.appended w z next s u (Some f)) (sym (node-called kind k b.0 fit))
-            (does-fault began.appended began.appended s u f w (calls_beside kind h l st cs) (inside k) (behind h.before k ++ next) next b.1),
+        λ ds labels.
+            let begins = calls_beside kind h l st cs in
+            let called : row_calls h.now (met h.number h.before k cs) ++ ds ≡ begins ++ (inside k ++ ds) =
+            ap (λ (z : List WriterCall). z ++ ds) (node-called kind k (opened w k next small comes) fit) ∙ append_assoc begins (inside k) ds in
+            let fitted : AllFit t.writer (begins ++ (inside k ++ ds)) → HaveFitLabels cs = λ all. labels (subst (λ (z : List WriterCall). AllFit s.writer z) (sym called) (subst (λ (x : PlainWriter). AllFit x (begins ++ (inside k ++ ds))) read.writer all)) in
+            subst (λ (z : List WriterCall). Does began.appended w z next s u (Some f)) (sym called)
+            (does-stopped began.appended s u f w (begins ++ (inside k ++ ds)) (behind h.before k ++ next) next
+            (begun-does began.appended w k next (Some f) (begins ++ (inside k ++ ds)) (λ low. began.sends low (inside k ++ ds) fitted) small comes below)),
       );
       end_taken = λ w m next small comes. absurd (no-end w m next small comes);
     }
 
-    module _ {B : Type 0} (b : B) (v : State) (began : BeganBeside kind h l st cs t u (Ok b)) (o : Option PlainKeyed) (taken : ℕ) (inherits : PlainInherited) (begun : IsBegun h l st cs o taken inherits) where
+    module _ {B : Type 0} (b : B) (v : State) (began : BeganBeside kind h l st cs t u (Ok b)) (o : Option PlainKeyed) (rest : Kids) (inherits : PlainInherited) (begun : IsBegun h l st cs o (kids_view rest) inherits) where
       -- what was read for the item is written again
       begun-passes : Passes began.appended 0 s u None
       begun-passes =
@@ -283,33 +294,32 @@ module _ (h : PlainInherited) (cs : List PlainKeyed) (l : PlainLabel) (st : Stam
       part-passes e part = passes-then began.appended part.appended s u v e 0 0 0 (omega arith) begun-passes part.passes
 
       part-does : (e : Option MergeFault) (part : Part kind u v e) (w : ℕ) (k : PlainNode) (next : List PlainItem) → AllByRecursion (IsWithin w) (node_items h.before k) → Comes s.files s.cursor (node_items h.before k ++ next)
-          → IsTrue (is_node_below h.number k) → HasPlace k → (opening kind l st ≡ first k) × Does (began.appended ++ part.appended) w (row_calls h.now (met h.number h.before k cs)) next s v e
+          → IsTrue (is_node_below h.number k) → HasPlace k → Does (began.appended ++ part.appended) w (row_calls h.now (met h.number h.before k cs)) next s v e
       part-does e part w k next small comes below fit =
-          let b = begun-does began.appended w k next None began.sends small comes below in
-          let d = b.1 in
-          let x = began.appended ++ part.appended in (
-            b.0,
-            subst (λ (z : List WriterCall). Does x w z next s v e) (sym (node-called kind k b.0 fit))
-                (does-then began.appended part.appended s u v e w (calls_beside kind h l st cs) (inside k) (behind h.before k ++ next) next (no-more begun-passes) d (part.done w k next b.0 (behind-small h.before w k small) d.follows below fit)),
-          )
+          let same = opened w k next small comes in
+          let d = begun-does began.appended w k next None (calls_beside kind h l st cs) began.sends small comes below in
+          let x = began.appended ++ part.appended in
+          subst (λ (z : List WriterCall). Does x w z next s v e) (sym (node-called kind k same fit))
+          (does-then began.appended part.appended s u v e w (calls_beside kind h l st cs) (inside k) (behind h.before k ++ next) next (no-more begun-passes) d (part.done w k next same (behind-small h.before w k small) d.follows below fit))
 
       -- what is inside it could not be merged
       pub child-unmerged : (f : MergeFault) → BegunMerged kind inherits o u v (Some f) → ChildMerged h cs s v (Err f)
       child-unmerged f merged =
-          let inner = part o taken inherits begun u v (Some f) kind merged in
+          let inner = part o (kids_view rest) inherits begun u v (Some f) kind merged in
+          let x = began.appended ++ inner.appended in
           record {
-            appended = began.appended ++ inner.appended;
+            appended = x;
             passes = part-passes (Some f) inner;
             rests = tt;
             onward = tt;
-            within = tt;
-            node_merged = λ w k next small comes below fit. (tt, (part-does (Some f) inner w k next small comes below fit).1);
+            behind = tt;
+            node_merged = λ w k next small comes below fit. (tt, λ ds labels. does-fault x x s v f w (row_calls h.now (met h.number h.before k cs)) ds next next (part-does (Some f) inner w k next small comes below fit));
             end_taken = λ w m next small comes. absurd (no-end w m next small comes);
           }
 
-      pub child-merged : BegunMerged kind inherits o u v None → ChildMerged h cs s v (Ok (Some taken))
+      pub child-merged : BegunMerged kind inherits o u v None → ChildMerged h cs s v (Ok (Some rest))
       child-merged merged =
-          let inner = part o taken inherits begun u v None kind merged in
+          let inner = part o (kids_view rest) inherits begun u v None kind merged in
           let goes = read.goes in
           let moved = goes.moved in
           let size = ap (size_of s.cursor.standing) shown in
@@ -324,11 +334,11 @@ module _ (h : PlainInherited) (cs : List PlainKeyed) (l : PlainLabel) (st : Stam
             passes = part-passes None inner;
             rests = subst (λ (x : PlainWriter). Rests x v.writer) read.writer (inner.rests t.writer began.begins);
             onward = omega (arith, moved, size, more, second, third);
-            within = left.within;
+            behind = record { label = l; are = left };
             node_merged = λ w k next small comes below fit. (
-                let d = part-does None inner w k next small comes below fit in
-                (subst (λ (j : PlainLabel). Leaves cs (above j cs) taken) (sym (same-label kind k d.0)) left, d.1)
-                );
+              ap Some (left ∙ ap (λ (j : PlainLabel). above j cs) (sym (same-label kind k (opened w k next small comes)))),
+              part-does None inner w k next small comes below fit,
+            );
             end_taken = λ w m next small comes. absurd (no-end w m next small comes);
           }
 
@@ -348,7 +358,7 @@ pub begun-open : (kind : Kind) (v w : PlainWriter) → Begins kind v w → IsOpe
 begun-open Inner v w h = (h.no_leaf, opened-some v w h)
 begun-open Leaf v w h = h.leaf
 
-module _ (h : PlainInherited) (l : PlainLabel) (st : Stamp) (cs : List PlainKeyed) (kid : Option PlainKeyed) (taken : ℕ) (inherits : PlainInherited) (begun : IsBegun h l st cs kid taken inherits) where
+module _ (h : PlainInherited) (l : PlainLabel) (st : Stamp) (cs : List PlainKeyed) (kid : Option PlainKeyed) (left : List PlainKeyed) (inherits : PlainInherited) (begun : IsBegun h l st cs kid left inherits) where
   pub begun-number : 1 ≤ h.number → 1 ≤ inherits.number
   begun-number le = subst (λ (z : PlainInherited). 1 ≤ z.number) (sym begun.inherits) le
 
@@ -364,27 +374,27 @@ kid-shaped (Some k) h = h.1
 
 -- ---- the inside of an inner node
 
-module _ (own : PlainInherited) (kid : Option PlainKeyed) (m : PlainLabel) (xs cs : List PlainKeyed) (s t : State) (is : kid ≡ Some (inner m (kids_from cs))) (same : xs ≡ cs) where
+module _ (own : PlainInherited) (kid : Option PlainKeyed) (m : PlainLabel) (cs : List PlainKeyed) (s t : State) (is : kid ≡ Some (inner m (kids_from cs))) where
   -- the calls for its kids, and where they fit
-  kids-called : (x : List ℕ) (w : ℕ) (ks : PlainNodes) (next : List PlainItem) (u : State) (e : Option MergeFault) → Does x w (row_calls own.now (merged_row own.number own.before ks xs) ++ call_end_inner ∷ []) next s u e
+  kids-called : (x : List ℕ) (w : ℕ) (ks : PlainNodes) (next : List PlainItem) (u : State) (e : Option MergeFault) → Does x w (row_calls own.now (merged_row own.number own.before ks cs) ++ call_end_inner ∷ []) next s u e
       → Does x w (row_calls own.now (kids_with own.number own.before ks kid) ++ call_end_inner ∷ []) next s u e
   kids-called x w ks next u e does =
       subst (λ (o : Option PlainKeyed). Does x w (row_calls own.now (kids_with own.number own.before ks o) ++ call_end_inner ∷ []) next s u e) (sym is)
-      (subst (λ (js : List PlainKeyed). Does x w (row_calls own.now (merged_row own.number own.before ks js) ++ call_end_inner ∷ []) next s u e) (same ∙ sym (kids_list-kids_from cs)) does)
+      (subst (λ (js : List PlainKeyed). Does x w (row_calls own.now (merged_row own.number own.before ks js) ++ call_end_inner ∷ []) next s u e) (sym (kids_list-kids_from cs)) does)
 
-  kids-fit : (l : PlainLabel) (st : Stamp) (ks : PlainNodes) → IsTrue (if_there kid (λ c. fits (inner_node l st ks) c)) → IsTrue (all_fit ks xs)
-  kids-fit l st ks fit = subst (λ (js : List PlainKeyed). IsTrue (all_fit ks js)) (kids_list-kids_from cs ∙ sym same) (subst (λ (o : Option PlainKeyed). IsTrue (if_there o (λ c. fits (inner_node l st ks) c))) is fit)
+  kids-fit : (l : PlainLabel) (st : Stamp) (ks : PlainNodes) → IsTrue (if_there kid (λ c. fits (inner_node l st ks) c)) → IsTrue (all_fit ks cs)
+  kids-fit l st ks fit = subst (λ (js : List PlainKeyed). IsTrue (all_fit ks js)) (kids_list-kids_from cs) (subst (λ (o : Option PlainKeyed). IsTrue (if_there o (λ c. fits (inner_node l st ks) c))) is fit)
 
-  pub inside-row-fails : (f : MergeFault) → RowMerged own xs s t (Some f) → InsideMerged own kid s t (Some f)
+  pub inside-row-fails : (f : MergeFault) → RowMerged own cs s t (Some f) → InsideMerged own kid s t (Some f)
   inside-row-fails f row = record {
     appended = row.appended;
     passes = passes-fault row.appended s t f unpaid 0 row.passes;
     closed = tt;
     inside = λ w l st ks n next small comes below fit. kids-called row.appended w ks next t (Some f)
-        (does-fault row.appended row.appended s t f w (row_calls own.now (merged_row own.number own.before ks xs)) (call_end_inner ∷ []) next next (row.row w ks n next small comes below (kids-fit l st ks fit)));
+        (does-fault row.appended row.appended s t f w (row_calls own.now (merged_row own.number own.before ks cs)) (call_end_inner ∷ []) next next (row.row w ks n next small comes below (kids-fit l st ks fit)));
   }
 
-  pub inside-row-closed : (u : State) (e : Option MergeFault) → s.writer.inners ≢ [] → RowMerged own xs s t None → Sent (call_end_inner ∷ []) t u e → InsideMerged own kid s u e
+  pub inside-row-closed : (u : State) (e : Option MergeFault) → s.writer.inners ≢ [] → RowMerged own cs s t None → Sent (call_end_inner ∷ []) t u e → InsideMerged own kid s u e
   inside-row-closed u e some row sent =
       let x = row.appended ++ sent.appended in
       let sends = sent.sends in
@@ -393,7 +403,7 @@ module _ (own : PlainInherited) (kid : Option PlainKeyed) (m : PlainLabel) (xs c
         passes = passes-paid row.appended sent.appended unpaid s t u (call_end_inner ∷ []) e (end-long t.writer) row.passes sends;
         closed = closes sent.appended s t u e some row.rests sends.made;
         inside = λ w l st ks n next small comes below fit. kids-called x w ks next u e
-            (does-sends row.appended sent.appended s t u e w (row_calls own.now (merged_row own.number own.before ks xs)) (call_end_inner ∷ []) next (row.row w ks n next small comes below (kids-fit l st ks fit)) sends);
+            (does-sends row.appended sent.appended s t u e w (row_calls own.now (merged_row own.number own.before ks cs)) (call_end_inner ∷ []) next (row.row w ks n next small comes below (kids-fit l st ks fit)) sends);
       }
 
 -- a leaf cannot stand where the archive has an inner node
@@ -415,7 +425,3 @@ inside-alone own kid s u e none same copied = record {
       (copied.inside w ks n next (subst (λ (q : List (ℕ × ℕ)). AllByRecursion (IsWithin w) (row_items q ks ++ end_item n ∷ [])) (sym same) small)
       (subst (λ (q : List (ℕ × ℕ)). Comes s.files s.cursor (row_items q ks ++ end_item n ∷ next)) (sym same) comes));
 }
-
--- the kids behind the first so many
-pub kids-left : {X : Type 0} (view : X → PlainKeyed) (n : ℕ) (xs : List X) → map view (take (length xs - n) (drop n xs)) ≡ drop n (map view xs)
-kids-left view n xs = ap (map view) (take_all (length xs - n) (drop n xs) (omega (arith, length-drop n xs))) ∙ sym (drop-map view n xs)

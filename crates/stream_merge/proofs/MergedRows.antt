@@ -1,39 +1,49 @@
 -- What merging a row goes along.
-use Rattle.std.proofs.Common.{◌≡◌, ℕ, ◌+◌, ◌≤◌, List, [], ◌∷◌, ◌++◌, length, drop, Option, Some, None, Result, Ok, Err, IsTrue, refl, sym, ap, subst, ◌∙◌, append_assoc, arith}
+use Rattle.std.proofs.Common.{◌≡◌, ℕ, ◌≤◌, List, [], ◌∷◌, ◌++◌, Option, Some, None, Result, Ok, Err, IsTrue, refl, sym, ap, subst, ◌∙◌, append_assoc, arith}
 use Rattle.std.specs.List.{AllByRecursion}
+use Rattle.std.specs.Option.{option_map}
 use Rattle.std.specs.Result.{IfOk}
-use Rattle.std.proofs.lemmas.List.{drop-drop, length-drop}
+use Rattle.xa_fields.proofs.Fields.{some_is}
 use Rattle.keyed_tree.specs.Data.{PlainKeyed, kids_from}
-use Rattle.keyed_tree.specs.Kids.{ascend}
+use Rattle.keyed_tree.specs.Kids.{ascend, are_ordered}
 use Rattle.keyed_tree.proofs.Kids.{both}
+use Rattle.keyed_parts.specs.View.{kids_view}
+use Rattle.keyed_parts.specs.declared.kids.Kids.{Kids}
 use Rattle.archive_tree.specs.Data.{PlainNode, PlainNodes, no_nodes, node, node_label}
 use Rattle.nested_merge.specs.Below.{is_node_below, are_nodes_below}
 use Rattle.nested_merge.specs.Fits.{all_fit}
 use Rattle.nested_merge.specs.Merged.{above, merged_row}
+use Rattle.nested_merge.proofs.Rows.{ascend_tail, ordered_tail}
 use Rattle.record_cursor.specs.Items.{PlainItem, end_item}
 use Rattle.record_cursor.specs.Moves.{Comes}
+use Rattle.record_writer.specs.Calls.{AllFit}
 use Rattle.record_writer.specs.Data.{WriterCall}
 use Rattle.record_writer.specs.Walks.{row_calls}
 use Rattle.stream_merge.specs.Does.{Does}
+use Rattle.stream_merge.specs.First.{DoesFirst}
 use Rattle.stream_merge.specs.Items.{node_items, row_items, IsWithin}
-use Rattle.stream_merge.specs.Meets.{met, Leaves, TakesSome}
+use Rattle.stream_merge.specs.Meets.{met}
 use Rattle.stream_merge.specs.Passes.{fault_of, unpaid}
 use Rattle.stream_merge.specs.RowMerged.{RowMerged, ChildMerged}
 use Rattle.stream_merge.specs.State.{State}
 use Rattle.stream_merge.specs.View.{PlainInherited}
 use Rattle.stream_merge.specs.declared.fault.MergeFault.{MergeFault}
-use Rattle.stream_merge.proofs.States.{passes-then, passes-fault, does-then, does-fault}
+use Rattle.stream_merge.proofs.States.{passes-then, passes-fault, does-then, does-stopped}
 use Rattle.stream_merge.proofs.Copies.{all-front, all-back, no-more, rests-behind}
-use Rattle.stream_merge.proofs.Weaving.{row_step, fit_step, ascend_drop}
+use Rattle.stream_merge.proofs.FitLabels.{row-labels}
+use Rattle.stream_merge.proofs.Weaving.{AreShapedKids, above_keeps, row_step, fit_step}
+
+no-some : (cs : List PlainKeyed) → ¬ (option_map kids_view None ≡ Some cs)
+no-some cs e = cc
 
 -- ---- the next child, and then the rest of the row
 
 module _ (h : PlainInherited) (cs : List PlainKeyed) (up : IsTrue (ascend (kids_from cs))) (s t : State) where
   -- the node that comes next
-  meets : (taken : Result (Option ℕ) MergeFault) (child : ChildMerged h cs s t taken) (w : ℕ) (k : PlainNode) (ks : PlainNodes) (m : ℕ) (next : List PlainItem) → AllByRecursion (IsWithin w) (row_items h.before (node k ks) ++ end_item m ∷ [])
+  meets : (left : Result (Option Kids) MergeFault) (child : ChildMerged h cs s t left) (w : ℕ) (k : PlainNode) (ks : PlainNodes) (m : ℕ) (next : List PlainItem) → AllByRecursion (IsWithin w) (row_items h.before (node k ks) ++ end_item m ∷ [])
       → Comes s.files s.cursor (row_items h.before (node k ks) ++ end_item m ∷ next) → IsTrue (are_nodes_below h.number (node k ks)) → IsTrue (all_fit (node k ks) cs)
-      → IfOk taken (λ r. TakesSome r (Leaves cs (above (node_label k) cs))) × Does child.appended w (row_calls h.now (met h.number h.before k cs)) (row_items h.before ks ++ end_item m ∷ next) s t (fault_of taken)
-  meets taken child w k ks m next small comes below fit =
+      → IfOk left (λ r. option_map kids_view r ≡ Some (above (node_label k) cs)) × DoesFirst cs child.appended w (row_calls h.now (met h.number h.before k cs)) (row_items h.before ks ++ end_item m ∷ next) s t (fault_of left)
+  meets left child w k ks m next small comes below fit =
       child.node_merged w k (row_items h.before ks ++ end_item m ∷ next) (all-front w (node_items h.before k) (row_items h.before ks) (all-front w (node_items h.before k ++ row_items h.before ks) (end_item m ∷ []) small))
       (subst (λ (xs : List PlainItem). Comes s.files s.cursor xs) (append_assoc (node_items h.before k) (row_items h.before ks) (end_item m ∷ next)) comes)
       (both (is_node_below h.number k) (are_nodes_below h.number ks) below).0 (fit_step k ks cs up fit).0
@@ -44,7 +54,7 @@ module _ (h : PlainInherited) (cs : List PlainKeyed) (up : IsTrue (ascend (kids_
       row : (w : ℕ) (ks : PlainNodes) (m : ℕ) (next : List PlainItem) → AllByRecursion (IsWithin w) (row_items h.before ks ++ end_item m ∷ []) → Comes s.files s.cursor (row_items h.before ks ++ end_item m ∷ next) → IsTrue (are_nodes_below h.number ks)
           → IsTrue (all_fit ks cs) → Does child.appended w (row_calls h.now (merged_row h.number h.before ks cs)) next s t None
       row w no_nodes m next small comes below fit = (child.end_taken w m next small.0 comes).1
-      row w (node k ks) m next small comes below fit = absurd (meets (Ok None) child w k ks m next small comes below fit).0
+      row w (node k ks) m next small comes below fit = absurd (no-some (above (node_label k) cs) (meets (Ok None) child w k ks m next small comes below fit).0)
 
   row-failed : (f : MergeFault) → ChildMerged h cs s t (Err f) → RowMerged h cs s t (Some f)
   row-failed f child = record { appended = child.appended; passes = passes-fault child.appended s t f 0 unpaid child.passes; rests = tt; row = row }
@@ -54,12 +64,15 @@ module _ (h : PlainInherited) (cs : List PlainKeyed) (up : IsTrue (ascend (kids_
       row w no_nodes m next small comes below fit = (child.end_taken w m next small.0 comes).1
       row w (node k ks) m next small comes below fit =
           let c = meets (Err f) child w k ks m next small comes below fit in
+          let calls = row_calls h.now (met h.number h.before k cs) in
           let others = row_calls h.now (merged_row h.number h.before ks (above (node_label k) cs)) in
-          subst (λ (z : List WriterCall). Does child.appended w z next s t (Some f)) (sym (row_step h.number h.before h.now k ks cs))
-          (does-fault child.appended child.appended s t f w (row_calls h.now (met h.number h.before k cs)) others (row_items h.before ks ++ end_item m ∷ next) next c.1)
+          let step = row_step h.number h.before h.now k ks cs in
+          let labels = row-labels h.number h.before h.now (node k ks) cs up s.writer in
+          subst (λ (z : List WriterCall). Does child.appended w z next s t (Some f)) (sym step)
+          (does-stopped child.appended s t f w (calls ++ others) (row_items h.before ks ++ end_item m ∷ next) next (c.1 others (λ all. labels (subst (λ (z : List WriterCall). AllFit s.writer z) (sym step) all))))
 
-  row-more : (more : ℕ) (u : State) (e : Option MergeFault) → ChildMerged h cs s t (Ok (Some more)) → RowMerged h (drop more cs) t u e → RowMerged h cs s u e
-  row-more more u e child rest = record {
+  row-more : (ks : Kids) (left : List PlainKeyed) (u : State) (e : Option MergeFault) → kids_view ks ≡ left → ChildMerged h cs s t (Ok (Some ks)) → RowMerged h left t u e → RowMerged h cs s u e
+  row-more more left u e same child rest = record {
     appended = child.appended ++ rest.appended;
     passes = passes-then child.appended rest.appended s t u e 0 unpaid unpaid (omega arith) child.passes rest.passes;
     rests = (let rests = child.rests in rests-behind s.writer t.writer u.writer e rests.inners rest.rests);
@@ -71,59 +84,59 @@ module _ (h : PlainInherited) (cs : List PlainKeyed) (up : IsTrue (ascend (kids_
       row w no_nodes m next small comes below fit = (let c = child.end_taken w m next small.0 comes in let same = c.0 in absurd cc)
       row w (node k ks) m next small comes below fit =
           let c = meets (Ok (Some more)) child w k ks m next small comes below fit in
-          let left = c.0 in
           let does = c.1 in
-          let are : above (node_label k) cs ≡ drop more cs = sym left.are in
+          let are : above (node_label k) cs ≡ left = sym (some_is (kids_view more) (above (node_label k) cs) c.0) ∙ same in
           let items = row_items h.before ks ++ end_item m ∷ next in
           let behind = rest.row w ks m next (all-back w (node_items h.before k) (row_items h.before ks ++ end_item m ∷ []) (subst (λ (xs : List PlainItem). AllByRecursion (IsWithin w) xs) (append_assoc (node_items h.before k) (row_items h.before ks) (end_item m ∷ [])) small))
           does.follows (both (is_node_below h.number k) (are_nodes_below h.number ks) below).1 (subst (λ (z : List PlainKeyed). IsTrue (all_fit ks z)) are (fit_step k ks cs up fit).1) in
           let calls = row_calls h.now (met h.number h.before k cs) in
           subst (λ (z : List WriterCall). Does (child.appended ++ rest.appended) w z next s u e) (sym (row_step h.number h.before h.now k ks cs ∙ ap (λ (z : List PlainKeyed). calls ++ row_calls h.now (merged_row h.number h.before ks z)) are))
-          (does-then child.appended rest.appended s t u e w calls (row_calls h.now (merged_row h.number h.before ks (drop more cs))) items next (no-more child.passes) does behind)
+          (does-then child.appended rest.appended s t u e w calls (row_calls h.now (merged_row h.number h.before ks left)) items next (no-more child.passes) does behind)
 
 -- ---- the loop
 
--- Some nodes were merged with so many kids, and what is made of the rest is made of the row.
-pub record MergeOn (h : PlainInherited) (cs : List PlainKeyed) (taken : ℕ) (s t : State) : Type 0 where
-  pub few : taken ≤ length cs
+-- Some nodes were merged, with these kids left, and what is made of the rest is made of the row.
+pub record MergeOn (h : PlainInherited) (cs left : List PlainKeyed) (s t : State) : Type 0 where
+  pub ascending : IsTrue (ascend (kids_from left))
+  pub ordered : IsTrue (are_ordered (kids_from left))
+  pub shaped : AreShapedKids left
   pub same_length : t.cursor.length ≡ s.cursor.length
   pub onward : s.cursor.at ≤ t.cursor.at
   pub within : t.cursor.at ≤ t.cursor.length
   pub no_leaf : t.writer.leaf ≡ None
-  pub rest : (u : State) (e : Option MergeFault) → RowMerged h (drop taken cs) t u e → RowMerged h cs s u e
+  pub rest : (u : State) (e : Option MergeFault) → RowMerged h left t u e → RowMerged h cs s u e
 
-pub merge-start : (h : PlainInherited) (cs : List PlainKeyed) (s : State) → s.cursor.at ≤ s.cursor.length → s.writer.leaf ≡ None → MergeOn h cs 0 s s
-merge-start h cs s within leaf = record { few = omega arith; same_length = refl; onward = omega arith; within = within; no_leaf = leaf; rest = λ u e row. row }
+pub merge-start : (h : PlainInherited) (cs : List PlainKeyed) (s : State) → IsTrue (ascend (kids_from cs)) → IsTrue (are_ordered (kids_from cs)) → AreShapedKids cs → s.cursor.at ≤ s.cursor.length → s.writer.leaf ≡ None → MergeOn h cs cs s s
+merge-start h cs s up ordered shaped within leaf = record { ascending = up; ordered = ordered; shaped = shaped; same_length = refl; onward = omega arith; within = within; no_leaf = leaf; rest = λ u e row. row }
 
--- The kids that are left may be known by another name, and so may the answer.
-module _ (h : PlainInherited) (cs left : List PlainKeyed) (taken : ℕ) (s t u : State) (up : IsTrue (ascend (kids_from cs))) (on : MergeOn h cs taken s t) (are : left ≡ drop taken cs) where
-  child-of : (r answer : Result (Option ℕ) MergeFault) → r ≡ answer → ChildMerged h left t u r → ChildMerged h (drop taken cs) t u answer
-  child-of r answer is child = subst (λ (x : Result (Option ℕ) MergeFault). ChildMerged h (drop taken cs) t u x) is (subst (λ (xs : List PlainKeyed). ChildMerged h xs t u r) are child)
+-- The answer may be known by another name.
+module _ (h : PlainInherited) (cs left : List PlainKeyed) (s t u : State) (on : MergeOn h cs left s t) where
+  child-of : (r answer : Result (Option Kids) MergeFault) → r ≡ answer → ChildMerged h left t u r → ChildMerged h left t u answer
+  child-of r answer is child = subst (λ (x : Result (Option Kids) MergeFault). ChildMerged h left t u x) is child
 
-  still : IsTrue (ascend (kids_from (drop taken cs)))
-  still = ascend_drop taken cs up
-
-  pub merge-more : (r : Option ℕ) (more : ℕ) → r ≡ Some more → ChildMerged h left t u (Ok r) → MergeOn h cs (taken + more) s u
-  merge-more r more is child =
-      let c = child-of (Ok r) (Ok (Some more)) (ap Ok is) child in
+  pub merge-more : (r : Option Kids) (rest : Kids) → r ≡ Some rest → ChildMerged h left t u (Ok r) → MergeOn h cs (kids_view rest) s u
+  merge-more r rest is child =
+      let c = child-of (Ok r) (Ok (Some rest)) (ap Ok is) child in
       let passes = c.passes in
       let rests = c.rests in
       let onward = passes.onward in
       let before = on.onward in
-      let few = c.within in
-      let fewer = on.few in
-      let long = length-drop taken cs in
+      let behind = c.behind in
+      let l = behind.label in
+      let are = sym behind.are in
       record {
-        few = omega (arith, fewer, long, few);
+        ascending = subst (λ (xs : List PlainKeyed). IsTrue (ascend (kids_from xs))) are (above_keeps (λ (xs : List PlainKeyed). IsTrue (ascend (kids_from xs))) ascend_tail l left on.ascending);
+        ordered = subst (λ (xs : List PlainKeyed). IsTrue (are_ordered (kids_from xs))) are (above_keeps (λ (xs : List PlainKeyed). IsTrue (are_ordered (kids_from xs))) ordered_tail l left on.ordered);
+        shaped = subst AreShapedKids are (above_keeps AreShapedKids (λ c cs h. h.1) l left on.shaped);
         same_length = passes.same_length ∙ on.same_length;
         onward = omega (arith, onward, before);
         within = passes.within;
         no_leaf = rests.no_leaf;
-        rest = λ v e row. on.rest v e (row-more h (drop taken cs) still t u more v e c (subst (λ (xs : List PlainKeyed). RowMerged h xs u v e) (sym (drop-drop more taken cs)) row));
+        rest = λ v e row. on.rest v e (row-more h left on.ascending t u rest (kids_view rest) v e refl c row);
       }
 
-  pub merge-done : (r : Option ℕ) → r ≡ None → ChildMerged h left t u (Ok r) → RowMerged h cs s u None
-  merge-done r is child = on.rest u None (row-ended h (drop taken cs) still t u (child-of (Ok r) (Ok None) (ap Ok is) child))
+  pub merge-done : (r : Option Kids) → r ≡ None → ChildMerged h left t u (Ok r) → RowMerged h cs s u None
+  merge-done r is child = on.rest u None (row-ended h left on.ascending t u (child-of (Ok r) (Ok None) (ap Ok is) child))
 
   pub merge-fault : (f : MergeFault) → ChildMerged h left t u (Err f) → RowMerged h cs s u (Some f)
-  merge-fault f child = on.rest u (Some f) (row-failed h (drop taken cs) still t u f (child-of (Err f) (Err f) refl child))
+  merge-fault f child = on.rest u (Some f) (row-failed h left on.ascending t u f child)

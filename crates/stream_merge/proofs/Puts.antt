@@ -1,25 +1,22 @@
 -- The calls that write what one version alone has.
-use Rattle.std.proofs.Common.{◌≡◌, ◌≢◌, ℕ, ◌+◌, ◌<◌, ◌≤◌, List, [], ◌∷◌, ◌++◌, length, map, drop, get_or, Option, Some, None, Result, Vec, Global, refl, sym, ap, subst, ◌∙◌, arith}
+use Rattle.std.proofs.Common.{◌≡◌, ◌≢◌, ℕ, ◌≤◌, List, [], ◌∷◌, ◌++◌, Option, Some, None, Result, Err, refl, sym, ap, subst, ◌∙◌, arith}
 use Rattle.std.specs.Option.{unwrap_or}
 use Rattle.std.specs.Result.{OnOk, IsErrAnd}
+use Rattle.std.proofs.lemmas.List.{append-nil}
 use Rattle.xa_outside.specs.Folder.{Files}
 use Rattle.xa_outside.specs.Numbers.{Numbers, IsMeter}
-use Rattle.key_spec.proofs.Steps.{map-drop}
-use Rattle.keyed_tree.specs.Data.{PlainKey, PlainLabel, PlainKeyed, inner, leaf, kids_from}
-use Rattle.keyed_tree.specs.View.{key_view, label_view, keyed_view}
-use Rattle.keyed_tree.specs.declared.label.KeyVal.{KeyVal}
-use Rattle.keyed_tree.specs.declared.label.Label.{Label}
-use Rattle.keyed_tree.specs.declared.keyed.Keyed.{Keyed}
-use Rattle.keyed_tree.specs.declared.keyed.Keyed.TheVariants.{Inner, Leaf}
-use Rattle.keyed_tree.proofs.Views.{keyed_view-Inner, keyed_view-Leaf}
+use Rattle.keyed_tree.specs.Data.{PlainKey, PlainLabel, PlainKeyed, inner, leaf, kids_from, label_of}
 use Rattle.archive_tree.specs.Data.{Stamp, PlainNode, PlainNodes, no_nodes, node}
 use Rattle.nested_merge.specs.Merged.{fresh, fresh_row, fresh_onto}
 use Rattle.record_format.specs.Nodes.{set_in}
-use Rattle.record_format.specs.Shapes.{IsShapedNode}
-use Rattle.record_parts.specs.Shapes.{IsShapedLabel, IsShapedValue}
+use Rattle.keyed_parts.specs.Spells.{Spells}
+use Rattle.keyed_parts.specs.declared.fault.SpellFault.{SpellFault}
+use Rattle.keyed_parts.specs.declared.fault.SpellFault.TheVariants as spell
+use Rattle.record_format.specs.Shapes.{IsShapedNode, AreShapedNodes}
+use Rattle.record_parts.specs.Shapes.{FitsLabel, IsShapedLabel, IsShapedValue}
 use Rattle.record_cursor.specs.Places.{finished}
 use Rattle.record_cursor.specs.View.{PlainCursor}
-use Rattle.record_writer.specs.Calls.{appended, after, after_all, Fits}
+use Rattle.record_writer.specs.Calls.{appended, after, after_all, Fits, FitsParts}
 use Rattle.record_writer.specs.Data.{PlainWriter, WriterCall, call_inner, call_leaf, call_alt, call_end_inner, call_end_leaf}
 use Rattle.record_writer.specs.Faults.{TooLongUnless, Appends}
 use Rattle.record_writer.specs.View.{writer_view}
@@ -29,12 +26,14 @@ use Rattle.record_writer.specs.declared.writer.Writer.{Writer}
 use Rattle.record_writer.proofs.WalkLaws.{row-walked, node-walked, between}
 use Rattle.stream_merge.specs.Does.{Sent}
 use Rattle.stream_merge.specs.Meets.{call_of}
-use Rattle.stream_merge.specs.Passes.{Rests, Opens, fault_of}
+use Rattle.stream_merge.specs.Passes.{Rests, Opens, fault_of, of_spell}
 use Rattle.stream_merge.specs.State.{State, state}
 use Rattle.stream_merge.specs.declared.begin.Kind.{Kind}
+use Rattle.stream_merge.specs.declared.begin.Kind.TheVariants.{Inner, Leaf}
 use Rattle.stream_merge.specs.declared.fault.MergeFault.{MergeFault}
+use Rattle.stream_merge.specs.declared.fault.MergeFault.TheVariants.{TooLong}
 use Rattle.stream_merge.proofs.Handed.{sent-handed}
-use Rattle.stream_merge.proofs.States.{walks-none, passes-none, sent-then, sent-fault, call-sends, written}
+use Rattle.stream_merge.proofs.States.{walks-none, passes-none, sent-then, sent-fault, sent-none, call-sends, written}
 
 -- the calls that write these, each with the stamp, under a node that has the set
 abbrev pub fresh_calls : List (ℕ × ℕ) → Stamp → List PlainKeyed → List WriterCall
@@ -44,13 +43,21 @@ onto : (cs : List PlainKeyed) → fresh_row (kids_from cs) ≡ fresh_onto None c
 onto [] = refl
 onto (c ∷ cs) = ap (λ (z : PlainNodes). node (fresh None c) z) (onto cs)
 
-set-is : (s : Stamp) (parent : List (ℕ × ℕ)) → set_in s parent ≡ unwrap_or s parent
+pub set-is : (s : Stamp) (parent : List (ℕ × ℕ)) → set_in s parent ≡ unwrap_or s parent
 set-is None parent = refl
 set-is (Some t) parent = refl
 
--- the call that begins a node of this kind, where it has this set
-pub call-is : (kind k : Kind) (l : PlainLabel) (s : Stamp) (parent set : List (ℕ × ℕ)) → kind ≡ k → set ≡ unwrap_or s parent → call_of kind l s (set_in s parent) ∷ [] ≡ call_of k l s set ∷ []
-call-is kind k l s parent set is same = ap (λ (z : Kind). call_of z l s (set_in s parent) ∷ []) is ∙ ap (λ (z : List (ℕ × ℕ)). call_of k l s z ∷ []) (set-is s parent ∙ sym same)
+-- the set that a node with this stamp has
+pub set-of : (stored s : Stamp) (parent set : List (ℕ × ℕ)) → stored ≡ s → set ≡ unwrap_or stored parent → set ≡ set_in s parent
+set-of stored s parent set same is = is ∙ sym (set-is stored parent) ∙ ap (λ (z : Stamp). set_in z parent) same
+
+-- the call that begins it
+pub stored-call : (kind : Kind) (l : PlainLabel) (stored s : Stamp) (parent set : List (ℕ × ℕ)) → stored ≡ s → set ≡ unwrap_or stored parent → call_of kind l s (set_in s parent) ∷ [] ≡ call_of kind l stored set ∷ []
+stored-call kind l stored s parent set same is = ap (λ (z : Stamp). call_of kind l z (set_in s parent) ∷ []) (sym same) ∙ ap (λ (z : List (ℕ × ℕ)). call_of kind l stored z ∷ []) (sym (set-of stored s parent set same is))
+
+-- the call that begins a node of this kind
+pub call-is : (kind k : Kind) (l : PlainLabel) (s : Stamp) (set : List (ℕ × ℕ)) → kind ≡ k → call_of kind l s set ∷ [] ≡ call_of k l s set ∷ []
+call-is kind k l s set is = ap (λ (z : Kind). call_of z l s set ∷ []) is
 
 inner-calls : (parent set : List (ℕ × ℕ)) (s : Stamp) (k : PlainKeyed) (l : PlainLabel) (cs : List PlainKeyed) → k ≡ inner l (kids_from cs) → set ≡ unwrap_or s parent
     → node_calls parent (fresh s k) ≡ call_inner l s set ∷ (fresh_calls set None cs ++ call_end_inner ∷ [])
@@ -69,30 +76,25 @@ leaf-calls parent set s k l b e is =
 
 -- ---- what the calls need of a node
 
-pub inner-label : (k : Keyed) (l : Label) (kids : Vec Keyed Global) → k ≡ Inner l kids → IsShapedNode (fresh None (keyed_view k)) → IsShapedLabel (label_view l)
-inner-label k l kids is h = (let parts = subst (λ (z : PlainKeyed). IsShapedNode (fresh None z)) (ap keyed_view is ∙ keyed_view-Inner l kids) h in parts.0)
+pub shaped-label : (k : PlainKeyed) → IsShapedNode (fresh None k) → IsShapedLabel (label_of k)
+shaped-label (inner l ks) h = h.0
+shaped-label (leaf l b) h = h.0
 
-leaf-shaped : (k : Keyed) (l : Label) (b : KeyVal) → k ≡ Leaf l b → IsShapedNode (fresh None (keyed_view k)) → IsShapedNode (fresh None (leaf (label_view l) (key_view b)))
-leaf-shaped k l b is h = subst (λ (z : PlainKeyed). IsShapedNode (fresh None z)) (ap keyed_view is ∙ keyed_view-Leaf l b) h
+pub shaped-kids : (k : PlainKeyed) (l : PlainLabel) (cs : List PlainKeyed) → k ≡ inner l (kids_from cs) → IsShapedNode (fresh None k) → AreShapedNodes (fresh_row (kids_from cs))
+shaped-kids k l cs is h = (let parts = subst (λ (z : PlainKeyed). IsShapedNode (fresh None z)) is h in parts.2)
 
-pub leaf-label : (k : Keyed) (l : Label) (b : KeyVal) → k ≡ Leaf l b → IsShapedNode (fresh None (keyed_view k)) → IsShapedLabel (label_view l)
-leaf-label k l b is h = (let parts = leaf-shaped k l b is h in parts.0)
-
-pub leaf-value : (k : Keyed) (l : Label) (b : KeyVal) → k ≡ Leaf l b → IsShapedNode (fresh None (keyed_view k)) → IsShapedValue (key_view b)
-leaf-value k l b is h = (let parts = leaf-shaped k l b is h in parts.2.0.1)
-
-pub leaf-stands : (v w : PlainWriter) (l : PlainLabel) (s : Stamp) (set : List (ℕ × ℕ)) → w ≡ after v (call_leaf l s set) → w.leaf ≢ None
-leaf-stands v w l s set is none = (let d = sym none ∙ ap (λ (x : PlainWriter). x.leaf) is in absurd cc)
-
-pub leaf-stays : (v w : PlainWriter) (s : Stamp) (b : PlainKey) → w ≡ after v (call_alt s b) → v.leaf ≢ None → w.leaf ≢ None
-leaf-stays v w s b is stands none = stands (sym (ap (λ (x : PlainWriter). x.leaf) is) ∙ none)
+pub shaped-value : (k : PlainKeyed) (l : PlainLabel) (b : PlainKey) → k ≡ leaf l b → IsShapedNode (fresh None k) → IsShapedValue b
+shaped-value k l b is h = (let parts = subst (λ (z : PlainKeyed). IsShapedNode (fresh None z)) is h in parts.2.0.1)
 
 -- ---- a row, kid by kid
 
 -- the next kid and those behind it
-pub calls-left : {X : Type 0} (view : X → PlainKeyed) (set : List (ℕ × ℕ)) (s : Stamp) (xs : List X) (i : ℕ) (x : X) → i < length xs → x ≡ get_or xs i x
-    → fresh_calls set s (map view (drop i xs)) ≡ node_calls set (fresh s (view x)) ++ fresh_calls set s (map view (drop (i + 1) xs))
-calls-left view set s xs i x here is = ap (fresh_calls set s) (map-drop view xs i x here is)
+pub calls-left : (set : List (ℕ × ℕ)) (s : Stamp) (cs rest : List PlainKeyed) (k : PlainKeyed) → cs ≡ k ∷ rest → fresh_calls set s cs ≡ node_calls set (fresh s k) ++ fresh_calls set s rest
+calls-left set s cs rest k is = ap (fresh_calls set s) is
+
+-- one kid alone
+pub calls-alone : (set : List (ℕ × ℕ)) (s : Stamp) (k : PlainKeyed) → fresh_calls set s (k ∷ []) ≡ node_calls set (fresh s k)
+calls-alone set s k = append-nil (node_calls set (fresh s k))
 
 -- ---- what stands begun behind a row
 
@@ -121,6 +123,22 @@ sent-nothing s meter within = record {
   sends = record { passes = passes-none s None meter within (λ e. absurd cc); made = walks-none s; same_cursor = refl; same_gap = refl; paid = omega arith };
 }
 
+-- what does not fit is not sent, and nothing is
+pub sent-long : (s : State) (call : WriterCall) → IsMeter s.numbers → s.cursor.at ≤ s.cursor.length → ¬ (FitsParts s.writer call) → Sent (call ∷ []) s s (Some TooLong)
+sent-long s call meter within over = record {
+  appended = [];
+  sends = record { passes = passes-none s (Some TooLong) meter within (λ e. absurd cc); made = λ fit. over fit.0.parts; same_cursor = refl; same_gap = refl; paid = tt };
+}
+
+-- a label or a body that was not spelled: nothing is sent
+pub unspelled : (s : State) (call : WriterCall) (e : SpellFault) → IsMeter s.numbers → s.cursor.at ≤ s.cursor.length → {V : Type 0} (P : Type 0) (Q : V → Type 0) → (FitsParts s.writer call → P) → Spells P Q (Err e) → Sent (call ∷ []) s s (Some (of_spell e))
+unspelled s call spell.TooLong meter within P Q parts over = sent-long s call meter within (λ fit. over (parts fit))
+unspelled s call spell.Memory meter within P Q parts over = sent-none s (call ∷ []) meter within
+
+pub fits-label : (kind : Kind) (l : PlainLabel) (s : Stamp) (set : List (ℕ × ℕ)) (w : PlainWriter) → FitsParts w (call_of kind l s set) → FitsLabel l
+fits-label Inner l s set w h = h
+fits-label Leaf l s set w h = h
+
 -- one call of the writer
 pub call-sent : {S : Type 0} (files : S → Option Files) (draft : S → Option (List ℕ)) (numbers : S → Numbers) (faults : S → ℕ) → ((x : S) → IsMeter (numbers x)) → (c : PlainCursor) → c.at ≤ c.length
     → (old new : S) (v w : Writer) (call : WriterCall) (r : Result (Unit {0}) WriteFault)
@@ -129,18 +147,18 @@ pub call-sent : {S : Type 0} (files : S → Option Files) (draft : S → Option 
 call-sent files draft numbers faults metered c within old new v w call r = call-sends files draft numbers faults old new c v w call r (metered old) within
 
 -- an inner node is begun, its kids are put, and it is closed
-module _ (parent set : List (ℕ × ℕ)) (s : Stamp) (k : Keyed) (l : Label) (kids : Vec Keyed Global) (is : k ≡ Inner l kids) (same : set ≡ unwrap_or s parent) (t u : State) where
+module _ (parent set : List (ℕ × ℕ)) (s : Stamp) (k : PlainKeyed) (l : PlainLabel) (cs : List PlainKeyed) (is : k ≡ inner l (kids_from cs)) (same : set ≡ unwrap_or s parent) (t u : State) where
   abbrev inner_begun : List WriterCall
-  inner_begun = call_inner (label_view l) s set ∷ []
+  inner_begun = call_inner l s set ∷ []
 
   abbrev inner_kids : List WriterCall
-  inner_kids = fresh_calls set None (map keyed_view kids.items)
+  inner_kids = fresh_calls set None cs
 
   abbrev inner_whole : List WriterCall
-  inner_whole = node_calls parent (fresh s (keyed_view k))
+  inner_whole = node_calls parent (fresh s k)
 
   inner-is : inner_whole ≡ inner_begun ++ (inner_kids ++ call_end_inner ∷ [])
-  inner-is = inner-calls parent set s (keyed_view k) (label_view l) (map keyed_view kids.items) (ap keyed_view is ∙ keyed_view-Inner l kids) same
+  inner-is = inner-calls parent set s k l cs is same
 
   inner-sent : (v : State) (e : Option MergeFault) → Sent (inner_begun ++ (inner_kids ++ call_end_inner ∷ [])) t v e → Sent inner_whole t v e
   inner-sent v e a = sent-as t v e (inner_begun ++ (inner_kids ++ call_end_inner ∷ [])) inner_whole inner-is a
@@ -155,22 +173,19 @@ module _ (parent set : List (ℕ × ℕ)) (s : Stamp) (k : Keyed) (l : Label) (k
   pub inner-put : (v w : State) (e : Option MergeFault) → Sent inner_begun t u None → Sent inner_kids u v None → Sent (call_end_inner ∷ []) v w e → Sent inner_whole t w e
   inner-put v w e a b c = inner-sent w e (sent-then t u w e inner_begun (inner_kids ++ call_end_inner ∷ []) a (sent-then u v w e inner_kids (call_end_inner ∷ []) b c))
 
-  pub inner-end-fails : {T : Type 0} (r : Result T MergeFault) (e : MergeFault) → IsErrAnd r (λ d. d ≡ e) → (v w : State) → Sent inner_begun t u None → Sent inner_kids u v None → Sent (call_end_inner ∷ []) v w (Some e) → Sent inner_whole t w (fault_of r)
-  inner-end-fails r e is v w a b c = sent-handed r e is inner_whole t w (inner-put v w (Some e) a b c)
-
 -- a leaf is begun, its alternative is written, and it is closed
-module _ (parent set : List (ℕ × ℕ)) (s : Stamp) (k : Keyed) (l : Label) (body : KeyVal) (is : k ≡ Leaf l body) (same : set ≡ unwrap_or s parent) (t u : State) where
+module _ (parent set : List (ℕ × ℕ)) (s : Stamp) (k : PlainKeyed) (l : PlainLabel) (body : PlainKey) (is : k ≡ leaf l body) (same : set ≡ unwrap_or s parent) (t u : State) where
   abbrev leaf_begun : List WriterCall
-  leaf_begun = call_leaf (label_view l) s set ∷ []
+  leaf_begun = call_leaf l s set ∷ []
 
   abbrev leaf_alt : List WriterCall
-  leaf_alt = call_alt None (key_view body) ∷ []
+  leaf_alt = call_alt None body ∷ []
 
   abbrev leaf_whole : List WriterCall
-  leaf_whole = node_calls parent (fresh s (keyed_view k))
+  leaf_whole = node_calls parent (fresh s k)
 
   leaf-is : leaf_whole ≡ leaf_begun ++ (leaf_alt ++ call_end_leaf ∷ [])
-  leaf-is = leaf-calls parent set s (keyed_view k) (label_view l) (key_view body) (ap keyed_view is ∙ keyed_view-Leaf l body) same
+  leaf-is = leaf-calls parent set s k l body is same
 
   leaf-sent : (v : State) (e : Option MergeFault) → Sent (leaf_begun ++ (leaf_alt ++ call_end_leaf ∷ [])) t v e → Sent leaf_whole t v e
   leaf-sent v e a = sent-as t v e (leaf_begun ++ (leaf_alt ++ call_end_leaf ∷ [])) leaf_whole leaf-is a
@@ -184,9 +199,6 @@ module _ (parent set : List (ℕ × ℕ)) (s : Stamp) (k : Keyed) (l : Label) (b
 
   pub leaf-put : (v w : State) (e : Option MergeFault) → Sent leaf_begun t u None → Sent leaf_alt u v None → Sent (call_end_leaf ∷ []) v w e → Sent leaf_whole t w e
   leaf-put v w e a b c = leaf-sent w e (sent-then t u w e leaf_begun (leaf_alt ++ call_end_leaf ∷ []) a (sent-then u v w e leaf_alt (call_end_leaf ∷ []) b c))
-
-  pub leaf-end-fails : {T : Type 0} (r : Result T MergeFault) (e : MergeFault) → IsErrAnd r (λ d. d ≡ e) → (v w : State) → Sent leaf_begun t u None → Sent leaf_alt u v None → Sent (call_end_leaf ∷ []) v w (Some e) → Sent leaf_whole t w (fault_of r)
-  leaf-end-fails r e is v w a b c = sent-handed r e is leaf_whole t w (leaf-put v w (Some e) a b c)
 
 -- ---- writers behind what was sent
 
@@ -206,11 +218,25 @@ begun-inner v l s set none = record { no_leaf = none; opened = record { begin = 
 still-open : (v w u : PlainWriter) → Opens v w → Rests w u → Opens v u
 still-open v w u h g = record { no_leaf = g.no_leaf; opened = h.opened; inners = g.inners ∙ h.inners }
 
+-- where one call was sent, it was made
+pub one-sent : (s t : State) (call : WriterCall) → Sent (call ∷ []) s t None → t.writer ≡ after s.writer call
+one-sent s t call h = (let sends = h.sends in let made = sends.made in made.writer)
+
+pub opened : (s t : State) (l : PlainLabel) (stamp : Stamp) (set : List (ℕ × ℕ)) → s.writer.leaf ≡ None → Sent (call_inner l stamp set ∷ []) s t None → Opens s.writer t.writer
+opened s t l stamp set none h = subst (λ (w : PlainWriter). Opens s.writer w) (sym (one-sent s t (call_inner l stamp set) h)) (begun-inner s.writer l stamp set none)
+
 -- an inner node stands begun behind its kids
-pub inside-open : (v : PlainWriter) (s t : State) (l : PlainLabel) (stamp : Stamp) (set : List (ℕ × ℕ)) (cs : List PlainKeyed) → v.leaf ≡ None → s.writer ≡ after v (call_inner l stamp set) → Sent (fresh_calls set None cs) s t None → Opens v t.writer
-inside-open v s t l stamp set cs none is h =
-    let begun : Opens v s.writer = subst (λ (w : PlainWriter). Opens v w) (sym is) (begun-inner v l stamp set none) in
-    still-open v s.writer t.writer begun (row-sent s t set (fresh_onto None cs no_nodes) begun.no_leaf h)
+pub inside-open : (r s t : State) (l : PlainLabel) (stamp : Stamp) (set : List (ℕ × ℕ)) (cs : List PlainKeyed) → r.writer.leaf ≡ None → Sent (call_inner l stamp set ∷ []) r s None → Sent (fresh_calls set None cs) s t None → Opens r.writer t.writer
+inside-open r s t l stamp set cs none first h =
+    let begun = opened r s l stamp set none first in
+    still-open r.writer s.writer t.writer begun (row-sent s t set (fresh_onto None cs no_nodes) begun.no_leaf h)
 
 pub is-open : (v w : PlainWriter) → Opens v w → w.inners ≢ []
 is-open v w h e = (let d = sym e ∙ h.inners in absurd cc)
+
+-- a leaf stands begun, and does behind an alternative
+pub leaf-stands : (s t : State) (l : PlainLabel) (stamp : Stamp) (set : List (ℕ × ℕ)) → Sent (call_leaf l stamp set ∷ []) s t None → t.writer.leaf ≢ None
+leaf-stands s t l stamp set h none = (let d = sym none ∙ ap (λ (x : PlainWriter). x.leaf) (one-sent s t (call_leaf l stamp set) h) in absurd cc)
+
+pub leaf-stays : (s t : State) (stamp : Stamp) (b : PlainKey) → Sent (call_alt stamp b ∷ []) s t None → s.writer.leaf ≢ None → t.writer.leaf ≢ None
+leaf-stays s t stamp b h stands none = stands (sym (ap (λ (x : PlainWriter). x.leaf) (one-sent s t (call_alt stamp b) h)) ∙ none)

@@ -45,15 +45,15 @@ after-append : (w : PlainWriter) (cs ds : List WriterCall) → after_all w (cs +
 after-append w [] ds = refl
 after-append w (c ∷ cs) ds = after-append (after w c) cs ds
 
-fit-append : (w : PlainWriter) (cs ds : List WriterCall) → AllFit w cs → AllFit (after_all w cs) ds → AllFit w (cs ++ ds)
+pub fit-append : (w : PlainWriter) (cs ds : List WriterCall) → AllFit w cs → AllFit (after_all w cs) ds → AllFit w (cs ++ ds)
 fit-append w [] ds h g = g
 fit-append w (c ∷ cs) ds h g = (h.0, fit-append (after w c) cs ds h.1 g)
 
-fit-front : (w : PlainWriter) (cs ds : List WriterCall) → AllFit w (cs ++ ds) → AllFit w cs
+pub fit-front : (w : PlainWriter) (cs ds : List WriterCall) → AllFit w (cs ++ ds) → AllFit w cs
 fit-front w [] ds h = tt
 fit-front w (c ∷ cs) ds h = (h.0, fit-front (after w c) cs ds h.1)
 
-fit-back : (w : PlainWriter) (cs ds : List WriterCall) → AllFit w (cs ++ ds) → AllFit (after_all w cs) ds
+pub fit-back : (w : PlainWriter) (cs ds : List WriterCall) → AllFit w (cs ++ ds) → AllFit (after_all w cs) ds
 fit-back w [] ds h = h
 fit-back w (c ∷ cs) ds h = fit-back (after w c) cs ds h.1
 
@@ -254,6 +254,10 @@ does-sends x y s t u e w cs ds next h g = record {
 
 pub does-fault : (x y : List ℕ) (s t : State) (e : MergeFault) (w : ℕ) (cs ds : List WriterCall) (mid next : List PlainItem) → Does x w cs mid s t (Some e) → Does y w (cs ++ ds) next s t (Some e)
 does-fault x y s t e w cs ds mid next h = record { made = made-fault x y s t e cs ds h.made; follows = tt; gap = h.gap }
+
+-- after a fault nothing is said of what comes next
+pub does-stopped : (x : List ℕ) (s t : State) (e : MergeFault) (w : ℕ) (cs : List WriterCall) (mid next : List PlainItem) → Does x w cs mid s t (Some e) → Does x w cs next s t (Some e)
+does-stopped x s t e w cs mid next h = record { made = h.made; follows = tt; gap = h.gap }
 
 -- ---- one call of the writer
 

@@ -1,7 +1,7 @@
 -- The calls of a walk along a row of the archive and the kids of a version, and what is known of the kids that are left.
-use Rattle.std.proofs.Common.{◌≡◌, ℕ, zero, suc, Bool, true, false, IsTrue, true≢false, List, [], ◌∷◌, ◌++◌, take, drop, Option, Some, None, IfSome, refl, sym, ap, subst, ◌∙◌, append_assoc}
+use Rattle.std.proofs.Common.{◌≡◌, ℕ, Bool, true, false, cond, IsTrue, true≢false, List, [], ◌∷◌, ◌++◌, Option, Some, None, IfSome, refl, sym, ap, subst, ◌∙◌, append_assoc}
 use Rattle.std.specs.Option.{is_some, unwrap_or}
-use Rattle.std.specs.Ordering.{is_eq}
+use Rattle.std.specs.Ordering.{is_eq, is_le}
 use Rattle.std.proofs.lemmas.Bool.{and_from}
 use Rattle.std.proofs.lemmas.List.{append-nil}
 use Rattle.keyed_tree.specs.Data.{PlainLabel, PlainKeyed, inner, leaf, kids_from, label_of}
@@ -11,7 +11,7 @@ use Rattle.keyed_tree.proofs.Kids.{both, has_found, found_at, labels_ascend}
 use Rattle.archive_tree.specs.Data.{Stamp, PlainAlt, PlainNode, inner_node, leaf_node, PlainNodes, no_nodes, node, node_label}
 use Rattle.nested_merge.specs.Fits.{if_there, fits, all_fit}
 use Rattle.nested_merge.specs.Merged.{started, vanished, fresh, fresh_row, fresh_onto, below, above, merged, merged_row, turn}
-use Rattle.nested_merge.proofs.Rows.{ascend_tail, ordered_tail}
+use Rattle.nested_merge.proofs.Rows.{ordered_tail}
 use Rattle.nested_merge.proofs.Weave.{has_above}
 use Rattle.record_format.specs.Nodes.{set_in}
 use Rattle.record_format.specs.Shapes.{IsShapedNode, AreShapedNodes}
@@ -89,29 +89,17 @@ module _ (h : PlainInherited) (l : PlainLabel) (s : Stamp) (cs : List PlainKeyed
 
 -- ---- facts of the kids that are left
 
-pub ascend_drop : (n : ℕ) (cs : List PlainKeyed) → IsTrue (ascend (kids_from cs)) → IsTrue (ascend (kids_from (drop n cs)))
-ascend_drop zero cs h = h
-ascend_drop (suc n) [] h = h
-ascend_drop (suc n) (c ∷ cs) h = ascend_drop n cs (ascend_tail c cs h)
-
-pub ordered_drop : (n : ℕ) (cs : List PlainKeyed) → IsTrue (are_ordered (kids_from cs)) → IsTrue (are_ordered (kids_from (drop n cs)))
-ordered_drop zero cs h = h
-ordered_drop (suc n) [] h = h
-ordered_drop (suc n) (c ∷ cs) h = ordered_drop n cs (ordered_tail c cs h)
+-- what holds behind the first kid wherever it holds of all, holds above a label
+pub above_keeps : (P : List PlainKeyed → Type 0) → ((c : PlainKeyed) (cs : List PlainKeyed) → P (c ∷ cs) → P cs) → (l : PlainLabel) (cs : List PlainKeyed) → P cs → P (above l cs)
+above_keeps P behind l [] h = h
+above_keeps P behind l (c ∷ cs) h = elim (is_le (label_cmp (label_of c) l)) as (λ b. P (cond b (above l cs) (c ∷ cs))) [
+  | true ↦ above_keeps P behind l cs (behind c cs h)
+  | false ↦ h
+]
 
 -- each kid, alone, is within the bounds of the format
 abbrev pub AreShapedKids : List PlainKeyed → Type 0
 AreShapedKids cs = AreShapedNodes (fresh_row (kids_from cs))
-
-pub shaped_drop : (n : ℕ) (cs : List PlainKeyed) → AreShapedKids cs → AreShapedKids (drop n cs)
-shaped_drop zero cs h = h
-shaped_drop (suc n) [] h = h
-shaped_drop (suc n) (c ∷ cs) h = shaped_drop n cs h.1
-
-pub shaped_take : (n : ℕ) (cs : List PlainKeyed) → AreShapedKids cs → AreShapedKids (take n cs)
-shaped_take zero cs h = tt
-shaped_take (suc n) [] h = h
-shaped_take (suc n) (c ∷ cs) h = (h.0, shaped_take n cs h.1)
 
 -- ---- the kid with a label
 

@@ -32,12 +32,12 @@ use Rattle.archive_file.proofs.AlikeLaws.{keyed-alike}
 use Rattle.archive_file.proofs.FrontLaws.{behind_header}
 use Rattle.archive_file.proofs.KeyedLaws.{keyed-is_element, keyed-is_ordered}
 use Rattle.archive_file.proofs.SoundLaws.{sound-reads}
+use Rattle.record_cursor.specs.Moves.{IsHeaderOf}
 use Rattle.record_cursor.specs.View.{PlainHeader}
 use Rattle.record_writer.specs.Calls.{started, all_appended, AllFit}
 use Rattle.record_writer.specs.Walks.{walk_of}
 use Rattle.record_writer.proofs.FitLaws.{walk-fits-exactly}
 use Rattle.record_writer.proofs.WalkLaws.{walk-spells}
-use Rattle.stream_merge.specs.Added.{IsHeaderOf}
 use Rattle.archive_file.proofs.ShapedArchives.{archive-shaped, sound-texts}
 
 -- ---- the header

@@ -1,12 +1,11 @@
 -- The archive with one more version, as a file.
-use Rattle.std.specs.Prelude.{◌≡◌, ℕ, List, [], ◌∷◌, ◌++◌, drop, Option, Some, option_map, Result, Err, ⊤}
+use Rattle.std.specs.Prelude.{◌≡◌, ℕ, List, [], ◌∷◌, ◌++◌, Option, Some, option_map, Result, Err, ⊤}
 use Rattle.key_spec.specs.Data.{PlainRule}
 use Rattle.keyed_tree.specs.Data.{PlainKeyed}
 use Rattle.xa_outside.specs.Folder.{Files, committed, emptied}
 use Rattle.archive_file.specs.Sound.{SoundAs}
-use Rattle.record_cursor.specs.Moves.{TellsFront}
+use Rattle.record_cursor.specs.Moves.{IsHeaderOf, TellsFront}
 use Rattle.record_cursor.specs.View.{PlainHeader}
-use Rattle.record_format.specs.Fronts.{header_at}
 use Rattle.stream_merge.specs.declared.fault.AddFault.{AddFault}
 use Rattle.stream_merge.specs.declared.fault.AddFault.TheVariants.{Damage, Folder, TooLong, Memory}
 use Rattle.stream_merge.specs.declared.fault.MergeFault.{MergeFault}
@@ -15,10 +14,6 @@ use Rattle.stream_merge.specs.declared.fault.MergeFault.TheVariants as merge
 -- where the draft is told, it is empty
 abbrev pub IsBlank : Option (List ℕ) → Type 0
 IsBlank draft = (bytes : List ℕ) → draft ≡ Some bytes → bytes ≡ []
-
--- the header is the one that stands at the front of the bytes
-abbrev pub IsHeaderOf : PlainHeader → List ℕ → Type 0
-IsHeaderOf h bytes = header_at bytes ≡ Some ((h.rules, h.versions), drop h.first bytes)
 
 -- Some file came under the name by way of the draft, where both are told, and the draft is empty then. Where the file of before was the sound archive
 -- of some versions, this one is that of these and of the new one behind them.

@@ -13,14 +13,13 @@ use Rattle.nested_merge.specs.Below.{are_nodes_below}
 use Rattle.nested_merge.specs.Fits.{all_fit}
 use Rattle.nested_merge.specs.Merged.{merged_row}
 use Rattle.record_cursor.specs.Items.{end_item, finish}
-use Rattle.record_cursor.specs.Moves.{Comes, TellsFront}
+use Rattle.record_cursor.specs.Moves.{Comes, TellsFront, IsHeaderOf}
 use Rattle.record_cursor.specs.View.{PlainCursor, PlainHeader}
 use Rattle.record_format.specs.Files.{FileOf, header_bytes, largest}
 use Rattle.record_writer.specs.Data.{PlainWriter, WriterCall, call_finish}
 use Rattle.record_writer.specs.Calls.{after_all}
 use Rattle.record_writer.specs.Walks.{row_calls}
 use Rattle.record_writer.specs.declared.writer.Writer.{Writer}
-use Rattle.stream_merge.specs.Added.{IsHeaderOf}
 use Rattle.stream_merge.specs.Does.{Made}
 use Rattle.stream_merge.specs.Items.{row_items, IsWithin}
 use Rattle.stream_merge.specs.Passes.{Unless, IfFolder}

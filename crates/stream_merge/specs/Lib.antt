@@ -9,4 +9,5 @@ pub mod Appended
 pub mod Copied
 pub mod LeafMerged
 pub mod RowMerged
+pub mod First
 pub mod Beside

@@ -1,5 +1,5 @@
 -- A node of the archive beside a row of the new version.
-use Rattle.std.specs.Prelude.{◌≡◌, ◌≢◌, ℕ, ◌≤◌, Bool, List, [], ◌∷◌, ◌++◌, length, drop, Option, Some, None, if◌then◌else◌}
+use Rattle.std.specs.Prelude.{◌≡◌, ◌≢◌, ℕ, Bool, List, [], ◌∷◌, ◌++◌, Option, Some, None, if◌then◌else◌}
 use Rattle.std.specs.Option.{is_some, unwrap_or}
 use Rattle.keyed_tree.specs.Data.{PlainKey, PlainLabel, PlainKeyed, inner, leaf, kids_list}
 use Rattle.keyed_tree.specs.Kids.{kid_at}
@@ -52,16 +52,6 @@ met n q k cs = fresh_onto (started n q) (below (node_label k) cs)
 -- the kids of the version that begin with it, where the archive's row has ended
 abbrev pub rest_of : ℕ → List (ℕ × ℕ) → List PlainKeyed → PlainNodes
 rest_of n q cs = fresh_onto (started n q) cs no_nodes
-
--- so many kids of the version were taken, and these are left
-pub record Leaves (cs left : List PlainKeyed) (taken : ℕ) : Type 0 where
-  pub within : taken ≤ length cs
-  pub are : drop taken cs ≡ left
-
--- how many kids were taken, where there was a node
-abbrev pub TakesSome : Option ℕ → (ℕ → Type 0) → Type 0
-TakesSome None P = ⊥
-TakesSome (Some n) P = P n
 
 -- the stamp that a node with this label gets beside a row of the version
 abbrev pub stamp_beside : PlainInherited → PlainLabel → Stamp → List PlainKeyed → Stamp

@@ -1,8 +1,11 @@
 -- What is done where the archive has the nodes that come, beside a row of the version.
-use Rattle.std.specs.Prelude.{◌≡◌, ◌≢◌, ◌<◌, ◌≤◌, ℕ, List, [], ◌∷◌, ◌++◌, length, Option, None, Result, IfOk, OnOk, IfSome, IsTrue}
+use Rattle.std.specs.Prelude.{◌≡◌, ◌≢◌, ◌<◌, ℕ, List, [], ◌∷◌, ◌++◌, Option, Some, None, Result, IfOk, OnOk, IfSome, IsTrue}
+use Rattle.std.specs.Option.{option_map}
 use Rattle.std.specs.List.{AllByRecursion}
 use Rattle.keyed_tree.specs.Data.{PlainLabel, PlainKeyed}
 use Rattle.keyed_tree.specs.Kids.{kid_at}
+use Rattle.keyed_parts.specs.View.{kids_view}
+use Rattle.keyed_parts.specs.declared.kids.Kids.{Kids}
 use Rattle.archive_tree.specs.Data.{Stamp, inner_node, PlainNode, PlainNodes, node_label}
 use Rattle.nested_merge.specs.Below.{is_node_below, are_nodes_below}
 use Rattle.nested_merge.specs.Fits.{if_there, fits, all_fit}
@@ -12,9 +15,10 @@ use Rattle.record_cursor.specs.Moves.{Comes}
 use Rattle.record_writer.specs.Data.{PlainWriter, call_end_inner}
 use Rattle.record_writer.specs.Walks.{row_calls}
 use Rattle.stream_merge.specs.Does.{Does}
+use Rattle.stream_merge.specs.First.{DoesFirst}
 use Rattle.stream_merge.specs.Items.{node_items, row_items, IsWithin}
 use Rattle.stream_merge.specs.LeafMerged.{LeafMerged}
-use Rattle.stream_merge.specs.Meets.{kids_with, met, rest_of, Leaves, TakesSome}
+use Rattle.stream_merge.specs.Meets.{kids_with, met, rest_of}
 use Rattle.stream_merge.specs.Passes.{Passes, Rests, Closes, Unless, fault_of, unpaid, unpaid_with}
 use Rattle.stream_merge.specs.State.{State}
 use Rattle.stream_merge.specs.View.{PlainInherited}
@@ -30,19 +34,24 @@ pub record RowMerged (h : PlainInherited) (cs : List PlainKeyed) (s t : State) (
   pub row : (w : ℕ) (ks : PlainNodes) (m : ℕ) (next : List PlainItem) → AllByRecursion (IsWithin w) (row_items h.before ks ++ end_item m ∷ []) → Comes s.files s.cursor (row_items h.before ks ++ end_item m ∷ next)
       → IsTrue (are_nodes_below h.number ks) → IsTrue (all_fit ks cs) → Does appended w (row_calls h.now (merged_row h.number h.before ks cs)) next s t ended
 
--- The next node of the row is merged with the kids that are left, or the END behind the row taken: how many of the kids were written or are this
--- node, or None where the row has ended, and so all were.
-pub record ChildMerged (h : PlainInherited) (cs : List PlainKeyed) (s t : State) (taken : Result (Option ℕ) MergeFault) : Type 0 where
+-- some kids that are left are those above a label
+pub record IsAbove (cs left : List PlainKeyed) : Type 0 where
+  pub label : PlainLabel
+  pub are : left ≡ above label cs
+
+-- The next node of the row is merged with the kids that are left, or the END behind the row taken: the kids that are left behind this node, or
+-- None where the row has ended, and so all were written.
+pub record ChildMerged (h : PlainInherited) (cs : List PlainKeyed) (s t : State) (left : Result (Option Kids) MergeFault) : Type 0 where
   pub appended : List ℕ
-  pub passes : Passes appended (unpaid_with taken) s t (fault_of taken)
-  pub rests : OnOk taken (Rests s.writer t.writer)
-  pub onward : OnOk taken (s.cursor.at < t.cursor.at)
-  pub within : IfOk taken (λ r. IfSome r (λ n. n ≤ length cs))
+  pub passes : Passes appended (unpaid_with left) s t (fault_of left)
+  pub rests : OnOk left (Rests s.writer t.writer)
+  pub onward : OnOk left (s.cursor.at < t.cursor.at)
+  pub behind : IfOk left (λ r. IfSome r (λ ks. IsAbove cs (kids_view ks)))
   pub node_merged : (w : ℕ) (k : PlainNode) (next : List PlainItem) → AllByRecursion (IsWithin w) (node_items h.before k) → Comes s.files s.cursor (node_items h.before k ++ next)
       → IsTrue (is_node_below h.number k) → IsTrue (if_there (kid_at (node_label k) cs) (λ c. fits k c))
-      → IfOk taken (λ r. TakesSome r (Leaves cs (above (node_label k) cs))) × Does appended w (row_calls h.now (met h.number h.before k cs)) next s t (fault_of taken)
+      → IfOk left (λ r. option_map kids_view r ≡ Some (above (node_label k) cs)) × DoesFirst cs appended w (row_calls h.now (met h.number h.before k cs)) next s t (fault_of left)
   pub end_taken : (w : ℕ) (m : ℕ) (next : List PlainItem) → IsWithin w (end_item m) → Comes s.files s.cursor (end_item m ∷ next)
-      → IfOk taken (λ r. r ≡ None) × Does appended w (row_calls h.now (rest_of h.number h.before cs)) next s t (fault_of taken)
+      → IfOk left (λ r. r ≡ None) × Does appended w (row_calls h.now (rest_of h.number h.before cs)) next s t (fault_of left)
 
 -- The inside of an inner node is merged with what the version has of it, or with nothing, and the node is closed.
 pub record InsideMerged (own : PlainInherited) (kid : Option PlainKeyed) (s t : State) (ended : Option MergeFault) : Type 0 where

@@ -7,9 +7,11 @@ ghost use Rattle.archive_file.specs.Sound.{SoundAs};
 ghost use Rattle.key_spec.specs.Data.{PlainRule};
 ghost use Rattle.keyed_tree.specs.Data.{PlainKeyed};
 ghost use Rattle.keyed_tree.specs.Kids.{IsOrdered};
-ghost use Rattle.keyed_tree.specs.View.{keyed_view};
+ghost use Rattle.keyed_tree.specs.Plain.{plain};
+ghost use Rattle.jsonml_text.specs.Texts.{AreTexts};
+ghost use Rattle.key_annotate.specs.LentView.{lent_view};
 ghost use Rattle.nested_merge.specs.Merged.{fresh};
-ghost use Rattle.record_cursor.specs.Moves.{TellsFront};
+ghost use Rattle.record_cursor.specs.Moves.{IsHeaderOf, TellsFront};
 ghost use Rattle.record_cursor.specs.Places.{among_nodes};
 ghost use Rattle.record_cursor.specs.View.{header_view, IsHeader};
 ghost use Rattle.record_format.specs.Files.{FileOf, header_bytes, largest};
@@ -18,7 +20,7 @@ ghost use Rattle.record_writer.specs.View.{writer_view};
 ghost use Rattle.xa_outside.specs.Causes.{Rose};
 ghost use Rattle.xa_outside.specs.Folder.{committed, emptied};
 ghost use Rattle.xa_outside.specs.Numbers.{PullsAndDrafts};
-ghost use Rattle.stream_merge.specs.Added.{Added, IsBlank, IsHeaderOf, IfTooLong, IfFailed, Lengthens};
+ghost use Rattle.stream_merge.specs.Added.{Added, IsBlank, IfTooLong, IfFailed, Lengthens};
 ghost use Rattle.stream_merge.specs.Appended.{NodesAppended, VersionAppended};
 ghost use Rattle.stream_merge.specs.Passes.{fault_of};
 ghost use Rattle.stream_merge.specs.State.{lead};
@@ -28,27 +30,27 @@ ghost use Rattle.stream_merge.specs.declared.fault.AddFault.TheVariants.{Damage,
 use crate::fault::{AddFault, MergeFault};
 use crate::inherited::Inherited;
 use crate::merge::merge_row;
-use keyed_tree::Keyed;
+use key_annotate::LentKeyed;
+use keyed_parts::Kids;
 use record_cursor::{Cursor, Header, Item};
 use record_format::MOST_VERSIONS;
 use record_writer::Writer;
 use std::alloc::Global;
-use std::slice;
 use version_set::VersionSet;
 use xa_outside::Folder;
 
 /// Adds a version to the archive in the file of this name, and makes that the file.
 ///
 /// The records are read once, and each is written before the next is read; nothing is held of the
-/// archive but a record, and of the nodes that stand open their sets and the entries of their
-/// children. After a fault the files are as before.
+/// archive but a record, and of the nodes that stand open their sets, and an entry and a set for
+/// each finished child. After a fault the files are as before.
 pub fn stream_add<F: Folder>(
     alloc: Global,
     folder: &mut F,
     name: &str,
     header: &Header,
     cursor: Cursor,
-    new: &Keyed,
+    new: &LentKeyed<'_, '_>,
 ) -> Result<(), AddFault>
     requires header { IsHeader (header_view header.now) }
     requires cursor { cursor ≡ record {
@@ -58,11 +60,12 @@ pub fn stream_add<F: Folder>(
       at = (header_view header.now).first;
     } }
     requires draft { IsBlank (F.draft folder.old) }
-    requires keyed { IsKeyedBy (header_view header.now).rules (keyed_view new.now) }
+    requires keyed { IsKeyedBy (header_view header.now).rules (lent_view new.now) }
+    requires texts { AreTexts (plain (lent_view new.now)) }
 
     // The file of a sound archive becomes that of its versions and the new one. Whatever the
     // archive is, no other file changes, and the draft is empty then, or has only grown.
-    ensures added { OnOk result (Added (header_view header.now) name.now (keyed_view new.now)
+    ensures added { OnOk result (Added (header_view header.now) name.now (lent_view new.now)
         (F.files folder.old) (F.files folder.new) (F.draft folder.old) (F.draft folder.new)) }
     ensures refused { OnErr result (F.files folder.new ≡ F.files folder.old) }
     ensures drafted { OnErr result (Lengthens (F.draft folder.old) (F.draft folder.new)) }
@@ -70,7 +73,7 @@ pub fn stream_add<F: Folder>(
         → TellsFront (F.files folder.old) name.now (header_view header.now).length bytes
         → IsHeaderOf (header_view header.now) bytes → SoundAs rules vs bytes
         → IfErr result (λ e. IfTooLong e ((file : List ℕ)
-        → ¬ (FileOf rules (vs ++ keyed_view new.now ∷ []) file))) }
+        → ¬ (FileOf rules (vs ++ lent_view new.now ∷ []) file))) }
     ensures undamaged { (bytes : List ℕ) (rules : List PlainRule) (vs : List PlainKeyed)
         → TellsFront (F.files folder.old) name.now (header_view header.now).length bytes
         → IsHeaderOf (header_view header.now) bytes → SoundAs rules vs bytes
@@ -109,16 +112,17 @@ fn append_version<F: Folder>(
     folder: &mut F,
     header: &Header,
     cursor: Cursor,
-    new: &Keyed,
+    new: &LentKeyed<'_, '_>,
 ) -> Result<(), MergeFault>
     requires room { (header_view header.now).versions < 999999 }
     requires within { (header_view header.now).first ≤ (header_view header.now).length }
     requires length { cursor.length ≡ (header_view header.now).length }
     requires standing { cursor.standing ≡ among_nodes 0 }
     requires first { cursor.at ≡ (header_view header.now).first }
-    requires keyed { IsKeyedBy (header_view header.now).rules (keyed_view new.now) }
+    requires keyed { IsKeyedBy (header_view header.now).rules (lent_view new.now) }
+    requires texts { AreTexts (plain (lent_view new.now)) }
     ensures { VersionAppended F.files F.draft F.numbers F.faults (header_view header.now)
-        (keyed_view new.now) folder.old folder.new cursor (fault_of result) }
+        (lent_view new.now) folder.old folder.new cursor (fault_of result) }
 {
     let number = header.versions + 1;
     let from = Inherited {
@@ -129,7 +133,8 @@ fn append_version<F: Folder>(
     };
     let mut cursor = cursor;
     let writer = Writer::start(alloc, folder, &header.spec, number)?;
-    append_nodes(folder, &mut cursor, writer, new, &from)
+    let mut spelled = Vec::new(alloc);
+    append_nodes(folder, &mut cursor, writer, &mut spelled, new, &from)
 }
 
 // Appends the nodes of the archive with one more version to the draft, and what stands behind them.
@@ -137,20 +142,21 @@ fn append_nodes<F: Folder>(
     folder: &mut F,
     cursor: &mut Cursor,
     writer: Writer,
-    new: &Keyed,
+    spelled: &mut Vec<u8>,
+    new: &LentKeyed<'_, '_>,
     from: &Inherited,
 ) -> Result<(), MergeFault>
     requires within { cursor.old.at ≤ cursor.old.length }
     requires no_leaf { (writer_view writer).leaf ≡ None }
     requires no_inner { (writer_view writer).inners ≡ [] }
     requires number { 1 ≤ (inherited_view from.now).number }
-    requires ordered { IsOrdered (keyed_view new.now) }
-    requires shaped { IsShapedNode (fresh None (keyed_view new.now)) }
+    requires ordered { IsOrdered (lent_view new.now) }
+    requires shaped { IsShapedNode (fresh None (lent_view new.now)) }
     ensures { NodesAppended F.files F.draft F.numbers F.faults (inherited_view from.entry.now)
-        (keyed_view new.now) folder.old folder.new cursor.old writer (fault_of result) }
+        (lent_view new.now) folder.old folder.new cursor.old writer (fault_of result) }
 {
     let mut writer = writer;
-    merge_row(folder, cursor, &mut writer, slice::from_ref(new), from)?;
+    merge_row(folder, cursor, &mut writer, spelled, Kids::only(new), from)?;
     writer.finish(folder)?;
     match cursor.next(folder)? {
         Item::Finish => Ok(()),

@@ -1,75 +1,120 @@
 // Beginning a node of the archive beside a row of the new version.
-ghost use Rattle.std.specs.Prelude.{◌≡◌, ◌≤◌, None, IfOk, IsTrue, map};
+ghost use Rattle.std.specs.Prelude.{◌≡◌, ◌≢◌, ◌≤◌, None, IfErr, IfOk, IsTrue};
 ghost use Rattle.std.specs.Option.{option_map};
-ghost use Rattle.keyed_tree.specs.Data.{kids_from};
-ghost use Rattle.keyed_tree.specs.Kids.{ascend};
-ghost use Rattle.keyed_tree.specs.View.{keyed_view};
-ghost use Rattle.nested_merge.specs.Merged.{fresh_row};
+ghost use Rattle.keyed_tree.specs.Data.{kids_from, label_of};
+ghost use Rattle.keyed_tree.specs.Kids.{ascend, kid_at};
+ghost use Rattle.keyed_tree.specs.Order.{label_cmp};
+ghost use Rattle.keyed_parts.specs.View.{kid_view, kids_view};
+ghost use Rattle.nested_merge.specs.Merged.{above, fresh_row};
 ghost use Rattle.record_cursor.specs.View.{PlainCursor};
 ghost use Rattle.record_format.specs.Shapes.{AreShapedNodes};
+ghost use Rattle.record_parts.specs.Shapes.{FitsLabel, IsShapedLabel};
 ghost use Rattle.record_parts.specs.ShownViews.{shown_label, shown_stamp};
 ghost use Rattle.record_writer.specs.View.{writer_view};
-ghost use Rattle.stream_merge.specs.Beside.{BeganBeside, IsBegun};
+ghost use Rattle.stream_merge.specs.Beside.{BeganBeside, BelowPut, IsBegun, IsUnspelled};
+ghost use Rattle.stream_merge.specs.Passes.{fault_of};
 ghost use Rattle.stream_merge.specs.State.{state};
-ghost use Rattle.stream_merge.specs.View.{inherited_view};
+ghost use Rattle.stream_merge.specs.View.{inherited_view, own_view};
 
 use crate::begin::{Kind, begin_node};
 use crate::fault::MergeFault;
-use crate::fresh::{count_below, kid_with, put_started};
-use crate::inherited::{Inherited, turned_stamp};
-use keyed_tree::Keyed;
+use crate::fresh::put_kid;
+use crate::inherited::{Inherited, Own, turned_node};
+use keyed_parts::{Kid, Kids};
 use record_format::{LabelView, StampView};
 use record_writer::Writer;
+use std::alloc::Global;
+use std::cmp::Ordering;
 use xa_outside::Folder;
 
 /// A node of the archive that was begun beside a row of the version.
 #[derive(Drop)]
-pub(crate) struct Begun<'k> {
+pub(crate) struct Begun<'p, 'k, 'a, 't> {
     /// The kid of the version with the node's label, if it has one.
-    pub(crate) kid: Option<&'k Keyed>,
-    /// How many kids of the version, from the first, have been written or are this node.
-    pub(crate) taken: usize,
-    pub(crate) own: Inherited,
+    pub(crate) kid: Option<Kid<'k, 'a, 't>>,
+    /// The kids of the version behind this node.
+    pub(crate) rest: Kids<'k, 'a, 't>,
+    pub(crate) own: Own<'p>,
 }
 
 /// Writes the kids of the version that come before a node of the archive, and begins the node.
-pub(crate) fn begin_beside<'k, F: Folder>(
+pub(crate) fn begin_beside<'p, 'k, 'a, 't, F: Folder>(
     folder: &mut F,
     writer: &mut Writer,
+    spelled: &mut Vec<u8>,
     kind: Kind,
     label: LabelView<'_>,
     stamp: StampView<'_>,
-    kids: &'k [Keyed],
-    from: &Inherited,
-) -> Result<Begun<'k>, MergeFault>
+    kids: Kids<'k, 'a, 't>,
+    from: &'p Inherited,
+) -> Result<Begun<'p, 'k, 'a, 't>, MergeFault>
     requires no_leaf { (writer_view writer.old).leaf ≡ None }
     requires number { 1 ≤ (inherited_view from.now).number }
-    requires ascending { IsTrue (ascend (kids_from (map keyed_view kids.now))) }
-    requires shaped { AreShapedNodes (fresh_row (kids_from (map keyed_view kids.now))) }
+    requires ascending { IsTrue (ascend (kids_from (kids_view kids))) }
+    requires shaped { AreShapedNodes (fresh_row (kids_from (kids_view kids))) }
     ensures begins { (c : PlainCursor) → c.at ≤ c.length → BeganBeside kind
         (inherited_view from.entry.now) (shown_label label.entry) (shown_stamp stamp.entry)
-        (map keyed_view kids.now)
+        (kids_view kids.entry)
         (state F.files F.draft F.numbers F.faults folder.old c writer.old)
         (state F.files F.draft F.numbers F.faults folder.new c writer.new) result }
     ensures begun { IfOk result (λ b. IsBegun (inherited_view from.entry.now)
-        (shown_label label.entry) (shown_stamp stamp.entry) (map keyed_view kids.now)
-        (option_map (λ k. keyed_view k.now) b.kid) b.taken (inherited_view b.own)) }
+        (shown_label label.entry) (shown_stamp stamp.entry) (kids_view kids.entry)
+        (option_map kid_view b.kid) (kids_view b.rest) (own_view b.own)) }
 {
-    let below = count_below(&label, kids);
-    put_started(folder, writer, &kids[..below], from)?;
-    let kid = kid_with(&label, kids, below);
-    let has = kid.is_some();
-    let (stamp, before) = turned_stamp(&stamp, has, from)?;
-    let now = begin_node(folder, writer, kind, label, &stamp, &from.now)?;
-    let own = Inherited {
-        alloc: from.alloc,
-        number: from.number,
-        before,
-        now,
-    };
-    Ok(Begun {
-        kid,
-        taken: below + usize::from(has),
-        own,
-    })
+    let (kid, rest) = put_below(folder, writer, spelled, &label, kids, from)?;
+    let (stamp, own) = turned_node(&stamp, kid.is_some(), from)?;
+    begin_node(folder, writer, kind, label, &stamp, &own.get().now)?;
+    Ok(Begun { kid, rest, own })
+}
+
+// Writes the kids that come before the label: the kid that has it, if there is one, and the kids
+// behind.
+fn put_below<'k, 'a, 't, F: Folder>(
+    folder: &mut F,
+    writer: &mut Writer,
+    spelled: &mut Vec<u8>,
+    label: &LabelView<'_>,
+    kids: Kids<'k, 'a, 't>,
+    from: &Inherited,
+) -> Result<(Option<Kid<'k, 'a, 't>>, Kids<'k, 'a, 't>), MergeFault>
+    requires no_leaf { (writer_view writer.old).leaf ≡ None }
+    requires number { 1 ≤ (inherited_view from.now).number }
+    requires ascending { IsTrue (ascend (kids_from (kids_view kids))) }
+    requires shaped { AreShapedNodes (fresh_row (kids_from (kids_view kids))) }
+    ensures puts { (c : PlainCursor) → c.at ≤ c.length → BelowPut
+        (inherited_view from.entry.now) (shown_label label.entry.now) (kids_view kids.entry)
+        (state F.files F.draft F.numbers F.faults folder.old c writer.old)
+        (state F.files F.draft F.numbers F.faults folder.new c writer.new) (fault_of result) }
+    ensures kid { IfOk result (λ r. option_map kid_view r.0
+        ≡ kid_at (shown_label label.entry.now) (kids_view kids.entry)) }
+    ensures rest { IfOk result (λ r. kids_view r.1
+        ≡ above (shown_label label.entry.now) (kids_view kids.entry)) }
+{
+    let mut left = kids;
+    while let Some((kid, rest)) = left.split_first() {
+        match place(from.alloc, spelled, label, kid)? {
+            Ordering::Greater => put_kid(folder, writer, spelled, kid, from)?,
+            Ordering::Equal => return Ok((Some(kid), rest)),
+            Ordering::Less => return Ok((None, left)),
+        }
+        left = rest;
+    }
+    Ok((None, left))
+}
+
+// The order of a label of the archive and that of a kid, which is spelled for it.
+fn place(
+    alloc: Global,
+    spelled: &mut Vec<u8>,
+    label: &LabelView<'_>,
+    kid: Kid<'_, '_, '_>,
+) -> Result<Ordering, MergeFault>
+    requires { IsShapedLabel (label_of (kid_view kid)) }
+    ensures order { IfOk result (λ o.
+        o ≡ label_cmp (shown_label label.entry.now) (label_of (kid_view kid.entry))) }
+    ensures fault { IfErr result (IsUnspelled (FitsLabel (label_of (kid_view kid.entry)))) }
+{
+    let other = kid.spell(alloc, spelled)?;
+    let order = label.compare(alloc, &other)?;
+    Ok(order)
 }

@@ -1,5 +1,6 @@
 // Copying what the archive alone has, record by record.
 ghost use Rattle.std.specs.Prelude.{◌≡◌, ◌≢◌, ◌≤◌, ◌∷◌, [], None, IfOk};
+ghost use Rattle.archive_tree.specs.View.{stamp_view};
 ghost use Rattle.version_set.specs.View.{pairs_of};
 ghost use Rattle.record_cursor.specs.View.{PlainCursor};
 ghost use Rattle.record_format.specs.Nodes.{set_in};
@@ -14,6 +15,7 @@ ghost use Rattle.stream_merge.specs.State.{state};
 
 use crate::begin::{Kind, begin_node};
 use crate::fault::{MergeFault, written};
+use archive_tree::effective;
 use record_cursor::{Cursor, Item};
 use record_format::{BodyView, LabelView, StampView};
 use record_writer::{BodyFrom, Writer};
@@ -82,8 +84,8 @@ fn copy_child<F: Folder>(
 {
     match cursor.next(folder)? {
         Item::Inner { label, stamp } => {
-            let set = copy_opening(alloc, folder, writer, Kind::Inner, label, stamp, set)?;
-            copy_inner(alloc, folder, cursor, writer, &set)?;
+            let stamp = copy_opening(alloc, folder, writer, Kind::Inner, label, stamp, set)?;
+            copy_inner(alloc, folder, cursor, writer, effective(&stamp, set))?;
             Ok(true)
         }
         Item::Leaf { label, stamp } => {
@@ -97,7 +99,7 @@ fn copy_child<F: Folder>(
 }
 
 // Begins a node of the archive with the stamp that it has there, under a node that has the set. It
-// answers the node's set.
+// answers the stamp.
 fn copy_opening<F: Folder>(
     alloc: Global,
     folder: &mut F,
@@ -106,18 +108,19 @@ fn copy_opening<F: Folder>(
     label: LabelView<'_>,
     stamp: StampView<'_>,
     parent: &VersionSet,
-) -> Result<VersionSet, MergeFault>
+) -> Result<Option<VersionSet>, MergeFault>
     requires no_leaf { (writer_view writer.old).leaf ≡ None }
     ensures sends { (c : PlainCursor) → c.at ≤ c.length → Sent
         (call_of kind (shown_label label.entry) (shown_stamp stamp.entry)
         (set_in (shown_stamp stamp.entry) (pairs_of parent.now)) ∷ [])
         (state F.files F.draft F.numbers F.faults folder.old c writer.old)
         (state F.files F.draft F.numbers F.faults folder.new c writer.new) (fault_of result) }
-    ensures set { IfOk result (λ set.
-        pairs_of set ≡ set_in (shown_stamp stamp.entry) (pairs_of parent.now)) }
+    ensures stamp { IfOk result (λ s. stamp_view s ≡ shown_stamp stamp.entry) }
 {
     let stamp = stamp.copy(alloc)?;
-    begin_node(folder, writer, kind, label, &stamp, parent)
+    let set = effective(&stamp, parent);
+    begin_node(folder, writer, kind, label, &stamp, set)?;
+    Ok(stamp)
 }
 
 /// Copies the alternatives of a leaf that was begun, as far as its end, and closes the leaf.

@@ -1,11 +1,12 @@
 // Merging the alternatives of a leaf.
 ghost use Rattle.std.specs.Prelude.{◌≡◌, ◌≢◌, ◌≤◌, ◌++◌, ◌∷◌, [], None, IfSome};
 ghost use Rattle.std.specs.Option.{option_map};
-ghost use Rattle.keyed_tree.specs.View.{key_view, keyed_view};
+ghost use Rattle.keyed_parts.specs.View.{body_view, kid_view};
 ghost use Rattle.nested_merge.specs.Merged.{fresh};
 ghost use Rattle.record_cursor.specs.View.{PlainCursor};
 ghost use Rattle.record_format.specs.Shapes.{IsShapedNode};
 ghost use Rattle.record_parts.specs.Shapes.{IsShapedValue};
+ghost use Rattle.record_parts.specs.ShownViews.{shown_body};
 ghost use Rattle.record_writer.specs.Data.{call_end_leaf};
 ghost use Rattle.record_writer.specs.View.{writer_view};
 ghost use Rattle.record_writer.specs.Walks.{alt_calls};
@@ -14,14 +15,15 @@ ghost use Rattle.stream_merge.specs.LeafMerged.{LeafMerged, AltsMerged, AltMerge
 ghost use Rattle.stream_merge.specs.Meets.{new_alts};
 ghost use Rattle.stream_merge.specs.Passes.{fault_of};
 ghost use Rattle.stream_merge.specs.State.{state};
-ghost use Rattle.stream_merge.specs.View.{inherited_view};
+ghost use Rattle.stream_merge.specs.View.{inherited_view, own_view};
 
 use crate::beside::Begun;
 use crate::copy::copy_alts;
 use crate::fault::MergeFault;
 use crate::inherited::{Inherited, turned_stamp};
-use keyed_tree::{Body, Keyed};
+use keyed_parts::{Inside, LentBody};
 use record_cursor::{Cursor, Item};
+use record_format::BodyView;
 use record_writer::{BodyFrom, Writer};
 use std::alloc::Global;
 use version_set::VersionSet;
@@ -32,23 +34,25 @@ pub(crate) fn merge_leaf<F: Folder>(
     folder: &mut F,
     cursor: &mut Cursor,
     writer: &mut Writer,
-    begun: &Begun<'_>,
+    spelled: &mut Vec<u8>,
+    begun: &Begun<'_, '_, '_, '_>,
 ) -> Result<(), MergeFault>
     requires within { cursor.old.at ≤ cursor.old.length }
     requires leaf { (writer_view writer.old).leaf ≢ None }
-    requires number { 1 ≤ (inherited_view begun.now.own).number }
-    requires kid { IfSome (option_map (λ k. keyed_view k.now) begun.now.kid)
-        (λ k. IsShapedNode (fresh None k)) }
-    ensures { LeafMerged (inherited_view begun.entry.now.own)
-        (option_map (λ k. keyed_view k.now) begun.entry.now.kid)
+    requires number { 1 ≤ (own_view begun.now.own).number }
+    requires kid { IfSome (option_map kid_view begun.now.kid) (λ k. IsShapedNode (fresh None k)) }
+    ensures { LeafMerged (own_view begun.entry.now.own) (option_map kid_view begun.entry.now.kid)
         (state F.files F.draft F.numbers F.faults folder.old cursor.old writer.old)
         (state F.files F.draft F.numbers F.faults folder.new cursor.new writer.new)
         (fault_of result) }
 {
+    let own = begun.own.get();
     match begun.kid {
-        Some(Keyed::Leaf { body, .. }) => merge_alts(folder, cursor, writer, body, &begun.own),
-        Some(Keyed::Inner { .. }) => Err(MergeFault::Damage),
-        None => copy_alts(begun.own.alloc, folder, cursor, writer),
+        Some(kid) => match kid.inside() {
+            Inside::Body(body) => merge_alts(folder, cursor, writer, spelled, body, own),
+            Inside::Kids(_) => Err(MergeFault::Damage),
+        },
+        None => copy_alts(own.alloc, folder, cursor, writer),
     }
 }
 
@@ -57,20 +61,41 @@ fn merge_alts<F: Folder>(
     folder: &mut F,
     cursor: &mut Cursor,
     writer: &mut Writer,
-    body: &Body,
+    spelled: &mut Vec<u8>,
+    body: LentBody<'_, '_>,
     own: &Inherited,
 ) -> Result<(), MergeFault>
     requires within { cursor.old.at ≤ cursor.old.length }
     requires leaf { (writer_view writer.old).leaf ≢ None }
     requires number { 1 ≤ (inherited_view own.now).number }
-    requires shaped { IsShapedValue (key_view body.now) }
-    ensures { AltsMerged (inherited_view own.entry.now) (key_view body.now)
+    requires shaped { IsShapedValue (body_view body) }
+    ensures { AltsMerged (inherited_view own.entry.now) (body_view body.entry)
+        (state F.files F.draft F.numbers F.faults folder.old cursor.old writer.old)
+        (state F.files F.draft F.numbers F.faults folder.new cursor.new writer.new)
+        (fault_of result) }
+{
+    let body = body.spell(own.alloc, spelled)?;
+    merge_spelled(folder, cursor, writer, body, own)
+}
+
+// Merges the alternatives of a leaf with this body, and closes it.
+fn merge_spelled<F: Folder>(
+    folder: &mut F,
+    cursor: &mut Cursor,
+    writer: &mut Writer,
+    body: BodyView<'_>,
+    own: &Inherited,
+) -> Result<(), MergeFault>
+    requires within { cursor.old.at ≤ cursor.old.length }
+    requires leaf { (writer_view writer.old).leaf ≢ None }
+    requires number { 1 ≤ (inherited_view own.now).number }
+    ensures { AltsMerged (inherited_view own.entry.now) (shown_body body.entry)
         (state F.files F.draft F.numbers F.faults folder.old cursor.old writer.old)
         (state F.files F.draft F.numbers F.faults folder.new cursor.new writer.new)
         (fault_of result) }
 {
     let mut found = false;
-    while let Some(same) = merge_alt(folder, cursor, writer, body, own)? {
+    while let Some(same) = merge_alt(folder, cursor, writer, &body, own)? {
         found = found || same;
     }
     close_leaf(own.alloc, folder, writer, body, own.number, found)
@@ -81,15 +106,14 @@ fn close_leaf<F: Folder>(
     alloc: Global,
     folder: &mut F,
     writer: &mut Writer,
-    body: &Body,
+    body: BodyView<'_>,
     number: u32,
     found: bool,
 ) -> Result<(), MergeFault>
     requires leaf { (writer_view writer.old).leaf ≢ None }
     requires number { 1 ≤ number }
-    requires shaped { IsShapedValue (key_view body.now) }
     ensures sends { (c : PlainCursor) → c.at ≤ c.length → Sent
-        (alt_calls (new_alts number (key_view body.now) found) ++ call_end_leaf ∷ [])
+        (alt_calls (new_alts number (shown_body body.entry) found) ++ call_end_leaf ∷ [])
         (state F.files F.draft F.numbers F.faults folder.old c writer.old)
         (state F.files F.draft F.numbers F.faults folder.new c writer.new) (fault_of result) }
 {
@@ -99,7 +123,7 @@ fn close_leaf<F: Folder>(
     }
     let written = {
         let stamp = Some(VersionSet::single(alloc, number));
-        writer.alt(folder, &stamp, BodyFrom::New(body))
+        writer.alt(folder, &stamp, BodyFrom::Old(body))
     };
     written?;
     writer.end_leaf(folder)?;
@@ -111,21 +135,21 @@ fn merge_alt<F: Folder>(
     folder: &mut F,
     cursor: &mut Cursor,
     writer: &mut Writer,
-    body: &Body,
+    body: &BodyView<'_>,
     own: &Inherited,
 ) -> Result<Option<bool>, MergeFault>
     requires within { cursor.old.at ≤ cursor.old.length }
     requires leaf { (writer_view writer.old).leaf ≢ None }
-    ensures { AltMerged (inherited_view own.entry.now) (key_view body.now)
+    ensures { AltMerged (inherited_view own.entry.now) (shown_body body.entry.now)
         (state F.files F.draft F.numbers F.faults folder.old cursor.old writer.old)
         (state F.files F.draft F.numbers F.faults folder.new cursor.new writer.new)
         result }
 {
     match cursor.next(folder)? {
         Item::Alt { stamp, body: old } => {
-            let same = old.same(body);
+            let same = old.same_as(body);
             let written = {
-                let (stamp, _) = turned_stamp(&stamp, same, own)?;
+                let stamp = turned_stamp(&stamp, same, own)?;
                 writer.alt(folder, &stamp, BodyFrom::Old(old))
             };
             written?;

@@ -1,16 +1,16 @@
 // Merging a row of the archive with one of the new version.
-ghost use Rattle.std.specs.Prelude.{◌≡◌, ◌≢◌, ◌≤◌, [], None, IfSome, IsTrue, map};
+ghost use Rattle.std.specs.Prelude.{◌≡◌, ◌≢◌, ◌≤◌, [], None, IfSome, IsTrue};
 ghost use Rattle.std.specs.Option.{option_map};
 ghost use Rattle.keyed_tree.specs.Data.{kids_from};
 ghost use Rattle.keyed_tree.specs.Kids.{ascend, are_ordered, IsOrdered};
-ghost use Rattle.keyed_tree.specs.View.{keyed_view};
+ghost use Rattle.keyed_parts.specs.View.{kid_view, kids_view};
 ghost use Rattle.nested_merge.specs.Merged.{fresh, fresh_row};
 ghost use Rattle.record_format.specs.Shapes.{IsShapedNode, AreShapedNodes};
 ghost use Rattle.record_writer.specs.View.{writer_view};
 ghost use Rattle.stream_merge.specs.Passes.{fault_of};
 ghost use Rattle.stream_merge.specs.RowMerged.{RowMerged, ChildMerged, InsideMerged, IsOpen, BegunMerged};
 ghost use Rattle.stream_merge.specs.State.{state};
-ghost use Rattle.stream_merge.specs.View.{inherited_view};
+ghost use Rattle.stream_merge.specs.View.{inherited_view, own_view};
 
 use crate::begin::Kind;
 use crate::beside::{Begun, begin_beside};
@@ -19,7 +19,7 @@ use crate::fault::{MergeFault, written};
 use crate::fresh::put_started;
 use crate::inherited::Inherited;
 use crate::leaf::merge_leaf;
-use keyed_tree::Keyed;
+use keyed_parts::{Inside, Kids};
 use record_cursor::{Cursor, Item};
 use record_writer::Writer;
 use xa_outside::Folder;
@@ -30,44 +30,46 @@ pub(crate) fn merge_row<F: Folder>(
     folder: &mut F,
     cursor: &mut Cursor,
     writer: &mut Writer,
-    kids: &[Keyed],
+    spelled: &mut Vec<u8>,
+    kids: Kids<'_, '_, '_>,
     from: &Inherited,
 ) -> Result<(), MergeFault>
     requires within { cursor.old.at ≤ cursor.old.length }
     requires no_leaf { (writer_view writer.old).leaf ≡ None }
     requires number { 1 ≤ (inherited_view from.now).number }
-    requires ascending { IsTrue (ascend (kids_from (map keyed_view kids.now))) }
-    requires ordered { IsTrue (are_ordered (kids_from (map keyed_view kids.now))) }
-    requires shaped { AreShapedNodes (fresh_row (kids_from (map keyed_view kids.now))) }
-    ensures { RowMerged (inherited_view from.entry.now) (map keyed_view kids.now)
+    requires ascending { IsTrue (ascend (kids_from (kids_view kids))) }
+    requires ordered { IsTrue (are_ordered (kids_from (kids_view kids))) }
+    requires shaped { AreShapedNodes (fresh_row (kids_from (kids_view kids))) }
+    ensures { RowMerged (inherited_view from.entry.now) (kids_view kids.entry)
         (state F.files F.draft F.numbers F.faults folder.old cursor.old writer.old)
         (state F.files F.draft F.numbers F.faults folder.new cursor.new writer.new)
         (fault_of result) }
 {
-    let mut done = 0;
-    while let Some(taken) = merge_child(folder, cursor, writer, &kids[done..], from)? {
-        done += taken;
+    let mut left = kids;
+    while let Some(rest) = merge_child(folder, cursor, writer, spelled, left, from)? {
+        left = rest;
     }
     Ok(())
 }
 
-// Merges the next node of a row of the archive with the kids of the version that are left: how many
-// of them were written or are this node, or None where the row has ended, and so all were.
+// Merges the next node of a row of the archive with the kids of the version that are left: those
+// behind this node, or None where the row has ended, and so all were written.
 #[cycle(merge)]
-fn merge_child<F: Folder>(
+fn merge_child<'k, 'a, 't, F: Folder>(
     folder: &mut F,
     cursor: &mut Cursor,
     writer: &mut Writer,
-    kids: &[Keyed],
+    spelled: &mut Vec<u8>,
+    kids: Kids<'k, 'a, 't>,
     from: &Inherited,
-) -> Result<Option<usize>, MergeFault>
+) -> Result<Option<Kids<'k, 'a, 't>>, MergeFault>
     requires within { cursor.old.at ≤ cursor.old.length }
     requires no_leaf { (writer_view writer.old).leaf ≡ None }
     requires number { 1 ≤ (inherited_view from.now).number }
-    requires ascending { IsTrue (ascend (kids_from (map keyed_view kids.now))) }
-    requires ordered { IsTrue (are_ordered (kids_from (map keyed_view kids.now))) }
-    requires shaped { AreShapedNodes (fresh_row (kids_from (map keyed_view kids.now))) }
-    ensures { ChildMerged (inherited_view from.entry.now) (map keyed_view kids.now)
+    requires ascending { IsTrue (ascend (kids_from (kids_view kids))) }
+    requires ordered { IsTrue (are_ordered (kids_from (kids_view kids))) }
+    requires shaped { AreShapedNodes (fresh_row (kids_from (kids_view kids))) }
+    ensures { ChildMerged (inherited_view from.entry.now) (kids_view kids.entry)
         (state F.files F.draft F.numbers F.faults folder.old cursor.old writer.old)
         (state F.files F.draft F.numbers F.faults folder.new cursor.new writer.new)
         result }
@@ -76,15 +78,15 @@ fn merge_child<F: Folder>(
         Item::Inner { label, stamp } => (Kind::Inner, label, stamp),
         Item::Leaf { label, stamp } => (Kind::Leaf, label, stamp),
         Item::End { .. } => {
-            put_started(folder, writer, kids, from)?;
+            put_started(folder, writer, spelled, kids, from)?;
             return Ok(None);
         }
         _ => return Err(MergeFault::Damage),
     };
-    let begun = begin_beside(folder, writer, kind, label, stamp, kids, from)?;
-    let taken = begun.taken;
-    merge_begun(folder, cursor, writer, kind, begun)?;
-    Ok(Some(taken))
+    let begun = begin_beside(folder, writer, spelled, kind, label, stamp, kids, from)?;
+    let rest = begun.rest;
+    merge_begun(folder, cursor, writer, spelled, kind, begun)?;
+    Ok(Some(rest))
 }
 
 // Merges what is inside a node of this kind that was begun, and closes it.
@@ -93,25 +95,26 @@ fn merge_begun<F: Folder>(
     folder: &mut F,
     cursor: &mut Cursor,
     writer: &mut Writer,
+    spelled: &mut Vec<u8>,
     kind: Kind,
-    begun: Begun<'_>,
+    begun: Begun<'_, '_, '_, '_>,
 ) -> Result<(), MergeFault>
     requires within { cursor.old.at ≤ cursor.old.length }
     requires stands { IsOpen kind (writer_view writer.old) }
-    requires number { 1 ≤ (inherited_view begun.own).number }
-    requires kid { IfSome (option_map (λ k. keyed_view k.now) begun.kid)
+    requires number { 1 ≤ (own_view begun.own).number }
+    requires kid { IfSome (option_map kid_view begun.kid)
         (λ k. IsOrdered k × IsShapedNode (fresh None k)) }
-    requires alone { option_map (λ k. keyed_view k.now) begun.kid ≡ None
-        → (inherited_view begun.own).now ≡ (inherited_view begun.own).before }
-    ensures { BegunMerged kind (inherited_view begun.entry.own)
-        (option_map (λ k. keyed_view k.now) begun.entry.kid)
+    requires alone { option_map kid_view begun.kid ≡ None
+        → (own_view begun.own).now ≡ (own_view begun.own).before }
+    ensures { BegunMerged kind (own_view begun.entry.own)
+        (option_map kid_view begun.entry.kid)
         (state F.files F.draft F.numbers F.faults folder.old cursor.old writer.old)
         (state F.files F.draft F.numbers F.faults folder.new cursor.new writer.new)
         (fault_of result) }
 {
     match kind {
-        Kind::Inner => merge_inner(folder, cursor, writer, &begun),
-        Kind::Leaf => merge_leaf(folder, cursor, writer, &begun),
+        Kind::Inner => merge_inner(folder, cursor, writer, spelled, &begun),
+        Kind::Leaf => merge_leaf(folder, cursor, writer, spelled, &begun),
     }
 }
 
@@ -121,30 +124,32 @@ fn merge_inner<F: Folder>(
     folder: &mut F,
     cursor: &mut Cursor,
     writer: &mut Writer,
-    begun: &Begun<'_>,
+    spelled: &mut Vec<u8>,
+    begun: &Begun<'_, '_, '_, '_>,
 ) -> Result<(), MergeFault>
     requires within { cursor.old.at ≤ cursor.old.length }
     requires no_leaf { (writer_view writer.old).leaf ≡ None }
     requires begun { (writer_view writer.old).inners ≢ [] }
-    requires number { 1 ≤ (inherited_view begun.now.own).number }
-    requires kid { IfSome (option_map (λ k. keyed_view k.now) begun.now.kid)
+    requires number { 1 ≤ (own_view begun.now.own).number }
+    requires kid { IfSome (option_map kid_view begun.now.kid)
         (λ k. IsOrdered k × IsShapedNode (fresh None k)) }
-    requires alone { option_map (λ k. keyed_view k.now) begun.now.kid ≡ None
-        → (inherited_view begun.now.own).now ≡ (inherited_view begun.now.own).before }
-    ensures { InsideMerged (inherited_view begun.entry.now.own)
-        (option_map (λ k. keyed_view k.now) begun.entry.now.kid)
+    requires alone { option_map kid_view begun.now.kid ≡ None
+        → (own_view begun.now.own).now ≡ (own_view begun.now.own).before }
+    ensures { InsideMerged (own_view begun.entry.now.own)
+        (option_map kid_view begun.entry.now.kid)
         (state F.files F.draft F.numbers F.faults folder.old cursor.old writer.old)
         (state F.files F.draft F.numbers F.faults folder.new cursor.new writer.new)
         (fault_of result) }
 {
+    let own = begun.own.get();
     match begun.kid {
-        Some(kid) => match kid {
-            Keyed::Inner { kids, .. } => {
-                merge_row(folder, cursor, writer, kids, &begun.own)?;
+        Some(kid) => match kid.inside() {
+            Inside::Kids(kids) => {
+                merge_row(folder, cursor, writer, spelled, kids, own)?;
                 written(writer.end_inner(folder))
             }
-            Keyed::Leaf { .. } => Err(MergeFault::Damage),
+            Inside::Body(_) => Err(MergeFault::Damage),
         },
-        None => copy_inner(begun.own.alloc, folder, cursor, writer, &begun.own.now),
+        None => copy_inner(own.alloc, folder, cursor, writer, &own.now),
     }
 }

@@ -1,23 +1,19 @@
 //! Archive files of documents, made without the streaming merge, and adding to them.
-ghost use Rattle.std.specs.Prelude.{◌++◌, ◌∷◌, [], List, IfOk, IsTrue, OnOk};
-ghost use Rattle.archive_file.specs.KeyedBy.{IsKeyedBy};
+ghost use Rattle.std.specs.Prelude.{◌++◌, ◌∷◌, [], List, IfOk};
 ghost use Rattle.jsonml_tree.specs.Fits.{IsElement, ItemsFit};
 ghost use Rattle.jsonml_tree.specs.View.{tree_view};
 ghost use Rattle.jsonml_tree.specs.WellFormed.{IsWellFormed};
-ghost use Rattle.key_spec.specs.View.{spec_view};
 ghost use Rattle.keyed_tree.specs.Data.{PlainKeyed};
 ghost use Rattle.keyed_tree.specs.View.{keyed_view};
 ghost use Rattle.archive_tree.specs.ArchiveView.{archive_view};
 ghost use Rattle.archive_tree.specs.Stands.{ArchiveOf};
-ghost use Rattle.stream_merge.specs.Added.{IsBlank};
-ghost use Rattle.xa_outside.specs.InMemory.{folder_state};
 ghost use Rattle.keyed_tree.specs.WellFormed.{IsKeyedWellFormed};
 
 use archive_file::{encode_file, is_keyed};
 use archive_tree::Archive;
-use jsonml_text::read_document;
+use jsonml_text::{lend_document, read_document};
 use jsonml_tree::Tree;
-use key_annotate::keyed;
+use key_annotate::{keyed, lent_keyed};
 use key_spec::Spec;
 use keyed_tree::Keyed;
 use nested_merge::{is_alike, merge};
@@ -106,15 +102,6 @@ pub(crate) fn folder(
     Ok(folder)
 }
 
-// Whether the tree is keyed by the specification.
-fn is_version(alloc: Global, spec: &Spec, new: &Keyed) -> Result<bool, Fail>
-    requires { IsKeyedWellFormed (keyed_view new.now) }
-    ensures { IfOk result (λ b. IsTrue b → IsKeyedBy (spec_view spec.now) (keyed_view new.now)) }
-{
-    let archive = grown(alloc, Archive::empty(alloc), new)?;
-    Ok(is_keyed(alloc, spec, &archive)?)
-}
-
 /// What is answered where the document is added to the file, which has so many bytes.
 pub(crate) fn add(
     alloc: Global,
@@ -123,10 +110,11 @@ pub(crate) fn add(
     document: &str,
 ) -> Result<Result<(), AddFault>, Fail> {
     let header = read_header(alloc, folder, NAME, length)?;
-    let new = version(alloc, &header.spec, document)?;
-    if !is_version(alloc, &header.spec, &new)? {
-        return Err("this is no version".into());
+    if document.len() > 67_108_864 {
+        return Err("the document is too long".into());
     }
+    let tree = lend_document(alloc, document.as_bytes())?;
+    let new = lent_keyed(alloc, &header.spec, &tree)?;
     let cursor = Cursor::start(alloc, NAME, &header)?;
     folder.begin()?;
     Ok(stream_add(alloc, folder, NAME, &header, cursor, &new))

@@ -2,6 +2,7 @@
 
 ghost use Rattle.std.specs.Prelude.{◌≡◌, ◌≤◌, Some, Ok, IfOk, length};
 ghost use Rattle.xa_outside.specs.Folder.{Files};
+ghost use Rattle.jsonml_text.specs.Texts.{AreTexts};
 ghost use Rattle.jsonml_tree.specs.Data.{tree_depth};
 ghost use Rattle.jsonml_tree.specs.Fits.{IsElement, ItemsFit};
 ghost use Rattle.jsonml_tree.specs.LentView.{lent_tree_view};
@@ -64,6 +65,7 @@ pub fn doc_from<'a>(alloc: Global, bytes: &'a [u8]) -> Result<LentTree<'a>, Faul
     ensures items_fit { IfOk result (λ t. ItemsFit (lent_tree_view t)) }
     ensures well_formed { IfOk result (λ t. IsWellFormed (lent_tree_view t)) }
     ensures shallow { IfOk result (λ t. tree_depth (lent_tree_view t) ≤ 120) }
+    ensures texts { IfOk result (λ t. AreTexts (lent_tree_view t)) }
 {
     match lend_document(alloc, bytes) {
         Ok(tree) => Ok(tree),

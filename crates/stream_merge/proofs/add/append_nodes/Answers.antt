@@ -1,5 +1,6 @@
-use Rattle.std.proofs.Common.{None, Ok, Err, [], ◌∷◌, map, refl, ap}
-use Rattle.keyed_tree.specs.View.{keyed_view}
+use Rattle.std.proofs.Common.{None, Ok, Err, [], ◌∷◌, refl}
+use Rattle.key_annotate.specs.LentView.{lent_view}
+use Rattle.keyed_parts.specs.View.{kids_view}
 use Rattle.record_cursor.specs.View.{PlainCursor}
 use Rattle.record_writer.specs.Data.{PlainWriter, call_finish}
 use Rattle.record_writer.specs.Calls.{after}
@@ -45,18 +46,18 @@ pub returns-in_err-merge_row : goal.returns-in_err-merge_row
 returns-in_err-merge_row g c =
     let f = g.F.Folder in
     let h = inherited_view c.args.from.now in
-    let k = keyed_view c.args.new.now in
+    let k = lent_view c.args.new.now in
     let m = c.merge_row.new.folder in
     let e = c.in_err-merge_row in
     let r = c.from_residual in
     at-err r.result e.field-0.0 r.ensures.1 (λ r. NodesAppended f.files f.draft f.numbers f.faults h k c.args.folder.now m c.args.cursor.now c.args.writer (fault_of r))
-    (nodes-unmerged f.files f.draft f.numbers f.faults h k c.args.folder.now m c.args.cursor.now c.args.writer c.merge_row.new.cursor (writer_view c.merge_row.new.writer) (map keyed_view c.from_ref.result.now) (ap (map keyed_view) c.from_ref.ensures.value) e.field-0.0 e.ensures)
+    (nodes-unmerged f.files f.draft f.numbers f.faults h k c.args.folder.now m c.args.cursor.now c.args.writer c.merge_row.new.cursor (writer_view c.merge_row.new.writer) (kids_view c.only.result) c.only.ensures e.field-0.0 e.ensures)
 
 pub returns-in_err-finish : goal.returns-in_err-finish
 returns-in_err-finish g c =
     let f = g.F.Folder in
     let h = inherited_view c.args.from.now in
-    let k = keyed_view c.args.new.now in
+    let k = lent_view c.args.new.now in
     let m = c.merge_row.new.folder in
     let d = c.merge_row.new.cursor in
     let w = writer_view c.merge_row.new.writer in
@@ -67,13 +68,13 @@ returns-in_err-finish g c =
     let r = c.from_residual-in_err-finish in
     let failed = plain-sends f.files f.draft f.numbers f.faults m n d w (after w call_finish) call_finish (Err e.field-0.0) (g.met.F.Folder.metered m) passes.within e.ensures.folder tt e.ensures.too_long in
     at-err r.result (of_writer e.field-0.0) r.ensures.1 (λ r. NodesAppended f.files f.draft f.numbers f.faults h k c.args.folder.now n c.args.cursor.now c.args.writer (fault_of r))
-    (nodes-unfinished f.files f.draft f.numbers f.faults h k c.args.folder.now n c.args.cursor.now c.args.writer d (after w call_finish) (map keyed_view c.from_ref.result.now) (ap (map keyed_view) c.from_ref.ensures.value) (at g m d w) row (of_writer e.field-0.0) failed)
+    (nodes-unfinished f.files f.draft f.numbers f.faults h k c.args.folder.now n c.args.cursor.now c.args.writer d (after w call_finish) (kids_view c.only.result) c.only.ensures (at g m d w) row (of_writer e.field-0.0) failed)
 
 pub returns-in_err-next : goal.returns-in_err-next
 returns-in_err-next g c =
     let f = g.F.Folder in
     let h = inherited_view c.args.from.now in
-    let k = keyed_view c.args.new.now in
+    let k = lent_view c.args.new.now in
     let m = c.merge_row.new in
     let n = c.next.new.folder in
     let d = c.next.follows.lender-at-none in
@@ -83,7 +84,7 @@ returns-in_err-next g c =
     let r = c.from_residual-in_err-next in
     let stays = stays-by q (at g n d w) c.next.result e.field-0.0 e.was e.ensures.files e.ensures.draft e.ensures.pulls e.ensures.later e.ensures.cause e.ensures.undamaged e.ensures.reads c.next.follows.holds-at-none in
     at-err r.result (of_cursor e.field-0.0) r.ensures.1 (λ r. NodesAppended f.files f.draft f.numbers f.faults h k c.args.folder.now n c.args.cursor.now c.args.writer (fault_of r))
-    (nodes-unread f.files f.draft f.numbers f.faults h k c.args.folder.now n c.args.cursor.now c.args.writer d w (map keyed_view c.from_ref.result.now) (ap (map keyed_view) c.from_ref.ensures.value) (at g m.folder m.cursor (writer_view m.writer)) c.in_ok-merge_row.ensures q
+    (nodes-unread f.files f.draft f.numbers f.faults h k c.args.folder.now n c.args.cursor.now c.args.writer d w (kids_view c.only.result) c.only.ensures (at g m.folder m.cursor (writer_view m.writer)) c.in_ok-merge_row.ensures q
     (sent g (goal.at.returns-in_err-next g c).In_ok-finish) e.field-0.0 stays)
 
 pub returns-in-Finish : goal.returns-in-Finish
@@ -93,8 +94,8 @@ returns-in-Finish g c =
     let w = last m.writer in
     let here = goal.at.returns-in-Finish g c in
     let gains = c.in_ok-finish.ensures.folder.gains in
-    nodes-appended f.files f.draft f.numbers f.faults (inherited_view c.args.from.now) (keyed_view c.args.new.now) c.args.folder.now c.next.new.folder c.args.cursor.now c.args.writer c.next.follows.lender-at-none w (map keyed_view c.from_ref.result.now)
-    (ap (map keyed_view) c.from_ref.ensures.value) (at g m.folder m.cursor (writer_view m.writer)) c.in_ok-merge_row.ensures (at g c.finish.new.folder m.cursor w) (sent g here.In_ok-finish) c.in_ok-next.field-0 c.in-Finish.is (g.met.F.Folder.metered m.folder) gains.numbers
+    nodes-appended f.files f.draft f.numbers f.faults (inherited_view c.args.from.now) (lent_view c.args.new.now) c.args.folder.now c.next.new.folder c.args.cursor.now c.args.writer c.next.follows.lender-at-none w (kids_view c.only.result)
+    c.only.ensures (at g m.folder m.cursor (writer_view m.writer)) c.in_ok-merge_row.ensures (at g c.finish.new.folder m.cursor w) (sent g here.In_ok-finish) c.in_ok-next.field-0 c.in-Finish.is (g.met.F.Folder.metered m.folder) gains.numbers
     (read g here.In_ok-next)
 
 pub returns-in_default : goal.returns-in_default
@@ -103,5 +104,5 @@ returns-in_default g c =
     let m = c.merge_row.new in
     let w = last m.writer in
     let here = goal.at.returns-in_default g c in
-    nodes-other f.files f.draft f.numbers f.faults (inherited_view c.args.from.now) (keyed_view c.args.new.now) c.args.folder.now c.next.new.folder c.args.cursor.now c.args.writer c.next.follows.lender-at-none w (map keyed_view c.from_ref.result.now)
-    (ap (map keyed_view) c.from_ref.ensures.value) (at g m.folder m.cursor (writer_view m.writer)) c.in_ok-merge_row.ensures (at g c.finish.new.folder m.cursor w) (sent g here.In_ok-finish) c.in_ok-next.field-0 c.in_default.not-Finish (read g here.In_ok-next)
+    nodes-other f.files f.draft f.numbers f.faults (inherited_view c.args.from.now) (lent_view c.args.new.now) c.args.folder.now c.next.new.folder c.args.cursor.now c.args.writer c.next.follows.lender-at-none w (kids_view c.only.result)
+    c.only.ensures (at g m.folder m.cursor (writer_view m.writer)) c.in_ok-merge_row.ensures (at g c.finish.new.folder m.cursor w) (sent g here.In_ok-finish) c.in_ok-next.field-0 c.in_default.not-Finish (read g here.In_ok-next)

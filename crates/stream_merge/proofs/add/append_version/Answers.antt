@@ -1,6 +1,6 @@
 use Rattle.std.proofs.Common.{◌≡◌, ◌+◌, ap, arith}
 use Rattle.key_spec.proofs.SpecLaws.{spec_closed}
-use Rattle.keyed_tree.specs.View.{keyed_view}
+use Rattle.key_annotate.specs.LentView.{lent_view}
 use Rattle.version_set.specs.View.{pairs_of}
 use Rattle.archive_file.proofs.KeyedLaws.{keyed-is_ordered}
 use Rattle.record_cursor.specs.View.{header_view}
@@ -10,7 +10,6 @@ use Rattle.stream_merge.specs.Appended.{VersionAppended}
 use Rattle.stream_merge.specs.Passes.{fault_of, of_writer}
 use Rattle.stream_merge.specs.View.{PlainInherited}
 use Rattle.stream_merge.proofs.Handed.{at-err}
-use Rattle.stream_merge.proofs.OwnTexts.{keyed-texts}
 use Rattle.stream_merge.proofs.Whole.{fresh-shaped}
 use Rattle.stream_merge.proofs.Appending.{version-unbegun}
 use Rattle.stream_merge.proofs.Growing.{root_inherited, version-then}
@@ -30,17 +29,17 @@ append_nodes-requires-clause-no_inner g c =
 
 pub append_nodes-requires-clause-ordered : goal.append_nodes-requires-clause-ordered
 append_nodes-requires-clause-ordered g c =
-    (let h = header_view c.args.header.now in keyed-is_ordered h.rules (keyed_view c.args.new.now) c.requires.keyed)
+    (let h = header_view c.args.header.now in keyed-is_ordered h.rules (lent_view c.args.new.now) c.requires.keyed)
 
 pub append_nodes-requires-clause-shaped : goal.append_nodes-requires-clause-shaped
 append_nodes-requires-clause-shaped g c =
-    (let h = header_view c.args.header.now in fresh-shaped h.rules (keyed_view c.args.new.now) (spec_closed c.args.header.now.spec) c.requires.keyed (keyed-texts c.args.new.now))
+    (let h = header_view c.args.header.now in fresh-shaped h.rules (lent_view c.args.new.now) (spec_closed c.args.header.now.spec) c.requires.keyed c.requires.texts)
 
 pub returns-in_err-writer : goal.returns-in_err-writer
 returns-in_err-writer g c =
     let f = g.F.Folder in
     let h = header_view c.args.header.now in
-    let k = keyed_view c.args.new.now in
+    let k = lent_view c.args.new.now in
     let e = c.in_err-writer in
     at-err c.from_residual.result (of_writer e.field-0.0) c.from_residual.ensures.1 (λ r. VersionAppended f.files f.draft f.numbers f.faults h k c.args.folder.now c.start.new.folder c.args.cursor (fault_of r))
     (version-unbegun f.files f.draft f.numbers f.faults h k c.args.folder.now c.start.new.folder c.args.cursor (header_bytes h.rules (h.versions + 1)) e.field-0.0 (g.met.F.Folder.metered c.args.folder.now) e.ensures.folder e.ensures.never_too_long)
@@ -53,5 +52,5 @@ returns g c =
     let from : PlainInherited = record { number = h.versions + 1; before = pairs_of c.upto.result; now = pairs_of c.upto-2.result } in
     let root : from ≡ root_inherited h.versions = (λ j. record { number = h.versions + 1; before = c.upto.ensures.pairs j; now = c.upto-2.ensures.pairs j }) in
     let r = c.requires in
-    version-then f.files f.draft f.numbers f.faults h (keyed_view c.args.new.now) c.args.folder.now c.start.new.folder c.append_nodes.new.folder c.args.cursor i.writer from i.writer (fault_of c.append_nodes.result)
-    (g.met.F.Folder.metered c.args.folder.now) i.ensures.folder i.ensures.started root r.room r.keyed (keyed-texts c.args.new.now) r.length r.standing r.first c.append_nodes.ensures
+    version-then f.files f.draft f.numbers f.faults h (lent_view c.args.new.now) c.args.folder.now c.start.new.folder c.append_nodes.new.folder c.args.cursor i.writer from i.writer (fault_of c.append_nodes.result)
+    (g.met.F.Folder.metered c.args.folder.now) i.ensures.folder i.ensures.started root r.room r.keyed r.texts r.length r.standing r.first c.append_nodes.ensures

@@ -1,6 +1,6 @@
 use Rattle.std.proofs.Common.{◌≡◌, ◌≢◌, ◌+◌, ◌-◌, ◌≤◌, Err, List, [], ◌∷◌, ◌++◌, ℕ, refl, sym, ap, subst, ◌∙◌, arith}
 use Rattle.std.specs.Result.{IfErr, OnOk, OnErr}
-use Rattle.keyed_tree.specs.View.{keyed_view}
+use Rattle.key_annotate.specs.LentView.{lent_view}
 use Rattle.xa_outside.specs.Causes.{Rose}
 use Rattle.xa_outside.specs.Numbers.{Numbers, PullsAndDrafts}
 use Rattle.xa_outside.specs.NumberLaws.{PullsAndDrafts-none}
@@ -24,6 +24,7 @@ append_version-requires g c =
       standing = ap (λ (p : PlainCursor). p.standing) r.cursor;
       first = ap (λ (p : PlainCursor). p.at) r.cursor;
       keyed = r.keyed;
+      texts = r.texts;
     }
 
 pub returns-then-header-ge-MOST_VERSIONS : goal.returns-then-header-ge-MOST_VERSIONS
@@ -49,7 +50,7 @@ pub returns-in_err-append_version : goal.returns-in_err-append_version
 returns-in_err-append_version g c =
     let f = g.F.Folder in
     let h = header_view c.args.header.now in
-    let k = keyed_view c.args.new.now in
+    let k = lent_view c.args.new.now in
     let e = c.in_err-append_version in
     let v = e.ensures in
     let r = c.from_residual in
@@ -76,7 +77,7 @@ pub returns : goal.returns
 returns g c =
     let f = g.F.Folder in
     let h = header_view c.args.header.now in
-    let k = keyed_view c.args.new.now in
+    let k = lent_view c.args.new.now in
     let v = c.in_ok-append_version.ensures in
     let old = c.args.folder.now in
     let mid = c.append_version.new.folder in

@@ -1,4 +1,5 @@
 use Rattle.std.proofs.Common.{ℕ, ◌<◌, ◌*◌, ◌+◌, ◌-◌, Option, Some, None, Ok, Bool, refl, ap, subst, arith}
+use Rattle.archive_tree.specs.View.{stamp_view}
 use Rattle.version_set.specs.View.{pairs_of}
 use Rattle.record_cursor.specs.View.{PlainCursor, shown_item}
 use Rattle.record_parts.specs.ShownViews.{shown_label, shown_stamp}
@@ -13,6 +14,7 @@ use Rattle.stream_merge.proofs.States.{written, Nexts, nexts, stays-by, call-sen
 use Rattle.stream_merge.proofs.CopiedRows.{row-start, row-on, row-done, row-fault, inside-fault, inside-close}
 use Rattle.stream_merge.proofs.ChildCopies.{Opener, opening-smaller, inside-part, alts-part, begun-writer, opened-some, child-failed, child-fails, child-part-fails, child-copied, child-ended, child-damage}
 use Rattle.stream_merge.proofs.Handed.{at-err, called}
+use Rattle.stream_merge.proofs.Puts.{set-of}
 use Rattle.stream_merge.proofs.copy.+copy.Given.{Over}
 use Rattle.stream_merge.proofs.copy.+copy.Goals.{copy_child-In_ok-label, copy_child-In-Inner, copy_child-In-Leaf}
 use Rattle.stream_merge.proofs.copy.+copy.Goals as goal
@@ -44,9 +46,9 @@ inner g t c read = (let i = c.in-Inner in record { item = c.in_ok-label.field-0;
 abbrev leaf : (g : Over) (t : ℕ) (c : copy_child-In-Leaf g t) → Nexts (at g c.args.folder.now c.args.cursor.now c.args.writer.now) (at g c.next.new.folder c.next.follows.lender-at-none c.args.writer.now) c.in_ok-label.field-0 → Opener Leaf (at g c.args.folder.now c.args.cursor.now c.args.writer.now) (at g c.next.new.folder c.next.follows.lender-at-none c.args.writer.now)
 leaf g t c read = (let i = c.in-Leaf in record { item = c.in_ok-label.field-0; label = shown_label i.label; stamp = shown_stamp i.stamp; shown = ap shown_item i.is; read = read })
 
-pub copy_child-returns-in_err-set-in-Inner : goal.copy_child-returns-in_err-set-in-Inner
-copy_child-returns-in_err-set-in-Inner g t c =
-    let z = goal.at.copy_child-returns-in_err-set-in-Inner g t c in
+pub copy_child-returns-in_err-stamp-in-Inner : goal.copy_child-returns-in_err-stamp-in-Inner
+copy_child-returns-in_err-stamp-in-Inner g t c =
+    let z = goal.at.copy_child-returns-in_err-stamp-in-Inner g t c in
     let q = pairs_of c.args.set.now in
     let k : PlainCursor = c.next.follows.lender-at-none in
     let s = at g c.args.folder.now c.args.cursor.now c.args.writer.now in
@@ -55,8 +57,8 @@ copy_child-returns-in_err-set-in-Inner g t c =
     let gave = read g t z.In_ok-label in
     let goes = gave.goes in
     let o = inner g t z.In-Inner gave in
-    let e = c.in_err-set-in-Inner in
-    let r = c.from_residual-in_err-set-in-Inner in
+    let e = c.in_err-stamp-in-Inner in
+    let r = c.from_residual-in_err-stamp-in-Inner in
     at-err r.result e.field-0.0 r.ensures.1 (λ d. ChildCopied q s u d) (child-fails Inner q s p u o e.field-0.0 (e.ensures.sends k goes.within))
 
 pub copy_child-copy_inner-requires : goal.copy_child-copy_inner-requires
@@ -70,7 +72,7 @@ copy_child-copy_inner-requires g t c κs within =
     let gave = read g t z.In_ok-label in
     let goes = gave.goes in
     let o = inner g t z.In-Inner gave in
-    let opens = begun-writer Inner q s p u o c.requires.no_leaf (c.in_ok-set-in-Inner.ensures.sends k goes.within) in
+    let opens = begun-writer Inner q s p u o c.requires.no_leaf (c.in_ok-stamp-in-Inner.ensures.sends k goes.within) in
     let small = opening-smaller Inner s p o in
     let less : 3 * (k.length - k.at) + 2 < t = omega (arith, small, c.decreases) in
     (less, (within, (goes.within, (opens.no_leaf, opened-some s.writer u.writer opens))))
@@ -87,11 +89,12 @@ copy_child-returns-in_err-copy_inner-in-Inner g t c =
     let gave = read g t z.In_ok-label in
     let goes = gave.goes in
     let o = inner g t z.In-Inner gave in
-    let set = c.in_ok-set-in-Inner in
+    let stamp = c.in_ok-stamp-in-Inner in
+    let set = set-of (stamp_view stamp.stamp) o.stamp q (pairs_of c.effective.result.now) stamp.ensures.stamp c.effective.ensures.pairs in
     let e = c.in_err-copy_inner-in-Inner in
     let r = c.from_residual-in_err-copy_inner-in-Inner in
     at-err r.result e.field-0.0 r.ensures.1 (λ d. ChildCopied q s v d)
-    (child-part-fails Inner q s p u o v (set.ensures.sends k goes.within) e.field-0.0 (inside-part q (pairs_of set.set) o.label o.stamp u v (Some e.field-0.0) set.ensures.set e.ensures))
+    (child-part-fails Inner q s p u o v (stamp.ensures.sends k goes.within) e.field-0.0 (inside-part q (pairs_of c.effective.result.now) o.label o.stamp u v (Some e.field-0.0) set e.ensures))
 
 pub copy_child-returns-in_ok-copy_inner-in-Inner : goal.copy_child-returns-in_ok-copy_inner-in-Inner
 copy_child-returns-in_ok-copy_inner-in-Inner g t c =
@@ -105,8 +108,9 @@ copy_child-returns-in_ok-copy_inner-in-Inner g t c =
     let gave = read g t z.In_ok-label in
     let goes = gave.goes in
     let o = inner g t z.In-Inner gave in
-    let set = c.in_ok-set-in-Inner in
-    child-copied Inner q s p u o v (set.ensures.sends k goes.within) c.requires.no_leaf (inside-part q (pairs_of set.set) o.label o.stamp u v None set.ensures.set c.in_ok-copy_inner-in-Inner.ensures)
+    let stamp = c.in_ok-stamp-in-Inner in
+    let set = set-of (stamp_view stamp.stamp) o.stamp q (pairs_of c.effective.result.now) stamp.ensures.stamp c.effective.ensures.pairs in
+    child-copied Inner q s p u o v (stamp.ensures.sends k goes.within) c.requires.no_leaf (inside-part q (pairs_of c.effective.result.now) o.label o.stamp u v None set c.in_ok-copy_inner-in-Inner.ensures)
 
 pub copy_child-returns-in_err-copy_opening-in-Leaf : goal.copy_child-returns-in_err-copy_opening-in-Leaf
 copy_child-returns-in_err-copy_opening-in-Leaf g t c =

@@ -1,12 +1,8 @@
-use Rattle.std.proofs.Common.{◌≡◌, ◌<◌, ◌*◌, ◌+◌, ◌-◌, ℕ, List, map, take, drop, length, IsTrue, Option, Some, None, refl, sym, ap, subst, ◌∙◌, arith}
+use Rattle.std.proofs.Common.{◌≡◌, ◌<◌, ◌*◌, ◌+◌, ◌-◌, ℕ, List, Option, Some, None, refl, sym, ap, subst, ◌∙◌, arith}
 use Rattle.std.specs.Option.{option_map}
-use Rattle.keyed_tree.specs.Data.{PlainKeyed, inner, leaf, kids_from}
-use Rattle.keyed_tree.specs.Kids.{ascend, are_ordered}
-use Rattle.keyed_tree.specs.View.{key_view, keyed_view, label_view}
-use Rattle.keyed_tree.proofs.Views.{keyed_view-Inner, keyed_view-Leaf}
-use Rattle.nested_merge.specs.Merged.{fresh_row}
+use Rattle.keyed_tree.specs.Data.{PlainKeyed, inner, leaf, kids_from, label_of}
+use Rattle.keyed_parts.specs.View.{body_view, kid_view, kids_view}
 use Rattle.record_cursor.specs.View.{PlainCursor, shown_item}
-use Rattle.record_format.specs.Shapes.{AreShapedNodes}
 use Rattle.record_parts.specs.ShownViews.{shown_label, shown_stamp}
 use Rattle.record_writer.specs.Data.{call_end_inner}
 use Rattle.record_writer.specs.View.{writer_view}
@@ -14,15 +10,14 @@ use Rattle.record_writer.specs.declared.writer.Writer.{Writer}
 use Rattle.stream_merge.specs.Passes.{fault_of, of_cursor}
 use Rattle.stream_merge.specs.RowMerged.{RowMerged, ChildMerged, InsideMerged, IsOpen, BegunMerged}
 use Rattle.stream_merge.specs.State.{State, state}
-use Rattle.stream_merge.specs.View.{PlainInherited, inherited_view}
+use Rattle.stream_merge.specs.View.{PlainInherited, inherited_view, own_view}
 use Rattle.stream_merge.specs.declared.begin.Kind.{Kind}
 use Rattle.stream_merge.specs.declared.fault.MergeFault.{MergeFault}
 use Rattle.stream_merge.proofs.States.{written, Nexts, nexts, stays-by, call-sends}
 use Rattle.stream_merge.proofs.Handed.{at-err, called}
 use Rattle.stream_merge.proofs.ChildCopies.{opening}
 use Rattle.stream_merge.proofs.MergedRows.{merge-start, merge-more, merge-done, merge-fault}
-use Rattle.stream_merge.proofs.MergedNodes.{child-failed, child-damage, child-unended, child-ended, child-unbegun, child-unmerged, child-merged, opening-smaller, begun-open, begun-number, begun-kid, begun-alone, kid-shaped, inside-row-fails, inside-row-closed, inside-misfit, inside-alone, kids-left}
-use Rattle.stream_merge.proofs.Weaving.{ascend_drop, ordered_drop, shaped_drop}
+use Rattle.stream_merge.proofs.MergedNodes.{child-failed, child-damage, child-unended, child-ended, child-unbegun, child-unmerged, child-merged, opening-smaller, begun-open, begun-number, begun-kid, begun-alone, kid-shaped, inside-row-fails, inside-row-closed, inside-misfit, inside-alone}
 use Rattle.stream_merge.proofs.merge.+merge.Given.{Over}
 use Rattle.stream_merge.proofs.merge.+merge.Goals.{merge_child-In_ok-label, merge_child-Joined-branch-2, merge_child-in-Inner, merge_child-in-Leaf}
 use Rattle.stream_merge.proofs.merge.+merge.Goals as goal
@@ -50,7 +45,7 @@ opens g t c =
 pub merge_child-returns-in_err-label : goal.merge_child-returns-in_err-label
 merge_child-returns-in_err-label g t c =
     let h : PlainInherited = inherited_view c.args.from.now in
-    let cs : List PlainKeyed = map keyed_view c.args.kids.now in
+    let cs : List PlainKeyed = kids_view c.args.kids in
     let s = at g c.args.folder.now c.args.cursor.now c.args.writer.now in
     let p = at g c.next.new.folder c.next.follows.lender-at-none c.args.writer.now in
     let e = c.in_err-label in
@@ -60,7 +55,7 @@ merge_child-returns-in_err-label g t c =
 pub merge_child-returns-in_err-put_started-in-End : goal.merge_child-returns-in_err-put_started-in-End
 merge_child-returns-in_err-put_started-in-End g t c =
     let h : PlainInherited = inherited_view c.args.from.now in
-    let cs : List PlainKeyed = map keyed_view c.args.kids.now in
+    let cs : List PlainKeyed = kids_view c.args.kids in
     let d : PlainCursor = c.next.follows.lender-at-none in
     let s = at g c.args.folder.now c.args.cursor.now c.args.writer.now in
     let p = at g c.next.new.folder d c.args.writer.now in
@@ -75,7 +70,7 @@ merge_child-returns-in_err-put_started-in-End g t c =
 pub merge_child-returns-in-End : goal.merge_child-returns-in-End
 merge_child-returns-in-End g t c =
     let h : PlainInherited = inherited_view c.args.from.now in
-    let cs : List PlainKeyed = map keyed_view c.args.kids.now in
+    let cs : List PlainKeyed = kids_view c.args.kids in
     let d : PlainCursor = c.next.follows.lender-at-none in
     let s = at g c.args.folder.now c.args.cursor.now c.args.writer.now in
     let p = at g c.next.new.folder d c.args.writer.now in
@@ -88,7 +83,7 @@ merge_child-returns-in-End g t c =
 pub merge_child-returns-in_default : goal.merge_child-returns-in_default
 merge_child-returns-in_default g t c =
     let h : PlainInherited = inherited_view c.args.from.now in
-    let cs : List PlainKeyed = map keyed_view c.args.kids.now in
+    let cs : List PlainKeyed = kids_view c.args.kids in
     let s = at g c.args.folder.now c.args.cursor.now c.args.writer.now in
     let p = at g c.next.new.folder c.next.follows.lender-at-none c.args.writer.now in
     let a = c.in_default in
@@ -97,7 +92,7 @@ merge_child-returns-in_default g t c =
 pub merge_child-returns-in_err-begun : goal.merge_child-returns-in_err-begun
 merge_child-returns-in_err-begun g t c =
     let h : PlainInherited = inherited_view c.args.from.now in
-    let cs : List PlainKeyed = map keyed_view c.args.kids.now in
+    let cs : List PlainKeyed = kids_view c.args.kids in
     let d : PlainCursor = c.next.follows.lender-at-none in
     let s = at g c.args.folder.now c.args.cursor.now c.args.writer.now in
     let p = at g c.next.new.folder d c.args.writer.now in
@@ -113,15 +108,15 @@ merge_child-returns-in_err-begun g t c =
 pub merge_child-merge_begun-requires : goal.merge_child-merge_begun-requires
 merge_child-merge_begun-requires g t c κs within =
     let h : PlainInherited = inherited_view c.args.from.now in
-    let cs : List PlainKeyed = map keyed_view c.args.kids.now in
+    let cs : List PlainKeyed = kids_view c.args.kids in
     let d : PlainCursor = c.next.follows.lender-at-none in
     let here = goal.at.merge_child-merge_begun-requires g t c in
     let gave = read g t here.In_ok-label in
     let goes = gave.goes in
     let k = c.match-branch-2.kind in
     let b = c.in_ok-begun in
-    let kid : Option PlainKeyed = option_map (λ k. keyed_view k.now) b.begun.kid in
-    let own : PlainInherited = inherited_view b.begun.own in
+    let kid : Option PlainKeyed = option_map kid_view b.begun.kid in
+    let own : PlainInherited = own_view b.begun.own in
     let l = shown_label k.1 in
     let st = shown_stamp k.2 in
     let began = b.ensures.begins d goes.within in
@@ -136,8 +131,8 @@ merge_child-merge_begun-requires g t c κs within =
           (
             begun-open k.0 (writer_view c.args.writer.now) (writer_view c.begin_beside.new.writer) began.begins,
             (
-              begun-number h l st cs kid b.begun.taken own known c.requires.number,
-              (begun-kid h l st cs kid b.begun.taken own known c.requires.ordered c.requires.shaped, begun-alone h l st cs kid b.begun.taken own known),
+              begun-number h l st cs kid (kids_view b.begun.rest) own known c.requires.number,
+              (begun-kid h l st cs kid (kids_view b.begun.rest) own known c.requires.ordered c.requires.shaped, begun-alone h l st cs kid (kids_view b.begun.rest) own known),
             ),
           ),
         ),
@@ -147,7 +142,7 @@ merge_child-merge_begun-requires g t c κs within =
 pub merge_child-returns-in_err-merge_begun : goal.merge_child-returns-in_err-merge_begun
 merge_child-returns-in_err-merge_begun g t c =
     let h : PlainInherited = inherited_view c.args.from.now in
-    let cs : List PlainKeyed = map keyed_view c.args.kids.now in
+    let cs : List PlainKeyed = kids_view c.args.kids in
     let d : PlainCursor = c.next.follows.lender-at-none in
     let s = at g c.args.folder.now c.args.cursor.now c.args.writer.now in
     let p = at g c.next.new.folder d c.args.writer.now in
@@ -157,18 +152,18 @@ merge_child-returns-in_err-merge_begun g t c =
     let goes = gave.goes in
     let k = c.match-branch-2.kind in
     let b = c.in_ok-begun in
-    let kid : Option PlainKeyed = option_map (λ k. keyed_view k.now) b.begun.kid in
-    let own : PlainInherited = inherited_view b.begun.own in
+    let kid : Option PlainKeyed = option_map kid_view b.begun.kid in
+    let own : PlainInherited = own_view b.begun.own in
     let v = at g c.merge_begun.new.folder c.merge_begun.new.cursor c.merge_begun.new.writer in
     let e = c.in_err-merge_begun in
     let r = c.from_residual-in_err-merge_begun in
     at-err r.result e.field-0.0 r.ensures.1 (ChildMerged h cs s v)
-    (child-unmerged h cs (shown_label k.1) (shown_stamp k.2) k.0 s p u c.in_ok-label.field-0 gave (opens g t here.Joined-branch-2) b.begun v (b.ensures.begins d goes.within) kid b.begun.taken own b.ensures.begun e.field-0.0 e.ensures)
+    (child-unmerged h cs (shown_label k.1) (shown_stamp k.2) k.0 s p u c.in_ok-label.field-0 gave (opens g t here.Joined-branch-2) b.begun v (b.ensures.begins d goes.within) kid b.begun.rest own b.ensures.begun e.field-0.0 e.ensures)
 
 pub merge_child-returns : goal.merge_child-returns
 merge_child-returns g t c =
     let h : PlainInherited = inherited_view c.args.from.now in
-    let cs : List PlainKeyed = map keyed_view c.args.kids.now in
+    let cs : List PlainKeyed = kids_view c.args.kids in
     let d : PlainCursor = c.next.follows.lender-at-none in
     let s = at g c.args.folder.now c.args.cursor.now c.args.writer.now in
     let p = at g c.next.new.folder d c.args.writer.now in
@@ -178,10 +173,10 @@ merge_child-returns g t c =
     let goes = gave.goes in
     let k = c.match-branch-2.kind in
     let b = c.in_ok-begun in
-    let kid : Option PlainKeyed = option_map (λ k. keyed_view k.now) b.begun.kid in
-    let own : PlainInherited = inherited_view b.begun.own in
+    let kid : Option PlainKeyed = option_map kid_view b.begun.kid in
+    let own : PlainInherited = own_view b.begun.own in
     let v = at g c.merge_begun.new.folder c.merge_begun.new.cursor c.merge_begun.new.writer in
-    child-merged h cs (shown_label k.1) (shown_stamp k.2) k.0 s p u c.in_ok-label.field-0 gave (opens g t here.Joined-branch-2) b.begun v (b.ensures.begins d goes.within) kid b.begun.taken own b.ensures.begun c.in_ok-merge_begun.ensures
+    child-merged h cs (shown_label k.1) (shown_stamp k.2) k.0 s p u c.in_ok-label.field-0 gave (opens g t here.Joined-branch-2) b.begun v (b.ensures.begins d goes.within) kid b.begun.rest own b.ensures.begun c.in_ok-merge_begun.ensures
 
 -- ---- the inside of a node
 
@@ -195,137 +190,121 @@ merge_begun-merge_inner-requires g t c κs within =
 pub merge_begun-merge_leaf-requires : goal.merge_begun-merge_leaf-requires
 merge_begun-merge_leaf-requires g t c =
     let r = c.requires in
-    record { within = r.within; leaf = subst (λ (k : Kind). IsOpen k (writer_view c.args.writer.now)) c.in-Leaf.is r.stands; number = r.number; kid = kid-shaped (option_map (λ k. keyed_view k.now) c.args.begun.kid) r.kid }
+    record { within = r.within; leaf = subst (λ (k : Kind). IsOpen k (writer_view c.args.writer.now)) c.in-Leaf.is r.stands; number = r.number; kid = kid-shaped (option_map kid_view c.args.begun.kid) r.kid }
 
 pub merge_begun-returns-in-Inner : goal.merge_begun-returns-in-Inner
 merge_begun-returns-in-Inner g t c =
     let s = at g c.args.folder.now c.args.cursor.now c.args.writer.now in
     let v = at g c.merge_inner.new.folder c.merge_inner.new.cursor c.merge_inner.new.writer in
-    subst (λ (k : Kind). BegunMerged k (inherited_view c.args.begun.own) (option_map (λ k. keyed_view k.now) c.args.begun.kid) s v (fault_of c.merge_inner.result)) (sym c.in-Inner.is) c.merge_inner.ensures
+    subst (λ (k : Kind). BegunMerged k (own_view c.args.begun.own) (option_map kid_view c.args.begun.kid) s v (fault_of c.merge_inner.result)) (sym c.in-Inner.is) c.merge_inner.ensures
 
 pub merge_begun-returns : goal.merge_begun-returns
 merge_begun-returns g t c =
     let s = at g c.args.folder.now c.args.cursor.now c.args.writer.now in
     let v = at g c.merge_leaf.new.folder c.merge_leaf.new.cursor c.merge_leaf.new.writer in
-    subst (λ (k : Kind). BegunMerged k (inherited_view c.args.begun.own) (option_map (λ k. keyed_view k.now) c.args.begun.kid) s v (fault_of c.merge_leaf.result)) (sym c.in-Leaf.is) c.merge_leaf.ensures
+    subst (λ (k : Kind). BegunMerged k (own_view c.args.begun.own) (option_map kid_view c.args.begun.kid) s v (fault_of c.merge_leaf.result)) (sym c.in-Leaf.is) c.merge_leaf.ensures
 
 -- ---- the inside of an inner node
 
-pub merge_inner-returns-in_err-merge_row-in-Inner : goal.merge_inner-returns-in_err-merge_row-in-Inner
-merge_inner-returns-in_err-merge_row-in-Inner g t c =
-    let own : PlainInherited = inherited_view c.args.begun.now.own in
-    let o : Option PlainKeyed = option_map (λ k. keyed_view k.now) c.args.begun.now.kid in
+pub merge_inner-returns-in_err-merge_row-in-Kids : goal.merge_inner-returns-in_err-merge_row-in-Kids
+merge_inner-returns-in_err-merge_row-in-Kids g t c =
+    let own : PlainInherited = inherited_view c.get-own.result.now in
+    let o : Option PlainKeyed = option_map kid_view c.args.begun.now.kid in
+    let k : PlainKeyed = kid_view c.in-Some.kid in
+    let cs : List PlainKeyed = kids_view c.in-Kids.kids in
+    let is : o ≡ Some (inner (label_of k) (kids_from cs)) = ap (option_map kid_view) c.in-Some.is ∙ ap Some c.in-Kids.ensures in
     let s = at g c.args.folder.now c.args.cursor.now c.args.writer.now in
-    let k = c.in-Inner in
-    let cs : List PlainKeyed = map keyed_view k.kids.items in
-    let is : o ≡ Some (inner (label_view k.label) (kids_from cs)) = ap (option_map (λ k. keyed_view k.now)) c.in-Some.is ∙ ap Some (ap keyed_view k.is ∙ keyed_view-Inner k.label k.kids) in
     let m = at g c.merge_row.new.folder c.merge_row.new.cursor c.merge_row.new.writer in
-    let e = c.in_err-merge_row-in-Inner in
-    at-err c.from_residual.result e.field-0.0 c.from_residual.ensures.1 (λ r. InsideMerged own o s m (fault_of r)) (inside-row-fails own o (label_view k.label) (map keyed_view c.deref.result.now) cs s m is (ap (map keyed_view) c.deref.ensures.value) e.field-0.0 e.ensures)
+    let e = c.in_err-merge_row-in-Kids in
+    let fails = inside-row-fails own o (label_of k) cs s m is e.field-0.0 e.ensures in
+    at-err c.from_residual.result e.field-0.0 c.from_residual.ensures.1 (λ r. InsideMerged (own_view c.args.begun.now.own) o s m (fault_of r))
+    (subst (λ (h : PlainInherited). InsideMerged h o s m (Some e.field-0.0)) c.get-own.ensures fails)
 
-pub merge_inner-returns-in_ok-merge_row-in-Inner : goal.merge_inner-returns-in_ok-merge_row-in-Inner
-merge_inner-returns-in_ok-merge_row-in-Inner g t c =
-    let own : PlainInherited = inherited_view c.args.begun.now.own in
-    let o : Option PlainKeyed = option_map (λ k. keyed_view k.now) c.args.begun.now.kid in
+pub merge_inner-returns-in_ok-merge_row-in-Kids : goal.merge_inner-returns-in_ok-merge_row-in-Kids
+merge_inner-returns-in_ok-merge_row-in-Kids g t c =
+    let own : PlainInherited = inherited_view c.get-own.result.now in
+    let o : Option PlainKeyed = option_map kid_view c.args.begun.now.kid in
+    let k : PlainKeyed = kid_view c.in-Some.kid in
+    let cs : List PlainKeyed = kids_view c.in-Kids.kids in
+    let is : o ≡ Some (inner (label_of k) (kids_from cs)) = ap (option_map kid_view) c.in-Some.is ∙ ap Some c.in-Kids.ensures in
     let s = at g c.args.folder.now c.args.cursor.now c.args.writer.now in
-    let k = c.in-Inner in
-    let cs : List PlainKeyed = map keyed_view k.kids.items in
-    let is : o ≡ Some (inner (label_view k.label) (kids_from cs)) = ap (option_map (λ k. keyed_view k.now)) c.in-Some.is ∙ ap Some (ap keyed_view k.is ∙ keyed_view-Inner k.label k.kids) in
     let m = at g c.merge_row.new.folder c.merge_row.new.cursor c.merge_row.new.writer in
     let u = at g c.end_inner.new.folder c.merge_row.new.cursor c.end_inner.new.self in
-    let row = c.in_ok-merge_row-in-Inner.ensures in
+    let row = c.in_ok-merge_row-in-Kids.ensures in
     let before = row.passes in
     let f = g.F.Folder in
     let e = c.end_inner.ensures in
-    subst (λ (x : Option MergeFault). InsideMerged own o s u x) (called c.end_inner.result c.written.result c.written.ensures)
-    (inside-row-closed own o (label_view k.label) (map keyed_view c.deref.result.now) cs s m is (ap (map keyed_view) c.deref.ensures.value) u (written c.end_inner.result) c.requires.begun row
-    (call-sends f.files f.draft f.numbers f.faults c.merge_row.new.folder c.end_inner.new.folder c.merge_row.new.cursor c.merge_row.new.writer c.end_inner.new.self call_end_inner c.end_inner.result (g.met.F.Folder.metered c.merge_row.new.folder) before.within e.folder e.after e.too_long))
+    let sent = call-sends f.files f.draft f.numbers f.faults c.merge_row.new.folder c.end_inner.new.folder c.merge_row.new.cursor c.merge_row.new.writer c.end_inner.new.self call_end_inner c.end_inner.result (g.met.F.Folder.metered c.merge_row.new.folder) before.within e.folder e.after e.too_long in
+    let closed = inside-row-closed own o (label_of k) cs s m is u (written c.end_inner.result) c.requires.begun row sent in
+    subst (λ (x : Option MergeFault). InsideMerged (own_view c.args.begun.now.own) o s u x) (called c.end_inner.result c.written.result c.written.ensures)
+    (subst (λ (h : PlainInherited). InsideMerged h o s u (written c.end_inner.result)) c.get-own.ensures closed)
 
-pub merge_inner-returns-in-Leaf : goal.merge_inner-returns-in-Leaf
-merge_inner-returns-in-Leaf g t c =
-    let o : Option PlainKeyed = option_map (λ k. keyed_view k.now) c.args.begun.now.kid in
+pub merge_inner-returns-in-Body : goal.merge_inner-returns-in-Body
+merge_inner-returns-in-Body g t c =
+    let o : Option PlainKeyed = option_map kid_view c.args.begun.now.kid in
+    let k : PlainKeyed = kid_view c.in-Some.kid in
+    let b = body_view c.in-Body.field-0 in
     let s = at g c.args.folder.now c.args.cursor.now c.args.writer.now in
-    let k = c.in-Leaf in
-    let is : o ≡ Some (leaf (label_view k.label) (key_view k.body)) = ap (option_map (λ k. keyed_view k.now)) c.in-Some.is ∙ ap Some (ap keyed_view k.is ∙ keyed_view-Leaf k.label k.body) in
-    inside-misfit (inherited_view c.args.begun.now.own) o (label_view k.label) (key_view k.body) s is (g.met.F.Folder.metered c.args.folder.now) c.requires.within
+    let is : o ≡ Some (leaf (label_of k) b) = ap (option_map kid_view) c.in-Some.is ∙ ap Some c.in-Body.ensures in
+    inside-misfit (own_view c.args.begun.now.own) o (label_of k) b s is (g.met.F.Folder.metered c.args.folder.now) c.requires.within
 
 pub merge_inner-returns-in-None : goal.merge_inner-returns-in-None
 merge_inner-returns-in-None g t c =
-    let own : PlainInherited = inherited_view c.args.begun.now.own in
-    let o : Option PlainKeyed = option_map (λ k. keyed_view k.now) c.args.begun.now.kid in
+    let own : PlainInherited = inherited_view c.get-own.result.now in
+    let o : Option PlainKeyed = option_map kid_view c.args.begun.now.kid in
     let s = at g c.args.folder.now c.args.cursor.now c.args.writer.now in
     let v = at g c.copy_inner.new.folder c.copy_inner.new.cursor c.copy_inner.new.writer in
-    let none : o ≡ None = ap (option_map (λ k. keyed_view k.now)) c.in-None.is in
-    inside-alone own o s v (fault_of c.copy_inner.result) none (c.requires.alone none) c.copy_inner.ensures
+    let none : o ≡ None = ap (option_map kid_view) c.in-None.is in
+    let alone = subst (λ (h : PlainInherited). h.now ≡ h.before) (sym c.get-own.ensures) (c.requires.alone none) in
+    subst (λ (h : PlainInherited). InsideMerged h o s v (fault_of c.copy_inner.result)) c.get-own.ensures (inside-alone own o s v (fault_of c.copy_inner.result) none alone c.copy_inner.ensures)
 
 -- ---- a row
 
-pub merge_row-loop-taken-init : goal.merge_row-loop-taken-init
-merge_row-loop-taken-init g t c = merge-start (inherited_view c.args.from.now) (map keyed_view c.args.kids.now) (at g c.args.folder.now c.args.cursor.now c.args.writer.now) c.requires.within c.requires.no_leaf
+pub merge_row-loop-rest-init : goal.merge_row-loop-rest-init
+merge_row-loop-rest-init g t c =
+    let r = c.requires in
+    merge-start (inherited_view c.args.from.now) (kids_view c.args.kids) (at g c.args.folder.now c.args.cursor.now c.args.writer.now) r.ascending r.ordered r.shaped r.within r.no_leaf
 
 pub merge_row-merge_child-requires : goal.merge_row-merge_child-requires
 merge_row-merge_child-requires g t c κs within =
-    let cs : List PlainKeyed = map keyed_view c.args.kids.now in
-    let l = c.loop-taken in
+    let l = c.loop-rest in
     let on = l.invariant in
-    let left = kids-left keyed_view l.done c.args.kids.now in
     let onward = on.onward in
     let same = on.same_length in
     let less : 4 * (l.cursor.length - l.cursor.at) < t = omega (arith, onward, same, c.decreases) in (
       less,
-      (
-        within,
-        (
-          on.within,
-          (
-            on.no_leaf,
-            (
-              c.requires.number,
-              (
-                subst (λ (xs : List PlainKeyed). IsTrue (ascend (kids_from xs))) (sym left) (ascend_drop l.done cs c.requires.ascending),
-                (
-                  subst (λ (xs : List PlainKeyed). IsTrue (are_ordered (kids_from xs))) (sym left) (ordered_drop l.done cs c.requires.ordered),
-                  subst (λ (xs : List PlainKeyed). AreShapedNodes (fresh_row (kids_from xs))) (sym left) (shaped_drop l.done cs c.requires.shaped),
-                ),
-              ),
-            ),
-          ),
-        ),
-      ),
+      (within, (on.within, (on.no_leaf, (c.requires.number, (on.ascending, (on.ordered, on.shaped)))))),
     )
 
-pub merge_row-loop-taken-preserved : goal.merge_row-loop-taken-preserved
-merge_row-loop-taken-preserved g t c =
+pub merge_row-loop-rest-preserved : goal.merge_row-loop-rest-preserved
+merge_row-loop-rest-preserved g t c =
     let h : PlainInherited = inherited_view c.args.from.now in
-    let cs : List PlainKeyed = map keyed_view c.args.kids.now in
+    let cs : List PlainKeyed = kids_view c.args.kids in
     let s = at g c.args.folder.now c.args.cursor.now c.args.writer.now in
-    let l = c.loop-taken in
+    let l = c.loop-rest in
     let p = at g l.folder l.cursor l.writer in
-    let xs : List PlainKeyed = map keyed_view (take (length c.args.kids.now - l.done) (drop l.done c.args.kids.now)) in
     let u = at g c.merge_child.new.folder c.merge_child.new.cursor c.merge_child.new.writer in
-    let e = c.in_ok-taken in
-    merge-more h cs xs l.done s p u c.requires.ascending l.invariant (kids-left keyed_view l.done c.args.kids.now) e.field-0 c.in-Some.taken c.in-Some.is e.ensures
+    let e = c.in_ok-rest in
+    merge-more h cs (kids_view l.left) s p u l.invariant e.field-0 c.in-Some.rest c.in-Some.is e.ensures
 
 pub merge_row-returns : goal.merge_row-returns
 merge_row-returns g t c =
     let h : PlainInherited = inherited_view c.args.from.now in
-    let cs : List PlainKeyed = map keyed_view c.args.kids.now in
+    let cs : List PlainKeyed = kids_view c.args.kids in
     let s = at g c.args.folder.now c.args.cursor.now c.args.writer.now in
-    let l = c.loop-taken in
+    let l = c.loop-rest in
     let p = at g l.folder l.cursor l.writer in
-    let xs : List PlainKeyed = map keyed_view (take (length c.args.kids.now - l.done) (drop l.done c.args.kids.now)) in
     let u = at g c.merge_child.new.folder c.merge_child.new.cursor c.merge_child.new.writer in
-    let e = c.in_ok-taken in
-    merge-done h cs xs l.done s p u c.requires.ascending l.invariant (kids-left keyed_view l.done c.args.kids.now) e.field-0 c.in_default.is e.ensures
+    let e = c.in_ok-rest in
+    merge-done h cs (kids_view l.left) s p u l.invariant e.field-0 c.in_default.is e.ensures
 
-pub merge_row-returns-in_err-taken : goal.merge_row-returns-in_err-taken
-merge_row-returns-in_err-taken g t c =
+pub merge_row-returns-in_err-rest : goal.merge_row-returns-in_err-rest
+merge_row-returns-in_err-rest g t c =
     let h : PlainInherited = inherited_view c.args.from.now in
-    let cs : List PlainKeyed = map keyed_view c.args.kids.now in
+    let cs : List PlainKeyed = kids_view c.args.kids in
     let s = at g c.args.folder.now c.args.cursor.now c.args.writer.now in
-    let l = c.loop-taken in
+    let l = c.loop-rest in
     let p = at g l.folder l.cursor l.writer in
-    let xs : List PlainKeyed = map keyed_view (take (length c.args.kids.now - l.done) (drop l.done c.args.kids.now)) in
     let u = at g c.merge_child.new.folder c.merge_child.new.cursor c.merge_child.new.writer in
-    let e = c.in_err-taken in
-    at-err c.from_residual.result e.field-0.0 c.from_residual.ensures.1 (λ r. RowMerged h cs s u (fault_of r)) (merge-fault h cs xs l.done s p u c.requires.ascending l.invariant (kids-left keyed_view l.done c.args.kids.now) e.field-0.0 e.ensures)
+    let e = c.in_err-rest in
+    at-err c.from_residual.result e.field-0.0 c.from_residual.ensures.1 (λ r. RowMerged h cs s u (fault_of r)) (merge-fault h cs (kids_view l.left) s p u l.invariant e.field-0.0 e.ensures)

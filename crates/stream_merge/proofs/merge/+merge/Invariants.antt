@@ -1,5 +1,5 @@
-use Rattle.std.proofs.Common.{◌-◌, ◌*◌, ◌+◌, map}
-use Rattle.keyed_tree.specs.View.{keyed_view}
+use Rattle.std.proofs.Common.{◌-◌, ◌*◌, ◌+◌}
+use Rattle.keyed_parts.specs.View.{kids_view}
 use Rattle.stream_merge.specs.State.{state}
 use Rattle.stream_merge.specs.View.{inherited_view}
 use Rattle.stream_merge.proofs.MergedRows.{MergeOn}
@@ -17,11 +17,11 @@ decreases-merge_begun g l = 4 * (l.cursor.now.length - l.cursor.now.at) + 3
 abbrev pub decreases-merge_inner : goal.decreases-merge_inner
 decreases-merge_inner g l = 4 * (l.cursor.now.length - l.cursor.now.at) + 2
 
--- so many nodes were merged with so many kids
-abbrev pub invariant-merge_row-loop-taken : goal.invariant-merge_row-loop-taken
-invariant-merge_row-loop-taken g l =
+-- some nodes were merged
+abbrev pub invariant-merge_row-loop-rest : goal.invariant-merge_row-loop-rest
+invariant-merge_row-loop-rest g l =
     let f = g.F.Folder in
-    MergeOn (inherited_view l.from) (map keyed_view l.kids) l.done (state f.files f.draft f.numbers f.faults l.fn.folder l.fn.cursor l.fn.writer) (state f.files f.draft f.numbers f.faults l.folder l.cursor l.writer)
+    MergeOn (inherited_view l.from) (kids_view l.kids) (kids_view l.left) (state f.files f.draft f.numbers f.faults l.fn.folder l.fn.cursor l.fn.writer) (state f.files f.draft f.numbers f.faults l.folder l.cursor l.writer)
 
-abbrev pub decreases-merge_row-loop-taken : goal.decreases-merge_row-loop-taken
-decreases-merge_row-loop-taken g l = l.cursor.length - l.cursor.at
+abbrev pub decreases-merge_row-loop-rest : goal.decreases-merge_row-loop-rest
+decreases-merge_row-loop-rest g l = l.cursor.length - l.cursor.at
