@@ -1,0 +1,309 @@
+-- Reading the body that a leaf has in a version.
+use Rattle.std.proofs.Common.{◌≡◌, ◌≢◌, ℕ, ◌+◌, ◌-◌, ◌*◌, ◌≤◌, ◌<◌, ◌^◌, Bool, true, false, ◌||◌, ◌==◌, cond, List, [], ◌∷◌, ◌++◌, length, map, take, drop, Option, Some, None, Result, Ok, Err, refl, sym, ap, subst, ◌∙◌, arith, append_assoc, length-drop}
+use Rattle.std.specs.List.{flat_map, AllByRecursion}
+use Rattle.std.specs.Prelude.{is_some, max, slice_index_or}
+use Rattle.std.proofs.lemmas.List.{length-append, append-nil}
+use Rattle.xa_fields.specs.Spelling.{u32_bytes}
+use Rattle.xa_fields.specs.Reading.{◌>>=◌, chained_at, chain_at}
+use Rattle.record_parts.specs.Reading.{value_at}
+use Rattle.record_parts.proofs.Values.{value_reads}
+use Rattle.xa_fields.proofs.Fields.{some_is, u32_reads}
+use Rattle.xa_outside.specs.Folder.{Files}
+use Rattle.xa_outside.specs.Numbers.{Numbers, IsMeter, PullsAtMost}
+use Rattle.xa_outside.specs.NumberLaws.{PullsAtMost-none, PullsAtMost-more, PullsAtMost-trans}
+use Rattle.version_set.specs.Pairs.{IsFrom}
+use Rattle.version_set.specs.Members.{members, has}
+use Rattle.keyed_tree.specs.Data.{PlainKey}
+use Rattle.archive_tree.specs.Data.{Stamp, PlainAlt, eff}
+use Rattle.archive_tree.specs.Read.{body_at}
+use Rattle.timestamp_tree.specs.Bytes.{pair_bytes, set_bytes}
+use Rattle.timestamp_tree.specs.Reading.{pair_at, next_pair}
+use Rattle.timestamp_tree.proofs.Trees.{length-pairs, length-set_bytes}
+use Rattle.record_parts.specs.Bounds.{IsSet, IsStamp, IsValue, most}
+use Rattle.record_parts.specs.Spelling.{stamp_bytes, value_bytes}
+use Rattle.record_parts.proofs.Parts.{set_reads}
+use Rattle.record_format.specs.Bounds.{IsRec}
+use Rattle.record_format.specs.Nodes.{alt_of, set_in}
+use Rattle.record_format.specs.Seen.{alts_seen}
+use Rattle.record_format.specs.Spelling.{rec_bytes}
+use Rattle.record_format.proofs.Pieces.{rec-length}
+use Rattle.record_cursor.specs.Moves.{TellsFront}
+use Rattle.record_cursor.specs.Steps.{Filled}
+use Rattle.record_cursor.specs.declared.fault.CursorFault.{CursorFault}
+use Rattle.file_rows.specs.StandsAt.{StandsAt}
+use Rattle.file_rows.proofs.Parts.{stands-front, stands-back}
+use Rattle.file_get.specs.Inside.{AltsTold, AltIs, SetIs}
+use Rattle.file_get.specs.Kids.{some_has}
+use Rattle.file_get.specs.declared.body.Alternative.{Alternative}
+use Rattle.file_get.proofs.Opened.{eff-members}
+use Rattle.file_get.proofs.Openings.{body-stands}
+
+-- ---- a list of alternatives
+
+-- the bytes of alternatives
+abbrev alts_bytes : List PlainAlt → List ℕ
+alts_bytes xs = flat_map rec_bytes (map alt_of xs)
+
+module _ (i : ℕ) (files : Option Files) (name bytes : List ℕ) (last at end : ℕ) (set : List (ℕ × ℕ)) (x : PlainAlt) (xs : List PlainAlt) (more : List ℕ) where
+  -- the first of them
+  pub first-stands : AltsTold i files name bytes last at end set (x ∷ xs) more → StandsAt bytes at (rec_bytes (alt_of x) ++ (alts_bytes xs ++ more))
+  first-stands h = (let s = h.stands in subst (StandsAt bytes at) (append_assoc (rec_bytes (alt_of x)) (alts_bytes xs) more) s)
+
+  pub first-ends : AltsTold i files name bytes last at end set (x ∷ xs) more → end ≡ at + length (rec_bytes (alt_of x) ++ (alts_bytes xs ++ more))
+  first-ends h = (let e = h.ends in e ∙ ap (λ (bs : List ℕ). at + length bs) (append_assoc (rec_bytes (alt_of x)) (alts_bytes xs) more))
+
+  or-rest : (a b : Bool) → a ≡ false → (a || b) ≡ true → b ≡ true
+  or-rest true b e f = absurd cc
+  or-rest false b e f = f
+
+  -- those behind the first, which does not have the version
+  pub others-told : AltsTold i files name bytes last at end set (x ∷ xs) more → has (members (set_in x.stamp set)) i ≡ false → AltsTold i files name bytes last (at + length (rec_bytes (alt_of x))) end set xs more
+  others-told h none =
+      let e = first-ends h in
+      let r = h.records in
+      record {
+        tells = h.tells;
+        within = h.within;
+        stands = stands-back bytes at (rec_bytes (alt_of x)) (alts_bytes xs ++ more) (first-stands h);
+        ends = omega (arith, e, length-append (rec_bytes (alt_of x)) (alts_bytes xs ++ more));
+        records = r.1;
+        has = h.has;
+        some = or-rest (has (members (set_in x.stamp set)) i) (some_has i set xs) none h.some;
+      }
+
+-- the body and the bytes that are looked at, by whether the first has the version
+eff-has : (i : ℕ) (set : List (ℕ × ℕ)) (x : PlainAlt) (b : Bool) → has (members (set_in x.stamp set)) i ≡ b → has (eff x.stamp (members set)) i ≡ b
+eff-has i set x b h = ap (λ (ns : List ℕ). has ns i) (eff-members x.stamp set) ∙ h
+
+pub body-first : (i : ℕ) (set : List (ℕ × ℕ)) (x : PlainAlt) (xs : List PlainAlt) → has (members (set_in x.stamp set)) i ≡ true → body_at i (members set) (x ∷ xs) ≡ x.body
+body-first i set x xs h = ap (λ b. cond b x.body (body_at i (members set) xs)) (eff-has i set x true h)
+
+pub body-others : (i : ℕ) (set : List (ℕ × ℕ)) (x : PlainAlt) (xs : List PlainAlt) → has (members (set_in x.stamp set)) i ≡ false → body_at i (members set) (x ∷ xs) ≡ body_at i (members set) xs
+body-others i set x xs h = ap (λ b. cond b x.body (body_at i (members set) xs)) (eff-has i set x false h)
+
+pub seen-first : (i : ℕ) (set : List (ℕ × ℕ)) (x : PlainAlt) (xs : List PlainAlt) → has (members (set_in x.stamp set)) i ≡ true → alts_seen i set (x ∷ xs) ≡ 9 + length (stamp_bytes x.stamp) + length (rec_bytes (alt_of x)) + alts_seen i set xs
+seen-first i set x xs h = ap (λ b. 9 + length (stamp_bytes x.stamp) + cond b (length (rec_bytes (alt_of x))) 0 + alts_seen i set xs) h
+
+pub seen-some : (i : ℕ) (set : List (ℕ × ℕ)) (x : PlainAlt) (xs : List PlainAlt) → 9 + length (stamp_bytes x.stamp) + alts_seen i set xs ≤ alts_seen i set (x ∷ xs)
+seen-some i set x xs = omega arith
+
+-- ---- one alternative
+
+pub stamp-stands : (bytes : List ℕ) (at : ℕ) (x : PlainAlt) (more : List ℕ) → StandsAt bytes at (rec_bytes (alt_of x) ++ more) → StandsAt bytes (at + 9) (stamp_bytes x.stamp)
+stamp-stands bytes at x more h = stands-front bytes (at + 9) (stamp_bytes x.stamp) (value_bytes x.body) (body-stands bytes at (alt_of x) more h)
+
+pub value-stands : (bytes : List ℕ) (at : ℕ) (x : PlainAlt) (more : List ℕ) → StandsAt bytes at (rec_bytes (alt_of x) ++ more) → StandsAt bytes (at + 9 + length (stamp_bytes x.stamp)) (value_bytes x.body)
+value-stands bytes at x more h = stands-back bytes (at + 9) (stamp_bytes x.stamp) (value_bytes x.body) (body-stands bytes at (alt_of x) more h)
+
+pub alt-length : (x : PlainAlt) → length (rec_bytes (alt_of x)) ≡ 9 + length (stamp_bytes x.stamp) + length (value_bytes x.body)
+alt-length x = omega (arith, rec-length (alt_of x), length-append (stamp_bytes x.stamp) (value_bytes x.body))
+
+pub alt-parts : (x : PlainAlt) → IsRec (alt_of x) → IsStamp x.stamp × IsValue x.body
+alt-parts x h = h.body
+
+-- ---- the loop
+
+-- These alternatives are left, and what was pulled so far is what is looked at of the others.
+pub record AltsLeft (i : ℕ) (files : Option Files) (name bytes : List ℕ) (last at end : ℕ) (set : List (ℕ × ℕ)) (xs : List PlainAlt) (more : List ℕ) (old now : Numbers) : Type 0 where
+  pub left : List PlainAlt
+  pub told : AltsTold i files name bytes last at end set left more
+  pub body : body_at i (members set) left ≡ body_at i (members set) xs
+  pub pulled : ℕ
+  pub pulls : PullsAtMost pulled old now
+  pub within : pulled + alts_seen i set left ≤ alts_seen i set xs
+
+-- what the reading of an alternative shows
+abbrev pub AltRead : ℕ → Option Files → List ℕ → ℕ → ℕ → Numbers → Numbers → Result Alternative CursorFault → Type 0
+AltRead i files name at end old now r = (last : ℕ) (bytes more : List ℕ) (set : List (ℕ × ℕ)) (x : PlainAlt) → TellsFront files name last bytes → end ≤ last
+    → StandsAt bytes at (rec_bytes (alt_of x) ++ more) → end ≡ at + length (rec_bytes (alt_of x) ++ more) → IsRec (alt_of x) → has (members set) i ≡ true
+    → Filled r (AltIs i at set x) × PullsAtMost (9 + length (stamp_bytes x.stamp)) old now
+
+-- what the reading of a value shows
+abbrev pub ValueRead : Option Files → List ℕ → ℕ → ℕ → (PlainKey → Type 0) → Type 0
+ValueRead files name at end Shown = (last : ℕ) (bytes : List ℕ) (b : PlainKey) → TellsFront files name last bytes → end ≤ last → StandsAt bytes at (value_bytes b) → end ≡ at + length (value_bytes b) → IsValue b → Shown b
+
+module _ (i : ℕ) (files : Option Files) (name bytes : List ℕ) (last at end : ℕ) (set : List (ℕ × ℕ)) (xs : List PlainAlt) (more : List ℕ) (a b c : Numbers) where
+  pub starts : AltsTold i files name bytes last at end set xs more → IsMeter a → AltsLeft i files name bytes last at end set xs more a a
+  starts h is = record { left = xs; told = h; body = refl; pulled = 0; pulls = PullsAtMost-none 0 a is; within = omega arith }
+
+  read-first : (x : PlainAlt) (ys : List PlainAlt) (r : Result Alternative CursorFault) → AltsTold i files name bytes last at end set (x ∷ ys) more → AltRead i files name at end b c r → Filled r (AltIs i at set x) × PullsAtMost (9 + length (stamp_bytes x.stamp)) b c
+  read-first x ys r h read =
+      let rs = h.records in
+      read last bytes (alts_bytes ys ++ more) set x h.tells h.within (first-stands i files name bytes last at end set x ys more h) (first-ends i files name bytes last at end set x ys more h) rs.0 h.has
+
+  -- an alternative was not read
+  fails-at : (ys : List PlainAlt) (n : ℕ) (e : CursorFault) → AltsTold i files name bytes last at end set ys more → n + alts_seen i set ys ≤ alts_seen i set xs → PullsAtMost n a b → AltRead i files name at end b c (Err e)
+      → Filled {T = ℕ} (Err e) (λ _. ⊥) × PullsAtMost (alts_seen i set xs) a c
+  fails-at [] n e h fits p read = absurd (let s = h.some in cc)
+  fails-at (x ∷ ys) n e h fits p read =
+      let r = read-first x ys (Err e) h read in
+      (r.0, PullsAtMost-more (n + (9 + length (stamp_bytes x.stamp))) (alts_seen i set xs) a c (omega (arith, fits, seen-some i set x ys)) (PullsAtMost-trans n (9 + length (stamp_bytes x.stamp)) a b c p r.1))
+
+  pub fails : (e : CursorFault) → AltsLeft i files name bytes last at end set xs more a b → AltRead i files name at end b c (Err e) → Filled {T = ℕ} (Err e) (λ _. ⊥) × PullsAtMost (alts_seen i set xs) a c
+  fails e h read = fails-at h.left h.pulled e h.told h.within h.pulls read
+
+  -- an alternative was passed
+  passes-at : (ys : List PlainAlt) (n : ℕ) (f : Alternative) (now : Option Files) → now ≡ files → AltsTold i files name bytes last at end set ys more → body_at i (members set) ys ≡ body_at i (members set) xs → n + alts_seen i set ys ≤ alts_seen i set xs → PullsAtMost n a b
+      → AltRead i files name at end b c (Ok f) → f.has ≡ false → AltsLeft i now name bytes last f.end end set xs more a c
+  passes-at [] n f now same h body fits p read none = absurd (let s = h.some in cc)
+  passes-at (x ∷ ys) n f now same h body fits p read none =
+      let r = read-first x ys (Ok f) h read in
+      let is = r.0 in
+      let lacks = sym is.has ∙ none in
+      let o = others-told i files name bytes last at end set x ys more h lacks in
+      record {
+        left = ys;
+        told = subst (λ (t : ℕ). AltsTold i now name bytes last t end set ys more) (sym is.end) (subst (λ (z : Option Files). AltsTold i z name bytes last (at + length (rec_bytes (alt_of x))) end set ys more) (sym same) o);
+        body = sym (body-others i set x ys lacks) ∙ body;
+        pulled = n + (9 + length (stamp_bytes x.stamp));
+        pulls = PullsAtMost-trans n (9 + length (stamp_bytes x.stamp)) a b c p r.1;
+        within = omega (arith, fits, seen-some i set x ys);
+      }
+
+  pub passes : (f : Alternative) (now : Option Files) → now ≡ files → AltsLeft i files name bytes last at end set xs more a b → AltRead i files name at end b c (Ok f) → f.has ≡ false → AltsLeft i now name bytes last f.end end set xs more a c
+  passes f now same h read none = passes-at h.left h.pulled f now same h.told h.body h.within h.pulls read none
+
+  -- the alternative that has the version
+  found-at : (ys : List PlainAlt) (n : ℕ) (f : Alternative) (now : Option Files) (d : Numbers) (Shown : PlainKey → Type 0) → now ≡ files → AltsTold i files name bytes last at end set ys more → body_at i (members set) ys ≡ body_at i (members set) xs → n + alts_seen i set ys ≤ alts_seen i set xs → PullsAtMost n a b
+      → AltRead i files name at end b c (Ok f) → f.has ≡ true → f.end ≤ end → ValueRead now name f.body f.end Shown → PullsAtMost (f.end - f.body) c d → Shown (body_at i (members set) xs) × PullsAtMost (alts_seen i set xs) a d
+  found-at [] n f now d Shown same h body fits p read some within value q = absurd (let s = h.some in cc)
+  found-at (x ∷ ys) n f now d Shown same h body fits p read some within value q =
+      let r = read-first x ys (Ok f) h read in
+      let is = r.0 in
+      let rs = h.records in
+      let has' = sym is.has ∙ some in
+      let w = h.within in
+      let behind = is.end in
+      let at' = is.body in
+      let first = first-stands i files name bytes last at end set x ys more h in
+      let stands = value-stands bytes at x (alts_bytes ys ++ more) first in
+      let place : at + 9 + length (stamp_bytes x.stamp) ≡ f.body = omega (arith, at') in
+      let shown = value last bytes x.body (subst (λ (z : Option Files). TellsFront z name last bytes) (sym same) h.tells) (omega (arith, w, within)) (subst (λ (t : ℕ). StandsAt bytes t (value_bytes x.body)) place stands) (omega (arith, behind, at', alt-length x)) (alt-parts x rs.0).1 in
+      let one : ℕ = 9 + length (stamp_bytes x.stamp) in (
+        subst Shown (sym (body-first i set x ys has') ∙ body) shown,
+        PullsAtMost-more (n + one + (f.end - f.body)) (alts_seen i set xs) a d (omega (arith, fits, seen-first i set x ys has', behind, at', alt-length x)) (PullsAtMost-trans (n + one) (f.end - f.body) a c d (PullsAtMost-trans n one a b c p r.1) q),
+      )
+
+  pub found : (f : Alternative) (now : Option Files) (d : Numbers) (Shown : PlainKey → Type 0) → now ≡ files → AltsLeft i files name bytes last at end set xs more a b → AltRead i files name at end b c (Ok f) → f.has ≡ true → f.end ≤ end
+      → ValueRead now name f.body f.end Shown → PullsAtMost (f.end - f.body) c d → Shown (body_at i (members set) xs) × PullsAtMost (alts_seen i set xs) a d
+  found f now d Shown same h read some within value q = found-at h.left h.pulled f now d Shown same h.told h.body h.within h.pulls read some within value q
+
+-- ---- sets
+
+clash : {X : Type 0} {x : X} → None ≡ Some x → ⊥
+clash e = cc
+
+-- the intervals of a set behind their count
+set-pairs : (s : List (ℕ × ℕ)) → IsSet s → length s < 2 ^ 32 → chain_at pair_at (next_pair most) 1 (length s) (flat_map pair_bytes s) ≡ Some (s, [])
+unfolding chained_at
+set-pairs s h few =
+    let n = u32_reads.again (length s) (flat_map pair_bytes s) few in
+    let e : chained_at pair_at (next_pair most) 1 (set_bytes s) ≡ Some (s, []) = ap (chained_at pair_at (next_pair most) 1) (sym (append-nil (set_bytes s))) ∙ set_reads.again s [] h in
+    ap (λ (r : Option (ℕ × List ℕ)). r >>= λ n. chain_at pair_at (next_pair most) 1 n.0 n.1) (sym n) ∙ e
+
+module _ (s : List (ℕ × ℕ)) (bytes : List ℕ) (count : ℕ) where
+  pairs-read : bytes ≡ flat_map pair_bytes s → count ≡ length s → IsSet s → count < 2 ^ 32 → chain_at pair_at (next_pair most) 1 count bytes ≡ Some (s, [])
+  pairs-read same long is few = (λ j. chain_at pair_at (next_pair most) 1 (long j) (same j)) ∙ set-pairs s is (omega (arith, long, few))
+
+  pub pairs-are : (ps : List (ℕ × ℕ)) (rest : List ℕ) → bytes ≡ flat_map pair_bytes s → count ≡ length s → IsSet s → count < 2 ^ 32 → Some (ps, rest) ≡ chain_at pair_at (next_pair most) 1 count bytes → ps ≡ s
+  pairs-are ps rest same long is few found = ap (λ (p : List (ℕ × ℕ) × List ℕ). p.0) (some_is (ps, rest) (s, []) (found ∙ pairs-read same long is few))
+
+  pub pairs-some : bytes ≡ flat_map pair_bytes s → count ≡ length s → IsSet s → count < 2 ^ 32 → None ≡ chain_at pair_at (next_pair most) 1 count bytes → ⊥
+  pairs-some same long is few found = clash (found ∙ pairs-read same long is few)
+
+pub count-stands : (bytes : List ℕ) (at : ℕ) (s : List (ℕ × ℕ)) → StandsAt bytes at (set_bytes s) → take 4 (drop at bytes) ≡ u32_bytes (length s)
+count-stands bytes at s h = stands-front bytes at (u32_bytes (length s)) (flat_map pair_bytes s) h
+
+pub pairs-stand : (bytes : List ℕ) (at : ℕ) (s : List (ℕ × ℕ)) → StandsAt bytes at (set_bytes s) → StandsAt bytes (at + 4) (flat_map pair_bytes s)
+pairs-stand bytes at s h = stands-back bytes at (u32_bytes (length s)) (flat_map pair_bytes s) h
+
+pub pairs-taken : (bytes lent body : List ℕ) (at count : ℕ) (s : List (ℕ × ℕ)) → lent ≡ body → body ≡ take (8 * count) (drop at bytes) → StandsAt bytes at (flat_map pair_bytes s) → count ≡ length s → lent ≡ flat_map pair_bytes s
+pairs-taken bytes lent body at count s same read h e = (let n : 8 * count ≡ length (flat_map pair_bytes s) = omega (arith, e, length-pairs s) in same ∙ read ∙ ap (λ m. take m (drop at bytes)) n ∙ h)
+
+-- ---- timestamps
+
+abbrev pub flag_of : Stamp → ℕ
+flag_of None = 0
+flag_of (Some s) = 1
+
+pub flag-stands : (bytes : List ℕ) (at : ℕ) (s : Stamp) → StandsAt bytes at (stamp_bytes s) → take 1 (drop at bytes) ≡ flag_of s ∷ []
+flag-stands bytes at None h = h
+flag-stands bytes at (Some s) h = stands-front bytes at (1 ∷ []) (set_bytes s) h
+
+pub stamp-some : (s : Stamp) → 1 ≤ length (stamp_bytes s)
+stamp-some None = omega arith
+stamp-some (Some s) = omega arith
+
+pub flag-zero : (s : Stamp) → flag_of s ≡ 0 → false ≡ is_some s
+flag-zero None e = refl
+flag-zero (Some s) e = absurd (omega (arith, e))
+
+pub flag-one : (s : Stamp) → flag_of s ≡ 1 → true ≡ is_some s
+flag-one None e = absurd (omega (arith, e))
+flag-one (Some s) e = refl
+
+pub flag-other : (s : Stamp) → flag_of s ≢ 0 → flag_of s ≢ 1 → ⊥
+flag-other None e f = e refl
+flag-other (Some s) e f = f refl
+
+-- ---- values
+
+module _ (b v : PlainKey) (bytes rest : List ℕ) where
+  value-read : bytes ≡ value_bytes b → IsValue b → value_at bytes ≡ Some (b, [])
+  value-read same is = ap value_at (same ∙ sym (append-nil (value_bytes b))) ∙ value_reads.again b [] is
+
+  pub value-is : bytes ≡ value_bytes b → IsValue b → value_at bytes ≡ Some (v, rest) → (v ≡ b) × (rest ≡ [])
+  value-is same is found =
+      let e = some_is (v, rest) (b, []) (sym found ∙ value-read same is) in
+      (ap (λ (p : PlainKey × List ℕ). p.0) e, ap (λ (p : PlainKey × List ℕ). p.1) e)
+
+  pub value-some : bytes ≡ value_bytes b → IsValue b → value_at bytes ≡ None → ⊥
+  value-some same is found = clash (sym found ∙ value-read same is)
+
+pub ends-there : (bytes : List ℕ) (behind : ℕ) → behind ≤ length bytes → drop behind bytes ≡ [] → behind ≡ length bytes
+ends-there bytes behind h e = omega (arith, h, length-drop behind bytes, ap length e)
+
+pub value-taken : (bytes lent body : List ℕ) (at end : ℕ) (b : PlainKey) → lent ≡ body → body ≡ take (end - at) (drop at bytes) → StandsAt bytes at (value_bytes b) → end ≡ at + length (value_bytes b) → lent ≡ value_bytes b
+value-taken bytes lent body at end b same read h e = (let n : end - at ≡ length (value_bytes b) = omega (arith, e) in same ∙ read ∙ ap (λ m. take m (drop at bytes)) n ∙ h)
+
+-- a set leaves out a number behind each interval
+few-from : (low : ℕ) (ps : List (ℕ × ℕ)) → IsFrom low ps → AllByRecursion (λ p. p.1 ≤ most) ps → low + 2 * length ps ≤ max low (most + 2)
+few-from low [] h w = omega arith
+few-from low (p ∷ ps) h w = (let a : low ≤ p.0 = h.0 in let b : p.0 ≤ p.1 = h.1 in let c : p.1 ≤ most = w.0 in omega (arith, few-from (p.1 + 2) ps h.2 w.1))
+
+pub set-few : (s : List (ℕ × ℕ)) → IsSet s → length s < 2 ^ 32
+set-few s is = omega (arith, few-from 1 s is.canonical is.within)
+
+pub set-is : (i at count : ℕ) (s : List (ℕ × ℕ)) (found : Bool) → count ≡ length s → found ≡ has (members s) i → SetIs i (at + length (set_bytes s)) s (found, at + 4 + 8 * count)
+set-is i at count s found long e = (e, omega (arith, long, length-set_bytes s))
+
+-- the alternative whose end and timestamp were read
+pub alt-is : (i at behind : ℕ) (set : List (ℕ × ℕ)) (x : PlainAlt) (r : Bool × ℕ) → behind ≡ at + length (rec_bytes (alt_of x)) → SetIs i (at + 9 + length (stamp_bytes x.stamp)) (set_in x.stamp set) r → AltIs i at set x (record { has = r.0; body = r.1; end = behind })
+alt-is i at behind set x r e h = record { has = h.0; body = omega (arith, h.1); end = e }
+
+-- what the reading of a set shows
+abbrev pub SetRead : ℕ → Option Files → List ℕ → ℕ → ℕ → Numbers → Numbers → Result (Bool × ℕ) CursorFault → Type 0
+SetRead i files name at end old now r = (last : ℕ) (bytes : List ℕ) (s : List (ℕ × ℕ)) → TellsFront files name last bytes → end ≤ last → StandsAt bytes at (set_bytes s) → at + length (set_bytes s) ≤ end → IsSet s
+    → Filled r (SetIs i (at + length (set_bytes s)) s) × PullsAtMost (length (set_bytes s)) old now
+
+module _ (i : ℕ) (files now : Option Files) (name bytes : List ℕ) (last at end : ℕ) (set : List (ℕ × ℕ)) where
+  -- a timestamp that is stored
+  pub stored-set : (s : Stamp) (a b c : Numbers) (r : Result (Bool × ℕ) CursorFault) → now ≡ files → TellsFront files name last bytes → end ≤ last → StandsAt bytes at (stamp_bytes s) → at + length (stamp_bytes s) ≤ end → IsStamp s → true ≡ is_some s
+      → PullsAtMost 1 a b → SetRead i now name (at + 1) end b c r → Filled r (SetIs i (at + length (stamp_bytes s)) (set_in s set)) × PullsAtMost (length (stamp_bytes s)) a c
+  stored-set None a b c r same tells within stands fits is some p read = absurd cc
+  stored-set (Some s) a b c r same tells within stands fits is some p read =
+      let got = read last bytes s (subst (λ (z : Option Files). TellsFront z name last bytes) (sym same) tells) within (stands-back bytes at (1 ∷ []) (set_bytes s) stands) (omega (arith, fits)) is.0 in
+      (subst (λ n. Filled r (SetIs i n s)) (omega arith) got.0, PullsAtMost-more (1 + length (set_bytes s)) (length (stamp_bytes (Some s))) a c (omega arith) (PullsAtMost-trans 1 (length (set_bytes s)) a b c p got.1))
+
+-- a timestamp that is inherited
+pub inherited-set : (i at : ℕ) (set : List (ℕ × ℕ)) (s : Stamp) (a b : Numbers) → false ≡ is_some s → has (members set) i ≡ true → PullsAtMost 1 a b
+    → SetIs i (at + length (stamp_bytes s)) (set_in s set) (true, at + 1) × PullsAtMost (length (stamp_bytes s)) a b
+inherited-set i at set None a b none h p = ((sym h, refl), p)
+inherited-set i at set (Some s) a b none h p = absurd cc
+
+pub flag-read : (out bytes : List ℕ) (at : ℕ) (s : Stamp) → out ≡ take 1 (drop at bytes) → StandsAt bytes at (stamp_bytes s) → slice_index_or out 0 0 ≡ flag_of s
+flag-read out bytes at s read h = ap (λ (bs : List ℕ). slice_index_or bs 0 0) (read ∙ flag-stands bytes at s h)
+
+pub flag-small : (s : Stamp) → flag_of s ≤ 1
+flag-small None = omega arith
+flag-small (Some s) = omega arith

@@ -1,0 +1,103 @@
+-- Printing leaves.
+use Rattle.std.proofs.Common.{◌≡◌, ℕ, ◌+◌, ◌-◌, ◌≤◌, true, false, List, [], ◌∷◌, ◌++◌, Option, Some, None, Result, Ok, Err, sym, ap, subst, ◌∙◌, arith}
+use Rattle.xa_outside.specs.Causes.{HasCause}
+use Rattle.xa_outside.specs.Folder.{Files}
+use Rattle.xa_outside.specs.Numbers.{Numbers, IsMeter, PullsAtMost}
+use Rattle.xa_outside.specs.Taken.{Taken}
+use Rattle.xa_outside.specs.declared.Failed.{Failed}
+use Rattle.version_set.specs.Members.{members}
+use Rattle.jsonml_tree.specs.Data.{PlainContent}
+use Rattle.jsonml_print.specs.Calls.{Call, content_calls, Prints}
+use Rattle.jsonml_print.specs.Pen.{Pen}
+use Rattle.key_annotate.specs.Inside.{inside_of}
+use Rattle.keyed_tree.specs.Data.{PlainKey, scalar, inside}
+use Rattle.keyed_tree.specs.Plain.{content_of}
+use Rattle.keyed_tree.specs.Proper.{is_content}
+use Rattle.archive_tree.specs.Data.{PlainAlt, PlainNode, leaf_node, eff}
+use Rattle.archive_tree.specs.Read.{read, body_at}
+use Rattle.record_format.specs.Seen.{alts_seen, node_steps}
+use Rattle.record_format.specs.Data.{leaf_end}
+use Rattle.record_format.specs.Nodes.{set_in}
+use Rattle.record_format.specs.Spelling.{rec_bytes}
+use Rattle.record_cursor.specs.Faults.{IfDamage}
+use Rattle.record_cursor.specs.Steps as cursor
+use Rattle.record_cursor.specs.declared.fault.CursorFault.{CursorFault}
+use Rattle.file_rows.specs.View.{PlainChild}
+use Rattle.file_get.specs.Told.{of_cursor, Unless}
+use Rattle.file_get.specs.State.{State, state}
+use Rattle.file_get.specs.Walks.{Shows, IsBegun}
+use Rattle.file_get.specs.Inside.{InsidePrinted, NodeOpened, AltsTold, inside_seen}
+use Rattle.file_get.specs.declared.read.Opening.{Opening}
+use Rattle.file_get.specs.declared.fault.GetFault.TheVariants.{Damage}
+use Rattle.file_get.proofs.Opened.{eff-members, alts-told, tag-leaf}
+use Rattle.file_get.proofs.Pens.{content-pass}
+use Rattle.file_get.proofs.States.{walks-then, walks-damage, shows-then}
+use Rattle.file_get.proofs.States as states
+
+module _ {S K : Type 0} (files : S → Option Files) (draft : S → Option (List ℕ)) (numbers : S → Numbers) (faults : S → ℕ) (taken : K → Taken) (out_faults : K → ℕ) (i : ℕ) (name : List ℕ) (child : PlainChild) (o : Opening) (depth : ℕ) where
+  abbrev pub at : S → K → Pen → ℕ → State
+  at = states.at files draft numbers faults taken out_faults
+
+  -- what a read says where alternatives stand
+  abbrev pub Tells : S → S → (List (ℕ × ℕ) → List PlainAlt → Type 0) → Type 0
+  Tells old new P = (last : ℕ) (bytes more : List ℕ) (set : List (ℕ × ℕ)) (xs : List PlainAlt) → AltsTold i (files old) name bytes last o.behind child.end set xs more → P set xs × PullsAtMost (alts_seen i set xs) (numbers old) (numbers new)
+
+  -- the body was not read
+  pub leaf-unread : (old new : S) (k : K) (p : Pen) (n : ℕ) (e : CursorFault) → o.is_inner ≡ false → cursor.OnlyReads files draft faults old new (Some e) → PullsAtMost (child.end - o.behind) (numbers old) (numbers new) → Tells old new (λ set xs. IfDamage e ⊥)
+      → InsidePrinted i name child o depth (at old k p n) (at new k p n) (Some (of_cursor e))
+  leaf-unread old new k p n e leaf h pulls told = record {
+    walks = states.reads files draft numbers faults taken out_faults old new k p n n (Some e) (child.end - o.behind) h pulls;
+    stands = tt;
+    shows = λ bytes end has_item parent j x is. (
+        let t = tag-leaf i (files old) name bytes end child o depth has_item parent j x is leaf in
+        subst (λ (m : PlainNode). Shows (content_calls (inside_of (read i (members parent) m))) (inside_seen i parent m) (node_steps i parent m) (at old k p n) (at new k p n) (Some (of_cursor e))) (sym t.is)
+        (let x' = subst (NodeOpened i (files old) name bytes end child o depth has_item parent) t.is x in
+        let y = told end bytes (rec_bytes leaf_end) (set_in t.stamp parent) t.alts (alts-told i (files old) name bytes end child o depth has_item parent t.label t.stamp t.alts x') in
+        states.shows-unread files draft numbers faults taken out_faults old new k p n n (alts_seen i (set_in t.stamp parent) t.alts + 9) 0 e
+        (content_calls (inside_of (read i (members parent) (leaf_node t.label t.stamp t.alts)))) y.0 (omega arith) (more y.1)));
+  }
+    where
+      more : {a b : Numbers} {m : ℕ} → PullsAtMost m a b → PullsAtMost (m + 9) a b
+      more h = (let w = h.within in record { count = h.count; within = omega (arith, w); pulled = h.pulled })
+
+  no-content : (s : PlainKey) (b : PlainKey) → is_content s ≡ false → s ≡ b → is_content b ≡ true → ⊥
+  no-content s b lacks e is = let f : false ≡ true = sym lacks ∙ ap is_content e ∙ is in cc
+
+  -- a scalar stands where a content is wanted
+  pub leaf-scalar : (old new : S) (k : K) (p : Pen) (n : ℕ) (s : PlainKey) → o.is_inner ≡ false → is_content s ≡ false → cursor.OnlyReads files draft faults old new None → PullsAtMost (child.end - o.behind) (numbers old) (numbers new)
+      → Tells old new (λ set xs. s ≡ body_at i (members set) xs) → InsidePrinted i name child o depth (at old k p n) (at new k p n) (Some Damage)
+  leaf-scalar old new k p n s leaf lacks h pulls told = record {
+    walks = walks-damage (at old k p n) (at new k p n) (child.end - o.behind) (child.end - o.behind) (omega arith) (states.reads files draft numbers faults taken out_faults old new k p n n None (child.end - o.behind) h pulls);
+    stands = tt;
+    shows = λ bytes end has_item parent j x is. (
+        let t = tag-leaf i (files old) name bytes end child o depth has_item parent j x is leaf in
+        let x' = subst (NodeOpened i (files old) name bytes end child o depth has_item parent) t.is x in
+        let y = told end bytes (rec_bytes leaf_end) (set_in t.stamp parent) t.alts (alts-told i (files old) name bytes end child o depth has_item parent t.label t.stamp t.alts x') in
+        absurd (no-content s (body_at i (members (set_in t.stamp parent)) t.alts) lacks y.0 t.body));
+  }
+
+  stands-by : {T : Type 0} (p q : Pen) (c : PlainContent) (r : Result T Failed) → depth ≤ 120 → IsBegun depth p → (x y : Taken) → Prints x y p q (content_calls c) r → Unless (states.out_fault r) (depth + 1 ≤ q.depth)
+  stands-by p q c (Ok u) few begun x y h = subst (λ (r : Pen). depth + 1 ≤ r.depth) (sym h.pen) (let w = content-pass depth p c few begun in w.inside)
+  stands-by p q c (Err e) few begun x y h = tt
+
+  -- the body was printed
+  pub leaf-printed : {T : Type 0} (old new : S) (a b : K) (p q : Pen) (n : ℕ) (c : PlainContent) (key : PlainKey) (r : Result T Failed) → key ≡ inside c → o.is_inner ≡ false → depth ≤ 120 → IsBegun depth p → IsMeter (numbers new)
+      → cursor.OnlyReads files draft faults old new None → PullsAtMost (child.end - o.behind) (numbers old) (numbers new) → Tells old new (λ set xs. key ≡ body_at i (members set) xs)
+      → Prints (taken a) (taken b) p q (content_calls c) r → HasCause (out_faults a) (out_faults b) r
+      → InsidePrinted i name child o depth (at old a p n) (at new b q n) (states.out_fault r)
+  leaf-printed old new a b p q n c key r is-key leaf few begun meter h pulls told prints cause = (
+      let sent = states.sends files draft numbers faults taken out_faults new a b p q n (content_calls c) r meter prints cause in
+      let got = states.reads files draft numbers faults taken out_faults old new a p n n None (child.end - o.behind) h pulls in
+      record {
+        walks = walks-then (at old a p n) (at new a p n) (at new b q n) (states.out_fault r) (child.end - o.behind) 0 (child.end - o.behind) (omega arith) got sent.walks;
+        stands = stands-by p q c r few begun (taken a) (taken b) prints;
+        shows = λ bytes end has_item parent j x is. (
+            let t = tag-leaf i (files old) name bytes end child o depth has_item parent j x is leaf in
+            let x' = subst (NodeOpened i (files old) name bytes end child o depth has_item parent) t.is x in
+            let y = told end bytes (rec_bytes leaf_end) (set_in t.stamp parent) t.alts (alts-told i (files old) name bytes end child o depth has_item parent t.label t.stamp t.alts x') in
+            let known = states.shows-read files draft numbers faults taken out_faults old new a p n n (alts_seen i (set_in t.stamp parent) t.alts) 0 (omega arith) y.1 in
+            let both = shows-then (at old a p n) (at new a p n) (at new b q n) (states.out_fault r) [] (content_calls c) (alts_seen i (set_in t.stamp parent) t.alts) 0 (alts_seen i (set_in t.stamp parent) t.alts + 9) 0 0 0 (omega arith) (omega arith) known sent.shows in
+            let same : content_calls c ≡ content_calls (inside_of (read i (members parent) (leaf_node t.label t.stamp t.alts))) = ap (λ (b : PlainKey). content_calls (content_of b)) (sym is-key ∙ y.0 ∙ ap (λ (ns : List ℕ). body_at i ns t.alts) (sym (eff-members t.stamp parent))) in
+            subst (λ (m : PlainNode). Shows (content_calls (inside_of (read i (members parent) m))) (inside_seen i parent m) (node_steps i parent m) (at old a p n) (at new b q n) (states.out_fault r)) (sym t.is)
+            (subst (λ (cs : List Call). Shows cs (alts_seen i (set_in t.stamp parent) t.alts + 9) 0 (at old a p n) (at new b q n) (states.out_fault r)) same both));
+      })

@@ -1,0 +1,45 @@
+use Rattle.file_get.proofs.Gets.{puts-of, undamaged-of}
+use Rattle.keyed_print.specs.KeyedText.{keyed_text}
+use Rattle.file_get.proofs.version.get.Goals as goal
+
+pub returns-clause-judges : goal.returns-clause-judges
+returns-clause-judges g c = c.write_version.ensures.judges
+
+pub returns-clause-uncounted : goal.returns-clause-uncounted
+returns-clause-uncounted g c = c.write_version.ensures.uncounted
+
+pub returns-clause-nothing : goal.returns-clause-nothing
+returns-clause-nothing g c = c.write_version.ensures.nothing
+
+pub returns-clause-text : goal.returns-clause-text
+returns-clause-text g c = λ bytes rules vs k tells sound at_i. puts-of (g.O.Sink.taken c.args.out.now) (g.O.Sink.taken c.write_version.new.out) c.write_version.result (keyed_text k) (c.write_version.ensures.text bytes rules vs k tells sound at_i)
+
+pub returns-clause-undamaged : goal.returns-clause-undamaged
+returns-clause-undamaged g c = λ bytes rules vs tells sound. undamaged-of c.write_version.result (c.write_version.ensures.undamaged bytes rules vs tells sound)
+
+pub returns-clause-gained : goal.returns-clause-gained
+returns-clause-gained g c = c.write_version.ensures.gained
+
+pub returns-clause-files : goal.returns-clause-files
+returns-clause-files g c = c.write_version.ensures.same_files
+
+pub returns-clause-draft : goal.returns-clause-draft
+returns-clause-draft g c = c.write_version.ensures.same_draft
+
+pub returns-clause-later : goal.returns-clause-later
+returns-clause-later g c = c.write_version.ensures.later
+
+pub returns-clause-out_later : goal.returns-clause-out_later
+returns-clause-out_later g c = c.write_version.ensures.out_later
+
+pub returns-clause-cause : goal.returns-clause-cause
+returns-clause-cause g c = c.write_version.ensures.cause
+
+pub returns-clause-pulls : goal.returns-clause-pulls
+returns-clause-pulls g c = c.write_version.ensures.pulls
+
+pub returns-clause-few : goal.returns-clause-few
+returns-clause-few g c = c.write_version.ensures.few
+
+pub returns-clause-steps : goal.returns-clause-steps
+returns-clause-steps g c = c.write_version.ensures.steps

@@ -1,0 +1,12 @@
+pub mod Told
+pub mod State
+pub mod Walks
+pub mod Kids
+pub mod Stands
+pub mod Visits
+pub mod Printed
+pub mod Fixed
+pub mod Inside
+pub mod Looked
+pub mod Roots
+pub mod Written

@@ -1,0 +1,17 @@
+//! A version out of an archive's file: the stored timestamp trees lead to what it has, and it is
+//! printed on the way.
+#![tactic(auto)]
+
+mod body;
+mod fault;
+mod fixed;
+mod look;
+mod print;
+mod read;
+mod root;
+mod span;
+mod version;
+mod walk;
+
+pub use fault::GetFault;
+pub use version::get;

@@ -1,0 +1,124 @@
+// Looking at one node of a stored tree.
+ghost use Rattle.std.specs.Prelude.{◌≡◌, ◌+◌, ◌^◌, ◌<◌, ◌≤◌, ℕ, List, length, map, IfOk, IfErr};
+ghost use Rattle.xa_outside.specs.Numbers.{PullsAtMost};
+ghost use Rattle.archive_tree.specs.Data.{PlainNode};
+ghost use Rattle.record_cursor.specs.Steps.{OnlyReads, fault_of, Filled};
+ghost use Rattle.file_rows.specs.View.{PlainRow};
+ghost use Rattle.std.specs.List.{AllByRecursion};
+ghost use Rattle.record_parts.specs.Bounds.{IsSet};
+ghost use Rattle.record_cursor.specs.Faults.{IfFolder};
+ghost use Rattle.file_get.specs.Kids.{set_of};
+ghost use Rattle.file_get.specs.Stands.{SpanIs};
+ghost use Rattle.file_get.specs.Looked.{IsLook, looked, left_of, right_of, own_bytes, NodeOf, tree_over, LookTold, LookIs};
+ghost use Rattle.file_get.specs.declared.look.Sight.TheVariants.{Parts};
+
+use crate::span::{Ask, Span};
+use record_cursor::CursorFault;
+use record_parts::MOST_VERSIONS;
+use std::sync::ledger::Ledger;
+use timestamp_tree::{Node, NodeFault, Steps, node_at};
+use xa_outside::Folder;
+
+/// What a node of a stored tree says: no child of the part has the version, the only one does, or
+/// one in either of two parts.
+#[derive(Clone, Copy)]
+pub(crate) enum Sight {
+    Lacks,
+    Child,
+    Parts { left: Span, right: Span },
+}
+
+/// Looks at the node of the stored tree at the front of a part of a row. The set that it has is
+/// dropped.
+pub(crate) fn look<F: Folder, L: Ledger>(
+    ask: Ask<'_>,
+    folder: &mut F,
+    steps: &mut Steps<L>,
+    span: Span,
+) -> Result<Sight, CursorFault>
+    requires ordered { span.at ≤ span.limit }
+    requires short { span.limit < 2 ^ 64 }
+    requires some { 1 ≤ span.count }
+    requires few { span.position + span.count < 2 ^ 32 }
+    ensures reads { OnlyReads F.files F.draft F.faults folder.old folder.new (fault_of result) }
+    ensures is { IfOk result (IsLook span) }
+    ensures pulls { PullsAtMost (looked span result) (F.numbers folder.old) (F.numbers folder.new) }
+    ensures steps { steps.new ≡ steps.old + 1 }
+    ensures told { (bytes : List ℕ) (end : ℕ) (row : PlainRow) (parent : List (ℕ × ℕ))
+        (front ks behind : List PlainNode)
+        → LookTold (F.files folder.old) ask.entry.name.now bytes end row span parent
+        front ks behind
+        → Filled result (LookIs ask.entry.version bytes row parent front ks behind)
+        × PullsAtMost (own_bytes (tree_over parent ks))
+        (F.numbers folder.old) (F.numbers folder.new) }
+{
+    match node_at(
+        ask.alloc,
+        folder,
+        ask.name,
+        span.at,
+        span.limit,
+        MOST_VERSIONS,
+        steps,
+    ) {
+        Ok(node) => judge(ask.version, span, &node),
+        Err(NodeFault::Damage) => Err(CursorFault::Damage),
+        Err(NodeFault::Folder) => Err(CursorFault::Folder),
+        Err(NodeFault::Memory) => Err(CursorFault::Memory),
+    }
+}
+
+// What the node says, where its left part has the size that it may have.
+fn judge(version: u32, span: Span, node: &Node) -> Result<Sight, CursorFault>
+    requires within { span.at + node.now.size ≤ span.limit }
+    requires some { 1 ≤ span.count }
+    requires few { span.position + span.count < 2 ^ 32 }
+    ensures is { IfOk result (IsLook span) }
+    ensures size { node.now.size ≤ looked span result }
+    ensures cause { IfErr result (λ e. IfFolder e ⊥) }
+    ensures told { (bytes : List ℕ) (row : PlainRow) (parent : List (ℕ × ℕ))
+        (front ks behind : List PlainNode) → SpanIs bytes row span parent front ks behind
+        → AllByRecursion IsSet (map (set_of parent) ks) → 1 ≤ length ks
+        → NodeOf (tree_over parent ks) node.now
+        → Filled result (LookIs version bytes row parent front ks behind) }
+{
+    let at = span.at + node.size;
+    if span.count == 1 {
+        if node.left != 0 || at < span.limit {
+            return Err(CursorFault::Damage);
+        }
+        return Ok(if node.set.contains(version) {
+            Sight::Child
+        } else {
+            Sight::Lacks
+        });
+    }
+    if node.left == 0 || span.limit - at <= node.left {
+        return Err(CursorFault::Damage);
+    }
+    if !node.set.contains(version) {
+        return Ok(Sight::Lacks);
+    }
+    Ok(halves(span, at, at + node.left))
+}
+
+// Both parts behind a node that ends at `at`, the right one at `middle`.
+fn halves(span: Span, at: u64, middle: u64) -> Sight
+    requires few { span.position + span.count < 2 ^ 32 }
+    ensures { result ≡ Parts (left_of span at middle) (right_of span middle) }
+{
+    let half = span.count.div_ceil(2);
+    let left = Span {
+        at,
+        limit: middle,
+        position: span.position,
+        count: half,
+    };
+    let right = Span {
+        at: middle,
+        limit: span.limit,
+        position: span.position + half,
+        count: span.count - half,
+    };
+    Sight::Parts { left, right }
+}

@@ -1,0 +1,80 @@
+// Printing what nodes have.
+ghost use Rattle.std.specs.Prelude.{◌≡◌, ◌+◌, ◌≤◌, ℕ, false};
+ghost use Rattle.keyed_tree.specs.Data.{attr};
+ghost use Rattle.keyed_tree.specs.View.{name_view};
+ghost use Rattle.file_rows.specs.View.{child_view};
+ghost use Rattle.file_get.specs.Told.{fault_of};
+ghost use Rattle.file_get.specs.State.{state};
+ghost use Rattle.file_get.specs.Walks.{IsBegun, StandsIn};
+ghost use Rattle.file_get.specs.Inside.{InsidePrinted, OpenedPrinted};
+
+use crate::body::read_body;
+use crate::fault::GetFault;
+use crate::read::Opening;
+use crate::span::{Ask, Place};
+use file_rows::Child;
+use jsonml_text::{Printer, print_content};
+use keyed_tree::KeyVal;
+use xa_outside::{Folder, Sink};
+
+/// Prints the body of a leaf as the content of the element that was begun for it.
+pub(crate) fn print_leaf<F: Folder, K: Sink>(
+    ask: Ask<'_>,
+    child: Child,
+    depth: u32,
+    opening: &Opening,
+    folder: &mut F,
+    printer: &mut Printer,
+    sink: &mut K,
+) -> Result<(), GetFault>
+    requires behind { opening.now.behind ≤ child.end }
+    requires depth { depth ≤ 120 }
+    requires begun { IsBegun depth printer.old }
+    ensures { (steps : ℕ) → opening.now.is_inner ≡ false
+        → InsidePrinted ask.entry.version ask.entry.name.now (child_view child) opening.now depth
+        (state F.files F.draft F.numbers F.faults K.taken K.faults
+        folder.old sink.old printer.old steps)
+        (state F.files F.draft F.numbers F.faults K.taken K.faults
+        folder.new sink.new printer.new steps) (fault_of result) }
+{
+    match read_body(ask, folder, opening.behind, child.end)? {
+        KeyVal::Content(content) => {
+            print_content(&content, printer, sink)?;
+            Ok(())
+        }
+        KeyVal::Scalar(_) => Err(GetFault::Damage),
+    }
+}
+
+/// Prints a leaf that is named by an attribute. Behind an element it is damage, and outside of one.
+pub(crate) fn print_attribute<F: Folder, K: Sink>(
+    ask: Ask<'_>,
+    child: Child,
+    place: Place,
+    opening: &Opening,
+    name: &str,
+    folder: &mut F,
+    printer: &mut Printer,
+    sink: &mut K,
+) -> Result<bool, GetFault>
+    requires behind { opening.now.behind ≤ child.end }
+    requires stands { StandsIn place.depth place.has_item printer.old }
+    requires name { name_view opening.now.name ≡ attr name.now }
+    ensures { (steps : ℕ) → OpenedPrinted ask.entry.version ask.entry.name.now
+        (child_view child) opening.now place.depth place.has_item
+        (state F.files F.draft F.numbers F.faults K.taken K.faults
+        folder.old sink.old printer.old steps)
+        (state F.files F.draft F.numbers F.faults K.taken K.faults
+        folder.new sink.new printer.new steps) result }
+{
+    if opening.is_inner || place.depth == 0 || place.has_item {
+        return Err(GetFault::Damage);
+    }
+    match read_body(ask, folder, opening.behind, child.end)? {
+        KeyVal::Scalar(value) => {
+            printer.attr(sink, name, &value)?;
+            Ok(false)
+        }
+        KeyVal::Content(_) => Err(GetFault::Damage),
+    }
+}

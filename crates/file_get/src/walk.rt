@@ -1,0 +1,263 @@
+// Walking the rows of a version, and printing what it has.
+ghost use Rattle.std.specs.Prelude.{◌≡◌, ◌+◌, ◌-◌, ◌*◌, ◌^◌, ◌<◌, ◌≤◌, true, false, IfOk};
+ghost use Rattle.file_rows.specs.View.{row_view, child_view};
+ghost use Rattle.file_get.specs.Told.{fault_of};
+ghost use Rattle.file_get.specs.State.{state};
+ghost use Rattle.file_get.specs.Walks.{IsBegun, StandsIn};
+ghost use Rattle.file_get.specs.Visits.{Visited};
+ghost use Rattle.file_get.specs.Printed.{RowPrinted, ChildPrinted, NodePrinted};
+ghost use Rattle.file_get.specs.Inside.{InsidePrinted, OpenedPrinted};
+ghost use Rattle.keyed_tree.specs.Data.{tag};
+ghost use Rattle.keyed_tree.specs.View.{name_view};
+
+use crate::fault::GetFault;
+use crate::look::{Sight, look};
+use crate::print::{print_attribute, print_leaf};
+use crate::read::{Opening, read_opening};
+use crate::span::{Ask, Place, Span};
+use file_rows::{Child, Row, count_children, read_child, row_of};
+use jsonml_text::Printer;
+use keyed_tree::Name;
+use record_parts::DEEPEST;
+use std::sync::ledger::Ledger;
+use timestamp_tree::Steps;
+use xa_outside::{Folder, Sink};
+
+/// Prints those children of a row that the version has, and answers whether an element was among
+/// them.
+#[cycle(walk)]
+pub(crate) fn print_row<F: Folder, K: Sink, L: Ledger>(
+    ask: Ask<'_>,
+    row: Row,
+    depth: u32,
+    folder: &mut F,
+    printer: &mut Printer,
+    sink: &mut K,
+    steps: &mut Steps<L>,
+) -> Result<bool, GetFault>
+    requires depth { depth ≤ 120 }
+    requires stands { StandsIn depth false printer.old }
+    ensures { RowPrinted ask.entry.version ask.entry.name.now (row_view row) depth
+        (state F.files F.draft F.numbers F.faults K.taken K.faults
+        folder.old sink.old printer.old steps.old)
+        (state F.files F.draft F.numbers F.faults K.taken K.faults
+        folder.new sink.new printer.new steps.new) result }
+{
+    let count = count_children(folder, ask.name, row)?;
+    if count == 0 {
+        return if row.dir == 4 {
+            Ok(false)
+        } else {
+            Err(GetFault::Damage)
+        };
+    }
+    let span = Span {
+        at: row.end + (13 + 24 * count as u64),
+        limit: row.end + (9 + row.dir),
+        position: 0,
+        count,
+    };
+    let place = Place {
+        depth,
+        after: row.first,
+        has_item: false,
+    };
+    let place = visit(ask, row, span, place, folder, printer, sink, steps)?;
+    Ok(place.has_item)
+}
+
+// Searches a part of a row, and prints those of its children that the version has.
+#[cycle(walk)]
+fn visit<F: Folder, K: Sink, L: Ledger>(
+    ask: Ask<'_>,
+    row: Row,
+    span: Span,
+    place: Place,
+    folder: &mut F,
+    printer: &mut Printer,
+    sink: &mut K,
+    steps: &mut Steps<L>,
+) -> Result<Place, GetFault>
+    requires ordered { span.at ≤ span.limit }
+    requires short { span.limit < 2 ^ 64 }
+    requires some { 1 ≤ span.count }
+    requires few { span.position + span.count < 2 ^ 32 }
+    requires fits { 4 + 24 * (span.position + span.count) ≤ row.dir }
+    requires after { place.after ≤ row.end }
+    requires depth { place.depth ≤ 120 }
+    requires stands { StandsIn place.depth place.has_item printer.old }
+    ensures { Visited ask.entry.version ask.entry.name.now (row_view row) span place
+        (state F.files F.draft F.numbers F.faults K.taken K.faults
+        folder.old sink.old printer.old steps.old)
+        (state F.files F.draft F.numbers F.faults K.taken K.faults
+        folder.new sink.new printer.new steps.new) result }
+{
+    match look(ask, folder, steps, span)? {
+        Sight::Lacks => Ok(place),
+        Sight::Child => print_child(ask, row, span, place, folder, printer, sink, steps),
+        Sight::Parts { left, right } => {
+            let place = visit(ask, row, left, place, folder, printer, sink, steps)?;
+            visit(ask, row, right, place, folder, printer, sink, steps)
+        }
+    }
+}
+
+// Prints the only child of a part of a row, which has the version.
+#[cycle(walk)]
+fn print_child<F: Folder, K: Sink, L: Ledger>(
+    ask: Ask<'_>,
+    row: Row,
+    span: Span,
+    place: Place,
+    folder: &mut F,
+    printer: &mut Printer,
+    sink: &mut K,
+    steps: &mut Steps<L>,
+) -> Result<Place, GetFault>
+    requires fits { 4 + 24 * (span.position + 1) ≤ row.dir }
+    requires after { place.after ≤ row.end }
+    requires depth { place.depth ≤ 120 }
+    requires stands { StandsIn place.depth place.has_item printer.old }
+    ensures { ChildPrinted ask.entry.version ask.entry.name.now (row_view row) span place
+        (state F.files F.draft F.numbers F.faults K.taken K.faults
+        folder.old sink.old printer.old steps.old)
+        (state F.files F.draft F.numbers F.faults K.taken K.faults
+        folder.new sink.new printer.new steps.new) result }
+{
+    let child = read_child(folder, ask.name, row, span.position, place.after, row.end)?;
+    let has_item = print_node(ask, child, place, folder, printer, sink, steps)?;
+    Ok(Place {
+        depth: place.depth,
+        after: child.end,
+        has_item,
+    })
+}
+
+// Prints a node, and answers whether an element stands there now.
+#[cycle(walk)]
+fn print_node<F: Folder, K: Sink, L: Ledger>(
+    ask: Ask<'_>,
+    child: Child,
+    place: Place,
+    folder: &mut F,
+    printer: &mut Printer,
+    sink: &mut K,
+    steps: &mut Steps<L>,
+) -> Result<bool, GetFault>
+    requires depth { place.depth ≤ 120 }
+    requires stands { StandsIn place.depth place.has_item printer.old }
+    ensures { NodePrinted ask.entry.version ask.entry.name.now (child_view child)
+        place.depth place.has_item
+        (state F.files F.draft F.numbers F.faults K.taken K.faults
+        folder.old sink.old printer.old steps.old)
+        (state F.files F.draft F.numbers F.faults K.taken K.faults
+        folder.new sink.new printer.new steps.new) result }
+{
+    let opening = read_opening(ask, folder, child)?;
+    match &opening.name {
+        Name::Attr(name) => {
+            print_attribute(
+                ask,
+                child,
+                place,
+                &opening,
+                name.as_str(),
+                folder,
+                printer,
+                sink,
+            )
+        }
+        Name::Tag(tag) => {
+            print_element(
+                ask,
+                child,
+                place,
+                &opening,
+                tag.as_str(),
+                folder,
+                printer,
+                sink,
+                steps,
+            )
+        }
+    }
+}
+
+// Prints a node that is named by this tag.
+#[cycle(walk)]
+fn print_element<F: Folder, K: Sink, L: Ledger>(
+    ask: Ask<'_>,
+    child: Child,
+    place: Place,
+    opening: &Opening,
+    text: &str,
+    folder: &mut F,
+    printer: &mut Printer,
+    sink: &mut K,
+    steps: &mut Steps<L>,
+) -> Result<bool, GetFault>
+    requires behind { opening.now.behind ≤ child.end }
+    requires depth { place.depth ≤ 120 }
+    requires stands { StandsIn place.depth place.has_item printer.old }
+    requires name { name_view opening.now.name ≡ tag text.now }
+    ensures { OpenedPrinted ask.entry.version ask.entry.name.now (child_view child) opening.now
+        place.depth place.has_item
+        (state F.files F.draft F.numbers F.faults K.taken K.faults
+        folder.old sink.old printer.old steps.old)
+        (state F.files F.draft F.numbers F.faults K.taken K.faults
+        folder.new sink.new printer.new steps.new) result }
+{
+    if place.depth == 0 && place.has_item {
+        return Err(GetFault::Damage);
+    }
+    printer.begin_elem(sink, text)?;
+    print_inside(
+        ask,
+        child,
+        place.depth,
+        opening,
+        folder,
+        printer,
+        sink,
+        steps,
+    )?;
+    printer.end_elem(sink)?;
+    Ok(true)
+}
+
+// Prints what stands behind the opening record of a node that was begun.
+#[cycle(walk)]
+fn print_inside<F: Folder, K: Sink, L: Ledger>(
+    ask: Ask<'_>,
+    child: Child,
+    depth: u32,
+    opening: &Opening,
+    folder: &mut F,
+    printer: &mut Printer,
+    sink: &mut K,
+    steps: &mut Steps<L>,
+) -> Result<(), GetFault>
+    requires behind { opening.now.behind ≤ child.end }
+    requires depth { depth ≤ 120 }
+    requires begun { IsBegun depth printer.old }
+    ensures { InsidePrinted ask.entry.version ask.entry.name.now (child_view child)
+        opening.now depth
+        (state F.files F.draft F.numbers F.faults K.taken K.faults
+        folder.old sink.old printer.old steps.old)
+        (state F.files F.draft F.numbers F.faults K.taken K.faults
+        folder.new sink.new printer.new steps.new) (fault_of result) }
+{
+    if !opening.is_inner {
+        return print_leaf(ask, child, depth, opening, folder, printer, sink);
+    }
+    if depth >= DEEPEST {
+        return Err(GetFault::Damage);
+    }
+    match row_of(child, opening.behind) {
+        Some(row) => {
+            print_row(ask, row, depth + 1, folder, printer, sink, steps)?;
+            Ok(())
+        }
+        None => Err(GetFault::Damage),
+    }
+}
