@@ -6,6 +6,7 @@ use Rattle.xa_outside.specs.Numbers.{Numbers}
 use Rattle.xarch_words.specs.Commands.{PlainCommand, norm, init, add, get, history, stats, batch, demo}
 use Rattle.xarch_steps.specs.OnePass.{GoesOnce}
 use Rattle.xarch_steps.specs.Ran.{CountsAsSaid, OnlyReads}
+use Rattle.xarch_steps.specs.ReadsBack.{ReadsLittle}
 use Rattle.xarch_steps.specs.Step.{alone}
 use Rattle.xarch_steps.specs.Succeeds.{ShouldSucceed}
 use Rattle.xarch_run.specs.Batch.{IsAnswer}
@@ -21,30 +22,32 @@ alone-reads (Some (stats archive)) h = h
 alone-reads (Some batch) h = absurd h
 alone-reads (Some (demo seed count archive)) h = absurd h
 
+-- what is said of a command by itself is said of it, where it is said of a batch
+alone-said : (P : Option PlainCommand → Type 0) → P (Some batch) → (c : Option PlainCommand) → P (alone c) → P c
+alone-said P of None h = h
+alone-said P of (Some (norm spec doc)) h = h
+alone-said P of (Some (init archive spec)) h = h
+alone-said P of (Some (add archive doc)) h = h
+alone-said P of (Some (get archive i)) h = h
+alone-said P of (Some (history archive path)) h = h
+alone-said P of (Some (stats archive)) h = h
+alone-said P of (Some batch) h = of
+alone-said P of (Some (demo seed count archive)) h = h
+
 pub alone-counts : (c : Option PlainCommand) (told : Option Files) (before after : Numbers) → CountsAsSaid (alone c) told before after → CountsAsSaid c told before after
-alone-counts None told before after h = h
-alone-counts (Some (norm spec doc)) told before after h = h
-alone-counts (Some (init archive spec)) told before after h = h
-alone-counts (Some (add archive doc)) told before after h = h
-alone-counts (Some (get archive i)) told before after h = h
-alone-counts (Some (history archive path)) told before after h = h
-alone-counts (Some (stats archive)) told before after h = h
-alone-counts (Some batch) told before after h = tt
-alone-counts (Some (demo seed count archive)) told before after h = h
+alone-counts c told before after = alone-said (λ d. CountsAsSaid d told before after) tt c
 
 pub alone-once : (c : Option PlainCommand) (told : Option Files) (before after : Numbers) (failed : Type 0) → GoesOnce (alone c) told before after failed → GoesOnce c told before after failed
-alone-once None told before after failed h = tt
-alone-once (Some (norm spec doc)) told before after failed h = tt
-alone-once (Some (init archive spec)) told before after failed h = tt
-alone-once (Some (add archive doc)) told before after failed h = h
-alone-once (Some (get archive i)) told before after failed h = tt
-alone-once (Some (history archive path)) told before after failed h = tt
-alone-once (Some (stats archive)) told before after failed h = tt
-alone-once (Some batch) told before after failed h = tt
-alone-once (Some (demo seed count archive)) told before after failed h = tt
+alone-once c told before after failed = alone-said (λ d. GoesOnce d told before after failed) tt c
+
+pub alone-little : (c : Option PlainCommand) (told : Option Files) (before after : Numbers) → ReadsLittle (alone c) told before after → ReadsLittle c told before after
+alone-little c told before after = alone-said (λ d. ReadsLittle d told before after) tt c
 
 pub batch-once : (c : Option PlainCommand) (told : Option Files) (before after : Numbers) (failed : Type 0) → c ≡ Some batch → GoesOnce c told before after failed
 batch-once c told before after failed e = subst (λ (d : Option PlainCommand). GoesOnce d told before after failed) (sym e) tt
+
+pub batch-little : (c : Option PlainCommand) (told : Option Files) (before after : Numbers) → c ≡ Some batch → ReadsLittle c told before after
+batch-little c told before after e = subst (λ (d : Option PlainCommand). ReadsLittle d told before after) (sym e) tt
 
 -- what is no command by itself is none, or a batch
 pub none-alone : (c : Option PlainCommand) → alone c ≡ None → ¬ (c ≡ Some batch) → c ≡ None

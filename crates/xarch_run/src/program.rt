@@ -13,6 +13,7 @@ ghost use Rattle.xarch_parts.specs.Outcome.{Step};
 ghost use Rattle.xarch_steps.specs.OnePass.{GoesOnce};
 ghost use Rattle.xarch_steps.specs.Plausible.{Tried, Wrote};
 ghost use Rattle.xarch_steps.specs.Ran.{CountsAsSaid, OnlyReads, Said, Says, outside_of};
+ghost use Rattle.xarch_steps.specs.ReadsBack.{ReadsLittle};
 ghost use Rattle.xarch_steps.specs.Step.{StepIs};
 ghost use Rattle.xarch_steps.specs.Succeeds.{ShouldSucceed};
 ghost use Rattle.xarch_run.specs.Batch.{BatchEnds, IsAnswer, ReadsAsSaid, shown};
@@ -29,7 +30,8 @@ use xarch_words::{Command, read_words};
 /// The words are those after the program's name. A batch takes its commands from the lines of
 /// `input`, which no other command reads. Every fault writes one line to `err`; a failure of `err`
 /// changes no status. Input files are read directly before the first step that judges their bytes:
-/// whole, but the archive of `add`, which is read record by record.
+/// whole, but the archive of `add`, which is read record by record, and that of `history`, of which
+/// only what its search looks at is read.
 pub fn run<F: Folder, S: Source, O: Sink, E: Sink>(
     alloc: Global,
     words: &[String],
@@ -129,11 +131,14 @@ pub fn run<F: Folder, S: Source, O: Sink, E: Sink>(
     ensures draft_untold { F.draft folder.old ≡ None → F.draft folder.new ≡ None }
 
     // What is pulled and drafted: over a sound archive `add` goes once, and little of it is read
-    // that is not yet written. No count of faults falls.
+    // that is not yet written; and of one `history` pulls only what its search looks at. No count
+    // of faults falls.
     ensures counts { CountsAsSaid (command_of (words_view words.now)) (F.files folder.old)
         (F.numbers folder.old) (F.numbers folder.new) }
     ensures one_pass { GoesOnce (command_of (words_view words.now)) (F.files folder.old)
         (F.numbers folder.old) (F.numbers folder.new) (result ≡ 13) }
+    ensures little { ReadsLittle (command_of (words_view words.now)) (F.files folder.old)
+        (F.numbers folder.old) (F.numbers folder.new) }
     ensures folder_later { F.faults folder.old ≤ F.faults folder.new }
     ensures input_later { S.faults input.old ≤ S.faults input.new }
     ensures out_later { O.faults out.old ≤ O.faults out.new }

@@ -1,5 +1,5 @@
 -- How the parts of `add` lead to its end.
-use Rattle.std.proofs.Common.{◌≡◌, ◌≢◌, ◌⊎◌, inl, inr, ℕ, ◌<◌, ◌≤◌, nat_lt, true, List, [], ◌∷◌, ◌++◌, length, Option, Some, None, Result, Ok, Err, refl, sym, ap, ◌∙◌, subst, arith}
+use Rattle.std.proofs.Common.{◌≡◌, ◌≢◌, inl, inr, ℕ, ◌<◌, ◌≤◌, nat_lt, true, List, [], ◌∷◌, ◌++◌, length, Option, Some, None, Result, Ok, Err, refl, sym, ap, ◌∙◌, subst, arith}
 use Rattle.std.proofs.lemmas.Bool.{lt-ltb}
 use Rattle.std.specs.FinMap as map
 use Rattle.xa_outside.specs.Folder.{Files}
@@ -16,15 +16,15 @@ use Rattle.archive_file.specs.Sound.{SoundAs}
 use Rattle.xarch_words.specs.Commands.{add}
 use Rattle.xarch_words.specs.Refusal.{archive, document, versions, Refusal, no_file, damaged, limit, PlainFault, refused, folder_fault, out_fault, in_fault, memory}
 use Rattle.xarch_steps.specs.Add.{added, room_behind}
-use Rattle.xarch_steps.specs.Added.{AddEnds}
+use Rattle.xarch_steps.specs.Added.{AddEnds, TreeEnds, tree_of}
 use Rattle.xarch_parts.specs.Archives.{ArchiveIs, GoesOn, Stores}
-use Rattle.xarch_parts.specs.Inputs.{length_in, read_in}
+use Rattle.xarch_parts.specs.Inputs.{file_of, length_in}
 use Rattle.xarch_parts.specs.Outcome.{Outcome, and_then, or_refuse}
 use Rattle.xarch_parts.specs.Readings.{document_of, front_in, keyed_of}
 use Rattle.xarch_parts.specs.Allowed.{MayEnd}
-use Rattle.xarch_parts.specs.AllowedLaws.{MayEnd-did, MayEnd-stopped}
+use Rattle.xarch_parts.specs.AllowedLaws.{MayEnd-did, MayEnd-stopped, defined_refused}
 use Rattle.xa_outside.specs.TakenLaws.{Takes-nil}
-use Rattle.xarch_steps.specs.Plausible.{MayAdd, MayBe, add_input, add_read, keyed_behind}
+use Rattle.xarch_steps.specs.Plausible.{MayAdd, MayBe, add_input, add_read, text_behind, text_read, with_tree}
 
 -- ---- the rules of the archive and the keyed tree of the document
 
@@ -47,19 +47,23 @@ room-last h k (Ok u) = refl
 room-last h k (Err e) = refl
 
 -- the document behind a header, and room for it
-behind-room : (h : List PlainRule × ℕ) (y : Result PlainTree Refusal) (z : PlainTree → Result PlainKeyed Refusal)
-    → and_then (and_then y (λ t. and_then (z t) (λ k. Ok (h, k)))) with_room ≡ beside h (and_then y (λ t. and_then (z t) (λ k. and_then (room_behind h.1) (λ _. Ok k))))
-behind-room h (Err e) z = refl
-behind-room h (Ok t) z = of (z t)
-  where
-    of : (x : Result PlainKeyed Refusal) → and_then (and_then x (λ k. Ok (h, k))) with_room ≡ beside h (and_then x (λ k. and_then (room_behind h.1) (λ _. Ok k)))
-    of (Err e) = refl
-    of (Ok k) = room-last h k (room_behind h.1)
+tree-room : (h : List PlainRule × ℕ) (x : Result PlainKeyed Refusal) → and_then (and_then x (λ k. Ok (h, k))) with_room ≡ beside h (and_then x (λ k. and_then (room_behind h.1) (λ _. Ok k)))
+tree-room h (Err e) = refl
+tree-room h (Ok k) = room-last h k (room_behind h.1)
 
-length-room : (h : List PlainRule × ℕ) (x : Result ℕ Refusal) (y : Result ((List PlainRule × ℕ) × PlainKeyed) Refusal) (z : Result PlainKeyed Refusal) → and_then y with_room ≡ beside h z
-    → and_then (and_then x (λ _. y)) with_room ≡ beside h (and_then x (λ _. z))
-length-room h (Err e) y z same = refl
-length-room h (Ok n) y z same = same
+document-room : (h : List PlainRule × ℕ) (y : Result PlainTree Refusal)
+    → and_then (and_then (and_then y (keyed_of h.0)) (λ k. Ok (h, k))) with_room ≡ beside h (and_then y (λ t. and_then (keyed_of h.0 t) (λ k. and_then (room_behind h.1) (λ _. Ok k))))
+document-room h (Err e) = refl
+document-room h (Ok t) = tree-room h (keyed_of h.0 t)
+
+abbrev with_text : Result (List ℕ) Refusal → List PlainRule × ℕ → Result ((List PlainRule × ℕ) × List ℕ) Refusal
+with_text b h = and_then b (λ bytes. Ok (h, bytes))
+
+behind-room : (h : List PlainRule × ℕ) (x : Result ℕ Refusal) (b : Result (List ℕ) Refusal)
+    → and_then (and_then (and_then x (λ _. with_text b h)) with_tree) with_room ≡ beside h (and_then x (λ _. and_then (and_then b document_of) (λ t. and_then (keyed_of h.0 t) (λ k. and_then (room_behind h.1) (λ _. Ok k)))))
+behind-room h (Err e) b = refl
+behind-room h (Ok n) (Err e) = refl
+behind-room h (Ok n) (Ok bytes) = document-room h (document_of bytes)
 
 -- ---- what may come
 
@@ -71,12 +75,11 @@ module _ (fronted : (rules : List PlainRule) (vs : List PlainKeyed) (bytes : Lis
   input_sound rules vs a =
       let h : List PlainRule × ℕ = (rules, length vs) in
       let front : front_in name a.bytes ≡ Ok h = ap (λ o. or_refuse o (damaged name)) (fronted rules vs a.bytes a.sound.specification a.sound.file) in
-      ap (λ o. and_then (and_then (and_then (or_refuse o (no_file name)) (λ bytes. Ok (length bytes))) (λ _.
+      ap (λ o. and_then (and_then (and_then (and_then (or_refuse o (no_file name)) (λ bytes. Ok (length bytes))) (λ _.
       and_then (length_in files doc document 67108864) (λ _.
-      and_then (and_then (or_refuse o (no_file name)) (front_in name)) (keyed_behind files doc)))) with_room) a.there
-      ∙ ap (λ x. and_then (and_then (length_in files doc document 67108864) (λ _. and_then x (keyed_behind files doc))) with_room) front
-      ∙ length-room h (length_in files doc document 67108864) (keyed_behind files doc h) (and_then (read_in files doc document_of) (λ t. and_then (keyed_of rules t) (λ k. and_then (room_behind (length vs)) (λ _. Ok k))))
-      (behind-room h (read_in files doc document_of) (keyed_of rules))
+      and_then (and_then (or_refuse o (no_file name)) (front_in name)) (text_behind files doc)))) with_tree) with_room) a.there
+      ∙ ap (λ x. and_then (and_then (and_then (length_in files doc document 67108864) (λ _. and_then x (text_behind files doc))) with_tree) with_room) front
+      ∙ behind-room h (length_in files doc document 67108864) (file_of files doc)
 
   -- a refusal before the records are looked at
   may_refuse_input : (q : Refusal) → add_input files name doc ≡ Err q → MayBe files (add name doc) (Err q)
@@ -88,8 +91,11 @@ module _ (fronted : (rules : List PlainRule) (vs : List PlainKeyed) (bytes : Lis
         subst (λ x. GoesOn x (λ k. Stores files name rules (vs ++ k ∷ [])) (Err q)) (sym none) refl;
   }
 
-  pub may_refuse_early : (q : Refusal) → add_read files name doc ≡ Err q → MayBe files (add name doc) (Err q)
+  may_refuse_early : (q : Refusal) → add_read files name doc ≡ Err q → MayBe files (add name doc) (Err q)
   may_refuse_early q e = may_refuse_input q (ap (λ x. and_then x with_room) e)
+
+  pub may_refuse_text : (q : Refusal) → text_read files name doc ≡ Err q → MayBe files (add name doc) (Err q)
+  may_refuse_text q e = may_refuse_early q (ap (λ x. and_then x with_tree) e)
 
   module _ (h : PlainHeader) (k : PlainKeyed) (read : add_read files name doc ≡ Ok ((h.rules, h.versions), k)) where
     -- there is no room
@@ -138,7 +144,7 @@ module _ (fronted : (rules : List PlainRule) (vs : List PlainKeyed) (bytes : Lis
     below few not = omega (arith, few, not)
 
     -- with what the merge ends, the command may end
-    pub may-merged : (after : Option Files) (t : Taken) (ended : Option PlainFault) → h.versions ≤ 999999 → AddEnds files name h k after ended → MayEnd (MayBe files (add name doc)) ended after t t
+    may-merged : (after : Option Files) (t : Taken) (ended : Option PlainFault) → h.versions ≤ 999999 → AddEnds files name h k after ended → MayEnd (MayBe files (add name doc)) ended after t t
     may-merged after t None few ends =
         let r = ends.1 in
         MayEnd-did (MayBe files (add name doc)) (record { files = map.insert files name r.bytes; output = [] }) after t t (may_replace (below few ends.0) r.bytes r.sound) r.tells (Takes-nil t)
@@ -152,3 +158,13 @@ module _ (fronted : (rules : List PlainRule) (vs : List PlainKeyed) (bytes : Lis
     may-merged after t (Some out_fault) few ends = MayEnd-stopped (MayBe files (add name doc)) out_fault after t (λ q e. absurd cc)
     may-merged after t (Some in_fault) few ends = MayEnd-stopped (MayBe files (add name doc)) in_fault after t (λ q e. absurd cc)
     may-merged after t (Some memory) few ends = MayEnd-stopped (MayBe files (add name doc)) memory after t (λ q e. absurd cc)
+
+  -- with what the document and its merge end, the command may end
+  pub may-ended : (h : PlainHeader) (text : List ℕ) → text_read files name doc ≡ Ok ((h.rules, h.versions), text) → (after : Option Files) (t : Taken) (ended : Option PlainFault) → h.versions ≤ 999999
+      → TreeEnds files name h (tree_of h.rules text) after ended → MayEnd (MayBe files (add name doc)) ended after t t
+  may-ended h text read after t ended few = by-tree (tree_of h.rules text) ended (ap (λ x. and_then x with_tree) read)
+    where
+      by-tree : (x : Result PlainKeyed Refusal) (ended : Option PlainFault) → add_read files name doc ≡ beside (h.rules, h.versions) x → TreeEnds files name h x after ended → MayEnd (MayBe files (add name doc)) ended after t t
+      by-tree (Ok k) ended is ends = may-merged h k is after t ended few ends
+      by-tree (Err q) None is ends = absurd ends
+      by-tree (Err q) (Some f) is ends = MayEnd-stopped (MayBe files (add name doc)) f after t (λ p e. may_refuse_early p (is ∙ ap (beside (h.rules, h.versions)) (defined_refused {A = PlainKeyed} (Err q) f p ends e)))

@@ -2,6 +2,7 @@ pub mod AddEnds
 pub mod MergeEnds
 pub mod OnePassEnds
 pub mod DemoEnds
+pub mod FrontLaws
 pub mod GetEnds
 pub mod HistoryEnds
 pub mod InitEnds

@@ -2,7 +2,6 @@
 use Rattle.std.proofs.Common.{◌≡◌, ℕ, ◌+◌, ◌-◌, ◌≤◌, ◌<◌, ◌^◌, List, [], ◌∷◌, ◌++◌, length, drop, Option, Some, None, Result, Ok, Err, IfOk, sym, ap, ◌∙◌, subst, arith, length-drop}
 use Rattle.std.specs.Prelude.{max}
 use Rattle.std.specs.List.{flat_map, fold}
-use Rattle.std.specs.FinMap as map
 use Rattle.std.proofs.lemmas.List.{length-append}
 use Rattle.key_spec.specs.Canonical.{canonical}
 use Rattle.key_spec.specs.Closed.{closed}

@@ -17,7 +17,7 @@ use Rattle.xarch_steps.specs.Demo.{MakesOrNone, demo_input, samples}
 use Rattle.xarch_steps.specs.Init.{init_rules}
 use Rattle.xarch_parts.specs.Inputs.{file_of}
 use Rattle.xarch_parts.specs.Outcome.{Outcome, Step, and_then, or_refuse, step_from}
-use Rattle.xarch_steps.specs.Plausible.{MayAdd, MayWrite, MayBe, MayDo, Plausible, add_input}
+use Rattle.xarch_steps.specs.Plausible.{MayAdd, MayWrite, MayBe, MayDo, Plausible, add_input, history_input}
 use Rattle.xarch_steps.specs.Stats.{CountsFrom, counts_text}
 use Rattle.xarch_steps.specs.Step.{OutcomeIs, DoesOrRefuses, Defines, StepIs, single_of}
 
@@ -41,6 +41,9 @@ module _ (one_archive : (vs : List PlainKeyed) (a b : PlainArchive) → ArchiveO
 
   add_absent : (files : Files) (name doc : List ℕ) → map.get files name ≡ None → add_input files name doc ≡ Err (no_file name)
   add_absent files name doc e = rw e refl
+
+  history_absent : (files : Files) (name path : List ℕ) → map.get files name ≡ None → history_input files name path ≡ Err (no_file name)
+  history_absent files name path e = rw e refl
 
   file_absent : (files : Files) (name : List ℕ) → map.get files name ≡ None → file_of files name ≡ Err (no_file name)
   file_absent files name e = ap (λ o. or_refuse o (no_file name)) e
@@ -72,7 +75,7 @@ module _ (one_archive : (vs : List PlainKeyed) (a b : PlainArchive) → ArchiveO
       one_way (added files doc p.rules (length p.versions)) (λ k. Stores files name p.rules (p.versions ++ k ∷ [])) (λ k. one_stored files name p.rules (p.versions ++ k ∷ [])) r s p.rest (q.sound p.rules p.versions p.archive)
   one files (get name i) r s (inl p) q = subst (λ x. GoesOn x (λ _. MayWrite files name) s) (absent files name _ p.absent) q.whatever ∙ sym p.is
   one files (get name i) r s (inr p) q = q.sound p.rules p.versions p.archive ∙ sym p.rest
-  one files (history name path) r s (inl p) q = subst (λ x. GoesOn x (λ _. MayWrite files name) s) (absent files name _ p.absent) q.whatever ∙ sym p.is
+  one files (history name path) r s (inl p) q = subst (λ x. GoesOn x (λ _. MayWrite files name) s) (history_absent files name path p.absent) q.whatever ∙ sym p.is
   one files (history name path) r s (inr p) q = q.sound p.rules p.versions p.archive ∙ sym p.rest
   one files (stats name) r s (inl p) q = subst (λ x. GoesOn x (λ _. MayWrite files name) s) (file_absent files name p.absent) q.whatever ∙ sym p.is
   one files (stats name) r s (inr p) q = one_counted files p.rules p.versions r s p.rest (q.sound p.rules p.versions p.archive)

@@ -19,6 +19,7 @@ use Rattle.xarch_parts.specs.Outcome.{Outcome, Step, output_of, step_from}
 use Rattle.xarch_parts.specs.Ends.{fault_of, EndsGained, Gained, IsOfCommand, HasItsCause}
 use Rattle.xarch_parts.specs.Folders.{Counts}
 use Rattle.xarch_steps.specs.OnePass.{GoesOnce}
+use Rattle.xarch_steps.specs.ReadsBack.{ReadsLittle}
 use Rattle.xarch_steps.specs.Ran.{CountsAsSaid, IsLongDemo, OnlyReads, made_name, status_after, line_after, outside_of, Says}
 use Rattle.xarch_parts.specs.Allowed.{MayEnd, PutSome}
 use Rattle.xarch_steps.specs.Plausible.{MayBe, MayDo, Plausible, Tried, Wrote}
@@ -275,6 +276,9 @@ counts_as_said words command told before after some h = subst (λ (o : Option Pl
 pub goes_once : (words : List (List ℕ)) (o : Option PlainCommand) (told : Option Files) (before after : Numbers) (failed : Type 0)
     → single_of words ≡ o → GoesOnce o told before after failed → GoesOnce (single_of words) told before after failed
 goes_once words o told before after failed is h = subst (λ (c : Option PlainCommand). GoesOnce c told before after failed) (sym is) h
+
+pub reads_little : (words : List (List ℕ)) (o : Option PlainCommand) (told : Option Files) (before after : Numbers) → single_of words ≡ o → ReadsLittle o told before after → ReadsLittle (single_of words) told before after
+reads_little words o told before after is h = subst (λ (c : Option PlainCommand). ReadsLittle c told before after) (sym is) h
 
 -- a status says that it failed, where the fault does
 pub once_by : (o : Option PlainCommand) (told : Option Files) (before after : Numbers) (P Q : Type 0) → (P → Q) → GoesOnce o told before after P → GoesOnce o told before after Q

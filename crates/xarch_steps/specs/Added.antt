@@ -1,12 +1,10 @@
 -- What comes of a document that goes into an archive.
-use Rattle.std.specs.Prelude.{◌≡◌, ◌≢◌, ◌⊎◌, ℕ, ◌+◌, ◌-◌, ◌≤◌, max, List, [], ◌∷◌, ◌++◌, length, Option, Some, None, ⊤}
+use Rattle.std.specs.Prelude.{◌≡◌, ◌≢◌, ◌⊎◌, ℕ, ◌+◌, ◌-◌, ◌≤◌, max, List, [], ◌∷◌, ◌++◌, length, Option, Some, None, Result, Ok, Err, ⊤}
 use Rattle.std.specs.FinMap as map
 use Rattle.xa_outside.specs.Folder.{Files}
 use Rattle.xa_outside.specs.Numbers.{Numbers}
 use Rattle.key_spec.specs.Data.{PlainRule}
 use Rattle.keyed_tree.specs.Data.{PlainKeyed}
-use Rattle.keyed_tree.specs.View.{keyed_view}
-use Rattle.keyed_tree.specs.declared.keyed.Keyed.{Keyed}
 use Rattle.archive_tree.specs.Data.{PlainArchive}
 use Rattle.archive_tree.specs.Stands.{ArchiveOf}
 use Rattle.archive_file.specs.Sound.{SoundAs}
@@ -17,11 +15,17 @@ use Rattle.stream_merge.specs.declared.fault.AddFault.{AddFault}
 use Rattle.stream_merge.specs.declared.fault.AddFault.TheVariants.{Damage, Folder, Limit, TooLong, Memory}
 use Rattle.xarch_words.specs.Refusal.{archive, versions, Refusal, damaged, limit, PlainFault, refused, folder_fault, memory}
 use Rattle.xarch_parts.specs.Archives.{ArchiveIs}
-use Rattle.xarch_parts.specs.Ends.{TellsOnly}
+use Rattle.xarch_parts.specs.Ends.{IsDefined, TellsOnly}
+use Rattle.xarch_parts.specs.Outcome.{and_then}
+use Rattle.xarch_parts.specs.Readings.{document_of, keyed_of}
 
--- the rules and the number of versions that a header gives, and a keyed tree
-abbrev pub added_view : Header → Keyed → (List PlainRule × ℕ) × PlainKeyed
-added_view h k = (((header_view h).rules, (header_view h).versions), keyed_view k)
+-- the rules and the number of versions that a header gives, and the bytes of a document
+abbrev pub read_view : Header → List ℕ → (List PlainRule × ℕ) × List ℕ
+read_view h bytes = (((header_view h).rules, (header_view h).versions), bytes)
+
+-- the keyed tree of the document that some bytes spell, where it satisfies the keys
+abbrev pub tree_of : List PlainRule → List ℕ → Result PlainKeyed Refusal
+tree_of rules bytes = and_then (document_of bytes) (keyed_of rules)
 
 -- the fault of a merge, as it is told of the archive of this name
 abbrev pub IsToldAs : List ℕ → AddFault → PlainFault → Type 0
@@ -49,8 +53,14 @@ AddEnds files name h new after None = (h.versions ≢ 999999) × Replaces files 
 AddEnds files name h new after (Some (refused q)) = ((h.versions ≡ 999999) × (q ≡ limit versions 999999)) ⊎ ((h.versions ≢ 999999) × IsUnmerged files name new q)
 AddEnds files name h new after (Some other) = ⊤
 
+-- With what the merge of a new version ends that may be refused itself.
+abbrev pub TreeEnds : Files → List ℕ → PlainHeader → Result PlainKeyed Refusal → Option Files → Option PlainFault → Type 0
+TreeEnds files name h (Ok new) after ended = AddEnds files name h new after ended
+TreeEnds files name h (Err q) after None = ⊥
+TreeEnds files name h (Err q) after (Some fault) = IsDefined {A = PlainKeyed} (Err q) fault
+
 -- It ends so, and over a sound archive what was read is little ahead of what was written.
-pub record Merges (files : Files) (name : List ℕ) (h : PlainHeader) (new : PlainKeyed) (after : Option Files) (x y : Numbers) (ended : Option PlainFault) : Type 0 where
-  pub ends : AddEnds files name h new after ended
+pub record Merges (files : Files) (name : List ℕ) (h : PlainHeader) (new : Result PlainKeyed Refusal) (after : Option Files) (x y : Numbers) (ended : Option PlainFault) : Type 0 where
+  pub ends : TreeEnds files name h new after ended
   pub gap : (rules : List PlainRule) (vs : List PlainKeyed) (a : PlainArchive) → ArchiveIs files name rules vs → ArchiveOf vs a
       → y.gap ≤ max x.gap (x.since - x.drafted - length (header_bytes rules a.n) + largest rules a)

@@ -3,6 +3,8 @@ pub mod Init
 pub mod Add
 pub mod Added
 pub mod OnePass
+pub mod ReadsBack
+pub mod Searched
 pub mod Get
 pub mod History
 pub mod Stats

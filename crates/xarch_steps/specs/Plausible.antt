@@ -5,10 +5,11 @@ use Rattle.xa_outside.specs.Folder.{Files}
 use Rattle.xa_outside.specs.Taken.{Taken, TakesNone, TakesPrefix}
 use Rattle.key_spec.specs.Data.{PlainRule}
 use Rattle.keyed_tree.specs.Data.{PlainLabel, PlainKeyed}
-use Rattle.record_format.specs.Fronts.{fixed, header}
+use Rattle.record_format.specs.Fronts.{fixed}
 use Rattle.xarch_words.specs.Commands.{PlainCommand, norm, init, add, get, history, stats, batch, demo}
 use Rattle.xarch_words.specs.Refusal.{archive, document, Refusal, usage, damaged, no_version, limit}
 use Rattle.xarch_steps.specs.Add.{AddsTo, room_behind}
+use Rattle.xarch_steps.specs.Added.{tree_of}
 use Rattle.xarch_parts.specs.Archives.{ArchiveIs, GoesOn}
 use Rattle.xarch_steps.specs.Demo.{DemoIs}
 use Rattle.xarch_steps.specs.Get.{GetsFrom}
@@ -18,27 +19,34 @@ use Rattle.xarch_parts.specs.Inputs.{file_length, file_of, length_in, read_in}
 use Rattle.xarch_steps.specs.Norm.{norm_of}
 use Rattle.xarch_parts.specs.Outcome.{Outcome, Step, and_then, or_refuse, step_from}
 use Rattle.xarch_steps.specs.Ran.{Ran}
-use Rattle.xarch_parts.specs.Readings.{document_of, front_in, keyed_of}
+use Rattle.xarch_parts.specs.Readings.{front_in}
 use Rattle.xarch_steps.specs.Stats.{CountsFrom}
 use Rattle.xarch_steps.specs.Step.{StepIs, single_of}
 
 -- ---- what is decided before the records of an archive are looked at
 
--- behind a header the keyed tree of the document, which is one and satisfies the keys
-abbrev pub keyed_behind : Files → List ℕ → List PlainRule × ℕ → Result ((List PlainRule × ℕ) × PlainKeyed) Refusal
-keyed_behind files doc h =
-    and_then (read_in files doc document_of) (λ t.
-    and_then (keyed_of h.0 t) (λ k.
-    Ok (h, k)))
+-- behind a header the bytes of the document
+abbrev pub text_behind : Files → List ℕ → List PlainRule × ℕ → Result ((List PlainRule × ℕ) × List ℕ) Refusal
+text_behind files doc h =
+    and_then (file_of files doc) (λ bytes.
+    Ok (h, bytes))
 
--- The rules and the number of versions of the archive and the keyed tree of the document, or the first refusal: the archive is
--- there, the document is there and not too long, a header stands in front of the archive, the document is one and satisfies the
--- keys.
-abbrev pub add_read : Files → List ℕ → List ℕ → Result ((List PlainRule × ℕ) × PlainKeyed) Refusal
-add_read files name doc =
+-- The rules and the number of versions of the archive and the bytes of the document, or the first refusal: the archive is there, the document
+-- is there and not too long, a header stands in front of the archive.
+abbrev pub text_read : Files → List ℕ → List ℕ → Result ((List PlainRule × ℕ) × List ℕ) Refusal
+text_read files name doc =
     and_then (file_length files name) (λ _.
     and_then (length_in files doc document 67108864) (λ _.
-    and_then (read_in files name (front_in name)) (keyed_behind files doc)))
+    and_then (read_in files name (front_in name)) (text_behind files doc)))
+
+-- And in place of the bytes the keyed tree of the document, which is one and satisfies the keys.
+abbrev pub with_tree : (List PlainRule × ℕ) × List ℕ → Result ((List PlainRule × ℕ) × PlainKeyed) Refusal
+with_tree p =
+    and_then (tree_of p.0.0 p.1) (λ k.
+    Ok (p.0, k))
+
+abbrev pub add_read : Files → List ℕ → List ℕ → Result ((List PlainRule × ℕ) × PlainKeyed) Refusal
+add_read files name doc = and_then (text_read files name doc) with_tree
 
 -- And there is room for a version more.
 abbrev pub add_input : Files → List ℕ → List ℕ → Result ((List PlainRule × ℕ) × PlainKeyed) Refusal
@@ -60,14 +68,13 @@ get_input files name i =
     and_then (is_version n i) (λ _.
     Ok bytes)))
 
--- The bytes of the archive and the labels of the path, or the first refusal: the archive is there, a header stands in front
--- of it, and the path spells labels under its rules.
-abbrev pub history_input : Files → List ℕ → List ℕ → Result (List ℕ × List PlainLabel) Refusal
+-- The rules and the number of versions of the archive and the labels of the path, or the first refusal: the archive is
+-- there, a header stands in front of it, and the path spells labels under its rules.
+abbrev pub history_input : Files → List ℕ → List ℕ → Result ((List PlainRule × ℕ) × List PlainLabel) Refusal
 history_input files name path =
-    and_then (file_of files name) (λ bytes.
-    and_then (or_refuse (header bytes) (damaged name)) (λ h.
+    and_then (read_in files name (front_in name)) (λ h.
     and_then (labels_of h.0 path) (λ ls.
-    Ok (bytes, ls))))
+    Ok (h, ls)))
 
 -- ---- what may come then
 

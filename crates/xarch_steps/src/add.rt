@@ -1,39 +1,32 @@
 #![tactic(auto, using(xarch_parts::specs::EndLaws::endings), unfolding(xarch_parts::specs::Ends::IsInside, xarch_parts::specs::Ends::IsDefined))]
 
-ghost use Rattle.std.specs.Prelude.{◌≡◌, ◌-◌, ◌+◌, ◌<◌, ◌≤◌, ◌^◌, ℕ, List, Some, Ok, IfOk, IfErr, length};
+ghost use Rattle.std.specs.Prelude.{◌≡◌, ◌-◌, ◌+◌, ◌<◌, ◌≤◌, ℕ, List, Some, Ok, IfOk, length};
 ghost use Rattle.xa_outside.specs.Folder.{Files};
 ghost use Rattle.xa_outside.specs.Numbers.{PullsAtMost};
 ghost use Rattle.xa_outside.specs.Taken.{Taken};
-ghost use Rattle.jsonml_tree.specs.Data.{tree_depth};
-ghost use Rattle.jsonml_tree.specs.Fits.{IsElement, ItemsFit};
-ghost use Rattle.jsonml_tree.specs.LentView.{lent_tree_view};
-ghost use Rattle.jsonml_tree.specs.WellFormed.{IsWellFormed};
+ghost use Rattle.jsonml_text.specs.Texts.{AreTexts};
 ghost use Rattle.key_annotate.specs.LentView.{lent_view};
 ghost use Rattle.key_spec.specs.Data.{PlainRule};
-ghost use Rattle.key_spec.specs.View.{spec_view};
 ghost use Rattle.keyed_tree.specs.Data.{PlainKeyed};
-ghost use Rattle.keyed_tree.specs.View.{keyed_view};
+ghost use Rattle.keyed_tree.specs.Plain.{plain};
 ghost use Rattle.archive_file.specs.KeyedBy.{IsKeyedBy};
 ghost use Rattle.record_cursor.specs.View.{header_view, IsHeader};
 ghost use Rattle.xarch_words.specs.Commands.{add};
-ghost use Rattle.xarch_words.specs.Refusal.{folder_fault, memory};
+ghost use Rattle.xarch_words.specs.Refusal.{folder_fault};
 ghost use Rattle.xarch_words.specs.View.{fault_view};
-ghost use Rattle.xarch_steps.specs.Added.{IsToldAs, Merges, added_view};
+ghost use Rattle.xarch_steps.specs.Added.{IsToldAs, Merges, read_view, tree_of};
 ghost use Rattle.xarch_steps.specs.OnePass.{GoesOnce, document_size, front_size};
 ghost use Rattle.xarch_parts.specs.Archives.{ArchiveIs, IsBlank, IsFrontOf};
-ghost use Rattle.xarch_parts.specs.Ends.{IsCaused, IsInside, Matches, fault_of};
+ghost use Rattle.xarch_parts.specs.Ends.{IsCaused, Matches, fault_of};
 ghost use Rattle.xarch_parts.specs.Folders.{CountsInTurn, Keeps, ReadsOnly, Streams};
 ghost use Rattle.xarch_parts.specs.Inputs.{file_length, read_in, size_in};
 ghost use Rattle.xarch_parts.specs.Outcome.{and_then};
 ghost use Rattle.xarch_parts.specs.Allowed.{MayEnd};
-ghost use Rattle.xarch_steps.specs.Plausible.{MayBe, add_read, keyed_behind};
-ghost use Rattle.xarch_parts.specs.Readings.{document_of, front_in, keyed_of};
+ghost use Rattle.xarch_steps.specs.Plausible.{MayBe, text_behind, text_read};
+ghost use Rattle.xarch_parts.specs.Readings.{front_in};
 
 use crate::limits;
-use jsonml_tree::LentTree;
 use key_annotate::LentKeyed;
-use key_spec::Spec;
-use keyed_tree::Keyed;
 use record_cursor::{Cursor, Header, files_give_their_items};
 use record_format::versions_have_one_file;
 use std::alloc::Global;
@@ -66,22 +59,22 @@ pub(crate) fn run_add<F: Folder>(
     versions_have_one_file();
     files_give_their_items();
     begin(folder)?;
-    let (header, keyed) = read_added(alloc, archive, doc, folder)?;
-    merge(alloc, archive, &header, &keyed, folder)
+    let (header, text) = read_added(alloc, archive, doc, folder)?;
+    add_text(alloc, archive, &header, &text, folder)
 }
 
-// The header of the archive, and the keyed tree of the document under its rules.
+// The header of the archive, and the bytes of the document.
 fn read_added<F: Folder>(
     alloc: Global,
     archive: &str,
     doc: &str,
     folder: &mut F,
-) -> Result<(Header, Keyed), Fault>
+) -> Result<(Header, Vec<u8>), Fault>
     ensures reads { ReadsOnly F.files F.draft F.numbers F.faults
         (size_in (F.files folder.old) archive.now + 67108864)
         folder.old folder.new (fault_of result) }
     ensures told { (files : Files) → F.files folder.old ≡ Some files
-        → Matches (λ r. added_view r.0 r.1) (add_read files archive.now doc.now) result }
+        → Matches (λ r. read_view r.0 r.1.items) (text_read files archive.now doc.now) result }
     ensures front { (files : Files) → F.files folder.old ≡ Some files
         → IfOk result (λ r. IsFrontOf files archive.now (header_view r.0)) }
     ensures few { (files : Files) (rules : List PlainRule) (vs : List PlainKeyed)
@@ -92,31 +85,31 @@ fn read_added<F: Folder>(
         ((header_view r.0).length ≤ size_in (F.files folder.old) archive.now)
         × PullsAtMost ((header_view r.0).first + 67108864)
         (F.numbers folder.old) (F.numbers folder.new)) }
-    ensures known { IfOk result (λ r. IsHeader (header_view r.0)
-        × IsKeyedBy (header_view r.0).rules (keyed_view r.1)) }
+    ensures known { IfOk result
+        (λ r. IsHeader (header_view r.0) × (length r.1.items ≤ 67108864)) }
 {
     let size = length_of(alloc, folder, archive)?;
     let doc_size = limited_length(alloc, folder, doc, Quantity::Document, limits::DOCUMENT)?;
-    read_keyed(alloc, archive, size, doc, doc_size, folder)
+    read_text(alloc, archive, size, doc, doc_size, folder)
 }
 
-// The header of the archive in a file of this size, and the keyed tree of the document in another.
-fn read_keyed<F: Folder>(
+// The header of the archive in a file of this size, and the bytes of the document in another.
+fn read_text<F: Folder>(
     alloc: Global,
     archive: &str,
     size: u64,
     doc: &str,
     doc_size: u64,
     folder: &mut F,
-) -> Result<(Header, Keyed), Fault>
+) -> Result<(Header, Vec<u8>), Fault>
     requires { doc_size ≤ 67108864 }
     ensures reads { ReadsOnly F.files F.draft F.numbers F.faults (size + 67108864)
         folder.old folder.new (fault_of result) }
     ensures told { (files : Files) → F.files folder.old ≡ Some files
         → file_length files archive.now ≡ Ok size → file_length files doc.now ≡ Ok doc_size
-        → Matches (λ r. added_view r.0 r.1)
+        → Matches (λ r. read_view r.0 r.1.items)
         (and_then (read_in files archive.now (front_in archive.now))
-        (keyed_behind files doc.now)) result }
+        (text_behind files doc.now)) result }
     ensures front { (files : Files) → F.files folder.old ≡ Some files
         → file_length files archive.now ≡ Ok size
         → IfOk result (λ r. IsFrontOf files archive.now (header_view r.0)) }
@@ -127,85 +120,26 @@ fn read_keyed<F: Folder>(
     ensures once { IfOk result (λ r. ((header_view r.0).length ≡ size)
         × PullsAtMost ((header_view r.0).first + doc_size)
         (F.numbers folder.old) (F.numbers folder.new)) }
-    ensures known { IfOk result (λ r. IsHeader (header_view r.0)
-        × IsKeyedBy (header_view r.0).rules (keyed_view r.1)) }
+    ensures known { IfOk result
+        (λ r. IsHeader (header_view r.0) × (length r.1.items ≤ 67108864)) }
 {
     let header = read_front(alloc, folder, archive, size)?;
-    let keyed = keyed_in(alloc, &header.spec, doc, doc_size, folder)?;
-    Ok((header, keyed))
+    let text = read_whole(alloc, folder, doc, doc_size)?;
+    Ok((header, text))
 }
 
-// The keyed tree of the document in a file of this length.
-fn keyed_in<F: Folder>(
-    alloc: Global,
-    spec: &Spec,
-    doc: &str,
-    length: u64,
-    folder: &mut F,
-) -> Result<Keyed, Fault>
-    requires { length ≤ 67108864 }
-    ensures reads { ReadsOnly F.files F.draft F.numbers F.faults length folder.old folder.new
-        (fault_of result) }
-    ensures told { (files : Files) → F.files folder.old ≡ Some files
-        → file_length files doc.now ≡ Ok length
-        → Matches keyed_view
-        (and_then (read_in files doc.now document_of) (keyed_of (spec_view spec.now))) result }
-    ensures keyed { IfOk result (λ k. IsKeyedBy (spec_view spec.now) (keyed_view k)) }
-{
-    let text = read_whole(alloc, folder, doc, length)?;
-    added_from(alloc, spec, &text)
-}
-
-// The keyed tree of the document that some bytes spell, where it satisfies the keys.
+// Adds the document that some bytes spell to the archive of this name, which has this header.
 //
-// The tree owns its texts: the document is let go here, before the archive is merged.
-fn added_from(alloc: Global, spec: &Spec, text: &[u8]) -> Result<Keyed, Fault>
-    requires { length text.now ≤ 67108864 }
-    ensures cause { IsInside (fault_of result) }
-    ensures told { Matches keyed_view
-        (and_then (document_of text.now) (keyed_of (spec_view spec.now))) result }
-    ensures keyed { IfOk result (λ k. IsKeyedBy (spec_view spec.now) (keyed_view k)) }
-{
-    let doc = doc_from(alloc, text)?;
-    owned_from(alloc, spec, &doc)
-}
-
-// The keyed tree of a document that satisfies the keys, with texts of its own.
-fn owned_from(alloc: Global, spec: &Spec, doc: &LentTree<'_>) -> Result<Keyed, Fault>
-    requires element { IsElement (lent_tree_view doc.now) }
-    requires items_fit { ItemsFit (lent_tree_view doc.now) }
-    requires well_formed { IsWellFormed (lent_tree_view doc.now) }
-    requires shallow { tree_depth (lent_tree_view doc.now) ≤ 120 }
-    ensures cause { IsInside (fault_of result) }
-    ensures told { Matches keyed_view
-        (keyed_of (spec_view spec.now) (lent_tree_view doc.now)) result }
-    ensures keyed { IfOk result (λ k. IsKeyedBy (spec_view spec.now) (keyed_view k)) }
-{
-    let keyed = keyed_from(alloc, spec, doc)?;
-    owned(alloc, &keyed)
-}
-
-// The keyed tree with texts of its own.
-fn owned(alloc: Global, keyed: &LentKeyed<'_, '_>) -> Result<Keyed, Fault>
-    ensures same { IfOk result (λ k. keyed_view k ≡ lent_view keyed.now) }
-    ensures memory { IfErr result (λ f. fault_view f ≡ memory) }
-{
-    match keyed.own(alloc) {
-        Ok(keyed) => Ok(keyed),
-        Err(_) => Err(Fault::Memory),
-    }
-}
-
-// Adds the keyed tree to the archive of this name, which has this header.
-fn merge<F: Folder>(
+// The bytes lend the document its texts, and the document lends them to its keyed tree.
+fn add_text<F: Folder>(
     alloc: Global,
     archive: &str,
     header: &Header,
-    new: &Keyed,
+    text: &[u8],
     folder: &mut F,
 ) -> Result<(), Fault>
     requires header { IsHeader (header_view header.now) }
-    requires keyed { IsKeyedBy (header_view header.now).rules (keyed_view new.now) }
+    requires short { length text.now ≤ 67108864 }
     requires blank { IsBlank (F.draft folder.old) }
     ensures streams { Streams F.files F.draft F.numbers
         ((header_view header.now).length - (header_view header.now).first)
@@ -214,7 +148,35 @@ fn merge<F: Folder>(
         → IsCaused (F.faults folder.old) (F.faults folder.new) out out (fault_of result) }
     ensures merges { (files : Files) → F.files folder.old ≡ Some files
         → IsFrontOf files archive.now (header_view header.now)
-        → Merges files archive.now (header_view header.now) (keyed_view new.now)
+        → Merges files archive.now (header_view header.now)
+        (tree_of (header_view header.now).rules text.now)
+        (F.files folder.new) (F.numbers folder.old) (F.numbers folder.new) (fault_of result) }
+{
+    let doc = doc_from(alloc, text)?;
+    let keyed = keyed_from(alloc, &header.spec, &doc)?;
+    merge(alloc, archive, header, &keyed, folder)
+}
+
+// Adds the keyed tree to the archive of this name, which has this header.
+fn merge<F: Folder>(
+    alloc: Global,
+    archive: &str,
+    header: &Header,
+    new: &LentKeyed<'_, '_>,
+    folder: &mut F,
+) -> Result<(), Fault>
+    requires header { IsHeader (header_view header.now) }
+    requires keyed { IsKeyedBy (header_view header.now).rules (lent_view new.now) }
+    requires texts { AreTexts (plain (lent_view new.now)) }
+    requires blank { IsBlank (F.draft folder.old) }
+    ensures streams { Streams F.files F.draft F.numbers
+        ((header_view header.now).length - (header_view header.now).first)
+        folder.old folder.new (fault_of result) }
+    ensures caused { (out : ℕ)
+        → IsCaused (F.faults folder.old) (F.faults folder.new) out out (fault_of result) }
+    ensures merges { (files : Files) → F.files folder.old ≡ Some files
+        → IsFrontOf files archive.now (header_view header.now)
+        → Merges files archive.now (header_view header.now) (Ok (lent_view new.now))
         (F.files folder.new) (F.numbers folder.old) (F.numbers folder.new) (fault_of result) }
 {
     match Cursor::start(alloc, archive, header) {

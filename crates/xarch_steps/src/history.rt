@@ -1,34 +1,47 @@
 #![tactic(auto, using(xarch_parts::specs::EndLaws::endings), unfolding(xarch_parts::specs::Ends::IsInside, xarch_parts::specs::Ends::IsDefined, crate::specs::History::labels_of))]
 
-ghost use Rattle.std.specs.Prelude.{◌≡◌, List, Some, None, IfOk, IfErr, map, string_bytes};
+ghost use Rattle.std.specs.Prelude.{◌≡◌, ◌<◌, ◌≤◌, ◌+◌, ◌-◌, List, Some, IfOk, IfErr, map, string_bytes};
 ghost use Rattle.version_set.specs.Members.{members};
 ghost use Rattle.version_set.specs.View.{pairs_of};
 ghost use Rattle.xa_outside.specs.Folder.{Files};
+ghost use Rattle.xa_outside.specs.Numbers.{PullsAtMost};
 ghost use Rattle.key_spec.specs.Data.{PlainRule};
 ghost use Rattle.key_spec.specs.View.{spec_view};
 ghost use Rattle.keyed_tree.specs.Data.{PlainKeyed};
 ghost use Rattle.keyed_tree.specs.View.{label_view};
+ghost use Rattle.archive_tree.specs.Data.{PlainArchive};
 ghost use Rattle.archive_tree.specs.History.{hist};
-ghost use Rattle.archive_file.specs.Sound.{SoundAs};
+ghost use Rattle.archive_tree.specs.Stands.{ArchiveOf};
+ghost use Rattle.record_cursor.specs.View.{header_view, IsHeader};
+ghost use Rattle.record_format.specs.Probed.{probed};
 ghost use Rattle.xarch_words.specs.Commands.{history};
 ghost use Rattle.xarch_words.specs.Refusal as refusal;
 ghost use Rattle.xarch_words.specs.View.{fault_view};
-ghost use Rattle.xarch_parts.specs.Archives.{IsRefusal, NoRefusal};
+ghost use Rattle.xarch_parts.specs.Archives.{ArchiveIs, IsFrontOf, IsRefusal, NoRefusal};
 ghost use Rattle.xarch_parts.specs.Ends.{EndsGained, IsCaused, IsInside, Matches, fault_of};
 ghost use Rattle.xarch_parts.specs.Folders.{Counts, Keeps, ReadsOnly};
-ghost use Rattle.xarch_steps.specs.History.{labels_of, numbers_text};
 ghost use Rattle.xarch_parts.specs.Inputs.{size_in};
 ghost use Rattle.xarch_parts.specs.Allowed.{MayEnd};
+ghost use Rattle.xarch_steps.specs.History.{labels_of, numbers_text};
+ghost use Rattle.xarch_steps.specs.OnePass.{front_size};
 ghost use Rattle.xarch_steps.specs.Plausible.{MayBe, history_input};
+ghost use Rattle.xarch_steps.specs.ReadsBack.{ReadsLittle};
+ghost use Rattle.xarch_steps.specs.Searched.{IsShownAs, asked_view};
 
+use crate::fronts::header_in;
+use file_history::HistoryFault;
 use key_rules::{PathFault, read_path};
 use key_spec::Spec;
 use keyed_tree::Label;
+use record_cursor::Header;
 use record_format::versions_have_one_file;
 use std::alloc::Global;
+use std::marker::Brand;
+use std::sync::ledger::{Blank, Ledger};
+use timestamp_tree::Steps;
 use version_set::VersionSet;
 use xa_outside::{Folder, Sink};
-use xarch_parts::{archive_from, header_from, read_file, write_bytes};
+use xarch_parts::{damaged, write_bytes};
 use xarch_words::Fault;
 
 /// Writes the versions of an archive that hold the element at a path.
@@ -47,34 +60,49 @@ pub(crate) fn run_history<F: Folder, O: Sink>(
     ensures may { (files : Files) → F.files folder.old ≡ Some files
         → MayEnd (MayBe files (history archive.now path.now)) (fault_of result) (F.files folder.new)
         (O.taken out.old) (O.taken out.new) }
+    ensures little { ReadsLittle (Some (history archive.now path.now)) (F.files folder.old)
+        (F.numbers folder.old) (F.numbers folder.new) }
     ensures gained { EndsGained (fault_of result) (O.taken out.old) (O.taken out.new) }
 {
-    // A law, for the proof of `may`.
+    // A law, for the proofs of `may` and `little`.
     versions_have_one_file();
-    let (bytes, labels) = read_asked(alloc, archive, path, folder)?;
-    let versions = versions_with(alloc, archive, &bytes, &labels)?;
+    let (header, labels) = read_asked(alloc, archive, path, folder)?;
+    let search = Search {
+        archive,
+        header: &header,
+        path: &labels,
+    };
+    let versions = versions_by::<F, Brand>(Blank::new(1), alloc, &search, folder)?;
     let line = line_of(&versions)?;
     write_bytes(line.as_bytes(), out)
 }
 
-// The bytes of the archive, and the labels that the path spells under its rules.
+// The header of the archive, and the labels that the path spells under its rules.
 fn read_asked<F: Folder>(
     alloc: Global,
     archive: &str,
     path: &str,
     folder: &mut F,
-) -> Result<(Vec<u8>, Vec<Label>), Fault>
+) -> Result<(Header, Vec<Label>), Fault>
+    ensures header { IfOk result (λ r. IsHeader (header_view r.0)) }
     ensures reads { ReadsOnly F.files F.draft F.numbers F.faults
         (size_in (F.files folder.old) archive.now)
         folder.old folder.new (fault_of result) }
     ensures told { (files : Files) → F.files folder.old ≡ Some files
-        → Matches (λ r. (r.0.items, map label_view r.1.items))
-        (history_input files archive.now path.now) result }
+        → Matches (λ r. asked_view r.0 r.1.items) (history_input files archive.now path.now)
+        result }
+    ensures front { (files : Files) → F.files folder.old ≡ Some files
+        → IfOk result (λ r. IsFrontOf files archive.now (header_view r.0)) }
+    ensures once { IfOk result (λ r.
+        ((header_view r.0).length ≤ size_in (F.files folder.old) archive.now)
+        × PullsAtMost (header_view r.0).first (F.numbers folder.old) (F.numbers folder.new)) }
+    ensures few { (files : Files) (rules : List PlainRule) (vs : List PlainKeyed)
+        → F.files folder.old ≡ Some files → ArchiveIs files archive.now rules vs
+        → PullsAtMost (front_size rules vs) (F.numbers folder.old) (F.numbers folder.new) }
 {
-    let bytes = read_file(alloc, folder, archive)?;
-    let (spec, _) = header_from(alloc, archive, &bytes)?;
-    let labels = labels_from(alloc, &spec, path)?;
-    Ok((bytes, labels))
+    let header = header_in(alloc, archive, folder)?;
+    let labels = labels_from(alloc, &header.spec, path)?;
+    Ok((header, labels))
 }
 
 fn labels_from(alloc: Global, spec: &Spec, path: &str) -> Result<Vec<Label>, Fault>
@@ -89,23 +117,69 @@ fn labels_from(alloc: Global, spec: &Spec, path: &str) -> Result<Vec<Label>, Fau
     }
 }
 
-// The versions of the archive of this name, whose bytes these are, that hold the path.
-fn versions_with(
+/// A path that is searched for in the archive of this name, which has this header.
+#[derive(Clone, Copy)]
+struct Search<'a> {
+    archive: &'a str,
+    header: &'a Header,
+    path: &'a [Label],
+}
+
+// The versions that hold the path.
+fn versions_by<F: Folder, L: Ledger>(
+    blank: Blank,
     alloc: Global,
-    name: &str,
-    bytes: &[u8],
-    path: &[Label],
+    search: &Search<'_>,
+    folder: &mut F,
 ) -> Result<VersionSet, Fault>
-    ensures cause { IsInside (fault_of result) }
-    ensures damaged { IfErr result (λ f. IsRefusal (refusal.damaged name.now) (fault_view f)) }
-    ensures members { (rules : List PlainRule) (vs : List PlainKeyed) → SoundAs rules vs bytes.now
-        → IfOk result (λ s. members (pairs_of s) ≡ hist vs (map label_view path.now)) }
-    ensures reads { (rules : List PlainRule) (vs : List PlainKeyed) → SoundAs rules vs bytes.now
+    requires name { blank.name ≡ L.name }
+    requires parts { blank.parts ≡ L.parts }
+    requires some { 0 < blank.parts }
+    requires header { IsHeader (header_view search.now.header.now) }
+    ensures reads { ReadsOnly F.files F.draft F.numbers F.faults
+        ((header_view search.now.header.now).length - (header_view search.now.header.now).first)
+        folder.old folder.new (fault_of result) }
+    ensures damaged { IfErr result
+        (λ f. IsRefusal (refusal.damaged search.now.archive.now) (fault_view f)) }
+    ensures members { (files : Files) (rules : List PlainRule) (vs : List PlainKeyed)
+        → F.files folder.old ≡ Some files
+        → IsFrontOf files search.now.archive.now (header_view search.now.header.now)
+        → ArchiveIs files search.now.archive.now rules vs
+        → IfOk result (λ s. members (pairs_of s) ≡ hist vs (map label_view search.now.path.now)) }
+    ensures undamaged { (files : Files) (rules : List PlainRule) (vs : List PlainKeyed)
+        → F.files folder.old ≡ Some files
+        → IsFrontOf files search.now.archive.now (header_view search.now.header.now)
+        → ArchiveIs files search.now.archive.now rules vs
         → IfErr result (λ f. NoRefusal (fault_view f)) }
+    ensures few { (files : Files) (rules : List PlainRule) (vs : List PlainKeyed)
+        (a : PlainArchive)
+        → F.files folder.old ≡ Some files
+        → IsFrontOf files search.now.archive.now (header_view search.now.header.now)
+        → ArchiveIs files search.now.archive.now rules vs → ArchiveOf vs a
+        → PullsAtMost (8 + probed a (map label_view search.now.path.now))
+        (F.numbers folder.old) (F.numbers folder.new) }
 {
-    let (_, archive) = archive_from(alloc, name, bytes)?;
-    let versions = archive.history(alloc, path)?;
-    Ok(versions)
+    let mut steps: Steps<L> = Steps::new(blank);
+    let Search {
+        archive,
+        header,
+        path,
+    } = search;
+    match file_history::history(alloc, folder, archive, header, path, &mut steps) {
+        Ok(versions) => Ok(versions),
+        Err(fault) => Err(shown_fault(alloc, archive, fault)),
+    }
+}
+
+// What is said of the fault, where it befell the archive of this name.
+fn shown_fault(alloc: Global, archive: &str, fault: HistoryFault) -> Fault
+    ensures { IsShownAs archive.now fault (fault_view result) }
+{
+    match fault {
+        HistoryFault::Damage => damaged(alloc, archive),
+        HistoryFault::Folder => Fault::FolderFault,
+        HistoryFault::Memory => Fault::Memory,
+    }
 }
 
 /// The printed set, and a line feed.

@@ -4,6 +4,7 @@
 
 mod add;
 mod demo;
+mod fronts;
 mod get;
 mod history;
 mod init;

@@ -16,6 +16,7 @@ ghost use Rattle.xarch_parts.specs.Allowed.{MayEnd};
 ghost use Rattle.xarch_steps.specs.OnePass.{GoesOnce};
 ghost use Rattle.xarch_steps.specs.Plausible.{MayBe, MayDo, Tried, Wrote};
 ghost use Rattle.xarch_steps.specs.Ran.{CountsAsSaid, IsLongDemo, OnlyReads, Said, Says, line_after, made_name, outside_of, status_after};
+ghost use Rattle.xarch_steps.specs.ReadsBack.{ReadsLittle};
 ghost use Rattle.xarch_steps.specs.Step.{StepIs, alone, single_of};
 ghost use Rattle.xarch_steps.specs.Succeeds.{ShouldSucceed};
 
@@ -36,7 +37,8 @@ use xarch_words::{Command, Fault, read_words, status, write_fault};
 ///
 /// Words that are no command, and `batch`, are refused. Every fault writes one line to `err`; a
 /// failure of `err` changes no status. Input files are read directly before the first step that
-/// judges their bytes: whole, but the archive of `add`, which is read record by record.
+/// judges their bytes: whole, but the archive of `add`, which is read record by record, and that of
+/// `history`, of which only what its search looks at is read.
 pub fn take_step<F: Folder, O: Sink, E: Sink>(
     alloc: Global,
     words: &[String],
@@ -100,6 +102,8 @@ pub fn take_step<F: Folder, O: Sink, E: Sink>(
         (F.numbers folder.old) (F.numbers folder.new) }
     ensures one_pass { GoesOnce (single_of (words_view words.now)) (F.files folder.old)
         (F.numbers folder.old) (F.numbers folder.new) (result ≡ 13) }
+    ensures little { ReadsLittle (single_of (words_view words.now)) (F.files folder.old)
+        (F.numbers folder.old) (F.numbers folder.new) }
     ensures folder_later { F.faults folder.old ≤ F.faults folder.new }
     ensures out_later { O.faults out.old ≤ O.faults out.new }
     ensures err_later { E.faults err.old ≤ E.faults err.new }
@@ -142,6 +146,8 @@ fn command_words<F: Folder, O: Sink>(
         (F.numbers folder.old) (F.numbers folder.new) }
     ensures one_pass { GoesOnce (single_of (words_view words.now)) (F.files folder.old)
         (F.numbers folder.old) (F.numbers folder.new) (fault_of result ≡ Some folder_fault) }
+    ensures little { ReadsLittle (single_of (words_view words.now)) (F.files folder.old)
+        (F.numbers folder.old) (F.numbers folder.new) }
     ensures gained { EndsGained (fault_of result) (O.taken out.old) (O.taken out.new) }
 {
     match single_command(words) {
@@ -181,6 +187,8 @@ fn run_command<F: Folder, O: Sink>(
         → fault_of result ≡ Some (refused (limit refusal.demo 1000)) }
     ensures one_pass { GoesOnce (Some (command_view command.entry)) (F.files folder.old)
         (F.numbers folder.old) (F.numbers folder.new) (fault_of result ≡ Some folder_fault) }
+    ensures little { ReadsLittle (Some (command_view command.entry)) (F.files folder.old)
+        (F.numbers folder.old) (F.numbers folder.new) }
     ensures gained { EndsGained (fault_of result) (O.taken out.old) (O.taken out.new) }
 {
     match command {

@@ -6,7 +6,7 @@ use Rattle.xarch_run.specs.Batch.{scene}
 use Rattle.xarch_run.specs.Calls.{call_of}
 use Rattle.xarch_run.proofs.BatchFronts.{batch-did}
 use Rattle.xarch_run.proofs.CallLemmas.{single-did}
-use Rattle.xarch_run.proofs.CommandLemmas.{alone-counts, alone-once, alone-reads, batch-demo, batch-none, none-alone, answer-calm, answer-folder, answer-input, answer-out, answer-words, batch-counts, batch-fails, batch-once, batch-reads, fails, holds}
+use Rattle.xarch_run.proofs.CommandLemmas.{alone-counts, alone-little, alone-once, alone-reads, batch-demo, batch-little, batch-none, none-alone, answer-calm, answer-folder, answer-input, answer-out, answer-words, batch-counts, batch-fails, batch-once, batch-reads, fails, holds}
 use Rattle.xarch_run.proofs.program.run.Goals as goal
 
 -- ---- a batch
@@ -152,3 +152,9 @@ returns-then-is_batch-clause-one_pass g c = batch-once _ _ _ _ _ (holds _ _ c.if
 
 pub returns-else-is_batch-clause-one_pass : goal.returns-else-is_batch-clause-one_pass
 returns-else-is_batch-clause-one_pass g c = alone-once (command_of (words_view c.args.words.now)) _ _ _ _ c.take_step.ensures.one_pass
+
+pub returns-then-is_batch-clause-little : goal.returns-then-is_batch-clause-little
+returns-then-is_batch-clause-little g c = batch-little _ _ _ _ (holds _ _ c.if-is_batch.true c.is_batch.ensures)
+
+pub returns-else-is_batch-clause-little : goal.returns-else-is_batch-clause-little
+returns-else-is_batch-clause-little g c = alone-little (command_of (words_view c.args.words.now)) _ _ _ c.take_step.ensures.little

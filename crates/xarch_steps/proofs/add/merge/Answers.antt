@@ -1,5 +1,5 @@
-use Rattle.std.proofs.Common.{◌≡◌, Some, ap, ◌∙◌}
-use Rattle.keyed_tree.specs.View.{keyed_view}
+use Rattle.std.proofs.Common.{Some}
+use Rattle.key_annotate.specs.LentView.{lent_view}
 use Rattle.record_cursor.specs.View.{header_view}
 use Rattle.xarch_words.specs.View.{fault_view}
 use Rattle.xarch_parts.specs.FolderLaws.{caused-folder}
@@ -11,7 +11,7 @@ returns-in-Ok-stream_add-clause-merges g c files told front =
     let f = g.F.Folder in
     let e = c.in-Ok-stream_add.ensures in
     let h = header_view c.args.header.now in
-    let new = keyed_view c.args.new.now in
+    let new = lent_view c.args.new.now in
     record {
       ends = ends-added files (f.files c.args.folder.now) c.args.archive.now h new told front (f.files c.stream_add.new.folder) (f.draft c.args.folder.now) (f.draft c.stream_add.new.folder) c.in-Ok-stream_add.field-0 e.added e.limit;
       gap = gap-of files (f.files c.args.folder.now) c.args.archive.now h new told front (f.numbers c.args.folder.now) (f.numbers c.stream_add.new.folder) e.gap;
@@ -28,7 +28,7 @@ returns-in-Err-stream_add-clause-merges g c files told front =
     let f = g.F.Folder in
     let e = c.in-Err-stream_add.ensures in
     let h = header_view c.args.header.now in
-    let new = keyed_view c.args.new.now in
+    let new = lent_view c.args.new.now in
     record {
       ends = ends-failed files (f.files c.args.folder.now) c.args.archive.now h new told front (f.files c.stream_add.new.folder) c.in-Err-stream_add.fault (fault_view c.told_fault.result) c.told_fault.ensures e.limit e.undamaged e.too_long;
       gap = gap-of files (f.files c.args.folder.now) c.args.archive.now h new told front (f.numbers c.args.folder.now) (f.numbers c.stream_add.new.folder) e.gap;

@@ -1,32 +1,86 @@
-use Rattle.std.proofs.Common.{◌≡◌, List, ℕ, Ok, map, sym, ap, ◌∙◌}
+use Rattle.std.proofs.Common.{◌≡◌, List, Ok, map, sym, ap, ◌∙◌, arith}
 use Rattle.keyed_tree.specs.View.{label_view}
 use Rattle.keyed_tree.specs.declared.label.Label.{Label}
+use Rattle.record_cursor.specs.View.{header_view}
+use Rattle.xa_outside.specs.NumberLaws.{PullsAtMost-more}
 use Rattle.xarch_words.specs.Commands.{history}
 use Rattle.xarch_words.specs.Refusal.{Refusal, memory, refused}
 use Rattle.xarch_steps.specs.History.{numbers_text}
+use Rattle.xarch_steps.specs.OnePass.{front_size}
 use Rattle.xarch_steps.specs.Plausible.{MayBe, history_input}
-use Rattle.xarch_parts.specs.FolderLaws.{caused-passed, caused-read, caused-written, keeps-read, reads-inside}
-use Rattle.xarch_steps.proofs.HistoryEnds.{may_refuse_early, may_write, may_refuse}
 use Rattle.xarch_parts.specs.AllowedLaws.{MayEnd-passed, MayEnd-written, defined_refused, gained-none, gained-written, tells_same}
+use Rattle.xarch_parts.specs.FolderLaws.{caused-passed, caused-read, caused-written, keeps-read, reads-inside}
+use Rattle.xarch_steps.proofs.HistoryEnds.{little-read, may_refuse, may_refuse_early, may_write, searched-read}
 use Rattle.xarch_steps.proofs.history.run_history.Goals as goal
 
-pub returns-in_err-bytes-clause-may : goal.returns-in_err-bytes-clause-may
-returns-in_err-bytes-clause-may g c = λ files told.
-    let input = c.in_err-bytes.ensures.told files told in
-    MayEnd-passed (MayBe files (history c.args.archive.now c.args.path.now)) c.from_residual.result c.in_err-bytes.field-0.0 _ _ c.from_residual.ensures.1
+-- ---- no header is read, or the path spells no labels
+
+pub returns-in_err-header-clause-keeps : goal.returns-in_err-header-clause-keeps
+returns-in_err-header-clause-keeps g c = keeps-read _ _ _ _ _ c.in_err-header.ensures.reads
+
+pub returns-in_err-header-clause-caused : goal.returns-in_err-header-clause-caused
+returns-in_err-header-clause-caused g c = caused-passed _ _ _ _ c.from_residual.result _ c.from_residual.ensures.1 (caused-read _ _ _ _ _ c.in_err-header.ensures.reads)
+
+pub returns-in_err-header-clause-may : goal.returns-in_err-header-clause-may
+returns-in_err-header-clause-may g c = λ files told.
+    let input = c.in_err-header.ensures.told files told in
+    MayEnd-passed (MayBe files (history c.args.archive.now c.args.path.now)) c.from_residual.result c.in_err-header.field-0.0 _ _ c.from_residual.ensures.1
     (λ q e. may_refuse_early c.versions_have_one_file.ensures.header files c.args.archive.now c.args.path.now q (defined_refused (history_input files c.args.archive.now c.args.path.now) _ q input e))
+
+pub returns-in_err-header-clause-little : goal.returns-in_err-header-clause-little
+returns-in_err-header-clause-little g c = λ files rules vs a told is of. PullsAtMost-more (front_size rules vs) _ _ _ (omega arith) (c.in_err-header.ensures.few files rules vs told is)
+
+pub returns-in_err-header-clause-gained : goal.returns-in_err-header-clause-gained
+returns-in_err-header-clause-gained g c = gained-none _ _
+
+-- ---- the search failed
+
+pub versions_by-requires-clause-header : goal.versions_by-requires-clause-header
+versions_by-requires-clause-header g c = c.in_ok-header.ensures.header
+
+pub returns-in_err-versions-clause-keeps : goal.returns-in_err-versions-clause-keeps
+returns-in_err-versions-clause-keeps g c = keeps-read _ _ _ _ _ (searched-read c.in_ok-header.ensures.header _ _ _ _ c.in_ok-header.ensures.reads c.in_ok-header.ensures.once c.in_err-versions.ensures.reads)
+
+pub returns-in_err-versions-clause-caused : goal.returns-in_err-versions-clause-caused
+returns-in_err-versions-clause-caused g c =
+    caused-passed _ _ _ _ c.from_residual-in_err-versions.result _ c.from_residual-in_err-versions.ensures.1
+    (caused-read _ _ _ _ _ (searched-read c.in_ok-header.ensures.header _ _ _ _ c.in_ok-header.ensures.reads c.in_ok-header.ensures.once c.in_err-versions.ensures.reads))
+
+pub returns-in_err-versions-clause-may : goal.returns-in_err-versions-clause-may
+returns-in_err-versions-clause-may g c = λ files told.
+    let h = header_view c.in_ok-header.header in
+    let told1 = c.in_ok-header.ensures.reads.same_files ∙ told in
+    let front = c.in_ok-header.ensures.front files told in
+    let input = c.in_ok-header.ensures.told files told ∙ ap (λ (ls : List Label). Ok ((h.rules, h.versions), map label_view ls)) (sym c.deref.ensures.value) in
+    MayEnd-passed (MayBe files (history c.args.archive.now c.args.path.now)) c.from_residual-in_err-versions.result c.in_err-versions.field-0.0 _ _ c.from_residual-in_err-versions.ensures.1
+    (λ q e. may_refuse c.versions_have_one_file.ensures.header files c.args.archive.now c.args.path.now (h.rules, h.versions) (map label_view c.deref.result.now) input q (c.in_err-versions.ensures.damaged q e)
+    (λ rules vs is. c.in_err-versions.ensures.undamaged files rules vs told1 front is q e))
+
+pub returns-in_err-versions-clause-little : goal.returns-in_err-versions-clause-little
+returns-in_err-versions-clause-little g c = λ files rules vs a told is of.
+    let h = header_view c.in_ok-header.header in
+    let told1 = c.in_ok-header.ensures.reads.same_files ∙ told in
+    let front = c.in_ok-header.ensures.front files told in
+    let input = c.in_ok-header.ensures.told files told ∙ ap (λ (ls : List Label). Ok ((h.rules, h.versions), map label_view ls)) (sym c.deref.ensures.value) in
+    little-read c.versions_have_one_file.ensures.header files c.args.archive.now c.args.path.now (h.rules, h.versions) (map label_view c.deref.result.now) input rules vs a _ _ _ is
+    (c.in_ok-header.ensures.few files rules vs told is) (c.in_err-versions.ensures.few files rules vs a told1 front is of)
+
+pub returns-in_err-versions-clause-gained : goal.returns-in_err-versions-clause-gained
+returns-in_err-versions-clause-gained g c = gained-none _ _
+
+-- ---- there is no memory for the line
 
 -- want of memory is no refusal
 no_memory : (A : Type 0) (q : Refusal) → memory ≡ refused q → A
 no_memory A q e = cc
 
-pub returns-in_err-versions-clause-may : goal.returns-in_err-versions-clause-may
-returns-in_err-versions-clause-may g c = λ files told.
-    let input =
-    c.in_ok-bytes.ensures.told files told ∙ ap (λ (b : List ℕ). Ok (b, map label_view c.in_ok-bytes.labels.items)) (sym c.deref.ensures.value)
-    ∙ ap (λ (ls : List Label). Ok (c.deref.result.now, map label_view ls)) (sym c.deref-2.ensures.value) in
-    MayEnd-passed (MayBe files (history c.args.archive.now c.args.path.now)) c.from_residual-in_err-versions.result c.in_err-versions.field-0.0 _ _ c.from_residual-in_err-versions.ensures.1
-    (λ q e. may_refuse c.versions_have_one_file.ensures.header files c.args.archive.now c.args.path.now c.deref.result.now (map label_view c.deref-2.result.now) input q (c.in_err-versions.ensures.damaged q e) (λ rules vs sound. c.in_err-versions.ensures.reads rules vs sound q e))
+pub returns-in_err-line-clause-keeps : goal.returns-in_err-line-clause-keeps
+returns-in_err-line-clause-keeps g c = keeps-read _ _ _ _ _ (searched-read c.in_ok-header.ensures.header _ _ _ _ c.in_ok-header.ensures.reads c.in_ok-header.ensures.once c.in_ok-versions.ensures.reads)
+
+pub returns-in_err-line-clause-caused : goal.returns-in_err-line-clause-caused
+returns-in_err-line-clause-caused g c =
+    let read = searched-read c.in_ok-header.ensures.header _ _ _ _ c.in_ok-header.ensures.reads c.in_ok-header.ensures.once c.in_ok-versions.ensures.reads in
+    caused-passed _ _ _ _ c.from_residual-in_err-line.result _ c.from_residual-in_err-line.ensures.1 (caused-read _ _ _ _ _ (reads-inside _ _ _ _ read c.in_err-line.ensures.cause))
 
 pub returns-in_err-line-clause-may : goal.returns-in_err-line-clause-may
 returns-in_err-line-clause-may g c = λ files told.
@@ -34,48 +88,47 @@ returns-in_err-line-clause-may g c = λ files told.
     MayEnd-passed command c.from_residual-in_err-line.result c.in_err-line.field-0.0 _ _ c.from_residual-in_err-line.ensures.1
     (λ q e. no_memory _ q (sym c.in_err-line.ensures.memory ∙ e))
 
-pub returns-clause-may : goal.returns-clause-may
-returns-clause-may g c = λ files told.
-    let input =
-    c.in_ok-bytes.ensures.told files told ∙ ap (λ (b : List ℕ). Ok (b, map label_view c.in_ok-bytes.labels.items)) (sym c.deref.ensures.value)
-    ∙ ap (λ (ls : List Label). Ok (c.deref.result.now, map label_view ls)) (sym c.deref-2.ensures.value) in
-    MayEnd-written (MayBe files (history c.args.archive.now c.args.path.now)) (record { files = files; output = c.as_bytes.result.now }) c.write_bytes.result _ _ _ _ _
-    (may_write c.versions_have_one_file.ensures.header files c.args.archive.now c.args.path.now c.deref.result.now (map label_view c.deref-2.result.now) input c.as_bytes.result.now
-    (λ rules vs sound. c.as_bytes.ensures.value ∙ c.in_ok-line.ensures.text ∙ ap numbers_text (c.in_ok-versions.ensures.members rules vs sound)))
-    (tells_same _ files (c.in_ok-bytes.ensures.reads.same_files ∙ told)) c.write_bytes.ensures.bytes c.write_bytes.ensures.cause
-
-pub returns-in_err-bytes-clause-keeps : goal.returns-in_err-bytes-clause-keeps
-returns-in_err-bytes-clause-keeps g c = keeps-read _ _ _ _ _ c.in_err-bytes.ensures.reads
-
-pub returns-in_err-bytes-clause-caused : goal.returns-in_err-bytes-clause-caused
-returns-in_err-bytes-clause-caused g c = caused-passed _ _ _ _ c.from_residual.result _ c.from_residual.ensures.1 (caused-read _ _ _ _ _ c.in_err-bytes.ensures.reads)
-
-pub returns-in_err-versions-clause-keeps : goal.returns-in_err-versions-clause-keeps
-returns-in_err-versions-clause-keeps g c = keeps-read _ _ _ _ _ c.in_ok-bytes.ensures.reads
-
-pub returns-in_err-versions-clause-caused : goal.returns-in_err-versions-clause-caused
-returns-in_err-versions-clause-caused g c = caused-passed _ _ _ _ c.from_residual-in_err-versions.result _ c.from_residual-in_err-versions.ensures.1 (caused-read _ _ _ _ _ (reads-inside _ _ _ _ c.in_ok-bytes.ensures.reads c.in_err-versions.ensures.cause))
-
-pub returns-in_err-line-clause-keeps : goal.returns-in_err-line-clause-keeps
-returns-in_err-line-clause-keeps g c = keeps-read _ _ _ _ _ c.in_ok-bytes.ensures.reads
-
-pub returns-in_err-line-clause-caused : goal.returns-in_err-line-clause-caused
-returns-in_err-line-clause-caused g c = caused-passed _ _ _ _ c.from_residual-in_err-line.result _ c.from_residual-in_err-line.ensures.1 (caused-read _ _ _ _ _ (reads-inside _ _ _ _ c.in_ok-bytes.ensures.reads c.in_err-line.ensures.cause))
-
-pub returns-clause-keeps : goal.returns-clause-keeps
-returns-clause-keeps g c = keeps-read _ _ _ _ _ c.in_ok-bytes.ensures.reads
-
-pub returns-clause-caused : goal.returns-clause-caused
-returns-clause-caused g c = caused-written _ _ _ _ _ _ c.in_ok-bytes.ensures.reads c.write_bytes.ensures.later c.write_bytes.ensures.cause
-
-pub returns-in_err-bytes-clause-gained : goal.returns-in_err-bytes-clause-gained
-returns-in_err-bytes-clause-gained g c = gained-none _ _
-
-pub returns-in_err-versions-clause-gained : goal.returns-in_err-versions-clause-gained
-returns-in_err-versions-clause-gained g c = gained-none _ _
+pub returns-in_err-line-clause-little : goal.returns-in_err-line-clause-little
+returns-in_err-line-clause-little g c = λ files rules vs a told is of.
+    let h = header_view c.in_ok-header.header in
+    let told1 = c.in_ok-header.ensures.reads.same_files ∙ told in
+    let front = c.in_ok-header.ensures.front files told in
+    let input = c.in_ok-header.ensures.told files told ∙ ap (λ (ls : List Label). Ok ((h.rules, h.versions), map label_view ls)) (sym c.deref.ensures.value) in
+    little-read c.versions_have_one_file.ensures.header files c.args.archive.now c.args.path.now (h.rules, h.versions) (map label_view c.deref.result.now) input rules vs a _ _ _ is
+    (c.in_ok-header.ensures.few files rules vs told is) (c.in_ok-versions.ensures.few files rules vs a told1 front is of)
 
 pub returns-in_err-line-clause-gained : goal.returns-in_err-line-clause-gained
 returns-in_err-line-clause-gained g c = gained-none _ _
+
+-- ---- the line is written
+
+pub returns-clause-keeps : goal.returns-clause-keeps
+returns-clause-keeps g c = keeps-read _ _ _ _ _ (searched-read c.in_ok-header.ensures.header _ _ _ _ c.in_ok-header.ensures.reads c.in_ok-header.ensures.once c.in_ok-versions.ensures.reads)
+
+pub returns-clause-caused : goal.returns-clause-caused
+returns-clause-caused g c =
+    let read = searched-read c.in_ok-header.ensures.header _ _ _ _ c.in_ok-header.ensures.reads c.in_ok-header.ensures.once c.in_ok-versions.ensures.reads in
+    caused-written _ _ _ _ _ _ read c.write_bytes.ensures.later c.write_bytes.ensures.cause
+
+pub returns-clause-may : goal.returns-clause-may
+returns-clause-may g c = λ files told.
+    let h = header_view c.in_ok-header.header in
+    let told1 = c.in_ok-header.ensures.reads.same_files ∙ told in
+    let front = c.in_ok-header.ensures.front files told in
+    let input = c.in_ok-header.ensures.told files told ∙ ap (λ (ls : List Label). Ok ((h.rules, h.versions), map label_view ls)) (sym c.deref.ensures.value) in
+    MayEnd-written (MayBe files (history c.args.archive.now c.args.path.now)) (record { files = files; output = c.as_bytes.result.now }) c.write_bytes.result _ _ _ _ _
+    (may_write c.versions_have_one_file.ensures.header files c.args.archive.now c.args.path.now (h.rules, h.versions) (map label_view c.deref.result.now) input c.as_bytes.result.now
+    (λ rules vs is. c.as_bytes.ensures.value ∙ c.in_ok-line.ensures.text ∙ ap numbers_text (c.in_ok-versions.ensures.members files rules vs told1 front is)))
+    (tells_same _ files (c.in_ok-versions.ensures.reads.same_files ∙ told1)) c.write_bytes.ensures.bytes c.write_bytes.ensures.cause
+
+pub returns-clause-little : goal.returns-clause-little
+returns-clause-little g c = λ files rules vs a told is of.
+    let h = header_view c.in_ok-header.header in
+    let told1 = c.in_ok-header.ensures.reads.same_files ∙ told in
+    let front = c.in_ok-header.ensures.front files told in
+    let input = c.in_ok-header.ensures.told files told ∙ ap (λ (ls : List Label). Ok ((h.rules, h.versions), map label_view ls)) (sym c.deref.ensures.value) in
+    little-read c.versions_have_one_file.ensures.header files c.args.archive.now c.args.path.now (h.rules, h.versions) (map label_view c.deref.result.now) input rules vs a _ _ _ is
+    (c.in_ok-header.ensures.few files rules vs told is) (c.in_ok-versions.ensures.few files rules vs a told1 front is of)
 
 pub returns-clause-gained : goal.returns-clause-gained
 returns-clause-gained g c = gained-written c.write_bytes.result _ _ _ _ _ c.write_bytes.ensures.bytes c.write_bytes.ensures.cause

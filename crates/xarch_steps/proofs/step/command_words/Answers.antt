@@ -3,7 +3,7 @@ use Rattle.xarch_words.specs.View.{command_view, words_view}
 use Rattle.xarch_parts.specs.Ends.{HasItsCause}
 use Rattle.xarch_steps.specs.Ran.{IsLongDemo}
 use Rattle.xarch_parts.specs.EndLaws.{HasItsCause-command}
-use Rattle.xarch_steps.proofs.Running.{MayEnd-usage, MayEnd-command, OnErr-of, counts_as_said, goes_once, makes_none, nothing_counted, usage-command}
+use Rattle.xarch_steps.proofs.Running.{MayEnd-usage, MayEnd-command, OnErr-of, counts_as_said, goes_once, makes_none, nothing_counted, reads_little, usage-command}
 use Rattle.xarch_parts.specs.AllowedLaws.{gained-none}
 use Rattle.xarch_steps.proofs.step.command_words.Goals as goal
 
@@ -71,3 +71,9 @@ returns-in-None-clause-one_pass g c = goes_once (words_view c.args.words.now) No
 
 pub returns-in-Some-clause-one_pass : goal.returns-in-Some-clause-one_pass
 returns-in-Some-clause-one_pass g c = goes_once (words_view c.args.words.now) (Some (command_view c.in-Some.command)) _ _ _ _ (sym c.in-Some.ensures.is) c.run_command.ensures.one_pass
+
+pub returns-in-None-clause-little : goal.returns-in-None-clause-little
+returns-in-None-clause-little g c = reads_little (words_view c.args.words.now) None _ _ _ (sym c.in-None.ensures.is) tt
+
+pub returns-in-Some-clause-little : goal.returns-in-Some-clause-little
+returns-in-Some-clause-little g c = reads_little (words_view c.args.words.now) (Some (command_view c.in-Some.command)) _ _ _ (sym c.in-Some.ensures.is) c.run_command.ensures.little

@@ -129,3 +129,24 @@ returns-in-Stats-clause-one_pass g c = rw c.in-Stats.is tt
 
 pub returns-in-Demo-clause-one_pass : goal.returns-in-Demo-clause-one_pass
 returns-in-Demo-clause-one_pass g c = rw c.in-Demo.is tt
+
+pub returns-in-Norm-clause-little : goal.returns-in-Norm-clause-little
+returns-in-Norm-clause-little g c = rw c.in-Norm.is tt
+
+pub returns-in-Init-clause-little : goal.returns-in-Init-clause-little
+returns-in-Init-clause-little g c = rw c.in-Init.is tt
+
+pub returns-in-Add-clause-little : goal.returns-in-Add-clause-little
+returns-in-Add-clause-little g c = rw c.in-Add.is tt
+
+pub returns-in-Get-clause-little : goal.returns-in-Get-clause-little
+returns-in-Get-clause-little g c = rw c.in-Get.is tt
+
+pub returns-in-Stats-clause-little : goal.returns-in-Stats-clause-little
+returns-in-Stats-clause-little g c = rw c.in-Stats.is tt
+
+pub returns-in-Demo-clause-little : goal.returns-in-Demo-clause-little
+returns-in-Demo-clause-little g c = rw c.in-Demo.is tt
+
+pub returns-in-History-clause-little : goal.returns-in-History-clause-little
+returns-in-History-clause-little g c = rw c.in-History.is c.run_history.ensures.little

@@ -60,3 +60,6 @@ pub returns-clause-one_pass : goal.returns-clause-one_pass
 returns-clause-one_pass g c =
     once_by (single_of (words_view c.args.words.now)) (g.F.Folder.files c.args.folder.now) (g.F.Folder.numbers c.args.folder.now) (g.F.Folder.numbers c.command_words-ended.new.folder) (fault_of c.command_words-ended.result ≡ Some folder_fault) (c.finish.result ≡ 13)
     (λ is. c.finish.ensures.status ∙ ap status_after is) c.command_words-ended.ensures.one_pass
+
+pub returns-clause-little : goal.returns-clause-little
+returns-clause-little g c = c.command_words-ended.ensures.little
