@@ -1,8 +1,12 @@
+ghost use Rattle.archive_tree.specs.WellFormed.{AreNodesWellFormed};
+ghost use Rattle.archive_tree.specs.View.{nodes_view};
+
 use crate::shapes::{
     COMPANY, COMPANY_OF_90, COMPANY_OF_95, COMPANY_OF_NONE, DATABASE, EMPLOYEE, FINANCE,
     FIRST_NAME, LAST_NAME, NAME, Named, SALARIES, SALARY_90, Shape, TELEPHONE, Value, archive,
-    label, labels, nodes, tree,
+    archive_of, has_version, label, labels, nodes, tree,
 };
+use crate::told::told;
 use archive_tree::{ANode, Archive, effective};
 use jsonml_tree::{Content, Scalar, Tree};
 use keyed_tree::{KeyVal, Keyed, Label};
@@ -134,113 +138,119 @@ const PARTS: &[(&str, u32, &[Shape], bool)] = &[
     ),
 ];
 
-fn are_parts(alloc: Global, n: u32, shapes: &[Shape]) -> Result<bool, AllocError> {
-    let kids = nodes(alloc, shapes)?;
-    Ok(Archive::of_parts(alloc, n, kids)?.is_some())
+/// Whether the nodes are the parts of an archive of so many versions, or not, as they should.
+fn are_nodes_judged(alloc: Global, n: u32, kids: Vec<ANode>, wanted: bool) -> bool
+    requires { AreNodesWellFormed (nodes_view kids.items) }
+{
+    match Archive::of_parts(alloc, n, kids) {
+        Ok(found) => found.is_some() == wanted,
+        Err(_) => false,
+    }
+}
+
+fn are_judged(alloc: Global, n: u32, shapes: &[Shape], wanted: bool) -> bool {
+    match nodes(alloc, shapes) {
+        Ok(kids) => are_nodes_judged(alloc, n, kids, wanted),
+        Err(_) => false,
+    }
 }
 
 #[test]
 fn some_nodes_are_the_parts_of_an_archive(rt: HostRuntime) -> Result<(), Fail> {
     for (name, n, shapes, wanted) in PARTS {
-        assert!(rt; are_parts(rt.alloc(), *n, shapes)? == *wanted, "{name}");
+        told(are_judged(rt.alloc(), *n, shapes, *wanted), name)?;
     }
     Ok(())
 }
 
 /// An archive of three versions, a number, and the version of that number, if there is one.
-const VERSIONS: &[(&[Shape], u32, Option<Shape>)] = &[
-    (&[COMPANY], 1, Some(COMPANY_OF_90)),
-    (&[COMPANY], 2, Some(COMPANY_OF_95)),
-    (&[COMPANY], 3, Some(COMPANY_OF_90)),
-    (&[COMPANY], 0, None),
-    (&[COMPANY], 4, None),
-    (&[RETURNING], 3, Some(COMPANY_OF_90)),
-    (&[RETURNING], 2, Some(COMPANY_OF_NONE)),
+const VERSIONS: &[(&str, &[Shape], u32, Option<Shape>)] = &[
+    ("the first salary", &[COMPANY], 1, Some(COMPANY_OF_90)),
+    ("the second salary", &[COMPANY], 2, Some(COMPANY_OF_95)),
+    ("a salary that returns", &[COMPANY], 3, Some(COMPANY_OF_90)),
+    ("version 0", &[COMPANY], 0, None),
+    ("one version too many", &[COMPANY], 4, None),
+    ("a return", &[RETURNING], 3, Some(COMPANY_OF_90)),
+    ("no employee", &[RETURNING], 2, Some(COMPANY_OF_NONE)),
 ];
 
-/// Whether this is the keyed tree of this shape.
-fn is_tree(alloc: Global, found: &Keyed, shape: &Shape) -> Result<bool, AllocError> {
-    let wanted = tree(alloc, shape)?;
-    Ok(found.same(&wanted))
+fn has_no_version(alloc: Global, archive: &Archive, i: u32) -> bool {
+    matches!(archive.version(alloc, i), Ok(None))
 }
 
 /// Whether the archive has this version, or none.
-fn has_version(
-    alloc: Global,
-    archive: &Archive,
-    i: u32,
-    wanted: &Option<Shape>,
-) -> Result<bool, AllocError> {
-    match archive.version(alloc, i)? {
-        Some(version) => match wanted {
-            Some(shape) => is_tree(alloc, &version, shape),
-            None => Ok(false),
-        },
-        None => Ok(wanted.is_none()),
+fn has_or_not(alloc: Global, archive: &Archive, i: u32, wanted: &Option<Shape>) -> bool {
+    match wanted {
+        Some(shape) => has_version(alloc, archive, i, shape),
+        None => has_no_version(alloc, archive, i),
     }
 }
 
 /// The same for the archive of these shapes.
-fn is_version(
-    alloc: Global,
-    shapes: &[Shape],
-    i: u32,
-    wanted: &Option<Shape>,
-) -> Result<bool, Fail> {
-    let archive = archive(alloc, 3, shapes)?;
-    Ok(has_version(alloc, &archive, i, wanted)?)
+fn is_version(alloc: Global, shapes: &[Shape], i: u32, wanted: &Option<Shape>) -> bool {
+    match archive(alloc, 3, shapes) {
+        Some(archive) => has_or_not(alloc, &archive, i, wanted),
+        None => false,
+    }
 }
 
 #[test]
 fn archives_have_their_versions(rt: HostRuntime) -> Result<(), Fail> {
-    for (shapes, i, wanted) in VERSIONS {
-        assert!(rt; is_version(rt.alloc(), shapes, *i, wanted)?, "version {i}");
+    for (name, shapes, i, wanted) in VERSIONS {
+        told(is_version(rt.alloc(), shapes, *i, wanted), name)?;
     }
     Ok(())
 }
 
 /// An archive of three versions, a path, and the intervals of the versions that hold it.
-const HISTORIES: &[(&[Shape], &[Named], &[(u32, u32)])] = &[
+const HISTORIES: &[(&str, &[Shape], &[Named], &[(u32, u32)])] = &[
     (
+        "a salary",
         &[COMPANY],
         &[DATABASE, FINANCE, EMPLOYEE, SALARY],
         &[(1, 3)],
     ),
-    (&[COMPANY], &[], &[(1, 3)]),
-    (&[COMPANY], &[DATABASE, Named("dept", &[])], &[]),
+    ("the root", &[COMPANY], &[], &[(1, 3)]),
     (
+        "a department without a name",
+        &[COMPANY],
+        &[DATABASE, Named("dept", &[])],
+        &[],
+    ),
+    (
+        "the salary of an employee who returns",
         &[RETURNING],
         &[DATABASE, FINANCE, EMPLOYEE, SALARY],
         &[(1, 1), (3, 3)],
     ),
 ];
 
-fn is_history(
-    alloc: Global,
-    archive: &Archive,
-    path: &[Named],
-    pairs: &[(u32, u32)],
-) -> Result<bool, AllocError> {
-    let path = labels(alloc, path)?;
-    let set = archive.history(alloc, &path)?;
-    Ok(set.pairs() == pairs)
+fn are_versions(alloc: Global, archive: &Archive, path: &[Label], pairs: &[(u32, u32)]) -> bool {
+    match archive.history(alloc, path) {
+        Ok(set) => set.pairs() == pairs,
+        Err(_) => false,
+    }
+}
+
+fn is_history(alloc: Global, archive: &Archive, path: &[Named], pairs: &[(u32, u32)]) -> bool {
+    match labels(alloc, path) {
+        Ok(path) => are_versions(alloc, archive, &path, pairs),
+        Err(_) => false,
+    }
 }
 
 /// The same for the archive of these shapes.
-fn holds(
-    alloc: Global,
-    shapes: &[Shape],
-    path: &[Named],
-    pairs: &[(u32, u32)],
-) -> Result<bool, Fail> {
-    let archive = archive(alloc, 3, shapes)?;
-    Ok(is_history(alloc, &archive, path, pairs)?)
+fn holds(alloc: Global, shapes: &[Shape], path: &[Named], pairs: &[(u32, u32)]) -> bool {
+    match archive(alloc, 3, shapes) {
+        Some(archive) => is_history(alloc, &archive, path, pairs),
+        None => false,
+    }
 }
 
 #[test]
 fn paths_have_their_histories(rt: HostRuntime) -> Result<(), Fail> {
-    for (index, (shapes, path, pairs)) in HISTORIES.iter().enumerate() {
-        assert!(rt; holds(rt.alloc(), shapes, path, pairs)?, "path {index}");
+    for (name, shapes, path, pairs) in HISTORIES {
+        told(holds(rt.alloc(), shapes, path, pairs), name)?;
     }
     Ok(())
 }
@@ -285,85 +295,128 @@ fn department(alloc: Global) -> Result<Tree, AllocError> {
     element(alloc, "dept", items)
 }
 
-/// Whether this is the document of the company with the salary 90K.
-fn is_document(alloc: Global, tree: &Tree) -> Result<bool, AllocError> {
+/// The document of the company with the salary 90K.
+fn document(alloc: Global) -> Result<Tree, AllocError> {
     let departments = vec![in alloc; department(alloc)?]?;
-    let document = element(alloc, "db", departments)?;
-    Ok(tree.same(&document))
+    element(alloc, "db", departments)
 }
 
-fn is_plain_again(alloc: Global, version: &Keyed) -> Result<bool, AllocError> {
-    if !version.is_element() || !version.is_proper() {
-        return Ok(false);
+fn is_document(alloc: Global, tree: &Tree) -> bool {
+    match document(alloc) {
+        Ok(document) => tree.same(&document),
+        Err(_) => false,
     }
-    let plain = version.plain(alloc)?;
-    is_document(alloc, &plain)
 }
 
-fn is_keyed_copied(alloc: Global, tree: &Keyed) -> Result<bool, AllocError> {
-    let copy = tree.copy(alloc)?;
-    Ok(copy.same(tree))
+fn is_plain_again(alloc: Global, version: &Keyed) -> bool {
+    if !version.is_element() || !version.is_proper() {
+        return false;
+    }
+    match version.plain(alloc) {
+        Ok(plain) => is_document(alloc, &plain),
+        Err(_) => false,
+    }
 }
 
-fn are_version_and_copy_right(alloc: Global) -> Result<bool, AllocError> {
-    let version = tree(alloc, &COMPANY_OF_90)?;
-    Ok(is_plain_again(alloc, &version)? && is_keyed_copied(alloc, &version)?)
+fn is_keyed_copied(alloc: Global, tree: &Keyed) -> bool {
+    match tree.copy(alloc) {
+        Ok(copy) => copy.same(tree),
+        Err(_) => false,
+    }
+}
+
+fn are_version_and_copy_right(alloc: Global) -> bool {
+    match tree(alloc, &COMPANY_OF_90) {
+        Ok(version) => is_plain_again(alloc, &version) && is_keyed_copied(alloc, &version),
+        Err(_) => false,
+    }
 }
 
 #[test]
-fn a_version_is_plain_again(rt: HostRuntime) -> Result<(), Fail> {
-    assert!(rt; are_version_and_copy_right(rt.alloc())?);
-    Ok(())
+fn a_version_is_plain_again(rt: HostRuntime) {
+    assert!(rt; are_version_and_copy_right(rt.alloc()));
 }
 
-fn is_tree_copied(alloc: Global) -> Result<bool, AllocError> {
-    let person = person(alloc)?;
-    let copy = person.copy(alloc)?;
-    Ok(copy.same(&person))
+fn is_copied(alloc: Global, tree: &Tree) -> bool {
+    match tree.copy(alloc) {
+        Ok(copy) => copy.same(tree),
+        Err(_) => false,
+    }
 }
 
-fn is_content_copied(alloc: Global) -> Result<bool, AllocError> {
-    let salary = Content::of_text(alloc, "90K")?;
-    let copy = salary.copy(alloc)?;
-    Ok(copy.same(&salary))
+fn is_tree_copied(alloc: Global) -> bool {
+    match person(alloc) {
+        Ok(person) => is_copied(alloc, &person),
+        Err(_) => false,
+    }
 }
 
-fn is_scalar_copied(alloc: Global) -> Result<bool, AllocError> {
+fn is_same_content(alloc: Global, content: &Content) -> bool {
+    match content.copy(alloc) {
+        Ok(copy) => copy.same(content),
+        Err(_) => false,
+    }
+}
+
+fn is_content_copied(alloc: Global) -> bool {
+    match Content::of_text(alloc, "90K") {
+        Ok(salary) => is_same_content(alloc, &salary),
+        Err(_) => false,
+    }
+}
+
+fn is_scalar_copied(alloc: Global) -> bool {
     let whole = Scalar::Whole(90);
-    Ok(whole.copy(alloc)?.same(&whole))
+    match whole.copy(alloc) {
+        Ok(copy) => copy.same(&whole),
+        Err(_) => false,
+    }
 }
 
-fn is_label_copied(alloc: Global, label: &Label) -> Result<bool, AllocError> {
-    let copy = label.copy(alloc)?;
-    Ok(copy.same(label))
+fn is_label_copied(alloc: Global, label: &Label) -> bool {
+    match label.copy(alloc) {
+        Ok(copy) => copy.same(label),
+        Err(_) => false,
+    }
 }
 
-fn are_keys_copied(alloc: Global, keys: &[KeyVal]) -> Result<bool, AllocError> {
+fn is_key_copied(alloc: Global, key: &KeyVal) -> bool {
+    match key.copy(alloc) {
+        Ok(copy) => copy.same(key),
+        Err(_) => false,
+    }
+}
+
+fn are_keys_copied(alloc: Global, keys: &[KeyVal]) -> bool {
     for key in keys {
-        if !key.copy(alloc)?.same(key) {
-            return Ok(false);
+        if !is_key_copied(alloc, key) {
+            return false;
         }
     }
-    Ok(true)
+    true
 }
 
-fn is_employee_copied(alloc: Global) -> Result<bool, AllocError> {
-    let label = label(alloc, &EMPLOYEE)?;
-    Ok(is_label_copied(alloc, &label)? && are_keys_copied(alloc, &label.keys)?)
+fn is_employee_copied(alloc: Global) -> bool {
+    match label(alloc, &EMPLOYEE) {
+        Ok(label) => is_label_copied(alloc, &label) && are_keys_copied(alloc, &label.keys),
+        Err(_) => false,
+    }
 }
 
 #[test]
-fn copies_are_the_same(rt: HostRuntime) -> Result<(), Fail> {
+fn copies_are_the_same(rt: HostRuntime) {
     let alloc = rt.alloc();
-    assert!(rt; is_tree_copied(alloc)? && is_content_copied(alloc)?);
-    assert!(rt; is_scalar_copied(alloc)? && is_employee_copied(alloc)?);
-    Ok(())
+    let are_documents_copied = is_tree_copied(alloc) && is_content_copied(alloc);
+    assert!(rt; are_documents_copied && is_scalar_copied(alloc) && is_employee_copied(alloc));
 }
 
-/// The archive of the parts of another.
-fn rebuilt(alloc: Global, archive: Archive) -> Result<Archive, Fail> {
+/// Whether the parts of an archive are one again, which has the second salary.
+fn is_rebuilt(alloc: Global, archive: Archive) -> bool {
     let (n, kids) = archive.into_parts();
-    Ok(Archive::of_parts(alloc, n, kids)?.ok_or("no archive")?)
+    match archive_of(alloc, n, kids) {
+        Some(archive) => has_version(alloc, &archive, 2, &COMPANY_OF_95),
+        None => false,
+    }
 }
 
 fn renewed(archive: Archive) -> Archive {
@@ -371,28 +424,26 @@ fn renewed(archive: Archive) -> Archive {
     Archive::new(n, kids)
 }
 
-fn is_rebuilt(alloc: Global) -> Result<bool, Fail> {
-    let made = rebuilt(alloc, archive(alloc, 3, &[COMPANY])?)?;
-    let archive = renewed(made);
-    Ok(has_version(alloc, &archive, 2, &Some(COMPANY_OF_95))?)
+fn is_company_rebuilt(alloc: Global) -> bool {
+    match archive(alloc, 3, &[COMPANY]) {
+        Some(archive) => is_rebuilt(alloc, renewed(archive)),
+        None => false,
+    }
 }
 
 #[test]
-fn parts_that_were_taken_apart_are_an_archive_again(rt: HostRuntime) -> Result<(), Fail> {
-    assert!(rt; is_rebuilt(rt.alloc())?);
-    Ok(())
+fn parts_that_were_taken_apart_are_an_archive_again(rt: HostRuntime) {
+    assert!(rt; is_company_rebuilt(rt.alloc()));
 }
 
-fn has_nothing(alloc: Global) -> Result<bool, AllocError> {
+fn has_nothing(alloc: Global) -> bool {
     let archive = Archive::empty(alloc);
-    let is_empty = archive.n() == 0 && archive.kids().is_empty();
-    Ok(has_version(alloc, &archive, 1, &None)? && is_empty)
+    archive.n() == 0 && archive.kids().is_empty() && has_no_version(alloc, &archive, 1)
 }
 
 #[test]
-fn the_empty_archive_has_no_version(rt: HostRuntime) -> Result<(), Fail> {
-    assert!(rt; has_nothing(rt.alloc())?);
-    Ok(())
+fn the_empty_archive_has_no_version(rt: HostRuntime) {
+    assert!(rt; has_nothing(rt.alloc()));
 }
 
 fn are_effective(nodes: &[ANode], parent: &VersionSet, pairs: &[(u32, u32)]) -> bool {
@@ -408,15 +459,16 @@ fn are_effective(nodes: &[ANode], parent: &VersionSet, pairs: &[(u32, u32)]) -> 
 const STORED: &[Shape] = &[Shape::Leaf(SALARY, &[(1, 1), (3, 3)], &[])];
 
 /// Whether a node of this shape has these versions, where the parent has three.
-fn is_effective(alloc: Global, shapes: &[Shape], pairs: &[(u32, u32)]) -> Result<bool, AllocError> {
+fn is_effective(alloc: Global, shapes: &[Shape], pairs: &[(u32, u32)]) -> bool {
     let parent = VersionSet::upto(alloc, 3);
-    let nodes = nodes(alloc, shapes)?;
-    Ok(are_effective(&nodes, &parent, pairs))
+    match nodes(alloc, shapes) {
+        Ok(nodes) => are_effective(&nodes, &parent, pairs),
+        Err(_) => false,
+    }
 }
 
 #[test]
-fn what_is_not_stored_is_the_parents(rt: HostRuntime) -> Result<(), Fail> {
-    assert!(rt; is_effective(rt.alloc(), &[SALARIES], &[(1, 3)])?);
-    assert!(rt; is_effective(rt.alloc(), STORED, &[(1, 1), (3, 3)])?);
-    Ok(())
+fn what_is_not_stored_is_the_parents(rt: HostRuntime) {
+    let is_parents = is_effective(rt.alloc(), &[SALARIES], &[(1, 3)]);
+    assert!(rt; is_parents && is_effective(rt.alloc(), STORED, &[(1, 1), (3, 3)]));
 }

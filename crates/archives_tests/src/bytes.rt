@@ -7,7 +7,7 @@ pub(crate) type Pieces = &'static [(&'static [u8], usize)];
 /// Offsets, and the bytes that are put there.
 pub(crate) type Edits = &'static [(usize, u8)];
 
-pub(crate) fn joined(alloc: Global, pieces: Pieces) -> Result<Vec<u8>, AllocError> {
+fn joined(alloc: Global, pieces: Pieces) -> Result<Vec<u8>, AllocError> {
     let mut bytes = Vec::new(alloc);
     for (piece, count) in pieces {
         for _ in 0..*count {
@@ -24,6 +24,13 @@ pub(crate) fn edit(bytes: &mut [u8], edits: Edits) {
             *place = *byte;
         }
     }
+}
+
+/// The pieces with these edits.
+pub(crate) fn edited(alloc: Global, pieces: Pieces, edits: Edits) -> Result<Vec<u8>, AllocError> {
+    let mut bytes = joined(alloc, pieces)?;
+    edit(&mut bytes, edits);
+    Ok(bytes)
 }
 
 /// The header of one version, whose only element is `db`.

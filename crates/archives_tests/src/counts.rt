@@ -1,4 +1,5 @@
 use crate::bytes::{COMPANY, COMPANY_WITHOUT_VERSIONS, FLOORS, TEXTS, TINY};
+use crate::told::told;
 use archive_file::decode_file;
 use archive_stats::{Counts, StatsFault, counts_of, stats};
 use std::alloc::{AllocError, Global};
@@ -42,13 +43,21 @@ fn numbers(counts: &Counts) -> [u64; 7] {
     ]
 }
 
-/// The counts of the archive that the bytes are the file of.
-fn decoded_counts(alloc: Global, file: &[u8]) -> Result<Counts, Fail> {
-    let (spec, archive) = decode_file(alloc, file)?;
-    if archive.n() > 999_999 {
-        return Err(Fail::from("too many versions"));
+fn are_counts(found: &Option<Counts>, wanted: &[u64; 7]) -> bool {
+    match found {
+        Some(counts) => numbers(counts) == *wanted,
+        None => false,
     }
-    Ok(counts_of(alloc, &spec, &archive)?)
+}
+
+/// Whether the archive that the bytes are the file of has these seven numbers.
+fn is_decoded_counted(alloc: Global, file: &[u8], wanted: &[u64; 7]) -> bool {
+    match decode_file(alloc, file) {
+        Ok((spec, archive)) => {
+            archive.n() <= 999_999 && are_counts(&counts_of(alloc, &spec, &archive).ok(), wanted)
+        }
+        Err(_) => false,
+    }
 }
 
 /// A folder in which the file of this name has these bytes.
@@ -58,31 +67,34 @@ fn folder(alloc: Global, file: &[u8]) -> Result<SureFolder, AllocError> {
     Ok(folder)
 }
 
-/// The counts that are read from such a folder.
-fn read_counts(alloc: Global, file: &[u8]) -> Result<Counts, Fail> {
-    let mut folder = folder(alloc, file)?;
-    Ok(stats(alloc, &mut folder, "a.xar", file.len() as u64)?)
+fn is_read_counted(alloc: Global, folder: &mut SureFolder, length: u64, wanted: &[u64; 7]) -> bool {
+    are_counts(&stats(alloc, folder, "a.xar", length).ok(), wanted)
+}
+
+/// Whether they are read from a folder in which the file has these bytes.
+fn is_stored_counted(alloc: Global, file: &[u8], wanted: &[u64; 7]) -> bool {
+    match folder(alloc, file) {
+        Ok(mut folder) => is_read_counted(alloc, &mut folder, file.len() as u64, wanted),
+        Err(_) => false,
+    }
 }
 
 #[test]
 fn archives_and_their_files_are_counted(rt: HostRuntime) -> Result<(), Fail> {
     for (name, file, wanted) in COUNTED {
-        let decoded = decoded_counts(rt.alloc(), file)?;
-        let read = read_counts(rt.alloc(), file)?;
-        assert!(rt;
-            numbers(&decoded) == *wanted && numbers(&read) == *wanted,
-            "{name}"
-        );
+        let is_counted = is_decoded_counted(rt.alloc(), file, wanted)
+            && is_stored_counted(rt.alloc(), file, wanted);
+        told(is_counted, name)?;
     }
     Ok(())
 }
 
 /// The name and the length of a file, and the bytes that are counted, or none where that is damage.
-const FRONTS: &[(&str, u64, Option<u64>)] = &[
-    ("a.xar", 142, Some(142)),
-    ("a.xar", 141, None),
-    ("a.xar", 147, None),
-    ("b.xar", 142, None),
+const FRONTS: &[(&str, &str, u64, Option<u64>)] = &[
+    ("the whole file", "a.xar", 142, Some(142)),
+    ("a byte less", "a.xar", 141, None),
+    ("more than there is", "a.xar", 147, None),
+    ("no file", "b.xar", 142, None),
 ];
 
 fn is_counted(found: &Result<Counts, StatsFault>, bytes: &Option<u64>) -> bool {
@@ -93,16 +105,26 @@ fn is_counted(found: &Result<Counts, StatsFault>, bytes: &Option<u64>) -> bool {
     }
 }
 
-#[test]
-fn only_the_first_bytes_of_a_file_are_read(rt: HostRuntime) -> Result<(), Fail> {
-    let mut file = Vec::from_slice(rt.alloc(), TINY)?;
+/// A file with four bytes behind its archive.
+fn longer_file(alloc: Global) -> Result<Vec<u8>, AllocError> {
+    let mut file = Vec::from_slice(alloc, TINY)?;
     file.extend_from_slice(b"more")?;
-    let mut folder = folder(rt.alloc(), &file)?;
-    for (name, length, bytes) in FRONTS {
-        let found = stats(rt.alloc(), &mut folder, name, *length);
-        assert!(rt; is_counted(&found, bytes), "{name}, {length} bytes");
+    Ok(file)
+}
+
+fn are_fronts_counted(alloc: Global, folder: &mut SureFolder) -> Result<(), Fail> {
+    for (row, name, length, bytes) in FRONTS {
+        let found = stats(alloc, folder, name, *length);
+        told(is_counted(&found, bytes), row)?;
     }
     Ok(())
+}
+
+#[test]
+fn only_the_first_bytes_of_a_file_are_read(rt: HostRuntime) -> Result<(), Fail> {
+    let file = longer_file(rt.alloc())?;
+    let mut folder = folder(rt.alloc(), &file)?;
+    are_fronts_counted(rt.alloc(), &mut folder)
 }
 
 /// A folder whose first read fails.
@@ -116,12 +138,16 @@ fn failing_folder(alloc: Global, file: &[u8]) -> Result<MemFolder, AllocError> {
     Ok(folder)
 }
 
+/// Whether the folder's failure is told, and the archive is counted then.
+fn is_failure_told(alloc: Global, folder: &mut MemFolder) -> bool {
+    let first = stats(alloc, folder, "a.xar", 142);
+    let second = stats(alloc, folder, "a.xar", 142);
+    first == Err(StatsFault::Folder) && is_counted(&second, &Some(142))
+}
+
 #[test]
 fn a_failed_read_is_told_as_such(rt: HostRuntime) -> Result<(), Fail> {
     let mut folder = failing_folder(rt.alloc(), TINY)?;
-    let first = stats(rt.alloc(), &mut folder, "a.xar", 142);
-    assert!(rt; first == Err(StatsFault::Folder));
-    let second = stats(rt.alloc(), &mut folder, "a.xar", 142);
-    assert!(rt; is_counted(&second, &Some(142)));
+    assert!(rt; is_failure_told(rt.alloc(), &mut folder));
     Ok(())
 }

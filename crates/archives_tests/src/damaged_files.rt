@@ -1,9 +1,10 @@
 //! Bytes that are an archive's file, or none: damage is answered as damage.
 use crate::bytes::{
     ALT, COMPANY, END, Edits, HEADER, LEAF, LEAF_END, NO_VERSIONS, Pieces, STORED_SET, TAIL, TINY,
-    edit, joined,
+    edit, edited,
 };
-use archive_file::{EncodeFault, FileFault, decode_file, encode_file};
+use crate::told::told;
+use archive_file::{FileFault, decode_file, encode_file};
 use std::alloc::{AllocError, Global};
 use std::test::Fail;
 
@@ -327,39 +328,37 @@ fn is_damage(alloc: Global, bytes: &[u8]) -> bool {
 }
 
 /// The file of the archive of which the bytes are the file.
-pub(crate) fn written_again(alloc: Global, bytes: &[u8]) -> Result<Option<Vec<u8>>, AllocError> {
+pub(crate) fn written_again(alloc: Global, bytes: &[u8]) -> Option<Vec<u8>> {
     match decode_file(alloc, bytes) {
-        Err(FileFault::Damage) => Ok(None),
-        Err(FileFault::Memory) => Err(AllocError),
         Ok((spec, archive)) => match encode_file(alloc, &spec, &archive) {
-            Err(EncodeFault::TooLong) => Ok(None),
-            Err(EncodeFault::Memory) => Err(AllocError),
-            Ok(file) => Ok(Some(file)),
+            Ok(file) => Some(file),
+            Err(_) => None,
         },
+        Err(_) => None,
+    }
+}
+
+fn is_file(alloc: Global, bytes: &[u8]) -> bool {
+    match written_again(alloc, bytes) {
+        Some(file) => file.as_slice() == bytes,
+        None => false,
     }
 }
 
 /// Whether the bytes are a file, or damage, as they should.
-fn is_judged(
-    alloc: Global,
-    pieces: Pieces,
-    edits: Edits,
-    is_file: bool,
-) -> Result<bool, AllocError> {
-    let mut bytes = joined(alloc, pieces)?;
-    edit(&mut bytes, edits);
-    if is_file {
-        let again = written_again(alloc, &bytes)?;
-        Ok(again.is_some_and(|file| file == bytes))
+fn is_judged(alloc: Global, bytes: &[u8], wanted: bool) -> bool {
+    if wanted {
+        is_file(alloc, bytes)
     } else {
-        Ok(is_damage(alloc, &bytes))
+        is_damage(alloc, bytes)
     }
 }
 
 #[test]
 fn files_are_read_and_written_and_other_bytes_are_damage(rt: HostRuntime) -> Result<(), Fail> {
-    for (name, pieces, edits, is_file) in FILES {
-        assert!(rt; is_judged(rt.alloc(), pieces, edits, *is_file)?, "{name}");
+    for (name, pieces, edits, wanted) in FILES {
+        let bytes = edited(rt.alloc(), pieces, edits)?;
+        told(is_judged(rt.alloc(), &bytes, *wanted), name)?;
     }
     Ok(())
 }
@@ -369,11 +368,18 @@ fn known_files_have_these_lengths(rt: HostRuntime) {
     assert!(rt; TINY.len() == 142 && NO_VERSIONS.len() == 49 && COMPANY.len() == 1198);
 }
 
+fn is_each_prefix_damage(alloc: Global, bytes: &[u8]) -> bool {
+    for length in 0..bytes.len() {
+        if !is_damage(alloc, &bytes[..length]) {
+            return false;
+        }
+    }
+    true
+}
+
 #[test]
 fn no_proper_prefix_is_a_file(rt: HostRuntime) {
-    for len in 0..TINY.len() {
-        assert!(rt; is_damage(rt.alloc(), &TINY[..len]), "{len} bytes");
-    }
+    assert!(rt; is_each_prefix_damage(rt.alloc(), TINY));
 }
 
 /// Parts of the company's file in another order, each from an offset up to another, and edits in what they make.
@@ -399,15 +405,17 @@ fn exchanged(alloc: Global, ranges: &[(usize, usize)]) -> Result<Vec<u8>, AllocE
     Ok(bytes)
 }
 
+/// Whether the parts have the length of the file, and are damage with these edits.
+fn is_exchange_damage(alloc: Global, bytes: &mut [u8], edits: Edits) -> bool {
+    edit(bytes, edits);
+    bytes.len() == 1198 && is_damage(alloc, bytes)
+}
+
 #[test]
 fn parts_out_of_order_are_damage(rt: HostRuntime) -> Result<(), Fail> {
     for (name, ranges, edits) in EXCHANGED {
         let mut bytes = exchanged(rt.alloc(), ranges)?;
-        edit(&mut bytes, edits);
-        assert!(rt;
-            bytes.len() == 1198 && is_damage(rt.alloc(), &bytes),
-            "{name}"
-        );
+        told(is_exchange_damage(rt.alloc(), &mut bytes, edits), name)?;
     }
     Ok(())
 }

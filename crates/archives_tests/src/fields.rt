@@ -1,6 +1,5 @@
 // Known bytes.
 use std::alloc::{AllocError, Global};
-use std::test::Fail;
 use xa_fields::{put_text, put_u32, put_u64, take_text, take_u8, take_u32, take_u64};
 
 fn fields(alloc: Global) -> Result<Vec<u8>, AllocError> {
@@ -13,14 +12,23 @@ fn fields(alloc: Global) -> Result<Vec<u8>, AllocError> {
 
 const FIELDS: &[u8] = b"\0\0\0\x0e\0\0\0\0\0\0\0\x30\0\0\0\x02db";
 
-#[test]
-fn numbers_and_texts_are_big_endian(rt: HostRuntime) -> Result<(), Fail> {
-    assert!(rt; fields(rt.alloc())?.as_slice() == FIELDS);
-    let are_numbers = take_u32(FIELDS, 0) == Some((14, 4))
+fn are_put(alloc: Global) -> bool {
+    match fields(alloc) {
+        Ok(bytes) => bytes.as_slice() == FIELDS,
+        Err(_) => false,
+    }
+}
+
+fn are_numbers_taken() -> bool {
+    take_u32(FIELDS, 0) == Some((14, 4))
         && take_u64(FIELDS, 4) == Some((48, 12))
-        && take_u8(FIELDS, 17) == Some((b'b', 18));
-    assert!(rt; are_numbers && take_text(FIELDS, 12) == Some(("db", 18)));
-    Ok(())
+        && take_u8(FIELDS, 17) == Some((b'b', 18))
+}
+
+#[test]
+fn numbers_and_texts_are_big_endian(rt: HostRuntime) {
+    assert!(rt; are_put(rt.alloc()) && are_numbers_taken());
+    assert!(rt; take_text(FIELDS, 12) == Some(("db", 18)));
 }
 
 #[test]

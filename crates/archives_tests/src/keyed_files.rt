@@ -8,8 +8,9 @@ ghost use Rattle.archive_tree.specs.View.{alt_view, node_view, nodes_view};
 
 use crate::shapes::{
     COMPANY, DATABASE, EMPLOYEE, FINANCE, FIRST_NAME, LAST_NAME, NAME, Named, SALARY_90, Shape,
-    TELEPHONE, Value, label, nodes,
+    TELEPHONE, Value, archive_of, label, nodes,
 };
+use crate::told::told;
 use archive_file::is_keyed;
 use archive_tree::{ANode, Alt, Archive};
 use jsonml_tree::{Content, Tree};
@@ -188,25 +189,52 @@ const KEYED: &[(&str, &str, u32, &[Shape], bool)] = &[
     ),
 ];
 
-// Whether the archive with these nodes is keyed.
-fn keyed(alloc: Global, spec: &str, n: u32, kids: Vec<ANode>) -> Result<bool, Fail>
+// Whether the archive is keyed, or is not, as it should.
+fn is_archive_judged(alloc: Global, spec: &Spec, archive: &Archive, wanted: bool) -> bool {
+    match is_keyed(alloc, spec, archive) {
+        Ok(found) => found == wanted,
+        Err(_) => false,
+    }
+}
+
+// The same for the archive with these nodes.
+fn are_nodes_judged(alloc: Global, spec: &Spec, n: u32, kids: Vec<ANode>, wanted: bool) -> bool
     requires { AreNodesWellFormed (nodes_view kids.items) }
 {
-    if spec.len() > 1_048_576 {
-        return Err(Fail::from("too long"));
+    match archive_of(alloc, n, kids) {
+        Some(archive) => is_archive_judged(alloc, spec, &archive, wanted),
+        None => false,
     }
-    let spec = Spec::parse(alloc, spec.as_bytes())?;
-    let Some(archive) = Archive::of_parts(alloc, n, kids)? else {
-        return Err(Fail::from("no archive"));
-    };
-    Ok(is_keyed(alloc, &spec, &archive)?)
+}
+
+fn spec_of(alloc: Global, text: &str) -> Option<Spec> {
+    if text.len() > 1_048_576 {
+        return None;
+    }
+    match Spec::parse(alloc, text.as_bytes()) {
+        Ok(spec) => Some(spec),
+        Err(_) => None,
+    }
+}
+
+fn are_judged(alloc: Global, spec: &Spec, n: u32, shapes: &[Shape], wanted: bool) -> bool {
+    match nodes(alloc, shapes) {
+        Ok(kids) => are_nodes_judged(alloc, spec, n, kids, wanted),
+        Err(_) => false,
+    }
+}
+
+fn is_judged(alloc: Global, spec: &str, n: u32, shapes: &[Shape], wanted: bool) -> bool {
+    match spec_of(alloc, spec) {
+        Some(spec) => are_judged(alloc, &spec, n, shapes, wanted),
+        None => false,
+    }
 }
 
 #[test]
 fn an_archive_is_keyed_or_not(rt: HostRuntime) -> Result<(), Fail> {
     for (name, spec, n, shapes, wanted) in KEYED {
-        let kids = nodes(rt.alloc(), shapes)?;
-        assert!(rt; keyed(rt.alloc(), spec, *n, kids)? == *wanted, "{name}");
+        told(is_judged(rt.alloc(), spec, *n, shapes, *wanted), name)?;
     }
     Ok(())
 }
@@ -269,18 +297,38 @@ fn constant(alloc: Global, label: Label, body: Body) -> Result<ANode, AllocError
     Ok(leaf(label, vec![in alloc; alt]?))
 }
 
-// Whether a document of that depth is keyed, where all but its root is below the frontier.
+// The nodes of a document of that depth, of which all but its root is below the frontier.
 #[tactic(auto, using(jsonml_tree::proofs::Trees::trees))]
-fn is_deep_keyed(alloc: Global, depth: u32) -> Result<bool, Fail>
+fn deep_nodes(alloc: Global, depth: u32) -> Result<Vec<ANode>, AllocError>
     requires { 1 ≤ depth }
+    ensures { IfOk result (λ v. AreNodesWellFormed (nodes_view v.items)) }
 {
     let content = alone(alloc, nested(alloc, depth - 1)?)?;
     let db = constant(alloc, label(alloc, &DATABASE)?, Body::Content(content))?;
-    keyed(alloc, "(/, (db, {}))", 1, vec![in alloc; db]?)
+    let kids = vec![in alloc; db]?;
+    Ok(kids)
+}
+
+// Whether such a document is keyed, or is not, as it should.
+fn is_depth_judged(alloc: Global, spec: &Spec, depth: u32, wanted: bool) -> bool
+    requires { 1 ≤ depth }
+{
+    match deep_nodes(alloc, depth) {
+        Ok(kids) => are_nodes_judged(alloc, spec, 1, kids, wanted),
+        Err(_) => false,
+    }
+}
+
+fn is_level_120_the_deepest(alloc: Global) -> bool {
+    match spec_of(alloc, "(/, (db, {}))") {
+        Some(spec) => {
+            is_depth_judged(alloc, &spec, 120, true) && is_depth_judged(alloc, &spec, 121, false)
+        }
+        None => false,
+    }
 }
 
 #[test]
-fn level_120_is_the_deepest(rt: HostRuntime) -> Result<(), Fail> {
-    assert!(rt; is_deep_keyed(rt.alloc(), 120)? && !is_deep_keyed(rt.alloc(), 121)?);
-    Ok(())
+fn level_120_is_the_deepest(rt: HostRuntime) {
+    assert!(rt; is_level_120_the_deepest(rt.alloc()));
 }

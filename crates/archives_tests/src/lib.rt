@@ -20,6 +20,8 @@ mod keyed_files;
 #[cfg(test)]
 mod merges;
 #[cfg(test)]
+mod nodes;
+#[cfg(test)]
 mod records;
 #[cfg(test)]
 mod searches;
@@ -27,3 +29,5 @@ mod searches;
 mod sets;
 #[cfg(test)]
 mod shapes;
+#[cfg(test)]
+mod told;

@@ -2,11 +2,12 @@
 ghost use Rattle.keyed_tree.specs.View.{keyed_view};
 ghost use Rattle.keyed_tree.specs.WellFormed.{IsKeyedWellFormed};
 
-use crate::shapes::{COMPANY_OF_90, COMPANY_OF_95, Named, Shape, Value, body, tree};
+use crate::shapes::{COMPANY_OF_90, COMPANY_OF_95, Named, Shape, Value, body, has_version, tree};
+use crate::told::told;
 use archive_tree::{ANode, Alt, Archive};
-use keyed_tree::Keyed;
+use keyed_tree::{Body, Keyed};
 use nested_merge::{is_alike, merge};
-use std::alloc::{AllocError, Global};
+use std::alloc::Global;
 use std::test::Fail;
 
 /// The tiny document: an element without attributes and items.
@@ -75,34 +76,34 @@ const MERGED: &[(&str, &[Shape], Option<usize>)] = &[
     ("ten versions of a catalogue come back", CATALOGUES, None),
 ];
 
-// The archive with one more version, which has to meet the conditions.
-fn grown(alloc: Global, old: Archive, new: &Keyed) -> Result<Archive, Fail>
+// The archive with one more version, if it meets the conditions.
+fn grown(alloc: Global, old: Archive, new: &Keyed) -> Option<Archive>
     requires { IsKeyedWellFormed (keyed_view new.now) }
 {
-    if old.n() == u32::MAX || !new.is_element() || !new.is_ordered() {
-        return Err("this is no version".into());
-    }
-    if !is_alike(&old, new) {
-        return Err("the version is not alike".into());
+    let may_grow = old.n() != u32::MAX && new.is_element() && new.is_ordered();
+    if !may_grow || !is_alike(&old, new) {
+        return None;
     }
     match merge(alloc, old, new) {
-        Ok(archive) => Ok(archive),
-        Err((error, _)) => Err(error.into()),
+        Ok(archive) => Some(archive),
+        Err(_) => None,
     }
 }
 
 // The archive with the version of this shape.
-fn with_version(alloc: Global, old: Archive, shape: &Shape) -> Result<Archive, Fail> {
-    let version = tree(alloc, shape)?;
-    grown(alloc, old, &version)
+fn with_version(alloc: Global, old: Archive, shape: &Shape) -> Option<Archive> {
+    match tree(alloc, shape) {
+        Ok(version) => grown(alloc, old, &version),
+        Err(_) => None,
+    }
 }
 
-fn merged(alloc: Global, versions: &[Shape]) -> Result<Archive, Fail> {
+fn merged(alloc: Global, versions: &[Shape]) -> Option<Archive> {
     let mut archive = Archive::empty(alloc);
     for version in versions {
         archive = with_version(alloc, archive, version)?;
     }
-    Ok(archive)
+    Some(archive)
 }
 
 // How many timestamps the nodes and their alternatives store.
@@ -127,48 +128,33 @@ fn node_stamps(node: &ANode) -> usize {
     }
 }
 
-// Whether this is the keyed tree of this shape.
-fn is_tree(alloc: Global, found: &Keyed, shape: &Shape) -> Result<bool, AllocError> {
-    let wanted = tree(alloc, shape)?;
-    Ok(found.same(&wanted))
-}
-
-// Whether the archive has this version.
-fn has_version(
-    alloc: Global,
-    archive: &Archive,
-    i: u32,
-    shape: &Shape,
-) -> Result<bool, AllocError> {
-    match archive.version(alloc, i)? {
-        Some(version) => is_tree(alloc, &version, shape),
-        None => Ok(false),
-    }
-}
-
 // Whether the archive has these versions and no more.
-fn has_versions(alloc: Global, archive: &Archive, versions: &[Shape]) -> Result<bool, AllocError> {
+fn has_versions(alloc: Global, archive: &Archive, versions: &[Shape]) -> bool {
     let mut i = 0u32;
     for shape in versions {
         i = i.saturating_add(1);
-        if !has_version(alloc, archive, i, shape)? {
-            return Ok(false);
+        if !has_version(alloc, archive, i, shape) {
+            return false;
         }
     }
-    Ok(archive.n() == i)
+    archive.n() == i
 }
 
 // Whether the versions come back from their archive, which stores so many timestamps.
-fn is_merged(alloc: Global, versions: &[Shape], stored: &Option<usize>) -> Result<bool, Fail> {
-    let archive = merged(alloc, versions)?;
-    let are_stored = stored.is_none_or(|wanted| wanted == stamps(archive.kids()));
-    Ok(are_stored && has_versions(alloc, &archive, versions)?)
+fn is_merged(alloc: Global, versions: &[Shape], stored: &Option<usize>) -> bool {
+    match merged(alloc, versions) {
+        Some(archive) => {
+            let are_stored = stored.is_none_or(|wanted| wanted == stamps(archive.kids()));
+            are_stored && has_versions(alloc, &archive, versions)
+        }
+        None => false,
+    }
 }
 
 #[test]
 fn merged_versions_come_back(rt: HostRuntime) -> Result<(), Fail> {
     for (name, versions, stored) in MERGED {
-        assert!(rt; is_merged(rt.alloc(), versions, stored)?, "{name}");
+        told(is_merged(rt.alloc(), versions, stored), name)?;
     }
     Ok(())
 }
@@ -186,38 +172,40 @@ fn alternatives<'a>(kids: &'a [ANode], places: &[usize]) -> &'a [Alt] {
     &[]
 }
 
-/// Whether an alternative has a set of this text, and this body.
-fn is_alternative(
-    alloc: Global,
-    alt: &Alt,
-    versions: &str,
-    value: &Value,
-) -> Result<bool, AllocError> {
-    let wanted = body(alloc, value)?;
+fn is_body(alloc: Global, found: &Body, value: &Value) -> bool {
+    match body(alloc, value) {
+        Ok(wanted) => found.same(&wanted),
+        Err(_) => false,
+    }
+}
+
+/// Whether an alternative has a set of these intervals, and this body.
+fn is_alternative(alloc: Global, alt: &Alt, pairs: &[(u32, u32)], value: &Value) -> bool {
     match &alt.stamp {
-        Some(set) => Ok(set.text()?.as_str() == versions && alt.body.same(&wanted)),
-        None => Ok(false),
+        Some(set) => set.pairs() == pairs && is_body(alloc, &alt.body, value),
+        None => false,
     }
 }
 
 /// Whether these are the two salaries, in the order of their first versions.
-fn are_salaries(alloc: Global, alts: &[Alt]) -> Result<bool, AllocError> {
+fn are_salaries(alloc: Global, alts: &[Alt]) -> bool {
     match alts {
-        [first, second] => Ok(
-            is_alternative(alloc, first, "1,3", &Value::Text("90K"))?
-                && is_alternative(alloc, second, "2", &Value::Text("95K"))?,
-        ),
-        _ => Ok(false),
+        [first, second] => {
+            is_alternative(alloc, first, &[(1, 1), (3, 3)], &Value::Text("90K"))
+                && is_alternative(alloc, second, &[(2, 2)], &Value::Text("95K"))
+        }
+        _ => false,
     }
 }
 
-fn has_two_salaries(alloc: Global, versions: &[Shape]) -> Result<bool, Fail> {
-    let archive = merged(alloc, versions)?;
-    Ok(are_salaries(alloc, alternatives(archive.kids(), &[0, 0, 0, 2]))?)
+fn has_two_salaries(alloc: Global, versions: &[Shape]) -> bool {
+    match merged(alloc, versions) {
+        Some(archive) => are_salaries(alloc, alternatives(archive.kids(), &[0, 0, 0, 2])),
+        None => false,
+    }
 }
 
 #[test]
-fn a_salary_that_returns_has_two_alternatives(rt: HostRuntime) -> Result<(), Fail> {
-    assert!(rt; has_two_salaries(rt.alloc(), SALARIES)?);
-    Ok(())
+fn a_salary_that_returns_has_two_alternatives(rt: HostRuntime) {
+    assert!(rt; has_two_salaries(rt.alloc(), SALARIES));
 }

@@ -1,11 +1,13 @@
 // The records of the archive of one version, the element `db`, byte by byte.
 use crate::bytes::{ALT, END, INNER, LEAF, LEAF_END};
+use crate::told::told;
 use keyed_tree::{Body, Label, Name};
 use record_format::{
-    Entry, Rec, StampView, View, decode, is_label, is_value, put_alt, put_end, put_inner, put_leaf,
-    put_leaf_end, take_frame, take_record, view, view_body,
+    BodyView, Dir, Entry, LabelView, Rec, StampView, View, decode, is_label, is_value, put_alt,
+    put_end, put_inner, put_leaf, put_leaf_end, take_frame, take_record, view, view_body,
 };
 use std::alloc::{AllocError, Global};
+use std::cmp::Ordering;
 use std::test::Fail;
 use version_set::VersionSet;
 
@@ -16,20 +18,27 @@ fn tag(alloc: Global, name: &str) -> Result<Label, AllocError> {
     })
 }
 
-#[test]
-fn the_directory_has_the_leaf(rt: HostRuntime) -> Result<(), Fail> {
-    let Ok(Rec::End { dir }) = decode(rt.alloc(), END) else {
-        return Err("no END".into());
-    };
-    let is_one = match (dir.entries.as_slice(), dir.sets.as_slice()) {
+/// Whether a directory has the leaf and its set.
+fn is_of_one(dir: &Dir) -> bool {
+    match (dir.entries.as_slice(), dir.sets.as_slice()) {
         ([entry], [set]) => {
             (entry.start, entry.length, entry.dir) == (0, 49, 0)
                 && set.pairs() == [(1, 1)].as_slice()
         }
         _ => false,
-    };
-    assert!(rt; is_one);
-    Ok(())
+    }
+}
+
+fn has_leaf(alloc: Global) -> bool {
+    match decode(alloc, END) {
+        Ok(Rec::End { dir }) => is_of_one(&dir),
+        _ => false,
+    }
+}
+
+#[test]
+fn the_directory_has_the_leaf(rt: HostRuntime) {
+    assert!(rt; has_leaf(rt.alloc()));
 }
 
 /// The timestamp of a record that has one.
@@ -42,47 +51,52 @@ fn stamp_in(bytes: &[u8]) -> Option<StampView<'_>> {
 }
 
 /// A record, the bytes of its timestamp, and the intervals of the stored set; none where it is the parent's.
-const STAMPS: &[(&[u8], &[u8], &[(u32, u32)])] = &[
-    (LEAF, b"\0", &[]),
+const STAMPS: &[(&str, &[u8], &[u8], &[(u32, u32)])] = &[
+    ("a leaf", LEAF, b"\0", &[]),
     (
+        "an inner node",
         INNER,
         b"\x01\0\0\0\x02\0\0\0\x01\0\0\0\x02\0\0\0\x04\0\0\0\x04",
         &[(1, 2), (4, 4)],
     ),
     (
+        "an alternative",
         b"\x03\0\0\0\0\0\0\0\x0f\x01\0\0\0\x01\0\0\0\x01\0\0\0\x02\0\0",
         b"\x01\0\0\0\x01\0\0\0\x01\0\0\0\x02",
         &[(1, 2)],
     ),
-    (b"\x03\0\0\0\0\0\0\0\x03\0\0\0", b"\0", &[]),
+    (
+        "an alternative in all versions",
+        b"\x03\0\0\0\0\0\0\0\x03\0\0\0",
+        b"\0",
+        &[],
+    ),
 ];
 
-/// Whether a record's timestamp has these bytes and is copied as this set.
-fn is_stamp(
-    alloc: Global,
-    record: &[u8],
-    bytes: &[u8],
-    pairs: &[(u32, u32)],
-) -> Result<bool, AllocError> {
-    let Some(stamp) = stamp_in(record) else {
-        return Ok(false);
-    };
-    if stamp.bytes() != bytes || stamp.is_stored() == pairs.is_empty() {
-        return Ok(false);
+fn is_copied(alloc: Global, stamp: &StampView, pairs: &[(u32, u32)]) -> bool {
+    match stamp.copy(alloc) {
+        Ok(Some(set)) => set.pairs() == pairs,
+        Ok(None) => pairs.is_empty(),
+        Err(_) => false,
     }
-    match stamp.copy(alloc)? {
-        Some(set) => Ok(set.pairs() == pairs),
-        None => Ok(pairs.is_empty()),
+}
+
+/// Whether a record's timestamp has these bytes and is copied as this set.
+fn is_stamp(alloc: Global, record: &[u8], bytes: &[u8], pairs: &[(u32, u32)]) -> bool {
+    match stamp_in(record) {
+        Some(stamp) => {
+            stamp.bytes() == bytes
+                && stamp.is_stored() != pairs.is_empty()
+                && is_copied(alloc, &stamp, pairs)
+        }
+        None => false,
     }
 }
 
 #[test]
 fn a_lent_timestamp_says_whether_it_is_stored(rt: HostRuntime) -> Result<(), Fail> {
-    for (index, (record, bytes, pairs)) in STAMPS.iter().enumerate() {
-        assert!(rt;
-            is_stamp(rt.alloc(), record, bytes, pairs)?,
-            "record {index}"
-        );
+    for (name, record, bytes, pairs) in STAMPS {
+        told(is_stamp(rt.alloc(), record, bytes, pairs), name)?;
     }
     Ok(())
 }
@@ -94,37 +108,57 @@ fn an_inherited_timestamp_is_decoded_as_none(rt: HostRuntime) {
     assert!(rt; matches!(rec, Ok(Rec::Alt { stamp: None, .. })));
 }
 
+/// Tags, and how the label `db` is to them.
+const TAGS: &[(&str, Ordering)] = &[
+    ("c", Ordering::Greater),
+    ("db", Ordering::Equal),
+    ("dba", Ordering::Less),
+];
+
+fn is_compared(alloc: Global, label: &LabelView, name: &str, wanted: Ordering) -> bool {
+    match tag(alloc, name) {
+        Ok(other) => label.order(&other) == wanted,
+        Err(_) => false,
+    }
+}
+
+fn are_compared(alloc: Global, label: &LabelView) -> Result<(), Fail> {
+    for (name, wanted) in TAGS {
+        told(is_compared(alloc, label, name, *wanted), name)?;
+    }
+    told(
+        label.bytes() == b"\x01\0\0\0\x02db\0\0\0\0".as_slice(),
+        "the bytes",
+    )
+}
+
 #[test]
 fn a_lent_label_is_compared(rt: HostRuntime) -> Result<(), Fail> {
-    let Some(View::Leaf { label, .. }) = view(LEAF) else {
-        return Err("no LEAF".into());
-    };
-    assert!(rt; label.bytes() == b"\x01\0\0\0\x02db\0\0\0\0".as_slice());
-    for (name, is_less, is_equal) in [
-        ("c", false, false),
-        ("db", false, true),
-        ("dba", true, false),
-    ] {
-        let order = label.order(&tag(rt.alloc(), name)?);
-        assert!(rt;
-            order.is_lt() == is_less && order.is_eq() == is_equal,
-            "{name}"
-        );
+    match view(LEAF) {
+        Some(View::Leaf { label, .. }) => are_compared(rt.alloc(), &label),
+        _ => Err(Fail::new("no LEAF")),
     }
-    Ok(())
+}
+
+fn is_same(found: &BodyView, other: &Body) -> bool {
+    found.same(other)
+        && !found.same(&Body::Scalar(jsonml_tree::Scalar::Null))
+        && found.bytes() == b"\x01\0\0\0\0\0\0\0\0".as_slice()
+}
+
+fn is_body_compared(alloc: Global, found: &BodyView) -> bool {
+    match decode(alloc, ALT) {
+        Ok(Rec::Alt { body, .. }) => is_same(found, &body),
+        _ => false,
+    }
 }
 
 #[test]
 fn a_lent_body_is_compared(rt: HostRuntime) -> Result<(), Fail> {
-    let Some(View::Alt { body, .. }) = view(ALT) else {
-        return Err("no ALT".into());
-    };
-    let Ok(Rec::Alt { body: other, .. }) = decode(rt.alloc(), ALT) else {
-        return Err("no ALT".into());
-    };
-    let is_compared = body.same(&other) && !body.same(&Body::Scalar(jsonml_tree::Scalar::Null));
-    assert!(rt; is_compared && body.bytes() == b"\x01\0\0\0\0\0\0\0\0".as_slice());
-    Ok(())
+    match view(ALT) {
+        Some(View::Alt { body, .. }) => told(is_body_compared(rt.alloc(), &body), "another body"),
+        _ => Err(Fail::new("no ALT")),
+    }
 }
 
 /// Whether an ALT stands at the front, and the end of a leaf behind it.
@@ -133,28 +167,54 @@ fn are_in_a_row(alloc: Global, bytes: &[u8]) -> bool {
     is_first && matches!(take_record(alloc, bytes, 19), Ok((Rec::LeafEnd, 28)))
 }
 
-#[test]
-fn records_stand_one_behind_another(rt: HostRuntime) -> Result<(), Fail> {
-    let mut bytes = Vec::from_slice(rt.alloc(), ALT)?;
+fn two_records(alloc: Global) -> Result<Vec<u8>, AllocError> {
+    let mut bytes = Vec::from_slice(alloc, ALT)?;
     bytes.extend_from_slice(LEAF_END)?;
-    assert!(rt; are_in_a_row(rt.alloc(), &bytes));
-    let (kind, body, end) = take_frame(&bytes, 0).ok_or("no frame")?;
-    let is_alt = matches!(view_body(kind, body), Some(View::Alt { .. }));
-    assert!(rt; is_alt && kind == 3 && end == 19);
-    Ok(())
+    Ok(bytes)
 }
 
-/// Whether a label and a body are put into records of these bytes.
-fn are_put(alloc: Global, label: &Label, body: &Body) -> Result<bool, Fail> {
+fn is_alt_framed(bytes: &[u8]) -> bool {
+    match take_frame(bytes, 0) {
+        Some((3, body, 19)) => matches!(view_body(3, body), Some(View::Alt { .. })),
+        _ => false,
+    }
+}
+
+fn do_two_stand(alloc: Global) -> bool {
+    match two_records(alloc) {
+        Ok(bytes) => are_in_a_row(alloc, &bytes) && is_alt_framed(&bytes),
+        Err(_) => false,
+    }
+}
+
+#[test]
+fn records_stand_one_behind_another(rt: HostRuntime) {
+    assert!(rt; do_two_stand(rt.alloc()));
+}
+
+/// Whether a label and a body are put, if they may be.
+fn put(out: &mut Vec<u8>, label: &Label, body: &Body) -> Result<bool, AllocError> {
     if !is_label(label) || !is_value(body) {
         return Ok(false);
     }
+    put_leaf(out, label, &None)?;
+    put_inner(out, label, &None)?;
+    put_alt(out, &None, body)?;
+    put_leaf_end(out)?;
+    Ok(true)
+}
+
+/// Whether they are put into records of these bytes.
+fn are_put(alloc: Global, label: &Label, body: &Body) -> bool {
     let mut out = Vec::new(alloc);
-    put_leaf(&mut out, label, &None)?;
-    put_inner(&mut out, label, &None)?;
-    put_alt(&mut out, &None, body)?;
-    put_leaf_end(&mut out)?;
-    Ok(out.as_slice() == PUT)
+    put(&mut out, label, body) == Ok(true) && out.as_slice() == PUT
+}
+
+fn is_tag_put(alloc: Global) -> bool {
+    match tag(alloc, "db") {
+        Ok(label) => are_put(alloc, &label, &Body::Scalar(jsonml_tree::Scalar::Null)),
+        Err(_) => false,
+    }
 }
 
 /// A leaf, an inner node, an alternative and the end of a leaf.
@@ -164,8 +224,8 @@ const PUT: &[u8] = b"\
     \x03\0\0\0\0\0\0\0\x03\0\0\0\
     \x05\0\0\0\0\0\0\0\0";
 
-/// The end of a row with one leaf.
-fn end_of_one(alloc: Global) -> Result<Vec<u8>, Fail> {
+/// Whether the end of a row with one leaf is put.
+fn is_end_put(alloc: Global) -> bool {
     let entry = Entry {
         start: 0,
         length: 49,
@@ -173,16 +233,13 @@ fn end_of_one(alloc: Global) -> Result<Vec<u8>, Fail> {
     };
     let set = VersionSet::single(alloc, 1);
     let mut out = Vec::new(alloc);
-    put_end(alloc, &mut out, &[entry], &[&set])?;
-    Ok(out)
+    match put_end(&mut out, &[entry], &[&set]) {
+        Ok(()) => out.as_slice() == END,
+        Err(_) => false,
+    }
 }
 
 #[test]
-fn parts_are_put_by_themselves(rt: HostRuntime) -> Result<(), Fail> {
-    let label = tag(rt.alloc(), "db")?;
-    let body = Body::Scalar(jsonml_tree::Scalar::Null);
-    assert!(rt; are_put(rt.alloc(), &label, &body)?);
-    let end = end_of_one(rt.alloc())?;
-    assert!(rt; end.as_slice() == END);
-    Ok(())
+fn parts_are_put_by_themselves(rt: HostRuntime) {
+    assert!(rt; is_tag_put(rt.alloc()) && is_end_put(rt.alloc()));
 }

@@ -6,8 +6,7 @@ ghost use Rattle.timestamp_tree.specs.Search.{visits};
 use std::alloc::{AllocError, Global};
 use std::marker::Brand;
 use std::sync::ledger::{Blank, Ledger};
-use std::test::Fail;
-use timestamp_tree::{Steps, TsTree};
+use timestamp_tree::{Steps, TsTree, put_tree};
 use version_set::VersionSet;
 
 const EIGHT: &[&[(u32, u32)]] = &[
@@ -21,12 +20,19 @@ const EIGHT: &[&[(u32, u32)]] = &[
     &[(4, 4)],
 ];
 
-fn eight_sets(alloc: Global) -> Result<Vec<VersionSet>, Fail> {
-    let mut sets = Vec::new(alloc);
-    for pairs in EIGHT {
-        sets.push(VersionSet::from_pairs(alloc, pairs)?.ok_or("no set")?)?;
+fn set_of(alloc: Global, pairs: &[(u32, u32)]) -> Option<VersionSet> {
+    match VersionSet::from_pairs(alloc, pairs) {
+        Ok(found) => found,
+        Err(_) => None,
     }
-    Ok(sets)
+}
+
+fn eight_sets(alloc: Global) -> Option<Vec<VersionSet>> {
+    let mut sets = Vec::with_capacity(alloc, 8).ok()?;
+    for pairs in EIGHT {
+        sets.push(set_of(alloc, pairs)?).ok()?;
+    }
+    Some(sets)
 }
 
 fn lent(alloc: Global, sets: &[VersionSet]) -> Result<Vec<&VersionSet>, AllocError> {
@@ -37,18 +43,56 @@ fn lent(alloc: Global, sets: &[VersionSet]) -> Result<Vec<&VersionSet>, AllocErr
     Ok(lent)
 }
 
-/// The tree over these sets, at most five thousand.
-fn tree_of(alloc: Global, sets: &[VersionSet]) -> Result<TsTree, Fail> {
-    let lent = lent(alloc, sets)?;
-    if lent.is_empty() || lent.len() > 5000 {
-        return Err("too many sets, or none".into());
+/// The tree over these sets, at least one and at most five thousand.
+fn tree_over(alloc: Global, sets: &[&VersionSet]) -> Option<TsTree> {
+    if sets.is_empty() || sets.len() > 5000 {
+        return None;
     }
-    Ok(TsTree::of(alloc, &lent)?)
+    match TsTree::of(alloc, sets) {
+        Ok(tree) => Some(tree),
+        Err(_) => None,
+    }
 }
 
-fn eight_leaves(alloc: Global) -> Result<TsTree, Fail> {
-    let sets = eight_sets(alloc)?;
-    tree_of(alloc, &sets)
+fn tree_of(alloc: Global, sets: &[VersionSet]) -> Option<TsTree> {
+    match lent(alloc, sets) {
+        Ok(lent) => tree_over(alloc, &lent),
+        Err(_) => None,
+    }
+}
+
+fn eight_leaves(alloc: Global) -> Option<TsTree> {
+    match eight_sets(alloc) {
+        Some(sets) => tree_of(alloc, &sets),
+        None => None,
+    }
+}
+
+/// The bytes of the tree over these sets, which is not held, if there are any.
+fn put_lent(alloc: Global, sets: &[&VersionSet]) -> Option<Vec<u8>> {
+    if sets.is_empty() {
+        return None;
+    }
+    let mut out = Vec::new(alloc);
+    match put_tree(&mut out, sets) {
+        Ok(()) => Some(out),
+        Err(_) => None,
+    }
+}
+
+fn put(alloc: Global, sets: &[VersionSet]) -> Option<Vec<u8>> {
+    match lent(alloc, sets) {
+        Ok(lent) => put_lent(alloc, &lent),
+        Err(_) => None,
+    }
+}
+
+/// The bytes of the tree over the eight sets.
+pub(crate) fn eight_put(alloc: Global) -> Option<Vec<u8>> {
+    match eight_sets(alloc) {
+        Some(sets) => put(alloc, &sets),
+        None => None,
+    }
 }
 
 // A search for 5 visits seven of the fifteen nodes of that tree, and one for 6 the root alone.
@@ -78,52 +122,134 @@ fn found_in(alloc: Global, tree: &TsTree, i: u32) -> Result<Vec<u32>, AllocError
 }
 
 /// Whether a search for the number finds these positions.
-fn are_found(alloc: Global, tree: &TsTree, i: u32, wanted: &[u32]) -> Result<bool, AllocError> {
-    Ok(found_in(alloc, tree, i)?.as_slice() == wanted)
+fn are_found(alloc: Global, tree: &TsTree, i: u32, wanted: &[u32]) -> bool {
+    match found_in(alloc, tree, i) {
+        Ok(found) => found.as_slice() == wanted,
+        Err(_) => false,
+    }
 }
 
-/// Whether a search for the number finds so many positions, from this one to that one.
-fn is_range_found(
-    alloc: Global,
-    tree: &TsTree,
-    i: u32,
-    wanted: (usize, u32, u32),
-) -> Result<bool, AllocError> {
-    let found = found_in(alloc, tree, i)?;
-    let (count, first, last) = wanted;
-    Ok(found.len() == count && found.first() == Some(&first) && found.last() == Some(&last))
+/// Whether these are so many positions, from one to another.
+fn is_range(found: &[u32], count: usize, first: u32, last: u32) -> bool {
+    found.len() == count && found.first() == Some(&first) && found.last() == Some(&last)
+}
+
+/// Whether a search for 97 finds each 97th position.
+fn is_range_found(alloc: Global, tree: &TsTree) -> bool {
+    match found_in(alloc, tree, 97) {
+        Ok(found) => is_range(&found, 51, 96, 4946),
+        Err(_) => false,
+    }
+}
+
+fn written(alloc: Global, tree: &TsTree) -> Result<Vec<u8>, AllocError> {
+    let mut out = Vec::new(alloc);
+    tree.encode(&mut out)?;
+    Ok(out)
 }
 
 /// Whether so many bytes are written, the root with these.
-fn is_written(
-    alloc: Global,
-    tree: &TsTree,
-    length: usize,
-    root: &[u8],
-) -> Result<bool, AllocError> {
-    let mut out = Vec::new(alloc);
-    tree.encode(&mut out)?;
-    Ok(out.len() == length && out.starts_with(root))
+fn is_written(alloc: Global, tree: &TsTree, length: usize, root: &[u8]) -> bool {
+    match written(alloc, tree) {
+        Ok(out) => out.len() == length && out.starts_with(root),
+        Err(_) => false,
+    }
+}
+
+/// Whether so many bytes are put for the tree over these sets, its root with these.
+fn is_put(alloc: Global, sets: &[VersionSet], length: usize, root: &[u8]) -> bool {
+    match put(alloc, sets) {
+        Some(out) => out.len() == length && out.starts_with(root),
+        None => false,
+    }
+}
+
+fn are_eight_put(alloc: Global) -> bool {
+    match eight_sets(alloc) {
+        Some(sets) => is_put(alloc, &sets, 324, ROOT_OF_EIGHT),
+        None => false,
+    }
+}
+
+fn are_many_put(alloc: Global) -> bool {
+    match many_sets(alloc) {
+        Ok(sets) => is_put(alloc, &sets, 202_188, ROOT_OF_MANY),
+        Err(_) => false,
+    }
 }
 
 /// The root: one interval from 1 to 5, and a left part of 164 bytes.
 const ROOT_OF_EIGHT: &[u8] = b"\0\0\0\x01\0\0\0\x01\0\0\0\x05\0\0\0\0\0\0\0\xa4";
 
-fn are_eight_leaves_right(alloc: Global) -> Result<bool, Fail> {
-    let tree = eight_leaves(alloc)?;
-    let is_found = are_found(alloc, &tree, 5, &[2])? && are_found(alloc, &tree, 6, &[])?;
-    Ok(is_found && tree.height() == 3 && is_written(alloc, &tree, 324, ROOT_OF_EIGHT)?)
+fn are_eight_leaves_right(alloc: Global) -> bool {
+    match eight_leaves(alloc) {
+        Some(tree) => {
+            are_found(alloc, &tree, 5, &[2])
+                && are_found(alloc, &tree, 6, &[])
+                && tree.height() == 3
+                && is_written(alloc, &tree, 324, ROOT_OF_EIGHT)
+        }
+        None => false,
+    }
 }
 
 #[test]
-fn eight_sets_make_three_levels(rt: HostRuntime) -> Result<(), Fail> {
-    assert!(rt; are_eight_leaves_right(rt.alloc())?);
+fn trees_are_put_as_they_are_written(rt: HostRuntime) {
+    assert!(rt; are_eight_put(rt.alloc()) && are_many_put(rt.alloc()));
+}
+
+/// So many sets of two intervals that are all the same.
+fn same_sets(alloc: Global, count: u32) -> Option<Vec<VersionSet>> {
+    let mut sets = Vec::new(alloc);
+    for _ in 0..count {
+        sets.push(set_of(alloc, &[(1, 3), (7, 9)])?).ok()?;
+    }
+    Some(sets)
+}
+
+/// Each root's set: two intervals, from 1 to 3 and from 7 to 9.
+const ROOT_OF_SAME: &[u8] = b"\0\0\0\x02\0\0\0\x01\0\0\0\x03\0\0\0\x07\0\0\0\x09";
+
+/// Whether the tree over these sets is put as it is written where it is held.
+fn is_put_as_written(alloc: Global, sets: &[VersionSet], tree: &TsTree) -> bool {
+    match written(alloc, tree) {
+        Ok(out) => is_put(alloc, sets, out.len(), &out),
+        Err(_) => false,
+    }
+}
+
+/// Whether the tree over so many sets that are the same has so many bytes, put or written.
+fn are_same_put(alloc: Global, count: u32, length: usize) -> bool {
+    let Some(sets) = same_sets(alloc, count) else {
+        return false;
+    };
+    match tree_of(alloc, &sets) {
+        Some(tree) => {
+            is_put_as_written(alloc, &sets, &tree) && is_put(alloc, &sets, length, ROOT_OF_SAME)
+        }
+        None => false,
+    }
+}
+
+#[test]
+fn trees_over_sets_that_are_the_same_are_put_as_they_are_written(rt: HostRuntime) {
+    let alloc = rt.alloc();
+    assert!(rt;
+        are_same_put(alloc, 1, 28)
+            && are_same_put(alloc, 2, 84)
+            && are_same_put(alloc, 3, 140)
+            && are_same_put(alloc, 7, 364)
+    );
+}
+
+#[test]
+fn eight_sets_make_three_levels(rt: HostRuntime) {
+    assert!(rt; are_eight_leaves_right(rt.alloc()));
     visited_nodes();
-    Ok(())
 }
 
 // Five thousand sets of one number each, from 1 to 97 and again from 1 on.
-fn many_sets(alloc: Global) -> Result<Vec<VersionSet>, Fail> {
+fn many_sets(alloc: Global) -> Result<Vec<VersionSet>, AllocError> {
     let mut sets = Vec::new(alloc);
     for i in 0..5000_u32 {
         sets.push(VersionSet::single(alloc, i % 97 + 1))?;
@@ -131,23 +257,29 @@ fn many_sets(alloc: Global) -> Result<Vec<VersionSet>, Fail> {
     Ok(sets)
 }
 
-fn tree_of_many(alloc: Global) -> Result<TsTree, Fail> {
-    let sets = many_sets(alloc)?;
-    tree_of(alloc, &sets)
+fn tree_of_many(alloc: Global) -> Option<TsTree> {
+    match many_sets(alloc) {
+        Ok(sets) => tree_of(alloc, &sets),
+        Err(_) => None,
+    }
 }
 
 /// The root: one interval from 1 to 97, and a left part of 101,092 bytes.
 const ROOT_OF_MANY: &[u8] = b"\0\0\0\x01\0\0\0\x01\0\0\0\x61\0\0\0\0\0\x01\x8a\xe4";
 
-fn are_many_leaves_right(alloc: Global) -> Result<bool, Fail> {
-    let tree = tree_of_many(alloc)?;
-    let is_found = is_range_found(alloc, &tree, 97, (51, 96, 4946))?;
-    let is_right = is_found && are_found(alloc, &tree, 98, &[])? && tree.height() == 13;
-    Ok(is_right && is_written(alloc, &tree, 202_188, ROOT_OF_MANY)?)
+fn are_many_leaves_right(alloc: Global) -> bool {
+    match tree_of_many(alloc) {
+        Some(tree) => {
+            is_range_found(alloc, &tree)
+                && are_found(alloc, &tree, 98, &[])
+                && tree.height() == 13
+                && is_written(alloc, &tree, 202_188, ROOT_OF_MANY)
+        }
+        None => false,
+    }
 }
 
 #[test]
-fn a_number_is_found_among_five_thousand_sets(rt: HostRuntime) -> Result<(), Fail> {
-    assert!(rt; are_many_leaves_right(rt.alloc())?);
-    Ok(())
+fn a_number_is_found_among_five_thousand_sets(rt: HostRuntime) {
+    assert!(rt; are_many_leaves_right(rt.alloc()));
 }

@@ -1,4 +1,5 @@
 // Small sets, whose text is known.
+use crate::told::told;
 use std::alloc::{AllocError, Global};
 use std::test::Fail;
 use version_set::VersionSet;
@@ -6,24 +7,32 @@ use version_set::VersionSet;
 type Pairs = &'static [(u32, u32)];
 
 /// Intervals, and the text of their set, or none where they are those of no set.
-const TEXTS: &[(Pairs, Option<&str>)] = &[
-    (&[(1, 2), (3, 4)], None),
-    (&[(1, 2), (4, 4)], Some("1-2,4")),
-    (&[(1, 1), (3, 3)], Some("1,3")),
-    (&[], Some("none")),
+const TEXTS: &[(&str, Pairs, Option<&str>)] = &[
+    ("neighbours", &[(1, 2), (3, 4)], None),
+    ("two intervals", &[(1, 2), (4, 4)], Some("1-2,4")),
+    ("two numbers", &[(1, 1), (3, 3)], Some("1,3")),
+    ("the empty set", &[], Some("none")),
 ];
 
 /// Two sets, their union, and what both have.
-const UNITED: &[(Pairs, Pairs, &str, &str)] = &[
-    (&[(1, 2)], &[(3, 3)], "1-3", "none"),
-    (&[(1, 5)], &[(3, 3), (7, 7)], "1-5,7", "3"),
+const UNITED: &[(&str, Pairs, Pairs, &str, &str)] = &[
+    ("neighbours are joined", &[(1, 2)], &[(3, 3)], "1-3", "none"),
     (
+        "a number of the other set",
+        &[(1, 5)],
+        &[(3, 3), (7, 7)],
+        "1-5,7",
+        "3",
+    ),
+    (
+        "intervals in turn",
         &[(1, 1), (5, 6), (11, 11)],
         &[(3, 3), (7, 8), (13, 13)],
         "1,3,5-8,11,13",
         "none",
     ),
     (
+        "the same the other way round",
         &[(3, 3), (7, 8), (13, 13)],
         &[(1, 1), (5, 6), (11, 11)],
         "1,3,5-8,11,13",
@@ -31,121 +40,150 @@ const UNITED: &[(Pairs, Pairs, &str, &str)] = &[
     ),
 ];
 
-fn set_of(alloc: Global, pairs: &[(u32, u32)]) -> Result<VersionSet, Fail> {
-    Ok(VersionSet::from_pairs(alloc, pairs)?.ok_or("these are no intervals of a set")?)
+fn set_of(alloc: Global, pairs: &[(u32, u32)]) -> Option<VersionSet> {
+    match VersionSet::from_pairs(alloc, pairs) {
+        Ok(found) => found,
+        Err(_) => None,
+    }
 }
 
 /// Whether the set has this text.
-fn is_text(set: &VersionSet, text: &str) -> Result<bool, AllocError> {
-    Ok(set.text()?.as_str() == text)
+fn is_text(set: &VersionSet, text: &str) -> bool {
+    match set.text() {
+        Ok(found) => found.as_str() == text,
+        Err(_) => false,
+    }
 }
 
-fn is_made(alloc: Global, pairs: &[(u32, u32)], text: &Option<&str>) -> Result<bool, AllocError> {
-    match (VersionSet::from_pairs(alloc, pairs)?, text) {
-        (Some(set), Some(text)) => is_text(&set, text),
-        (None, None) => Ok(true),
-        _ => Ok(false),
+fn is_set(alloc: Global, pairs: &[(u32, u32)], text: &str) -> bool {
+    match set_of(alloc, pairs) {
+        Some(set) => is_text(&set, text),
+        None => false,
+    }
+}
+
+fn is_no_set(alloc: Global, pairs: &[(u32, u32)]) -> bool {
+    matches!(VersionSet::from_pairs(alloc, pairs), Ok(None))
+}
+
+fn is_made(alloc: Global, pairs: &[(u32, u32)], text: &Option<&str>) -> bool {
+    match text {
+        Some(text) => is_set(alloc, pairs, text),
+        None => is_no_set(alloc, pairs),
     }
 }
 
 #[test]
 fn intervals_have_their_text(rt: HostRuntime) -> Result<(), Fail> {
-    for (pairs, text) in TEXTS {
-        assert!(rt; is_made(rt.alloc(), pairs, text)?, "{pairs:?}");
+    for (name, pairs, text) in TEXTS {
+        told(is_made(rt.alloc(), pairs, text), name)?;
     }
     Ok(())
 }
 
-fn is_union(ours: &VersionSet, theirs: &VersionSet, text: &str) -> Result<bool, AllocError> {
-    let union = ours.union(theirs)?;
-    is_text(&union, text)
+fn is_union(ours: &VersionSet, theirs: &VersionSet, text: &str) -> bool {
+    match ours.union(theirs) {
+        Ok(union) => is_text(&union, text),
+        Err(_) => false,
+    }
 }
 
-fn is_meet(ours: &VersionSet, theirs: &VersionSet, text: &str) -> Result<bool, AllocError> {
-    let meet = ours.meet(theirs)?;
-    is_text(&meet, text)
+fn is_meet(ours: &VersionSet, theirs: &VersionSet, text: &str) -> bool {
+    match ours.meet(theirs) {
+        Ok(meet) => is_text(&meet, text),
+        Err(_) => false,
+    }
 }
 
-fn is_united(
-    alloc: Global,
-    ours: &[(u32, u32)],
-    theirs: &[(u32, u32)],
-    texts: (&str, &str),
-) -> Result<bool, Fail> {
-    let ours = set_of(alloc, ours)?;
-    let theirs = set_of(alloc, theirs)?;
-    Ok(is_union(&ours, &theirs, texts.0)? && is_meet(&ours, &theirs, texts.1)?)
+/// Whether these are the union and the meet of a set and that of these intervals.
+fn is_united_with(ours: &VersionSet, alloc: Global, theirs: Pairs, texts: (&str, &str)) -> bool {
+    match set_of(alloc, theirs) {
+        Some(theirs) => is_union(ours, &theirs, texts.0) && is_meet(ours, &theirs, texts.1),
+        None => false,
+    }
+}
+
+fn is_united(alloc: Global, ours: Pairs, theirs: Pairs, texts: (&str, &str)) -> bool {
+    match set_of(alloc, ours) {
+        Some(ours) => is_united_with(&ours, alloc, theirs, texts),
+        None => false,
+    }
 }
 
 #[test]
 fn a_union_joins_neighbours_and_a_meet_keeps_common_numbers(rt: HostRuntime) -> Result<(), Fail> {
-    for (ours, theirs, union, meet) in UNITED {
-        assert!(rt;
-            is_united(rt.alloc(), ours, theirs, (union, meet))?,
-            "{union}"
-        );
+    for (name, ours, theirs, union, meet) in UNITED {
+        told(is_united(rt.alloc(), ours, theirs, (union, meet)), name)?;
     }
     Ok(())
 }
 
 /// Whether single numbers and first numbers are such sets.
-fn are_plain(alloc: Global) -> Result<bool, AllocError> {
-    Ok(
-        is_text(&VersionSet::single(alloc, 3), "3")?
-            && is_text(&VersionSet::upto(alloc, 5), "1-5")?
-            && is_text(&VersionSet::upto(alloc, 0), "none")?
-            && VersionSet::empty(alloc).last() == 0,
-    )
+fn are_plain(alloc: Global) -> bool {
+    is_text(&VersionSet::single(alloc, 3), "3")
+        && is_text(&VersionSet::upto(alloc, 5), "1-5")
+        && is_text(&VersionSet::upto(alloc, 0), "none")
+        && VersionSet::empty(alloc).last() == 0
 }
 
 #[test]
-fn sets_are_made_of_a_number(rt: HostRuntime) -> Result<(), Fail> {
-    assert!(rt; are_plain(rt.alloc())?);
-    Ok(())
+fn sets_are_made_of_a_number(rt: HostRuntime) {
+    assert!(rt; are_plain(rt.alloc()));
 }
 
-/// Whether a number joins the last interval, or begins another.
-fn are_last(alloc: Global) -> Result<bool, AllocError> {
+/// The numbers up to 2, and 3 and 5.
+fn joined(alloc: Global) -> Result<VersionSet, AllocError> {
     let mut set = VersionSet::upto(alloc, 2);
     set.reserve_one()?;
     set.add_last(3);
-    let is_joined = is_text(&set, "1-3")?;
     set.reserve_one()?;
     set.add_last(5);
-    Ok(is_joined && set.last() == 5 && is_text(&set, "1-3,5")?)
+    Ok(set)
+}
+
+/// Whether a number joins the last interval, or begins another.
+fn are_last(alloc: Global) -> bool {
+    match joined(alloc) {
+        Ok(set) => set.last() == 5 && is_text(&set, "1-3,5"),
+        Err(_) => false,
+    }
 }
 
 /// Whether each number of 2,4-5 is moved to the one before it.
-fn is_shifted(alloc: Global) -> Result<bool, AllocError> {
+fn are_moved(alloc: Global) -> Result<bool, AllocError> {
     let mut set = VersionSet::single(alloc, 2);
     set.reserve_one()?;
     set.add_last(4);
     set.reserve_one()?;
     set.add_last(5);
-    Ok(is_text(&set, "2,4-5")? && is_text(&set.shift(-1)?, "1,3-4")?)
+    let moved = set.shift(-1)?;
+    Ok(is_text(&set, "2,4-5") && is_text(&moved, "1,3-4"))
 }
 
 #[test]
-fn a_last_number_is_added_and_a_shift_moves_each(rt: HostRuntime) -> Result<(), Fail> {
-    assert!(rt; are_last(rt.alloc())?);
-    assert!(rt; is_shifted(rt.alloc())?);
-    Ok(())
+fn a_last_number_is_added_and_a_shift_moves_each(rt: HostRuntime) {
+    assert!(rt; are_last(rt.alloc()) && are_moved(rt.alloc()) == Ok(true));
 }
 
-fn is_copied(set: &VersionSet, pairs: &[(u32, u32)]) -> Result<bool, AllocError> {
-    let copy = set.copy()?;
-    Ok(copy.same(set) && copy.pairs() == pairs && copy.contains(3) && !copy.contains(2))
+fn is_copied(set: &VersionSet, pairs: &[(u32, u32)]) -> bool {
+    match set.copy() {
+        Ok(copy) => {
+            copy.same(set) && copy.pairs() == pairs && copy.contains(3) && !copy.contains(2)
+        }
+        Err(_) => false,
+    }
 }
 
-fn is_odd_set_copied(alloc: Global) -> Result<bool, Fail> {
-    let set = set_of(alloc, &[(1, 1), (3, 3)])?;
-    Ok(is_copied(&set, &[(1, 1), (3, 3)])?)
+fn is_odd_set_copied(alloc: Global) -> bool {
+    match set_of(alloc, &[(1, 1), (3, 3)]) {
+        Some(set) => is_copied(&set, &[(1, 1), (3, 3)]),
+        None => false,
+    }
 }
 
 #[test]
-fn copy_is_the_same_set(rt: HostRuntime) -> Result<(), Fail> {
-    assert!(rt; is_odd_set_copied(rt.alloc())?);
-    Ok(())
+fn copy_is_the_same_set(rt: HostRuntime) {
+    assert!(rt; is_odd_set_copied(rt.alloc()));
 }
 
 /// Intervals that are pushed in turn onto the empty set, and whether each may stand there.
@@ -158,24 +196,29 @@ const PUSHED: &[((u32, u32), bool)] = &[
     ((4_294_967_295, 4_294_967_295), false),
 ];
 
-/// The place of the first interval that is judged otherwise.
-fn first_misjudged(set: &mut VersionSet) -> Result<Option<usize>, AllocError> {
-    for (index, (pair, stands)) in PUSHED.iter().enumerate() {
-        if set.push_pair(*pair)? != *stands {
-            return Ok(Some(index));
-        }
+/// Whether an interval is added, or is not, as it should.
+fn is_pushed(set: &mut VersionSet, pair: (u32, u32), stands: bool) -> bool {
+    match set.push_pair(pair) {
+        Ok(is_added) => is_added == stands,
+        Err(_) => false,
     }
-    Ok(None)
 }
 
-fn are_pushed(alloc: Global) -> Result<bool, AllocError> {
+fn is_each_pushed(set: &mut VersionSet) -> bool {
+    for (pair, stands) in PUSHED {
+        if !is_pushed(set, *pair, *stands) {
+            return false;
+        }
+    }
+    true
+}
+
+fn are_pushed(alloc: Global) -> bool {
     let mut set = VersionSet::empty(alloc);
-    let misjudged = first_misjudged(&mut set)?;
-    Ok(misjudged.is_none() && is_text(&set, "1-2,4-4294967295")?)
+    is_each_pushed(&mut set) && is_text(&set, "1-2,4-4294967295")
 }
 
 #[test]
-fn an_interval_is_added_where_it_may_stand(rt: HostRuntime) -> Result<(), Fail> {
-    assert!(rt; are_pushed(rt.alloc())?);
-    Ok(())
+fn an_interval_is_added_where_it_may_stand(rt: HostRuntime) {
+    assert!(rt; are_pushed(rt.alloc()));
 }

@@ -10,7 +10,6 @@ use archive_tree::{ANode, Alt, Archive};
 use jsonml_tree::{Content, Scalar};
 use keyed_tree::{Body, KeyVal, Keyed, Label, Name};
 use std::alloc::{AllocError, Global};
-use std::test::Fail;
 use version_set::VersionSet;
 
 /// A key value or a body.
@@ -137,10 +136,22 @@ pub(crate) fn nodes(alloc: Global, shapes: &[Shape]) -> Result<Vec<ANode>, Alloc
     Ok(kids)
 }
 
+/// The archive of so many versions with these nodes, if they are its parts.
+pub(crate) fn archive_of(alloc: Global, n: u32, kids: Vec<ANode>) -> Option<Archive>
+    requires { AreNodesWellFormed (nodes_view kids.items) }
+{
+    match Archive::of_parts(alloc, n, kids) {
+        Ok(found) => found,
+        Err(_) => None,
+    }
+}
+
 /// The archive of so many versions whose root has nodes of these shapes.
-pub(crate) fn archive(alloc: Global, n: u32, shapes: &[Shape]) -> Result<Archive, Fail> {
-    let kids = nodes(alloc, shapes)?;
-    Ok(Archive::of_parts(alloc, n, kids)?.ok_or("these are no parts of an archive")?)
+pub(crate) fn archive(alloc: Global, n: u32, shapes: &[Shape]) -> Option<Archive> {
+    match nodes(alloc, shapes) {
+        Ok(kids) => archive_of(alloc, n, kids),
+        Err(_) => None,
+    }
 }
 
 /// The keyed tree of this shape, where each leaf has its first body.
@@ -175,6 +186,22 @@ fn trees(alloc: Global, shapes: &[Shape]) -> Result<Vec<Keyed>, AllocError>
         kids.push(tree(alloc, shape)?)?;
     }
     Ok(kids)
+}
+
+/// Whether this is the keyed tree of this shape.
+pub(crate) fn is_tree(alloc: Global, found: &Keyed, shape: &Shape) -> bool {
+    match tree(alloc, shape) {
+        Ok(wanted) => found.same(&wanted),
+        Err(_) => false,
+    }
+}
+
+/// Whether the archive has this version.
+pub(crate) fn has_version(alloc: Global, archive: &Archive, i: u32, shape: &Shape) -> bool {
+    match archive.version(alloc, i) {
+        Ok(Some(version)) => is_tree(alloc, &version, shape),
+        _ => false,
+    }
 }
 
 /// What companies of one department and one employee are made of.

@@ -1,4 +1,5 @@
 //! Cases over a folder in memory: what is done there, and what has to come of it.
+use crate::told::told;
 use std::alloc::{AllocError, Global};
 use std::process::Abort;
 use std::test::Fail;
@@ -56,6 +57,8 @@ pub(crate) enum Step {
     /// Since the draft was begun last, no more bytes than these were read, and what was read was
     /// ahead of what was written by no more than these.
     HasRead(u64, u64),
+    /// The run before this one has read no more bytes than these.
+    ReadsAtMost(u64),
 }
 
 /// A name, the calls of the folder that fail, and what is done.
@@ -75,11 +78,12 @@ pub(crate) struct Norm(
     pub(crate) &'static [u8],
 );
 
-/// The folder, and what the last run has written.
+/// The folder, what the last run has written, and how many bytes were read before it.
 #[derive(Drop)]
 struct State {
     folder: MemFolder,
     written: Vec<u8>,
+    read_before: u64,
 }
 
 pub(crate) fn joined(alloc: Global, pieces: Pieces) -> Result<Vec<u8>, AllocError> {
@@ -123,24 +127,32 @@ fn ends_of(alloc: Global, outside: &Outside) -> Result<Ends, AllocError> {
     Ok(Ends { input, out, err })
 }
 
-fn is_output(
-    alloc: Global,
-    output: &Output,
-    before: &[u8],
-    written: &[u8],
-) -> Result<bool, AllocError> {
+fn are_joined(alloc: Global, pieces: Pieces, bytes: &[u8]) -> bool {
+    match joined(alloc, pieces) {
+        Ok(whole) => whole.as_slice() == bytes,
+        Err(_) => false,
+    }
+}
+
+fn is_prefix(alloc: Global, pieces: Pieces, bytes: &[u8]) -> bool {
+    match joined(alloc, pieces) {
+        Ok(whole) => whole.starts_with(bytes),
+        Err(_) => false,
+    }
+}
+
+fn is_output(alloc: Global, output: &Output, before: &[u8], written: &[u8]) -> bool {
     match output {
-        Output::Is(pieces) => Ok(joined(alloc, pieces)?.as_slice() == written),
-        Output::BeginsWith(front) => Ok(written.starts_with(front)),
+        Output::Is(pieces) => are_joined(alloc, pieces, written),
+        Output::BeginsWith(front) => written.starts_with(front),
         Output::Holds(part) => {
             let mut parts = written.windows(part.len().max(1));
-            Ok(parts.any(|window| window == *part))
+            parts.any(|window| window == *part)
         }
         Output::PrefixOf(pieces, least) => {
-            let whole = joined(alloc, pieces)?;
-            Ok(whole.starts_with(written) && written.len() >= *least)
+            written.len() >= *least && is_prefix(alloc, pieces, written)
         }
-        Output::AsBefore => Ok(written == before),
+        Output::AsBefore => written == before,
     }
 }
 
@@ -151,11 +163,39 @@ fn is_wanted(
     status: u8,
     ends: &Ends,
     wanted: (u8, &Output, &[u8]),
-) -> Result<bool, AllocError> {
-    let is_written = is_output(alloc, wanted.1, written, ends.out.taken())?;
+) -> bool {
+    let is_written = is_output(alloc, wanted.1, written, ends.out.taken());
     written.clear();
-    written.extend_from_slice(ends.out.taken())?;
-    Ok(is_written && status == wanted.0 && ends.err.taken() == wanted.2)
+    is_written
+        && written.extend_from_slice(ends.out.taken()).is_ok()
+        && status == wanted.0
+        && ends.err.taken() == wanted.2
+}
+
+fn is_run(
+    alloc: Global,
+    state: &mut State,
+    ends: &mut Ends,
+    words: &[String],
+    wanted: (u8, &Output, &[u8]),
+) -> bool {
+    let Ends { input, out, err } = ends;
+    state.read_before = state.folder.pulled();
+    let status = run(alloc, words, &mut state.folder, input, out, err);
+    is_wanted(alloc, &mut state.written, status, ends, wanted)
+}
+
+fn are_words_run(
+    alloc: Global,
+    state: &mut State,
+    outside: &Outside,
+    words: &[String],
+    wanted: (u8, &Output, &[u8]),
+) -> bool {
+    match ends_of(alloc, outside) {
+        Ok(mut ends) => is_run(alloc, state, &mut ends, words, wanted),
+        Err(_) => false,
+    }
 }
 
 /// Whether words have this answer, write this and say this.
@@ -165,52 +205,54 @@ fn is_answered(
     outside: &Outside,
     words: &[&str],
     wanted: (u8, &Output, &[u8]),
-) -> Result<bool, AllocError> {
-    let words = texts(alloc, words)?;
-    let mut ends = ends_of(alloc, outside)?;
-    let Ends { input, out, err } = &mut ends;
-    let status = run(alloc, &words, &mut state.folder, input, out, err);
-    is_wanted(alloc, &mut state.written, status, &ends, wanted)
-}
-
-fn is_added(alloc: Global, state: &mut State, doc: &[u8]) -> Result<bool, AllocError> {
-    state.folder.put("doc", Vec::from_slice(alloc, doc)?)?;
-    is_answered(
-        alloc,
-        state,
-        &QUIET,
-        &["add", "A", "doc"],
-        (0, &NOTHING, b""),
-    )
-}
-
-fn is_archived(
-    alloc: Global,
-    state: &mut State,
-    spec: &[u8],
-    docs: &[&[u8]],
-) -> Result<bool, AllocError> {
-    state.folder.put("spec", Vec::from_slice(alloc, spec)?)?;
-    let words = ["init", "A", "spec"];
-    let mut is_met = is_answered(alloc, state, &QUIET, &words, (0, &NOTHING, b""))?;
-    for doc in docs {
-        is_met = is_added(alloc, state, doc)? && is_met;
+) -> bool {
+    match texts(alloc, words) {
+        Ok(words) => are_words_run(alloc, state, outside, &words, wanted),
+        Err(_) => false,
     }
-    Ok(is_met)
 }
 
-fn has_bytes(
-    alloc: Global,
-    folder: &MemFolder,
-    name: &str,
-    pieces: Pieces,
-) -> Result<bool, AllocError> {
-    let wanted = joined(alloc, pieces)?;
-    Ok(
-        folder
-            .file(name)
-            .is_some_and(|file| file == wanted.as_slice()),
-    )
+fn is_put(alloc: Global, folder: &mut MemFolder, name: &str, bytes: &[u8]) -> bool {
+    match Vec::from_slice(alloc, bytes) {
+        Ok(bytes) => folder.put(name, bytes).is_ok(),
+        Err(_) => false,
+    }
+}
+
+fn are_put(alloc: Global, folder: &mut MemFolder, name: &str, pieces: Pieces) -> bool {
+    match joined(alloc, pieces) {
+        Ok(bytes) => folder.put(name, bytes).is_ok(),
+        Err(_) => false,
+    }
+}
+
+fn is_added(alloc: Global, state: &mut State, doc: &[u8]) -> bool {
+    let words = ["add", "A", "doc"];
+    is_put(alloc, &mut state.folder, "doc", doc)
+        && is_answered(alloc, state, &QUIET, &words, (0, &NOTHING, b""))
+}
+
+fn are_added(alloc: Global, state: &mut State, docs: &[&[u8]]) -> bool {
+    for doc in docs {
+        if !is_added(alloc, state, doc) {
+            return false;
+        }
+    }
+    true
+}
+
+fn is_archived(alloc: Global, state: &mut State, spec: &[u8], docs: &[&[u8]]) -> bool {
+    let words = ["init", "A", "spec"];
+    is_put(alloc, &mut state.folder, "spec", spec)
+        && is_answered(alloc, state, &QUIET, &words, (0, &NOTHING, b""))
+        && are_added(alloc, state, docs)
+}
+
+fn has_bytes(alloc: Global, folder: &MemFolder, name: &str, pieces: Pieces) -> bool {
+    match folder.file(name) {
+        Some(file) => are_joined(alloc, pieces, file),
+        None => false,
+    }
 }
 
 fn are_alike(folder: &MemFolder, name: &str, other: &str) -> bool {
@@ -221,12 +263,9 @@ fn are_alike(folder: &MemFolder, name: &str, other: &str) -> bool {
 }
 
 /// Does the step. The answer says whether all has come of it that has to.
-fn is_met(alloc: Global, state: &mut State, step: &Step) -> Result<bool, AllocError> {
+fn is_met(alloc: Global, state: &mut State, step: &Step) -> bool {
     match step {
-        Step::Put(name, pieces) => {
-            state.folder.put(name, joined(alloc, pieces)?)?;
-            Ok(true)
-        }
+        Step::Put(name, pieces) => are_put(alloc, &mut state.folder, name, pieces),
         Step::Run(words, status, output, lines) => {
             is_answered(alloc, state, &QUIET, words, (*status, output, lines))
         }
@@ -236,12 +275,15 @@ fn is_met(alloc: Global, state: &mut State, step: &Step) -> Result<bool, AllocEr
         Step::Archive(spec, docs) => is_archived(alloc, state, spec, docs),
         Step::Has(name, pieces) => has_bytes(alloc, &state.folder, name, pieces),
         Step::HasLength(name, length) => {
-            Ok(state.folder.file(name).map_or(0, |file| file.len()) == *length)
+            state.folder.file(name).map_or(0, |file| file.len()) == *length
         }
-        Step::HasNo(name) => Ok(state.folder.file(name).is_none()),
-        Step::AreAlike(name, other) => Ok(are_alike(&state.folder, name, other)),
+        Step::HasNo(name) => state.folder.file(name).is_none(),
+        Step::AreAlike(name, other) => are_alike(&state.folder, name, other),
         Step::HasRead(most, ahead) => {
-            Ok(state.folder.since() <= *most && state.folder.gap() <= *ahead)
+            state.folder.since() <= *most && state.folder.gap() <= *ahead
+        }
+        Step::ReadsAtMost(most) => {
+            state.folder.pulled().saturating_sub(state.read_before) <= *most
         }
     }
 }
@@ -251,56 +293,59 @@ fn empty_folder(alloc: Global, fails: &[FolderFail]) -> Result<State, AllocError
     Ok(State {
         folder,
         written: Vec::new(alloc),
+        read_before: 0,
     })
 }
 
 /// The number of the first step that goes otherwise, counted from 1; 0 where none does.
-fn first_unmet(alloc: Global, case: &Case) -> Result<usize, AllocError> {
-    let mut state = empty_folder(alloc, case.fails)?;
-    for (index, step) in case.steps.iter().enumerate() {
-        if !is_met(alloc, &mut state, step)? {
-            return Ok(index.saturating_add(1));
+fn first_unmet(alloc: Global, state: &mut State, steps: &[Step]) -> usize {
+    for (index, step) in steps.iter().enumerate() {
+        if !is_met(alloc, state, step) {
+            return index.saturating_add(1);
         }
     }
-    Ok(0)
+    0
 }
 
 /// Checks that each case goes as it says.
 pub(crate) fn check(rt: &impl Abort, alloc: Global, cases: &[Case]) -> Result<(), Fail> {
     for case in cases {
-        let unmet = first_unmet(alloc, case)?;
+        let mut state = empty_folder(alloc, case.fails)?;
+        let unmet = first_unmet(alloc, &mut state, case.steps);
         assert!(rt; unmet == 0, "{}: step {unmet}", case.name);
     }
     Ok(())
 }
 
-fn is_normed(alloc: Global, norm: &Norm) -> Result<bool, AllocError> {
+fn is_normed_there(alloc: Global, state: &mut State, norm: &Norm) -> bool {
     let Norm(_, spec, doc, status, output, lines) = norm;
-    let mut state = empty_folder(alloc, &[])?;
-    state.folder.put("spec", Vec::from_slice(alloc, spec)?)?;
-    state.folder.put("doc", joined(alloc, doc)?)?;
     let words = ["norm", "spec", "doc"];
-    is_answered(alloc, &mut state, &QUIET, &words, (*status, output, lines))
+    is_put(alloc, &mut state.folder, "spec", spec)
+        && are_put(alloc, &mut state.folder, "doc", doc)
+        && is_answered(alloc, state, &QUIET, &words, (*status, output, lines))
+}
+
+fn is_normed(alloc: Global, norm: &Norm) -> bool {
+    match empty_folder(alloc, &[]) {
+        Ok(mut state) => is_normed_there(alloc, &mut state, norm),
+        Err(_) => false,
+    }
 }
 
 /// Checks that each document is normed, or refused, as it says.
-pub(crate) fn check_norms(rt: &impl Abort, alloc: Global, norms: &[Norm]) -> Result<(), Fail> {
+pub(crate) fn check_norms(alloc: Global, norms: &[Norm]) -> Result<(), Fail> {
     for norm in norms {
-        assert!(rt; is_normed(alloc, norm)?, "{}", norm.0);
+        told(is_normed(alloc, norm), norm.0)?;
     }
     Ok(())
 }
 
-/// The file of the archive of these documents.
-pub(crate) fn archive_of(
-    alloc: Global,
-    spec: &[u8],
-    docs: &[&[u8]],
-) -> Result<Vec<u8>, AllocError> {
-    let mut state = empty_folder(alloc, &[])?;
-    is_archived(alloc, &mut state, spec, docs)?;
-    match state.folder.file("A") {
-        Some(file) => Vec::from_slice(alloc, file),
-        None => Ok(Vec::new(alloc)),
+/// Whether the archive of these documents has this file.
+pub(crate) fn is_archive_of(alloc: Global, file: &[u8], spec: &[u8], docs: &[&[u8]]) -> bool {
+    match empty_folder(alloc, &[]) {
+        Ok(mut state) => {
+            is_archived(alloc, &mut state, spec, docs) && state.folder.file("A") == Some(file)
+        }
+        Err(_) => false,
     }
 }

@@ -456,7 +456,7 @@ const CASES: &[Case] = &[
 #[test]
 fn documents_are_normed_or_refused(rt: HostRuntime) -> Result<(), Fail> {
     for norms in [PRINTED, UNKEYED, MISSHAPEN, MISSPECIFIED] {
-        check_norms(&rt, rt.alloc(), norms)?;
+        check_norms(rt.alloc(), norms)?;
     }
     check(&rt, rt.alloc(), CASES)
 }

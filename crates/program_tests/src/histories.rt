@@ -1,5 +1,5 @@
 use crate::cases::Output::Is;
-use crate::cases::Step::{Archive, Run};
+use crate::cases::Step::{Archive, HasLength, ReadsAtMost, Run};
 use crate::cases::{Case, NOTHING, check};
 use crate::documents::{
     BY_ID, COMPANY, EIGHT_ELEMENTS, FINANCE, FLOOR_NUMBER, FLOOR_TEXT, JOHN, JOHN_RAISED,
@@ -9,6 +9,15 @@ use std::test::Fail;
 /// Elements in one another, six deep.
 const NESTED: &[u8] =
     b"(/, (a, {}))\n(/a, (b, {}))\n(/a/b, (c, {}))\n(/a/b/c, (d, {}))\n(/a/b/c/d, (e, {}))\n(/a/b/c/d/e, (f, {}))\n";
+
+/// Eight elements, of which the third returns.
+const FIVE_VERSIONS: [&[u8]; 5] = [
+    b"[\"db\",[\"e\",{\"id\":1}],[\"e\",{\"id\":2}],[\"e\",{\"id\":4}]]",
+    b"[\"db\",[\"e\",{\"id\":3}]]",
+    b"[\"db\",[\"e\",{\"id\":5}],[\"e\",{\"id\":6}]]",
+    b"[\"db\",[\"e\",{\"id\":7}],[\"e\",{\"id\":8}]]",
+    b"[\"db\",[\"e\",{\"id\":3}]]",
+];
 
 const DEPARTMENT: &[&str] = &["history", "A", "[\"db\",[\"dept\",\"finance\"]]"];
 
@@ -102,6 +111,22 @@ const CASES: &[Case] = &[
                 Is(&[(b"2,5\n", 1)]),
                 b"",
             ),
+        ],
+    },
+    // The header has 46 bytes, the tail 8, and what is looked at on the way to the element 343.
+    Case {
+        name: "a history reads no more of its archive than its search looks at",
+        fails: &[],
+        steps: &[
+            Archive(BY_ID, &FIVE_VERSIONS),
+            HasLength("A", 1349),
+            Run(
+                &["history", "A", "[\"db\",[\"e\",3]]"],
+                0,
+                Is(&[(b"2,5\n", 1)]),
+                b"",
+            ),
+            ReadsAtMost(46 + 8 + 343),
         ],
     },
     Case {

@@ -16,6 +16,8 @@ mod numbers;
 #[cfg(test)]
 mod outside;
 #[cfg(test)]
+mod told;
+#[cfg(test)]
 mod words;
 #[cfg(test)]
 mod worked_archives;

@@ -1,3 +1,4 @@
+use crate::told::told;
 use std::alloc::{AllocError, Global};
 use std::test::Fail;
 use xa_outside::{
@@ -135,36 +136,32 @@ fn folder(
     Ok(folder)
 }
 
-/// The same for a folder in memory, or none where a growth was refused.
-fn answered_in_memory(
-    alloc: Global,
-    fails: &[FolderFail],
-    files: &[(&str, &[u8])],
-    calls: &[Call],
-) -> Result<Option<usize>, AllocError> {
-    let mut folder = folder(alloc, fails, files)?;
-    let answered = answered(alloc, &mut folder, calls);
-    Ok((folder.starved() == 0).then_some(answered))
+/// Whether the calls answer as they should and no growth was refused.
+fn are_answered(alloc: Global, folder: &mut MemFolder, calls: &[Call]) -> bool {
+    answered(alloc, folder, calls) == calls.len() && folder.starved() == 0
 }
 
 #[test]
 fn folders_in_memory_answer(rt: HostRuntime) -> Result<(), Fail> {
     for (name, fails, files, calls) in FOLDERS {
-        let answered = answered_in_memory(rt.alloc(), fails, files, calls)?;
-        assert!(rt; answered == Some(calls.len()), "{name}: {answered:?} calls");
+        let mut folder = folder(rt.alloc(), fails, files)?;
+        told(are_answered(rt.alloc(), &mut folder, calls), name)?;
     }
     Ok(())
 }
 
+const PUT_TWICE: &[(&str, &[u8])] = &[("a", &[1, 2]), ("b", &[3]), ("a", &[4, 5, 6])];
+
 /// Whether each name has the bytes that were put there last.
-fn are_given_back(alloc: Global) -> Result<bool, AllocError> {
-    let files: &[(&str, &[u8])] = &[("a", &[1, 2]), ("b", &[3]), ("a", &[4, 5, 6])];
-    let folder = folder(alloc, &[], files)?;
-    Ok(
-        folder.file("a") == Some(&[4, 5, 6])
-            && folder.file("b") == Some(&[3])
-            && folder.file("c").is_none(),
-    )
+fn are_given_back(alloc: Global) -> bool {
+    match folder(alloc, &[], PUT_TWICE) {
+        Ok(folder) => {
+            folder.file("a") == Some(&[4, 5, 6])
+                && folder.file("b") == Some(&[3])
+                && folder.file("c").is_none()
+        }
+        Err(_) => false,
+    }
 }
 
 fn sure_folder(alloc: Global) -> Result<SureFolder, AllocError> {
@@ -181,82 +178,89 @@ const SURE: &[Call] = &[
     Call::Commit("g", Ok(())),
 ];
 
-fn answered_surely(alloc: Global) -> Result<usize, AllocError> {
-    let mut folder = sure_folder(alloc)?;
-    Ok(answered(alloc, &mut folder, SURE))
+fn are_answered_surely(alloc: Global) -> bool {
+    match sure_folder(alloc) {
+        Ok(mut folder) => answered(alloc, &mut folder, SURE) == SURE.len(),
+        Err(_) => false,
+    }
 }
 
 #[test]
-fn a_sure_folder_answers(rt: HostRuntime) -> Result<(), Fail> {
-    assert!(rt; answered_surely(rt.alloc())? == SURE.len());
-    assert!(rt; are_given_back(rt.alloc())?);
-    Ok(())
+fn a_sure_folder_answers(rt: HostRuntime) {
+    assert!(rt; are_answered_surely(rt.alloc()) && are_given_back(rt.alloc()));
+}
+
+/// A sink whose write of this number fails.
+pub(crate) fn sink(alloc: Global, fail: u64) -> Result<MemSink, AllocError> {
+    let fails = vec![in alloc; fail]?;
+    Ok(MemSink::new(alloc, fails))
 }
 
 /// A failed write keeps what was taken.
-fn keeps_what_was_taken(alloc: Global) -> Result<bool, AllocError> {
-    let mut sink = MemSink::new(alloc, vec![in alloc; 2]?);
-    let is_written = put_all(&mut sink, b"one").is_ok()
-        && put_all(&mut sink, b"two").is_err()
-        && put_all(&mut sink, b"three").is_ok();
-    Ok(is_written && sink.taken() == b"onethree".as_slice() && sink.starved() == 0)
+fn keeps_what_was_taken(sink: &mut MemSink) -> bool {
+    put_all(sink, b"one").is_ok()
+        && put_all(sink, b"two").is_err()
+        && put_all(sink, b"three").is_ok()
+        && sink.taken() == b"onethree".as_slice()
+        && sink.starved() == 0
 }
 
-/// A failed flush keeps the rest.
-fn keeps_the_rest(alloc: Global) -> Result<bool, AllocError> {
-    let mut sink = MemSink::new(alloc, vec![in alloc; 1]?);
-    let mut buffered = Buffered::new(&mut sink);
-    let is_flushed = put_all(&mut buffered, b"abc").is_ok()
+/// Whether a failed flush leaves the rest for the next.
+fn is_flushed_again(sink: &mut MemSink) -> bool {
+    let mut buffered = Buffered::new(sink);
+    put_all(&mut buffered, b"abc").is_ok()
         && buffered.flush().is_err()
         && put_all(&mut buffered, b"de").is_ok()
-        && buffered.flush().is_ok();
-    Ok(is_flushed && sink.taken() == b"abcde".as_slice())
+        && buffered.flush().is_ok()
+}
+
+fn keeps_the_rest(sink: &mut MemSink) -> bool {
+    is_flushed_again(sink) && sink.taken() == b"abcde".as_slice()
 }
 
 /// Pieces leave a buffer together: the second write would fail.
-fn leave_together(alloc: Global) -> Result<bool, AllocError> {
-    let mut sink = MemSink::new(alloc, vec![in alloc; 2]?);
-    let is_put = put_buffered(&mut sink, &[b"a", b"bc", b"", b"d"]).is_ok();
-    Ok(is_put && sink.taken() == b"abcd".as_slice())
+fn leave_together(sink: &mut MemSink) -> bool {
+    put_buffered(sink, &[b"a", b"bc", b"", b"d"]).is_ok() && sink.taken() == b"abcd".as_slice()
 }
 
 /// A piece that is longer than the buffer goes by itself.
-fn leave_around_a_long_one(alloc: Global) -> Result<bool, AllocError> {
-    let long = vec![in alloc; 9; 10000]?;
-    let mut sink = MemSink::new(alloc, vec![in alloc; 4]?);
-    let is_put = put_buffered(&mut sink, &[b"a", &long, b"b", b"c"]).is_ok();
-    Ok(is_put && sink.taken().len() == 10003)
+fn leave_around_a_long_one(sink: &mut MemSink) -> bool {
+    let long = [9; 10_000];
+    put_buffered(sink, &[b"a", &long, b"b", b"c"]).is_ok() && sink.taken().len() == 10_003
 }
 
 #[test]
 fn sinks_keep_what_they_took(rt: HostRuntime) -> Result<(), Fail> {
-    let alloc = rt.alloc();
-    assert!(rt; keeps_what_was_taken(alloc)?);
-    assert!(rt; keeps_the_rest(alloc)?);
-    assert!(rt; leave_together(alloc)? && leave_around_a_long_one(alloc)?);
+    let mut second = sink(rt.alloc(), 2)?;
+    let mut first = sink(rt.alloc(), 1)?;
+    assert!(rt; keeps_what_was_taken(&mut second) && keeps_the_rest(&mut first));
+    let mut second = sink(rt.alloc(), 2)?;
+    let mut fourth = sink(rt.alloc(), 4)?;
+    assert!(rt; leave_together(&mut second) && leave_around_a_long_one(&mut fourth));
     assert!(rt; SureSink::new().write(b"gone") == Ok(4));
     Ok(())
 }
 
 /// A listed read fails, and the next goes on.
-fn goes_on(alloc: Global) -> Result<bool, AllocError> {
-    let bytes = vec![in alloc; 1, 2, 3, 4]?;
-    let mut source = MemSource::new(bytes, vec![in alloc; 2]?);
+fn goes_on(source: &mut MemSource) -> bool {
     let mut buf = [0; 3];
     let is_read = source.read(&mut buf) == Ok(3) && buf == [1, 2, 3];
     let fails = source.read(&mut buf) == Err(Failed);
-    Ok(is_read && fails && fill(&mut source, &mut buf) == Ok(1) && buf == [4, 2, 3])
+    is_read && fails && fill(source, &mut buf) == Ok(1) && buf == [4, 2, 3]
 }
 
-/// A source that never fails ends.
-fn ends(alloc: Global) -> Result<bool, AllocError> {
-    let mut source = SureSource::new(vec![in alloc; 7, 8]?);
+/// Whether a source with these bytes ends behind them.
+fn ends(bytes: Vec<u8>) -> bool {
+    let mut source = SureSource::new(bytes);
     let mut buf = [0; 4];
-    Ok(fill(&mut source, &mut buf) == Ok(2) && buf == [7, 8, 0, 0])
+    fill(&mut source, &mut buf) == Ok(2) && buf == [7, 8, 0, 0]
 }
 
 #[test]
 fn sources_give_their_bytes(rt: HostRuntime) -> Result<(), Fail> {
-    assert!(rt; goes_on(rt.alloc())? && ends(rt.alloc())?);
+    let fails = vec![in rt.alloc(); 2]?;
+    let mut source = MemSource::new(vec![in rt.alloc(); 1, 2, 3, 4]?, fails);
+    assert!(rt; goes_on(&mut source));
+    assert!(rt; ends(vec![in rt.alloc(); 7, 8]?));
     Ok(())
 }

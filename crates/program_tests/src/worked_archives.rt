@@ -5,7 +5,7 @@ ghost use Rattle.archive_file.specs.KeyedBy.{IsKeyedBy};
 
 use crate::cases::Output::Is;
 use crate::cases::Step::{Archive, AreAlike, Has, HasLength, Put, Run};
-use crate::cases::{Case, NOTHING, Pieces, Step, archive_of, check};
+use crate::cases::{Case, NOTHING, Pieces, Step, check, is_archive_of};
 use crate::documents::{
     BY_ID, COMPANY, EIGHT_ELEMENTS, FINANCE, FLOOR_NUMBER, FLOOR_TEXT, JOHN, JOHN_RAISED, STRINGS,
     TINY,
@@ -333,15 +333,10 @@ fn file_of_three(alloc: Global) -> Result<Vec<u8>, Fail> {
     Ok(file_of_versions(alloc, &spec, &versions)?)
 }
 
-/// Whether the file made at once is the one that adding the versions left.
-fn is_file_the_same(alloc: Global) -> Result<bool, Fail> {
-    let merged = file_of_three(alloc)?;
-    let added = archive_of(alloc, COMPANY, &[JOHN, JOHN_RAISED, JOHN])?;
-    Ok(merged == added)
-}
-
 #[test]
 fn merging_all_documents_gives_the_file_that_adding_them_left(rt: HostRuntime) -> Result<(), Fail> {
-    assert!(rt; is_file_the_same(rt.alloc())?);
+    let merged = file_of_three(rt.alloc())?;
+    let documents = [JOHN, JOHN_RAISED, JOHN];
+    assert!(rt; is_archive_of(rt.alloc(), &merged, COMPANY, &documents));
     Ok(())
 }
