@@ -1,5 +1,5 @@
 -- Trees stay well formed, and their positions fit.
-use Rattle.std.proofs.Common.{◌≡◌, ℕ, suc, ◌+◌, ◌≤◌, List, [], ◌∷◌, ◌++◌, length, map, IsTrue, String, Global, string_bytes, refl, sym, ap, ◌∙◌, subst, arith, length-append}
+use Rattle.std.proofs.Common.{◌≡◌, ℕ, suc, ◌+◌, ◌<◌, ◌≤◌, List, [], ◌∷◌, ◌++◌, length, map, drop, get_or, drop-cons, IsTrue, String, Global, string_bytes, refl, sym, ap, ◌∙◌, subst, arith, length-append}
 use Rattle.std.proofs.lemmas.Bool.{and_parts, and_from, le-leb, leb-true}
 use Rattle.jsonml_tree.specs.Data.{PlainTree, PlainAttr, element, content, trees_of, list_of, tree_depth, content_depth, trees_depth}
 use Rattle.std.proofs.lemmas.List.{length-map}
@@ -47,3 +47,10 @@ items_fit-parts t tag c items is same fit =
 pub tree_depth-parts : (t : Tree) (tag : String Global) (c : Content) (items : List Tree) → t ≡ Elem tag c → items ≡ c.items.items → tree_depth (tree_view t) ≡ suc (trees_depth (items_view items))
 tree_depth-parts t tag c items is same =
     ap (λ u. tree_depth (tree_view u)) is ∙ ap tree_depth (tree_view-Elem tag c) ∙ ap (λ d. suc (content_depth d)) (content_view-is c) ∙ ap (λ l. suc (trees_depth (items_view l))) (sym same)
+
+-- an item among those that are left
+pub item_left : (items : List Tree) (i : ℕ) (t : Tree) → i < length items → t ≡ get_or items i t → IsTrue (all_items_fit (items_view (drop i items))) → (tree_depth (tree_view t) ≤ trees_depth (items_view (drop i items))) × ItemsFit (tree_view t)
+item_left items i t within is fit =
+    let whole : drop i items ≡ t ∷ drop (suc i) items = drop-cons items i t within ∙ ap (λ u. u ∷ drop (suc i) items) (sym is) in
+    let both = and_parts _ _ (subst (λ (l : List Tree). IsTrue (all_items_fit (items_view l))) whole fit) in
+    (omega (arith, ap (λ l. trees_depth (items_view l)) whole), both.0)

@@ -2,11 +2,13 @@ pub mod Spelling
 pub mod Attributes
 pub mod Keeping
 pub mod Contents
+pub mod Values
 pub mod Readings
 pub mod Levels
 pub mod Lexing
 pub mod Contained
 pub mod Straightness
+pub mod Members
 pub mod Pushing
 pub mod ReadBack
 pub mod RoundTrips

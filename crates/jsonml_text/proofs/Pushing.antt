@@ -1,7 +1,6 @@
 -- Trees that wait for the end of the element around them.
 use Rattle.std.proofs.Common.{◌≡◌, ℕ, ◌+◌, ◌-◌, ◌<◌, ◌≤◌, IsTrue, List, [], ◌∷◌, ◌++◌, length, drop, take, map, refl, sym, ap, ◌∙◌, subst, arith, append_assoc}
 use Rattle.std.proofs.lemmas.List.{map-append, length-map, drop_at, take_at}
-use Rattle.std.specs.Str.{IsUtf8}
 use Rattle.json.specs.Lex.{after_value, comma, token}
 use Rattle.json.specs.Token.{Token, end_array, begin_array}
 use Rattle.jsonml_tree.specs.Data.{PlainAttr, PlainTree, text, element, PlainContent, content, PlainTrees, no_trees, tree, trees_of, tree_depth, content_depth, trees_depth}
@@ -9,12 +8,13 @@ use Rattle.jsonml_tree.specs.Fits.{all_items_fit}
 use Rattle.jsonml_tree.specs.LentView.{only_text, lent_tree_view}
 use Rattle.jsonml_tree.specs.WellFormed.{are_well_formed}
 use Rattle.jsonml_tree.specs.declared.lent.LentTree.{LentTree}
-use Rattle.jsonml_text.specs.Kept.{IsKept, IsContentKept, AreAttrsKept}
-use Rattle.jsonml_text.specs.Straight.{lexemes, tokens_from, HasLexeme, HasString, HasTree, HasItems, HasContent}
-use Rattle.jsonml_text.specs.Pushed.{depth_of, PushesTree, ReadsContent, ReadsItems}
+use Rattle.jsonml_text.specs.Kept.{IsKept, IsContentKept}
+use Rattle.jsonml_text.specs.Straight.{lexemes, tokens_from, HasLexeme, HasString, HasTree, HasItems, HasContent, HasAttrs}
+use Rattle.jsonml_text.specs.Objects.{ReadsObject, ReadsAlone, ReadsFront}
+use Rattle.jsonml_text.specs.Pushed.{depth_of, ReadsTree, ReadsContent, ReadsItems}
 use Rattle.jsonml_text.specs.Texts.{AreTexts, AreContentTexts, AreItemTexts}
 use Rattle.jsonml_text.proofs.Keeping.{well_formed_push, fit_push, IsContentKept-parts}
-use Rattle.jsonml_text.proofs.Straightness.{HasTree-text, HasTree-element, HasItems-more, HasItems-end, HasContent-items, comma_passed, bracket_passed}
+use Rattle.jsonml_text.proofs.Straightness.{HasTree-text, HasTree-element, HasItems-more, HasItems-end, HasContent-items, HasContent-attrs, comma_passed, bracket_passed}
 
 -- these trees, and then the others
 abbrev pub trees_before : List PlainTree → PlainTrees → PlainTrees
@@ -48,26 +48,25 @@ depth-push : (ts : List PlainTree) (t : PlainTree) (n : ℕ) → trees_depth (tr
 depth-push [] t n h k = omega arith
 depth-push (u ∷ ts) t n h k = omega (arith, depth-push ts t n (omega arith) k)
 
-pub PushesTree-text : (levels : ℕ) (d : List ℕ) (at : ℕ) (old new : List LentTree) (pushed : LentTree) (s : List ℕ) (next : ℕ) → new ≡ old ++ pushed ∷ [] → lent_tree_view pushed ≡ text s → HasString d at s next → PushesTree levels d at old new next
-PushesTree-text levels d at old new pushed s next waits is h =
+pub ReadsTree-text : (levels : ℕ) (d : List ℕ) (at : ℕ) (old : List LentTree) (t : PlainTree) (s : List ℕ) (next : ℕ) → t ≡ text s → HasString d at s next → ReadsTree levels d at old old t next
+ReadsTree-text levels d at old t s next is h =
     record {
-      pushed = pushed;
-      waits = waits;
+      same = refl;
       reads = subst (λ t. HasTree (depth_of levels) d at t next) (sym is) (HasTree-text (depth_of levels) d at s next h);
       kept = subst IsKept (sym is) (record { well_formed = refl; fits = refl });
       texts = subst AreTexts (sym is) h.utf8;
       shallow = omega (arith, ap tree_depth is);
     }
 
-pub HasPushed-more : (levels : ℕ) (d : List ℕ) (at : ℕ) (old now new : List LentTree) (end mid next : ℕ) → HasPushed levels d at old now end → HasLexeme d end comma (end + 1) → lexemes d mid ≡ lexemes d (end + 1) → end + 1 ≤ mid → PushesTree levels d mid now new next
-    → HasPushed levels d at old new next
-HasPushed-more levels d at old now new end mid next h sign same le more =
-    let t = lent_tree_view more.pushed in
+pub HasPushed-more : (levels : ℕ) (d : List ℕ) (at : ℕ) (old now left new : List LentTree) (pushed : LentTree) (end mid next : ℕ) → HasPushed levels d at old now end → HasLexeme d end comma (end + 1) → lexemes d mid ≡ lexemes d (end + 1) → end + 1 ≤ mid
+    → ReadsTree levels d mid now left (lent_tree_view pushed) next → new ≡ left ++ pushed ∷ [] → HasPushed levels d at old new next
+HasPushed-more levels d at old now left new pushed end mid next h sign same le more waits =
+    let t = lent_tree_view pushed in
     let done = map lent_tree_view h.pushed in
-    let seen : done ++ t ∷ [] ≡ map lent_tree_view (h.pushed ++ more.pushed ∷ []) = sym (map-append lent_tree_view h.pushed (more.pushed ∷ [])) in
+    let seen : done ++ t ∷ [] ≡ map lent_tree_view (h.pushed ++ pushed ∷ []) = sym (map-append lent_tree_view h.pushed (pushed ∷ [])) in
     record {
-      pushed = h.pushed ++ more.pushed ∷ [];
-      wait = more.waits ∙ ap (λ l. l ++ more.pushed ∷ []) h.wait ∙ append_assoc old h.pushed (more.pushed ∷ []);
+      pushed = h.pushed ++ pushed ∷ [];
+      wait = waits ∙ ap (λ l. l ++ pushed ∷ []) (more.same ∙ h.wait) ∙ append_assoc old h.pushed (pushed ∷ []);
       reads = λ ts rest k.
           subst (λ us. HasItems (depth_of levels) d at us rest) (before-push done t ts ∙ ap (λ l. trees_before l ts) seen)
           (h.reads (tree t ts) rest (HasItems-more (depth_of levels) d end mid t next ts rest (comma_passed d end mid sign same) more.reads k));
@@ -98,13 +97,12 @@ ReadsItems-end levels d at old now new items waiting end next h sign same le wit
       within = within;
     }
 
-pub PushesTree-element : (levels : ℕ) (d : List ℕ) (at named inside : ℕ) (old now new : List LentTree) (pushed : LentTree) (tag : List ℕ) (c : PlainContent) (next : ℕ) → 0 < levels → HasLexeme d at (token begin_array) (at + 1) → lexemes d named ≡ lexemes d (at + 1)
-    → HasString d named tag inside → ReadsContent (levels - 1) d inside old now c next → at < named → new ≡ now ++ pushed ∷ [] → lent_tree_view pushed ≡ element tag c → PushesTree levels d at old new next
-PushesTree-element levels d at named inside old now new pushed tag c next some sign same h k after waits is =
+pub ReadsTree-element : (levels : ℕ) (d : List ℕ) (at named inside : ℕ) (old new : List LentTree) (t : PlainTree) (tag : List ℕ) (c : PlainContent) (next : ℕ) → 0 < levels → HasLexeme d at (token begin_array) (at + 1) → lexemes d named ≡ lexemes d (at + 1)
+    → at < named → HasString d named tag inside → ReadsContent (levels - 1) d inside old new c next → t ≡ element tag c → ReadsTree levels d at old new t next
+ReadsTree-element levels d at named inside old new t tag c next some sign same after h k is =
     let deep : depth_of levels ≡ depth_of (levels - 1) + 1 = omega arith in
     record {
-      pushed = pushed;
-      waits = waits ∙ ap (λ l. l ++ pushed ∷ []) k.same;
+      same = k.same;
       reads = subst (λ t. HasTree (depth_of levels) d at t next) (sym is)
           (HasTree-element (depth_of levels) (depth_of (levels - 1)) d at (at + 1) named tag inside c next deep sign same h k.reads (omega (arith, h.later, k.later)) k.within);
       kept = subst IsKept (sym is) (record { well_formed = k.kept.well_formed; fits = k.kept.fits });
@@ -113,36 +111,60 @@ PushesTree-element levels d at named inside old now new pushed tag c next some s
     }
 
 -- a text behind a tag, and the end of its element
-pub HasContent-text : (depth : ℕ) (d : List ℕ) (at mid : ℕ) (s : List ℕ) (end next : ℕ) → HasLexeme d at comma (at + 1) → lexemes d mid ≡ lexemes d (at + 1) → HasString d mid s end → HasLexeme d end (token end_array) (end + 1)
-    → lexemes d next ≡ lexemes d (end + 1) → HasContent depth d at (only_text s) (tokens_from after_value d next)
-HasContent-text depth d at mid s end next sign same h close again =
+pub ReadsAlone-text : (d : List ℕ) (at mid : ℕ) (s : List ℕ) (end next : ℕ) → HasLexeme d at comma (at + 1) → lexemes d mid ≡ lexemes d (at + 1) → at + 1 ≤ mid → HasString d mid s end → HasLexeme d end (token end_array) (end + 1) → lexemes d next ≡ lexemes d (end + 1)
+    → end + 1 ≤ next → next ≤ length d → ReadsAlone d at s next
+ReadsAlone-text d at mid s end next sign same le h close again more within =
     let rest = tokens_from after_value d next in
-    HasContent-items depth d at (tree (text s) no_trees) rest
-    (HasItems-more depth d at mid (text s) end no_trees rest (comma_passed d at mid sign same) (HasTree-text depth d mid s end h) (HasItems-end depth d end rest (bracket_passed d end next close again)))
-
-pub ReadsContent-text : (levels : ℕ) (d : List ℕ) (at : ℕ) (old : List LentTree) (s : List ℕ) (next : ℕ) → ((depth : ℕ) → HasContent depth d at (only_text s) (tokens_from after_value d next)) → IsUtf8 s → at < next → next ≤ length d
-    → ReadsContent levels d at old old (only_text s) next
-ReadsContent-text levels d at old s next h utf8 later within =
     record {
-      same = refl;
-      reads = h (depth_of levels);
-      kept = record { well_formed = refl; fits = refl };
-      texts = (tt, (utf8, tt));
-      shallow = omega arith;
-      later = later;
+      reads = λ depth.
+          HasContent-items depth d at (tree (text s) no_trees) rest
+          (HasItems-more depth d at mid (text s) end no_trees rest (comma_passed d at mid sign same) (HasTree-text depth d mid s end h) (HasItems-end depth d end rest (bracket_passed d end next close again)));
+      utf8 = h.utf8;
+      later = omega (arith, h.later);
       within = within;
     }
 
-pub ReadsContent-parts : (levels : ℕ) (d : List ℕ) (at begun : ℕ) (old new items : List LentTree) (c : PlainContent) (xs : List PlainAttr) (next : ℕ) → c ≡ content xs (trees_of (map lent_tree_view items)) → AreAttrsKept xs → at ≤ begun
-    → ((depth : ℕ) (ts : PlainTrees) (rest : List Token) → 0 < depth → HasItems depth d begun ts rest → HasContent depth d at (content xs ts) rest) → ReadsItems levels d begun old new items next → ReadsContent levels d at old new c next
-ReadsContent-parts levels d at begun old new items c xs next is kept le whole h =
+pub ReadsContent-text : (levels : ℕ) (d : List ℕ) (at : ℕ) (old : List LentTree) (s : List ℕ) (next : ℕ) → ReadsAlone d at s next → ReadsContent levels d at old old (only_text s) next
+ReadsContent-text levels d at old s next h =
+    record {
+      same = refl;
+      reads = h.reads (depth_of levels);
+      kept = record { well_formed = refl; fits = refl };
+      texts = (tt, (h.utf8, tt));
+      shallow = omega arith;
+      later = h.later;
+      within = h.within;
+    }
+
+-- attributes behind a tag, and none there
+pub ReadsFront-attrs : (d : List ℕ) (at mid : ℕ) (xs : List PlainAttr) (end next : ℕ) → HasLexeme d at comma (at + 1) → lexemes d mid ≡ lexemes d (at + 1) → at + 1 ≤ mid → ReadsObject d mid xs end → lexemes d next ≡ lexemes d end → end ≤ next → ReadsFront d at xs next
+ReadsFront-attrs d at mid xs end next sign same le h again more =
+    record {
+      reads = λ depth ts rest some k.
+          let deep : depth - 1 + 1 ≡ depth = omega arith in
+          HasContent-attrs depth d at mid xs end next ts rest (comma_passed d at mid sign same) (subst (λ n. HasAttrs n d mid xs (tokens_from after_value d end)) deep (h.attrs (depth - 1))) again k;
+      kept = h.kept;
+      later = omega (arith, h.later);
+    }
+
+pub ReadsFront-none : (d : List ℕ) (at : ℕ) (xs : List PlainAttr) → xs ≡ [] → ReadsFront d at xs at
+ReadsFront-none d at xs none =
+    subst (λ (ys : List PlainAttr). ReadsFront d at ys at) (sym none) (record {
+      reads = λ depth ts rest some k. HasContent-items depth d at ts rest k;
+      kept = record { ascending = refl; in_range = refl; texts = tt };
+      later = omega arith;
+    })
+
+pub ReadsContent-parts : (levels : ℕ) (d : List ℕ) (at begun : ℕ) (old new items : List LentTree) (c : PlainContent) (xs : List PlainAttr) (next : ℕ) → c ≡ content xs (trees_of (map lent_tree_view items)) → ReadsFront d at xs begun → ReadsItems levels d begun old new items next
+    → ReadsContent levels d at old new c next
+ReadsContent-parts levels d at begun old new items c xs next is front h =
     let ts = trees_of (map lent_tree_view items) in
     record {
       same = h.same;
-      reads = subst (λ x. HasContent (depth_of levels) d at x (tokens_from after_value d next)) (sym is) (whole (depth_of levels) ts (tokens_from after_value d next) (omega arith) h.reads);
-      kept = subst IsContentKept (sym is) (IsContentKept-parts xs (map lent_tree_view items) kept h.kept);
-      texts = subst AreContentTexts (sym is) (kept.texts, h.texts);
+      reads = subst (λ x. HasContent (depth_of levels) d at x (tokens_from after_value d next)) (sym is) (front.reads (depth_of levels) ts (tokens_from after_value d next) (omega arith) h.reads);
+      kept = subst IsContentKept (sym is) (IsContentKept-parts xs (map lent_tree_view items) front.kept h.kept);
+      texts = subst AreContentTexts (sym is) (front.kept.texts, h.texts);
       shallow = omega (arith, ap content_depth is, h.shallow);
-      later = omega (arith, h.later);
+      later = omega (arith, front.later, h.later);
       within = h.within;
     }

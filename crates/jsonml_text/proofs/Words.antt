@@ -15,7 +15,8 @@ use Rattle.jsonml_tree.specs.Data.{PlainAttr, PlainScalar, null, boolean, whole,
 use Rattle.jsonml_tree.specs.WellFormed.{is_in_range}
 use Rattle.jsonml_print.specs.Printed.{scalar_text}
 use Rattle.jsonml_text.specs.Texts.{IsScalarText}
-use Rattle.jsonml_text.specs.Straight.{lexemes, tokens_from, HasString, HasKey, HasScalar, HasMember, is_word}
+use Rattle.jsonml_text.specs.Straight.{lexemes, tokens_from, HasString, HasKey, HasScalar, is_word}
+use Rattle.jsonml_text.specs.Objects.{ReadsMember}
 use Rattle.jsonml_text.proofs.Lexing.{lexed-null, lexed-true, lexed-false, tokens-number, tokens-boolean, tokens-null}
 use Rattle.jsonml_text.proofs.ReadBack.{scalar_data, scalar_read, whole_read, whole_text}
 use Rattle.jsonml_text.proofs.RoundTrips.{scalar_back}
@@ -76,5 +77,6 @@ HasScalar-word d at end next x le is word fits ended same later within =
     }
 
 -- a name and its value are an attribute
-pub HasMember-parts : (d : List ℕ) (at : ℕ) (k : List ℕ) (begun : ℕ) (x : PlainScalar) (next : ℕ) (a : PlainAttr) → a ≡ record { name = k; value = x } → HasKey d at k begun → HasScalar d begun x next → HasMember d at a next
-HasMember-parts d at k begun x next a is key scalar = subst (λ (y : PlainAttr). HasMember d at y next) (sym is) (record { begun = begun; key = key; scalar = scalar })
+pub ReadsMember-parts : (d : List ℕ) (at : ℕ) (k : List ℕ) (begun : ℕ) (x : PlainScalar) (next : ℕ) (a : PlainAttr) → a ≡ record { name = k; value = x } → HasKey d at k begun → HasScalar d begun x next → IsTrue (is_in_range x) → ReadsMember d at a next
+ReadsMember-parts d at k begun x next a is key scalar fits =
+    subst (λ (y : PlainAttr). ReadsMember d at y next) (sym is) (record { member = record { begun = begun; key = key; scalar = scalar }; in_range = fits })

@@ -6,6 +6,7 @@ pub mod Views
 pub mod Stops
 pub mod Front
 pub mod Straight
+pub mod Objects
 pub mod Pushed
 pub mod Texts
 pub mod RoundTrip

@@ -1,7 +1,7 @@
 -- For private clauses: what a reader that goes straight through a text has read.
-use Rattle.std.specs.Prelude.{◌≡◌, ℕ, ◌+◌, ◌<◌, ◌≤◌, List, [], ◌∷◌, ◌++◌, length, map}
+use Rattle.std.specs.Prelude.{◌≡◌, ℕ, ◌+◌, ◌<◌, ◌≤◌, List, length, map}
 use Rattle.json.specs.Lex.{after_value}
-use Rattle.jsonml_tree.specs.Data.{PlainContent, trees_of, tree_depth, content_depth, trees_depth}
+use Rattle.jsonml_tree.specs.Data.{PlainTree, PlainContent, trees_of, tree_depth, content_depth, trees_depth}
 use Rattle.jsonml_tree.specs.LentView.{lent_tree_view}
 use Rattle.jsonml_tree.specs.declared.lent.LentTree.{LentTree}
 use Rattle.jsonml_text.specs.Kept.{IsKept, IsContentKept, AreKept}
@@ -12,14 +12,13 @@ use Rattle.jsonml_text.specs.Texts.{AreTexts, AreContentTexts, AreItemTexts}
 abbrev pub depth_of : ℕ → ℕ
 depth_of levels = levels + 7
 
--- one more tree waits, which stands from an offset to the next
-pub record PushesTree (levels : ℕ) (text : List ℕ) (at : ℕ) (old new : List LentTree) (next : ℕ) : Type 0 where
-  pub pushed : LentTree
-  pub waits : new ≡ old ++ pushed ∷ []
-  pub reads : HasTree (depth_of levels) text at (lent_tree_view pushed) next
-  pub kept : IsKept (lent_tree_view pushed)
-  pub texts : AreTexts (lent_tree_view pushed)
-  pub shallow : tree_depth (lent_tree_view pushed) ≤ levels
+-- this tree stands from an offset to the next; the trees that wait are the same
+pub record ReadsTree (levels : ℕ) (text : List ℕ) (at : ℕ) (old new : List LentTree) (t : PlainTree) (next : ℕ) : Type 0 where
+  pub same : new ≡ old
+  pub reads : HasTree (depth_of levels) text at t next
+  pub kept : IsKept t
+  pub texts : AreTexts t
+  pub shallow : tree_depth t ≤ levels
 
 -- this content stands behind a tag; the trees that wait are the same
 pub record ReadsContent (levels : ℕ) (text : List ℕ) (at : ℕ) (old new : List LentTree) (c : PlainContent) (next : ℕ) : Type 0 where

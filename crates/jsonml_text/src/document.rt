@@ -38,7 +38,8 @@ pub fn read_document(alloc: Global, bytes: &[u8]) -> Result<Tree, DocFault>
     ensures items_fit { IfOk result (λ t. ItemsFit (tree_view t)) }
     ensures texts { IfOk result (λ t. AreTexts (tree_view t)) }
 {
-    Ok(lend_document(alloc, bytes)?.own(alloc)?)
+    let copy = lend_document(alloc, bytes)?.own(alloc);
+    Ok(copy?)
 }
 
 /// The same document, whose texts are lent by the bytes.

@@ -1,21 +1,20 @@
-ghost use Rattle.std.specs.Prelude.{◌≡◌, ℕ, ◌+◌, ◌<◌, ◌≤◌, IfOk, IfSome, OnSome, IsTrue, insert, length, map, string_bytes};
+ghost use Rattle.std.specs.Prelude.{◌≡◌, ◌+◌, ◌≤◌, [], IfSome, insert, length, map, string_bytes};
 ghost use Rattle.std.specs.Cow.{cow_str_bytes};
-ghost use Rattle.json.specs.Lex.{after_value, token};
+ghost use Rattle.json.specs.Lex.{token};
 ghost use Rattle.json.specs.Token.{begin_object};
 ghost use Rattle.jsonml_tree.specs.Data.{string};
 ghost use Rattle.jsonml_tree.specs.declared.lent_attr.LentAttr.{LentAttr};
 ghost use Rattle.jsonml_tree.specs.LentAttrs.{lent_attr_view, lent_scalar_view};
 ghost use Rattle.jsonml_tree.specs.View.{scalar_view};
-ghost use Rattle.jsonml_tree.specs.WellFormed.{is_in_range};
-ghost use Rattle.jsonml_text.specs.Kept.{AreAttrsKept};
-ghost use Rattle.jsonml_text.specs.Straight.{tokens_from, HasAttrs, HasLexeme, HasMember, put_attr};
+ghost use Rattle.jsonml_text.specs.Objects.{PutsMember, ReadsMember, ReadsObject};
+ghost use Rattle.jsonml_text.specs.Straight.{HasLexeme, put_attr};
 
 use crate::scan::{is_sign, skip_blanks};
 use crate::string::{read_key, read_text};
 use crate::word::read_word;
 use json::Scratch;
 use jsonml_tree::{Attr, LentAttr, LentScalar, Scalar};
-use std::alloc::{AllocError, Global};
+use std::alloc::Global;
 use std::borrow::CowStr;
 use std::cmp::Ordering;
 
@@ -30,29 +29,57 @@ pub(crate) fn read_attributes<'a>(
     scratch: &mut Scratch,
 ) -> Option<(Vec<LentAttr<'a>>, usize)>
     requires { HasLexeme text.now at (token begin_object) (at + 1) }
-    ensures attrs { IfSome result (λ r. (depth : ℕ) → HasAttrs (depth + 1) text.now at
-        (map lent_attr_view r.0.items) (tokens_from after_value text.now r.1)) }
-    ensures kept { IfSome result (λ r. AreAttrsKept (map lent_attr_view r.0.items)) }
-    ensures later { IfSome result (λ r. at < r.1) }
-    ensures within { IfSome result (λ r. r.1 ≤ length text.now) }
+    ensures { IfSome result (λ r. ReadsObject text.now at (map lent_attr_view r.0.items) r.1) }
 {
     let mut attrs = Vec::new(alloc);
+    let end = read_members(alloc, text, at, &mut attrs, scratch)?;
+    Some((attrs, end))
+}
+
+/// Reads them into `attrs`, which is empty.
+fn read_members<'a>(
+    alloc: Global,
+    text: &'a str,
+    at: usize,
+    attrs: &mut Vec<LentAttr<'a>>,
+    scratch: &mut Scratch,
+) -> Option<usize>
+    requires begun { HasLexeme text.now at (token begin_object) (at + 1) }
+    requires empty { attrs.old.items ≡ [] }
+    ensures { IfSome result
+        (λ end. ReadsObject text.now at (map lent_attr_view attrs.new.items) end) }
+{
     let begun = skip_blanks(text, at + 1);
     if is_sign(text, begun, b'}') {
-        return Some((attrs, begun + 1));
+        return Some(begun + 1);
     }
-    let (first, mut end) = read_attribute(alloc, text, begun, scratch)?;
-    attrs.push(first).ok()?;
+    let mut end = put_member(alloc, text, begun, attrs, scratch)?;
     'members: while is_sign(text, end, b',') {
-        let (attr, next) = read_attribute(alloc, text, skip_blanks(text, end + 1), scratch)?;
-        put(&mut attrs, attr)?;
-        end = next;
+        end = put_member(alloc, text, skip_blanks(text, end + 1), attrs, scratch)?;
     }
     if is_sign(text, end, b'}') {
-        Some((attrs, end + 1))
+        Some(end + 1)
     } else {
         None
     }
+}
+
+/// Puts the member at an offset among the attributes, in their order, and tells where the text goes on behind it and its
+/// blanks.
+fn put_member<'a>(
+    alloc: Global,
+    text: &'a str,
+    at: usize,
+    attrs: &mut Vec<LentAttr<'a>>,
+    scratch: &mut Scratch,
+) -> Option<usize>
+    ensures { IfSome result (λ next. PutsMember text.now at
+        (map lent_attr_view attrs.old.items) (map lent_attr_view attrs.new.items) next) }
+{
+    let (attr, next) = read_attribute(alloc, text, at, scratch)?;
+    let place = place_of(attrs, attr.name())?;
+    attrs.insert(place, attr).ok()?;
+    Some(next)
 }
 
 /// The member at an offset, as an attribute, and where the text goes on behind it and its blanks.
@@ -62,15 +89,14 @@ fn read_attribute<'a>(
     at: usize,
     scratch: &mut Scratch,
 ) -> Option<(LentAttr<'a>, usize)>
-    ensures member { IfSome result (λ r. HasMember text.now at (lent_attr_view r.0) r.1) }
-    ensures in_range { IfSome result (λ r. IsTrue (is_in_range (lent_attr_view r.0).value)) }
+    ensures { IfSome result (λ r. ReadsMember text.now at (lent_attr_view r.0) r.1) }
 {
     let (name, begun) = read_key(alloc, text, at, scratch)?;
     if let Some((value, next)) = read_text(alloc, text, begun, b'}', scratch) {
-        return Some((attr_of_text(alloc, name, value).ok()?, next));
+        return Some((attr_of_text(alloc, name, value)?, next));
     }
     let (value, next) = read_word(text, begun)?;
-    Some((attr_of(alloc, name, value).ok()?, next))
+    Some((attr_of(alloc, name, value)?, next))
 }
 
 /// The attribute of this name and text. It is lent unless one of them is written with escapes.
@@ -78,13 +104,13 @@ fn attr_of_text<'a>(
     alloc: Global,
     name: CowStr<'a, Global>,
     value: CowStr<'a, Global>,
-) -> Result<LentAttr<'a>, AllocError>
-    ensures { IfOk result (λ a. lent_attr_view a
+) -> Option<LentAttr<'a>>
+    ensures { IfSome result (λ a. lent_attr_view a
         ≡ record { name = cow_str_bytes name.entry; value = string (cow_str_bytes value.entry) }) }
 {
     match value {
         CowStr::Borrowed(text) => attr_of(alloc, name, LentScalar::Text(text)),
-        CowStr::Owned(text) => own_attr(alloc, name.into_owned(alloc)?, Scalar::Text(text)),
+        CowStr::Owned(text) => own_attr(alloc, name.into_owned(alloc).ok()?, Scalar::Text(text)),
     }
 }
 
@@ -93,43 +119,34 @@ fn attr_of<'a>(
     alloc: Global,
     name: CowStr<'a, Global>,
     value: LentScalar<'a>,
-) -> Result<LentAttr<'a>, AllocError>
-    ensures { IfOk result (λ a. lent_attr_view a
+) -> Option<LentAttr<'a>>
+    ensures { IfSome result (λ a. lent_attr_view a
         ≡ record { name = cow_str_bytes name.entry; value = lent_scalar_view value.entry }) }
 {
     match name {
-        CowStr::Borrowed(name) => Ok(LentAttr::Lent { name, value }),
-        CowStr::Owned(name) => own_attr(alloc, name, value.own(alloc)?),
+        CowStr::Borrowed(name) => Some(LentAttr::Lent { name, value }),
+        CowStr::Owned(name) => own_attr(alloc, name, value.own(alloc).ok()?),
     }
 }
 
-fn own_attr<'a>(alloc: Global, name: String, value: Scalar) -> Result<LentAttr<'a>, AllocError>
-    ensures { IfOk result (λ a. lent_attr_view a
+fn own_attr<'a>(alloc: Global, name: String, value: Scalar) -> Option<LentAttr<'a>>
+    ensures { IfSome result (λ a. lent_attr_view a
         ≡ record { name = string_bytes name; value = scalar_view value }) }
 {
-    Ok(LentAttr::Own(Box::new(alloc, Attr { name, value })?))
+    let attr = Box::new(alloc, Attr { name, value }).ok()?;
+    Some(LentAttr::Own(attr))
 }
 
-/// Puts an attribute among others, in their order. Nothing where one has its name, or where there are many.
-fn put<'a>(attrs: &mut Vec<LentAttr<'a>>, attr: LentAttr<'a>) -> Option<()>
-    ensures { OnSome result
-        (map lent_attr_view attrs.new.items
-        ≡ put_attr (lent_attr_view attr.entry) (map lent_attr_view attrs.old.items)) }
-{
-    if attrs.len() >= MOST {
-        return None;
-    }
-    let place = place_of(attrs, attr.name())?;
-    attrs.insert(place, attr).ok()
-}
-
-/// The place of a new name among those that ascend. Nothing where it is there already.
+/// The place of a new name among those that ascend. Nothing where it is there already, or where there are many.
 fn place_of(attrs: &[LentAttr<'_>], name: &str) -> Option<usize>
     ensures within { IfSome result (λ i. i ≤ length attrs.now) }
     ensures place { IfSome result (λ i. (a : LentAttr) → (lent_attr_view a).name ≡ name.now
         → put_attr (lent_attr_view a) (map lent_attr_view attrs.now)
         ≡ map lent_attr_view (insert attrs.now i a)) }
 {
+    if attrs.len() >= MOST {
+        return None;
+    }
     for (place, attr) in attrs.iter().enumerate() {
         match name.cmp(attr.name()) {
             Ordering::Less => return Some(place),

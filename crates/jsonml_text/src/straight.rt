@@ -1,18 +1,16 @@
-ghost use Rattle.std.specs.Prelude.{◌≡◌, ℕ, ◌+◌, ◌<◌, ◌≤◌, IfSome, List, length, map, Ok};
-ghost use Rattle.std.specs.Bool.{OnFalse};
+ghost use Rattle.std.specs.Prelude.{◌≡◌, ◌+◌, ◌≤◌, IfSome, IsTrue, length, map, Ok};
 ghost use Rattle.std.specs.Cow.{cow_str_bytes};
-ghost use Rattle.std.specs.Str.{IsUtf8};
-ghost use Rattle.json.specs.Lex.{after_value, token};
-ghost use Rattle.json.specs.Token.{Token, begin_array};
+ghost use Rattle.json.specs.Lex.{token};
+ghost use Rattle.json.specs.Token.{begin_array};
 ghost use Rattle.serde_json.specs.Read.{read};
-ghost use Rattle.jsonml_tree.specs.Data.{PlainTrees, content};
 ghost use Rattle.jsonml_tree.specs.Fits.{IsElement};
 ghost use Rattle.jsonml_tree.specs.LentAttrs.{lent_attr_view};
-ghost use Rattle.jsonml_tree.specs.LentView.{only_text, lent_tree_view, lent_row_view};
+ghost use Rattle.jsonml_tree.specs.LentView.{lent_tree_view, lent_row_view};
 ghost use Rattle.jsonml_text.specs.Document.{of_value};
-ghost use Rattle.jsonml_text.specs.Kept.{AreAttrsKept, IsDocument};
-ghost use Rattle.jsonml_text.specs.Pushed.{PushesTree, ReadsContent, ReadsItems};
-ghost use Rattle.jsonml_text.specs.Straight.{tokens_from, HasContent, HasItems, HasLexeme};
+ghost use Rattle.jsonml_text.specs.Kept.{IsDocument};
+ghost use Rattle.jsonml_text.specs.Objects.{ReadsAlone, ReadsFront};
+ghost use Rattle.jsonml_text.specs.Pushed.{ReadsContent, ReadsItems, ReadsTree};
+ghost use Rattle.jsonml_text.specs.Straight.{HasLexeme};
 
 use crate::object::read_attributes;
 use crate::room::Room;
@@ -31,71 +29,59 @@ pub(crate) fn read_straight<'a>(alloc: Global, text: &'a str) -> Option<LentTree
     ensures tree { IfSome result (λ t. of_value (read text.now) ≡ Ok (lent_tree_view t)) }
     ensures kept { IfSome result (λ t. IsDocument (lent_tree_view t)) }
 {
-    let mut room = Room::new(alloc);
-    let end = push_item(
-        alloc,
-        text,
-        skip_blanks(text, 0),
-        GREATEST_DEPTH as usize,
-        &mut room,
-    )?;
-    if end < text.len() {
-        return None;
+    let begun = skip_blanks(text, 0);
+    let levels = GREATEST_DEPTH as usize;
+    let read = read_tree(alloc, text, begun, levels, &mut Room::new(alloc));
+    let (tree, end) = read?;
+    if is_whole(text, &tree, end) {
+        Some(tree)
+    } else {
+        None
     }
-    let tree = room.trees.pop()?;
-    if is_text(&tree) { None } else { Some(tree) }
 }
 
+/// Whether this tree is an element, and nothing stands behind it.
 #[tactic(auto, using(jsonml_tree::proofs::LentTrees::lent_trees))]
-fn is_text(tree: &LentTree<'_>) -> bool
-    ensures { OnFalse result (IsElement (lent_tree_view tree.now)) }
+fn is_whole(text: &str, tree: &LentTree<'_>, end: usize) -> bool
+    ensures { IsTrue result → IsElement (lent_tree_view tree.now) × (length text.now ≤ end) }
 {
     match tree {
-        LentTree::Text(_) => true,
-        LentTree::Leaf { .. } | LentTree::Elem { .. } => false,
+        LentTree::Text(_) => false,
+        LentTree::Leaf { .. } | LentTree::Elem { .. } => end >= text.len(),
     }
 }
 
-/// Reads the text or the element at an offset, puts it behind the trees that wait, and tells where the text goes on.
+/// The text or the element at an offset, and where the text goes on behind it and its blanks.
 #[cycle(straight)]
-fn push_item<'a>(
+fn read_tree<'a>(
     alloc: Global,
     text: &'a str,
     at: usize,
     levels: usize,
     room: &mut Room<'a>,
-) -> Option<usize>
-    ensures { IfSome result (λ next.
-        PushesTree levels text.now at room.old.trees.items room.new.trees.items next) }
+) -> Option<(LentTree<'a>, usize)>
+    ensures { IfSome result (λ r. ReadsTree levels text.now at
+        room.old.trees.items room.new.trees.items (lent_tree_view r.0) r.1) }
 {
     if is_sign(text, at, b'[') {
-        push_element(alloc, text, at, levels, room)
-    } else {
-        push_text(alloc, text, at, room)
+        return read_element(alloc, text, at, levels, room);
     }
-}
-
-fn push_text<'a>(alloc: Global, text: &'a str, at: usize, room: &mut Room<'a>) -> Option<usize>
-    ensures { (levels : ℕ) → IfSome result (λ next.
-        PushesTree levels text.now at room.old.trees.items room.new.trees.items next) }
-{
     let (string, next) = read_text(alloc, text, at, b']', &mut room.scratch)?;
-    room.trees.push(LentTree::Text(string)).ok()?;
-    Some(next)
+    Some((LentTree::Text(string), next))
 }
 
 /// The same for an element. Elements nest in it at most so many levels deep, itself among them.
 #[cycle(straight)]
-fn push_element<'a>(
+fn read_element<'a>(
     alloc: Global,
     text: &'a str,
     at: usize,
     levels: usize,
     room: &mut Room<'a>,
-) -> Option<usize>
+) -> Option<(LentTree<'a>, usize)>
     requires { HasLexeme text.now at (token begin_array) (at + 1) }
-    ensures { IfSome result (λ next.
-        PushesTree levels text.now at room.old.trees.items room.new.trees.items next) }
+    ensures { IfSome result (λ r. ReadsTree levels text.now at
+        room.old.trees.items room.new.trees.items (lent_tree_view r.0) r.1) }
 {
     if levels == 0 {
         return None;
@@ -103,12 +89,10 @@ fn push_element<'a>(
     let named = skip_blanks(text, at + 1);
     let (tag, inside) = read_text(alloc, text, named, b']', &mut room.scratch)?;
     if let Some((held, next)) = text_alone(alloc, text, inside, &mut room.scratch) {
-        room.trees.push(LentTree::Leaf { tag, text: held }).ok()?;
-        return Some(next);
+        return Some((LentTree::Leaf { tag, text: held }, next));
     }
     let (row, next) = read_row(alloc, text, inside, levels - 1, room)?;
-    room.trees.push(LentTree::Elem { tag, row }).ok()?;
-    Some(next)
+    Some((LentTree::Elem { tag, row }, next))
 }
 
 /// What stands behind the tag of an element, and where the text goes on behind the element and its blanks.
@@ -135,11 +119,7 @@ fn text_alone<'a>(
     at: usize,
     scratch: &mut Scratch,
 ) -> Option<(CowStr<'a, Global>, usize)>
-    ensures content { IfSome result (λ r. (depth : ℕ) → HasContent depth text.now at
-        (only_text (cow_str_bytes r.0)) (tokens_from after_value text.now r.1)) }
-    ensures utf8 { IfSome result (λ r. IsUtf8 (cow_str_bytes r.0)) }
-    ensures later { IfSome result (λ r. at < r.1) }
-    ensures within { IfSome result (λ r. r.1 ≤ length text.now) }
+    ensures { IfSome result (λ r. ReadsAlone text.now at (cow_str_bytes r.0) r.1) }
 {
     if !is_sign(text, at, b',') {
         return None;
@@ -160,11 +140,7 @@ fn attributes_behind<'a>(
     at: usize,
     scratch: &mut Scratch,
 ) -> Option<(Vec<LentAttr<'a>>, usize)>
-    ensures content { IfSome result (λ r. (depth : ℕ) (ts : PlainTrees) (rest : List Token)
-        → 0 < depth → HasItems depth text.now r.1 ts rest
-        → HasContent depth text.now at (content (map lent_attr_view r.0.items) ts) rest) }
-    ensures kept { IfSome result (λ r. AreAttrsKept (map lent_attr_view r.0.items)) }
-    ensures later { IfSome result (λ r. at ≤ r.1) }
+    ensures { IfSome result (λ r. ReadsFront text.now at (map lent_attr_view r.0.items) r.1) }
 {
     if is_sign(text, at, b',') {
         let begun = skip_blanks(text, at + 1);
@@ -191,7 +167,9 @@ fn read_items<'a>(
     let waiting = room.trees.len();
     let mut end = at;
     'items: while is_sign(text, end, b',') {
-        end = push_item(alloc, text, skip_blanks(text, end + 1), levels, room)?;
+        let (item, next) = read_tree(alloc, text, skip_blanks(text, end + 1), levels, room)?;
+        room.trees.push(item).ok()?;
+        end = next;
     }
     if !is_sign(text, end, b']') {
         return None;

@@ -1,18 +1,14 @@
--- The rule that was found has the tag; two contents the other way round; rows of one text.
+-- The rule that was found has the tag; two contents the other way round.
 use Rattle.std.proofs.Common.{◌≡◌, ℕ, Bool, true, false, cond, ◌&&◌, true≢false, List, [], ◌∷◌, map, Option, Some, Ok, refl, ap, sym, ◌∙◌, Bor, string_bytes}
 use Rattle.std.proofs.lemmas.Map.Text.{is_eq-slice_cmp}
 use Rattle.std.proofs.lemmas.Slice.Eq.{bytes_eq-Decides}
 use Rattle.std.specs.Option.{option_map}
-use Rattle.std.specs.Cmp.Lexicographic.{slice_cmp}
-use Rattle.std.specs.Ordering.{is_eq, ordering_reverse, ordering_then}
-use Rattle.std.specs.declared.cmp.Ordering.{Ordering}
-use Rattle.std.specs.declared.cmp.Ordering.TheVariants.{Less, Equal, Greater}
+use Rattle.std.specs.Ordering.{is_eq, ordering_reverse}
 use Rattle.std.specs.Str.{bytes_eq}
 use Rattle.jsonml_tree.specs.Data.{PlainContent}
 use Rattle.jsonml_tree.specs.Laws.{content_cmp_total}
 use Rattle.jsonml_tree.specs.Order.{content_cmp}
 use Rattle.keyed_tree.specs.Data.{PlainKey, tag}
-use Rattle.keyed_tree.specs.Order.{key_cmp}
 use Rattle.key_spec.specs.Data.{PlainRule}
 use Rattle.key_spec.specs.Rules.{name_cmp, path_cmp, place_cmp, rule_of}
 use Rattle.key_spec.specs.View.{path_view, rule_view}
@@ -52,14 +48,3 @@ label_in-found found r rules context t c ks e is keys =
 
 pub turned : (c d : PlainContent) → ordering_reverse (content_cmp d c) ≡ content_cmp c d
 turned c d = sym (content_cmp_total.antisymm c d)
-
-pub then-equal : (o : Ordering) → ordering_then o Equal ≡ o
-then-equal Less = refl
-then-equal Equal = refl
-then-equal Greater = refl
-
--- rows of one key value
-pub one-row : (k j : PlainKey) → slice_cmp key_cmp (k ∷ []) (j ∷ []) ≡ key_cmp k j
-one-row k j = then-equal (key_cmp k j)
-
-pub ruleset rows = (one-row, then-equal)

@@ -7,3 +7,5 @@ pub mod Looks
 pub mod UserPathLemmas
 pub mod Labelled
 pub mod LentLemmas
+pub mod CheckLemmas
+pub mod WalkLemmas

@@ -76,6 +76,17 @@ keys-bad done p ps d ds e = ap (λ o. option_map (λ ks. done ++ ks) (option_and
 pub keys-end : (done : List PlainKey) → option_map (λ ks. done ++ ks) (values_by [] no_items) ≡ Some done
 keys-end done = ap (λ x. Some x) (append-nil done)
 
+-- other values than key paths
+pub values-apart : (ps : List PlainPath) (vs : List Value) → length vs ≢ length ps → None ≡ values_by ps (items_view vs)
+values-apart [] [] h = absurd (h refl)
+values-apart [] (v ∷ vs) h = refl
+values-apart (p ∷ ps) [] h = refl
+values-apart (p ∷ ps) (v ∷ vs) h = behind (value_by p.attr (data_of v)) (values_by ps (items_view vs)) (values-apart ps vs (λ e. h (ap suc e)))
+  where
+    behind : (o : Option PlainKey) (q : Option (List PlainKey)) → None ≡ q → None ≡ option_and_then (λ k. option_map (λ ks. k ∷ ks) q) o
+    behind None q e = refl
+    behind (Some k) q e = ap (option_map (λ ks. k ∷ ks)) e
+
 -- ---- what every path that is read is
 
 or_none : (a b : Bool) → (a || b) ≡ false → (a ≡ false) × (b ≡ false)

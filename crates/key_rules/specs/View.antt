@@ -1,6 +1,11 @@
 -- The plain data that each fault stands for.
-use Rattle.std.specs.Prelude.{◌≡◌, ℕ, List, Option, Some, None, IfSome, Result, Err, option_map, String, Vec}
+use Rattle.std.specs.Prelude.{◌≡◌, ℕ, List, map, Option, Some, None, IfSome, Result, Ok, Err, option_map, String, Vec}
+use Rattle.std.specs.List.{AllByRecursion}
 use Rattle.std.specs.Global.{Global}
+use Rattle.keyed_tree.specs.Data.{PlainLabel}
+use Rattle.keyed_tree.specs.View.{label_view}
+use Rattle.keyed_tree.specs.WellFormed.{IsLabelWellFormed}
+use Rattle.keyed_tree.specs.declared.label.Label.{Label}
 use Rattle.key_spec.specs.View.{path_view, names_view}
 use Rattle.key_rules.specs.Labels.{PlainLabelFault, unkeyed, missing, twice}
 use Rattle.key_rules.specs.Faults.{PlainKeyFault}
@@ -32,3 +37,8 @@ path_fault_view PathFault.Memory = None
 -- the tags from the root down, if there are some
 abbrev pub here_view : Option (Vec (String Global) Global) → Option (List (List ℕ))
 here_view here = option_map (λ v. names_view v.items) here
+
+-- the labels that steps name are these, and well formed; or else the number of the first bad step
+abbrev pub NamesSteps : Result (List PlainLabel) ℕ → Vec Label Global → Result Unit PathFault → Type 0
+NamesSteps named labels (Ok done) = (named ≡ Ok (map label_view labels.items)) × AllByRecursion IsLabelWellFormed (map label_view labels.items)
+NamesSteps named labels (Err e) = IfSome (path_fault_view e) (λ step. named ≡ Err step)

@@ -8,7 +8,8 @@ ghost use Rattle.key_spec.specs.Data.{PlainRule};
 ghost use Rattle.key_spec.specs.View.{names_view, path_view, rule_view, spec_view};
 ghost use Rattle.key_rules.specs.Satisfies.{is_blank};
 ghost use Rattle.key_rules.specs.Faults.{path_at};
-ghost use Rattle.key_rules.specs.Checks.{IsCheckOf};
+ghost use Rattle.key_rules.specs.View.{label_fault_view};
+ghost use Rattle.key_rules.specs.Checks.{IsCheckOf, IsFaulty};
 
 use crate::fault::LabelFault;
 use crate::label::element_label;
@@ -87,19 +88,29 @@ fn check_element(
 {
     match element_label(alloc, spec, path, tag, content) {
         Ok(label) => Ok(Checked::Labelled(label.copy(alloc)?)),
-        Err(LabelFault::Unkeyed) => Ok(Checked::Bad {
+        Err(fault) => check_fault(alloc, spec.rule(path, tag), fault),
+    }
+}
+
+/// What the check gives of an element that has no label, under its rule if it has one.
+fn check_fault(alloc: Global, rule: Option<&Rule>, fault: LabelFault) -> Result<Checked, AllocError>
+    ensures { IfOk result
+        (λ c. IsFaulty (option_map (λ r. rule_view r.now) rule.entry) (label_fault_view fault) c) }
+{
+    match fault {
+        LabelFault::Unkeyed => Ok(Checked::Bad {
             why: 1,
             key_path: None,
         }),
-        Err(LabelFault::Missing { path: number }) => {
-            let key_path = path_of(alloc, spec.rule(path, tag), number)?;
+        LabelFault::Missing { path } => {
+            let key_path = path_of(alloc, rule, path)?;
             Ok(Checked::Bad { why: 3, key_path })
         }
-        Err(LabelFault::Twice { path: number }) => {
-            let key_path = path_of(alloc, spec.rule(path, tag), number)?;
+        LabelFault::Twice { path } => {
+            let key_path = path_of(alloc, rule, path)?;
             Ok(Checked::Bad { why: 4, key_path })
         }
-        Err(LabelFault::Memory) => Err(AllocError),
+        LabelFault::Memory => Err(AllocError),
     }
 }
 

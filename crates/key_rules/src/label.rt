@@ -161,7 +161,7 @@ fn lend_keys<'a>(
     let mut number = 0;
     for path in paths {
         number += 1;
-        keys.push(lend_one(alloc, path, number, content)?)?;
+        keys.push_reserved(lend_one(alloc, path, number, content)?);
     }
     Ok(LentKeys::Row(keys))
 }

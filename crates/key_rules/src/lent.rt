@@ -38,13 +38,25 @@ pub struct LentLabel<'a> {
     pub keys: LentKeys<'a>,
 }
 
+impl<'a> LentKeys<'a> {
+    /// All of them.
+    fn as_slice(&self) -> &[LentKey<'a>]
+        ensures { map lent_key_view result.now ≡ lent_keys_view self.now }
+    {
+        match self {
+            LentKeys::One(key) => slice::from_ref(key),
+            LentKeys::Row(keys) => keys,
+        }
+    }
+}
+
 impl LentLabel<'_> {
     /// The order of labels. It takes no memory.
     pub fn order(&self, other: &LentLabel<'_>) -> Ordering
         ensures { result ≡ label_cmp (lent_label_view self.now) (lent_label_view other.now) }
     {
         match self.tag.cmp(other.tag) {
-            Ordering::Equal => order_lent(&self.keys, &other.keys),
+            Ordering::Equal => order_keys(self.keys.as_slice(), other.keys.as_slice()),
             order => order,
         }
     }
@@ -53,24 +65,9 @@ impl LentLabel<'_> {
     pub fn copy(&self, alloc: Global) -> Result<Label, AllocError>
         ensures { IfOk result (λ l. label_view l ≡ lent_label_view self.now) }
     {
-        let keys = match &self.keys {
-            LentKeys::One(key) => copy_keys(alloc, slice::from_ref(key))?,
-            LentKeys::Row(keys) => copy_keys(alloc, keys)?,
-        };
         let name = Name::Tag(String::from_str(alloc, self.tag)?);
+        let keys = copy_keys(alloc, self.keys.as_slice())?;
         Ok(Label { name, keys })
-    }
-}
-
-#[tactic(auto, using(crate::proofs::LentLemmas::rows))]
-fn order_lent(ours: &LentKeys<'_>, theirs: &LentKeys<'_>) -> Ordering
-    ensures { result ≡ slice_cmp key_cmp (lent_keys_view ours.now) (lent_keys_view theirs.now) }
-{
-    match (ours, theirs) {
-        (LentKeys::One(a), LentKeys::One(b)) => order_key(a, b),
-        (LentKeys::One(a), LentKeys::Row(b)) => order_keys(slice::from_ref(a), b),
-        (LentKeys::Row(a), LentKeys::One(b)) => order_keys(a, slice::from_ref(b)),
-        (LentKeys::Row(a), LentKeys::Row(b)) => order_keys(a, b),
     }
 }
 
@@ -153,7 +150,7 @@ fn copy_keys(alloc: Global, keys: &[LentKey<'_>]) -> Result<Vec<KeyVal>, AllocEr
 {
     let mut copies = Vec::with_capacity(alloc, keys.len())?;
     for key in keys {
-        copies.push(copy_key(alloc, key)?)?;
+        copies.push_reserved(copy_key(alloc, key)?);
     }
     Ok(copies)
 }
@@ -163,18 +160,7 @@ fn copy_key(alloc: Global, key: &LentKey<'_>) -> Result<KeyVal, AllocError>
 {
     match key {
         LentKey::Scalar(scalar) => Ok(KeyVal::Scalar(scalar.own(alloc)?)),
-        LentKey::Text(text) => Ok(KeyVal::Content(text_content(alloc, text)?)),
+        LentKey::Text(text) => Ok(KeyVal::Content(Content::of_text(alloc, text)?)),
         LentKey::Content(content) => Ok(KeyVal::Content(content.copy(alloc)?)),
     }
-}
-
-/// The content of this text alone.
-pub(crate) fn text_content(alloc: Global, text: &str) -> Result<Content, AllocError>
-    ensures { IfOk result (λ c. content_view c ≡ only_text text.now) }
-{
-    let text = String::from_str(alloc, text)?;
-    let mut items = Vec::with_capacity(alloc, 1)?;
-    items.push(Tree::Text(text))?;
-    let attrs = Vec::new(alloc);
-    Ok(Content { attrs, items })
 }

@@ -1,6 +1,6 @@
 #![tactic(auto, using(jsonml_tree::proofs::Trees::trees))]
 
-ghost use Rattle.std.specs.Prelude.{◌≡◌, [], ◌∷◌, Ok, Err, Some, None, IfOk, IfErr, IfSome, IsTrue, map, if◌then◌else◌};
+ghost use Rattle.std.specs.Prelude.{◌≡◌, [], ◌∷◌, Ok, Err, Some, None, IfOk, IfErr, IfSome, IsTrue, OnOk, map, if◌then◌else◌};
 ghost use Rattle.std.specs.List.{AllByRecursion};
 ghost use Rattle.std.specs.Option.{option_map, option_and_then};
 ghost use Rattle.serde_json.specs.Read.{read};
@@ -11,10 +11,9 @@ ghost use Rattle.keyed_tree.specs.View.{name_view, key_view, label_view};
 ghost use Rattle.keyed_tree.specs.WellFormed.{IsKeyWellFormed, IsLabelWellFormed};
 ghost use Rattle.key_spec.specs.View.{names_view, path_view, spec_view};
 ghost use Rattle.key_rules.specs.UserPaths.{content_value, value_by, values_by, has_sign, behind_sign, element_step, attr_step, word_step, list_step, step_label, onward, labels_from, user_path, HaveRules};
-ghost use Rattle.key_rules.specs.View.{path_fault_view, here_view};
+ghost use Rattle.key_rules.specs.View.{path_fault_view, here_view, NamesSteps};
 
 use crate::fault::PathFault;
-use crate::lent::text_content;
 use jsonml_text::{content_of, scalar_of};
 use jsonml_tree::Content;
 use key_spec::{KeyPath, Spec};
@@ -75,37 +74,50 @@ fn read_steps(alloc: Global, spec: &Spec, steps: &[Value]) -> Result<Vec<Label>,
 {
     let mut labels = Vec::new(alloc);
     let mut here = Some(Vec::new(alloc));
+    add_steps(alloc, spec, steps, &mut here, &mut labels)?;
+    Ok(labels)
+}
+
+/// Adds the label of each step, and goes on to its element.
+#[tactic(auto, using(crate::proofs::UserPathLemmas::one_on))]
+fn add_steps(
+    alloc: Global,
+    spec: &Spec,
+    steps: &[Value],
+    here: &mut Option<Vec<String>>,
+    labels: &mut Vec<Label>,
+) -> Result<(), PathFault>
+    requires empty { labels.old.items ≡ [] }
+    ensures { NamesSteps (labels_from (spec_view spec.now) 1 (here_view here.old)
+        (items_view steps.now)) labels.new result }
+{
     let mut number: u32 = 0;
     for step in steps {
         let Some(next) = number.checked_add(1) else {
             return Err(PathFault::Memory);
         };
         number = next;
-        let Some(label) = read_next(alloc, spec, &here, step)? else {
+        let Some(label) = read_next(alloc, spec, here, step)? else {
             return Err(PathFault::Bad { step: number });
         };
-        here = go_on(alloc, here, &label.name)?;
+        go_on(alloc, here, &label.name)?;
         labels.push(label)?;
     }
-    Ok(labels)
+    Ok(())
 }
 
-/// The tags from the root down to the last step, if all steps so far are elements and the next is one too.
-fn go_on(
-    alloc: Global,
-    here: Option<Vec<String>>,
-    name: &Name,
-) -> Result<Option<Vec<String>>, AllocError>
-    ensures { IfOk result
-        (λ further. here_view further ≡ onward (here_view here) (name_view name.now)) }
+/// Goes on to the element of this name, if all steps so far are elements and this is one too.
+fn go_on(alloc: Global, here: &mut Option<Vec<String>>, name: &Name) -> Result<(), AllocError>
+    ensures { OnOk result (here_view here.new ≡ onward (here_view here.old) (name_view name.now)) }
 {
-    match (here, name) {
-        (Some(mut path), Name::Tag(tag)) => {
-            path.push(String::from_str(alloc, tag.as_str())?)?;
-            Ok(Some(path))
-        }
-        _ => Ok(None),
+    let Name::Tag(tag) = name else {
+        *here = None;
+        return Ok(());
+    };
+    if let Some(path) = here {
+        path.push(String::from_str(alloc, tag.as_str())?)?;
     }
+    Ok(())
 }
 
 /// The label that a step names, if it is good there.
@@ -250,21 +262,17 @@ fn read_values(
     ensures well_formed { IfOk result
         (λ ks. IfSome ks (λ ks. AllByRecursion IsKeyWellFormed (map key_view ks.items))) }
 {
+    if values.len() != paths.len() {
+        return Ok(None);
+    }
     let mut keys = Vec::with_capacity(alloc, paths.len())?;
-    let mut others = values.iter();
-    for path in paths {
-        let Some(value) = others.next() else {
+    for (number, path) in paths.iter().enumerate() {
+        let Some(key) = read_value(alloc, path, &values[number])? else {
             return Ok(None);
         };
-        let Some(key) = read_value(alloc, path, value)? else {
-            return Ok(None);
-        };
-        keys.push(key)?;
+        keys.push_reserved(key);
     }
-    match others.next() {
-        Some(_) => Ok(None),
-        None => Ok(Some(keys)),
-    }
+    Ok(Some(keys))
 }
 
 /// The value for a key path: a scalar where it names an attribute, else a content.
@@ -286,7 +294,7 @@ fn read_content(alloc: Global, value: &Value) -> Result<Option<Content>, AllocEr
         (λ c. IfSome c (λ c. IsTrue (is_content_well_formed (content_view c)))) }
 {
     match value {
-        Value::String(word) => Ok(Some(text_content(alloc, word.as_str())?)),
+        Value::String(word) => Ok(Some(Content::of_text(alloc, word.as_str())?)),
         Value::Array(values) => content_of(alloc, values),
         _ => Ok(None),
     }

@@ -16,6 +16,7 @@ use crate::check::{Checked, check_item, is_blank};
 use crate::fault::KeyFault;
 use jsonml_tree::{LentRow, LentTree, Place, Tree};
 use key_spec::{KeyPath, Spec};
+use keyed_tree::Label;
 use std::alloc::{AllocError, Global};
 use std::collections::BTreeSet;
 
@@ -38,31 +39,31 @@ impl Spot {
         Ok(Spot { path, place })
     }
 
-    /// The fault of the item at this position, from 0.
+    /// What a search answers that finds this fault of the item at this position, from 0.
     fn fault(
         &self,
         alloc: Global,
         position: usize,
         why: u8,
         key_path: Option<KeyPath>,
-    ) -> Result<KeyFault, AllocError>
+    ) -> Result<Option<KeyFault>, AllocError>
         requires { position < 4294967295 }
         ensures { IfOk result
-            (λ f. fault_view f
-            ≡ record {
+            (λ f. option_map fault_view f
+            ≡ Some (record {
               place = item_place self.now.place.items (position + 1);
               why = why;
               path = option_map path_view key_path;
-            }) }
+            })) }
     {
         let mut steps = Vec::with_capacity(alloc, self.place.len() + 1)?;
         steps.extend_from_slice(&self.place)?;
         steps.push(position as u32 + 1)?;
-        Ok(KeyFault {
+        Ok(Some(KeyFault {
             place: Place { steps },
             why,
             key_path,
-        })
+        }))
     }
 
     /// Goes on to the element of this tag at this position.
@@ -107,6 +108,27 @@ fn fault_among(
         (item_place spot.now.place.items) (map lent_tree_view items.now))) }
 {
     let mut labels = BTreeSet::new(alloc);
+    first_among(alloc, spec, spot, items, &mut labels)
+}
+
+/// The same, with a set that takes in the labels.
+fn first_among(
+    alloc: Global,
+    spec: &Spec,
+    spot: &Spot,
+    items: &[LentTree<'_>],
+    labels: &mut BTreeSet<Label>,
+) -> Result<Option<KeyFault>, AllocError>
+    requires few { length items.now < 2 ^ 32 }
+    requires empty { labels.old.keys ≡ [] }
+    ensures { IfOk result
+        (λ f. option_map fault_view f
+        ≡ option_or
+        (first_bad_item (spec_view spec.now) (names_view spot.now.path.items)
+        (item_place spot.now.place.items) 1 (map lent_tree_view items.now))
+        (repeated_item (spec_view spec.now) (names_view spot.now.path.items)
+        (item_place spot.now.place.items) (map lent_tree_view items.now))) }
+{
     let mut repeated = None;
     for (position, item) in items.iter().enumerate() {
         match check_item(alloc, spec, &spot.path, item)? {
@@ -116,13 +138,11 @@ fn fault_among(
                     repeated = repeated.or(Some(position));
                 }
             }
-            Checked::Bad { why, key_path } => return Ok(Some(spot.fault(
-                alloc, position, why, key_path,
-            )?)),
+            Checked::Bad { why, key_path } => return spot.fault(alloc, position, why, key_path),
         }
     }
     match repeated {
-        Some(position) => Ok(Some(spot.fault(alloc, position, 5, None)?)),
+        Some(position) => spot.fault(alloc, position, 5, None),
         None => Ok(None),
     }
 }
@@ -142,7 +162,7 @@ fn fault_in_text(
     if spec.is_frontier(&spot.path) || is_blank(text) {
         return Ok(None);
     }
-    Ok(Some(spot.fault(alloc, 0, 2, None)?))
+    spot.fault(alloc, 0, 2, None)
 }
 
 /// The first fault of the element at the spot, with this row, and of the elements in it.
@@ -164,10 +184,10 @@ fn fault_inside(
     if spec.is_frontier(&spot.path) {
         return Ok(None);
     }
-    if let Some(fault) = fault_among(alloc, spec, spot, &row.items)? {
-        return Ok(Some(fault));
+    match fault_among(alloc, spec, spot, &row.items)? {
+        None => fault_below(alloc, spec, spot, &row.items),
+        found => Ok(found),
     }
-    fault_below(alloc, spec, spot, &row.items)
 }
 
 /// The first fault inside the items of the element at the spot.
@@ -280,17 +300,33 @@ fn fault_of(alloc: Global, spec: &Spec, doc: &LentTree<'_>) -> Result<Option<Key
     ensures { IfOk result (λ f.
         option_map fault_view f ≡ first_fault (spec_view spec.now) (lent_tree_view doc.now)) }
 {
-    if let Checked::Bad { why, key_path } = check_item(alloc, spec, &[], doc)? {
-        let place = Place {
-            steps: Vec::new(alloc),
-        };
-        return Ok(Some(KeyFault {
-            place,
-            why,
-            key_path,
-        }));
+    match check_item(alloc, spec, &[], doc)? {
+        Checked::Bad { why, key_path } => {
+            let place = Place {
+                steps: Vec::new(alloc),
+            };
+            Ok(Some(KeyFault {
+                place,
+                why,
+                key_path,
+            }))
+        }
+        _ => fault_in_root(alloc, spec, doc),
     }
-    match doc {
+}
+
+/// The first fault inside the root element.
+fn fault_in_root(
+    alloc: Global,
+    spec: &Spec,
+    root: &LentTree<'_>,
+) -> Result<Option<KeyFault>, AllocError>
+    requires { ItemsFit (lent_tree_view root.now) }
+    ensures { IfOk result
+        (λ f. option_map fault_view f
+        ≡ tree_fault (spec_view spec.now) [] [] (lent_tree_view root.now)) }
+{
+    match root {
         LentTree::Text(_) => Ok(None),
         LentTree::Leaf { tag, text } => {
             let spot = Spot::root(alloc, tag.as_str())?;

@@ -1,5 +1,5 @@
 -- Marks that grow.
-use Rattle.std.proofs.Common.{◌≡◌, ℕ, ◌+◌, ◌<◌, List, [], ◌∷◌, ◌++◌, map, flat_map, length, take, get_or, ap, sym, subst, ◌∙◌}
+use Rattle.std.proofs.Common.{◌≡◌, ℕ, ◌+◌, ◌<◌, Bool, true, false, cond, true≢false, Option, Some, None, is_some, option_map, List, [], ◌∷◌, ◌++◌, map, flat_map, length, take, get_or, refl, ap, sym, subst, ◌∙◌, String, Global, string_bytes}
 use Rattle.std.proofs.lemmas.List.{map-append, append-nil}
 use Rattle.std.proofs.lemmas.Grind.{flat_map-append}
 use Rattle.key_spec.specs.Data.{PlainRule}
@@ -14,6 +14,15 @@ pub Adds-more : {X Y : Type 0} (g : Y → List (List ℕ)) (f : X → Y) (xs : L
     → Adds old mid (flat_map g (map f (take i xs))) → Adds mid new (g (f x)) → Adds old new (flat_map g (map f (take (i + 1) xs)))
 Adds-more g f xs i x old mid new here is all one =
     subst (λ ts. Adds old new ts) (sym (flat_map-take g f xs i x here is)) (Adds-append old mid new (flat_map g (map f (take i xs))) (g (f x)) all one)
+
+-- a key path with an attribute has no end, and another one has
+pub no-end : (attr : Option (String Global)) (some : Bool) (end : List (List ℕ)) → some ≡ is_some attr → some ≡ true → cond (is_some (option_map string_bytes attr)) [] end ≡ []
+no-end None some end e h = absurd (true≢false (sym h ∙ e))
+no-end (Some name) some end e h = refl
+
+pub one-end : (attr : Option (String Global)) (some : Bool) (end : List (List ℕ)) → some ≡ is_some attr → some ≡ false → cond (is_some (option_map string_bytes attr)) [] end ≡ end
+one-end None some end e h = refl
+one-end (Some name) some end e h = absurd (true≢false (sym e ∙ h))
 
 joined : (g : PlainRule → List (List ℕ)) (rules : List PlainRule) (r : PlainRule) → flat_map g rules ++ g r ≡ flat_map g (rules ++ r ∷ [])
 joined g rules r = ap (λ ts. flat_map g rules ++ ts) (sym (append-nil (g r))) ∙ sym (flat_map-append g rules (r ∷ []))

@@ -1,10 +1,12 @@
 -- Names that are the same, by length and bytes, against their order.
-use Rattle.std.proofs.Common.{◌≡◌, ◌≢◌, ℕ, suc, ◌<◌, ◌≤◌, Bool, true, false, ◌&&◌, List, [], ◌∷◌, length, take, refl, ap, sym, ◌∙◌, arith}
+use Rattle.std.proofs.Common.{◌≡◌, ℕ, ◌<◌, ◌≤◌, Bool, true, false, ◌&&◌, List, [], ◌∷◌, length, take, refl, ap, ap₂, sym, ◌∙◌, arith, String, Global, string_bytes, string_cmp, string_eq}
 use Rattle.std.proofs.lemmas.Map.Text.{is_eq-slice_cmp}
+use Rattle.std.specs.Cmp.Lexicographic.{pointwise, slice_cmp}
 use Rattle.std.specs.Ordering.{is_eq, ordering_then}
 use Rattle.std.specs.declared.cmp.Ordering.{Ordering}
 use Rattle.std.specs.declared.cmp.Ordering.TheVariants.{Less, Equal, Greater}
 use Rattle.std.specs.Str.{bytes_eq}
+use Rattle.key_spec.specs.RuleView.{names_view}
 use Rattle.key_spec.specs.Rules.{name_cmp, path_cmp, place_cmp, goes_behind}
 
 pub is_eq-then : (o r : Ordering) → is_eq (ordering_then o r) ≡ is_eq o && is_eq r
@@ -23,11 +25,19 @@ and-false : (b c : Bool) → c ≡ false → b && c ≡ false
 and-false true c e = e
 and-false false c e = refl
 
-pub other-length : (xs ys : List (List ℕ)) → length xs ≢ length ys → is_eq (path_cmp xs ys) ≡ false
-other-length [] [] h = absurd (h refl)
-other-length [] (y ∷ ys) h = refl
-other-length (x ∷ xs) [] h = refl
-other-length (x ∷ xs) (y ∷ ys) h = is_eq-then (name_cmp x y) (path_cmp xs ys) ∙ and-false (is_eq (name_cmp x y)) (is_eq (path_cmp xs ys)) (other-length xs ys (λ e. h (ap suc e)))
+pub slices-order : (xs ys : List (String Global)) → slice_cmp string_cmp xs ys ≡ path_cmp (names_view xs) (names_view ys)
+slices-order [] [] = refl
+slices-order [] (y ∷ ys) = refl
+slices-order (x ∷ xs) [] = refl
+slices-order (x ∷ xs) (y ∷ ys) = ap (ordering_then (name_cmp (string_bytes x) (string_bytes y))) (slices-order xs ys)
+
+pub slices-same : (xs ys : List (String Global)) → pointwise string_eq xs ys ≡ is_eq (path_cmp (names_view xs) (names_view ys))
+slices-same [] [] = refl
+slices-same [] (y ∷ ys) = refl
+slices-same (x ∷ xs) [] = refl
+slices-same (x ∷ xs) (y ∷ ys) =
+    ap₂ (λ a b. a && b) (sym (is_eq-slice_cmp (string_bytes x) (string_bytes y))) (slices-same xs ys)
+    ∙ sym (is_eq-then (name_cmp (string_bytes x) (string_bytes y)) (path_cmp (names_view xs) (names_view ys)))
 
 pub same-place : (context : List (List ℕ)) (tag : List ℕ) (other : List (List ℕ)) (name : List ℕ)
     → is_eq (place_cmp context tag other name) ≡ bytes_eq tag name && is_eq (path_cmp context other)
@@ -60,4 +70,4 @@ behind-long (s ∷ path) (n ∷ names) h = one (bytes_eq s n) refl (behind-long 
     one true e more = more ∙ sym (same-step s n path cut e)
     one false e more = sym (other-step s n path cut e)
 
-pub ruleset same = (same-step, other-step, other-length, same-place)
+pub ruleset same = (same-place)

@@ -1,7 +1,8 @@
 -- The texts of the paths that rules mark.
-use Rattle.std.specs.Prelude.{ℕ, List, map, flat_map}
+use Rattle.std.specs.Prelude.{◌≡◌, ℕ, List, ◌++◌, map, flat_map}
 use Rattle.key_spec.specs.Data.{PlainRule}
-use Rattle.key_spec.specs.Texts.{Holds, Adds, target_text, implied_texts, end_texts}
+use Rattle.key_spec.specs.Names.{slashed}
+use Rattle.key_spec.specs.Texts.{TextSet, Holds, Adds, texts_along, target_text, implied_texts, end_texts}
 use Rattle.key_spec.specs.declared.closing.Marks.{Marks}
 
 -- these are the marks of the rules
@@ -15,3 +16,8 @@ pub record AddMarks (old new : Marks) (targets along last : List (List ℕ)) : T
   pub given : Adds old.given new.given targets
   pub implied : Adds old.implied new.implied along
   pub ends : Adds old.ends new.ends last
+
+-- from one text to another, through these tags, and the new set has the texts on the way besides the old ones
+pub record GoesAlong (old new : TextSet) (from end : List ℕ) (tags : List (List ℕ)) : Type 0 where
+  pub here : end ≡ from ++ slashed tags
+  pub texts : Adds old new (texts_along from tags)

@@ -4,7 +4,7 @@ ghost use Rattle.std.specs.BTreeSet.{contains_text};
 ghost use Rattle.std.specs.List.{list_all, list_any};
 ghost use Rattle.key_spec.specs.Names.{slashed, is_named};
 ghost use Rattle.key_spec.specs.Closed.{closing_fault};
-ghost use Rattle.key_spec.specs.Marks.{HoldMarks, AddMarks};
+ghost use Rattle.key_spec.specs.Marks.{HoldMarks, AddMarks, GoesAlong};
 ghost use Rattle.key_spec.specs.Texts.{Holds, Adds, target_text, texts_along, contexts_along, implied_texts, end_text, end_texts, text_lacks_context, text_passes_end, text_why};
 ghost use Rattle.key_spec.specs.View.{names_view, path_view, rule_view, given_view, rules_view, IsFault};
 
@@ -65,8 +65,7 @@ fn add_marks(alloc: Global, marks: &mut Marks, rule: &Rule) -> Result<(), AllocE
 {
     let target = target_text(alloc, rule)?;
     for path in &rule.paths {
-        add_along(alloc, &mut marks.implied, target.as_str(), &path.tags)?;
-        add_end(alloc, &mut marks.ends, target.as_str(), path)?;
+        add_way(alloc, marks, target.as_str(), path)?;
     }
     add_text(&mut marks.given, target)?;
     Ok(())
@@ -212,38 +211,35 @@ fn add_target(alloc: Global, texts: &mut BTreeSet<String>, rule: &Rule) -> Resul
     Ok(())
 }
 
-/// Takes in each element on the way through the tags.
-fn add_along(
-    alloc: Global,
-    texts: &mut BTreeSet<String>,
-    target: &str,
-    tags: &[String],
-) -> Result<(), AllocError>
-    ensures { OnOk result
-        (Adds texts.old texts.new (texts_along target.now (names_view tags.now))) }
+/// Takes in each element on the way of a key path, and the last one as an end where no attribute follows.
+fn add_way(alloc: Global, marks: &mut Marks, target: &str, path: &KeyPath) -> Result<(), AllocError>
+    ensures { OnOk result (AddMarks marks.old marks.new []
+        (texts_along target.now (path_view path.now).tags)
+        (end_text target.now (path_view path.now))) }
 {
     let mut here = String::from_str(alloc, target)?;
-    for tag in tags {
-        push_step(&mut here, tag.as_str())?;
-        add_text(texts, String::from_str(alloc, here.as_str())?)?;
-    }
-    Ok(())
-}
-
-fn add_end(
-    alloc: Global,
-    texts: &mut BTreeSet<String>,
-    target: &str,
-    path: &KeyPath,
-) -> Result<(), AllocError>
-    ensures { OnOk result (Adds texts.old texts.new (end_text target.now (path_view path.now))) }
-{
+    add_along(alloc, &mut marks.implied, &mut here, &path.tags)?;
     if path.attr.is_some() {
         return Ok(());
     }
-    let mut end = String::from_str(alloc, target)?;
-    push_slashed(&mut end, &path.tags)?;
-    add_text(texts, end)?;
+    add_text(&mut marks.ends, here)?;
+    Ok(())
+}
+
+/// Goes through the tags, and takes in each element on the way.
+fn add_along(
+    alloc: Global,
+    texts: &mut BTreeSet<String>,
+    here: &mut String,
+    tags: &[String],
+) -> Result<(), AllocError>
+    ensures { OnOk result (GoesAlong texts.old texts.new
+        (string_bytes here.old) (string_bytes here.new) (names_view tags.now)) }
+{
+    for tag in tags {
+        push_step(here, tag.as_str())?;
+        add_text(texts, String::from_str(alloc, here.as_str())?)?;
+    }
     Ok(())
 }
 

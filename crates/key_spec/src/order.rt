@@ -19,21 +19,7 @@ pub(crate) fn order_place(rule: &Rule, context: &[String], tag: &str) -> Orderin
 pub(crate) fn order_paths(ours: &[String], theirs: &[String]) -> Ordering
     ensures { result ≡ path_cmp (names_view ours.now) (names_view theirs.now) }
 {
-    let mut others = theirs.iter();
-    for a in ours {
-        let Some(b) = others.next() else {
-            return Ordering::Greater;
-        };
-        match a.as_str().cmp(b.as_str()) {
-            Ordering::Equal => {}
-            order => return order,
-        }
-    }
-    if others.next().is_some() {
-        Ordering::Less
-    } else {
-        Ordering::Equal
-    }
+    ours.cmp(theirs)
 }
 
 /// Whether a rule has this context and tag.
@@ -46,23 +32,10 @@ pub(crate) fn stands_at(rule: &Rule, context: &[String], tag: &str) -> bool
 }
 
 /// Whether the names are the same.
-#[tactic(auto, using(crate::proofs::SameNames::same))]
 pub(crate) fn are_same(ours: &[String], theirs: &[String]) -> bool
     ensures { result ≡ is_eq (path_cmp (names_view ours.now) (names_view theirs.now)) }
 {
-    if ours.len() != theirs.len() {
-        return false;
-    }
-    let mut others = theirs.iter();
-    for a in ours {
-        let Some(b) = others.next() else {
-            return false;
-        };
-        if a.as_str() != b.as_str() {
-            return false;
-        }
-    }
-    others.next().is_none()
+    ours == theirs
 }
 
 /// Whether the names begin with the path and go on.

@@ -4,6 +4,7 @@ pub mod Unions
 pub mod TreeNodes
 pub mod WholeDirectories
 pub mod Records
+pub mod WholeRecords
 pub mod Apart
 pub mod ShapeLaws
 pub mod HeaderLaws

@@ -104,15 +104,16 @@ pub fn take_record(alloc: Global, bytes: &[u8], at: usize) -> Result<(Rec, usize
     Ok((rec, at))
 }
 
-#[tactic(auto, unfolding(xa_fields::specs::Reading::whole))]
 fn whole(alloc: Global, bytes: &[u8]) -> Result<Rec, RecFault>
     ensures { Gives rec_view result (whole_record bytes.now) }
 {
-    let (rec, at) = take_record(alloc, bytes, 0)?;
+    let Some((kind, body, at)) = take_frame(bytes, 0) else {
+        return Err(RecFault::Damage);
+    };
     if at < bytes.len() {
         return Err(RecFault::Damage);
     }
-    Ok(rec)
+    take_body(alloc, kind, body)
 }
 
 /// The record that all of the bytes are the encoding of.

@@ -6,6 +6,7 @@ pub mod Deep
 pub mod Loops
 pub mod Names
 pub mod Skips
+pub mod Puts
 pub mod Encodable
 pub mod Sets
 pub mod ShapeLaws

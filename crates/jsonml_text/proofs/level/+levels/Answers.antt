@@ -1,7 +1,7 @@
 use Rattle.jsonml_tree.proofs.Trees.{trees}
 use Rattle.std.proofs.lemmas.Grind.{common_steps}
 use Rattle.std.proofs.Common.{rules, arith}
-use Rattle.jsonml_text.proofs.Keeping.{items_fit-parts, tree_depth-parts}
+use Rattle.jsonml_text.proofs.Keeping.{items_fit-parts, tree_depth-parts, item_left}
 use Rattle.jsonml_text.proofs.level.+levels.Goals as goal
 
 pub finds_too_deep-finds_among-requires : goal.finds_too_deep-finds_among-requires
@@ -30,3 +30,8 @@ finds_too_deep-returns-in-Text t c = grind (arith, trees)
 
 pub finds_too_deep-returns-then-len : goal.finds_too_deep-returns-then-len
 finds_too_deep-returns-then-len t c = grind (arith, trees)
+
+pub finds_among-finds_too_deep-requires : goal.finds_among-finds_too_deep-requires
+finds_among-finds_too_deep-requires t c =
+    let left = item_left c.args.items.now c.loop-item.item-index c.item-item.result c.loop-item-test.true c.item-item.is c.loop-item.invariant.fit in
+    (omega (arith, c.decreases, c.loop-item.invariant.shallow, left.0), left.1)

@@ -1,18 +1,20 @@
-use Rattle.jsonml_tree.proofs.Trees.{trees}
+use Rattle.jsonml_tree.proofs.Trees.{trees, tree_view-Elem}
 use Rattle.std.proofs.lemmas.Grind.{common_steps}
-use Rattle.std.proofs.Common.{◌≡◌, ◌<◌, ◌++◌, ◌∷◌, [], ◌+◌, List, ℕ, Ok, Err, map, length, drop, rules, arith, sym, ap, ◌∙◌, subst, Vec, Global, Bor}
+use Rattle.std.proofs.Common.{◌≡◌, ◌<◌, ◌++◌, ◌∷◌, [], ◌+◌, List, ℕ, Ok, Err, map, length, drop, string_bytes, rules, arith, sym, ap, ◌∙◌, subst, Vec, Global, Bor}
 use Rattle.std.proofs.lemmas.List.{map-append, length-map, drop_all}
-use Rattle.serde_json.specs.Data.{items_depth}
+use Rattle.serde_json.specs.Data.{Data, string, array, item, items_depth}
 use Rattle.serde_json.specs.View.{view as data_of, items_view}
-use Rattle.serde_json.specs.declared.value.Value.{Value}
-use Rattle.jsonml_tree.specs.Data.{content}
+use Rattle.serde_json.specs.declared.value.Value.{Value, String}
+use Rattle.jsonml_tree.specs.Data.{content, element}
 use Rattle.jsonml_tree.specs.View.{tree_view, attr_view, content_view, items_view as trees_view}
 use Rattle.jsonml_tree.specs.declared.scalar.Attr.{Attr}
 use Rattle.jsonml_tree.specs.declared.tree.Tree.{Tree}
 use Rattle.jsonml_text.specs.Kept.{AreKept}
-use Rattle.jsonml_text.specs.Spelled.{mapped, item_at}
+use Rattle.jsonml_text.specs.Spelled.{mapped, item_at, element_at}
+use Rattle.jsonml_text.specs.Stops.{Reads}
 use Rattle.jsonml_text.proofs.Contents.{front_fault, front_items, behind_depth}
 use Rattle.jsonml_text.proofs.Spelling.{Reads-handed, values_left, items_stop, items_step, items_done}
+use Rattle.jsonml_text.proofs.Values.{no_item, view-String, view-Array}
 use Rattle.jsonml_text.proofs.Keeping.{AreKept-push}
 use Rattle.jsonml_text.proofs.read.+read.Goals as goal
 
@@ -131,4 +133,32 @@ read_content-returns-clause-content t c =
           ∙ ap (mapped (content xs)) c.in_ok-items.ensures.trees.0
           ∙ ap (λ x. Ok x) (sym c.content_from.ensures.content),
       c.in_ok-items.ensures.trees.1,
+    )
+
+-- ---- what a value spells
+
+pub read_item-returns-in_default : goal.read_item-returns-in_default
+read_item-returns-in_default t c = record { tree = no_item c.args.place.now.items c.args.value.now c.in_default.not-String c.in_default.not-Array; kept = tt }
+
+pub read_item-returns-in-Array-clause-tree : goal.read_item-returns-in-Array-clause-tree
+read_item-returns-in-Array-clause-tree t c =
+    let place = c.args.place.now.items in
+    let seen : data_of c.args.value.now ≡ array (items_view c.deref.result.now) = ap data_of c.in-Array.is ∙ view-Array c.in-Array.values ∙ ap (λ l. array (items_view l)) (sym c.deref.ensures.value) in
+    subst (λ (d : Data). Reads tree_view (item_at place d) place c.read_element.new.place.items c.read_element.result) (sym seen) c.read_element.ensures.tree
+
+pub read_element-returns-in_ok-content-in-Some-String-default-clause-tree : goal.read_element-returns-in_ok-content-in-Some-String-default-clause-tree
+read_element-returns-in_ok-content-in-Some-String-default-clause-tree t c =
+    let place = c.args.place.now.items in
+    let rest = c.in-Some-String-default.rest.now in
+    let tag = c.in-Some-String-default.tag in
+    let copy = c.in_ok-tag-in-Some-String-default.tag in
+    let held = c.in_ok-content-in-Some-String-default in
+    let whole : c.args.values.now ≡ String tag ∷ rest = search rules in
+    let copied : string_bytes tag ≡ string_bytes copy = search rules in
+    let seen : items_view c.args.values.now ≡ item (string (string_bytes tag)) (items_view rest) = ap items_view whole ∙ ap (λ d. item d (items_view rest)) (view-String tag) in (
+      ap (element_at place) seen
+          ∙ ap (mapped (element (string_bytes tag))) held.ensures.content.0
+          ∙ ap (λ n. Ok (element n (content_view held.content))) copied
+          ∙ ap (λ x. Ok x) (sym (tree_view-Elem copy held.content)),
+      held.ensures.content.1,
     )

@@ -2,11 +2,11 @@ use Rattle.std.proofs.Common.{◌+◌, ◌-◌, ◌*◌, length}
 use Rattle.jsonml_text.proofs.Pushing.{HasPushed}
 use Rattle.jsonml_text.proofs.straight.+straight.Given as goal
 
-abbrev pub decreases-push_element : goal.decreases-push_element
-decreases-push_element l = 4 * l.levels
+abbrev pub decreases-read_element : goal.decreases-read_element
+decreases-read_element l = 4 * l.levels
 
-abbrev pub decreases-push_item : goal.decreases-push_item
-decreases-push_item l = 4 * l.levels + 1
+abbrev pub decreases-read_tree : goal.decreases-read_tree
+decreases-read_tree l = 4 * l.levels + 1
 
 abbrev pub decreases-read_row : goal.decreases-read_row
 decreases-read_row l = 4 * l.levels + 3

@@ -1,4 +1,4 @@
-use Rattle.std.proofs.Common.{◌≡◌, ◌++◌, map, drop}
+use Rattle.std.proofs.Common.{◌≡◌, ◌++◌, map, drop, length, vec_len, vec_capacity}
 use Rattle.std.specs.List.{AllByRecursion}
 use Rattle.std.specs.Option.{option_map}
 use Rattle.serde_json.specs.View.{items_view}
@@ -9,10 +9,12 @@ use Rattle.key_rules.specs.UserPaths.{values_by}
 use Rattle.key_rules.proofs.user_path.read_values.Given as goal
 
 -- what is left decides
-abbrev pub invariant-loop-path : goal.invariant-loop-path
-invariant-loop-path l =
+abbrev pub invariant-loop-number : goal.invariant-loop-number
+invariant-loop-number l =
     record {
       left : values_by (map path_view l.paths) (items_view l.values)
-          ≡ option_map (λ ks. map key_view l.keys.items ++ ks) (values_by (map path_view (drop l.path-index l.paths)) (items_view l.others.rest.now));
+          ≡ option_map (λ ks. map key_view l.keys.items ++ ks) (values_by (map path_view (drop l.number l.paths)) (items_view (drop l.number l.values)));
       well_formed : AllByRecursion IsKeyWellFormed (map key_view l.keys.items);
+      count : vec_len l.keys ≡ l.number;
+      room : vec_capacity l.keys ≡ length l.paths;
     }

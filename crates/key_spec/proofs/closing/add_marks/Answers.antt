@@ -1,8 +1,8 @@
-use Rattle.std.proofs.Common.{◌≡◌, ◌∷◌, [], List, ℕ, map, flat_map, take, get_or, string_bytes, ap, ap₂, subst, ◌∙◌, arith}
+use Rattle.std.proofs.Common.{◌≡◌, ◌∷◌, [], List, ℕ, map, flat_map, take, get_or, string_bytes, subst, ◌∙◌, arith}
 use Rattle.std.proofs.lemmas.List.{take_all}
 use Rattle.key_spec.specs.Data.{PlainPath}
 use Rattle.key_spec.specs.Texts.{Adds, end_text, target_text, texts_along}
-use Rattle.key_spec.specs.View.{names_view, path_view, rule_view}
+use Rattle.key_spec.specs.View.{path_view, rule_view}
 use Rattle.key_spec.specs.declared.rule.KeyPath.{KeyPath}
 use Rattle.key_spec.proofs.MarkLemmas.{Adds-more}
 use Rattle.key_spec.proofs.TextLemmas.{Adds-none, Adds-append}
@@ -19,16 +19,17 @@ loop-path-preserved c =
     let i = c.loop-path.path-index in
     let item = c.path-item.result in
     let is : item ≡ get_or paths i item = subst (λ (ps : List KeyPath). item ≡ get_or ps i item) c.deref-path-items.ensures.value c.path-item.is in
+    let before = c.args.marks.now in
     let old = c.loop-path.marks in
+    let new = c.add_way.new.marks in
     let first : c.as_str.result.now ≡ target = c.as_str.ensures.value ∙ c.in_ok-target.ensures in
-    let second : c.as_str-in-loop-path.result.now ≡ target = c.as_str-in-loop-path.ensures.value ∙ c.in_ok-target.ensures in
-    let tags : names_view c.deref.result.now ≡ (path_view item).tags = ap names_view c.deref.ensures.value in
-    let implied = subst (λ ts. Adds old.implied c.add_along.new.texts ts) (ap₂ texts_along first tags) c.in_ok-add_along.ensures in
-    let ends = subst (λ t. Adds old.ends c.add_end.new.texts (end_text t (path_view item))) second c.in_ok-add_end.ensures in
+    let way = c.in_ok-add_way.ensures in
+    let implied = subst (λ t. Adds old.implied new.implied (texts_along t (path_view item).tags)) first way.implied in
+    let ends = subst (λ t. Adds old.ends new.ends (end_text t (path_view item))) first way.ends in
     record {
-      given = c.loop-path.invariant.given;
-      implied = Adds-more along path_view paths i item c.args.marks.now.implied old.implied c.add_along.new.texts (omega arith) is c.loop-path.invariant.implied implied;
-      ends = Adds-more (end_text target) path_view paths i item c.args.marks.now.ends old.ends c.add_end.new.texts (omega arith) is c.loop-path.invariant.ends ends;
+      given = Adds-append before.given old.given new.given [] [] c.loop-path.invariant.given way.given;
+      implied = Adds-more along path_view paths i item before.implied old.implied new.implied (omega arith) is c.loop-path.invariant.implied implied;
+      ends = Adds-more (end_text target) path_view paths i item before.ends old.ends new.ends (omega arith) is c.loop-path.invariant.ends ends;
     }
 
 pub returns : goal.returns

@@ -1,18 +1,6 @@
-use Rattle.std.proofs.Common.{arith}
-use Rattle.std.proofs.lemmas.Grind.{common_steps}
+use Rattle.std.proofs.Common.{◌∙◌}
+use Rattle.key_spec.proofs.SameNames.{slices-order}
 use Rattle.key_spec.proofs.order.order_paths.Goals as goal
 
-pub loop-a-preserved : goal.loop-a-preserved
-loop-a-preserved c = grind (arith, common_steps)
-
-pub returns-in_default : goal.returns-in_default
-returns-in_default c = grind (arith, common_steps)
-
-pub returns-in_default-cmp : goal.returns-in_default-cmp
-returns-in_default-cmp c = grind (arith, common_steps)
-
-pub returns-then-is_some : goal.returns-then-is_some
-returns-then-is_some c = grind (arith, common_steps)
-
-pub returns-else-is_some : goal.returns-else-is_some
-returns-else-is_some c = grind (arith, common_steps)
+pub returns : goal.returns
+returns c = c.cmp.ensures ∙ slices-order c.args.ours.now c.args.theirs.now

@@ -6,8 +6,8 @@ use Rattle.key_rules.specs.Satisfies.{item_label}
 use Rattle.key_rules.specs.Faults.{item_fault, item_place}
 use Rattle.key_rules.specs.Checks.{checked_fault, checked_label}
 use Rattle.key_rules.proofs.Looks.{looked-dropped, looked-new, looked-repeated, was_there, was_new}
-use Rattle.key_rules.proofs.walk.fault_among.Goals as goal
-use Rattle.key_rules.proofs.walk.fault_among.Goals.{in-Dropped, in-Labelled+in_ok-insert-in-Labelled+then-not-branch, in-Labelled+in_ok-insert-in-Labelled+else-not-branch}
+use Rattle.key_rules.proofs.walk.first_among.Goals as goal
+use Rattle.key_rules.proofs.walk.first_among.Goals.{in-Dropped, in-Labelled+in_ok-insert-in-Labelled+then-not-branch, in-Labelled+in_ok-insert-in-Labelled+else-not-branch}
 
 pub loop-position-preserved : goal.loop-position-preserved
 loop-position-preserved c =
