@@ -1,7 +1,10 @@
 -- Bodies that are all different, one after another.
-use Rattle.std.proofs.Common.{◌≡◌, ◌≢◌, ◌+◌, ◌<◌, ℕ, Bool, true, false, ◌||◌, cond, List, [], ◌∷◌, ◌++◌, map, take, drop, length, get_or, IsTrue, refl, ap, sym, subst, ◌∙◌, inl, inr, true≢false}
+use Rattle.std.proofs.Common.{◌≡◌, ◌≢◌, ◌+◌, ◌<◌, ℕ, Bool, true, false, ◌||◌, cond, List, [], ◌∷◌, ◌++◌, map, take, drop, length, Bor, get_or, IsTrue, refl, ap, sym, subst, ◌∙◌, arith, inl, inr, true≢false}
 use Rattle.std.specs.List.{AllByRecursion, list_any}
-use Rattle.std.specs.Ordering.{is_eq}
+use Rattle.std.specs.Ordering.{is_eq, nat_cmp, ordering_then}
+use Rattle.std.specs.declared.cmp.Ordering.{Ordering}
+use Rattle.std.specs.declared.cmp.Ordering.TheVariants.{Less, Equal, Greater}
+use Rattle.std.specs.Cmp.{nat_cmp_total, tied_itself}
 use Rattle.std.proofs.lemmas.List.{take_more, drop_more, map-append, take-append-drop}
 use Rattle.std.proofs.lemmas.List.Folds.{list_any-append}
 use Rattle.keyed_tree.specs.Data.{PlainKey}
@@ -12,6 +15,7 @@ use Rattle.archive_tree.specs.Stands.{AllDiffer, bodies}
 use Rattle.archive_tree.specs.PartsTest.{do_differ}
 use Rattle.keyed_tree.specs.View.{key_view}
 use Rattle.archive_tree.specs.View.{alt_view}
+use Rattle.keyed_tree.specs.declared.label.KeyVal.{KeyVal}
 use Rattle.archive_tree.specs.declared.node.Alt.{Alt}
 use Rattle.archive_tree.proofs.Tells.{bools, any_tells, tells_any, differ_tell}
 
@@ -67,6 +71,32 @@ module _ {X : Type 0} (f : X → PlainKey) (xs : List X) (i : ℕ) (x : X) (low 
       swap true false = refl
       swap false true = refl
       swap false false = refl
+
+-- ---- sought by a number first
+
+-- the order of pairs of a number and a body
+abbrev pub pair_cmp : ℕ × Bor KeyVal → ℕ × Bor KeyVal → Ordering
+pair_cmp x y = ordering_then (nat_cmp x.0 y.0) (key_cmp (key_view x.1.now) (key_view y.1.now))
+
+-- where the number is one that the body has, the body alone decides
+pub same_pair : (f : PlainKey → ℕ) (n : ℕ) (b d : PlainKey) → n ≡ f b → is_eq (ordering_then (nat_cmp n (f d)) (key_cmp b d)) ≡ is_eq (key_cmp b d)
+same_pair f n b d e = bools (is_eq (ordering_then (nat_cmp n (f d)) (key_cmp b d))) (is_eq (key_cmp b d)) (last (nat_cmp n (f d)) (key_cmp b d)) back
+  where
+    last : (o p : Ordering) → IsTrue (is_eq (ordering_then o p)) → IsTrue (is_eq p)
+    last Less p h = absurd (true≢false (sym h))
+    last Equal p h = h
+    last Greater p h = absurd (true≢false (sym h))
+
+    both : (o p : Ordering) → o ≡ Equal → IsTrue (is_eq p) → IsTrue (is_eq (ordering_then o p))
+    both o p t h = rw t h
+
+    back : IsTrue (is_eq (key_cmp b d)) → IsTrue (is_eq (ordering_then (nat_cmp n (f d)) (key_cmp b d)))
+    back h = both (nat_cmp n (f d)) (key_cmp b d) (ap (nat_cmp n) (ap f (sym ((key_cmp-is_eq b d).0 h)) ∙ sym e) ∙ tied_itself nat_cmp_total n) h
+
+pub short_differ : (xs : List Alt) → length xs < 2 → do_differ (bodies (map alt_view xs)) ≡ true
+short_differ [] h = refl
+short_differ (x ∷ []) h = refl
+short_differ (x ∷ y ∷ xs) h = absurd (omega arith)
 
 pub bodies-view : (xs : List Alt) → bodies (map alt_view xs) ≡ map (λ a. key_view a.body) xs
 bodies-view [] = refl

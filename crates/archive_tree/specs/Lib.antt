@@ -8,3 +8,4 @@ pub mod History
 pub mod Seek
 pub mod Parts
 pub mod PartsTest
+pub mod Summary

@@ -4,7 +4,7 @@ use Rattle.std.specs.Option.{option_map}
 use Rattle.std.specs.List.{filter_map, enumerate_from, AllByRecursion}
 use Rattle.std.specs.Ordering.{is_eq, nat_cmp}
 use Rattle.version_set.specs.Pairs.{IsCanonical}
-use Rattle.keyed_tree.specs.Alike.{IsInner, IsLeaf, Alike, AllAlike}
+use Rattle.keyed_tree.specs.Alike.{IsInner, IsLeaf, AllAlike}
 use Rattle.keyed_tree.specs.Data.{PlainKey, PlainLabel, PlainKeyed, inner, leaf, label_of, kids_of}
 use Rattle.keyed_tree.specs.Kids.{IsOrdered, kid_at}
 use Rattle.keyed_tree.specs.Lists.{Ascends, Has}

@@ -1,15 +1,20 @@
 // Whether parts are those of an archive.
 ghost use Rattle.std.specs.Prelude.{◌≡◌, IfOk, Some, map};
 ghost use Rattle.std.specs.List.{list_all, flat_map};
+ghost use Rattle.jsonml_tree.specs.View.{scalar_view, content_view};
+ghost use Rattle.keyed_tree.specs.View.{key_view};
 ghost use Rattle.version_set.specs.Members.{members, has};
 ghost use Rattle.version_set.specs.View.{pairs_of};
 ghost use Rattle.archive_tree.specs.Stands.{head_or, bodies, labels};
 ghost use Rattle.archive_tree.specs.Parts.{alt_sets, node_sets};
 ghost use Rattle.archive_tree.specs.PartsTest.{is_none, is_same, is_stamp_well, are_parts, are_stamps_well, do_firsts_rise, do_differ, are_alts_well, is_node_well, are_nodes_well, are_elements, is_archive, do_tile};
 ghost use Rattle.archive_tree.specs.Seek.{rise};
+ghost use Rattle.archive_tree.specs.Summary.{text_end, content_summary, scalar_summary, summary_of};
 ghost use Rattle.archive_tree.specs.View.{stamp_view, alt_view, node_view, nodes_view};
 
 use crate::node::{ANode, Alt, effective};
+use jsonml_tree::{Content, Scalar, Tree};
+use keyed_tree::KeyVal;
 use std::alloc::{AllocError, Global};
 use std::collections::BTreeSet;
 use version_set::VersionSet;
@@ -203,16 +208,63 @@ fn are_alts_parts(alloc: Global, set: &VersionSet, alts: &[Alt]) -> Result<bool,
     are_parts(alloc, set, &parts)
 }
 
+// A body is sought by its summary, and looked at itself only where summaries are equal.
 fn do_bodies_differ(alloc: Global, alts: &[Alt]) -> Result<bool, AllocError>
     ensures { IfOk result (λ b. b ≡ do_differ (bodies (map alt_view alts.now))) }
 {
+    if alts.len() < 2 {
+        return Ok(true);
+    }
     let mut seen = BTreeSet::new(alloc);
     for alt in alts {
-        if !seen.insert(&alt.body)? {
+        if !seen.insert((summary_of(&alt.body), &alt.body))? {
             return Ok(false);
         }
     }
     Ok(true)
+}
+
+// A number that usually tells a body apart, in a few steps.
+fn summary_of(body: &KeyVal) -> u64
+    ensures { result ≡ summary_of (key_view body.now) }
+{
+    match body {
+        KeyVal::Scalar(scalar) => scalar_summary(scalar),
+        KeyVal::Content(content) => content_summary(content),
+    }
+}
+
+fn scalar_summary(scalar: &Scalar) -> u64
+    ensures { result ≡ scalar_summary (scalar_view scalar.now) }
+{
+    match scalar {
+        Scalar::Null | Scalar::Bool(_) => 0,
+        Scalar::Whole(n) => (n.cast_unsigned() % 0x1_0000_0000_0000_0000) as u64,
+        Scalar::Text(text) => text_end(text.as_str()),
+    }
+}
+
+fn content_summary(content: &Content) -> u64
+    ensures { result ≡ content_summary (content_view content.now) }
+{
+    match content.items.as_slice() {
+        [Tree::Text(text), ..] => text_end(text.as_str()),
+        [Tree::Elem { content, .. }, ..] => content_summary(content),
+        [] => 0,
+    }
+}
+
+// The last eight bytes as one number.
+fn text_end(text: &str) -> u64
+    ensures { result ≡ text_end text.now }
+{
+    let bytes = text.as_bytes();
+    let (_, end) = bytes.split_at(bytes.len().saturating_sub(8));
+    let mut value = 0u64;
+    for byte in end {
+        value = value.wrapping_mul(256).wrapping_add(u64::from(*byte));
+    }
+    value
 }
 
 // A stored set is not empty, lies in the parent's and differs from it; without one the parent's is

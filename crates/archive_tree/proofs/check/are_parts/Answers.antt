@@ -1,4 +1,4 @@
-use Rattle.std.proofs.Common.{ℕ, Bor, ◌≡◌, ◌∙◌, rules}
+use Rattle.std.proofs.Common.{ℕ, Bor, ◌∙◌, rules}
 use Rattle.std.specs.List.Sorted.{IsNonDecreasingBy}
 use Rattle.std.proofs.lemmas.List.Sorted.{IsNonDecreasingBy-from_sort, answers_always}
 use Rattle.version_set.specs.View.{pairs_of}
