@@ -1,5 +1,5 @@
 -- Printing children.
-use Rattle.std.proofs.Common.{◌≡◌, ℕ, ◌+◌, ◌-◌, ◌*◌, ◌≤◌, ◌<◌, ◌^◌, ◌&&◌, ◌||◌, Bool, List, [], ◌∷◌, ◌++◌, length, map, take, Option, Some, None, Result, Err, refl, sym, ap, subst, ◌∙◌, arith}
+use Rattle.std.proofs.Common.{◌≡◌, ℕ, ◌+◌, ◌-◌, ◌*◌, ◌≤◌, ◌<◌, ◌^◌, ◌&&◌, ◌||◌, Bool, false, List, [], ◌∷◌, ◌++◌, length, map, take, Option, Some, None, Result, Err, refl, sym, ap, subst, ◌∙◌, arith}
 use Rattle.std.specs.List.{flat_map, AllByRecursion}
 use Rattle.xa_outside.specs.Folder.{Files}
 use Rattle.xa_outside.specs.Numbers.{Numbers, PullsAtMost, after_pull}
@@ -25,7 +25,7 @@ use Rattle.file_get.specs.State.{State}
 use Rattle.file_get.specs.Kids.{kid_calls}
 use Rattle.file_get.specs.Stands.{NodeIs}
 use Rattle.file_get.specs.Printed.{NodePrinted}
-use Rattle.file_get.specs.Inside.{OpenedPrinted, OpeningIs, opening_rec, inside_seen}
+use Rattle.file_get.specs.Inside.{OpenedPrinted, OpeningIs, opening_rec, is_inner, inside_seen}
 use Rattle.file_get.specs.declared.read.Opening.{Opening}
 use Rattle.file_get.specs.declared.fault.GetFault.{GetFault}
 use Rattle.file_get.proofs.States.{walks-then, shows-then}
@@ -46,6 +46,11 @@ opens-first : (parent : List (ℕ × ℕ)) (k : PlainNode) → AllByRecursion Is
 opens-first parent (inner_node l s ks) h = h.0
 opens-first parent (leaf_node l s xs) h = h.0
 
+-- no END closes a leaf
+leaf-closed : (parent : List (ℕ × ℕ)) (k : PlainNode) (dir : ℕ) → dir ≡ (node_piece parent k).dir → is_inner k ≡ false → dir ≡ 0
+leaf-closed parent (inner_node l s ks) dir h e = absurd cc
+leaf-closed parent (leaf_node l s xs) dir h e = h
+
 -- the bytes of a node that are looked at
 seen-apart : (i : ℕ) (parent : List (ℕ × ℕ)) (k : PlainNode) → length (rec_bytes (opening_rec k)) + inside_seen i parent k ≡ node_seen i parent k
 seen-apart i parent (inner_node l s ks) = omega arith
@@ -58,13 +63,13 @@ module _ {S K : Type 0} (files : S → Option Files) (draft : S → Option (List
   -- what reading an opening record says where a node is told
   abbrev pub Tells : S → S → (PlainNode → Type 0) → Type 0
   Tells old new P = (end : ℕ) (bytes more : List ℕ) (k : PlainNode) → TellsFront (files old) name end bytes → child.end ≤ end → StandsAt bytes child.first (rec_bytes (opening_rec k) ++ more) → child.end ≡ child.first + length (rec_bytes (opening_rec k) ++ more)
-      → IsRec (opening_rec k) → P k × PullsAtMost (length (rec_bytes (opening_rec k))) (numbers old) (numbers new)
+      → IsRec (opening_rec k) → (is_inner k ≡ false → child.dir ≡ 0) → P k × PullsAtMost (length (rec_bytes (opening_rec k))) (numbers old) (numbers new)
 
   found : (old new : S) (P : PlainNode → Type 0) (bytes : List ℕ) (end : ℕ) (parent : List (ℕ × ℕ)) (k : PlainNode) → Tells old new P → NodeIs i (files old) name bytes end child depth has_item parent k → P k × PullsAtMost (length (rec_bytes (opening_rec k))) (numbers old) (numbers new)
   found old new P bytes end parent k told x =
       let is = x.is in
       let stands = is.stands in
-      told end bytes (behind_bytes parent k) k x.tells is.within (subst (StandsAt bytes child.first) (apart parent k) stands.stands) (stands.end ∙ ap (λ (bs : List ℕ). child.first + length bs) (apart parent k)) (opens-first parent k is.records)
+      told end bytes (behind_bytes parent k) k x.tells is.within (subst (StandsAt bytes child.first) (apart parent k) stands.stands) (stands.end ∙ ap (λ (bs : List ℕ). child.first + length bs) (apart parent k)) (opens-first parent k is.records) (leaf-closed parent k child.dir stands.dir)
 
   -- the opening record was not read
   pub node-unopened : (old new : S) (k : K) (p : Pen) (n : ℕ) (e : CursorFault) → cursor.OnlyReads files draft faults old new (Some e) → PullsAtMost (child.end - child.first) (numbers old) (numbers new) → Tells old new (λ j. IfDamage e ⊥)

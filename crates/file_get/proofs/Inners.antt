@@ -20,7 +20,7 @@ use Rattle.record_format.specs.Nodes.{Piece, closed_by_end, inner_piece, set_in,
 use Rattle.record_format.specs.Seen.{piece_sets, dir_seen, sets_visits, row_seen, node_steps}
 use Rattle.record_format.specs.Spelling.{rec_bytes}
 use Rattle.record_parts.specs.Bounds.{deepest}
-use Rattle.file_rows.specs.StandsAt.{RowStands, ChildStands}
+use Rattle.file_rows.specs.StandsAt.{RowLaid, ChildLaid}
 use Rattle.file_rows.specs.View.{PlainRow, PlainChild}
 use Rattle.file_get.specs.Told.{fault_of, Unless}
 use Rattle.file_get.specs.State.{State}
@@ -52,7 +52,7 @@ inner-node i files name bytes end child o depth h parent (leaf_node l s xs) x e 
 -- what row_of says of a row behind an opening record
 abbrev pub RowBehind : PlainChild → ℕ → PlainRow → Type 0
 RowBehind child behind row =
-    (bytes : List ℕ) (l : PlainLabel) (s : Stamp) (set : List (ℕ × ℕ)) (ps : List Piece) → ChildStands bytes child (inner_piece l s set ps) → behind ≡ child.first + length (rec_bytes (inner_rec l s)) → RowStands bytes row ps
+    (bytes : List ℕ) (l : PlainLabel) (s : Stamp) (set : List (ℕ × ℕ)) (ps : List Piece) → ChildLaid bytes child (inner_piece l s set ps) → behind ≡ child.first + length (rec_bytes (inner_rec l s)) → RowLaid bytes row ps
 
 and-first : (a b : Bool) → IsTrue (a && b) → IsTrue a
 and-first true b e = refl
@@ -75,7 +75,7 @@ module _ (i : ℕ) (name : List ℕ) (child : PlainChild) (o : Opening) (depth :
       let records = is.records in
       let set = set_in s parent in
       let pieces = node_pieces set in
-      let stands : RowStands bytes row (pieces ks) = behind bytes l s set (pieces ks) is.stands opens.behind in
+      let stands : RowLaid bytes row (pieces ks) = behind bytes l s set (pieces ks) is.stands opens.behind in
       let nested : IsTrue (are_nested (deepest - depth - 1) ks) = and-last (nat_lt 0 (deepest - depth)) (are_nested (deepest - depth - 1) ks) is.nested in
       let less : deepest - depth - 1 ≡ deepest - (depth + 1) = omega arith in
       let inside : IsTrue (row_fits true false (read_row i (eff s (members parent)) ks)) = and-last ((nat_lt 0 depth || not h) && is_tag l.name) (row_fits true false (read_row i (eff s (members parent)) ks)) n.fits in
@@ -85,7 +85,7 @@ module _ (i : ℕ) (name : List ℕ) (child : PlainChild) (o : Opening) (depth :
       record {
         tells = n.tells;
         nodes = record {
-          stands = subst (λ (js : PlainNodes). RowStands bytes row (pieces js)) (sym (from-list ks)) stands;
+          stands = subst (λ (js : PlainNodes). RowLaid bytes row (pieces js)) (sym (from-list ks)) stands;
           within = omega (arith, ends, within);
           records = subst (λ (js : PlainNodes). AllByRecursion IsRec (closed_by_end (pieces js))) (sym (from-list ks)) records.1;
           nested = subst (λ (js : PlainNodes). IsTrue (are_nested (deepest - (depth + 1)) js)) (sym (from-list ks)) (subst (λ (d : ℕ). IsTrue (are_nested d ks)) less nested);
@@ -157,7 +157,7 @@ module _ (i : ℕ) (name : List ℕ) (child : PlainChild) (o : Opening) (depth :
 
   -- the row of an inner node is found
   pub never-lost : (files : Option Files) → o.is_inner ≡ true
-      → ((bytes : List ℕ) (l : PlainLabel) (s : Stamp) (set : List (ℕ × ℕ)) (ps : List Piece) → ChildStands bytes child (inner_piece l s set ps) → o.behind ≡ child.first + length (rec_bytes (inner_rec l s)) → ⊥)
+      → ((bytes : List ℕ) (l : PlainLabel) (s : Stamp) (set : List (ℕ × ℕ)) (ps : List Piece) → ChildLaid bytes child (inner_piece l s set ps) → o.behind ≡ child.first + length (rec_bytes (inner_rec l s)) → ⊥)
       → (bytes : List ℕ) (end : ℕ) (h : Bool) (parent : List (ℕ × ℕ)) (k : PlainNode) → NodeOpened i files name bytes end child o depth h parent k → ⊥
   never-lost files isin lost bytes end h parent k x =
       let q = inner-node i files name bytes end child o depth h parent k x isin in

@@ -9,11 +9,11 @@ use Rattle.timestamp_tree.specs.Data.{PlainTs, leaf, node, top}
 use Rattle.timestamp_tree.specs.Tree.{half, joined, tree_of, IsTree}
 use Rattle.timestamp_tree.proofs.Trees.{leaves-tree_of, IsTree-tree_of, length-leaf, length-node, length-set_bytes}
 use Rattle.std.specs.FinMap as map'
-use Rattle.std.proofs.lemmas.Bool.Decides.{nat_tests}
 use Rattle.std.proofs.lemmas.List.{drop-take, take-take}
 use Rattle.xa_fields.proofs.Fields.{some_is}
-use Rattle.xa_outside.specs.Folder.{Files, bytes_or_none, front, front_of}
+use Rattle.xa_outside.specs.Folder.{Files, bytes_or_none, front}
 use Rattle.version_set.specs.View.{pairs_of}
+use Rattle.timestamp_tree.specs.Nodes.{piece_of}
 use Rattle.timestamp_tree.specs.Reading.{stored_at}
 use Rattle.record_parts.specs.Bounds.{IsSet, most}
 use Rattle.record_parts.proofs.Readers.{passed_some}
@@ -129,13 +129,11 @@ parts-are bytes row span parent front ks behind n is sets of many =
 
 -- ---- what is read
 
--- fewer bytes from the front of a file
-front-shorter : (file bytes : List ℕ) (n end : ℕ) → front end file ≡ Some bytes → n ≤ end → front n file ≡ Some (take n bytes)
-front-shorter file bytes n end e le =
+-- the bytes of a file before an offset are those of its front
+same-piece : (file bytes : List ℕ) (at n end : ℕ) → front end file ≡ Some bytes → n ≤ end → drop at (take n file) ≡ drop at (take n bytes)
+same-piece file bytes at n end e le =
     let p = passed_some (leb end (length file)) (take end file) bytes e in
-    let whole : end ≤ length file = grind (arith, nat_tests, p.0) in
-    let part : leb n (length file) ≡ true = grind (arith, nat_tests) in
-    rw part (ap Some (sym (take-take n end file le) ∙ ap (take n) p.1))
+    ap (drop at) (sym (take-take n end file le) ∙ ap (take n) p.1)
 
 -- the node at the front of a tree
 pub record TreeFront (t : PlainTs) : Type 0 where
@@ -156,15 +154,14 @@ length-map-is f [] = refl
 length-map-is f (x ∷ xs) = ap (λ n. suc n) (length-map-is f xs)
 
 -- the node that stands at the front of the tree of a part of a row
-pub record NodeFound (files : Option Files) (name bytes : List ℕ) (span : Span) (parent : List (ℕ × ℕ)) (ks : List PlainNode) : Type 0 where
+pub record NodeFound (files : Option Files) (name : List ℕ) (span : Span) (parent : List (ℕ × ℕ)) (ks : List PlainNode) : Type 0 where
   pub told : Files
   pub is : files ≡ Some told
-  pub front : front_of told name span.limit ≡ Some (take span.limit bytes)
   pub rest : List ℕ
-  pub stands : stored_at most (drop span.at (take span.limit bytes)) ≡ Some ((top (tree_over parent ks), left_bytes (tree_over parent ks)), rest)
+  pub stands : stored_at most (piece_of told name span.at span.limit) ≡ Some ((top (tree_over parent ks), left_bytes (tree_over parent ks)), rest)
   pub size : own_bytes (tree_over parent ks) ≡ length (stored (top (tree_over parent ks)) (left_bytes (tree_over parent ks)))
 
-pub node-found : (files : Option Files) (name bytes : List ℕ) (end : ℕ) (row : PlainRow) (span : Span) (parent : List (ℕ × ℕ)) (front ks behind : List PlainNode) → span.limit < 2 ^ 64 → LookTold files name bytes end row span parent front ks behind → NodeFound files name bytes span parent ks
+pub node-found : (files : Option Files) (name bytes : List ℕ) (end : ℕ) (row : PlainRow) (span : Span) (parent : List (ℕ × ℕ)) (front ks behind : List PlainNode) → span.limit < 2 ^ 64 → LookTold files name bytes end row span parent front ks behind → NodeFound files name span parent ks
 node-found files name bytes end row span parent front ks behind short x =
     let t = tree_over parent ks in
     let part = x.part in
@@ -183,16 +180,15 @@ node-found files name bytes end row span parent front ks behind short x =
     record {
       told = tells.0;
       is = tells.1;
-      front = front-shorter (bytes_or_none (map'.get tells.0 name)) bytes span.limit end tells.2 (omega (arith, inside, within));
       rest = f.more;
-      stands = ap (stored_at most) piece ∙ node_reads.again (top t, left_bytes t) f.more (set, left);
+      stands = ap (stored_at most) (same-piece (bytes_or_none (map'.get tells.0 name)) bytes span.at span.limit end tells.2 (omega (arith, inside, within)) ∙ piece) ∙ node_reads.again (top t, left_bytes t) f.more (set, left);
       size = f.size;
     }
 
 -- what was read is that node
-pub found-node : (files : Option Files) (name bytes : List ℕ) (span : Span) (parent : List (ℕ × ℕ)) (ks : List PlainNode) (n : Node) (rest : List ℕ) → NodeFound files name bytes span parent ks
-    → stored_at most (drop span.at (take span.limit bytes)) ≡ Some ((pairs_of n.set, n.left), rest) → n.size ≡ length (stored (pairs_of n.set) n.left) → NodeOf (tree_over parent ks) n
-found-node files name bytes span parent ks n rest f e size =
+pub found-node : (files : Option Files) (name : List ℕ) (span : Span) (parent : List (ℕ × ℕ)) (ks : List PlainNode) (n : Node) (rest : List ℕ) → (f : NodeFound files name span parent ks)
+    → stored_at most (piece_of f.told name span.at span.limit) ≡ Some ((pairs_of n.set, n.left), rest) → n.size ≡ length (stored (pairs_of n.set) n.left) → NodeOf (tree_over parent ks) n
+found-node files name span parent ks n rest f e size =
     let t = tree_over parent ks in
     let same = some_is ((pairs_of n.set, n.left), rest) ((top t, left_bytes t), f.rest) (sym e ∙ f.stands) in
     let set : pairs_of n.set ≡ top t = ap (λ (x : (List (ℕ × ℕ) × ℕ) × List ℕ). x.0.0) same in
@@ -200,8 +196,8 @@ found-node files name bytes span parent ks n rest f e size =
     record { set = set; left = left; size = size ∙ (λ j. length (stored (set j) (left j))) ∙ sym f.size }
 
 -- and one is found
-pub never-none : (files : Option Files) (name bytes : List ℕ) (span : Span) (parent : List (ℕ × ℕ)) (ks : List PlainNode) → NodeFound files name bytes span parent ks → stored_at most (drop span.at (take span.limit bytes)) ≡ None → ⊥
-never-none files name bytes span parent ks f e = clash (sym e ∙ f.stands)
+pub node-there : (files : Option Files) (name : List ℕ) (span : Span) (parent : List (ℕ × ℕ)) (ks : List PlainNode) → (f : NodeFound files name span parent ks) → stored_at most (piece_of f.told name span.at span.limit) ≡ None → ⊥
+node-there files name span parent ks f e = clash (sym e ∙ f.stands)
   where
     clash : {X : Type 0} {x : X} → None ≡ Some x → ⊥
     clash e = cc

@@ -21,7 +21,7 @@ use Rattle.std.specs.Result.{IfOk, IfErr}
 use Rattle.keyed_tree.specs.View.{name_view}
 use Rattle.record_cursor.specs.Faults.{IfDamage}
 use Rattle.record_cursor.specs.declared.fault.CursorFault.TheVariants.{Memory}
-use Rattle.file_get.specs.Inside.{opening_rec, is_inner, OpeningIs}
+use Rattle.file_get.specs.Inside.{opening_rec, is_inner, may_close, OpeningIs}
 use Rattle.file_get.specs.declared.read.Opening.{Opening}
 
 -- what a record's first nine bytes are
@@ -106,6 +106,17 @@ pub never-none : (body : List ℕ) (kind : ℕ) (k : PlainNode) → IsRec (openi
 never-none body kind k h e f g = clash (g ∙ opens-some body kind k h e f)
   where
     clash : {X : Type 0} {x : X} → None ≡ Some x → ⊥
+    clash e = cc
+
+-- nor is one closed as it may not be
+pub never-closed : (kind dir : ℕ) (k : PlainNode) (b : Bool) → b ≡ may_close kind dir → b ≡ false → kind ≡ kind_of (opening_rec k) → (is_inner k ≡ false → dir ≡ 0) → ⊥
+never-closed kind dir (inner_node l s ks) b is refused e h = (let closes : may_close kind dir ≡ true = ap (λ (n : ℕ). may_close n dir) e in clash (sym closes ∙ sym is ∙ refused))
+  where
+    clash : true ≡ false → ⊥
+    clash e = cc
+never-closed kind dir (leaf_node l s xs) b is refused e h = (let closes : may_close kind dir ≡ true = (λ j. may_close (e j) (h refl j)) in clash (sym closes ∙ sym is ∙ refused))
+  where
+    clash : true ≡ false → ⊥
     clash e = cc
 
 -- the opening that was named, or memory ran out

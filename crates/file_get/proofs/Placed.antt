@@ -22,7 +22,7 @@ use Rattle.record_cursor.specs.Faults.{IfDamage}
 use Rattle.record_cursor.specs.Moves.{TellsFront}
 use Rattle.record_cursor.specs.Steps as cursor
 use Rattle.record_cursor.specs.declared.fault.CursorFault.{CursorFault}
-use Rattle.file_rows.specs.StandsAt.{RowStands, ChildStands, start_in}
+use Rattle.file_rows.specs.StandsAt.{RowLaid, ChildLaid, start_in}
 use Rattle.file_rows.specs.View.{PlainRow, PlainChild}
 use Rattle.file_rows.proofs.Children.{ChildAt, child-at}
 use Rattle.file_get.specs.Told.{of_cursor, fault_of}
@@ -54,7 +54,7 @@ module _ {S K : Type 0} (files : S → Option Files) (draft : S → Option (List
 
   -- what reading a child's entry says where the row is told
   abbrev pub Tells : S → (ℕ → List ℕ → Piece → Type 0) → Type 0
-  Tells old P = (last : ℕ) (bytes : List ℕ) (ps : List Piece) (p : Piece) → TellsFront (files old) name last bytes → row.end + (9 + row.dir) ≤ last → RowStands bytes row ps → IsDir (dir_of ps) → slice_get ps span.position ≡ Some p
+  Tells old P = (last : ℕ) (bytes : List ℕ) (ps : List Piece) (p : Piece) → TellsFront (files old) name last bytes → row.end + (9 + row.dir) ≤ last → RowLaid bytes row ps → IsDir (dir_of ps) → slice_get ps span.position ≡ Some p
       → place.after ≤ start_in row.first ps span.position → start_in row.first ps (span.position + 1) ≤ row.end → P (start_in row.first ps span.position) bytes p
 
   -- the child of a part of a row that has only one
@@ -133,7 +133,7 @@ module _ {S K : Type 0} (files : S → Option Files) (draft : S → Option (List
 
   -- the child was printed
   pub child-printed : (old new : S) (k : K) (p : Pen) (n : ℕ) (child : PlainChild) (u : State) (r : Result Bool GetFault) → place.after ≤ child.first → child.first ≤ child.end → child.end ≤ row.end → cursor.OnlyReads files draft faults old new None
-      → PullsAtMost 24 (numbers old) (numbers new) → Tells old (λ from bytes q. ChildStands bytes child q × (child.first ≡ from)) → NodePrinted i name child place.depth place.has_item (at new k p n) u r
+      → PullsAtMost 24 (numbers old) (numbers new) → Tells old (λ from bytes q. ChildLaid bytes child q × (child.first ≡ from)) → NodePrinted i name child place.depth place.has_item (at new k p n) u r
       → ChildPrinted i name row span place (at old k p n) u (placed place child.end r)
   child-printed old new k p n child u r low mid high h pulls told printed = (
       let s = at old k p n in
@@ -145,7 +145,7 @@ module _ {S K : Type 0} (files : S → Option Files) (draft : S → Option (List
         walks = walks-then s t u e 24 (child.end - child.first) (24 + (reach row.end (placed place child.end r) - place.after)) (walk-most child r low mid high) got walk;
         reaches = reaches-by child r u.pen low mid high printed.stands;
         shows = λ bytes end parent front behind j x has. (
-            let y = found old (λ from bytes q. ChildStands bytes child q × (child.first ≡ from)) bytes end parent front behind j told x in
+            let y = found old (λ from bytes q. ChildLaid bytes child q × (child.first ≡ from)) bytes end parent front behind j told x in
             let nodes = x.nodes in
             let within = nodes.within in
             let o = one (files old) bytes end parent front behind j x in

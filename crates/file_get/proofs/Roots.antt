@@ -24,7 +24,7 @@ use Rattle.record_cursor.specs.Faults.{IfDamage}
 use Rattle.record_cursor.specs.Moves.{TellsFront}
 use Rattle.record_cursor.specs.Steps as cursor
 use Rattle.record_cursor.specs.declared.fault.CursorFault.{CursorFault}
-use Rattle.file_rows.specs.StandsAt.{StandsAt, RowStands}
+use Rattle.file_rows.specs.StandsAt.{StandsAt, RowLaid}
 use Rattle.file_rows.specs.View.{PlainRow}
 use Rattle.file_get.specs.Told.{of_cursor, fault_of}
 use Rattle.file_get.specs.State.{State}
@@ -59,7 +59,7 @@ module _ {S K : Type 0} (files : S → Option Files) (draft : S → Option (List
 
   -- what reading the tail says
   abbrev pub Tells : S → (List ℕ → List Piece → Type 0) → Type 0
-  Tells old P = (bytes : List ℕ) (row : PlainRow) (ps : List Piece) → TellsFront (files old) name size bytes → RowStands bytes row ps → row.first ≡ first → row.end + (9 + row.dir) + 8 ≡ size → StandsAt bytes (size - 8) (u64_bytes row.dir) → P bytes ps
+  Tells old P = (bytes : List ℕ) (row : PlainRow) (ps : List Piece) → TellsFront (files old) name size bytes → RowLaid bytes row ps → row.first ≡ first → row.end + (9 + row.dir) + 8 ≡ size → StandsAt bytes (size - 8) (u64_bytes row.dir) → P bytes ps
 
   more : {a b : Numbers} (m l : ℕ) → m ≤ l → PullsAtMost m a b → PullsAtMost l a b
   more m l le h = (let w = h.within in record { count = h.count; within = omega (arith, le, w); pulled = h.pulled })
@@ -72,13 +72,13 @@ module _ {S K : Type 0} (files : S → Option Files) (draft : S → Option (List
     shows = λ bytes row a v x. states.shows-unread files draft numbers faults taken out_faults old new k p n n (8 + seen a i) (steps_for a i) e (calls_of (plain v)) (told bytes row (root_pieces a) x.tells x.stands x.begins x.ends x.tail) (omega arith) (more 8 (8 + seen a i) (omega arith) pulls);
   }
 
-  row-told : (files : Option Files) (bytes : List ℕ) (row r : PlainRow) (a : PlainArchive) (v : PlainKeyed) → RowStands bytes r (root_pieces a) → r.end + (9 + r.dir) + 8 ≡ size → RootTold i files name bytes size first row a v → RowTold i files name bytes size 0 r (upto_pairs a.n) (nodes_list a.kids)
+  row-told : (files : Option Files) (bytes : List ℕ) (row r : PlainRow) (a : PlainArchive) (v : PlainKeyed) → RowLaid bytes r (root_pieces a) → r.end + (9 + r.dir) + 8 ≡ size → RootTold i files name bytes size first row a v → RowTold i files name bytes size 0 r (upto_pairs a.n) (nodes_list a.kids)
   row-told files bytes row r a v stands ends x =
       let pieces = node_pieces (upto_pairs a.n) in
       record {
         tells = x.tells;
         nodes = record {
-          stands = subst (λ (js : PlainNodes). RowStands bytes r (pieces js)) (sym (from-list a.kids)) stands;
+          stands = subst (λ (js : PlainNodes). RowLaid bytes r (pieces js)) (sym (from-list a.kids)) stands;
           within = omega (arith, ends);
           records = subst (λ (js : PlainNodes). AllByRecursion IsRec (closed_by_end (pieces js))) (sym (from-list a.kids)) x.records;
           nested = subst (λ (js : PlainNodes). IsTrue (are_nested (deepest - 0) js)) (sym (from-list a.kids)) x.nested;
@@ -107,7 +107,7 @@ module _ {S K : Type 0} (files : S → Option Files) (draft : S → Option (List
 
   -- the row of the root was printed
   pub root-printed : (old new : S) (k : K) (p : Pen) (n : ℕ) (row : PlainRow) (u : State) (r : Result Bool GetFault) → row.first ≡ first → row.end + (9 + row.dir) + 8 ≡ size → first ≤ row.end → cursor.OnlyReads files draft faults old new None
-      → PullsAtMost 8 (numbers old) (numbers new) → Tells old (λ bytes ps. RowStands bytes row ps) → RowPrinted i name row (0) (at new k p n) u r → RootPrinted i name size first (at old k p n) u (rooted r)
+      → PullsAtMost 8 (numbers old) (numbers new) → Tells old (λ bytes ps. RowLaid bytes row ps) → RowPrinted i name row (0) (at new k p n) u r → RootPrinted i name size first (at old k p n) u (rooted r)
   root-printed old new k p n row u r begins ends ordered h pulls told printed = (
       let s = at old k p n in
       let t = at new k p n in

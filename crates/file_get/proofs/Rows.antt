@@ -13,8 +13,7 @@ use Rattle.timestamp_tree.specs.Bytes.{tree_bytes}
 use Rattle.timestamp_tree.specs.Tree.{tree_of}
 use Rattle.timestamp_tree.specs.Search.{visits, visited_bytes}
 use Rattle.record_format.specs.Bounds.{IsDir}
-use Rattle.record_format.specs.Data.{end_rec}
-use Rattle.record_format.specs.Nodes.{Piece, piece_bytes, dir_of, entries_from, closed_by_end, node_pieces}
+use Rattle.record_format.specs.Nodes.{Piece, piece_bytes, dir_of, closed_by_end, node_pieces}
 use Rattle.record_format.specs.Seen.{sets_visited, sets_visits}
 use Rattle.record_format.specs.Spelling.{entry_bytes, sets_bytes, dir_bytes, rec_bytes}
 use Rattle.record_format.proofs.Pieces.{closed-bytes, entries-length}
@@ -22,15 +21,15 @@ use Rattle.record_cursor.specs.Faults.{IfDamage}
 use Rattle.record_cursor.specs.Moves.{TellsFront}
 use Rattle.record_cursor.specs.Steps as cursor
 use Rattle.record_cursor.specs.declared.fault.CursorFault.{CursorFault}
-use Rattle.file_rows.specs.StandsAt.{StandsAt, RowStands, head_bytes, start_in}
+use Rattle.file_rows.specs.StandsAt.{StandsAt, RowLaid, head_bytes}
 use Rattle.file_rows.specs.View.{PlainRow}
 use Rattle.file_rows.proofs.Parts.{stands-back}
 use Rattle.file_rows.proofs.Children.{end-parts, entries-size}
 use Rattle.file_get.specs.Told.{of_cursor, fault_of}
 use Rattle.file_get.specs.State.{State}
-use Rattle.file_get.specs.Kids.{set_of, kids_in, kids_calls, item_behind, nodes_seen, nodes_steps, sets_seen, sets_steps, all_find, kids_fit}
+use Rattle.file_get.specs.Kids.{set_of, kids_in, kids_calls, item_behind, nodes_seen, nodes_steps, sets_seen, sets_steps}
 use Rattle.file_get.specs.Walks.{Walks, Shows, StandsIn}
-use Rattle.file_get.specs.Stands.{RowIs, SpanIs, VisitIs}
+use Rattle.file_get.specs.Stands.{RowIs, VisitIs}
 use Rattle.file_get.specs.Visits.{reach, may_pull, Reaches, EndsAt, Visited}
 use Rattle.file_get.specs.Printed.{RowTold, RowPrinted}
 use Rattle.file_get.specs.declared.span.Span.{Span}
@@ -38,7 +37,7 @@ use Rattle.file_get.specs.declared.span.Place.{Place}
 use Rattle.file_get.specs.declared.fault.GetFault.{GetFault}
 use Rattle.file_get.specs.declared.fault.GetFault.TheVariants.{Damage}
 use Rattle.file_get.proofs.Spans.{dir-is, rows-sets}
-use Rattle.file_get.proofs.States.{walks-then, walks-more, walks-damage, shows-then}
+use Rattle.file_get.proofs.States.{walks-then, walks-more, shows-then}
 use Rattle.file_get.proofs.States as states
 
 pieces-count : (parent : List (ℕ × ℕ)) (ks : List PlainNode) → length (node_pieces parent (nodes_from ks)) ≡ length ks
@@ -66,7 +65,7 @@ record TreeStands (bytes : List ℕ) (row : PlainRow) (ps : List Piece) : Type 0
   pub stands : StandsAt bytes (row.end + (13 + 24 * length ps)) (sets_bytes (dir_of ps).sets)
   pub limit : row.end + (9 + row.dir) ≡ row.end + (13 + 24 * length ps) + length (sets_bytes (dir_of ps).sets)
 
-tree-stands : (bytes : List ℕ) (row : PlainRow) (ps : List Piece) → RowStands bytes row ps → TreeStands bytes row ps
+tree-stands : (bytes : List ℕ) (row : PlainRow) (ps : List Piece) → RowLaid bytes row ps → TreeStands bytes row ps
 tree-stands bytes row ps h =
     let d = dir_of ps in
     let pieces = flat_map piece_bytes ps in
@@ -110,7 +109,7 @@ module _ {S K : Type 0} (files : S → Option Files) (draft : S → Option (List
 
   -- what counting the children says where the row is told
   abbrev pub Tells : S → (ℕ → Type 0) → Type 0
-  Tells old P = (last : ℕ) (bytes : List ℕ) (ps : List Piece) → TellsFront (files old) name last bytes → row.end + (9 + row.dir) ≤ last → RowStands bytes row ps → IsDir (dir_of ps) → P (length ps)
+  Tells old P = (last : ℕ) (bytes : List ℕ) (ps : List Piece) → TellsFront (files old) name last bytes → row.end + (9 + row.dir) ≤ last → RowLaid bytes row ps → IsDir (dir_of ps) → P (length ps)
 
   counted : (old : S) (P : ℕ → Type 0) (bytes : List ℕ) (end : ℕ) (parent : List (ℕ × ℕ)) (ks : List PlainNode) → Tells old P → RowTold i (files old) name bytes end depth row parent ks → P (length ks)
   counted old P bytes end parent ks told x =
@@ -145,19 +144,6 @@ module _ {S K : Type 0} (files : S → Option Files) (draft : S → Option (List
               (states.shows-read files draft numbers faults taken out_faults old new k p n n 13 0 (omega arith) pulls),
           ap (λ (js : List PlainNode). item_behind false (kids_in i parent js)) (sym e),
         ));
-  }
-
-  -- a directory without children that is too long
-  pub row-refused : (old new : S) (k : K) (p : Pen) (n : ℕ) (count : ℕ) → row.first ≤ row.end → count ≡ 0 → (row.dir ≡ 4 → ⊥) → cursor.OnlyReads files draft faults old new None → PullsAtMost (9 + row.dir) (numbers old) (numbers new)
-      → Tells old (λ m. count ≡ m) → RowPrinted i name row depth (at old k p n) (at new k p n) (Err Damage)
-  row-refused old new k p n count ordered none long h inside told = record {
-    walks = walks-damage (at old k p n) (at new k p n) (9 + row.dir) (row.end + (9 + row.dir) - row.first) (omega (arith, ordered)) (states.reads files draft numbers faults taken out_faults old new k p n n None (9 + row.dir) h inside);
-    stands = tt;
-    shows = λ bytes end parent ks x. (
-        let e : ks ≡ [] = none-is ks (sym (counted old (λ m. count ≡ m) bytes end parent ks told x) ∙ none) in
-        let nodes = x.nodes in
-        let stands = nodes.stands in
-        absurd (long (stands.dir ∙ ap (λ (js : List PlainNode). length (dir_bytes (dir_of (node_pieces parent (nodes_from js))))) e)));
   }
 
   -- the row as a part of itself

@@ -1,27 +1,25 @@
 -- Parts of rows: their nodes, and the trees over their sets.
-use Rattle.std.proofs.Common.{◌≡◌, ℕ, zero, suc, ◌+◌, ◌-◌, ◌*◌, ◌≤◌, ◌<◌, ◌&&◌, ◌||◌, Bool, true, false, not, List, [], ◌∷◌, ◌++◌, length, map, take, drop, IsTrue, Some, refl, sym, ap, subst, ◌∙◌, arith, append_assoc, append-nil, if◌then◌else◌}
+use Rattle.std.proofs.Common.{◌≡◌, ℕ, zero, suc, ◌+◌, ◌-◌, ◌*◌, ◌≤◌, ◌<◌, ◌&&◌, ◌||◌, Bool, true, false, not, List, [], ◌∷◌, ◌++◌, length, map, take, drop, IsTrue, Some, refl, sym, ap, subst, ◌∙◌, arith, if◌then◌else◌}
 use Rattle.std.specs.List.{flat_map, slice_get, AllByRecursion}
-use Rattle.std.proofs.lemmas.List.{length-append, map-append, take-append-drop, length-take, length-drop}
-use Rattle.std.proofs.lemmas.Grind.{flat_map-append}
+use Rattle.std.proofs.lemmas.List.{map-append, length-take, length-drop}
 use Rattle.version_set.specs.Members.{members, has}
 use Rattle.version_set.specs.Pairs.{IsCanonical}
-use Rattle.jsonml_print.specs.Calls.{Call}
 use Rattle.keyed_tree.specs.Data.{PlainKeyed, label_of}
 use Rattle.keyed_tree.specs.Proper.{is_tag}
 use Rattle.archive_tree.specs.Data.{PlainNode, nodes_from}
 use Rattle.archive_tree.specs.Read.{read}
-use Rattle.timestamp_tree.specs.Bytes.{stored, tree_bytes}
+use Rattle.timestamp_tree.specs.Bytes.{stored}
 use Rattle.timestamp_tree.specs.Data.{PlainTs, leaf, node, top, leaves}
 use Rattle.timestamp_tree.specs.Search.{visits, visited_bytes}
 use Rattle.timestamp_tree.specs.Tree.{half, joined, tree_of, IsTree}
 use Rattle.timestamp_tree.proofs.Trees.{some_has, top_has, tree_is, joined_tree, leaves-tree_of, IsTree-tree_of}
 use Rattle.record_parts.specs.Bounds.{IsSet}
 use Rattle.record_format.specs.Bounds.{IsRec, IsDir}
-use Rattle.record_format.specs.Data.{PlainRec, end_rec}
+use Rattle.record_format.specs.Data.{end_rec}
 use Rattle.record_format.specs.Nested.{are_nested, is_nested}
-use Rattle.record_format.specs.Nodes.{Piece, piece_bytes, dir_of, closed_by_end, node_piece, node_pieces}
+use Rattle.record_format.specs.Nodes.{Piece, dir_of, closed_by_end, node_piece, node_pieces}
 use Rattle.record_format.proofs.Pieces.{all-front, all-back}
-use Rattle.file_get.specs.Kids.{set_of, has_at, finds, all_find, kids_in, kid_calls, kids_calls, item_behind, kid_fits, kids_fit, nodes_seen, nodes_steps}
+use Rattle.file_get.specs.Kids.{set_of, has_at, finds, all_find, kids_in, item_behind, kid_fits, kids_fit, nodes_seen, nodes_steps}
 use Rattle.file_get.specs.Looked.{tree_over, own_bytes}
 use Rattle.file_get.proofs.RowLists.{piece-set}
 

@@ -1,6 +1,6 @@
 -- Writing the text of a version.
-use Rattle.std.proofs.Common.{◌≡◌, ℕ, ◌+◌, ◌-◌, ◌≤◌, Bool, true, false, List, [], ◌∷◌, ◌++◌, length, take, Option, Some, None, Result, Ok, Err, refl, sym, ap, subst, ◌∙◌, arith}
-use Rattle.xa_outside.specs.Causes.{Rose, HasCause}
+use Rattle.std.proofs.Common.{◌≡◌, ℕ, ◌+◌, ◌-◌, ◌≤◌, List, [], ◌∷◌, ◌++◌, take, Option, Some, None, Result, Ok, Err, refl, ap, subst, ◌∙◌, arith}
+use Rattle.xa_outside.specs.Causes.{HasCause}
 use Rattle.xa_outside.specs.Folder.{Files}
 use Rattle.xa_outside.specs.Numbers.{Numbers, IsMeter, PullsAtMost}
 use Rattle.xa_outside.specs.NumberLaws.{PullsAtMost-none}
@@ -15,12 +15,11 @@ use Rattle.key_annotate.proofs.Insides.{plain-element}
 use Rattle.keyed_tree.specs.Data.{PlainKeyed}
 use Rattle.keyed_tree.specs.Plain.{plain}
 use Rattle.keyed_print.specs.KeyedText.{keyed_text}
-use Rattle.file_get.specs.Told.{IsSound, fault_of}
+use Rattle.file_get.specs.Told.{IsSound}
 use Rattle.file_get.specs.State.{State}
-use Rattle.file_get.specs.Walks.{Walks, Prefixed, Shows}
+use Rattle.file_get.specs.Walks.{Walks, Prefixed}
 use Rattle.file_get.specs.Roots.{RootPrinted, TextPut}
 use Rattle.file_get.specs.declared.fault.GetFault.{GetFault}
-use Rattle.file_get.specs.declared.fault.GetFault.TheVariants.{Out}
 use Rattle.file_get.proofs.States.{walks-then}
 use Rattle.file_get.proofs.States as states
 

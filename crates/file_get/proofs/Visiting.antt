@@ -1,11 +1,11 @@
 -- Searching parts of rows.
-use Rattle.std.proofs.Common.{◌≡◌, ℕ, zero, suc, ◌+◌, ◌-◌, ◌*◌, ◌≤◌, ◌<◌, ◌&&◌, ◌||◌, Bool, true, false, not, nat_lt, List, [], ◌∷◌, ◌++◌, length, map, take, drop, IsTrue, Option, Some, None, Result, Ok, Err, refl, sym, ap, subst, ◌∙◌, arith, append-nil, append_assoc}
+use Rattle.std.proofs.Common.{◌≡◌, ℕ, zero, suc, ◌+◌, ◌-◌, ◌*◌, ◌≤◌, ◌<◌, ◌&&◌, ◌||◌, Bool, true, false, nat_lt, List, [], ◌∷◌, ◌++◌, length, map, take, drop, IsTrue, Option, Some, None, Result, Ok, Err, refl, sym, ap, subst, ◌∙◌, arith, append_assoc}
 use Rattle.std.specs.Result.{IfOk}
 use Rattle.std.specs.List.{flat_map, AllByRecursion}
 use Rattle.std.proofs.lemmas.List.{length-append, take-append-drop}
 use Rattle.std.proofs.lemmas.Grind.{flat_map-append}
 use Rattle.xa_outside.specs.Folder.{Files}
-use Rattle.xa_outside.specs.Numbers.{Numbers, IsMeter, PullsAtMost}
+use Rattle.xa_outside.specs.Numbers.{Numbers, PullsAtMost}
 use Rattle.xa_outside.specs.Taken.{Taken}
 use Rattle.version_set.specs.Members.{members, has}
 use Rattle.jsonml_print.specs.Calls.{Call}
@@ -16,8 +16,7 @@ use Rattle.timestamp_tree.specs.Data.{PlainTs, top}
 use Rattle.timestamp_tree.specs.Search.{visits, visited_bytes}
 use Rattle.timestamp_tree.specs.Tree.{half, joined}
 use Rattle.record_parts.specs.Bounds.{IsSet}
-use Rattle.record_format.specs.Bounds.{IsDir}
-use Rattle.record_format.specs.Nodes.{Piece, piece_bytes, dir_of, node_pieces}
+use Rattle.record_format.specs.Nodes.{Piece, piece_bytes, node_pieces}
 use Rattle.record_cursor.specs.Faults.{IfDamage}
 use Rattle.record_cursor.specs.Steps as cursor
 use Rattle.record_cursor.specs.declared.fault.CursorFault.{CursorFault}
@@ -27,17 +26,16 @@ use Rattle.file_get.specs.Told.{of_cursor, fault_of}
 use Rattle.file_get.specs.State.{State}
 use Rattle.file_get.specs.Kids.{set_of, has_at, kids_in, kids_calls, kid_calls, item_behind, kids_fit, all_find, nodes_seen, nodes_steps}
 use Rattle.file_get.specs.Looked.{Halves, LookTold, LookIs, PartsAre, own_bytes, tree_over}
-use Rattle.file_get.specs.Walks.{Walks, Shows, StandsIn}
+use Rattle.file_get.specs.Walks.{Shows, StandsIn}
 use Rattle.file_get.specs.Stands.{RowIs, VisitIs}
 use Rattle.file_get.specs.Visits.{reach, may_pull, Reaches, EndsAt, Visited}
 use Rattle.file_get.specs.Printed.{ChildPrinted}
 use Rattle.file_get.specs.declared.span.Span.{Span}
 use Rattle.file_get.specs.declared.span.Place.{Place}
-use Rattle.file_get.specs.declared.look.Sight.{Sight}
-use Rattle.file_get.specs.declared.look.Sight.TheVariants.{Lacks, Child, Parts}
+use Rattle.file_get.specs.declared.look.Sight.TheVariants.{Child, Parts}
 use Rattle.file_get.specs.declared.fault.GetFault.{GetFault}
 use Rattle.file_get.proofs.Spans.{dir-is, rows-sets, part-sets, kids-append, item-append, fit-front, fit-back, find-front, find-back, seen-append, steps-append, nodes-split, lacks-none, own-visited, some-visits, joined-visited, joined-visits}
-use Rattle.file_get.proofs.States.{walks-then, walks-more, shows-then, shows-fault, shows-as}
+use Rattle.file_get.proofs.States.{walks-then, walks-more, shows-then, shows-fault}
 use Rattle.file_get.proofs.States as states
 
 -- ---- offsets

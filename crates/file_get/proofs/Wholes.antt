@@ -1,11 +1,9 @@
 -- A version of a sound archive at the virtual root of its file.
-use Rattle.std.proofs.Common.{◌≡◌, ℕ, zero, suc, ◌+◌, ◌-◌, ◌&&◌, ◌||◌, Bool, true, false, cond, not, IsTrue, true≢false, List, [], ◌∷◌, ◌++◌, length, map, take, take_all, Option, Some, slice_get, refl, sym, ap, subst, ◌∙◌, inl, inr, arith, append_assoc}
+use Rattle.std.proofs.Common.{◌≡◌, ℕ, zero, suc, ◌+◌, ◌-◌, ◌&&◌, ◌||◌, Bool, true, false, cond, not, IsTrue, true≢false, List, [], ◌∷◌, ◌++◌, length, map, Option, Some, slice_get, refl, sym, ap, subst, ◌∙◌, inl, inr}
 use Rattle.std.specs.List.{flat_map, AllByRecursion}
 use Rattle.std.specs.declared.cmp.Ordering.{Ordering}
 use Rattle.std.specs.declared.cmp.Ordering.TheVariants.{Less}
 use Rattle.std.specs.Ordering.{ordering_then}
-use Rattle.std.proofs.lemmas.List.{length-append}
-use Rattle.xa_fields.specs.Spelling.{u64_bytes}
 use Rattle.xa_fields.proofs.Fields.{some_is}
 use Rattle.xa_outside.specs.Folder.{Files}
 use Rattle.version_set.specs.Members.{members, has, upto_pairs}
@@ -31,20 +29,17 @@ use Rattle.archive_tree.proofs.Readings.{some_has as not_empty}
 use Rattle.archive_tree.proofs.Those.{has_those, nums_has, has_nums, one_tree, passes, orderly_numbered, rooted_has}
 use Rattle.archive_tree.proofs.Versions.{version_has}
 use Rattle.record_format.specs.Bounds.{IsRec}
-use Rattle.record_format.specs.Data.{end_rec}
 use Rattle.record_format.specs.Files.{header_bytes, root_pieces, file_records, tail_bytes, file_bytes}
-use Rattle.record_format.specs.Nodes.{Piece, piece_bytes, dir_of, closed_by_end, set_in}
-use Rattle.record_format.specs.Spelling.{dir_bytes, rec_bytes}
-use Rattle.record_format.proofs.Pieces.{closed-bytes}
+use Rattle.record_format.specs.Nodes.{closed_by_end, set_in}
+use Rattle.record_format.specs.Spelling.{rec_bytes}
 use Rattle.record_cursor.specs.Moves.{TellsFront}
 use Rattle.record_cursor.proofs.Fills.{front-length}
 use Rattle.archive_file.specs.Sound.{SoundAs}
 use Rattle.archive_file.proofs.GoesLaws.{both-hold}
 use Rattle.archive_file.proofs.KeyedLaws.{sound-plain}
 use Rattle.archive_file.proofs.SoundLaws.{versions-nested}
-use Rattle.file_rows.specs.StandsAt.{StandsAt, RowStands}
 use Rattle.file_rows.proofs.Children.{row_in}
-use Rattle.file_rows.proofs.Parts.{stands-part, stands-back}
+use Rattle.file_rows.proofs.RootRows.{root-row-of}
 use Rattle.file_get.specs.Kids.{set_of, has_at, kids_in, leaf_fits, kid_fits, row_fits, some_has, finds, finds_each, all_find}
 use Rattle.file_get.specs.Roots.{RootTold}
 use Rattle.file_get.proofs.Opened.{eff-members}
@@ -190,36 +185,6 @@ module _ (vs : List PlainKeyed) (a : PlainArchive) (is : ArchiveOf vs a) where
       one-in i (upto_pairs a.n) t a.kids is.row.ascending (root-label i t v)
       (ap (λ ns. read_root i ns a.kids) (members-upto_pairs a.n) ∙ version_read vs a is i t (version_has vs i t v))
 
--- ---- the file
-
--- Where the row of the virtual root and the tail stand.
-record WholeStands (bytes : List ℕ) (size first : ℕ) (ps : List Piece) : Type 0 where
-  stands : RowStands bytes (row_in first ps) ps
-  ends : (row_in first ps).end + (9 + (row_in first ps).dir) + 8 ≡ size
-  tail : StandsAt bytes (size - 8) (u64_bytes (row_in first ps).dir)
-
-whole-stands : (head closed tail bytes : List ℕ) (ps : List Piece) (size first : ℕ) → bytes ≡ head ++ (closed ++ tail) → closed ≡ flat_map rec_bytes (closed_by_end ps) → tail ≡ u64_bytes (length (dir_bytes (dir_of ps)))
-    → first ≡ length head → length bytes ≡ size → WholeStands bytes size first ps
-whole-stands head closed tail bytes ps size first is rows ends begins len =
-    let whole : StandsAt bytes 0 (head ++ (closed ++ tail)) = ap (take (length (head ++ (closed ++ tail)))) is ∙ take_all (length (head ++ (closed ++ tail))) (head ++ (closed ++ tail)) (omega arith) in
-    let row = stands-part bytes 0 head closed tail whole in
-    let again : StandsAt bytes 0 ((head ++ closed) ++ tail) = subst (StandsAt bytes 0) (sym (append_assoc head closed tail)) whole in
-    let last = stands-back bytes 0 (head ++ closed) tail again in
-    let inside : length closed ≡ length (flat_map piece_bytes ps) + length (rec_bytes (end_rec (dir_of ps))) = ap length (rows ∙ closed-bytes ps) ∙ length-append (flat_map piece_bytes ps) (rec_bytes (end_rec (dir_of ps))) in
-    let eight : length tail ≡ 8 = ap length ends in
-    let all : size ≡ length head + (length closed + length tail) = sym len ∙ ap length is ∙ length-append head (closed ++ tail) ∙ ap (λ (n : ℕ). length head + n) (length-append closed tail) in
-    let at : 0 + length head ≡ first = omega (arith, begins) in
-    let behind : 0 + length (head ++ closed) ≡ size - 8 = omega (arith, all, eight, length-append head closed) in
-    record {
-      stands = record {
-        stands = subst (λ (n : ℕ). StandsAt bytes n (flat_map rec_bytes (closed_by_end ps))) at (subst (StandsAt bytes (0 + length head)) rows row);
-        end = refl;
-        dir = refl;
-      };
-      ends = omega (arith, all, eight, inside, begins);
-      tail = subst (λ (n : ℕ). StandsAt bytes n (u64_bytes (length (dir_bytes (dir_of ps))))) behind (subst (StandsAt bytes (0 + length (head ++ closed))) ends last);
-    }
-
 -- ---- the versions
 
 get-all : (P : PlainKeyed → Type 0) (vs : List PlainKeyed) (i : ℕ) (k : PlainKeyed) → AllByRecursion P vs → slice_get vs i ≡ Some k → P k
@@ -238,7 +203,7 @@ pub root_told : (i : ℕ) (files : Option Files) (name bytes : List ℕ) (size f
 root_told i files name bytes size first rules vs a k tells sound is version begins =
     let same = one_archive vs sound.file.archive a sound.file.is is in
     let spelled : bytes ≡ file_bytes rules a = sound.file.spelled ∙ ap (file_bytes rules) same in
-    let whole = whole-stands (header_bytes rules a.n) (flat_map rec_bytes (file_records a)) (tail_bytes a) bytes (root_pieces a) size first spelled refl refl begins (front-length files name bytes size tells) in
+    let whole = root-row-of (header_bytes rules a.n) (flat_map rec_bytes (file_records a)) (tail_bytes a) bytes (root_pieces a) size first spelled refl refl begins (front-length files name bytes size tells) in
     let element = version-all IsElement vs i k is.elements version in
     let proper = version-all _ vs i k (sound-plain rules vs bytes sound) version in
     record {

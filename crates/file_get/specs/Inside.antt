@@ -1,13 +1,11 @@
 -- What stands inside a node.
-use Rattle.std.specs.Prelude.{◌≡◌, ◌≢◌, ℕ, ◌+◌, ◌-◌, ◌≤◌, List, [], ◌∷◌, ◌++◌, length, map, Bool, true, false, ◌||◌, if◌then◌else◌, Result, IfOk, Option, ⊤}
+use Rattle.std.specs.Prelude.{◌≡◌, ◌≢◌, ℕ, ◌+◌, ◌-◌, ◌≤◌, List, [], ◌∷◌, ◌++◌, length, map, Bool, true, false, not, ◌||◌, ◌==◌, if◌then◌else◌, Result, IfOk, Option, ⊤}
 use Rattle.std.specs.List.{flat_map, AllByRecursion}
 use Rattle.version_set.specs.Members.{members, has}
-use Rattle.jsonml_print.specs.Calls.{Call, attribute, begin, end, content_calls}
-use Rattle.jsonml_print.specs.Pen.{Pen}
+use Rattle.jsonml_print.specs.Calls.{end, content_calls}
 use Rattle.key_annotate.specs.Inside.{inside_of}
-use Rattle.keyed_tree.specs.Data.{PlainLabel, PlainName, name_bytes}
 use Rattle.keyed_tree.specs.View.{name_view}
-use Rattle.archive_tree.specs.Data.{Stamp, PlainAlt, PlainNode, inner_node, leaf_node, node_label, node_stamp}
+use Rattle.archive_tree.specs.Data.{PlainAlt, PlainNode, inner_node, leaf_node, node_label}
 use Rattle.archive_tree.specs.Read.{read}
 use Rattle.record_cursor.specs.Moves.{TellsFront}
 use Rattle.record_format.specs.Bounds.{IsRec}
@@ -37,6 +35,10 @@ opening_rec (leaf_node l s xs) = leaf_rec l s
 abbrev pub is_inner : PlainNode → Bool
 is_inner (inner_node l s ks) = true
 is_inner (leaf_node l s xs) = false
+
+-- an END with a body of so many bytes may close what a record of this kind opens: none closes a leaf
+abbrev pub may_close : ℕ → ℕ → Bool
+may_close kind dir = not (kind == 2) || dir == 0
 
 -- the opening record of a node that begins at this offset
 pub record OpeningIs (k : PlainNode) (first : ℕ) (o : Opening) : Type 0 where

@@ -1,22 +1,18 @@
 -- What the printing of nodes shows.
-use Rattle.std.specs.Prelude.{◌≡◌, ℕ, ◌+◌, ◌-◌, ◌≤◌, List, [], ◌∷◌, ◌++◌, length, map, nat_lt, Bool, false, true, ◌||◌, IsTrue, Option, Result, IfOk}
+use Rattle.std.specs.Prelude.{◌≡◌, ℕ, ◌+◌, ◌-◌, ◌≤◌, List, [], ◌∷◌, ◌++◌, nat_lt, Bool, false, true, ◌||◌, IsTrue, Option, Result, IfOk}
 use Rattle.xa_outside.specs.Folder.{Files}
-use Rattle.keyed_tree.specs.Data.{PlainName, PlainKeyed, inner, leaf, label_of, kids_list, name_bytes}
-use Rattle.keyed_tree.specs.Plain.{plain}
 use Rattle.keyed_tree.specs.Proper.{is_tag}
 use Rattle.archive_tree.specs.Data.{PlainNode, node_label}
 use Rattle.archive_tree.specs.Read.{read}
 use Rattle.version_set.specs.Members.{members}
-use Rattle.jsonml_print.specs.Calls.{Call, content_calls}
 use Rattle.record_cursor.specs.Moves.{TellsFront}
-use Rattle.record_format.specs.Data.{PlainRec, inner_rec, leaf_rec}
-use Rattle.record_format.specs.Seen.{node_seen, node_steps, dir_seen, sets_visits}
+use Rattle.record_format.specs.Seen.{node_seen, node_steps}
 use Rattle.file_rows.specs.View.{PlainRow, PlainChild}
 use Rattle.file_get.specs.Told.{fault_of}
 use Rattle.file_get.specs.State.{State}
 use Rattle.file_get.specs.Walks.{Walks, StandsIn, Shows}
-use Rattle.file_get.specs.Kids.{set_of, has_at, all_find, kids_in, kid_calls, kids_calls, item_behind, kids_fit, nodes_seen, nodes_steps, sets_seen, sets_steps}
-use Rattle.file_get.specs.Stands.{RowIs, NodeIs, VisitIs, SpanIs}
+use Rattle.file_get.specs.Kids.{has_at, all_find, kids_in, kid_calls, kids_calls, item_behind, kids_fit, nodes_seen, nodes_steps, sets_seen, sets_steps}
+use Rattle.file_get.specs.Stands.{RowIs, NodeIs, VisitIs}
 use Rattle.file_get.specs.Visits.{reach, Reaches, EndsAt}
 use Rattle.file_get.specs.declared.span.Span.{Span}
 use Rattle.file_get.specs.declared.span.Place.{Place}

@@ -1,5 +1,5 @@
 -- Printing what a version has at the virtual root.
-use Rattle.std.specs.Prelude.{◌≡◌, ℕ, ◌+◌, ◌-◌, ◌≤◌, List, [], ◌∷◌, length, true, false, IsTrue, Option}
+use Rattle.std.specs.Prelude.{◌≡◌, ℕ, ◌+◌, ◌-◌, ◌≤◌, List, [], ◌∷◌, true, false, IsTrue, Option}
 use Rattle.std.specs.List.{AllByRecursion}
 use Rattle.xa_fields.specs.Spelling.{u64_bytes}
 use Rattle.xa_outside.specs.Folder.{Files}
@@ -14,12 +14,11 @@ use Rattle.keyed_tree.specs.Plain.{plain}
 use Rattle.record_format.specs.Bounds.{IsRec}
 use Rattle.record_format.specs.Files.{root_pieces}
 use Rattle.record_format.specs.Nested.{are_nested}
-use Rattle.record_format.specs.Nodes.{dir_of, closed_by_end}
+use Rattle.record_format.specs.Nodes.{closed_by_end}
 use Rattle.record_format.specs.Seen.{seen, steps_for}
-use Rattle.record_format.specs.Spelling.{dir_bytes}
 use Rattle.record_parts.specs.Bounds.{deepest}
 use Rattle.record_cursor.specs.Moves.{TellsFront}
-use Rattle.file_rows.specs.StandsAt.{StandsAt, RowStands}
+use Rattle.file_rows.specs.StandsAt.{StandsAt, RowLaid}
 use Rattle.file_rows.specs.View.{PlainRow}
 use Rattle.file_get.specs.State.{State}
 use Rattle.file_get.specs.Walks.{Walks, Prefixed, Shows}
@@ -30,7 +29,7 @@ use Rattle.file_get.specs.declared.fault.GetFault.{GetFault}
 -- The archive's nodes stand behind a header of so many bytes, and the tail behind them; and version i among them is this tree.
 pub record RootTold (i : ℕ) (files : Option Files) (name bytes : List ℕ) (size first : ℕ) (row : PlainRow) (a : PlainArchive) (k : PlainKeyed) : Type 0 where
   pub tells : TellsFront files name size bytes
-  pub stands : RowStands bytes row (root_pieces a)
+  pub stands : RowLaid bytes row (root_pieces a)
   pub begins : row.first ≡ first
   pub ends : row.end + (9 + row.dir) + 8 ≡ size
   pub tail : StandsAt bytes (size - 8) (u64_bytes row.dir)

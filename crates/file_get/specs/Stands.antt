@@ -4,14 +4,13 @@ use Rattle.std.specs.List.{AllByRecursion}
 use Rattle.xa_outside.specs.Folder.{Files}
 use Rattle.timestamp_tree.specs.Bytes.{tree_bytes}
 use Rattle.timestamp_tree.specs.Tree.{tree_of}
-use Rattle.archive_tree.specs.Data.{PlainNode, PlainNodes, nodes_from}
+use Rattle.archive_tree.specs.Data.{PlainNode, nodes_from}
 use Rattle.record_parts.specs.Bounds.{deepest}
 use Rattle.record_format.specs.Bounds.{IsRec}
-use Rattle.record_format.specs.Data.{PlainRec}
 use Rattle.record_format.specs.Nested.{is_nested, are_nested}
-use Rattle.record_format.specs.Nodes.{Piece, closed_by_end, node_piece, node_pieces}
+use Rattle.record_format.specs.Nodes.{closed_by_end, node_piece, node_pieces}
 use Rattle.record_cursor.specs.Moves.{TellsFront}
-use Rattle.file_rows.specs.StandsAt.{StandsAt, RowStands, ChildStands, start_in}
+use Rattle.file_rows.specs.StandsAt.{StandsAt, RowLaid, ChildLaid, start_in}
 use Rattle.file_rows.specs.View.{PlainRow, PlainChild}
 use Rattle.version_set.specs.Members.{members}
 use Rattle.archive_tree.specs.Read.{read}
@@ -21,14 +20,14 @@ use Rattle.file_get.specs.declared.span.Place.{Place}
 
 -- These nodes are the children in a row, under a parent that has this set and below so many open elements.
 pub record RowIs (bytes : List ℕ) (end depth : ℕ) (row : PlainRow) (parent : List (ℕ × ℕ)) (ks : List PlainNode) : Type 0 where
-  pub stands : RowStands bytes row (node_pieces parent (nodes_from ks))
+  pub stands : RowLaid bytes row (node_pieces parent (nodes_from ks))
   pub within : row.end + (9 + row.dir) ≤ end
   pub records : AllByRecursion IsRec (closed_by_end (node_pieces parent (nodes_from ks)))
   pub nested : IsTrue (are_nested (deepest - depth) (nodes_from ks))
 
 -- The node is this child.
 pub record ChildIs (bytes : List ℕ) (end depth : ℕ) (child : PlainChild) (parent : List (ℕ × ℕ)) (k : PlainNode) : Type 0 where
-  pub stands : ChildStands bytes child (node_piece parent k)
+  pub stands : ChildLaid bytes child (node_piece parent k)
   pub within : child.end ≤ end
   pub records : AllByRecursion IsRec (node_piece parent k).records
   pub nested : IsTrue (is_nested (deepest - depth) k)

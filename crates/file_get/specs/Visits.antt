@@ -1,6 +1,5 @@
 -- What the search of a part of a row shows.
-use Rattle.std.specs.Prelude.{◌≡◌, ℕ, ◌+◌, ◌-◌, ◌*◌, ◌≤◌, List, ◌++◌, length, map, nat_lt, Option, Some, None, Result, Ok, Err, IfOk}
-use Rattle.xa_outside.specs.Folder.{Files}
+use Rattle.std.specs.Prelude.{◌≡◌, ℕ, ◌+◌, ◌-◌, ◌*◌, ◌≤◌, List, ◌++◌, length, map, Result, Ok, Err, IfOk}
 use Rattle.timestamp_tree.specs.Search.{visits, visited_bytes}
 use Rattle.timestamp_tree.specs.Tree.{tree_of}
 use Rattle.archive_tree.specs.Data.{PlainNode, nodes_from}

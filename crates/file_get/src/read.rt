@@ -1,5 +1,5 @@
 // Reading headers, opening records and bodies.
-ghost use Rattle.std.specs.Prelude.{◌≡◌, ◌+◌, ◌-◌, ◌≤◌, ◌<◌, ◌^◌, ◌++◌, ◌∷◌, ℕ, List, length, take, drop, Some, IfOk, IfErr, IfSome, OnOk};
+ghost use Rattle.std.specs.Prelude.{◌≡◌, ◌+◌, ◌-◌, ◌≤◌, ◌<◌, ◌^◌, ◌++◌, ◌∷◌, ℕ, List, length, take, drop, false, Some, IfOk, IfErr, IfSome, OnOk};
 ghost use Rattle.xa_fields.specs.Spelling.{u64_bytes};
 ghost use Rattle.record_cursor.specs.Faults.{IfFolder};
 ghost use Rattle.record_format.specs.Data.{PlainRec};
@@ -13,13 +13,13 @@ ghost use Rattle.record_format.specs.Spelling.{body_bytes, kind_of, rec_bytes};
 ghost use Rattle.record_cursor.specs.Moves.{TellsFront};
 ghost use Rattle.record_cursor.specs.Steps.{OnlyReads, fault_of, Filled};
 ghost use Rattle.file_rows.specs.StandsAt.{StandsAt};
-ghost use Rattle.file_get.specs.Inside.{opening_rec, OpeningIs};
+ghost use Rattle.file_get.specs.Inside.{is_inner, may_close, opening_rec, OpeningIs};
 
 use crate::span::Ask;
 use file_rows::Child;
 use keyed_tree::Name;
 use record_cursor::{CursorFault, fill_part};
-use record_format::{LabelView, View, view_body};
+use record_format::{LEAF, LabelView, View, view_body};
 use std::alloc::Global;
 use xa_fields::{take_u8, take_u64};
 use xa_outside::Folder;
@@ -48,16 +48,28 @@ pub(crate) fn read_opening<F: Folder>(
         → TellsFront (F.files folder.old) ask.entry.name.now end bytes → child.end ≤ end
         → StandsAt bytes child.first (rec_bytes (opening_rec k) ++ more)
         → child.end ≡ child.first + length (rec_bytes (opening_rec k) ++ more)
-        → IsRec (opening_rec k)
+        → IsRec (opening_rec k) → (is_inner k ≡ false → child.dir ≡ 0)
         → Filled result (OpeningIs k child.first)
         × PullsAtMost (length (rec_bytes (opening_rec k)))
         (F.numbers folder.old) (F.numbers folder.new) }
 {
     let mut body = Vec::new(ask.alloc);
-    match read_record(folder, ask.name, child, &mut body) {
-        Ok(kind) => opening_of(ask.alloc, kind, &body, child.first),
-        Err(fault) => Err(fault),
+    let kind = match read_record(folder, ask.name, child, &mut body) {
+        Ok(kind) => kind,
+        Err(fault) => return Err(fault),
+    };
+    if !is_closed(kind, child.dir) {
+        return Err(CursorFault::Damage);
     }
+    opening_of(ask.alloc, kind, &body, child.first)
+}
+
+// Whether an END with a body of so many bytes may close what a record of this kind opens. None
+// closes a leaf.
+fn is_closed(kind: u8, dir: u64) -> bool
+    ensures { result ≡ may_close kind dir }
+{
+    kind != LEAF || dir == 0
 }
 
 // The kind of the record at the front of a child, and its body.

@@ -1,5 +1,5 @@
 // Walking the rows of a version, and printing what it has.
-ghost use Rattle.std.specs.Prelude.{◌≡◌, ◌+◌, ◌-◌, ◌*◌, ◌^◌, ◌<◌, ◌≤◌, true, false, IfOk};
+ghost use Rattle.std.specs.Prelude.{◌≡◌, ◌+◌, ◌-◌, ◌*◌, ◌^◌, ◌<◌, ◌≤◌, true, false};
 ghost use Rattle.file_rows.specs.View.{row_view, child_view};
 ghost use Rattle.file_get.specs.Told.{fault_of};
 ghost use Rattle.file_get.specs.State.{state};
@@ -45,11 +45,7 @@ pub(crate) fn print_row<F: Folder, K: Sink, L: Ledger>(
 {
     let count = count_children(folder, ask.name, row)?;
     if count == 0 {
-        return if row.dir == 4 {
-            Ok(false)
-        } else {
-            Err(GetFault::Damage)
-        };
+        return Ok(false);
     }
     let span = Span {
         at: row.end + (13 + 24 * count as u64),

@@ -1,5 +1,5 @@
 -- The middle of a part of a row, and what is before and behind it.
-use Rattle.std.proofs.Common.{◌≡◌, ℕ, zero, suc, ◌+◌, ◌<◌, ◌≤◌, List, [], ◌∷◌, ◌++◌, map, length, take, Option, Some, refl, sym, ap, subst, ◌∙◌, append_assoc, arith}
+use Rattle.std.proofs.Common.{◌≡◌, ℕ, zero, suc, ◌+◌, ◌-◌, ◌<◌, ◌≤◌, IsTrue, List, [], ◌∷◌, ◌++◌, map, length, take, Option, Some, refl, sym, ap, subst, ◌∙◌, append_assoc, arith}
 use Rattle.std.specs.List.{flat_map, slice_get, AllByRecursion}
 use Rattle.std.proofs.lemmas.List.{length-append, length-drop, map-append, take_at}
 use Rattle.std.proofs.lemmas.Grind.{flat_map-append}
@@ -7,15 +7,17 @@ use Rattle.keyed_tree.specs.Lists.{Ascends}
 use Rattle.keyed_tree.specs.Order.{label_cmp}
 use Rattle.archive_tree.specs.Data.{PlainNode, node_label}
 use Rattle.xa_outside.specs.Folder.{Files}
+use Rattle.record_parts.specs.Bounds.{deepest}
 use Rattle.record_format.specs.Bounds.{IsRec, IsDir}
 use Rattle.record_format.specs.Data.{end_rec}
+use Rattle.record_format.specs.Nested.{is_nested}
 use Rattle.record_format.specs.Nodes.{Piece, piece_bytes, node_piece, dir_of, closed_by_end}
 use Rattle.record_format.specs.Probed.{opening}
 use Rattle.record_format.specs.Spelling.{rec_bytes}
 use Rattle.record_format.proofs.Pieces.{closed-bytes, all-front, all-back}
 use Rattle.record_cursor.specs.Moves.{TellsFront}
 use Rattle.record_cursor.proofs.Fills.{front-length}
-use Rattle.file_rows.specs.StandsAt.{RowStands, start_in}
+use Rattle.file_rows.specs.StandsAt.{RowLaid, start_in}
 use Rattle.file_rows.specs.View.{PlainRow}
 use Rattle.file_rows.proofs.Parts.{stands-within}
 use Rattle.file_history.specs.Parts.{pieces_of, bytes_of, PartIs}
@@ -64,7 +66,7 @@ start-at parent first xs ys i e =
 
 -- ---- the row
 
-pub row-within : (told : Option Files) (name bytes : List ℕ) (size : ℕ) (row : PlainRow) (ps : List Piece) → TellsFront told name size bytes → RowStands bytes row ps → row.end + (9 + row.dir) ≤ size
+pub row-within : (told : Option Files) (name bytes : List ℕ) (size : ℕ) (row : PlainRow) (ps : List Piece) → TellsFront told name size bytes → RowLaid bytes row ps → row.end + (9 + row.dir) ≤ size
 row-within told name bytes size row ps tells h =
     let len = front-length told name bytes size tells in
     let whole = ap length (closed-bytes ps) ∙ length-append (flat_map piece_bytes ps) (rec_bytes (end_rec (dir_of ps))) in
@@ -127,19 +129,24 @@ module _ (told : Option Files) (name bytes : List ℕ) (row : PlainRow) (parent 
   pub middle-opens : IsRec (opening k)
   middle-opens = (all-back (λ j. IsRec (opening j)) left (k ∷ right) (subst (AllByRecursion (λ j. IsRec (opening j))) is h.opens)).0
 
+  -- and it nests no deeper than it may
+  pub middle-nested : IsTrue (is_nested (deepest - part.depth) k)
+  middle-nested = (all-back (λ j. IsTrue (is_nested (deepest - part.depth) j)) left (k ∷ right) (subst (AllByRecursion (λ j. IsTrue (is_nested (deepest - part.depth) j))) is h.nested)).0
+
   pub middle-sorted : Ascends label_cmp (map node_label (left ++ k ∷ right))
   middle-sorted = subst (λ (ns : List PlainNode). Ascends label_cmp (map node_label ns)) is h.sorted
 
   -- what is behind the middle
   pub part-behind : (place at : ℕ) → place ≡ part.low + length left → at ≡ part.low_at + bytes_of parent left + bytes_of parent (k ∷ [])
-      → PartIs told name bytes row parent (record { low = place + 1; high = part.high; low_at = at; high_at = part.high_at }) (front ++ (left ++ k ∷ [])) right back
+      → PartIs told name bytes row parent (record { depth = part.depth; low = place + 1; high = part.high; low_at = at; high_at = part.high_at }) (front ++ (left ++ k ∷ [])) right back
   part-behind place at here there = record {
     size = h.size;
     tells = h.tells;
-    stands = subst (λ (ns : List PlainNode). RowStands bytes row (pieces_of parent ns)) whole-right h.stands;
+    stands = subst (λ (ns : List PlainNode). RowLaid bytes row (pieces_of parent ns)) whole-right h.stands;
     dir = subst (λ (ns : List PlainNode). IsDir (dir_of (pieces_of parent ns))) whole-right h.dir;
     sorted = (ascends-back (k ∷ []) right (ascends-back left (k ∷ right) middle-sorted));
     opens = (all-back (λ j. IsRec (opening j)) left (k ∷ right) (subst (AllByRecursion (λ j. IsRec (opening j))) is h.opens)).1;
+    nested = (all-back (λ j. IsTrue (is_nested (deepest - part.depth) j)) left (k ∷ right) (subst (AllByRecursion (λ j. IsTrue (is_nested (deepest - part.depth) j))) is h.nested)).1;
     low = omega (arith, length-append front (left ++ k ∷ []), length-append left (k ∷ []), here, h.low);
     high = omega (arith, length-append front (left ++ k ∷ []), length-append left (k ∷ []), h.high, mid-length);
     low_at = omega (arith, right-bytes, there, h.low_at);
@@ -148,14 +155,15 @@ module _ (told : Option Files) (name bytes : List ℕ) (row : PlainRow) (parent 
 
   -- what is before the middle
   pub part-before : (place at : ℕ) → place ≡ part.low + length left → at ≡ part.low_at + bytes_of parent left
-      → PartIs told name bytes row parent (record { low = part.low; high = place; low_at = part.low_at; high_at = at }) front left (k ∷ (right ++ back))
+      → PartIs told name bytes row parent (record { depth = part.depth; low = part.low; high = place; low_at = part.low_at; high_at = at }) front left (k ∷ (right ++ back))
   part-before place at here there = record {
     size = h.size;
     tells = h.tells;
-    stands = subst (λ (ns : List PlainNode). RowStands bytes row (pieces_of parent ns)) (whole-left ∙ append_assoc front left (k ∷ (right ++ back))) h.stands;
+    stands = subst (λ (ns : List PlainNode). RowLaid bytes row (pieces_of parent ns)) (whole-left ∙ append_assoc front left (k ∷ (right ++ back))) h.stands;
     dir = subst (λ (ns : List PlainNode). IsDir (dir_of (pieces_of parent ns))) (whole-left ∙ append_assoc front left (k ∷ (right ++ back))) h.dir;
     sorted = ascends-front left (k ∷ right) middle-sorted;
     opens = all-front (λ j. IsRec (opening j)) left (k ∷ right) (subst (AllByRecursion (λ j. IsRec (opening j))) is h.opens);
+    nested = all-front (λ j. IsTrue (is_nested (deepest - part.depth) j)) left (k ∷ right) (subst (AllByRecursion (λ j. IsTrue (is_nested (deepest - part.depth) j))) is h.nested);
     low = h.low;
     high = omega (arith, here, h.low);
     low_at = h.low_at;

@@ -1,7 +1,8 @@
 -- The nodes of a row, and the row inside one that is found.
-use Rattle.std.proofs.Common.{◌≡◌, ℕ, ◌+◌, List, [], ◌∷◌, ◌++◌, length, Option, Some, None, refl, sym, ap, subst, ◌∙◌, inl, inr, arith}
+use Rattle.std.proofs.Common.{◌≡◌, ℕ, ◌+◌, ◌-◌, ◌<◌, ◌&&◌, nat_lt, IsTrue, List, [], ◌∷◌, ◌++◌, length, Option, Some, None, refl, sym, ap, subst, ◌∙◌, inl, inr, arith}
 use Rattle.std.specs.Prelude.{IsSomeAnd}
 use Rattle.std.specs.List.{flat_map, AllByRecursion}
+use Rattle.std.proofs.lemmas.Bool.Decides.{nat_tests}
 use Rattle.std.proofs.lemmas.List.{append-nil}
 use Rattle.version_set.specs.Members.{members}
 use Rattle.keyed_tree.specs.Data.{PlainLabel}
@@ -13,12 +14,14 @@ use Rattle.archive_tree.specs.Stands.{labels}
 use Rattle.archive_tree.specs.View.{stamp_view}
 use Rattle.archive_tree.proofs.Histories.{node_has, kids_sorted, rise-all}
 use Rattle.xa_outside.specs.Folder.{Files}
+use Rattle.record_parts.specs.Bounds.{deepest}
 use Rattle.record_format.specs.Bounds.{IsRec, IsDir}
 use Rattle.record_format.specs.Data.{end_rec}
+use Rattle.record_format.specs.Nested.{is_nested, are_nested}
 use Rattle.record_format.specs.Nodes.{Piece, piece_bytes, set_in, node_piece, node_pieces, dir_of, closed_by_end}
 use Rattle.record_format.specs.Probed.{opening}
 use Rattle.record_format.proofs.Pieces.{records_of, all-front, all-back}
-use Rattle.file_rows.specs.StandsAt.{RowStands}
+use Rattle.file_rows.specs.StandsAt.{RowLaid}
 use Rattle.file_rows.specs.View.{PlainRow, row_view}
 use Rattle.file_rows.specs.declared.places.Row.{Row}
 use Rattle.file_history.specs.Opened.{IsFound}
@@ -63,6 +66,23 @@ all-has : (P : PlainNode → Type 0) (k : PlainNode) (ns : List PlainNode) → A
 all-has P k [] h m = absurd m
 all-has P k (j ∷ ns) h m = elim m [ inl e ↦ subst P e h.0 | inr n ↦ all-has P k ns h.1 n ]
 
+-- ---- how deep its nodes nest
+
+all-nested : (d : ℕ) (ks : PlainNodes) → IsTrue (are_nested d ks) → AllByRecursion (λ k. IsTrue (is_nested d k)) (nodes_list ks)
+all-nested d no_nodes h = tt
+all-nested d (node k ks) h = (let two = both (is_nested d k) (are_nested d ks) h in (two.0, all-nested d ks two.1))
+
+below : (m n : ℕ) → IsTrue (nat_lt 0 (n - m)) → m < n
+below m n h = grind (arith, nat_tests)
+
+-- the kids of an inner node nest less deep
+kids-nested : (depth deeper : ℕ) (l : PlainLabel) (s : Stamp) (ks : PlainNodes) → (depth < deepest → deeper ≡ depth + 1) → IsTrue (is_nested (deepest - depth) (inner_node l s ks)) → IsTrue (are_nested (deepest - deeper) ks)
+kids-nested depth deeper l s ks step h =
+    let two = both (nat_lt 0 (deepest - depth)) (are_nested (deepest - depth - 1) ks) h in
+    let is = step (below depth deepest two.0) in
+    let less : deepest - depth - 1 ≡ deepest - deeper = omega (arith, is) in
+    subst (λ (d : ℕ). IsTrue (are_nested d ks)) less two.1
+
 -- ---- the whole row as a part
 
 pieces-list : (parent : List (ℕ × ℕ)) (ks : PlainNodes) → node_pieces parent ks ≡ pieces_of parent (nodes_list ks)
@@ -73,45 +93,48 @@ pieces-count : (parent : List (ℕ × ℕ)) (ks : PlainNodes) → length (node_p
 pieces-count parent no_nodes = refl
 pieces-count parent (node k ks) = (let rest = pieces-count parent ks in omega (arith, rest))
 
-pub row-part : (told : Option Files) (name bytes : List ℕ) (row : PlainRow) (parent : List (ℕ × ℕ)) (ks : PlainNodes) (count : ℕ) → RowIs told name bytes row parent ks → count ≡ length (node_pieces parent ks)
-    → PartIs told name bytes row parent (record { low = 0; high = count; low_at = row.first; high_at = row.end }) [] (nodes_list ks) []
-row-part told name bytes row parent ks count h e =
+pub row-part : (told : Option Files) (name bytes : List ℕ) (depth : ℕ) (row : PlainRow) (parent : List (ℕ × ℕ)) (ks : PlainNodes) (count : ℕ) → RowIs told name bytes depth row parent ks → count ≡ length (node_pieces parent ks)
+    → PartIs told name bytes row parent (record { depth = depth; low = 0; high = count; low_at = row.first; high_at = row.end }) [] (nodes_list ks) []
+row-part told name bytes depth row parent ks count h e =
     let all : node_pieces parent ks ≡ pieces_of parent ([] ++ (nodes_list ks ++ [])) = pieces-list parent ks ∙ ap (pieces_of parent) (sym (append-nil (nodes_list ks))) in
     let size : row.end ≡ row.first + length (flat_map (λ (p : Piece). piece_bytes p) (pieces_of parent (nodes_list ks))) =
     h.stands.end ∙ ap (λ (ps : List Piece). row.first + length (flat_map piece_bytes ps)) (pieces-list parent ks) in
     record {
       size = h.size;
       tells = h.tells;
-      stands = subst (RowStands bytes row) all h.stands;
+      stands = subst (RowLaid bytes row) all h.stands;
       dir = subst (λ (ps : List Piece). IsDir (dir_of ps)) all (end-dir (node_pieces parent ks) h.records);
       sorted = rise-all (labels ks) (both (rise (labels ks)) (are_sorted ks) h.sorted).0;
       opens = all-opens parent (nodes_list ks) (row-records parent ks (all-front IsRec (records_of (node_pieces parent ks)) (end_rec (dir_of (node_pieces parent ks)) ∷ []) h.records));
+      nested = all-nested (deepest - depth) ks h.nested;
       low = refl;
       high = omega (arith, e, pieces-count parent ks);
       low_at = omega arith;
       high_at = size;
     }
 
-pub row-later : (told later : Option Files) (name bytes : List ℕ) (row : PlainRow) (parent : List (ℕ × ℕ)) (ks : PlainNodes) → later ≡ told → RowIs told name bytes row parent ks → RowIs later name bytes row parent ks
-row-later told later name bytes row parent ks e h = subst (λ (t : Option Files). RowIs t name bytes row parent ks) (sym e) h
+pub row-later : (told later : Option Files) (name bytes : List ℕ) (depth : ℕ) (row : PlainRow) (parent : List (ℕ × ℕ)) (ks : PlainNodes) → later ≡ told → RowIs told name bytes depth row parent ks → RowIs later name bytes depth row parent ks
+row-later told later name bytes depth row parent ks e h = subst (λ (t : Option Files). RowIs t name bytes depth row parent ks) (sym e) h
 
 -- ---- the row inside a node that is found
 
-inside-row : (told : Option Files) (name bytes : List ℕ) (row : PlainRow) (parent : List (ℕ × ℕ)) (ks : PlainNodes) (k : PlainNode) (f : Found) → RowIs told name bytes row parent ks → AreRowsSorted (node_kids k) → Records parent k → IsFound bytes parent k f
-    → InRow told name bytes f.row (set_in (stamp_view f.stamp) parent) (node_kids k)
-inside-row told name bytes row parent ks (leaf_node l s xs) f h sorted records is = subst (λ (o : Option Row). InRow told name bytes o (set_in (stamp_view f.stamp) parent) no_nodes) (sym is.1) refl
-inside-row told name bytes row parent ks (inner_node l s js) f h sorted records is =
-    subst (λ (t : Stamp). InRow told name bytes f.row (set_in t parent) js) (sym is.0) (row-of f.row is.1)
+inside-row : (told : Option Files) (name bytes : List ℕ) (depth deeper : ℕ) (row : PlainRow) (parent : List (ℕ × ℕ)) (ks : PlainNodes) (k : PlainNode) (f : Found) → (depth < deepest → deeper ≡ depth + 1) → RowIs told name bytes depth row parent ks → AreRowsSorted (node_kids k) → Records parent k
+    → IsTrue (is_nested (deepest - depth) k) → IsFound bytes parent k f → InRow told name bytes deeper f.row (set_in (stamp_view f.stamp) parent) (node_kids k)
+inside-row told name bytes depth deeper row parent ks (leaf_node l s xs) f step h sorted records nested is = subst (λ (o : Option Row). InRow told name bytes deeper o (set_in (stamp_view f.stamp) parent) no_nodes) (sym is.1) refl
+inside-row told name bytes depth deeper row parent ks (inner_node l s js) f step h sorted records nested is =
+    subst (λ (t : Stamp). InRow told name bytes deeper f.row (set_in t parent) js) (sym is.0) (row-of f.row is.1)
   where
-    row-of : (o : Option Row) → IsSomeAnd o (λ (r : Row). RowStands bytes (row_view r) (node_pieces (set_in s parent) js)) → InRow told name bytes o (set_in s parent) js
-    row-of (Some r) g = record { size = h.size; tells = h.tells; stands = g; sorted = sorted; records = records.inside l s js refl }
+    row-of : (o : Option Row) → IsSomeAnd o (λ (r : Row). RowLaid bytes (row_view r) (node_pieces (set_in s parent) js)) → InRow told name bytes deeper o (set_in s parent) js
+    row-of (Some r) g = record { size = h.size; tells = h.tells; stands = g; sorted = sorted; records = records.inside l s js refl; nested = kids-nested depth deeper l s js step nested }
     row-of None g = absurd g
 
-pub found-row : (told : Option Files) (name bytes : List ℕ) (row : PlainRow) (parent : List (ℕ × ℕ)) (ks : PlainNodes) (w : PlainLabel) (k : PlainNode) (f : Found) → RowIs told name bytes row parent ks → node_with w (nodes_list ks) ≡ Some k → IsFound bytes parent k f
-    → InRow told name bytes f.row (set_in (stamp_view f.stamp) parent) (node_kids k)
-found-row told name bytes row parent ks w k f h e is =
+pub found-row : (told : Option Files) (name bytes : List ℕ) (depth deeper : ℕ) (row : PlainRow) (parent : List (ℕ × ℕ)) (ks : PlainNodes) (w : PlainLabel) (k : PlainNode) (f : Found) → (depth < deepest → deeper ≡ depth + 1) → RowIs told name bytes depth row parent ks → node_with w (nodes_list ks) ≡ Some k
+    → IsFound bytes parent k f → InRow told name bytes deeper f.row (set_in (stamp_view f.stamp) parent) (node_kids k)
+found-row told name bytes depth deeper row parent ks w k f step h e is =
     let records = row-records parent ks (all-front IsRec (records_of (node_pieces parent ks)) (end_rec (dir_of (node_pieces parent ks)) ∷ []) h.records) in
-    inside-row told name bytes row parent ks k f h (kids_sorted w ks k h.sorted e) (all-has (Records parent) k (nodes_list ks) records (node_has w k (nodes_list ks) e).0) is
+    let has = (node_has w k (nodes_list ks) e).0 in
+    inside-row told name bytes depth deeper row parent ks k f step h (kids_sorted w ks k h.sorted e) (all-has (Records parent) k (nodes_list ks) records has)
+    (all-has (λ j. IsTrue (is_nested (deepest - depth) j)) k (nodes_list ks) (all-nested (deepest - depth) ks h.nested) has) is
 
 pub stored-set : (s : Stamp) (parent : List (ℕ × ℕ)) → members (set_in s parent) ≡ eff s (members parent)
 stored-set None parent = refl

@@ -11,7 +11,7 @@ use Rattle.xa_outside.specs.Numbers.{Numbers, PullsAtMost}
 use Rattle.record_format.specs.Bounds.{IsDir}
 use Rattle.record_format.specs.Nodes.{Piece, piece_bytes, node_piece, dir_of}
 use Rattle.record_cursor.specs.Moves.{TellsFront}
-use Rattle.file_rows.specs.StandsAt.{RowStands, ChildStands, start_in}
+use Rattle.file_rows.specs.StandsAt.{RowLaid, ChildLaid, start_in}
 use Rattle.file_rows.specs.View.{PlainRow, PlainChild}
 use Rattle.file_history.specs.Opened.{IsFound, OpenedIs, ChildIs}
 use Rattle.file_history.specs.Parts.{pieces_of, bytes_of, opening_size, cost, PartIs, IsFoundIn, ProbedIs, IsTurned}
@@ -25,7 +25,7 @@ use Rattle.file_history.specs.declared.search.Probed.TheVariants.{Here, Beside}
 use Rattle.file_history.proofs.Budgets.{Costs, cost-left, cost-right}
 use Rattle.file_history.proofs.Searching.{with-less, with-greater, with-equal}
 use Rattle.file_history.proofs.Pulls.{but-most, most-both}
-use Rattle.file_history.proofs.Halves.{cut, row-within, Middle, middle, middle-opens, middle-sorted, child-start, part-before, part-behind}
+use Rattle.file_history.proofs.Halves.{cut, row-within, Middle, middle, middle-opens, middle-nested, middle-sorted, child-start, part-before, part-behind}
 
 -- ---- any file
 
@@ -96,12 +96,13 @@ module _ (told : Option Files) (name bytes : List ℕ) (row : PlainRow) (parent 
   pub costs-right : Costs l.right mid l.k
   costs-right = cost-right l.left l.right l.k mid l.is l.right_half l.some
 
-  pub looked-child : (later : Option Files) (called : List ℕ) (child : PlainChild) → later ≡ told → called ≡ name → ChildStands bytes child (node_piece parent l.k) → ChildIs later called bytes child parent l.k
+  pub looked-child : (later : Option Files) (called : List ℕ) (child : PlainChild) → later ≡ told → called ≡ name → ChildLaid bytes child (node_piece parent l.k) → ChildIs later called bytes part.depth child parent l.k
   looked-child later called child same named stands = record {
     size = h.size;
     tells = subst (λ (t : Option Files). TellsFront t called h.size bytes) (sym same) (subst (λ (n : List ℕ). TellsFront told n h.size bytes) (sym named) h.tells);
     stands = stands;
     opens = middle-opens told name bytes row parent part front mid back l.left l.right l.k h l.is;
+    nested = middle-nested told name bytes row parent part front mid back l.left l.right l.k h l.is;
   }
 
   pub looked-few : (a b c : Numbers) → PullsAtMost 24 a b → PullsAtMost (opening_size l.k) b c → PullsAtMost (cost mid) a c
@@ -113,7 +114,7 @@ module _ (told : Option Files) (name bytes : List ℕ) (row : PlainRow) (parent 
   looked-but : (ns : List PlainNode) (a b c : Numbers) → Costs ns mid l.k → PullsAtMost 24 a b → PullsAtMost (opening_size l.k) b c → PullsBut (cost mid) (cost ns) a c
   looked-but ns a b c w p q = but-most (cost mid) (cost ns) (24 + opening_size l.k) a c w.less (most-both 24 (opening_size l.k) (24 + opening_size l.k) a b c (omega arith) p q)
 
-  pub looked : (w : PlainLabel) (child : PlainChild) (a b c : Numbers) (o : Opened) (p : Probed) → IsTurned part place child o p → ChildStands bytes child (node_piece parent l.k)
+  pub looked : (w : PlainLabel) (child : PlainChild) (a b c : Numbers) (o : Opened) (p : Probed) → IsTurned part place child o p → ChildLaid bytes child (node_piece parent l.k)
       → child.first ≡ start_in row.first (pieces_of parent (front ++ (mid ++ back))) place → OpenedIs bytes parent l.k (label_cmp (node_label l.k) w) o → PullsAtMost 24 a b → PullsAtMost (opening_size l.k) b c
       → ProbedIs told name bytes row parent w mid a c p
   looked w child a b c (opened.Here f) (Here g) is stands start found m n =
@@ -152,13 +153,13 @@ module _ (told : Option Files) (name bytes : List ℕ) (row : PlainRow) (parent 
 -- the child in the middle
 pub record Known (later : Option Files) (called bytes : List ℕ) (row : PlainRow) (parent : List (ℕ × ℕ)) (part : PlainPart) (front mid back : List PlainNode) (place : ℕ) (child : PlainChild) : Type 0 where
   pub looks : Look row parent part front mid back place
-  pub stands : ChildStands bytes child (node_piece parent looks.k)
+  pub stands : ChildLaid bytes child (node_piece parent looks.k)
   pub start : child.first ≡ start_in row.first (pieces_of parent (front ++ (mid ++ back))) place
-  pub there : ChildIs later called bytes child parent looks.k
+  pub there : ChildIs later called bytes part.depth child parent looks.k
 
 -- what reading a child tells
 abbrev pub ReadTells : Option Files → List ℕ → PlainRow → PlainPart → ℕ → (List ℕ → Piece → ℕ → Type 0) → Type 0
-ReadTells told name row part place Q = (end : ℕ) (bytes : List ℕ) (ps : List Piece) (p : Piece) → TellsFront told name end bytes → row.end + (9 + row.dir) ≤ end → RowStands bytes row ps → IsDir (dir_of ps)
+ReadTells told name row part place Q = (end : ℕ) (bytes : List ℕ) (ps : List Piece) (p : Piece) → TellsFront told name end bytes → row.end + (9 + row.dir) ≤ end → RowLaid bytes row ps → IsDir (dir_of ps)
     → slice_get ps place ≡ Some p → part.low_at ≤ start_in row.first ps place → start_in row.first ps (place + 1) ≤ part.high_at → Q bytes p (start_in row.first ps place)
 
 pub told-child : (told : Option Files) (name bytes : List ℕ) (row : PlainRow) (parent : List (ℕ × ℕ)) (part : PlainPart) (front mid back : List PlainNode) (place : ℕ) (Q : List ℕ → Piece → ℕ → Type 0) → (h : PartIs told name bytes row parent part front mid back)
@@ -168,9 +169,9 @@ told-child told name bytes row parent part front mid back place Q h l read =
     read h.size bytes ps (node_piece parent l.k) h.tells (row-within told name bytes h.size row ps h.tells h.stands) h.stands h.dir l.stands.get l.stands.low l.stands.high
 
 pub known : (told later : Option Files) (name called bytes : List ℕ) (row : PlainRow) (parent : List (ℕ × ℕ)) (part : PlainPart) (front mid back : List PlainNode) (place : ℕ) (child : PlainChild) → PartIs told name bytes row parent part front mid back
-    → part.low < part.high → place ≡ part.low + (part.high - part.low) / 2 → later ≡ told → called ≡ name → ReadTells told name row part place (λ bs p n. ChildStands bs child p × (child.first ≡ n))
+    → part.low < part.high → place ≡ part.low + (part.high - part.low) / 2 → later ≡ told → called ≡ name → ReadTells told name row part place (λ bs p n. ChildLaid bs child p × (child.first ≡ n))
     → Known later called bytes row parent part front mid back place child
 known told later name called bytes row parent part front mid back place child h some is same named read =
     let l = look told name bytes row parent part front mid back place h some is in
-    let r = told-child told name bytes row parent part front mid back place (λ bs p n. ChildStands bs child p × (child.first ≡ n)) h l read in
+    let r = told-child told name bytes row parent part front mid back place (λ bs p n. ChildLaid bs child p × (child.first ≡ n)) h l read in
     record { looks = l; stands = r.0; start = r.1; there = looked-child told name bytes row parent part front mid back place h l later called child same named r.0 }

@@ -1,5 +1,5 @@
 -- The row of the virtual root in an archive's file.
-use Rattle.std.proofs.Common.{◌≡◌, ◌≢◌, ℕ, ◌+◌, ◌-◌, List, ◌++◌, length, take, drop, take_all, Option, Some, Err, refl, sym, ap, subst, ◌∙◌, append_assoc, arith}
+use Rattle.std.proofs.Common.{◌≡◌, ◌≢◌, ℕ, ◌+◌, ◌-◌, List, ◌++◌, length, drop, Option, Some, Err, refl, sym, ap, subst, ◌∙◌, arith}
 use Rattle.std.specs.List.{flat_map}
 use Rattle.std.proofs.lemmas.List.{length-append, length-drop}
 use Rattle.version_set.specs.Members.{members, upto_pairs}
@@ -13,26 +13,22 @@ use Rattle.archive_tree.proofs.Histories.{archive_sorted, seek_hist}
 use Rattle.archive_tree.proofs.OneArchive.{one_archive}
 use Rattle.archive_tree.proofs.Readings.{all_numbers}
 use Rattle.archive_file.specs.Sound.{SoundAs}
-use Rattle.xa_fields.specs.Spelling.{u64_bytes}
+use Rattle.archive_file.proofs.SoundLaws.{versions-nested}
 use Rattle.xa_fields.proofs.Fields.{some_is}
 use Rattle.xa_outside.specs.Folder.{Files}
-use Rattle.record_format.specs.Data.{end_rec}
 use Rattle.record_format.specs.Files.{header_bytes, root_pieces, file_records, tail_bytes}
 use Rattle.record_format.specs.Fronts.{header_at}
-use Rattle.record_format.specs.Nodes.{Piece, piece_bytes, dir_of, closed_by_end}
-use Rattle.record_format.specs.Spelling.{dir_bytes, rec_bytes}
+use Rattle.record_format.specs.Spelling.{rec_bytes}
 use Rattle.record_format.proofs.HeaderLaws.{header_again}
-use Rattle.record_format.proofs.Pieces.{closed-bytes}
 use Rattle.record_cursor.specs.Faults.{IfDamage, IfFolder}
 use Rattle.record_cursor.specs.Moves.{TellsFront, IsHeaderOf}
 use Rattle.record_cursor.specs.View.{PlainHeader, IsHeader}
 use Rattle.record_cursor.specs.declared.fault.CursorFault.{CursorFault}
 use Rattle.record_cursor.specs.declared.fault.CursorFault.TheVariants as cursor
 use Rattle.record_cursor.proofs.Fills.{front-length}
-use Rattle.file_rows.specs.StandsAt.{StandsAt, RowStands}
+use Rattle.file_rows.specs.StandsAt.{RowLaid}
 use Rattle.file_rows.specs.View.{PlainRow}
-use Rattle.file_rows.proofs.Children.{row_in}
-use Rattle.file_rows.proofs.Parts.{stands-part, stands-back}
+use Rattle.file_rows.proofs.RootRows.{RootRow, root-row-of}
 use Rattle.file_history.specs.Rows.{RowIs, FileIs}
 use Rattle.file_history.specs.Told.{of_cursor, IfFailed}
 use Rattle.file_history.specs.declared.fault.HistoryFault.{HistoryFault}
@@ -40,43 +36,16 @@ use Rattle.file_history.specs.declared.fault.HistoryFault.TheVariants.{Damage}
 
 -- ---- the row of the virtual root
 
-pub record RootRow (bytes : List ℕ) (h : PlainHeader) (ps : List Piece) : Type 0 where
-  pub stands : RowStands bytes (row_in h.first ps) ps
-  pub size : (row_in h.first ps).end + (9 + (row_in h.first ps).dir) + 8 ≡ h.length
-  pub tail : StandsAt bytes (h.length - 8) (u64_bytes (row_in h.first ps).dir)
-
-root-of : (head closed tail bytes : List ℕ) (ps : List Piece) (h : PlainHeader) → bytes ≡ head ++ (closed ++ tail) → closed ≡ flat_map rec_bytes (closed_by_end ps) → tail ≡ u64_bytes (length (dir_bytes (dir_of ps)))
-    → h.first ≡ length head → length bytes ≡ h.length → RootRow bytes h ps
-root-of head closed tail bytes ps h is rows ends first len =
-    let whole : StandsAt bytes 0 (head ++ (closed ++ tail)) = ap (take (length (head ++ (closed ++ tail)))) is ∙ take_all (length (head ++ (closed ++ tail))) (head ++ (closed ++ tail)) (omega arith) in
-    let row = stands-part bytes 0 head closed tail whole in
-    let again : StandsAt bytes 0 ((head ++ closed) ++ tail) = subst (StandsAt bytes 0) (sym (append_assoc head closed tail)) whole in
-    let last = stands-back bytes 0 (head ++ closed) tail again in
-    let inside : length closed ≡ length (flat_map piece_bytes ps) + length (rec_bytes (end_rec (dir_of ps))) = ap length (rows ∙ closed-bytes ps) ∙ length-append (flat_map piece_bytes ps) (rec_bytes (end_rec (dir_of ps))) in
-    let eight : length tail ≡ 8 = ap length ends in
-    let all : h.length ≡ length head + (length closed + length tail) = sym len ∙ ap length is ∙ length-append head (closed ++ tail) ∙ ap (λ (n : ℕ). length head + n) (length-append closed tail) in
-    let at : 0 + length head ≡ h.first = omega (arith, first) in
-    let behind : 0 + length (head ++ closed) ≡ h.length - 8 = omega (arith, all, eight, length-append head closed) in
-    record {
-      stands = record {
-        stands = subst (λ (n : ℕ). StandsAt bytes n (flat_map rec_bytes (closed_by_end ps))) at (subst (StandsAt bytes (0 + length head)) rows row);
-        end = refl;
-        dir = refl;
-      };
-      size = omega (arith, all, eight, inside, first);
-      tail = subst (λ (n : ℕ). StandsAt bytes n (u64_bytes (length (dir_bytes (dir_of ps))))) behind (subst (StandsAt bytes (0 + length (head ++ closed))) ends last);
-    }
-
-pub root-row : (told : Option Files) (name bytes : List ℕ) (h : PlainHeader) (a : PlainArchive) → FileIs told name bytes h a → RootRow bytes h (root_pieces a)
+pub root-row : (told : Option Files) (name bytes : List ℕ) (h : PlainHeader) (a : PlainArchive) → FileIs told name bytes h a → RootRow bytes h.length h.first (root_pieces a)
 root-row told name bytes h a f =
-    root-of (header_bytes f.rules a.n) (flat_map rec_bytes (file_records a)) (tail_bytes a) bytes (root_pieces a) h f.spelled refl refl f.first (front-length told name bytes h.length f.tells)
+    root-row-of (header_bytes f.rules a.n) (flat_map rec_bytes (file_records a)) (tail_bytes a) bytes (root_pieces a) h.length h.first f.spelled refl refl f.first (front-length told name bytes h.length f.tells)
 
 -- the nodes of the archive stand in it
-pub root-is : (told later : Option Files) (name bytes : List ℕ) (h : PlainHeader) (a : PlainArchive) (row : PlainRow) (set : List (ℕ × ℕ)) → FileIs told name bytes h a → later ≡ told → set ≡ upto_pairs a.n → RowStands bytes row (root_pieces a)
-    → RowIs later name bytes row set a.kids
+pub root-is : (told later : Option Files) (name bytes : List ℕ) (h : PlainHeader) (a : PlainArchive) (row : PlainRow) (set : List (ℕ × ℕ)) → FileIs told name bytes h a → later ≡ told → set ≡ upto_pairs a.n → RowLaid bytes row (root_pieces a)
+    → RowIs later name bytes 0 row set a.kids
 root-is told later name bytes h a row set f same is stands =
-    subst (λ (s : List (ℕ × ℕ)). RowIs later name bytes row s a.kids) (sym is)
-    (record { size = h.length; tells = subst (λ (t : Option Files). TellsFront t name h.length bytes) (sym same) f.tells; stands = stands; sorted = f.sorted; records = f.has.records })
+    subst (λ (s : List (ℕ × ℕ)). RowIs later name bytes 0 row s a.kids) (sym is)
+    (record { size = h.length; tells = subst (λ (t : Option Files). TellsFront t name h.length bytes) (sym same) f.tells; stands = stands; sorted = f.sorted; records = f.has.records; nested = f.nested })
 
 -- ---- sound archives
 
@@ -102,7 +71,7 @@ sound-file told name bytes h rules vs header tells stands sound =
     record {
       archive = a;
       is = sound.file.is;
-      file = record { tells = tells; rules = rules; has = has; spelled = sound.file.spelled; first = omega (arith, all, left, len, within, length-drop h.first bytes); sorted = archive_sorted vs a sound.file.is };
+      file = record { tells = tells; rules = rules; has = has; spelled = sound.file.spelled; first = omega (arith, all, left, len, within, length-drop h.first bytes); sorted = archive_sorted vs a sound.file.is; nested = versions-nested rules vs bytes a sound sound.file.is };
       versions = ap (λ (x : (List PlainRule × ℕ) × List ℕ). x.0.1) same;
     }
 

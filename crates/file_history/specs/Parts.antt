@@ -1,5 +1,5 @@
 -- What a part of a row is, and what looking at its middle gives.
-use Rattle.std.specs.Prelude.{◌≡◌, ◌≤◌, ◌<◌, ◌+◌, ◌-◌, ◌*◌, ℕ, List, ◌++◌, map, length, Option, Some, None, ⊤}
+use Rattle.std.specs.Prelude.{◌≡◌, ◌≤◌, ◌<◌, ◌+◌, ◌-◌, ◌*◌, ℕ, List, ◌++◌, map, length, Option, Some, None, IsTrue, ⊤}
 use Rattle.std.specs.List.{flat_map, AllByRecursion}
 use Rattle.keyed_tree.specs.Data.{PlainLabel}
 use Rattle.keyed_tree.specs.Lists.{Ascends}
@@ -8,12 +8,14 @@ use Rattle.archive_tree.specs.Data.{PlainNode, node_label}
 use Rattle.archive_tree.specs.Seek.{node_with}
 use Rattle.xa_outside.specs.Folder.{Files}
 use Rattle.xa_outside.specs.Numbers.{Numbers}
+use Rattle.record_parts.specs.Bounds.{deepest}
 use Rattle.record_format.specs.Bounds.{IsRec, IsDir}
+use Rattle.record_format.specs.Nested.{is_nested}
 use Rattle.record_format.specs.Nodes.{Piece, piece_bytes, node_piece, dir_of}
 use Rattle.record_format.specs.Probed.{opening, most_probes, greatest_sum}
 use Rattle.record_format.specs.Spelling.{rec_bytes}
 use Rattle.record_cursor.specs.Moves.{TellsFront}
-use Rattle.file_rows.specs.StandsAt.{RowStands}
+use Rattle.file_rows.specs.StandsAt.{RowLaid}
 use Rattle.file_rows.specs.View.{PlainRow, PlainChild}
 use Rattle.file_history.specs.Opened.{IsFound}
 use Rattle.file_history.specs.Pulled.{PullsBut}
@@ -43,10 +45,11 @@ cost ns = 24 * most_probes (length ns) + greatest_sum (most_probes (length ns)) 
 pub record PartIs (told : Option Files) (name bytes : List ℕ) (row : PlainRow) (parent : List (ℕ × ℕ)) (part : PlainPart) (front mid back : List PlainNode) : Type 0 where
   pub size : ℕ
   pub tells : TellsFront told name size bytes
-  pub stands : RowStands bytes row (pieces_of parent (front ++ (mid ++ back)))
+  pub stands : RowLaid bytes row (pieces_of parent (front ++ (mid ++ back)))
   pub dir : IsDir (dir_of (pieces_of parent (front ++ (mid ++ back))))
   pub sorted : Ascends label_cmp (map node_label mid)
   pub opens : AllByRecursion (λ k. IsRec (opening k)) mid
+  pub nested : AllByRecursion (λ k. IsTrue (is_nested (deepest - part.depth) k)) mid
   pub low : part.low ≡ length front
   pub high : part.high ≡ length front + length mid
   pub low_at : part.low_at ≡ row.first + bytes_of parent front
@@ -83,6 +86,6 @@ abbrev pub IsTurned : PlainPart → ℕ → PlainChild → Opened → Probed →
 IsTurned part middle child (opened.Here f) (Here g) = f ≡ g
 IsTurned part middle child (opened.Here f) (Beside next) = ⊥
 IsTurned part middle child opened.Before (Here g) = ⊥
-IsTurned part middle child opened.Before (Beside next) = part_view next ≡ record { low = middle + 1; high = part.high; low_at = child.end; high_at = part.high_at }
+IsTurned part middle child opened.Before (Beside next) = part_view next ≡ record { depth = part.depth; low = middle + 1; high = part.high; low_at = child.end; high_at = part.high_at }
 IsTurned part middle child opened.Behind (Here g) = ⊥
-IsTurned part middle child opened.Behind (Beside next) = part_view next ≡ record { low = part.low; high = middle; low_at = part.low_at; high_at = child.first }
+IsTurned part middle child opened.Behind (Beside next) = part_view next ≡ record { depth = part.depth; low = part.low; high = middle; low_at = part.low_at; high_at = child.first }

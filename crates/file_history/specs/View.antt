@@ -26,15 +26,16 @@ met_view met.Behind = stands_behind
 met_view (met.Inner s) = met_inner (stamp_view s)
 met_view (met.Leaf s) = met_leaf (stamp_view s)
 
--- The children at these positions, but not at the last, stand between these offsets.
+-- The children at these positions, but not at the last, stand between these offsets, below so many inner nodes that stand open.
 pub record PlainPart : Type 0 where
+  pub depth : ℕ
   pub low : ℕ
   pub high : ℕ
   pub low_at : ℕ
   pub high_at : ℕ
 
 abbrev pub part_view : Part → PlainPart
-part_view p = record { low = p.low; high = p.high; low_at = p.low_at; high_at = p.high_at }
+part_view p = record { depth = p.depth; low = p.low; high = p.high; low_at = p.low_at; high_at = p.high_at }
 
 -- ---- how many bytes are left to read
 

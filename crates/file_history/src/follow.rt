@@ -1,5 +1,5 @@
 // Following a path through a file.
-ghost use Rattle.std.specs.Prelude.{◌≡◌, ◌≢◌, ◌+◌, ◌-◌, ◌≤◌, ℕ, List, map, IfOk, IfErr};
+ghost use Rattle.std.specs.Prelude.{◌≡◌, ◌≢◌, ◌+◌, ◌-◌, ◌<◌, ◌≤◌, ℕ, List, map, IfOk, IfErr};
 ghost use Rattle.version_set.specs.Members.{members, upto_pairs};
 ghost use Rattle.version_set.specs.View.{pairs_of};
 ghost use Rattle.key_spec.specs.Data.{PlainRule};
@@ -13,6 +13,7 @@ ghost use Rattle.archive_tree.specs.View.{stamp_view};
 ghost use Rattle.archive_file.specs.Sound.{SoundAs};
 ghost use Rattle.record_format.specs.Nodes.{set_in};
 ghost use Rattle.record_format.specs.Probed.{probed, path_probed, path_steps, steps_along};
+ghost use Rattle.record_parts.specs.Bounds.{deepest};
 ghost use Rattle.record_cursor.specs.Moves.{TellsFront, IsHeaderOf};
 ghost use Rattle.record_cursor.specs.Steps.{OnlyReads, fault_of, Filled};
 ghost use Rattle.record_cursor.specs.View.{header_view, IsHeader};
@@ -62,8 +63,8 @@ pub fn history<F: Folder, L: Ledger>(
     ensures later { F.faults folder.old ≤ F.faults folder.new }
     ensures cause { IfFailed result (Rose (F.faults folder.old) (F.faults folder.new)) }
 
-    // Whatever the file is, no byte behind its header is read twice; over a sound archive only what
-    // the search looks at is read.
+    // Whatever the file is, no more bytes are pulled than it has behind its header; over a sound
+    // archive no more than the search looks at.
     ensures pulls { PullsAtMost
         ((header_view header.now).length - (header_view header.now).first)
         (F.numbers folder.old) (F.numbers folder.new) }
@@ -122,7 +123,7 @@ fn search<F: Folder, L: Ledger>(
     }
 }
 
-/// The set of the node that the path leads to, from a row whose parent has this set.
+/// The set of the node that the path leads to, from the row of the virtual root, which has this set.
 fn follow<F: Folder, L: Ledger>(
     alloc: Global,
     folder: &mut F,
@@ -137,25 +138,26 @@ fn follow<F: Folder, L: Ledger>(
     ensures reads { OnlyReads F.files F.draft F.faults folder.old folder.new (fault_of result) }
     ensures pulls { PullsAtMost (span_of row) (F.numbers folder.old) (F.numbers folder.new) }
     ensures told { (bytes : List ℕ) (ks : PlainNodes)
-        → RowIs (F.files folder.old) name.now bytes (row_view row) (pairs_of parent) ks
+        → RowIs (F.files folder.old) name.now bytes 0 (row_view row) (pairs_of parent) ks
         → Filled result (λ set. members (pairs_of set)
         ≡ seek (map label_view path.now) (members (pairs_of parent)) ks) }
     ensures few { (bytes : List ℕ) (ks : PlainNodes)
-        → RowIs (F.files folder.old) name.now bytes (row_view row) (pairs_of parent) ks
+        → RowIs (F.files folder.old) name.now bytes 0 (row_view row) (pairs_of parent) ks
         → PullsAtMost (path_probed (map label_view path.now) ks)
         (F.numbers folder.old) (F.numbers folder.new) }
     ensures steps { (bytes : List ℕ) (ks : PlainNodes)
-        → RowIs (F.files folder.old) name.now bytes (row_view row) (pairs_of parent) ks
+        → RowIs (F.files folder.old) name.now bytes 0 (row_view row) (pairs_of parent) ks
         → steps.new ≤ steps.old + path_steps (map label_view path.now) ks }
 {
     let mut set = parent;
     let mut here = Some(row);
+    let mut depth = 0;
     for label in path {
         let inside = match here {
             Some(inside) => inside,
             None => return Ok(VersionSet::empty(alloc)),
         };
-        let answer = match find(alloc, folder, cursor, name, inside, label, steps) {
+        let answer = match find(alloc, folder, cursor, name, depth, inside, label, steps) {
             Ok(answer) => answer,
             Err(fault) => return Err(fault),
         };
@@ -164,9 +166,17 @@ fn follow<F: Folder, L: Ledger>(
             None => return Ok(VersionSet::empty(alloc)),
         };
         here = found.row;
+        depth = one_deeper(depth);
         set = inherited(found.stamp, set);
     }
     Ok(set)
+}
+
+/// One inner node more stands open. Below the deepest one the cursor lets none be opened.
+fn one_deeper(depth: u32) -> u32
+    ensures { depth < deepest → result ≡ depth + 1 }
+{
+    depth.saturating_add(1)
 }
 
 /// The set that is stored, else the parent's.

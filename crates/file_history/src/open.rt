@@ -11,7 +11,7 @@ ghost use Rattle.record_format.specs.Spelling.{rec_bytes};
 ghost use Rattle.record_cursor.specs.Faults.{IfFolder};
 ghost use Rattle.record_cursor.specs.Steps.{OnlyReads, fault_of, Filled, Finds};
 ghost use Rattle.record_cursor.specs.View.{shown_item};
-ghost use Rattle.file_rows.specs.StandsAt.{ChildStands};
+ghost use Rattle.file_rows.specs.StandsAt.{ChildLaid};
 ghost use Rattle.file_rows.specs.View.{child_view};
 ghost use Rattle.file_history.specs.Opened.{met_by, met_of, met_node, OpenedIs, ChildIs};
 ghost use Rattle.file_history.specs.Pulled.{PullsBut};
@@ -50,13 +50,14 @@ pub(crate) enum Opened {
     Here { found: Found },
 }
 
-/// Looks at the record that opens a child.
+/// Looks at the record that opens a child, below so many inner nodes that stand open.
 ///
 /// Whatever the file is, it reads at most the child's bytes, and leaves those of the row inside.
 pub(crate) fn open_child<F: Folder>(
     alloc: Global,
     folder: &mut F,
     cursor: &mut Cursor,
+    depth: u32,
     child: Child,
     wanted: &Label,
 ) -> Result<Opened, CursorFault>
@@ -65,17 +66,17 @@ pub(crate) fn open_child<F: Folder>(
     ensures pulls { PullsBut (child.end - child.first) (left_opened result)
         (F.numbers folder.old) (F.numbers folder.new) }
     ensures told { (bytes : List ℕ) (parent : List (ℕ × ℕ)) (k : PlainNode)
-        → ChildIs (F.files folder.old) cursor.old.name bytes (child_view child) parent k
+        → ChildIs (F.files folder.old) cursor.old.name bytes depth (child_view child) parent k
         → Filled result
         (OpenedIs bytes parent k (label_cmp (node_label k) (label_view wanted.now))) }
     ensures few { (bytes : List ℕ) (parent : List (ℕ × ℕ)) (k : PlainNode)
-        → ChildIs (F.files folder.old) cursor.old.name bytes (child_view child) parent k
+        → ChildIs (F.files folder.old) cursor.old.name bytes depth (child_view child) parent k
         → PullsAtMost (length (rec_bytes (opening k)))
         (F.numbers folder.old) (F.numbers folder.new) }
 {
-    cursor.seek(child.first, child.end);
+    cursor.seek(depth, child.first, child.end);
     match cursor.next(folder) {
-        Ok(item) => match meet(alloc, item, wanted) {
+        Ok(item) => match meet(alloc, child.dir, item, wanted) {
             Ok(met) => enter(child, cursor.at(), met),
             Err(fault) => Err(fault),
         },
@@ -83,10 +84,10 @@ pub(crate) fn open_child<F: Folder>(
     }
 }
 
-/// What the node that a record opens is to the label that is wanted.
-fn meet(alloc: Global, item: Item<'_>, wanted: &Label) -> Result<Met, CursorFault>
+/// What the node that a record opens is to the label that is wanted. A leaf has no END.
+fn meet(alloc: Global, dir: u64, item: Item<'_>, wanted: &Label) -> Result<Met, CursorFault>
     ensures found { Finds (λ met. Some (met_view met)) result
-        (met_of (label_view wanted.now) (shown_item item.entry)) }
+        (met_of dir (label_view wanted.now) (shown_item item.entry)) }
     ensures inside { IfErr result (λ e. IfFolder e ⊥) }
 {
     match item {
@@ -97,7 +98,7 @@ fn meet(alloc: Global, item: Item<'_>, wanted: &Label) -> Result<Met, CursorFaul
                 stamp: stamp.copy(alloc)?,
             }),
         },
-        Item::Leaf { label, stamp } => match label.order(wanted) {
+        Item::Leaf { label, stamp } if dir == 0 => match label.order(wanted) {
             Ordering::Less => Ok(Met::Before),
             Ordering::Greater => Ok(Met::Behind),
             Ordering::Equal => Ok(Met::Leaf {
@@ -113,7 +114,7 @@ fn enter(child: Child, behind: u64, met: Met) -> Result<Opened, CursorFault>
     ensures within { left_opened result ≤ child.end - behind }
     ensures inside { IfErr result (λ e. IfFolder e ⊥) }
     ensures told { (bytes : List ℕ) (parent : List (ℕ × ℕ)) (k : PlainNode) (order : Ordering)
-        → ChildStands bytes (child_view child) (node_piece parent k)
+        → ChildLaid bytes (child_view child) (node_piece parent k)
         → behind ≡ child.first + length (rec_bytes (opening k))
         → met_view met ≡ met_by order (met_node k)
         → Filled result (OpenedIs bytes parent k order) }

@@ -22,9 +22,10 @@ use timestamp_tree::Steps;
 use xa_outside::Folder;
 
 /// The children of a row at the positions from `low` on and below `high`, which stand between two
-/// offsets.
+/// offsets, below so many inner nodes that stand open.
 #[derive(Clone, Copy)]
 pub(crate) struct Part {
+    pub(crate) depth: u32,
     pub(crate) low: u32,
     pub(crate) high: u32,
     pub(crate) low_at: u64,
@@ -38,12 +39,14 @@ pub(crate) enum Probed {
     Beside { part: Part },
 }
 
-/// The child of a row that has this label, if there is one. Each child that is looked at is a step.
+/// The child of a row, below so many inner nodes that stand open, that has this label, if there is
+/// one. Each child that is looked at is a step.
 pub(crate) fn find<F: Folder, L: Ledger>(
     alloc: Global,
     folder: &mut F,
     cursor: &mut Cursor,
     name: &str,
+    depth: u32,
     row: Row,
     wanted: &Label,
     steps: &mut Steps<L>,
@@ -54,14 +57,14 @@ pub(crate) fn find<F: Folder, L: Ledger>(
     ensures pulls { PullsBut (span_of row) (left_found result)
         (F.numbers folder.old) (F.numbers folder.new) }
     ensures told { (bytes : List ℕ) (parent : List (ℕ × ℕ)) (ks : PlainNodes)
-        → RowIs (F.files folder.old) name.now bytes (row_view row) parent ks
+        → RowIs (F.files folder.old) name.now bytes depth (row_view row) parent ks
         → Filled result
         (IsFoundIn bytes parent (node_with (label_view wanted.now) (nodes_list ks))) }
     ensures few { (bytes : List ℕ) (parent : List (ℕ × ℕ)) (ks : PlainNodes)
-        → RowIs (F.files folder.old) name.now bytes (row_view row) parent ks
+        → RowIs (F.files folder.old) name.now bytes depth (row_view row) parent ks
         → PullsAtMost (row_probed (nodes_list ks)) (F.numbers folder.old) (F.numbers folder.new) }
     ensures steps { (bytes : List ℕ) (parent : List (ℕ × ℕ)) (ks : PlainNodes)
-        → RowIs (F.files folder.old) name.now bytes (row_view row) parent ks
+        → RowIs (F.files folder.old) name.now bytes depth (row_view row) parent ks
         → steps.new ≤ steps.old + most_probes (length (nodes_list ks)) }
 {
     let count = match count_children(folder, name, row) {
@@ -69,6 +72,7 @@ pub(crate) fn find<F: Folder, L: Ledger>(
         Err(fault) => return Err(fault),
     };
     let part = Part {
+        depth,
         low: 0,
         high: count,
         low_at: row.first,
@@ -150,7 +154,7 @@ fn probe<F: Folder>(
 {
     let middle = part.low + (part.high - part.low) / 2;
     match read_child(folder, name, row, middle, part.low_at, part.high_at) {
-        Ok(child) => match open_child(alloc, folder, cursor, child, wanted) {
+        Ok(child) => match open_child(alloc, folder, cursor, part.depth, child, wanted) {
             Ok(opened) => Ok(turn(part, middle, child, opened)),
             Err(fault) => Err(fault),
         },
@@ -167,6 +171,7 @@ fn turn(part: Part, middle: u32, child: Child, opened: Opened) -> Probed
         Opened::Here { found } => Probed::Here { found },
         Opened::Before => Probed::Beside {
             part: Part {
+                depth: part.depth,
                 low: middle + 1,
                 high: part.high,
                 low_at: child.end,
@@ -175,6 +180,7 @@ fn turn(part: Part, middle: u32, child: Child, opened: Opened) -> Probed
         },
         Opened::Behind => Probed::Beside {
             part: Part {
+                depth: part.depth,
                 low: part.low,
                 high: middle,
                 low_at: part.low_at,

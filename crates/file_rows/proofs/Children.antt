@@ -4,7 +4,6 @@ use Rattle.std.specs.Prelude.{Result, ok_or, IfSome}
 use Rattle.std.specs.Option.{option_map}
 use Rattle.std.specs.List.{flat_map, slice_get, AllByRecursion}
 use Rattle.std.proofs.lemmas.List.{length-append}
-use Rattle.xa_fields.specs.Spelling.{u32_bytes}
 use Rattle.xa_fields.proofs.Fields.{some_is}
 use Rattle.archive_tree.specs.Data.{Stamp}
 use Rattle.keyed_tree.specs.Data.{PlainLabel}
@@ -15,7 +14,7 @@ use Rattle.record_format.specs.Nodes.{Piece, piece_bytes, entries_from, dir_of, 
 use Rattle.record_format.proofs.Pieces.{closed-bytes, entries-length}
 use Rattle.record_cursor.specs.Steps.{Filled}
 use Rattle.record_cursor.specs.declared.fault.CursorFault.{CursorFault}
-use Rattle.file_rows.specs.StandsAt.{StandsAt, head_bytes, RowStands, ChildStands, start_in}
+use Rattle.file_rows.specs.StandsAt.{StandsAt, head_bytes, RowLaid, ChildLaid, start_in}
 use Rattle.file_rows.specs.View.{PlainRow, PlainChild}
 use Rattle.file_rows.proofs.Parts.{stands-part, stands-front, stands-back}
 
@@ -27,13 +26,6 @@ end-parts d = simp append_assoc
 pub entries-size : (es : List PlainEntry) → length (flat_map entry_bytes es) ≡ 24 * length es
 entries-size [] = refl
 entries-size (e ∷ es) = omega (arith, length-append (entry_bytes e) (flat_map entry_bytes es), entries-size es)
-
--- the entries have room in the directory
-pub dir-room : (ps : List Piece) → 4 + 24 * length ps ≤ length (dir_bytes (dir_of ps))
-dir-room ps =
-    let es = entries_from 0 ps in
-    let sets = sets_bytes (dir_of ps).sets in
-    omega (arith, entries-size es, entries-length 0 ps, length-append (u32_bytes (length es) ++ flat_map entry_bytes es) sets)
 
 -- ---- a child at a position
 
@@ -90,13 +82,13 @@ child-at at (q ∷ ps) (suc i) p e = child-later at q ps i p (child-at (at + len
 -- ---- rows
 
 -- the END behind the children
-pub end-stands : (bytes : List ℕ) (row : PlainRow) (ps : List Piece) → RowStands bytes row ps → StandsAt bytes row.end (rec_bytes (end_rec (dir_of ps)))
+pub end-stands : (bytes : List ℕ) (row : PlainRow) (ps : List Piece) → RowLaid bytes row ps → StandsAt bytes row.end (rec_bytes (end_rec (dir_of ps)))
 end-stands bytes row ps h =
     let whole = subst (StandsAt bytes row.first) (closed-bytes ps) h.stands in
     subst (λ (at : ℕ). StandsAt bytes at (rec_bytes (end_rec (dir_of ps)))) (sym h.end) (stands-back bytes row.first (flat_map piece_bytes ps) (rec_bytes (end_rec (dir_of ps))) whole)
 
 -- its kind, its length and the number of children
-pub head-stands : (bytes : List ℕ) (row : PlainRow) (ps : List Piece) → RowStands bytes row ps → StandsAt bytes row.end (head_bytes row.dir (length ps))
+pub head-stands : (bytes : List ℕ) (row : PlainRow) (ps : List Piece) → RowLaid bytes row ps → StandsAt bytes row.end (head_bytes row.dir (length ps))
 head-stands bytes row ps h =
     let d = dir_of ps in
     let more = flat_map entry_bytes d.entries ++ sets_bytes d.sets in
@@ -106,7 +98,7 @@ head-stands bytes row ps h =
     (subst (λ (n : ℕ). StandsAt bytes row.end (head_bytes (length (dir_bytes d)) n)) (entries-length 0 ps) front)
 
 -- the entry of a child
-pub entry-stands : (bytes : List ℕ) (row : PlainRow) (ps : List Piece) (i : ℕ) (p : Piece) → RowStands bytes row ps → ChildAt 0 ps i p → StandsAt bytes (row.end + 13 + 24 * i) (entry_bytes (entry_in 0 ps i p))
+pub entry-stands : (bytes : List ℕ) (row : PlainRow) (ps : List Piece) (i : ℕ) (p : Piece) → RowLaid bytes row ps → ChildAt 0 ps i p → StandsAt bytes (row.end + 13 + 24 * i) (entry_bytes (entry_in 0 ps i p))
 entry-stands bytes row ps i p h c =
     let d = dir_of ps in
     let head = head_bytes (length (dir_bytes d)) (length d.entries) in
@@ -119,8 +111,8 @@ entry-stands bytes row ps i p h c =
     subst (λ (at : ℕ). StandsAt bytes at entry) place stands
 
 -- the child itself
-pub child-stands : (bytes : List ℕ) (row : PlainRow) (ps : List Piece) (i : ℕ) (p : Piece) → RowStands bytes row ps → ChildAt 0 ps i p
-    → ChildStands bytes (record { first = row.first + start_in 0 ps i; end = row.first + start_in 0 ps i + length (piece_bytes p); dir = p.dir }) p
+pub child-stands : (bytes : List ℕ) (row : PlainRow) (ps : List Piece) (i : ℕ) (p : Piece) → RowLaid bytes row ps → ChildAt 0 ps i p
+    → ChildLaid bytes (record { first = row.first + start_in 0 ps i; end = row.first + start_in 0 ps i + length (piece_bytes p); dir = p.dir }) p
 child-stands bytes row ps i p h c =
     let before = flat_map piece_bytes (take i ps) in
     let end = rec_bytes (end_rec (dir_of ps)) in
@@ -133,7 +125,7 @@ child-stands bytes row ps i p h c =
 -- ---- the row inside a child
 
 pub record InnerRow (bytes : List ℕ) (child : PlainChild) (row : PlainRow) (ps : List Piece) : Type 0 where
-  pub stands : RowStands bytes row ps
+  pub stands : RowLaid bytes row ps
   pub ordered : row.first ≤ row.end
   pub ends : row.end + (9 + row.dir) ≡ child.end
   pub dir : row.dir ≡ child.dir
@@ -142,7 +134,7 @@ abbrev pub row_in : ℕ → List Piece → PlainRow
 row_in first ps = record { first = first; end = first + length (flat_map piece_bytes ps); dir = length (dir_bytes (dir_of ps)) }
 
 pub inner-row : (bytes : List ℕ) (child : PlainChild) (l : PlainLabel) (s : Stamp) (set : List (ℕ × ℕ)) (ps : List Piece) (behind : ℕ)
-    → ChildStands bytes child (inner_piece l s set ps) → behind ≡ child.first + length (rec_bytes (inner_rec l s)) → InnerRow bytes child (row_in behind ps) ps
+    → ChildLaid bytes child (inner_piece l s set ps) → behind ≡ child.first + length (rec_bytes (inner_rec l s)) → InnerRow bytes child (row_in behind ps) ps
 inner-row bytes child l s set ps behind h e =
     let opens = rec_bytes (inner_rec l s) in
     let closed = flat_map rec_bytes (closed_by_end ps) in
@@ -166,5 +158,5 @@ pub shown-of : {T X : Type 0} (view : T → X) (o : Option T) (x : X) (P : X →
 shown-of view (Some t) x P same h = (subst P (sym (some_is (view t) x same)) h, λ e. cc)
 shown-of view None x P same h = absurd cc
 
-pub row-ordered : (bytes : List ℕ) (row : PlainRow) (ps : List Piece) → RowStands bytes row ps → row.first ≤ row.end
+pub row-ordered : (bytes : List ℕ) (row : PlainRow) (ps : List Piece) → RowLaid bytes row ps → row.first ≤ row.end
 row-ordered bytes row ps h = omega (arith, h.end)

@@ -1,10 +1,10 @@
 // What the bytes of a directory say of a row and its children.
-ghost use Rattle.std.specs.Prelude.{◌≡◌, ◌+◌, ◌*◌, ◌<◌, ◌≤◌, ◌^◌, ℕ, Some, IfSome, option_map};
+ghost use Rattle.std.specs.Prelude.{◌≡◌, ◌+◌, ◌*◌, ◌<◌, ◌≤◌, ◌^◌, ℕ, List, length, take, Some, IfSome, IsTrue, option_map};
 ghost use Rattle.record_format.specs.Bounds.{IsEntry};
 ghost use Rattle.record_format.specs.Data.{PlainEntry};
 ghost use Rattle.record_format.specs.Spelling.{entry_bytes};
 ghost use Rattle.record_format.specs.View.{entry_view};
-ghost use Rattle.file_rows.specs.StandsAt.{head_bytes};
+ghost use Rattle.file_rows.specs.StandsAt.{IsEntered, IsHead, has_room, head_bytes};
 ghost use Rattle.file_rows.specs.View.{PlainRow, row_view, child_view};
 
 use crate::places::{Child, Row};
@@ -37,21 +37,41 @@ pub(crate) fn row_before(first: u64, end: u64, dir: u64) -> Option<Row>
 
 /// The number of children that the head of an END counts, whose body has so many bytes.
 pub(crate) fn counted(head: &[u8], dir: u64) -> Option<u32>
-    ensures within { IfSome result (λ count. 4 + 24 * count ≤ dir) }
-    ensures told { (n : ℕ) → n < 2 ^ 32 → 4 + 24 * n ≤ dir → head.now ≡ head_bytes dir n
+    ensures room { IfSome result (λ count. IsTrue (has_room count dir)) }
+    ensures is { (bytes : List ℕ) → 13 ≤ length bytes → head.now ≡ take 13 bytes
+        → IfSome result (IsHead bytes dir) }
+    ensures told { (n : ℕ) → n < 2 ^ 32 → IsTrue (has_room n dir) → head.now ≡ head_bytes dir n
         → result ≡ Some n }
 {
     let (kind, _) = take_u8(head, 0)?;
     let (size, _) = take_u64(head, 1)?;
     let (count, _) = take_u32(head, 9)?;
-    if kind != END || size != dir || dir < 4 + 24 * u64::from(count) {
+    if kind != END || size != dir || !may_have(dir, count) {
         return None;
     }
     Some(count)
 }
 
+/// Whether the body of an END may have so many bytes, whose directory has so many children.
+fn may_have(dir: u64, count: u32) -> bool
+    ensures { result ≡ has_room count dir }
+{
+    let count = u64::from(count);
+    if count == 0 {
+        dir == 4
+    } else {
+        4 + 24 * count + 12 * (2 * count - 1) <= dir
+    }
+}
+
 /// The entry that these bytes spell.
 fn entry_of(bytes: &[u8]) -> Option<Entry>
+    ensures is { (piece : List ℕ) → 24 ≤ length piece → bytes.now ≡ take 24 piece
+        → IfSome result (λ e. IsEntered piece 0 (record {
+          first = e.start;
+          end = e.start + e.length;
+          dir = e.dir;
+        })) }
     ensures told { (e : PlainEntry) → IsEntry e → bytes.now ≡ entry_bytes e
         → option_map entry_view result ≡ Some e }
 {
@@ -65,6 +85,8 @@ fn entry_of(bytes: &[u8]) -> Option<Entry>
 /// between two offsets.
 pub(crate) fn child_of(bytes: &[u8], base: u64, low: u64, high: u64) -> Option<Child>
     ensures within { IfSome result (λ child. (low ≤ child.first) × (child.end ≤ high)) }
+    ensures is { (piece : List ℕ) → 24 ≤ length piece → bytes.now ≡ take 24 piece
+        → IfSome result (λ child. IsEntered piece base (child_view child)) }
     ensures told { (e : PlainEntry) → IsEntry e → bytes.now ≡ entry_bytes e
         → low ≤ base + e.start → base + e.start + e.length ≤ high
         → option_map child_view result ≡ Some (record {
@@ -79,6 +101,11 @@ pub(crate) fn child_of(bytes: &[u8], base: u64, low: u64, high: u64) -> Option<C
 /// The child of an entry in a row that begins at `base`, where it stands between two offsets.
 fn child_in(entry: Entry, base: u64, low: u64, high: u64) -> Option<Child>
     ensures within { IfSome result (λ child. (low ≤ child.first) × (child.end ≤ high)) }
+    ensures is { IfSome result (λ child. child_view child ≡ record {
+      first = base + entry.start;
+      end = base + entry.start + entry.length;
+      dir = entry.dir;
+    }) }
     ensures told { low ≤ base + entry.start → base + entry.start + entry.length ≤ high
         → option_map child_view result ≡ Some (record {
           first = base + entry.start;

@@ -1,5 +1,5 @@
 // Rows of children, and the directories behind them.
-ghost use Rattle.std.specs.Prelude.{◌≡◌, ◌≢◌, ◌+◌, ◌-◌, ◌*◌, ◌<◌, ◌≤◌, ◌^◌, ℕ, List, length, None, Some, IfOk, IfSome, option_map, slice_get};
+ghost use Rattle.std.specs.Prelude.{◌≡◌, ◌≢◌, ◌+◌, ◌-◌, ◌*◌, ◌<◌, ◌≤◌, ◌^◌, ℕ, List, length, drop, None, Some, IfOk, IfSome, IsTrue, option_map, slice_get};
 ghost use Rattle.xa_fields.specs.Spelling.{u64_bytes};
 ghost use Rattle.xa_outside.specs.Numbers.{PullsAtMost};
 ghost use Rattle.keyed_tree.specs.Data.{PlainLabel};
@@ -10,7 +10,7 @@ ghost use Rattle.record_format.specs.Nodes.{Piece, dir_of, inner_piece};
 ghost use Rattle.record_format.specs.Spelling.{rec_bytes};
 ghost use Rattle.record_cursor.specs.Moves.{TellsFront};
 ghost use Rattle.record_cursor.specs.Steps.{OnlyReads, fault_of, Filled};
-ghost use Rattle.file_rows.specs.StandsAt.{StandsAt, RowStands, ChildStands, start_in};
+ghost use Rattle.file_rows.specs.StandsAt.{StandsAt, RowLaid, ChildLaid, IsEntered, IsHead, has_room, start_in};
 ghost use Rattle.file_rows.specs.View.{PlainRow, row_view, child_view};
 
 use crate::entries::{ENTRY, HEAD, child_of, counted, row_before};
@@ -38,10 +38,10 @@ pub fn root_row<F: Folder>(
     ensures within { IfOk result (λ row. (row.first ≡ first)
         × (row.end + (9 + row.dir) + 8 ≡ size)) }
     ensures told { (bytes : List ℕ) (row : PlainRow) (ps : List Piece)
-        → TellsFront (F.files folder.old) name.now size bytes → RowStands bytes row ps
+        → TellsFront (F.files folder.old) name.now size bytes → RowLaid bytes row ps
         → row.first ≡ first → row.end + (9 + row.dir) + 8 ≡ size
         → StandsAt bytes (size - 8) (u64_bytes row.dir)
-        → Filled result (λ r. RowStands bytes (row_view r) ps) }
+        → Filled result (λ r. RowLaid bytes (row_view r) ps) }
 {
     if size - first < TAIL {
         return Err(CursorFault::Damage);
@@ -68,16 +68,22 @@ fn tail_row(first: u64, end: u64, tail: &[u8]) -> Option<Row>
 
 /// The number of children in a row.
 ///
-/// It reads 13 bytes: the kind and the length of the END, and the number. Where more entries are
-/// counted than its body has room for, the file is damaged.
+/// It reads 13 bytes: the kind and the length of the END, and the number. Where its body is not as
+/// long as the entries and the tree of so many children can make it, the file is damaged.
 pub fn count_children<F: Folder>(folder: &mut F, name: &str, row: Row) -> Result<u32, CursorFault>
     ensures reads { OnlyReads F.files F.draft F.faults folder.old folder.new (fault_of result) }
     ensures pulls { PullsAtMost 13 (F.numbers folder.old) (F.numbers folder.new) }
     ensures inside { PullsAtMost (9 + row.dir) (F.numbers folder.old) (F.numbers folder.new) }
+    ensures room { IfOk result (λ count. IsTrue (has_room count row.dir)) }
     ensures within { IfOk result (λ count. 4 + 24 * count ≤ row.dir) }
+
+    // Where the file is told, the kind, the length and the number stand there.
+    ensures head { (end : ℕ) (bytes : List ℕ) → TellsFront (F.files folder.old) name.now end bytes
+        → row.end + (9 + row.dir) ≤ end
+        → IfOk result (IsHead (drop row.end bytes) row.dir) }
     ensures told { (end : ℕ) (bytes : List ℕ) (ps : List Piece)
         → TellsFront (F.files folder.old) name.now end bytes → row.end + (9 + row.dir) ≤ end
-        → RowStands bytes (row_view row) ps → IsDir (dir_of ps)
+        → RowLaid bytes (row_view row) ps → IsDir (dir_of ps)
         → Filled result (λ count. count ≡ length ps) }
 {
     if row.dir < 4 {
@@ -105,12 +111,18 @@ pub fn read_child<F: Folder>(
     ensures reads { OnlyReads F.files F.draft F.faults folder.old folder.new (fault_of result) }
     ensures pulls { PullsAtMost 24 (F.numbers folder.old) (F.numbers folder.new) }
     ensures within { IfOk result (λ child. (low ≤ child.first) × (child.end ≤ high)) }
+
+    // Where the file is told, the child is where its entry says.
+    ensures entry { (end : ℕ) (bytes : List ℕ) → TellsFront (F.files folder.old) name.now end bytes
+        → row.end + (9 + row.dir) ≤ end
+        → IfOk result (λ child. IsEntered (drop (row.end + (13 + 24 * position)) bytes)
+        row.first (child_view child)) }
     ensures told { (end : ℕ) (bytes : List ℕ) (ps : List Piece) (p : Piece)
         → TellsFront (F.files folder.old) name.now end bytes → row.end + (9 + row.dir) ≤ end
-        → RowStands bytes (row_view row) ps → IsDir (dir_of ps)
+        → RowLaid bytes (row_view row) ps → IsDir (dir_of ps)
         → slice_get ps position ≡ Some p → low ≤ start_in row.first ps position
         → start_in row.first ps (position + 1) ≤ high
-        → Filled result (λ child. ChildStands bytes (child_view child) p
+        → Filled result (λ child. ChildLaid bytes (child_view child) p
         × (child.first ≡ start_in row.first ps position)) }
 {
     let at = row.end + HEAD as u64 + ENTRY as u64 * u64::from(position);
@@ -127,9 +139,9 @@ pub fn row_of(child: Child, behind: u64) -> Option<Row>
     ensures within { IfSome result (λ row. (row.first ≡ behind)
         × (row.end + (9 + row.dir) ≡ child.end)) }
     ensures told { (bytes : List ℕ) (l : PlainLabel) (s : Stamp) (set : List (ℕ × ℕ))
-        (ps : List Piece) → ChildStands bytes (child_view child) (inner_piece l s set ps)
+        (ps : List Piece) → ChildLaid bytes (child_view child) (inner_piece l s set ps)
         → behind ≡ child.first + length (rec_bytes (inner_rec l s))
-        → IfSome result (λ row. RowStands bytes (row_view row) ps) × (result ≢ None) }
+        → IfSome result (λ row. RowLaid bytes (row_view row) ps) × (result ≢ None) }
 {
     row_before(behind, child.end, child.dir)
 }

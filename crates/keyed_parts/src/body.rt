@@ -25,7 +25,7 @@ pub enum LentBody<'k, 't> {
 impl LentBody<'_, '_> {
     /// The body, spelled in place of what the buffer held.
     ///
-    /// One text is spelled as it is lent; another content is copied first.
+    /// One text is spelled as it is lent; any other body is copied first.
     pub fn spell<'s>(self, alloc: Global, out: &'s mut Vec<u8>) -> Result<BodyView<'s>, SpellFault>
         requires { IsShapedValue (body_view self) }
         ensures { Spells (FitsValue (body_view self.entry))

@@ -1,6 +1,6 @@
 -- What fills a buffer from the first bytes of a file.
-use Rattle.std.proofs.Common.{◌≡◌, ℕ, ◌+◌, ◌≤◌, true, false, ltb, leb, List, [], ◌∷◌, ◌++◌, length, take, drop, Option, Some, Result, Ok, Err, refl, sym, ap, ◌∙◌, arith, length-take-le, drop-drop, take_all, length-drop}
-use Rattle.std.specs.Prelude.{slice_index_or}
+use Rattle.std.proofs.Common.{◌≡◌, ℕ, ◌+◌, ◌-◌, ◌≤◌, ◌<◌, true, false, ltb, leb, List, [], ◌∷◌, ◌++◌, length, take, drop, Option, Some, Result, Ok, Err, refl, sym, ap, ◌∙◌, arith, length-take-le, drop-drop, take_all, length-drop}
+use Rattle.std.specs.Prelude.{slice_index_or, OnOk, IfErr}
 use Rattle.std.specs.Int.{w64, from_be_bytes}
 use Rattle.std.specs.FinMap as map
 use Rattle.std.proofs.lemmas.Bool.{le-ltb}
@@ -33,6 +33,10 @@ front-length told name bytes end h =
     let f = fronted (bytes_or_none (map.get h.0 name)) bytes end h.2 in
     ap length f.is ∙ length-take-le _ _ f.within
 
+-- and the file has so many
+pub front-within : (told : Option Files) (name bytes : List ℕ) (end : ℕ) → (h : TellsFront told name end bytes) → end ≤ length (bytes_or_none (map.get h.0 name))
+front-within told name bytes end h = (fronted (bytes_or_none (map.get h.0 name)) bytes end h.2).within
+
 -- damage is not answered
 pub no-damage : (e : CursorFault) (Q : Type 0) → IfDamage e ⊥ → IfDamage e Q
 no-damage Damage Q h = absurd h
@@ -44,9 +48,26 @@ damage-map Damage P Q f h = f h
 damage-map Folder P Q f h = tt
 damage-map Memory P Q f h = tt
 
-pub filled-map : {T : Type 0} (r : Result T CursorFault) (P Q : Type 0) → (P → Q) → Filled r (λ x. P) → Filled r (λ x. Q)
-filled-map (Ok x) P Q f h = f h
-filled-map (Err e) P Q f h = h
+-- ---- so many bytes of a file
+
+-- those that were read are those of its front
+pub filled-from : (told : Option Files) (name bytes : List ℕ) (end at n : ℕ) (out : List ℕ) → (h : TellsFront told name end bytes) → at + n ≤ end → out ≡ take n (drop at (bytes_or_none (map.get h.0 name))) → out ≡ take n (drop at bytes)
+filled-from told name bytes end at n out h fits read =
+    let file = bytes_or_none (map.get h.0 name) in
+    let f = fronted file bytes end h.2 in
+    let rest : at + (end - at) ≡ end = omega (arith, fits) in
+    let piece : drop at bytes ≡ take (end - at) (drop at file) = ap (drop at) f.is ∙ ap (λ (k : ℕ). drop at (take k file)) (sym rest) ∙ drop-take at (end - at) file in
+    read ∙ sym (ap (take n) piece ∙ take-take n (end - at) (drop at file) (omega (arith, fits)))
+
+-- and it does not have fewer
+pub never-short : (told : Option Files) (name bytes : List ℕ) (end at n : ℕ) (e : CursorFault) → (h : TellsFront told name end bytes) → at + n ≤ end → IfDamage e (length (bytes_or_none (map.get h.0 name)) < at + n) → IfDamage e ⊥
+never-short told name bytes end at n e h fits few =
+    let within = front-within told name bytes end h in
+    damage-map e (length (bytes_or_none (map.get h.0 name)) < at + n) ⊥ (λ short. omega (arith, short, within, fits)) few
+
+pub filled-by : {T : Type 0} (r : Result T CursorFault) (P Q S : Type 0) → (P → Q) → (S → ⊥) → OnOk r P → IfErr r (λ e. IfDamage e S) → Filled r (λ x. Q)
+filled-by (Ok x) P Q S f none there few = f there
+filled-by (Err e) P Q S f none there few = damage-map e S ⊥ none few
 
 pub take-front : (n m : ℕ) (xs : List ℕ) → n + m ≤ length xs → take n (take (n + m) xs) ≡ take n xs
 take-front n m xs fits =

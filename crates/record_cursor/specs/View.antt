@@ -40,7 +40,7 @@ place_view (place.Leaf depth) = in_leaf depth
 place_view (place.Tail n) = behind_root n
 place_view place.Finished = finished
 
--- A cursor: the file's name and length, where it stands, and the offset of what comes next.
+-- A cursor: the file's name, where the part of it that is read ends, where the cursor stands, and the offset of what comes next.
 pub record PlainCursor : Type 0 where
   pub name : List ℕ
   pub length : ℕ

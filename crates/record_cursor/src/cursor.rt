@@ -69,20 +69,21 @@ impl Cursor {
         })
     }
 
-    /// Puts the cursor before a record that opens a node, in the part of the file that ends here.
+    /// Puts the cursor before a record that opens a node, below so many inner nodes that stand open,
+    /// in the part of the file that ends here.
     ///
     /// It reads nothing.
-    pub fn seek(&mut self, at: u64, end: u64)
+    pub fn seek(&mut self, depth: u32, at: u64, end: u64)
         requires { at ≤ end }
         ensures { self.new ≡ record {
           name = self.old.name;
           length = end;
-          standing = among_nodes 0;
+          standing = among_nodes depth;
           at = at;
         } }
     {
         self.length = end;
-        self.place = Place::Nodes { depth: 0 };
+        self.place = Place::Nodes { depth };
         self.at = at;
     }
 

@@ -1,6 +1,9 @@
 // Reading so many bytes of a file.
-ghost use Rattle.std.specs.Prelude.{◌≡◌, ◌+◌, ◌<◌, ◌≤◌, ◌^◌, ℕ, List, length, take, drop, OnOk, IsTrue};
+ghost use Rattle.std.specs.Prelude.{◌≡◌, ◌+◌, ◌<◌, ◌≤◌, ◌^◌, ℕ, List, length, take, drop, Some, OnOk, IfErr, IsTrue};
+ghost use Rattle.std.specs.FinMap as map;
+ghost use Rattle.xa_outside.specs.Folder.{Files, bytes_or_none};
 ghost use Rattle.xa_outside.specs.Numbers.{PullsAtMost, after_pull};
+ghost use Rattle.record_cursor.specs.Faults.{IfDamage};
 ghost use Rattle.record_cursor.specs.Moves.{TellsFront};
 ghost use Rattle.record_cursor.specs.Steps.{OnlyReads, fault_of, Filled};
 
@@ -19,9 +22,12 @@ pub fn fill_part<F: Folder>(
     ensures numbers { OnOk result
         (F.numbers folder.new ≡ after_pull (F.numbers folder.old) (length out.old)) }
     ensures pulls { PullsAtMost (length out.old) (F.numbers folder.old) (F.numbers folder.new) }
-    ensures told { (end : ℕ) (bytes : List ℕ) → TellsFront (F.files folder.old) name.now end bytes
-        → at + length out.old ≤ end
-        → Filled result (λ _. out.new ≡ take (length out.old) (drop at bytes)) }
+
+    // Where the file is told, these are its bytes, and it is damaged only where it has fewer.
+    ensures told { (files : Files) → F.files folder.old ≡ Some files → OnOk result
+        (out.new ≡ take (length out.old) (drop at (bytes_or_none (map.get files name.now)))) }
+    ensures damage { (files : Files) → F.files folder.old ≡ Some files → IfErr result (λ e.
+        IfDamage e (length (bytes_or_none (map.get files name.now)) < at + length out.old)) }
 {
     match fill_at(folder, name, at, out) {
         Ok(count) if count < out.len() => Err(CursorFault::Damage),

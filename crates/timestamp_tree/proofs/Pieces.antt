@@ -1,12 +1,9 @@
 -- Pieces of a file, and how much of one is read.
-use Rattle.std.proofs.Common.{◌≡◌, ℕ, ◌+◌, ◌*◌, ◌≤◌, Bool, true, false, cond, leb, List, length, take, drop, Some, None, Result, Ok, Err, IfOk, refl, sym, ap, ◌∙◌, arith, length-take-le}
+use Rattle.std.proofs.Common.{◌≡◌, ℕ, ◌+◌, ◌-◌, ◌*◌, ◌≤◌, ◌<◌, List, length, take, drop, Some, None, Result, Ok, Err, IfOk, sym, ap, ◌∙◌, arith}
 use Rattle.std.specs.Int.{w32}
-use Rattle.std.specs.FinMap as map
-use Rattle.std.proofs.lemmas.Bool.Decides.{nat_tests}
-use Rattle.std.proofs.lemmas.List.{drop-drop}
+use Rattle.std.proofs.lemmas.List.{drop-drop, length-drop, length-take}
 use Rattle.xa_fields.specs.Reading.{number_at}
 use Rattle.xa_fields.proofs.Fields.{some_is}
-use Rattle.xa_outside.specs.Folder.{Files, bytes_or_none, front_of}
 use Rattle.xa_outside.specs.Numbers.{Numbers, PullsAtMost, after_pull}
 use Rattle.version_set.specs.View.{pairs_of}
 use Rattle.timestamp_tree.specs.Reading.{stored_at}
@@ -14,17 +11,16 @@ use Rattle.timestamp_tree.specs.Nodes.{IfDamage, TellsNode, TellsParts, parts_at
 use Rattle.timestamp_tree.specs.declared.node.Node.{Node}
 use Rattle.timestamp_tree.specs.declared.fault.NodeFault.{NodeFault}
 use Rattle.timestamp_tree.specs.declared.fault.NodeFault.TheVariants.{Damage, Folder, Memory}
-use Rattle.timestamp_tree.proofs.Stored.{stored_is, stored_sizes}
+use Rattle.timestamp_tree.proofs.Stored.{stored_is, stored_sizes, too_few, too_few_parts}
 use Rattle.xa_outside.specs.NumberLaws.{PullsAtMost-of, PullsAtMost-more, PullsAtMost-trans}
 
-fronted : (b : Bool) (file bytes : List ℕ) (n : ℕ) → leb n (length file) ≡ b → cond b (Some (take n file)) None ≡ Some bytes → length bytes ≡ n
-fronted true file bytes n e h =
-    let fits : n ≤ length file = grind (arith, nat_tests) in
-    ap length (sym (some_is (take n file) bytes h)) ∙ length-take-le n file fits
-fronted false file bytes n e h = absurd cc
+-- ---- the bytes of a piece
 
-pub front_length : (files : Files) (name bytes : List ℕ) (n : ℕ) → front_of files name n ≡ Some bytes → length bytes ≡ n
-front_length files name bytes n h = fronted (leb n (length (bytes_or_none (map.get files name)))) (bytes_or_none (map.get files name)) bytes n refl h
+-- a piece ends at its limit
+pub piece_within : (file : List ℕ) (at limit : ℕ) → length (drop at (take limit file)) ≤ limit - at
+piece_within file at limit = omega (arith, length-drop at (take limit file), length-take limit file)
+
+-- ---- how much of it is read
 
 -- four bytes, and then the rest of a node of so many intervals
 pub pulled_both : (limit n : ℕ) (a b d : Numbers) → 12 + 8 * n ≤ limit → b ≡ after_pull a 4 → PullsAtMost (8 * n + 8) b d → PullsAtMost limit a d
@@ -37,6 +33,14 @@ damage_map : (e : NodeFault) (P Q : Type 0) → (P → Q) → IfDamage e P → I
 damage_map Damage P Q f h = f h
 damage_map Folder P Q f h = tt
 damage_map Memory P Q f h = tt
+
+-- too few bytes for a node
+pub no_count : (piece : List ℕ) (e : NodeFault) → IfDamage e (length piece < 4) → IfDamage e ((most : ℕ) → stored_at most piece ≡ None)
+no_count piece e = damage_map e _ _ (λ few most. too_few most piece (omega (arith, few)))
+
+-- too few for its intervals
+pub no_rest : (most n : ℕ) (piece : List ℕ) (e : NodeFault) → IfDamage e (length piece < 8 * n + 8) → IfDamage e (parts_at most n piece ≡ None)
+no_rest most n piece e = damage_map e _ _ (too_few_parts most n piece)
 
 -- the number of intervals was read, and then the rest of the node
 pub node_told : (most n at : ℕ) (bytes : List ℕ) (result : Result Node NodeFault) → number_at w32 (drop at bytes) ≡ Some (n, drop 4 (drop at bytes)) → IfOk result (λ node. node.size ≡ 12 + 8 * n) → TellsParts most n (drop (at + 4) bytes) result → TellsNode most (drop at bytes) result

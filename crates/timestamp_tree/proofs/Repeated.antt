@@ -1,12 +1,12 @@
 -- Trees over sets that are all the same.
-use Rattle.std.proofs.Common.{◌≡◌, ℕ, zero, suc, ◌+◌, ◌-◌, ◌*◌, ◌/◌, ◌<◌, ◌≤◌, List, [], ◌∷◌, ◌++◌, length, take, drop, replicate, refl, sym, ap, ◌∙◌, append_assoc, arith}
+use Rattle.std.proofs.Common.{◌≡◌, ℕ, zero, suc, ◌+◌, ◌-◌, ◌*◌, ◌<◌, ◌≤◌, List, ◌++◌, length, take, drop, replicate, refl, sym, ap, ◌∙◌, append_assoc, arith}
 use Rattle.std.specs.Int.{div_ceil}
 use Rattle.std.proofs.Math.Nat.{add-mul}
 use Rattle.std.proofs.lemmas.List.{length-append, length-replicate, take-replicate, drop-replicate, take_at}
 use Rattle.xa_fields.specs.Spelling.{u64_bytes}
 use Rattle.version_set.specs.Pairs.{IsCanonical}
 use Rattle.version_set.specs.Members.{united}
-use Rattle.timestamp_tree.specs.Data.{PlainTs, leaf, node, top}
+use Rattle.timestamp_tree.specs.Data.{PlainTs, node, top}
 use Rattle.timestamp_tree.specs.Bytes.{set_bytes, stored, tree_bytes}
 use Rattle.timestamp_tree.specs.Tree.{half, joined, tree_of}
 use Rattle.timestamp_tree.proofs.Trees.{length-stored}

@@ -12,6 +12,10 @@ use Rattle.timestamp_tree.proofs.Trees.{length-set_bytes, length-stored}
 
 -- ---- how many bytes are read
 
+none_unless : {A : Type 0} (o : Option A) → ((x : A) → o ≡ Some x → ⊥) → o ≡ None
+none_unless (Some x) h = absurd (h x refl)
+none_unless None h = refl
+
 number_sizes : (w : Width) (bytes : List ℕ) (x : ℕ × List ℕ) → number_at w bytes ≡ Some x → (byte_len w ≤ length bytes) × (x.1 ≡ drop (byte_len w) bytes)
 number_sizes w bytes x e =
     let g = guard_some (ltb (length bytes) (byte_len w)) (Some (from_be_bytes w (take (byte_len w) bytes), drop (byte_len w) bytes)) x e in
@@ -77,6 +81,10 @@ parts_sizes most n bytes x e =
       rest = left.1 ∙ ap (drop 8) pairs.rest ∙ drop-drop 8 (8 * n) bytes;
     })
 
+-- too few bytes for so many intervals and eight bytes
+pub too_few_parts : (most n : ℕ) (bytes : List ℕ) → length bytes < 8 * n + 8 → parts_at most n bytes ≡ None
+too_few_parts most n bytes lt = none_unless (parts_at most n bytes) (λ x e. (let long = (parts_sizes most n bytes x e).long in omega arith))
+
 -- ---- a node and the number of its intervals
 
 -- the rest of a node, whose number of intervals was read
@@ -102,10 +110,6 @@ stored_sizes most piece x e =
     let count = parts.count in
     let left = length-drop 4 piece in
     record { count = is ∙ ap (λ (k : ℕ). Some (k, drop 4 piece)) (sym count); long = omega arith }
-
-none_unless : {A : Type 0} (o : Option A) → ((x : A) → o ≡ Some x → ⊥) → o ≡ None
-none_unless (Some x) h = absurd (h x refl)
-none_unless None h = refl
 
 pub too_few : (most : ℕ) (piece : List ℕ) → length piece < 12 → stored_at most piece ≡ None
 too_few most piece lt = none_unless (stored_at most piece) (λ x e. (let long = (stored_sizes most piece x e).long in omega arith))

@@ -1,9 +1,10 @@
 -- A node of a tree that is read out of a file.
-use Rattle.std.specs.Prelude.{◌≡◌, ◌≤◌, ⊤, ℕ, ◌+◌, ◌*◌, List, drop, Option, Some, None, Result, Ok, Err}
+use Rattle.std.specs.Prelude.{◌≡◌, ◌≤◌, ◌<◌, ⊤, ℕ, ◌+◌, ◌*◌, List, length, take, drop, Option, Some, None, Result, Ok, Err}
+use Rattle.std.specs.FinMap as map
 use Rattle.std.specs.Int.{w32, w64}
 use Rattle.xa_fields.specs.Reading.{Reader, number_at, chain_at, both_at}
 use Rattle.xa_outside.specs.Causes.{Rose}
-use Rattle.xa_outside.specs.Folder.{Files}
+use Rattle.xa_outside.specs.Folder.{Files, bytes_or_none}
 use Rattle.version_set.specs.View.{pairs_of}
 use Rattle.timestamp_tree.specs.Reading.{pair_at, next_pair, stored_at}
 use Rattle.timestamp_tree.specs.declared.node.Node.{Node}
@@ -35,12 +36,16 @@ pub record OnlyReads {S : Type 0} (files : S → Option Files) (draft : S → Op
   pub later : faults old ≤ faults new
   pub cause : IsCause (faults old) (faults new) ended
 
--- this holds, or the folder failed or memory ran out
-abbrev pub Filled : {T : Type 0} → Result T NodeFault → Type 0 → Type 0
-Filled (Ok x) P = P
-Filled (Err e) P = IfDamage e ⊥
-
 -- ---- what stands in a piece of a file
+
+-- the bytes of a file from an offset on, as far as the other
+abbrev pub piece_of : Files → List ℕ → ℕ → ℕ → List ℕ
+piece_of files name at limit = drop at (take limit (bytes_or_none (map.get files name)))
+
+-- so many bytes at the front of the piece, and damage where it has fewer
+abbrev pub TellsBytes : {T : Type 0} → ℕ → List ℕ → List ℕ → Result T NodeFault → Type 0
+TellsBytes n piece bytes (Ok x) = bytes ≡ take n piece
+TellsBytes n piece bytes (Err e) = IfDamage e (length piece < n)
 
 -- the node at the front of the piece, and damage where none stands there
 abbrev pub TellsNode : ℕ → List ℕ → Result Node NodeFault → Type 0

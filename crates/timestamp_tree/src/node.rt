@@ -1,12 +1,12 @@
 // One node of a tree that a file has.
-ghost use Rattle.std.specs.Prelude.{◌≡◌, ◌+◌, ◌-◌, ◌*◌, ◌<◌, ◌≤◌, ◌^◌, ℕ, List, length, take, drop, Some, IfOk, IfErr, OnOk};
+ghost use Rattle.std.specs.Prelude.{◌≡◌, ◌+◌, ◌-◌, ◌*◌, ◌<◌, ◌≤◌, ◌^◌, ℕ, List, length, take, Some, IfOk, IfErr, OnOk};
 ghost use Rattle.version_set.specs.View.{pairs_of};
 ghost use Rattle.xa_outside.specs.Causes.{Rose};
-ghost use Rattle.xa_outside.specs.Folder.{Files, front_of};
+ghost use Rattle.xa_outside.specs.Folder.{Files};
 ghost use Rattle.xa_outside.specs.Numbers.{PullsAtMost, after_pull};
 ghost use Rattle.timestamp_tree.specs.Bytes.{stored};
 ghost use Rattle.timestamp_tree.specs.Reading.{stored_at};
-ghost use Rattle.timestamp_tree.specs.Nodes.{IfFolder, TellsNode, OnlyReads, fault_of, Filled, TellsCount, TellsParts};
+ghost use Rattle.timestamp_tree.specs.Nodes.{IfFolder, piece_of, TellsBytes, TellsNode, OnlyReads, fault_of, TellsCount, TellsParts};
 
 use crate::fault::NodeFault;
 use crate::steps::Steps;
@@ -62,15 +62,14 @@ pub fn node_at<F: Folder, L: Ledger>(
     ensures cause { IfErr result (λ e.
         IfFolder e (Rose (F.faults folder.old) (F.faults folder.new))) }
 
-    // Where files are told and the file has bytes up to `limit`, it is the node that stands there,
-    // and damage where there is none.
-    ensures told { (files : Files) (bytes : List ℕ) → F.files folder.old ≡ Some files
-        → front_of files name.now limit ≡ Some bytes → TellsNode most (drop at bytes) result }
+    // Where files are told, it is the node that stands there, and damage where there is none.
+    ensures told { (files : Files) → F.files folder.old ≡ Some files
+        → TellsNode most (piece_of files name.now at limit) result }
 
     // Where a node stands there, no byte behind it is pulled, whatever is answered.
-    ensures only { (files : Files) (bytes rest : List ℕ) (set : List (ℕ × ℕ)) (left : ℕ)
-        → F.files folder.old ≡ Some files → front_of files name.now limit ≡ Some bytes
-        → stored_at most (drop at bytes) ≡ Some ((set, left), rest)
+    ensures only { (files : Files) (rest : List ℕ) (set : List (ℕ × ℕ)) (left : ℕ)
+        → F.files folder.old ≡ Some files
+        → stored_at most (piece_of files name.now at limit) ≡ Some ((set, left), rest)
         → PullsAtMost (length (stored set left))
         (F.numbers folder.old) (F.numbers folder.new) }
 {
@@ -93,11 +92,11 @@ fn read_node<F: Folder>(
     ensures numbers { IfOk result (λ node.
         F.numbers folder.new ≡ after_pull (F.numbers folder.old) node.size) }
     ensures pulls { PullsAtMost (limit - at) (F.numbers folder.old) (F.numbers folder.new) }
-    ensures told { (files : Files) (bytes : List ℕ) → F.files folder.old ≡ Some files
-        → front_of files name.now limit ≡ Some bytes → TellsNode most (drop at bytes) result }
-    ensures only { (files : Files) (bytes rest : List ℕ) (set : List (ℕ × ℕ)) (left : ℕ)
-        → F.files folder.old ≡ Some files → front_of files name.now limit ≡ Some bytes
-        → stored_at most (drop at bytes) ≡ Some ((set, left), rest)
+    ensures told { (files : Files) → F.files folder.old ≡ Some files
+        → TellsNode most (piece_of files name.now at limit) result }
+    ensures only { (files : Files) (rest : List ℕ) (set : List (ℕ × ℕ)) (left : ℕ)
+        → F.files folder.old ≡ Some files
+        → stored_at most (piece_of files name.now at limit) ≡ Some ((set, left), rest)
         → PullsAtMost (12 + 8 * length set) (F.numbers folder.old) (F.numbers folder.new) }
 {
     match read_count(folder, name, at, limit) {
@@ -114,8 +113,8 @@ fn read_count<F: Folder>(folder: &mut F, name: &str, at: u64, limit: u64) -> Res
     ensures numbers { OnOk result (F.numbers folder.new ≡ after_pull (F.numbers folder.old) 4) }
     ensures pulls { PullsAtMost 4 (F.numbers folder.old) (F.numbers folder.new) }
     ensures inside { PullsAtMost (limit - at) (F.numbers folder.old) (F.numbers folder.new) }
-    ensures told { (files : Files) (bytes : List ℕ) → F.files folder.old ≡ Some files
-        → front_of files name.now limit ≡ Some bytes → TellsCount (drop at bytes) result }
+    ensures told { (files : Files) → F.files folder.old ≡ Some files
+        → TellsCount (piece_of files name.now at limit) result }
 {
     if limit - at < LEAST {
         return Err(NodeFault::Damage);
@@ -133,7 +132,7 @@ fn count_within(front: &[u8], room: u64) -> Result<u32, NodeFault>
     requires room { 12 ≤ room }
     ensures within { IfOk result (λ n. 12 + 8 * n ≤ room) }
     ensures cause { IfErr result (λ e. IfFolder e ⊥) }
-    ensures told { (piece : List ℕ) → length piece ≡ room → front.now ≡ take 4 piece
+    ensures told { (piece : List ℕ) → length piece ≤ room → front.now ≡ take 4 piece
         → TellsCount piece result }
 {
     match take_u32(front, 0) {
@@ -159,9 +158,9 @@ fn read_parts<F: Folder>(
         F.numbers folder.new ≡ after_pull (F.numbers folder.old) (8 * count + 8)) }
     ensures pulls { PullsAtMost (8 * count + 8)
         (F.numbers folder.old) (F.numbers folder.new) }
-    ensures told { (files : Files) (end : ℕ) (bytes : List ℕ) → F.files folder.old ≡ Some files
-        → front_of files name.now end ≡ Some bytes → at + (8 * count + 8) ≤ end
-        → TellsParts most count (drop at bytes) result }
+    ensures told { (files : Files) (limit : ℕ) → F.files folder.old ≡ Some files
+        → at + (8 * count + 8) ≤ limit
+        → TellsParts most count (piece_of files name.now at limit) result }
 {
     let size = 8 * count as usize + 8;
     let mut bytes = Vec::new(alloc);
@@ -201,9 +200,9 @@ fn fill<F: Folder>(folder: &mut F, name: &str, at: u64, out: &mut [u8]) -> Resul
     ensures numbers { OnOk result
         (F.numbers folder.new ≡ after_pull (F.numbers folder.old) (length out.old)) }
     ensures pulls { PullsAtMost (length out.old) (F.numbers folder.old) (F.numbers folder.new) }
-    ensures told { (files : Files) (end : ℕ) (bytes : List ℕ) → F.files folder.old ≡ Some files
-        → front_of files name.now end ≡ Some bytes → at + length out.old ≤ end
-        → Filled result (out.new ≡ take (length out.old) (drop at bytes)) }
+    ensures told { (files : Files) (limit : ℕ) → F.files folder.old ≡ Some files
+        → at + length out.old ≤ limit
+        → TellsBytes (length out.old) (piece_of files name.now at limit) out.new result }
 {
     match fill_at(folder, name, at, out) {
         Ok(count) if count < out.len() => Err(NodeFault::Damage),

@@ -1,5 +1,5 @@
-use Rattle.std.proofs.Common.{◌+◌, ◌-◌, length, refl, sym, subst, arith}
-use Rattle.xa_outside.specs.NumberLaws.{PullsAtMost-more, PullsAtMost-trans, PullsAtMost-of}
+use Rattle.std.proofs.Common.{◌+◌, ◌-◌, length, sym, subst, arith}
+use Rattle.xa_outside.specs.NumberLaws.{PullsAtMost-more, PullsAtMost-trans}
 use Rattle.record_parts.specs.Spelling.{stamp_bytes}
 use Rattle.record_cursor.specs.Moves.{TellsFront}
 use Rattle.file_get.proofs.Bodies.{stamp-stands, alt-length, alt-parts, alt-is}

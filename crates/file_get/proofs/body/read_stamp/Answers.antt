@@ -1,4 +1,4 @@
-use Rattle.std.proofs.Common.{◌+◌, ◌-◌, ◌∙◌, length, refl, sym, subst, arith}
+use Rattle.std.proofs.Common.{◌+◌, ◌-◌, ◌∙◌, length, sym, arith}
 use Rattle.xa_outside.specs.NumberLaws.{PullsAtMost-more, PullsAtMost-trans}
 use Rattle.record_parts.specs.Spelling.{stamp_bytes}
 use Rattle.file_get.proofs.Bodies.{stamp-some, stored-set, inherited-set}

@@ -1,4 +1,4 @@
-use Rattle.std.proofs.Common.{◌-◌, take, drop, ap, ◌∙◌, arith}
+use Rattle.std.proofs.Common.{◌-◌, take, ◌∙◌, arith}
 use Rattle.file_get.proofs.Bodies.{value-taken}
 use Rattle.file_get.proofs.body.read_value.Goals as goal
 

@@ -16,7 +16,7 @@ use Rattle.file_get.proofs.Inners.{inner-printed, inner-refused, never-deep, nev
 use Rattle.file_get.proofs.Children.{node-unopened, node-printed}
 use Rattle.file_get.proofs.Placed.{child-unread, child-printed}
 use Rattle.file_get.proofs.Visiting.{visit-unlooked, visit-lacks, visit-child, visit-left, visit-both}
-use Rattle.file_get.proofs.Rows.{row-uncounted, row-empty, row-refused, row-printed}
+use Rattle.file_get.proofs.Rows.{row-uncounted, row-empty, row-printed}
 use Rattle.file_get.proofs.walk.+walk.Given.{Over}
 use Rattle.file_get.proofs.walk.+walk.Goals as goal
 
@@ -233,8 +233,8 @@ print_row-returns-in_err-count g t c =
     at-err r.result (of_cursor e.field-0.0) r.ensures.1 (λ r. RowPrinted a.ask.version a.ask.name.now (row_view a.row) a.depth s u r)
     (row-uncounted f.files f.draft f.numbers f.faults k.taken k.faults a.ask.version a.ask.name.now (row_view a.row) a.depth a.folder.now c.count_children.new.folder a.sink.now a.printer.now a.steps.now e.field-0.0 a.row.ordered got.reads got.pulls got.inside got.told)
 
-pub print_row-returns-then-row-eq4 : goal.print_row-returns-then-row-eq4
-print_row-returns-then-row-eq4 g t c =
+pub print_row-returns-then-count-eq0 : goal.print_row-returns-then-count-eq0
+print_row-returns-then-count-eq0 g t c =
     let f = g.F.Folder in
     let k = g.K.Sink in
     let a = c.args in
@@ -242,16 +242,6 @@ print_row-returns-then-row-eq4 g t c =
     let o = c.in_ok-count in
     let got = o.ensures in
     row-empty f.files f.draft f.numbers f.faults k.taken k.faults a.ask.version a.ask.name.now (row_view a.row) a.depth a.folder.now c.count_children.new.folder a.sink.now a.printer.now a.steps.now o.count a.row.ordered c.if-count-eq0.true c.requires.stands got.reads got.pulls got.inside got.told
-
-pub print_row-returns-else-row-eq4 : goal.print_row-returns-else-row-eq4
-print_row-returns-else-row-eq4 g t c =
-    let f = g.F.Folder in
-    let k = g.K.Sink in
-    let a = c.args in
-    let s = at g a.folder.now a.sink.now a.printer.now a.steps.now in
-    let o = c.in_ok-count in
-    let got = o.ensures in
-    row-refused f.files f.draft f.numbers f.faults k.taken k.faults a.ask.version a.ask.name.now (row_view a.row) a.depth a.folder.now c.count_children.new.folder a.sink.now a.printer.now a.steps.now o.count a.row.ordered c.if-count-eq0.true c.if-row-eq4.false got.reads got.inside got.told
 
 pub print_row-returns-in_err-place : goal.print_row-returns-in_err-place
 print_row-returns-in_err-place g t c =

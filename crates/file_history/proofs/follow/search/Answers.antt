@@ -15,7 +15,7 @@ pub returns-in-Err-clause-told : goal.returns-in-Err-clause-told
 returns-in-Err-clause-told g c = λ bytes a f is. (
     let h = header_view c.args.header.now in
     let r = root-row (g.F.Folder.files c.args.folder.now) c.args.name.now bytes h a f in
-    c.in-Err.ensures.told bytes (row_in h.first (root_pieces a)) (root_pieces a) f.tells r.stands refl r.size r.tail)
+    c.in-Err.ensures.told bytes (row_in h.first (root_pieces a)) (root_pieces a) f.tells r.stands refl r.ends r.tail)
 
 pub returns-in-Ok-clause-told : goal.returns-in-Ok-clause-told
 returns-in-Ok-clause-told g c = λ bytes a f is. (
@@ -23,7 +23,7 @@ returns-in-Ok-clause-told g c = λ bytes a f is. (
     let told = g.F.Folder.files c.args.folder.now in
     let name = c.args.name.now in
     let r = root-row told name bytes h a f in
-    let stands = c.in-Ok.ensures.told bytes (row_in h.first (root_pieces a)) (root_pieces a) f.tells r.stands refl r.size r.tail in
+    let stands = c.in-Ok.ensures.told bytes (row_in h.first (root_pieces a)) (root_pieces a) f.tells r.stands refl r.ends r.tail in
     c.follow.ensures.told bytes a.kids (root-is told (g.F.Folder.files c.root_row.new.folder) name bytes h a (row_view c.in-Ok.row) (pairs_of c.args.all) f c.in-Ok.ensures.reads.same_files is stands))
 
 pub returns-in-Ok-clause-few : goal.returns-in-Ok-clause-few
@@ -32,7 +32,7 @@ returns-in-Ok-clause-few g c = λ bytes a f is. (
     let told = g.F.Folder.files c.args.folder.now in
     let name = c.args.name.now in
     let r = root-row told name bytes h a f in
-    let stands = c.in-Ok.ensures.told bytes (row_in h.first (root_pieces a)) (root_pieces a) f.tells r.stands refl r.size r.tail in
+    let stands = c.in-Ok.ensures.told bytes (row_in h.first (root_pieces a)) (root_pieces a) f.tells r.stands refl r.ends r.tail in
     let path = map label_view c.args.path.now in
     most-both 8 (probed a path) (8 + probed a path) (g.F.Folder.numbers c.args.folder.now) (g.F.Folder.numbers c.root_row.new.folder) (g.F.Folder.numbers c.follow.new.folder) (omega arith) c.in-Ok.ensures.pulls
     (c.follow.ensures.few bytes a.kids (root-is told (g.F.Folder.files c.root_row.new.folder) name bytes h a (row_view c.in-Ok.row) (pairs_of c.args.all) f c.in-Ok.ensures.reads.same_files is stands)))
@@ -43,7 +43,7 @@ returns-in-Ok-clause-steps g c = λ bytes a f is. (
     let told = g.F.Folder.files c.args.folder.now in
     let name = c.args.name.now in
     let r = root-row told name bytes h a f in
-    let stands = c.in-Ok.ensures.told bytes (row_in h.first (root_pieces a)) (root_pieces a) f.tells r.stands refl r.size r.tail in
+    let stands = c.in-Ok.ensures.told bytes (row_in h.first (root_pieces a)) (root_pieces a) f.tells r.stands refl r.ends r.tail in
     c.follow.ensures.steps bytes a.kids (root-is told (g.F.Folder.files c.root_row.new.folder) name bytes h a (row_view c.in-Ok.row) (pairs_of c.args.all) f c.in-Ok.ensures.reads.same_files is stands))
 
 pub returns-in-Ok-clause-pulls : goal.returns-in-Ok-clause-pulls

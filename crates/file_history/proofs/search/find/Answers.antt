@@ -33,9 +33,9 @@ returns-clause-told g c = λ bytes parent ks h. (
     let row = row_view c.args.row in
     let ps = node_pieces parent ks in
     let count = c.in-Ok.ensures.told h.size bytes ps h.tells (row-within told name bytes h.size row ps h.tells h.stands) h.stands (end-dir ps h.records) in
-    let part = row-part told name bytes row parent ks c.in-Ok.count h count in
+    let part = row-part told name bytes c.args.depth row parent ks c.in-Ok.count h count in
     c.find_in.ensures.told bytes parent [] (nodes_list ks) []
-    (part-later told (g.F.Folder.files c.count_children.new.folder) name bytes row parent (record { low = 0; high = c.in-Ok.count; low_at = row.first; high_at = row.end }) [] (nodes_list ks) [] c.in-Ok.ensures.reads.same_files part))
+    (part-later told (g.F.Folder.files c.count_children.new.folder) name bytes row parent (record { depth = c.args.depth; low = 0; high = c.in-Ok.count; low_at = row.first; high_at = row.end }) [] (nodes_list ks) [] c.in-Ok.ensures.reads.same_files part))
 
 pub returns-clause-few : goal.returns-clause-few
 returns-clause-few g c = λ bytes parent ks h. (
@@ -44,10 +44,10 @@ returns-clause-few g c = λ bytes parent ks h. (
     let row = row_view c.args.row in
     let ps = node_pieces parent ks in
     let count = c.in-Ok.ensures.told h.size bytes ps h.tells (row-within told name bytes h.size row ps h.tells h.stands) h.stands (end-dir ps h.records) in
-    let part = row-part told name bytes row parent ks c.in-Ok.count h count in
+    let part = row-part told name bytes c.args.depth row parent ks c.in-Ok.count h count in
     most-both 13 (cost (nodes_list ks)) (row_probed (nodes_list ks)) (g.F.Folder.numbers c.args.folder.now) (g.F.Folder.numbers c.count_children.new.folder) (g.F.Folder.numbers c.find_in.new.folder) (omega arith) c.in-Ok.ensures.pulls
     (c.find_in.ensures.few bytes parent [] (nodes_list ks) []
-    (part-later told (g.F.Folder.files c.count_children.new.folder) name bytes row parent (record { low = 0; high = c.in-Ok.count; low_at = row.first; high_at = row.end }) [] (nodes_list ks) [] c.in-Ok.ensures.reads.same_files part)))
+    (part-later told (g.F.Folder.files c.count_children.new.folder) name bytes row parent (record { depth = c.args.depth; low = 0; high = c.in-Ok.count; low_at = row.first; high_at = row.end }) [] (nodes_list ks) [] c.in-Ok.ensures.reads.same_files part)))
 
 pub returns-clause-steps : goal.returns-clause-steps
 returns-clause-steps g c = λ bytes parent ks h. (
@@ -56,6 +56,6 @@ returns-clause-steps g c = λ bytes parent ks h. (
     let row = row_view c.args.row in
     let ps = node_pieces parent ks in
     let count = c.in-Ok.ensures.told h.size bytes ps h.tells (row-within told name bytes h.size row ps h.tells h.stands) h.stands (end-dir ps h.records) in
-    let part = row-part told name bytes row parent ks c.in-Ok.count h count in
+    let part = row-part told name bytes c.args.depth row parent ks c.in-Ok.count h count in
     c.find_in.ensures.steps bytes parent [] (nodes_list ks) []
-    (part-later told (g.F.Folder.files c.count_children.new.folder) name bytes row parent (record { low = 0; high = c.in-Ok.count; low_at = row.first; high_at = row.end }) [] (nodes_list ks) [] c.in-Ok.ensures.reads.same_files part))
+    (part-later told (g.F.Folder.files c.count_children.new.folder) name bytes row parent (record { depth = c.args.depth; low = 0; high = c.in-Ok.count; low_at = row.first; high_at = row.end }) [] (nodes_list ks) [] c.in-Ok.ensures.reads.same_files part))

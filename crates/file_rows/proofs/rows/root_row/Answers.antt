@@ -1,5 +1,6 @@
-use Rattle.std.proofs.Common.{◌∙◌, arith}
-use Rattle.file_rows.specs.StandsAt.{RowStands}
+use Rattle.std.proofs.Common.{◌-◌, ◌∙◌, arith}
+use Rattle.record_cursor.proofs.Fills.{filled-from, never-short}
+use Rattle.file_rows.specs.StandsAt.{RowLaid}
 use Rattle.file_rows.specs.View.{PlainRow, row_view}
 use Rattle.file_rows.proofs.Children.{filled-of, row-ordered}
 use Rattle.file_rows.proofs.rows.root_row.Goals as goal
@@ -7,11 +8,13 @@ use Rattle.file_rows.proofs.rows.root_row.Goals as goal
 pub returns-in-Ok-clause-told : goal.returns-in-Ok-clause-told
 returns-in-Ok-clause-told g c = λ bytes row ps tells h f e tail. (
     let eight = c.if-size-first-lt-TAIL.false in
-    filled-of row_view c.tail_row.result _ c.ok_or.result row (λ (r : PlainRow). RowStands bytes r ps) c.ok_or.ensures.value
+    let told = g.F.Folder.files c.args.folder.now in
+    let read = filled-from told c.args.name.now bytes c.args.size (c.args.size - 8) 8 c.fill_part.new.out tells (omega (arith, eight)) (c.in-Ok.ensures.told tells.0 tells.1) in
+    filled-of row_view c.tail_row.result _ c.ok_or.result row (λ (r : PlainRow). RowLaid bytes r ps) c.ok_or.ensures.value
     (c.tail_row.ensures.told row f (row-ordered bytes row ps h) (omega (arith, e))
-    (c.in-Ok.ensures.told c.args.size bytes tells (omega (arith, eight)) ∙ tail)) h)
+    (read ∙ tail)) h)
 
 pub returns-in-Err-clause-told : goal.returns-in-Err-clause-told
 returns-in-Err-clause-told g c = λ bytes row ps tells h f e tail. (
     let eight = c.if-size-first-lt-TAIL.false in
-    c.in-Err.ensures.told c.args.size bytes tells (omega (arith, eight)))
+    never-short (g.F.Folder.files c.args.folder.now) c.args.name.now bytes c.args.size (c.args.size - 8) 8 c.in-Err.fault tells (omega (arith, eight)) (c.in-Err.ensures.damage tells.0 tells.1))

@@ -1,18 +1,23 @@
 use Rattle.std.proofs.Common.{◌≡◌, None, drop, arith, length-drop}
 use Rattle.record_cursor.specs.Next.{tail_at}
-use Rattle.record_cursor.proofs.Fills.{front-length, no-damage}
+use Rattle.record_cursor.proofs.Fills.{front-length, filled-from, never-short, no-damage}
 use Rattle.record_cursor.proofs.Comes.{tail-there, tail-other}
 use Rattle.record_cursor.proofs.step.read_tail.Goals as goal
 
 pub returns-in-Ok-clause-told : goal.returns-in-Ok-clause-told
 returns-in-Ok-clause-told g c = λ bytes tells. (
-    let len = front-length (g.F.Folder.files c.args.folder.now) c.args.name.now bytes c.args.length tells in
-    tail-there c.args.size (drop c.args.at bytes) c.fill_part.new.out c.is_tail.result (c.in-Ok.ensures.told c.args.length bytes tells (omega arith)) (omega (arith, len, length-drop c.args.at bytes)) c.is_tail.ensures c.if-is_tail.true)
+    let told = g.F.Folder.files c.args.folder.now in
+    let len = front-length told c.args.name.now bytes c.args.length tells in
+    let read = filled-from told c.args.name.now bytes c.args.length c.args.at 8 c.fill_part.new.out tells (omega arith) (c.in-Ok.ensures.told tells.0 tells.1) in
+    tail-there c.args.size (drop c.args.at bytes) c.fill_part.new.out c.is_tail.result read (omega (arith, len, length-drop c.args.at bytes)) c.is_tail.ensures c.if-is_tail.true)
 
 pub returns-in-Ok-2-clause-told : goal.returns-in-Ok-2-clause-told
 returns-in-Ok-2-clause-told g c = λ bytes tells. (
-    let len = front-length (g.F.Folder.files c.args.folder.now) c.args.name.now bytes c.args.length tells in
-    tail-other c.args.size (drop c.args.at bytes) c.fill_part.new.out c.is_tail.result (c.in-Ok-2.ensures.told c.args.length bytes tells (omega arith)) (omega (arith, len, length-drop c.args.at bytes)) c.is_tail.ensures c.if-is_tail.false)
+    let told = g.F.Folder.files c.args.folder.now in
+    let len = front-length told c.args.name.now bytes c.args.length tells in
+    let read = filled-from told c.args.name.now bytes c.args.length c.args.at 8 c.fill_part.new.out tells (omega arith) (c.in-Ok-2.ensures.told tells.0 tells.1) in
+    tail-other c.args.size (drop c.args.at bytes) c.fill_part.new.out c.is_tail.result read (omega (arith, len, length-drop c.args.at bytes)) c.is_tail.ensures c.if-is_tail.false)
 
 pub returns-in-Err-clause-told : goal.returns-in-Err-clause-told
-returns-in-Err-clause-told g c = λ bytes tells. no-damage c.in-Err.fault (tail_at c.args.size (drop c.args.at bytes) ≡ None) (c.in-Err.ensures.told c.args.length bytes tells (omega arith))
+returns-in-Err-clause-told g c = λ bytes tells. no-damage c.in-Err.fault (tail_at c.args.size (drop c.args.at bytes) ≡ None) (
+    never-short (g.F.Folder.files c.args.folder.now) c.args.name.now bytes c.args.length c.args.at 8 c.in-Err.fault tells (omega arith) (c.in-Err.ensures.damage tells.0 tells.1))

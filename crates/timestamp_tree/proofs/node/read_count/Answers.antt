@@ -1,10 +1,23 @@
-use Rattle.std.proofs.Common.{drop, arith}
-use Rattle.std.proofs.lemmas.List.{length-drop}
-use Rattle.timestamp_tree.proofs.Pieces.{front_length}
+use Rattle.std.proofs.Common.{arith}
+use Rattle.std.specs.FinMap as map
+use Rattle.xa_outside.specs.Folder.{bytes_or_none}
+use Rattle.timestamp_tree.specs.Nodes.{piece_of}
+use Rattle.timestamp_tree.proofs.Pieces.{piece_within, no_count}
 use Rattle.timestamp_tree.proofs.Stored.{too_few}
 use Rattle.timestamp_tree.proofs.node.read_count.Goals as goal
 
 pub returns-then-limit-at-lt-LEAST-clause-told : goal.returns-then-limit-at-lt-LEAST-clause-told
-returns-then-limit-at-lt-LEAST-clause-told g c = λ files bytes told front most. (
-    let size = front_length files c.args.name.now bytes c.args.limit front in
-    too_few most (drop c.args.at bytes) (omega (arith, size, length-drop c.args.at bytes, c.if-limit-at-lt-LEAST.true)))
+returns-then-limit-at-lt-LEAST-clause-told g c = λ files told most. (
+    let within = piece_within (bytes_or_none (map.get files c.args.name.now)) c.args.at c.args.limit in
+    too_few most (piece_of files c.args.name.now c.args.at c.args.limit) (omega (arith, within, c.if-limit-at-lt-LEAST.true)))
+
+pub returns-in-Ok-clause-told : goal.returns-in-Ok-clause-told
+returns-in-Ok-clause-told g c = λ files told. (
+    let piece = piece_of files c.args.name.now c.args.at c.args.limit in
+    let within = piece_within (bytes_or_none (map.get files c.args.name.now)) c.args.at c.args.limit in
+    c.count_within.ensures.told piece within (c.in-Ok.ensures.told files c.args.limit told (omega (arith, c.if-limit-at-lt-LEAST.false))))
+
+pub returns-in-Err-clause-told : goal.returns-in-Err-clause-told
+returns-in-Err-clause-told g c = λ files told. (
+    let piece = piece_of files c.args.name.now c.args.at c.args.limit in
+    no_count piece c.in-Err.fault (c.in-Err.ensures.told files c.args.limit told (omega (arith, c.if-limit-at-lt-LEAST.false))))
