@@ -1,5 +1,5 @@
 pub mod Sums
+pub mod Weights
 pub mod Tallies
-pub mod Scanned
-pub mod Records
+pub mod Coming
 pub mod Files

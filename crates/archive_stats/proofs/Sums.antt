@@ -7,6 +7,7 @@ use Rattle.archive_tree.specs.Data.{PlainNode, inner_node, leaf_node, PlainNodes
 use Rattle.record_format.specs.Data.{PlainDir, PlainRec, inner_rec, leaf_rec, end_rec, leaf_end}
 use Rattle.record_format.specs.Nodes.{Piece, dir_of, closed_by_end, alt_of, set_in, node_piece, node_pieces}
 use Rattle.archive_stats.specs.Counts.{nodes_from, nodes_among, is_inner, is_leaf, alts_of, stamps_of}
+use Rattle.record_cursor.specs.Items.{PlainItem, item_of}
 use Rattle.archive_stats.specs.Tally.{inner_in, leaves_in, alternatives_in, stamps_in}
 
 -- ---- sums
@@ -63,30 +64,34 @@ file-sum f skips set ks = closed-sum f skips (node_pieces set ks) ∙ row-sum f 
 
 -- ---- the four numbers
 
-inner-own : (k : PlainNode) → own_sum inner_in k ≡ cond (is_inner k) 1 0
+-- what is added for the item of a record
+abbrev pub of_item : (PlainItem → ℕ) → PlainRec → ℕ
+of_item f r = f (item_of r)
+
+inner-own : (k : PlainNode) → own_sum (of_item inner_in) k ≡ cond (is_inner k) 1 0
 inner-own (inner_node l s ks) = refl
 inner-own (leaf_node l s xs) = omega (arith, sum-none xs)
 
-leaves-own : (k : PlainNode) → own_sum leaves_in k ≡ cond (is_leaf k) 1 0
+leaves-own : (k : PlainNode) → own_sum (of_item leaves_in) k ≡ cond (is_leaf k) 1 0
 leaves-own (inner_node l s ks) = refl
 leaves-own (leaf_node l s xs) = omega (arith, sum-none xs)
 
-alternatives-own : (k : PlainNode) → own_sum alternatives_in k ≡ length (alts_of k)
+alternatives-own : (k : PlainNode) → own_sum (of_item alternatives_in) k ≡ length (alts_of k)
 alternatives-own (inner_node l s ks) = refl
 alternatives-own (leaf_node l s xs) = omega (arith, sum-ones xs)
 
-stamps-own : (k : PlainNode) → own_sum stamps_in k ≡ stamps_of k
+stamps-own : (k : PlainNode) → own_sum (of_item stamps_in) k ≡ stamps_of k
 stamps-own (inner_node l s ks) = omega arith
 stamps-own (leaf_node l s xs) = refl
 
-pub inner-sum : (set : List (ℕ × ℕ)) (ks : PlainNodes) → sum_by inner_in (closed_by_end (node_pieces set ks)) ≡ count_by is_inner (nodes_among ks)
-inner-sum set ks = file-sum inner_in (record { inner = λ d. refl; leaf = refl }) set ks ∙ sum-same (own_sum inner_in) (λ k. cond (is_inner k) 1 0) inner-own (nodes_among ks)
+pub inner-sum : (set : List (ℕ × ℕ)) (ks : PlainNodes) → sum_by (of_item inner_in) (closed_by_end (node_pieces set ks)) ≡ count_by is_inner (nodes_among ks)
+inner-sum set ks = file-sum (of_item inner_in) (record { inner = λ d. refl; leaf = refl }) set ks ∙ sum-same (own_sum (of_item inner_in)) (λ k. cond (is_inner k) 1 0) inner-own (nodes_among ks)
 
-pub leaves-sum : (set : List (ℕ × ℕ)) (ks : PlainNodes) → sum_by leaves_in (closed_by_end (node_pieces set ks)) ≡ count_by is_leaf (nodes_among ks)
-leaves-sum set ks = file-sum leaves_in (record { inner = λ d. refl; leaf = refl }) set ks ∙ sum-same (own_sum leaves_in) (λ k. cond (is_leaf k) 1 0) leaves-own (nodes_among ks)
+pub leaves-sum : (set : List (ℕ × ℕ)) (ks : PlainNodes) → sum_by (of_item leaves_in) (closed_by_end (node_pieces set ks)) ≡ count_by is_leaf (nodes_among ks)
+leaves-sum set ks = file-sum (of_item leaves_in) (record { inner = λ d. refl; leaf = refl }) set ks ∙ sum-same (own_sum (of_item leaves_in)) (λ k. cond (is_leaf k) 1 0) leaves-own (nodes_among ks)
 
-pub alternatives-sum : (set : List (ℕ × ℕ)) (ks : PlainNodes) → sum_by alternatives_in (closed_by_end (node_pieces set ks)) ≡ sum_by (λ k. length (alts_of k)) (nodes_among ks)
-alternatives-sum set ks = file-sum alternatives_in (record { inner = λ d. refl; leaf = refl }) set ks ∙ sum-same (own_sum alternatives_in) (λ k. length (alts_of k)) alternatives-own (nodes_among ks)
+pub alternatives-sum : (set : List (ℕ × ℕ)) (ks : PlainNodes) → sum_by (of_item alternatives_in) (closed_by_end (node_pieces set ks)) ≡ sum_by (λ k. length (alts_of k)) (nodes_among ks)
+alternatives-sum set ks = file-sum (of_item alternatives_in) (record { inner = λ d. refl; leaf = refl }) set ks ∙ sum-same (own_sum (of_item alternatives_in)) (λ k. length (alts_of k)) alternatives-own (nodes_among ks)
 
-pub stamps-sum : (set : List (ℕ × ℕ)) (ks : PlainNodes) → sum_by stamps_in (closed_by_end (node_pieces set ks)) ≡ sum_by stamps_of (nodes_among ks)
-stamps-sum set ks = file-sum stamps_in (record { inner = λ d. refl; leaf = refl }) set ks ∙ sum-same (own_sum stamps_in) stamps_of stamps-own (nodes_among ks)
+pub stamps-sum : (set : List (ℕ × ℕ)) (ks : PlainNodes) → sum_by (of_item stamps_in) (closed_by_end (node_pieces set ks)) ≡ sum_by stamps_of (nodes_among ks)
+stamps-sum set ks = file-sum (of_item stamps_in) (record { inner = λ d. refl; leaf = refl }) set ks ∙ sum-same (own_sum (of_item stamps_in)) stamps_of stamps-own (nodes_among ks)

@@ -1,5 +1,5 @@
 -- What the records of a file are counted to.
-use Rattle.std.proofs.Common.{◌≡◌, ◌+◌, List, [], ◌∷◌, length, refl, ◌∙◌, arith}
+use Rattle.std.proofs.Common.{◌≡◌, ℕ, ◌+◌, List, [], ◌∷◌, length, refl, ap, ◌∙◌, arith}
 use Rattle.std.specs.Prelude.{fold, sum_by, max}
 use Rattle.std.proofs.lemmas.List.Sums.{sum_by-cons}
 use Rattle.version_set.specs.Members.{upto_pairs}
@@ -9,17 +9,19 @@ use Rattle.record_format.specs.Data.{PlainRec}
 use Rattle.record_format.specs.Files.{header_bytes, file_records, file_bytes}
 use Rattle.archive_stats.specs.Counts.{PlainCounts, weight, counts}
 use Rattle.archive_stats.specs.Tally.{inner_in, leaves_in, alternatives_in, stamps_in, counted, tallied, before_records}
-use Rattle.archive_stats.proofs.Sums.{inner-sum, leaves-sum, alternatives-sum, stamps-sum}
+use Rattle.record_cursor.specs.Items.{item_of}
+use Rattle.archive_stats.proofs.Weights.{read-weight}
+use Rattle.archive_stats.proofs.Sums.{of_item, inner-sum, leaves-sum, alternatives-sum, stamps-sum}
 
 -- the counts with the sums of what each record adds
 abbrev pub summed : PlainCounts → List PlainRec → PlainCounts
 summed c rs =
     record {
       versions = c.versions;
-      inner = c.inner + sum_by inner_in rs;
-      leaves = c.leaves + sum_by leaves_in rs;
-      alternatives = c.alternatives + sum_by alternatives_in rs;
-      stamps = c.stamps + sum_by stamps_in rs;
+      inner = c.inner + sum_by (of_item inner_in) rs;
+      leaves = c.leaves + sum_by (of_item leaves_in) rs;
+      alternatives = c.alternatives + sum_by (of_item alternatives_in) rs;
+      stamps = c.stamps + sum_by (of_item stamps_in) rs;
       largest = fold (λ most r. max most (weight r)) c.largest rs;
       bytes = c.bytes;
     }
@@ -31,13 +33,13 @@ same-counts c d v i l a s m b = λ j. record { versions = v j; inner = i j; leav
 tallied-sums : (c : PlainCounts) (rs : List PlainRec) → tallied c rs ≡ summed c rs
 tallied-sums c [] = same-counts c (summed c []) refl (omega arith) (omega arith) (omega arith) (omega arith) refl refl
 tallied-sums c (r ∷ rs) =
-    tallied-sums (counted c r) rs
-    ∙ same-counts (summed (counted c r) rs) (summed c (r ∷ rs)) refl
-    (omega (arith, sum_by-cons inner_in r rs))
-    (omega (arith, sum_by-cons leaves_in r rs))
-    (omega (arith, sum_by-cons alternatives_in r rs))
-    (omega (arith, sum_by-cons stamps_in r rs))
-    refl refl
+    tallied-sums (counted c (item_of r)) rs
+    ∙ same-counts (summed (counted c (item_of r)) rs) (summed c (r ∷ rs)) refl
+    (omega (arith, sum_by-cons (of_item inner_in) r rs))
+    (omega (arith, sum_by-cons (of_item leaves_in) r rs))
+    (omega (arith, sum_by-cons (of_item alternatives_in) r rs))
+    (omega (arith, sum_by-cons (of_item stamps_in) r rs))
+    (ap (λ (n : ℕ). fold (λ most x. max most (weight x)) (max c.largest n) rs) (read-weight r)) refl
 
 -- the records of a file make its counts
 pub file-counts : (rules : List PlainRule) (a : PlainArchive) → tallied (before_records a.n (length (header_bytes rules a.n)) (length (file_bytes rules a))) (file_records a) ≡ counts rules a

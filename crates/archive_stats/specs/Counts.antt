@@ -3,7 +3,9 @@ use Rattle.std.specs.Prelude.{ℕ, ◌+◌, Bool, true, false, not, List, [], �
 use Rattle.std.specs.Option.{is_some}
 use Rattle.key_spec.specs.Data.{PlainRule}
 use Rattle.archive_tree.specs.Data.{PlainAlt, PlainNode, inner_node, leaf_node, PlainNodes, no_nodes, node, node_stamp, PlainArchive}
-use Rattle.record_format.specs.Files.{file_bytes}
+use Rattle.record_format.specs.Data.{PlainRec, inner_rec, leaf_rec, alt_rec, end_rec, leaf_end}
+use Rattle.record_format.specs.Files.{file_bytes, file_records}
+use Rattle.record_format.specs.Spelling.{dir_bytes}
 pub use Rattle.record_format.specs.Files.{weight, largest}
 
 pub record PlainCounts : Type 0 where
@@ -57,3 +59,17 @@ counts rules a =
       largest = largest rules a;
       bytes = length (file_bytes rules a);
     }
+
+-- ---- what need not be read
+
+-- the bytes of the body of an END
+abbrev pub end_body : PlainRec → ℕ
+end_body (inner_rec l s) = 0
+end_body (leaf_rec l s) = 0
+end_body (alt_rec s b) = 0
+end_body (end_rec d) = length (dir_bytes d)
+end_body leaf_end = 0
+
+-- the bytes of the bodies of all END records in the file of an archive
+abbrev pub end_bodies : PlainArchive → ℕ
+end_bodies a = sum_by end_body (file_records a)

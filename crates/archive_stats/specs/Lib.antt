@@ -1,3 +1,4 @@
 pub mod Counts
 pub mod Tally
 pub mod View
+pub mod Counted

@@ -1,5 +1,5 @@
 // The counts of an archive file in a folder.
-ghost use Rattle.std.specs.Prelude.{◌≡◌, ◌≤◌, ℕ, List, Some, None, IfOk, IfErr};
+ghost use Rattle.std.specs.Prelude.{◌≡◌, ◌≤◌, ◌-◌, ℕ, List, Some, None, IfOk, IfErr};
 ghost use Rattle.key_spec.specs.Data.{PlainRule};
 ghost use Rattle.keyed_tree.specs.Data.{PlainKeyed};
 ghost use Rattle.archive_tree.specs.Data.{PlainArchive};
@@ -8,19 +8,23 @@ ghost use Rattle.archive_file.specs.Sound.{SoundAs};
 ghost use Rattle.xa_outside.specs.Causes.{Rose};
 ghost use Rattle.xa_outside.specs.Folder.{Files, front_of};
 ghost use Rattle.xa_outside.specs.Numbers.{PullsAtMost};
-ghost use Rattle.archive_stats.specs.Counts.{counts};
+ghost use Rattle.record_cursor.specs.View.{header_view};
+ghost use Rattle.archive_stats.specs.Counted.{FileCounted, seen};
+ghost use Rattle.archive_stats.specs.Counts.{counts, end_bodies};
+ghost use Rattle.archive_stats.specs.Tally.{before_records};
 ghost use Rattle.archive_stats.specs.View.{counts_view, IfDamage, IfFolder};
 
 use crate::counts::Counts;
 use crate::fault::StatsFault;
-use crate::scan::count_file;
-use archive_file::{FileFault, decode_file};
+use crate::records::count_records;
+use record_cursor::{Cursor, CursorFault, Header, read_header};
 use std::alloc::Global;
-use xa_outside::{Folder, ReadFault, read_front};
+use xa_outside::Folder;
 
 /// What is counted of the archive that the first `length` bytes of a file are.
 ///
-/// It reads these bytes whole and decodes them. A file with fewer bytes is damaged.
+/// It reads the file record by record, and holds one of them and the counts. A file with fewer
+/// bytes is damaged; other damage is noticed only where no record stands that may come there.
 pub fn stats<F: Folder>(
     alloc: Global,
     folder: &mut F,
@@ -46,30 +50,54 @@ pub fn stats<F: Folder>(
         → IfErr result (λ e. IfDamage e ((rules : List PlainRule) (vs : List PlainKeyed)
         → ¬ (SoundAs rules vs bytes))) }
 
+    // Over a sound archive the bodies of its END records are not read, whatever is answered.
+    ensures few { (files : Files) (bytes : List ℕ) (rules : List PlainRule)
+        (vs : List PlainKeyed) (a : PlainArchive)
+        → F.files folder.old ≡ Some files → front_of files name.now length ≡ Some bytes
+        → SoundAs rules vs bytes → ArchiveOf vs a → PullsAtMost (length - end_bodies a)
+        (F.numbers folder.old) (F.numbers folder.new) }
+
     // There are no counts of a file that has fewer bytes.
     ensures short { (files : Files) → F.files folder.old ≡ Some files
         → front_of files name.now length ≡ None → IfOk result (λ c. ⊥) }
 {
-    match read_front(alloc, folder, name, length) {
-        Ok(bytes) if (bytes.len() as u64) < length => Err(StatsFault::Damage),
-        Ok(bytes) => count_sound(alloc, &bytes),
-        Err(ReadFault::Folder) => Err(StatsFault::Folder),
-        Err(ReadFault::Memory) => Err(StatsFault::Memory),
+    match count_file(alloc, folder, name, length) {
+        Ok(counts) => Ok(counts),
+        Err(fault) => Err(StatsFault::from(fault)),
     }
 }
 
-// What is counted of the archive that the bytes are.
-fn count_sound(alloc: Global, bytes: &[u8]) -> Result<Counts, StatsFault>
-    ensures counts { (rules : List PlainRule) (vs : List PlainKeyed) (a : PlainArchive)
-        → SoundAs rules vs bytes.now → ArchiveOf vs a
-        → IfOk result (λ c. counts_view c ≡ counts rules a) }
-    ensures damage { IfErr result (λ e. IfDamage e ((rules : List PlainRule) (vs : List PlainKeyed)
-        → ¬ (SoundAs rules vs bytes.now))) }
-    ensures no_folder { IfErr result (λ e. IfFolder e ⊥) }
+/// Counts the records of a file one after the other.
+pub(crate) fn count_file<F: Folder>(
+    alloc: Global,
+    folder: &mut F,
+    name: &str,
+    length: u64,
+) -> Result<Counts, CursorFault>
+    ensures { FileCounted name.now length (seen F.files F.draft F.numbers F.faults folder.old)
+        (seen F.files F.draft F.numbers F.faults folder.new) result }
 {
-    match decode_file(alloc, bytes) {
-        Ok((_, archive)) => Ok(count_file(archive.n(), bytes)),
-        Err(FileFault::Damage) => Err(StatsFault::Damage),
-        Err(FileFault::Memory) => Err(StatsFault::Memory),
+    match read_header(alloc, folder, name, length) {
+        Ok(header) => match Cursor::start(alloc, name, &header) {
+            Ok(mut cursor) => count_records(folder, &mut cursor, none_counted(&header)),
+            Err(_) => Err(CursorFault::Memory),
+        },
+        Err(fault) => Err(fault),
+    }
+}
+
+// The counts of a file with this header, before its records.
+fn none_counted(header: &Header) -> Counts
+    ensures { counts_view result ≡ before_records (header_view header.now).versions
+        (header_view header.now).first (header_view header.now).length }
+{
+    Counts {
+        versions: header.versions,
+        inner: 0,
+        leaves: 0,
+        alternatives: 0,
+        stamps: 0,
+        largest: header.first,
+        bytes: header.length,
     }
 }

@@ -5,8 +5,7 @@ mod counts;
 mod fault;
 mod file;
 mod memory;
-mod record;
-mod scan;
+mod records;
 
 pub use counts::Counts;
 pub use fault::StatsFault;
