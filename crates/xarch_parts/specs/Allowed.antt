@@ -1,9 +1,9 @@
 -- How a command ends, by what it may do.
-use Rattle.std.specs.Prelude.{◌⊎◌, Option, Some, None, Result, Ok, Err}
+use Rattle.std.specs.Prelude.{◌≡◌, ◌⊎◌, Option, Some, None, Result, Ok, Err}
 use Rattle.xa_outside.specs.Folder.{Files}
 use Rattle.xa_outside.specs.Taken.{Taken, Takes, TakesNone, TakesPrefix}
 use Rattle.xarch_words.specs.Refusal.{Refusal, PlainFault, refused}
-use Rattle.xarch_parts.specs.Ends.{TellsOnly}
+use Rattle.xarch_parts.specs.Ends.{Gained, TellsOnly}
 use Rattle.xarch_parts.specs.Outcome.{Outcome, output_of}
 
 -- it did what it may do
@@ -29,3 +29,15 @@ unfoldable pub MayEnd : (Result Outcome Refusal → Type 0) → Option PlainFaul
 MayEnd allowed None after old new = DidSome allowed after old new
 MayEnd allowed (Some (refused r)) after old new = RefusedBy allowed r old new
 MayEnd allowed (Some _) after old new = TakesNone old new ⊎ PutSome allowed old new
+
+-- it had written something when it was refused, as it may be, by a refusal that may come late
+pub record RefusedLate (comes_late : Refusal → Type 0) (allowed : Result Outcome Refusal → Type 0) (ended : Option PlainFault) (old new : Taken) : Type 0 where
+  pub refusal : Refusal
+  pub is : ended ≡ Some (refused refusal)
+  pub late : comes_late refusal
+  pub may : allowed (Err refusal)
+  pub output : Gained old new
+
+-- The same of a command of which some refusals may come late, behind output.
+abbrev pub MayEndLate : (Refusal → Type 0) → (Result Outcome Refusal → Type 0) → Option PlainFault → Option Files → Taken → Taken → Type 0
+MayEndLate late allowed ended after old new = MayEnd allowed ended after old new ⊎ RefusedLate late allowed ended old new

@@ -8,7 +8,7 @@ use Rattle.xa_outside.specs.TakenLaws.{Takes-nil, Takes-kept, TakesNone-refl, Ta
 use Rattle.xarch_words.specs.Refusal.{Refusal, PlainFault, refused, folder_fault, out_fault, in_fault, memory}
 use Rattle.xarch_words.specs.View.{fault_view}
 use Rattle.xarch_words.specs.declared.fault.Fault.{Fault}
-use Rattle.xarch_parts.specs.Archives.{IsDrafted}
+use Rattle.xarch_parts.specs.Archives.{IsDrafted, NoRefusal}
 use Rattle.xarch_parts.specs.Ends.{fault_of, EndsGained, Gained, IsDefined, IsOfOutput, TellsOnly}
 use Rattle.xarch_parts.specs.Outcome.{Outcome, output_of}
 use Rattle.xarch_parts.specs.Allowed.{MayEnd, PutSome}
@@ -32,6 +32,20 @@ module _ (M : Result Outcome Refusal → Type 0) where
   pub MayEnd-passed : (r : Result Unit Fault) (f : Fault) (after : Option Files) (t : Taken) → IsErrAnd r (λ g. g ≡ f) → ((q : Refusal) → fault_view f ≡ refused q → M (Err q)) → MayEnd M (fault_of r) after t t
   MayEnd-passed (Ok u) f after t h p = absurd h
   MayEnd-passed (Err g) f after t h p = subst (λ (z : Fault). MayEnd M (Some (fault_view z)) after t t) (sym h) (MayEnd-stopped (fault_view f) after t p)
+
+  -- it was refused, and had written nothing
+  pub MayEnd-refused : (r : Refusal) (after : Option Files) (old new : Taken) → M (Err r) → TakesNone old new → MayEnd M (Some (refused r)) after old new
+  unfolding MayEnd
+  MayEnd-refused r after old new may none = record { may = may; output = none }
+
+  -- a fault of the outside, or want of memory
+  pub MayEnd-outside : (v : PlainFault) (after : Option Files) (old new : Taken) → NoRefusal v → TakesNone old new ⊎ PutSome M old new → MayEnd M (Some v) after old new
+  unfolding MayEnd
+  MayEnd-outside (refused r) after old new other d = absurd (other r refl)
+  MayEnd-outside folder_fault after old new other d = d
+  MayEnd-outside out_fault after old new other d = d
+  MayEnd-outside in_fault after old new other d = d
+  MayEnd-outside memory after old new other d = d
 
   no_refusal : (f : Fault) → fault_view f ≡ folder_fault → (q : Refusal) → fault_view f ≡ refused q → M (Err q)
   no_refusal f e q h = let wrong : folder_fault ≡ refused q = sym e ∙ h in absurd cc

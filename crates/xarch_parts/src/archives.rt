@@ -1,16 +1,14 @@
 #![tactic(auto, using(crate::specs::EndLaws::endings), unfolding(crate::specs::Ends::IsInside, crate::specs::Ends::IsOfFolder, crate::specs::Ends::IsDefined))]
 
-ghost use Rattle.std.specs.Prelude.{◌≡◌, ◌≤◌, ℕ, List, length, Some, IfOk, IfErr, OnOk};
+ghost use Rattle.std.specs.Prelude.{◌≡◌, ◌≤◌, ℕ, List, Some, IfOk, IfErr, OnOk};
 ghost use Rattle.std.specs.FinMap as map;
 ghost use Rattle.xa_outside.specs.Folder.{Files, committed};
 ghost use Rattle.key_spec.specs.Data.{PlainRule};
 ghost use Rattle.key_spec.specs.View.{spec_view};
 ghost use Rattle.keyed_tree.specs.Data.{PlainKeyed};
 ghost use Rattle.archive_tree.specs.ArchiveView.{archive_view};
-ghost use Rattle.keyed_tree.specs.Alike.{AllAlike};
 ghost use Rattle.archive_tree.specs.Stands.{ArchiveOf};
 ghost use Rattle.record_format.specs.Files.{FileOf};
-ghost use Rattle.record_format.specs.Fronts.{header};
 ghost use Rattle.archive_file.specs.KeyedBy.{AreKeyedBy};
 ghost use Rattle.archive_file.specs.Sound.{SoundAs};
 ghost use Rattle.xarch_words.specs.Refusal as refusal;
@@ -19,11 +17,10 @@ ghost use Rattle.xarch_words.specs.View.{fault_view};
 ghost use Rattle.xarch_parts.specs.Archives.{IsBlank, IsDrafted, IsRefusal, NoRefusal, free_in};
 ghost use Rattle.xarch_parts.specs.Ends.{IsCaused, IsInside, Matches, TellsOnly, fault_of};
 ghost use Rattle.xarch_parts.specs.Folders.{Begins, ReadsOnly, WritesOnly};
-ghost use Rattle.xarch_parts.specs.Outcome.{or_refuse};
 
 use crate::limits;
-use crate::names::{damaged, exists};
-use archive_file::{EncodeFault, FileFault, decode_file, encode_file, header_of};
+use crate::names::exists;
+use archive_file::{EncodeFault, encode_file};
 use archive_tree::Archive;
 use key_spec::Spec;
 use std::alloc::Global;
@@ -98,43 +95,6 @@ pub fn commit<F: Folder>(folder: &mut F, name: &str) -> Result<(), Fault>
     match folder.commit(name) {
         Ok(()) => Ok(()),
         Err(_) => Err(Fault::FolderFault),
-    }
-}
-
-/// The specification and the number of versions of the archive of this name, whose bytes these are.
-/// What stands behind its header is not looked at.
-pub fn header_from(alloc: Global, name: &str, bytes: &[u8]) -> Result<(Spec, u32), Fault>
-    ensures cause { IsInside (fault_of result) }
-    ensures told { Matches (λ h. (spec_view h.0, h.1))
-        (or_refuse (header bytes.now) (refusal.damaged name.now)) result }
-    ensures header { IfOk result (λ h. header bytes.now ≡ Some (spec_view h.0, h.1)) }
-    ensures sound { (rules : List PlainRule) (vs : List PlainKeyed) → SoundAs rules vs bytes.now
-        → header bytes.now ≡ Some (rules, length vs) }
-{
-    match header_of(alloc, bytes) {
-        Ok(header) => Ok(header),
-        Err(FileFault::Damage) => Err(damaged(alloc, name)),
-        Err(FileFault::Memory) => Err(Fault::Memory),
-    }
-}
-
-/// The specification and the archive of this name, whose bytes these are. It goes over them once.
-pub fn archive_from(alloc: Global, name: &str, bytes: &[u8]) -> Result<(Spec, Archive), Fault>
-    ensures cause { IsInside (fault_of result) }
-    ensures damaged { IfErr result (λ f. IsRefusal (refusal.damaged name.now) (fault_view f)) }
-    ensures sound { IfOk result (λ r. (vs : List PlainKeyed) → ArchiveOf vs (archive_view r.1)
-        → SoundAs (spec_view r.0) vs bytes.now) }
-    ensures only { (rules : List PlainRule) (vs : List PlainKeyed) → SoundAs rules vs bytes.now
-        → IfOk result (λ r. (spec_view r.0 ≡ rules) × ArchiveOf vs (archive_view r.1)) }
-    ensures reads { (rules : List PlainRule) (vs : List PlainKeyed) → SoundAs rules vs bytes.now
-        → IfErr result (λ f. NoRefusal (fault_view f)) }
-    ensures alike { IfOk result (λ r. (vs : List PlainKeyed) → AreKeyedBy (spec_view r.0) vs
-        → AllAlike vs) }
-{
-    match decode_file(alloc, bytes) {
-        Ok(read) => Ok(read),
-        Err(FileFault::Damage) => Err(damaged(alloc, name)),
-        Err(FileFault::Memory) => Err(Fault::Memory),
     }
 }
 

@@ -85,14 +85,3 @@ pub fn read_whole<F: Folder>(
         Err(ReadFault::Memory) => Err(Fault::Memory),
     }
 }
-
-/// The bytes of a file, whatever its length, each read once, and all held in memory.
-pub fn read_file<F: Folder>(alloc: Global, folder: &mut F, name: &str) -> Result<Vec<u8>, Fault>
-    ensures reads { ReadsOnly F.files F.draft F.numbers F.faults
-        (size_in (F.files folder.old) name.now) folder.old folder.new (fault_of result) }
-    ensures told { (files : Files) → F.files folder.old ≡ Some files
-        → Matches (λ v. v.items) (file_of files name.now) result }
-{
-    let length = length_of(alloc, folder, name)?;
-    read_whole(alloc, folder, name, length)
-}

@@ -11,9 +11,9 @@ mod names;
 mod put;
 mod readings;
 
-pub use archives::{archive_from, begin, check_free, commit, draft, file_from, header_from, store};
+pub use archives::{begin, check_free, commit, draft, file_from, store};
 pub use fronts::read_front;
-pub use inputs::{at_most, length_of, limited_length, read_file, read_whole};
+pub use inputs::{at_most, length_of, limited_length, read_whole};
 pub use merged::file_of_versions;
 pub use names::damaged;
 pub use put::{write_bytes, write_keyed};

@@ -1,12 +1,13 @@
 -- Calls of the program and lines of a batch are commands.
-use Rattle.std.proofs.Common.{◌≡◌, ◌≢◌, inl, inr, ℕ, Bool, true, false, List, [], ◌∷◌, ◌++◌, map, length, nat_lt, Option, Some, None, Result, Err, refl, sym, ap, ◌∙◌, subst}
+use Rattle.std.proofs.Common.{◌≡◌, ◌≢◌, inl, inr, ℕ, Bool, true, false, List, [], ◌∷◌, ◌++◌, map, length, nat_lt, Option, Some, None, Err, refl, sym, ap, ◌∙◌, subst}
 use Rattle.std.specs.Prelude.{IsSome, MatchBool, option_and_then, if◌then◌else◌}
 use Rattle.xa_outside.specs.Folder.{Files}
 use Rattle.xa_outside.specs.Taken.{Taken}
 use Rattle.xarch_words.specs.Commands.{PlainCommand, batch, command_of}
-use Rattle.xarch_words.specs.Refusal.{line, PlainFault, Refusal, limit}
-use Rattle.xarch_parts.specs.Outcome.{Outcome, Step, step_from}
-use Rattle.xarch_steps.specs.Plausible.{MayDo, Plausible, Tried}
+use Rattle.xarch_words.specs.Refusal.{line, PlainFault, limit}
+use Rattle.xarch_parts.specs.Outcome.{Step, step_from}
+use Rattle.xarch_steps.specs.Plausible.{MayStep, Plausible, Tried}
+use Rattle.xarch_steps.specs.PlausibleLaws.{no-late, plain-step}
 use Rattle.xarch_steps.specs.Ran.{outside_of}
 use Rattle.xarch_steps.specs.Step.{single_of}
 use Rattle.xarch_run.specs.Calls.{Call, CallDid, CallsDid, CommandMay, CommandsDid, DidCommands, CommandsLead}
@@ -16,12 +17,12 @@ use Rattle.xarch_run.proofs.Runs.{files_after-append}
 
 -- ---- one command
 
-by-command : (files : Files) (command : Option PlainCommand) (r : Result Outcome Refusal) (s : Step) → MayDo files command r → s ≡ step_from files r → CommandMay files command s
-by-command files None r s may is = inl (is ∙ ap (step_from files) may)
-by-command files (Some command) r s may is = record { outcome = r; may = may; is = is }
-
 pub words-may : (files : Files) (words : List (List ℕ)) (s : Step) → Plausible files words s → CommandMay files (single_of words) s
-words-may files words s p = by-command files (single_of words) p.outcome s p.may p.is
+words-may files words s p = by-command (single_of words) p
+  where
+    by-command : (command : Option PlainCommand) → MayStep files command s → CommandMay files command s
+    by-command None m = inl (plain-step files None s m (no-late files None m.outcome (λ q late. late)) ∙ ap (step_from files) m.may)
+    by-command (Some command) m = m
 
 spelled-may : (files : Files) (words : Option (List (List ℕ))) (s : Step) → WordsMay files words s → CommandMay files (option_and_then single_of words) s
 spelled-may files None s is = inl is

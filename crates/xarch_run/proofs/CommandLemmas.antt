@@ -3,9 +3,9 @@ use Rattle.std.proofs.Common.{◌≡◌, ◌⊎◌, ◌↔◌, inl, inr, ℕ, Li
 use Rattle.xa_outside.specs.Causes.{Rose}
 use Rattle.xa_outside.specs.Folder.{Files}
 use Rattle.xa_outside.specs.Numbers.{Numbers}
-use Rattle.xarch_words.specs.Commands.{PlainCommand, norm, init, add, get, history, stats, batch, demo}
+use Rattle.xarch_words.specs.Commands.{PlainCommand, norm, init, add, get, history, check, stats, batch, demo}
 use Rattle.xarch_steps.specs.OnePass.{GoesOnce}
-use Rattle.xarch_steps.specs.Ran.{CountsAsSaid, OnlyReads}
+use Rattle.xarch_steps.specs.Ran.{CountsAsSaid, MayHaveWritten, OnlyReads}
 use Rattle.xarch_steps.specs.ReadsBack.{ReadsLittle}
 use Rattle.xarch_steps.specs.Step.{alone}
 use Rattle.xarch_steps.specs.Succeeds.{ShouldSucceed}
@@ -18,6 +18,7 @@ alone-reads (Some (init archive spec)) h = h
 alone-reads (Some (add archive doc)) h = h
 alone-reads (Some (get archive i)) h = h
 alone-reads (Some (history archive path)) h = h
+alone-reads (Some (check archive)) h = h
 alone-reads (Some (stats archive)) h = h
 alone-reads (Some batch) h = absurd h
 alone-reads (Some (demo seed count archive)) h = absurd h
@@ -30,12 +31,25 @@ alone-said P of (Some (init archive spec)) h = h
 alone-said P of (Some (add archive doc)) h = h
 alone-said P of (Some (get archive i)) h = h
 alone-said P of (Some (history archive path)) h = h
+alone-said P of (Some (check archive)) h = h
 alone-said P of (Some (stats archive)) h = h
 alone-said P of (Some batch) h = of
 alone-said P of (Some (demo seed count archive)) h = h
 
 pub alone-counts : (c : Option PlainCommand) (told : Option Files) (before after : Numbers) → CountsAsSaid (alone c) told before after → CountsAsSaid c told before after
 alone-counts c told before after = alone-said (λ d. CountsAsSaid d told before after) tt c
+
+pub alone-late : (c : Option PlainCommand) (answer : ℕ) → MayHaveWritten (alone c) answer → MayHaveWritten c answer
+alone-late None answer late = absurd late
+alone-late (Some (norm spec doc)) answer late = absurd late
+alone-late (Some (init archive spec)) answer late = absurd late
+alone-late (Some (add archive doc)) answer late = absurd late
+alone-late (Some (get archive i)) answer late = late
+alone-late (Some (history archive path)) answer late = absurd late
+alone-late (Some (check archive)) answer late = absurd late
+alone-late (Some (stats archive)) answer late = absurd late
+alone-late (Some batch) answer late = absurd late
+alone-late (Some (demo seed count archive)) answer late = absurd late
 
 pub alone-once : (c : Option PlainCommand) (told : Option Files) (before after : Numbers) (failed : Type 0) → GoesOnce (alone c) told before after failed → GoesOnce c told before after failed
 alone-once c told before after failed = alone-said (λ d. GoesOnce d told before after failed) tt c
@@ -57,6 +71,7 @@ none-alone (Some (init archive spec)) e other = absurd cc
 none-alone (Some (add archive doc)) e other = absurd cc
 none-alone (Some (get archive i)) e other = absurd cc
 none-alone (Some (history archive path)) e other = absurd cc
+none-alone (Some (check archive)) e other = absurd cc
 none-alone (Some (stats archive)) e other = absurd cc
 none-alone (Some batch) e other = absurd (other refl)
 none-alone (Some (demo seed count archive)) e other = absurd cc

@@ -12,7 +12,7 @@ use Rattle.record_format.specs.Files.{FileOf}
 use Rattle.archive_file.specs.KeyedBy.{IsKeyedBy}
 use Rattle.archive_file.specs.Sound.{SoundAs}
 use Rattle.xarch_gen.specs.Company.{company_rules}
-use Rattle.xarch_words.specs.Commands.{PlainCommand, norm, init, add, get, history, stats, batch, demo}
+use Rattle.xarch_words.specs.Commands.{PlainCommand, norm, init, add, get, history, check, stats, batch, demo}
 use Rattle.xarch_words.specs.Refusal.{specification, Refusal, exists, no_file}
 use Rattle.xarch_words.specs.Refusal as refusal
 use Rattle.xarch_steps.specs.Add.{added}
@@ -23,7 +23,8 @@ use Rattle.xarch_steps.specs.History.{history_text}
 use Rattle.xarch_steps.specs.Init.{init_rules}
 use Rattle.xarch_parts.specs.Inputs.{at_most, length_in, read_in}
 use Rattle.xarch_parts.specs.Outcome.{Outcome, Step, step_from}
-use Rattle.xarch_steps.specs.Plausible.{MayAdd, MayBe, add_input}
+use Rattle.xarch_steps.specs.Plausible.{MayAdd, MayBe, add_input, step_behind}
+use Rattle.xarch_steps.specs.PlausibleLaws.{late-unsound, no-late, plain-step}
 use Rattle.xarch_parts.specs.Readings.{rules_of}
 use Rattle.xarch_steps.specs.Succeeds.{ShouldSucceed}
 use Rattle.xarch_run.specs.Calls.{CommandMay, CommandsDid}
@@ -103,6 +104,7 @@ module _ (files : Files) (name : List ℕ) (h : Held) (a : Holds files name h) w
   done-goes o (add other doc) m = add-goes o other doc m
   done-goes o (get other i) m = record { held = h; first = refl; archive = unchanged o (get other i) refl m }
   done-goes o (history other path) m = record { held = h; first = refl; archive = unchanged o (history other path) refl m }
+  done-goes o (check other) m = record { held = h; first = refl; archive = unchanged o (check other) refl m }
   done-goes o (stats other) m = record { held = h; first = refl; archive = unchanged o (stats other) refl m }
   done-goes o batch m = record { held = h; first = refl; archive = unchanged o batch refl m }
   done-goes o (demo seed count other) m =
@@ -118,17 +120,18 @@ module _ (files : Files) (name : List ℕ) (h : Held) (a : Holds files name h) w
       (λ e. record { held = h; first = inr (other-name name other e, refl); archive = a })
   refused-goes q (get other i) m = record { held = h; first = refl; archive = a }
   refused-goes q (history other path) m = record { held = h; first = refl; archive = a }
+  refused-goes q (check other) m = record { held = h; first = refl; archive = a }
   refused-goes q (stats other) m = record { held = h; first = refl; archive = a }
   refused-goes q batch m = record { held = h; first = refl; archive = a }
   refused-goes q (demo seed count other) m = record { held = h; first = refl; archive = a }
 
-  outcome-goes : (command : PlainCommand) (r : Result Outcome Refusal) → MayBe files command r → Goes files name h (Some command) (step_from files r).files
-  outcome-goes command (Ok o) m = done-goes o command m
-  outcome-goes command (Err q) m = refused-goes q command m
+  outcome-goes : (command : PlainCommand) (written : List ℕ) (r : Result Outcome Refusal) → MayBe files command r → Goes files name h (Some command) (step_behind files written r).files
+  outcome-goes command written (Ok o) m = done-goes o command m
+  outcome-goes command written (Err q) m = refused-goes q command m
 
   step-goes : (command : Option PlainCommand) (s : Step) → CommandMay files command s → Goes files name h command s.files
   step-goes None s m = record { held = h; first = refl; archive = subst (λ (u : Files). Holds u name h) (sym (none-kept files s m)) a }
-  step-goes (Some command) s m = subst (λ (z : Step). Goes files name h (Some command) z.files) (sym m.is) (outcome-goes command m.outcome m.may)
+  step-goes (Some command) s m = subst (λ (z : Step). Goes files name h (Some command) z.files) (sym m.is) (outcome-goes command m.written m.outcome m.may)
 
 -- ---- what steps leave
 
@@ -164,6 +167,7 @@ one-by files name (Some (add other doc)) h i j (inr p) (inl q) = absurd (p.0 q.0
 one-by files name (Some (add other doc)) h i j (inr p) (inr q) = p.1 ∙ sym q.1
 one-by files name (Some (get other i)) h j k p q = p ∙ sym q
 one-by files name (Some (history other path)) h i j p q = p ∙ sym q
+one-by files name (Some (check other)) h i j p q = p ∙ sym q
 one-by files name (Some (stats other)) h i j p q = p ∙ sym q
 one-by files name (Some batch) h i j p q = p ∙ sym q
 one-by files name (Some (demo seed count other)) h i j p q = p ∙ sym q
@@ -177,16 +181,16 @@ one-after files name (c ∷ cs) (s ∷ ss) h i j p q =
 
 -- ---- refusals
 
-outcome-refused : (files : Files) (s : Step) (r : Result Outcome Refusal) → s ≡ step_from files r → s.status ≢ 0 → s.files ≡ files
-outcome-refused files s r is = subst (λ (z : Step). z.status ≢ 0 → z.files ≡ files) (sym is) (kept r)
+outcome-refused : (files : Files) (s : Step) (written : List ℕ) (r : Result Outcome Refusal) → s ≡ step_behind files written r → s.status ≢ 0 → s.files ≡ files
+outcome-refused files s written r is = subst (λ (z : Step). z.status ≢ 0 → z.files ≡ files) (sym is) (kept r)
   where
-    kept : (r : Result Outcome Refusal) → (step_from files r).status ≢ 0 → (step_from files r).files ≡ files
+    kept : (r : Result Outcome Refusal) → (step_behind files written r).status ≢ 0 → (step_behind files written r).files ≡ files
     kept (Ok o) other = absurd (other refl)
     kept (Err q) other = refl
 
 step-refused : (files : Files) (command : Option PlainCommand) (s : Step) → CommandMay files command s → s.status ≢ 0 → s.files ≡ files
 step-refused files None s m other = none-kept files s m
-step-refused files (Some command) s m other = outcome-refused files s m.outcome m.is other
+step-refused files (Some command) s m other = outcome-refused files s m.written m.outcome m.is other
 
 pub all-refused : (files : Files) (cs : List (Option PlainCommand)) (ss : List Step) → CommandsDid files cs ss → RefusalsKeep files ss
 all-refused files [] [] did = tt
@@ -194,8 +198,8 @@ all-refused files [] (s ∷ ss) did = absurd did
 all-refused files (c ∷ cs) [] did = tt
 all-refused files (c ∷ cs) (s ∷ ss) did = (step-refused files c s did.0, all-refused s.files cs ss did.1)
 
-refused-status : {X : Type 0} (files : Files) (s : Step) (q : Refusal) → s ≡ step_from files (Err q) → s.status ≡ 0 → X
-refused-status files s q is success =
+refused-status : {X : Type 0} (files : Files) (s : Step) (written : List ℕ) (q : Refusal) → s ≡ step_behind files written (Err q) → s.status ≡ 0 → X
+refused-status files s written q is success =
     absurd (status-other q (sym (ap (λ (z : Step). z.status) is) ∙ success))
 
 -- ---- how an archive begins
@@ -222,18 +226,19 @@ command-begins files name (init other spec) o makes m = init-begins files name o
 command-begins files name (add other doc) o makes m = absurd makes
 command-begins files name (get other i) o makes m = absurd makes
 command-begins files name (history other path) o makes m = absurd makes
+command-begins files name (check other) o makes m = absurd makes
 command-begins files name (stats other) o makes m = absurd makes
 command-begins files name batch o makes m = absurd makes
 command-begins files name (demo seed count other) o makes m = demo-begins files name other seed count o makes m
 
-outcome-begins : (files : Files) (name : List ℕ) (command : PlainCommand) (s : Step) (r : Result Outcome Refusal) → MayBe files command r → s ≡ step_from files r → s.status ≡ 0 → MakesArchive name (Some command)
+outcome-begins : (files : Files) (name : List ℕ) (command : PlainCommand) (s : Step) (written : List ℕ) (r : Result Outcome Refusal) → MayBe files command r → s ≡ step_behind files written r → s.status ≡ 0 → MakesArchive name (Some command)
     → Begun files name (Some command) s.files
-outcome-begins files name command s (Err q) m is success makes = refused-status files s q is success
-outcome-begins files name command s (Ok o) m is success makes = subst (λ (z : Step). Begun files name (Some command) z.files) (sym is) (command-begins files name command o makes m)
+outcome-begins files name command s written (Err q) m is success makes = refused-status files s written q is success
+outcome-begins files name command s written (Ok o) m is success makes = subst (λ (z : Step). Begun files name (Some command) z.files) (sym is) (command-begins files name command o makes m)
 
 pub step-begins : (files : Files) (name : List ℕ) (command : Option PlainCommand) (s : Step) → CommandMay files command s → s.status ≡ 0 → MakesArchive name command → Begun files name command s.files
 step-begins files name None s m success makes = absurd makes
-step-begins files name (Some command) s m success makes = outcome-begins files name command s m.outcome m.may m.is success makes
+step-begins files name (Some command) s m success makes = outcome-begins files name command s m.written m.outcome m.may m.is success makes
 
 -- what begins an archive makes one
 begins-makes : (files : Files) (name : List ℕ) (command : Option PlainCommand) (h : Held) → BeginsWith files name command h → MakesArchive name command
@@ -243,6 +248,7 @@ begins-makes files name (Some (init other spec)) h b = b.0
 begins-makes files name (Some (add other doc)) h b = b
 begins-makes files name (Some (get other i)) h b = b
 begins-makes files name (Some (history other path)) h b = b
+begins-makes files name (Some (check other)) h b = b
 begins-makes files name (Some (stats other)) h b = b
 begins-makes files name (Some batch) h b = b
 begins-makes files name (Some (demo seed count other)) h b = b.0
@@ -258,6 +264,7 @@ same-beginning files name (Some (init other spec)) h g b c = (one-reading (read_
 same-beginning files name (Some (add other doc)) h g b c = absurd b
 same-beginning files name (Some (get other i)) h g b c = absurd b
 same-beginning files name (Some (history other path)) h g b c = absurd b
+same-beginning files name (Some (check other)) h g b c = absurd b
 same-beginning files name (Some (stats other)) h g b c = absurd b
 same-beginning files name (Some batch) h g b c = absurd b
 same-beginning files name (Some (demo seed count other)) h g b c = let same : h ≡ g = b.1 ∙ sym c.1 in (ap (λ (z : Held). z.rules) same, ap (λ (z : Held). z.versions) same)
@@ -312,19 +319,20 @@ module _ (files : Files) (name : List ℕ) (none : finite.get files name ≡ Non
   one-absent (add other doc) refused m = by-name (bytes_eq name other) (λ e. add-absent other doc e m) (λ e. stays (others-kept files name o (Ok o) refl (add other doc) e m))
   one-absent (get other i) refused m = stays (others-kept files name o (Ok o) refl (get other i) refl m)
   one-absent (history other path) refused m = stays (others-kept files name o (Ok o) refl (history other path) refl m)
+  one-absent (check other) refused m = stays (others-kept files name o (Ok o) refl (check other) refl m)
   one-absent (stats other) refused m = stays (others-kept files name o (Ok o) refl (stats other) refl m)
   one-absent batch refused m = stays (others-kept files name o (Ok o) refl batch refl m)
   one-absent (demo seed count other) refused m = by-name (bytes_eq name other) (λ e. absurd (refused (same-name name other e))) (λ e. stays (others-kept files name o (Ok o) refl (demo seed count other) e m))
 
-outcome-absent : (files : Files) (name : List ℕ) (command : PlainCommand) (s : Step) (r : Result Outcome Refusal) → finite.get files name ≡ None → MayBe files command r → s ≡ step_from files r
+outcome-absent : (files : Files) (name : List ℕ) (command : PlainCommand) (s : Step) (written : List ℕ) (r : Result Outcome Refusal) → finite.get files name ≡ None → MayBe files command r → s ≡ step_behind files written r
     → (MakesArchive name (Some command) → s.status ≢ 0) → finite.get s.files name ≡ None
-outcome-absent files name command s (Err q) none m is refused = subst (λ (z : Step). finite.get z.files name ≡ None) (sym is) none
-outcome-absent files name command s (Ok o) none m is refused =
+outcome-absent files name command s written (Err q) none m is refused = subst (λ (z : Step). finite.get z.files name ≡ None) (sym is) none
+outcome-absent files name command s written (Ok o) none m is refused =
     subst (λ (z : Step). finite.get z.files name ≡ None) (sym is) (one-absent files name none o command (λ makes. refused makes (ap (λ (z : Step). z.status) is)) m)
 
 step-absent : (files : Files) (name : List ℕ) (command : Option PlainCommand) (s : Step) → finite.get files name ≡ None → CommandMay files command s → (MakesArchive name command → s.status ≢ 0) → finite.get s.files name ≡ None
 step-absent files name None s none m refused = subst (λ (u : Files). finite.get u name ≡ None) (sym (none-kept files s m)) none
-step-absent files name (Some command) s none m refused = outcome-absent files name command s m.outcome none m.may m.is refused
+step-absent files name (Some command) s none m refused = outcome-absent files name command s m.written m.outcome none m.may m.is refused
 
 pub all-absent : (files : Files) (name : List ℕ) (cs : List (Option PlainCommand)) (ss : List Step) → finite.get files name ≡ None → CommandsDid files cs ss → NoneMakes name cs ss → finite.get (files_after files ss) name ≡ None
 all-absent files name [] [] none did refused = none
@@ -338,28 +346,28 @@ module _ (files : Files) (name : List ℕ) (h : Held) (s : Step) (a : Holds file
   pub satisfying : (doc : List ℕ) (k : PlainKeyed) → CommandMay files (Some (add name doc)) s → IsHandedIn files doc h k → s.status ≡ 0
   satisfying doc k m handed = by_outcome m.outcome m.may m.is
     where
-      by_outcome : (r : Result Outcome Refusal) → MayBe files (add name doc) r → s ≡ step_from files r → s.status ≡ 0
+      by_outcome : (r : Result Outcome Refusal) → MayBe files (add name doc) r → s ≡ step_behind files m.written r → s.status ≡ 0
       by_outcome (Ok o) may is = ap (λ (z : Step). z.status) is
       by_outcome (Err q) may is = absurd (not-refused files name h a doc k q handed may)
 
   pub accepted : (doc : List ℕ) → CommandMay files (Some (add name doc)) s → s.status ≡ 0 → Accepted files name doc h s.files
   accepted doc m success = by_outcome m.outcome m.may m.is
     where
-      by_outcome : (r : Result Outcome Refusal) → MayBe files (add name doc) r → s ≡ step_from files r → Accepted files name doc h s.files
+      by_outcome : (r : Result Outcome Refusal) → MayBe files (add name doc) r → s ≡ step_behind files m.written r → Accepted files name doc h s.files
       by_outcome (Ok o) may is = subst (λ (z : Step). Accepted files name doc h z.files) (sym is) (was-handed files name h a doc o may)
-      by_outcome (Err q) may is = refused-status files s q is success
+      by_outcome (Err q) may is = refused-status files s m.written q is success
 
   pub getting : (i : ℕ) → CommandMay files (Some (get name i)) s → s ≡ step_from files (version_text files h.versions i)
   unfolding MayBe
-  getting i m = m.is ∙ ap (step_from files) (m.may.sound h.rules h.versions a)
+  getting i m = plain-step files (Some (get name i)) s m (late-unsound files name i h.rules h.versions m.outcome a m.may) ∙ ap (step_from files) (m.may.sound h.rules h.versions a)
 
   pub telling : (path : List ℕ) → CommandMay files (Some (history name path)) s → s ≡ step_from files (history_text files h.rules h.versions path)
   unfolding MayBe
-  telling path m = m.is ∙ ap (step_from files) (m.may.sound h.rules h.versions a)
+  telling path m = plain-step files (Some (history name path)) s m (no-late files (Some (history name path)) m.outcome (λ q late. late)) ∙ ap (step_from files) (m.may.sound h.rules h.versions a)
 
   pub counting : CommandMay files (Some (stats name)) s → WritesCounts files h s
   unfolding MayBe
-  counting m = record { outcome = m.outcome; counts = m.may.sound h.rules h.versions a; is = m.is }
+  counting m = record { outcome = m.outcome; counts = m.may.sound h.rules h.versions a; is = plain-step files (Some (stats name)) s m (no-late files (Some (stats name)) m.outcome (λ q late. late)) }
 
 -- ---- what is held
 
@@ -392,6 +400,6 @@ pub should-succeed : ((files : Files) (command : PlainCommand) (q : Refusal) →
     → (files : Files) (command : PlainCommand) (s : Step) → CommandMay files (Some command) s → ShouldSucceed files command → s.status ≡ 0
 should-succeed never files command s m should = by_outcome m.outcome m.may m.is
   where
-    by_outcome : (r : Result Outcome Refusal) → MayBe files command r → s ≡ step_from files r → s.status ≡ 0
+    by_outcome : (r : Result Outcome Refusal) → MayBe files command r → s ≡ step_behind files m.written r → s.status ≡ 0
     by_outcome (Ok o) may is = ap (λ (z : Step). z.status) is
     by_outcome (Err q) may is = absurd (never files command q should may)

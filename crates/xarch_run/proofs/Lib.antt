@@ -11,6 +11,7 @@ pub mod SayLemmas
 pub mod StaysLemmas
 pub mod BatchLemmas
 pub mod CommandLemmas
+pub mod CheckLemmas
 pub mod OneFile
 pub mod HeldLemmas
 pub mod CallLemmas

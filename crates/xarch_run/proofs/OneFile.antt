@@ -10,10 +10,11 @@ use Rattle.xa_outside.specs.Folder.{Files}
 use Rattle.key_spec.specs.Data.{PlainRule}
 use Rattle.keyed_tree.specs.Data.{PlainKeyed}
 use Rattle.xarch_gen.specs.Company.{company_rules}
-use Rattle.xarch_words.specs.Commands.{PlainCommand, norm, init, add, get, history, stats, batch, demo}
+use Rattle.xarch_words.specs.Commands.{PlainCommand, norm, init, add, get, history, check, stats, batch, demo}
 use Rattle.xarch_words.specs.Refusal.{document, specification, Refusal, usage, no_file, exists, damaged, limit}
 use Rattle.xarch_words.specs.Refusal as refusal
 use Rattle.xarch_parts.specs.Archives.{ArchiveIs, GoesOn, Stores, free_in}
+use Rattle.xarch_steps.specs.Check.{IsFound, check_text}
 use Rattle.xarch_steps.specs.Demo.{MakesOrNone, demo_input, samples}
 use Rattle.xarch_steps.specs.Init.{init_rules}
 use Rattle.xarch_parts.specs.Inputs.{file_of, length_in, read_in}
@@ -90,6 +91,10 @@ module _ (files : Files) (name : List ℕ) (o : Outcome) where
     write-keeps other (inl q) = never o (damaged other) r is q
     write-keeps other (inr w) = same-files (kept-by files o r w.output is w.is)
 
+    judge-keeps : (other bytes : List ℕ) → IsFound files other bytes r → Keeps
+    judge-keeps other bytes (inl p) = same-files (kept-by files o r (check_text (length p.sound.versions)) is p.is)
+    judge-keeps other bytes (inr p) = never o (damaged other) r is p.is
+
     add-elsewhere : (other : List ℕ) → bytes_eq name other ≡ false → MayAdd files other r → Keeps
     add-elsewhere other e (inl q) = never o (damaged other) r is q
     add-elsewhere other e (inr (inl q)) = never o (limit refusal.archive 274877906944) r is q
@@ -110,6 +115,7 @@ module _ (files : Files) (name : List ℕ) (o : Outcome) where
     others-kept (add other doc) e h = goes o (add_input files other doc) (λ _. MayAdd files other) r is h.whatever (λ _ _ m. add-elsewhere other e m)
     others-kept (get other i) e h = goes o (get_input files other i) (λ _. MayWrite files other) r is h.whatever (λ _ _ m. write-keeps other m)
     others-kept (history other path) e h = goes o (history_input files other path) (λ _. MayWrite files other) r is h.whatever (λ _ _ m. write-keeps other m)
+    others-kept (check other) e h = goes o (file_of files other) (IsFound files other) r is h (λ bytes _ m. judge-keeps other bytes m)
     others-kept (stats other) e h = goes o (file_of files other) (λ _. MayWrite files other) r is h.whatever (λ _ _ m. write-keeps other m)
     others-kept batch e h = never o usage r is h
     others-kept (demo seed count other) e h = goes o (demo_input files count other) (λ _. MakesOrNone files other seed count) r is h (λ _ _ m. makes-elsewhere other seed count e m)

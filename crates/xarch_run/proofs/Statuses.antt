@@ -1,5 +1,5 @@
 -- The statuses of refusals, which are those from 2 to 12.
-use Rattle.std.proofs.Common.{◌≡◌, ◌≢◌, ◌⊎◌, inl, inr, ℕ, ◌==◌, ◌≤◌, Bool, true, false, cond, None, Some, refl, ap, arith}
+use Rattle.std.proofs.Common.{◌≡◌, ◌≢◌, ◌⊎◌, inl, inr, ℕ, List, ◌==◌, ◌≤◌, Bool, true, false, cond, None, Some, refl, ap, arith}
 use Rattle.std.proofs.lemmas.Bool.{eqb-true}
 use Rattle.xarch_words.specs.Lines.{refusal_status}
 use Rattle.xarch_words.specs.Refusal.{Refusal, usage, no_file, exists, bad_spec, bad_json, bad_shape, key_fault, no_version, bad_path, damaged, limit, folder_fault, out_fault, in_fault, memory}
@@ -27,6 +27,20 @@ between q = elim (by-status q) [
 
 pub usage-only : (q : Refusal) → refusal_status q ≡ 2 → q ≡ usage
 usage-only q two = elim (by-status q) [ inl e ↦ e | inr h ↦ let low = h.0 in absurd (omega (arith, low, two)) ]
+
+-- 11 is the status of damage
+pub damage-only : (q : Refusal) → refusal_status q ≡ 11 → (name : List ℕ) × (q ≡ damaged name)
+damage-only usage e = absurd (omega (arith, e))
+damage-only (no_file n) e = absurd (omega (arith, e))
+damage-only (exists n) e = absurd (omega (arith, e))
+damage-only (bad_spec l w) e = absurd (omega (arith, e))
+damage-only bad_json e = absurd (omega (arith, e))
+damage-only (bad_shape p w) e = absurd (omega (arith, e))
+damage-only (key_fault f) e = absurd (omega (arith, e))
+damage-only (no_version i n) e = absurd (omega (arith, e))
+damage-only (bad_path t) e = absurd (omega (arith, e))
+damage-only (damaged name) e = (name, refl)
+damage-only (limit q n) e = absurd (omega (arith, e))
 
 pub status-other : (q : Refusal) → refusal_status q ≢ 0
 status-other q zero = let low = (between q).0 in omega (arith, low, zero)

@@ -9,25 +9,26 @@ use Rattle.xa_outside.specs.CauseLaws.{Rose-later}
 use Rattle.xa_outside.specs.Folder.{Files}
 use Rattle.xa_outside.specs.Taken.{Taken, Takes, TakesNone, TakesPrefix}
 use Rattle.xa_outside.specs.TakenLaws.{Takes-nil, Takes-kept, Takes-trans, TakesPrefix-all}
-use Rattle.xarch_words.specs.Commands.{PlainCommand, norm, init, add, get, history, stats, batch, demo}
+use Rattle.xarch_words.specs.Commands.{PlainCommand, norm, init, add, get, history, check, stats, batch, demo}
 use Rattle.xarch_words.specs.Lines.{fault_line, fault_status, refusal_status}
 use Rattle.xarch_words.specs.Refusal as refusal
-use Rattle.xarch_words.specs.Refusal.{Refusal, usage, line, limit, PlainFault, refused, folder_fault, out_fault, in_fault, memory}
+use Rattle.xarch_words.specs.Refusal.{Refusal, usage, damaged, line, limit, PlainFault, refused, folder_fault, out_fault, in_fault, memory}
 use Rattle.xarch_parts.specs.Ends.{Gained}
 use Rattle.xarch_parts.specs.Archives.{GoesOn, free_in}
 use Rattle.xarch_steps.specs.Demo.{MakesOrNone}
 use Rattle.xarch_parts.specs.Outcome.{Outcome, Step, and_then, step_from}
-use Rattle.xarch_steps.specs.Plausible.{MayBe, MayDo, Plausible, Tried, Wrote}
-use Rattle.xarch_steps.specs.Ran.{IsLongDemo, OnlyReads, Said, Says, line_after, outside_of, status_after}
+use Rattle.xarch_steps.specs.Plausible.{IsLate, MayBe, MayDo, Plausible, Tried, Wrote, step_behind}
+use Rattle.xarch_steps.specs.PlausibleLaws.{behind-none, late-get}
+use Rattle.xarch_steps.specs.Ran.{IsLongDemo, MayHaveWritten, OnlyReads, Said, Says, line_after, outside_of, status_after}
 use Rattle.xarch_steps.specs.Step.{alone, single_of}
 use Rattle.xarch_run.specs.Batch.{EndsTheBatch, Gains, IsPart, RunsOver, scene}
 use Rattle.xarch_run.specs.Lines.{is_blank, without_blanks}
-use Rattle.xarch_run.specs.Steps.{IsStep, LineAnswers, LineMay, MakesNone, MayFault, RefusesWith, SpelledAnswers, WordsAnswer, WordsMay, line_command, status_line}
+use Rattle.xarch_run.specs.Steps.{CommandAnswers, IsStep, LineAnswers, LineMay, MakesNone, MayFault, RefusesWith, SpelledAnswers, WordsAnswer, WordsMay, line_command, status_line}
 use Rattle.xarch_run.specs.Turns.{IsLastStatus, IsUntouched, LastStatus, LineFaults, LineRuns, LineStops, LineTakes, LineTried, LineWrote, NoStatus, NoWords, StatusComes, StatusEnds, StatusLost}
 use Rattle.xarch_run.specs.Words.{words_of}
 use Rattle.xarch_run.proofs.Cuts.{without_blanks-blank, without_blanks-other}
 use Rattle.xarch_run.proofs.Runs.{Gains-trans, RunsOver-none, RunsOver-one}
-use Rattle.xarch_run.proofs.Statuses.{outside_of-refusal, status-other, usage-only}
+use Rattle.xarch_run.proofs.Statuses.{damage-only, outside_of-refusal, status-other, usage-only}
 
 -- ---- statuses
 
@@ -138,6 +139,7 @@ long-refused files (Some (init archive spec)) r long may = absurd long
 long-refused files (Some (add archive doc)) r long may = absurd long
 long-refused files (Some (get archive i)) r long may = absurd long
 long-refused files (Some (history archive path)) r long may = absurd long
+long-refused files (Some (check archive)) r long may = absurd long
 long-refused files (Some (stats archive)) r long may = absurd long
 long-refused files (Some batch) r long may = absurd long
 long-refused files (Some (demo seed count archive)) r long may = by_test (nat_le count 1000) refl
@@ -153,6 +155,7 @@ long-or-not (Some (init archive spec)) = inr (λ long. long)
 long-or-not (Some (add archive doc)) = inr (λ long. long)
 long-or-not (Some (get archive i)) = inr (λ long. long)
 long-or-not (Some (history archive path)) = inr (λ long. long)
+long-or-not (Some (check archive)) = inr (λ long. long)
 long-or-not (Some (stats archive)) = inr (λ long. long)
 long-or-not (Some batch) = inr (λ long. long)
 long-or-not (Some (demo seed count archive)) = by_test (nat_lt 1000 count) refl
@@ -161,19 +164,85 @@ long-or-not (Some (demo seed count archive)) = by_test (nat_lt 1000 count) refl
     by_test true e = inl (ltb-true 1000 count e)
     by_test false e = inr (λ long. let few = ltb-false 1000 count e in omega (arith, few, long))
 
+-- an outcome that comes late
+record LateAnswer (c : Option PlainCommand) (r : Result Outcome Refusal) : Type 0 where
+  name : List ℕ
+  is : r ≡ Err (damaged name)
+  may : MayHaveWritten c 11
+
+late-answer : (files : Files) (c : Option PlainCommand) (r : Result Outcome Refusal) → IsLate files c r → LateAnswer c r
+late-answer files c (Ok o) late = absurd late
+late-answer files None (Err q) late = absurd late
+late-answer files (Some command) (Err q) late =
+    late-get files command q (LateAnswer (Some command) (Err q)) late (λ name i is damage. record { name = name; is = ap (λ z. Err z) damage; may = subst (λ (z : PlainCommand). MayHaveWritten (Some z) 11) (sym is) refl })
+
+-- the answer that comes late is of a `get`, and no other
+late-status : (c : Option PlainCommand) (answer : ℕ) → MayHaveWritten c answer → answer ≡ 11
+late-status None answer late = absurd late
+late-status (Some (norm spec doc)) answer late = absurd late
+late-status (Some (init archive spec)) answer late = absurd late
+late-status (Some (add archive doc)) answer late = absurd late
+late-status (Some (get archive i)) answer late = late
+late-status (Some (history archive path)) answer late = absurd late
+late-status (Some (check archive)) answer late = absurd late
+late-status (Some (stats archive)) answer late = absurd late
+late-status (Some batch) answer late = absurd late
+late-status (Some (demo seed count archive)) answer late = absurd late
+
+late-or-not : (c : Option PlainCommand) (answer : ℕ) → MayHaveWritten c answer ⊎ ¬ MayHaveWritten c answer
+late-or-not None answer = inr (λ late. late)
+late-or-not (Some (norm spec doc)) answer = inr (λ late. late)
+late-or-not (Some (init archive spec)) answer = inr (λ late. late)
+late-or-not (Some (add archive doc)) answer = inr (λ late. late)
+late-or-not (Some (get archive i)) answer = by_test (answer == 11) refl
+  where
+    by_test : (b : Bool) → (answer == 11) ≡ b → (answer ≡ 11) ⊎ ¬ (answer ≡ 11)
+    by_test true e = inl (eqb-true answer 11 e)
+    by_test false e = inr (λ same. (let yes : (answer == 11) ≡ true = ap (λ n. n == 11) same in cc))
+late-or-not (Some (history archive path)) answer = inr (λ late. late)
+late-or-not (Some (check archive)) answer = inr (λ late. late)
+late-or-not (Some (stats archive)) answer = inr (λ late. late)
+late-or-not (Some batch) answer = inr (λ late. late)
+late-or-not (Some (demo seed count archive)) answer = inr (λ late. late)
+
+late-short : (command : PlainCommand) (X : Type 0) → MayHaveWritten (Some command) 11 → IsLongDemo (Some command) → X
+late-short (norm spec doc) X late long = absurd late
+late-short (init archive spec) X late long = absurd late
+late-short (add archive doc) X late long = absurd late
+late-short (get archive i) X late long = absurd long
+late-short (history archive path) X late long = absurd late
+late-short (check archive) X late long = absurd late
+late-short (stats archive) X late long = absurd late
+late-short batch X late long = absurd late
+late-short (demo seed count archive) X late long = absurd late
+
 -- the step of an outcome answers as it may
-spelled : (c : Option PlainCommand) (files : Files) (r : Result Outcome Refusal) → (c ≡ None → r ≡ Err usage) → ((step_from files r).status ≡ 2 → c ≡ None) → (IsLongDemo c → r ≡ Err (limit refusal.demo 1000))
+spelled-plain : (c : Option PlainCommand) (files : Files) (r : Result Outcome Refusal) → (c ≡ None → r ≡ Err usage) → ((step_from files r).status ≡ 2 → c ≡ None) → (IsLongDemo c → r ≡ Err (limit refusal.demo 1000))
     → SpelledAnswers c (step_from files r)
-spelled None files r none only long = subst (λ (z : Result Outcome Refusal). RefusesWith usage (step_from files z)) (sym (none refl)) (refuses files usage)
-spelled (Some command) files (Ok o) none only long = record { is = inl (record { line = refl; status = refl }); long_demo = λ h. refuses-by files (Ok o) (limit refusal.demo 1000) (long h) }
-spelled (Some command) files (Err q) none only long = record {
-  is = inr (record {
+spelled-plain None files r none only long = subst (λ (z : Result Outcome Refusal). RefusesWith usage (step_from files z)) (sym (none refl)) (refuses files usage)
+spelled-plain (Some command) files (Ok o) none only long = record { is = inl (record { line = refl; status = refl }); long_demo = λ h. refuses-by files (Ok o) (limit refusal.demo 1000) (long h) }
+spelled-plain (Some command) files (Err q) none only long = record {
+  is = inr (inl (record {
     refusal = q;
     other = λ is. let no : Some command ≡ None = only (ap refusal_status is) in absurd cc;
     is = refuses files q;
-  });
+  }));
   long_demo = λ h. refuses-by files (Err q) (limit refusal.demo 1000) (long h);
 }
+
+-- and so does one with a refusal behind output
+spelled-late : (c : Option PlainCommand) (files : Files) (written : List ℕ) (r : Result Outcome Refusal) → LateAnswer c r → SpelledAnswers c (step_behind files written r)
+spelled-late None files written r late = absurd late.may
+spelled-late (Some command) files written r late =
+    subst (λ (z : Result Outcome Refusal). CommandAnswers command (step_behind files written z)) (sym late.is)
+    (record { is = inr (inr (record { may = late.may; name = late.name; line = refl })); long_demo = λ long. late-short command _ late.may long })
+
+spelled : (c : Option PlainCommand) (files : Files) (written : List ℕ) (r : Result Outcome Refusal) → (written ≡ []) ⊎ LateAnswer c r → (c ≡ None → r ≡ Err usage) → ((step_behind files written r).status ≡ 2 → c ≡ None)
+    → (IsLongDemo c → r ≡ Err (limit refusal.demo 1000)) → SpelledAnswers c (step_behind files written r)
+spelled c files written r (inl nothing) none only long =
+    let same : step_behind files written r ≡ step_from files r = ap (λ (w : List ℕ). step_behind files w r) nothing ∙ behind-none files r in
+    subst (SpelledAnswers c) (sym same) (spelled-plain c files r none (λ two. only (ap (λ (z : Step). z.status) same ∙ two)) long)
+spelled c files written r (inr late) none only long = spelled-late c files written r late
 
 -- what a call for a command says of the words that it was given, whatever the folder tells
 pub record Judged (words : List (List ℕ)) (answer : ℕ) : Type 0 where
@@ -189,6 +258,7 @@ long-alone (Some (init archive spec)) answer judged h = absurd h
 long-alone (Some (add archive doc)) answer judged h = absurd h
 long-alone (Some (get archive i)) answer judged h = absurd h
 long-alone (Some (history archive path)) answer judged h = absurd h
+long-alone (Some (check archive)) answer judged h = absurd h
 long-alone (Some (stats archive)) answer judged h = absurd h
 long-alone (Some batch) answer judged h = absurd h
 long-alone (Some (demo seed count archive)) answer judged h = judged seed count archive refl h
@@ -197,13 +267,14 @@ pub judged : (words : List (List ℕ)) (answer : ℕ) → (answer ≡ 2) ↔ (si
 judged words answer is_usage long_demo = record { none = is_usage.1; only = is_usage.0; long = long_demo }
 
 -- a step of the words that has this answer
-answered : (words : List (List ℕ)) (answer : ℕ) (files : Files) (r : Result Outcome Refusal) → Judged words answer → answer ≡ (step_from files r).status → (single_of words ≡ None → r ≡ Err usage) → (IsLongDemo (single_of words) → r ≡ Err (limit refusal.demo 1000)) → SpelledAnswers (single_of words) (step_from files r)
-answered words answer files r j is none long = spelled (single_of words) files r none (λ two. j.only (is ∙ two)) long
+answered : (words : List (List ℕ)) (answer : ℕ) (files : Files) (written : List ℕ) (r : Result Outcome Refusal) → (written ≡ []) ⊎ LateAnswer (single_of words) r → Judged words answer → answer ≡ (step_behind files written r).status
+    → (single_of words ≡ None → r ≡ Err usage) → (IsLongDemo (single_of words) → r ≡ Err (limit refusal.demo 1000)) → SpelledAnswers (single_of words) (step_behind files written r)
+answered words answer files written r behind j is none long = spelled (single_of words) files written r behind none (λ two. j.only (is ∙ two)) long
 
 -- the step behind a fault of the outside, of which some was written
 unfinished : (words : List (List ℕ)) (answer : ℕ) (fault : PlainFault) (files : Files) (o : Outcome) → Judged words answer → outside_of answer ≡ Some fault → SpelledAnswers (single_of words) (step_from files (Ok o))
 unfinished words answer fault files o j h =
-    spelled (single_of words) files (Ok o)
+    spelled-plain (single_of words) files (Ok o)
     (λ none. let plain : outside_of answer ≡ None = ap outside_of (j.none none) in absurd cc)
     (λ two. absurd (omega (arith, two)))
     (λ long. let plain : outside_of answer ≡ None = ap outside_of (j.long long) in absurd cc)
@@ -266,7 +337,8 @@ module _ (f g : Option Files) (l : List ℕ) (words : List (List ℕ)) (answer :
     may =
         words-step f g h l words t.step told short is t.may
         (subst (SpelledAnswers (single_of words)) (sym t.may.is)
-        (answered words answer h t.may.outcome j (t.ran.status ∙ ap (λ (z : Step). z.status) t.may.is) (λ none. subst (λ c. MayDo h c t.may.outcome) none t.may.may)
+        (answered words answer h t.may.written t.may.outcome (elim t.may.behind [ inl n ↦ inl n | inr late ↦ inr (late-answer h (single_of words) t.may.outcome late) ]) j (t.ran.status ∙ ap (λ (z : Step). z.status) t.may.is)
+        (λ none. subst (λ c. MayDo h c t.may.outcome) none t.may.may)
         (λ long. long-refused h (single_of words) t.may.outcome long t.may.may)))
         (kept-by t.step t.ran.status);
     ran = t.ran;
@@ -274,26 +346,34 @@ module _ (f g : Option Files) (l : List ℕ) (words : List (List ℕ)) (answer :
 
   wrote-told : (h : Files) (fault : PlainFault) → f ≡ Some h → outside_of answer ≡ Some fault → Wrote h words o p → LineWrote f g l o p
   wrote-told h fault told outside (inl none) = inl (Takes-kept o o p [] (Takes-nil o) none)
-  wrote-told h fault told outside (inr some) = by_outcome some.may.outcome some.may.may some.may.is some.output
+  wrote-told h fault told outside (inr some) = by_outcome some.may.outcome some.may.may some.may.behind some.may.is some.output
     where
-      by_outcome : (v : Result Outcome Refusal) → MayDo h (single_of words) v → some.step ≡ step_from h v → TakesPrefix o p some.step.output → LineWrote f g l o p
-      by_outcome (Err q) may same prefix =
-          inl (subst (Takes o p) (ap (λ (z : Step). take prefix.count z.output) same ∙ take-nil prefix.count) prefix.takes)
-      by_outcome (Ok v) may same prefix = inr (record {
+      by_outcome : (v : Result Outcome Refusal) → MayDo h (single_of words) v → (some.may.written ≡ []) ⊎ IsLate h (single_of words) v → some.step ≡ step_behind h some.may.written v → TakesPrefix o p some.step.output → LineWrote f g l o p
+      by_outcome (Err q) may (inl none) same prefix =
+          inl (subst (Takes o p) (ap (λ (z : Step). take prefix.count z.output) same ∙ ap (take prefix.count) none ∙ take-nil prefix.count) prefix.takes)
+      by_outcome (Err q) may (inr late) same prefix = inr (record {
+        step = some.step;
+        may =
+            words-step f g h l words some.step told short is some.may (subst (SpelledAnswers (single_of words)) (sym same) (spelled-late (single_of words) h some.may.written (Err q) (late-answer h (single_of words) (Err q) late)))
+            (λ _. kept-behind fault outside);
+        output = prefix;
+      })
+      by_outcome (Ok v) may behind same prefix = inr (record {
         step = some.step;
         may = words-step f g h l words some.step told short is some.may (subst (SpelledAnswers (single_of words)) (sym same) (unfinished words answer fault h v j outside)) (λ _. kept-behind fault outside);
         output = prefix;
       })
 
   -- where they are not
-  tried-untold : f ≡ None → g ≡ None → outside_of answer ≡ None → Said answer e r x y → Gained o p → (answer ≢ 0 → outside_of answer ≡ None → TakesNone o p) → (IsLongDemo (single_of words) → Says e r x y (fault_line (refused (limit refusal.demo 1000)))) → LineTried f g l answer o p e r x y
+  tried-untold : f ≡ None → g ≡ None → outside_of answer ≡ None → Said answer e r x y → Gained o p → (answer ≢ 0 → outside_of answer ≡ None → ¬ MayHaveWritten (single_of words) answer → TakesNone o p) → (IsLongDemo (single_of words) → Says e r x y (fault_line (refused (limit refusal.demo 1000)))) → LineTried f g l answer o p e r x y
   tried-untold untold still plain said gained nothing long_said = by_length (long-or-not (single_of words))
     where
-      step-of : (v : Result Outcome Refusal) → answer ≡ (step_from finite.empty v).status → (single_of words ≡ None → v ≡ Err usage) → (IsLongDemo (single_of words) → v ≡ Err (limit refusal.demo 1000)) → Takes o p (step_from finite.empty v).output → Says e r x y (step_from finite.empty v).line
-          → LineTried f g l answer o p e r x y
-      step-of v same none long output says = record {
-        step = step_from finite.empty v;
-        may = untold-step f g l words (step_from finite.empty v) untold short is (answered words answer finite.empty v j same none long) (kept-by (step_from finite.empty v) same);
+      step-of : (written : List ℕ) (v : Result Outcome Refusal) → (written ≡ []) ⊎ LateAnswer (single_of words) v → answer ≡ (step_behind finite.empty written v).status → (single_of words ≡ None → v ≡ Err usage)
+          → (IsLongDemo (single_of words) → v ≡ Err (limit refusal.demo 1000)) → Takes o p (step_behind finite.empty written v).output → Says e r x y (step_behind finite.empty written v).line → LineTried f g l answer o p e r x y
+      step-of written v behind same none long output says = record {
+        step = step_behind finite.empty written v;
+        may =
+            untold-step f g l words (step_behind finite.empty written v) untold short is (answered words answer finite.empty written v behind j same none long) (kept-by (step_behind finite.empty written v) same);
         ran = record { status = same; files = λ h now. (let no : Some h ≡ None = sym now ∙ still in absurd cc); output = output; line = says };
       }
 
@@ -302,10 +382,16 @@ module _ (f g : Option Files) (l : List ℕ) (words : List (List ℕ)) (answer :
 
       by_fault : (v : Option PlainFault) → answer ≡ status_after v → Says e r x y (line_after v) → ¬ IsLongDemo (single_of words) → LineTried f g l answer o p e r x y
       by_fault None same says short =
-          step-of (Ok (record { files = finite.empty; output = gained.bytes })) same (λ none. let two = j.none none in absurd (omega (arith, same, two))) (λ long. absurd (short long)) gained.takes says
-      by_fault (Some (refused q)) same says short =
-          step-of (Err q) same (λ none. ap Err (usage-only q (sym same ∙ j.none none))) (λ long. absurd (short long))
-          (Takes-kept o o p [] (Takes-nil o) (nothing (λ zero. status-other q (sym same ∙ zero)) plain)) says
+          step-of [] (Ok (record { files = finite.empty; output = gained.bytes })) (inl refl) same (λ none. let two = j.none none in absurd (omega (arith, same, two))) (λ long. absurd (short long)) gained.takes says
+      by_fault (Some (refused q)) same says short = elim (late-or-not (single_of words) answer) [
+        | inl late ↦ (let eleven = late-status (single_of words) answer late in
+            let damage = damage-only q (sym same ∙ eleven) in
+            step-of gained.bytes (Err q) (inr (record { name = damage.0; is = ap (λ z. Err z) damage.1; may = subst (MayHaveWritten (single_of words)) eleven late })) same
+            (λ none. let two = j.none none in absurd (omega (arith, eleven, two))) (λ long. absurd (short long)) gained.takes says)
+        | inr early ↦
+            step-of [] (Err q) (inl refl) same (λ none. ap Err (usage-only q (sym same ∙ j.none none))) (λ long. absurd (short long))
+            (Takes-kept o o p [] (Takes-nil o) (nothing (λ zero. status-other q (sym same ∙ zero)) plain early)) says
+      ]
       by_fault (Some folder_fault) same says short = outside folder_fault same refl
       by_fault (Some out_fault) same says short = outside out_fault same refl
       by_fault (Some in_fault) same says short = outside in_fault same refl
@@ -314,8 +400,8 @@ module _ (f g : Option Files) (l : List ℕ) (words : List (List ℕ)) (answer :
       by_length : IsLongDemo (single_of words) ⊎ ¬ IsLongDemo (single_of words) → LineTried f g l answer o p e r x y
       by_length (inl long) =
           let is : answer ≡ 12 = j.long long in
-          step-of (Err (limit refusal.demo 1000)) is (λ none. let two = j.none none in absurd (omega (arith, is, two))) (λ _. refl)
-          (Takes-kept o o p [] (Takes-nil o) (nothing (λ zero. omega (arith, is, zero)) plain)) (long_said long)
+          step-of [] (Err (limit refusal.demo 1000)) (inl refl) is (λ none. let two = j.none none in absurd (omega (arith, is, two))) (λ _. refl)
+          (Takes-kept o o p [] (Takes-nil o) (nothing (λ zero. omega (arith, is, zero)) plain (λ late. let eleven = late-status (single_of words) answer late in omega (arith, is, eleven)))) (long_said long)
       by_length (inr short) = by_fault said.fault said.status said.line short
 
   wrote-untold : (fault : PlainFault) → f ≡ None → outside_of answer ≡ Some fault → Gained o p → LineWrote f g l o p
@@ -331,7 +417,7 @@ module _ (f g : Option Files) (l : List ℕ) (words : List (List ℕ)) (answer :
 pub takes-step : (f g : Option Files) (l : List ℕ) (words : List (List ℕ)) (answer : ℕ) (o p e r : Taken) (x y : ℕ)
     → nat_lt 1048576 (length l) ≡ false → words_of l ≡ Some words → Judged words answer → (f ≡ None → g ≡ None)
     → ((h : Files) → f ≡ Some h → outside_of answer ≡ None → Tried h words answer g o p e r x y) → ((h : Files) → f ≡ Some h → Wrote h words o p)
-    → Said answer e r x y → Gained o p → (answer ≢ 0 → outside_of answer ≡ None → TakesNone o p) → (answer ≢ 0 → g ≡ f) → (OnlyReads (single_of words) → g ≡ f)
+    → Said answer e r x y → Gained o p → (answer ≢ 0 → outside_of answer ≡ None → ¬ MayHaveWritten (single_of words) answer → TakesNone o p) → (answer ≢ 0 → g ≡ f) → (OnlyReads (single_of words) → g ≡ f)
     → (IsLongDemo (single_of words) → Says e r x y (fault_line (refused (limit refusal.demo 1000)))) → LineTakes f g l answer o p e r x y
 takes-step f g l words answer o p e r x y short is j untold tried wrote said gained nothing kept reads long_said =
     takes_by f g l answer o p e r x y _ refl (λ plain. by_told f refl plain)

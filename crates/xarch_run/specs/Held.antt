@@ -1,10 +1,11 @@
 -- What an archive holds after commands: the documents that were handed in to it.
-use Rattle.std.specs.Prelude.{◌≡◌, ◌≢◌, ◌↔◌, ◌⊎◌, ℕ, List, [], ◌∷◌, ◌++◌, length, Option, Some, Result, Ok, ⊤}
+use Rattle.std.specs.Prelude.{◌≡◌, ◌≢◌, ◌↔◌, ◌⊎◌, ℕ, List, [], ◌∷◌, ◌++◌, length, Option, Some, None, Result, Ok, ⊤}
 use Rattle.std.specs.FinMap as finite
 use Rattle.xa_outside.specs.Folder.{Files}
 use Rattle.key_spec.specs.Data.{PlainRule}
 use Rattle.keyed_tree.specs.Data.{PlainKeyed}
 use Rattle.record_format.specs.Files.{FileOf}
+use Rattle.archive_file.specs.Sound.{Sound}
 use Rattle.xarch_gen.specs.Company.{company_rules}
 use Rattle.xarch_words.specs.Commands.{PlainCommand, init, add, demo}
 use Rattle.xarch_words.specs.Refusal.{Refusal}
@@ -138,6 +139,18 @@ pub record Accepted (files : Files) (name doc : List ℕ) (h : Held) (now : File
 abbrev pub RefusalsKeep : Files → List Step → Type 0
 RefusalsKeep files [] = ⊤
 RefusalsKeep files (s ∷ ss) = (s.status ≢ 0 → s.files ≡ files) × RefusalsKeep s.files ss
+
+-- there is a file of this name, and its bytes are so
+pub record FileIs (files : Files) (name : List ℕ) (P : List ℕ → Type 0) : Type 0 where
+  pub bytes : List ℕ
+  pub there : finite.get files name ≡ Some bytes
+  pub is : P bytes
+
+-- The status of the step says what the file of this name is, whatever it is: a sound archive, none that is sound, or absent.
+pub record TellsSoundness (files : Files) (name : List ℕ) (s : Step) : Type 0 where
+  pub sound : (s.status ≡ 0) ↔ FileIs files name Sound
+  pub damaged : (s.status ≡ 11) ↔ FileIs files name (λ bytes. ¬ Sound bytes)
+  pub absent : (s.status ≡ 3) ↔ (finite.get files name ≡ None)
 
 -- the step writes the counts of the archive that holds this
 pub record WritesCounts (files : Files) (h : Held) (s : Step) : Type 0 where

@@ -5,10 +5,10 @@ use Rattle.std.specs.List.{flat_map}
 use Rattle.xa_outside.specs.Folder.{Files}
 use Rattle.xarch_words.specs.Commands.{PlainCommand}
 use Rattle.xarch_words.specs.Lines.{fault_line, refusal_status}
-use Rattle.xarch_words.specs.Refusal.{demo, line, Refusal, usage, limit, refused}
+use Rattle.xarch_words.specs.Refusal.{demo, line, Refusal, usage, damaged, limit, refused}
 use Rattle.xarch_parts.specs.Outcome.{Step, step_from}
 use Rattle.xarch_steps.specs.Plausible.{Plausible}
-use Rattle.xarch_steps.specs.Ran.{IsLongDemo, OnlyReads}
+use Rattle.xarch_steps.specs.Ran.{IsLongDemo, MayHaveWritten, OnlyReads}
 use Rattle.xarch_steps.specs.Step.{single_of}
 use Rattle.xarch_run.specs.Words.{words_of}
 
@@ -42,9 +42,15 @@ pub record DoesCommand (s : Step) : Type 0 where
   pub line : s.line ≡ []
   pub status : s.status ≡ 0
 
--- What a command answers: it was done, or it was refused, and a `demo` of too many documents is refused.
+-- a command met damage while it wrote: some output, and the line and status of that refusal
+pub record MeetsDamage (command : PlainCommand) (s : Step) : Type 0 where
+  pub may : MayHaveWritten (Some command) s.status
+  pub name : List ℕ
+  pub line : s.line ≡ fault_line (refused (damaged name))
+
+-- What a command answers: it was done, or it was refused, a `get` maybe behind output, and a `demo` of too many documents is refused.
 pub record CommandAnswers (command : PlainCommand) (s : Step) : Type 0 where
-  pub is : DoesCommand s ⊎ RefusesCommand s
+  pub is : DoesCommand s ⊎ (RefusesCommand s ⊎ MeetsDamage command s)
   pub long_demo : IsLongDemo (Some command) → RefusesWith (limit demo 1000) s
 
 -- words that are no command by themselves are refused

@@ -6,7 +6,8 @@ ghost use Rattle.keyed_tree.specs.Data.{PlainKeyed};
 ghost use Rattle.keyed_tree.specs.Kids.{IsOrdered};
 ghost use Rattle.archive_tree.specs.Stands.{version_of};
 ghost use Rattle.archive_file.specs.KeyedBy.{IsKeyedBy};
-ghost use Rattle.xarch_words.specs.Commands.{PlainCommand, add, get, history, stats};
+ghost use Rattle.xarch_words.specs.Commands.{PlainCommand, add, check, get, history, stats};
+ghost use Rattle.xarch_steps.specs.Check.{checked};
 ghost use Rattle.xarch_steps.specs.Get.{version_text};
 ghost use Rattle.xarch_steps.specs.History.{history_text};
 ghost use Rattle.xarch_parts.specs.Outcome.{Step, step_from};
@@ -14,7 +15,7 @@ ghost use Rattle.xarch_steps.specs.Plausible.{Plausible};
 ghost use Rattle.xarch_steps.specs.Step.{single_of};
 ghost use Rattle.xarch_steps.specs.Succeeds.{ShouldSucceed};
 ghost use Rattle.xarch_run.specs.Calls.{Call, CallsDid, CommandMay, CommandsDid, CommandsLead};
-ghost use Rattle.xarch_run.specs.Held.{Accepted, Begun, HandedIn, Held, Holds, HoldsBehind, HoldsExactly, IsHandedIn, MakesArchive, NoneMakes, RefusalsKeep, WritesCounts};
+ghost use Rattle.xarch_run.specs.Held.{Accepted, Begun, HandedIn, Held, Holds, HoldsBehind, HoldsExactly, IsHandedIn, MakesArchive, NoneMakes, RefusalsKeep, TellsSoundness, WritesCounts};
 ghost use Rattle.xarch_run.specs.Steps.{LineMay, files_after, line_command};
 
 use archive_file::sound_archives_have_one_reading;
@@ -86,6 +87,14 @@ pub fn archives_hold_what_was_handed_in()
     ensures counts { (files : Files) (name : List ℕ) (held : Held) (s : Step)
         → Holds files name held → CommandMay files (Some (stats name)) s
         → WritesCounts files held s }
+
+    // A check of an archive writes `ok` and the number of its versions. Of any file its status says
+    // whether it is a sound archive.
+    ensures checks { (files : Files) (name : List ℕ) (held : Held) (s : Step)
+        → Holds files name held → CommandMay files (Some (check name)) s
+        → s ≡ step_from files (checked files held.versions) }
+    ensures judges { (files : Files) (name : List ℕ) (s : Step)
+        → CommandMay files (Some (check name)) s → TellsSoundness files name s }
 
     // The commands are those that calls of `run` did, one after another, as its clause `did` says.
     // Those of a batch are the ones that its lines spell, and that of any other call is the one that

@@ -12,7 +12,7 @@ ghost use Rattle.xarch_parts.specs.Folders.{IsTold};
 ghost use Rattle.xarch_parts.specs.Outcome.{Step};
 ghost use Rattle.xarch_steps.specs.OnePass.{GoesOnce};
 ghost use Rattle.xarch_steps.specs.Plausible.{Tried, Wrote};
-ghost use Rattle.xarch_steps.specs.Ran.{CountsAsSaid, OnlyReads, Said, Says, outside_of};
+ghost use Rattle.xarch_steps.specs.Ran.{CountsAsSaid, MayHaveWritten, OnlyReads, Said, Says, outside_of};
 ghost use Rattle.xarch_steps.specs.ReadsBack.{ReadsLittle};
 ghost use Rattle.xarch_steps.specs.Step.{StepIs};
 ghost use Rattle.xarch_steps.specs.Succeeds.{ShouldSucceed};
@@ -30,8 +30,8 @@ use xarch_words::{Command, read_words};
 /// The words are those after the program's name. A batch takes its commands from the lines of
 /// `input`, which no other command reads. Every fault writes one line to `err`; a failure of `err`
 /// changes no status. Input files are read directly before the first step that judges their bytes:
-/// whole, but the archive of `add`, which is read record by record, and that of `history`, of which
-/// only what its search looks at is read.
+/// whole, but the archive of `add`, which is read record by record, and those of `get` and
+/// `history`, of which only what their searches look at is read.
 pub fn run<F: Folder, S: Source, O: Sink, E: Sink>(
     alloc: Global,
     words: &[String],
@@ -72,7 +72,8 @@ pub fn run<F: Folder, S: Source, O: Sink, E: Sink>(
     // What any other command does where files are told: one of the steps that the words may have
     // the program take, and the one that is defined where the archive that they name is absent or
     // sound. Status, files, output and line are that step's, but after a fault of the outside,
-    // which leaves a prefix of its output.
+    // which leaves a prefix of its output. A refusal has no output, but where a `get` meets damage
+    // while it writes.
     ensures tried { (files : Files) → command_of (words_view words.now) ≢ Some batch
         → F.files folder.old ≡ Some files → outside_of result ≡ None
         → Tried files (words_view words.now) result (F.files folder.new)
@@ -93,13 +94,14 @@ pub fn run<F: Folder, S: Source, O: Sink, E: Sink>(
         → ¬ Rose (O.faults out.old) (O.faults out.new) → (result ≡ 0) ⊎ (result ≡ 16) }
 
     // Whatever the folder tells, the answer is 0 or the status of a fault, whose line is said; the
-    // output only gains, and nothing after a refusal.
+    // output only gains, and nothing after a refusal, but for a `get` that meets damage.
     ensures said { command_of (words_view words.now) ≢ Some batch
         → Said result (E.taken err.old) (E.taken err.new) (E.faults err.old) (E.faults err.new) }
     ensures gained { command_of (words_view words.now) ≢ Some batch
         → Gained (O.taken out.old) (O.taken out.new) }
     ensures nothing { command_of (words_view words.now) ≢ Some batch → result ≢ 0
-        → outside_of result ≡ None → TakesNone (O.taken out.old) (O.taken out.new) }
+        → outside_of result ≡ None → ¬ MayHaveWritten (command_of (words_view words.now)) result
+        → TakesNone (O.taken out.old) (O.taken out.new) }
 
     // When a fault comes, whatever the folder tells.
     ensures usage { (result ≡ 2) ↔ (command_of (words_view words.now) ≡ None) }
@@ -131,8 +133,8 @@ pub fn run<F: Folder, S: Source, O: Sink, E: Sink>(
     ensures draft_untold { F.draft folder.old ≡ None → F.draft folder.new ≡ None }
 
     // What is pulled and drafted: over a sound archive `add` goes once, and little of it is read
-    // that is not yet written; and of one `history` pulls only what its search looks at. No count
-    // of faults falls.
+    // that is not yet written; and of one `get` and `history` pull only what their searches look
+    // at. No count of faults falls.
     ensures counts { CountsAsSaid (command_of (words_view words.now)) (F.files folder.old)
         (F.numbers folder.old) (F.numbers folder.new) }
     ensures one_pass { GoesOnce (command_of (words_view words.now)) (F.files folder.old)

@@ -1,4 +1,5 @@
 pub mod AddEnds
+pub mod CheckEnds
 pub mod MergeEnds
 pub mod OnePassEnds
 pub mod DemoEnds
@@ -13,3 +14,5 @@ pub mod Running
 pub mod SampleLemmas
 pub mod StatsEnds
 pub mod Succeeding
+mod VersionTexts
+pub mod WholeFiles

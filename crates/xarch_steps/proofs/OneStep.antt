@@ -1,4 +1,5 @@
--- What a command may do is what is defined, where that is. It is so since versions have one archive and one file.
+-- What a command may do is what is defined, where that is. It is so since versions have one archive and one file, at whose
+-- front their number stands.
 use Rattle.std.proofs.Common.{◌≡◌, inl, inr, ℕ, List, [], ◌∷◌, ◌++◌, length, Option, Some, None, Result, Ok, Err, sym, ap, ◌∙◌, subst, refl}
 use Rattle.std.specs.FinMap as map
 use Rattle.xa_outside.specs.Folder.{Files}
@@ -7,22 +8,27 @@ use Rattle.keyed_tree.specs.Data.{PlainKeyed}
 use Rattle.archive_tree.specs.Data.{PlainArchive}
 use Rattle.archive_tree.specs.Stands.{ArchiveOf}
 use Rattle.record_format.specs.Files.{FileOf}
+use Rattle.record_format.specs.Fronts.{fixed}
+use Rattle.archive_file.specs.Sound.{Sound}
 use Rattle.archive_stats.specs.Counts.{PlainCounts, counts}
 use Rattle.xarch_gen.specs.Company.{company_rules}
-use Rattle.xarch_words.specs.Commands.{PlainCommand, norm, init, add, get, history, stats, batch, demo}
-use Rattle.xarch_words.specs.Refusal.{Refusal, no_file}
+use Rattle.xarch_words.specs.Commands.{PlainCommand, norm, init, add, get, history, check, stats, batch, demo}
+use Rattle.xarch_words.specs.Refusal.{Refusal, no_file, damaged}
 use Rattle.xarch_steps.specs.Add.{added}
+use Rattle.xarch_steps.specs.Check.{IsFound, check_text}
 use Rattle.xarch_parts.specs.Archives.{GoesOn, Stores}
 use Rattle.xarch_steps.specs.Demo.{MakesOrNone, demo_input, samples}
 use Rattle.xarch_steps.specs.Init.{init_rules}
 use Rattle.xarch_parts.specs.Inputs.{file_of}
 use Rattle.xarch_parts.specs.Outcome.{Outcome, Step, and_then, or_refuse, step_from}
-use Rattle.xarch_steps.specs.Plausible.{MayAdd, MayWrite, MayBe, MayDo, Plausible, add_input, history_input}
+use Rattle.xarch_steps.specs.Plausible.{IsLate, MayAdd, MayWrite, MayBe, MayComeLate, MayDo, Plausible, add_input, history_input}
+use Rattle.xarch_steps.specs.PlausibleLaws.{late-get, late-unsound, plain-step}
 use Rattle.xarch_steps.specs.Stats.{CountsFrom, counts_text}
 use Rattle.xarch_steps.specs.Step.{OutcomeIs, DoesOrRefuses, Defines, StepIs, single_of}
 
 module _ (one_archive : (vs : List PlainKeyed) (a b : PlainArchive) → ArchiveOf vs a → ArchiveOf vs b → a ≡ b)
-    (one_file : (rules : List PlainRule) (vs : List PlainKeyed) (b c : List ℕ) → FileOf rules vs b → FileOf rules vs c → b ≡ c) where
+    (one_file : (rules : List PlainRule) (vs : List PlainKeyed) (b c : List ℕ) → FileOf rules vs b → FileOf rules vs c → b ≡ c)
+    (numbered : (rules : List PlainRule) (vs : List PlainKeyed) (b : List ℕ) → FileOf rules vs b → fixed b ≡ Some (length vs)) where
   one_stored : (files : Files) (name : List ℕ) (rules : List PlainRule) (vs : List PlainKeyed) (r s : Result Outcome Refusal) → Stores files name rules vs r → Stores files name rules vs s → s ≡ r
   one_stored files name rules vs r s (inl p) (inl q) =
       let same = one_file rules vs q.bytes p.bytes q.sound.file p.sound.file in
@@ -53,6 +59,16 @@ module _ (one_archive : (vs : List PlainKeyed) (a b : PlainArchive) → ArchiveO
   one_counted files rules vs r s p q =
       q.is ∙ ap (λ (a : PlainArchive). Ok (record { files = files; output = counts_text (counts rules a) })) (one_archive vs q.archive p.archive q.of p.of) ∙ sym p.is
 
+  -- a file has one number of versions, and is not sound and damaged
+  same_count : (bytes : List ℕ) (p q : Sound bytes) → length q.versions ≡ length p.versions
+  same_count bytes p q = let both : Some (length q.versions) ≡ Some (length p.versions) = sym (numbered q.rules q.versions bytes q.is.file) ∙ numbered p.rules p.versions bytes p.is.file in cc
+
+  one_found : (files : Files) (name bytes : List ℕ) (r s : Result Outcome Refusal) → IsFound files name bytes r → IsFound files name bytes s → s ≡ r
+  one_found files name bytes r s (inl p) (inl q) = q.is ∙ ap (λ (n : ℕ). Ok (record { files = files; output = check_text n })) (same_count bytes p.sound q.sound) ∙ sym p.is
+  one_found files name bytes r s (inl p) (inr q) = absurd (q.unsound p.sound)
+  one_found files name bytes r s (inr p) (inl q) = absurd (p.unsound q.sound)
+  one_found files name bytes r s (inr p) (inr q) = q.is ∙ sym p.is
+
   one_made : (files : Files) (name : List ℕ) (seed count : ℕ) (r s : Result Outcome Refusal) → MakesOrNone files name seed count r → MakesOrNone files name seed count s → s ≡ r
   one_made files name seed count r s (inl p) (inl q) =
       let same = one_file company_rules (samples seed count) q.bytes p.bytes q.made.sound.file p.made.sound.file in
@@ -77,6 +93,7 @@ module _ (one_archive : (vs : List PlainKeyed) (a b : PlainArchive) → ArchiveO
   one files (get name i) r s (inr p) q = q.sound p.rules p.versions p.archive ∙ sym p.rest
   one files (history name path) r s (inl p) q = subst (λ x. GoesOn x (λ _. MayWrite files name) s) (history_absent files name path p.absent) q.whatever ∙ sym p.is
   one files (history name path) r s (inr p) q = q.sound p.rules p.versions p.archive ∙ sym p.rest
+  one files (check name) r s p q = one_way (file_of files name) (IsFound files name) (one_found files name) r s p q
   one files (stats name) r s (inl p) q = subst (λ x. GoesOn x (λ _. MayWrite files name) s) (file_absent files name p.absent) q.whatever ∙ sym p.is
   one files (stats name) r s (inr p) q = one_counted files p.rules p.versions r s p.rest (q.sound p.rules p.versions p.archive)
   one files batch r s p q = q ∙ sym p
@@ -90,6 +107,31 @@ module _ (one_archive : (vs : List PlainKeyed) (a b : PlainArchive) → ArchiveO
   pub one_outcome : (files : Files) (words : List (List ℕ)) (r s : Result Outcome Refusal) → Defines files words r → MayDo files (single_of words) s → s ≡ r
   one_outcome files words r s p q = one_does files (single_of words) r s p q
 
+  damage_or_none : (name : List ℕ) → ◌≡◌ {A = Result Outcome Refusal} (Err (damaged name)) (Err (no_file name)) → ⊥
+  damage_or_none name e = cc
+
+  -- where the outcome is defined, no refusal comes late
+  none_late : (files : Files) (command : PlainCommand) (r s : Result Outcome Refusal) → OutcomeIs files command r → MayBe files command s → ¬ IsLate files (Some command) s
+  unfolding OutcomeIs
+  none_late files command r (Ok o) p q late = late
+  none_late files command r (Err e) p q late =
+      late-get files command e ⊥ late (λ name i is damage.
+      by_archive name i damage (subst (λ (c : PlainCommand). OutcomeIs files c r) is p) (subst (λ (c : PlainCommand). MayBe files c (Err e)) is q) (subst (λ (c : PlainCommand). MayComeLate files (Some c) e) is late))
+    where
+      by_archive : (name : List ℕ) (i : ℕ) → e ≡ damaged name → OutcomeIs files (get name i) r → MayBe files (get name i) (Err e) → MayComeLate files (Some (get name i)) e → ⊥
+      by_archive name i damage (inl missing) m late =
+          let same : Err e ≡ r = one files (get name i) r (Err e) (inl missing) m in
+          let wrong : ◌≡◌ {A = Result Outcome Refusal} (Err (damaged name)) (Err (no_file name)) = ap (λ q. Err q) (sym damage) ∙ same ∙ missing.is in
+          damage_or_none name wrong
+      by_archive name i damage (inr opened) m late = late-unsound files name i opened.rules opened.versions (Err e) opened.archive m late
+
+  none_does : (files : Files) (command : Option PlainCommand) (r s : Result Outcome Refusal) → DoesOrRefuses files command r → MayDo files command s → ¬ IsLate files command s
+  none_does files None r (Ok o) p q late = late
+  none_does files None r (Err e) p q late = late
+  none_does files (Some command) r s p q late = none_late files command r s p q late
+
   -- no other step than the defined one
   pub one_step : (files : Files) (words : List (List ℕ)) (s t : Step) → StepIs files words s → Plausible files words t → s ≡ t
-  one_step files words s t p q = p.is ∙ sym (ap (step_from files) (one_outcome files words p.outcome q.outcome p.defined q.may)) ∙ sym q.is
+  one_step files words s t p q =
+      p.is ∙ sym (ap (step_from files) (one_outcome files words p.outcome q.outcome p.defined q.may))
+      ∙ sym (plain-step files (single_of words) t q (none_does files (single_of words) p.outcome q.outcome p.defined q.may))

@@ -1,31 +1,32 @@
 -- From the end of a command to its status, its line and what it did.
-use Rattle.std.proofs.Common.{◌≡◌, ◌≢◌, ◌⊎◌, ◌↔◌, inl, inr, ℕ, ◌<◌, List, [], Option, Some, None, IsSome, Result, Ok, Err, OnErr, refl, sym, ap, ◌∙◌, subst, arith}
+use Rattle.std.proofs.Common.{◌≡◌, ◌≢◌, ◌⊎◌, ◌↔◌, inl, inr, ℕ, ◌<◌, List, [], length, Option, Some, None, IsSome, Result, Ok, Err, OnErr, refl, sym, ap, ◌∙◌, subst, arith}
 use Rattle.xa_outside.specs.Causes.{HasCause, Rose}
 use Rattle.xa_outside.specs.Folder.{Files}
 use Rattle.xa_outside.specs.Numbers.{Numbers, IsMeter}
 use Rattle.xa_outside.specs.NumberLaws.{PullsAtMost-none}
 use Rattle.xa_outside.specs.Taken.{Taken, TakesNone, TakesPrefix, Puts}
-use Rattle.xa_outside.specs.TakenLaws.{Takes-nil, Takes-kept, TakesPrefix-none, TakesPrefix-all}
+use Rattle.xa_outside.specs.TakenLaws.{Takes-nil, Takes-kept, TakesNone-refl, TakesPrefix-none, TakesPrefix-all}
 use Rattle.key_spec.specs.Data.{PlainRule}
 use Rattle.keyed_tree.specs.Data.{PlainKeyed}
 use Rattle.archive_tree.specs.Data.{PlainArchive}
 use Rattle.archive_tree.specs.Stands.{ArchiveOf}
 use Rattle.record_format.specs.Files.{FileOf}
-use Rattle.xarch_words.specs.Commands.{PlainCommand, norm, init, add, get, history, stats, batch, demo, command_of}
+use Rattle.record_format.specs.Fronts.{fixed}
+use Rattle.xarch_words.specs.Commands.{PlainCommand, norm, init, add, get, history, check, stats, batch, demo, command_of}
 use Rattle.xarch_words.specs.Refusal.{Refusal, usage, no_file, exists, bad_spec, bad_json, bad_shape, key_fault, no_version, bad_path, damaged, limit, PlainFault, refused, folder_fault, out_fault, in_fault, memory}
 use Rattle.xarch_words.specs.Lines.{fault_line, refusal_status}
 use Rattle.xarch_words.specs.declared.fault.Fault.{Fault}
 use Rattle.xarch_parts.specs.Outcome.{Outcome, Step, output_of, step_from}
 use Rattle.xarch_parts.specs.Ends.{fault_of, EndsGained, Gained, IsOfCommand, HasItsCause}
-use Rattle.xarch_parts.specs.Folders.{Counts}
 use Rattle.xarch_steps.specs.OnePass.{GoesOnce}
 use Rattle.xarch_steps.specs.ReadsBack.{ReadsLittle}
-use Rattle.xarch_steps.specs.Ran.{CountsAsSaid, IsLongDemo, OnlyReads, made_name, status_after, line_after, outside_of, Says}
-use Rattle.xarch_parts.specs.Allowed.{MayEnd, PutSome}
-use Rattle.xarch_steps.specs.Plausible.{MayBe, MayDo, Plausible, Tried, Wrote}
+use Rattle.xarch_steps.specs.Ran.{CountsAsSaid, GainsBy, IsLongDemo, IsMetLate, MayHaveWritten, OnlyReads, made_name, status_after, line_after, outside_of, Says}
+use Rattle.xarch_parts.specs.Allowed.{MayEnd, MayEndLate, PutSome}
+use Rattle.xarch_steps.specs.Plausible.{MayBe, MayComeLate, MayDo, Plausible, Tried, Wrote, step_behind}
+use Rattle.xarch_steps.specs.PlausibleLaws.{behind-none}
 use Rattle.xarch_steps.specs.Step.{StepIs, alone, single_of}
 use Rattle.xarch_parts.specs.EndLaws.{IsOfCommand-usage}
-use Rattle.xarch_parts.specs.AllowedLaws.{MayEnd-stopped}
+use Rattle.xarch_parts.specs.AllowedLaws.{MayEnd-refused, MayEnd-stopped}
 use Rattle.xarch_steps.proofs.OneStep.{one_outcome, one_step}
 
 -- ---- statuses
@@ -122,49 +123,61 @@ MayEnd-usage files words after t none = MayEnd-stopped (MayDo files (single_of w
     let same : usage ≡ q = cc in
     subst (λ (o : Option PlainCommand). MayDo files o (Err q)) (sym none) (ap (λ r. Err r) (sym same)))
 
-pub MayEnd-command : (files : Files) (words : List (List ℕ)) (command : PlainCommand) (e : Option PlainFault) (after : Option Files) (old new : Taken)
-    → single_of words ≡ Some command → MayEnd (MayBe files command) e after old new → MayEnd (MayDo files (single_of words)) e after old new
-MayEnd-command files words command e after old new some ends = subst (λ (o : Option PlainCommand). MayEnd (MayDo files o) e after old new) (sym some) ends
+pub MayEndLate-command : (files : Files) (words : List (List ℕ)) (command : PlainCommand) (e : Option PlainFault) (after : Option Files) (old new : Taken)
+    → single_of words ≡ Some command → MayEndLate (MayComeLate files (Some command)) (MayBe files command) e after old new → MayEndLate (MayComeLate files (single_of words)) (MayDo files (single_of words)) e after old new
+MayEndLate-command files words command e after old new some ends = subst (λ (o : Option PlainCommand). MayEndLate (MayComeLate files o) (MayDo files o) e after old new) (sym some) ends
+
+-- but for what was written, a refusal that comes late is as any other
+pub late-end : (late : Refusal → Type 0) (M : Result Outcome Refusal → Type 0) (e : Option PlainFault) (after : Option Files) (old new : Taken) → MayEndLate late M e after old new → (t : Taken) × MayEnd M e after old t
+late-end late M e after old new (inl ends) = (new, ends)
+late-end late M e after old new (inr b) = (old, subst (λ (v : Option PlainFault). MayEnd M v after old old) (sym b.is) (MayEnd-refused M b.refusal after old old b.may (TakesNone-refl old)))
 
 output_from : (files : Files) (outcome : Result Outcome Refusal) (old new : Taken) → TakesPrefix old new (output_of outcome) → TakesPrefix old new (step_from files outcome).output
 output_from files (Ok o) old new p = p
 output_from files (Err r) old new p = p
 
--- From what is known of all versions: they have one archive and one file.
+-- From what is known of all versions: they have one archive and one file, at whose front their number stands.
 module _ (one_archive : (vs : List PlainKeyed) (a b : PlainArchive) → ArchiveOf vs a → ArchiveOf vs b → a ≡ b)
-    (one_file : (rules : List PlainRule) (vs : List PlainKeyed) (b c : List ℕ) → FileOf rules vs b → FileOf rules vs c → b ≡ c) where
+    (one_file : (rules : List PlainRule) (vs : List PlainKeyed) (b c : List ℕ) → FileOf rules vs b → FileOf rules vs c → b ≡ c)
+    (numbered : (rules : List PlainRule) (vs : List PlainKeyed) (b : List ℕ) → FileOf rules vs b → fixed b ≡ Some (length vs)) where
   -- what should succeed does, where no count rose
-  pub complete-from : (files : Files) (words : List (List ℕ)) (s : Step) (e : Option PlainFault) (after : Option Files) (old new : Taken) (a b c d : ℕ) → StepIs files words s
+  complete-end : (files : Files) (words : List (List ℕ)) (s : Step) (e : Option PlainFault) (after : Option Files) (old new : Taken) (a b c d : ℕ) → StepIs files words s
       → MayEnd (MayDo files (single_of words)) e after old new → HasItsCause a b c d e → s.status ≡ 0 → ¬ Rose a b → ¬ Rose c d → (status_after e ≡ 0) ⊎ (status_after e ≡ 16)
   unfolding MayEnd HasItsCause
-  complete-from files words s None after old new a b c d is ends cause zero folder out = inl refl
-  complete-from files words s (Some (refused r)) after old new a b c d is ends cause zero folder out =
-      let same : Err r ≡ is.outcome = one_outcome one_archive one_file files words is.outcome (Err r) is.defined ends.may in
+  complete-end files words s None after old new a b c d is ends cause zero folder out = inl refl
+  complete-end files words s (Some (refused r)) after old new a b c d is ends cause zero folder out =
+      let same : Err r ≡ is.outcome = one_outcome one_archive one_file numbered files words is.outcome (Err r) is.defined ends.may in
       let status : refusal_status r ≡ 0 = ap (λ (o : Result Outcome Refusal). (step_from files o).status) same ∙ sym (ap (λ (x : Step). x.status) is.is) ∙ zero in
       refusal_some r ((refusal_status r ≡ 0) ⊎ (refusal_status r ≡ 16)) status
-  complete-from files words s (Some folder_fault) after old new a b c d is ends cause zero folder out = absurd (folder cause)
-  complete-from files words s (Some out_fault) after old new a b c d is ends cause zero folder out = absurd (out cause)
-  complete-from files words s (Some in_fault) after old new a b c d is ends cause zero folder out = absurd cause
-  complete-from files words s (Some memory) after old new a b c d is ends cause zero folder out = inr refl
+  complete-end files words s (Some folder_fault) after old new a b c d is ends cause zero folder out = absurd (folder cause)
+  complete-end files words s (Some out_fault) after old new a b c d is ends cause zero folder out = absurd (out cause)
+  complete-end files words s (Some in_fault) after old new a b c d is ends cause zero folder out = absurd cause
+  complete-end files words s (Some memory) after old new a b c d is ends cause zero folder out = inr refl
+
+  pub complete-from : (files : Files) (words : List (List ℕ)) (s : Step) (e : Option PlainFault) (after : Option Files) (old new : Taken) (a b c d : ℕ) → StepIs files words s
+      → MayEndLate (MayComeLate files (single_of words)) (MayDo files (single_of words)) e after old new → HasItsCause a b c d e → s.status ≡ 0 → ¬ Rose a b → ¬ Rose c d → (status_after e ≡ 0) ⊎ (status_after e ≡ 16)
+  complete-from files words s e after old new a b c d is ends cause zero folder out =
+      let plain = late-end (MayComeLate files (single_of words)) (MayDo files (single_of words)) e after old new ends in
+      complete-end files words s e after old plain.0 a b c d is plain.1 cause zero folder out
 
   -- where it is no fault of the outside, a step is taken that may be taken
-  pub Tried-from : (files : Files) (words : List (List ℕ)) (e : Option PlainFault) (before after : Option Files) (old new err_old err_new : Taken) (p q : ℕ) → before ≡ Some files → (IsSome e → after ≡ before)
+  Tried-end : (files : Files) (words : List (List ℕ)) (e : Option PlainFault) (before after : Option Files) (old new err_old err_new : Taken) (p q : ℕ) → before ≡ Some files → (IsSome e → after ≡ before)
       → MayEnd (MayDo files (single_of words)) e after old new → Says err_old err_new p q (line_after e) → outside_of (status_after e) ≡ None → Tried files words (status_after e) after old new err_old err_new p q
   unfolding MayEnd
-  Tried-from files words None before after old new err_old err_new p q told stays ends says plain =
-      let may : Plausible files words (step_from files (Ok ends.outcome)) = record { outcome = Ok ends.outcome; may = ends.may; is = refl } in
+  Tried-end files words None before after old new err_old err_new p q told stays ends says plain =
+      let may : Plausible files words (step_from files (Ok ends.outcome)) = record { outcome = Ok ends.outcome; may = ends.may; written = []; behind = inl refl; is = refl } in
       record {
         step = step_from files (Ok ends.outcome);
         may = may;
-        defined = λ s is. one_step one_archive one_file files words s (step_from files (Ok ends.outcome)) is may;
+        defined = λ s is. one_step one_archive one_file numbered files words s (step_from files (Ok ends.outcome)) is may;
         ran = record { status = refl; files = ends.files; output = ends.output; line = says };
       }
-  Tried-from files words (Some (refused r)) before after old new err_old err_new p q told stays ends says plain =
-      let may : Plausible files words (step_from files (Err r)) = record { outcome = Err r; may = ends.may; is = refl } in
+  Tried-end files words (Some (refused r)) before after old new err_old err_new p q told stays ends says plain =
+      let may : Plausible files words (step_from files (Err r)) = record { outcome = Err r; may = ends.may; written = []; behind = inl refl; is = refl } in
       record {
         step = step_from files (Err r);
         may = may;
-        defined = λ s is. one_step one_archive one_file files words s (step_from files (Err r)) is may;
+        defined = λ s is. one_step one_archive one_file numbered files words s (step_from files (Err r)) is may;
         ran = record {
           status = refl;
           files = λ f is. let same : after ≡ before = stays refl in grind (arith, told, same, is);
@@ -172,19 +185,37 @@ module _ (one_archive : (vs : List PlainKeyed) (a b : PlainArchive) → ArchiveO
           line = says;
         };
       }
-  Tried-from files words (Some folder_fault) before after old new err_old err_new p q told stays ends says plain = cc
-  Tried-from files words (Some out_fault) before after old new err_old err_new p q told stays ends says plain = cc
-  Tried-from files words (Some in_fault) before after old new err_old err_new p q told stays ends says plain = cc
-  Tried-from files words (Some memory) before after old new err_old err_new p q told stays ends says plain = cc
+  Tried-end files words (Some folder_fault) before after old new err_old err_new p q told stays ends says plain = cc
+  Tried-end files words (Some out_fault) before after old new err_old err_new p q told stays ends says plain = cc
+  Tried-end files words (Some in_fault) before after old new err_old err_new p q told stays ends says plain = cc
+  Tried-end files words (Some memory) before after old new err_old err_new p q told stays ends says plain = cc
+
+  late_step : (files : Files) (words : List (List ℕ)) (q : Refusal) (written : List ℕ) → MayDo files (single_of words) (Err q) → MayComeLate files (single_of words) q → Plausible files words (step_behind files written (Err q))
+  late_step files words q written m late = record { outcome = Err q; may = m; written = written; behind = inr late; is = refl }
+
+  pub Tried-from : (files : Files) (words : List (List ℕ)) (e : Option PlainFault) (before after : Option Files) (old new err_old err_new : Taken) (p q : ℕ) → before ≡ Some files → (IsSome e → after ≡ before)
+      → MayEndLate (MayComeLate files (single_of words)) (MayDo files (single_of words)) e after old new → Says err_old err_new p q (line_after e) → outside_of (status_after e) ≡ None
+      → Tried files words (status_after e) after old new err_old err_new p q
+  Tried-from files words e before after old new err_old err_new p q told stays (inl ends) says plain = Tried-end files words e before after old new err_old err_new p q told stays ends says plain
+  Tried-from files words e before after old new err_old err_new p q told stays (inr b) says plain =
+      subst (λ (v : Option PlainFault). (IsSome v → after ≡ before) → Says err_old err_new p q (line_after v) → Tried files words (status_after v) after old new err_old err_new p q) (sym b.is) (λ stays says.
+      let step = step_behind files b.output.bytes (Err b.refusal) in
+      let may = late_step files words b.refusal b.output.bytes b.may b.late in
+      record {
+        step = step;
+        may = may;
+        defined = λ s is. one_step one_archive one_file numbered files words s step is may;
+        ran = record { status = refl; files = λ f is. (let same : after ≡ before = stays refl in grind (arith, told, same, is)); output = b.output.takes; line = says };
+      }) stays says
 
   -- a prefix of the output of a step that may be taken
   wrote_some : (files : Files) (words : List (List ℕ)) (outcome : Result Outcome Refusal) (old new : Taken) → MayDo files (single_of words) outcome → TakesPrefix old new (output_of outcome) → Wrote files words old new
   wrote_some files words outcome old new m p =
-      let may : Plausible files words (step_from files outcome) = record { outcome = outcome; may = m; is = refl } in
+      let may : Plausible files words (step_from files outcome) = record { outcome = outcome; may = m; written = []; behind = inl refl; is = sym (behind-none files outcome) } in
       inr (record {
         step = step_from files outcome;
         may = may;
-        defined = λ s is. one_step one_archive one_file files words s (step_from files outcome) is may;
+        defined = λ s is. one_step one_archive one_file numbered files words s (step_from files outcome) is may;
         output = output_from files outcome old new p;
       })
 
@@ -192,34 +223,65 @@ module _ (one_archive : (vs : List PlainKeyed) (a b : PlainArchive) → ArchiveO
   wrote_outside files words old new d = elim d [ inl n ↦ inl n | inr p ↦ wrote_some files words p.outcome old new p.may p.output ]
 
   -- whatever its end, it has written nothing, or such a prefix
-  pub Wrote-from : (files : Files) (words : List (List ℕ)) (e : Option PlainFault) (after : Option Files) (old new : Taken) → MayEnd (MayDo files (single_of words)) e after old new → Wrote files words old new
+  Wrote-end : (files : Files) (words : List (List ℕ)) (e : Option PlainFault) (after : Option Files) (old new : Taken) → MayEnd (MayDo files (single_of words)) e after old new → Wrote files words old new
   unfolding MayEnd
-  Wrote-from files words None after old new ends = wrote_some files words (Ok ends.outcome) old new ends.may (TakesPrefix-all old new ends.outcome.output ends.output)
-  Wrote-from files words (Some (refused r)) after old new ends = inl ends.output
-  Wrote-from files words (Some folder_fault) after old new ends = wrote_outside files words old new ends
-  Wrote-from files words (Some out_fault) after old new ends = wrote_outside files words old new ends
-  Wrote-from files words (Some in_fault) after old new ends = wrote_outside files words old new ends
-  Wrote-from files words (Some memory) after old new ends = wrote_outside files words old new ends
+  Wrote-end files words None after old new ends = wrote_some files words (Ok ends.outcome) old new ends.may (TakesPrefix-all old new ends.outcome.output ends.output)
+  Wrote-end files words (Some (refused r)) after old new ends = inl ends.output
+  Wrote-end files words (Some folder_fault) after old new ends = wrote_outside files words old new ends
+  Wrote-end files words (Some out_fault) after old new ends = wrote_outside files words old new ends
+  Wrote-end files words (Some in_fault) after old new ends = wrote_outside files words old new ends
+  Wrote-end files words (Some memory) after old new ends = wrote_outside files words old new ends
+
+  pub Wrote-from : (files : Files) (words : List (List ℕ)) (e : Option PlainFault) (after : Option Files) (old new : Taken) → MayEndLate (MayComeLate files (single_of words)) (MayDo files (single_of words)) e after old new → Wrote files words old new
+  Wrote-from files words e after old new (inl ends) = Wrote-end files words e after old new ends
+  Wrote-from files words e after old new (inr b) =
+      let step = step_behind files b.output.bytes (Err b.refusal) in
+      let may = late_step files words b.refusal b.output.bytes b.may b.late in
+      inr (record { step = step; may = may; defined = λ s is. one_step one_archive one_file numbered files words s step is may; output = TakesPrefix-all old new b.output.bytes b.output.takes })
 
 -- ---- what the output gained
 
-pub gained-any : (e : Option PlainFault) (old new : Taken) → EndsGained e old new → Gained old new
+gained-ended : (e : Option PlainFault) (old new : Taken) → EndsGained e old new → Gained old new
 unfolding EndsGained
-gained-any None old new g = g
-gained-any (Some (refused r)) old new g = record { bytes = []; takes = Takes-kept old old new [] (Takes-nil old) g }
-gained-any (Some folder_fault) old new g = g
-gained-any (Some out_fault) old new g = g
-gained-any (Some in_fault) old new g = g
-gained-any (Some memory) old new g = g
+gained-ended None old new g = g
+gained-ended (Some (refused r)) old new g = record { bytes = []; takes = Takes-kept old old new [] (Takes-nil old) g }
+gained-ended (Some folder_fault) old new g = g
+gained-ended (Some out_fault) old new g = g
+gained-ended (Some in_fault) old new g = g
+gained-ended (Some memory) old new g = g
 
-pub gained-refused : (e : Option PlainFault) (old new : Taken) → EndsGained e old new → status_after e ≢ 0 → outside_of (status_after e) ≡ None → TakesNone old new
+none-ended : (e : Option PlainFault) (old new : Taken) → EndsGained e old new → status_after e ≢ 0 → outside_of (status_after e) ≡ None → TakesNone old new
 unfolding EndsGained
-gained-refused None old new g some plain = absurd (some refl)
-gained-refused (Some (refused r)) old new g some plain = g
-gained-refused (Some folder_fault) old new g some plain = cc
-gained-refused (Some out_fault) old new g some plain = cc
-gained-refused (Some in_fault) old new g some plain = cc
-gained-refused (Some memory) old new g some plain = cc
+none-ended None old new g some plain = absurd (some refl)
+none-ended (Some (refused r)) old new g some plain = g
+none-ended (Some folder_fault) old new g some plain = cc
+none-ended (Some out_fault) old new g some plain = cc
+none-ended (Some in_fault) old new g some plain = cc
+none-ended (Some memory) old new g some plain = cc
+
+pub gained-any : (c : Option PlainCommand) (e : Option PlainFault) (old new : Taken) → GainsBy c e old new → Gained old new
+gained-any c e old new (inl g) = gained-ended e old new g
+gained-any c e old new (inr late) = late.1
+
+-- what was met late has the status of damage
+met-status : (c : Option PlainCommand) (e : Option PlainFault) → IsMetLate c e → MayHaveWritten c (status_after e)
+met-status None e late = absurd late
+met-status (Some (norm spec doc)) e late = absurd late
+met-status (Some (init archive spec)) e late = absurd late
+met-status (Some (add archive doc)) e late = absurd late
+met-status (Some (get archive i)) e late = ap status_after late
+met-status (Some (history archive path)) e late = absurd late
+met-status (Some (check archive)) e late = absurd late
+met-status (Some (stats archive)) e late = absurd late
+met-status (Some batch) e late = absurd late
+met-status (Some (demo seed count archive)) e late = absurd late
+
+pub gained-refused : (c : Option PlainCommand) (e : Option PlainFault) (old new : Taken) → GainsBy c e old new → status_after e ≢ 0 → outside_of (status_after e) ≡ None → ¬ MayHaveWritten c (status_after e) → TakesNone old new
+gained-refused c e old new (inl g) some plain early = none-ended e old new g some plain
+gained-refused c e old new (inr late) some plain early = absurd (early (met-status c e late.0))
+
+pub gains_by : (words : List (List ℕ)) (o : Option PlainCommand) (e : Option PlainFault) (old new : Taken) → single_of words ≡ o → GainsBy o e old new → GainsBy (single_of words) e old new
+gains_by words o e old new is h = subst (λ (c : Option PlainCommand). GainsBy c e old new) (sym is) h
 
 -- a command does not end as words that are none
 pub usage-command : (words : List (List ℕ)) (command : PlainCommand) (a b p q : ℕ) (e : Option PlainFault) → single_of words ≡ Some command → IsOfCommand a b p q e
@@ -261,6 +323,7 @@ only_makes_none (init archive spec) h = absurd h
 only_makes_none (add archive doc) h = absurd h
 only_makes_none (get archive i) h = refl
 only_makes_none (history archive path) h = refl
+only_makes_none (check archive) h = refl
 only_makes_none (stats archive) h = refl
 only_makes_none batch h = absurd h
 only_makes_none (demo seed count archive) h = absurd h
@@ -288,6 +351,7 @@ once_by (Some (init archive spec)) told before after P Q f h = tt
 once_by (Some (add archive doc)) told before after P Q f h = λ files rules vs a is there of small not. h files rules vs a is there of small (λ p. not (f p))
 once_by (Some (get archive i)) told before after P Q f h = tt
 once_by (Some (history archive path)) told before after P Q f h = tt
+once_by (Some (check archive)) told before after P Q f h = tt
 once_by (Some (stats archive)) told before after P Q f h = tt
 once_by (Some batch) told before after P Q f h = tt
 once_by (Some (demo seed count archive)) told before after P Q f h = tt

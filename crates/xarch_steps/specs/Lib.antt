@@ -8,8 +8,12 @@ pub mod Searched
 pub mod Get
 pub mod History
 pub mod Stats
+pub mod Check
 pub mod Demo
 pub mod Step
 pub mod Ran
 pub mod Plausible
+pub mod PlausibleLaws
+pub mod Texts
+pub mod Written
 pub mod Succeeds

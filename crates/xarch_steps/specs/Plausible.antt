@@ -1,15 +1,18 @@
 -- What a command may do to any files, whether the archive that it names is sound or not.
 use Rattle.std.specs.Prelude.{◌≡◌, ◌⊎◌, ℕ, List, [], ◌&&◌, nat_le, Option, Some, None, Result, Ok, Err, if◌then◌else◌}
 use Rattle.std.specs.FinMap as map
+use Rattle.std.specs.Result.{IsOk}
 use Rattle.xa_outside.specs.Folder.{Files}
 use Rattle.xa_outside.specs.Taken.{Taken, TakesNone, TakesPrefix}
 use Rattle.key_spec.specs.Data.{PlainRule}
 use Rattle.keyed_tree.specs.Data.{PlainLabel, PlainKeyed}
 use Rattle.record_format.specs.Fronts.{fixed}
-use Rattle.xarch_words.specs.Commands.{PlainCommand, norm, init, add, get, history, stats, batch, demo}
-use Rattle.xarch_words.specs.Refusal.{archive, document, Refusal, usage, damaged, no_version, limit}
+use Rattle.xarch_words.specs.Commands.{PlainCommand, norm, init, add, get, history, check, stats, batch, demo}
+use Rattle.xarch_words.specs.Lines.{fault_line, refusal_status}
+use Rattle.xarch_words.specs.Refusal.{archive, document, Refusal, usage, damaged, no_version, limit, refused}
 use Rattle.xarch_steps.specs.Add.{AddsTo, room_behind}
 use Rattle.xarch_steps.specs.Added.{tree_of}
+use Rattle.xarch_steps.specs.Check.{CheckIs}
 use Rattle.xarch_parts.specs.Archives.{ArchiveIs, GoesOn}
 use Rattle.xarch_steps.specs.Demo.{DemoIs}
 use Rattle.xarch_steps.specs.Get.{GetsFrom}
@@ -108,6 +111,7 @@ MayBe files (init name spec) r = InitIs files name spec r
 MayBe files (add name doc) r = MayOver files name (GoesOn (add_input files name doc) (λ _. MayAdd files name)) (AddsTo files name doc) r
 MayBe files (get name i) r = MayOver files name (GoesOn (get_input files name i) (λ _. MayWrite files name)) (GetsFrom files i) r
 MayBe files (history name path) r = MayOver files name (GoesOn (history_input files name path) (λ _. MayWrite files name)) (TellsFrom files path) r
+MayBe files (check name) r = CheckIs files name r
 MayBe files (stats name) r = MayOver files name (GoesOn (file_of files name) (λ _. MayWrite files name)) (CountsFrom files) r
 MayBe files batch r = r ≡ Err usage
 MayBe files (demo seed count name) r = DemoIs files seed count name r
@@ -116,11 +120,28 @@ abbrev pub MayDo : Files → Option PlainCommand → Result Outcome Refusal → 
 MayDo files None r = r ≡ Err usage
 MayDo files (Some command) r = MayBe files command r
 
--- a step that a command may have the program take, or that what is no command may
+-- A refusal that may come late, behind output: a `get` may meet damage while it writes, once what it reads first has told that there is such a
+-- version. Nothing else is refused late.
+abbrev pub MayComeLate : Files → Option PlainCommand → Refusal → Type 0
+MayComeLate files (Some (get name i)) r = (r ≡ damaged name) × IsOk (get_input files name i)
+MayComeLate files other r = ⊥
+
+abbrev pub IsLate : Files → Option PlainCommand → Result Outcome Refusal → Type 0
+IsLate files c (Ok o) = ⊥
+IsLate files c (Err r) = MayComeLate files c r
+
+-- the step of an outcome, where this was written before a refusal
+abbrev pub step_behind : Files → List ℕ → Result Outcome Refusal → Step
+step_behind files written (Ok o) = step_from files (Ok o)
+step_behind files written (Err r) = record { files = files; output = written; line = fault_line (refused r); status = refusal_status r }
+
+-- A step that a command may have the program take, or that what is no command may. Before a refusal nothing was written, but for one that comes late.
 pub record MayStep (files : Files) (c : Option PlainCommand) (s : Step) : Type 0 where
   pub outcome : Result Outcome Refusal
   pub may : MayDo files c outcome
-  pub is : s ≡ step_from files outcome
+  pub written : List ℕ
+  pub behind : (written ≡ []) ⊎ IsLate files c outcome
+  pub is : s ≡ step_behind files written outcome
 
 -- a step that the words may have the program take
 abbrev pub Plausible : Files → List (List ℕ) → Step → Type 0

@@ -1,15 +1,15 @@
 -- What a call of the program did, against what is defined.
-use Rattle.std.specs.Prelude.{◌≡◌, ℕ, ◌+◌, ◌<◌, ◌==◌, List, [], Option, Some, None, if◌then◌else◌, ⊤}
+use Rattle.std.specs.Prelude.{◌≡◌, ◌⊎◌, ℕ, ◌+◌, ◌<◌, ◌==◌, List, [], Option, Some, None, if◌then◌else◌, ⊤}
 use Rattle.std.specs.Option.{option_map_or}
 use Rattle.xa_outside.specs.Causes.{Rose}
 use Rattle.xa_outside.specs.Folder.{Files}
 use Rattle.xa_outside.specs.Numbers.{Numbers, PullsAtMost}
 use Rattle.xa_outside.specs.Taken.{Taken, Takes, TakesPrefix}
-use Rattle.xarch_words.specs.Commands.{PlainCommand, norm, init, add, get, history, stats, batch, demo}
+use Rattle.xarch_words.specs.Commands.{PlainCommand, norm, init, add, get, history, check, stats, batch, demo}
 use Rattle.xarch_words.specs.Lines.{fault_status, fault_line}
-use Rattle.xarch_words.specs.Refusal.{PlainFault, folder_fault, out_fault, in_fault, memory}
+use Rattle.xarch_words.specs.Refusal.{PlainFault, damaged, refused, folder_fault, out_fault, in_fault, memory}
 use Rattle.xarch_parts.specs.Outcome.{Step}
-use Rattle.xarch_parts.specs.Ends.{TellsOnly}
+use Rattle.xarch_parts.specs.Ends.{EndsGained, Gained, TellsOnly}
 use Rattle.xarch_parts.specs.Folders.{Counts, CountsInTurn}
 use Rattle.xarch_parts.specs.Inputs.{size_in}
 
@@ -55,6 +55,7 @@ made_name (init archive spec) = Some archive
 made_name (add archive doc) = Some archive
 made_name (get archive i) = None
 made_name (history archive path) = None
+made_name (check archive) = None
 made_name (stats archive) = None
 made_name batch = None
 made_name (demo seed count archive) = Some archive
@@ -67,6 +68,7 @@ most_pulled (init archive spec) told = 1048576
 most_pulled (add archive doc) told = size_in told archive + 67108864
 most_pulled (get archive i) told = size_in told archive
 most_pulled (history archive path) told = size_in told archive
+most_pulled (check archive) told = size_in told archive
 most_pulled (stats archive) told = size_in told archive
 most_pulled batch told = 0
 most_pulled (demo seed count archive) told = 0
@@ -93,3 +95,17 @@ CountsAsSaid None told = PullsAtMost 0
 CountsAsSaid (Some batch) told = λ before after. ⊤
 CountsAsSaid (Some (add archive doc)) told = CountsInTurn (most_pulled (add archive doc) told)
 CountsAsSaid (Some command) told = Counts (made_name command) (most_pulled command told)
+
+-- Words with this answer may have written something before they were refused: a `get` that met damage.
+abbrev pub MayHaveWritten : Option PlainCommand → ℕ → Type 0
+MayHaveWritten (Some (get archive i)) answer = answer ≡ 11
+MayHaveWritten other answer = ⊥
+
+-- the same of the fault with which a command ended
+abbrev pub IsMetLate : Option PlainCommand → Option PlainFault → Type 0
+IsMetLate (Some (get archive i)) ended = ended ≡ Some (refused (damaged archive))
+IsMetLate other ended = ⊥
+
+-- What the output gained, whatever the folder tells: nothing where the command was refused, unless the refusal came late.
+abbrev pub GainsBy : Option PlainCommand → Option PlainFault → Taken → Taken → Type 0
+GainsBy c ended old new = EndsGained ended old new ⊎ (IsMetLate c ended × Gained old new)

@@ -6,7 +6,7 @@ use Rattle.keyed_tree.specs.Data.{PlainLabel, PlainKeyed}
 use Rattle.archive_tree.specs.Stands.{version_of}
 use Rattle.record_format.specs.Files.{FileOf}
 use Rattle.xarch_gen.specs.Company.{company_rules}
-use Rattle.xarch_words.specs.Commands.{PlainCommand, norm, init, add, get, history, stats, batch, demo}
+use Rattle.xarch_words.specs.Commands.{PlainCommand, norm, init, add, get, history, check, stats, batch, demo}
 use Rattle.xarch_words.specs.Refusal.{Refusal}
 use Rattle.xarch_steps.specs.Add.{added}
 use Rattle.xarch_parts.specs.Archives.{ArchiveIs}
@@ -56,7 +56,7 @@ pub record CanTell (files : Files) (name path : List ℕ) : Type 0 where
   pub spelled : labels_of rules path ≡ Ok labels
 
 -- the archive is sound
-pub record CanCount (files : Files) (name : List ℕ) : Type 0 where
+pub record HasArchive (files : Files) (name : List ℕ) : Type 0 where
   pub rules : List PlainRule
   pub versions : List PlainKeyed
   pub archive : ArchiveIs files name rules versions
@@ -74,6 +74,7 @@ ShouldSucceed files (init name spec) = CanInit files name spec
 ShouldSucceed files (add name doc) = CanAdd files name doc
 ShouldSucceed files (get name i) = CanGet files name i
 ShouldSucceed files (history name path) = CanTell files name path
-ShouldSucceed files (stats name) = CanCount files name
+ShouldSucceed files (check name) = HasArchive files name
+ShouldSucceed files (stats name) = HasArchive files name
 ShouldSucceed files batch = ⊥
 ShouldSucceed files (demo seed count name) = CanDemo files seed count name

@@ -1,30 +1,27 @@
 #![tactic(auto, using(xarch_parts::specs::EndLaws::endings), unfolding(xarch_parts::specs::Ends::IsInside, xarch_parts::specs::Ends::IsDefined))]
 
-ghost use Rattle.std.specs.Prelude.{◌≡◌, List, Some, None, IfOk, IfErr, IsSome};
+ghost use Rattle.std.specs.Prelude.{◌≡◌, ◌<◌, Some, None};
 ghost use Rattle.xa_outside.specs.Folder.{Files};
-ghost use Rattle.key_spec.specs.Data.{PlainRule};
-ghost use Rattle.keyed_tree.specs.Data.{PlainKeyed};
-ghost use Rattle.keyed_tree.specs.View.{keyed_view};
-ghost use Rattle.archive_tree.specs.Stands.{version_of};
-ghost use Rattle.record_format.specs.Fronts.{fixed};
-ghost use Rattle.archive_file.specs.Sound.{SoundAs};
 ghost use Rattle.xarch_words.specs.Commands.{get};
-ghost use Rattle.xarch_words.specs.Refusal as refusal;
 ghost use Rattle.xarch_words.specs.View.{fault_view};
-ghost use Rattle.xarch_parts.specs.Archives.{IsRefusal, NoRefusal};
-ghost use Rattle.xarch_parts.specs.Ends.{EndsGained, IsCaused, IsInside, Matches, fault_of};
-ghost use Rattle.xarch_parts.specs.Folders.{Counts, Keeps, ReadsOnly};
+ghost use Rattle.xarch_parts.specs.Ends.{IsCaused, fault_of};
+ghost use Rattle.xarch_parts.specs.Folders.{Counts, Keeps};
 ghost use Rattle.xarch_parts.specs.Inputs.{size_in};
-ghost use Rattle.xarch_parts.specs.Outcome.{and_then, or_refuse};
-ghost use Rattle.xarch_parts.specs.Allowed.{MayEnd};
-ghost use Rattle.xarch_steps.specs.Plausible.{MayBe, get_input, is_version};
+ghost use Rattle.xarch_parts.specs.Allowed.{MayEndLate};
+ghost use Rattle.xarch_steps.specs.Plausible.{MayBe, MayComeLate};
+ghost use Rattle.xarch_steps.specs.Ran.{GainsBy};
+ghost use Rattle.xarch_steps.specs.ReadsBack.{ReadsLittle};
+ghost use Rattle.xarch_steps.specs.Written.{IsWrittenAs, Writes, written_state};
 
-use archive_file::fixed_of;
-use keyed_tree::Keyed;
+use crate::laws::archives_tell_their_texts;
+use file_get::GetFault;
 use record_format::versions_have_one_file;
 use std::alloc::Global;
+use std::marker::Brand;
+use std::sync::ledger::{Blank, Ledger};
+use timestamp_tree::Steps;
 use xa_outside::{Folder, Sink};
-use xarch_parts::{archive_from, damaged, read_file, write_keyed};
+use xarch_parts::{damaged, length_of};
 use xarch_words::Fault;
 
 /// Writes a version of an archive in key order.
@@ -41,64 +38,72 @@ pub(crate) fn run_get<F: Folder, O: Sink>(
     ensures caused { IsCaused (F.faults folder.old) (F.faults folder.new) (O.faults out.old)
         (O.faults out.new) (fault_of result) }
     ensures may { (files : Files) → F.files folder.old ≡ Some files
-        → MayEnd (MayBe files (get archive.now version)) (fault_of result) (F.files folder.new)
+        → MayEndLate (MayComeLate files (Some (get archive.now version)))
+        (MayBe files (get archive.now version)) (fault_of result) (F.files folder.new)
         (O.taken out.old) (O.taken out.new) }
-    ensures gained { EndsGained (fault_of result) (O.taken out.old) (O.taken out.new) }
+    ensures little { ReadsLittle (Some (get archive.now version)) (F.files folder.old)
+        (F.numbers folder.old) (F.numbers folder.new) }
+    ensures gained { GainsBy (Some (get archive.now version)) (fault_of result)
+        (O.taken out.old) (O.taken out.new) }
 {
-    // A law, for the proof of `may`.
-    versions_have_one_file();
-    let bytes = read_counted(alloc, archive, version, folder)?;
-    let keyed = version_from(alloc, archive, &bytes, version)?;
-    write_keyed(&keyed, out)
+    let size = length_of(alloc, folder, archive)?;
+    let asked = Asked {
+        archive,
+        size,
+        version,
+    };
+    write_version::<F, O, Brand>(Blank::new(1), alloc, &asked, folder, out)
 }
 
-// The bytes of the archive, whose header counts the version.
-fn read_counted<F: Folder>(
-    alloc: Global,
-    archive: &str,
+/// A version, by its number, that is asked for of the archive of this name, whose file has this
+/// size.
+#[derive(Clone, Copy)]
+struct Asked<'a> {
+    archive: &'a str,
+    size: u64,
     version: u32,
-    folder: &mut F,
-) -> Result<Vec<u8>, Fault>
-    ensures reads { ReadsOnly F.files F.draft F.numbers F.faults
-        (size_in (F.files folder.old) archive.now)
-        folder.old folder.new (fault_of result) }
-    ensures told { (files : Files) → F.files folder.old ≡ Some files
-        → Matches (λ v. v.items) (get_input files archive.now version) result }
-{
-    let bytes = read_file(alloc, folder, archive)?;
-    check_version(alloc, archive, &bytes, version)?;
-    Ok(bytes)
 }
 
-// Nothing, where the header of the archive of this name counts the version.
-fn check_version(alloc: Global, name: &str, bytes: &[u8], version: u32) -> Result<(), Fault>
-    ensures cause { IsInside (fault_of result) }
-    ensures told { Matches (λ _. tt)
-        (and_then (or_refuse (fixed bytes.now) (refusal.damaged name.now))
-        (λ n. is_version n version)) result }
+// Writes the version as it is read.
+fn write_version<F: Folder, O: Sink, L: Ledger>(
+    blank: Blank,
+    alloc: Global,
+    asked: &Asked<'_>,
+    folder: &mut F,
+    out: &mut O,
+) -> Result<(), Fault>
+    requires name { blank.name ≡ L.name }
+    requires parts { blank.parts ≡ L.parts }
+    requires some { 0 < blank.parts }
+    ensures { Writes asked.now.archive.now asked.now.size asked.now.version
+        (written_state F.files F.draft F.numbers F.faults O.taken O.faults folder.old out.old)
+        (written_state F.files F.draft F.numbers F.faults O.taken O.faults folder.new out.new)
+        (fault_of result) }
 {
-    match fixed_of(bytes) {
-        Some(n) if 1 <= version && version <= n => Ok(()),
-        Some(n) => Err(Fault::NoVersion { i: version, n }),
-        None => Err(damaged(alloc, name)),
+    // Laws, for the proof of what may be written.
+    versions_have_one_file();
+    archives_tell_their_texts();
+    let mut steps: Steps<L> = Steps::new(blank);
+    let Asked {
+        archive,
+        size,
+        version,
+    } = *asked;
+    match file_get::get(alloc, folder, archive, size, version, out, &mut steps) {
+        Ok(()) => Ok(()),
+        Err(fault) => Err(shown_fault(alloc, archive, version, fault)),
     }
 }
 
-// The version of the archive of this name, whose bytes these are.
-fn version_from(alloc: Global, name: &str, bytes: &[u8], version: u32) -> Result<Keyed, Fault>
-    ensures cause { IsInside (fault_of result) }
-    ensures damaged { IfErr result (λ f. IsRefusal (refusal.damaged name.now) (fault_view f)) }
-    ensures item { (rules : List PlainRule) (vs : List PlainKeyed) → SoundAs rules vs bytes.now
-        → IfOk result (λ k. version_of vs version ≡ Some (keyed_view k)) }
-    ensures reads { (rules : List PlainRule) (vs : List PlainKeyed) → SoundAs rules vs bytes.now
-        → IsSome (version_of vs version)
-        → IfErr result (λ f. NoRefusal (fault_view f)) }
+// What is said of the fault, where it befell the version of the archive of this name.
+fn shown_fault(alloc: Global, archive: &str, version: u32, fault: GetFault) -> Fault
+    ensures { IsWrittenAs archive.now version fault (fault_view result) }
 {
-    let (_, archive) = archive_from(alloc, name, bytes)?;
-    match archive.version(alloc, version)? {
-        Some(keyed) => Ok(keyed),
-
-        // Its header counts other versions than it has.
-        None => Err(damaged(alloc, name)),
+    match fault {
+        GetFault::NoVersion { n } => Fault::NoVersion { i: version, n },
+        GetFault::Damage => damaged(alloc, archive),
+        GetFault::Folder => Fault::FolderFault,
+        GetFault::Out => Fault::OutFault,
+        GetFault::Memory => Fault::Memory,
     }
 }

@@ -3,6 +3,7 @@
 #![tactic(auto)]
 
 mod add;
+mod check;
 mod demo;
 mod fronts;
 mod get;

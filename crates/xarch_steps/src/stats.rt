@@ -122,9 +122,13 @@ fn put_sizes<K: Sink>(counts: &Counts, sink: &mut K) -> Result<(), Failed>
     put_count(sink, b"bytes ", counts.bytes)
 }
 
-/// A number behind its name, and a line feed.
+/// Writes a number behind its name, and a line feed.
 #[tactic(auto, using(xa_outside::specs::TakenLaws::outputs))]
-fn put_count<K: Sink, N: Integer>(sink: &mut K, name: &[u8], number: N) -> Result<(), Failed>
+pub(crate) fn put_count<K: Sink, N: Integer>(
+    sink: &mut K,
+    name: &[u8],
+    number: N,
+) -> Result<(), Failed>
     ensures bytes { Puts (K.taken sink.old) (K.taken sink.new) result
         (name.now ++ N.text number ++ codes "\n") }
     ensures cause { HasCause (K.faults sink.old) (K.faults sink.new) result }

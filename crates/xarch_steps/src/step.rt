@@ -9,18 +9,19 @@ ghost use Rattle.xarch_words.specs.Lines.{fault_line};
 ghost use Rattle.xarch_words.specs.Refusal as refusal;
 ghost use Rattle.xarch_words.specs.Refusal.{folder_fault, limit, refused, usage};
 ghost use Rattle.xarch_words.specs.View.{command_view, words_view};
-ghost use Rattle.xarch_parts.specs.Ends.{EndsGained, Gained, HasItsCause, IsCaused, fault_of};
+ghost use Rattle.xarch_parts.specs.Ends.{Gained, HasItsCause, IsCaused, fault_of};
 ghost use Rattle.xarch_parts.specs.Folders.{IsTold, Keeps};
 ghost use Rattle.xarch_parts.specs.Outcome.{Step};
-ghost use Rattle.xarch_parts.specs.Allowed.{MayEnd};
+ghost use Rattle.xarch_parts.specs.Allowed.{MayEndLate};
 ghost use Rattle.xarch_steps.specs.OnePass.{GoesOnce};
-ghost use Rattle.xarch_steps.specs.Plausible.{MayBe, MayDo, Tried, Wrote};
-ghost use Rattle.xarch_steps.specs.Ran.{CountsAsSaid, IsLongDemo, OnlyReads, Said, Says, line_after, made_name, outside_of, status_after};
+ghost use Rattle.xarch_steps.specs.Plausible.{MayBe, MayComeLate, MayDo, Tried, Wrote};
+ghost use Rattle.xarch_steps.specs.Ran.{CountsAsSaid, GainsBy, IsLongDemo, MayHaveWritten, OnlyReads, Said, Says, line_after, made_name, outside_of, status_after};
 ghost use Rattle.xarch_steps.specs.ReadsBack.{ReadsLittle};
 ghost use Rattle.xarch_steps.specs.Step.{StepIs, alone, single_of};
 ghost use Rattle.xarch_steps.specs.Succeeds.{ShouldSucceed};
 
 use crate::add::run_add;
+use crate::check::run_check;
 use crate::demo::run_demo;
 use crate::get::run_get;
 use crate::history::run_history;
@@ -37,8 +38,8 @@ use xarch_words::{Command, Fault, read_words, status, write_fault};
 ///
 /// Words that are no command, and `batch`, are refused. Every fault writes one line to `err`; a
 /// failure of `err` changes no status. Input files are read directly before the first step that
-/// judges their bytes: whole, but the archive of `add`, which is read record by record, and that of
-/// `history`, of which only what its search looks at is read.
+/// judges their bytes: whole, but the archive of `add`, which is read record by record, and those of
+/// `get` and `history`, of which only what their searches look at is read.
 pub fn take_step<F: Folder, O: Sink, E: Sink>(
     alloc: Global,
     words: &[String],
@@ -49,7 +50,7 @@ pub fn take_step<F: Folder, O: Sink, E: Sink>(
     // What is done where files are told: one of the steps that the words may have the program take,
     // and the one that is defined where the archive that they name is absent or sound. Status,
     // files, output and line are that step's, but after a fault of the outside, which leaves a
-    // prefix of its output.
+    // prefix of its output. A refusal has no output, but where a `get` meets damage while it writes.
     ensures tried { (files : Files) → F.files folder.old ≡ Some files → outside_of result ≡ None
         → Tried files (words_view words.now) result (F.files folder.new) (O.taken out.old)
         (O.taken out.new) (E.taken err.old) (E.taken err.new) (E.faults err.old)
@@ -57,9 +58,11 @@ pub fn take_step<F: Folder, O: Sink, E: Sink>(
     ensures wrote { (files : Files) → F.files folder.old ≡ Some files
         → Wrote files (words_view words.now) (O.taken out.old) (O.taken out.new) }
 
-    // What is written whatever the folder tells: nothing where a command is refused.
+    // What is written whatever the folder tells: nothing where a command is refused, but for a `get`
+    // that meets damage while it writes.
     ensures gained { Gained (O.taken out.old) (O.taken out.new) }
     ensures nothing { result ≢ 0 → outside_of result ≡ None
+        → ¬ MayHaveWritten (single_of (words_view words.now)) result
         → TakesNone (O.taken out.old) (O.taken out.new) }
 
     // What should succeed does: in conditions on the files, and wherever a step is defined.
@@ -131,7 +134,8 @@ fn command_words<F: Folder, O: Sink>(
     ensures folder_later { F.faults folder.old ≤ F.faults folder.new }
     ensures out_later { O.faults out.old ≤ O.faults out.new }
     ensures may { (files : Files) → F.files folder.old ≡ Some files
-        → MayEnd (MayDo files (single_of (words_view words.now))) (fault_of result)
+        → MayEndLate (MayComeLate files (single_of (words_view words.now)))
+        (MayDo files (single_of (words_view words.now))) (fault_of result)
         (F.files folder.new) (O.taken out.old) (O.taken out.new) }
     ensures refused { OnErr result (F.files folder.new ≡ F.files folder.old) }
     ensures untold { F.files folder.old ≡ None → F.files folder.new ≡ None }
@@ -148,7 +152,8 @@ fn command_words<F: Folder, O: Sink>(
         (F.numbers folder.old) (F.numbers folder.new) (fault_of result ≡ Some folder_fault) }
     ensures little { ReadsLittle (single_of (words_view words.now)) (F.files folder.old)
         (F.numbers folder.old) (F.numbers folder.new) }
-    ensures gained { EndsGained (fault_of result) (O.taken out.old) (O.taken out.new) }
+    ensures gained { GainsBy (single_of (words_view words.now)) (fault_of result)
+        (O.taken out.old) (O.taken out.new) }
 {
     match single_command(words) {
         None => Err(Fault::Usage),
@@ -181,7 +186,8 @@ fn run_command<F: Folder, O: Sink>(
     ensures caused { IsCaused (F.faults folder.old) (F.faults folder.new) (O.faults out.old)
         (O.faults out.new) (fault_of result) }
     ensures may { (files : Files) → F.files folder.old ≡ Some files
-        → MayEnd (MayBe files (command_view command.entry)) (fault_of result) (F.files folder.new)
+        → MayEndLate (MayComeLate files (Some (command_view command.entry)))
+        (MayBe files (command_view command.entry)) (fault_of result) (F.files folder.new)
         (O.taken out.old) (O.taken out.new) }
     ensures long_demo { IsLongDemo (Some (command_view command.entry))
         → fault_of result ≡ Some (refused (limit refusal.demo 1000)) }
@@ -189,7 +195,8 @@ fn run_command<F: Folder, O: Sink>(
         (F.numbers folder.old) (F.numbers folder.new) (fault_of result ≡ Some folder_fault) }
     ensures little { ReadsLittle (Some (command_view command.entry)) (F.files folder.old)
         (F.numbers folder.old) (F.numbers folder.new) }
-    ensures gained { EndsGained (fault_of result) (O.taken out.old) (O.taken out.new) }
+    ensures gained { GainsBy (Some (command_view command.entry)) (fault_of result)
+        (O.taken out.old) (O.taken out.new) }
 {
     match command {
         Command::Norm { spec, doc } => run_norm(alloc, spec, doc, folder, out),
@@ -197,6 +204,7 @@ fn run_command<F: Folder, O: Sink>(
         Command::Add { archive, doc } => run_add(alloc, archive, doc, folder),
         Command::Get { archive, version } => run_get(alloc, archive, version, folder, out),
         Command::History { archive, path } => run_history(alloc, archive, path, folder, out),
+        Command::Check { archive } => run_check(alloc, archive, folder, out),
         Command::Stats { archive } => run_stats(alloc, archive, folder, out),
         Command::Demo {
             seed,

@@ -17,6 +17,8 @@ pub data PlainCommand : Type 0 where
   -- the archive and the path of an element
   history : List ℕ → List ℕ → PlainCommand
   -- the archive
+  check : List ℕ → PlainCommand
+  -- the archive
   stats : List ℕ → PlainCommand
   -- the commands that the input spells
   batch : PlainCommand
@@ -31,7 +33,10 @@ abbrev pub command_of_one : List ℕ → Option PlainCommand
 command_of_one word = if bytes_eq word (codes "batch") then Some batch else None
 
 abbrev pub command_of_two : List ℕ → List ℕ → Option PlainCommand
-command_of_two word archive = if bytes_eq word (codes "stats") then Some (stats archive) else None
+command_of_two word archive =
+    if bytes_eq word (codes "check") then Some (check archive)
+    else (if bytes_eq word (codes "stats") then Some (stats archive)
+    else None)
 
 -- what a command reads from an archive
 unfoldable pub question_of : List ℕ → List ℕ → List ℕ → Option PlainCommand

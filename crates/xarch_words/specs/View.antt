@@ -4,7 +4,7 @@ use Rattle.std.specs.declared.alloc.Global.{Global}
 use Rattle.jsonml_tree.specs.View.{place_view}
 use Rattle.key_rules.specs.View as keys
 use Rattle.xarch_words.specs.Commands as commands
-use Rattle.xarch_words.specs.Commands.{PlainCommand, norm, init, add, get, history, stats}
+use Rattle.xarch_words.specs.Commands.{PlainCommand, norm, init, add, get, history, check, stats}
 use Rattle.xarch_words.specs.Refusal.{PlainQuantity, document, depth, versions, specification, archive, line, batch, demo, usage, no_file, exists, bad_spec, bad_json, bad_shape, key_fault, no_version, bad_path, damaged, limit, PlainFault, refused, folder_fault, out_fault, in_fault, memory}
 use Rattle.xarch_words.specs.declared.fault.Fault.{Fault}
 use Rattle.xarch_words.specs.declared.fault.Fault.TheVariants.{Usage, NoFile, Exists, BadSpec, BadJson, BadShape, KeyFault, NoVersion, BadPath, Damaged, Limit, FolderFault, OutFault, InFault, Memory}
@@ -12,7 +12,7 @@ use Rattle.xarch_words.specs.declared.fault.Quantity.{Quantity}
 use Rattle.xarch_words.specs.declared.fault.Quantity.TheVariants as quantities
 use Rattle.xarch_words.specs.declared.fault.Quantity.TheVariants.{Document, Depth, Versions, Specification, Archive, Line}
 use Rattle.xarch_words.specs.declared.words.Command.{Command}
-use Rattle.xarch_words.specs.declared.words.Command.TheVariants.{Norm, Init, Add, Get, History, Stats, Batch, Demo}
+use Rattle.xarch_words.specs.declared.words.Command.TheVariants.{Norm, Init, Add, Get, History, Check, Stats, Batch, Demo}
 
 abbrev pub words_view : List (String Global) → List (List ℕ)
 words_view words = map string_bytes words
@@ -23,6 +23,7 @@ command_view (Init name spec) = init name.now spec.now
 command_view (Add name doc) = add name.now doc.now
 command_view (Get name version) = get name.now version
 command_view (History name path) = history name.now path.now
+command_view (Check name) = check name.now
 command_view (Stats name) = stats name.now
 command_view Batch = commands.batch
 command_view (Demo seed count name) = commands.demo seed count name.now

@@ -34,6 +34,10 @@ pub enum Command<'a> {
         archive: &'a str,
         path: &'a str,
     },
+    /// Tells whether a file is a sound archive, and of how many versions.
+    Check {
+        archive: &'a str,
+    },
     /// Writes how much an archive holds.
     Stats {
         archive: &'a str,
@@ -74,6 +78,7 @@ fn two_words<'a>(word: &str, archive: &'a str) -> Option<Command<'a>>
     ensures { option_map command_view result ≡ command_of_two word.now archive.now }
 {
     match word {
+        "check" => Some(Command::Check { archive }),
         "stats" => Some(Command::Stats { archive }),
         _ => None,
     }

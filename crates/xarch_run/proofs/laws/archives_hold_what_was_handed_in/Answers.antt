@@ -1,4 +1,5 @@
 use Rattle.xarch_run.proofs.CallLemmas.{calls-did, line-may, words-may}
+use Rattle.xarch_run.proofs.CheckLemmas.{checking, judging}
 use Rattle.xarch_run.proofs.HeldLemmas.{accepted, all-absent, all-hold, all-refused, counting, exact, getting, handed-holds, in-order, one-held, satisfying, should-succeed, step-begins, telling}
 use Rattle.xarch_run.proofs.laws.archives_hold_what_was_handed_in.Goals as goal
 
@@ -43,6 +44,12 @@ returns-clause-tells c = λ files name held s path holds may. telling files name
 
 pub returns-clause-counts : goal.returns-clause-counts
 returns-clause-counts c = λ files name held s holds may. counting files name held s holds may
+
+pub returns-clause-checks : goal.returns-clause-checks
+returns-clause-checks c = λ files name held s holds may. checking files name s c.sound_archives_have_one_reading.ensures.one held holds may
+
+pub returns-clause-judges : goal.returns-clause-judges
+returns-clause-judges c = judging
 
 pub returns-clause-calls : goal.returns-clause-calls
 returns-clause-calls c = λ files now calls commands steps did. calls-did files calls now commands steps did

@@ -6,7 +6,7 @@ use Rattle.xarch_run.specs.Batch.{scene}
 use Rattle.xarch_run.specs.Calls.{call_of}
 use Rattle.xarch_run.proofs.BatchFronts.{batch-did}
 use Rattle.xarch_run.proofs.CallLemmas.{single-did}
-use Rattle.xarch_run.proofs.CommandLemmas.{alone-counts, alone-little, alone-once, alone-reads, batch-demo, batch-little, batch-none, none-alone, answer-calm, answer-folder, answer-input, answer-out, answer-words, batch-counts, batch-fails, batch-once, batch-reads, fails, holds}
+use Rattle.xarch_run.proofs.CommandLemmas.{alone-counts, alone-late, alone-little, alone-once, alone-reads, batch-demo, batch-little, batch-none, none-alone, answer-calm, answer-folder, answer-input, answer-out, answer-words, batch-counts, batch-fails, batch-once, batch-reads, fails, holds}
 use Rattle.xarch_run.proofs.program.run.Goals as goal
 
 -- ---- a batch
@@ -145,7 +145,7 @@ pub returns-else-is_batch-clause-gained : goal.returns-else-is_batch-clause-gain
 returns-else-is_batch-clause-gained g c = λ _. c.take_step.ensures.gained
 
 pub returns-else-is_batch-clause-nothing : goal.returns-else-is_batch-clause-nothing
-returns-else-is_batch-clause-nothing g c = λ _. c.take_step.ensures.nothing
+returns-else-is_batch-clause-nothing g c = λ _ some plain early. c.take_step.ensures.nothing some plain (λ late. early (alone-late (command_of (words_view c.args.words.now)) _ late))
 
 pub returns-then-is_batch-clause-one_pass : goal.returns-then-is_batch-clause-one_pass
 returns-then-is_batch-clause-one_pass g c = batch-once _ _ _ _ _ (holds _ _ c.if-is_batch.true c.is_batch.ensures)

@@ -1,55 +1,55 @@
-use Rattle.std.proofs.Common.{List, ℕ, Ok, sym, ap, ◌∙◌}
-use Rattle.keyed_tree.specs.View.{keyed_view}
+use Rattle.std.proofs.Common.{inl, ◌∙◌, arith}
+use Rattle.xa_outside.specs.NumberLaws.{PullsAtMost-more}
 use Rattle.xarch_words.specs.Commands.{get}
-use Rattle.keyed_print.specs.KeyedText.{keyed_text}
-use Rattle.xarch_steps.specs.Plausible.{MayBe, get_input}
-use Rattle.xarch_parts.specs.FolderLaws.{caused-passed, caused-read, caused-written, keeps-read, reads-inside}
-use Rattle.xarch_steps.proofs.GetEnds.{may_refuse_early, may_write, may_refuse}
-use Rattle.xarch_parts.specs.AllowedLaws.{MayEnd-passed, MayEnd-written, defined_refused, gained-none, gained-written, tells_same}
+use Rattle.xarch_words.specs.View.{fault_view}
+use Rattle.xarch_parts.specs.AllowedLaws.{MayEnd-passed, gained-none}
+use Rattle.xarch_parts.specs.FolderLaws.{caused-passed, caused-read, keeps-read, reads-more}
+use Rattle.xarch_steps.specs.Plausible.{MayBe}
+use Rattle.xarch_steps.proofs.GetEnds.{absent-length, get-caused, get-keeps, get-little}
 use Rattle.xarch_steps.proofs.get.run_get.Goals as goal
 
-pub returns-in_err-bytes-clause-keeps : goal.returns-in_err-bytes-clause-keeps
-returns-in_err-bytes-clause-keeps g c = keeps-read _ _ _ _ _ c.in_err-bytes.ensures.reads
+-- ---- the file is not there
 
-pub returns-in_err-bytes-clause-caused : goal.returns-in_err-bytes-clause-caused
-returns-in_err-bytes-clause-caused g c = caused-passed _ _ _ _ c.from_residual.result _ c.from_residual.ensures.1 (caused-read _ _ _ _ _ c.in_err-bytes.ensures.reads)
+pub returns-in_err-size-clause-keeps : goal.returns-in_err-size-clause-keeps
+returns-in_err-size-clause-keeps g c = keeps-read _ _ _ _ _ (reads-more 0 _ _ _ _ (omega arith) c.in_err-size.ensures.reads)
 
-pub returns-in_err-bytes-clause-may : goal.returns-in_err-bytes-clause-may
-returns-in_err-bytes-clause-may g c = λ files told.
-    let input = c.in_err-bytes.ensures.told files told in
-    MayEnd-passed (MayBe files (get c.args.archive.now c.args.version)) c.from_residual.result c.in_err-bytes.field-0.0 _ _ c.from_residual.ensures.1
-    (λ q e. may_refuse_early c.versions_have_one_file.ensures.fixed files c.args.archive.now c.args.version q (defined_refused (get_input files c.args.archive.now c.args.version) _ q input e))
+pub returns-in_err-size-clause-caused : goal.returns-in_err-size-clause-caused
+returns-in_err-size-clause-caused g c = caused-passed _ _ _ _ c.from_residual.result _ c.from_residual.ensures.1 (caused-read _ _ _ _ _ c.in_err-size.ensures.reads)
 
-pub returns-in_err-keyed-clause-keeps : goal.returns-in_err-keyed-clause-keeps
-returns-in_err-keyed-clause-keeps g c = keeps-read _ _ _ _ _ c.in_ok-bytes.ensures.reads
+pub returns-in_err-size-clause-may : goal.returns-in_err-size-clause-may
+returns-in_err-size-clause-may g c = λ files told.
+    inl (MayEnd-passed (MayBe files (get c.args.archive.now c.args.version)) c.from_residual.result c.in_err-size.field-0.0 _ _ c.from_residual.ensures.1
+    (absent-length files c.args.archive.now c.args.version (fault_view c.in_err-size.field-0.0) (c.in_err-size.ensures.told files told)))
 
-pub returns-in_err-keyed-clause-caused : goal.returns-in_err-keyed-clause-caused
-returns-in_err-keyed-clause-caused g c = caused-passed _ _ _ _ c.from_residual-in_err-keyed.result _ c.from_residual-in_err-keyed.ensures.1 (caused-read _ _ _ _ _ (reads-inside _ _ _ _ c.in_ok-bytes.ensures.reads c.in_err-keyed.ensures.cause))
+pub returns-in_err-size-clause-little : goal.returns-in_err-size-clause-little
+returns-in_err-size-clause-little g c = λ files rules vs a told is of. PullsAtMost-more 0 _ _ _ (omega arith) c.in_err-size.ensures.reads.pulls
 
-pub returns-in_err-keyed-clause-may : goal.returns-in_err-keyed-clause-may
-returns-in_err-keyed-clause-may g c = λ files told.
-    let input = c.in_ok-bytes.ensures.told files told ∙ ap (λ (b : List ℕ). Ok b) (sym c.deref.ensures.value) in
-    MayEnd-passed (MayBe files (get c.args.archive.now c.args.version)) c.from_residual-in_err-keyed.result c.in_err-keyed.field-0.0 _ _ c.from_residual-in_err-keyed.ensures.1
-    (λ q e. may_refuse c.versions_have_one_file.ensures.fixed files c.args.archive.now c.args.version c.deref.result.now input q (c.in_err-keyed.ensures.damaged q e) (λ rules vs sound some. c.in_err-keyed.ensures.reads rules vs sound some q e))
+pub returns-in_err-size-clause-gained : goal.returns-in_err-size-clause-gained
+returns-in_err-size-clause-gained g c = inl (gained-none _ _)
+
+-- ---- the version is written, or not
 
 pub returns-clause-keeps : goal.returns-clause-keeps
-returns-clause-keeps g c = keeps-read _ _ _ _ _ c.in_ok-bytes.ensures.reads
+returns-clause-keeps g c =
+    let f = g.F.Folder in
+    let k = g.O.Sink in
+    let size = c.in_ok-size.ensures.size in
+    get-keeps f.files f.draft f.numbers f.faults k.taken k.faults c.args.archive.now c.in_ok-size.size c.args.version _ _ _ _ _ _ c.in_ok-size.ensures.reads c.write_version.ensures _ size
 
 pub returns-clause-caused : goal.returns-clause-caused
-returns-clause-caused g c = caused-written _ _ _ _ _ _ c.in_ok-bytes.ensures.reads c.write_keyed.ensures.later c.write_keyed.ensures.cause
+returns-clause-caused g c =
+    let f = g.F.Folder in
+    let k = g.O.Sink in
+    get-caused f.files f.draft f.numbers f.faults k.taken k.faults c.args.archive.now c.in_ok-size.size c.args.version _ _ _ _ _ _ c.in_ok-size.ensures.reads c.write_version.ensures
 
 pub returns-clause-may : goal.returns-clause-may
-returns-clause-may g c = λ files told.
-    let input = c.in_ok-bytes.ensures.told files told ∙ ap (λ (b : List ℕ). Ok b) (sym c.deref.ensures.value) in
-    let k = keyed_view c.in_ok-keyed.keyed in
-    MayEnd-written (MayBe files (get c.args.archive.now c.args.version)) (record { files = files; output = keyed_text k }) c.write_keyed.result _ _ _ _ _
-    (may_write c.versions_have_one_file.ensures.fixed files c.args.archive.now c.args.version c.deref.result.now input k c.in_ok-keyed.ensures.item) (tells_same _ files (c.in_ok-bytes.ensures.reads.same_files ∙ told)) c.write_keyed.ensures.bytes c.write_keyed.ensures.cause
+returns-clause-may g c = λ files told. c.write_version.ensures.may files (c.in_ok-size.ensures.reads.same_files ∙ told) (c.in_ok-size.ensures.told files told)
 
-pub returns-in_err-bytes-clause-gained : goal.returns-in_err-bytes-clause-gained
-returns-in_err-bytes-clause-gained g c = gained-none _ _
-
-pub returns-in_err-keyed-clause-gained : goal.returns-in_err-keyed-clause-gained
-returns-in_err-keyed-clause-gained g c = gained-none _ _
+pub returns-clause-little : goal.returns-clause-little
+returns-clause-little g c =
+    let f = g.F.Folder in
+    let k = g.O.Sink in
+    get-little f.files f.draft f.numbers f.faults k.taken k.faults c.args.archive.now c.in_ok-size.size c.args.version _ _ _ _ _ _ c.in_ok-size.ensures.reads c.write_version.ensures c.in_ok-size.ensures.told
 
 pub returns-clause-gained : goal.returns-clause-gained
-returns-clause-gained g c = gained-written c.write_keyed.result _ _ _ _ _ c.write_keyed.ensures.bytes c.write_keyed.ensures.cause
+returns-clause-gained g c = c.write_version.ensures.gained

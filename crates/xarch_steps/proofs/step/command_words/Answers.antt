@@ -1,9 +1,9 @@
-use Rattle.std.proofs.Common.{None, Some, sym, subst, rules}
+use Rattle.std.proofs.Common.{inl, None, Some, sym, subst, rules}
 use Rattle.xarch_words.specs.View.{command_view, words_view}
 use Rattle.xarch_parts.specs.Ends.{HasItsCause}
 use Rattle.xarch_steps.specs.Ran.{IsLongDemo}
 use Rattle.xarch_parts.specs.EndLaws.{HasItsCause-command}
-use Rattle.xarch_steps.proofs.Running.{MayEnd-usage, MayEnd-command, OnErr-of, counts_as_said, goes_once, makes_none, nothing_counted, reads_little, usage-command}
+use Rattle.xarch_steps.proofs.Running.{MayEnd-usage, MayEndLate-command, OnErr-of, counts_as_said, gains_by, goes_once, makes_none, nothing_counted, reads_little, usage-command}
 use Rattle.xarch_parts.specs.AllowedLaws.{gained-none}
 use Rattle.xarch_steps.proofs.step.command_words.Goals as goal
 
@@ -12,7 +12,7 @@ unfolding HasItsCause
 returns-in-None-clause-cause g c = search rules
 
 pub returns-in-None-clause-may : goal.returns-in-None-clause-may
-returns-in-None-clause-may g c = λ files told. MayEnd-usage files (words_view c.args.words.now) _ _ (sym c.in-None.ensures.is)
+returns-in-None-clause-may g c = λ files told. inl (MayEnd-usage files (words_view c.args.words.now) _ _ (sym c.in-None.ensures.is))
 
 pub returns-in-Some-clause-usage : goal.returns-in-Some-clause-usage
 returns-in-Some-clause-usage g c = usage-command (words_view c.args.words.now) (command_view c.in-Some.command) _ _ _ _ _ (sym c.in-Some.ensures.is) c.run_command.ensures.caused.cause
@@ -22,7 +22,7 @@ returns-in-Some-clause-cause g c = HasItsCause-command _ _ _ _ _ c.run_command.e
 
 pub returns-in-Some-clause-may : goal.returns-in-Some-clause-may
 returns-in-Some-clause-may g c =
-    λ files told. MayEnd-command files (words_view c.args.words.now) (command_view c.in-Some.command) _ _ _ _ (sym c.in-Some.ensures.is) (c.run_command.ensures.may files told)
+    λ files told. MayEndLate-command files (words_view c.args.words.now) (command_view c.in-Some.command) _ _ _ _ (sym c.in-Some.ensures.is) (c.run_command.ensures.may files told)
 
 pub returns-in-None-clause-long_demo : goal.returns-in-None-clause-long_demo
 returns-in-None-clause-long_demo g c = λ long. absurd (subst IsLongDemo (sym c.in-None.ensures.is) long)
@@ -61,10 +61,10 @@ pub returns-in-Some-clause-counts : goal.returns-in-Some-clause-counts
 returns-in-Some-clause-counts g c = counts_as_said (words_view c.args.words.now) (command_view c.in-Some.command) _ _ _ (sym c.in-Some.ensures.is) c.run_command.ensures.keeps.counts
 
 pub returns-in-None-clause-gained : goal.returns-in-None-clause-gained
-returns-in-None-clause-gained g c = gained-none _ _
+returns-in-None-clause-gained g c = inl (gained-none _ _)
 
 pub returns-in-Some-clause-gained : goal.returns-in-Some-clause-gained
-returns-in-Some-clause-gained g c = c.run_command.ensures.gained
+returns-in-Some-clause-gained g c = gains_by (words_view c.args.words.now) (Some (command_view c.in-Some.command)) _ _ _ (sym c.in-Some.ensures.is) c.run_command.ensures.gained
 
 pub returns-in-None-clause-one_pass : goal.returns-in-None-clause-one_pass
 returns-in-None-clause-one_pass g c = goes_once (words_view c.args.words.now) None _ _ _ _ (sym c.in-None.ensures.is) tt

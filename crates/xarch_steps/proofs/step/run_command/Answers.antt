@@ -1,3 +1,4 @@
+use Rattle.std.proofs.Common.{inl}
 use Rattle.xarch_steps.specs.Plausible.{MayBe}
 use Rattle.xarch_parts.specs.AllowedLaws.{gained-none}
 use Rattle.xarch_steps.proofs.step.run_command.Goals as goal
@@ -9,7 +10,7 @@ pub returns-in-Norm-clause-caused : goal.returns-in-Norm-clause-caused
 returns-in-Norm-clause-caused g c = c.run_norm.ensures.caused
 
 pub returns-in-Norm-clause-may : goal.returns-in-Norm-clause-may
-returns-in-Norm-clause-may g c = λ files told. rw c.in-Norm.is (c.run_norm.ensures.may files told)
+returns-in-Norm-clause-may g c = λ files told. inl (rw c.in-Norm.is (c.run_norm.ensures.may files told))
 
 pub returns-in-Norm-clause-long_demo : goal.returns-in-Norm-clause-long_demo
 returns-in-Norm-clause-long_demo g c = λ long. absurd (rw c.in-Norm.is at long)
@@ -22,7 +23,7 @@ returns-in-Init-clause-caused g c = c.run_init.ensures.caused _
 
 pub returns-in-Init-clause-may : goal.returns-in-Init-clause-may
 unfolding MayBe
-returns-in-Init-clause-may g c = λ files told. rw c.in-Init.is (c.run_init.ensures.may files (g.O.Sink.taken c.args.out.now) told)
+returns-in-Init-clause-may g c = λ files told. inl (rw c.in-Init.is (c.run_init.ensures.may files (g.O.Sink.taken c.args.out.now) told))
 
 pub returns-in-Init-clause-long_demo : goal.returns-in-Init-clause-long_demo
 returns-in-Init-clause-long_demo g c = λ long. absurd (rw c.in-Init.is at long)
@@ -34,7 +35,7 @@ pub returns-in-Add-clause-caused : goal.returns-in-Add-clause-caused
 returns-in-Add-clause-caused g c = c.run_add.ensures.caused _
 
 pub returns-in-Add-clause-may : goal.returns-in-Add-clause-may
-returns-in-Add-clause-may g c = λ files told. rw c.in-Add.is (c.run_add.ensures.may files (g.O.Sink.taken c.args.out.now) told)
+returns-in-Add-clause-may g c = λ files told. inl (rw c.in-Add.is (c.run_add.ensures.may files (g.O.Sink.taken c.args.out.now) told))
 
 pub returns-in-Add-clause-long_demo : goal.returns-in-Add-clause-long_demo
 returns-in-Add-clause-long_demo g c = λ long. absurd (rw c.in-Add.is at long)
@@ -58,10 +59,22 @@ pub returns-in-History-clause-caused : goal.returns-in-History-clause-caused
 returns-in-History-clause-caused g c = c.run_history.ensures.caused
 
 pub returns-in-History-clause-may : goal.returns-in-History-clause-may
-returns-in-History-clause-may g c = λ files told. rw c.in-History.is (c.run_history.ensures.may files told)
+returns-in-History-clause-may g c = λ files told. inl (rw c.in-History.is (c.run_history.ensures.may files told))
 
 pub returns-in-History-clause-long_demo : goal.returns-in-History-clause-long_demo
 returns-in-History-clause-long_demo g c = λ long. absurd (rw c.in-History.is at long)
+
+pub returns-in-Check-clause-keeps : goal.returns-in-Check-clause-keeps
+returns-in-Check-clause-keeps g c = rw c.in-Check.is c.run_check.ensures.keeps
+
+pub returns-in-Check-clause-caused : goal.returns-in-Check-clause-caused
+returns-in-Check-clause-caused g c = c.run_check.ensures.caused
+
+pub returns-in-Check-clause-may : goal.returns-in-Check-clause-may
+returns-in-Check-clause-may g c = λ files told. inl (rw c.in-Check.is (c.run_check.ensures.may files told))
+
+pub returns-in-Check-clause-long_demo : goal.returns-in-Check-clause-long_demo
+returns-in-Check-clause-long_demo g c = λ long. absurd (rw c.in-Check.is at long)
 
 pub returns-in-Stats-clause-keeps : goal.returns-in-Stats-clause-keeps
 returns-in-Stats-clause-keeps g c = rw c.in-Stats.is c.run_stats.ensures.keeps
@@ -70,7 +83,7 @@ pub returns-in-Stats-clause-caused : goal.returns-in-Stats-clause-caused
 returns-in-Stats-clause-caused g c = c.run_stats.ensures.caused
 
 pub returns-in-Stats-clause-may : goal.returns-in-Stats-clause-may
-returns-in-Stats-clause-may g c = λ files told. rw c.in-Stats.is (c.run_stats.ensures.may files told)
+returns-in-Stats-clause-may g c = λ files told. inl (rw c.in-Stats.is (c.run_stats.ensures.may files told))
 
 pub returns-in-Stats-clause-long_demo : goal.returns-in-Stats-clause-long_demo
 returns-in-Stats-clause-long_demo g c = λ long. absurd (rw c.in-Stats.is at long)
@@ -83,31 +96,34 @@ returns-in-Demo-clause-caused g c = c.run_demo.ensures.caused
 
 pub returns-in-Demo-clause-may : goal.returns-in-Demo-clause-may
 unfolding MayBe
-returns-in-Demo-clause-may g c = λ files told. rw c.in-Demo.is (c.run_demo.ensures.may files told)
+returns-in-Demo-clause-may g c = λ files told. inl (rw c.in-Demo.is (c.run_demo.ensures.may files told))
 
 pub returns-in-Demo-clause-long_demo : goal.returns-in-Demo-clause-long_demo
 returns-in-Demo-clause-long_demo g c = λ long. c.run_demo.ensures.many (rw c.in-Demo.is at long)
 
 pub returns-in-Norm-clause-gained : goal.returns-in-Norm-clause-gained
-returns-in-Norm-clause-gained g c = c.run_norm.ensures.gained
+returns-in-Norm-clause-gained g c = inl c.run_norm.ensures.gained
 
 pub returns-in-Init-clause-gained : goal.returns-in-Init-clause-gained
-returns-in-Init-clause-gained g c = gained-none _ _
+returns-in-Init-clause-gained g c = inl (gained-none _ _)
 
 pub returns-in-Add-clause-gained : goal.returns-in-Add-clause-gained
-returns-in-Add-clause-gained g c = gained-none _ _
+returns-in-Add-clause-gained g c = inl (gained-none _ _)
 
 pub returns-in-Get-clause-gained : goal.returns-in-Get-clause-gained
-returns-in-Get-clause-gained g c = c.run_get.ensures.gained
+returns-in-Get-clause-gained g c = rw c.in-Get.is c.run_get.ensures.gained
 
 pub returns-in-History-clause-gained : goal.returns-in-History-clause-gained
-returns-in-History-clause-gained g c = c.run_history.ensures.gained
+returns-in-History-clause-gained g c = inl c.run_history.ensures.gained
+
+pub returns-in-Check-clause-gained : goal.returns-in-Check-clause-gained
+returns-in-Check-clause-gained g c = inl c.run_check.ensures.gained
 
 pub returns-in-Stats-clause-gained : goal.returns-in-Stats-clause-gained
-returns-in-Stats-clause-gained g c = c.run_stats.ensures.gained
+returns-in-Stats-clause-gained g c = inl c.run_stats.ensures.gained
 
 pub returns-in-Demo-clause-gained : goal.returns-in-Demo-clause-gained
-returns-in-Demo-clause-gained g c = c.run_demo.ensures.gained
+returns-in-Demo-clause-gained g c = inl c.run_demo.ensures.gained
 
 pub returns-in-Add-clause-one_pass : goal.returns-in-Add-clause-one_pass
 returns-in-Add-clause-one_pass g c = rw c.in-Add.is c.run_add.ensures.one_pass
@@ -123,6 +139,9 @@ returns-in-Get-clause-one_pass g c = rw c.in-Get.is tt
 
 pub returns-in-History-clause-one_pass : goal.returns-in-History-clause-one_pass
 returns-in-History-clause-one_pass g c = rw c.in-History.is tt
+
+pub returns-in-Check-clause-one_pass : goal.returns-in-Check-clause-one_pass
+returns-in-Check-clause-one_pass g c = rw c.in-Check.is tt
 
 pub returns-in-Stats-clause-one_pass : goal.returns-in-Stats-clause-one_pass
 returns-in-Stats-clause-one_pass g c = rw c.in-Stats.is tt
@@ -140,7 +159,10 @@ pub returns-in-Add-clause-little : goal.returns-in-Add-clause-little
 returns-in-Add-clause-little g c = rw c.in-Add.is tt
 
 pub returns-in-Get-clause-little : goal.returns-in-Get-clause-little
-returns-in-Get-clause-little g c = rw c.in-Get.is tt
+returns-in-Get-clause-little g c = rw c.in-Get.is c.run_get.ensures.little
+
+pub returns-in-Check-clause-little : goal.returns-in-Check-clause-little
+returns-in-Check-clause-little g c = rw c.in-Check.is tt
 
 pub returns-in-Stats-clause-little : goal.returns-in-Stats-clause-little
 returns-in-Stats-clause-little g c = rw c.in-Stats.is tt

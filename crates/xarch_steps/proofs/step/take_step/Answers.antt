@@ -3,7 +3,7 @@ use Rattle.xarch_words.specs.Refusal.{folder_fault}
 use Rattle.xarch_words.specs.View.{words_view}
 use Rattle.xarch_parts.specs.Ends.{fault_of}
 use Rattle.xarch_steps.specs.Plausible.{Tried}
-use Rattle.xarch_steps.specs.Ran.{outside_of, status_after}
+use Rattle.xarch_steps.specs.Ran.{MayHaveWritten, outside_of, status_after}
 use Rattle.xarch_steps.specs.Step.{single_of}
 use Rattle.xarch_steps.proofs.Running.{complete-from, long_demo-alone, fault_of-OnErr, folder_fault-caused, out_fault-caused, status_after-input, gained-any, gained-refused, says-fault, once_by, Tried-from, Wrote-from}
 use Rattle.xarch_steps.proofs.Succeeding.{succeeds-from}
@@ -13,14 +13,14 @@ pub returns-clause-tried : goal.returns-clause-tried
 returns-clause-tried g c = λ files told plain.
     let words = words_view c.args.words.now in
     let tried =
-    Tried-from c.archives_stand_for_one_list.ensures.one_archive c.versions_have_one_file.ensures.one_file files words (fault_of c.command_words-ended.result) _ _ _ _ _ _ _ _ told (fault_of-OnErr _ c.command_words-ended.result c.command_words-ended.ensures.refused) (c.command_words-ended.ensures.may files told)
+    Tried-from c.archives_stand_for_one_list.ensures.one_archive c.versions_have_one_file.ensures.one_file c.versions_have_one_file.ensures.fixed files words (fault_of c.command_words-ended.result) _ _ _ _ _ _ _ _ told (fault_of-OnErr _ c.command_words-ended.result c.command_words-ended.ensures.refused) (c.command_words-ended.ensures.may files told)
     c.finish.ensures.line (ap outside_of (sym c.finish.ensures.status) ∙ plain) in
     subst (λ (n : ℕ). Tried files words n (g.F.Folder.files c.command_words-ended.new.folder) (g.O.Sink.taken c.args.out.now) (g.O.Sink.taken c.command_words-ended.new.out)
     (g.E.Sink.taken c.args.err.now) (g.E.Sink.taken c.finish.new.err) (g.E.Sink.faults c.args.err.now) (g.E.Sink.faults c.finish.new.err)) (sym c.finish.ensures.status) tried
 
 pub returns-clause-wrote : goal.returns-clause-wrote
 returns-clause-wrote g c = λ files told.
-    Wrote-from c.archives_stand_for_one_list.ensures.one_archive c.versions_have_one_file.ensures.one_file files (words_view c.args.words.now) (fault_of c.command_words-ended.result) _ _ _ (c.command_words-ended.ensures.may files told)
+    Wrote-from c.archives_stand_for_one_list.ensures.one_archive c.versions_have_one_file.ensures.one_file c.versions_have_one_file.ensures.fixed files (words_view c.args.words.now) (fault_of c.command_words-ended.result) _ _ _ (c.command_words-ended.ensures.may files told)
 
 pub returns-clause-folder_fault : goal.returns-clause-folder_fault
 returns-clause-folder_fault g c = λ is. folder_fault-caused _ _ _ _ _ c.command_words-ended.ensures.cause (sym c.finish.ensures.status ∙ is)
@@ -34,7 +34,7 @@ returns-clause-never_input_fault g c = λ is. status_after-input _ _ _ _ _ c.com
 pub returns-clause-complete : goal.returns-clause-complete
 returns-clause-complete g c = λ files s told is zero folder out.
     subst (λ (n : ℕ). (n ≡ 0) ⊎ (n ≡ 16)) (sym c.finish.ensures.status)
-    (complete-from c.archives_stand_for_one_list.ensures.one_archive c.versions_have_one_file.ensures.one_file files (words_view c.args.words.now) s (fault_of c.command_words-ended.result) _ _ _ _ _ _ _ is
+    (complete-from c.archives_stand_for_one_list.ensures.one_archive c.versions_have_one_file.ensures.one_file c.versions_have_one_file.ensures.fixed files (words_view c.args.words.now) s (fault_of c.command_words-ended.result) _ _ _ _ _ _ _ is
     (c.command_words-ended.ensures.may files told) c.command_words-ended.ensures.cause zero folder out)
 
 pub returns-clause-said : goal.returns-clause-said
@@ -46,10 +46,13 @@ returns-clause-long_demo g c = λ seed count name is long.
     (c.finish.ensures.status ∙ ap status_after fault, says-fault _ _ _ _ _ _ fault c.finish.ensures.line)
 
 pub returns-clause-gained : goal.returns-clause-gained
-returns-clause-gained g c = gained-any _ _ _ c.command_words-ended.ensures.gained
+returns-clause-gained g c = gained-any (single_of (words_view c.args.words.now)) _ _ _ c.command_words-ended.ensures.gained
 
 pub returns-clause-nothing : goal.returns-clause-nothing
-returns-clause-nothing g c = λ some plain. gained-refused _ _ _ c.command_words-ended.ensures.gained (λ zero. some (c.finish.ensures.status ∙ zero)) (ap outside_of (sym c.finish.ensures.status) ∙ plain)
+returns-clause-nothing g c = λ some plain early.
+    let command = single_of (words_view c.args.words.now) in
+    gained-refused command _ _ _ c.command_words-ended.ensures.gained (λ zero. some (c.finish.ensures.status ∙ zero)) (ap outside_of (sym c.finish.ensures.status) ∙ plain)
+    (λ late. early (subst (MayHaveWritten command) (sym c.finish.ensures.status) late))
 
 pub returns-clause-succeeds : goal.returns-clause-succeeds
 returns-clause-succeeds g c = λ files command told is should folder out.
