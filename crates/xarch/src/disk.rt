@@ -16,7 +16,7 @@ const GATHERED: usize = 65536;
 
 /// The files of the folder that the program runs in.
 ///
-/// It keeps the file that it last opened and reads ahead in a page. What is appended is gathered, and written to a draft
+/// It keeps the file that it last opened and reads ahead in pages. What is appended is gathered, and written to a draft
 /// file that `commit` renames. It tells no files: what the system holds is trusted.
 #[derive(Drop)]
 pub struct DiskFolder<'a, R: Files> {
@@ -51,10 +51,12 @@ impl<'a, R: Files> DiskFolder<'a, R> {
 
     /// Puts what was read ahead of the named file at the front of the buffer: nothing of a file that does not stand open.
     #[inline(never)]
-    fn copy_ahead(&self, name: &str, at: u64, buf: &mut [u8]) -> usize
-        ensures { result ≤ length buf.new }
+    fn copy_ahead(&mut self, name: &str, at: u64, buf: &mut [u8]) -> usize
+        ensures bound { result ≤ length buf.new }
+        ensures meter { self.new.meter ≡ self.old.meter }
+        ensures faults { self.new.faults ≡ self.old.faults }
     {
-        match &self.opened {
+        match &mut self.opened {
             Some(opened) if opened.is_named(name) => opened.copy_held(at, buf),
             _ => 0,
         }

@@ -6,16 +6,29 @@ use std::fs::OpenFile;
 use std::io::{ErrorKind, Read, Seek, SeekFrom};
 use std::rt::Files;
 
-/// How much is read ahead.
-const PAGE: usize = 65536;
+/// How much is read ahead at a time.
+const PAGE: usize = 32768;
 
-/// A file that stays open between reads, with a page of its bytes.
+/// How many pages are held: what goes between a few places of a file reads none of them again and again.
+const PAGES: usize = 16;
+
+/// A piece of a file: its offset, and so many bytes in front of the room.
+#[derive(Drop)]
+struct Page {
+    start: u64,
+    size: usize,
+    room: Vec<u8>,
+}
+
+/// A file that stays open between reads, with some pages of its bytes, of which one was used last and one is the next to go.
 #[derive(Drop)]
 pub struct Opened<F: Drop> {
     name: String,
     file: F,
-    page: Vec<u8>,
-    start: u64,
+    alloc: Global,
+    pages: Vec<Page>,
+    last: usize,
+    next: usize,
 }
 
 /// What a name leads to.
@@ -38,14 +51,43 @@ pub fn open<R: Files>(rt: &R, alloc: Global, name: &str) -> Option<Found<R::File
     Some(Found::File(Opened {
         name: String::from_str(alloc, name).ok()?,
         file,
-        page: Vec::new(alloc),
-        start: 0,
+        alloc,
+        pages: Vec::new(alloc),
+        last: 0,
+        next: 0,
     }))
 }
 
+impl Page {
+    /// Puts what the page holds from the offset on at the front of the buffer.
+    fn copy(&self, at: u64, buf: &mut [u8]) -> usize
+        ensures { result ≤ length buf.new }
+    {
+        let held = &self.room[..self.size.min(self.room.len())];
+        if at < self.start || at - self.start >= held.len() as u64 {
+            return 0;
+        }
+        let held = &held[(at - self.start) as usize..];
+        let count = held.len().min(buf.len());
+        buf[..count].copy_from_slice(&held[..count]);
+        count
+    }
+}
+
 impl<F: Read + Seek + Drop> Opened<F> {
+    /// Whether it has this name. Names are short and are compared before each read, so this goes byte by byte.
     pub fn is_named(&self, name: &str) -> bool {
-        self.name.as_str() == name
+        let own = self.name.as_bytes();
+        let other = name.as_bytes();
+        if own.len() != other.len() {
+            return false;
+        }
+        for at in 0..own.len() {
+            if own[at] != other[at] {
+                return false;
+            }
+        }
+        true
     }
 
     /// Puts bytes from the offset at the front of the buffer; 0 only at the end of the file, or with an empty buffer.
@@ -64,25 +106,55 @@ impl<F: Read + Seek + Drop> Opened<F> {
         Some(self.copy_held(at, buf))
     }
 
-    /// Reads a page from where the file stands.
+    /// Reads a page from where the file stands, into new room or in place of the page that was read longest ago.
     fn refill(&mut self, at: u64) -> Option<()> {
-        self.page.resize(PAGE, 0).ok()?;
-        let count = self.file.read(&mut self.page).ok();
-        self.page.truncate(count.unwrap_or(0));
-        self.start = at;
-        count.map(|_| ())
+        if self.pages.len() < PAGES {
+            self.next = self.pages.len();
+            self.add_page()?;
+        }
+        let page = self.pages.get_mut(self.next)?;
+        self.last = self.next;
+        self.next = (self.next + 1) % PAGES;
+        page.start = at;
+        page.size = 0;
+        page.size = self.file.read(&mut page.room).ok()?;
+        Some(())
     }
 
-    /// Puts what the page holds from the offset on at the front of the buffer.
-    pub fn copy_held(&self, at: u64, buf: &mut [u8]) -> usize
+    fn add_page(&mut self) -> Option<()> {
+        let mut room = Vec::new(self.alloc);
+        room.resize(PAGE, 0).ok()?;
+        let page = Page {
+            start: 0,
+            size: 0,
+            room,
+        };
+        self.pages.push(page).ok()
+    }
+
+    /// Puts what a page holds from the offset on at the front of the buffer. The page that was used last is looked at first.
+    pub fn copy_held(&mut self, at: u64, buf: &mut [u8]) -> usize
         ensures { result ≤ length buf.new }
     {
-        if at < self.start || at - self.start >= self.page.len() as u64 {
-            return 0;
+        if let Some(page) = self.pages.get(self.last) {
+            let count = page.copy(at, buf);
+            if count > 0 {
+                return count;
+            }
         }
-        let held = &self.page[(at - self.start) as usize..];
-        let count = held.len().min(buf.len());
-        buf[..count].copy_from_slice(&held[..count]);
-        count
+        self.copy_from_any(at, buf)
+    }
+
+    fn copy_from_any(&mut self, at: u64, buf: &mut [u8]) -> usize
+        ensures { result ≤ length buf.new }
+    {
+        for index in 0..self.pages.len() {
+            let count = self.pages[index].copy(at, buf);
+            if count > 0 {
+                self.last = index;
+                return count;
+            }
+        }
+        0
     }
 }
