@@ -61,7 +61,7 @@ fn is_decoded_counted(alloc: Global, file: &[u8], wanted: &[u64; 7]) -> bool {
 }
 
 /// A folder in which the file of this name has these bytes.
-fn folder(alloc: Global, file: &[u8]) -> Result<SureFolder, AllocError> {
+pub(crate) fn folder(alloc: Global, file: &[u8]) -> Result<SureFolder, AllocError> {
     let mut folder = SureFolder::new(alloc);
     folder.put("a.xar", Vec::from_slice(alloc, file)?)?;
     Ok(folder)
@@ -106,7 +106,7 @@ fn is_counted(found: &Result<Counts, StatsFault>, bytes: &Option<u64>) -> bool {
 }
 
 /// A file with four bytes behind its archive.
-fn longer_file(alloc: Global) -> Result<Vec<u8>, AllocError> {
+pub(crate) fn longer_file(alloc: Global) -> Result<Vec<u8>, AllocError> {
     let mut file = Vec::from_slice(alloc, TINY)?;
     file.extend_from_slice(b"more")?;
     Ok(file)
@@ -128,7 +128,7 @@ fn only_the_first_bytes_of_a_file_are_read(rt: HostRuntime) -> Result<(), Fail> 
 }
 
 /// A folder whose first read fails.
-fn failing_folder(alloc: Global, file: &[u8]) -> Result<MemFolder, AllocError> {
+pub(crate) fn failing_folder(alloc: Global, file: &[u8]) -> Result<MemFolder, AllocError> {
     let first_read = FolderFail {
         call: FolderCall::ReadAt,
         number: 1,

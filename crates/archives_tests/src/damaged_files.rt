@@ -12,7 +12,7 @@ use std::test::Fail;
 const OPENED: &[u8] = b"\x01\0\0\0\0\0\0\0\x0c\x01\0\0\0\x02db\0\0\0\0\0";
 
 /// Pieces, edits in them, and whether they are a file then.
-const FILES: &[(&str, Pieces, Edits, bool)] = &[
+pub(crate) const FILES: &[(&str, Pieces, Edits, bool)] = &[
     ("one version", &[(TINY, 1)], &[], true),
     ("no versions", &[(NO_VERSIONS, 1)], &[], true),
     ("three versions of a company", &[(COMPANY, 1)], &[], true),

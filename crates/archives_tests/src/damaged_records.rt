@@ -9,7 +9,7 @@ use std::test::Fail;
 const LEAST: &[u8] = b"\x03\0\0\0\0\0\0\0\x0b\0\0\x04\x7f\xff\xff\xff\xff\xff\xff\xff";
 
 /// A body with the attributes `a` and `b`.
-const TWO_ATTRIBUTES: &[u8] =
+pub(crate) const TWO_ATTRIBUTES: &[u8] =
     b"\x03\0\0\0\0\0\0\0\x16\0\x01\0\0\0\x02\0\0\0\x01a\0\0\0\0\x01b\0\0\0\0\0";
 
 /// A leaf of the name `a`.

@@ -6,6 +6,8 @@ mod archives;
 #[cfg(test)]
 mod bytes;
 #[cfg(test)]
+mod checks;
+#[cfg(test)]
 mod counts;
 #[cfg(test)]
 mod damaged_files;

@@ -157,6 +157,24 @@ const CASES: &[Case] = &[
         ],
     },
     Case {
+        name: "an archive is checked behind a line past its limit",
+        fails: &[],
+        steps: &[
+            SPEC,
+            Run(&["init", "a.xar", "company.key"], 0, NOTHING, b""),
+            RunOver(
+                &Outside {
+                    input: &[(b"x", 1_048_577), (b"\n[\"check\",\"a.xar\"]\n", 1)],
+                    ..QUIET
+                },
+                &["batch"],
+                0,
+                Is(&[(b"status 12\nok 0\nstatus 0\n", 1)]),
+                b"xarch: limit line 1048576\n",
+            ),
+        ],
+    },
+    Case {
         name: "blank lines are skipped however long",
         fails: &[],
         steps: &[RunOver(

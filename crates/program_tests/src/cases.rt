@@ -54,6 +54,10 @@ pub(crate) enum Step {
     HasNo(&'static str),
     /// The two files are the same.
     AreAlike(&'static str, &'static str),
+    /// The byte of the file of this name at this place, which is the one, becomes the other.
+    Change(&'static str, usize, u8, u8),
+    /// Each proper front of these pieces, as the file `A`, is found damaged.
+    FrontsAreDamaged(Pieces),
     /// Since the draft was begun last, no more bytes than these were read, and what was read was
     /// ahead of what was written by no more than these.
     HasRead(u64, u64),
@@ -262,6 +266,45 @@ fn are_alike(folder: &MemFolder, name: &str, other: &str) -> bool {
     }
 }
 
+fn is_changed(
+    alloc: Global,
+    folder: &mut MemFolder,
+    name: &str,
+    at: usize,
+    bytes: (u8, u8),
+) -> bool {
+    let Some(file) = folder.file(name) else {
+        return false;
+    };
+    let Ok(mut changed) = Vec::from_slice(alloc, file) else {
+        return false;
+    };
+    match changed.get_mut(at) {
+        Some(byte) if *byte == bytes.0 => *byte = bytes.1,
+        _ => return false,
+    }
+    folder.put(name, changed).is_ok()
+}
+
+fn is_found_damaged(alloc: Global, state: &mut State, bytes: &[u8]) -> bool {
+    let words = ["check", "A"];
+    let line = b"xarch: damaged archive A\n";
+    is_put(alloc, &mut state.folder, "A", bytes)
+        && is_answered(alloc, state, &QUIET, &words, (11, &NOTHING, line))
+}
+
+fn are_fronts_damaged(alloc: Global, state: &mut State, pieces: Pieces) -> bool {
+    let Ok(bytes) = joined(alloc, pieces) else {
+        return false;
+    };
+    for length in 0..bytes.len() {
+        if !is_found_damaged(alloc, state, &bytes[..length]) {
+            return false;
+        }
+    }
+    true
+}
+
 /// Does the step. The answer says whether all has come of it that has to.
 fn is_met(alloc: Global, state: &mut State, step: &Step) -> bool {
     match step {
@@ -279,6 +322,10 @@ fn is_met(alloc: Global, state: &mut State, step: &Step) -> bool {
         }
         Step::HasNo(name) => state.folder.file(name).is_none(),
         Step::AreAlike(name, other) => are_alike(&state.folder, name, other),
+        Step::Change(name, at, old, new) => {
+            is_changed(alloc, &mut state.folder, name, *at, (*old, *new))
+        }
+        Step::FrontsAreDamaged(pieces) => are_fronts_damaged(alloc, state, pieces),
         Step::HasRead(most, ahead) => {
             state.folder.since() <= *most && state.folder.gap() <= *ahead
         }

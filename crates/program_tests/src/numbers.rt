@@ -147,6 +147,7 @@ const CASES: &[Case] = &[
             ),
             Run(STATS, 0, AsBefore, b""),
             Run(&["demo", "7", "40", "B"], 0, AsBefore, b""),
+            Run(&["check", "A"], 0, Is(&[(b"ok 40\n", 1)]), b""),
             AreAlike("A", "B"),
             Run(&["demo", "7", "40", "A"], 4, NOTHING, b"xarch: A exists\n"),
         ],

@@ -77,6 +77,11 @@ const COMMANDS: &[(&str, &[&str], Option<Command<'static>>)] = &[
         }),
     ),
     (
+        "check",
+        &["check", "a.xar"],
+        Some(Command::Check { archive: "a.xar" }),
+    ),
+    (
         "stats",
         &["stats", "a.xar"],
         Some(Command::Stats { archive: "a.xar" }),
@@ -91,7 +96,7 @@ const COMMANDS: &[(&str, &[&str], Option<Command<'static>>)] = &[
             archive: "a.xar",
         }),
     ),
-    ("check", &["check", "a.xar"], None),
+    ("check of no file", &["check"], None),
     ("stats of no file", &["stats"], None),
     ("batch of a file", &["batch", "a.xar"], None),
     ("history without a path", &["history", "a.xar"], None),

@@ -46,9 +46,9 @@ const BACK: &[u8] = b"\x00\x00\x00\x00\x00\x00\x00\x00\x00\x00\x00\x00\x00\x00\x
 /// The last byte is cut off.
 const CUT_BACK: &[u8] = b"\x00\x00\x00\x00\x00\x00\x00\x00\x00\x00\x00\x00\x00\x00\x00";
 
-const ARCHIVE_OF_ONE: Pieces = &[(FRONT, 1), (ONE, 1), (MIDDLE, 1), (ONE, 1), (BACK, 1)];
+pub(crate) const ARCHIVE_OF_ONE: Pieces = &[(FRONT, 1), (ONE, 1), (MIDDLE, 1), (ONE, 1), (BACK, 1)];
 
-const FULL_ARCHIVE: Pieces = &[(FRONT, 1), (FULL, 1), (MIDDLE, 1), (FULL, 1), (BACK, 1)];
+pub(crate) const FULL_ARCHIVE: Pieces = &[(FRONT, 1), (FULL, 1), (MIDDLE, 1), (FULL, 1), (BACK, 1)];
 
 const CUT_ARCHIVE: Pieces = &[(FRONT, 1), (ONE, 1), (MIDDLE, 1), (ONE, 1), (CUT_BACK, 1)];
 
