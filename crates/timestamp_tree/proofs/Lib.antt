@@ -4,7 +4,9 @@ pub mod Searches
 pub mod Prefixes
 pub mod Reversed
 pub mod Repeated
+pub mod Contained
 pub mod Intervals
 pub mod Stored
 pub mod Pieces
+pub mod Probed
 pub mod Standing

@@ -29,7 +29,7 @@ pulled_both limit n a b d fits first second =
 
 -- ---- what the parts of a node say of it
 
-damage_map : (e : NodeFault) (P Q : Type 0) → (P → Q) → IfDamage e P → IfDamage e Q
+pub damage_map : (e : NodeFault) (P Q : Type 0) → (P → Q) → IfDamage e P → IfDamage e Q
 damage_map Damage P Q f h = f h
 damage_map Folder P Q f h = tt
 damage_map Memory P Q f h = tt

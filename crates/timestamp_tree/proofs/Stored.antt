@@ -12,7 +12,7 @@ use Rattle.timestamp_tree.proofs.Trees.{length-set_bytes, length-stored}
 
 -- ---- how many bytes are read
 
-none_unless : {A : Type 0} (o : Option A) → ((x : A) → o ≡ Some x → ⊥) → o ≡ None
+pub none_unless : {A : Type 0} (o : Option A) → ((x : A) → o ≡ Some x → ⊥) → o ≡ None
 none_unless (Some x) h = absurd (h x refl)
 none_unless None h = refl
 
@@ -35,12 +35,12 @@ pair_sizes bytes x e =
     (omega arith, sym same ∙ second.1 ∙ ap (drop 4) first.1 ∙ drop-drop 4 4 bytes)
 
 -- so many intervals of eight bytes
-record Sized (n : ℕ) (bytes : List ℕ) (x : List (ℕ × ℕ) × List ℕ) : Type 0 where
-  count : length x.0 ≡ n
-  long : 8 * n ≤ length bytes
-  rest : x.1 ≡ drop (8 * n) bytes
+pub record Sized (n : ℕ) (bytes : List ℕ) (x : List (ℕ × ℕ) × List ℕ) : Type 0 where
+  pub count : length x.0 ≡ n
+  pub long : 8 * n ≤ length bytes
+  pub rest : x.1 ≡ drop (8 * n) bytes
 
-chain_sizes : (next : ℕ → ℕ × ℕ → Option ℕ) (low n : ℕ) (bytes : List ℕ) (x : List (ℕ × ℕ) × List ℕ) → chain_at pair_at next low n bytes ≡ Some x → Sized n bytes x
+pub chain_sizes : (next : ℕ → ℕ × ℕ → Option ℕ) (low n : ℕ) (bytes : List ℕ) (x : List (ℕ × ℕ) × List ℕ) → chain_at pair_at next low n bytes ≡ Some x → Sized n bytes x
 unfolding chain_at
 chain_sizes next low zero bytes x e = subst (λ (y : List (ℕ × ℕ) × List ℕ). Sized 0 bytes y) (some_is ([], bytes) x e) (record { count = refl; long = omega arith; rest = refl })
 chain_sizes next low (suc n) bytes x e =

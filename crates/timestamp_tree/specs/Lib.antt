@@ -7,4 +7,5 @@ pub mod PartView
 pub mod View
 pub mod Prefix
 pub mod Nodes
+pub mod Probes
 pub mod Parts

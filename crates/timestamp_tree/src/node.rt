@@ -127,7 +127,7 @@ fn read_count<F: Folder>(folder: &mut F, name: &str, at: u64, limit: u64) -> Res
 }
 
 /// The number in the first four bytes of a node, which has no more bytes than there is room for.
-fn count_within(front: &[u8], room: u64) -> Result<u32, NodeFault>
+pub(crate) fn count_within(front: &[u8], room: u64) -> Result<u32, NodeFault>
     requires front { length front.now ≡ 4 }
     requires room { 12 ≤ room }
     ensures within { IfOk result (λ n. 12 + 8 * n ≤ room) }
@@ -194,7 +194,12 @@ fn node_of(alloc: Global, bytes: &[u8], count: u32, most: u32) -> Result<Node, N
 
 /// Fills the buffer with the bytes of a file from the offset on. Where the file has fewer, no node
 /// stands there.
-fn fill<F: Folder>(folder: &mut F, name: &str, at: u64, out: &mut [u8]) -> Result<(), NodeFault>
+pub(crate) fn fill<F: Folder>(
+    folder: &mut F,
+    name: &str,
+    at: u64,
+    out: &mut [u8],
+) -> Result<(), NodeFault>
     requires { at + length out.old < 2 ^ 64 }
     ensures reads { OnlyReads F.files F.draft F.faults folder.old folder.new (fault_of result) }
     ensures numbers { OnOk result

@@ -1,3 +1,4 @@
+use Rattle.std.proofs.lemmas.Grind.{common_steps}
 use Rattle.std.proofs.Common.{ℕ, List, subst, sym, arith}
 use Rattle.version_set.proofs.Walks.{Meets, Meets-starts, Meets-swap, Shares-swap, meet_step, meet_behind, drop_at}
 use Rattle.version_set.proofs.pairs.intersect.Goals as goal
@@ -22,3 +23,9 @@ loop-i-preserved c =
     let our = drop_at c.args.ours.now c.loop-i.i (0, 0) c.loop-i-test.true in
     let their = drop_at c.args.theirs.now c.loop-i.j (0, 0) c.if-j-theirs.true in
     Meets-swap _ _ _ _ _ (meet_step _ _ c.loop-i.both.items _ _ _ _ _ (Meets-swap _ _ _ _ _ c.loop-i.invariant) their our c.if-ours-i.false (Shares-swap _ _ _ _ c.in_ok-put_common.ensures))
+
+pub returns-clause-canonical : goal.returns-clause-canonical
+returns-clause-canonical c = grind (arith, common_steps)
+
+pub returns-clause-numbers : goal.returns-clause-numbers
+returns-clause-numbers c = grind (arith, common_steps)

@@ -1,3 +1,4 @@
+use Rattle.std.proofs.lemmas.Grind.{common_steps}
 use Rattle.std.proofs.Common.{ℕ, List, sym, subst, arith}
 use Rattle.version_set.proofs.Walks.{Unites, Unites-starts, Unites-swap, unite_both, unite_one}
 use Rattle.version_set.proofs.pairs.put_union.Goals as goal
@@ -28,3 +29,9 @@ loop-our-preserved c =
     let our = c.in-None-Some.ensures.lookup in
     let their = c.in-None-Some.ensures'.lookup in
     Unites-swap _ _ _ _ _ (unite_one _ _ c.loop-our.all.items _ _ _ _ (Unites-swap _ _ _ _ _ c.loop-our.invariant) their.3.0 their.1 our.3 c.in_ok-put_last-in-None-Some.ensures.joins)
+
+pub returns-in-None-None-clause-canonical : goal.returns-in-None-None-clause-canonical
+returns-in-None-None-clause-canonical c = grind (arith, common_steps)
+
+pub returns-in-None-None-clause-numbers : goal.returns-in-None-None-clause-numbers
+returns-in-None-None-clause-numbers c = grind (arith, common_steps)

@@ -1,3 +1,4 @@
+use Rattle.std.proofs.lemmas.Grind.{common_steps}
 use Rattle.std.proofs.Common.{ℕ, ℤ, pos, ◌+ℤ◌, arith, List, ◌≡◌, get_or, map, take, take_all, subst, sym, ap, ◌∙◌}
 use Rattle.version_set.specs.Pairs.{IsCanonical}
 use Rattle.version_set.specs.Members.{members, moved_pair, IsVersion}
@@ -34,3 +35,9 @@ pub returns-clause-members : goal.returns-clause-members
 returns-clause-members c =
     let all : c.loop-from.shifted.items ≡ map (moved_pair c.args.by) c.args.pairs.now = c.loop-from.invariant ∙ ap (λ (by : ℤ). map (moved_pair by) (take c.loop-from.from-index c.args.pairs.now)) (to_z-of_z w64 c.args.by c.ranges.by) ∙ ap (map (moved_pair c.args.by)) (take_all c.loop-from.from-index c.args.pairs.now (omega arith)) in
     ap members all ∙ members-moved c.args.by 1 c.args.pairs.now c.requires.canonical c.requires.fits
+
+pub loop-from-init : goal.loop-from-init
+loop-from-init c = grind (arith, common_steps)
+
+pub loop-from-preserved : goal.loop-from-preserved
+loop-from-preserved c = grind (arith, common_steps)
