@@ -112,3 +112,13 @@ parts_tell ns ss = (
       (tells_all (λ m. sets_with m ss == 1) ns (λ n m. (let e : sets_with n ss ≡ 1 = subst (λ b. sets_with n ss ≡ one_if b) (Has-has ns n m) (parts_count ns ss h n) in eq-eqb (sets_with n ss) 1 e)))
       (tells_all (λ s. list_all (has ns) s) ss (λ s m. tells_all (has ns) s (λ n i. Has-has ns n (h.inside s m n i)))),
 )
+
+-- the numbers alone are their parts
+pub whole_alone : (ns : List ℕ) → IsTrue (are_parts ns (ns ∷ []))
+whole_alone ns =
+    and (list_all (λ n. sets_with n (ns ∷ []) == 1) ns) (list_all (λ s. list_all (has ns) s) (ns ∷ []))
+    (tells_all (λ n. sets_with n (ns ∷ []) == 1) ns (λ n m. once n (Has-has ns n m)))
+    (and (list_all (has ns) ns) true (tells_all (has ns) ns (λ n m. Has-has ns n m)) refl)
+  where
+    once : (n : ℕ) → has ns n ≡ true → IsTrue (sets_with n (ns ∷ []) == 1)
+    once n e = rw e refl

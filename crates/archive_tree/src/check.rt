@@ -1,5 +1,5 @@
 // Whether parts are those of an archive.
-ghost use Rattle.std.specs.Prelude.{◌≡◌, IfOk, Some, map};
+ghost use Rattle.std.specs.Prelude.{◌≡◌, ℕ, List, [], ◌∷◌, IsTrue, IfOk, Some, map};
 ghost use Rattle.std.specs.List.{list_all, flat_map};
 ghost use Rattle.jsonml_tree.specs.View.{scalar_view, content_view};
 ghost use Rattle.keyed_tree.specs.View.{key_view};
@@ -118,7 +118,7 @@ fn are_parts(alloc: Global, set: &VersionSet, parts: &[&VersionSet]) -> Result<b
 fn pairs_of_all(alloc: Global, sets: &[&VersionSet]) -> Result<Vec<(u32, u32)>, AllocError>
     ensures { IfOk result (λ v. v.items ≡ flat_map (λ s. pairs_of s.now) sets.now) }
 {
-    let mut pairs = Vec::new(alloc);
+    let mut pairs = Vec::with_capacity(alloc, sets.len())?;
     for set in sets {
         pairs.extend_from_slice(set.pairs())?;
     }
@@ -201,11 +201,24 @@ fn are_alts_parts(alloc: Global, set: &VersionSet, alts: &[Alt]) -> Result<bool,
         (members (pairs_of set.now))
         (alt_sets (members (pairs_of set.now)) (map alt_view alts.now))) }
 {
+    if is_whole(alts) {
+        return Ok(true);
+    }
     let mut parts = Vec::with_capacity(alloc, alts.len())?;
     for alt in alts {
         parts.push(effective(&alt.stamp, set))?;
     }
     are_parts(alloc, set, &parts)
+}
+
+// Whether there is one alternative, and it has the leaf's set.
+fn is_whole(alts: &[Alt]) -> bool
+    ensures { IsTrue result → (ns : List ℕ) → alt_sets ns (map alt_view alts.now) ≡ ns ∷ [] }
+{
+    match alts {
+        [alt] => alt.stamp.is_none(),
+        _ => false,
+    }
 }
 
 // A body is sought by its summary, and looked at itself only where summaries are equal.

@@ -11,7 +11,7 @@ ghost use Rattle.timestamp_tree.specs.Reading.{set_at};
 use crate::fault::RecFault;
 use crate::lent::lend_name;
 use crate::limits::MOST_VERSIONS;
-use crate::take_values::take_value;
+use crate::take_values::{FEW, take_value};
 use keyed_tree::{KeyVal, Label};
 use std::alloc::Global;
 use timestamp_tree::take_pairs;
@@ -47,7 +47,7 @@ fn take_values(
         (many_at value_at count (drop at bytes.now)) }
     ensures next { IfOk result (λ r. r.1 ≤ length bytes.now) }
 {
-    let mut values = Vec::new(alloc);
+    let mut values = Vec::with_capacity(alloc, count.min(FEW) as usize)?;
     let mut at = at;
     for _ in 0..count {
         let (value, next) = take_value(alloc, bytes, at)?;

@@ -14,7 +14,7 @@ use std::alloc::Global;
 use xa_fields::{take_text, take_u8, take_u32};
 
 /// A list of so few items takes no more room than they need.
-const FEW: u32 = 4;
+pub(crate) const FEW: u32 = 4;
 
 #[tactic(auto, unfolding(xa_fields::specs::Reading::chained_at))]
 fn take_attrs(alloc: Global, bytes: &[u8], at: usize) -> Result<(Vec<Attr>, usize), RecFault>

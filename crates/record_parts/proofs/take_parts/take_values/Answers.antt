@@ -10,7 +10,7 @@ use Rattle.record_parts.proofs.take_parts.take_values.Goals as goal
 
 pub returns-in_err-value-clause-found : goal.returns-in_err-value-clause-found
 returns-in_err-value-clause-found c =
-    let p = err_from_is_err_and c.from_residual.result c.from_residual.ensures.1 in
+    let p = err_from_is_err_and c.from_residual-in_err-value.result c.from_residual-in_err-value.ensures.1 in
     rw (p.1, p.2) (fails_in value_at c.in_err-value.field-0.0 (map key_view c.loop.values.items) c.args.count c.loop.counter (drop c.loop.at c.args.bytes.now) (many_at value_at c.args.count (drop c.args.at c.args.bytes.now)) c.loop-test.true c.in_err-value.ensures.found c.loop.invariant.read)
 
 pub loop-preserved : goal.loop-preserved
