@@ -73,7 +73,7 @@ pub(crate) fn is_directory(
     if !do_pairs_fit(&sets, body.len()) {
         return Ok(false);
     }
-    let mut own = Vec::new(alloc);
+    let mut own = Vec::with_capacity(alloc, FRAME + body.len())?;
     put_end(&mut own, entries, &sets)?;
     Ok(are_same(&own[FRAME..], body))
 }

@@ -1,9 +1,11 @@
 // Which archives are keyed by a specification.
-ghost use Rattle.std.specs.Prelude.{◌≡◌, ◌↔◌, IsTrue, IfOk, OnOk, List, map, if◌then◌else◌};
+ghost use Rattle.std.specs.Prelude.{◌≡◌, ◌↔◌, IsTrue, IfOk, OnOk, List, map, IfSome};
 ghost use Rattle.std.specs.List.{list_all};
 ghost use Rattle.keyed_tree.specs.Data.{PlainKeyed, tag};
-ghost use Rattle.keyed_tree.specs.Proper.{is_content, is_scalar, is_tag};
-ghost use Rattle.key_spec.specs.RuleView.{names_view};
+ghost use Rattle.keyed_tree.specs.Proper.{is_content, is_scalar};
+ghost use Rattle.std.specs.List.Sorted.{IsStrictlySortedBy};
+ghost use Rattle.key_spec.specs.Rules.{below, tag_cmp};
+ghost use Rattle.key_spec.specs.RuleView.{names_view, rule_view};
 ghost use Rattle.key_spec.specs.View.{spec_view};
 ghost use Rattle.archive_tree.specs.ArchiveView.{archive_view};
 ghost use Rattle.archive_tree.specs.Data.{PlainAlt, node_label};
@@ -11,13 +13,14 @@ ghost use Rattle.archive_tree.specs.Seek.{is_sorted, are_sorted};
 ghost use Rattle.keyed_tree.specs.Alike.{AllAlike};
 ghost use Rattle.archive_tree.specs.Stands.{ArchiveOf};
 ghost use Rattle.archive_tree.specs.View.{alt_view, node_view, nodes_view};
+ghost use Rattle.archive_file.specs.Known.{IsKnown};
 ghost use Rattle.archive_file.specs.KeyedBy.{AreKeyedBy};
-ghost use Rattle.archive_file.specs.NodeFits.{is_attr_node, inside_fits, node_fits, nodes_fit, is_archive_keyed};
+ghost use Rattle.archive_file.specs.NodeFits.{is_attr_node, leaf_fits, leaves_fit, node_fits, nodes_fit, is_archive_keyed};
 
 use crate::lead::has_keys;
 use crate::level::are_shallow;
 use archive_tree::{ANode, Alt, Archive};
-use key_spec::Spec;
+use key_spec::{Rule, Spec, rule_with_tag};
 use keyed_tree::{KeyVal, Name};
 use record_format::DEEPEST;
 use std::alloc::{AllocError, Global};
@@ -25,9 +28,9 @@ use std::alloc::{AllocError, Global};
 /// Whether every version of the archive is the keyed tree of a document that satisfies the keys, with elements at most
 /// 120 deep.
 ///
-/// It goes over the nodes and not over the versions: once for their levels, and then once for their labels, with each key
-/// path looked up by halving at each of its tags. It stops at the first node that does not fit. Recursion is at most
-/// 120 levels deep, and takes memory only for the path of the node.
+/// It goes over the nodes and not over the versions: once for their levels, and then once for their labels, with the rules of a tag
+/// looked up once for neighbours that have it, and each key path by halving at each of its tags. It stops at the first node
+/// that does not fit. Recursion is at most 120 levels deep, and takes memory only for the path of the node.
 pub fn is_keyed(alloc: Global, spec: &Spec, archive: &Archive) -> Result<bool, AllocError>
     ensures keyed { (vs : List PlainKeyed) → ArchiveOf vs (archive_view archive.now)
         → IfOk result (λ b. IsTrue b ↔ AreKeyedBy (spec_view spec.now) vs) }
@@ -49,6 +52,60 @@ fn are_nodes_keyed(alloc: Global, spec: &Spec, archive: &Archive) -> Result<bool
     nodes_fit(alloc, spec, &mut path, archive.kids())
 }
 
+// What is known of the elements of one tag under one context.
+#[derive(Clone, Copy)]
+struct Known<'a> {
+    tag: &'a str,
+    rule: Option<&'a Rule>,
+    is_frontier: bool,
+    ends_below: bool,
+    rules: &'a [Rule],
+}
+
+fn know<'a>(
+    alloc: Global,
+    spec: &'a Spec,
+    path: &mut Vec<String>,
+    tag: &'a str,
+) -> Result<Known<'a>, AllocError>
+    ensures known { IfOk result (λ k. IsKnown (spec_view spec.now) (names_view path.old.items) k) }
+    ensures tag { IfOk result (λ k. k.tag.now ≡ tag.now) }
+    ensures path { OnOk result (names_view path.new.items ≡ names_view path.old.items) }
+{
+    let rule = spec.rule(path, tag);
+    path.push(String::from_str(alloc, tag)?)?;
+    let known = Known {
+        tag,
+        rule,
+        is_frontier: spec.is_frontier(path),
+        ends_below: spec.ends_below(path),
+        rules: spec.rules_at(path),
+    };
+    path.pop();
+    Ok(known)
+}
+
+// The same, where something may be known of the tag of the element before.
+fn know_next<'a>(
+    alloc: Global,
+    spec: &'a Spec,
+    path: &mut Vec<String>,
+    last: Option<Known<'a>>,
+    tag: &'a str,
+) -> Result<Known<'a>, AllocError>
+    requires { IfSome last
+        (λ k. IsKnown (spec_view spec.now) (names_view path.old.items) k) }
+    ensures known { IfOk result (λ k. IsKnown (spec_view spec.now) (names_view path.old.items) k) }
+    ensures tag { IfOk result (λ k. k.tag.now ≡ tag.now) }
+    ensures path { OnOk result (names_view path.new.items ≡ names_view path.old.items) }
+{
+    match last {
+        Some(known) if known.tag == tag => Ok(known),
+        _ => know(alloc, spec, path, tag),
+    }
+}
+
+// Siblings of one tag stand together, so what is known of the one before mostly serves.
 #[cycle(fit)]
 #[tactic(auto, using(archive_tree::proofs::NodeViews::nodes, crate::proofs::Nodes::nodes, crate::proofs::Nodes::sorted))]
 fn nodes_fit(
@@ -62,79 +119,105 @@ fn nodes_fit(
         (nodes_view nodes.now)) }
     ensures path { OnOk result (names_view path.new.items ≡ names_view path.old.items) }
 {
+    let mut last = None;
     for node in nodes {
-        if !kid_fits(alloc, spec, path, node)? {
+        let Name::Tag(tag) = &node.label().name else {
+            if !is_attr_node(node) {
+                return Ok(false);
+            }
+            continue;
+        };
+        let known = know_next(alloc, spec, path, last, tag.as_str())?;
+        if !node_fits(alloc, spec, path, &known, node)? {
             return Ok(false);
         }
+        last = Some(known);
     }
     Ok(true)
 }
 
-// A kid, which is an attribute's leaf or an element's node.
-#[cycle(fit)]
-#[tactic(auto, using(archive_tree::proofs::NodeViews::nodes, crate::proofs::Nodes::nodes, crate::proofs::Nodes::sorted))]
-fn kid_fits(
-    alloc: Global,
-    spec: &Spec,
-    path: &mut Vec<String>,
-    node: &ANode,
-) -> Result<bool, AllocError>
-    requires { IsTrue (is_sorted (node_view node.now)) }
-    ensures fits { IfOk result
-        (λ b. b ≡ (if is_tag (node_label (node_view node.now)).name
-        then node_fits (spec_view spec.now) (names_view path.old.items) (node_view node.now)
-        else is_attr_node (node_view node.now))) }
-    ensures path { OnOk result (names_view path.new.items ≡ names_view path.old.items) }
-{
-    match &node.label().name {
-        Name::Attr(_) => Ok(is_attr_node(node)),
-        Name::Tag(name) => node_fits(alloc, spec, path, name.as_str(), node),
-    }
-}
-
+// An element's node: at the frontier a leaf with contents, else a node with kids.
 #[cycle(fit)]
 #[tactic(auto, using(archive_tree::proofs::NodeViews::nodes, crate::proofs::Nodes::nodes, crate::proofs::Nodes::sorted))]
 fn node_fits(
     alloc: Global,
     spec: &Spec,
     path: &mut Vec<String>,
-    name: &str,
+    known: &Known,
     node: &ANode,
 ) -> Result<bool, AllocError>
-    requires name { (node_label (node_view node.now)).name ≡ tag name.now }
+    requires known { IsKnown (spec_view spec.now) (names_view path.old.items) known.now }
+    requires name { (node_label (node_view node.now)).name ≡ tag known.now.tag.now }
     requires sorted { IsTrue (is_sorted (node_view node.now)) }
     ensures fits { IfOk result (λ b. b ≡ node_fits (spec_view spec.now) (names_view path.old.items)
         (node_view node.now)) }
     ensures path { OnOk result (names_view path.new.items ≡ names_view path.old.items) }
 {
-    if !has_keys(spec, path, name, node) {
+    if !has_keys(known.rule, node) {
         return Ok(false);
     }
-    path.push(String::from_str(alloc, name)?)?;
-    let fits = is_body_fit(alloc, spec, path, node)?;
+    match node {
+        ANode::Inner { kids, .. } => {
+            Ok(!known.is_frontier && kids_fit(alloc, spec, path, known, kids)?)
+        }
+        ANode::Leaf { alts, .. } => Ok(known.is_frontier && are_contents(alts)),
+    }
+}
+
+// The kids of a node with that tag.
+#[cycle(fit)]
+#[tactic(auto, using(archive_tree::proofs::NodeViews::nodes, crate::proofs::Nodes::nodes, crate::proofs::Nodes::sorted))]
+fn kids_fit(
+    alloc: Global,
+    spec: &Spec,
+    path: &mut Vec<String>,
+    known: &Known,
+    kids: &[ANode],
+) -> Result<bool, AllocError>
+    requires known { IsKnown (spec_view spec.now) (names_view path.old.items) known.now }
+    requires sorted { IsTrue (are_sorted (nodes_view kids.now)) }
+    ensures fits { IfOk result (λ b. b ≡ nodes_fit (spec_view spec.now)
+        (below (names_view path.old.items) known.now.tag.now) (nodes_view kids.now)) }
+    ensures path { OnOk result (names_view path.new.items ≡ names_view path.old.items) }
+{
+    if known.ends_below {
+        return Ok(leaves_fit(known.rules, kids));
+    }
+    path.push(String::from_str(alloc, known.tag)?)?;
+    let fits = nodes_fit(alloc, spec, path, kids)?;
     path.pop();
     Ok(fits)
 }
 
-// What the node holds, where it has this path: contents at the frontier, else kids.
-#[cycle(fit)]
-#[tactic(auto, using(archive_tree::proofs::NodeViews::nodes, crate::proofs::Nodes::nodes, crate::proofs::Nodes::sorted))]
-fn is_body_fit(
-    alloc: Global,
-    spec: &Spec,
-    path: &mut Vec<String>,
-    node: &ANode,
-) -> Result<bool, AllocError>
-    requires { IsTrue (is_sorted (node_view node.now)) }
-    ensures fits { IfOk result (λ b. b ≡ inside_fits (spec_view spec.now)
-        (names_view path.old.items) (node_view node.now)) }
-    ensures path { OnOk result (names_view path.new.items ≡ names_view path.old.items) }
+// Nodes by the rules of their context, where all elements are at the frontier.
+#[tactic(auto, using(archive_tree::proofs::NodeViews::nodes, crate::proofs::Nodes::sorted))]
+fn leaves_fit(rules: &[Rule], nodes: &[ANode]) -> bool
+    requires ascending { IsStrictlySortedBy tag_cmp (map rule_view rules.now) }
+    requires sorted { IsTrue (are_sorted (nodes_view nodes.now)) }
+    ensures { result ≡ leaves_fit (map rule_view rules.now) (nodes_view nodes.now) }
+{
+    for node in nodes {
+        if !leaf_fits(rules, node) {
+            return false;
+        }
+    }
+    true
+}
+
+#[tactic(auto, using(archive_tree::proofs::NodeViews::nodes, crate::proofs::Nodes::sorted))]
+fn leaf_fits(rules: &[Rule], node: &ANode) -> bool
+    requires ascending { IsStrictlySortedBy tag_cmp (map rule_view rules.now) }
+    requires sorted { IsTrue (is_sorted (node_view node.now)) }
+    ensures { result ≡ leaf_fits (map rule_view rules.now) (node_view node.now) }
 {
     match node {
-        ANode::Inner { kids, .. } => {
-            Ok(!spec.is_frontier(path) && nodes_fit(alloc, spec, path, kids)?)
-        }
-        ANode::Leaf { alts, .. } => Ok(spec.is_frontier(path) && are_contents(alts)),
+        ANode::Inner { .. } => false,
+        ANode::Leaf { label, alts, .. } => match &label.name {
+            Name::Attr(_) => is_attr_node(node),
+            Name::Tag(tag) => {
+                has_keys(rule_with_tag(rules, tag.as_str()), node) && are_contents(alts)
+            }
+        },
     }
 }
 

@@ -10,9 +10,7 @@ ghost use Rattle.keyed_tree.specs.Order.{key_cmp, label_cmp};
 ghost use Rattle.keyed_tree.specs.View.{key_view, label_view};
 ghost use Rattle.key_rules.specs.Reach.{scalar_named};
 ghost use Rattle.key_spec.specs.Data.{PlainPath};
-ghost use Rattle.key_spec.specs.Rules.{rule_of};
-ghost use Rattle.key_spec.specs.RuleView.{names_view, path_view};
-ghost use Rattle.key_spec.specs.View.{spec_view};
+ghost use Rattle.key_spec.specs.RuleView.{path_view, rule_view};
 ghost use Rattle.archive_tree.specs.Data.{PlainAlt, node_label};
 ghost use Rattle.archive_tree.specs.Seek.{node_with, rise, is_sorted};
 ghost use Rattle.archive_tree.specs.Stands.{labels};
@@ -21,18 +19,18 @@ ghost use Rattle.archive_file.specs.NodeFits.{attr_label, bare_label, ends_in, b
 
 use archive_tree::{ANode, Alt};
 use jsonml_tree::{Attr, Content, Scalar};
-use key_spec::{KeyPath, Spec};
+use key_spec::{KeyPath, Rule};
 use keyed_tree::{Body, KeyVal, Label, Name};
 use std::cmp::Ordering;
 
-/// Whether there is a rule for the tag, and its key paths lead to the node's key values in every version.
+/// Whether there is a rule, and its key paths lead to the node's key values in every version.
 #[tactic(auto, using(crate::proofs::Nodes::sorted))]
-pub(crate) fn has_keys(spec: &Spec, context: &[String], tag: &str, node: &ANode) -> bool
+pub(crate) fn has_keys(found: Option<&Rule>, node: &ANode) -> bool
     requires { IsTrue (is_sorted (node_view node.now)) }
-    ensures { result ≡ node_has_keys (rule_of (spec_view spec.now) (names_view context.now) tag.now)
+    ensures { result ≡ node_has_keys (option_map (λ r. rule_view r.now) found.entry)
         (node_label (node_view node.now)).keys (node_view node.now) }
 {
-    match spec.rule(context, tag) {
+    match found {
         Some(rule) => do_lead(&rule.paths, &node.label().keys, node),
         None => false,
     }

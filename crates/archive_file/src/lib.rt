@@ -16,6 +16,5 @@ mod reading;
 pub use decode::decode_file;
 pub use encode::encode_file;
 pub use fault::{EncodeFault, FileFault};
-pub use front::{fixed_of, header_of};
 pub use keyedness::is_keyed;
 pub use laws::{keyed_versions_can_be_merged, sound_archives_have_one_reading};

@@ -17,7 +17,7 @@ ghost use Rattle.archive_file.specs.Laid.{AltsAt, NodeAt, RowAt, Finds};
 use crate::ends::{entry_of, is_directory};
 use crate::fault::FileFault;
 use archive_tree::{ANode, Alt, effective};
-use record_format::{END, Rec, RecFault, take_frame, take_record};
+use record_format::{ALT, END, Rec, RecFault, take_frame, take_record};
 use std::alloc::Global;
 use version_set::VersionSet;
 
@@ -38,7 +38,30 @@ fn read_record(alloc: Global, bytes: &[u8], at: usize) -> Result<(Rec, usize), F
     }
 }
 
-// The alternatives of a leaf, to the record that closes it, and the offset behind that. Most leaves have one.
+// The same items, in no more room than they need.
+fn fitted<T>(items: Vec<T>) -> Vec<T>
+    ensures { result.items ≡ items.items }
+{
+    let mut items = items;
+    items.shrink_to_fit();
+    items
+}
+
+// How many records of alternatives stand one after another from the offset on. Their bodies are not looked at.
+fn count_alts(bytes: &[u8], start: usize) -> usize
+    ensures { result ≤ length bytes.now }
+{
+    let mut at = start;
+    for count in 0..bytes.len() {
+        match take_frame(bytes, at) {
+            Some((ALT, _, next)) => at = next,
+            _ => return count,
+        }
+    }
+    bytes.len()
+}
+
+// The alternatives of a leaf, to the record that closes it, and the offset behind that.
 fn read_alts(alloc: Global, bytes: &[u8], start: usize) -> Result<(Vec<Alt>, usize), FileFault>
     ensures found { (xs : List PlainAlt) (rest : List ℕ) → AltsAt xs rest (drop start bytes.now)
         → Finds result (λ r. (map alt_view r.0.items ≡ xs) × (drop r.1 bytes.now ≡ rest)) }
@@ -47,7 +70,7 @@ fn read_alts(alloc: Global, bytes: &[u8], start: usize) -> Result<(Vec<Alt>, usi
     ensures further { IfOk result (λ r. start < r.1) }
     ensures within { IfOk result (λ r. r.1 ≤ length bytes.now) }
 {
-    let mut alts = Vec::with_capacity(alloc, 1)?;
+    let mut alts = Vec::with_capacity(alloc, count_alts(bytes, start))?;
     let mut at = start;
     loop {
         let (rec, next) = read_record(alloc, bytes, at)?;
@@ -134,7 +157,7 @@ pub fn read_row(
             if !is_directory(alloc, body, set, &nodes, &entries)? {
                 return Err(FileFault::Damage);
             }
-            return Ok((nodes, next, body.len() as u64));
+            return Ok((fitted(nodes), next, body.len() as u64));
         }
         let (node, end, dir) = read_node(alloc, bytes, at, depth, set)?;
         entries.push(entry_of(start, at, end, dir))?;

@@ -6,7 +6,7 @@ use std::alloc::Global;
 use std::marker::Brand;
 use std::sync::ledger::{Blank, Ledger};
 use std::test::Fail;
-use timestamp_tree::{Node, NodeFault, Steps, node_at};
+use timestamp_tree::{Node, NodeFault, Probe, Steps, node_at, probe_at};
 use xa_outside::{FolderCall, FolderFail, MemFolder};
 
 /// A folder with a file of the tree over eight sets, in which one read fails.
@@ -76,6 +76,51 @@ fn nodes_stand_one_behind_another(rt: HostRuntime) -> Result<(), Fail> {
     let last = found(alloc, &mut folder, 304, 324, 5);
     assert!(rt; is_node(&last, &[(4, 4)], 0, 20));
     assert!(rt; folder.pulled() == 68);
+    Ok(())
+}
+
+fn asked<L: Ledger>(
+    blank: Blank,
+    alloc: Global,
+    folder: &mut MemFolder,
+    at: u64,
+    limit: u64,
+    number: u32,
+) -> Result<Probe, NodeFault>
+    requires name { blank.name ≡ L.name }
+    requires parts { blank.parts ≡ L.parts }
+    requires some { 0 < blank.parts }
+    requires limit { at ≤ limit }
+{
+    let mut steps: Steps<L> = Steps::new(blank);
+    probe_at(alloc, folder, "tree", at, limit, 5, number, &mut steps)
+}
+
+/// Whether the node at the offset has a number, the size of its left part, and its size.
+fn said(
+    alloc: Global,
+    folder: &mut MemFolder,
+    at: u64,
+    limit: u64,
+    number: u32,
+) -> Option<(bool, u64, u64)>
+    requires { at ≤ limit }
+{
+    match asked::<Brand>(Blank::new(1), alloc, folder, at, limit, number) {
+        Ok(probe) => Some((probe.has, probe.left, probe.size)),
+        Err(_) => None,
+    }
+}
+
+#[test]
+fn nodes_are_asked_for_a_number(rt: HostRuntime) -> Result<(), Fail> {
+    let alloc = rt.alloc();
+    let mut folder = folder(alloc, 9)?;
+    assert!(rt; said(alloc, &mut folder, 0, 324, 5) == Some((true, 164, 20)));
+    assert!(rt; said(alloc, &mut folder, 20, 48, 4) == Some((false, 60, 28)));
+    assert!(rt; folder.pulled() == 48);
+    assert!(rt; said(alloc, &mut folder, 0, 19, 5).is_none());
+    assert!(rt; folder.pulled() == 48);
     Ok(())
 }
 

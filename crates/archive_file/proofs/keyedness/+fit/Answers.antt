@@ -1,22 +1,13 @@
-use Rattle.std.proofs.Common.{arith}
-use Rattle.std.proofs.lemmas.Grind.{common_steps}
-use Rattle.archive_file.proofs.Nodes.{node_fits-is}
+use Rattle.std.proofs.Common.{ap, ◌∙◌}
+use Rattle.key_spec.specs.Rules.{below}
+use Rattle.key_spec.specs.View.{names_view, spec_view}
+use Rattle.archive_tree.specs.View.{nodes_view}
+use Rattle.archive_file.specs.NodeFits.{leaves_fit}
+use Rattle.archive_file.proofs.Frontier.{leaves_fit-is}
 use Rattle.archive_file.proofs.keyedness.+fit.Goals as goal
 
-pub nodes_fit-loop-node-preserved : goal.nodes_fit-loop-node-preserved
-nodes_fit-loop-node-preserved t c = grind (arith, common_steps)
-
-pub nodes_fit-returns-then-not-branch-clause-fits : goal.nodes_fit-returns-then-not-branch-clause-fits
-nodes_fit-returns-then-not-branch-clause-fits t c = grind (arith, common_steps)
-
-pub nodes_fit-returns-clause-fits : goal.nodes_fit-returns-clause-fits
-nodes_fit-returns-clause-fits t c = grind (arith, common_steps)
-
-pub kid_fits-returns-in-Attr-clause-fits : goal.kid_fits-returns-in-Attr-clause-fits
-kid_fits-returns-in-Attr-clause-fits t c = grind (arith, node_fits-is)
-
-pub node_fits-returns-then-not-has_keys-clause-fits : goal.node_fits-returns-then-not-has_keys-clause-fits
-node_fits-returns-then-not-has_keys-clause-fits t c = grind (arith, node_fits-is)
-
-pub node_fits-returns-clause-fits : goal.node_fits-returns-clause-fits
-node_fits-returns-clause-fits t c = grind (arith, common_steps)
+pub kids_fit-returns-then-known-clause-fits : goal.kids_fit-returns-then-known-clause-fits
+kids_fit-returns-then-known-clause-fits t c =
+    let kids = nodes_view c.args.kids.now in
+    c.leaves_fit.ensures ∙ ap (λ rules. leaves_fit rules kids) c.requires.known.inside
+    ∙ leaves_fit-is (spec_view c.args.spec.now) (below (names_view c.args.path.now.items) c.args.known.now.tag.now) kids (c.requires.known.ends c.if-known.true)

@@ -171,7 +171,7 @@ pub read_row-returns-then-kind-eq-END-clause-found : goal.read_row-returns-then-
 read_row-returns-then-kind-eq-END-clause-found t c = λ ks rest h. (
     let l = c.loop-kind in
     let end = row-end (pairs_of c.args.set.now) ks rest c.args.depth (map node_view l.nodes.items) (drop l.at c.args.bytes.now) (l.invariant.left ks rest h) c.in-Some.kind c.in-Some.body.now (drop c.in-Some.next c.args.bytes.now) (sym c.in-Some.ensures.found) c.if-kind-eq-END.true in
-    (end.0, end.1))
+    rw c.fitted.ensures (end.0, end.1))
 
 pub read_row-returns-then-kind-eq-END-clause-lie : goal.read_row-returns-then-kind-eq-END-clause-lie
 read_row-returns-then-kind-eq-END-clause-lie t c =
@@ -187,8 +187,8 @@ read_row-returns-then-kind-eq-END-clause-lie t c =
     let four : s.kind ≡ 4 = c.if-kind-eq-END.true in
     let end : drop l.at bytes ≡ framed 4 s.body.now ++ drop s.next bytes =
     frame-spelled bytes l.at s.next s.kind s.body.now (λ i. omega (arith, c.type_inv.bytes i)) (sym s.ensures.found) ∙ ap (λ (k : ℕ). framed k s.body.now ++ drop s.next bytes) four in
-    row-shut set c.args.depth (drop c.args.start bytes) done (drop l.at bytes) l.invariant.done es (drop s.next bytes) s.body.now c.requires l.invariant.entries
-    (omega (arith, lt-of (length l.nodes.items) (2 ^ 32) two.0, length-map l.nodes.items node_view)) end ((bytes_eq-Decides (dir_bytes (dir_with es set (nodes_from done))) s.body.now).0 two.1) (omega (arith, length-drop c.args.start bytes))
+    rw c.fitted.ensures (row-shut set c.args.depth (drop c.args.start bytes) done (drop l.at bytes) l.invariant.done es (drop s.next bytes) s.body.now c.requires l.invariant.entries
+    (omega (arith, lt-of (length l.nodes.items) (2 ^ 32) two.0, length-map l.nodes.items node_view)) end ((bytes_eq-Decides (dir_bytes (dir_with es set (nodes_from done))) s.body.now).0 two.1) (omega (arith, length-drop c.args.start bytes)))
 
 pub read_row-returns-then-kind-eq-END-clause-dir : goal.read_row-returns-then-kind-eq-END-clause-dir
 read_row-returns-then-kind-eq-END-clause-dir t c =
@@ -201,7 +201,7 @@ read_row-returns-then-kind-eq-END-clause-dir t c =
     ∙ (λ j. ltb (length (c.deref.ensures.value j)) (2 ^ 32) && bytes_eq (dir_bytes (dir_with (map entry_view (c.deref-then-kind-eq-END.ensures.value j)) set (nodes_view (c.deref.ensures.value j)))) c.in-Some.body.now) in
     let two = both (ltb (length l.nodes.items) (2 ^ 32)) (bytes_eq (dir_bytes (dir_with es set (nodes_from done))) body) (sym told ∙ c.if-not-branch.false) in
     let same = (bytes_eq-Decides (dir_bytes (dir_with es set (nodes_from done))) body).0 two.1 in
-    ap length (sym same) ∙ ap (λ (d : PlainDir). length (dir_bytes d)) (dir-is set c.args.depth (drop c.args.start c.args.bytes.now) done (drop l.at c.args.bytes.now) l.invariant.done es l.invariant.entries)
+    rw c.fitted.ensures (ap length (sym same) ∙ ap (λ (d : PlainDir). length (dir_bytes d)) (dir-is set c.args.depth (drop c.args.start c.args.bytes.now) done (drop l.at c.args.bytes.now) l.invariant.done es l.invariant.entries))
 
 pub read_row-returns-then-kind-eq-END-clause-further : goal.read_row-returns-then-kind-eq-END-clause-further
 read_row-returns-then-kind-eq-END-clause-further t c =
