@@ -1,9 +1,10 @@
 // Judging an archive file in a folder.
-ghost use Rattle.std.specs.Prelude.{◌≡◌, ◌≢◌, ◌≤◌, ℕ, List, length, Some, None, Err, IfOk};
+ghost use Rattle.std.specs.Prelude.{◌≡◌, ◌≢◌, ◌≤◌, ◌<◌, ℕ, List, length, Some, None, Err, IfOk};
 ghost use Rattle.std.specs.Prelude as prelude;
 ghost use Rattle.key_spec.specs.Data.{PlainRule};
 ghost use Rattle.keyed_tree.specs.Data.{PlainKeyed};
 ghost use Rattle.archive_file.specs.Sound.{Sound, SoundAs};
+ghost use Rattle.record_format.specs.Files.{longest};
 ghost use Rattle.xa_outside.specs.Causes.{Rose};
 ghost use Rattle.xa_outside.specs.Folder.{Files, front_of};
 ghost use Rattle.xa_outside.specs.Numbers.{PullsAtMost};
@@ -12,13 +13,14 @@ ghost use Rattle.archive_check.specs.declared.fault.CheckFault.TheVariants.{Dama
 use crate::fault::CheckFault;
 use archive_file::{FileFault, decode_file};
 use archive_tree::archives_stand_for_one_list;
+use record_format::LONGEST;
 use std::alloc::Global;
 use xa_outside::{Folder, ReadFault, read_front};
 
 /// The number of versions of the archive that the first `length` bytes of a file are, or Damage
 /// where they are no sound archive.
 ///
-/// It reads these bytes once and whole. A file with fewer bytes is damaged.
+/// It reads these bytes once and whole, and makes room for them first. A file with fewer bytes is damaged.
 pub fn check<F: Folder>(
     alloc: Global,
     folder: &mut F,
@@ -46,7 +48,14 @@ pub fn check<F: Folder>(
     // A file that has fewer bytes is not sound.
     ensures short { (files : Files) → F.files folder.old ≡ Some files
         → front_of files name.now length ≡ None → IfOk result (λ n. ⊥) }
+
+    // No archive is so long: that is told without a read, and takes no memory.
+    ensures too_long { longest < length
+        → (result ≡ Err Damage) × (F.numbers folder.new ≡ F.numbers folder.old) }
 {
+    if length > LONGEST {
+        return Err(CheckFault::Damage);
+    }
     match read_front(alloc, folder, name, length) {
         Ok(bytes) if (bytes.len() as u64) < length => Err(CheckFault::Damage),
         Ok(bytes) => versions_in(alloc, &bytes),
