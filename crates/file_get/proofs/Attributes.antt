@@ -12,7 +12,7 @@ use Rattle.jsonml_print.specs.Calls.{Call, attribute, calls_of, Prints}
 use Rattle.jsonml_print.specs.Pen.{Pen}
 use Rattle.keyed_tree.specs.Data.{PlainName, attr, PlainKey, scalar, inside, PlainLabel, leaf}
 use Rattle.keyed_tree.specs.Plain.{plain}
-use Rattle.keyed_tree.specs.View.{name_view}
+use Rattle.record_parts.specs.Shown.{shown_name}
 use Rattle.keyed_tree.specs.Proper.{is_tag, is_scalar}
 use Rattle.archive_tree.specs.Data.{PlainAlt, PlainNode, leaf_node, node_label, eff}
 use Rattle.archive_tree.specs.Read.{read, body_at}
@@ -54,7 +54,7 @@ module _ {S K : Type 0} (files : S → Option Files) (draft : S → Option (List
   Tells old new P = (last : ℕ) (bytes more : List ℕ) (set : List (ℕ × ℕ)) (xs : List PlainAlt) → AltsTold i (files old) name bytes last o.behind child.end set xs more → P set xs × PullsAtMost (alts_seen i set xs) (numbers old) (numbers new)
 
   -- where an attribute may not come, the node is none in a sound file
-  pub attr-refused : (f : S) (k : K) (p : Pen) (n : ℕ) (has_item : Bool) → IsMeter (numbers f) → name_view o.name ≡ attr text → (o.is_inner ≡ false → nat_lt 0 depth ≡ true → has_item ≡ false → ⊥)
+  pub attr-refused : (f : S) (k : K) (p : Pen) (n : ℕ) (has_item : Bool) → IsMeter (numbers f) → shown_name o.name ≡ attr text → (o.is_inner ≡ false → nat_lt 0 depth ≡ true → has_item ≡ false → ⊥)
       → OpenedPrinted i name child o depth has_item (at f k p n) (at f k p n) (Err Damage)
   attr-refused f k p n has_item meter named never = record {
     walks = walks-damage (at f k p n) (at f k p n) 0 (child.end - o.behind) (omega arith) (walks-none (at f k p n) 0 meter);
@@ -66,7 +66,7 @@ module _ {S K : Type 0} (files : S → Option Files) (draft : S → Option (List
   }
 
   -- the body was not read
-  pub attr-unread : (old new : S) (k : K) (p : Pen) (n : ℕ) (has_item : Bool) (e : CursorFault) → name_view o.name ≡ attr text → cursor.OnlyReads files draft faults old new (Some e) → PullsAtMost (child.end - o.behind) (numbers old) (numbers new)
+  pub attr-unread : (old new : S) (k : K) (p : Pen) (n : ℕ) (has_item : Bool) (e : CursorFault) → shown_name o.name ≡ attr text → cursor.OnlyReads files draft faults old new (Some e) → PullsAtMost (child.end - o.behind) (numbers old) (numbers new)
       → Tells old new (λ set xs. IfDamage e ⊥) → OpenedPrinted i name child o depth has_item (at old k p n) (at new k p n) (Err (of_cursor e))
   attr-unread old new k p n has_item e named h pulls told = record {
     walks = states.reads files draft numbers faults taken out_faults old new k p n n (Some e) (child.end - o.behind) h pulls;
@@ -89,7 +89,7 @@ module _ {S K : Type 0} (files : S → Option Files) (draft : S → Option (List
   no-scalar s b lacks e is = let f : false ≡ true = sym lacks ∙ ap is_scalar e ∙ is in cc
 
   -- a content stands where a scalar is wanted
-  pub attr-content : (old new : S) (k : K) (p : Pen) (n : ℕ) (has_item : Bool) (s : PlainKey) → name_view o.name ≡ attr text → is_scalar s ≡ false → cursor.OnlyReads files draft faults old new None → PullsAtMost (child.end - o.behind) (numbers old) (numbers new)
+  pub attr-content : (old new : S) (k : K) (p : Pen) (n : ℕ) (has_item : Bool) (s : PlainKey) → shown_name o.name ≡ attr text → is_scalar s ≡ false → cursor.OnlyReads files draft faults old new None → PullsAtMost (child.end - o.behind) (numbers old) (numbers new)
       → Tells old new (λ set xs. s ≡ body_at i (members set) xs) → OpenedPrinted i name child o depth has_item (at old k p n) (at new k p n) (Err Damage)
   attr-content old new k p n has_item s named lacks h pulls told = record {
     walks = walks-damage (at old k p n) (at new k p n) (child.end - o.behind) (child.end - o.behind) (omega arith) (states.reads files draft numbers faults taken out_faults old new k p n n None (child.end - o.behind) h pulls);
@@ -111,7 +111,7 @@ module _ {S K : Type 0} (files : S → Option Files) (draft : S → Option (List
   one m (Err u) e = tt
 
   -- the attribute was printed
-  pub attr-printed : {T : Type 0} (old new : S) (a b : K) (p q : Pen) (n : ℕ) (v : PlainScalar) (key : PlainKey) (r : Result T Failed) → key ≡ scalar v → name_view o.name ≡ attr text → StandsIn depth false p → IsMeter (numbers new)
+  pub attr-printed : {T : Type 0} (old new : S) (a b : K) (p q : Pen) (n : ℕ) (v : PlainScalar) (key : PlainKey) (r : Result T Failed) → key ≡ scalar v → shown_name o.name ≡ attr text → StandsIn depth false p → IsMeter (numbers new)
       → cursor.OnlyReads files draft faults old new None → PullsAtMost (child.end - o.behind) (numbers old) (numbers new) → Tells old new (λ set xs. key ≡ body_at i (members set) xs)
       → Prints (taken a) (taken b) p q (attribute (record { name = text; value = v }) ∷ []) r → HasCause (out_faults a) (out_faults b) r
       → OpenedPrinted i name child o depth false (at old a p n) (at new b q n) (printed_by r)
@@ -144,7 +144,7 @@ module _ {S K : Type 0} (files : S → Option Files) (draft : S → Option (List
             ));
       })
 
-  pub attr-printed-at : {T : Type 0} (old new : S) (a b : K) (p q : Pen) (n : ℕ) (has_item : Bool) → has_item ≡ false → (v : PlainScalar) (key : PlainKey) (r : Result T Failed) → key ≡ scalar v → name_view o.name ≡ attr text → StandsIn depth has_item p → IsMeter (numbers new)
+  pub attr-printed-at : {T : Type 0} (old new : S) (a b : K) (p q : Pen) (n : ℕ) (has_item : Bool) → has_item ≡ false → (v : PlainScalar) (key : PlainKey) (r : Result T Failed) → key ≡ scalar v → shown_name o.name ≡ attr text → StandsIn depth has_item p → IsMeter (numbers new)
       → cursor.OnlyReads files draft faults old new None → PullsAtMost (child.end - o.behind) (numbers old) (numbers new) → Tells old new (λ set xs. key ≡ body_at i (members set) xs)
       → Prints (taken a) (taken b) p q (attribute (record { name = text; value = v }) ∷ []) r → HasCause (out_faults a) (out_faults b) r
       → OpenedPrinted i name child o depth has_item (at old a p n) (at new b q n) (printed_by r)

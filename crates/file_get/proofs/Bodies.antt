@@ -1,11 +1,13 @@
 -- Reading the body that a leaf has in a version.
 use Rattle.std.proofs.Common.{◌≡◌, ◌≢◌, ℕ, ◌+◌, ◌-◌, ◌*◌, ◌≤◌, ◌<◌, ◌^◌, Bool, true, false, ◌||◌, ◌==◌, cond, List, [], ◌∷◌, ◌++◌, length, map, take, drop, Option, Some, None, Result, Ok, Err, refl, sym, ap, subst, ◌∙◌, arith, append_assoc, length-drop}
 use Rattle.std.specs.List.{flat_map, AllByRecursion}
-use Rattle.std.specs.Prelude.{is_some, max, slice_index_or}
+use Rattle.std.specs.Prelude.{is_some, max}
 use Rattle.std.proofs.lemmas.List.{length-append, append-nil}
-use Rattle.xa_fields.specs.Spelling.{u32_bytes}
-use Rattle.xa_fields.specs.Reading.{◌>>=◌, chained_at, chain_at}
-use Rattle.record_parts.specs.Reading.{value_at}
+use Rattle.xa_fields.specs.Spelling.{u32_bytes, u64_bytes}
+use Rattle.std.specs.Int.{w32}
+use Rattle.xa_fields.specs.Reading.{◌>>=◌, byte_at, number_at, text_at, many_at, list_at, chained_at, chain_at}
+use Rattle.jsonml_tree.specs.Data.{text, only_text}
+use Rattle.record_parts.specs.Reading.{attrs_at, content_at, content_by, item_at, item_of, value_at, value_of}
 use Rattle.record_parts.proofs.Values.{value_reads}
 use Rattle.xa_fields.proofs.Fields.{some_is, u32_reads}
 use Rattle.xa_outside.specs.Folder.{Files}
@@ -13,26 +15,26 @@ use Rattle.xa_outside.specs.Numbers.{Numbers, IsMeter, PullsAtMost}
 use Rattle.xa_outside.specs.NumberLaws.{PullsAtMost-none, PullsAtMost-more, PullsAtMost-trans}
 use Rattle.version_set.specs.Pairs.{IsFrom}
 use Rattle.version_set.specs.Members.{members, has}
-use Rattle.keyed_tree.specs.Data.{PlainKey}
+use Rattle.keyed_tree.specs.Data.{PlainKey, inside}
 use Rattle.archive_tree.specs.Data.{Stamp, PlainAlt, eff}
 use Rattle.archive_tree.specs.Read.{body_at}
 use Rattle.timestamp_tree.specs.Bytes.{pair_bytes, set_bytes}
 use Rattle.timestamp_tree.specs.Reading.{pair_at, next_pair}
 use Rattle.timestamp_tree.proofs.Trees.{length-pairs, length-set_bytes}
-use Rattle.record_parts.specs.Bounds.{IsSet, IsStamp, IsValue, most}
+use Rattle.record_parts.specs.Bounds.{IsSet, IsStamp, IsValue, deepest, most}
 use Rattle.record_parts.specs.Spelling.{stamp_bytes, value_bytes}
 use Rattle.record_parts.proofs.Parts.{set_reads}
 use Rattle.record_format.specs.Bounds.{IsRec}
 use Rattle.record_format.specs.Nodes.{alt_of, set_in}
 use Rattle.record_format.specs.Seen.{alts_seen}
-use Rattle.record_format.specs.Spelling.{rec_bytes}
+use Rattle.record_format.specs.Spelling.{body_bytes, rec_bytes}
 use Rattle.record_format.proofs.Pieces.{rec-length}
 use Rattle.record_cursor.specs.Moves.{TellsFront}
 use Rattle.record_cursor.specs.Steps.{Filled}
 use Rattle.record_cursor.specs.declared.fault.CursorFault.{CursorFault}
 use Rattle.file_rows.specs.StandsAt.{StandsAt}
 use Rattle.file_rows.proofs.Parts.{stands-front, stands-back}
-use Rattle.file_get.specs.Inside.{AltsTold, AltIs, SetIs}
+use Rattle.file_get.specs.Inside.{AltsTold, AltIs, SetIs, head_bytes}
 use Rattle.file_get.specs.Kids.{some_has}
 use Rattle.file_get.specs.declared.body.Alternative.{Alternative}
 use Rattle.file_get.proofs.Opened.{eff-members}
@@ -190,7 +192,7 @@ module _ (i : ℕ) (files : Option Files) (name bytes : List ℕ) (last at end :
 
 -- ---- sets
 
-clash : {X : Type 0} {x : X} → None ≡ Some x → ⊥
+pub clash : {X : Type 0} {x : X} → None ≡ Some x → ⊥
 clash e = cc
 
 -- the intervals of a set behind their count
@@ -202,14 +204,8 @@ set-pairs s h few =
     ap (λ (r : Option (ℕ × List ℕ)). r >>= λ n. chain_at pair_at (next_pair most) 1 n.0 n.1) (sym n) ∙ e
 
 module _ (s : List (ℕ × ℕ)) (bytes : List ℕ) (count : ℕ) where
-  pairs-read : bytes ≡ flat_map pair_bytes s → count ≡ length s → IsSet s → count < 2 ^ 32 → chain_at pair_at (next_pair most) 1 count bytes ≡ Some (s, [])
+  pub pairs-read : bytes ≡ flat_map pair_bytes s → count ≡ length s → IsSet s → count < 2 ^ 32 → chain_at pair_at (next_pair most) 1 count bytes ≡ Some (s, [])
   pairs-read same long is few = (λ j. chain_at pair_at (next_pair most) 1 (long j) (same j)) ∙ set-pairs s is (omega (arith, long, few))
-
-  pub pairs-are : (ps : List (ℕ × ℕ)) (rest : List ℕ) → bytes ≡ flat_map pair_bytes s → count ≡ length s → IsSet s → count < 2 ^ 32 → Some (ps, rest) ≡ chain_at pair_at (next_pair most) 1 count bytes → ps ≡ s
-  pairs-are ps rest same long is few found = ap (λ (p : List (ℕ × ℕ) × List ℕ). p.0) (some_is (ps, rest) (s, []) (found ∙ pairs-read same long is few))
-
-  pub pairs-some : bytes ≡ flat_map pair_bytes s → count ≡ length s → IsSet s → count < 2 ^ 32 → None ≡ chain_at pair_at (next_pair most) 1 count bytes → ⊥
-  pairs-some same long is few found = clash (found ∙ pairs-read same long is few)
 
 pub count-stands : (bytes : List ℕ) (at : ℕ) (s : List (ℕ × ℕ)) → StandsAt bytes at (set_bytes s) → take 4 (drop at bytes) ≡ u32_bytes (length s)
 count-stands bytes at s h = stands-front bytes at (u32_bytes (length s)) (flat_map pair_bytes s) h
@@ -222,29 +218,17 @@ pairs-taken bytes lent body at count s same read h e = (let n : 8 * count ≡ le
 
 -- ---- timestamps
 
-abbrev pub flag_of : Stamp → ℕ
-flag_of None = 0
-flag_of (Some s) = 1
+-- the first ten bytes of an alternative
+head-front : (bytes : List ℕ) (at size : ℕ) (s : Stamp) (value : List ℕ) → StandsAt bytes at (3 ∷ (u64_bytes size ++ (stamp_bytes s ++ value))) → take 10 (drop at bytes) ≡ head_bytes size s
+head-front bytes at size None value h = stands-front bytes at (head_bytes size None) value h
+head-front bytes at size (Some s) value h = stands-front bytes at (head_bytes size (Some s)) (set_bytes s ++ value) h
 
-pub flag-stands : (bytes : List ℕ) (at : ℕ) (s : Stamp) → StandsAt bytes at (stamp_bytes s) → take 1 (drop at bytes) ≡ flag_of s ∷ []
-flag-stands bytes at None h = h
-flag-stands bytes at (Some s) h = stands-front bytes at (1 ∷ []) (set_bytes s) h
+pub head-stands : (bytes : List ℕ) (at : ℕ) (x : PlainAlt) (more : List ℕ) → StandsAt bytes at (rec_bytes (alt_of x) ++ more) → take 10 (drop at bytes) ≡ head_bytes (length (body_bytes (alt_of x))) x.stamp
+head-stands bytes at x more h = head-front bytes at (length (body_bytes (alt_of x))) x.stamp (value_bytes x.body) (stands-front bytes at (rec_bytes (alt_of x)) more h)
 
 pub stamp-some : (s : Stamp) → 1 ≤ length (stamp_bytes s)
 stamp-some None = omega arith
 stamp-some (Some s) = omega arith
-
-pub flag-zero : (s : Stamp) → flag_of s ≡ 0 → false ≡ is_some s
-flag-zero None e = refl
-flag-zero (Some s) e = absurd (omega (arith, e))
-
-pub flag-one : (s : Stamp) → flag_of s ≡ 1 → true ≡ is_some s
-flag-one None e = absurd (omega (arith, e))
-flag-one (Some s) e = refl
-
-pub flag-other : (s : Stamp) → flag_of s ≢ 0 → flag_of s ≢ 1 → ⊥
-flag-other None e f = e refl
-flag-other (Some s) e f = f refl
 
 -- ---- values
 
@@ -259,6 +243,29 @@ module _ (b v : PlainKey) (bytes rest : List ℕ) where
 
   pub value-some : bytes ≡ value_bytes b → IsValue b → value_at bytes ≡ None → ⊥
   value-some same is found = clash (sym found ∙ value-read same is)
+
+-- a content of one text
+no-attrs : (a b : List ℕ) → number_at w32 a ≡ Some (0, b) → attrs_at a ≡ Some ([], b)
+unfolding chained_at chain_at
+no-attrs a b e = rw e refl
+
+text-item : (c d rest s : List ℕ) → byte_at c ≡ Some (0, d) → text_at d ≡ Some (s, rest) → item_at deepest c ≡ Some (text s, rest)
+unfolding item_of
+text-item c d rest s e f = rw (e, f) refl
+
+one-item : (b c rest s : List ℕ) → number_at w32 b ≡ Some (1, c) → item_at deepest c ≡ Some (text s, rest) → list_at (item_at deepest) b ≡ Some (text s ∷ [], rest)
+unfolding list_at many_at
+one-item b c rest s e f = rw (e, f) refl
+
+text-content : (a b rest s : List ℕ) → attrs_at a ≡ Some ([], b) → list_at (item_at deepest) b ≡ Some (text s ∷ [], rest) → content_at deepest a ≡ Some (only_text s, rest)
+unfolding content_by
+text-content a b rest s e f = rw (e, f) refl
+
+pub text-value : (bytes a b c d rest s : List ℕ) → byte_at bytes ≡ Some (1, a) → number_at w32 a ≡ Some (0, b) → number_at w32 b ≡ Some (1, c) → byte_at c ≡ Some (0, d) → text_at d ≡ Some (s, rest) → value_at bytes ≡ Some (inside (only_text s), rest)
+unfolding value_at value_of
+text-value bytes a b c d rest s kind attrs items item read =
+    let whole = text-content a b rest s (no-attrs a b attrs) (one-item b c rest s items (text-item c d rest s item read)) in
+    rw (kind, whole) refl
 
 pub ends-there : (bytes : List ℕ) (behind : ℕ) → behind ≤ length bytes → drop behind bytes ≡ [] → behind ≡ length bytes
 ends-there bytes behind h e = omega (arith, h, length-drop behind bytes, ap length e)
@@ -277,9 +284,9 @@ set-few s is = omega (arith, few-from 1 s is.canonical is.within)
 pub set-is : (i at count : ℕ) (s : List (ℕ × ℕ)) (found : Bool) → count ≡ length s → found ≡ has (members s) i → SetIs i (at + length (set_bytes s)) s (found, at + 4 + 8 * count)
 set-is i at count s found long e = (e, omega (arith, long, length-set_bytes s))
 
--- the alternative whose end and timestamp were read
-pub alt-is : (i at behind : ℕ) (set : List (ℕ × ℕ)) (x : PlainAlt) (r : Bool × ℕ) → behind ≡ at + length (rec_bytes (alt_of x)) → SetIs i (at + 9 + length (stamp_bytes x.stamp)) (set_in x.stamp set) r → AltIs i at set x (record { has = r.0; body = r.1; end = behind })
-alt-is i at behind set x r e h = record { has = h.0; body = omega (arith, h.1); end = e }
+-- the alternative whose end and stored timestamp were read
+pub alt-is : (i at behind : ℕ) (set : List (ℕ × ℕ)) (x : PlainAlt) (r : Bool × ℕ) → behind ≡ at + length (rec_bytes (alt_of x)) → SetIs i (at + (9 + length (stamp_bytes x.stamp))) (set_in x.stamp set) r → AltIs i at set x (record { has = r.0; body = r.1; end = behind })
+alt-is i at behind set x r e h = record { has = h.0; body = h.1; end = e }
 
 -- what the reading of a set shows
 abbrev pub SetRead : ℕ → Option Files → List ℕ → ℕ → ℕ → Numbers → Numbers → Result (Bool × ℕ) CursorFault → Type 0
@@ -288,22 +295,23 @@ SetRead i files name at end old now r = (last : ℕ) (bytes : List ℕ) (s : Lis
 
 module _ (i : ℕ) (files now : Option Files) (name bytes : List ℕ) (last at end : ℕ) (set : List (ℕ × ℕ)) where
   -- a timestamp that is stored
-  pub stored-set : (s : Stamp) (a b c : Numbers) (r : Result (Bool × ℕ) CursorFault) → now ≡ files → TellsFront files name last bytes → end ≤ last → StandsAt bytes at (stamp_bytes s) → at + length (stamp_bytes s) ≤ end → IsStamp s → true ≡ is_some s
-      → PullsAtMost 1 a b → SetRead i now name (at + 1) end b c r → Filled r (SetIs i (at + length (stamp_bytes s)) (set_in s set)) × PullsAtMost (length (stamp_bytes s)) a c
+  pub stored-set : (s : Stamp) (a b c : Numbers) (r : Result (Bool × ℕ) CursorFault) → now ≡ files → TellsFront files name last bytes → end ≤ last → StandsAt bytes (at + 9) (stamp_bytes s) → at + 9 + length (stamp_bytes s) ≤ end → IsStamp s → true ≡ is_some s
+      → PullsAtMost 10 a b → SetRead i now name (at + 10) end b c r → Filled r (SetIs i (at + (9 + length (stamp_bytes s))) (set_in s set)) × PullsAtMost (9 + length (stamp_bytes s)) a c
   stored-set None a b c r same tells within stands fits is some p read = absurd cc
   stored-set (Some s) a b c r same tells within stands fits is some p read =
-      let got = read last bytes s (subst (λ (z : Option Files). TellsFront z name last bytes) (sym same) tells) within (stands-back bytes at (1 ∷ []) (set_bytes s) stands) (omega (arith, fits)) is.0 in
-      (subst (λ n. Filled r (SetIs i n s)) (omega arith) got.0, PullsAtMost-more (1 + length (set_bytes s)) (length (stamp_bytes (Some s))) a c (omega arith) (PullsAtMost-trans 1 (length (set_bytes s)) a b c p got.1))
+      let behind : at + 9 + 1 ≡ at + 10 = omega arith in
+      let there : StandsAt bytes (at + 10) (set_bytes s) = subst (λ (n : ℕ). StandsAt bytes n (set_bytes s)) behind (stands-back bytes (at + 9) (1 ∷ []) (set_bytes s) stands) in
+      let got = read last bytes s (subst (λ (z : Option Files). TellsFront z name last bytes) (sym same) tells) within there (omega (arith, fits)) is.0 in
+      (subst (λ n. Filled r (SetIs i n s)) (omega arith) got.0, PullsAtMost-more (10 + length (set_bytes s)) (9 + length (stamp_bytes (Some s))) a c (omega arith) (PullsAtMost-trans 10 (length (set_bytes s)) a b c p got.1))
 
 -- a timestamp that is inherited
-pub inherited-set : (i at : ℕ) (set : List (ℕ × ℕ)) (s : Stamp) (a b : Numbers) → false ≡ is_some s → has (members set) i ≡ true → PullsAtMost 1 a b
-    → SetIs i (at + length (stamp_bytes s)) (set_in s set) (true, at + 1) × PullsAtMost (length (stamp_bytes s)) a b
-inherited-set i at set None a b none h p = ((sym h, refl), p)
-inherited-set i at set (Some s) a b none h p = absurd cc
+inherited-set : (i at : ℕ) (set : List (ℕ × ℕ)) (s : Stamp) → false ≡ is_some s → has (members set) i ≡ true → SetIs i (at + (9 + length (stamp_bytes s))) (set_in s set) (true, at + 10)
+inherited-set i at set None none h = (sym h, omega arith)
+inherited-set i at set (Some s) none h = absurd cc
 
-pub flag-read : (out bytes : List ℕ) (at : ℕ) (s : Stamp) → out ≡ take 1 (drop at bytes) → StandsAt bytes at (stamp_bytes s) → slice_index_or out 0 0 ≡ flag_of s
-flag-read out bytes at s read h = ap (λ (bs : List ℕ). slice_index_or bs 0 0) (read ∙ flag-stands bytes at s h)
+pub alt-inherits : (i at behind : ℕ) (set : List (ℕ × ℕ)) (x : PlainAlt) → behind ≡ at + length (rec_bytes (alt_of x)) → false ≡ is_some x.stamp → has (members set) i ≡ true → AltIs i at set x (record { has = true; body = at + 10; end = behind })
+alt-inherits i at behind set x e none h = alt-is i at behind set x (true, at + 10) e (inherited-set i at set x.stamp none h)
 
-pub flag-small : (s : Stamp) → flag_of s ≤ 1
-flag-small None = omega arith
-flag-small (Some s) = omega arith
+-- the size of an alternative's body
+pub alt-size : (x : PlainAlt) (more : List ℕ) (at end : ℕ) → end ≡ at + length (rec_bytes (alt_of x) ++ more) → (1 ≤ length (body_bytes (alt_of x))) × (9 + length (body_bytes (alt_of x)) ≤ end - at)
+alt-size x more at end e = (omega (arith, length-append (stamp_bytes x.stamp) (value_bytes x.body), stamp-some x.stamp), omega (arith, e, length-append (rec_bytes (alt_of x)) more, rec-length (alt_of x)))

@@ -13,7 +13,7 @@ use Rattle.key_annotate.specs.Inside.{inside_of}
 use Rattle.keyed_print.proofs.KeyedCalls.{calls-named}
 use Rattle.keyed_tree.specs.Data.{PlainName, attr, tag, PlainKey, PlainLabel, PlainKeyed, inner, leaf, label_of, name_bytes}
 use Rattle.keyed_tree.specs.Plain.{plain}
-use Rattle.keyed_tree.specs.View.{name_view}
+use Rattle.record_parts.specs.Shown.{shown_name}
 use Rattle.keyed_tree.specs.Proper.{is_tag, is_content}
 use Rattle.archive_tree.specs.Data.{PlainNode, node_label}
 use Rattle.archive_tree.specs.Read.{read}
@@ -77,11 +77,11 @@ or-true true b e = refl
 or-true false b e = sym e
 
 module _ (i : ℕ) (name : List ℕ) (child : PlainChild) (o : Opening) (depth : ℕ) (has_item : Bool) (text : List ℕ) where
-  tag-of : (files : Option Files) (bytes : List ℕ) (last : ℕ) (parent : List (ℕ × ℕ)) (k : PlainNode) → NodeOpened i files name bytes last child o depth has_item parent k → name_view o.name ≡ tag text → (node_label k).name ≡ tag text
+  tag-of : (files : Option Files) (bytes : List ℕ) (last : ℕ) (parent : List (ℕ × ℕ)) (k : PlainNode) → NodeOpened i files name bytes last child o depth has_item parent k → shown_name o.name ≡ tag text → (node_label k).name ≡ tag text
   tag-of files bytes last parent k x e = (let opens = x.opens in sym opens.name ∙ e)
 
   -- a second element outside of all others
-  pub element-refused : (s : State) → IsMeter s.numbers → name_view o.name ≡ tag text → depth ≡ 0 → has_item ≡ true → OpenedPrinted i name child o depth has_item s s (Err Damage)
+  pub element-refused : (s : State) → IsMeter s.numbers → shown_name o.name ≡ tag text → depth ≡ 0 → has_item ≡ true → OpenedPrinted i name child o depth has_item s s (Err Damage)
   element-refused s meter named out second = record {
     walks = walks-damage s s 0 (child.end - o.behind) (omega arith) (walks-none s 0 meter);
     stands = tt;
@@ -102,7 +102,7 @@ module _ (i : ℕ) (name : List ℕ) (child : PlainChild) (o : Opening) (depth :
       never false false e f g = cc
 
   -- the element was not begun
-  pub element-unbegun : (s t : State) → name_view o.name ≡ tag text → Walks 0 s t (Some Out) → Shows (begin text ∷ []) 0 0 s t (Some Out) → OpenedPrinted i name child o depth has_item s t (Err Out)
+  pub element-unbegun : (s t : State) → shown_name o.name ≡ tag text → Walks 0 s t (Some Out) → Shows (begin text ∷ []) 0 0 s t (Some Out) → OpenedPrinted i name child o depth has_item s t (Err Out)
   element-unbegun s t named walk show = record {
     walks = record { same_files = walk.same_files; same_draft = walk.same_draft; later = walk.later; out_later = walk.out_later; cause = walk.cause; behind = walk.behind; pulls = more walk.pulls; gained = walk.gained };
     stands = tt;
@@ -118,7 +118,7 @@ module _ (i : ℕ) (name : List ℕ) (child : PlainChild) (o : Opening) (depth :
       more h = (let w = h.within in record { count = h.count; within = omega (arith, w); pulled = h.pulled })
 
   -- what is inside was not printed, or not to its end
-  pub element-unfilled : (s t u : State) (e : GetFault) → s.files ≡ t.files → name_view o.name ≡ tag text → Walks 0 s t None → Shows (begin text ∷ []) 0 0 s t None → InsidePrinted i name child o depth t u (Some e) → OpenedPrinted i name child o depth has_item s u (Err e)
+  pub element-unfilled : (s t u : State) (e : GetFault) → s.files ≡ t.files → shown_name o.name ≡ tag text → Walks 0 s t None → Shows (begin text ∷ []) 0 0 s t None → InsidePrinted i name child o depth t u (Some e) → OpenedPrinted i name child o depth has_item s u (Err e)
   element-unfilled s t u e same named walk show h = record {
     walks = walks-then s t u (Some e) 0 (child.end - o.behind) (child.end - o.behind) (omega arith) walk h.walks;
     stands = tt;
@@ -144,7 +144,7 @@ module _ (i : ℕ) (name : List ℕ) (child : PlainChild) (o : Opening) (depth :
   one (Err v) b e = tt
 
   -- the element was printed, and its end or a part of it
-  pub element-printed : {T : Type 0} (s t u v : State) (r : Result T Failed) → s.files ≡ t.files → depth ≤ 120 → name_view o.name ≡ tag text → Walks 0 s t None → Shows (begin text ∷ []) 0 0 s t None → InsidePrinted i name child o depth t u None
+  pub element-printed : {T : Type 0} (s t u v : State) (r : Result T Failed) → s.files ≡ t.files → depth ≤ 120 → shown_name o.name ≡ tag text → Walks 0 s t None → Shows (begin text ∷ []) 0 0 s t None → InsidePrinted i name child o depth t u None
       → Walks 0 u v (states.out_fault r) → Shows (end ∷ []) 0 0 u v (states.out_fault r) → Prints u.taken v.taken u.pen v.pen (end ∷ []) r → OpenedPrinted i name child o depth has_item s v (ended_by r)
   element-printed s t u v r same few named walk show h back last-show prints = (
       let e = fault_of (ended_by r) in

@@ -24,6 +24,7 @@ use Rattle.file_rows.specs.StandsAt.{RowLaid, ChildLaid}
 use Rattle.file_rows.specs.View.{PlainRow, PlainChild}
 use Rattle.file_get.specs.Told.{fault_of, Unless}
 use Rattle.file_get.specs.State.{State}
+use Rattle.file_get.proofs.Spans.{has-filled}
 use Rattle.file_get.specs.Kids.{set_of, finds_each, kids_in, kids_calls, row_fits, kids_fit, nodes_seen, nodes_steps, sets_seen, sets_steps}
 use Rattle.file_get.specs.Walks.{Walks, Shows, StandsIn}
 use Rattle.file_get.specs.Printed.{RowTold, RowPrinted}
@@ -89,6 +90,7 @@ module _ (i : ℕ) (name : List ℕ) (child : PlainChild) (o : Opening) (depth :
           within = omega (arith, ends, within);
           records = subst (λ (js : PlainNodes). AllByRecursion IsRec (closed_by_end (pieces js))) (sym (from-list ks)) records.1;
           nested = subst (λ (js : PlainNodes). IsTrue (are_nested (deepest - (depth + 1)) js)) (sym (from-list ks)) (subst (λ (d : ℕ). IsTrue (are_nested d ks)) less nested);
+          filled = has-filled i (set_in s parent) n.has;
         };
         bodies = ap (λ (js : PlainNodes). finds_each i set js) (from-list ks) ∙ n.bodies;
         fits = subst IsTrue same inside;

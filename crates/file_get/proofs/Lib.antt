@@ -1,4 +1,5 @@
 pub mod Handed
+pub mod ReadBytes
 pub mod States
 pub mod Pens
 pub mod Opened

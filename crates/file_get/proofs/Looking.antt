@@ -1,5 +1,5 @@
 -- What one node of a stored tree says.
-use Rattle.std.proofs.Common.{◌≡◌, ◌≢◌, ℕ, suc, ◌+◌, ◌-◌, ◌*◌, ◌≤◌, ◌<◌, ◌^◌, true, leb, List, [], ◌∷◌, ◌++◌, length, map, take, drop, Option, Some, None, refl, sym, ap, subst, ◌∙◌, arith, append-nil}
+use Rattle.std.proofs.Common.{◌≡◌, ◌≢◌, ℕ, suc, ◌+◌, ◌-◌, ◌*◌, ◌≤◌, ◌<◌, ◌^◌, Bool, true, leb, List, [], ◌∷◌, ◌++◌, length, map, take, drop, Option, Some, None, refl, sym, ap, subst, ◌∙◌, arith, append-nil}
 use Rattle.std.specs.List.{AllByRecursion}
 use Rattle.std.proofs.lemmas.List.{length-append, length-take, length-drop}
 use Rattle.version_set.specs.Members.{members, has}
@@ -12,9 +12,11 @@ use Rattle.std.specs.FinMap as map'
 use Rattle.std.proofs.lemmas.List.{drop-take, take-take}
 use Rattle.xa_fields.proofs.Fields.{some_is}
 use Rattle.xa_outside.specs.Folder.{Files, bytes_or_none, front}
-use Rattle.version_set.specs.View.{pairs_of}
 use Rattle.timestamp_tree.specs.Nodes.{piece_of}
-use Rattle.timestamp_tree.specs.Reading.{stored_at}
+use Rattle.std.specs.Option.{option_map}
+use Rattle.timestamp_tree.specs.Reading.{stored_at, some_stored_at}
+use Rattle.timestamp_tree.specs.Probes.{said_of}
+use Rattle.timestamp_tree.proofs.Probed.{some_is_stored}
 use Rattle.record_parts.specs.Bounds.{IsSet, most}
 use Rattle.record_parts.proofs.Readers.{passed_some}
 use Rattle.record_format.proofs.TreeNodes.{IsSet-top}
@@ -25,10 +27,10 @@ use Rattle.file_rows.proofs.Parts.{stands-part, stands-back}
 use Rattle.file_get.specs.Kids.{set_of, has_at}
 use Rattle.file_get.specs.Stands.{SpanIs}
 use Rattle.file_get.specs.Looked.{own_bytes, left_bytes, left_of, right_of, NodeOf, tree_over, LookTold, PartsAre}
-use Rattle.timestamp_tree.specs.declared.node.Node.{Node}
+use Rattle.timestamp_tree.specs.declared.probe.Probe.{Probe}
 use Rattle.file_get.specs.declared.look.Sight.TheVariants.{Parts}
 use Rattle.file_get.specs.declared.span.Span.{Span}
-use Rattle.file_get.proofs.Spans.{nodes-split, canonical-of}
+use Rattle.file_get.proofs.Spans.{nodes-split, canonical-of, top-filled}
 
 -- ---- one child
 
@@ -68,9 +70,9 @@ split-of parent ks many sets =
     subst (λ (t : PlainTs). Split t l r) (sym (nodes-split parent ks many sets)) (split-joined l r)
 
 -- a node of two children or more fits
-pub parts-fit : (bytes : List ℕ) (row : PlainRow) (span : Span) (parent : List (ℕ × ℕ)) (front ks behind : List PlainNode) (n : Node) → SpanIs bytes row span parent front ks behind → AllByRecursion IsSet (map (set_of parent) ks) → NodeOf (tree_over parent ks) n → 1 < length ks
+pub parts-fit : (bytes : List ℕ) (row : PlainRow) (span : Span) (parent : List (ℕ × ℕ)) (front ks behind : List PlainNode) (i : ℕ) (n : Probe) → SpanIs bytes row span parent front ks behind → AllByRecursion IsSet (map (set_of parent) ks) → NodeOf i (tree_over parent ks) n → 1 < length ks
     → (0 < n.left) × (n.left < span.limit - (span.at + n.size))
-parts-fit bytes row span parent front ks behind n is sets of many =
+parts-fit bytes row span parent front ks behind i n is sets of many =
     let s = split-of parent ks many sets in
     let limit = is.limit in
     let whole = ap length s.bytes in
@@ -85,9 +87,9 @@ parts-fit bytes row span parent front ks behind n is sets of many =
     (omega (arith, left, first, some), omega (arith, limit, whole, length-append s.own (l ++ r), length-append l r, size, left, own, first, more))
 
 -- both parts stand there
-pub parts-are : (bytes : List ℕ) (row : PlainRow) (span : Span) (parent : List (ℕ × ℕ)) (front ks behind : List PlainNode) (n : Node) → SpanIs bytes row span parent front ks behind → AllByRecursion IsSet (map (set_of parent) ks) → NodeOf (tree_over parent ks) n → 1 < length ks
+pub parts-are : (bytes : List ℕ) (row : PlainRow) (span : Span) (parent : List (ℕ × ℕ)) (front ks behind : List PlainNode) (i : ℕ) (n : Probe) → SpanIs bytes row span parent front ks behind → AllByRecursion IsSet (map (set_of parent) ks) → NodeOf i (tree_over parent ks) n → 1 < length ks
     → PartsAre bytes row (left_of span (span.at + n.size) (span.at + n.size + n.left)) (right_of span (span.at + n.size + n.left)) parent front ks behind
-parts-are bytes row span parent front ks behind n is sets of many =
+parts-are bytes row span parent front ks behind i n is sets of many =
     let s = split-of parent ks many sets in
     let k = half (length ks) in
     let limit = is.limit in
@@ -158,7 +160,7 @@ pub record NodeFound (files : Option Files) (name : List ℕ) (span : Span) (par
   pub told : Files
   pub is : files ≡ Some told
   pub rest : List ℕ
-  pub stands : stored_at most (piece_of told name span.at span.limit) ≡ Some ((top (tree_over parent ks), left_bytes (tree_over parent ks)), rest)
+  pub stands : some_stored_at most (piece_of told name span.at span.limit) ≡ Some ((top (tree_over parent ks), left_bytes (tree_over parent ks)), rest)
   pub size : own_bytes (tree_over parent ks) ≡ length (stored (top (tree_over parent ks)) (left_bytes (tree_over parent ks)))
 
 pub node-found : (files : Option Files) (name bytes : List ℕ) (end : ℕ) (row : PlainRow) (span : Span) (parent : List (ℕ × ℕ)) (front ks behind : List PlainNode) → span.limit < 2 ^ 64 → LookTold files name bytes end row span parent front ks behind → NodeFound files name span parent ks
@@ -181,22 +183,24 @@ node-found files name bytes end row span parent front ks behind short x =
       told = tells.0;
       is = tells.1;
       rest = f.more;
-      stands = ap (stored_at most) (same-piece (bytes_or_none (map'.get tells.0 name)) bytes span.at span.limit end tells.2 (omega (arith, inside, within)) ∙ piece) ∙ node_reads.again (top t, left_bytes t) f.more (set, left);
+      stands = some_is_stored most (left_bytes t) (piece_of tells.0 name span.at span.limit) f.more (top t) (ap (stored_at most) (same-piece (bytes_or_none (map'.get tells.0 name)) bytes span.at span.limit end tells.2 (omega (arith, inside, within)) ∙ piece) ∙ node_reads.again (top t, left_bytes t) f.more (set, left)) (top-filled sets some (canonical-of sets x.sets) x.filled);
       size = f.size;
     }
 
 -- what was read is that node
-pub found-node : (files : Option Files) (name : List ℕ) (span : Span) (parent : List (ℕ × ℕ)) (ks : List PlainNode) (n : Node) (rest : List ℕ) → (f : NodeFound files name span parent ks)
-    → stored_at most (piece_of f.told name span.at span.limit) ≡ Some ((pairs_of n.set, n.left), rest) → n.size ≡ length (stored (pairs_of n.set) n.left) → NodeOf (tree_over parent ks) n
-found-node files name span parent ks n rest f e size =
+pub found-node : (files : Option Files) (name : List ℕ) (span : Span) (parent : List (ℕ × ℕ)) (ks : List PlainNode) (i : ℕ) (n : Probe) → (f : NodeFound files name span parent ks)
+    → option_map (said_of i) (some_stored_at most (piece_of f.told name span.at span.limit)) ≡ Some (n.has, n.left, n.size) → NodeOf i (tree_over parent ks) n
+found-node files name span parent ks i n f e =
     let t = tree_over parent ks in
-    let same = some_is ((pairs_of n.set, n.left), rest) ((top t, left_bytes t), f.rest) (sym e ∙ f.stands) in
-    let set : pairs_of n.set ≡ top t = ap (λ (x : (List (ℕ × ℕ) × ℕ) × List ℕ). x.0.0) same in
-    let left : n.left ≡ left_bytes t = ap (λ (x : (List (ℕ × ℕ) × ℕ) × List ℕ). x.0.1) same in
-    record { set = set; left = left; size = size ∙ (λ j. length (stored (set j) (left j))) ∙ sym f.size }
+    let same = some_is (has (members (top t)) i, left_bytes t, length (stored (top t) (left_bytes t))) (n.has, n.left, n.size) (sym (ap (option_map (said_of i)) f.stands) ∙ e) in
+    record {
+      has = sym (ap (λ (x : Bool × ℕ × ℕ). x.0) same);
+      left = sym (ap (λ (x : Bool × ℕ × ℕ). x.1) same);
+      size = sym (f.size ∙ ap (λ (x : Bool × ℕ × ℕ). x.2) same);
+    }
 
 -- and one is found
-pub node-there : (files : Option Files) (name : List ℕ) (span : Span) (parent : List (ℕ × ℕ)) (ks : List PlainNode) → (f : NodeFound files name span parent ks) → stored_at most (piece_of f.told name span.at span.limit) ≡ None → ⊥
+pub node-there : (files : Option Files) (name : List ℕ) (span : Span) (parent : List (ℕ × ℕ)) (ks : List PlainNode) → (f : NodeFound files name span parent ks) → some_stored_at most (piece_of f.told name span.at span.limit) ≡ None → ⊥
 node-there files name span parent ks f e = clash (sym e ∙ f.stands)
   where
     clash : {X : Type 0} {x : X} → None ≡ Some x → ⊥

@@ -6,7 +6,7 @@ use Rattle.std.proofs.lemmas.List.{length-append, append-nil}
 use Rattle.version_set.specs.Members.{members, has}
 use Rattle.keyed_tree.specs.Data.{PlainName, attr, tag, PlainLabel, PlainKey, scalar, inside, inner, leaf}
 use Rattle.keyed_tree.specs.Proper.{is_tag, is_scalar, is_content}
-use Rattle.keyed_tree.specs.View.{name_view}
+use Rattle.record_parts.specs.Shown.{shown_name}
 use Rattle.archive_tree.specs.Data.{Stamp, eff, PlainAlt, PlainNode, inner_node, leaf_node, node_label}
 use Rattle.archive_tree.specs.Read.{read, read_row, body_at}
 use Rattle.record_format.specs.Bounds.{IsRec}
@@ -120,7 +120,7 @@ tagged : (a b c : Bool) → IsTrue (a && b && c) → b ≡ true
 tagged a b c e = (let t = three a b c e in t.1)
 
 pub attr-leaf : (i : ℕ) (files : Option Files) (name bytes : List ℕ) (end : ℕ) (child : PlainChild) (o : Opening) (depth : ℕ) (h : Bool) (parent : List (ℕ × ℕ)) (k : PlainNode) (text : List ℕ)
-    → NodeOpened i files name bytes end child o depth h parent k → name_view o.name ≡ attr text → AttrLeaf i depth h parent text k × (o.is_inner ≡ false)
+    → NodeOpened i files name bytes end child o depth h parent k → shown_name o.name ≡ attr text → AttrLeaf i depth h parent text k × (o.is_inner ≡ false)
 attr-leaf i files name bytes end child o depth h parent (inner_node l s ks) text x e =
     let n = x.node in
     let opens = x.opens in

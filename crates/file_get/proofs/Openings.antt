@@ -1,5 +1,5 @@
 -- Reading opening records.
-use Rattle.std.proofs.Common.{◌≡◌, ◌≢◌, ℕ, ◌+◌, ◌-◌, ◌*◌, ◌≤◌, ◌<◌, ◌^◌, Bool, true, false, List, [], ◌∷◌, ◌++◌, length, take, drop, Option, Some, None, Result, Ok, Err, refl, sym, ap, subst, ◌∙◌, arith}
+use Rattle.std.proofs.Common.{◌≡◌, ◌≢◌, ℕ, ◌+◌, ◌-◌, ◌*◌, ◌≤◌, ◌<◌, ◌^◌, Bool, true, false, List, [], ◌∷◌, ◌++◌, length, take, drop, Option, Some, None, Result, refl, sym, ap, subst, ◌∙◌, arith}
 use Rattle.std.proofs.lemmas.List.{length-append}
 use Rattle.xa_fields.specs.Spelling.{u64_bytes}
 use Rattle.xa_fields.proofs.Fields.{some_is}
@@ -17,10 +17,7 @@ use Rattle.file_rows.proofs.Parts.{stands-front, stands-back}
 use Rattle.std.specs.Prelude.{ok_or}
 use Rattle.record_cursor.specs.Steps as cursor
 use Rattle.record_cursor.specs.declared.fault.CursorFault.{CursorFault}
-use Rattle.std.specs.Result.{IfOk, IfErr}
-use Rattle.keyed_tree.specs.View.{name_view}
-use Rattle.record_cursor.specs.Faults.{IfDamage}
-use Rattle.record_cursor.specs.declared.fault.CursorFault.TheVariants.{Memory}
+use Rattle.record_parts.specs.Shown.{shown_name}
 use Rattle.file_get.specs.Inside.{opening_rec, is_inner, may_close, OpeningIs}
 use Rattle.file_get.specs.declared.read.Opening.{Opening}
 
@@ -119,11 +116,9 @@ never-closed kind dir (leaf_node l s xs) b is refused e h = (let closes : may_cl
     clash : true ≡ false → ⊥
     clash e = cc
 
--- the opening that was named, or memory ran out
-pub named-opening : (r : Result Opening CursorFault) (k : PlainNode) (first behind : ℕ) (l : PlainLabel) (isin : Bool) → IfOk r (λ o. (name_view o.name ≡ l.name) × (o.is_inner ≡ isin) × (o.behind ≡ behind)) → IfErr r (λ e. e ≡ Memory)
-    → (l ≡ node_label k) → (isin ≡ is_inner k) → behind ≡ first + length (rec_bytes (opening_rec k)) → cursor.Filled r (OpeningIs k first)
-named-opening (Ok o) k first behind l isin h m e f g = record { name = h.0 ∙ ap (λ (x : PlainLabel). x.name) e; inner = h.1 ∙ f; behind = h.2 ∙ g }
-named-opening (Err x) k first behind l isin h m e f g = subst (λ (z : CursorFault). IfDamage z ⊥) (sym m) tt
+-- the opening that was named
+pub named-opening : (o : Opening) (k : PlainNode) (first behind : ℕ) (l : PlainLabel) (isin : Bool) → shown_name o.name ≡ l.name → o.is_inner ≡ isin → o.behind ≡ behind → l ≡ node_label k → isin ≡ is_inner k → behind ≡ first + length (rec_bytes (opening_rec k)) → OpeningIs k first o
+named-opening o k first behind l isin name inner ends e f g = record { name = name ∙ ap (λ (x : PlainLabel). x.name) e; inner = inner ∙ f; behind = ends ∙ g }
 
 pub rec-behind : (first : ℕ) (r : PlainRec) (body : List ℕ) → body ≡ body_bytes r → first + (9 + length body) ≡ first + length (rec_bytes r)
 rec-behind first r body e = omega (arith, ap length e, rec-length r)

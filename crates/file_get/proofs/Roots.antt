@@ -28,6 +28,7 @@ use Rattle.file_rows.specs.StandsAt.{StandsAt, RowLaid}
 use Rattle.file_rows.specs.View.{PlainRow}
 use Rattle.file_get.specs.Told.{of_cursor, fault_of}
 use Rattle.file_get.specs.State.{State}
+use Rattle.file_get.proofs.Spans.{upto-filled}
 use Rattle.file_get.specs.Kids.{set_of, kids_in, kid_fits, kids_fit, kid_calls, kids_calls, item_behind, nodes_seen, nodes_steps, sets_seen, sets_steps}
 use Rattle.file_get.specs.Walks.{Walks, Shows, StandsIn}
 use Rattle.file_get.specs.Printed.{RowTold, RowPrinted}
@@ -82,6 +83,7 @@ module _ {S K : Type 0} (files : S → Option Files) (draft : S → Option (List
           within = omega (arith, ends);
           records = subst (λ (js : PlainNodes). AllByRecursion IsRec (closed_by_end (pieces js))) (sym (from-list a.kids)) x.records;
           nested = subst (λ (js : PlainNodes). IsTrue (are_nested (deepest - 0) js)) (sym (from-list a.kids)) x.nested;
+          filled = upto-filled a.n x.some;
         };
         bodies = x.bodies;
         fits = subst (λ (cs : List PlainKeyed). IsTrue (kids_fit (nat_lt 0 0) false cs)) (sym x.one) (both (kid_fits false false v) x.fits);

@@ -1,25 +1,27 @@
 -- Parts of rows: their nodes, and the trees over their sets.
-use Rattle.std.proofs.Common.{◌≡◌, ℕ, zero, suc, ◌+◌, ◌-◌, ◌*◌, ◌≤◌, ◌<◌, ◌&&◌, ◌||◌, Bool, true, false, not, List, [], ◌∷◌, ◌++◌, length, map, take, drop, IsTrue, Some, refl, sym, ap, subst, ◌∙◌, arith, if◌then◌else◌}
+use Rattle.std.proofs.Common.{◌≡◌, ℕ, zero, suc, ◌+◌, ◌-◌, ◌*◌, ◌≤◌, ◌<◌, ◌&&◌, ◌||◌, Bool, true, false, not, List, [], ◌∷◌, ◌++◌, length, map, take, drop, IsTrue, Some, None, ◌==◌, refl, sym, ap, subst, ◌∙◌, arith, if◌then◌else◌}
 use Rattle.std.specs.List.{flat_map, slice_get, AllByRecursion}
 use Rattle.std.proofs.lemmas.List.{map-append, length-take, length-drop}
-use Rattle.version_set.specs.Members.{members, has}
+use Rattle.std.proofs.lemmas.Bool.Decides.{nat_tests}
+use Rattle.version_set.specs.Members.{members, has, upto_pairs}
+use Rattle.version_set.proofs.Moves.{ends_in}
 use Rattle.version_set.specs.Pairs.{IsCanonical}
 use Rattle.keyed_tree.specs.Data.{PlainKeyed, label_of}
 use Rattle.keyed_tree.specs.Proper.{is_tag}
-use Rattle.archive_tree.specs.Data.{PlainNode, nodes_from}
+use Rattle.archive_tree.specs.Data.{Stamp, PlainNode, inner_node, leaf_node, nodes_from}
 use Rattle.archive_tree.specs.Read.{read}
 use Rattle.timestamp_tree.specs.Bytes.{stored}
 use Rattle.timestamp_tree.specs.Data.{PlainTs, leaf, node, top, leaves}
 use Rattle.timestamp_tree.specs.Search.{visits, visited_bytes}
 use Rattle.timestamp_tree.specs.Tree.{half, joined, tree_of, IsTree}
 use Rattle.timestamp_tree.proofs.Trees.{some_has, top_has, tree_is, joined_tree, leaves-tree_of, IsTree-tree_of}
-use Rattle.record_parts.specs.Bounds.{IsSet}
+use Rattle.record_parts.specs.Bounds.{IsSet, IsStamp}
 use Rattle.record_format.specs.Bounds.{IsRec, IsDir}
 use Rattle.record_format.specs.Data.{end_rec}
 use Rattle.record_format.specs.Nested.{are_nested, is_nested}
-use Rattle.record_format.specs.Nodes.{Piece, dir_of, closed_by_end, node_piece, node_pieces}
+use Rattle.record_format.specs.Nodes.{Piece, dir_of, closed_by_end, node_piece, node_pieces, set_in}
 use Rattle.record_format.proofs.Pieces.{all-front, all-back}
-use Rattle.file_get.specs.Kids.{set_of, has_at, finds, all_find, kids_in, item_behind, kid_fits, kids_fit, nodes_seen, nodes_steps}
+use Rattle.file_get.specs.Kids.{IsFilled, set_of, has_at, finds, all_find, kids_in, item_behind, kid_fits, kids_fit, nodes_seen, nodes_steps}
 use Rattle.file_get.specs.Looked.{tree_over, own_bytes}
 use Rattle.file_get.proofs.RowLists.{piece-set}
 
@@ -57,10 +59,53 @@ pub rows-sets : (parent : List (ℕ × ℕ)) (ks : List PlainNode) → map (λ (
 rows-sets parent [] = refl
 rows-sets parent (k ∷ ks) = (λ j. piece-set parent k j ∷ rows-sets parent ks j)
 
-pub part-sets : (parent : List (ℕ × ℕ)) (front ks behind : List PlainNode) → AllByRecursion IsSet (map (set_of parent) (front ++ (ks ++ behind))) → AllByRecursion IsSet (map (set_of parent) ks)
-part-sets parent front ks behind h =
-    all-front IsSet (map (set_of parent) ks) (map (set_of parent) behind)
-    (subst (AllByRecursion IsSet) (map-append (set_of parent) ks behind) (all-back IsSet (map (set_of parent) front) (map (set_of parent) (ks ++ behind)) (subst (AllByRecursion IsSet) (map-append (set_of parent) front (ks ++ behind)) h)))
+pub part-sets : (P : List (ℕ × ℕ) → Type 0) (parent : List (ℕ × ℕ)) (front ks behind : List PlainNode) → AllByRecursion P (map (set_of parent) (front ++ (ks ++ behind))) → AllByRecursion P (map (set_of parent) ks)
+part-sets P parent front ks behind h =
+    all-front P (map (set_of parent) ks) (map (set_of parent) behind)
+    (subst (AllByRecursion P) (map-append (set_of parent) ks behind) (all-back P (map (set_of parent) front) (map (set_of parent) (ks ++ behind)) (subst (AllByRecursion P) (map-append (set_of parent) front (ks ++ behind)) h)))
+
+-- ---- sets that are not empty
+
+pub has-filled : (i : ℕ) (s : List (ℕ × ℕ)) → has (members s) i ≡ true → IsFilled s
+has-filled i [] e = absurd cc
+has-filled i (p ∷ ps) e = omega arith
+
+pub upto-filled : (n : ℕ) → 1 ≤ n → IsFilled (upto_pairs n)
+upto-filled n some = (let no : (n == 0) ≡ false = grind (arith, nat_tests) in subst (λ (b : Bool). IsFilled (if b then [] else (1, n) ∷ [])) (sym no) (omega arith))
+
+stamp-filled : (s : Stamp) (parent : List (ℕ × ℕ)) → IsStamp s → IsFilled parent → IsFilled (set_in s parent)
+stamp-filled None parent is filled = filled
+stamp-filled (Some []) parent is filled = absurd (is.1 refl)
+stamp-filled (Some (p ∷ ps)) parent is filled = omega arith
+
+node-filled : (parent : List (ℕ × ℕ)) (k : PlainNode) → AllByRecursion IsRec (node_piece parent k).records → IsFilled parent → IsFilled (set_of parent k)
+node-filled parent (inner_node l s ks) h filled = (let r = h.0 in let b = r.body in stamp-filled s parent b.1 filled)
+node-filled parent (leaf_node l s xs) h filled = (let r = h.0 in let b = r.body in stamp-filled s parent b.1 filled)
+
+nodes-filled : (parent : List (ℕ × ℕ)) (ks : List PlainNode) → AllByRecursion IsRec (flat_map (λ (p : Piece). p.records) (node_pieces parent (nodes_from ks))) → IsFilled parent → AllByRecursion IsFilled (map (set_of parent) ks)
+nodes-filled parent [] h filled = tt
+nodes-filled parent (k ∷ ks) h filled =
+    let rest = flat_map (λ (p : Piece). p.records) (node_pieces parent (nodes_from ks)) in
+    (node-filled parent k (all-front IsRec (node_piece parent k).records rest h) filled, nodes-filled parent ks (all-back IsRec (node_piece parent k).records rest h) filled)
+
+-- no node of a row has an empty set
+pub rows-filled : (parent : List (ℕ × ℕ)) (ks : List PlainNode) → AllByRecursion IsRec (closed_by_end (node_pieces parent (nodes_from ks))) → IsFilled parent → AllByRecursion IsFilled (map (set_of parent) ks)
+rows-filled parent ks h filled =
+    let ps = node_pieces parent (nodes_from ks) in
+    nodes-filled parent ks (all-front IsRec (flat_map (λ (p : Piece). p.records) ps) (end_rec (dir_of ps) ∷ []) h) filled
+
+first-has : (s : List (ℕ × ℕ)) → IsCanonical s → IsFilled s → (i : ℕ) × (has (members s) i ≡ true)
+first-has [] is filled = absurd (omega (arith, filled))
+first-has (p ∷ ps) is filled = (p.0, (ends_in 1 (p ∷ ps) 0 p is (omega arith)).0)
+
+-- the set of a tree over such sets is not empty
+pub top-filled : (sets : List (List (ℕ × ℕ))) → 1 ≤ length sets → AllByRecursion IsCanonical sets → AllByRecursion IsFilled sets → IsFilled (top (tree_of sets))
+top-filled [] some is filled = absurd (omega (arith, some))
+top-filled (s ∷ sets) some is filled =
+    let first = first-has s is.0 filled.0 in
+    let found : some_has (s ∷ sets) first.0 ≡ true = ap (λ (b : Bool). b || some_has sets first.0) first.1 in
+    has-filled first.0 (top (tree_of (s ∷ sets)))
+    (top_has (tree_of (s ∷ sets)) first.0 (IsTree-tree_of (s ∷ sets) some is) ∙ ap (λ (ss : List (List (ℕ × ℕ))). some_has ss first.0) (leaves-tree_of (s ∷ sets) some) ∙ found)
 
 -- ---- what a version has in two parts
 

@@ -40,7 +40,7 @@ module _ {S K : Type 0} (files : S → Option Files) (draft : S → Option (List
   text-unprinted a b k l p q m n e new h = record {
     walks = walks-pens a b k l p q fresh m n (size - first) (Some e) h.walks;
     sound = λ bytes row c v x. (
-        let s = h.shows bytes row c v (record { tells = x.tells; stands = x.stands; begins = x.begins; ends = x.ends; tail = x.tail; records = x.records; nested = x.nested; bodies = x.bodies; one = x.one; fits = x.fits; element = x.element }) in (
+        let s = h.shows bytes row c v (record { tells = x.tells; stands = x.stands; begins = x.begins; ends = x.ends; tail = x.tail; records = x.records; nested = x.nested; bodies = x.bodies; one = x.one; fits = x.fits; element = x.element; some = x.some }) in (
           s.sound,
           TakesPrefix-more (taken k) (taken l) (tree_text (plain v)) (10 ∷ []) (subst (TakesPrefix (taken k) (taken l)) (text-is p v new) s.bytes),
           s.pulls,
@@ -67,7 +67,7 @@ module _ {S K : Type 0} (files : S → Option Files) (draft : S → Option (List
   text-printed a b k l j p q m n r new meter h puts cause = record {
     walks = walks-then (at a k fresh m) (at b l fresh n) (at b j fresh n) (states.out_fault r) (size - first) 0 (size - first) (omega arith) (walks-pens a b k l p q fresh m n (size - first) None h.walks) (put-walks b l j n (10 ∷ []) r meter puts cause);
     sound = λ bytes row c v x. (
-        let s = h.shows bytes row c v (record { tells = x.tells; stands = x.stands; begins = x.begins; ends = x.ends; tail = x.tail; records = x.records; nested = x.nested; bodies = x.bodies; one = x.one; fits = x.fits; element = x.element }) in (
+        let s = h.shows bytes row c v (record { tells = x.tells; stands = x.stands; begins = x.begins; ends = x.ends; tail = x.tail; records = x.records; nested = x.nested; bodies = x.bodies; one = x.one; fits = x.fits; element = x.element; some = x.some }) in (
           sound-out r,
           ended-out (taken k) (taken l) (taken j) (tree_text (plain v)) (10 ∷ []) r (subst (Takes (taken k) (taken l)) (text-is p v new) s.bytes) puts,
           s.pulls,

@@ -24,7 +24,7 @@ use Rattle.file_rows.specs.StandsAt.{start_in}
 use Rattle.file_rows.specs.View.{PlainRow}
 use Rattle.file_get.specs.Told.{of_cursor, fault_of}
 use Rattle.file_get.specs.State.{State}
-use Rattle.file_get.specs.Kids.{set_of, has_at, kids_in, kids_calls, kid_calls, item_behind, kids_fit, all_find, nodes_seen, nodes_steps}
+use Rattle.file_get.specs.Kids.{IsFilled, set_of, has_at, kids_in, kids_calls, kid_calls, item_behind, kids_fit, all_find, nodes_seen, nodes_steps}
 use Rattle.file_get.specs.Looked.{Halves, LookTold, LookIs, PartsAre, own_bytes, tree_over}
 use Rattle.file_get.specs.Walks.{Shows, StandsIn}
 use Rattle.file_get.specs.Stands.{RowIs, VisitIs}
@@ -34,7 +34,7 @@ use Rattle.file_get.specs.declared.span.Span.{Span}
 use Rattle.file_get.specs.declared.span.Place.{Place}
 use Rattle.file_get.specs.declared.look.Sight.TheVariants.{Child, Parts}
 use Rattle.file_get.specs.declared.fault.GetFault.{GetFault}
-use Rattle.file_get.proofs.Spans.{dir-is, rows-sets, part-sets, kids-append, item-append, fit-front, fit-back, find-front, find-back, seen-append, steps-append, nodes-split, lacks-none, own-visited, some-visits, joined-visited, joined-visits}
+use Rattle.file_get.proofs.Spans.{dir-is, rows-filled, rows-sets, part-sets, kids-append, item-append, fit-front, fit-back, find-front, find-back, seen-append, steps-append, nodes-split, lacks-none, own-visited, some-visits, joined-visited, joined-visits}
 use Rattle.file_get.proofs.States.{walks-then, walks-more, shows-then, shows-fault}
 use Rattle.file_get.proofs.States as states
 
@@ -83,7 +83,8 @@ module _ {S K : Type 0} (files : S → Option Files) (draft : S → Option (List
         tells = x.tells;
         within = nodes.within;
         part = part;
-        sets = part-sets parent front ks behind (subst (AllByRecursion IsSet) (rows-sets parent (front ++ (ks ++ behind))) d.sets);
+        filled = part-sets IsFilled parent front ks behind (rows-filled parent (front ++ (ks ++ behind)) nodes.records nodes.filled);
+        sets = part-sets IsSet parent front ks behind (subst (AllByRecursion IsSet) (rows-sets parent (front ++ (ks ++ behind))) d.sets);
         some = omega (arith, some, count);
       }
 

@@ -1,5 +1,5 @@
 -- A version of a sound archive at the virtual root of its file.
-use Rattle.std.proofs.Common.{◌≡◌, ℕ, zero, suc, ◌+◌, ◌-◌, ◌&&◌, ◌||◌, Bool, true, false, cond, not, IsTrue, true≢false, List, [], ◌∷◌, ◌++◌, length, map, Option, Some, slice_get, refl, sym, ap, subst, ◌∙◌, inl, inr}
+use Rattle.std.proofs.Common.{◌≡◌, ℕ, ◌≤◌, zero, suc, ◌+◌, ◌-◌, ◌&&◌, ◌||◌, Bool, true, false, cond, not, IsTrue, true≢false, List, [], ◌∷◌, ◌++◌, length, map, Option, Some, slice_get, refl, sym, ap, subst, ◌∙◌, inl, inr, arith}
 use Rattle.std.specs.List.{flat_map, AllByRecursion}
 use Rattle.std.specs.declared.cmp.Ordering.{Ordering}
 use Rattle.std.specs.declared.cmp.Ordering.TheVariants.{Less}
@@ -196,6 +196,12 @@ version-all : (P : PlainKeyed → Type 0) (vs : List PlainKeyed) (i : ℕ) (k : 
 version-all P vs zero k h e = cc
 version-all P vs (suc i) k h e = get-all P vs i k h e
 
+-- an archive that has a version has some
+version-some : (vs : List PlainKeyed) (a : PlainArchive) (i : ℕ) (k : PlainKeyed) → ArchiveOf vs a → version_of vs i ≡ Some k → 1 ≤ a.n
+version-some [] a zero k is e = cc
+version-some [] a (suc i) k is e = cc
+version-some (v ∷ vs) a i k is e = (let count = is.count in omega (arith, count))
+
 -- Version i of a sound archive stands alone among the kids of the root that have i, and can be printed.
 pub root_told : (i : ℕ) (files : Option Files) (name bytes : List ℕ) (size first : ℕ) (rules : List PlainRule) (vs : List PlainKeyed) (a : PlainArchive) (k : PlainKeyed)
     → TellsFront files name size bytes → SoundAs rules vs bytes → ArchiveOf vs a → version_of vs i ≡ Some k → first ≡ length (header_bytes rules a.n)
@@ -218,4 +224,5 @@ root_told i files name bytes size first rules vs a k tells sound is version begi
       one = root-one vs a is i k version;
       fits = proper-fits k proper.0 element;
       element = element;
+      some = version-some vs a i k is version;
     }

@@ -1,11 +1,11 @@
 -- What stands inside a node.
-use Rattle.std.specs.Prelude.{◌≡◌, ◌≢◌, ℕ, ◌+◌, ◌-◌, ◌≤◌, List, [], ◌∷◌, ◌++◌, length, map, Bool, true, false, not, ◌||◌, ◌==◌, if◌then◌else◌, Result, IfOk, Option, ⊤}
+use Rattle.std.specs.Prelude.{◌≡◌, ◌≢◌, ℕ, ◌+◌, ◌-◌, ◌≤◌, List, [], ◌∷◌, ◌++◌, length, map, Bool, true, false, not, ◌||◌, ◌==◌, if◌then◌else◌, Result, IfOk, Option, is_some, ⊤}
 use Rattle.std.specs.List.{flat_map, AllByRecursion}
 use Rattle.version_set.specs.Members.{members, has}
 use Rattle.jsonml_print.specs.Calls.{end, content_calls}
 use Rattle.key_annotate.specs.Inside.{inside_of}
-use Rattle.keyed_tree.specs.View.{name_view}
-use Rattle.archive_tree.specs.Data.{PlainAlt, PlainNode, inner_node, leaf_node, node_label}
+use Rattle.record_parts.specs.Shown.{shown_name}
+use Rattle.archive_tree.specs.Data.{Stamp, PlainAlt, PlainNode, inner_node, leaf_node, node_label}
 use Rattle.archive_tree.specs.Read.{read}
 use Rattle.record_cursor.specs.Moves.{TellsFront}
 use Rattle.record_format.specs.Bounds.{IsRec}
@@ -14,6 +14,7 @@ use Rattle.record_format.specs.Nodes.{alt_of, node_pieces, set_in}
 use Rattle.record_parts.specs.Spelling.{stamp_bytes}
 use Rattle.record_format.specs.Spelling.{rec_bytes}
 use Rattle.record_format.specs.Seen.{alts_seen, dir_seen, node_steps, piece_sets, row_seen}
+use Rattle.xa_fields.specs.Spelling.{u64_bytes}
 use Rattle.xa_outside.specs.Folder.{Files}
 use Rattle.file_rows.specs.StandsAt.{StandsAt}
 use Rattle.file_rows.specs.View.{PlainChild}
@@ -42,7 +43,7 @@ may_close kind dir = not (kind == 2) || dir == 0
 
 -- the opening record of a node that begins at this offset
 pub record OpeningIs (k : PlainNode) (first : ℕ) (o : Opening) : Type 0 where
-  pub name : name_view o.name ≡ (node_label k).name
+  pub name : shown_name o.name ≡ (node_label k).name
   pub inner : o.is_inner ≡ is_inner k
   pub behind : o.behind ≡ first + length (rec_bytes (opening_rec k))
 
@@ -59,6 +60,10 @@ pub record AltsTold (i : ℕ) (files : Option Files) (name bytes : List ℕ) (la
 -- whether i is in the set, and the offset behind it
 abbrev pub SetIs : ℕ → ℕ → List (ℕ × ℕ) → Bool × ℕ → Type 0
 SetIs i behind set r = (r.0 ≡ has (members set) i) × (r.1 ≡ behind)
+
+-- the first bytes of an alternative whose body has this size: its kind, the size, and whether its timestamp is stored
+abbrev pub head_bytes : ℕ → Stamp → List ℕ
+head_bytes size s = 3 ∷ (u64_bytes size ++ (if is_some s then 1 else 0) ∷ [])
 
 -- what is read of an alternative that stands here, in a leaf that has this set
 pub record AltIs (i at : ℕ) (set : List (ℕ × ℕ)) (x : PlainAlt) (a : Alternative) : Type 0 where

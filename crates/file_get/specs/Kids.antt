@@ -1,5 +1,5 @@
 -- What a version has among some nodes, and the calls that print it.
-use Rattle.std.specs.Prelude.{ℕ, ◌+◌, List, [], ◌∷◌, ◌++◌, map, Bool, true, false, not, ◌&&◌, ◌||◌, if◌then◌else◌}
+use Rattle.std.specs.Prelude.{ℕ, ◌+◌, ◌≤◌, List, [], ◌∷◌, ◌++◌, length, map, Bool, true, false, not, ◌&&◌, ◌||◌, if◌then◌else◌}
 use Rattle.std.specs.List.{flat_map}
 use Rattle.version_set.specs.Members.{members, has}
 use Rattle.jsonml_print.specs.Calls.{Call, attribute, calls_of}
@@ -10,6 +10,10 @@ use Rattle.archive_tree.specs.Data.{PlainAlt, PlainNode, inner_node, leaf_node, 
 use Rattle.archive_tree.specs.Read.{read}
 use Rattle.record_format.specs.Nodes.{set_in}
 use Rattle.record_format.specs.Seen.{node_seen, node_steps, sets_visited, sets_visits}
+
+-- a set that is not empty
+abbrev pub IsFilled : List (ℕ × ℕ) → Type 0
+IsFilled s = 1 ≤ length s
 
 -- the effective set of a node under a parent that has this set
 abbrev pub set_of : List (ℕ × ℕ) → PlainNode → List (ℕ × ℕ)

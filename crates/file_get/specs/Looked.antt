@@ -11,10 +11,9 @@ use Rattle.record_cursor.specs.Moves.{TellsFront}
 use Rattle.record_cursor.specs.declared.fault.CursorFault.{CursorFault}
 use Rattle.xa_outside.specs.Folder.{Files}
 use Rattle.file_rows.specs.View.{PlainRow}
-use Rattle.file_get.specs.Kids.{set_of, has_at}
+use Rattle.file_get.specs.Kids.{IsFilled, set_of, has_at}
 use Rattle.file_get.specs.Stands.{SpanIs}
-use Rattle.version_set.specs.View.{pairs_of}
-use Rattle.timestamp_tree.specs.declared.node.Node.{Node}
+use Rattle.timestamp_tree.specs.declared.probe.Probe.{Probe}
 use Rattle.file_get.specs.declared.look.Sight.{Sight}
 use Rattle.file_get.specs.declared.look.Sight.TheVariants.{Lacks, Child, Parts}
 use Rattle.file_get.specs.declared.span.Span.{Span}
@@ -55,11 +54,11 @@ abbrev pub left_bytes : PlainTs → ℕ
 left_bytes (leaf s) = 0
 left_bytes (node s n l r) = n
 
--- what was read is the node at the front of a tree
-pub record NodeOf (t : PlainTs) (node : Node) : Type 0 where
-  pub set : pairs_of node.set ≡ top t
-  pub left : node.left ≡ left_bytes t
-  pub size : node.size ≡ own_bytes t
+-- what was read is what the node at the front of a tree says of i
+pub record NodeOf (i : ℕ) (t : PlainTs) (probe : Probe) : Type 0 where
+  pub has : probe.has ≡ has (members (top t)) i
+  pub left : probe.left ≡ left_bytes t
+  pub size : probe.size ≡ own_bytes t
 
 -- the first half of a part, behind a node that ends at `at`, and the rest
 abbrev pub left_of : Span → ℕ → ℕ → Span
@@ -78,6 +77,7 @@ pub record LookTold (files : Option Files) (name bytes : List ℕ) (end : ℕ) (
   pub within : row.end + (9 + row.dir) ≤ end
   pub part : SpanIs bytes row span parent front ks behind
   pub sets : AllByRecursion IsSet (map (set_of parent) ks)
+  pub filled : AllByRecursion IsFilled (map (set_of parent) ks)
   pub some : 1 ≤ length ks
 
 -- Both parts are where the halves of the nodes are.

@@ -39,6 +39,7 @@ pub record RootTold (i : ℕ) (files : Option Files) (name bytes : List ℕ) (si
   pub one : kids_in i (upto_pairs a.n) (nodes_list a.kids) ≡ k ∷ []
   pub fits : IsTrue (kid_fits false false k)
   pub element : IsElement k
+  pub some : 1 ≤ a.n
 
 -- The version was printed.
 pub record RootPrinted (i : ℕ) (name : List ℕ) (size first : ℕ) (s t : State) (ended : Option GetFault) : Type 0 where

@@ -14,7 +14,7 @@ use Rattle.file_rows.specs.StandsAt.{StandsAt, RowLaid, ChildLaid, start_in}
 use Rattle.file_rows.specs.View.{PlainRow, PlainChild}
 use Rattle.version_set.specs.Members.{members}
 use Rattle.archive_tree.specs.Read.{read}
-use Rattle.file_get.specs.Kids.{set_of, has_at, finds, all_find, kids_in, kid_fits, kids_fit}
+use Rattle.file_get.specs.Kids.{IsFilled, set_of, has_at, finds, all_find, kids_in, kid_fits, kids_fit}
 use Rattle.file_get.specs.declared.span.Span.{Span}
 use Rattle.file_get.specs.declared.span.Place.{Place}
 
@@ -24,6 +24,7 @@ pub record RowIs (bytes : List ℕ) (end depth : ℕ) (row : PlainRow) (parent :
   pub within : row.end + (9 + row.dir) ≤ end
   pub records : AllByRecursion IsRec (closed_by_end (node_pieces parent (nodes_from ks)))
   pub nested : IsTrue (are_nested (deepest - depth) (nodes_from ks))
+  pub filled : IsFilled parent
 
 -- The node is this child.
 pub record ChildIs (bytes : List ℕ) (end depth : ℕ) (child : PlainChild) (parent : List (ℕ × ℕ)) (k : PlainNode) : Type 0 where

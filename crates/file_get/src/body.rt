@@ -5,32 +5,30 @@ ghost use Rattle.xa_fields.specs.Spelling.{u32_bytes};
 ghost use Rattle.xa_outside.specs.Numbers.{PullsAtMost, after_pull};
 ghost use Rattle.version_set.specs.Members.{members, has};
 ghost use Rattle.keyed_tree.specs.Data.{PlainKey};
-ghost use Rattle.keyed_tree.specs.View.{key_view};
 ghost use Rattle.archive_tree.specs.Data.{Stamp, PlainAlt};
 ghost use Rattle.archive_tree.specs.Read.{body_at};
 ghost use Rattle.timestamp_tree.specs.Bytes.{pair_bytes, set_bytes};
-ghost use Rattle.record_parts.specs.Bounds.{IsSet, IsStamp, IsValue};
+ghost use Rattle.record_parts.specs.Bounds.{IsSet, IsValue};
 ghost use Rattle.record_parts.specs.Spelling.{stamp_bytes, value_bytes};
 ghost use Rattle.record_format.specs.Bounds.{IsRec};
-ghost use Rattle.record_format.specs.Nodes.{alt_of, set_in};
+ghost use Rattle.record_format.specs.Nodes.{alt_of};
 ghost use Rattle.record_format.specs.Seen.{alts_seen};
 ghost use Rattle.record_format.specs.Spelling.{rec_bytes};
 ghost use Rattle.record_cursor.specs.Faults.{IfFolder};
 ghost use Rattle.record_cursor.specs.Moves.{TellsFront};
 ghost use Rattle.record_cursor.specs.Steps.{OnlyReads, fault_of, Filled};
 ghost use Rattle.file_rows.specs.StandsAt.{StandsAt};
-ghost use Rattle.file_get.specs.Inside.{AltsTold, AltIs, SetIs};
+ghost use Rattle.file_get.specs.Inside.{AltsTold, AltIs, SetIs, head_bytes};
+ghost use Rattle.file_get.specs.LeafBodies.{body_view};
 
-use crate::read::{fill_body, read_frame};
+use crate::bytes::Bytes;
 use crate::span::Ask;
-use file_rows::Child;
-use keyed_tree::KeyVal;
+use crate::value::{Body, body_of};
 use record_cursor::{CursorFault, fill_part};
 use record_format::ALT;
-use record_parts::{MOST_VERSIONS, RecFault, take_value};
-use std::alloc::Global;
-use timestamp_tree::take_pairs;
-use xa_fields::take_u32;
+use record_parts::MOST_VERSIONS;
+use timestamp_tree::pairs_contain;
+use xa_fields::{take_u8, take_u32, take_u64};
 use xa_outside::Folder;
 
 /// An alternative: whether the version has it, and the offsets of its body and behind it.
@@ -42,20 +40,22 @@ pub(crate) struct Alternative {
 }
 
 /// The body that a leaf has in the version: that of its first alternative that has it, out of those
-/// between two offsets. Of the alternatives before it the timestamps alone are read.
-pub(crate) fn read_body<F: Folder>(
+/// between two offsets. Of the alternatives before it the timestamps alone are read. The room takes
+/// the bytes out of which it is lent.
+pub(crate) fn read_body<'a, F: Folder>(
     ask: Ask<'_>,
     folder: &mut F,
     at: u64,
     end: u64,
-) -> Result<KeyVal, CursorFault>
+    room: &'a mut Bytes,
+) -> Result<Body<'a>, CursorFault>
     requires { at ≤ end }
     ensures reads { OnlyReads F.files F.draft F.faults folder.old folder.new (fault_of result) }
     ensures pulls { PullsAtMost (end - at) (F.numbers folder.old) (F.numbers folder.new) }
     ensures told { (last : ℕ) (bytes more : List ℕ) (set : List (ℕ × ℕ)) (xs : List PlainAlt)
         → AltsTold ask.entry.version (F.files folder.old) ask.entry.name.now bytes last at end
         set xs more
-        → Filled result (λ b. key_view b ≡ body_at ask.entry.version (members set) xs)
+        → Filled result (λ b. body_view b ≡ body_at ask.entry.version (members set) xs)
         × PullsAtMost (alts_seen ask.entry.version set xs)
         (F.numbers folder.old) (F.numbers folder.new) }
 {
@@ -66,7 +66,7 @@ pub(crate) fn read_body<F: Folder>(
             Err(fault) => return Err(fault),
         };
         if alternative.has {
-            return read_value(ask, folder, alternative.body, alternative.end);
+            return read_value(ask, folder, alternative.body, alternative.end, room);
         }
         at = alternative.end;
     }
@@ -94,117 +94,72 @@ fn read_alternative<F: Folder>(
         × PullsAtMost (9 + length (stamp_bytes x.stamp))
         (F.numbers folder.old) (F.numbers folder.new) }
 {
-    let behind = match read_behind(ask, folder, at, end) {
-        Ok(behind) => behind,
+    let (end, is_stored) = match read_head(ask, folder, at, end) {
+        Ok(head) => head,
         Err(fault) => return Err(fault),
     };
-    match read_stamp(ask, folder, at + 9, behind) {
-        Ok((has, body)) => Ok(Alternative {
-            has,
-            body,
-            end: behind,
-        }),
+    if !is_stored {
+        return Ok(Alternative {
+            has: true,
+            body: at + 10,
+            end,
+        });
+    }
+    match read_set(ask, folder, at + 10, end) {
+        Ok((has, body)) => Ok(Alternative { has, body, end }),
         Err(fault) => Err(fault),
     }
 }
 
-// The offset behind the alternative at an offset.
-fn read_behind<F: Folder>(
+// The offset behind the alternative at an offset, and whether its timestamp is stored.
+fn read_head<F: Folder>(
     ask: Ask<'_>,
     folder: &mut F,
     at: u64,
     end: u64,
-) -> Result<u64, CursorFault>
+) -> Result<(u64, bool), CursorFault>
     requires { at ≤ end }
     ensures reads { OnlyReads F.files F.draft F.faults folder.old folder.new (fault_of result) }
-    ensures within { IfOk result (λ b. (at + 9 ≤ b) × (b ≤ end)) }
-    ensures numbers { OnOk result (F.numbers folder.new ≡ after_pull (F.numbers folder.old) 9) }
-    ensures pulls { PullsAtMost 9 (F.numbers folder.old) (F.numbers folder.new) }
+    ensures within { IfOk result (λ h. (at + 10 ≤ h.0) × (h.0 ≤ end)) }
+    ensures numbers { OnOk result (F.numbers folder.new ≡ after_pull (F.numbers folder.old) 10) }
+    ensures pulls { PullsAtMost 10 (F.numbers folder.old) (F.numbers folder.new) }
     ensures inside { PullsAtMost (end - at) (F.numbers folder.old) (F.numbers folder.new) }
     ensures told { (last : ℕ) (bytes more : List ℕ) (x : PlainAlt)
         → TellsFront (F.files folder.old) ask.entry.name.now last bytes → end ≤ last
         → StandsAt bytes at (rec_bytes (alt_of x) ++ more)
         → end ≡ at + length (rec_bytes (alt_of x) ++ more) → IsRec (alt_of x)
-        → Filled result (λ b. b ≡ at + length (rec_bytes (alt_of x))) }
+        → Filled result (λ h. (h.0 ≡ at + length (rec_bytes (alt_of x)))
+        × (h.1 ≡ is_some x.stamp)) }
 {
-    let child = Child {
-        first: at,
-        end,
-        dir: 0,
-    };
-    match read_frame(folder, ask.name, child) {
-        Ok((kind, size)) => {
-            if kind == ALT {
-                Ok(at + 9 + size)
-            } else {
-                Err(CursorFault::Damage)
-            }
-        }
-        Err(fault) => Err(fault),
-    }
-}
-
-// Whether the version has what bears the timestamp at an offset, and the offset behind it.
-fn read_stamp<F: Folder>(
-    ask: Ask<'_>,
-    folder: &mut F,
-    at: u64,
-    end: u64,
-) -> Result<(bool, u64), CursorFault>
-    requires { at ≤ end }
-    ensures reads { OnlyReads F.files F.draft F.faults folder.old folder.new (fault_of result) }
-    ensures within { IfOk result (λ r. (at ≤ r.1) × (r.1 ≤ end)) }
-    ensures numbers { IfOk result (λ r. F.numbers folder.new
-        ≡ after_pull (F.numbers folder.old) (r.1 - at)) }
-    ensures pulls { PullsAtMost (end - at) (F.numbers folder.old) (F.numbers folder.new) }
-    ensures told { (last : ℕ) (bytes : List ℕ) (set : List (ℕ × ℕ)) (s : Stamp)
-        → TellsFront (F.files folder.old) ask.entry.name.now last bytes → end ≤ last
-        → StandsAt bytes at (stamp_bytes s) → at + length (stamp_bytes s) ≤ end → IsStamp s
-        → has (members set) ask.entry.version ≡ true
-        → Filled result (SetIs ask.entry.version (at + length (stamp_bytes s)) (set_in s set))
-        × PullsAtMost (length (stamp_bytes s)) (F.numbers folder.old) (F.numbers folder.new) }
-{
-    let flag = match read_flag(ask, folder, at, end) {
-        Ok(flag) => flag,
-        Err(fault) => return Err(fault),
-    };
-    if flag {
-        read_set(ask, folder, at + 1, end)
-    } else {
-        Ok((true, at + 1))
-    }
-}
-
-// Whether the timestamp at an offset is stored.
-fn read_flag<F: Folder>(
-    ask: Ask<'_>,
-    folder: &mut F,
-    at: u64,
-    end: u64,
-) -> Result<bool, CursorFault>
-    requires { at ≤ end }
-    ensures reads { OnlyReads F.files F.draft F.faults folder.old folder.new (fault_of result) }
-    ensures within { OnOk result (at + 1 ≤ end) }
-    ensures numbers { OnOk result (F.numbers folder.new ≡ after_pull (F.numbers folder.old) 1) }
-    ensures pulls { PullsAtMost 1 (F.numbers folder.old) (F.numbers folder.new) }
-    ensures inside { PullsAtMost (end - at) (F.numbers folder.old) (F.numbers folder.new) }
-    ensures told { (last : ℕ) (bytes : List ℕ) (s : Stamp)
-        → TellsFront (F.files folder.old) ask.entry.name.now last bytes → end ≤ last
-        → StandsAt bytes at (stamp_bytes s) → at + length (stamp_bytes s) ≤ end
-        → Filled result (λ f. f ≡ is_some s) }
-{
-    if end - at < 1 {
+    let room = end - at;
+    if room < 10 {
         return Err(CursorFault::Damage);
     }
-    let mut flag = [0; 1];
-    match fill_part(folder, ask.name, at, &mut flag) {
-        Ok(()) => match flag[0] {
-            0 => Ok(false),
-            1 => Ok(true),
-            _ => Err(CursorFault::Damage),
+    let mut head = [0; 10];
+    match fill_part(folder, ask.name, at, &mut head) {
+        Ok(()) => match head_within(&head, room) {
+            Some((size, is_stored)) => Ok((at + size, is_stored)),
+            None => Err(CursorFault::Damage),
         },
         Err(fault) => Err(fault),
     }
+}
+
+// The size of an alternative that begins with these bytes and has no more than there is room for,
+// and whether its timestamp is stored.
+fn head_within(head: &[u8], room: u64) -> Option<(u64, bool)>
+    requires { 10 ≤ room }
+    ensures within { IfSome result (λ h. (10 ≤ h.0) × (h.0 ≤ room)) }
+    ensures told { (size : ℕ) (s : Stamp) → size < 2 ^ 64 → 1 ≤ size → 9 + size ≤ room
+        → head.now ≡ head_bytes size s → result ≡ Some (9 + size, is_some s) }
+{
+    let (kind, _) = take_u8(head, 0)?;
+    let (size, _) = take_u64(head, 1)?;
+    let (flag, _) = take_u8(head, 9)?;
+    if kind != ALT || size < 1 || room - 9 < size || flag > 1 {
+        return None;
+    }
+    Some((9 + size, flag == 1))
 }
 
 // Whether the version is in the set at an offset, and the offset behind the set.
@@ -296,63 +251,40 @@ fn read_pairs<F: Folder>(
         → StandsAt bytes at (flat_map pair_bytes s) → count ≡ length s → IsSet s
         → Filled result (λ h. h ≡ has (members s) ask.entry.version) }
 {
-    let mut pairs = Vec::new(ask.alloc);
-    match fill_body(folder, ask.name, at, 8 * count as usize, &mut pairs) {
-        Ok(()) => is_among(ask.alloc, &pairs, count, ask.version),
+    let mut pairs = Bytes::new(ask.alloc);
+    match pairs.fill(folder, ask.name, at, 8 * count as usize) {
+        Ok(()) => is_among(pairs.as_slice(), count, ask.version),
         Err(fault) => Err(fault),
     }
 }
 
 // Whether the number is in the set that has these intervals, so many.
-fn is_among(alloc: Global, pairs: &[u8], count: u32, version: u32) -> Result<bool, CursorFault>
+fn is_among(pairs: &[u8], count: u32, version: u32) -> Result<bool, CursorFault>
     ensures cause { IfErr result (λ e. IfFolder e ⊥) }
     ensures told { (s : List (ℕ × ℕ)) → pairs.now ≡ flat_map pair_bytes s → count ≡ length s
         → IsSet s → Filled result (λ h. h ≡ has (members s) version) }
 {
-    match take_pairs(alloc, pairs, 0, count, MOST_VERSIONS) {
-        Ok(Some((set, _))) => Ok(set.contains(version)),
-        Ok(None) => Err(CursorFault::Damage),
-        Err(_) => Err(CursorFault::Memory),
-    }
+    pairs_contain(pairs, 0, count, MOST_VERSIONS, version).ok_or(CursorFault::Damage)
 }
 
-// The value that stands between two offsets.
-fn read_value<F: Folder>(
+// What a leaf holds whose value stands between two offsets.
+fn read_value<'a, F: Folder>(
     ask: Ask<'_>,
     folder: &mut F,
     at: u64,
     end: u64,
-) -> Result<KeyVal, CursorFault>
+    room: &'a mut Bytes,
+) -> Result<Body<'a>, CursorFault>
     requires { at ≤ end }
     ensures reads { OnlyReads F.files F.draft F.faults folder.old folder.new (fault_of result) }
     ensures pulls { PullsAtMost (end - at) (F.numbers folder.old) (F.numbers folder.new) }
     ensures told { (last : ℕ) (bytes : List ℕ) (b : PlainKey)
         → TellsFront (F.files folder.old) ask.entry.name.now last bytes → end ≤ last
         → StandsAt bytes at (value_bytes b) → end ≡ at + length (value_bytes b) → IsValue b
-        → Filled result (λ v. key_view v ≡ b) }
+        → Filled result (λ v. body_view v ≡ b) }
 {
-    let mut bytes = Vec::new(ask.alloc);
-    match fill_body(folder, ask.name, at, (end - at) as usize, &mut bytes) {
-        Ok(()) => whole_value(ask.alloc, &bytes),
+    match room.fill(folder, ask.name, at, (end - at) as usize) {
+        Ok(()) => body_of(ask.alloc, room.as_slice()),
         Err(fault) => Err(fault),
-    }
-}
-
-// The value that these bytes are.
-fn whole_value(alloc: Global, bytes: &[u8]) -> Result<KeyVal, CursorFault>
-    ensures cause { IfErr result (λ e. IfFolder e ⊥) }
-    ensures told { (b : PlainKey) → bytes.now ≡ value_bytes b → IsValue b
-        → Filled result (λ v. key_view v ≡ b) }
-{
-    match take_value(alloc, bytes, 0) {
-        Ok((value, behind)) => {
-            if behind == bytes.len() {
-                Ok(value)
-            } else {
-                Err(CursorFault::Damage)
-            }
-        }
-        Err(RecFault::Damage) => Err(CursorFault::Damage),
-        Err(RecFault::Memory) => Err(CursorFault::Memory),
     }
 }

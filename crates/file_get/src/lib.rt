@@ -3,6 +3,7 @@
 #![tactic(auto)]
 
 mod body;
+mod bytes;
 mod fault;
 mod fixed;
 mod look;
@@ -10,6 +11,7 @@ mod print;
 mod read;
 mod root;
 mod span;
+mod value;
 mod version;
 mod walk;
 

@@ -16,7 +16,7 @@ use crate::span::{Ask, Span};
 use record_cursor::CursorFault;
 use record_parts::MOST_VERSIONS;
 use std::sync::ledger::Ledger;
-use timestamp_tree::{Node, NodeFault, Steps, node_at};
+use timestamp_tree::{NodeFault, Probe, Steps, probe_at};
 use xa_outside::Folder;
 
 /// What a node of a stored tree says: no child of the part has the version, the only one does, or
@@ -28,8 +28,7 @@ pub(crate) enum Sight {
     Parts { left: Span, right: Span },
 }
 
-/// Looks at the node of the stored tree at the front of a part of a row. The set that it has is
-/// dropped.
+/// Looks at the node of the stored tree at the front of a part of a row.
 pub(crate) fn look<F: Folder, L: Ledger>(
     ask: Ask<'_>,
     folder: &mut F,
@@ -52,16 +51,17 @@ pub(crate) fn look<F: Folder, L: Ledger>(
         × PullsAtMost (own_bytes (tree_over parent ks))
         (F.numbers folder.old) (F.numbers folder.new) }
 {
-    match node_at(
+    match probe_at(
         ask.alloc,
         folder,
         ask.name,
         span.at,
         span.limit,
         MOST_VERSIONS,
+        ask.version,
         steps,
     ) {
-        Ok(node) => judge(ask.version, span, &node),
+        Ok(probe) => judge(span, probe),
         Err(NodeFault::Damage) => Err(CursorFault::Damage),
         Err(NodeFault::Folder) => Err(CursorFault::Folder),
         Err(NodeFault::Memory) => Err(CursorFault::Memory),
@@ -69,37 +69,37 @@ pub(crate) fn look<F: Folder, L: Ledger>(
 }
 
 // What the node says, where its left part has the size that it may have.
-fn judge(version: u32, span: Span, node: &Node) -> Result<Sight, CursorFault>
-    requires within { span.at + node.now.size ≤ span.limit }
+fn judge(span: Span, probe: Probe) -> Result<Sight, CursorFault>
+    requires within { span.at + probe.size ≤ span.limit }
     requires some { 1 ≤ span.count }
     requires few { span.position + span.count < 2 ^ 32 }
     ensures is { IfOk result (IsLook span) }
-    ensures size { node.now.size ≤ looked span result }
+    ensures size { probe.size ≤ looked span result }
     ensures cause { IfErr result (λ e. IfFolder e ⊥) }
-    ensures told { (bytes : List ℕ) (row : PlainRow) (parent : List (ℕ × ℕ))
+    ensures told { (i : ℕ) (bytes : List ℕ) (row : PlainRow) (parent : List (ℕ × ℕ))
         (front ks behind : List PlainNode) → SpanIs bytes row span parent front ks behind
         → AllByRecursion IsSet (map (set_of parent) ks) → 1 ≤ length ks
-        → NodeOf (tree_over parent ks) node.now
-        → Filled result (LookIs version bytes row parent front ks behind) }
+        → NodeOf i (tree_over parent ks) probe
+        → Filled result (LookIs i bytes row parent front ks behind) }
 {
-    let at = span.at + node.size;
+    let at = span.at + probe.size;
     if span.count == 1 {
-        if node.left != 0 || at < span.limit {
+        if probe.left != 0 || at < span.limit {
             return Err(CursorFault::Damage);
         }
-        return Ok(if node.set.contains(version) {
+        return Ok(if probe.has {
             Sight::Child
         } else {
             Sight::Lacks
         });
     }
-    if node.left == 0 || span.limit - at <= node.left {
+    if probe.left == 0 || span.limit - at <= probe.left {
         return Err(CursorFault::Damage);
     }
-    if !node.set.contains(version) {
+    if !probe.has {
         return Ok(Sight::Lacks);
     }
-    Ok(halves(span, at, at + node.left))
+    Ok(halves(span, at, at + probe.left))
 }
 
 // Both parts behind a node that ends at `at`, the right one at `middle`.

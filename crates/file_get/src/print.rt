@@ -1,7 +1,7 @@
 // Printing what nodes have.
 ghost use Rattle.std.specs.Prelude.{◌≡◌, ◌+◌, ◌≤◌, ℕ, false};
 ghost use Rattle.keyed_tree.specs.Data.{attr};
-ghost use Rattle.keyed_tree.specs.View.{name_view};
+ghost use Rattle.record_parts.specs.Shown.{shown_name};
 ghost use Rattle.file_rows.specs.View.{child_view};
 ghost use Rattle.file_get.specs.Told.{fault_of};
 ghost use Rattle.file_get.specs.State.{state};
@@ -9,12 +9,13 @@ ghost use Rattle.file_get.specs.Walks.{IsBegun, StandsIn};
 ghost use Rattle.file_get.specs.Inside.{InsidePrinted, OpenedPrinted};
 
 use crate::body::read_body;
+use crate::bytes::Bytes;
 use crate::fault::GetFault;
 use crate::read::Opening;
 use crate::span::{Ask, Place};
+use crate::value::Body;
 use file_rows::Child;
 use jsonml_text::{Printer, print_content};
-use keyed_tree::KeyVal;
 use xa_outside::{Folder, Sink};
 
 /// Prints the body of a leaf as the content of the element that was begun for it.
@@ -22,7 +23,7 @@ pub(crate) fn print_leaf<F: Folder, K: Sink>(
     ask: Ask<'_>,
     child: Child,
     depth: u32,
-    opening: &Opening,
+    opening: &Opening<'_>,
     folder: &mut F,
     printer: &mut Printer,
     sink: &mut K,
@@ -37,12 +38,18 @@ pub(crate) fn print_leaf<F: Folder, K: Sink>(
         (state F.files F.draft F.numbers F.faults K.taken K.faults
         folder.new sink.new printer.new steps) (fault_of result) }
 {
-    match read_body(ask, folder, opening.behind, child.end)? {
-        KeyVal::Content(content) => {
+    let mut room = Bytes::new(ask.alloc);
+    match read_body(ask, folder, opening.behind, child.end, &mut room) {
+        Ok(Body::Text(text)) => {
+            printer.text(sink, text)?;
+            Ok(())
+        }
+        Ok(Body::Content(content)) => {
             print_content(&content, printer, sink)?;
             Ok(())
         }
-        KeyVal::Scalar(_) => Err(GetFault::Damage),
+        Ok(Body::Scalar(_)) => Err(GetFault::Damage),
+        Err(fault) => Err(GetFault::from(fault)),
     }
 }
 
@@ -51,7 +58,7 @@ pub(crate) fn print_attribute<F: Folder, K: Sink>(
     ask: Ask<'_>,
     child: Child,
     place: Place,
-    opening: &Opening,
+    opening: &Opening<'_>,
     name: &str,
     folder: &mut F,
     printer: &mut Printer,
@@ -59,7 +66,7 @@ pub(crate) fn print_attribute<F: Folder, K: Sink>(
 ) -> Result<bool, GetFault>
     requires behind { opening.now.behind ≤ child.end }
     requires stands { StandsIn place.depth place.has_item printer.old }
-    requires name { name_view opening.now.name ≡ attr name.now }
+    requires name { shown_name opening.now.name ≡ attr name.now }
     ensures { (steps : ℕ) → OpenedPrinted ask.entry.version ask.entry.name.now
         (child_view child) opening.now place.depth place.has_item
         (state F.files F.draft F.numbers F.faults K.taken K.faults
@@ -70,11 +77,14 @@ pub(crate) fn print_attribute<F: Folder, K: Sink>(
     if opening.is_inner || place.depth == 0 || place.has_item {
         return Err(GetFault::Damage);
     }
-    match read_body(ask, folder, opening.behind, child.end)? {
-        KeyVal::Scalar(value) => {
+    let mut room = Bytes::new(ask.alloc);
+    match read_body(ask, folder, opening.behind, child.end, &mut room) {
+        Ok(Body::Scalar(value)) => {
             printer.attr(sink, name, &value)?;
             Ok(false)
         }
-        KeyVal::Content(_) => Err(GetFault::Damage),
+        Ok(Body::Text(_)) => Err(GetFault::Damage),
+        Ok(Body::Content(_)) => Err(GetFault::Damage),
+        Err(fault) => Err(GetFault::from(fault)),
     }
 }

@@ -1,12 +1,11 @@
 // Reading headers, opening records and bodies.
-ghost use Rattle.std.specs.Prelude.{◌≡◌, ◌+◌, ◌-◌, ◌≤◌, ◌<◌, ◌^◌, ◌++◌, ◌∷◌, ℕ, List, length, take, drop, false, Some, IfOk, IfErr, IfSome, OnOk};
+ghost use Rattle.std.specs.Prelude.{◌≡◌, ◌+◌, ◌-◌, ◌≤◌, ◌<◌, ◌^◌, ◌++◌, ◌∷◌, ℕ, List, length, take, false, Some, IfOk, IfErr, IfSome, OnOk};
 ghost use Rattle.xa_fields.specs.Spelling.{u64_bytes};
 ghost use Rattle.record_cursor.specs.Faults.{IfFolder};
 ghost use Rattle.record_format.specs.Data.{PlainRec};
 ghost use Rattle.xa_outside.specs.Numbers.{PullsAtMost, after_pull};
-ghost use Rattle.keyed_tree.specs.View.{name_view};
+ghost use Rattle.record_parts.specs.Shown.{shown_name};
 ghost use Rattle.record_parts.specs.ShownViews.{shown_label};
-ghost use Rattle.record_cursor.specs.declared.fault.CursorFault.TheVariants.{Memory};
 ghost use Rattle.archive_tree.specs.Data.{PlainNode};
 ghost use Rattle.record_format.specs.Bounds.{IsRec};
 ghost use Rattle.record_format.specs.Spelling.{body_bytes, kind_of, rec_bytes};
@@ -15,29 +14,31 @@ ghost use Rattle.record_cursor.specs.Steps.{OnlyReads, fault_of, Filled};
 ghost use Rattle.file_rows.specs.StandsAt.{StandsAt};
 ghost use Rattle.file_get.specs.Inside.{is_inner, may_close, opening_rec, OpeningIs};
 
+use crate::bytes::Bytes;
 use crate::span::Ask;
 use file_rows::Child;
-use keyed_tree::Name;
 use record_cursor::{CursorFault, fill_part};
 use record_format::{LEAF, LabelView, View, view_body};
-use std::alloc::Global;
+use record_parts::NameView;
 use xa_fields::{take_u8, take_u64};
 use xa_outside::Folder;
 
 /// The record that opens a node: its name, whether it is inner, and the offset behind the record.
 #[derive(Drop)]
-pub(crate) struct Opening {
-    pub(crate) name: Name,
+pub(crate) struct Opening<'a> {
+    pub(crate) name: NameView<'a>,
     pub(crate) is_inner: bool,
     pub(crate) behind: u64,
 }
 
-/// The record that opens a child. Memory is taken only for a record that ends within the child.
-pub(crate) fn read_opening<F: Folder>(
+/// The record that opens a child, lent out of the bytes that are read. Memory is taken only for a
+/// record that ends within the child.
+pub(crate) fn read_opening<'a, F: Folder>(
     ask: Ask<'_>,
     folder: &mut F,
     child: Child,
-) -> Result<Opening, CursorFault>
+    body: &'a mut Bytes,
+) -> Result<Opening<'a>, CursorFault>
     ensures reads { OnlyReads F.files F.draft F.faults folder.old folder.new (fault_of result) }
     ensures within { IfOk result (λ o. (child.first ≤ o.behind) × (o.behind ≤ child.end)) }
     ensures numbers { IfOk result (λ o. F.numbers folder.new
@@ -53,15 +54,14 @@ pub(crate) fn read_opening<F: Folder>(
         × PullsAtMost (length (rec_bytes (opening_rec k)))
         (F.numbers folder.old) (F.numbers folder.new) }
 {
-    let mut body = Vec::new(ask.alloc);
-    let kind = match read_record(folder, ask.name, child, &mut body) {
+    let kind = match read_record(folder, ask.name, child, body) {
         Ok(kind) => kind,
         Err(fault) => return Err(fault),
     };
     if !is_closed(kind, child.dir) {
         return Err(CursorFault::Damage);
     }
-    opening_of(ask.alloc, kind, &body, child.first)
+    opening_of(kind, body.as_slice(), child.first)
 }
 
 // Whether an END with a body of so many bytes may close what a record of this kind opens. None
@@ -77,53 +77,27 @@ fn read_record<F: Folder>(
     folder: &mut F,
     name: &str,
     child: Child,
-    body: &mut Vec<u8>,
+    body: &mut Bytes,
 ) -> Result<u8, CursorFault>
     ensures reads { OnlyReads F.files F.draft F.faults folder.old folder.new (fault_of result) }
-    ensures within { OnOk result (9 + length body.new.items ≤ child.end - child.first) }
+    ensures within { OnOk result (9 + length body.new ≤ child.end - child.first) }
     ensures numbers { OnOk result (F.numbers folder.new
-        ≡ after_pull (F.numbers folder.old) (9 + length body.new.items)) }
+        ≡ after_pull (F.numbers folder.old) (9 + length body.new)) }
     ensures pulls { PullsAtMost (child.end - child.first)
         (F.numbers folder.old) (F.numbers folder.new) }
     ensures told { (end : ℕ) (bytes more : List ℕ) (r : PlainRec)
         → TellsFront (F.files folder.old) name.now end bytes → child.end ≤ end
         → StandsAt bytes child.first (rec_bytes r ++ more)
         → child.end ≡ child.first + length (rec_bytes r ++ more) → IsRec r
-        → Filled result (λ kind. (kind ≡ kind_of r) × (body.new.items ≡ body_bytes r))
+        → Filled result (λ kind. (kind ≡ kind_of r) × (body.new ≡ body_bytes r))
         × PullsAtMost (length (rec_bytes r)) (F.numbers folder.old) (F.numbers folder.new) }
 {
     let (kind, size) = match read_frame(folder, name, child) {
         Ok(frame) => frame,
         Err(fault) => return Err(fault),
     };
-    match fill_body(folder, name, child.first + 9, size as usize, body) {
+    match body.fill(folder, name, child.first + 9, size as usize) {
         Ok(()) => Ok(kind),
-        Err(fault) => Err(fault),
-    }
-}
-
-/// Fills the body, which takes this size, with the bytes of a file from the offset on.
-pub(crate) fn fill_body<F: Folder>(
-    folder: &mut F,
-    name: &str,
-    at: u64,
-    size: usize,
-    body: &mut Vec<u8>,
-) -> Result<(), CursorFault>
-    requires { at + size < 2 ^ 64 }
-    ensures reads { OnlyReads F.files F.draft F.faults folder.old folder.new (fault_of result) }
-    ensures numbers { OnOk result
-        (F.numbers folder.new ≡ after_pull (F.numbers folder.old) size) }
-    ensures pulls { PullsAtMost size (F.numbers folder.old) (F.numbers folder.new) }
-    ensures size { OnOk result (length body.new.items ≡ size) }
-    ensures told { (end : ℕ) (bytes : List ℕ) → TellsFront (F.files folder.old) name.now end bytes
-        → at + size ≤ end → Filled result (λ _. body.new.items ≡ take size (drop at bytes)) }
-{
-    if body.resize(size, 0).is_err() {
-        return Err(CursorFault::Memory);
-    }
-    match fill_part(folder, name, at, body) {
-        Ok(()) => Ok(()),
         Err(fault) => Err(fault),
     }
 }
@@ -174,7 +148,7 @@ fn frame_within(frame: &[u8], room: u64) -> Option<(u8, u64)>
 }
 
 // What a record with this body opens, which begins at this offset.
-fn opening_of(alloc: Global, kind: u8, body: &[u8], first: u64) -> Result<Opening, CursorFault>
+fn opening_of(kind: u8, body: &[u8], first: u64) -> Result<Opening<'_>, CursorFault>
     requires { first + (9 + length body.now) < 2 ^ 64 }
     ensures behind { IfOk result (λ o. o.behind ≡ first + (9 + length body.now)) }
     ensures cause { IfErr result (λ e. IfFolder e ⊥) }
@@ -183,30 +157,22 @@ fn opening_of(alloc: Global, kind: u8, body: &[u8], first: u64) -> Result<Openin
 {
     let behind = first + (9 + body.len() as u64);
     match view_body(kind, body) {
-        Some(View::Inner { label, .. }) => name_opening(alloc, &label, true, behind),
-        Some(View::Leaf { label, .. }) => name_opening(alloc, &label, false, behind),
+        Some(View::Inner { label, .. }) => Ok(named_by(label, true, behind)),
+        Some(View::Leaf { label, .. }) => Ok(named_by(label, false, behind)),
         Some(View::Alt { .. }) => Err(CursorFault::Damage),
         None => Err(CursorFault::Damage),
     }
 }
 
 // The opening of a node with this label.
-fn name_opening(
-    alloc: Global,
-    label: &LabelView<'_>,
-    is_inner: bool,
-    behind: u64,
-) -> Result<Opening, CursorFault>
-    ensures is { IfOk result (λ o. (name_view o.name ≡ (shown_label label.now).name)
-        × (o.is_inner ≡ is_inner) × (o.behind ≡ behind)) }
-    ensures memory { IfErr result (λ e. e ≡ Memory) }
+fn named_by(label: LabelView<'_>, is_inner: bool, behind: u64) -> Opening<'_>
+    ensures name { shown_name result.name ≡ (shown_label label.entry).name }
+    ensures inner { result.is_inner ≡ is_inner }
+    ensures behind { result.behind ≡ behind }
 {
-    match label.name().copy(alloc) {
-        Ok(name) => Ok(Opening {
-            name,
-            is_inner,
-            behind,
-        }),
-        Err(_) => Err(CursorFault::Memory),
+    Opening {
+        name: label.name(),
+        is_inner,
+        behind,
     }
 }

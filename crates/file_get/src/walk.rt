@@ -8,8 +8,9 @@ ghost use Rattle.file_get.specs.Visits.{Visited};
 ghost use Rattle.file_get.specs.Printed.{RowPrinted, ChildPrinted, NodePrinted};
 ghost use Rattle.file_get.specs.Inside.{InsidePrinted, OpenedPrinted};
 ghost use Rattle.keyed_tree.specs.Data.{tag};
-ghost use Rattle.keyed_tree.specs.View.{name_view};
+ghost use Rattle.record_parts.specs.Shown.{shown_name};
 
+use crate::bytes::Bytes;
 use crate::fault::GetFault;
 use crate::look::{Sight, look};
 use crate::print::{print_attribute, print_leaf};
@@ -17,8 +18,7 @@ use crate::read::{Opening, read_opening};
 use crate::span::{Ask, Place, Span};
 use file_rows::{Child, Row, count_children, read_child, row_of};
 use jsonml_text::Printer;
-use keyed_tree::Name;
-use record_parts::DEEPEST;
+use record_parts::{DEEPEST, NameView};
 use std::sync::ledger::Ledger;
 use timestamp_tree::Steps;
 use xa_outside::{Folder, Sink};
@@ -149,31 +149,15 @@ fn print_node<F: Folder, K: Sink, L: Ledger>(
         (state F.files F.draft F.numbers F.faults K.taken K.faults
         folder.new sink.new printer.new steps.new) result }
 {
-    let opening = read_opening(ask, folder, child)?;
+    let mut body = Bytes::new(ask.alloc);
+    let opening = read_opening(ask, folder, child, &mut body)?;
     match &opening.name {
-        Name::Attr(name) => {
-            print_attribute(
-                ask,
-                child,
-                place,
-                &opening,
-                name.as_str(),
-                folder,
-                printer,
-                sink,
-            )
+        NameView::Attr(name) => {
+            print_attribute(ask, child, place, &opening, name, folder, printer, sink)
         }
-        Name::Tag(tag) => {
+        NameView::Tag(tag) => {
             print_element(
-                ask,
-                child,
-                place,
-                &opening,
-                tag.as_str(),
-                folder,
-                printer,
-                sink,
-                steps,
+                ask, child, place, &opening, tag, folder, printer, sink, steps,
             )
         }
     }
@@ -185,7 +169,7 @@ fn print_element<F: Folder, K: Sink, L: Ledger>(
     ask: Ask<'_>,
     child: Child,
     place: Place,
-    opening: &Opening,
+    opening: &Opening<'_>,
     text: &str,
     folder: &mut F,
     printer: &mut Printer,
@@ -195,7 +179,7 @@ fn print_element<F: Folder, K: Sink, L: Ledger>(
     requires behind { opening.now.behind ≤ child.end }
     requires depth { place.depth ≤ 120 }
     requires stands { StandsIn place.depth place.has_item printer.old }
-    requires name { name_view opening.now.name ≡ tag text.now }
+    requires name { shown_name opening.now.name ≡ tag text.now }
     ensures { OpenedPrinted ask.entry.version ask.entry.name.now (child_view child) opening.now
         place.depth place.has_item
         (state F.files F.draft F.numbers F.faults K.taken K.faults
@@ -227,7 +211,7 @@ fn print_inside<F: Folder, K: Sink, L: Ledger>(
     ask: Ask<'_>,
     child: Child,
     depth: u32,
-    opening: &Opening,
+    opening: &Opening<'_>,
     folder: &mut F,
     printer: &mut Printer,
     sink: &mut K,

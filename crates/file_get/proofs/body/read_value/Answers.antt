@@ -5,7 +5,7 @@ use Rattle.file_get.proofs.body.read_value.Goals as goal
 pub returns-in-Ok-clause-told : goal.returns-in-Ok-clause-told
 returns-in-Ok-clause-told g c = λ last bytes b tells within stands ends is. (
     let read = c.in-Ok.ensures.told last bytes tells (omega (arith, within, c.requires)) in
-    c.whole_value.ensures.told b (value-taken bytes _ _ c.args.at c.args.end b c.deref.ensures.value read stands ends) is)
+    c.body_of.ensures.told b (value-taken bytes _ _ c.args.at c.args.end b c.as_slice.ensures.value read stands ends) is)
 
-pub returns-clause-told : goal.returns-clause-told
-returns-clause-told g c = λ last bytes b tells within stands ends is. c.in-Err.ensures.told last bytes tells (omega (arith, within, c.requires))
+pub returns-in-Err-clause-told : goal.returns-in-Err-clause-told
+returns-in-Err-clause-told g c = λ last bytes b tells within stands ends is. c.in-Err.ensures.told last bytes tells (omega (arith, within, c.requires))

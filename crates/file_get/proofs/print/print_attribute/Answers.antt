@@ -1,10 +1,10 @@
-use Rattle.std.proofs.Common.{◌≡◌, ℕ, Bool, nat_lt, true, false, ap, Err, Ok, arith}
+use Rattle.std.proofs.Common.{◌≡◌, ℕ, Bool, nat_lt, true, false, ap, Err, Ok, sym, subst, arith}
 use Rattle.std.proofs.lemmas.Bool.Decides.{nat_tests}
 use Rattle.jsonml_tree.specs.View.{scalar_view}
-use Rattle.keyed_tree.specs.View.{key_view}
+use Rattle.file_get.specs.LeafBodies.{body_view}
 use Rattle.keyed_tree.specs.Proper.{is_scalar}
 use Rattle.file_rows.specs.View.{child_view}
-use Rattle.file_get.specs.Told.{of_cursor}
+use Rattle.file_get.specs.declared.fault.GetFault.{GetFault}
 use Rattle.file_get.specs.State.{state}
 use Rattle.file_get.specs.Inside.{OpenedPrinted}
 use Rattle.file_get.specs.declared.fault.GetFault.TheVariants.{Out}
@@ -34,50 +34,62 @@ returns-then-opening g c = λ steps. (
       | then-opening-via-else-opening+else-place-eq0+then-place w ↦ differ _ w.if-place.true first
     ]))
 
-pub returns-in_err-value : goal.returns-in_err-value
-returns-in_err-value g c = λ steps. (
+pub returns-in_err-attr-in-Ok-Scalar : goal.returns-in_err-attr-in-Ok-Scalar
+returns-in_err-attr-in-Ok-Scalar g c = λ steps. (
     let f = g.F.Folder in
     let k = g.K.Sink in
     let a = c.args in
-    let e = c.in_err-value in
-    let got = e.ensures in
-    let s = state f.files f.draft f.numbers f.faults k.taken k.faults a.folder.now a.sink.now a.printer.now steps in
-    let t = state f.files f.draft f.numbers f.faults k.taken k.faults c.read_body.new.folder a.sink.now a.printer.now steps in
-    at-err c.from_residual.result (of_cursor e.field-0.0) c.from_residual.ensures.1 (λ r. OpenedPrinted a.ask.version a.ask.name.now (child_view a.child) a.opening.now a.place.depth a.place.has_item s t r)
-    (attr-unread f.files f.draft f.numbers f.faults k.taken k.faults a.ask.version a.ask.name.now (child_view a.child) a.opening.now a.place.depth a.name.now a.folder.now c.read_body.new.folder a.sink.now a.printer.now steps a.place.has_item e.field-0.0
-    c.requires.name got.reads got.pulls got.told))
-
-pub returns-in_err-attr-in-Scalar : goal.returns-in_err-attr-in-Scalar
-returns-in_err-attr-in-Scalar g c = λ steps. (
-    let f = g.F.Folder in
-    let k = g.K.Sink in
-    let a = c.args in
-    let got = c.in_ok-value.ensures in
-    let e = c.in_err-attr-in-Scalar in
+    let b = c.in-Ok-Scalar in
+    let got = b.ensures in
+    let e = c.in_err-attr-in-Ok-Scalar in
     let out = e.ensures in
-    let r = c.from_residual-in_err-attr-in-Scalar in
     let s = state f.files f.draft f.numbers f.faults k.taken k.faults a.folder.now a.sink.now a.printer.now steps in
     let t = state f.files f.draft f.numbers f.faults k.taken k.faults c.read_body.new.folder c.attr.new.sink c.attr.new.self steps in
-    at-err r.result Out r.ensures.1 (λ r. OpenedPrinted a.ask.version a.ask.name.now (child_view a.child) a.opening.now a.place.depth a.place.has_item s t r)
+    at-err c.from_residual.result Out c.from_residual.ensures.1 (λ r. OpenedPrinted a.ask.version a.ask.name.now (child_view a.child) a.opening.now a.place.depth a.place.has_item s t r)
     (attr-printed-at f.files f.draft f.numbers f.faults k.taken k.faults a.ask.version a.ask.name.now (child_view a.child) a.opening.now a.place.depth a.name.now a.folder.now c.read_body.new.folder a.sink.now c.attr.new.sink a.printer.now c.attr.new.self steps
-    a.place.has_item c.if-place.false (scalar_view c.in-Scalar.value) (key_view c.in_ok-value.field-0) (Err e.field-0.0) (ap key_view c.in-Scalar.is) c.requires.name c.requires.stands (g.met.F.Folder.metered c.read_body.new.folder) got.reads got.pulls got.told out.prints out.cause))
+    a.place.has_item c.if-place.false (scalar_view b.value) (body_view b.field-0) (Err e.field-0.0) (ap body_view b.field-0-is) c.requires.name c.requires.stands (g.met.F.Folder.metered c.read_body.new.folder) got.reads got.pulls got.told out.prints out.cause))
 
-pub returns-in-Scalar : goal.returns-in-Scalar
-returns-in-Scalar g c = λ steps. (
+pub returns-in-Ok-Scalar : goal.returns-in-Ok-Scalar
+returns-in-Ok-Scalar g c = λ steps. (
     let f = g.F.Folder in
     let k = g.K.Sink in
     let a = c.args in
-    let got = c.in_ok-value.ensures in
-    let e = c.in_ok-attr-in-Scalar in
+    let b = c.in-Ok-Scalar in
+    let got = b.ensures in
+    let e = c.in_ok-attr-in-Ok-Scalar in
     let out = e.ensures in
     attr-printed-at f.files f.draft f.numbers f.faults k.taken k.faults a.ask.version a.ask.name.now (child_view a.child) a.opening.now a.place.depth a.name.now a.folder.now c.read_body.new.folder a.sink.now c.attr.new.sink a.printer.now c.attr.new.self steps
-    a.place.has_item c.if-place.false (scalar_view c.in-Scalar.value) (key_view c.in_ok-value.field-0) (Ok e.field-0) (ap key_view c.in-Scalar.is) c.requires.name c.requires.stands (g.met.F.Folder.metered c.read_body.new.folder) got.reads got.pulls got.told out.prints out.cause)
+    a.place.has_item c.if-place.false (scalar_view b.value) (body_view b.field-0) (Ok e.field-0) (ap body_view b.field-0-is) c.requires.name c.requires.stands (g.met.F.Folder.metered c.read_body.new.folder) got.reads got.pulls got.told out.prints out.cause)
+
+pub returns-in-Ok-Text : goal.returns-in-Ok-Text
+returns-in-Ok-Text g c = λ steps. (
+    let f = g.F.Folder in
+    let k = g.K.Sink in
+    let a = c.args in
+    let b = c.in-Ok-Text in
+    let got = b.ensures in
+    attr-content f.files f.draft f.numbers f.faults k.taken k.faults a.ask.version a.ask.name.now (child_view a.child) a.opening.now a.place.depth a.name.now a.folder.now c.read_body.new.folder a.sink.now a.printer.now steps a.place.has_item
+    (body_view b.field-0) c.requires.name (ap (λ b. is_scalar (body_view b)) b.field-0-is) got.reads got.pulls got.told)
+
+pub returns-in-Ok-Content : goal.returns-in-Ok-Content
+returns-in-Ok-Content g c = λ steps. (
+    let f = g.F.Folder in
+    let k = g.K.Sink in
+    let a = c.args in
+    let b = c.in-Ok-Content in
+    let got = b.ensures in
+    attr-content f.files f.draft f.numbers f.faults k.taken k.faults a.ask.version a.ask.name.now (child_view a.child) a.opening.now a.place.depth a.name.now a.folder.now c.read_body.new.folder a.sink.now a.printer.now steps a.place.has_item
+    (body_view b.field-0) c.requires.name (ap (λ b. is_scalar (body_view b)) b.field-0-is) got.reads got.pulls got.told)
 
 pub returns : goal.returns
 returns g c = λ steps. (
     let f = g.F.Folder in
     let k = g.K.Sink in
     let a = c.args in
-    let got = c.in_ok-value.ensures in
-    attr-content f.files f.draft f.numbers f.faults k.taken k.faults a.ask.version a.ask.name.now (child_view a.child) a.opening.now a.place.depth a.name.now a.folder.now c.read_body.new.folder a.sink.now a.printer.now steps a.place.has_item
-    (key_view c.in_ok-value.field-0) c.requires.name (ap (λ b. is_scalar (key_view b)) c.in-Content.is) got.reads got.pulls got.told)
+    let b = c.in-Err in
+    let got = b.ensures in
+    let s = state f.files f.draft f.numbers f.faults k.taken k.faults a.folder.now a.sink.now a.printer.now steps in
+    let t = state f.files f.draft f.numbers f.faults k.taken k.faults c.read_body.new.folder a.sink.now a.printer.now steps in
+    subst (λ (d : GetFault). OpenedPrinted a.ask.version a.ask.name.now (child_view a.child) a.opening.now a.place.depth a.place.has_item s t (Err d)) (sym c.from.ensures)
+    (attr-unread f.files f.draft f.numbers f.faults k.taken k.faults a.ask.version a.ask.name.now (child_view a.child) a.opening.now a.place.depth a.name.now a.folder.now c.read_body.new.folder a.sink.now a.printer.now steps a.place.has_item b.fault
+    c.requires.name got.reads got.pulls got.told))

@@ -11,8 +11,8 @@ returns-in-Some-Inner-clause-told c = λ k h e f. (
     let n = c.in-Some-Inner in
     let l = shown_label n.label in
     let o = opens-inner a.body.now a.kind k l (shown_stamp n.field-0-1) h e f (ap (λ v. Some (shown v)) (sym n.field-0-is) ∙ n.ensures) in
-    let named = c.name_opening.ensures in
-    named-opening c.name_opening.result k a.first (a.first + (9 + length a.body.now)) l true named.is named.memory o.0 o.1 (rec-behind a.first (opening_rec k) a.body.now f))
+    let named = c.named_by.ensures in
+    named-opening c.named_by.result k a.first (a.first + (9 + length a.body.now)) l true named.name named.inner named.behind o.0 o.1 (rec-behind a.first (opening_rec k) a.body.now f))
 
 pub returns-in-Some-Leaf-clause-told : goal.returns-in-Some-Leaf-clause-told
 returns-in-Some-Leaf-clause-told c = λ k h e f. (
@@ -20,8 +20,8 @@ returns-in-Some-Leaf-clause-told c = λ k h e f. (
     let n = c.in-Some-Leaf in
     let l = shown_label n.label in
     let o = opens-leaf a.body.now a.kind k l (shown_stamp n.field-0-1) h e f (ap (λ v. Some (shown v)) (sym n.field-0-is) ∙ n.ensures) in
-    let named = c.name_opening-in-Some-Leaf.ensures in
-    named-opening c.name_opening-in-Some-Leaf.result k a.first (a.first + (9 + length a.body.now)) l false named.is named.memory o.0 o.1 (rec-behind a.first (opening_rec k) a.body.now f))
+    let named = c.named_by-in-Some-Leaf.ensures in
+    named-opening c.named_by-in-Some-Leaf.result k a.first (a.first + (9 + length a.body.now)) l false named.name named.inner named.behind o.0 o.1 (rec-behind a.first (opening_rec k) a.body.now f))
 
 pub returns-in-Some-Alt-clause-told : goal.returns-in-Some-Alt-clause-told
 returns-in-Some-Alt-clause-told c = λ k h e f. (

@@ -11,7 +11,7 @@ returns-then-not-is_closed-clause-told g c = λ end bytes more k tells within st
 pub returns-clause-told : goal.returns-clause-told
 returns-clause-told g c = λ end bytes more k tells within stands ends is leaf. (
     let y = c.in-Ok.ensures.told end bytes more _ tells within stands ends is in
-    (c.opening_of.ensures.told k is (y.0).0 (c.deref.ensures.value ∙ (y.0).1), y.1))
+    (c.opening_of.ensures.told k is (y.0).0 (c.as_slice.ensures.value ∙ (y.0).1), y.1))
 
 pub returns-in-Err-clause-told : goal.returns-in-Err-clause-told
 returns-in-Err-clause-told g c = λ end bytes more k tells within stands ends is leaf. c.in-Err.ensures.told end bytes more _ tells within stands ends is

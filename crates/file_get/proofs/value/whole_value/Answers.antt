@@ -3,7 +3,7 @@ use Rattle.keyed_tree.specs.View.{key_view}
 use Rattle.record_parts.specs.Reading.{Fails, value_at}
 use Rattle.record_parts.specs.declared.fault.RecFault.{RecFault}
 use Rattle.file_get.proofs.Bodies.{value-is, value-some, ends-there}
-use Rattle.file_get.proofs.body.whole_value.Goals as goal
+use Rattle.file_get.proofs.value.whole_value.Goals as goal
 
 pub returns-then-behind-bytes-clause-told : goal.returns-then-behind-bytes-clause-told
 returns-then-behind-bytes-clause-told c = λ b same is. (let n = c.in-Ok in (value-is b (key_view n.value) c.args.bytes.now (drop n.behind c.args.bytes.now) same is n.ensures.found).0)
