@@ -16,8 +16,8 @@ use Rattle.record_cursor.specs.Moves.{TellsFront, IsHeaderOf}
 use Rattle.record_cursor.specs.View.{PlainHeader}
 use Rattle.record_cursor.proofs.Fills.{front-length}
 use Rattle.record_cursor.proofs.Headers.{header-is}
-use Rattle.stream_merge.specs.Added.{Added, IsBlank, of_merge, IfTooLong, IfFailed}
-use Rattle.stream_merge.specs.Appended.{Grows}
+use Rattle.stream_merge.specs.Added.{Added, IsBlank, Overfull, of_merge, IfTooLong, IfFailed}
+use Rattle.stream_merge.specs.Appended.{Grows, NoRoomBehind}
 use Rattle.stream_merge.specs.Passes.{IfFolder}
 use Rattle.stream_merge.specs.declared.fault.AddFault.{AddFault}
 use Rattle.stream_merge.specs.declared.fault.AddFault.TheVariants.{Damage, Limit}
@@ -58,6 +58,27 @@ none-longer x rules vs k merge.TooLong h = h
 none-longer x rules vs k merge.Damage h = tt
 none-longer x rules vs k merge.Folder h = tt
 none-longer x rules vs k merge.Memory h = tt
+
+-- a draft that was empty is what was appended
+blank-is : (o : Option (List ℕ)) (bytes x : List ℕ) → IsBlank o → Some bytes ≡ option_map (λ (d : List ℕ). d ++ x) o → bytes ≡ x
+blank-is None bytes x blank is = absurd cc
+blank-is (Some d) bytes x blank is = some_is bytes (d ++ x) is ∙ ap (λ (z : List ℕ). z ++ x) (blank d refl)
+
+pub overfull : (b : ℕ) (h : PlainHeader) (x : List ℕ) (old now : Option (List ℕ)) (e : MergeFault) → IsBlank old → now ≡ option_map (λ (d : List ℕ). d ++ x) old → NoRoomBehind b h x (Some e) → IfTooLong (of_merge e) (Overfull b h.rules (h.versions + 1) now)
+overfull b h x old now merge.TooLong blank is r =
+    let room = r.2 in
+    let header = header_bytes h.rules (h.versions + 1) in
+    record {
+      made = room.made;
+      next = room.next;
+      short = room.short;
+      next_short = room.next_short;
+      drafted = λ bytes told. blank-is old bytes x blank (sym told ∙ is) ∙ r.1 ∙ ap (λ (y : List ℕ). header ++ y) room.same;
+      over = room.over;
+    }
+overfull b h x old now merge.Damage blank is r = tt
+overfull b h x old now merge.Folder blank is r = tt
+overfull b h x old now merge.Memory blank is r = tt
 
 pub no-damage : (x : List ℕ) (rules : List PlainRule) (vs : List PlainKeyed) (k : PlainKeyed) (e : MergeFault) → Grows x rules vs k (Some e) → of_merge e ≢ Damage
 no-damage x rules vs k merge.Damage h = absurd h

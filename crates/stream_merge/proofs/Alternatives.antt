@@ -1,5 +1,5 @@
 -- Merging the alternatives of a leaf, one after the other.
-use Rattle.std.proofs.Common.{◌≡◌, ◌≢◌, ℕ, ◌+◌, ◌-◌, ◌<◌, ◌≤◌, ◌||◌, Bool, true, false, cond, IsTrue, List, [], ◌∷◌, ◌++◌, length, map, Option, Some, None, Result, Ok, Err, refl, sym, ap, subst, ◌∙◌, append_assoc, arith}
+use Rattle.std.proofs.Common.{◌≡◌, ◌≢◌, ℕ, ◌+◌, ◌-◌, ◌<◌, ◌≤◌, ◌||◌, Bool, true, false, cond, IsTrue, List, [], ◌∷◌, ◌++◌, length, map, Option, Some, None, IfSome, Result, Ok, Err, refl, sym, ap, subst, ◌∙◌, append_assoc, arith}
 use Rattle.std.specs.List.{AllByRecursion}
 use Rattle.std.specs.Ordering.{is_eq}
 use Rattle.std.specs.Result.{IsErrAnd}
@@ -30,12 +30,15 @@ use Rattle.stream_merge.specs.Items.{alt_items, IsWithin}
 use Rattle.stream_merge.specs.LeafMerged.{LeafMerged, AltsMerged, AltMerged}
 use Rattle.stream_merge.specs.Meets.{new_alts, alts_with, HasLeaf}
 use Rattle.stream_merge.specs.Passes.{Passes, Rests, Unless, fault_of, of_spell}
+use Rattle.stream_merge.specs.Room.{WentIf}
+use Rattle.stream_merge.specs.Short.{AreShortSets, IsShortBody, IsShortTree, IsShortCall}
 use Rattle.stream_merge.specs.State.{State}
 use Rattle.stream_merge.specs.View.{PlainInherited}
 use Rattle.stream_merge.specs.declared.fault.MergeFault.{MergeFault}
 use Rattle.stream_merge.specs.declared.fault.MergeFault.TheVariants.{Damage, Folder}
 use Rattle.stream_merge.proofs.Copies.{no-more, rests-behind, ended-rests}
 use Rattle.stream_merge.proofs.Handed.{at-err}
+use Rattle.stream_merge.proofs.Rooms.{went-then, went-sent, set-alone}
 use Rattle.stream_merge.proofs.States.{passes-then, passes-none, passes-paid, does-then, does-fault, does-sends, sent-then, sent-fault}
 
 -- ---- a leaf ends
@@ -70,6 +73,7 @@ module _ (own : PlainInherited) (b : PlainKey) where
     pub appended : List ℕ
     pub passes : Passes appended 0 s t ended
     pub rests : Unless ended (Rests s.writer t.writer)
+    pub went : (m : ℕ) → s.cursor.length + 12 ≤ m → AreShortSets m own → IsShortBody m b → WentIf m own.number appended s.writer t.writer ended
     pub alternatives : (w : ℕ) (xs : List PlainAlt) (next : List PlainItem) → AllByRecursion (IsWithin w) (alt_items xs ++ leaf_end_item ∷ []) → Comes s.files s.cursor (alt_items xs ++ leaf_end_item ∷ next)
         → IsTrue (are_alts_below own.number xs) → Does appended w (calls_of xs ++ closing (found || has_alt b xs)) next s t ended
 
@@ -95,6 +99,7 @@ module _ (own : PlainInherited) (b : PlainKey) where
       appended = h.appended;
       passes = h.passes;
       rests = h.rests;
+      went = h.went;
       alternatives = λ w xs next small comes below. subst (λ (cs : List WriterCall). Does h.appended w cs next s u e) (sym (all-left xs)) (h.alternatives w xs next small comes below);
     };
   }
@@ -116,6 +121,7 @@ module _ (own : PlainInherited) (b : PlainKey) where
     appended = m.appended ++ h.appended;
     passes = passes-then m.appended h.appended s t u e 0 0 0 (omega arith) m.passes h.passes;
     rests = (let begun = m.begun in rests-behind s.writer t.writer u.writer e begun.inners h.rests);
+    went = λ z file sets body. went-then z own.number m.appended h.appended s.writer t.writer u.writer e (m.went z file sets) (h.went z (let passes = m.passes in let long = passes.same_length in omega (arith, long, file)) sets body);
     alternatives = more found same s t u e m h;
   }
 
@@ -152,12 +158,16 @@ module _ (own : PlainInherited) (b : PlainKey) where
   -- the next one fails
   pub alts-failed : {T : Type 0} {found : Bool} {s t u : State} {f : MergeFault} (r : Result T MergeFault) → IsErrAnd r (λ d. d ≡ f) → Merging found s t → AltMerged own b t u (Err f) → AltsMerged own b s u (fault_of r)
   alts-failed {found = found} {s = s} {t = t} {u = u} {f = f} r is h m = at-err r f is (λ z. AltsMerged own b s u (fault_of z))
-      (h.rest u (Some f) (record { appended = m.appended; passes = m.passes; rests = tt; alternatives = fault found t u f m }))
+      (h.rest u (Some f) (record { appended = m.appended; passes = m.passes; rests = tt; went = λ z file sets body. m.went z file sets; alternatives = fault found t u f m }))
 
   -- the end of the leaf takes no less than what was read for it
   closing-long : (w : PlainWriter) (found : Bool) → 9 ≤ length (all_appended w (closing found))
   closing-long w true = omega arith
   closing-long w false = (let e = length-append (rec_bytes (alt_rec (Some ((own.number, own.number) ∷ [])) b)) (rec_bytes leaf_end ++ []) in omega (arith, e))
+
+  closing-short : (m : ℕ) (found : Bool) → 12 ≤ m → IsShortBody m b → AllByRecursion (IsShortCall m own.number) (closing found)
+  closing-short m true room body = (tt, tt)
+  closing-short m false room body = ((set-alone m own.number own.number room, body.short), (tt, tt))
 
   closed-rests : (v u : PlainWriter) (found : Bool) → u.inners ≡ v.inners → Rests v (after_all u (closing found))
   closed-rests v u true same = leaf-rests v u same
@@ -183,6 +193,7 @@ module _ (own : PlainInherited) (b : PlainKey) where
         appended = end.appended ++ sent.appended;
         passes = passes-paid end.appended sent.appended 9 t u v (closing found) e (closing-long u.writer found) end.passes sent.sends;
         rests = sent-rests t.writer u v found sent.appended e end.begun sent.sends;
+        went = λ z file sets body. went-then z own.number end.appended sent.appended t.writer u.writer v.writer e (end.went z file sets) (went-sent z own.number (closing found) u v e (closing-short z found (omega (arith, file)) body) sent);
         alternatives = closed found t u v e end sent.appended sent.sends;
       })
 
@@ -230,12 +241,17 @@ alts-unspelled {own = own} {b = b} {s = s} Q r e un is meter within = at-err r (
   appended = [];
   passes = passes-none s (Some (of_spell e)) meter within (inside e);
   rests = tt;
+  went = λ m file sets body. room m e un body;
   alternatives = λ w xs next small comes below. record { made = made e un xs; follows = tt; gap = omega arith };
 })
   where
     inside : (e : SpellFault) → Some (of_spell e) ≢ Some Folder
     inside spell.TooLong d = absurd cc
     inside spell.Memory d = absurd cc
+
+    room : (m : ℕ) (e : SpellFault) → Spells (FitsValue b) Q (Err e) → IsShortBody m b → WentIf m own.number [] s.writer s.writer (Some (of_spell e))
+    room m spell.TooLong h body = absurd (h body.fits)
+    room m spell.Memory h body = tt
 
     made : (e : SpellFault) → Spells (FitsValue b) Q (Err e) → (xs : List PlainAlt) → Made [] (alt_calls (merged_alts own.number own.before b xs) ++ call_end_leaf ∷ []) s s (Some (of_spell e))
     made spell.TooLong h xs = λ all. h (body-fits own.number own.before b xs (call_end_leaf ∷ []) s.writer all)
@@ -249,6 +265,7 @@ leaf-merged {own = own} {kid = kid} {l = l} {b = b} {s = s} {t = t} {e = e} is h
   appended = h.appended;
   passes = h.passes;
   rests = h.rests;
+  went = λ m file sets short. h.went m file sets (subst (λ (o : Option PlainKeyed). IfSome o (λ k. IsShortTree m k)) is short).1;
   inside = λ w m st xs next small comes below fit. (
       subst (λ (o : Option PlainKeyed). Does h.appended w (alt_calls (alts_with own.number own.before xs o) ++ call_end_leaf ∷ []) next s t e) (sym is) (h.alternatives w xs next small comes below));
 }
@@ -259,6 +276,7 @@ leaf-copied {own = own} {kid = kid} {s = s} {t = t} {e = e} is h = record {
   appended = h.appended;
   passes = h.passes;
   rests = h.rests;
+  went = λ m file sets short. h.went m own.number file;
   inside = λ w m st xs next small comes below fit. (
       subst (λ (o : Option PlainKeyed). Does h.appended w (alt_calls (alts_with own.number own.before xs o) ++ call_end_leaf ∷ []) next s t e) (sym is) (h.alternatives w xs next small comes));
 }
@@ -269,6 +287,7 @@ leaf-damaged {own = own} {kid = kid} {l = l} {ks = ks} {s = s} is meter within =
   appended = [];
   passes = passes-none s (Some Damage) meter within (λ e. absurd cc);
   rests = tt;
+  went = λ m file sets short. tt;
   inside = λ w m st xs next small comes below fit. absurd (no-fit m st xs (subst (λ (o : Option PlainKeyed). IsTrue (if_there o (λ c. fits (leaf_node m st xs) c))) is fit));
 }
   where

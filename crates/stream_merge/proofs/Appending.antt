@@ -35,17 +35,19 @@ use Rattle.record_writer.specs.Walks.{row_calls}
 use Rattle.record_writer.specs.declared.fault.WriteFault.{WriteFault}
 use Rattle.record_writer.specs.declared.fault.WriteFault.TheVariants as writer
 use Rattle.record_writer.specs.declared.writer.Writer.{Writer}
-use Rattle.stream_merge.specs.Appended.{Reads, with_writer, Grows, NodesAppended, VersionAppended}
+use Rattle.stream_merge.specs.Appended.{Reads, with_writer, Grows, NoRoomBehind, NodesAppended, VersionAppended}
 use Rattle.stream_merge.specs.Does.{Made, Walks, Sends, Sent, Does}
 use Rattle.stream_merge.specs.Items.{row_items, IsWithin}
 use Rattle.stream_merge.specs.Passes.{IfFolder, Passes, of_cursor, of_writer, unpaid}
 use Rattle.stream_merge.specs.RowMerged.{RowMerged}
+use Rattle.stream_merge.specs.Short.{IsShortTree}
 use Rattle.stream_merge.specs.State.{State, state, lead}
 use Rattle.stream_merge.specs.View.{PlainInherited}
 use Rattle.stream_merge.specs.declared.fault.MergeFault.{MergeFault}
 use Rattle.stream_merge.specs.declared.fault.MergeFault.TheVariants.{Damage, Folder, TooLong, Memory}
 use Rattle.stream_merge.proofs.States.{Nexts, Stays, plain, lengthens-none, wrote-all, passes-then, passes-as, made-fault, does-sends, gap-read, gave, gave-stop, gave-takes, failed, passes-paid}
 use Rattle.stream_merge.proofs.Items.{finish-reads}
+use Rattle.stream_merge.proofs.Rooms.{went-read, went-then, went-sent, room-of}
 
 -- ---- a writer could not begin
 
@@ -77,6 +79,11 @@ begins-grows x rules vs k writer.TooLong h = absurd (h refl)
 begins-grows x rules vs k writer.Folder h = tt
 begins-grows x rules vs k writer.Memory h = tt
 
+begins-room : {T : Type 0} (b : ℕ) (h : PlainHeader) (x : List ℕ) (e : WriteFault) → ◌≢◌ {A = Result T WriteFault} (Err e) (Err writer.TooLong) → NoRoomBehind b h x (Some (of_writer e))
+begins-room b h x writer.TooLong fits = absurd (fits refl)
+begins-room b h x writer.Folder fits = tt
+begins-room b h x writer.Memory fits = tt
+
 pub version-unbegun : {S T : Type 0} (files : S → Option Files) (draft : S → Option (List ℕ)) (numbers : S → Numbers) (count : S → ℕ) (h : PlainHeader) (k : PlainKeyed) (old new : S) (c : PlainCursor) (bytes : List ℕ) (e : WriteFault)
     → IsMeter (numbers old) → Appends {T = T} files draft numbers count old new bytes (Err e) → ◌≢◌ {A = Result T WriteFault} (Err e) (Err writer.TooLong) → VersionAppended files draft numbers count h k old new c (Some (of_writer e))
 version-unbegun {T = T} files draft numbers count h k old new c bytes e meter did fits =
@@ -92,6 +99,7 @@ version-unbegun {T = T} files draft numbers count h k old new c bytes e meter di
         pulls = PullsAndDrafts-more 0 (h.length - h.first) (numbers old) (numbers new) (omega arith) begun.counts;
         ahead = tt;
       };
+      no_room = λ b file tree. begins-room {T = T} b h begun.bytes e fits;
       grows = λ front rules vs tells is sound. begins-grows {T = T} begun.bytes rules vs k e fits;
       gap = λ front rules vs a tells is sound of. omega (arith, gap);
     }
@@ -183,11 +191,15 @@ module _ {S : Type 0} (files : S → Option Files) (draft : S → Option (List �
         subst (λ (cs : List PlainKeyed). Does row.appended w (row_calls h.now (merged_row h.number h.before ks cs)) (finish ∷ []) s t e) one
         (row.row w ks m (finish ∷ []) small comes below (subst (λ (cs : List PlainKeyed). IsTrue (all_fit ks cs)) (sym one) fit))
 
+    its-kids : (b : ℕ) → IsShortTree b k → AllByRecursion (IsShortTree b) kids
+    its-kids b tree = subst (λ (z : List PlainKeyed). AllByRecursion (IsShortTree b) z) (sym one) (tree, tt)
+
     -- the nodes could not be merged
     pub nodes-unmerged : (e : MergeFault) → RowMerged h kids s p (Some e) → NodesAppended files draft numbers count h k old new c writer_then (Some e)
     nodes-unmerged e row = record {
       appended = row.appended;
       reads = reads-fault row.appended unpaid e row.passes;
+      no_room = λ b file sets tree. room-of b h.number row.appended s.writer p.writer (Some e) (row.went b file sets (its-kids b tree));
       nodes = λ w ks m small last comes below fit. (
           let does = row-does p (Some e) row w ks m small comes below fit in
           let cs = calls ks ++ call_finish ∷ [] in
@@ -202,6 +214,8 @@ module _ {S : Type 0} (files : S → Option Files) (draft : S → Option (List �
           let sends = sent.sends in
           record {
             appended = x;
+            no_room = λ b file sets tree. room-of b h.number x s.writer p.writer (Some e)
+                (went-then b h.number row.appended sent.appended s.writer t.writer p.writer (Some e) (row.went b file sets (its-kids b tree)) (went-sent b h.number (call_finish ∷ []) t p (Some e) (tt, tt) sent));
             reads = reads-fault x unpaid e (passes-then row.appended sent.appended s t p (Some e) unpaid 0 unpaid (omega arith) row.passes sends.passes);
             nodes = λ w ks m small last comes below fit. (
                 let both = does-sends row.appended sent.appended s t p (Some e) w (calls ks) (call_finish ∷ []) (finish ∷ []) (row-does t None row w ks m small comes below fit) sends in
@@ -226,6 +240,7 @@ module _ {S : Type 0} (files : S → Option Files) (draft : S → Option (List �
             let passes = finished-passes in
             record {
               appended = bytes ++ [];
+              no_room = λ b file sets tree. room-of b h.number (bytes ++ []) s.writer s.writer (Some (of_cursor e)) (went-read b h.number (bytes ++ []) s.writer s.writer e);
               reads = reads-fault (bytes ++ []) unpaid (of_cursor e) (passes-then bytes [] s q p (Some (of_cursor e)) unpaid 0 unpaid (omega arith) passes (failed 0 q p e passes.within stays));
               nodes = λ w ks m small last comes below fit. (
                   let all = called w ks m small comes below fit in
@@ -244,6 +259,7 @@ module _ {S : Type 0} (files : S → Option Files) (draft : S → Option (List �
         pub nodes-other : (item : Item) → item ≢ Finish → Nexts q p item → NodesAppended files draft numbers count h k old new c writer_then (Some Damage)
         nodes-other item other nexts = record {
           appended = bytes ++ [];
+          no_room = λ b file sets tree. tt;
           reads = reads-fault (bytes ++ []) unpaid Damage (passes-then bytes [] s q p (Some Damage) unpaid 0 unpaid (omega arith) finished-passes (gave-stop 0 q p item Damage (λ e. absurd cc) nexts));
           nodes = λ w ks m small last comes below fit. (
               let all = called w ks m small comes below fit in
@@ -268,6 +284,7 @@ module _ {S : Type 0} (files : S → Option Files) (draft : S → Option (List �
             let less = last-ahead (numbers old) t.numbers q.numbers (numbers new) (length (appended t.writer call_finish)) size meter before.ahead (finish-long t.writer) few drafted nexts.numbers in
             record {
               appended = bytes;
+              no_room = λ b file sets tree. tt;
               reads = reads-all bytes (unpaid + size) less (passes-as (bytes ++ []) bytes (unpaid + size) s p None (append-nil bytes) (passes-then bytes [] s q p None unpaid size (unpaid + size) (omega arith) finished-passes (gave q p item nexts)));
               nodes = λ w ks m small last comes below fit. (
                   let all = called w ks m small comes below fit in

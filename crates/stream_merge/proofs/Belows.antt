@@ -1,5 +1,5 @@
 -- Writing the kids that come before a label, one after the other.
-use Rattle.std.proofs.Common.{◌≡◌, ◌<◌, ◌≤◌, List, [], ◌∷◌, ◌++◌, length, Option, Some, None, Result, IsTrue, refl, sym, ap, subst, ◌∙◌, append_assoc, arith}
+use Rattle.std.proofs.Common.{◌≡◌, ℕ, ◌<◌, ◌≤◌, List, [], ◌∷◌, ◌++◌, length, Option, Some, None, Result, IsTrue, refl, sym, ap, subst, ◌∙◌, append_assoc, arith}
 use Rattle.std.specs.Result.{IsErrAnd}
 use Rattle.std.specs.declared.cmp.Ordering.TheVariants.{Less, Equal, Greater}
 use Rattle.std.proofs.lemmas.List.{append-nil}
@@ -20,12 +20,15 @@ use Rattle.stream_merge.specs.Does.{Made, Sends, Sent}
 use Rattle.stream_merge.specs.First.{HaveFitLabels, SendsFirst}
 use Rattle.stream_merge.specs.Meets.{rest_of}
 use Rattle.stream_merge.specs.Passes.{Passes, fault_of}
+use Rattle.stream_merge.specs.Room.{WentIf}
+use Rattle.stream_merge.specs.Short.{IsShortTree}
 use Rattle.stream_merge.specs.State.{State}
 use Rattle.stream_merge.specs.View.{PlainInherited}
 use Rattle.stream_merge.specs.declared.fault.MergeFault.{MergeFault}
 use Rattle.stream_merge.specs.declared.fault.MergeFault.TheVariants.{Damage, Folder, TooLong, Memory}
 use Rattle.stream_merge.proofs.Handed.{at-err}
 use Rattle.stream_merge.proofs.Puts.{shaped-label}
+use Rattle.stream_merge.proofs.Rooms.{went-none, went-then, went-sent, rest-calls, label-fits}
 use Rattle.stream_merge.proofs.States.{fit-append, passes-none, passes-then, sends-fault, sends-then, walks-none}
 use Rattle.stream_merge.proofs.Taken.{Splits, splits_none, splits_on, splits_at, splits_before}
 use Rattle.stream_merge.proofs.Weaving.{AreShapedKids}
@@ -54,6 +57,7 @@ module _ (h : PlainInherited) (l : PlainLabel) where
         appended = x ++ rest.appended;
         passes = passes-then x rest.appended s t u e 0 0 0 (omega arith) a.passes rest.passes;
         same_gap = rest.same_gap ∙ a.same_gap;
+        went = λ b room sets kids. went-then b h.number x rest.appended s.writer t.writer u.writer e (went-sent b h.number (kid_calls c) s t None (rest-calls b h (c ∷ []) room sets (kids.0, tt)) first) (rest.went b room sets kids.1);
         sends = subst (λ (z : List WriterCall). SendsFirst (c ∷ cs) (x ++ rest.appended) z s u e) (sym (calls-on c cs low)) (both e rest.sends);
       }
     where
@@ -76,6 +80,7 @@ module _ (h : PlainInherited) (l : PlainLabel) where
         appended = x;
         passes = a.passes;
         same_gap = a.same_gap;
+        went = λ b room sets kids. went-sent b h.number (kid_calls c) s t (Some f) (rest-calls b h (c ∷ []) room sets (kids.0, tt)) sent;
         sends = λ ds fit. subst (λ (z : List WriterCall). Sends x z s t (Some f)) (sym (append_assoc (kid_calls c) (low_calls cs) ds) ∙ ap (λ (z : List WriterCall). z ++ ds) (sym (calls-on c cs low)))
             (sends-fault x s t f (kid_calls c) (low_calls cs ++ ds) a);
       }
@@ -87,6 +92,7 @@ module _ (h : PlainInherited) (l : PlainLabel) where
         appended = [];
         passes = passes f un;
         same_gap = refl;
+        went = λ b room sets kids. room_left f un b kids.0;
         sends = λ ds fit. record { passes = passes f un; made = made f un ds fit; same_cursor = refl; same_gap = refl; paid = tt };
       }
     where
@@ -95,6 +101,12 @@ module _ (h : PlainInherited) (l : PlainLabel) where
       passes Memory un = passes-none s (Some Memory) meter within (λ e. absurd cc)
       passes Damage un = absurd un
       passes Folder un = absurd un
+
+      room_left : (f : MergeFault) → IsUnspelled (FitsLabel (label_of c)) f → (b : ℕ) → IsShortTree b c → WentIf b h.number [] s.writer s.writer (Some f)
+      room_left TooLong un b short = absurd (un (label-fits b c short))
+      room_left Memory un b short = tt
+      room_left Damage un b short = tt
+      room_left Folder un b short = tt
 
       made : (f : MergeFault) → IsUnspelled (FitsLabel (label_of c)) f → (ds : List WriterCall) → (AllFit s.writer (low_calls (c ∷ cs) ++ ds) → HaveFitLabels (c ∷ cs)) → Made [] (low_calls (c ∷ cs) ++ ds) s s (Some f)
       made TooLong un ds fit = λ all. un (fit all).0
@@ -110,6 +122,7 @@ module _ (h : PlainInherited) (l : PlainLabel) where
         appended = [];
         passes = passes;
         same_gap = refl;
+        went = λ b room sets kids. went-none b h.number s.writer s.writer refl;
         sends = subst (λ (z : List PlainKeyed). Sends [] (row_calls h.now (rest_of h.number h.before z)) s s None) (sym none) (record { passes = passes; made = walks-none s; same_cursor = refl; same_gap = refl; paid = omega arith });
       }
 

@@ -19,6 +19,7 @@ use Rattle.stream_merge.specs.Does.{Made, Sends, Sent}
 use Rattle.stream_merge.specs.First.{SendsFirst}
 use Rattle.stream_merge.specs.Meets.{call_of, opening_of, turned, rest_of, stamp_beside, calls_beside, Begins}
 use Rattle.stream_merge.specs.Passes.{Rests, fault_of}
+use Rattle.stream_merge.specs.Short.{IsShortSet, IsShortStamp}
 use Rattle.stream_merge.specs.State.{State, lead}
 use Rattle.stream_merge.specs.View.{PlainInherited}
 use Rattle.stream_merge.specs.declared.begin.Kind.{Kind}
@@ -28,6 +29,7 @@ use Rattle.stream_merge.specs.declared.fault.MergeFault.TheVariants.{Damage, Fol
 use Rattle.stream_merge.proofs.Handed.{at-err}
 use Rattle.stream_merge.proofs.Lengths.{Longer, opening_longer}
 use Rattle.stream_merge.proofs.Puts.{row-sent}
+use Rattle.stream_merge.proofs.Rooms.{went-stop, went-then, went-sent, opening-parts, own-short, turned-short, call-short}
 use Rattle.stream_merge.proofs.States.{passes-then, passes-stop, sends-then, sends-fault}
 
 -- ---- a fault between two calls that is neither of the folder nor of the writer
@@ -94,6 +96,7 @@ module _ (kind : Kind) (h : PlainInherited) (l : PlainLabel) (st : Stamp) (cs : 
         same_gap = put.same_gap;
         paid = tt;
         begins = tt;
+        went = λ b room sets kids opens. put.went b room sets kids;
         sends = λ small. λ ds fit. (
             let assoc = append_assoc kids_before node_begun ds in
             subst (λ (z : List WriterCall). Sends put.appended z s t (Some e)) (sym assoc) (put.sends (node_begun ++ ds) (λ all. fit (subst (λ (z : List WriterCall). AllFit s.writer z) (sym assoc) all))));
@@ -111,6 +114,7 @@ module _ (kind : Kind) (h : PlainInherited) (l : PlainLabel) (st : Stamp) (cs : 
         same_gap = put.same_gap;
         paid = tt;
         begins = tt;
+        went = λ b room sets kids opens. went-stop b h.number put.appended s.writer t.writer e inside.1;
         sends = λ small. λ ds fit. record { passes = passes; made = stop-made put.appended (calls_beside kind h l st cs ++ ds) s t e inside.1 (damage small); same_cursor = first.same_cursor; same_gap = put.same_gap; paid = tt };
       })
 
@@ -120,7 +124,7 @@ module _ (kind : Kind) (h : PlainInherited) (l : PlainLabel) (st : Stamp) (cs : 
   node-sent-beside r u has stamp own given there is owns gives longer none put second =
       let first = put.sends in
       let b = second.sends in
-      let rests = row-sent s t h.now (rest_of h.number h.before (below l cs)) none (record { appended = put.appended; sends = first }) in
+      let rests = row-sent s t h.now (rest_of h.number h.before (below l cs)) none (record { appended = put.appended; sends = first; stops = tt }) in
       let turns : turned h.number h.before has st ≡ stamp_beside h l st cs = ap (λ (z : Bool). turned h.number h.before z st) there in
       let sets : given.now ≡ set_in (turned h.number h.before has st) h.now = ap (λ (z : PlainInherited). z.now) (gives ∙ owns) in
       let called : call_of kind l stamp given.now ∷ [] ≡ node_begun = (λ i. call_of kind l (is i) (sets i) ∷ []) ∙ (λ i. call_of kind l (turns i) (set_in (turns i) h.now) ∷ []) in
@@ -131,6 +135,13 @@ module _ (kind : Kind) (h : PlainInherited) (l : PlainLabel) (st : Stamp) (cs : 
         same_gap = b.same_gap ∙ first.same_gap;
         paid = opening-paid r s t u put.appended second.appended kids_before kind l st stamp given.now longer first b;
         begins = begins-sent r s.writer t u second.appended kind l stamp given.now rests b;
+        went = λ c room sets kids opens. (
+            let parts = opening-parts c kind l st opens in
+            let mine = own-short c h has st parts.1 sets in
+            let set : IsShortSet c h.number given.now = subst (λ (z : PlainInherited). IsShortSet c h.number z.now) (sym (gives ∙ owns)) mine.now in
+            let new : IsShortStamp c h.number stamp = subst (λ (z : Stamp). IsShortStamp c h.number z) (sym is) (turned-short c h.number h.before has st parts.1 sets.before) in
+            went-then c h.number put.appended second.appended s.writer t.writer u.writer (fault_of r) (put.went c room sets kids)
+            (went-sent c h.number (call_of kind l stamp given.now ∷ []) t u (fault_of r) (call-short c h.number kind l stamp given.now parts.0 new set, tt) second));
         sends = λ small. ends (fault_of r) (subst (λ (z : List WriterCall). Sends x (kids_before ++ z) s u (fault_of r)) called (sends-then put.appended second.appended s t u (fault_of r) kids_before (call_of kind l stamp given.now ∷ []) first b));
       }
     where

@@ -22,6 +22,8 @@ use Rattle.stream_merge.specs.Does.{Sends, Sent, Does}
 use Rattle.stream_merge.specs.Items.{alt_items, end_of, node_items, row_items, IsWithin}
 use Rattle.stream_merge.specs.Meets.{call_of, opening_of, Begins}
 use Rattle.stream_merge.specs.Passes.{Passes, Rests, Opens, Closes, Unless, of_cursor, unpaid}
+use Rattle.stream_merge.specs.Room.{WentIf}
+use Rattle.stream_merge.specs.Short.{IsShortSet, IsShortCall}
 use Rattle.stream_merge.specs.State.{State}
 use Rattle.stream_merge.specs.declared.begin.Kind.{Kind}
 use Rattle.stream_merge.specs.declared.begin.Kind.TheVariants.{Inner, Leaf}
@@ -30,6 +32,7 @@ use Rattle.stream_merge.specs.declared.fault.MergeFault.TheVariants.{Damage}
 use Rattle.stream_merge.proofs.States.{passes-then, passes-more, does-then, does-fault, takes-only, takes-sends, Takes, Nexts, Stays, Front, gave, gave-stop, gave-takes, gave-sent, failed, failed-does}
 use Rattle.stream_merge.proofs.Besides.{call-bytes, begins}
 use Rattle.stream_merge.proofs.Copies.{no-more, rests-behind}
+use Rattle.stream_merge.proofs.Rooms.{went-none, went-read, went-then, went-call, opening-parts, stamp-plain, set-in, call-short}
 
 -- ---- nothing is written
 
@@ -46,6 +49,7 @@ child-failed q s t e within stays = record {
   passes = failed 0 s t e within stays;
   rests = tt;
   onward = tt;
+  went = λ b n file set. went-read b n [] s.writer t.writer e;
   node_copied = λ w k next small comes. (tt, failed-does [] w (node_items q k ++ next) s t e (node_calls q k) next stays (node-front q w k next small) comes);
   end_taken = λ w n next small comes. (tt, failed-does [] w (end_item n ∷ next) s t e [] next stays (end-front w n next small) comes);
 }
@@ -101,6 +105,10 @@ pub opening-read : (kind : Kind) (c : Standing) (l : PlainLabel) (st : Stamp) �
 opening-read Inner c l st = refl
 opening-read Leaf c l st = refl
 
+pub opening-size : (kind : Kind) (c : Standing) (l : PlainLabel) (st : Stamp) → size_of c (opening kind l st) ≡ length (rec_bytes (opening_of kind l st))
+opening-size Inner c l st = refl
+opening-size Leaf c l st = refl
+
 pub opening-long : (kind : Kind) (c : Standing) (l : PlainLabel) (st : Stamp) → 0 < size_of c (opening kind l st)
 opening-long Inner c l st = omega arith
 opening-long Leaf c l st = omega arith
@@ -127,6 +135,7 @@ pub record Part (kind : Kind) (q : List (ℕ × ℕ)) (l : PlainLabel) (st : Sta
   pub appended : List ℕ
   pub passes : Passes appended 0 s t ended
   pub rests : (v : PlainWriter) → Begins kind v s.writer → Unless ended (Rests v t.writer)
+  pub went : (b n : ℕ) → s.cursor.length + 12 ≤ b → IsShortSet b n (set_in st q) → WentIf b n appended s.writer t.writer ended
   pub copied : (w : ℕ) (k : PlainNode) (next : List PlainItem) → opening kind l st ≡ first k → AllByRecursion (IsWithin w) (behind q k) → Comes s.files s.cursor (behind q k ++ next) → Does appended w (inside q k) next s t ended
 
 pub inside-part : (q own : List (ℕ × ℕ)) (l : PlainLabel) (st : Stamp) (s t : State) (e : Option MergeFault) → own ≡ set_in st q → InsideCopied own s t e → Part Inner q l st s t e
@@ -134,6 +143,7 @@ inside-part q own l st s t e set h = record {
   appended = h.appended;
   passes = h.passes;
   rests = λ v opens. unless-closed v s.writer t.writer e opens h.closed;
+  went = λ b n file short. h.went b n file (subst (λ (z : List (ℕ × ℕ)). IsShortSet b n z) (sym set) short);
   copied = kids;
 }
   where
@@ -150,6 +160,7 @@ alts-part q l st s t e h = record {
   appended = h.appended;
   passes = h.passes;
   rests = λ v begun. rests-behind v s.writer t.writer e begun.inners h.rests;
+  went = λ b n file short. h.went b n file;
   copied = alternatives;
 }
   where
@@ -183,6 +194,24 @@ module _ (kind : Kind) (q : List (ℕ × ℕ)) (s t u : State) (o : Opener kind 
   abbrev call : WriterCall
   call = call_of kind o.label o.stamp (set_in o.stamp q)
 
+  -- what is known of the set that it has, and of the call
+  own-set : (b n : ℕ) → s.cursor.length + 12 ≤ b → IsShortSet b n q → IsShortSet b n (set_in o.stamp q) × IsShortCall b n call
+  own-set b n file set =
+      let read = o.read in
+      let goes = read.goes in
+      let size = ap (size_of s.cursor.standing) o.shown in
+      let same = opening-size kind s.cursor.standing o.label o.stamp in
+      let moved = goes.moved in
+      let within = goes.within in
+      let long = goes.same_length in
+      let parts = opening-parts b kind o.label o.stamp (omega (arith, size, same, moved, within, long, file)) in
+      let stamp = stamp-plain b n o.stamp parts.1 in
+      let own = set-in b n o.stamp q stamp set in
+      (own, call-short b n kind o.label o.stamp (set_in o.stamp q) parts.0 stamp own)
+
+  begun-went : (b n : ℕ) (e : Option MergeFault) → s.cursor.length + 12 ≤ b → IsShortSet b n q → (sent : Sent (call ∷ []) t u e) → WentIf b n sent.appended s.writer u.writer e
+  begun-went b n e file set sent = (let read = o.read in went-call b n call s t u e read.writer (own-set b n file set).1 sent)
+
   begun-passes : (x : List ℕ) (e : Option MergeFault) → Sends x (call ∷ []) t u e → Passes x 0 s u e
   begun-passes x e sends =
       let few = ap (read_for s.cursor.standing) o.shown in
@@ -215,6 +244,7 @@ module _ (kind : Kind) (q : List (ℕ × ℕ)) (s t u : State) (o : Opener kind 
     passes = begun-passes sent.appended (Some f) sent.sends;
     rests = tt;
     onward = tt;
+    went = λ b n file set. begun-went b n (Some f) file set sent;
     node_copied = λ w k next small comes. (
         let b = begun-does sent.appended (Some f) sent.sends w k next small comes in
         (tt, subst (λ (cs : List WriterCall). Does sent.appended w cs next s u (Some f)) (node-called kind o.label o.stamp q k b.0) (does-fault sent.appended sent.appended s u f w (call ∷ []) (inside q k) (behind q k ++ next) next b.1)));
@@ -224,6 +254,12 @@ module _ (kind : Kind) (q : List (ℕ × ℕ)) (s t u : State) (o : Opener kind 
   module _ (v : State) (sent : Sent (call ∷ []) t u None) where
     part-passes : (e : Option MergeFault) (h : Part kind q o.label o.stamp u v e) → Passes (sent.appended ++ h.appended) 0 s v e
     part-passes e h = passes-then sent.appended h.appended s u v e 0 0 0 (omega arith) (begun-passes sent.appended None sent.sends) h.passes
+
+    part-went : (e : Option MergeFault) (h : Part kind q o.label o.stamp u v e) (b n : ℕ) → s.cursor.length + 12 ≤ b → IsShortSet b n q → WentIf b n (sent.appended ++ h.appended) s.writer v.writer e
+    part-went e h b n file set =
+        let passes = begun-passes sent.appended None sent.sends in
+        let long = passes.same_length in
+        went-then b n sent.appended h.appended s.writer u.writer v.writer e (begun-went b n None file set sent) (h.went b n (omega (arith, long, file)) (own-set b n file set).0)
 
     part-does : (e : Option MergeFault) (h : Part kind q o.label o.stamp u v e) (w : ℕ) (k : PlainNode) (next : List PlainItem) → AllByRecursion (IsWithin w) (node_items q k) → Comes s.files s.cursor (node_items q k ++ next)
         → Does (sent.appended ++ h.appended) w (node_calls q k) next s v e
@@ -239,6 +275,7 @@ module _ (kind : Kind) (q : List (ℕ × ℕ)) (s t u : State) (o : Opener kind 
       passes = part-passes (Some f) h;
       rests = tt;
       onward = tt;
+      went = part-went (Some f) h;
       node_copied = λ w k next small comes. (tt, part-does (Some f) h w k next small comes);
       end_taken = λ w n next small comes. absurd (no-end w n next small comes);
     }
@@ -259,6 +296,7 @@ module _ (kind : Kind) (q : List (ℕ × ℕ)) (s t u : State) (o : Opener kind 
           let passes = h.passes in
           let on = passes.onward in
           omega (arith, moved, size, more, stands, on));
+      went = part-went None h;
       node_copied = λ w k next small comes. (refl, part-does None h w k next small comes);
       end_taken = λ w n next small comes. absurd (no-end w n next small comes);
     }
@@ -276,6 +314,7 @@ child-ended q s t item n none shown read =
       passes = passes-more [] s t None (read_for s.cursor.standing (shown_item item)) unpaid (omega (arith, few)) (gave s t item read);
       rests = record { no_leaf = ap (λ (w : PlainWriter). w.leaf) read.writer ∙ none; inners = ap (λ (w : PlainWriter). w.inners) read.writer };
       onward = omega (arith, moved, size);
+      went = λ b n file set. went-none b n s.writer t.writer read.writer;
       node_copied = λ w k next small comes. (let taken = node-taken q w k next s t item read small comes in absurd (not-first k n (sym shown ∙ taken.given)));
       end_taken = λ w m next small comes. (refl, takes-only w (end_item m) next s t (shown_item item) (gave-takes w (end_item m) next s t item read small comes));
     }
@@ -312,6 +351,7 @@ child-damage q s t i no-inner no-leaf no-end read = record {
   passes = gave-stop 0 s t i Damage (λ e. absurd cc) read;
   rests = tt;
   onward = tt;
+  went = λ b n file set. tt;
   node_copied = λ w k next small comes. (let taken = node-taken q w k next s t i read small comes in absurd (no-first k taken.given));
   end_taken = λ w n next small comes. (let taken = gave-takes w (end_item n) next s t i read small comes in absurd (not-closing i no-end n taken.given));
 }

@@ -19,6 +19,7 @@ use Rattle.stream_merge.specs.State.{State}
 use Rattle.stream_merge.specs.declared.fault.MergeFault.{MergeFault}
 use Rattle.stream_merge.proofs.States.{passes-then, passes-fault, passes-paid, does-then, does-sends, does-fault}
 use Rattle.stream_merge.proofs.Copies.{all-front, all-back, no-more, rests-behind}
+use Rattle.stream_merge.proofs.Rooms.{went-then, went-sent}
 
 -- ---- the node that comes next, or the END
 
@@ -35,6 +36,7 @@ module _ (q : List (ℕ × ℕ)) (s t : State) where
     appended = h.appended ++ g.appended;
     passes = passes-then h.appended g.appended s t u e 0 unpaid unpaid (omega arith) h.passes g.passes;
     rests = (let rests = h.rests in rests-behind s.writer t.writer u.writer e rests.inners g.rests);
+    went = λ b n file set. went-then b n h.appended g.appended s.writer t.writer u.writer e (h.went b n file set) (g.went b n (let passes = h.passes in let long = passes.same_length in omega (arith, long, file)) set);
     row = nodes;
   }
     where
@@ -48,7 +50,7 @@ module _ (q : List (ℕ × ℕ)) (s t : State) where
           does-then h.appended g.appended s t u e w (node_calls q k) (row_calls q ks) (row_items q ks ++ end_item n ∷ next) next (no-more h.passes) d (g.row w ks n next left d.follows)
 
   pub row-done : ChildCopied q s t (Ok false) → RowCopied q s t None
-  row-done h = record { appended = h.appended; passes = h.passes; rests = h.rests; row = none }
+  row-done h = record { appended = h.appended; passes = h.passes; rests = h.rests; went = h.went; row = none }
     where
       none : (w : ℕ) (ks : PlainNodes) (n : ℕ) (next : List PlainItem) → AllByRecursion (IsWithin w) (row_items q ks ++ end_item n ∷ []) → Comes s.files s.cursor (row_items q ks ++ end_item n ∷ next)
           → Does h.appended w (row_calls q ks) next s t None
@@ -56,7 +58,7 @@ module _ (q : List (ℕ × ℕ)) (s t : State) where
       none w (node k ks) n next small comes = absurd (true≢false (sym (first-copied (Ok false) h w k ks n next small comes).0))
 
   pub row-fault : (f : MergeFault) → ChildCopied q s t (Err f) → RowCopied q s t (Some f)
-  row-fault f h = record { appended = h.appended; passes = passes-fault h.appended s t f 0 unpaid h.passes; rests = tt; row = stops }
+  row-fault f h = record { appended = h.appended; passes = passes-fault h.appended s t f 0 unpaid h.passes; rests = tt; went = h.went; row = stops }
     where
       stops : (w : ℕ) (ks : PlainNodes) (n : ℕ) (next : List PlainItem) → AllByRecursion (IsWithin w) (row_items q ks ++ end_item n ∷ []) → Comes s.files s.cursor (row_items q ks ++ end_item n ∷ next)
           → Does h.appended w (row_calls q ks) next s t (Some f)
@@ -97,6 +99,7 @@ inside-fault q s t f h = record {
   appended = h.appended;
   passes = passes-fault h.appended s t f unpaid 0 h.passes;
   closed = tt;
+  went = h.went;
   inside = λ w ks n next small comes. does-fault h.appended h.appended s t f w (row_calls q ks) (call_end_inner ∷ []) next next (h.row w ks n next small comes);
 }
 
@@ -124,5 +127,6 @@ inside-close q s t u e some h sent =
       appended = h.appended ++ sent.appended;
       passes = passes-paid h.appended sent.appended unpaid s t u (call_end_inner ∷ []) e (end-long t.writer) h.passes sends;
       closed = closes sent.appended s t u e some h.rests sends.made;
+      went = λ b n file set. went-then b n h.appended sent.appended s.writer t.writer u.writer e (h.went b n file set) (went-sent b n (call_end_inner ∷ []) t u e (tt, tt) sent);
       inside = λ w ks n next small comes. does-sends h.appended sent.appended s t u e w (row_calls q ks) (call_end_inner ∷ []) next (h.row w ks n next small comes) sends;
     }

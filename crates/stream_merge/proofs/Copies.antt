@@ -8,7 +8,7 @@ use Rattle.record_format.specs.Data.{leaf_end}
 use Rattle.record_format.specs.Spelling.{rec_bytes}
 use Rattle.record_cursor.specs.Items.{PlainItem, alt_item, leaf_end_item}
 use Rattle.record_cursor.specs.Moves.{Comes}
-use Rattle.record_cursor.specs.Next.{read_for}
+use Rattle.record_cursor.specs.Next.{read_for, size_of}
 use Rattle.record_cursor.specs.View.{shown_item}
 use Rattle.record_cursor.specs.declared.fault.CursorFault.{CursorFault}
 use Rattle.record_cursor.specs.declared.item.Item.{Item}
@@ -22,10 +22,12 @@ use Rattle.stream_merge.specs.Copied.{AltsCopied}
 use Rattle.stream_merge.specs.Does.{Made, Sends, Sent, Does}
 use Rattle.stream_merge.specs.Items.{alt_items, IsWithin}
 use Rattle.stream_merge.specs.Passes.{Passes, Rests, Unless, of_cursor}
+use Rattle.stream_merge.specs.Short.{IsShortCall}
 use Rattle.stream_merge.specs.State.{State, lead}
 use Rattle.stream_merge.specs.declared.fault.MergeFault.{MergeFault}
 use Rattle.stream_merge.specs.declared.fault.MergeFault.TheVariants.{Damage, Memory}
 use Rattle.stream_merge.proofs.States.{passes-then, does-then, does-fault, takes-sends, Nexts, Stays, front-of, gave-stop, gave-takes, gave-sent, gave-memory, failed, failed-does}
+use Rattle.stream_merge.proofs.Rooms.{went-read, went-call, went-then, alt-parts, stamp-plain}
 
 -- ---- items that all are small
 
@@ -53,6 +55,7 @@ alts-failed s t e within stays = record {
   appended = [];
   passes = failed 0 s t e within stays;
   rests = tt;
+  went = λ b n file. went-read b n [] s.writer t.writer e;
   alternatives = λ w xs next small comes. failed-does [] w (alt_items xs ++ leaf_end_item ∷ next) s t e (alt_calls xs ++ call_end_leaf ∷ []) next stays (front-of w (alt_items xs) leaf_end_item next small) comes;
 }
 
@@ -61,6 +64,7 @@ alts-memory s t item read = record {
   appended = [];
   passes = gave-stop 0 s t item Memory (λ e. absurd cc) read;
   rests = tt;
+  went = λ b n file. tt;
   alternatives = λ w xs next small comes. gave-memory [] w (alt_items xs ++ leaf_end_item ∷ next) s t item (alt_calls xs ++ call_end_leaf ∷ []) next read (front-of w (alt_items xs) leaf_end_item next small) comes;
 }
 
@@ -86,6 +90,7 @@ alts-damage s t item no-alt no-end read = record {
   appended = [];
   passes = gave-stop 0 s t item Damage (λ e. absurd cc) read;
   rests = tt;
+  went = λ b n file. tt;
   alternatives = neither;
 }
   where
@@ -119,6 +124,7 @@ alts-close s t u item e shown read sent = record {
       let long : length (all_appended t.writer (call_end_leaf ∷ [])) ≡ length (rec_bytes leaf_end) = ap length (append-nil (rec_bytes leaf_end)) in
       gave-sent sent.appended s t u item (call_end_leaf ∷ []) e (omega (arith, few, long)) read sent.sends);
   rests = (let sends = sent.sends in end-rests sent.appended s t u e read.writer sends.made);
+  went = λ b n file. went-call b n call_end_leaf s t u e read.writer tt sent;
   alternatives = closes;
 }
   where
@@ -147,6 +153,16 @@ module _ (s t u : State) (item : Item) (st : Stamp) (b : PlainKey) (shown : show
   abbrev call : WriterCall
   call = call_alt st b
 
+  call-is-short : (b n : ℕ) → s.cursor.length + 12 ≤ b → IsShortCall b n call
+  call-is-short c n file =
+      let goes = read.goes in
+      let size = ap (size_of s.cursor.standing) shown in
+      let moved = goes.moved in
+      let within = goes.within in
+      let long = goes.same_length in
+      let parts = alt-parts c st b (omega (arith, size, moved, within, long, file)) in
+      (stamp-plain c n st parts.0, parts.1)
+
   alt-passes : (x : List ℕ) (e : Option MergeFault) → Sends x (call ∷ []) t u e → Passes x 0 s u e
   alt-passes x e sends =
       let few = ap (read_for s.cursor.standing) shown in
@@ -173,6 +189,7 @@ module _ (s t u : State) (item : Item) (st : Stamp) (b : PlainKey) (shown : show
     appended = sent.appended;
     passes = alt-passes sent.appended (Some f) sent.sends;
     rests = tt;
+    went = λ c n file. went-call c n call s t u (Some f) read.writer (call-is-short c n file) sent;
     alternatives = λ w xs next small comes. (
         let k = alt-sent sent.appended (Some f) sent.sends w xs next small comes in
         let y = k.0 in
@@ -190,6 +207,7 @@ module _ (s t u : State) (item : Item) (st : Stamp) (b : PlainKey) (shown : show
         appended = sent.appended ++ h.appended;
         passes = passes-then sent.appended h.appended s u v e 0 0 0 (omega arith) passes h.passes;
         rests = rests-behind s.writer u.writer v.writer e (ap (λ (z : PlainWriter). z.inners) made.writer ∙ ap (λ (z : PlainWriter). z.inners) read.writer) h.rests;
+        went = λ c n file. went-then c n sent.appended h.appended s.writer u.writer v.writer e (went-call c n call s t u None read.writer (call-is-short c n file) sent) (h.went c n (let long = passes.same_length in omega (arith, long, file)));
         alternatives = λ w xs next small comes. (
             let k = alt-sent sent.appended None sent.sends w xs next small comes in
             let y = k.0 in

@@ -1,5 +1,5 @@
 -- The file of a sound archive with one more version.
-use Rattle.std.proofs.Common.{◌≡◌, ℕ, ◌+◌, ◌-◌, ◌≤◌, ◌<◌, List, [], ◌∷◌, ◌++◌, length, drop, Option, Some, None, Ok, sym, ap, subst, ◌∙◌, arith}
+use Rattle.std.proofs.Common.{◌≡◌, ℕ, ◌+◌, ◌-◌, ◌≤◌, ◌<◌, List, [], ◌∷◌, ◌++◌, length, drop, Option, Some, None, Ok, refl, sym, ap, subst, ◌∙◌, arith}
 use Rattle.std.specs.Prelude.{max}
 use Rattle.jsonml_text.specs.Texts.{AreTexts}
 use Rattle.key_spec.specs.Canonical.{canonical}
@@ -30,12 +30,15 @@ use Rattle.record_writer.specs.Faults.{Appends}
 use Rattle.record_writer.specs.View.{writer_view}
 use Rattle.record_writer.specs.Walks.{walk_of}
 use Rattle.record_writer.specs.declared.writer.Writer.{Writer}
-use Rattle.stream_merge.specs.Appended.{Ends, WritesNodes, Grows, NodesAppended, VersionAppended}
+use Rattle.stream_merge.specs.Appended.{Ends, WritesNodes, Grows, NoRoomBehind, NodesAppended, VersionAppended}
 use Rattle.stream_merge.specs.Passes.{Unless}
+use Rattle.stream_merge.specs.Room.{NoRoom, NoRoomIf}
+use Rattle.stream_merge.specs.Short.{AreShortSets}
 use Rattle.stream_merge.specs.State.{State, state, lead}
 use Rattle.stream_merge.specs.View.{PlainInherited}
 use Rattle.stream_merge.specs.declared.fault.MergeFault.{MergeFault}
 use Rattle.stream_merge.specs.declared.fault.MergeFault.TheVariants.{Damage, Folder, TooLong, Memory}
+use Rattle.stream_merge.proofs.Rooms.{set-plain, upto-within}
 use Rattle.stream_merge.proofs.States.{cause-then, lengthens-then, wrote-all}
 use Rattle.stream_merge.proofs.Items.{items-are, all-within, finish-within, header-length}
 use Rattle.archive_file.proofs.SoundLaws.{versions-nested}
@@ -44,6 +47,9 @@ use Rattle.stream_merge.proofs.Whole.{Heads, sound-heads, old-below, old-fits, g
 -- what the virtual root hands on, where there are so many versions
 abbrev pub root_inherited : ℕ → PlainInherited
 root_inherited n = record { number = n + 1; before = upto_pairs n; now = upto_pairs (n + 1) }
+
+root-short : (b n : ℕ) → 12 ≤ b → AreShortSets b (root_inherited n)
+root-short b n room = record { before = upto-within b n room; now = set-plain b (n + 1) (upto_pairs (n + 1)) (upto-within b (n + 1) room) }
 
 -- ---- where the file is told
 
@@ -142,12 +148,20 @@ module _ {S : Type 0} (files : S → Option Files) (draft : S → Option (List �
           pulls = PullsAndDrafts-more (0 + (c.length - c.at)) (h.length - h.first) (numbers old) (numbers new) (omega (arith, few)) (PullsAndDrafts-trans 0 (c.length - c.at) (numbers old) (numbers mid) (numbers new) wrote.counts reads.pulls);
           ahead = ahead-by e reads.ahead wrote.less;
         };
+        no_room = λ b file tree. behind b e (nodes.no_room b (omega (arith, file, length_is)) (subst (λ (p : PlainInherited). AreShortSets b p) (sym root) (root-short b h.versions (omega (arith, file)))) tree);
         grows = λ bytes rules vs tells is sound. grows-by h rules vs bytes k is sound keyed texts room z x y e begins
             (walks h rules vs bytes k is sound keyed texts room z from x y e root nodes.nodes (told bytes did.same_files tells) standing at);
         gap = λ bytes rules vs a tells is sound of. gap-by h rules vs bytes k is sound keyed texts room z a (numbers old) x y e of wrote.same_gap wrote.less
             (walks h rules vs bytes k is sound keyed texts room z from x y e root nodes.nodes (told bytes did.same_files tells) standing at);
       }
     where
+      behind : (b : ℕ) (e : Option MergeFault) → NoRoomIf b from.number nodes.appended (writer_view w) e → NoRoomBehind b h (head ++ nodes.appended) e
+      behind b None r = tt
+      behind b (Some TooLong) r = (nodes.appended, refl, subst (λ (v : PlainWriter). NoRoom b (h.versions + 1) nodes.appended v) begins (subst (λ (p : PlainInherited). NoRoom b p.number nodes.appended (writer_view w)) root r))
+      behind b (Some Damage) r = tt
+      behind b (Some Folder) r = tt
+      behind b (Some Memory) r = tt
+
       told : (bytes : List ℕ) → files mid ≡ files old → TellsFront (files old) c.name c.length bytes → TellsFront (files mid) c.name c.length bytes
       told bytes same tells = subst (λ (o : Option Files). TellsFront o c.name c.length bytes) (sym same) tells
 

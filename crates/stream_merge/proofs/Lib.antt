@@ -1,4 +1,5 @@
 pub mod States
+pub mod Rooms
 pub mod Lengths
 pub mod Weights
 pub mod Weaving

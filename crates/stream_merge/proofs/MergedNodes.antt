@@ -1,7 +1,7 @@
 -- What merging a node goes along.
-use Rattle.std.proofs.Common.{◌≡◌, ◌≢◌, ℕ, ◌+◌, ◌-◌, ◌*◌, ◌≤◌, ◌<◌, true≢false, List, [], ◌∷◌, ◌++◌, Option, Some, None, IfSome, Ok, Err, IsTrue, refl, sym, ap, subst, ◌∙◌, append_assoc, arith}
+use Rattle.std.proofs.Common.{◌≡◌, ◌≢◌, ℕ, ◌+◌, ◌-◌, ◌*◌, ◌≤◌, ◌<◌, true≢false, List, [], ◌∷◌, ◌++◌, length, Option, Some, None, IfSome, Result, Ok, Err, IsTrue, refl, sym, ap, subst, ◌∙◌, append_assoc, arith}
 use Rattle.std.specs.List.{AllByRecursion}
-use Rattle.std.specs.Option.{unwrap_or}
+use Rattle.std.specs.Option.{unwrap_or, is_some}
 use Rattle.keyed_tree.specs.Data.{PlainKey, PlainLabel, PlainKeyed, inner, leaf, kids_from}
 use Rattle.keyed_tree.specs.Kids.{kid_at, are_ordered, IsOrdered}
 use Rattle.keyed_tree.proofs.Kids.{both, kids_list-kids_from}
@@ -13,6 +13,7 @@ use Rattle.nested_merge.specs.Fits.{if_there, fits, all_fit}
 use Rattle.nested_merge.specs.Merged.{fresh, fresh_row, above, merged_row}
 use Rattle.record_format.specs.Nodes.{set_in}
 use Rattle.record_format.specs.Shapes.{IsShapedNode, AreShapedNodes}
+use Rattle.record_format.specs.Spelling.{rec_bytes}
 use Rattle.record_cursor.specs.Items.{PlainItem, leaf_end_item, end_item}
 use Rattle.record_cursor.specs.Moves.{Comes, Goes}
 use Rattle.record_cursor.specs.Next.{read_for, size_of}
@@ -33,9 +34,11 @@ use Rattle.stream_merge.specs.Does.{Sends, Sent, Does}
 use Rattle.stream_merge.specs.First.{HaveFitLabels}
 use Rattle.stream_merge.specs.Items.{alt_items, end_of, node_items, row_items, IsWithin}
 use Rattle.stream_merge.specs.LeafMerged.{LeafMerged}
-use Rattle.stream_merge.specs.Meets.{met, rest_of, kids_with, alts_with, inherited_beside, calls_beside, Begins}
-use Rattle.stream_merge.specs.Passes.{Passes, Rests, Unless, of_cursor, unpaid}
+use Rattle.stream_merge.specs.Meets.{opening_of, met, rest_of, kids_with, alts_with, inherited_beside, calls_beside, Begins}
+use Rattle.stream_merge.specs.Passes.{Passes, Rests, Unless, fault_of, of_cursor, unpaid}
+use Rattle.stream_merge.specs.Room.{WentIf}
 use Rattle.stream_merge.specs.RowMerged.{RowMerged, ChildMerged, InsideMerged, IsOpen, BegunMerged}
+use Rattle.stream_merge.specs.Short.{AreShortSets, IsShortTree}
 use Rattle.stream_merge.specs.State.{State}
 use Rattle.stream_merge.specs.View.{PlainInherited}
 use Rattle.stream_merge.specs.declared.begin.Kind.{Kind}
@@ -45,8 +48,9 @@ use Rattle.stream_merge.specs.declared.fault.MergeFault.TheVariants.{Damage}
 use Rattle.stream_merge.proofs.States.{passes-then, passes-none, passes-fault, passes-paid, gave, gave-stop, failed, does-then, does-sends, does-fault, does-stopped, takes-sends, Nexts, Stays, gave-takes, failed-does}
 use Rattle.stream_merge.proofs.Copies.{no-more, rests-behind}
 use Rattle.stream_merge.proofs.CopiedRows.{end-long, closes}
-use Rattle.stream_merge.proofs.ChildCopies.{node-front, end-front, opening, first, behind, behind-small, node-taken, not-ended, not-first, opening-read, opening-long, unless-closed, opened-some, not-inner, not-leaf, not-closing}
+use Rattle.stream_merge.proofs.ChildCopies.{node-front, end-front, opening, first, behind, behind-small, node-taken, not-ended, not-first, opening-read, opening-size, opening-long, unless-closed, opened-some, not-inner, not-leaf, not-closing}
 use Rattle.stream_merge.proofs.Puts.{row-sent}
+use Rattle.stream_merge.proofs.Rooms.{went-read, went-from, went-then, went-sent, opening-parts, own-short, rest-calls, kid-short, kids-short}
 use Rattle.stream_merge.proofs.Weaving.{inner_met, leaf_met, own_alone, kid_known}
 
 -- ---- before anything is written
@@ -58,6 +62,7 @@ child-failed h cs s t e within stays = record {
   rests = tt;
   onward = tt;
   behind = tt;
+  went = λ b file sets kids. went-read b h.number [] s.writer t.writer e;
   node_merged = λ w k next small comes below fit. (tt, λ ds labels. failed-does [] w (node_items h.before k ++ next) s t e (row_calls h.now (met h.number h.before k cs) ++ ds) next stays (node-front h.before w k next small) comes);
   end_taken = λ w m next small comes. (tt, failed-does [] w (end_item m ∷ next) s t e (row_calls h.now (rest_of h.number h.before cs)) next stays (end-front w m next small) comes);
 }
@@ -71,6 +76,7 @@ child-damage h cs s t i no-inner no-leaf no-end read = record {
   rests = tt;
   onward = tt;
   behind = tt;
+  went = λ b file sets kids. tt;
   node_merged = λ w k next small comes below fit. (let taken = node-taken h.before w k next s t i read small comes in absurd (no-first k taken.given));
   end_taken = λ w m next small comes. (let taken = gave-takes w (end_item m) next s t i read small comes in absurd (not-closing i no-end m taken.given));
 }
@@ -91,6 +97,10 @@ module _ (h : PlainInherited) (cs : List PlainKeyed) (s t u : State) (item : Ite
   no-node : (w : ℕ) (k : PlainNode) (next : List PlainItem) → AllByRecursion (IsWithin w) (node_items h.before k) → Comes s.files s.cursor (node_items h.before k ++ next) → ⊥
   no-node w k next small comes = (let taken = node-taken h.before w k next s t item read small comes in not-first k n (sym shown ∙ taken.given))
 
+  rest-went : (b : ℕ) (e : Option MergeFault) → s.cursor.length + 12 ≤ b → AreShortSets b h → AllByRecursion (IsShortTree b) cs → (sent : Sent rest t u e) → WentIf b h.number sent.appended s.writer u.writer e
+  rest-went b e file sets kids sent =
+      went-from b h.number sent.appended s.writer t.writer u.writer e read.writer (went-sent b h.number rest t u e (rest-calls b h cs (omega (arith, file)) sets kids) sent)
+
   end-sent : (e : Option MergeFault) (sent : Sent rest t u e) (w m : ℕ) (next : List PlainItem) → IsWithin w (end_item m) → Comes s.files s.cursor (end_item m ∷ next) → Does sent.appended w rest next s u e
   end-sent e sent w m next small comes = takes-sends sent.appended w (end_item m) next s t u (shown_item item) rest e (gave-takes w (end_item m) next s t item read small comes) sent.sends
 
@@ -102,6 +112,7 @@ module _ (h : PlainInherited) (cs : List PlainKeyed) (s t u : State) (item : Ite
     rests = tt;
     onward = tt;
     behind = tt;
+    went = λ b file sets kids. rest-went b (Some f) file sets kids sent;
     node_merged = λ w k next small comes below fit. absurd (no-node w k next small comes);
     end_taken = λ w m next small comes. (tt, end-sent (Some f) sent w m next small comes);
   }
@@ -121,6 +132,7 @@ module _ (h : PlainInherited) (cs : List PlainKeyed) (s t u : State) (item : Ite
         rests = subst (λ (x : PlainWriter). Rests x u.writer) read.writer (row-sent t u h.now (rest_of h.number h.before cs) (ap (λ (x : PlainWriter). x.leaf) read.writer ∙ none) sent);
         onward = omega (arith, moved, long, at);
         behind = tt;
+        went = λ b file sets kids. rest-went b None file sets kids sent;
         node_merged = λ w k next small comes below fit. absurd (no-node w k next small comes);
         end_taken = λ w m next small comes. (refl, end-sent None sent w m next small comes);
       }
@@ -193,14 +205,19 @@ module _ (h : PlainInherited) (cs : List PlainKeyed) (l : PlainLabel) (st : Stam
     appended : List ℕ
     passes : Passes appended 0 s t e
     rests : (v : PlainWriter) → Begins kind v s.writer → Unless e (Rests v t.writer)
+    went : (b : ℕ) → s.cursor.length + 12 ≤ b → AreShortSets b own → IfSome its_kid (λ k. IsShortTree b k) → WentIf b h.number appended s.writer t.writer e
     done : IsDone kind appended s t e
 
   module _ (o : Option PlainKeyed) (left : List PlainKeyed) (inherits : PlainInherited) (begun : IsBegun h l st cs o left inherits) (s t : State) (e : Option MergeFault) where
     inside-part : InsideMerged inherits o s t e → Part Inner s t e
-    inside-part merged = record { appended = merged.appended; passes = merged.passes; rests = λ v opens. unless-closed v s.writer t.writer e opens merged.closed; done = done }
+    inside-part merged = record { appended = merged.appended; passes = merged.passes; rests = λ v opens. unless-closed v s.writer t.writer e opens merged.closed; went = went; done = done }
       where
         here : IsInside Inner merged.appended own its_kid s t e
         here = subst (λ (z : PlainInherited). IsInside Inner merged.appended z its_kid s t e) begun.inherits (subst (λ (z : Option PlainKeyed). IsInside Inner merged.appended inherits z s t e) begun.same_kid merged.inside)
+
+        went : (b : ℕ) → s.cursor.length + 12 ≤ b → AreShortSets b own → IfSome its_kid (λ k. IsShortTree b k) → WentIf b h.number merged.appended s.writer t.writer e
+        went = subst (λ (z : PlainInherited). (b : ℕ) → s.cursor.length + 12 ≤ b → AreShortSets b z → IfSome its_kid (λ k. IsShortTree b k) → WentIf b z.number merged.appended s.writer t.writer e) begun.inherits
+            (subst (λ (z : Option PlainKeyed). (b : ℕ) → s.cursor.length + 12 ≤ b → AreShortSets b inherits → IfSome z (λ k. IsShortTree b k) → WentIf b inherits.number merged.appended s.writer t.writer e) begun.same_kid merged.went)
 
         done : IsDone Inner merged.appended s t e
         done w (inner_node m z ks) next same =
@@ -214,10 +231,14 @@ module _ (h : PlainInherited) (cs : List PlainKeyed) (l : PlainLabel) (st : Stam
         done w (leaf_node m z xs) next same = absurd cc
 
     leaf-part : LeafMerged inherits o s t e → Part Leaf s t e
-    leaf-part merged = record { appended = merged.appended; passes = merged.passes; rests = λ v begins. rests-behind v s.writer t.writer e begins.inners merged.rests; done = done }
+    leaf-part merged = record { appended = merged.appended; passes = merged.passes; rests = λ v begins. rests-behind v s.writer t.writer e begins.inners merged.rests; went = went; done = done }
       where
         here : IsInside Leaf merged.appended own its_kid s t e
         here = subst (λ (z : PlainInherited). IsInside Leaf merged.appended z its_kid s t e) begun.inherits (subst (λ (z : Option PlainKeyed). IsInside Leaf merged.appended inherits z s t e) begun.same_kid merged.inside)
+
+        went : (b : ℕ) → s.cursor.length + 12 ≤ b → AreShortSets b own → IfSome its_kid (λ k. IsShortTree b k) → WentIf b h.number merged.appended s.writer t.writer e
+        went = subst (λ (z : PlainInherited). (b : ℕ) → s.cursor.length + 12 ≤ b → AreShortSets b z → IfSome its_kid (λ k. IsShortTree b k) → WentIf b z.number merged.appended s.writer t.writer e) begun.inherits
+            (subst (λ (z : Option PlainKeyed). (b : ℕ) → s.cursor.length + 12 ≤ b → AreShortSets b inherits → IfSome z (λ k. IsShortTree b k) → WentIf b inherits.number merged.appended s.writer t.writer e) begun.same_kid merged.went)
 
         done : IsDone Leaf merged.appended s t e
         done w (leaf_node m z xs) next same small comes below fit =
@@ -247,14 +268,30 @@ module _ (h : PlainInherited) (cs : List PlainKeyed) (l : PlainLabel) (st : Stam
     no-end : (w m : ℕ) (next : List PlainItem) → IsWithin w (end_item m) → Comes s.files s.cursor (end_item m ∷ next) → ⊥
     no-end w m next small comes = (let taken = gave-takes w (end_item m) next s t item read small comes in not-ended kind l st m (sym shown ∙ taken.given))
 
+    -- the record that was read is short
+    opening-short : (b : ℕ) → s.cursor.length + 12 ≤ b → length (rec_bytes (opening_of kind l st)) ≤ b
+    opening-short b file =
+        let goes = read.goes in
+        let size = ap (size_of s.cursor.standing) shown in
+        let same = opening-size kind s.cursor.standing l st in
+        let moved = goes.moved in
+        let within = goes.within in
+        let long = goes.same_length in
+        omega (arith, size, same, moved, within, long, file)
+
+    began-went : {B : Type 0} (b : ℕ) (r : Result B MergeFault) → s.cursor.length + 12 ≤ b → AreShortSets b h → AllByRecursion (IsShortTree b) cs → (began : BeganBeside kind h l st cs t u r) → WentIf b h.number began.appended s.writer u.writer (fault_of r)
+    began-went b r file sets kids began =
+        went-from b h.number began.appended s.writer t.writer u.writer (fault_of r) read.writer (began.went b (omega (arith, file)) sets kids (opening-short b file))
+
     -- it was not begun
     pub child-unbegun : {B : Type 0} (f : MergeFault) → BeganBeside {T = B} kind h l st cs t u (Err f) → ChildMerged h cs s u (Err f)
-    child-unbegun f began = record {
+    child-unbegun {B = B} f began = record {
       appended = began.appended;
       passes = gave-fails began.appended s t u item f read began.passes;
       rests = tt;
       onward = tt;
       behind = tt;
+      went = λ b file sets kids. began-went {B = B} b (Err f) file sets kids began;
       node_merged = λ w k next small comes below fit. (
         tt,
         λ ds labels.
@@ -293,6 +330,14 @@ module _ (h : PlainInherited) (cs : List PlainKeyed) (l : PlainLabel) (st : Stam
       part-passes : (e : Option MergeFault) (part : Part kind u v e) → Passes (began.appended ++ part.appended) 0 s v e
       part-passes e part = passes-then began.appended part.appended s u v e 0 0 0 (omega arith) begun-passes part.passes
 
+      part-went : (e : Option MergeFault) (part : Part kind u v e) (c : ℕ) → s.cursor.length + 12 ≤ c → AreShortSets c h → AllByRecursion (IsShortTree c) cs → WentIf c h.number (began.appended ++ part.appended) s.writer v.writer e
+      part-went e part c file sets kids =
+          let passes = begun-passes in
+          let long = passes.same_length in
+          let parts = opening-parts c kind l st (opening-short c file) in
+          went-then c h.number began.appended part.appended s.writer u.writer v.writer e (began-went {B = B} c (Ok b) file sets kids began)
+          (part.went c (omega (arith, long, file)) (own-short c h (is_some its_kid) st parts.1 sets) (kid-short c l cs kids))
+
       part-does : (e : Option MergeFault) (part : Part kind u v e) (w : ℕ) (k : PlainNode) (next : List PlainItem) → AllByRecursion (IsWithin w) (node_items h.before k) → Comes s.files s.cursor (node_items h.before k ++ next)
           → IsTrue (is_node_below h.number k) → HasPlace k → Does (began.appended ++ part.appended) w (row_calls h.now (met h.number h.before k cs)) next s v e
       part-does e part w k next small comes below fit =
@@ -313,6 +358,7 @@ module _ (h : PlainInherited) (cs : List PlainKeyed) (l : PlainLabel) (st : Stam
             rests = tt;
             onward = tt;
             behind = tt;
+            went = part-went (Some f) inner;
             node_merged = λ w k next small comes below fit. (tt, λ ds labels. does-fault x x s v f w (row_calls h.now (met h.number h.before k cs)) ds next next (part-does (Some f) inner w k next small comes below fit));
             end_taken = λ w m next small comes. absurd (no-end w m next small comes);
           }
@@ -335,6 +381,7 @@ module _ (h : PlainInherited) (cs : List PlainKeyed) (l : PlainLabel) (st : Stam
             rests = subst (λ (x : PlainWriter). Rests x v.writer) read.writer (inner.rests t.writer began.begins);
             onward = omega (arith, moved, size, more, second, third);
             behind = record { label = l; are = left };
+            went = part-went None inner;
             node_merged = λ w k next small comes below fit. (
               ap Some (left ∙ ap (λ (j : PlainLabel). above j cs) (sym (same-label kind k (opened w k next small comes)))),
               part-does None inner w k next small comes below fit,
@@ -385,11 +432,15 @@ module _ (own : PlainInherited) (kid : Option PlainKeyed) (m : PlainLabel) (cs :
   kids-fit : (l : PlainLabel) (st : Stamp) (ks : PlainNodes) → IsTrue (if_there kid (λ c. fits (inner_node l st ks) c)) → IsTrue (all_fit ks cs)
   kids-fit l st ks fit = subst (λ (js : List PlainKeyed). IsTrue (all_fit ks js)) (kids_list-kids_from cs) (subst (λ (o : Option PlainKeyed). IsTrue (if_there o (λ c. fits (inner_node l st ks) c))) is fit)
 
+  its-kids : (b : ℕ) → IfSome kid (λ k. IsShortTree b k) → AllByRecursion (IsShortTree b) cs
+  its-kids b short = kids-short b cs (subst (λ (o : Option PlainKeyed). IfSome o (λ k. IsShortTree b k)) is short).1
+
   pub inside-row-fails : (f : MergeFault) → RowMerged own cs s t (Some f) → InsideMerged own kid s t (Some f)
   inside-row-fails f row = record {
     appended = row.appended;
     passes = passes-fault row.appended s t f unpaid 0 row.passes;
     closed = tt;
+    went = λ b file sets short. row.went b file sets (its-kids b short);
     inside = λ w l st ks n next small comes below fit. kids-called row.appended w ks next t (Some f)
         (does-fault row.appended row.appended s t f w (row_calls own.now (merged_row own.number own.before ks cs)) (call_end_inner ∷ []) next next (row.row w ks n next small comes below (kids-fit l st ks fit)));
   }
@@ -402,6 +453,7 @@ module _ (own : PlainInherited) (kid : Option PlainKeyed) (m : PlainLabel) (cs :
         appended = x;
         passes = passes-paid row.appended sent.appended unpaid s t u (call_end_inner ∷ []) e (end-long t.writer) row.passes sends;
         closed = closes sent.appended s t u e some row.rests sends.made;
+        went = λ b file sets short. went-then b own.number row.appended sent.appended s.writer t.writer u.writer e (row.went b file sets (its-kids b short)) (went-sent b own.number (call_end_inner ∷ []) t u e (tt, tt) sent);
         inside = λ w l st ks n next small comes below fit. kids-called x w ks next u e
             (does-sends row.appended sent.appended s t u e w (row_calls own.now (merged_row own.number own.before ks cs)) (call_end_inner ∷ []) next (row.row w ks n next small comes below (kids-fit l st ks fit)) sends);
       }
@@ -412,6 +464,7 @@ inside-misfit own kid m b s is meter within = record {
   appended = [];
   passes = passes-none s (Some Damage) meter within (λ e. absurd cc);
   closed = tt;
+  went = λ b file sets short. tt;
   inside = λ w l st ks n next small comes below fit. absurd (true≢false (sym (subst (λ (o : Option PlainKeyed). IsTrue (if_there o (λ c. fits (inner_node l st ks) c))) is fit)));
 }
 
@@ -420,6 +473,7 @@ inside-alone own kid s u e none same copied = record {
   appended = copied.appended;
   passes = copied.passes;
   closed = copied.closed;
+  went = λ b file sets short. copied.went b own.number file sets.now;
   inside = λ w l st ks n next small comes below fit.
       subst (λ (o : Option PlainKeyed). Does copied.appended w (row_calls own.now (kids_with own.number own.before ks o) ++ call_end_inner ∷ []) next s u e) (sym none)
       (copied.inside w ks n next (subst (λ (q : List (ℕ × ℕ)). AllByRecursion (IsWithin w) (row_items q ks ++ end_item n ∷ [])) (sym same) small)

@@ -1,5 +1,5 @@
 -- What merging a row goes along.
-use Rattle.std.proofs.Common.{◌≡◌, ℕ, ◌≤◌, List, [], ◌∷◌, ◌++◌, Option, Some, None, Result, Ok, Err, IsTrue, refl, sym, ap, subst, ◌∙◌, append_assoc, arith}
+use Rattle.std.proofs.Common.{◌≡◌, ℕ, ◌+◌, ◌≤◌, List, [], ◌∷◌, ◌++◌, Option, Some, None, Result, Ok, Err, IsTrue, refl, sym, ap, subst, ◌∙◌, append_assoc, arith}
 use Rattle.std.specs.List.{AllByRecursion}
 use Rattle.std.specs.Option.{option_map}
 use Rattle.std.specs.Result.{IfOk}
@@ -31,6 +31,7 @@ use Rattle.stream_merge.specs.declared.fault.MergeFault.{MergeFault}
 use Rattle.stream_merge.proofs.States.{passes-then, passes-fault, does-then, does-stopped}
 use Rattle.stream_merge.proofs.Copies.{all-front, all-back, no-more, rests-behind}
 use Rattle.stream_merge.proofs.FitLabels.{row-labels}
+use Rattle.stream_merge.proofs.Rooms.{went-then, above-short}
 use Rattle.stream_merge.proofs.Weaving.{AreShapedKids, above_keeps, row_step, fit_step}
 
 no-some : (cs : List PlainKeyed) → ¬ (option_map kids_view None ≡ Some cs)
@@ -49,7 +50,7 @@ module _ (h : PlainInherited) (cs : List PlainKeyed) (up : IsTrue (ascend (kids_
       (both (is_node_below h.number k) (are_nodes_below h.number ks) below).0 (fit_step k ks cs up fit).0
 
   row-ended : ChildMerged h cs s t (Ok None) → RowMerged h cs s t None
-  row-ended child = record { appended = child.appended; passes = child.passes; rests = child.rests; row = row }
+  row-ended child = record { appended = child.appended; passes = child.passes; rests = child.rests; went = child.went; row = row }
     where
       row : (w : ℕ) (ks : PlainNodes) (m : ℕ) (next : List PlainItem) → AllByRecursion (IsWithin w) (row_items h.before ks ++ end_item m ∷ []) → Comes s.files s.cursor (row_items h.before ks ++ end_item m ∷ next) → IsTrue (are_nodes_below h.number ks)
           → IsTrue (all_fit ks cs) → Does child.appended w (row_calls h.now (merged_row h.number h.before ks cs)) next s t None
@@ -57,7 +58,7 @@ module _ (h : PlainInherited) (cs : List PlainKeyed) (up : IsTrue (ascend (kids_
       row w (node k ks) m next small comes below fit = absurd (no-some (above (node_label k) cs) (meets (Ok None) child w k ks m next small comes below fit).0)
 
   row-failed : (f : MergeFault) → ChildMerged h cs s t (Err f) → RowMerged h cs s t (Some f)
-  row-failed f child = record { appended = child.appended; passes = passes-fault child.appended s t f 0 unpaid child.passes; rests = tt; row = row }
+  row-failed f child = record { appended = child.appended; passes = passes-fault child.appended s t f 0 unpaid child.passes; rests = tt; went = child.went; row = row }
     where
       row : (w : ℕ) (ks : PlainNodes) (m : ℕ) (next : List PlainItem) → AllByRecursion (IsWithin w) (row_items h.before ks ++ end_item m ∷ []) → Comes s.files s.cursor (row_items h.before ks ++ end_item m ∷ next) → IsTrue (are_nodes_below h.number ks)
           → IsTrue (all_fit ks cs) → Does child.appended w (row_calls h.now (merged_row h.number h.before ks cs)) next s t (Some f)
@@ -76,6 +77,11 @@ module _ (h : PlainInherited) (cs : List PlainKeyed) (up : IsTrue (ascend (kids_
     appended = child.appended ++ rest.appended;
     passes = passes-then child.appended rest.appended s t u e 0 unpaid unpaid (omega arith) child.passes rest.passes;
     rests = (let rests = child.rests in rests-behind s.writer t.writer u.writer e rests.inners rest.rests);
+    went = λ b file sets kids. (
+        let passes = child.passes in
+        let long = passes.same_length in
+        let behind = child.behind in
+        went-then b h.number child.appended rest.appended s.writer t.writer u.writer e (child.went b file sets kids) (rest.went b (omega (arith, long, file)) sets (above-short b behind.label cs left (sym same ∙ behind.are) kids)));
     row = row;
   }
     where

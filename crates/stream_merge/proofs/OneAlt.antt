@@ -1,5 +1,5 @@
 -- Merging one alternative of a leaf.
-use Rattle.std.proofs.Common.{◌≡◌, ◌≢◌, ℕ, ◌≤◌, ◌<◌, ◌↔◌, Bool, true, false, IsTrue, List, [], ◌∷◌, ◌++◌, length, Option, Some, None, Result, Ok, Err, IfOk, refl, sym, ap, subst, ◌∙◌, arith}
+use Rattle.std.proofs.Common.{◌≡◌, ◌≢◌, ℕ, ◌≤◌, ◌<◌, ◌↔◌, Bool, true, false, IsTrue, ◌+◌, List, [], ◌∷◌, ◌++◌, length, Option, Some, None, Result, Ok, Err, IfOk, refl, sym, ap, subst, ◌∙◌, arith}
 use Rattle.std.specs.Ordering.{is_eq}
 use Rattle.std.specs.Result.{IsErrAnd}
 use Rattle.std.proofs.lemmas.List.{append-nil}
@@ -31,6 +31,7 @@ use Rattle.stream_merge.specs.Items.{IsWithin}
 use Rattle.stream_merge.specs.LeafMerged.{AltMerged}
 use Rattle.stream_merge.specs.Meets.{HasLeaf, turned}
 use Rattle.stream_merge.specs.Passes.{Passes, fault_of, of_cursor}
+use Rattle.stream_merge.specs.Short.{IsShortStamp, AreShortSets, IsShortCall}
 use Rattle.stream_merge.specs.State.{State}
 use Rattle.stream_merge.specs.View.{PlainInherited}
 use Rattle.stream_merge.specs.declared.fault.MergeFault.{MergeFault}
@@ -38,6 +39,7 @@ use Rattle.stream_merge.specs.declared.fault.MergeFault.TheVariants.{Damage, Fol
 use Rattle.stream_merge.proofs.Copies.{not-alt, not-end}
 use Rattle.stream_merge.proofs.Handed.{at-err}
 use Rattle.stream_merge.proofs.Lengths.{Longer, alt_longer}
+use Rattle.stream_merge.proofs.Rooms.{went-none, went-read, went-stop, went-call, alt-parts, turned-short}
 use Rattle.stream_merge.proofs.States.{Takes, Nexts, Stays, gave, gave-takes, gave-stop, gave-sent, failed, failed-does, takes-sends, takes-only}
 
 same-parts : (s t : Stamp) (a b : PlainKey) → alt_item s a ≡ alt_item t b → (s ≡ t) × (a ≡ b)
@@ -110,6 +112,7 @@ module _ (own : PlainInherited) (b : PlainKey) where
     passes = failed 0 s t e within h;
     begun = tt;
     onward = tt;
+    went = λ m file sets. went-read m own.number [] s.writer t.writer e;
     alternative = λ w x next small comes below. (tt, failed-does [] w (alt_item x.stamp x.body ∷ next) s t e (merged_call x) next h (record { item = alt_item x.stamp x.body; behind = next; stand = refl; small = small }) comes);
     end_taken = λ w next small comes. (tt, failed-does [] w (leaf_end_item ∷ next) s t e [] next h (record { item = leaf_end_item; behind = next; stand = refl; small = small }) comes);
   }
@@ -138,6 +141,7 @@ module _ (own : PlainInherited) (b : PlainKey) where
     passes = gave-stop 0 s t item Damage (λ e. absurd cc) read;
     begun = tt;
     onward = tt;
+    went = λ m file sets. tt;
     alternative = λ w x next small comes below. no-alt [] s t t item (Err Damage) (not-alt item alt) read w x next small comes;
     end_taken = no-leaf-end [] s t t item (Err Damage) (not-end item end) read;
   }
@@ -149,6 +153,7 @@ module _ (own : PlainInherited) (b : PlainKey) where
     passes = end-passes s t item shown read;
     begun = subst (λ (v : PlainWriter). HasLeaf s.writer v) (sym read.writer) (record { leaf = leaf; inners = refl });
     onward = onward-end s.files s.cursor t.cursor item shown read.goes;
+    went = λ m file sets. went-none m own.number s.writer t.writer read.writer;
     alternative = λ w x next small comes below. no-alt [] s t t item (Ok None) (λ st k e. no-end st k (sym e ∙ shown)) read w x next small comes;
     end_taken = λ w next small comes. (refl, takes-only w leaf_end_item next s t (shown_item item) (gave-takes w leaf_end_item next s t item read small comes));
   }
@@ -160,6 +165,7 @@ module _ (own : PlainInherited) (b : PlainKey) where
     passes = gave-stop 0 s t item f inside.0 read;
     begun = tt;
     onward = tt;
+    went = λ m file sets. went-stop m own.number [] s.writer t.writer f inside.1;
     alternative = λ w x next small comes below. (
         let taken = gave-takes w (alt_item x.stamp x.body) next s t item read small comes in
         let parts = same-parts st x.stamp k x.body (sym shown ∙ taken.given) in
@@ -167,6 +173,17 @@ module _ (own : PlainInherited) (b : PlainKey) where
         (tt, stop-does w (alt_item x.stamp x.body) next next s t (shown_item item) (merged_call x) f inside.0 inside.1 (damage low) taken));
     end_taken = no-leaf-end [] s t t item (Err f) (alt-no-end item st k shown) read;
   }
+
+  -- what the alternative is written with is short
+  turned-call : (m : ℕ) (s t : State) (item : Item) (st new : Stamp) (k : PlainKey) (same : Bool) → shown_item item ≡ alt_item st k → Goes s.files s.cursor item t.cursor → new ≡ turned own.number own.before same st → s.cursor.length + 12 ≤ m → AreShortSets m own
+      → IsShortCall m own.number (call_alt new k)
+  turned-call m s t item st new k same shown goes is file sets =
+      let size = ap (size_of s.cursor.standing) shown in
+      let moved = goes.moved in
+      let within = goes.within in
+      let long = goes.same_length in
+      let parts = alt-parts m st k (omega (arith, size, moved, within, long, file)) in
+      (subst (λ (z : Stamp). IsShortStamp m own.number z) (sym is) (turned-short m own.number own.before same st parts.0 sets.before), parts.1)
 
   merged-as : (x : PlainAlt) (t : Bool) → is_eq (key_cmp x.body b) ≡ t → call_alt (turned own.number own.before t x.stamp) x.body ≡ call_alt (merged_alt own.number own.before b x).stamp (merged_alt own.number own.before b x).body
   merged-as x true e = rw e refl
@@ -191,6 +208,7 @@ module _ (own : PlainInherited) (b : PlainKey) where
     passes = sent-passes sent.appended s t u item st new k None shown longer read sent.sends;
     begun = (let sends = sent.sends in let made = sends.made in alt-begun s.writer t.writer u.writer new k leaf read.writer made.writer);
     onward = subst (λ (c : PlainCursor). s.cursor.at < c.at) (let sends = sent.sends in sym sends.same_cursor) (onward-alt s.files s.cursor t.cursor item st k shown read.goes);
+    went = λ m file sets. went-call m own.number (call_alt new k) s t u None read.writer (turned-call m s t item st new k same shown read.goes is file sets) sent;
     alternative = λ w x next small comes below. (
         let did = alt-does sent.appended s t u item st new k same None shown read tells is sent.sends w x next small comes in
         (ap (λ (z : Bool). Some z) did.0, did.1));
@@ -205,6 +223,7 @@ module _ (own : PlainInherited) (b : PlainKey) where
     passes = sent-passes sent.appended s t u item st new k (Some f) shown longer read sent.sends;
     begun = tt;
     onward = tt;
+    went = λ m file sets. went-call m own.number (call_alt new k) s t u (Some f) read.writer (turned-call m s t item st new k same shown read.goes is file sets) sent;
     alternative = λ w x next small comes below. (tt, (alt-does sent.appended s t u item st new k same (Some f) shown read tells is sent.sends w x next small comes).1);
     end_taken = no-leaf-end sent.appended s t u item (Err f) (alt-no-end item st k shown) read;
   }

@@ -29,19 +29,20 @@ use Rattle.record_writer.specs.declared.writer.Writer.{Writer}
 use Rattle.stream_merge.specs.Does.{Walks, Made, Sends, Sent, Does}
 use Rattle.stream_merge.specs.Items.{IsWithin}
 use Rattle.stream_merge.specs.Passes.{Unless, IfFolder, may_pull, Passes, fault_of, of_cursor, of_writer}
+use Rattle.stream_merge.specs.Room.{Stops, StopsIf}
 use Rattle.stream_merge.specs.State.{State, state, lead}
 use Rattle.stream_merge.specs.declared.fault.MergeFault.{MergeFault}
 use Rattle.stream_merge.specs.declared.fault.MergeFault.TheVariants.{Damage, Folder, TooLong, Memory}
 
 -- ---- calls one after the other
 
-appended-append : (w : PlainWriter) (cs ds : List WriterCall) → all_appended w (cs ++ ds) ≡ all_appended w cs ++ all_appended (after_all w cs) ds
+pub appended-append : (w : PlainWriter) (cs ds : List WriterCall) → all_appended w (cs ++ ds) ≡ all_appended w cs ++ all_appended (after_all w cs) ds
 appended-append w [] ds = refl
 appended-append w (c ∷ cs) ds =
     ap (λ (bs : List ℕ). appended w c ++ bs) (appended-append (after w c) cs ds)
     ∙ sym (append_assoc (appended w c) (all_appended (after w c) cs) (all_appended (after_all (after w c) cs) ds))
 
-after-append : (w : PlainWriter) (cs ds : List WriterCall) → after_all w (cs ++ ds) ≡ after_all (after_all w cs) ds
+pub after-append : (w : PlainWriter) (cs ds : List WriterCall) → after_all w (cs ++ ds) ≡ after_all (after_all w cs) ds
 after-append w [] ds = refl
 after-append w (c ∷ cs) ds = after-append (after w c) cs ds
 
@@ -211,11 +212,32 @@ sends-then x y s t u e cs ds h g = record {
 pub sends-fault : (x : List ℕ) (s t : State) (e : MergeFault) (cs ds : List WriterCall) → Sends x cs s t (Some e) → Sends x (cs ++ ds) s t (Some e)
 sends-fault x s t e cs ds h = record { passes = h.passes; made = made-fault x x s t e cs ds h.made; same_cursor = h.same_cursor; same_gap = h.same_gap; paid = tt }
 
+-- where one of the calls does not fit
+stops-then : (x y : List ℕ) (s t : State) (cs ds : List WriterCall) (e : Option MergeFault) → Walks x cs s t → StopsIf y ds t.writer e → StopsIf (x ++ y) (cs ++ ds) s.writer e
+stops-then x y s t cs ds None h g = tt
+stops-then x y s t cs ds (Some TooLong) h g = record {
+  made = cs ++ g.made;
+  next = g.next;
+  others = g.others;
+  walk = ap (λ (z : List WriterCall). cs ++ z) g.walk ∙ sym (append_assoc cs g.made (g.next ∷ g.others));
+  same = (λ i. h.same i ++ g.same i) ∙ ap (λ (v : PlainWriter). all_appended s.writer cs ++ all_appended v g.made) h.writer ∙ sym (appended-append s.writer cs g.made);
+  over = subst (λ (v : PlainWriter). ¬ (Fits v g.next)) (ap (λ (v : PlainWriter). after_all v g.made) h.writer ∙ sym (after-append s.writer cs g.made)) g.over;
+}
+stops-then x y s t cs ds (Some Damage) h g = tt
+stops-then x y s t cs ds (Some Folder) h g = tt
+stops-then x y s t cs ds (Some Memory) h g = tt
+
+stops-fault : (x : List ℕ) (v : PlainWriter) (cs ds : List WriterCall) (e : MergeFault) → StopsIf x cs v (Some e) → StopsIf x (cs ++ ds) v (Some e)
+stops-fault x v cs ds TooLong h = record { made = h.made; next = h.next; others = h.others ++ ds; walk = ap (λ (z : List WriterCall). z ++ ds) h.walk ∙ append_assoc h.made (h.next ∷ h.others) ds; same = h.same; over = h.over }
+stops-fault x v cs ds Damage h = tt
+stops-fault x v cs ds Folder h = tt
+stops-fault x v cs ds Memory h = tt
+
 pub sent-then : (s t u : State) (e : Option MergeFault) (cs ds : List WriterCall) → Sent cs s t None → Sent ds t u e → Sent (cs ++ ds) s u e
-sent-then s t u e cs ds h g = record { appended = h.appended ++ g.appended; sends = sends-then h.appended g.appended s t u e cs ds h.sends g.sends }
+sent-then s t u e cs ds h g = record { appended = h.appended ++ g.appended; sends = sends-then h.appended g.appended s t u e cs ds h.sends g.sends; stops = (let a = h.sends in stops-then h.appended g.appended s t cs ds e a.made g.stops) }
 
 pub sent-fault : (s t : State) (e : MergeFault) (cs ds : List WriterCall) → Sent cs s t (Some e) → Sent (cs ++ ds) s t (Some e)
-sent-fault s t e cs ds h = record { appended = h.appended; sends = sends-fault h.appended s t e cs ds h.sends }
+sent-fault s t e cs ds h = record { appended = h.appended; sends = sends-fault h.appended s t e cs ds h.sends; stops = stops-fault h.appended s.writer cs ds e h.stops }
 
 -- ---- what comes, and how far what was read is ahead
 
@@ -332,6 +354,7 @@ plain-sends files draft numbers faults old new c v w call (Ok x) meter within di
         same_gap = wrote.same_gap;
         paid = (let l = wrote.less in omega (arith, long, l));
       };
+      stops = tt;
     }
 plain-sends files draft numbers faults old new c v w call (Err writer.TooLong) meter within did is fits =
     let wrote : Wrote 0 (numbers old) (numbers new) = wrote-none (numbers old) (numbers new) meter did.gains.1 in
@@ -344,6 +367,7 @@ plain-sends files draft numbers faults old new c v w call (Err writer.TooLong) m
         same_gap = wrote.same_gap;
         paid = tt;
       };
+      stops = record { made = []; next = call; others = []; walk = refl; same = refl; over = fits };
     }
 plain-sends files draft numbers faults old new c v w call (Err writer.Folder) meter within did is fits =
     let g = did.gains in
@@ -359,6 +383,7 @@ plain-sends files draft numbers faults old new c v w call (Err writer.Folder) me
         same_gap = wrote.same_gap;
         paid = tt;
       };
+      stops = tt;
     }
 plain-sends files draft numbers faults old new c v w call (Err writer.Memory) meter within did is fits =
     let wrote : Wrote 0 (numbers old) (numbers new) = wrote-none (numbers old) (numbers new) meter did.gains.1 in
@@ -371,6 +396,7 @@ plain-sends files draft numbers faults old new c v w call (Err writer.Memory) me
         same_gap = wrote.same_gap;
         paid = tt;
       };
+      stops = tt;
     }
 
 pub call-sends : {S : Type 0} (files : S → Option Files) (draft : S → Option (List ℕ)) (numbers : S → Numbers) (faults : S → ℕ) (old new : S) (c : PlainCursor) (v w : Writer) (call : WriterCall)
@@ -381,7 +407,7 @@ call-sends files draft numbers faults old new c v w call r = plain-sends files d
 
 -- nothing is done where memory fails before the call
 pub sent-none : (s : State) (cs : List WriterCall) → IsMeter s.numbers → s.cursor.at ≤ s.cursor.length → Sent cs s s (Some Memory)
-sent-none s cs meter within = record { appended = []; sends = record { passes = passes-none s (Some Memory) meter within (λ e. absurd cc); made = tt; same_cursor = refl; same_gap = refl; paid = tt } }
+sent-none s cs meter within = record { appended = []; sends = record { passes = passes-none s (Some Memory) meter within (λ e. absurd cc); made = tt; same_cursor = refl; same_gap = refl; paid = tt }; stops = tt }
 
 -- ---- one call of the cursor
 

@@ -17,12 +17,15 @@ use Rattle.record_cursor.specs.Moves.{Comes, TellsFront, IsHeaderOf}
 use Rattle.record_cursor.specs.View.{PlainCursor, PlainHeader}
 use Rattle.record_format.specs.Files.{FileOf, header_bytes, largest}
 use Rattle.record_writer.specs.Data.{PlainWriter, WriterCall, call_finish}
-use Rattle.record_writer.specs.Calls.{after_all}
+use Rattle.record_writer.specs.Calls.{after_all, started}
+use Rattle.record_writer.specs.View.{writer_view}
 use Rattle.record_writer.specs.Walks.{row_calls}
 use Rattle.record_writer.specs.declared.writer.Writer.{Writer}
 use Rattle.stream_merge.specs.Does.{Made}
 use Rattle.stream_merge.specs.Items.{row_items, IsWithin}
 use Rattle.stream_merge.specs.Passes.{Unless, IfFolder}
+use Rattle.stream_merge.specs.Room.{NoRoom, NoRoomIf}
+use Rattle.stream_merge.specs.Short.{AreShortSets, IsShortTree}
 use Rattle.stream_merge.specs.State.{State, state, lead}
 use Rattle.stream_merge.specs.View.{PlainInherited}
 use Rattle.stream_merge.specs.declared.fault.MergeFault.{MergeFault}
@@ -64,6 +67,13 @@ Grows x rules vs new (Some TooLong) = (file : List ℕ) → ¬ FileOf rules (vs 
 Grows x rules vs new (Some Damage) = ⊥
 Grows x rules vs new (Some other) = ⊤
 
+-- ---- whatever the archive is
+
+-- Where the file would be too long: behind the header some calls that are given short parts were made, and the next does not fit.
+abbrev pub NoRoomBehind : ℕ → PlainHeader → List ℕ → Option MergeFault → Type 0
+NoRoomBehind b h x (Some TooLong) = (z : List ℕ) × (x ≡ header_bytes h.rules (h.versions + 1) ++ z) × NoRoom b (h.versions + 1) z (started h.rules (h.versions + 1))
+NoRoomBehind b h x other = ⊤
+
 -- ---- parts of the call
 
 module _ {S : Type 0} (files : S → Option Files) (draft : S → Option (List ℕ)) (numbers : S → Numbers) (faults : S → ℕ) where
@@ -71,12 +81,14 @@ module _ {S : Type 0} (files : S → Option Files) (draft : S → Option (List �
   pub record NodesAppended (h : PlainInherited) (new : PlainKeyed) (old now : S) (c : PlainCursor) (w : Writer) (ended : Option MergeFault) : Type 0 where
     pub appended : List ℕ
     pub reads : Reads files draft numbers faults appended old now (c.length - c.at) 0 ended
+    pub no_room : (b : ℕ) → c.length + 12 ≤ b → AreShortSets b h → IsShortTree b new → NoRoomIf b h.number appended (writer_view w) ended
     pub nodes : WritesNodes appended h new (state files draft numbers faults old c w) (state files draft numbers faults now c w) ended
 
   -- The archive with one more version is appended, over a cursor before its first node.
   pub record VersionAppended (h : PlainHeader) (new : PlainKeyed) (old now : S) (c : PlainCursor) (ended : Option MergeFault) : Type 0 where
     pub appended : List ℕ
     pub reads : Reads files draft numbers faults appended old now (h.length - h.first) (length (header_bytes h.rules (h.versions + 1))) ended
+    pub no_room : (b : ℕ) → h.length + 12 ≤ b → IsShortTree b new → NoRoomBehind b h appended ended
     pub grows : (bytes : List ℕ) (rules : List PlainRule) (vs : List PlainKeyed) → TellsFront (files old) c.name c.length bytes → IsHeaderOf h bytes → SoundAs rules vs bytes → Grows appended rules vs new ended
     pub gap : (bytes : List ℕ) (rules : List PlainRule) (vs : List PlainKeyed) (a : PlainArchive) → TellsFront (files old) c.name c.length bytes → IsHeaderOf h bytes → SoundAs rules vs bytes → ArchiveOf vs a
         → (numbers now).gap ≤ max (numbers old).gap (lead (numbers old) - length (header_bytes rules a.n) + largest rules a)

@@ -1,5 +1,6 @@
 -- What is done where a node that the archive has is begun beside a row of the version.
 use Rattle.std.specs.Prelude.{◌≡◌, ◌-◌, ◌≤◌, ℕ, Bool, List, length, Option, Result, OnOk, IsTrue, ⊤}
+use Rattle.std.specs.List.{AllByRecursion}
 use Rattle.std.specs.Option.{unwrap_or}
 use Rattle.keyed_tree.specs.Data.{PlainLabel, PlainKeyed}
 use Rattle.keyed_tree.specs.Kids.{kid_at}
@@ -12,6 +13,8 @@ use Rattle.record_writer.specs.Walks.{row_calls}
 use Rattle.stream_merge.specs.First.{SendsFirst}
 use Rattle.stream_merge.specs.Meets.{opening_of, Begins, calls_beside, inherited_beside, rest_of, turned}
 use Rattle.stream_merge.specs.Passes.{Passes, fault_of}
+use Rattle.stream_merge.specs.Room.{WentIf}
+use Rattle.stream_merge.specs.Short.{AreShortSets, IsShortTree}
 use Rattle.stream_merge.specs.State.{State, lead}
 use Rattle.stream_merge.specs.View.{PlainInherited}
 use Rattle.stream_merge.specs.declared.begin.Kind.{Kind}
@@ -33,6 +36,7 @@ pub record BelowPut (h : PlainInherited) (l : PlainLabel) (cs : List PlainKeyed)
   pub appended : List ℕ
   pub passes : Passes appended 0 s t ended
   pub same_gap : t.numbers.gap ≡ s.numbers.gap
+  pub went : (b : ℕ) → 12 ≤ b → AreShortSets b h → AllByRecursion (IsShortTree b) cs → WentIf b h.number appended s.writer t.writer ended
   pub sends : SendsFirst cs appended (row_calls h.now (rest_of h.number h.before (below l cs))) s t ended
 
 -- Wherever the cursor stands, nothing is read, and no less written than the node's record has in the archive. Where its stamp is below the
@@ -43,6 +47,7 @@ pub record BeganBeside {T : Type 0} (kind : Kind) (h : PlainInherited) (l : Plai
   pub same_gap : t.numbers.gap ≡ s.numbers.gap
   pub paid : OnOk begun (lead t.numbers ≤ lead s.numbers - length (rec_bytes (opening_of kind l st)))
   pub begins : OnOk begun (Begins kind s.writer t.writer)
+  pub went : (b : ℕ) → 12 ≤ b → AreShortSets b h → AllByRecursion (IsShortTree b) cs → length (rec_bytes (opening_of kind l st)) ≤ b → WentIf b h.number appended s.writer t.writer (fault_of begun)
   pub sends : IsTrue (is_stamp_below h.number st) → SendsFirst cs appended (calls_beside kind h l st cs) s t (fault_of begun)
 
 -- What is known of the node that was begun: the kid with its label, the kids behind it, and what its own kids inherit.

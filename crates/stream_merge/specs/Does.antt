@@ -6,6 +6,7 @@ use Rattle.record_writer.specs.Data.{WriterCall}
 use Rattle.record_writer.specs.Calls.{all_appended, after_all, AllFit}
 use Rattle.stream_merge.specs.State.{State, lead}
 use Rattle.stream_merge.specs.Passes.{Unless, Passes}
+use Rattle.stream_merge.specs.Room.{StopsIf}
 use Rattle.stream_merge.specs.declared.fault.MergeFault.{MergeFault}
 use Rattle.stream_merge.specs.declared.fault.MergeFault.TheVariants.{Damage, TooLong}
 
@@ -30,10 +31,11 @@ pub record Sends (x : List ℕ) (cs : List WriterCall) (s t : State) (ended : Op
   pub same_gap : t.numbers.gap ≡ s.numbers.gap
   pub paid : Unless ended (lead t.numbers ≤ lead s.numbers - length (all_appended s.writer cs))
 
--- The same, whatever the bytes are.
+-- The same, whatever the bytes are; and where one of the calls does not fit, those before it were made.
 pub record Sent (cs : List WriterCall) (s t : State) (ended : Option MergeFault) : Type 0 where
   pub appended : List ℕ
   pub sends : Sends appended cs s t ended
+  pub stops : StopsIf appended cs s.writer ended
 
 -- The writer is called so, which appends these bytes, and these items come next. Between any two calls what was read is ahead of what was written by at
 -- most so many bytes more than before.

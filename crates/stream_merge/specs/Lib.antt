@@ -11,3 +11,5 @@ pub mod LeafMerged
 pub mod RowMerged
 pub mod First
 pub mod Beside
+pub mod Short
+pub mod Room

@@ -1,5 +1,5 @@
 -- What is done where the archive has the nodes that come, beside a row of the version.
-use Rattle.std.specs.Prelude.{◌≡◌, ◌≢◌, ◌<◌, ℕ, List, [], ◌∷◌, ◌++◌, Option, Some, None, Result, IfOk, OnOk, IfSome, IsTrue}
+use Rattle.std.specs.Prelude.{◌≡◌, ◌≢◌, ◌<◌, ◌≤◌, ◌+◌, ℕ, List, [], ◌∷◌, ◌++◌, Option, Some, None, Result, IfOk, OnOk, IfSome, IsTrue}
 use Rattle.std.specs.Option.{option_map}
 use Rattle.std.specs.List.{AllByRecursion}
 use Rattle.keyed_tree.specs.Data.{PlainLabel, PlainKeyed}
@@ -20,6 +20,8 @@ use Rattle.stream_merge.specs.Items.{node_items, row_items, IsWithin}
 use Rattle.stream_merge.specs.LeafMerged.{LeafMerged}
 use Rattle.stream_merge.specs.Meets.{kids_with, met, rest_of}
 use Rattle.stream_merge.specs.Passes.{Passes, Rests, Closes, Unless, fault_of, unpaid, unpaid_with}
+use Rattle.stream_merge.specs.Room.{WentIf}
+use Rattle.stream_merge.specs.Short.{AreShortSets, IsShortTree}
 use Rattle.stream_merge.specs.State.{State}
 use Rattle.stream_merge.specs.View.{PlainInherited}
 use Rattle.stream_merge.specs.declared.begin.Kind.{Kind}
@@ -31,6 +33,7 @@ pub record RowMerged (h : PlainInherited) (cs : List PlainKeyed) (s t : State) (
   pub appended : List ℕ
   pub passes : Passes appended unpaid s t ended
   pub rests : Unless ended (Rests s.writer t.writer)
+  pub went : (b : ℕ) → s.cursor.length + 12 ≤ b → AreShortSets b h → AllByRecursion (IsShortTree b) cs → WentIf b h.number appended s.writer t.writer ended
   pub row : (w : ℕ) (ks : PlainNodes) (m : ℕ) (next : List PlainItem) → AllByRecursion (IsWithin w) (row_items h.before ks ++ end_item m ∷ []) → Comes s.files s.cursor (row_items h.before ks ++ end_item m ∷ next)
       → IsTrue (are_nodes_below h.number ks) → IsTrue (all_fit ks cs) → Does appended w (row_calls h.now (merged_row h.number h.before ks cs)) next s t ended
 
@@ -46,6 +49,7 @@ pub record ChildMerged (h : PlainInherited) (cs : List PlainKeyed) (s t : State)
   pub passes : Passes appended (unpaid_with left) s t (fault_of left)
   pub rests : OnOk left (Rests s.writer t.writer)
   pub onward : OnOk left (s.cursor.at < t.cursor.at)
+  pub went : (b : ℕ) → s.cursor.length + 12 ≤ b → AreShortSets b h → AllByRecursion (IsShortTree b) cs → WentIf b h.number appended s.writer t.writer (fault_of left)
   pub behind : IfOk left (λ r. IfSome r (λ ks. IsAbove cs (kids_view ks)))
   pub node_merged : (w : ℕ) (k : PlainNode) (next : List PlainItem) → AllByRecursion (IsWithin w) (node_items h.before k) → Comes s.files s.cursor (node_items h.before k ++ next)
       → IsTrue (is_node_below h.number k) → IsTrue (if_there (kid_at (node_label k) cs) (λ c. fits k c))
@@ -58,6 +62,7 @@ pub record InsideMerged (own : PlainInherited) (kid : Option PlainKeyed) (s t : 
   pub appended : List ℕ
   pub passes : Passes appended 0 s t ended
   pub closed : Unless ended (Closes s.writer t.writer)
+  pub went : (b : ℕ) → s.cursor.length + 12 ≤ b → AreShortSets b own → IfSome kid (λ k. IsShortTree b k) → WentIf b own.number appended s.writer t.writer ended
   pub inside : (w : ℕ) (l : PlainLabel) (st : Stamp) (ks : PlainNodes) (m : ℕ) (next : List PlainItem) → AllByRecursion (IsWithin w) (row_items own.before ks ++ end_item m ∷ [])
       → Comes s.files s.cursor (row_items own.before ks ++ end_item m ∷ next) → IsTrue (are_nodes_below own.number ks) → IsTrue (if_there kid (λ c. fits (inner_node l st ks) c))
       → Does appended w (row_calls own.now (kids_with own.number own.before ks kid) ++ call_end_inner ∷ []) next s t ended

@@ -20,9 +20,10 @@ ghost use Rattle.record_writer.specs.View.{writer_view};
 ghost use Rattle.xa_outside.specs.Causes.{Rose};
 ghost use Rattle.xa_outside.specs.Folder.{committed, emptied};
 ghost use Rattle.xa_outside.specs.Numbers.{PullsAndDrafts};
-ghost use Rattle.stream_merge.specs.Added.{Added, IsBlank, IfTooLong, IfFailed, Lengthens};
+ghost use Rattle.stream_merge.specs.Added.{Added, IsBlank, Overfull, IfTooLong, IfFailed, Lengthens};
 ghost use Rattle.stream_merge.specs.Appended.{NodesAppended, VersionAppended};
 ghost use Rattle.stream_merge.specs.Passes.{fault_of};
+ghost use Rattle.stream_merge.specs.Short.{IsShortTree};
 ghost use Rattle.stream_merge.specs.State.{lead};
 ghost use Rattle.stream_merge.specs.View.{inherited_view};
 ghost use Rattle.stream_merge.specs.declared.fault.AddFault.TheVariants.{Damage, Limit};
@@ -64,7 +65,9 @@ pub fn stream_add<F: Folder>(
     requires texts { AreTexts (plain (lent_view new.now)) }
 
     // The file of a sound archive becomes that of its versions and the new one. Whatever the
-    // archive is, no other file changes, and the draft is empty then, or has only grown.
+    // archive is, no other file changes, and the draft is empty then, or has only grown; and the new
+    // file is too long only where a call of the writer does not fit that is given short parts, if
+    // the labels and bodies of the version are short.
     ensures added { OnOk result (Added (header_view header.now) name.now (lent_view new.now)
         (F.files folder.old) (F.files folder.new) (F.draft folder.old) (F.draft folder.new)) }
     ensures refused { OnErr result (F.files folder.new ≡ F.files folder.old) }
@@ -74,6 +77,11 @@ pub fn stream_add<F: Folder>(
         → IsHeaderOf (header_view header.now) bytes → SoundAs rules vs bytes
         → IfErr result (λ e. IfTooLong e ((file : List ℕ)
         → ¬ (FileOf rules (vs ++ lent_view new.now ∷ []) file))) }
+    ensures no_room { (b : ℕ) → (header_view header.now).length + 12 ≤ b
+        → IsShortTree b (lent_view new.now)
+        → IfErr result (λ e. IfTooLong e (Overfull b
+        (header_view header.now).rules ((header_view header.now).versions + 1)
+        (F.draft folder.new))) }
     ensures undamaged { (bytes : List ℕ) (rules : List PlainRule) (vs : List PlainKeyed)
         → TellsFront (F.files folder.old) name.now (header_view header.now).length bytes
         → IsHeaderOf (header_view header.now) bytes → SoundAs rules vs bytes

@@ -7,11 +7,11 @@ use Rattle.xa_outside.specs.NumberLaws.{PullsAndDrafts-none}
 use Rattle.record_cursor.specs.Moves.{TellsFront}
 use Rattle.record_cursor.specs.View.{PlainCursor, header_view}
 use Rattle.record_format.specs.Files.{FileOf}
-use Rattle.stream_merge.specs.Added.{Added, of_merge, IfTooLong, IfFailed, Lengthens}
+use Rattle.stream_merge.specs.Added.{Added, Overfull, of_merge, IfTooLong, IfFailed, Lengthens}
 use Rattle.stream_merge.specs.State.{lead}
 use Rattle.stream_merge.specs.declared.fault.AddFault.TheVariants.{Damage, Limit}
 use Rattle.stream_merge.proofs.States.{lengthens-none}
-use Rattle.stream_merge.proofs.Adding.{header-first, at-err, none-longer, no-damage, no-limit, failed-of, commit-adds, commit-fails, commit-err, no-commit-limit, if-failed, on-ok}
+use Rattle.stream_merge.proofs.Adding.{header-first, at-err, none-longer, overfull, no-damage, no-limit, failed-of, commit-adds, commit-fails, commit-err, no-commit-limit, if-failed, on-ok}
 use Rattle.stream_merge.proofs.add.stream_add.Goals as goal
 
 pub append_version-requires : goal.append_version-requires
@@ -37,6 +37,7 @@ returns-then-header-ge-MOST_VERSIONS g c =
       refused = refl;
       drafted = record { bytes = []; is = lengthens-none (f.draft c.args.folder.now) (f.draft c.args.folder.now) refl };
       too_long = λ bytes rules vs tells is sound. tt;
+      no_room = λ b file tree. tt;
       undamaged = λ bytes rules vs tells is sound e. absurd cc;
       limit = (λ e. omega (arith, few, c.if-header-ge-MOST_VERSIONS.true), λ e. refl);
       later = omega arith;
@@ -64,6 +65,7 @@ returns-in_err-append_version g c =
       drafted = at-err r.result (of_merge e.field-0.0) r.ensures.1 (λ r. OnErr r (Lengthens (f.draft old) (f.draft now))) (record { bytes = v.appended; is = v.reads.lengthens });
       too_long = λ bytes rules vs tells is sound. at-err r.result (of_merge e.field-0.0) r.ensures.1 (λ r. IfErr r (λ d. IfTooLong d ((file : List ℕ) → ¬ FileOf rules (vs ++ k ∷ []) file)))
           (none-longer v.appended rules vs k e.field-0.0 (v.grows bytes rules vs (told bytes tells) is sound));
+      no_room = λ b file tree. at-err r.result (of_merge e.field-0.0) r.ensures.1 (λ r. IfErr r (λ d. IfTooLong d (Overfull b h.rules (h.versions + 1) (f.draft now)))) (overfull b h v.appended (f.draft old) (f.draft now) e.field-0.0 c.requires.draft v.reads.lengthens (v.no_room b file tree));
       undamaged = λ bytes rules vs tells is sound. at-err r.result (of_merge e.field-0.0) r.ensures.1 (λ r. IfErr r (λ d. d ≢ Damage)) (no-damage v.appended rules vs k e.field-0.0 (v.grows bytes rules vs (told bytes tells) is sound));
       limit = (λ q. absurd (at-err r.result (of_merge e.field-0.0) r.ensures.1 (λ r. r ≢ Err Limit) (no-limit e.field-0.0) q), λ v. absurd (omega (arith, v, c.if-header-ge-MOST_VERSIONS.false)));
       later = v.reads.later;
@@ -94,6 +96,7 @@ returns g c =
       refused = commit-fails r (f.files now ≡ f.files mid) (f.files now ≡ f.files old) (λ same. same ∙ v.reads.same_files) e.refused;
       drafted = commit-fails r (f.draft now ≡ f.draft mid) (Lengthens (f.draft old) (f.draft now)) (λ kept. record { bytes = v.appended; is = kept ∙ v.reads.lengthens }) e.kept;
       too_long = λ bytes rules vs tells is sound. commit-err r (λ d. IfTooLong d ((file : List ℕ) → ¬ FileOf rules (vs ++ k ∷ []) file)) e.fault tt;
+      no_room = λ b file tree. commit-err r (λ d. IfTooLong d (Overfull b h.rules (h.versions + 1) (f.draft now))) e.fault tt;
       undamaged = λ bytes rules vs tells is sound. commit-err r (λ d. d ≢ Damage) e.fault (λ q. absurd cc);
       limit = (λ q. absurd (no-commit-limit r e.fault q), λ v. absurd (omega (arith, v, c.if-header-ge-MOST_VERSIONS.false)));
       later = omega (arith, first, second);

@@ -40,7 +40,7 @@ begin_node-requires g c =
     let h = inherited_view c.args.from.now in
     let put = c.in_ok-kid.ensures.puts nowhere (omega arith) in
     let rests = row-sent (at c.args.folder.now nowhere c.args.writer.now) (at c.put_below.new.folder nowhere c.put_below.new.writer) h.now (rest_of h.number h.before (below (shown_label c.args.label) (kids_view c.args.kids))) c.requires.no_leaf
-    (record { appended = put.appended; sends = put.sends }) in
+    (record { appended = put.appended; sends = put.sends; stops = tt }) in
     record { no_leaf = rests.no_leaf }
 
 pub returns-in_err-begin_node-clause-begins : goal.returns-in_err-begin_node-clause-begins
