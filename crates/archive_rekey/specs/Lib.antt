@@ -1,0 +1,3 @@
+pub mod Rekeyed
+pub mod Progress
+pub mod View

@@ -1,0 +1,10 @@
+//! Archives under other keys.
+#![tactic(auto)]
+
+mod fault;
+mod laws;
+mod versions;
+
+pub use fault::RekeyFault;
+pub use laws::versions_have_one_rekeying;
+pub use versions::rekey;

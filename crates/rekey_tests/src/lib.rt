@@ -1,0 +1,9 @@
+//! Tests of archives under other keys.
+#![tactic(auto)]
+
+#[cfg(test)]
+mod archives;
+#[cfg(test)]
+mod refusals;
+#[cfg(test)]
+mod rekeyed;
