@@ -7,7 +7,7 @@ use Rattle.xa_outside.specs.Folder.{Files}
 use Rattle.xa_outside.specs.Taken.{Taken}
 use Rattle.xarch_words.specs.Lines.{fault_line, fault_status}
 use Rattle.xarch_words.specs.Refusal.{memory}
-use Rattle.xarch_steps.specs.Ran.{Says}
+use Rattle.xarch_meanings.specs.Ran.{Says}
 use Rattle.xarch_run.specs.Batch.{BatchEnds, IsAnswer, ReadsAsSaid, scene}
 use Rattle.xarch_run.specs.Faults.{stop_fault}
 use Rattle.xarch_run.specs.Feed.{StopIsCaused, ahead, budget, pending}

@@ -6,10 +6,10 @@ use Rattle.xa_outside.specs.Taken.{Taken}
 use Rattle.xarch_words.specs.Commands.{PlainCommand, batch, command_of}
 use Rattle.xarch_words.specs.Refusal.{line, PlainFault, limit}
 use Rattle.xarch_parts.specs.Outcome.{Step, step_from}
-use Rattle.xarch_steps.specs.Plausible.{MayStep, Plausible, Tried}
-use Rattle.xarch_steps.specs.PlausibleLaws.{no-late, plain-step}
-use Rattle.xarch_steps.specs.Ran.{outside_of}
-use Rattle.xarch_steps.specs.Step.{single_of}
+use Rattle.xarch_meanings.specs.Plausible.{MayStep, Plausible, Tried}
+use Rattle.xarch_meanings.specs.PlausibleLaws.{no-late, plain-step}
+use Rattle.xarch_meanings.specs.Ran.{outside_of}
+use Rattle.xarch_meanings.specs.Step.{single_of}
 use Rattle.xarch_run.specs.Calls.{Call, CallDid, CallsDid, CommandMay, CommandsDid, DidCommands, CommandsLead}
 use Rattle.xarch_run.specs.Steps.{LineMay, StepsAre, WordsMay, files_after, line_command}
 use Rattle.xarch_run.specs.Words.{words_of}

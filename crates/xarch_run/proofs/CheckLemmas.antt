@@ -9,9 +9,9 @@ use Rattle.xarch_words.specs.Commands.{check}
 use Rattle.xarch_words.specs.Refusal.{Refusal, no_file}
 use Rattle.xarch_parts.specs.Archives.{GoesOn}
 use Rattle.xarch_parts.specs.Outcome.{Outcome, Step, or_refuse, step_from}
-use Rattle.xarch_steps.specs.Check.{IsFound, checked}
-use Rattle.xarch_steps.specs.Plausible.{MayBe}
-use Rattle.xarch_steps.specs.PlausibleLaws.{no-late, plain-step}
+use Rattle.xarch_meanings.specs.Check.{IsFound, checked}
+use Rattle.xarch_meanings.specs.Plausible.{MayBe}
+use Rattle.xarch_meanings.specs.PlausibleLaws.{no-late, plain-step}
 use Rattle.xarch_run.specs.Calls.{CommandMay}
 use Rattle.xarch_run.specs.Held.{FileIs, Held, Holds, TellsSoundness}
 

@@ -1,14 +1,20 @@
 -- Commands by themselves, and a batch.
-use Rattle.std.proofs.Common.{◌≡◌, ◌⊎◌, ◌↔◌, inl, inr, ℕ, List, Bool, true, false, IsTrue, Option, None, Some, refl, sym, ◌∙◌, subst, arith}
+use Rattle.std.proofs.Common.{◌≡◌, ◌≢◌, ◌⊎◌, ◌↔◌, ◌==◌, inl, inr, ℕ, List, Bool, true, false, cond, IsTrue, Option, None, Some, refl, sym, ◌∙◌, subst, arith}
+use Rattle.std.proofs.lemmas.Bool.{eqb-true}
 use Rattle.xa_outside.specs.Causes.{Rose}
 use Rattle.xa_outside.specs.Folder.{Files}
 use Rattle.xa_outside.specs.Numbers.{Numbers}
-use Rattle.xarch_words.specs.Commands.{PlainCommand, norm, init, add, get, history, check, stats, batch, demo}
-use Rattle.xarch_steps.specs.OnePass.{GoesOnce}
-use Rattle.xarch_steps.specs.Ran.{CountsAsSaid, MayHaveWritten, OnlyReads}
-use Rattle.xarch_steps.specs.ReadsBack.{ReadsLittle}
-use Rattle.xarch_steps.specs.Step.{alone}
-use Rattle.xarch_steps.specs.Succeeds.{ShouldSucceed}
+use Rattle.xa_outside.specs.Taken.{Taken}
+use Rattle.xarch_words.specs.Commands.{PlainCommand, norm, init, add, rekey, get, history, check, stats, batch, demo}
+use Rattle.xarch_words.specs.Refusal.{folder_fault, out_fault, in_fault, memory}
+use Rattle.xarch_parts.specs.Outcome.{Step}
+use Rattle.xarch_writes.specs.FillsUp.{FillsUp}
+use Rattle.xarch_meanings.specs.OnePass.{GoesOnce}
+use Rattle.xarch_meanings.specs.Plausible.{Tried}
+use Rattle.xarch_meanings.specs.Ran.{CountsAsSaid, MayHaveWritten, OnlyReads, Ran, outside_of}
+use Rattle.xarch_meanings.specs.ReadsBack.{ReadsLittle}
+use Rattle.xarch_meanings.specs.Step.{StepIs, alone}
+use Rattle.xarch_meanings.specs.Succeeds.{ShouldSucceed}
 use Rattle.xarch_run.specs.Batch.{IsAnswer}
 
 pub alone-reads : (c : Option PlainCommand) → OnlyReads c → OnlyReads (alone c)
@@ -16,6 +22,7 @@ alone-reads None h = h
 alone-reads (Some (norm spec doc)) h = h
 alone-reads (Some (init archive spec)) h = h
 alone-reads (Some (add archive doc)) h = h
+alone-reads (Some (rekey archive spec)) h = h
 alone-reads (Some (get archive i)) h = h
 alone-reads (Some (history archive path)) h = h
 alone-reads (Some (check archive)) h = h
@@ -29,6 +36,7 @@ alone-said P of None h = h
 alone-said P of (Some (norm spec doc)) h = h
 alone-said P of (Some (init archive spec)) h = h
 alone-said P of (Some (add archive doc)) h = h
+alone-said P of (Some (rekey archive spec)) h = h
 alone-said P of (Some (get archive i)) h = h
 alone-said P of (Some (history archive path)) h = h
 alone-said P of (Some (check archive)) h = h
@@ -44,6 +52,7 @@ alone-late None answer late = absurd late
 alone-late (Some (norm spec doc)) answer late = absurd late
 alone-late (Some (init archive spec)) answer late = absurd late
 alone-late (Some (add archive doc)) answer late = absurd late
+alone-late (Some (rekey archive spec)) answer late = absurd late
 alone-late (Some (get archive i)) answer late = late
 alone-late (Some (history archive path)) answer late = absurd late
 alone-late (Some (check archive)) answer late = absurd late
@@ -53,6 +62,12 @@ alone-late (Some (demo seed count archive)) answer late = absurd late
 
 pub alone-once : (c : Option PlainCommand) (told : Option Files) (before after : Numbers) (failed : Type 0) → GoesOnce (alone c) told before after failed → GoesOnce c told before after failed
 alone-once c told before after failed = alone-said (λ d. GoesOnce d told before after failed) tt c
+
+pub alone-fills : (c : Option PlainCommand) (told : Option Files) (draft : Option (List ℕ)) (limited : Type 0) → FillsUp (alone c) told draft limited → FillsUp c told draft limited
+alone-fills c told draft limited = alone-said (λ d. FillsUp d told draft limited) tt c
+
+pub batch-fills : (c : Option PlainCommand) (told : Option Files) (draft : Option (List ℕ)) (limited : Type 0) → c ≡ Some batch → FillsUp c told draft limited
+batch-fills c told draft limited e = subst (λ (d : Option PlainCommand). FillsUp d told draft limited) (sym e) tt
 
 pub alone-little : (c : Option PlainCommand) (told : Option Files) (before after : Numbers) → ReadsLittle (alone c) told before after → ReadsLittle c told before after
 alone-little c told before after = alone-said (λ d. ReadsLittle d told before after) tt c
@@ -69,6 +84,7 @@ none-alone None e other = refl
 none-alone (Some (norm spec doc)) e other = absurd cc
 none-alone (Some (init archive spec)) e other = absurd cc
 none-alone (Some (add archive doc)) e other = absurd cc
+none-alone (Some (rekey archive spec)) e other = absurd cc
 none-alone (Some (get archive i)) e other = absurd cc
 none-alone (Some (history archive path)) e other = absurd cc
 none-alone (Some (check archive)) e other = absurd cc
@@ -143,3 +159,27 @@ module _ (a b c d e f r : ℕ) where
   answer-calm (inr (inr (inr (inl k)))) folder input out within = absurd (out k.1)
   answer-calm (inr (inr (inr (inr (inl k))))) folder input out within = absurd (input k.1)
   answer-calm (inr (inr (inr (inr (inr is))))) folder input out within = inr is
+
+-- ---- a command where no count of faults rises
+
+plain-by : (answer : ℕ) (a b c d : Bool) → (answer == 13) ≡ a → (answer == 14) ≡ b → (answer == 15) ≡ c → (answer == 16) ≡ d → answer ≢ 13 → answer ≢ 14 → answer ≢ 15
+    → (answer ≡ 16) ⊎ (cond a (Some folder_fault) (cond b (Some out_fault) (cond c (Some in_fault) (cond d (Some memory) None))) ≡ None)
+plain-by answer true b c d p q r s folder out input = absurd (folder (eqb-true answer 13 p))
+plain-by answer false true c d p q r s folder out input = absurd (out (eqb-true answer 14 q))
+plain-by answer false false true d p q r s folder out input = absurd (input (eqb-true answer 15 r))
+plain-by answer false false false true p q r s folder out input = inl (eqb-true answer 16 s)
+plain-by answer false false false false p q r s folder out input = inr refl
+
+-- the defined step was taken, or memory ran out
+pub steady : (files : Files) (words : List (List ℕ)) (s : Step) (answer : ℕ) (after : Option Files) (old new err_old err_new : Taken) (before now a b p q : ℕ)
+    → StepIs files words s → (outside_of answer ≡ None → Tried files words answer after old new err_old err_new before now) → (answer ≡ 13 → Rose a b) → (answer ≡ 14 → Rose p q) → answer ≢ 15 → ¬ (Rose a b) → ¬ (Rose p q)
+    → (answer ≡ 16) ⊎ Ran s answer after old new err_old err_new before now
+steady files words s answer after old new err_old err_new before now a b p q is tried folder out input calm quiet =
+    by (plain-by answer (answer == 13) (answer == 14) (answer == 15) (answer == 16) refl refl refl refl (λ e. calm (folder e)) (λ e. quiet (out e)) input)
+  where
+    taken : Tried files words answer after old new err_old err_new before now → Ran s answer after old new err_old err_new before now
+    taken t = subst (λ (z : Step). Ran z answer after old new err_old err_new before now) (sym (t.defined s is)) t.ran
+
+    by : (answer ≡ 16) ⊎ (outside_of answer ≡ None) → (answer ≡ 16) ⊎ Ran s answer after old new err_old err_new before now
+    by (inl e) = inl e
+    by (inr plain) = inr (taken (tried plain))

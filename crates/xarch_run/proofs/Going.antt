@@ -6,7 +6,7 @@ use Rattle.xa_outside.specs.Folder.{Files}
 use Rattle.xa_outside.specs.Taken.{Taken}
 use Rattle.xarch_words.specs.Lines.{fault_line}
 use Rattle.xarch_words.specs.Refusal.{batch, limit, refused, in_fault, memory}
-use Rattle.xarch_steps.specs.Ran.{Says}
+use Rattle.xarch_meanings.specs.Ran.{Says}
 use Rattle.xarch_run.specs.Batch.{AreRead, BatchEnds, RunsOver, scene}
 use Rattle.xarch_run.specs.Feed.{ahead, budget}
 use Rattle.xarch_run.specs.Lines.{ended_lines_of, is_blank, lines_of, without_blanks}

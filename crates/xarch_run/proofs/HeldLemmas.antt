@@ -11,24 +11,27 @@ use Rattle.archive_tree.specs.Stands.{version_of}
 use Rattle.record_format.specs.Files.{FileOf}
 use Rattle.archive_file.specs.KeyedBy.{IsKeyedBy}
 use Rattle.archive_file.specs.Sound.{SoundAs}
+use Rattle.archive_rekey.specs.Rekeyed.{AreRekeyed, IsFirstBad}
+use Rattle.key_rules.specs.Faults.{PlainKeyFault}
 use Rattle.xarch_gen.specs.Company.{company_rules}
-use Rattle.xarch_words.specs.Commands.{PlainCommand, norm, init, add, get, history, check, stats, batch, demo}
+use Rattle.xarch_words.specs.Commands.{PlainCommand, norm, init, add, rekey, get, history, check, stats, batch, demo}
 use Rattle.xarch_words.specs.Refusal.{specification, Refusal, exists, no_file}
 use Rattle.xarch_words.specs.Refusal as refusal
-use Rattle.xarch_steps.specs.Add.{added}
+use Rattle.xarch_meanings.specs.Add.{added}
 use Rattle.xarch_parts.specs.Archives.{ArchiveIs, GoesOn, Stores, free_in}
-use Rattle.xarch_steps.specs.Demo.{MakesOrNone, demo_input, samples}
-use Rattle.xarch_steps.specs.Get.{version_text}
-use Rattle.xarch_steps.specs.History.{history_text}
-use Rattle.xarch_steps.specs.Init.{init_rules}
+use Rattle.xarch_meanings.specs.Demo.{MakesOrNone, demo_input, samples}
+use Rattle.xarch_meanings.specs.Get.{version_text}
+use Rattle.xarch_meanings.specs.History.{history_text}
+use Rattle.xarch_meanings.specs.Init.{init_rules}
 use Rattle.xarch_parts.specs.Inputs.{at_most, length_in, read_in}
 use Rattle.xarch_parts.specs.Outcome.{Outcome, Step, step_from}
-use Rattle.xarch_steps.specs.Plausible.{MayAdd, MayBe, add_input, step_behind}
-use Rattle.xarch_steps.specs.PlausibleLaws.{late-unsound, no-late, plain-step}
+use Rattle.xarch_meanings.specs.Plausible.{MayAdd, MayBe, MayRekey, add_input, step_behind}
+use Rattle.xarch_meanings.specs.Rekey.{RekeysTo, rekey_rules}
+use Rattle.xarch_meanings.specs.PlausibleLaws.{late-unsound, no-late, plain-step}
 use Rattle.xarch_parts.specs.Readings.{rules_of}
-use Rattle.xarch_steps.specs.Succeeds.{ShouldSucceed}
+use Rattle.xarch_meanings.specs.Succeeds.{ShouldSucceed}
 use Rattle.xarch_run.specs.Calls.{CommandMay, CommandsDid}
-use Rattle.xarch_run.specs.Held.{Accepted, AddsDoc, BeginsWith, Begun, HandedIn, Held, HeldAfter, HeldBy, Holds, HoldsBehind, HoldsExactly, IsHandedIn, MakesArchive, NoneMakes, RefusalsKeep, WritesCounts, with_keyed}
+use Rattle.xarch_run.specs.Held.{Accepted, AddsDoc, BeginsWith, Begun, ChangesKeys, ChangesOrTells, HandedIn, Held, HeldAfter, HeldBy, Holds, HoldsBehind, HoldsExactly, IsHandedIn, IsRekeyed, MakesArchive, NoneMakes, RefusalsKeep, TakesKeys, WritesCounts, with_keyed}
 use Rattle.xarch_run.specs.Steps.{files_after}
 use Rattle.xarch_run.proofs.OneFile.{absent, archive-moves, ends-refused, goes, init-spelled, init-taken, is_for, made-is, other-name, others-kept, same-name, stored-is, taken}
 use Rattle.xarch_run.proofs.Statuses.{status-other}
@@ -43,6 +46,11 @@ none-kept files s (inl is) = ap (λ (z : Step). z.files) is
 none-kept files s (inr is) = ap (λ (z : Step). z.files) is
 
 -- ---- one command over an archive
+
+-- versions are one list under other rules, or one of them is the first bad one
+pub record OneRekeying : Type 0 where
+  pub one_list : (rules : List PlainRule) (vs us ws : List PlainKeyed) → AreRekeyed rules vs us → AreRekeyed rules vs ws → us ≡ ws
+  pub apart : (rules : List PlainRule) (vs us : List PlainKeyed) (i : ℕ) (f : PlainKeyFault) → AreRekeyed rules vs us → ¬ IsFirstBad rules vs i f
 
 -- what the archive holds behind a command
 record Goes (files : Files) (name : List ℕ) (h : Held) (command : Option PlainCommand) (now : Files) : Type 0 where
@@ -70,6 +78,36 @@ module _ (files : Files) (name : List ℕ) (h : Held) (a : Holds files name h) w
       let archive = stored-is files o name h.rules (h.versions ++ k ∷ []) s in
       record { tree = k; handed = record { satisfies = is; bytes = archive.bytes; file = archive.sound.file }; archive = archive })
 
+  -- a specification that is handed in is not refused
+  not-rekeyed : (one : OneRekeying) (spec : List ℕ) (i : Held) (q : Refusal) → IsRekeyed files name spec h i → MayBe files (rekey name spec) (Err q) → ⊥
+  unfolding MayBe
+  not-rekeyed one spec i q keyed m =
+      comes (subst (λ x. GoesOn x (RekeysTo files name h.versions) (Err q)) keyed.specified (m.sound h.rules h.versions a))
+    where
+      stored : Stores files name i.rules i.versions (Err q) → ⊥
+      stored (inl st) = (let no : ◌≡◌ {A = Result Outcome Refusal} (Err q) (Ok _) = st.is in cc)
+      stored (inr long) = long.none keyed.bytes keyed.file
+
+      comes : RekeysTo files name h.versions i.rules (Err q) → ⊥
+      comes (inl s) = stored (subst (λ us. Stores files name i.rules us (Err q)) (one.one_list i.rules h.versions s.versions i.versions s.are keyed.satisfied) s.rest)
+      comes (inr b) = one.apart i.rules h.versions i.versions b.number b.fault keyed.satisfied b.first
+
+  -- one that is not refused was handed in
+  was-rekeyed : (spec : List ℕ) (o : Outcome) → MayBe files (rekey name spec) (Ok o) → TakesKeys files name spec h o.files
+  unfolding MayBe
+  was-rekeyed spec o m =
+      goes o (rekey_rules files name spec) (RekeysTo files name h.versions) (Ok o) refl (m.sound h.rules h.versions a) (λ rules is s. comes rules is s)
+    where
+      comes : (rules : List PlainRule) → rekey_rules files name spec ≡ Ok rules → RekeysTo files name h.versions rules (Ok o) → TakesKeys files name spec h o.files
+      comes rules is (inl s) =
+          let archive = stored-is files o name rules s.versions s.rest in
+          record {
+            under = record { rules = rules; versions = s.versions };
+            keys = record { specified = is; satisfied = s.are; bytes = archive.bytes; file = archive.sound.file };
+            archive = archive;
+          }
+      comes rules is (inr b) = (let no : ◌≡◌ {A = Result Outcome Refusal} (Ok o) (Err _) = b.is in absurd cc)
+
   -- where its file is as it was
   same-held : (o : Outcome) → finite.get o.files name ≡ finite.get files name → Holds o.files name h
   same-held o e = archive-moves files o.files name h.rules h.versions a e
@@ -84,6 +122,14 @@ module _ (files : Files) (name : List ℕ) (h : Held) (a : Holds files name h) w
       let k = was-handed doc o (subst (λ n. MayBe files (add n doc) (Ok o)) (sym same) m) in
       record { held = with_keyed h k.tree; first = inl (same, inl (record { tree = k.tree; handed = k.handed; is = refl })); archive = k.archive })
       (λ e. record { held = h; first = inr (other-name name other e, refl); archive = unchanged o (add other doc) e m })
+
+  rekey-goes : (o : Outcome) (other spec : List ℕ) → MayBe files (rekey other spec) (Ok o) → Goes files name h (Some (rekey other spec)) o.files
+  rekey-goes o other spec m = by-name (bytes_eq name other)
+      (λ e.
+      let same = same-name name other e in
+      let k = was-rekeyed spec o (subst (λ n. MayBe files (rekey n spec) (Ok o)) (sym same) m) in
+      record { held = k.under; first = inl (same, inl k.keys); archive = k.archive })
+      (λ e. record { held = h; first = inr (other-name name other e, refl); archive = unchanged o (rekey other spec) e m })
 
   init-here : (o : Outcome) (other spec : List ℕ) → bytes_eq name other ≡ true → MayBe files (init other spec) (Ok o) → Holds o.files name h
   unfolding MayBe
@@ -102,6 +148,7 @@ module _ (files : Files) (name : List ℕ) (h : Held) (a : Holds files name h) w
   done-goes o (init other spec) m =
       record { held = h; first = refl; archive = by-name (bytes_eq name other) (λ e. init-here o other spec e m) (λ e. unchanged o (init other spec) e m) }
   done-goes o (add other doc) m = add-goes o other doc m
+  done-goes o (rekey other spec) m = rekey-goes o other spec m
   done-goes o (get other i) m = record { held = h; first = refl; archive = unchanged o (get other i) refl m }
   done-goes o (history other path) m = record { held = h; first = refl; archive = unchanged o (history other path) refl m }
   done-goes o (check other) m = record { held = h; first = refl; archive = unchanged o (check other) refl m }
@@ -110,39 +157,44 @@ module _ (files : Files) (name : List ℕ) (h : Held) (a : Holds files name h) w
   done-goes o (demo seed count other) m =
       record { held = h; first = refl; archive = by-name (bytes_eq name other) (λ e. demo-here o seed count other e m) (λ e. unchanged o (demo seed count other) e m) }
 
-  refused-goes : (q : Refusal) (command : PlainCommand) → MayBe files command (Err q) → Goes files name h (Some command) files
-  refused-goes q (norm spec doc) m = record { held = h; first = refl; archive = a }
-  refused-goes q (init other spec) m = record { held = h; first = refl; archive = a }
-  refused-goes q (add other doc) m = by-name (bytes_eq name other)
+  refused-goes : (one : OneRekeying) (q : Refusal) (command : PlainCommand) → MayBe files command (Err q) → Goes files name h (Some command) files
+  refused-goes one q (norm spec doc) m = record { held = h; first = refl; archive = a }
+  refused-goes one q (init other spec) m = record { held = h; first = refl; archive = a }
+  refused-goes one q (add other doc) m = by-name (bytes_eq name other)
       (λ e.
       let same = same-name name other e in
       record { held = h; first = inl (same, inr (record { none = λ k handed. not-refused doc k q handed (subst (λ n. MayBe files (add n doc) (Err q)) (sym same) m); is = refl })); archive = a })
       (λ e. record { held = h; first = inr (other-name name other e, refl); archive = a })
-  refused-goes q (get other i) m = record { held = h; first = refl; archive = a }
-  refused-goes q (history other path) m = record { held = h; first = refl; archive = a }
-  refused-goes q (check other) m = record { held = h; first = refl; archive = a }
-  refused-goes q (stats other) m = record { held = h; first = refl; archive = a }
-  refused-goes q batch m = record { held = h; first = refl; archive = a }
-  refused-goes q (demo seed count other) m = record { held = h; first = refl; archive = a }
+  refused-goes one q (rekey other spec) m = by-name (bytes_eq name other)
+      (λ e.
+      let same = same-name name other e in
+      record { held = h; first = inl (same, inr (record { none = λ i keyed. not-rekeyed one spec i q keyed (subst (λ n. MayBe files (rekey n spec) (Err q)) (sym same) m); is = refl })); archive = a })
+      (λ e. record { held = h; first = inr (other-name name other e, refl); archive = a })
+  refused-goes one q (get other i) m = record { held = h; first = refl; archive = a }
+  refused-goes one q (history other path) m = record { held = h; first = refl; archive = a }
+  refused-goes one q (check other) m = record { held = h; first = refl; archive = a }
+  refused-goes one q (stats other) m = record { held = h; first = refl; archive = a }
+  refused-goes one q batch m = record { held = h; first = refl; archive = a }
+  refused-goes one q (demo seed count other) m = record { held = h; first = refl; archive = a }
 
-  outcome-goes : (command : PlainCommand) (written : List ℕ) (r : Result Outcome Refusal) → MayBe files command r → Goes files name h (Some command) (step_behind files written r).files
-  outcome-goes command written (Ok o) m = done-goes o command m
-  outcome-goes command written (Err q) m = refused-goes q command m
+  outcome-goes : (one : OneRekeying) (command : PlainCommand) (written : List ℕ) (r : Result Outcome Refusal) → MayBe files command r → Goes files name h (Some command) (step_behind files written r).files
+  outcome-goes one command written (Ok o) m = done-goes o command m
+  outcome-goes one command written (Err q) m = refused-goes one q command m
 
-  step-goes : (command : Option PlainCommand) (s : Step) → CommandMay files command s → Goes files name h command s.files
-  step-goes None s m = record { held = h; first = refl; archive = subst (λ (u : Files). Holds u name h) (sym (none-kept files s m)) a }
-  step-goes (Some command) s m = subst (λ (z : Step). Goes files name h (Some command) z.files) (sym m.is) (outcome-goes command m.written m.outcome m.may)
+  step-goes : (one : OneRekeying) (command : Option PlainCommand) (s : Step) → CommandMay files command s → Goes files name h command s.files
+  step-goes one None s m = record { held = h; first = refl; archive = subst (λ (u : Files). Holds u name h) (sym (none-kept files s m)) a }
+  step-goes one (Some command) s m = subst (λ (z : Step). Goes files name h (Some command) z.files) (sym m.is) (outcome-goes one command m.written m.outcome m.may)
 
 -- ---- what steps leave
 
-pub all-hold : (files : Files) (name : List ℕ) (cs : List (Option PlainCommand)) (ss : List Step) (h : Held) → Holds files name h → CommandsDid files cs ss → HoldsBehind files name cs ss h
-all-hold files name [] [] h a did = record { held = h; after = refl; archive = a }
-all-hold files name [] (s ∷ ss) h a did = absurd did
-all-hold files name (c ∷ cs) [] h a did = absurd did
-all-hold files name (c ∷ cs) (s ∷ ss) h a did =
-    let one = step-goes files name h a c s did.0 in
-    let rest = all-hold s.files name cs ss one.held one.archive did.1 in
-    record { held = rest.held; after = record { between = one.held; first = one.first; rest = rest.after }; archive = rest.archive }
+pub all-hold : (one : OneRekeying) (files : Files) (name : List ℕ) (cs : List (Option PlainCommand)) (ss : List Step) (h : Held) → Holds files name h → CommandsDid files cs ss → HoldsBehind files name cs ss h
+all-hold one files name [] [] h a did = record { held = h; after = refl; archive = a }
+all-hold one files name [] (s ∷ ss) h a did = absurd did
+all-hold one files name (c ∷ cs) [] h a did = absurd did
+all-hold one files name (c ∷ cs) (s ∷ ss) h a did =
+    let step = step-goes files name h a one c s did.0 in
+    let rest = all-hold one s.files name cs ss step.held step.archive did.1 in
+    record { held = rest.held; after = record { between = step.held; first = step.first; rest = rest.after }; archive = rest.archive }
 
 -- what is held is one thing
 one-tree : (files : Files) (doc : List ℕ) (h : Held) (k j : PlainKeyed) → IsHandedIn files doc h k → IsHandedIn files doc h j → k ≡ j
@@ -157,27 +209,50 @@ one-added files doc h i j (inl p) (inr q) = absurd (q.none p.tree p.handed)
 one-added files doc h i j (inr p) (inl q) = absurd (p.none q.tree q.handed)
 one-added files doc h i j (inr p) (inr q) = p.is ∙ sym q.is
 
-one-by : (files : Files) (name : List ℕ) (command : Option PlainCommand) (h i j : Held) → HeldBy files name command h i → HeldBy files name command h j → i ≡ j
-one-by files name None h i j p q = p ∙ sym q
-one-by files name (Some (norm spec doc)) h i j p q = p ∙ sym q
-one-by files name (Some (init other spec)) h i j p q = p ∙ sym q
-one-by files name (Some (add other doc)) h i j (inl p) (inl q) = one-added files doc h i j p.1 q.1
-one-by files name (Some (add other doc)) h i j (inl p) (inr q) = absurd (q.0 p.0)
-one-by files name (Some (add other doc)) h i j (inr p) (inl q) = absurd (p.0 q.0)
-one-by files name (Some (add other doc)) h i j (inr p) (inr q) = p.1 ∙ sym q.1
-one-by files name (Some (get other i)) h j k p q = p ∙ sym q
-one-by files name (Some (history other path)) h i j p q = p ∙ sym q
-one-by files name (Some (check other)) h i j p q = p ∙ sym q
-one-by files name (Some (stats other)) h i j p q = p ∙ sym q
-one-by files name (Some batch) h i j p q = p ∙ sym q
-one-by files name (Some (demo seed count other)) h i j p q = p ∙ sym q
+both-held : (i j : Held) → i.rules ≡ j.rules → i.versions ≡ j.versions → i ≡ j
+both-held i j e f =
+    let rules : i ≡ record { rules = j.rules; versions = i.versions } = ap (λ (r : List PlainRule). record { rules = r; versions = i.versions }) e in
+    rules ∙ ap (λ (us : List PlainKeyed). record { rules = j.rules; versions = us }) f
 
-one-after : (files : Files) (name : List ℕ) (cs : List (Option PlainCommand)) (ss : List Step) (h i j : Held) → HeldAfter files name cs ss h i → HeldAfter files name cs ss h j → i ≡ j
-one-after files name [] ss h i j p q = p ∙ sym q
-one-after files name (c ∷ cs) [] h i j p q = absurd p
-one-after files name (c ∷ cs) (s ∷ ss) h i j p q =
-    let same = one-by files name c h p.between q.between p.first q.first in
-    one-after s.files name cs ss q.between i j (subst (λ (m : Held). HeldAfter s.files name cs ss m i) same p.rest) q.rest
+same-rules : (x : Result (List PlainRule) Refusal) (r s : List PlainRule) → x ≡ Ok r → x ≡ Ok s → r ≡ s
+same-rules x r s e f = cc
+
+one-keys : (one : OneRekeying) (files : Files) (name spec : List ℕ) (h i j : Held) → IsRekeyed files name spec h i → IsRekeyed files name spec h j → i ≡ j
+one-keys one files name spec h i j p q =
+    let rules = same-rules (rekey_rules files name spec) i.rules j.rules p.specified q.specified in
+    both-held i j rules (one.one_list j.rules h.versions i.versions j.versions (subst (λ r. AreRekeyed r h.versions i.versions) rules p.satisfied) q.satisfied)
+
+one-changed : (one : OneRekeying) (files : Files) (name spec : List ℕ) (h i j : Held) → ChangesKeys files name spec h i → ChangesKeys files name spec h j → i ≡ j
+one-changed one files name spec h i j (inl p) (inl q) = one-keys one files name spec h i j p q
+one-changed one files name spec h i j (inl p) (inr q) = absurd (q.none i p)
+one-changed one files name spec h i j (inr p) (inl q) = absurd (p.none j q)
+one-changed one files name spec h i j (inr p) (inr q) = p.is ∙ sym q.is
+
+one-by : (one : OneRekeying) (files : Files) (name : List ℕ) (command : Option PlainCommand) (h i j : Held) → HeldBy files name command h i → HeldBy files name command h j → i ≡ j
+one-by one files name None h i j p q = p ∙ sym q
+one-by one files name (Some (norm spec doc)) h i j p q = p ∙ sym q
+one-by one files name (Some (init other spec)) h i j p q = p ∙ sym q
+one-by one files name (Some (add other doc)) h i j (inl p) (inl q) = one-added files doc h i j p.1 q.1
+one-by one files name (Some (add other doc)) h i j (inl p) (inr q) = absurd (q.0 p.0)
+one-by one files name (Some (add other doc)) h i j (inr p) (inl q) = absurd (p.0 q.0)
+one-by one files name (Some (add other doc)) h i j (inr p) (inr q) = p.1 ∙ sym q.1
+one-by one files name (Some (rekey other spec)) h i j (inl p) (inl q) = one-changed one files name spec h i j p.1 q.1
+one-by one files name (Some (rekey other spec)) h i j (inl p) (inr q) = absurd (q.0 p.0)
+one-by one files name (Some (rekey other spec)) h i j (inr p) (inl q) = absurd (p.0 q.0)
+one-by one files name (Some (rekey other spec)) h i j (inr p) (inr q) = p.1 ∙ sym q.1
+one-by one files name (Some (get other i)) h j k p q = p ∙ sym q
+one-by one files name (Some (history other path)) h i j p q = p ∙ sym q
+one-by one files name (Some (check other)) h i j p q = p ∙ sym q
+one-by one files name (Some (stats other)) h i j p q = p ∙ sym q
+one-by one files name (Some batch) h i j p q = p ∙ sym q
+one-by one files name (Some (demo seed count other)) h i j p q = p ∙ sym q
+
+one-after : (one : OneRekeying) (files : Files) (name : List ℕ) (cs : List (Option PlainCommand)) (ss : List Step) (h i j : Held) → HeldAfter files name cs ss h i → HeldAfter files name cs ss h j → i ≡ j
+one-after one files name [] ss h i j p q = p ∙ sym q
+one-after one files name (c ∷ cs) [] h i j p q = absurd p
+one-after one files name (c ∷ cs) (s ∷ ss) h i j p q =
+    let same = one-by one files name c h p.between q.between p.first q.first in
+    one-after one s.files name cs ss q.between i j (subst (λ (m : Held). HeldAfter s.files name cs ss m i) same p.rest) q.rest
 
 -- ---- refusals
 
@@ -224,6 +299,7 @@ command-begins : (files : Files) (name : List ℕ) (command : PlainCommand) (o :
 command-begins files name (norm spec doc) o makes m = absurd makes
 command-begins files name (init other spec) o makes m = init-begins files name other spec o makes m
 command-begins files name (add other doc) o makes m = absurd makes
+command-begins files name (rekey other spec) o makes m = absurd makes
 command-begins files name (get other i) o makes m = absurd makes
 command-begins files name (history other path) o makes m = absurd makes
 command-begins files name (check other) o makes m = absurd makes
@@ -246,6 +322,7 @@ begins-makes files name None h b = b
 begins-makes files name (Some (norm spec doc)) h b = b
 begins-makes files name (Some (init other spec)) h b = b.0
 begins-makes files name (Some (add other doc)) h b = b
+begins-makes files name (Some (rekey other spec)) h b = b
 begins-makes files name (Some (get other i)) h b = b
 begins-makes files name (Some (history other path)) h b = b
 begins-makes files name (Some (check other)) h b = b
@@ -262,6 +339,7 @@ same-beginning files name (Some (init other spec)) h g b c = (one-reading (read_
     one-reading : (x : Result (List PlainRule) Refusal) → x ≡ Ok h.rules → x ≡ Ok g.rules → h.rules ≡ g.rules
     one-reading x e f = cc
 same-beginning files name (Some (add other doc)) h g b c = absurd b
+same-beginning files name (Some (rekey other spec)) h g b c = absurd b
 same-beginning files name (Some (get other i)) h g b c = absurd b
 same-beginning files name (Some (history other path)) h g b c = absurd b
 same-beginning files name (Some (check other)) h g b c = absurd b
@@ -277,13 +355,13 @@ step-archive files name command s h m success b =
 
 -- ---- an archive from its beginning on
 
-pub handed-holds : (files : Files) (name : List ℕ) (cs : List (Option PlainCommand)) (ss : List Step) (h : Held) → CommandsDid files cs ss → HandedIn files name cs ss h → Holds (files_after files ss) name h
-handed-holds files name [] ss h did made = absurd made
-handed-holds files name (c ∷ cs) [] h did made = absurd made
-handed-holds files name (c ∷ cs) (s ∷ ss) h did (inl made) =
-    let behind = all-hold s.files name cs ss made.first (step-archive files name c s made.first did.0 made.answered made.begins) did.1 in
-    subst (Holds (files_after s.files ss) name) (one-after s.files name cs ss made.first behind.held h behind.after made.after) behind.archive
-handed-holds files name (c ∷ cs) (s ∷ ss) h did (inr later) = handed-holds s.files name cs ss h did.1 later
+pub handed-holds : (one : OneRekeying) (files : Files) (name : List ℕ) (cs : List (Option PlainCommand)) (ss : List Step) (h : Held) → CommandsDid files cs ss → HandedIn files name cs ss h → Holds (files_after files ss) name h
+handed-holds one files name [] ss h did made = absurd made
+handed-holds one files name (c ∷ cs) [] h did made = absurd made
+handed-holds one files name (c ∷ cs) (s ∷ ss) h did (inl made) =
+    let behind = all-hold one s.files name cs ss made.first (step-archive files name c s made.first did.0 made.answered made.begins) did.1 in
+    subst (Holds (files_after s.files ss) name) (one-after one s.files name cs ss made.first behind.held h behind.after made.after) behind.archive
+handed-holds one files name (c ∷ cs) (s ∷ ss) h did (inr later) = handed-holds one s.files name cs ss h did.1 later
 
 -- no other bytes are the encoding
 pub exact : ((rules : List PlainRule) (vs : List PlainKeyed) (a b : List ℕ) → FileOf rules vs a → FileOf rules vs b → a ≡ b)
@@ -313,10 +391,18 @@ module _ (files : Files) (name : List ℕ) (none : finite.get files name ≡ Non
       let refused : add_input files other doc ≡ Err (no_file other) = rw none-here refl in
       goes o (add_input files other doc) (λ _. MayAdd files other) (Ok o) refl m.whatever (λ p is _. absurd cc)
 
+  rekey-absent : (other spec : List ℕ) → bytes_eq name other ≡ true → MayBe files (rekey other spec) (Ok o) → StaysAbsent
+  unfolding MayBe
+  rekey-absent other spec e m =
+      let none-here = subst (λ n. finite.get files n ≡ None) (same-name name other e) none in
+      let refused : rekey_rules files other spec ≡ Err (no_file other) = rw none-here refl in
+      goes o (rekey_rules files other spec) (λ _. MayRekey files other) (Ok o) refl m.whatever (λ p is _. absurd cc)
+
   one-absent : (command : PlainCommand) → ¬ MakesArchive name (Some command) → MayBe files command (Ok o) → StaysAbsent
   one-absent (norm spec doc) refused m = stays (others-kept files name o (Ok o) refl (norm spec doc) refl m)
   one-absent (init other spec) refused m = by-name (bytes_eq name other) (λ e. absurd (refused (same-name name other e))) (λ e. stays (others-kept files name o (Ok o) refl (init other spec) e m))
   one-absent (add other doc) refused m = by-name (bytes_eq name other) (λ e. add-absent other doc e m) (λ e. stays (others-kept files name o (Ok o) refl (add other doc) e m))
+  one-absent (rekey other spec) refused m = by-name (bytes_eq name other) (λ e. rekey-absent other spec e m) (λ e. stays (others-kept files name o (Ok o) refl (rekey other spec) e m))
   one-absent (get other i) refused m = stays (others-kept files name o (Ok o) refl (get other i) refl m)
   one-absent (history other path) refused m = stays (others-kept files name o (Ok o) refl (history other path) refl m)
   one-absent (check other) refused m = stays (others-kept files name o (Ok o) refl (check other) refl m)
@@ -356,6 +442,24 @@ module _ (files : Files) (name : List ℕ) (h : Held) (s : Step) (a : Holds file
       by_outcome : (r : Result Outcome Refusal) → MayBe files (add name doc) r → s ≡ step_behind files m.written r → Accepted files name doc h s.files
       by_outcome (Ok o) may is = subst (λ (z : Step). Accepted files name doc h z.files) (sym is) (was-handed files name h a doc o may)
       by_outcome (Err q) may is = refused-status files s m.written q is success
+
+  pub rekeying : (one : OneRekeying) (spec : List ℕ) (i : Held) → CommandMay files (Some (rekey name spec)) s → IsRekeyed files name spec h i → s.status ≡ 0
+  rekeying one spec i m keyed = by_outcome m.outcome m.may m.is
+    where
+      by_outcome : (r : Result Outcome Refusal) → MayBe files (rekey name spec) r → s ≡ step_behind files m.written r → s.status ≡ 0
+      by_outcome (Ok o) may is = ap (λ (z : Step). z.status) is
+      by_outcome (Err q) may is = absurd (not-rekeyed files name h a one spec i q keyed may)
+
+  pub keys-taken : (spec : List ℕ) → CommandMay files (Some (rekey name spec)) s → s.status ≡ 0 → TakesKeys files name spec h s.files
+  keys-taken spec m success = by_outcome m.outcome m.may m.is
+    where
+      by_outcome : (r : Result Outcome Refusal) → MayBe files (rekey name spec) r → s ≡ step_behind files m.written r → TakesKeys files name spec h s.files
+      by_outcome (Ok o) may is = subst (λ (z : Step). TakesKeys files name spec h z.files) (sym is) (was-rekeyed files name h a spec o may)
+      by_outcome (Err q) may is = refused-status files s m.written q is success
+
+  pub keys-told : (spec : List ℕ) → CommandMay files (Some (rekey name spec)) s → ChangesOrTells files name spec h s
+  unfolding MayBe
+  keys-told spec m = record { outcome = m.outcome; comes = m.may.sound h.rules h.versions a; is = plain-step files (Some (rekey name spec)) s m (no-late files (Some (rekey name spec)) m.outcome (λ q late. late)) }
 
   pub getting : (i : ℕ) → CommandMay files (Some (get name i)) s → s ≡ step_from files (version_text files h.versions i)
   unfolding MayBe

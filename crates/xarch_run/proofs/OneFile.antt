@@ -10,18 +10,19 @@ use Rattle.xa_outside.specs.Folder.{Files}
 use Rattle.key_spec.specs.Data.{PlainRule}
 use Rattle.keyed_tree.specs.Data.{PlainKeyed}
 use Rattle.xarch_gen.specs.Company.{company_rules}
-use Rattle.xarch_words.specs.Commands.{PlainCommand, norm, init, add, get, history, check, stats, batch, demo}
-use Rattle.xarch_words.specs.Refusal.{document, specification, Refusal, usage, no_file, exists, damaged, limit}
+use Rattle.xarch_words.specs.Commands.{PlainCommand, norm, init, add, rekey, get, history, check, stats, batch, demo}
+use Rattle.xarch_words.specs.Refusal.{document, specification, Refusal, usage, no_file, exists, key_fault_in, damaged, limit}
 use Rattle.xarch_words.specs.Refusal as refusal
 use Rattle.xarch_parts.specs.Archives.{ArchiveIs, GoesOn, Stores, free_in}
-use Rattle.xarch_steps.specs.Check.{IsFound, check_text}
-use Rattle.xarch_steps.specs.Demo.{MakesOrNone, demo_input, samples}
-use Rattle.xarch_steps.specs.Init.{init_rules}
+use Rattle.xarch_meanings.specs.Check.{IsFound, check_text}
+use Rattle.xarch_meanings.specs.Demo.{MakesOrNone, demo_input, samples}
+use Rattle.xarch_meanings.specs.Init.{init_rules}
 use Rattle.xarch_parts.specs.Inputs.{file_of, length_in, read_in}
-use Rattle.xarch_steps.specs.Norm.{norm_of}
+use Rattle.xarch_meanings.specs.Norm.{norm_of}
 use Rattle.xarch_parts.specs.Outcome.{Outcome, and_then, or_refuse}
-use Rattle.xarch_steps.specs.Plausible.{MayAdd, MayBe, MayWrite, add_input, get_input, history_input}
-use Rattle.xarch_steps.specs.Ran.{made_name}
+use Rattle.xarch_meanings.specs.Rekey.{RekeysFrom, RekeysTo, rekey_rules}
+use Rattle.xarch_meanings.specs.Plausible.{MayAdd, MayBe, MayRekey, MayWrite, add_input, get_input, history_input}
+use Rattle.xarch_meanings.specs.Ran.{made_name}
 use Rattle.xarch_parts.specs.Readings.{document_of, keyed_of, rules_of}
 
 -- ---- files by name
@@ -104,6 +105,16 @@ module _ (files : Files) (name : List ℕ) (o : Outcome) where
     stores-elsewhere other rules vs e (inl s) = stored-elsewhere other s.bytes [] e s.is
     stores-elsewhere other rules vs e (inr t) = never o (limit refusal.archive 274877906944) r is t.is
 
+    -- over a sound archive its versions under other keys are stored
+    rekeys-elsewhere : (other : List ℕ) (vs : List PlainKeyed) (rules : List PlainRule) → bytes_eq name other ≡ false → RekeysTo files other vs rules r → Keeps
+    rekeys-elsewhere other vs rules e (inl s) = stores-elsewhere other rules s.versions e s.rest
+    rekeys-elsewhere other vs rules e (inr b) = never o (key_fault_in b.number b.fault) r is b.is
+
+    rekey-elsewhere : (other spec : List ℕ) → bytes_eq name other ≡ false → ((old : List PlainRule) (vs : List PlainKeyed) → ArchiveIs files other old vs → RekeysFrom files other spec old vs r) → MayRekey files other r → Keeps
+    rekey-elsewhere other spec e sound (inl q) = never o (damaged other) r is q
+    rekey-elsewhere other spec e sound (inr a) =
+        goes o (rekey_rules files other spec) (RekeysTo files other a.versions) r is (sound a.rules a.versions a.archive) (λ rules _ m. rekeys-elsewhere other a.versions rules e m)
+
     makes-elsewhere : (other : List ℕ) (seed count : ℕ) → bytes_eq name other ≡ false → MakesOrNone files other seed count r → Keeps
     makes-elsewhere other seed count e (inl s) = stored-elsewhere other s.bytes _ e s.is
     makes-elsewhere other seed count e (inr t) = never o (limit refusal.archive 274877906944) r is t.is
@@ -113,6 +124,7 @@ module _ (files : Files) (name : List ℕ) (o : Outcome) where
     others-kept (norm spec doc) e h = same-files (norm-keeps files spec doc o (sym h ∙ is))
     others-kept (init other spec) e h = goes o (init_rules files other spec) (λ rules. Stores files other rules []) r is h (λ rules _ s. stores-elsewhere other rules [] e s)
     others-kept (add other doc) e h = goes o (add_input files other doc) (λ _. MayAdd files other) r is h.whatever (λ _ _ m. add-elsewhere other e m)
+    others-kept (rekey other spec) e h = goes o (rekey_rules files other spec) (λ _. MayRekey files other) r is h.whatever (λ _ _ m. rekey-elsewhere other spec e h.sound m)
     others-kept (get other i) e h = goes o (get_input files other i) (λ _. MayWrite files other) r is h.whatever (λ _ _ m. write-keeps other m)
     others-kept (history other path) e h = goes o (history_input files other path) (λ _. MayWrite files other) r is h.whatever (λ _ _ m. write-keeps other m)
     others-kept (check other) e h = goes o (file_of files other) (IsFound files other) r is h (λ bytes _ m. judge-keeps other bytes m)

@@ -7,7 +7,7 @@ use Rattle.xa_outside.specs.Taken.{Taken, Takes}
 use Rattle.xa_outside.specs.CauseLaws.{Rose-later}
 use Rattle.xa_outside.specs.TakenLaws.{Takes-nil, Takes-trans}
 use Rattle.xarch_parts.specs.Outcome.{Step}
-use Rattle.xarch_steps.specs.Ran.{Says}
+use Rattle.xarch_meanings.specs.Ran.{Says}
 use Rattle.xarch_run.specs.Steps.{AllAnswer, AllMakeNone, AreSteps, IfTold, IsStep, LinesLead, StepsAre, files_after, lines_said, outs, turn_text}
 use Rattle.xarch_run.specs.Lines.{lines_of}
 use Rattle.xarch_run.specs.Batch.{AreRead, Gains, RunsOver, Stops, StoppedAt, scene}

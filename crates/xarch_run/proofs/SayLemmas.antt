@@ -5,7 +5,7 @@ use Rattle.xa_outside.specs.Taken.{Taken, Puts}
 use Rattle.xa_outside.specs.TakenLaws.{TakesPrefix-all}
 use Rattle.xarch_words.specs.Lines.{fault_line}
 use Rattle.xarch_words.specs.Refusal.{PlainFault}
-use Rattle.xarch_steps.specs.Ran.{Says}
+use Rattle.xarch_meanings.specs.Ran.{Says}
 
 -- a line that was written, or a prefix of it where the sink failed
 pub says-put : {T E : Type 0} (a b : Taken) (r : Result T E) (x : List ℕ) (m n : ℕ) → Puts a b r x → HasCause m n r → Says a b m n x

@@ -2,8 +2,8 @@
 use Rattle.std.proofs.Common.{◌≡◌, ◌≢◌, ◌⊎◌, inl, inr, ℕ, List, ◌==◌, ◌≤◌, Bool, true, false, cond, None, Some, refl, ap, arith}
 use Rattle.std.proofs.lemmas.Bool.{eqb-true}
 use Rattle.xarch_words.specs.Lines.{refusal_status}
-use Rattle.xarch_words.specs.Refusal.{Refusal, usage, no_file, exists, bad_spec, bad_json, bad_shape, key_fault, no_version, bad_path, damaged, limit, folder_fault, out_fault, in_fault, memory}
-use Rattle.xarch_steps.specs.Ran.{outside_of}
+use Rattle.xarch_words.specs.Refusal.{Refusal, usage, no_file, exists, bad_spec, bad_json, bad_shape, key_fault, key_fault_in, no_version, bad_path, damaged, limit, folder_fault, out_fault, in_fault, memory}
+use Rattle.xarch_meanings.specs.Ran.{outside_of}
 
 -- words that are no command have the status 2, and every other refusal one from 3 to 12
 by-status : (q : Refusal) → (q ≡ usage) ⊎ ((3 ≤ refusal_status q) × (refusal_status q ≤ 12))
@@ -14,6 +14,7 @@ by-status (bad_spec l w) = inr (omega arith, omega arith)
 by-status bad_json = inr (omega arith, omega arith)
 by-status (bad_shape p w) = inr (omega arith, omega arith)
 by-status (key_fault f) = inr (omega arith, omega arith)
+by-status (key_fault_in i f) = inr (omega arith, omega arith)
 by-status (no_version i n) = inr (omega arith, omega arith)
 by-status (bad_path s) = inr (omega arith, omega arith)
 by-status (damaged n) = inr (omega arith, omega arith)
@@ -37,6 +38,7 @@ damage-only (bad_spec l w) e = absurd (omega (arith, e))
 damage-only bad_json e = absurd (omega (arith, e))
 damage-only (bad_shape p w) e = absurd (omega (arith, e))
 damage-only (key_fault f) e = absurd (omega (arith, e))
+damage-only (key_fault_in i f) e = absurd (omega (arith, e))
 damage-only (no_version i n) e = absurd (omega (arith, e))
 damage-only (bad_path t) e = absurd (omega (arith, e))
 damage-only (damaged name) e = (name, refl)

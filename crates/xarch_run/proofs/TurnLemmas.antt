@@ -9,18 +9,18 @@ use Rattle.xa_outside.specs.CauseLaws.{Rose-later}
 use Rattle.xa_outside.specs.Folder.{Files}
 use Rattle.xa_outside.specs.Taken.{Taken, Takes, TakesNone, TakesPrefix}
 use Rattle.xa_outside.specs.TakenLaws.{Takes-nil, Takes-kept, Takes-trans, TakesPrefix-all}
-use Rattle.xarch_words.specs.Commands.{PlainCommand, norm, init, add, get, history, check, stats, batch, demo}
+use Rattle.xarch_words.specs.Commands.{PlainCommand, norm, init, add, rekey, get, history, check, stats, batch, demo}
 use Rattle.xarch_words.specs.Lines.{fault_line, fault_status, refusal_status}
 use Rattle.xarch_words.specs.Refusal as refusal
 use Rattle.xarch_words.specs.Refusal.{Refusal, usage, damaged, line, limit, PlainFault, refused, folder_fault, out_fault, in_fault, memory}
 use Rattle.xarch_parts.specs.Ends.{Gained}
 use Rattle.xarch_parts.specs.Archives.{GoesOn, free_in}
-use Rattle.xarch_steps.specs.Demo.{MakesOrNone}
+use Rattle.xarch_meanings.specs.Demo.{MakesOrNone}
 use Rattle.xarch_parts.specs.Outcome.{Outcome, Step, and_then, step_from}
-use Rattle.xarch_steps.specs.Plausible.{IsLate, MayBe, MayDo, Plausible, Tried, Wrote, step_behind}
-use Rattle.xarch_steps.specs.PlausibleLaws.{behind-none, late-get}
-use Rattle.xarch_steps.specs.Ran.{IsLongDemo, MayHaveWritten, OnlyReads, Said, Says, line_after, outside_of, status_after}
-use Rattle.xarch_steps.specs.Step.{alone, single_of}
+use Rattle.xarch_meanings.specs.Plausible.{IsLate, MayBe, MayDo, Plausible, Tried, Wrote, step_behind}
+use Rattle.xarch_meanings.specs.PlausibleLaws.{behind-none, late-get}
+use Rattle.xarch_meanings.specs.Ran.{IsLongDemo, MayHaveWritten, OnlyReads, Said, Says, line_after, outside_of, status_after}
+use Rattle.xarch_meanings.specs.Step.{alone, single_of}
 use Rattle.xarch_run.specs.Batch.{EndsTheBatch, Gains, IsPart, RunsOver, scene}
 use Rattle.xarch_run.specs.Lines.{is_blank, without_blanks}
 use Rattle.xarch_run.specs.Steps.{CommandAnswers, IsStep, LineAnswers, LineMay, MakesNone, MayFault, RefusesWith, SpelledAnswers, WordsAnswer, WordsMay, line_command, status_line}
@@ -137,6 +137,7 @@ long-refused files None r long may = absurd long
 long-refused files (Some (norm spec doc)) r long may = absurd long
 long-refused files (Some (init archive spec)) r long may = absurd long
 long-refused files (Some (add archive doc)) r long may = absurd long
+long-refused files (Some (rekey archive spec)) r long may = absurd long
 long-refused files (Some (get archive i)) r long may = absurd long
 long-refused files (Some (history archive path)) r long may = absurd long
 long-refused files (Some (check archive)) r long may = absurd long
@@ -153,6 +154,7 @@ long-or-not None = inr (λ long. long)
 long-or-not (Some (norm spec doc)) = inr (λ long. long)
 long-or-not (Some (init archive spec)) = inr (λ long. long)
 long-or-not (Some (add archive doc)) = inr (λ long. long)
+long-or-not (Some (rekey archive spec)) = inr (λ long. long)
 long-or-not (Some (get archive i)) = inr (λ long. long)
 long-or-not (Some (history archive path)) = inr (λ long. long)
 long-or-not (Some (check archive)) = inr (λ long. long)
@@ -182,6 +184,7 @@ late-status None answer late = absurd late
 late-status (Some (norm spec doc)) answer late = absurd late
 late-status (Some (init archive spec)) answer late = absurd late
 late-status (Some (add archive doc)) answer late = absurd late
+late-status (Some (rekey archive spec)) answer late = absurd late
 late-status (Some (get archive i)) answer late = late
 late-status (Some (history archive path)) answer late = absurd late
 late-status (Some (check archive)) answer late = absurd late
@@ -194,6 +197,7 @@ late-or-not None answer = inr (λ late. late)
 late-or-not (Some (norm spec doc)) answer = inr (λ late. late)
 late-or-not (Some (init archive spec)) answer = inr (λ late. late)
 late-or-not (Some (add archive doc)) answer = inr (λ late. late)
+late-or-not (Some (rekey archive spec)) answer = inr (λ late. late)
 late-or-not (Some (get archive i)) answer = by_test (answer == 11) refl
   where
     by_test : (b : Bool) → (answer == 11) ≡ b → (answer ≡ 11) ⊎ ¬ (answer ≡ 11)
@@ -209,6 +213,7 @@ late-short : (command : PlainCommand) (X : Type 0) → MayHaveWritten (Some comm
 late-short (norm spec doc) X late long = absurd late
 late-short (init archive spec) X late long = absurd late
 late-short (add archive doc) X late long = absurd late
+late-short (rekey archive spec) X late long = absurd late
 late-short (get archive i) X late long = absurd long
 late-short (history archive path) X late long = absurd late
 late-short (check archive) X late long = absurd late
@@ -256,6 +261,7 @@ long-alone None answer judged h = absurd h
 long-alone (Some (norm spec doc)) answer judged h = absurd h
 long-alone (Some (init archive spec)) answer judged h = absurd h
 long-alone (Some (add archive doc)) answer judged h = absurd h
+long-alone (Some (rekey archive spec)) answer judged h = absurd h
 long-alone (Some (get archive i)) answer judged h = absurd h
 long-alone (Some (history archive path)) answer judged h = absurd h
 long-alone (Some (check archive)) answer judged h = absurd h

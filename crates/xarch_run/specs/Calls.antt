@@ -4,9 +4,9 @@ use Rattle.xa_outside.specs.Folder.{Files}
 use Rattle.xarch_words.specs.Commands.{PlainCommand, batch, command_of}
 use Rattle.xarch_words.specs.Refusal.{line, usage, limit}
 use Rattle.xarch_parts.specs.Outcome.{Step, step_from}
-use Rattle.xarch_steps.specs.Plausible.{MayStep, Plausible}
-use Rattle.xarch_steps.specs.Ran.{outside_of}
-use Rattle.xarch_steps.specs.Step.{single_of}
+use Rattle.xarch_meanings.specs.Plausible.{MayStep, Plausible}
+use Rattle.xarch_meanings.specs.Ran.{outside_of}
+use Rattle.xarch_meanings.specs.Step.{single_of}
 use Rattle.xarch_run.specs.Batch.{AreRead}
 use Rattle.xarch_run.specs.Lines.{lines_of}
 use Rattle.xarch_run.specs.Steps.{LinesLead, files_after, line_command}

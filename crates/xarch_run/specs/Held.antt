@@ -6,16 +6,18 @@ use Rattle.key_spec.specs.Data.{PlainRule}
 use Rattle.keyed_tree.specs.Data.{PlainKeyed}
 use Rattle.record_format.specs.Files.{FileOf}
 use Rattle.archive_file.specs.Sound.{Sound}
+use Rattle.archive_rekey.specs.Rekeyed.{AreRekeyed}
 use Rattle.xarch_gen.specs.Company.{company_rules}
-use Rattle.xarch_words.specs.Commands.{PlainCommand, init, add, demo}
+use Rattle.xarch_words.specs.Commands.{PlainCommand, init, add, rekey, demo}
 use Rattle.xarch_words.specs.Refusal.{Refusal}
-use Rattle.xarch_steps.specs.Add.{added}
+use Rattle.xarch_meanings.specs.Add.{added}
 use Rattle.xarch_parts.specs.Archives.{ArchiveIs}
-use Rattle.xarch_steps.specs.Demo.{samples}
+use Rattle.xarch_meanings.specs.Demo.{samples}
 use Rattle.xarch_parts.specs.Inputs.{read_in}
 use Rattle.xarch_parts.specs.Outcome.{Outcome, Step, step_from}
 use Rattle.xarch_parts.specs.Readings.{rules_of}
-use Rattle.xarch_steps.specs.Stats.{CountsFrom}
+use Rattle.xarch_meanings.specs.Rekey.{RekeysFrom, rekey_rules}
+use Rattle.xarch_meanings.specs.Stats.{CountsFrom}
 use Rattle.xarch_run.specs.Steps.{files_after}
 
 -- the rules of an archive, and its versions in order
@@ -89,10 +91,28 @@ pub record StaysOut (files : Files) (doc : List ℕ) (h i : Held) : Type 0 where
 abbrev pub AddsDoc : Files → List ℕ → Held → Held → Type 0
 AddsDoc files doc h i = ComesIn files doc h i ⊎ StaysOut files doc h i
 
--- What the archive of this name holds before a command and behind it: a document comes to it by an `add` that names it, and no
--- other command changes what it holds.
+-- The specification in this file is handed in to the archive of this name, which holds the first before it and the second behind it: it is there, short
+-- enough, and has a closed reading, each version satisfies it, and the versions under it have a file.
+pub record IsRekeyed (files : Files) (name spec : List ℕ) (h i : Held) : Type 0 where
+  pub specified : rekey_rules files name spec ≡ Ok i.rules
+  pub satisfied : AreRekeyed i.rules h.versions i.versions
+  pub bytes : List ℕ
+  pub file : FileOf i.rules i.versions bytes
+
+-- it is not handed in, and rules and versions are as they were
+pub record StaysKeyed (files : Files) (name spec : List ℕ) (h i : Held) : Type 0 where
+  pub none : (j : Held) → ¬ IsRekeyed files name spec h j
+  pub is : i ≡ h
+
+-- what an archive holds before a specification comes to it and behind that
+abbrev pub ChangesKeys : Files → List ℕ → List ℕ → Held → Held → Type 0
+ChangesKeys files name spec h i = IsRekeyed files name spec h i ⊎ StaysKeyed files name spec h i
+
+-- What the archive of this name holds before a command and behind it: a document comes to it by an `add` that names it, its versions get other keys by
+-- a `rekey` that names it, and no other command changes what it holds.
 abbrev pub HeldBy : Files → List ℕ → Option PlainCommand → Held → Held → Type 0
 HeldBy files name (Some (add archive doc)) h i = ((name ≡ archive) × AddsDoc files doc h i) ⊎ ((name ≢ archive) × (i ≡ h))
+HeldBy files name (Some (rekey archive spec)) h i = ((name ≡ archive) × ChangesKeys files name spec h i) ⊎ ((name ≢ archive) × (i ≡ h))
 HeldBy files name _ h i = i ≡ h
 
 -- what it holds behind the first command, from where the rest is said
@@ -132,6 +152,18 @@ pub record Accepted (files : Files) (name doc : List ℕ) (h : Held) (now : File
   pub tree : PlainKeyed
   pub handed : IsHandedIn files doc h tree
   pub archive : Holds now name (with_keyed h tree)
+
+-- The specification in this file was handed in, and the versions come under it.
+pub record TakesKeys (files : Files) (name spec : List ℕ) (h : Held) (now : Files) : Type 0 where
+  pub under : Held
+  pub keys : IsRekeyed files name spec h under
+  pub archive : Holds now name under
+
+-- The step is what comes of these versions under the keys of the specification: their file, or the first that does not satisfy them, or why neither is.
+pub record ChangesOrTells (files : Files) (name spec : List ℕ) (h : Held) (s : Step) : Type 0 where
+  pub outcome : Result Outcome Refusal
+  pub comes : RekeysFrom files name spec h.rules h.versions outcome
+  pub is : s ≡ step_from files outcome
 
 -- ---- what else steps do
 

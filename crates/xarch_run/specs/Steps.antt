@@ -7,9 +7,9 @@ use Rattle.xarch_words.specs.Commands.{PlainCommand}
 use Rattle.xarch_words.specs.Lines.{fault_line, refusal_status}
 use Rattle.xarch_words.specs.Refusal.{demo, line, Refusal, usage, damaged, limit, refused}
 use Rattle.xarch_parts.specs.Outcome.{Step, step_from}
-use Rattle.xarch_steps.specs.Plausible.{Plausible}
-use Rattle.xarch_steps.specs.Ran.{IsLongDemo, MayHaveWritten, OnlyReads}
-use Rattle.xarch_steps.specs.Step.{single_of}
+use Rattle.xarch_meanings.specs.Plausible.{Plausible}
+use Rattle.xarch_meanings.specs.Ran.{IsLongDemo, MayHaveWritten, OnlyReads}
+use Rattle.xarch_meanings.specs.Step.{single_of}
 use Rattle.xarch_run.specs.Words.{words_of}
 
 -- ---- one line

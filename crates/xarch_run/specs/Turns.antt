@@ -6,7 +6,7 @@ use Rattle.xa_outside.specs.Taken.{Taken, Takes, TakesPrefix}
 use Rattle.xarch_words.specs.Lines.{fault_line}
 use Rattle.xarch_words.specs.Refusal.{PlainFault, out_fault, memory}
 use Rattle.xarch_parts.specs.Outcome.{Step}
-use Rattle.xarch_steps.specs.Ran.{Ran, Says, outside_of}
+use Rattle.xarch_meanings.specs.Ran.{Ran, Says, outside_of}
 use Rattle.xarch_run.specs.Batch.{Gains, RunsOver, Scene, Stops}
 use Rattle.xarch_run.specs.Lines.{is_blank, without_blanks}
 use Rattle.xarch_run.specs.Steps.{IsStep, MayFault, status_line}

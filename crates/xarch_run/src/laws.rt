@@ -6,21 +6,22 @@ ghost use Rattle.keyed_tree.specs.Data.{PlainKeyed};
 ghost use Rattle.keyed_tree.specs.Kids.{IsOrdered};
 ghost use Rattle.archive_tree.specs.Stands.{version_of};
 ghost use Rattle.archive_file.specs.KeyedBy.{IsKeyedBy};
-ghost use Rattle.xarch_words.specs.Commands.{PlainCommand, add, check, get, history, stats};
-ghost use Rattle.xarch_steps.specs.Check.{checked};
-ghost use Rattle.xarch_steps.specs.Get.{version_text};
-ghost use Rattle.xarch_steps.specs.History.{history_text};
+ghost use Rattle.xarch_words.specs.Commands.{PlainCommand, add, check, get, history, rekey, stats};
+ghost use Rattle.xarch_meanings.specs.Check.{checked};
+ghost use Rattle.xarch_meanings.specs.Get.{version_text};
+ghost use Rattle.xarch_meanings.specs.History.{history_text};
 ghost use Rattle.xarch_parts.specs.Outcome.{Step, step_from};
-ghost use Rattle.xarch_steps.specs.Plausible.{Plausible};
-ghost use Rattle.xarch_steps.specs.Step.{single_of};
-ghost use Rattle.xarch_steps.specs.Succeeds.{ShouldSucceed};
+ghost use Rattle.xarch_meanings.specs.Plausible.{Plausible};
+ghost use Rattle.xarch_meanings.specs.Step.{single_of};
+ghost use Rattle.xarch_meanings.specs.Succeeds.{ShouldSucceed};
 ghost use Rattle.xarch_run.specs.Calls.{Call, CallsDid, CommandMay, CommandsDid, CommandsLead};
-ghost use Rattle.xarch_run.specs.Held.{Accepted, Begun, HandedIn, Held, Holds, HoldsBehind, HoldsExactly, IsHandedIn, MakesArchive, NoneMakes, RefusalsKeep, TellsSoundness, WritesCounts};
+ghost use Rattle.xarch_run.specs.Held.{Accepted, Begun, ChangesOrTells, HandedIn, Held, Holds, HoldsBehind, HoldsExactly, IsHandedIn, IsRekeyed, MakesArchive, NoneMakes, RefusalsKeep, TakesKeys, TellsSoundness, WritesCounts};
 ghost use Rattle.xarch_run.specs.Steps.{LineMay, files_after, line_command};
 
 use archive_file::sound_archives_have_one_reading;
+use archive_rekey::versions_have_one_rekeying;
 use record_format::versions_have_one_file;
-use xarch_steps::what_should_succeed_is_not_refused;
+use xarch_meanings::what_should_succeed_is_not_refused;
 
 /// After any list of commands, an archive's file is exactly the encoding of the handed-in documents
 /// that satisfied its keys, in order, and refused commands changed no file; `get` of a number
@@ -33,7 +34,9 @@ use xarch_steps::what_should_succeed_is_not_refused;
 pub fn archives_hold_what_was_handed_in()
     // The file is exactly the encoding of the documents that were handed in since its `init`, or of
     // those of its `demo` and of the documents handed in since then. A document of an `add` is
-    // handed in exactly where it satisfies the keys within the limits (`HeldAfter`).
+    // handed in exactly where it satisfies the keys within the limits (`HeldAfter`). The keys are
+    // those of the last `rekey` that was not refused, and before it those of `init` or `demo`; such
+    // a `rekey` gives its keys to the versions that stand, too.
     ensures headline { (files : Files) (commands : List (Option PlainCommand)) (steps : List Step)
         (name : List ℕ) (held : Held)
         → CommandsDid files commands steps → HandedIn files name commands steps held
@@ -69,6 +72,18 @@ pub fn archives_hold_what_was_handed_in()
     ensures accepted { (files : Files) (name doc : List ℕ) (held : Held) (s : Step)
         → Holds files name held → CommandMay files (Some (add name doc)) s → s.status ≡ 0
         → Accepted files name doc held s.files }
+
+    // A `rekey` is not refused exactly where each version satisfies the keys of the specification,
+    // and the versions under them have a file; else the first that does not is told.
+    ensures rekeyed { (files : Files) (name spec : List ℕ) (held under : Held) (s : Step)
+        → Holds files name held → CommandMay files (Some (rekey name spec)) s
+        → IsRekeyed files name spec held under → s.status ≡ 0 }
+    ensures keys_taken { (files : Files) (name spec : List ℕ) (held : Held) (s : Step)
+        → Holds files name held → CommandMay files (Some (rekey name spec)) s → s.status ≡ 0
+        → TakesKeys files name spec held s.files }
+    ensures keys_told { (files : Files) (name spec : List ℕ) (held : Held) (s : Step)
+        → Holds files name held → CommandMay files (Some (rekey name spec)) s
+        → ChangesOrTells files name spec held s }
 
     // What should succeed is not refused, and so not in a batch.
     ensures should { (files : Files) (command : PlainCommand) (s : Step)
@@ -110,4 +125,5 @@ pub fn archives_hold_what_was_handed_in()
     versions_have_one_file();
     sound_archives_have_one_reading();
     what_should_succeed_is_not_refused();
+    versions_have_one_rekeying();
 }

@@ -10,12 +10,13 @@ ghost use Rattle.xarch_words.specs.View.{words_view};
 ghost use Rattle.xarch_parts.specs.Ends.{Gained};
 ghost use Rattle.xarch_parts.specs.Folders.{IsTold};
 ghost use Rattle.xarch_parts.specs.Outcome.{Step};
-ghost use Rattle.xarch_steps.specs.OnePass.{GoesOnce};
-ghost use Rattle.xarch_steps.specs.Plausible.{Tried, Wrote};
-ghost use Rattle.xarch_steps.specs.Ran.{CountsAsSaid, MayHaveWritten, OnlyReads, Said, Says, outside_of};
-ghost use Rattle.xarch_steps.specs.ReadsBack.{ReadsLittle};
-ghost use Rattle.xarch_steps.specs.Step.{StepIs};
-ghost use Rattle.xarch_steps.specs.Succeeds.{ShouldSucceed};
+ghost use Rattle.xarch_writes.specs.FillsUp.{FillsUp};
+ghost use Rattle.xarch_meanings.specs.OnePass.{GoesOnce};
+ghost use Rattle.xarch_meanings.specs.Plausible.{Tried, Wrote};
+ghost use Rattle.xarch_meanings.specs.Ran.{CountsAsSaid, MayHaveWritten, OnlyReads, Ran, Said, Says, outside_of};
+ghost use Rattle.xarch_meanings.specs.ReadsBack.{ReadsLittle};
+ghost use Rattle.xarch_meanings.specs.Step.{StepIs};
+ghost use Rattle.xarch_meanings.specs.Succeeds.{ShouldSucceed};
 ghost use Rattle.xarch_run.specs.Batch.{BatchEnds, IsAnswer, ReadsAsSaid, shown};
 ghost use Rattle.xarch_run.specs.Calls.{DidCommands, call_of};
 
@@ -93,6 +94,15 @@ pub fn run<F: Folder, S: Source, O: Sink, E: Sink>(
         → ¬ Rose (F.faults folder.old) (F.faults folder.new)
         → ¬ Rose (O.faults out.old) (O.faults out.new) → (result ≡ 0) ⊎ (result ≡ 16) }
 
+    // Where no count of faults rises, as over objects that never fail, what comes is the defined
+    // step whole, or want of memory.
+    ensures steady { (files : Files) (s : Step) → command_of (words_view words.now) ≢ Some batch
+        → F.files folder.old ≡ Some files → StepIs files (words_view words.now) s
+        → ¬ Rose (F.faults folder.old) (F.faults folder.new)
+        → ¬ Rose (O.faults out.old) (O.faults out.new)
+        → (result ≡ 16) ⊎ Ran s result (F.files folder.new) (O.taken out.old) (O.taken out.new)
+        (E.taken err.old) (E.taken err.new) (E.faults err.old) (E.faults err.new) }
+
     // Whatever the folder tells, the answer is 0 or the status of a fault, whose line is said; the
     // output only gains, and nothing after a refusal, but for a `get` that meets damage.
     ensures said { command_of (words_view words.now) ≢ Some batch
@@ -133,12 +143,15 @@ pub fn run<F: Folder, S: Source, O: Sink, E: Sink>(
     ensures draft_untold { F.draft folder.old ≡ None → F.draft folder.new ≡ None }
 
     // What is pulled and drafted: over a sound archive `add` goes once, and little of it is read
-    // that is not yet written; and of one `get` and `history` pull only what their searches look
+    // that is not yet written; over any it is too long only where one more record does not fit
+    // behind the draft; and of a sound one `get` and `history` pull only what their searches look
     // at. No count of faults falls.
     ensures counts { CountsAsSaid (command_of (words_view words.now)) (F.files folder.old)
         (F.numbers folder.old) (F.numbers folder.new) }
     ensures one_pass { GoesOnce (command_of (words_view words.now)) (F.files folder.old)
         (F.numbers folder.old) (F.numbers folder.new) (result ≡ 13) }
+    ensures fills { FillsUp (command_of (words_view words.now)) (F.files folder.old)
+        (F.draft folder.new) (result ≡ 12) }
     ensures little { ReadsLittle (command_of (words_view words.now)) (F.files folder.old)
         (F.numbers folder.old) (F.numbers folder.new) }
     ensures folder_later { F.faults folder.old ≤ F.faults folder.new }

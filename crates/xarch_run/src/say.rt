@@ -3,7 +3,7 @@ ghost use Rattle.xa_outside.specs.Causes.{HasCause};
 ghost use Rattle.xa_outside.specs.Taken.{Puts};
 ghost use Rattle.xarch_words.specs.Lines.{fault_line, fault_status};
 ghost use Rattle.xarch_words.specs.View.{fault_view};
-ghost use Rattle.xarch_steps.specs.Ran.{Says};
+ghost use Rattle.xarch_meanings.specs.Ran.{Says};
 ghost use Rattle.xarch_run.specs.Steps.{status_line};
 
 use itoa::Buffer;

@@ -1,33 +1,21 @@
 -- From the end of a command to its status, its line and what it did.
-use Rattle.std.proofs.Common.{◌≡◌, ◌≢◌, ◌⊎◌, ◌↔◌, inl, inr, ℕ, ◌<◌, List, [], length, Option, Some, None, IsSome, Result, Ok, Err, OnErr, refl, sym, ap, ◌∙◌, subst, arith}
+use Rattle.std.proofs.Common.{◌≡◌, ◌≢◌, ◌⊎◌, ◌↔◌, inl, inr, ℕ, ◌<◌, List, [], Option, Some, None, IsSome, Result, Ok, Err, refl, sym, ap, ◌∙◌, subst, arith}
 use Rattle.xa_outside.specs.Causes.{HasCause, Rose}
 use Rattle.xa_outside.specs.Folder.{Files}
-use Rattle.xa_outside.specs.Numbers.{Numbers, IsMeter}
-use Rattle.xa_outside.specs.NumberLaws.{PullsAtMost-none}
 use Rattle.xa_outside.specs.Taken.{Taken, TakesNone, TakesPrefix, Puts}
 use Rattle.xa_outside.specs.TakenLaws.{Takes-nil, Takes-kept, TakesNone-refl, TakesPrefix-none, TakesPrefix-all}
-use Rattle.key_spec.specs.Data.{PlainRule}
-use Rattle.keyed_tree.specs.Data.{PlainKeyed}
-use Rattle.archive_tree.specs.Data.{PlainArchive}
-use Rattle.archive_tree.specs.Stands.{ArchiveOf}
-use Rattle.record_format.specs.Files.{FileOf}
-use Rattle.record_format.specs.Fronts.{fixed}
-use Rattle.xarch_words.specs.Commands.{PlainCommand, norm, init, add, get, history, check, stats, batch, demo, command_of}
-use Rattle.xarch_words.specs.Refusal.{Refusal, usage, no_file, exists, bad_spec, bad_json, bad_shape, key_fault, no_version, bad_path, damaged, limit, PlainFault, refused, folder_fault, out_fault, in_fault, memory}
+use Rattle.xarch_words.specs.Commands.{PlainCommand, demo, command_of}
+use Rattle.xarch_words.specs.Refusal.{Refusal, usage, no_file, exists, bad_spec, bad_json, bad_shape, key_fault, key_fault_in, no_version, bad_path, damaged, limit, PlainFault, refused, folder_fault, out_fault, in_fault, memory}
 use Rattle.xarch_words.specs.Lines.{fault_line, refusal_status}
-use Rattle.xarch_words.specs.declared.fault.Fault.{Fault}
 use Rattle.xarch_parts.specs.Outcome.{Outcome, Step, output_of, step_from}
-use Rattle.xarch_parts.specs.Ends.{fault_of, EndsGained, Gained, IsOfCommand, HasItsCause}
-use Rattle.xarch_steps.specs.OnePass.{GoesOnce}
-use Rattle.xarch_steps.specs.ReadsBack.{ReadsLittle}
-use Rattle.xarch_steps.specs.Ran.{CountsAsSaid, GainsBy, IsLongDemo, IsMetLate, MayHaveWritten, OnlyReads, made_name, status_after, line_after, outside_of, Says}
+use Rattle.xarch_parts.specs.Ends.{EndsGained, Gained, HasItsCause}
+use Rattle.xarch_meanings.specs.Ran.{GainsBy, IsLongDemo, MayHaveWritten, status_after, line_after, outside_of, Says}
 use Rattle.xarch_parts.specs.Allowed.{MayEnd, MayEndLate, PutSome}
-use Rattle.xarch_steps.specs.Plausible.{MayBe, MayComeLate, MayDo, Plausible, Tried, Wrote, step_behind}
-use Rattle.xarch_steps.specs.PlausibleLaws.{behind-none}
-use Rattle.xarch_steps.specs.Step.{StepIs, alone, single_of}
-use Rattle.xarch_parts.specs.EndLaws.{IsOfCommand-usage}
-use Rattle.xarch_parts.specs.AllowedLaws.{MayEnd-refused, MayEnd-stopped}
-use Rattle.xarch_steps.proofs.OneStep.{one_outcome, one_step}
+use Rattle.xarch_meanings.specs.Plausible.{MayComeLate, MayDo, Plausible, Tried, Wrote, step_behind}
+use Rattle.xarch_meanings.specs.CommandLaws.{met-status}
+use Rattle.xarch_meanings.specs.PlausibleLaws.{behind-none}
+use Rattle.xarch_meanings.specs.Step.{Defines, StepIs, alone, single_of}
+use Rattle.xarch_parts.specs.AllowedLaws.{MayEnd-refused}
 
 -- ---- statuses
 
@@ -40,6 +28,7 @@ outside_of-refusal (bad_spec l w) = refl
 outside_of-refusal bad_json = refl
 outside_of-refusal (bad_shape p w) = refl
 outside_of-refusal (key_fault f) = refl
+outside_of-refusal (key_fault_in i f) = refl
 outside_of-refusal (no_version i n) = refl
 outside_of-refusal (bad_path n) = refl
 outside_of-refusal (damaged n) = refl
@@ -54,6 +43,7 @@ refusal_2 (bad_spec l w) e = absurd (omega (arith, e))
 refusal_2 bad_json e = absurd (omega (arith, e))
 refusal_2 (bad_shape p w) e = absurd (omega (arith, e))
 refusal_2 (key_fault f) e = absurd (omega (arith, e))
+refusal_2 (key_fault_in i f) e = absurd (omega (arith, e))
 refusal_2 (no_version i n) e = absurd (omega (arith, e))
 refusal_2 (bad_path n) e = absurd (omega (arith, e))
 refusal_2 (damaged n) e = absurd (omega (arith, e))
@@ -67,6 +57,7 @@ refusal_some (bad_spec l w) A e = absurd (omega (arith, e))
 refusal_some bad_json A e = absurd (omega (arith, e))
 refusal_some (bad_shape p w) A e = absurd (omega (arith, e))
 refusal_some (key_fault f) A e = absurd (omega (arith, e))
+refusal_some (key_fault_in i f) A e = absurd (omega (arith, e))
 refusal_some (no_version i n) A e = absurd (omega (arith, e))
 refusal_some (bad_path n) A e = absurd (omega (arith, e))
 refusal_some (damaged n) A e = absurd (omega (arith, e))
@@ -84,6 +75,11 @@ to_usage (Some memory) h = absurd (omega (arith, h))
 
 pub status_after-usage : (e : Option PlainFault) → (status_after e ≡ 2) ↔ (e ≡ Some (refused usage))
 status_after-usage e = (to_usage e, λ h. ap status_after h)
+
+-- what does not answer 0 has a fault
+pub failed-some : (e : Option PlainFault) → status_after e ≢ 0 → IsSome e
+failed-some None h = absurd (h refl)
+failed-some (Some v) h = refl
 
 -- a status of the outside is none of a refusal
 refusal_never : (r : Refusal) (n : ℕ) (v : PlainFault) (A : Type 0) → outside_of n ≡ Some v → refusal_status r ≡ n → A
@@ -116,17 +112,6 @@ status_after-input a b c d (Some out_fault) p h = omega (arith, h)
 status_after-input a b c d (Some in_fault) p h = p
 status_after-input a b c d (Some memory) p h = omega (arith, h)
 
--- ---- from the words to a command
-
-pub MayEnd-usage : (files : Files) (words : List (List ℕ)) (after : Option Files) (t : Taken) → single_of words ≡ None → MayEnd (MayDo files (single_of words)) (Some (refused usage)) after t t
-MayEnd-usage files words after t none = MayEnd-stopped (MayDo files (single_of words)) (refused usage) after t (λ q e.
-    let same : usage ≡ q = cc in
-    subst (λ (o : Option PlainCommand). MayDo files o (Err q)) (sym none) (ap (λ r. Err r) (sym same)))
-
-pub MayEndLate-command : (files : Files) (words : List (List ℕ)) (command : PlainCommand) (e : Option PlainFault) (after : Option Files) (old new : Taken)
-    → single_of words ≡ Some command → MayEndLate (MayComeLate files (Some command)) (MayBe files command) e after old new → MayEndLate (MayComeLate files (single_of words)) (MayDo files (single_of words)) e after old new
-MayEndLate-command files words command e after old new some ends = subst (λ (o : Option PlainCommand). MayEndLate (MayComeLate files o) (MayDo files o) e after old new) (sym some) ends
-
 -- but for what was written, a refusal that comes late is as any other
 pub late-end : (late : Refusal → Type 0) (M : Result Outcome Refusal → Type 0) (e : Option PlainFault) (after : Option Files) (old new : Taken) → MayEndLate late M e after old new → (t : Taken) × MayEnd M e after old t
 late-end late M e after old new (inl ends) = (new, ends)
@@ -136,17 +121,16 @@ output_from : (files : Files) (outcome : Result Outcome Refusal) (old new : Take
 output_from files (Ok o) old new p = p
 output_from files (Err r) old new p = p
 
--- From what is known of all versions: they have one archive and one file, at whose front their number stands.
-module _ (one_archive : (vs : List PlainKeyed) (a b : PlainArchive) → ArchiveOf vs a → ArchiveOf vs b → a ≡ b)
-    (one_file : (rules : List PlainRule) (vs : List PlainKeyed) (b c : List ℕ) → FileOf rules vs b → FileOf rules vs c → b ≡ c)
-    (numbered : (rules : List PlainRule) (vs : List PlainKeyed) (b : List ℕ) → FileOf rules vs b → fixed b ≡ Some (length vs)) where
+-- From what is known of words: what they may do is what is defined, where that is.
+module _ (one_outcome : (files : Files) (words : List (List ℕ)) (r s : Result Outcome Refusal) → Defines files words r → MayDo files (single_of words) s → s ≡ r)
+    (one_step : (files : Files) (words : List (List ℕ)) (s t : Step) → StepIs files words s → Plausible files words t → s ≡ t) where
   -- what should succeed does, where no count rose
   complete-end : (files : Files) (words : List (List ℕ)) (s : Step) (e : Option PlainFault) (after : Option Files) (old new : Taken) (a b c d : ℕ) → StepIs files words s
       → MayEnd (MayDo files (single_of words)) e after old new → HasItsCause a b c d e → s.status ≡ 0 → ¬ Rose a b → ¬ Rose c d → (status_after e ≡ 0) ⊎ (status_after e ≡ 16)
   unfolding MayEnd HasItsCause
   complete-end files words s None after old new a b c d is ends cause zero folder out = inl refl
   complete-end files words s (Some (refused r)) after old new a b c d is ends cause zero folder out =
-      let same : Err r ≡ is.outcome = one_outcome one_archive one_file numbered files words is.outcome (Err r) is.defined ends.may in
+      let same : Err r ≡ is.outcome = one_outcome files words is.outcome (Err r) is.defined ends.may in
       let status : refusal_status r ≡ 0 = ap (λ (o : Result Outcome Refusal). (step_from files o).status) same ∙ sym (ap (λ (x : Step). x.status) is.is) ∙ zero in
       refusal_some r ((refusal_status r ≡ 0) ⊎ (refusal_status r ≡ 16)) status
   complete-end files words s (Some folder_fault) after old new a b c d is ends cause zero folder out = absurd (folder cause)
@@ -169,7 +153,7 @@ module _ (one_archive : (vs : List PlainKeyed) (a b : PlainArchive) → ArchiveO
       record {
         step = step_from files (Ok ends.outcome);
         may = may;
-        defined = λ s is. one_step one_archive one_file numbered files words s (step_from files (Ok ends.outcome)) is may;
+        defined = λ s is. one_step files words s (step_from files (Ok ends.outcome)) is may;
         ran = record { status = refl; files = ends.files; output = ends.output; line = says };
       }
   Tried-end files words (Some (refused r)) before after old new err_old err_new p q told stays ends says plain =
@@ -177,7 +161,7 @@ module _ (one_archive : (vs : List PlainKeyed) (a b : PlainArchive) → ArchiveO
       record {
         step = step_from files (Err r);
         may = may;
-        defined = λ s is. one_step one_archive one_file numbered files words s (step_from files (Err r)) is may;
+        defined = λ s is. one_step files words s (step_from files (Err r)) is may;
         ran = record {
           status = refl;
           files = λ f is. let same : after ≡ before = stays refl in grind (arith, told, same, is);
@@ -204,7 +188,7 @@ module _ (one_archive : (vs : List PlainKeyed) (a b : PlainArchive) → ArchiveO
       record {
         step = step;
         may = may;
-        defined = λ s is. one_step one_archive one_file numbered files words s step is may;
+        defined = λ s is. one_step files words s step is may;
         ran = record { status = refl; files = λ f is. (let same : after ≡ before = stays refl in grind (arith, told, same, is)); output = b.output.takes; line = says };
       }) stays says
 
@@ -215,7 +199,7 @@ module _ (one_archive : (vs : List PlainKeyed) (a b : PlainArchive) → ArchiveO
       inr (record {
         step = step_from files outcome;
         may = may;
-        defined = λ s is. one_step one_archive one_file numbered files words s (step_from files outcome) is may;
+        defined = λ s is. one_step files words s (step_from files outcome) is may;
         output = output_from files outcome old new p;
       })
 
@@ -237,7 +221,7 @@ module _ (one_archive : (vs : List PlainKeyed) (a b : PlainArchive) → ArchiveO
   Wrote-from files words e after old new (inr b) =
       let step = step_behind files b.output.bytes (Err b.refusal) in
       let may = late_step files words b.refusal b.output.bytes b.may b.late in
-      inr (record { step = step; may = may; defined = λ s is. one_step one_archive one_file numbered files words s step is may; output = TakesPrefix-all old new b.output.bytes b.output.takes })
+      inr (record { step = step; may = may; defined = λ s is. one_step files words s step is may; output = TakesPrefix-all old new b.output.bytes b.output.takes })
 
 -- ---- what the output gained
 
@@ -263,30 +247,9 @@ pub gained-any : (c : Option PlainCommand) (e : Option PlainFault) (old new : Ta
 gained-any c e old new (inl g) = gained-ended e old new g
 gained-any c e old new (inr late) = late.1
 
--- what was met late has the status of damage
-met-status : (c : Option PlainCommand) (e : Option PlainFault) → IsMetLate c e → MayHaveWritten c (status_after e)
-met-status None e late = absurd late
-met-status (Some (norm spec doc)) e late = absurd late
-met-status (Some (init archive spec)) e late = absurd late
-met-status (Some (add archive doc)) e late = absurd late
-met-status (Some (get archive i)) e late = ap status_after late
-met-status (Some (history archive path)) e late = absurd late
-met-status (Some (check archive)) e late = absurd late
-met-status (Some (stats archive)) e late = absurd late
-met-status (Some batch) e late = absurd late
-met-status (Some (demo seed count archive)) e late = absurd late
-
 pub gained-refused : (c : Option PlainCommand) (e : Option PlainFault) (old new : Taken) → GainsBy c e old new → status_after e ≢ 0 → outside_of (status_after e) ≡ None → ¬ MayHaveWritten c (status_after e) → TakesNone old new
 gained-refused c e old new (inl g) some plain early = none-ended e old new g some plain
 gained-refused c e old new (inr late) some plain early = absurd (early (met-status c e late.0))
-
-pub gains_by : (words : List (List ℕ)) (o : Option PlainCommand) (e : Option PlainFault) (old new : Taken) → single_of words ≡ o → GainsBy o e old new → GainsBy (single_of words) e old new
-gains_by words o e old new is h = subst (λ (c : Option PlainCommand). GainsBy c e old new) (sym is) h
-
--- a command does not end as words that are none
-pub usage-command : (words : List (List ℕ)) (command : PlainCommand) (a b p q : ℕ) (e : Option PlainFault) → single_of words ≡ Some command → IsOfCommand a b p q e
-    → (e ≡ Some (refused usage)) ↔ (single_of words ≡ None)
-usage-command words command a b p q e some cause = (λ h. absurd (IsOfCommand-usage a b p q e cause h), λ h. cc)
 
 -- ---- the line
 
@@ -298,11 +261,6 @@ pub Says-from : {T E : Type 0} (old new : Taken) (before now : ℕ) (r : Result 
 Says-from old new before now (Ok u) line p q = record { prefix = TakesPrefix-all old new line p; whole = λ _. p }
 Says-from old new before now (Err e) line p q = record { prefix = p; whole = λ not. absurd (not q.failed) }
 
--- what holds on an error holds where there is a fault
-pub fault_of-OnErr : (P : Type 0) (r : Result Unit Fault) → OnErr r P → IsSome (fault_of r) → P
-fault_of-OnErr P (Ok u) p some = cc
-fault_of-OnErr P (Err f) p some = p
-
 -- a `demo` of too many documents is one by itself
 pub long_demo-alone : (words : List (List ℕ)) (seed count : ℕ) (name : List ℕ) → command_of words ≡ Some (demo seed count name) → 1000 < count → IsLongDemo (single_of words)
 long_demo-alone words seed count name is long = subst (λ (c : Option PlainCommand). IsLongDemo (alone c)) (sym is) long
@@ -310,51 +268,3 @@ long_demo-alone words seed count name is long = subst (λ (c : Option PlainComma
 -- the line of a fault that is known
 pub says-fault : (ended : Option PlainFault) (f : PlainFault) (old new : Taken) (before now : ℕ) → ended ≡ Some f → Says old new before now (line_after ended) → Says old new before now (fault_line f)
 says-fault ended f old new before now is says = subst (λ (v : Option PlainFault). Says old new before now (line_after v)) is says
-
-pub OnErr-of : (r : Result Unit Fault) (P : Type 0) → (IsSome (fault_of r) → P) → OnErr r P
-OnErr-of (Ok u) P h = tt
-OnErr-of (Err f) P h = h refl
-
--- ---- what is pulled
-
-only_makes_none : (command : PlainCommand) → OnlyReads (Some command) → made_name command ≡ None
-only_makes_none (norm spec doc) h = refl
-only_makes_none (init archive spec) h = absurd h
-only_makes_none (add archive doc) h = absurd h
-only_makes_none (get archive i) h = refl
-only_makes_none (history archive path) h = refl
-only_makes_none (check archive) h = refl
-only_makes_none (stats archive) h = refl
-only_makes_none batch h = absurd h
-only_makes_none (demo seed count archive) h = absurd h
-
--- a command that only reads makes no file
-pub makes_none : (words : List (List ℕ)) (command : PlainCommand) → single_of words ≡ Some command → OnlyReads (single_of words) → made_name command ≡ None
-makes_none words command some h = only_makes_none command (subst OnlyReads some h)
-
-pub counts_as_said : (words : List (List ℕ)) (command : PlainCommand) (told : Option Files) (before after : Numbers)
-    → single_of words ≡ Some command → CountsAsSaid (Some command) told before after → CountsAsSaid (single_of words) told before after
-counts_as_said words command told before after some h = subst (λ (o : Option PlainCommand). CountsAsSaid o told before after) (sym some) h
-
-pub goes_once : (words : List (List ℕ)) (o : Option PlainCommand) (told : Option Files) (before after : Numbers) (failed : Type 0)
-    → single_of words ≡ o → GoesOnce o told before after failed → GoesOnce (single_of words) told before after failed
-goes_once words o told before after failed is h = subst (λ (c : Option PlainCommand). GoesOnce c told before after failed) (sym is) h
-
-pub reads_little : (words : List (List ℕ)) (o : Option PlainCommand) (told : Option Files) (before after : Numbers) → single_of words ≡ o → ReadsLittle o told before after → ReadsLittle (single_of words) told before after
-reads_little words o told before after is h = subst (λ (c : Option PlainCommand). ReadsLittle c told before after) (sym is) h
-
--- a status says that it failed, where the fault does
-pub once_by : (o : Option PlainCommand) (told : Option Files) (before after : Numbers) (P Q : Type 0) → (P → Q) → GoesOnce o told before after P → GoesOnce o told before after Q
-once_by None told before after P Q f h = tt
-once_by (Some (norm spec doc)) told before after P Q f h = tt
-once_by (Some (init archive spec)) told before after P Q f h = tt
-once_by (Some (add archive doc)) told before after P Q f h = λ files rules vs a is there of small not. h files rules vs a is there of small (λ p. not (f p))
-once_by (Some (get archive i)) told before after P Q f h = tt
-once_by (Some (history archive path)) told before after P Q f h = tt
-once_by (Some (check archive)) told before after P Q f h = tt
-once_by (Some (stats archive)) told before after P Q f h = tt
-once_by (Some batch) told before after P Q f h = tt
-once_by (Some (demo seed count archive)) told before after P Q f h = tt
-
-pub nothing_counted : (words : List (List ℕ)) (m : Numbers) → single_of words ≡ None → IsMeter m → (told : Option Files) → CountsAsSaid (single_of words) told m m
-nothing_counted words m none is told = subst (λ (o : Option PlainCommand). CountsAsSaid o told m m) (sym none) (PullsAtMost-none 0 m is)

@@ -1,19 +1,6 @@
-//! The commands of the program, one at a time: what each does to the files and writes to the
-//! output.
+//! One command: which one the words spell, what it does, and how it is told.
 #![tactic(auto)]
 
-mod add;
-mod check;
-mod demo;
-mod fronts;
-mod get;
-mod history;
-mod init;
-mod laws;
-mod limits;
-mod norm;
-mod stats;
 mod step;
 
-pub use laws::what_should_succeed_is_not_refused;
 pub use step::take_step;

@@ -1,38 +1,33 @@
 #![tactic(auto, using(xarch_parts::specs::EndLaws::endings))]
 
-ghost use Rattle.std.specs.Prelude.{◌≡◌, ◌≢◌, ◌≤◌, ◌<◌, ◌↔◌, ◌⊎◌, ℕ, List, Some, None, OnErr, option_map};
+ghost use Rattle.std.specs.Prelude.{◌≡◌, ◌≢◌, ◌≤◌, ◌<◌, ◌↔◌, ◌⊎◌, ℕ, List, Some, None, option_map};
 ghost use Rattle.xa_outside.specs.Causes.{Rose};
 ghost use Rattle.xa_outside.specs.Folder.{Files};
 ghost use Rattle.xa_outside.specs.Taken.{TakesNone};
 ghost use Rattle.xarch_words.specs.Commands.{PlainCommand, command_of, demo};
 ghost use Rattle.xarch_words.specs.Lines.{fault_line};
 ghost use Rattle.xarch_words.specs.Refusal as refusal;
-ghost use Rattle.xarch_words.specs.Refusal.{folder_fault, limit, refused, usage};
+ghost use Rattle.xarch_words.specs.Refusal.{limit, refused};
 ghost use Rattle.xarch_words.specs.View.{command_view, words_view};
-ghost use Rattle.xarch_parts.specs.Ends.{Gained, HasItsCause, IsCaused, fault_of};
-ghost use Rattle.xarch_parts.specs.Folders.{IsTold, Keeps};
+ghost use Rattle.xarch_parts.specs.Ends.{Gained, fault_of};
+ghost use Rattle.xarch_parts.specs.Folders.{IsTold};
 ghost use Rattle.xarch_parts.specs.Outcome.{Step};
-ghost use Rattle.xarch_parts.specs.Allowed.{MayEndLate};
-ghost use Rattle.xarch_steps.specs.OnePass.{GoesOnce};
-ghost use Rattle.xarch_steps.specs.Plausible.{MayBe, MayComeLate, MayDo, Tried, Wrote};
-ghost use Rattle.xarch_steps.specs.Ran.{CountsAsSaid, GainsBy, IsLongDemo, MayHaveWritten, OnlyReads, Said, Says, line_after, made_name, outside_of, status_after};
-ghost use Rattle.xarch_steps.specs.ReadsBack.{ReadsLittle};
-ghost use Rattle.xarch_steps.specs.Step.{StepIs, alone, single_of};
-ghost use Rattle.xarch_steps.specs.Succeeds.{ShouldSucceed};
+ghost use Rattle.xarch_meanings.specs.OnePass.{GoesOnce};
+ghost use Rattle.xarch_meanings.specs.Performs.{Performs};
+ghost use Rattle.xarch_meanings.specs.Plausible.{Tried, Wrote};
+ghost use Rattle.xarch_meanings.specs.Ran.{CountsAsSaid, MayHaveWritten, OnlyReads, Said, Says, line_after, outside_of, status_after};
+ghost use Rattle.xarch_meanings.specs.ReadsBack.{ReadsLittle};
+ghost use Rattle.xarch_meanings.specs.Step.{StepIs, alone, single_of};
+ghost use Rattle.xarch_meanings.specs.Succeeds.{ShouldSucceed};
+ghost use Rattle.xarch_writes.specs.FillsUp.{FillsUp, IsLimited};
+ghost use Rattle.xarch_steps.specs.Obeys.{Obeys};
 
-use crate::add::run_add;
-use crate::check::run_check;
-use crate::demo::run_demo;
-use crate::get::run_get;
-use crate::history::run_history;
-use crate::init::run_init;
-use crate::norm::run_norm;
-use crate::stats::run_stats;
-use archive_tree::archives_stand_for_one_list;
-use record_format::versions_have_one_file;
 use std::alloc::Global;
 use xa_outside::{Folder, Sink};
+use xarch_meanings::{commands_take_one_step, what_should_succeed_is_not_refused};
+use xarch_reads::{run_check, run_get, run_history, run_norm, run_stats};
 use xarch_words::{Command, Fault, read_words, status, write_fault};
+use xarch_writes::{run_add, run_demo, run_init, run_rekey};
 
 /// Takes the step of one command, and answers its status.
 ///
@@ -100,20 +95,23 @@ pub fn take_step<F: Folder, O: Sink, E: Sink>(
     ensures told { IsTold (F.files folder.old) (F.draft folder.old)
         → IsTold (F.files folder.new) (F.draft folder.new) }
 
-    // What is pulled and drafted, and that no count of faults falls.
+    // What is pulled and drafted, when an archive would be too long, and that no count of faults
+    // falls.
     ensures counts { CountsAsSaid (single_of (words_view words.now)) (F.files folder.old)
         (F.numbers folder.old) (F.numbers folder.new) }
     ensures one_pass { GoesOnce (single_of (words_view words.now)) (F.files folder.old)
         (F.numbers folder.old) (F.numbers folder.new) (result ≡ 13) }
+    ensures fills { FillsUp (single_of (words_view words.now)) (F.files folder.old)
+        (F.draft folder.new) (result ≡ 12) }
     ensures little { ReadsLittle (single_of (words_view words.now)) (F.files folder.old)
         (F.numbers folder.old) (F.numbers folder.new) }
     ensures folder_later { F.faults folder.old ≤ F.faults folder.new }
     ensures out_later { O.faults out.old ≤ O.faults out.new }
     ensures err_later { E.faults err.old ≤ E.faults err.new }
 {
-    // Laws, for the proofs of `tried`, `wrote` and `complete`.
-    archives_stand_for_one_list();
-    versions_have_one_file();
+    // Laws, for the proofs of `tried`, `wrote`, `complete` and `succeeds`.
+    commands_take_one_step();
+    what_should_succeed_is_not_refused();
     let ended = command_words(alloc, words, folder, out);
     finish(&ended, err)
 }
@@ -125,35 +123,11 @@ fn command_words<F: Folder, O: Sink>(
     folder: &mut F,
     out: &mut O,
 ) -> Result<(), Fault>
-    ensures usage { (fault_of result ≡ Some (refused usage))
-        ↔ (single_of (words_view words.now) ≡ None) }
-    ensures long_demo { IsLongDemo (single_of (words_view words.now))
-        → fault_of result ≡ Some (refused (limit refusal.demo 1000)) }
-    ensures cause { HasItsCause (F.faults folder.old) (F.faults folder.new) (O.faults out.old)
-        (O.faults out.new) (fault_of result) }
-    ensures folder_later { F.faults folder.old ≤ F.faults folder.new }
-    ensures out_later { O.faults out.old ≤ O.faults out.new }
-    ensures may { (files : Files) → F.files folder.old ≡ Some files
-        → MayEndLate (MayComeLate files (single_of (words_view words.now)))
-        (MayDo files (single_of (words_view words.now))) (fault_of result)
-        (F.files folder.new) (O.taken out.old) (O.taken out.new) }
-    ensures refused { OnErr result (F.files folder.new ≡ F.files folder.old) }
-    ensures untold { F.files folder.old ≡ None → F.files folder.new ≡ None }
-    ensures draft_untold { F.draft folder.old ≡ None → F.draft folder.new ≡ None }
-    ensures told { IsTold (F.files folder.old) (F.draft folder.old)
-        → IsTold (F.files folder.new) (F.draft folder.new) }
-    ensures files { OnlyReads (single_of (words_view words.now))
-        → F.files folder.new ≡ F.files folder.old }
-    ensures draft { OnlyReads (single_of (words_view words.now))
-        → F.draft folder.new ≡ F.draft folder.old }
-    ensures counts { CountsAsSaid (single_of (words_view words.now)) (F.files folder.old)
-        (F.numbers folder.old) (F.numbers folder.new) }
-    ensures one_pass { GoesOnce (single_of (words_view words.now)) (F.files folder.old)
-        (F.numbers folder.old) (F.numbers folder.new) (fault_of result ≡ Some folder_fault) }
-    ensures little { ReadsLittle (single_of (words_view words.now)) (F.files folder.old)
-        (F.numbers folder.old) (F.numbers folder.new) }
-    ensures gained { GainsBy (single_of (words_view words.now)) (fault_of result)
-        (O.taken out.old) (O.taken out.new) }
+    ensures obeys { Obeys F.files F.draft F.numbers F.faults (single_of (words_view words.now))
+        folder.old folder.new (O.taken out.old) (O.taken out.new)
+        (O.faults out.old) (O.faults out.new) (fault_of result) }
+    ensures fills { FillsUp (single_of (words_view words.now)) (F.files folder.old)
+        (F.draft folder.new) (IsLimited (fault_of result)) }
 {
     match single_command(words) {
         None => Err(Fault::Usage),
@@ -172,7 +146,7 @@ fn single_command(words: &[String]) -> Option<Command<'_>>
     }
 }
 
-#[tactic(auto, using(xarch_parts::specs::EndLaws::endings), unfolding(crate::specs::Plausible::MayBe))]
+/// Does the command.
 fn run_command<F: Folder, O: Sink>(
     alloc: Global,
     command: Command<'_>,
@@ -180,28 +154,17 @@ fn run_command<F: Folder, O: Sink>(
     out: &mut O,
 ) -> Result<(), Fault>
     requires { alone (Some (command_view command)) ≡ Some (command_view command) }
-    ensures keeps { Keeps F.files F.draft F.numbers (made_name (command_view command.entry))
-        (CountsAsSaid (Some (command_view command.entry)) (F.files folder.old))
-        folder.old folder.new (fault_of result) }
-    ensures caused { IsCaused (F.faults folder.old) (F.faults folder.new) (O.faults out.old)
-        (O.faults out.new) (fault_of result) }
-    ensures may { (files : Files) → F.files folder.old ≡ Some files
-        → MayEndLate (MayComeLate files (Some (command_view command.entry)))
-        (MayBe files (command_view command.entry)) (fault_of result) (F.files folder.new)
-        (O.taken out.old) (O.taken out.new) }
-    ensures long_demo { IsLongDemo (Some (command_view command.entry))
-        → fault_of result ≡ Some (refused (limit refusal.demo 1000)) }
-    ensures one_pass { GoesOnce (Some (command_view command.entry)) (F.files folder.old)
-        (F.numbers folder.old) (F.numbers folder.new) (fault_of result ≡ Some folder_fault) }
-    ensures little { ReadsLittle (Some (command_view command.entry)) (F.files folder.old)
-        (F.numbers folder.old) (F.numbers folder.new) }
-    ensures gained { GainsBy (Some (command_view command.entry)) (fault_of result)
-        (O.taken out.old) (O.taken out.new) }
+    ensures performs { Performs F.files F.draft F.numbers F.faults (command_view command.entry)
+        folder.old folder.new (O.taken out.old) (O.taken out.new)
+        (O.faults out.old) (O.faults out.new) (fault_of result) }
+    ensures fills { FillsUp (Some (command_view command.entry)) (F.files folder.old)
+        (F.draft folder.new) (IsLimited (fault_of result)) }
 {
     match command {
         Command::Norm { spec, doc } => run_norm(alloc, spec, doc, folder, out),
         Command::Init { archive, spec } => run_init(alloc, archive, spec, folder),
         Command::Add { archive, doc } => run_add(alloc, archive, doc, folder),
+        Command::Rekey { archive, spec } => run_rekey(alloc, archive, spec, folder),
         Command::Get { archive, version } => run_get(alloc, archive, version, folder, out),
         Command::History { archive, path } => run_history(alloc, archive, path, folder, out),
         Command::Check { archive } => run_check(alloc, archive, folder, out),

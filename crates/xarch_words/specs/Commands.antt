@@ -12,6 +12,8 @@ pub data PlainCommand : Type 0 where
   init : List ℕ → List ℕ → PlainCommand
   -- the archive and the document
   add : List ℕ → List ℕ → PlainCommand
+  -- the archive and the specification
+  rekey : List ℕ → List ℕ → PlainCommand
   -- the archive and the number of a version
   get : List ℕ → ℕ → PlainCommand
   -- the archive and the path of an element
@@ -50,7 +52,8 @@ command_of_three word first second =
     if bytes_eq word (codes "norm") then Some (norm first second)
     else (if bytes_eq word (codes "init") then Some (init first second)
     else (if bytes_eq word (codes "add") then Some (add first second)
-    else question_of word first second))
+    else (if bytes_eq word (codes "rekey") then Some (rekey first second)
+    else question_of word first second)))
 
 -- a seed and a number of versions, both of which are numbers
 abbrev pub demo_of : List ℕ → List ℕ → List ℕ → Option PlainCommand

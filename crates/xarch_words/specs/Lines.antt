@@ -4,7 +4,7 @@ use Rattle.std.specs.Fmt.{decimal}
 use Rattle.std.specs.List.{flat_map}
 use Rattle.key_spec.specs.Data.{PlainPath}
 use Rattle.key_spec.specs.Names.{path_text}
-use Rattle.xarch_words.specs.Refusal.{PlainQuantity, document, depth, versions, specification, archive, line, batch, demo, Refusal, usage, no_file, exists, bad_spec, bad_json, bad_shape, key_fault, no_version, bad_path, damaged, limit, PlainFault, refused, folder_fault, out_fault, in_fault, memory}
+use Rattle.xarch_words.specs.Refusal.{PlainQuantity, document, depth, versions, specification, archive, line, batch, demo, Refusal, usage, no_file, exists, bad_spec, bad_json, bad_shape, key_fault, key_fault_in, no_version, bad_path, damaged, limit, PlainFault, refused, folder_fault, out_fault, in_fault, memory}
 
 abbrev pub refusal_status : Refusal → ℕ
 refusal_status usage = 2
@@ -14,6 +14,7 @@ refusal_status (bad_spec l why) = 5
 refusal_status bad_json = 6
 refusal_status (bad_shape place why) = 7
 refusal_status (key_fault f) = 8
+refusal_status (key_fault_in i f) = 8
 refusal_status (no_version i n) = 9
 refusal_status (bad_path step) = 10
 refusal_status (damaged name) = 11
@@ -64,6 +65,7 @@ refusal_text (bad_spec l why) = codes "bad specification, line " ++ decimal l ++
 refusal_text bad_json = codes "bad json"
 refusal_text (bad_shape place why) = codes "bad shape at " ++ place_text place ++ why_text why
 refusal_text (key_fault f) = codes "key fault at " ++ place_text f.place ++ why_text f.why ++ key_path_text f.path
+refusal_text (key_fault_in i f) = codes "key fault in version " ++ decimal i ++ (codes " at " ++ place_text f.place ++ why_text f.why ++ key_path_text f.path)
 refusal_text (no_version i n) = no_version_text i n
 refusal_text (bad_path step) = codes "bad path, step " ++ decimal step
 refusal_text (damaged name) = codes "damaged archive " ++ name

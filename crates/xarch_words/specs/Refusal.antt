@@ -24,6 +24,8 @@ pub data Refusal : Type 0 where
   -- the place and why
   bad_shape : List ℕ → ℕ → Refusal
   key_fault : PlainKeyFault → Refusal
+  -- the version and its fault
+  key_fault_in : ℕ → PlainKeyFault → Refusal
   -- the version that was asked for, and how many there are
   no_version : ℕ → ℕ → Refusal
   -- the step, which counts from 1, or 0 for the path as a whole

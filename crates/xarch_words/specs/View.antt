@@ -4,15 +4,15 @@ use Rattle.std.specs.declared.alloc.Global.{Global}
 use Rattle.jsonml_tree.specs.View.{place_view}
 use Rattle.key_rules.specs.View as keys
 use Rattle.xarch_words.specs.Commands as commands
-use Rattle.xarch_words.specs.Commands.{PlainCommand, norm, init, add, get, history, check, stats}
-use Rattle.xarch_words.specs.Refusal.{PlainQuantity, document, depth, versions, specification, archive, line, batch, demo, usage, no_file, exists, bad_spec, bad_json, bad_shape, key_fault, no_version, bad_path, damaged, limit, PlainFault, refused, folder_fault, out_fault, in_fault, memory}
+use Rattle.xarch_words.specs.Commands.{PlainCommand, norm, init, add, rekey, get, history, check, stats}
+use Rattle.xarch_words.specs.Refusal.{PlainQuantity, document, depth, versions, specification, archive, line, batch, demo, usage, no_file, exists, bad_spec, bad_json, bad_shape, key_fault, key_fault_in, no_version, bad_path, damaged, limit, PlainFault, refused, folder_fault, out_fault, in_fault, memory}
 use Rattle.xarch_words.specs.declared.fault.Fault.{Fault}
-use Rattle.xarch_words.specs.declared.fault.Fault.TheVariants.{Usage, NoFile, Exists, BadSpec, BadJson, BadShape, KeyFault, NoVersion, BadPath, Damaged, Limit, FolderFault, OutFault, InFault, Memory}
+use Rattle.xarch_words.specs.declared.fault.Fault.TheVariants.{Usage, NoFile, Exists, BadSpec, BadJson, BadShape, KeyFault, KeyFaultIn, NoVersion, BadPath, Damaged, Limit, FolderFault, OutFault, InFault, Memory}
 use Rattle.xarch_words.specs.declared.fault.Quantity.{Quantity}
 use Rattle.xarch_words.specs.declared.fault.Quantity.TheVariants as quantities
 use Rattle.xarch_words.specs.declared.fault.Quantity.TheVariants.{Document, Depth, Versions, Specification, Archive, Line}
 use Rattle.xarch_words.specs.declared.words.Command.{Command}
-use Rattle.xarch_words.specs.declared.words.Command.TheVariants.{Norm, Init, Add, Get, History, Check, Stats, Batch, Demo}
+use Rattle.xarch_words.specs.declared.words.Command.TheVariants.{Norm, Init, Add, Rekey, Get, History, Check, Stats, Batch, Demo}
 
 abbrev pub words_view : List (String Global) → List (List ℕ)
 words_view words = map string_bytes words
@@ -21,6 +21,7 @@ abbrev pub command_view : Command → PlainCommand
 command_view (Norm spec doc) = norm spec.now doc.now
 command_view (Init name spec) = init name.now spec.now
 command_view (Add name doc) = add name.now doc.now
+command_view (Rekey name spec) = rekey name.now spec.now
 command_view (Get name version) = get name.now version
 command_view (History name path) = history name.now path.now
 command_view (Check name) = check name.now
@@ -46,6 +47,7 @@ fault_view (BadSpec l why) = refused (bad_spec l why)
 fault_view BadJson = refused bad_json
 fault_view (BadShape place why) = refused (bad_shape (place_view place) why)
 fault_view (KeyFault f) = refused (key_fault (keys.fault_view f))
+fault_view (KeyFaultIn i f) = refused (key_fault_in i (keys.fault_view f))
 fault_view (NoVersion i n) = refused (no_version i n)
 fault_view (BadPath step) = refused (bad_path step)
 fault_view (Damaged name) = refused (damaged (string_bytes name))

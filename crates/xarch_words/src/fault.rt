@@ -50,6 +50,9 @@ pub enum Fault {
     BadShape { place: Place, why: u8 },
     /// The document does not satisfy the keys.
     KeyFault(KeyFault),
+    /// The version of an archive does not satisfy other keys, and those before it do. Versions
+    /// count from 1.
+    KeyFaultIn { version: u32, fault: KeyFault },
     /// The archive has n versions, and none of the number i.
     NoVersion { i: u32, n: u32 },
     /// A step of a path is bad. Steps count from 1; step 0 stands for the path as a whole.
@@ -92,6 +95,7 @@ pub fn status(fault: &Fault) -> u8
         Fault::BadJson => 6,
         Fault::BadShape { .. } => 7,
         Fault::KeyFault(_) => 8,
+        Fault::KeyFaultIn { .. } => 8,
         Fault::NoVersion { .. } => 9,
         Fault::BadPath { .. } => 10,
         Fault::Damaged { .. } => 11,

@@ -68,6 +68,9 @@ fn put_text<E: Sink>(err: &mut E, fault: &Fault) -> Result<(), Failed>
         Fault::BadJson => put_all(err, b"bad json"),
         Fault::BadShape { place, why } => put_at(err, b"bad shape at ", &place.steps, *why),
         Fault::KeyFault(fault) => put_key_fault(err, b"key fault at ", fault),
+        Fault::KeyFaultIn { version, fault } => {
+            put_key_fault_in(err, b"key fault in version ", *version, b" at ", fault)
+        }
         Fault::NoVersion { i, n } => put_no_version(err, *i, *n),
         Fault::BadPath { step } => put_number(err, b"bad path, step ", *step),
         Fault::Damaged { name } => put_both(err, b"damaged archive ", name.as_bytes()),
@@ -194,6 +197,24 @@ fn put_key_fault<E: Sink>(err: &mut E, before: &[u8], fault: &KeyFault) -> Resul
 {
     put_at(err, before, &fault.place.steps, fault.why)?;
     put_key_path(err, &fault.key_path)
+}
+
+/// The fault of a version of an archive.
+fn put_key_fault_in<E: Sink>(
+    err: &mut E,
+    before: &[u8],
+    version: u32,
+    between: &[u8],
+    fault: &KeyFault,
+) -> Result<(), Failed>
+    ensures bytes { Puts (E.taken err.old) (E.taken err.new) result
+        (before.now ++ decimal version ++ (between.now
+        ++ place_text (place_view fault.now.place) ++ why_text fault.now.why
+        ++ key_path_text (option_map path_view fault.now.key_path))) }
+    ensures cause { HasCause (E.faults err.old) (E.faults err.new) result }
+{
+    put_number(err, before, version)?;
+    put_key_fault(err, between, fault)
 }
 
 #[tactic(auto, unfolding(crate::specs::Lines::key_path_text))]

@@ -24,6 +24,11 @@ pub enum Command<'a> {
         archive: &'a str,
         doc: &'a str,
     },
+    /// Gives an archive the keys of another specification.
+    Rekey {
+        archive: &'a str,
+        spec: &'a str,
+    },
     /// Writes a version of an archive in key order. Versions count from 1.
     Get {
         archive: &'a str,
@@ -100,6 +105,10 @@ fn three_words<'a>(word: &str, first: &'a str, second: &'a str) -> Option<Comman
         "add" => Some(Command::Add {
             archive: first,
             doc: second,
+        }),
+        "rekey" => Some(Command::Rekey {
+            archive: first,
+            spec: second,
         }),
         _ => question(word, first, second),
     }

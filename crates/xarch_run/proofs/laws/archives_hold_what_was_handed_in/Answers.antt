@@ -1,16 +1,16 @@
 use Rattle.xarch_run.proofs.CallLemmas.{calls-did, line-may, words-may}
 use Rattle.xarch_run.proofs.CheckLemmas.{checking, judging}
-use Rattle.xarch_run.proofs.HeldLemmas.{accepted, all-absent, all-hold, all-refused, counting, exact, getting, handed-holds, in-order, one-held, satisfying, should-succeed, step-begins, telling}
+use Rattle.xarch_run.proofs.HeldLemmas.{accepted, all-absent, all-hold, all-refused, counting, exact, getting, handed-holds, in-order, keys-taken, keys-told, one-held, rekeying, satisfying, should-succeed, step-begins, telling}
 use Rattle.xarch_run.proofs.laws.archives_hold_what_was_handed_in.Goals as goal
 
 pub returns-clause-headline : goal.returns-clause-headline
-returns-clause-headline c = λ files commands steps name held did handed. exact c.versions_have_one_file.ensures.one_file _ name held (handed-holds files name commands steps held did handed)
+returns-clause-headline c = λ files commands steps name held did handed. exact c.versions_have_one_file.ensures.one_file _ name held (handed-holds (record { one_list = c.versions_have_one_rekeying.ensures.one_list; apart = c.versions_have_one_rekeying.ensures.apart }) files name commands steps held did handed)
 
 pub returns-clause-made : goal.returns-clause-made
 returns-clause-made c = step-begins
 
 pub returns-clause-kept : goal.returns-clause-kept
-returns-clause-kept c = λ files name commands steps held holds did. all-hold files name commands steps held holds did
+returns-clause-kept c = λ files name commands steps held holds did. all-hold (record { one_list = c.versions_have_one_rekeying.ensures.one_list; apart = c.versions_have_one_rekeying.ensures.apart }) files name commands steps held holds did
 
 pub returns-clause-exactly : goal.returns-clause-exactly
 returns-clause-exactly c = exact c.versions_have_one_file.ensures.one_file
@@ -30,8 +30,17 @@ returns-clause-satisfied c = λ files name doc held s tree holds may handed. sat
 pub returns-clause-accepted : goal.returns-clause-accepted
 returns-clause-accepted c = λ files name doc held s holds may zero. accepted files name held s holds doc may zero
 
+pub returns-clause-rekeyed : goal.returns-clause-rekeyed
+returns-clause-rekeyed c = λ files name spec held under s holds may keyed. rekeying files name held s holds (record { one_list = c.versions_have_one_rekeying.ensures.one_list; apart = c.versions_have_one_rekeying.ensures.apart }) spec under may keyed
+
+pub returns-clause-keys_taken : goal.returns-clause-keys_taken
+returns-clause-keys_taken c = λ files name spec held s holds may zero. keys-taken files name held s holds spec may zero
+
+pub returns-clause-keys_told : goal.returns-clause-keys_told
+returns-clause-keys_told c = λ files name spec held s holds may. keys-told files name held s holds spec may
+
 pub returns-clause-should : goal.returns-clause-should
-returns-clause-should c = should-succeed c.what_should_succeed_is_not_refused.ensures
+returns-clause-should c = should-succeed c.what_should_succeed_is_not_refused.ensures.never
 
 pub returns-clause-in_order : goal.returns-clause-in_order
 returns-clause-in_order c = in-order

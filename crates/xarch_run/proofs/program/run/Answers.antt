@@ -1,12 +1,12 @@
 use Rattle.std.proofs.Common.{ap, ◌∙◌, arith}
 use Rattle.xarch_words.specs.Commands.{command_of}
 use Rattle.xarch_words.specs.View.{words_view}
-use Rattle.xarch_steps.specs.Step.{alone}
+use Rattle.xarch_meanings.specs.Step.{alone}
 use Rattle.xarch_run.specs.Batch.{scene}
 use Rattle.xarch_run.specs.Calls.{call_of}
 use Rattle.xarch_run.proofs.BatchFronts.{batch-did}
 use Rattle.xarch_run.proofs.CallLemmas.{single-did}
-use Rattle.xarch_run.proofs.CommandLemmas.{alone-counts, alone-late, alone-little, alone-once, alone-reads, batch-demo, batch-little, batch-none, none-alone, answer-calm, answer-folder, answer-input, answer-out, answer-words, batch-counts, batch-fails, batch-once, batch-reads, fails, holds}
+use Rattle.xarch_run.proofs.CommandLemmas.{alone-counts, alone-fills, alone-late, alone-little, alone-once, alone-reads, batch-demo, batch-little, batch-none, none-alone, answer-calm, answer-folder, answer-input, answer-out, answer-words, batch-counts, batch-fails, batch-fills, batch-once, batch-reads, fails, holds, steady}
 use Rattle.xarch_run.proofs.program.run.Goals as goal
 
 -- ---- a batch
@@ -24,6 +24,9 @@ returns-then-is_batch-clause-wrote g c = λ files other. absurd (other (holds _ 
 
 pub returns-then-is_batch-clause-complete : goal.returns-then-is_batch-clause-complete
 returns-then-is_batch-clause-complete g c = λ files s other. absurd (other (holds _ _ c.if-is_batch.true c.is_batch.ensures))
+
+pub returns-then-is_batch-clause-steady : goal.returns-then-is_batch-clause-steady
+returns-then-is_batch-clause-steady g c = λ files s other. absurd (other (holds _ _ c.if-is_batch.true c.is_batch.ensures))
 
 pub returns-then-is_batch-clause-succeeds : goal.returns-then-is_batch-clause-succeeds
 returns-then-is_batch-clause-succeeds g c = λ files command _ is should _ _. absurd (batch-fails files _ command (holds _ _ c.if-is_batch.true c.is_batch.ensures) is should)
@@ -138,6 +141,11 @@ returns-else-is_batch-clause-complete g c = λ files s _ told is zero folder out
 pub returns-else-is_batch-clause-succeeds : goal.returns-else-is_batch-clause-succeeds
 returns-else-is_batch-clause-succeeds g c = λ files command told is should folder out. c.take_step.ensures.succeeds files command told is should folder out
 
+pub returns-else-is_batch-clause-steady : goal.returns-else-is_batch-clause-steady
+returns-else-is_batch-clause-steady g c = λ files s _ told is folder out.
+    let e = c.take_step.ensures in
+    steady files _ s c.take_step.result _ _ _ _ _ _ _ _ _ _ _ is (e.tried files told) e.folder_fault e.out_fault e.never_input_fault folder out
+
 pub returns-else-is_batch-clause-said : goal.returns-else-is_batch-clause-said
 returns-else-is_batch-clause-said g c = λ _. c.take_step.ensures.said
 
@@ -158,3 +166,9 @@ returns-then-is_batch-clause-little g c = batch-little _ _ _ _ (holds _ _ c.if-i
 
 pub returns-else-is_batch-clause-little : goal.returns-else-is_batch-clause-little
 returns-else-is_batch-clause-little g c = alone-little (command_of (words_view c.args.words.now)) _ _ _ c.take_step.ensures.little
+
+pub returns-then-is_batch-clause-fills : goal.returns-then-is_batch-clause-fills
+returns-then-is_batch-clause-fills g c = batch-fills _ _ _ _ (holds _ _ c.if-is_batch.true c.is_batch.ensures)
+
+pub returns-else-is_batch-clause-fills : goal.returns-else-is_batch-clause-fills
+returns-else-is_batch-clause-fills g c = alone-fills (command_of (words_view c.args.words.now)) _ _ _ c.take_step.ensures.fills

@@ -16,3 +16,7 @@ returns-in-Damaged-clause-bytes g c = rw (c.in-Damaged.is, ← c.as_bytes-in-Dam
 pub returns-in-BadPath-clause-bytes : goal.returns-in-BadPath-clause-bytes
 unfolding fault_text refusal_text
 returns-in-BadPath-clause-bytes g c = rw c.in-BadPath.is c.put_number.ensures.bytes
+
+pub returns-in-KeyFaultIn-clause-bytes : goal.returns-in-KeyFaultIn-clause-bytes
+unfolding fault_text refusal_text
+returns-in-KeyFaultIn-clause-bytes g c = rw c.in-KeyFaultIn.is c.put_key_fault_in.ensures.bytes

@@ -1,0 +1,3 @@
+pub mod OneStep
+pub mod Succeeding
+mod VersionTexts

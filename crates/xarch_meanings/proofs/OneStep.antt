@@ -1,0 +1,162 @@
+-- What a command may do is what is defined, where that is. It is so since versions have one archive and one file, at whose
+-- front their number stands.
+use Rattle.std.proofs.Common.{◌≡◌, inl, inr, ℕ, List, [], ◌∷◌, ◌++◌, length, Option, Some, None, Result, Ok, Err, sym, ap, ◌∙◌, subst, refl}
+use Rattle.std.specs.FinMap as map
+use Rattle.xa_outside.specs.Folder.{Files}
+use Rattle.key_spec.specs.Data.{PlainRule}
+use Rattle.keyed_tree.specs.Data.{PlainKeyed}
+use Rattle.archive_tree.specs.Data.{PlainArchive}
+use Rattle.archive_tree.specs.Stands.{ArchiveOf}
+use Rattle.record_format.specs.Files.{FileOf}
+use Rattle.record_format.specs.Fronts.{fixed}
+use Rattle.archive_file.specs.Sound.{Sound}
+use Rattle.archive_stats.specs.Counts.{PlainCounts, counts}
+use Rattle.key_rules.specs.Faults.{PlainKeyFault}
+use Rattle.archive_rekey.specs.Rekeyed.{AreRekeyed, IsFirstBad}
+use Rattle.xarch_gen.specs.Company.{company_rules}
+use Rattle.xarch_words.specs.Commands.{PlainCommand, norm, init, add, rekey, get, history, check, stats, batch, demo}
+use Rattle.xarch_words.specs.Refusal.{Refusal, no_file, key_fault_in, damaged}
+use Rattle.xarch_meanings.specs.Add.{added}
+use Rattle.xarch_meanings.specs.Check.{IsFound, check_text}
+use Rattle.xarch_parts.specs.Archives.{GoesOn, Stores}
+use Rattle.xarch_meanings.specs.Demo.{MakesOrNone, demo_input, samples}
+use Rattle.xarch_meanings.specs.Init.{init_rules}
+use Rattle.xarch_parts.specs.Inputs.{file_of}
+use Rattle.xarch_parts.specs.Outcome.{Outcome, Step, and_then, or_refuse, step_from}
+use Rattle.xarch_meanings.specs.Plausible.{IsLate, MayAdd, MayRekey, MayWrite, MayBe, MayComeLate, MayDo, Plausible, add_input, history_input}
+use Rattle.xarch_meanings.specs.PlausibleLaws.{late-get, late-unsound, plain-step}
+use Rattle.xarch_meanings.specs.Rekey.{RekeysTo, rekey_rules}
+use Rattle.xarch_meanings.specs.Stats.{CountsFrom, counts_text}
+use Rattle.xarch_meanings.specs.Step.{OutcomeIs, DoesOrRefuses, Defines, StepIs, single_of}
+
+module _ (one_archive : (vs : List PlainKeyed) (a b : PlainArchive) → ArchiveOf vs a → ArchiveOf vs b → a ≡ b)
+    (one_file : (rules : List PlainRule) (vs : List PlainKeyed) (b c : List ℕ) → FileOf rules vs b → FileOf rules vs c → b ≡ c)
+    (numbered : (rules : List PlainRule) (vs : List PlainKeyed) (b : List ℕ) → FileOf rules vs b → fixed b ≡ Some (length vs))
+    (one_list : (rules : List PlainRule) (vs us ws : List PlainKeyed) → AreRekeyed rules vs us → AreRekeyed rules vs ws → us ≡ ws)
+    (one_fault : (rules : List PlainRule) (vs : List PlainKeyed) (i j : ℕ) (f g : PlainKeyFault) → IsFirstBad rules vs i f → IsFirstBad rules vs j g → (i ≡ j) × (f ≡ g))
+    (apart : (rules : List PlainRule) (vs us : List PlainKeyed) (i : ℕ) (f : PlainKeyFault) → AreRekeyed rules vs us → ¬ IsFirstBad rules vs i f) where
+  one_stored : (files : Files) (name : List ℕ) (rules : List PlainRule) (vs : List PlainKeyed) (r s : Result Outcome Refusal) → Stores files name rules vs r → Stores files name rules vs s → s ≡ r
+  one_stored files name rules vs r s (inl p) (inl q) =
+      let same = one_file rules vs q.bytes p.bytes q.sound.file p.sound.file in
+      q.is ∙ ap (λ b. Ok (record { files = map.insert files name b; output = [] })) same ∙ sym p.is
+  one_stored files name rules vs r s (inl p) (inr q) = absurd (q.none p.bytes p.sound.file)
+  one_stored files name rules vs r s (inr p) (inl q) = absurd (p.none q.bytes q.sound.file)
+  one_stored files name rules vs r s (inr p) (inr q) = q.is ∙ sym p.is
+
+  one_way : {A : Type 0} (x : Result A Refusal) (P : A → Result Outcome Refusal → Type 0) → ((a : A) (r s : Result Outcome Refusal) → P a r → P a s → s ≡ r) → (r s : Result Outcome Refusal) → GoesOn x P r → GoesOn x P s → s ≡ r
+  one_way (Ok a) P h r s p q = h a r s p q
+  one_way (Err e) P h r s p q = q ∙ sym p
+
+  -- what begins with a file that is not there is refused
+  absent : {A : Type 0} (files : Files) (name : List ℕ) (f : List ℕ → Result A Refusal) → map.get files name ≡ None → and_then (file_of files name) f ≡ Err (no_file name)
+  absent files name f e = ap (λ o. and_then (or_refuse o (no_file name)) f) e
+
+  add_absent : (files : Files) (name doc : List ℕ) → map.get files name ≡ None → add_input files name doc ≡ Err (no_file name)
+  add_absent files name doc e = rw e refl
+
+  history_absent : (files : Files) (name path : List ℕ) → map.get files name ≡ None → history_input files name path ≡ Err (no_file name)
+  history_absent files name path e = rw e refl
+
+  file_absent : (files : Files) (name : List ℕ) → map.get files name ≡ None → file_of files name ≡ Err (no_file name)
+  file_absent files name e = ap (λ o. or_refuse o (no_file name)) e
+
+  -- versions have one archive, and it has one count
+  one_counted : (files : Files) (rules : List PlainRule) (vs : List PlainKeyed) (r s : Result Outcome Refusal) → CountsFrom files rules vs r → CountsFrom files rules vs s → s ≡ r
+  one_counted files rules vs r s p q =
+      q.is ∙ ap (λ (a : PlainArchive). Ok (record { files = files; output = counts_text (counts rules a) })) (one_archive vs q.archive p.archive q.of p.of) ∙ sym p.is
+
+  -- a file has one number of versions, and is not sound and damaged
+  same_count : (bytes : List ℕ) (p q : Sound bytes) → length q.versions ≡ length p.versions
+  same_count bytes p q = let both : Some (length q.versions) ≡ Some (length p.versions) = sym (numbered q.rules q.versions bytes q.is.file) ∙ numbered p.rules p.versions bytes p.is.file in cc
+
+  one_found : (files : Files) (name bytes : List ℕ) (r s : Result Outcome Refusal) → IsFound files name bytes r → IsFound files name bytes s → s ≡ r
+  one_found files name bytes r s (inl p) (inl q) = q.is ∙ ap (λ (n : ℕ). Ok (record { files = files; output = check_text n })) (same_count bytes p.sound q.sound) ∙ sym p.is
+  one_found files name bytes r s (inl p) (inr q) = absurd (q.unsound p.sound)
+  one_found files name bytes r s (inr p) (inl q) = absurd (p.unsound q.sound)
+  one_found files name bytes r s (inr p) (inr q) = q.is ∙ sym p.is
+
+  one_made : (files : Files) (name : List ℕ) (seed count : ℕ) (r s : Result Outcome Refusal) → MakesOrNone files name seed count r → MakesOrNone files name seed count s → s ≡ r
+  one_made files name seed count r s (inl p) (inl q) =
+      let same = one_file company_rules (samples seed count) q.bytes p.bytes q.made.sound.file p.made.sound.file in
+      let archives = one_archive (samples seed count) q.made.archive p.made.archive q.made.of p.made.of in
+      let tallies : q.tally ≡ p.tally = q.made.tells ∙ ap (counts company_rules) archives ∙ sym p.made.tells in
+      q.is
+      ∙ ap (λ b. Ok (record { files = map.insert files name b; output = counts_text q.tally })) same
+      ∙ ap (λ (c : PlainCounts). Ok (record { files = map.insert files name p.bytes; output = counts_text c })) tallies
+      ∙ sym p.is
+  one_made files name seed count r s (inl p) (inr q) = absurd (q.none p.bytes p.made.sound.file)
+  one_made files name seed count r s (inr p) (inl q) = absurd (p.none q.bytes q.made.sound.file)
+  one_made files name seed count r s (inr p) (inr q) = q.is ∙ sym p.is
+
+  -- versions are one list under other rules, or one of them is the first bad one
+  one_told : (i j : ℕ) (f g : PlainKeyFault) → i ≡ j → f ≡ g → ◌≡◌ {A = Result Outcome Refusal} (Err (key_fault_in j g)) (Err (key_fault_in i f))
+  one_told i j f g e h = cc
+
+  one_rekeyed : (files : Files) (name : List ℕ) (vs : List PlainKeyed) (rules : List PlainRule) (r s : Result Outcome Refusal) → RekeysTo files name vs rules r → RekeysTo files name vs rules s → s ≡ r
+  one_rekeyed files name vs rules r s (inl p) (inl q) =
+      one_stored files name rules p.versions r s p.rest (subst (λ us. Stores files name rules us s) (one_list rules vs q.versions p.versions q.are p.are) q.rest)
+  one_rekeyed files name vs rules r s (inl p) (inr q) = absurd (apart rules vs p.versions q.number q.fault p.are q.first)
+  one_rekeyed files name vs rules r s (inr p) (inl q) = absurd (apart rules vs q.versions p.number p.fault q.are p.first)
+  one_rekeyed files name vs rules r s (inr p) (inr q) =
+      let same = one_fault rules vs p.number q.number p.fault q.fault p.first q.first in
+      q.is ∙ one_told p.number q.number p.fault q.fault same.0 same.1 ∙ sym p.is
+
+  rekey_absent : (files : Files) (name spec : List ℕ) → map.get files name ≡ None → rekey_rules files name spec ≡ Err (no_file name)
+  rekey_absent files name spec e = rw e refl
+
+  one : (files : Files) (command : PlainCommand) (r s : Result Outcome Refusal) → OutcomeIs files command r → MayBe files command s → s ≡ r
+  unfolding OutcomeIs MayBe
+  one files (norm spec doc) r s p q = q ∙ sym p
+  one files (init name spec) r s p q = one_way (init_rules files name spec) (λ rules. Stores files name rules []) (λ rules. one_stored files name rules []) r s p q
+  one files (add name doc) r s (inl p) q = subst (λ x. GoesOn x (λ _. MayAdd files name) s) (add_absent files name doc p.absent) q.whatever ∙ sym p.is
+  one files (add name doc) r s (inr p) q =
+      one_way (added files doc p.rules (length p.versions)) (λ k. Stores files name p.rules (p.versions ++ k ∷ [])) (λ k. one_stored files name p.rules (p.versions ++ k ∷ [])) r s p.rest (q.sound p.rules p.versions p.archive)
+  one files (rekey name spec) r s (inl p) q = subst (λ x. GoesOn x (λ _. MayRekey files name) s) (rekey_absent files name spec p.absent) q.whatever ∙ sym p.is
+  one files (rekey name spec) r s (inr p) q =
+      one_way (rekey_rules files name spec) (RekeysTo files name p.versions) (one_rekeyed files name p.versions) r s p.rest (q.sound p.rules p.versions p.archive)
+  one files (get name i) r s (inl p) q = subst (λ x. GoesOn x (λ _. MayWrite files name) s) (absent files name _ p.absent) q.whatever ∙ sym p.is
+  one files (get name i) r s (inr p) q = q.sound p.rules p.versions p.archive ∙ sym p.rest
+  one files (history name path) r s (inl p) q = subst (λ x. GoesOn x (λ _. MayWrite files name) s) (history_absent files name path p.absent) q.whatever ∙ sym p.is
+  one files (history name path) r s (inr p) q = q.sound p.rules p.versions p.archive ∙ sym p.rest
+  one files (check name) r s p q = one_way (file_of files name) (IsFound files name) (one_found files name) r s p q
+  one files (stats name) r s (inl p) q = subst (λ x. GoesOn x (λ _. MayWrite files name) s) (file_absent files name p.absent) q.whatever ∙ sym p.is
+  one files (stats name) r s (inr p) q = one_counted files p.rules p.versions r s p.rest (q.sound p.rules p.versions p.archive)
+  one files batch r s p q = q ∙ sym p
+  one files (demo seed count name) r s p q = one_way (demo_input files count name) (λ _. MakesOrNone files name seed count) (λ _. one_made files name seed count) r s p q
+
+  one_does : (files : Files) (command : Option PlainCommand) (r s : Result Outcome Refusal) → DoesOrRefuses files command r → MayDo files command s → s ≡ r
+  one_does files None r s p q = q ∙ sym p
+  one_does files (Some command) r s p q = one files command r s p q
+
+  -- the words may have no other outcome than the defined one
+  pub one_outcome : (files : Files) (words : List (List ℕ)) (r s : Result Outcome Refusal) → Defines files words r → MayDo files (single_of words) s → s ≡ r
+  one_outcome files words r s p q = one_does files (single_of words) r s p q
+
+  damage_or_none : (name : List ℕ) → ◌≡◌ {A = Result Outcome Refusal} (Err (damaged name)) (Err (no_file name)) → ⊥
+  damage_or_none name e = cc
+
+  -- where the outcome is defined, no refusal comes late
+  none_late : (files : Files) (command : PlainCommand) (r s : Result Outcome Refusal) → OutcomeIs files command r → MayBe files command s → ¬ IsLate files (Some command) s
+  unfolding OutcomeIs
+  none_late files command r (Ok o) p q late = late
+  none_late files command r (Err e) p q late =
+      late-get files command e ⊥ late (λ name i is damage.
+      by_archive name i damage (subst (λ (c : PlainCommand). OutcomeIs files c r) is p) (subst (λ (c : PlainCommand). MayBe files c (Err e)) is q) (subst (λ (c : PlainCommand). MayComeLate files (Some c) e) is late))
+    where
+      by_archive : (name : List ℕ) (i : ℕ) → e ≡ damaged name → OutcomeIs files (get name i) r → MayBe files (get name i) (Err e) → MayComeLate files (Some (get name i)) e → ⊥
+      by_archive name i damage (inl missing) m late =
+          let same : Err e ≡ r = one files (get name i) r (Err e) (inl missing) m in
+          let wrong : ◌≡◌ {A = Result Outcome Refusal} (Err (damaged name)) (Err (no_file name)) = ap (λ q. Err q) (sym damage) ∙ same ∙ missing.is in
+          damage_or_none name wrong
+      by_archive name i damage (inr opened) m late = late-unsound files name i opened.rules opened.versions (Err e) opened.archive m late
+
+  none_does : (files : Files) (command : Option PlainCommand) (r s : Result Outcome Refusal) → DoesOrRefuses files command r → MayDo files command s → ¬ IsLate files command s
+  none_does files None r (Ok o) p q late = late
+  none_does files None r (Err e) p q late = late
+  none_does files (Some command) r s p q late = none_late files command r s p q late
+
+  -- no other step than the defined one
+  pub one_step : (files : Files) (words : List (List ℕ)) (s t : Step) → StepIs files words s → Plausible files words t → s ≡ t
+  one_step files words s t p q =
+      p.is ∙ sym (ap (step_from files) (one_outcome files words p.outcome q.outcome p.defined q.may))
+      ∙ sym (plain-step files (single_of words) t q (none_does files (single_of words) p.outcome q.outcome p.defined q.may))

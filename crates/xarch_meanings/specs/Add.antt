@@ -1,0 +1,35 @@
+-- What `add` does: it adds a document to an archive as its next version.
+use Rattle.std.specs.Prelude.{ℕ, List, [], ◌∷◌, ◌++◌, length, nat_lt, Result, Ok, Err, if◌then◌else◌}
+use Rattle.xa_outside.specs.Folder.{Files}
+use Rattle.key_spec.specs.Data.{PlainRule}
+use Rattle.keyed_tree.specs.Data.{PlainKeyed}
+use Rattle.xarch_words.specs.Refusal.{document, versions, Refusal, limit}
+use Rattle.xarch_parts.specs.Archives.{GoesOn, Opens, Stores}
+use Rattle.xarch_parts.specs.Inputs.{length_in, read_in}
+use Rattle.xarch_parts.specs.Outcome.{Outcome, and_then}
+use Rattle.xarch_parts.specs.Readings.{document_of, keyed_of}
+
+-- an archive of n versions may have one more
+abbrev pub room_behind : ℕ → Result Unit Refusal
+room_behind n = if nat_lt n 999999 then Ok tt else Err (limit versions 999999)
+
+-- the keyed tree of the document that some bytes spell, where it satisfies the keys
+abbrev pub tree_of : List PlainRule → List ℕ → Result PlainKeyed Refusal
+tree_of rules bytes = and_then (document_of bytes) (keyed_of rules)
+
+-- The keyed tree of the document under an archive's rules, for an archive of n versions. The document's length is judged
+-- first, then its bytes, its keys, and the number of versions.
+abbrev pub added : Files → List ℕ → List PlainRule → ℕ → Result PlainKeyed Refusal
+added files doc rules n =
+    and_then (length_in files doc document 67108864) (λ _.
+    and_then (read_in files doc document_of) (λ t.
+    and_then (keyed_of rules t) (λ k.
+    and_then (room_behind n) (λ _.
+    Ok k))))
+
+-- what comes of the document where these are the archive's rules and versions
+abbrev pub AddsTo : Files → List ℕ → List ℕ → List PlainRule → List PlainKeyed → Result Outcome Refusal → Type 0
+AddsTo files archive doc rules vs r = GoesOn (added files doc rules (length vs)) (λ k. Stores files archive rules (vs ++ k ∷ [])) r
+
+abbrev pub AddIs : Files → List ℕ → List ℕ → Result Outcome Refusal → Type 0
+AddIs files archive doc r = Opens files archive (AddsTo files archive doc) r

@@ -1,0 +1,36 @@
+-- What `check` does: it tells whether a file is a sound archive, and how many versions that has.
+use Rattle.std.specs.Prelude.{◌≡◌, ◌⊎◌, ℕ, List, length, codes, Result, Ok, Err}
+use Rattle.xa_outside.specs.Folder.{Files}
+use Rattle.keyed_tree.specs.Data.{PlainKeyed}
+use Rattle.archive_file.specs.Sound.{Sound}
+use Rattle.xarch_words.specs.Refusal.{Refusal, damaged}
+use Rattle.xarch_parts.specs.Archives.{GoesOn}
+use Rattle.xarch_parts.specs.Inputs.{file_of}
+use Rattle.xarch_parts.specs.Outcome.{Outcome}
+use Rattle.xarch_meanings.specs.Stats.{count_line}
+
+-- the line of a sound archive of so many versions
+abbrev pub check_text : ℕ → List ℕ
+check_text n = count_line (codes "ok ") n
+
+-- that of the archive of these versions is written
+abbrev pub checked : Files → List PlainKeyed → Result Outcome Refusal
+checked files vs = Ok (record { files = files; output = check_text (length vs) })
+
+-- the bytes are a sound archive, whose versions are counted
+pub record IsFoundSound (files : Files) (bytes : List ℕ) (r : Result Outcome Refusal) : Type 0 where
+  pub sound : Sound bytes
+  pub is : r ≡ checked files sound.versions
+
+-- they are none, and the archive of this name is refused
+pub record IsFoundDamaged (name bytes : List ℕ) (r : Result Outcome Refusal) : Type 0 where
+  pub unsound : ¬ Sound bytes
+  pub is : r ≡ Err (damaged name)
+
+-- the one or the other
+abbrev pub IsFound : Files → List ℕ → List ℕ → Result Outcome Refusal → Type 0
+IsFound files name bytes r = IsFoundSound files bytes r ⊎ IsFoundDamaged name bytes r
+
+-- It is defined over any files. A file that is there is judged by all of its bytes.
+abbrev pub CheckIs : Files → List ℕ → Result Outcome Refusal → Type 0
+CheckIs files archive r = GoesOn (file_of files archive) (IsFound files archive) r

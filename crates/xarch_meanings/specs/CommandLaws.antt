@@ -1,0 +1,50 @@
+-- What holds of each command, by its kind.
+use Rattle.std.specs.Prelude.{◌≡◌, Option, Some, None}
+use Rattle.std.proofs.Common.{refl, ap}
+use Rattle.xa_outside.specs.Folder.{Files}
+use Rattle.xa_outside.specs.Numbers.{Numbers}
+use Rattle.xarch_words.specs.Commands.{PlainCommand, norm, init, add, rekey, get, history, check, stats, batch, demo}
+use Rattle.xarch_words.specs.Refusal.{PlainFault}
+use Rattle.xarch_meanings.specs.OnePass.{GoesOnce}
+use Rattle.xarch_meanings.specs.Ran.{IsMetLate, MayHaveWritten, OnlyReads, made_name, status_after}
+
+-- a command that only reads makes no file
+pub only_makes_none : (command : PlainCommand) → OnlyReads (Some command) → made_name command ≡ None
+only_makes_none (norm spec doc) h = refl
+only_makes_none (init archive spec) h = absurd h
+only_makes_none (add archive doc) h = absurd h
+only_makes_none (rekey archive spec) h = absurd h
+only_makes_none (get archive i) h = refl
+only_makes_none (history archive path) h = refl
+only_makes_none (check archive) h = refl
+only_makes_none (stats archive) h = refl
+only_makes_none batch h = absurd h
+only_makes_none (demo seed count archive) h = absurd h
+
+-- what was met late has the status of damage
+pub met-status : (c : Option PlainCommand) (e : Option PlainFault) → IsMetLate c e → MayHaveWritten c (status_after e)
+met-status None e late = absurd late
+met-status (Some (norm spec doc)) e late = absurd late
+met-status (Some (init archive spec)) e late = absurd late
+met-status (Some (add archive doc)) e late = absurd late
+met-status (Some (rekey archive spec)) e late = absurd late
+met-status (Some (get archive i)) e late = ap status_after late
+met-status (Some (history archive path)) e late = absurd late
+met-status (Some (check archive)) e late = absurd late
+met-status (Some (stats archive)) e late = absurd late
+met-status (Some batch) e late = absurd late
+met-status (Some (demo seed count archive)) e late = absurd late
+
+-- what failed in one way failed in another
+pub once_by : (c : Option PlainCommand) (told : Option Files) (before after : Numbers) (P Q : Type 0) → (P → Q) → GoesOnce c told before after P → GoesOnce c told before after Q
+once_by None told before after P Q f h = tt
+once_by (Some (norm spec doc)) told before after P Q f h = tt
+once_by (Some (init archive spec)) told before after P Q f h = tt
+once_by (Some (add archive doc)) told before after P Q f h = λ files rules vs a is there of small not. h files rules vs a is there of small (λ p. not (f p))
+once_by (Some (rekey archive spec)) told before after P Q f h = tt
+once_by (Some (get archive i)) told before after P Q f h = tt
+once_by (Some (history archive path)) told before after P Q f h = tt
+once_by (Some (check archive)) told before after P Q f h = tt
+once_by (Some (stats archive)) told before after P Q f h = tt
+once_by (Some batch) told before after P Q f h = tt
+once_by (Some (demo seed count archive)) told before after P Q f h = tt

@@ -1,0 +1,96 @@
+-- When a command should succeed.
+use Rattle.std.specs.Prelude.{◌≡◌, ℕ, List, [], ◌∷◌, ◌++◌, length, Some, Result, Ok}
+use Rattle.xa_outside.specs.Folder.{Files}
+use Rattle.key_spec.specs.Data.{PlainRule}
+use Rattle.keyed_tree.specs.Data.{PlainLabel, PlainKeyed}
+use Rattle.archive_tree.specs.Stands.{version_of}
+use Rattle.archive_rekey.specs.Rekeyed.{AreRekeyed}
+use Rattle.record_format.specs.Files.{FileOf}
+use Rattle.xarch_gen.specs.Company.{company_rules}
+use Rattle.xarch_words.specs.Commands.{PlainCommand, norm, init, add, rekey, get, history, check, stats, batch, demo}
+use Rattle.xarch_words.specs.Refusal.{Refusal}
+use Rattle.xarch_meanings.specs.Add.{added}
+use Rattle.xarch_parts.specs.Archives.{ArchiveIs}
+use Rattle.xarch_meanings.specs.Demo.{demo_input, samples}
+use Rattle.xarch_meanings.specs.History.{labels_of}
+use Rattle.xarch_meanings.specs.Init.{init_rules}
+use Rattle.xarch_meanings.specs.Norm.{norm_of}
+use Rattle.xarch_meanings.specs.Rekey.{rekey_rules}
+
+-- it has a value, and is not refused
+pub record HasValue {A : Type 0} (x : Result A Refusal) : Type 0 where
+  pub value : A
+  pub is : x ≡ Ok value
+
+-- the archive's name is free, the specification is there, short enough and has a closed reading, and no versions have a file
+-- under it
+pub record CanInit (files : Files) (name spec : List ℕ) : Type 0 where
+  pub rules : List PlainRule
+  pub bytes : List ℕ
+  pub specified : init_rules files name spec ≡ Ok rules
+  pub file : FileOf rules [] bytes
+
+-- The archive is sound. The document is there, short enough, a document, and satisfies the archive's keys; there is room for
+-- a version more, and the versions with it have a file.
+pub record CanAdd (files : Files) (name doc : List ℕ) : Type 0 where
+  pub rules : List PlainRule
+  pub versions : List PlainKeyed
+  pub tree : PlainKeyed
+  pub bytes : List ℕ
+  pub archive : ArchiveIs files name rules versions
+  pub keyed : added files doc rules (length versions) ≡ Ok tree
+  pub file : FileOf rules (versions ++ tree ∷ []) bytes
+
+-- The archive is sound. The specification is there, short enough, and has a closed reading; each version satisfies it, and the versions under it have a
+-- file.
+pub record CanRekey (files : Files) (name spec : List ℕ) : Type 0 where
+  pub old : List PlainRule
+  pub versions : List PlainKeyed
+  pub rules : List PlainRule
+  pub under : List PlainKeyed
+  pub bytes : List ℕ
+  pub archive : ArchiveIs files name old versions
+  pub specified : rekey_rules files name spec ≡ Ok rules
+  pub satisfied : AreRekeyed rules versions under
+  pub file : FileOf rules under bytes
+
+-- the archive is sound and has the version
+pub record CanGet (files : Files) (name : List ℕ) (i : ℕ) : Type 0 where
+  pub rules : List PlainRule
+  pub versions : List PlainKeyed
+  pub tree : PlainKeyed
+  pub archive : ArchiveIs files name rules versions
+  pub there : version_of versions i ≡ Some tree
+
+-- the archive is sound, and the path spells labels under its rules
+pub record CanTell (files : Files) (name path : List ℕ) : Type 0 where
+  pub rules : List PlainRule
+  pub versions : List PlainKeyed
+  pub labels : List PlainLabel
+  pub archive : ArchiveIs files name rules versions
+  pub spelled : labels_of rules path ≡ Ok labels
+
+-- the archive is sound
+pub record HasArchive (files : Files) (name : List ℕ) : Type 0 where
+  pub rules : List PlainRule
+  pub versions : List PlainKeyed
+  pub archive : ArchiveIs files name rules versions
+
+-- there are not too many documents, the archive's name is free, and the documents have a file
+pub record CanDemo (files : Files) (seed count : ℕ) (name : List ℕ) : Type 0 where
+  pub bytes : List ℕ
+  pub free : demo_input files count name ≡ Ok tt
+  pub file : FileOf company_rules (samples seed count) bytes
+
+-- Of a batch nothing is said: its lines succeed or are refused one by one.
+unfoldable pub ShouldSucceed : Files → PlainCommand → Type 0
+ShouldSucceed files (norm spec doc) = HasValue (norm_of files spec doc)
+ShouldSucceed files (init name spec) = CanInit files name spec
+ShouldSucceed files (add name doc) = CanAdd files name doc
+ShouldSucceed files (rekey name spec) = CanRekey files name spec
+ShouldSucceed files (get name i) = CanGet files name i
+ShouldSucceed files (history name path) = CanTell files name path
+ShouldSucceed files (check name) = HasArchive files name
+ShouldSucceed files (stats name) = HasArchive files name
+ShouldSucceed files batch = ⊥
+ShouldSucceed files (demo seed count name) = CanDemo files seed count name

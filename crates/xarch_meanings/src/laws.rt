@@ -1,0 +1,46 @@
+ghost use Rattle.std.specs.Prelude.{◌≡◌, ℕ, List, Some, Result, Err};
+ghost use Rattle.xa_outside.specs.Folder.{Files};
+ghost use Rattle.xarch_words.specs.Commands.{PlainCommand};
+ghost use Rattle.xarch_words.specs.Refusal.{Refusal};
+ghost use Rattle.xarch_parts.specs.Outcome.{Outcome, Step};
+ghost use Rattle.xarch_meanings.specs.Plausible.{MayBe, MayDo, Plausible};
+ghost use Rattle.xarch_meanings.specs.Step.{Defines, StepIs, alone, single_of};
+ghost use Rattle.xarch_meanings.specs.Succeeds.{ShouldSucceed};
+ghost use Rattle.xarch_meanings.specs.Texts.{TellsTexts};
+
+use archive_rekey::versions_have_one_rekeying;
+use archive_tree::archives_stand_for_one_list;
+use record_cursor::files_give_their_items;
+use record_format::{records_are_read_as_spelled, versions_have_one_file};
+
+/// A command that should succeed is one by itself, and has no refusal that it may be answered with.
+/// It does nothing.
+pub fn what_should_succeed_is_not_refused()
+    ensures never { (files : Files) (command : PlainCommand) (r : Refusal)
+        → ShouldSucceed files command → ¬ MayBe files command (Err r) }
+    ensures single { (files : Files) (command : PlainCommand)
+        → ShouldSucceed files command → alone (Some command) ≡ Some command }
+{
+    versions_have_one_rekeying();
+}
+
+/// What words may do is what is defined, where that is: one outcome, and one step. It does nothing.
+pub fn commands_take_one_step()
+    ensures outcome { (files : Files) (words : List (List ℕ)) (r s : Result Outcome Refusal)
+        → Defines files words r → MayDo files (single_of words) s → s ≡ r }
+    ensures step { (files : Files) (words : List (List ℕ)) (s t : Step)
+        → StepIs files words s → Plausible files words t → s ≡ t }
+{
+    archives_stand_for_one_list();
+    versions_have_one_file();
+    versions_have_one_rekeying();
+}
+
+/// The bytes of a sound archive tell the text of each of its versions. It does nothing.
+pub fn archives_tell_their_texts()
+    ensures { (text : List ℕ → ℕ → List ℕ) × TellsTexts text }
+{
+    records_are_read_as_spelled();
+    files_give_their_items();
+    archives_stand_for_one_list();
+}

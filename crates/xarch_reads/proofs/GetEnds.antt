@@ -1,0 +1,431 @@
+-- How the parts of `get` lead to its end.
+use Rattle.std.proofs.Common.{◌≡◌, ◌≢◌, ◌⊎◌, inl, inr, ℕ, zero, suc, ◌+◌, ◌≤◌, ◌&&◌, Bool, true, false, cond, nat_le, List, [], ◌∷◌, ◌++◌, length, length-take, take, drop, Option, Some, None, IsSome, Result, Ok, Err, IfErr, refl, sym, ap, ◌∙◌, subst, arith, true≢false}
+use Rattle.std.specs.FinMap as map
+use Rattle.std.specs.Io.KnownBytes.{Appends}
+use Rattle.std.specs.Result.{is_ok}
+use Rattle.std.specs.Str.{bytes_eq}
+use Rattle.std.proofs.lemmas.Bool.{and_from, and_parts, le-leb, leb-true}
+use Rattle.std.proofs.lemmas.List.{take_min}
+use Rattle.std.proofs.lemmas.Option.{slice_get_cases}
+use Rattle.std.proofs.lemmas.Slice.Eq.{bytes_eq-Decides}
+use Rattle.xa_outside.specs.Folder.{Files}
+use Rattle.xa_outside.specs.Numbers.{Numbers, PullsAtMost}
+use Rattle.xa_outside.specs.NumberLaws.{PullsAtMost-more, PullsAtMost-trans}
+use Rattle.xa_outside.specs.Taken.{Taken, Takes, TakesNone, TakesPrefix, Puts}
+use Rattle.xa_outside.specs.TakenLaws.{TakesPrefix-all}
+use Rattle.key_spec.specs.Data.{PlainRule}
+use Rattle.keyed_tree.specs.Data.{PlainKeyed}
+use Rattle.archive_tree.specs.Data.{PlainArchive}
+use Rattle.archive_tree.specs.Stands.{version_of, ArchiveOf}
+use Rattle.record_cursor.specs.Moves.{TellsFront}
+use Rattle.record_format.specs.Files.{FileOf}
+use Rattle.record_format.specs.Fronts.{fixed}
+use Rattle.record_format.specs.Seen.{seen}
+use Rattle.archive_file.specs.Sound.{SoundAs}
+use Rattle.file_get.specs.Told as told
+use Rattle.file_get.specs.Told.{IsCaused, Judges}
+use Rattle.file_get.specs.Written.{IsUncounted}
+use Rattle.file_get.specs.declared.fault.GetFault.{GetFault}
+use Rattle.file_get.specs.declared.fault.GetFault.TheVariants.{NoVersion, Damage, Folder, Out, Memory}
+use Rattle.keyed_print.specs.KeyedText.{keyed_text}
+use Rattle.xarch_words.specs.Commands.{get}
+use Rattle.xarch_words.specs.Refusal.{Refusal, no_file, no_version, damaged, PlainFault, refused, folder_fault, out_fault, memory}
+use Rattle.xarch_parts.specs.Allowed.{MayEnd, MayEndLate, PutSome}
+use Rattle.xarch_parts.specs.AllowedLaws.{defined_refused, MayEnd-did, MayEnd-outside, MayEnd-refused}
+use Rattle.xarch_parts.specs.Archives.{ArchiveIs, GoesOn, NoRefusal}
+use Rattle.xarch_parts.specs.Ends.{EndsGained, Gained, IsDefined, IsInside, IsOfCommand, IsOfFolder, TellsOnly}
+use Rattle.xarch_parts.specs.Ends as ends
+use Rattle.xarch_parts.specs.FolderLaws.{caused-read, caused-then, keeps-read, reads-then}
+use Rattle.xarch_parts.specs.Folders.{Counts, Keeps, ReadsOnly}
+use Rattle.xarch_parts.specs.InputLaws.{IsDefined-file, whole_front, length-is}
+use Rattle.xarch_parts.specs.Inputs.{file_length, file_of}
+use Rattle.xarch_parts.specs.Outcome.{Outcome, and_then, or_refuse}
+use Rattle.xarch_meanings.specs.Get.{version_text}
+use Rattle.xarch_meanings.specs.Plausible.{MayWrite, MayBe, MayComeLate, get_input, is_version}
+use Rattle.xarch_meanings.specs.Ran.{GainsBy}
+use Rattle.xarch_meanings.specs.ReadsBack.{ReadsLittle, version_bytes}
+use Rattle.xarch_meanings.specs.Texts.{TellsTexts}
+use Rattle.xarch_reads.specs.Written.{IsWrittenAs, Writes, WrittenState, written_state}
+
+-- ---- numbers of versions
+
+abbrev is_counted : ℕ → ℕ → Bool
+is_counted n i = nat_le 1 i && nat_le i n
+
+counted-or-not : (n i : ℕ) → ((is_counted n i ≡ true) × told.is_version i n) ⊎ ((is_counted n i ≡ false) × ¬ told.is_version i n)
+counted-or-not n i = by_test (is_counted n i) refl
+  where
+    by_test : (b : Bool) → is_counted n i ≡ b → ((b ≡ true) × told.is_version i n) ⊎ ((b ≡ false) × ¬ told.is_version i n)
+    by_test true e = (let two = and_parts (nat_le 1 i) (nat_le i n) e in inl (refl, (leb-true 1 i two.0, leb-true i n two.1)))
+    by_test false e = inr (refl, λ v. (let yes = and_from (nat_le 1 i) (nat_le i n) (le-leb 1 i v.0) (le-leb i n v.1) in true≢false (sym yes ∙ e)))
+
+-- a version of that number is there exactly where the numbers say so
+version_there : (vs : List PlainKeyed) (i : ℕ) → (told.is_version i (length vs) → IsSome (version_of vs i)) × (¬ told.is_version i (length vs) → version_of vs i ≡ None)
+version_there vs zero = (λ v. (let low = v.0 in absurd (omega (arith, low))), λ out. refl)
+version_there vs (suc j) = elim (slice_get_cases vs j).1 [
+  | inl h ↦ (let high = h.1 in (λ v. subst (λ (o : Option PlainKeyed). IsSome o) (sym h.2) refl, λ out. absurd (out (omega arith, omega (arith, high)))))
+  | inr h ↦ (let low = h.0 in (λ v. (let high = v.1 in absurd (omega (arith, low, high))), λ out. h.1))
+]
+
+-- no more is looked at than for the version that is there
+pub little-of : (a : PlainArchive) (i : ℕ) (x y : Numbers) → (told.is_version i a.n → PullsAtMost (22 + seen a i) x y) × (¬ told.is_version i a.n → PullsAtMost 22 x y) → PullsAtMost (22 + version_bytes a i) x y
+little-of a i x y few = elim (counted-or-not a.n i) [
+  | inl h ↦ subst (λ b. PullsAtMost (22 + cond b (seen a i) 0) x y) (sym h.0) (few.0 h.1)
+  | inr h ↦ subst (λ b. PullsAtMost (22 + cond b (seen a i) 0) x y) (sym h.0) (PullsAtMost-more 22 (22 + 0) x y (omega arith) (few.1 h.1))
+]
+
+-- ---- what was written, and of what it is a front
+
+-- An output of which this is a front: the text, where what was written may be one of that.
+record Whole (old new : Taken) (text : List ℕ) (Has : List ℕ → Type 0) : Type 0 where
+  output : List ℕ
+  has : Has output
+  own : Has text → output ≡ text
+
+appended : (v g x : List ℕ) → v ++ g ≡ v ++ x → g ≡ x
+appended [] g x e = e
+appended (b ∷ v) g x e = appended v g x (ap (drop 1) e)
+
+-- What an output took that tells what it has taken.
+module _ (old new : Taken) (v z : List ℕ) (e : old.bytes ≡ Some v) (f : new.bytes ≡ Some z) where
+  took : (x : List ℕ) → Takes old new x → z ≡ v ++ x
+  took x h = subst (λ (y : Option (List ℕ)). Appends y (Some z) x) e (subst (λ (y : Option (List ℕ)). Appends old.bytes y x) f h.bytes)
+
+  one-piece : (x y : List ℕ) → Takes old new x → Takes old new y → x ≡ y
+  one-piece x y h k = appended v x y (sym (took x h) ∙ took y k)
+
+  is-front : (text g : List ℕ) → Takes old new g → TakesPrefix old new text → take (length g) text ≡ g
+  is-front text g t h =
+      let same : take h.count text ≡ g = one-piece (take h.count text) g h.takes t in
+      ap (λ x. take (length x) text) (sym same) ∙ ap (λ n. take n text) (length-take h.count text) ∙ take_min h.count text ∙ same
+
+  front-told : (text g : List ℕ) → Takes old new g → Whole old new text (TakesPrefix old new)
+  front-told text g t = by_test (bytes_eq (take (length g) text) g) refl
+    where
+      by_test : (b : Bool) → bytes_eq (take (length g) text) g ≡ b → Whole old new text (TakesPrefix old new)
+      by_test true e = record { output = text; has = record { count = length g; takes = subst (Takes old new) (sym ((bytes_eq-Decides (take (length g) text) g).0 e)) t }; own = λ _. refl }
+      by_test false e = record { output = g; has = TakesPrefix-all old new g t; own = λ h. absurd (true≢false (sym ((bytes_eq-Decides (take (length g) text) g).1 (is-front text g t h)) ∙ e)) }
+
+-- one that does not tell it may have taken anything
+took-any : (old new : Taken) (g x : List ℕ) → old.bytes ≡ None → Takes old new g → Takes old new x
+took-any old new g x e t = record { bytes = subst (λ (y : Option (List ℕ)). Appends y new.bytes x) (sym e) tt; behind = t.behind }
+
+-- one that tells it goes on telling it
+took-none : {P : Type 0} (old new : Taken) (v g : List ℕ) → old.bytes ≡ Some v → new.bytes ≡ None → Takes old new g → P
+took-none old new v g e f t = absurd (subst (λ (y : Option (List ℕ)). Appends y None g) e (subst (λ (y : Option (List ℕ)). Appends old.bytes y g) f t.bytes))
+
+-- all of it was written
+all-of : (old new : Taken) (text g : List ℕ) → Takes old new g → Whole old new text (Takes old new)
+all-of old new text g t = by_told old.bytes new.bytes refl refl
+  where
+    by_told : (o n : Option (List ℕ)) → old.bytes ≡ o → new.bytes ≡ n → Whole old new text (Takes old new)
+    by_told None n e f = record { output = text; has = took-any old new g text e t; own = λ _. refl }
+    by_told (Some v) None e f = took-none old new v g e f t
+    by_told (Some v) (Some z) e f = record { output = g; has = t; own = λ h. one-piece old new v z e f g text t h }
+
+-- a front of it was written
+front-of : (old new : Taken) (text g : List ℕ) → Takes old new g → Whole old new text (TakesPrefix old new)
+front-of old new text g t = by_told old.bytes new.bytes refl refl
+  where
+    by_told : (o n : Option (List ℕ)) → old.bytes ≡ o → new.bytes ≡ n → Whole old new text (TakesPrefix old new)
+    by_told None n e f = record { output = text; has = record { count = 0; takes = took-any old new g (take 0 text) e t }; own = λ _. refl }
+    by_told (Some v) None e f = took-none old new v g e f t
+    by_told (Some v) (Some z) e f = front-told old new v z e f text g t
+
+-- ---- what may come
+
+-- From what is known of all archive files: the number of their versions stands in their header.
+module _ (counted : (rules : List PlainRule) (vs : List PlainKeyed) (bytes : List ℕ) → FileOf rules vs bytes → fixed bytes ≡ Some (length vs)) (files : Files) (name : List ℕ) (i : ℕ) (bytes : List ℕ) (there : map.get files name ≡ Some bytes) where
+  abbrev judged : Option ℕ → Result (List ℕ) Refusal
+  judged o = and_then (or_refuse o (damaged name)) (λ n. and_then (is_version n i) (λ _. Ok bytes))
+
+  input-is : (o : Option ℕ) → fixed bytes ≡ o → get_input files name i ≡ judged o
+  input-is o e =
+      ap (λ (x : Option (List ℕ)). and_then (or_refuse x (no_file name)) (λ b. and_then (or_refuse (fixed b) (damaged name)) (λ n. and_then (is_version n i) (λ _. Ok b)))) there
+      ∙ ap judged e
+
+  -- a sound archive of this name has these bytes
+  own-bytes : (rules : List PlainRule) (vs : List PlainKeyed) (a : ArchiveIs files name rules vs) → a.bytes ≡ bytes
+  own-bytes rules vs a = let both : Some a.bytes ≡ Some bytes = sym a.there ∙ there in cc
+
+  own-sound : (rules : List PlainRule) (vs : List PlainKeyed) → ArchiveIs files name rules vs → SoundAs rules vs bytes
+  own-sound rules vs a = subst (SoundAs rules vs) (own-bytes rules vs a) a.sound
+
+  -- its header counts its versions
+  own-count : (n : ℕ) (rules : List PlainRule) (vs : List PlainKeyed) → fixed bytes ≡ Some n → ArchiveIs files name rules vs → n ≡ length vs
+  own-count n rules vs e a = let both : Some n ≡ Some (length vs) = sym e ∙ counted rules vs bytes (own-sound rules vs a).file in cc
+
+  -- no header stands in front
+  no_header : fixed bytes ≡ None → MayBe files (get name i) (Err (damaged name))
+  unfolding MayBe
+  no_header e = record {
+    whatever = subst (λ x. GoesOn x (λ _. MayWrite files name) (Err (damaged name))) (sym (input-is None e)) refl;
+    sound = λ rules vs a. (let wrong : Some (length vs) ≡ None = sym (counted rules vs bytes (own-sound rules vs a).file) ∙ e in absurd cc);
+  }
+
+  module _ (n : ℕ) (e : fixed bytes ≡ Some n) where
+    -- there is no such version
+    none-counted : is_counted n i ≡ false → ¬ told.is_version i n → MayBe files (get name i) (Err (no_version i n))
+    unfolding MayBe
+    none-counted uncounted out =
+        let input : get_input files name i ≡ Err (no_version i n) = input-is (Some n) e ∙ ap (λ b. and_then (cond b (Ok tt) (Err (no_version i n))) (λ _. Ok bytes)) uncounted in
+        record {
+          whatever = subst (λ x. GoesOn x (λ _. MayWrite files name) (Err (no_version i n))) (sym input) refl;
+          sound = λ rules vs a. (
+              let same = own-count n rules vs e a in
+              let none = (version_there vs i).1 (subst (λ m. ¬ told.is_version i m) same out) in
+              ap (λ m. Err (no_version i m)) same ∙ sym (ap (λ o. and_then (or_refuse o (no_version i (length vs))) (λ k. Ok (record { files = files; output = keyed_text k }))) none));
+        }
+
+    module _ (yes : is_counted n i ≡ true) (is : told.is_version i n) where
+      pub counted-input : get_input files name i ≡ Ok bytes
+      counted-input = input-is (Some n) e ∙ ap (λ b. and_then (cond b (Ok tt) (Err (no_version i n))) (λ _. Ok bytes)) yes
+
+      -- the version that a sound archive has
+      own-version : (rules : List PlainRule) (vs : List PlainKeyed) → ArchiveIs files name rules vs → IsSome (version_of vs i)
+      own-version rules vs a = (version_there vs i).0 (subst (λ m. told.is_version i m) (own-count n rules vs e a) is)
+
+      written-text : (vs : List PlainKeyed) (output : List ℕ) (o : Option PlainKeyed) → version_of vs i ≡ o → IsSome o → ((k : PlainKeyed) → version_of vs i ≡ Some k → output ≡ keyed_text k)
+          → Ok (record { files = files; output = output }) ≡ version_text files vs i
+      written-text vs output None at some h = cc
+      written-text vs output (Some k) at some h =
+          ap (λ (x : List ℕ). Ok (record { files = files; output = x })) (h k at)
+          ∙ sym (ap (λ o. and_then (or_refuse o (no_version i (length vs))) (λ k. Ok (record { files = files; output = keyed_text k }))) at)
+
+      -- something is written, which is the version of a sound archive
+      may-write : (output : List ℕ) → ((rules : List PlainRule) (vs : List PlainKeyed) (k : PlainKeyed) → SoundAs rules vs bytes → version_of vs i ≡ Some k → output ≡ keyed_text k)
+          → MayBe files (get name i) (Ok (record { files = files; output = output }))
+      unfolding MayBe
+      may-write output h =
+          let r : Result Outcome Refusal = Ok (record { files = files; output = output }) in
+          record {
+            whatever = subst (λ x. GoesOn x (λ _. MayWrite files name) r) (sym counted-input) (inr (record { output = output; is = refl }));
+            sound = λ rules vs a. written-text vs output (version_of vs i) refl (own-version rules vs a) (λ k at. h rules vs k (own-sound rules vs a) at);
+          }
+
+      -- the archive is damaged
+      may-refuse : ((rules : List PlainRule) (vs : List PlainKeyed) → ¬ SoundAs rules vs bytes) → MayBe files (get name i) (Err (damaged name))
+      unfolding MayBe
+      may-refuse none = record {
+        whatever = subst (λ x. GoesOn x (λ _. MayWrite files name) (Err (damaged name))) (sym counted-input) (inl refl);
+        sound = λ rules vs a. absurd (none rules vs (own-sound rules vs a));
+      }
+
+  -- ---- how the writing ends
+
+  -- What is known of the writing, over files that are told, and what comes of it.
+  module _ (text : List ℕ → ℕ → List ℕ) (texts : TellsTexts text) (after : Option Files) (same : after ≡ Some files) (old new : Taken) (gained : (g : List ℕ) × Takes old new g) where
+    abbrev Allowed : Result Outcome Refusal → Type 0
+    Allowed r = MayBe files (get name i) r
+
+    -- some of the version's text was written before the outside failed, or nothing
+    stopped : (v : PlainFault) → NoRefusal v → (IsUncounted i (fixed bytes) → TakesNone old new)
+        → ((rules : List PlainRule) (vs : List PlainKeyed) (k : PlainKeyed) → SoundAs rules vs bytes → version_of vs i ≡ Some k → TakesPrefix old new (keyed_text k))
+        → MayEnd Allowed (Some v) after old new
+    stopped v other uncounted front = MayEnd-outside Allowed v after old new other (by_count (fixed bytes) refl)
+      where
+        by_count : (o : Option ℕ) → fixed bytes ≡ o → TakesNone old new ⊎ PutSome Allowed old new
+        by_count None e = inl (uncounted (subst (IsUncounted i) (sym e) tt))
+        by_count (Some n) e = elim (counted-or-not n i) [
+          | inl h ↦ (let w = front-of old new (text bytes i) gained.0 gained.1 in
+              inr (record {
+                outcome = Ok (record { files = files; output = w.output });
+                may = may-write n e h.0 h.1 w.output (λ rules vs k sound at. (let is = texts.is bytes rules vs i k sound at in w.own (subst (TakesPrefix old new) (sym is) (front rules vs k sound at)) ∙ is));
+                output = w.has;
+              }))
+          | inr h ↦ inl (uncounted (subst (IsUncounted i) (sym e) h.1))
+        ]
+
+    -- the version was written
+    finished : Judges i (fixed bytes) None → ((rules : List PlainRule) (vs : List PlainKeyed) (k : PlainKeyed) → SoundAs rules vs bytes → version_of vs i ≡ Some k → Takes old new (keyed_text k))
+        → MayEnd Allowed None after old new
+    finished judges all = by_count (fixed bytes) refl judges
+      where
+        tells : TellsOnly after files
+        tells = λ f now. (let both : Some files ≡ Some f = sym same ∙ now in cc)
+
+        by_count : (o : Option ℕ) → fixed bytes ≡ o → Judges i o None → MayEnd Allowed None after old new
+        by_count None e j = absurd j
+        by_count (Some n) e j = elim (counted-or-not n i) [
+          | inl h ↦ (let w = all-of old new (text bytes i) gained.0 gained.1 in
+              MayEnd-did Allowed (record { files = files; output = w.output }) after old new
+              (may-write n e h.0 h.1 w.output (λ rules vs k sound at. (let is = texts.is bytes rules vs i k sound at in w.own (subst (Takes old new) (sym is) (all rules vs k sound at)) ∙ is))) tells w.has)
+          | inr h ↦ absurd (h.1 j)
+        ]
+
+    -- there is no such version
+    missing : (m : ℕ) → Judges i (fixed bytes) (Some (NoVersion m)) → TakesNone old new → MayEnd Allowed (Some (refused (no_version i m))) after old new
+    missing m judges none = by_count (fixed bytes) refl judges
+      where
+        by_count : (o : Option ℕ) → fixed bytes ≡ o → Judges i o (Some (NoVersion m)) → MayEnd Allowed (Some (refused (no_version i m))) after old new
+        by_count None e j = absurd j
+        by_count (Some n) e j = elim (counted-or-not n i) [
+          | inl h ↦ absurd (j.1 h.1)
+          | inr h ↦ MayEnd-refused Allowed (no_version i m) after old new (subst (λ q. Allowed (Err (no_version i q))) (sym j.0) (none-counted n e h.0 h.1)) none
+        ]
+
+    -- damage was met
+    met : Judges i (fixed bytes) (Some Damage) → (IsUncounted i (fixed bytes) → TakesNone old new) → ((rules : List PlainRule) (vs : List PlainKeyed) → ¬ SoundAs rules vs bytes)
+        → MayEndLate (MayComeLate files (Some (get name i))) Allowed (Some (refused (damaged name))) after old new
+    met judges uncounted none = by_count (fixed bytes) refl judges
+      where
+        by_count : (o : Option ℕ) → fixed bytes ≡ o → Judges i o (Some Damage) → MayEndLate (MayComeLate files (Some (get name i))) Allowed (Some (refused (damaged name))) after old new
+        by_count None e j = inl (MayEnd-refused Allowed (damaged name) after old new (no_header e) (uncounted (subst (IsUncounted i) (sym e) tt)))
+        by_count (Some n) e j = elim (counted-or-not n i) [
+          | inl h ↦ inr (record {
+            refusal = damaged name;
+            is = refl;
+            late = (refl, ap is_ok (counted-input n e h.0 h.1));
+            may = may-refuse n e h.0 h.1 none;
+            output = record { bytes = gained.0; takes = gained.1 };
+          })
+          | inr h ↦ absurd (h.1 j)
+        ]
+
+-- ---- from what is said of the writing
+
+-- what is said of it
+pub record WroteSo (name : List ℕ) (size i : ℕ) (s t : WrittenState) (r : Result Unit GetFault) : Type 0 where
+  pub judges : (bytes : List ℕ) → TellsFront s.files name size bytes → Judges i (fixed bytes) (told.fault_of r)
+  pub uncounted : (bytes : List ℕ) → TellsFront s.files name size bytes → IsUncounted i (fixed bytes) → TakesNone s.taken t.taken
+  pub nothing : (n : ℕ) → told.fault_of r ≡ Some (NoVersion n) → TakesNone s.taken t.taken
+  pub text : (bytes : List ℕ) (rules : List PlainRule) (vs : List PlainKeyed) (k : PlainKeyed) → TellsFront s.files name size bytes → SoundAs rules vs bytes → version_of vs i ≡ Some k → Puts s.taken t.taken r (keyed_text k)
+  pub undamaged : (bytes : List ℕ) (rules : List PlainRule) (vs : List PlainKeyed) → TellsFront s.files name size bytes → SoundAs rules vs bytes → IfErr r (λ e. e ≢ Damage)
+  pub gained : (bytes : List ℕ) × Takes s.taken t.taken bytes
+  pub same_files : t.files ≡ s.files
+  pub same_draft : t.draft ≡ s.draft
+  pub later : s.faults ≤ t.faults
+  pub out_later : s.out_faults ≤ t.out_faults
+  pub cause : IsCaused s.faults t.faults s.out_faults t.out_faults (told.fault_of r)
+  pub pulls : PullsAtMost size s.numbers t.numbers
+  pub few : (bytes : List ℕ) (rules : List PlainRule) (vs : List PlainKeyed) (a : PlainArchive) → TellsFront s.files name size bytes → SoundAs rules vs bytes → ArchiveOf vs a
+      → (told.is_version i a.n → PullsAtMost (22 + seen a i) s.numbers t.numbers) × (¬ told.is_version i a.n → PullsAtMost 22 s.numbers t.numbers)
+
+-- a fault of the outside is no refusal
+outside : (v w : PlainFault) → v ≡ w → NoRefusal w → NoRefusal v
+outside v w e other q h = other q (sym e ∙ h)
+
+no_folder : NoRefusal folder_fault
+no_folder q h = cc
+
+no_out : NoRefusal out_fault
+no_out q h = cc
+
+no_memory : NoRefusal memory
+no_memory q h = cc
+
+module _ (name : List ℕ) (i : ℕ) where
+  cause-of : (e : GetFault) (v : PlainFault) (a b c d : ℕ) → IsWrittenAs name i e v → IsCaused a b c d (Some e) → IsOfCommand a b c d (Some v)
+  unfolding IsInside IsOfFolder IsOfCommand
+  cause-of (NoVersion n) v a b c d is h = subst (λ (z : PlainFault). IsOfCommand a b c d (Some z)) (sym is) tt
+  cause-of Damage v a b c d (inl is) h = subst (λ (z : PlainFault). IsOfCommand a b c d (Some z)) (sym is) tt
+  cause-of Damage v a b c d (inr is) h = subst (λ (z : PlainFault). IsOfCommand a b c d (Some z)) (sym is) tt
+  cause-of Folder v a b c d is h = subst (λ (z : PlainFault). IsOfCommand a b c d (Some z)) (sym is) h
+  cause-of Out v a b c d is h = subst (λ (z : PlainFault). IsOfCommand a b c d (Some z)) (sym is) h
+  cause-of Memory v a b c d is h = subst (λ (z : PlainFault). IsOfCommand a b c d (Some z)) (sym is) tt
+
+  gained-as : (e : GetFault) (v : PlainFault) (old new : Taken) → IsWrittenAs name i e v → ((n : ℕ) → Some e ≡ Some (NoVersion n) → TakesNone old new) → Gained old new → GainsBy (Some (get name i)) (Some v) old new
+  unfolding EndsGained
+  gained-as (NoVersion n) v old new is nothing g = inl (subst (λ (z : PlainFault). EndsGained (Some z) old new) (sym is) (nothing n refl))
+  gained-as Damage v old new (inl is) nothing g = inr (ap (λ (z : PlainFault). Some z) is, g)
+  gained-as Damage v old new (inr is) nothing g = inl (subst (λ (z : PlainFault). EndsGained (Some z) old new) (sym is) g)
+  gained-as Folder v old new is nothing g = inl (subst (λ (z : PlainFault). EndsGained (Some z) old new) (sym is) g)
+  gained-as Out v old new is nothing g = inl (subst (λ (z : PlainFault). EndsGained (Some z) old new) (sym is) g)
+  gained-as Memory v old new is nothing g = inl (subst (λ (z : PlainFault). EndsGained (Some z) old new) (sym is) g)
+
+-- a file of this length is there
+there-of : (o : Option (List ℕ)) (name : List ℕ) (n : ℕ) → and_then (or_refuse o (no_file name)) (λ b. Ok (length b)) ≡ Ok n → (bytes : List ℕ) × (o ≡ Some bytes)
+there-of None name n e = absurd cc
+there-of (Some bytes) name n e = (bytes, refl)
+
+module _ (counted : (rules : List PlainRule) (vs : List PlainKeyed) (bytes : List ℕ) → FileOf rules vs bytes → fixed bytes ≡ Some (length vs)) (text : List ℕ → ℕ → List ℕ) (texts : TellsTexts text)
+    (name : List ℕ) (size i : ℕ) (s t : WrittenState) where
+  front : (files : Files) (bytes : List ℕ) → s.files ≡ Some files → map.get files name ≡ Some bytes → file_length files name ≡ Ok size → TellsFront s.files name size bytes
+  front files bytes is_told there long = (files, is_told, whole_front files name bytes size there (length-is files name bytes size there long))
+
+  little-in : (r : Result Unit GetFault) → WroteSo name size i s t r → (files : Files) (rules : List PlainRule) (vs : List PlainKeyed) (a : PlainArchive) → s.files ≡ Some files → file_length files name ≡ Ok size
+      → ArchiveIs files name rules vs → ArchiveOf vs a → PullsAtMost (22 + version_bytes a i) s.numbers t.numbers
+  little-in r w files rules vs a is_told long is of = little-of a i s.numbers t.numbers (w.few is.bytes rules vs a (front files is.bytes is_told is.there long) is.sound of)
+
+  -- it ended with this fault, over a file with these bytes
+  ends-as : (e : GetFault) (v : PlainFault) → IsWrittenAs name i e v → (w : WroteSo name size i s t (Err e)) → (files : Files) (bytes : List ℕ) → s.files ≡ Some files → map.get files name ≡ Some bytes → file_length files name ≡ Ok size
+      → MayEndLate (MayComeLate files (Some (get name i))) (MayBe files (get name i)) (Some v) t.files s.taken t.taken
+  ends-as e v is w files bytes is_told there long = by_fault e v is w
+    where
+      at : TellsFront s.files name size bytes
+      at = front files bytes is_told there long
+
+      same : t.files ≡ Some files
+      same = w.same_files ∙ is_told
+
+      some : (e : GetFault) (v : PlainFault) → NoRefusal v → WroteSo name size i s t (Err e) → MayEndLate (MayComeLate files (Some (get name i))) (MayBe files (get name i)) (Some v) t.files s.taken t.taken
+      some e v other w = inl (stopped counted files name i bytes there text texts t.files same s.taken t.taken w.gained v other (w.uncounted bytes at) (λ rules vs k sound at_i. w.text bytes rules vs k at sound at_i))
+
+      by_fault : (e : GetFault) (v : PlainFault) → IsWrittenAs name i e v → WroteSo name size i s t (Err e) → MayEndLate (MayComeLate files (Some (get name i))) (MayBe files (get name i)) (Some v) t.files s.taken t.taken
+      by_fault (NoVersion n) v is w = inl (subst (λ (z : PlainFault). MayEnd (MayBe files (get name i)) (Some z) t.files s.taken t.taken) (sym is) (missing counted files name i bytes there text texts t.files same s.taken t.taken w.gained n (w.judges bytes at) (w.nothing n refl)))
+      by_fault Damage v (inl is) w =
+          subst (λ (z : PlainFault). MayEndLate (MayComeLate files (Some (get name i))) (MayBe files (get name i)) (Some z) t.files s.taken t.taken) (sym is)
+          (met counted files name i bytes there text texts t.files same s.taken t.taken w.gained (w.judges bytes at) (w.uncounted bytes at) (λ rules vs sound. w.undamaged bytes rules vs at sound refl))
+      by_fault Damage v (inr is) w = some Damage v (outside v memory is no_memory) w
+      by_fault Folder v is w = some Folder v (outside v folder_fault is no_folder) w
+      by_fault Out v is w = some Out v (outside v out_fault is no_out) w
+      by_fault Memory v is w = some Memory v (outside v memory is no_memory) w
+
+  pub writes-failed : (e : GetFault) (v : PlainFault) → IsWrittenAs name i e v → WroteSo name size i s t (Err e) → Writes name size i s t (Some v)
+  writes-failed e v is w = record {
+    same_files = w.same_files;
+    same_draft = w.same_draft;
+    pulls = w.pulls;
+    later = w.later;
+    out_later = w.out_later;
+    cause = cause-of name i e v s.faults t.faults s.out_faults t.out_faults is w.cause;
+    gained = gained-as name i e v s.taken t.taken is w.nothing (record { bytes = w.gained.0; takes = w.gained.1 });
+    may = λ files is_told long. (let f = there-of (map.get files name) name size long in ends-as e v is w files f.0 is_told f.1 long);
+    little = little-in (Err e) w;
+  }
+
+  pub writes-done : WroteSo name size i s t (Ok tt) → Writes name size i s t None
+  unfolding EndsGained IsInside IsOfFolder IsOfCommand
+  writes-done w = record {
+    same_files = w.same_files;
+    same_draft = w.same_draft;
+    pulls = w.pulls;
+    later = w.later;
+    out_later = w.out_later;
+    cause = tt;
+    gained = inl (record { bytes = w.gained.0; takes = w.gained.1 });
+    may = λ files is_told long. (
+        let f = there-of (map.get files name) name size long in
+        let at = front files f.0 is_told f.1 long in
+        inl (finished counted files name i f.0 f.1 text texts t.files (w.same_files ∙ is_told) s.taken t.taken w.gained (w.judges f.0 at) (λ rules vs k sound at_i. w.text f.0 rules vs k at sound at_i)));
+    little = little-in (Ok tt) w;
+  }
+
+-- ---- behind the length of the file
+
+module _ {S K : Type 0} (files : S → Option Files) (draft : S → Option (List ℕ)) (numbers : S → Numbers) (faults : S → ℕ) (taken : K → Taken) (out_faults : K → ℕ) (name : List ℕ) (size i : ℕ) (a b c : S) (k l : K) (v : Option PlainFault)
+    (asked : ReadsOnly files draft numbers faults 0 a b None) (w : Writes name size i (written_state files draft numbers faults taken out_faults b k) (written_state files draft numbers faults taken out_faults c l) v) where
+  pub get-keeps : (most : ℕ) → size ≤ most → Keeps files draft numbers None (Counts None most) a c v
+  unfolding IsInside IsOfFolder
+  get-keeps most fits = keeps-read most a c None v (reads-then 0 size most a b c None (omega (arith, fits)) asked (record { same_files = w.same_files; same_draft = w.same_draft; pulls = w.pulls; later = w.later; cause = tt }))
+
+  pub get-caused : ends.IsCaused (faults a) (faults c) (out_faults k) (out_faults l) v
+  get-caused = caused-then (faults a) (faults b) (faults c) (out_faults k) (out_faults k) (out_faults l) v (caused-read 0 a b None (out_faults k) asked) (record { folder_later = w.later; out_later = w.out_later; cause = w.cause })
+
+  pub get-little : ((fs : Files) → files a ≡ Some fs → file_length fs name ≡ Ok size) → ReadsLittle (Some (get name i)) (files a) (numbers a) (numbers c)
+  get-little long = λ fs rules vs ar is at of. PullsAtMost-more (0 + (22 + version_bytes ar i)) (22 + version_bytes ar i) (numbers a) (numbers c) (omega arith) (PullsAtMost-trans 0 (22 + version_bytes ar i) (numbers a) (numbers b) (numbers c) asked.pulls (w.little fs rules vs ar (asked.same_files ∙ is) (long fs is) at of))
+
+-- ---- the file is not there
+
+pub absent-length : (files : Files) (name : List ℕ) (i : ℕ) (v : PlainFault) → IsDefined (file_length files name) v → (q : Refusal) → v ≡ refused q → MayBe files (get name i) (Err q)
+unfolding MayBe
+absent-length files name i v d q e = record {
+  whatever = subst (λ x. GoesOn x (λ _. MayWrite files name) (Err q)) (sym (ap (λ x. and_then x (λ b. and_then (or_refuse (fixed b) (damaged name)) (λ n. and_then (is_version n i) (λ _. Ok b)))) refuses)) refl;
+  sound = λ rules vs a. absurd (clash a.bytes (sym (ap (λ o. or_refuse o (no_file name)) a.there) ∙ refuses));
+}
+  where
+    refuses : file_of files name ≡ Err q
+    refuses = defined_refused (file_of files name) v q (IsDefined-file (file_of files name) v d) e
+
+    clash : (b : List ℕ) → ◌≡◌ {A = Result (List ℕ) Refusal} (Ok b) (Err q) → ⊥
+    clash b h = cc

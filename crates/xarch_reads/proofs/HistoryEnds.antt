@@ -1,0 +1,128 @@
+-- How the parts of `history` lead to its end.
+use Rattle.std.proofs.Common.{◌≡◌, ◌≢◌, inl, inr, ℕ, ◌+◌, ◌-◌, ◌≤◌, List, length, Option, Some, None, Result, Ok, Err, refl, sym, ap, ◌∙◌, subst, arith}
+use Rattle.xa_outside.specs.Causes.{Rose}
+use Rattle.xa_outside.specs.Folder.{Files}
+use Rattle.xa_outside.specs.NumberLaws.{PullsAtMost-trans}
+use Rattle.xa_outside.specs.Numbers.{Numbers, PullsAtMost}
+use Rattle.key_spec.specs.Data.{PlainRule}
+use Rattle.keyed_tree.specs.Data.{PlainLabel, PlainKeyed}
+use Rattle.archive_tree.specs.Data.{PlainArchive}
+use Rattle.archive_tree.specs.History.{hist}
+use Rattle.key_spec.specs.Canonical.{canonical}
+use Rattle.key_spec.specs.Closed.{closed}
+use Rattle.record_format.specs.Files.{FileOf}
+use Rattle.record_format.specs.Fronts.{header}
+use Rattle.record_format.specs.Probed.{probed}
+use Rattle.file_history.specs.Told.{IfFailed}
+use Rattle.file_history.specs.declared.fault.HistoryFault.{HistoryFault}
+use Rattle.file_history.specs.declared.fault.HistoryFault.TheVariants.{Damage, Folder, Memory}
+use Rattle.record_cursor.specs.View.{PlainHeader, IsHeader}
+use Rattle.xarch_words.specs.Commands.{history}
+use Rattle.xarch_words.specs.Refusal.{Refusal, no_file, damaged, PlainFault, refused, folder_fault, memory}
+use Rattle.xarch_parts.specs.Archives.{ArchiveIs, GoesOn, IsRefusal, NoRefusal}
+use Rattle.xarch_parts.specs.Ends.{IsInside, IsOfFolder}
+use Rattle.xarch_parts.specs.FolderLaws.{reads-then}
+use Rattle.xarch_parts.specs.Folders.{ReadsOnly}
+use Rattle.xarch_parts.specs.Outcome.{Outcome, and_then, or_refuse}
+use Rattle.xarch_parts.specs.Readings.{front_in}
+use Rattle.xarch_meanings.specs.ReadLaws.{reads-once}
+use Rattle.xarch_meanings.specs.History.{labels_of, numbers_text}
+use Rattle.xarch_meanings.specs.OnePass.{front_size}
+use Rattle.xarch_meanings.specs.Plausible.{MayWrite, MayBe, history_input}
+use Rattle.xarch_meanings.specs.ReadsBack.{path_bytes}
+use Rattle.xarch_reads.specs.Searched.{IsShownAs}
+
+-- ---- the fault of the search
+
+pub shown-cause : (T : Type 0) (name : List ℕ) (e : HistoryFault) (v : PlainFault) (a b : ℕ) → IsShownAs name e v → IfFailed {T = T} (Err e) (Rose a b) → IsOfFolder a b (Some v)
+unfolding IsInside IsOfFolder
+shown-cause T name Damage v a b (inl is) h = subst (λ (z : PlainFault). IsOfFolder a b (Some z)) (sym is) tt
+shown-cause T name Damage v a b (inr is) h = subst (λ (z : PlainFault). IsOfFolder a b (Some z)) (sym is) tt
+shown-cause T name Folder v a b is h = subst (λ (z : PlainFault). IsOfFolder a b (Some z)) (sym is) h
+shown-cause T name Memory v a b is h = subst (λ (z : PlainFault). IsOfFolder a b (Some z)) (sym is) tt
+
+-- it is no refusal but damage
+pub shown-refusal : (name : List ℕ) (e : HistoryFault) (v : PlainFault) → IsShownAs name e v → IsRefusal (damaged name) v
+shown-refusal name Damage v (inl is) q r = let same : refused q ≡ refused (damaged name) = sym r ∙ is in cc
+shown-refusal name Damage v (inr is) q r = let wrong : memory ≡ refused q = sym is ∙ r in absurd cc
+shown-refusal name Folder v is q r = let wrong : folder_fault ≡ refused q = sym is ∙ r in absurd cc
+shown-refusal name Memory v is q r = let wrong : memory ≡ refused q = sym is ∙ r in absurd cc
+
+pub shown-sound : (name : List ℕ) (e : HistoryFault) (v : PlainFault) → IsShownAs name e v → e ≢ Damage → NoRefusal v
+shown-sound name Damage v is not q r = not refl
+shown-sound name Folder v is not q r = let wrong : folder_fault ≡ refused q = sym is ∙ r in absurd cc
+shown-sound name Memory v is not q r = let wrong : memory ≡ refused q = sym is ∙ r in absurd cc
+
+-- ---- how much is read
+
+-- the header was read, and then the search read at most what stands behind it
+pub searched-read : {S : Type 0} {files : S → Option Files} {draft : S → Option (List ℕ)} {numbers : S → Numbers} {faults : S → ℕ} {h : PlainHeader} {n most : ℕ} → IsHeader h → (a b c : S) (v : Option PlainFault)
+    → ReadsOnly files draft numbers faults n a b None → (h.length ≤ most) × PullsAtMost h.first (numbers a) (numbers b) → ReadsOnly files draft numbers faults (h.length - h.first) b c v → ReadsOnly files draft numbers faults most a c v
+searched-read {h = h} {n = n} {most = most} is a b c v p once q =
+    let within = is.within in
+    let long = once.0 in
+    reads-then h.first (h.length - h.first) most a b c v (omega (arith, within, long)) (reads-once n h.first a b None p once.1) q
+
+-- ---- what may come
+
+abbrev pub beside : List PlainRule × ℕ → Result (List PlainLabel) Refusal → Result ((List PlainRule × ℕ) × List PlainLabel) Refusal
+beside h x = and_then x (λ ls. Ok (h, ls))
+
+beside-refused : (h : List PlainRule × ℕ) (x : Result (List PlainLabel) Refusal) (q : Refusal) → beside h x ≡ Err q → x ≡ Err q
+beside-refused h (Ok ls) q e = absurd cc
+beside-refused h (Err r) q e = let same : r ≡ q = cc in ap (λ s. Err s) same
+
+beside-given : (h g : List PlainRule × ℕ) (x : Result (List PlainLabel) Refusal) (ls : List PlainLabel) → beside h x ≡ Ok (g, ls) → x ≡ Ok ls
+beside-given h g (Ok ks) ls e = let same : (h, ks) ≡ (g, ls) = cc in ap (λ (p : (List PlainRule × ℕ) × List PlainLabel). Ok p.1) same
+beside-given h g (Err r) ls e = absurd cc
+
+-- From what is known of all archive files: their header stands in front.
+module _ (fronted : (rules : List PlainRule) (vs : List PlainKeyed) (bytes : List ℕ) → closed (canonical rules) ≡ Ok rules → FileOf rules vs bytes → header bytes ≡ Some (rules, length vs))
+    (files : Files) (name path : List ℕ) where
+  -- over a sound archive the path is read by its rules
+  input_sound : (rules : List PlainRule) (vs : List PlainKeyed) (a : ArchiveIs files name rules vs) → history_input files name path ≡ beside (rules, length vs) (labels_of rules path)
+  input_sound rules vs a =
+      ap (λ o. and_then (and_then (or_refuse o (no_file name)) (front_in name)) (λ h. and_then (labels_of h.0 path) (λ ls. Ok (h, ls)))) a.there
+      ∙ ap (λ o. and_then (or_refuse o (damaged name)) (λ (h : List PlainRule × ℕ). and_then (labels_of h.0 path) (λ ls. Ok (h, ls)))) (fronted rules vs a.bytes a.sound.specification a.sound.file)
+
+  -- a refusal before the records are looked at
+  pub may_refuse_early : (q : Refusal) → history_input files name path ≡ Err q → MayBe files (history name path) (Err q)
+  unfolding MayBe
+  may_refuse_early q e = record {
+    whatever = subst (λ x. GoesOn x (λ _. MayWrite files name) (Err q)) (sym e) refl;
+    sound = λ rules vs a.
+        let none = beside-refused (rules, length vs) (labels_of rules path) q (sym (input_sound rules vs a) ∙ e) in
+        sym (ap (λ x. and_then x (λ labels. Ok (record { files = files; output = numbers_text (hist vs labels) }))) none);
+  }
+
+  module _ (h : List PlainRule × ℕ) (labels : List PlainLabel) (input : history_input files name path ≡ Ok (h, labels)) where
+    given : (rules : List PlainRule) (vs : List PlainKeyed) (a : ArchiveIs files name rules vs) → labels_of rules path ≡ Ok labels
+    given rules vs a = beside-given (rules, length vs) h (labels_of rules path) labels (sym (input_sound rules vs a) ∙ input)
+
+    -- the numbers are written
+    pub may_write : (output : List ℕ) → ((rules : List PlainRule) (vs : List PlainKeyed) → ArchiveIs files name rules vs → output ≡ numbers_text (hist vs labels))
+        → MayBe files (history name path) (Ok (record { files = files; output = output }))
+    unfolding MayBe
+    may_write output told =
+        let r : Result Outcome Refusal = Ok (record { files = files; output = output }) in
+        record {
+          whatever = subst (λ x. GoesOn x (λ _. MayWrite files name) r) (sym input) (inr (record { output = output; is = refl }));
+          sound = λ rules vs a.
+              ap (λ (o : List ℕ). Ok (record { files = files; output = o })) (told rules vs a)
+              ∙ sym (ap (λ x. and_then x (λ labels. Ok (record { files = files; output = numbers_text (hist vs labels) }))) (given rules vs a));
+        }
+
+    -- the archive is damaged
+    pub may_refuse : (q : Refusal) → q ≡ damaged name → ((rules : List PlainRule) (vs : List PlainKeyed) → ¬ ArchiveIs files name rules vs) → MayBe files (history name path) (Err q)
+    unfolding MayBe
+    may_refuse q e none = record {
+      whatever = subst (λ x. GoesOn x (λ _. MayWrite files name) (Err q)) (sym input) (inl (ap (λ s. Err s) e));
+      sound = λ rules vs a. absurd (none rules vs a);
+    }
+
+    -- the header was read, and then the path was followed
+    pub little-read : (rules : List PlainRule) (vs : List PlainKeyed) (a : PlainArchive) (x y z : Numbers) → ArchiveIs files name rules vs → PullsAtMost (front_size rules vs) x y → PullsAtMost (8 + probed a labels) y z
+        → PullsAtMost (front_size rules vs + (8 + path_bytes a (labels_of rules path))) x z
+    little-read rules vs a x y z is p q =
+        let all = PullsAtMost-trans (front_size rules vs) (8 + probed a labels) x y z p q in
+        subst (λ r. PullsAtMost (front_size rules vs + (8 + path_bytes a r)) x z) (sym (given rules vs is)) all

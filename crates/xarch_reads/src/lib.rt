@@ -1,0 +1,15 @@
+//! The commands that only read files, one at a time: what each writes to the output.
+#![tactic(auto)]
+
+mod check;
+mod fronts;
+mod get;
+mod history;
+mod norm;
+mod stats;
+
+pub use check::run_check;
+pub use get::run_get;
+pub use history::run_history;
+pub use norm::run_norm;
+pub use stats::run_stats;

@@ -1,4 +1,0 @@
-use Rattle.xarch_steps.proofs.history.run_history.Given as goal
-
-abbrev pub ghosts-versions_by : goal.ghosts-versions_by
-ghosts-versions_by g a = record { name = a.blank.name; parts = a.blank.parts }

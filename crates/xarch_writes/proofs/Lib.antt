@@ -1,0 +1,9 @@
+pub mod AddEnds
+pub mod DemoEnds
+pub mod FullEnds
+pub mod InitEnds
+pub mod MergeEnds
+pub mod Merging
+pub mod OnePassEnds
+pub mod RekeyEnds
+pub mod SampleLemmas

@@ -1,0 +1,130 @@
+-- What `add` pulls and drafts over a sound archive.
+use Rattle.std.proofs.Common.{◌≡◌, ℕ, ◌+◌, ◌-◌, ◌≤◌, ◌<◌, ◌^◌, List, [], ◌∷◌, ◌++◌, length, drop, Option, Some, None, Result, Ok, Err, sym, ap, ◌∙◌, subst, arith, length-drop}
+use Rattle.std.specs.Prelude.{max}
+use Rattle.std.specs.List.{flat_map, fold}
+use Rattle.std.proofs.lemmas.List.{length-append}
+use Rattle.key_spec.specs.Canonical.{canonical}
+use Rattle.key_spec.specs.Closed.{closed}
+use Rattle.key_spec.specs.Data.{PlainRule}
+use Rattle.keyed_tree.specs.Data.{PlainKeyed}
+use Rattle.archive_tree.specs.Data.{PlainArchive}
+use Rattle.archive_tree.specs.Stands.{ArchiveOf}
+use Rattle.xa_outside.specs.Folder.{Files, bytes_or_none}
+use Rattle.xa_outside.specs.Numbers.{Numbers, PullsAtMost, PullsAndDrafts, after_begin}
+use Rattle.record_cursor.specs.View.{PlainHeader, IsHeader}
+use Rattle.record_format.specs.Data.{PlainRec}
+use Rattle.record_format.specs.Files.{HasFile, header_bytes, file_bytes, file_records, tail_bytes, largest, weight}
+use Rattle.record_format.specs.Fronts.{header_at}
+use Rattle.record_format.specs.Spelling.{rec_bytes}
+use Rattle.xarch_parts.specs.Archives.{ArchiveIs, IsFrontOf}
+use Rattle.std.specs.Result.{IsErrAnd}
+use Rattle.xarch_words.specs.Refusal.{document, PlainFault, folder_fault}
+use Rattle.xarch_words.specs.View.{fault_view}
+use Rattle.xarch_words.specs.declared.fault.Fault.{Fault}
+use Rattle.xarch_parts.specs.Ends.{fault_of}
+use Rattle.xarch_parts.specs.Inputs.{length_in, size_in}
+use Rattle.xarch_meanings.specs.OnePass.{OnePass, document_size, front_size, or_zero}
+
+-- a length that a document may have is what is read of it
+pub size-of : (files : Files) (doc : List ℕ) (n : ℕ) → length_in files doc document 67108864 ≡ Ok n → n ≡ document_size files doc
+size-of files doc n e = sym (ap or_zero e)
+
+-- the folder failed
+pub failed-so : (r : Result Unit Fault) (f : Fault) → IsErrAnd r (λ g. g ≡ f) → fault_view f ≡ folder_fault → fault_of r ≡ Some folder_fault
+failed-so (Ok u) f h e = absurd h
+failed-so (Err g) f h e = ap (λ (z : Fault). Some (fault_view z)) h ∙ ap (λ (v : PlainFault). Some v) e
+
+abbrev rest-of : Option ((List PlainRule × ℕ) × List ℕ) → List ℕ
+rest-of None = []
+rest-of (Some x) = x.1
+
+-- the greatest is no less than what it is begun with
+fold-least : (rs : List PlainRec) (n : ℕ) → n ≤ fold (λ most r. max most (weight r)) n rs
+fold-least [] n = omega arith
+fold-least (r ∷ rs) n = (let more = fold-least rs (max n (weight r)) in omega (arith, more))
+
+module _ (stands : (rules : List PlainRule) (a : PlainArchive) → closed (canonical rules) ≡ Ok rules → HasFile rules a → header_at (file_bytes rules a) ≡ Some ((rules, a.n), drop (length (header_bytes rules a.n)) (file_bytes rules a)))
+    (files : Files) (archive doc : List ℕ) (rules : List PlainRule) (vs : List PlainKeyed) (is : ArchiveIs files archive rules vs) where
+  size-is : size_in (Some files) archive ≡ length is.bytes
+  size-is = ap (λ o. length (bytes_or_none o)) is.there
+
+  front-within : front_size rules vs ≤ length is.bytes
+  front-within =
+      let f = is.sound.file in
+      let count : length vs ≡ f.archive.n = f.is.count in
+      let same : front_size rules vs ≡ length (header_bytes rules f.archive.n) = ap (λ n. length (header_bytes rules n)) count in
+      let s = ap length f.spelled in
+      let b = length-append (header_bytes rules f.archive.n) (flat_map rec_bytes (file_records f.archive) ++ tail_bytes f.archive) in
+      omega (arith, same, s, b)
+
+  -- the header that was read is the one that stands there
+  first-is : (h : PlainHeader) → IsHeader h → IsFrontOf files archive h → h.first ≡ front_size rules vs
+  first-is h header front =
+      let f = is.sound.file in
+      let both : Some front.bytes ≡ Some is.bytes = sym front.there ∙ is.there in
+      let bytes : front.bytes ≡ is.bytes = cc in
+      let count : length vs ≡ f.archive.n = f.is.count in
+      let head = length (header_bytes rules f.archive.n) in
+      let at : header_at is.bytes ≡ Some ((rules, f.archive.n), drop head is.bytes) = ap header_at f.spelled ∙ stands rules f.archive is.sound.specification f.has ∙ ap (λ z. Some ((rules, f.archive.n), drop head z)) (sym f.spelled) in
+      let here : header_at is.bytes ≡ Some ((h.rules, h.versions), drop h.first is.bytes) = subst (λ z. header_at z ≡ Some ((h.rules, h.versions), drop h.first z)) bytes front.is in
+      let same : Some ((rules, f.archive.n), drop head is.bytes) ≡ Some ((h.rules, h.versions), drop h.first is.bytes) = sym at ∙ here in
+      let rest : drop head is.bytes ≡ drop h.first is.bytes = ap rest-of same in
+      let lengths = ap length rest in
+      let within = header.within in
+      let long = front.long in
+      let all = ap length bytes in
+      let fits = front-within in
+      let heads : front_size rules vs ≡ head = ap (λ n. length (header_bytes rules n)) count in
+      omega (arith, lengths, length-drop head is.bytes, length-drop h.first is.bytes, within, long, all, fits, heads)
+
+  module _ (a : PlainArchive) (of : ArchiveOf vs a) where
+    front-least : front_size rules vs ≤ largest rules a
+    front-least =
+        let count : length vs ≡ a.n = of.count in
+        let same : front_size rules vs ≡ length (header_bytes rules a.n) = ap (λ n. length (header_bytes rules n)) count in
+        let more = fold-least (file_records a) (length (header_bytes rules a.n)) in
+        omega (arith, same, more)
+
+    -- it was read from alone
+    pub one_pass-read : (x y : Numbers) → y.since < 2 ^ 64 - 1 → PullsAtMost (front_size rules vs + document_size files doc) (after_begin x) y → OnePass files archive doc rules a x y
+    one_pass-read x y small p =
+        let n = p.within in
+        let pulled = ap (λ (m : Numbers). m.pulled) p.pulled in
+        let since = ap (λ (m : Numbers). m.since) p.pulled in
+        let gap = ap (λ (m : Numbers). m.gap) p.pulled in
+        let size = size-is in
+        let fits = front-within in
+        let least = front-least in
+        record {
+          begun_first = omega (arith, small, pulled, since);
+          once = omega (arith, n, since, size, fits);
+          close = omega (arith, n, gap, least);
+        }
+
+    -- and then it was gone over
+    pub one_pass-merged : (h : PlainHeader) (x y z : Numbers) → IsHeader h → IsFrontOf files archive h → z.since < 2 ^ 64 - 1 → PullsAtMost (front_size rules vs + document_size files doc) (after_begin x) y → PullsAndDrafts (h.length - h.first) y z
+        → z.gap ≤ max y.gap (y.since - y.drafted - length (header_bytes rules a.n) + largest rules a) → OnePass files archive doc rules a x z
+    one_pass-merged h x y z header front small p q gap-is =
+        let n = p.within in
+        let m = q.within in
+        let pulled = ap (λ (m : Numbers). m.pulled) p.pulled in
+        let since = ap (λ (m : Numbers). m.since) p.pulled in
+        let drafted = ap (λ (m : Numbers). m.drafted) p.pulled in
+        let gap = ap (λ (m : Numbers). m.gap) p.pulled in
+        let pulled2 = q.pulled in
+        let since2 = q.since in
+        let size = size-is in
+        let first = first-is h header front in
+        let within = header.within in
+        let long = front.long in
+        let both : Some front.bytes ≡ Some is.bytes = sym front.there ∙ is.there in
+        let bytes : front.bytes ≡ is.bytes = cc in
+        let all = ap length bytes in
+        let least = front-least in
+        let count : length vs ≡ a.n = of.count in
+        let heads : front_size rules vs ≡ length (header_bytes rules a.n) = ap (λ n. length (header_bytes rules n)) count in
+        record {
+          begun_first = omega (arith, small, pulled, since, pulled2, since2);
+          once = omega (arith, n, m, since, since2, size, first, within, long, all);
+          close = omega (arith, n, since, drafted, gap, gap-is, least, heads);
+        }

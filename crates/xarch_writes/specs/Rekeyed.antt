@@ -1,0 +1,58 @@
+-- What comes of the versions of an archive under other keys.
+use Rattle.std.specs.Prelude.{◌≡◌, ◌⊎◌, ℕ, List}
+use Rattle.key_spec.specs.Data.{PlainRule}
+use Rattle.key_rules.specs.Faults.{PlainKeyFault}
+use Rattle.keyed_tree.specs.Data.{PlainKeyed}
+use Rattle.record_format.specs.Files.{FileOf}
+use Rattle.archive_file.specs.Sound.{SoundAs}
+use Rattle.archive_rekey.specs.Rekeyed.{AreRekeyed, IsFirstBad}
+use Rattle.xarch_words.specs.Refusal.{archive, Refusal, damaged, key_fault_in, limit}
+
+-- ---- of versions
+
+-- the bytes are the sound archive of the versions under the rules
+pub record IsFileOfVersions (rules : List PlainRule) (vs : List PlainKeyed) (new : List ℕ) : Type 0 where
+  pub versions : List PlainKeyed
+  pub are : AreRekeyed rules vs versions
+  pub sound : SoundAs rules versions new
+
+-- the first version that does not satisfy the rules is told
+pub record IsBadTold (rules : List PlainRule) (vs : List PlainKeyed) (q : Refusal) : Type 0 where
+  pub number : ℕ
+  pub fault : PlainKeyFault
+  pub first : IsFirstBad rules vs number fault
+  pub is : q ≡ key_fault_in number fault
+
+-- no file can hold the versions under the rules
+pub record AreTooLong (rules : List PlainRule) (vs : List PlainKeyed) (q : Refusal) : Type 0 where
+  pub versions : List PlainKeyed
+  pub are : AreRekeyed rules vs versions
+  pub none : (bytes : List ℕ) → ¬ FileOf rules versions bytes
+  pub is : q ≡ limit archive 274877906944
+
+abbrev pub IsUnkeyed : List PlainRule → List PlainKeyed → Refusal → Type 0
+IsUnkeyed rules vs q = IsBadTold rules vs q ⊎ AreTooLong rules vs q
+
+-- ---- of bytes
+
+-- these are a sound archive, and those the file of its versions under the rules
+pub record IsFileUnder (rules : List PlainRule) (bytes new : List ℕ) : Type 0 where
+  pub old : List PlainRule
+  pub versions : List PlainKeyed
+  pub sound : SoundAs old versions bytes
+  pub file : IsFileOfVersions rules versions new
+
+-- they are a sound archive, whose versions have no file under the rules
+pub record HasNoFileUnder (rules : List PlainRule) (bytes : List ℕ) (q : Refusal) : Type 0 where
+  pub old : List PlainRule
+  pub versions : List PlainKeyed
+  pub sound : SoundAs old versions bytes
+  pub unkeyed : IsUnkeyed rules versions q
+
+-- they are none, and the archive of this name is refused
+pub record IsNoArchive (name bytes : List ℕ) (q : Refusal) : Type 0 where
+  pub unsound : (rules : List PlainRule) (vs : List PlainKeyed) → ¬ SoundAs rules vs bytes
+  pub is : q ≡ damaged name
+
+abbrev pub IsUnkeyable : List ℕ → List PlainRule → List ℕ → Refusal → Type 0
+IsUnkeyable name rules bytes q = HasNoFileUnder rules bytes q ⊎ IsNoArchive name bytes q
