@@ -3,7 +3,7 @@ ghost use Rattle.xa_outside.specs.Causes.{Rose};
 
 use crate::opened::{Found, Opened, open};
 use std::alloc::Global;
-use std::fs;
+use std::fs::OpenOptions;
 use std::io::{ErrorKind, Write};
 use std::rt::Files;
 use xa_outside::{Failed, Folder, Meter};
@@ -27,6 +27,15 @@ pub struct DiskFolder<'a, R: Files> {
     gathered: Vec<u8>,
     meter: Meter,
     faults: u64,
+}
+
+/// Makes the draft's file. What has its name is removed before: a draft that was left, or a link to another file, which is
+/// not to be written, or a pipe, which would have to be waited for. None on a failure.
+fn make_draft<R: Files>(rt: &R) -> Option<R::File> {
+    let _ = rt.remove_file(DRAFT);
+    let mut options = OpenOptions::new();
+    options.write(true).create_new(true);
+    options.open(rt, DRAFT).ok()
 }
 
 impl<'a, R: Files> DiskFolder<'a, R> {
@@ -180,14 +189,14 @@ impl<R: Files> Folder for DiskFolder<'_, R> {
     }
 
     fn begin(&mut self) -> Result<(), Failed> {
-        match fs::create(self.rt, DRAFT) {
-            Ok(file) => {
+        match make_draft(self.rt) {
+            Some(file) => {
                 self.draft = Some(file);
                 self.gathered.clear();
                 self.meter.begin();
                 Ok(())
             }
-            Err(_) => Err(self.fail()),
+            None => Err(self.fail()),
         }
     }
 

@@ -1,4 +1,4 @@
-ghost use Rattle.std.specs.Prelude.{◌≡◌, ◌≤◌, IfSome, length};
+ghost use Rattle.std.specs.Prelude.{◌≡◌, ◌≤◌, ◌<◌, IfSome, length};
 
 use std::alloc::Global;
 use std::fs;
@@ -20,14 +20,18 @@ struct Page {
     room: Vec<u8>,
 }
 
-/// A file that stays open between reads, with some pages of its bytes, of which one was used last and one is the next to go.
+/// How many hints are kept.
+const HINTS: usize = 64;
+
+/// A file that stays open between reads, with some pages of its bytes, of which one is the next to go. A hint is the index of the
+/// page that had what was read last of a piece of the file: pieces are as long as pages, and a hint serves each 64th.
 #[derive(Drop)]
 pub struct Opened<F: Drop> {
     name: String,
     file: F,
     alloc: Global,
     pages: Vec<Page>,
-    last: usize,
+    hints: [usize; HINTS],
     next: usize,
 }
 
@@ -53,7 +57,7 @@ pub fn open<R: Files>(rt: &R, alloc: Global, name: &str) -> Option<Found<R::File
         file,
         alloc,
         pages: Vec::new(alloc),
-        last: 0,
+        hints: [0; HINTS],
         next: 0,
     }))
 }
@@ -98,25 +102,28 @@ impl<F: Read + Seek + Drop> Opened<F> {
         if held > 0 || buf.is_empty() {
             return Some(held);
         }
-        self.file.seek(SeekFrom::Start(at)).ok()?;
-        if buf.len() >= PAGE {
-            return self.file.read(buf).ok();
+        if buf.len() < PAGE {
+            self.refill(at - at % PAGE as u64)?;
+            let held = self.copy_held(at, buf);
+            if held > 0 {
+                return Some(held);
+            }
         }
-        self.refill(at)?;
-        Some(self.copy_held(at, buf))
+        self.file.seek(SeekFrom::Start(at)).ok()?;
+        self.file.read(buf).ok()
     }
 
-    /// Reads a page from where the file stands, into new room or in place of the page that was read longest ago.
-    fn refill(&mut self, at: u64) -> Option<()> {
+    /// Reads a page from the offset on, into new room or in place of the page that was read longest ago.
+    fn refill(&mut self, start: u64) -> Option<()> {
         if self.pages.len() < PAGES {
             self.next = self.pages.len();
             self.add_page()?;
         }
         let page = self.pages.get_mut(self.next)?;
-        self.last = self.next;
         self.next = (self.next + 1) % PAGES;
-        page.start = at;
+        page.start = start;
         page.size = 0;
+        self.file.seek(SeekFrom::Start(start)).ok()?;
         page.size = self.file.read(&mut page.room).ok()?;
         Some(())
     }
@@ -132,26 +139,28 @@ impl<F: Read + Seek + Drop> Opened<F> {
         self.pages.push(page).ok()
     }
 
-    /// Puts what a page holds from the offset on at the front of the buffer. The page that was used last is looked at first.
+    /// Puts what a page holds from the offset on at the front of the buffer. The page that the hint says is looked at first.
     pub fn copy_held(&mut self, at: u64, buf: &mut [u8]) -> usize
         ensures { result ≤ length buf.new }
     {
-        if let Some(page) = self.pages.get(self.last) {
+        let piece = (at / PAGE as u64) as usize % HINTS;
+        if let Some(page) = self.pages.get(self.hints[piece]) {
             let count = page.copy(at, buf);
             if count > 0 {
                 return count;
             }
         }
-        self.copy_from_any(at, buf)
+        self.copy_from_any(at, piece, buf)
     }
 
-    fn copy_from_any(&mut self, at: u64, buf: &mut [u8]) -> usize
+    fn copy_from_any(&mut self, at: u64, piece: usize, buf: &mut [u8]) -> usize
+        requires { piece < 64 }
         ensures { result ≤ length buf.new }
     {
         for index in 0..self.pages.len() {
             let count = self.pages[index].copy(at, buf);
             if count > 0 {
-                self.last = index;
+                self.hints[piece] = index;
                 return count;
             }
         }

@@ -3,7 +3,7 @@ use crate::streams::{ReaderSource, WriterSink};
 use std::alloc::{AllocError, Global};
 use std::fs;
 use std::fs::Permissions;
-use std::os::unix::fs::PermissionsExt;
+use std::os::unix::fs::{PermissionsExt, symlink};
 use std::rt::Files;
 use std::test::Fail;
 use xa_outside::{Folder, MemSink, MemSource, Sink, Source, fill_at};
@@ -69,6 +69,21 @@ fn a_file_that_stands_open_is_read_anew_after_a_commit(rt: HostRuntime) -> Resul
         let is_stored = is_stored(&mut folder, name, &[bytes]);
         assert!(rt; is_stored && holds(&mut folder, rt.alloc(), name, 0, bytes)?);
     }
+    fs::remove_file(&rt, name)?;
+    Ok(())
+}
+
+#[test]
+fn a_draft_does_not_go_through_a_link(rt: HostRuntime) -> Result<(), Fail> {
+    let other = "xarch-test-of-another-file";
+    let name = "xarch-test-of-a-draft";
+    let mut folder = DiskFolder::new(&rt, rt.alloc());
+    assert!(rt; is_stored(&mut folder, other, &[b"other"]));
+    symlink(&rt, other, ".xarch-draft")?;
+    assert!(rt; is_stored(&mut folder, name, &[b"draft"]));
+    assert!(rt; holds(&mut folder, rt.alloc(), other, 0, b"other")?);
+    assert!(rt; holds(&mut folder, rt.alloc(), name, 0, b"draft")?);
+    fs::remove_file(&rt, other)?;
     fs::remove_file(&rt, name)?;
     Ok(())
 }
