@@ -1,21 +1,28 @@
 use crate::cases::Output::Is;
 use crate::cases::Step::{HasLength, Put, Run, RunOver};
-use crate::cases::{Case, NOTHING, Outside, QUIET, Step, check};
+use crate::cases::{Case, NOTHING, Outside, Pieces, QUIET, Step, check};
 use crate::documents::{COMPANY, JOHN};
 use std::test::Fail;
 use xa_outside::{FolderCall, FolderFail};
 
 /// An archive is made, a document is added, no command is asked for, and the version is read back.
-const HISTORY: &[u8] =
+pub(crate) const HISTORY: &[u8] =
     b"[\"init\",\"a.xar\",\"company.key\"]\n[\"add\",\"a.xar\",\"d1\"]\n[\"fetch\"]\n[\"history\",\"a.xar\",\"[\\\"db\\\"]\"]\n[\"get\",\"a.xar\",\"1\"]\n";
 
 const SPEC: Step = Put("company.key", &[(COMPANY, 1)]);
 
 const DOCUMENT: Step = Put("d1", &[(JOHN, 1)]);
 
-const NO_COMMAND: &[u8] = b"xarch: these words are no command\n";
+pub(crate) const NO_COMMAND: &[u8] = b"xarch: these words are no command\n";
 
-const OF_HISTORY: Outside = Outside {
+/// What it writes.
+pub(crate) const HISTORY_OUTPUT: Pieces = &[
+    (b"status 0\nstatus 0\nstatus 2\n1\nstatus 0\n", 1),
+    (JOHN, 1),
+    (b"status 0\n", 1),
+];
+
+const OF_HISTORY: Outside<'static> = Outside {
     input: &[(HISTORY, 1)],
     ..QUIET
 };
@@ -27,17 +34,7 @@ const CASES: &[Case] = &[
         steps: &[
             SPEC,
             DOCUMENT,
-            RunOver(
-                &OF_HISTORY,
-                &["batch"],
-                0,
-                Is(&[
-                    (b"status 0\nstatus 0\nstatus 2\n1\nstatus 0\n", 1),
-                    (JOHN, 1),
-                    (b"status 0\n", 1),
-                ]),
-                NO_COMMAND,
-            ),
+            RunOver(&OF_HISTORY, &["batch"], 0, Is(HISTORY_OUTPUT), NO_COMMAND),
         ],
     },
     Case {
@@ -77,6 +74,43 @@ const CASES: &[Case] = &[
             ),
             HasLength("a.xar", 225),
         ],
+    },
+    Case {
+        name: "a status line that is not taken ends a batch behind a folder fault",
+        fails: &[FolderFail {
+            call: FolderCall::Append,
+            number: 1,
+        }],
+        steps: &[
+            SPEC,
+            DOCUMENT,
+            RunOver(
+                &Outside {
+                    output_fails: &[1],
+                    ..OF_HISTORY
+                },
+                &["batch"],
+                14,
+                NOTHING,
+                b"xarch: folder fault\nxarch: output fault\n",
+            ),
+            HasLength("a.xar", 0),
+        ],
+    },
+    Case {
+        name: "a status line that is not taken ends a batch behind a refused line",
+        fails: &[],
+        steps: &[RunOver(
+            &Outside {
+                input: &[(b"[\"fetch\"]\n[\"fetch\"]\n", 1)],
+                output_fails: &[1],
+                ..QUIET
+            },
+            &["batch"],
+            14,
+            NOTHING,
+            b"xarch: these words are no command\nxarch: output fault\n",
+        )],
     },
     Case {
         name: "a batch ends where the first read fails",

@@ -23,14 +23,15 @@ pub(crate) enum Output {
 pub(crate) const NOTHING: Output = Output::Is(&[]);
 
 /// The input, and which calls of the input, of the output and of the errors' sink fail.
-pub(crate) struct Outside {
+#[derive(Drop)]
+pub(crate) struct Outside<'a> {
     pub(crate) input: Pieces,
-    pub(crate) input_fails: &'static [u64],
-    pub(crate) output_fails: &'static [u64],
-    pub(crate) error_fails: &'static [u64],
+    pub(crate) input_fails: &'a [u64],
+    pub(crate) output_fails: &'a [u64],
+    pub(crate) error_fails: &'a [u64],
 }
 
-pub(crate) const QUIET: Outside = Outside {
+pub(crate) const QUIET: Outside<'static> = Outside {
     input: &[],
     input_fails: &[],
     output_fails: &[],
@@ -44,7 +45,7 @@ pub(crate) enum Step {
     /// These words are run: the status, what is written, and the lines that are said.
     Run(&'static [&'static str], u8, Output, &'static [u8]),
     /// The same, with an input, and with calls that fail.
-    RunOver(&'static Outside, &'static [&'static str], u8, Output, &'static [u8]),
+    RunOver(&'static Outside<'static>, &'static [&'static str], u8, Output, &'static [u8]),
     /// The archive `A` is made of these documents by this specification, and each is taken.
     Archive(&'static [u8], &'static [&'static [u8]]),
     /// The file of this name has these bytes.
@@ -110,10 +111,10 @@ pub(crate) fn texts(alloc: Global, texts: &[&str]) -> Result<Vec<String>, AllocE
 
 /// The input, the output and the sink of errors of a run.
 #[derive(Drop)]
-struct Ends {
-    input: MemSource,
-    out: MemSink,
-    err: MemSink,
+pub(crate) struct Ends {
+    pub(crate) input: MemSource,
+    pub(crate) out: MemSink,
+    pub(crate) err: MemSink,
 }
 
 fn source(alloc: Global, outside: &Outside) -> Result<MemSource, AllocError> {
@@ -122,7 +123,7 @@ fn source(alloc: Global, outside: &Outside) -> Result<MemSource, AllocError> {
     Ok(MemSource::new(bytes, fails))
 }
 
-fn ends_of(alloc: Global, outside: &Outside) -> Result<Ends, AllocError> {
+pub(crate) fn ends_of(alloc: Global, outside: &Outside) -> Result<Ends, AllocError> {
     let output_fails = Vec::from_slice(alloc, outside.output_fails)?;
     let error_fails = Vec::from_slice(alloc, outside.error_fails)?;
     let input = source(alloc, outside)?;
@@ -131,14 +132,14 @@ fn ends_of(alloc: Global, outside: &Outside) -> Result<Ends, AllocError> {
     Ok(Ends { input, out, err })
 }
 
-fn are_joined(alloc: Global, pieces: Pieces, bytes: &[u8]) -> bool {
+pub(crate) fn are_joined(alloc: Global, pieces: Pieces, bytes: &[u8]) -> bool {
     match joined(alloc, pieces) {
         Ok(whole) => whole.as_slice() == bytes,
         Err(_) => false,
     }
 }
 
-fn is_prefix(alloc: Global, pieces: Pieces, bytes: &[u8]) -> bool {
+pub(crate) fn is_prefix(alloc: Global, pieces: Pieces, bytes: &[u8]) -> bool {
     match joined(alloc, pieces) {
         Ok(whole) => whole.starts_with(bytes),
         Err(_) => false,
@@ -385,6 +386,14 @@ pub(crate) fn check_norms(alloc: Global, norms: &[Norm]) -> Result<(), Fail> {
         told(is_normed(alloc, norm), norm.0)?;
     }
     Ok(())
+}
+
+/// The file of the archive of these documents.
+pub(crate) fn archive_of(alloc: Global, spec: &[u8], docs: &[&[u8]]) -> Result<Vec<u8>, Fail> {
+    let mut state = empty_folder(alloc, &[])?;
+    told(is_archived(alloc, &mut state, spec, docs), "no archive")?;
+    let file = state.folder.file("A").ok_or("no file")?;
+    Ok(Vec::from_slice(alloc, file)?)
 }
 
 /// Whether the archive of these documents has this file.

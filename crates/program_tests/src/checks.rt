@@ -88,7 +88,7 @@ const CASES: &[Case] = &[
             Run(CHECK, 13, NOTHING, b"xarch: folder fault\n"),
         ],
     },
-    // The line goes in one write.
+    // The name, the number and the end of the line are three writes.
     Case {
         name: "the output fails",
         fails: &[],
@@ -107,6 +107,16 @@ const CASES: &[Case] = &[
             RunOver(
                 &Outside {
                     output_fails: &[2],
+                    ..QUIET
+                },
+                CHECK,
+                14,
+                Is(&[(b"ok ", 1)]),
+                b"xarch: output fault\n",
+            ),
+            RunOver(
+                &Outside {
+                    output_fails: &[4],
                     ..QUIET
                 },
                 CHECK,

@@ -12,11 +12,17 @@ mod commands;
 #[cfg(test)]
 mod documents;
 #[cfg(test)]
+mod failing_calls;
+#[cfg(test)]
 mod histories;
 #[cfg(test)]
 mod numbers;
 #[cfg(test)]
+mod other_keys;
+#[cfg(test)]
 mod outside;
+#[cfg(test)]
+mod surely;
 #[cfg(test)]
 mod told;
 #[cfg(test)]

@@ -124,7 +124,7 @@ const FOLDERS: &[(&str, &[FolderFail], &[(&str, &[u8])], &[Call])] = &[
 ];
 
 /// A folder with these files, whose listed calls fail.
-fn folder(
+pub(crate) fn folder(
     alloc: Global,
     fails: &[FolderFail],
     files: &[(&str, &[u8])],
