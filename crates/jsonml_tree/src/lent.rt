@@ -1,7 +1,7 @@
 //! Trees whose texts are lent: by the bytes of a document, say.
 
 ghost use Rattle.std.specs.Prelude.{◌≡◌, IfOk, IfSome, map};
-ghost use Rattle.jsonml_tree.specs.Data.{only_text};
+ghost use Rattle.jsonml_tree.specs.Data.{element, only_text};
 ghost use Rattle.jsonml_tree.specs.LentView.{lent_content_view, lent_row_view, lent_tree_view};
 ghost use Rattle.jsonml_tree.specs.View.{content_view, tree_view};
 
@@ -53,19 +53,29 @@ impl<'a> LentTree<'a> {
     {
         match tree {
             Tree::Text(text) => Ok(LentTree::Text(CowStr::Borrowed(text.as_str()))),
-            Tree::Elem { tag, content } => {
-                let tag = CowStr::Borrowed(tag.as_str());
-                match only_text(content) {
-                    Some(text) => Ok(LentTree::Leaf {
-                        tag,
-                        text: CowStr::Borrowed(text),
-                    }),
-                    None => Ok(LentTree::Elem {
-                        tag,
-                        row: lend_row(alloc, content)?,
-                    }),
-                }
-            }
+            Tree::Elem { tag, content } => LentTree::lend_element(alloc, tag.as_str(), content),
+        }
+    }
+
+    /// The element of that tag and content, whose texts it lends, as `lend` does.
+    #[cycle(lend)]
+    pub fn lend_element(
+        alloc: Global,
+        tag: &'a str,
+        content: &'a Content,
+    ) -> Result<LentTree<'a>, AllocError>
+        ensures { IfOk result (λ t. lent_tree_view t ≡ element tag.now (content_view content.now)) }
+    {
+        let tag = CowStr::Borrowed(tag);
+        match only_text(content) {
+            Some(text) => Ok(LentTree::Leaf {
+                tag,
+                text: CowStr::Borrowed(text),
+            }),
+            None => Ok(LentTree::Elem {
+                tag,
+                row: lend_row(alloc, content)?,
+            }),
         }
     }
 

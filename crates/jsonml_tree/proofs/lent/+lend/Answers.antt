@@ -16,8 +16,8 @@ lend_items-loop-tree-preserved t c = grind (arith, common_steps)
 pub lend_items-returns : goal.lend_items-returns
 lend_items-returns t c = grind (arith, common_steps)
 
-pub LentTree::lend-returns-in-Some : goal.LentTree::lend-returns-in-Some
-LentTree::lend-returns-in-Some t c = grind (arith, trees, lent_trees)
+pub LentTree::lend_element-returns-in-Some : goal.LentTree::lend_element-returns-in-Some
+LentTree::lend_element-returns-in-Some t c = grind (arith, trees, lent_trees)
 
-pub LentTree::lend-returns-in_ok-lend_row-in-None : goal.LentTree::lend-returns-in_ok-lend_row-in-None
-LentTree::lend-returns-in_ok-lend_row-in-None t c = grind (arith, trees, lent_trees)
+pub LentTree::lend_element-returns-in_ok-lend_row-in-None : goal.LentTree::lend_element-returns-in_ok-lend_row-in-None
+LentTree::lend_element-returns-in_ok-lend_row-in-None t c = grind (arith, trees, lent_trees)
