@@ -1,4 +1,4 @@
-// The order of labels and bodies that a document lends, against those of their own.
+// The order of labels without key values, against labels of their own.
 ghost use Rattle.std.specs.Prelude.{◌≡◌, [], map};
 ghost use Rattle.std.specs.Cmp.Lexicographic.{slice_cmp};
 ghost use Rattle.std.specs.Ordering.{ordering_then};
