@@ -1,5 +1,5 @@
 -- Printing leaves that are named by attributes.
-use Rattle.std.proofs.Common.{◌≡◌, ℕ, ◌+◌, ◌-◌, ◌≤◌, ◌==◌, ◌||◌, Bool, true, false, nat_lt, List, [], ◌∷◌, ◌++◌, Option, Some, None, Result, Ok, Err, refl, sym, ap, subst, ◌∙◌, arith}
+use Rattle.std.proofs.Common.{◌≡◌, ℕ, ◌+◌, ◌-◌, ◌||◌, Bool, true, false, nat_lt, List, [], ◌∷◌, Option, Some, None, Result, Ok, Err, refl, sym, ap, subst, ◌∙◌, arith}
 use Rattle.std.specs.Result.{IfOk}
 use Rattle.xa_outside.specs.Causes.{HasCause}
 use Rattle.xa_outside.specs.Folder.{Files}
@@ -7,10 +7,11 @@ use Rattle.xa_outside.specs.Numbers.{Numbers, IsMeter, PullsAtMost}
 use Rattle.xa_outside.specs.Taken.{Taken}
 use Rattle.xa_outside.specs.declared.Failed.{Failed}
 use Rattle.version_set.specs.Members.{members}
+use Rattle.xa_fields.proofs.Fields.{some_is}
 use Rattle.jsonml_tree.specs.Data.{PlainScalar}
 use Rattle.jsonml_print.specs.Calls.{Call, attribute, calls_of, Prints}
 use Rattle.jsonml_print.specs.Pen.{Pen}
-use Rattle.keyed_tree.specs.Data.{PlainName, attr, PlainKey, scalar, inside, PlainLabel, leaf}
+use Rattle.keyed_tree.specs.Data.{PlainName, attr, PlainKey, scalar, PlainLabel, leaf}
 use Rattle.keyed_tree.specs.Plain.{plain}
 use Rattle.record_parts.specs.Shown.{shown_name}
 use Rattle.keyed_tree.specs.Proper.{is_tag, is_scalar}
@@ -25,7 +26,8 @@ use Rattle.record_cursor.specs.Steps as cursor
 use Rattle.record_cursor.specs.declared.fault.CursorFault.{CursorFault}
 use Rattle.file_rows.specs.View.{PlainChild}
 use Rattle.file_get.specs.Told.{of_cursor, fault_of}
-use Rattle.file_get.specs.State.{State, state}
+use Rattle.file_get.specs.LeafBodies.{whole_inside}
+use Rattle.file_get.specs.State.{State}
 use Rattle.file_get.specs.Kids.{leaf_calls, kid_calls}
 use Rattle.file_get.specs.Walks.{Walks, Shows, StandsIn}
 use Rattle.file_get.specs.Inside.{OpenedPrinted, NodeOpened, AltsTold, inside_seen}
@@ -33,6 +35,7 @@ use Rattle.file_get.specs.declared.read.Opening.{Opening}
 use Rattle.file_get.specs.declared.fault.GetFault.{GetFault}
 use Rattle.file_get.specs.declared.fault.GetFault.TheVariants.{Damage, Out}
 use Rattle.file_get.proofs.Opened.{eff-members, alts-told, attr-leaf}
+use Rattle.file_get.proofs.LentReadings.{content-read}
 use Rattle.file_get.proofs.Pens.{stands-attribute}
 use Rattle.file_get.proofs.States.{walks-none, walks-then, walks-damage, shows-then}
 use Rattle.file_get.proofs.States as states
@@ -45,6 +48,10 @@ printed_by (Err e) = Err Out
 pub printed-fault : {T : Type 0} (r : Result T Failed) → states.out_fault r ≡ fault_of (printed_by r)
 printed-fault (Ok x) = refl
 printed-fault (Err e) = refl
+
+-- a content is no scalar
+pub content-body : (body : Option PlainKey) (bytes : List ℕ) → body ≡ whole_inside bytes → (b : PlainKey) → body ≡ Some b → is_scalar b ≡ false
+content-body body bytes e b h = (let c = content-read bytes b (sym e ∙ h) in ap is_scalar (sym c.2))
 
 module _ {S K : Type 0} (files : S → Option Files) (draft : S → Option (List ℕ)) (numbers : S → Numbers) (faults : S → ℕ) (taken : K → Taken) (out_faults : K → ℕ) (i : ℕ) (name : List ℕ) (child : PlainChild) (o : Opening) (depth : ℕ) (text : List ℕ) where
   abbrev pub at : S → K → Pen → ℕ → State
@@ -85,13 +92,13 @@ module _ {S K : Type 0} (files : S → Option Files) (draft : S → Option (List
       more : {a b : Numbers} {m : ℕ} → PullsAtMost m a b → PullsAtMost (m + 9) a b
       more h = (let w = h.within in record { count = h.count; within = omega (arith, w); pulled = h.pulled })
 
-  no-scalar : (s : PlainKey) (b : PlainKey) → is_scalar s ≡ false → s ≡ b → is_scalar b ≡ true → ⊥
-  no-scalar s b lacks e is = let f : false ≡ true = sym lacks ∙ ap is_scalar e ∙ is in cc
+  no-scalar : (b : PlainKey) → is_scalar b ≡ false → is_scalar b ≡ true → ⊥
+  no-scalar b lacks is = let f : false ≡ true = sym lacks ∙ is in cc
 
   -- a content stands where a scalar is wanted
-  pub attr-content : (old new : S) (k : K) (p : Pen) (n : ℕ) (has_item : Bool) (s : PlainKey) → shown_name o.name ≡ attr text → is_scalar s ≡ false → cursor.OnlyReads files draft faults old new None → PullsAtMost (child.end - o.behind) (numbers old) (numbers new)
-      → Tells old new (λ set xs. s ≡ body_at i (members set) xs) → OpenedPrinted i name child o depth has_item (at old k p n) (at new k p n) (Err Damage)
-  attr-content old new k p n has_item s named lacks h pulls told = record {
+  pub attr-content : (old new : S) (k : K) (p : Pen) (n : ℕ) (has_item : Bool) (body : Option PlainKey) → shown_name o.name ≡ attr text → ((b : PlainKey) → body ≡ Some b → is_scalar b ≡ false) → cursor.OnlyReads files draft faults old new None → PullsAtMost (child.end - o.behind) (numbers old) (numbers new)
+      → Tells old new (λ set xs. body ≡ Some (body_at i (members set) xs)) → OpenedPrinted i name child o depth has_item (at old k p n) (at new k p n) (Err Damage)
+  attr-content old new k p n has_item body named lacks h pulls told = record {
     walks = walks-damage (at old k p n) (at new k p n) (child.end - o.behind) (child.end - o.behind) (omega arith) (states.reads files draft numbers faults taken out_faults old new k p n n None (child.end - o.behind) h pulls);
     stands = tt;
     shows = λ bytes end parent j x. (
@@ -99,7 +106,7 @@ module _ {S K : Type 0} (files : S → Option Files) (draft : S → Option (List
         let l = a.0 in
         let x' = subst (NodeOpened i (files old) name bytes end child o depth has_item parent) l.is x in
         let y = told end bytes (rec_bytes leaf_end) (set_in l.stamp parent) l.alts (alts-told i (files old) name bytes end child o depth has_item parent (record { name = attr text; keys = l.keys }) l.stamp l.alts x') in
-        absurd (no-scalar s (body_at i (members (set_in l.stamp parent)) l.alts) lacks y.0 l.body));
+        absurd (no-scalar (body_at i (members (set_in l.stamp parent)) l.alts) (lacks (body_at i (members (set_in l.stamp parent)) l.alts) y.0) l.body));
   }
 
   stands-by : {T : Type 0} (p q : Pen) (v : PlainScalar) (r : Result T Failed) → StandsIn depth false p → (x y : Taken) → Prints x y p q (attribute (record { name = text; value = v }) ∷ []) r → IfOk (printed_by r) (λ h. StandsIn depth h q)
@@ -111,11 +118,11 @@ module _ {S K : Type 0} (files : S → Option Files) (draft : S → Option (List
   one m (Err u) e = tt
 
   -- the attribute was printed
-  pub attr-printed : {T : Type 0} (old new : S) (a b : K) (p q : Pen) (n : ℕ) (v : PlainScalar) (key : PlainKey) (r : Result T Failed) → key ≡ scalar v → shown_name o.name ≡ attr text → StandsIn depth false p → IsMeter (numbers new)
-      → cursor.OnlyReads files draft faults old new None → PullsAtMost (child.end - o.behind) (numbers old) (numbers new) → Tells old new (λ set xs. key ≡ body_at i (members set) xs)
+  pub attr-printed : {T : Type 0} (old new : S) (a b : K) (p q : Pen) (n : ℕ) (v : PlainScalar) (body : Option PlainKey) (r : Result T Failed) → body ≡ Some (scalar v) → shown_name o.name ≡ attr text → StandsIn depth false p → IsMeter (numbers new)
+      → cursor.OnlyReads files draft faults old new None → PullsAtMost (child.end - o.behind) (numbers old) (numbers new) → Tells old new (λ set xs. body ≡ Some (body_at i (members set) xs))
       → Prints (taken a) (taken b) p q (attribute (record { name = text; value = v }) ∷ []) r → HasCause (out_faults a) (out_faults b) r
       → OpenedPrinted i name child o depth false (at old a p n) (at new b q n) (printed_by r)
-  attr-printed old new a b p q n v key r is-key named stood meter h pulls told prints cause = (
+  attr-printed old new a b p q n v body r is-body named stood meter h pulls told prints cause = (
       let calls = attribute (record { name = text; value = v }) ∷ [] in
       let s = at old a p n in
       let t = at new a p n in
@@ -137,17 +144,17 @@ module _ {S K : Type 0} (files : S → Option Files) (draft : S → Option (List
             let m = alts_seen i (set_in l.stamp parent) l.alts in
             let known = states.shows-read files draft numbers faults taken out_faults old new a p n n m 0 (omega arith) y.1 in
             let both = shows-then s t u e [] calls m 0 (m + 9) 0 0 0 (omega arith) (omega arith) known show in
-            let body : scalar v ≡ body_at i (eff l.stamp (members parent)) l.alts = sym is-key ∙ y.0 ∙ ap (λ (ns : List ℕ). body_at i ns l.alts) (sym (eff-members l.stamp parent)) in
-            let same : calls ≡ kid_calls (read i (members parent) (leaf_node lab l.stamp l.alts)) = ap (λ (d : PlainKey). leaf_calls (attr text) d (calls_of (plain (leaf lab d)))) body in (
+            let same-body : scalar v ≡ body_at i (eff l.stamp (members parent)) l.alts = some_is (scalar v) (body_at i (members (set_in l.stamp parent)) l.alts) (sym is-body ∙ y.0) ∙ ap (λ (ns : List ℕ). body_at i ns l.alts) (sym (eff-members l.stamp parent)) in
+            let same : calls ≡ kid_calls (read i (members parent) (leaf_node lab l.stamp l.alts)) = ap (λ (d : PlainKey). leaf_calls (attr text) d (calls_of (plain (leaf lab d)))) same-body in (
               subst (λ (w : PlainNode). Shows (kid_calls (read i (members parent) w)) (inside_seen i parent w) (node_steps i parent w) s u e) (sym l.is) (subst (λ (cs : List Call). Shows cs (m + 9) 0 s u e) same both),
               one (node_label j).name r (ap (λ (w : PlainNode). is_tag (node_label w).name) l.is),
             ));
       })
 
-  pub attr-printed-at : {T : Type 0} (old new : S) (a b : K) (p q : Pen) (n : ℕ) (has_item : Bool) → has_item ≡ false → (v : PlainScalar) (key : PlainKey) (r : Result T Failed) → key ≡ scalar v → shown_name o.name ≡ attr text → StandsIn depth has_item p → IsMeter (numbers new)
-      → cursor.OnlyReads files draft faults old new None → PullsAtMost (child.end - o.behind) (numbers old) (numbers new) → Tells old new (λ set xs. key ≡ body_at i (members set) xs)
+  pub attr-printed-at : {T : Type 0} (old new : S) (a b : K) (p q : Pen) (n : ℕ) (has_item : Bool) → has_item ≡ false → (v : PlainScalar) (body : Option PlainKey) (r : Result T Failed) → body ≡ Some (scalar v) → shown_name o.name ≡ attr text → StandsIn depth has_item p → IsMeter (numbers new)
+      → cursor.OnlyReads files draft faults old new None → PullsAtMost (child.end - o.behind) (numbers old) (numbers new) → Tells old new (λ set xs. body ≡ Some (body_at i (members set) xs))
       → Prints (taken a) (taken b) p q (attribute (record { name = text; value = v }) ∷ []) r → HasCause (out_faults a) (out_faults b) r
       → OpenedPrinted i name child o depth has_item (at old a p n) (at new b q n) (printed_by r)
-  attr-printed-at old new a b p q n has_item first v key r is-key named stood meter h pulls told prints cause =
+  attr-printed-at old new a b p q n has_item first v body r is-body named stood meter h pulls told prints cause =
       subst (λ (f : Bool). OpenedPrinted i name child o depth f (at old a p n) (at new b q n) (printed_by r)) (sym first)
-      (attr-printed old new a b p q n v key r is-key named (subst (λ (f : Bool). StandsIn depth f p) first stood) meter h pulls told prints cause)
+      (attr-printed old new a b p q n v body r is-body named (subst (λ (f : Bool). StandsIn depth f p) first stood) meter h pulls told prints cause)

@@ -1,21 +1,23 @@
 -- Reading the body that a leaf has in a version.
-use Rattle.std.proofs.Common.{◌≡◌, ◌≢◌, ℕ, ◌+◌, ◌-◌, ◌*◌, ◌≤◌, ◌<◌, ◌^◌, Bool, true, false, ◌||◌, ◌==◌, cond, List, [], ◌∷◌, ◌++◌, length, map, take, drop, Option, Some, None, Result, Ok, Err, refl, sym, ap, subst, ◌∙◌, arith, append_assoc, length-drop}
+use Rattle.std.proofs.Common.{◌≡◌, ℕ, zero, suc, ◌+◌, ◌-◌, ◌*◌, ◌≤◌, ◌<◌, ◌^◌, Bool, true, false, ◌||◌, ◌==◌, cond, List, [], ◌∷◌, ◌++◌, length, map, take, drop, Option, Some, None, Result, Ok, Err, refl, sym, ap, subst, ◌∙◌, arith, append_assoc, length-drop}
 use Rattle.std.specs.List.{flat_map, AllByRecursion}
-use Rattle.std.specs.Prelude.{is_some, max}
+use Rattle.std.specs.Prelude.{is_some, max, if◌then◌else◌}
+use Rattle.std.specs.Option.{option_map, ok_or}
+use Rattle.std.proofs.Math.Seq.{take-length}
+use Rattle.std.proofs.lemmas.Bool.Decides.{nat_tests}
 use Rattle.std.proofs.lemmas.List.{length-append, append-nil}
 use Rattle.xa_fields.specs.Spelling.{u32_bytes, u64_bytes}
-use Rattle.std.specs.Int.{w32}
-use Rattle.xa_fields.specs.Reading.{◌>>=◌, byte_at, number_at, text_at, many_at, list_at, chained_at, chain_at}
-use Rattle.jsonml_tree.specs.Data.{text, only_text}
-use Rattle.record_parts.specs.Reading.{attrs_at, content_at, content_by, item_at, item_of, value_at, value_of}
+use Rattle.xa_fields.specs.Reading.{◌>>=◌, byte_at, chained_at, chain_at, whole}
+use Rattle.jsonml_tree.specs.Data.{PlainScalar, PlainContent}
+use Rattle.record_parts.specs.Reading.{scalar_at, content_at, value_at, value_of}
 use Rattle.record_parts.proofs.Values.{value_reads}
-use Rattle.xa_fields.proofs.Fields.{some_is, u32_reads}
+use Rattle.xa_fields.proofs.Fields.{u32_reads}
 use Rattle.xa_outside.specs.Folder.{Files}
 use Rattle.xa_outside.specs.Numbers.{Numbers, IsMeter, PullsAtMost}
 use Rattle.xa_outside.specs.NumberLaws.{PullsAtMost-none, PullsAtMost-more, PullsAtMost-trans}
 use Rattle.version_set.specs.Pairs.{IsFrom}
 use Rattle.version_set.specs.Members.{members, has}
-use Rattle.keyed_tree.specs.Data.{PlainKey, inside}
+use Rattle.keyed_tree.specs.Data.{PlainKey, scalar, inside}
 use Rattle.archive_tree.specs.Data.{Stamp, PlainAlt, eff}
 use Rattle.archive_tree.specs.Read.{body_at}
 use Rattle.timestamp_tree.specs.Bytes.{pair_bytes, set_bytes}
@@ -32,13 +34,17 @@ use Rattle.record_format.proofs.Pieces.{rec-length}
 use Rattle.record_cursor.specs.Moves.{TellsFront}
 use Rattle.record_cursor.specs.Steps.{Filled}
 use Rattle.record_cursor.specs.declared.fault.CursorFault.{CursorFault}
+use Rattle.record_cursor.specs.declared.fault.CursorFault.TheVariants.{Damage}
 use Rattle.file_rows.specs.StandsAt.{StandsAt}
 use Rattle.file_rows.proofs.Parts.{stands-front, stands-back}
 use Rattle.file_get.specs.Inside.{AltsTold, AltIs, SetIs, head_bytes}
 use Rattle.file_get.specs.Kids.{some_has}
 use Rattle.file_get.specs.declared.body.Alternative.{Alternative}
 use Rattle.file_get.proofs.Opened.{eff-members}
+use Rattle.file_get.proofs.ReadBytes.{past-end}
 use Rattle.file_get.proofs.Openings.{body-stands}
+use Rattle.file_get.specs.LeafBodies.{whole_inside, body_view, body_found}
+use Rattle.file_get.specs.declared.value.Body.{Body}
 
 -- ---- a list of alternatives
 
@@ -232,43 +238,65 @@ stamp-some (Some s) = omega arith
 
 -- ---- values
 
-module _ (b v : PlainKey) (bytes rest : List ℕ) where
-  value-read : bytes ≡ value_bytes b → IsValue b → value_at bytes ≡ Some (b, [])
-  value-read same is = ap value_at (same ∙ sym (append-nil (value_bytes b))) ∙ value_reads.again b [] is
+pub whole-value : (b : PlainKey) (bytes : List ℕ) → bytes ≡ value_bytes b → IsValue b → whole value_at bytes ≡ Some b
+unfolding whole
+whole-value b bytes same is =
+    let read : value_at bytes ≡ Some (b, []) = ap value_at (same ∙ sym (append-nil (value_bytes b))) ∙ value_reads.again b [] is in
+    rw read refl
 
-  pub value-is : bytes ≡ value_bytes b → IsValue b → value_at bytes ≡ Some (v, rest) → (v ≡ b) × (rest ≡ [])
-  value-is same is found =
-      let e = some_is (v, rest) (b, []) (sym found ∙ value-read same is) in
-      (ap (λ (p : PlainKey × List ℕ). p.0) e, ap (λ (p : PlainKey × List ℕ). p.1) e)
+-- by the byte of its kind
+module _ (bytes rest : List ℕ) where
+  pub no-kind : byte_at bytes ≡ None → whole value_at bytes ≡ None
+  unfolding whole value_at
+  no-kind h = rw h refl
 
-  pub value-some : bytes ≡ value_bytes b → IsValue b → value_at bytes ≡ None → ⊥
-  value-some same is found = clash (sym found ∙ value-read same is)
+  pub no-scalar : byte_at bytes ≡ Some (0, rest) → scalar_at rest ≡ None → whole value_at bytes ≡ None
+  unfolding whole value_at value_of
+  no-scalar kind h = rw (kind, h) refl
 
--- a content of one text
-no-attrs : (a b : List ℕ) → number_at w32 a ≡ Some (0, b) → attrs_at a ≡ Some ([], b)
-unfolding chained_at chain_at
-no-attrs a b e = rw e refl
+  module _ (s : PlainScalar) (n : ℕ) (all : List ℕ) where
+    pub scalar-more : byte_at bytes ≡ Some (0, rest) → scalar_at rest ≡ Some (s, drop n all) → n < length all → whole value_at bytes ≡ None
+    unfolding whole value_at value_of
+    scalar-more kind h lt =
+        let some : (length (drop n all) == 0) ≡ false = (let long = length-drop n all in grind (arith, nat_tests)) in
+        rw (kind, h, some) refl
 
-text-item : (c d rest s : List ℕ) → byte_at c ≡ Some (0, d) → text_at d ≡ Some (s, rest) → item_at deepest c ≡ Some (text s, rest)
-unfolding item_of
-text-item c d rest s e f = rw (e, f) refl
+    pub scalar-whole : byte_at bytes ≡ Some (0, rest) → scalar_at rest ≡ Some (s, drop n all) → length all ≤ n → whole value_at bytes ≡ Some (scalar s)
+    unfolding whole value_at value_of
+    scalar-whole kind h le = (let end = past-end n all le in rw (kind, h, end) refl)
 
-one-item : (b c rest s : List ℕ) → number_at w32 b ≡ Some (1, c) → item_at deepest c ≡ Some (text s, rest) → list_at (item_at deepest) b ≡ Some (text s ∷ [], rest)
-unfolding list_at many_at
-one-item b c rest s e f = rw (e, f) refl
+  abbrev inside-of : PlainContent × List ℕ → Option (PlainKey × List ℕ)
+  inside-of c = Some (inside c.0, c.1)
 
-text-content : (a b rest s : List ℕ) → attrs_at a ≡ Some ([], b) → list_at (item_at deepest) b ≡ Some (text s ∷ [], rest) → content_at deepest a ≡ Some (only_text s, rest)
-unfolding content_by
-text-content a b rest s e f = rw (e, f) refl
+  content-ends : (read : Option (PlainContent × List ℕ)) → option_map inside (read >>= λ a. if length a.1 == 0 then Some a.0 else None) ≡ ((read >>= inside-of) >>= λ a. if length a.1 == 0 then Some a.0 else None)
+  content-ends None = refl
+  content-ends (Some x) = ends (length x.1 == 0)
+    where
+      ends : (b : Bool) → option_map inside (cond b (Some x.0) None) ≡ cond b (Some (inside x.0)) None
+      ends true = refl
+      ends false = refl
 
-pub text-value : (bytes a b c d rest s : List ℕ) → byte_at bytes ≡ Some (1, a) → number_at w32 a ≡ Some (0, b) → number_at w32 b ≡ Some (1, c) → byte_at c ≡ Some (0, d) → text_at d ≡ Some (s, rest) → value_at bytes ≡ Some (inside (only_text s), rest)
-unfolding value_at value_of
-text-value bytes a b c d rest s kind attrs items item read =
-    let whole = text-content a b rest s (no-attrs a b attrs) (one-item b c rest s items (text-item c d rest s item read)) in
-    rw (kind, whole) refl
+  pub content-whole : byte_at bytes ≡ Some (1, rest) → whole_inside rest ≡ whole value_at bytes
+  unfolding whole value_at value_of
+  content-whole kind = rw kind (content-ends (content_at deepest rest))
 
-pub ends-there : (bytes : List ℕ) (behind : ℕ) → behind ≤ length bytes → drop behind bytes ≡ [] → behind ≡ length bytes
-ends-there bytes behind h e = omega (arith, h, length-drop behind bytes, ap length e)
+  none-of : (k : ℕ) → 2 ≤ k → value_of k rest ≡ None
+  unfolding value_of
+  none-of zero h = absurd (omega (arith, h))
+  none-of (suc zero) h = absurd (omega (arith, h))
+  none-of (suc (suc k)) h = refl
+
+  pub other-kind : (k : ℕ) → byte_at bytes ≡ Some (k, rest) → 2 ≤ k → whole value_at bytes ≡ None
+  unfolding whole value_at
+  other-kind k kind h = (let none = none-of k h in rw (kind, none) refl)
+
+pub behind-kind : (at : ℕ) (bytes : List ℕ) → take (length bytes - at) (drop at bytes) ≡ drop at bytes
+behind-kind at bytes = ap (λ m. take m (drop at bytes)) (sym (length-drop at bytes)) ∙ take-length (drop at bytes)
+
+-- what is answered where the value is one
+pub found-filled : (o : Option Body) (r : Result Body CursorFault) (read : Option PlainKey) (b : PlainKey) → body_found o ≡ read → read ≡ Some b → r ≡ ok_or o Damage → Filled r (λ v. body_view v ≡ Some b)
+found-filled None r read b e f g = absurd (let none : None ≡ Some b = e ∙ f in cc)
+found-filled (Some v) r read b e f g = subst (λ (z : Result Body CursorFault). Filled z (λ v. body_view v ≡ Some b)) (sym g) (e ∙ f)
 
 pub value-taken : (bytes lent body : List ℕ) (at end : ℕ) (b : PlainKey) → lent ≡ body → body ≡ take (end - at) (drop at bytes) → StandsAt bytes at (value_bytes b) → end ≡ at + length (value_bytes b) → lent ≡ value_bytes b
 value-taken bytes lent body at end b same read h e = (let n : end - at ≡ length (value_bytes b) = omega (arith, e) in same ∙ read ∙ ap (λ m. take m (drop at bytes)) n ∙ h)

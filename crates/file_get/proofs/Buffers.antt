@@ -1,5 +1,5 @@
 -- Writing the text of a version through a buffer.
-use Rattle.std.proofs.Common.{◌≡◌, ℕ, ◌+◌, ◌≤◌, List, [], ◌++◌, take, Option, Some, None, Result, Ok, Err, OnOk, sym, ap, subst, ◌∙◌, arith}
+use Rattle.std.proofs.Common.{◌≡◌, ℕ, ◌≤◌, List, [], take, Option, Some, None, Result, Ok, Err, OnOk, sym, ap, subst, arith}
 use Rattle.xa_outside.specs.Causes.{HasCause}
 use Rattle.xa_outside.specs.Folder.{Files}
 use Rattle.xa_outside.specs.Numbers.{Numbers}

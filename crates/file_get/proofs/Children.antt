@@ -1,5 +1,5 @@
 -- Printing children.
-use Rattle.std.proofs.Common.{◌≡◌, ℕ, ◌+◌, ◌-◌, ◌*◌, ◌≤◌, ◌<◌, ◌^◌, ◌&&◌, ◌||◌, Bool, false, List, [], ◌∷◌, ◌++◌, length, map, take, Option, Some, None, Result, Err, refl, sym, ap, subst, ◌∙◌, arith}
+use Rattle.std.proofs.Common.{◌≡◌, ℕ, ◌+◌, ◌-◌, ◌≤◌, Bool, false, List, [], ◌∷◌, ◌++◌, length, map, Option, Some, None, Result, Err, refl, sym, ap, subst, ◌∙◌, arith}
 use Rattle.std.specs.List.{flat_map, AllByRecursion}
 use Rattle.xa_outside.specs.Folder.{Files}
 use Rattle.xa_outside.specs.Numbers.{Numbers, PullsAtMost, after_pull}
@@ -7,7 +7,7 @@ use Rattle.xa_outside.specs.NumberLaws.{PullsAtMost-of}
 use Rattle.xa_outside.specs.Taken.{Taken}
 use Rattle.version_set.specs.Members.{members}
 use Rattle.jsonml_print.specs.Pen.{Pen}
-use Rattle.archive_tree.specs.Data.{PlainNode, inner_node, leaf_node, node}
+use Rattle.archive_tree.specs.Data.{PlainNode, inner_node, leaf_node}
 use Rattle.archive_tree.specs.Read.{read}
 use Rattle.record_format.specs.Bounds.{IsRec}
 use Rattle.record_format.specs.Data.{leaf_end}

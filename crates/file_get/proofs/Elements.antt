@@ -1,5 +1,5 @@
 -- Printing elements.
-use Rattle.std.proofs.Common.{◌≡◌, ℕ, ◌+◌, ◌-◌, ◌≤◌, ◌==◌, ◌&&◌, ◌||◌, Bool, true, false, not, nat_lt, List, [], ◌∷◌, ◌++◌, IsTrue, Option, Some, None, Result, Ok, Err, refl, sym, ap, subst, ◌∙◌, arith}
+use Rattle.std.proofs.Common.{◌≡◌, ℕ, ◌+◌, ◌-◌, ◌≤◌, ◌&&◌, ◌||◌, Bool, true, false, not, nat_lt, List, [], ◌∷◌, ◌++◌, IsTrue, Option, Some, None, Result, Ok, Err, refl, sym, ap, subst, ◌∙◌, arith}
 use Rattle.std.proofs.lemmas.Bool.Decides.{nat_tests}
 use Rattle.std.specs.Result.{IfOk}
 use Rattle.xa_outside.specs.Folder.{Files}
@@ -21,7 +21,7 @@ use Rattle.archive_tree.proofs.Readings.{read_label}
 use Rattle.record_format.specs.Seen.{node_steps}
 use Rattle.file_rows.specs.View.{PlainChild}
 use Rattle.file_get.specs.Told.{fault_of}
-use Rattle.file_get.specs.State.{State, state}
+use Rattle.file_get.specs.State.{State}
 use Rattle.file_get.specs.Kids.{leaf_calls, leaf_fits, kid_calls, kid_fits}
 use Rattle.file_get.specs.Walks.{Walks, Shows, StandsIn}
 use Rattle.file_get.specs.Inside.{InsidePrinted, OpenedPrinted, NodeOpened, inside_seen}

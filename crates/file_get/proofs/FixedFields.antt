@@ -1,5 +1,5 @@
 -- The fixed fields of a header are read of its own bytes alone.
-use Rattle.std.proofs.Common.{◌≡◌, ℕ, ◌+◌, ◌-◌, ◌<◌, ◌≤◌, Bool, true, false, cond, ltb, leb, List, length, take, drop, Option, Some, None, Result, refl, sym, ap, subst, ◌∙◌, arith, length-take-le, length-drop, drop-drop, take_all}
+use Rattle.std.proofs.Common.{◌≡◌, ℕ, ◌+◌, ◌<◌, ◌≤◌, Bool, true, false, cond, ltb, leb, List, length, take, drop, Option, Some, None, Result, refl, sym, ap, subst, ◌∙◌, arith, length-take-le, length-drop, drop-drop, take_all}
 use Rattle.std.specs.Option.{option_map}
 use Rattle.std.specs.Prelude.{bytes_eq, ok_or}
 use Rattle.std.specs.Int.{w32, from_be_bytes}

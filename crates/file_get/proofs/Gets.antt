@@ -1,5 +1,5 @@
 -- Writing a version, as far as a sound archive goes.
-use Rattle.std.proofs.Common.{◌≡◌, ◌≢◌, ℕ, zero, suc, ◌+◌, ◌-◌, ◌<◌, ◌≤◌, List, [], ◌∷◌, ◌++◌, length, take, drop, Option, Some, None, Result, Ok, Err, IfErr, slice_get, refl, sym, ap, subst, ◌∙◌, arith}
+use Rattle.std.proofs.Common.{◌≡◌, ◌≢◌, ℕ, zero, suc, ◌+◌, ◌-◌, ◌<◌, ◌≤◌, List, [], ◌∷◌, ◌++◌, length, drop, Option, Some, None, Result, Ok, Err, IfErr, slice_get, refl, sym, ap, subst, ◌∙◌, arith}
 use Rattle.std.specs.List.{flat_map}
 use Rattle.std.proofs.lemmas.List.{length-append, drop_at}
 use Rattle.key_spec.specs.Data.{PlainRule}
@@ -14,7 +14,7 @@ use Rattle.xa_fields.proofs.Fields.{some_is}
 use Rattle.xa_outside.specs.Folder.{Files}
 use Rattle.xa_outside.specs.Numbers.{Numbers, PullsAtMost}
 use Rattle.xa_outside.specs.NumberLaws.{PullsAtMost-more, PullsAtMost-trans}
-use Rattle.xa_outside.specs.Taken.{Taken, Takes, TakesNone, Puts}
+use Rattle.xa_outside.specs.Taken.{Taken, Puts}
 use Rattle.xa_outside.specs.TakenLaws.{TakesNone-refl, TakesPrefix-none}
 use Rattle.jsonml_print.specs.Pen.{fresh}
 use Rattle.record_format.specs.Files.{header_bytes, file_records, root_pieces, tail_bytes}

@@ -1,5 +1,5 @@
 -- Printing inner nodes.
-use Rattle.std.proofs.Common.{◌≡◌, ◌≢◌, ℕ, zero, suc, ◌+◌, ◌-◌, ◌*◌, ◌≤◌, ◌<◌, ◌&&◌, ◌||◌, Bool, true, false, not, nat_lt, List, [], ◌∷◌, ◌++◌, length, map, IsTrue, Option, Some, Result, Ok, Err, refl, sym, ap, subst, ◌∙◌, arith}
+use Rattle.std.proofs.Common.{◌≡◌, ℕ, zero, suc, ◌+◌, ◌-◌, ◌*◌, ◌≤◌, ◌&&◌, ◌||◌, Bool, true, false, not, nat_lt, List, length, map, IsTrue, Option, Some, Result, Ok, Err, refl, sym, ap, subst, ◌∙◌, arith}
 use Rattle.std.specs.Result.{IfOk}
 use Rattle.std.specs.List.{AllByRecursion}
 use Rattle.std.proofs.lemmas.Bool.Decides.{nat_tests}
@@ -16,7 +16,7 @@ use Rattle.archive_tree.specs.Read.{read, read_row}
 use Rattle.record_format.specs.Bounds.{IsRec}
 use Rattle.record_format.specs.Data.{inner_rec}
 use Rattle.record_format.specs.Nested.{are_nested}
-use Rattle.record_format.specs.Nodes.{Piece, closed_by_end, inner_piece, set_in, node_piece, node_pieces}
+use Rattle.record_format.specs.Nodes.{Piece, closed_by_end, inner_piece, set_in, node_pieces}
 use Rattle.record_format.specs.Seen.{piece_sets, dir_seen, sets_visits, row_seen, node_steps}
 use Rattle.record_format.specs.Spelling.{rec_bytes}
 use Rattle.record_parts.specs.Bounds.{deepest}

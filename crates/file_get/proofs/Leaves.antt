@@ -1,19 +1,19 @@
 -- Printing leaves.
-use Rattle.std.proofs.Common.{◌≡◌, ℕ, ◌+◌, ◌-◌, ◌≤◌, true, false, List, [], ◌∷◌, ◌++◌, Option, Some, None, Result, Ok, Err, sym, ap, subst, ◌∙◌, arith}
-use Rattle.xa_outside.specs.Causes.{HasCause}
+use Rattle.std.proofs.Common.{◌≡◌, ℕ, ◌+◌, ◌-◌, ◌≤◌, true, false, List, [], Option, Some, None, Result, Ok, Err, sym, ap, subst, ◌∙◌, arith}
+use Rattle.std.specs.Result.{OnOk}
 use Rattle.xa_outside.specs.Folder.{Files}
 use Rattle.xa_outside.specs.Numbers.{Numbers, IsMeter, PullsAtMost}
 use Rattle.xa_outside.specs.Taken.{Taken}
-use Rattle.xa_outside.specs.declared.Failed.{Failed}
 use Rattle.version_set.specs.Members.{members}
-use Rattle.jsonml_tree.specs.Data.{PlainContent}
-use Rattle.jsonml_print.specs.Calls.{Call, content_calls, Prints}
+use Rattle.xa_fields.proofs.Fields.{some_is}
+use Rattle.jsonml_tree.specs.Data.{PlainScalar}
+use Rattle.jsonml_print.specs.Calls.{Call, content_calls}
 use Rattle.jsonml_print.specs.Pen.{Pen}
 use Rattle.key_annotate.specs.Inside.{inside_of}
-use Rattle.keyed_tree.specs.Data.{PlainKey, scalar, inside}
+use Rattle.keyed_tree.specs.Data.{PlainKey, scalar}
 use Rattle.keyed_tree.specs.Plain.{content_of}
 use Rattle.keyed_tree.specs.Proper.{is_content}
-use Rattle.archive_tree.specs.Data.{PlainAlt, PlainNode, leaf_node, eff}
+use Rattle.archive_tree.specs.Data.{PlainAlt, PlainNode, leaf_node}
 use Rattle.archive_tree.specs.Read.{read, body_at}
 use Rattle.record_format.specs.Seen.{alts_seen, node_steps}
 use Rattle.record_format.specs.Data.{leaf_end}
@@ -23,16 +23,24 @@ use Rattle.record_cursor.specs.Faults.{IfDamage}
 use Rattle.record_cursor.specs.Steps as cursor
 use Rattle.record_cursor.specs.declared.fault.CursorFault.{CursorFault}
 use Rattle.file_rows.specs.View.{PlainChild}
-use Rattle.file_get.specs.Told.{of_cursor, Unless}
-use Rattle.file_get.specs.State.{State, state}
+use Rattle.file_get.specs.Told.{of_cursor, fault_of, Unless}
+use Rattle.file_get.specs.LeafBodies.{whole_inside}
+use Rattle.file_get.specs.LentPrinted.{output, whole_calls, PrintsRead}
+use Rattle.file_get.specs.declared.fault.GetFault.{GetFault}
+use Rattle.file_get.specs.State.{State}
 use Rattle.file_get.specs.Walks.{Shows, IsBegun}
 use Rattle.file_get.specs.Inside.{InsidePrinted, NodeOpened, AltsTold, inside_seen}
 use Rattle.file_get.specs.declared.read.Opening.{Opening}
 use Rattle.file_get.specs.declared.fault.GetFault.TheVariants.{Damage}
 use Rattle.file_get.proofs.Opened.{eff-members, alts-told, tag-leaf}
-use Rattle.file_get.proofs.Pens.{content-pass}
+use Rattle.file_get.proofs.Pens.{begun-stands}
+use Rattle.file_get.proofs.LentReadings.{content-read, lent-walks, lent-shows}
 use Rattle.file_get.proofs.States.{walks-then, walks-damage, shows-then}
 use Rattle.file_get.proofs.States as states
+
+-- a scalar is no content
+pub scalar-body : (body : Option PlainKey) (s : PlainScalar) → body ≡ Some (scalar s) → (b : PlainKey) → body ≡ Some b → is_content b ≡ false
+scalar-body body s e b h = ap is_content (sym (some_is (scalar s) b (sym e ∙ h)))
 
 module _ {S K : Type 0} (files : S → Option Files) (draft : S → Option (List ℕ)) (numbers : S → Numbers) (faults : S → ℕ) (taken : K → Taken) (out_faults : K → ℕ) (i : ℕ) (name : List ℕ) (child : PlainChild) (o : Opening) (depth : ℕ) where
   abbrev pub at : S → K → Pen → ℕ → State
@@ -60,44 +68,45 @@ module _ {S K : Type 0} (files : S → Option Files) (draft : S → Option (List
       more : {a b : Numbers} {m : ℕ} → PullsAtMost m a b → PullsAtMost (m + 9) a b
       more h = (let w = h.within in record { count = h.count; within = omega (arith, w); pulled = h.pulled })
 
-  no-content : (s : PlainKey) (b : PlainKey) → is_content s ≡ false → s ≡ b → is_content b ≡ true → ⊥
-  no-content s b lacks e is = let f : false ≡ true = sym lacks ∙ ap is_content e ∙ is in cc
+  no-content : (b : PlainKey) → is_content b ≡ false → is_content b ≡ true → ⊥
+  no-content b lacks is = let f : false ≡ true = sym lacks ∙ is in cc
 
   -- a scalar stands where a content is wanted
-  pub leaf-scalar : (old new : S) (k : K) (p : Pen) (n : ℕ) (s : PlainKey) → o.is_inner ≡ false → is_content s ≡ false → cursor.OnlyReads files draft faults old new None → PullsAtMost (child.end - o.behind) (numbers old) (numbers new)
-      → Tells old new (λ set xs. s ≡ body_at i (members set) xs) → InsidePrinted i name child o depth (at old k p n) (at new k p n) (Some Damage)
-  leaf-scalar old new k p n s leaf lacks h pulls told = record {
+  pub leaf-scalar : (old new : S) (k : K) (p : Pen) (n : ℕ) (body : Option PlainKey) → o.is_inner ≡ false → ((b : PlainKey) → body ≡ Some b → is_content b ≡ false) → cursor.OnlyReads files draft faults old new None → PullsAtMost (child.end - o.behind) (numbers old) (numbers new)
+      → Tells old new (λ set xs. body ≡ Some (body_at i (members set) xs)) → InsidePrinted i name child o depth (at old k p n) (at new k p n) (Some Damage)
+  leaf-scalar old new k p n body leaf lacks h pulls told = record {
     walks = walks-damage (at old k p n) (at new k p n) (child.end - o.behind) (child.end - o.behind) (omega arith) (states.reads files draft numbers faults taken out_faults old new k p n n None (child.end - o.behind) h pulls);
     stands = tt;
     shows = λ bytes end has_item parent j x is. (
         let t = tag-leaf i (files old) name bytes end child o depth has_item parent j x is leaf in
         let x' = subst (NodeOpened i (files old) name bytes end child o depth has_item parent) t.is x in
         let y = told end bytes (rec_bytes leaf_end) (set_in t.stamp parent) t.alts (alts-told i (files old) name bytes end child o depth has_item parent t.label t.stamp t.alts x') in
-        absurd (no-content s (body_at i (members (set_in t.stamp parent)) t.alts) lacks y.0 t.body));
+        absurd (no-content (body_at i (members (set_in t.stamp parent)) t.alts) (lacks (body_at i (members (set_in t.stamp parent)) t.alts) y.0) t.body));
   }
 
-  stands-by : {T : Type 0} (p q : Pen) (c : PlainContent) (r : Result T Failed) → depth ≤ 120 → IsBegun depth p → (x y : Taken) → Prints x y p q (content_calls c) r → Unless (states.out_fault r) (depth + 1 ≤ q.depth)
-  stands-by p q c (Ok u) few begun x y h = subst (λ (r : Pen). depth + 1 ≤ r.depth) (sym h.pen) (let w = content-pass depth p c few begun in w.inside)
-  stands-by p q c (Err e) few begun x y h = tt
+  stands-by : {T : Type 0} (p q : Pen) (r : Result T GetFault) → depth ≤ 120 → IsBegun depth p → OnOk r (p.depth ≤ q.depth) → Unless (fault_of r) (depth + 1 ≤ q.depth)
+  stands-by p q (Ok u) few begun deeper = (let w = begun-stands depth p few begun in let count = w.count in omega (arith, count, deeper))
+  stands-by p q (Err e) few begun deeper = tt
 
-  -- the body was printed
-  pub leaf-printed : {T : Type 0} (old new : S) (a b : K) (p q : Pen) (n : ℕ) (c : PlainContent) (key : PlainKey) (r : Result T Failed) → key ≡ inside c → o.is_inner ≡ false → depth ≤ 120 → IsBegun depth p → IsMeter (numbers new)
-      → cursor.OnlyReads files draft faults old new None → PullsAtMost (child.end - o.behind) (numbers old) (numbers new) → Tells old new (λ set xs. key ≡ body_at i (members set) xs)
-      → Prints (taken a) (taken b) p q (content_calls c) r → HasCause (out_faults a) (out_faults b) r
-      → InsidePrinted i name child o depth (at old a p n) (at new b q n) (states.out_fault r)
-  leaf-printed old new a b p q n c key r is-key leaf few begun meter h pulls told prints cause = (
-      let sent = states.sends files draft numbers faults taken out_faults new a b p q n (content_calls c) r meter prints cause in
+  -- the body was printed out of its bytes
+  pub leaf-printed : {T : Type 0} (old new : S) (a b : K) (p q : Pen) (n : ℕ) (bytes : List ℕ) (body : Option PlainKey) (r : Result T GetFault) → body ≡ whole_inside bytes → o.is_inner ≡ false → depth ≤ 120 → IsBegun depth p → IsMeter (numbers new)
+      → cursor.OnlyReads files draft faults old new None → PullsAtMost (child.end - o.behind) (numbers old) (numbers new) → Tells old new (λ set xs. body ≡ Some (body_at i (members set) xs))
+      → PrintsRead (output taken out_faults a p) (output taken out_faults b q) (λ u. []) (whole_calls bytes) r → OnOk r (p.depth ≤ q.depth)
+      → InsidePrinted i name child o depth (at old a p n) (at new b q n) (fault_of r)
+  leaf-printed old new a b p q n bytes body r is-body leaf few begun meter h pulls told prints deeper = (
       let got = states.reads files draft numbers faults taken out_faults old new a p n n None (child.end - o.behind) h pulls in
       record {
-        walks = walks-then (at old a p n) (at new a p n) (at new b q n) (states.out_fault r) (child.end - o.behind) 0 (child.end - o.behind) (omega arith) got sent.walks;
-        stands = stands-by p q c r few begun (taken a) (taken b) prints;
-        shows = λ bytes end has_item parent j x is. (
-            let t = tag-leaf i (files old) name bytes end child o depth has_item parent j x is leaf in
-            let x' = subst (NodeOpened i (files old) name bytes end child o depth has_item parent) t.is x in
-            let y = told end bytes (rec_bytes leaf_end) (set_in t.stamp parent) t.alts (alts-told i (files old) name bytes end child o depth has_item parent t.label t.stamp t.alts x') in
+        walks = walks-then (at old a p n) (at new a p n) (at new b q n) (fault_of r) (child.end - o.behind) 0 (child.end - o.behind) (omega arith) got (lent-walks files draft numbers faults taken out_faults new a b p q n (whole_calls bytes) r meter prints);
+        stands = stands-by p q r few begun deeper;
+        shows = λ front end has_item parent j x is. (
+            let t = tag-leaf i (files old) name front end child o depth has_item parent j x is leaf in
+            let x' = subst (NodeOpened i (files old) name front end child o depth has_item parent) t.is x in
+            let y = told end front (rec_bytes leaf_end) (set_in t.stamp parent) t.alts (alts-told i (files old) name front end child o depth has_item parent t.label t.stamp t.alts x') in
+            let c = content-read bytes (body_at i (members (set_in t.stamp parent)) t.alts) (sym is-body ∙ y.0) in
             let known = states.shows-read files draft numbers faults taken out_faults old new a p n n (alts_seen i (set_in t.stamp parent) t.alts) 0 (omega arith) y.1 in
-            let both = shows-then (at old a p n) (at new a p n) (at new b q n) (states.out_fault r) [] (content_calls c) (alts_seen i (set_in t.stamp parent) t.alts) 0 (alts_seen i (set_in t.stamp parent) t.alts + 9) 0 0 0 (omega arith) (omega arith) known sent.shows in
-            let same : content_calls c ≡ content_calls (inside_of (read i (members parent) (leaf_node t.label t.stamp t.alts))) = ap (λ (b : PlainKey). content_calls (content_of b)) (sym is-key ∙ y.0 ∙ ap (λ (ns : List ℕ). body_at i ns t.alts) (sym (eff-members t.stamp parent))) in
-            subst (λ (m : PlainNode). Shows (content_calls (inside_of (read i (members parent) m))) (inside_seen i parent m) (node_steps i parent m) (at old a p n) (at new b q n) (states.out_fault r)) (sym t.is)
-            (subst (λ (cs : List Call). Shows cs (alts_seen i (set_in t.stamp parent) t.alts + 9) 0 (at old a p n) (at new b q n) (states.out_fault r)) same both));
+            let sent = lent-shows files draft numbers faults taken out_faults new a b p q n (whole_calls bytes) (content_calls c.0) r meter prints c.1 in
+            let both = shows-then (at old a p n) (at new a p n) (at new b q n) (fault_of r) [] (content_calls c.0) (alts_seen i (set_in t.stamp parent) t.alts) 0 (alts_seen i (set_in t.stamp parent) t.alts + 9) 0 0 0 (omega arith) (omega arith) known sent in
+            let same : content_calls c.0 ≡ content_calls (inside_of (read i (members parent) (leaf_node t.label t.stamp t.alts))) = ap (λ (b : PlainKey). content_calls (content_of b)) (c.2 ∙ ap (λ (ns : List ℕ). body_at i ns t.alts) (sym (eff-members t.stamp parent))) in
+            subst (λ (m : PlainNode). Shows (content_calls (inside_of (read i (members parent) m))) (inside_seen i parent m) (node_steps i parent m) (at old a p n) (at new b q n) (fault_of r)) (sym t.is)
+            (subst (λ (cs : List Call). Shows cs (alts_seen i (set_in t.stamp parent) t.alts + 9) 0 (at old a p n) (at new b q n) (fault_of r)) same both));
       })

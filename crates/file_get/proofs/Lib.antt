@@ -3,6 +3,7 @@ pub mod ReadBytes
 pub mod States
 pub mod Pens
 pub mod Opened
+pub mod LentReadings
 pub mod Leaves
 pub mod Attributes
 pub mod Elements

@@ -1,12 +1,12 @@
 -- What one node of a stored tree says.
-use Rattle.std.proofs.Common.{◌≡◌, ◌≢◌, ℕ, suc, ◌+◌, ◌-◌, ◌*◌, ◌≤◌, ◌<◌, ◌^◌, Bool, true, leb, List, [], ◌∷◌, ◌++◌, length, map, take, drop, Option, Some, None, refl, sym, ap, subst, ◌∙◌, arith, append-nil}
+use Rattle.std.proofs.Common.{◌≡◌, ℕ, suc, ◌+◌, ◌-◌, ◌≤◌, ◌<◌, ◌^◌, Bool, true, leb, List, [], ◌∷◌, ◌++◌, length, map, take, drop, Option, Some, None, refl, sym, ap, subst, ◌∙◌, arith, append-nil}
 use Rattle.std.specs.List.{AllByRecursion}
 use Rattle.std.proofs.lemmas.List.{length-append, length-take, length-drop}
 use Rattle.version_set.specs.Members.{members, has}
 use Rattle.archive_tree.specs.Data.{PlainNode}
-use Rattle.timestamp_tree.specs.Bytes.{set_bytes, stored, tree_bytes}
+use Rattle.timestamp_tree.specs.Bytes.{stored, tree_bytes}
 use Rattle.timestamp_tree.specs.Data.{PlainTs, leaf, node, top}
-use Rattle.timestamp_tree.specs.Tree.{half, joined, tree_of, IsTree}
+use Rattle.timestamp_tree.specs.Tree.{half, joined, IsTree}
 use Rattle.timestamp_tree.proofs.Trees.{leaves-tree_of, IsTree-tree_of, length-leaf, length-node, length-set_bytes}
 use Rattle.std.specs.FinMap as map'
 use Rattle.std.proofs.lemmas.List.{drop-take, take-take}
@@ -28,7 +28,6 @@ use Rattle.file_get.specs.Kids.{set_of, has_at}
 use Rattle.file_get.specs.Stands.{SpanIs}
 use Rattle.file_get.specs.Looked.{own_bytes, left_bytes, left_of, right_of, NodeOf, tree_over, LookTold, PartsAre}
 use Rattle.timestamp_tree.specs.declared.probe.Probe.{Probe}
-use Rattle.file_get.specs.declared.look.Sight.TheVariants.{Parts}
 use Rattle.file_get.specs.declared.span.Span.{Span}
 use Rattle.file_get.proofs.Spans.{nodes-split, canonical-of, top-filled}
 

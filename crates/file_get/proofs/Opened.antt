@@ -1,14 +1,14 @@
 -- Nodes whose opening record was read.
-use Rattle.std.proofs.Common.{◌≡◌, ℕ, ◌+◌, ◌-◌, ◌≤◌, ◌&&◌, ◌||◌, Bool, true, false, not, nat_lt, List, [], ◌∷◌, ◌++◌, length, map, IsTrue, Option, Some, None, refl, sym, ap, subst, ◌∙◌, arith}
+use Rattle.std.proofs.Common.{◌≡◌, ℕ, ◌+◌, ◌&&◌, ◌||◌, Bool, true, false, not, nat_lt, List, [], ◌∷◌, ◌++◌, length, map, IsTrue, Option, Some, None, refl, sym, ap, subst, ◌∙◌, arith}
 use Rattle.std.specs.List.{flat_map}
 use Rattle.std.proofs.lemmas.Grind.{flat_map-append}
 use Rattle.std.proofs.lemmas.List.{length-append, append-nil}
-use Rattle.version_set.specs.Members.{members, has}
-use Rattle.keyed_tree.specs.Data.{PlainName, attr, tag, PlainLabel, PlainKey, scalar, inside, inner, leaf}
+use Rattle.version_set.specs.Members.{members}
+use Rattle.keyed_tree.specs.Data.{PlainName, attr, tag, PlainLabel, PlainKey}
 use Rattle.keyed_tree.specs.Proper.{is_tag, is_scalar, is_content}
 use Rattle.record_parts.specs.Shown.{shown_name}
 use Rattle.archive_tree.specs.Data.{Stamp, eff, PlainAlt, PlainNode, inner_node, leaf_node, node_label}
-use Rattle.archive_tree.specs.Read.{read, read_row, body_at}
+use Rattle.archive_tree.specs.Read.{read_row, body_at}
 use Rattle.record_format.specs.Bounds.{IsRec}
 use Rattle.record_format.specs.Data.{PlainRec, leaf_rec, leaf_end}
 use Rattle.record_format.specs.Nodes.{alt_of, set_in}
@@ -19,7 +19,7 @@ use Rattle.file_rows.specs.StandsAt.{StandsAt}
 use Rattle.file_rows.specs.View.{PlainChild}
 use Rattle.file_rows.proofs.Parts.{stands-back}
 use Rattle.file_get.specs.Kids.{leaf_fits, row_fits}
-use Rattle.file_get.specs.Inside.{AltsTold, NodeOpened, is_inner}
+use Rattle.file_get.specs.Inside.{AltsTold, NodeOpened}
 use Rattle.file_get.specs.declared.read.Opening.{Opening}
 
 -- the effective set as numbers

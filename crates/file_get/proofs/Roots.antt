@@ -1,5 +1,5 @@
 -- Printing what a version has at the virtual root.
-use Rattle.std.proofs.Common.{◌≡◌, ℕ, ◌+◌, ◌-◌, ◌*◌, ◌≤◌, ◌&&◌, ◌||◌, Bool, true, false, nat_lt, List, [], ◌∷◌, ◌++◌, length, map, IsTrue, Option, Some, None, Result, Ok, Err, refl, sym, ap, subst, ◌∙◌, arith, append-nil}
+use Rattle.std.proofs.Common.{◌≡◌, ℕ, ◌+◌, ◌-◌, ◌*◌, ◌≤◌, ◌&&◌, Bool, true, false, nat_lt, List, [], ◌∷◌, length, map, IsTrue, Option, Some, None, Result, Ok, Err, refl, sym, ap, subst, ◌∙◌, arith, append-nil}
 use Rattle.std.specs.List.{AllByRecursion}
 use Rattle.std.specs.Result.{IfOk}
 use Rattle.xa_fields.specs.Spelling.{u64_bytes}
@@ -13,7 +13,7 @@ use Rattle.jsonml_print.specs.Pen.{Pen, fresh}
 use Rattle.keyed_tree.specs.Data.{PlainKeyed, inner, leaf, label_of}
 use Rattle.keyed_tree.specs.Plain.{plain}
 use Rattle.keyed_tree.specs.Proper.{IsElement, is_tag}
-use Rattle.archive_tree.specs.Data.{PlainArchive, PlainNode, PlainNodes, nodes_list}
+use Rattle.archive_tree.specs.Data.{PlainArchive, PlainNodes, nodes_list}
 use Rattle.record_format.specs.Bounds.{IsRec}
 use Rattle.record_format.specs.Files.{root_pieces}
 use Rattle.record_format.specs.Nested.{are_nested}

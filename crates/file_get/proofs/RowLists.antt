@@ -1,12 +1,12 @@
 -- Rows of nodes as lists: their sets, what a version has among them, and what a search takes.
-use Rattle.std.proofs.Common.{◌≡◌, ℕ, ◌+◌, ◌*◌, ◌≤◌, ◌&&◌, ◌||◌, Bool, true, false, not, List, [], ◌∷◌, ◌++◌, length, map, IsTrue, refl, sym, ap, subst, ◌∙◌, arith, append_assoc, if◌then◌else◌}
+use Rattle.std.proofs.Common.{◌≡◌, ℕ, ◌+◌, ◌*◌, ◌&&◌, ◌||◌, Bool, true, false, not, List, [], ◌∷◌, ◌++◌, length, map, IsTrue, refl, sym, ap, subst, ◌∙◌, arith, append_assoc, if◌then◌else◌}
 use Rattle.version_set.specs.Members.{members, has}
 use Rattle.jsonml_tree.specs.Data.{PlainAttr, PlainTrees}
 use Rattle.jsonml_print.specs.Calls.{Call, attribute, calls_of, items_calls}
 use Rattle.keyed_tree.specs.Data.{PlainName, attr, tag, PlainKey, scalar, inside, PlainKeyed, inner, leaf, PlainKids, no_kids, kid, kids_list, label_of}
 use Rattle.keyed_tree.specs.Plain.{plain, attrs_among, attr_before, attr_onto, items_among, item_onto}
 use Rattle.keyed_tree.specs.Proper.{is_tag}
-use Rattle.archive_tree.specs.Data.{eff, PlainNode, inner_node, leaf_node, PlainNodes, no_nodes, node, nodes_from, nodes_list, node_stamp}
+use Rattle.archive_tree.specs.Data.{PlainNode, inner_node, leaf_node, PlainNodes, no_nodes, node, nodes_from, nodes_list, node_stamp}
 use Rattle.archive_tree.specs.Read.{read, read_row}
 use Rattle.timestamp_tree.specs.Search.{answers, answers_from}
 use Rattle.record_format.specs.Nodes.{node_piece, node_pieces}

@@ -1,5 +1,5 @@
 -- Printing rows.
-use Rattle.std.proofs.Common.{◌≡◌, ℕ, suc, ◌+◌, ◌-◌, ◌*◌, ◌≤◌, ◌<◌, Bool, false, List, [], ◌∷◌, ◌++◌, length, map, Option, Some, None, Result, Ok, Err, refl, sym, ap, subst, ◌∙◌, arith, append-nil, append_assoc}
+use Rattle.std.proofs.Common.{◌≡◌, ℕ, suc, ◌+◌, ◌-◌, ◌*◌, ◌≤◌, Bool, false, List, [], ◌∷◌, ◌++◌, length, map, Option, Some, None, Result, Ok, Err, refl, sym, ap, subst, ◌∙◌, arith, append-nil, append_assoc}
 use Rattle.std.specs.Result.{IfOk}
 use Rattle.std.specs.List.{flat_map}
 use Rattle.std.proofs.lemmas.List.{length-append}
@@ -30,12 +30,11 @@ use Rattle.file_get.specs.State.{State}
 use Rattle.file_get.specs.Kids.{set_of, kids_in, kids_calls, item_behind, nodes_seen, nodes_steps, sets_seen, sets_steps}
 use Rattle.file_get.specs.Walks.{Walks, Shows, StandsIn}
 use Rattle.file_get.specs.Stands.{RowIs, VisitIs}
-use Rattle.file_get.specs.Visits.{reach, may_pull, Reaches, EndsAt, Visited}
+use Rattle.file_get.specs.Visits.{may_pull, Reaches, EndsAt, Visited}
 use Rattle.file_get.specs.Printed.{RowTold, RowPrinted}
 use Rattle.file_get.specs.declared.span.Span.{Span}
 use Rattle.file_get.specs.declared.span.Place.{Place}
 use Rattle.file_get.specs.declared.fault.GetFault.{GetFault}
-use Rattle.file_get.specs.declared.fault.GetFault.TheVariants.{Damage}
 use Rattle.file_get.proofs.Spans.{dir-is, rows-sets}
 use Rattle.file_get.proofs.States.{walks-then, walks-more, shows-then}
 use Rattle.file_get.proofs.States as states

@@ -1,5 +1,5 @@
 -- Parts of rows: their nodes, and the trees over their sets.
-use Rattle.std.proofs.Common.{◌≡◌, ℕ, zero, suc, ◌+◌, ◌-◌, ◌*◌, ◌≤◌, ◌<◌, ◌&&◌, ◌||◌, Bool, true, false, not, List, [], ◌∷◌, ◌++◌, length, map, take, drop, IsTrue, Some, None, ◌==◌, refl, sym, ap, subst, ◌∙◌, arith, if◌then◌else◌}
+use Rattle.std.proofs.Common.{◌≡◌, ℕ, zero, suc, ◌+◌, ◌≤◌, ◌<◌, ◌&&◌, ◌||◌, Bool, true, false, not, List, [], ◌∷◌, ◌++◌, length, map, take, drop, IsTrue, Some, None, ◌==◌, refl, sym, ap, subst, ◌∙◌, arith, if◌then◌else◌}
 use Rattle.std.specs.List.{flat_map, slice_get, AllByRecursion}
 use Rattle.std.proofs.lemmas.List.{map-append, length-take, length-drop}
 use Rattle.std.proofs.lemmas.Bool.Decides.{nat_tests}
@@ -11,9 +11,9 @@ use Rattle.keyed_tree.specs.Proper.{is_tag}
 use Rattle.archive_tree.specs.Data.{Stamp, PlainNode, inner_node, leaf_node, nodes_from}
 use Rattle.archive_tree.specs.Read.{read}
 use Rattle.timestamp_tree.specs.Bytes.{stored}
-use Rattle.timestamp_tree.specs.Data.{PlainTs, leaf, node, top, leaves}
+use Rattle.timestamp_tree.specs.Data.{PlainTs, leaf, node, top}
 use Rattle.timestamp_tree.specs.Search.{visits, visited_bytes}
-use Rattle.timestamp_tree.specs.Tree.{half, joined, tree_of, IsTree}
+use Rattle.timestamp_tree.specs.Tree.{half, joined, tree_of}
 use Rattle.timestamp_tree.proofs.Trees.{some_has, top_has, tree_is, joined_tree, leaves-tree_of, IsTree-tree_of}
 use Rattle.record_parts.specs.Bounds.{IsSet, IsStamp}
 use Rattle.record_format.specs.Bounds.{IsRec, IsDir}

@@ -1,5 +1,5 @@
 -- Searching parts of rows.
-use Rattle.std.proofs.Common.{◌≡◌, ℕ, zero, suc, ◌+◌, ◌-◌, ◌*◌, ◌≤◌, ◌<◌, ◌&&◌, ◌||◌, Bool, true, false, nat_lt, List, [], ◌∷◌, ◌++◌, length, map, take, drop, IsTrue, Option, Some, None, Result, Ok, Err, refl, sym, ap, subst, ◌∙◌, arith, append_assoc}
+use Rattle.std.proofs.Common.{◌≡◌, ℕ, zero, suc, ◌+◌, ◌-◌, ◌*◌, ◌≤◌, ◌<◌, Bool, true, false, nat_lt, List, [], ◌∷◌, ◌++◌, length, map, take, drop, IsTrue, Option, Some, None, Result, Ok, Err, refl, sym, ap, subst, ◌∙◌, arith, append_assoc}
 use Rattle.std.specs.Result.{IfOk}
 use Rattle.std.specs.List.{flat_map, AllByRecursion}
 use Rattle.std.proofs.lemmas.List.{length-append, take-append-drop}
@@ -32,7 +32,7 @@ use Rattle.file_get.specs.Visits.{reach, may_pull, Reaches, EndsAt, Visited}
 use Rattle.file_get.specs.Printed.{ChildPrinted}
 use Rattle.file_get.specs.declared.span.Span.{Span}
 use Rattle.file_get.specs.declared.span.Place.{Place}
-use Rattle.file_get.specs.declared.look.Sight.TheVariants.{Child, Parts}
+use Rattle.file_get.specs.declared.look.Sight.TheVariants.{Parts}
 use Rattle.file_get.specs.declared.fault.GetFault.{GetFault}
 use Rattle.file_get.proofs.Spans.{dir-is, rows-filled, rows-sets, part-sets, kids-append, item-append, fit-front, fit-back, find-front, find-back, seen-append, steps-append, nodes-split, lacks-none, own-visited, some-visits, joined-visited, joined-visits}
 use Rattle.file_get.proofs.States.{walks-then, walks-more, shows-then, shows-fault}

@@ -1,8 +1,8 @@
 -- What stands inside a node.
-use Rattle.std.specs.Prelude.{◌≡◌, ◌≢◌, ℕ, ◌+◌, ◌-◌, ◌≤◌, List, [], ◌∷◌, ◌++◌, length, map, Bool, true, false, not, ◌||◌, ◌==◌, if◌then◌else◌, Result, IfOk, Option, is_some, ⊤}
+use Rattle.std.specs.Prelude.{◌≡◌, ℕ, ◌+◌, ◌-◌, ◌≤◌, List, [], ◌∷◌, ◌++◌, length, map, Bool, true, false, not, ◌||◌, ◌==◌, if◌then◌else◌, Result, IfOk, Option, is_some}
 use Rattle.std.specs.List.{flat_map, AllByRecursion}
 use Rattle.version_set.specs.Members.{members, has}
-use Rattle.jsonml_print.specs.Calls.{end, content_calls}
+use Rattle.jsonml_print.specs.Calls.{content_calls}
 use Rattle.key_annotate.specs.Inside.{inside_of}
 use Rattle.record_parts.specs.Shown.{shown_name}
 use Rattle.archive_tree.specs.Data.{Stamp, PlainAlt, PlainNode, inner_node, leaf_node, node_label}

@@ -7,6 +7,7 @@ pub mod Visits
 pub mod Printed
 pub mod Fixed
 pub mod Inside
+pub mod LentPrinted
 pub mod LeafBodies
 pub mod Looked
 pub mod Roots

@@ -1,5 +1,5 @@
 -- What the printing of nodes shows.
-use Rattle.std.specs.Prelude.{◌≡◌, ℕ, ◌+◌, ◌-◌, ◌≤◌, List, [], ◌∷◌, ◌++◌, nat_lt, Bool, false, true, ◌||◌, IsTrue, Option, Result, IfOk}
+use Rattle.std.specs.Prelude.{◌≡◌, ℕ, ◌+◌, ◌-◌, List, [], ◌∷◌, nat_lt, Bool, false, true, ◌||◌, IsTrue, Option, Result, IfOk}
 use Rattle.xa_outside.specs.Folder.{Files}
 use Rattle.keyed_tree.specs.Proper.{is_tag}
 use Rattle.archive_tree.specs.Data.{PlainNode, node_label}

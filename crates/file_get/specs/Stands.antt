@@ -1,5 +1,5 @@
 -- Where the nodes of an archive stand in its file.
-use Rattle.std.specs.Prelude.{◌≡◌, ℕ, ◌+◌, ◌-◌, ◌≤◌, List, [], ◌++◌, length, map, Bool, true, IsTrue, nat_lt, Option}
+use Rattle.std.specs.Prelude.{◌≡◌, ℕ, ◌+◌, ◌-◌, ◌≤◌, List, ◌++◌, length, map, Bool, true, IsTrue, nat_lt, Option}
 use Rattle.std.specs.List.{AllByRecursion}
 use Rattle.xa_outside.specs.Folder.{Files}
 use Rattle.timestamp_tree.specs.Bytes.{tree_bytes}

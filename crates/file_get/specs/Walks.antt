@@ -1,5 +1,5 @@
 -- What a part of the printing does.
-use Rattle.std.specs.Prelude.{◌≡◌, ℕ, ◌+◌, ◌≤◌, List, Bool, true, false, ◌&&◌, nat_lt, Option, Some, None}
+use Rattle.std.specs.Prelude.{◌≡◌, ℕ, ◌+◌, ◌≤◌, List, Bool, true, false, nat_lt, Option, Some, None}
 use Rattle.xa_outside.specs.Numbers.{PullsAtMost}
 use Rattle.xa_outside.specs.Taken.{Taken, Takes, TakesPrefix}
 use Rattle.jsonml_print.specs.Pen.{Pen, is_item, one_more, takes_attribute}

@@ -55,7 +55,7 @@ pub(crate) fn read_body<'a, F: Folder>(
     ensures told { (last : ℕ) (bytes more : List ℕ) (set : List (ℕ × ℕ)) (xs : List PlainAlt)
         → AltsTold ask.entry.version (F.files folder.old) ask.entry.name.now bytes last at end
         set xs more
-        → Filled result (λ b. body_view b ≡ body_at ask.entry.version (members set) xs)
+        → Filled result (λ b. body_view b ≡ Some (body_at ask.entry.version (members set) xs))
         × PullsAtMost (alts_seen ask.entry.version set xs)
         (F.numbers folder.old) (F.numbers folder.new) }
 {
@@ -281,10 +281,10 @@ fn read_value<'a, F: Folder>(
     ensures told { (last : ℕ) (bytes : List ℕ) (b : PlainKey)
         → TellsFront (F.files folder.old) ask.entry.name.now last bytes → end ≤ last
         → StandsAt bytes at (value_bytes b) → end ≡ at + length (value_bytes b) → IsValue b
-        → Filled result (λ v. body_view v ≡ b) }
+        → Filled result (λ v. body_view v ≡ Some b) }
 {
     match room.fill(folder, ask.name, at, (end - at) as usize) {
-        Ok(()) => body_of(ask.alloc, room.as_slice()),
+        Ok(()) => body_of(room.as_slice()).ok_or(CursorFault::Damage),
         Err(fault) => Err(fault),
     }
 }

@@ -11,11 +11,12 @@ ghost use Rattle.file_get.specs.Inside.{InsidePrinted, OpenedPrinted};
 use crate::body::read_body;
 use crate::bytes::Bytes;
 use crate::fault::GetFault;
+use crate::lent_content::{print_lent_attr, print_lent_content};
 use crate::read::Opening;
 use crate::span::{Ask, Place};
 use crate::value::Body;
 use file_rows::Child;
-use jsonml_text::{Printer, print_content};
+use jsonml_text::Printer;
 use xa_outside::{Folder, Sink};
 
 /// Prints the body of a leaf as the content of the element that was begun for it.
@@ -40,14 +41,7 @@ pub(crate) fn print_leaf<F: Folder, K: Sink>(
 {
     let mut room = Bytes::new(ask.alloc);
     match read_body(ask, folder, opening.behind, child.end, &mut room) {
-        Ok(Body::Text(text)) => {
-            printer.text(sink, text)?;
-            Ok(())
-        }
-        Ok(Body::Content(content)) => {
-            print_content(&content, printer, sink)?;
-            Ok(())
-        }
+        Ok(Body::Content(bytes)) => print_lent_content(bytes, printer, sink),
         Ok(Body::Scalar(_)) => Err(GetFault::Damage),
         Err(fault) => Err(GetFault::from(fault)),
     }
@@ -80,10 +74,9 @@ pub(crate) fn print_attribute<F: Folder, K: Sink>(
     let mut room = Bytes::new(ask.alloc);
     match read_body(ask, folder, opening.behind, child.end, &mut room) {
         Ok(Body::Scalar(value)) => {
-            printer.attr(sink, name, &value)?;
+            print_lent_attr(name, value, printer, sink)?;
             Ok(false)
         }
-        Ok(Body::Text(_)) => Err(GetFault::Damage),
         Ok(Body::Content(_)) => Err(GetFault::Damage),
         Err(fault) => Err(GetFault::from(fault)),
     }

@@ -1,4 +1,4 @@
-use Rattle.std.proofs.Common.{rules, ◌≡◌, ◌+◌, ◌-◌, arith}
+use Rattle.std.proofs.Common.{rules, Some, ◌≡◌, ◌+◌, ◌-◌, arith}
 use Rattle.xa_outside.specs.NumberLaws.{PullsAtMost-none, PullsAtMost-more, PullsAtMost-of, PullsAtMost-trans}
 use Rattle.keyed_tree.specs.Data.{PlainKey}
 use Rattle.file_get.specs.LeafBodies.{body_view}
@@ -80,4 +80,4 @@ returns-then-alternative-clause-told g c = λ last bytes more set xs h. (
     let w = read.within in
     let only = read.reads in
     found a.ask.version (g.F.Folder.files l.folder) a.ask.name.now bytes last l.at a.end set xs more (n a.folder.now) (n l.folder) (n c.read_alternative.new.folder)
-    f (g.F.Folder.files c.read_alternative.new.folder) (n c.read_value.new.folder) (λ (b : PlainKey). Filled c.read_value.result (λ v. body_view v ≡ b)) only.same_files (l.invariant.told last bytes more set xs h) read.told c.if-alternative.true w.2 c.read_value.ensures.told c.read_value.ensures.pulls)
+    f (g.F.Folder.files c.read_alternative.new.folder) (n c.read_value.new.folder) (λ (b : PlainKey). Filled c.read_value.result (λ v. body_view v ≡ Some b)) only.same_files (l.invariant.told last bytes more set xs h) read.told c.if-alternative.true w.2 c.read_value.ensures.told c.read_value.ensures.pulls)

@@ -1,4 +1,3 @@
-use Rattle.std.proofs.Common.{◌∙◌}
 use Rattle.file_get.proofs.Bodies.{pairs-taken}
 use Rattle.file_get.proofs.body.read_pairs.Goals as goal
 

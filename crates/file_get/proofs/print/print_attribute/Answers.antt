@@ -1,15 +1,14 @@
 use Rattle.std.proofs.Common.{◌≡◌, ℕ, Bool, nat_lt, true, false, ap, Err, Ok, sym, subst, arith}
 use Rattle.std.proofs.lemmas.Bool.Decides.{nat_tests}
-use Rattle.jsonml_tree.specs.View.{scalar_view}
+use Rattle.jsonml_tree.specs.LentAttrs.{lent_scalar_view}
 use Rattle.file_get.specs.LeafBodies.{body_view}
-use Rattle.keyed_tree.specs.Proper.{is_scalar}
 use Rattle.file_rows.specs.View.{child_view}
 use Rattle.file_get.specs.declared.fault.GetFault.{GetFault}
 use Rattle.file_get.specs.State.{state}
 use Rattle.file_get.specs.Inside.{OpenedPrinted}
 use Rattle.file_get.specs.declared.fault.GetFault.TheVariants.{Out}
 use Rattle.file_get.proofs.Handed.{at-err}
-use Rattle.file_get.proofs.Attributes.{attr-refused, attr-unread, attr-content, attr-printed-at}
+use Rattle.file_get.proofs.Attributes.{attr-refused, attr-unread, attr-content, attr-printed-at, content-body}
 use Rattle.file_get.proofs.print.print_attribute.Goals.{then-opening-via-then-opening, then-opening-via-else-opening+then-place-eq0, then-opening-via-else-opening+else-place-eq0+then-place}
 use Rattle.file_get.proofs.print.print_attribute.Goals as goal
 
@@ -34,20 +33,20 @@ returns-then-opening g c = λ steps. (
       | then-opening-via-else-opening+else-place-eq0+then-place w ↦ differ _ w.if-place.true first
     ]))
 
-pub returns-in_err-attr-in-Ok-Scalar : goal.returns-in_err-attr-in-Ok-Scalar
-returns-in_err-attr-in-Ok-Scalar g c = λ steps. (
+pub returns-in_err-print_lent_attr-in-Ok-Scalar : goal.returns-in_err-print_lent_attr-in-Ok-Scalar
+returns-in_err-print_lent_attr-in-Ok-Scalar g c = λ steps. (
     let f = g.F.Folder in
     let k = g.K.Sink in
     let a = c.args in
     let b = c.in-Ok-Scalar in
     let got = b.ensures in
-    let e = c.in_err-attr-in-Ok-Scalar in
+    let e = c.in_err-print_lent_attr-in-Ok-Scalar in
     let out = e.ensures in
     let s = state f.files f.draft f.numbers f.faults k.taken k.faults a.folder.now a.sink.now a.printer.now steps in
-    let t = state f.files f.draft f.numbers f.faults k.taken k.faults c.read_body.new.folder c.attr.new.sink c.attr.new.self steps in
+    let t = state f.files f.draft f.numbers f.faults k.taken k.faults c.read_body.new.folder c.print_lent_attr.new.sink c.print_lent_attr.new.printer steps in
     at-err c.from_residual.result Out c.from_residual.ensures.1 (λ r. OpenedPrinted a.ask.version a.ask.name.now (child_view a.child) a.opening.now a.place.depth a.place.has_item s t r)
-    (attr-printed-at f.files f.draft f.numbers f.faults k.taken k.faults a.ask.version a.ask.name.now (child_view a.child) a.opening.now a.place.depth a.name.now a.folder.now c.read_body.new.folder a.sink.now c.attr.new.sink a.printer.now c.attr.new.self steps
-    a.place.has_item c.if-place.false (scalar_view b.value) (body_view b.field-0) (Err e.field-0.0) (ap body_view b.field-0-is) c.requires.name c.requires.stands (g.met.F.Folder.metered c.read_body.new.folder) got.reads got.pulls got.told out.prints out.cause))
+    (attr-printed-at f.files f.draft f.numbers f.faults k.taken k.faults a.ask.version a.ask.name.now (child_view a.child) a.opening.now a.place.depth a.name.now a.folder.now c.read_body.new.folder a.sink.now c.print_lent_attr.new.sink a.printer.now c.print_lent_attr.new.printer steps
+    a.place.has_item c.if-place.false (lent_scalar_view b.value) (body_view b.field-0) (Err e.field-0.0) (ap body_view b.field-0-is) c.requires.name c.requires.stands (g.met.F.Folder.metered c.read_body.new.folder) got.reads got.pulls got.told out.prints out.cause))
 
 pub returns-in-Ok-Scalar : goal.returns-in-Ok-Scalar
 returns-in-Ok-Scalar g c = λ steps. (
@@ -56,20 +55,10 @@ returns-in-Ok-Scalar g c = λ steps. (
     let a = c.args in
     let b = c.in-Ok-Scalar in
     let got = b.ensures in
-    let e = c.in_ok-attr-in-Ok-Scalar in
+    let e = c.in_ok-print_lent_attr-in-Ok-Scalar in
     let out = e.ensures in
-    attr-printed-at f.files f.draft f.numbers f.faults k.taken k.faults a.ask.version a.ask.name.now (child_view a.child) a.opening.now a.place.depth a.name.now a.folder.now c.read_body.new.folder a.sink.now c.attr.new.sink a.printer.now c.attr.new.self steps
-    a.place.has_item c.if-place.false (scalar_view b.value) (body_view b.field-0) (Ok e.field-0) (ap body_view b.field-0-is) c.requires.name c.requires.stands (g.met.F.Folder.metered c.read_body.new.folder) got.reads got.pulls got.told out.prints out.cause)
-
-pub returns-in-Ok-Text : goal.returns-in-Ok-Text
-returns-in-Ok-Text g c = λ steps. (
-    let f = g.F.Folder in
-    let k = g.K.Sink in
-    let a = c.args in
-    let b = c.in-Ok-Text in
-    let got = b.ensures in
-    attr-content f.files f.draft f.numbers f.faults k.taken k.faults a.ask.version a.ask.name.now (child_view a.child) a.opening.now a.place.depth a.name.now a.folder.now c.read_body.new.folder a.sink.now a.printer.now steps a.place.has_item
-    (body_view b.field-0) c.requires.name (ap (λ b. is_scalar (body_view b)) b.field-0-is) got.reads got.pulls got.told)
+    attr-printed-at f.files f.draft f.numbers f.faults k.taken k.faults a.ask.version a.ask.name.now (child_view a.child) a.opening.now a.place.depth a.name.now a.folder.now c.read_body.new.folder a.sink.now c.print_lent_attr.new.sink a.printer.now c.print_lent_attr.new.printer steps
+    a.place.has_item c.if-place.false (lent_scalar_view b.value) (body_view b.field-0) (Ok e.field-0) (ap body_view b.field-0-is) c.requires.name c.requires.stands (g.met.F.Folder.metered c.read_body.new.folder) got.reads got.pulls got.told out.prints out.cause)
 
 pub returns-in-Ok-Content : goal.returns-in-Ok-Content
 returns-in-Ok-Content g c = λ steps. (
@@ -79,7 +68,7 @@ returns-in-Ok-Content g c = λ steps. (
     let b = c.in-Ok-Content in
     let got = b.ensures in
     attr-content f.files f.draft f.numbers f.faults k.taken k.faults a.ask.version a.ask.name.now (child_view a.child) a.opening.now a.place.depth a.name.now a.folder.now c.read_body.new.folder a.sink.now a.printer.now steps a.place.has_item
-    (body_view b.field-0) c.requires.name (ap (λ b. is_scalar (body_view b)) b.field-0-is) got.reads got.pulls got.told)
+    (body_view b.field-0) c.requires.name (content-body (body_view b.field-0) _ (ap body_view b.field-0-is)) got.reads got.pulls got.told)
 
 pub returns : goal.returns
 returns g c = λ steps. (

@@ -1,4 +1,4 @@
-use Rattle.std.proofs.Common.{◌≤◌, arith}
+use Rattle.std.proofs.Common.{arith}
 use Rattle.xa_outside.specs.NumberLaws.{PullsAtMost-more}
 use Rattle.jsonml_print.specs.Pen.{fresh}
 use Rattle.file_get.specs.Told.{fault_of, of_cursor}
