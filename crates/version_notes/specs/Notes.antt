@@ -4,9 +4,13 @@ use Rattle.std.specs.List.{flat_map, list_all, AllByRecursion}
 use Rattle.xa_fields.specs.Spelling.{text_bytes, u64_bytes, IsText}
 use Rattle.xa_fields.specs.Reading.{Reader, text_at, only_at}
 
+-- no byte is below 20 hexadecimal
+abbrev pub is_printed : List ℕ → Bool
+is_printed text = list_all (λ byte. nat_le 32 byte) text
+
 -- at most 1,024 bytes, none of them below 20 hexadecimal
 abbrev pub is_note : List ℕ → Bool
-is_note text = nat_le (length text) 1024 && list_all (λ byte. nat_le 32 byte) text
+is_note text = nat_le (length text) 1024 && is_printed text
 
 abbrev pub IsNote : List ℕ → Type 0
 IsNote note = IsText note × IsTrue (is_note note)

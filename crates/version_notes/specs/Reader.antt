@@ -1,5 +1,5 @@
 -- A reader of notes, and what comes next.
-use Rattle.std.specs.Prelude.{◌≡◌, ◌<◌, ⊤, ℕ, zero, suc, ◌+◌, ◌-◌, ◌&&◌, ◌||◌, ◌==◌, min, not, Bool, false, List, [], length, take, drop, Option, Some, None, option_map, Result, Ok, Err, String, string_bytes, if◌then◌else◌}
+use Rattle.std.specs.Prelude.{◌≡◌, ◌<◌, ◌≤◌, ◌⊎◌, ⊤, ℕ, zero, suc, ◌+◌, ◌-◌, ◌&&◌, ◌||◌, ◌==◌, min, not, Bool, false, List, [], length, take, drop, Option, Some, None, option_map, Result, Ok, Err, String, string_bytes, if◌then◌else◌}
 use Rattle.std.specs.Global.{Global}
 use Rattle.std.specs.Int.{w32}
 use Rattle.std.specs.FinMap as map
@@ -113,7 +113,12 @@ abbrev pub TellsNote : List ℕ → Result (String Global) NotesFault → Type 0
 TellsNote piece (Ok note) = note_at piece ≡ Some (string_bytes note, drop (4 + length (string_bytes note)) piece)
 TellsNote piece (Err e) = IfDamage e (note_at piece ≡ None)
 
--- the bytes are those of a note
+-- the note of these bytes
 abbrev pub TellsText : List ℕ → Result (String Global) NotesFault → Type 0
 TellsText bytes (Ok note) = (string_bytes note ≡ bytes) × IsNote bytes
 TellsText bytes (Err e) = IfDamage e (¬ IsNote bytes)
+
+-- the note of so many bytes at the front of the piece
+abbrev pub TellsFront : ℕ → List ℕ → Result (String Global) NotesFault → Type 0
+TellsFront n piece (Ok note) = (string_bytes note ≡ take n piece) × (n ≤ length piece)
+TellsFront n piece (Err e) = IfDamage e ((length piece < n) ⊎ ¬ IsNote (take n piece))

@@ -4,7 +4,7 @@ ghost use Rattle.xa_outside.specs.Folder.{Files};
 ghost use Rattle.xa_outside.specs.Numbers.{PullsAtMost, after_pull};
 ghost use Rattle.version_notes.specs.Faults.{IfFolder, OnlyReads, fault_of};
 ghost use Rattle.version_notes.specs.Notes.{IsNote, note_at};
-ghost use Rattle.version_notes.specs.Reader.{TellsBytes, TellsNote, TellsSize, TellsText, file_of, left_of};
+ghost use Rattle.version_notes.specs.Reader.{TellsBytes, TellsFront, TellsNote, TellsSize, TellsText, file_of, left_of};
 
 use crate::fault::NotesFault;
 use crate::place::Place;
@@ -102,7 +102,7 @@ fn read_text<F: Folder>(
         ≡ after_pull (F.numbers folder.old) size) }
     ensures pulls { PullsAtMost size (F.numbers folder.old) (F.numbers folder.new) }
     ensures told { (files : Files) (end : ℕ) → F.files folder.old ≡ Some files → at + size ≤ end
-        → TellsText (take size (drop at (take end (file_of files name.now)))) result }
+        → TellsFront size (drop at (take end (file_of files name.now))) result }
 {
     let mut bytes = Vec::new(alloc);
     if bytes.resize(size as usize, 0).is_err() {
@@ -119,9 +119,13 @@ fn note_of(bytes: Vec<u8>) -> Result<String, NotesFault>
     ensures cause { IfErr result (λ e. IfFolder e ⊥) }
     ensures told { TellsText bytes.items result }
 {
-    match String::from_utf8(bytes) {
-        Ok(text) if is_note(&text) => Ok(text),
-        _ => Err(NotesFault::Damage),
+    let Ok(text) = String::from_utf8(bytes) else {
+        return Err(NotesFault::Damage);
+    };
+    if is_note(&text) {
+        Ok(text)
+    } else {
+        Err(NotesFault::Damage)
     }
 }
 

@@ -1,6 +1,6 @@
 // Which texts are notes.
 ghost use Rattle.std.specs.Prelude.{◌≡◌};
-ghost use Rattle.version_notes.specs.Notes.{is_note};
+ghost use Rattle.version_notes.specs.Notes.{is_note, is_printed};
 
 /// The most bytes of a note.
 const LONGEST: usize = 1024;
@@ -9,5 +9,11 @@ const LONGEST: usize = 1024;
 pub fn is_note(text: &str) -> bool
     ensures { result ≡ is_note text.now }
 {
-    text.len() <= LONGEST && text.as_bytes().iter().all(|byte| *byte >= b' ')
+    text.len() <= LONGEST && is_printed(text.as_bytes())
+}
+
+fn is_printed(bytes: &[u8]) -> bool
+    ensures { result ≡ is_printed bytes.now }
+{
+    bytes.iter().all(|byte| *byte >= b' ')
 }
