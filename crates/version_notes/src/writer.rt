@@ -77,8 +77,7 @@ impl NoteWriter {
             self.waiting += 1;
             return Ok(());
         }
-        append_empty(folder, self.waiting)?;
-        append_text(folder, note)?;
+        append_notes(folder, self.waiting, note)?;
         self.written += 4 * u64::from(self.waiting) + SIZE + note.len() as u64;
         self.waiting = 0;
         self.used = self.used || !note.is_empty();
@@ -96,6 +95,18 @@ impl NoteWriter {
         } else {
             Ok(())
         }
+    }
+}
+
+/// Appends so many empty notes, and another note.
+fn append_notes<F: Folder>(folder: &mut F, empty: u32, note: &str) -> Result<(), Failed>
+    requires { length note.now ≤ 1024 }
+    ensures { Appends F.files F.draft F.numbers F.faults folder.old folder.new
+        (empty_texts empty ++ text_bytes note.now) result }
+{
+    match append_empty(folder, empty) {
+        Ok(()) => append_text(folder, note),
+        Err(failed) => Err(failed),
     }
 }
 
