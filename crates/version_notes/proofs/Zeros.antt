@@ -20,8 +20,8 @@ module _ (a b c : Option (List ℕ)) (m n k : Numbers) (room piece : ℕ) (zeros
   pub zeros_stopped : (done size : ℕ) → done + piece ≤ size → Drafts a b m n (replicate done 0) → DraftsPrefix b c n k (take piece zeros) → DraftsPrefix a c m k (replicate size 0)
   zeros_stopped done size within before now =
       let all : (replicate done 0 ++ take piece zeros) ++ replicate (size - (done + piece)) 0 ≡ replicate size 0 =
-          ap (λ (l : List ℕ). l ++ replicate (size - (done + piece)) 0) (ap (λ (l : List ℕ). replicate done 0 ++ l) (piece_of_zeros room piece zeros is fits) ∙ replicate-append-replicate done piece 0)
-          ∙ replicate-append-replicate (done + piece) (size - (done + piece)) 0 ∙ ap (λ (i : ℕ). replicate i 0) (omega (arith, within)) in
+      ap (λ (l : List ℕ). l ++ replicate (size - (done + piece)) 0) (ap (λ (l : List ℕ). replicate done 0 ++ l) (piece_of_zeros room piece zeros is fits) ∙ replicate-append-replicate done piece 0)
+      ∙ replicate-append-replicate (done + piece) (size - (done + piece)) 0 ∙ ap (λ (i : ℕ). replicate i 0) (omega (arith, within)) in
       subst (DraftsPrefix a c m k) all (DraftsPrefix-more a c m k (replicate done 0 ++ take piece zeros) (replicate (size - (done + piece)) 0) (DraftsPrefix-after a b c m n k (replicate done 0) (take piece zeros) before now))
 
 -- an append that failed
