@@ -8,7 +8,7 @@ returns-in-Ok g c =
     let numbers = g.F.Folder.numbers in
     record {
       same_files = search rules;
-      gains = gains_after (draft c.args.folder.now) (draft c.append_empty.new.folder) (draft c.append_text.new.folder) (numbers c.args.folder.now) (numbers c.append_empty.new.folder) (numbers c.append_text.new.folder)
-          _ _ c.append_text.result c.in-Ok.ensures.gains c.append_text.ensures.gains;
+      gains = gains_after (draft c.args.folder.now) (draft c.append_empty.new.folder) (draft c.append_text-in-Ok.new.folder) (numbers c.args.folder.now) (numbers c.append_empty.new.folder) (numbers c.append_text-in-Ok.new.folder)
+          _ _ c.append_text-in-Ok.result c.in-Ok.ensures.gains c.append_text-in-Ok.ensures.gains;
       cause = search rules;
     }
