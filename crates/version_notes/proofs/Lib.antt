@@ -1,0 +1,6 @@
+pub mod Comings
+pub mod Endings
+pub mod Fronts
+pub mod Spelled
+pub mod Written
+pub mod Zeros

@@ -1,0 +1,60 @@
+// What follows from the definitions.
+ghost use Rattle.std.specs.Prelude.{◌≡◌, ◌≤◌, ℕ, Bool, true, false, not, List, ◌++◌, length, take, Some, IfSome};
+ghost use Rattle.std.specs.List.{AllByRecursion};
+ghost use Rattle.xa_fields.specs.Laws.{IsBytes};
+ghost use Rattle.xa_fields.specs.Spelling.{text_bytes};
+ghost use Rattle.version_notes.specs.Notes.{AreNotes, IsNote, are_empty, note_at, notes_part};
+ghost use Rattle.version_notes.specs.Parts.{is_marked, parts_behind, parts_in};
+ghost use Rattle.version_notes.specs.Reader.{AreBehind, Comes, PlainReader, at_first, next_of};
+ghost use Rattle.version_notes.specs.declared.parts.Parts.{Parts};
+ghost use Rattle.version_notes.specs.Writer.{after_all, all_appended, fresh, last_appended};
+
+/// What notes are spelled as is read as these notes, and as no others.
+pub fn notes_are_read_back()
+    ensures again { (note rest : List ℕ) → IsNote note
+        → note_at (text_bytes note ++ rest) ≡ Some (note, rest) }
+    ensures only { (bytes note rest : List ℕ) → IsBytes bytes → note_at bytes ≡ Some (note, rest)
+        → IsNote note × (bytes ≡ text_bytes note ++ rest) }
+
+    // As many notes with the same bytes are the same notes.
+    ensures same { (ours others : List (List ℕ)) → AllByRecursion IsNote ours
+        → AllByRecursion IsNote others → length ours ≡ length others
+        → notes_part ours ≡ notes_part others → ours ≡ others }
+{}
+
+/// Behind bytes that do not end in the mark, notes are found again, and behind no others.
+pub fn parts_are_read_back()
+    ensures found { (core : List ℕ) (notes : List (List ℕ)) → is_marked core ≡ false → AreNotes notes
+        → parts_in (core ++ notes_part notes) ≡ Some (parts_behind core notes) }
+    ensures only { (core other : List ℕ) (ours others : List (List ℕ))
+        → is_marked core ≡ false → is_marked other ≡ false → AreNotes ours → AreNotes others
+        → core ++ notes_part ours ≡ other ++ notes_part others
+        → (core ≡ other) × (notes_part ours ≡ notes_part others) }
+{}
+
+/// A reader gives the notes that stand behind a file, and what it gives is what stands there.
+pub fn readers_give_the_notes()
+    ensures comes { (name core : List ℕ) (notes : List (List ℕ)) → AreNotes notes
+        → Comes (at_first name (parts_behind core notes) (length notes))
+        (core ++ notes_part notes) notes }
+    ensures only { (name bytes : List ℕ) (parts : Parts) (versions : ℕ) (notes : List (List ℕ))
+        → IsBytes bytes → parts_in bytes ≡ Some parts
+        → Comes (at_first name parts versions) bytes notes
+        → AreBehind parts versions bytes notes }
+
+    // No byte behind the notes says what comes.
+    ensures front { (r : PlainReader) (total : ℕ) (file : List ℕ)
+        → IfSome r.place (λ p. p.end ≤ total) → next_of r (take total file) ≡ next_of r file }
+{}
+
+/// A writer appends what stands behind a file: each push and then the end.
+pub fn writers_append_the_part()
+    ensures part { (at_once : Bool) (notes : List (List ℕ))
+        → (at_once ≡ true → are_empty notes ≡ false)
+        → all_appended (fresh at_once) notes ++ last_appended (after_all (fresh at_once) notes)
+        ≡ notes_part notes }
+    ensures used { (at_once : Bool) (notes : List (List ℕ))
+        → (after_all (fresh at_once) notes).used ≡ not (are_empty notes) }
+    ensures pushed { (at_once : Bool) (notes : List (List ℕ))
+        → (after_all (fresh at_once) notes).pushed ≡ length notes }
+{}
