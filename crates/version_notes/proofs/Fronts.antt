@@ -130,9 +130,9 @@ no_size piece e = damage_map e _ _ (too_few piece)
 -- too few bytes for a text, or no text
 pub no_text : (piece : List ℕ) (n : ℕ) (e : NotesFault) → number_at w32 piece ≡ Some (n, drop 4 piece) → IfDamage e ((length (drop 4 piece) < n) ⊎ ¬ IsNote (take n (drop 4 piece))) → IfDamage e (note_at piece ≡ None)
 no_text piece n e is = damage_map e _ _ (λ (h : (length (drop 4 piece) < n) ⊎ ¬ IsNote (take n (drop 4 piece))). elim h [
-      | inl short ↦ too_short piece n is (omega (arith, short, length-drop 4 piece, (number_sizes w32 piece (n, drop 4 piece) is).0))
-      | inr none ↦ no_note piece n is none
-    ])
+  | inl short ↦ too_short piece n is (omega (arith, short, length-drop 4 piece, (number_sizes w32 piece (n, drop 4 piece) is).0))
+  | inr none ↦ no_note piece n is none
+])
 
 -- so long is the note that stands there
 pub size_stands : (piece : List ℕ) (n : ℕ) (x : List ℕ × List ℕ) → number_at w32 piece ≡ Some (n, drop 4 piece) → note_at piece ≡ Some x → n ≡ length x.0

@@ -10,6 +10,7 @@ use Rattle.version_notes.specs.Faults.{IfDamage}
 use Rattle.version_notes.specs.declared.place.Place.{Place}
 use Rattle.version_notes.specs.declared.parts.Parts.{Parts}
 use Rattle.version_notes.specs.declared.fault.NotesFault.{NotesFault}
+use Rattle.version_notes.specs.declared.fault.NotesFault.TheVariants.{Damage}
 
 -- A reader: the file's name, how many notes are due, and where it stands, if the file has notes.
 pub record PlainReader : Type 0 where
@@ -86,6 +87,11 @@ most_read r = most_from r.due r.place
 abbrev pub TellsNext : Result (Option (String Global)) NotesFault → Option (Option (List ℕ)) → Type 0
 TellsNext (Ok found) next = next ≡ Some (option_map string_bytes found)
 TellsNext (Err e) next = IfDamage e (next ≡ None)
+
+-- exactly what comes next, or damage
+abbrev pub IsNext : Result (Option (String Global)) NotesFault → Option (Option (List ℕ)) → Type 0
+IsNext (Ok found) next = next ≡ Some (option_map string_bytes found)
+IsNext (Err e) next = (e ≡ Damage) × (next ≡ None)
 
 -- behind the note that was given, and else where it stood
 abbrev pub Moves : PlainReader → Result (Option (String Global)) NotesFault → PlainReader → Type 0

@@ -4,7 +4,7 @@ ghost use Rattle.xa_outside.specs.Causes.{Rose};
 ghost use Rattle.xa_outside.specs.Folder.{Files};
 ghost use Rattle.xa_outside.specs.Numbers.{PullsAtMost, after_pull};
 ghost use Rattle.version_notes.specs.Faults.{IfFolder};
-ghost use Rattle.version_notes.specs.Reader.{IsSettled, Moves, TellsNext, at_first, file_of, is_done, most_read, next_of, place_behind, read_for};
+ghost use Rattle.version_notes.specs.Reader.{IsNext, IsSettled, Moves, TellsNext, at_first, file_of, is_done, most_read, next_of, place_behind, read_for};
 ghost use Rattle.version_notes.specs.declared.fault.NotesFault.TheVariants.{Damage};
 
 use crate::fault::NotesFault;
@@ -85,9 +85,10 @@ impl NoteReader {
         ensures cause { IfErr result (λ e.
             IfFolder e (Rose (F.faults folder.old) (F.faults folder.new))) }
 
-        // Where the file has no notes, and behind the last one, nothing is read.
+        // Where the file has no notes, and behind the last one, nothing is read, and the answer is
+        // the same over every folder.
         ensures settled { IsSettled self.old
-            → (file : List ℕ) → TellsNext result (next_of self.old file) }
+            → (file : List ℕ) → IsNext result (next_of self.old file) }
         ensures unread { IsSettled self.old → F.numbers folder.new ≡ F.numbers folder.old }
 
         // Where files are told, it is what comes next, and damage where nothing that may come does.
@@ -119,7 +120,7 @@ impl NoteReader {
     fn next_empty(&mut self) -> Option<String>
         requires { self.old.place ≡ None }
         ensures after { Moves self.old (Ok result) self.new }
-        ensures told { (file : List ℕ) → TellsNext (Ok result) (next_of self.old file) }
+        ensures next { (file : List ℕ) → IsNext (Ok result) (next_of self.old file) }
     {
         if self.due == 0 {
             return None;

@@ -1,7 +1,7 @@
 // Writing notes behind a file.
-ghost use Rattle.std.specs.Prelude.{◌≡◌, ◌+◌, ◌*◌, ◌<◌, ◌≤◌, ◌^◌, ◌++◌, ◌∷◌, [], ℕ, length, replicate, take, true, false, OnOk, if◌then◌else◌};
+ghost use Rattle.std.specs.Prelude.{◌≡◌, ◌+◌, ◌*◌, ◌<◌, ◌≤◌, ◌^◌, ◌++◌, ◌∷◌, [], ℕ, length, replicate, take, true, false, OnOk, IsTrue, if◌then◌else◌};
 ghost use Rattle.xa_fields.specs.Spelling.{text_bytes};
-ghost use Rattle.version_notes.specs.Notes.{IsNote, most, ending};
+ghost use Rattle.version_notes.specs.Notes.{ending, is_note, most};
 ghost use Rattle.version_notes.specs.Writer.{Appends, after, appended, fresh, last_appended, empty_texts};
 
 use crate::note::SIZE;
@@ -66,7 +66,7 @@ impl NoteWriter {
 
     /// Gives the next note.
     pub fn push<F: Folder>(&mut self, folder: &mut F, note: &str) -> Result<(), Failed>
-        requires note { IsNote note.now }
+        requires note { IsTrue (is_note note.now) }
         requires few { self.old.pushed < most }
         ensures folder { Appends F.files F.draft F.numbers F.faults folder.old folder.new
             (appended self.old note.now) result }
@@ -77,8 +77,7 @@ impl NoteWriter {
             self.waiting += 1;
             return Ok(());
         }
-        append_empty(folder, self.waiting)?;
-        append_text(folder, note)?;
+        append_notes(folder, self.waiting, note)?;
         self.written += 4 * u64::from(self.waiting) + SIZE + note.len() as u64;
         self.waiting = 0;
         self.used = self.used || !note.is_empty();
@@ -96,6 +95,21 @@ impl NoteWriter {
         } else {
             Ok(())
         }
+    }
+}
+
+/// Appends so many empty notes, and another note.
+fn append_notes<F: Folder>(folder: &mut F, empty: u32, note: &str) -> Result<(), Failed>
+    requires { length note.now ≤ 1024 }
+    ensures { Appends F.files F.draft F.numbers F.faults folder.old folder.new
+        (empty_texts empty ++ text_bytes note.now) result }
+{
+    if empty == 0 {
+        return append_text(folder, note);
+    }
+    match append_empty(folder, empty) {
+        Ok(()) => append_text(folder, note),
+        Err(failed) => Err(failed),
     }
 }
 
