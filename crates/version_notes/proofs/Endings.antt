@@ -1,15 +1,15 @@
 -- What the end of some bytes says of their parts.
-use Rattle.std.proofs.Common.{◌≡◌, ℕ, ◌+◌, ◌-◌, ◌<◌, ◌≤◌, Bool, true, false, leb, List, length, take, drop, Option, Some, None, Result, refl, sym, ap, subst, ◌∙◌, arith, length-take-le, take_all}
+use Rattle.std.proofs.Common.{◌≡◌, ℕ, ◌+◌, ◌-◌, ◌<◌, ◌≤◌, true, false, leb, List, length, take, drop, Option, Some, None, Result, refl, sym, ap, subst, ◌∙◌, arith, length-take-le, take_all}
 use Rattle.std.specs.Prelude.{min}
 use Rattle.std.specs.FinMap as map
 use Rattle.std.specs.Int.{w64}
 use Rattle.std.specs.Str.{bytes_eq}
 use Rattle.std.proofs.lemmas.Bool.{le-leb, lt-leb}
 use Rattle.std.proofs.lemmas.List.{drop-drop, drop-take, length-drop, length-take}
-use Rattle.xa_fields.specs.Reading.{◌>>=◌, number_at}
+use Rattle.xa_fields.specs.Reading.{number_at}
 use Rattle.xa_outside.specs.Folder.{Files, bytes_or_none, front, FillsFrom}
 use Rattle.version_notes.specs.Notes.{mark}
-use Rattle.version_notes.specs.Parts.{last, all_but, is_marked, notes_size, no_notes, with_notes, parts_in, parts_of_front, TellsParts}
+use Rattle.version_notes.specs.Parts.{last, all_but, is_marked, no_notes, with_notes, parts_in, parts_of_front, TellsParts}
 use Rattle.version_notes.specs.declared.parts.Parts.{Parts}
 use Rattle.version_notes.specs.declared.fault.PartsFault.{PartsFault}
 

@@ -1,19 +1,19 @@
 -- The note at the front of some bytes.
-use Rattle.std.proofs.Common.{◌≡◌, ℕ, ◌+◌, ◌-◌, ◌<◌, ◌≤◌, ◌||◌, not, Bool, true, false, cond, ltb, List, [], ◌++◌, length, take, drop, Option, Some, None, Result, Ok, Err, refl, sym, ap, subst, ◌∙◌, arith, inl, inr, ◌⊎◌}
-use Rattle.std.specs.Prelude.{min, String, string_bytes, IfOk}
+use Rattle.std.proofs.Common.{◌≡◌, ℕ, ◌+◌, ◌-◌, ◌<◌, ◌≤◌, ◌||◌, not, Bool, true, false, cond, ltb, List, length, take, drop, Option, Some, None, Result, Ok, Err, refl, sym, ap, subst, ◌∙◌, arith, inl, inr, ◌⊎◌}
+use Rattle.std.specs.Prelude.{String, string_bytes, IfOk}
 use Rattle.std.specs.Global.{Global}
 use Rattle.std.specs.Int.{Width, w32, byte_len, from_be_bytes}
 use Rattle.std.specs.Str.{is_utf8}
 use Rattle.std.proofs.lemmas.Bool.{le-ltb, ltb-false, leb-true, and_parts, or_parts, not-false}
 use Rattle.std.proofs.lemmas.Str.{is_utf8-from_IsUtf8, IsUtf8-from_is_utf8}
-use Rattle.std.proofs.lemmas.List.{drop-drop, length-drop, length-take, take-take, drop-take}
-use Rattle.xa_fields.specs.Reading.{◌>>=◌, number_at, text_at, only_at}
+use Rattle.std.proofs.lemmas.List.{drop-drop, length-drop, length-take, take-take}
+use Rattle.xa_fields.specs.Reading.{number_at, text_at, only_at}
 use Rattle.xa_fields.proofs.Fields.{bind_some, guard_some, some_is}
 use Rattle.xa_outside.specs.Numbers.{Numbers, PullsAtMost, after_pull}
 use Rattle.xa_outside.specs.NumberLaws.{PullsAtMost-of, PullsAtMost-more, PullsAtMost-trans}
 use Rattle.version_notes.specs.Notes.{is_note, IsNote, note_at}
 use Rattle.version_notes.specs.Faults.{IfDamage}
-use Rattle.version_notes.specs.Reader.{TellsNote, TellsSize, TellsFront, left_of}
+use Rattle.version_notes.specs.Reader.{TellsNote, TellsFront, left_of}
 use Rattle.version_notes.specs.declared.place.Place.{Place}
 use Rattle.version_notes.specs.declared.fault.NotesFault.{NotesFault}
 use Rattle.version_notes.specs.declared.fault.NotesFault.TheVariants.{Damage, Folder, Memory}
@@ -22,7 +22,7 @@ pub none_unless : {A : Type 0} (o : Option A) → ((x : A) → o ≡ Some x → 
 none_unless (Some x) h = absurd (h x refl)
 none_unless None h = refl
 
-passed : {A : Type 0} (b : Bool) (a x : A) → cond b (Some a) None ≡ Some x → (b ≡ true) × (a ≡ x)
+pub passed : {A : Type 0} (b : Bool) (a x : A) → cond b (Some a) None ≡ Some x → (b ≡ true) × (a ≡ x)
 passed true a x e = (refl, some_is a x e)
 passed false a x e = absurd cc
 

@@ -1,3 +1,4 @@
+pub mod Comings
 pub mod Endings
 pub mod Fronts
 pub mod Spelled

@@ -1,8 +1,7 @@
 -- Notes and what they are spelled as.
-use Rattle.std.proofs.Common.{◌≡◌, ℕ, zero, suc, ◌+◌, ◌-◌, ◌*◌, ◌^◌, ◌<◌, ◌≤◌, ◌==◌, ◌&&◌, Bool, true, false, cond, List, [], ◌∷◌, ◌++◌, length, take, drop, Option, Some, None, refl, sym, ap, subst, ◌∙◌, append_assoc, arith, inl, inr}
+use Rattle.std.proofs.Common.{◌≡◌, ℕ, suc, ◌+◌, ◌-◌, ◌*◌, ◌^◌, ◌<◌, ◌≤◌, true, false, cond, List, [], ◌∷◌, ◌++◌, length, drop, Some, None, refl, sym, ap, ◌∙◌, append_assoc, arith, inl, inr}
 use Rattle.std.specs.Int.{w64}
 use Rattle.std.specs.List.{AllByRecursion}
-use Rattle.std.specs.Str.{bytes_eq}
 use Rattle.std.proofs.lemmas.Bool.{cases_Bool, and_parts, eqb-true, leb-true}
 use Rattle.std.proofs.lemmas.List.{append-nil, nil_from_length, length-append, drop_at}
 use Rattle.xa_fields.specs.Spelling.{text_bytes, u64_bytes, IsText}
@@ -10,9 +9,8 @@ use Rattle.xa_fields.specs.Reading.{number_at, text_at, many_at}
 use Rattle.xa_fields.specs.Laws.{Reads, IsBytes}
 use Rattle.xa_fields.proofs.Fields.{some_is, text_reads, u64_reads}
 use Rattle.xa_fields.proofs.Combinators.{only_reads, many_again}
-use Rattle.version_notes.specs.Notes.{is_note, IsNote, AreNotes, are_empty, texts, mark, ending, notes_part, note_at}
-use Rattle.version_notes.specs.Parts.{last, is_marked, no_notes, with_notes, parts_in}
-use Rattle.version_notes.specs.declared.parts.Parts.{Parts}
+use Rattle.version_notes.specs.Notes.{is_note, IsNote, AreNotes, are_empty, texts, ending, notes_part, note_at}
+use Rattle.version_notes.specs.Parts.{last, is_marked, parts_in}
 use Rattle.version_notes.proofs.Endings.{parts_some}
 
 pub note_reads : Reads note_at text_bytes IsNote
@@ -44,7 +42,7 @@ texts_same ours others a b p q e same =
 part_empty : (notes : List (List ℕ)) → are_empty notes ≡ true → notes_part notes ≡ []
 part_empty notes e = rw e refl
 
-part_used : (notes : List (List ℕ)) → are_empty notes ≡ false → notes_part notes ≡ texts notes ++ ending (length (texts notes))
+pub part_used : (notes : List (List ℕ)) → are_empty notes ≡ false → notes_part notes ≡ texts notes ++ ending (length (texts notes))
 part_used notes e = rw e refl
 
 -- no bytes are not what ends in eight others

@@ -1,14 +1,14 @@
 -- What the pushes of a writer append in all.
-use Rattle.std.proofs.Common.{◌≡◌, ℕ, zero, suc, ◌+◌, ◌*◌, ◌==◌, ◌&&◌, ◌||◌, not, Bool, true, false, cond, List, [], ◌∷◌, ◌++◌, length, replicate, refl, sym, ap, subst, ◌∙◌, append_assoc, arith, inl, inr}
+use Rattle.std.proofs.Common.{◌≡◌, ℕ, ◌+◌, ◌*◌, ◌==◌, ◌&&◌, ◌||◌, not, Bool, true, false, cond, List, [], ◌∷◌, ◌++◌, length, replicate, refl, sym, ap, ◌∙◌, append_assoc, arith, inl, inr}
 use Rattle.std.proofs.lemmas.Bool.{cases_Bool, eqb-true}
-use Rattle.std.proofs.lemmas.List.{append-nil, nil_from_length, length-append, replicate-append-replicate}
+use Rattle.std.proofs.lemmas.List.{nil_from_length, length-append, replicate-append-replicate}
 use Rattle.xa_fields.specs.Spelling.{text_bytes}
 use Rattle.version_notes.specs.Notes.{are_empty, texts, ending, notes_part}
 use Rattle.version_notes.specs.Writer.{PlainWriter, fresh, waits, empty_texts, appended, after, last_appended, all_appended, after_all}
 
 -- ---- what a writer knows of the notes
 
-used_more : (u e f : Bool) → ((u || not e) || not f) ≡ (u || not (e && f))
+pub used_more : (u e f : Bool) → ((u || not e) || not f) ≡ (u || not (e && f))
 used_more true e f = refl
 used_more false true f = refl
 used_more false false f = refl

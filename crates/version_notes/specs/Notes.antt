@@ -1,5 +1,5 @@
 -- Notes, and the bytes that keep them behind a file.
-use Rattle.std.specs.Prelude.{ℕ, ◌&&◌, ◌==◌, ◌≤◌, Bool, List, [], ◌∷◌, ◌++◌, length, replicate, nat_le, IsTrue, if◌then◌else◌}
+use Rattle.std.specs.Prelude.{ℕ, ◌&&◌, ◌==◌, ◌≤◌, Bool, List, [], ◌++◌, length, replicate, nat_le, IsTrue, if◌then◌else◌}
 use Rattle.std.specs.List.{flat_map, list_all, AllByRecursion}
 use Rattle.xa_fields.specs.Spelling.{text_bytes, u64_bytes, IsText}
 use Rattle.xa_fields.specs.Reading.{Reader, text_at, only_at}

@@ -1,9 +1,9 @@
 -- What the bytes of a file are: those that the notes stand behind, and the notes.
-use Rattle.std.specs.Prelude.{◌≡◌, ⊤, ℕ, ◌+◌, ◌-◌, Bool, List, length, take, drop, Option, Some, None, Result, Ok, Err, nat_le, if◌then◌else◌}
+use Rattle.std.specs.Prelude.{◌≡◌, ℕ, ◌+◌, ◌-◌, Bool, List, length, take, drop, Option, Some, None, Result, Ok, Err, nat_le, if◌then◌else◌}
 use Rattle.std.specs.Int.{w64}
 use Rattle.std.specs.Str.{bytes_eq}
 use Rattle.xa_fields.specs.Reading.{◌>>=◌, number_at}
-use Rattle.version_notes.specs.Notes.{mark}
+use Rattle.version_notes.specs.Notes.{are_empty, texts, mark}
 use Rattle.version_notes.specs.Faults.{IfDamaged}
 use Rattle.version_notes.specs.declared.parts.Parts.{Parts}
 use Rattle.version_notes.specs.declared.fault.PartsFault.{PartsFault}
@@ -52,3 +52,7 @@ MakeUp length core (Some n) = core + n + 16 ≡ length
 -- the parts make up so many bytes
 abbrev pub AreParts : ℕ → Parts → Type 0
 AreParts length parts = MakeUp length parts.core parts.notes
+
+-- the parts where these notes stand behind these bytes
+abbrev pub parts_behind : List ℕ → List (List ℕ) → Parts
+parts_behind core notes = record { core = length core; notes = if are_empty notes then None else Some (length (texts notes)) }

@@ -1,11 +1,12 @@
 -- A reader of notes, and what comes next.
-use Rattle.std.specs.Prelude.{◌≡◌, ◌<◌, ◌≤◌, ◌⊎◌, ⊤, ℕ, zero, suc, ◌+◌, ◌-◌, ◌&&◌, ◌||◌, ◌==◌, min, not, Bool, false, List, [], length, take, drop, Option, Some, None, option_map, Result, Ok, Err, String, string_bytes, if◌then◌else◌}
+use Rattle.std.specs.Prelude.{◌≡◌, ◌<◌, ◌≤◌, ◌⊎◌, ⊤, ℕ, zero, suc, ◌+◌, ◌-◌, ◌&&◌, ◌||◌, ◌==◌, min, not, Bool, false, List, [], ◌∷◌, ◌++◌, length, take, drop, Option, Some, None, option_map, Result, Ok, Err, String, string_bytes, if◌then◌else◌}
 use Rattle.std.specs.Global.{Global}
 use Rattle.std.specs.Int.{w32}
 use Rattle.std.specs.FinMap as map
+use Rattle.std.specs.List.{AllByRecursion}
 use Rattle.xa_fields.specs.Reading.{number_at}
 use Rattle.xa_outside.specs.Folder.{Files, bytes_or_none}
-use Rattle.version_notes.specs.Notes.{IsNote, note_at}
+use Rattle.version_notes.specs.Notes.{IsNote, note_at, notes_part}
 use Rattle.version_notes.specs.Faults.{IfDamage}
 use Rattle.version_notes.specs.declared.place.Place.{Place}
 use Rattle.version_notes.specs.declared.parts.Parts.{Parts}
@@ -128,3 +129,16 @@ TellsText bytes (Err e) = IfDamage e (¬ IsNote bytes)
 abbrev pub TellsFront : ℕ → List ℕ → Result (String Global) NotesFault → Type 0
 TellsFront n piece (Ok note) = (string_bytes note ≡ take n piece) × (n ≤ length piece)
 TellsFront n piece (Err e) = IfDamage e ((length piece < n) ⊎ ¬ IsNote (take n piece))
+
+-- ---- all notes
+
+-- in a file of these bytes these notes come, one after another, and then none
+abbrev pub Comes : PlainReader → List ℕ → List (List ℕ) → Type 0
+Comes r file [] = next_of r file ≡ Some None
+Comes r file (note ∷ notes) = (next_of r file ≡ Some (Some note)) × Comes (behind r note) file notes
+
+-- there are so many notes, and they stand behind the core
+pub record AreBehind (parts : Parts) (versions : ℕ) (file : List ℕ) (notes : List (List ℕ)) : Type 0 where
+  pub count : length notes ≡ versions
+  pub each : AllByRecursion IsNote notes
+  pub bytes : file ≡ take parts.core file ++ notes_part notes

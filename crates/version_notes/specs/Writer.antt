@@ -1,5 +1,5 @@
 -- A writer of notes, and what its calls append.
-use Rattle.std.specs.Prelude.{◌≡◌, ℕ, ◌+◌, ◌*◌, ◌&&◌, ◌||◌, ◌==◌, not, Bool, true, false, List, [], ◌∷◌, ◌++◌, length, replicate, Option, Result, Ok, Err, MatchResult, if◌then◌else◌}
+use Rattle.std.specs.Prelude.{◌≡◌, ℕ, ◌+◌, ◌*◌, ◌&&◌, ◌||◌, ◌==◌, not, Bool, false, List, [], ◌∷◌, ◌++◌, length, replicate, Option, Result, MatchResult, if◌then◌else◌}
 use Rattle.xa_fields.specs.Spelling.{text_bytes}
 use Rattle.xa_outside.specs.Causes.{HasCause}
 use Rattle.xa_outside.specs.Folder.{Files, Drafts, DraftsPrefix}

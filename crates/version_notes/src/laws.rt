@@ -1,10 +1,12 @@
 // What follows from the definitions.
-ghost use Rattle.std.specs.Prelude.{◌≡◌, ℕ, Bool, true, false, not, List, ◌++◌, length, Some, None, if◌then◌else◌};
+ghost use Rattle.std.specs.Prelude.{◌≡◌, ◌≤◌, ℕ, Bool, true, false, not, List, ◌++◌, length, take, Some, IfSome};
 ghost use Rattle.std.specs.List.{AllByRecursion};
 ghost use Rattle.xa_fields.specs.Laws.{IsBytes};
 ghost use Rattle.xa_fields.specs.Spelling.{text_bytes};
-ghost use Rattle.version_notes.specs.Notes.{AreNotes, IsNote, are_empty, note_at, notes_part, texts};
-ghost use Rattle.version_notes.specs.Parts.{is_marked, no_notes, parts_in};
+ghost use Rattle.version_notes.specs.Notes.{AreNotes, IsNote, are_empty, note_at, notes_part};
+ghost use Rattle.version_notes.specs.Parts.{is_marked, parts_behind, parts_in};
+ghost use Rattle.version_notes.specs.Reader.{AreBehind, Comes, PlainReader, at_first, next_of};
+ghost use Rattle.version_notes.specs.declared.parts.Parts.{Parts};
 ghost use Rattle.version_notes.specs.Writer.{after_all, all_appended, fresh, last_appended};
 
 /// What notes are spelled as is read as these notes, and as no others.
@@ -23,10 +25,22 @@ pub fn notes_are_read_back()
 /// Behind bytes that do not end in the mark, notes are found again.
 pub fn parts_are_read_back()
     ensures { (core : List ℕ) (notes : List (List ℕ)) → is_marked core ≡ false → AreNotes notes
-        → parts_in (core ++ notes_part notes) ≡ Some (record {
-          core = length core;
-          notes = if are_empty notes then None else Some (length (texts notes));
-        }) }
+        → parts_in (core ++ notes_part notes) ≡ Some (parts_behind core notes) }
+{}
+
+/// A reader gives the notes that stand behind a file, and what it gives is what stands there.
+pub fn readers_give_the_notes()
+    ensures comes { (name core : List ℕ) (notes : List (List ℕ)) → AreNotes notes
+        → Comes (at_first name (parts_behind core notes) (length notes))
+        (core ++ notes_part notes) notes }
+    ensures only { (name bytes : List ℕ) (parts : Parts) (versions : ℕ) (notes : List (List ℕ))
+        → IsBytes bytes → parts_in bytes ≡ Some parts
+        → Comes (at_first name parts versions) bytes notes
+        → AreBehind parts versions bytes notes }
+
+    // No byte behind the notes says what comes.
+    ensures front { (r : PlainReader) (total : ℕ) (file : List ℕ)
+        → IfSome r.place (λ p. p.end ≤ total) → next_of r (take total file) ≡ next_of r file }
 {}
 
 /// A writer appends what stands behind a file: each push and then the end.

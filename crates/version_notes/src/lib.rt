@@ -14,7 +14,9 @@ mod text;
 mod writer;
 
 pub use fault::{NotesFault, PartsFault};
-pub use laws::{notes_are_read_back, parts_are_read_back, writers_append_the_part};
+pub use laws::{
+    notes_are_read_back, parts_are_read_back, readers_give_the_notes, writers_append_the_part,
+};
 pub use parts::{Parts, parts_of};
 pub use reader::NoteReader;
 pub use text::is_note;
