@@ -1,16 +1,17 @@
 -- Notes and what they are spelled as.
-use Rattle.std.proofs.Common.{◌≡◌, ℕ, suc, ◌+◌, ◌-◌, ◌*◌, ◌^◌, ◌<◌, ◌≤◌, true, false, cond, List, [], ◌∷◌, ◌++◌, length, drop, Some, None, refl, sym, ap, ◌∙◌, append_assoc, arith, inl, inr}
+use Rattle.std.proofs.Common.{◌≡◌, ℕ, suc, ◌+◌, ◌-◌, ◌*◌, ◌^◌, ◌<◌, ◌≤◌, true, false, cond, List, [], ◌∷◌, ◌++◌, length, take, drop, Some, None, refl, sym, ap, ◌∙◌, append_assoc, arith, inl, inr}
 use Rattle.std.specs.Int.{w64}
 use Rattle.std.specs.List.{AllByRecursion}
 use Rattle.std.proofs.lemmas.Bool.{cases_Bool, and_parts, eqb-true, leb-true}
-use Rattle.std.proofs.lemmas.List.{append-nil, nil_from_length, length-append, drop_at}
+use Rattle.std.proofs.lemmas.List.{append-nil, nil_from_length, length-append, drop_at, take_at}
 use Rattle.xa_fields.specs.Spelling.{text_bytes, u64_bytes, IsText}
 use Rattle.xa_fields.specs.Reading.{number_at, text_at, many_at}
 use Rattle.xa_fields.specs.Laws.{Reads, IsBytes}
 use Rattle.xa_fields.proofs.Fields.{some_is, text_reads, u64_reads}
 use Rattle.xa_fields.proofs.Combinators.{only_reads, many_again}
 use Rattle.version_notes.specs.Notes.{is_note, IsNote, AreNotes, are_empty, texts, ending, notes_part, note_at}
-use Rattle.version_notes.specs.Parts.{last, is_marked, parts_in}
+use Rattle.version_notes.specs.Parts.{last, is_marked, parts_in, parts_behind}
+use Rattle.version_notes.specs.declared.parts.Parts.{Parts}
 use Rattle.version_notes.proofs.Endings.{parts_some}
 
 pub note_reads : Reads note_at text_bytes IsNote
@@ -98,3 +99,17 @@ parts_found core notes unmarked h =
       | inl none ↦ rw none (ap parts_in (append-nil core) ∙ rw unmarked refl)
       | inr some ↦ rw some (found_used core notes h)
     ]
+
+-- bytes in two parts, of which the first have the same length
+same_parts : (a b x y : List ℕ) → length a ≡ length b → a ++ x ≡ b ++ y → (a ≡ b) × (x ≡ y)
+same_parts a b x y size e = (
+  sym (take_at a x (length a) refl) ∙ ap (take (length a)) e ∙ take_at b y (length a) (sym size),
+  sym (drop_at a x (length a) refl) ∙ ap (drop (length a)) e ∙ drop_at b y (length a) (sym size),
+)
+
+-- the same bytes are the same core and the same notes
+pub parts_only : (core other : List ℕ) (ours others : List (List ℕ)) → is_marked core ≡ false → is_marked other ≡ false → AreNotes ours → AreNotes others → core ++ notes_part ours ≡ other ++ notes_part others
+    → (core ≡ other) × (notes_part ours ≡ notes_part others)
+parts_only core other ours others plain unmarked p q e =
+    let same = some_is (parts_behind core ours) (parts_behind other others) (sym (parts_found core ours plain p) ∙ ap parts_in e ∙ parts_found other others unmarked q) in
+    same_parts core other (notes_part ours) (notes_part others) (ap (λ (ps : Parts). ps.core) same) e

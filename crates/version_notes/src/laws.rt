@@ -22,10 +22,14 @@ pub fn notes_are_read_back()
         → notes_part ours ≡ notes_part others → ours ≡ others }
 {}
 
-/// Behind bytes that do not end in the mark, notes are found again.
+/// Behind bytes that do not end in the mark, notes are found again, and behind no others.
 pub fn parts_are_read_back()
-    ensures { (core : List ℕ) (notes : List (List ℕ)) → is_marked core ≡ false → AreNotes notes
+    ensures found { (core : List ℕ) (notes : List (List ℕ)) → is_marked core ≡ false → AreNotes notes
         → parts_in (core ++ notes_part notes) ≡ Some (parts_behind core notes) }
+    ensures only { (core other : List ℕ) (ours others : List (List ℕ))
+        → is_marked core ≡ false → is_marked other ≡ false → AreNotes ours → AreNotes others
+        → core ++ notes_part ours ≡ other ++ notes_part others
+        → (core ≡ other) × (notes_part ours ≡ notes_part others) }
 {}
 
 /// A reader gives the notes that stand behind a file, and what it gives is what stands there.

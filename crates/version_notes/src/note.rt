@@ -8,7 +8,7 @@ ghost use Rattle.version_notes.specs.Reader.{TellsBytes, TellsFront, TellsNote, 
 
 use crate::fault::NotesFault;
 use crate::place::Place;
-use crate::text::is_note;
+use crate::text::{LONGEST, is_note};
 use std::alloc::Global;
 use xa_fields::take_u32;
 use xa_outside::{Folder, fill_at};
@@ -18,8 +18,8 @@ pub(crate) const SIZE: u64 = 4;
 
 /// The note that stands at this place.
 ///
-/// It takes memory only for one that is no longer than a note may be, and ends where the notes do or
-/// before.
+/// It takes memory only for one that is no longer than a note may be, and that does not end behind
+/// the notes.
 pub(crate) fn read_note<F: Folder>(
     alloc: Global,
     folder: &mut F,
@@ -81,7 +81,7 @@ fn size_within(front: &[u8], room: u64) -> Result<u32, NotesFault>
         → TellsSize piece result }
 {
     match take_u32(front, 0) {
-        Some((size, _)) if size <= 1024 && SIZE + u64::from(size) <= room => Ok(size),
+        Some((size, _)) if size as usize <= LONGEST && SIZE + u64::from(size) <= room => Ok(size),
         _ => Err(NotesFault::Damage),
     }
 }

@@ -3,7 +3,7 @@ ghost use Rattle.std.specs.Prelude.{◌≡◌};
 ghost use Rattle.version_notes.specs.Notes.{is_note, is_printed};
 
 /// The most bytes of a note.
-const LONGEST: usize = 1024;
+pub(crate) const LONGEST: usize = 1024;
 
 /// Whether a text is a note: it has at most 1,024 bytes, and none below 20 hexadecimal.
 pub fn is_note(text: &str) -> bool

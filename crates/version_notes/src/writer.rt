@@ -6,19 +6,20 @@ ghost use Rattle.version_notes.specs.Writer.{Appends, after, appended, fresh, la
 
 use crate::note::SIZE;
 use crate::parts::MARK;
+use crate::text::LONGEST;
 use std::marker::Model;
 use xa_outside::{Failed, Folder};
 
 /// The longest text of a note: its length and its bytes.
-const LONGEST_TEXT: usize = 1028;
+const LONGEST_TEXT: usize = 4 + LONGEST;
 
 /// Empty notes that waited are appended in pieces of so many bytes.
 const PIECE: usize = 4096;
 
 /// Appends notes to the draft of a folder, behind a file.
 ///
-/// `push` gives one note after another, and `finish` comes last. Where not all of a file's notes may
-/// be empty, a writer can append each note at once; else it counts the empty ones at the front, and
+/// `push` gives one note after another, and `finish` comes last. Where it is known that some note is
+/// not empty, a writer can append each at once; else it counts the empty ones at the front, and
 /// appends nothing where all are empty. After a call that failed it is of no use.
 #[derive(Drop)]
 pub struct NoteWriter {
@@ -47,7 +48,8 @@ impl Model for NoteWriter {
       written = w.written;
     } };
 
-    ghost invariant = { λ w. (w.written + 4 * w.waiting ≤ 1028 * w.pushed) × (w.waiting ≤ w.pushed) };
+    ghost invariant = { λ w.
+        (w.written + 4 * w.waiting ≤ 1028 * w.pushed) × (w.waiting ≤ w.pushed) };
 }
 
 impl NoteWriter {
@@ -159,7 +161,14 @@ fn append_ending<F: Folder>(folder: &mut F, written: u64) -> Result<(), Failed>
     ensures { Appends F.files F.draft F.numbers F.faults folder.old folder.new
         (ending written) result }
 {
-    let mut room = [0xff; 16];
-    room[..8].copy_from_slice(&written.to_be_bytes());
-    folder.append(&room)
+    folder.append(&spell_ending(written))
+}
+
+fn spell_ending(written: u64) -> [u8; 16]
+    ensures { result ≡ ending written }
+{
+    let mut bytes = [0; 16];
+    bytes[..8].copy_from_slice(&written.to_be_bytes());
+    bytes[8..].copy_from_slice(&MARK);
+    bytes
 }
