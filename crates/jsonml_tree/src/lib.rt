@@ -3,6 +3,7 @@
 
 mod lent;
 mod lent_attr;
+mod lent_order;
 mod scalar;
 mod tree;
 

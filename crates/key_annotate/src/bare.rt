@@ -30,7 +30,7 @@ impl Labelled for Bare<'_, '_> {
 
 impl Bare<'_, '_> {
     /// A keyed tree of its own with the same value.
-    pub(crate) fn own(&self, alloc: Global) -> Result<Keyed, AllocError>
+    pub fn own(&self, alloc: Global) -> Result<Keyed, AllocError>
         ensures { IfOk result (λ k. keyed_view k ≡ bare_view self.now) }
     {
         let name = Name::Tag(String::from_str(alloc, self.tag)?);

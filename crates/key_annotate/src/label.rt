@@ -95,6 +95,16 @@ impl<'a> KeyedLabel<'a> {
         order_values(&self.values, &other.values)
     }
 
+    /// The order of labels, against one of its own. It takes no memory.
+    pub fn order_own(&self, other: &Label) -> Ordering
+        ensures { result ≡ label_cmp (keyed_label_view self.now) (label_view other.now) }
+    {
+        match &self.values {
+            Values::Text { tag, key } => lent_label(tag, key).order_own(other),
+            Values::Other(label) => label.order_own(other),
+        }
+    }
+
     /// The label's texts, where it has one key value and that is one text.
     pub fn one_text(&self) -> Option<OneText<'a>>
         ensures { IfSome result (λ one. keyed_label_view self.now

@@ -121,7 +121,8 @@ fn own_leaves(alloc: Global, leaves: &[Bare<'_, '_>]) -> Result<Vec<Keyed>, Allo
     Ok(copies)
 }
 
-fn own_attr(alloc: Global, attr: &LentAttr<'_>) -> Result<Keyed, AllocError>
+/// The leaf of an attribute, as a keyed tree of its own.
+pub fn own_attr(alloc: Global, attr: &LentAttr<'_>) -> Result<Keyed, AllocError>
     ensures { IfOk result (λ k. keyed_view k ≡ attr_leaf (lent_attr_view attr.now)) }
 {
     let name = Name::Attr(String::from_str(alloc, attr.name())?);

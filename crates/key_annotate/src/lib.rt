@@ -15,4 +15,4 @@ pub use annotate::{keyed, keyed_laws, lent_keyed};
 pub use bare::Bare;
 pub use fault::AnnotateFault;
 pub use label::{KeyedLabel, OneText};
-pub use lent::LentKeyed;
+pub use lent::{LentKeyed, own_attr};

@@ -2,15 +2,11 @@
 
 ghost use Rattle.std.specs.Prelude.{◌≡◌, map, IfOk};
 ghost use Rattle.std.specs.Cmp.Lexicographic.{slice_cmp};
-ghost use Rattle.jsonml_tree.specs.Data.{text, no_trees, tree};
-ghost use Rattle.jsonml_tree.specs.LentView.{only_text};
-ghost use Rattle.jsonml_tree.specs.Order.{tree_cmp, trees_cmp, content_cmp};
-ghost use Rattle.jsonml_tree.specs.View.{tree_view, content_view, items_view};
 ghost use Rattle.keyed_tree.specs.Order.{key_cmp, label_cmp};
 ghost use Rattle.keyed_tree.specs.View.{key_view, label_view};
 ghost use Rattle.key_rules.specs.LentView.{lent_key_view, lent_keys_view, lent_label_view};
 
-use jsonml_tree::{Content, LentScalar, Tree};
+use jsonml_tree::{Content, LentContent, LentScalar};
 use keyed_tree::{KeyVal, Label, Name};
 use std::alloc::{AllocError, Global};
 use std::cmp::Ordering;
@@ -61,6 +57,19 @@ impl LentLabel<'_> {
         }
     }
 
+    /// The order of labels, against one of its own. It takes no memory.
+    pub fn order_own(&self, other: &Label) -> Ordering
+        ensures { result ≡ label_cmp (lent_label_view self.now) (label_view other.now) }
+    {
+        match &other.name {
+            Name::Attr(_) => Ordering::Greater,
+            Name::Tag(tag) => match self.tag.cmp(tag.as_str()) {
+                Ordering::Equal => order_keys_own(self.keys.as_slice(), &other.keys),
+                order => order,
+            },
+        }
+    }
+
     /// A label of its own with the same value.
     pub fn copy(&self, alloc: Global) -> Result<Label, AllocError>
         ensures { IfOk result (λ l. label_view l ≡ lent_label_view self.now) }
@@ -100,48 +109,41 @@ fn order_key(a: &LentKey<'_>, b: &LentKey<'_>) -> Ordering
         (LentKey::Scalar(a), LentKey::Scalar(b)) => a.order(*b),
         (LentKey::Scalar(_), _) => Ordering::Less,
         (_, LentKey::Scalar(_)) => Ordering::Greater,
-        (LentKey::Text(a), LentKey::Content(b)) => order_text(a, b),
-        (LentKey::Content(a), LentKey::Text(b)) => order_text(b, a).reverse(),
+        (LentKey::Text(a), LentKey::Content(b)) => LentContent::Text(a).order(b),
+        (LentKey::Content(a), LentKey::Text(b)) => LentContent::Text(b).order(a).reverse(),
         (LentKey::Content(a), LentKey::Content(b)) => a.order(b),
     }
 }
 
-/// The content of this text alone against another content.
-fn order_text(text: &str, other: &Content) -> Ordering
-    ensures { result ≡ content_cmp (only_text text.now) (content_view other.now) }
+fn order_keys_own(ours: &[LentKey<'_>], theirs: &[KeyVal]) -> Ordering
+    ensures { result ≡ slice_cmp key_cmp (map lent_key_view ours.now) (map key_view theirs.now) }
 {
-    match other.attrs.split_first() {
-        None => order_text_items(text, &other.items),
-        Some(_) => Ordering::Less,
+    let mut others = theirs.iter();
+    for a in ours {
+        let Some(b) = others.next() else {
+            return Ordering::Greater;
+        };
+        match order_key_own(a, b) {
+            Ordering::Equal => {}
+            order => return order,
+        }
+    }
+    if others.next().is_some() {
+        Ordering::Less
+    } else {
+        Ordering::Equal
     }
 }
 
-/// The row of this text alone against another row.
-fn order_text_items(own: &str, items: &[Tree]) -> Ordering
-    ensures { result ≡ trees_cmp (tree (text own.now) no_trees) (items_view items.now) }
+fn order_key_own(a: &LentKey<'_>, b: &KeyVal) -> Ordering
+    ensures { result ≡ key_cmp (lent_key_view a.now) (key_view b.now) }
 {
-    match items.split_first() {
-        None => Ordering::Greater,
-        Some((first, rest)) => order_text_tree(own, first).then(order_none(rest)),
-    }
-}
-
-fn order_text_tree(own: &str, tree: &Tree) -> Ordering
-    ensures { result ≡ tree_cmp (text own.now) (tree_view tree.now) }
-{
-    match tree {
-        Tree::Text(other) => own.cmp(other.as_str()),
-        Tree::Elem { .. } => Ordering::Less,
-    }
-}
-
-/// The empty row against another row.
-fn order_none(items: &[Tree]) -> Ordering
-    ensures { result ≡ trees_cmp no_trees (items_view items.now) }
-{
-    match items.split_first() {
-        None => Ordering::Equal,
-        Some(_) => Ordering::Less,
+    match (a, b) {
+        (LentKey::Scalar(a), KeyVal::Scalar(b)) => a.order(b.lend()),
+        (LentKey::Scalar(_), KeyVal::Content(_)) => Ordering::Less,
+        (_, KeyVal::Scalar(_)) => Ordering::Greater,
+        (LentKey::Text(a), KeyVal::Content(b)) => LentContent::Text(a).order(b),
+        (LentKey::Content(a), KeyVal::Content(b)) => a.order(b),
     }
 }
 

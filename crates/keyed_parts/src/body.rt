@@ -1,7 +1,9 @@
 // The bodies of leaves.
 ghost use Rattle.std.specs.Prelude.{◌≡◌, IfOk};
+ghost use Rattle.std.specs.Ordering.{is_eq};
 ghost use Rattle.keyed_parts.specs.Spells.{Spells};
 ghost use Rattle.keyed_parts.specs.View.{body_view};
+ghost use Rattle.keyed_tree.specs.Order.{key_cmp};
 ghost use Rattle.keyed_tree.specs.View.{key_view};
 ghost use Rattle.key_annotate.specs.LabelView.{key_of_text};
 ghost use Rattle.record_parts.specs.Shapes.{FitsText, FitsValue, IsShapedValue};
@@ -11,7 +13,7 @@ ghost use Rattle.record_parts.specs.Spelling.{value_bytes};
 use crate::fault::SpellFault;
 use crate::put::{is_short, put_text_value};
 use jsonml_tree::{LentContent, LentScalar};
-use keyed_tree::KeyVal;
+use keyed_tree::{Body, KeyVal};
 use record_parts::{BodyView, is_value, lend_body, put_value};
 use std::alloc::{AllocError, Global};
 
@@ -38,12 +40,23 @@ impl LentBody<'_, '_> {
     }
 
     /// A body of its own with the same value.
-    fn own(self, alloc: Global) -> Result<KeyVal, AllocError>
+    pub fn own(self, alloc: Global) -> Result<KeyVal, AllocError>
         ensures { IfOk result (λ k. key_view k ≡ body_view self.entry) }
     {
         match self {
             LentBody::Scalar(scalar) => Ok(KeyVal::Scalar(scalar.own(alloc)?)),
             LentBody::Content(content) => Ok(KeyVal::Content(content.own(alloc)?)),
+        }
+    }
+
+    /// Whether both are the same value. It takes no memory, and recurses as deep as elements nest.
+    pub fn same(self, other: &Body) -> bool
+        ensures { result ≡ is_eq (key_cmp (key_view other.now) (body_view self.entry)) }
+    {
+        match (self, other) {
+            (LentBody::Scalar(ours), KeyVal::Scalar(theirs)) => theirs.lend().order(ours).is_eq(),
+            (LentBody::Content(ours), KeyVal::Content(theirs)) => ours.same(theirs),
+            _ => false,
         }
     }
 }

@@ -6,6 +6,7 @@ mod fault;
 mod kid;
 mod kids;
 mod label;
+mod order;
 mod put;
 
 pub use body::LentBody;

@@ -7,4 +7,4 @@ use Rattle.key_rules.proofs.lent.order_key.Goals as goal
 
 pub returns-in-Content-Text : goal.returns-in-Content-Text
 returns-in-Content-Text c =
-    rw (c.in-Content-Text.is-0, c.in-Content-Text.is-1) (c.reverse.ensures ∙ ap ordering_reverse c.order_text-in-Content-Text.ensures ∙ turned (content_view c.in-Content-Text.a) (only_text c.in-Content-Text.b.now))
+    rw (c.in-Content-Text.is-0, c.in-Content-Text.is-1) (c.reverse.ensures ∙ ap ordering_reverse c.order-in-Content-Text.ensures ∙ turned (content_view c.in-Content-Text.a) (only_text c.in-Content-Text.b.now))
