@@ -37,7 +37,7 @@ pub ruleset rows = (kids.kids_list-kids_from, nodes_from-nodes_list, fresh_row-k
 
 -- ---- the steps
 
-above_all : (m : PlainLabel) (c : PlainKeyed) (cs : List PlainKeyed) → label_cmp (label_of c) m ≡ Equal → IsTrue (ascend (kids_from (c ∷ cs))) → above m cs ≡ cs
+pub above_all : (m : PlainLabel) (c : PlainKeyed) (cs : List PlainKeyed) → label_cmp (label_of c) m ≡ Equal → IsTrue (ascend (kids_from (c ∷ cs))) → above m cs ≡ cs
 above_all m c [] e h = refl
 above_all m c (d ∷ ds) e h =
     let two = both (is_lt (label_cmp (label_of c) (label_of d))) (ascend_from (label_of d) (kids_from ds)) h in
@@ -58,7 +58,7 @@ higher l m [] e h = tt
 higher l m (x ∷ xs) e h = (label_cmp_total.trans l m x e h.0, higher l m xs e h.1)
 
 -- the label is below the first of ascending kids, so none has it
-kid_at-Greater : (l : PlainLabel) (c : PlainKeyed) (cs : List PlainKeyed) → label_cmp (label_of c) l ≡ Greater → IsTrue (ascend (kids_from (c ∷ cs))) → kid_at l (c ∷ cs) ≡ None
+pub kid_at-Greater : (l : PlainLabel) (c : PlainKeyed) (cs : List PlainKeyed) → label_cmp (label_of c) l ≡ Greater → IsTrue (ascend (kids_from (c ∷ cs))) → kid_at l (c ∷ cs) ≡ None
 kid_at-Greater l c cs e h =
     let low : label_cmp l (label_of c) ≡ Less = (let back = label_cmp_total.antisymm l (label_of c) in rw e at back) in
     let up : Ascends label_cmp (map label_of (c ∷ cs)) = subst (λ z. Ascends label_cmp (map label_of (c ∷ z))) (kids.kids_list-kids_from cs) (kids.ascend-all (kids_from (c ∷ cs)) h) in

@@ -14,4 +14,5 @@ mod version;
 
 pub use alike::is_alike;
 pub use laws::archives_grow_by_a_version;
+pub use stamp::started_stamp;
 pub use version::{merge, merge_all};

@@ -23,7 +23,7 @@ pub fn kept_mark(parent: &VersionSet, stamp: &Option<VersionSet>) -> Result<Mark
     }
 }
 
-// The stamp of what begins with version n, under a parent that had the set before.
+/// The stamp of what begins with version n, under a parent that had the set before.
 pub fn started_stamp(alloc: Global, n: u32, parent: &VersionSet) -> Option<VersionSet>
     requires { 1 ≤ n }
     ensures { stamp_view result ≡ started n (pairs_of parent.now) }
