@@ -10,10 +10,9 @@ ghost use Rattle.record_parts.specs.Reading.{attr_at, next_attr, attrs_at, item_
 ghost use Rattle.file_get.specs.LentPrinted.{output, calls_read, items_calls_of, whole_calls, PrintsRead};
 
 use crate::fault::GetFault;
-use crate::lend::{is_above, lend_attr};
 use jsonml_text::Printer;
 use jsonml_tree::{LentAttr, LentScalar};
-use record_parts::DEEPEST;
+use record_parts::{DEEPEST, is_above, lend_attr};
 use xa_fields::{take_text, take_u8, take_u32};
 use xa_outside::{Failed, Sink};
 

@@ -6,7 +6,6 @@ mod body;
 mod bytes;
 mod fault;
 mod fixed;
-mod lend;
 mod lent_content;
 mod look;
 mod print;

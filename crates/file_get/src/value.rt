@@ -4,8 +4,8 @@ ghost use Rattle.xa_fields.specs.Reading.{whole};
 ghost use Rattle.record_parts.specs.Reading.{value_at};
 ghost use Rattle.file_get.specs.LeafBodies.{body_found};
 
-use crate::lend::lend_scalar;
 use jsonml_tree::LentScalar;
+use record_parts::lend_scalar;
 use xa_fields::take_u8;
 
 /// What a leaf holds: the bytes of a content, which are judged when they are printed, or a scalar.

@@ -1,61 +1,22 @@
 // Scalars, attributes and names that are lent out of bytes.
 ghost use Rattle.std.specs.Prelude.{◌≡◌, ◌≤◌, length, drop, option_map, IfSome, IfOk};
-ghost use Rattle.jsonml_tree.specs.Order.{scalar_cmp};
-ghost use Rattle.jsonml_tree.specs.View.{scalar_view, attr_view};
+ghost use Rattle.jsonml_tree.specs.LentAttrs.{lent_scalar_view};
+ghost use Rattle.jsonml_tree.specs.View.{attr_view};
 ghost use Rattle.keyed_tree.specs.Order.{name_cmp};
 ghost use Rattle.keyed_tree.specs.View.{name_view};
 ghost use Rattle.record_parts.specs.Reading.{scalar_of, scalar_at, attr_at, name_of, name_at, is_above};
-ghost use Rattle.record_parts.specs.Shown.{shown_scalar, shown_name};
+ghost use Rattle.record_parts.specs.Shown.{shown_name};
 
-use jsonml_tree::{Attr, Scalar};
+use jsonml_tree::{Attr, LentScalar};
 use keyed_tree::Name;
 use std::alloc::{AllocError, Global};
 use std::cmp::Ordering;
 use xa_fields::{take_text, take_u8, take_u64};
 
-/// A scalar, whose text is lent.
-#[derive(Drop)]
-pub enum ScalarView<'a> {
-    Null,
-    Bool(bool),
-    Whole(i128),
-    Text(&'a str),
-}
-
-impl<'a> ScalarView<'a> {
-    pub fn order(&self, other: &Scalar) -> Ordering
-        ensures { result ≡ scalar_cmp (shown_scalar self.now) (scalar_view other.now) }
-    {
-        match (self, other) {
-            (ScalarView::Null, Scalar::Null) => Ordering::Equal,
-            (ScalarView::Null, _) => Ordering::Less,
-            (_, Scalar::Null) => Ordering::Greater,
-            (ScalarView::Bool(a), Scalar::Bool(b)) => a.cmp(b),
-            (ScalarView::Bool(_), _) => Ordering::Less,
-            (_, Scalar::Bool(_)) => Ordering::Greater,
-            (ScalarView::Whole(a), Scalar::Whole(b)) => a.cmp(b),
-            (ScalarView::Whole(_), Scalar::Text(_)) => Ordering::Less,
-            (ScalarView::Text(_), Scalar::Whole(_)) => Ordering::Greater,
-            (ScalarView::Text(a), Scalar::Text(b)) => (*a).cmp(b.as_str()),
-        }
-    }
-
-    pub fn copy(&self, alloc: Global) -> Result<Scalar, AllocError>
-        ensures { IfOk result (λ s. scalar_view s ≡ shown_scalar self.now) }
-    {
-        match self {
-            ScalarView::Null => Ok(Scalar::Null),
-            ScalarView::Bool(b) => Ok(Scalar::Bool(*b)),
-            ScalarView::Whole(n) => Ok(Scalar::Whole(*n)),
-            ScalarView::Text(text) => Ok(Scalar::Text(String::from_str(alloc, text)?)),
-        }
-    }
-}
-
 /// The scalar at the offset, without memory, and the offset behind it.
 #[tactic(auto, unfolding(crate::specs::Reading::scalar_at))]
-pub fn lend_scalar(bytes: &[u8], at: usize) -> Option<(ScalarView<'_>, usize)>
-    ensures found { option_map (λ r. (shown_scalar r.0, drop r.1 bytes.now)) result
+pub fn lend_scalar(bytes: &[u8], at: usize) -> Option<(LentScalar<'_>, usize)>
+    ensures found { option_map (λ r. (lent_scalar_view r.0, drop r.1 bytes.now)) result
         ≡ scalar_at (drop at bytes.now) }
     ensures next { IfSome result (λ r. r.1 ≤ length bytes.now) }
 {
@@ -64,30 +25,30 @@ pub fn lend_scalar(bytes: &[u8], at: usize) -> Option<(ScalarView<'_>, usize)>
 }
 
 #[tactic(auto, unfolding(crate::specs::Reading::scalar_of))]
-fn scalar_of_kind(kind: u8, bytes: &[u8], at: usize) -> Option<(ScalarView<'_>, usize)>
+fn scalar_of_kind(kind: u8, bytes: &[u8], at: usize) -> Option<(LentScalar<'_>, usize)>
     requires { at ≤ length bytes.now }
-    ensures found { option_map (λ r. (shown_scalar r.0, drop r.1 bytes.now)) result
+    ensures found { option_map (λ r. (lent_scalar_view r.0, drop r.1 bytes.now)) result
         ≡ scalar_of kind (drop at bytes.now) }
     ensures next { IfSome result (λ r. r.1 ≤ length bytes.now) }
 {
     match kind {
-        0 => Some((ScalarView::Null, at)),
-        1 => Some((ScalarView::Bool(false), at)),
-        2 => Some((ScalarView::Bool(true), at)),
+        0 => Some((LentScalar::Null, at)),
+        1 => Some((LentScalar::Bool(false), at)),
+        2 => Some((LentScalar::Bool(true), at)),
         3 => {
             let (n, at) = take_u64(bytes, at)?;
-            Some((ScalarView::Whole(n as i128), at))
+            Some((LentScalar::Whole(n as i128), at))
         }
         4 => {
             let (n, at) = take_u64(bytes, at)?;
             if n >= 9223372036854775808 {
                 return None;
             }
-            Some((ScalarView::Whole(-1 - (n as i128)), at))
+            Some((LentScalar::Whole(-1 - (n as i128)), at))
         }
         5 => {
             let (text, at) = take_text(bytes, at)?;
-            Some((ScalarView::Text(text), at))
+            Some((LentScalar::Text(text), at))
         }
         _ => None,
     }
@@ -95,9 +56,9 @@ fn scalar_of_kind(kind: u8, bytes: &[u8], at: usize) -> Option<(ScalarView<'_>, 
 
 /// The name and the value of the attribute at the offset, and the offset behind it.
 #[tactic(auto, unfolding(crate::specs::Reading::attr_at))]
-pub fn lend_attr(bytes: &[u8], at: usize) -> Option<(&str, ScalarView<'_>, usize)>
+pub fn lend_attr(bytes: &[u8], at: usize) -> Option<(&str, LentScalar<'_>, usize)>
     ensures found { option_map (λ r.
-        (record { name = r.0.now; value = shown_scalar r.1 }, drop r.2 bytes.now)) result
+        (record { name = r.0.now; value = lent_scalar_view r.1 }, drop r.2 bytes.now)) result
         ≡ attr_at (drop at bytes.now) }
     ensures next { IfSome result (λ r. r.2 ≤ length bytes.now) }
 {
@@ -106,13 +67,14 @@ pub fn lend_attr(bytes: &[u8], at: usize) -> Option<(&str, ScalarView<'_>, usize
     Some((name, value, at))
 }
 
-pub fn copy_attr(alloc: Global, name: &str, value: &ScalarView) -> Result<Attr, AllocError>
+pub fn copy_attr(alloc: Global, name: &str, value: LentScalar<'_>) -> Result<Attr, AllocError>
     ensures { IfOk result
-        (λ a. attr_view a ≡ record { name = name.now; value = shown_scalar value.now }) }
+        (λ a. attr_view a ≡ record { name = name.now; value = lent_scalar_view value.entry }) }
 {
-    let name = String::from_str(alloc, name)?;
-    let value = value.copy(alloc)?;
-    Ok(Attr { name, value })
+    Ok(Attr {
+        name: String::from_str(alloc, name)?,
+        value: value.own(alloc)?,
+    })
 }
 
 /// Whether the name is above the last one, if there is one.

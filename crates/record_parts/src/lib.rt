@@ -21,7 +21,7 @@ mod views;
 pub use fault::RecFault;
 pub use fits::{is_label, is_set, is_stamp, is_value};
 pub use lend_parts::{lend_alternative, lend_body, lend_label, lend_opening};
-pub use lent::{NameView, ScalarView};
+pub use lent::{NameView, is_above, lend_attr, lend_scalar};
 pub use limits::{DEEPEST, MOST_VERSIONS};
 pub use put_parts::{put_label, put_stamp};
 pub use put_values::put_value;

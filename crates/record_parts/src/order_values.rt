@@ -27,7 +27,7 @@ fn order_attr(bytes: &[u8], at: usize, other: &Attr) -> Option<(Ordering, usize)
     let (name, value, at) = lend_attr(bytes, at)?;
     let order = name
         .cmp(other.name.as_str())
-        .then(value.order(&other.value));
+        .then(value.order(other.value.lend()));
     Some((order, at))
 }
 
@@ -211,7 +211,7 @@ fn order_scalar_value(bytes: &[u8], at: usize, other: &KeyVal) -> Option<(Orderi
         return None;
     };
     match other {
-        KeyVal::Scalar(other) => Some((scalar.order(other), at)),
+        KeyVal::Scalar(other) => Some((scalar.order(other.lend()), at)),
         KeyVal::Content(_) => Some((Ordering::Less, at)),
     }
 }

@@ -49,7 +49,7 @@ fn take_each_attr(
         if !is_above(last, name) {
             return Err(RecFault::Damage);
         }
-        let attr = copy_attr(alloc, name, &value)?;
+        let attr = copy_attr(alloc, name, value)?;
         attrs.push(attr)?;
         last = Some(name);
         at = next;
@@ -192,7 +192,7 @@ fn take_value_of(
             let Some((scalar, at)) = lend_scalar(bytes, at) else {
                 return Err(RecFault::Damage);
             };
-            Ok((KeyVal::Scalar(scalar.copy(alloc)?), at))
+            Ok((KeyVal::Scalar(scalar.own(alloc)?), at))
         }
         1 => {
             let (content, at) = take_content(alloc, DEEPEST, bytes, at)?;

@@ -24,13 +24,13 @@ loop-init g c =
 pub returns-in_default-clause-prints : goal.returns-in_default-clause-prints
 returns-in_default-clause-prints g c =
     let l = c.loop in
-    damaged _ _ _ _ l.invariant.made (attrs-break (option_map (λ s. s.now) l.last) c.args.count l.counter (drop l.at c.args.bytes.now) c.loop-test.true (sym c.in_default.ensures))
+    damaged _ _ _ _ l.invariant.made (attrs-break (option_map (λ s. s.now) l.last) c.args.count l.counter (drop l.at c.args.bytes.now) c.loop-test.true (sym c.in_default.ensures.found))
 
 pub returns-then-not-is_above-clause-prints : goal.returns-then-not-is_above-clause-prints
 returns-then-not-is_above-clause-prints g c =
     let l = c.loop in
     let a : PlainAttr = record { name = c.in-Some.name.now; value = lent_scalar_view c.in-Some.value } in
-    damaged _ _ _ _ l.invariant.made (attrs-stop (option_map (λ s. s.now) l.last) c.args.count l.counter (drop l.at c.args.bytes.now) a (drop c.in-Some.next c.args.bytes.now) c.loop-test.true (sym c.in-Some.ensures) (may_not (option_map (λ s. s.now) l.last) a (search rules)))
+    damaged _ _ _ _ l.invariant.made (attrs-stop (option_map (λ s. s.now) l.last) c.args.count l.counter (drop l.at c.args.bytes.now) a (drop c.in-Some.next c.args.bytes.now) c.loop-test.true (sym c.in-Some.ensures.found) (may_not (option_map (λ s. s.now) l.last) a (search rules)))
 
 pub returns-in_err-print_lent_attr-clause-prints : goal.returns-in_err-print_lent_attr-clause-prints
 returns-in_err-print_lent_attr-clause-prints g c =
@@ -43,7 +43,7 @@ returns-in_err-print_lent_attr-clause-prints g c =
     let u : Output = output k.taken k.faults c.print_lent_attr.new.sink c.print_lent_attr.new.printer in
     let left : Reading = attrs-left (option_map (λ s. s.now) l.last) c.args.count l.counter (drop l.at bytes) in
     let all : Reading = calls_read (map attribute) (chain_at attr_at next_attr None c.args.count (drop c.args.at bytes)) in
-    let turn = attrs-turn (option_map (λ s. s.now) l.last) c.args.count l.counter (drop l.at bytes) _ a (drop c.in-Some.next bytes) c.loop-test.true (sym c.in-Some.ensures) (may (option_map (λ s. s.now) l.last) a (search rules)) in
+    let turn = attrs-turn (option_map (λ s. s.now) l.last) c.args.count l.counter (drop l.at bytes) _ a (drop c.in-Some.next bytes) c.loop-test.true (sym c.in-Some.ensures.found) (may (option_map (λ s. s.now) l.last) a (search rules)) in
     let out = c.in_err-print_lent_attr.ensures in
     at-err c.from_residual.result Out c.from_residual.ensures.1 (λ r. PrintsRead s u (λ n. drop n bytes) all r)
     (stopped-then s t u left all l.invariant.made (stopped-call t u (attribute a) _ left turn out.cause.later out.cause.failed out.prints.bytes))
@@ -59,7 +59,7 @@ loop-preserved g c =
     let u : Output = output k.taken k.faults c.print_lent_attr.new.sink c.print_lent_attr.new.printer in
     let left : Reading = attrs-left (option_map (λ s. s.now) l.last) c.args.count l.counter (drop l.at bytes) in
     let all : Reading = calls_read (map attribute) (chain_at attr_at next_attr None c.args.count (drop c.args.at bytes)) in
-    let turn = attrs-turn (option_map (λ s. s.now) l.last) c.args.count l.counter (drop l.at bytes) _ a (drop c.in-Some.next bytes) c.loop-test.true (sym c.in-Some.ensures) (may (option_map (λ s. s.now) l.last) a (search rules)) in
+    let turn = attrs-turn (option_map (λ s. s.now) l.last) c.args.count l.counter (drop l.at bytes) _ a (drop c.in-Some.next bytes) c.loop-test.true (sym c.in-Some.ensures.found) (may (option_map (λ s. s.now) l.last) a (search rules)) in
     let out = c.in_ok-print_lent_attr.ensures in
     let pen = out.prints.pen in
     record {

@@ -14,7 +14,7 @@ returns-in_err-value-in-0 c =
     let rest : List ℕ = drop c.in_ok-kind.at bytes in
     let none : c.from_residual-in_err-value-in-0.result ≡ None = search rules in
     let kind : byte_at bytes ≡ Some (0, rest) = sym c.in_ok-kind.ensures.found ∙ ap (λ (n : ℕ). Some (n, rest)) c.in-0.is in
-    ap body_found none ∙ sym (no-scalar bytes rest kind (sym c.in_err-value-in-0.ensures))
+    ap body_found none ∙ sym (no-scalar bytes rest kind (sym c.in_err-value-in-0.ensures.found))
 
 pub returns-then-behind-bytes : goal.returns-then-behind-bytes
 returns-then-behind-bytes c =
@@ -22,7 +22,7 @@ returns-then-behind-bytes c =
     let rest : List ℕ = drop c.in_ok-kind.at bytes in
     let v = c.in_ok-value-in-0 in
     let kind : byte_at bytes ≡ Some (0, rest) = sym c.in_ok-kind.ensures.found ∙ ap (λ (n : ℕ). Some (n, rest)) c.in-0.is in
-    sym (scalar-more bytes rest (lent_scalar_view v.value) v.behind bytes kind (sym v.ensures) c.if-behind-bytes.true)
+    sym (scalar-more bytes rest (lent_scalar_view v.value) v.behind bytes kind (sym v.ensures.found) c.if-behind-bytes.true)
 
 pub returns-else-behind-bytes : goal.returns-else-behind-bytes
 returns-else-behind-bytes c =
@@ -30,7 +30,7 @@ returns-else-behind-bytes c =
     let rest : List ℕ = drop c.in_ok-kind.at bytes in
     let v = c.in_ok-value-in-0 in
     let kind : byte_at bytes ≡ Some (0, rest) = sym c.in_ok-kind.ensures.found ∙ ap (λ (n : ℕ). Some (n, rest)) c.in-0.is in
-    sym (scalar-whole bytes rest (lent_scalar_view v.value) v.behind bytes kind (sym v.ensures) c.if-behind-bytes.false)
+    sym (scalar-whole bytes rest (lent_scalar_view v.value) v.behind bytes kind (sym v.ensures.found) c.if-behind-bytes.false)
 
 pub returns-in-1 : goal.returns-in-1
 returns-in-1 c =

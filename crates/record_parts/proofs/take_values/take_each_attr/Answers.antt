@@ -2,10 +2,10 @@ use Rattle.std.proofs.Common.{rules, ◌≡◌, ◌++◌, ◌∷◌, [], map, dr
 use Rattle.std.specs.Option.{option_map}
 use Rattle.std.proofs.lemmas.List.{map_push}
 use Rattle.jsonml_tree.specs.Data.{PlainAttr}
+use Rattle.jsonml_tree.specs.LentAttrs.{lent_scalar_view}
 use Rattle.jsonml_tree.specs.View.{attr_view}
 use Rattle.record_parts.specs.Reading.{attr_at, next_attr}
 use Rattle.xa_fields.specs.Reading.{chain_at}
-use Rattle.record_parts.specs.Shown.{shown_scalar}
 use Rattle.xa_fields.proofs.Chains.{chain_on, chain_breaks, chain_stops, chain_done}
 use Rattle.record_parts.proofs.Names.{may, may_not}
 use Rattle.record_parts.proofs.take_values.take_each_attr.Goals as goal
@@ -16,13 +16,13 @@ returns-in_default-clause-found c =
 
 pub returns-then-not-is_above-clause-found : goal.returns-then-not-is_above-clause-found
 returns-then-not-is_above-clause-found c =
-    let a : PlainAttr = record { name = c.in-Some.name.now; value = shown_scalar c.in-Some.value } in
+    let a : PlainAttr = record { name = c.in-Some.name.now; value = lent_scalar_view c.in-Some.value } in
     chain_stops attr_at next_attr (option_map (λ s. s.now) c.loop.last) (map attr_view c.loop.attrs.items) c.args.count c.loop.counter (drop c.loop.at c.args.bytes.now) a (drop c.in-Some.next c.args.bytes.now) (chain_at attr_at next_attr None c.args.count (drop c.args.at c.args.bytes.now)) c.loop-test.true
     (sym c.in-Some.ensures.found) (may_not (option_map (λ s. s.now) c.loop.last) a (search rules)) c.loop.invariant.read
 
 pub loop-preserved : goal.loop-preserved
 loop-preserved c =
-    let a : PlainAttr = record { name = c.in-Some.name.now; value = shown_scalar c.in-Some.value } in
+    let a : PlainAttr = record { name = c.in-Some.name.now; value = lent_scalar_view c.in-Some.value } in
     let n = c.in_ok-attr.attr in
     let n_is : attr_view n ≡ a = search rules in
     let e : map attr_view c.push.new.self.items ≡ map attr_view c.loop.attrs.items ++ a ∷ [] = rw c.in_ok-push.ensures.items (map_push _ c.loop.attrs.items n ∙ ap (λ (x : PlainAttr). map attr_view c.loop.attrs.items ++ x ∷ []) n_is) in
