@@ -9,7 +9,6 @@ ghost use Rattle.keyed_parts.specs.View.{kid_view, kids_view};
 ghost use Rattle.archive_tree.specs.View.{stamp_view, alt_view, node_view};
 ghost use Rattle.nested_merge.specs.Merged.{started, fresh, below, above};
 
-use crate::stand_in::{order, own};
 use archive_tree::{ANode, Alt};
 use keyed_parts::{Kid, Kids};
 use keyed_tree::{Body, Keyed, Label};
@@ -31,18 +30,19 @@ pub fn put_below<'k, 'a, 't>(
     requires from { 1 ≤ n }
     requires ascending { IsTrue (ascend (kids_from (kids_view new))) }
     ensures kid { IfOk result (λ r. option_map kid_view r.0
-        ≡ kid_at (label_view label.now) (kids_view new)) }
-    ensures left { IfOk result (λ r. kids_view r.1 ≡ above (label_view label.now) (kids_view new)) }
+        ≡ kid_at (label_view label.now) (kids_view new.entry)) }
+    ensures left { IfOk result (λ r. kids_view r.1
+        ≡ above (label_view label.now) (kids_view new.entry)) }
     ensures nodes { OnOk result (map node_view nodes.new.items ≡ map node_view nodes.old.items
         ++ map (fresh (started n (pairs_of parent.now)))
-        (below (label_view label.now) (kids_view new))) }
+        (below (label_view label.now) (kids_view new.entry))) }
 {
     let mut left = new;
     loop {
         match left.split_first() {
-            Some((kid, behind)) => match order(kid, label) {
+            Some((kid, behind)) => match kid.order(label) {
                 Ordering::Less => {
-                    nodes.push(started_node(alloc, n, parent, kid)?)?;
+                    put_started(alloc, n, parent, kid, nodes)?;
                     left = behind;
                 }
                 Ordering::Equal => return Ok((Some(kid), behind)),
@@ -63,37 +63,35 @@ pub fn put_all(
 ) -> Result<(), AllocError>
     requires { 1 ≤ n }
     ensures { OnOk result (map node_view nodes.new.items ≡ map node_view nodes.old.items
-        ++ map (fresh (started n (pairs_of parent.now))) (kids_view new)) }
+        ++ map (fresh (started n (pairs_of parent.now))) (kids_view new.entry)) }
 {
     let mut left = new;
     while let Some((kid, behind)) = left.split_first() {
-        nodes.push(started_node(alloc, n, parent, kid)?)?;
+        put_started(alloc, n, parent, kid, nodes)?;
         left = behind;
     }
     Ok(())
 }
 
-// A node that begins with version n, under a parent that had the set before.
-fn started_node(
+// Appends the node of a kid that begins with version n, under a parent that had the set before.
+fn put_started(
     alloc: Global,
     n: u32,
     parent: &VersionSet,
     new: Kid<'_, '_, '_>,
-) -> Result<ANode, AllocError>
+    nodes: &mut Vec<ANode>,
+) -> Result<(), AllocError>
     requires { 1 ≤ n }
-    ensures { IfOk result
-        (λ a. node_view a ≡ fresh (started n (pairs_of parent.now)) (kid_view new)) }
+    ensures { OnOk result (map node_view nodes.new.items ≡ map node_view nodes.old.items
+        ++ fresh (started n (pairs_of parent.now)) (kid_view new.entry) ∷ []) }
 {
-    let new = own(new, alloc)?;
-    fresh_node(alloc, started_stamp(alloc, n, parent), new)
+    let stamp = started_stamp(alloc, n, parent);
+    nodes.push(fresh_node(alloc, stamp, new.own(alloc)?)?)?;
+    Ok(())
 }
 
 #[cycle(fresh)]
-fn fresh_node(
-    alloc: Global,
-    stamp: Option<VersionSet>,
-    new: Keyed,
-) -> Result<ANode, AllocError>
+fn fresh_node(alloc: Global, stamp: Option<VersionSet>, new: Keyed) -> Result<ANode, AllocError>
     ensures { IfOk result (λ a. node_view a ≡ fresh (stamp_view stamp) (keyed_view new)) }
 {
     match new {

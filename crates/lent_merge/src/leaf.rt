@@ -9,7 +9,6 @@ ghost use Rattle.nested_merge.specs.Below.{is_stamp_below, are_alts_below};
 ghost use Rattle.nested_merge.specs.Merged.{has_alt, merged_alt, merged_alts};
 
 use crate::stamp::{grow, keep};
-use crate::stand_in::{own_body, same};
 use archive_tree::Alt;
 use keyed_parts::LentBody;
 use std::alloc::{AllocError, Global};
@@ -27,10 +26,10 @@ pub fn merge_alts(
     requires from { 1 ≤ n }
     requires below { IsTrue (are_alts_below n (map alt_view alts.old.items)) }
     ensures { OnOk result (map alt_view alts.new.items
-        ≡ merged_alts n (pairs_of set.now) (body_view body) (map alt_view alts.old.items)) }
+        ≡ merged_alts n (pairs_of set.now) (body_view body.entry) (map alt_view alts.old.items)) }
 {
     if !mark_alts(n, set, body, alts)? {
-        let body = own_body(body, alloc)?;
+        let body = body.own(alloc)?;
         let stamp = Some(VersionSet::single(alloc, n));
         alts.push(Alt { stamp, body })?;
     }
@@ -46,8 +45,9 @@ fn mark_alts(
 ) -> Result<bool, AllocError>
     requires { IsTrue (are_alts_below n (map alt_view alts.old)) }
     ensures marked { OnOk result (map alt_view alts.new
-        ≡ map (merged_alt n (pairs_of set.now) (body_view body)) (map alt_view alts.old)) }
-    ensures found { IfOk result (λ found. found ≡ has_alt (body_view body) (map alt_view alts.old)) }
+        ≡ map (merged_alt n (pairs_of set.now) (body_view body.entry)) (map alt_view alts.old)) }
+    ensures found { IfOk result
+        (λ found. found ≡ has_alt (body_view body.entry) (map alt_view alts.old)) }
 {
     let mut found = false;
     for alt in alts.iter_mut() {
@@ -67,11 +67,11 @@ fn mark_alt(
 ) -> Result<bool, AllocError>
     requires { IsTrue (is_stamp_below n (stamp_view alt.old.stamp)) }
     ensures marked { OnOk result (alt_view alt.new
-        ≡ merged_alt n (pairs_of set.now) (body_view body) (alt_view alt.old)) }
+        ≡ merged_alt n (pairs_of set.now) (body_view body.entry) (alt_view alt.old)) }
     ensures found { IfOk result
-        (λ found. found ≡ is_eq (key_cmp (alt_view alt.old).body (body_view body))) }
+        (λ found. found ≡ is_eq (key_cmp (alt_view alt.old).body (body_view body.entry))) }
 {
-    if same(body, &alt.body) {
+    if body.same(&alt.body) {
         grow(n, &mut alt.stamp)?;
         Ok(true)
     } else {

@@ -5,7 +5,6 @@ mod fresh;
 mod leaf;
 mod row;
 mod stamp;
-mod stand_in;
 mod version;
 
 pub use version::merge_lent;

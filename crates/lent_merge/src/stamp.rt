@@ -23,7 +23,8 @@ pub fn grow(n: u32, stamp: &mut Option<VersionSet>) -> Result<(), AllocError>
 
 // The stamp of what a version does not have, under a parent with it that had the set before.
 pub fn keep(parent: &VersionSet, stamp: &mut Option<VersionSet>) -> Result<(), AllocError>
-    ensures { OnOk result (stamp_view stamp.new ≡ kept (pairs_of parent.now) (stamp_view stamp.old)) }
+    ensures { OnOk result (stamp_view stamp.new
+        ≡ kept (pairs_of parent.now) (stamp_view stamp.old)) }
 {
     if stamp.is_none() {
         *stamp = Some(parent.copy()?);
@@ -33,7 +34,8 @@ pub fn keep(parent: &VersionSet, stamp: &mut Option<VersionSet>) -> Result<(), A
 
 // A node that a version does not have, under a parent with it that had the set before.
 pub fn vanish(parent: &VersionSet, node: &mut ANode) -> Result<(), AllocError>
-    ensures { OnOk result (node_view node.new ≡ vanished (pairs_of parent.now) (node_view node.old)) }
+    ensures { OnOk result (node_view node.new
+        ≡ vanished (pairs_of parent.now) (node_view node.old)) }
 {
     match node {
         ANode::Inner { stamp, .. } => keep(parent, stamp),

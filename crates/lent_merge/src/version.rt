@@ -10,7 +10,7 @@ ghost use Rattle.archive_tree.specs.Stands.{ArchiveOf};
 ghost use Rattle.nested_merge.specs.Alike.{AlikeAll};
 ghost use Rattle.nested_merge.specs.Merged.{with_version};
 
-use crate::row::merged_kids;
+use crate::row::merge_kids;
 use archive_tree::Archive;
 use key_annotate::LentKeyed;
 use keyed_parts::Kids;
@@ -43,6 +43,7 @@ pub fn merge_lent(
 {
     let (n, kids) = old.into_parts();
     let all = VersionSet::upto(alloc, n);
-    let kids = merged_kids(alloc, n + 1, &all, kids, Kids::only(new))?;
+    let mut kids = kids;
+    merge_kids(alloc, n + 1, &all, &mut kids, Kids::only(new))?;
     Ok(Archive::new(n + 1, kids))
 }

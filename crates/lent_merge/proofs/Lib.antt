@@ -1,0 +1,3 @@
+mod Walk
+mod Sizes
+mod Grown
