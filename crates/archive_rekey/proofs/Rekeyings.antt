@@ -11,7 +11,6 @@ use Rattle.keyed_tree.specs.Plain.{plain}
 use Rattle.key_spec.specs.Data.{PlainRule}
 use Rattle.key_rules.specs.Faults.{PlainKeyFault}
 use Rattle.key_rules.specs.Satisfies.{Satisfies}
-use Rattle.key_annotate.specs.Annotated.{keyed_tree}
 use Rattle.key_annotate.specs.Stands.{Stands}
 use Rattle.archive_tree.specs.Data.{PlainArchive}
 use Rattle.archive_tree.specs.Stands.{ArchiveOf, version_of}
