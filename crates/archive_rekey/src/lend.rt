@@ -92,6 +92,7 @@ fn lend_row<'a>(alloc: Global, number: u32, nodes: &'a [ANode]) -> Result<LentRo
         (items_among (read_row number (number ∷ []) (nodes_view nodes.now)))) }
 {
     let mut attrs = Vec::new(alloc);
+    // Few of many nodes may be in the version, so they are counted before room is taken.
     let mut items = Vec::with_capacity(alloc, count_items(number, nodes))?;
     for node in nodes {
         if has_version(node.stamp(), number) {

@@ -25,3 +25,9 @@ lend_node-returns-in_ok-lend_row-in-Inner t c = grind (arith, nodes, lent_trees,
 
 pub lend_node-returns-in-Leaf : goal.lend_node-returns-in-Leaf
 lend_node-returns-in-Leaf t c = grind (arith, nodes, lent_trees, body_below)
+
+pub lend_row-loop-node-init : goal.lend_row-loop-node-init
+lend_row-loop-node-init t c = grind (arith, common_steps)
+
+pub lend_row-loop-node-preserved : goal.lend_row-loop-node-preserved
+lend_row-loop-node-preserved t c = grind (arith, common_steps)
