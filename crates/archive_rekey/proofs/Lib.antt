@@ -1,1 +1,4 @@
+mod Below
+mod Documents
+mod LentRows
 mod Rekeyings

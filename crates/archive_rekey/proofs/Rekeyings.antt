@@ -1,26 +1,24 @@
 -- Versions under other keys: how the list grows by one, and what follows of it.
-use Rattle.std.proofs.Common.{◌≡◌, ◌<◌, ◌≤◌, ◌+◌, ℕ, zero, suc, List, [], ◌∷◌, ◌++◌, length, take, Option, Some, None, Result, Ok, Err, IfErr, IfSome, inl, inr, refl, sym, ap, subst, ◌∙◌, arith}
+use Rattle.std.proofs.Common.{◌≡◌, ◌<◌, ◌≤◌, ◌+◌, ℕ, zero, suc, List, [], ◌∷◌, ◌++◌, length, take, Option, Some, None, IfSome, inl, inr, refl, sym, ap, subst, ◌∙◌, arith}
 use Rattle.std.proofs.lemmas.List.{length-take-le, take_all, take_more}
 use Rattle.std.proofs.lemmas.Option.{get_or_from_slice_get, slice_get_within}
 use Rattle.std.specs.List.{AllByRecursion, slice_get}
-use Rattle.std.specs.Result.{IsErrAnd}
+use Rattle.std.specs.Option.{option_map}
+use Rattle.jsonml_tree.specs.Data.{PlainTree}
 use Rattle.keyed_tree.specs.Alike.{AllAlike}
 use Rattle.keyed_tree.specs.Data.{PlainKeyed}
 use Rattle.keyed_tree.specs.Lists.{Has}
 use Rattle.keyed_tree.specs.Plain.{plain}
 use Rattle.key_spec.specs.Data.{PlainRule}
-use Rattle.key_rules.specs.Faults.{PlainKeyFault}
+use Rattle.key_rules.specs.Faults.{PlainKeyFault, first_fault}
 use Rattle.key_rules.specs.Satisfies.{Satisfies}
-use Rattle.key_annotate.specs.Annotated.{keyed_tree}
 use Rattle.key_annotate.specs.Stands.{Stands}
 use Rattle.archive_tree.specs.Data.{PlainArchive}
 use Rattle.archive_tree.specs.Stands.{ArchiveOf, version_of}
 use Rattle.nested_merge.specs.Alike.{AlikeAll}
 use Rattle.archive_file.specs.KeyedBy.{AreKeyedBy, IsKeyedBy}
-use Rattle.archive_rekey.specs.Progress.{IsVersionUnder, Reaches}
+use Rattle.archive_rekey.specs.Progress.{IsBehind, IsFaultOf, Reaches}
 use Rattle.archive_rekey.specs.Rekeyed.{AreRekeyed, IsArchiveUnder, IsBad, IsFirstBad}
-use Rattle.archive_rekey.specs.View.{bad_version}
-use Rattle.archive_rekey.specs.declared.fault.RekeyFault.{RekeyFault}
 
 -- ---- the items of a list
 
@@ -116,16 +114,31 @@ one_fault rules vs i j f g h k =
 pub reaches-none : (rules : List PlainRule) (vs : List PlainKeyed) (b : PlainArchive) → ArchiveOf [] b → Reaches rules vs 0 b
 reaches-none rules vs b h = record { versions = []; are = tt; archive = h; keyed = tt }
 
+-- the version of this number spells this document
+record Spells (vs : List PlainKeyed) (i : ℕ) (t : PlainTree) : Type 0 where
+  version : PlainKeyed
+  is : version_of vs i ≡ Some version
+  document : t ≡ plain version
+
+spells : (vs : List PlainKeyed) (i : ℕ) (t : PlainTree) → option_map plain (version_of vs i) ≡ Some t → Spells vs i t
+spells vs i t e = go (version_of vs i) refl e
+  where
+    go : (o : Option PlainKeyed) → version_of vs i ≡ o → option_map plain o ≡ Some t → Spells vs i t
+    go None d f = cc
+    go (Some v) d f = record { version = v; is = d; document = cc }
+
 -- one version more
-pub reaches-next : (rules : List PlainRule) (vs : List PlainKeyed) (i : ℕ) (b d : PlainArchive) (k : PlainKeyed) → Reaches rules vs i b → IsVersionUnder rules vs (i + 1) k → IsKeyedBy rules k
-    → ((us : List PlainKeyed) → ArchiveOf us b → ArchiveOf (us ++ k ∷ []) d) → Reaches rules vs (i + 1) d
-reaches-next rules vs i b d k r w keyed merged =
-    let grown = take-next vs i w.version (at-number vs i w.version w.is) in
+pub reaches-next : (rules : List PlainRule) (vs : List PlainKeyed) (i : ℕ) (b d : PlainArchive) (t : PlainTree) → Reaches rules vs i b → option_map plain (version_of vs (i + 1)) ≡ Some t → IsBehind rules t b d
+    → Reaches rules vs (i + 1) d
+reaches-next rules vs i b d t r spelled h =
+    let next = spells vs (i + 1) t spelled in
+    let grown = take-next vs i next.version (at-number vs i next.version next.is) in
+    let under = subst (λ z. Stands rules z h.tree) next.document h.stands in
     record {
-      versions = r.versions ++ k ∷ [];
-      are = subst (λ ws. AreRekeyed rules ws (r.versions ++ k ∷ [])) (sym grown) (rekeyed-behind rules (take i vs) r.versions w.version k r.are w.stands);
-      archive = merged r.versions r.archive;
-      keyed = all-behind (IsKeyedBy rules) r.versions k r.keyed keyed;
+      versions = r.versions ++ h.tree ∷ [];
+      are = subst (λ ws. AreRekeyed rules ws (r.versions ++ h.tree ∷ [])) (sym grown) (rekeyed-behind rules (take i vs) r.versions next.version h.tree r.are under);
+      archive = h.archive r.versions r.archive;
+      keyed = all-behind (IsKeyedBy rules) r.versions h.tree r.keyed h.keyed;
     }
 
 pub reaches-count : (rules : List PlainRule) (vs : List PlainKeyed) (i : ℕ) (a b : PlainArchive) → ArchiveOf vs a → i ≤ a.n → Reaches rules vs i b → b.n ≡ i
@@ -143,12 +156,9 @@ room rules vs i a b is low few r =
     omega (arith, count, few)
 
 -- it goes with those before it
-pub alike : ((vs us : List PlainKeyed) (a : PlainArchive) → ArchiveOf vs a → ArchiveOf us a → vs ≡ us) → ((rules : List PlainRule) (vs : List PlainKeyed) → AreKeyedBy rules vs → AllAlike vs)
-    → (rules : List PlainRule) (vs : List PlainKeyed) (i : ℕ) (b : PlainArchive) (k : PlainKeyed) → Reaches rules vs i b → IsKeyedBy rules k → (us : List PlainKeyed) → ArchiveOf us b → AlikeAll us k
-alike one_list keyed_alike rules vs i b k r keyed us h v m =
-    let one : us ≡ r.versions = one_list us r.versions b h r.archive in
-    let there : Has v r.versions = subst (Has v) one m in
-    keyed_alike rules (r.versions ++ k ∷ []) (all-behind (IsKeyedBy rules) r.versions k r.keyed keyed) v k (has-front r.versions k v there) (has-last r.versions k)
+pub alike : ((rules : List PlainRule) (vs : List PlainKeyed) → AreKeyedBy rules vs → AllAlike vs)
+    → (rules : List PlainRule) (us : List PlainKeyed) (k : PlainKeyed) → AreKeyedBy rules us → IsKeyedBy rules k → AlikeAll us k
+alike keyed_alike rules us k keyed h v m = keyed_alike rules (us ++ k ∷ []) (all-behind (IsKeyedBy rules) us k keyed h) v k (has-front us k v m) (has-last us k)
 
 -- all of them
 pub reaches-all : (rules : List PlainRule) (vs : List PlainKeyed) (i : ℕ) (a b : PlainArchive) → ArchiveOf vs a → i ≡ a.n → Reaches rules vs i b → IsArchiveUnder rules vs b
@@ -166,14 +176,25 @@ reaches-keyed one_list rules vs i b r us h = subst (AreKeyedBy rules) (one_list 
 
 -- ---- the first bad one
 
-if-some : {X : Type 0} (o : Option X) (P Q : X → Type 0) → ((b : X) → P b → Q b) → IfSome o P → IfSome o Q
+-- what follows of a fault, where it is that of a version
+pub if-some : {X : Type 0} (o : Option X) (P Q : X → Type 0) → ((b : X) → P b → Q b) → IfSome o P → IfSome o Q
 if-some None P Q f h = tt
 if-some (Some b) P Q f h = f b h
 
--- what is said of a fault is said of the answer that passes it on
-pub fault-passed : {A : Type 0} (r : Result A RekeyFault) (e : RekeyFault) (P Q : ℕ × PlainKeyFault → Type 0) → IsErrAnd r (λ f. f ≡ e) → ((b : ℕ × PlainKeyFault) → P b → Q b) → IfSome (bad_version e) P → IfErr r (λ f. IfSome (bad_version f) Q)
-fault-passed (Ok x) e P Q same f h = tt
-fault-passed (Err g) e P Q same f h = subst (λ z. IfSome (bad_version z) Q) (sym same) (if-some (bad_version e) P Q f h)
+-- the first fault of a document is that of the version that spells it
+is-bad : (rules : List PlainRule) (vs : List PlainKeyed) (i : ℕ) (t : PlainTree) (x : ℕ × PlainKeyFault) → option_map plain (version_of vs i) ≡ Some t → IsFaultOf rules i t x → IsBad rules vs x.0 x.1
+is-bad rules vs i t x spelled h =
+    let here = spells vs i t spelled in
+    record {
+      version = here.version;
+      is = subst (λ n. version_of vs n ≡ Some here.version) (sym h.number) here.is;
+      bad = λ s. h.bad (subst (Satisfies rules) (sym here.document) s);
+      fault = subst (λ z. first_fault rules z ≡ Some x.1) here.document h.fault;
+    }
 
-pub first-bad : (rules : List PlainRule) (vs : List PlainKeyed) (i : ℕ) (b : PlainArchive) (x : ℕ × PlainKeyFault) → Reaches rules vs i b → (x.0 ≡ i + 1) × IsBad rules vs x.0 x.1 → IsFirstBad rules vs x.0 x.1
-first-bad rules vs i b x r h = record { here = h.1; before = λ j v low e. satisfied-before rules vs r.versions i j v r.are (subst (λ n. j < n) h.0 low) e }
+pub first-bad : (rules : List PlainRule) (vs : List PlainKeyed) (i : ℕ) (b : PlainArchive) (t : PlainTree) (x : ℕ × PlainKeyFault) → Reaches rules vs i b → option_map plain (version_of vs (i + 1)) ≡ Some t → IsFaultOf rules (i + 1) t x
+    → IsFirstBad rules vs x.0 x.1
+first-bad rules vs i b t x r spelled h = record {
+  here = is-bad rules vs (i + 1) t x spelled h;
+  before = λ j v low e. satisfied-before rules vs r.versions i j v r.are (subst (λ n. j < n) h.number low) e;
+}

@@ -3,6 +3,7 @@
 
 mod fault;
 mod laws;
+mod lend;
 mod versions;
 
 pub use fault::RekeyFault;

@@ -1,33 +1,33 @@
 // The versions of an archive under other keys, one after another.
-ghost use Rattle.std.specs.Prelude.{◌≡◌, ◌+◌, ◌≤◌, ◌<◌, List, Some, IfOk, IfErr, IfSome};
-ghost use Rattle.std.specs.Option.{option_map};
-ghost use Rattle.jsonml_tree.specs.View.{tree_view};
+ghost use Rattle.std.specs.Prelude.{◌≡◌, ◌+◌, ◌<◌, List, IfOk, IfErr, IfSome};
+ghost use Rattle.jsonml_tree.specs.LentView.{lent_tree_view};
 ghost use Rattle.keyed_tree.specs.Data.{PlainKeyed};
-ghost use Rattle.keyed_tree.specs.Plain.{plain};
-ghost use Rattle.keyed_tree.specs.View.{keyed_view};
 ghost use Rattle.key_spec.specs.View.{spec_view};
+ghost use Rattle.key_annotate.specs.LentView.{lent_view};
+ghost use Rattle.key_annotate.specs.Stands.{Stands};
 ghost use Rattle.archive_tree.specs.ArchiveView.{archive_view};
-ghost use Rattle.archive_tree.specs.Stands.{ArchiveOf, version_of};
+ghost use Rattle.archive_tree.specs.Stands.{ArchiveOf};
 ghost use Rattle.archive_file.specs.KeyedBy.{AreKeyedBy, IsKeyedBy};
-ghost use Rattle.archive_rekey.specs.Progress.{IsDocument, IsVersionUnder, Reaches};
-ghost use Rattle.archive_rekey.specs.Rekeyed.{IsArchiveUnder, IsBad, IsFirstBad, SpellDocuments};
+ghost use Rattle.archive_rekey.specs.Progress.{IsBehind, IsDocument, IsFaultOf, Reaches};
+ghost use Rattle.archive_rekey.specs.Rekeyed.{IsArchiveUnder, IsFirstBad, SpellDocuments};
 ghost use Rattle.archive_rekey.specs.View.{bad_version};
 
 use crate::fault::RekeyFault;
+use crate::lend::lend_document;
 use archive_file::keyed_versions_can_be_merged;
 use archive_tree::{Archive, archives_stand_for_one_list};
-use jsonml_tree::Tree;
-use key_annotate::{AnnotateFault, keyed};
+use jsonml_tree::LentTree;
+use key_annotate::{AnnotateFault, LentKeyed, lent_keyed};
 use key_spec::Spec;
-use keyed_tree::Keyed;
-use nested_merge::merge;
+use lent_merge::merge_lent;
 use std::alloc::{AllocError, Global};
 
 /// The archive of the same versions under the keys of the specification, in their order, or the first version that does not
 /// satisfy them.
 ///
-/// It goes over the old archive version by version: each is read, keyed and merged before the next is read. So beside the old
-/// archive it holds the new one and what belongs to one version. Recursion is as deep as nodes and elements nest.
+/// It goes over the old archive version by version: each is lent by the old archive as a document, keyed as it is lent, and
+/// merged as it is lent, before the next is. So beside the old archive it holds the new one and the rows of one version, and
+/// no more of a version is copied than is new in the new archive. Recursion is as deep as nodes and elements nest.
 pub fn rekey(alloc: Global, old: &Archive, spec: &Spec) -> Result<Archive, RekeyFault>
     requires documents { (vs : List PlainKeyed) → ArchiveOf vs (archive_view old.now)
         → SpellDocuments vs }
@@ -70,59 +70,58 @@ fn with_next(
     ensures key { IfErr result (λ e. IfSome (bad_version e) (λ b. (vs : List PlainKeyed)
         → ArchiveOf vs (archive_view old.now) → IsFirstBad (spec_view spec.now) vs b.0 b.1)) }
 {
-    // Laws, for what `merge` requires.
+    // A law, for the proofs of what `with_document` requires.
     archives_stand_for_one_list();
+    let document = lend_document(alloc, old, before + 1)?;
+    with_document(alloc, spec, archive, before + 1, &document)
+}
+
+/// The archive with the keyed tree of the document behind its versions, as the version of that number.
+fn with_document(
+    alloc: Global,
+    spec: &Spec,
+    archive: Archive,
+    number: u32,
+    document: &LentTree<'_>,
+) -> Result<Archive, RekeyFault>
+    requires document { IsDocument (lent_tree_view document.now) }
+    requires room { (archive_view archive).n < 4294967295 }
+    requires keyed { (us : List PlainKeyed) → ArchiveOf us (archive_view archive)
+        → AreKeyedBy (spec_view spec.now) us }
+    ensures next { IfOk result (λ a. IsBehind (spec_view spec.now) (lent_tree_view document.now)
+        (archive_view archive) (archive_view a)) }
+    ensures key { IfErr result (λ e. IfSome (bad_version e)
+        (IsFaultOf (spec_view spec.now) number (lent_tree_view document.now))) }
+{
+    // Laws, for what `merge_lent` requires.
     keyed_versions_can_be_merged();
-    let version = version_under(alloc, spec, old, before + 1)?;
-    match merge(alloc, archive, &version) {
+    let version = version_under(alloc, spec, number, document)?;
+    match merge_lent(alloc, archive, &version) {
         Ok(archive) => Ok(archive),
-        Err(_) => Err(RekeyFault::Memory),
+        Err(AllocError) => Err(RekeyFault::Memory),
     }
 }
 
-/// The keyed tree of the version of that number under the specification.
-fn version_under(
+/// The keyed tree of the document that the version of that number spells, under the specification.
+fn version_under<'a, 't>(
     alloc: Global,
-    spec: &Spec,
-    old: &Archive,
+    spec: &'a Spec,
     number: u32,
-) -> Result<Keyed, RekeyFault>
-    requires documents { (vs : List PlainKeyed) → ArchiveOf vs (archive_view old.now)
-        → SpellDocuments vs }
-    requires first { 1 ≤ number }
-    requires last { number ≤ (archive_view old.now).n }
-    ensures version { IfOk result (λ k. (vs : List PlainKeyed) → ArchiveOf vs (archive_view old.now)
-        → IsVersionUnder (spec_view spec.now) vs number (keyed_view k)) }
-    ensures keyed { IfOk result (λ k. IsKeyedBy (spec_view spec.now) (keyed_view k)) }
-    ensures key { IfErr result (λ e. IfSome (bad_version e) (λ b. (vs : List PlainKeyed)
-        → ArchiveOf vs (archive_view old.now)
-        → (b.0 ≡ number) × IsBad (spec_view spec.now) vs b.0 b.1)) }
+    document: &'a LentTree<'t>,
+) -> Result<LentKeyed<'a, 't>, RekeyFault>
+    requires document { IsDocument (lent_tree_view document.now) }
+    ensures version { IfOk result
+        (λ k. Stands (spec_view spec.now) (lent_tree_view document.now) (lent_view k)) }
+    ensures keyed { IfOk result (λ k. IsKeyedBy (spec_view spec.now) (lent_view k)) }
+    ensures key { IfErr result (λ e. IfSome (bad_version e)
+        (IsFaultOf (spec_view spec.now) number (lent_tree_view document.now))) }
 {
-    let document = document_of(alloc, old, number)?;
-    match keyed(alloc, spec, &document) {
+    match lent_keyed(alloc, spec, document) {
         Ok(tree) => Ok(tree),
         Err(AnnotateFault::Key(fault)) => Err(RekeyFault::Key {
             version: number,
             fault,
         }),
         Err(AnnotateFault::Memory) => Err(RekeyFault::Memory),
-    }
-}
-
-/// The document that the version of that number spells.
-fn document_of(alloc: Global, old: &Archive, number: u32) -> Result<Tree, AllocError>
-    requires documents { (vs : List PlainKeyed) → ArchiveOf vs (archive_view old.now)
-        → SpellDocuments vs }
-    requires first { 1 ≤ number }
-    requires last { number ≤ (archive_view old.now).n }
-    ensures spelled { IfOk result (λ t. (vs : List PlainKeyed) → ArchiveOf vs (archive_view old.now)
-        → option_map plain (version_of vs number) ≡ Some (tree_view t)) }
-    ensures document { IfOk result (λ t. IsDocument (tree_view t)) }
-{
-    // A law, for what `plain` requires.
-    archives_stand_for_one_list();
-    match old.version(alloc, number)? {
-        Some(version) => version.plain(alloc),
-        None => unreachable!(),
     }
 }

@@ -1,0 +1,197 @@
+// The versions of an archive as documents, which the archive lends.
+ghost use Rattle.std.specs.Prelude.{◌≡◌, ◌≤◌, List, [], ◌∷◌, Some, IfOk, IsTrue, map, length};
+ghost use Rattle.std.specs.Option.{option_map, option_to_list, unwrap_or};
+ghost use Rattle.version_set.specs.Members.{has};
+ghost use Rattle.jsonml_tree.specs.Data.{content, element, list_of, no_trees, null};
+ghost use Rattle.jsonml_tree.specs.LentAttrs.{lent_attr_view};
+ghost use Rattle.jsonml_tree.specs.LentView.{lent_row_view, lent_tree_view};
+ghost use Rattle.keyed_tree.specs.Data.{PlainKeyed, scalar};
+ghost use Rattle.keyed_tree.specs.Plain.{attr_onto, attrs_among, content_of, items_among, plain};
+ghost use Rattle.keyed_tree.specs.View.{key_view};
+ghost use Rattle.archive_tree.specs.ArchiveView.{archive_view};
+ghost use Rattle.archive_tree.specs.Data.{eff, node_stamp};
+ghost use Rattle.archive_tree.specs.Read.{body_at, read, read_root, read_row};
+ghost use Rattle.archive_tree.specs.Stands.{ArchiveOf, version_of};
+ghost use Rattle.archive_tree.specs.View.{alt_view, node_view, nodes_view, stamp_view};
+ghost use Rattle.archive_rekey.specs.Progress.{IsDocument};
+ghost use Rattle.archive_rekey.specs.Rekeyed.{SpellDocuments};
+
+use archive_tree::{ANode, Alt, Archive, archives_stand_for_one_list};
+use jsonml_tree::{LentAttr, LentRow, LentScalar, LentTree};
+use keyed_tree::{Body, KeyVal, Name};
+use std::alloc::{AllocError, Global};
+use std::borrow::CowStr;
+use version_set::VersionSet;
+
+/// The document that the version of that number spells.
+///
+/// It takes memory for rows, and copies no text. A node that stores no set is in each version that has its parent, so no set
+/// is looked at but those that are stored. Recursion is as deep as nodes and elements nest.
+pub(crate) fn lend_document<'a>(
+    alloc: Global,
+    old: &'a Archive,
+    number: u32,
+) -> Result<LentTree<'a>, AllocError>
+    requires documents { (vs : List PlainKeyed) → ArchiveOf vs (archive_view old.now)
+        → SpellDocuments vs }
+    requires first { 1 ≤ number }
+    requires last { number ≤ (archive_view old.now).n }
+    ensures spelled { IfOk result (λ t. (vs : List PlainKeyed) → ArchiveOf vs (archive_view old.now)
+        → option_map plain (version_of vs number) ≡ Some (lent_tree_view t)) }
+    ensures document { IfOk result (λ t. IsDocument (lent_tree_view t)) }
+{
+    // A law, for the proof.
+    archives_stand_for_one_list();
+    match lend_root(alloc, number, old.kids())? {
+        Some(document) => Ok(document),
+        None => unreachable!(),
+    }
+}
+
+/// The element that the version spells, of the kids of the virtual root.
+fn lend_root<'a>(
+    alloc: Global,
+    number: u32,
+    nodes: &'a [ANode],
+) -> Result<Option<LentTree<'a>>, AllocError>
+    ensures { IfOk result (λ o. option_map lent_tree_view o
+        ≡ option_map plain (read_root number (number ∷ []) (nodes_view nodes.now))) }
+{
+    for node in nodes {
+        if has_version(node.stamp(), number) {
+            return Ok(Some(lend_node(alloc, number, node)?));
+        }
+    }
+    Ok(None)
+}
+
+/// The element that a node spells in a version that has it.
+#[cycle(lend)]
+fn lend_node<'a>(alloc: Global, number: u32, node: &'a ANode) -> Result<LentTree<'a>, AllocError>
+    requires { IsTrue (has (eff (node_stamp (node_view node.now)) (number ∷ [])) number) }
+    ensures { IfOk result (λ t. lent_tree_view t
+        ≡ plain (read number (number ∷ []) (node_view node.now))) }
+{
+    match node {
+        ANode::Inner { label, kids, .. } => Ok(LentTree::Elem {
+            tag: CowStr::Borrowed(label.name.as_str()),
+            row: lend_row(alloc, number, kids)?,
+        }),
+        ANode::Leaf { label, alts, .. } => {
+            lend_leaf(alloc, label.name.as_str(), body_in(number, alts))
+        }
+    }
+}
+
+/// The attributes and the items that the kids of an inner node spell.
+#[cycle(lend)]
+fn lend_row<'a>(alloc: Global, number: u32, nodes: &'a [ANode]) -> Result<LentRow<'a>, AllocError>
+    ensures { IfOk result (λ row. lent_row_view row
+        ≡ content
+        (attrs_among (read_row number (number ∷ []) (nodes_view nodes.now)))
+        (items_among (read_row number (number ∷ []) (nodes_view nodes.now)))) }
+{
+    let mut attrs = Vec::new(alloc);
+    // Few of many nodes may be in the version, so they are counted before room is taken.
+    let mut items = Vec::with_capacity(alloc, count_items(number, nodes))?;
+    for node in nodes {
+        if has_version(node.stamp(), number) {
+            if node.label().name.is_tag() {
+                items.push(lend_node(alloc, number, node)?)?;
+            } else if let Some(attr) = lend_attr(number, node) {
+                attrs.push(attr)?;
+            }
+        }
+    }
+    Ok(LentRow { attrs, items })
+}
+
+/// How many of the nodes spell an item.
+fn count_items(number: u32, nodes: &[ANode]) -> usize
+    ensures { result
+        ≡ length (list_of (items_among (read_row number (number ∷ []) (nodes_view nodes.now)))) }
+{
+    let mut count = 0;
+    for node in nodes {
+        if has_version(node.stamp(), number) && node.label().name.is_tag() {
+            count += 1;
+        }
+    }
+    count
+}
+
+/// The element of that tag with the body.
+fn lend_leaf<'a>(
+    alloc: Global,
+    tag: &'a str,
+    body: Option<&'a Body>,
+) -> Result<LentTree<'a>, AllocError>
+    ensures { IfOk result (λ t. lent_tree_view t
+        ≡ element tag.now
+        (content_of (unwrap_or (option_map (λ b. key_view b.now) body.entry) (scalar null)))) }
+{
+    match body {
+        Some(KeyVal::Content(content)) => LentTree::lend_element(alloc, tag, content),
+        // This does not come: in a version that spells a document an element has a content.
+        _ => Ok(empty_element(alloc, tag)),
+    }
+}
+
+fn empty_element(alloc: Global, tag: &str) -> LentTree<'_>
+    ensures { lent_tree_view result ≡ element tag.now (content [] no_trees) }
+{
+    LentTree::Elem {
+        tag: CowStr::Borrowed(tag),
+        row: LentRow {
+            attrs: Vec::new(alloc),
+            items: Vec::new(alloc),
+        },
+    }
+}
+
+/// The attribute that a node spells in a version that has it, if it is named by one.
+fn lend_attr<'a>(number: u32, node: &'a ANode) -> Option<LentAttr<'a>>
+    requires { IsTrue (has (eff (node_stamp (node_view node.now)) (number ∷ [])) number) }
+    ensures { map lent_attr_view (option_to_list result)
+        ≡ attr_onto (read number (number ∷ []) (node_view node.now)) [] }
+{
+    let ANode::Leaf { label, alts, .. } = node else {
+        return None;
+    };
+    let Name::Attr(name) = &label.name else {
+        return None;
+    };
+    let value = match body_in(number, alts) {
+        Some(KeyVal::Scalar(value)) => value.lend(),
+        Some(KeyVal::Content(_)) => return None,
+        // This does not come: a leaf of an archive has a body in each of its versions.
+        None => LentScalar::Null,
+    };
+    Some(LentAttr::Lent {
+        name: name.as_str(),
+        value,
+    })
+}
+
+/// The body of a leaf in a version that has it.
+fn body_in<'a>(number: u32, alts: &'a [Alt]) -> Option<&'a Body>
+    ensures { unwrap_or (option_map (λ b. key_view b.now) result) (scalar null)
+        ≡ body_at number (number ∷ []) (map alt_view alts.now) }
+{
+    for alt in alts {
+        if has_version(&alt.stamp, number) {
+            return Some(&alt.body);
+        }
+    }
+    None
+}
+
+/// Whether what has the stamp is in the version, where its parent is.
+fn has_version(stamp: &Option<VersionSet>, number: u32) -> bool
+    ensures { result ≡ has (eff (stamp_view stamp.now) (number ∷ [])) number }
+{
+    match stamp {
+        Some(set) => set.contains(number),
+        None => true,
+    }
+}
