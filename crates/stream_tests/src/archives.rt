@@ -20,7 +20,7 @@ use nested_merge::{is_alike, merge};
 use record_cursor::{Cursor, read_header};
 use std::alloc::Global;
 use std::test::Fail;
-use stream_merge::{AddFault, stream_add};
+use stream_merge::{AddFault, stream_add, stream_append};
 use xa_outside::{Folder, FolderFail, MemFolder};
 
 pub(crate) const NAME: &str = "a.xar";
@@ -109,6 +109,26 @@ pub(crate) fn add(
     length: u64,
     document: &str,
 ) -> Result<Result<(), AddFault>, Fail> {
+    grow(alloc, folder, length, document, true)
+}
+
+/// What is answered where the file with the document is appended to the draft and not committed.
+pub(crate) fn append(
+    alloc: Global,
+    folder: &mut MemFolder,
+    length: u64,
+    document: &str,
+) -> Result<Result<(), AddFault>, Fail> {
+    grow(alloc, folder, length, document, false)
+}
+
+fn grow(
+    alloc: Global,
+    folder: &mut MemFolder,
+    length: u64,
+    document: &str,
+    commits: bool,
+) -> Result<Result<(), AddFault>, Fail> {
     let header = read_header(alloc, folder, NAME, length)?;
     if document.len() > 67_108_864 {
         return Err("the document is too long".into());
@@ -117,5 +137,9 @@ pub(crate) fn add(
     let new = lent_keyed(alloc, &header.spec, &tree)?;
     let cursor = Cursor::start(alloc, NAME, &header)?;
     folder.begin()?;
-    Ok(stream_add(alloc, folder, NAME, &header, cursor, &new))
+    if commits {
+        Ok(stream_add(alloc, folder, NAME, &header, cursor, &new))
+    } else {
+        Ok(stream_append(alloc, folder, NAME, &header, cursor, &new))
+    }
 }

@@ -1,7 +1,8 @@
 // Files that gain a version. What is expected was merged in memory and written at once.
-use crate::archives::{NAME, add, file, folder};
+use crate::archives::{NAME, add, append, file, folder};
 use std::alloc::Global;
 use std::test::Fail;
+use xa_outside::Folder;
 
 const TINY: &str = "(/, (db, {}))\n";
 
@@ -144,5 +145,15 @@ fn an_equal_version_changes_two_numbers(rt: HostRuntime) -> Result<(), Fail> {
     let mut folder = folder(rt.alloc(), ONE, Vec::new(rt.alloc()))?;
     let answer = add(rt.alloc(), &mut folder, 142, r#"["db"]"#)?;
     assert!(rt; answer == Ok(()) && folder.file(NAME) == Some(TWO));
+    Ok(())
+}
+
+#[test]
+fn a_version_is_appended_and_committed_later(rt: HostRuntime) -> Result<(), Fail> {
+    let mut folder = folder(rt.alloc(), ONE, Vec::new(rt.alloc()))?;
+    let answer = append(rt.alloc(), &mut folder, 142, r#"["db"]"#)?;
+    assert!(rt; answer == Ok(()) && folder.file(NAME) == Some(ONE));
+    folder.commit(NAME)?;
+    assert!(rt; folder.file(NAME) == Some(TWO));
     Ok(())
 }
