@@ -1,4 +1,5 @@
-use Rattle.std.proofs.Common.{drop, sym}
+use Rattle.std.proofs.lemmas.Grind.{common_steps}
+use Rattle.std.proofs.Common.{drop, sym, arith}
 use Rattle.record_parts.specs.Bounds.{most}
 use Rattle.record_parts.specs.Behind.{behind}
 use Rattle.timestamp_tree.specs.Reading.{pair_at, next_pair}
@@ -21,3 +22,15 @@ loop-preserved c =
 
 pub returns-clause-found : goal.returns-clause-found
 returns-clause-found c = sym (pass_done pair_at (next_pair most) c.loop.low c.args.count c.loop.counter (drop c.loop.at c.args.bytes.now) (behind (chain_at pair_at (next_pair most) 1 c.args.count (drop c.args.at c.args.bytes.now))) c.loop-test.false c.loop.invariant.rest)
+
+pub loop-init : goal.loop-init
+loop-init c = grind (arith, common_steps)
+
+pub returns-in_default-clause-next : goal.returns-in_default-clause-next
+returns-in_default-clause-next c = grind (arith, common_steps)
+
+pub returns-in_default-next_low-clause-next : goal.returns-in_default-next_low-clause-next
+returns-in_default-next_low-clause-next c = grind (arith, common_steps)
+
+pub returns-clause-next : goal.returns-clause-next
+returns-clause-next c = grind (arith, common_steps)

@@ -1,4 +1,5 @@
-use Rattle.std.proofs.Common.{rules, drop, sym}
+use Rattle.std.proofs.lemmas.Grind.{common_steps}
+use Rattle.std.proofs.Common.{rules, drop, sym, arith}
 use Rattle.xa_fields.specs.Reading.{many_at}
 use Rattle.record_parts.specs.Behind.{behind}
 use Rattle.record_parts.specs.Reading.{item_at}
@@ -19,3 +20,24 @@ skip_items-loop-preserved t c =
 
 pub skip_items-returns-clause-found : goal.skip_items-returns-clause-found
 skip_items-returns-clause-found t c = sym (skip_done (item_at c.args.depth) c.args.count c.loop.counter (drop c.loop.at c.args.bytes.now) (behind (many_at (item_at c.args.depth) c.args.count (drop c.args.at c.args.bytes.now))) c.loop-test.false c.loop.invariant.rest)
+
+pub skip_content-returns-clause-next : goal.skip_content-returns-clause-next
+skip_content-returns-clause-next t c = grind (arith, common_steps)
+
+pub skip_content_below-returns-clause-next : goal.skip_content_below-returns-clause-next
+skip_content_below-returns-clause-next t c = grind (arith, common_steps)
+
+pub skip_item-returns-clause-found : goal.skip_item-returns-clause-found
+skip_item-returns-clause-found t c = grind (arith, common_steps)
+
+pub skip_item-returns-clause-next : goal.skip_item-returns-clause-next
+skip_item-returns-clause-next t c = grind (arith, common_steps)
+
+pub skip_item_of-returns-in_default-clause-next : goal.skip_item_of-returns-in_default-clause-next
+skip_item_of-returns-in_default-clause-next t c = grind (arith, common_steps)
+
+pub skip_items-loop-init : goal.skip_items-loop-init
+skip_items-loop-init t c = grind (arith, common_steps)
+
+pub skip_items-returns-clause-next : goal.skip_items-returns-clause-next
+skip_items-returns-clause-next t c = grind (arith, common_steps)

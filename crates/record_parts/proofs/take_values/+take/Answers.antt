@@ -1,4 +1,5 @@
-use Rattle.std.proofs.Common.{◌≡◌, ◌++◌, ◌∷◌, [], map, drop}
+use Rattle.std.proofs.lemmas.Grind.{common_steps}
+use Rattle.std.proofs.Common.{◌≡◌, ◌++◌, ◌∷◌, [], map, drop, arith}
 use Rattle.std.proofs.lemmas.Result.{err_from_is_err_and}
 use Rattle.std.proofs.lemmas.List.{map_push}
 use Rattle.jsonml_tree.specs.View.{tree_view}
@@ -24,3 +25,33 @@ take_items-loop-preserved t c =
 
 pub take_items-returns-clause-found : goal.take_items-returns-clause-found
 take_items-returns-clause-found t c = is_done (item_at c.args.depth) (map tree_view c.loop.items.items) c.args.count c.loop.counter (drop c.loop.at c.args.bytes.now) (many_at (item_at c.args.depth) c.args.count (drop c.args.at c.args.bytes.now)) c.loop-test.false c.loop.invariant.read
+
+pub take_content-returns-in_default-clause-next : goal.take_content-returns-in_default-clause-next
+take_content-returns-in_default-clause-next t c = grind (arith, common_steps)
+
+pub take_content-returns-clause-next : goal.take_content-returns-clause-next
+take_content-returns-clause-next t c = grind (arith, common_steps)
+
+pub take_content_below-returns-clause-next : goal.take_content_below-returns-clause-next
+take_content_below-returns-clause-next t c = grind (arith, common_steps)
+
+pub take_item-returns-in_default-clause-found : goal.take_item-returns-in_default-clause-found
+take_item-returns-in_default-clause-found t c = grind (arith, common_steps)
+
+pub take_item-returns-in_default-clause-next : goal.take_item-returns-in_default-clause-next
+take_item-returns-in_default-clause-next t c = grind (arith, common_steps)
+
+pub take_item-returns-clause-found : goal.take_item-returns-clause-found
+take_item-returns-clause-found t c = grind (arith, common_steps)
+
+pub take_item-returns-clause-next : goal.take_item-returns-clause-next
+take_item-returns-clause-next t c = grind (arith, common_steps)
+
+pub take_item_of-returns-in_default-clause-next : goal.take_item_of-returns-in_default-clause-next
+take_item_of-returns-in_default-clause-next t c = grind (arith, common_steps)
+
+pub take_items-loop-init : goal.take_items-loop-init
+take_items-loop-init t c = grind (arith, common_steps)
+
+pub take_items-returns-clause-next : goal.take_items-returns-clause-next
+take_items-returns-clause-next t c = grind (arith, common_steps)

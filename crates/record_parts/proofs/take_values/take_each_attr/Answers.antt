@@ -1,4 +1,5 @@
-use Rattle.std.proofs.Common.{rules, ◌≡◌, ◌++◌, ◌∷◌, [], map, drop, None, sym, ap, ◌∙◌}
+use Rattle.std.proofs.lemmas.Grind.{common_steps}
+use Rattle.std.proofs.Common.{rules, ◌≡◌, ◌++◌, ◌∷◌, [], map, drop, None, sym, ap, ◌∙◌, arith}
 use Rattle.std.specs.Option.{option_map}
 use Rattle.std.proofs.lemmas.List.{map_push}
 use Rattle.jsonml_tree.specs.Data.{PlainAttr}
@@ -34,3 +35,15 @@ loop-preserved c =
 
 pub returns-clause-found : goal.returns-clause-found
 returns-clause-found c = chain_done attr_at next_attr (option_map (λ s. s.now) c.loop.last) (map attr_view c.loop.attrs.items) c.args.count c.loop.counter (drop c.loop.at c.args.bytes.now) (chain_at attr_at next_attr None c.args.count (drop c.args.at c.args.bytes.now)) c.loop-test.false c.loop.invariant.read
+
+pub loop-init : goal.loop-init
+loop-init c = grind (arith, common_steps)
+
+pub returns-in_default-clause-next : goal.returns-in_default-clause-next
+returns-in_default-clause-next c = grind (arith, common_steps)
+
+pub returns-then-not-is_above-clause-next : goal.returns-then-not-is_above-clause-next
+returns-then-not-is_above-clause-next c = grind (arith, common_steps)
+
+pub returns-clause-next : goal.returns-clause-next
+returns-clause-next c = grind (arith, common_steps)

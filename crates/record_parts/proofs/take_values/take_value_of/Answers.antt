@@ -1,0 +1,15 @@
+use Rattle.std.proofs.Common.{arith}
+use Rattle.std.proofs.lemmas.Grind.{common_steps}
+use Rattle.record_parts.proofs.take_values.take_value_of.Goals as goal
+
+pub returns-in_default-lend_scalar-clause-next : goal.returns-in_default-lend_scalar-clause-next
+returns-in_default-lend_scalar-clause-next c = grind (arith, common_steps)
+
+pub returns-in_ok-own-in-0-clause-next : goal.returns-in_ok-own-in-0-clause-next
+returns-in_ok-own-in-0-clause-next c = grind (arith, common_steps)
+
+pub returns-in_ok-content-in-1-clause-next : goal.returns-in_ok-content-in-1-clause-next
+returns-in_ok-content-in-1-clause-next c = grind (arith, common_steps)
+
+pub returns-in_default-clause-next : goal.returns-in_default-clause-next
+returns-in_default-clause-next c = grind (arith, common_steps)
