@@ -26,8 +26,9 @@ use std::alloc::{AllocError, Global};
 /// satisfy them.
 ///
 /// It goes over the old archive version by version: each is lent by the old archive as a document, keyed as it is lent, and
-/// merged as it is lent, before the next is. So beside the old archive it holds the new one and the rows of one version, and
-/// no more of a version is copied than is new in the new archive. Recursion is as deep as nodes and elements nest.
+/// merged as it is lent, before the next is. So beside the old archive it holds the new one and the rows of one version. Of a
+/// version it copies what is new in the new archive, and key values that are more than one text. Recursion is as deep as nodes
+/// and elements nest.
 pub fn rekey(alloc: Global, old: &Archive, spec: &Spec) -> Result<Archive, RekeyFault>
     requires documents { (vs : List PlainKeyed) → ArchiveOf vs (archive_view old.now)
         → SpellDocuments vs }

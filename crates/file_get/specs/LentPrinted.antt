@@ -1,4 +1,4 @@
--- What is printed of bytes while they are read.
+-- What is printed straight out of bytes.
 use Rattle.std.specs.Prelude.{◌≡◌, ℕ, ◌≤◌, List, [], ◌++◌, Option, Some, None, option_map, Result, Ok, Err}
 use Rattle.xa_outside.specs.Causes.{Rose}
 use Rattle.xa_outside.specs.Taken.{Taken, Takes, TakesPrefix}

@@ -1,4 +1,4 @@
-// Printing a content out of its bytes while they are read. It takes no memory.
+// Printing a content straight out of its bytes. It takes no memory.
 ghost use Rattle.std.specs.Prelude.{◌≡◌, ◌≤◌, [], ◌∷◌, map, drop, IsTrue, None, OnOk};
 ghost use Rattle.xa_fields.specs.Reading.{many_at, list_at, chain_at};
 ghost use Rattle.xa_outside.specs.Causes.{HasCause};

@@ -30,9 +30,8 @@ use xa_outside::{Folder, Sink};
 ///
 /// At each node the stored timestamp tree over its children is searched, which leads to the
 /// children that the version has, in order; each visited tree node is a step. Memory is taken for one
-/// stored tree node of more than eight intervals, for a set, a record or a value of more than 256
-/// bytes, and for a value that is not one text alone. Of the header the fourteen bytes of fixed
-/// fields are read.
+/// stored tree node of more than eight intervals, and for a set, a record or a value of more than
+/// 256 bytes. Of the header the fourteen bytes of fixed fields are read.
 pub fn get<F: Folder, O: Sink, L: Ledger>(
     alloc: Global,
     folder: &mut F,

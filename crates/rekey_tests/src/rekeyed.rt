@@ -61,6 +61,21 @@ const REKEYED: &[(&str, &str, &[&str], &str)] = &[
         TINY,
     ),
     ("other key values", ITEMS, &[ADA, BOB_AND_ADA, ADA], NAMES),
+    (
+        "eight versions",
+        ITEMS,
+        &[
+            ADA,
+            BOB_AND_ADA,
+            ADA,
+            ADA,
+            BOB_AND_ADA,
+            BOB_AND_ADA,
+            ADA,
+            BOB_AND_ADA,
+        ],
+        NAMES,
+    ),
 ];
 
 /// The file of the documents under the one and then under the other keys.

@@ -120,6 +120,10 @@ const DAMAGED: &[(&str, usize, &[u8])] = &[
         b"\xff\xff\xff\xff\xff\xff\xff\xff",
     ),
     ("the kind of an alternative", 49, b"\x05"),
+    ("the kind of a value", 59, b"\x02"),
+    ("a scalar for a content", 59, b"\0"),
+    ("the number of attributes", 60, b"\xff\xff\xff\xff"),
+    ("the number of items", 64, b"\xff\xff\xff\xff"),
     ("the kind of the END", 77, b"\x05"),
     ("the length of the END", 85, b"\x31"),
     ("no child and its entry", 86, b"\0\0\0\0"),
@@ -135,15 +139,39 @@ const DAMAGED: &[(&str, usize, &[u8])] = &[
     ("the tail", 134, b"\0\0\0\0\0\0\0\xff"),
 ];
 
-#[test]
-fn no_damaged_file_has_the_version(rt: HostRuntime) -> Result<(), Fail> {
-    let alloc = rt.alloc();
-    for (what, at, bytes) in DAMAGED {
-        let holds = match changed(alloc, ONE, *at, bytes) {
+/// The same in the content of an element with an attribute.
+const DAMAGED_CONTENT: &[(&str, usize, &[u8])] = &[
+    ("no attribute, and its bytes behind", 120, b"\0\0\0\0"),
+    ("one attribute more", 120, b"\0\0\0\x02"),
+    ("the length of a name", 124, b"\xff\xff\xff\xff"),
+    ("a name that is no UTF-8", 128, b"\xff"),
+    ("the kind of an attribute's value", 130, b"\x06"),
+    ("a number that is a logical value", 130, b"\x01"),
+    ("one item more", 139, b"\0\0\0\x01"),
+];
+
+/// Whether the version is refused in each of the files that come of these changes.
+fn are_refused(
+    alloc: Global,
+    file: &[u8],
+    rows: &[(&'static str, usize, &[u8])],
+) -> Result<(), Fail> {
+    for (what, at, bytes) in rows {
+        let holds = match changed(alloc, file, *at, bytes) {
             Some(file) => is_refused(alloc, &file, 1, GetFault::Damage, 100, 100),
             None => false,
         };
-        assert!(rt; holds, "{what}");
+        told(holds, what)?;
     }
     Ok(())
+}
+
+#[test]
+fn no_damaged_file_has_the_version(rt: HostRuntime) -> Result<(), Fail> {
+    are_refused(rt.alloc(), ONE, DAMAGED)
+}
+
+#[test]
+fn no_damaged_content_is_written_whole(rt: HostRuntime) -> Result<(), Fail> {
+    are_refused(rt.alloc(), SIX, DAMAGED_CONTENT)
 }
