@@ -23,3 +23,4 @@ pub mod OneReading
 pub mod FewItems
 pub mod ShapedVersions
 pub mod ShapedArchives
+pub mod TailLaws

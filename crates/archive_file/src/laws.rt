@@ -1,5 +1,5 @@
 // What follows from the definitions.
-ghost use Rattle.std.specs.Prelude.{◌≡◌, ◌≤◌, ℕ, List, length, Some, IsTrue};
+ghost use Rattle.std.specs.Prelude.{◌≡◌, ◌≢◌, ◌-◌, ◌≤◌, ℕ, List, length, drop, replicate, Some, IsTrue};
 ghost use Rattle.std.specs.List.{AllByRecursion};
 ghost use Rattle.jsonml_text.specs.Texts.{AreTexts};
 ghost use Rattle.key_spec.specs.Closed.{IsClosed};
@@ -13,6 +13,7 @@ ghost use Rattle.keyed_tree.specs.Alike.{AllAlike};
 ghost use Rattle.archive_tree.specs.Data.{PlainArchive};
 ghost use Rattle.archive_tree.specs.Stands.{ArchiveOf};
 ghost use Rattle.record_parts.specs.Bounds.{deepest, most};
+ghost use Rattle.record_format.specs.Files.{FileOf};
 ghost use Rattle.record_format.specs.Fronts.{fixed, header};
 ghost use Rattle.record_format.specs.Nested.{are_nested};
 ghost use Rattle.record_format.specs.Shapes.{IsShaped};
@@ -49,4 +50,12 @@ pub fn sound_archives_have_one_reading()
     ensures nested { (rules : List PlainRule) (vs : List PlainKeyed) (bytes : List ℕ)
         (a : PlainArchive)
         → SoundAs rules vs bytes → ArchiveOf vs a → IsTrue (are_nested deepest a.kids) }
+{}
+
+/// No file of an archive ends in eight bytes 255. Its last eight bytes spell the length of a directory that stands in it.
+pub fn files_do_not_end_in_a_mark()
+    ensures file { (rules : List PlainRule) (vs : List PlainKeyed) (bytes : List ℕ)
+        → FileOf rules vs bytes → drop (length bytes - 8) bytes ≢ replicate 8 255 }
+    ensures sound { (rules : List PlainRule) (vs : List PlainKeyed) (bytes : List ℕ)
+        → SoundAs rules vs bytes → drop (length bytes - 8) bytes ≢ replicate 8 255 }
 {}

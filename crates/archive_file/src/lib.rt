@@ -17,4 +17,6 @@ pub use decode::decode_file;
 pub use encode::encode_file;
 pub use fault::{EncodeFault, FileFault};
 pub use keyedness::is_keyed;
-pub use laws::{keyed_versions_can_be_merged, sound_archives_have_one_reading};
+pub use laws::{
+    files_do_not_end_in_a_mark, keyed_versions_can_be_merged, sound_archives_have_one_reading,
+};

@@ -8,7 +8,6 @@ use Rattle.key_spec.specs.Canonical.{canonical, spelled_by}
 use Rattle.key_spec.specs.Closed.{closed}
 use Rattle.key_spec.specs.Data.{PlainRule, PlainSpecFault}
 use Rattle.keyed_tree.specs.Data.{PlainKeyed}
-use Rattle.archive_file.specs.Sound.{SoundAs}
 use Rattle.xa_fields.proofs.Fields.{some_is}
 use Rattle.xa_outside.specs.Folder.{Files, committed, emptied}
 use Rattle.record_format.specs.Files.{header_bytes, FileOf}
@@ -16,7 +15,7 @@ use Rattle.record_cursor.specs.Moves.{TellsFront, IsHeaderOf}
 use Rattle.record_cursor.specs.View.{PlainHeader}
 use Rattle.record_cursor.proofs.Fills.{front-length}
 use Rattle.record_cursor.proofs.Headers.{header-is}
-use Rattle.stream_merge.specs.Added.{Added, IsBlank, Overfull, of_merge, IfTooLong, IfFailed}
+use Rattle.stream_merge.specs.Added.{Added, Appended, IsBlank, Overfull, of_merge, IfTooLong, IfFailed}
 use Rattle.stream_merge.specs.Appended.{Grows, NoRoomBehind}
 use Rattle.stream_merge.specs.Passes.{IfFolder}
 use Rattle.stream_merge.specs.declared.fault.AddFault.{AddFault}
@@ -100,25 +99,24 @@ failed-of T merge.Memory P h = tt
 
 -- ---- the commit
 
-blank-one : (o : Option (List ℕ)) (file : List ℕ) → IsBlank o → option_map (λ (d : List ℕ). d ++ file) o ≡ option_map (λ (d : List ℕ). file) o
+pub blank-one : (o : Option (List ℕ)) (file : List ℕ) → IsBlank o → option_map (λ (d : List ℕ). d ++ file) o ≡ option_map (λ (d : List ℕ). file) o
 blank-one None file h = refl
 blank-one (Some d) file h = ap (λ (b : List ℕ). Some (b ++ file)) (h d refl)
 
-emptied-longer : (o : Option (List ℕ)) (bytes : List ℕ) → emptied (option_map (λ (d : List ℕ). d ++ bytes) o) ≡ emptied o
-emptied-longer None bytes = refl
-emptied-longer (Some d) bytes = refl
+emptied-same : (o : Option (List ℕ)) (bytes : List ℕ) → emptied (option_map (λ (d : List ℕ). bytes) o) ≡ emptied o
+emptied-same None bytes = refl
+emptied-same (Some d) bytes = refl
 
 -- what was appended is the file
-pub commit-adds : {T : Type 0} (h : PlainHeader) (k : PlainKeyed) (name x : List ℕ) (first mid last : Option Files) (old now rest : Option (List ℕ)) (r : Result T AddFault) → IsBlank old → mid ≡ first → now ≡ option_map (λ (d : List ℕ). d ++ x) old
-    → ((bytes : List ℕ) (rules : List PlainRule) (vs : List PlainKeyed) → TellsFront first name h.length bytes → IsHeaderOf h bytes → SoundAs rules vs bytes → SoundAs rules (vs ++ k ∷ []) x)
+pub commit-adds : {T : Type 0} (h : PlainHeader) (k : PlainKeyed) (name : List ℕ) (first mid last : Option Files) (old now rest : Option (List ℕ)) (r : Result T AddFault) → Appended h name k first old now → mid ≡ first
     → OnOk r (last ≡ committed mid now name) → OnOk r (rest ≡ emptied now) → OnOk r (Added h name k first last old rest)
-commit-adds h k name x first mid last old now rest (Ok v) blank same longer sound stored empty = record {
-  bytes = x;
-  stored = stored ∙ (λ i. committed (same i) ((longer ∙ blank-one old x blank) i) name);
-  blank = empty ∙ ap emptied longer ∙ emptied-longer old x;
-  sound = sound;
+commit-adds h k name first mid last old now rest (Ok v) a same stored empty = record {
+  bytes = a.bytes;
+  stored = stored ∙ (λ i. committed (same i) (a.drafted i) name);
+  blank = empty ∙ ap emptied a.drafted ∙ emptied-same old a.bytes;
+  sound = a.sound;
 }
-commit-adds h k name x first mid last old now rest (Err e) blank same longer sound stored empty = tt
+commit-adds h k name first mid last old now rest (Err e) a same stored empty = tt
 
 pub on-ok : {T : Type 0} (r : Result T AddFault) (P : Type 0) → P → OnOk r P
 on-ok (Ok x) P p = p

@@ -20,13 +20,22 @@ use Rattle.stream_merge.specs.declared.fault.MergeFault.TheVariants as merge
 abbrev pub IsBlank : Option (List ℕ) → Type 0
 IsBlank draft = (bytes : List ℕ) → draft ≡ Some bytes → bytes ≡ []
 
--- Some file came under the name by way of the draft, where both are told, and the draft is empty then. Where the file of before was the sound archive
--- of some versions, this one is that of these and of the new one behind them.
+-- Where the file is the sound archive of some versions, the bytes are that of these and of the new one behind them.
+abbrev pub IsGrown : PlainHeader → List ℕ → PlainKeyed → Option Files → List ℕ → Type 0
+IsGrown h name new files bytes = (front : List ℕ) (rules : List PlainRule) (vs : List PlainKeyed) → TellsFront files name h.length front → IsHeaderOf h front → SoundAs rules vs front → SoundAs rules (vs ++ new ∷ []) bytes
+
+-- An empty draft became some bytes, where it is told: those of the archive with the new version.
+pub record Appended (h : PlainHeader) (name : List ℕ) (new : PlainKeyed) (files : Option Files) (draft now : Option (List ℕ)) : Type 0 where
+  pub bytes : List ℕ
+  pub drafted : now ≡ option_map (λ _. bytes) draft
+  pub sound : IsGrown h name new files bytes
+
+-- Some file came under the name by way of the draft, where both are told, and the draft is empty then: that of the archive with the new version.
 pub record Added (h : PlainHeader) (name : List ℕ) (new : PlainKeyed) (files now : Option Files) (draft rest : Option (List ℕ)) : Type 0 where
   pub bytes : List ℕ
   pub stored : now ≡ committed files (option_map (λ _. bytes) draft) name
   pub blank : rest ≡ emptied draft
-  pub sound : (front : List ℕ) (rules : List PlainRule) (vs : List PlainKeyed) → TellsFront files name h.length front → IsHeaderOf h front → SoundAs rules vs front → SoundAs rules (vs ++ new ∷ []) bytes
+  pub sound : IsGrown h name new files bytes
 
 -- a draft that is told gained some bytes
 pub record Lengthens (old new : Option (List ℕ)) : Type 0 where

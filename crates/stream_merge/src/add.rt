@@ -20,7 +20,7 @@ ghost use Rattle.record_writer.specs.View.{writer_view};
 ghost use Rattle.xa_outside.specs.Causes.{Rose};
 ghost use Rattle.xa_outside.specs.Folder.{committed, emptied};
 ghost use Rattle.xa_outside.specs.Numbers.{PullsAndDrafts};
-ghost use Rattle.stream_merge.specs.Added.{Added, IsBlank, Overfull, IfTooLong, IfFailed, Lengthens};
+ghost use Rattle.stream_merge.specs.Added.{Added, Appended, IsBlank, Overfull, IfTooLong, IfFailed, Lengthens};
 ghost use Rattle.stream_merge.specs.Appended.{NodesAppended, VersionAppended};
 ghost use Rattle.stream_merge.specs.Passes.{fault_of};
 ghost use Rattle.stream_merge.specs.Short.{IsShortTree};
@@ -42,9 +42,7 @@ use xa_outside::Folder;
 
 /// Adds a version to the archive in the file of this name, and makes that the file.
 ///
-/// The records are read once, and each is written before the next is read; nothing is held of the
-/// archive but a record, and of the nodes that stand open their sets, and an entry and a set for
-/// each finished child. After a fault the files are as before.
+/// It reads and holds what `stream_append` does. After a fault the files are as before.
 pub fn stream_add<F: Folder>(
     alloc: Global,
     folder: &mut F,
@@ -107,11 +105,82 @@ pub fn stream_add<F: Folder>(
         → OnOk result (lead (F.numbers folder.new) ≤ lead (F.numbers folder.old)
         - (header_view header.now).first) }
 {
+    stream_append(alloc, folder, name, header, cursor, new)?;
+    commit(folder, name)
+}
+
+/// Appends to the draft the archive in the file of this name, with one more version.
+///
+/// The records are read once, and each is written before the next is read; nothing is held of the
+/// archive but a record, and of the nodes that stand open their sets, and an entry and a set for
+/// each finished child.
+pub fn stream_append<F: Folder>(
+    alloc: Global,
+    folder: &mut F,
+    name: &str,
+    header: &Header,
+    cursor: Cursor,
+    new: &LentKeyed<'_, '_>,
+) -> Result<(), AddFault>
+    requires header { IsHeader (header_view header.now) }
+    requires cursor { cursor ≡ record {
+      name = name.now;
+      length = (header_view header.now).length;
+      standing = among_nodes 0;
+      at = (header_view header.now).first;
+    } }
+    requires draft { IsBlank (F.draft folder.old) }
+    requires keyed { IsKeyedBy (header_view header.now).rules (lent_view new.now) }
+    requires texts { AreTexts (plain (lent_view new.now)) }
+
+    // Over a sound archive the draft becomes the file of its versions and the new one. Whatever the
+    // archive is, the files stay, and the draft only grows; and the new file is too long only where
+    // a call of the writer does not fit that is given short parts, if the labels and bodies of the
+    // version are short.
+    ensures appended { OnOk result (Appended (header_view header.now) name.now
+        (lent_view new.now) (F.files folder.old) (F.draft folder.old) (F.draft folder.new)) }
+    ensures files { F.files folder.new ≡ F.files folder.old }
+    ensures drafted { Lengthens (F.draft folder.old) (F.draft folder.new) }
+    ensures too_long { (bytes : List ℕ) (rules : List PlainRule) (vs : List PlainKeyed)
+        → TellsFront (F.files folder.old) name.now (header_view header.now).length bytes
+        → IsHeaderOf (header_view header.now) bytes → SoundAs rules vs bytes
+        → IfErr result (λ e. IfTooLong e ((file : List ℕ)
+        → ¬ (FileOf rules (vs ++ lent_view new.now ∷ []) file))) }
+    ensures no_room { (b : ℕ) → (header_view header.now).length + 12 ≤ b
+        → IsShortTree b (lent_view new.now)
+        → IfErr result (λ e. IfTooLong e (Overfull b
+        (header_view header.now).rules ((header_view header.now).versions + 1)
+        (F.draft folder.new))) }
+    ensures undamaged { (bytes : List ℕ) (rules : List PlainRule) (vs : List PlainKeyed)
+        → TellsFront (F.files folder.old) name.now (header_view header.now).length bytes
+        → IsHeaderOf (header_view header.now) bytes → SoundAs rules vs bytes
+        → IfErr result (λ e. e ≢ Damage) }
+
+    ensures limit { (result ≡ Err Limit) ↔ ((header_view header.now).versions ≡ 999999) }
+    ensures later { F.faults folder.old ≤ F.faults folder.new }
+    ensures cause { IfFailed result (Rose (F.faults folder.old) (F.faults folder.new)) }
+
+    // The archive is read once, and over a sound one little of it is held.
+    ensures pulls { PullsAndDrafts
+        ((header_view header.now).length - (header_view header.now).first)
+        (F.numbers folder.old) (F.numbers folder.new) }
+    ensures gap { (bytes : List ℕ) (rules : List PlainRule) (vs : List PlainKeyed)
+        (a : PlainArchive)
+        → TellsFront (F.files folder.old) name.now (header_view header.now).length bytes
+        → IsHeaderOf (header_view header.now) bytes → SoundAs rules vs bytes → ArchiveOf vs a
+        → (F.numbers folder.new).gap ≤ max (F.numbers folder.old).gap
+        (lead (F.numbers folder.old) - length (header_bytes rules a.n) + largest rules a) }
+    ensures ahead { (bytes : List ℕ)
+        → TellsFront (F.files folder.old) name.now (header_view header.now).length bytes
+        → IsHeaderOf (header_view header.now) bytes
+        → OnOk result (lead (F.numbers folder.new) ≤ lead (F.numbers folder.old)
+        - (header_view header.now).first) }
+{
     if header.versions >= MOST_VERSIONS {
         return Err(AddFault::Limit);
     }
     append_version(alloc, folder, header, cursor, new)?;
-    commit(folder, name)
+    Ok(())
 }
 
 // Appends the archive with one more version to the draft.

@@ -11,5 +11,5 @@ mod inherited;
 mod leaf;
 mod merge;
 
-pub use add::stream_add;
+pub use add::{stream_add, stream_append};
 pub use fault::AddFault;

@@ -1,0 +1,9 @@
+//! Tests of the notes behind an archive, over files in memory.
+#![tactic(auto)]
+
+#[cfg(test)]
+mod found;
+#[cfg(test)]
+mod given;
+#[cfg(test)]
+mod kept;

@@ -1,0 +1,5 @@
+pub mod Notes
+pub mod Parts
+pub mod Faults
+pub mod Reader
+pub mod Writer

@@ -1,0 +1,28 @@
+// Why nothing was read.
+ghost use Rattle.std.specs.Prelude.{◌≡◌};
+ghost use Rattle.version_notes.specs.declared.fault.NotesFault.TheVariants.{Memory};
+
+use std::alloc::AllocError;
+
+/// Why the parts of a file are not known: it is damaged, or the folder failed.
+#[derive(Clone, Copy, Debug, PartialEq, Eq)]
+pub enum PartsFault {
+    Damage,
+    Folder,
+}
+
+/// Why no note was read: the file is damaged, the folder failed, or there is no memory.
+#[derive(Clone, Copy, Debug, PartialEq, Eq)]
+pub enum NotesFault {
+    Damage,
+    Folder,
+    Memory,
+}
+
+impl From<AllocError> for NotesFault {
+    ghost from_gives = { λ _ e. e ≡ Memory };
+
+    fn from(_e: AllocError) -> NotesFault {
+        NotesFault::Memory
+    }
+}

@@ -1,0 +1,19 @@
+// Which texts are notes.
+ghost use Rattle.std.specs.Prelude.{◌≡◌};
+ghost use Rattle.version_notes.specs.Notes.{is_note, is_printed};
+
+/// The most bytes of a note.
+const LONGEST: usize = 1024;
+
+/// Whether a text is a note: it has at most 1,024 bytes, and none below 20 hexadecimal.
+pub fn is_note(text: &str) -> bool
+    ensures { result ≡ is_note text.now }
+{
+    text.len() <= LONGEST && is_printed(text.as_bytes())
+}
+
+fn is_printed(bytes: &[u8]) -> bool
+    ensures { result ≡ is_printed bytes.now }
+{
+    bytes.iter().all(|byte| *byte >= b' ')
+}
