@@ -6,7 +6,7 @@ use Rattle.archive_tree.specs.Data.{Stamp, PlainNode, inner_node, leaf_node}
 use Rattle.record_format.specs.Nodes.{set_in}
 use Rattle.record_format.specs.Spelling.{rec_bytes}
 use Rattle.record_cursor.specs.Items.{PlainItem, inner_item, leaf_item, leaf_end_item, end_item}
-use Rattle.record_cursor.specs.Moves.{Comes}
+use Rattle.record_cursor.specs.Moves.{Comes, Goes}
 use Rattle.record_cursor.specs.Next.{read_for, size_of}
 use Rattle.record_cursor.specs.Places.{Standing}
 use Rattle.record_cursor.specs.View.{PlainCursor, shown_item}
@@ -17,10 +17,11 @@ use Rattle.record_parts.specs.declared.views.LabelView.{LabelView}
 use Rattle.record_parts.specs.declared.views.StampView.{StampView}
 use Rattle.record_writer.specs.Data.{PlainWriter, OpenInner, WriterCall, call_end_leaf, call_end_inner}
 use Rattle.record_writer.specs.Walks.{alt_calls, node_calls, row_calls}
-use Rattle.stream_merge.specs.Copied.{InsideCopied, ChildCopied, AltsCopied}
+use Rattle.xa_outside.specs.Folder.{Files}
+use Rattle.stream_merge.specs.Copied.{InsideCopied, BegunCopied, ChildCopied, AltsCopied}
 use Rattle.stream_merge.specs.Does.{Sends, Sent, Does}
 use Rattle.stream_merge.specs.Items.{alt_items, end_of, node_items, row_items, IsWithin}
-use Rattle.stream_merge.specs.Meets.{call_of, opening_of, Begins}
+use Rattle.stream_merge.specs.Meets.{call_of, opening_of, Begins, IsOpen}
 use Rattle.stream_merge.specs.Passes.{Passes, Rests, Opens, Closes, Unless, of_cursor, unpaid}
 use Rattle.stream_merge.specs.Room.{WentIf}
 use Rattle.stream_merge.specs.Short.{IsShortSet, IsShortCall}
@@ -118,6 +119,10 @@ opening-long Leaf c l st = omega arith
 pub opened-some : (v w : PlainWriter) → Opens v w → w.inners ≢ []
 opened-some v w h e = (let d = sym e ∙ h.inners in absurd cc)
 
+pub begun-open : (kind : Kind) (v w : PlainWriter) → Begins kind v w → IsOpen kind w
+begun-open Inner v w h = (h.no_leaf, opened-some v w h)
+begun-open Leaf v w h = h.leaf
+
 tails : (i j : OpenInner) (is js : List OpenInner) → i ∷ is ≡ j ∷ js → js ≡ is
 tails i j is js e = cc
 
@@ -138,7 +143,7 @@ pub record Part (kind : Kind) (q : List (ℕ × ℕ)) (l : PlainLabel) (st : Sta
   pub went : (b n : ℕ) → s.cursor.length + 12 ≤ b → IsShortSet b n (set_in st q) → WentIf b n appended s.writer t.writer ended
   pub copied : (w : ℕ) (k : PlainNode) (next : List PlainItem) → opening kind l st ≡ first k → AllByRecursion (IsWithin w) (behind q k) → Comes s.files s.cursor (behind q k ++ next) → Does appended w (inside q k) next s t ended
 
-pub inside-part : (q own : List (ℕ × ℕ)) (l : PlainLabel) (st : Stamp) (s t : State) (e : Option MergeFault) → own ≡ set_in st q → InsideCopied own s t e → Part Inner q l st s t e
+inside-part : (q own : List (ℕ × ℕ)) (l : PlainLabel) (st : Stamp) (s t : State) (e : Option MergeFault) → own ≡ set_in st q → InsideCopied own s t e → Part Inner q l st s t e
 inside-part q own l st s t e set h = record {
   appended = h.appended;
   passes = h.passes;
@@ -155,7 +160,7 @@ inside-part q own l st s t e set h = record {
         (λ small comes. h.inside w ks _ next small (subst (λ (xs : List PlainItem). Comes s.files s.cursor xs) (append_assoc (row_items own ks) (end_of own ks ∷ []) next) comes))
     kids w (leaf_node m z xs) next same = absurd cc
 
-pub alts-part : (q : List (ℕ × ℕ)) (l : PlainLabel) (st : Stamp) (s t : State) (e : Option MergeFault) → AltsCopied s t e → Part Leaf q l st s t e
+alts-part : (q : List (ℕ × ℕ)) (l : PlainLabel) (st : Stamp) (s t : State) (e : Option MergeFault) → AltsCopied s t e → Part Leaf q l st s t e
 alts-part q l st s t e h = record {
   appended = h.appended;
   passes = h.passes;
@@ -168,6 +173,10 @@ alts-part q l st s t e h = record {
     alternatives w (leaf_node m z xs) next same small comes = h.alternatives w xs next small (subst (λ (is : List PlainItem). Comes s.files s.cursor is) (append_assoc (alt_items xs) (leaf_end_item ∷ []) next) comes)
     alternatives w (inner_node m z ks) next same small comes = absurd cc
 
+pub begun-part : (kind : Kind) (q own : List (ℕ × ℕ)) (l : PlainLabel) (st : Stamp) (s t : State) (e : Option MergeFault) → own ≡ set_in st q → BegunCopied kind own s t e → Part kind q l st s t e
+begun-part Inner q own l st s t e set h = inside-part q own l st s t e set h
+begun-part Leaf q own l st s t e set h = alts-part q l st s t e h
+
 -- ---- a node is begun, and what is behind its opening copied
 
 -- an item that opens a node was given
@@ -179,15 +188,13 @@ pub record Opener (kind : Kind) (s t : State) : Type 0 where
   pub read : Nexts s t item
 
 -- what is left gets less behind it
-pub opening-smaller : (kind : Kind) (s t : State) (o : Opener kind s t) → 3 * (t.cursor.length - t.cursor.at) + 2 < 3 * (s.cursor.length - s.cursor.at)
-opening-smaller kind s t o =
-    let read = o.read in
-    let goes = read.goes in
+pub opening-smaller : (kind : Kind) (told : Option Files) (a b : PlainCursor) (item : Item) (l : PlainLabel) (st : Stamp) → shown_item item ≡ opening kind l st → Goes told a item b → 4 * (b.length - b.at) + 3 < 4 * (a.length - a.at)
+opening-smaller kind told a b item l st e goes =
     let moved = goes.moved in
     let within = goes.within in
     let long = goes.same_length in
-    let size = ap (size_of s.cursor.standing) o.shown in
-    let more = opening-long kind s.cursor.standing o.label o.stamp in
+    let size = ap (size_of a.standing) e in
+    let more = opening-long kind a.standing l st in
     omega (arith, moved, within, long, size, more)
 
 module _ (kind : Kind) (q : List (ℕ × ℕ)) (s t u : State) (o : Opener kind s t) where

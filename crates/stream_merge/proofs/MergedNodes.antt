@@ -37,7 +37,7 @@ use Rattle.stream_merge.specs.LeafMerged.{LeafMerged}
 use Rattle.stream_merge.specs.Meets.{opening_of, met, rest_of, kids_with, alts_with, inherited_beside, calls_beside, Begins}
 use Rattle.stream_merge.specs.Passes.{Passes, Rests, Unless, fault_of, of_cursor, unpaid}
 use Rattle.stream_merge.specs.Room.{WentIf}
-use Rattle.stream_merge.specs.RowMerged.{RowMerged, ChildMerged, InsideMerged, IsOpen, BegunMerged}
+use Rattle.stream_merge.specs.RowMerged.{RowMerged, ChildMerged, InsideMerged, BegunMerged}
 use Rattle.stream_merge.specs.Short.{AreShortSets, IsShortTree}
 use Rattle.stream_merge.specs.State.{State}
 use Rattle.stream_merge.specs.View.{PlainInherited}
@@ -392,19 +392,6 @@ module _ (h : PlainInherited) (cs : List PlainKeyed) (l : PlainLabel) (st : Stam
 -- ---- what is known where a node was begun
 
 -- less is left behind its opening
-pub opening-smaller : (kind : Kind) (told : Option Files) (a b : PlainCursor) (item : Item) (l : PlainLabel) (st : Stamp) → shown_item item ≡ opening kind l st → Goes told a item b → 4 * (b.length - b.at) + 3 < 4 * (a.length - a.at)
-opening-smaller kind told a b item l st e goes =
-    let moved = goes.moved in
-    let within = goes.within in
-    let long = goes.same_length in
-    let size = ap (size_of a.standing) e in
-    let more = opening-long kind a.standing l st in
-    omega (arith, moved, within, long, size, more)
-
-pub begun-open : (kind : Kind) (v w : PlainWriter) → Begins kind v w → IsOpen kind w
-begun-open Inner v w h = (h.no_leaf, opened-some v w h)
-begun-open Leaf v w h = h.leaf
-
 module _ (h : PlainInherited) (l : PlainLabel) (st : Stamp) (cs : List PlainKeyed) (kid : Option PlainKeyed) (left : List PlainKeyed) (inherits : PlainInherited) (begun : IsBegun h l st cs kid left inherits) where
   pub begun-number : 1 ≤ h.number → 1 ≤ inherits.number
   begun-number le = subst (λ (z : PlainInherited). 1 ≤ z.number) (sym begun.inherits) le

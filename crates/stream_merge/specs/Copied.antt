@@ -12,6 +12,8 @@ use Rattle.stream_merge.specs.Passes.{Passes, Rests, Closes, Unless, fault_of, u
 use Rattle.stream_merge.specs.Room.{WentIf}
 use Rattle.stream_merge.specs.Short.{IsShortSet}
 use Rattle.stream_merge.specs.State.{State}
+use Rattle.stream_merge.specs.declared.begin.Kind.{Kind}
+use Rattle.stream_merge.specs.declared.begin.Kind.TheVariants.{Inner, Leaf}
 use Rattle.stream_merge.specs.declared.fault.MergeFault.{MergeFault}
 
 -- The nodes of a row under a node that has this set are written, where they come and the END behind them.
@@ -52,3 +54,8 @@ pub record AltsCopied (s t : State) (ended : Option MergeFault) : Type 0 where
   pub went : (b n : ℕ) → s.cursor.length + 12 ≤ b → WentIf b n appended s.writer t.writer ended
   pub alternatives : (w : ℕ) (xs : List PlainAlt) (next : List PlainItem) → AllByRecursion (IsWithin w) (alt_items xs ++ leaf_end_item ∷ []) → Comes s.files s.cursor (alt_items xs ++ leaf_end_item ∷ next)
       → Does appended w (alt_calls xs ++ call_end_leaf ∷ []) next s t ended
+
+-- What is inside a node of this kind is written, and the node is closed.
+abbrev pub BegunCopied : Kind → List (ℕ × ℕ) → State → State → Option MergeFault → Type 0
+BegunCopied Inner q s t ended = InsideCopied q s t ended
+BegunCopied Leaf q s t ended = AltsCopied s t ended

@@ -74,3 +74,8 @@ pub record HasLeaf (v w : PlainWriter) : Type 0 where
 abbrev pub Begins : Kind → PlainWriter → PlainWriter → Type 0
 Begins Inner v w = Opens v w
 Begins Leaf v w = HasLeaf v w
+
+-- A node of this kind stands begun.
+abbrev pub IsOpen : Kind → PlainWriter → Type 0
+IsOpen Inner w = (w.leaf ≡ None) × (w.inners ≢ [])
+IsOpen Leaf w = w.leaf ≢ None

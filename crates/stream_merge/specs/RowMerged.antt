@@ -1,5 +1,5 @@
 -- What is done where the archive has the nodes that come, beside a row of the version.
-use Rattle.std.specs.Prelude.{◌≡◌, ◌≢◌, ◌<◌, ◌≤◌, ◌+◌, ℕ, List, [], ◌∷◌, ◌++◌, Option, Some, None, Result, IfOk, OnOk, IfSome, IsTrue}
+use Rattle.std.specs.Prelude.{◌≡◌, ◌<◌, ◌≤◌, ◌+◌, ℕ, List, [], ◌∷◌, ◌++◌, Option, Some, None, Result, IfOk, OnOk, IfSome, IsTrue}
 use Rattle.std.specs.Option.{option_map}
 use Rattle.std.specs.List.{AllByRecursion}
 use Rattle.keyed_tree.specs.Data.{PlainLabel, PlainKeyed}
@@ -12,7 +12,7 @@ use Rattle.nested_merge.specs.Fits.{if_there, fits, all_fit}
 use Rattle.nested_merge.specs.Merged.{above, merged_row}
 use Rattle.record_cursor.specs.Items.{PlainItem, end_item}
 use Rattle.record_cursor.specs.Moves.{Comes}
-use Rattle.record_writer.specs.Data.{PlainWriter, call_end_inner}
+use Rattle.record_writer.specs.Data.{call_end_inner}
 use Rattle.record_writer.specs.Walks.{row_calls}
 use Rattle.stream_merge.specs.Does.{Does}
 use Rattle.stream_merge.specs.First.{DoesFirst}
@@ -67,12 +67,7 @@ pub record InsideMerged (own : PlainInherited) (kid : Option PlainKeyed) (s t : 
       → Comes s.files s.cursor (row_items own.before ks ++ end_item m ∷ next) → IsTrue (are_nodes_below own.number ks) → IsTrue (if_there kid (λ c. fits (inner_node l st ks) c))
       → Does appended w (row_calls own.now (kids_with own.number own.before ks kid) ++ call_end_inner ∷ []) next s t ended
 
--- A node of this kind stands begun.
-abbrev pub IsOpen : Kind → PlainWriter → Type 0
-IsOpen Inner w = (w.leaf ≡ None) × (w.inners ≢ [])
-IsOpen Leaf w = w.leaf ≢ None
-
--- What is inside it is merged, and it is closed.
+-- What is inside a node of this kind is merged, and it is closed.
 abbrev pub BegunMerged : Kind → PlainInherited → Option PlainKeyed → State → State → Option MergeFault → Type 0
 BegunMerged Inner own kid s t ended = InsideMerged own kid s t ended
 BegunMerged Leaf own kid s t ended = LeafMerged own kid s t ended

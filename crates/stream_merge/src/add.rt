@@ -202,6 +202,7 @@ fn append_version<F: Folder>(
         (lent_view new.now) folder.old folder.new cursor (fault_of result) }
 {
     let number = header.versions + 1;
+    let writer = Writer::start(alloc, folder, &header.spec, number)?;
     let from = Inherited {
         alloc,
         number,
@@ -209,7 +210,6 @@ fn append_version<F: Folder>(
         now: VersionSet::upto(alloc, number),
     };
     let mut cursor = cursor;
-    let writer = Writer::start(alloc, folder, &header.spec, number)?;
     let mut spelled = Vec::new(alloc);
     append_nodes(folder, &mut cursor, writer, &mut spelled, new, &from)
 }

@@ -63,7 +63,9 @@ pub(crate) fn begin_beside<'p, 'k, 'a, 't, F: Folder>(
 {
     let (kid, rest) = put_below(folder, writer, spelled, &label, kids, from)?;
     let (stamp, own) = turned_node(&stamp, kid.is_some(), from)?;
-    begin_node(folder, writer, kind, label, &stamp, &own.get().now)?;
+    let began = begin_node(folder, writer, kind, label, &stamp, &own.get().now);
+    drop(stamp);
+    began?;
     Ok(Begun { kid, rest, own })
 }
 

@@ -7,9 +7,9 @@ ghost use Rattle.record_format.specs.Nodes.{set_in};
 ghost use Rattle.record_parts.specs.ShownViews.{shown_label, shown_stamp, shown_body};
 ghost use Rattle.record_writer.specs.Data.{call_alt};
 ghost use Rattle.record_writer.specs.View.{writer_view};
-ghost use Rattle.stream_merge.specs.Copied.{RowCopied, InsideCopied, ChildCopied, AltsCopied};
+ghost use Rattle.stream_merge.specs.Copied.{RowCopied, InsideCopied, BegunCopied, ChildCopied, AltsCopied};
 ghost use Rattle.stream_merge.specs.Does.{Sent};
-ghost use Rattle.stream_merge.specs.Meets.{call_of};
+ghost use Rattle.stream_merge.specs.Meets.{call_of, IsOpen};
 ghost use Rattle.stream_merge.specs.Passes.{fault_of};
 ghost use Rattle.stream_merge.specs.State.{state};
 
@@ -82,19 +82,40 @@ fn copy_child<F: Folder>(
         (state F.files F.draft F.numbers F.faults folder.new cursor.new writer.new)
         result }
 {
-    match cursor.next(folder)? {
-        Item::Inner { label, stamp } => {
-            let stamp = copy_opening(alloc, folder, writer, Kind::Inner, label, stamp, set)?;
-            copy_inner(alloc, folder, cursor, writer, effective(&stamp, set))?;
-            Ok(true)
-        }
-        Item::Leaf { label, stamp } => {
-            copy_opening(alloc, folder, writer, Kind::Leaf, label, stamp, set)?;
-            copy_alts(alloc, folder, cursor, writer)?;
-            Ok(true)
-        }
-        Item::End { .. } => Ok(false),
-        _ => Err(MergeFault::Damage),
+    let (kind, label, stamp) = match cursor.next(folder)? {
+        Item::Inner { label, stamp } => (Kind::Inner, label, stamp),
+        Item::Leaf { label, stamp } => (Kind::Leaf, label, stamp),
+        Item::End { .. } => return Ok(false),
+        _ => return Err(MergeFault::Damage),
+    };
+    let copied = {
+        let stamp = copy_opening(alloc, folder, writer, kind, label, stamp, set)?;
+        copy_begun(alloc, folder, cursor, writer, kind, effective(&stamp, set))
+    };
+    copied?;
+    Ok(true)
+}
+
+// Copies the inside of a node of this kind that was begun, and closes it. The node has the set.
+#[cycle(copy)]
+fn copy_begun<F: Folder>(
+    alloc: Global,
+    folder: &mut F,
+    cursor: &mut Cursor,
+    writer: &mut Writer,
+    kind: Kind,
+    set: &VersionSet,
+) -> Result<(), MergeFault>
+    requires within { cursor.old.at ≤ cursor.old.length }
+    requires stands { IsOpen kind (writer_view writer.old) }
+    ensures { BegunCopied kind (pairs_of set.now)
+        (state F.files F.draft F.numbers F.faults folder.old cursor.old writer.old)
+        (state F.files F.draft F.numbers F.faults folder.new cursor.new writer.new)
+        (fault_of result) }
+{
+    match kind {
+        Kind::Inner => copy_inner(alloc, folder, cursor, writer, set),
+        Kind::Leaf => copy_alts(alloc, folder, cursor, writer),
     }
 }
 

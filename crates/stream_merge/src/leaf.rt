@@ -19,7 +19,7 @@ ghost use Rattle.stream_merge.specs.View.{inherited_view, own_view};
 
 use crate::beside::Begun;
 use crate::copy::copy_alts;
-use crate::fault::MergeFault;
+use crate::fault::{MergeFault, written};
 use crate::inherited::{Inherited, turned_stamp};
 use keyed_parts::{Inside, LentBody};
 use record_cursor::{Cursor, Item};
@@ -118,16 +118,14 @@ fn close_leaf<F: Folder>(
         (state F.files F.draft F.numbers F.faults folder.new c writer.new) (fault_of result) }
 {
     if found {
-        writer.end_leaf(folder)?;
-        return Ok(());
+        return written(writer.end_leaf(folder));
     }
-    let written = {
+    let begun = {
         let stamp = Some(VersionSet::single(alloc, number));
         writer.alt(folder, &stamp, BodyFrom::Old(body))
     };
-    written?;
-    writer.end_leaf(folder)?;
-    Ok(())
+    begun?;
+    written(writer.end_leaf(folder))
 }
 
 // Merges the next alternative with the body: whether it is the same, or None where the leaf ends.

@@ -7,8 +7,9 @@ ghost use Rattle.keyed_parts.specs.View.{kid_view, kids_view};
 ghost use Rattle.nested_merge.specs.Merged.{fresh, fresh_row};
 ghost use Rattle.record_format.specs.Shapes.{IsShapedNode, AreShapedNodes};
 ghost use Rattle.record_writer.specs.View.{writer_view};
+ghost use Rattle.stream_merge.specs.Meets.{IsOpen};
 ghost use Rattle.stream_merge.specs.Passes.{fault_of};
-ghost use Rattle.stream_merge.specs.RowMerged.{RowMerged, ChildMerged, InsideMerged, IsOpen, BegunMerged};
+ghost use Rattle.stream_merge.specs.RowMerged.{RowMerged, ChildMerged, InsideMerged, BegunMerged};
 ghost use Rattle.stream_merge.specs.State.{state};
 ghost use Rattle.stream_merge.specs.View.{inherited_view, own_view};
 
@@ -85,7 +86,9 @@ fn merge_child<'k, 'a, 't, F: Folder>(
     };
     let begun = begin_beside(folder, writer, spelled, kind, label, stamp, kids, from)?;
     let rest = begun.rest;
-    merge_begun(folder, cursor, writer, spelled, kind, begun)?;
+    let merged = merge_begun(folder, cursor, writer, spelled, kind, &begun);
+    drop(begun);
+    merged?;
     Ok(Some(rest))
 }
 
@@ -97,24 +100,24 @@ fn merge_begun<F: Folder>(
     writer: &mut Writer,
     spelled: &mut Vec<u8>,
     kind: Kind,
-    begun: Begun<'_, '_, '_, '_>,
+    begun: &Begun<'_, '_, '_, '_>,
 ) -> Result<(), MergeFault>
     requires within { cursor.old.at ≤ cursor.old.length }
     requires stands { IsOpen kind (writer_view writer.old) }
-    requires number { 1 ≤ (own_view begun.own).number }
-    requires kid { IfSome (option_map kid_view begun.kid)
+    requires number { 1 ≤ (own_view begun.now.own).number }
+    requires kid { IfSome (option_map kid_view begun.now.kid)
         (λ k. IsOrdered k × IsShapedNode (fresh None k)) }
-    requires alone { option_map kid_view begun.kid ≡ None
-        → (own_view begun.own).now ≡ (own_view begun.own).before }
-    ensures { BegunMerged kind (own_view begun.entry.own)
-        (option_map kid_view begun.entry.kid)
+    requires alone { option_map kid_view begun.now.kid ≡ None
+        → (own_view begun.now.own).now ≡ (own_view begun.now.own).before }
+    ensures { BegunMerged kind (own_view begun.entry.now.own)
+        (option_map kid_view begun.entry.now.kid)
         (state F.files F.draft F.numbers F.faults folder.old cursor.old writer.old)
         (state F.files F.draft F.numbers F.faults folder.new cursor.new writer.new)
         (fault_of result) }
 {
     match kind {
-        Kind::Inner => merge_inner(folder, cursor, writer, spelled, &begun),
-        Kind::Leaf => merge_leaf(folder, cursor, writer, spelled, &begun),
+        Kind::Inner => merge_inner(folder, cursor, writer, spelled, begun),
+        Kind::Leaf => merge_leaf(folder, cursor, writer, spelled, begun),
     }
 }
 

@@ -1,3 +1,4 @@
+use Rattle.std.proofs.lemmas.Grind.{common_steps}
 use Rattle.std.proofs.Common.{rules, ◌≡◌, ℕ, ◌-◌, List, [], ◌∷◌, ◌++◌, length, ap, ◌∙◌, map, arith}
 use Rattle.std.specs.List.{flat_map}
 use Rattle.std.proofs.lemmas.List.{map-append}
@@ -94,3 +95,9 @@ pub put_node-returns-in_ok-put_leaf_end-in-Leaf-clause-dir : goal.put_node-retur
 put_node-returns-in_ok-put_leaf_end-in-Leaf-clause-dir t c =
     let i = c.in-Leaf in
     leaf-dir (pairs_of c.args.parent.now) (node_view c.args.node.now) (label_view i.label) (stamp_view i.stamp) (map alt_view i.alts.items) (ap node_view i.is ∙ node_view-Leaf i.label i.stamp i.alts)
+
+pub put_nodes-loop-node-init : goal.put_nodes-loop-node-init
+put_nodes-loop-node-init t c = grind (arith, common_steps)
+
+pub put_nodes-returns-clause-each : goal.put_nodes-returns-clause-each
+put_nodes-returns-clause-each t c = grind (arith, common_steps)

@@ -10,3 +10,6 @@ returns-then-not-leaf_fits c = grind (arith, common_steps)
 
 pub returns : goal.returns
 returns c = grind (arith, common_steps)
+
+pub loop-node-init : goal.loop-node-init
+loop-node-init c = grind (arith, common_steps)

@@ -33,8 +33,8 @@ returns-in_err-stamp-clause-begins g c = λ c' within. (
     stamp-fails c.args.kind (inherited_view c.args.from.now) (shown_label c.args.label) (shown_stamp c.args.stamp) (kids_view c.args.kids) s t r.result e.field-0.0 r.ensures.1 (g.met.F.Folder.metered c.put_below.new.folder) e.ensures.inside e.ensures.damage
     (c.in_ok-kid.ensures.puts c' within))
 
-pub begin_node-requires : goal.begin_node-requires
-begin_node-requires g c =
+pub begin_node-began-requires : goal.begin_node-began-requires
+begin_node-began-requires g c =
     let f = g.F.Folder in
     let at = state f.files f.draft f.numbers f.faults in
     let h = inherited_view c.args.from.now in
@@ -43,19 +43,19 @@ begin_node-requires g c =
     (record { appended = put.appended; sends = put.sends; stops = tt }) in
     record { no_leaf = rests.no_leaf }
 
-pub returns-in_err-begin_node-clause-begins : goal.returns-in_err-begin_node-clause-begins
-returns-in_err-begin_node-clause-begins g c = λ c' within. (
+pub returns-in_err-began-clause-begins : goal.returns-in_err-began-clause-begins
+returns-in_err-began-clause-begins g c = λ c' within. (
     let f = g.F.Folder in
     let at = state f.files f.draft f.numbers f.faults in
     let s : State = at c.args.folder.now c' c.args.writer.now in
     let t : State = at c.put_below.new.folder c' c.put_below.new.writer in
-    let u : State = at c.begin_node.new.folder c' c.begin_node.new.writer in
+    let u : State = at c.begin_node-began.new.folder c' c.begin_node-began.new.writer in
     let k = c.in_ok-kid in
     let n = c.in_ok-stamp in
-    let r = c.from_residual-in_err-begin_node in
+    let r = c.from_residual-in_err-began in
     let call = call_of c.args.kind (shown_label c.args.label) (stamp_view n.stamp) (pairs_of c.get.result.now.now) ∷ [] in
     let has = has-kid kid_view k.kid _ c.is_some.result k.ensures.kid c.is_some.ensures in
-    node-sent-beside c.args.kind (inherited_view c.args.from.now) (shown_label c.args.label) (shown_stamp c.args.stamp) (kids_view c.args.kids) s t r.result u c.is_some.result (stamp_view n.stamp) (own_view n.own) (inherited_view c.get.result.now) has n.ensures.stamp n.ensures.own c.get.ensures n.ensures.no_shorter c.requires.no_leaf (k.ensures.puts c' within) (sent-handed r.result c.in_err-begin_node.field-0.0 r.ensures.1 call t u (c.in_err-begin_node.ensures.sends c' within)))
+    node-sent-beside c.args.kind (inherited_view c.args.from.now) (shown_label c.args.label) (shown_stamp c.args.stamp) (kids_view c.args.kids) s t r.result u c.is_some.result (stamp_view n.stamp) (own_view n.own) (inherited_view c.get.result.now) has n.ensures.stamp n.ensures.own c.get.ensures n.ensures.no_shorter c.requires.no_leaf (k.ensures.puts c' within) (sent-handed r.result c.in_err-began.field-0.0 r.ensures.1 call t u (c.in_err-began.ensures.sends c' within)))
 
 pub returns-clause-begins : goal.returns-clause-begins
 returns-clause-begins g c = λ c' within. (
@@ -63,11 +63,11 @@ returns-clause-begins g c = λ c' within. (
     let at = state f.files f.draft f.numbers f.faults in
     let s : State = at c.args.folder.now c' c.args.writer.now in
     let t : State = at c.put_below.new.folder c' c.put_below.new.writer in
-    let u : State = at c.begin_node.new.folder c' c.begin_node.new.writer in
+    let u : State = at c.begin_node-began.new.folder c' c.begin_node-began.new.writer in
     let k = c.in_ok-kid in
     let n = c.in_ok-stamp in
     let has = has-kid kid_view k.kid _ c.is_some.result k.ensures.kid c.is_some.ensures in
-    node-sent-beside c.args.kind (inherited_view c.args.from.now) (shown_label c.args.label) (shown_stamp c.args.stamp) (kids_view c.args.kids) s t _ u c.is_some.result (stamp_view n.stamp) (own_view n.own) (inherited_view c.get.result.now) has n.ensures.stamp n.ensures.own c.get.ensures n.ensures.no_shorter c.requires.no_leaf (k.ensures.puts c' within) (c.in_ok-begin_node.ensures.sends c' within))
+    node-sent-beside c.args.kind (inherited_view c.args.from.now) (shown_label c.args.label) (shown_stamp c.args.stamp) (kids_view c.args.kids) s t _ u c.is_some.result (stamp_view n.stamp) (own_view n.own) (inherited_view c.get.result.now) has n.ensures.stamp n.ensures.own c.get.ensures n.ensures.no_shorter c.requires.no_leaf (k.ensures.puts c' within) (c.in_ok-began.ensures.sends c' within))
 
 pub returns-clause-begun : goal.returns-clause-begun
 returns-clause-begun g c =

@@ -1,22 +1,24 @@
-use Rattle.std.proofs.Common.{ℕ, ◌<◌, ◌*◌, ◌+◌, ◌-◌, Option, Some, None, Ok, Bool, refl, ap, subst, arith}
+use Rattle.std.proofs.Common.{◌≡◌, ℕ, ◌<◌, ◌*◌, ◌+◌, ◌-◌, Option, Some, None, Ok, Bool, refl, sym, ap, subst, ◌∙◌, arith}
 use Rattle.archive_tree.specs.View.{stamp_view}
 use Rattle.version_set.specs.View.{pairs_of}
 use Rattle.record_cursor.specs.View.{PlainCursor, shown_item}
 use Rattle.record_parts.specs.ShownViews.{shown_label, shown_stamp}
 use Rattle.record_writer.specs.Data.{call_end_inner}
+use Rattle.record_writer.specs.View.{writer_view}
 use Rattle.record_writer.specs.declared.writer.Writer.{Writer}
-use Rattle.stream_merge.specs.Copied.{RowCopied, InsideCopied, ChildCopied}
+use Rattle.stream_merge.specs.Copied.{RowCopied, InsideCopied, BegunCopied, ChildCopied}
+use Rattle.stream_merge.specs.Meets.{IsOpen}
 use Rattle.stream_merge.specs.Passes.{fault_of, of_cursor}
 use Rattle.stream_merge.specs.State.{State, state}
-use Rattle.stream_merge.specs.declared.begin.Kind.TheVariants.{Inner, Leaf}
+use Rattle.stream_merge.specs.declared.begin.Kind.{Kind}
 use Rattle.stream_merge.specs.declared.fault.MergeFault.{MergeFault}
 use Rattle.stream_merge.proofs.States.{written, Nexts, nexts, stays-by, call-sends}
 use Rattle.stream_merge.proofs.CopiedRows.{row-start, row-on, row-done, row-fault, inside-fault, inside-close}
-use Rattle.stream_merge.proofs.ChildCopies.{Opener, opening-smaller, inside-part, alts-part, begun-writer, opened-some, child-failed, child-fails, child-part-fails, child-copied, child-ended, child-damage}
+use Rattle.stream_merge.proofs.ChildCopies.{Opener, opening, opening-smaller, begun-part, begun-open, begun-writer, child-failed, child-fails, child-part-fails, child-copied, child-ended, child-damage}
 use Rattle.stream_merge.proofs.Handed.{at-err, called}
 use Rattle.stream_merge.proofs.Puts.{set-of}
 use Rattle.stream_merge.proofs.copy.+copy.Given.{Over}
-use Rattle.stream_merge.proofs.copy.+copy.Goals.{copy_child-In_ok-label, copy_child-In-Inner, copy_child-In-Leaf}
+use Rattle.stream_merge.proofs.copy.+copy.Goals.{copy_child-In_ok-label, copy_child-Joined-branch-2, copy_child-in-Inner, copy_child-in-Leaf}
 use Rattle.stream_merge.proofs.copy.+copy.Goals as goal
 
 abbrev at : (g : Over) → g.row.F.Denot → PlainCursor → Writer → State
@@ -40,15 +42,21 @@ copy_child-returns-in_err-label g t c =
     let stays = stays-by s p c.next.result e.field-0.0 e.was e.ensures.files e.ensures.draft e.ensures.pulls e.ensures.later e.ensures.cause e.ensures.undamaged e.ensures.reads c.next.follows.holds-at-none in
     at-err c.from_residual.result (of_cursor e.field-0.0) c.from_residual.ensures.1 (λ r. ChildCopied q s p r) (child-failed q s p e.field-0.0 c.requires.within stays)
 
-abbrev inner : (g : Over) (t : ℕ) (c : copy_child-In-Inner g t) → Nexts (at g c.args.folder.now c.args.cursor.now c.args.writer.now) (at g c.next.new.folder c.next.follows.lender-at-none c.args.writer.now) c.in_ok-label.field-0 → Opener Inner (at g c.args.folder.now c.args.cursor.now c.args.writer.now) (at g c.next.new.folder c.next.follows.lender-at-none c.args.writer.now)
-inner g t c read = (let i = c.in-Inner in record { item = c.in_ok-label.field-0; label = shown_label i.label; stamp = shown_stamp i.stamp; shown = ap shown_item i.is; read = read })
+-- it opens a node
+opens : (g : Over) (t : ℕ) (c : copy_child-Joined-branch-2 g t) → shown_item c.in_ok-label.field-0 ≡ opening c.match-branch-2.kind.0 (shown_label c.match-branch-2.kind.1) (shown_stamp c.match-branch-2.kind.2)
+opens g t c =
+    elim c.match-branch-2.branch [
+      | copy_child-in-Inner w ↦ ap shown_item w.in-Inner.is ∙ sym (ap (λ k. opening k.0 (shown_label k.1) (shown_stamp k.2)) w.kind-is)
+      | copy_child-in-Leaf w ↦ ap shown_item w.in-Leaf.is ∙ sym (ap (λ k. opening k.0 (shown_label k.1) (shown_stamp k.2)) w.kind-is)
+    ]
 
-abbrev leaf : (g : Over) (t : ℕ) (c : copy_child-In-Leaf g t) → Nexts (at g c.args.folder.now c.args.cursor.now c.args.writer.now) (at g c.next.new.folder c.next.follows.lender-at-none c.args.writer.now) c.in_ok-label.field-0 → Opener Leaf (at g c.args.folder.now c.args.cursor.now c.args.writer.now) (at g c.next.new.folder c.next.follows.lender-at-none c.args.writer.now)
-leaf g t c read = (let i = c.in-Leaf in record { item = c.in_ok-label.field-0; label = shown_label i.label; stamp = shown_stamp i.stamp; shown = ap shown_item i.is; read = read })
+abbrev opener : (g : Over) (t : ℕ) (c : copy_child-Joined-branch-2 g t) → Nexts (at g c.args.folder.now c.args.cursor.now c.args.writer.now) (at g c.next.new.folder c.next.follows.lender-at-none c.args.writer.now) c.in_ok-label.field-0
+    → Opener c.match-branch-2.kind.0 (at g c.args.folder.now c.args.cursor.now c.args.writer.now) (at g c.next.new.folder c.next.follows.lender-at-none c.args.writer.now)
+opener g t c read = (let k = c.match-branch-2.kind in record { item = c.in_ok-label.field-0; label = shown_label k.1; stamp = shown_stamp k.2; shown = opens g t c; read = read })
 
-pub copy_child-returns-in_err-stamp-in-Inner : goal.copy_child-returns-in_err-stamp-in-Inner
-copy_child-returns-in_err-stamp-in-Inner g t c =
-    let z = goal.at.copy_child-returns-in_err-stamp-in-Inner g t c in
+pub copy_child-returns-in_err-stamp : goal.copy_child-returns-in_err-stamp
+copy_child-returns-in_err-stamp g t c =
+    let z = goal.at.copy_child-returns-in_err-stamp g t c in
     let q = pairs_of c.args.set.now in
     let k : PlainCursor = c.next.follows.lender-at-none in
     let s = at g c.args.folder.now c.args.cursor.now c.args.writer.now in
@@ -56,121 +64,66 @@ copy_child-returns-in_err-stamp-in-Inner g t c =
     let u = at g c.copy_opening.new.folder k c.copy_opening.new.writer in
     let gave = read g t z.In_ok-label in
     let goes = gave.goes in
-    let o = inner g t z.In-Inner gave in
-    let e = c.in_err-stamp-in-Inner in
-    let r = c.from_residual-in_err-stamp-in-Inner in
-    at-err r.result e.field-0.0 r.ensures.1 (λ d. ChildCopied q s u d) (child-fails Inner q s p u o e.field-0.0 (e.ensures.sends k goes.within))
+    let o = opener g t z.Joined-branch-2 gave in
+    let e = c.in_err-stamp in
+    let r = c.from_residual-in_err-stamp in
+    at-err r.result e.field-0.0 r.ensures.1 (λ d. ChildCopied q s u d) (child-fails c.match-branch-2.kind.0 q s p u o e.field-0.0 (e.ensures.sends k goes.within))
 
-pub copy_child-copy_inner-requires : goal.copy_child-copy_inner-requires
-copy_child-copy_inner-requires g t c κs within =
-    let z = goal.at.copy_child-copy_inner-requires g t c in
+pub copy_child-copy_begun-copied-requires : goal.copy_child-copy_begun-copied-requires
+copy_child-copy_begun-copied-requires g t c κs within =
+    let z = goal.at.copy_child-copy_begun-copied-requires g t c in
     let q = pairs_of c.args.set.now in
     let k : PlainCursor = c.next.follows.lender-at-none in
     let s = at g c.args.folder.now c.args.cursor.now c.args.writer.now in
     let p = at g c.next.new.folder k c.args.writer.now in
     let u = at g c.copy_opening.new.folder k c.copy_opening.new.writer in
+    let kind = c.match-branch-2.kind.0 in
     let gave = read g t z.In_ok-label in
     let goes = gave.goes in
-    let o = inner g t z.In-Inner gave in
-    let opens = begun-writer Inner q s p u o c.requires.no_leaf (c.in_ok-stamp-in-Inner.ensures.sends k goes.within) in
-    let small = opening-smaller Inner s p o in
-    let less : 3 * (k.length - k.at) + 2 < t = omega (arith, small, c.decreases) in
-    (less, (within, (goes.within, (opens.no_leaf, opened-some s.writer u.writer opens))))
+    let o = opener g t z.Joined-branch-2 gave in
+    let opens = begun-writer kind q s p u o c.requires.no_leaf (c.in_ok-stamp.ensures.sends k goes.within) in
+    let small = opening-smaller kind (g.F.Folder.files c.args.folder.now) c.args.cursor.now k o.item o.label o.stamp o.shown goes in
+    let less : 4 * (k.length - k.at) + 3 < t = omega (arith, small, c.decreases) in
+    (less, (within, (goes.within, begun-open kind s.writer u.writer opens)))
 
-pub copy_child-returns-in_err-copy_inner-in-Inner : goal.copy_child-returns-in_err-copy_inner-in-Inner
-copy_child-returns-in_err-copy_inner-in-Inner g t c =
-    let z = goal.at.copy_child-returns-in_err-copy_inner-in-Inner g t c in
+pub copy_child-returns-in_err-copied : goal.copy_child-returns-in_err-copied
+copy_child-returns-in_err-copied g t c =
+    let z = goal.at.copy_child-returns-in_err-copied g t c in
     let q = pairs_of c.args.set.now in
     let k : PlainCursor = c.next.follows.lender-at-none in
     let s = at g c.args.folder.now c.args.cursor.now c.args.writer.now in
     let p = at g c.next.new.folder k c.args.writer.now in
     let u = at g c.copy_opening.new.folder k c.copy_opening.new.writer in
-    let v = at g c.copy_inner.new.folder c.copy_inner.new.cursor c.copy_inner.new.writer in
+    let v = at g c.copy_begun-copied.new.folder c.copy_begun-copied.new.cursor c.copy_begun-copied.new.writer in
+    let kind = c.match-branch-2.kind.0 in
     let gave = read g t z.In_ok-label in
     let goes = gave.goes in
-    let o = inner g t z.In-Inner gave in
-    let stamp = c.in_ok-stamp-in-Inner in
-    let set = set-of (stamp_view stamp.stamp) o.stamp q (pairs_of c.effective.result.now) stamp.ensures.stamp c.effective.ensures.pairs in
-    let e = c.in_err-copy_inner-in-Inner in
-    let r = c.from_residual-in_err-copy_inner-in-Inner in
+    let o = opener g t z.Joined-branch-2 gave in
+    let stamp = c.in_ok-stamp in
+    let own = pairs_of c.effective.result.now in
+    let set = set-of (stamp_view stamp.stamp) o.stamp q own stamp.ensures.stamp c.effective.ensures.pairs in
+    let e = c.in_err-copied in
+    let r = c.from_residual-in_err-copied in
     at-err r.result e.field-0.0 r.ensures.1 (λ d. ChildCopied q s v d)
-    (child-part-fails Inner q s p u o v (stamp.ensures.sends k goes.within) e.field-0.0 (inside-part q (pairs_of c.effective.result.now) o.label o.stamp u v (Some e.field-0.0) set e.ensures))
+    (child-part-fails kind q s p u o v (stamp.ensures.sends k goes.within) e.field-0.0 (begun-part kind q own o.label o.stamp u v (Some e.field-0.0) set e.ensures))
 
-pub copy_child-returns-in_ok-copy_inner-in-Inner : goal.copy_child-returns-in_ok-copy_inner-in-Inner
-copy_child-returns-in_ok-copy_inner-in-Inner g t c =
-    let z = goal.at.copy_child-returns-in_ok-copy_inner-in-Inner g t c in
+pub copy_child-returns : goal.copy_child-returns
+copy_child-returns g t c =
+    let z = goal.at.copy_child-returns g t c in
     let q = pairs_of c.args.set.now in
     let k : PlainCursor = c.next.follows.lender-at-none in
     let s = at g c.args.folder.now c.args.cursor.now c.args.writer.now in
     let p = at g c.next.new.folder k c.args.writer.now in
     let u = at g c.copy_opening.new.folder k c.copy_opening.new.writer in
-    let v = at g c.copy_inner.new.folder c.copy_inner.new.cursor c.copy_inner.new.writer in
+    let v = at g c.copy_begun-copied.new.folder c.copy_begun-copied.new.cursor c.copy_begun-copied.new.writer in
+    let kind = c.match-branch-2.kind.0 in
     let gave = read g t z.In_ok-label in
     let goes = gave.goes in
-    let o = inner g t z.In-Inner gave in
-    let stamp = c.in_ok-stamp-in-Inner in
-    let set = set-of (stamp_view stamp.stamp) o.stamp q (pairs_of c.effective.result.now) stamp.ensures.stamp c.effective.ensures.pairs in
-    child-copied Inner q s p u o v (stamp.ensures.sends k goes.within) c.requires.no_leaf (inside-part q (pairs_of c.effective.result.now) o.label o.stamp u v None set c.in_ok-copy_inner-in-Inner.ensures)
-
-pub copy_child-returns-in_err-copy_opening-in-Leaf : goal.copy_child-returns-in_err-copy_opening-in-Leaf
-copy_child-returns-in_err-copy_opening-in-Leaf g t c =
-    let z = goal.at.copy_child-returns-in_err-copy_opening-in-Leaf g t c in
-    let q = pairs_of c.args.set.now in
-    let k : PlainCursor = c.next.follows.lender-at-none in
-    let s = at g c.args.folder.now c.args.cursor.now c.args.writer.now in
-    let p = at g c.next.new.folder k c.args.writer.now in
-    let u = at g c.copy_opening-in-Leaf.new.folder k c.copy_opening-in-Leaf.new.writer in
-    let gave = read g t z.In_ok-label in
-    let goes = gave.goes in
-    let o = leaf g t z.In-Leaf gave in
-    let e = c.in_err-copy_opening-in-Leaf in
-    let r = c.from_residual-in_err-copy_opening-in-Leaf in
-    at-err r.result e.field-0.0 r.ensures.1 (λ d. ChildCopied q s u d) (child-fails Leaf q s p u o e.field-0.0 (e.ensures.sends k goes.within))
-
-pub copy_child-copy_alts-requires : goal.copy_child-copy_alts-requires
-copy_child-copy_alts-requires g t c =
-    let z = goal.at.copy_child-copy_alts-requires g t c in
-    let q = pairs_of c.args.set.now in
-    let k : PlainCursor = c.next.follows.lender-at-none in
-    let s = at g c.args.folder.now c.args.cursor.now c.args.writer.now in
-    let p = at g c.next.new.folder k c.args.writer.now in
-    let u = at g c.copy_opening-in-Leaf.new.folder k c.copy_opening-in-Leaf.new.writer in
-    let gave = read g t z.In_ok-label in
-    let goes = gave.goes in
-    let o = leaf g t z.In-Leaf gave in
-    let begun = begun-writer Leaf q s p u o c.requires.no_leaf (c.in_ok-copy_opening-in-Leaf.ensures.sends k goes.within) in
-    record { within = goes.within; leaf = begun.leaf }
-
-pub copy_child-returns-in_err-copy_alts-in-Leaf : goal.copy_child-returns-in_err-copy_alts-in-Leaf
-copy_child-returns-in_err-copy_alts-in-Leaf g t c =
-    let z = goal.at.copy_child-returns-in_err-copy_alts-in-Leaf g t c in
-    let q = pairs_of c.args.set.now in
-    let k : PlainCursor = c.next.follows.lender-at-none in
-    let s = at g c.args.folder.now c.args.cursor.now c.args.writer.now in
-    let p = at g c.next.new.folder k c.args.writer.now in
-    let u = at g c.copy_opening-in-Leaf.new.folder k c.copy_opening-in-Leaf.new.writer in
-    let v = at g c.copy_alts.new.folder c.copy_alts.new.cursor c.copy_alts.new.writer in
-    let gave = read g t z.In_ok-label in
-    let goes = gave.goes in
-    let o = leaf g t z.In-Leaf gave in
-    let e = c.in_err-copy_alts-in-Leaf in
-    let r = c.from_residual-in_err-copy_alts-in-Leaf in
-    at-err r.result e.field-0.0 r.ensures.1 (λ d. ChildCopied q s v d)
-    (child-part-fails Leaf q s p u o v (c.in_ok-copy_opening-in-Leaf.ensures.sends k goes.within) e.field-0.0 (alts-part q o.label o.stamp u v (Some e.field-0.0) e.ensures))
-
-pub copy_child-returns-in_ok-copy_alts-in-Leaf : goal.copy_child-returns-in_ok-copy_alts-in-Leaf
-copy_child-returns-in_ok-copy_alts-in-Leaf g t c =
-    let z = goal.at.copy_child-returns-in_ok-copy_alts-in-Leaf g t c in
-    let q = pairs_of c.args.set.now in
-    let k : PlainCursor = c.next.follows.lender-at-none in
-    let s = at g c.args.folder.now c.args.cursor.now c.args.writer.now in
-    let p = at g c.next.new.folder k c.args.writer.now in
-    let u = at g c.copy_opening-in-Leaf.new.folder k c.copy_opening-in-Leaf.new.writer in
-    let v = at g c.copy_alts.new.folder c.copy_alts.new.cursor c.copy_alts.new.writer in
-    let gave = read g t z.In_ok-label in
-    let goes = gave.goes in
-    let o = leaf g t z.In-Leaf gave in
-    child-copied Leaf q s p u o v (c.in_ok-copy_opening-in-Leaf.ensures.sends k goes.within) c.requires.no_leaf (alts-part q o.label o.stamp u v None c.in_ok-copy_alts-in-Leaf.ensures)
+    let o = opener g t z.Joined-branch-2 gave in
+    let stamp = c.in_ok-stamp in
+    let own = pairs_of c.effective.result.now in
+    let set = set-of (stamp_view stamp.stamp) o.stamp q own stamp.ensures.stamp c.effective.ensures.pairs in
+    child-copied kind q s p u o v (stamp.ensures.sends k goes.within) c.requires.no_leaf (begun-part kind q own o.label o.stamp u v None set c.in_ok-copied.ensures)
 
 pub copy_child-returns-in-End : goal.copy_child-returns-in-End
 copy_child-returns-in-End g t c =
@@ -186,6 +139,30 @@ copy_child-returns-in_default g t c =
     child-damage (pairs_of c.args.set.now) s p c.in_ok-label.field-0 d.not-Inner d.not-Leaf d.not-End (read g t (goal.at.copy_child-returns-in_default g t c).In_ok-label)
 
 -- ---- the inside of a node
+
+pub copy_begun-copy_inner-requires : goal.copy_begun-copy_inner-requires
+copy_begun-copy_inner-requires g t c κs within =
+    let r = c.requires in
+    let stands = subst (λ (k : Kind). IsOpen k (writer_view c.args.writer.now)) c.in-Inner.is r.stands in
+    let less : 4 * (c.args.cursor.now.length - c.args.cursor.now.at) + 2 < t = omega (arith, c.decreases) in
+    (less, (within, (r.within, stands)))
+
+pub copy_begun-copy_alts-requires : goal.copy_begun-copy_alts-requires
+copy_begun-copy_alts-requires g t c =
+    let r = c.requires in
+    record { within = r.within; leaf = subst (λ (k : Kind). IsOpen k (writer_view c.args.writer.now)) c.in-Leaf.is r.stands }
+
+pub copy_begun-returns-in-Inner : goal.copy_begun-returns-in-Inner
+copy_begun-returns-in-Inner g t c =
+    let s = at g c.args.folder.now c.args.cursor.now c.args.writer.now in
+    let v = at g c.copy_inner.new.folder c.copy_inner.new.cursor c.copy_inner.new.writer in
+    subst (λ (k : Kind). BegunCopied k (pairs_of c.args.set.now) s v (fault_of c.copy_inner.result)) (sym c.in-Inner.is) c.copy_inner.ensures
+
+pub copy_begun-returns-in-Leaf : goal.copy_begun-returns-in-Leaf
+copy_begun-returns-in-Leaf g t c =
+    let s = at g c.args.folder.now c.args.cursor.now c.args.writer.now in
+    let v = at g c.copy_alts.new.folder c.copy_alts.new.cursor c.copy_alts.new.writer in
+    subst (λ (k : Kind). BegunCopied k (pairs_of c.args.set.now) s v (fault_of c.copy_alts.result)) (sym c.in-Leaf.is) c.copy_alts.ensures
 
 pub copy_inner-returns-in_err-copy_row : goal.copy_inner-returns-in_err-copy_row
 copy_inner-returns-in_err-copy_row g t c =

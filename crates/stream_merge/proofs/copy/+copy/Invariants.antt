@@ -5,13 +5,16 @@ use Rattle.stream_merge.proofs.CopiedRows.{RowOn}
 use Rattle.stream_merge.proofs.copy.+copy.Given as goal
 
 abbrev pub decreases-copy_child : goal.decreases-copy_child
-decreases-copy_child g l = 3 * (l.cursor.now.length - l.cursor.now.at)
+decreases-copy_child g l = 4 * (l.cursor.now.length - l.cursor.now.at)
 
 abbrev pub decreases-copy_row : goal.decreases-copy_row
-decreases-copy_row g l = 3 * (l.cursor.now.length - l.cursor.now.at) + 1
+decreases-copy_row g l = 4 * (l.cursor.now.length - l.cursor.now.at) + 1
 
 abbrev pub decreases-copy_inner : goal.decreases-copy_inner
-decreases-copy_inner g l = 3 * (l.cursor.now.length - l.cursor.now.at) + 2
+decreases-copy_inner g l = 4 * (l.cursor.now.length - l.cursor.now.at) + 2
+
+abbrev pub decreases-copy_begun : goal.decreases-copy_begun
+decreases-copy_begun g l = 4 * (l.cursor.now.length - l.cursor.now.at) + 3
 
 -- so many nodes were copied
 abbrev pub invariant-copy_row-loop : goal.invariant-copy_row-loop

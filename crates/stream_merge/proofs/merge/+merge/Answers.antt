@@ -7,17 +7,18 @@ use Rattle.record_parts.specs.ShownViews.{shown_label, shown_stamp}
 use Rattle.record_writer.specs.Data.{call_end_inner}
 use Rattle.record_writer.specs.View.{writer_view}
 use Rattle.record_writer.specs.declared.writer.Writer.{Writer}
+use Rattle.stream_merge.specs.Meets.{IsOpen}
 use Rattle.stream_merge.specs.Passes.{fault_of, of_cursor}
-use Rattle.stream_merge.specs.RowMerged.{RowMerged, ChildMerged, InsideMerged, IsOpen, BegunMerged}
+use Rattle.stream_merge.specs.RowMerged.{RowMerged, ChildMerged, InsideMerged, BegunMerged}
 use Rattle.stream_merge.specs.State.{State, state}
 use Rattle.stream_merge.specs.View.{PlainInherited, inherited_view, own_view}
 use Rattle.stream_merge.specs.declared.begin.Kind.{Kind}
 use Rattle.stream_merge.specs.declared.fault.MergeFault.{MergeFault}
 use Rattle.stream_merge.proofs.States.{written, Nexts, nexts, stays-by, call-sends}
 use Rattle.stream_merge.proofs.Handed.{at-err, called}
-use Rattle.stream_merge.proofs.ChildCopies.{opening}
+use Rattle.stream_merge.proofs.ChildCopies.{opening, opening-smaller, begun-open}
 use Rattle.stream_merge.proofs.MergedRows.{merge-start, merge-more, merge-done, merge-fault}
-use Rattle.stream_merge.proofs.MergedNodes.{child-failed, child-damage, child-unended, child-ended, child-unbegun, child-unmerged, child-merged, opening-smaller, begun-open, begun-number, begun-kid, begun-alone, kid-shaped, inside-row-fails, inside-row-closed, inside-misfit, inside-alone}
+use Rattle.stream_merge.proofs.MergedNodes.{child-failed, child-damage, child-unended, child-ended, child-unbegun, child-unmerged, child-merged, begun-number, begun-kid, begun-alone, kid-shaped, inside-row-fails, inside-row-closed, inside-misfit, inside-alone}
 use Rattle.stream_merge.proofs.merge.+merge.Given.{Over}
 use Rattle.stream_merge.proofs.merge.+merge.Goals.{merge_child-In_ok-label, merge_child-Joined-branch-2, merge_child-in-Inner, merge_child-in-Leaf}
 use Rattle.stream_merge.proofs.merge.+merge.Goals as goal
@@ -105,12 +106,12 @@ merge_child-returns-in_err-begun g t c =
     let r = c.from_residual-in_err-begun in
     at-err r.result e.field-0.0 r.ensures.1 (ChildMerged h cs s u) (child-unbegun h cs (shown_label k.1) (shown_stamp k.2) k.0 s p u c.in_ok-label.field-0 gave (opens g t here.Joined-branch-2) e.field-0.0 (e.ensures.begins d goes.within))
 
-pub merge_child-merge_begun-requires : goal.merge_child-merge_begun-requires
-merge_child-merge_begun-requires g t c κs within =
+pub merge_child-merge_begun-merged-requires : goal.merge_child-merge_begun-merged-requires
+merge_child-merge_begun-merged-requires g t c κs within =
     let h : PlainInherited = inherited_view c.args.from.now in
     let cs : List PlainKeyed = kids_view c.args.kids in
     let d : PlainCursor = c.next.follows.lender-at-none in
-    let here = goal.at.merge_child-merge_begun-requires g t c in
+    let here = goal.at.merge_child-merge_begun-merged-requires g t c in
     let gave = read g t here.In_ok-label in
     let goes = gave.goes in
     let k = c.match-branch-2.kind in
@@ -139,24 +140,24 @@ merge_child-merge_begun-requires g t c κs within =
       ),
     )
 
-pub merge_child-returns-in_err-merge_begun : goal.merge_child-returns-in_err-merge_begun
-merge_child-returns-in_err-merge_begun g t c =
+pub merge_child-returns-in_err-merged : goal.merge_child-returns-in_err-merged
+merge_child-returns-in_err-merged g t c =
     let h : PlainInherited = inherited_view c.args.from.now in
     let cs : List PlainKeyed = kids_view c.args.kids in
     let d : PlainCursor = c.next.follows.lender-at-none in
     let s = at g c.args.folder.now c.args.cursor.now c.args.writer.now in
     let p = at g c.next.new.folder d c.args.writer.now in
     let u = at g c.begin_beside.new.folder d c.begin_beside.new.writer in
-    let here = goal.at.merge_child-returns-in_err-merge_begun g t c in
+    let here = goal.at.merge_child-returns-in_err-merged g t c in
     let gave = read g t here.In_ok-label in
     let goes = gave.goes in
     let k = c.match-branch-2.kind in
     let b = c.in_ok-begun in
     let kid : Option PlainKeyed = option_map kid_view b.begun.kid in
     let own : PlainInherited = own_view b.begun.own in
-    let v = at g c.merge_begun.new.folder c.merge_begun.new.cursor c.merge_begun.new.writer in
-    let e = c.in_err-merge_begun in
-    let r = c.from_residual-in_err-merge_begun in
+    let v = at g c.merge_begun-merged.new.folder c.merge_begun-merged.new.cursor c.merge_begun-merged.new.writer in
+    let e = c.in_err-merged in
+    let r = c.from_residual-in_err-merged in
     at-err r.result e.field-0.0 r.ensures.1 (ChildMerged h cs s v)
     (child-unmerged h cs (shown_label k.1) (shown_stamp k.2) k.0 s p u c.in_ok-label.field-0 gave (opens g t here.Joined-branch-2) b.begun v (b.ensures.begins d goes.within) kid b.begun.rest own b.ensures.begun e.field-0.0 e.ensures)
 
@@ -175,8 +176,8 @@ merge_child-returns g t c =
     let b = c.in_ok-begun in
     let kid : Option PlainKeyed = option_map kid_view b.begun.kid in
     let own : PlainInherited = own_view b.begun.own in
-    let v = at g c.merge_begun.new.folder c.merge_begun.new.cursor c.merge_begun.new.writer in
-    child-merged h cs (shown_label k.1) (shown_stamp k.2) k.0 s p u c.in_ok-label.field-0 gave (opens g t here.Joined-branch-2) b.begun v (b.ensures.begins d goes.within) kid b.begun.rest own b.ensures.begun c.in_ok-merge_begun.ensures
+    let v = at g c.merge_begun-merged.new.folder c.merge_begun-merged.new.cursor c.merge_begun-merged.new.writer in
+    child-merged h cs (shown_label k.1) (shown_stamp k.2) k.0 s p u c.in_ok-label.field-0 gave (opens g t here.Joined-branch-2) b.begun v (b.ensures.begins d goes.within) kid b.begun.rest own b.ensures.begun c.in_ok-merged.ensures
 
 -- ---- the inside of a node
 
@@ -190,19 +191,19 @@ merge_begun-merge_inner-requires g t c κs within =
 pub merge_begun-merge_leaf-requires : goal.merge_begun-merge_leaf-requires
 merge_begun-merge_leaf-requires g t c =
     let r = c.requires in
-    record { within = r.within; leaf = subst (λ (k : Kind). IsOpen k (writer_view c.args.writer.now)) c.in-Leaf.is r.stands; number = r.number; kid = kid-shaped (option_map kid_view c.args.begun.kid) r.kid }
+    record { within = r.within; leaf = subst (λ (k : Kind). IsOpen k (writer_view c.args.writer.now)) c.in-Leaf.is r.stands; number = r.number; kid = kid-shaped (option_map kid_view c.args.begun.now.kid) r.kid }
 
 pub merge_begun-returns-in-Inner : goal.merge_begun-returns-in-Inner
 merge_begun-returns-in-Inner g t c =
     let s = at g c.args.folder.now c.args.cursor.now c.args.writer.now in
     let v = at g c.merge_inner.new.folder c.merge_inner.new.cursor c.merge_inner.new.writer in
-    subst (λ (k : Kind). BegunMerged k (own_view c.args.begun.own) (option_map kid_view c.args.begun.kid) s v (fault_of c.merge_inner.result)) (sym c.in-Inner.is) c.merge_inner.ensures
+    subst (λ (k : Kind). BegunMerged k (own_view c.args.begun.now.own) (option_map kid_view c.args.begun.now.kid) s v (fault_of c.merge_inner.result)) (sym c.in-Inner.is) c.merge_inner.ensures
 
-pub merge_begun-returns : goal.merge_begun-returns
-merge_begun-returns g t c =
+pub merge_begun-returns-in-Leaf : goal.merge_begun-returns-in-Leaf
+merge_begun-returns-in-Leaf g t c =
     let s = at g c.args.folder.now c.args.cursor.now c.args.writer.now in
     let v = at g c.merge_leaf.new.folder c.merge_leaf.new.cursor c.merge_leaf.new.writer in
-    subst (λ (k : Kind). BegunMerged k (own_view c.args.begun.own) (option_map kid_view c.args.begun.kid) s v (fault_of c.merge_leaf.result)) (sym c.in-Leaf.is) c.merge_leaf.ensures
+    subst (λ (k : Kind). BegunMerged k (own_view c.args.begun.now.own) (option_map kid_view c.args.begun.now.kid) s v (fault_of c.merge_leaf.result)) (sym c.in-Leaf.is) c.merge_leaf.ensures
 
 -- ---- the inside of an inner node
 
