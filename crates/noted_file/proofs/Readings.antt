@@ -4,7 +4,6 @@ use Rattle.key_spec.specs.Data.{PlainRule}
 use Rattle.keyed_tree.specs.Data.{PlainKeyed}
 use Rattle.archive_file.specs.Sound.{SoundAs}
 use Rattle.archive_file.proofs.OneReading.{sound-one}
-use Rattle.xa_fields.specs.Laws.{IsBytes}
 use Rattle.xa_fields.proofs.Fields.{some_is}
 use Rattle.version_notes.specs.Notes.{notes_part}
 use Rattle.version_notes.specs.Parts.{parts_in, parts_behind}
@@ -25,9 +24,9 @@ full-comes rules vs notes bytes name parts f e =
 pub full-come : (rules : List PlainRule) (vs : List PlainKeyed) (notes : List (List ℕ)) (bytes name : List ℕ) (parts : Parts) → FullAs rules vs notes bytes → parts_in bytes ≡ Some parts → notes_from (at_first name parts (length vs)) bytes ≡ Some notes
 full-come rules vs notes bytes name parts f e = from-comes notes (at_first name parts (length vs)) bytes (full-comes rules vs notes bytes name parts f e)
 
-pub read-full : (rules : List PlainRule) (vs : List PlainKeyed) (notes : List (List ℕ)) (bytes name : List ℕ) (parts : Parts) → IsBytes bytes → parts_in bytes ≡ Some parts
+pub read-full : (rules : List PlainRule) (vs : List PlainKeyed) (notes : List (List ℕ)) (bytes name : List ℕ) (parts : Parts) → parts_in bytes ≡ Some parts
     → SoundAs rules vs (take parts.core bytes) → notes_from (at_first name parts (length vs)) bytes ≡ Some notes → FullAs rules vs notes bytes
-read-full rules vs notes bytes name parts fits e s come = behind-full rules vs notes bytes parts s (notes_behind name bytes parts (length vs) notes fits e (comes-from (at_first name parts (length vs)) bytes notes come))
+read-full rules vs notes bytes name parts e s come = behind-full rules vs notes bytes parts s (notes_behind name bytes parts (length vs) notes e (comes-from (at_first name parts (length vs)) bytes notes come))
 
 pub full-one : (rules others : List PlainRule) (vs us : List PlainKeyed) (notes more : List (List ℕ)) (bytes : List ℕ) → FullAs rules vs notes bytes → FullAs others us more bytes → (rules ≡ others) × (vs ≡ us) × (notes ≡ more)
 full-one rules others vs us notes more bytes f g =

@@ -4,7 +4,6 @@ ghost use Rattle.key_spec.specs.Data.{PlainRule};
 ghost use Rattle.keyed_tree.specs.Data.{PlainKeyed};
 ghost use Rattle.record_format.specs.Files.{FileOf};
 ghost use Rattle.archive_file.specs.Sound.{SoundAs};
-ghost use Rattle.xa_fields.specs.Laws.{IsBytes};
 ghost use Rattle.version_notes.specs.Notes.{are_empty};
 ghost use Rattle.version_notes.specs.Parts.{parts_behind, parts_in};
 ghost use Rattle.version_notes.specs.Reader.{AreBehind, Comes, PlainReader, at_first, behind, next_of};
@@ -70,7 +69,7 @@ pub fn full_files_are_read_note_by_note()
         → notes_from (at_first name parts (length vs)) bytes ≡ Some notes }
     ensures full { (rules : List PlainRule) (vs : List PlainKeyed) (notes : List (List ℕ))
         (bytes name : List ℕ) (parts : Parts)
-        → IsBytes bytes → parts_in bytes ≡ Some parts → SoundAs rules vs (take parts.core bytes)
+        → parts_in bytes ≡ Some parts → SoundAs rules vs (take parts.core bytes)
         → notes_from (at_first name parts (length vs)) bytes ≡ Some notes
         → FullAs rules vs notes bytes }
     ensures empty { (n : ℕ) (bytes name : List ℕ) (parts : Parts) → parts.notes ≡ None

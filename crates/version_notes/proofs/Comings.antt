@@ -1,24 +1,23 @@
 -- Notes that come one after another.
-use Rattle.std.proofs.Common.{◌≡◌, ℕ, zero, suc, ◌+◌, ◌-◌, ◌≤◌, ◌==◌, ◌||◌, not, Bool, true, false, cond, leb, List, [], ◌∷◌, ◌++◌, length, take, drop, Option, Some, None, refl, sym, ap, subst, ◌∙◌, append_assoc, arith, inl, inr}
+use Rattle.std.proofs.Common.{◌≡◌, ℕ, zero, suc, ◌+◌, ◌-◌, ◌≤◌, ◌==◌, ◌&&◌, ◌||◌, not, Bool, true, false, cond, leb, List, [], ◌∷◌, ◌++◌, length, take, drop, Option, Some, None, refl, sym, ap, subst, ◌∙◌, append_assoc, arith, inl, inr}
 use Rattle.std.specs.Prelude.{option_map, IfSome}
 use Rattle.std.specs.Int.{w64}
+use Rattle.std.specs.Str.{bytes_eq}
 use Rattle.std.specs.List.{AllByRecursion}
 use Rattle.std.proofs.lemmas.Bool.{cases_Bool, and_parts, and_from, eqb-true, eq-eqb, leb-true, not-true}
 use Rattle.std.proofs.lemmas.List.{append-nil, nil_from_length, length-append, length-drop, length-take, drop-drop, drop-take, drop_at, take_at, take-take, take-append-drop, take_all}
 use Rattle.std.proofs.lemmas.Slice.Eq.{bytes_eq-Decides}
 use Rattle.std.proofs.lemmas.Str.{IsUtf8-nil}
-use Rattle.xa_fields.specs.Spelling.{text_bytes, u64_bytes}
+use Rattle.xa_fields.specs.Spelling.{text_bytes}
 use Rattle.xa_fields.specs.Reading.{◌>>=◌, number_at}
-use Rattle.xa_fields.specs.Laws.{IsBytes}
-use Rattle.xa_fields.proofs.Fields.{bind_some, some_is, u64_reads, IsBytes-drop, IsBytes-take}
-use Rattle.version_notes.specs.Notes.{IsNote, AreNotes, are_empty, texts, mark, ending, notes_part, note_at}
+use Rattle.xa_fields.proofs.Fields.{bind_some, some_is}
+use Rattle.version_notes.specs.Notes.{IsNote, AreNotes, are_empty, texts, ending, notes_part, note_at}
 use Rattle.version_notes.specs.Parts.{last, all_but, is_marked, notes_size, no_notes, with_notes, parts_in, parts_behind}
 use Rattle.version_notes.specs.Reader.{PlainReader, at_first, left_of, is_done, next_from, next_of, place_behind, Comes, AreBehind}
 use Rattle.version_notes.specs.declared.parts.Parts.{Parts}
 use Rattle.version_notes.specs.declared.place.Place.{Place}
-use Rattle.version_notes.proofs.Endings.{last_eight, eight_before}
 use Rattle.version_notes.proofs.Fronts.{number_sizes, passed}
-use Rattle.version_notes.proofs.Spelled.{note_reads, note_only, part_used}
+use Rattle.version_notes.proofs.Spelled.{note_again, note_only, part_used}
 use Rattle.version_notes.proofs.Written.{used_more}
 
 -- ---- what is left behind a note
@@ -41,7 +40,7 @@ come_from name file [] due p count each left end used =
     let done : is_done p ≡ true = and_from _ _ (eq-eqb p.at p.end (omega (arith, end))) (is_used p.used used) in
     ap (λ (d : ℕ). next_from d (Some p) file) count ∙ rw done refl
 come_from name file (x ∷ xs) due p count each left end used =
-    let found : note_at (left_of p file) ≡ Some (x, texts xs) = ap note_at left ∙ note_reads.again x (texts xs) each.0 in (
+    let found : note_at (left_of p file) ≡ Some (x, texts xs) = ap note_at left ∙ note_again x (texts xs) each.0 in (
       ap (λ (d : ℕ). next_from d (Some p) file) count ∙ rw found refl,
       come_from name file xs (due - 1) (place_behind p x) (omega (arith, count)) each.1 (left_behind p file x (texts xs) left) (omega (arith, end, length-append (text_bytes x) (texts xs))) (used_more p.used (length x == 0) (are_empty xs) ∙ used),
     )
@@ -93,8 +92,8 @@ used_so : (u : Bool) → u ≡ true → (u || not true) ≡ true
 used_so true e = refl
 used_so false e = absurd cc
 
-stand_from : (name file : List ℕ) (notes : List (List ℕ)) (due : ℕ) (p : Place) → IsBytes file → Comes (reader_at name due (Some p)) file notes → StandFrom p due file notes
-stand_from name file [] zero p fits e =
+stand_from : (name file : List ℕ) (notes : List (List ℕ)) (due : ℕ) (p : Place) → Comes (reader_at name due (Some p)) file notes → StandFrom p due file notes
+stand_from name file [] zero p e =
     let done = and_parts _ _ (ended_by (is_done p) None e).0 in
     let same : p.at ≡ p.end = eqb-true p.at p.end done.0 in
     record {
@@ -103,14 +102,14 @@ stand_from name file [] zero p fits e =
       left = nil_from_length (left_of p file) (omega (arith, same, length-drop p.at (take p.end file), length-take p.end file));
       used = used_so p.used done.1;
     }
-stand_from name file [] (suc due) p fits e = (let n = noted_by (note_at (left_of p file)) None e in absurd (never_some n.0.0 n.2))
-stand_from name file (x ∷ xs) zero p fits e = absurd (never_some x (sym (ended_by (is_done p) (Some x) e.0).1))
-stand_from name file (x ∷ xs) (suc due) p fits e =
+stand_from name file [] (suc due) p e = (let n = noted_by (note_at (left_of p file)) None e in absurd (never_some n.0.0 n.2))
+stand_from name file (x ∷ xs) zero p e = absurd (never_some x (sym (ended_by (is_done p) (Some x) e.0).1))
+stand_from name file (x ∷ xs) (suc due) p e =
     let n = noted_by (note_at (left_of p file)) (Some x) e.0 in
     let same : x ≡ n.0.0 = some_is x n.0.0 n.2 in
     let found : note_at (left_of p file) ≡ Some (x, n.0.1) = n.1 ∙ ap (λ (y : List ℕ). Some (y, n.0.1)) (sym same) in
-    let first = note_only (left_of p file) x n.0.1 (IsBytes-drop p.at (take p.end file) (IsBytes-take p.end file fits)) found in
-    let rest = stand_from name file xs (suc due - 1) (place_behind p x) fits e.1 in
+    let first = note_only (left_of p file) x n.0.1 found in
+    let rest = stand_from name file xs (suc due - 1) (place_behind p x) e.1 in
     let left : n.0.1 ≡ texts xs = sym (left_behind p file x n.0.1 first.1) ∙ rest.left in
     record {
       count = omega (arith, rest.count);
@@ -147,32 +146,47 @@ record Marked (bytes : List ℕ) (n : ℕ) : Type 0 where
   long : n + 16 ≤ length bytes
   end : last 16 bytes ≡ ending n
 
-marked_by : (bytes : List ℕ) (n : ℕ) → IsBytes bytes → is_marked bytes ≡ true → notes_size bytes ≡ Some n → Marked bytes n
-marked_by bytes n fits marked e =
-    let x = bind_some (number_at w64 (last 8 (all_but 8 bytes))) (λ (m : ℕ × List ℕ). cond (leb m.0 (length bytes - 16)) (Some m.0) None) n e in
-    let p = passed (leb x.0.0 (length bytes - 16)) x.0.0 n x.2 in
-    let le = leb-true _ _ p.0 in
+marked_by : (bytes : List ℕ) (n : ℕ) → notes_size bytes ≡ Some n → Marked bytes n
+marked_by bytes n e =
+    let x = bind_some (number_at w64 (last 8 (all_but 8 bytes))) (λ (m : ℕ × List ℕ). cond (leb m.0 (length bytes - 16) && bytes_eq (ending m.0) (last 16 bytes)) (Some m.0) None) n e in
+    let p = passed (leb x.0.0 (length bytes - 16) && bytes_eq (ending x.0.0) (last 16 bytes)) x.0.0 n x.2 in
+    let tests = and_parts (leb x.0.0 (length bytes - 16)) (bytes_eq (ending x.0.0) (last 16 bytes)) p.0 in
+    let le = leb-true x.0.0 (length bytes - 16) tests.0 in
     let before = last 8 (all_but 8 bytes) in
     let sizes = number_sizes w64 before x.0 x.1 in
     let size = length-drop (length (all_but 8 bytes) - 8) (all_but 8 bytes) in
     let shorter = length-take (length bytes - 8) bytes in
-    let none : x.0.1 ≡ [] = nil_from_length x.0.1 (omega (arith, ap length sizes.1, length-drop 8 before, size, shorter)) in
-    let number = u64_reads.takes before x.0 (IsBytes-drop (length (all_but 8 bytes) - 8) (all_but 8 bytes) (IsBytes-take (length bytes - 8) bytes fits)) x.1 in
-    let eight : before ≡ u64_bytes n = number.takes.parts ∙ (λ i. u64_bytes (p.1 i) ++ none i) ∙ append-nil (u64_bytes n) in
-    let end = last 16 bytes in
-    let mark_is : drop (length end - 8) end ≡ mark = last_eight bytes end refl ∙ sym ((bytes_eq-Decides mark (last 8 bytes)).0 marked) in
-    let number_is : take (length end - 8) end ≡ u64_bytes n = sym (eight_before bytes end refl) ∙ eight in
     record {
       long = omega (arith, le, p.1, sizes.0, size, shorter);
-      end = sym (take-append-drop (length end - 8) end) ∙ (λ i. number_is i ++ mark_is i);
+      end = sym ((bytes_eq-Decides (ending x.0.0) (last 16 bytes)).0 tests.1) ∙ ap ending p.1;
     }
 
+never_size : (n : ℕ) → ◌≡◌ {A = Option ℕ} None (Some n) → ⊥
+never_size n e = cc
+
+-- the number of the notes' bytes stands before the mark, and these stand before it
+pub parts_end : (bytes : List ℕ) (parts : Parts) (n : ℕ) → parts_in bytes ≡ Some parts → parts.notes ≡ Some n → (last 16 bytes ≡ ending n) × (parts.core + n + 16 ≡ length bytes)
+parts_end bytes parts n e is =
+    elim (cases_Bool (is_marked bytes)) [
+      | inl marked ↦
+          let found : (notes_size bytes >>= λ (n : ℕ). Some (with_notes (length bytes) n)) ≡ Some parts = sym (rw marked refl) ∙ e in
+          let size = bind_some (notes_size bytes) (λ (n : ℕ). Some (with_notes (length bytes) n)) parts found in
+          let same = some_is (with_notes (length bytes) size.0) parts size.2 in
+          let one : size.0 ≡ n = some_is size.0 n (ap (λ (ps : Parts). ps.notes) same ∙ is) in
+          let stands = marked_by bytes size.0 size.1 in
+          (stands.end ∙ ap ending one, omega (arith, stands.long, one, ap (λ (ps : Parts). ps.core) same))
+      | inr plain ↦
+          let found : Some (no_notes (length bytes)) ≡ Some parts = sym (rw plain refl) ∙ e in
+          let same = some_is (no_notes (length bytes)) parts found in
+          absurd (never_size n (ap (λ (ps : Parts). ps.notes) same ∙ is))
+    ]
+
 -- the notes between a core and the mark
-behind_marked : (bytes : List ℕ) (n : ℕ) (name : List ℕ) (versions : ℕ) (notes : List (List ℕ)) → IsBytes bytes → Marked bytes n → Comes (at_first name (with_notes (length bytes) n) versions) bytes notes → AreBehind (with_notes (length bytes) n) versions bytes notes
-behind_marked bytes n name versions notes fits m come =
+behind_marked : (bytes : List ℕ) (n : ℕ) (name : List ℕ) (versions : ℕ) (notes : List (List ℕ)) → Marked bytes n → Comes (at_first name (with_notes (length bytes) n) versions) bytes notes → AreBehind (with_notes (length bytes) n) versions bytes notes
+behind_marked bytes n name versions notes m come =
     let core = length bytes - 16 - n in
     let long = m.long in
-    let s = stand_from name bytes notes versions (record { at = core; end = core + n; used = false }) fits come in
+    let s = stand_from name bytes notes versions (record { at = core; end = core + n; used = false }) come in
     let size : n ≡ length (texts notes) = omega (arith, long, ap length s.left, length-drop core (take (core + n) bytes), length-take (core + n) bytes) in
     let some : are_empty notes ≡ false = not-true (are_empty notes) s.used in
     let upto : core + n ≡ length bytes - 16 = omega (arith, long) in
@@ -192,14 +206,14 @@ behind_none bytes name versions notes come =
     let none = s.none in
     record { count = s.count; each = s.each; bytes = sym (rw none (append-nil (take (length bytes) bytes) ∙ take_all (length bytes) bytes (omega arith))) }
 
-pub notes_behind : (name bytes : List ℕ) (parts : Parts) (versions : ℕ) (notes : List (List ℕ)) → IsBytes bytes → parts_in bytes ≡ Some parts → Comes (at_first name parts versions) bytes notes → AreBehind parts versions bytes notes
-notes_behind name bytes parts versions notes fits e come =
+pub notes_behind : (name bytes : List ℕ) (parts : Parts) (versions : ℕ) (notes : List (List ℕ)) → parts_in bytes ≡ Some parts → Comes (at_first name parts versions) bytes notes → AreBehind parts versions bytes notes
+notes_behind name bytes parts versions notes e come =
     elim (cases_Bool (is_marked bytes)) [
       | inl marked ↦
           let found : (notes_size bytes >>= λ (n : ℕ). Some (with_notes (length bytes) n)) ≡ Some parts = sym (rw marked refl) ∙ e in
           let n = bind_some (notes_size bytes) (λ (n : ℕ). Some (with_notes (length bytes) n)) parts found in
           let same = some_is (with_notes (length bytes) n.0) parts n.2 in
-          subst (λ (ps : Parts). AreBehind ps versions bytes notes) same (behind_marked bytes n.0 name versions notes fits (marked_by bytes n.0 fits marked n.1) (subst (λ (ps : Parts). Comes (at_first name ps versions) bytes notes) (sym same) come))
+          subst (λ (ps : Parts). AreBehind ps versions bytes notes) same (behind_marked bytes n.0 name versions notes (marked_by bytes n.0 n.1) (subst (λ (ps : Parts). Comes (at_first name ps versions) bytes notes) (sym same) come))
       | inr plain ↦
           let found : Some (no_notes (length bytes)) ≡ Some parts = sym (rw plain refl) ∙ e in
           let same = some_is (no_notes (length bytes)) parts found in

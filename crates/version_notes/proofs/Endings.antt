@@ -1,17 +1,31 @@
 -- What the end of some bytes says of their parts.
-use Rattle.std.proofs.Common.{◌≡◌, ℕ, ◌+◌, ◌-◌, ◌<◌, ◌≤◌, true, false, leb, List, length, take, drop, Option, Some, None, Result, refl, sym, ap, subst, ◌∙◌, arith, length-take-le, take_all}
+use Rattle.std.proofs.Common.{◌≡◌, ℕ, ◌+◌, ◌-◌, ◌<◌, ◌≤◌, true, false, leb, List, [], ◌++◌, length, take, drop, Option, Some, None, Result, refl, sym, ap, subst, ◌∙◌, arith, length-take-le, take_all}
 use Rattle.std.specs.Prelude.{min}
 use Rattle.std.specs.FinMap as map
 use Rattle.std.specs.Int.{w64}
 use Rattle.std.specs.Str.{bytes_eq}
 use Rattle.std.proofs.lemmas.Bool.{le-leb, lt-leb}
-use Rattle.std.proofs.lemmas.List.{drop-drop, drop-take, length-drop, length-take}
+use Rattle.std.proofs.lemmas.List.{append-nil, drop-drop, drop-take, length-append, length-drop, length-take, nil_from_length, take-append-drop}
+use Rattle.std.proofs.lemmas.Slice.Eq.{bytes_eq-Decides}
+use Rattle.xa_fields.specs.Spelling.{u64_bytes}
 use Rattle.xa_fields.specs.Reading.{number_at}
+use Rattle.xa_fields.specs.Laws.{IsBytes}
+use Rattle.xa_fields.proofs.Fields.{IsBytes-take, u64_reads}
 use Rattle.xa_outside.specs.Folder.{Files, bytes_or_none, front, FillsFrom}
-use Rattle.version_notes.specs.Notes.{mark}
+use Rattle.version_notes.specs.Notes.{mark, ending}
 use Rattle.version_notes.specs.Parts.{last, all_but, is_marked, no_notes, with_notes, parts_in, parts_of_front, TellsParts}
 use Rattle.version_notes.specs.declared.parts.Parts.{Parts}
 use Rattle.version_notes.specs.declared.fault.PartsFault.{PartsFault}
+
+-- a number and the mark are what such bytes are
+pub ending_spelled : (end rest : List ℕ) (n : ℕ) → IsBytes end → length end ≤ 16 → bytes_eq mark (drop (length end - 8) end) ≡ true → number_at w64 (take (length end - 8) end) ≡ Some (n, rest) → end ≡ ending n
+ending_spelled end rest n fits few marked number =
+    let front = take (length end - 8) end in
+    let parts = (u64_reads.takes front (n, rest) (IsBytes-take (length end - 8) end fits) number).takes.parts in
+    let none : rest ≡ [] = nil_from_length rest (omega (arith, few, ap length parts, length-append (u64_bytes n) rest, length-take (length end - 8) end)) in
+    let first : front ≡ u64_bytes n = parts ∙ ap (λ (l : List ℕ). u64_bytes n ++ l) none ∙ append-nil (u64_bytes n) in
+    let last_is : drop (length end - 8) end ≡ mark = sym ((bytes_eq-Decides mark (drop (length end - 8) end)).0 marked) in
+    sym (take-append-drop (length end - 8) end) ∙ (λ i. first i ++ last_is i)
 
 module _ (bytes end : List ℕ) (is : end ≡ last 16 bytes) where
   size : length end ≡ length bytes - (length bytes - 16)
@@ -52,12 +66,13 @@ module _ (bytes end : List ℕ) (is : end ≡ last 16 bytes) where
       rw (is_there, number, over) refl
 
   -- a number that fits
-  pub parts_some : (n : ℕ) (rest : List ℕ) → bytes_eq mark (drop (length end - 8) end) ≡ true → number_at w64 (take (length end - 8) end) ≡ Some (n, rest) → n ≤ length bytes - 16 → parts_in bytes ≡ Some (with_notes (length bytes) n)
-  parts_some n rest e some le =
+  pub parts_some : (n : ℕ) (rest : List ℕ) → bytes_eq mark (drop (length end - 8) end) ≡ true → number_at w64 (take (length end - 8) end) ≡ Some (n, rest) → end ≡ ending n → n ≤ length bytes - 16 → parts_in bytes ≡ Some (with_notes (length bytes) n)
+  parts_some n rest e some spelled le =
       let is_there = marked e in
       let number : number_at w64 (last 8 (all_but 8 bytes)) ≡ Some (n, rest) = ap (number_at w64) eight_before ∙ some in
       let fits : leb n (length bytes - 16) ≡ true = le-leb _ _ le in
-      rw (is_there, number, fits) refl
+      let so : bytes_eq (ending n) (last 16 bytes) ≡ true = (bytes_eq-Decides (ending n) (last 16 bytes)).1 (sym spelled ∙ is) in
+      rw (is_there, number, fits, so) refl
 
 -- ---- the end of the front of a file
 

@@ -1,13 +1,15 @@
 -- The note at the front of some bytes.
-use Rattle.std.proofs.Common.{◌≡◌, ℕ, ◌+◌, ◌-◌, ◌<◌, ◌≤◌, ◌||◌, not, Bool, true, false, cond, ltb, List, length, take, drop, Option, Some, None, Result, Ok, Err, refl, sym, ap, subst, ◌∙◌, arith, inl, inr, ◌⊎◌}
+use Rattle.std.proofs.Common.{◌≡◌, ℕ, ◌+◌, ◌-◌, ◌<◌, ◌≤◌, ◌||◌, not, Bool, true, false, cond, ltb, List, ◌++◌, length, take, drop, Option, Some, None, Result, Ok, Err, refl, sym, ap, subst, ◌∙◌, append_assoc, arith, inl, inr, ◌⊎◌}
 use Rattle.std.specs.Prelude.{String, string_bytes, IfOk}
 use Rattle.std.specs.Global.{Global}
 use Rattle.std.specs.Int.{Width, w32, byte_len, from_be_bytes}
-use Rattle.std.specs.Str.{is_utf8}
+use Rattle.std.specs.Str.{is_utf8, bytes_eq}
 use Rattle.std.proofs.lemmas.Bool.{le-ltb, ltb-false, leb-true, and_parts, or_parts, not-false}
 use Rattle.std.proofs.lemmas.Str.{is_utf8-from_IsUtf8, IsUtf8-from_is_utf8}
-use Rattle.std.proofs.lemmas.List.{drop-drop, length-drop, length-take, take-take}
+use Rattle.std.proofs.lemmas.Slice.Eq.{bytes_eq-Decides}
+use Rattle.std.proofs.lemmas.List.{drop-drop, length-drop, length-take, take-append-drop, take-take}
 use Rattle.xa_fields.specs.Reading.{number_at, text_at, only_at}
+use Rattle.xa_fields.specs.Spelling.{text_bytes, u32_bytes}
 use Rattle.xa_fields.proofs.Fields.{bind_some, guard_some, some_is}
 use Rattle.xa_outside.specs.Numbers.{Numbers, PullsAtMost, after_pull}
 use Rattle.xa_outside.specs.NumberLaws.{PullsAtMost-of, PullsAtMost-more, PullsAtMost-trans}
@@ -59,9 +61,9 @@ note_of_text text utf8 is =
     let short : length text ≤ 1024 = leb-true _ _ ((and_parts _ _ is).0) in
     (short, (record { short = omega (arith, short); utf8 = IsUtf8-from_is_utf8 text utf8 }, is))
 
-pub note_stands : (piece : List ℕ) (x : List ℕ × List ℕ) → note_at piece ≡ Some x → Standing piece x
+found_stands : (piece : List ℕ) (x : List ℕ × List ℕ) → only_at is_note text_at piece ≡ Some x → Standing piece x
 unfolding only_at text_at
-note_stands piece x e =
+found_stands piece x e =
     let a = bind_some (text_at piece) (λ a. cond (is_note a.0) (Some a) None) x e in
     let p = passed (is_note a.0.0) a.0 x a.2 in
     let n = bind_some (number_at w32 piece) (λ n. cond (ltb (length n.1) n.0 || not (is_utf8 (take n.0 n.1))) None (Some (take n.0 n.1, drop n.0 n.1))) a.0 a.1 in
@@ -82,6 +84,20 @@ note_stands piece x e =
       short = made.0;
       note = made.1;
     }
+
+-- the note was found, and its spelling stands there
+note_found : (piece : List ℕ) (x : List ℕ × List ℕ) → note_at piece ≡ Some x → (only_at is_note text_at piece ≡ Some x) × (text_bytes x.0 ++ x.1 ≡ piece)
+note_found piece x e =
+    let a = bind_some (only_at is_note text_at piece) (λ found. cond (bytes_eq (text_bytes found.0 ++ found.1) piece) (Some found) None) x e in
+    let p = passed (bytes_eq (text_bytes a.0.0 ++ a.0.1) piece) a.0 x a.2 in
+    let spelled = (bytes_eq-Decides (text_bytes a.0.0 ++ a.0.1) piece).0 p.0 in
+    subst (λ (y : List ℕ × List ℕ). (only_at is_note text_at piece ≡ Some y) × (text_bytes y.0 ++ y.1 ≡ piece)) p.1 (a.1, spelled)
+
+pub note_stands : (piece : List ℕ) (x : List ℕ × List ℕ) → note_at piece ≡ Some x → Standing piece x
+note_stands piece x e = found_stands piece x (note_found piece x e).0
+
+pub note_spelled : (piece : List ℕ) (x : List ℕ × List ℕ) → note_at piece ≡ Some x → piece ≡ text_bytes x.0 ++ x.1
+note_spelled piece x e = sym (note_found piece x e).1
 
 same_size : (piece : List ℕ) (n : ℕ) (x : List ℕ × List ℕ) → number_at w32 piece ≡ Some (n, drop 4 piece) → Standing piece x → n ≡ length x.0
 same_size piece n x e s = ap (λ (y : ℕ × List ℕ). y.0) (some_is (n, drop 4 piece) (length x.0, drop 4 piece) (sym e ∙ s.size))
@@ -105,13 +121,26 @@ no_note piece n e not = none_unless (note_at piece) (λ x h. (
     not (subst IsNote (s.text ∙ ap (λ (k : ℕ). take k (drop 4 piece)) (sym same)) s.note)))
 
 -- bytes that are one
-pub note_is : (piece : List ℕ) (n : ℕ) → number_at w32 piece ≡ Some (n, drop 4 piece) → 4 + n ≤ length piece → IsNote (take n (drop 4 piece)) → note_at piece ≡ Some (take n (drop 4 piece), drop (4 + n) piece)
+found_is : (piece : List ℕ) (n : ℕ) → number_at w32 piece ≡ Some (n, drop 4 piece) → 4 + n ≤ length piece → IsNote (take n (drop 4 piece)) → only_at is_note text_at piece ≡ Some (take n (drop 4 piece), drop (4 + n) piece)
 unfolding only_at text_at
-note_is piece n e fits is =
+found_is piece n e fits is =
     let long : ltb (length (drop 4 piece)) n ≡ false = le-ltb _ _ (omega (arith, length-drop 4 piece)) in
     let utf8 = is_utf8-from_IsUtf8 _ (is.0).utf8 in
     let noted : is_note (take n (drop 4 piece)) ≡ true = is.1 in
     rw (e, long, utf8, noted) (ap (λ (rest : List ℕ). Some (take n (drop 4 piece), rest)) (drop-drop n 4 piece))
+
+spelled_so : (piece : List ℕ) (n : ℕ) → take 4 piece ≡ u32_bytes n → 4 + n ≤ length piece → text_bytes (take n (drop 4 piece)) ++ drop (4 + n) piece ≡ piece
+spelled_so piece n four fits =
+    let rest = drop 4 piece in
+    let size : length (take n rest) ≡ n = omega (arith, fits, length-drop 4 piece, length-take n rest) in
+    let front : u32_bytes (length (take n rest)) ≡ take 4 piece = ap u32_bytes size ∙ sym four in
+    append_assoc (u32_bytes (length (take n rest))) (take n rest) (drop (4 + n) piece) ∙ (λ i. front i ++ (take n rest ++ sym (drop-drop n 4 piece) i)) ∙ ap (λ (l : List ℕ). take 4 piece ++ l) (take-append-drop n rest) ∙ take-append-drop 4 piece
+
+pub note_is : (piece : List ℕ) (n : ℕ) → number_at w32 piece ≡ Some (n, drop 4 piece) → take 4 piece ≡ u32_bytes n → 4 + n ≤ length piece → IsNote (take n (drop 4 piece)) → note_at piece ≡ Some (take n (drop 4 piece), drop (4 + n) piece)
+note_is piece n e four fits is =
+    let found = found_is piece n e fits is in
+    let spelled : bytes_eq (text_bytes (take n (drop 4 piece)) ++ drop (4 + n) piece) piece ≡ true = (bytes_eq-Decides (text_bytes (take n (drop 4 piece)) ++ drop (4 + n) piece) piece).1 (spelled_so piece n four fits) in
+    rw (found, spelled) refl
 
 -- ---- what is left of the notes of a file
 
@@ -139,14 +168,14 @@ pub size_stands : (piece : List ℕ) (n : ℕ) (x : List ℕ × List ℕ) → nu
 size_stands piece n x e h = same_size piece n x e (note_stands piece x h)
 
 -- the length was read, and then the text
-pub note_told : (n at : ℕ) (bytes : List ℕ) (result : Result (String Global) NotesFault) → number_at w32 (drop at bytes) ≡ Some (n, drop 4 (drop at bytes)) → IfOk result (λ note. length (string_bytes note) ≡ n) → IfOk result (λ note. IsNote (string_bytes note)) → TellsFront n (drop (at + 4) bytes) result → TellsNote (drop at bytes) result
-note_told n at bytes (Ok note) e size is text =
+pub note_told : (n at : ℕ) (bytes : List ℕ) (result : Result (String Global) NotesFault) → number_at w32 (drop at bytes) ≡ Some (n, drop 4 (drop at bytes)) → take 4 (drop at bytes) ≡ u32_bytes n → IfOk result (λ note. length (string_bytes note) ≡ n) → IfOk result (λ note. IsNote (string_bytes note)) → TellsFront n (drop (at + 4) bytes) result → TellsNote (drop at bytes) result
+note_told n at bytes (Ok note) e four size is text =
     let piece = drop at bytes in
     let behind : drop (at + 4) bytes ≡ drop 4 piece = ap (λ (k : ℕ). drop k bytes) (omega arith) ∙ sym (drop-drop 4 at bytes) in
     let same : string_bytes note ≡ take n (drop 4 piece) = text.0 ∙ ap (take n) behind in
     let fits : 4 + n ≤ length piece = omega (arith, text.1, ap length behind, length-drop 4 piece, (number_sizes w32 piece (n, drop 4 piece) e).0) in
-    note_is piece n e fits (subst IsNote same is) ∙ (λ i. Some (sym same i, drop (4 + sym size i) piece))
-note_told n at bytes (Err f) e size is text =
+    note_is piece n e four fits (subst IsNote same is) ∙ (λ i. Some (sym same i, drop (4 + sym size i) piece))
+note_told n at bytes (Err f) e four size is text =
     let piece = drop at bytes in
     let behind : drop (at + 4) bytes ≡ drop 4 piece = ap (λ (k : ℕ). drop k bytes) (omega arith) ∙ sym (drop-drop 4 at bytes) in
     no_text piece n f e (subst (λ (rest : List ℕ). IfDamage f ((length rest < n) ⊎ ¬ IsNote (take n rest))) behind text)

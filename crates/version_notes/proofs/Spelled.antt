@@ -1,24 +1,51 @@
 -- Notes and what they are spelled as.
-use Rattle.std.proofs.Common.{◌≡◌, ℕ, suc, ◌+◌, ◌-◌, ◌*◌, ◌^◌, ◌<◌, ◌≤◌, true, false, cond, List, [], ◌∷◌, ◌++◌, length, take, drop, Some, None, refl, sym, ap, ◌∙◌, append_assoc, arith, inl, inr}
+use Rattle.std.proofs.Common.{◌≡◌, ℕ, suc, ◌+◌, ◌-◌, ◌*◌, ◌^◌, ◌<◌, ◌≤◌, true, false, cond, List, [], ◌∷◌, ◌++◌, length, take, drop, Option, Some, None, refl, sym, ap, subst, ◌∙◌, append_assoc, arith, inl, inr}
 use Rattle.std.specs.Int.{w64}
 use Rattle.std.specs.List.{AllByRecursion}
+use Rattle.std.specs.Str.{bytes_eq}
 use Rattle.std.proofs.lemmas.Bool.{cases_Bool, and_parts, eqb-true, leb-true}
-use Rattle.std.proofs.lemmas.List.{append-nil, nil_from_length, length-append, drop_at, take_at}
+use Rattle.std.proofs.lemmas.List.{append-nil, nil_from_length, length-append, length-drop, drop_at, take_at}
+use Rattle.std.proofs.lemmas.Slice.Eq.{bytes_eq-Decides}
 use Rattle.xa_fields.specs.Spelling.{text_bytes, u64_bytes, IsText}
-use Rattle.xa_fields.specs.Reading.{number_at, text_at, many_at}
+use Rattle.xa_fields.specs.Reading.{◌>>=◌, number_at, text_at, only_at, many_at}
 use Rattle.xa_fields.specs.Laws.{Reads, IsBytes}
-use Rattle.xa_fields.proofs.Fields.{some_is, text_reads, u64_reads}
+use Rattle.xa_fields.proofs.Fields.{IsBytes-drop, some_is, text_reads, u64_reads}
 use Rattle.xa_fields.proofs.Combinators.{only_reads, many_again}
-use Rattle.version_notes.specs.Notes.{is_note, IsNote, AreNotes, are_empty, texts, ending, notes_part, note_at}
-use Rattle.version_notes.specs.Parts.{last, is_marked, parts_in, parts_behind}
+use Rattle.version_notes.specs.Notes.{is_note, IsNote, AreNotes, are_empty, texts, mark, ending, notes_part, note_at}
+use Rattle.version_notes.specs.Parts.{last, all_but, is_marked, with_notes, parts_in, parts_behind}
 use Rattle.version_notes.specs.declared.parts.Parts.{Parts}
-use Rattle.version_notes.proofs.Endings.{parts_some}
+use Rattle.version_notes.proofs.Endings.{ending_spelled, last_eight, eight_before, parts_some}
+use Rattle.version_notes.proofs.Fronts.{note_stands, note_spelled}
 
-pub note_reads : Reads note_at text_bytes IsNote
-note_reads = only_reads is_note text_at text_bytes IsText text_reads
+pub note_only : (bytes note rest : List ℕ) → note_at bytes ≡ Some (note, rest) → IsNote note × (bytes ≡ text_bytes note ++ rest)
+note_only bytes note rest e = ((note_stands bytes (note, rest) e).note, note_spelled bytes (note, rest) e)
 
-pub note_only : (bytes note rest : List ℕ) → IsBytes bytes → note_at bytes ≡ Some (note, rest) → IsNote note × (bytes ≡ text_bytes note ++ rest)
-note_only bytes note rest fits e = (let r = note_reads.takes bytes (note, rest) fits e in (r.fits, r.takes.parts))
+pub note_again : (note rest : List ℕ) → IsNote note → note_at (text_bytes note ++ rest) ≡ Some (note, rest)
+note_again note rest h =
+    let found = (only_reads is_note text_at text_bytes IsText text_reads).again note rest h in
+    let spelled : bytes_eq (text_bytes note ++ rest) (text_bytes note ++ rest) ≡ true = (bytes_eq-Decides (text_bytes note ++ rest) (text_bytes note ++ rest)).1 refl in
+    rw (found, spelled) refl
+
+note_reads : Reads note_at text_bytes IsNote
+note_reads = record {
+  takes = λ bytes x fits e. (
+      let parts = note_spelled bytes x e in
+      let behind : x.1 ≡ drop (length (text_bytes x.0)) bytes = sym (ap (drop (length (text_bytes x.0))) parts ∙ drop_at (text_bytes x.0) x.1 (length (text_bytes x.0)) refl) in
+      record { takes = record { parts = parts; rest_fits = subst IsBytes (sym behind) (IsBytes-drop (length (text_bytes x.0)) bytes fits) }; fits = (note_stands bytes x e).note });
+  again = note_again;
+}
+
+-- what is read in bytes is spelled so
+spelled_all : (bytes : List ℕ) (o : Option (List ℕ × List ℕ)) → ((x : List ℕ × List ℕ) → o ≡ Some x → text_bytes x.0 ++ x.1 ≡ bytes) → (o >>= λ found. cond (bytes_eq (text_bytes found.0 ++ found.1) bytes) (Some found) None) ≡ o
+spelled_all bytes None h = refl
+spelled_all bytes (Some x) h =
+    let spelled : bytes_eq (text_bytes x.0 ++ x.1) bytes ≡ true = (bytes_eq-Decides (text_bytes x.0 ++ x.1) bytes).1 (h x refl) in
+    rw spelled refl
+
+pub note_plain : (bytes : List ℕ) → IsBytes bytes → note_at bytes ≡ only_at is_note text_at bytes
+note_plain bytes fits =
+    let reads = only_reads is_note text_at text_bytes IsText text_reads in
+    spelled_all bytes (only_at is_note text_at bytes) (λ x e. sym (reads.takes bytes x fits e).takes.parts)
 
 -- ---- the same bytes
 
@@ -88,7 +115,16 @@ found_used core notes h =
     let is : ending n ≡ last 16 all = sym (ap (last 16) (sym regroup) ∙ ended (core ++ texts notes) n) in
     let total : length all ≡ length core + (n + 16) = length-append core (texts notes ++ ending n) ∙ ap (λ (k : ℕ). length core + k) (length-append (texts notes) (ending n)) in
     let number : number_at w64 (u64_bytes n) ≡ Some (n, []) = u64_reads.again n [] short in
-    parts_some all (ending n) is n [] refl number (omega (arith, total)) ∙ ap (λ (k : ℕ). Some (record { core = k; notes = Some n })) (omega (arith, total))
+    parts_some all (ending n) is n [] refl number refl (omega (arith, total)) ∙ ap (λ (k : ℕ). Some (record { core = k; notes = Some n })) (omega (arith, total))
+
+-- a number before the mark, for which there is room
+pub parts_number : (bytes rest : List ℕ) (n : ℕ) → IsBytes bytes → is_marked bytes ≡ true → number_at w64 (last 8 (all_but 8 bytes)) ≡ Some (n, rest) → n + 16 ≤ length bytes → parts_in bytes ≡ Some (with_notes (length bytes) n)
+parts_number bytes rest n fits marked number le =
+    let end = last 16 bytes in
+    let few : length end ≤ 16 = omega (arith, length-drop (length bytes - 16) bytes) in
+    let mark_is : bytes_eq mark (drop (length end - 8) end) ≡ true = ap (bytes_eq mark) (last_eight bytes end refl) ∙ marked in
+    let number_is : number_at w64 (take (length end - 8) end) ≡ Some (n, rest) = ap (number_at w64) (sym (eight_before bytes end refl)) ∙ number in
+    parts_some bytes end refl n rest mark_is number_is (ending_spelled end rest n (IsBytes-drop (length bytes - 16) bytes fits) few mark_is number_is) (omega (arith, le))
 
 abbrev found : List ℕ → List (List ℕ) → Type 0
 found core notes = parts_in (core ++ notes_part notes) ≡ Some (record { core = length core; notes = cond (are_empty notes) None (Some (length (texts notes))) })

@@ -1,8 +1,9 @@
 -- Notes, and the bytes that keep them behind a file.
-use Rattle.std.specs.Prelude.{ℕ, ◌&&◌, ◌==◌, ◌≤◌, Bool, List, [], ◌++◌, length, replicate, nat_le, IsTrue, if◌then◌else◌}
+use Rattle.std.specs.Prelude.{ℕ, ◌&&◌, ◌==◌, ◌≤◌, Bool, List, [], ◌++◌, length, replicate, Some, None, nat_le, IsTrue, if◌then◌else◌}
 use Rattle.std.specs.List.{flat_map, list_all, AllByRecursion}
+use Rattle.std.specs.Str.{bytes_eq}
 use Rattle.xa_fields.specs.Spelling.{text_bytes, u64_bytes, IsText}
-use Rattle.xa_fields.specs.Reading.{Reader, text_at, only_at}
+use Rattle.xa_fields.specs.Reading.{◌>>=◌, Reader, text_at, only_at}
 
 -- no byte is below 20 hexadecimal
 abbrev pub is_printed : List ℕ → Bool
@@ -47,6 +48,6 @@ notes_part notes = if are_empty notes then [] else texts notes ++ ending (length
 
 -- ---- reading
 
--- the note at the front of some bytes
+-- the note at the front of some bytes, which are its spelling and what is behind it
 abbrev pub note_at : Reader (List ℕ)
-note_at = only_at is_note text_at
+note_at bytes = only_at is_note text_at bytes >>= λ found. if bytes_eq (text_bytes found.0 ++ found.1) bytes then Some found else None

@@ -1,9 +1,9 @@
 -- What the bytes of a file are: those that the notes stand behind, and the notes.
-use Rattle.std.specs.Prelude.{◌≡◌, ℕ, ◌+◌, ◌-◌, Bool, List, length, take, drop, Option, Some, None, Result, Ok, Err, nat_le, if◌then◌else◌}
+use Rattle.std.specs.Prelude.{◌≡◌, ℕ, ◌+◌, ◌-◌, ◌&&◌, Bool, List, length, take, drop, Option, Some, None, Result, Ok, Err, nat_le, if◌then◌else◌}
 use Rattle.std.specs.Int.{w64}
 use Rattle.std.specs.Str.{bytes_eq}
 use Rattle.xa_fields.specs.Reading.{◌>>=◌, number_at}
-use Rattle.version_notes.specs.Notes.{are_empty, texts, mark}
+use Rattle.version_notes.specs.Notes.{are_empty, texts, mark, ending}
 use Rattle.version_notes.specs.Faults.{IfDamaged}
 use Rattle.version_notes.specs.declared.parts.Parts.{Parts}
 use Rattle.version_notes.specs.declared.fault.PartsFault.{PartsFault}
@@ -20,9 +20,9 @@ all_but n bytes = take (length bytes - n) bytes
 abbrev pub is_marked : List ℕ → Bool
 is_marked bytes = bytes_eq mark (last 8 bytes)
 
--- the number before the mark, which is how many bytes the notes have: no more than there are
+-- the number before the mark, which is how many bytes the notes have: no more than there are, and spelled so
 abbrev pub notes_size : List ℕ → Option ℕ
-notes_size bytes = number_at w64 (last 8 (all_but 8 bytes)) >>= λ n. if nat_le n.0 (length bytes - 16) then Some n.0 else None
+notes_size bytes = number_at w64 (last 8 (all_but 8 bytes)) >>= λ n. if nat_le n.0 (length bytes - 16) && bytes_eq (ending n.0) (last 16 bytes) then Some n.0 else None
 
 -- a file without notes
 abbrev pub no_notes : ℕ → Parts

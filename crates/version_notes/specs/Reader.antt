@@ -5,6 +5,7 @@ use Rattle.std.specs.Int.{w32}
 use Rattle.std.specs.FinMap as map
 use Rattle.std.specs.List.{AllByRecursion}
 use Rattle.xa_fields.specs.Reading.{number_at}
+use Rattle.xa_fields.specs.Spelling.{u32_bytes}
 use Rattle.xa_outside.specs.Folder.{Files, bytes_or_none}
 use Rattle.version_notes.specs.Notes.{IsNote, note_at, notes_part}
 use Rattle.version_notes.specs.Faults.{IfDamage}
@@ -110,9 +111,9 @@ abbrev pub TellsBytes : {T : Type 0} → ℕ → List ℕ → List ℕ → Resul
 TellsBytes n piece bytes (Ok x) = bytes ≡ take n piece
 TellsBytes n piece bytes (Err e) = IfDamage e (length piece < n)
 
--- the length of the note at the front of the piece
+-- the length of the note at the front of the piece, and its four bytes
 abbrev pub TellsSize : List ℕ → Result ℕ NotesFault → Type 0
-TellsSize piece (Ok n) = number_at w32 piece ≡ Some (n, drop 4 piece)
+TellsSize piece (Ok n) = (number_at w32 piece ≡ Some (n, drop 4 piece)) × (take 4 piece ≡ u32_bytes n)
 TellsSize piece (Err e) = IfDamage e (note_at piece ≡ None)
 
 -- the note at the front of the piece

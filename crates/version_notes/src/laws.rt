@@ -1,10 +1,12 @@
 // What follows from the definitions.
-ghost use Rattle.std.specs.Prelude.{◌≡◌, ◌≤◌, ℕ, Bool, true, false, not, List, ◌++◌, length, take, Some, IfSome};
+ghost use Rattle.std.specs.Prelude.{◌≡◌, ◌≤◌, ℕ, ◌+◌, Bool, true, false, not, List, ◌++◌, length, take, Some, IfSome};
 ghost use Rattle.std.specs.List.{AllByRecursion};
+ghost use Rattle.std.specs.Int.{w64};
 ghost use Rattle.xa_fields.specs.Laws.{IsBytes};
+ghost use Rattle.xa_fields.specs.Reading.{number_at, only_at, text_at};
 ghost use Rattle.xa_fields.specs.Spelling.{text_bytes};
-ghost use Rattle.version_notes.specs.Notes.{AreNotes, IsNote, are_empty, note_at, notes_part};
-ghost use Rattle.version_notes.specs.Parts.{is_marked, parts_behind, parts_in};
+ghost use Rattle.version_notes.specs.Notes.{AreNotes, IsNote, are_empty, ending, is_note, note_at, notes_part};
+ghost use Rattle.version_notes.specs.Parts.{all_but, is_marked, last, parts_behind, parts_in, with_notes};
 ghost use Rattle.version_notes.specs.Reader.{AreBehind, Comes, PlainReader, at_first, next_of};
 ghost use Rattle.version_notes.specs.declared.parts.Parts.{Parts};
 ghost use Rattle.version_notes.specs.Writer.{after_all, all_appended, fresh, last_appended};
@@ -13,8 +15,12 @@ ghost use Rattle.version_notes.specs.Writer.{after_all, all_appended, fresh, las
 pub fn notes_are_read_back()
     ensures again { (note rest : List ℕ) → IsNote note
         → note_at (text_bytes note ++ rest) ≡ Some (note, rest) }
-    ensures only { (bytes note rest : List ℕ) → IsBytes bytes → note_at bytes ≡ Some (note, rest)
+    ensures only { (bytes note rest : List ℕ) → note_at bytes ≡ Some (note, rest)
         → IsNote note × (bytes ≡ text_bytes note ++ rest) }
+
+    // In bytes each note that reads is spelled so.
+    ensures bytes { (bytes : List ℕ) → IsBytes bytes
+        → note_at bytes ≡ only_at is_note text_at bytes }
 
     // As many notes with the same bytes are the same notes.
     ensures same { (ours others : List (List ℕ)) → AllByRecursion IsNote ours
@@ -30,6 +36,15 @@ pub fn parts_are_read_back()
         → is_marked core ≡ false → is_marked other ≡ false → AreNotes ours → AreNotes others
         → core ++ notes_part ours ≡ other ++ notes_part others
         → (core ≡ other) × (notes_part ours ≡ notes_part others) }
+    ensures end { (bytes : List ℕ) (parts : Parts) (size : ℕ)
+        → parts_in bytes ≡ Some parts → parts.notes ≡ Some size
+        → (last 16 bytes ≡ ending size) × (parts.core + size + 16 ≡ length bytes) }
+
+    // In bytes each number before the mark gives parts, where there is room for so many.
+    ensures number { (bytes rest : List ℕ) (size : ℕ) → IsBytes bytes → is_marked bytes ≡ true
+        → number_at w64 (last 8 (all_but 8 bytes)) ≡ Some (size, rest)
+        → size + 16 ≤ length bytes
+        → parts_in bytes ≡ Some (with_notes (length bytes) size) }
 {}
 
 /// A reader gives the notes that stand behind a file, and what it gives is what stands there.
@@ -38,7 +53,7 @@ pub fn readers_give_the_notes()
         → Comes (at_first name (parts_behind core notes) (length notes))
         (core ++ notes_part notes) notes }
     ensures only { (name bytes : List ℕ) (parts : Parts) (versions : ℕ) (notes : List (List ℕ))
-        → IsBytes bytes → parts_in bytes ≡ Some parts
+        → parts_in bytes ≡ Some parts
         → Comes (at_first name parts versions) bytes notes
         → AreBehind parts versions bytes notes }
 

@@ -15,10 +15,10 @@ returns-in-Ok-clause-told g c = λ files told. (
     let front = take place.end (file_of files c.args.name.now) in
     let size = c.in-Ok.ensures.told files told in
     let text = c.read_text.ensures.told files place.end (c.in-Ok.ensures.reads.same_files ∙ told) (omega (arith, c.in-Ok.ensures.within)) in
-    note_told c.in-Ok.size place.at front c.read_text.result size c.read_text.ensures.size c.read_text.ensures.note text)
+    note_told c.in-Ok.size place.at front c.read_text.result size.0 size.1 c.read_text.ensures.size c.read_text.ensures.note text)
 
 pub returns-in-Ok-clause-only : goal.returns-in-Ok-clause-only
 returns-in-Ok-clause-only g c = λ files note rest told stands. (
-    let same = size_stands (left_of c.args.place (file_of files c.args.name.now)) c.in-Ok.size (note, rest) (c.in-Ok.ensures.told files told) stands in
+    let same = size_stands (left_of c.args.place (file_of files c.args.name.now)) c.in-Ok.size (note, rest) (c.in-Ok.ensures.told files told).0 stands in
     pulled_both (4 + length note) c.in-Ok.size (g.F.Folder.numbers c.args.folder.now) (g.F.Folder.numbers c.read_size.new.folder) (g.F.Folder.numbers c.read_text.new.folder)
     (omega (arith, same)) c.in-Ok.ensures.numbers c.read_text.ensures.pulls)
