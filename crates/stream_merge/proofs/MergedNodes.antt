@@ -15,7 +15,7 @@ use Rattle.record_format.specs.Nodes.{set_in}
 use Rattle.record_format.specs.Shapes.{IsShapedNode, AreShapedNodes}
 use Rattle.record_format.specs.Spelling.{rec_bytes}
 use Rattle.record_cursor.specs.Items.{PlainItem, leaf_end_item, end_item}
-use Rattle.record_cursor.specs.Moves.{Comes, Goes}
+use Rattle.record_cursor.specs.Moves.{Comes}
 use Rattle.record_cursor.specs.Next.{read_for, size_of}
 use Rattle.record_cursor.specs.View.{PlainCursor, shown_item}
 use Rattle.record_cursor.specs.declared.fault.CursorFault.{CursorFault}
@@ -26,7 +26,6 @@ use Rattle.record_parts.specs.declared.views.StampView.{StampView}
 use Rattle.record_writer.specs.Calls.{AllFit}
 use Rattle.record_writer.specs.Data.{PlainWriter, WriterCall, call_end_leaf, call_end_inner}
 use Rattle.record_writer.specs.Walks.{alt_calls, row_calls}
-use Rattle.xa_outside.specs.Folder.{Files}
 use Rattle.xa_outside.specs.Numbers.{IsMeter}
 use Rattle.stream_merge.specs.Beside.{BeganBeside, IsBegun}
 use Rattle.stream_merge.specs.Copied.{InsideCopied}
@@ -48,7 +47,7 @@ use Rattle.stream_merge.specs.declared.fault.MergeFault.TheVariants.{Damage}
 use Rattle.stream_merge.proofs.States.{passes-then, passes-none, passes-fault, passes-paid, gave, gave-stop, failed, does-then, does-sends, does-fault, does-stopped, takes-sends, Nexts, Stays, gave-takes, failed-does}
 use Rattle.stream_merge.proofs.Copies.{no-more, rests-behind}
 use Rattle.stream_merge.proofs.CopiedRows.{end-long, closes}
-use Rattle.stream_merge.proofs.ChildCopies.{node-front, end-front, opening, first, behind, behind-small, node-taken, not-ended, not-first, opening-read, opening-size, opening-long, unless-closed, opened-some, not-inner, not-leaf, not-closing}
+use Rattle.stream_merge.proofs.ChildCopies.{node-front, end-front, opening, first, behind, behind-small, node-taken, not-ended, not-first, opening-read, opening-size, opening-long, unless-closed, not-inner, not-leaf, not-closing}
 use Rattle.stream_merge.proofs.Puts.{row-sent}
 use Rattle.stream_merge.proofs.Rooms.{went-read, went-from, went-then, went-sent, opening-parts, own-short, rest-calls, kid-short, kids-short}
 use Rattle.stream_merge.proofs.Weaving.{inner_met, leaf_met, own_alone, kid_known}
