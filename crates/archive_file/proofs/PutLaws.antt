@@ -1,6 +1,6 @@
 -- What the writing of nodes and files needs.
 use Rattle.std.proofs.Common.{◌≡◌, ℕ, suc, ◌+◌, ◌-◌, ◌^◌, ◌<◌, ◌≤◌, false, List, [], ◌∷◌, ◌++◌, map, take, drop, length, get_or, drop-cons, Some, None, Result, Ok, Err, IfOk, unwrap_or, refl, sym, ap, subst, ◌∙◌, append_assoc, arith}
-use Rattle.std.specs.List.{flat_map}
+use Rattle.std.specs.List.{flat_map, AllByRecursion}
 use Rattle.std.specs.Result.{OnOk}
 use Rattle.std.proofs.lemmas.Bool.{true≢false}
 use Rattle.std.proofs.lemmas.List.{length-append, take_all, append-nil, map-append}
@@ -17,7 +17,8 @@ use Rattle.record_format.specs.Data.{PlainEntry, PlainDir, inner_rec, leaf_rec, 
 use Rattle.record_format.specs.Spelling.{dir_bytes, rec_bytes}
 use Rattle.record_format.specs.Nodes.{Piece, piece_bytes, entries_from, dir_of, closed_by_end, alt_of, set_in, node_piece, node_pieces}
 use Rattle.record_format.specs.Files.{file_bytes, longest, HasFile, FileOf}
-use Rattle.archive_file.specs.Goes.{row_goes, HasParts, HaveParts}
+use Rattle.record_parts.specs.Bounds.{IsLabel}
+use Rattle.archive_file.specs.Goes.{row_goes, HasBody, HasParts, HaveParts}
 use Rattle.archive_file.proofs.FileLaws.{closed-bytes, one-record, entries-more, pieces-map, file-goes}
 
 pub on-ok : {X E P Q : Type 0} (r : Result X E) → (P → Q) → OnOk r P → OnOk r Q
@@ -38,6 +39,14 @@ inner-parts n l s xs e h =
     let same = view-length xs in
     let few = parts.1 in
     (omega arith, parts.2)
+
+pub inner-label : (n : PlainNode) (l : PlainLabel) (s : Stamp) (ks : PlainNodes) → n ≡ inner_node l s ks → HasParts n → IsLabel l
+inner-label n l s ks e h =
+    let parts : HasParts (inner_node l s ks) = subst HasParts e h in
+    parts.0
+
+pub leaf-parts : (n : PlainNode) (l : PlainLabel) (s : Stamp) (xs : List PlainAlt) → n ≡ leaf_node l s xs → HasParts n → IsLabel l × AllByRecursion HasBody xs
+leaf-parts n l s xs e h = subst HasParts e h
 
 pub set_in-is : (s : Stamp) (parent : List (ℕ × ℕ)) → unwrap_or s parent ≡ set_in s parent
 set_in-is None parent = refl

@@ -10,8 +10,25 @@ use Rattle.archive_tree.proofs.NodeViews.{node_view-Inner, node_view-Leaf}
 use Rattle.record_format.specs.Data.{PlainEntry, PlainDir}
 use Rattle.record_format.specs.Nodes.{Piece, piece_bytes, entries_from, dir_of, node_piece, node_pieces}
 use Rattle.record_format.specs.View.{entry_view}
-use Rattle.archive_file.proofs.PutLaws.{on-ok, if-ok, inner-parts, inner-bytes, inner-dir, leaf-bytes, leaf-dir, row-bytes, row-dir, more-wrote, more-entries, all-pieces, parts-on, count-on}
+use Rattle.archive_file.proofs.PutLaws.{on-ok, if-ok, inner-parts, inner-label, leaf-parts, inner-bytes, inner-dir, leaf-bytes, leaf-dir, row-bytes, row-dir, more-wrote, more-entries, all-pieces, parts-on, count-on}
 use Rattle.archive_file.proofs.encode.+put.Goals as goal
+
+pub put_node-put_inner-requires : goal.put_node-put_inner-requires
+put_node-put_inner-requires t c =
+    let i = c.in-Inner in
+    inner-label (node_view c.args.node.now) (label_view i.label) (stamp_view i.stamp) (nodes_view i.kids.items) (ap node_view i.is ∙ node_view-Inner i.label i.stamp i.kids) c.requires
+
+pub put_node-put_leaf-requires : goal.put_node-put_leaf-requires
+put_node-put_leaf-requires t c =
+    let i = c.in-Leaf in
+    let parts = leaf-parts (node_view c.args.node.now) (label_view i.label) (stamp_view i.stamp) (map alt_view i.alts.items) (ap node_view i.is ∙ node_view-Leaf i.label i.stamp i.alts) c.requires in
+    parts.0
+
+pub put_node-put_alts-requires : goal.put_node-put_alts-requires
+put_node-put_alts-requires t c =
+    let i = c.in-Leaf in
+    let parts = leaf-parts (node_view c.args.node.now) (label_view i.label) (stamp_view i.stamp) (map alt_view i.alts.items) (ap node_view i.is ∙ node_view-Leaf i.label i.stamp i.alts) c.requires in
+    rw c.deref-in-Leaf.ensures.value parts.1
 
 pub put_node-put_row-requires : goal.put_node-put_row-requires
 put_node-put_row-requires t c =
