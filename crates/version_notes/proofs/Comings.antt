@@ -88,6 +88,18 @@ noted_by (Some x) o e = (x, refl, sym (some_is (Some x.0) o e))
 never_some : (x : List ℕ) → ◌≡◌ {A = Option (List ℕ)} None (Some x) → ⊥
 never_some x e = cc
 
+-- the note that comes next is spelled where the reader stands
+next_stands : (due : ℕ) (p : Place) (file note : List ℕ) → next_from due (Some p) file ≡ Some (Some note) → IsNote note × (left_of p file ≡ text_bytes note ++ left_of (place_behind p note) file)
+next_stands zero p file note e = absurd (never_some note (sym (ended_by (is_done p) (Some note) e).1))
+next_stands (suc due) p file note e =
+    let n = noted_by (note_at (left_of p file)) (Some note) e in
+    let found : note_at (left_of p file) ≡ Some (note, n.0.1) = n.1 ∙ ap (λ (y : List ℕ). Some (y, n.0.1)) (sym (some_is note n.0.0 n.2)) in
+    let first = note_only (left_of p file) note n.0.1 found in
+    (first.0, first.1 ∙ ap (λ (l : List ℕ). text_bytes note ++ l) (sym (left_behind p file note n.0.1 first.1)))
+
+pub note_next : (r : PlainReader) (p : Place) (file note : List ℕ) → r.place ≡ Some p → next_of r file ≡ Some (Some note) → IsNote note × (left_of p file ≡ text_bytes note ++ left_of (place_behind p note) file)
+note_next r p file note is e = next_stands r.due p file note (ap (λ (place : Option Place). next_from r.due place file) (sym is) ∙ e)
+
 used_so : (u : Bool) → u ≡ true → (u || not true) ≡ true
 used_so true e = refl
 used_so false e = absurd cc
@@ -105,16 +117,12 @@ stand_from name file [] zero p e =
 stand_from name file [] (suc due) p e = (let n = noted_by (note_at (left_of p file)) None e in absurd (never_some n.0.0 n.2))
 stand_from name file (x ∷ xs) zero p e = absurd (never_some x (sym (ended_by (is_done p) (Some x) e.0).1))
 stand_from name file (x ∷ xs) (suc due) p e =
-    let n = noted_by (note_at (left_of p file)) (Some x) e.0 in
-    let same : x ≡ n.0.0 = some_is x n.0.0 n.2 in
-    let found : note_at (left_of p file) ≡ Some (x, n.0.1) = n.1 ∙ ap (λ (y : List ℕ). Some (y, n.0.1)) (sym same) in
-    let first = note_only (left_of p file) x n.0.1 found in
+    let first = next_stands (suc due) p file x e.0 in
     let rest = stand_from name file xs (suc due - 1) (place_behind p x) e.1 in
-    let left : n.0.1 ≡ texts xs = sym (left_behind p file x n.0.1 first.1) ∙ rest.left in
     record {
       count = omega (arith, rest.count);
       each = (first.0, rest.each);
-      left = first.1 ∙ ap (λ (l : List ℕ). text_bytes x ++ l) left;
+      left = first.1 ∙ ap (λ (l : List ℕ). text_bytes x ++ l) rest.left;
       used = sym (used_more p.used (length x == 0) (are_empty xs)) ∙ rest.used;
     }
 

@@ -7,8 +7,9 @@ ghost use Rattle.xa_fields.specs.Reading.{number_at, only_at, text_at};
 ghost use Rattle.xa_fields.specs.Spelling.{text_bytes};
 ghost use Rattle.version_notes.specs.Notes.{AreNotes, IsNote, are_empty, ending, is_note, note_at, notes_part};
 ghost use Rattle.version_notes.specs.Parts.{all_but, is_marked, last, parts_behind, parts_in, with_notes};
-ghost use Rattle.version_notes.specs.Reader.{AreBehind, Comes, PlainReader, at_first, next_of};
+ghost use Rattle.version_notes.specs.Reader.{AreBehind, Comes, PlainReader, at_first, left_of, next_of, place_behind};
 ghost use Rattle.version_notes.specs.declared.parts.Parts.{Parts};
+ghost use Rattle.version_notes.specs.declared.place.Place.{Place};
 ghost use Rattle.version_notes.specs.Writer.{after_all, all_appended, fresh, last_appended};
 
 /// What notes are spelled as is read as these notes, and as no others.
@@ -56,6 +57,12 @@ pub fn readers_give_the_notes()
         → parts_in bytes ≡ Some parts
         → Comes (at_first name parts versions) bytes notes
         → AreBehind parts versions bytes notes }
+
+    // A note that comes next is spelled where the reader stands, and behind it stands what is left.
+    ensures next { (r : PlainReader) (p : Place) (file note : List ℕ)
+        → r.place ≡ Some p → next_of r file ≡ Some (Some note)
+        → IsNote note
+        × (left_of p file ≡ text_bytes note ++ left_of (place_behind p note) file) }
 
     // No byte behind the notes says what comes.
     ensures front { (r : PlainReader) (total : ℕ) (file : List ℕ)
