@@ -27,3 +27,6 @@ returns-clause-stands c = grind (arith, common_steps)
 
 pub returns-clause-key : goal.returns-clause-key
 returns-clause-key c = grind (arith, common_steps)
+
+pub returns-clause-laws : goal.returns-clause-laws
+returns-clause-laws c = keyed-laws (spec_view c.args.spec.now) (lent_tree_view c.args.doc.now) c.requires.element c.requires.well_formed

@@ -1,3 +1,4 @@
+use Rattle.std.proofs.lemmas.Grind.{common_steps}
 use Rattle.std.proofs.Common.{◌≡◌, ◌+◌, ◌-◌, ◌++◌, length, take, drop, ap, ◌∙◌, rules, arith}
 use Rattle.std.specs.FinMap as map
 use Rattle.std.proofs.lemmas.List.{length-append, length-drop, length-take}
@@ -20,3 +21,12 @@ returns-clause-told g c = λ files limit told fits front. (
     let none : length (drop (length (f ++ d) - 20) (drop 20 (f ++ d))) ≡ 0 = omega (arith, behind, length-drop (length (f ++ d) - 20) (drop 20 (f ++ d))) in
     let read = c.fill.ensures.told files limit told (omega (arith, many, fits)) in
     whole_told (length a.node.now) m a.at limit file f d c.fill.new.out (drop (length (f ++ d) - 20) (drop 20 (f ++ d))) c.fill.result many size (same ∙ front) none read)
+
+pub returns-clause-reads : goal.returns-clause-reads
+returns-clause-reads g c = grind (arith, common_steps)
+
+pub returns-clause-numbers : goal.returns-clause-numbers
+returns-clause-numbers g c = grind (arith, common_steps)
+
+pub returns-clause-pulls : goal.returns-clause-pulls
+returns-clause-pulls g c = grind (arith, common_steps)

@@ -1,3 +1,4 @@
+use Rattle.std.proofs.lemmas.Grind.{common_steps}
 use Rattle.std.proofs.Common.{◌≡◌, ℕ, ◌+◌, ◌-◌, ◌*◌, ◌≤◌, drop, length, Some, subst, arith}
 use Rattle.std.specs.FinMap as map
 use Rattle.std.specs.Int.{w32}
@@ -34,3 +35,45 @@ returns-in-Err-clause-told g c = λ files told front. (
     let within = piece_within (bytes_or_none (map.get files a.name.now)) a.at (a.at + a.room) in
     let small : length piece ≤ a.room = omega (arith, within) in
     damage_some a.most piece c.in-Err.fault (c.in-Err.ensures.told piece small (first_four a.front.now piece front)))
+
+pub returns-in-Ok-eq0-clause-reads : goal.returns-in-Ok-eq0-clause-reads
+returns-in-Ok-eq0-clause-reads g c = grind (arith, common_steps)
+
+pub returns-in-Ok-eq0-clause-within : goal.returns-in-Ok-eq0-clause-within
+returns-in-Ok-eq0-clause-within g c = grind (arith, common_steps)
+
+pub returns-in-Ok-eq0-clause-numbers : goal.returns-in-Ok-eq0-clause-numbers
+returns-in-Ok-eq0-clause-numbers g c = grind (arith, common_steps)
+
+pub returns-in-Ok-eq0-clause-pulls : goal.returns-in-Ok-eq0-clause-pulls
+returns-in-Ok-eq0-clause-pulls g c = grind (arith, common_steps)
+
+pub returns-in-Ok-eq0-clause-only : goal.returns-in-Ok-eq0-clause-only
+returns-in-Ok-eq0-clause-only g c = grind (arith, common_steps)
+
+pub returns-in-Ok-clause-reads : goal.returns-in-Ok-clause-reads
+returns-in-Ok-clause-reads g c = grind (arith, common_steps)
+
+pub returns-in-Ok-clause-within : goal.returns-in-Ok-clause-within
+returns-in-Ok-clause-within g c = grind (arith, common_steps)
+
+pub returns-in-Ok-clause-numbers : goal.returns-in-Ok-clause-numbers
+returns-in-Ok-clause-numbers g c = grind (arith, common_steps)
+
+pub returns-in-Ok-clause-pulls : goal.returns-in-Ok-clause-pulls
+returns-in-Ok-clause-pulls g c = grind (arith, common_steps)
+
+pub returns-in-Err-clause-reads : goal.returns-in-Err-clause-reads
+returns-in-Err-clause-reads g c = grind (arith, common_steps)
+
+pub returns-in-Err-clause-within : goal.returns-in-Err-clause-within
+returns-in-Err-clause-within g c = grind (arith, common_steps)
+
+pub returns-in-Err-clause-numbers : goal.returns-in-Err-clause-numbers
+returns-in-Err-clause-numbers g c = grind (arith, common_steps)
+
+pub returns-in-Err-clause-pulls : goal.returns-in-Err-clause-pulls
+returns-in-Err-clause-pulls g c = grind (arith, common_steps)
+
+pub returns-in-Err-clause-only : goal.returns-in-Err-clause-only
+returns-in-Err-clause-only g c = grind (arith, common_steps)

@@ -1,3 +1,4 @@
+use Rattle.std.proofs.lemmas.Grind.{common_steps}
 use Rattle.std.proofs.Common.{◌+◌, ◌-◌, ◌*◌, ◌<◌, length, arith}
 use Rattle.std.specs.FinMap as map
 use Rattle.xa_outside.specs.Folder.{bytes_or_none}
@@ -43,3 +44,36 @@ returns-in-Err-clause-only g c = λ files rest set left told stands. (
     let n = g.F.Folder.numbers in
     let some = some_long a.most (piece_of files a.name.now a.at a.limit) rest set left stands in
     PullsAtMost-more 20 (12 + 8 * length set) (n a.folder.now) (n c.fill.new.folder) (omega (arith, some)) c.in-Err.ensures.pulls)
+
+pub returns-then-limit-at-lt-LEAST-clause-reads : goal.returns-then-limit-at-lt-LEAST-clause-reads
+returns-then-limit-at-lt-LEAST-clause-reads g c = grind (arith, common_steps)
+
+pub returns-then-limit-at-lt-LEAST-clause-pulls : goal.returns-then-limit-at-lt-LEAST-clause-pulls
+returns-then-limit-at-lt-LEAST-clause-pulls g c = grind (arith, common_steps)
+
+pub returns-then-limit-at-lt-LEAST-clause-only : goal.returns-then-limit-at-lt-LEAST-clause-only
+returns-then-limit-at-lt-LEAST-clause-only g c = grind (arith, common_steps)
+
+pub returns-in-Ok-clause-reads : goal.returns-in-Ok-clause-reads
+returns-in-Ok-clause-reads g c = grind (arith, common_steps)
+
+pub returns-in-Ok-clause-within : goal.returns-in-Ok-clause-within
+returns-in-Ok-clause-within g c = grind (arith, common_steps)
+
+pub returns-in-Ok-clause-numbers : goal.returns-in-Ok-clause-numbers
+returns-in-Ok-clause-numbers g c = grind (arith, common_steps)
+
+pub returns-in-Ok-clause-told : goal.returns-in-Ok-clause-told
+returns-in-Ok-clause-told g c = grind (arith, common_steps)
+
+pub returns-in-Err-clause-reads : goal.returns-in-Err-clause-reads
+returns-in-Err-clause-reads g c = grind (arith, common_steps)
+
+pub returns-in-Err-clause-within : goal.returns-in-Err-clause-within
+returns-in-Err-clause-within g c = grind (arith, common_steps)
+
+pub returns-in-Err-clause-numbers : goal.returns-in-Err-clause-numbers
+returns-in-Err-clause-numbers g c = grind (arith, common_steps)
+
+pub returns-in-Err-clause-pulls : goal.returns-in-Err-clause-pulls
+returns-in-Err-clause-pulls g c = grind (arith, common_steps)

@@ -1,3 +1,4 @@
+use Rattle.std.proofs.lemmas.Grind.{common_steps}
 use Rattle.std.proofs.Common.{◌≡◌, ℕ, ◌+◌, ◌++◌, List, Result, Ok, Err, OnErr, ap, sym, subst, ◌∙◌, append_assoc, arith}
 use Rattle.std.proofs.lemmas.Result.{on_ok_weaker, on_err_weaker}
 use Rattle.timestamp_tree.specs.Data.{leaves}
@@ -62,3 +63,12 @@ returns-in_err-select_from-in-Inner-clause-err g t c =
     let counts = half_left (part_view c.args.node.now) _ _ _ _ c.args.count c.div_ceil-half.result e c.requires.tree c.requires.count c.div_ceil-half.ensures in
     let all = answers_below c.args.i c.args.first (part_view c.args.node.now) _ _ (part_view c.in-Inner.left.value) (part_view c.in-Inner.right.value) c.div_ceil-half.result e counts.0 in
     on_err c.from_residual-in_err-select_from-in-Inner.result (prefix_left c.args.out.now.items c.select_from.new.out.items _ _ _ all (prefix c.args.i c.args.first c.deref.result.now c.in-Inner.left.value c.args.out.now.items c.select_from.new.out.items c.deref.ensures c.in_err-select_from-in-Inner.ensures.err))
+
+pub returns-then-not-contains-clause-err : goal.returns-then-not-contains-clause-err
+returns-then-not-contains-clause-err g t c = grind (arith, common_steps)
+
+pub returns-in_ok-push-in-Leaf-clause-err : goal.returns-in_ok-push-in-Leaf-clause-err
+returns-in_ok-push-in-Leaf-clause-err g t c = grind (arith, common_steps)
+
+pub returns-else-contains-clause-err : goal.returns-else-contains-clause-err
+returns-else-contains-clause-err g t c = grind (arith, common_steps)

@@ -1,0 +1,15 @@
+use Rattle.std.proofs.Common.{arith}
+use Rattle.std.proofs.lemmas.Grind.{common_steps}
+use Rattle.timestamp_tree.proofs.put.put_alike.Goals as goal
+
+pub returns-then-count-eq1-clause-ok : goal.returns-then-count-eq1-clause-ok
+returns-then-count-eq1-clause-ok c = grind (arith, common_steps)
+
+pub returns-then-count-eq1-clause-grows : goal.returns-then-count-eq1-clause-grows
+returns-then-count-eq1-clause-grows c = grind (arith, common_steps)
+
+pub returns-clause-ok : goal.returns-clause-ok
+returns-clause-ok c = grind (arith, common_steps)
+
+pub returns-clause-grows : goal.returns-clause-grows
+returns-clause-grows c = grind (arith, common_steps)

@@ -1,0 +1,15 @@
+use Rattle.std.proofs.Common.{arith}
+use Rattle.std.proofs.lemmas.Grind.{common_steps}
+use Rattle.timestamp_tree.proofs.put.put_tree.Goals as goal
+
+pub returns-then-are_all-clause-ok : goal.returns-then-are_all-clause-ok
+returns-then-are_all-clause-ok c = grind (arith, common_steps)
+
+pub returns-then-are_all-clause-grows : goal.returns-then-are_all-clause-grows
+returns-then-are_all-clause-grows c = grind (arith, common_steps)
+
+pub returns-clause-ok : goal.returns-clause-ok
+returns-clause-ok c = grind (arith, common_steps)
+
+pub returns-clause-grows : goal.returns-clause-grows
+returns-clause-grows c = grind (arith, common_steps)
