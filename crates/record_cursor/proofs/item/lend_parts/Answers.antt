@@ -1,3 +1,4 @@
+use Rattle.std.proofs.lemmas.Grind.{common_steps}
 use Rattle.std.proofs.Common.{ap, arith}
 use Rattle.record_format.specs.ShownViews.{shown}
 use Rattle.record_format.specs.declared.views.View.{View}
@@ -22,3 +23,12 @@ returns-in-Alt-clause-is c = (
     let r = shown c.in_ok-label.field-0 in
     let p = parts-is c.args.kind c.args.body.now r (λ i. omega (arith, c.type_inv.body i)) c.in_ok-label.ensures in
     (r, ap (λ (v : View). item_of (shown v)) c.in-Alt.is, p.0, p.1, p.2))
+
+pub returns-in-Inner-clause-found : goal.returns-in-Inner-clause-found
+returns-in-Inner-clause-found c = grind (arith, common_steps)
+
+pub returns-in-Leaf-clause-found : goal.returns-in-Leaf-clause-found
+returns-in-Leaf-clause-found c = grind (arith, common_steps)
+
+pub returns-in-Alt-clause-found : goal.returns-in-Alt-clause-found
+returns-in-Alt-clause-found c = grind (arith, common_steps)

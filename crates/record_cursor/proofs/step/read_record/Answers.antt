@@ -1,3 +1,4 @@
+use Rattle.std.proofs.lemmas.Grind.{common_steps}
 use Rattle.std.proofs.Common.{◌≡◌, ◌+◌, ◌-◌, ◌≤◌, None, Option, drop, sym, subst, arith, length-drop}
 use Rattle.xa_outside.specs.Folder.{Files}
 use Rattle.xa_outside.specs.NumberLaws.{PullsAtMost-of, PullsAtMost-more}
@@ -99,3 +100,69 @@ returns-in-Err-read_body-clause-told g c = λ bytes tells. (
     let fits : c.args.at + 9 + c.in-Ok.frame.1 ≤ c.args.length = omega (arith, within, c.if-length-body.false) in
     let later = subst (λ (t : Option Files). TellsFront t c.args.name.now c.args.length bytes) (sym c.in-Ok.ensures.reads.same_files) tells in
     no-damage c.in-Err-read_body.fault (next_of (place_view c.args.place) (drop c.args.at bytes) ≡ None) (c.in-Err-read_body.ensures.told c.args.length bytes later fits))
+
+pub returns-then-length-at-clause-reads : goal.returns-then-length-at-clause-reads
+returns-then-length-at-clause-reads g c = grind (arith, common_steps)
+
+pub returns-then-length-at-clause-pulls : goal.returns-then-length-at-clause-pulls
+returns-then-length-at-clause-pulls g c = grind (arith, common_steps)
+
+pub returns-then-length-at-clause-leads : goal.returns-then-length-at-clause-leads
+returns-then-length-at-clause-leads g c = grind (arith, common_steps)
+
+pub returns-then-length-at-clause-within : goal.returns-then-length-at-clause-within
+returns-then-length-at-clause-within g c = grind (arith, common_steps)
+
+pub returns-then-length-at-clause-only : goal.returns-then-length-at-clause-only
+returns-then-length-at-clause-only g c = grind (arith, common_steps)
+
+pub returns-in-Err-clause-reads : goal.returns-in-Err-clause-reads
+returns-in-Err-clause-reads g c = grind (arith, common_steps)
+
+pub returns-in-Err-clause-pulls : goal.returns-in-Err-clause-pulls
+returns-in-Err-clause-pulls g c = grind (arith, common_steps)
+
+pub returns-in-Err-clause-leads : goal.returns-in-Err-clause-leads
+returns-in-Err-clause-leads g c = grind (arith, common_steps)
+
+pub returns-in-Err-clause-within : goal.returns-in-Err-clause-within
+returns-in-Err-clause-within g c = grind (arith, common_steps)
+
+pub returns-then-length-body-clause-reads : goal.returns-then-length-body-clause-reads
+returns-then-length-body-clause-reads g c = grind (arith, common_steps)
+
+pub returns-then-length-body-clause-pulls : goal.returns-then-length-body-clause-pulls
+returns-then-length-body-clause-pulls g c = grind (arith, common_steps)
+
+pub returns-then-length-body-clause-leads : goal.returns-then-length-body-clause-leads
+returns-then-length-body-clause-leads g c = grind (arith, common_steps)
+
+pub returns-then-length-body-clause-within : goal.returns-then-length-body-clause-within
+returns-then-length-body-clause-within g c = grind (arith, common_steps)
+
+pub returns-in_default-clause-reads : goal.returns-in_default-clause-reads
+returns-in_default-clause-reads g c = grind (arith, common_steps)
+
+pub returns-in_default-clause-pulls : goal.returns-in_default-clause-pulls
+returns-in_default-clause-pulls g c = grind (arith, common_steps)
+
+pub returns-in_default-clause-leads : goal.returns-in_default-clause-leads
+returns-in_default-clause-leads g c = grind (arith, common_steps)
+
+pub returns-in_default-clause-within : goal.returns-in_default-clause-within
+returns-in_default-clause-within g c = grind (arith, common_steps)
+
+pub returns-in-Ok-read_body-clause-reads : goal.returns-in-Ok-read_body-clause-reads
+returns-in-Ok-read_body-clause-reads g c = grind (arith, common_steps)
+
+pub returns-in-Ok-read_body-clause-within : goal.returns-in-Ok-read_body-clause-within
+returns-in-Ok-read_body-clause-within g c = grind (arith, common_steps)
+
+pub returns-in-Err-read_body-clause-reads : goal.returns-in-Err-read_body-clause-reads
+returns-in-Err-read_body-clause-reads g c = grind (arith, common_steps)
+
+pub returns-in-Err-read_body-clause-leads : goal.returns-in-Err-read_body-clause-leads
+returns-in-Err-read_body-clause-leads g c = grind (arith, common_steps)
+
+pub returns-in-Err-read_body-clause-within : goal.returns-in-Err-read_body-clause-within
+returns-in-Err-read_body-clause-within g c = grind (arith, common_steps)
