@@ -17,6 +17,7 @@ use crate::lent::{NameView, lend_name};
 use crate::order_parts::order_label;
 use crate::order_values::order_value;
 use crate::take_parts::{take_label, take_stamp};
+use crate::take_values::take_value;
 use crate::views::{BodyView, LabelView, StampView};
 use keyed_tree::{Body, Label};
 use std::alloc::{AllocError, Global};
@@ -98,7 +99,7 @@ impl<'a> LabelView<'a> {
     }
 
     /// A label of its own with the same value.
-    fn copy(&self, alloc: Global) -> Result<Label, AllocError>
+    pub fn copy(&self, alloc: Global) -> Result<Label, AllocError>
         ensures { IfOk result (λ l. label_view l ≡ shown_label self.now) }
     {
         match take_label(alloc, self.bytes, 0) {
@@ -157,6 +158,16 @@ impl<'a> BodyView<'a> {
         ensures { IsTrue result ↔ (shown_body self.now ≡ shown_body other.now) }
     {
         self.bytes() == other.bytes()
+    }
+
+    /// A body of its own with the same value.
+    pub fn copy(&self, alloc: Global) -> Result<Body, AllocError>
+        ensures { IfOk result (λ body. key_view body ≡ shown_body self.now) }
+    {
+        match take_value(alloc, self.bytes, 0) {
+            Ok((body, _)) => Ok(body),
+            Err(_) => Err(AllocError),
+        }
     }
 
     fn order(&self, other: &Body) -> Ordering
