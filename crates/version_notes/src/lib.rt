@@ -19,5 +19,5 @@ pub use laws::{
 };
 pub use parts::{Parts, parts_of};
 pub use reader::NoteReader;
-pub use text::is_note;
+pub use text::{is_note, is_printed};
 pub use writer::NoteWriter;

@@ -12,7 +12,8 @@ pub fn is_note(text: &str) -> bool
     text.len() <= LONGEST && is_printed(text.as_bytes())
 }
 
-fn is_printed(bytes: &[u8]) -> bool
+/// Whether no byte is below 20 hexadecimal.
+pub fn is_printed(bytes: &[u8]) -> bool
     ensures { result ≡ is_printed bytes.now }
 {
     bytes.iter().all(|byte| *byte >= b' ')

@@ -1,10 +1,10 @@
--- What `add` does: it adds a document to an archive as its next version.
+-- What `add` does: it adds a document to an archive as its next version, with a note.
 use Rattle.std.specs.Prelude.{ℕ, List, [], ◌∷◌, ◌++◌, length, nat_lt, Result, Ok, Err, if◌then◌else◌}
 use Rattle.xa_outside.specs.Folder.{Files}
 use Rattle.key_spec.specs.Data.{PlainRule}
 use Rattle.keyed_tree.specs.Data.{PlainKeyed}
 use Rattle.xarch_words.specs.Refusal.{document, versions, Refusal, limit}
-use Rattle.xarch_parts.specs.Archives.{GoesOn, Opens, Stores}
+use Rattle.xarch_parts.specs.Archives.{GoesOn, Opens, Stores, short_note}
 use Rattle.xarch_parts.specs.Inputs.{length_in, read_in}
 use Rattle.xarch_parts.specs.Outcome.{Outcome, and_then}
 use Rattle.xarch_parts.specs.Readings.{document_of, keyed_of}
@@ -27,9 +27,10 @@ added files doc rules n =
     and_then (room_behind n) (λ _.
     Ok k))))
 
--- what comes of the document where these are the archive's rules and versions
-abbrev pub AddsTo : Files → List ℕ → List ℕ → List PlainRule → List PlainKeyed → Result Outcome Refusal → Type 0
-AddsTo files archive doc rules vs r = GoesOn (added files doc rules (length vs)) (λ k. Stores files archive rules (vs ++ k ∷ [])) r
+-- what comes of the document and its note where these are the archive's rules, versions and notes
+abbrev pub AddsTo : Files → List ℕ → List ℕ → List ℕ → List PlainRule → List PlainKeyed → List (List ℕ) → Result Outcome Refusal → Type 0
+AddsTo files archive doc note rules vs notes r = GoesOn (added files doc rules (length vs)) (λ k. Stores files archive rules (vs ++ k ∷ []) (notes ++ note ∷ [])) r
 
-abbrev pub AddIs : Files → List ℕ → List ℕ → Result Outcome Refusal → Type 0
-AddIs files archive doc r = Opens files archive (AddsTo files archive doc) r
+-- The length of the note is judged before all else.
+abbrev pub AddIs : Files → List ℕ → List ℕ → List ℕ → Result Outcome Refusal → Type 0
+AddIs files archive doc note r = GoesOn (short_note note) (λ _. Opens files archive (AddsTo files archive doc note)) r

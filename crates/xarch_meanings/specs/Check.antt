@@ -1,8 +1,8 @@
--- What `check` does: it tells whether a file is a sound archive, and how many versions that has.
+-- What `check` does: it tells whether a file is a sound archive with its notes, and how many versions that has.
 use Rattle.std.specs.Prelude.{◌≡◌, ◌⊎◌, ℕ, List, length, codes, Result, Ok, Err}
 use Rattle.xa_outside.specs.Folder.{Files}
 use Rattle.keyed_tree.specs.Data.{PlainKeyed}
-use Rattle.archive_file.specs.Sound.{Sound}
+use Rattle.noted_file.specs.Full.{Full}
 use Rattle.xarch_words.specs.Refusal.{Refusal, damaged}
 use Rattle.xarch_parts.specs.Archives.{GoesOn}
 use Rattle.xarch_parts.specs.Inputs.{file_of}
@@ -17,14 +17,14 @@ check_text n = count_line (codes "ok ") n
 abbrev pub checked : Files → List PlainKeyed → Result Outcome Refusal
 checked files vs = Ok (record { files = files; output = check_text (length vs) })
 
--- the bytes are a sound archive, whose versions are counted
+-- the bytes are a sound archive with its notes, whose versions are counted
 pub record IsFoundSound (files : Files) (bytes : List ℕ) (r : Result Outcome Refusal) : Type 0 where
-  pub sound : Sound bytes
-  pub is : r ≡ checked files sound.versions
+  pub full : Full bytes
+  pub is : r ≡ checked files full.versions
 
 -- they are none, and the archive of this name is refused
 pub record IsFoundDamaged (name bytes : List ℕ) (r : Result Outcome Refusal) : Type 0 where
-  pub unsound : ¬ Sound bytes
+  pub unsound : ¬ Full bytes
   pub is : r ≡ Err (damaged name)
 
 -- the one or the other

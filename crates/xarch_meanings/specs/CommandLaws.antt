@@ -3,7 +3,7 @@ use Rattle.std.specs.Prelude.{◌≡◌, Option, Some, None}
 use Rattle.std.proofs.Common.{refl, ap}
 use Rattle.xa_outside.specs.Folder.{Files}
 use Rattle.xa_outside.specs.Numbers.{Numbers}
-use Rattle.xarch_words.specs.Commands.{PlainCommand, norm, init, add, rekey, get, history, check, stats, batch, demo}
+use Rattle.xarch_words.specs.Commands.{PlainCommand, norm, init, add, rekey, get, history, check, stats, versions, batch, demo}
 use Rattle.xarch_words.specs.Refusal.{PlainFault}
 use Rattle.xarch_meanings.specs.OnePass.{GoesOnce}
 use Rattle.xarch_meanings.specs.Ran.{IsMetLate, MayHaveWritten, OnlyReads, made_name, status_after}
@@ -12,12 +12,13 @@ use Rattle.xarch_meanings.specs.Ran.{IsMetLate, MayHaveWritten, OnlyReads, made_
 pub only_makes_none : (command : PlainCommand) → OnlyReads (Some command) → made_name command ≡ None
 only_makes_none (norm spec doc) h = refl
 only_makes_none (init archive spec) h = absurd h
-only_makes_none (add archive doc) h = absurd h
+only_makes_none (add archive doc note) h = absurd h
 only_makes_none (rekey archive spec) h = absurd h
 only_makes_none (get archive i) h = refl
 only_makes_none (history archive path) h = refl
 only_makes_none (check archive) h = refl
 only_makes_none (stats archive) h = refl
+only_makes_none (versions archive) h = refl
 only_makes_none batch h = absurd h
 only_makes_none (demo seed count archive) h = absurd h
 
@@ -26,12 +27,13 @@ pub met-status : (c : Option PlainCommand) (e : Option PlainFault) → IsMetLate
 met-status None e late = absurd late
 met-status (Some (norm spec doc)) e late = absurd late
 met-status (Some (init archive spec)) e late = absurd late
-met-status (Some (add archive doc)) e late = absurd late
+met-status (Some (add archive doc note)) e late = absurd late
 met-status (Some (rekey archive spec)) e late = absurd late
 met-status (Some (get archive i)) e late = ap status_after late
 met-status (Some (history archive path)) e late = absurd late
 met-status (Some (check archive)) e late = absurd late
 met-status (Some (stats archive)) e late = absurd late
+met-status (Some (versions archive)) e late = ap status_after late
 met-status (Some batch) e late = absurd late
 met-status (Some (demo seed count archive)) e late = absurd late
 
@@ -40,11 +42,12 @@ pub once_by : (c : Option PlainCommand) (told : Option Files) (before after : Nu
 once_by None told before after P Q f h = tt
 once_by (Some (norm spec doc)) told before after P Q f h = tt
 once_by (Some (init archive spec)) told before after P Q f h = tt
-once_by (Some (add archive doc)) told before after P Q f h = λ files rules vs a is there of small not. h files rules vs a is there of small (λ p. not (f p))
+once_by (Some (add archive doc note)) told before after P Q f h = λ files rules vs notes a is there of small not. h files rules vs notes a is there of small (λ p. not (f p))
 once_by (Some (rekey archive spec)) told before after P Q f h = tt
 once_by (Some (get archive i)) told before after P Q f h = tt
 once_by (Some (history archive path)) told before after P Q f h = tt
 once_by (Some (check archive)) told before after P Q f h = tt
 once_by (Some (stats archive)) told before after P Q f h = tt
+once_by (Some (versions archive)) told before after P Q f h = tt
 once_by (Some batch) told before after P Q f h = tt
 once_by (Some (demo seed count archive)) told before after P Q f h = tt

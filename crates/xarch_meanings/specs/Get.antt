@@ -13,9 +13,9 @@ use Rattle.xarch_parts.specs.Outcome.{Outcome, and_then, or_refuse}
 abbrev pub version_text : Files → List PlainKeyed → ℕ → Result Outcome Refusal
 version_text files vs i = and_then (or_refuse (version_of vs i) (no_version i (length vs))) (λ k. Ok (record { files = files; output = keyed_text k }))
 
--- what is written where these are the archive's rules and versions
-abbrev pub GetsFrom : Files → ℕ → List PlainRule → List PlainKeyed → Result Outcome Refusal → Type 0
-GetsFrom files i rules vs r = r ≡ version_text files vs i
+-- what is written where these are the archive's rules, versions and notes
+abbrev pub GetsFrom : Files → ℕ → List PlainRule → List PlainKeyed → List (List ℕ) → Result Outcome Refusal → Type 0
+GetsFrom files i rules vs notes r = r ≡ version_text files vs i
 
 abbrev pub GetIs : Files → List ℕ → ℕ → Result Outcome Refusal → Type 0
 GetIs files archive i r = Opens files archive (GetsFrom files i) r

@@ -24,9 +24,9 @@ numbers_text ns = set_text (intervals ns) ++ codes "\n"
 abbrev pub history_text : Files → List PlainRule → List PlainKeyed → List ℕ → Result Outcome Refusal
 history_text files rules vs path = and_then (labels_of rules path) (λ labels. Ok (record { files = files; output = numbers_text (hist vs labels) }))
 
--- what is written where these are the archive's rules and versions
-abbrev pub TellsFrom : Files → List ℕ → List PlainRule → List PlainKeyed → Result Outcome Refusal → Type 0
-TellsFrom files path rules vs r = r ≡ history_text files rules vs path
+-- what is written where these are the archive's rules, versions and notes
+abbrev pub TellsFrom : Files → List ℕ → List PlainRule → List PlainKeyed → List (List ℕ) → Result Outcome Refusal → Type 0
+TellsFrom files path rules vs notes r = r ≡ history_text files rules vs path
 
 abbrev pub HistoryIs : Files → List ℕ → List ℕ → Result Outcome Refusal → Type 0
 HistoryIs files archive path r = Opens files archive (TellsFrom files path) r

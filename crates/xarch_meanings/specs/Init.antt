@@ -13,4 +13,4 @@ abbrev pub init_rules : Files → List ℕ → List ℕ → Result (List PlainRu
 init_rules files archive spec = and_then (free_in files archive) (λ _. and_then (length_in files spec specification 1048576) (λ _. read_in files spec rules_of))
 
 abbrev pub InitIs : Files → List ℕ → List ℕ → Result Outcome Refusal → Type 0
-InitIs files archive spec r = GoesOn (init_rules files archive spec) (λ rules. Stores files archive rules []) r
+InitIs files archive spec r = GoesOn (init_rules files archive spec) (λ rules. Stores files archive rules [] []) r

@@ -9,6 +9,7 @@ pub mod CommandLaws
 pub mod Get
 pub mod History
 pub mod Stats
+pub mod Versions
 pub mod Check
 pub mod Demo
 pub mod Step

@@ -1,5 +1,5 @@
 -- That `add` goes over a sound archive once, and writes what it read before it reads on.
-use Rattle.std.specs.Prelude.{◌≡◌, ℕ, ◌+◌, ◌-◌, ◌^◌, ◌≤◌, ◌<◌, List, length, Option, Some, Result, Ok, Err, ⊤}
+use Rattle.std.specs.Prelude.{◌≡◌, ℕ, ◌+◌, ◌-◌, ◌^◌, ◌≤◌, ◌<◌, max, List, length, Option, Some, Result, Ok, Err, ⊤}
 use Rattle.xa_outside.specs.Folder.{Files}
 use Rattle.xa_outside.specs.Numbers.{Numbers}
 use Rattle.key_spec.specs.Data.{PlainRule}
@@ -24,17 +24,18 @@ document_size files doc = or_zero (length_in files doc document 67108864)
 abbrev pub front_size : List PlainRule → List PlainKeyed → ℕ
 front_size rules vs = length (header_bytes rules (length vs))
 
--- Nothing was read before the draft was begun last, and since then no more bytes than the document and the archive have. At any moment what was
--- read is ahead of what was written by no more than the document and the longest record, the body of an END not counted.
+-- Nothing was read before the draft was begun last, and since then no more bytes than the document and the archive have, and 16 in which it is looked
+-- where the notes begin. At any moment what was read is ahead of what was written by no more than the document, these 16, and the longest record, the
+-- body of an END not counted, or the longest that a note may be.
 pub record OnePass (files : Files) (archive doc : List ℕ) (rules : List PlainRule) (a : PlainArchive) (before after : Numbers) : Type 0 where
   pub begun_first : after.pulled ≤ before.pulled + after.since
-  pub once : after.since ≤ document_size files doc + size_in (Some files) archive
-  pub close : after.gap ≤ document_size files doc + largest rules a
+  pub once : after.since ≤ document_size files doc + (size_in (Some files) archive + 16)
+  pub close : after.gap ≤ document_size files doc + (16 + max (largest rules a) 1028)
 
 -- An `add` does so over a sound archive, as long as it has not failed so and the count of what was read since has not run out. Of no other command is
 -- anything said.
 abbrev pub GoesOnce : Option PlainCommand → Option Files → Numbers → Numbers → Type 0 → Type 0
-GoesOnce (Some (add archive doc)) told before after failed =
-    (files : Files) (rules : List PlainRule) (vs : List PlainKeyed) (a : PlainArchive) → told ≡ Some files → ArchiveIs files archive rules vs → ArchiveOf vs a
+GoesOnce (Some (add archive doc note)) told before after failed =
+    (files : Files) (rules : List PlainRule) (vs : List PlainKeyed) (notes : List (List ℕ)) (a : PlainArchive) → told ≡ Some files → ArchiveIs files archive rules vs notes → ArchiveOf vs a
     → after.since < 2 ^ 64 - 1 → ¬ failed → OnePass files archive doc rules a before after
 GoesOnce other told before after failed = ⊤

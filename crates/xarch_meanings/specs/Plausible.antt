@@ -7,12 +7,13 @@ use Rattle.xa_outside.specs.Taken.{Taken, TakesNone, TakesPrefix}
 use Rattle.key_spec.specs.Data.{PlainRule}
 use Rattle.keyed_tree.specs.Data.{PlainLabel, PlainKeyed}
 use Rattle.record_format.specs.Fronts.{fixed}
-use Rattle.xarch_words.specs.Commands.{PlainCommand, norm, init, add, rekey, get, history, check, stats, batch, demo}
+use Rattle.version_notes.specs.declared.parts.Parts.{Parts}
+use Rattle.xarch_words.specs.Commands.{PlainCommand, norm, init, add, rekey, get, history, check, stats, versions, batch, demo}
 use Rattle.xarch_words.specs.Lines.{fault_line, refusal_status}
 use Rattle.xarch_words.specs.Refusal.{archive, document, Refusal, usage, damaged, no_version, limit, refused}
 use Rattle.xarch_meanings.specs.Add.{AddsTo, room_behind, tree_of}
 use Rattle.xarch_meanings.specs.Check.{CheckIs}
-use Rattle.xarch_parts.specs.Archives.{ArchiveIs, GoesOn, Opened}
+use Rattle.xarch_parts.specs.Archives.{ArchiveIs, GoesOn, Opened, short_note}
 use Rattle.xarch_meanings.specs.Demo.{DemoIs}
 use Rattle.xarch_meanings.specs.Get.{GetsFrom}
 use Rattle.xarch_meanings.specs.History.{TellsFrom, labels_of}
@@ -22,9 +23,10 @@ use Rattle.xarch_meanings.specs.Norm.{norm_of}
 use Rattle.xarch_meanings.specs.Rekey.{RekeysFrom, rekey_rules}
 use Rattle.xarch_parts.specs.Outcome.{Outcome, Step, and_then, or_refuse, step_from}
 use Rattle.xarch_meanings.specs.Ran.{Ran}
-use Rattle.xarch_parts.specs.Readings.{front_in}
+use Rattle.xarch_parts.specs.Readings.{core_in, front_in, parts_of}
 use Rattle.xarch_meanings.specs.Stats.{CountsFrom}
 use Rattle.xarch_meanings.specs.Step.{StepIs, single_of}
+use Rattle.xarch_meanings.specs.Versions.{ListsFrom}
 
 -- ---- what is decided before the records of an archive are looked at
 
@@ -62,14 +64,14 @@ add_input files name doc =
 abbrev pub is_version : ℕ → ℕ → Result Unit Refusal
 is_version n i = if nat_le 1 i && nat_le i n then Ok tt else Err (no_version i n)
 
--- The bytes of the archive, or the first refusal: the archive is there, the fields of a header stand in front of it, and
--- they count the version.
+-- The bytes of the archive before its notes, or the first refusal: the archive is there and has parts, the fields of a header
+-- stand in front of it, and they count the version.
 abbrev pub get_input : Files → List ℕ → ℕ → Result (List ℕ) Refusal
 get_input files name i =
-    and_then (file_of files name) (λ bytes.
-    and_then (or_refuse (fixed bytes) (damaged name)) (λ n.
+    and_then (read_in files name (core_in name)) (λ core.
+    and_then (or_refuse (fixed core) (damaged name)) (λ n.
     and_then (is_version n i) (λ _.
-    Ok bytes)))
+    Ok core)))
 
 -- The rules and the number of versions of the archive and the labels of the path, or the first refusal: the archive is
 -- there, a header stands in front of it, and the path spells labels under its rules.
@@ -78,6 +80,15 @@ history_input files name path =
     and_then (read_in files name (front_in name)) (λ h.
     and_then (labels_of h.0 path) (λ ls.
     Ok (h, ls)))
+
+-- The parts of the archive, or the first refusal: the archive is there, and has parts.
+abbrev pub stats_input : Files → List ℕ → Result Parts Refusal
+stats_input files name = read_in files name (parts_of name)
+
+-- The rules and the number of versions of the archive, or the first refusal: the archive is there and has parts, and a header stands
+-- in front of it.
+abbrev pub versions_input : Files → List ℕ → Result (List PlainRule × ℕ) Refusal
+versions_input files name = read_in files name (front_in name)
 
 -- ---- what may come then
 
@@ -97,7 +108,7 @@ MayAdd files name r = (r ≡ Err (damaged name)) ⊎ (r ≡ Err (limit archive 2
 
 -- The archive is damaged, or it is sound.
 abbrev pub MayRekey : Files → List ℕ → Result Outcome Refusal → Type 0
-MayRekey files name r = (r ≡ Err (damaged name)) ⊎ Opened files name (λ _ _ _. ⊤) r
+MayRekey files name r = (r ≡ Err (damaged name)) ⊎ Opened files name (λ _ _ _ _. ⊤) r
 
 abbrev pub MayWrite : Files → List ℕ → Result Outcome Refusal → Type 0
 MayWrite files name r = (r ≡ Err (damaged name)) ⊎ Written files r
@@ -105,19 +116,20 @@ MayWrite files name r = (r ≡ Err (damaged name)) ⊎ Written files r
 -- ---- commands
 
 -- What may come whatever the archive of this name is, and what comes where it is sound.
-pub record MayOver (files : Files) (name : List ℕ) (any : Result Outcome Refusal → Type 0) (exact : List PlainRule → List PlainKeyed → Result Outcome Refusal → Type 0) (r : Result Outcome Refusal) : Type 0 where
+pub record MayOver (files : Files) (name : List ℕ) (any : Result Outcome Refusal → Type 0) (exact : List PlainRule → List PlainKeyed → List (List ℕ) → Result Outcome Refusal → Type 0) (r : Result Outcome Refusal) : Type 0 where
   pub whatever : any r
-  pub sound : (rules : List PlainRule) (vs : List PlainKeyed) → ArchiveIs files name rules vs → exact rules vs r
+  pub sound : (rules : List PlainRule) (vs : List PlainKeyed) (notes : List (List ℕ)) → ArchiveIs files name rules vs notes → exact rules vs notes r
 
 unfoldable pub MayBe : Files → PlainCommand → Result Outcome Refusal → Type 0
 MayBe files (norm spec doc) r = r ≡ norm_of files spec doc
 MayBe files (init name spec) r = InitIs files name spec r
-MayBe files (add name doc) r = MayOver files name (GoesOn (add_input files name doc) (λ _. MayAdd files name)) (AddsTo files name doc) r
+MayBe files (add name doc note) r = GoesOn (short_note note) (λ _. MayOver files name (GoesOn (add_input files name doc) (λ _. MayAdd files name)) (AddsTo files name doc note)) r
 MayBe files (rekey name spec) r = MayOver files name (GoesOn (rekey_rules files name spec) (λ _. MayRekey files name)) (RekeysFrom files name spec) r
 MayBe files (get name i) r = MayOver files name (GoesOn (get_input files name i) (λ _. MayWrite files name)) (GetsFrom files i) r
 MayBe files (history name path) r = MayOver files name (GoesOn (history_input files name path) (λ _. MayWrite files name)) (TellsFrom files path) r
 MayBe files (check name) r = CheckIs files name r
-MayBe files (stats name) r = MayOver files name (GoesOn (file_of files name) (λ _. MayWrite files name)) (CountsFrom files) r
+MayBe files (stats name) r = MayOver files name (GoesOn (stats_input files name) (λ _. MayWrite files name)) (CountsFrom files) r
+MayBe files (versions name) r = MayOver files name (GoesOn (versions_input files name) (λ _. MayWrite files name)) (ListsFrom files) r
 MayBe files batch r = r ≡ Err usage
 MayBe files (demo seed count name) r = DemoIs files seed count name r
 
@@ -126,9 +138,10 @@ MayDo files None r = r ≡ Err usage
 MayDo files (Some command) r = MayBe files command r
 
 -- A refusal that may come late, behind output: a `get` may meet damage while it writes, once what it reads first has told that there is such a
--- version. Nothing else is refused late.
+-- version, and so may a `versions`, once it has read a header. Nothing else is refused late.
 abbrev pub MayComeLate : Files → Option PlainCommand → Refusal → Type 0
 MayComeLate files (Some (get name i)) r = (r ≡ damaged name) × IsOk (get_input files name i)
+MayComeLate files (Some (versions name)) r = (r ≡ damaged name) × IsOk (versions_input files name)
 MayComeLate files other r = ⊥
 
 abbrev pub IsLate : Files → Option PlainCommand → Result Outcome Refusal → Type 0

@@ -23,14 +23,14 @@ path_bytes a (Err e) = 0
 abbrev pub version_bytes : PlainArchive → ℕ → ℕ
 version_bytes a i = if nat_le 1 i && nat_le i a.n then seen a i else 0
 
--- Of a sound archive a `get` pulls at most 22 bytes, which are the fixed fields of the header and the tail, and what the search for the version looks
--- at, if there is one. A `history` pulls the header, the tail of 8 bytes, and what its search looks at. Neither pulls a byte more, whatever is
--- answered. Of no other command is anything said.
+-- Of a sound archive a `get` pulls at most 38 bytes, which are the fixed fields of the header, the tail, and 16 in which it is looked where the notes
+-- begin, and what the search for the version looks at, if there is one. A `history` pulls the header, the tail of 8 bytes, such 16, and what its search
+-- looks at. Neither pulls a byte more, whatever is answered. Of no other command is anything said.
 abbrev pub ReadsLittle : Option PlainCommand → Option Files → Numbers → Numbers → Type 0
 ReadsLittle (Some (history archive path)) told before after =
-    (files : Files) (rules : List PlainRule) (vs : List PlainKeyed) (a : PlainArchive) → told ≡ Some files → ArchiveIs files archive rules vs → ArchiveOf vs a
-    → PullsAtMost (front_size rules vs + (8 + path_bytes a (labels_of rules path))) before after
+    (files : Files) (rules : List PlainRule) (vs : List PlainKeyed) (notes : List (List ℕ)) (a : PlainArchive) → told ≡ Some files → ArchiveIs files archive rules vs notes → ArchiveOf vs a
+    → PullsAtMost (front_size rules vs + (24 + path_bytes a (labels_of rules path))) before after
 ReadsLittle (Some (get archive i)) told before after =
-    (files : Files) (rules : List PlainRule) (vs : List PlainKeyed) (a : PlainArchive) → told ≡ Some files → ArchiveIs files archive rules vs → ArchiveOf vs a
-    → PullsAtMost (22 + version_bytes a i) before after
+    (files : Files) (rules : List PlainRule) (vs : List PlainKeyed) (notes : List (List ℕ)) (a : PlainArchive) → told ≡ Some files → ArchiveIs files archive rules vs notes → ArchiveOf vs a
+    → PullsAtMost (38 + version_bytes a i) before after
 ReadsLittle other told before after = ⊤

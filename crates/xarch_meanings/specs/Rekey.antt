@@ -20,11 +20,12 @@ rekey_rules files archive spec =
     and_then (read_in files archive (front_in archive)) (λ _.
     read_in files spec rules_of)))
 
--- Each version satisfies the rules, and the archive file of the versions under them comes under the name, where there is one.
-pub record StoresRekeyed (files : Files) (archive : List ℕ) (rules : List PlainRule) (vs : List PlainKeyed) (r : Result Outcome Refusal) : Type 0 where
+-- Each version satisfies the rules, and the archive file of the versions under them, with the notes that there are, comes under the name, where there is
+-- one.
+pub record StoresRekeyed (files : Files) (archive : List ℕ) (rules : List PlainRule) (vs : List PlainKeyed) (notes : List (List ℕ)) (r : Result Outcome Refusal) : Type 0 where
   pub versions : List PlainKeyed
   pub are : AreRekeyed rules vs versions
-  pub rest : Stores files archive rules versions r
+  pub rest : Stores files archive rules versions notes r
 
 -- One does not, and the first such is told.
 pub record TellsFirstBad (rules : List PlainRule) (vs : List PlainKeyed) (r : Result Outcome Refusal) : Type 0 where
@@ -33,13 +34,13 @@ pub record TellsFirstBad (rules : List PlainRule) (vs : List PlainKeyed) (r : Re
   pub first : IsFirstBad rules vs number fault
   pub is : r ≡ Err (key_fault_in number fault)
 
--- what comes of these versions under the rules
-abbrev pub RekeysTo : Files → List ℕ → List PlainKeyed → List PlainRule → Result Outcome Refusal → Type 0
-RekeysTo files archive vs rules r = StoresRekeyed files archive rules vs r ⊎ TellsFirstBad rules vs r
+-- what comes of these versions and notes under the rules
+abbrev pub RekeysTo : Files → List ℕ → List PlainKeyed → List (List ℕ) → List PlainRule → Result Outcome Refusal → Type 0
+RekeysTo files archive vs notes rules r = StoresRekeyed files archive rules vs notes r ⊎ TellsFirstBad rules vs r
 
--- what comes where these are the archive's rules and versions
-abbrev pub RekeysFrom : Files → List ℕ → List ℕ → List PlainRule → List PlainKeyed → Result Outcome Refusal → Type 0
-RekeysFrom files archive spec old vs r = GoesOn (rekey_rules files archive spec) (RekeysTo files archive vs) r
+-- what comes where these are the archive's rules, versions and notes
+abbrev pub RekeysFrom : Files → List ℕ → List ℕ → List PlainRule → List PlainKeyed → List (List ℕ) → Result Outcome Refusal → Type 0
+RekeysFrom files archive spec old vs notes r = GoesOn (rekey_rules files archive spec) (RekeysTo files archive vs notes) r
 
 abbrev pub RekeyIs : Files → List ℕ → List ℕ → Result Outcome Refusal → Type 0
 RekeyIs files archive spec r = Opens files archive (RekeysFrom files archive spec) r

@@ -1,11 +1,12 @@
 -- What `stats` does: it writes how much an archive holds.
-use Rattle.std.specs.Prelude.{◌≡◌, ℕ, List, ◌++◌, codes, decimal, Result, Ok}
+use Rattle.std.specs.Prelude.{◌≡◌, ℕ, ◌+◌, List, ◌++◌, length, codes, decimal, Result, Ok}
 use Rattle.xa_outside.specs.Folder.{Files}
 use Rattle.key_spec.specs.Data.{PlainRule}
 use Rattle.keyed_tree.specs.Data.{PlainKeyed}
 use Rattle.archive_tree.specs.Data.{PlainArchive}
 use Rattle.archive_tree.specs.Stands.{ArchiveOf}
 use Rattle.archive_stats.specs.Counts.{PlainCounts, counts}
+use Rattle.version_notes.specs.Notes.{notes_part}
 use Rattle.xarch_words.specs.Refusal.{Refusal}
 use Rattle.xarch_parts.specs.Archives.{Opens}
 use Rattle.xarch_parts.specs.Outcome.{Outcome}
@@ -26,11 +27,19 @@ sizes_text c = count_line (codes "stamps ") c.stamps ++ count_line (codes "large
 unfoldable pub counts_text : PlainCounts → List ℕ
 counts_text c = nodes_text c ++ sizes_text c
 
--- the counts of the archive of these versions are written
-pub record CountsFrom (files : Files) (rules : List PlainRule) (vs : List PlainKeyed) (r : Result Outcome Refusal) : Type 0 where
+-- the same counts of a file of so many bytes
+abbrev pub of_size : ℕ → PlainCounts → PlainCounts
+of_size size c = record { versions = c.versions; inner = c.inner; leaves = c.leaves; alternatives = c.alternatives; stamps = c.stamps; largest = c.largest; bytes = size }
+
+-- The counts of an archive with these notes, which count among its bytes. The longest record is one of the archive.
+abbrev pub noted_counts : List PlainRule → PlainArchive → List (List ℕ) → PlainCounts
+noted_counts rules a notes = of_size ((counts rules a).bytes + length (notes_part notes)) (counts rules a)
+
+-- the counts of the archive of these versions and notes are written
+pub record CountsFrom (files : Files) (rules : List PlainRule) (vs : List PlainKeyed) (notes : List (List ℕ)) (r : Result Outcome Refusal) : Type 0 where
   pub archive : PlainArchive
   pub of : ArchiveOf vs archive
-  pub is : r ≡ Ok (record { files = files; output = counts_text (counts rules archive) })
+  pub is : r ≡ Ok (record { files = files; output = counts_text (noted_counts rules archive notes) })
 
 abbrev pub StatsIs : Files → List ℕ → Result Outcome Refusal → Type 0
 StatsIs files archive r = Opens files archive (CountsFrom files) r

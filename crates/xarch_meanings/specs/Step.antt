@@ -1,7 +1,7 @@
 -- What the words have the program do.
 use Rattle.std.specs.Prelude.{◌≡◌, ℕ, List, Option, Some, None, Result, Err}
 use Rattle.xa_outside.specs.Folder.{Files}
-use Rattle.xarch_words.specs.Commands.{PlainCommand, norm, init, add, rekey, get, history, check, stats, batch, demo, command_of}
+use Rattle.xarch_words.specs.Commands.{PlainCommand, norm, init, add, rekey, get, history, check, stats, versions, batch, demo, command_of}
 use Rattle.xarch_words.specs.Refusal.{Refusal, usage}
 use Rattle.xarch_meanings.specs.Add.{AddIs}
 use Rattle.xarch_meanings.specs.Check.{CheckIs}
@@ -13,17 +13,19 @@ use Rattle.xarch_meanings.specs.Norm.{norm_of}
 use Rattle.xarch_meanings.specs.Rekey.{RekeyIs}
 use Rattle.xarch_parts.specs.Outcome.{Outcome, Step, step_from}
 use Rattle.xarch_meanings.specs.Stats.{StatsIs}
+use Rattle.xarch_meanings.specs.Versions.{VersionsIs}
 
 -- What a command does to these files. It is defined where the archive that it names is absent or sound, and `check` always.
 unfoldable pub OutcomeIs : Files → PlainCommand → Result Outcome Refusal → Type 0
 OutcomeIs files (norm spec doc) r = r ≡ norm_of files spec doc
 OutcomeIs files (init archive spec) r = InitIs files archive spec r
-OutcomeIs files (add archive doc) r = AddIs files archive doc r
+OutcomeIs files (add archive doc note) r = AddIs files archive doc note r
 OutcomeIs files (rekey archive spec) r = RekeyIs files archive spec r
 OutcomeIs files (get archive i) r = GetIs files archive i r
 OutcomeIs files (history archive path) r = HistoryIs files archive path r
 OutcomeIs files (check archive) r = CheckIs files archive r
 OutcomeIs files (stats archive) r = StatsIs files archive r
+OutcomeIs files (versions archive) r = VersionsIs files archive r
 OutcomeIs files batch r = r ≡ Err usage
 OutcomeIs files (demo seed count archive) r = DemoIs files seed count archive r
 

@@ -7,10 +7,10 @@ use Rattle.archive_tree.specs.Stands.{version_of}
 use Rattle.archive_rekey.specs.Rekeyed.{AreRekeyed}
 use Rattle.record_format.specs.Files.{FileOf}
 use Rattle.xarch_gen.specs.Company.{company_rules}
-use Rattle.xarch_words.specs.Commands.{PlainCommand, norm, init, add, rekey, get, history, check, stats, batch, demo}
+use Rattle.xarch_words.specs.Commands.{PlainCommand, norm, init, add, rekey, get, history, check, stats, versions, batch, demo}
 use Rattle.xarch_words.specs.Refusal.{Refusal}
 use Rattle.xarch_meanings.specs.Add.{added}
-use Rattle.xarch_parts.specs.Archives.{ArchiveIs}
+use Rattle.xarch_parts.specs.Archives.{ArchiveIs, short_note}
 use Rattle.xarch_meanings.specs.Demo.{demo_input, samples}
 use Rattle.xarch_meanings.specs.History.{labels_of}
 use Rattle.xarch_meanings.specs.Init.{init_rules}
@@ -30,14 +30,16 @@ pub record CanInit (files : Files) (name spec : List ℕ) : Type 0 where
   pub specified : init_rules files name spec ≡ Ok rules
   pub file : FileOf rules [] bytes
 
--- The archive is sound. The document is there, short enough, a document, and satisfies the archive's keys; there is room for
--- a version more, and the versions with it have a file.
-pub record CanAdd (files : Files) (name doc : List ℕ) : Type 0 where
+-- The archive is sound. The document is there, short enough, a document, and satisfies the archive's keys; its note is short
+-- enough; there is room for a version more, and the versions with it have a file.
+pub record CanAdd (files : Files) (name doc note : List ℕ) : Type 0 where
   pub rules : List PlainRule
   pub versions : List PlainKeyed
+  pub notes : List (List ℕ)
+  pub short : short_note note ≡ Ok tt
   pub tree : PlainKeyed
   pub bytes : List ℕ
-  pub archive : ArchiveIs files name rules versions
+  pub archive : ArchiveIs files name rules versions notes
   pub keyed : added files doc rules (length versions) ≡ Ok tree
   pub file : FileOf rules (versions ++ tree ∷ []) bytes
 
@@ -46,10 +48,11 @@ pub record CanAdd (files : Files) (name doc : List ℕ) : Type 0 where
 pub record CanRekey (files : Files) (name spec : List ℕ) : Type 0 where
   pub old : List PlainRule
   pub versions : List PlainKeyed
+  pub notes : List (List ℕ)
   pub rules : List PlainRule
   pub under : List PlainKeyed
   pub bytes : List ℕ
-  pub archive : ArchiveIs files name old versions
+  pub archive : ArchiveIs files name old versions notes
   pub specified : rekey_rules files name spec ≡ Ok rules
   pub satisfied : AreRekeyed rules versions under
   pub file : FileOf rules under bytes
@@ -58,23 +61,26 @@ pub record CanRekey (files : Files) (name spec : List ℕ) : Type 0 where
 pub record CanGet (files : Files) (name : List ℕ) (i : ℕ) : Type 0 where
   pub rules : List PlainRule
   pub versions : List PlainKeyed
+  pub notes : List (List ℕ)
   pub tree : PlainKeyed
-  pub archive : ArchiveIs files name rules versions
+  pub archive : ArchiveIs files name rules versions notes
   pub there : version_of versions i ≡ Some tree
 
 -- the archive is sound, and the path spells labels under its rules
 pub record CanTell (files : Files) (name path : List ℕ) : Type 0 where
   pub rules : List PlainRule
   pub versions : List PlainKeyed
+  pub notes : List (List ℕ)
   pub labels : List PlainLabel
-  pub archive : ArchiveIs files name rules versions
+  pub archive : ArchiveIs files name rules versions notes
   pub spelled : labels_of rules path ≡ Ok labels
 
 -- the archive is sound
 pub record HasArchive (files : Files) (name : List ℕ) : Type 0 where
   pub rules : List PlainRule
   pub versions : List PlainKeyed
-  pub archive : ArchiveIs files name rules versions
+  pub notes : List (List ℕ)
+  pub archive : ArchiveIs files name rules versions notes
 
 -- there are not too many documents, the archive's name is free, and the documents have a file
 pub record CanDemo (files : Files) (seed count : ℕ) (name : List ℕ) : Type 0 where
@@ -86,11 +92,12 @@ pub record CanDemo (files : Files) (seed count : ℕ) (name : List ℕ) : Type 0
 unfoldable pub ShouldSucceed : Files → PlainCommand → Type 0
 ShouldSucceed files (norm spec doc) = HasValue (norm_of files spec doc)
 ShouldSucceed files (init name spec) = CanInit files name spec
-ShouldSucceed files (add name doc) = CanAdd files name doc
+ShouldSucceed files (add name doc note) = CanAdd files name doc note
 ShouldSucceed files (rekey name spec) = CanRekey files name spec
 ShouldSucceed files (get name i) = CanGet files name i
 ShouldSucceed files (history name path) = CanTell files name path
 ShouldSucceed files (check name) = HasArchive files name
 ShouldSucceed files (stats name) = HasArchive files name
+ShouldSucceed files (versions name) = HasArchive files name
 ShouldSucceed files batch = ⊥
 ShouldSucceed files (demo seed count name) = CanDemo files seed count name

@@ -1,5 +1,5 @@
 -- What is read of an archive before its first record.
-use Rattle.std.proofs.Common.{◌≡◌, ℕ, ◌+◌, ◌≤◌, List, ◌++◌, length, drop, Option, Some, Ok, sym, ap, ◌∙◌, subst, arith}
+use Rattle.std.proofs.Common.{◌≡◌, ℕ, ◌+◌, ◌≤◌, List, ◌++◌, length, drop, Option, Some, sym, ap, ◌∙◌, subst, arith}
 use Rattle.std.specs.FinMap as map
 use Rattle.std.specs.List.{flat_map}
 use Rattle.std.proofs.lemmas.List.{length-append}
@@ -14,22 +14,21 @@ use Rattle.record_cursor.specs.Moves.{TellsFront}
 use Rattle.record_format.specs.Files.{HasFile, header_bytes, file_bytes, file_records, tail_bytes}
 use Rattle.record_format.specs.Spelling.{rec_bytes}
 use Rattle.record_format.specs.Fronts.{header_at}
-use Rattle.xarch_parts.specs.Archives.{ArchiveIs}
-use Rattle.xarch_parts.specs.Inputs.{file_length}
-use Rattle.xarch_parts.specs.InputLaws.{length-is, whole_front}
+use Rattle.archive_file.specs.Sound.{SoundAs}
+use Rattle.xarch_parts.specs.Archives.{CoreIs}
+use Rattle.xarch_parts.specs.CoreLaws.{core-length, core-told}
 
 -- From what is known of all archive files: their header stands in front.
 module _ (stands : (rules : List PlainRule) (a : PlainArchive) → closed (canonical rules) ≡ Ok rules → HasFile rules a → header_at (file_bytes rules a) ≡ Some ((rules, a.n), drop (length (header_bytes rules a.n)) (file_bytes rules a)))
     (told : Option Files) (files : Files) (name : List ℕ) (size : ℕ) (rules : List PlainRule) (vs : List PlainKeyed) (x y : Numbers) where
-  pub few-over : told ≡ Some files → file_length files name ≡ Ok size → ArchiveIs files name rules vs
+  pub few-over : (core : List ℕ) → told ≡ Some files → CoreIs files name size core → SoundAs rules vs core
       → ((bytes : List ℕ) (rules : List PlainRule) (n first : ℕ) → TellsFront told name size bytes → header_at bytes ≡ Some ((rules, n), drop first bytes) → first ≤ size → PullsAtMost first x y)
       → PullsAtMost (length (header_bytes rules (length vs))) x y
-  few-over tells long a only =
-      let f = a.sound.file in
-      let size-is = length-is files name a.bytes size a.there long in
-      let whole = whole_front files name a.bytes size a.there size-is in
+  few-over core tells is sound only =
+      let f = sound.file in
+      let size-is = core-length files name size core is in
       let count : length vs ≡ f.archive.n = f.is.count in
       let head = length (header_bytes rules f.archive.n) in
-      let at : header_at a.bytes ≡ Some ((rules, f.archive.n), drop head a.bytes) = ap header_at f.spelled ∙ stands rules f.archive a.sound.specification f.has ∙ ap (λ z. Some ((rules, f.archive.n), drop head z)) (sym f.spelled) in
+      let at : header_at core ≡ Some ((rules, f.archive.n), drop head core) = ap header_at f.spelled ∙ stands rules f.archive sound.specification f.has ∙ ap (λ z. Some ((rules, f.archive.n), drop head z)) (sym f.spelled) in
       let within : head ≤ size = (let s = ap length f.spelled in let b = length-append (header_bytes rules f.archive.n) (flat_map rec_bytes (file_records f.archive) ++ tail_bytes f.archive) in omega (arith, size-is, s, b)) in
-      subst (λ n. PullsAtMost (length (header_bytes rules n)) x y) (sym count) (only a.bytes rules f.archive.n head (files, tells, whole) at within)
+      subst (λ n. PullsAtMost (length (header_bytes rules n)) x y) (sym count) (only core rules f.archive.n head (core-told files told name size core tells is) at within)

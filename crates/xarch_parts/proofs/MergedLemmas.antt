@@ -1,5 +1,5 @@
 -- The file of versions that are keyed by one specification.
-use Rattle.std.proofs.Common.{◌≡◌, ◌≢◌, ℕ, ◌≤◌, List, [], ◌∷◌, map, length, Some, Result, Ok, Err, IfOk, IfErr, Vec, Global, ap, sym, ◌∙◌, subst}
+use Rattle.std.proofs.Common.{◌≡◌, ◌≢◌, ℕ, ◌≤◌, List, [], ◌∷◌, ◌++◌, map, length, Some, Result, Ok, Err, IfOk, IfErr, Vec, Global, ap, sym, ◌∙◌, subst}
 use Rattle.std.proofs.lemmas.List.{length-map}
 use Rattle.std.specs.FinMap as finite
 use Rattle.std.specs.List.{AllByRecursion}
@@ -13,6 +13,7 @@ use Rattle.archive_file.specs.Faults.{IfTooLong}
 use Rattle.archive_file.specs.KeyedBy.{AreKeyedBy}
 use Rattle.archive_file.specs.declared.fault.EncodeFault.{EncodeFault}
 use Rattle.archive_file.specs.declared.fault.EncodeFault.TheVariants.{TooLong, Memory}
+use Rattle.version_notes.specs.Notes.{notes_part}
 use Rattle.xarch_parts.specs.Archives.{ArchiveIs}
 
 -- what holds of each that is one holds of all
@@ -49,13 +50,13 @@ module _ (rules : List PlainRule) (vs : List PlainKeyed) where
     none_of_archive (Err Memory) h = tt
 
   -- where a folder has an archive of them, its file is this one
-  module _ (files : Files) (name : List ℕ) (there : ArchiveIs files name rules vs) where
+  module _ (files : Files) (name : List ℕ) (notes : List (List ℕ)) (there : ArchiveIs files name rules vs notes) where
     pub held_there : ((rules : List PlainRule) (vs : List PlainKeyed) (a b : List ℕ) → FileOf rules vs a → FileOf rules vs b → a ≡ b)
-        → (r : Result (Vec ℕ Global) EncodeFault) → IsFile r → IfOk r (λ v. finite.get files name ≡ Some v.items)
-    held_there one (Ok v) h = there.there ∙ ap (λ b. Some b) (one rules vs there.bytes v.items there.sound.file h)
+        → (r : Result (Vec ℕ Global) EncodeFault) → IsFile r → IfOk r (λ v. finite.get files name ≡ Some (v.items ++ notes_part notes))
+    held_there one (Ok v) h = there.there ∙ ap (λ b. Some b) (there.full.spelled ∙ ap (λ (core : List ℕ). core ++ notes_part notes) (one rules vs there.full.core v.items there.full.is.file h))
     held_there one (Err e) h = tt
 
     pub fits_there : (r : Result (Vec ℕ Global) EncodeFault) → IsRefused r → IfErr r (λ e. e ≢ TooLong)
     fits_there (Ok v) h = tt
-    fits_there (Err TooLong) h = absurd (h there.bytes there.sound.file)
+    fits_there (Err TooLong) h = absurd (h there.full.core there.full.is.file)
     fits_there (Err Memory) h = λ e. cc

@@ -1,5 +1,5 @@
 -- The archive that a file holds.
-use Rattle.std.specs.Prelude.{◌≡◌, ◌⊎◌, ℕ, List, [], length, drop, Option, Some, None, Result, Ok, Err}
+use Rattle.std.specs.Prelude.{◌≡◌, ◌⊎◌, ℕ, List, [], length, take, drop, nat_le, Option, Some, None, Result, Ok, Err, if◌then◌else◌}
 use Rattle.std.specs.FinMap as map
 use Rattle.xa_outside.specs.Folder.{Files}
 use Rattle.key_spec.specs.Data.{PlainRule}
@@ -7,22 +7,38 @@ use Rattle.keyed_tree.specs.Data.{PlainKeyed}
 use Rattle.record_cursor.specs.View.{PlainHeader}
 use Rattle.record_format.specs.Files.{FileOf}
 use Rattle.record_format.specs.Fronts.{header_at}
-use Rattle.archive_file.specs.Sound.{SoundAs}
-use Rattle.xarch_words.specs.Refusal.{Refusal, no_file, exists, archive, limit, PlainFault, refused}
+use Rattle.version_notes.specs.Parts.{parts_in}
+use Rattle.version_notes.specs.declared.parts.Parts.{Parts}
+use Rattle.noted_file.specs.Full.{FullAs}
+use Rattle.xarch_words.specs.Refusal.{Refusal, no_file, exists, archive, note, limit, PlainFault, refused}
 use Rattle.xarch_parts.specs.Outcome.{Outcome}
 
--- the file of this name is the sound archive of these versions under these rules
-pub record ArchiveIs (files : Files) (name : List ℕ) (rules : List PlainRule) (vs : List PlainKeyed) : Type 0 where
+-- the file of this name is the sound archive of these versions under these rules, with these notes
+pub record ArchiveIs (files : Files) (name : List ℕ) (rules : List PlainRule) (vs : List PlainKeyed) (notes : List (List ℕ)) : Type 0 where
   pub bytes : List ℕ
   pub there : map.get files name ≡ Some bytes
-  pub sound : SoundAs rules vs bytes
+  pub full : FullAs rules vs notes bytes
 
--- the header stands in front of the file of this name, whose length it knows
-pub record IsFrontOf (files : Files) (name : List ℕ) (h : PlainHeader) : Type 0 where
+-- the file of this name has these parts
+pub record PartsAre (files : Files) (name : List ℕ) (parts : Parts) : Type 0 where
   pub bytes : List ℕ
   pub there : map.get files name ≡ Some bytes
-  pub long : h.length ≡ length bytes
-  pub is : header_at bytes ≡ Some ((h.rules, h.versions), drop h.first bytes)
+  pub are : parts_in bytes ≡ Some parts
+
+-- so many bytes of the file of this name stand before its notes, and are these
+pub record CoreIs (files : Files) (name : List ℕ) (size : ℕ) (core : List ℕ) : Type 0 where
+  pub bytes : List ℕ
+  pub there : map.get files name ≡ Some bytes
+  pub parts : Parts
+  pub are : parts_in bytes ≡ Some parts
+  pub long : parts.core ≡ size
+  pub is : core ≡ take size bytes
+
+-- the header stands in front of the file of this name, and knows how many bytes stand before the notes
+pub record IsFrontOf (files : Files) (name : List ℕ) (h : PlainHeader) : Type 0 where
+  pub core : List ℕ
+  pub of : CoreIs files name h.length core
+  pub is : header_at core ≡ Some ((h.rules, h.versions), drop h.first core)
 
 -- where the draft is told, it is empty
 abbrev pub IsBlank : Option (List ℕ) → Type 0
@@ -48,10 +64,14 @@ free_in files name = unless_there name (map.get files name)
     unless_there name None = Ok tt
     unless_there name (Some bytes) = Err (exists name)
 
--- The file of these versions comes under the name. It is a sound archive.
-pub record Stored (files : Files) (name : List ℕ) (rules : List PlainRule) (vs : List PlainKeyed) (r : Result Outcome Refusal) : Type 0 where
+-- the note is not longer than a note may be
+abbrev pub short_note : List ℕ → Result Unit Refusal
+short_note text = if nat_le (length text) 1024 then Ok tt else Err (limit note 1024)
+
+-- The file of these versions and notes comes under the name. It is a sound archive.
+pub record Stored (files : Files) (name : List ℕ) (rules : List PlainRule) (vs : List PlainKeyed) (notes : List (List ℕ)) (r : Result Outcome Refusal) : Type 0 where
   pub bytes : List ℕ
-  pub sound : SoundAs rules vs bytes
+  pub full : FullAs rules vs notes bytes
   pub is : r ≡ Ok (record { files = map.insert files name bytes; output = [] })
 
 -- no file can hold these versions
@@ -59,25 +79,26 @@ pub record TooLong (rules : List PlainRule) (vs : List PlainKeyed) (r : Result O
   pub none : (bytes : List ℕ) → ¬ FileOf rules vs bytes
   pub is : r ≡ Err (limit archive 274877906944)
 
--- the archive file of these versions comes under the name, where there is one
-abbrev pub Stores : Files → List ℕ → List PlainRule → List PlainKeyed → Result Outcome Refusal → Type 0
-Stores files name rules vs r = Stored files name rules vs r ⊎ TooLong rules vs r
+-- the archive file of these versions and notes comes under the name, where there is one
+abbrev pub Stores : Files → List ℕ → List PlainRule → List PlainKeyed → List (List ℕ) → Result Outcome Refusal → Type 0
+Stores files name rules vs notes r = Stored files name rules vs notes r ⊎ TooLong rules vs r
 
 -- go on with the value, or stay refused
 abbrev pub GoesOn : {A : Type 0} → Result A Refusal → (A → Result Outcome Refusal → Type 0) → Result Outcome Refusal → Type 0
 GoesOn (Ok x) P r = P x r
 GoesOn (Err e) P r = r ≡ Err e
 
--- the archive of this name is not there, or it is sound, and then the rest is said of its rules and versions
+-- the archive of this name is not there, or it is sound, and then the rest is said of its rules, versions and notes
 pub record Missing (files : Files) (name : List ℕ) (r : Result Outcome Refusal) : Type 0 where
   pub absent : map.get files name ≡ None
   pub is : r ≡ Err (no_file name)
 
-pub record Opened (files : Files) (name : List ℕ) (P : List PlainRule → List PlainKeyed → Result Outcome Refusal → Type 0) (r : Result Outcome Refusal) : Type 0 where
+pub record Opened (files : Files) (name : List ℕ) (P : List PlainRule → List PlainKeyed → List (List ℕ) → Result Outcome Refusal → Type 0) (r : Result Outcome Refusal) : Type 0 where
   pub rules : List PlainRule
   pub versions : List PlainKeyed
-  pub archive : ArchiveIs files name rules versions
-  pub rest : P rules versions r
+  pub notes : List (List ℕ)
+  pub archive : ArchiveIs files name rules versions notes
+  pub rest : P rules versions notes r
 
-abbrev pub Opens : Files → List ℕ → (List PlainRule → List PlainKeyed → Result Outcome Refusal → Type 0) → Result Outcome Refusal → Type 0
+abbrev pub Opens : Files → List ℕ → (List PlainRule → List PlainKeyed → List (List ℕ) → Result Outcome Refusal → Type 0) → Result Outcome Refusal → Type 0
 Opens files name P r = Missing files name r ⊎ Opened files name P r

@@ -7,5 +7,7 @@ pub mod EndLaws
 pub mod Folders
 pub mod FolderLaws
 pub mod InputLaws
+pub mod CoreLaws
+pub mod Noted
 pub mod Allowed
 pub mod AllowedLaws

@@ -1,5 +1,5 @@
 -- What the bytes of input files are read as.
-use Rattle.std.specs.Prelude.{ℕ, List, Option, Some, None, Result, Ok, Err}
+use Rattle.std.specs.Prelude.{ℕ, List, take, Option, Some, None, Result, Ok, Err}
 use Rattle.jsonml_tree.specs.Data.{PlainTree}
 use Rattle.jsonml_text.specs.Document as document
 use Rattle.keyed_tree.specs.Data.{PlainKeyed}
@@ -8,8 +8,10 @@ use Rattle.key_spec.specs.Data.{PlainRule, PlainSpecFault}
 use Rattle.key_rules.specs.Faults.{PlainKeyFault, first_fault}
 use Rattle.key_annotate.specs.Annotated.{keyed_tree}
 use Rattle.record_format.specs.Fronts.{header}
+use Rattle.version_notes.specs.Parts.{parts_in}
+use Rattle.version_notes.specs.declared.parts.Parts.{Parts}
 use Rattle.xarch_words.specs.Refusal.{depth, Refusal, bad_spec, bad_json, bad_shape, key_fault, damaged, limit}
-use Rattle.xarch_parts.specs.Outcome.{or_refuse}
+use Rattle.xarch_parts.specs.Outcome.{and_then, or_refuse}
 
 -- the value, or what its fault is refused as
 abbrev pub refused_as : {A E : Type 0} → (E → Refusal) → Result A E → Result A Refusal
@@ -41,6 +43,18 @@ unless_faulty (Some f) k = Err (key_fault f)
 unfoldable pub keyed_of : List PlainRule → PlainTree → Result PlainKeyed Refusal
 keyed_of rules t = unless_faulty (first_fault rules t) (keyed_tree rules t)
 
--- the rules and the number of versions that stand in front of the archive of this name
+-- how many bytes of the archive of this name stand before its notes, and how many its notes have
+abbrev pub parts_of : List ℕ → List ℕ → Result Parts Refusal
+parts_of name bytes = or_refuse (parts_in bytes) (damaged name)
+
+-- the bytes before the notes
+abbrev pub core_in : List ℕ → List ℕ → Result (List ℕ) Refusal
+core_in name bytes = and_then (parts_of name bytes) (λ parts. Ok (take parts.core bytes))
+
+-- the rules and the number of versions that stand in front of such bytes
+abbrev pub front_of_core : List ℕ → List ℕ → Result (List PlainRule × ℕ) Refusal
+front_of_core name core = or_refuse (header core) (damaged name)
+
+-- those that stand in front of the archive of this name
 abbrev pub front_in : List ℕ → List ℕ → Result (List PlainRule × ℕ) Refusal
-front_in name bytes = or_refuse (header bytes) (damaged name)
+front_in name bytes = and_then (core_in name bytes) (front_of_core name)

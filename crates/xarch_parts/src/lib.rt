@@ -12,9 +12,9 @@ mod put;
 mod readings;
 
 pub use archives::{begin, check_free, commit, draft, file_from, store};
-pub use fronts::read_front;
+pub use fronts::{Front, read_front, read_parts};
 pub use inputs::{at_most, length_of, limited_length, read_whole};
 pub use merged::file_of_versions;
-pub use names::damaged;
+pub use names::{damaged, notes_fault};
 pub use put::{write_bytes, write_keyed};
 pub use readings::{doc_from, keyed_from, read_spec};

@@ -1,5 +1,5 @@
 // The file of versions that are merged in memory.
-ghost use Rattle.std.specs.Prelude.{◌≡◌, ◌≢◌, ◌≤◌, ℕ, List, Some, IfOk, IfErr, map, length};
+ghost use Rattle.std.specs.Prelude.{◌≡◌, ◌≢◌, ◌≤◌, ◌++◌, ℕ, List, Some, IfOk, IfErr, map, length};
 ghost use Rattle.std.specs.FinMap as finite;
 ghost use Rattle.xa_outside.specs.Folder.{Files};
 ghost use Rattle.key_spec.specs.View.{spec_view};
@@ -8,6 +8,7 @@ ghost use Rattle.record_format.specs.Files.{FileOf};
 ghost use Rattle.archive_file.specs.Faults.{IfTooLong};
 ghost use Rattle.archive_file.specs.KeyedBy.{AreKeyedBy};
 ghost use Rattle.archive_file.specs.declared.fault.EncodeFault.TheVariants.{TooLong};
+ghost use Rattle.version_notes.specs.Notes.{notes_part};
 ghost use Rattle.xarch_parts.specs.Archives.{ArchiveIs};
 
 use archive_file::{EncodeFault, encode_file, keyed_versions_can_be_merged};
@@ -37,14 +38,15 @@ pub fn file_of_versions(
         (λ e. IfTooLong e ((bytes : List ℕ)
         → ¬ FileOf (spec_view spec.now) (map keyed_view versions.now) bytes)) }
 
-    // In any folder, the file of an archive of these versions has exactly these bytes.
-    ensures held { (files : Files) (name : List ℕ)
-        → ArchiveIs files name (spec_view spec.now) (map keyed_view versions.now)
-        → IfOk result (λ v. finite.get files name ≡ Some v.items) }
+    // In any folder, the file of an archive of these versions and some notes has exactly these bytes,
+    // and behind them those of the notes.
+    ensures held { (files : Files) (name : List ℕ) (notes : List (List ℕ))
+        → ArchiveIs files name (spec_view spec.now) (map keyed_view versions.now) notes
+        → IfOk result (λ v. finite.get files name ≡ Some (v.items ++ notes_part notes)) }
 
     // Where a folder has such an archive, the answer is never TooLong.
-    ensures fits { (files : Files) (name : List ℕ)
-        → ArchiveIs files name (spec_view spec.now) (map keyed_view versions.now)
+    ensures fits { (files : Files) (name : List ℕ) (notes : List (List ℕ))
+        → ArchiveIs files name (spec_view spec.now) (map keyed_view versions.now) notes
         → IfErr result (λ e. e ≢ TooLong) }
 {
     // Laws: for the proof of `held`, and for what the two calls require.

@@ -6,8 +6,10 @@ ghost use Rattle.xarch_words.specs.Refusal as refusal;
 ghost use Rattle.xarch_words.specs.View.{fault_view};
 ghost use Rattle.xarch_parts.specs.Archives.{IsRefusal};
 ghost use Rattle.xarch_parts.specs.Ends.{IsInside};
+ghost use Rattle.xarch_parts.specs.Noted.{IsOfNotes};
 
 use std::alloc::Global;
+use version_notes::NotesFault;
 use xarch_words::Fault;
 
 /// The fault that a file of this name is not there.
@@ -40,5 +42,16 @@ pub fn damaged(alloc: Global, name: &str) -> Fault
     match String::from_str(alloc, name) {
         Ok(name) => Fault::Damaged { name },
         Err(_) => Fault::Memory,
+    }
+}
+
+/// The fault that befell the notes of the archive of this name.
+pub fn notes_fault(alloc: Global, name: &str, fault: NotesFault) -> Fault
+    ensures { IsOfNotes name.now fault (fault_view result) }
+{
+    match fault {
+        NotesFault::Damage => damaged(alloc, name),
+        NotesFault::Folder => Fault::FolderFault,
+        NotesFault::Memory => Fault::Memory,
     }
 }

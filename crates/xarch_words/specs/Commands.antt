@@ -3,6 +3,7 @@ use Rattle.std.specs.Prelude.{ℕ, List, [], ◌∷◌, Option, Some, None, code
 use Rattle.std.specs.Fmt.{decimal}
 use Rattle.std.specs.Str.{bytes_eq}
 use Rattle.std.specs.Str.Parse.{digits_value}
+use Rattle.version_notes.specs.Notes.{is_printed}
 
 -- a command, with the names that its words give
 pub data PlainCommand : Type 0 where
@@ -10,8 +11,8 @@ pub data PlainCommand : Type 0 where
   norm : List ℕ → List ℕ → PlainCommand
   -- the archive and the specification
   init : List ℕ → List ℕ → PlainCommand
-  -- the archive and the document
-  add : List ℕ → List ℕ → PlainCommand
+  -- the archive, the document, and the note, which is empty where none is given
+  add : List ℕ → List ℕ → List ℕ → PlainCommand
   -- the archive and the specification
   rekey : List ℕ → List ℕ → PlainCommand
   -- the archive and the number of a version
@@ -22,6 +23,8 @@ pub data PlainCommand : Type 0 where
   check : List ℕ → PlainCommand
   -- the archive
   stats : List ℕ → PlainCommand
+  -- the archive
+  versions : List ℕ → PlainCommand
   -- the commands that the input spells
   batch : PlainCommand
   -- the seed, the number of versions, and the archive
@@ -38,7 +41,8 @@ abbrev pub command_of_two : List ℕ → List ℕ → Option PlainCommand
 command_of_two word archive =
     if bytes_eq word (codes "check") then Some (check archive)
     else (if bytes_eq word (codes "stats") then Some (stats archive)
-    else None)
+    else (if bytes_eq word (codes "versions") then Some (versions archive)
+    else None))
 
 -- what a command reads from an archive
 unfoldable pub question_of : List ℕ → List ℕ → List ℕ → Option PlainCommand
@@ -51,7 +55,7 @@ unfoldable pub command_of_three : List ℕ → List ℕ → List ℕ → Option 
 command_of_three word first second =
     if bytes_eq word (codes "norm") then Some (norm first second)
     else (if bytes_eq word (codes "init") then Some (init first second)
-    else (if bytes_eq word (codes "add") then Some (add first second)
+    else (if bytes_eq word (codes "add") then Some (add first second [])
     else (if bytes_eq word (codes "rekey") then Some (rekey first second)
     else question_of word first second)))
 
@@ -59,8 +63,15 @@ command_of_three word first second =
 abbrev pub demo_of : List ℕ → List ℕ → List ℕ → Option PlainCommand
 demo_of seed count archive = option_and_then (λ s. option_map (λ c. demo s c archive) (number_of count)) (number_of seed)
 
+-- a document with a note, in which no byte is below 20 hexadecimal
+abbrev pub noted : List ℕ → List ℕ → List ℕ → Option PlainCommand
+noted archive doc note = if is_printed note then Some (add archive doc note) else None
+
 abbrev pub command_of_four : List ℕ → List ℕ → List ℕ → List ℕ → Option PlainCommand
-command_of_four word seed count archive = if bytes_eq word (codes "demo") then demo_of seed count archive else None
+command_of_four word first second third =
+    if bytes_eq word (codes "add") then noted first second third
+    else (if bytes_eq word (codes "demo") then demo_of first second third
+    else None)
 
 -- the command that the words spell, if any
 abbrev pub command_of : List (List ℕ) → Option PlainCommand

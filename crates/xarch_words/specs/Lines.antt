@@ -4,7 +4,7 @@ use Rattle.std.specs.Fmt.{decimal}
 use Rattle.std.specs.List.{flat_map}
 use Rattle.key_spec.specs.Data.{PlainPath}
 use Rattle.key_spec.specs.Names.{path_text}
-use Rattle.xarch_words.specs.Refusal.{PlainQuantity, document, depth, versions, specification, archive, line, batch, demo, Refusal, usage, no_file, exists, bad_spec, bad_json, bad_shape, key_fault, key_fault_in, no_version, bad_path, damaged, limit, PlainFault, refused, folder_fault, out_fault, in_fault, memory}
+use Rattle.xarch_words.specs.Refusal.{PlainQuantity, document, depth, versions, specification, archive, line, batch, demo, note, Refusal, usage, no_file, exists, bad_spec, bad_json, bad_shape, key_fault, key_fault_in, no_version, bad_path, damaged, limit, PlainFault, refused, folder_fault, out_fault, in_fault, memory}
 
 abbrev pub refusal_status : Refusal → ℕ
 refusal_status usage = 2
@@ -52,6 +52,7 @@ quantity_text archive = codes "archive "
 quantity_text line = codes "line "
 quantity_text batch = codes "batch "
 quantity_text demo = codes "demo "
+quantity_text note = codes "note "
 
 unfoldable pub no_version_text : ℕ → ℕ → List ℕ
 no_version_text i n = codes "no version " ++ decimal i ++ (codes " of " ++ decimal n)

@@ -12,6 +12,7 @@ pub data PlainQuantity : Type 0 where
   line : PlainQuantity
   batch : PlainQuantity
   demo : PlainQuantity
+  note : PlainQuantity
 
 -- A refusal is an answer of the command itself: the words and the files alone say when it comes.
 pub data Refusal : Type 0 where

@@ -1,18 +1,19 @@
 -- The plain data that each value stands for.
-use Rattle.std.specs.Prelude.{ℕ, List, map, String, string_bytes}
+use Rattle.std.specs.Prelude.{ℕ, List, [], Some, None, map, String, string_bytes}
 use Rattle.std.specs.declared.alloc.Global.{Global}
 use Rattle.jsonml_tree.specs.View.{place_view}
 use Rattle.key_rules.specs.View as keys
 use Rattle.xarch_words.specs.Commands as commands
-use Rattle.xarch_words.specs.Commands.{PlainCommand, norm, init, add, rekey, get, history, check, stats}
-use Rattle.xarch_words.specs.Refusal.{PlainQuantity, document, depth, versions, specification, archive, line, batch, demo, usage, no_file, exists, bad_spec, bad_json, bad_shape, key_fault, key_fault_in, no_version, bad_path, damaged, limit, PlainFault, refused, folder_fault, out_fault, in_fault, memory}
+use Rattle.xarch_words.specs.Commands.{PlainCommand, norm, init, add, rekey, get, history, check, stats, versions}
+use Rattle.xarch_words.specs.Refusal as refusals
+use Rattle.xarch_words.specs.Refusal.{PlainQuantity, document, depth, specification, archive, line, batch, demo, note, usage, no_file, exists, bad_spec, bad_json, bad_shape, key_fault, key_fault_in, no_version, bad_path, damaged, limit, PlainFault, refused, folder_fault, out_fault, in_fault, memory}
 use Rattle.xarch_words.specs.declared.fault.Fault.{Fault}
 use Rattle.xarch_words.specs.declared.fault.Fault.TheVariants.{Usage, NoFile, Exists, BadSpec, BadJson, BadShape, KeyFault, KeyFaultIn, NoVersion, BadPath, Damaged, Limit, FolderFault, OutFault, InFault, Memory}
 use Rattle.xarch_words.specs.declared.fault.Quantity.{Quantity}
 use Rattle.xarch_words.specs.declared.fault.Quantity.TheVariants as quantities
-use Rattle.xarch_words.specs.declared.fault.Quantity.TheVariants.{Document, Depth, Versions, Specification, Archive, Line}
+use Rattle.xarch_words.specs.declared.fault.Quantity.TheVariants.{Document, Depth, Specification, Archive, Line, Note}
 use Rattle.xarch_words.specs.declared.words.Command.{Command}
-use Rattle.xarch_words.specs.declared.words.Command.TheVariants.{Norm, Init, Add, Rekey, Get, History, Check, Stats, Batch, Demo}
+use Rattle.xarch_words.specs.declared.words.Command.TheVariants.{Norm, Init, Add, Rekey, Get, History, Check, Stats, Versions, Batch, Demo}
 
 abbrev pub words_view : List (String Global) → List (List ℕ)
 words_view words = map string_bytes words
@@ -20,24 +21,27 @@ words_view words = map string_bytes words
 abbrev pub command_view : Command → PlainCommand
 command_view (Norm spec doc) = norm spec.now doc.now
 command_view (Init name spec) = init name.now spec.now
-command_view (Add name doc) = add name.now doc.now
+command_view (Add name doc None) = add name.now doc.now []
+command_view (Add name doc (Some note)) = add name.now doc.now note.now
 command_view (Rekey name spec) = rekey name.now spec.now
 command_view (Get name version) = get name.now version
 command_view (History name path) = history name.now path.now
 command_view (Check name) = check name.now
 command_view (Stats name) = stats name.now
+command_view (Versions name) = versions name.now
 command_view Batch = commands.batch
 command_view (Demo seed count name) = commands.demo seed count name.now
 
 abbrev pub quantity_view : Quantity → PlainQuantity
 quantity_view Document = document
 quantity_view Depth = depth
-quantity_view Versions = versions
+quantity_view quantities.Versions = refusals.versions
 quantity_view Specification = specification
 quantity_view Archive = archive
 quantity_view Line = line
 quantity_view quantities.Batch = batch
 quantity_view quantities.Demo = demo
+quantity_view Note = note
 
 abbrev pub fault_view : Fault → PlainFault
 fault_view Usage = refused usage

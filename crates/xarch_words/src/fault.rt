@@ -26,6 +26,8 @@ pub enum Quantity {
     Batch,
     /// The versions that a demonstration makes.
     Demo,
+    /// The bytes of a note.
+    Note,
 }
 
 /// Why a command ends without its answer.

@@ -185,6 +185,7 @@ fn put_limit<E: Sink>(err: &mut E, quantity: Quantity, number: u64) -> Result<()
         Quantity::Line => b"limit line ",
         Quantity::Batch => b"limit batch ",
         Quantity::Demo => b"limit demo ",
+        Quantity::Note => b"limit note ",
     };
     put_number(err, before, number)
 }

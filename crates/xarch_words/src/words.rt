@@ -1,10 +1,11 @@
 ghost use Rattle.std.specs.Prelude.{◌≡◌, option_map};
 ghost use Rattle.xarch_words.specs.Commands.{command_of, command_of_four, command_of_one};
 ghost use Rattle.xarch_words.specs.Commands.{command_of_three, command_of_two, demo_of, get};
-ghost use Rattle.xarch_words.specs.Commands.{number_of, question_of};
+ghost use Rattle.xarch_words.specs.Commands.{noted, number_of, question_of};
 ghost use Rattle.xarch_words.specs.View.{command_view, words_view};
 
 use itoa::Buffer;
+use version_notes::is_printed;
 
 /// One command, with the names that its words give.
 #[derive(Clone, Copy, Debug, PartialEq, Eq)]
@@ -19,10 +20,12 @@ pub enum Command<'a> {
         archive: &'a str,
         spec: &'a str,
     },
-    /// Adds a document to an archive as its next version.
+    /// Adds a document to an archive as its next version, with a note.
     Add {
         archive: &'a str,
         doc: &'a str,
+        /// Without a byte below 20 hexadecimal.
+        note: Option<&'a str>,
     },
     /// Gives an archive the keys of another specification.
     Rekey {
@@ -47,6 +50,10 @@ pub enum Command<'a> {
     Stats {
         archive: &'a str,
     },
+    /// Writes the number of each version of an archive, and its note.
+    Versions {
+        archive: &'a str,
+    },
     /// Runs the commands that the input spells.
     Batch,
     /// Makes an archive of so many generated documents.
@@ -65,7 +72,7 @@ pub fn read_words(words: &[String]) -> Option<Command<'_>>
         [word] => one_word(word),
         [word, archive] => two_words(word, archive),
         [word, first, second] => three_words(word, first, second),
-        [word, seed, count, archive] => four_words(word, seed, count, archive),
+        [word, first, second, third] => four_words(word, first, second, third),
         _ => None,
     }
 }
@@ -85,6 +92,7 @@ fn two_words<'a>(word: &str, archive: &'a str) -> Option<Command<'a>>
     match word {
         "check" => Some(Command::Check { archive }),
         "stats" => Some(Command::Stats { archive }),
+        "versions" => Some(Command::Versions { archive }),
         _ => None,
     }
 }
@@ -105,6 +113,7 @@ fn three_words<'a>(word: &str, first: &'a str, second: &'a str) -> Option<Comman
         "add" => Some(Command::Add {
             archive: first,
             doc: second,
+            note: None,
         }),
         "rekey" => Some(Command::Rekey {
             archive: first,
@@ -136,13 +145,33 @@ fn version_of<'a>(archive: &'a str, word: &str) -> Option<Command<'a>>
     Some(Command::Get { archive, version })
 }
 
-fn four_words<'a>(word: &str, seed: &str, count: &str, archive: &'a str) -> Option<Command<'a>>
+fn four_words<'a>(
+    word: &str,
+    first: &'a str,
+    second: &'a str,
+    third: &'a str,
+) -> Option<Command<'a>>
     ensures { option_map command_view result
-        ≡ command_of_four word.now seed.now count.now archive.now }
+        ≡ command_of_four word.now first.now second.now third.now }
 {
     match word {
-        "demo" => demo_from(seed, count, archive),
+        "add" => add_noted(first, second, third),
+        "demo" => demo_from(first, second, third),
         _ => None,
+    }
+}
+
+fn add_noted<'a>(archive: &'a str, doc: &'a str, note: &'a str) -> Option<Command<'a>>
+    ensures { option_map command_view result ≡ noted archive.now doc.now note.now }
+{
+    if is_printed(note.as_bytes()) {
+        Some(Command::Add {
+            archive,
+            doc,
+            note: Some(note),
+        })
+    } else {
+        None
     }
 }
 

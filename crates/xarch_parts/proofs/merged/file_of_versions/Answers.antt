@@ -38,11 +38,11 @@ pub returns-clause-too_long : goal.returns-clause-too_long
 returns-clause-too_long c = none_of_archive (spec_view c.args.spec.now) (map keyed_view c.args.versions.now) (archive_view c.in_ok-archive.archive) c.in_ok-archive.ensures.archive c.encode_file.result c.encode_file.ensures.too_long
 
 pub returns-clause-held : goal.returns-clause-held
-returns-clause-held c = λ files name there.
+returns-clause-held c = λ files name notes there.
     let file = of_archive (spec_view c.args.spec.now) (map keyed_view c.args.versions.now) (archive_view c.in_ok-archive.archive) c.in_ok-archive.ensures.archive c.encode_file.result c.encode_file.ensures.file in
-    held_there (spec_view c.args.spec.now) (map keyed_view c.args.versions.now) files name there c.versions_have_one_file.ensures.one_file c.encode_file.result file
+    held_there (spec_view c.args.spec.now) (map keyed_view c.args.versions.now) files name notes there c.versions_have_one_file.ensures.one_file c.encode_file.result file
 
 pub returns-clause-fits : goal.returns-clause-fits
-returns-clause-fits c = λ files name there.
+returns-clause-fits c = λ files name notes there.
     let refused = none_of_archive (spec_view c.args.spec.now) (map keyed_view c.args.versions.now) (archive_view c.in_ok-archive.archive) c.in_ok-archive.ensures.archive c.encode_file.result c.encode_file.ensures.too_long in
-    fits_there (spec_view c.args.spec.now) (map keyed_view c.args.versions.now) files name there c.encode_file.result refused
+    fits_there (spec_view c.args.spec.now) (map keyed_view c.args.versions.now) files name notes there c.encode_file.result refused
