@@ -9,39 +9,41 @@ use Rattle.archive_tree.specs.Data.{PlainArchive}
 use Rattle.archive_tree.specs.Stands.{ArchiveOf}
 use Rattle.record_format.specs.Files.{FileOf}
 use Rattle.record_format.specs.Fronts.{fixed}
-use Rattle.archive_file.specs.Sound.{Sound}
+use Rattle.noted_file.specs.Full.{Full, FullAs, FullOf}
 use Rattle.archive_stats.specs.Counts.{PlainCounts, counts}
 use Rattle.key_rules.specs.Faults.{PlainKeyFault}
 use Rattle.archive_rekey.specs.Rekeyed.{AreRekeyed, IsFirstBad}
 use Rattle.xarch_gen.specs.Company.{company_rules}
-use Rattle.xarch_words.specs.Commands.{PlainCommand, norm, init, add, rekey, get, history, check, stats, batch, demo}
+use Rattle.xarch_words.specs.Commands.{PlainCommand, norm, init, add, rekey, get, history, check, stats, versions, batch, demo}
 use Rattle.xarch_words.specs.Refusal.{Refusal, no_file, key_fault_in, damaged}
-use Rattle.xarch_meanings.specs.Add.{added}
+use Rattle.xarch_meanings.specs.Add.{AddsTo, added}
 use Rattle.xarch_meanings.specs.Check.{IsFound, check_text}
-use Rattle.xarch_parts.specs.Archives.{GoesOn, Stores}
+use Rattle.xarch_parts.specs.Archives.{GoesOn, Opens, Stores, short_note}
 use Rattle.xarch_meanings.specs.Demo.{MakesOrNone, demo_input, samples}
 use Rattle.xarch_meanings.specs.Init.{init_rules}
 use Rattle.xarch_parts.specs.Inputs.{file_of}
 use Rattle.xarch_parts.specs.Outcome.{Outcome, Step, and_then, or_refuse, step_from}
-use Rattle.xarch_meanings.specs.Plausible.{IsLate, MayAdd, MayRekey, MayWrite, MayBe, MayComeLate, MayDo, Plausible, add_input, history_input}
-use Rattle.xarch_meanings.specs.PlausibleLaws.{late-get, late-unsound, plain-step}
+use Rattle.xarch_meanings.specs.Plausible.{IsLate, MayAdd, MayRekey, MayOver, MayWrite, MayBe, MayComeLate, MayDo, Plausible, add_input, history_input, stats_input, versions_input}
+use Rattle.xarch_meanings.specs.PlausibleLaws.{late-two, late-unlisted, late-unsound, plain-step}
 use Rattle.xarch_meanings.specs.Rekey.{RekeysTo, rekey_rules}
-use Rattle.xarch_meanings.specs.Stats.{CountsFrom, counts_text}
+use Rattle.xarch_meanings.specs.Stats.{CountsFrom, counts_text, noted_counts}
 use Rattle.xarch_meanings.specs.Step.{OutcomeIs, DoesOrRefuses, Defines, StepIs, single_of}
 
 module _ (one_archive : (vs : List PlainKeyed) (a b : PlainArchive) → ArchiveOf vs a → ArchiveOf vs b → a ≡ b)
     (one_file : (rules : List PlainRule) (vs : List PlainKeyed) (b c : List ℕ) → FileOf rules vs b → FileOf rules vs c → b ≡ c)
-    (numbered : (rules : List PlainRule) (vs : List PlainKeyed) (b : List ℕ) → FileOf rules vs b → fixed b ≡ Some (length vs))
+    (one_full : (rules : List PlainRule) (vs : List PlainKeyed) (notes : List (List ℕ)) (b c : List ℕ) → FullOf rules vs notes b → FullOf rules vs notes c → b ≡ c)
+    (defined : (rules : List PlainRule) (vs : List PlainKeyed) (notes : List (List ℕ)) (b : List ℕ) → FullAs rules vs notes b → FullOf rules vs notes b)
+    (one_reading : (rules others : List PlainRule) (vs us : List PlainKeyed) (notes more : List (List ℕ)) (b : List ℕ) → FullAs rules vs notes b → FullAs others us more b → (rules ≡ others) × (vs ≡ us) × (notes ≡ more))
     (one_list : (rules : List PlainRule) (vs us ws : List PlainKeyed) → AreRekeyed rules vs us → AreRekeyed rules vs ws → us ≡ ws)
     (one_fault : (rules : List PlainRule) (vs : List PlainKeyed) (i j : ℕ) (f g : PlainKeyFault) → IsFirstBad rules vs i f → IsFirstBad rules vs j g → (i ≡ j) × (f ≡ g))
     (apart : (rules : List PlainRule) (vs us : List PlainKeyed) (i : ℕ) (f : PlainKeyFault) → AreRekeyed rules vs us → ¬ IsFirstBad rules vs i f) where
-  one_stored : (files : Files) (name : List ℕ) (rules : List PlainRule) (vs : List PlainKeyed) (r s : Result Outcome Refusal) → Stores files name rules vs r → Stores files name rules vs s → s ≡ r
-  one_stored files name rules vs r s (inl p) (inl q) =
-      let same = one_file rules vs q.bytes p.bytes q.sound.file p.sound.file in
+  one_stored : (files : Files) (name : List ℕ) (rules : List PlainRule) (vs : List PlainKeyed) (notes : List (List ℕ)) (r s : Result Outcome Refusal) → Stores files name rules vs notes r → Stores files name rules vs notes s → s ≡ r
+  one_stored files name rules vs notes r s (inl p) (inl q) =
+      let same = one_full rules vs notes q.bytes p.bytes (defined rules vs notes q.bytes q.full) (defined rules vs notes p.bytes p.full) in
       q.is ∙ ap (λ b. Ok (record { files = map.insert files name b; output = [] })) same ∙ sym p.is
-  one_stored files name rules vs r s (inl p) (inr q) = absurd (q.none p.bytes p.sound.file)
-  one_stored files name rules vs r s (inr p) (inl q) = absurd (p.none q.bytes q.sound.file)
-  one_stored files name rules vs r s (inr p) (inr q) = q.is ∙ sym p.is
+  one_stored files name rules vs notes r s (inl p) (inr q) = absurd (q.none p.full.core p.full.is.file)
+  one_stored files name rules vs notes r s (inr p) (inl q) = absurd (p.none q.full.core q.full.is.file)
+  one_stored files name rules vs notes r s (inr p) (inr q) = q.is ∙ sym p.is
 
   one_way : {A : Type 0} (x : Result A Refusal) (P : A → Result Outcome Refusal → Type 0) → ((a : A) (r s : Result Outcome Refusal) → P a r → P a s → s ≡ r) → (r s : Result Outcome Refusal) → GoesOn x P r → GoesOn x P s → s ≡ r
   one_way (Ok a) P h r s p q = h a r s p q
@@ -57,22 +59,25 @@ module _ (one_archive : (vs : List PlainKeyed) (a b : PlainArchive) → ArchiveO
   history_absent : (files : Files) (name path : List ℕ) → map.get files name ≡ None → history_input files name path ≡ Err (no_file name)
   history_absent files name path e = rw e refl
 
-  file_absent : (files : Files) (name : List ℕ) → map.get files name ≡ None → file_of files name ≡ Err (no_file name)
-  file_absent files name e = ap (λ o. or_refuse o (no_file name)) e
+  stats_absent : (files : Files) (name : List ℕ) → map.get files name ≡ None → stats_input files name ≡ Err (no_file name)
+  stats_absent files name e = rw e refl
+
+  versions_absent : (files : Files) (name : List ℕ) → map.get files name ≡ None → versions_input files name ≡ Err (no_file name)
+  versions_absent files name e = rw e refl
 
   -- versions have one archive, and it has one count
-  one_counted : (files : Files) (rules : List PlainRule) (vs : List PlainKeyed) (r s : Result Outcome Refusal) → CountsFrom files rules vs r → CountsFrom files rules vs s → s ≡ r
-  one_counted files rules vs r s p q =
-      q.is ∙ ap (λ (a : PlainArchive). Ok (record { files = files; output = counts_text (counts rules a) })) (one_archive vs q.archive p.archive q.of p.of) ∙ sym p.is
+  one_counted : (files : Files) (rules : List PlainRule) (vs : List PlainKeyed) (notes : List (List ℕ)) (r s : Result Outcome Refusal) → CountsFrom files rules vs notes r → CountsFrom files rules vs notes s → s ≡ r
+  one_counted files rules vs notes r s p q =
+      q.is ∙ ap (λ (a : PlainArchive). Ok (record { files = files; output = counts_text (noted_counts rules a notes) })) (one_archive vs q.archive p.archive q.of p.of) ∙ sym p.is
 
   -- a file has one number of versions, and is not sound and damaged
-  same_count : (bytes : List ℕ) (p q : Sound bytes) → length q.versions ≡ length p.versions
-  same_count bytes p q = let both : Some (length q.versions) ≡ Some (length p.versions) = sym (numbered q.rules q.versions bytes q.is.file) ∙ numbered p.rules p.versions bytes p.is.file in cc
+  same_count : (bytes : List ℕ) (p q : Full bytes) → length q.versions ≡ length p.versions
+  same_count bytes p q = let same = one_reading q.rules p.rules q.versions p.versions q.notes p.notes bytes q.is p.is in ap length same.1.0
 
   one_found : (files : Files) (name bytes : List ℕ) (r s : Result Outcome Refusal) → IsFound files name bytes r → IsFound files name bytes s → s ≡ r
-  one_found files name bytes r s (inl p) (inl q) = q.is ∙ ap (λ (n : ℕ). Ok (record { files = files; output = check_text n })) (same_count bytes p.sound q.sound) ∙ sym p.is
-  one_found files name bytes r s (inl p) (inr q) = absurd (q.unsound p.sound)
-  one_found files name bytes r s (inr p) (inl q) = absurd (p.unsound q.sound)
+  one_found files name bytes r s (inl p) (inl q) = q.is ∙ ap (λ (n : ℕ). Ok (record { files = files; output = check_text n })) (same_count bytes p.full q.full) ∙ sym p.is
+  one_found files name bytes r s (inl p) (inr q) = absurd (q.unsound p.full)
+  one_found files name bytes r s (inr p) (inl q) = absurd (p.unsound q.full)
   one_found files name bytes r s (inr p) (inr q) = q.is ∙ sym p.is
 
   one_made : (files : Files) (name : List ℕ) (seed count : ℕ) (r s : Result Outcome Refusal) → MakesOrNone files name seed count r → MakesOrNone files name seed count s → s ≡ r
@@ -92,35 +97,48 @@ module _ (one_archive : (vs : List PlainKeyed) (a b : PlainArchive) → ArchiveO
   one_told : (i j : ℕ) (f g : PlainKeyFault) → i ≡ j → f ≡ g → ◌≡◌ {A = Result Outcome Refusal} (Err (key_fault_in j g)) (Err (key_fault_in i f))
   one_told i j f g e h = cc
 
-  one_rekeyed : (files : Files) (name : List ℕ) (vs : List PlainKeyed) (rules : List PlainRule) (r s : Result Outcome Refusal) → RekeysTo files name vs rules r → RekeysTo files name vs rules s → s ≡ r
-  one_rekeyed files name vs rules r s (inl p) (inl q) =
-      one_stored files name rules p.versions r s p.rest (subst (λ us. Stores files name rules us s) (one_list rules vs q.versions p.versions q.are p.are) q.rest)
-  one_rekeyed files name vs rules r s (inl p) (inr q) = absurd (apart rules vs p.versions q.number q.fault p.are q.first)
-  one_rekeyed files name vs rules r s (inr p) (inl q) = absurd (apart rules vs q.versions p.number p.fault q.are p.first)
-  one_rekeyed files name vs rules r s (inr p) (inr q) =
+  one_rekeyed : (files : Files) (name : List ℕ) (vs : List PlainKeyed) (notes : List (List ℕ)) (rules : List PlainRule) (r s : Result Outcome Refusal) → RekeysTo files name vs notes rules r → RekeysTo files name vs notes rules s → s ≡ r
+  one_rekeyed files name vs notes rules r s (inl p) (inl q) =
+      one_stored files name rules p.versions notes r s p.rest (subst (λ us. Stores files name rules us notes s) (one_list rules vs q.versions p.versions q.are p.are) q.rest)
+  one_rekeyed files name vs notes rules r s (inl p) (inr q) = absurd (apart rules vs p.versions q.number q.fault p.are q.first)
+  one_rekeyed files name vs notes rules r s (inr p) (inl q) = absurd (apart rules vs q.versions p.number p.fault q.are p.first)
+  one_rekeyed files name vs notes rules r s (inr p) (inr q) =
       let same = one_fault rules vs p.number q.number p.fault q.fault p.first q.first in
       q.is ∙ one_told p.number q.number p.fault q.fault same.0 same.1 ∙ sym p.is
 
   rekey_absent : (files : Files) (name spec : List ℕ) → map.get files name ≡ None → rekey_rules files name spec ≡ Err (no_file name)
   rekey_absent files name spec e = rw e refl
 
+  -- what an `add` that is short enough comes to
+  one_added : (files : Files) (name doc note : List ℕ) (r s : Result Outcome Refusal) → Opens files name (AddsTo files name doc note) r
+      → MayOver files name (GoesOn (add_input files name doc) (λ _. MayAdd files name)) (AddsTo files name doc note) s → s ≡ r
+  one_added files name doc note r s (inl p) q = subst (λ x. GoesOn x (λ _. MayAdd files name) s) (add_absent files name doc p.absent) q.whatever ∙ sym p.is
+  one_added files name doc note r s (inr p) q =
+      one_way (added files doc p.rules (length p.versions)) (λ k. Stores files name p.rules (p.versions ++ k ∷ []) (p.notes ++ note ∷ [])) (λ k. one_stored files name p.rules (p.versions ++ k ∷ []) (p.notes ++ note ∷ [])) r s p.rest
+      (q.sound p.rules p.versions p.notes p.archive)
+
+  one_either : {A : Type 0} (x : Result A Refusal) (P Q : A → Result Outcome Refusal → Type 0) → ((a : A) (r s : Result Outcome Refusal) → P a r → Q a s → s ≡ r) → (r s : Result Outcome Refusal) → GoesOn x P r → GoesOn x Q s → s ≡ r
+  one_either (Ok a) P Q h r s p q = h a r s p q
+  one_either (Err e) P Q h r s p q = q ∙ sym p
+
   one : (files : Files) (command : PlainCommand) (r s : Result Outcome Refusal) → OutcomeIs files command r → MayBe files command s → s ≡ r
   unfolding OutcomeIs MayBe
   one files (norm spec doc) r s p q = q ∙ sym p
-  one files (init name spec) r s p q = one_way (init_rules files name spec) (λ rules. Stores files name rules []) (λ rules. one_stored files name rules []) r s p q
-  one files (add name doc) r s (inl p) q = subst (λ x. GoesOn x (λ _. MayAdd files name) s) (add_absent files name doc p.absent) q.whatever ∙ sym p.is
-  one files (add name doc) r s (inr p) q =
-      one_way (added files doc p.rules (length p.versions)) (λ k. Stores files name p.rules (p.versions ++ k ∷ [])) (λ k. one_stored files name p.rules (p.versions ++ k ∷ [])) r s p.rest (q.sound p.rules p.versions p.archive)
+  one files (init name spec) r s p q = one_way (init_rules files name spec) (λ rules. Stores files name rules [] []) (λ rules. one_stored files name rules [] []) r s p q
+  one files (add name doc note) r s p q =
+      one_either (short_note note) (λ _. Opens files name (AddsTo files name doc note)) (λ _. MayOver files name (GoesOn (add_input files name doc) (λ _. MayAdd files name)) (AddsTo files name doc note)) (λ _. one_added files name doc note) r s p q
   one files (rekey name spec) r s (inl p) q = subst (λ x. GoesOn x (λ _. MayRekey files name) s) (rekey_absent files name spec p.absent) q.whatever ∙ sym p.is
   one files (rekey name spec) r s (inr p) q =
-      one_way (rekey_rules files name spec) (RekeysTo files name p.versions) (one_rekeyed files name p.versions) r s p.rest (q.sound p.rules p.versions p.archive)
+      one_way (rekey_rules files name spec) (RekeysTo files name p.versions p.notes) (one_rekeyed files name p.versions p.notes) r s p.rest (q.sound p.rules p.versions p.notes p.archive)
   one files (get name i) r s (inl p) q = subst (λ x. GoesOn x (λ _. MayWrite files name) s) (absent files name _ p.absent) q.whatever ∙ sym p.is
-  one files (get name i) r s (inr p) q = q.sound p.rules p.versions p.archive ∙ sym p.rest
+  one files (get name i) r s (inr p) q = q.sound p.rules p.versions p.notes p.archive ∙ sym p.rest
   one files (history name path) r s (inl p) q = subst (λ x. GoesOn x (λ _. MayWrite files name) s) (history_absent files name path p.absent) q.whatever ∙ sym p.is
-  one files (history name path) r s (inr p) q = q.sound p.rules p.versions p.archive ∙ sym p.rest
+  one files (history name path) r s (inr p) q = q.sound p.rules p.versions p.notes p.archive ∙ sym p.rest
   one files (check name) r s p q = one_way (file_of files name) (IsFound files name) (one_found files name) r s p q
-  one files (stats name) r s (inl p) q = subst (λ x. GoesOn x (λ _. MayWrite files name) s) (file_absent files name p.absent) q.whatever ∙ sym p.is
-  one files (stats name) r s (inr p) q = one_counted files p.rules p.versions r s p.rest (q.sound p.rules p.versions p.archive)
+  one files (stats name) r s (inl p) q = subst (λ x. GoesOn x (λ _. MayWrite files name) s) (stats_absent files name p.absent) q.whatever ∙ sym p.is
+  one files (stats name) r s (inr p) q = one_counted files p.rules p.versions p.notes r s p.rest (q.sound p.rules p.versions p.notes p.archive)
+  one files (versions name) r s (inl p) q = subst (λ x. GoesOn x (λ _. MayWrite files name) s) (versions_absent files name p.absent) q.whatever ∙ sym p.is
+  one files (versions name) r s (inr p) q = q.sound p.rules p.versions p.notes p.archive ∙ sym p.rest
   one files batch r s p q = q ∙ sym p
   one files (demo seed count name) r s p q = one_way (demo_input files count name) (λ _. MakesOrNone files name seed count) (λ _. one_made files name seed count) r s p q
 
@@ -140,15 +158,23 @@ module _ (one_archive : (vs : List PlainKeyed) (a b : PlainArchive) → ArchiveO
   unfolding OutcomeIs
   none_late files command r (Ok o) p q late = late
   none_late files command r (Err e) p q late =
-      late-get files command e ⊥ late (λ name i is damage.
-      by_archive name i damage (subst (λ (c : PlainCommand). OutcomeIs files c r) is p) (subst (λ (c : PlainCommand). MayBe files c (Err e)) is q) (subst (λ (c : PlainCommand). MayComeLate files (Some c) e) is late))
+      late-two files command e ⊥ late
+      (λ name i is damage. by_archive name i damage (subst (λ (c : PlainCommand). OutcomeIs files c r) is p) (subst (λ (c : PlainCommand). MayBe files c (Err e)) is q) (subst (λ (c : PlainCommand). MayComeLate files (Some c) e) is late))
+      (λ name is damage. by_list name damage (subst (λ (c : PlainCommand). OutcomeIs files c r) is p) (subst (λ (c : PlainCommand). MayBe files c (Err e)) is q) (subst (λ (c : PlainCommand). MayComeLate files (Some c) e) is late))
     where
+      by_list : (name : List ℕ) → e ≡ damaged name → OutcomeIs files (versions name) r → MayBe files (versions name) (Err e) → MayComeLate files (Some (versions name)) e → ⊥
+      by_list name damage (inl missing) m late =
+          let same : Err e ≡ r = one files (versions name) r (Err e) (inl missing) m in
+          let wrong : ◌≡◌ {A = Result Outcome Refusal} (Err (damaged name)) (Err (no_file name)) = ap (λ q. Err q) (sym damage) ∙ same ∙ missing.is in
+          damage_or_none name wrong
+      by_list name damage (inr opened) m late = late-unlisted files name opened.rules opened.versions opened.notes (Err e) opened.archive m late
+
       by_archive : (name : List ℕ) (i : ℕ) → e ≡ damaged name → OutcomeIs files (get name i) r → MayBe files (get name i) (Err e) → MayComeLate files (Some (get name i)) e → ⊥
       by_archive name i damage (inl missing) m late =
           let same : Err e ≡ r = one files (get name i) r (Err e) (inl missing) m in
           let wrong : ◌≡◌ {A = Result Outcome Refusal} (Err (damaged name)) (Err (no_file name)) = ap (λ q. Err q) (sym damage) ∙ same ∙ missing.is in
           damage_or_none name wrong
-      by_archive name i damage (inr opened) m late = late-unsound files name i opened.rules opened.versions (Err e) opened.archive m late
+      by_archive name i damage (inr opened) m late = late-unsound files name i opened.rules opened.versions opened.notes (Err e) opened.archive m late
 
   none_does : (files : Files) (command : Option PlainCommand) (r s : Result Outcome Refusal) → DoesOrRefuses files command r → MayDo files command s → ¬ IsLate files command s
   none_does files None r (Ok o) p q late = late

@@ -5,11 +5,11 @@ use Rattle.key_spec.specs.Data.{PlainRule}
 use Rattle.keyed_tree.specs.Data.{PlainKeyed}
 use Rattle.archive_tree.specs.History.{hist}
 use Rattle.record_format.specs.Files.{FileOf}
-use Rattle.archive_file.specs.Sound.{Sound}
+use Rattle.noted_file.specs.Full.{Full}
 use Rattle.archive_rekey.specs.Rekeyed.{AreRekeyed, IsFirstBad}
 use Rattle.key_rules.specs.Faults.{PlainKeyFault}
 use Rattle.xarch_gen.specs.Company.{company_rules}
-use Rattle.xarch_words.specs.Commands.{PlainCommand, norm, init, add, rekey, get, history, check, stats, batch, demo}
+use Rattle.xarch_words.specs.Commands.{PlainCommand, norm, init, add, rekey, get, history, check, stats, versions, batch, demo}
 use Rattle.xarch_words.specs.Refusal.{Refusal, no_file, no_version}
 use Rattle.xarch_parts.specs.Archives.{GoesOn, Stores}
 use Rattle.xarch_meanings.specs.Check.{IsFound}
@@ -18,7 +18,8 @@ use Rattle.xarch_meanings.specs.History.{numbers_text}
 use Rattle.xarch_meanings.specs.Rekey.{RekeysTo}
 use Rattle.keyed_print.specs.KeyedText.{keyed_text}
 use Rattle.xarch_parts.specs.Outcome.{and_then, or_refuse}
-use Rattle.xarch_meanings.specs.Plausible.{MayBe}
+use Rattle.xarch_meanings.specs.Add.{AddsTo}
+use Rattle.xarch_meanings.specs.Plausible.{MayAdd, MayBe, MayOver, add_input}
 use Rattle.xarch_meanings.specs.Step.{alone}
 use Rattle.xarch_meanings.specs.Succeeds.{ShouldSucceed}
 
@@ -27,40 +28,43 @@ clash : {A X : Type 0} (q : Refusal) (x : A) → ◌≡◌ {A = Result A Refusal
 clash q x e = cc
 
 -- versions that have a file are stored
-not_stored : (files : Files) (name : List ℕ) (rules : List PlainRule) (vs : List PlainKeyed) (bytes : List ℕ) (q : Refusal) → FileOf rules vs bytes → Stores files name rules vs (Err q) → ⊥
-not_stored files name rules vs bytes q file s = elim s [ inl p ↦ clash q _ p.is | inr p ↦ p.none bytes file ]
+not_stored : (files : Files) (name : List ℕ) (rules : List PlainRule) (vs : List PlainKeyed) (notes : List (List ℕ)) (bytes : List ℕ) (q : Refusal) → FileOf rules vs bytes → Stores files name rules vs notes (Err q) → ⊥
+not_stored files name rules vs notes bytes q file s = elim s [ inl p ↦ clash q _ p.is | inr p ↦ p.none bytes file ]
 
 not_made : (files : Files) (name : List ℕ) (seed count : ℕ) (bytes : List ℕ) (q : Refusal) → FileOf company_rules (samples seed count) bytes → MakesOrNone files name seed count (Err q) → ⊥
 not_made files name seed count bytes q file s = elim s [ inl p ↦ clash q _ p.is | inr p ↦ p.none bytes file ]
 
 -- a sound archive is found sound
-not_found : (files : Files) (name bytes : List ℕ) (q : Refusal) → IsFound files name bytes (Err q) → Sound bytes → ⊥
+not_found : (files : Files) (name bytes : List ℕ) (q : Refusal) → IsFound files name bytes (Err q) → Full bytes → ⊥
 not_found files name bytes q s sound = elim s [ inl p ↦ clash q _ p.is | inr p ↦ p.unsound sound ]
 
 module _ (one_list : (rules : List PlainRule) (vs us ws : List PlainKeyed) → AreRekeyed rules vs us → AreRekeyed rules vs ws → us ≡ ws)
     (apart : (rules : List PlainRule) (vs us : List PlainKeyed) (i : ℕ) (f : PlainKeyFault) → AreRekeyed rules vs us → ¬ IsFirstBad rules vs i f) where
   -- versions that satisfy other rules, and have a file under them, are stored
-  not_rekeyed : (files : Files) (name : List ℕ) (vs : List PlainKeyed) (rules : List PlainRule) (us : List PlainKeyed) (bytes : List ℕ) (q : Refusal) → AreRekeyed rules vs us → FileOf rules us bytes → RekeysTo files name vs rules (Err q) → ⊥
-  not_rekeyed files name vs rules us bytes q are file (inl p) = not_stored files name rules us bytes q file (subst (λ ws. Stores files name rules ws (Err q)) (one_list rules vs p.versions us p.are are) p.rest)
-  not_rekeyed files name vs rules us bytes q are file (inr p) = apart rules vs us p.number p.fault are p.first
+  not_rekeyed : (files : Files) (name : List ℕ) (vs : List PlainKeyed) (notes : List (List ℕ)) (rules : List PlainRule) (us : List PlainKeyed) (bytes : List ℕ) (q : Refusal) → AreRekeyed rules vs us → FileOf rules us bytes
+      → RekeysTo files name vs notes rules (Err q) → ⊥
+  not_rekeyed files name vs notes rules us bytes q are file (inl p) = not_stored files name rules us notes bytes q file (subst (λ ws. Stores files name rules ws notes (Err q)) (one_list rules vs p.versions us p.are are) p.rest)
+  not_rekeyed files name vs notes rules us bytes q are file (inr p) = apart rules vs us p.number p.fault are p.first
 
   pub never_refused : (files : Files) (command : PlainCommand) (q : Refusal) → ShouldSucceed files command → MayBe files command (Err q) → ⊥
   unfolding ShouldSucceed MayBe
   never_refused files (norm spec doc) q h m = clash q h.value (m ∙ h.is)
   never_refused files (init name spec) q h m =
-      not_stored files name h.rules [] h.bytes q h.file (subst (λ (x : Result (List PlainRule) Refusal). GoesOn x (λ rules. Stores files name rules []) (Err q)) h.specified m)
-  never_refused files (add name doc) q h m =
-      not_stored files name h.rules (h.versions ++ h.tree ∷ []) h.bytes q h.file
-      (subst (λ (x : Result PlainKeyed Refusal). GoesOn x (λ k. Stores files name h.rules (h.versions ++ k ∷ [])) (Err q)) h.keyed (m.sound h.rules h.versions h.archive))
+      not_stored files name h.rules [] [] h.bytes q h.file (subst (λ (x : Result (List PlainRule) Refusal). GoesOn x (λ rules. Stores files name rules [] []) (Err q)) h.specified m)
+  never_refused files (add name doc note) q h m =
+      let over = subst (λ (x : Result Unit Refusal). GoesOn x (λ _. MayOver files name (GoesOn (add_input files name doc) (λ _. MayAdd files name)) (AddsTo files name doc note)) (Err q)) h.short m in
+      not_stored files name h.rules (h.versions ++ h.tree ∷ []) (h.notes ++ note ∷ []) h.bytes q h.file
+      (subst (λ (x : Result PlainKeyed Refusal). GoesOn x (λ k. Stores files name h.rules (h.versions ++ k ∷ []) (h.notes ++ note ∷ [])) (Err q)) h.keyed (over.sound h.rules h.versions h.notes h.archive))
   never_refused files (rekey name spec) q h m =
-      not_rekeyed files name h.versions h.rules h.under h.bytes q h.satisfied h.file
-      (subst (λ (x : Result (List PlainRule) Refusal). GoesOn x (RekeysTo files name h.versions) (Err q)) h.specified (m.sound h.old h.versions h.archive))
+      not_rekeyed files name h.versions h.notes h.rules h.under h.bytes q h.satisfied h.file
+      (subst (λ (x : Result (List PlainRule) Refusal). GoesOn x (RekeysTo files name h.versions h.notes) (Err q)) h.specified (m.sound h.old h.versions h.notes h.archive))
   never_refused files (get name i) q h m =
-      clash q _ (m.sound h.rules h.versions h.archive ∙ ap (λ (o : Option PlainKeyed). and_then (or_refuse o (no_version i (length h.versions))) (λ k. Ok (record { files = files; output = keyed_text k }))) h.there)
+      clash q _ (m.sound h.rules h.versions h.notes h.archive ∙ ap (λ (o : Option PlainKeyed). and_then (or_refuse o (no_version i (length h.versions))) (λ k. Ok (record { files = files; output = keyed_text k }))) h.there)
   never_refused files (history name path) q h m =
-      clash q _ (m.sound h.rules h.versions h.archive ∙ ap (λ x. and_then x (λ labels. Ok (record { files = files; output = numbers_text (hist h.versions labels) }))) h.spelled)
-  never_refused files (check name) q h m = not_found files name h.archive.bytes q (subst (λ o. GoesOn (or_refuse o (no_file name)) (IsFound files name) (Err q)) h.archive.there m) (record { rules = h.rules; versions = h.versions; is = h.archive.sound })
-  never_refused files (stats name) q h m = clash q _ (m.sound h.rules h.versions h.archive).is
+      clash q _ (m.sound h.rules h.versions h.notes h.archive ∙ ap (λ x. and_then x (λ labels. Ok (record { files = files; output = numbers_text (hist h.versions labels) }))) h.spelled)
+  never_refused files (check name) q h m = not_found files name h.archive.bytes q (subst (λ o. GoesOn (or_refuse o (no_file name)) (IsFound files name) (Err q)) h.archive.there m) (record { rules = h.rules; versions = h.versions; notes = h.notes; is = h.archive.full })
+  never_refused files (stats name) q h m = clash q _ (m.sound h.rules h.versions h.notes h.archive).is
+  never_refused files (versions name) q h m = clash q _ (m.sound h.rules h.versions h.notes h.archive)
   never_refused files batch q h m = h
   never_refused files (demo seed count name) q h m =
       not_made files name seed count h.bytes q h.file (subst (λ (x : Result Unit Refusal). GoesOn x (λ _. MakesOrNone files name seed count) (Err q)) h.free m)
@@ -70,11 +74,12 @@ pub one_alone : (files : Files) (command : PlainCommand) → ShouldSucceed files
 unfolding ShouldSucceed
 one_alone files (norm spec doc) h = refl
 one_alone files (init name spec) h = refl
-one_alone files (add name doc) h = refl
+one_alone files (add name doc note) h = refl
 one_alone files (rekey name spec) h = refl
 one_alone files (get name i) h = refl
 one_alone files (history name path) h = refl
 one_alone files (check name) h = refl
 one_alone files (stats name) h = refl
+one_alone files (versions name) h = refl
 one_alone files batch h = absurd h
 one_alone files (demo seed count name) h = refl

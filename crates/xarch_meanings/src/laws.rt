@@ -10,6 +10,7 @@ ghost use Rattle.xarch_meanings.specs.Texts.{TellsTexts};
 
 use archive_rekey::versions_have_one_rekeying;
 use archive_tree::archives_stand_for_one_list;
+use noted_file::full_files_have_one_reading;
 use record_cursor::files_give_their_items;
 use record_format::{records_are_read_as_spelled, versions_have_one_file};
 
@@ -34,6 +35,7 @@ pub fn commands_take_one_step()
     archives_stand_for_one_list();
     versions_have_one_file();
     versions_have_one_rekeying();
+    full_files_have_one_reading();
 }
 
 /// The bytes of a sound archive tell the text of each of its versions. It does nothing.

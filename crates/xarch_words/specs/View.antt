@@ -22,7 +22,7 @@ abbrev pub command_view : Command → PlainCommand
 command_view (Norm spec doc) = norm spec.now doc.now
 command_view (Init name spec) = init name.now spec.now
 command_view (Add name doc None) = add name.now doc.now []
-command_view (Add name doc (Some note)) = add name.now doc.now note.now
+command_view (Add name doc (Some text)) = add name.now doc.now text.now
 command_view (Rekey name spec) = rekey name.now spec.now
 command_view (Get name version) = get name.now version
 command_view (History name path) = history name.now path.now
