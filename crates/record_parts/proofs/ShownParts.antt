@@ -153,3 +153,6 @@ label_found = found_in label_at label_in (λ l. refl)
 
 pub stamp_found : (bytes : List ℕ) (s : Stamp) (rest : List ℕ) → IsStampBytes bytes → stamp_at bytes ≡ Some (s, rest) → s ≡ stamp_in (whole stamp_at bytes)
 stamp_found = found_in stamp_at stamp_in (λ s. refl)
+
+pub value_found : (bytes : List ℕ) (k : PlainKey) (rest : List ℕ) → IsValueBytes bytes → value_at bytes ≡ Some (k, rest) → k ≡ value_in (whole value_at bytes)
+value_found = found_in value_at value_in (λ k. refl)
