@@ -1,5 +1,5 @@
 -- The commands, and the words that spell them.
-use Rattle.std.specs.Prelude.{ℕ, List, [], ◌∷◌, Option, Some, None, codes, ◌&&◌, nat_le, option_map, option_and_then, if◌then◌else◌}
+use Rattle.std.specs.Prelude.{ℕ, List, [], ◌∷◌, Option, Some, None, codes, ◌&&◌, nat_le, option_map, option_and_then, IsTrue, if◌then◌else◌, ⊤}
 use Rattle.std.specs.Fmt.{decimal}
 use Rattle.std.specs.Str.{bytes_eq}
 use Rattle.std.specs.Str.Parse.{digits_value}
@@ -80,3 +80,8 @@ command_of (word ∷ first ∷ []) = command_of_two word first
 command_of (word ∷ first ∷ second ∷ []) = command_of_three word first second
 command_of (word ∷ first ∷ second ∷ third ∷ []) = command_of_four word first second third
 command_of _ = None
+
+-- the note of an `add` has no byte below 20 hexadecimal
+abbrev pub HasPrintedNote : PlainCommand → Type 0
+HasPrintedNote (add archive doc note) = IsTrue (is_printed note)
+HasPrintedNote other = ⊤

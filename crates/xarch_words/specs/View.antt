@@ -1,5 +1,6 @@
 -- The plain data that each value stands for.
-use Rattle.std.specs.Prelude.{ℕ, List, [], Some, None, map, String, string_bytes}
+use Rattle.std.specs.Prelude.{ℕ, List, [], Option, Some, None, map, String, string_bytes}
+use Rattle.std.specs.Borrow.{Bor}
 use Rattle.std.specs.declared.alloc.Global.{Global}
 use Rattle.jsonml_tree.specs.View.{place_view}
 use Rattle.key_rules.specs.View as keys
@@ -18,11 +19,15 @@ use Rattle.xarch_words.specs.declared.words.Command.TheVariants.{Norm, Init, Add
 abbrev pub words_view : List (String Global) → List (List ℕ)
 words_view words = map string_bytes words
 
+-- the note of an `add`: the empty one where none is given
+abbrev pub note_view : Option (Bor (List ℕ)) → List ℕ
+note_view None = []
+note_view (Some text) = text.now
+
 abbrev pub command_view : Command → PlainCommand
 command_view (Norm spec doc) = norm spec.now doc.now
 command_view (Init name spec) = init name.now spec.now
-command_view (Add name doc None) = add name.now doc.now []
-command_view (Add name doc (Some text)) = add name.now doc.now text.now
+command_view (Add name doc words) = add name.now doc.now (note_view words)
 command_view (Rekey name spec) = rekey name.now spec.now
 command_view (Get name version) = get name.now version
 command_view (History name path) = history name.now path.now

@@ -1,5 +1,5 @@
-ghost use Rattle.std.specs.Prelude.{◌≡◌, option_map};
-ghost use Rattle.xarch_words.specs.Commands.{command_of, command_of_four, command_of_one};
+ghost use Rattle.std.specs.Prelude.{◌≡◌, option_map, IfSome};
+ghost use Rattle.xarch_words.specs.Commands.{HasPrintedNote, command_of, command_of_four, command_of_one};
 ghost use Rattle.xarch_words.specs.Commands.{command_of_three, command_of_two, demo_of, get};
 ghost use Rattle.xarch_words.specs.Commands.{noted, number_of, question_of};
 ghost use Rattle.xarch_words.specs.View.{command_view, words_view};
@@ -66,7 +66,8 @@ pub enum Command<'a> {
 
 /// The command that the words spell, or None where they are no command. It takes no memory.
 pub fn read_words(words: &[String]) -> Option<Command<'_>>
-    ensures { option_map command_view result ≡ command_of (words_view words.now) }
+    ensures command { option_map command_view result ≡ command_of (words_view words.now) }
+    ensures printed { IfSome result (λ command. HasPrintedNote (command_view command)) }
 {
     match words {
         [word] => one_word(word),

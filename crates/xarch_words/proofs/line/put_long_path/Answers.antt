@@ -1,6 +1,6 @@
-use Rattle.std.proofs.Common.{arith, rules}
+use Rattle.std.proofs.Common.{arith}
 use Rattle.std.proofs.lemmas.Grind.{common_steps}
-use Rattle.xa_outside.specs.TakenLaws.{Takes-trans, Puts-failed, Puts-after}
+use Rattle.xa_outside.specs.TakenLaws.{Takes-trans, Puts-after}
 use Rattle.xarch_words.proofs.line.put_long_path.Goals as goal
 
 pub returns-in-None-clause-bytes : goal.returns-in-None-clause-bytes

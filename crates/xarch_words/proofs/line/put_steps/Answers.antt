@@ -1,4 +1,4 @@
-use Rattle.std.proofs.Common.{[], rules}
+use Rattle.std.proofs.Common.{rules}
 use Rattle.xa_outside.specs.TakenLaws.{Takes-nil, Takes-piece, Puts-piece}
 use Rattle.xarch_words.specs.Lines.{step_text}
 use Rattle.xarch_words.proofs.line.put_steps.Goals as goal

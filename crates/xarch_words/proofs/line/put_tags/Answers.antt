@@ -1,4 +1,4 @@
-use Rattle.std.proofs.Common.{◌≡◌, ◌<◌, ℕ, List, [], ◌∷◌, ◌++◌, ◌∙◌, ap, sym, subst, length, get_or, String, Global, string_bytes, codes, rules}
+use Rattle.std.proofs.Common.{◌≡◌, ◌<◌, ℕ, List, [], ◌++◌, ◌∙◌, ap, sym, subst, length, get_or, String, Global, string_bytes, codes, rules}
 use Rattle.std.proofs.lemmas.List.{length-map, get_or-map}
 use Rattle.key_spec.specs.View.{names_view}
 use Rattle.xa_outside.specs.Taken.{Takes, TakesPrefix}

@@ -1,18 +1,32 @@
 use Rattle.std.proofs.Common.{arith}
 use Rattle.std.proofs.lemmas.Grind.{common_steps}
+use Rattle.xarch_words.specs.View.{words_view}
+use Rattle.xarch_words.proofs.Printed.{printed-as}
 use Rattle.xarch_words.proofs.words.read_words.Goals as goal
 
-pub returns-in-len1 : goal.returns-in-len1
-returns-in-len1 c = grind (arith, common_steps)
+pub returns-in-len1-clause-command : goal.returns-in-len1-clause-command
+returns-in-len1-clause-command c = grind (arith, common_steps)
 
-pub returns-in-len2 : goal.returns-in-len2
-returns-in-len2 c = grind (arith, common_steps)
+pub returns-in-len2-clause-command : goal.returns-in-len2-clause-command
+returns-in-len2-clause-command c = grind (arith, common_steps)
 
-pub returns-in-len3 : goal.returns-in-len3
-returns-in-len3 c = grind (arith, common_steps)
+pub returns-in-len3-clause-command : goal.returns-in-len3-clause-command
+returns-in-len3-clause-command c = grind (arith, common_steps)
 
-pub returns-in-len4 : goal.returns-in-len4
-returns-in-len4 c = grind (arith, common_steps)
+pub returns-in-len4-clause-command : goal.returns-in-len4-clause-command
+returns-in-len4-clause-command c = grind (arith, common_steps)
 
-pub returns-in_default : goal.returns-in_default
-returns-in_default c = grind (arith, common_steps)
+pub returns-in_default-clause-command : goal.returns-in_default-clause-command
+returns-in_default-clause-command c = grind (arith, common_steps)
+
+pub returns-in-len1-clause-printed : goal.returns-in-len1-clause-printed
+returns-in-len1-clause-printed c = printed-as c.one_word.result (words_view c.args.words.now) (returns-in-len1-clause-command c)
+
+pub returns-in-len2-clause-printed : goal.returns-in-len2-clause-printed
+returns-in-len2-clause-printed c = printed-as c.two_words.result (words_view c.args.words.now) (returns-in-len2-clause-command c)
+
+pub returns-in-len3-clause-printed : goal.returns-in-len3-clause-printed
+returns-in-len3-clause-printed c = printed-as c.three_words.result (words_view c.args.words.now) (returns-in-len3-clause-command c)
+
+pub returns-in-len4-clause-printed : goal.returns-in-len4-clause-printed
+returns-in-len4-clause-printed c = printed-as c.four_words.result (words_view c.args.words.now) (returns-in-len4-clause-command c)
