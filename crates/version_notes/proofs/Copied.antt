@@ -9,13 +9,13 @@ use Rattle.xa_outside.specs.Numbers.{Numbers, IsMeter, PullsAtMost, PullsAndDraf
 use Rattle.xa_outside.specs.NumberLaws.{PullsAndDrafts-none, PullsAndDrafts-of_pulls, PullsAndDrafts-of_draft, PullsAndDrafts-more, PullsAndDrafts-trans}
 use Rattle.version_notes.specs.Faults.{IfDamage}
 use Rattle.version_notes.specs.Notes.{IsNote, most}
-use Rattle.version_notes.specs.Reader.{PlainReader, Moves, behind, file_of, most_read, next_of, place_behind, read_from, read_for}
+use Rattle.version_notes.specs.Reader.{PlainReader, IsNext, IsSettled, Moves, behind, file_of, most_read, next_of, place_behind, read_from, read_for}
 use Rattle.version_notes.specs.Reading.{all_read, notes_from}
 use Rattle.version_notes.specs.Walk.{Copies, IsPrompt, Lengthens, lead}
 use Rattle.version_notes.specs.Writer.{PlainWriter, after, after_all, all_appended, appended, empty_texts, waits}
 use Rattle.version_notes.specs.declared.fault.NotesFault.{NotesFault}
 use Rattle.version_notes.specs.declared.place.Place.{Place}
-use Rattle.version_notes.proofs.Walks.{Gives, IsGiven, gives-all, gives-count, gives-damage, gives-none, gives-note, behind-fewer, most-all, most-one, pulled-note}
+use Rattle.version_notes.proofs.Walks.{Gives, IsGiven, gives-all, gives-count, gives-damage, gives-none, gives-note, gives-some, behind-fewer, most-all, most-one, pulled-note}
 use Rattle.version_notes.proofs.Written.{pushed_after}
 
 -- ---- what is written
@@ -143,17 +143,18 @@ module _ {S : Type 0} (files : S → Option Files) (draft : S → Option (List �
       copied-drafted same = record { bytes = all_appended w done; is = same ∙ h.gains }
 
       -- the last note was given
-      pub copied-all : (o : Option (String Global)) (next : PlainReader) → o ≡ None → Moves now (Ok o) next → IsGiven (files mid) now (Some (option_map string_bytes o)) → draft read ≡ draft mid → Copies (files old) start w v (draft old) (draft read)
-      copied-all None next e moved given same =
+      pub copied-all : (o : Option (String Global)) (next : PlainReader) → o ≡ None → Moves now (Ok o) next → IsGiven (files mid) now (Some (option_map string_bytes o)) → (IsSettled now → (file : List ℕ) → IsNext (Ok o) (next_of now file)) → draft read ≡ draft mid → Copies (files old) start w v (draft old) (draft read)
+      copied-all None next e moved given settled same =
           record {
             notes = done;
             count = gives-count (files old) start now done h.gives moved.0;
             each = h.gives.each;
+            some = gives-some (files old) start now done h.gives None refl moved.0 settled;
             given = gives-all (files old) start now done h.gives (λ told is. given told (h.same_files ∙ is));
             pushed = h.pushed;
             gains = same ∙ h.gains;
           }
-      copied-all (Some x) next e moved given same = absurd cc
+      copied-all (Some x) next e moved given settled same = absurd cc
 
       module _ (new : S) where
         -- a front of what the next note appends was written

@@ -1,5 +1,5 @@
 -- Notes that are read one after another, to the end.
-use Rattle.std.proofs.Common.{◌≡◌, ℕ, zero, suc, ◌+◌, ◌-◌, ◌<◌, ◌≤◌, leb, List, [], ◌∷◌, ◌++◌, length, Option, Some, None, Result, Ok, Err, refl, sym, ap, subst, ◌∙◌, append-nil, append_assoc, length-append, arith, inl, inr}
+use Rattle.std.proofs.Common.{◌≡◌, ℕ, zero, suc, ◌+◌, ◌-◌, ◌<◌, ◌≤◌, ◌==◌, ◌||◌, ◌&&◌, not, Bool, true, false, if◌then◌else◌, IfSome, leb, List, [], ◌∷◌, ◌++◌, length, Option, Some, None, Result, Ok, Err, refl, sym, ap, subst, ◌∙◌, append-nil, append_assoc, length-append, arith, inl, inr}
 use Rattle.std.specs.Prelude.{option_map, String, string_bytes}
 use Rattle.std.specs.Global.{Global}
 use Rattle.std.specs.List.{AllByRecursion}
@@ -11,12 +11,13 @@ use Rattle.xa_outside.specs.Numbers.{Numbers, IsMeter, PullsAtMost, after_pull}
 use Rattle.xa_outside.specs.NumberLaws.{PullsAtMost-none, PullsAtMost-of, PullsAtMost-more, PullsAtMost-trans}
 use Rattle.xa_fields.proofs.Fields.{some_is}
 use Rattle.version_notes.specs.Faults.{IfDamage, IfFolder}
-use Rattle.version_notes.specs.Notes.{IsNote}
-use Rattle.version_notes.specs.Reader.{PlainReader, Moves, behind, file_of, most_from, most_read, next_of, place_behind, read_from, read_for}
+use Rattle.version_notes.specs.Notes.{IsNote, are_empty}
+use Rattle.version_notes.specs.Reader.{PlainReader, IsNext, IsSettled, IsSettledFrom, Moves, behind, file_of, most_from, most_read, next_from, next_of, place_behind, read_from, read_for}
 use Rattle.version_notes.specs.Reading.{all_from, all_read, notes_from}
 use Rattle.version_notes.specs.declared.fault.NotesFault.{NotesFault}
 use Rattle.version_notes.specs.declared.fault.NotesFault.TheVariants.{Damage, Folder, Memory}
 use Rattle.version_notes.specs.declared.place.Place.{Place}
+use Rattle.version_notes.proofs.Written.{used_more}
 use Rattle.version_notes.proofs.Left.{one_note, no_more, no_note}
 
 -- ---- what is read
@@ -50,12 +51,59 @@ pulled-note due (Some p) note m k is most =
 
 -- ---- some notes were given
 
+-- behind some notes
+pub past : Place → List (List ℕ) → Place
+past p [] = p
+past p (note ∷ notes) = past (place_behind p note) notes
+
+past-more : (p : Place) (done : List (List ℕ)) (note : List ℕ) → past p (done ++ note ∷ []) ≡ place_behind (past p done) note
+unfolding past
+past-more p [] note = refl
+past-more p (x ∷ xs) note = past-more (place_behind p x) xs note
+
+past-used : (p : Place) (done : List (List ℕ)) → (past p done).used ≡ (p.used || not (are_empty done))
+unfolding past
+past-used p [] = or-none p.used
+  where
+    or-none : (u : Bool) → u ≡ (u || not true)
+    or-none true = refl
+    or-none false = refl
+past-used p (x ∷ xs) = past-used (place_behind p x) xs ∙ used_more p.used (length x == 0) (are_empty xs)
+
+past-none : (o : Option Place) → o ≡ option_map (λ p. past p []) o
+unfolding past
+past-none None = refl
+past-none (Some p) = refl
+
+past-next : (o : Option Place) (done : List (List ℕ)) (note : List ℕ) → option_map (λ p. place_behind p note) (option_map (λ p. past p done) o) ≡ option_map (λ p. past p (done ++ note ∷ [])) o
+past-next None done note = refl
+past-next (Some p) done note = ap Some (sym (past-more p done note))
+
+used-by : (a u : Bool) → ◌≡◌ {A = Option (Option (List ℕ))} (if a && u then Some None else None) (Some None) → u ≡ true
+used-by true true e = refl
+used-by true false e = absurd cc
+used-by false u e = absurd cc
+
+-- where none comes any more, and there is a place, some note was not empty
+settled-used : (due : ℕ) (place : Option Place) (q : Place) (o : Option (String Global)) → o ≡ None → due ≡ 0 → place ≡ Some q → (IsSettledFrom due place → (file : List ℕ) → IsNext (Ok o) (next_from due place file)) → q.used ≡ true
+settled-used due place q o none last there next =
+    let here : IsSettledFrom due place = subst (λ (n : ℕ). IsSettledFrom n place) (sym last) (subst (IsSettledFrom 0) (sym there) tt) in
+    let comes : next_from due place [] ≡ Some (option_map string_bytes o) = next here [] in
+    let first : next_from 0 (Some q) [] ≡ next_from due place [] = (λ i. next_from (sym last i) (sym there i) []) in
+    used-by (q.at == q.end) q.used (first ∙ comes ∙ ap (λ (x : Option (String Global)). Some (option_map string_bytes x)) none)
+
+past-some : (start : Option Place) (due : ℕ) (place : Option Place) (done : List (List ℕ)) (o : Option (String Global)) → place ≡ option_map (λ p. past p done) start → o ≡ None → due ≡ 0
+    → (IsSettledFrom due place → (file : List ℕ) → IsNext (Ok o) (next_from due place file)) → IfSome start (λ p. (p.used || not (are_empty done)) ≡ true)
+past-some None due place done o there none last next = tt
+past-some (Some p) due place done o there none last next = sym (past-used p done) ∙ settled-used due place (past p done) o none last there next
+
 -- The reader gave these notes, one after another.
 pub record Gives (files : Option Files) (start now : PlainReader) (done : List (List ℕ)) : Type 0 where
   pub same_name : now.name ≡ start.name
   pub count : start.due ≡ length done + now.due
   pub each : AllByRecursion IsNote done
   pub fewer : all_read now ≤ all_read start
+  pub place : now.place ≡ option_map (λ p. past p done) start.place
   pub left : (told : Files) → files ≡ Some told → notes_from start (file_of told start.name) ≡ option_map (λ rest. done ++ rest) (notes_from now (file_of told start.name))
 
 -- the note that comes next in the file, where files are told
@@ -75,7 +123,7 @@ each_more P [] note h p = (p, tt)
 each_more P (x ∷ xs) note h p = (h.0, each_more P xs note h.1 p)
 
 pub gives-none : (files : Option Files) (r : PlainReader) → Gives files r r []
-gives-none files r = record { same_name = refl; count = omega arith; each = tt; fewer = omega arith; left = λ told is. map_none (notes_from r (file_of told r.name)) }
+gives-none files r = record { same_name = refl; count = omega arith; each = tt; fewer = omega arith; place = past-none r.place; left = λ told is. map_none (notes_from r (file_of told r.name)) }
 
 module _ (files : Option Files) (start now : PlainReader) (done : List (List ℕ)) (h : Gives files start now done) where
   given-there : (next : Option (Option (List ℕ))) → IsGiven files now next → (told : Files) → files ≡ Some told → next_of now (file_of told start.name) ≡ next
@@ -91,6 +139,7 @@ module _ (files : Option Files) (start now : PlainReader) (done : List (List ℕ
         count = omega (arith, count, due, length-append done (note ∷ []));
         each = each_more IsNote done note h.each is;
         fewer = omega (arith, fewer, before);
+        place = ap (option_map (λ p. place_behind p note)) h.place ∙ past-next start.place done note;
         left = λ told at. (
             let file = file_of told start.name in
             h.left told at ∙ ap (option_map (λ rest. done ++ rest)) (one_note now file note (given-there (Some (Some note)) given told at)) ∙ map_more done note (notes_from (behind now note) file));
@@ -100,6 +149,9 @@ module _ (files : Option Files) (start now : PlainReader) (done : List (List ℕ
   pub gives-all : IsGiven files now (Some None) → (told : Files) → files ≡ Some told → notes_from start (file_of told start.name) ≡ Some done
   gives-all given told at =
       h.left told at ∙ ap (option_map (λ rest. done ++ rest)) (no_more now (file_of told start.name) (given-there (Some None) given told at)) ∙ ap Some (append-nil done)
+
+  pub gives-some : (o : Option (String Global)) → o ≡ None → now.due ≡ 0 → (IsSettled now → (file : List ℕ) → IsNext (Ok o) (next_of now file)) → IfSome start.place (λ p. (p.used || not (are_empty done)) ≡ true)
+  gives-some o none last next = past-some start.place now.due now.place done o h.place none last next
 
   pub gives-count : now.due ≡ 0 → length done ≡ start.due
   gives-count last = (let count = h.count in omega (arith, count, last))
@@ -189,6 +241,9 @@ module _ {S : Type 0} (files : S → Option Files) (draft : S → Option (List �
     walked-next (Some x) note next e moved given same_files same_draft later read most =
         subst (λ (x : String Global). Walked files draft numbers faults old new start next (done ++ string_bytes x ∷ [])) (some_is x note e)
         (walked-note (string_bytes x) next moved.0 moved.1 moved.2 given same_files same_draft later read most)
+
+    pub walked-some : (o : Option (String Global)) → o ≡ None → now.due ≡ 0 → (IsSettled now → (file : List ℕ) → IsNext (Ok o) (next_of now file)) → IfSome start.place (λ p. (p.used || not (are_empty done)) ≡ true)
+    walked-some o none last next = gives-some (files old) start now done h.gives o none last next
 
     -- no note
     pub walked-last : (o : Option (String Global)) → o ≡ None → IsGiven (files mid) now (Some (option_map string_bytes o)) → (told : Files) → files old ≡ Some told → notes_from start (file_of told start.name) ≡ Some done

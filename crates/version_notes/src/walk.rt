@@ -1,11 +1,11 @@
 // Going through all notes that are left.
-ghost use Rattle.std.specs.Prelude.{◌≡◌, ◌+◌, ◌≤◌, List, ℕ, length, map, max, Some, None, IfOk, IfErr, IsSome, OnOk, OnErr, MatchResult, string_bytes};
+ghost use Rattle.std.specs.Prelude.{◌≡◌, ◌+◌, ◌≤◌, ◌||◌, not, true, List, ℕ, length, map, max, Some, None, IfOk, IfErr, IfSome, IsSome, OnOk, OnErr, MatchResult, string_bytes};
 ghost use Rattle.std.specs.List.{AllByRecursion};
 ghost use Rattle.xa_outside.specs.Causes.{Rose};
 ghost use Rattle.xa_outside.specs.Folder.{Files};
 ghost use Rattle.xa_outside.specs.Numbers.{PullsAndDrafts, PullsAtMost};
 ghost use Rattle.version_notes.specs.Faults.{IfDamage, IfFolder};
-ghost use Rattle.version_notes.specs.Notes.{IsNote, most};
+ghost use Rattle.version_notes.specs.Notes.{IsNote, are_empty, most};
 ghost use Rattle.version_notes.specs.Reader.{file_of};
 ghost use Rattle.version_notes.specs.Reading.{all_read, notes_from};
 ghost use Rattle.version_notes.specs.Walk.{Copies, IsPrompt, Lengthens, lead};
@@ -53,10 +53,13 @@ pub fn read_notes<F: Folder>(
     ensures cause { IfErr result (λ e.
         IfFolder e (Rose (F.faults folder.old) (F.faults folder.new))) }
 
-    // As many notes as were due; and where files are told, those that the reader still gives, and
-    // damage where it gives none.
+    // As many notes as were due; where the file has notes, one of them is not empty, or one before
+    // them; and where files are told, those that the reader still gives, and damage where it gives
+    // none.
     ensures count { IfOk result (λ notes. length notes.items ≡ reader.due) }
     ensures each { IfOk result (λ notes. AllByRecursion IsNote (map string_bytes notes.items)) }
+    ensures some { IfSome reader.place (λ p. IfOk result (λ notes.
+        (p.used || not (are_empty (map string_bytes notes.items))) ≡ true)) }
     ensures told { (files : Files) → F.files folder.old ≡ Some files
         → MatchResult result
         (λ notes. notes_from reader (file_of files reader.name)

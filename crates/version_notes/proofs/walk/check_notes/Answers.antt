@@ -1,11 +1,11 @@
-use Rattle.std.proofs.Common.{◌≡◌, None, ◌∙◌, refl, sym, subst}
+use Rattle.std.proofs.Common.{[], ◌≡◌, None, ◌∙◌, refl, sym, subst}
 use Rattle.std.specs.Result.{IfErr, MatchResult}
 use Rattle.std.specs.Prelude.{IsSome}
 use Rattle.xa_outside.specs.Causes.{Rose}
 use Rattle.version_notes.specs.Faults.{IfDamage, IfFolder}
 use Rattle.version_notes.specs.Reader.{file_of}
 use Rattle.version_notes.specs.Reading.{notes_from}
-use Rattle.version_notes.proofs.Walks.{at-err, cause-then, no-note, walked-damage, walked-last, walked-later, walked-next, walked-pulls}
+use Rattle.version_notes.proofs.Walks.{at-err, cause-then, no-note, walked-damage, walked-last, walked-later, walked-next, walked-none, walked-pulls}
 use Rattle.version_notes.proofs.walk.check_notes.Goals as goal
 
 pub loop-reader-preserved-in-Some : goal.loop-reader-preserved-in-Some
@@ -52,3 +52,8 @@ returns g c =
       told = λ told is.
           subst IsSome (sym (walked-last f.files f.draft f.numbers f.faults c.args.folder.now c.loop-reader.folder c.next.new.folder start c.loop-reader.reader old.0 old.1 c.in_ok-next.field-0 last.0 n.told told is)) refl;
     }
+
+pub loop-reader-init : goal.loop-reader-init
+loop-reader-init g c =
+    let f = g.F.Folder in
+    ([], walked-none f.files f.draft f.numbers f.faults c.args.folder.now c.args.reader (g.met.F.Folder.metered c.args.folder.now))

@@ -4,8 +4,8 @@ use Rattle.xa_outside.specs.Folder.{Drafts}
 use Rattle.version_notes.specs.Walk.{Lengthens}
 use Rattle.version_notes.specs.Writer.{after, appended}
 use Rattle.version_notes.specs.declared.fault.NotesFault.TheVariants.{Folder}
-use Rattle.version_notes.proofs.Walks.{at-err, note-due}
-use Rattle.version_notes.proofs.Copied.{copied-drafted, copied-next, copied-none, copied-pulls, copied-room, copied-stopped, stopped-pulls}
+use Rattle.version_notes.proofs.Walks.{at-err, no-note, note-due}
+use Rattle.version_notes.proofs.Copied.{copied-all, copied-drafted, copied-next, copied-none, copied-pulls, copied-room, copied-stopped, stopped-pulls}
 use Rattle.version_notes.proofs.walk.copy_notes.Goals as goal
 
 pub loop-reader-init : goal.loop-reader-init
@@ -62,3 +62,12 @@ returns-in_err-push-clause-pulls g c =
     let f = g.F.Folder in
     let i = c.loop-reader.invariant in
     stopped-pulls f.files f.draft f.numbers f.faults c.args.folder.now c.loop-reader.folder c.args.reader c.loop-reader.reader c.args.writer.now c.loop-reader.writer i.0 i.1 c.next.new.folder c.push.new.folder (appended c.loop-reader.writer c.deref.result.now) (g.met.F.Folder.metered c.next.new.folder) c.in_ok-note.ensures.pulls c.in_err-push.ensures.folder.gains
+
+pub returns-clause-copies : goal.returns-clause-copies
+returns-clause-copies g c =
+    let f = g.F.Folder in
+    let i = c.loop-reader.invariant in
+    let n = c.in_ok-note.ensures in
+    let last = no-note c.loop-reader.reader c.next.new.self c.in_ok-note.field-0 c.in_default.not-Some n.after in
+    copied-all f.files f.draft f.numbers f.faults c.args.folder.now c.loop-reader.folder c.args.reader c.loop-reader.reader c.args.writer.now c.loop-reader.writer i.0 i.1 c.next.new.folder
+    c.in_ok-note.field-0 c.next.new.self last.0 n.after n.told n.settled n.draft

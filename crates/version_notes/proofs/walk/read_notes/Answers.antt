@@ -1,7 +1,8 @@
 use Rattle.std.proofs.Common.{◌≡◌, List, ℕ, [], ◌∷◌, ◌++◌, map, rules, ap, ◌∙◌, sym, subst}
-use Rattle.std.specs.Prelude.{string_bytes}
+use Rattle.std.specs.Prelude.{String, string_bytes}
+use Rattle.std.specs.Global.{Global}
 use Rattle.std.proofs.lemmas.List.{map-append}
-use Rattle.version_notes.proofs.Walks.{Walked, walked-next, walked-pulls}
+use Rattle.version_notes.proofs.Walks.{Walked, no-note, walked-next, walked-none, walked-pulls, walked-some}
 use Rattle.version_notes.proofs.walk.read_notes.Goals as goal
 
 pub loop-notes-preserved : goal.loop-notes-preserved
@@ -26,3 +27,17 @@ pub returns-then-is_err-clause-pulls : goal.returns-then-is_err-clause-pulls
 returns-then-is_err-clause-pulls g c =
     let f = g.F.Folder in
     walked-pulls f.files f.draft f.numbers f.faults c.args.folder.now c.loop-notes.folder c.next.new.folder c.args.reader c.loop-notes.reader _ c.loop-notes.invariant c.in_ok-note.ensures.pulls
+
+pub loop-notes-init : goal.loop-notes-init
+loop-notes-init g c =
+    let f = g.F.Folder in
+    let none : c.new-notes.result.items ≡ [] = search rules in
+    subst (λ (l : List (String Global)). Walked f.files f.draft f.numbers f.faults c.args.folder.now c.args.folder.now c.args.reader c.args.reader (map string_bytes l)) (sym none)
+    (walked-none f.files f.draft f.numbers f.faults c.args.folder.now c.args.reader (g.met.F.Folder.metered c.args.folder.now))
+
+pub returns-clause-some : goal.returns-clause-some
+returns-clause-some g c =
+    let f = g.F.Folder in
+    let n = c.in_ok-note.ensures in
+    let last = no-note c.loop-notes.reader c.next.new.self c.in_ok-note.field-0 c.in_default.not-Some n.after in
+    walked-some f.files f.draft f.numbers f.faults c.args.folder.now c.loop-notes.folder c.next.new.folder c.args.reader c.loop-notes.reader _ c.loop-notes.invariant c.in_ok-note.field-0 last.0 last.1 n.settled
