@@ -1,3 +1,2 @@
 pub mod Parts
-pub mod Coming
 pub mod Readings

@@ -11,8 +11,8 @@ use Rattle.version_notes.specs.Reader.{at_first, Comes}
 use Rattle.version_notes.specs.declared.parts.Parts.{Parts}
 use Rattle.version_notes.proofs.Comings.{notes_come, notes_behind}
 use Rattle.noted_file.specs.Full.{FullAs, Full}
-use Rattle.noted_file.specs.Reading.{notes_from}
-use Rattle.noted_file.proofs.Coming.{from-comes, comes-from}
+use Rattle.version_notes.specs.Reading.{notes_from}
+use Rattle.version_notes.proofs.Left.{from-comes, comes-from}
 use Rattle.noted_file.proofs.Parts.{full-notes, full-parts, full-part, full-core, behind-full, none_some}
 
 full-comes : (rules : List PlainRule) (vs : List PlainKeyed) (notes : List (List ℕ)) (bytes name : List ℕ) (parts : Parts) → FullAs rules vs notes bytes → parts_in bytes ≡ Some parts → Comes (at_first name parts (length vs)) bytes notes

@@ -1,15 +1,15 @@
 // What follows from the definitions.
-ghost use Rattle.std.specs.Prelude.{◌≡◌, ◌↔◌, ℕ, true, List, [], ◌∷◌, length, take, replicate, Option, Some, None, option_map};
+ghost use Rattle.std.specs.Prelude.{◌≡◌, ℕ, true, List, [], length, take, replicate, Some, None};
 ghost use Rattle.key_spec.specs.Data.{PlainRule};
 ghost use Rattle.keyed_tree.specs.Data.{PlainKeyed};
 ghost use Rattle.record_format.specs.Files.{FileOf};
 ghost use Rattle.archive_file.specs.Sound.{SoundAs};
 ghost use Rattle.version_notes.specs.Notes.{are_empty};
 ghost use Rattle.version_notes.specs.Parts.{parts_behind, parts_in};
-ghost use Rattle.version_notes.specs.Reader.{AreBehind, Comes, PlainReader, at_first, behind, next_of};
+ghost use Rattle.version_notes.specs.Reader.{AreBehind, at_first};
 ghost use Rattle.version_notes.specs.declared.parts.Parts.{Parts};
 ghost use Rattle.noted_file.specs.Full.{FullOf, FullAs, Full};
-ghost use Rattle.noted_file.specs.Reading.{notes_from};
+ghost use Rattle.version_notes.specs.Reading.{notes_from};
 
 /// A file with notes has one specification, one list of versions and one list of notes; and these
 /// have one file.
@@ -78,17 +78,4 @@ pub fn full_files_are_read_note_by_note()
         (parts : Parts)
         → parts_in bytes ≡ Some parts → SoundAs rules vs (take parts.core bytes)
         → notes_from (at_first name parts (length vs)) bytes ≡ None → ¬ Full bytes }
-{}
-
-/// What a reader still gives is what it gives next, and what it gives behind that.
-pub fn notes_come_one_by_one()
-    ensures comes { (r : PlainReader) (file : List ℕ) (notes : List (List ℕ))
-        → (notes_from r file ≡ Some notes) ↔ Comes r file notes }
-    ensures note { (r : PlainReader) (file note : List ℕ) → next_of r file ≡ Some (Some note)
-        → notes_from r file
-        ≡ option_map (λ others. note ∷ others) (notes_from (behind r note) file) }
-    ensures last { (r : PlainReader) (file : List ℕ) → next_of r file ≡ Some None
-        → notes_from r file ≡ Some [] }
-    ensures damage { (r : PlainReader) (file : List ℕ) → next_of r file ≡ None
-        → notes_from r file ≡ None }
 {}

@@ -5,5 +5,5 @@ mod laws;
 
 pub use laws::{
     full_files_are_read_note_by_note, full_files_have_one_reading, full_files_have_parts,
-    notes_come_one_by_one, sound_files_are_full,
+    sound_files_are_full,
 };

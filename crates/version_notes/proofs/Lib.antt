@@ -1,6 +1,9 @@
 pub mod Comings
+pub mod Copied
 pub mod Endings
 pub mod Fronts
+pub mod Left
 pub mod Spelled
+pub mod Walks
 pub mod Written
 pub mod Zeros

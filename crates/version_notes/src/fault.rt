@@ -1,8 +1,9 @@
 // Why nothing was read.
 ghost use Rattle.std.specs.Prelude.{◌≡◌};
-ghost use Rattle.version_notes.specs.declared.fault.NotesFault.TheVariants.{Memory};
+ghost use Rattle.version_notes.specs.declared.fault.NotesFault.TheVariants.{Folder, Memory};
 
 use std::alloc::AllocError;
+use xa_outside::Failed;
 
 /// Why the parts of a file are not known: it is damaged, or the folder failed.
 #[derive(Clone, Copy, Debug, PartialEq, Eq)]
@@ -24,5 +25,13 @@ impl From<AllocError> for NotesFault {
 
     fn from(_e: AllocError) -> NotesFault {
         NotesFault::Memory
+    }
+}
+
+impl From<Failed> for NotesFault {
+    ghost from_gives = { λ _ e. e ≡ Folder };
+
+    fn from(_e: Failed) -> NotesFault {
+        NotesFault::Folder
     }
 }

@@ -1,5 +1,5 @@
 // What follows from the definitions.
-ghost use Rattle.std.specs.Prelude.{◌≡◌, ◌≤◌, ℕ, ◌+◌, Bool, true, false, not, List, ◌++◌, length, take, Some, IfSome};
+ghost use Rattle.std.specs.Prelude.{◌≡◌, ◌↔◌, ◌≤◌, ℕ, ◌+◌, Bool, true, false, not, List, [], ◌∷◌, ◌++◌, length, take, Some, None, option_map, IfSome};
 ghost use Rattle.std.specs.List.{AllByRecursion};
 ghost use Rattle.std.specs.Int.{w64};
 ghost use Rattle.xa_fields.specs.Laws.{IsBytes};
@@ -7,7 +7,8 @@ ghost use Rattle.xa_fields.specs.Reading.{number_at, only_at, text_at};
 ghost use Rattle.xa_fields.specs.Spelling.{text_bytes};
 ghost use Rattle.version_notes.specs.Notes.{AreNotes, IsNote, are_empty, ending, is_note, note_at, notes_part};
 ghost use Rattle.version_notes.specs.Parts.{all_but, is_marked, last, parts_behind, parts_in, with_notes};
-ghost use Rattle.version_notes.specs.Reader.{AreBehind, Comes, PlainReader, at_first, left_of, next_of, place_behind};
+ghost use Rattle.version_notes.specs.Reader.{AreBehind, Comes, PlainReader, at_first, behind, left_of, next_of, place_behind};
+ghost use Rattle.version_notes.specs.Reading.{notes_from};
 ghost use Rattle.version_notes.specs.declared.parts.Parts.{Parts};
 ghost use Rattle.version_notes.specs.declared.place.Place.{Place};
 ghost use Rattle.version_notes.specs.Writer.{after_all, all_appended, fresh, last_appended};
@@ -79,4 +80,17 @@ pub fn writers_append_the_part()
         → (after_all (fresh at_once) notes).used ≡ not (are_empty notes) }
     ensures pushed { (at_once : Bool) (notes : List (List ℕ))
         → (after_all (fresh at_once) notes).pushed ≡ length notes }
+{}
+
+/// What a reader still gives is what it gives next, and what it gives behind that.
+pub fn notes_come_one_by_one()
+    ensures comes { (r : PlainReader) (file : List ℕ) (notes : List (List ℕ))
+        → (notes_from r file ≡ Some notes) ↔ Comes r file notes }
+    ensures note { (r : PlainReader) (file note : List ℕ) → next_of r file ≡ Some (Some note)
+        → notes_from r file
+        ≡ option_map (λ others. note ∷ others) (notes_from (behind r note) file) }
+    ensures last { (r : PlainReader) (file : List ℕ) → next_of r file ≡ Some None
+        → notes_from r file ≡ Some [] }
+    ensures damage { (r : PlainReader) (file : List ℕ) → next_of r file ≡ None
+        → notes_from r file ≡ None }
 {}

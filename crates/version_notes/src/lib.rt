@@ -11,13 +11,16 @@ mod parts;
 mod place;
 mod reader;
 mod text;
+mod walk;
 mod writer;
 
 pub use fault::{NotesFault, PartsFault};
 pub use laws::{
-    notes_are_read_back, parts_are_read_back, readers_give_the_notes, writers_append_the_part,
+    notes_are_read_back, notes_come_one_by_one, parts_are_read_back, readers_give_the_notes,
+    writers_append_the_part,
 };
 pub use parts::{Parts, parts_of};
 pub use reader::NoteReader;
 pub use text::{is_note, is_printed};
+pub use walk::{check_notes, copy_notes, read_notes};
 pub use writer::NoteWriter;

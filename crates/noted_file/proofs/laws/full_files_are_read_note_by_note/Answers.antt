@@ -1,4 +1,4 @@
-use Rattle.noted_file.proofs.Coming.{unnoted-come}
+use Rattle.version_notes.proofs.Left.{unnoted-come}
 use Rattle.noted_file.proofs.Readings.{full-come, read-full, not-full}
 use Rattle.noted_file.proofs.laws.full_files_are_read_note_by_note.Goals as goal
 

@@ -7,7 +7,7 @@ use Rattle.version_notes.specs.Notes.{note_at}
 use Rattle.version_notes.specs.Reader.{PlainReader, first_place, at_first, next_from, next_of, behind, is_done, left_of, Comes}
 use Rattle.version_notes.specs.declared.parts.Parts.{Parts}
 use Rattle.version_notes.specs.declared.place.Place.{Place}
-use Rattle.noted_file.specs.Reading.{notes_left, notes_from}
+use Rattle.version_notes.specs.Reading.{notes_left, notes_from}
 
 -- ---- one note, and those behind it
 

@@ -1,5 +1,5 @@
-use Rattle.noted_file.proofs.Coming.{one_note, no_more, no_note, from-comes, comes-from}
-use Rattle.noted_file.proofs.laws.notes_come_one_by_one.Goals as goal
+use Rattle.version_notes.proofs.Left.{one_note, no_more, no_note, from-comes, comes-from}
+use Rattle.version_notes.proofs.laws.notes_come_one_by_one.Goals as goal
 
 pub returns-clause-comes : goal.returns-clause-comes
 returns-clause-comes c = λ r file notes. (comes-from r file notes, from-comes notes r file)
