@@ -8,11 +8,11 @@ ghost use Rattle.keyed_tree.specs.Data.{PlainKeyed};
 ghost use Rattle.archive_file.specs.Sound.{SoundAs};
 ghost use Rattle.record_cursor.specs.View.{header_view, IsHeader};
 ghost use Rattle.record_format.specs.Files.{header_bytes};
-ghost use Rattle.version_notes.specs.Parts.{AreParts};
 ghost use Rattle.xarch_parts.specs.Archives.{ArchiveIs, CoreIs, IsFrontOf, PartsAre};
 ghost use Rattle.xarch_parts.specs.Ends.{Matches, fault_of};
 ghost use Rattle.xarch_parts.specs.Folders.{ReadsOnly};
 ghost use Rattle.xarch_parts.specs.Inputs.{file_length, read_in};
+ghost use Rattle.xarch_parts.specs.Noted.{AreWithin};
 ghost use Rattle.xarch_parts.specs.Readings;
 ghost use Rattle.xarch_parts.specs.Readings.{front_in, front_of_core};
 
@@ -39,7 +39,7 @@ pub fn read_parts<F: Folder>(
     name: &str,
     size: u64,
 ) -> Result<Parts, Fault>
-    ensures make_up { IfOk result (λ parts. AreParts size parts) }
+    ensures within { IfOk result (λ parts. AreWithin size parts) }
     ensures reads { ReadsOnly F.files F.draft F.numbers F.faults 16 folder.old folder.new
         (fault_of result) }
     ensures told { (files : Files) → F.files folder.old ≡ Some files
@@ -65,7 +65,7 @@ pub fn read_front<F: Folder>(
     size: u64,
 ) -> Result<Front, Fault>
     ensures header { IfOk result (λ f. IsHeader (header_view f.header)) }
-    ensures make_up { IfOk result (λ f. AreParts size f.parts) }
+    ensures within { IfOk result (λ f. AreWithin size f.parts) }
     ensures reads { ReadsOnly F.files F.draft F.numbers F.faults (16 + size)
         folder.old folder.new (fault_of result) }
     ensures told { (files : Files) → F.files folder.old ≡ Some files

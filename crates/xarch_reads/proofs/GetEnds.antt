@@ -32,13 +32,17 @@ use Rattle.xarch_words.specs.Commands.{get}
 use Rattle.xarch_words.specs.Refusal.{Refusal, no_file, no_version, damaged, PlainFault, refused, folder_fault, out_fault, memory}
 use Rattle.xarch_parts.specs.Allowed.{MayEnd, MayEndLate, PutSome}
 use Rattle.xarch_parts.specs.AllowedLaws.{defined_refused, MayEnd-did, MayEnd-outside, MayEnd-refused}
-use Rattle.xarch_parts.specs.Archives.{ArchiveIs, GoesOn, NoRefusal}
+use Rattle.version_notes.specs.Parts.{parts_behind, parts_in}
+use Rattle.version_notes.specs.declared.parts.Parts.{Parts}
+use Rattle.noted_file.specs.Full.{FullAs}
+use Rattle.xarch_parts.specs.Archives.{ArchiveIs, CoreIs, GoesOn, NoRefusal, PartsAre}
+use Rattle.xarch_parts.specs.CoreLaws.{core-read, core-sound, core-told, no-core, no-parts, of-parts}
+use Rattle.xarch_parts.specs.Readings.{parts_of}
 use Rattle.xarch_parts.specs.Ends.{EndsGained, Gained, IsDefined, IsInside, IsOfCommand, IsOfFolder, TellsOnly}
 use Rattle.xarch_parts.specs.Ends as ends
 use Rattle.xarch_parts.specs.FolderLaws.{caused-read, caused-then, keeps-read, reads-then}
 use Rattle.xarch_parts.specs.Folders.{Counts, Keeps, ReadsOnly}
-use Rattle.xarch_parts.specs.InputLaws.{IsDefined-file, whole_front, length-is}
-use Rattle.xarch_parts.specs.Inputs.{file_length, file_of}
+use Rattle.xarch_parts.specs.Inputs.{read_in}
 use Rattle.xarch_parts.specs.Outcome.{Outcome, and_then, or_refuse}
 use Rattle.xarch_meanings.specs.Get.{version_text}
 use Rattle.xarch_meanings.specs.Plausible.{MayWrite, MayBe, MayComeLate, get_input, is_version}
@@ -134,33 +138,32 @@ front-of old new text g t = by_told old.bytes new.bytes refl refl
 
 -- ---- what may come
 
--- From what is known of all archive files: the number of their versions stands in their header.
-module _ (counted : (rules : List PlainRule) (vs : List PlainKeyed) (bytes : List ℕ) → FileOf rules vs bytes → fixed bytes ≡ Some (length vs)) (files : Files) (name : List ℕ) (i : ℕ) (bytes : List ℕ) (there : map.get files name ≡ Some bytes) where
+-- From what is known of all archive files: the number of their versions stands in their header; and of all with notes: where their parts stand.
+module _ (counted : (rules : List PlainRule) (vs : List PlainKeyed) (bytes : List ℕ) → FileOf rules vs bytes → fixed bytes ≡ Some (length vs))
+    (has_parts : (rules : List PlainRule) (vs : List PlainKeyed) (notes : List (List ℕ)) (bytes : List ℕ) (full : FullAs rules vs notes bytes) → parts_in bytes ≡ Some (parts_behind full.core notes))
+    (files : Files) (name : List ℕ) (i size : ℕ) (bytes : List ℕ) (there : CoreIs files name size bytes) where
   abbrev judged : Option ℕ → Result (List ℕ) Refusal
   judged o = and_then (or_refuse o (damaged name)) (λ n. and_then (is_version n i) (λ _. Ok bytes))
 
   input-is : (o : Option ℕ) → fixed bytes ≡ o → get_input files name i ≡ judged o
   input-is o e =
-      ap (λ (x : Option (List ℕ)). and_then (or_refuse x (no_file name)) (λ b. and_then (or_refuse (fixed b) (damaged name)) (λ n. and_then (is_version n i) (λ _. Ok b)))) there
+      ap (λ x. and_then x (λ b. and_then (or_refuse (fixed b) (damaged name)) (λ n. and_then (is_version n i) (λ _. Ok b)))) (core-read files name size bytes there)
       ∙ ap judged e
 
-  -- a sound archive of this name has these bytes
-  own-bytes : (rules : List PlainRule) (vs : List PlainKeyed) (a : ArchiveIs files name rules vs) → a.bytes ≡ bytes
-  own-bytes rules vs a = let both : Some a.bytes ≡ Some bytes = sym a.there ∙ there in cc
-
-  own-sound : (rules : List PlainRule) (vs : List PlainKeyed) → ArchiveIs files name rules vs → SoundAs rules vs bytes
-  own-sound rules vs a = subst (SoundAs rules vs) (own-bytes rules vs a) a.sound
+  -- a sound archive of this name has these bytes before its notes
+  own-sound : (rules : List PlainRule) (vs : List PlainKeyed) (notes : List (List ℕ)) → ArchiveIs files name rules vs notes → SoundAs rules vs bytes
+  own-sound rules vs notes a = core-sound has_parts files name rules vs notes a size bytes there
 
   -- its header counts its versions
-  own-count : (n : ℕ) (rules : List PlainRule) (vs : List PlainKeyed) → fixed bytes ≡ Some n → ArchiveIs files name rules vs → n ≡ length vs
-  own-count n rules vs e a = let both : Some n ≡ Some (length vs) = sym e ∙ counted rules vs bytes (own-sound rules vs a).file in cc
+  own-count : (n : ℕ) (rules : List PlainRule) (vs : List PlainKeyed) (notes : List (List ℕ)) → fixed bytes ≡ Some n → ArchiveIs files name rules vs notes → n ≡ length vs
+  own-count n rules vs notes e a = let both : Some n ≡ Some (length vs) = sym e ∙ counted rules vs bytes (own-sound rules vs notes a).file in cc
 
   -- no header stands in front
   no_header : fixed bytes ≡ None → MayBe files (get name i) (Err (damaged name))
   unfolding MayBe
   no_header e = record {
     whatever = subst (λ x. GoesOn x (λ _. MayWrite files name) (Err (damaged name))) (sym (input-is None e)) refl;
-    sound = λ rules vs a. (let wrong : Some (length vs) ≡ None = sym (counted rules vs bytes (own-sound rules vs a).file) ∙ e in absurd cc);
+    sound = λ rules vs notes a. (let wrong : Some (length vs) ≡ None = sym (counted rules vs bytes (own-sound rules vs notes a).file) ∙ e in absurd cc);
   }
 
   module _ (n : ℕ) (e : fixed bytes ≡ Some n) where
@@ -171,8 +174,8 @@ module _ (counted : (rules : List PlainRule) (vs : List PlainKeyed) (bytes : Lis
         let input : get_input files name i ≡ Err (no_version i n) = input-is (Some n) e ∙ ap (λ b. and_then (cond b (Ok tt) (Err (no_version i n))) (λ _. Ok bytes)) uncounted in
         record {
           whatever = subst (λ x. GoesOn x (λ _. MayWrite files name) (Err (no_version i n))) (sym input) refl;
-          sound = λ rules vs a. (
-              let same = own-count n rules vs e a in
+          sound = λ rules vs notes a. (
+              let same = own-count n rules vs notes e a in
               let none = (version_there vs i).1 (subst (λ m. ¬ told.is_version i m) same out) in
               ap (λ m. Err (no_version i m)) same ∙ sym (ap (λ o. and_then (or_refuse o (no_version i (length vs))) (λ k. Ok (record { files = files; output = keyed_text k }))) none));
         }
@@ -182,8 +185,8 @@ module _ (counted : (rules : List PlainRule) (vs : List PlainKeyed) (bytes : Lis
       counted-input = input-is (Some n) e ∙ ap (λ b. and_then (cond b (Ok tt) (Err (no_version i n))) (λ _. Ok bytes)) yes
 
       -- the version that a sound archive has
-      own-version : (rules : List PlainRule) (vs : List PlainKeyed) → ArchiveIs files name rules vs → IsSome (version_of vs i)
-      own-version rules vs a = (version_there vs i).0 (subst (λ m. told.is_version i m) (own-count n rules vs e a) is)
+      own-version : (rules : List PlainRule) (vs : List PlainKeyed) (notes : List (List ℕ)) → ArchiveIs files name rules vs notes → IsSome (version_of vs i)
+      own-version rules vs notes a = (version_there vs i).0 (subst (λ m. told.is_version i m) (own-count n rules vs notes e a) is)
 
       written-text : (vs : List PlainKeyed) (output : List ℕ) (o : Option PlainKeyed) → version_of vs i ≡ o → IsSome o → ((k : PlainKeyed) → version_of vs i ≡ Some k → output ≡ keyed_text k)
           → Ok (record { files = files; output = output }) ≡ version_text files vs i
@@ -200,7 +203,7 @@ module _ (counted : (rules : List PlainRule) (vs : List PlainKeyed) (bytes : Lis
           let r : Result Outcome Refusal = Ok (record { files = files; output = output }) in
           record {
             whatever = subst (λ x. GoesOn x (λ _. MayWrite files name) r) (sym counted-input) (inr (record { output = output; is = refl }));
-            sound = λ rules vs a. written-text vs output (version_of vs i) refl (own-version rules vs a) (λ k at. h rules vs k (own-sound rules vs a) at);
+            sound = λ rules vs notes a. written-text vs output (version_of vs i) refl (own-version rules vs notes a) (λ k at. h rules vs k (own-sound rules vs notes a) at);
           }
 
       -- the archive is damaged
@@ -208,7 +211,7 @@ module _ (counted : (rules : List PlainRule) (vs : List PlainKeyed) (bytes : Lis
       unfolding MayBe
       may-refuse none = record {
         whatever = subst (λ x. GoesOn x (λ _. MayWrite files name) (Err (damaged name))) (sym counted-input) (inl refl);
-        sound = λ rules vs a. absurd (none rules vs (own-sound rules vs a));
+        sound = λ rules vs notes a. absurd (none rules vs (own-sound rules vs notes a));
       }
 
   -- ---- how the writing ends
@@ -333,39 +336,36 @@ module _ (name : List ℕ) (i : ℕ) where
   gained-as Out v old new is nothing g = inl (subst (λ (z : PlainFault). EndsGained (Some z) old new) (sym is) g)
   gained-as Memory v old new is nothing g = inl (subst (λ (z : PlainFault). EndsGained (Some z) old new) (sym is) g)
 
--- a file of this length is there
-there-of : (o : Option (List ℕ)) (name : List ℕ) (n : ℕ) → and_then (or_refuse o (no_file name)) (λ b. Ok (length b)) ≡ Ok n → (bytes : List ℕ) × (o ≡ Some bytes)
-there-of None name n e = absurd cc
-there-of (Some bytes) name n e = (bytes, refl)
-
-module _ (counted : (rules : List PlainRule) (vs : List PlainKeyed) (bytes : List ℕ) → FileOf rules vs bytes → fixed bytes ≡ Some (length vs)) (text : List ℕ → ℕ → List ℕ) (texts : TellsTexts text)
+module _ (counted : (rules : List PlainRule) (vs : List PlainKeyed) (bytes : List ℕ) → FileOf rules vs bytes → fixed bytes ≡ Some (length vs))
+    (has_parts : (rules : List PlainRule) (vs : List PlainKeyed) (notes : List (List ℕ)) (bytes : List ℕ) (full : FullAs rules vs notes bytes) → parts_in bytes ≡ Some (parts_behind full.core notes))
+    (text : List ℕ → ℕ → List ℕ) (texts : TellsTexts text)
     (name : List ℕ) (size i : ℕ) (s t : WrittenState) where
-  front : (files : Files) (bytes : List ℕ) → s.files ≡ Some files → map.get files name ≡ Some bytes → file_length files name ≡ Ok size → TellsFront s.files name size bytes
-  front files bytes is_told there long = (files, is_told, whole_front files name bytes size there (length-is files name bytes size there long))
+  front : (files : Files) (bytes : List ℕ) → s.files ≡ Some files → CoreIs files name size bytes → TellsFront s.files name size bytes
+  front files bytes is_told there = core-told files s.files name size bytes is_told there
 
-  little-in : (r : Result Unit GetFault) → WroteSo name size i s t r → (files : Files) (rules : List PlainRule) (vs : List PlainKeyed) (a : PlainArchive) → s.files ≡ Some files → file_length files name ≡ Ok size
-      → ArchiveIs files name rules vs → ArchiveOf vs a → PullsAtMost (22 + version_bytes a i) s.numbers t.numbers
-  little-in r w files rules vs a is_told long is of = little-of a i s.numbers t.numbers (w.few is.bytes rules vs a (front files is.bytes is_told is.there long) is.sound of)
+  little-in : (r : Result Unit GetFault) → WroteSo name size i s t r → (files : Files) (core : List ℕ) (rules : List PlainRule) (vs : List PlainKeyed) (notes : List (List ℕ)) (a : PlainArchive) → s.files ≡ Some files → CoreIs files name size core
+      → ArchiveIs files name rules vs notes → ArchiveOf vs a → PullsAtMost (22 + version_bytes a i) s.numbers t.numbers
+  little-in r w files core rules vs notes a is_told there is of = little-of a i s.numbers t.numbers (w.few core rules vs a (front files core is_told there) (core-sound has_parts files name rules vs notes is size core there) of)
 
   -- it ended with this fault, over a file with these bytes
-  ends-as : (e : GetFault) (v : PlainFault) → IsWrittenAs name i e v → (w : WroteSo name size i s t (Err e)) → (files : Files) (bytes : List ℕ) → s.files ≡ Some files → map.get files name ≡ Some bytes → file_length files name ≡ Ok size
+  ends-as : (e : GetFault) (v : PlainFault) → IsWrittenAs name i e v → (w : WroteSo name size i s t (Err e)) → (files : Files) (bytes : List ℕ) → s.files ≡ Some files → CoreIs files name size bytes
       → MayEndLate (MayComeLate files (Some (get name i))) (MayBe files (get name i)) (Some v) t.files s.taken t.taken
-  ends-as e v is w files bytes is_told there long = by_fault e v is w
+  ends-as e v is w files bytes is_told there = by_fault e v is w
     where
       at : TellsFront s.files name size bytes
-      at = front files bytes is_told there long
+      at = front files bytes is_told there
 
       same : t.files ≡ Some files
       same = w.same_files ∙ is_told
 
       some : (e : GetFault) (v : PlainFault) → NoRefusal v → WroteSo name size i s t (Err e) → MayEndLate (MayComeLate files (Some (get name i))) (MayBe files (get name i)) (Some v) t.files s.taken t.taken
-      some e v other w = inl (stopped counted files name i bytes there text texts t.files same s.taken t.taken w.gained v other (w.uncounted bytes at) (λ rules vs k sound at_i. w.text bytes rules vs k at sound at_i))
+      some e v other w = inl (stopped counted has_parts files name i size bytes there text texts t.files same s.taken t.taken w.gained v other (w.uncounted bytes at) (λ rules vs k sound at_i. w.text bytes rules vs k at sound at_i))
 
       by_fault : (e : GetFault) (v : PlainFault) → IsWrittenAs name i e v → WroteSo name size i s t (Err e) → MayEndLate (MayComeLate files (Some (get name i))) (MayBe files (get name i)) (Some v) t.files s.taken t.taken
-      by_fault (NoVersion n) v is w = inl (subst (λ (z : PlainFault). MayEnd (MayBe files (get name i)) (Some z) t.files s.taken t.taken) (sym is) (missing counted files name i bytes there text texts t.files same s.taken t.taken w.gained n (w.judges bytes at) (w.nothing n refl)))
+      by_fault (NoVersion n) v is w = inl (subst (λ (z : PlainFault). MayEnd (MayBe files (get name i)) (Some z) t.files s.taken t.taken) (sym is) (missing counted has_parts files name i size bytes there text texts t.files same s.taken t.taken w.gained n (w.judges bytes at) (w.nothing n refl)))
       by_fault Damage v (inl is) w =
           subst (λ (z : PlainFault). MayEndLate (MayComeLate files (Some (get name i))) (MayBe files (get name i)) (Some z) t.files s.taken t.taken) (sym is)
-          (met counted files name i bytes there text texts t.files same s.taken t.taken w.gained (w.judges bytes at) (w.uncounted bytes at) (λ rules vs sound. w.undamaged bytes rules vs at sound refl))
+          (met counted has_parts files name i size bytes there text texts t.files same s.taken t.taken w.gained (w.judges bytes at) (w.uncounted bytes at) (λ rules vs sound. w.undamaged bytes rules vs at sound refl))
       by_fault Damage v (inr is) w = some Damage v (outside v memory is no_memory) w
       by_fault Folder v is w = some Folder v (outside v folder_fault is no_folder) w
       by_fault Out v is w = some Out v (outside v out_fault is no_out) w
@@ -380,7 +380,7 @@ module _ (counted : (rules : List PlainRule) (vs : List PlainKeyed) (bytes : Lis
     out_later = w.out_later;
     cause = cause-of name i e v s.faults t.faults s.out_faults t.out_faults is w.cause;
     gained = gained-as name i e v s.taken t.taken is w.nothing (record { bytes = w.gained.0; takes = w.gained.1 });
-    may = λ files is_told long. (let f = there-of (map.get files name) name size long in ends-as e v is w files f.0 is_told f.1 long);
+    may = λ files core is_told there. ends-as e v is w files core is_told there;
     little = little-in (Err e) w;
   }
 
@@ -394,38 +394,45 @@ module _ (counted : (rules : List PlainRule) (vs : List PlainKeyed) (bytes : Lis
     out_later = w.out_later;
     cause = tt;
     gained = inl (record { bytes = w.gained.0; takes = w.gained.1 });
-    may = λ files is_told long. (
-        let f = there-of (map.get files name) name size long in
-        let at = front files f.0 is_told f.1 long in
-        inl (finished counted files name i f.0 f.1 text texts t.files (w.same_files ∙ is_told) s.taken t.taken w.gained (w.judges f.0 at) (λ rules vs k sound at_i. w.text f.0 rules vs k at sound at_i)));
+    may = λ files core is_told there. (
+        let at = front files core is_told there in
+        inl (finished counted has_parts files name i size core there text texts t.files (w.same_files ∙ is_told) s.taken t.taken w.gained (w.judges core at) (λ rules vs k sound at_i. w.text core rules vs k at sound at_i)));
     little = little-in (Ok tt) w;
   }
 
--- ---- behind the length of the file
+-- ---- behind the parts of the file
 
 module _ {S K : Type 0} (files : S → Option Files) (draft : S → Option (List ℕ)) (numbers : S → Numbers) (faults : S → ℕ) (taken : K → Taken) (out_faults : K → ℕ) (name : List ℕ) (size i : ℕ) (a b c : S) (k l : K) (v : Option PlainFault)
-    (asked : ReadsOnly files draft numbers faults 0 a b None) (w : Writes name size i (written_state files draft numbers faults taken out_faults b k) (written_state files draft numbers faults taken out_faults c l) v) where
-  pub get-keeps : (most : ℕ) → size ≤ most → Keeps files draft numbers None (Counts None most) a c v
+    (asked : ReadsOnly files draft numbers faults 16 a b None) (w : Writes name size i (written_state files draft numbers faults taken out_faults b k) (written_state files draft numbers faults taken out_faults c l) v) where
+  pub get-keeps : (most : ℕ) → size ≤ most → Keeps files draft numbers None (Counts None (most + 16)) a c v
   unfolding IsInside IsOfFolder
-  get-keeps most fits = keeps-read most a c None v (reads-then 0 size most a b c None (omega (arith, fits)) asked (record { same_files = w.same_files; same_draft = w.same_draft; pulls = w.pulls; later = w.later; cause = tt }))
+  get-keeps most fits = keeps-read (most + 16) a c None v (reads-then 16 size (most + 16) a b c None (omega (arith, fits)) asked (record { same_files = w.same_files; same_draft = w.same_draft; pulls = w.pulls; later = w.later; cause = tt }))
 
   pub get-caused : ends.IsCaused (faults a) (faults c) (out_faults k) (out_faults l) v
-  get-caused = caused-then (faults a) (faults b) (faults c) (out_faults k) (out_faults k) (out_faults l) v (caused-read 0 a b None (out_faults k) asked) (record { folder_later = w.later; out_later = w.out_later; cause = w.cause })
+  get-caused = caused-then (faults a) (faults b) (faults c) (out_faults k) (out_faults k) (out_faults l) v (caused-read 16 a b None (out_faults k) asked) (record { folder_later = w.later; out_later = w.out_later; cause = w.cause })
 
-  pub get-little : ((fs : Files) → files a ≡ Some fs → file_length fs name ≡ Ok size) → ReadsLittle (Some (get name i)) (files a) (numbers a) (numbers c)
-  get-little long = λ fs rules vs ar is at of. PullsAtMost-more (0 + (22 + version_bytes ar i)) (22 + version_bytes ar i) (numbers a) (numbers c) (omega arith) (PullsAtMost-trans 0 (22 + version_bytes ar i) (numbers a) (numbers b) (numbers c) asked.pulls (w.little fs rules vs ar (asked.same_files ∙ is) (long fs is) at of))
+  pub get-little : (parts : Parts) → parts.core ≡ size → ((fs : Files) → files a ≡ Some fs → PartsAre fs name parts) → ReadsLittle (Some (get name i)) (files a) (numbers a) (numbers c)
+  get-little parts long are = λ fs rules vs notes ar is at of. (
+      let p = are fs is in
+      let core = of-core fs name parts size long p in
+      PullsAtMost-more (16 + (22 + version_bytes ar i)) (38 + version_bytes ar i) (numbers a) (numbers c) (omega arith)
+      (PullsAtMost-trans 16 (22 + version_bytes ar i) (numbers a) (numbers b) (numbers c) asked.pulls (w.little fs (take parts.core p.bytes) rules vs notes ar (asked.same_files ∙ is) core at of)))
+    where
+      of-core : (fs : Files) (name : List ℕ) (parts : Parts) (size : ℕ) → parts.core ≡ size → (p : PartsAre fs name parts) → CoreIs fs name size (take parts.core p.bytes)
+      of-core fs name parts size long p = subst (λ n. CoreIs fs name n (take parts.core p.bytes)) long (of-parts fs name parts p)
 
--- ---- the file is not there
+-- ---- the file has no parts
 
-pub absent-length : (files : Files) (name : List ℕ) (i : ℕ) (v : PlainFault) → IsDefined (file_length files name) v → (q : Refusal) → v ≡ refused q → MayBe files (get name i) (Err q)
+pub absent-parts : (has_parts : (rules : List PlainRule) (vs : List PlainKeyed) (notes : List (List ℕ)) (bytes : List ℕ) (full : FullAs rules vs notes bytes) → parts_in bytes ≡ Some (parts_behind full.core notes))
+    → (files : Files) (name : List ℕ) (i : ℕ) (v : PlainFault) → IsDefined (read_in files name (parts_of name)) v → (q : Refusal) → v ≡ refused q → MayBe files (get name i) (Err q)
 unfolding MayBe
-absent-length files name i v d q e = record {
-  whatever = subst (λ x. GoesOn x (λ _. MayWrite files name) (Err q)) (sym (ap (λ x. and_then x (λ b. and_then (or_refuse (fixed b) (damaged name)) (λ n. and_then (is_version n i) (λ _. Ok b)))) refuses)) refl;
-  sound = λ rules vs a. absurd (clash a.bytes (sym (ap (λ o. or_refuse o (no_file name)) a.there) ∙ refuses));
+absent-parts has_parts files name i v d q e = record {
+  whatever = subst (λ x. GoesOn x (λ _. MayWrite files name) (Err q)) (sym (no-input files name i q refuses)) refl;
+  sound = λ rules vs notes a. absurd (no-parts has_parts files name rules vs notes q a refuses);
 }
   where
-    refuses : file_of files name ≡ Err q
-    refuses = defined_refused (file_of files name) v q (IsDefined-file (file_of files name) v d) e
+    refuses : read_in files name (parts_of name) ≡ Err q
+    refuses = defined_refused (read_in files name (parts_of name)) v q d e
 
-    clash : (b : List ℕ) → ◌≡◌ {A = Result (List ℕ) Refusal} (Ok b) (Err q) → ⊥
-    clash b h = cc
+    no-input : (files : Files) (name : List ℕ) (i : ℕ) (q : Refusal) → read_in files name (parts_of name) ≡ Err q → get_input files name i ≡ Err q
+    no-input files name i q refuses = ap (λ x. and_then x (λ core. and_then (or_refuse (fixed core) (damaged name)) (λ n. and_then (is_version n i) (λ _. Ok core)))) (no-core files name q refuses)

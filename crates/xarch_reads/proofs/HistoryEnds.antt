@@ -2,7 +2,7 @@
 use Rattle.std.proofs.Common.{◌≡◌, ◌≢◌, inl, inr, ℕ, ◌+◌, ◌-◌, ◌≤◌, List, length, Option, Some, None, Result, Ok, Err, refl, sym, ap, ◌∙◌, subst, arith}
 use Rattle.xa_outside.specs.Causes.{Rose}
 use Rattle.xa_outside.specs.Folder.{Files}
-use Rattle.xa_outside.specs.NumberLaws.{PullsAtMost-trans}
+use Rattle.xa_outside.specs.NumberLaws.{PullsAtMost-more, PullsAtMost-trans}
 use Rattle.xa_outside.specs.Numbers.{Numbers, PullsAtMost}
 use Rattle.key_spec.specs.Data.{PlainRule}
 use Rattle.keyed_tree.specs.Data.{PlainLabel, PlainKeyed}
@@ -17,14 +17,16 @@ use Rattle.file_history.specs.Told.{IfFailed}
 use Rattle.file_history.specs.declared.fault.HistoryFault.{HistoryFault}
 use Rattle.file_history.specs.declared.fault.HistoryFault.TheVariants.{Damage, Folder, Memory}
 use Rattle.record_cursor.specs.View.{PlainHeader, IsHeader}
+use Rattle.version_notes.specs.Parts.{parts_behind, parts_in}
+use Rattle.noted_file.specs.Full.{FullAs}
 use Rattle.xarch_words.specs.Commands.{history}
-use Rattle.xarch_words.specs.Refusal.{Refusal, no_file, damaged, PlainFault, refused, folder_fault, memory}
+use Rattle.xarch_words.specs.Refusal.{Refusal, damaged, PlainFault, refused, folder_fault, memory}
 use Rattle.xarch_parts.specs.Archives.{ArchiveIs, GoesOn, IsRefusal, NoRefusal}
 use Rattle.xarch_parts.specs.Ends.{IsInside, IsOfFolder}
 use Rattle.xarch_parts.specs.FolderLaws.{reads-then}
 use Rattle.xarch_parts.specs.Folders.{ReadsOnly}
-use Rattle.xarch_parts.specs.Outcome.{Outcome, and_then, or_refuse}
-use Rattle.xarch_parts.specs.Readings.{front_in}
+use Rattle.xarch_parts.specs.CoreLaws.{front-sound}
+use Rattle.xarch_parts.specs.Outcome.{Outcome, and_then}
 use Rattle.xarch_meanings.specs.ReadLaws.{reads-once}
 use Rattle.xarch_meanings.specs.History.{labels_of, numbers_text}
 use Rattle.xarch_meanings.specs.OnePass.{front_size}
@@ -57,11 +59,11 @@ shown-sound name Memory v is not q r = let wrong : memory ≡ refused q = sym is
 
 -- the header was read, and then the search read at most what stands behind it
 pub searched-read : {S : Type 0} {files : S → Option Files} {draft : S → Option (List ℕ)} {numbers : S → Numbers} {faults : S → ℕ} {h : PlainHeader} {n most : ℕ} → IsHeader h → (a b c : S) (v : Option PlainFault)
-    → ReadsOnly files draft numbers faults n a b None → (h.length ≤ most) × PullsAtMost h.first (numbers a) (numbers b) → ReadsOnly files draft numbers faults (h.length - h.first) b c v → ReadsOnly files draft numbers faults most a c v
+    → ReadsOnly files draft numbers faults n a b None → (h.length ≤ most) × PullsAtMost (16 + h.first) (numbers a) (numbers b) → ReadsOnly files draft numbers faults (h.length - h.first) b c v → ReadsOnly files draft numbers faults (most + 16) a c v
 searched-read {h = h} {n = n} {most = most} is a b c v p once q =
     let within = is.within in
     let long = once.0 in
-    reads-then h.first (h.length - h.first) most a b c v (omega (arith, within, long)) (reads-once n h.first a b None p once.1) q
+    reads-then (16 + h.first) (h.length - h.first) (most + 16) a b c v (omega (arith, within, long)) (reads-once n (16 + h.first) a b None p once.1) q
 
 -- ---- what may come
 
@@ -76,53 +78,53 @@ beside-given : (h g : List PlainRule × ℕ) (x : Result (List PlainLabel) Refus
 beside-given h g (Ok ks) ls e = let same : (h, ks) ≡ (g, ls) = cc in ap (λ (p : (List PlainRule × ℕ) × List PlainLabel). Ok p.1) same
 beside-given h g (Err r) ls e = absurd cc
 
--- From what is known of all archive files: their header stands in front.
-module _ (fronted : (rules : List PlainRule) (vs : List PlainKeyed) (bytes : List ℕ) → closed (canonical rules) ≡ Ok rules → FileOf rules vs bytes → header bytes ≡ Some (rules, length vs))
+-- From what is known of all archive files: their header stands in front; and of all with notes: where their parts stand.
+module _ (has_parts : (rules : List PlainRule) (vs : List PlainKeyed) (notes : List (List ℕ)) (bytes : List ℕ) (full : FullAs rules vs notes bytes) → parts_in bytes ≡ Some (parts_behind full.core notes))
+    (fronted : (rules : List PlainRule) (vs : List PlainKeyed) (bytes : List ℕ) → closed (canonical rules) ≡ Ok rules → FileOf rules vs bytes → header bytes ≡ Some (rules, length vs))
     (files : Files) (name path : List ℕ) where
   -- over a sound archive the path is read by its rules
-  input_sound : (rules : List PlainRule) (vs : List PlainKeyed) (a : ArchiveIs files name rules vs) → history_input files name path ≡ beside (rules, length vs) (labels_of rules path)
-  input_sound rules vs a =
-      ap (λ o. and_then (and_then (or_refuse o (no_file name)) (front_in name)) (λ h. and_then (labels_of h.0 path) (λ ls. Ok (h, ls)))) a.there
-      ∙ ap (λ o. and_then (or_refuse o (damaged name)) (λ (h : List PlainRule × ℕ). and_then (labels_of h.0 path) (λ ls. Ok (h, ls)))) (fronted rules vs a.bytes a.sound.specification a.sound.file)
+  input_sound : (rules : List PlainRule) (vs : List PlainKeyed) (notes : List (List ℕ)) (a : ArchiveIs files name rules vs notes) → history_input files name path ≡ beside (rules, length vs) (labels_of rules path)
+  input_sound rules vs notes a = ap (λ x. and_then x (λ (h : List PlainRule × ℕ). and_then (labels_of h.0 path) (λ ls. Ok (h, ls)))) (front-sound has_parts files name rules vs notes a fronted)
 
   -- a refusal before the records are looked at
   pub may_refuse_early : (q : Refusal) → history_input files name path ≡ Err q → MayBe files (history name path) (Err q)
   unfolding MayBe
   may_refuse_early q e = record {
     whatever = subst (λ x. GoesOn x (λ _. MayWrite files name) (Err q)) (sym e) refl;
-    sound = λ rules vs a.
-        let none = beside-refused (rules, length vs) (labels_of rules path) q (sym (input_sound rules vs a) ∙ e) in
+    sound = λ rules vs notes a.
+        let none = beside-refused (rules, length vs) (labels_of rules path) q (sym (input_sound rules vs notes a) ∙ e) in
         sym (ap (λ x. and_then x (λ labels. Ok (record { files = files; output = numbers_text (hist vs labels) }))) none);
   }
 
   module _ (h : List PlainRule × ℕ) (labels : List PlainLabel) (input : history_input files name path ≡ Ok (h, labels)) where
-    given : (rules : List PlainRule) (vs : List PlainKeyed) (a : ArchiveIs files name rules vs) → labels_of rules path ≡ Ok labels
-    given rules vs a = beside-given (rules, length vs) h (labels_of rules path) labels (sym (input_sound rules vs a) ∙ input)
+    given : (rules : List PlainRule) (vs : List PlainKeyed) (notes : List (List ℕ)) (a : ArchiveIs files name rules vs notes) → labels_of rules path ≡ Ok labels
+    given rules vs notes a = beside-given (rules, length vs) h (labels_of rules path) labels (sym (input_sound rules vs notes a) ∙ input)
 
     -- the numbers are written
-    pub may_write : (output : List ℕ) → ((rules : List PlainRule) (vs : List PlainKeyed) → ArchiveIs files name rules vs → output ≡ numbers_text (hist vs labels))
+    pub may_write : (output : List ℕ) → ((rules : List PlainRule) (vs : List PlainKeyed) (notes : List (List ℕ)) → ArchiveIs files name rules vs notes → output ≡ numbers_text (hist vs labels))
         → MayBe files (history name path) (Ok (record { files = files; output = output }))
     unfolding MayBe
     may_write output told =
         let r : Result Outcome Refusal = Ok (record { files = files; output = output }) in
         record {
           whatever = subst (λ x. GoesOn x (λ _. MayWrite files name) r) (sym input) (inr (record { output = output; is = refl }));
-          sound = λ rules vs a.
-              ap (λ (o : List ℕ). Ok (record { files = files; output = o })) (told rules vs a)
-              ∙ sym (ap (λ x. and_then x (λ labels. Ok (record { files = files; output = numbers_text (hist vs labels) }))) (given rules vs a));
+          sound = λ rules vs notes a.
+              ap (λ (o : List ℕ). Ok (record { files = files; output = o })) (told rules vs notes a)
+              ∙ sym (ap (λ x. and_then x (λ labels. Ok (record { files = files; output = numbers_text (hist vs labels) }))) (given rules vs notes a));
         }
 
     -- the archive is damaged
-    pub may_refuse : (q : Refusal) → q ≡ damaged name → ((rules : List PlainRule) (vs : List PlainKeyed) → ¬ ArchiveIs files name rules vs) → MayBe files (history name path) (Err q)
+    pub may_refuse : (q : Refusal) → q ≡ damaged name → ((rules : List PlainRule) (vs : List PlainKeyed) (notes : List (List ℕ)) → ¬ ArchiveIs files name rules vs notes) → MayBe files (history name path) (Err q)
     unfolding MayBe
     may_refuse q e none = record {
       whatever = subst (λ x. GoesOn x (λ _. MayWrite files name) (Err q)) (sym input) (inl (ap (λ s. Err s) e));
-      sound = λ rules vs a. absurd (none rules vs a);
+      sound = λ rules vs notes a. absurd (none rules vs notes a);
     }
 
     -- the header was read, and then the path was followed
-    pub little-read : (rules : List PlainRule) (vs : List PlainKeyed) (a : PlainArchive) (x y z : Numbers) → ArchiveIs files name rules vs → PullsAtMost (front_size rules vs) x y → PullsAtMost (8 + probed a labels) y z
-        → PullsAtMost (front_size rules vs + (8 + path_bytes a (labels_of rules path))) x z
-    little-read rules vs a x y z is p q =
-        let all = PullsAtMost-trans (front_size rules vs) (8 + probed a labels) x y z p q in
-        subst (λ r. PullsAtMost (front_size rules vs + (8 + path_bytes a r)) x z) (sym (given rules vs is)) all
+    pub little-read : (rules : List PlainRule) (vs : List PlainKeyed) (notes : List (List ℕ)) (a : PlainArchive) (x y z : Numbers) → ArchiveIs files name rules vs notes → PullsAtMost (16 + front_size rules vs) x y → PullsAtMost (8 + probed a labels) y z
+        → PullsAtMost (front_size rules vs + (24 + path_bytes a (labels_of rules path))) x z
+    little-read rules vs notes a x y z is p q =
+        let all = PullsAtMost-trans (16 + front_size rules vs) (8 + probed a labels) x y z p q in
+        let most = PullsAtMost-more (16 + front_size rules vs + (8 + probed a labels)) (front_size rules vs + (24 + probed a labels)) x z (omega arith) all in
+        subst (λ r. PullsAtMost (front_size rules vs + (24 + path_bytes a r)) x z) (sym (given rules vs notes is)) most

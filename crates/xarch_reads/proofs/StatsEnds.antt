@@ -1,6 +1,6 @@
 -- How the parts of `stats` lead to its end.
-use Rattle.std.proofs.Common.{◌≡◌, inl, inr, ℕ, List, Some, Result, Ok, Err, refl, sym, ap, ◌∙◌, subst}
-use Rattle.std.specs.FinMap as map
+use Rattle.std.proofs.Common.{◌≡◌, inl, inr, ℕ, ◌+◌, List, ◌++◌, length, take, Some, Result, Ok, Err, refl, sym, ap, ◌∙◌, subst, arith}
+use Rattle.std.proofs.lemmas.List.{length-append}
 use Rattle.xa_outside.specs.Folder.{Files, front_of}
 use Rattle.key_spec.specs.Data.{PlainRule}
 use Rattle.keyed_tree.specs.Data.{PlainKeyed}
@@ -8,50 +8,77 @@ use Rattle.archive_tree.specs.Data.{PlainArchive}
 use Rattle.archive_tree.specs.Stands.{ArchiveOf}
 use Rattle.archive_file.specs.Sound.{SoundAs}
 use Rattle.archive_stats.specs.Counts.{PlainCounts, counts}
+use Rattle.record_format.specs.Files.{file_bytes}
+use Rattle.version_notes.specs.Notes.{notes_part}
+use Rattle.version_notes.specs.Parts.{parts_behind, parts_in}
+use Rattle.version_notes.specs.declared.parts.Parts.{Parts}
+use Rattle.noted_file.specs.Full.{FullAs}
 use Rattle.xarch_words.specs.Commands.{stats}
 use Rattle.xarch_words.specs.Refusal.{Refusal, damaged}
-use Rattle.xarch_parts.specs.Inputs.{file_length}
+use Rattle.xarch_parts.specs.Archives.{ArchiveIs, CoreIs, GoesOn, PartsAre}
+use Rattle.xarch_parts.specs.CoreLaws.{core-front, core-sound, no-parts, of-parts, parts-read}
+use Rattle.xarch_parts.specs.InputLaws.{length-is}
+use Rattle.xarch_parts.specs.Inputs.{file_length, read_in}
 use Rattle.xarch_parts.specs.Outcome.{Outcome}
-use Rattle.xarch_meanings.specs.Plausible.{MayWrite, MayBe}
-use Rattle.xarch_meanings.specs.Stats.{counts_text}
-use Rattle.xarch_reads.proofs.WholeFiles.{given_by, length_from, refused_by, whole_front}
+use Rattle.xarch_parts.specs.Readings.{parts_of}
+use Rattle.xarch_meanings.specs.Plausible.{MayWrite, MayBe, stats_input}
+use Rattle.xarch_meanings.specs.Stats.{counts_text, noted_counts, of_size}
 
-module _ (files : Files) (name : List ℕ) where
-  -- the archive is not there
-  pub may_refuse_early : (q : Refusal) → file_length files name ≡ Err q → MayBe files (stats name) (Err q)
+-- From what is known of all archives with notes: where their parts stand.
+module _ (has_parts : (rules : List PlainRule) (vs : List PlainKeyed) (notes : List (List ℕ)) (bytes : List ℕ) (full : FullAs rules vs notes bytes) → parts_in bytes ≡ Some (parts_behind full.core notes))
+    (files : Files) (name : List ℕ) where
+  -- the archive is not there, or has no parts
+  pub may_refuse_early : (q : Refusal) → stats_input files name ≡ Err q → MayBe files (stats name) (Err q)
   unfolding MayBe
   may_refuse_early q e = record {
-    whatever = refused_by files name (map.get files name) q (λ _. MayWrite files name) e;
-    sound = λ rules vs a. let wrong : length_from files name (Some a.bytes) ≡ Err q = sym (ap (length_from files name) a.there) ∙ e in absurd cc;
+    whatever = subst (λ x. GoesOn x (λ _. MayWrite files name) (Err q)) (sym e) refl;
+    sound = λ rules vs notes a. absurd (no-parts has_parts files name rules vs notes a q e);
   }
 
-  -- the counts are written
-  pub may_count : (n : ℕ) (c : PlainCounts) → file_length files name ≡ Ok n
-      → ((bytes : List ℕ) (rules : List PlainRule) (vs : List PlainKeyed) (a : PlainArchive) → front_of files name n ≡ Some bytes → SoundAs rules vs bytes → ArchiveOf vs a → c ≡ counts rules a)
-      → MayBe files (stats name) (Ok (record { files = files; output = counts_text c }))
-  unfolding MayBe
-  may_count n c e h =
-      let r : Result Outcome Refusal = Ok (record { files = files; output = counts_text c }) in
-      record {
-        whatever = given_by files name (map.get files name) n (λ _. MayWrite files name) r e (λ _ _. inr (record { output = counts_text c; is = refl }));
-        sound = λ rules vs a.
-            let file = a.sound.file in
-            record {
-              archive = file.archive;
-              of = file.is;
-              is = ap (λ (k : PlainCounts). Ok (record { files = files; output = counts_text k })) (h a.bytes rules vs file.archive (whole_front files name a.bytes n a.there e) a.sound file.is);
-            };
-      }
+  module _ (parts : Parts) (p : PartsAre files name parts) where
+    input : stats_input files name ≡ Ok parts
+    input = parts-read files name p.bytes parts p.there p.are
 
-  -- the archive is damaged
-  pub may_refuse : (n : ℕ) → file_length files name ≡ Ok n → ((bytes : List ℕ) (rules : List PlainRule) (vs : List PlainKeyed) → front_of files name n ≡ Some bytes → ¬ SoundAs rules vs bytes)
-      → MayBe files (stats name) (Err (damaged name))
-  unfolding MayBe
-  may_refuse n e h = record {
-    whatever = given_by files name (map.get files name) n (λ _. MayWrite files name) (Err (damaged name)) e (λ _ _. inl refl);
-    sound = λ rules vs a. absurd (h a.bytes rules vs (whole_front files name a.bytes n a.there e) a.sound);
-  }
+    core : CoreIs files name parts.core (take parts.core p.bytes)
+    core = of-parts files name parts p
 
-  -- the refusal that is named
-  pub refuses_only : (q : Refusal) → q ≡ damaged name → MayBe files (stats name) (Err (damaged name)) → MayBe files (stats name) (Err q)
-  refuses_only q e may = subst (λ (r : Refusal). MayBe files (stats name) (Err r)) (sym e) may
+    -- the bytes of the archive and its notes are those of the file
+    whole : (rules : List PlainRule) (vs : List PlainKeyed) (notes : List (List ℕ)) (a : ArchiveIs files name rules vs notes) (n : ℕ) → file_length files name ≡ Ok n → n ≡ (counts rules a.full.is.file.archive).bytes + length (notes_part notes)
+    whole rules vs notes a n long =
+        let all = length-is files name a.bytes n a.there long in
+        let split = ap length a.full.spelled ∙ length-append a.full.core (notes_part notes) in
+        let spelled : length a.full.core ≡ (counts rules a.full.is.file.archive).bytes = ap length a.full.is.file.spelled in
+        omega (arith, all, split, spelled)
+
+    -- the counts are written
+    pub may_count : (n : ℕ) (c : PlainCounts) → file_length files name ≡ Ok n
+        → ((bytes : List ℕ) (rules : List PlainRule) (vs : List PlainKeyed) (a : PlainArchive) → front_of files name parts.core ≡ Some bytes → SoundAs rules vs bytes → ArchiveOf vs a → c ≡ counts rules a)
+        → MayBe files (stats name) (Ok (record { files = files; output = counts_text (of_size n c) }))
+    unfolding MayBe
+    may_count n c long h =
+        let r : Result Outcome Refusal = Ok (record { files = files; output = counts_text (of_size n c) }) in
+        record {
+          whatever = subst (λ x. GoesOn x (λ _. MayWrite files name) r) (sym input) (inr (record { output = counts_text (of_size n c); is = refl }));
+          sound = λ rules vs notes a.
+              let file = a.full.is.file in
+              let here = core-sound has_parts files name rules vs notes a parts.core (take parts.core p.bytes) core in
+              let same : c ≡ counts rules file.archive = h (take parts.core p.bytes) rules vs file.archive (core-front files name parts.core (take parts.core p.bytes) core) here file.is in
+              record {
+                archive = file.archive;
+                of = file.is;
+                is = ap (λ (k : PlainCounts). Ok (record { files = files; output = counts_text (of_size n k) })) same
+                    ∙ ap (λ k. Ok (record { files = files; output = counts_text (of_size k (counts rules file.archive)) })) (whole rules vs notes a n long);
+              };
+        }
+
+    -- the archive is damaged
+    pub may_refuse : ((bytes : List ℕ) (rules : List PlainRule) (vs : List PlainKeyed) → front_of files name parts.core ≡ Some bytes → ¬ SoundAs rules vs bytes) → MayBe files (stats name) (Err (damaged name))
+    unfolding MayBe
+    may_refuse h = record {
+      whatever = subst (λ x. GoesOn x (λ _. MayWrite files name) (Err (damaged name))) (sym input) (inl refl);
+      sound = λ rules vs notes a. absurd (h (take parts.core p.bytes) rules vs (core-front files name parts.core (take parts.core p.bytes) core) (core-sound has_parts files name rules vs notes a parts.core (take parts.core p.bytes) core));
+    }
+
+-- the refusal that is named
+pub refuses_only : (files : Files) (name : List ℕ) (q : Refusal) → q ≡ damaged name → MayBe files (stats name) (Err (damaged name)) → MayBe files (stats name) (Err q)
+refuses_only files name q e may = subst (λ (r : Refusal). MayBe files (stats name) (Err r)) (sym e) may

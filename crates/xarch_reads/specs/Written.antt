@@ -1,5 +1,5 @@
 -- What the writing of a version does, and with what fault it ends.
-use Rattle.std.specs.Prelude.{◌≡◌, ◌⊎◌, ℕ, ◌+◌, ◌≤◌, List, Option, Some, Ok}
+use Rattle.std.specs.Prelude.{◌≡◌, ◌⊎◌, ℕ, ◌+◌, ◌≤◌, List, Option, Some}
 use Rattle.xa_outside.specs.Folder.{Files}
 use Rattle.xa_outside.specs.Numbers.{Numbers, PullsAtMost}
 use Rattle.xa_outside.specs.Taken.{Taken}
@@ -12,9 +12,8 @@ use Rattle.file_get.specs.declared.fault.GetFault.TheVariants.{NoVersion, Damage
 use Rattle.xarch_words.specs.Commands.{get}
 use Rattle.xarch_words.specs.Refusal.{damaged, no_version, PlainFault, refused, folder_fault, out_fault, memory}
 use Rattle.xarch_parts.specs.Allowed.{MayEndLate}
-use Rattle.xarch_parts.specs.Archives.{ArchiveIs}
+use Rattle.xarch_parts.specs.Archives.{ArchiveIs, CoreIs}
 use Rattle.xarch_parts.specs.Ends.{IsOfCommand}
-use Rattle.xarch_parts.specs.Inputs.{file_length}
 use Rattle.xarch_meanings.specs.Plausible.{MayBe, MayComeLate}
 use Rattle.xarch_meanings.specs.Ran.{GainsBy}
 use Rattle.xarch_meanings.specs.ReadsBack.{version_bytes}
@@ -40,7 +39,7 @@ abbrev pub written_state : {S K : Type 0} → (S → Option Files) → (S → Op
 written_state files draft numbers faults taken out_faults folder out =
     record { files = files folder; draft = draft folder; numbers = numbers folder; faults = faults folder; taken = taken out; out_faults = out_faults out }
 
--- The version was written, or it is told why not: whatever the file is, and where it is told and has this size.
+-- The version was written, or it is told why not: whatever the file is, and where it is told and has so many bytes before its notes.
 pub record Writes (name : List ℕ) (size i : ℕ) (s t : WrittenState) (ended : Option PlainFault) : Type 0 where
   pub same_files : t.files ≡ s.files
   pub same_draft : t.draft ≡ s.draft
@@ -49,6 +48,6 @@ pub record Writes (name : List ℕ) (size i : ℕ) (s t : WrittenState) (ended :
   pub out_later : s.out_faults ≤ t.out_faults
   pub cause : IsOfCommand s.faults t.faults s.out_faults t.out_faults ended
   pub gained : GainsBy (Some (get name i)) ended s.taken t.taken
-  pub may : (files : Files) → s.files ≡ Some files → file_length files name ≡ Ok size → MayEndLate (MayComeLate files (Some (get name i))) (MayBe files (get name i)) ended t.files s.taken t.taken
-  pub little : (files : Files) (rules : List PlainRule) (vs : List PlainKeyed) (a : PlainArchive) → s.files ≡ Some files → file_length files name ≡ Ok size → ArchiveIs files name rules vs → ArchiveOf vs a
+  pub may : (files : Files) (core : List ℕ) → s.files ≡ Some files → CoreIs files name size core → MayEndLate (MayComeLate files (Some (get name i))) (MayBe files (get name i)) ended t.files s.taken t.taken
+  pub little : (files : Files) (core : List ℕ) (rules : List PlainRule) (vs : List PlainKeyed) (notes : List (List ℕ)) (a : PlainArchive) → s.files ≡ Some files → CoreIs files name size core → ArchiveIs files name rules vs notes → ArchiveOf vs a
       → PullsAtMost (22 + version_bytes a i) s.numbers t.numbers

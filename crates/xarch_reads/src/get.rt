@@ -7,7 +7,9 @@ ghost use Rattle.xarch_parts.specs.Ends.{fault_of};
 ghost use Rattle.xarch_meanings.specs.Performs.{Performs};
 ghost use Rattle.xarch_reads.specs.Written.{IsWrittenAs, Writes, written_state};
 
+use crate::fronts::parts_in;
 use file_get::GetFault;
+use noted_file::full_files_have_parts;
 use record_format::versions_have_one_file;
 use std::alloc::Global;
 use std::marker::Brand;
@@ -15,7 +17,7 @@ use std::sync::ledger::{Blank, Ledger};
 use timestamp_tree::Steps;
 use xa_outside::{Folder, Sink};
 use xarch_meanings::archives_tell_their_texts;
-use xarch_parts::{damaged, length_of};
+use xarch_parts::damaged;
 use xarch_words::Fault;
 
 /// Writes a version of an archive in key order.
@@ -30,17 +32,19 @@ pub fn run_get<F: Folder, O: Sink>(
         folder.old folder.new (O.taken out.old) (O.taken out.new)
         (O.faults out.old) (O.faults out.new) (fault_of result) }
 {
-    let size = length_of(alloc, folder, archive)?;
+    // A law, for the proof of what may come of it.
+    full_files_have_parts();
+    let parts = parts_in(alloc, archive, folder)?;
     let asked = Asked {
         archive,
-        size,
+        size: parts.core,
         version,
     };
     write_version::<F, O, Brand>(Blank::new(1), alloc, &asked, folder, out)
 }
 
-/// A version, by its number, that is asked for of the archive of this name, whose file has this
-/// size.
+/// A version, by its number, that is asked for of the archive of this name, of which so many bytes
+/// stand before its notes.
 #[derive(Clone, Copy)]
 struct Asked<'a> {
     archive: &'a str,
@@ -67,6 +71,7 @@ fn write_version<F: Folder, O: Sink, L: Ledger>(
     // Laws, for the proof of what may be written.
     versions_have_one_file();
     archives_tell_their_texts();
+    full_files_have_parts();
     let mut steps: Steps<L> = Steps::new(blank);
     let Asked {
         archive,

@@ -1,6 +1,6 @@
 #![tactic(auto, using(xarch_parts::specs::EndLaws::endings), unfolding(xarch_parts::specs::Ends::IsInside, xarch_parts::specs::Ends::IsDefined, xarch_meanings::specs::History::labels_of))]
 
-ghost use Rattle.std.specs.Prelude.{◌≡◌, ◌<◌, ◌≤◌, ◌+◌, ◌-◌, List, Some, IfOk, IfErr, map, string_bytes};
+ghost use Rattle.std.specs.Prelude.{◌≡◌, ◌<◌, ◌≤◌, ◌+◌, ◌-◌, ℕ, List, Some, IfOk, IfErr, map, string_bytes};
 ghost use Rattle.version_set.specs.Members.{members};
 ghost use Rattle.version_set.specs.View.{pairs_of};
 ghost use Rattle.xa_outside.specs.Folder.{Files};
@@ -27,11 +27,12 @@ ghost use Rattle.xarch_meanings.specs.Plausible.{history_input};
 ghost use Rattle.xarch_meanings.specs.Performs.{Performs};
 ghost use Rattle.xarch_reads.specs.Searched.{IsShownAs, asked_view};
 
-use crate::fronts::header_in;
+use crate::fronts::front_of;
 use file_history::HistoryFault;
 use key_rules::{PathFault, read_path};
 use key_spec::Spec;
 use keyed_tree::Label;
+use noted_file::full_files_have_parts;
 use record_cursor::Header;
 use record_format::versions_have_one_file;
 use std::alloc::Global;
@@ -55,8 +56,9 @@ pub fn run_history<F: Folder, O: Sink>(
         folder.old folder.new (O.taken out.old) (O.taken out.new)
         (O.faults out.old) (O.faults out.new) (fault_of result) }
 {
-    // A law, for the proof of what may come of it and of how little it reads.
+    // Laws, for the proof of what may come of it and of how little it reads.
     versions_have_one_file();
+    full_files_have_parts();
     let (header, labels) = read_asked(alloc, archive, path, folder)?;
     let search = Search {
         archive,
@@ -77,7 +79,7 @@ fn read_asked<F: Folder>(
 ) -> Result<(Header, Vec<Label>), Fault>
     ensures header { IfOk result (λ r. IsHeader (header_view r.0)) }
     ensures reads { ReadsOnly F.files F.draft F.numbers F.faults
-        (size_in (F.files folder.old) archive.now)
+        (16 + size_in (F.files folder.old) archive.now)
         folder.old folder.new (fault_of result) }
     ensures told { (files : Files) → F.files folder.old ≡ Some files
         → Matches (λ r. asked_view r.0 r.1.items) (history_input files archive.now path.now)
@@ -86,14 +88,16 @@ fn read_asked<F: Folder>(
         → IfOk result (λ r. IsFrontOf files archive.now (header_view r.0)) }
     ensures once { IfOk result (λ r.
         ((header_view r.0).length ≤ size_in (F.files folder.old) archive.now)
-        × PullsAtMost (header_view r.0).first (F.numbers folder.old) (F.numbers folder.new)) }
+        × PullsAtMost (16 + (header_view r.0).first)
+        (F.numbers folder.old) (F.numbers folder.new)) }
     ensures few { (files : Files) (rules : List PlainRule) (vs : List PlainKeyed)
-        → F.files folder.old ≡ Some files → ArchiveIs files archive.now rules vs
-        → PullsAtMost (front_size rules vs) (F.numbers folder.old) (F.numbers folder.new) }
+        (notes : List (List ℕ))
+        → F.files folder.old ≡ Some files → ArchiveIs files archive.now rules vs notes
+        → PullsAtMost (16 + front_size rules vs) (F.numbers folder.old) (F.numbers folder.new) }
 {
-    let header = header_in(alloc, archive, folder)?;
-    let labels = labels_from(alloc, &header.spec, path)?;
-    Ok((header, labels))
+    let front = front_of(alloc, archive, folder)?;
+    let labels = labels_from(alloc, &front.header.spec, path)?;
+    Ok((front.header, labels))
 }
 
 fn labels_from(alloc: Global, spec: &Spec, path: &str) -> Result<Vec<Label>, Fault>
@@ -133,23 +137,27 @@ fn versions_by<F: Folder, L: Ledger>(
     ensures damaged { IfErr result
         (λ f. IsRefusal (refusal.damaged search.now.archive.now) (fault_view f)) }
     ensures members { (files : Files) (rules : List PlainRule) (vs : List PlainKeyed)
+        (notes : List (List ℕ))
         → F.files folder.old ≡ Some files
         → IsFrontOf files search.now.archive.now (header_view search.now.header.now)
-        → ArchiveIs files search.now.archive.now rules vs
+        → ArchiveIs files search.now.archive.now rules vs notes
         → IfOk result (λ s. members (pairs_of s) ≡ hist vs (map label_view search.now.path.now)) }
     ensures undamaged { (files : Files) (rules : List PlainRule) (vs : List PlainKeyed)
+        (notes : List (List ℕ))
         → F.files folder.old ≡ Some files
         → IsFrontOf files search.now.archive.now (header_view search.now.header.now)
-        → ArchiveIs files search.now.archive.now rules vs
+        → ArchiveIs files search.now.archive.now rules vs notes
         → IfErr result (λ f. NoRefusal (fault_view f)) }
     ensures few { (files : Files) (rules : List PlainRule) (vs : List PlainKeyed)
-        (a : PlainArchive)
+        (notes : List (List ℕ)) (a : PlainArchive)
         → F.files folder.old ≡ Some files
         → IsFrontOf files search.now.archive.now (header_view search.now.header.now)
-        → ArchiveIs files search.now.archive.now rules vs → ArchiveOf vs a
+        → ArchiveIs files search.now.archive.now rules vs notes → ArchiveOf vs a
         → PullsAtMost (8 + probed a (map label_view search.now.path.now))
         (F.numbers folder.old) (F.numbers folder.new) }
 {
+    // A law, for the proofs of what comes of a sound archive.
+    full_files_have_parts();
     let mut steps: Steps<L> = Steps::new(blank);
     let Search {
         archive,

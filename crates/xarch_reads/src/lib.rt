@@ -7,9 +7,11 @@ mod get;
 mod history;
 mod norm;
 mod stats;
+mod versions;
 
 pub use check::run_check;
 pub use get::run_get;
 pub use history::run_history;
 pub use norm::run_norm;
 pub use stats::run_stats;
+pub use versions::run_versions;

@@ -1,6 +1,6 @@
 #![tactic(auto, using(xarch_parts::specs::EndLaws::endings), unfolding(xarch_parts::specs::Ends::IsInside, xarch_parts::specs::Ends::IsOfFolder))]
 
-ghost use Rattle.std.specs.Prelude.{◌≡◌, Ok, Err, Some, IfOk, IfErr};
+ghost use Rattle.std.specs.Prelude.{◌≡◌, ◌+◌, Ok, Err, Some, IfOk, IfErr};
 ghost use Rattle.xa_outside.specs.Folder.{Files};
 ghost use Rattle.archive_stats.specs.View.{counts_view};
 ghost use Rattle.xarch_words.specs.Commands as commands;
@@ -14,10 +14,11 @@ ghost use Rattle.xarch_meanings.specs.Performs.{Performs};
 ghost use Rattle.xarch_meanings.specs.Stats.{counts_text};
 
 use archive_stats::{Counts, StatsFault, stats};
+use noted_file::full_files_have_parts;
 use std::alloc::Global;
 use xa_outside::{Folder, Sink};
 use xarch_meanings::write_counts;
-use xarch_parts::{damaged, length_of};
+use xarch_parts::{damaged, length_of, read_parts};
 use xarch_words::Fault;
 
 /// Writes how much an archive holds.
@@ -38,7 +39,7 @@ pub fn run_stats<F: Folder, O: Sink>(
 // The counts of the archive.
 fn counts_in<F: Folder>(alloc: Global, archive: &str, folder: &mut F) -> Result<Counts, Fault>
     ensures reads { ReadsOnly F.files F.draft F.numbers F.faults
-        (size_in (F.files folder.old) archive.now)
+        (size_in (F.files folder.old) archive.now + 16)
         folder.old folder.new (fault_of result) }
     ensures counts { (files : Files) → F.files folder.old ≡ Some files
         → IfOk result (λ c. MayBe files (commands.stats archive.now)
@@ -47,9 +48,15 @@ fn counts_in<F: Folder>(alloc: Global, archive: &str, folder: &mut F) -> Result<
         → IfErr result (λ f. fault_view f ≡ refused q
         → MayBe files (commands.stats archive.now) (Err q)) }
 {
-    let length = length_of(alloc, folder, archive)?;
-    match stats(alloc, folder, archive, length) {
-        Ok(counts) => Ok(counts),
+    // A law, for the proofs of what comes of a sound archive.
+    full_files_have_parts();
+    let size = length_of(alloc, folder, archive)?;
+    let parts = read_parts(alloc, folder, archive, size)?;
+    match stats(alloc, folder, archive, parts.core) {
+        Ok(counts) => Ok(Counts {
+            bytes: size,
+            ..counts
+        }),
         Err(StatsFault::Damage) => Err(damaged(alloc, archive)),
         Err(StatsFault::Folder) => Err(Fault::FolderFault),
         Err(StatsFault::Memory) => Err(Fault::Memory),

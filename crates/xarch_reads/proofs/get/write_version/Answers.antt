@@ -11,7 +11,7 @@ returns-in-Ok g c =
     let q = a.asked.now in
     let e = c.in-Ok.ensures in
     let texts = c.archives_tell_their_texts.ensures in
-    writes-done c.versions_have_one_file.ensures.fixed texts.0 texts.1 q.archive.now q.size q.version (written_state f.files f.draft f.numbers f.faults k.taken k.faults a.folder.now a.out.now)
+    writes-done c.versions_have_one_file.ensures.fixed c.full_files_have_parts.ensures.parts texts.0 texts.1 q.archive.now q.size q.version (written_state f.files f.draft f.numbers f.faults k.taken k.faults a.folder.now a.out.now)
     (written_state f.files f.draft f.numbers f.faults k.taken k.faults c.get.new.folder c.get.new.out) (record {
       judges = e.judges;
       uncounted = e.uncounted;
@@ -36,7 +36,7 @@ returns g c =
     let q = a.asked.now in
     let e = c.in-Err.ensures in
     let texts = c.archives_tell_their_texts.ensures in
-    writes-failed c.versions_have_one_file.ensures.fixed texts.0 texts.1 q.archive.now q.size q.version (written_state f.files f.draft f.numbers f.faults k.taken k.faults a.folder.now a.out.now)
+    writes-failed c.versions_have_one_file.ensures.fixed c.full_files_have_parts.ensures.parts texts.0 texts.1 q.archive.now q.size q.version (written_state f.files f.draft f.numbers f.faults k.taken k.faults a.folder.now a.out.now)
     (written_state f.files f.draft f.numbers f.faults k.taken k.faults c.get.new.folder c.get.new.out) c.in-Err.fault (fault_view c.shown_fault.result) c.shown_fault.ensures (record {
       judges = e.judges;
       uncounted = e.uncounted;

@@ -1,4 +1,4 @@
-use Rattle.std.proofs.Common.{inl, ◌≡◌, List, Ok, map, sym, ap, ◌∙◌, arith}
+use Rattle.std.proofs.Common.{inl, ◌+◌, ◌≡◌, List, Ok, map, sym, ap, ◌∙◌, arith}
 use Rattle.keyed_tree.specs.View.{label_view}
 use Rattle.keyed_tree.specs.declared.label.Label.{Label}
 use Rattle.record_cursor.specs.View.{header_view}
@@ -9,7 +9,7 @@ use Rattle.xarch_meanings.specs.History.{numbers_text}
 use Rattle.xarch_meanings.specs.OnePass.{front_size}
 use Rattle.xarch_meanings.specs.Plausible.{MayBe, history_input}
 use Rattle.xarch_parts.specs.AllowedLaws.{MayEnd-passed, MayEnd-written, defined_refused, gained-none, gained-written, tells_same}
-use Rattle.xarch_parts.specs.FolderLaws.{caused-passed, caused-read, caused-written, keeps-read, reads-inside}
+use Rattle.xarch_parts.specs.FolderLaws.{caused-passed, caused-read, caused-written, keeps-read, reads-inside, reads-more}
 use Rattle.xarch_reads.proofs.HistoryEnds.{little-read, may_refuse, may_refuse_early, may_write, searched-read}
 use Rattle.xarch_reads.proofs.history.run_history.Goals as goal
 
@@ -20,15 +20,15 @@ no_memory A q e = cc
 -- no header is read, or the path spells no labels
 pub returns-in_err-header : goal.returns-in_err-header
 returns-in_err-header g c = record {
-  keeps = keeps-read _ _ _ _ _ c.in_err-header.ensures.reads;
+  keeps = keeps-read _ _ _ _ _ (reads-more _ _ _ _ _ (omega arith) c.in_err-header.ensures.reads);
   caused = caused-passed _ _ _ _ c.from_residual.result _ c.from_residual.ensures.1 (caused-read _ _ _ _ _ c.in_err-header.ensures.reads);
   may = λ files told.
       inl (let input = c.in_err-header.ensures.told files told in
       MayEnd-passed (MayBe files (history c.args.archive.now c.args.path.now)) c.from_residual.result c.in_err-header.field-0.0 _ _ c.from_residual.ensures.1
-      (λ q e. may_refuse_early c.versions_have_one_file.ensures.header files c.args.archive.now c.args.path.now q (defined_refused (history_input files c.args.archive.now c.args.path.now) _ q input e)));
+      (λ q e. may_refuse_early c.full_files_have_parts.ensures.parts c.versions_have_one_file.ensures.header files c.args.archive.now c.args.path.now q (defined_refused (history_input files c.args.archive.now c.args.path.now) _ q input e)));
   long_demo = λ long. absurd long;
   one_pass = tt;
-  little = λ files rules vs a told is of. PullsAtMost-more (front_size rules vs) _ _ _ (omega arith) (c.in_err-header.ensures.few files rules vs told is);
+  little = λ files rules vs notes a told is of. PullsAtMost-more (16 + front_size rules vs) _ _ _ (omega arith) (c.in_err-header.ensures.few files rules vs notes told is);
   gained = inl (gained-none _ _);
 }
 
@@ -44,17 +44,17 @@ returns-in_err-versions g c = record {
       let front = c.in_ok-header.ensures.front files told in
       let input = c.in_ok-header.ensures.told files told ∙ ap (λ (ls : List Label). Ok ((h.rules, h.versions), map label_view ls)) (sym c.deref.ensures.value) in
       MayEnd-passed (MayBe files (history c.args.archive.now c.args.path.now)) c.from_residual-in_err-versions.result c.in_err-versions.field-0.0 _ _ c.from_residual-in_err-versions.ensures.1
-      (λ q e. may_refuse c.versions_have_one_file.ensures.header files c.args.archive.now c.args.path.now (h.rules, h.versions) (map label_view c.deref.result.now) input q (c.in_err-versions.ensures.damaged q e)
-      (λ rules vs is. c.in_err-versions.ensures.undamaged files rules vs told1 front is q e)));
+      (λ q e. may_refuse c.full_files_have_parts.ensures.parts c.versions_have_one_file.ensures.header files c.args.archive.now c.args.path.now (h.rules, h.versions) (map label_view c.deref.result.now) input q (c.in_err-versions.ensures.damaged q e)
+      (λ rules vs notes is. c.in_err-versions.ensures.undamaged files rules vs notes told1 front is q e)));
   long_demo = λ long. absurd long;
   one_pass = tt;
-  little = λ files rules vs a told is of.
+  little = λ files rules vs notes a told is of.
       let h = header_view c.in_ok-header.header in
       let told1 = c.in_ok-header.ensures.reads.same_files ∙ told in
       let front = c.in_ok-header.ensures.front files told in
       let input = c.in_ok-header.ensures.told files told ∙ ap (λ (ls : List Label). Ok ((h.rules, h.versions), map label_view ls)) (sym c.deref.ensures.value) in
-      little-read c.versions_have_one_file.ensures.header files c.args.archive.now c.args.path.now (h.rules, h.versions) (map label_view c.deref.result.now) input rules vs a _ _ _ is
-      (c.in_ok-header.ensures.few files rules vs told is) (c.in_err-versions.ensures.few files rules vs a told1 front is of);
+      little-read c.full_files_have_parts.ensures.parts c.versions_have_one_file.ensures.header files c.args.archive.now c.args.path.now (h.rules, h.versions) (map label_view c.deref.result.now) input rules vs notes a _ _ _ is
+      (c.in_ok-header.ensures.few files rules vs notes told is) (c.in_err-versions.ensures.few files rules vs notes a told1 front is of);
   gained = inl (gained-none _ _);
 }
 
@@ -70,13 +70,13 @@ returns-in_err-line g c = record {
       (λ q e. no_memory _ q (sym c.in_err-line.ensures.memory ∙ e)));
   long_demo = λ long. absurd long;
   one_pass = tt;
-  little = λ files rules vs a told is of.
+  little = λ files rules vs notes a told is of.
       let h = header_view c.in_ok-header.header in
       let told1 = c.in_ok-header.ensures.reads.same_files ∙ told in
       let front = c.in_ok-header.ensures.front files told in
       let input = c.in_ok-header.ensures.told files told ∙ ap (λ (ls : List Label). Ok ((h.rules, h.versions), map label_view ls)) (sym c.deref.ensures.value) in
-      little-read c.versions_have_one_file.ensures.header files c.args.archive.now c.args.path.now (h.rules, h.versions) (map label_view c.deref.result.now) input rules vs a _ _ _ is
-      (c.in_ok-header.ensures.few files rules vs told is) (c.in_ok-versions.ensures.few files rules vs a told1 front is of);
+      little-read c.full_files_have_parts.ensures.parts c.versions_have_one_file.ensures.header files c.args.archive.now c.args.path.now (h.rules, h.versions) (map label_view c.deref.result.now) input rules vs notes a _ _ _ is
+      (c.in_ok-header.ensures.few files rules vs notes told is) (c.in_ok-versions.ensures.few files rules vs notes a told1 front is of);
   gained = inl (gained-none _ _);
 }
 
@@ -92,18 +92,18 @@ returns g c = record {
       let front = c.in_ok-header.ensures.front files told in
       let input = c.in_ok-header.ensures.told files told ∙ ap (λ (ls : List Label). Ok ((h.rules, h.versions), map label_view ls)) (sym c.deref.ensures.value) in
       MayEnd-written (MayBe files (history c.args.archive.now c.args.path.now)) (record { files = files; output = c.as_bytes.result.now }) c.write_bytes.result _ _ _ _ _
-      (may_write c.versions_have_one_file.ensures.header files c.args.archive.now c.args.path.now (h.rules, h.versions) (map label_view c.deref.result.now) input c.as_bytes.result.now
-      (λ rules vs is. c.as_bytes.ensures.value ∙ c.in_ok-line.ensures.text ∙ ap numbers_text (c.in_ok-versions.ensures.members files rules vs told1 front is)))
+      (may_write c.full_files_have_parts.ensures.parts c.versions_have_one_file.ensures.header files c.args.archive.now c.args.path.now (h.rules, h.versions) (map label_view c.deref.result.now) input c.as_bytes.result.now
+      (λ rules vs notes is. c.as_bytes.ensures.value ∙ c.in_ok-line.ensures.text ∙ ap numbers_text (c.in_ok-versions.ensures.members files rules vs notes told1 front is)))
       (tells_same _ files (c.in_ok-versions.ensures.reads.same_files ∙ told1)) c.write_bytes.ensures.bytes c.write_bytes.ensures.cause);
   long_demo = λ long. absurd long;
   one_pass = tt;
-  little = λ files rules vs a told is of.
+  little = λ files rules vs notes a told is of.
       let h = header_view c.in_ok-header.header in
       let told1 = c.in_ok-header.ensures.reads.same_files ∙ told in
       let front = c.in_ok-header.ensures.front files told in
       let input = c.in_ok-header.ensures.told files told ∙ ap (λ (ls : List Label). Ok ((h.rules, h.versions), map label_view ls)) (sym c.deref.ensures.value) in
-      little-read c.versions_have_one_file.ensures.header files c.args.archive.now c.args.path.now (h.rules, h.versions) (map label_view c.deref.result.now) input rules vs a _ _ _ is
-      (c.in_ok-header.ensures.few files rules vs told is) (c.in_ok-versions.ensures.few files rules vs a told1 front is of);
+      little-read c.full_files_have_parts.ensures.parts c.versions_have_one_file.ensures.header files c.args.archive.now c.args.path.now (h.rules, h.versions) (map label_view c.deref.result.now) input rules vs notes a _ _ _ is
+      (c.in_ok-header.ensures.few files rules vs notes told is) (c.in_ok-versions.ensures.few files rules vs notes a told1 front is of);
   gained = inl (gained-written c.write_bytes.result _ _ _ _ _ c.write_bytes.ensures.bytes c.write_bytes.ensures.cause);
 }
 

@@ -10,7 +10,8 @@ use Rattle.xarch_parts.specs.Inputs.{file_of}
 use Rattle.xarch_parts.specs.Readings.{front_in}
 use Rattle.xarch_meanings.specs.OnePass.{front_size}
 use Rattle.std.proofs.lemmas.Result.{IfOk-weaker}
-use Rattle.xarch_reads.proofs.fronts.header_in.Goals as goal
+use Rattle.xarch_parts.specs.CoreLaws.{within-more}
+use Rattle.xarch_reads.proofs.fronts.front_of.Goals as goal
 
 -- a length was asked before
 behind-length : (n : ℕ) (a b c : Numbers) → PullsAtMost 0 a b → PullsAtMost n b c → PullsAtMost n a c
@@ -35,13 +36,13 @@ pub returns-in_err-size-clause-once : goal.returns-in_err-size-clause-once
 returns-in_err-size-clause-once g c = IfOk-passed c.from_residual.result _ _ c.from_residual.ensures.1
 
 pub returns-in_err-size-clause-few : goal.returns-in_err-size-clause-few
-returns-in_err-size-clause-few g c = λ files rules vs told is. PullsAtMost-more 0 _ _ _ (omega arith) c.in_err-size.ensures.reads.pulls
+returns-in_err-size-clause-few g c = λ files rules vs notes told is. PullsAtMost-more 0 _ _ _ (omega arith) c.in_err-size.ensures.reads.pulls
 
 pub returns-clause-header : goal.returns-clause-header
 returns-clause-header g c = c.read_front.ensures.header
 
 pub returns-clause-reads : goal.returns-clause-reads
-returns-clause-reads g c = let size = c.in_ok-size.ensures.size in reads-then 0 c.in_ok-size.size _ _ _ _ _ (omega (arith, size)) c.in_ok-size.ensures.reads c.read_front.ensures.reads
+returns-clause-reads g c = let size = c.in_ok-size.ensures.size in reads-then 0 (16 + c.in_ok-size.size) _ _ _ _ _ (omega (arith, size)) c.in_ok-size.ensures.reads c.read_front.ensures.reads
 
 pub returns-clause-told : goal.returns-clause-told
 returns-clause-told g c = λ files told. c.read_front.ensures.told files (c.in_ok-size.ensures.reads.same_files ∙ told) (c.in_ok-size.ensures.told files told)
@@ -51,11 +52,14 @@ returns-clause-front g c = λ files told. c.read_front.ensures.front files (c.in
 
 pub returns-clause-once : goal.returns-clause-once
 returns-clause-once g c =
-    let size = c.in_ok-size.ensures.size in
-    IfOk-weaker c.read_front.result _ _ (λ h is. (
-    let long = is.0 in (omega (arith, size, long), behind-length (header_view h).first _ _ _ c.in_ok-size.ensures.reads.pulls is.1)
-    )) c.read_front.ensures.once
+    IfOk-weaker c.read_front.result _ _ (λ f is. (is.0, behind-length (16 + (header_view f.header).first) _ _ _ c.in_ok-size.ensures.reads.pulls is.1)) c.read_front.ensures.once
 
 pub returns-clause-few : goal.returns-clause-few
-returns-clause-few g c = λ files rules vs told is.
-    behind-length (front_size rules vs) _ _ _ c.in_ok-size.ensures.reads.pulls (c.read_front.ensures.few files rules vs (c.in_ok-size.ensures.reads.same_files ∙ told) (c.in_ok-size.ensures.told files told) is)
+returns-clause-few g c = λ files rules vs notes told is.
+    behind-length (16 + front_size rules vs) _ _ _ c.in_ok-size.ensures.reads.pulls (c.read_front.ensures.few files rules vs notes (c.in_ok-size.ensures.reads.same_files ∙ told) (c.in_ok-size.ensures.told files told) is)
+
+pub returns-in_err-size-clause-within : goal.returns-in_err-size-clause-within
+returns-in_err-size-clause-within g c = IfOk-passed c.from_residual.result _ _ c.from_residual.ensures.1
+
+pub returns-clause-within : goal.returns-clause-within
+returns-clause-within g c = let size = c.in_ok-size.ensures.size in IfOk-weaker c.read_front.result _ _ (λ f is. within-more _ _ f.parts size is) c.read_front.ensures.within
