@@ -25,9 +25,13 @@ lines_from i (note ∷ notes) = version_line i note ++ lines_from (i + 1) notes
 abbrev pub versions_text : List (List ℕ) → List ℕ
 versions_text notes = lines_from 1 notes
 
+-- they are written
+abbrev pub listed : Files → List (List ℕ) → Result Outcome Refusal
+listed files notes = Ok (record { files = files; output = versions_text notes })
+
 -- what is written where these are the archive's rules, versions and notes
 abbrev pub ListsFrom : Files → List PlainRule → List PlainKeyed → List (List ℕ) → Result Outcome Refusal → Type 0
-ListsFrom files rules vs notes r = r ≡ Ok (record { files = files; output = versions_text notes })
+ListsFrom files rules vs notes r = r ≡ listed files notes
 
 abbrev pub VersionsIs : Files → List ℕ → Result Outcome Refusal → Type 0
 VersionsIs files archive r = Opens files archive (ListsFrom files) r

@@ -1,5 +1,5 @@
 -- What is read of an archive before its first record.
-use Rattle.std.proofs.Common.{◌≡◌, ℕ, ◌+◌, ◌≤◌, List, ◌++◌, length, drop, Option, Some, sym, ap, ◌∙◌, subst, arith}
+use Rattle.std.proofs.Common.{◌≡◌, ℕ, ◌+◌, ◌≤◌, List, ◌++◌, length, drop, Option, Some, None, Result, Ok, Err, refl, sym, ap, ◌∙◌, subst, arith}
 use Rattle.std.specs.FinMap as map
 use Rattle.std.specs.List.{flat_map}
 use Rattle.std.proofs.lemmas.List.{length-append}
@@ -8,14 +8,22 @@ use Rattle.key_spec.specs.Closed.{closed}
 use Rattle.key_spec.specs.Data.{PlainRule}
 use Rattle.keyed_tree.specs.Data.{PlainKeyed}
 use Rattle.archive_tree.specs.Data.{PlainArchive}
-use Rattle.xa_outside.specs.Folder.{Files}
+use Rattle.xa_outside.specs.Folder.{Files, bytes_or_none, front, front_of}
 use Rattle.xa_outside.specs.Numbers.{Numbers, PullsAtMost}
 use Rattle.record_cursor.specs.Moves.{TellsFront}
 use Rattle.record_format.specs.Files.{HasFile, header_bytes, file_bytes, file_records, tail_bytes}
 use Rattle.record_format.specs.Spelling.{rec_bytes}
 use Rattle.record_format.specs.Fronts.{header_at}
 use Rattle.archive_file.specs.Sound.{SoundAs}
-use Rattle.xarch_parts.specs.Archives.{CoreIs}
+use Rattle.version_notes.specs.Parts.{parts_of_front}
+use Rattle.version_notes.specs.declared.parts.Parts.{Parts}
+use Rattle.xarch_words.specs.Refusal.{Refusal, no_file, damaged, PlainFault, refused, folder_fault, out_fault, in_fault, memory}
+use Rattle.xarch_parts.specs.Archives.{CoreIs, IsRefusal}
+use Rattle.xarch_parts.specs.Ends.{IsDefined}
+use Rattle.xarch_parts.specs.InputLaws.{front-all}
+use Rattle.xarch_parts.specs.Inputs.{file_length, read_in}
+use Rattle.xarch_parts.specs.Outcome.{and_then, or_refuse}
+use Rattle.xarch_parts.specs.Readings.{parts_of}
 use Rattle.xarch_parts.specs.CoreLaws.{core-length, core-told}
 
 -- From what is known of all archive files: their header stands in front.
@@ -32,3 +40,19 @@ module _ (stands : (rules : List PlainRule) (a : PlainArchive) → closed (canon
       let at : header_at core ≡ Some ((rules, f.archive.n), drop head core) = ap header_at f.spelled ∙ stands rules f.archive sound.specification f.has ∙ ap (λ z. Some ((rules, f.archive.n), drop head z)) (sym f.spelled) in
       let within : head ≤ size = (let s = ap length f.spelled in let b = length-append (header_bytes rules f.archive.n) (flat_map rec_bytes (file_records f.archive) ++ tail_bytes f.archive) in omega (arith, size-is, s, b)) in
       subst (λ n. PullsAtMost (length (header_bytes rules n)) x y) (sym count) (only core rules f.archive.n head (core-told files told name size core tells is) at within)
+
+-- bytes that have no parts are refused
+parts-none : (o : Option (List ℕ)) (name : List ℕ) (size : ℕ) → and_then (or_refuse o (no_file name)) (λ b. Ok (length b)) ≡ Ok size → parts_of_front size (front size (bytes_or_none o)) ≡ None → and_then (or_refuse o (no_file name)) (parts_of name) ≡ Err (damaged name)
+parts-none None name size long none = absurd cc
+parts-none (Some bytes) name size long none =
+    let same : length bytes ≡ size = cc in
+    let whole : front size bytes ≡ Some bytes = ap (λ n. front n bytes) (sym same) ∙ front-all bytes in
+    ap (λ (o : Option Parts). or_refuse o (damaged name)) (sym (ap (parts_of_front size) whole) ∙ none)
+
+pub parts-refused : (files : Files) (name : List ℕ) (size : ℕ) (v : PlainFault) → file_length files name ≡ Ok size → parts_of_front size (front_of files name size) ≡ None → IsRefusal (damaged name) v → IsDefined (read_in files name (parts_of name)) v
+unfolding IsDefined
+parts-refused files name size (refused q) long none only = parts-none (map.get files name) name size long none ∙ ap (λ (r : Refusal). Err r) (sym (only q refl))
+parts-refused files name size folder_fault long none only = tt
+parts-refused files name size out_fault long none only = tt
+parts-refused files name size in_fault long none only = tt
+parts-refused files name size memory long none only = tt

@@ -59,7 +59,7 @@ pub length-is : (files : Files) (name bytes : List ℕ) (n : ℕ) → map.get fi
 length-is files name bytes n there long = length_there (map.get files name) name bytes n there long
 
 -- all bytes are the front of as many
-front-all : (bytes : List ℕ) → front (length bytes) bytes ≡ Some bytes
+pub front-all : (bytes : List ℕ) → front (length bytes) bytes ≡ Some bytes
 front-all bytes = let fits : nat_le (length bytes) (length bytes) ≡ true = le-leb (length bytes) (length bytes) (omega arith) in rw (fits, take-length bytes) refl
 
 -- a file is its own front, as far as it is long

@@ -130,6 +130,7 @@ module _ (gives : (r : PlainReader) (file note : List ℕ) → next_of r file �
       later = let a = f.later in omega (arith, a, later);
       out_later = let a = f.out_later in omega (arith, a, out_same);
       cause = rose;
+      only = λ q e. absurd cc;
       gained = gained_prefix s.taken u.taken (f.written ++ version_line (number + 1) note) (TakesPrefix-after s.taken t.taken u.taken f.written (version_line (number + 1) note) f.takes p);
       ends = λ files told notes are.
           let shown = front-of-more (notes_from next (file_of files start.name)) notes (sym (ap (option_map versions_text) are) ∙ more files told) in
@@ -157,6 +158,7 @@ module _ (gives : (r : PlainReader) (file note : List ℕ) → next_of r file �
       later = let a = f.later in omega (arith, a, later);
       out_later = let a = f.out_later in omega (arith, a, out_same);
       cause = tt;
+      only = λ q e. absurd cc;
       gained = record { bytes = f.written; takes = takes-still };
       ends = λ files told.
           let file = file_of files start.name in
@@ -202,6 +204,12 @@ module _ (gives : (r : PlainReader) (file note : List ℕ) → next_of r file �
     refusal-of name Folder v file is h q e = let wrong : folder_fault ≡ refused q = sym is ∙ e in absurd cc
     refusal-of name Memory v file is h q e = let wrong : memory ≡ refused q = sym is ∙ e in absurd cc
 
+    named : (name : List ℕ) (e : NotesFault) (v : PlainFault) → IsOfNotes name e v → (q : Refusal) → v ≡ refused q → q ≡ damaged name
+    named name Damage v (inl is) q e = let both : refused q ≡ refused (damaged name) = sym e ∙ is in cc
+    named name Damage v (inr is) q e = let wrong : memory ≡ refused q = sym is ∙ e in absurd cc
+    named name Folder v is q e = let wrong : folder_fault ≡ refused q = sym is ∙ e in absurd cc
+    named name Memory v is q e = let wrong : memory ≡ refused q = sym is ∙ e in absurd cc
+
     pub stopped-reading : (name : List ℕ) (e : NotesFault) (v : PlainFault) → IsOfNotes name e v → IfFolder e (Rose t.faults u.faults) → PullsAtMost (most_read reader) t.numbers u.numbers → ((files : Files) → t.files ≡ Some files → IfDamage e (next_of reader (file_of files reader.name) ≡ None))
         → Lists name start s u (Some v)
     stopped-reading name e v is rose pulls tells = record {
@@ -211,6 +219,7 @@ module _ (gives : (r : PlainReader) (file note : List ℕ) → next_of r file �
       later = let a = f.later in omega (arith, a, later);
       out_later = let a = f.out_later in omega (arith, a, out_same);
       cause = cause-of name e v is rose;
+      only = λ q w. (let both : Some v ≡ Some (refused q) = w in let same : v ≡ refused q = cc in named name e v is q same);
       gained = record { bytes = f.written; takes = takes-still };
       ends = λ files told.
           let tells_here : IfDamage e (next_of reader (file_of files start.name) ≡ None) = subst (λ n. IfDamage e (next_of reader (file_of files n) ≡ None)) f.name (tells files (f.same_files ∙ told)) in

@@ -5,7 +5,7 @@ use Rattle.xa_outside.specs.Numbers.{PullsAtMost}
 use Rattle.xa_outside.specs.Taken.{Taken, Takes, TakesPrefix}
 use Rattle.version_notes.specs.Reader.{PlainReader, file_of}
 use Rattle.version_notes.specs.Reading.{all_read, notes_from}
-use Rattle.xarch_words.specs.Refusal.{damaged, PlainFault, refused}
+use Rattle.xarch_words.specs.Refusal.{Refusal, damaged, PlainFault, refused}
 use Rattle.xarch_parts.specs.Ends.{Gained, IsOfCommand}
 use Rattle.xarch_meanings.specs.Versions.{versions_text}
 use Rattle.xarch_reads.specs.Written.{WrittenState}
@@ -31,4 +31,6 @@ pub record Lists (name : List ℕ) (reader : PlainReader) (s t : WrittenState) (
   pub out_later : s.out_faults ≤ t.out_faults
   pub cause : IsOfCommand s.faults t.faults s.out_faults t.out_faults ended
   pub gained : Gained s.taken t.taken
+  -- it is refused as damaged, and by nothing else
+  pub only : (q : Refusal) → ended ≡ Some (refused q) → q ≡ damaged name
   pub ends : (files : Files) → s.files ≡ Some files → ListEnds name (notes_from reader (file_of files reader.name)) s.taken t.taken ended

@@ -4,7 +4,7 @@ use Rattle.std.specs.FinMap as finite
 use Rattle.xa_outside.specs.Folder.{Files}
 use Rattle.key_spec.specs.Data.{PlainRule}
 use Rattle.keyed_tree.specs.Data.{PlainKeyed}
-use Rattle.archive_file.specs.Sound.{Sound, SoundAs}
+use Rattle.noted_file.specs.Full.{Full, FullAs}
 use Rattle.xarch_words.specs.Commands.{check}
 use Rattle.xarch_words.specs.Refusal.{Refusal, no_file}
 use Rattle.xarch_parts.specs.Archives.{GoesOn}
@@ -19,8 +19,8 @@ module _ (files : Files) (name : List ℕ) where
   same-bytes : (a b : List ℕ) → finite.get files name ≡ Some a → finite.get files name ≡ Some b → a ≡ b
   same-bytes a b e f = let both : Some a ≡ Some b = sym e ∙ f in cc
 
-  not-both : FileIs files name Sound → FileIs files name (λ bytes. ¬ Sound bytes) → ⊥
-  not-both f g = g.is (subst Sound (same-bytes f.bytes g.bytes f.there g.there) f.is)
+  not-both : FileIs files name Full → FileIs files name (λ bytes. ¬ Full bytes) → ⊥
+  not-both f g = g.is (subst Full (same-bytes f.bytes g.bytes f.there g.there) f.is)
 
   not-absent : (bytes : List ℕ) → finite.get files name ≡ Some bytes → finite.get files name ≡ None → ⊥
   not-absent bytes e none = let both : Some bytes ≡ None = sym e ∙ none in cc
@@ -29,14 +29,14 @@ module _ (files : Files) (name : List ℕ) where
     status-from : (r q : Result Outcome Refusal) → s ≡ step_from files r → r ≡ q → s.status ≡ (step_from files q).status
     status-from r q is e = ap (λ (z : Step). z.status) is ∙ ap (λ (z : Result Outcome Refusal). (step_from files z).status) e
 
-    tells-sound : s.status ≡ 0 → FileIs files name Sound → TellsSoundness files name s
+    tells-sound : s.status ≡ 0 → FileIs files name Full → TellsSoundness files name s
     tells-sound is f = record {
       sound = (λ _. f, λ _. is);
       damaged = (λ e. absurd (omega (arith, is, e)), λ g. absurd (not-both f g));
       absent = (λ e. absurd (omega (arith, is, e)), λ none. absurd (not-absent f.bytes f.there none));
     }
 
-    tells-damaged : s.status ≡ 11 → FileIs files name (λ bytes. ¬ Sound bytes) → TellsSoundness files name s
+    tells-damaged : s.status ≡ 11 → FileIs files name (λ bytes. ¬ Full bytes) → TellsSoundness files name s
     tells-damaged is g = record {
       sound = (λ e. absurd (omega (arith, is, e)), λ f. absurd (not-both f g));
       damaged = (λ _. g, λ _. is);
@@ -52,7 +52,7 @@ module _ (files : Files) (name : List ℕ) where
 
     by-file : (o : Option (List ℕ)) (r : Result Outcome Refusal) → finite.get files name ≡ o → GoesOn (or_refuse o (no_file name)) (IsFound files name) r → s ≡ step_from files r → TellsSoundness files name s
     by-file None r none e is = tells-absent (status-from r (Err (no_file name)) is e) none
-    by-file (Some bytes) r there (inl p) is = tells-sound (status-from r (checked files p.sound.versions) is p.is) (record { bytes = bytes; there = there; is = p.sound })
+    by-file (Some bytes) r there (inl p) is = tells-sound (status-from r (checked files p.full.versions) is p.is) (record { bytes = bytes; there = there; is = p.full })
     by-file (Some bytes) r there (inr p) is = tells-damaged (status-from r _ is p.is) (record { bytes = bytes; there = there; is = p.unsound })
 
     -- no refusal of it comes late
@@ -65,11 +65,11 @@ module _ (files : Files) (name : List ℕ) where
     judging m = by-file (finite.get files name) m.outcome refl m.may (plain m)
 
     -- a sound archive's versions are counted
-    pub checking : ((rules others : List PlainRule) (vs us : List PlainKeyed) (bytes : List ℕ) → SoundAs rules vs bytes → SoundAs others us bytes → (rules ≡ others) × (vs ≡ us))
+    pub checking : ((rules others : List PlainRule) (vs us : List PlainKeyed) (notes more : List (List ℕ)) (bytes : List ℕ) → FullAs rules vs notes bytes → FullAs others us more bytes → (rules ≡ others) × (vs ≡ us) × (notes ≡ more))
         → (h : Held) → Holds files name h → CommandMay files (Some (check name)) s → s ≡ step_from files (checked files h.versions)
     unfolding MayBe
     checking one h a m = plain m ∙ ap (step_from files) (judged m.outcome (subst (λ o. GoesOn (or_refuse o (no_file name)) (IsFound files name) m.outcome) a.there m.may))
       where
         judged : (r : Result Outcome Refusal) → IsFound files name a.bytes r → r ≡ checked files h.versions
-        judged r (inl p) = p.is ∙ ap (checked files) (one p.sound.rules h.rules p.sound.versions h.versions a.bytes p.sound.is a.sound).1
-        judged r (inr p) = absurd (p.unsound (record { rules = h.rules; versions = h.versions; is = a.sound }))
+        judged r (inl p) = p.is ∙ ap (checked files) (one p.full.rules h.rules p.full.versions h.versions p.full.notes h.notes a.bytes p.full.is a.full).1.0
+        judged r (inr p) = absurd (p.unsound (record { rules = h.rules; versions = h.versions; notes = h.notes; is = a.full }))

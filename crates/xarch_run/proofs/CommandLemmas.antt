@@ -5,7 +5,7 @@ use Rattle.xa_outside.specs.Causes.{Rose}
 use Rattle.xa_outside.specs.Folder.{Files}
 use Rattle.xa_outside.specs.Numbers.{Numbers}
 use Rattle.xa_outside.specs.Taken.{Taken}
-use Rattle.xarch_words.specs.Commands.{PlainCommand, norm, init, add, rekey, get, history, check, stats, batch, demo}
+use Rattle.xarch_words.specs.Commands.{PlainCommand, norm, init, add, rekey, get, history, check, stats, versions, batch, demo}
 use Rattle.xarch_words.specs.Refusal.{folder_fault, out_fault, in_fault, memory}
 use Rattle.xarch_parts.specs.Outcome.{Step}
 use Rattle.xarch_writes.specs.FillsUp.{FillsUp}
@@ -21,12 +21,13 @@ pub alone-reads : (c : Option PlainCommand) → OnlyReads c → OnlyReads (alone
 alone-reads None h = h
 alone-reads (Some (norm spec doc)) h = h
 alone-reads (Some (init archive spec)) h = h
-alone-reads (Some (add archive doc)) h = h
+alone-reads (Some (add archive doc note)) h = h
 alone-reads (Some (rekey archive spec)) h = h
 alone-reads (Some (get archive i)) h = h
 alone-reads (Some (history archive path)) h = h
 alone-reads (Some (check archive)) h = h
 alone-reads (Some (stats archive)) h = h
+alone-reads (Some (versions archive)) h = h
 alone-reads (Some batch) h = absurd h
 alone-reads (Some (demo seed count archive)) h = absurd h
 
@@ -35,12 +36,13 @@ alone-said : (P : Option PlainCommand → Type 0) → P (Some batch) → (c : Op
 alone-said P of None h = h
 alone-said P of (Some (norm spec doc)) h = h
 alone-said P of (Some (init archive spec)) h = h
-alone-said P of (Some (add archive doc)) h = h
+alone-said P of (Some (add archive doc note)) h = h
 alone-said P of (Some (rekey archive spec)) h = h
 alone-said P of (Some (get archive i)) h = h
 alone-said P of (Some (history archive path)) h = h
 alone-said P of (Some (check archive)) h = h
 alone-said P of (Some (stats archive)) h = h
+alone-said P of (Some (versions archive)) h = h
 alone-said P of (Some batch) h = of
 alone-said P of (Some (demo seed count archive)) h = h
 
@@ -51,12 +53,13 @@ pub alone-late : (c : Option PlainCommand) (answer : ℕ) → MayHaveWritten (al
 alone-late None answer late = absurd late
 alone-late (Some (norm spec doc)) answer late = absurd late
 alone-late (Some (init archive spec)) answer late = absurd late
-alone-late (Some (add archive doc)) answer late = absurd late
+alone-late (Some (add archive doc note)) answer late = absurd late
 alone-late (Some (rekey archive spec)) answer late = absurd late
 alone-late (Some (get archive i)) answer late = late
 alone-late (Some (history archive path)) answer late = absurd late
 alone-late (Some (check archive)) answer late = absurd late
 alone-late (Some (stats archive)) answer late = absurd late
+alone-late (Some (versions archive)) answer late = late
 alone-late (Some batch) answer late = absurd late
 alone-late (Some (demo seed count archive)) answer late = absurd late
 
@@ -83,12 +86,13 @@ pub none-alone : (c : Option PlainCommand) → alone c ≡ None → ¬ (c ≡ So
 none-alone None e other = refl
 none-alone (Some (norm spec doc)) e other = absurd cc
 none-alone (Some (init archive spec)) e other = absurd cc
-none-alone (Some (add archive doc)) e other = absurd cc
+none-alone (Some (add archive doc note)) e other = absurd cc
 none-alone (Some (rekey archive spec)) e other = absurd cc
 none-alone (Some (get archive i)) e other = absurd cc
 none-alone (Some (history archive path)) e other = absurd cc
 none-alone (Some (check archive)) e other = absurd cc
 none-alone (Some (stats archive)) e other = absurd cc
+none-alone (Some (versions archive)) e other = absurd cc
 none-alone (Some batch) e other = absurd (other refl)
 none-alone (Some (demo seed count archive)) e other = absurd cc
 

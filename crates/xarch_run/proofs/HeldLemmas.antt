@@ -1,5 +1,5 @@
 -- What was handed in to an archive is what its file holds.
-use Rattle.std.proofs.Common.{◌≡◌, ◌≢◌, inl, inr, ℕ, zero, suc, Bool, true, false, List, [], ◌∷◌, ◌++◌, length, Option, Some, None, Result, Ok, Err, refl, sym, ap, ◌∙◌, subst}
+use Rattle.std.proofs.Common.{◌≡◌, ◌≢◌, inl, inr, ℕ, zero, suc, Bool, true, false, List, [], ◌∷◌, ◌++◌, length, replicate, Option, Some, None, Result, Ok, Err, refl, sym, ap, ◌∙◌, subst}
 use Rattle.std.specs.FinMap as finite
 use Rattle.std.specs.List.{AllByRecursion}
 use Rattle.std.specs.Str.{bytes_eq}
@@ -14,22 +14,24 @@ use Rattle.archive_file.specs.Sound.{SoundAs}
 use Rattle.archive_rekey.specs.Rekeyed.{AreRekeyed, IsFirstBad}
 use Rattle.key_rules.specs.Faults.{PlainKeyFault}
 use Rattle.xarch_gen.specs.Company.{company_rules}
-use Rattle.xarch_words.specs.Commands.{PlainCommand, norm, init, add, rekey, get, history, check, stats, batch, demo}
+use Rattle.xarch_words.specs.Commands.{PlainCommand, norm, init, add, rekey, get, history, check, stats, versions, batch, demo}
 use Rattle.xarch_words.specs.Refusal.{specification, Refusal, exists, no_file}
 use Rattle.xarch_words.specs.Refusal as refusal
-use Rattle.xarch_meanings.specs.Add.{added}
-use Rattle.xarch_parts.specs.Archives.{ArchiveIs, GoesOn, Stores, free_in}
+use Rattle.xarch_meanings.specs.Add.{AddsTo, added}
+use Rattle.noted_file.specs.Full.{FullAs, FullOf}
+use Rattle.xarch_parts.specs.Archives.{ArchiveIs, GoesOn, Stores, free_in, short_note}
 use Rattle.xarch_meanings.specs.Demo.{MakesOrNone, demo_input, samples}
 use Rattle.xarch_meanings.specs.Get.{version_text}
 use Rattle.xarch_meanings.specs.History.{history_text}
 use Rattle.xarch_meanings.specs.Init.{init_rules}
 use Rattle.xarch_parts.specs.Inputs.{at_most, length_in, read_in}
 use Rattle.xarch_parts.specs.Outcome.{Outcome, Step, step_from}
-use Rattle.xarch_meanings.specs.Plausible.{MayAdd, MayBe, MayRekey, add_input, step_behind}
+use Rattle.xarch_meanings.specs.Plausible.{MayAdd, MayBe, MayOver, MayRekey, add_input, step_behind}
 use Rattle.xarch_meanings.specs.Rekey.{RekeysTo, rekey_rules}
-use Rattle.xarch_meanings.specs.PlausibleLaws.{late-unsound, no-late, plain-step}
+use Rattle.xarch_meanings.specs.PlausibleLaws.{late-unlisted, late-unsound, no-late, plain-step}
 use Rattle.xarch_parts.specs.Readings.{rules_of}
 use Rattle.xarch_meanings.specs.Succeeds.{ShouldSucceed}
+use Rattle.xarch_meanings.specs.Versions.{listed}
 use Rattle.xarch_run.specs.Calls.{CommandMay, CommandsDid}
 use Rattle.xarch_run.specs.Held.{Accepted, AddsDoc, BeginsWith, Begun, ChangesKeys, ChangesOrTells, HandedIn, Held, HeldAfter, HeldBy, Holds, HoldsBehind, HoldsExactly, IsHandedIn, IsRekeyed, MakesArchive, NoneMakes, RefusalsKeep, TakesKeys, WritesCounts, with_keyed}
 use Rattle.xarch_run.specs.Steps.{files_after}
@@ -60,68 +62,70 @@ record Goes (files : Files) (name : List ℕ) (h : Held) (command : Option Plain
 
 module _ (files : Files) (name : List ℕ) (h : Held) (a : Holds files name h) where
   -- a document that is handed in is not refused
-  not-refused : (doc : List ℕ) (k : PlainKeyed) (q : Refusal) → IsHandedIn files doc h k → MayBe files (add name doc) (Err q) → ⊥
+  not-refused : (doc note : List ℕ) (k : PlainKeyed) (q : Refusal) → IsHandedIn files doc note h k → MayBe files (add name doc note) (Err q) → ⊥
   unfolding MayBe
-  not-refused doc k q handed m =
-      let adds = m.sound h.rules h.versions a in
-      stored (subst (λ x. GoesOn x (λ j. Stores files name h.rules (h.versions ++ j ∷ [])) (Err q)) handed.satisfies adds)
+  not-refused doc note k q handed m =
+      let over = subst (λ (x : Result Unit Refusal). GoesOn x (λ _. MayOver files name (GoesOn (add_input files name doc) (λ _. MayAdd files name)) (AddsTo files name doc note)) (Err q)) handed.short m in
+      let adds = over.sound h.rules h.versions h.notes a in
+      stored (subst (λ x. GoesOn x (λ j. Stores files name h.rules (h.versions ++ j ∷ []) (h.notes ++ note ∷ [])) (Err q)) handed.satisfies adds)
     where
-      stored : Stores files name h.rules (h.versions ++ k ∷ []) (Err q) → ⊥
+      stored : Stores files name h.rules (h.versions ++ k ∷ []) (h.notes ++ note ∷ []) (Err q) → ⊥
       stored (inl st) = (let no : ◌≡◌ {A = Result Outcome Refusal} (Err q) (Ok _) = st.is in cc)
       stored (inr long) = long.none handed.bytes handed.file
 
   -- one that is not refused was handed in
-  was-handed : (doc : List ℕ) (o : Outcome) → MayBe files (add name doc) (Ok o) → Accepted files name doc h o.files
+  was-handed : (doc note : List ℕ) (o : Outcome) → MayBe files (add name doc note) (Ok o) → Accepted files name doc note h o.files
   unfolding MayBe
-  was-handed doc o m =
-      goes o (added files doc h.rules (length h.versions)) (λ k. Stores files name h.rules (h.versions ++ k ∷ [])) (Ok o) refl (m.sound h.rules h.versions a) (λ k is s.
-      let archive = stored-is files o name h.rules (h.versions ++ k ∷ []) s in
-      record { tree = k; handed = record { satisfies = is; bytes = archive.bytes; file = archive.sound.file }; archive = archive })
+  was-handed doc note o m =
+      goes o (short_note note) (λ _. MayOver files name (GoesOn (add_input files name doc) (λ _. MayAdd files name)) (AddsTo files name doc note)) (Ok o) refl m (λ u short over.
+      goes o (added files doc h.rules (length h.versions)) (λ k. Stores files name h.rules (h.versions ++ k ∷ []) (h.notes ++ note ∷ [])) (Ok o) refl (over.sound h.rules h.versions h.notes a) (λ k is s.
+      let archive = stored-is files o name h.rules (h.versions ++ k ∷ []) (h.notes ++ note ∷ []) s in
+      record { tree = k; handed = record { short = short; satisfies = is; bytes = archive.full.core; file = archive.full.is.file }; archive = archive }))
 
   -- a specification that is handed in is not refused
   not-rekeyed : (one : OneRekeying) (spec : List ℕ) (i : Held) (q : Refusal) → IsRekeyed files name spec h i → MayBe files (rekey name spec) (Err q) → ⊥
   unfolding MayBe
   not-rekeyed one spec i q keyed m =
-      comes (subst (λ x. GoesOn x (RekeysTo files name h.versions) (Err q)) keyed.specified (m.sound h.rules h.versions a))
+      comes (subst (λ x. GoesOn x (RekeysTo files name h.versions h.notes) (Err q)) keyed.specified (m.sound h.rules h.versions h.notes a))
     where
-      stored : Stores files name i.rules i.versions (Err q) → ⊥
+      stored : Stores files name i.rules i.versions h.notes (Err q) → ⊥
       stored (inl st) = (let no : ◌≡◌ {A = Result Outcome Refusal} (Err q) (Ok _) = st.is in cc)
       stored (inr long) = long.none keyed.bytes keyed.file
 
-      comes : RekeysTo files name h.versions i.rules (Err q) → ⊥
-      comes (inl s) = stored (subst (λ us. Stores files name i.rules us (Err q)) (one.one_list i.rules h.versions s.versions i.versions s.are keyed.satisfied) s.rest)
+      comes : RekeysTo files name h.versions h.notes i.rules (Err q) → ⊥
+      comes (inl s) = stored (subst (λ us. Stores files name i.rules us h.notes (Err q)) (one.one_list i.rules h.versions s.versions i.versions s.are keyed.satisfied) s.rest)
       comes (inr b) = one.apart i.rules h.versions i.versions b.number b.fault keyed.satisfied b.first
 
   -- one that is not refused was handed in
   was-rekeyed : (spec : List ℕ) (o : Outcome) → MayBe files (rekey name spec) (Ok o) → TakesKeys files name spec h o.files
   unfolding MayBe
   was-rekeyed spec o m =
-      goes o (rekey_rules files name spec) (RekeysTo files name h.versions) (Ok o) refl (m.sound h.rules h.versions a) (λ rules is s. comes rules is s)
+      goes o (rekey_rules files name spec) (RekeysTo files name h.versions h.notes) (Ok o) refl (m.sound h.rules h.versions h.notes a) (λ rules is s. comes rules is s)
     where
-      comes : (rules : List PlainRule) → rekey_rules files name spec ≡ Ok rules → RekeysTo files name h.versions rules (Ok o) → TakesKeys files name spec h o.files
+      comes : (rules : List PlainRule) → rekey_rules files name spec ≡ Ok rules → RekeysTo files name h.versions h.notes rules (Ok o) → TakesKeys files name spec h o.files
       comes rules is (inl s) =
-          let archive = stored-is files o name rules s.versions s.rest in
+          let archive = stored-is files o name rules s.versions h.notes s.rest in
           record {
-            under = record { rules = rules; versions = s.versions };
-            keys = record { specified = is; satisfied = s.are; bytes = archive.bytes; file = archive.sound.file };
+            under = record { rules = rules; versions = s.versions; notes = h.notes };
+            keys = record { specified = is; satisfied = s.are; noted = refl; bytes = archive.full.core; file = archive.full.is.file };
             archive = archive;
           }
       comes rules is (inr b) = (let no : ◌≡◌ {A = Result Outcome Refusal} (Ok o) (Err _) = b.is in absurd cc)
 
   -- where its file is as it was
   same-held : (o : Outcome) → finite.get o.files name ≡ finite.get files name → Holds o.files name h
-  same-held o e = archive-moves files o.files name h.rules h.versions a e
+  same-held o e = archive-moves files o.files name h.rules h.versions h.notes a e
 
   unchanged : (o : Outcome) (command : PlainCommand) → is_for name command ≡ false → MayBe files command (Ok o) → Holds o.files name h
   unchanged o command e m = same-held o (others-kept files name o (Ok o) refl command e m)
 
-  add-goes : (o : Outcome) (other doc : List ℕ) → MayBe files (add other doc) (Ok o) → Goes files name h (Some (add other doc)) o.files
-  add-goes o other doc m = by-name (bytes_eq name other)
+  add-goes : (o : Outcome) (other doc note : List ℕ) → MayBe files (add other doc note) (Ok o) → Goes files name h (Some (add other doc note)) o.files
+  add-goes o other doc note m = by-name (bytes_eq name other)
       (λ e.
       let same = same-name name other e in
-      let k = was-handed doc o (subst (λ n. MayBe files (add n doc) (Ok o)) (sym same) m) in
-      record { held = with_keyed h k.tree; first = inl (same, inl (record { tree = k.tree; handed = k.handed; is = refl })); archive = k.archive })
-      (λ e. record { held = h; first = inr (other-name name other e, refl); archive = unchanged o (add other doc) e m })
+      let k = was-handed doc note o (subst (λ n. MayBe files (add n doc note) (Ok o)) (sym same) m) in
+      record { held = with_keyed h k.tree note; first = inl (same, inl (record { tree = k.tree; handed = k.handed; is = refl })); archive = k.archive })
+      (λ e. record { held = h; first = inr (other-name name other e, refl); archive = unchanged o (add other doc note) e m })
 
   rekey-goes : (o : Outcome) (other spec : List ℕ) → MayBe files (rekey other spec) (Ok o) → Goes files name h (Some (rekey other spec)) o.files
   rekey-goes o other spec m = by-name (bytes_eq name other)
@@ -135,7 +139,7 @@ module _ (files : Files) (name : List ℕ) (h : Held) (a : Holds files name h) w
   unfolding MayBe
   init-here o other spec e m =
       let taken-here = subst (λ n. finite.get files n ≡ Some a.bytes) (same-name name other e) a.there in
-      goes o (init_rules files other spec) (λ rules. Stores files other rules []) (Ok o) refl m (λ new is _. init-taken files other spec a.bytes new taken-here is)
+      goes o (init_rules files other spec) (λ rules. Stores files other rules [] []) (Ok o) refl m (λ new is _. init-taken files other spec a.bytes new taken-here is)
 
   demo-here : (o : Outcome) (seed count : ℕ) (other : List ℕ) → bytes_eq name other ≡ true → MayBe files (demo seed count other) (Ok o) → Holds o.files name h
   unfolding MayBe
@@ -147,12 +151,13 @@ module _ (files : Files) (name : List ℕ) (h : Held) (a : Holds files name h) w
   done-goes o (norm spec doc) m = record { held = h; first = refl; archive = unchanged o (norm spec doc) refl m }
   done-goes o (init other spec) m =
       record { held = h; first = refl; archive = by-name (bytes_eq name other) (λ e. init-here o other spec e m) (λ e. unchanged o (init other spec) e m) }
-  done-goes o (add other doc) m = add-goes o other doc m
+  done-goes o (add other doc note) m = add-goes o other doc note m
   done-goes o (rekey other spec) m = rekey-goes o other spec m
   done-goes o (get other i) m = record { held = h; first = refl; archive = unchanged o (get other i) refl m }
   done-goes o (history other path) m = record { held = h; first = refl; archive = unchanged o (history other path) refl m }
   done-goes o (check other) m = record { held = h; first = refl; archive = unchanged o (check other) refl m }
   done-goes o (stats other) m = record { held = h; first = refl; archive = unchanged o (stats other) refl m }
+  done-goes o (versions other) m = record { held = h; first = refl; archive = unchanged o (versions other) refl m }
   done-goes o batch m = record { held = h; first = refl; archive = unchanged o batch refl m }
   done-goes o (demo seed count other) m =
       record { held = h; first = refl; archive = by-name (bytes_eq name other) (λ e. demo-here o seed count other e m) (λ e. unchanged o (demo seed count other) e m) }
@@ -160,10 +165,10 @@ module _ (files : Files) (name : List ℕ) (h : Held) (a : Holds files name h) w
   refused-goes : (one : OneRekeying) (q : Refusal) (command : PlainCommand) → MayBe files command (Err q) → Goes files name h (Some command) files
   refused-goes one q (norm spec doc) m = record { held = h; first = refl; archive = a }
   refused-goes one q (init other spec) m = record { held = h; first = refl; archive = a }
-  refused-goes one q (add other doc) m = by-name (bytes_eq name other)
+  refused-goes one q (add other doc note) m = by-name (bytes_eq name other)
       (λ e.
       let same = same-name name other e in
-      record { held = h; first = inl (same, inr (record { none = λ k handed. not-refused doc k q handed (subst (λ n. MayBe files (add n doc) (Err q)) (sym same) m); is = refl })); archive = a })
+      record { held = h; first = inl (same, inr (record { none = λ k handed. not-refused doc note k q handed (subst (λ n. MayBe files (add n doc note) (Err q)) (sym same) m); is = refl })); archive = a })
       (λ e. record { held = h; first = inr (other-name name other e, refl); archive = a })
   refused-goes one q (rekey other spec) m = by-name (bytes_eq name other)
       (λ e.
@@ -174,6 +179,7 @@ module _ (files : Files) (name : List ℕ) (h : Held) (a : Holds files name h) w
   refused-goes one q (history other path) m = record { held = h; first = refl; archive = a }
   refused-goes one q (check other) m = record { held = h; first = refl; archive = a }
   refused-goes one q (stats other) m = record { held = h; first = refl; archive = a }
+  refused-goes one q (versions other) m = record { held = h; first = refl; archive = a }
   refused-goes one q batch m = record { held = h; first = refl; archive = a }
   refused-goes one q (demo seed count other) m = record { held = h; first = refl; archive = a }
 
@@ -197,22 +203,23 @@ all-hold one files name (c ∷ cs) (s ∷ ss) h a did =
     record { held = rest.held; after = record { between = step.held; first = step.first; rest = rest.after }; archive = rest.archive }
 
 -- what is held is one thing
-one-tree : (files : Files) (doc : List ℕ) (h : Held) (k j : PlainKeyed) → IsHandedIn files doc h k → IsHandedIn files doc h j → k ≡ j
-one-tree files doc h k j p q = same (added files doc h.rules (length h.versions)) p.satisfies q.satisfies
+one-tree : (files : Files) (doc note : List ℕ) (h : Held) (k j : PlainKeyed) → IsHandedIn files doc note h k → IsHandedIn files doc note h j → k ≡ j
+one-tree files doc note h k j p q = same (added files doc h.rules (length h.versions)) p.satisfies q.satisfies
   where
     same : (x : Result PlainKeyed Refusal) → x ≡ Ok k → x ≡ Ok j → k ≡ j
     same x e f = cc
 
-one-added : (files : Files) (doc : List ℕ) (h i j : Held) → AddsDoc files doc h i → AddsDoc files doc h j → i ≡ j
-one-added files doc h i j (inl p) (inl q) = p.is ∙ ap (with_keyed h) (one-tree files doc h p.tree q.tree p.handed q.handed) ∙ sym q.is
-one-added files doc h i j (inl p) (inr q) = absurd (q.none p.tree p.handed)
-one-added files doc h i j (inr p) (inl q) = absurd (p.none q.tree q.handed)
-one-added files doc h i j (inr p) (inr q) = p.is ∙ sym q.is
+one-added : (files : Files) (doc note : List ℕ) (h i j : Held) → AddsDoc files doc note h i → AddsDoc files doc note h j → i ≡ j
+one-added files doc note h i j (inl p) (inl q) = p.is ∙ ap (λ (k : PlainKeyed). with_keyed h k note) (one-tree files doc note h p.tree q.tree p.handed q.handed) ∙ sym q.is
+one-added files doc note h i j (inl p) (inr q) = absurd (q.none p.tree p.handed)
+one-added files doc note h i j (inr p) (inl q) = absurd (p.none q.tree q.handed)
+one-added files doc note h i j (inr p) (inr q) = p.is ∙ sym q.is
 
-both-held : (i j : Held) → i.rules ≡ j.rules → i.versions ≡ j.versions → i ≡ j
-both-held i j e f =
-    let rules : i ≡ record { rules = j.rules; versions = i.versions } = ap (λ (r : List PlainRule). record { rules = r; versions = i.versions }) e in
-    rules ∙ ap (λ (us : List PlainKeyed). record { rules = j.rules; versions = us }) f
+both-held : (i j : Held) → i.rules ≡ j.rules → i.versions ≡ j.versions → i.notes ≡ j.notes → i ≡ j
+both-held i j e f n =
+    let rules : i ≡ record { rules = j.rules; versions = i.versions; notes = i.notes } = ap (λ (r : List PlainRule). record { rules = r; versions = i.versions; notes = i.notes }) e in
+    let versions : ◌≡◌ {A = Held} (record { rules = j.rules; versions = i.versions; notes = i.notes }) (record { rules = j.rules; versions = j.versions; notes = i.notes }) = ap (λ (us : List PlainKeyed). record { rules = j.rules; versions = us; notes = i.notes }) f in
+    rules ∙ versions ∙ ap (λ (ns : List (List ℕ)). record { rules = j.rules; versions = j.versions; notes = ns }) n
 
 same-rules : (x : Result (List PlainRule) Refusal) (r s : List PlainRule) → x ≡ Ok r → x ≡ Ok s → r ≡ s
 same-rules x r s e f = cc
@@ -220,7 +227,7 @@ same-rules x r s e f = cc
 one-keys : (one : OneRekeying) (files : Files) (name spec : List ℕ) (h i j : Held) → IsRekeyed files name spec h i → IsRekeyed files name spec h j → i ≡ j
 one-keys one files name spec h i j p q =
     let rules = same-rules (rekey_rules files name spec) i.rules j.rules p.specified q.specified in
-    both-held i j rules (one.one_list j.rules h.versions i.versions j.versions (subst (λ r. AreRekeyed r h.versions i.versions) rules p.satisfied) q.satisfied)
+    both-held i j rules (one.one_list j.rules h.versions i.versions j.versions (subst (λ r. AreRekeyed r h.versions i.versions) rules p.satisfied) q.satisfied) (p.noted ∙ sym q.noted)
 
 one-changed : (one : OneRekeying) (files : Files) (name spec : List ℕ) (h i j : Held) → ChangesKeys files name spec h i → ChangesKeys files name spec h j → i ≡ j
 one-changed one files name spec h i j (inl p) (inl q) = one-keys one files name spec h i j p q
@@ -232,10 +239,10 @@ one-by : (one : OneRekeying) (files : Files) (name : List ℕ) (command : Option
 one-by one files name None h i j p q = p ∙ sym q
 one-by one files name (Some (norm spec doc)) h i j p q = p ∙ sym q
 one-by one files name (Some (init other spec)) h i j p q = p ∙ sym q
-one-by one files name (Some (add other doc)) h i j (inl p) (inl q) = one-added files doc h i j p.1 q.1
-one-by one files name (Some (add other doc)) h i j (inl p) (inr q) = absurd (q.0 p.0)
-one-by one files name (Some (add other doc)) h i j (inr p) (inl q) = absurd (p.0 q.0)
-one-by one files name (Some (add other doc)) h i j (inr p) (inr q) = p.1 ∙ sym q.1
+one-by one files name (Some (add other doc note)) h i j (inl p) (inl q) = one-added files doc note h i j p.1 q.1
+one-by one files name (Some (add other doc note)) h i j (inl p) (inr q) = absurd (q.0 p.0)
+one-by one files name (Some (add other doc note)) h i j (inr p) (inl q) = absurd (p.0 q.0)
+one-by one files name (Some (add other doc note)) h i j (inr p) (inr q) = p.1 ∙ sym q.1
 one-by one files name (Some (rekey other spec)) h i j (inl p) (inl q) = one-changed one files name spec h i j p.1 q.1
 one-by one files name (Some (rekey other spec)) h i j (inl p) (inr q) = absurd (q.0 p.0)
 one-by one files name (Some (rekey other spec)) h i j (inr p) (inl q) = absurd (p.0 q.0)
@@ -244,6 +251,7 @@ one-by one files name (Some (get other i)) h j k p q = p ∙ sym q
 one-by one files name (Some (history other path)) h i j p q = p ∙ sym q
 one-by one files name (Some (check other)) h i j p q = p ∙ sym q
 one-by one files name (Some (stats other)) h i j p q = p ∙ sym q
+one-by one files name (Some (versions other)) h i j p q = p ∙ sym q
 one-by one files name (Some batch) h i j p q = p ∙ sym q
 one-by one files name (Some (demo seed count other)) h i j p q = p ∙ sym q
 
@@ -279,96 +287,106 @@ refused-status files s written q is success =
 
 -- ---- how an archive begins
 
+-- an archive's file is one whose notes are all empty
+abbrev pub AreNoted : Type 0
+AreNoted = (rules : List PlainRule) (vs : List PlainKeyed) (bytes : List ℕ) → SoundAs rules vs bytes → FullAs rules vs (replicate (length vs) []) bytes
+
 init-begins : (files : Files) (name other spec : List ℕ) (o : Outcome) → name ≡ other → MayBe files (init other spec) (Ok o) → Begun files name (Some (init other spec)) o.files
 unfolding MayBe
-init-begins files name other spec o same m = goes o (init_rules files other spec) (λ rules. Stores files other rules []) (Ok o) refl m (λ rules is s. record {
-  held = record { rules = rules; versions = [] };
-  begins = (same, (init-spelled (free_in files other) (length_in files spec refusal.specification 1048576) (read_in files spec rules_of) rules is, refl));
-  archive = subst (λ n. ArchiveIs o.files n rules []) (sym same) (stored-is files o other rules [] s);
+init-begins files name other spec o same m = goes o (init_rules files other spec) (λ rules. Stores files other rules [] []) (Ok o) refl m (λ rules is s. record {
+  held = record { rules = rules; versions = []; notes = [] };
+  begins = (same, (init-spelled (free_in files other) (length_in files spec refusal.specification 1048576) (read_in files spec rules_of) rules is, (refl, refl)));
+  archive = subst (λ n. ArchiveIs o.files n rules [] []) (sym same) (stored-is files o other rules [] [] s);
 })
 
-demo-begins : (files : Files) (name other : List ℕ) (seed count : ℕ) (o : Outcome) → name ≡ other → MayBe files (demo seed count other) (Ok o) → Begun files name (Some (demo seed count other)) o.files
+demo-begins : (noted : AreNoted) (files : Files) (name other : List ℕ) (seed count : ℕ) (o : Outcome) → name ≡ other → MayBe files (demo seed count other) (Ok o) → Begun files name (Some (demo seed count other)) o.files
 unfolding MayBe
-demo-begins files name other seed count o same m = goes o (demo_input files count other) (λ _. MakesOrNone files other seed count) (Ok o) refl m (λ _ _ s. record {
-  held = record { rules = company_rules; versions = samples seed count };
+demo-begins noted files name other seed count o same m = goes o (demo_input files count other) (λ _. MakesOrNone files other seed count) (Ok o) refl m (λ _ _ s. record {
+  held = record { rules = company_rules; versions = samples seed count; notes = replicate (length (samples seed count)) [] };
   begins = (same, refl);
-  archive = subst (λ n. ArchiveIs o.files n company_rules (samples seed count)) (sym same) (made-is files o other seed count s);
+  archive = subst (λ n. ArchiveIs o.files n company_rules (samples seed count) (replicate (length (samples seed count)) [])) (sym same) (made-is noted files o other seed count s);
 })
 
-command-begins : (files : Files) (name : List ℕ) (command : PlainCommand) (o : Outcome) → MakesArchive name (Some command) → MayBe files command (Ok o) → Begun files name (Some command) o.files
-command-begins files name (norm spec doc) o makes m = absurd makes
-command-begins files name (init other spec) o makes m = init-begins files name other spec o makes m
-command-begins files name (add other doc) o makes m = absurd makes
-command-begins files name (rekey other spec) o makes m = absurd makes
-command-begins files name (get other i) o makes m = absurd makes
-command-begins files name (history other path) o makes m = absurd makes
-command-begins files name (check other) o makes m = absurd makes
-command-begins files name (stats other) o makes m = absurd makes
-command-begins files name batch o makes m = absurd makes
-command-begins files name (demo seed count other) o makes m = demo-begins files name other seed count o makes m
+command-begins : (noted : AreNoted) (files : Files) (name : List ℕ) (command : PlainCommand) (o : Outcome) → MakesArchive name (Some command) → MayBe files command (Ok o) → Begun files name (Some command) o.files
+command-begins noted files name (norm spec doc) o makes m = absurd makes
+command-begins noted files name (init other spec) o makes m = init-begins files name other spec o makes m
+command-begins noted files name (add other doc note) o makes m = absurd makes
+command-begins noted files name (rekey other spec) o makes m = absurd makes
+command-begins noted files name (get other i) o makes m = absurd makes
+command-begins noted files name (history other path) o makes m = absurd makes
+command-begins noted files name (check other) o makes m = absurd makes
+command-begins noted files name (stats other) o makes m = absurd makes
+command-begins noted files name (versions other) o makes m = absurd makes
+command-begins noted files name batch o makes m = absurd makes
+command-begins noted files name (demo seed count other) o makes m = demo-begins noted files name other seed count o makes m
 
-outcome-begins : (files : Files) (name : List ℕ) (command : PlainCommand) (s : Step) (written : List ℕ) (r : Result Outcome Refusal) → MayBe files command r → s ≡ step_behind files written r → s.status ≡ 0 → MakesArchive name (Some command)
+outcome-begins : (noted : AreNoted) (files : Files) (name : List ℕ) (command : PlainCommand) (s : Step) (written : List ℕ) (r : Result Outcome Refusal) → MayBe files command r → s ≡ step_behind files written r → s.status ≡ 0 → MakesArchive name (Some command)
     → Begun files name (Some command) s.files
-outcome-begins files name command s written (Err q) m is success makes = refused-status files s written q is success
-outcome-begins files name command s written (Ok o) m is success makes = subst (λ (z : Step). Begun files name (Some command) z.files) (sym is) (command-begins files name command o makes m)
+outcome-begins noted files name command s written (Err q) m is success makes = refused-status files s written q is success
+outcome-begins noted files name command s written (Ok o) m is success makes = subst (λ (z : Step). Begun files name (Some command) z.files) (sym is) (command-begins noted files name command o makes m)
 
-pub step-begins : (files : Files) (name : List ℕ) (command : Option PlainCommand) (s : Step) → CommandMay files command s → s.status ≡ 0 → MakesArchive name command → Begun files name command s.files
-step-begins files name None s m success makes = absurd makes
-step-begins files name (Some command) s m success makes = outcome-begins files name command s m.written m.outcome m.may m.is success makes
+pub step-begins : (noted : AreNoted) (files : Files) (name : List ℕ) (command : Option PlainCommand) (s : Step) → CommandMay files command s → s.status ≡ 0 → MakesArchive name command → Begun files name command s.files
+step-begins noted files name None s m success makes = absurd makes
+step-begins noted files name (Some command) s m success makes = outcome-begins noted files name command s m.written m.outcome m.may m.is success makes
 
 -- what begins an archive makes one
 begins-makes : (files : Files) (name : List ℕ) (command : Option PlainCommand) (h : Held) → BeginsWith files name command h → MakesArchive name command
 begins-makes files name None h b = b
 begins-makes files name (Some (norm spec doc)) h b = b
 begins-makes files name (Some (init other spec)) h b = b.0
-begins-makes files name (Some (add other doc)) h b = b
+begins-makes files name (Some (add other doc note)) h b = b
 begins-makes files name (Some (rekey other spec)) h b = b
 begins-makes files name (Some (get other i)) h b = b
 begins-makes files name (Some (history other path)) h b = b
 begins-makes files name (Some (check other)) h b = b
 begins-makes files name (Some (stats other)) h b = b
+begins-makes files name (Some (versions other)) h b = b
 begins-makes files name (Some batch) h b = b
 begins-makes files name (Some (demo seed count other)) h b = b.0
 
 -- it begins with one thing to hold
-same-beginning : (files : Files) (name : List ℕ) (command : Option PlainCommand) (h g : Held) → BeginsWith files name command h → BeginsWith files name command g → (h.rules ≡ g.rules) × (h.versions ≡ g.versions)
+same-beginning : (files : Files) (name : List ℕ) (command : Option PlainCommand) (h g : Held) → BeginsWith files name command h → BeginsWith files name command g → (h.rules ≡ g.rules) × (h.versions ≡ g.versions) × (h.notes ≡ g.notes)
 same-beginning files name None h g b c = absurd b
 same-beginning files name (Some (norm spec doc)) h g b c = absurd b
-same-beginning files name (Some (init other spec)) h g b c = (one-reading (read_in files spec rules_of) b.1.0 c.1.0, b.1.1 ∙ sym c.1.1)
+same-beginning files name (Some (init other spec)) h g b c = (one-reading (read_in files spec rules_of) b.1.0 c.1.0, (b.1.1.0 ∙ sym c.1.1.0, b.1.1.1 ∙ sym c.1.1.1))
   where
     one-reading : (x : Result (List PlainRule) Refusal) → x ≡ Ok h.rules → x ≡ Ok g.rules → h.rules ≡ g.rules
     one-reading x e f = cc
-same-beginning files name (Some (add other doc)) h g b c = absurd b
+same-beginning files name (Some (add other doc note)) h g b c = absurd b
 same-beginning files name (Some (rekey other spec)) h g b c = absurd b
 same-beginning files name (Some (get other i)) h g b c = absurd b
 same-beginning files name (Some (history other path)) h g b c = absurd b
 same-beginning files name (Some (check other)) h g b c = absurd b
 same-beginning files name (Some (stats other)) h g b c = absurd b
+same-beginning files name (Some (versions other)) h g b c = absurd b
 same-beginning files name (Some batch) h g b c = absurd b
-same-beginning files name (Some (demo seed count other)) h g b c = let same : h ≡ g = b.1 ∙ sym c.1 in (ap (λ (z : Held). z.rules) same, ap (λ (z : Held). z.versions) same)
+same-beginning files name (Some (demo seed count other)) h g b c = let same : h ≡ g = b.1 ∙ sym c.1 in (ap (λ (z : Held). z.rules) same, (ap (λ (z : Held). z.versions) same, ap (λ (z : Held). z.notes) same))
 
-step-archive : (files : Files) (name : List ℕ) (command : Option PlainCommand) (s : Step) (h : Held) → CommandMay files command s → s.status ≡ 0 → BeginsWith files name command h → Holds s.files name h
-step-archive files name command s h m success b =
-    let begun = step-begins files name command s m success (begins-makes files name command h b) in
+step-archive : (noted : AreNoted) (files : Files) (name : List ℕ) (command : Option PlainCommand) (s : Step) (h : Held) → CommandMay files command s → s.status ≡ 0 → BeginsWith files name command h → Holds s.files name h
+step-archive noted files name command s h m success b =
+    let begun = step-begins noted files name command s m success (begins-makes files name command h b) in
     let same = same-beginning files name command begun.held h begun.begins b in
-    subst (λ us. ArchiveIs s.files name h.rules us) same.1 (subst (λ r. ArchiveIs s.files name r begun.held.versions) same.0 begun.archive)
+    subst (λ ns. ArchiveIs s.files name h.rules h.versions ns) same.1.1 (subst (λ us. ArchiveIs s.files name h.rules us begun.held.notes) same.1.0 (subst (λ r. ArchiveIs s.files name r begun.held.versions begun.held.notes) same.0 begun.archive))
 
 -- ---- an archive from its beginning on
 
-pub handed-holds : (one : OneRekeying) (files : Files) (name : List ℕ) (cs : List (Option PlainCommand)) (ss : List Step) (h : Held) → CommandsDid files cs ss → HandedIn files name cs ss h → Holds (files_after files ss) name h
-handed-holds one files name [] ss h did made = absurd made
-handed-holds one files name (c ∷ cs) [] h did made = absurd made
-handed-holds one files name (c ∷ cs) (s ∷ ss) h did (inl made) =
-    let behind = all-hold one s.files name cs ss made.first (step-archive files name c s made.first did.0 made.answered made.begins) did.1 in
+pub handed-holds : (one : OneRekeying) (noted : AreNoted) (files : Files) (name : List ℕ) (cs : List (Option PlainCommand)) (ss : List Step) (h : Held) → CommandsDid files cs ss → HandedIn files name cs ss h → Holds (files_after files ss) name h
+handed-holds one noted files name [] ss h did made = absurd made
+handed-holds one noted files name (c ∷ cs) [] h did made = absurd made
+handed-holds one noted files name (c ∷ cs) (s ∷ ss) h did (inl made) =
+    let behind = all-hold one s.files name cs ss made.first (step-archive noted files name c s made.first did.0 made.answered made.begins) did.1 in
     subst (Holds (files_after s.files ss) name) (one-after one s.files name cs ss made.first behind.held h behind.after made.after) behind.archive
-handed-holds one files name (c ∷ cs) (s ∷ ss) h did (inr later) = handed-holds one s.files name cs ss h did.1 later
+handed-holds one noted files name (c ∷ cs) (s ∷ ss) h did (inr later) = handed-holds one noted s.files name cs ss h did.1 later
 
 -- no other bytes are the encoding
-pub exact : ((rules : List PlainRule) (vs : List PlainKeyed) (a b : List ℕ) → FileOf rules vs a → FileOf rules vs b → a ≡ b)
+pub exact : ((rules : List PlainRule) (vs : List PlainKeyed) (notes : List (List ℕ)) (a b : List ℕ) → FullOf rules vs notes a → FullOf rules vs notes b → a ≡ b)
+    → ((rules : List PlainRule) (vs : List PlainKeyed) (notes : List (List ℕ)) (bytes : List ℕ) → FullAs rules vs notes bytes → FullOf rules vs notes bytes)
     → (files : Files) (name : List ℕ) (h : Held) → Holds files name h → HoldsExactly files name h
-exact one files name h a = record {
+exact one defined files name h a = record {
   archive = a;
-  exactly = λ bytes. (λ e. subst (FileOf h.rules h.versions) (some-same a.bytes bytes (sym a.there ∙ e)) a.sound.file, λ file. a.there ∙ ap (λ b. Some b) (one h.rules h.versions a.bytes bytes a.sound.file file));
+  exactly = λ bytes.
+      (λ e. subst (FullOf h.rules h.versions h.notes) (some-same a.bytes bytes (sym a.there ∙ e)) (defined h.rules h.versions h.notes a.bytes a.full),
+      λ file. a.there ∙ ap (λ b. Some b) (one h.rules h.versions h.notes a.bytes bytes (defined h.rules h.versions h.notes a.bytes a.full) file));
 }
   where
     some-same : (x y : List ℕ) → Some x ≡ Some y → x ≡ y
@@ -384,12 +402,13 @@ module _ (files : Files) (name : List ℕ) (none : finite.get files name ≡ Non
   stays e = e ∙ none
 
   -- there is nothing to add to
-  add-absent : (other doc : List ℕ) → bytes_eq name other ≡ true → MayBe files (add other doc) (Ok o) → StaysAbsent
+  add-absent : (other doc note : List ℕ) → bytes_eq name other ≡ true → MayBe files (add other doc note) (Ok o) → StaysAbsent
   unfolding MayBe
-  add-absent other doc e m =
+  add-absent other doc note e m =
       let none-here = subst (λ n. finite.get files n ≡ None) (same-name name other e) none in
       let refused : add_input files other doc ≡ Err (no_file other) = rw none-here refl in
-      goes o (add_input files other doc) (λ _. MayAdd files other) (Ok o) refl m.whatever (λ p is _. absurd cc)
+      goes o (short_note note) (λ _. MayOver files other (GoesOn (add_input files other doc) (λ _. MayAdd files other)) (AddsTo files other doc note)) (Ok o) refl m
+      (λ _ _ over. goes o (add_input files other doc) (λ _. MayAdd files other) (Ok o) refl over.whatever (λ p is _. absurd cc))
 
   rekey-absent : (other spec : List ℕ) → bytes_eq name other ≡ true → MayBe files (rekey other spec) (Ok o) → StaysAbsent
   unfolding MayBe
@@ -401,12 +420,13 @@ module _ (files : Files) (name : List ℕ) (none : finite.get files name ≡ Non
   one-absent : (command : PlainCommand) → ¬ MakesArchive name (Some command) → MayBe files command (Ok o) → StaysAbsent
   one-absent (norm spec doc) refused m = stays (others-kept files name o (Ok o) refl (norm spec doc) refl m)
   one-absent (init other spec) refused m = by-name (bytes_eq name other) (λ e. absurd (refused (same-name name other e))) (λ e. stays (others-kept files name o (Ok o) refl (init other spec) e m))
-  one-absent (add other doc) refused m = by-name (bytes_eq name other) (λ e. add-absent other doc e m) (λ e. stays (others-kept files name o (Ok o) refl (add other doc) e m))
+  one-absent (add other doc note) refused m = by-name (bytes_eq name other) (λ e. add-absent other doc note e m) (λ e. stays (others-kept files name o (Ok o) refl (add other doc note) e m))
   one-absent (rekey other spec) refused m = by-name (bytes_eq name other) (λ e. rekey-absent other spec e m) (λ e. stays (others-kept files name o (Ok o) refl (rekey other spec) e m))
   one-absent (get other i) refused m = stays (others-kept files name o (Ok o) refl (get other i) refl m)
   one-absent (history other path) refused m = stays (others-kept files name o (Ok o) refl (history other path) refl m)
   one-absent (check other) refused m = stays (others-kept files name o (Ok o) refl (check other) refl m)
   one-absent (stats other) refused m = stays (others-kept files name o (Ok o) refl (stats other) refl m)
+  one-absent (versions other) refused m = stays (others-kept files name o (Ok o) refl (versions other) refl m)
   one-absent batch refused m = stays (others-kept files name o (Ok o) refl batch refl m)
   one-absent (demo seed count other) refused m = by-name (bytes_eq name other) (λ e. absurd (refused (same-name name other e))) (λ e. stays (others-kept files name o (Ok o) refl (demo seed count other) e m))
 
@@ -429,18 +449,18 @@ all-absent files name (c ∷ cs) (s ∷ ss) none did refused = all-absent s.file
 -- ---- commands over an archive
 
 module _ (files : Files) (name : List ℕ) (h : Held) (s : Step) (a : Holds files name h) where
-  pub satisfying : (doc : List ℕ) (k : PlainKeyed) → CommandMay files (Some (add name doc)) s → IsHandedIn files doc h k → s.status ≡ 0
-  satisfying doc k m handed = by_outcome m.outcome m.may m.is
+  pub satisfying : (doc note : List ℕ) (k : PlainKeyed) → CommandMay files (Some (add name doc note)) s → IsHandedIn files doc note h k → s.status ≡ 0
+  satisfying doc note k m handed = by_outcome m.outcome m.may m.is
     where
-      by_outcome : (r : Result Outcome Refusal) → MayBe files (add name doc) r → s ≡ step_behind files m.written r → s.status ≡ 0
+      by_outcome : (r : Result Outcome Refusal) → MayBe files (add name doc note) r → s ≡ step_behind files m.written r → s.status ≡ 0
       by_outcome (Ok o) may is = ap (λ (z : Step). z.status) is
-      by_outcome (Err q) may is = absurd (not-refused files name h a doc k q handed may)
+      by_outcome (Err q) may is = absurd (not-refused files name h a doc note k q handed may)
 
-  pub accepted : (doc : List ℕ) → CommandMay files (Some (add name doc)) s → s.status ≡ 0 → Accepted files name doc h s.files
-  accepted doc m success = by_outcome m.outcome m.may m.is
+  pub accepted : (doc note : List ℕ) → CommandMay files (Some (add name doc note)) s → s.status ≡ 0 → Accepted files name doc note h s.files
+  accepted doc note m success = by_outcome m.outcome m.may m.is
     where
-      by_outcome : (r : Result Outcome Refusal) → MayBe files (add name doc) r → s ≡ step_behind files m.written r → Accepted files name doc h s.files
-      by_outcome (Ok o) may is = subst (λ (z : Step). Accepted files name doc h z.files) (sym is) (was-handed files name h a doc o may)
+      by_outcome : (r : Result Outcome Refusal) → MayBe files (add name doc note) r → s ≡ step_behind files m.written r → Accepted files name doc note h s.files
+      by_outcome (Ok o) may is = subst (λ (z : Step). Accepted files name doc note h z.files) (sym is) (was-handed files name h a doc note o may)
       by_outcome (Err q) may is = refused-status files s m.written q is success
 
   pub rekeying : (one : OneRekeying) (spec : List ℕ) (i : Held) → CommandMay files (Some (rekey name spec)) s → IsRekeyed files name spec h i → s.status ≡ 0
@@ -459,34 +479,35 @@ module _ (files : Files) (name : List ℕ) (h : Held) (s : Step) (a : Holds file
 
   pub keys-told : (spec : List ℕ) → CommandMay files (Some (rekey name spec)) s → ChangesOrTells files name spec h s
   unfolding MayBe
-  keys-told spec m = record { outcome = m.outcome; comes = m.may.sound h.rules h.versions a; is = plain-step files (Some (rekey name spec)) s m (no-late files (Some (rekey name spec)) m.outcome (λ q late. late)) }
+  keys-told spec m = record { outcome = m.outcome; comes = m.may.sound h.rules h.versions h.notes a; is = plain-step files (Some (rekey name spec)) s m (no-late files (Some (rekey name spec)) m.outcome (λ q late. late)) }
 
   pub getting : (i : ℕ) → CommandMay files (Some (get name i)) s → s ≡ step_from files (version_text files h.versions i)
   unfolding MayBe
-  getting i m = plain-step files (Some (get name i)) s m (late-unsound files name i h.rules h.versions m.outcome a m.may) ∙ ap (step_from files) (m.may.sound h.rules h.versions a)
+  getting i m = plain-step files (Some (get name i)) s m (late-unsound files name i h.rules h.versions h.notes m.outcome a m.may) ∙ ap (step_from files) (m.may.sound h.rules h.versions h.notes a)
 
   pub telling : (path : List ℕ) → CommandMay files (Some (history name path)) s → s ≡ step_from files (history_text files h.rules h.versions path)
   unfolding MayBe
-  telling path m = plain-step files (Some (history name path)) s m (no-late files (Some (history name path)) m.outcome (λ q late. late)) ∙ ap (step_from files) (m.may.sound h.rules h.versions a)
+  telling path m = plain-step files (Some (history name path)) s m (no-late files (Some (history name path)) m.outcome (λ q late. late)) ∙ ap (step_from files) (m.may.sound h.rules h.versions h.notes a)
 
   pub counting : CommandMay files (Some (stats name)) s → WritesCounts files h s
   unfolding MayBe
-  counting m = record { outcome = m.outcome; counts = m.may.sound h.rules h.versions a; is = plain-step files (Some (stats name)) s m (no-late files (Some (stats name)) m.outcome (λ q late. late)) }
+  counting m = record { outcome = m.outcome; counts = m.may.sound h.rules h.versions h.notes a; is = plain-step files (Some (stats name)) s m (no-late files (Some (stats name)) m.outcome (λ q late. late)) }
+
+  pub listing : CommandMay files (Some (versions name)) s → s ≡ step_from files (listed files h.notes)
+  unfolding MayBe
+  listing m = plain-step files (Some (versions name)) s m (late-unlisted files name h.rules h.versions h.notes m.outcome a m.may) ∙ ap (step_from files) (m.may.sound h.rules h.versions h.notes a)
 
 -- ---- what is held
 
 -- a file holds one thing
-pub one-held : ((rules others : List PlainRule) (vs us : List PlainKeyed) (bytes : List ℕ) → SoundAs rules vs bytes → SoundAs others us bytes → (rules ≡ others) × (vs ≡ us))
+pub one-held : ((rules others : List PlainRule) (vs us : List PlainKeyed) (notes more : List (List ℕ)) (bytes : List ℕ) → FullAs rules vs notes bytes → FullAs others us more bytes → (rules ≡ others) × (vs ≡ us) × (notes ≡ more))
     → (files : Files) (name : List ℕ) (h i : Held) → Holds files name h → Holds files name i → h ≡ i
 one-held one files name h i a b =
-    let same = one h.rules i.rules h.versions i.versions b.bytes (subst (SoundAs h.rules h.versions) (same-bytes a.bytes b.bytes (finite.get files name) a.there b.there) a.sound) b.sound in
-    both h.rules i.rules h.versions i.versions same.0 same.1
+    let same = one h.rules i.rules h.versions i.versions h.notes i.notes b.bytes (subst (FullAs h.rules h.versions h.notes) (same-bytes a.bytes b.bytes (finite.get files name) a.there b.there) a.full) b.full in
+    both-held h i same.0 same.1.0 same.1.1
   where
     same-bytes : (x y : List ℕ) (o : Option (List ℕ)) → o ≡ Some x → o ≡ Some y → x ≡ y
     same-bytes x y o e f = cc
-
-    both : (r t : List PlainRule) (v u : List PlainKeyed) → r ≡ t → v ≡ u → ◌≡◌ {A = Held} (record { rules = r; versions = v }) (record { rules = t; versions = u })
-    both r t v u e f = cc
 
 -- what holds of all versions holds of each
 at-version : (P : PlainKeyed → Type 0) (vs : List PlainKeyed) (i : ℕ) (k : PlainKeyed) → AllByRecursion P vs → version_of vs i ≡ Some k → P k
@@ -496,7 +517,7 @@ at-version P (v ∷ vs) (suc zero) k all is = (let same : v ≡ k = cc in subst 
 at-version P (v ∷ vs) (suc (suc i)) k all is = at-version P vs (suc i) k all.1 is
 
 pub in-order : (files : Files) (name : List ℕ) (h : Held) (i : ℕ) (k : PlainKeyed) → Holds files name h → version_of h.versions i ≡ Some k → IsOrdered k × IsKeyedBy h.rules k
-in-order files name h i k a is = (at-version IsOrdered h.versions i k a.sound.file.is.ordered is, at-version (IsKeyedBy h.rules) h.versions i k a.sound.keyed is)
+in-order files name h i k a is = (at-version IsOrdered h.versions i k a.full.is.file.is.ordered is, at-version (IsKeyedBy h.rules) h.versions i k a.full.is.keyed is)
 
 -- ---- what should succeed
 

@@ -1,5 +1,5 @@
 -- A command changes at most the file that it names.
-use Rattle.std.proofs.Common.{◌≡◌, ◌≢◌, inl, inr, ℕ, Bool, true, false, cond, List, [], length, Some, None, Result, Ok, Err, refl, sym, ap, ◌∙◌}
+use Rattle.std.proofs.Common.{◌≡◌, ◌≢◌, inl, inr, ℕ, Bool, true, false, cond, List, [], ◌∷◌, ◌++◌, length, replicate, Some, None, Result, Ok, Err, refl, sym, ap, ◌∙◌}
 use Rattle.std.specs.FinMap as finite
 use Rattle.std.specs.Option.{option_map_or}
 use Rattle.std.specs.Str.{bytes_eq}
@@ -10,10 +10,13 @@ use Rattle.xa_outside.specs.Folder.{Files}
 use Rattle.key_spec.specs.Data.{PlainRule}
 use Rattle.keyed_tree.specs.Data.{PlainKeyed}
 use Rattle.xarch_gen.specs.Company.{company_rules}
-use Rattle.xarch_words.specs.Commands.{PlainCommand, norm, init, add, rekey, get, history, check, stats, batch, demo}
+use Rattle.xarch_words.specs.Commands.{PlainCommand, norm, init, add, rekey, get, history, check, stats, versions, batch, demo}
 use Rattle.xarch_words.specs.Refusal.{document, specification, Refusal, usage, no_file, exists, key_fault_in, damaged, limit}
 use Rattle.xarch_words.specs.Refusal as refusal
-use Rattle.xarch_parts.specs.Archives.{ArchiveIs, GoesOn, Stores, free_in}
+use Rattle.archive_file.specs.Sound.{SoundAs}
+use Rattle.noted_file.specs.Full.{FullAs}
+use Rattle.xarch_parts.specs.Archives.{ArchiveIs, GoesOn, Stores, free_in, short_note}
+use Rattle.xarch_meanings.specs.Add.{AddsTo}
 use Rattle.xarch_meanings.specs.Check.{IsFound, check_text}
 use Rattle.xarch_meanings.specs.Demo.{MakesOrNone, demo_input, samples}
 use Rattle.xarch_meanings.specs.Init.{init_rules}
@@ -21,7 +24,7 @@ use Rattle.xarch_parts.specs.Inputs.{file_of, length_in, read_in}
 use Rattle.xarch_meanings.specs.Norm.{norm_of}
 use Rattle.xarch_parts.specs.Outcome.{Outcome, and_then, or_refuse}
 use Rattle.xarch_meanings.specs.Rekey.{RekeysFrom, RekeysTo, rekey_rules}
-use Rattle.xarch_meanings.specs.Plausible.{MayAdd, MayBe, MayRekey, MayWrite, add_input, get_input, history_input}
+use Rattle.xarch_meanings.specs.Plausible.{MayAdd, MayBe, MayOver, MayRekey, MayWrite, add_input, get_input, history_input, stats_input, versions_input}
 use Rattle.xarch_meanings.specs.Ran.{made_name}
 use Rattle.xarch_parts.specs.Readings.{document_of, keyed_of, rules_of}
 
@@ -93,7 +96,7 @@ module _ (files : Files) (name : List ℕ) (o : Outcome) where
     write-keeps other (inr w) = same-files (kept-by files o r w.output is w.is)
 
     judge-keeps : (other bytes : List ℕ) → IsFound files other bytes r → Keeps
-    judge-keeps other bytes (inl p) = same-files (kept-by files o r (check_text (length p.sound.versions)) is p.is)
+    judge-keeps other bytes (inl p) = same-files (kept-by files o r (check_text (length p.full.versions)) is p.is)
     judge-keeps other bytes (inr p) = never o (damaged other) r is p.is
 
     add-elsewhere : (other : List ℕ) → bytes_eq name other ≡ false → MayAdd files other r → Keeps
@@ -101,19 +104,19 @@ module _ (files : Files) (name : List ℕ) (o : Outcome) where
     add-elsewhere other e (inr (inl q)) = never o (limit refusal.archive 274877906944) r is q
     add-elsewhere other e (inr (inr w)) = stored-elsewhere other w.bytes [] e w.is
 
-    stores-elsewhere : (other : List ℕ) (rules : List PlainRule) (vs : List PlainKeyed) → bytes_eq name other ≡ false → Stores files other rules vs r → Keeps
-    stores-elsewhere other rules vs e (inl s) = stored-elsewhere other s.bytes [] e s.is
-    stores-elsewhere other rules vs e (inr t) = never o (limit refusal.archive 274877906944) r is t.is
+    stores-elsewhere : (other : List ℕ) (rules : List PlainRule) (vs : List PlainKeyed) (notes : List (List ℕ)) → bytes_eq name other ≡ false → Stores files other rules vs notes r → Keeps
+    stores-elsewhere other rules vs notes e (inl s) = stored-elsewhere other s.bytes [] e s.is
+    stores-elsewhere other rules vs notes e (inr t) = never o (limit refusal.archive 274877906944) r is t.is
 
     -- over a sound archive its versions under other keys are stored
-    rekeys-elsewhere : (other : List ℕ) (vs : List PlainKeyed) (rules : List PlainRule) → bytes_eq name other ≡ false → RekeysTo files other vs rules r → Keeps
-    rekeys-elsewhere other vs rules e (inl s) = stores-elsewhere other rules s.versions e s.rest
-    rekeys-elsewhere other vs rules e (inr b) = never o (key_fault_in b.number b.fault) r is b.is
+    rekeys-elsewhere : (other : List ℕ) (vs : List PlainKeyed) (notes : List (List ℕ)) (rules : List PlainRule) → bytes_eq name other ≡ false → RekeysTo files other vs notes rules r → Keeps
+    rekeys-elsewhere other vs notes rules e (inl s) = stores-elsewhere other rules s.versions notes e s.rest
+    rekeys-elsewhere other vs notes rules e (inr b) = never o (key_fault_in b.number b.fault) r is b.is
 
-    rekey-elsewhere : (other spec : List ℕ) → bytes_eq name other ≡ false → ((old : List PlainRule) (vs : List PlainKeyed) → ArchiveIs files other old vs → RekeysFrom files other spec old vs r) → MayRekey files other r → Keeps
+    rekey-elsewhere : (other spec : List ℕ) → bytes_eq name other ≡ false → ((old : List PlainRule) (vs : List PlainKeyed) (notes : List (List ℕ)) → ArchiveIs files other old vs notes → RekeysFrom files other spec old vs notes r) → MayRekey files other r → Keeps
     rekey-elsewhere other spec e sound (inl q) = never o (damaged other) r is q
     rekey-elsewhere other spec e sound (inr a) =
-        goes o (rekey_rules files other spec) (RekeysTo files other a.versions) r is (sound a.rules a.versions a.archive) (λ rules _ m. rekeys-elsewhere other a.versions rules e m)
+        goes o (rekey_rules files other spec) (RekeysTo files other a.versions a.notes) r is (sound a.rules a.versions a.notes a.archive) (λ rules _ m. rekeys-elsewhere other a.versions a.notes rules e m)
 
     makes-elsewhere : (other : List ℕ) (seed count : ℕ) → bytes_eq name other ≡ false → MakesOrNone files other seed count r → Keeps
     makes-elsewhere other seed count e (inl s) = stored-elsewhere other s.bytes _ e s.is
@@ -122,13 +125,16 @@ module _ (files : Files) (name : List ℕ) (o : Outcome) where
     pub others-kept : (command : PlainCommand) → is_for name command ≡ false → MayBe files command r → Keeps
     unfolding MayBe
     others-kept (norm spec doc) e h = same-files (norm-keeps files spec doc o (sym h ∙ is))
-    others-kept (init other spec) e h = goes o (init_rules files other spec) (λ rules. Stores files other rules []) r is h (λ rules _ s. stores-elsewhere other rules [] e s)
-    others-kept (add other doc) e h = goes o (add_input files other doc) (λ _. MayAdd files other) r is h.whatever (λ _ _ m. add-elsewhere other e m)
+    others-kept (init other spec) e h = goes o (init_rules files other spec) (λ rules. Stores files other rules [] []) r is h (λ rules _ s. stores-elsewhere other rules [] [] e s)
+    others-kept (add other doc note) e h =
+        goes o (short_note note) (λ _. MayOver files other (GoesOn (add_input files other doc) (λ _. MayAdd files other)) (AddsTo files other doc note)) r is h
+        (λ _ _ over. goes o (add_input files other doc) (λ _. MayAdd files other) r is over.whatever (λ _ _ m. add-elsewhere other e m))
     others-kept (rekey other spec) e h = goes o (rekey_rules files other spec) (λ _. MayRekey files other) r is h.whatever (λ _ _ m. rekey-elsewhere other spec e h.sound m)
     others-kept (get other i) e h = goes o (get_input files other i) (λ _. MayWrite files other) r is h.whatever (λ _ _ m. write-keeps other m)
     others-kept (history other path) e h = goes o (history_input files other path) (λ _. MayWrite files other) r is h.whatever (λ _ _ m. write-keeps other m)
     others-kept (check other) e h = goes o (file_of files other) (IsFound files other) r is h (λ bytes _ m. judge-keeps other bytes m)
-    others-kept (stats other) e h = goes o (file_of files other) (λ _. MayWrite files other) r is h.whatever (λ _ _ m. write-keeps other m)
+    others-kept (stats other) e h = goes o (stats_input files other) (λ _. MayWrite files other) r is h.whatever (λ _ _ m. write-keeps other m)
+    others-kept (versions other) e h = goes o (versions_input files other) (λ _. MayWrite files other) r is h.whatever (λ _ _ m. write-keeps other m)
     others-kept batch e h = never o usage r is h
     others-kept (demo seed count other) e h = goes o (demo_input files count other) (λ _. MakesOrNone files other seed count) r is h (λ _ _ m. makes-elsewhere other seed count e m)
 
@@ -157,16 +163,17 @@ init-spelled (Err q) y z rules e = absurd cc
 init-spelled (Ok u) (Err q) z rules e = absurd cc
 init-spelled (Ok u) (Ok n) z rules e = e
 
-pub archive-moves : (files now : Files) (name : List ℕ) (rules : List PlainRule) (vs : List PlainKeyed) → ArchiveIs files name rules vs → finite.get now name ≡ finite.get files name → ArchiveIs now name rules vs
-archive-moves files now name rules vs a e = record { bytes = a.bytes; there = e ∙ a.there; sound = a.sound }
+pub archive-moves : (files now : Files) (name : List ℕ) (rules : List PlainRule) (vs : List PlainKeyed) (notes : List (List ℕ)) → ArchiveIs files name rules vs notes → finite.get now name ≡ finite.get files name → ArchiveIs now name rules vs notes
+archive-moves files now name rules vs notes a e = record { bytes = a.bytes; there = e ∙ a.there; full = a.full }
 
 -- the file of a stored archive
-pub stored-is : (files : Files) (o : Outcome) (name : List ℕ) (rules : List PlainRule) (vs : List PlainKeyed) → Stores files name rules vs (Ok o) → ArchiveIs o.files name rules vs
-stored-is files o name rules vs (inl s) =
-    record { bytes = s.bytes; there = ap (λ (x : Files). finite.get x name) (kept-by (finite.insert files name s.bytes) o (Ok o) [] refl s.is) ∙ new-there files name s.bytes; sound = s.sound }
-stored-is files o name rules vs (inr t) = absurd (never o (limit refusal.archive 274877906944) (Ok o) refl t.is)
+pub stored-is : (files : Files) (o : Outcome) (name : List ℕ) (rules : List PlainRule) (vs : List PlainKeyed) (notes : List (List ℕ)) → Stores files name rules vs notes (Ok o) → ArchiveIs o.files name rules vs notes
+stored-is files o name rules vs notes (inl s) =
+    record { bytes = s.bytes; there = ap (λ (x : Files). finite.get x name) (kept-by (finite.insert files name s.bytes) o (Ok o) [] refl s.is) ∙ new-there files name s.bytes; full = s.full }
+stored-is files o name rules vs notes (inr t) = absurd (never o (limit refusal.archive 274877906944) (Ok o) refl t.is)
 
-pub made-is : (files : Files) (o : Outcome) (name : List ℕ) (seed count : ℕ) → MakesOrNone files name seed count (Ok o) → ArchiveIs o.files name company_rules (samples seed count)
-made-is files o name seed count (inl s) =
-    record { bytes = s.bytes; there = ap (λ (x : Files). finite.get x name) (kept-by (finite.insert files name s.bytes) o (Ok o) _ refl s.is) ∙ new-there files name s.bytes; sound = s.made.sound }
-made-is files o name seed count (inr t) = absurd (never o (limit refusal.archive 274877906944) (Ok o) refl t.is)
+pub made-is : (noted : (rules : List PlainRule) (vs : List PlainKeyed) (bytes : List ℕ) → SoundAs rules vs bytes → FullAs rules vs (replicate (length vs) []) bytes) → (files : Files) (o : Outcome) (name : List ℕ) (seed count : ℕ) → MakesOrNone files name seed count (Ok o)
+    → ArchiveIs o.files name company_rules (samples seed count) (replicate (length (samples seed count)) [])
+made-is noted files o name seed count (inl s) =
+    record { bytes = s.bytes; there = ap (λ (x : Files). finite.get x name) (kept-by (finite.insert files name s.bytes) o (Ok o) _ refl s.is) ∙ new-there files name s.bytes; full = noted company_rules (samples seed count) s.bytes s.made.sound }
+made-is noted files o name seed count (inr t) = absurd (never o (limit refusal.archive 274877906944) (Ok o) refl t.is)

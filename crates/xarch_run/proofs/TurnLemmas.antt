@@ -9,7 +9,7 @@ use Rattle.xa_outside.specs.CauseLaws.{Rose-later}
 use Rattle.xa_outside.specs.Folder.{Files}
 use Rattle.xa_outside.specs.Taken.{Taken, Takes, TakesNone, TakesPrefix}
 use Rattle.xa_outside.specs.TakenLaws.{Takes-nil, Takes-kept, Takes-trans, TakesPrefix-all}
-use Rattle.xarch_words.specs.Commands.{PlainCommand, norm, init, add, rekey, get, history, check, stats, batch, demo}
+use Rattle.xarch_words.specs.Commands.{PlainCommand, norm, init, add, rekey, get, history, check, stats, versions, batch, demo}
 use Rattle.xarch_words.specs.Lines.{fault_line, fault_status, refusal_status}
 use Rattle.xarch_words.specs.Refusal as refusal
 use Rattle.xarch_words.specs.Refusal.{Refusal, usage, damaged, line, limit, PlainFault, refused, folder_fault, out_fault, in_fault, memory}
@@ -18,7 +18,7 @@ use Rattle.xarch_parts.specs.Archives.{GoesOn, free_in}
 use Rattle.xarch_meanings.specs.Demo.{MakesOrNone}
 use Rattle.xarch_parts.specs.Outcome.{Outcome, Step, and_then, step_from}
 use Rattle.xarch_meanings.specs.Plausible.{IsLate, MayBe, MayDo, Plausible, Tried, Wrote, step_behind}
-use Rattle.xarch_meanings.specs.PlausibleLaws.{behind-none, late-get}
+use Rattle.xarch_meanings.specs.PlausibleLaws.{behind-none, late-two}
 use Rattle.xarch_meanings.specs.Ran.{IsLongDemo, MayHaveWritten, OnlyReads, Said, Says, line_after, outside_of, status_after}
 use Rattle.xarch_meanings.specs.Step.{alone, single_of}
 use Rattle.xarch_run.specs.Batch.{EndsTheBatch, Gains, IsPart, RunsOver, scene}
@@ -136,12 +136,13 @@ unfolding MayBe
 long-refused files None r long may = absurd long
 long-refused files (Some (norm spec doc)) r long may = absurd long
 long-refused files (Some (init archive spec)) r long may = absurd long
-long-refused files (Some (add archive doc)) r long may = absurd long
+long-refused files (Some (add archive doc note)) r long may = absurd long
 long-refused files (Some (rekey archive spec)) r long may = absurd long
 long-refused files (Some (get archive i)) r long may = absurd long
 long-refused files (Some (history archive path)) r long may = absurd long
 long-refused files (Some (check archive)) r long may = absurd long
 long-refused files (Some (stats archive)) r long may = absurd long
+long-refused files (Some (versions archive)) r long may = absurd long
 long-refused files (Some batch) r long may = absurd long
 long-refused files (Some (demo seed count archive)) r long may = by_test (nat_le count 1000) refl
   where
@@ -153,12 +154,13 @@ long-or-not : (c : Option PlainCommand) → IsLongDemo c ⊎ ¬ IsLongDemo c
 long-or-not None = inr (λ long. long)
 long-or-not (Some (norm spec doc)) = inr (λ long. long)
 long-or-not (Some (init archive spec)) = inr (λ long. long)
-long-or-not (Some (add archive doc)) = inr (λ long. long)
+long-or-not (Some (add archive doc note)) = inr (λ long. long)
 long-or-not (Some (rekey archive spec)) = inr (λ long. long)
 long-or-not (Some (get archive i)) = inr (λ long. long)
 long-or-not (Some (history archive path)) = inr (λ long. long)
 long-or-not (Some (check archive)) = inr (λ long. long)
 long-or-not (Some (stats archive)) = inr (λ long. long)
+long-or-not (Some (versions archive)) = inr (λ long. long)
 long-or-not (Some batch) = inr (λ long. long)
 long-or-not (Some (demo seed count archive)) = by_test (nat_lt 1000 count) refl
   where
@@ -176,48 +178,56 @@ late-answer : (files : Files) (c : Option PlainCommand) (r : Result Outcome Refu
 late-answer files c (Ok o) late = absurd late
 late-answer files None (Err q) late = absurd late
 late-answer files (Some command) (Err q) late =
-    late-get files command q (LateAnswer (Some command) (Err q)) late (λ name i is damage. record { name = name; is = ap (λ z. Err z) damage; may = subst (λ (z : PlainCommand). MayHaveWritten (Some z) 11) (sym is) refl })
+    late-two files command q (LateAnswer (Some command) (Err q)) late
+    (λ name i is damage. record { name = name; is = ap (λ z. Err z) damage; may = subst (λ (z : PlainCommand). MayHaveWritten (Some z) 11) (sym is) refl })
+    (λ name is damage. record { name = name; is = ap (λ z. Err z) damage; may = subst (λ (z : PlainCommand). MayHaveWritten (Some z) 11) (sym is) refl })
 
--- the answer that comes late is of a `get`, and no other
+-- the answer that comes late is of a `get` or a `versions`, and no other
 late-status : (c : Option PlainCommand) (answer : ℕ) → MayHaveWritten c answer → answer ≡ 11
 late-status None answer late = absurd late
 late-status (Some (norm spec doc)) answer late = absurd late
 late-status (Some (init archive spec)) answer late = absurd late
-late-status (Some (add archive doc)) answer late = absurd late
+late-status (Some (add archive doc note)) answer late = absurd late
 late-status (Some (rekey archive spec)) answer late = absurd late
 late-status (Some (get archive i)) answer late = late
 late-status (Some (history archive path)) answer late = absurd late
 late-status (Some (check archive)) answer late = absurd late
 late-status (Some (stats archive)) answer late = absurd late
+late-status (Some (versions archive)) answer late = late
 late-status (Some batch) answer late = absurd late
 late-status (Some (demo seed count archive)) answer late = absurd late
+
+eleven-or-not : (answer : ℕ) → (answer ≡ 11) ⊎ ¬ (answer ≡ 11)
+eleven-or-not answer = by_test (answer == 11) refl
+  where
+    by_test : (b : Bool) → (answer == 11) ≡ b → (answer ≡ 11) ⊎ ¬ (answer ≡ 11)
+    by_test true e = inl (eqb-true answer 11 e)
+    by_test false e = inr (λ same. (let yes : (answer == 11) ≡ true = ap (λ n. n == 11) same in cc))
 
 late-or-not : (c : Option PlainCommand) (answer : ℕ) → MayHaveWritten c answer ⊎ ¬ MayHaveWritten c answer
 late-or-not None answer = inr (λ late. late)
 late-or-not (Some (norm spec doc)) answer = inr (λ late. late)
 late-or-not (Some (init archive spec)) answer = inr (λ late. late)
-late-or-not (Some (add archive doc)) answer = inr (λ late. late)
+late-or-not (Some (add archive doc note)) answer = inr (λ late. late)
 late-or-not (Some (rekey archive spec)) answer = inr (λ late. late)
-late-or-not (Some (get archive i)) answer = by_test (answer == 11) refl
-  where
-    by_test : (b : Bool) → (answer == 11) ≡ b → (answer ≡ 11) ⊎ ¬ (answer ≡ 11)
-    by_test true e = inl (eqb-true answer 11 e)
-    by_test false e = inr (λ same. (let yes : (answer == 11) ≡ true = ap (λ n. n == 11) same in cc))
+late-or-not (Some (get archive i)) answer = eleven-or-not answer
 late-or-not (Some (history archive path)) answer = inr (λ late. late)
 late-or-not (Some (check archive)) answer = inr (λ late. late)
 late-or-not (Some (stats archive)) answer = inr (λ late. late)
+late-or-not (Some (versions archive)) answer = eleven-or-not answer
 late-or-not (Some batch) answer = inr (λ late. late)
 late-or-not (Some (demo seed count archive)) answer = inr (λ late. late)
 
 late-short : (command : PlainCommand) (X : Type 0) → MayHaveWritten (Some command) 11 → IsLongDemo (Some command) → X
 late-short (norm spec doc) X late long = absurd late
 late-short (init archive spec) X late long = absurd late
-late-short (add archive doc) X late long = absurd late
+late-short (add archive doc note) X late long = absurd late
 late-short (rekey archive spec) X late long = absurd late
 late-short (get archive i) X late long = absurd long
 late-short (history archive path) X late long = absurd late
 late-short (check archive) X late long = absurd late
 late-short (stats archive) X late long = absurd late
+late-short (versions archive) X late long = absurd long
 late-short batch X late long = absurd late
 late-short (demo seed count archive) X late long = absurd late
 
@@ -260,12 +270,13 @@ pub long-alone : (c : Option PlainCommand) (P : Type 0) → ((seed count : ℕ) 
 long-alone None answer judged h = absurd h
 long-alone (Some (norm spec doc)) answer judged h = absurd h
 long-alone (Some (init archive spec)) answer judged h = absurd h
-long-alone (Some (add archive doc)) answer judged h = absurd h
+long-alone (Some (add archive doc note)) answer judged h = absurd h
 long-alone (Some (rekey archive spec)) answer judged h = absurd h
 long-alone (Some (get archive i)) answer judged h = absurd h
 long-alone (Some (history archive path)) answer judged h = absurd h
 long-alone (Some (check archive)) answer judged h = absurd h
 long-alone (Some (stats archive)) answer judged h = absurd h
+long-alone (Some (versions archive)) answer judged h = absurd h
 long-alone (Some batch) answer judged h = absurd h
 long-alone (Some (demo seed count archive)) answer judged h = judged seed count archive refl h
 

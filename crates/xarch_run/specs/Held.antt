@@ -1,17 +1,17 @@
 -- What an archive holds after commands: the documents that were handed in to it.
-use Rattle.std.specs.Prelude.{◌≡◌, ◌≢◌, ◌↔◌, ◌⊎◌, ℕ, List, [], ◌∷◌, ◌++◌, length, Option, Some, None, Result, Ok, ⊤}
+use Rattle.std.specs.Prelude.{◌≡◌, ◌≢◌, ◌↔◌, ◌⊎◌, ℕ, List, [], ◌∷◌, ◌++◌, length, replicate, Option, Some, None, Result, Ok, ⊤}
 use Rattle.std.specs.FinMap as finite
 use Rattle.xa_outside.specs.Folder.{Files}
 use Rattle.key_spec.specs.Data.{PlainRule}
 use Rattle.keyed_tree.specs.Data.{PlainKeyed}
 use Rattle.record_format.specs.Files.{FileOf}
-use Rattle.archive_file.specs.Sound.{Sound}
+use Rattle.noted_file.specs.Full.{Full, FullOf}
 use Rattle.archive_rekey.specs.Rekeyed.{AreRekeyed}
 use Rattle.xarch_gen.specs.Company.{company_rules}
 use Rattle.xarch_words.specs.Commands.{PlainCommand, init, add, rekey, demo}
 use Rattle.xarch_words.specs.Refusal.{Refusal}
 use Rattle.xarch_meanings.specs.Add.{added}
-use Rattle.xarch_parts.specs.Archives.{ArchiveIs}
+use Rattle.xarch_parts.specs.Archives.{ArchiveIs, short_note}
 use Rattle.xarch_meanings.specs.Demo.{samples}
 use Rattle.xarch_parts.specs.Inputs.{read_in}
 use Rattle.xarch_parts.specs.Outcome.{Outcome, Step, step_from}
@@ -20,29 +20,30 @@ use Rattle.xarch_meanings.specs.Rekey.{RekeysFrom, rekey_rules}
 use Rattle.xarch_meanings.specs.Stats.{CountsFrom}
 use Rattle.xarch_run.specs.Steps.{files_after}
 
--- the rules of an archive, and its versions in order
+-- the rules of an archive, its versions in order, and the note of each
 pub record Held : Type 0 where
   pub rules : List PlainRule
   pub versions : List PlainKeyed
+  pub notes : List (List ℕ)
 
 -- ---- what a file holds
 
--- the file of this name is a sound archive of these rules and versions
+-- the file of this name is a sound archive of these rules and versions, with these notes
 abbrev pub Holds : Files → List ℕ → Held → Type 0
-Holds files name h = ArchiveIs files name h.rules h.versions
+Holds files name h = ArchiveIs files name h.rules h.versions h.notes
 
--- The name has such a file, and its bytes are exactly the encoding of the versions under the rules.
+-- The name has such a file, and its bytes are exactly the encoding of the versions under the rules, with the notes.
 pub record HoldsExactly (files : Files) (name : List ℕ) (h : Held) : Type 0 where
   pub archive : Holds files name h
-  pub exactly : (bytes : List ℕ) → (finite.get files name ≡ Some bytes) ↔ FileOf h.rules h.versions bytes
+  pub exactly : (bytes : List ℕ) → (finite.get files name ≡ Some bytes) ↔ FullOf h.rules h.versions h.notes bytes
 
 -- ---- how an archive begins
 
 -- The command makes the archive of this name, which then holds this: an `init` the rules of its specification and no
--- versions, a `demo` the company rules and the generated documents.
+-- versions, a `demo` the company rules and the generated documents, whose notes are empty.
 abbrev pub BeginsWith : Files → List ℕ → Option PlainCommand → Held → Type 0
-BeginsWith files name (Some (init archive spec)) h = (name ≡ archive) × ((read_in files spec rules_of ≡ Ok h.rules) × (h.versions ≡ []))
-BeginsWith files name (Some (demo seed count archive)) h = (name ≡ archive) × (h ≡ record { rules = company_rules; versions = samples seed count })
+BeginsWith files name (Some (init archive spec)) h = (name ≡ archive) × ((read_in files spec rules_of ≡ Ok h.rules) × (h.versions ≡ []) × (h.notes ≡ []))
+BeginsWith files name (Some (demo seed count archive)) h = (name ≡ archive) × (h ≡ record { rules = company_rules; versions = samples seed count; notes = replicate (length (samples seed count)) [] })
 BeginsWith files name _ h = ⊥
 
 -- the command is an `init` or a `demo` of this name
@@ -65,41 +66,43 @@ NoneMakes name (c ∷ cs) (s ∷ ss) = (MakesArchive name c → s.status ≢ 0) 
 
 -- ---- how it goes on
 
--- The document in this file is handed in to an archive that holds this, and this is its keyed tree: within the limits it
--- satisfies the keys, and the versions with it have a file.
-pub record IsHandedIn (files : Files) (doc : List ℕ) (h : Held) (k : PlainKeyed) : Type 0 where
+-- The document in this file is handed in with this note to an archive that holds this, and this is its keyed tree: within the
+-- limits it satisfies the keys, the note is short enough, and the versions with the document have a file.
+pub record IsHandedIn (files : Files) (doc note : List ℕ) (h : Held) (k : PlainKeyed) : Type 0 where
+  pub short : short_note note ≡ Ok tt
   pub satisfies : added files doc h.rules (length h.versions) ≡ Ok k
   pub bytes : List ℕ
   pub file : FileOf h.rules (h.versions ++ k ∷ []) bytes
 
--- with this tree as its next version
-abbrev pub with_keyed : Held → PlainKeyed → Held
-with_keyed h k = record { rules = h.rules; versions = h.versions ++ k ∷ [] }
+-- with this tree as its next version, and its note
+abbrev pub with_keyed : Held → PlainKeyed → List ℕ → Held
+with_keyed h k note = record { rules = h.rules; versions = h.versions ++ k ∷ []; notes = h.notes ++ note ∷ [] }
 
--- the document is handed in, and its tree comes behind the versions
-pub record ComesIn (files : Files) (doc : List ℕ) (h i : Held) : Type 0 where
+-- the document is handed in, and its tree comes behind the versions, its note behind the notes
+pub record ComesIn (files : Files) (doc note : List ℕ) (h i : Held) : Type 0 where
   pub tree : PlainKeyed
-  pub handed : IsHandedIn files doc h tree
-  pub is : i ≡ with_keyed h tree
+  pub handed : IsHandedIn files doc note h tree
+  pub is : i ≡ with_keyed h tree note
 
 -- the document is not handed in, and the versions are as they were
-pub record StaysOut (files : Files) (doc : List ℕ) (h i : Held) : Type 0 where
-  pub none : (k : PlainKeyed) → ¬ IsHandedIn files doc h k
+pub record StaysOut (files : Files) (doc note : List ℕ) (h i : Held) : Type 0 where
+  pub none : (k : PlainKeyed) → ¬ IsHandedIn files doc note h k
   pub is : i ≡ h
 
 -- what an archive holds before a document comes to it and behind that
-abbrev pub AddsDoc : Files → List ℕ → Held → Held → Type 0
-AddsDoc files doc h i = ComesIn files doc h i ⊎ StaysOut files doc h i
+abbrev pub AddsDoc : Files → List ℕ → List ℕ → Held → Held → Type 0
+AddsDoc files doc note h i = ComesIn files doc note h i ⊎ StaysOut files doc note h i
 
 -- The specification in this file is handed in to the archive of this name, which holds the first before it and the second behind it: it is there, short
--- enough, and has a closed reading, each version satisfies it, and the versions under it have a file.
+-- enough, and has a closed reading, each version satisfies it, and the versions under it have a file. The notes stay.
 pub record IsRekeyed (files : Files) (name spec : List ℕ) (h i : Held) : Type 0 where
   pub specified : rekey_rules files name spec ≡ Ok i.rules
   pub satisfied : AreRekeyed i.rules h.versions i.versions
+  pub noted : i.notes ≡ h.notes
   pub bytes : List ℕ
   pub file : FileOf i.rules i.versions bytes
 
--- it is not handed in, and rules and versions are as they were
+-- it is not handed in, and all is as it was
 pub record StaysKeyed (files : Files) (name spec : List ℕ) (h i : Held) : Type 0 where
   pub none : (j : Held) → ¬ IsRekeyed files name spec h j
   pub is : i ≡ h
@@ -111,7 +114,7 @@ ChangesKeys files name spec h i = IsRekeyed files name spec h i ⊎ StaysKeyed f
 -- What the archive of this name holds before a command and behind it: a document comes to it by an `add` that names it, its versions get other keys by
 -- a `rekey` that names it, and no other command changes what it holds.
 abbrev pub HeldBy : Files → List ℕ → Option PlainCommand → Held → Held → Type 0
-HeldBy files name (Some (add archive doc)) h i = ((name ≡ archive) × AddsDoc files doc h i) ⊎ ((name ≢ archive) × (i ≡ h))
+HeldBy files name (Some (add archive doc note)) h i = ((name ≡ archive) × AddsDoc files doc note h i) ⊎ ((name ≢ archive) × (i ≡ h))
 HeldBy files name (Some (rekey archive spec)) h i = ((name ≡ archive) × ChangesKeys files name spec h i) ⊎ ((name ≢ archive) × (i ≡ h))
 HeldBy files name _ h i = i ≡ h
 
@@ -147,11 +150,11 @@ HandedIn files name [] ss h = ⊥
 HandedIn files name (c ∷ cs) [] h = ⊥
 HandedIn files name (c ∷ cs) (s ∷ ss) h = MadeBy files name c s cs ss h ⊎ HandedIn s.files name cs ss h
 
--- The document in this file was handed in, and its keyed tree came behind the versions.
-pub record Accepted (files : Files) (name doc : List ℕ) (h : Held) (now : Files) : Type 0 where
+-- The document in this file was handed in with the note, and its keyed tree came behind the versions.
+pub record Accepted (files : Files) (name doc note : List ℕ) (h : Held) (now : Files) : Type 0 where
   pub tree : PlainKeyed
-  pub handed : IsHandedIn files doc h tree
-  pub archive : Holds now name (with_keyed h tree)
+  pub handed : IsHandedIn files doc note h tree
+  pub archive : Holds now name (with_keyed h tree note)
 
 -- The specification in this file was handed in, and the versions come under it.
 pub record TakesKeys (files : Files) (name spec : List ℕ) (h : Held) (now : Files) : Type 0 where
@@ -162,7 +165,7 @@ pub record TakesKeys (files : Files) (name spec : List ℕ) (h : Held) (now : Fi
 -- The step is what comes of these versions under the keys of the specification: their file, or the first that does not satisfy them, or why neither is.
 pub record ChangesOrTells (files : Files) (name spec : List ℕ) (h : Held) (s : Step) : Type 0 where
   pub outcome : Result Outcome Refusal
-  pub comes : RekeysFrom files name spec h.rules h.versions outcome
+  pub comes : RekeysFrom files name spec h.rules h.versions h.notes outcome
   pub is : s ≡ step_from files outcome
 
 -- ---- what else steps do
@@ -178,14 +181,14 @@ pub record FileIs (files : Files) (name : List ℕ) (P : List ℕ → Type 0) : 
   pub there : finite.get files name ≡ Some bytes
   pub is : P bytes
 
--- The status of the step says what the file of this name is, whatever it is: a sound archive, none that is sound, or absent.
+-- The status of the step says what the file of this name is, whatever it is: a sound archive with its notes, none, or absent.
 pub record TellsSoundness (files : Files) (name : List ℕ) (s : Step) : Type 0 where
-  pub sound : (s.status ≡ 0) ↔ FileIs files name Sound
-  pub damaged : (s.status ≡ 11) ↔ FileIs files name (λ bytes. ¬ Sound bytes)
+  pub sound : (s.status ≡ 0) ↔ FileIs files name Full
+  pub damaged : (s.status ≡ 11) ↔ FileIs files name (λ bytes. ¬ Full bytes)
   pub absent : (s.status ≡ 3) ↔ (finite.get files name ≡ None)
 
 -- the step writes the counts of the archive that holds this
 pub record WritesCounts (files : Files) (h : Held) (s : Step) : Type 0 where
   pub outcome : Result Outcome Refusal
-  pub counts : CountsFrom files h.rules h.versions outcome
+  pub counts : CountsFrom files h.rules h.versions h.notes outcome
   pub is : s ≡ step_from files outcome

@@ -6,10 +6,11 @@ ghost use Rattle.keyed_tree.specs.Data.{PlainKeyed};
 ghost use Rattle.keyed_tree.specs.Kids.{IsOrdered};
 ghost use Rattle.archive_tree.specs.Stands.{version_of};
 ghost use Rattle.archive_file.specs.KeyedBy.{IsKeyedBy};
-ghost use Rattle.xarch_words.specs.Commands.{PlainCommand, add, check, get, history, rekey, stats};
+ghost use Rattle.xarch_words.specs.Commands.{PlainCommand, add, check, get, history, rekey, stats, versions};
 ghost use Rattle.xarch_meanings.specs.Check.{checked};
 ghost use Rattle.xarch_meanings.specs.Get.{version_text};
 ghost use Rattle.xarch_meanings.specs.History.{history_text};
+ghost use Rattle.xarch_meanings.specs.Versions.{listed};
 ghost use Rattle.xarch_parts.specs.Outcome.{Step, step_from};
 ghost use Rattle.xarch_meanings.specs.Plausible.{Plausible};
 ghost use Rattle.xarch_meanings.specs.Step.{single_of};
@@ -18,13 +19,12 @@ ghost use Rattle.xarch_run.specs.Calls.{Call, CallsDid, CommandMay, CommandsDid,
 ghost use Rattle.xarch_run.specs.Held.{Accepted, Begun, ChangesOrTells, HandedIn, Held, Holds, HoldsBehind, HoldsExactly, IsHandedIn, IsRekeyed, MakesArchive, NoneMakes, RefusalsKeep, TakesKeys, TellsSoundness, WritesCounts};
 ghost use Rattle.xarch_run.specs.Steps.{LineMay, files_after, line_command};
 
-use archive_file::sound_archives_have_one_reading;
 use archive_rekey::versions_have_one_rekeying;
-use record_format::versions_have_one_file;
+use noted_file::{full_files_have_one_reading, sound_files_are_full};
 use xarch_meanings::what_should_succeed_is_not_refused;
 
 /// After any list of commands, an archive's file is exactly the encoding of the handed-in documents
-/// that satisfied its keys, in order, and refused commands changed no file; `get` of a number
+/// that satisfied its keys, in order, and of their notes, and refused commands changed no file; `get` of a number
 /// writes that version with keyed siblings in key order; and `history` writes exactly the versions
 /// that hold the element.
 ///
@@ -63,15 +63,15 @@ pub fn archives_hold_what_was_handed_in()
     ensures refused { (files : Files) (commands : List (Option PlainCommand)) (steps : List Step)
         → CommandsDid files commands steps → RefusalsKeep files steps }
 
-    // An `add` is not refused exactly where its document satisfies the keys within the limits, and
-    // the versions with it have a file.
-    ensures satisfied { (files : Files) (name doc : List ℕ) (held : Held) (s : Step)
+    // An `add` is not refused exactly where its document satisfies the keys within the limits, its
+    // note is short enough, and the versions with it have a file.
+    ensures satisfied { (files : Files) (name doc note : List ℕ) (held : Held) (s : Step)
         (tree : PlainKeyed)
-        → Holds files name held → CommandMay files (Some (add name doc)) s
-        → IsHandedIn files doc held tree → s.status ≡ 0 }
-    ensures accepted { (files : Files) (name doc : List ℕ) (held : Held) (s : Step)
-        → Holds files name held → CommandMay files (Some (add name doc)) s → s.status ≡ 0
-        → Accepted files name doc held s.files }
+        → Holds files name held → CommandMay files (Some (add name doc note)) s
+        → IsHandedIn files doc note held tree → s.status ≡ 0 }
+    ensures accepted { (files : Files) (name doc note : List ℕ) (held : Held) (s : Step)
+        → Holds files name held → CommandMay files (Some (add name doc note)) s → s.status ≡ 0
+        → Accepted files name doc note held s.files }
 
     // A `rekey` is not refused exactly where each version satisfies the keys of the specification,
     // and the versions under them have a file; else the first that does not is told.
@@ -103,6 +103,11 @@ pub fn archives_hold_what_was_handed_in()
         → Holds files name held → CommandMay files (Some (stats name)) s
         → WritesCounts files held s }
 
+    // The numbers of the versions are listed, each with its note.
+    ensures lists { (files : Files) (name : List ℕ) (held : Held) (s : Step)
+        → Holds files name held → CommandMay files (Some (versions name)) s
+        → s ≡ step_from files (listed files held.notes) }
+
     // A check of an archive writes `ok` and the number of its versions. Of any file its status says
     // whether it is a sound archive.
     ensures checks { (files : Files) (name : List ℕ) (held : Held) (s : Step)
@@ -122,8 +127,8 @@ pub fn archives_hold_what_was_handed_in()
     ensures words { (files : Files) (words : List (List ℕ)) (s : Step)
         → Plausible files words s → CommandMay files (single_of words) s }
 {
-    versions_have_one_file();
-    sound_archives_have_one_reading();
+    full_files_have_one_reading();
+    sound_files_are_full();
     what_should_succeed_is_not_refused();
     versions_have_one_rekeying();
 }

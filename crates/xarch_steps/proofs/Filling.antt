@@ -1,7 +1,7 @@
 -- When words are refused by a limit.
 use Rattle.std.proofs.Common.{◌≡◌, ℕ, ◌+◌, List, Option, Some, None, sym, subst, arith}
 use Rattle.xa_outside.specs.Folder.{Files}
-use Rattle.xarch_words.specs.Commands.{PlainCommand, norm, init, add, rekey, get, history, check, stats, batch, demo}
+use Rattle.xarch_words.specs.Commands.{PlainCommand, norm, init, add, rekey, get, history, check, stats, versions, batch, demo}
 use Rattle.xarch_words.specs.Refusal.{usage, no_file, exists, bad_spec, bad_json, bad_shape, key_fault, key_fault_in, no_version, bad_path, damaged, limit, PlainFault, refused, folder_fault, out_fault, in_fault, memory}
 use Rattle.xarch_meanings.specs.Ran.{status_after}
 use Rattle.xarch_writes.specs.FillsUp.{FillsUp, IsLimited}
@@ -36,6 +36,7 @@ fills_by (Some (get archive i)) told draft P Q f h = tt
 fills_by (Some (history archive path)) told draft P Q f h = tt
 fills_by (Some (check archive)) told draft P Q f h = tt
 fills_by (Some (stats archive)) told draft P Q f h = tt
+fills_by (Some (versions archive)) told draft P Q f h = tt
 fills_by (Some batch) told draft P Q f h = tt
 fills_by (Some (demo seed count archive)) told draft P Q f h = tt
 

@@ -25,7 +25,7 @@ ghost use Rattle.xarch_steps.specs.Obeys.{Obeys};
 use std::alloc::Global;
 use xa_outside::{Folder, Sink};
 use xarch_meanings::{commands_take_one_step, what_should_succeed_is_not_refused};
-use xarch_reads::{run_check, run_get, run_history, run_norm, run_stats};
+use xarch_reads::{run_check, run_get, run_history, run_norm, run_stats, run_versions};
 use xarch_words::{Command, Fault, read_words, status, write_fault};
 use xarch_writes::{run_add, run_demo, run_init, run_rekey};
 
@@ -45,7 +45,8 @@ pub fn take_step<F: Folder, O: Sink, E: Sink>(
     // What is done where files are told: one of the steps that the words may have the program take,
     // and the one that is defined where the archive that they name is absent or sound. Status,
     // files, output and line are that step's, but after a fault of the outside, which leaves a
-    // prefix of its output. A refusal has no output, but where a `get` meets damage while it writes.
+    // prefix of its output. A refusal has no output, but where a `get` or a `versions` meets damage
+    // while it writes.
     ensures tried { (files : Files) → F.files folder.old ≡ Some files → outside_of result ≡ None
         → Tried files (words_view words.now) result (F.files folder.new) (O.taken out.old)
         (O.taken out.new) (E.taken err.old) (E.taken err.new) (E.faults err.old)
@@ -54,7 +55,7 @@ pub fn take_step<F: Folder, O: Sink, E: Sink>(
         → Wrote files (words_view words.now) (O.taken out.old) (O.taken out.new) }
 
     // What is written whatever the folder tells: nothing where a command is refused, but for a `get`
-    // that meets damage while it writes.
+    // or a `versions` that meets damage while it writes.
     ensures gained { Gained (O.taken out.old) (O.taken out.new) }
     ensures nothing { result ≢ 0 → outside_of result ≡ None
         → ¬ MayHaveWritten (single_of (words_view words.now)) result
@@ -163,12 +164,13 @@ fn run_command<F: Folder, O: Sink>(
     match command {
         Command::Norm { spec, doc } => run_norm(alloc, spec, doc, folder, out),
         Command::Init { archive, spec } => run_init(alloc, archive, spec, folder),
-        Command::Add { archive, doc } => run_add(alloc, archive, doc, folder),
+        Command::Add { archive, doc, note } => run_add(alloc, archive, doc, note, folder),
         Command::Rekey { archive, spec } => run_rekey(alloc, archive, spec, folder),
         Command::Get { archive, version } => run_get(alloc, archive, version, folder, out),
         Command::History { archive, path } => run_history(alloc, archive, path, folder, out),
         Command::Check { archive } => run_check(alloc, archive, folder, out),
         Command::Stats { archive } => run_stats(alloc, archive, folder, out),
+        Command::Versions { archive } => run_versions(alloc, archive, folder, out),
         Command::Demo {
             seed,
             count,

@@ -1,22 +1,23 @@
 use Rattle.xarch_run.proofs.CallLemmas.{calls-did, line-may, words-may}
 use Rattle.xarch_run.proofs.CheckLemmas.{checking, judging}
-use Rattle.xarch_run.proofs.HeldLemmas.{accepted, all-absent, all-hold, all-refused, counting, exact, getting, handed-holds, in-order, keys-taken, keys-told, one-held, rekeying, satisfying, should-succeed, step-begins, telling}
+use Rattle.xarch_run.proofs.HeldLemmas.{accepted, all-absent, all-hold, all-refused, counting, exact, getting, handed-holds, in-order, keys-taken, keys-told, listing, one-held, rekeying, satisfying, should-succeed, step-begins, telling}
 use Rattle.xarch_run.proofs.laws.archives_hold_what_was_handed_in.Goals as goal
 
 pub returns-clause-headline : goal.returns-clause-headline
-returns-clause-headline c = λ files commands steps name held did handed. exact c.versions_have_one_file.ensures.one_file _ name held (handed-holds (record { one_list = c.versions_have_one_rekeying.ensures.one_list; apart = c.versions_have_one_rekeying.ensures.apart }) files name commands steps held did handed)
+returns-clause-headline c = λ files commands steps name held did handed. exact c.full_files_have_one_reading.ensures.file c.full_files_have_one_reading.ensures.defined _ name held
+    (handed-holds (record { one_list = c.versions_have_one_rekeying.ensures.one_list; apart = c.versions_have_one_rekeying.ensures.apart }) c.sound_files_are_full.ensures.sound files name commands steps held did handed)
 
 pub returns-clause-made : goal.returns-clause-made
-returns-clause-made c = step-begins
+returns-clause-made c = step-begins c.sound_files_are_full.ensures.sound
 
 pub returns-clause-kept : goal.returns-clause-kept
 returns-clause-kept c = λ files name commands steps held holds did. all-hold (record { one_list = c.versions_have_one_rekeying.ensures.one_list; apart = c.versions_have_one_rekeying.ensures.apart }) files name commands steps held holds did
 
 pub returns-clause-exactly : goal.returns-clause-exactly
-returns-clause-exactly c = exact c.versions_have_one_file.ensures.one_file
+returns-clause-exactly c = exact c.full_files_have_one_reading.ensures.file c.full_files_have_one_reading.ensures.defined
 
 pub returns-clause-only : goal.returns-clause-only
-returns-clause-only c = one-held c.sound_archives_have_one_reading.ensures.one
+returns-clause-only c = one-held c.full_files_have_one_reading.ensures.reading
 
 pub returns-clause-absent : goal.returns-clause-absent
 returns-clause-absent c = all-absent
@@ -25,10 +26,10 @@ pub returns-clause-refused : goal.returns-clause-refused
 returns-clause-refused c = all-refused
 
 pub returns-clause-satisfied : goal.returns-clause-satisfied
-returns-clause-satisfied c = λ files name doc held s tree holds may handed. satisfying files name held s holds doc tree may handed
+returns-clause-satisfied c = λ files name doc note held s tree holds may handed. satisfying files name held s holds doc note tree may handed
 
 pub returns-clause-accepted : goal.returns-clause-accepted
-returns-clause-accepted c = λ files name doc held s holds may zero. accepted files name held s holds doc may zero
+returns-clause-accepted c = λ files name doc note held s holds may zero. accepted files name held s holds doc note may zero
 
 pub returns-clause-rekeyed : goal.returns-clause-rekeyed
 returns-clause-rekeyed c = λ files name spec held under s holds may keyed. rekeying files name held s holds (record { one_list = c.versions_have_one_rekeying.ensures.one_list; apart = c.versions_have_one_rekeying.ensures.apart }) spec under may keyed
@@ -54,8 +55,11 @@ returns-clause-tells c = λ files name held s path holds may. telling files name
 pub returns-clause-counts : goal.returns-clause-counts
 returns-clause-counts c = λ files name held s holds may. counting files name held s holds may
 
+pub returns-clause-lists : goal.returns-clause-lists
+returns-clause-lists c = λ files name held s holds may. listing files name held s holds may
+
 pub returns-clause-checks : goal.returns-clause-checks
-returns-clause-checks c = λ files name held s holds may. checking files name s c.sound_archives_have_one_reading.ensures.one held holds may
+returns-clause-checks c = λ files name held s holds may. checking files name s c.full_files_have_one_reading.ensures.reading held holds may
 
 pub returns-clause-judges : goal.returns-clause-judges
 returns-clause-judges c = judging

@@ -24,5 +24,8 @@ returns-in-Check g c = record { performs = rw c.in-Check.is c.run_check.ensures;
 pub returns-in-Stats : goal.returns-in-Stats
 returns-in-Stats g c = record { performs = rw c.in-Stats.is c.run_stats.ensures; fills = rw c.in-Stats.is tt }
 
+pub returns-in-Versions : goal.returns-in-Versions
+returns-in-Versions g c = record { performs = rw c.in-Versions.is c.run_versions.ensures; fills = rw c.in-Versions.is tt }
+
 pub returns-in-Demo : goal.returns-in-Demo
 returns-in-Demo g c = record { performs = rw c.in-Demo.is c.run_demo.ensures; fills = rw c.in-Demo.is tt }
