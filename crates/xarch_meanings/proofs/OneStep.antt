@@ -23,7 +23,7 @@ use Rattle.xarch_meanings.specs.Demo.{MakesOrNone, demo_input, samples}
 use Rattle.xarch_meanings.specs.Init.{init_rules}
 use Rattle.xarch_parts.specs.Inputs.{file_of}
 use Rattle.xarch_parts.specs.Outcome.{Outcome, Step, and_then, or_refuse, step_from}
-use Rattle.xarch_meanings.specs.Plausible.{IsLate, MayAdd, MayRekey, MayOver, MayWrite, MayBe, MayComeLate, MayDo, Plausible, add_input, history_input, stats_input, versions_input}
+use Rattle.xarch_meanings.specs.Plausible.{IsLate, MayAdd, MayRekey, MayOver, MayWrite, MayBe, MayComeLate, MayDo, Plausible, add_input, get_input, history_input, stats_input, versions_input}
 use Rattle.xarch_meanings.specs.PlausibleLaws.{late-two, late-unlisted, late-unsound, plain-step}
 use Rattle.xarch_meanings.specs.Rekey.{RekeysTo, rekey_rules}
 use Rattle.xarch_meanings.specs.Stats.{CountsFrom, counts_text, noted_counts}
@@ -50,8 +50,8 @@ module _ (one_archive : (vs : List PlainKeyed) (a b : PlainArchive) → ArchiveO
   one_way (Err e) P h r s p q = q ∙ sym p
 
   -- what begins with a file that is not there is refused
-  absent : {A : Type 0} (files : Files) (name : List ℕ) (f : List ℕ → Result A Refusal) → map.get files name ≡ None → and_then (file_of files name) f ≡ Err (no_file name)
-  absent files name f e = ap (λ o. and_then (or_refuse o (no_file name)) f) e
+  get_absent : (files : Files) (name : List ℕ) (i : ℕ) → map.get files name ≡ None → get_input files name i ≡ Err (no_file name)
+  get_absent files name i e = rw e refl
 
   add_absent : (files : Files) (name doc : List ℕ) → map.get files name ≡ None → add_input files name doc ≡ Err (no_file name)
   add_absent files name doc e = rw e refl
@@ -72,7 +72,7 @@ module _ (one_archive : (vs : List PlainKeyed) (a b : PlainArchive) → ArchiveO
 
   -- a file has one number of versions, and is not sound and damaged
   same_count : (bytes : List ℕ) (p q : Full bytes) → length q.versions ≡ length p.versions
-  same_count bytes p q = let same = one_reading q.rules p.rules q.versions p.versions q.notes p.notes bytes q.is p.is in ap length same.1.0
+  same_count bytes p q = let same = one_reading q.rules p.rules q.versions p.versions q.notes p.notes bytes q.is p.is in ap length same.1
 
   one_found : (files : Files) (name bytes : List ℕ) (r s : Result Outcome Refusal) → IsFound files name bytes r → IsFound files name bytes s → s ≡ r
   one_found files name bytes r s (inl p) (inl q) = q.is ∙ ap (λ (n : ℕ). Ok (record { files = files; output = check_text n })) (same_count bytes p.full q.full) ∙ sym p.is
@@ -130,7 +130,7 @@ module _ (one_archive : (vs : List PlainKeyed) (a b : PlainArchive) → ArchiveO
   one files (rekey name spec) r s (inl p) q = subst (λ x. GoesOn x (λ _. MayRekey files name) s) (rekey_absent files name spec p.absent) q.whatever ∙ sym p.is
   one files (rekey name spec) r s (inr p) q =
       one_way (rekey_rules files name spec) (RekeysTo files name p.versions p.notes) (one_rekeyed files name p.versions p.notes) r s p.rest (q.sound p.rules p.versions p.notes p.archive)
-  one files (get name i) r s (inl p) q = subst (λ x. GoesOn x (λ _. MayWrite files name) s) (absent files name _ p.absent) q.whatever ∙ sym p.is
+  one files (get name i) r s (inl p) q = subst (λ x. GoesOn x (λ _. MayWrite files name) s) (get_absent files name i p.absent) q.whatever ∙ sym p.is
   one files (get name i) r s (inr p) q = q.sound p.rules p.versions p.notes p.archive ∙ sym p.rest
   one files (history name path) r s (inl p) q = subst (λ x. GoesOn x (λ _. MayWrite files name) s) (history_absent files name path p.absent) q.whatever ∙ sym p.is
   one files (history name path) r s (inr p) q = q.sound p.rules p.versions p.notes p.archive ∙ sym p.rest

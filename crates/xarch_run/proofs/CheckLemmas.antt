@@ -71,5 +71,5 @@ module _ (files : Files) (name : List ℕ) where
     checking one h a m = plain m ∙ ap (step_from files) (judged m.outcome (subst (λ o. GoesOn (or_refuse o (no_file name)) (IsFound files name) m.outcome) a.there m.may))
       where
         judged : (r : Result Outcome Refusal) → IsFound files name a.bytes r → r ≡ checked files h.versions
-        judged r (inl p) = p.is ∙ ap (checked files) (one p.full.rules h.rules p.full.versions h.versions p.full.notes h.notes a.bytes p.full.is a.full).1.0
+        judged r (inl p) = p.is ∙ ap (checked files) (one p.full.rules h.rules p.full.versions h.versions p.full.notes h.notes a.bytes p.full.is a.full).1
         judged r (inr p) = absurd (p.unsound (record { rules = h.rules; versions = h.versions; notes = h.notes; is = a.full }))

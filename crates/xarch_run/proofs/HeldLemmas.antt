@@ -295,7 +295,7 @@ init-begins : (files : Files) (name other spec : List ℕ) (o : Outcome) → nam
 unfolding MayBe
 init-begins files name other spec o same m = goes o (init_rules files other spec) (λ rules. Stores files other rules [] []) (Ok o) refl m (λ rules is s. record {
   held = record { rules = rules; versions = []; notes = [] };
-  begins = (same, (init-spelled (free_in files other) (length_in files spec refusal.specification 1048576) (read_in files spec rules_of) rules is, (refl, refl)));
+  begins = (same, (init-spelled (free_in files other) (length_in files spec refusal.specification 1048576) (read_in files spec rules_of) rules is, refl, refl));
   archive = subst (λ n. ArchiveIs o.files n rules [] []) (sym same) (stored-is files o other rules [] [] s);
 })
 
@@ -348,7 +348,7 @@ begins-makes files name (Some (demo seed count other)) h b = b.0
 same-beginning : (files : Files) (name : List ℕ) (command : Option PlainCommand) (h g : Held) → BeginsWith files name command h → BeginsWith files name command g → (h.rules ≡ g.rules) × (h.versions ≡ g.versions) × (h.notes ≡ g.notes)
 same-beginning files name None h g b c = absurd b
 same-beginning files name (Some (norm spec doc)) h g b c = absurd b
-same-beginning files name (Some (init other spec)) h g b c = (one-reading (read_in files spec rules_of) b.1.0 c.1.0, (b.1.1.0 ∙ sym c.1.1.0, b.1.1.1 ∙ sym c.1.1.1))
+same-beginning files name (Some (init other spec)) h g b c = (one-reading (read_in files spec rules_of) b.1.0 c.1.0, b.1.1 ∙ sym c.1.1, b.1.2 ∙ sym c.1.2)
   where
     one-reading : (x : Result (List PlainRule) Refusal) → x ≡ Ok h.rules → x ≡ Ok g.rules → h.rules ≡ g.rules
     one-reading x e f = cc
@@ -360,13 +360,13 @@ same-beginning files name (Some (check other)) h g b c = absurd b
 same-beginning files name (Some (stats other)) h g b c = absurd b
 same-beginning files name (Some (versions other)) h g b c = absurd b
 same-beginning files name (Some batch) h g b c = absurd b
-same-beginning files name (Some (demo seed count other)) h g b c = let same : h ≡ g = b.1 ∙ sym c.1 in (ap (λ (z : Held). z.rules) same, (ap (λ (z : Held). z.versions) same, ap (λ (z : Held). z.notes) same))
+same-beginning files name (Some (demo seed count other)) h g b c = let same : h ≡ g = b.1 ∙ sym c.1 in (ap (λ (z : Held). z.rules) same, ap (λ (z : Held). z.versions) same, ap (λ (z : Held). z.notes) same)
 
 step-archive : (noted : AreNoted) (files : Files) (name : List ℕ) (command : Option PlainCommand) (s : Step) (h : Held) → CommandMay files command s → s.status ≡ 0 → BeginsWith files name command h → Holds s.files name h
 step-archive noted files name command s h m success b =
     let begun = step-begins noted files name command s m success (begins-makes files name command h b) in
     let same = same-beginning files name command begun.held h begun.begins b in
-    subst (λ ns. ArchiveIs s.files name h.rules h.versions ns) same.1.1 (subst (λ us. ArchiveIs s.files name h.rules us begun.held.notes) same.1.0 (subst (λ r. ArchiveIs s.files name r begun.held.versions begun.held.notes) same.0 begun.archive))
+    subst (λ ns. ArchiveIs s.files name h.rules h.versions ns) same.2 (subst (λ us. ArchiveIs s.files name h.rules us begun.held.notes) same.1 (subst (λ r. ArchiveIs s.files name r begun.held.versions begun.held.notes) same.0 begun.archive))
 
 -- ---- an archive from its beginning on
 
@@ -504,7 +504,7 @@ pub one-held : ((rules others : List PlainRule) (vs us : List PlainKeyed) (notes
     → (files : Files) (name : List ℕ) (h i : Held) → Holds files name h → Holds files name i → h ≡ i
 one-held one files name h i a b =
     let same = one h.rules i.rules h.versions i.versions h.notes i.notes b.bytes (subst (FullAs h.rules h.versions h.notes) (same-bytes a.bytes b.bytes (finite.get files name) a.there b.there) a.full) b.full in
-    both-held h i same.0 same.1.0 same.1.1
+    both-held h i same.0 same.1 same.2
   where
     same-bytes : (x y : List ℕ) (o : Option (List ℕ)) → o ≡ Some x → o ≡ Some y → x ≡ y
     same-bytes x y o e f = cc
