@@ -428,7 +428,7 @@ pub absent-parts : (has_parts : (rules : List PlainRule) (vs : List PlainKeyed) 
 unfolding MayBe
 absent-parts has_parts files name i v d q e = record {
   whatever = subst (λ x. GoesOn x (λ _. MayWrite files name) (Err q)) (sym (no-input files name i q refuses)) refl;
-  sound = λ rules vs notes a. absurd (no-parts has_parts files name rules vs notes q a refuses);
+  sound = λ rules vs notes a. absurd (no-parts has_parts files name rules vs notes a q refuses);
 }
   where
     refuses : read_in files name (parts_of name) ≡ Err q

@@ -13,7 +13,6 @@ use Rattle.version_notes.specs.declared.place.Place.{Place}
 use Rattle.version_notes.specs.declared.fault.NotesFault.{NotesFault}
 use Rattle.version_notes.specs.declared.fault.NotesFault.TheVariants.{Damage, Folder, Memory}
 use Rattle.xarch_words.specs.Refusal.{Refusal, damaged, PlainFault, refused, folder_fault, out_fault, in_fault, memory}
-use Rattle.xarch_parts.specs.AllowedLaws.{gained_prefix}
 use Rattle.xarch_parts.specs.Ends.{Gained, IsInside, IsOfCommand, IsOfFolder}
 use Rattle.xarch_parts.specs.Noted.{IsOfNotes}
 use Rattle.xarch_meanings.specs.Versions.{lines_from, version_line, versions_text}
@@ -62,7 +61,7 @@ begun start s meter = record {
   later = omega arith;
   out_later = omega arith;
   name = refl;
-  count = refl;
+  count = omega arith;
   written = [];
   takes = Takes-nil s.taken;
   rest = λ files told. refl;
@@ -131,7 +130,7 @@ module _ (gives : (r : PlainReader) (file note : List ℕ) → next_of r file �
       out_later = let a = f.out_later in omega (arith, a, out_same);
       cause = rose;
       only = λ q e. absurd cc;
-      gained = gained_prefix s.taken u.taken (f.written ++ version_line (number + 1) note) (TakesPrefix-after s.taken t.taken u.taken f.written (version_line (number + 1) note) f.takes p);
+      gained = (let q = TakesPrefix-after s.taken t.taken u.taken f.written (version_line (number + 1) note) f.takes p in record { bytes = take q.count (f.written ++ version_line (number + 1) note); takes = q.takes });
       ends = λ files told notes are.
           let shown = front-of-more (notes_from next (file_of files start.name)) notes (sym (ap (option_map versions_text) are) ∙ more files told) in
           TakesPrefix-in s.taken t.taken u.taken (versions_text notes) f.written (version_line (number + 1) note) shown.0 shown.1 f.takes p;

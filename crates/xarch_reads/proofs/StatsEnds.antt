@@ -44,6 +44,7 @@ module _ (has_parts : (rules : List PlainRule) (vs : List PlainKeyed) (notes : L
 
     -- the bytes of the archive and its notes are those of the file
     whole : (rules : List PlainRule) (vs : List PlainKeyed) (notes : List (List ℕ)) (a : ArchiveIs files name rules vs notes) (n : ℕ) → file_length files name ≡ Ok n → n ≡ (counts rules a.full.is.file.archive).bytes + length (notes_part notes)
+    unfolding counts
     whole rules vs notes a n long =
         let all = length-is files name a.bytes n a.there long in
         let split = ap length a.full.spelled ∙ length-append a.full.core (notes_part notes) in

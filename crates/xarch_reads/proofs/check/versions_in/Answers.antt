@@ -40,7 +40,7 @@ pub check_notes_of-requires : goal.check_notes_of-requires
 check_notes_of-requires g c = c.in_ok-parts.ensures.within.room
 
 pub returns-in-Ok-clause-reads : goal.returns-in-Ok-clause-reads
-returns-in-Ok-clause-reads g c = three-parts c.in_ok-parts.parts _ _ _ _ _ _ c.in_ok-parts.ensures.within c.in_ok-parts.ensures.reads c.in_ok-versions.ensures.reads c.check_notes_of.ensures.reads
+returns-in-Ok-clause-reads g c = three-parts c.in_ok-parts.parts _ _ _ _ _ _ c.in_ok-parts.ensures.within c.in_ok-parts.ensures.reads c.in_ok-versions.ensures.reads c.in-Ok.ensures.reads
 
 pub returns-in-Ok-clause-versions : goal.returns-in-Ok-clause-versions
 returns-in-Ok-clause-versions g c = λ files told.
@@ -53,11 +53,11 @@ returns-in-Ok-clause-versions g c = λ files told.
     let s = c.in_ok-versions.ensures.sound files (take parts.core p.bytes) told1 (of-parts files name parts p) in
     may_tell law.parts law.none files name parts p s.0 c.in_ok-versions.versions s.1 c.full_files_are_read_note_by_note.ensures.full (c.in-Ok.ensures.stand files told2)
 
-pub returns-clause-reads : goal.returns-clause-reads
-returns-clause-reads g c = three-parts c.in_ok-parts.parts _ _ _ _ _ _ c.in_ok-parts.ensures.within c.in_ok-parts.ensures.reads c.in_ok-versions.ensures.reads c.check_notes_of.ensures.reads
+pub returns-in-Err-clause-reads : goal.returns-in-Err-clause-reads
+returns-in-Err-clause-reads g c = three-parts c.in_ok-parts.parts _ _ _ _ _ _ c.in_ok-parts.ensures.within c.in_ok-parts.ensures.reads c.in_ok-versions.ensures.reads c.in-Err.ensures.reads
 
-pub returns-clause-refused : goal.returns-clause-refused
-returns-clause-refused g c = λ files q told e.
+pub returns-in-Err-clause-refused : goal.returns-in-Err-clause-refused
+returns-in-Err-clause-refused g c = λ files q told e.
     let law = c.full_files_have_parts.ensures in
     let name = c.args.archive.now in
     let parts = c.in_ok-parts.parts in
