@@ -1,4 +1,6 @@
 // Notes that are read.
+ghost use Rattle.std.specs.Prelude.{◌≡◌, IfOk};
+
 use crate::found::{FIRST, TINY, folder};
 use std::alloc::{AllocError, Global};
 use std::test::Fail;
@@ -17,7 +19,9 @@ pub(crate) fn told<'a>(found: &'a Result<Option<String>, NotesFault>) -> &'a str
 }
 
 /// A reader of the notes behind the file of one version, which have so many bytes.
-fn reader(alloc: Global, size: u32, versions: u32) -> Result<NoteReader, AllocError> {
+pub(crate) fn reader(alloc: Global, size: u32, versions: u32) -> Result<NoteReader, AllocError>
+    ensures { IfOk result (λ r. r.due ≡ versions) }
+{
     let parts = Parts {
         core: 142,
         notes: Some(u64::from(size)),

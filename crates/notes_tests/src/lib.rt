@@ -7,3 +7,5 @@ mod found;
 mod given;
 #[cfg(test)]
 mod kept;
+#[cfg(test)]
+mod walked;
