@@ -1,5 +1,5 @@
 -- How the parts of `versions` lead to its end.
-use Rattle.std.proofs.Common.{◌≡◌, inl, inr, ℕ, ◌+◌, ◌≤◌, List, [], length, take, Option, Some, None, Result, Ok, Err, OnOk, refl, sym, ap, ◌∙◌, subst, arith}
+use Rattle.std.proofs.Common.{◌≡◌, inl, inr, ℕ, ◌+◌, ◌≤◌, List, [], length, take, Option, Some, None, option_map, Result, Ok, Err, OnOk, refl, sym, ap, ◌∙◌, subst, arith}
 use Rattle.std.specs.FinMap as map
 use Rattle.std.specs.Result.{is_ok}
 use Rattle.xa_outside.specs.Causes.{HasCause, Rose}
@@ -18,8 +18,8 @@ use Rattle.keyed_tree.specs.Data.{PlainKeyed}
 use Rattle.record_format.specs.Files.{FileOf}
 use Rattle.record_format.specs.Fronts.{header}
 use Rattle.version_notes.specs.Parts.{parts_behind, parts_in}
-use Rattle.version_notes.specs.Reader.{PlainReader, at_first, file_of}
-use Rattle.version_notes.specs.Reading.{all_read, notes_from}
+use Rattle.version_notes.specs.Reader.{PlainReader, at_first, file_of, first_place}
+use Rattle.version_notes.specs.Reading.{all_from, all_read, notes_from}
 use Rattle.version_notes.specs.declared.parts.Parts.{Parts}
 use Rattle.noted_file.specs.Full.{FullAs}
 use Rattle.xarch_words.specs.Commands.{versions}
@@ -29,6 +29,11 @@ use Rattle.xarch_parts.specs.AllowedLaws.{MayEnd-did, MayEnd-outside}
 use Rattle.xarch_parts.specs.Archives.{ArchiveIs, GoesOn, NoRefusal, PartsAre}
 use Rattle.xarch_parts.specs.CoreLaws.{front-sound, same-file}
 use Rattle.xarch_parts.specs.Ends.{EndsGained, Gained, IsInside, IsOfCommand, IsOfFolder, TellsOnly}
+use Rattle.xarch_parts.specs.Ends as ends
+use Rattle.xarch_parts.specs.FolderLaws.{caused-read, caused-then, keeps-read, reads-then}
+use Rattle.xarch_parts.specs.Folders.{Counts, Keeps, ReadsOnly}
+use Rattle.xarch_parts.specs.Noted.{AreWithin, notes_bytes}
+use Rattle.xarch_meanings.specs.ReadLaws.{reads-once}
 use Rattle.xarch_parts.specs.Outcome.{Outcome}
 use Rattle.xarch_meanings.specs.Plausible.{MayBe, MayComeLate, MayWrite, versions_input}
 use Rattle.xarch_meanings.specs.Ran.{GainsBy}
@@ -235,3 +240,24 @@ list-gained name (Some folder_fault) old new only g = inl g
 list-gained name (Some out_fault) old new only g = inl g
 list-gained name (Some in_fault) old new only g = inl g
 list-gained name (Some memory) old new only g = inl g
+
+-- ---- behind the front of the archive
+
+notes-read : (core : ℕ) (notes : Option ℕ) → all_from (option_map (λ n. first_place core n) notes) ≡ notes_bytes notes
+notes-read core None = refl
+notes-read core (Some n) = omega arith
+
+module _ {S K : Type 0} (files : S → Option Files) (draft : S → Option (List ℕ)) (numbers : S → Numbers) (faults : S → ℕ) (taken : K → Taken) (out_faults : K → ℕ) (name : List ℕ) (parts : Parts) (count first n most : ℕ) (a b c : S) (k l : K) (v : Option PlainFault)
+    (asked : ReadsOnly files draft numbers faults n a b None) (once : PullsAtMost (16 + first) (numbers a) (numbers b)) (fits : first ≤ parts.core) (within : AreWithin most parts)
+    (h : Lists name (at_first name parts count) (written_state files draft numbers faults taken out_faults b k) (written_state files draft numbers faults taken out_faults c l) v) where
+  pub list-keeps : Keeps files draft numbers None (Counts None (most + 16)) a c v
+  unfolding IsInside IsOfFolder
+  list-keeps =
+      let all = within.within in
+      let read = notes-read parts.core parts.notes in
+      keeps-read (most + 16) a c None v
+      (reads-then (16 + first) (all_read (at_first name parts count)) (most + 16) a b c None (omega (arith, fits, all, read)) (reads-once n (16 + first) a b None asked once)
+      (record { same_files = h.same_files; same_draft = h.same_draft; pulls = h.pulls; later = h.later; cause = tt }))
+
+  pub list-caused : ends.IsCaused (faults a) (faults c) (out_faults k) (out_faults l) v
+  list-caused = caused-then (faults a) (faults b) (faults c) (out_faults k) (out_faults k) (out_faults l) v (caused-read n a b None (out_faults k) asked) (record { folder_later = h.later; out_later = h.out_later; cause = h.cause })

@@ -1,10 +1,11 @@
 -- Listing versions, line by line.
-use Rattle.std.proofs.Common.{◌≡◌, inl, inr, ℕ, zero, suc, ◌+◌, ◌-◌, ◌≤◌, ◌<◌, List, [], ◌∷◌, ◌++◌, length, take, Option, Some, None, IfSome, option_map, Result, Ok, Err, refl, sym, ap, ◌∙◌, subst, arith, append_assoc, append-nil}
-use Rattle.xa_outside.specs.Causes.{Rose}
+use Rattle.std.proofs.Common.{◌≡◌, inl, inr, ℕ, zero, suc, ◌+◌, ◌-◌, ◌≤◌, ◌<◌, true, false, List, [], ◌∷◌, ◌++◌, length, take, Option, Some, None, IfSome, option_map, Result, Ok, Err, refl, sym, ap, ◌∙◌, subst, arith, append_assoc, append-nil}
+use Rattle.std.specs.Result.{is_err}
+use Rattle.xa_outside.specs.Causes.{HasCause, Rose}
 use Rattle.xa_outside.specs.Folder.{Files}
 use Rattle.xa_outside.specs.Numbers.{IsMeter, Numbers, PullsAtMost, after_pull}
 use Rattle.xa_outside.specs.NumberLaws.{PullsAtMost-more, PullsAtMost-none, PullsAtMost-of, PullsAtMost-trans}
-use Rattle.xa_outside.specs.Taken.{Taken, Takes, TakesPrefix}
+use Rattle.xa_outside.specs.Taken.{Puts, Taken, Takes, TakesPrefix}
 use Rattle.xa_outside.specs.TakenLaws.{Takes-nil, Takes-trans, TakesPrefix-after, TakesPrefix-all, TakesPrefix-in, TakesPrefix-more}
 use Rattle.version_notes.specs.Faults.{IfDamage, IfFolder}
 use Rattle.version_notes.specs.Reader.{PlainReader, behind, file_of, most_from, most_read, next_of, place_behind, read_for, read_from}
@@ -229,3 +230,21 @@ module _ (gives : (r : PlainReader) (file note : List ℕ) → next_of r file �
         most-within due None = omega arith
         most-within zero (Some q) = omega arith
         most-within (suc n) (Some q) = omega arith
+
+-- ---- of calls
+
+pub none-shorter : (l : List ℕ) → length l < 1 → l ≡ []
+none-shorter [] h = refl
+none-shorter (x ∷ xs) h = absurd (omega (arith, h))
+
+pub put-whole : {T E : Type 0} (a b : Taken) (r : Result T E) (x : List ℕ) → is_err r ≡ false → Puts a b r x → Takes a b x
+put-whole a b (Ok v) x e p = p
+put-whole a b (Err f) x e p = absurd cc
+
+pub put-front : {T E : Type 0} (a b : Taken) (r : Result T E) (x : List ℕ) → is_err r ≡ true → Puts a b r x → TakesPrefix a b x
+put-front a b (Ok v) x e p = absurd cc
+put-front a b (Err f) x e p = p
+
+pub put-rose : {T E : Type 0} (m n : ℕ) (r : Result T E) → is_err r ≡ true → HasCause m n r → Rose m n
+put-rose m n (Ok v) e h = absurd cc
+put-rose m n (Err f) e h = h.failed

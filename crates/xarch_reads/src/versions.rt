@@ -42,8 +42,10 @@ pub fn run_versions<F: Folder, O: Sink>(
     full_files_have_parts();
     full_files_are_read_note_by_note();
     let front = front_of(alloc, archive, folder)?;
-    let reader = NoteReader::start(alloc, archive, &front.parts, front.header.versions)?;
-    list_versions(alloc, archive, reader, folder, out)
+    match NoteReader::start(alloc, archive, &front.parts, front.header.versions) {
+        Ok(reader) => list_versions(alloc, archive, reader, folder, out),
+        Err(_) => Err(Fault::Memory),
+    }
 }
 
 // Writes a line for each note that the reader gives.
@@ -116,14 +118,21 @@ fn put_version<K: Sink>(number: u32, note: &str, sink: &mut K) -> Result<(), Fai
 }
 
 /// Writes a note that is not empty, behind a blank.
-#[tactic(auto, using(xa_outside::specs::TakenLaws::outputs))]
 fn put_note<K: Sink>(note: &str, sink: &mut K) -> Result<(), Failed>
     ensures bytes { Puts (K.taken sink.old) (K.taken sink.new) result (note_text note.now) }
     ensures cause { HasCause (K.faults sink.old) (K.faults sink.new) result }
 {
-    if note.is_empty() {
-        return Ok(());
+    match note.as_bytes() {
+        [] => Ok(()),
+        bytes => put_behind_blank(bytes, sink),
     }
+}
+
+#[tactic(auto, using(xa_outside::specs::TakenLaws::outputs))]
+fn put_behind_blank<K: Sink>(bytes: &[u8], sink: &mut K) -> Result<(), Failed>
+    ensures bytes { Puts (K.taken sink.old) (K.taken sink.new) result (codes " " ++ bytes.now) }
+    ensures cause { HasCause (K.faults sink.old) (K.faults sink.new) result }
+{
     put_all(sink, b" ")?;
-    put_all(sink, note.as_bytes())
+    put_all(sink, bytes)
 }
