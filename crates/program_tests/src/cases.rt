@@ -57,8 +57,9 @@ pub(crate) enum Step {
     AreAlike(&'static str, &'static str),
     /// The byte of the file of this name at this place, which is the one, becomes the other.
     Change(&'static str, usize, u8, u8),
-    /// Each proper front of these pieces, as the file `A`, is found damaged.
-    FrontsAreDamaged(Pieces),
+    /// Each proper front of these pieces, as the file `A`, is found damaged, but one of this length, which
+    /// is sound; 0 stands for none.
+    FrontsAreDamaged(Pieces, usize),
     /// Since the draft was begun last, no more bytes than these were read, and what was read was
     /// ahead of what was written by no more than these.
     HasRead(u64, u64),
@@ -294,12 +295,12 @@ fn is_found_damaged(alloc: Global, state: &mut State, bytes: &[u8]) -> bool {
         && is_answered(alloc, state, &QUIET, &words, (11, &NOTHING, line))
 }
 
-fn are_fronts_damaged(alloc: Global, state: &mut State, pieces: Pieces) -> bool {
+fn are_fronts_damaged(alloc: Global, state: &mut State, pieces: Pieces, sound: usize) -> bool {
     let Ok(bytes) = joined(alloc, pieces) else {
         return false;
     };
     for length in 0..bytes.len() {
-        if !is_found_damaged(alloc, state, &bytes[..length]) {
+        if is_found_damaged(alloc, state, &bytes[..length]) == (length == sound && sound != 0) {
             return false;
         }
     }
@@ -326,7 +327,7 @@ fn is_met(alloc: Global, state: &mut State, step: &Step) -> bool {
         Step::Change(name, at, old, new) => {
             is_changed(alloc, &mut state.folder, name, *at, (*old, *new))
         }
-        Step::FrontsAreDamaged(pieces) => are_fronts_damaged(alloc, state, pieces),
+        Step::FrontsAreDamaged(pieces, sound) => are_fronts_damaged(alloc, state, pieces, *sound),
         Step::HasRead(most, ahead) => {
             state.folder.since() <= *most && state.folder.gap() <= *ahead
         }

@@ -46,7 +46,7 @@ const CASES: &[Case] = &[
             Put("A", ARCHIVE_OF_ONE),
             HasLength("A", 142),
             Run(CHECK, 0, Is(&[(b"ok 1\n", 1)]), b""),
-            FrontsAreDamaged(ARCHIVE_OF_ONE),
+            FrontsAreDamaged(ARCHIVE_OF_ONE, 0),
         ],
     },
     // The department is still labelled `finance`.

@@ -74,6 +74,19 @@ const TRIALS: &[Trial] = &[
         left: ("A", 1206),
         ..COMMAND
     },
+    // Behind the records come the texts of three empty notes and of this one, and sixteen bytes.
+    Trial {
+        name: "an add with a note",
+        words: &["add", "A", "d2", "as of May"],
+        left: ("A", 1206 + 3 * 4 + (4 + 9) + 16),
+        ..COMMAND
+    },
+    Trial {
+        name: "versions",
+        words: &["versions", "A"],
+        output: &[(b"1\n2\n3\n", 1)],
+        ..COMMAND
+    },
     Trial {
         name: "an add that is refused",
         words: &["add", "A", "company.key"],

@@ -113,7 +113,8 @@ const CASES: &[Case] = &[
             ),
         ],
     },
-    // The header has 46 bytes, the tail 8, and what is looked at on the way to the element 343.
+    // The header has 46 bytes, the tail 8, and what is looked at on the way to the element 343; 16 bytes are looked at for where the
+    // notes begin.
     Case {
         name: "a history reads no more of its archive than its search looks at",
         fails: &[],
@@ -126,7 +127,7 @@ const CASES: &[Case] = &[
                 Is(&[(b"2,5\n", 1)]),
                 b"",
             ),
-            ReadsAtMost(46 + 8 + 343),
+            ReadsAtMost(46 + 8 + 343 + 16),
         ],
     },
     Case {

@@ -16,6 +16,8 @@ mod failing_calls;
 #[cfg(test)]
 mod histories;
 #[cfg(test)]
+mod notes;
+#[cfg(test)]
 mod numbers;
 #[cfg(test)]
 mod other_keys;

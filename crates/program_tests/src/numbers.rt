@@ -152,7 +152,8 @@ const CASES: &[Case] = &[
             Run(&["demo", "7", "40", "A"], 4, NOTHING, b"xarch: A exists\n"),
         ],
     },
-    // The document has 103 bytes, the archive 63,894 and its longest record 204.
+    // The document has 103 bytes, the archive 63,894 and its longest record 204; a note may have 1,028 with its length, and 16 bytes
+    // are looked at for where the notes begin.
     Case {
         name: "adding goes over an archive once, and writes what it read before it reads on",
         fails: &[],
@@ -165,7 +166,7 @@ const CASES: &[Case] = &[
             ),
             Put("d", &[(JOHN, 1)]),
             Run(&["add", "A", "d"], 0, NOTHING, b""),
-            HasRead(103 + 63_894, 103 + 204),
+            HasRead(103 + 63_894 + 16, 103 + 16 + 1_028),
         ],
     },
     // The first read of the folder fails, and is not that of `demo`.

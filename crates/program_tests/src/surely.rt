@@ -52,6 +52,8 @@ const ANSWERS: &[(&[&str], u8)] = &[
     (&["check", "doc"], 11),
     (&["stats", "A"], 0),
     (&["stats", "none"], 3),
+    (&["versions", "A"], 0),
+    (&["versions", "none"], 3),
 ];
 
 fn sure_files(alloc: Global) -> Result<SureFolder, AllocError> {

@@ -66,8 +66,29 @@ const COMMANDS: &[(&str, &[&str], Option<Command<'static>>)] = &[
         Some(Command::Add {
             archive: "a.xar",
             doc: "doc.json",
+            note: None,
         }),
     ),
+    (
+        "add with a note",
+        &["add", "a.xar", "doc.json", "as of May"],
+        Some(Command::Add {
+            archive: "a.xar",
+            doc: "doc.json",
+            note: Some("as of May"),
+        }),
+    ),
+    (
+        "a line feed in a note",
+        &["add", "a.xar", "doc.json", "as of\nMay"],
+        None,
+    ),
+    (
+        "versions",
+        &["versions", "a.xar"],
+        Some(Command::Versions { archive: "a.xar" }),
+    ),
+    ("versions of no file", &["versions"], None),
     (
         "history",
         &["history", "a.xar", "[\"db\"]"],
@@ -216,6 +237,7 @@ const LIMITS: &[(Quantity, u64, &str)] = &[
         "xarch: limit batch 1073741824\n",
     ),
     (Quantity::Demo, 1_000, "xarch: limit demo 1000\n"),
+    (Quantity::Note, 1_024, "xarch: limit note 1024\n"),
 ];
 
 fn is_limit_said(alloc: Global, quantity: Quantity, number: u64, line: &str) -> bool {

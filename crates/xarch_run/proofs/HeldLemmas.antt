@@ -384,9 +384,10 @@ pub exact : ((rules : List PlainRule) (vs : List PlainKeyed) (notes : List (List
     → (files : Files) (name : List ℕ) (h : Held) → Holds files name h → HoldsExactly files name h
 exact one defined files name h a = record {
   archive = a;
-  exactly = λ bytes.
-      (λ e. subst (FullOf h.rules h.versions h.notes) (some-same a.bytes bytes (sym a.there ∙ e)) (defined h.rules h.versions h.notes a.bytes a.full),
-      λ file. a.there ∙ ap (λ b. Some b) (one h.rules h.versions h.notes a.bytes bytes (defined h.rules h.versions h.notes a.bytes a.full) file));
+  exactly = λ bytes. (
+    λ e. subst (FullOf h.rules h.versions h.notes) (some-same a.bytes bytes (sym a.there ∙ e)) (defined h.rules h.versions h.notes a.bytes a.full),
+    λ file. a.there ∙ ap (λ b. Some b) (one h.rules h.versions h.notes a.bytes bytes (defined h.rules h.versions h.notes a.bytes a.full) file),
+  );
 }
   where
     some-same : (x y : List ℕ) → Some x ≡ Some y → x ≡ y
