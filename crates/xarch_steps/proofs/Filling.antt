@@ -30,7 +30,7 @@ pub fills_by : (o : Option PlainCommand) (told : Option Files) (draft : Option (
 fills_by None told draft P Q f h = tt
 fills_by (Some (norm spec doc)) told draft P Q f h = tt
 fills_by (Some (init archive spec)) told draft P Q f h = tt
-fills_by (Some (add archive doc)) told draft P Q f h = λ files rules n tree b is input limited. h files rules n tree b is input (f limited)
+fills_by (Some (add archive doc note)) told draft P Q f h = λ files rules n tree b is short input limited. h files rules n tree b is short input (f limited)
 fills_by (Some (rekey archive spec)) told draft P Q f h = tt
 fills_by (Some (get archive i)) told draft P Q f h = tt
 fills_by (Some (history archive path)) told draft P Q f h = tt

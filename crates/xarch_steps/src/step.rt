@@ -1,10 +1,10 @@
 #![tactic(auto, using(xarch_parts::specs::EndLaws::endings))]
 
-ghost use Rattle.std.specs.Prelude.{◌≡◌, ◌≢◌, ◌≤◌, ◌<◌, ◌↔◌, ◌⊎◌, ℕ, List, Some, None, option_map};
+ghost use Rattle.std.specs.Prelude.{◌≡◌, ◌≢◌, ◌≤◌, ◌<◌, ◌↔◌, ◌⊎◌, ℕ, List, Some, None, IfSome, option_map};
 ghost use Rattle.xa_outside.specs.Causes.{Rose};
 ghost use Rattle.xa_outside.specs.Folder.{Files};
 ghost use Rattle.xa_outside.specs.Taken.{TakesNone};
-ghost use Rattle.xarch_words.specs.Commands.{PlainCommand, command_of, demo};
+ghost use Rattle.xarch_words.specs.Commands.{HasPrintedNote, PlainCommand, command_of, demo};
 ghost use Rattle.xarch_words.specs.Lines.{fault_line};
 ghost use Rattle.xarch_words.specs.Refusal as refusal;
 ghost use Rattle.xarch_words.specs.Refusal.{limit, refused};
@@ -140,6 +140,7 @@ fn command_words<F: Folder, O: Sink>(
 fn single_command(words: &[String]) -> Option<Command<'_>>
     ensures is { option_map command_view result ≡ single_of (words_view words.now) }
     ensures alone { alone (option_map command_view result) ≡ option_map command_view result }
+    ensures printed { IfSome result (λ command. HasPrintedNote (command_view command)) }
 {
     match read_words(words)? {
         Command::Batch => None,
@@ -154,7 +155,8 @@ fn run_command<F: Folder, O: Sink>(
     folder: &mut F,
     out: &mut O,
 ) -> Result<(), Fault>
-    requires { alone (Some (command_view command)) ≡ Some (command_view command) }
+    requires alone { alone (Some (command_view command)) ≡ Some (command_view command) }
+    requires printed { HasPrintedNote (command_view command) }
     ensures performs { Performs F.files F.draft F.numbers F.faults (command_view command.entry)
         folder.old folder.new (O.taken out.old) (O.taken out.new)
         (O.faults out.old) (O.faults out.new) (fault_of result) }
