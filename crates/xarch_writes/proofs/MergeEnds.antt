@@ -1,5 +1,5 @@
 -- With what the merge of a new version ends.
-use Rattle.std.proofs.Common.{◌≡◌, ◌≢◌, ◌↔◌, ◌⊎◌, inl, inr, ℕ, ◌+◌, ◌-◌, ◌≤◌, List, [], ◌∷◌, ◌++◌, length, take, Option, Some, None, Result, Ok, Err, refl, sym, ap, ◌∙◌, subst, length-append, arith}
+use Rattle.std.proofs.Common.{◌≡◌, ◌≢◌, ◌↔◌, inl, inr, ℕ, ◌+◌, ◌-◌, ◌≤◌, List, [], ◌∷◌, ◌++◌, length, Option, Some, None, Result, Ok, Err, refl, sym, ap, ◌∙◌, subst, length-append, arith}
 use Rattle.std.specs.Prelude.{max}
 use Rattle.std.specs.Option.{option_map}
 use Rattle.std.specs.FinMap as map
@@ -32,7 +32,7 @@ use Rattle.xarch_words.specs.Refusal.{archive, versions, Refusal, damaged, limit
 use Rattle.xarch_words.specs.View.{fault_view}
 use Rattle.xarch_words.specs.declared.fault.Fault.{Fault}
 use Rattle.xarch_parts.specs.Archives.{ArchiveIs, IsFrontOf, PartsAre}
-use Rattle.xarch_parts.specs.CoreLaws.{core-same, core-sound, same-file}
+use Rattle.xarch_parts.specs.CoreLaws.{core-sound, same-file}
 use Rattle.xarch_parts.specs.Ends.{IsDefined, IsInside, IsOfFolder, TellsOnly, fault_of}
 use Rattle.xarch_parts.specs.Folders.{Streams}
 use Rattle.xarch_meanings.specs.FrontLaws.{front-told, header-is}

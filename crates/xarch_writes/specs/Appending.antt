@@ -7,7 +7,7 @@ use Rattle.version_notes.specs.Notes.{IsNote, notes_part}
 use Rattle.version_notes.specs.Reader.{at_first, file_of}
 use Rattle.version_notes.specs.Reading.{notes_from}
 use Rattle.version_notes.specs.declared.parts.Parts.{Parts}
-use Rattle.xarch_words.specs.Refusal.{Refusal, damaged, PlainFault, refused}
+use Rattle.xarch_words.specs.Refusal.{damaged, PlainFault, refused}
 use Rattle.xarch_parts.specs.Ends.{IsOfFolder}
 
 -- The folder is read from and its draft grows, in turn: at most so many bytes are pulled.

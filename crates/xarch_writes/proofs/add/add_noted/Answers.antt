@@ -1,4 +1,4 @@
-use Rattle.std.proofs.Common.{inl, ◌≡◌, ◌+◌, ◌-◌, ℕ, List, length, Some, Ok, refl, sym, ap, ◌∙◌, subst, arith}
+use Rattle.std.proofs.Common.{inl, ◌≡◌, ◌+◌, ◌-◌, ℕ, List, length, Ok, refl, sym, ap, ◌∙◌, subst, arith}
 use Rattle.record_cursor.specs.View.{header_view}
 use Rattle.xa_outside.specs.Numbers.{PullsAtMost}
 use Rattle.xa_outside.specs.NumberLaws.{PullsAtMost-none}

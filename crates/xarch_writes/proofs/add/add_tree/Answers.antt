@@ -1,13 +1,11 @@
-use Rattle.std.proofs.Common.{◌≡◌, ◌-◌, ◌+◌, Option, Some, None, Ok, refl, sym, ap, ◌∙◌, subst, arith}
+use Rattle.std.proofs.Common.{◌-◌, ◌+◌, Option, Ok, refl, ap, ◌∙◌, arith}
 use Rattle.key_annotate.specs.LentView.{lent_view}
 use Rattle.record_cursor.specs.View.{header_view}
 use Rattle.xa_outside.specs.Folder.{Files, committed}
 use Rattle.xa_outside.specs.Numbers.{Numbers}
 use Rattle.xarch_words.specs.Refusal.{PlainFault}
 use Rattle.xarch_words.specs.View.{fault_view}
-use Rattle.xarch_parts.specs.Ends.{fault_of}
 use Rattle.xarch_parts.specs.FolderLaws.{caused-then}
-use Rattle.xarch_parts.specs.Folders.{Streams}
 use Rattle.xarch_parts.specs.Noted.{notes_bytes}
 use Rattle.xarch_writes.specs.Added.{Merges}
 use Rattle.xarch_writes.proofs.FullEnds.{limited-passed}

@@ -1,4 +1,4 @@
-use Rattle.std.proofs.Common.{◌≡◌, ◌+◌, ◌-◌, Some, None, Ok, Err, refl, arith}
+use Rattle.std.proofs.Common.{◌+◌, None, Ok, refl, arith}
 use Rattle.key_annotate.specs.LentView.{lent_view}
 use Rattle.record_cursor.specs.View.{header_view}
 use Rattle.xarch_words.specs.View.{fault_view}

@@ -1,4 +1,4 @@
-use Rattle.std.proofs.Common.{◌≡◌, List, ℕ, sym, ap, subst}
+use Rattle.std.proofs.Common.{List, ℕ, sym, ap, subst}
 use Rattle.xarch_words.specs.Commands.{add}
 use Rattle.xarch_words.specs.View.{note_view}
 use Rattle.xarch_parts.specs.Ends.{fault_of}

@@ -1,6 +1,5 @@
-use Rattle.std.proofs.Common.{◌≡◌, ◌+◌, List, ℕ, Option, Some, None, refl, sym, ap, ◌∙◌, subst, arith}
+use Rattle.std.proofs.Common.{◌≡◌, ◌+◌, ℕ, ap, ◌∙◌, subst, arith}
 use Rattle.xa_outside.specs.Numbers.{PullsAndDrafts}
-use Rattle.version_notes.specs.Reader.{PlainReader}
 use Rattle.version_notes.specs.Reading.{all_read}
 use Rattle.version_notes.specs.Writer.{fresh}
 use Rattle.xarch_parts.specs.Noted.{notes_bytes}

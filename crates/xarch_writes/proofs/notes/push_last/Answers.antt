@@ -1,6 +1,5 @@
-use Rattle.std.proofs.Common.{◌≡◌, subst}
-use Rattle.version_notes.specs.Writer.{Appends, PlainWriter, after, appended, last_appended}
-use Rattle.xarch_writes.proofs.Growing.{appends-more, appends-then}
+use Rattle.version_notes.specs.Writer.{after, appended}
+use Rattle.xarch_writes.proofs.Growing.{appends-then}
 use Rattle.xarch_writes.proofs.notes.push_last.Goals as goal
 
 pub returns-in-Ok : goal.returns-in-Ok

@@ -1,4 +1,4 @@
-use Rattle.std.proofs.Common.{◌≡◌, ◌<◌, List, ℕ, length, map, take, rules, sym, ap, ◌∙◌, subst, arith}
+use Rattle.std.proofs.Common.{List, ℕ, map, rules, sym, ap, ◌∙◌, subst}
 use Rattle.std.specs.Prelude.{string_bytes}
 use Rattle.version_notes.specs.Writer.{after_all, fresh}
 use Rattle.xarch_writes.proofs.Pushing.{Pushed, all-taken, cause-passed, closes, one-more, pushed-all, pushed-cause, pushed-few, pushed-is-note, pushed-next, pushed-none, pushed-writes}

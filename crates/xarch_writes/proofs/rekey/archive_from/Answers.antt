@@ -1,5 +1,4 @@
 use Rattle.key_spec.specs.View.{spec_view}
-use Rattle.archive_tree.specs.ArchiveView.{archive_view}
 use Rattle.xarch_parts.specs.Ends.{IsInside}
 use Rattle.xarch_writes.proofs.RekeyEnds.{no-memory}
 use Rattle.xarch_writes.proofs.rekey.archive_from.Goals as goal

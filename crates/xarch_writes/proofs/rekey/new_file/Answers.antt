@@ -1,4 +1,4 @@
-use Rattle.std.proofs.Common.{◌≡◌, ◌+◌, List, ℕ, map, sym, ◌∙◌, arith}
+use Rattle.std.proofs.Common.{◌+◌, map, sym, ◌∙◌, arith}
 use Rattle.std.specs.Prelude.{string_bytes}
 use Rattle.key_spec.specs.View.{spec_view}
 use Rattle.archive_tree.specs.ArchiveView.{archive_view}

@@ -1,4 +1,4 @@
-use Rattle.std.proofs.Common.{◌≡◌, ◌+◌, List, ℕ, Some, map, take, sym, ◌∙◌, subst, arith}
+use Rattle.std.proofs.Common.{Some, map, take, sym, ◌∙◌, subst, arith}
 use Rattle.std.specs.Prelude.{string_bytes}
 use Rattle.std.proofs.lemmas.List.{length-map}
 use Rattle.archive_tree.specs.ArchiveView.{archive_view}

@@ -1,4 +1,4 @@
-use Rattle.std.proofs.Common.{◌≡◌, List, ℕ, Some, refl, sym, ◌∙◌, subst}
+use Rattle.std.proofs.Common.{◌≡◌, List, ℕ, Some, refl, ◌∙◌, subst}
 use Rattle.std.proofs.lemmas.Result.{IfOk-weaker}
 use Rattle.xarch_parts.specs.EndLaws.{IsOfFolder-inside}
 use Rattle.xarch_words.specs.Refusal.{folder_fault, memory}
