@@ -12,19 +12,21 @@ use Rattle.key_spec.specs.Closed.{closed}
 use Rattle.record_cursor.specs.View.{PlainHeader}
 use Rattle.record_format.specs.Files.{FileOf}
 use Rattle.record_format.specs.Fronts.{header}
-use Rattle.archive_file.specs.Sound.{SoundAs}
+use Rattle.version_notes.specs.Parts.{parts_behind, parts_in}
+use Rattle.noted_file.specs.Full.{FullAs}
 use Rattle.xarch_words.specs.Commands.{add}
 use Rattle.xarch_words.specs.Refusal.{archive, document, versions, Refusal, no_file, damaged, limit, PlainFault, refused, folder_fault, out_fault, in_fault, memory}
-use Rattle.xarch_meanings.specs.Add.{added, room_behind, tree_of}
-use Rattle.xarch_writes.specs.Added.{AddEnds, TreeEnds}
-use Rattle.xarch_parts.specs.Archives.{ArchiveIs, GoesOn, Stores}
-use Rattle.xarch_parts.specs.Inputs.{file_of, length_in}
+use Rattle.xarch_meanings.specs.Add.{AddsTo, added, room_behind, tree_of}
+use Rattle.xarch_writes.specs.Added.{AddEnds, IsNotAdded, TreeEnds}
+use Rattle.xarch_parts.specs.Archives.{ArchiveIs, GoesOn, Stores, short_note}
+use Rattle.xarch_parts.specs.CoreLaws.{front-sound}
+use Rattle.xarch_parts.specs.Inputs.{file_of, length_in, read_in}
 use Rattle.xarch_parts.specs.Outcome.{Outcome, and_then, or_refuse}
 use Rattle.xarch_parts.specs.Readings.{document_of, front_in, keyed_of}
 use Rattle.xarch_parts.specs.Allowed.{MayEnd}
-use Rattle.xarch_parts.specs.AllowedLaws.{MayEnd-did, MayEnd-stopped, defined_refused}
+use Rattle.xarch_parts.specs.AllowedLaws.{MayEnd-did, MayEnd-more, MayEnd-stopped, defined_refused}
 use Rattle.xa_outside.specs.TakenLaws.{Takes-nil}
-use Rattle.xarch_meanings.specs.Plausible.{MayAdd, MayBe, add_input, add_read, text_behind, text_read, with_tree}
+use Rattle.xarch_meanings.specs.Plausible.{MayAdd, MayBe, MayOver, add_input, add_read, text_behind, text_read, with_tree}
 
 -- ---- the rules of the archive and the keyed tree of the document
 
@@ -67,39 +69,52 @@ behind-room h (Ok n) (Ok bytes) = document-room h (document_of bytes)
 
 -- ---- what may come
 
--- From what is known of all archive files: their header stands in front.
-module _ (fronted : (rules : List PlainRule) (vs : List PlainKeyed) (bytes : List ℕ) → closed (canonical rules) ≡ Ok rules → FileOf rules vs bytes → header bytes ≡ Some (rules, length vs))
-    (files : Files) (name doc : List ℕ) where
+-- From what is known of all archive files with notes: where their parts stand, and the header in front.
+module _ (has_parts : (rules : List PlainRule) (vs : List PlainKeyed) (notes : List (List ℕ)) (bytes : List ℕ) (full : FullAs rules vs notes bytes) → parts_in bytes ≡ Some (parts_behind full.core notes))
+    (fronted : (rules : List PlainRule) (vs : List PlainKeyed) (bytes : List ℕ) → closed (canonical rules) ≡ Ok rules → FileOf rules vs bytes → header bytes ≡ Some (rules, length vs))
+    (files : Files) (name doc note : List ℕ) where
+  -- what may come of a note that is short enough
+  abbrev Over : Result Outcome Refusal → Type 0
+  Over r = MayOver files name (GoesOn (add_input files name doc) (λ _. MayAdd files name)) (AddsTo files name doc note) r
+
+  over-may : short_note note ≡ Ok tt → (r : Result Outcome Refusal) → Over r → MayBe files (add name doc note) r
+  unfolding MayBe
+  over-may short r h = subst (λ x. GoesOn x (λ _. MayOver files name (GoesOn (add_input files name doc) (λ _. MayAdd files name)) (AddsTo files name doc note)) r) (sym short) h
+
+  -- the note is too long
+  pub may_refuse_note : (q : Refusal) → short_note note ≡ Err q → MayBe files (add name doc note) (Err q)
+  unfolding MayBe
+  may_refuse_note q long = subst (λ x. GoesOn x (λ _. MayOver files name (GoesOn (add_input files name doc) (λ _. MayAdd files name)) (AddsTo files name doc note)) (Err q)) (sym long) refl
+
   -- over a sound archive the document is read by its rules
-  input_sound : (rules : List PlainRule) (vs : List PlainKeyed) (a : ArchiveIs files name rules vs) → add_input files name doc ≡ beside (rules, length vs) (added files doc rules (length vs))
-  input_sound rules vs a =
+  input_sound : (rules : List PlainRule) (vs : List PlainKeyed) (notes : List (List ℕ)) (a : ArchiveIs files name rules vs notes) → add_input files name doc ≡ beside (rules, length vs) (added files doc rules (length vs))
+  input_sound rules vs notes a =
       let h : List PlainRule × ℕ = (rules, length vs) in
-      let front : front_in name a.bytes ≡ Ok h = ap (λ o. or_refuse o (damaged name)) (fronted rules vs a.bytes a.sound.specification a.sound.file) in
+      let front = front-sound has_parts files name rules vs notes a fronted in
       ap (λ o. and_then (and_then (and_then (and_then (or_refuse o (no_file name)) (λ bytes. Ok (length bytes))) (λ _.
       and_then (length_in files doc document 67108864) (λ _.
-      and_then (and_then (or_refuse o (no_file name)) (front_in name)) (text_behind files doc)))) with_tree) with_room) a.there
+      and_then (read_in files name (front_in name)) (text_behind files doc)))) with_tree) with_room) a.there
       ∙ ap (λ x. and_then (and_then (and_then (length_in files doc document 67108864) (λ _. and_then x (text_behind files doc))) with_tree) with_room) front
       ∙ behind-room h (length_in files doc document 67108864) (file_of files doc)
 
   -- a refusal before the records are looked at
-  may_refuse_input : (q : Refusal) → add_input files name doc ≡ Err q → MayBe files (add name doc) (Err q)
-  unfolding MayBe
+  may_refuse_input : (q : Refusal) → add_input files name doc ≡ Err q → Over (Err q)
   may_refuse_input q e = record {
     whatever = subst (λ x. GoesOn x (λ _. MayAdd files name) (Err q)) (sym e) refl;
-    sound = λ rules vs a.
-        let none = beside-refused (rules, length vs) (added files doc rules (length vs)) q (sym (input_sound rules vs a) ∙ e) in
-        subst (λ x. GoesOn x (λ k. Stores files name rules (vs ++ k ∷ [])) (Err q)) (sym none) refl;
+    sound = λ rules vs notes a.
+        let none = beside-refused (rules, length vs) (added files doc rules (length vs)) q (sym (input_sound rules vs notes a) ∙ e) in
+        subst (λ x. GoesOn x (λ k. Stores files name rules (vs ++ k ∷ []) (notes ++ note ∷ [])) (Err q)) (sym none) refl;
   }
 
-  may_refuse_early : (q : Refusal) → add_read files name doc ≡ Err q → MayBe files (add name doc) (Err q)
+  may_refuse_early : (q : Refusal) → add_read files name doc ≡ Err q → Over (Err q)
   may_refuse_early q e = may_refuse_input q (ap (λ x. and_then x with_room) e)
 
-  pub may_refuse_text : (q : Refusal) → text_read files name doc ≡ Err q → MayBe files (add name doc) (Err q)
-  may_refuse_text q e = may_refuse_early q (ap (λ x. and_then x with_tree) e)
+  pub may_refuse_text : short_note note ≡ Ok tt → (q : Refusal) → text_read files name doc ≡ Err q → MayBe files (add name doc note) (Err q)
+  may_refuse_text short q e = over-may short (Err q) (may_refuse_early q (ap (λ x. and_then x with_tree) e))
 
   module _ (h : PlainHeader) (k : PlainKeyed) (read : add_read files name doc ≡ Ok ((h.rules, h.versions), k)) where
     -- there is no room
-    may_refuse_room : h.versions ≡ 999999 → MayBe files (add name doc) (Err (limit versions 999999))
+    may_refuse_room : h.versions ≡ 999999 → Over (Err (limit versions 999999))
     may_refuse_room full =
         let none : room_behind h.versions ≡ Err (limit versions 999999) = ap room_behind full in
         may_refuse_input (limit versions 999999) (ap (λ x. and_then x with_room) read ∙ ap (λ w. and_then w (λ _. Ok ((h.rules, h.versions), k))) none)
@@ -110,61 +125,61 @@ module _ (fronted : (rules : List PlainRule) (vs : List PlainKeyed) (bytes : Lis
           let some : room_behind h.versions ≡ Ok tt = (let fits : nat_lt h.versions 999999 ≡ true = lt-ltb h.versions 999999 room in rw fits refl) in
           ap (λ x. and_then x with_room) read ∙ ap (λ w. and_then w (λ _. Ok ((h.rules, h.versions), k))) some
 
-      given : (rules : List PlainRule) (vs : List PlainKeyed) (a : ArchiveIs files name rules vs) → added files doc rules (length vs) ≡ Ok k
-      given rules vs a = (beside-given (rules, length vs) (h.rules, h.versions) (added files doc rules (length vs)) k (sym (input_sound rules vs a) ∙ input)).1
+      given : (rules : List PlainRule) (vs : List PlainKeyed) (notes : List (List ℕ)) (a : ArchiveIs files name rules vs notes) → added files doc rules (length vs) ≡ Ok k
+      given rules vs notes a = (beside-given (rules, length vs) (h.rules, h.versions) (added files doc rules (length vs)) k (sym (input_sound rules vs notes a) ∙ input)).1
 
       -- the new file comes
-      may_replace : (new : List ℕ) → ((rules : List PlainRule) (vs : List PlainKeyed) → ArchiveIs files name rules vs → SoundAs rules (vs ++ k ∷ []) new)
-          → MayBe files (add name doc) (Ok (record { files = map.insert files name new; output = [] }))
-      unfolding MayBe
-      may_replace new sound =
+      may_replace : (new : List ℕ) → ((rules : List PlainRule) (vs : List PlainKeyed) (notes : List (List ℕ)) → ArchiveIs files name rules vs notes → FullAs rules (vs ++ k ∷ []) (notes ++ note ∷ []) new)
+          → Over (Ok (record { files = map.insert files name new; output = [] }))
+      may_replace new full =
           let r : Result Outcome Refusal = Ok (record { files = map.insert files name new; output = [] }) in
           record {
             whatever = subst (λ x. GoesOn x (λ _. MayAdd files name) r) (sym input) (inr (inr (record { bytes = new; is = refl })));
-            sound = λ rules vs a. subst (λ x. GoesOn x (λ k. Stores files name rules (vs ++ k ∷ [])) r) (sym (given rules vs a)) (inl (record { bytes = new; sound = sound rules vs a; is = refl }));
+            sound = λ rules vs notes a.
+                subst (λ x. GoesOn x (λ k. Stores files name rules (vs ++ k ∷ []) (notes ++ note ∷ [])) r) (sym (given rules vs notes a)) (inl (record { bytes = new; full = full rules vs notes a; is = refl }));
           }
 
-      may_be_damaged : ((rules : List PlainRule) (vs : List PlainKeyed) → ¬ ArchiveIs files name rules vs) → MayBe files (add name doc) (Err (damaged name))
-      unfolding MayBe
+      may_be_damaged : ((rules : List PlainRule) (vs : List PlainKeyed) (notes : List (List ℕ)) → ¬ ArchiveIs files name rules vs notes) → Over (Err (damaged name))
       may_be_damaged none = record {
         whatever = subst (λ x. GoesOn x (λ _. MayAdd files name) (Err (damaged name))) (sym input) (inl refl);
-        sound = λ rules vs a. absurd (none rules vs a);
+        sound = λ rules vs notes a. absurd (none rules vs notes a);
       }
 
-      may_be_long : ((rules : List PlainRule) (vs : List PlainKeyed) → ArchiveIs files name rules vs → (bytes : List ℕ) → ¬ FileOf rules (vs ++ k ∷ []) bytes) → MayBe files (add name doc) (Err (limit archive 274877906944))
-      unfolding MayBe
+      may_be_long : ((rules : List PlainRule) (vs : List PlainKeyed) (notes : List (List ℕ)) → ArchiveIs files name rules vs notes → (bytes : List ℕ) → ¬ FileOf rules (vs ++ k ∷ []) bytes) → Over (Err (limit archive 274877906944))
       may_be_long none =
           let r : Result Outcome Refusal = Err (limit archive 274877906944) in
           record {
             whatever = subst (λ x. GoesOn x (λ _. MayAdd files name) r) (sym input) (inr (inl refl));
-            sound = λ rules vs a. subst (λ x. GoesOn x (λ k. Stores files name rules (vs ++ k ∷ [])) r) (sym (given rules vs a)) (inr (record { none = none rules vs a; is = refl }));
+            sound = λ rules vs notes a.
+                subst (λ x. GoesOn x (λ k. Stores files name rules (vs ++ k ∷ []) (notes ++ note ∷ [])) r) (sym (given rules vs notes a)) (inr (record { none = none rules vs notes a; is = refl }));
           }
 
     below : h.versions ≤ 999999 → h.versions ≢ 999999 → h.versions < 999999
     below few not = omega (arith, few, not)
 
+    may-refused : (q : Refusal) → h.versions ≤ 999999 → IsNotAdded files name h k q → Over (Err q)
+    may-refused q few (inl full) = subst (λ z. Over (Err z)) (sym full.1) (may_refuse_room full.0)
+    may-refused q few (inr (not, inl d)) = subst (λ z. Over (Err z)) (sym d.0) (may_be_damaged (below few not) d.1)
+    may-refused q few (inr (not, inr l)) = subst (λ z. Over (Err z)) (sym l.0) (may_be_long (below few not) l.1)
+
     -- with what the merge ends, the command may end
-    may-merged : (after : Option Files) (t : Taken) (ended : Option PlainFault) → h.versions ≤ 999999 → AddEnds files name h k after ended → MayEnd (MayBe files (add name doc)) ended after t t
+    may-merged : (after : Option Files) (t : Taken) (ended : Option PlainFault) → h.versions ≤ 999999 → AddEnds files name h k note after ended → MayEnd Over ended after t t
     may-merged after t None few ends =
         let r = ends.1 in
-        MayEnd-did (MayBe files (add name doc)) (record { files = map.insert files name r.bytes; output = [] }) after t t (may_replace (below few ends.0) r.bytes r.sound) r.tells (Takes-nil t)
-    may-merged after t (Some (refused q)) few ends = MayEnd-stopped (MayBe files (add name doc)) (refused q) after t (λ p e. (let same : q ≡ p = cc in subst (λ z. MayBe files (add name doc) (Err z)) same (may-refused ends)))
-      where
-        may-refused : AddEnds files name h k after (Some (refused q)) → MayBe files (add name doc) (Err q)
-        may-refused (inl full) = subst (λ z. MayBe files (add name doc) (Err z)) (sym full.1) (may_refuse_room full.0)
-        may-refused (inr (not, inl d)) = subst (λ z. MayBe files (add name doc) (Err z)) (sym d.0) (may_be_damaged (below few not) d.1)
-        may-refused (inr (not, inr l)) = subst (λ z. MayBe files (add name doc) (Err z)) (sym l.0) (may_be_long (below few not) l.1)
-    may-merged after t (Some folder_fault) few ends = MayEnd-stopped (MayBe files (add name doc)) folder_fault after t (λ q e. absurd cc)
-    may-merged after t (Some out_fault) few ends = MayEnd-stopped (MayBe files (add name doc)) out_fault after t (λ q e. absurd cc)
-    may-merged after t (Some in_fault) few ends = MayEnd-stopped (MayBe files (add name doc)) in_fault after t (λ q e. absurd cc)
-    may-merged after t (Some memory) few ends = MayEnd-stopped (MayBe files (add name doc)) memory after t (λ q e. absurd cc)
+        MayEnd-did Over (record { files = map.insert files name r.bytes; output = [] }) after t t (may_replace (below few ends.0) r.bytes r.full) r.tells (Takes-nil t)
+    may-merged after t (Some (refused q)) few ends = MayEnd-stopped Over (refused q) after t (λ p e. (let same : q ≡ p = cc in subst (λ z. Over (Err z)) same (may-refused q few ends)))
+    may-merged after t (Some folder_fault) few ends = MayEnd-stopped Over folder_fault after t (λ q e. absurd cc)
+    may-merged after t (Some out_fault) few ends = MayEnd-stopped Over out_fault after t (λ q e. absurd cc)
+    may-merged after t (Some in_fault) few ends = MayEnd-stopped Over in_fault after t (λ q e. absurd cc)
+    may-merged after t (Some memory) few ends = MayEnd-stopped Over memory after t (λ q e. absurd cc)
 
   -- with what the document and its merge end, the command may end
-  pub may-ended : (h : PlainHeader) (text : List ℕ) → text_read files name doc ≡ Ok ((h.rules, h.versions), text) → (after : Option Files) (t : Taken) (ended : Option PlainFault) → h.versions ≤ 999999
-      → TreeEnds files name h (tree_of h.rules text) after ended → MayEnd (MayBe files (add name doc)) ended after t t
-  may-ended h text read after t ended few = by-tree (tree_of h.rules text) ended (ap (λ x. and_then x with_tree) read)
+  pub may-ended : short_note note ≡ Ok tt → (h : PlainHeader) (text : List ℕ) → text_read files name doc ≡ Ok ((h.rules, h.versions), text) → (after : Option Files) (t : Taken) (ended : Option PlainFault) → h.versions ≤ 999999
+      → TreeEnds files name h (tree_of h.rules text) note after ended → MayEnd (MayBe files (add name doc note)) ended after t t
+  may-ended short h text read after t ended few ends =
+      MayEnd-more Over (MayBe files (add name doc note)) (over-may short) ended after t t (by-tree (tree_of h.rules text) ended (ap (λ x. and_then x with_tree) read) ends)
     where
-      by-tree : (x : Result PlainKeyed Refusal) (ended : Option PlainFault) → add_read files name doc ≡ beside (h.rules, h.versions) x → TreeEnds files name h x after ended → MayEnd (MayBe files (add name doc)) ended after t t
+      by-tree : (x : Result PlainKeyed Refusal) (ended : Option PlainFault) → add_read files name doc ≡ beside (h.rules, h.versions) x → TreeEnds files name h x note after ended → MayEnd Over ended after t t
       by-tree (Ok k) ended is ends = may-merged h k is after t ended few ends
       by-tree (Err q) None is ends = absurd ends
-      by-tree (Err q) (Some f) is ends = MayEnd-stopped (MayBe files (add name doc)) f after t (λ p e. may_refuse_early p (is ∙ ap (beside (h.rules, h.versions)) (defined_refused {A = PlainKeyed} (Err q) f p ends e)))
+      by-tree (Err q) (Some f) is ends = MayEnd-stopped Over f after t (λ p e. may_refuse_early p (is ∙ ap (beside (h.rules, h.versions)) (defined_refused {A = PlainKeyed} (Err q) f p ends e)))

@@ -1,9 +1,12 @@
 pub mod AddEnds
 pub mod DemoEnds
 pub mod FullEnds
+pub mod Growing
 pub mod InitEnds
 pub mod MergeEnds
 pub mod Merging
+pub mod NotesEnds
 pub mod OnePassEnds
+pub mod Pushing
 pub mod RekeyEnds
 pub mod SampleLemmas

@@ -1,13 +1,15 @@
 -- With what the merge of a new version ends.
-use Rattle.std.proofs.Common.{◌≡◌, ◌≢◌, ◌↔◌, ◌⊎◌, inl, inr, ℕ, ◌+◌, ◌-◌, ◌≤◌, List, [], ◌∷◌, ◌++◌, length, Option, Some, None, Result, Ok, Err, refl, sym, ap, ◌∙◌, subst, arith}
+use Rattle.std.proofs.Common.{◌≡◌, ◌≢◌, ◌↔◌, inl, inr, ℕ, ◌+◌, ◌-◌, ◌≤◌, List, [], ◌∷◌, ◌++◌, length, Option, Some, None, Result, Ok, Err, refl, sym, ap, ◌∙◌, subst, length-append, arith}
 use Rattle.std.specs.Prelude.{max}
 use Rattle.std.specs.Option.{option_map}
 use Rattle.std.specs.FinMap as map
-use Rattle.std.specs.Result.{IsErrAnd}
+use Rattle.std.specs.Result.{IfErr, IsErrAnd, OnOk}
 use Rattle.xa_outside.specs.Causes.{Rose}
-use Rattle.xa_outside.specs.Folder.{Files, committed}
+use Rattle.xa_outside.specs.Folder.{Files, bytes_or_none, committed}
 use Rattle.xa_outside.specs.Numbers.{Numbers, IsMeter}
 use Rattle.xa_outside.specs.NumberLaws.{PullsAndDrafts-none}
+use Rattle.key_spec.specs.Canonical.{canonical}
+use Rattle.key_spec.specs.Closed.{closed}
 use Rattle.key_spec.specs.Data.{PlainRule}
 use Rattle.keyed_tree.specs.Data.{PlainKeyed}
 use Rattle.archive_tree.specs.Data.{PlainArchive}
@@ -16,17 +18,27 @@ use Rattle.archive_file.specs.Sound.{SoundAs}
 use Rattle.record_cursor.specs.Moves.{TellsFront, IsHeaderOf}
 use Rattle.record_cursor.specs.View.{PlainHeader}
 use Rattle.record_format.specs.Files.{FileOf, header_bytes, largest}
-use Rattle.stream_merge.specs.Added.{Added, IfTooLong, IfFailed}
+use Rattle.record_format.specs.Fronts.{header}
+use Rattle.stream_merge.specs.Added.{Appended, IfTooLong, IfFailed}
 use Rattle.stream_merge.specs.declared.fault.AddFault.{AddFault}
 use Rattle.stream_merge.specs.declared.fault.AddFault.TheVariants.{Damage, Folder, Limit, TooLong, Memory}
+use Rattle.version_notes.specs.Notes.{IsNote, notes_part}
+use Rattle.version_notes.specs.Parts.{parts_behind, parts_in}
+use Rattle.version_notes.specs.Reader.{at_first, file_of}
+use Rattle.version_notes.specs.Reading.{notes_from}
+use Rattle.version_notes.specs.declared.parts.Parts.{Parts}
+use Rattle.noted_file.specs.Full.{FullAs}
 use Rattle.xarch_words.specs.Refusal.{archive, versions, Refusal, damaged, limit, PlainFault, refused, folder_fault, out_fault, in_fault, memory}
 use Rattle.xarch_words.specs.View.{fault_view}
 use Rattle.xarch_words.specs.declared.fault.Fault.{Fault}
-use Rattle.xarch_parts.specs.Archives.{ArchiveIs, IsFrontOf}
+use Rattle.xarch_parts.specs.Archives.{ArchiveIs, IsFrontOf, PartsAre}
+use Rattle.xarch_parts.specs.CoreLaws.{core-sound, same-file}
 use Rattle.xarch_parts.specs.Ends.{IsDefined, IsInside, IsOfFolder, TellsOnly, fault_of}
 use Rattle.xarch_parts.specs.Folders.{Streams}
 use Rattle.xarch_meanings.specs.FrontLaws.{front-told, header-is}
-use Rattle.xarch_writes.specs.Added.{AddEnds, IsToldAs, IsUnmerged, Merges, TreeEnds}
+use Rattle.xarch_writes.specs.Added.{AddEnds, IsDamaged, IsNotAdded, IsToldAs, KeepsUp, Merges, RecordsEnd, TreeEnds, most_ahead}
+use Rattle.xarch_writes.specs.Appending.{GainsNotes, NotesEnd}
+use Rattle.xarch_writes.proofs.NotesEnds.{each-more}
 
 -- the cause of a fault that is told
 pub told-cause : (T : Type 0) (name : List ℕ) (e : AddFault) (v : PlainFault) (a b : ℕ) → IsToldAs name e v → IfFailed {T = T} (Err e) (Rose a b) → IsOfFolder a b (Some v)
@@ -38,7 +50,11 @@ told-cause T name Limit v a b is h = subst (λ (z : PlainFault). IsOfFolder a b 
 told-cause T name TooLong v a b is h = subst (λ (z : PlainFault). IsOfFolder a b (Some z)) (sym is) tt
 told-cause T name Memory v a b is h = subst (λ (z : PlainFault). IsOfFolder a b (Some z)) (sym is) tt
 
--- a file that came by way of the draft is told, where files are
+-- what was appended has room for its version
+pub roomy : {T : Type 0} (x : T) (n : ℕ) → ((◌≡◌ {A = Result T AddFault} (Ok x) (Err Limit)) ↔ (n ≡ 999999)) → n ≢ 999999
+roomy x n most full = (let wrong = most.1 full in absurd cc)
+
+-- a file that came by way of a draft is told, where files are
 stored-tells : (files : Files) (told after : Option Files) (draft : Option (List ℕ)) (bytes name : List ℕ) → told ≡ Some files → after ≡ committed told (option_map (λ (d : List ℕ). bytes) draft) name → TellsOnly after (map.insert files name bytes)
 stored-tells files told after None bytes name is stored now e =
     let none : after ≡ None = stored ∙ ap (λ (o : Option Files). committed o (option_map (λ (d : List ℕ). bytes) None) name) is in
@@ -50,53 +66,148 @@ stored-tells files told after (Some d) bytes name is stored now e =
     let is : map.insert files name bytes ≡ now = cc in
     sym is
 
--- The header stands in front of the file of this name, among files that are told.
-module _ (files : Files) (told : Option Files) (name : List ℕ) (h : PlainHeader) (new : PlainKeyed) (tells : told ≡ Some files) (front : IsFrontOf files name h) where
-  at-front : (a : List ℕ) → map.get files name ≡ Some a → TellsFront told name h.length a
-  at-front a there = front-told files told name h tells front a there
+grown-twice : (d : Option (List ℕ)) (x y : List ℕ) → option_map (λ l. l ++ y) (option_map (λ (l : List ℕ). x) d) ≡ option_map (λ (l : List ℕ). x ++ y) d
+grown-twice None x y = refl
+grown-twice (Some d) x y = refl
 
-  heads : (a : List ℕ) → map.get files name ≡ Some a → IsHeaderOf h a
-  heads a there = header-is files told name h tells front a there
+-- From what is known of all archive files with notes: where their parts stand.
+module _ (has_parts : (rules : List PlainRule) (vs : List PlainKeyed) (notes : List (List ℕ)) (bytes : List ℕ) (full : FullAs rules vs notes bytes) → parts_in bytes ≡ Some (parts_behind full.core notes)) where
+  -- The header stands in front of the file of this name, among files that are told.
+  module _ (files : Files) (told : Option Files) (name : List ℕ) (h : PlainHeader) (new : PlainKeyed) (tells : told ≡ Some files) (front : IsFrontOf files name h) where
+    at-front : TellsFront told name h.length front.core
+    at-front = front-told files told name h tells front
 
-  -- the new file came
-  pub ends-added : {T : Type 0} (after : Option Files) (draft rest : Option (List ℕ)) (x : T) → Added h name new told after draft rest → ((◌≡◌ {A = Result T AddFault} (Ok x) (Err Limit)) ↔ (h.versions ≡ 999999)) → AddEnds files name h new after None
-  ends-added after draft rest x added most = (
-    (λ full. (let wrong = most.1 full in absurd cc)),
-    record {
-      bytes = added.bytes;
-      tells = stored-tells files told after draft added.bytes name tells added.stored;
-      sound = λ rules vs a. added.sound a.bytes rules vs (at-front a.bytes a.there) (heads a.bytes a.there) a.sound;
-    },
-  )
+    heads : IsHeaderOf h front.core
+    heads = header-is files told name h tells front
 
-  refused-as : (v : PlainFault) (q : Refusal) (after : Option Files) → v ≡ refused q → ((h.versions ≡ 999999) × (q ≡ limit versions 999999)) ⊎ ((h.versions ≢ 999999) × IsUnmerged files name new q) → AddEnds files name h new after (Some v)
-  refused-as v q after is ends = subst (λ (z : PlainFault). AddEnds files name h new after (Some z)) (sym is) ends
+    sound-front : (rules : List PlainRule) (vs : List PlainKeyed) (notes : List (List ℕ)) → ArchiveIs files name rules vs notes → SoundAs rules vs front.core
+    sound-front rules vs notes a = core-sound has_parts files name rules vs notes a h.length front.core front.of
 
-  -- it did not
-  pub ends-failed : {T : Type 0} (after : Option Files) (e : AddFault) (v : PlainFault) → IsToldAs name e v → ((◌≡◌ {A = Result T AddFault} (Err e) (Err Limit)) ↔ (h.versions ≡ 999999))
-      → ((bytes : List ℕ) (rules : List PlainRule) (vs : List PlainKeyed) → TellsFront told name h.length bytes → IsHeaderOf h bytes → SoundAs rules vs bytes → e ≢ Damage)
-      → ((bytes : List ℕ) (rules : List PlainRule) (vs : List PlainKeyed) → TellsFront told name h.length bytes → IsHeaderOf h bytes → SoundAs rules vs bytes → IfTooLong e ((file : List ℕ) → ¬ FileOf rules (vs ++ new ∷ []) file))
-      → AddEnds files name h new after (Some v)
-  ends-failed after Damage v (inl is) most undamaged long =
-      refused-as v (damaged name) after is (inr ((λ full. (let wrong = most.1 full in absurd cc)), inl (refl, (λ rules vs a. undamaged a.bytes rules vs (at-front a.bytes a.there) (heads a.bytes a.there) a.sound refl))))
-  ends-failed after Damage v (inr is) most undamaged long = subst (λ (z : PlainFault). AddEnds files name h new after (Some z)) (sym is) tt
-  ends-failed after Folder v is most undamaged long = subst (λ (z : PlainFault). AddEnds files name h new after (Some z)) (sym is) tt
-  ends-failed after Limit v is most undamaged long = refused-as v (limit versions 999999) after is (inl (most.0 refl, refl))
-  ends-failed after TooLong v is most undamaged long =
-      refused-as v (limit archive 274877906944) after is (inr ((λ full. (let wrong = most.1 full in absurd cc)), inr (refl, (λ rules vs a. long a.bytes rules vs (at-front a.bytes a.there) (heads a.bytes a.there) a.sound))))
-  ends-failed after Memory v is most undamaged long = subst (λ (z : PlainFault). AddEnds files name h new after (Some z)) (sym is) tt
+    refused-as : (v : PlainFault) (q : Refusal) → v ≡ refused q → IsNotAdded files name h new q → RecordsEnd files name h new (Some v)
+    refused-as v q is ends = subst (λ (z : PlainFault). RecordsEnd files name h new (Some z)) (sym is) ends
 
-  -- over a sound archive what was read is little ahead
-  pub gap-of : (x y : Numbers)
-      → ((bytes : List ℕ) (rules : List PlainRule) (vs : List PlainKeyed) (a : PlainArchive) → TellsFront told name h.length bytes → IsHeaderOf h bytes → SoundAs rules vs bytes → ArchiveOf vs a
-      → y.gap ≤ max x.gap (x.since - x.drafted - length (header_bytes rules a.n) + largest rules a))
-      → (rules : List PlainRule) (vs : List PlainKeyed) (a : PlainArchive) → ArchiveIs files name rules vs → ArchiveOf vs a → y.gap ≤ max x.gap (x.since - x.drafted - length (header_bytes rules a.n) + largest rules a)
-  gap-of x y gap rules vs a is of = gap is.bytes rules vs a (at-front is.bytes is.there) (heads is.bytes is.there) is.sound of
+    -- its records were not appended
+    pub records-failed : {T : Type 0} (e : AddFault) (v : PlainFault) → IsToldAs name e v → ((◌≡◌ {A = Result T AddFault} (Err e) (Err Limit)) ↔ (h.versions ≡ 999999))
+        → ((bytes : List ℕ) (rules : List PlainRule) (vs : List PlainKeyed) → TellsFront told name h.length bytes → IsHeaderOf h bytes → SoundAs rules vs bytes → e ≢ Damage)
+        → ((bytes : List ℕ) (rules : List PlainRule) (vs : List PlainKeyed) → TellsFront told name h.length bytes → IsHeaderOf h bytes → SoundAs rules vs bytes → IfTooLong e ((file : List ℕ) → ¬ FileOf rules (vs ++ new ∷ []) file))
+        → RecordsEnd files name h new (Some v)
+    records-failed Damage v (inl is) most undamaged long =
+        refused-as v (damaged name) is (inr ((λ full. (let wrong = most.1 full in absurd cc)), inl (refl, (λ rules vs notes a. undamaged front.core rules vs at-front heads (sound-front rules vs notes a) refl))))
+    records-failed Damage v (inr is) most undamaged long = subst (λ (z : PlainFault). RecordsEnd files name h new (Some z)) (sym is) tt
+    records-failed Folder v is most undamaged long = subst (λ (z : PlainFault). RecordsEnd files name h new (Some z)) (sym is) tt
+    records-failed Limit v is most undamaged long = refused-as v (limit versions 999999) is (inl (most.0 refl, refl))
+    records-failed TooLong v is most undamaged long =
+        refused-as v (limit archive 274877906944) is (inr ((λ full. (let wrong = most.1 full in absurd cc)), inr (refl, (λ rules vs notes a. long front.core rules vs at-front heads (sound-front rules vs notes a)))))
+    records-failed Memory v is most undamaged long = subst (λ (z : PlainFault). RecordsEnd files name h new (Some z)) (sym is) tt
+
+    -- over a sound archive what was read is little ahead
+    pub gap-of : (x y : Numbers)
+        → ((bytes : List ℕ) (rules : List PlainRule) (vs : List PlainKeyed) (a : PlainArchive) → TellsFront told name h.length bytes → IsHeaderOf h bytes → SoundAs rules vs bytes → ArchiveOf vs a
+        → y.gap ≤ max x.gap (x.since - x.drafted - length (header_bytes rules a.n) + largest rules a))
+        → (rules : List PlainRule) (vs : List PlainKeyed) (notes : List (List ℕ)) (a : PlainArchive) → ArchiveIs files name rules vs notes → ArchiveOf vs a → y.gap ≤ max x.gap (x.since - x.drafted - length (header_bytes rules a.n) + largest rules a)
+    gap-of x y gap rules vs notes a is of = gap front.core rules vs a at-front heads (sound-front rules vs notes is) of
+
+    pub keeps-up : {T : Type 0} (r : Result T AddFault) (ended : Option PlainFault) (x y : Numbers) → (ended ≡ None → (t : T) × (r ≡ Ok t))
+        → ((bytes : List ℕ) (rules : List PlainRule) (vs : List PlainKeyed) (a : PlainArchive) → TellsFront told name h.length bytes → IsHeaderOf h bytes → SoundAs rules vs bytes → ArchiveOf vs a
+        → y.gap ≤ max x.gap (x.since - x.drafted - length (header_bytes rules a.n) + largest rules a))
+        → ((bytes : List ℕ) → TellsFront told name h.length bytes → IsHeaderOf h bytes → OnOk r (y.since - y.drafted ≤ x.since - x.drafted - h.first)) → KeepsUp files name h x y ended
+    keeps-up {T} r ended x y done gap ahead = record {
+      gap = gap-of x y gap;
+      ahead = λ none. (let t = done none in let all = ahead front.core at-front heads in subst (λ (z : Result T AddFault). OnOk z (y.since - y.drafted ≤ x.since - x.drafted - h.first)) t.1 all);
+    }
+
+    -- ---- its notes
+
+    -- From what is known of the headers of archive files, and of how their notes are read.
+    module _ (fronted : (rules : List PlainRule) (vs : List PlainKeyed) (bytes : List ℕ) → closed (canonical rules) ≡ Ok rules → FileOf rules vs bytes → header bytes ≡ Some (rules, length vs))
+        (come : (rules : List PlainRule) (vs : List PlainKeyed) (notes : List (List ℕ)) (bytes name : List ℕ) (parts : Parts) → FullAs rules vs notes bytes → parts_in bytes ≡ Some parts → notes_from (at_first name parts (length vs)) bytes ≡ Some notes)
+        (parts : Parts) (are : PartsAre files name parts) where
+      versions-are : (rules : List PlainRule) (vs : List PlainKeyed) (notes : List (List ℕ)) → ArchiveIs files name rules vs notes → h.versions ≡ length vs
+      versions-are rules vs notes a =
+          let s = sound-front rules vs notes a in
+          let one : Some (rules, length vs) ≡ Some (h.rules, h.versions) = sym (fronted rules vs front.core s.specification s.file) ∙ ap (option_map (λ (x : (List PlainRule × ℕ) × List ℕ). x.0)) front.is in
+          let same : (rules, length vs) ≡ (h.rules, h.versions) = cc in
+          sym (ap (λ (x : List PlainRule × ℕ). x.1) same)
+
+      -- the notes of the archive are those that are read
+      pub read-notes : (rules : List PlainRule) (vs : List PlainKeyed) (notes : List (List ℕ)) → ArchiveIs files name rules vs notes → notes_from (at_first name parts h.versions) (file_of files name) ≡ Some notes
+      read-notes rules vs notes a =
+          let same : are.bytes ≡ a.bytes = same-file files name are.bytes a.bytes are.there a.there in
+          let parted : parts_in a.bytes ≡ Some parts = ap parts_in (sym same) ∙ are.are in
+          (λ i. notes_from (at_first name parts (versions-are rules vs notes a i)) (bytes_or_none (a.there i))) ∙ come rules vs notes a.bytes name parts a.full parted
+
+      -- they were not read
+      pub notes-damaged : (q : Refusal) → NotesEnd files name parts h.versions (Some (refused q)) → IsDamaged files name q
+      notes-damaged q d = (d.0, (λ rules vs notes a. (let wrong : None ≡ Some notes = sym d.1 ∙ read-notes rules vs notes a in absurd cc)))
+
+      pub notes-stopped : (note : List ℕ) (after : Option Files) (v : PlainFault) → h.versions ≢ 999999 → NotesEnd files name parts h.versions (Some v) → AddEnds files name h new note after (Some v)
+      notes-stopped note after (refused q) room d = inr (room, inl (notes-damaged q d))
+      notes-stopped note after folder_fault room d = tt
+      notes-stopped note after out_fault room d = tt
+      notes-stopped note after in_fault room d = tt
+      notes-stopped note after memory room d = tt
+
+      -- the new file came
+      pub ends-added : (note : List ℕ) (draft mid last : Option (List ℕ)) (between after : Option Files) → IsNote note → h.versions ≢ 999999 → Appended h name new told draft mid → between ≡ told
+          → GainsNotes between name parts h.versions note mid last → after ≡ committed told last name → AddEnds files name h new note after None
+      ends-added note draft mid last between after is room added same gains stored = (
+        room,
+        (let part = notes_part (gains.notes ++ note ∷ []) in
+            let bytes = added.bytes ++ part in
+            let drafted : last ≡ option_map (λ (d : List ℕ). bytes) draft = gains.gains ∙ ap (option_map (λ d. d ++ part)) added.drafted ∙ grown-twice draft added.bytes part in
+            record {
+              bytes = bytes;
+              tells = stored-tells files told after draft bytes name tells (stored ∙ ap (λ (o : Option (List ℕ)). committed told o name) drafted);
+              full = λ rules vs notes a.
+                  let both : Some gains.notes ≡ Some notes = sym (gains.given files (same ∙ tells)) ∙ read-notes rules vs notes a in
+                  let all : gains.notes ≡ notes = cc in
+                  let count = versions-are rules vs notes a in
+                  let many = gains.count in
+                  let grown : FullAs rules (vs ++ new ∷ []) (gains.notes ++ note ∷ []) bytes = record {
+                    core = added.bytes;
+                    is = added.sound front.core rules vs at-front heads (sound-front rules vs notes a);
+                    as_many = omega (arith, count, many, length-append gains.notes (note ∷ []), length-append vs (new ∷ []));
+                    each = each-more gains.notes note gains.each is;
+                    spelled = refl;
+                  } in
+                  subst (λ (l : List (List ℕ)). FullAs rules (vs ++ new ∷ []) (l ++ note ∷ []) bytes) all grown;
+            }),
+      )
+
+-- its records were refused
+pub records-stopped : (files : Files) (name : List ℕ) (h : PlainHeader) (new : PlainKeyed) (note : List ℕ) (after : Option Files) (v : PlainFault) → RecordsEnd files name h new (Some v) → AddEnds files name h new note after (Some v)
+records-stopped files name h new note after (refused q) d = d
+records-stopped files name h new note after folder_fault d = tt
+records-stopped files name h new note after out_fault d = tt
+records-stopped files name h new note after in_fault d = tt
+records-stopped files name h new note after memory d = tt
+
+-- what comes of a fault of the folder
+pub folder-stopped : (files : Files) (name : List ℕ) (h : PlainHeader) (new : PlainKeyed) (note : List ℕ) (after : Option Files) (v : PlainFault) → v ≡ folder_fault → AddEnds files name h new note after (Some v)
+folder-stopped files name h new note after v is = subst (λ (z : PlainFault). AddEnds files name h new note after (Some z)) (sym is) tt
+
+-- the commit came, or failed
+pub ends-committed : (files : Files) (name : List ℕ) (h : PlainHeader) (new : PlainKeyed) (note : List ℕ) (after : Option Files) (r : Result Unit Fault) (before : Option Files) (draft : Option (List ℕ)) → OnOk r (after ≡ committed before draft name)
+    → IfErr r (λ f. fault_view f ≡ folder_fault) → (after ≡ committed before draft name → AddEnds files name h new note after None) → AddEnds files name h new note after (fault_of r)
+ends-committed files name h new note after (Ok u) before draft done fault ends = ends done
+ends-committed files name h new note after (Err f) before draft done fault ends = folder-stopped files name h new note after (fault_view f) fault
+
+-- ---- how far ahead
+
+pub ahead-records : (h : PlainHeader) (rules : List PlainRule) (a : PlainArchive) (x y : Numbers) → y.gap ≤ max x.gap (x.since - x.drafted - length (header_bytes rules a.n) + largest rules a) → y.gap ≤ max x.gap (most_ahead h rules a x)
+ahead-records h rules a x y gap = omega (arith, gap)
+
+pub ahead-notes : (h : PlainHeader) (rules : List PlainRule) (a : PlainArchive) (x y z : Numbers) → y.gap ≤ max x.gap (x.since - x.drafted - length (header_bytes rules a.n) + largest rules a) → y.since - y.drafted ≤ x.since - x.drafted - h.first
+    → z.gap ≤ max y.gap (y.since - y.drafted + 1028) → z.gap ≤ max x.gap (most_ahead h rules a x)
+ahead-notes h rules a x y z gap ahead more = omega (arith, gap, ahead, more)
+
+pub ahead-same : (n : ℕ) (y z : Numbers) → z.gap ≡ y.gap → y.gap ≤ n → z.gap ≤ n
+ahead-same n y z same fits = omega (arith, same, fits)
 
 -- ---- a document that is not merged
 
-module _ (files : Files) (name : List ℕ) (h : PlainHeader) (new : Result PlainKeyed Refusal) (after : Option Files) (x : Numbers) where
-  tree-stopped : (new : Result PlainKeyed Refusal) (v : PlainFault) → IsDefined new v → TreeEnds files name h new after (Some v)
+module _ (files : Files) (name : List ℕ) (h : PlainHeader) (new : Result PlainKeyed Refusal) (note : List ℕ) (after : Option Files) (x : Numbers) where
+  tree-stopped : (new : Result PlainKeyed Refusal) (v : PlainFault) → IsDefined new v → TreeEnds files name h new note after (Some v)
   unfolding IsDefined
   tree-stopped (Ok k) (refused q) is = absurd cc
   tree-stopped (Ok k) folder_fault is = tt
@@ -106,9 +217,9 @@ module _ (files : Files) (name : List ℕ) (h : PlainHeader) (new : Result Plain
   tree-stopped (Err q) v is = is
 
   -- nothing was read or written
-  pub merges-stopped : {T : Type 0} (r : Result T Fault) (f : Fault) → IsErrAnd r (λ g. g ≡ f) → IsDefined new (fault_view f) → Merges files name h new after x x (fault_of r)
+  pub merges-stopped : {T : Type 0} (r : Result T Fault) (f : Fault) → IsErrAnd r (λ g. g ≡ f) → IsDefined new (fault_view f) → Merges files name h new note after x x (fault_of r)
   merges-stopped (Ok u) f e is = absurd e
-  merges-stopped (Err g) f e is = subst (λ (z : Fault). Merges files name h new after x x (Some (fault_view z))) (sym e) (record { ends = tree-stopped new (fault_view f) is; gap = λ rules vs a is of. omega arith })
+  merges-stopped (Err g) f e is = subst (λ (z : Fault). Merges files name h new note after x x (Some (fault_view z))) (sym e) (record { ends = tree-stopped new (fault_view f) is; gap = λ rules vs notes a is of. omega arith })
 
 -- the folder stays as it is
 pub streams-none : {S : Type 0} {files : S → Option Files} {draft : S → Option (List ℕ)} {numbers : S → Numbers} (n : ℕ) (a : S) (v : Option PlainFault) → IsMeter (numbers a) → Streams files draft numbers n a a v

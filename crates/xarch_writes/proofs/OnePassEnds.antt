@@ -12,11 +12,17 @@ use Rattle.archive_tree.specs.Stands.{ArchiveOf}
 use Rattle.xa_outside.specs.Folder.{Files, bytes_or_none}
 use Rattle.xa_outside.specs.Numbers.{Numbers, PullsAtMost, PullsAndDrafts, after_begin}
 use Rattle.record_cursor.specs.View.{PlainHeader, IsHeader}
+use Rattle.version_notes.specs.Notes.{notes_part}
+use Rattle.version_notes.specs.Parts.{parts_behind, parts_in}
+use Rattle.version_notes.specs.declared.parts.Parts.{Parts}
+use Rattle.noted_file.specs.Full.{FullAs}
 use Rattle.record_format.specs.Data.{PlainRec}
 use Rattle.record_format.specs.Files.{HasFile, header_bytes, file_bytes, file_records, tail_bytes, largest, weight}
 use Rattle.record_format.specs.Fronts.{header_at}
 use Rattle.record_format.specs.Spelling.{rec_bytes}
 use Rattle.xarch_parts.specs.Archives.{ArchiveIs, IsFrontOf}
+use Rattle.xarch_parts.specs.CoreLaws.{core-same}
+use Rattle.xarch_parts.specs.Noted.{AreWithin, notes_bytes}
 use Rattle.std.specs.Result.{IsErrAnd}
 use Rattle.xarch_words.specs.Refusal.{document, PlainFault, folder_fault}
 use Rattle.xarch_words.specs.View.{fault_view}
@@ -24,6 +30,7 @@ use Rattle.xarch_words.specs.declared.fault.Fault.{Fault}
 use Rattle.xarch_parts.specs.Ends.{fault_of}
 use Rattle.xarch_parts.specs.Inputs.{length_in, size_in}
 use Rattle.xarch_meanings.specs.OnePass.{OnePass, document_size, front_size, or_zero}
+use Rattle.xarch_writes.specs.Added.{most_ahead}
 
 -- a length that a document may have is what is read of it
 pub size-of : (files : Files) (doc : List ℕ) (n : ℕ) → length_in files doc document 67108864 ≡ Ok n → n ≡ document_size files doc
@@ -43,14 +50,24 @@ fold-least : (rs : List PlainRec) (n : ℕ) → n ≤ fold (λ most r. max most 
 fold-least [] n = omega arith
 fold-least (r ∷ rs) n = (let more = fold-least rs (max n (weight r)) in omega (arith, more))
 
+-- of the bytes behind the one and behind the other there are as many
+one-first : (n m : ℕ) (core : List ℕ) (x y : List PlainRule × ℕ) → ◌≡◌ {A = Option ((List PlainRule × ℕ) × List ℕ)} (Some (x, drop n core)) (Some (y, drop m core)) → n ≤ length core → m ≤ length core → n ≡ m
+one-first n m core x y same fits within =
+    let lengths : length (drop n core) ≡ length (drop m core) = ap (λ (o : Option ((List PlainRule × ℕ) × List ℕ)). length (rest-of o)) same in
+    omega (arith, lengths, length-drop n core, length-drop m core, fits, within)
+
 module _ (stands : (rules : List PlainRule) (a : PlainArchive) → closed (canonical rules) ≡ Ok rules → HasFile rules a → header_at (file_bytes rules a) ≡ Some ((rules, a.n), drop (length (header_bytes rules a.n)) (file_bytes rules a)))
-    (files : Files) (archive doc : List ℕ) (rules : List PlainRule) (vs : List PlainKeyed) (is : ArchiveIs files archive rules vs) where
+    (has_parts : (rules : List PlainRule) (vs : List PlainKeyed) (notes : List (List ℕ)) (bytes : List ℕ) (full : FullAs rules vs notes bytes) → parts_in bytes ≡ Some (parts_behind full.core notes))
+    (files : Files) (archive doc : List ℕ) (rules : List PlainRule) (vs : List PlainKeyed) (notes : List (List ℕ)) (is : ArchiveIs files archive rules vs notes) where
   size-is : size_in (Some files) archive ≡ length is.bytes
   size-is = ap (λ o. length (bytes_or_none o)) is.there
 
-  front-within : front_size rules vs ≤ length is.bytes
+  core-within : length is.full.core ≤ size_in (Some files) archive
+  core-within = (let size = size-is in let all = ap length is.full.spelled in omega (arith, size, all, length-append is.full.core (notes_part notes)))
+
+  front-within : front_size rules vs ≤ length is.full.core
   front-within =
-      let f = is.sound.file in
+      let f = is.full.is.file in
       let count : length vs ≡ f.archive.n = f.is.count in
       let same : front_size rules vs ≡ length (header_bytes rules f.archive.n) = ap (λ n. length (header_bytes rules n)) count in
       let s = ap length f.spelled in
@@ -60,22 +77,18 @@ module _ (stands : (rules : List PlainRule) (a : PlainArchive) → closed (canon
   -- the header that was read is the one that stands there
   first-is : (h : PlainHeader) → IsHeader h → IsFrontOf files archive h → h.first ≡ front_size rules vs
   first-is h header front =
-      let f = is.sound.file in
-      let both : Some front.bytes ≡ Some is.bytes = sym front.there ∙ is.there in
-      let bytes : front.bytes ≡ is.bytes = cc in
+      let f = is.full.is.file in
+      let core = is.full.core in
+      let one : (h.length ≡ length core) × (front.core ≡ core) = core-same has_parts files archive rules vs notes is h.length front.core front.of in
       let count : length vs ≡ f.archive.n = f.is.count in
       let head = length (header_bytes rules f.archive.n) in
-      let at : header_at is.bytes ≡ Some ((rules, f.archive.n), drop head is.bytes) = ap header_at f.spelled ∙ stands rules f.archive is.sound.specification f.has ∙ ap (λ z. Some ((rules, f.archive.n), drop head z)) (sym f.spelled) in
-      let here : header_at is.bytes ≡ Some ((h.rules, h.versions), drop h.first is.bytes) = subst (λ z. header_at z ≡ Some ((h.rules, h.versions), drop h.first z)) bytes front.is in
-      let same : Some ((rules, f.archive.n), drop head is.bytes) ≡ Some ((h.rules, h.versions), drop h.first is.bytes) = sym at ∙ here in
-      let rest : drop head is.bytes ≡ drop h.first is.bytes = ap rest-of same in
-      let lengths = ap length rest in
+      let at : header_at core ≡ Some ((rules, f.archive.n), drop head core) = ap header_at f.spelled ∙ stands rules f.archive is.full.is.specification f.has ∙ ap (λ z. Some ((rules, f.archive.n), drop head z)) (sym f.spelled) in
+      let here : header_at core ≡ Some ((h.rules, h.versions), drop h.first core) = subst (λ z. header_at z ≡ Some ((h.rules, h.versions), drop h.first z)) one.1 front.is in
       let within = header.within in
-      let long = front.long in
-      let all = ap length bytes in
+      let long : h.length ≡ length core = one.0 in
       let fits = front-within in
       let heads : front_size rules vs ≡ head = ap (λ n. length (header_bytes rules n)) count in
-      omega (arith, lengths, length-drop head is.bytes, length-drop h.first is.bytes, within, long, all, fits, heads)
+      one-first h.first head core (h.rules, h.versions) (rules, f.archive.n) (sym here ∙ at) (omega (arith, within, long)) (omega (arith, fits, heads)) ∙ sym heads
 
   module _ (a : PlainArchive) (of : ArchiveOf vs a) where
     front-least : front_size rules vs ≤ largest rules a
@@ -86,25 +99,26 @@ module _ (stands : (rules : List PlainRule) (a : PlainArchive) → closed (canon
         omega (arith, same, more)
 
     -- it was read from alone
-    pub one_pass-read : (x y : Numbers) → y.since < 2 ^ 64 - 1 → PullsAtMost (front_size rules vs + document_size files doc) (after_begin x) y → OnePass files archive doc rules a x y
+    pub one_pass-read : (x y : Numbers) → y.since < 2 ^ 64 - 1 → PullsAtMost (16 + front_size rules vs + document_size files doc) (after_begin x) y → OnePass files archive doc rules a x y
     one_pass-read x y small p =
         let n = p.within in
         let pulled = ap (λ (m : Numbers). m.pulled) p.pulled in
         let since = ap (λ (m : Numbers). m.since) p.pulled in
         let gap = ap (λ (m : Numbers). m.gap) p.pulled in
-        let size = size-is in
         let fits = front-within in
+        let within = core-within in
         let least = front-least in
         record {
           begun_first = omega (arith, small, pulled, since);
-          once = omega (arith, n, since, size, fits);
+          once = omega (arith, n, since, within, fits);
           close = omega (arith, n, gap, least);
         }
 
     -- and then it was gone over
-    pub one_pass-merged : (h : PlainHeader) (x y z : Numbers) → IsHeader h → IsFrontOf files archive h → z.since < 2 ^ 64 - 1 → PullsAtMost (front_size rules vs + document_size files doc) (after_begin x) y → PullsAndDrafts (h.length - h.first) y z
-        → z.gap ≤ max y.gap (y.since - y.drafted - length (header_bytes rules a.n) + largest rules a) → OnePass files archive doc rules a x z
-    one_pass-merged h x y z header front small p q gap-is =
+    pub one_pass-merged : (h : PlainHeader) (parts : Parts) (x y z : Numbers) → IsHeader h → IsFrontOf files archive h → h.length ≡ parts.core → AreWithin (size_in (Some files) archive) parts
+        → z.since < 2 ^ 64 - 1 → PullsAtMost (16 + front_size rules vs + document_size files doc) (after_begin x) y → PullsAndDrafts (h.length - h.first + notes_bytes parts.notes) y z
+        → z.gap ≤ max y.gap (most_ahead h rules a y) → OnePass files archive doc rules a x z
+    one_pass-merged h parts x y z header front long fit small p q gap-is =
         let n = p.within in
         let m = q.within in
         let pulled = ap (λ (m : Numbers). m.pulled) p.pulled in
@@ -113,18 +127,14 @@ module _ (stands : (rules : List PlainRule) (a : PlainArchive) → closed (canon
         let gap = ap (λ (m : Numbers). m.gap) p.pulled in
         let pulled2 = q.pulled in
         let since2 = q.since in
-        let size = size-is in
         let first = first-is h header front in
         let within = header.within in
-        let long = front.long in
-        let both : Some front.bytes ≡ Some is.bytes = sym front.there ∙ is.there in
-        let bytes : front.bytes ≡ is.bytes = cc in
-        let all = ap length bytes in
+        let all = fit.within in
         let least = front-least in
         let count : length vs ≡ a.n = of.count in
         let heads : front_size rules vs ≡ length (header_bytes rules a.n) = ap (λ n. length (header_bytes rules n)) count in
         record {
           begun_first = omega (arith, small, pulled, since, pulled2, since2);
-          once = omega (arith, n, m, since, since2, size, first, within, long, all);
-          close = omega (arith, n, since, drafted, gap, gap-is, least, heads);
+          once = omega (arith, n, m, since, since2, first, within, long, all);
+          close = omega (arith, n, since, drafted, gap, gap-is, least, heads, first);
         }

@@ -1,7 +1,9 @@
 -- How the parts of `rekey` lead to its end.
-use Rattle.std.proofs.Common.{◌≡◌, inl, inr, ℕ, ◌+◌, List, [], length, Option, Some, None, Result, Ok, Err, IfErr, refl, sym, ap, ◌∙◌, subst}
+use Rattle.std.proofs.Common.{◌≡◌, inl, inr, ℕ, ◌+◌, ◌≤◌, Bool, true, false, List, [], ◌∷◌, ◌++◌, length, take, Option, Some, None, IfSome, IsSome, Result, Ok, Err, IfErr, refl, sym, ap, ◌∙◌, subst, arith}
 use Rattle.std.specs.FinMap as map
-use Rattle.xa_outside.specs.Folder.{Files}
+use Rattle.std.specs.List.{AllByRecursion}
+use Rattle.std.specs.Option.{option_map}
+use Rattle.xa_outside.specs.Folder.{Files, bytes_or_none}
 use Rattle.xa_outside.specs.Numbers.{Numbers}
 use Rattle.key_spec.specs.Data.{PlainRule}
 use Rattle.key_rules.specs.Faults.{PlainKeyFault}
@@ -10,18 +12,27 @@ use Rattle.archive_tree.specs.Data.{PlainArchive}
 use Rattle.archive_tree.specs.Stands.{ArchiveOf}
 use Rattle.record_format.specs.Files.{FileOf}
 use Rattle.archive_file.specs.Sound.{SoundAs}
-use Rattle.archive_rekey.specs.Rekeyed.{IsArchiveUnder}
+use Rattle.archive_rekey.specs.Rekeyed.{AreRekeyed, IsArchiveUnder}
+use Rattle.version_notes.specs.Notes.{IsNote, are_empty, notes_part}
+use Rattle.version_notes.specs.Parts.{parts_behind, parts_in}
+use Rattle.version_notes.specs.Reader.{at_first, file_of}
+use Rattle.version_notes.specs.Reading.{notes_from}
+use Rattle.version_notes.specs.declared.parts.Parts.{Parts}
+use Rattle.noted_file.specs.Full.{Full, FullAs}
 use Rattle.xarch_words.specs.Commands.{rekey}
-use Rattle.xarch_words.specs.Refusal.{archive, Refusal, no_file, key_fault_in, limit, PlainFault, refused, memory}
+use Rattle.xarch_words.specs.Refusal.{archive, Refusal, key_fault_in, limit, PlainFault, refused, memory}
 use Rattle.xarch_words.specs.View.{fault_view}
 use Rattle.xarch_words.specs.declared.fault.Fault.{Fault}
-use Rattle.xarch_parts.specs.Archives.{ArchiveIs, GoesOn, IsRefusal, NoRefusal}
+use Rattle.xarch_parts.specs.Archives.{ArchiveIs, CoreIs, GoesOn, IsDrafted, IsRefusal, NoRefusal, PartsAre}
+use Rattle.xarch_parts.specs.CoreLaws.{core-sound, of-parts, same-file}
 use Rattle.xarch_parts.specs.Folders.{ReadsOnly}
-use Rattle.xarch_parts.specs.Inputs.{file_length, file_of, size_in}
-use Rattle.xarch_parts.specs.Outcome.{Outcome, and_then, or_refuse}
+use Rattle.xarch_parts.specs.Inputs.{size_in}
+use Rattle.xarch_parts.specs.Outcome.{Outcome}
 use Rattle.xarch_meanings.specs.Plausible.{MayBe, MayRekey}
 use Rattle.xarch_meanings.specs.Rekey.{RekeysTo, rekey_rules}
-use Rattle.xarch_writes.specs.Rekeyed.{IsFileOfVersions, IsFileUnder, IsUnkeyable, IsUnkeyed}
+use Rattle.xarch_writes.specs.Added.{IsDamaged}
+use Rattle.xarch_writes.specs.Appending.{NotesEnd}
+use Rattle.xarch_writes.specs.Rekeyed.{CanFollow, IsFileOfVersions, IsNoArchive, IsOpened, IsSoundOf, IsUnkeyed}
 
 -- ---- faults
 
@@ -47,22 +58,59 @@ module _ (rules : List PlainRule) (vs : List PlainKeyed) (a : PlainArchive) (und
   unfiled (Ok x) q only none = tt
   unfiled (Err f) q only none = λ e. inr (record { versions = under.versions; are = under.are; none = λ bytes file. none under.versions bytes under.archive file q e; is = only q e })
 
+-- ---- the archive that is read
+
+-- From what is known of all archive files with notes.
+module _ (has_parts : (rules : List PlainRule) (vs : List PlainKeyed) (notes : List (List ℕ)) (bytes : List ℕ) (full : FullAs rules vs notes bytes) → parts_in bytes ≡ Some (parts_behind full.core notes))
+    (files : Files) (name : List ℕ) (parts : Parts) (are : PartsAre files name parts) where
+  pub core-damaged : (q : Refusal) → IsNoArchive name (take parts.core are.bytes) q → IsDamaged files name q
+  core-damaged q w = (w.is, (λ rules vs notes a. w.unsound rules vs (core-sound has_parts files name rules vs notes a parts.core (take parts.core are.bytes) (of-parts files name parts are))))
+
+-- the first bytes of a file that has this core
+pub core-bytes : (files : Files) (name : List ℕ) (size : ℕ) (core read : List ℕ) → CoreIs files name size core → read ≡ take size (bytes_or_none (map.get files name)) → read ≡ core
+core-bytes files name size core read c is = is ∙ ap (λ (o : Option (List ℕ)). take size (bytes_or_none o)) c.there ∙ sym c.is
+
+module _ (files : Files) (name : List ℕ) (parts : Parts) (are : PartsAre files name parts) (vs : List PlainKeyed) (n : ℕ) (sound : IsSoundOf vs (take parts.core are.bytes)) (count : n ≡ length vs) where
+  from-file : (found : Option (List (List ℕ))) → notes_from (at_first name parts n) (file_of files name) ≡ found → notes_from (at_first name parts (length vs)) are.bytes ≡ found
+  from-file found e = (λ i. notes_from (at_first name parts (sym count i)) (bytes_or_none (sym are.there i))) ∙ e
+
+  pub opened-by : ((rules : List PlainRule) (vs : List PlainKeyed) (notes : List (List ℕ)) (bytes name : List ℕ) (parts : Parts) → parts_in bytes ≡ Some parts → SoundAs rules vs (take parts.core bytes)
+      → notes_from (at_first name parts (length vs)) bytes ≡ Some notes → FullAs rules vs notes bytes)
+      → (notes : List (List ℕ)) → notes_from (at_first name parts n) (file_of files name) ≡ Some notes → IsOpened files name vs notes
+  opened-by full notes e = record { rules = sound.rules; is = record { bytes = are.bytes; there = are.there; full = full sound.rules vs notes are.bytes name parts are.are sound.is (from-file (Some notes) e) } }
+
+  pub damaged-notes : ((rules : List PlainRule) (vs : List PlainKeyed) (bytes name : List ℕ) (parts : Parts) → parts_in bytes ≡ Some parts → SoundAs rules vs (take parts.core bytes) → notes_from (at_first name parts (length vs)) bytes ≡ None → ¬ Full bytes)
+      → (q : Refusal) → NotesEnd files name parts n (Some (refused q)) → IsDamaged files name q
+  damaged-notes none q d = (
+    d.0,
+    (λ rules us notes a.
+        let same : a.bytes ≡ are.bytes = same-file files name a.bytes are.bytes a.there are.there in
+        none sound.rules vs are.bytes name parts are.are sound.is (from-file None d.1) (record { rules = rules; versions = us; notes = notes; is = subst (λ (b : List ℕ). FullAs rules us notes b) same a.full })),
+  )
+
+-- notes that were read can be appended
+pub can-follow : (notes : List (List ℕ)) (n : ℕ) (there : Option ℕ) (noted : Bool) → length notes ≡ n → n ≤ 999999 → AllByRecursion IsNote notes → IfSome there (λ k. are_empty notes ≡ false) → (noted ≡ true → IsSome there) → CanFollow noted notes
+can-follow notes n None noted count few each some known = record { few = omega (arith, count, few); each = each; some = λ e. (let wrong = known e in absurd cc) }
+can-follow notes n (Some k) noted count few each some known = record { few = omega (arith, count, few); each = each; some = λ e. some }
+
+-- a draft that they were appended to
+pub drafted-more : (d e : Option (List ℕ)) (x y : List ℕ) → IsDrafted d x → e ≡ option_map (λ b. b ++ y) d → IsDrafted e (x ++ y)
+drafted-more None e x y is grown told there = (let wrong : None ≡ Some told = sym grown ∙ there in absurd cc)
+drafted-more (Some b) e x y is grown told there = (let same : Some (b ++ y) ≡ Some told = sym grown ∙ there in let one : b ++ y ≡ told = cc in sym one ∙ ap (λ (l : List ℕ). l ++ y) (is b refl))
+
 -- ---- the whole command
+
+many : (rules : List PlainRule) (vs us : List PlainKeyed) → AreRekeyed rules vs us → length us ≡ length vs
+many rules [] [] h = refl
+many rules [] (k ∷ ks) h = absurd h
+many rules (v ∷ vs) [] h = absurd h
+many rules (v ∷ vs) (k ∷ ks) h = (let rest = many rules vs ks h.1 in omega (arith, rest))
 
 -- what only read, behind a call that kept files
 pub reads-sized : {S : Type 0} {files : S → Option Files} {draft : S → Option (List ℕ)} {numbers : S → Numbers} {faults : S → ℕ} (name : List ℕ) (a b c : S) (v : Option PlainFault) → files b ≡ files a
-    → ReadsOnly files draft numbers faults (size_in (files b) name + (1048576 + size_in (files b) name)) b c v
-    → ReadsOnly files draft numbers faults (size_in (files a) name + (1048576 + size_in (files a) name)) b c v
-reads-sized {S} {files} {draft} {numbers} {faults} name a b c v same p = subst (λ f. ReadsOnly files draft numbers faults (size_in f name + (1048576 + size_in f name)) b c v) same p
-
--- a file that has a length is there
-pub there-by : (o : Option (List ℕ)) (name bytes : List ℕ) → or_refuse o (no_file name) ≡ Ok bytes → o ≡ Some bytes
-there-by None name bytes e = absurd cc
-there-by (Some b) name bytes e = let same : b ≡ bytes = cc in ap (λ x. Some x) same
-
-not_there : (o : Option (List ℕ)) (name : List ℕ) (n : ℕ) (q : Refusal) → and_then (or_refuse o (no_file name)) (λ b. Ok (length b)) ≡ Ok n → or_refuse o (no_file name) ≡ Err q → ⊥
-not_there None name n q e h = absurd cc
-not_there (Some b) name n q e h = absurd cc
+    → ReadsOnly files draft numbers faults (size_in (files b) name + (16 + 1048576 + size_in (files b) name)) b c v
+    → ReadsOnly files draft numbers faults (size_in (files a) name + (16 + 1048576 + size_in (files a) name)) b c v
+reads-sized {S} {files} {draft} {numbers} {faults} name a b c v same p = subst (λ f. ReadsOnly files draft numbers faults (size_in f name + (16 + 1048576 + size_in f name)) b c v) same p
 
 module _ (files : Files) (name spec : List ℕ) where
   -- a refusal before the archive is read
@@ -70,45 +118,45 @@ module _ (files : Files) (name spec : List ℕ) where
   unfolding MayBe
   rekey_refused_early q e = record {
     whatever = subst (λ x. GoesOn x (λ _. MayRekey files name) (Err q)) (sym e) refl;
-    sound = λ rules vs is. subst (λ x. GoesOn x (RekeysTo files name vs) (Err q)) (sym e) refl;
+    sound = λ rules vs notes is. subst (λ x. GoesOn x (RekeysTo files name vs notes) (Err q)) (sym e) refl;
   }
-
-  -- a file that has a length is read
-  pub rekey_read : (n : ℕ) (q : Refusal) → file_length files name ≡ Ok n → file_of files name ≡ Err q → MayBe files (rekey name spec) (Err q)
-  rekey_read n q long none = absurd (not_there (map.get files name) name n q long none)
 
   module _ (rules : List PlainRule) (input : rekey_rules files name spec ≡ Ok rules) where
     -- what the end of it says, behind the new keys
-    ends : (r : Result Outcome Refusal) → MayRekey files name r → ((old : List PlainRule) (vs : List PlainKeyed) → ArchiveIs files name old vs → RekeysTo files name vs rules r) → MayBe files (rekey name spec) r
+    ends : (r : Result Outcome Refusal) → MayRekey files name r → ((old : List PlainRule) (vs : List PlainKeyed) (notes : List (List ℕ)) → ArchiveIs files name old vs notes → RekeysTo files name vs notes rules r) → MayBe files (rekey name spec) r
     unfolding MayBe
     ends r may to = record {
       whatever = subst (λ x. GoesOn x (λ _. MayRekey files name) r) (sym input) may;
-      sound = λ old vs is. subst (λ x. GoesOn x (RekeysTo files name vs) r) (sym input) (to old vs is);
+      sound = λ old vs notes is. subst (λ x. GoesOn x (RekeysTo files name vs notes) r) (sym input) (to old vs notes is);
     }
 
-    module _ (bytes : List ℕ) (there : map.get files name ≡ Some bytes) where
-      same-sound : (old : List PlainRule) (vs : List PlainKeyed) → ArchiveIs files name old vs → SoundAs old vs bytes
-      same-sound old vs is = let both : Some is.bytes ≡ Some bytes = sym is.there ∙ there in let same : is.bytes ≡ bytes = cc in subst (SoundAs old vs) same is.sound
+    -- it is damaged
+    pub rekey_damaged : (q : Refusal) → IsDamaged files name q → MayBe files (rekey name spec) (Err q)
+    rekey_damaged q d = ends (Err q) (inl (ap (λ s. Err s) d.0)) (λ old vs notes is. absurd (d.1 old vs notes is))
 
-      module _ (one : (old others : List PlainRule) (vs us : List PlainKeyed) (b : List ℕ) → SoundAs old vs b → SoundAs others us b → (old ≡ others) × (vs ≡ us)) where
-        -- it is sound, and these are its versions
-        opened : (old : List PlainRule) (vs : List PlainKeyed) (r : Result Outcome Refusal) → SoundAs old vs bytes → RekeysTo files name vs rules r → MayBe files (rekey name spec) r
-        opened old vs r sound to =
-            ends r (inr (record { rules = old; versions = vs; archive = record { bytes = bytes; there = there; sound = sound }; rest = tt }))
-            (λ others us is. let same = one old others vs us bytes sound (same-sound others us is) in subst (λ ws. RekeysTo files name ws rules r) same.1 to)
+    module _ (one : (rules others : List PlainRule) (vs us : List PlainKeyed) (notes more : List (List ℕ)) (bytes : List ℕ) → FullAs rules vs notes bytes → FullAs others us more bytes → (rules ≡ others) × (vs ≡ us) × (notes ≡ more))
+        (vs : List PlainKeyed) (notes : List (List ℕ)) (is : IsOpened files name vs notes) where
+      -- it is sound, and these are its versions and notes
+      opened : (r : Result Outcome Refusal) → RekeysTo files name vs notes rules r → MayBe files (rekey name spec) r
+      opened r to =
+          ends r (inr (record { rules = is.rules; versions = vs; notes = notes; archive = is.is; rest = tt }))
+          (λ others us more a.
+          let bytes : a.bytes ≡ is.is.bytes = same-file files name a.bytes is.is.bytes a.there is.is.there in
+          let same = one is.rules others vs us notes more is.is.bytes is.is.full (subst (λ (b : List ℕ). FullAs others us more b) bytes a.full) in
+          subst (λ (l : List (List ℕ)). RekeysTo files name us l rules r) same.2 (subst (λ (ws : List PlainKeyed). RekeysTo files name ws notes rules r) same.1 to))
 
-        -- the file of its versions under the keys comes
-        pub rekey_stored : (new : List ℕ) → IsFileUnder rules bytes new → MayBe files (rekey name spec) (Ok (record { files = map.insert files name new; output = [] }))
-        rekey_stored new under =
-            let file = under.file in
-            opened under.old under.versions (Ok (record { files = map.insert files name new; output = [] })) under.sound
-            (inl (record { versions = file.versions; are = file.are; rest = inl (record { bytes = new; sound = file.sound; is = refl }) }))
+      -- the file of its versions under the keys comes
+      pub rekey_stored : (core : List ℕ) → IsFileOfVersions rules vs core → MayBe files (rekey name spec) (Ok (record { files = map.insert files name (core ++ notes_part notes); output = [] }))
+      rekey_stored core file =
+          let bytes = core ++ notes_part notes in
+          let count = is.is.full.as_many ∙ sym (many rules vs file.versions file.are) in
+          opened (Ok (record { files = map.insert files name bytes; output = [] }))
+          (inl (record { versions = file.versions; are = file.are; rest = inl (record { bytes = bytes; full = record { core = core; is = file.sound; as_many = count; each = is.is.full.each; spelled = refl }; is = refl }) }))
 
-        unkeyed : (vs : List PlainKeyed) (q : Refusal) → IsUnkeyed rules vs q → RekeysTo files name vs rules (Err q)
-        unkeyed vs q (inl bad) = inr (record { number = bad.number; fault = bad.fault; first = bad.first; is = ap (λ s. Err s) bad.is })
-        unkeyed vs q (inr long) = inl (record { versions = long.versions; are = long.are; rest = inr (record { none = long.none; is = ap (λ s. Err s) long.is }) })
+      unkeyed : (q : Refusal) → IsUnkeyed rules vs q → RekeysTo files name vs notes rules (Err q)
+      unkeyed q (inl bad) = inr (record { number = bad.number; fault = bad.fault; first = bad.first; is = ap (λ s. Err s) bad.is })
+      unkeyed q (inr long) = inl (record { versions = long.versions; are = long.are; rest = inr (record { none = long.none; is = ap (λ s. Err s) long.is }) })
 
-        -- there is none
-        pub rekey_refused : (q : Refusal) → IsUnkeyable name rules bytes q → MayBe files (rekey name spec) (Err q)
-        rekey_refused q (inl w) = opened w.old w.versions (Err q) w.sound (unkeyed w.versions q w.unkeyed)
-        rekey_refused q (inr w) = ends (Err q) (inl (ap (λ s. Err s) w.is)) (λ old vs is. absurd (w.unsound old vs (same-sound old vs is)))
+      -- there is none
+      pub rekey_refused : (q : Refusal) → IsUnkeyed rules vs q → MayBe files (rekey name spec) (Err q)
+      rekey_refused q w = opened (Err q) (unkeyed q w)

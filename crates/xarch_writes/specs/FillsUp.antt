@@ -7,6 +7,7 @@ use Rattle.stream_merge.specs.Added.{Overfull}
 use Rattle.stream_merge.specs.Short.{IsShortTree}
 use Rattle.xarch_words.specs.Commands.{PlainCommand, add}
 use Rattle.xarch_words.specs.Refusal.{PlainFault, limit, refused}
+use Rattle.xarch_parts.specs.Archives.{short_note}
 use Rattle.xarch_parts.specs.Inputs.{size_in}
 use Rattle.xarch_meanings.specs.Plausible.{add_input}
 
@@ -15,10 +16,11 @@ abbrev pub IsLimited : Option PlainFault → Type 0
 IsLimited (Some (refused (limit quantity number))) = ⊤
 IsLimited other = ⊥
 
--- Whatever the archive is: an `add` that what it reads first does not refuse is refused by a limit only where one more call of the writer does not fit
--- behind the draft, and each part that a call was given takes at most so many bytes, as many as the archive, each label and each body of the document's
--- keyed tree, if those fit their fields. Of no other command is anything said.
+-- Whatever the archive is: an `add` with a note that is short enough, which what it reads first does not refuse, is refused by a limit only where one more
+-- call of the writer does not fit behind the draft, and each part that a call was given takes at most so many bytes, as many as the archive, each label
+-- and each body of the document's keyed tree, if those fit their fields. The draft holds no note then. Of no other command is anything said.
 abbrev pub FillsUp : Option PlainCommand → Option Files → Option (List ℕ) → Type 0 → Type 0
-FillsUp (Some (add archive doc)) told draft limited =
-    (files : Files) (rules : List PlainRule) (n : ℕ) (tree : PlainKeyed) (b : ℕ) → told ≡ Some files → add_input files archive doc ≡ Ok ((rules, n), tree) → limited → size_in told archive + 12 ≤ b → IsShortTree b tree → Overfull b rules (n + 1) draft
+FillsUp (Some (add archive doc note)) told draft limited =
+    (files : Files) (rules : List PlainRule) (n : ℕ) (tree : PlainKeyed) (b : ℕ) → told ≡ Some files → short_note note ≡ Ok tt → add_input files archive doc ≡ Ok ((rules, n), tree) → limited → size_in told archive + 12 ≤ b → IsShortTree b tree
+    → Overfull b rules (n + 1) draft
 FillsUp other told draft limited = ⊤

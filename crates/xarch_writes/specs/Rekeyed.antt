@@ -1,12 +1,16 @@
 -- What comes of the versions of an archive under other keys.
-use Rattle.std.specs.Prelude.{◌≡◌, ◌⊎◌, ℕ, List}
+use Rattle.std.specs.Prelude.{◌≡◌, ◌≤◌, ◌⊎◌, ℕ, Bool, true, false, List, length}
+use Rattle.std.specs.List.{AllByRecursion}
+use Rattle.xa_outside.specs.Folder.{Files}
 use Rattle.key_spec.specs.Data.{PlainRule}
 use Rattle.key_rules.specs.Faults.{PlainKeyFault}
 use Rattle.keyed_tree.specs.Data.{PlainKeyed}
 use Rattle.record_format.specs.Files.{FileOf}
 use Rattle.archive_file.specs.Sound.{SoundAs}
 use Rattle.archive_rekey.specs.Rekeyed.{AreRekeyed, IsFirstBad}
+use Rattle.version_notes.specs.Notes.{IsNote, are_empty, most}
 use Rattle.xarch_words.specs.Refusal.{archive, Refusal, damaged, key_fault_in, limit}
+use Rattle.xarch_parts.specs.Archives.{ArchiveIs}
 
 -- ---- of versions
 
@@ -33,26 +37,25 @@ pub record AreTooLong (rules : List PlainRule) (vs : List PlainKeyed) (q : Refus
 abbrev pub IsUnkeyed : List PlainRule → List PlainKeyed → Refusal → Type 0
 IsUnkeyed rules vs q = IsBadTold rules vs q ⊎ AreTooLong rules vs q
 
--- ---- of bytes
+-- ---- of an archive
 
--- these are a sound archive, and those the file of its versions under the rules
-pub record IsFileUnder (rules : List PlainRule) (bytes new : List ℕ) : Type 0 where
-  pub old : List PlainRule
-  pub versions : List PlainKeyed
-  pub sound : SoundAs old versions bytes
-  pub file : IsFileOfVersions rules versions new
+-- the file of this name is the archive of these versions under some rules, with these notes
+pub record IsOpened (files : Files) (name : List ℕ) (vs : List PlainKeyed) (notes : List (List ℕ)) : Type 0 where
+  pub rules : List PlainRule
+  pub is : ArchiveIs files name rules vs notes
 
--- they are a sound archive, whose versions have no file under the rules
-pub record HasNoFileUnder (rules : List PlainRule) (bytes : List ℕ) (q : Refusal) : Type 0 where
-  pub old : List PlainRule
-  pub versions : List PlainKeyed
-  pub sound : SoundAs old versions bytes
-  pub unkeyed : IsUnkeyed rules versions q
+-- bytes are the sound archive of these versions under some rules
+pub record IsSoundOf (vs : List PlainKeyed) (bytes : List ℕ) : Type 0 where
+  pub rules : List PlainRule
+  pub is : SoundAs rules vs bytes
 
 -- they are none, and the archive of this name is refused
 pub record IsNoArchive (name bytes : List ℕ) (q : Refusal) : Type 0 where
   pub unsound : (rules : List PlainRule) (vs : List PlainKeyed) → ¬ SoundAs rules vs bytes
   pub is : q ≡ damaged name
 
-abbrev pub IsUnkeyable : List ℕ → List PlainRule → List ℕ → Refusal → Type 0
-IsUnkeyable name rules bytes q = HasNoFileUnder rules bytes q ⊎ IsNoArchive name bytes q
+-- Notes that can be appended, at once only where some is not empty.
+pub record CanFollow (noted : Bool) (notes : List (List ℕ)) : Type 0 where
+  pub few : length notes ≤ most
+  pub each : AllByRecursion IsNote notes
+  pub some : noted ≡ true → are_empty notes ≡ false

@@ -1,6 +1,6 @@
 #![tactic(auto, using(xarch_parts::specs::EndLaws::endings), unfolding(xarch_parts::specs::Ends::IsInside, xarch_parts::specs::Ends::IsDefined))]
 
-ghost use Rattle.std.specs.Prelude.{◌≡◌, ◌≢◌, ◌-◌, ◌+◌, ◌<◌, ◌≤◌, ℕ, List, Some, Ok, IfOk, length};
+ghost use Rattle.std.specs.Prelude.{◌≡◌, ◌≢◌, ◌-◌, ◌+◌, ◌^◌, ◌<◌, ◌≤◌, ℕ, List, Some, Ok, IfOk, IfSome, OnOk, IsTrue, length};
 ghost use Rattle.xa_outside.specs.Folder.{Files};
 ghost use Rattle.xa_outside.specs.Numbers.{PullsAtMost};
 ghost use Rattle.xa_outside.specs.Taken.{Taken};
@@ -11,86 +11,134 @@ ghost use Rattle.keyed_tree.specs.Data.{PlainKeyed};
 ghost use Rattle.keyed_tree.specs.Plain.{plain};
 ghost use Rattle.archive_file.specs.KeyedBy.{IsKeyedBy};
 ghost use Rattle.record_cursor.specs.View.{header_view, IsHeader};
+ghost use Rattle.version_notes.specs.Notes.{is_note, is_printed};
 ghost use Rattle.xarch_words.specs.Commands.{add};
-ghost use Rattle.xarch_words.specs.View.{fault_view};
+ghost use Rattle.xarch_words.specs.View.{fault_view, note_view};
 ghost use Rattle.xarch_meanings.specs.Add.{tree_of};
-ghost use Rattle.stream_merge.specs.Added.{Overfull};
+ghost use Rattle.stream_merge.specs.Added.{Appended, Overfull};
 ghost use Rattle.stream_merge.specs.Short.{IsShortTree};
-ghost use Rattle.xarch_writes.specs.Added.{IsToldAs, Merges, read_view};
+ghost use Rattle.xarch_writes.specs.Added.{IsToldAs, KeepsUp, Merges, RecordsEnd, read_view};
+ghost use Rattle.xarch_writes.specs.Appending.{Grows};
 ghost use Rattle.xarch_writes.specs.FillsUp.{FillsUp, IsLimited};
 ghost use Rattle.xarch_meanings.specs.OnePass.{document_size, front_size};
 ghost use Rattle.xarch_meanings.specs.Performs.{Performs};
-ghost use Rattle.xarch_parts.specs.Archives.{ArchiveIs, IsBlank, IsFrontOf};
-ghost use Rattle.xarch_parts.specs.Ends.{IsCaused, Matches, fault_of};
+ghost use Rattle.xarch_parts.specs.Archives.{ArchiveIs, IsBlank, IsFrontOf, PartsAre, short_note};
+ghost use Rattle.xarch_parts.specs.Ends.{IsCaused, IsInside, Matches, fault_of};
 ghost use Rattle.xarch_parts.specs.Folders.{ReadsOnly, Streams};
 ghost use Rattle.xarch_parts.specs.Inputs.{file_length, read_in, size_in};
+ghost use Rattle.xarch_parts.specs.Noted.{AreWithin, notes_bytes};
 ghost use Rattle.xarch_parts.specs.Outcome.{and_then};
 ghost use Rattle.xarch_meanings.specs.Plausible.{text_behind, text_read};
 ghost use Rattle.xarch_parts.specs.Readings.{front_in};
 
+use crate::notes::append_notes;
 use key_annotate::LentKeyed;
+use noted_file::{full_files_are_read_note_by_note, full_files_have_parts};
 use record_cursor::{Cursor, Header, files_give_their_items};
 use record_format::versions_have_one_file;
 use std::alloc::Global;
-use stream_merge::{AddFault, stream_add};
+use stream_merge::{AddFault, stream_append};
 use xa_outside::Folder;
 use xarch_meanings::limits;
 use xarch_parts::{
-    begin, damaged, doc_from, keyed_from, length_of, limited_length, read_front, read_whole,
+    Front, at_most, begin, commit, damaged, doc_from, keyed_from, length_of, limited_length,
+    read_front, read_whole,
 };
 use xarch_words::{Fault, Quantity};
 
-/// Adds a document to an archive as its next version.
+/// Adds a document to an archive as its next version, with a note: an empty one where none is
+/// given.
+///
+/// The archive is read once, and each record and each note is written before the next is read.
 pub fn run_add<F: Folder>(
     alloc: Global,
     archive: &str,
     doc: &str,
+    note: Option<&str>,
     folder: &mut F,
 ) -> Result<(), Fault>
+    requires { IsTrue (is_printed (note_view note)) }
     ensures performs { (t : Taken) (n : ℕ) → Performs F.files F.draft F.numbers F.faults
-        (add archive.now doc.now) folder.old folder.new t t n n (fault_of result) }
-    ensures fills { FillsUp (Some (add archive.now doc.now)) (F.files folder.old)
+        (add archive.now doc.now (note_view note.entry))
+        folder.old folder.new t t n n (fault_of result) }
+    ensures fills { FillsUp (Some (add archive.now doc.now (note_view note.entry)))
+        (F.files folder.old) (F.draft folder.new) (IsLimited (fault_of result)) }
+{
+    match note {
+        Some(note) => add_noted(alloc, archive, doc, note, folder),
+        None => add_noted(alloc, archive, doc, "", folder),
+    }
+}
+
+// Adds a document to an archive as its next version, with this note.
+fn add_noted<F: Folder>(
+    alloc: Global,
+    archive: &str,
+    doc: &str,
+    note: &str,
+    folder: &mut F,
+) -> Result<(), Fault>
+    requires { IsTrue (is_printed note.now) }
+    ensures performs { (t : Taken) (n : ℕ) → Performs F.files F.draft F.numbers F.faults
+        (add archive.now doc.now note.now) folder.old folder.new t t n n (fault_of result) }
+    ensures fills { FillsUp (Some (add archive.now doc.now note.now)) (F.files folder.old)
         (F.draft folder.new) (IsLimited (fault_of result)) }
 {
     // Laws, for the proof of what may come of it and of how often it reads.
     versions_have_one_file();
     files_give_their_items();
+    full_files_have_parts();
+    full_files_are_read_note_by_note();
     begin(folder)?;
-    let (header, text) = read_added(alloc, archive, doc, folder)?;
-    add_text(alloc, archive, &header, &text, folder)
+    check_note(note)?;
+    let (front, text) = read_added(alloc, archive, doc, folder)?;
+    add_text(alloc, archive, &front, &text, note, folder)
 }
 
-// The header of the archive, and the bytes of the document.
+// Nothing, where the note is not too long. It takes no memory.
+fn check_note(note: &str) -> Result<(), Fault>
+    ensures cause { IsInside (fault_of result) }
+    ensures told { Matches (λ _. tt) (short_note note.now) result }
+    ensures short { OnOk result (length note.now ≤ 1024) }
+{
+    at_most(note.len() as u64, Quantity::Note, limits::NOTE)?;
+    Ok(())
+}
+
+// What stands in front of the archive, and the bytes of the document.
 fn read_added<F: Folder>(
     alloc: Global,
     archive: &str,
     doc: &str,
     folder: &mut F,
-) -> Result<(Header, Vec<u8>), Fault>
+) -> Result<(Front, Vec<u8>), Fault>
     ensures reads { ReadsOnly F.files F.draft F.numbers F.faults
-        (size_in (F.files folder.old) archive.now + 67108864)
+        (size_in (F.files folder.old) archive.now + (16 + 67108864))
         folder.old folder.new (fault_of result) }
     ensures told { (files : Files) → F.files folder.old ≡ Some files
         → Matches (λ r. read_view r.0 r.1.items) (text_read files archive.now doc.now) result }
     ensures front { (files : Files) → F.files folder.old ≡ Some files
-        → IfOk result (λ r. IsFrontOf files archive.now (header_view r.0)) }
+        → IfOk result (λ r. PartsAre files archive.now r.0.parts
+        × IsFrontOf files archive.now (header_view r.0.header)) }
     ensures few { (files : Files) (rules : List PlainRule) (vs : List PlainKeyed)
-        → F.files folder.old ≡ Some files → ArchiveIs files archive.now rules vs
-        → PullsAtMost (front_size rules vs + document_size files doc.now)
+        (notes : List (List ℕ))
+        → F.files folder.old ≡ Some files → ArchiveIs files archive.now rules vs notes
+        → PullsAtMost (16 + front_size rules vs + document_size files doc.now)
         (F.numbers folder.old) (F.numbers folder.new) }
     ensures once { IfOk result (λ r.
-        ((header_view r.0).length ≤ size_in (F.files folder.old) archive.now)
-        × PullsAtMost ((header_view r.0).first + 67108864)
+        AreWithin (size_in (F.files folder.old) archive.now) r.0.parts
+        × PullsAtMost (16 + (header_view r.0.header).first + 67108864)
         (F.numbers folder.old) (F.numbers folder.new)) }
-    ensures known { IfOk result
-        (λ r. IsHeader (header_view r.0) × (length r.1.items ≤ 67108864)) }
+    ensures known { IfOk result (λ r. IsHeader (header_view r.0.header)
+        × ((header_view r.0.header).length ≡ r.0.parts.core) × (length r.1.items ≤ 67108864)) }
 {
     let size = length_of(alloc, folder, archive)?;
     let doc_size = limited_length(alloc, folder, doc, Quantity::Document, limits::DOCUMENT)?;
     read_text(alloc, archive, size, doc, doc_size, folder)
 }
 
-// The header of the archive in a file of this size, and the bytes of the document in another.
+// What stands in front of the archive in a file of this size, and the bytes of the document in
+// another.
 fn read_text<F: Folder>(
     alloc: Global,
     archive: &str,
@@ -98,9 +146,9 @@ fn read_text<F: Folder>(
     doc: &str,
     doc_size: u64,
     folder: &mut F,
-) -> Result<(Header, Vec<u8>), Fault>
+) -> Result<(Front, Vec<u8>), Fault>
     requires { doc_size ≤ 67108864 }
-    ensures reads { ReadsOnly F.files F.draft F.numbers F.faults (size + 67108864)
+    ensures reads { ReadsOnly F.files F.draft F.numbers F.faults (16 + size + 67108864)
         folder.old folder.new (fault_of result) }
     ensures told { (files : Files) → F.files folder.old ≡ Some files
         → file_length files archive.now ≡ Ok size → file_length files doc.now ≡ Ok doc_size
@@ -109,59 +157,117 @@ fn read_text<F: Folder>(
         (text_behind files doc.now)) result }
     ensures front { (files : Files) → F.files folder.old ≡ Some files
         → file_length files archive.now ≡ Ok size
-        → IfOk result (λ r. IsFrontOf files archive.now (header_view r.0)) }
+        → IfOk result (λ r. PartsAre files archive.now r.0.parts
+        × IsFrontOf files archive.now (header_view r.0.header)) }
     ensures few { (files : Files) (rules : List PlainRule) (vs : List PlainKeyed)
+        (notes : List (List ℕ))
         → F.files folder.old ≡ Some files → file_length files archive.now ≡ Ok size
-        → ArchiveIs files archive.now rules vs → PullsAtMost (front_size rules vs + doc_size)
+        → ArchiveIs files archive.now rules vs notes
+        → PullsAtMost (16 + front_size rules vs + doc_size)
         (F.numbers folder.old) (F.numbers folder.new) }
-    ensures once { IfOk result (λ r. ((header_view r.0).length ≡ size)
-        × PullsAtMost ((header_view r.0).first + doc_size)
+    ensures once { IfOk result (λ r. AreWithin size r.0.parts
+        × PullsAtMost (16 + (header_view r.0.header).first + doc_size)
         (F.numbers folder.old) (F.numbers folder.new)) }
-    ensures known { IfOk result
-        (λ r. IsHeader (header_view r.0) × (length r.1.items ≤ 67108864)) }
+    ensures known { IfOk result (λ r. IsHeader (header_view r.0.header)
+        × ((header_view r.0.header).length ≡ r.0.parts.core) × (length r.1.items ≤ 67108864)) }
 {
-    let header = read_front(alloc, folder, archive, size)?;
+    let front = read_front(alloc, folder, archive, size)?;
     let text = read_whole(alloc, folder, doc, doc_size)?;
-    Ok((header, text))
+    Ok((front, text))
 }
 
-// Adds the document that some bytes spell to the archive of this name, which has this header.
+// Adds the document that some bytes spell to the archive of this name, in front of which this
+// stands.
 //
 // The bytes lend the document its texts, and the document lends them to its keyed tree.
 fn add_text<F: Folder>(
     alloc: Global,
     archive: &str,
-    header: &Header,
+    front: &Front,
     text: &[u8],
+    note: &str,
     folder: &mut F,
 ) -> Result<(), Fault>
-    requires header { IsHeader (header_view header.now) }
+    requires header { IsHeader (header_view front.now.header) }
+    requires room { IfSome front.now.parts.notes
+        (λ n. front.now.parts.core + n < 2 ^ 64 - 16) }
     requires short { length text.now ≤ 67108864 }
+    requires note { IsTrue (is_note note.now) }
     requires blank { IsBlank (F.draft folder.old) }
     ensures streams { Streams F.files F.draft F.numbers
-        ((header_view header.now).length - (header_view header.now).first)
-        folder.old folder.new (fault_of result) }
+        ((header_view front.now.header).length - (header_view front.now.header).first
+        + notes_bytes front.now.parts.notes) folder.old folder.new (fault_of result) }
     ensures caused { (out : ℕ)
         → IsCaused (F.faults folder.old) (F.faults folder.new) out out (fault_of result) }
     ensures merges { (files : Files) → F.files folder.old ≡ Some files
-        → IsFrontOf files archive.now (header_view header.now)
-        → Merges files archive.now (header_view header.now)
-        (tree_of (header_view header.now).rules text.now)
+        → PartsAre files archive.now front.now.parts
+        → IsFrontOf files archive.now (header_view front.now.header)
+        → Merges files archive.now (header_view front.now.header)
+        (tree_of (header_view front.now.header).rules text.now) note.now
         (F.files folder.new) (F.numbers folder.old) (F.numbers folder.new) (fault_of result) }
     ensures fills { (tree : PlainKeyed) (b : ℕ)
-        → tree_of (header_view header.now).rules text.now ≡ Ok tree
-        → (header_view header.now).versions ≢ 999999 → IsLimited (fault_of result)
-        → (header_view header.now).length + 12 ≤ b → IsShortTree b tree
-        → Overfull b (header_view header.now).rules ((header_view header.now).versions + 1)
-        (F.draft folder.new) }
+        → tree_of (header_view front.now.header).rules text.now ≡ Ok tree
+        → (header_view front.now.header).versions ≢ 999999 → IsLimited (fault_of result)
+        → (header_view front.now.header).length + 12 ≤ b → IsShortTree b tree
+        → Overfull b (header_view front.now.header).rules
+        ((header_view front.now.header).versions + 1) (F.draft folder.new) }
 {
     let doc = doc_from(alloc, text)?;
-    let keyed = keyed_from(alloc, &header.spec, &doc)?;
-    merge(alloc, archive, header, &keyed, folder)
+    let keyed = keyed_from(alloc, &front.header.spec, &doc)?;
+    add_tree(alloc, archive, front, &keyed, note, folder)
 }
 
-// Adds the keyed tree to the archive of this name, which has this header.
-fn merge<F: Folder>(
+// Adds the keyed tree to the archive of this name, in front of which this stands: its records, its
+// notes, and then the file is there.
+fn add_tree<F: Folder>(
+    alloc: Global,
+    archive: &str,
+    front: &Front,
+    new: &LentKeyed<'_, '_>,
+    note: &str,
+    folder: &mut F,
+) -> Result<(), Fault>
+    requires header { IsHeader (header_view front.now.header) }
+    requires room { IfSome front.now.parts.notes
+        (λ n. front.now.parts.core + n < 2 ^ 64 - 16) }
+    requires keyed { IsKeyedBy (header_view front.now.header).rules (lent_view new.now) }
+    requires texts { AreTexts (plain (lent_view new.now)) }
+    requires note { IsTrue (is_note note.now) }
+    requires blank { IsBlank (F.draft folder.old) }
+    ensures streams { Streams F.files F.draft F.numbers
+        ((header_view front.now.header).length - (header_view front.now.header).first
+        + notes_bytes front.now.parts.notes) folder.old folder.new (fault_of result) }
+    ensures caused { (out : ℕ)
+        → IsCaused (F.faults folder.old) (F.faults folder.new) out out (fault_of result) }
+    ensures merges { (files : Files) → F.files folder.old ≡ Some files
+        → PartsAre files archive.now front.now.parts
+        → IsFrontOf files archive.now (header_view front.now.header)
+        → Merges files archive.now (header_view front.now.header) (Ok (lent_view new.now)) note.now
+        (F.files folder.new) (F.numbers folder.old) (F.numbers folder.new) (fault_of result) }
+    ensures fills { (b : ℕ) → (header_view front.now.header).versions ≢ 999999
+        → IsLimited (fault_of result) → (header_view front.now.header).length + 12 ≤ b
+        → IsShortTree b (lent_view new.now)
+        → Overfull b (header_view front.now.header).rules
+        ((header_view front.now.header).versions + 1) (F.draft folder.new) }
+{
+    // Laws, for the proof of `merges`.
+    versions_have_one_file();
+    full_files_have_parts();
+    full_files_are_read_note_by_note();
+    append_records(alloc, archive, &front.header, new, folder)?;
+    append_notes(
+        alloc,
+        archive,
+        &front.parts,
+        front.header.versions,
+        note,
+        folder,
+    )?;
+    commit(folder, archive)
+}
+
+// Appends the records of the archive of this name to the draft, with the keyed tree.
+fn append_records<F: Folder>(
     alloc: Global,
     archive: &str,
     header: &Header,
@@ -172,23 +278,30 @@ fn merge<F: Folder>(
     requires keyed { IsKeyedBy (header_view header.now).rules (lent_view new.now) }
     requires texts { AreTexts (plain (lent_view new.now)) }
     requires blank { IsBlank (F.draft folder.old) }
-    ensures streams { Streams F.files F.draft F.numbers
+    ensures grows { Grows F.files F.draft F.numbers F.faults
         ((header_view header.now).length - (header_view header.now).first)
         folder.old folder.new (fault_of result) }
-    ensures caused { (out : ℕ)
-        → IsCaused (F.faults folder.old) (F.faults folder.new) out out (fault_of result) }
-    ensures merges { (files : Files) → F.files folder.old ≡ Some files
+    ensures room { OnOk result ((header_view header.now).versions ≢ 999999) }
+    ensures appended { OnOk result (Appended (header_view header.now) archive.now
+        (lent_view new.now) (F.files folder.old) (F.draft folder.old) (F.draft folder.new)) }
+    ensures ends { (files : Files) → F.files folder.old ≡ Some files
         → IsFrontOf files archive.now (header_view header.now)
-        → Merges files archive.now (header_view header.now) (Ok (lent_view new.now))
-        (F.files folder.new) (F.numbers folder.old) (F.numbers folder.new) (fault_of result) }
+        → RecordsEnd files archive.now (header_view header.now) (lent_view new.now)
+        (fault_of result) }
+    ensures keeps_up { (files : Files) → F.files folder.old ≡ Some files
+        → IsFrontOf files archive.now (header_view header.now)
+        → KeepsUp files archive.now (header_view header.now)
+        (F.numbers folder.old) (F.numbers folder.new) (fault_of result) }
     ensures fills { (b : ℕ) → (header_view header.now).versions ≢ 999999
         → IsLimited (fault_of result) → (header_view header.now).length + 12 ≤ b
         → IsShortTree b (lent_view new.now)
         → Overfull b (header_view header.now).rules ((header_view header.now).versions + 1)
         (F.draft folder.new) }
 {
+    // A law, for the proof of `ends`.
+    full_files_have_parts();
     match Cursor::start(alloc, archive, header) {
-        Ok(cursor) => match stream_add(alloc, folder, archive, header, cursor, new) {
+        Ok(cursor) => match stream_append(alloc, folder, archive, header, cursor, new) {
             Ok(()) => Ok(()),
             Err(fault) => Err(told_fault(alloc, archive, fault)),
         },

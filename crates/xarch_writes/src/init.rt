@@ -12,6 +12,7 @@ ghost use Rattle.xarch_meanings.specs.Performs.{Performs};
 
 use archive_tree::Archive;
 use key_spec::Spec;
+use noted_file::sound_files_are_full;
 use std::alloc::Global;
 use xa_outside::Folder;
 use xarch_meanings::limits;
@@ -28,6 +29,8 @@ pub fn run_init<F: Folder>(
     ensures { (t : Taken) (n : ℕ) → Performs F.files F.draft F.numbers F.faults
         (init archive.now spec.now) folder.old folder.new t t n n (fault_of result) }
 {
+    // A law, for the proof of what may come of it.
+    sound_files_are_full();
     begin(folder)?;
     let spec = new_rules(alloc, archive, spec, folder)?;
     let bytes = file_from(alloc, &spec, &Archive::empty(alloc))?;

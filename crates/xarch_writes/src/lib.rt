@@ -4,6 +4,7 @@
 mod add;
 mod demo;
 mod init;
+mod notes;
 mod rekey;
 
 pub use add::run_add;

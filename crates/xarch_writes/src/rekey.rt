@@ -1,7 +1,7 @@
 #![tactic(auto, using(xarch_parts::specs::EndLaws::endings))]
 
-ghost use Rattle.std.specs.Prelude.{◌≡◌, ◌+◌, ◌≤◌, ℕ, List, [], length, Some, Ok, Err, IfOk, IfErr};
-ghost use Rattle.std.specs.FinMap as map;
+ghost use Rattle.std.specs.Prelude.{◌≡◌, ◌+◌, ◌-◌, ◌^◌, ◌<◌, ◌≤◌, ◌++◌, ℕ, List, [], length, map, Some, Ok, Err, IfOk, IfErr, IfSome, IsSome, OnOk, Bool, true, string_bytes};
+ghost use Rattle.std.specs.FinMap as finite;
 ghost use Rattle.xa_outside.specs.Folder.{Files};
 ghost use Rattle.xa_outside.specs.Taken.{Taken};
 ghost use Rattle.key_spec.specs.View.{spec_view};
@@ -9,34 +9,43 @@ ghost use Rattle.keyed_tree.specs.Data.{PlainKeyed};
 ghost use Rattle.archive_tree.specs.ArchiveView.{archive_view};
 ghost use Rattle.archive_tree.specs.Stands.{ArchiveOf};
 ghost use Rattle.archive_rekey.specs.Rekeyed.{SpellDocuments};
+ghost use Rattle.version_notes.specs.Notes.{notes_part};
 ghost use Rattle.xarch_words.specs.Commands.{rekey};
-ghost use Rattle.xarch_words.specs.Refusal.{Refusal, refused};
+ghost use Rattle.xarch_words.specs.Refusal.{Refusal, folder_fault, refused};
 ghost use Rattle.xarch_words.specs.View.{fault_view};
-ghost use Rattle.xarch_parts.specs.Ends.{IsInside, Matches, fault_of};
-ghost use Rattle.xarch_parts.specs.Folders.{ReadsOnly};
+ghost use Rattle.xarch_parts.specs.Archives.{CoreIs, IsBlank, PartsAre};
+ghost use Rattle.xarch_parts.specs.Ends.{IsCaused, IsInside, Matches, TellsOnly, fault_of};
+ghost use Rattle.xarch_parts.specs.Folders.{ReadsOnly, WritesOnly};
 ghost use Rattle.xarch_parts.specs.Inputs.{file_length, read_in, size_in};
+ghost use Rattle.xarch_parts.specs.Noted.{AreWithin, notes_bytes};
 ghost use Rattle.xarch_parts.specs.Outcome.{and_then};
 ghost use Rattle.xarch_parts.specs.Readings.{front_in, rules_of};
 ghost use Rattle.xarch_meanings.specs.Performs.{Performs};
 ghost use Rattle.xarch_meanings.specs.Plausible.{MayBe};
 ghost use Rattle.xarch_meanings.specs.Rekey.{rekey_rules};
-ghost use Rattle.xarch_writes.specs.Rekeyed.{IsFileOfVersions, IsFileUnder, IsUnkeyable, IsUnkeyed};
+ghost use Rattle.xarch_writes.specs.Added.{IsDamaged};
+ghost use Rattle.xarch_writes.specs.Rekeyed.{CanFollow, IsFileOfVersions, IsNoArchive, IsOpened, IsSoundOf, IsUnkeyed};
 
+use crate::notes::{notes_of, push_notes};
 use archive_file::{FileFault, decode_file, sound_archives_have_one_reading};
 use archive_rekey::{RekeyFault, rekey};
 use archive_tree::{Archive, archives_stand_for_one_list};
 use key_spec::Spec;
+use noted_file::{
+    full_files_are_read_note_by_note, full_files_have_one_reading, full_files_have_parts,
+};
 use std::alloc::Global;
-use xa_outside::Folder;
+use version_notes::Parts;
+use xa_outside::{Folder, ReadFault, read_front as read_bytes};
 use xarch_meanings::limits;
 use xarch_parts::{
-    begin, damaged, file_from, length_of, limited_length, read_front, read_spec, read_whole, store,
+    begin, commit, damaged, draft, file_from, length_of, limited_length, read_front, read_spec,
 };
 use xarch_words::{Fault, Quantity};
 
-/// Gives the versions of an archive the keys of another specification.
+/// Gives the versions of an archive the keys of another specification. Its notes stay.
 ///
-/// The archive is read whole. Beside it and the new one, one version is held.
+/// The archive is read whole. Beside it, its notes and the new one, one version is held.
 pub fn run_rekey<F: Folder>(
     alloc: Global,
     archive: &str,
@@ -47,50 +56,89 @@ pub fn run_rekey<F: Folder>(
         (rekey archive.now spec.now) folder.old folder.new t t n n (fault_of result) }
 {
     begin(folder)?;
-    let bytes = new_file(alloc, archive, spec, folder)?;
-    store(folder, archive, &bytes)
+    let file = new_file(alloc, archive, spec, folder)?;
+    store_noted(archive, &file, folder)
 }
 
-// The file of the archive's versions under the keys of the specification.
+// An archive file, and the notes that come behind it: whether some is not empty, and all of them.
+#[derive(Drop)]
+struct Noted {
+    core: Vec<u8>,
+    noted: bool,
+    notes: Vec<String>,
+}
+
+// The file of the archive's versions under the keys of the specification, and their notes.
 fn new_file<F: Folder>(
     alloc: Global,
     archive: &str,
     spec: &str,
     folder: &mut F,
-) -> Result<Vec<u8>, Fault>
+) -> Result<Noted, Fault>
     ensures reads { ReadsOnly F.files F.draft F.numbers F.faults
         (size_in (F.files folder.old) archive.now
-        + (1048576 + size_in (F.files folder.old) archive.now))
+        + (16 + 1048576 + size_in (F.files folder.old) archive.now))
         folder.old folder.new (fault_of result) }
     ensures file { (files : Files) → F.files folder.old ≡ Some files
-        → IfOk result (λ b. MayBe files (rekey archive.now spec.now)
-        (Ok (record { files = map.insert files archive.now b.items; output = [] }))) }
+        → IfOk result (λ r. MayBe files (rekey archive.now spec.now)
+        (Ok (record {
+          files = finite.insert files archive.now
+              (r.core.items ++ notes_part (map string_bytes r.notes.items));
+          output = [];
+        }))) }
+    ensures follow { IfOk result (λ r. CanFollow r.noted (map string_bytes r.notes.items)) }
     ensures refused { (files : Files) (q : Refusal) → F.files folder.old ≡ Some files
         → IfErr result (λ f. fault_view f ≡ refused q
         → MayBe files (rekey archive.now spec.now) (Err q)) }
 {
-    // A law, for the proofs of `file` and `refused`.
-    sound_archives_have_one_reading();
-    let (size, spec) = new_keys(alloc, archive, spec, folder)?;
-    let bytes = read_whole(alloc, folder, archive, size)?;
-    file_under(alloc, archive, &bytes, &spec)
+    // Laws, for the proofs of `file` and `refused`.
+    archives_stand_for_one_list();
+    full_files_have_one_reading();
+    let (parts, spec) = new_keys(alloc, archive, spec, folder)?;
+    let (old, notes) = read_archive(alloc, archive, &parts, folder)?;
+    let core = file_of_versions(alloc, &old, &spec)?;
+    Ok(Noted {
+        core,
+        noted: parts.notes.is_some(),
+        notes,
+    })
 }
 
-// The length of the archive's file, and the new keys.
+// Makes the archive and its notes the file of this name.
+fn store_noted<F: Folder>(name: &str, file: &Noted, folder: &mut F) -> Result<(), Fault>
+    requires blank { IsBlank (F.draft folder.old) }
+    requires follow { CanFollow file.now.noted (map string_bytes file.now.notes.items) }
+    ensures writes { WritesOnly F.files F.draft F.numbers folder.old folder.new (fault_of result) }
+    ensures caused { (out : ℕ)
+        → IsCaused (F.faults folder.old) (F.faults folder.new) out out (fault_of result) }
+    ensures stored { (files : Files) → F.files folder.old ≡ Some files
+        → OnOk result (TellsOnly (F.files folder.new) (finite.insert files name.now
+        (file.now.core.items ++ notes_part (map string_bytes file.now.notes.items)))) }
+    ensures fault { IfErr result (λ f. fault_view f ≡ folder_fault) }
+{
+    draft(folder, &file.core)?;
+    match push_notes(&file.notes, file.noted, folder) {
+        Ok(()) => commit(folder, name),
+        Err(_) => Err(Fault::FolderFault),
+    }
+}
+
+// Where the notes of the archive are, and the new keys.
 fn new_keys<F: Folder>(
     alloc: Global,
     archive: &str,
     spec: &str,
     folder: &mut F,
-) -> Result<(u64, Spec), Fault>
+) -> Result<(Parts, Spec), Fault>
     ensures reads { ReadsOnly F.files F.draft F.numbers F.faults
-        (size_in (F.files folder.old) archive.now + 1048576)
+        (size_in (F.files folder.old) archive.now + (16 + 1048576))
         folder.old folder.new (fault_of result) }
     ensures told { (files : Files) → F.files folder.old ≡ Some files
         → Matches (λ r. spec_view r.1) (rekey_rules files archive.now spec.now) result }
-    ensures size { (files : Files) → F.files folder.old ≡ Some files
-        → IfOk result (λ r. file_length files archive.now ≡ Ok r.0) }
-    ensures within { IfOk result (λ r. r.0 ≤ size_in (F.files folder.old) archive.now) }
+    ensures are { (files : Files) → F.files folder.old ≡ Some files
+        → IfOk result (λ r. PartsAre files archive.now r.0) }
+    ensures within { IfOk result
+        (λ r. AreWithin (size_in (F.files folder.old) archive.now) r.0) }
 {
     let size = length_of(alloc, folder, archive)?;
     let length = limited_length(
@@ -100,13 +148,10 @@ fn new_keys<F: Folder>(
         Quantity::Specification,
         limits::SPECIFICATION,
     )?;
-    match keys_behind(alloc, archive, size, spec, length, folder) {
-        Ok(keys) => Ok((size, keys)),
-        Err(fault) => Err(fault),
-    }
+    keys_behind(alloc, archive, size, spec, length, folder)
 }
 
-// The new keys, where a header stands in front of the archive.
+// Where the notes of the archive are, and the new keys, where a header stands in front of it.
 fn keys_behind<F: Folder>(
     alloc: Global,
     archive: &str,
@@ -114,30 +159,98 @@ fn keys_behind<F: Folder>(
     spec: &str,
     length: u64,
     folder: &mut F,
-) -> Result<Spec, Fault>
+) -> Result<(Parts, Spec), Fault>
     requires { length ≤ 1048576 }
-    ensures reads { ReadsOnly F.files F.draft F.numbers F.faults (size + 1048576)
+    ensures reads { ReadsOnly F.files F.draft F.numbers F.faults (16 + size + 1048576)
         folder.old folder.new (fault_of result) }
     ensures told { (files : Files) → F.files folder.old ≡ Some files
         → file_length files archive.now ≡ Ok size → file_length files spec.now ≡ Ok length
-        → Matches spec_view (and_then (read_in files archive.now (front_in archive.now))
+        → Matches (λ r. spec_view r.1)
+        (and_then (read_in files archive.now (front_in archive.now))
         (λ _. read_in files spec.now rules_of)) result }
+    ensures are { (files : Files) → F.files folder.old ≡ Some files
+        → file_length files archive.now ≡ Ok size
+        → IfOk result (λ r. PartsAre files archive.now r.0) }
+    ensures within { IfOk result (λ r. AreWithin size r.0) }
 {
-    read_front(alloc, folder, archive, size)?;
-    read_spec(alloc, folder, spec, length)
+    let front = read_front(alloc, folder, archive, size)?;
+    let keys = read_spec(alloc, folder, spec, length)?;
+    Ok((front.parts, keys))
 }
 
-// The file of the versions that some bytes have, under other keys.
-fn file_under(alloc: Global, name: &str, bytes: &[u8], spec: &Spec) -> Result<Vec<u8>, Fault>
-    ensures cause { IsInside (fault_of result) }
-    ensures file { IfOk result (λ b. IsFileUnder (spec_view spec.now) bytes.now b.items) }
-    ensures refused { (q : Refusal) → IfErr result (λ f. fault_view f ≡ refused q
-        → IsUnkeyable name.now (spec_view spec.now) bytes.now q) }
+// The archive of this name and its notes, which have these parts.
+fn read_archive<F: Folder>(
+    alloc: Global,
+    archive: &str,
+    parts: &Parts,
+    folder: &mut F,
+) -> Result<(Archive, Vec<String>), Fault>
+    requires { IfSome parts.now.notes (λ n. parts.now.core + n < 2 ^ 64 - 16) }
+    ensures reads { ReadsOnly F.files F.draft F.numbers F.faults
+        (parts.now.core + notes_bytes parts.now.notes) folder.old folder.new (fault_of result) }
+    ensures opened { (files : Files) → F.files folder.old ≡ Some files
+        → PartsAre files archive.now parts.now → IfOk result (λ r. (vs : List PlainKeyed)
+        → ArchiveOf vs (archive_view r.0)
+        → IsOpened files archive.now vs (map string_bytes r.1.items)) }
+    ensures damage { (files : Files) (q : Refusal) → F.files folder.old ≡ Some files
+        → PartsAre files archive.now parts.now
+        → IfErr result (λ f. fault_view f ≡ refused q → IsDamaged files archive.now q) }
+    ensures few { IfOk result (λ r. (archive_view r.0).n ≤ 999999) }
+    ensures documents { IfOk result (λ r. (vs : List PlainKeyed)
+        → ArchiveOf vs (archive_view r.0) → SpellDocuments vs) }
+    ensures follow { IfOk result (λ r. (noted : Bool)
+        → (noted ≡ true → IsSome parts.now.notes)
+        → CanFollow noted (map string_bytes r.1.items)) }
 {
-    // A law, for the proofs of `file` and `refused`.
+    // Laws, for the proofs of `opened` and `damage`.
     archives_stand_for_one_list();
+    sound_archives_have_one_reading();
+    full_files_have_parts();
+    full_files_are_read_note_by_note();
+    let old = read_records(alloc, archive, parts.core, folder)?;
+    let notes = notes_of(alloc, archive, parts, old.n(), folder)?;
+    Ok((old, notes))
+}
+
+// The archive in the first bytes of a file, so many.
+fn read_records<F: Folder>(
+    alloc: Global,
+    archive: &str,
+    core: u64,
+    folder: &mut F,
+) -> Result<Archive, Fault>
+    ensures reads { ReadsOnly F.files F.draft F.numbers F.faults core
+        folder.old folder.new (fault_of result) }
+    ensures sound { (files : Files) (bytes : List ℕ) → F.files folder.old ≡ Some files
+        → CoreIs files archive.now core bytes → IfOk result (λ a. (vs : List PlainKeyed)
+        → ArchiveOf vs (archive_view a) → IsSoundOf vs bytes) }
+    ensures damage { (files : Files) (bytes : List ℕ) (q : Refusal)
+        → F.files folder.old ≡ Some files → CoreIs files archive.now core bytes
+        → IfErr result (λ f. fault_view f ≡ refused q → IsNoArchive archive.now bytes q) }
+    ensures few { IfOk result (λ a. (archive_view a).n ≤ 999999) }
+    ensures documents { IfOk result (λ a. (vs : List PlainKeyed)
+        → ArchiveOf vs (archive_view a) → SpellDocuments vs) }
+{
+    match read_bytes(alloc, folder, archive, core) {
+        Ok(bytes) => archive_from(alloc, archive, &bytes),
+        Err(ReadFault::Folder) => Err(Fault::FolderFault),
+        Err(ReadFault::Memory) => Err(Fault::Memory),
+    }
+}
+
+// The archive that some bytes are.
+fn archive_from(alloc: Global, name: &str, bytes: &[u8]) -> Result<Archive, Fault>
+    ensures cause { IsInside (fault_of result) }
+    ensures sound { IfOk result (λ a. (vs : List PlainKeyed)
+        → ArchiveOf vs (archive_view a) → IsSoundOf vs bytes.now) }
+    ensures damage { (q : Refusal) → IfErr result (λ f. fault_view f ≡ refused q
+        → IsNoArchive name.now bytes.now q) }
+    ensures few { IfOk result (λ a. (archive_view a).n ≤ 999999) }
+    ensures documents { IfOk result (λ a. (vs : List PlainKeyed)
+        → ArchiveOf vs (archive_view a) → SpellDocuments vs) }
+{
     match decode_file(alloc, bytes) {
-        Ok((_, old)) => file_of_versions(alloc, &old, spec),
+        Ok((_, old)) => Ok(old),
         Err(FileFault::Damage) => Err(damaged(alloc, name)),
         Err(FileFault::Memory) => Err(Fault::Memory),
     }

@@ -19,7 +19,7 @@ pub returns-in_err-size-clause-front : goal.returns-in_err-size-clause-front
 returns-in_err-size-clause-front g c = λ files told. IfOk-passed c.from_residual.result _ _ c.from_residual.ensures.1
 
 pub returns-in_err-size-clause-few : goal.returns-in_err-size-clause-few
-returns-in_err-size-clause-few g c = λ files rules vs told is. PullsAtMost-more 0 _ _ _ (omega arith) c.in_err-size.ensures.reads.pulls
+returns-in_err-size-clause-few g c = λ files rules vs notes told is. PullsAtMost-more 0 _ _ _ (omega arith) c.in_err-size.ensures.reads.pulls
 
 pub returns-in_err-size-clause-once : goal.returns-in_err-size-clause-once
 returns-in_err-size-clause-once g c = IfOk-passed c.from_residual.result _ _ c.from_residual.ensures.1
@@ -39,7 +39,7 @@ pub returns-in_err-doc_size-clause-front : goal.returns-in_err-doc_size-clause-f
 returns-in_err-doc_size-clause-front g c = λ files told. IfOk-passed c.from_residual-in_err-doc_size.result _ _ c.from_residual-in_err-doc_size.ensures.1
 
 pub returns-in_err-doc_size-clause-few : goal.returns-in_err-doc_size-clause-few
-returns-in_err-doc_size-clause-few g c = λ files rules vs told is. PullsAtMost-more (0 + 0) _ _ _ (omega arith) (PullsAtMost-trans 0 0 _ _ _ c.in_ok-size.ensures.reads.pulls c.in_err-doc_size.ensures.reads.pulls)
+returns-in_err-doc_size-clause-few g c = λ files rules vs notes told is. PullsAtMost-more (0 + 0) _ _ _ (omega arith) (PullsAtMost-trans 0 0 _ _ _ c.in_ok-size.ensures.reads.pulls c.in_err-doc_size.ensures.reads.pulls)
 
 pub returns-in_err-doc_size-clause-once : goal.returns-in_err-doc_size-clause-once
 returns-in_err-doc_size-clause-once g c = IfOk-passed c.from_residual-in_err-doc_size.result _ _ c.from_residual-in_err-doc_size.ensures.1
@@ -49,7 +49,7 @@ returns-in_err-doc_size-clause-known g c = IfOk-passed c.from_residual-in_err-do
 
 pub returns-clause-reads : goal.returns-clause-reads
 returns-clause-reads g c = let size = c.in_ok-size.ensures.size in
-    reads-then 0 (c.in_ok-size.size + 67108864) _ _ _ _ _ (omega (arith, size)) (reads-then 0 0 0 _ _ _ _ (omega arith) c.in_ok-size.ensures.reads c.in_ok-doc_size.ensures.reads) c.read_text.ensures.reads
+    reads-then 0 (16 + c.in_ok-size.size + 67108864) _ _ _ _ _ (omega (arith, size)) (reads-then 0 0 0 _ _ _ _ (omega arith) c.in_ok-size.ensures.reads c.in_ok-doc_size.ensures.reads) c.read_text.ensures.reads
 
 pub returns-clause-told : goal.returns-clause-told
 returns-clause-told g c = λ files told.
@@ -63,23 +63,24 @@ pub returns-clause-front : goal.returns-clause-front
 returns-clause-front g c = λ files told. c.read_text.ensures.front files (c.in_ok-doc_size.ensures.reads.same_files ∙ (c.in_ok-size.ensures.reads.same_files ∙ told)) (c.in_ok-size.ensures.told files told)
 
 pub returns-clause-few : goal.returns-clause-few
-returns-clause-few g c = λ files rules vs told is.
+returns-clause-few g c = λ files rules vs notes told is.
     let told1 = c.in_ok-size.ensures.reads.same_files ∙ told in
     let told2 = c.in_ok-doc_size.ensures.reads.same_files ∙ told1 in
     let same = size-of files c.args.doc.now c.in_ok-doc_size.doc_size (c.in_ok-doc_size.ensures.told files told1) in
-    let n = front_size rules vs + c.in_ok-doc_size.doc_size in
-    let all = PullsAtMost-trans (0 + 0) n _ _ _ (PullsAtMost-trans 0 0 _ _ _ c.in_ok-size.ensures.reads.pulls c.in_ok-doc_size.ensures.reads.pulls) (c.read_text.ensures.few files rules vs told2 (c.in_ok-size.ensures.told files told) is) in
-    PullsAtMost-more (0 + 0 + n) (front_size rules vs + document_size files c.args.doc.now) _ _ (omega (arith, same)) all
+    let n = 16 + front_size rules vs + c.in_ok-doc_size.doc_size in
+    let all = PullsAtMost-trans (0 + 0) n _ _ _ (PullsAtMost-trans 0 0 _ _ _ c.in_ok-size.ensures.reads.pulls c.in_ok-doc_size.ensures.reads.pulls) (c.read_text.ensures.few files rules vs notes told2 (c.in_ok-size.ensures.told files told) is) in
+    PullsAtMost-more (0 + 0 + n) (16 + front_size rules vs + document_size files c.args.doc.now) _ _ (omega (arith, same)) all
 
 pub returns-clause-once : goal.returns-clause-once
 returns-clause-once g c =
     let size = c.in_ok-size.ensures.size in
     let short = c.in_ok-doc_size.ensures.bound in
     IfOk-weaker c.read_text.result _ _ (λ r h. (
-    let long = h.0 in
-    let n = (header_view r.0).first + c.in_ok-doc_size.doc_size in (
-      omega (arith, size, long),
-      PullsAtMost-more (0 + 0 + n) ((header_view r.0).first + 67108864) _ _ (omega (arith, short))
+    let fits = h.0 in
+    let within = fits.within in
+    let n = 16 + (header_view r.0.header).first + c.in_ok-doc_size.doc_size in (
+      record { within = omega (arith, size, within); room = fits.room },
+      PullsAtMost-more (0 + 0 + n) (16 + (header_view r.0.header).first + 67108864) _ _ (omega (arith, short))
           (PullsAtMost-trans (0 + 0) n _ _ _ (PullsAtMost-trans 0 0 _ _ _ c.in_ok-size.ensures.reads.pulls c.in_ok-doc_size.ensures.reads.pulls) h.1),
     ))) c.read_text.ensures.once
 

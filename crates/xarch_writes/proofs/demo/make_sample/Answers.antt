@@ -1,4 +1,4 @@
-use Rattle.std.proofs.Common.{◌≡◌, inl, inr, List, ℕ, Ok, Err, sym, ap, ◌∙◌, subst, arith}
+use Rattle.std.proofs.Common.{◌≡◌, inl, inr, List, ℕ, Ok, Err, sym, ap, subst, arith}
 use Rattle.archive_stats.specs.View.{counts_view}
 use Rattle.xarch_meanings.specs.Demo.{IsSampleFile, MakesOrNone, told_and_stored}
 use Rattle.xarch_parts.specs.FolderLaws.{caused-inside, caused-passed, writes-none}

@@ -1,4 +1,7 @@
-use Rattle.std.proofs.Common.{inl, List, ℕ, [], Ok, refl, sym, ◌∙◌, subst}
+use Rattle.std.proofs.Common.{inl, ◌++◌, refl, sym, ◌∙◌}
+use Rattle.std.proofs.Common as std
+use Rattle.std.specs.Prelude.{string_bytes}
+use Rattle.version_notes.specs.Notes.{notes_part}
 use Rattle.std.specs.FinMap as map
 use Rattle.xarch_words.specs.Commands.{rekey}
 use Rattle.xarch_meanings.specs.Plausible.{MayBe}
@@ -18,13 +21,13 @@ returns-in_err-begin g c t n = record {
   gained = inl (gained-none _ _);
 }
 
-pub returns-in_err-bytes : goal.returns-in_err-bytes
-returns-in_err-bytes g c t n = record {
-  keeps = keeps-begun _ _ _ _ _ _ _ c.in_ok-begin.ensures.begins (reads-sized _ _ _ _ _ c.in_ok-begin.ensures.begins.same_files c.in_err-bytes.ensures.reads);
-  caused = caused-passed _ _ _ _ c.from_residual-in_err-bytes.result _ c.from_residual-in_err-bytes.ensures.1 (caused-begun _ _ _ _ _ _ c.in_ok-begin.ensures.begins c.in_err-bytes.ensures.reads);
+pub returns-in_err-file : goal.returns-in_err-file
+returns-in_err-file g c t n = record {
+  keeps = keeps-begun _ _ _ _ _ _ _ c.in_ok-begin.ensures.begins (reads-sized _ _ _ _ _ c.in_ok-begin.ensures.begins.same_files c.in_err-file.ensures.reads);
+  caused = caused-passed _ _ _ _ c.from_residual-in_err-file.result _ c.from_residual-in_err-file.ensures.1 (caused-begun _ _ _ _ _ _ c.in_ok-begin.ensures.begins c.in_err-file.ensures.reads);
   may = λ files told.
-      inl (MayEnd-passed (MayBe files (rekey c.args.archive.now c.args.spec.now)) c.from_residual-in_err-bytes.result c.in_err-bytes.field-0.0 _ t c.from_residual-in_err-bytes.ensures.1
-      (λ q e. c.in_err-bytes.ensures.refused files q (c.in_ok-begin.ensures.begins.same_files ∙ told) e));
+      inl (MayEnd-passed (MayBe files (rekey c.args.archive.now c.args.spec.now)) c.from_residual-in_err-file.result c.in_err-file.field-0.0 _ t c.from_residual-in_err-file.ensures.1
+      (λ q e. c.in_err-file.ensures.refused files q (c.in_ok-begin.ensures.begins.same_files ∙ told) e));
   long_demo = λ long. absurd long;
   one_pass = tt;
   little = tt;
@@ -33,19 +36,19 @@ returns-in_err-bytes g c t n = record {
 
 pub returns : goal.returns
 returns g c t n = record {
-  keeps = keeps-made _ _ _ _ _ _ _ c.in_ok-begin.ensures.begins (reads-sized _ _ _ _ _ c.in_ok-begin.ensures.begins.same_files c.in_ok-bytes.ensures.reads) c.store.ensures.writes;
-  caused = caused-then _ _ _ _ _ _ _ (caused-begun _ _ _ _ _ _ c.in_ok-begin.ensures.begins c.in_ok-bytes.ensures.reads) (c.store.ensures.caused n);
+  keeps = keeps-made _ _ _ _ _ _ _ c.in_ok-begin.ensures.begins (reads-sized _ _ _ _ _ c.in_ok-begin.ensures.begins.same_files c.in_ok-file.ensures.reads) c.store_noted.ensures.writes;
+  caused = caused-then _ _ _ _ _ _ _ (caused-begun _ _ _ _ _ _ c.in_ok-begin.ensures.begins c.in_ok-file.ensures.reads) (c.store_noted.ensures.caused n);
   may = λ files told.
       inl (let name = c.args.archive.now in
       let told1 = c.in_ok-begin.ensures.begins.same_files ∙ told in
-      let told2 = c.in_ok-bytes.ensures.reads.same_files ∙ told1 in
-      let may = subst (λ (b : List ℕ). MayBe files (rekey name c.args.spec.now) (Ok (record { files = map.insert files name b; output = [] }))) (sym c.deref.ensures.value) (c.in_ok-bytes.ensures.file files told1) in
-      MayEnd-stored (MayBe files (rekey name c.args.spec.now)) (map.insert files name c.deref.result.now) c.store.result _ t may (c.store.ensures.stored files told2) c.store.ensures.fault);
+      let told2 = c.in_ok-file.ensures.reads.same_files ∙ told1 in
+      let file = c.in_ok-file.file in
+      MayEnd-stored (MayBe files (rekey name c.args.spec.now)) (map.insert files name (file.core.items ++ notes_part (std.map string_bytes file.notes.items))) c.store_noted.result _ t (c.in_ok-file.ensures.file files told1) (c.store_noted.ensures.stored files told2) c.store_noted.ensures.fault);
   long_demo = λ long. absurd long;
   one_pass = tt;
   little = tt;
   gained = inl (gained-none _ _);
 }
 
-pub store-requires : goal.store-requires
-store-requires g c = record { blank = λ b e. c.in_ok-begin.ensures.begins.blank refl b (sym c.in_ok-bytes.ensures.reads.same_draft ∙ e) }
+pub store_noted-requires : goal.store_noted-requires
+store_noted-requires g c = record { blank = λ b e. c.in_ok-begin.ensures.begins.blank refl b (sym c.in_ok-file.ensures.reads.same_draft ∙ e); follow = c.in_ok-file.ensures.follow }
