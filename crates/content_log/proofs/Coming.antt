@@ -1,5 +1,5 @@
 -- Writing the alternatives that come, one after another.
-use Rattle.std.proofs.Common.{◌≡◌, ◌≢◌, ℕ, ◌+◌, ◌-◌, ◌<◌, ◌≤◌, List, [], ◌∷◌, ◌++◌, length, map, Option, Some, None, Result, Ok, Err, refl, sym, ap, subst, ◌∙◌, arith, length-append}
+use Rattle.std.proofs.Common.{◌≡◌, ◌≢◌, ℕ, ◌+◌, ◌-◌, ◌<◌, ◌≤◌, List, [], ◌∷◌, ◌++◌, length, map, Option, Some, None, Result, Ok, refl, sym, ap, subst, ◌∙◌, arith, length-append}
 use Rattle.std.specs.List.{flat_map}
 use Rattle.archive_tree.specs.Data.{Stamp, PlainAlt}
 use Rattle.keyed_tree.specs.Data.{PlainKey, PlainLabel}
@@ -15,7 +15,7 @@ use Rattle.record_format.specs.Spelling.{rec_bytes}
 use Rattle.record_cursor.specs.Faults.{IfDamage, IfFolder}
 use Rattle.record_cursor.specs.Items.{PlainItem, leaf_item, alt_item, leaf_end_item, finish, item_of}
 use Rattle.record_cursor.specs.Moves.{Comes, Goes, Moves}
-use Rattle.record_cursor.specs.Next.{read_for, size_of}
+use Rattle.record_cursor.specs.Next.{read_for}
 use Rattle.record_cursor.specs.View.{PlainCursor, shown_item}
 use Rattle.record_cursor.specs.declared.fault.CursorFault.{CursorFault}
 use Rattle.record_cursor.specs.declared.fault.CursorFault.TheVariants as fault

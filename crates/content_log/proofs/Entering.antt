@@ -1,5 +1,5 @@
 -- Writing one entry.
-use Rattle.std.proofs.Common.{rules, ◌≡◌, ℕ, ◌≤◌, List, [], ◌∷◌, ◌++◌, Option, Some, None, Result, Ok, Err, refl, sym, ap, subst, ◌∙◌, arith}
+use Rattle.std.proofs.Common.{rules, ◌≡◌, ℕ, ◌≤◌, List, [], ◌++◌, Option, Some, None, Result, Ok, Err, sym, ap, subst, ◌∙◌, arith}
 use Rattle.std.specs.Result.{IsErrAnd}
 use Rattle.std.specs.Prelude.{IsSome}
 use Rattle.jsonml_print.specs.Printed.{tree_text}
@@ -11,8 +11,8 @@ use Rattle.record_parts.specs.Bounds.{deepest, IsValue, IsContent}
 use Rattle.record_parts.specs.Reading.{content_at}
 use Rattle.record_parts.specs.Spelling.{value_bytes, content_bytes}
 use Rattle.record_parts.proofs.Values.{content_reads}
-use Rattle.xa_outside.specs.Causes.{Rose, HasCause}
-use Rattle.xa_outside.specs.Taken.{Taken, Takes, TakesPrefix, Puts}
+use Rattle.xa_outside.specs.Causes.{HasCause}
+use Rattle.xa_outside.specs.Taken.{Taken, Takes, Puts}
 use Rattle.xa_outside.specs.TakenLaws.{Takes-trans, TakesPrefix-none, TakesPrefix-after, TakesPrefix-more}
 use Rattle.content_log.specs.Entries.{ContentIs, EntryPut, IsOutCause, IsScalarKey}
 use Rattle.content_log.specs.Text.{body_text}

@@ -1,6 +1,6 @@
 -- The leaf that a path leads to has the contents of the log.
-use Rattle.std.proofs.Common.{◌≡◌, ◌≢◌, ℕ, ◌+◌, ◌==◌, Bool, true, false, cond, List, [], ◌∷◌, map, Option, Some, None, IsTrue, refl, ap, sym, subst, ◌∙◌, inl, inr}
-use Rattle.std.specs.List.{AllByRecursion, range_with_len}
+use Rattle.std.proofs.Common.{◌≡◌, ◌≢◌, ℕ, List, [], ◌∷◌, map, Option, Some, None, refl, ap, sym, subst, ◌∙◌}
+use Rattle.std.specs.List.{AllByRecursion}
 use Rattle.std.specs.Option.{option_and_then}
 use Rattle.version_set.specs.Members.{members, upto_pairs}
 use Rattle.version_set.proofs.Sets.{members-upto_pairs}
@@ -8,9 +8,9 @@ use Rattle.keyed_tree.specs.Alike.{IsInner, IsLeaf}
 use Rattle.keyed_tree.specs.Data.{PlainKey, PlainLabel, PlainKeyed, inner, leaf, kids_of}
 use Rattle.keyed_tree.specs.Kids.{kid_at}
 use Rattle.keyed_tree.specs.Paths.{node_at}
-use Rattle.archive_tree.specs.Data.{Stamp, eff, PlainAlt, PlainNode, inner_node, leaf_node, PlainNodes, node_label, node_stamp, node_kids, nodes_list, PlainArchive}
+use Rattle.archive_tree.specs.Data.{Stamp, eff, PlainNode, inner_node, leaf_node, PlainNodes, node_stamp, node_kids, nodes_list, PlainArchive}
 use Rattle.archive_tree.specs.Seek.{node_with}
-use Rattle.archive_tree.specs.Stands.{nums, those, passed, under, rooted, numbered, RowStands, StandsFor, EachStands, LeafStands, ArchiveOf}
+use Rattle.archive_tree.specs.Stands.{nums, those, passed, under, rooted, numbered, StandsFor, ArchiveOf}
 use Rattle.archive_tree.proofs.Histories.{node_has, no_node, Row}
 use Rattle.archive_tree.proofs.Parts.{each_has}
 use Rattle.archive_tree.proofs.Readings.{numbers}

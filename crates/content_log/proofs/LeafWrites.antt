@@ -1,11 +1,9 @@
 -- Writing one leaf, and a buffer in front of the output.
-use Rattle.std.proofs.Common.{◌≡◌, ℕ, ◌+◌, ◌≤◌, List, [], ◌∷◌, length, take, Option, Some, None, Result, Ok, Err, OnOk, refl, sym, ap, subst, ◌∙◌, arith}
-use Rattle.archive_tree.specs.Data.{Stamp, PlainAlt, leaf_node}
-use Rattle.keyed_tree.specs.Data.{PlainLabel}
+use Rattle.std.proofs.Common.{◌≡◌, ℕ, ◌≤◌, List, [], take, Option, Some, None, Result, Ok, Err, OnOk, refl, sym, ap, subst, arith}
 use Rattle.version_set.specs.View.{pairs_of}
 use Rattle.xa_outside.specs.Causes.{HasCause}
 use Rattle.xa_outside.specs.Folder.{Files}
-use Rattle.xa_outside.specs.Numbers.{Numbers, IsMeter, PullsAtMost}
+use Rattle.xa_outside.specs.Numbers.{Numbers, IsMeter}
 use Rattle.xa_outside.specs.NumberLaws.{PullsAtMost-none}
 use Rattle.xa_outside.specs.Taken.{Taken, Takes, TakesNone, TakesPrefix}
 use Rattle.xa_outside.specs.TakenLaws.{Takes-nil, Takes-kept, TakesPrefix-none, TakesPrefix-all}
@@ -14,14 +12,12 @@ use Rattle.xa_outside.specs.BufferedLaws.{TakesPrefix-through, Takes-through}
 use Rattle.xa_outside.specs.declared.Failed.{Failed}
 use Rattle.xa_outside.specs.declared.buffered.Buffered.{Buffered}
 use Rattle.std.specs.Result.{IsErrAnd}
-use Rattle.record_cursor.specs.Moves.{TellsFront}
 use Rattle.record_cursor.specs.View.{PlainCursor}
 use Rattle.file_rows.specs.View.{child_view}
-use Rattle.file_history.specs.Leads.{LeafLaid}
 use Rattle.file_history.specs.declared.leaf.LeafAt.{LeafAt}
 use Rattle.file_history.proofs.Opening.{before_child}
 use Rattle.content_log.specs.Told.{IsCaused, IsSound, fault_of}
-use Rattle.content_log.specs.Written.{Seen, seen, Walks, Prefixed, Shows, alts_text, leaf_size, RecordsWritten, LeafWritten}
+use Rattle.content_log.specs.Written.{Seen, seen, Prefixed, Shows, alts_text, RecordsWritten, LeafWritten}
 use Rattle.content_log.specs.declared.fault.LogFault.{LogFault}
 use Rattle.content_log.specs.declared.fault.LogFault.TheVariants.{Damage, Folder, Out, Memory}
 use Rattle.content_log.proofs.Entering.{at-err}

@@ -1,24 +1,23 @@
 -- The lines of a log are those of the leaf that the path leads to.
 use Rattle.std.proofs.Common.{◌≡◌, ◌≢◌, ℕ, ◌+◌, List, [], ◌∷◌, ◌++◌, map, Option, Some, None, Result, Ok, Err, refl, sym, ap, subst, ◌∙◌}
-use Rattle.std.specs.Prelude.{IfErr, IsSomeAnd, ⊤}
+use Rattle.std.specs.Prelude.{IfErr}
 use Rattle.std.specs.List.{flat_map}
 use Rattle.version_set.specs.Members.{members, intervals}
 use Rattle.version_set.specs.Text.{set_text}
 use Rattle.version_set.specs.View.{pairs_of}
 use Rattle.keyed_tree.specs.Data.{PlainLabel, PlainKeyed}
-use Rattle.archive_tree.specs.Data.{Stamp, eff, PlainAlt, PlainNode, inner_node, leaf_node, PlainArchive}
+use Rattle.archive_tree.specs.Data.{Stamp, PlainAlt, PlainNode, inner_node, leaf_node, PlainArchive}
 use Rattle.archive_tree.specs.Stands.{ArchiveOf}
 use Rattle.record_format.specs.Nodes.{set_in}
 use Rattle.xa_outside.specs.Numbers.{Numbers, PullsAtMost}
 use Rattle.xa_outside.specs.NumberLaws.{PullsAtMost-trans}
-use Rattle.xa_outside.specs.Taken.{Taken, Takes, Puts}
-use Rattle.xa_outside.specs.TakenLaws.{Takes-nil}
+use Rattle.xa_outside.specs.Taken.{Taken, Puts}
 use Rattle.file_rows.specs.View.{child_view}
 use Rattle.file_history.specs.Leads.{PlainSpot, node_along, LeafLaid, IsLeafThere, IsLeafOf}
 use Rattle.file_history.specs.declared.fault.HistoryFault.{HistoryFault}
 use Rattle.file_history.specs.declared.fault.HistoryFault.TheVariants as history
 use Rattle.file_history.specs.declared.leaf.LeafAt.{LeafAt}
-use Rattle.content_log.specs.Log.{Entry, log}
+use Rattle.content_log.specs.Log.{log}
 use Rattle.content_log.specs.Text.{body_text, entry_text, last_name, log_text}
 use Rattle.content_log.specs.Told.{IsSound, fault_of, of_history}
 use Rattle.content_log.specs.Written.{Prefixed, alt_text, alts_text, leaf_bytes, leaf_size}

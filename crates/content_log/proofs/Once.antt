@@ -1,5 +1,5 @@
 -- The bodies of some leaves, each once, and their numbers.
-use Rattle.std.proofs.Common.{◌≡◌, ◌≢◌, ℕ, Bool, true, false, not, cond, List, [], ◌∷◌, map, filter, Some, None, refl, ap, sym, subst, ◌∙◌, inl, inr, true≢false}
+use Rattle.std.proofs.Common.{◌≡◌, ◌≢◌, ℕ, Bool, true, false, not, cond, List, [], ◌∷◌, map, filter, refl, ap, sym, subst, ◌∙◌, inl, inr, true≢false}
 use Rattle.std.specs.List.{AllByRecursion}
 use Rattle.std.specs.Ordering.{is_eq, nat_cmp}
 use Rattle.std.specs.declared.cmp.Ordering.TheVariants.{Less}
@@ -10,7 +10,7 @@ use Rattle.keyed_tree.specs.Lists.{Ascends, Has}
 use Rattle.keyed_tree.specs.Order.{key_cmp}
 use Rattle.keyed_tree.proofs.Lists.{all_has, has_map, source, same_items}
 use Rattle.archive_tree.specs.Data.{Stamp, eff, PlainAlt}
-use Rattle.archive_tree.specs.Stands.{nums, those, passed, has_body, nums_with, head_or, first_num, bodies, AltStands, LeafStands}
+use Rattle.archive_tree.specs.Stands.{nums, passed, has_body, nums_with, head_or, first_num, bodies, AltStands, LeafStands}
 use Rattle.archive_tree.proofs.Those.{all_those}
 use Rattle.content_log.specs.Log.{Entry, bodies_in, each_once, entries_of}
 

@@ -1,8 +1,8 @@
 -- The last label of a path.
-use Rattle.std.proofs.Common.{◌≡◌, ℕ, suc, ◌+◌, ◌-◌, Bool, List, [], ◌∷◌, map, length, Some, None, Result, refl, sym, ap, subst, ◌∙◌, arith}
+use Rattle.std.proofs.Common.{◌≡◌, ℕ, suc, ◌-◌, Bool, List, [], ◌∷◌, map, length, Some, None, Result, refl, ap, subst, ◌∙◌, arith}
 use Rattle.std.specs.Prelude.{IfOk, slice_get}
 use Rattle.key_spec.specs.Data.{PlainRule}
-use Rattle.keyed_tree.specs.Data.{PlainLabel, name_bytes}
+use Rattle.keyed_tree.specs.Data.{name_bytes}
 use Rattle.keyed_tree.specs.View.{label_view, name_view}
 use Rattle.keyed_tree.specs.declared.label.Label.{Label}
 use Rattle.content_log.specs.Frontier.{ends, ends_by}

@@ -1,11 +1,10 @@
 -- A leaf that stands in a file is what comes where a cursor stands before it.
-use Rattle.std.proofs.Common.{◌≡◌, ℕ, ◌+◌, ◌-◌, ◌≤◌, List, [], ◌∷◌, ◌++◌, length, map, take, drop, Option, Some, refl, sym, ap, subst, ◌∙◌, arith, length-append, append-nil}
-use Rattle.std.specs.List.{flat_map, AllByRecursion}
+use Rattle.std.proofs.Common.{◌≡◌, ℕ, ◌+◌, ◌≤◌, List, [], ◌∷◌, ◌++◌, length, map, take, drop, Option, Some, refl, sym, ap, subst, ◌∙◌, arith, length-append, append-nil}
+use Rattle.std.specs.List.{flat_map}
 use Rattle.std.proofs.lemmas.List.{drop-take, length-drop}
 use Rattle.archive_tree.specs.Data.{Stamp, PlainAlt, leaf_node}
 use Rattle.keyed_tree.specs.Data.{PlainLabel}
 use Rattle.xa_outside.specs.Folder.{Files}
-use Rattle.record_format.specs.Bounds.{IsRec}
 use Rattle.record_format.specs.Data.{PlainRec, leaf_rec, leaf_end}
 use Rattle.record_format.specs.Nodes.{alt_of, piece_bytes, node_piece}
 use Rattle.record_format.specs.Spelling.{rec_bytes}

@@ -1,7 +1,6 @@
-use Rattle.std.proofs.Common.{◌≡◌, Some, refl, sym, ap, subst}
+use Rattle.std.proofs.Common.{Some, refl, sym, ap, subst}
 use Rattle.version_set.specs.View.{pairs_of}
 use Rattle.archive_tree.specs.Data.{PlainAlt}
-use Rattle.record_cursor.specs.Items.{alt_item}
 use Rattle.record_cursor.specs.View.{shown_item}
 use Rattle.record_parts.specs.ShownViews.{shown_body, shown_stamp}
 use Rattle.content_log.specs.Written.{Seen, seen, AltsWritten}

@@ -1,4 +1,3 @@
-use Rattle.std.proofs.Common.{[], ◌∷◌, ◌++◌}
 use Rattle.version_set.specs.View.{pairs_of}
 use Rattle.record_parts.specs.ShownViews.{shown_body, shown_stamp}
 use Rattle.content_log.specs.Entries.{EntryPut}

@@ -1,4 +1,4 @@
-use Rattle.std.proofs.Common.{◌≡◌, ℕ, List, [], ◌∷◌, ◌++◌, Some, None}
+use Rattle.std.proofs.Common.{ℕ, List, [], ◌∷◌, ◌++◌, Some, None}
 use Rattle.record_parts.specs.ShownViews.{shown_body}
 use Rattle.content_log.specs.Entries.{EntryPut}
 use Rattle.content_log.specs.Text.{body_text}

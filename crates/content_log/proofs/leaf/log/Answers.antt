@@ -1,5 +1,4 @@
-use Rattle.std.proofs.Common.{◌≡◌, ◌≢◌, ◌+◌, ℕ, List, [], map, Option, sym, subst, arith}
-use Rattle.version_set.specs.View.{pairs_of}
+use Rattle.std.proofs.Common.{◌≢◌, ◌+◌, ℕ, List, [], map, Option, sym, subst, arith}
 use Rattle.keyed_tree.specs.View.{label_view}
 use Rattle.xa_outside.specs.Folder.{Files}
 use Rattle.xa_outside.specs.NumberLaws.{PullsAtMost-more}
@@ -14,8 +13,7 @@ use Rattle.content_log.specs.Text.{log_text}
 use Rattle.content_log.specs.Written.{Prefixed}
 use Rattle.content_log.specs.declared.fault.LogFault.{LogFault}
 use Rattle.content_log.specs.declared.fault.LogFault.TheVariants.{Damage}
-use Rattle.content_log.proofs.Logs.{Found, leaf-found, none-logged, log-text, log-none, pulls-both, puts-of, undamaged-of, search-undamaged}
-use Rattle.content_log.proofs.leaf.log.Given.{Over}
+use Rattle.content_log.proofs.Logs.{leaf-found, none-logged, log-text, log-none, pulls-both, puts-of, undamaged-of, search-undamaged}
 use Rattle.content_log.proofs.leaf.log.Goals as goal
 
 pub returns-in-Ok-Some-clause-lines : goal.returns-in-Ok-Some-clause-lines
