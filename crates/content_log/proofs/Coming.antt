@@ -15,7 +15,7 @@ use Rattle.record_format.specs.Spelling.{rec_bytes}
 use Rattle.record_cursor.specs.Faults.{IfDamage, IfFolder}
 use Rattle.record_cursor.specs.Items.{PlainItem, leaf_item, alt_item, leaf_end_item, finish, item_of}
 use Rattle.record_cursor.specs.Moves.{Comes, Goes, Moves}
-use Rattle.record_cursor.specs.Next.{read_for}
+use Rattle.record_cursor.specs.Next.{read_for, size_of}
 use Rattle.record_cursor.specs.View.{PlainCursor, shown_item}
 use Rattle.record_cursor.specs.declared.fault.CursorFault.{CursorFault}
 use Rattle.record_cursor.specs.declared.fault.CursorFault.TheVariants as fault
@@ -25,7 +25,7 @@ use Rattle.record_parts.specs.declared.views.BodyView.{BodyView}
 use Rattle.record_parts.specs.declared.views.LabelView.{LabelView}
 use Rattle.record_parts.specs.declared.views.StampView.{StampView}
 use Rattle.record_cursor.proofs.ItemLaws.{comes-on}
-use Rattle.record_cursor.proofs.Pulled.{size-least}
+use Rattle.record_cursor.proofs.Pulled.{read-within, size-least}
 use Rattle.content_log.specs.Entries.{EntryPut, IsOutCause}
 use Rattle.content_log.specs.Told.{IsCaused, IsSound, of_cursor}
 use Rattle.content_log.specs.Written.{Seen, Walks, Prefixed, Shows, alt_text, alts_text, AltsCome, alts_size, AltsWritten, RecordsWritten}
@@ -41,13 +41,25 @@ cause-later a b c x y z (Some Folder) le out h = omega (arith, le, h)
 cause-later a b c x y z (Some Out) le out h = omega (arith, out, h)
 cause-later a b c x y z (Some Memory) le out h = tt
 
-pub walks-then : (s t u : Seen) (e : Option LogFault) → Walks s t None → Walks t u e → Walks s u e
-walks-then s t u e h g = record {
+pub walks-more : (a b : ℕ) (s t : Seen) (e : Option LogFault) → a ≤ b → Walks a s t e → Walks b s t e
+walks-more a b s t e le h = record {
+  same_files = h.same_files;
+  same_draft = h.same_draft;
+  later = h.later;
+  out_later = h.out_later;
+  cause = h.cause;
+  pulls = PullsAtMost-more a b s.numbers t.numbers le h.pulls;
+  gained = h.gained;
+}
+
+pub walks-then : (a b n : ℕ) (s t u : Seen) (e : Option LogFault) → a + b ≤ n → Walks a s t None → Walks b t u e → Walks n s u e
+walks-then n m most s t u e le h g = record {
   same_files = g.same_files ∙ h.same_files;
   same_draft = g.same_draft ∙ h.same_draft;
   later = (let a = h.later in let b = g.later in omega (arith, a, b));
   out_later = (let a = h.out_later in let b = g.out_later in omega (arith, a, b));
   cause = cause-later s.faults t.faults u.faults s.out_faults t.out_faults u.out_faults e h.later h.out_later g.cause;
+  pulls = PullsAtMost-more (n + m) most s.numbers u.numbers le (PullsAtMost-trans n m s.numbers t.numbers u.numbers h.pulls g.pulls);
   gained = (let a = h.gained in let b = g.gained in (a.0 ++ b.0, Takes-trans s.taken t.taken u.taken a.0 b.0 a.1 b.1));
 }
 
@@ -76,15 +88,23 @@ given c d s t r i is files draft numbers later moves taken out =
     record { files = files; draft = draft; numbers = numbers; later = later; goes = subst (λ (x : Result Item CursorFault). Moves s.files c x d) is moves; taken = taken; out_faults = out }
 
 -- an item that is read takes nothing from the output
-pub given-walks : (c d : PlainCursor) (s t : Seen) (i : Item) (e : Option LogFault) → Given c d s t i → IsCaused s.faults t.faults s.out_faults t.out_faults e → Walks s t e
+pub given-walks : (c d : PlainCursor) (s t : Seen) (i : Item) (e : Option LogFault) → Given c d s t i → IsCaused s.faults t.faults s.out_faults t.out_faults e → Walks (size_of c.standing (shown_item i)) s t e
 given-walks c d s t i e g cause = record {
   same_files = g.files;
   same_draft = g.draft;
   later = g.later;
   out_later = (let same = g.out_faults in omega (arith, same));
   cause = cause;
+  pulls = PullsAtMost-of (size_of c.standing (shown_item i)) (read_for c.standing (shown_item i)) s.numbers t.numbers (read-within c.standing (shown_item i)) g.numbers;
   gained = ([], subst (λ x. Takes s.taken x []) (sym g.taken) (Takes-nil s.taken));
 }
+
+-- an item is within what is left
+item-room : (told : Option Files) (c d : PlainCursor) (i : Item) → Goes told c i d → size_of c.standing (shown_item i) + (d.length - d.at) ≤ c.length - c.at
+item-room told c d i goes = omega (arith, goes.moved, goes.within, goes.same_length)
+
+item-within : (told : Option Files) (c d : PlainCursor) (i : Item) → Goes told c i d → size_of c.standing (shown_item i) ≤ c.length - c.at
+item-within told c d i goes = (let room = item-room told c d i goes in omega (arith, room))
 
 -- the cursor failed
 pub record Missed (c : PlainCursor) (s t : Seen) (f : CursorFault) : Type 0 where
@@ -94,6 +114,7 @@ pub record Missed (c : PlainCursor) (s t : Seen) (f : CursorFault) : Type 0 wher
   pub cause : IfFolder f (Rose s.faults t.faults)
   pub taken : t.taken ≡ s.taken
   pub out_faults : t.out_faults ≡ s.out_faults
+  pub pulls : PullsAtMost (c.length - c.at) s.numbers t.numbers
   pub undamaged : (i : PlainItem) (is : List PlainItem) → Comes s.files c (i ∷ is) → IfDamage f ⊥
   pub reads : (i : PlainItem) (is : List PlainItem) → Comes s.files c (i ∷ is) → PullsAtMost (read_for c.standing i) s.numbers t.numbers
 
@@ -107,13 +128,14 @@ missed-sound fault.Damage h = h
 missed-sound fault.Folder h = tt
 missed-sound fault.Memory h = tt
 
-pub missed-walks : (c : PlainCursor) (s t : Seen) (f : CursorFault) → Missed c s t f → Walks s t (Some (of_cursor f))
+pub missed-walks : (c : PlainCursor) (s t : Seen) (f : CursorFault) → Missed c s t f → Walks (c.length - c.at) s t (Some (of_cursor f))
 missed-walks c s t f m = record {
   same_files = m.files;
   same_draft = m.draft;
   later = m.later;
   out_later = (let same = m.out_faults in omega (arith, same));
   cause = missed-cause s.faults t.faults s.out_faults t.out_faults f m.cause;
+  pulls = m.pulls;
   gained = ([], subst (λ x. Takes s.taken x []) (sym m.taken) (Takes-nil s.taken));
 }
 
@@ -171,7 +193,7 @@ alt-same s r b d e = (ap stamp e, ap body e)
 module _ (tag : List ℕ) (set : List (ℕ × ℕ)) (c d : PlainCursor) (s m : Seen) (i : Item) (g : Given c d s m i) where
   -- their end
   pub alts-end : shown_item i ≡ leaf_end_item → AltsWritten tag set c s m None
-  alts-end is = record { walks = given-walks c d s m i None g tt; shows = ends }
+  alts-end is = record { walks = walks-more (size_of c.standing (shown_item i)) (c.length - c.at) s m None (item-within s.files c d i g.goes) (given-walks c d s m i None g tt); shows = ends }
     where
       ends : (xs : List PlainAlt) → AltsCome s.files c xs → Shows (alts_text tag set xs) (alts_size xs) s m None
       ends [] comes = record {
@@ -183,7 +205,7 @@ module _ (tag : List ℕ) (set : List (ℕ × ℕ)) (c d : PlainCursor) (s m : S
 
   -- another item
   pub alts-damage : ((t : Stamp) (b : PlainKey) → shown_item i ≢ alt_item t b) → shown_item i ≢ leaf_end_item → AltsWritten tag set c s m (Some Damage)
-  alts-damage no-alt no-end = record { walks = given-walks c d s m i (Some Damage) g tt; shows = none }
+  alts-damage no-alt no-end = record { walks = walks-more (size_of c.standing (shown_item i)) (c.length - c.at) s m (Some Damage) (item-within s.files c d i g.goes) (given-walks c d s m i (Some Damage) g tt); shows = none }
     where
       none : (xs : List PlainAlt) → AltsCome s.files c xs → Shows (alts_text tag set xs) (alts_size xs) s m (Some Damage)
       none [] comes = absurd (no-end (comes-on s.files c d i leaf_end_item [] comes g.goes).0)
@@ -208,13 +230,14 @@ module _ (tag : List ℕ) (set : List (ℕ × ℕ)) (c d : PlainCursor) (s m : S
           next = subst (λ (f : Option Files). AltsCome f d ys) (sym g.files) on.1;
         }
 
-    entry-walks : (e : Option LogFault) → EntryPut s.taken t.taken s.out_faults t.out_faults (alt_text tag set x) e → Walks s t e
+    entry-walks : (e : Option LogFault) → EntryPut s.taken t.taken s.out_faults t.out_faults (alt_text tag set x) e → Walks (size_of c.standing (shown_item i)) s t e
     entry-walks e p = record {
       same_files = files ∙ g.files;
       same_draft = draft ∙ g.draft;
       later = (let l = g.later in omega (arith, l, faults));
       out_later = p.later;
       cause = out-cause e p.cause;
+      pulls = PullsAtMost-of (size_of c.standing (shown_item i)) (read_for c.standing (shown_item i)) s.numbers t.numbers (read-within c.standing (shown_item i)) (numbers ∙ g.numbers);
       gained = gained e p.bytes;
     }
       where
@@ -234,7 +257,7 @@ module _ (tag : List ℕ) (set : List (ℕ × ℕ)) (c d : PlainCursor) (s m : S
 
     -- not to its end
     pub alts-cut : (e : LogFault) → EntryPut s.taken t.taken s.out_faults t.out_faults (alt_text tag set x) (Some e) → AltsWritten tag set c s t (Some e)
-    alts-cut e p = record { walks = entry-walks (Some e) p; shows = cut }
+    alts-cut e p = record { walks = walks-more (size_of c.standing (shown_item i)) (c.length - c.at) s t (Some e) (item-within s.files c d i g.goes) (entry-walks (Some e) p); shows = cut }
       where
         sound : (e : LogFault) → IsOutCause s.out_faults t.out_faults (Some e) → IsSound (Some e)
         sound Damage h = h
@@ -254,7 +277,7 @@ module _ (tag : List ℕ) (set : List (ℕ × ℕ)) (c d : PlainCursor) (s m : S
 
     -- and the others behind it
     pub alts-then : (u : Seen) (e : Option LogFault) → EntryPut s.taken t.taken s.out_faults t.out_faults (alt_text tag set x) None → AltsWritten tag set d t u e → AltsWritten tag set c s u e
-    alts-then u e p h = record { walks = walks-then s t u e (entry-walks None p) h.walks; shows = both }
+    alts-then u e p h = record { walks = walks-then (size_of c.standing (shown_item i)) (d.length - d.at) (c.length - c.at) s t u e (item-room s.files c d i g.goes) (entry-walks None p) h.walks; shows = both }
       where
         both-first : (ys : List PlainAlt) → AltsCome m.files d ys → Shows (alts_text tag set (x ∷ ys)) (alts_size (x ∷ ys)) s u e
         both-first ys next =
@@ -323,16 +346,16 @@ module _ (tag : List ℕ) (set : List (ℕ × ℕ)) (c d : PlainCursor) (s m : S
   -- another item
   pub records-damage : ((l : PlainLabel) (t : Stamp) → shown_item i ≢ leaf_item l t) → RecordsWritten tag set c s m (Some Damage)
   records-damage other = record {
-    walks = given-walks c d s m i (Some Damage) g tt;
+    walks = walks-more (size_of c.standing (shown_item i)) (c.length - c.at) s m (Some Damage) (item-within s.files c d i g.goes) (given-walks c d s m i (Some Damage) g tt);
     shows = λ l stamp xs comes. absurd (other l stamp (comes-on s.files c d i (leaf_item l stamp) _ comes g.goes).0);
   }
 
-  given-none : Walks s m None
+  given-none : Walks (size_of c.standing (shown_item i)) s m None
   given-none = given-walks c d s m i None g tt
 
   -- the record that opens it, and the alternatives behind it
   pub records-then : (u : Seen) (e : Option LogFault) → AltsWritten tag set d m u e → RecordsWritten tag set c s u e
-  records-then u e h = record { walks = walks-then s m u e given-none h.walks; shows = opened }
+  records-then u e h = record { walks = walks-then (size_of c.standing (shown_item i)) (d.length - d.at) (c.length - c.at) s m u e (item-room s.files c d i g.goes) given-none h.walks; shows = opened }
     where
       taken-as : (e : Option LogFault) (text : List ℕ) → Prefixed m.taken u.taken e text → Prefixed s.taken u.taken e text
       taken-as e text p = subst (λ x. Prefixed x u.taken e text) g.taken p

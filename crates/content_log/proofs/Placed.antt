@@ -48,13 +48,19 @@ pub size-is : (parent : List (ℕ × ℕ)) (l : PlainLabel) (s : Stamp) (xs : Li
 size-is parent l s xs = length-append (rec_bytes (leaf_rec l s)) (flat_map rec_bytes (alt_records xs)) ∙ ap (λ (n : ℕ). length (rec_bytes (leaf_rec l s)) + n) (records-bytes xs)
 
 module _ (told : Option Files) (name bytes : List ℕ) (size : ℕ) (child : PlainChild) (set parent : List (ℕ × ℕ)) (l : PlainLabel) (s : Stamp) (xs : List PlainAlt) where
-  pub leaf-comes : (c : PlainCursor) → c ≡ before_child name 0 child → TellsFront told name size bytes → LeafLaid bytes child set parent (leaf_node l s xs) → Comes told c (leaf_item l s ∷ alt_items xs)
-  leaf-comes c is tells laid =
+  -- it ends within the file
+  pub leaf-fits : TellsFront told name size bytes → LeafLaid bytes child set parent (leaf_node l s xs) → child.end ≤ size
+  leaf-fits tells laid =
       let part = piece_bytes (node_piece parent (leaf_node l s xs)) in
       let len = front-length told name bytes size tells in
       let within = stands-within bytes child.first part laid.stands.stands in
       let some : 9 ≤ length part = omega (arith, length-append (rec_bytes (leaf_rec l s)) (flat_map rec_bytes (alt_records xs))) in
-      let fits : child.end ≤ size = omega (arith, len, within, some, length-drop child.first bytes, laid.stands.end) in
+      omega (arith, len, within, some, length-drop child.first bytes, laid.stands.end)
+
+  pub leaf-comes : (c : PlainCursor) → c ≡ before_child name 0 child → TellsFront told name size bytes → LeafLaid bytes child set parent (leaf_node l s xs) → Comes told c (leaf_item l s ∷ alt_items xs)
+  leaf-comes c is tells laid =
+      let part = piece_bytes (node_piece parent (leaf_node l s xs)) in
+      let fits = leaf-fits tells laid in
       let here : drop child.first (take child.end bytes) ≡ part ++ [] =
       ap (λ (n : ℕ). drop child.first (take n bytes)) laid.stands.end ∙ drop-take child.first (length part) bytes ∙ laid.stands.stands ∙ sym (append-nil part) in
       let gives : Gives (among_nodes 0) (part ++ []) (leaf_item l s ∷ map item_of (alt_records xs)) (among_nodes 0) [] =

@@ -1,5 +1,5 @@
 -- What the writing of a log does.
-use Rattle.std.specs.Prelude.{◌≡◌, ℕ, ◌+◌, ◌≤◌, List, [], ◌∷◌, ◌++◌, length, map, Option, Some, None}
+use Rattle.std.specs.Prelude.{◌≡◌, ℕ, ◌+◌, ◌-◌, ◌≤◌, List, [], ◌∷◌, ◌++◌, length, map, Option, Some, None}
 use Rattle.std.specs.List.{flat_map}
 use Rattle.version_set.specs.Members.{intervals, members}
 use Rattle.version_set.specs.Text.{set_text}
@@ -43,13 +43,15 @@ seen files draft numbers faults taken out_faults folder sink =
       out_faults = out_faults sink;
     }
 
--- Whatever the file is: the folder's files and draft stay, the counts of faults do not fall, and the output only gains.
-pub record Walks (s t : Seen) (ended : Option LogFault) : Type 0 where
+-- Whatever the file is: the folder's files and draft stay, the counts of faults do not fall, at most so many bytes are pulled, and the
+-- output only gains.
+pub record Walks (most : ℕ) (s t : Seen) (ended : Option LogFault) : Type 0 where
   pub same_files : t.files ≡ s.files
   pub same_draft : t.draft ≡ s.draft
   pub later : s.faults ≤ t.faults
   pub out_later : s.out_faults ≤ t.out_faults
   pub cause : IsCaused s.faults t.faults s.out_faults t.out_faults ended
+  pub pulls : PullsAtMost most s.numbers t.numbers
   pub gained : (bytes : List ℕ) × Takes s.taken t.taken bytes
 
 -- the output took these bytes, or a prefix of them on a fault
@@ -92,18 +94,18 @@ leaf_bytes (Some p) = leaf_size p.parent p.node
 
 -- Alternatives were written, or it is said why not: whatever the file is, and where they come.
 pub record AltsWritten (tag : List ℕ) (set : List (ℕ × ℕ)) (c : PlainCursor) (s t : Seen) (ended : Option LogFault) : Type 0 where
-  pub walks : Walks s t ended
+  pub walks : Walks (c.length - c.at) s t ended
   pub shows : (xs : List PlainAlt) → AltsCome s.files c xs → Shows (alts_text tag set xs) (alts_size xs) s t ended
 
 -- The leaf that comes was written, or it is said why not.
 pub record RecordsWritten (tag : List ℕ) (set : List (ℕ × ℕ)) (c : PlainCursor) (s t : Seen) (ended : Option LogFault) : Type 0 where
-  pub walks : Walks s t ended
+  pub walks : Walks (c.length - c.at) s t ended
   pub shows : (l : PlainLabel) (stamp : Stamp) (xs : List PlainAlt) → Comes s.files c (leaf_item l stamp ∷ (map (λ x. item_of (alt_of x)) xs ++ leaf_end_item ∷ []))
       → Shows (alts_text tag set xs) (length (rec_bytes (leaf_rec l stamp)) + alts_size xs) s t ended
 
 -- A leaf was written, or it is said why not: whatever the file is, and where it stands there.
-pub record LeafWritten (name tag : List ℕ) (at : LeafAt) (s t : Seen) (ended : Option LogFault) : Type 0 where
-  pub walks : Walks s t ended
-  pub shows : (size : ℕ) (bytes : List ℕ) (parent : List (ℕ × ℕ)) (l : PlainLabel) (stamp : Stamp) (xs : List PlainAlt) → TellsFront s.files name size bytes
+pub record LeafWritten (name tag : List ℕ) (size : ℕ) (at : LeafAt) (s t : Seen) (ended : Option LogFault) : Type 0 where
+  pub walks : Walks size s t ended
+  pub shows : (bytes : List ℕ) (parent : List (ℕ × ℕ)) (l : PlainLabel) (stamp : Stamp) (xs : List PlainAlt) → TellsFront s.files name size bytes
       → LeafLaid bytes (child_view at.child) (pairs_of at.set) parent (leaf_node l stamp xs)
       → Shows (alts_text tag (pairs_of at.set) xs) (leaf_size parent (leaf_node l stamp xs)) s t ended

@@ -29,8 +29,9 @@ pub(crate) fn put_leaf<F: Folder, K: Sink>(
     tag: &str,
     sink: &mut K,
 ) -> Result<(), LogFault>
-    requires { IsHeader (header_view header.now) }
-    ensures { LeafWritten name.now tag.now leaf.now
+    requires header { IsHeader (header_view header.now) }
+    requires within { leaf.now.child.end ≤ (header_view header.now).length }
+    ensures { LeafWritten name.now tag.now (header_view header.now).length leaf.now
         (seen F.files F.draft F.numbers F.faults K.taken K.faults folder.old sink.old)
         (seen F.files F.draft F.numbers F.faults K.taken K.faults folder.new sink.new)
         (fault_of result) }

@@ -1,5 +1,5 @@
 // Writing the log of a leaf.
-ghost use Rattle.std.specs.Prelude.{◌≡◌, ◌≢◌, ◌+◌, ◌≤◌, ℕ, List, map, IfErr};
+ghost use Rattle.std.specs.Prelude.{◌≡◌, ◌≢◌, ◌+◌, ◌-◌, ◌≤◌, ℕ, List, map, IfErr};
 ghost use Rattle.key_spec.specs.Data.{PlainRule};
 ghost use Rattle.keyed_tree.specs.Data.{PlainKeyed, name_bytes};
 ghost use Rattle.keyed_tree.specs.View.{label_view, name_view};
@@ -64,7 +64,11 @@ pub fn log<F: Folder, O: Sink, L: Ledger>(
     ensures cause { IsCaused (F.faults folder.old) (F.faults folder.new) (O.faults out.old)
         (O.faults out.new) (fault_of result) }
 
-    // Over a sound archive no more is read than the tail, what the search looks at, and the leaf.
+    // Whatever the file is, no more bytes are pulled than it has behind its header, for the search,
+    // and than it has, for the leaf; over a sound archive no more than the tail has, the search looks
+    // at, and the leaf has.
+    ensures pulls { PullsAtMost ((header_view header.now).length - (header_view header.now).first
+        + (header_view header.now).length) (F.numbers folder.old) (F.numbers folder.new) }
     ensures few { (bytes : List ℕ) (rules : List PlainRule) (vs : List PlainKeyed)
         (a : PlainArchive)
         → TellsFront (F.files folder.old) name.now (header_view header.now).length bytes
@@ -104,7 +108,7 @@ fn name_of(name: &Name) -> &str
     }
 }
 
-// Writes the entries of a leaf, over a buffer.
+// Writes the entries of a leaf, over a buffer. One that goes on behind the file is damage.
 fn write_leaf<F: Folder, O: Sink>(
     alloc: Global,
     folder: &mut F,
@@ -115,11 +119,14 @@ fn write_leaf<F: Folder, O: Sink>(
     out: &mut O,
 ) -> Result<(), LogFault>
     requires { IsHeader (header_view header.now) }
-    ensures { LeafWritten name.now tag.now leaf.now
+    ensures { LeafWritten name.now tag.now (header_view header.now).length leaf.now
         (seen F.files F.draft F.numbers F.faults O.taken O.faults folder.old out.old)
         (seen F.files F.draft F.numbers F.faults O.taken O.faults folder.new out.new)
         (fault_of result) }
 {
+    if leaf.child.end > header.length {
+        return Err(LogFault::Damage);
+    }
     let mut buffered = Buffered::new(out);
     put_leaf(alloc, folder, name, header, leaf, tag, &mut buffered)?;
     buffered.flush()?;

@@ -29,6 +29,7 @@ returns-in-Err g c =
       cause = e.ensures.cause;
       taken = refl;
       out_faults = refl;
+      pulls = e.ensures.pulls;
       undamaged = e.ensures.undamaged;
       reads = e.ensures.reads;
     } in
