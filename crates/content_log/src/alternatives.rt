@@ -1,10 +1,6 @@
 // Writing the alternatives of a leaf, one after another.
-ghost use Rattle.std.specs.Prelude.{◌≡◌, ◌≤◌, ◌+◌, ◌-◌, ℕ, List};
+ghost use Rattle.std.specs.Prelude.{◌≤◌};
 ghost use Rattle.version_set.specs.View.{pairs_of};
-ghost use Rattle.archive_tree.specs.Data.{PlainNode};
-ghost use Rattle.file_history.specs.Leads.{LeafLaid};
-ghost use Rattle.file_rows.specs.View.{child_view};
-ghost use Rattle.record_cursor.specs.Moves.{TellsFront};
 ghost use Rattle.record_cursor.specs.View.{IsHeader, header_view};
 ghost use Rattle.content_log.specs.Told.{fault_of};
 ghost use Rattle.content_log.specs.Written.{AltsWritten, LeafWritten, RecordsWritten, seen};

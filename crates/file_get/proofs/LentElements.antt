@@ -1,10 +1,10 @@
 -- Writing an element out of the bytes of its content.
-use Rattle.std.proofs.Common.{◌≡◌, ℕ, ◌≤◌, List, [], ◌∷◌, ◌++◌, Option, Some, None, Result, Ok, Err, refl, sym, ap, subst, ◌∙◌, append-nil}
+use Rattle.std.proofs.Common.{◌≡◌, ℕ, ◌≤◌, List, [], ◌∷◌, ◌++◌, Option, Some, None, Err, refl, sym, ap, subst, ◌∙◌, append-nil}
 use Rattle.std.specs.Option.{option_map}
 use Rattle.std.specs.Prelude.{IsSome, ⊤}
 use Rattle.xa_fields.specs.Reading.{whole}
 use Rattle.xa_outside.specs.Causes.{Rose, HasCause}
-use Rattle.xa_outside.specs.Taken.{Taken, Takes, TakesPrefix}
+use Rattle.xa_outside.specs.Taken.{Takes, TakesPrefix}
 use Rattle.xa_outside.specs.TakenLaws.{TakesPrefix-more}
 use Rattle.jsonml_tree.specs.Data.{PlainContent, element}
 use Rattle.jsonml_print.specs.Calls.{Call, begin, printed, reached, calls_of, content_calls}
@@ -14,7 +14,7 @@ use Rattle.jsonml_print.proofs.TreeWalk.{calls_print}
 use Rattle.jsonml_print.proofs.Walks.{printed-append}
 use Rattle.record_parts.specs.Bounds.{deepest}
 use Rattle.record_parts.specs.Reading.{content_at}
-use Rattle.file_get.specs.LentPrinted.{Output, Reading, whole_calls, whole_element, ahead, Made, Stopped, Damaged, PrintsRead}
+use Rattle.file_get.specs.LentPrinted.{Output, Reading, whole_calls, whole_element, ahead, Made, PrintsRead}
 use Rattle.file_get.specs.declared.fault.GetFault.{GetFault}
 use Rattle.file_get.specs.declared.fault.GetFault.TheVariants.{NoVersion, Damage, Folder, Out, Memory}
 use Rattle.file_get.proofs.LentReadings.{in_turn, ended, calls-are}

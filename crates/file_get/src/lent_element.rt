@@ -1,5 +1,5 @@
 // Writing one element straight out of the bytes of its content. It takes no memory.
-ghost use Rattle.std.specs.Prelude.{◌≡◌, ℕ, List, [], Some, IsSome};
+ghost use Rattle.std.specs.Prelude.{◌≡◌, [], Some, IsSome};
 ghost use Rattle.xa_fields.specs.Reading.{whole};
 ghost use Rattle.xa_outside.specs.Causes.{HasCause};
 ghost use Rattle.xa_outside.specs.Taken.{Puts};

@@ -1,5 +1,4 @@
 use Rattle.std.proofs.Common.{◌+◌, map, drop, refl, ap, subst, ◌∙◌, arith, ℕ, Ok, None, Option}
-use Rattle.version_set.specs.Members.{members}
 use Rattle.version_set.specs.View.{pairs_of}
 use Rattle.keyed_tree.specs.View.{label_view}
 use Rattle.archive_tree.specs.Data.{nodes_list}
