@@ -320,7 +320,7 @@ content-read bytes b e = found (whole (content_at deepest) bytes) e
 
 -- ---- what that says of a leaf
 
-calls-are : (done calls : List Call) (x : List Call × List ℕ) → ahead done (Some x) ≡ Some (calls, []) → done ++ x.0 ≡ calls
+pub calls-are : (done calls : List Call) (x : List Call × List ℕ) → ahead done (Some x) ≡ Some (calls, []) → done ++ x.0 ≡ calls
 calls-are done calls x e = ap (λ (y : List Call × List ℕ). y.0) (some_is (done ++ x.0, x.1) (calls, []) e)
 
 module _ {S K : Type 0} (files : S → Option Files) (draft : S → Option (List ℕ)) (numbers : S → Numbers) (faults : S → ℕ) (taken : K → Taken) (out_faults : K → ℕ) (folder : S) (a b : K) (p q : Pen) (n : ℕ) (read : Reading) where

@@ -4,6 +4,7 @@ pub mod States
 pub mod Pens
 pub mod Opened
 pub mod LentReadings
+pub mod LentElements
 pub mod Leaves
 pub mod Attributes
 pub mod Elements

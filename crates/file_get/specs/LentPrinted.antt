@@ -3,9 +3,9 @@ use Rattle.std.specs.Prelude.{◌≡◌, ℕ, ◌≤◌, List, [], ◌++◌, Opt
 use Rattle.xa_outside.specs.Causes.{Rose}
 use Rattle.xa_outside.specs.Taken.{Taken, Takes, TakesPrefix}
 use Rattle.xa_fields.specs.Reading.{whole}
-use Rattle.jsonml_tree.specs.Data.{PlainTree, trees_of}
+use Rattle.jsonml_tree.specs.Data.{PlainTree, element, trees_of}
 use Rattle.jsonml_print.specs.Pen.{Pen}
-use Rattle.jsonml_print.specs.Calls.{Call, printed, reached, content_calls, items_calls}
+use Rattle.jsonml_print.specs.Calls.{Call, printed, reached, calls_of, content_calls, items_calls}
 use Rattle.record_parts.specs.Bounds.{deepest}
 use Rattle.record_parts.specs.Reading.{content_at}
 use Rattle.file_get.specs.declared.fault.GetFault.{GetFault}
@@ -34,6 +34,10 @@ items_calls_of ts = items_calls (trees_of ts)
 -- the calls for the content that all of the bytes are
 abbrev pub whole_calls : List ℕ → Reading
 whole_calls bytes = option_map (λ c. (content_calls c, [])) (whole (content_at deepest) bytes)
+
+-- the calls for the element of a tag with the content that all of the bytes are
+abbrev pub whole_element : List ℕ → List ℕ → Reading
+whole_element tag bytes = option_map (λ c. (calls_of (element tag c), [])) (whole (content_at deepest) bytes)
 
 -- calls in front of those for what is read
 abbrev pub ahead : List Call → Reading → Reading

@@ -7,6 +7,7 @@ mod bytes;
 mod fault;
 mod fixed;
 mod lent_content;
+mod lent_element;
 mod look;
 mod print;
 mod read;
@@ -17,4 +18,5 @@ mod version;
 mod walk;
 
 pub use fault::GetFault;
+pub use lent_element::write_lent_element;
 pub use version::get;

@@ -37,6 +37,7 @@ end-dir ps h = (all-back IsRec (records_of ps) (end_rec (dir_of ps) ∷ []) h).0
 -- of a node: its opening record, and those of its kids
 record Records (parent : List (ℕ × ℕ)) (k : PlainNode) : Type 0 where
   opens : IsRec (opening k)
+  all : AllByRecursion IsRec (node_piece parent k).records
   inside : (l : PlainLabel) (s : Stamp) (ks : PlainNodes) → k ≡ inner_node l s ks → AllByRecursion IsRec (closed_by_end (node_pieces (set_in s parent) ks))
 
 inner-is : (l m : PlainLabel) (s t : Stamp) (ks js : PlainNodes) → inner_node l s ks ≡ inner_node m t js → (s ≡ t) × (ks ≡ js)
@@ -45,11 +46,12 @@ inner-is l m s t ks js e = (ap node_stamp e, ap node_kids e)
 records-in : (parent : List (ℕ × ℕ)) (k : PlainNode) → AllByRecursion IsRec (node_piece parent k).records → Records parent k
 records-in parent (inner_node l s ks) h = record {
   opens = h.0;
+  all = h;
   inside = λ m t js e. (
       let two = inner-is l m s t ks js e in
       subst (λ (u : Stamp). AllByRecursion IsRec (closed_by_end (node_pieces (set_in u parent) js))) two.0 (subst (λ (is : PlainNodes). AllByRecursion IsRec (closed_by_end (node_pieces (set_in s parent) is))) two.1 h.1));
 }
-records-in parent (leaf_node l s xs) h = record { opens = h.0; inside = λ m t js e. absurd cc }
+records-in parent (leaf_node l s xs) h = record { opens = h.0; all = h; inside = λ m t js e. absurd cc }
 
 row-records : (parent : List (ℕ × ℕ)) (ks : PlainNodes) → AllByRecursion IsRec (records_of (node_pieces parent ks)) → AllByRecursion (Records parent) (nodes_list ks)
 row-records parent no_nodes h = tt
@@ -135,6 +137,11 @@ found-row told name bytes depth deeper row parent ks w k f step h e is =
     let has = (node_has w k (nodes_list ks) e).0 in
     inside-row told name bytes depth deeper row parent ks k f step h (kids_sorted w ks k h.sorted e) (all-has (Records parent) k (nodes_list ks) records has)
     (all-has (λ j. IsTrue (is_nested (deepest - depth) j)) k (nodes_list ks) (all-nested (deepest - depth) ks h.nested) has) is
+
+-- the records of a node that is found
+pub found-records : (told : Option Files) (name bytes : List ℕ) (depth : ℕ) (row : PlainRow) (parent : List (ℕ × ℕ)) (ks : PlainNodes) (w : PlainLabel) (k : PlainNode) → RowIs told name bytes depth row parent ks → node_with w (nodes_list ks) ≡ Some k → AllByRecursion IsRec (node_piece parent k).records
+found-records told name bytes depth row parent ks w k h e =
+    (all-has (Records parent) k (nodes_list ks) (row-records parent ks (all-front IsRec (records_of (node_pieces parent ks)) (end_rec (dir_of (node_pieces parent ks)) ∷ []) h.records)) (node_has w k (nodes_list ks) e).0).all
 
 pub stored-set : (s : Stamp) (parent : List (ℕ × ℕ)) → members (set_in s parent) ≡ eff s (members parent)
 stored-set None parent = refl

@@ -158,11 +158,11 @@ stamp-is s t e = ap stamp_in e
 pub enter-some : (bytes : List ℕ) (parent : List (ℕ × ℕ)) (k : PlainNode) (order : Ordering) (child : PlainChild) (behind : ℕ) (stamp : Option VersionSet) (row : Row)
     → ((l : PlainLabel) (s : Stamp) (set : List (ℕ × ℕ)) (ps : List Piece) → ChildLaid bytes child (inner_piece l s set ps) → behind ≡ child.first + length (rec_bytes (inner_rec l s)) → RowLaid bytes (row_view row) ps)
     → ChildLaid bytes child (node_piece parent k) → behind ≡ child.first + length (rec_bytes (opening k)) → met_inner (stamp_view stamp) ≡ met_by order (met_node k)
-    → (order ≡ Equal) × IsFound bytes parent k (record { stamp = stamp; row = Some row })
+    → (order ≡ Equal) × IsFound bytes parent k (record { stamp = stamp; row = Some row; leaf = None })
 enter-some bytes parent k Less child behind stamp row told stands at e = absurd cc
 enter-some bytes parent k Greater child behind stamp row told stands at e = absurd cc
 enter-some bytes parent (inner_node l s ks) Equal child behind stamp row told stands at e =
-    (refl, (stamp-is (stamp_view stamp) s e, told l s (set_in s parent) (node_pieces (set_in s parent) ks) stands at))
+    (refl, (stamp-is (stamp_view stamp) s e, told l s (set_in s parent) (node_pieces (set_in s parent) ks) stands at, refl))
 enter-some bytes parent (leaf_node l s xs) Equal child behind stamp row told stands at e = absurd cc
 
 pub enter-none : (bytes : List ℕ) (parent : List (ℕ × ℕ)) (k : PlainNode) (order : Ordering) (child : PlainChild) (behind : ℕ) (stamp : Stamp)

@@ -1,3 +1,4 @@
+pub mod Leads
 pub mod Told
 pub mod Pulled
 pub mod View

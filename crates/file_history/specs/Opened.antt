@@ -15,7 +15,7 @@ use Rattle.record_format.specs.Probed.{opening}
 use Rattle.record_cursor.specs.Items.{PlainItem, inner_item, leaf_item, alt_item, leaf_end_item, end_item, finish}
 use Rattle.record_cursor.specs.Moves.{TellsFront}
 use Rattle.file_rows.specs.StandsAt.{RowLaid, ChildLaid}
-use Rattle.file_rows.specs.View.{PlainChild, row_view}
+use Rattle.file_rows.specs.View.{PlainChild, row_view, child_view}
 use Rattle.file_history.specs.View.{PlainMet, stands_before, stands_behind, met_inner, met_leaf}
 use Rattle.file_history.specs.declared.open.Found.{Found}
 use Rattle.file_history.specs.declared.open.Opened.{Opened}
@@ -40,10 +40,10 @@ abbrev pub met_node : PlainNode → PlainMet
 met_node (inner_node l s ks) = met_inner s
 met_node (leaf_node l s xs) = met_leaf s
 
--- the node's timestamp, and the row of its kids if it is an inner node, under a parent that has this set
+-- the node's timestamp, and the row of its kids if it is an inner node, or where it stands if it is a leaf, under a parent that has this set
 abbrev pub IsFound : List ℕ → List (ℕ × ℕ) → PlainNode → Found → Type 0
-IsFound bytes parent (inner_node l s ks) f = (stamp_view f.stamp ≡ s) × IsSomeAnd f.row (λ r. RowLaid bytes (row_view r) (node_pieces (set_in s parent) ks))
-IsFound bytes parent (leaf_node l s xs) f = (stamp_view f.stamp ≡ s) × (f.row ≡ None)
+IsFound bytes parent (inner_node l s ks) f = (stamp_view f.stamp ≡ s) × IsSomeAnd f.row (λ r. RowLaid bytes (row_view r) (node_pieces (set_in s parent) ks)) × (f.leaf ≡ None)
+IsFound bytes parent (leaf_node l s xs) f = (stamp_view f.stamp ≡ s) × (f.row ≡ None) × IsSomeAnd f.leaf (λ c. ChildLaid bytes (child_view c) (node_piece parent (leaf_node l s xs)))
 
 abbrev pub OpenedIs : List ℕ → List (ℕ × ℕ) → PlainNode → Ordering → Opened → Type 0
 OpenedIs bytes parent k order Before = order ≡ Less

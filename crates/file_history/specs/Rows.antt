@@ -19,6 +19,8 @@ use Rattle.record_cursor.specs.View.{PlainHeader}
 use Rattle.file_rows.specs.StandsAt.{RowLaid}
 use Rattle.file_rows.specs.View.{PlainRow, row_view}
 use Rattle.file_rows.specs.declared.places.Row.{Row}
+use Rattle.file_rows.specs.declared.places.Child.{Child}
+use Rattle.file_history.specs.Leads.{PlainSpot, lead, LastStands}
 use Rattle.file_history.specs.Pulled.{PullsBut}
 
 -- These nodes stand in the row of a file, under a parent that has the set, and below so many inner nodes that stand open.
@@ -37,10 +39,13 @@ InRow told name bytes depth None parent ks = ks ≡ no_nodes
 
 -- A search for the path came to nodes where the rest of it leads to what the path leads to from the first; it takes no more bytes and
 -- steps in all.
-pub record Reached (told : Option Files) (name bytes : List ℕ) (path : List PlainLabel) (first : List (ℕ × ℕ)) (from : PlainNodes) (rest : List PlainLabel) (depth : ℕ) (row : Option Row) (set : List (ℕ × ℕ)) (old new : Numbers) (began now : ℕ) : Type 0 where
+pub record Reached (told : Option Files) (name bytes : List ℕ) (path : List PlainLabel) (first : List (ℕ × ℕ)) (from : PlainNodes) (rest : List PlainLabel) (depth : ℕ) (row : Option Row) (leaf : Option Child) (set : List (ℕ × ℕ)) (old new : Numbers) (began now : ℕ) : Type 0 where
   pub ks : PlainNodes
   pub there : InRow told name bytes depth row set ks
   pub leads : seek path (members first) from ≡ seek rest (members set) ks
+  pub last : Option PlainSpot
+  pub stands : LastStands bytes leaf set last
+  pub way : lead path None first from ≡ lead rest last set ks
   pub less : PullsBut (path_probed path from) (path_probed rest ks) old new
   pub fewer : now + path_steps rest ks ≤ began + path_steps path from
 

@@ -7,7 +7,6 @@ ghost use Rattle.keyed_tree.specs.Data.{PlainKeyed};
 ghost use Rattle.keyed_tree.specs.View.{label_view};
 ghost use Rattle.archive_tree.specs.Data.{PlainArchive, PlainNodes};
 ghost use Rattle.archive_tree.specs.History.{hist};
-ghost use Rattle.archive_tree.specs.Seek.{seek};
 ghost use Rattle.archive_tree.specs.Stands.{ArchiveOf};
 ghost use Rattle.archive_tree.specs.View.{stamp_view};
 ghost use Rattle.archive_file.specs.Sound.{SoundAs};
@@ -20,6 +19,7 @@ ghost use Rattle.record_cursor.specs.View.{header_view, IsHeader};
 ghost use Rattle.xa_outside.specs.Causes.{Rose};
 ghost use Rattle.xa_outside.specs.Numbers.{PullsAtMost};
 ghost use Rattle.file_rows.specs.View.{row_view};
+ghost use Rattle.file_history.specs.Leads.{IsFollowed};
 ghost use Rattle.file_history.specs.Rows.{FileIs, RowIs};
 ghost use Rattle.file_history.specs.Told.{IfFailed};
 ghost use Rattle.file_history.specs.View.{span_of};
@@ -27,7 +27,7 @@ ghost use Rattle.file_history.specs.declared.fault.HistoryFault.TheVariants.{Dam
 
 use crate::fault::HistoryFault;
 use crate::search::find;
-use file_rows::{Row, root_row};
+use file_rows::{Child, Row, root_row};
 use keyed_tree::Label;
 use record_cursor::{Cursor, CursorFault, Header};
 use std::alloc::Global;
@@ -35,6 +35,13 @@ use std::sync::ledger::Ledger;
 use timestamp_tree::Steps;
 use version_set::VersionSet;
 use xa_outside::Folder;
+
+/// What a path leads to: its set, and where it stands, if it is a leaf.
+#[derive(Drop)]
+pub(crate) struct Spot {
+    pub(crate) set: VersionSet,
+    pub(crate) leaf: Option<Child>,
+}
 
 /// The versions that hold the element at a path, in the archive in the file of this name.
 ///
@@ -82,13 +89,14 @@ pub fn history<F: Folder, L: Ledger>(
 {
     let all = VersionSet::upto(alloc, header.versions);
     match search(alloc, folder, name, header, all, path, steps) {
-        Ok(set) => Ok(set),
+        Ok(Some(spot)) => Ok(spot.set),
+        Ok(None) => Ok(VersionSet::empty(alloc)),
         Err(fault) => Err(HistoryFault::from(fault)),
     }
 }
 
 /// Reads the tail, and follows the path from the virtual root on.
-fn search<F: Folder, L: Ledger>(
+pub(crate) fn search<F: Folder, L: Ledger>(
     alloc: Global,
     folder: &mut F,
     name: &str,
@@ -96,7 +104,7 @@ fn search<F: Folder, L: Ledger>(
     all: VersionSet,
     path: &[Label],
     steps: &mut Steps<L>,
-) -> Result<VersionSet, CursorFault>
+) -> Result<Option<Spot>, CursorFault>
     requires { IsHeader (header_view header.now) }
     ensures reads { OnlyReads F.files F.draft F.faults folder.old folder.new (fault_of result) }
     ensures pulls { PullsAtMost
@@ -104,8 +112,8 @@ fn search<F: Folder, L: Ledger>(
         (F.numbers folder.old) (F.numbers folder.new) }
     ensures told { (bytes : List ℕ) (a : PlainArchive)
         → FileIs (F.files folder.old) name.now bytes (header_view header.now) a
-        → pairs_of all ≡ upto_pairs a.n → Filled result (λ set. members (pairs_of set)
-        ≡ seek (map label_view path.now) (members (pairs_of all)) a.kids) }
+        → pairs_of all ≡ upto_pairs a.n → Filled result
+        (IsFollowed bytes (map label_view path.now) (pairs_of all) a.kids) }
     ensures few { (bytes : List ℕ) (a : PlainArchive)
         → FileIs (F.files folder.old) name.now bytes (header_view header.now) a
         → pairs_of all ≡ upto_pairs a.n
@@ -123,7 +131,7 @@ fn search<F: Folder, L: Ledger>(
     }
 }
 
-/// The set of the node that the path leads to, from the row of the virtual root, which has this set.
+/// The node that the path leads to, if there is one, from the row of the virtual root, which has this set.
 fn follow<F: Folder, L: Ledger>(
     alloc: Global,
     folder: &mut F,
@@ -133,14 +141,14 @@ fn follow<F: Folder, L: Ledger>(
     parent: VersionSet,
     path: &[Label],
     steps: &mut Steps<L>,
-) -> Result<VersionSet, CursorFault>
+) -> Result<Option<Spot>, CursorFault>
     requires { cursor.old.name ≡ name.now }
     ensures reads { OnlyReads F.files F.draft F.faults folder.old folder.new (fault_of result) }
     ensures pulls { PullsAtMost (span_of row) (F.numbers folder.old) (F.numbers folder.new) }
     ensures told { (bytes : List ℕ) (ks : PlainNodes)
         → RowIs (F.files folder.old) name.now bytes 0 (row_view row) (pairs_of parent) ks
-        → Filled result (λ set. members (pairs_of set)
-        ≡ seek (map label_view path.now) (members (pairs_of parent)) ks) }
+        → Filled result
+        (IsFollowed bytes (map label_view path.now) (pairs_of parent) ks) }
     ensures few { (bytes : List ℕ) (ks : PlainNodes)
         → RowIs (F.files folder.old) name.now bytes 0 (row_view row) (pairs_of parent) ks
         → PullsAtMost (path_probed (map label_view path.now) ks)
@@ -151,11 +159,12 @@ fn follow<F: Folder, L: Ledger>(
 {
     let mut set = parent;
     let mut here = Some(row);
+    let mut leaf = None;
     let mut depth = 0;
     for label in path {
         let inside = match here {
             Some(inside) => inside,
-            None => return Ok(VersionSet::empty(alloc)),
+            None => return Ok(None),
         };
         let answer = match find(alloc, folder, cursor, name, depth, inside, label, steps) {
             Ok(answer) => answer,
@@ -163,13 +172,14 @@ fn follow<F: Folder, L: Ledger>(
         };
         let found = match answer {
             Some(found) => found,
-            None => return Ok(VersionSet::empty(alloc)),
+            None => return Ok(None),
         };
         here = found.row;
+        leaf = found.leaf;
         depth = one_deeper(depth);
         set = inherited(found.stamp, set);
     }
-    Ok(set)
+    Ok(Some(Spot { set, leaf }))
 }
 
 /// One inner node more stands open. Below the deepest one the cursor lets none be opened.

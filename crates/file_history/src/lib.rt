@@ -3,8 +3,10 @@
 
 mod fault;
 mod follow;
+mod leaf;
 mod open;
 mod search;
 
 pub use fault::HistoryFault;
 pub use follow::history;
+pub use leaf::{LeafAt, find_leaf};

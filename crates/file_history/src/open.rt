@@ -25,11 +25,13 @@ use std::cmp::Ordering;
 use version_set::VersionSet;
 use xa_outside::Folder;
 
-/// A child that was looked for: its stored set, and its own children, if it is an inner node.
+/// A child that was looked for: its stored set, and its own children, if it is an inner node, or
+/// where it stands, if it is a leaf.
 #[derive(Drop)]
 pub(crate) struct Found {
     pub(crate) stamp: Option<VersionSet>,
     pub(crate) row: Option<Row>,
+    pub(crate) leaf: Option<Child>,
 }
 
 /// A child stands before the one that is looked for or behind it, or is that one, with its stored
@@ -123,13 +125,18 @@ fn enter(child: Child, behind: u64, met: Met) -> Result<Opened, CursorFault>
         Met::Before => Ok(Opened::Before),
         Met::Behind => Ok(Opened::Behind),
         Met::Leaf { stamp } => Ok(Opened::Here {
-            found: Found { stamp, row: None },
+            found: Found {
+                stamp,
+                row: None,
+                leaf: Some(child),
+            },
         }),
         Met::Inner { stamp } => match row_of(child, behind) {
             Some(row) => Ok(Opened::Here {
                 found: Found {
                     stamp,
                     row: Some(row),
+                    leaf: None,
                 },
             }),
             None => Err(CursorFault::Damage),

@@ -1,5 +1,4 @@
 use Rattle.std.proofs.Common.{◌+◌, map, drop, refl, ap, subst, ◌∙◌, arith, ℕ, Ok, None, Option}
-use Rattle.version_set.specs.Members.{members}
 use Rattle.version_set.specs.View.{pairs_of}
 use Rattle.keyed_tree.specs.View.{label_view}
 use Rattle.archive_tree.specs.Data.{nodes_list}
@@ -31,7 +30,7 @@ returns-in-None-clause-told g c = λ bytes ks h. (
     let rest = map label_view (drop l.label-index c.args.path.now) in
     let more = map label_view (drop (l.label-index + 1) c.args.path.now) in
     let e = rest-is label_view c.args.path.now l.label-index c.label-item.result (omega (arith, c.loop-label-test.true)) c.label-item.is in
-    ap members c.empty.ensures ∙ ends-leaf files name bytes path first ks l.depth l.here (pairs_of l.set) w rest more a b m n e c.in-None.is r)
+    ends-leaf files name bytes path first ks l.depth l.here l.leaf (pairs_of l.set) w rest more a b m n e c.in-None.is r)
 
 pub returns-in-None-clause-few : goal.returns-in-None-clause-few
 returns-in-None-clause-few g c = λ bytes ks h. (
@@ -49,7 +48,7 @@ returns-in-None-clause-few g c = λ bytes ks h. (
     let rest = map label_view (drop l.label-index c.args.path.now) in
     let more = map label_view (drop (l.label-index + 1) c.args.path.now) in
     let e = rest-is label_view c.args.path.now l.label-index c.label-item.result (omega (arith, c.loop-label-test.true)) c.label-item.is in
-    few-all files name bytes path first ks l.depth l.here (pairs_of l.set) rest a b m n r)
+    few-all files name bytes path first ks l.depth l.here l.leaf (pairs_of l.set) rest a b m n r)
 
 pub returns-in-None-clause-steps : goal.returns-in-None-clause-steps
 returns-in-None-clause-steps g c = λ bytes ks h. (
@@ -67,7 +66,7 @@ returns-in-None-clause-steps g c = λ bytes ks h. (
     let rest = map label_view (drop l.label-index c.args.path.now) in
     let more = map label_view (drop (l.label-index + 1) c.args.path.now) in
     let e = rest-is label_view c.args.path.now l.label-index c.label-item.result (omega (arith, c.loop-label-test.true)) c.label-item.is in
-    steps-all files name bytes path first ks l.depth l.here (pairs_of l.set) rest a b m n r)
+    steps-all files name bytes path first ks l.depth l.here l.leaf (pairs_of l.set) rest a b m n r)
 
 pub returns-in-Err-clause-pulls : goal.returns-in-Err-clause-pulls
 returns-in-Err-clause-pulls g c =
@@ -96,7 +95,7 @@ returns-in-Err-clause-told g c = λ bytes ks h. (
     let d = g.F.Folder.numbers c.find.new.folder in
     let o = c.find.new.steps in
     let at = row-later files (g.F.Folder.files l.folder) name bytes l.depth (row_view c.in-Some.inside) (pairs_of l.set) r.ks l.invariant.reads.same_files
-    (reached-row files name bytes path first ks l.depth l.here c.in-Some.inside (pairs_of l.set) rest a b m n c.in-Some.is r) in
+    (reached-row files name bytes path first ks l.depth l.here l.leaf c.in-Some.inside (pairs_of l.set) rest a b m n c.in-Some.is r) in
     c.in-Err.ensures.told bytes (pairs_of l.set) r.ks at)
 
 pub returns-in-Err-clause-few : goal.returns-in-Err-clause-few
@@ -118,8 +117,8 @@ returns-in-Err-clause-few g c = λ bytes ks h. (
     let d = g.F.Folder.numbers c.find.new.folder in
     let o = c.find.new.steps in
     let at = row-later files (g.F.Folder.files l.folder) name bytes l.depth (row_view c.in-Some.inside) (pairs_of l.set) r.ks l.invariant.reads.same_files
-    (reached-row files name bytes path first ks l.depth l.here c.in-Some.inside (pairs_of l.set) rest a b m n c.in-Some.is r) in
-    few-row files name bytes path first ks l.depth l.here (pairs_of l.set) w rest more a b d m n e r (c.in-Err.ensures.few bytes (pairs_of l.set) r.ks at))
+    (reached-row files name bytes path first ks l.depth l.here l.leaf c.in-Some.inside (pairs_of l.set) rest a b m n c.in-Some.is r) in
+    few-row files name bytes path first ks l.depth l.here l.leaf (pairs_of l.set) w rest more a b d m n e r (c.in-Err.ensures.few bytes (pairs_of l.set) r.ks at))
 
 pub returns-in-Err-clause-steps : goal.returns-in-Err-clause-steps
 returns-in-Err-clause-steps g c = λ bytes ks h. (
@@ -140,8 +139,8 @@ returns-in-Err-clause-steps g c = λ bytes ks h. (
     let d = g.F.Folder.numbers c.find.new.folder in
     let o = c.find.new.steps in
     let at = row-later files (g.F.Folder.files l.folder) name bytes l.depth (row_view c.in-Some.inside) (pairs_of l.set) r.ks l.invariant.reads.same_files
-    (reached-row files name bytes path first ks l.depth l.here c.in-Some.inside (pairs_of l.set) rest a b m n c.in-Some.is r) in
-    steps-row files name bytes path first ks l.depth l.here (pairs_of l.set) w rest more a b m n o e r (c.in-Err.ensures.steps bytes (pairs_of l.set) r.ks at))
+    (reached-row files name bytes path first ks l.depth l.here l.leaf c.in-Some.inside (pairs_of l.set) rest a b m n c.in-Some.is r) in
+    steps-row files name bytes path first ks l.depth l.here l.leaf (pairs_of l.set) w rest more a b m n o e r (c.in-Err.ensures.steps bytes (pairs_of l.set) r.ks at))
 
 pub returns-in-None-answer-clause-pulls : goal.returns-in-None-answer-clause-pulls
 returns-in-None-answer-clause-pulls g c =
@@ -170,9 +169,9 @@ returns-in-None-answer-clause-told g c = λ bytes ks h. (
     let d = g.F.Folder.numbers c.find.new.folder in
     let o = c.find.new.steps in
     let at = row-later files (g.F.Folder.files l.folder) name bytes l.depth (row_view c.in-Some.inside) (pairs_of l.set) r.ks l.invariant.reads.same_files
-    (reached-row files name bytes path first ks l.depth l.here c.in-Some.inside (pairs_of l.set) rest a b m n c.in-Some.is r) in
+    (reached-row files name bytes path first ks l.depth l.here l.leaf c.in-Some.inside (pairs_of l.set) rest a b m n c.in-Some.is r) in
     let found = subst (λ (x : Option Found). IsFoundIn bytes (pairs_of l.set) (node_with w (nodes_list r.ks)) x) c.in-None-answer.is (c.in-Ok.ensures.told bytes (pairs_of l.set) r.ks at) in
-    ap members c.empty-in-None-answer.ensures ∙ ends-none files name bytes path first ks l.depth l.here (pairs_of l.set) w rest more a b m n e r (none-of bytes (pairs_of l.set) (node_with w (nodes_list r.ks)) found))
+    ends-none files name bytes path first ks l.depth l.here l.leaf (pairs_of l.set) w rest more a b m n e r (none-of bytes (pairs_of l.set) (node_with w (nodes_list r.ks)) found))
 
 pub returns-in-None-answer-clause-few : goal.returns-in-None-answer-clause-few
 returns-in-None-answer-clause-few g c = λ bytes ks h. (
@@ -193,8 +192,8 @@ returns-in-None-answer-clause-few g c = λ bytes ks h. (
     let d = g.F.Folder.numbers c.find.new.folder in
     let o = c.find.new.steps in
     let at = row-later files (g.F.Folder.files l.folder) name bytes l.depth (row_view c.in-Some.inside) (pairs_of l.set) r.ks l.invariant.reads.same_files
-    (reached-row files name bytes path first ks l.depth l.here c.in-Some.inside (pairs_of l.set) rest a b m n c.in-Some.is r) in
-    few-row files name bytes path first ks l.depth l.here (pairs_of l.set) w rest more a b d m n e r (c.in-Ok.ensures.few bytes (pairs_of l.set) r.ks at))
+    (reached-row files name bytes path first ks l.depth l.here l.leaf c.in-Some.inside (pairs_of l.set) rest a b m n c.in-Some.is r) in
+    few-row files name bytes path first ks l.depth l.here l.leaf (pairs_of l.set) w rest more a b d m n e r (c.in-Ok.ensures.few bytes (pairs_of l.set) r.ks at))
 
 pub returns-in-None-answer-clause-steps : goal.returns-in-None-answer-clause-steps
 returns-in-None-answer-clause-steps g c = λ bytes ks h. (
@@ -215,8 +214,8 @@ returns-in-None-answer-clause-steps g c = λ bytes ks h. (
     let d = g.F.Folder.numbers c.find.new.folder in
     let o = c.find.new.steps in
     let at = row-later files (g.F.Folder.files l.folder) name bytes l.depth (row_view c.in-Some.inside) (pairs_of l.set) r.ks l.invariant.reads.same_files
-    (reached-row files name bytes path first ks l.depth l.here c.in-Some.inside (pairs_of l.set) rest a b m n c.in-Some.is r) in
-    steps-row files name bytes path first ks l.depth l.here (pairs_of l.set) w rest more a b m n o e r (c.in-Ok.ensures.steps bytes (pairs_of l.set) r.ks at))
+    (reached-row files name bytes path first ks l.depth l.here l.leaf c.in-Some.inside (pairs_of l.set) rest a b m n c.in-Some.is r) in
+    steps-row files name bytes path first ks l.depth l.here l.leaf (pairs_of l.set) w rest more a b m n o e r (c.in-Ok.ensures.steps bytes (pairs_of l.set) r.ks at))
 
 pub returns-clause-told : goal.returns-clause-told
 returns-clause-told g c = λ bytes ks h. (
@@ -231,7 +230,7 @@ returns-clause-told g c = λ bytes ks h. (
     let n = l.steps in
     let r = l.invariant.told bytes ks h in
     let rest = map label_view (drop l.label-index c.args.path.now) in
-    ends files name bytes path first ks l.depth l.here (pairs_of l.set) rest a b m n (rest-none label_view c.args.path.now l.label-index (omega (arith, c.loop-label-test.false))) r)
+    ends files name bytes path first ks l.depth l.here l.leaf (pairs_of l.set) rest a b m n (rest-none label_view c.args.path.now l.label-index (omega (arith, c.loop-label-test.false))) r)
 
 pub returns-clause-few : goal.returns-clause-few
 returns-clause-few g c = λ bytes ks h. (
@@ -246,7 +245,7 @@ returns-clause-few g c = λ bytes ks h. (
     let n = l.steps in
     let r = l.invariant.told bytes ks h in
     let rest = map label_view (drop l.label-index c.args.path.now) in
-    few-all files name bytes path first ks l.depth l.here (pairs_of l.set) rest a b m n r)
+    few-all files name bytes path first ks l.depth l.here l.leaf (pairs_of l.set) rest a b m n r)
 
 pub returns-clause-steps : goal.returns-clause-steps
 returns-clause-steps g c = λ bytes ks h. (
@@ -261,7 +260,7 @@ returns-clause-steps g c = λ bytes ks h. (
     let n = l.steps in
     let r = l.invariant.told bytes ks h in
     let rest = map label_view (drop l.label-index c.args.path.now) in
-    steps-all files name bytes path first ks l.depth l.here (pairs_of l.set) rest a b m n r)
+    steps-all files name bytes path first ks l.depth l.here l.leaf (pairs_of l.set) rest a b m n r)
 
 pub loop-label-preserved : goal.loop-label-preserved
 loop-label-preserved g c =
@@ -291,8 +290,8 @@ loop-label-preserved g c =
           let d = g.F.Folder.numbers c.find.new.folder in
           let o = c.find.new.steps in
           let at = row-later files (g.F.Folder.files l.folder) name bytes l.depth (row_view c.in-Some.inside) (pairs_of l.set) r.ks l.invariant.reads.same_files
-          (reached-row files name bytes path first ks l.depth l.here c.in-Some.inside (pairs_of l.set) rest a b m n c.in-Some.is r) in
+          (reached-row files name bytes path first ks l.depth l.here l.leaf c.in-Some.inside (pairs_of l.set) rest a b m n c.in-Some.is r) in
           let found = subst (λ (x : Option Found). IsFoundIn bytes (pairs_of l.set) (node_with w (nodes_list r.ks)) x) c.in-Some-answer.is (c.in-Ok.ensures.told bytes (pairs_of l.set) r.ks at) in
-          goes-on files name bytes path first ks l.depth c.one_deeper-depth.result l.here c.in-Some.inside (pairs_of l.set) (pairs_of c.inherited-set.result) w rest more a b d m n o f c.one_deeper-depth.ensures e c.in-Some.is r
+          goes-on files name bytes path first ks l.depth c.one_deeper-depth.result l.here l.leaf c.in-Some.inside (pairs_of l.set) (pairs_of c.inherited-set.result) w rest more a b d m n o f c.one_deeper-depth.ensures e c.in-Some.is r
           (onto-of w r.ks bytes (pairs_of l.set) f (node_with w (nodes_list r.ks)) refl found) c.inherited-set.ensures (c.in-Ok.ensures.few bytes (pairs_of l.set) r.ks at) (c.in-Ok.ensures.steps bytes (pairs_of l.set) r.ks at));
     }

@@ -16,5 +16,5 @@ invariant-loop-label g l = record {
   reads : OnlyReads g.F.Folder.files g.F.Folder.draft g.F.Folder.faults l.fn.folder l.folder None;
   pulls : PullsBut (span_of l.fn.row) (span_in l.here) (g.F.Folder.numbers l.fn.folder) (g.F.Folder.numbers l.folder);
   told : (bytes : List ℕ) (ks : PlainNodes) → RowIs (g.F.Folder.files l.fn.folder) l.name bytes 0 (row_view l.fn.row) (pairs_of l.fn.parent) ks
-      → Reached (g.F.Folder.files l.fn.folder) l.name bytes (map label_view l.path) (pairs_of l.fn.parent) ks (map label_view (drop l.label-index l.path)) l.depth l.here (pairs_of l.set) (g.F.Folder.numbers l.fn.folder) (g.F.Folder.numbers l.folder) l.fn.steps l.steps;
+      → Reached (g.F.Folder.files l.fn.folder) l.name bytes (map label_view l.path) (pairs_of l.fn.parent) ks (map label_view (drop l.label-index l.path)) l.depth l.here l.leaf (pairs_of l.set) (g.F.Folder.numbers l.fn.folder) (g.F.Folder.numbers l.folder) l.fn.steps l.steps;
 }
