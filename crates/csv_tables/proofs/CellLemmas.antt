@@ -53,10 +53,10 @@ all-different xs e = (apart [] xs e).different
 
 -- ---- an attribute by its name
 
-abbrev named : List ℕ → PlainAttr → Bool
+abbrev pub named : List ℕ → PlainAttr → Bool
 named name a = bytes_eq a.name name
 
-named-test : (name : List ℕ) → IsTest name_cmp (named name)
+pub named-test : (name : List ℕ) → IsTest name_cmp (named name)
 named-test name c x e = ap (λ n. bytes_eq n name) (sym (cmp-same c.name x.name e))
 
 named-one : (name : List ℕ) (c x : PlainAttr) → named name c ≡ true → named name x ≡ true → name_cmp c x ≡ Equal

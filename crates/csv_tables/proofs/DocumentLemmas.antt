@@ -49,9 +49,10 @@ ascending-sorted (a ∷ xs) s = ascends-sorted a xs s.0 s.1
 abbrev IsFine : PlainAttr → Type 0
 IsFine a = is_in_range a.value ≡ true
 
-fine-put_all : (old xs : List PlainAttr) → AllByRecursion IsFine old → AllByRecursion IsFine xs → AllByRecursion IsFine (fold (replace_key name_cmp) old xs)
-fine-put_all old [] o h = o
-fine-put_all old (x ∷ xs) o h = fine-put_all (replace_key name_cmp old x) xs (all-put name_cmp_total IsFine old x h.0 o) h.1
+-- what holds of each of some attributes holds of each when they are in order
+pub all-put_all : (P : PlainAttr → Type 0) (old xs : List PlainAttr) → AllByRecursion P old → AllByRecursion P xs → AllByRecursion P (fold (replace_key name_cmp) old xs)
+all-put_all P old [] o h = o
+all-put_all P old (x ∷ xs) o h = all-put_all P (replace_key name_cmp old x) xs (all-put name_cmp_total P old x h.0 o) h.1
 
 fine-cells : (names fields : List (List ℕ)) → AllByRecursion IsFine (cells names fields)
 fine-cells [] fields = tt
@@ -65,7 +66,7 @@ fine-range (x ∷ xs) h = and_from (is_in_range x.value) (are_in_range xs) h.0 (
 row-fine : (names fields : List (List ℕ)) → is_well_formed (row_tree names fields) ≡ true
 row-fine names fields =
     let up = ascending-sorted (row_attrs names fields) (sorted-attrs (cells names fields)) in
-    let range = fine-range (row_attrs names fields) (fine-put_all [] (cells names fields) tt (fine-cells names fields)) in
+    let range = fine-range (row_attrs names fields) (all-put_all IsFine [] (cells names fields) tt (fine-cells names fields)) in
     and_from (is_ascending (row_attrs names fields) && are_in_range (row_attrs names fields)) true (and_from (is_ascending (row_attrs names fields)) (are_in_range (row_attrs names fields)) up range) refl
 
 rows-fine : (names : List (List ℕ)) (rows : List (List (List ℕ))) → are_well_formed (trees_of (map (row_tree names) rows)) ≡ true

@@ -1,7 +1,7 @@
 -- The first bad record, behind good ones.
-use Rattle.std.proofs.Common.{◌≡◌, ◌≢◌, ℕ, ◌+◌, ◌==◌, Bool, true, false, cond, List, [], ◌∷◌, ◌++◌, length, Option, Some, None, Ok, Err, refl, ap, sym, ◌∙◌, arith}
+use Rattle.std.proofs.Common.{◌≡◌, ◌≢◌, ℕ, ◌+◌, ◌==◌, Bool, true, false, cond, List, [], ◌∷◌, ◌++◌, length, Option, Some, None, Ok, Err, refl, ap, sym, ◌∙◌, arith, subst}
 use Rattle.std.proofs.lemmas.Bool.{eq-eqb, ne_eqb, cond-true, cond-false}
-use Rattle.std.specs.List.{list_all}
+use Rattle.std.specs.List.{list_all, AllByRecursion}
 use Rattle.std.specs.Option.{option_or}
 use Rattle.std.specs.Str.{is_utf8}
 use Rattle.csv_tables.specs.Data.{PlainTable, PlainBadRow}
@@ -110,3 +110,46 @@ all-even n row (fields ∷ rows) e =
 
 pub regular : (heading : List (List ℕ)) (rows : List (List (List ℕ))) → heading_why heading ≡ None → first_bad (length heading) 2 rows ≡ None → IsRegular (record { heading = heading; rows = rows })
 regular heading rows head good = rw (different heading head, all-even (length heading) 2 rows good) refl
+
+text-by : (b : Bool) (t : Option ℕ) (row : ℕ) → bad row (cond b t (Some 2)) ≡ None → t ≡ None
+text-by true None row e = refl
+text-by true (Some w) row e = let fault : PlainBadRow = record { row = row; why = w } in nothing fault e
+text-by false t row e = let fault : PlainBadRow = record { row = row; why = 2 } in nothing fault e
+
+utf8-by : (b : Bool) → cond {A = Option ℕ} b None (Some 3) ≡ None → b ≡ true
+utf8-by true e = refl
+utf8-by false e = nothing 3 e
+
+pub all-text : (n row : ℕ) (rows : List (List (List ℕ))) → first_bad n row rows ≡ None → AllByRecursion (λ fields. list_all is_utf8 fields ≡ true) rows
+all-text n row [] e = tt
+all-text n row (fields ∷ rows) e =
+    let both = none-both (bad row (record_why n fields)) (first_bad n (row + 1) rows) e in
+    (utf8-by (list_all is_utf8 fields) (text-by (length fields == n) (text_why fields) row both.0), all-text n (row + 1) rows both.1)
+
+text-first : (t o : Option ℕ) → option_or t o ≡ None → t ≡ None
+text-first None o e = refl
+text-first (Some w) o e = nothing w e
+
+pub heading-text : (fields : List (List ℕ)) → heading_why fields ≡ None → list_all is_utf8 fields ≡ true
+heading-text fields e = utf8-by (list_all is_utf8 fields) (text-first (text_why fields) _ e)
+
+-- ---- what every table is
+
+pub record IsGood (table : PlainTable) : Type 0 where
+  pub head : heading_why table.heading ≡ None
+  pub rows : first_bad (length table.heading) 2 table.rows ≡ None
+
+no_table : {P : Type 0} (fault : PlainBadRow) (table : PlainTable) → Err fault ≡ Ok table → P
+no_table fault table e = cc
+
+good-by : (heading : List (List ℕ)) (rows : List (List (List ℕ))) (h : Option ℕ) (r : Option PlainBadRow) (table : PlainTable) → heading_why heading ≡ h → first_bad (length heading) 2 rows ≡ r
+    → unless_bad (record { heading = heading; rows = rows }) (option_or (bad 1 h) r) ≡ Ok table → IsGood table
+good-by heading rows (Some w) r table a b e = no_table (record { row = 1; why = w }) table e
+good-by heading rows None (Some fault) table a b e = no_table fault table e
+good-by heading rows None None table a b e =
+    let same : record { heading = heading; rows = rows } ≡ table = cc in
+    subst IsGood same (record { head = a; rows = b })
+
+pub good : (all : List (List (List ℕ))) (table : PlainTable) → table_by all ≡ Ok table → IsGood table
+good [] table e = no_table (record { row = 0; why = 1 }) table e
+good (heading ∷ rows) table e = good-by heading rows (heading_why heading) (first_bad (length heading) 2 rows) table refl refl e

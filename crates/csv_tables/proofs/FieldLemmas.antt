@@ -1,5 +1,5 @@
 -- The fields of a record, one after the other.
-use Rattle.std.proofs.Common.{◌≡◌, ℕ, zero, suc, ◌+◌, Bool, true, false, ◌&&◌, List, [], ◌∷◌, ◌++◌, take, Some, None, IsUtf8, String, Global, string_bytes, refl, ap, ap₂, sym, ◌∙◌, subst, arith}
+use Rattle.std.proofs.Common.{◌≡◌, ℕ, zero, suc, ◌+◌, Bool, true, false, ◌&&◌, List, [], ◌∷◌, ◌++◌, take, Some, None, IsUtf8, String, Global, string_bytes, refl, ap, ap₂, sym, ◌∙◌, subst, arith, Vec}
 use Rattle.std.proofs.lemmas.Bool.{false_from_ne_true}
 use Rattle.std.proofs.lemmas.List.{map-append}
 use Rattle.std.proofs.lemmas.Str.{IsUtf8-from_is_utf8, is_utf8-from_IsUtf8}
@@ -7,6 +7,7 @@ use Rattle.std.specs.List.{list_all}
 use Rattle.std.specs.Str.{is_utf8}
 use Rattle.csv.specs.Records.{field_at}
 use Rattle.key_spec.specs.View.{names_view}
+use Rattle.csv_tables.specs.View.{rows_view}
 
 pub take-field : (fields : List (List ℕ)) (i : ℕ) (f : List ℕ) → field_at fields i ≡ Some f → take (i + 1) fields ≡ take i fields ++ f ∷ []
 unfolding field_at
@@ -52,3 +53,9 @@ pub push-text : (fields : List (List ℕ)) (i j : ℕ) (f : List ℕ) (old new :
     → names_view old ≡ take i fields → new ≡ old ++ x ∷ [] → string_bytes x ≡ f → names_view new ≡ take j fields
 push-text fields i j f old new x e at done items is =
     ap names_view items ∙ map-append string_bytes old (x ∷ []) ∙ ap₂ (λ (a : List (List ℕ)) (b : List ℕ). a ++ b ∷ []) done is ∙ sym (take-field fields i f e) ∙ ap (λ (k : ℕ). take k fields) (sym at)
+
+-- one row more
+pub push-row : (done : List (List (List ℕ))) (old new : List (Vec (String Global) Global)) (x : Vec (String Global) Global) (fields : List (List ℕ)) → rows_view old ≡ done → new ≡ old ++ x ∷ []
+    → names_view x.items ≡ fields → rows_view new ≡ done ++ fields ∷ []
+push-row done old new x fields are items is =
+    ap rows_view items ∙ map-append (λ (row : Vec (String Global) Global). names_view row.items) old (x ∷ []) ∙ ap₂ (λ (a : List (List (List ℕ))) (b : List (List ℕ)). a ++ b ∷ []) are is

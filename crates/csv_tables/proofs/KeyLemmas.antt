@@ -71,6 +71,14 @@ no-ends : (target : List (List ℕ)) (keys : List (List ℕ)) → flat_map (end_
 no-ends target [] = refl
 no-ends target (k ∷ keys) = no-ends target keys
 
+pub row_utf8 : IsUtf8 (codes "row")
+unfolding lib.Utf8.encode
+row_utf8 = (codes "row", (refl, refl))
+
+cell_utf8 : IsUtf8 (codes "cell")
+unfolding lib.Utf8.encode
+cell_utf8 = (codes "cell", (refl, refl))
+
 -- ---- the rules
 
 module _ (tag : List ℕ) (keys : List (List ℕ)) where
@@ -138,14 +146,6 @@ module _ (tag : List ℕ) (keys : List (List ℕ)) where
       paths_utf8 : (ks : List (List ℕ)) → AllByRecursion IsUtf8 ks → AllByRecursion IsTextPath (map attribute_path ks)
       paths_utf8 [] h = tt
       paths_utf8 (k ∷ ks) h = (record { tags = tt; attr = h.0 }, paths_utf8 ks h.1)
-
-      row_utf8 : IsUtf8 (codes "row")
-      unfolding lib.Utf8.encode
-      row_utf8 = (codes "row", (refl, refl))
-
-      cell_utf8 : IsUtf8 (codes "cell")
-      unfolding lib.Utf8.encode
-      cell_utf8 = (codes "cell", (refl, refl))
 
       texts : (r : PlainRule) → In r three → IsText r
       texts =

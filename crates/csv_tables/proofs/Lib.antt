@@ -5,7 +5,9 @@ pub mod FaultLemmas
 pub mod FieldLemmas
 pub mod HeadingLemmas
 pub mod KeyLemmas
+pub mod LengthLemmas
 pub mod PutLemmas
+pub mod ReadBackLemmas
 pub mod RecordLemmas
 pub mod RowLemmas
 pub mod SatisfyLemmas

@@ -1,7 +1,7 @@
 -- What a step of a reader comes to.
 use Rattle.std.proofs.Common.{◌≡◌, ℕ, Bool, true, false, List, [], ◌∷◌, ◌++◌, length, Option, Some, None, Ok, IfSome, refl, ap, sym, ◌∙◌, subst, append_assoc}
 use Rattle.csv.specs.Machine.{Read, next_record}
-use Rattle.csv.specs.Reading.{Ready, ReadRecord, ReadsOn, ReadsNext, NextIs, ExplainsRead, reader_trim, source_of, pending_of, default_config, Reached}
+use Rattle.csv.specs.Reading.{Ready, ReadRecord, ReadsOn, ReadsNext, NextIs, ExplainsRead, reader_trim, source_of, pending_of, default_config, records, Reached}
 use Rattle.csv.specs.declared.reader.Reader.{Reader}
 use Rattle.csv.specs.declared.reader.Trim.TheVariants as trim
 use Rattle.csv.specs.declared.error.ErrorKind.{ErrorKind}
@@ -17,6 +17,9 @@ continues-to : (text : List ℕ) (done : List (List (List ℕ))) (fields : List 
 continues-to text done fields s left h =
     let b = records-begin (done ++ fields ∷ []) s text left h in
     record { more = b.0; are = b.1 ∙ append_assoc done (fields ∷ []) b.0 }
+
+continues-as : (text : List ℕ) (done : List (List (List ℕ))) (fields found : List (List ℕ)) (more : List (List (List ℕ))) → records default_config text ≡ done ++ found ∷ more → fields ≡ found → Continues text done fields
+continues-as text done fields found more e f = record { more = more; are = e ∙ ap (λ (g : List (List ℕ)). done ++ g ∷ more) (sym f) }
 
 same_number : (m n : ℕ) → Some m ≡ Some n → m ≡ n
 same_number m n e = cc
@@ -67,7 +70,7 @@ module _ {R : Type 0} (rem : R → Option (List ℕ)) (old new : Reader R) (text
       let m = records-more done old.state text stands.left p.0 stands.reached p.1 in
       record {
         fields = w.3;
-        continues = record { more = m.0; are = m.1 ∙ ap (λ (f : List (List ℕ)). done ++ f ∷ m.0) (sym p.2) };
+        continues = continues-as text done w.3 p.0.0 m.0 m.1 p.2;
         wanted = wanted;
         columns_are = sym stands.expected ∙ w.1;
         other = λ q. w.2 (q ∙ w.5);

@@ -4,4 +4,6 @@ pub mod Steps
 pub mod Columns
 pub mod Documents
 pub mod Keys
+pub mod Laws
+pub mod Lengths
 pub mod View

@@ -6,13 +6,15 @@ mod columns;
 mod fault;
 mod keys;
 mod laws;
+mod length;
 mod read;
 mod table;
 mod tree;
 
 pub use fault::TableFault;
 pub use keys::{keys_text, table_spec};
-pub use laws::tables_satisfy_their_keys;
+pub use laws::{tables_read_back, tables_satisfy_their_keys};
+pub use length::text_length;
 pub use read::read_table;
 pub use table::{Table, has_columns};
 pub use tree::table_tree;

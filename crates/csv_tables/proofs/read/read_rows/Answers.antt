@@ -1,10 +1,11 @@
-use Rattle.std.proofs.Common.{◌≡◌, ◌+◌, [], ◌∷◌, ◌++◌, Some, None, Ok, length, refl, ap, sym, ◌∙◌, subst, arith, List, ℕ}
-use Rattle.std.proofs.lemmas.List.{map-append, length-append}
+use Rattle.std.proofs.Common.{◌≡◌, ◌+◌, [], ◌∷◌, ◌++◌, Some, None, Ok, length, refl, sym, subst, arith}
+use Rattle.std.proofs.lemmas.List.{length-append}
 use Rattle.std.proofs.lemmas.Result.{err_from_is_err_and}
 use Rattle.csv.specs.Records.{fields_of}
 use Rattle.csv_tables.specs.Records.{first_bad}
 use Rattle.csv_tables.specs.Steps.{Stands, Steps}
 use Rattle.csv_tables.specs.View.{rows_view}
+use Rattle.csv_tables.proofs.FieldLemmas.{push-row}
 use Rattle.csv_tables.proofs.HeadingLemmas.{row-fails, row-bytes, row-good, rows-end}
 use Rattle.csv_tables.proofs.read.read_rows.Goals as goal
 
@@ -47,7 +48,7 @@ loop-number-preserved g c =
     (subst (λ b. Steps g.R.Read.remaining c.next.new.reader text (heading ∷ done) (Some (length heading)) fields c.loop-number.number (Ok b)) c.if-not-branch.false
     (c.in_ok-next.ensures text (heading ∷ done) (Some (length heading)) inv.0)) owns.1 in
     let same : rows_view c.push.new.self.items ≡ done ++ fields ∷ [] =
-    ap rows_view c.in_ok-push.ensures.items ∙ map-append _ c.loop-number.rows.items (c.in_ok-own_fields.field-0 ∷ []) ∙ ap (λ (f : List (List ℕ)). done ++ f ∷ []) owns.0 in
+    push-row done c.loop-number.rows.items c.push.new.self.items c.in_ok-own_fields.field-0 fields refl c.in_ok-push.ensures.items owns.0 in
     let len = length-append done (fields ∷ []) in
     let count : c.loop-number.number + 1 ≡ 2 + length (done ++ fields ∷ []) = omega (arith, len, inv.2) in
     subst (λ rows. Stands g.R.Read.remaining c.next.new.reader text (heading ∷ rows) (Some (length heading)) × (first_bad (length heading) 2 rows ≡ None) × (c.loop-number.number + 1 ≡ 2 + length rows))
