@@ -1,6 +1,6 @@
 -- The specification of a table is a closed list of rules, and its canonical text is three lines.
-use Rattle.std.proofs.Common.{◌≡◌, ℕ, ◌≤◌, true, false, ◌&&◌, ◌||◌, ◌⊎◌, inl, inr, List, [], ◌∷◌, ◌++◌, map, flat_map, length, codes, None, Result, Ok, Err, IsUtf8, String, Global, refl, ap, ap₂, sym, ◌∙◌, subst, append_assoc, arith, bytes_eq}
-use Rattle.std.proofs.lemmas.Bool.{or_from, and_right, le-ltb}
+use Rattle.std.proofs.Common.{Bool, ◌≡◌, ℕ, ◌≤◌, true, false, ◌&&◌, ◌||◌, ◌⊎◌, inl, inr, List, [], ◌∷◌, ◌++◌, map, flat_map, length, codes, None, Result, Ok, Err, IsUtf8, String, Global, refl, ap, ap₂, sym, ◌∙◌, subst, append_assoc, arith, bytes_eq, not, IsTrue, ◌↔◌}
+use Rattle.std.proofs.lemmas.Bool.{or_from, and_right, le-ltb, not-false, false≢true}
 use Rattle.std.proofs.lemmas.Cmp.{tied_itself, nat_list_cmp_total}
 use Rattle.std.proofs.lemmas.List.{length-map, append-nil}
 use Rattle.std.specs.List.{list_all, list_any, AllByRecursion, Contains}
@@ -215,3 +215,12 @@ pub never-refused : (rules : List PlainRule) (text : List ℕ) (fault : SpecFaul
     → IsRefusal fault (closed.closed text) → ⊥
 never-refused rules text fault line why read is e h =
     never_both rules (record { line = line; why = why }) (closed.closed text) (ap closed.closed is ∙ read) (refused (closed.closed text) fault line why e h)
+
+-- ---- what may be key columns
+
+pub keys-good : (keys : List (List ℕ)) (b : Bool) → 1 ≤ length keys → length keys ≤ 16 → list_all is_name keys ≡ true → repeats [] keys ≡ not b → IsTrue b ↔ AreKeys keys
+keys-good keys b some few named e =
+    ((λ t. record { some = some; few = few; named = named; different = e ∙ ap not t }), (λ k. not-false b (sym e ∙ k.different)))
+
+pub keys-bad : (keys : List (List ℕ)) → (AreKeys keys → ⊥) → IsTrue false ↔ AreKeys keys
+keys-bad keys h = ((λ t. absurd (false≢true t)), (λ k. absurd (h k)))

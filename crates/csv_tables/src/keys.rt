@@ -1,13 +1,55 @@
 // Specifications of tables.
-ghost use Rattle.std.specs.Prelude.{◌≡◌, ◌≤◌, ◌++◌, true, Ok, IfOk, OnOk, length, map, codes, string_bytes};
+ghost use Rattle.std.specs.Prelude.{◌≡◌, ◌≤◌, ◌++◌, ◌↔◌, [], true, not, Ok, IsTrue, IfOk, OnOk, length, map, codes, string_bytes};
+ghost use Rattle.std.specs.List.{list_all};
 ghost use Rattle.key_spec.specs.Canonical.{canonical, paths_text};
 ghost use Rattle.key_spec.specs.Closed.{closed};
 ghost use Rattle.key_spec.specs.Names.{is_name};
 ghost use Rattle.key_spec.specs.View.{names_view, spec_view};
 ghost use Rattle.csv_tables.specs.Keys.{table_rules, attribute_path, AreKeys};
+ghost use Rattle.csv_tables.specs.Records.{repeats};
 
-use key_spec::{Spec, SpecFault};
+use crate::table::has_field;
+use key_spec::{Spec, SpecFault, is_name};
 use std::alloc::{AllocError, Global};
+
+/// The most key columns.
+const MOST: usize = 16;
+
+/// Whether these may be the names of key columns: from 1 to 16 of them, each a name, and all different. It takes no memory.
+pub fn are_keys(keys: &[String]) -> bool
+    ensures { IsTrue result ↔ AreKeys (names_view keys.now) }
+{
+    if keys.is_empty() {
+        return false;
+    }
+    if keys.len() > MOST {
+        return false;
+    }
+    are_names(keys) && are_different(keys)
+}
+
+fn are_names(keys: &[String]) -> bool
+    ensures { result ≡ list_all is_name (names_view keys.now) }
+{
+    for key in keys {
+        if !is_name(key.as_str()) {
+            return false;
+        }
+    }
+    true
+}
+
+/// Whether no two are the same. There are few of them, so each is compared with those before it.
+fn are_different(keys: &[String]) -> bool
+    ensures { repeats [] (names_view keys.now) ≡ not result }
+{
+    for (at, key) in keys.iter().enumerate() {
+        if has_field(&keys[..at], key) {
+            return false;
+        }
+    }
+    true
+}
 
 /// The canonical text of a table's specification: three lines, as
 /// `(/, (t, {}))`, `(/t, (row, {@id}))` and `(/t/row, (cell, {}))`.

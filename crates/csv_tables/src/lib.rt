@@ -12,7 +12,7 @@ mod table;
 mod tree;
 
 pub use fault::TableFault;
-pub use keys::{keys_text, table_spec};
+pub use keys::{are_keys, keys_text, table_spec};
 pub use laws::{tables_read_back, tables_satisfy_their_keys};
 pub use length::text_length;
 pub use read::read_table;

@@ -25,7 +25,7 @@ pub fn has_columns(table: &Table, keys: &[String]) -> bool
 }
 
 /// Whether a field of the heading is this name.
-fn has_field(heading: &[String], name: &String) -> bool
+pub(crate) fn has_field(heading: &[String], name: &String) -> bool
     ensures { result ≡ has_field (names_view heading.now) (string_bytes name.now) }
 {
     for field in heading {
