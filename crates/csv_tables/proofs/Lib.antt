@@ -1,0 +1,15 @@
+pub mod CellLemmas
+pub mod ColumnLemmas
+pub mod DocumentLemmas
+pub mod FaultLemmas
+pub mod FieldLemmas
+pub mod HeadingLemmas
+pub mod KeyLemmas
+pub mod LengthLemmas
+pub mod PutLemmas
+pub mod ReadBackLemmas
+pub mod RecordLemmas
+pub mod RowLemmas
+pub mod SatisfyLemmas
+pub mod StepLemmas
+pub mod TextLemmas

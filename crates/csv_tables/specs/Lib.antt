@@ -1,0 +1,9 @@
+pub mod Data
+pub mod Records
+pub mod Steps
+pub mod Columns
+pub mod Documents
+pub mod Keys
+pub mod Laws
+pub mod Lengths
+pub mod View
