@@ -1,0 +1,10 @@
+//! Archives with notes as text: a line of JSON for each of their parts.
+#![tactic(auto)]
+
+mod draft;
+mod export;
+mod fault;
+mod nodes;
+
+pub use export::write_text;
+pub use fault::TextFault;
