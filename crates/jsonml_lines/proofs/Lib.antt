@@ -1,1 +1,6 @@
 pub mod Texts
+pub mod GoodTexts
+pub mod Nesting
+pub mod LineTrips
+pub mod Feeds
+pub mod Cells
