@@ -1,5 +1,6 @@
 pub mod Texts
 pub mod GoodTexts
+pub mod Unbroken
 pub mod Nesting
 pub mod LineTrips
 pub mod Feeds

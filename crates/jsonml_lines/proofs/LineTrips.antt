@@ -4,7 +4,8 @@ use Rattle.std.specs.List.{AllByRecursion}
 use Rattle.std.specs.Result.{result_ok}
 use Rattle.json.specs.Print.{quoted}
 use Rattle.json.specs.Tree as outlined
-use Rattle.json.proofs.Printed.Utf8.{IsUtf8-are_ascii}
+use Rattle.std.proofs.lemmas.Str.{IsUtf8-append}
+use Rattle.json.proofs.Printed.Utf8.{IsUtf8-are_ascii, IsUtf8-quoted}
 use Rattle.serde_json.specs.Data.{Data, string, array, object, Items, no_items, item}
 use Rattle.serde_json.specs.Read.{read, of_json, of_items}
 use Rattle.serde_json.specs.Written as written
@@ -19,8 +20,10 @@ use Rattle.jsonml_text.proofs.RoundTrips.{scalar_back}
 use Rattle.keyed_tree.specs.Data.{PlainKey, scalar, inside}
 use Rattle.jsonml_lines.specs.Lines.{PlainLine, array_text, cell_text, cells_text, front_text, line_text}
 use Rattle.jsonml_lines.specs.Read.{cell_in, cells_in, line_in, words_in}
-use Rattle.jsonml_lines.specs.RoundTrip.{AreCellTexts, cell_depth, IsCell, IsLine, is_unbroken, CellReadsBack, ReadsBack}
-use Rattle.jsonml_lines.proofs.GoodTexts.{GoodText, joined, sign, behind, comma, good_string, good_scalar, good_content}
+use Rattle.jsonml_lines.specs.RoundTrip.{AreCellTexts, AreLineTexts, IsCell, IsLine, CellReadsBack, ReadsBack}
+use Rattle.jsonml_lines.proofs.GoodTexts.{behind, comma, good_scalar, good_content}
+use Rattle.jsonml_lines.proofs.Unbroken as whole
+use Rattle.jsonml_lines.proofs.Unbroken.{Unbroken, joined, whole_string, whole_scalar, whole_content}
 use Rattle.jsonml_lines.proofs.Nesting.{scalar_numbers, content_numbers, scalar_flat, content_nests, reads_outline, content_read}
 
 -- ---- the value that spells a cell, and a line
@@ -64,18 +67,31 @@ cells_text-is (k ∷ ks) = ap (λ l. 44 ∷ l) (append_assoc (cell_text k) (cell
 front_text-is : (l : PlainLine) → front_text l ≡ compact_text (line_data l)
 front_text-is l = ap (λ r. 91 ∷ (quoted l.word ++ r)) (cells_text-is l.cells)
 
--- ---- it is UTF-8 without a line feed
+-- ---- it has no line feed
 
-good_cell : (k : PlainKey) → IsCell k → GoodText (compact_text (cell_data k))
-good_cell (scalar s) h = good_scalar s h.well_formed h.texts
-good_cell (inside c) h = behind 91 _ (IsUtf8-are_ascii _ refl) refl (good_content false c h.well_formed h.texts)
+whole_cell : (k : PlainKey) → IsCell k → Unbroken (compact_text (cell_data k))
+whole_cell (scalar s) h = whole_scalar s h.well_formed
+whole_cell (inside c) h = whole.behind 91 _ refl (whole_content false c h.well_formed)
 
-good_cells : (ks : List PlainKey) → AllByRecursion IsCell ks → GoodText (written.items_text true (cells_data ks))
-good_cells [] h = sign (93 ∷ []) (IsUtf8-are_ascii _ refl) refl
-good_cells (k ∷ ks) h = comma true _ (joined (compact_text (cell_data k)) _ (good_cell k h.0) (good_cells ks h.1))
+whole_cells : (ks : List PlainKey) → AllByRecursion IsCell ks → Unbroken (written.items_text true (cells_data ks))
+whole_cells [] h = whole.sure (93 ∷ []) refl
+whole_cells (k ∷ ks) h = whole.comma true _ (joined (compact_text (cell_data k)) _ (whole_cell k h.0) (whole_cells ks h.1))
 
-good_line : (l : PlainLine) → IsLine l → GoodText (compact_text (line_data l))
-good_line l h = behind 91 _ (IsUtf8-are_ascii _ refl) refl (joined (quoted l.word) _ (good_string l.word h.word) (good_cells l.cells h.cells))
+whole_line : (l : PlainLine) → IsLine l → Unbroken (compact_text (line_data l))
+whole_line l h = whole.behind 91 _ refl (joined (quoted l.word) _ (whole_string l.word) (whole_cells l.cells h))
+
+-- ---- it is UTF-8
+
+good_cell : (k : PlainKey) → IsCell k → AreCellTexts k → IsUtf8 (compact_text (cell_data k))
+good_cell (scalar s) h t = good_scalar s h.well_formed t
+good_cell (inside c) h t = behind 91 _ (IsUtf8-are_ascii _ refl) (good_content false c h.well_formed t)
+
+good_cells : (ks : List PlainKey) → AllByRecursion IsCell ks → AllByRecursion AreCellTexts ks → IsUtf8 (written.items_text true (cells_data ks))
+good_cells [] h t = IsUtf8-are_ascii (93 ∷ []) refl
+good_cells (k ∷ ks) h t = comma true _ (IsUtf8-append (compact_text (cell_data k)) _ (good_cell k h.0 t.0) (good_cells ks h.1 t.1))
+
+good_line : (l : PlainLine) → IsLine l → AreLineTexts l → IsUtf8 (compact_text (line_data l))
+good_line l h t = behind 91 _ (IsUtf8-are_ascii _ refl) (IsUtf8-append (quoted l.word) _ (IsUtf8-quoted l.word t.word) (good_cells l.cells h t.cells))
 
 -- ---- it is read
 
@@ -106,8 +122,8 @@ cells_read (k ∷ ks) h =
 
 line_read : (l : PlainLine) → IsLine l → read (front_text l) ≡ Some (line_data l)
 line_read l h =
-    reads_outline (front_text l) (line_data l) (front_text-is l) (tt, cells_numbers l.cells h.cells) (omega (arith, cells_nest l.cells h.cells))
-    ∙ ap (λ o. option_map array (option_map (item (string l.word)) o)) (cells_read l.cells h.cells)
+    reads_outline (front_text l) (line_data l) (front_text-is l) (tt, cells_numbers l.cells h) (omega (arith, cells_nest l.cells h))
+    ∙ ap (λ o. option_map array (option_map (item (string l.word)) o)) (cells_read l.cells h)
 
 -- ---- the value spells the line
 
@@ -160,5 +176,8 @@ cell_reads_back k h = ap (option_and_then cell_in) (reads_outline (cell_text k) 
 
 pub line_reads_back : (l : PlainLine) → IsLine l → ReadsBack l
 line_reads_back l h =
-    let good = subst GoodText (sym (front_text-is l)) (good_line l h) in
-    record { utf8 = good.utf8; unbroken = good.unbroken; value = ap (option_and_then line_in) (line_read l h) ∙ line_back l }
+    record {
+      unbroken = (subst Unbroken (sym (front_text-is l)) (whole_line l h)).is;
+      value = ap (option_and_then line_in) (line_read l h) ∙ line_back l;
+      utf8 = λ t. subst IsUtf8 (sym (front_text-is l)) (good_line l h t);
+    }

@@ -19,15 +19,18 @@ abbrev pub cell_depth : PlainKey → ℕ
 cell_depth (scalar s) = 0
 cell_depth (inside c) = content_depth c
 
--- the cell is well formed, its texts are UTF-8, and its elements nest at most 120 deep
+-- the cell is well formed, and its elements nest at most 120 deep
 pub record IsCell (k : PlainKey) : Type 0 where
   pub well_formed : IsTrue (is_key_well_formed k)
-  pub texts : AreCellTexts k
   pub shallow : cell_depth k ≤ 120
 
-pub record IsLine (l : PlainLine) : Type 0 where
+abbrev pub IsLine : PlainLine → Type 0
+IsLine l = AllByRecursion IsCell l.cells
+
+-- the word and the texts of the cells are UTF-8
+pub record AreLineTexts (l : PlainLine) : Type 0 where
   pub word : IsUtf8 l.word
-  pub cells : AllByRecursion IsCell l.cells
+  pub cells : AllByRecursion AreCellTexts l.cells
 
 -- no line feed is among the bytes
 abbrev pub is_unbroken : List ℕ → Bool
@@ -37,6 +40,6 @@ abbrev pub CellReadsBack : PlainKey → Type 0
 CellReadsBack k = IsCell k → option_and_then cell_in (read (cell_text k)) ≡ Some k
 
 pub record ReadsBack (l : PlainLine) : Type 0 where
-  pub utf8 : IsUtf8 (front_text l)
   pub unbroken : IsTrue (is_unbroken (front_text l))
   pub value : option_and_then line_in (read (front_text l)) ≡ Some l
+  pub utf8 : AreLineTexts l → IsUtf8 (front_text l)

@@ -5,7 +5,7 @@ ghost use Rattle.keyed_tree.specs.View.{key_view};
 ghost use Rattle.keyed_tree.specs.WellFormed.{are_keys_well_formed};
 ghost use Rattle.jsonml_lines.specs.Lines.{PlainLine, line_text};
 ghost use Rattle.jsonml_lines.specs.Read.{line_in};
-ghost use Rattle.jsonml_lines.specs.RoundTrip.{IsLine};
+ghost use Rattle.jsonml_lines.specs.RoundTrip.{AreLineTexts, IsLine};
 ghost use Rattle.jsonml_lines.specs.View.{line_view};
 
 use crate::line::Line;
@@ -18,7 +18,7 @@ use std::alloc::{AllocError, Global};
 /// front of it is no array of a string, scalars and contents. It recurses as deep as JSON nests, which is at most 127 levels.
 pub fn take_line(alloc: Global, bytes: &[u8], at: usize) -> Result<Option<(Line, usize)>, AllocError>
     requires { at ≤ length bytes.now }
-    ensures found { (l : PlainLine) (rest : List ℕ) → IsLine l
+    ensures found { (l : PlainLine) (rest : List ℕ) → IsLine l → AreLineTexts l
         → drop at bytes.now ≡ line_text l ++ rest
         → IfOk result (λ o. IsSomeAnd o (λ r. (line_view r.0 ≡ l) × (drop r.1 bytes.now ≡ rest))) }
     ensures further { IfOk result (λ o. IfSome o (λ r. at < r.1)) }
