@@ -4,7 +4,9 @@
 mod draft;
 mod export;
 mod fault;
+mod laws;
 mod nodes;
 
 pub use export::write_text;
 pub use fault::TextFault;
+pub use laws::texts_have_one_reading;
