@@ -1,16 +1,16 @@
 -- Texts that a byte ends, which they do not have themselves, and the texts of sets.
-use Rattle.std.proofs.Common.{◌≡◌, ◌≢◌, ◌⊎◌, ℕ, zero, suc, ◌+◌, ◌%◌, ◌<◌, ◌≤◌, ◌^◌, ◌&&◌, ◌==◌, not, cond, Bool, true, false, IsTrue, List, [], ◌∷◌, ◌++◌, length, codes, decimal, inl, inr, refl, sym, ap, ap₂, ◌∙◌, subst, arith, append_assoc, append-nil, length-append}
+use Rattle.std.proofs.Common.{◌≡◌, ◌≢◌, ℕ, ◌+◌, ◌%◌, ◌<◌, ◌≤◌, ◌^◌, ◌&&◌, ◌==◌, not, cond, Bool, true, false, IsTrue, List, [], ◌∷◌, ◌++◌, length, codes, decimal, inl, inr, refl, sym, ap, ap₂, ◌∙◌, subst, arith, append_assoc, append-nil, length-append}
 use Rattle.std.specs.List.{AllByRecursion, flat_map, list_all}
 use Rattle.std.proofs.lemmas.Bool.{and_parts}
 use Rattle.std.proofs.lemmas.Bool.Decides.{eqb_tells}
 use Rattle.std.proofs.lemmas.List.Folds.{list_all-append}
 use Rattle.std.proofs.lemmas.Fmt.{decimal_by_steps, decimal_injective, decimal_nonempty}
 use Rattle.version_set.specs.Pairs.{IsFrom}
-use Rattle.version_set.specs.Text.{pair_text, set_text}
+use Rattle.version_set.specs.Text.{pair_text}
 use Rattle.archive_tree.specs.Data.{Stamp}
-use Rattle.record_parts.specs.Bounds.{most, IsSet, IsStamp}
+use Rattle.record_parts.specs.Bounds.{most, IsStamp}
 use Rattle.archive_text.specs.Export.{stamp_text}
-use Rattle.std.proofs.Common.{Some, None, Option}
+use Rattle.std.proofs.Common.{Some, None}
 
 -- the byte is not among these
 pub record Free (d : ℕ) (xs : List ℕ) : Type 0 where
@@ -55,7 +55,7 @@ pub decimal_free : (d n : ℕ) → d < 48 → n < 2 ^ 64 → Free d (decimal n)
 decimal_free d n low small =
     record {
       is = decimal_by_steps (λ _ ds. list_all (λ b. not (b == d)) ds ≡ true) (λ k h. digit_free d k low)
-          (λ m ds h before. list_all-append (λ b. not (b == d)) ds ((48 + m % 10) ∷ []) ∙ ap₂ (λ a b. a && b) before (digit_free d (m % 10) low)) n small
+          (λ m ds h before. list_all-append (λ b. not (b == d)) ds ((48 + m % 10) ∷ []) ∙ ap₂ (λ a b. a && b) before (digit_free d (m % 10) low)) n small;
     }
 
 -- ---- intervals
@@ -99,7 +99,7 @@ pair_one p q h k e =
       | inr a ↦ elim (eqb_tells q.0 q.1) [
         | inl b ↦ absurd (not_cut 45 (decimal q.0) (decimal p.0) (decimal p.1) (decimal_free 45 q.0 (omega arith) k.from) (sym (alone_text q b.0) ∙ sym e ∙ span_text p a.0))
         | inr b ↦ (let parts = cut 45 (decimal p.0) (decimal q.0) (decimal p.1) (decimal q.1) (decimal_free 45 p.0 (omega arith) h.from) (decimal_free 45 q.0 (omega arith) k.from) (sym (span_text p a.0) ∙ e ∙ span_text q b.0) in
-          pair_is p q (decimal_injective p.0 q.0 h.from k.from parts.0) (decimal_injective p.1 q.1 h.to k.to parts.1))
+            pair_is p q (decimal_injective p.0 q.0 h.from k.from parts.0) (decimal_injective p.1 q.1 h.to k.to parts.1))
       ]
     ]
 

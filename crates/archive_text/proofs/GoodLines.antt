@@ -1,12 +1,11 @@
 -- The lines of an archive with notes can be read back, and its nodes have names.
-use Rattle.std.proofs.Common.{◌≡◌, ℕ, suc, ◌+◌, ◌<◌, ◌≤◌, ◌^◌, ◌&&◌, ◌==◌, not, cond, pos, Bool, true, false, IsTrue, List, [], ◌∷◌, ◌++◌, length, map, Option, Some, None, Ok, inl, inr, refl, sym, ap, ◌∙◌, subst, arith}
+use Rattle.std.proofs.Common.{◌≡◌, ℕ, ◌+◌, ◌<◌, ◌^◌, ◌&&◌, ◌==◌, not, cond, Bool, true, false, IsTrue, List, [], ◌∷◌, ◌++◌, length, map, Option, Some, None, Ok, inl, inr, refl, sym, ap, ◌∙◌, arith}
 use Rattle.std.specs.List.{AllByRecursion, list_all}
 use Rattle.std.specs.declared.cmp.Ordering.{Ordering}
 use Rattle.std.specs.declared.cmp.Ordering.TheVariants.{Less, Equal, Greater}
 use Rattle.std.proofs.lemmas.Map.Lookups.{exact_bytes}
 use Rattle.jsonml_tree.specs.Laws.{both_equal}
 use Rattle.std.specs.Ordering.{is_eq}
-use Rattle.std.specs.Prelude.{⊤}
 use Rattle.std.proofs.lemmas.Bool.{and_parts}
 use Rattle.key_spec.specs.Data.{PlainRule}
 use Rattle.key_spec.specs.Names.{is_name, is_named, is_named_path}
@@ -15,12 +14,11 @@ use Rattle.key_spec.specs.Canonical.{canonical}
 use Rattle.key_spec.specs.Closed.{closed}
 use Rattle.key_spec.proofs.ClosedLaws.{closed_list}
 use Rattle.key_spec.proofs.Members.{In, to-Contains}
-use Rattle.jsonml_tree.specs.Data.{PlainScalar, content_depth}
 use Rattle.keyed_tree.specs.Plain.{name_bytes}
 use Rattle.keyed_tree.specs.Proper.{is_tag}
-use Rattle.keyed_tree.specs.Data.{PlainName, attr, tag, PlainKey, scalar, inside, PlainLabel}
+use Rattle.keyed_tree.specs.Data.{PlainName, attr, tag, PlainKey, scalar, inside}
 use Rattle.keyed_tree.specs.WellFormed.{is_key_well_formed, are_keys_well_formed, is_label_well_formed}
-use Rattle.archive_tree.specs.Data.{Stamp, PlainAlt, PlainNode, inner_node, leaf_node, PlainNodes, no_nodes, node, node_label}
+use Rattle.archive_tree.specs.Data.{PlainAlt, PlainNode, inner_node, leaf_node, PlainNodes, no_nodes, node, node_label}
 use Rattle.archive_tree.specs.WellFormed.{are_alts_well_formed, is_node_well_formed, are_nodes_well_formed}
 use Rattle.record_parts.specs.Shapes.{IsShapedValue}
 use Rattle.record_format.specs.Shapes.{IsShapedAlt, IsShapedNode, AreShapedNodes}
@@ -28,7 +26,7 @@ use Rattle.archive_file.specs.NodeFits.{node_has_keys, node_fits, nodes_fit, is_
 use Rattle.archive_file.proofs.WellLaws.{value-well}
 use Rattle.jsonml_lines.specs.Lines.{PlainLine}
 use Rattle.jsonml_lines.specs.RoundTrip.{IsCell, IsLine}
-use Rattle.archive_text.specs.Export.{text_cell, number_cell, stamp_text, name_text, node_begun, key_line, note_line, note_lines, alt_line, end_line, node_lines, nodes_lines}
+use Rattle.archive_text.specs.Export.{text_cell, number_cell, stamp_text, name_text, key_line, note_line, note_lines, alt_line, end_line, node_lines, nodes_lines}
 use Rattle.archive_text.proofs.OneNode.{IsNamed, HasNames, HaveNames}
 
 -- ---- lines

@@ -1,5 +1,5 @@
 -- The lines of texts and of nodes.
-use Rattle.std.proofs.Common.{◌≡◌, ◌≢◌, ℕ, suc, ◌+◌, ◌<◌, ◌==◌, cond, Bool, true, false, List, [], ◌∷◌, ◌++◌, length, map, get_or, inl, inr, refl, sym, ap, ◌∙◌, arith, append_assoc, append-nil}
+use Rattle.std.proofs.Common.{◌≡◌, ◌≢◌, ℕ, suc, ◌<◌, ◌==◌, cond, false, List, [], ◌∷◌, ◌++◌, length, map, get_or, inl, inr, refl, sym, ap, ◌∙◌, arith, append_assoc, append-nil}
 use Rattle.std.specs.List.{flat_map}
 use Rattle.std.proofs.lemmas.Grind.{flat_map-append}
 use Rattle.std.proofs.lemmas.Bool.Decides.{eqb_tells}
@@ -11,7 +11,7 @@ use Rattle.archive_tree.specs.declared.node.Alt.{Alt}
 use Rattle.archive_tree.specs.declared.node.ANode.{ANode}
 use Rattle.jsonml_lines.specs.Lines.{line_text}
 use Rattle.archive_text.specs.Texts.{in_front, text_lines}
-use Rattle.archive_text.specs.Export.{key_line, alt_line, end_line, open_line, leaf_line, note_line, note_lines, node_lines, nodes_lines, lines_text}
+use Rattle.archive_text.specs.Export.{key_line, alt_line, end_line, open_line, leaf_line, node_lines, nodes_lines, lines_text}
 use Rattle.archive_text.proofs.Steps.{flat_map-map}
 
 -- ---- texts

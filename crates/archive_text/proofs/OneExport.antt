@@ -1,15 +1,15 @@
 -- Archives with the same text are the same.
-use Rattle.std.proofs.Common.{◌≡◌, ◌↔◌, ℕ, ◌+◌, ◌<◌, ◌≤◌, ◌^◌, ◌&&◌, IsTrue, List, [], ◌∷◌, ◌++◌, length, map, Ok, Result, sym, ap, ◌∙◌, subst, arith}
+use Rattle.std.proofs.Common.{◌≡◌, ℕ, ◌≤◌, List, [], ◌∷◌, length, map, Ok, Result, sym, ap, ◌∙◌, subst, arith}
 use Rattle.std.specs.List.{AllByRecursion}
 use Rattle.std.proofs.lemmas.Bool.{and_parts}
 use Rattle.version_set.specs.Members.{upto_pairs}
 use Rattle.jsonml_text.specs.Texts.{AreTexts}
-use Rattle.key_spec.specs.Data.{PlainRule, PlainSpecFault}
+use Rattle.key_spec.specs.Data.{PlainRule}
 use Rattle.key_spec.specs.Canonical.{canonical}
 use Rattle.key_spec.specs.Closed.{closed, IsClosed}
 use Rattle.keyed_tree.specs.Data.{PlainKeyed}
 use Rattle.keyed_tree.specs.Plain.{plain}
-use Rattle.archive_tree.specs.Data.{PlainNodes, PlainArchive}
+use Rattle.archive_tree.specs.Data.{PlainArchive}
 use Rattle.archive_tree.specs.Stands.{ArchiveOf}
 use Rattle.archive_tree.specs.WellFormed.{AreNodesWellFormed}
 use Rattle.record_parts.specs.Bounds.{most}
@@ -21,7 +21,6 @@ use Rattle.archive_file.proofs.ArchiveKeyed.{archive-keyed}
 use Rattle.archive_file.proofs.ClosedWays.{closed-lead}
 use Rattle.archive_file.proofs.SoundLaws.{row-well}
 use Rattle.noted_file.specs.Full.{FullAs}
-use Rattle.jsonml_lines.specs.Lines.{PlainLine}
 use Rattle.jsonml_lines.specs.RoundTrip.{IsLine}
 use Rattle.archive_text.specs.Texts.{text_lines}
 use Rattle.archive_text.specs.Export.{key_line, note_lines, end_line, nodes_lines, ExportOf}
@@ -66,10 +65,11 @@ readable one texts shapes rules vs notes file a full is =
       shaped = shaped;
       names = row_names rules (rules_named rules sound.specification) [] a.kids fits.1;
       as_many = count;
-      lines =
-          (count_good a.n (omega arith),
-          all_join IsLine (map key_line (text_lines (canonical rules))) _ (keys_good (text_lines (canonical rules)))
-          (all_join IsLine (note_lines 1 notes) _ (notes_good 1 notes (omega arith)) (all_join IsLine (nodes_lines a.kids) (end_line ∷ []) (nodes_good a.kids shaped well) end_good)));
+      lines = (
+        count_good a.n (omega arith),
+        all_join IsLine (map key_line (text_lines (canonical rules))) _ (keys_good (text_lines (canonical rules)))
+            (all_join IsLine (note_lines 1 notes) _ (notes_good 1 notes (omega arith)) (all_join IsLine (nodes_lines a.kids) (end_line ∷ []) (nodes_good a.kids shaped well) end_good)),
+      );
     }
 
 ok_one : {T E : Type 0} (x y : T) (r : Result T E) → r ≡ Ok x → r ≡ Ok y → x ≡ y

@@ -1,12 +1,12 @@
 -- Lines with the same text are the same.
-use Rattle.std.proofs.Common.{◌≡◌, ℕ, List, [], ◌∷◌, ◌++◌, Option, Some, option_and_then, refl, sym, ap, ap₂, ◌∙◌, subst, append_assoc}
+use Rattle.std.proofs.Common.{◌≡◌, ℕ, List, [], ◌∷◌, ◌++◌, Some, option_and_then, refl, sym, ap, ap₂, ◌∙◌, append_assoc}
 use Rattle.std.specs.List.{AllByRecursion}
 use Rattle.serde_json.specs.Read.{read}
 use Rattle.jsonml_lines.specs.Lines.{PlainLine, front_text, line_text}
 use Rattle.jsonml_lines.specs.Read.{line_in}
 use Rattle.jsonml_lines.specs.RoundTrip.{IsLine, ReadsBack}
 use Rattle.archive_text.specs.Export.{lines_text}
-use Rattle.archive_text.proofs.Cuts.{Free, cut}
+use Rattle.archive_text.proofs.Cuts.{cut}
 
 -- what is known of printed lines
 abbrev pub LinesReadBack : Type 0

@@ -1,14 +1,12 @@
 -- Archives with the same lines are the same.
-use Rattle.std.proofs.Common.{◌≡◌, ℕ, suc, ◌+◌, ◌<◌, ◌≤◌, ◌==◌, pos, cond, Bool, true, false, List, [], ◌∷◌, ◌++◌, length, map, get_or, inl, inr, refl, sym, ap, ap₂, ◌∙◌, arith, append_assoc, append-nil, length-append}
+use Rattle.std.proofs.Common.{◌≡◌, ℕ, ◌+◌, ◌<◌, ◌==◌, cond, Bool, true, false, List, [], ◌∷◌, ◌++◌, length, map, get_or, inl, inr, refl, sym, ap, ap₂, ◌∙◌, arith, append_assoc, append-nil, length-append}
 use Rattle.std.specs.List.{flat_map}
 use Rattle.std.proofs.lemmas.Bool.{eqb-false}
 use Rattle.std.proofs.lemmas.Bool.Decides.{eqb_tells}
 use Rattle.std.proofs.lemmas.Grind.{flat_map-append}
 use Rattle.key_spec.specs.Data.{PlainRule}
 use Rattle.key_spec.specs.Canonical.{canonical, rule_text}
-use Rattle.jsonml_tree.specs.Data.{whole, string}
-use Rattle.keyed_tree.specs.Data.{PlainKey, scalar}
-use Rattle.archive_tree.specs.Data.{PlainNode, inner_node, leaf_node, PlainNodes, no_nodes, node, PlainArchive}
+use Rattle.archive_tree.specs.Data.{inner_node, leaf_node, PlainNodes, no_nodes, node, PlainArchive}
 use Rattle.jsonml_lines.specs.Lines.{PlainLine, line_text}
 use Rattle.archive_text.specs.Texts.{in_front, text_lines}
 use Rattle.archive_text.specs.Export.{text_cell, number_cell, count_line, key_line, note_line, note_lines, end_line, nodes_lines, lines_text, export_text}

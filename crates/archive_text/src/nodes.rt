@@ -90,11 +90,7 @@ fn put_alts(alloc: Global, out: &mut MemSink, alts: &[Alt]) -> Result<(), AllocE
 
 /// The nodes in preorder.
 #[cycle(put)]
-pub(crate) fn put_nodes(
-    alloc: Global,
-    out: &mut MemSink,
-    nodes: &[ANode],
-) -> Result<(), AllocError>
+pub(crate) fn put_nodes(alloc: Global, out: &mut MemSink, nodes: &[ANode]) -> Result<(), AllocError>
     ensures { OnOk result ((sink_state out.new).taken
         ≡ (sink_state out.old).taken ++ lines_text (nodes_lines (nodes_view nodes.now))) }
 {

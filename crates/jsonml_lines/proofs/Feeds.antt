@@ -1,5 +1,5 @@
 -- Where the first line feed of some bytes stands.
-use Rattle.std.proofs.Common.{◌≡◌, ℕ, suc, ◌+◌, ◌-◌, ◌<◌, ◌≤◌, ◌==◌, not, cond, nat_lt, Bool, true, IsTrue, List, [], ◌∷◌, ◌++◌, length, take, drop, Option, Some, None, refl, sym, ap, ◌∙◌, arith, length-append}
+use Rattle.std.proofs.Common.{◌≡◌, ℕ, suc, ◌+◌, ◌-◌, ◌==◌, not, cond, nat_lt, true, IsTrue, List, [], ◌∷◌, ◌++◌, length, take, drop, Option, Some, None, refl, sym, ap, ◌∙◌, arith, length-append}
 use Rattle.std.specs.List.{position, prefix_len}
 use Rattle.std.proofs.lemmas.Bool.{and_parts, lt-ltb}
 use Rattle.std.proofs.lemmas.List.{drop-drop}
@@ -40,6 +40,7 @@ pub split_at : (bytes : List ℕ) (at : ℕ) (front rest : List ℕ) (size : ℕ
     → (take size (rest_at bytes at) ≡ front) × (drop (at + size + 1) bytes ≡ rest)
 split_at bytes at front rest size e is found =
     let long : size ≡ length front = size_is size (length front) (feed_is bytes at front rest (Some size) e is found) in
-    let to : at + size + 1 ≡ at + (length front + 1) = omega (arith, long) in
-    (ap (λ n. take n (rest_at bytes at)) long ∙ ap (take (length front)) (slice-rest bytes at ∙ is) ∙ take-append_seam front (10 ∷ rest),
-     ap (λ n. drop n bytes) to ∙ sym (drop-drop (length front + 1) at bytes) ∙ ap (drop (length front + 1)) is ∙ drop_front front rest)
+    let to : at + size + 1 ≡ at + (length front + 1) = omega (arith, long) in (
+      ap (λ n. take n (rest_at bytes at)) long ∙ ap (take (length front)) (slice-rest bytes at ∙ is) ∙ take-append_seam front (10 ∷ rest),
+      ap (λ n. drop n bytes) to ∙ sym (drop-drop (length front + 1) at bytes) ∙ ap (drop (length front + 1)) is ∙ drop_front front rest,
+    )

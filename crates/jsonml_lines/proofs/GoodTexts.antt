@@ -1,5 +1,5 @@
 -- What is printed is UTF-8.
-use Rattle.std.proofs.Common.{◌≡◌, ℕ, ◌&&◌, pos, negsuc, Bool, true, false, IsTrue, List, [], ◌∷◌, ◌++◌, IsUtf8, decimal, refl}
+use Rattle.std.proofs.Common.{ℕ, ◌&&◌, pos, negsuc, Bool, true, false, IsTrue, List, [], ◌∷◌, ◌++◌, IsUtf8, decimal, refl}
 use Rattle.std.specs.Fmt.{signed_decimal}
 use Rattle.std.proofs.lemmas.Bool.{and_parts}
 use Rattle.std.proofs.lemmas.Str.{IsUtf8-append, IsUtf8-from_ascii}

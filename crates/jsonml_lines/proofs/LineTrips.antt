@@ -1,25 +1,24 @@
 -- Printed lines read back.
-use Rattle.std.proofs.Common.{◌≡◌, ℕ, ◌+◌, ◌≤◌, ◌&&◌, ◌==◌, not, Bool, true, false, IsTrue, IsUtf8, List, [], ◌∷◌, ◌++◌, drop, Option, Some, None, option_map, option_and_then, Result, Ok, Err, refl, sym, ap, ap₂, ◌∙◌, subst, arith, append_assoc}
+use Rattle.std.proofs.Common.{◌≡◌, ℕ, ◌+◌, ◌≤◌, true, false, IsUtf8, List, [], ◌∷◌, ◌++◌, drop, Some, option_map, option_and_then, Ok, refl, sym, ap, ap₂, ◌∙◌, subst, arith, append_assoc}
 use Rattle.std.specs.List.{AllByRecursion}
 use Rattle.std.specs.Result.{result_ok}
 use Rattle.json.specs.Print.{quoted}
 use Rattle.json.specs.Tree as outlined
 use Rattle.std.proofs.lemmas.Str.{IsUtf8-append}
 use Rattle.json.proofs.Printed.Utf8.{IsUtf8-are_ascii, IsUtf8-quoted}
-use Rattle.serde_json.specs.Data.{Data, string, array, object, Items, no_items, item}
+use Rattle.serde_json.specs.Data.{Data, string, array, Items, no_items, item}
 use Rattle.serde_json.specs.Read.{read, of_json, of_items}
 use Rattle.serde_json.specs.Written as written
 use Rattle.serde_json.specs.Written.{compact_text, outline, items_outline}
 use Rattle.jsonml_tree.specs.Data as plain
 use Rattle.jsonml_tree.specs.Data.{PlainScalar, PlainAttr, PlainTree, text, element, PlainContent, content, PlainTrees, no_trees, tree}
-use Rattle.jsonml_tree.specs.WellFormed.{is_in_range}
 use Rattle.jsonml_print.specs.Printed.{scalar_text, content_text}
-use Rattle.jsonml_text.specs.Spelled.{and_then, mapped, attrs_at, scalar_at, scalar_in, item_at, content_at, items_at, content_in}
+use Rattle.jsonml_text.specs.Spelled.{and_then, mapped, attrs_at, scalar_in, item_at, content_at, items_at}
 use Rattle.jsonml_text.proofs.ReadBack.{scalar_data, attrs_data, tree_data, content_data, items_data, whole_text, tree_text-is, reads_scalar}
 use Rattle.jsonml_text.proofs.RoundTrips.{scalar_back}
 use Rattle.keyed_tree.specs.Data.{PlainKey, scalar, inside}
-use Rattle.jsonml_lines.specs.Lines.{PlainLine, array_text, cell_text, cells_text, front_text, line_text}
-use Rattle.jsonml_lines.specs.Read.{cell_in, cells_in, line_in, words_in}
+use Rattle.jsonml_lines.specs.Lines.{PlainLine, array_text, cell_text, cells_text, front_text}
+use Rattle.jsonml_lines.specs.Read.{cell_in, cells_in, line_in}
 use Rattle.jsonml_lines.specs.RoundTrip.{AreCellTexts, AreLineTexts, IsCell, IsLine, CellReadsBack, ReadsBack}
 use Rattle.jsonml_lines.proofs.GoodTexts.{behind, comma, good_scalar, good_content}
 use Rattle.jsonml_lines.proofs.Unbroken as whole

@@ -1,7 +1,7 @@
 -- The texts of attributes and items, part by part.
-use Rattle.std.proofs.Common.{◌≡◌, ◌<◌, ℕ, length, arith, List, [], ◌∷◌, ◌++◌, map, drop, refl, ap, ◌∙◌}
-use Rattle.std.specs.List.{flat_map, join_with_byte}
-use Rattle.jsonml_tree.specs.Data.{PlainAttr, PlainTrees, content}
+use Rattle.std.proofs.Common.{◌≡◌, ◌<◌, length, arith, List, [], ◌∷◌, ◌++◌, map, drop, refl, ap, ◌∙◌}
+use Rattle.std.specs.List.{flat_map}
+use Rattle.jsonml_tree.specs.Data.{PlainTrees, content}
 use Rattle.jsonml_tree.specs.View.{attr_view, tree_view, items_view}
 use Rattle.jsonml_tree.specs.declared.scalar.Attr.{Attr}
 use Rattle.jsonml_tree.specs.declared.tree.Tree.{Tree}

@@ -1,5 +1,5 @@
 -- What is printed has no line feed.
-use Rattle.std.proofs.Common.{◌≡◌, ◌≢◌, ℕ, zero, suc, ◌+◌, ◌%◌, ◌<◌, ◌≤◌, ◌^◌, ◌&&◌, ◌==◌, not, pos, negsuc, Bool, true, false, IsTrue, List, [], ◌∷◌, ◌++◌, decimal, inl, inr, refl, ap, ap₂, ◌∙◌, arith}
+use Rattle.std.proofs.Common.{◌≡◌, ◌≢◌, ℕ, zero, suc, ◌+◌, ◌%◌, ◌<◌, ◌^◌, ◌&&◌, ◌==◌, not, pos, negsuc, Bool, true, false, IsTrue, List, [], ◌∷◌, ◌++◌, decimal, inl, inr, refl, ap, ap₂, ◌∙◌, arith}
 use Rattle.std.specs.Fmt.{signed_decimal}
 use Rattle.std.proofs.lemmas.Bool.{and_parts, cases_lt, cases_eq}
 use Rattle.std.proofs.lemmas.Bool.Decides.{eqb_tells}

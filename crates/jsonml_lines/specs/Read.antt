@@ -1,8 +1,6 @@
 -- What a JSON value spells in a line.
-use Rattle.std.specs.Prelude.{◌≡◌, ℕ, List, [], ◌∷◌, Option, Some, None, option_map, option_and_then, if◌then◌else◌}
-use Rattle.std.specs.Str.{is_utf8}
+use Rattle.std.specs.Prelude.{List, [], ◌∷◌, Option, Some, None, option_map, option_and_then}
 use Rattle.serde_json.specs.Data.{Data, null, boolean, number, string, array, object, Items, no_items, item}
-use Rattle.serde_json.specs.Read.{read}
 use Rattle.jsonml_text.specs.Spelled.{scalar_in, content_in}
 use Rattle.keyed_tree.specs.Data.{PlainKey, scalar, inside}
 use Rattle.jsonml_lines.specs.Lines.{PlainLine}

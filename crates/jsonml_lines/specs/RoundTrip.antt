@@ -3,8 +3,7 @@ use Rattle.std.specs.Prelude.{◌≡◌, ℕ, ◌≤◌, ◌==◌, not, Bool, Li
 use Rattle.std.specs.List.{AllByRecursion, list_all}
 use Rattle.std.specs.Str.{IsUtf8}
 use Rattle.serde_json.specs.Read.{read}
-use Rattle.jsonml_tree.specs.Data.{PlainContent, content_depth}
-use Rattle.jsonml_tree.specs.WellFormed.{is_content_well_formed}
+use Rattle.jsonml_tree.specs.Data.{content_depth}
 use Rattle.jsonml_text.specs.Texts.{IsScalarText, AreContentTexts}
 use Rattle.keyed_tree.specs.Data.{PlainKey, scalar, inside}
 use Rattle.keyed_tree.specs.WellFormed.{is_key_well_formed}

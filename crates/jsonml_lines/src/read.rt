@@ -16,7 +16,11 @@ use std::alloc::{AllocError, Global};
 
 /// The line that begins at an offset, and the offset behind its line feed. None where no line feed follows, or what stands in
 /// front of it is no array of a string, scalars and contents. It recurses as deep as JSON nests, which is at most 127 levels.
-pub fn take_line(alloc: Global, bytes: &[u8], at: usize) -> Result<Option<(Line, usize)>, AllocError>
+pub fn take_line(
+    alloc: Global,
+    bytes: &[u8],
+    at: usize,
+) -> Result<Option<(Line, usize)>, AllocError>
     requires { at ≤ length bytes.now }
     ensures found { (l : PlainLine) (rest : List ℕ) → IsLine l → AreLineTexts l
         → drop at bytes.now ≡ line_text l ++ rest

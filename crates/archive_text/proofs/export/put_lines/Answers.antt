@@ -1,8 +1,5 @@
-use Rattle.std.proofs.Common.{◌++◌, map, rules, arith, lit<}
+use Rattle.std.proofs.Common.{rules, lit<}
 use Rattle.std.proofs.lemmas.Str.Pattern.{split_parts}
-use Rattle.xa_outside.specs.InMemory.{sink_state}
-use Rattle.archive_text.specs.Export.{key_line, lines_text}
-use Rattle.archive_text.specs.Texts.{text_lines}
 use Rattle.archive_text.proofs.Steps.{on-ok}
 use Rattle.archive_text.proofs.LineLaws.{key_step, last_key}
 use Rattle.archive_text.proofs.export.put_lines.Goals as goal

@@ -27,7 +27,7 @@ put_node-returns-in_ok-put_nodes-in-Inner t c =
     let i = c.in-Inner in
     on-ok c.put_node_end.result
     (λ h. inner_text _ _ _ _ (node_view c.args.node.now) (label_view i.label) (stamp_view i.stamp) (nodes_view i.kids.items) (ap node_view i.is ∙ node_view-Inner i.label i.stamp i.kids) c.in_ok-put_begun-in-Inner.ensures
-        (rw c.deref.ensures.value at c.in_ok-put_nodes-in-Inner.ensures) h)
+    (rw c.deref.ensures.value at c.in_ok-put_nodes-in-Inner.ensures) h)
     c.put_node_end.ensures
 
 pub put_node-returns-in_ok-put_alts-in-Leaf : goal.put_node-returns-in_ok-put_alts-in-Leaf
@@ -35,5 +35,5 @@ put_node-returns-in_ok-put_alts-in-Leaf t c =
     let i = c.in-Leaf in
     on-ok c.put_node_end-in-Leaf.result
     (λ h. leaf_text _ _ _ _ (node_view c.args.node.now) (label_view i.label) (stamp_view i.stamp) (map alt_view i.alts.items) (ap node_view i.is ∙ node_view-Leaf i.label i.stamp i.alts) c.in_ok-put_begun-in-Leaf.ensures
-        (rw c.deref-in-Leaf.ensures.value at c.in_ok-put_alts-in-Leaf.ensures) h)
+    (rw c.deref-in-Leaf.ensures.value at c.in_ok-put_alts-in-Leaf.ensures) h)
     c.put_node_end-in-Leaf.ensures

@@ -1,4 +1,4 @@
-use Rattle.std.proofs.Common.{◌∷◌, ◌++◌, List, ℕ, map, drop, sym, ap, ◌∙◌, subst, rules}
+use Rattle.std.proofs.Common.{◌∷◌, List, ℕ, map, drop, sym, ap, ◌∙◌, subst, rules}
 use Rattle.std.specs.List.{flat_map}
 use Rattle.jsonml_tree.specs.View.{attr_view, tree_view}
 use Rattle.jsonml_tree.specs.declared.scalar.Attr.{Attr}

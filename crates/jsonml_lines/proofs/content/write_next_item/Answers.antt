@@ -1,4 +1,4 @@
-use Rattle.std.proofs.Common.{◌∷◌, ◌++◌, [], refl}
+use Rattle.std.proofs.Common.{◌∷◌, [], refl}
 use Rattle.jsonml_print.specs.Printed.{tree_text}
 use Rattle.jsonml_tree.specs.View.{tree_view}
 use Rattle.xa_outside.proofs.Output.{Puts-cut, Puts-after}

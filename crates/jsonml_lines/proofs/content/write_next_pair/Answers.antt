@@ -1,4 +1,4 @@
-use Rattle.std.proofs.Common.{◌∷◌, ◌++◌, [], refl}
+use Rattle.std.proofs.Common.{◌∷◌, [], refl}
 use Rattle.jsonml_print.specs.Printed.{attr_text}
 use Rattle.jsonml_tree.specs.View.{attr_view}
 use Rattle.xa_outside.proofs.Output.{Puts-cut, Puts-after}

@@ -1,4 +1,4 @@
-use Rattle.std.proofs.Common.{List, ℕ, ◌∷◌, ◌++◌, refl, subst, string_bytes}
+use Rattle.std.proofs.Common.{List, ℕ, ◌∷◌, refl, subst, string_bytes}
 use Rattle.json.specs.Print.{quoted}
 use Rattle.jsonml_tree.specs.View.{scalar_view}
 use Rattle.jsonml_print.specs.Printed.{scalar_text}

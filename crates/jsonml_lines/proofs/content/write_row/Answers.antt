@@ -1,4 +1,4 @@
-use Rattle.std.proofs.Common.{◌∷◌, ◌++◌, [], refl}
+use Rattle.std.proofs.Common.{◌∷◌, refl}
 use Rattle.std.specs.List.{flat_map}
 use Rattle.jsonml_print.specs.Printed.{tree_text}
 use Rattle.jsonml_tree.specs.View.{tree_view}

@@ -1,4 +1,4 @@
-use Rattle.std.proofs.Common.{◌≡◌, List, ℕ, [], ◌∷◌, ◌++◌, Option, Some, None, IsUtf8, option_map, option_and_then, sym, ap, ◌∙◌, subst, append_assoc}
+use Rattle.std.proofs.Common.{◌≡◌, List, ℕ, [], ◌∷◌, ◌++◌, Some, None, IsUtf8, option_map, option_and_then, sym, ap, ◌∙◌, subst, append_assoc}
 use Rattle.serde_json.specs.Read.{read}
 use Rattle.jsonml_lines.specs.Lines.{PlainLine, front_text, line_text}
 use Rattle.jsonml_lines.specs.Read.{line_in}

@@ -1,4 +1,4 @@
-use Rattle.std.proofs.Common.{◌≡◌, Option, Some, None, ◌∙◌, sym}
+use Rattle.std.proofs.Common.{None}
 use Rattle.jsonml_lines.proofs.Feeds.{feed_is, split_at}
 use Rattle.jsonml_lines.proofs.split.split_line.Goals as goal
 

@@ -1,4 +1,4 @@
-use Rattle.std.proofs.Common.{◌+◌, drop, rules, arith}
+use Rattle.std.proofs.Common.{◌+◌, drop}
 use Rattle.jsonml_text.proofs.Spelling.{values_left}
 use Rattle.jsonml_lines.proofs.Cells.{cells_step, well_step}
 use Rattle.jsonml_lines.proofs.value.cells_of.Goals as goal

@@ -1,4 +1,4 @@
-use Rattle.std.proofs.Common.{◌∷◌, ◌++◌, [], refl}
+use Rattle.std.proofs.Common.{◌∷◌, [], refl}
 use Rattle.jsonml_lines.specs.Lines.{cell_text}
 use Rattle.keyed_tree.specs.View.{key_view}
 use Rattle.xa_outside.proofs.Output.{Puts-cut, Puts-after}

@@ -1,4 +1,4 @@
-use Rattle.std.proofs.Common.{◌∷◌, ◌++◌, [], refl}
+use Rattle.std.proofs.Common.{◌∷◌, [], refl}
 use Rattle.json.specs.Print.{quoted}
 use Rattle.xa_outside.proofs.Output.{Puts-cut, Puts-after}
 use Rattle.jsonml_lines.proofs.write.write_text_cell.Goals as goal
