@@ -1,0 +1,9 @@
+-- What is said of faults.
+use Rattle.std.specs.Prelude.{⊤}
+use Rattle.archive_text.specs.declared.fault.TextFault.{TextFault}
+use Rattle.archive_text.specs.declared.fault.TextFault.TheVariants.{Sink}
+
+-- want of memory says nothing
+abbrev pub IfSink : TextFault → Type 0 → Type 0
+IfSink Sink P = P
+IfSink other P = ⊤

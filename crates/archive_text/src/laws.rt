@@ -1,0 +1,26 @@
+// What follows from the definitions.
+ghost use Rattle.std.specs.Prelude.{◌≡◌, ℕ, List};
+ghost use Rattle.key_spec.specs.Data.{PlainRule};
+ghost use Rattle.keyed_tree.specs.Data.{PlainKeyed};
+ghost use Rattle.noted_file.specs.Full.{FullAs};
+ghost use Rattle.archive_text.specs.Export.{ExportOf};
+
+use archive_file::{keyed_versions_can_be_merged, sound_archives_have_one_reading};
+use archive_tree::archives_stand_for_one_list;
+use jsonml_lines::printed_lines_read_back;
+
+/// An archive has one text, and different archives have different texts.
+pub fn texts_have_one_reading()
+    ensures text { (rules : List PlainRule) (vs : List PlainKeyed) (notes : List (List ℕ))
+        (a b : List ℕ) → ExportOf rules vs notes a → ExportOf rules vs notes b → a ≡ b }
+    ensures reading { (rules others : List PlainRule) (vs us : List PlainKeyed)
+        (notes more : List (List ℕ)) (file other text : List ℕ)
+        → FullAs rules vs notes file → FullAs others us more other
+        → ExportOf rules vs notes text → ExportOf others us more text
+        → (rules ≡ others) × (vs ≡ us) × (notes ≡ more) }
+{
+    printed_lines_read_back();
+    archives_stand_for_one_list();
+    sound_archives_have_one_reading();
+    keyed_versions_can_be_merged();
+}

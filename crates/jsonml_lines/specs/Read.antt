@@ -1,0 +1,42 @@
+-- What a JSON value spells in a line.
+use Rattle.std.specs.Prelude.{List, [], ◌∷◌, Option, Some, None, option_map, option_and_then}
+use Rattle.serde_json.specs.Data.{Data, null, boolean, number, string, array, object, Items, no_items, item}
+use Rattle.jsonml_text.specs.Spelled.{scalar_in, content_in}
+use Rattle.keyed_tree.specs.Data.{PlainKey, scalar, inside}
+use Rattle.jsonml_lines.specs.Lines.{PlainLine}
+
+-- an array is a content, and all else a scalar
+abbrev pub cell_in : Data → Option PlainKey
+cell_in null = option_map scalar (scalar_in null)
+cell_in (boolean b) = option_map scalar (scalar_in (boolean b))
+cell_in (number n) = option_map scalar (scalar_in (number n))
+cell_in (string s) = option_map scalar (scalar_in (string s))
+cell_in (array ds) = option_map inside (content_in ds)
+cell_in (object ms) = option_map scalar (scalar_in (object ms))
+
+-- the cells of all values, where each spells one
+abbrev pub cells_in : Items → Option (List PlainKey)
+cells_in no_items = Some []
+cells_in (item d ds) = option_and_then (λ k. option_map (λ ks. k ∷ ks) (cells_in ds)) (cell_in d)
+
+-- a string in front is the word
+abbrev pub word_in : Data → Items → Option PlainLine
+word_in null ds = None
+word_in (boolean b) ds = None
+word_in (number n) ds = None
+word_in (string s) ds = option_map (λ ks. record { word = s; cells = ks }) (cells_in ds)
+word_in (array es) ds = None
+word_in (object ms) ds = None
+
+abbrev pub words_in : Items → Option PlainLine
+words_in no_items = None
+words_in (item d ds) = word_in d ds
+
+-- the line that a value spells, if it spells one
+abbrev pub line_in : Data → Option PlainLine
+line_in null = None
+line_in (boolean b) = None
+line_in (number n) = None
+line_in (string s) = None
+line_in (array ds) = words_in ds
+line_in (object ms) = None

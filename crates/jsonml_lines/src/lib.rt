@@ -1,0 +1,18 @@
+//! Flat lines of JSON: an array of a word, scalars and contents on each, written and read one after another.
+#![tactic(auto)]
+
+mod content;
+mod laws;
+mod line;
+mod quote;
+mod read;
+mod split;
+mod value;
+mod write;
+
+pub use content::write_content;
+pub use laws::printed_lines_read_back;
+pub use line::Line;
+pub use quote::write_text;
+pub use read::take_line;
+pub use write::{end_line, write_cell, write_text_cell, write_word};

@@ -1,0 +1,9 @@
+//! Tests of archives as text.
+#![tactic(auto)]
+
+#[cfg(test)]
+mod archives;
+#[cfg(test)]
+mod contents;
+#[cfg(test)]
+mod written;
