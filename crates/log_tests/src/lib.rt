@@ -1,0 +1,11 @@
+//! Tests of content logs.
+#![tactic(auto)]
+
+#[cfg(test)]
+mod archives;
+#[cfg(test)]
+mod logs;
+#[cfg(test)]
+mod parts;
+#[cfg(test)]
+mod worked;
