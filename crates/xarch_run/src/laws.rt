@@ -24,9 +24,11 @@ use noted_file::{full_files_have_one_reading, sound_files_are_full};
 use xarch_meanings::what_should_succeed_is_not_refused;
 
 /// After any list of commands, an archive's file is exactly the encoding of the handed-in documents
-/// that satisfied its keys, in order, and of their notes, and refused commands changed no file; `get` of a number
+/// that satisfied its keys, in order, and refused commands changed no file; `get` of a number
 /// writes that version with keyed siblings in key order; and `history` writes exactly the versions
 /// that hold the element.
+///
+/// The encoding is that of the versions, and behind it of their notes, where one is not empty.
 ///
 /// The commands are those of calls of `run`, one after another, and of the lines of their batches.
 /// They may name other archives, sound or not. That merging all of the versions gives the bytes of

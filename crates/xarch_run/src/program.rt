@@ -73,8 +73,8 @@ pub fn run<F: Folder, S: Source, O: Sink, E: Sink>(
     // What any other command does where files are told: one of the steps that the words may have
     // the program take, and the one that is defined where the archive that they name is absent or
     // sound. Status, files, output and line are that step's, but after a fault of the outside,
-    // which leaves a prefix of its output. A refusal has no output, but where a `get` meets damage
-    // while it writes.
+    // which leaves a prefix of its output. A refusal has no output, but where a `get` or a
+    // `versions` meets damage while it writes.
     ensures tried { (files : Files) → command_of (words_view words.now) ≢ Some batch
         → F.files folder.old ≡ Some files → outside_of result ≡ None
         → Tried files (words_view words.now) result (F.files folder.new)
@@ -104,7 +104,8 @@ pub fn run<F: Folder, S: Source, O: Sink, E: Sink>(
         (E.taken err.old) (E.taken err.new) (E.faults err.old) (E.faults err.new) }
 
     // Whatever the folder tells, the answer is 0 or the status of a fault, whose line is said; the
-    // output only gains, and nothing after a refusal, but for a `get` that meets damage.
+    // output only gains, and nothing after a refusal, but for a `get` or a `versions` that meets
+    // damage.
     ensures said { command_of (words_view words.now) ≢ Some batch
         → Said result (E.taken err.old) (E.taken err.new) (E.faults err.old) (E.faults err.new) }
     ensures gained { command_of (words_view words.now) ≢ Some batch
