@@ -13,7 +13,8 @@ use Rattle.archive_tree.specs.Data.{PlainAlt, eff}
 use Rattle.archive_tree.specs.Stands.{AllDiffer, Stamped, has_body, nums, nums_with, first_num, head_or, bodies, AltStands}
 use Rattle.archive_tree.proofs.Those.{one_tree}
 use Rattle.archive_tree.proofs.Necessary.{body_there, one_body}
-use Rattle.archive_cut.specs.Sliced.{set_in, clipped, cut_set, is_gone, cut_alt, left_alts, put_alt, by_first, sliced_alts}
+use Rattle.record_format.specs.Nodes.{set_in}
+use Rattle.archive_cut.specs.Sliced.{clipped, cut_set, is_gone, cut_alt, left_alts, put_alt, by_first, sliced_alts}
 use Rattle.archive_cut.proofs.Clips.{members-cut, not_none, some_not_none}
 use Rattle.archive_cut.proofs.Stamps.{members-set_in, cut_stamped}
 use Rattle.archive_cut.proofs.Windows.{window, nums-window, nums_with-window, window_rises}

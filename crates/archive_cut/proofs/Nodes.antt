@@ -15,7 +15,8 @@ use Rattle.archive_tree.specs.Data.{Stamp, PlainNode, inner_node, leaf_node, Pla
 use Rattle.archive_tree.specs.Stands.{nums, under, labels, Stamped, CommonStands, RowStands, StandsFor, EachStands}
 use Rattle.archive_tree.proofs.Parts.{each_has, stands_stamped}
 use Rattle.archive_tree.proofs.Those.{those_ascend}
-use Rattle.archive_cut.specs.Sliced.{set_in, clipped, cut_set, is_gone, cut_stamp, sliced_node, sliced_row}
+use Rattle.record_format.specs.Nodes.{set_in}
+use Rattle.archive_cut.specs.Sliced.{clipped, cut_set, is_gone, cut_stamp, sliced_node, sliced_row}
 use Rattle.archive_cut.proofs.Clips.{not_none, some_not_none}
 use Rattle.archive_cut.proofs.Stamps.{members-set_in, IsCanonical-set_in, cut_stamped}
 use Rattle.archive_cut.proofs.Windows.{window, nums-window, those-window, all_window, window_of, clipped_some, some_clipped}

@@ -6,7 +6,8 @@ use Rattle.archive_tree.specs.Data.{Stamp, eff}
 use Rattle.archive_tree.specs.PartsTest.{is_same}
 use Rattle.archive_tree.specs.Stands.{Stamped}
 use Rattle.archive_tree.proofs.Tells.{is_same-exact}
-use Rattle.archive_cut.specs.Sliced.{set_in, clipped, cut_set, stamp_under, cut_stamp}
+use Rattle.record_format.specs.Nodes.{set_in}
+use Rattle.archive_cut.specs.Sliced.{clipped, cut_set, stamp_under, cut_stamp}
 use Rattle.archive_cut.proofs.Clips.{members-cut, IsCanonical-cut}
 
 pub members-set_in : (s : Stamp) (q : List (ℕ × ℕ)) → members (set_in s q) ≡ eff s (members q)

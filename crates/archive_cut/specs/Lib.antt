@@ -1,1 +1,14 @@
 pub mod Sliced
+pub mod Items
+pub mod State
+pub mod Passes
+pub mod Runs
+pub mod Short
+pub mod Windows
+pub mod Held
+pub mod Leaves
+pub mod Skipped
+pub mod Opened
+pub mod Walked
+pub mod Whole
+pub mod Cut

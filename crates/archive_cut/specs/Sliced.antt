@@ -5,13 +5,9 @@ use Rattle.keyed_tree.specs.Data.{PlainKeyed}
 use Rattle.archive_tree.specs.Data.{Stamp, PlainAlt, PlainNode, inner_node, leaf_node, PlainNodes, no_nodes, node, node_stamp, PlainArchive}
 use Rattle.archive_tree.specs.PartsTest.{is_none, is_same}
 use Rattle.archive_tree.specs.Stands.{first_num}
+use Rattle.record_format.specs.Nodes.{set_in}
 
 -- ---- sets
-
--- the stored set, else that of the parent
-abbrev pub set_in : Stamp → List (ℕ × ℕ) → List (ℕ × ℕ)
-set_in None parent = parent
-set_in (Some s) parent = s
 
 abbrev pub is_between : ℕ → ℕ → ℕ → Bool
 is_between i j n = nat_le i n && nat_le n j

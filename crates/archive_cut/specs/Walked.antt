@@ -1,0 +1,85 @@
+-- What is done with the nodes of an archive, under a parent that had a set.
+use Rattle.std.specs.Prelude.{◌≡◌, ◌<◌, ◌≤◌, ◌+◌, ℕ, List, [], ◌∷◌, ◌++◌, length, map, Bool, Option, Some, None, Result, IfOk, OnOk, IsTrue, IsFalse, ⊤, if◌then◌else◌}
+use Rattle.timestamp_tree.specs.Bytes.{set_bytes}
+use Rattle.version_set.specs.Members.{members}
+use Rattle.archive_tree.specs.Data.{PlainAlt, PlainNode, inner_node, leaf_node, PlainNodes, no_nodes, node, node_stamp}
+use Rattle.archive_tree.specs.Stands.{AllDiffer, first_num}
+use Rattle.record_format.specs.Nodes.{set_in}
+use Rattle.record_cursor.specs.Items.{PlainItem, leaf_end_item, end_item}
+use Rattle.record_cursor.specs.Moves.{Comes}
+use Rattle.record_writer.specs.Data.{WriterCall, call_end_leaf, call_end_inner}
+use Rattle.record_writer.specs.Walks.{alt_calls, node_calls, row_calls}
+use Rattle.archive_cut.specs.Items.{alt_items, node_items, row_items}
+use Rattle.archive_cut.specs.Passes.{Unless, Rests, Closes, fault_of}
+use Rattle.archive_cut.specs.Runs.{Run, Matches}
+use Rattle.archive_cut.specs.Short.{AreShort}
+use Rattle.archive_cut.specs.Sliced.{cut_set, is_gone, left_alts, sliced_alts, sliced_node, sliced_row}
+use Rattle.archive_cut.specs.State.{State}
+use Rattle.archive_cut.specs.declared.kind.Kind.{Kind}
+use Rattle.archive_cut.specs.declared.kind.Kind.TheVariants.{Inner, Leaf}
+use Rattle.archive_cut.specs.declared.fault.CutFault.{CutFault}
+
+-- the first numbers of what is left of the alternatives of a leaf that had q differ
+abbrev pub AreAltsApart : ℕ → ℕ → List (ℕ × ℕ) → List PlainAlt → Type 0
+AreAltsApart i j q xs = AllDiffer (map (first_num (members (cut_set i j q))) (left_alts i j q xs))
+
+-- they do in each leaf
+abbrev mutual
+  pub IsApart : ℕ → ℕ → List (ℕ × ℕ) → PlainNode → Type 0
+  IsApart i j q (inner_node l s ks) = AreApart i j (set_in s q) ks
+  IsApart i j q (leaf_node l s xs) = AreAltsApart i j (set_in s q) xs
+
+  pub AreApart : ℕ → ℕ → List (ℕ × ℕ) → PlainNodes → Type 0
+  AreApart i j q no_nodes = ⊤
+  AreApart i j q (node k ks) = IsApart i j q k × AreApart i j q ks
+
+-- the calls that write what is left of a node under a parent that had q
+abbrev pub calls_left : ℕ → ℕ → List (ℕ × ℕ) → PlainNode → List WriterCall
+calls_left i j q k = if is_gone i j (set_in (node_stamp k) q) then [] else node_calls (cut_set i j q) (sliced_node i j q k)
+
+-- What is left of the nodes of a row is written, where they come and the END behind them.
+pub record RowCut (i j : ℕ) (q : List (ℕ × ℕ)) (s t : State) (ended : Option CutFault) : Type 0 where
+  pub made : List WriterCall
+  pub next : WriterCall
+  pub run : Run made next s t ended
+  pub rests : Unless ended (Rests s.writer t.writer)
+  pub short : (b : ℕ) → s.cursor.length + 12 ≤ b → length (set_bytes q) ≤ b → AreShort b i j made next ended
+  pub row : (ks : PlainNodes) (m : ℕ) (behind : List PlainItem) → Comes s.files s.cursor (row_items q ks ++ end_item m ∷ behind) → AreApart i j q ks
+      → Matches (row_calls (cut_set i j q) (sliced_row i j q ks)) made next behind t ended
+
+-- And the inner node that they are in is closed.
+pub record InsideCut (i j : ℕ) (q : List (ℕ × ℕ)) (s t : State) (ended : Option CutFault) : Type 0 where
+  pub made : List WriterCall
+  pub next : WriterCall
+  pub run : Run made next s t ended
+  pub closed : Unless ended (Closes s.writer t.writer)
+  pub short : (b : ℕ) → s.cursor.length + 12 ≤ b → length (set_bytes q) ≤ b → AreShort b i j made next ended
+  pub inside : (ks : PlainNodes) (m : ℕ) (behind : List PlainItem) → Comes s.files s.cursor (row_items q ks ++ end_item m ∷ behind) → AreApart i j q ks
+      → Matches (row_calls (cut_set i j q) (sliced_row i j q ks) ++ call_end_inner ∷ []) made next behind t ended
+
+-- What is left of the alternatives of a leaf is written, where they come and its end, and the leaf is closed.
+pub record LeafCut (i j : ℕ) (q : List (ℕ × ℕ)) (s t : State) (ended : Option CutFault) : Type 0 where
+  pub made : List WriterCall
+  pub next : WriterCall
+  pub run : Run made next s t ended
+  pub rests : Unless ended (Rests s.writer t.writer)
+  pub short : (b : ℕ) → s.cursor.length + 12 ≤ b → length (set_bytes q) ≤ b → AreShort b i j made next ended
+  pub alternatives : (xs : List PlainAlt) (behind : List PlainItem) → Comes s.files s.cursor (alt_items xs ++ leaf_end_item ∷ behind) → AreAltsApart i j q xs
+      → Matches (alt_calls (sliced_alts i j q xs) ++ call_end_leaf ∷ []) made next behind t ended
+
+-- The same of what is inside a node of this kind.
+abbrev pub BegunCut : Kind → ℕ → ℕ → List (ℕ × ℕ) → State → State → Option CutFault → Type 0
+BegunCut Inner i j q s t ended = InsideCut i j q s t ended
+BegunCut Leaf i j q s t ended = LeafCut i j q s t ended
+
+-- What is left of the next node of a row is written, or the END behind the row taken: whether there was a node.
+pub record ChildCut (i j : ℕ) (q : List (ℕ × ℕ)) (s t : State) (more : Result Bool CutFault) : Type 0 where
+  pub made : List WriterCall
+  pub next : WriterCall
+  pub run : Run made next s t (fault_of more)
+  pub rests : OnOk more (Rests s.writer t.writer)
+  pub onward : OnOk more (s.cursor.at < t.cursor.at)
+  pub short : (b : ℕ) → s.cursor.length + 12 ≤ b → length (set_bytes q) ≤ b → AreShort b i j made next (fault_of more)
+  pub node_cut : (k : PlainNode) (behind : List PlainItem) → Comes s.files s.cursor (node_items q k ++ behind) → IsApart i j q k
+      → IfOk more (λ m. IsTrue m) × Matches (calls_left i j q k) made next behind t (fault_of more)
+  pub end_taken : (m : ℕ) (behind : List PlainItem) → Comes s.files s.cursor (end_item m ∷ behind) → IfOk more (λ m. IsFalse m) × Matches [] made next behind t (fault_of more)

@@ -1,0 +1,6 @@
+/// What a node is.
+#[derive(Clone, Copy)]
+pub(crate) enum Kind {
+    Inner,
+    Leaf,
+}

@@ -1,0 +1,144 @@
+// Going along the nodes of an archive, and writing what is left of them.
+ghost use Rattle.std.specs.Prelude.{◌≡◌, ◌≢◌, ◌≤◌, [], None};
+ghost use Rattle.version_set.specs.View.{pairs_of};
+ghost use Rattle.record_writer.specs.View.{writer_view};
+ghost use Rattle.archive_cut.specs.Passes.{fault_of, IsOpen};
+ghost use Rattle.archive_cut.specs.Sliced.{cut_set};
+ghost use Rattle.archive_cut.specs.State.{state};
+ghost use Rattle.archive_cut.specs.Walked.{RowCut, InsideCut, BegunCut, ChildCut};
+
+use crate::fault::{CutFault, taken, written};
+use crate::kind::Kind;
+use crate::leaf::cut_leaf;
+use crate::open::open_node;
+use crate::skip::skip_begun;
+use crate::window::Window;
+use archive_tree::effective;
+use record_cursor::{Cursor, Item};
+use record_writer::Writer;
+use version_set::VersionSet;
+use xa_outside::Folder;
+
+/// Writes what is left of the rest of a row, and takes the END behind it. The parent had the one
+/// set, of which the other is left.
+#[cycle(walk)]
+pub(crate) fn cut_row<F: Folder>(
+    window: &Window,
+    folder: &mut F,
+    cursor: &mut Cursor,
+    writer: &mut Writer,
+    before: &VersionSet,
+    now: &VersionSet,
+) -> Result<(), CutFault>
+    requires within { cursor.old.at ≤ cursor.old.length }
+    requires no_leaf { (writer_view writer.old).leaf ≡ None }
+    requires left { pairs_of now.now
+        ≡ cut_set window.now.first window.now.last (pairs_of before.now) }
+    ensures { RowCut window.entry.now.first window.entry.now.last (pairs_of before.entry.now)
+        (state F.files F.draft F.numbers F.faults folder.old cursor.old writer.old)
+        (state F.files F.draft F.numbers F.faults folder.new cursor.new writer.new)
+        (fault_of result) }
+{
+    while cut_child(window, folder, cursor, writer, before, now)? {}
+    Ok(())
+}
+
+// Writes what is left of the next node of a row, or takes the END behind the row: whether there was
+// a node.
+#[cycle(walk)]
+fn cut_child<F: Folder>(
+    window: &Window,
+    folder: &mut F,
+    cursor: &mut Cursor,
+    writer: &mut Writer,
+    before: &VersionSet,
+    now: &VersionSet,
+) -> Result<bool, CutFault>
+    requires within { cursor.old.at ≤ cursor.old.length }
+    requires no_leaf { (writer_view writer.old).leaf ≡ None }
+    requires left { pairs_of now.now
+        ≡ cut_set window.now.first window.now.last (pairs_of before.now) }
+    ensures { ChildCut window.entry.now.first window.entry.now.last (pairs_of before.entry.now)
+        (state F.files F.draft F.numbers F.faults folder.old cursor.old writer.old)
+        (state F.files F.draft F.numbers F.faults folder.new cursor.new writer.new)
+        result }
+{
+    let (kind, label, stamp) = match cursor.next(folder)? {
+        Item::Inner { label, stamp } => (Kind::Inner, label, stamp),
+        Item::Leaf { label, stamp } => (Kind::Leaf, label, stamp),
+        Item::End { .. } => return Ok(false),
+        _ => return Err(CutFault::Damage),
+    };
+    let cut = {
+        let old = stamp.copy(window.alloc)?;
+        match open_node(window, folder, writer, kind, label, &old, now)? {
+            Some(new) => {
+                let own = effective(&old, before);
+                cut_begun(
+                    window,
+                    folder,
+                    cursor,
+                    writer,
+                    kind,
+                    own,
+                    effective(&new, now),
+                )
+            }
+            None => taken(skip_begun(folder, cursor, kind)),
+        }
+    };
+    cut?;
+    Ok(true)
+}
+
+// What is inside a node of this kind that was begun is cut, and the node is closed. It had the one
+// set, of which the other is left.
+#[cycle(walk)]
+fn cut_begun<F: Folder>(
+    window: &Window,
+    folder: &mut F,
+    cursor: &mut Cursor,
+    writer: &mut Writer,
+    kind: Kind,
+    before: &VersionSet,
+    now: &VersionSet,
+) -> Result<(), CutFault>
+    requires within { cursor.old.at ≤ cursor.old.length }
+    requires stands { IsOpen kind (writer_view writer.old) }
+    requires left { pairs_of now.now
+        ≡ cut_set window.now.first window.now.last (pairs_of before.now) }
+    ensures { BegunCut kind window.entry.now.first window.entry.now.last (pairs_of before.entry.now)
+        (state F.files F.draft F.numbers F.faults folder.old cursor.old writer.old)
+        (state F.files F.draft F.numbers F.faults folder.new cursor.new writer.new)
+        (fault_of result) }
+{
+    match kind {
+        Kind::Inner => cut_inner(window, folder, cursor, writer, before, now),
+        Kind::Leaf => cut_leaf(window, folder, cursor, writer, before, now),
+    }
+}
+
+// Writes what is left of the inside of an inner node that was begun, as far as its END, and closes
+// the node.
+#[cycle(walk)]
+fn cut_inner<F: Folder>(
+    window: &Window,
+    folder: &mut F,
+    cursor: &mut Cursor,
+    writer: &mut Writer,
+    before: &VersionSet,
+    now: &VersionSet,
+) -> Result<(), CutFault>
+    requires within { cursor.old.at ≤ cursor.old.length }
+    requires no_leaf { (writer_view writer.old).leaf ≡ None }
+    requires begun { (writer_view writer.old).inners ≢ [] }
+    requires left { pairs_of now.now
+        ≡ cut_set window.now.first window.now.last (pairs_of before.now) }
+    ensures { InsideCut window.entry.now.first window.entry.now.last (pairs_of before.entry.now)
+        (state F.files F.draft F.numbers F.faults folder.old cursor.old writer.old)
+        (state F.files F.draft F.numbers F.faults folder.new cursor.new writer.new)
+        (fault_of result) }
+{
+    cut_row(window, folder, cursor, writer, before, now)?;
+    written(writer.end_inner(folder))
+}
