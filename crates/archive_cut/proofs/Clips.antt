@@ -1,5 +1,5 @@
 -- Numbers that are left, counted anew.
-use Rattle.std.proofs.Common.{◌≡◌, ◌≢◌, ℕ, ◌+◌, ◌-◌, ◌<◌, ◌≤◌, true, false, cond, List, [], ◌∷◌, map, filter, refl, arith}
+use Rattle.std.proofs.Common.{◌≡◌, ◌≢◌, ℕ, ◌+◌, ◌-◌, ◌<◌, ◌≤◌, true, false, cond, List, [], ◌∷◌, map, filter, refl, ap, sym, ◌∙◌, arith}
 use Rattle.std.specs.Ordering.{nat_cmp}
 use Rattle.std.proofs.lemmas.Bool.Decides.{nat_tests}
 use Rattle.version_set.specs.Pairs.{IsCanonical}
@@ -8,7 +8,7 @@ use Rattle.version_set.proofs.MembersLemmas.{members_ascend, members-intervals, 
 use Rattle.keyed_tree.specs.Lists.{Ascends}
 use Rattle.archive_tree.specs.PartsTest.{is_none}
 use Rattle.archive_tree.proofs.Numbers.{from_ascends, ascends_from}
-use Rattle.archive_cut.specs.Sliced.{is_between, clipped, cut_set}
+use Rattle.archive_cut.specs.Sliced.{is_between, clipped, cut_set, is_gone}
 
 -- what the test says
 pub between : (i j n : ℕ) → is_between i j n ≡ true → (i ≤ n) × (n ≤ j)
@@ -62,3 +62,7 @@ not_none (n ∷ ns) e d = cc
 pub some_not_none : (ns : List ℕ) → ns ≢ [] → is_none ns ≡ false
 some_not_none [] h = absurd (h refl)
 some_not_none (n ∷ ns) h = refl
+
+-- no number of a set is left
+pub gone-clipped : (i j : ℕ) (s : List (ℕ × ℕ)) → IsCanonical s → is_gone i j s ≡ is_none (clipped i j (members s))
+gone-clipped i j s c = ap is_none (members-cut i j s c)

@@ -1,6 +1,14 @@
 pub mod Clips
 pub mod Windows
 pub mod Stamps
-pub mod Alternatives
+pub mod LeftAlts
 pub mod Nodes
 pub mod Slices
+pub mod Passing
+pub mod Running
+pub mod Sets
+pub mod Skips
+pub mod Holding
+pub mod Sorting
+pub mod Leaving
+pub mod Putting

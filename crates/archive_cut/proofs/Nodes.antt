@@ -17,10 +17,10 @@ use Rattle.archive_tree.proofs.Parts.{each_has, stands_stamped}
 use Rattle.archive_tree.proofs.Those.{those_ascend}
 use Rattle.record_format.specs.Nodes.{set_in}
 use Rattle.archive_cut.specs.Sliced.{clipped, cut_set, is_gone, cut_stamp, sliced_node, sliced_row}
-use Rattle.archive_cut.proofs.Clips.{not_none, some_not_none}
+use Rattle.archive_cut.proofs.Clips.{not_none, some_not_none, gone-clipped}
 use Rattle.archive_cut.proofs.Stamps.{members-set_in, IsCanonical-set_in, cut_stamped}
 use Rattle.archive_cut.proofs.Windows.{window, nums-window, those-window, all_window, window_of, clipped_some, some_clipped}
-use Rattle.archive_cut.proofs.Alternatives.{left_numbers, sliced_stand, sliced_differ, sliced_in_order, sliced_covered}
+use Rattle.archive_cut.proofs.LeftAlts.{left_numbers, sliced_stand, sliced_differ, sliced_in_order, sliced_covered}
 
 pub sliced_label : (i j : ℕ) (q : List (ℕ × ℕ)) (k : PlainNode) → node_label (sliced_node i j q k) ≡ node_label k
 sliced_label i j q (inner_node l s ks) = refl
@@ -59,11 +59,14 @@ module _ (i j : ℕ) where
   numbers_of : (k : PlainNode) (q : List (ℕ × ℕ)) (ws : List (ℕ × PlainKeyed)) → StandsFor k ws (members q) → members (set_in (node_stamp k) q) ≡ nums ws
   numbers_of k q ws h = members-set_in (node_stamp k) q ∙ (stands_stamped k ws (members q) h).effective
 
-  stays : (k : PlainNode) (q : List (ℕ × ℕ)) (ws : List (ℕ × PlainKeyed)) → StandsFor k ws (members q) → window i j ws ≢ [] → is_gone i j (set_in (node_stamp k) q) ≡ false
-  stays k q ws h some = some_not_none (clipped i j (members (set_in (node_stamp k) q))) (λ e. clipped_some i j ws some (ap (clipped i j) (sym (numbers_of k q ws h)) ∙ e))
+  own : (k : PlainNode) (q : List (ℕ × ℕ)) (ws : List (ℕ × PlainKeyed)) → IsCanonical q → StandsFor k ws (members q) → IsCanonical (set_in (node_stamp k) q)
+  own k q ws c h = IsCanonical-set_in (node_stamp k) q (nums ws) (members q) (stands_stamped k ws (members q) h) c
 
-  is_left : (k : PlainNode) (q : List (ℕ × ℕ)) (ws : List (ℕ × PlainKeyed)) → StandsFor k ws (members q) → is_gone i j (set_in (node_stamp k) q) ≡ false → window i j ws ≢ []
-  is_left k q ws h e = some_clipped i j ws (λ d. not_none (clipped i j (members (set_in (node_stamp k) q))) e (ap (clipped i j) (numbers_of k q ws h) ∙ d))
+  stays : (k : PlainNode) (q : List (ℕ × ℕ)) (ws : List (ℕ × PlainKeyed)) → IsCanonical q → StandsFor k ws (members q) → window i j ws ≢ [] → is_gone i j (set_in (node_stamp k) q) ≡ false
+  stays k q ws c h some = gone-clipped i j (set_in (node_stamp k) q) (own k q ws c h) ∙ some_not_none (clipped i j (members (set_in (node_stamp k) q))) (λ e. clipped_some i j ws some (ap (clipped i j) (sym (numbers_of k q ws h)) ∙ e))
+
+  is_left : (k : PlainNode) (q : List (ℕ × ℕ)) (ws : List (ℕ × PlainKeyed)) → IsCanonical q → StandsFor k ws (members q) → is_gone i j (set_in (node_stamp k) q) ≡ false → window i j ws ≢ []
+  is_left k q ws c h e = some_clipped i j ws (λ d. not_none (clipped i j (members (set_in (node_stamp k) q))) (sym (gone-clipped i j (set_in (node_stamp k) q) (own k q ws c h)) ∙ e) (ap (clipped i j) (numbers_of k q ws h) ∙ d))
 
   -- kids in a row, where u gives for each label the list that its kid stands for
   each_cut : (q : List (ℕ × ℕ)) (u : PlainLabel → List (ℕ × PlainKeyed)) → IsCanonical q → ((l : PlainLabel) → Ascends nat_cmp (nums (u l))) → (ks : PlainNodes) → ((k : PlainNode) → Has k (nodes_list ks) → Cuts k)
@@ -75,7 +78,7 @@ module _ (i j : ℕ) where
         | true ↦ λ e. rest
         | false ↦ λ e. (
           subst (λ l. StandsFor (sliced_node i j q k) (window i j (u l)) (members (cut_set i j q))) (sym (sliced_label i j q k))
-              (cut k (inl refl) q (u (node_label k)) c (up (node_label k)) (is_left k q (u (node_label k)) h.0 e) h.0),
+              (cut k (inl refl) q (u (node_label k)) c (up (node_label k)) (is_left k q (u (node_label k)) c h.0 e) h.0),
           rest,
         )
       ] refl
@@ -90,7 +93,7 @@ module _ (i j : ℕ) where
         let from = source node_label l (nodes_list ks) (h.covered l (window_of i j (u l) some)) in
         let stands = each_has ks u (members q) from.item h.kids from.has in
         let some' = subst (λ z. window i j (u z) ≢ []) (sym from.is) some in
-        subst (λ z. Has z (labels (sliced_row i j q ks))) from.is (label_stays q from.item ks from.has (stays from.item q (u (node_label from.item)) stands some')));
+        subst (λ z. Has z (labels (sliced_row i j q ks))) from.is (label_stays q from.item ks from.has (stays from.item q (u (node_label from.item)) c stands some')));
   }
 
   common_cut : (l : PlainLabel) (s : Stamp) (q : List (ℕ × ℕ)) (ws : List (ℕ × PlainKeyed)) → IsCanonical q → window i j ws ≢ [] → CommonStands l s ws (members q) → CommonStands l (cut_stamp i j q s) (window i j ws) (members (cut_set i j q))

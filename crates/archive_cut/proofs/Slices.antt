@@ -12,7 +12,7 @@ use Rattle.archive_tree.specs.Stands.{nums, passed, rooted, numbered, RowStands,
 use Rattle.archive_tree.proofs.Those.{labelled, nums-enumerate, orderly_numbered, those_ascend}
 use Rattle.archive_cut.specs.Sliced.{cut_set, sliced_row, sliced, items}
 use Rattle.archive_cut.proofs.Windows.{window, those-window, window-numbered}
-use Rattle.archive_cut.proofs.Alternatives.{left_numbers}
+use Rattle.archive_cut.proofs.LeftAlts.{left_numbers}
 use Rattle.archive_cut.proofs.Nodes.{row_cut, nodes_cut}
 
 -- ---- parts of a list

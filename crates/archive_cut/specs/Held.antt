@@ -33,13 +33,20 @@ alt_call x = call_alt x.stamp x.body
 abbrev pub IsShortAlt : ℕ → ℕ → ℕ → PlainAlt → Type 0
 IsShortAlt b i j x = IsShortCall b i j (alt_call x)
 
+-- One more is held.
+pub record Pushed (now : List (ℕ × ℕ)) (x : PlainAlt) (old new : List Held) : Type 0 where
+  pub held : Held
+  pub is : new ≡ old ++ held ∷ []
+  pub shown : held_view held ≡ x
+  pub known : KnowsFirst now held
+
 -- What is held now, beside what was: an alternative more, of which a number is left, or none.
 pub record Holds (i j : ℕ) (now : List (ℕ × ℕ)) (x : PlainAlt) (old new : List Held) : Type 0 where
   pub views : map held_view new ≡ map held_view old ++ alts_left i j now (x ∷ [])
-  pub firsts : AllByRecursion (KnowsFirst now) old → AllByRecursion (KnowsFirst now) new
+  pub first : AllByRecursion (KnowsFirst now) old → AllByRecursion (KnowsFirst now) new
 
 -- They were put into the order of their first numbers.
 pub record InOrder (old new : List Held) : Type 0 where
   pub order : (now : List (ℕ × ℕ)) → AllByRecursion (KnowsFirst now) old → AllDiffer (map (first_num (members now)) (map held_view old))
       → map held_view new ≡ by_first (members now) (map held_view old)
-  pub all : (P : PlainAlt → Type 0) → AllByRecursion P (map held_view old) → AllByRecursion P (map held_view new)
+  pub short : (b i j : ℕ) → AllByRecursion (IsShortAlt b i j) (map held_view old) → AllByRecursion (IsShortAlt b i j) (map held_view new)

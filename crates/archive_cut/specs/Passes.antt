@@ -46,6 +46,12 @@ abbrev pub IfLong : Option CutFault → Type 0 → Type 0
 IfLong (Some TooLong) P = P
 IfLong other P = ⊤
 
+-- where no call was broken off, this holds
+abbrev pub IfWhole : Option CutFault → Type 0 → Type 0
+IfWhole None P = P
+IfWhole (Some TooLong) P = P
+IfWhole (Some other) P = ⊤
+
 -- ---- states
 
 -- how many bytes may be pulled: those by which the cursor moved, and after a fault those that it had left

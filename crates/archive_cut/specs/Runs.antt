@@ -1,17 +1,19 @@
 -- Which calls of the writer a part of the cut makes.
-use Rattle.std.specs.Prelude.{◌≡◌, List, ◌∷◌, ◌++◌, Option, Some, None, ⊤}
+use Rattle.std.specs.Prelude.{◌≡◌, ℕ, List, ◌∷◌, ◌++◌, Option, Some, None, ⊤}
 use Rattle.record_cursor.specs.Items.{PlainItem}
 use Rattle.record_cursor.specs.Moves.{Comes}
 use Rattle.record_writer.specs.Data.{WriterCall}
 use Rattle.record_writer.specs.Calls.{all_appended, after_all, Fits, AllFit}
-use Rattle.archive_cut.specs.Passes.{Unless, IfLong, Passes}
+use Rattle.archive_cut.specs.Passes.{Unless, IfLong, IfWhole, Passes}
 use Rattle.archive_cut.specs.State.{State}
 use Rattle.archive_cut.specs.declared.fault.CutFault.{CutFault}
 use Rattle.archive_cut.specs.declared.fault.CutFault.TheVariants.{Damage, TooLong}
 
--- These calls were made, and all fit; where it ended for want of room, the next did not fit behind them.
+-- These calls were made, and all fit, and the bytes are theirs, unless the folder or memory failed; where it ended for want of room, the next did not fit behind them.
 pub record Run (made : List WriterCall) (next : WriterCall) (s t : State) (ended : Option CutFault) : Type 0 where
-  pub passes : Passes (all_appended s.writer made) s t ended
+  pub bytes : List ℕ
+  pub passes : Passes bytes s t ended
+  pub same : IfWhole ended (bytes ≡ all_appended s.writer made)
   pub fit : AllFit s.writer made
   pub writer : Unless ended (t.writer ≡ after_all s.writer made)
   pub over : IfLong ended (¬ Fits (after_all s.writer made) next)

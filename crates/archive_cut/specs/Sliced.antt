@@ -22,7 +22,7 @@ cut_set i j q = intervals (clipped i j (members q))
 
 -- no number of the set is left
 abbrev pub is_gone : ℕ → ℕ → List (ℕ × ℕ) → Bool
-is_gone i j s = is_none (clipped i j (members s))
+is_gone i j s = is_none (members (cut_set i j s))
 
 -- a set under a parent that has another: it is stored where they differ
 abbrev pub stamp_under : List (ℕ × ℕ) → List (ℕ × ℕ) → Stamp

@@ -26,3 +26,15 @@ state files draft numbers faults folder cursor writer =
       cursor = cursor;
       writer = writer_view writer;
     }
+
+-- the same beside any writer
+abbrev pub beside : {S : Type 0} → (S → Option Files) → (S → Option (List ℕ)) → (S → Numbers) → (S → ℕ) → S → PlainCursor → PlainWriter → State
+beside files draft numbers faults folder cursor writer =
+    record {
+      files = files folder;
+      draft = draft folder;
+      numbers = numbers folder;
+      faults = faults folder;
+      cursor = cursor;
+      writer = writer;
+    }

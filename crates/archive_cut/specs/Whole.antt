@@ -18,7 +18,7 @@ use Rattle.record_writer.specs.View.{writer_view}
 use Rattle.record_writer.specs.Walks.{row_calls}
 use Rattle.record_writer.specs.declared.writer.Writer.{Writer}
 use Rattle.archive_cut.specs.Items.{row_items}
-use Rattle.archive_cut.specs.Passes.{IfFolder, IfLong}
+use Rattle.archive_cut.specs.Passes.{IfFolder, IfLong, IfWhole}
 use Rattle.archive_cut.specs.Runs.{IsPart}
 use Rattle.archive_cut.specs.Short.{AreShort}
 use Rattle.archive_cut.specs.Sliced.{cut_set, sliced_row, items}
@@ -46,7 +46,9 @@ module _ {S : Type 0} (files : S → Option Files) (draft : S → Option (List �
   pub record NodesCut (i j : ℕ) (q : List (ℕ × ℕ)) (old now : S) (c : PlainCursor) (w : Writer) (ended : Option CutFault) : Type 0 where
     pub made : List WriterCall
     pub next : WriterCall
-    pub reads : Reads files draft numbers faults (all_appended (writer_view w) made) old now (c.length - c.at) ended
+    pub bytes : List ℕ
+    pub reads : Reads files draft numbers faults bytes old now (c.length - c.at) ended
+    pub same : IfWhole ended (bytes ≡ all_appended (writer_view w) made)
     pub fit : AllFit (writer_view w) made
     pub over : IfLong ended (¬ Fits (after_all (writer_view w) made) next)
     pub short : (b : ℕ) → c.length + 12 ≤ b → length (set_bytes q) ≤ b → AreShort b i j made next ended

@@ -1,8 +1,8 @@
 // What is left of the alternatives of a leaf.
 ghost use Rattle.std.specs.Prelude.{◌≡◌, ◌≢◌, ◌≤◌, ◌∷◌, ◌++◌, [], map, None};
-ghost use Rattle.std.specs.Result.{result_map};
+ghost use Rattle.std.specs.Result.{result_map_both};
 ghost use Rattle.version_set.specs.View.{pairs_of};
-ghost use Rattle.record_writer.specs.Data.{call_end_leaf};
+ghost use Rattle.record_writer.specs.Data.{PlainWriter, call_end_leaf};
 ghost use Rattle.record_writer.specs.View.{writer_view};
 ghost use Rattle.record_writer.specs.Walks.{alt_calls};
 ghost use Rattle.archive_cut.specs.Held.{held_view};
@@ -10,13 +10,13 @@ ghost use Rattle.archive_cut.specs.Leaves.{AltsRead};
 ghost use Rattle.archive_cut.specs.Passes.{fault_of};
 ghost use Rattle.archive_cut.specs.Runs.{Sent};
 ghost use Rattle.archive_cut.specs.Sliced.{cut_set};
-ghost use Rattle.archive_cut.specs.State.{state};
+ghost use Rattle.archive_cut.specs.State.{beside, state};
 ghost use Rattle.archive_cut.specs.Walked.{LeafCut};
 ghost use Rattle.record_cursor.specs.View.{PlainCursor};
-ghost use Rattle.record_writer.specs.declared.writer.Writer.{Writer};
 
+use crate::alternatives::{hold, in_order};
 use crate::fault::{CutFault, written};
-use crate::held::{Held, hold, in_order};
+use crate::held::Held;
 use crate::window::Window;
 use record_cursor::{Cursor, Item};
 use record_parts::lend_body;
@@ -55,11 +55,11 @@ fn read_alts<F: Folder>(
     now: &VersionSet,
 ) -> Result<Vec<Held>, CutFault>
     requires within { cursor.old.at ≤ cursor.old.length }
-    ensures { (w : Writer) → AltsRead window.entry.now.first window.entry.now.last
+    ensures { (w : PlainWriter) → AltsRead window.entry.now.first window.entry.now.last
         (pairs_of now.entry.now)
-        (state F.files F.draft F.numbers F.faults folder.old cursor.old w)
-        (state F.files F.draft F.numbers F.faults folder.new cursor.new w)
-        (result_map (λ v. v.items) result) }
+        (beside F.files F.draft F.numbers F.faults folder.old cursor.old w)
+        (beside F.files F.draft F.numbers F.faults folder.new cursor.new w)
+        (result_map_both (λ v. v.items) (λ e. e) result) }
 {
     let mut held = Vec::new(window.alloc);
     loop {

@@ -1,7 +1,7 @@
 //! Cutting some versions out of an archive file, which is read once and never held.
 #![tactic(auto)]
 
-mod cut;
+mod alternatives;
 mod fault;
 mod held;
 mod kind;
@@ -10,8 +10,9 @@ mod leaf;
 mod open;
 mod skip;
 mod walk;
+mod whole;
 mod window;
 
-pub use cut::cut;
 pub use fault::CutFault;
 pub use laws::slices_have_their_archives;
+pub use whole::cut;

@@ -1,8 +1,8 @@
 // Passing over nodes of which no version is left.
 ghost use Rattle.std.specs.Prelude.{◌≤◌};
 ghost use Rattle.archive_cut.specs.Skipped.{RowSkipped, AltsSkipped, ChildSkipped, BegunSkipped, ended_by};
-ghost use Rattle.archive_cut.specs.State.{state};
-ghost use Rattle.record_writer.specs.declared.writer.Writer.{Writer};
+ghost use Rattle.archive_cut.specs.State.{beside};
+ghost use Rattle.record_writer.specs.Data.{PlainWriter};
 
 use crate::kind::Kind;
 use record_cursor::{Cursor, CursorFault, Item};
@@ -15,9 +15,9 @@ pub(crate) fn skip_begun<F: Folder>(
     kind: Kind,
 ) -> Result<(), CursorFault>
     requires within { cursor.old.at ≤ cursor.old.length }
-    ensures { (w : Writer) → BegunSkipped kind
-        (state F.files F.draft F.numbers F.faults folder.old cursor.old w)
-        (state F.files F.draft F.numbers F.faults folder.new cursor.new w) (ended_by result) }
+    ensures { (w : PlainWriter) → BegunSkipped kind
+        (beside F.files F.draft F.numbers F.faults folder.old cursor.old w)
+        (beside F.files F.draft F.numbers F.faults folder.new cursor.new w) (ended_by result) }
 {
     match kind {
         Kind::Inner => skip_row(folder, cursor),
@@ -29,9 +29,9 @@ pub(crate) fn skip_begun<F: Folder>(
 #[cycle(skip)]
 fn skip_row<F: Folder>(folder: &mut F, cursor: &mut Cursor) -> Result<(), CursorFault>
     requires within { cursor.old.at ≤ cursor.old.length }
-    ensures { (w : Writer) → RowSkipped
-        (state F.files F.draft F.numbers F.faults folder.old cursor.old w)
-        (state F.files F.draft F.numbers F.faults folder.new cursor.new w) (ended_by result) }
+    ensures { (w : PlainWriter) → RowSkipped
+        (beside F.files F.draft F.numbers F.faults folder.old cursor.old w)
+        (beside F.files F.draft F.numbers F.faults folder.new cursor.new w) (ended_by result) }
 {
     while skip_child(folder, cursor)? {}
     Ok(())
@@ -41,9 +41,9 @@ fn skip_row<F: Folder>(folder: &mut F, cursor: &mut Cursor) -> Result<(), Cursor
 #[cycle(skip)]
 fn skip_child<F: Folder>(folder: &mut F, cursor: &mut Cursor) -> Result<bool, CursorFault>
     requires within { cursor.old.at ≤ cursor.old.length }
-    ensures { (w : Writer) → ChildSkipped
-        (state F.files F.draft F.numbers F.faults folder.old cursor.old w)
-        (state F.files F.draft F.numbers F.faults folder.new cursor.new w) result }
+    ensures { (w : PlainWriter) → ChildSkipped
+        (beside F.files F.draft F.numbers F.faults folder.old cursor.old w)
+        (beside F.files F.draft F.numbers F.faults folder.new cursor.new w) result }
 {
     match cursor.next(folder)? {
         Item::Inner { .. } => skip_row(folder, cursor)?,
@@ -57,9 +57,9 @@ fn skip_child<F: Folder>(folder: &mut F, cursor: &mut Cursor) -> Result<bool, Cu
 // Passes over the alternatives of a leaf, and over its end.
 fn skip_alts<F: Folder>(folder: &mut F, cursor: &mut Cursor) -> Result<(), CursorFault>
     requires within { cursor.old.at ≤ cursor.old.length }
-    ensures { (w : Writer) → AltsSkipped
-        (state F.files F.draft F.numbers F.faults folder.old cursor.old w)
-        (state F.files F.draft F.numbers F.faults folder.new cursor.new w) (ended_by result) }
+    ensures { (w : PlainWriter) → AltsSkipped
+        (beside F.files F.draft F.numbers F.faults folder.old cursor.old w)
+        (beside F.files F.draft F.numbers F.faults folder.new cursor.new w) (ended_by result) }
 {
     loop {
         match cursor.next(folder)? {

@@ -17,6 +17,7 @@ pub(crate) struct Window {
     pub last: u32,
     pub ghost from: { 1 ≤ first },
     pub ghost order: { first ≤ last },
+    pub ghost small: { last ≤ 4294967295 },
 }
 
 /// What is left of a set, counted from the first version.

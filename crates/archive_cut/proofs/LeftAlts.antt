@@ -15,8 +15,8 @@ use Rattle.archive_tree.proofs.Those.{one_tree}
 use Rattle.archive_tree.proofs.Necessary.{body_there, one_body}
 use Rattle.record_format.specs.Nodes.{set_in}
 use Rattle.archive_cut.specs.Sliced.{clipped, cut_set, is_gone, cut_alt, left_alts, put_alt, by_first, sliced_alts}
-use Rattle.archive_cut.proofs.Clips.{members-cut, not_none, some_not_none}
-use Rattle.archive_cut.proofs.Stamps.{members-set_in, cut_stamped}
+use Rattle.archive_cut.proofs.Clips.{members-cut, not_none, some_not_none, gone-clipped}
+use Rattle.archive_cut.proofs.Stamps.{members-set_in, IsCanonical-set_in, cut_stamped}
 use Rattle.archive_cut.proofs.Windows.{window, nums-window, nums_with-window, window_rises}
 
 -- ---- the order of the first numbers
@@ -141,7 +141,8 @@ module _ (i j : ℕ) (q : List (ℕ × ℕ)) (ws : List (ℕ × PlainKeyed)) (sa
   alt_stands : (a : PlainAlt) → AltStands a ws → is_gone i j (set_in a.stamp q) ≡ false → AltStands (cut_alt i j q a) vs
   alt_stands a h e =
       let list = nums_with-window i j ws a.body in
-      let some = not_none (clipped i j (members (set_in a.stamp q))) e in
+      let own = IsCanonical-set_in a.stamp q (nums_with ws a.body) (nums ws) h.stamped canonical in
+      let some = not_none (clipped i j (members (set_in a.stamp q))) (sym (gone-clipped i j (set_in a.stamp q) own) ∙ e) in
       record {
         some = λ d. some (ap (clipped i j) (numbers_of a h) ∙ sym list ∙ d);
         stamped = subst (λ z. Stamped (cut_alt i j q a).stamp (nums_with vs a.body) z) left_numbers (subst (λ z. Stamped (cut_alt i j q a).stamp z ns) (sym list) (cut_stamped i j a.stamp q (nums_with ws a.body) canonical (subst (λ z. Stamped a.stamp (nums_with ws a.body) z) (sym same) h.stamped)));
@@ -214,6 +215,7 @@ module _ (i j : ℕ) (q : List (ℕ × ℕ)) (ws : List (ℕ × PlainKeyed)) (sa
       let from = source (λ (a : PlainAlt). a.body) b xs (covered b before) in
       let stands = all_has (λ a. AltStands a ws) xs from.item h from.has in
       let numbers : members (set_in from.item.stamp q) ≡ nums_with ws b = numbers_of from.item stands ∙ ap (nums_with ws) from.is in
-      let stays = some_not_none (clipped i j (members (set_in from.item.stamp q))) (λ e. some (list ∙ ap (clipped i j) (sym numbers) ∙ e)) in
+      let own = IsCanonical-set_in from.item.stamp q (nums_with ws from.item.body) (nums ws) stands.stamped canonical in
+      let stays = gone-clipped i j (set_in from.item.stamp q) own ∙ some_not_none (clipped i j (members (set_in from.item.stamp q))) (λ e. some (list ∙ ap (clipped i j) (sym numbers) ∙ e)) in
       let there = has_by_first ns (cut_alt i j q from.item) (left xs) (has_left from.item xs from.has stays) in
       subst (λ z. Has z (bodies (sliced_alts i j q xs))) from.is (has_map (λ (a : PlainAlt). a.body) (cut_alt i j q from.item) (sliced_alts i j q xs) there)

@@ -1,0 +1,146 @@
+-- Alternatives that a sort has put into order.
+use Rattle.std.proofs.Common.{◌≡◌, ◌≢◌, ℕ, zero, suc, ◌+◌, ◌≤◌, ◌<◌, ◌==◌, Bool, true, false, List, [], ◌∷◌, map, length, get_or, refl, ap, sym, subst, ◌∙◌, inl, inr, arith, eqb-true, eq-eqb}
+use Rattle.std.proofs.lemmas.Bool.Decides.{nat_tests}
+use Rattle.std.proofs.lemmas.Cmp.{nat_cmp_total}
+use Rattle.std.proofs.lemmas.List.Sums.{sum_by-cons}
+use Rattle.std.proofs.lemmas.List.Sorted.{sum_by-IsPermutation, Contains-permutation, IsPermutation-sym, IsPermutation-map}
+use Rattle.std.specs.List.{AllByRecursion, Contains, sum_by}
+use Rattle.std.specs.List.Sorted.{IsPermutation, IsNonDecreasingBy}
+use Rattle.std.specs.Ordering.{nat_cmp}
+use Rattle.std.specs.declared.cmp.Ordering.TheVariants.{Less}
+use Rattle.version_set.specs.Members.{members}
+use Rattle.keyed_tree.specs.Lists.{Ascends, Has}
+use Rattle.keyed_tree.proofs.Lists.{all_has, has_all, has_map, source, same_items}
+use Rattle.archive_tree.specs.Data.{PlainAlt}
+use Rattle.archive_tree.specs.Stands.{AllDiffer, first_num}
+use Rattle.archive_cut.specs.Held.{held_view, KnowsFirst, IsShortAlt, InOrder}
+use Rattle.archive_cut.specs.Sliced.{by_first}
+use Rattle.archive_cut.specs.declared.held.Held.{Held}
+use Rattle.archive_cut.proofs.LeftAlts.{has_by_first, by_first_has, by_first_ascends}
+
+-- ---- what a permutation has
+
+at_has : {X : Type 0} (xs : List X) (k : ℕ) (x : X) → k < length xs → get_or xs k x ≡ x → Has x xs
+at_has [] k x low at = absurd (omega arith)
+at_has (y ∷ ys) zero x low at = inl at
+at_has (y ∷ ys) (suc k) x low at = inr (at_has ys k x (omega arith) at)
+
+has_at : {X : Type 0} (xs : List X) (x : X) → Has x xs → Contains xs x
+has_at [] x m = absurd m
+has_at (y ∷ ys) x m = elim m [ inl e ↦ (0, omega arith, e) | inr n ↦ (let h = has_at ys x n in let low : h.0 < length ys = h.1 in (suc h.0, omega arith, h.2)) ]
+
+has_permuted : {X : Type 0} (xs ys : List X) → IsPermutation xs ys → (z : X) → Has z xs → Has z ys
+has_permuted xs ys p z m = (let h = Contains-permutation xs ys z p (has_at xs z m) in at_has ys h.0 z h.1 h.2)
+
+all_permuted : {X : Type 0} (P : X → Type 0) (xs ys : List X) → IsPermutation xs ys → AllByRecursion P xs → AllByRecursion P ys
+all_permuted P xs ys p h = has_all P ys (λ z m. all_has P xs z h (has_permuted ys xs (IsPermutation-sym xs ys p) z m))
+
+-- ---- how often a number stands in a list
+
+abbrev one_if : Bool → ℕ
+one_if true = 1
+one_if false = 0
+
+abbrev is_at : ℕ → ℕ → ℕ
+is_at n m = one_if (m == n)
+
+abbrev times : ℕ → List ℕ → ℕ
+times n ms = sum_by (is_at n) ms
+
+itself_once : (n : ℕ) → is_at n n ≡ 1
+itself_once n = (let e : (n == n) ≡ true = eq-eqb n n refl in rw e refl)
+
+other_never : (n m : ℕ) → n ≢ m → is_at n m ≡ 0
+other_never n m other = (let e : (m == n) ≡ false = grind (arith, nat_tests) in rw e refl)
+
+never_other : (n m : ℕ) → is_at n m ≡ 0 → n ≢ m
+never_other n m e d = (let one = itself_once n in let same : is_at n m ≡ is_at n n = ap (is_at n) (sym d) in omega arith)
+
+all-never : (n : ℕ) (ms : List ℕ) → AllByRecursion (λ m. n ≢ m) ms → times n ms ≡ 0
+all-never n [] h = refl
+all-never n (m ∷ ms) h = (let more = sum_by-cons (is_at n) m ms in let this = other_never n m h.0 in let rest = all-never n ms h.1 in omega arith)
+
+never-all : (n : ℕ) (ms : List ℕ) → times n ms ≡ 0 → AllByRecursion (λ m. n ≢ m) ms
+never-all n [] e = tt
+never-all n (m ∷ ms) e = (let more = sum_by-cons (is_at n) m ms in (never_other n m (omega arith), never-all n ms (omega arith)))
+
+at_most_one : (n m : ℕ) → is_at n m ≤ 1
+at_most_one n m = elim (m == n) as (λ b. one_if b ≤ 1) [ true ↦ omega arith | false ↦ omega arith ]
+
+differ-times : (ms : List ℕ) → AllDiffer ms → (n : ℕ) → times n ms ≤ 1
+differ-times [] a n = omega arith
+differ-times (m ∷ ms) a n =
+    let more = sum_by-cons (is_at n) m ms in
+    let one = at_most_one n m in
+    elim (m == n) as (λ b. (m == n) ≡ b → times n (m ∷ ms) ≤ 1) [
+      | true ↦ λ e. (
+          let same : m ≡ n = eqb-true m n e in
+          let rest : times n ms ≡ 0 = subst (λ k. times k ms ≡ 0) same (all-never m ms a.0) in
+          omega arith)
+      | false ↦ λ e. (
+          let this : is_at n m ≡ 0 = rw e refl in
+          let rest = differ-times ms a.1 n in
+          omega arith)
+    ] refl
+
+times-differ : (ms : List ℕ) → ((n : ℕ) → times n ms ≤ 1) → AllDiffer ms
+times-differ [] h = tt
+times-differ (m ∷ ms) h =
+    let none : times m ms ≡ 0 = (let more = sum_by-cons (is_at m) m ms in let one = itself_once m in let most = h m in omega arith) in
+    (never-all m ms none, times-differ ms (λ n. (let more = sum_by-cons (is_at n) m ms in let most = h n in omega arith)))
+
+differ_permuted : (ms ns : List ℕ) → IsPermutation ms ns → AllDiffer ms → AllDiffer ns
+differ_permuted ms ns p a = times-differ ns (λ n. (let same = sum_by-IsPermutation (is_at n) ms ns p in let most = differ-times ms a n in omega arith))
+
+-- ---- numbers that do not fall and differ ascend
+
+all_at : {X : Type 0} (P : X → Type 0) (xs : List X) → ((k : ℕ) (d : X) → k < length xs → P (get_or xs k d)) → AllByRecursion P xs
+all_at P [] h = tt
+all_at P (x ∷ xs) h = (h 0 x (omega arith), all_at P xs (λ k d low. h (suc k) d (omega arith)))
+
+module _ {X : Type 0} (f : X → ℕ) where
+  abbrev Ups : List X → Type 0
+  Ups [] = Unit {0}
+  Ups (x ∷ xs) = AllByRecursion (λ y. f x ≤ f y) xs × Ups xs
+
+  ups-of : (xs : List X) → IsNonDecreasingBy f xs → Ups xs
+  ups-of [] h = tt
+  ups-of (x ∷ xs) h = (
+    all_at (λ y. f x ≤ f y) xs (λ k d low. h 0 (suc k) d (omega arith) (omega arith)),
+    ups-of xs (λ k m d le low. h (suc k) (suc m) d (omega arith) (omega arith)))
+
+  ups-same : (g : X → ℕ) (xs : List X) → AllByRecursion (λ x. f x ≡ g x) xs → Ups xs → AllByRecursion (λ x. f x ≡ g x) xs
+  ups-same g xs h u = h
+
+less : (m n : ℕ) → m ≤ n → m ≢ n → nat_cmp m n ≡ Less
+less m n h d = grind (arith, nat_tests)
+
+all_less : {X : Type 0} (f g : X → ℕ) (m : ℕ) (xs : List X) → AllByRecursion (λ x. f x ≡ g x) xs → AllByRecursion (λ y. m ≤ f y) xs → AllByRecursion (λ n. m ≢ n) (map g xs) → AllByRecursion (λ n. nat_cmp m n ≡ Less) (map g xs)
+all_less f g m [] s h d = tt
+all_less f g m (x ∷ xs) s h d = (less m (g x) (subst (λ n. m ≤ n) s.0 h.0) d.0, all_less f g m xs s.1 h.1 d.1)
+
+ups-ascend : {X : Type 0} (f g : X → ℕ) (xs : List X) → AllByRecursion (λ x. f x ≡ g x) xs → Ups f xs → AllDiffer (map g xs) → Ascends nat_cmp (map g xs)
+ups-ascend f g [] s u d = tt
+ups-ascend f g (x ∷ xs) s u d = (
+  subst (λ m. AllByRecursion (λ n. nat_cmp m n ≡ Less) (map g xs)) s.0 (all_less f g (f x) xs s.1 u.0 (subst (λ m. AllByRecursion (λ n. m ≢ n) (map g xs)) (sym s.0) d.0)),
+  ups-ascend f g xs s.1 u.1 d.1)
+
+map-map : (g : PlainAlt → ℕ) (hs : List Held) → map (λ h. g (held_view h)) hs ≡ map g (map held_view hs)
+map-map g [] = refl
+map-map g (h ∷ hs) = ap (λ z. g (held_view h) ∷ z) (map-map g hs)
+
+-- they are in the order of their first numbers
+pub in-order : (old new : List Held) → IsPermutation old new → IsNonDecreasingBy (λ h. h.first) new → InOrder old new
+in-order old new p up = record {
+  order = λ now known differ. (
+      let g : PlainAlt → ℕ = first_num (members now) in
+      let views = IsPermutation-map held_view old new p in
+      let back = IsPermutation-sym (map held_view old) (map held_view new) views in
+      let knows = all_permuted (KnowsFirst now) old new p known in
+      let apart : AllDiffer (map g (map held_view new)) = differ_permuted (map g (map held_view old)) (map g (map held_view new)) (IsPermutation-map g (map held_view old) (map held_view new) views) differ in
+      let rises : Ascends nat_cmp (map g (map held_view new)) = subst (Ascends nat_cmp) (map-map g new) (ups-ascend (λ (h : Held). h.first) (λ h. g (held_view h)) new knows (ups-of (λ (h : Held). h.first) new up) (subst AllDiffer (sym (map-map g new)) apart)) in
+      same_items g nat_cmp_total (map held_view new) (by_first (members now) (map held_view old)) rises (by_first_ascends (members now) (map held_view old) differ)
+      (λ z m. has_by_first (members now) z (map held_view old) (has_permuted (map held_view new) (map held_view old) back z m))
+      (λ z m. has_permuted (map held_view old) (map held_view new) views z (by_first_has (members now) z (map held_view old) m)));
+  short = λ b i j h. all_permuted (IsShortAlt b i j) (map held_view old) (map held_view new) (IsPermutation-map held_view old new p) h;
+}
