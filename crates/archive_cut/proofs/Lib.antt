@@ -12,3 +12,4 @@ pub mod Holding
 pub mod Sorting
 pub mod Leaving
 pub mod Putting
+pub mod Walking

@@ -52,9 +52,9 @@ pub put-fault : (k : ℕ) (hs : List Held) (h : Held) (s t u : State) (f : CutFa
 put-fault k hs h s t u f low at done sent =
     let rest = calls (drop (suc k) hs) ++ call_end_leaf ∷ [] in
     let is : calls hs ++ call_end_leaf ∷ [] ≡ (calls (take k hs) ++ alt_call (held_view h) ∷ []) ++ rest =
-        ap (λ z. z ++ call_end_leaf ∷ []) (ap calls (front k hs h low at) ∙ calls-append (take k hs) (h ∷ drop (suc k) hs))
-        ∙ append_assoc (calls (take k hs)) (alt_call (held_view h) ∷ calls (drop (suc k) hs)) (call_end_leaf ∷ [])
-        ∙ sym (append_assoc (calls (take k hs)) (alt_call (held_view h) ∷ []) rest) in
+    ap (λ z. z ++ call_end_leaf ∷ []) (ap calls (front k hs h low at) ∙ calls-append (take k hs) (h ∷ drop (suc k) hs))
+    ∙ append_assoc (calls (take k hs)) (alt_call (held_view h) ∷ calls (drop (suc k) hs)) (call_end_leaf ∷ [])
+    ∙ sym (append_assoc (calls (take k hs)) (alt_call (held_view h) ∷ []) rest) in
     sent-as s u (Some f) _ _ is (sent-fault s u f (calls (take k hs) ++ alt_call (held_view h) ∷ []) rest (sent-then s t u (Some f) (calls (take k hs)) (alt_call (held_view h) ∷ []) done sent))
 
 pub put-end : (k : ℕ) (hs : List Held) (s t u : State) (e : Option CutFault) → length hs ≤ k → Sent (calls (take k hs)) s t None → Sent (call_end_leaf ∷ []) t u e → Sent (calls hs ++ call_end_leaf ∷ []) s u e

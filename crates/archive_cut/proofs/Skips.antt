@@ -198,7 +198,7 @@ abbrev pub moreover : Option CursorFault → Result Bool CursorFault
 moreover None = Ok true
 moreover (Some e) = Err e
 
-abbrev Behind : State → State → Option CursorFault → PlainItem → Type 0
+abbrev pub Behind : State → State → Option CursorFault → PlainItem → Type 0
 Behind t u e shown = (q : List (ℕ × ℕ)) (k : PlainNode) (next : List PlainItem) → shown ≡ first k → Comes t.files t.cursor (behind_first q k ++ next) → Follows next u e
 
 child-then : (s t u : State) (item : Item) (e : Option CursorFault) → ((n : ℕ) → shown_item item ≢ end_item n) → 9 ≤ size_of s.cursor.standing (shown_item item) → Nexts s t item → Passes [] t u (option_map of_cursor e) → Behind t u e (shown_item item) → ChildSkipped s u (moreover e)
@@ -215,11 +215,11 @@ child-then s t u item (Some f) not long read passes skipped = record {
   end_taken = λ n next comes. absurd (not n (given (end_item n) next s t item read comes).0);
 }
 
-row-behind : (t u : State) (e : Option CursorFault) (l : PlainLabel) (st : Stamp) → RowSkipped t u e → Behind t u e (inner_item l st)
+pub row-behind : (t u : State) (e : Option CursorFault) (l : PlainLabel) (st : Stamp) → RowSkipped t u e → Behind t u e (inner_item l st)
 row-behind t u e l st h q (inner_node m z ks) next same comes = h.row (set_in z q) ks _ next (subst (λ (is : List PlainItem). Comes t.files t.cursor is) (append_assoc (row_items (set_in z q) ks) (end_of (set_in z q) ks ∷ []) next) comes)
 row-behind t u e l st h q (leaf_node m z xs) next same comes = absurd cc
 
-alts-behind : (t u : State) (e : Option CursorFault) (l : PlainLabel) (st : Stamp) → AltsSkipped t u e → Behind t u e (leaf_item l st)
+pub alts-behind : (t u : State) (e : Option CursorFault) (l : PlainLabel) (st : Stamp) → AltsSkipped t u e → Behind t u e (leaf_item l st)
 alts-behind t u e l st h q (leaf_node m z xs) next same comes = h.alternatives xs next (subst (λ (is : List PlainItem). Comes t.files t.cursor is) (append_assoc (alt_items xs) (leaf_end_item ∷ []) next) comes)
 alts-behind t u e l st h q (inner_node m z ks) next same comes = absurd cc
 

@@ -107,7 +107,8 @@ module _ {X : Type 0} (f : X → ℕ) where
   ups-of [] h = tt
   ups-of (x ∷ xs) h = (
     all_at (λ y. f x ≤ f y) xs (λ k d low. h 0 (suc k) d (omega arith) (omega arith)),
-    ups-of xs (λ k m d le low. h (suc k) (suc m) d (omega arith) (omega arith)))
+    ups-of xs (λ k m d le low. h (suc k) (suc m) d (omega arith) (omega arith)),
+  )
 
   ups-same : (g : X → ℕ) (xs : List X) → AllByRecursion (λ x. f x ≡ g x) xs → Ups xs → AllByRecursion (λ x. f x ≡ g x) xs
   ups-same g xs h u = h
@@ -123,7 +124,8 @@ ups-ascend : {X : Type 0} (f g : X → ℕ) (xs : List X) → AllByRecursion (λ
 ups-ascend f g [] s u d = tt
 ups-ascend f g (x ∷ xs) s u d = (
   subst (λ m. AllByRecursion (λ n. nat_cmp m n ≡ Less) (map g xs)) s.0 (all_less f g (f x) xs s.1 u.0 (subst (λ m. AllByRecursion (λ n. m ≢ n) (map g xs)) (sym s.0) d.0)),
-  ups-ascend f g xs s.1 u.1 d.1)
+  ups-ascend f g xs s.1 u.1 d.1,
+)
 
 map-map : (g : PlainAlt → ℕ) (hs : List Held) → map (λ h. g (held_view h)) hs ≡ map g (map held_view hs)
 map-map g [] = refl

@@ -1,18 +1,20 @@
 -- What is done with the nodes of an archive, under a parent that had a set.
-use Rattle.std.specs.Prelude.{◌≡◌, ◌<◌, ◌≤◌, ◌+◌, ℕ, List, [], ◌∷◌, ◌++◌, length, map, Bool, Option, Some, None, Result, IfOk, OnOk, IsTrue, IsFalse, ⊤, if◌then◌else◌}
+use Rattle.std.specs.Prelude.{option_map, ◌≡◌, ◌<◌, ◌≤◌, ◌+◌, ℕ, List, [], ◌∷◌, ◌++◌, length, map, Bool, Option, Some, None, Result, IfOk, OnOk, IsTrue, IsFalse, ⊤, if◌then◌else◌}
 use Rattle.timestamp_tree.specs.Bytes.{set_bytes}
 use Rattle.version_set.specs.Members.{members}
-use Rattle.archive_tree.specs.Data.{PlainAlt, PlainNode, inner_node, leaf_node, PlainNodes, no_nodes, node, node_stamp}
+use Rattle.archive_tree.specs.Data.{Stamp, PlainAlt, PlainNode, inner_node, leaf_node, PlainNodes, no_nodes, node, node_stamp}
 use Rattle.archive_tree.specs.Stands.{AllDiffer, first_num}
 use Rattle.record_format.specs.Nodes.{set_in}
 use Rattle.record_cursor.specs.Items.{PlainItem, leaf_end_item, end_item}
 use Rattle.record_cursor.specs.Moves.{Comes}
-use Rattle.record_writer.specs.Data.{WriterCall, call_end_leaf, call_end_inner}
+use Rattle.record_cursor.specs.declared.fault.CursorFault.{CursorFault}
+use Rattle.record_writer.specs.Data.{PlainWriter, WriterCall, call_end_leaf, call_end_inner}
 use Rattle.record_writer.specs.Walks.{alt_calls, node_calls, row_calls}
 use Rattle.archive_cut.specs.Items.{alt_items, node_items, row_items}
-use Rattle.archive_cut.specs.Passes.{Unless, Rests, Closes, fault_of}
+use Rattle.archive_cut.specs.Passes.{Unless, Rests, Closes, IsOpen, fault_of, of_cursor}
 use Rattle.archive_cut.specs.Runs.{Run, Matches}
 use Rattle.archive_cut.specs.Short.{AreShort}
+use Rattle.archive_cut.specs.Skipped.{BegunSkipped}
 use Rattle.archive_cut.specs.Sliced.{cut_set, is_gone, left_alts, sliced_alts, sliced_node, sliced_row}
 use Rattle.archive_cut.specs.State.{State}
 use Rattle.archive_cut.specs.declared.kind.Kind.{Kind}
@@ -71,6 +73,28 @@ pub record LeafCut (i j : ℕ) (q : List (ℕ × ℕ)) (s t : State) (ended : Op
 abbrev pub BegunCut : Kind → ℕ → ℕ → List (ℕ × ℕ) → State → State → Option CutFault → Type 0
 BegunCut Inner i j q s t ended = InsideCut i j q s t ended
 BegunCut Leaf i j q s t ended = LeafCut i j q s t ended
+
+-- what was inside a node of this kind was passed over
+pub record Gone (kind : Kind) (s t : State) (ended : Option CutFault) : Type 0 where
+  pub fault : Option CursorFault
+  pub is : ended ≡ option_map of_cursor fault
+  pub skipped : BegunSkipped kind s t fault
+  pub same_writer : t.writer ≡ s.writer
+
+-- What is inside a node that was read is cut, or passed over where no stamp is left.
+abbrev pub OpenedCut : Kind → ℕ → ℕ → List (ℕ × ℕ) → Stamp → Option Stamp → State → State → Option CutFault → Type 0
+OpenedCut kind i j q st (Some s') s t ended = BegunCut kind i j (set_in st q) s t ended
+OpenedCut kind i j q st None s t ended = Gone kind s t ended
+
+-- a node of this kind stands begun, if a stamp is left
+abbrev pub IsOpenIf : Kind → Option Stamp → PlainWriter → Type 0
+IsOpenIf kind (Some s) w = IsOpen kind w
+IsOpenIf kind None w = ⊤
+
+-- its set is what is left of the node's own, under a parent that had q and has now
+abbrev pub IsOwnLeft : ℕ → ℕ → List (ℕ × ℕ) → List (ℕ × ℕ) → Stamp → Option Stamp → Type 0
+IsOwnLeft i j q now st (Some s) = set_in s now ≡ cut_set i j (set_in st q)
+IsOwnLeft i j q now st None = ⊤
 
 -- What is left of the next node of a row is written, or the END behind the row taken: whether there was a node.
 pub record ChildCut (i j : ℕ) (q : List (ℕ × ℕ)) (s t : State) (more : Result Bool CutFault) : Type 0 where

@@ -1,11 +1,13 @@
 // Going along the nodes of an archive, and writing what is left of them.
 ghost use Rattle.std.specs.Prelude.{◌≡◌, ◌≢◌, ◌≤◌, [], None};
+ghost use Rattle.std.specs.Option.{option_map};
 ghost use Rattle.version_set.specs.View.{pairs_of};
+ghost use Rattle.archive_tree.specs.View.{stamp_view};
 ghost use Rattle.record_writer.specs.View.{writer_view};
 ghost use Rattle.archive_cut.specs.Passes.{fault_of, IsOpen};
 ghost use Rattle.archive_cut.specs.Sliced.{cut_set};
 ghost use Rattle.archive_cut.specs.State.{state};
-ghost use Rattle.archive_cut.specs.Walked.{RowCut, InsideCut, BegunCut, ChildCut};
+ghost use Rattle.archive_cut.specs.Walked.{RowCut, InsideCut, BegunCut, OpenedCut, IsOpenIf, IsOwnLeft, ChildCut};
 
 use crate::fault::{CutFault, taken, written};
 use crate::kind::Kind;
@@ -69,26 +71,54 @@ fn cut_child<F: Folder>(
         Item::End { .. } => return Ok(false),
         _ => return Err(CutFault::Damage),
     };
-    let cut = {
-        let old = stamp.copy(window.alloc)?;
-        match open_node(window, folder, writer, kind, label, &old, now)? {
-            Some(new) => {
-                let own = effective(&old, before);
-                cut_begun(
-                    window,
-                    folder,
-                    cursor,
-                    writer,
-                    kind,
-                    own,
-                    effective(&new, now),
-                )
-            }
-            None => taken(skip_begun(folder, cursor, kind)),
-        }
-    };
-    cut?;
+    let old = stamp.copy(window.alloc)?;
+    let new = open_node(window, folder, writer, kind, label, &old, now)?;
+    cut_opened(
+        window, folder, cursor, writer, kind, &old, &new, before, now,
+    )?;
     Ok(true)
+}
+
+// What is inside a node of this kind that was read is cut, and the node is closed; or passed over,
+// where no stamp is left. The node had the old stamp.
+#[cycle(walk)]
+fn cut_opened<F: Folder>(
+    window: &Window,
+    folder: &mut F,
+    cursor: &mut Cursor,
+    writer: &mut Writer,
+    kind: Kind,
+    old: &Option<VersionSet>,
+    new: &Option<Option<VersionSet>>,
+    before: &VersionSet,
+    now: &VersionSet,
+) -> Result<(), CutFault>
+    requires within { cursor.old.at ≤ cursor.old.length }
+    requires stands { IsOpenIf kind (option_map stamp_view new.now) (writer_view writer.old) }
+    requires left { IsOwnLeft window.now.first window.now.last (pairs_of before.now)
+        (pairs_of now.now) (stamp_view old.now) (option_map stamp_view new.now) }
+    ensures { OpenedCut kind window.entry.now.first window.entry.now.last
+        (pairs_of before.entry.now) (stamp_view old.entry.now)
+        (option_map stamp_view new.entry.now)
+        (state F.files F.draft F.numbers F.faults folder.old cursor.old writer.old)
+        (state F.files F.draft F.numbers F.faults folder.new cursor.new writer.new)
+        (fault_of result) }
+{
+    match new {
+        Some(new) => {
+            let own = effective(old, before);
+            cut_begun(
+                window,
+                folder,
+                cursor,
+                writer,
+                kind,
+                own,
+                effective(new, now),
+            )
+        }
+        None => taken(skip_begun(folder, cursor, kind)),
+    }
 }
 
 // What is inside a node of this kind that was begun is cut, and the node is closed. It had the one
