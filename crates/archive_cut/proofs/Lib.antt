@@ -13,3 +13,6 @@ pub mod Sorting
 pub mod Leaving
 pub mod Putting
 pub mod Walking
+pub mod Rooting
+pub mod Coming
+pub mod Slicing

@@ -17,10 +17,11 @@ use Rattle.archive_tree.proofs.Parts.{each_has, stands_stamped}
 use Rattle.archive_tree.proofs.Those.{those_ascend}
 use Rattle.record_format.specs.Nodes.{set_in}
 use Rattle.archive_cut.specs.Sliced.{clipped, cut_set, is_gone, cut_stamp, sliced_node, sliced_row}
+use Rattle.archive_cut.specs.Walked.{IsApart, AreApart}
 use Rattle.archive_cut.proofs.Clips.{not_none, some_not_none, gone-clipped}
 use Rattle.archive_cut.proofs.Stamps.{members-set_in, IsCanonical-set_in, cut_stamped}
 use Rattle.archive_cut.proofs.Windows.{window, nums-window, those-window, all_window, window_of, clipped_some, some_clipped}
-use Rattle.archive_cut.proofs.LeftAlts.{left_numbers, sliced_stand, sliced_differ, sliced_in_order, sliced_covered}
+use Rattle.archive_cut.proofs.LeftAlts.{left_numbers, left_firsts, sliced_stand, sliced_differ, sliced_in_order, sliced_covered}
 
 pub sliced_label : (i j : ℕ) (q : List (ℕ × ℕ)) (k : PlainNode) → node_label (sliced_node i j q k) ≡ node_label k
 sliced_label i j q (inner_node l s ks) = refl
@@ -135,3 +136,28 @@ module _ (i j : ℕ) where
     pub nodes_cut : (ks : PlainNodes) (k : PlainNode) → Has k (nodes_list ks) → Cuts k
     nodes_cut no_nodes k m = absurd m
     nodes_cut (node x ks) k m = elim m [ inl e ↦ subst Cuts e (node_cut x) | inr n ↦ nodes_cut ks k n ]
+
+  -- ---- the first numbers of what is left differ in each leaf
+
+  each-apart : (q : List (ℕ × ℕ)) (u : PlainLabel → List (ℕ × PlainKeyed)) → IsCanonical q → ((l : PlainLabel) → Ascends nat_cmp (nums (u l))) → (ks : PlainNodes)
+      → ((k : PlainNode) → Has k (nodes_list ks) → (ws : List (ℕ × PlainKeyed)) → Ascends nat_cmp (nums ws) → StandsFor k ws (members q) → IsApart i j q k) → EachStands ks u (members q) → AreApart i j q ks
+  each-apart q u c up no_nodes each h = tt
+  each-apart q u c up (node k ks) each h = (each k (inl refl) (u (node_label k)) (up (node_label k)) h.0, each-apart q u c up ks (λ x m. each x (inr m)) h.1)
+
+  mutual
+    node-apart : (k : PlainNode) (q : List (ℕ × ℕ)) (ws : List (ℕ × PlainKeyed)) → IsCanonical q → Ascends nat_cmp (nums ws) → StandsFor k ws (members q) → IsApart i j q k
+    node-apart (inner_node l s ks) q ws c up h =
+        let set : members (set_in s q) ≡ nums ws = members-set_in s q ∙ h.common.stamped.effective in
+        let canonical = IsCanonical-set_in s q (nums ws) (members q) h.common.stamped c in
+        each-apart (set_in s q) (under ws) canonical (λ m. those_ascend (λ t. kid_at m (kids_of t)) ws up) ks (λ k m vs rise st. nodes-apart ks k m (set_in s q) vs canonical rise st) (subst (λ z. EachStands ks (under ws) z) (sym set) h.row.kids)
+    node-apart (leaf_node l s xs) q ws c up h =
+        let set : members (set_in s q) ≡ nums ws = members-set_in s q ∙ h.common.stamped.effective in
+        let canonical = IsCanonical-set_in s q (nums ws) (members q) h.common.stamped c in
+        left_firsts i j (set_in s q) ws set canonical up xs h.different h.alts
+
+    pub nodes-apart : (ks : PlainNodes) (k : PlainNode) → Has k (nodes_list ks) → (q : List (ℕ × ℕ)) (ws : List (ℕ × PlainKeyed)) → IsCanonical q → Ascends nat_cmp (nums ws) → StandsFor k ws (members q) → IsApart i j q k
+    nodes-apart no_nodes k m = absurd m
+    nodes-apart (node x ks) k m = elim m [ inl e ↦ subst (λ z. (q : List (ℕ × ℕ)) (ws : List (ℕ × PlainKeyed)) → IsCanonical q → Ascends nat_cmp (nums ws) → StandsFor z ws (members q) → IsApart i j q z) e (node-apart x) | inr n ↦ nodes-apart ks k n ]
+
+  pub row-apart : (q : List (ℕ × ℕ)) (u : PlainLabel → List (ℕ × PlainKeyed)) → IsCanonical q → ((l : PlainLabel) → Ascends nat_cmp (nums (u l))) → (ks : PlainNodes) → EachStands ks u (members q) → AreApart i j q ks
+  row-apart q u c up ks h = each-apart q u c up ks (λ k m ws rise st. nodes-apart ks k m q ws c rise st) h

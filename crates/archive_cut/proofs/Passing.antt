@@ -40,13 +40,13 @@ none-drafted : (o : Option (List ℕ)) → o ≡ option_map (λ (d : List ℕ). 
 none-drafted None = refl
 none-drafted (Some d) = ap Some (sym (append-nil d))
 
-lengthens-then : (a b c : Option (List ℕ)) (x y : List ℕ) → b ≡ option_map (λ (d : List ℕ). d ++ x) a → c ≡ option_map (λ (d : List ℕ). d ++ y) b → c ≡ option_map (λ (d : List ℕ). d ++ (x ++ y)) a
+pub lengthens-then : (a b c : Option (List ℕ)) (x y : List ℕ) → b ≡ option_map (λ (d : List ℕ). d ++ x) a → c ≡ option_map (λ (d : List ℕ). d ++ y) b → c ≡ option_map (λ (d : List ℕ). d ++ (x ++ y)) a
 lengthens-then a b c x y h g = g ∙ ap (option_map (λ (d : List ℕ). d ++ y)) h ∙ both-drafted a x y
 
 pub lengthens-none : (a b : Option (List ℕ)) → b ≡ a → b ≡ option_map (λ (d : List ℕ). d ++ []) a
 lengthens-none a b e = e ∙ none-drafted a
 
-cause-then : (a b c : ℕ) (e : Option CutFault) → a ≤ b → b ≤ c → IfFolder e (Rose b c) → IfFolder e (Rose a c)
+pub cause-then : (a b c : ℕ) (e : Option CutFault) → a ≤ b → b ≤ c → IfFolder e (Rose b c) → IfFolder e (Rose a c)
 cause-then a b c None first second h = tt
 cause-then a b c (Some Folder) first second h = omega (arith, first, second, h)
 cause-then a b c (Some Damage) first second h = tt

@@ -220,13 +220,13 @@ pub called : (call : Result (Unit {0}) WriteFault) (r : Result (Unit {0}) CutFau
 called (Ok v) r is = sym (ap (λ (z : Result (Unit {0}) CutFault). fault_of z) is)
 called (Err e) r is = sym (ap (λ (z : Result (Unit {0}) CutFault). fault_of z) is)
 
-abbrev plain : {S : Type 0} → (S → Option Files) → (S → Option (List ℕ)) → (S → Numbers) → (S → ℕ) → S → PlainCursor → PlainWriter → State
+abbrev pub plain : {S : Type 0} → (S → Option Files) → (S → Option (List ℕ)) → (S → Numbers) → (S → ℕ) → S → PlainCursor → PlainWriter → State
 plain files draft numbers faults folder cursor writer = record { files = files folder; draft = draft folder; numbers = numbers folder; faults = faults folder; cursor = cursor; writer = writer }
 
 no-draft : (x y : Numbers) → IsMeter x → y ≡ x → PullsAndDrafts 0 x y
 no-draft x y meter e = subst (λ (m : Numbers). PullsAndDrafts 0 x m) (sym e) (PullsAndDrafts-none 0 x meter)
 
-plain-sends : {S : Type 0} (files : S → Option Files) (draft : S → Option (List ℕ)) (numbers : S → Numbers) (faults : S → ℕ) (old new : S) (c : PlainCursor) (v w : PlainWriter) (call : WriterCall)
+pub plain-sends : {S : Type 0} (files : S → Option Files) (draft : S → Option (List ℕ)) (numbers : S → Numbers) (faults : S → ℕ) (old new : S) (c : PlainCursor) (v w : PlainWriter) (call : WriterCall)
     (r : Result (Unit {0}) WriteFault) → IsMeter (numbers old) → c.at ≤ c.length
     → Appends files draft numbers faults old new (appended v call) r → OnOk r (w ≡ after v call) → TooLongUnless (Fits v call) r
     → Sent (call ∷ []) (plain files draft numbers faults old c v) (plain files draft numbers faults new c w) (written r)

@@ -19,7 +19,6 @@ use Rattle.record_writer.specs.Walks.{row_calls}
 use Rattle.record_writer.specs.declared.writer.Writer.{Writer}
 use Rattle.archive_cut.specs.Items.{row_items}
 use Rattle.archive_cut.specs.Passes.{IfFolder, IfLong, IfWhole}
-use Rattle.archive_cut.specs.Runs.{IsPart}
 use Rattle.archive_cut.specs.Short.{AreShort}
 use Rattle.archive_cut.specs.Sliced.{cut_set, sliced_row, items}
 use Rattle.archive_cut.specs.Walked.{AreApart}
@@ -33,6 +32,13 @@ pub record Reads {S : Type 0} (files : S → Option Files) (draft : S → Option
   pub later : faults old ≤ faults new
   pub cause : IfFolder ended (Rose (faults old) (faults new))
   pub pulls : PullsAndDrafts most (numbers old) (numbers new)
+
+-- These calls were made; or so far they were, and the next of them did not fit. There is no damage.
+abbrev pub Called : List WriterCall → List WriterCall → WriterCall → Option CutFault → Type 0
+Called cs made next None = made ≡ cs
+Called cs made next (Some TooLong) = (others : List WriterCall) × (cs ≡ made ++ next ∷ others)
+Called cs made next (Some Damage) = ⊥
+Called cs made next (Some other) = ⊤
 
 -- The bytes are the sound archive of the versions from i to j; or there is none, or the folder or memory failed.
 abbrev pub Slices : List ℕ → List PlainRule → ℕ → ℕ → List PlainKeyed → Option CutFault → Type 0
@@ -53,7 +59,7 @@ module _ {S : Type 0} (files : S → Option Files) (draft : S → Option (List �
     pub over : IfLong ended (¬ Fits (after_all (writer_view w) made) next)
     pub short : (b : ℕ) → c.length + 12 ≤ b → length (set_bytes q) ≤ b → AreShort b i j made next ended
     pub nodes : (ks : PlainNodes) (m : ℕ) → Comes (files old) c (row_items q ks ++ end_item m ∷ finish ∷ []) → AreApart i j q ks
-        → IsPart (row_calls (cut_set i j q) (sliced_row i j q ks) ++ call_finish ∷ []) made next ended
+        → Called (row_calls (cut_set i j q) (sliced_row i j q ks) ++ call_finish ∷ []) made next ended
 
   -- The archive of the versions is appended, over a cursor before its first node.
   pub record VersionsCut (h : PlainHeader) (i j : ℕ) (old now : S) (c : PlainCursor) (ended : Option CutFault) : Type 0 where
