@@ -8,7 +8,6 @@ pub mod Passing
 pub mod Running
 pub mod Sets
 pub mod Skips
-pub mod Holding
 pub mod Sorting
 pub mod Leaving
 pub mod Putting
@@ -16,3 +15,4 @@ pub mod Walking
 pub mod Rooting
 pub mod Coming
 pub mod Slicing
+pub mod Ending

@@ -1,0 +1,83 @@
+-- What the whole cut comes to.
+use Rattle.std.proofs.Common.{◌≡◌, ◌≢◌, ℕ, ◌+◌, ◌-◌, ◌≤◌, List, [], ◌∷◌, ◌++◌, Option, Some, None, Result, Ok, Err, refl, sym, ap, subst, ◌∙◌}
+use Rattle.std.specs.Option.{option_map}
+use Rattle.std.specs.Result.{IfErr, OnOk}
+use Rattle.key_spec.specs.Data.{PlainRule}
+use Rattle.keyed_tree.specs.Data.{PlainKeyed}
+use Rattle.xa_outside.specs.Causes.{Rose}
+use Rattle.xa_outside.specs.Folder.{Files}
+use Rattle.xa_outside.specs.Numbers.{Numbers}
+use Rattle.xa_fields.proofs.Fields.{some_is}
+use Rattle.archive_file.specs.Sound.{SoundAs}
+use Rattle.record_cursor.specs.Moves.{TellsFront, IsHeaderOf}
+use Rattle.record_cursor.specs.View.{PlainHeader, PlainCursor}
+use Rattle.record_format.specs.Files.{FileOf}
+use Rattle.archive_cut.specs.Cut.{Appended, IsBlank, Overfull, IfTooLong, IfFailed}
+use Rattle.archive_cut.specs.Passes.{fault_of}
+use Rattle.archive_cut.specs.Sliced.{items}
+use Rattle.archive_cut.specs.Whole.{VersionsCut}
+use Rattle.archive_cut.specs.declared.fault.CutFault.{CutFault}
+use Rattle.archive_cut.specs.declared.fault.CutFault.TheVariants.{Damage, TooLong, Folder, Memory}
+
+-- a draft that was empty is what was appended
+blank-is : (o : Option (List ℕ)) (bytes x : List ℕ) → IsBlank o → Some bytes ≡ option_map (λ (d : List ℕ). d ++ x) o → bytes ≡ x
+blank-is None bytes x blank is = absurd cc
+blank-is (Some d) bytes x blank is = some_is bytes (d ++ x) is ∙ ap (λ (z : List ℕ). z ++ x) (blank d refl)
+
+blank-one : (o : Option (List ℕ)) (file : List ℕ) → IsBlank o → option_map (λ (d : List ℕ). d ++ file) o ≡ option_map (λ (d : List ℕ). file) o
+blank-one None file h = refl
+blank-one (Some d) file h = ap (λ (b : List ℕ). Some (b ++ file)) (h d refl)
+
+module _ {S : Type 0} (files : S → Option Files) (draft : S → Option (List ℕ)) (numbers : S → Numbers) (faults : S → ℕ) (h : PlainHeader) (i j : ℕ) (old new : S) (c : PlainCursor) where
+  told : c.length ≡ h.length → (bytes : List ℕ) → TellsFront (files old) c.name h.length bytes → TellsFront (files old) c.name c.length bytes
+  told long bytes tells = subst (λ (n : ℕ). TellsFront (files old) c.name n bytes) (sym long) tells
+
+  pub appended-of : (r : Result (Unit {0}) CutFault) → VersionsCut files draft numbers faults h i j old new c (fault_of r) → c.length ≡ h.length → IsBlank (draft old) → OnOk r (Appended h c.name i j (files old) (draft old) (draft new))
+  appended-of (Ok x) v long blank =
+      let reads = v.reads in
+      record {
+        bytes = v.appended;
+        drafted = reads.lengthens ∙ blank-one (draft old) v.appended blank;
+        sound = λ bytes rules vs tells is s. v.slices bytes rules vs (told long bytes tells) is s;
+      }
+  appended-of (Err e) v long blank = tt
+
+  pub too_long-of : (r : Result (Unit {0}) CutFault) → VersionsCut files draft numbers faults h i j old new c (fault_of r) → c.length ≡ h.length → (bytes : List ℕ) (rules : List PlainRule) (vs : List PlainKeyed) → TellsFront (files old) c.name h.length bytes → IsHeaderOf h bytes
+      → SoundAs rules vs bytes → IfErr r (λ e. IfTooLong e ((file : List ℕ) → ¬ (FileOf rules (items i j vs) file)))
+  too_long-of (Ok x) v long bytes rules vs tells is s = tt
+  too_long-of (Err TooLong) v long bytes rules vs tells is s = v.slices bytes rules vs (told long bytes tells) is s
+  too_long-of (Err Damage) v long bytes rules vs tells is s = tt
+  too_long-of (Err Folder) v long bytes rules vs tells is s = tt
+  too_long-of (Err Memory) v long bytes rules vs tells is s = tt
+
+  pub no_room-of : (r : Result (Unit {0}) CutFault) → VersionsCut files draft numbers faults h i j old new c (fault_of r) → IsBlank (draft old) → (b : ℕ) → h.length + 12 ≤ b → IfErr r (λ e. IfTooLong e (Overfull b h.rules i j (draft new)))
+  no_room-of (Ok x) v blank b file = tt
+  no_room-of (Err TooLong) v blank b file =
+      let reads = v.reads in
+      let short = v.short b file in
+      record {
+        made = v.made;
+        next = v.next;
+        short = short.each;
+        next_short = short.last;
+        drafted = λ bytes is. blank-is (draft old) bytes v.appended blank (sym is ∙ reads.lengthens) ∙ v.spelled;
+        over = v.over;
+      }
+  no_room-of (Err Damage) v blank b file = tt
+  no_room-of (Err Folder) v blank b file = tt
+  no_room-of (Err Memory) v blank b file = tt
+
+  pub undamaged-of : (r : Result (Unit {0}) CutFault) → VersionsCut files draft numbers faults h i j old new c (fault_of r) → c.length ≡ h.length → (bytes : List ℕ) (rules : List PlainRule) (vs : List PlainKeyed) → TellsFront (files old) c.name h.length bytes → IsHeaderOf h bytes
+      → SoundAs rules vs bytes → IfErr r (λ e. e ≢ Damage)
+  undamaged-of (Ok x) v long bytes rules vs tells is s = tt
+  undamaged-of (Err TooLong) v long bytes rules vs tells is s = λ q. cc
+  undamaged-of (Err Damage) v long bytes rules vs tells is s = absurd (v.slices bytes rules vs (told long bytes tells) is s)
+  undamaged-of (Err Folder) v long bytes rules vs tells is s = λ q. cc
+  undamaged-of (Err Memory) v long bytes rules vs tells is s = λ q. cc
+
+  pub cause-of : (r : Result (Unit {0}) CutFault) → VersionsCut files draft numbers faults h i j old new c (fault_of r) → IfFailed r (Rose (faults old) (faults new))
+  cause-of (Ok x) v = tt
+  cause-of (Err TooLong) v = tt
+  cause-of (Err Damage) v = tt
+  cause-of (Err Folder) v = (let reads = v.reads in reads.cause)
+  cause-of (Err Memory) v = tt
