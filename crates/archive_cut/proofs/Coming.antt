@@ -1,5 +1,5 @@
 -- What the file of an archive gives, node by node, and which header stands in front of it.
-use Rattle.std.proofs.Common.{◌≡◌, ℕ, ◌+◌, ◌≤◌, List, [], ◌∷◌, ◌++◌, map, length, drop, Option, sym, ap, subst, ◌∙◌, refl, append_assoc, arith, length-drop}
+use Rattle.std.proofs.Common.{◌≡◌, ℕ, List, [], ◌∷◌, ◌++◌, map, length, drop, Option, sym, ap, subst, ◌∙◌, refl, append_assoc, arith, length-drop}
 use Rattle.std.specs.List.{flat_map}
 use Rattle.std.proofs.lemmas.List.{map-append, length-append}
 use Rattle.key_spec.specs.Data.{PlainRule}
@@ -7,7 +7,7 @@ use Rattle.keyed_tree.specs.Data.{PlainKeyed}
 use Rattle.version_set.specs.Members.{upto_pairs}
 use Rattle.archive_tree.specs.Data.{PlainAlt, PlainNode, inner_node, leaf_node, PlainNodes, no_nodes, node, PlainArchive}
 use Rattle.xa_outside.specs.Folder.{Files}
-use Rattle.record_format.specs.Data.{PlainRec, inner_rec, leaf_rec, alt_rec, end_rec, leaf_end}
+use Rattle.record_format.specs.Data.{end_rec, leaf_end}
 use Rattle.record_format.specs.Files.{header_bytes, file_records, tail_bytes}
 use Rattle.record_format.specs.Nodes.{dir_of, closed_by_end, alt_of, set_in, node_piece, node_pieces}
 use Rattle.record_format.specs.Spelling.{rec_bytes}

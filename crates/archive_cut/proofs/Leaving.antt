@@ -1,5 +1,5 @@
 -- What reading, holding and writing the alternatives of a leaf goes along.
-use Rattle.std.proofs.Common.{◌≡◌, ◌≢◌, ℕ, ◌+◌, ◌-◌, ◌≤◌, ◌<◌, Bool, true, false, cond, List, [], ◌∷◌, ◌++◌, map, length, Option, Some, None, Result, Ok, Err, IfOk, refl, sym, ap, subst, ◌∙◌, append_assoc, arith}
+use Rattle.std.proofs.Common.{◌≡◌, ◌≢◌, ℕ, ◌+◌, ◌≤◌, true, false, cond, List, [], ◌∷◌, ◌++◌, map, length, Option, Some, None, Ok, Err, refl, sym, ap, subst, ◌∙◌, append_assoc, arith}
 use Rattle.std.proofs.lemmas.List.{append-nil, map-append, length-append}
 use Rattle.std.specs.List.{AllByRecursion, cons_option}
 use Rattle.timestamp_tree.specs.Bytes.{set_bytes}
@@ -19,32 +19,31 @@ use Rattle.record_parts.specs.declared.views.StampView.{StampView}
 use Rattle.record_cursor.specs.Items.{PlainItem, alt_item, leaf_end_item}
 use Rattle.record_cursor.specs.Moves.{Comes}
 use Rattle.record_cursor.specs.Next.{size_of}
-use Rattle.record_cursor.specs.Faults as cursor
-use Rattle.record_cursor.specs.View.{PlainCursor, shown_item}
+use Rattle.record_cursor.specs.View.{shown_item}
 use Rattle.record_cursor.specs.declared.fault.CursorFault.{CursorFault}
 use Rattle.record_cursor.specs.declared.fault.CursorFault.TheVariants as read
 use Rattle.record_cursor.specs.declared.item.Item.{Item}
 use Rattle.record_cursor.specs.declared.item.Item.TheVariants.{Alt, LeafEnd}
-use Rattle.record_writer.specs.Data.{PlainWriter, OpenLeaf, WriterCall, call_alt, call_end_leaf, call_finish}
+use Rattle.record_writer.specs.Data.{PlainWriter, OpenLeaf, WriterCall, call_end_leaf, call_finish}
 use Rattle.record_writer.specs.Calls.{appended, after, after_all, leaf_ended}
 use Rattle.record_writer.specs.Walks.{alt_calls}
 use Rattle.record_writer.proofs.WalkLaws.{after-append, alts-keep}
-use Rattle.archive_cut.specs.Held.{held_view, KnowsFirst, alts_left, alt_call, IsShortAlt, Holds, InOrder}
+use Rattle.archive_cut.specs.Held.{held_view, KnowsFirst, alts_left, IsShortAlt, Holds, InOrder}
 use Rattle.archive_cut.specs.Items.{alt_items}
 use Rattle.archive_cut.specs.Leaves.{AltsRead, Reads}
-use Rattle.archive_cut.specs.Passes.{Passes, Unless, Rests, IfLong, fault_of, of_cursor}
-use Rattle.archive_cut.specs.Runs.{Run, Matches, IsPart, Sent}
-use Rattle.archive_cut.specs.Short.{IsLeftOf, IsLeftStamp, IsShortCall, AreShort}
-use Rattle.archive_cut.specs.Sliced.{cut_set, is_gone, stamp_under, cut_stamp, cut_alt, left_alts, by_first, sliced_alts}
+use Rattle.archive_cut.specs.Passes.{Passes, Unless, Rests, IfLong, of_cursor}
+use Rattle.archive_cut.specs.Runs.{Matches, IsPart, Sent}
+use Rattle.archive_cut.specs.Short.{IsLeftStamp, IsShortCall}
+use Rattle.archive_cut.specs.Sliced.{cut_set, is_gone, stamp_under, cut_alt, left_alts, by_first, sliced_alts}
 use Rattle.archive_cut.specs.State.{State}
-use Rattle.archive_cut.specs.Walked.{AreAltsApart, LeafCut}
-use Rattle.archive_cut.specs.Windows.{set_left, stamp_left, alt_left}
+use Rattle.archive_cut.specs.Walked.{LeafCut}
+use Rattle.archive_cut.specs.Windows.{set_left, alt_left}
 use Rattle.archive_cut.specs.declared.held.Held.{Held}
 use Rattle.archive_cut.specs.declared.fault.CutFault.{CutFault}
 use Rattle.archive_cut.specs.declared.fault.CutFault.TheVariants.{Damage, TooLong, Folder, Memory}
-use Rattle.archive_cut.proofs.Passing.{passes-then, passes-stop, Nexts, Stays, gave, gave-stop, failed, given}
-use Rattle.archive_cut.proofs.Running.{run-then, run-none, matches-then, matches-fault, matches-part, short-none, short-part, short-then, all-append}
-use Rattle.archive_cut.proofs.Skips.{not-alt, not-leaf_end, no-alt, moves-on}
+use Rattle.archive_cut.proofs.Passing.{passes-then, Nexts, Stays, gave, gave-stop, failed, given}
+use Rattle.archive_cut.proofs.Running.{run-then, run-none, matches-part, short-none, short-part, all-append}
+use Rattle.archive_cut.proofs.Skips.{no-alt}
 
 -- ---- few bytes
 

@@ -1,12 +1,12 @@
 -- What parts of the cut do, one after the other, whatever the archive is.
-use Rattle.std.proofs.Common.{◌≡◌, ◌≢◌, ℕ, ◌+◌, ◌-◌, ◌≤◌, List, [], ◌∷◌, ◌++◌, length, take, drop, Option, Some, None, Result, Ok, Err, refl, sym, ap, subst, ◌∙◌, append_assoc, arith}
+use Rattle.std.proofs.Common.{◌≡◌, ◌≢◌, ℕ, ◌+◌, ◌-◌, ◌≤◌, List, [], ◌∷◌, ◌++◌, drop, Option, Some, None, Result, Ok, Err, refl, sym, ap, subst, ◌∙◌, append_assoc, arith}
 use Rattle.std.specs.Option.{option_map}
-use Rattle.std.specs.Result.{IsErrAnd, result_map_both}
+use Rattle.std.specs.Result.{IsErrAnd}
 use Rattle.std.proofs.lemmas.List.{append-nil}
 use Rattle.xa_outside.specs.Causes.{Rose}
 use Rattle.xa_outside.specs.Folder.{Files}
-use Rattle.xa_outside.specs.Numbers.{Numbers, IsMeter, PullsAtMost, PullsAndDrafts, after_draft, after_pull}
-use Rattle.xa_outside.specs.NumberLaws.{PullsAtMost-of, PullsAndDrafts-none, PullsAndDrafts-of_pulls, PullsAndDrafts-of_draft, PullsAndDrafts-more, PullsAndDrafts-trans}
+use Rattle.xa_outside.specs.Numbers.{IsMeter, PullsAtMost, PullsAndDrafts, after_pull}
+use Rattle.xa_outside.specs.NumberLaws.{PullsAtMost-of, PullsAndDrafts-none, PullsAndDrafts-of_pulls, PullsAndDrafts-more, PullsAndDrafts-trans}
 use Rattle.xa_fields.proofs.Fields.{some_is}
 use Rattle.record_cursor.specs.Faults as cursor
 use Rattle.record_cursor.specs.Items.{PlainItem, inner_item, leaf_item, alt_item, leaf_end_item, end_item, finish}
@@ -19,8 +19,8 @@ use Rattle.record_cursor.specs.declared.fault.CursorFault.TheVariants as read
 use Rattle.record_cursor.specs.declared.item.Item.{Item}
 use Rattle.record_writer.specs.Calls.{row_from}
 use Rattle.record_writer.specs.Data.{PlainWriter}
-use Rattle.archive_cut.specs.Passes.{Unless, IfFolder, may_pull, Passes, fault_of, of_cursor, of_writer}
-use Rattle.archive_cut.specs.State.{State, state}
+use Rattle.archive_cut.specs.Passes.{IfFolder, may_pull, Passes, of_cursor}
+use Rattle.archive_cut.specs.State.{State}
 use Rattle.archive_cut.specs.declared.fault.CutFault.{CutFault}
 use Rattle.archive_cut.specs.declared.fault.CutFault.TheVariants.{Damage, Folder, TooLong, Memory}
 

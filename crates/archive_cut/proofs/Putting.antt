@@ -1,6 +1,6 @@
 -- What writing held alternatives goes along.
 use Rattle.std.proofs.Common.{◌≡◌, ◌≢◌, ℕ, zero, suc, ◌+◌, ◌≤◌, ◌<◌, List, [], ◌∷◌, ◌++◌, map, length, take, drop, get_or, Option, Some, None, refl, sym, ap, subst, ◌∙◌, append_assoc, arith, add-one}
-use Rattle.std.proofs.lemmas.List.{append-nil, map-append}
+use Rattle.std.proofs.lemmas.List.{map-append}
 use Rattle.archive_tree.specs.Data.{PlainAlt}
 use Rattle.record_cursor.specs.Places.{among_nodes}
 use Rattle.record_cursor.specs.View.{PlainCursor}

@@ -1,5 +1,5 @@
 -- Cutting the nodes of a whole archive.
-use Rattle.std.proofs.Common.{◌≡◌, ◌≢◌, ℕ, ◌+◌, ◌-◌, ◌≤◌, List, [], ◌∷◌, ◌++◌, length, Option, Some, None, Result, Ok, Err, refl, sym, ap, subst, ◌∙◌, append_assoc, arith}
+use Rattle.std.proofs.Common.{◌≡◌, ◌≢◌, ℕ, ◌+◌, ◌-◌, ◌≤◌, List, [], ◌∷◌, ◌++◌, length, Option, Some, None, Result, Ok, Err, refl, ◌∙◌, arith}
 use Rattle.std.specs.Result.{OnOk}
 use Rattle.std.proofs.lemmas.List.{append-nil}
 use Rattle.timestamp_tree.specs.Bytes.{set_bytes}
@@ -16,14 +16,12 @@ use Rattle.record_cursor.specs.declared.fault.CursorFault.TheVariants as read
 use Rattle.record_cursor.specs.declared.item.Item.{Item}
 use Rattle.record_cursor.specs.declared.item.Item.TheVariants.{Inner, Leaf, Alt, LeafEnd, End, Finish}
 use Rattle.record_writer.specs.Data.{PlainWriter, WriterCall, call_finish}
-use Rattle.record_writer.specs.Calls.{after}
 use Rattle.record_writer.specs.Walks.{row_calls}
-use Rattle.record_writer.specs.declared.fault.WriteFault.{WriteFault}
 use Rattle.record_writer.specs.declared.writer.Writer.{Writer}
 use Rattle.archive_cut.specs.Items.{row_items}
-use Rattle.archive_cut.specs.Passes.{Passes, Unless, may_pull, of_cursor}
-use Rattle.archive_cut.specs.Runs.{Run, Matches, IsPart, Sent}
-use Rattle.archive_cut.specs.Short.{IsShortCall, AreShort}
+use Rattle.archive_cut.specs.Passes.{Passes, may_pull, of_cursor}
+use Rattle.archive_cut.specs.Runs.{Run, Matches, Sent}
+use Rattle.archive_cut.specs.Short.{AreShort}
 use Rattle.archive_cut.specs.Sliced.{cut_set, sliced_row}
 use Rattle.archive_cut.specs.State.{State, state, beside}
 use Rattle.archive_cut.specs.Walked.{AreApart, RowCut}

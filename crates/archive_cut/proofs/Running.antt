@@ -1,6 +1,5 @@
 -- Calls of the writer, one part after the other.
-use Rattle.std.proofs.Common.{◌≡◌, ◌≢◌, ℕ, ◌+◌, ◌-◌, ◌≤◌, List, [], ◌∷◌, ◌++◌, length, take, Option, Some, None, Result, Ok, Err, refl, sym, ap, subst, ◌∙◌, append_assoc, arith}
-use Rattle.std.specs.Option.{option_map}
+use Rattle.std.proofs.Common.{◌≡◌, ◌≢◌, ℕ, ◌≤◌, List, [], ◌∷◌, ◌++◌, length, take, Option, Some, None, Result, Ok, Err, refl, sym, ap, subst, ◌∙◌, append_assoc}
 use Rattle.std.specs.Result.{OnOk, result_map_both}
 use Rattle.std.specs.List.{AllByRecursion}
 use Rattle.std.proofs.lemmas.List.{append-nil}
@@ -19,7 +18,7 @@ use Rattle.record_writer.specs.declared.fault.WriteFault.TheVariants as writer
 use Rattle.record_writer.specs.declared.writer.Writer.{Writer}
 use Rattle.record_writer.proofs.WalkLaws.{appended-append, after-append}
 use Rattle.record_writer.proofs.FitLaws.{fit-both}
-use Rattle.archive_cut.specs.Passes.{Unless, IfFolder, IfLong, IfWhole, Passes, fault_of, of_writer}
+use Rattle.archive_cut.specs.Passes.{Unless, IfLong, IfWhole, Passes, fault_of, of_writer}
 use Rattle.archive_cut.specs.Runs.{Run, Matches, IsPart, Sent}
 use Rattle.archive_cut.specs.Short.{IsShortCall, AreShort}
 use Rattle.archive_cut.specs.State.{State, state}

@@ -1,9 +1,9 @@
 -- What is left of sets and stamps, as the code takes it.
-use Rattle.std.proofs.Common.{◌≡◌, ◌≢◌, ℕ, zero, suc, ◌+◌, ◌-◌, ◌<◌, ◌≤◌, ◌==◌, ◌&&◌, ◌||◌, Bool, true, false, cond, IsTrue, true≢false, List, [], ◌∷◌, ◌++◌, map, filter, length, Option, Some, None, refl, ap, sym, subst, ◌∙◌, arith, ℤ, pos, ◌+ℤ◌, ◌-ℤ◌, ◌≤ℤ◌}
+use Rattle.std.proofs.Common.{◌≡◌, ◌≢◌, ℕ, ◌+◌, ◌-◌, ◌≤◌, ◌==◌, ◌&&◌, ◌||◌, Bool, true, false, cond, IsTrue, true≢false, List, [], ◌∷◌, map, filter, length, Option, Some, None, refl, ap, sym, subst, ◌∙◌, arith, ℤ, pos, ◌+ℤ◌, ◌-ℤ◌}
 use Rattle.std.proofs.lemmas.Int.{ints}
 use Rattle.std.proofs.lemmas.Bool.Decides.{nat_tests}
 use Rattle.version_set.specs.Pairs.{IsCanonical}
-use Rattle.version_set.specs.Members.{members, has, intervals, common, moved, whole_number, IsVersion}
+use Rattle.version_set.specs.Members.{members, has, intervals, moved, whole_number, IsVersion}
 use Rattle.version_set.proofs.MembersLemmas.{intervals-members, has-members, members-injective}
 use Rattle.version_set.proofs.SetLemmas.{has-filter}
 use Rattle.archive_tree.specs.Data.{Stamp}

@@ -1,7 +1,6 @@
 -- What passing over nodes goes along.
-use Rattle.std.proofs.Common.{◌≡◌, ◌≢◌, ℕ, ◌+◌, ◌-◌, ◌*◌, ◌≤◌, ◌<◌, List, [], ◌∷◌, ◌++◌, length, Option, Some, None, Result, Ok, Err, Bool, true, false, true≢false, refl, sym, ap, subst, ◌∙◌, append_assoc, arith}
+use Rattle.std.proofs.Common.{◌≡◌, ◌≢◌, ℕ, ◌≤◌, ◌<◌, List, [], ◌∷◌, ◌++◌, Option, Some, None, Result, Ok, Err, Bool, true, false, true≢false, refl, sym, ap, subst, ◌∙◌, append_assoc, arith}
 use Rattle.std.specs.Option.{option_map}
-use Rattle.xa_outside.specs.Folder.{Files}
 use Rattle.keyed_tree.specs.Data.{PlainKey, PlainLabel}
 use Rattle.archive_tree.specs.Data.{Stamp, PlainAlt, PlainNode, inner_node, leaf_node, PlainNodes, no_nodes, node}
 use Rattle.record_format.specs.Nodes.{set_in}
@@ -9,22 +8,19 @@ use Rattle.record_parts.specs.declared.views.LabelView.{LabelView}
 use Rattle.record_parts.specs.declared.views.BodyView.{BodyView}
 use Rattle.record_parts.specs.declared.views.StampView.{StampView}
 use Rattle.record_cursor.specs.Items.{PlainItem, inner_item, leaf_item, alt_item, leaf_end_item, end_item}
-use Rattle.record_cursor.specs.Moves.{Comes, Goes}
+use Rattle.record_cursor.specs.Moves.{Comes}
 use Rattle.record_cursor.specs.Next.{size_of}
-use Rattle.record_cursor.specs.Places.{Standing}
-use Rattle.record_cursor.specs.View.{PlainCursor, shown_item}
-use Rattle.record_cursor.specs.Faults as cursor
+use Rattle.record_cursor.specs.View.{shown_item}
 use Rattle.record_cursor.specs.declared.fault.CursorFault.{CursorFault}
 use Rattle.record_cursor.specs.declared.fault.CursorFault.TheVariants.{Damage, Folder, Memory}
 use Rattle.record_cursor.specs.declared.item.Item.{Item}
 use Rattle.record_cursor.specs.declared.item.Item.TheVariants.{Inner, Leaf, Alt, LeafEnd, End, Finish}
 use Rattle.archive_cut.specs.Items.{alt_items, node_items, row_items, end_of}
 use Rattle.archive_cut.specs.Passes.{Passes, of_cursor}
-use Rattle.archive_cut.specs.Skipped.{Follows, ended_by, RowSkipped, AltsSkipped, ChildSkipped}
+use Rattle.archive_cut.specs.Skipped.{Follows, RowSkipped, AltsSkipped, ChildSkipped}
 use Rattle.archive_cut.specs.State.{State}
-use Rattle.archive_cut.specs.declared.fault.CutFault.{CutFault}
 use Rattle.archive_cut.specs.declared.fault.CutFault.TheVariants as cut
-use Rattle.archive_cut.proofs.Passing.{passes-then, passes-none, Nexts, Stays, gave, gave-stop, failed, given}
+use Rattle.archive_cut.proofs.Passing.{passes-then, Nexts, Stays, gave, gave-stop, failed, given}
 
 -- ---- items that are no others
 

@@ -1,8 +1,6 @@
 -- The file of some versions of a sound archive.
-use Rattle.std.proofs.Common.{true, false, cond, ◌==◌, ◌≡◌, ◌↔◌, ◌≢◌, ℕ, ◌+◌, ◌-◌, ◌≤◌, ◌<◌, List, [], ◌∷◌, ◌++◌, length, take, Option, Some, None, Result, Ok, Err, refl, sym, ap, subst, ◌∙◌, arith}
-use Rattle.std.specs.List.{AllByRecursion}
+use Rattle.std.proofs.Common.{true, false, cond, ◌==◌, ◌≡◌, ◌↔◌, ◌≢◌, ℕ, ◌+◌, ◌-◌, ◌≤◌, List, [], ◌∷◌, ◌++◌, length, take, Option, Some, None, Result, Ok, Err, refl, sym, ap, subst, ◌∙◌, arith}
 use Rattle.std.specs.Option.{option_map}
-use Rattle.std.proofs.lemmas.List.{length-append}
 use Rattle.jsonml_text.specs.Texts.{AreTexts}
 use Rattle.key_spec.specs.Canonical.{canonical}
 use Rattle.key_spec.specs.Data.{PlainRule}
@@ -21,7 +19,6 @@ use Rattle.archive_tree.proofs.OneArchive.{one_archive}
 use Rattle.record_parts.specs.Bounds.{most}
 use Rattle.record_format.specs.Files.{header_bytes, file_bytes, HasFile, FileOf}
 use Rattle.record_format.specs.Nodes.{dir_of, node_pieces}
-use Rattle.record_format.specs.Shapes.{IsShaped}
 use Rattle.record_format.specs.Spelling.{dir_bytes}
 use Rattle.archive_file.specs.KeyedBy.{IsKeyedBy, AreKeyedBy}
 use Rattle.archive_file.specs.Sound.{SoundAs}
@@ -42,17 +39,16 @@ use Rattle.record_writer.specs.declared.writer.Writer.{Writer}
 use Rattle.record_writer.proofs.FitLaws.{walk-fits-exactly, fit-both}
 use Rattle.record_writer.proofs.WalkLaws.{walk-spells}
 use Rattle.archive_cut.specs.Passes.{IfFolder, IfLong, IfWhole, of_writer}
-use Rattle.archive_cut.specs.Short.{AreShort}
 use Rattle.archive_cut.specs.Sliced.{cut_set, sliced_row, sliced, items}
 use Rattle.archive_cut.specs.Items.{row_items}
 use Rattle.archive_cut.specs.Walked.{AreApart}
-use Rattle.archive_cut.specs.Whole.{Reads, Called, Slices, NodesCut, VersionsCut}
+use Rattle.archive_cut.specs.Whole.{Called, Slices, NodesCut, VersionsCut}
 use Rattle.archive_cut.specs.declared.fault.CutFault.{CutFault}
 use Rattle.archive_cut.specs.declared.fault.CutFault.TheVariants.{Damage, TooLong, Folder, Memory}
 use Rattle.archive_cut.proofs.Coming.{Heads, sound-heads, items-are, comes-all}
 use Rattle.archive_cut.proofs.Passing.{lengthens-then, lengthens-none, cause-then}
 use Rattle.archive_cut.proofs.Running.{short-none}
-use Rattle.archive_cut.proofs.Slices.{archive_cut, archive-apart, all_items, length-items, root-left}
+use Rattle.archive_cut.proofs.Slices.{archive_cut, archive-apart, all_items, root-left}
 
 -- ---- where the file is told
 

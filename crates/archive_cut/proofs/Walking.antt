@@ -10,28 +10,27 @@ use Rattle.version_set.specs.View.{pairs_of}
 use Rattle.version_set.specs.declared.set.VersionSet.{VersionSet}
 use Rattle.version_set.proofs.MembersLemmas.{members-injective}
 use Rattle.keyed_tree.specs.Data.{PlainLabel}
-use Rattle.archive_tree.specs.Data.{Stamp, PlainAlt, PlainNode, inner_node, leaf_node, PlainNodes, no_nodes, node, node_label, node_stamp}
+use Rattle.archive_tree.specs.Data.{Stamp, PlainNode, inner_node, leaf_node, PlainNodes, no_nodes, node, node_stamp}
 use Rattle.archive_tree.specs.PartsTest.{is_none, is_same}
 use Rattle.archive_tree.specs.View.{stamp_view}
 use Rattle.archive_tree.proofs.Tells.{is_same-exact}
-use Rattle.record_format.specs.Data.{PlainRec, inner_rec, leaf_rec}
+use Rattle.record_format.specs.Data.{inner_rec, leaf_rec}
 use Rattle.record_format.specs.Nodes.{set_in}
-use Rattle.record_format.specs.Spelling.{rec_bytes, dir_bytes}
 use Rattle.record_format.proofs.Pieces.{rec-length}
 use Rattle.record_parts.specs.Spelling.{label_bytes, stamp_bytes}
 use Rattle.record_parts.specs.declared.views.LabelView.{LabelView}
 use Rattle.record_parts.specs.declared.views.StampView.{StampView}
 use Rattle.record_cursor.specs.Items.{PlainItem, inner_item, leaf_item, leaf_end_item, end_item}
-use Rattle.record_cursor.specs.Moves.{Comes, Goes}
+use Rattle.record_cursor.specs.Moves.{Comes}
 use Rattle.record_cursor.specs.Next.{size_of}
 use Rattle.record_cursor.specs.Places.{Standing}
 use Rattle.record_cursor.specs.Faults as cursor
-use Rattle.record_cursor.specs.View.{PlainCursor, shown_item}
+use Rattle.record_cursor.specs.View.{shown_item}
 use Rattle.record_cursor.specs.declared.fault.CursorFault.{CursorFault}
 use Rattle.record_cursor.specs.declared.fault.CursorFault.TheVariants as read
 use Rattle.record_cursor.specs.declared.item.Item.{Item}
 use Rattle.record_cursor.specs.declared.item.Item.TheVariants as the_item
-use Rattle.record_writer.specs.Data.{PlainWriter, OpenInner, WriterCall, call_inner, call_leaf, call_end_leaf, call_end_inner, call_finish}
+use Rattle.record_writer.specs.Data.{PlainWriter, OpenInner, WriterCall, call_end_leaf, call_end_inner, call_finish}
 use Rattle.record_writer.specs.Calls.{appended, after, after_all, inner_ended}
 use Rattle.record_writer.specs.Walks.{alt_calls, node_calls, row_calls}
 use Rattle.archive_cut.specs.Items.{alt_items, node_items, row_items, end_of}
@@ -39,7 +38,7 @@ use Rattle.archive_cut.specs.Opened.{opening_calls}
 use Rattle.archive_cut.specs.Passes.{Passes, Unless, Rests, Closes, IsOpen, EndsKind, call_of, fault_of, of_cursor}
 use Rattle.archive_cut.specs.Runs.{Run, Matches, IsPart, Sent}
 use Rattle.archive_cut.specs.Short.{IsLeftOf, IsLeftStamp, IsShortCall, AreShort}
-use Rattle.archive_cut.specs.Skipped.{Follows, RowSkipped, AltsSkipped, BegunSkipped}
+use Rattle.archive_cut.specs.Skipped.{Follows, BegunSkipped}
 use Rattle.archive_cut.specs.Sliced.{cut_set, is_gone, stamp_under, cut_stamp, sliced_alts, sliced_node, sliced_row}
 use Rattle.archive_cut.specs.State.{State}
 use Rattle.archive_cut.specs.Walked.{AreAltsApart, AreApart, IsApart, calls_left, RowCut, InsideCut, LeafCut, BegunCut, OpenedCut, Gone, IsOpenIf, IsOwnLeft, ChildCut}
@@ -50,9 +49,9 @@ use Rattle.archive_cut.specs.declared.fault.CutFault.{CutFault}
 use Rattle.archive_cut.specs.declared.fault.CutFault.TheVariants.{Damage, TooLong, Folder, Memory}
 use Rattle.archive_cut.proofs.Clips.{IsCanonical-cut}
 use Rattle.archive_cut.proofs.Leaving.{left-stamp}
-use Rattle.archive_cut.proofs.Passing.{passes-then, Nexts, Stays, gave, gave-stop, failed, given}
-use Rattle.archive_cut.proofs.Running.{run-then, run-none, matches-then, matches-fault, matches-memory, matches-part, short-none, short-part, short-then, all-append}
-use Rattle.archive_cut.proofs.Skips.{first, behind_first, opens, node-given, not-first, no-node, not-end, moves-on, follows-failed, Behind, row-behind, alts-behind}
+use Rattle.archive_cut.proofs.Passing.{Nexts, Stays, gave, gave-stop, failed, given}
+use Rattle.archive_cut.proofs.Running.{run-then, run-none, matches-then, matches-fault, matches-part, short-none, short-part, short-then}
+use Rattle.archive_cut.proofs.Skips.{first, behind_first, opens, node-given, not-first, no-node, not-end, moves-on, Behind, row-behind, alts-behind}
 
 -- ---- sets
 

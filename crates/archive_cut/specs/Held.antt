@@ -1,5 +1,5 @@
 -- The alternatives of one leaf, held.
-use Rattle.std.specs.Prelude.{◌≡◌, ℕ, ◌≤◌, List, [], ◌∷◌, ◌++◌, length, map, Option, Some, None, ⊤}
+use Rattle.std.specs.Prelude.{◌≡◌, ℕ, List, [], ◌∷◌, ◌++◌, map}
 use Rattle.std.specs.List.{AllByRecursion, cons_option}
 use Rattle.xa_fields.specs.Reading.{whole}
 use Rattle.version_set.specs.Members.{members}

@@ -8,11 +8,11 @@ use Rattle.xa_outside.specs.Folder.{Files}
 use Rattle.xa_outside.specs.Numbers.{Numbers, PullsAndDrafts}
 use Rattle.archive_tree.specs.Data.{PlainNodes}
 use Rattle.archive_file.specs.Sound.{SoundAs}
-use Rattle.record_cursor.specs.Items.{PlainItem, end_item, finish}
+use Rattle.record_cursor.specs.Items.{end_item, finish}
 use Rattle.record_cursor.specs.Moves.{Comes, TellsFront, IsHeaderOf}
 use Rattle.record_cursor.specs.View.{PlainCursor, PlainHeader}
 use Rattle.record_format.specs.Files.{FileOf, header_bytes}
-use Rattle.record_writer.specs.Data.{PlainWriter, WriterCall, call_finish}
+use Rattle.record_writer.specs.Data.{WriterCall, call_finish}
 use Rattle.record_writer.specs.Calls.{all_appended, after_all, started, Fits, AllFit}
 use Rattle.record_writer.specs.View.{writer_view}
 use Rattle.record_writer.specs.Walks.{row_calls}

@@ -40,11 +40,7 @@ const SLICED: &[(&str, &str, &[&str])] = &[
             r#"["db","y"]"#,
         ],
     ),
-    (
-        "a salary that returns",
-        COMPANY,
-        &[OF_90, OF_95, OF_90],
-    ),
+    ("a salary that returns", COMPANY, &[OF_90, OF_95, OF_90]),
     (
         "an employee who goes and comes back",
         COMPANY,
@@ -67,7 +63,13 @@ const SLICED: &[(&str, &str, &[&str])] = &[
 // The file of the versions from the first to the last.
 fn slice(alloc: Global, old: &[u8], first: usize, last: usize) -> Result<Option<Vec<u8>>, Fail> {
     let mut folder = folder(alloc, old, Vec::new(alloc))?;
-    let answer = cut_out(alloc, &mut folder, old.len() as u64, first as u32, last as u32)?;
+    let answer = cut_out(
+        alloc,
+        &mut folder,
+        old.len() as u64,
+        first as u32,
+        last as u32,
+    )?;
     if answer != Ok(()) || folder.file(NAME) != Some(old) {
         return Ok(None);
     }

@@ -1,4 +1,4 @@
-use Rattle.std.proofs.Common.{◌≡◌, ℕ, List, Result, Ok, Err, IfOk, Some, sym, ap, ◌∙◌}
+use Rattle.std.proofs.Common.{◌≡◌, ℕ, List, Result, Ok, Err, IfOk, ap, ◌∙◌}
 use Rattle.xa_fields.specs.Reading.{whole}
 use Rattle.keyed_tree.specs.Data.{PlainKey}
 use Rattle.record_parts.specs.Bounds.{IsValue}

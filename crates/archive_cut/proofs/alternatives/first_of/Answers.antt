@@ -1,4 +1,4 @@
-use Rattle.std.proofs.Common.{◌≡◌, ℕ, List, Some, sym, ap, ◌∙◌, subst, slice_get}
+use Rattle.std.proofs.Common.{◌≡◌, ℕ, List, Some, sym, ap, ◌∙◌, slice_get}
 use Rattle.std.specs.Option.{option_copied}
 use Rattle.version_set.specs.View.{pairs_of}
 use Rattle.archive_tree.proofs.Tells.{head-members}

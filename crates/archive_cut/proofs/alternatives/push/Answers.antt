@@ -1,5 +1,4 @@
 use Rattle.std.proofs.Common.{ap, ◌∙◌}
-use Rattle.archive_tree.specs.Data.{PlainAlt}
 use Rattle.archive_tree.specs.Stands.{head_or}
 use Rattle.archive_tree.specs.View.{stamp_view}
 use Rattle.archive_cut.proofs.alternatives.push.Goals as goal

@@ -1,4 +1,4 @@
-use Rattle.std.proofs.Common.{refl, sym, subst}
+use Rattle.std.proofs.Common.{refl, subst}
 use Rattle.std.proofs.Common.{[], ◌∷◌, ◌++◌, map}
 use Rattle.version_set.specs.View.{pairs_of}
 use Rattle.record_cursor.specs.View.{PlainCursor}

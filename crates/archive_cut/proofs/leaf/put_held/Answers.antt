@@ -1,4 +1,4 @@
-use Rattle.std.proofs.Common.{◌≡◌, [], ◌∷◌, ◌++◌, map, take, Option, None, Some, refl, sym, ap, subst, arith, ◌∙◌}
+use Rattle.std.proofs.Common.{◌≡◌, [], ◌∷◌, ◌++◌, map, take, Option, None, Some, sym, ap, subst, arith, ◌∙◌}
 use Rattle.archive_tree.specs.View.{stamp_view}
 use Rattle.record_cursor.specs.View.{PlainCursor}
 use Rattle.xa_fields.specs.Reading.{whole}
@@ -15,7 +15,7 @@ use Rattle.archive_cut.specs.State.{State, state}
 use Rattle.archive_cut.specs.declared.fault.CutFault.{CutFault}
 use Rattle.archive_cut.proofs.Passing.{at-err}
 use Rattle.archive_cut.proofs.Putting.{nowhere, put-next, put-fault, put-end, leaf-stands}
-use Rattle.archive_cut.proofs.Running.{written, called, call-sends, sent-as, sent-nothing}
+use Rattle.archive_cut.proofs.Running.{written, called, call-sends, sent-as}
 use Rattle.archive_cut.proofs.leaf.put_held.Given.{Over}
 use Rattle.archive_cut.proofs.leaf.put_held.Goals as goal
 

@@ -1,8 +1,7 @@
-use Rattle.std.proofs.Common.{[], Option, None, Some, Ok, Err, refl, sym, ap, subst}
+use Rattle.std.proofs.Common.{None, refl, sym, ap, subst}
 use Rattle.std.specs.Result.{result_map_both}
 use Rattle.version_set.specs.View.{pairs_of}
 use Rattle.record_cursor.specs.View.{PlainCursor, shown_item}
-use Rattle.record_parts.specs.ShownViews.{shown_stamp, shown_body}
 use Rattle.record_writer.specs.Data.{PlainWriter}
 use Rattle.archive_cut.specs.Leaves.{AltsRead}
 use Rattle.archive_cut.specs.Passes.{of_cursor}

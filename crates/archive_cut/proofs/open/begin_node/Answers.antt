@@ -1,4 +1,4 @@
-use Rattle.std.proofs.Common.{◌≡◌, [], ◌∷◌, Option, ap, subst}
+use Rattle.std.proofs.Common.{[], ◌∷◌, Option, ap, subst}
 use Rattle.archive_tree.specs.View.{stamp_view}
 use Rattle.version_set.specs.View.{pairs_of}
 use Rattle.record_parts.specs.ShownViews.{shown_label}

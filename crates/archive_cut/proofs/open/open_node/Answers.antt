@@ -1,4 +1,3 @@
-use Rattle.std.proofs.Common.{Some}
 use Rattle.version_set.specs.View.{pairs_of}
 use Rattle.archive_tree.specs.View.{stamp_view}
 use Rattle.record_parts.specs.ShownViews.{shown_label}

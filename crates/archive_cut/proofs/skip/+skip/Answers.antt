@@ -1,10 +1,10 @@
-use Rattle.std.proofs.Common.{ℕ, ◌+◌, ◌*◌, ◌-◌, ◌<◌, [], Bool, Option, None, Some, Ok, refl, ap, subst, arith}
+use Rattle.std.proofs.Common.{ℕ, ◌*◌, ◌-◌, ◌<◌, Bool, None, Some, Ok, refl, ap, subst, arith}
 use Rattle.record_cursor.specs.View.{PlainCursor, shown_item}
 use Rattle.record_parts.specs.ShownViews.{shown_label, shown_stamp}
 use Rattle.record_writer.specs.Data.{PlainWriter}
 use Rattle.archive_cut.specs.Skipped.{RowSkipped, ChildSkipped, ended_by}
 use Rattle.archive_cut.specs.State.{State, beside}
-use Rattle.archive_cut.proofs.Skips.{moves-on, child-failed, child-ended, child-damage, child-inner, child-leaf, row-start, row-on, row-done, row-fault}
+use Rattle.archive_cut.proofs.Skips.{child-failed, child-ended, child-damage, child-inner, child-leaf, row-start, row-on, row-done, row-fault}
 use Rattle.archive_cut.proofs.Passing.{Nexts, nexts, stays-by, at-err, nobody}
 use Rattle.archive_cut.proofs.skip.+skip.Given.{Over}
 use Rattle.archive_cut.proofs.skip.+skip.Goals.{skip_child-In_ok-next}

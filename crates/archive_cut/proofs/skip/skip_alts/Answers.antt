@@ -1,4 +1,4 @@
-use Rattle.std.proofs.Common.{[], Option, None, Some, refl, ap, subst}
+use Rattle.std.proofs.Common.{None, refl, ap}
 use Rattle.record_cursor.specs.View.{PlainCursor, shown_item}
 use Rattle.record_parts.specs.ShownViews.{shown_stamp, shown_body}
 use Rattle.record_writer.specs.Data.{PlainWriter}

@@ -10,7 +10,7 @@ use Rattle.record_parts.specs.ShownViews.{shown_label, shown_stamp}
 use Rattle.record_writer.specs.Data.{call_end_inner}
 use Rattle.record_writer.specs.View.{writer_view}
 use Rattle.record_writer.specs.declared.writer.Writer.{Writer}
-use Rattle.archive_cut.specs.Passes.{IsOpen, fault_of, of_cursor}
+use Rattle.archive_cut.specs.Passes.{fault_of, of_cursor}
 use Rattle.archive_cut.specs.State.{State, state}
 use Rattle.archive_cut.specs.Walked.{RowCut, InsideCut, OpenedCut, Gone, ChildCut}
 use Rattle.archive_cut.specs.declared.fault.CutFault.{CutFault}

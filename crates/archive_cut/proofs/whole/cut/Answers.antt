@@ -1,4 +1,4 @@
-use Rattle.std.proofs.Common.{◌≡◌, ap}
+use Rattle.std.proofs.Common.{ap}
 use Rattle.record_cursor.specs.View.{PlainCursor, header_view}
 use Rattle.archive_cut.proofs.Ending.{appended-of, too_long-of, no_room-of, undamaged-of, cause-of}
 use Rattle.archive_cut.proofs.whole.cut.Goals as goal

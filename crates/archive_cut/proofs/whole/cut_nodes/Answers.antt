@@ -1,4 +1,4 @@
-use Rattle.std.proofs.Common.{[], ◌∷◌, ◌≡◌, Option, Some, None, Ok, Err, refl, ap, subst, ◌∙◌}
+use Rattle.std.proofs.Common.{[], ◌∷◌, ◌≡◌, Option, Some, None, refl, ap, subst, ◌∙◌}
 use Rattle.version_set.specs.View.{pairs_of}
 use Rattle.record_cursor.specs.View.{PlainCursor}
 use Rattle.record_writer.specs.Calls.{after}
@@ -7,7 +7,7 @@ use Rattle.record_writer.specs.View.{writer_view}
 use Rattle.record_writer.specs.declared.writer.Writer.{Writer}
 use Rattle.archive_cut.specs.Passes.{fault_of, of_cursor}
 use Rattle.archive_cut.specs.Runs.{Sent}
-use Rattle.archive_cut.specs.State.{State, state, beside}
+use Rattle.archive_cut.specs.State.{State, beside}
 use Rattle.archive_cut.specs.Whole.{NodesCut}
 use Rattle.archive_cut.specs.declared.fault.CutFault.{CutFault}
 use Rattle.archive_cut.proofs.Passing.{Nexts, nexts, stays-by, at-err}

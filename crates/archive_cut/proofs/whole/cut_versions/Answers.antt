@@ -1,5 +1,4 @@
-use Rattle.std.proofs.Common.{◌≡◌, ◌≤◌, ◌+◌, ◌-◌, ℕ, List, Option, Some, Ok, refl, sym, ap, subst, ◌∙◌, arith}
-use Rattle.version_set.specs.View.{pairs_of}
+use Rattle.std.proofs.Common.{◌≡◌, ◌≤◌, ◌+◌, ◌-◌, ℕ, Ok, sym, ap, subst, ◌∙◌, arith}
 use Rattle.version_set.specs.Members.{upto_pairs}
 use Rattle.record_cursor.specs.View.{header_view}
 use Rattle.record_format.specs.Files.{header_bytes}

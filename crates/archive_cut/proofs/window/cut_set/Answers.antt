@@ -1,4 +1,4 @@
-use Rattle.std.proofs.Common.{◌≡◌, ◌≤◌, ℕ, ◌+◌, ◌-◌, pos, ℤ, ◌-ℤ◌, List, [], ◌∷◌, map, filter, Result, Ok, Err, IfOk, arith}
+use Rattle.std.proofs.Common.{◌≡◌, ℕ, pos, ℤ, ◌-ℤ◌, List, [], ◌∷◌, map, filter, Result, Ok, Err, IfOk, arith}
 use Rattle.std.proofs.lemmas.Int.{ints}
 use Rattle.version_set.specs.Members.{members, has, moved}
 use Rattle.version_set.specs.View.{pairs_of}

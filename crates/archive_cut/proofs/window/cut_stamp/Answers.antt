@@ -1,10 +1,10 @@
-use Rattle.std.proofs.Common.{◌≡◌, ◌≢◌, ℕ, List, Option, Some, None, IsTrue, true, false, true≢false, sym, ap, refl, ◌∙◌, subst}
+use Rattle.std.proofs.Common.{◌≡◌, ℕ, List, Some, None, true≢false, sym, ap, refl, ◌∙◌}
 use Rattle.std.specs.Option.{option_map}
 use Rattle.version_set.specs.View.{pairs_of}
 use Rattle.archive_tree.specs.Data.{Stamp}
 use Rattle.archive_tree.specs.View.{stamp_view}
 use Rattle.archive_cut.specs.Sliced.{cut_set}
-use Rattle.archive_cut.specs.Windows.{set_left, stamp_left}
+use Rattle.archive_cut.specs.Windows.{set_left}
 use Rattle.archive_cut.proofs.Sets.{none_is, same_is, other_is}
 use Rattle.archive_cut.proofs.window.cut_stamp.Goals.{then-count-eq0, else-count-eq0}
 use Rattle.archive_cut.proofs.window.cut_stamp.Goals as goal
