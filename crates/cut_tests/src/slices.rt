@@ -62,14 +62,11 @@ const SLICED: &[(&str, &str, &[&str])] = &[
 
 // The file of the versions from the first to the last.
 fn slice(alloc: Global, old: &[u8], first: usize, last: usize) -> Result<Option<Vec<u8>>, Fail> {
+    let (Ok(from), Ok(to)) = (u32::try_from(first), u32::try_from(last)) else {
+        return Ok(None);
+    };
     let mut folder = folder(alloc, old, Vec::new(alloc))?;
-    let answer = cut_out(
-        alloc,
-        &mut folder,
-        old.len() as u64,
-        first as u32,
-        last as u32,
-    )?;
+    let answer = cut_out(alloc, &mut folder, old.len() as u64, from, to)?;
     if answer != Ok(()) || folder.file(NAME) != Some(old) {
         return Ok(None);
     }

@@ -1,9 +1,11 @@
 // Logs out of a file.
 ghost use Rattle.std.specs.Prelude.{◌≡◌, ◌<◌};
+ghost use Rattle.record_cursor.specs.View.{header_view, IsHeader};
 
 use crate::archives::{COMPANY, CUT, FLOORS, ITEMS, NAME, RAISED, RETURNED, SIX, file, folder};
 use content_log::{LogFault, log};
 use key_rules::read_path;
+use keyed_tree::Label;
 use record_cursor::{Header, read_header};
 use std::alloc::Global;
 use std::marker::Brand;
@@ -19,18 +21,17 @@ fn counted<L: Ledger>(
     blank: Blank,
     alloc: Global,
     folder: &mut MemFolder,
-    size: u64,
-    path: &str,
+    header: &Header,
+    path: &[Label],
     out: &mut MemSink,
-) -> Result<Result<(), LogFault>, Fail>
+) -> Result<(), LogFault>
     requires name { blank.name ≡ L.name }
     requires parts { blank.parts ≡ L.parts }
     requires some { 0 < blank.parts }
+    requires header { IsHeader (header_view header.now) }
 {
     let mut steps: Steps<L> = Steps::new(blank);
-    let header = read_header(alloc, folder, NAME, size)?;
-    let labels = read_path(alloc, &header.spec, path)?;
-    Ok(log(alloc, folder, NAME, &header, &labels, out, &mut steps))
+    log(alloc, folder, NAME, header, path, out, &mut steps)
 }
 
 /// Writes the log of a path in the file in the folder.
@@ -41,7 +42,10 @@ fn logged(
     path: &str,
     out: &mut MemSink,
 ) -> Result<Result<(), LogFault>, Fail> {
-    counted::<Brand>(Blank::new(1), alloc, folder, size, path, out)
+    let header = read_header(alloc, folder, NAME, size)?;
+    let labels = read_path(alloc, &header.spec, path)?;
+    let blank = Blank::new(1);
+    Ok(counted::<Brand>(blank, alloc, folder, &header, &labels, out))
 }
 
 fn told(holds: bool, name: &'static str) -> Result<(), Fail> {
