@@ -60,6 +60,17 @@ paid x y z k l read written le =
     let drafted' = ap (λ (m : Numbers). m.drafted) written in
     omega (arith, since, drafted, since', drafted', le)
 
+ahead-same : (x y : Numbers) → y ≡ after_pull x 0 → lead y ≤ lead x
+ahead-same x y is =
+    let since = ap (λ (m : Numbers). m.since) is in
+    let drafted = ap (λ (m : Numbers). m.drafted) is in
+    omega (arith, since, drafted)
+
+-- where no note comes, nothing is read
+nothing-read : (place : Option Place) (x y : Numbers) → y ≡ after_pull x (read_from place None) → lead y ≤ lead x
+nothing-read None x y is = ahead-same x y is
+nothing-read (Some p) x y is = ahead-same x y is
+
 read-most : (r : PlainReader) (note : List ℕ) → read_for r (Some note) ≤ 4 + length note
 read-most r note = by r.place where
   by : (place : Option Place) → read_from place (Some note) ≤ 4 + length note
@@ -138,6 +149,13 @@ module _ {S : Type 0} (files : S → Option Files) (draft : S → Option (List �
 
       pub copied-gap : PullsAtMost (most_read now) (numbers mid) (numbers read) → IsPrompt start w → (numbers read).gap ≤ max (numbers old).gap (lead (numbers old) + 1028)
       copied-gap pulls prompt = prompt-more (numbers old) (numbers mid) (numbers read) (h.gap prompt) (h.ahead prompt) (prompt-read (numbers mid) (numbers read) (most_read now) (most-one now.due now.place) pulls)
+
+      pub copied-later : faults mid ≤ faults read → faults old ≤ faults read
+      copied-later later = (let before = h.later in omega (arith, before, later))
+
+      pub copied-ahead : (o : Option (String Global)) → o ≡ None → numbers read ≡ after_pull (numbers mid) (read_for now (option_map string_bytes o)) → IsPrompt start w → lead (numbers read) ≤ lead (numbers old)
+      copied-ahead None e is prompt = (let before = h.ahead prompt in let same = nothing-read now.place (numbers mid) (numbers read) is in omega (arith, before, same))
+      copied-ahead (Some x) e is prompt = absurd cc
 
       pub copied-drafted : draft read ≡ draft mid → Lengthens (draft old) (draft read)
       copied-drafted same = record { bytes = all_appended w done; is = same ∙ h.gains }

@@ -3,7 +3,7 @@ use Rattle.std.proofs.Common.{◌≡◌, ℕ, zero, suc, ◌+◌, ◌-◌, ◌<�
 use Rattle.std.specs.Prelude.{option_map, String, string_bytes}
 use Rattle.std.specs.Global.{Global}
 use Rattle.std.specs.List.{AllByRecursion}
-use Rattle.std.specs.Result.{IsErrAnd}
+use Rattle.std.specs.Result.{IfOk, IsErrAnd}
 use Rattle.std.proofs.lemmas.Bool.{cases_Bool, leb-true, leb-false}
 use Rattle.xa_outside.specs.Causes.{Rose}
 use Rattle.xa_outside.specs.Folder.{Files}
@@ -191,6 +191,16 @@ pub record Walked {S : Type 0} (files : S → Option Files) (draft : S → Optio
 pub at-err : {T : Type 0} (r : Result T NotesFault) (e : NotesFault) → IsErrAnd r (λ d. d ≡ e) → (P : Result T NotesFault → Type 0) → P (Err e) → P r
 at-err (Ok x) e h P p = absurd h
 at-err (Err d) e h P p = subst (λ (z : NotesFault). P (Err z)) (sym h) p
+
+-- what is said of what was read, where nothing was
+pub of-none : {T : Type 0} (r : Result T NotesFault) (e : NotesFault) → IsErrAnd r (λ d. d ≡ e) → (P : T → Type 0) → IfOk r P
+of-none (Ok x) e h P = absurd h
+of-none (Err d) e h P = tt
+
+-- what is said of a place, if there is one
+pub of-place : (place : Option Place) (P : Place → Type 0) → ((p : Place) → P p) → IfSome place P
+of-place None P h = tt
+of-place (Some p) P h = h p
 
 module _ {S : Type 0} (files : S → Option Files) (draft : S → Option (List ℕ)) (numbers : S → Numbers) (faults : S → ℕ) where
   pub walked-none : (s : S) (r : PlainReader) → IsMeter (numbers s) → Walked files draft numbers faults s s r r []

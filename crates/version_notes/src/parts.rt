@@ -1,5 +1,5 @@
 // Where the notes of a file stand.
-ghost use Rattle.std.specs.Prelude.{◌≡◌, ◌≤◌, ◌-◌, ℕ, List, length, drop, min, Some, IfOk, IfErr};
+ghost use Rattle.std.specs.Prelude.{◌≡◌, ◌≤◌, ◌-◌, ℕ, List, length, min, Some, IfOk, IfErr};
 ghost use Rattle.xa_outside.specs.Causes.{Rose};
 ghost use Rattle.xa_outside.specs.Folder.{Files, front_of};
 ghost use Rattle.xa_outside.specs.Numbers.{PullsAtMost};

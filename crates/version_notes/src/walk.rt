@@ -1,5 +1,5 @@
 // Going through all notes that are left.
-ghost use Rattle.std.specs.Prelude.{◌≡◌, ◌+◌, ◌≤◌, ◌||◌, not, true, List, ℕ, length, map, max, Some, None, IfOk, IfErr, IfSome, IsSome, OnOk, OnErr, MatchResult, string_bytes};
+ghost use Rattle.std.specs.Prelude.{◌≡◌, ◌+◌, ◌≤◌, ◌||◌, not, true, length, map, max, Some, None, IfOk, IfErr, IfSome, IsSome, OnOk, OnErr, MatchResult, string_bytes};
 ghost use Rattle.std.specs.List.{AllByRecursion};
 ghost use Rattle.xa_outside.specs.Causes.{Rose};
 ghost use Rattle.xa_outside.specs.Folder.{Files};

@@ -1,5 +1,5 @@
 // Writing notes behind a file.
-ghost use Rattle.std.specs.Prelude.{◌≡◌, ◌+◌, ◌*◌, ◌<◌, ◌≤◌, ◌^◌, ◌++◌, ◌∷◌, [], ℕ, length, replicate, take, true, false, OnOk, IsTrue, if◌then◌else◌};
+ghost use Rattle.std.specs.Prelude.{◌≡◌, ◌+◌, ◌*◌, ◌<◌, ◌≤◌, ◌^◌, ◌++◌, ◌∷◌, [], length, take, true, false, OnOk, IsTrue, if◌then◌else◌};
 ghost use Rattle.xa_fields.specs.Spelling.{text_bytes};
 ghost use Rattle.version_notes.specs.Notes.{ending, is_note, most};
 ghost use Rattle.version_notes.specs.Writer.{Appends, after, appended, fresh, last_appended, empty_texts};
