@@ -64,10 +64,10 @@ pub record IsSmall (p : ℕ × ℕ) : Type 0 where
   pub from : p.0 < 2 ^ 64
   pub to : p.1 < 2 ^ 64
 
-abbrev span : ℕ × ℕ → List ℕ
+abbrev pub span : ℕ × ℕ → List ℕ
 span p = decimal p.0 ++ codes "-" ++ decimal p.1
 
-span_is : (p : ℕ × ℕ) → span p ≡ decimal p.0 ++ 45 ∷ decimal p.1
+pub span_is : (p : ℕ × ℕ) → span p ≡ decimal p.0 ++ 45 ∷ decimal p.1
 span_is p = append_assoc (decimal p.0) (codes "-") (decimal p.1)
 
 either_free : (d : ℕ) (c : Bool) (xs ys : List ℕ) → Free d xs → Free d ys → Free d (cond c xs ys)
@@ -114,7 +114,7 @@ pair_some p h =
 
 -- ---- sets
 
-abbrev behind : List (ℕ × ℕ) → List ℕ
+abbrev pub behind : List (ℕ × ℕ) → List ℕ
 behind ps = flat_map (λ y. codes "," ++ pair_text y) ps
 
 pub set_one : (p q : ℕ × ℕ) (ps qs : List (ℕ × ℕ)) → AllByRecursion IsSmall (p ∷ ps) → AllByRecursion IsSmall (q ∷ qs) → pair_text p ++ behind ps ≡ pair_text q ++ behind qs → p ∷ ps ≡ q ∷ qs
@@ -125,7 +125,7 @@ set_one p q (x ∷ xs) (y ∷ ys) h k e =
     let parts = cut 44 (pair_text p) (pair_text q) (pair_text x ++ behind xs) (pair_text y ++ behind ys) (pair_free p h.0) (pair_free q k.0) e in
     ap₂ (λ a l. a ∷ l) (pair_one p q h.0 k.0 parts.0) (set_one x y xs ys h.1 k.1 parts.1)
 
-small_set : (low : ℕ) (ps : List (ℕ × ℕ)) → IsFrom low ps → AllByRecursion (λ (p : ℕ × ℕ). p.1 ≤ most) ps → AllByRecursion IsSmall ps
+pub small_set : (low : ℕ) (ps : List (ℕ × ℕ)) → IsFrom low ps → AllByRecursion (λ (p : ℕ × ℕ). p.1 ≤ most) ps → AllByRecursion IsSmall ps
 small_set low [] f w = tt
 small_set low (p ∷ ps) f w = (record { from = omega (arith, f.1, w.0); to = omega (arith, w.0) }, small_set (p.1 + 2) ps f.2 w.1)
 

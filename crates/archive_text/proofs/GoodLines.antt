@@ -27,7 +27,7 @@ use Rattle.archive_file.proofs.WellLaws.{value-well}
 use Rattle.jsonml_lines.specs.Lines.{PlainLine}
 use Rattle.jsonml_lines.specs.RoundTrip.{IsCell, IsLine}
 use Rattle.archive_text.specs.Export.{text_cell, number_cell, stamp_text, name_text, key_line, note_line, note_lines, alt_line, end_line, node_lines, nodes_lines}
-use Rattle.archive_text.proofs.OneNode.{IsNamed, HasNames, HaveNames}
+use Rattle.archive_text.specs.Names.{IsNamed, HasNames, HaveNames}
 
 -- ---- lines
 

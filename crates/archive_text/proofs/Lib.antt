@@ -6,3 +6,13 @@ pub mod OneNode
 pub mod GoodLines
 pub mod OneText
 pub mod OneExport
+pub mod KeyTexts
+pub mod LineTexts
+pub mod Readables
+pub mod Found
+pub mod ReadKeys
+pub mod ReadNotes
+pub mod ReadTree
+pub mod ReadSets
+pub mod ReadParts
+pub mod ReadWhole

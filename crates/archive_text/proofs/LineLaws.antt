@@ -16,19 +16,19 @@ use Rattle.archive_text.proofs.Steps.{flat_map-map}
 
 -- ---- texts
 
-abbrev NoFeed : List ℕ → Type 0
-NoFeed bs = (i : ℕ) → i < length bs → get_or bs i 0 ≢ 10
+abbrev pub Without : ℕ → List ℕ → Type 0
+Without d bs = (i : ℕ) → i < length bs → get_or bs i 0 ≢ d
 
 not_feed : (b : ℕ) → b ≢ 10 → (b == 10) ≡ false
 not_feed b ne = elim (eqb_tells b 10) [ inl p ↦ absurd (ne p.1) | inr p ↦ p.0 ]
 
-pub first_line : (line rest : List ℕ) → NoFeed line → text_lines (line ++ 10 ∷ rest) ≡ line ∷ text_lines rest
+pub first_line : (line rest : List ℕ) → Without 10 line → text_lines (line ++ 10 ∷ rest) ≡ line ∷ text_lines rest
 first_line [] rest free = refl
 first_line (b ∷ bs) rest free =
     ap (λ c. cond c ([] ∷ text_lines (bs ++ 10 ∷ rest)) (in_front b (text_lines (bs ++ 10 ∷ rest)))) (not_feed b (free 0 (omega arith)))
     ∙ ap (in_front b) (first_line bs rest (λ i h. free (suc i) (omega arith)))
 
-pub last_line : (b : ℕ) (bs : List ℕ) → NoFeed (b ∷ bs) → text_lines (b ∷ bs) ≡ (b ∷ bs) ∷ []
+pub last_line : (b : ℕ) (bs : List ℕ) → Without 10 (b ∷ bs) → text_lines (b ∷ bs) ≡ (b ∷ bs) ∷ []
 last_line b [] free = ap (λ c. cond c ([] ∷ []) ((b ∷ []) ∷ [])) (not_feed b (free 0 (omega arith)))
 last_line b (d ∷ bs) free =
     ap (λ c. cond c ([] ∷ text_lines (d ∷ bs)) (in_front b (text_lines (d ∷ bs)))) (not_feed b (free 0 (omega arith)))
@@ -63,13 +63,13 @@ leaf_text old a b new k l s xs is e f g = three old a b new (line_text (leaf_lin
 
 -- ---- keys
 
-pub key_step : (mid new total left line rest : List ℕ) → left ≡ line ++ 10 ∷ rest → NoFeed line → mid ++ lines_text (map key_line (text_lines left)) ≡ total → new ≡ mid ++ line_text (key_line line)
+pub key_step : (mid new total left line rest : List ℕ) → left ≡ line ++ 10 ∷ rest → Without 10 line → mid ++ lines_text (map key_line (text_lines left)) ≡ total → new ≡ mid ++ line_text (key_line line)
     → new ++ lines_text (map key_line (text_lines rest)) ≡ total
 key_step mid new total left line rest is free before now =
     ap (λ l. l ++ lines_text (map key_line (text_lines rest))) now ∙ append_assoc mid (line_text (key_line line)) _
     ∙ ap (λ (ls : List (List ℕ)). mid ++ lines_text (map key_line ls)) (sym (ap text_lines is ∙ first_line line rest free)) ∙ before
 
-pub last_key : (mid new total left : List ℕ) → 0 < length left → NoFeed left → mid ++ lines_text (map key_line (text_lines left)) ≡ total → new ≡ mid ++ line_text (key_line left) → new ≡ total
+pub last_key : (mid new total left : List ℕ) → 0 < length left → Without 10 left → mid ++ lines_text (map key_line (text_lines left)) ≡ total → new ≡ mid ++ line_text (key_line left) → new ≡ total
 last_key mid new total [] some free before now = absurd (omega arith)
 last_key mid new total (b ∷ bs) some free before now =
     now ∙ ap (λ l. mid ++ l) (sym (append-nil (line_text (key_line (b ∷ bs))))) ∙ ap (λ (ls : List (List ℕ)). mid ++ lines_text (map key_line ls)) (sym (last_line b bs free)) ∙ before

@@ -26,8 +26,10 @@ use Rattle.archive_text.specs.Texts.{text_lines}
 use Rattle.archive_text.specs.Export.{key_line, note_lines, end_line, nodes_lines, ExportOf}
 use Rattle.archive_text.proofs.GoodLines.{all_join, end_good, nodes_good, keys_good, notes_good, count_good, row_names, rules_named}
 use Rattle.archive_text.proofs.OneLine.{LinesReadBack, same_lines}
-use Rattle.archive_text.proofs.OneNode.{HaveNames, row_one}
-use Rattle.archive_text.proofs.OneText.{all_lines, text_is, same_parts}
+use Rattle.archive_text.specs.Names.{HaveNames}
+use Rattle.archive_text.specs.Reading.{all_lines}
+use Rattle.archive_text.proofs.OneNode.{row_one}
+use Rattle.archive_text.proofs.OneText.{text_is, same_parts}
 
 -- what is known of archives, of sound files and of keyed versions
 abbrev pub OneArchive : Type 0

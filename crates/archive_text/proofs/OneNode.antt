@@ -1,7 +1,6 @@
 -- Nodes with the same lines are the same.
-use Rattle.std.proofs.Common.{◌≡◌, ℕ, true, List, [], ◌∷◌, ◌++◌, map, get_or, refl, sym, ap, ap₂, ◌∙◌, append_assoc}
+use Rattle.std.proofs.Common.{◌≡◌, ◌≢◌, ℕ, true, List, [], ◌∷◌, ◌++◌, map, get_or, refl, sym, ap, ap₂, ◌∙◌, append_assoc}
 use Rattle.std.specs.List.{AllByRecursion, list_all}
-use Rattle.std.specs.Prelude.{⊤}
 use Rattle.std.proofs.lemmas.Bool.{and_parts, eqb-false}
 use Rattle.key_spec.specs.Names.{is_name, is_name_byte}
 use Rattle.key_spec.proofs.NameLaws.{name-bytes}
@@ -10,24 +9,11 @@ use Rattle.archive_tree.specs.Data.{Stamp, PlainAlt, PlainNode, inner_node, leaf
 use Rattle.record_parts.specs.Bounds.{IsStamp}
 use Rattle.record_format.specs.Shapes.{IsShapedAlt, IsShapedNode, AreShapedNodes}
 use Rattle.jsonml_lines.specs.Lines.{PlainLine}
+use Rattle.archive_text.specs.Names.{IsNamed, HasNames, HaveNames}
 use Rattle.archive_text.specs.Export.{text_cell, stamp_text, name_text, node_begun, open_line, leaf_line, alt_line, end_line, node_lines, nodes_lines}
 use Rattle.archive_text.proofs.Cuts.{stamp_one}
 
 -- ---- names
-
--- a tag is a name, which has no `@`
-abbrev pub IsNamed : PlainName → Type 0
-IsNamed (attr s) = ⊤
-IsNamed (tag s) = is_name s ≡ true
-
-abbrev mutual
-  pub HasNames : PlainNode → Type 0
-  HasNames (inner_node l s ks) = IsNamed l.name × HaveNames ks
-  HasNames (leaf_node l s xs) = IsNamed l.name
-
-  pub HaveNames : PlainNodes → Type 0
-  HaveNames no_nodes = ⊤
-  HaveNames (node k ks) = HasNames k × HaveNames ks
 
 no_at : (s t : List ℕ) → is_name t ≡ true → 64 ∷ s ≡ t → ⊥
 no_at s t h e =
@@ -41,6 +27,11 @@ name_one (attr s) (tag t) h k e = absurd (no_at s t k e)
 name_one (tag s) (attr t) h k e = absurd (no_at t s h (sym e))
 name_one (tag s) (tag t) h k e = ap (λ x. tag x) e
 
+-- a text that does not begin with `@` is a tag
+pub name_none : (n : PlainName) (text : List ℕ) → text ≡ name_text n → ((rest : List ℕ) → text ≢ 64 ∷ rest) → tag text ≡ n
+name_none (attr s) text e h = absurd (h s e)
+name_none (tag s) text e h = ap (λ x. tag x) e
+
 -- ---- the first lines
 
 pub head : (l m : PlainLine) (ls ms : List PlainLine) → l ∷ ls ≡ m ∷ ms → (l ≡ m) × (ls ≡ ms)
@@ -49,7 +40,7 @@ head l m ls ms e = let one : l ≡ m = cc in let other : ls ≡ ms = cc in (one,
 cells_is : (a b : List ℕ) (ks js : List PlainKey) (c d : List ℕ) → text_cell a ∷ text_cell b ∷ ks ≡ text_cell c ∷ text_cell d ∷ js → (a ≡ c) × (b ≡ d) × (ks ≡ js)
 cells_is a b ks js c d e = let one : a ≡ c = cc in let two : b ≡ d = cc in let three : ks ≡ js = cc in (one, two, three)
 
-label_is : (l m : PlainLabel) → l.name ≡ m.name → l.keys ≡ m.keys → l ≡ m
+pub label_is : (l m : PlainLabel) → l.name ≡ m.name → l.keys ≡ m.keys → l ≡ m
 label_is l m e f = λ i. record { name = e i; keys = f i }
 
 begun_one : (word : List ℕ) (l m : PlainLabel) (s t : Stamp) → IsNamed l.name → IsNamed m.name → IsStamp s → IsStamp t → node_begun word l s ≡ node_begun word m t → (l ≡ m) × (s ≡ t)
@@ -57,7 +48,7 @@ begun_one word l m s t h k p q e =
     let parts = cells_is (stamp_text s) (name_text l.name) l.keys m.keys (stamp_text t) (name_text m.name) (ap (λ (x : PlainLine). x.cells) e) in
     (label_is l m (name_one l.name m.name h k parts.1) parts.2, stamp_one s t p q parts.0)
 
-alt_is : (x y : PlainAlt) → x.stamp ≡ y.stamp → x.body ≡ y.body → x ≡ y
+pub alt_is : (x y : PlainAlt) → x.stamp ≡ y.stamp → x.body ≡ y.body → x ≡ y
 alt_is x y e f = λ i. record { stamp = e i; body = f i }
 
 alt_cells : (a c : List ℕ) (b d : PlainKey) → text_cell a ∷ b ∷ [] ≡ text_cell c ∷ d ∷ [] → (a ≡ c) × (b ≡ d)

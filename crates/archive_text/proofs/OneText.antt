@@ -1,6 +1,5 @@
 -- Archives with the same lines are the same.
 use Rattle.std.proofs.Common.{◌≡◌, ℕ, ◌+◌, ◌<◌, ◌==◌, cond, Bool, true, false, List, [], ◌∷◌, ◌++◌, length, map, get_or, inl, inr, refl, sym, ap, ap₂, ◌∙◌, arith, append_assoc, append-nil, length-append}
-use Rattle.std.specs.List.{flat_map}
 use Rattle.std.proofs.lemmas.Bool.{eqb-false}
 use Rattle.std.proofs.lemmas.Bool.Decides.{eqb_tells}
 use Rattle.std.proofs.lemmas.Grind.{flat_map-append}
@@ -9,11 +8,9 @@ use Rattle.key_spec.specs.Canonical.{canonical, rule_text}
 use Rattle.archive_tree.specs.Data.{inner_node, leaf_node, PlainNodes, no_nodes, node, PlainArchive}
 use Rattle.jsonml_lines.specs.Lines.{PlainLine, line_text}
 use Rattle.archive_text.specs.Texts.{in_front, text_lines}
+use Rattle.archive_text.specs.Reading.{all_lines, rejoined}
 use Rattle.archive_text.specs.Export.{text_cell, number_cell, count_line, key_line, note_line, note_lines, end_line, nodes_lines, lines_text, export_text}
 use Rattle.archive_text.proofs.OneNode.{head}
-
-abbrev pub all_lines : List PlainRule → PlainArchive → List (List ℕ) → List PlainLine
-all_lines rules a notes = count_line a.n ∷ (map key_line (text_lines (canonical rules)) ++ (note_lines 1 notes ++ (nodes_lines a.kids ++ end_line ∷ [])))
 
 pub text_is : (rules : List PlainRule) (a : PlainArchive) (notes : List (List ℕ)) → export_text rules a notes ≡ lines_text (all_lines rules a notes)
 text_is rules a notes =
@@ -30,7 +27,7 @@ abbrev pub first_kind : List PlainLine → ℕ
 first_kind [] = 0
 first_kind (l ∷ ls) = get_or l.word 0 0
 
-last_kind : (ks : PlainNodes) (d : ℕ) → (d == 101) ≡ false → (d == 111) ≡ false → (d == 108) ≡ false → first_kind (nodes_lines ks ++ end_line ∷ []) ≡ d → ⊥
+pub last_kind : (ks : PlainNodes) (d : ℕ) → (d == 101) ≡ false → (d == 111) ≡ false → (d == 108) ≡ false → first_kind (nodes_lines ks ++ end_line ∷ []) ≡ d → ⊥
 last_kind no_nodes d e f g is = eqb-false d 101 e (sym is)
 last_kind (node (inner_node l s ks) js) d e f g is = eqb-false d 111 f (sym is)
 last_kind (node (leaf_node l s xs) js) d e f g is = eqb-false d 108 g (sym is)
@@ -39,7 +36,7 @@ either_kind : (b : Bool) (l : PlainLine) (ls rest : List PlainLine) → (first_k
 either_kind true l ls rest f g = f
 either_kind false l ls rest f g = g
 
-notes_kind : (i : ℕ) (notes : List (List ℕ)) (rest : List PlainLine) → (first_kind rest ≡ 107 → ⊥) → first_kind (note_lines i notes ++ rest) ≡ 107 → ⊥
+pub notes_kind : (i : ℕ) (notes : List (List ℕ)) (rest : List PlainLine) → (first_kind rest ≡ 107 → ⊥) → first_kind (note_lines i notes ++ rest) ≡ 107 → ⊥
 notes_kind i [] rest f = f
 notes_kind i (note ∷ notes) rest f = either_kind (length note == 0) (note_line i note) (note_lines (i + 1) notes) rest (notes_kind (i + 1) notes rest f) (λ e. eqb-false 110 107 refl e)
 
@@ -70,14 +67,14 @@ note_is i j n m e =
     let same : n ≡ m = cc in
     (number_is i j one, same)
 
-empty : (n : List ℕ) → length n ≡ 0 → n ≡ []
+pub empty : (n : List ℕ) → length n ≡ 0 → n ≡ []
 empty [] e = refl
 empty (b ∷ bs) e = absurd (omega arith)
 
-without : (i : ℕ) (n : List ℕ) (ns : List (List ℕ)) → (length n == 0) ≡ true → note_lines i (n ∷ ns) ≡ note_lines (i + 1) ns
+pub without : (i : ℕ) (n : List ℕ) (ns : List (List ℕ)) → (length n == 0) ≡ true → note_lines i (n ∷ ns) ≡ note_lines (i + 1) ns
 without i n ns e = ap (λ c. cond c (note_lines (i + 1) ns) (note_line i n ∷ note_lines (i + 1) ns)) e
 
-with_note : (i : ℕ) (n : List ℕ) (ns : List (List ℕ)) → (length n == 0) ≡ false → note_lines i (n ∷ ns) ≡ note_line i n ∷ note_lines (i + 1) ns
+pub with_note : (i : ℕ) (n : List ℕ) (ns : List (List ℕ)) → (length n == 0) ≡ false → note_lines i (n ∷ ns) ≡ note_line i n ∷ note_lines (i + 1) ns
 with_note i n ns e = ap (λ c. cond c (note_lines (i + 1) ns) (note_line i n ∷ note_lines (i + 1) ns)) e
 
 -- a later note does not come first
@@ -114,9 +111,6 @@ notes_one i (n ∷ ns) (m ∷ ms) r s long f g e =
 
 -- ---- the lines of a canonical text
 
-abbrev rejoined : List (List ℕ) → List ℕ
-rejoined ls = flat_map (λ l. l ++ 10 ∷ []) ls
-
 front_again : (b : ℕ) (ls : List (List ℕ)) (xs : List ℕ) → rejoined ls ≡ xs → 0 < length xs → rejoined (in_front b ls) ≡ b ∷ xs
 front_again b [] xs e h = absurd (omega (arith, ap length e))
 front_again b (l ∷ ls) xs e h = ap (λ x. b ∷ x) e
@@ -134,7 +128,7 @@ line_again (b ∷ bs) rest e =
       | inr p ↦ ap (λ c. rejoined (cond c ([] ∷ t) (in_front b t))) p.0 ∙ front_again b t (bs ++ 10 ∷ rest) next (some bs rest)
     ]
 
-canonical_again : (rules : List PlainRule) → rejoined (text_lines (canonical rules)) ≡ canonical rules
+pub canonical_again : (rules : List PlainRule) → rejoined (text_lines (canonical rules)) ≡ canonical rules
 unfolding canonical
 canonical_again [] = refl
 canonical_again (r ∷ rules) =

@@ -1,3 +1,5 @@
 pub mod Export
 pub mod Texts
+pub mod Names
+pub mod Reading
 pub mod Faults

@@ -4,6 +4,7 @@ ghost use Rattle.key_spec.specs.Data.{PlainRule};
 ghost use Rattle.keyed_tree.specs.Data.{PlainKeyed};
 ghost use Rattle.noted_file.specs.Full.{FullAs};
 ghost use Rattle.archive_text.specs.Export.{ExportOf};
+ghost use Rattle.archive_text.specs.Reading.{ArePartsOf};
 
 use archive_file::{keyed_versions_can_be_merged, sound_archives_have_one_reading};
 use archive_tree::archives_stand_for_one_list;
@@ -20,6 +21,18 @@ pub fn texts_have_one_reading()
         → (rules ≡ others) × (vs ≡ us) × (notes ≡ more) }
 {
     printed_lines_read_back();
+    archives_stand_for_one_list();
+    sound_archives_have_one_reading();
+    keyed_versions_can_be_merged();
+}
+
+/// The text of an archive with notes that has a file can be read: its specification is short, its names are names, its stamps
+/// are sets, its texts UTF-8, and its nodes nest no deeper than elements may.
+pub(crate) fn texts_can_be_read()
+    ensures { (rules : List PlainRule) (vs : List PlainKeyed) (notes : List (List ℕ))
+        (file text : List ℕ) → FullAs rules vs notes file → (e : ExportOf rules vs notes text)
+        → ArePartsOf rules e.archive notes text }
+{
     archives_stand_for_one_list();
     sound_archives_have_one_reading();
     keyed_versions_can_be_merged();

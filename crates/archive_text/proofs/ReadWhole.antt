@@ -1,0 +1,91 @@
+-- What is judged of the parts of a text, and what follows for the whole.
+use Rattle.std.proofs.Common.{◌≡◌, ℕ, ◌≤◌, true, List, [], ◌∷◌, ◌++◌, length, map, Result, Ok, Err, IfOk, IfErr, Option, Some, None, is_some, IfSome, IfNone, true≢false, String, Global, string_bytes, refl, sym, ◌∙◌, subst, arith}
+use Rattle.std.specs.List.{AllByRecursion, list_all}
+use Rattle.std.proofs.lemmas.Bool.{and_parts, and_from, leb-true}
+use Rattle.std.proofs.lemmas.Str.{IsUtf8-string_bytes}
+use Rattle.key_spec.specs.Data.{PlainRule}
+use Rattle.keyed_tree.specs.Data.{PlainKeyed}
+use Rattle.archive_tree.specs.Data.{PlainArchive}
+use Rattle.archive_tree.specs.Stands.{ArchiveOf}
+use Rattle.record_parts.specs.Bounds.{most}
+use Rattle.archive_file.specs.Sound.{SoundAs}
+use Rattle.version_notes.specs.Notes.{IsNote, is_note, is_printed, notes_part}
+use Rattle.noted_file.specs.Full.{FullAs}
+use Rattle.archive_text.specs.Export.{export_text, ExportOf}
+use Rattle.archive_text.specs.Faults.{IfBad}
+use Rattle.archive_text.specs.Reading.{ArePartsOf, CanBeKept, Finds}
+use Rattle.archive_text.proofs.OneText.{text_is}
+use Rattle.archive_text.specs.declared.fault.ReadFault.{ReadFault}
+use Rattle.archive_text.specs.declared.fault.ReadFault.TheVariants.{Bad, Memory}
+
+-- ---- results
+
+pub if_ok : {X E : Type 0} (P Q : X → Type 0) (r : Result X E) → ((x : X) → P x → Q x) → IfOk r P → IfOk r Q
+if_ok P Q (Ok x) f h = f x h
+if_ok P Q (Err e) f h = tt
+
+pub any_ok : {X E : Type 0} (Q : X → Type 0) (r : Result X E) → ((x : X) → Q x) → IfOk r Q
+any_ok Q (Ok x) f = f x
+any_ok Q (Err e) f = tt
+
+pub finds_ok : {X : Type 0} (P Q : X → Type 0) (r : Result X ReadFault) → ((x : X) → P x → Q x) → Finds r P → IfOk r Q
+finds_ok P Q (Ok x) f h = f x h
+finds_ok P Q (Err e) f h = tt
+
+pub text_bad : {X : Type 0} (bytes : List ℕ) (r : Result X ReadFault) (Q : List PlainRule → PlainArchive → List (List ℕ) → X → Type 0)
+    → ((rules : List PlainRule) (vs : List PlainKeyed) (notes : List (List ℕ)) (file : List ℕ) → FullAs rules vs notes file → (e : ExportOf rules vs notes bytes) → Finds r (Q rules e.archive notes))
+    → IfErr r (λ d. IfBad d ((rules : List PlainRule) (vs : List PlainKeyed) (notes : List (List ℕ)) (file : List ℕ) → FullAs rules vs notes file → ¬ (ExportOf rules vs notes bytes)))
+text_bad bytes (Ok x) Q h = tt
+text_bad bytes (Err Bad) Q h = λ rules vs notes file full e. h rules vs notes file full e
+text_bad bytes (Err Memory) Q h = tt
+
+-- ---- options
+
+pub some_there : {X : Type 0} (P : X → Type 0) (o : Option X) → is_some o ≡ true → IfSome o P → (x : X) × P x
+some_there P (Some x) e h = (x, h)
+some_there P None e h = absurd (true≢false (sym e))
+
+pub must_be : {X : Type 0} (N : Type 0) (o : Option X) → ¬ N → IfNone o N → is_some o ≡ true
+must_be N (Some x) never h = refl
+must_be N None never h = absurd (never h)
+
+-- ---- notes
+
+note_of : (s : String Global) → is_note (string_bytes s) ≡ true → IsNote (string_bytes s)
+note_of s h =
+    let both = and_parts _ (is_printed (string_bytes s)) h in
+    let short : length (string_bytes s) ≤ 1024 = leb-true _ _ both.0 in
+    (record { short = omega arith; utf8 = IsUtf8-string_bytes s }, h)
+
+pub notes_of : (notes : List (String Global)) → list_all is_note (map string_bytes notes) ≡ true → AllByRecursion IsNote (map string_bytes notes)
+notes_of [] h = tt
+notes_of (s ∷ notes) h = let both = and_parts (is_note (string_bytes s)) (list_all is_note (map string_bytes notes)) h in (note_of s both.0, notes_of notes both.1)
+
+pub all_notes : (notes : List (List ℕ)) → AllByRecursion IsNote notes → list_all is_note notes ≡ true
+all_notes [] h = refl
+all_notes (note ∷ notes) h = and_from (is_note note) (list_all is_note notes) h.0.1 (all_notes notes h.1)
+
+-- ---- what can be kept
+
+pub kept_of : (rules : List PlainRule) (a : PlainArchive) (notes : List (List ℕ)) → a.n ≤ most → length notes ≡ a.n → AllByRecursion IsNote notes → ((vs : List PlainKeyed) → ArchiveOf vs a → (core : List ℕ) × SoundAs rules vs core) → CanBeKept rules a notes
+kept_of rules a notes few many each sound =
+    record {
+      few = few;
+      as_many = many;
+      each = each;
+      keyed = λ vs is. (sound vs is).1.keyed;
+      file = λ vs is. record { file = (sound vs is).0 ++ notes_part notes; is = record { core = (sound vs is).0; is = (sound vs is).1; as_many = many ∙ sym is.count; each = each; spelled = refl } };
+    }
+
+-- ---- what is known of the parts that were read
+
+pub record Known (vs : List PlainKeyed) (file bytes : List ℕ) (rules : List PlainRule) (a : PlainArchive) (notes : List (List ℕ)) : Type 0 where
+  pub is : ArchiveOf vs a
+  pub full : FullAs rules vs notes file
+  pub text : bytes ≡ export_text rules a notes
+
+pub known : (rules : List PlainRule) (vs : List PlainKeyed) (a : PlainArchive) (notes : List (List ℕ)) (file bytes : List ℕ) → ArchiveOf vs a → FullAs rules vs notes file → ArePartsOf rules a notes bytes
+    → (r : List PlainRule) (b : PlainArchive) (n : List (List ℕ)) → r ≡ rules → b ≡ a → n ≡ notes → Known vs file bytes r b n
+known rules vs a notes file bytes is full p r b n e f g =
+    let first : Known vs file bytes rules a notes = record { is = is; full = full; text = p.lines.spelled ∙ sym (text_is rules a notes) } in
+    subst (λ (x : List PlainRule). Known vs file bytes x b n) (sym e) (subst (λ (x : PlainArchive). Known vs file bytes rules x n) (sym f) (subst (λ (x : List (List ℕ)). Known vs file bytes rules a x) (sym g) first))
