@@ -1,8 +1,9 @@
 -- The specification of a table's document: under the root each row is told apart by its fields in the key columns.
-use Rattle.std.specs.Prelude.{◌≡◌, ◌≢◌, ◌↔◌, ℕ, ◌≤◌, ◌<◌, true, false, Bool, List, [], ◌∷◌, map, length, get_or, codes, Some, bytes_eq, if◌then◌else◌}
+use Rattle.std.specs.Prelude.{◌≡◌, ◌≢◌, ◌↔◌, ℕ, ◌≤◌, ◌<◌, true, false, Bool, List, [], ◌∷◌, map, length, get_or, codes, Some, None, bytes_eq, if◌then◌else◌}
 use Rattle.std.specs.List.{list_all}
 use Rattle.key_spec.specs.Data.{PlainPath, PlainRule}
 use Rattle.key_spec.specs.Names.{is_name}
+use Rattle.key_rules.specs.Faults.{first_fault}
 use Rattle.key_rules.specs.Satisfies.{Satisfies}
 use Rattle.csv_tables.specs.Data.{PlainTable}
 use Rattle.csv_tables.specs.Records.{has_field, repeats, IsRegular}
@@ -50,3 +51,7 @@ AreApart table keys =
 abbrev pub SatisfiesItsKeys : PlainTable → List ℕ → List (List ℕ) → Type 0
 SatisfiesItsKeys table tag keys =
     IsRegular table → list_all (has_field table.heading) keys ≡ true → Satisfies (table_rules tag keys) (table_tree table tag) ↔ AreApart table keys
+
+-- the document has no first fault exactly where it satisfies the keys
+abbrev pub IsFaultlessByItsKeys : PlainTable → List ℕ → List (List ℕ) → Type 0
+IsFaultlessByItsKeys table tag keys = (first_fault (table_rules tag keys) (table_tree table tag) ≡ None) ↔ Satisfies (table_rules tag keys) (table_tree table tag)

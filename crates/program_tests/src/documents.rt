@@ -41,3 +41,6 @@ pub(crate) const EIGHT_ELEMENTS: [&[u8]; 6] = [
     b"[\"db\",[\"e\",{\"id\":3}]]",
     b"[\"db\"]",
 ];
+
+/// A table of two rows.
+pub(crate) const TABLE: &[u8] = b"id,name\n2,Ann\n1,\"Bo, Jr\"\n";

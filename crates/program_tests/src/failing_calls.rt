@@ -1,8 +1,9 @@
 //! Each call of the folder, of the input, of the output and of the errors' sink fails in turn, over the commands and a batch.
 use crate::batches::{HISTORY, HISTORY_OUTPUT, NO_COMMAND};
 use crate::cases::{Ends, Outside, Pieces, archive_of, are_joined, ends_of, is_prefix, texts};
-use crate::documents::{BY_ID, COMPANY, JOHN, JOHN_RAISED, TINY};
+use crate::documents::{BY_ID, COMPANY, JOHN, JOHN_RAISED, TABLE, TINY};
 use crate::outside::folder;
+use crate::texts::TEXT_OF_THREE;
 use std::alloc::{AllocError, Global};
 use std::test::Fail;
 use xa_outside::{Folder, FolderCall, FolderFail, MemFolder, Sink, Source};
@@ -131,6 +132,61 @@ const TRIALS: &[Trial] = &[
         ..COMMAND
     },
     Trial {
+        name: "log",
+        words: &[
+            "log",
+            "A",
+            "[\"db\",[\"dept\",\"finance\"],[\"emp\",\"John\",\"Doe\"],\"sal\"]",
+        ],
+        output: &[(b"1,3 [\"sal\",\"90K\"]\n2 [\"sal\",\"95K\"]\n", 1)],
+        ..COMMAND
+    },
+    Trial {
+        name: "a log that is refused",
+        words: &["log", "A", "[\"db\"]"],
+        status: 17,
+        line: b"xarch: path is not at the frontier\n",
+        ..COMMAND
+    },
+    Trial {
+        name: "export",
+        words: &["export", "A"],
+        output: &[(TEXT_OF_THREE, 1)],
+        ..COMMAND
+    },
+    Trial {
+        name: "cut",
+        words: &["cut", "A", "B", "2", "3"],
+        left: ("B", 1190),
+        ..COMMAND
+    },
+    Trial {
+        name: "a cut that is refused",
+        words: &["cut", "A", "B", "2", "4"],
+        status: 9,
+        line: b"xarch: no version 4 of 3\n",
+        ..COMMAND
+    },
+    Trial {
+        name: "table",
+        words: &["table", "c", "t", "id", "B"],
+        left: ("B", 73),
+        ..COMMAND
+    },
+    Trial {
+        name: "a table that is refused",
+        words: &["table", "c", "t", "name,x", "B"],
+        status: 19,
+        line: b"xarch: bad table, record 1, why 5\n",
+        ..COMMAND
+    },
+    Trial {
+        name: "tablekeys",
+        words: &["tablekeys", "t", "id", "B"],
+        left: ("B", 53),
+        ..COMMAND
+    },
+    Trial {
         name: "check",
         words: &["check", "A"],
         output: &[(b"ok 3\n", 1)],
@@ -223,6 +279,7 @@ fn scene_of(
         ("id.key", BY_ID),
         ("d1", JOHN),
         ("d2", JOHN_RAISED),
+        ("c", TABLE),
     ];
     let outside = Outside {
         input: trial.input,

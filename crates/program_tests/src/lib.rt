@@ -10,11 +10,15 @@ mod checks;
 #[cfg(test)]
 mod commands;
 #[cfg(test)]
+mod cut;
+#[cfg(test)]
 mod documents;
 #[cfg(test)]
 mod failing_calls;
 #[cfg(test)]
 mod histories;
+#[cfg(test)]
+mod log;
 #[cfg(test)]
 mod notes;
 #[cfg(test)]
@@ -25,6 +29,10 @@ mod other_keys;
 mod outside;
 #[cfg(test)]
 mod surely;
+#[cfg(test)]
+mod tables;
+#[cfg(test)]
+mod texts;
 #[cfg(test)]
 mod told;
 #[cfg(test)]

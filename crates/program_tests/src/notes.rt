@@ -21,7 +21,7 @@ const NOTE_SIZE: &[u8] = b"\0\0\0\0\0\0\0\x09";
 
 const MARK: &[u8] = b"\xff\xff\xff\xff\xff\xff\xff\xff";
 
-const NOTED: Pieces = &[
+pub(crate) const NOTED: Pieces = &[
     (FRONT, 1),
     (ONE, 1),
     (MIDDLE, 1),

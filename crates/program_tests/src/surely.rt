@@ -54,6 +54,10 @@ const ANSWERS: &[(&[&str], u8)] = &[
     (&["stats", "none"], 3),
     (&["versions", "A"], 0),
     (&["versions", "none"], 3),
+    (&["log", "A", "[\"db\"]"], 0),
+    (&["log", "A", "[]"], 17),
+    (&["export", "A"], 0),
+    (&["export", "doc"], 11),
 ];
 
 fn sure_files(alloc: Global) -> Result<SureFolder, AllocError> {

@@ -98,6 +98,121 @@ const COMMANDS: &[(&str, &[&str], Option<Command<'static>>)] = &[
         }),
     ),
     (
+        "log",
+        &["log", "a.xar", "[\"db\"]"],
+        Some(Command::Log {
+            archive: "a.xar",
+            path: "[\"db\"]",
+        }),
+    ),
+    ("log without a path", &["log", "a.xar"], None),
+    (
+        "export",
+        &["export", "a.xar"],
+        Some(Command::Export { archive: "a.xar" }),
+    ),
+    (
+        "cut",
+        &["cut", "a.xar", "b.xar", "2", "3"],
+        Some(Command::Cut {
+            archive: "a.xar",
+            new: "b.xar",
+            first: 2,
+            last: 3,
+        }),
+    ),
+    (
+        "cut of one version",
+        &["cut", "a.xar", "b.xar", "3", "3"],
+        Some(Command::Cut {
+            archive: "a.xar",
+            new: "b.xar",
+            first: 3,
+            last: 3,
+        }),
+    ),
+    (
+        "cut of versions backwards",
+        &["cut", "a.xar", "b.xar", "3", "2"],
+        None,
+    ),
+    (
+        "cut without a last version",
+        &["cut", "a.xar", "b.xar", "2"],
+        None,
+    ),
+    (
+        "table",
+        &["table", "c.csv", "t", "id,name", "d.json"],
+        Some(Command::Table {
+            csv: "c.csv",
+            tag: "t",
+            keys: "id,name",
+            doc: "d.json",
+        }),
+    ),
+    (
+        "table by 16 keys",
+        &[
+            "table",
+            "c.csv",
+            "t",
+            "a,b,c,d,e,f,g,h,i,j,k,l,m,n,o,p",
+            "d.json",
+        ],
+        Some(Command::Table {
+            csv: "c.csv",
+            tag: "t",
+            keys: "a,b,c,d,e,f,g,h,i,j,k,l,m,n,o,p",
+            doc: "d.json",
+        }),
+    ),
+    (
+        "table by 17 keys",
+        &[
+            "table",
+            "c.csv",
+            "t",
+            "a,b,c,d,e,f,g,h,i,j,k,l,m,n,o,p,q",
+            "d.json",
+        ],
+        None,
+    ),
+    (
+        "table by a key twice",
+        &["table", "c.csv", "t", "id,name,id", "d.json"],
+        None,
+    ),
+    (
+        "table by no key",
+        &["table", "c.csv", "t", "", "d.json"],
+        None,
+    ),
+    (
+        "table by an empty key",
+        &["table", "c.csv", "t", "id,,name", "d.json"],
+        None,
+    ),
+    (
+        "table of a tag that is no name",
+        &["table", "c.csv", "a/b", "id", "d.json"],
+        None,
+    ),
+    (
+        "tablekeys",
+        &["tablekeys", "t", "id", "s.key"],
+        Some(Command::TableKeys {
+            tag: "t",
+            keys: "id",
+            spec: "s.key",
+        }),
+    ),
+    (
+        "tablekeys of a key with a blank",
+        &["tablekeys", "t", "id, name", "s.key"],
+        None,
+    ),
+    (
         "check",
         &["check", "a.xar"],
         Some(Command::Check { archive: "a.xar" }),
@@ -164,6 +279,8 @@ const FAULTS: &[(u8, &str, &str)] = &[
     (14, "", "xarch: output fault\n"),
     (15, "", "xarch: input fault\n"),
     (16, "", "xarch: out of memory\n"),
+    (17, "", "xarch: path is not at the frontier\n"),
+    (19, "", "xarch: bad table, record 2, why 3\n"),
 ];
 
 /// A fault of this status.
@@ -181,6 +298,8 @@ fn fault_of(alloc: Global, status: u8, name: &str) -> Result<Fault, AllocError> 
         13 => Fault::FolderFault,
         14 => Fault::OutFault,
         15 => Fault::InFault,
+        17 => Fault::NotFrontier,
+        19 => Fault::BadCsv { row: 2, why: 3 },
         _ => Fault::Memory,
     })
 }

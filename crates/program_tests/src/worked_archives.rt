@@ -50,7 +50,13 @@ pub(crate) const ARCHIVE_OF_ONE: Pieces = &[(FRONT, 1), (ONE, 1), (MIDDLE, 1), (
 
 pub(crate) const FULL_ARCHIVE: Pieces = &[(FRONT, 1), (FULL, 1), (MIDDLE, 1), (FULL, 1), (BACK, 1)];
 
-const CUT_ARCHIVE: Pieces = &[(FRONT, 1), (ONE, 1), (MIDDLE, 1), (ONE, 1), (CUT_BACK, 1)];
+pub(crate) const CUT_ARCHIVE: Pieces = &[
+    (FRONT, 1),
+    (ONE, 1),
+    (MIDDLE, 1),
+    (ONE, 1),
+    (CUT_BACK, 1),
+];
 
 /// `get` writes this for version 1, 2 or 3.
 const JOHN_FIRST: Step = Run(&["get", "A", "1"], 0, Is(&[(JOHN, 1)]), b"");

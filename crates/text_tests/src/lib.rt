@@ -6,4 +6,6 @@ mod archives;
 #[cfg(test)]
 mod contents;
 #[cfg(test)]
+mod read;
+#[cfg(test)]
 mod written;

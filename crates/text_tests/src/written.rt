@@ -25,14 +25,14 @@ const ITEMS: &str = "(/, (db, {}))
 ";
 
 /// The keys, the documents, their notes, and the text.
-struct Written(
-    &'static str,
-    &'static [&'static str],
-    &'static [&'static str],
-    &'static str,
+pub(crate) struct Written(
+    pub &'static str,
+    pub &'static [&'static str],
+    pub &'static [&'static str],
+    pub &'static str,
 );
 
-const WRITTEN: &[(&str, Written)] = &[
+pub(crate) const WRITTEN: &[(&str, Written)] = &[
     (
         "no version",
         Written(
@@ -141,7 +141,7 @@ const WRITTEN: &[(&str, Written)] = &[
     ),
 ];
 
-fn strings(alloc: Global, texts: &[&str]) -> Result<Vec<String>, AllocError> {
+pub(crate) fn strings(alloc: Global, texts: &[&str]) -> Result<Vec<String>, AllocError> {
     let mut strings = Vec::with_capacity(alloc, texts.len())?;
     for text in texts {
         strings.push(String::from_str(alloc, text)?)?;

@@ -12,19 +12,23 @@ use Rattle.record_format.specs.Fronts.{fixed}
 use Rattle.noted_file.specs.Full.{Full, FullAs, FullOf}
 use Rattle.archive_stats.specs.Counts.{PlainCounts, counts}
 use Rattle.key_rules.specs.Faults.{PlainKeyFault}
+use Rattle.archive_cut.specs.Sliced.{items}
 use Rattle.archive_rekey.specs.Rekeyed.{AreRekeyed, IsFirstBad}
+use Rattle.archive_text.specs.Export.{export_text}
 use Rattle.xarch_gen.specs.Company.{company_rules}
-use Rattle.xarch_words.specs.Commands.{PlainCommand, norm, init, add, rekey, get, history, check, stats, versions, batch, demo}
+use Rattle.xarch_words.specs.Commands.{PlainCommand, norm, init, add, rekey, get, history, log, check, stats, versions, export, cut, table, tablekeys, batch, demo}
 use Rattle.xarch_words.specs.Refusal.{Refusal, no_file, key_fault_in, damaged}
 use Rattle.xarch_meanings.specs.Add.{AddsTo, added}
 use Rattle.xarch_meanings.specs.Check.{IsFound, check_text}
+use Rattle.xarch_meanings.specs.Cut.{CutsFrom, cut_checked, noted_items}
+use Rattle.xarch_meanings.specs.Export.{ExportsFrom}
 use Rattle.xarch_parts.specs.Archives.{GoesOn, Opens, Stores, short_note}
 use Rattle.xarch_meanings.specs.Demo.{MakesOrNone, demo_input, samples}
 use Rattle.xarch_meanings.specs.Init.{init_rules}
 use Rattle.xarch_parts.specs.Inputs.{file_of}
 use Rattle.xarch_parts.specs.Outcome.{Outcome, Step, and_then, or_refuse, step_from}
-use Rattle.xarch_meanings.specs.Plausible.{IsLate, MayAdd, MayRekey, MayOver, MayWrite, MayBe, MayComeLate, MayDo, Plausible, add_input, get_input, history_input, stats_input, versions_input}
-use Rattle.xarch_meanings.specs.PlausibleLaws.{late-two, late-unlisted, late-unsound, plain-step}
+use Rattle.xarch_meanings.specs.Plausible.{IsLate, MayAdd, MayRekey, MayOver, MayWrite, MayBe, MayComeLate, MayDo, MayMake, Plausible, add_input, cut_input, get_input, history_input, log_input, stats_input, versions_input}
+use Rattle.xarch_meanings.specs.PlausibleLaws.{late-three, late-unlisted, late-unlogged, late-unsound, plain-step}
 use Rattle.xarch_meanings.specs.Rekey.{RekeysTo, rekey_rules}
 use Rattle.xarch_meanings.specs.Stats.{CountsFrom, counts_text, noted_counts}
 use Rattle.xarch_meanings.specs.Step.{OutcomeIs, DoesOrRefuses, Defines, StepIs, single_of}
@@ -59,6 +63,12 @@ module _ (one_archive : (vs : List PlainKeyed) (a b : PlainArchive) → ArchiveO
   history_absent : (files : Files) (name path : List ℕ) → map.get files name ≡ None → history_input files name path ≡ Err (no_file name)
   history_absent files name path e = rw e refl
 
+  log_absent : (files : Files) (name path : List ℕ) → map.get files name ≡ None → log_input files name path ≡ Err (no_file name)
+  log_absent files name path e = rw e refl
+
+  cut_absent : (files : Files) (name new : List ℕ) (i j : ℕ) → map.get files name ≡ None → cut_input files name new i j ≡ Err (no_file name)
+  cut_absent files name new i j e = rw e refl
+
   stats_absent : (files : Files) (name : List ℕ) → map.get files name ≡ None → stats_input files name ≡ Err (no_file name)
   stats_absent files name e = rw e refl
 
@@ -69,6 +79,17 @@ module _ (one_archive : (vs : List PlainKeyed) (a b : PlainArchive) → ArchiveO
   one_counted : (files : Files) (rules : List PlainRule) (vs : List PlainKeyed) (notes : List (List ℕ)) (r s : Result Outcome Refusal) → CountsFrom files rules vs notes r → CountsFrom files rules vs notes s → s ≡ r
   one_counted files rules vs notes r s p q =
       q.is ∙ ap (λ (a : PlainArchive). Ok (record { files = files; output = counts_text (noted_counts rules a notes) })) (one_archive vs q.archive p.archive q.of p.of) ∙ sym p.is
+
+  -- and one text
+  one_exported : (files : Files) (rules : List PlainRule) (vs : List PlainKeyed) (notes : List (List ℕ)) (r s : Result Outcome Refusal) → ExportsFrom files rules vs notes r → ExportsFrom files rules vs notes s → s ≡ r
+  one_exported files rules vs notes r s p q =
+      let same : q.text ≡ p.text = q.of.spelled ∙ ap (λ (a : PlainArchive). export_text rules a notes) (one_archive vs q.of.archive p.of.archive q.of.is p.of.is) ∙ sym p.of.spelled in
+      q.is ∙ ap (λ (t : List ℕ). Ok (record { files = files; output = t })) same ∙ sym p.is
+
+  -- some of its versions have one file with their notes
+  one_cut : (files : Files) (new : List ℕ) (i j : ℕ) (rules : List PlainRule) (vs : List PlainKeyed) (notes : List (List ℕ)) (r s : Result Outcome Refusal) → CutsFrom files new i j rules vs notes r → CutsFrom files new i j rules vs notes s → s ≡ r
+  one_cut files new i j rules vs notes r s p q =
+      one_way (cut_checked files new i j (length vs)) (λ _. Stores files new rules (items i j vs) (noted_items i j notes)) (λ _. one_stored files new rules (items i j vs) (noted_items i j notes)) r s p q
 
   -- a file has one number of versions, and is not sound and damaged
   same_count : (bytes : List ℕ) (p q : Full bytes) → length q.versions ≡ length p.versions
@@ -134,11 +155,19 @@ module _ (one_archive : (vs : List PlainKeyed) (a b : PlainArchive) → ArchiveO
   one files (get name i) r s (inr p) q = q.sound p.rules p.versions p.notes p.archive ∙ sym p.rest
   one files (history name path) r s (inl p) q = subst (λ x. GoesOn x (λ _. MayWrite files name) s) (history_absent files name path p.absent) q.whatever ∙ sym p.is
   one files (history name path) r s (inr p) q = q.sound p.rules p.versions p.notes p.archive ∙ sym p.rest
+  one files (log name path) r s (inl p) q = subst (λ x. GoesOn x (λ _. MayWrite files name) s) (log_absent files name path p.absent) q.whatever ∙ sym p.is
+  one files (log name path) r s (inr p) q = q.sound p.rules p.versions p.notes p.archive ∙ sym p.rest
   one files (check name) r s p q = one_way (file_of files name) (IsFound files name) (one_found files name) r s p q
   one files (stats name) r s (inl p) q = subst (λ x. GoesOn x (λ _. MayWrite files name) s) (stats_absent files name p.absent) q.whatever ∙ sym p.is
   one files (stats name) r s (inr p) q = one_counted files p.rules p.versions p.notes r s p.rest (q.sound p.rules p.versions p.notes p.archive)
   one files (versions name) r s (inl p) q = subst (λ x. GoesOn x (λ _. MayWrite files name) s) (versions_absent files name p.absent) q.whatever ∙ sym p.is
   one files (versions name) r s (inr p) q = q.sound p.rules p.versions p.notes p.archive ∙ sym p.rest
+  one files (export name) r s (inl p) q = subst (λ x. GoesOn x (λ _. MayWrite files name) s) (stats_absent files name p.absent) q.whatever ∙ sym p.is
+  one files (export name) r s (inr p) q = one_exported files p.rules p.versions p.notes r s p.rest (q.sound p.rules p.versions p.notes p.archive)
+  one files (cut name new i j) r s (inl p) q = subst (λ x. GoesOn x (λ _. MayMake files name new) s) (cut_absent files name new i j p.absent) q.whatever ∙ sym p.is
+  one files (cut name new i j) r s (inr p) q = one_cut files new i j p.rules p.versions p.notes r s p.rest (q.sound p.rules p.versions p.notes p.archive)
+  one files (table csv tag keys doc) r s p q = q ∙ sym p
+  one files (tablekeys tag keys spec) r s p q = q ∙ sym p
   one files batch r s p q = q ∙ sym p
   one files (demo seed count name) r s p q = one_way (demo_input files count name) (λ _. MakesOrNone files name seed count) (λ _. one_made files name seed count) r s p q
 
@@ -158,8 +187,9 @@ module _ (one_archive : (vs : List PlainKeyed) (a b : PlainArchive) → ArchiveO
   unfolding OutcomeIs
   none_late files command r (Ok o) p q late = late
   none_late files command r (Err e) p q late =
-      late-two files command e ⊥ late
+      late-three files command e ⊥ late
       (λ name i is damage. by_archive name i damage (subst (λ (c : PlainCommand). OutcomeIs files c r) is p) (subst (λ (c : PlainCommand). MayBe files c (Err e)) is q) (subst (λ (c : PlainCommand). MayComeLate files (Some c) e) is late))
+      (λ name path is damage. by_log name path damage (subst (λ (c : PlainCommand). OutcomeIs files c r) is p) (subst (λ (c : PlainCommand). MayBe files c (Err e)) is q) (subst (λ (c : PlainCommand). MayComeLate files (Some c) e) is late))
       (λ name is damage. by_list name damage (subst (λ (c : PlainCommand). OutcomeIs files c r) is p) (subst (λ (c : PlainCommand). MayBe files c (Err e)) is q) (subst (λ (c : PlainCommand). MayComeLate files (Some c) e) is late))
     where
       by_list : (name : List ℕ) → e ≡ damaged name → OutcomeIs files (versions name) r → MayBe files (versions name) (Err e) → MayComeLate files (Some (versions name)) e → ⊥
@@ -168,6 +198,13 @@ module _ (one_archive : (vs : List PlainKeyed) (a b : PlainArchive) → ArchiveO
           let wrong : ◌≡◌ {A = Result Outcome Refusal} (Err (damaged name)) (Err (no_file name)) = ap (λ q. Err q) (sym damage) ∙ same ∙ missing.is in
           damage_or_none name wrong
       by_list name damage (inr opened) m late = late-unlisted files name opened.rules opened.versions opened.notes (Err e) opened.archive m late
+
+      by_log : (name path : List ℕ) → e ≡ damaged name → OutcomeIs files (log name path) r → MayBe files (log name path) (Err e) → MayComeLate files (Some (log name path)) e → ⊥
+      by_log name path damage (inl missing) m late =
+          let same : Err e ≡ r = one files (log name path) r (Err e) (inl missing) m in
+          let wrong : ◌≡◌ {A = Result Outcome Refusal} (Err (damaged name)) (Err (no_file name)) = ap (λ q. Err q) (sym damage) ∙ same ∙ missing.is in
+          damage_or_none name wrong
+      by_log name path damage (inr opened) m late = late-unlogged files name path opened.rules opened.versions opened.notes (Err e) opened.archive m late
 
       by_archive : (name : List ℕ) (i : ℕ) → e ≡ damaged name → OutcomeIs files (get name i) r → MayBe files (get name i) (Err e) → MayComeLate files (Some (get name i)) e → ⊥
       by_archive name i damage (inl missing) m late =

@@ -6,13 +6,16 @@ use Rattle.keyed_tree.specs.Data.{PlainKeyed}
 use Rattle.archive_tree.specs.History.{hist}
 use Rattle.record_format.specs.Files.{FileOf}
 use Rattle.noted_file.specs.Full.{Full}
+use Rattle.archive_cut.specs.Sliced.{items}
+use Rattle.content_log.specs.Text.{log_text}
 use Rattle.archive_rekey.specs.Rekeyed.{AreRekeyed, IsFirstBad}
 use Rattle.key_rules.specs.Faults.{PlainKeyFault}
 use Rattle.xarch_gen.specs.Company.{company_rules}
-use Rattle.xarch_words.specs.Commands.{PlainCommand, norm, init, add, rekey, get, history, check, stats, versions, batch, demo}
+use Rattle.xarch_words.specs.Commands.{PlainCommand, norm, init, add, rekey, get, history, log, check, stats, versions, export, cut, table, tablekeys, batch, demo}
 use Rattle.xarch_words.specs.Refusal.{Refusal, no_file, no_version}
 use Rattle.xarch_parts.specs.Archives.{GoesOn, Stores}
 use Rattle.xarch_meanings.specs.Check.{IsFound}
+use Rattle.xarch_meanings.specs.Cut.{noted_items}
 use Rattle.xarch_meanings.specs.Demo.{MakesOrNone, samples}
 use Rattle.xarch_meanings.specs.History.{numbers_text}
 use Rattle.xarch_meanings.specs.Rekey.{RekeysTo}
@@ -62,9 +65,17 @@ module _ (one_list : (rules : List PlainRule) (vs us ws : List PlainKeyed) → A
       clash q _ (m.sound h.rules h.versions h.notes h.archive ∙ ap (λ (o : Option PlainKeyed). and_then (or_refuse o (no_version i (length h.versions))) (λ k. Ok (record { files = files; output = keyed_text k }))) h.there)
   never_refused files (history name path) q h m =
       clash q _ (m.sound h.rules h.versions h.notes h.archive ∙ ap (λ x. and_then x (λ labels. Ok (record { files = files; output = numbers_text (hist h.versions labels) }))) h.spelled)
+  never_refused files (log name path) q h m =
+      clash q _ (m.sound h.rules h.versions h.notes h.archive ∙ ap (λ x. and_then x (λ labels. Ok (record { files = files; output = log_text h.versions labels }))) h.spelled)
   never_refused files (check name) q h m = not_found files name h.archive.bytes q (subst (λ o. GoesOn (or_refuse o (no_file name)) (IsFound files name) (Err q)) h.archive.there m) (record { rules = h.rules; versions = h.versions; notes = h.notes; is = h.archive.full })
   never_refused files (stats name) q h m = clash q _ (m.sound h.rules h.versions h.notes h.archive).is
   never_refused files (versions name) q h m = clash q _ (m.sound h.rules h.versions h.notes h.archive)
+  never_refused files (export name) q h m = clash q _ (m.sound h.rules h.versions h.notes h.archive).is
+  never_refused files (cut name new i j) q h m =
+      not_stored files new h.rules (items i j h.versions) (noted_items i j h.notes) h.bytes q h.file
+      (subst (λ (x : Result Unit Refusal). GoesOn x (λ _. Stores files new h.rules (items i j h.versions) (noted_items i j h.notes)) (Err q)) h.free (m.sound h.rules h.versions h.notes h.archive))
+  never_refused files (table csv tag keys doc) q h m = clash q h.value (m ∙ h.is)
+  never_refused files (tablekeys tag keys spec) q h m = clash q h.value (m ∙ h.is)
   never_refused files batch q h m = h
   never_refused files (demo seed count name) q h m =
       not_made files name seed count h.bytes q h.file (subst (λ (x : Result Unit Refusal). GoesOn x (λ _. MakesOrNone files name seed count) (Err q)) h.free m)
@@ -78,8 +89,13 @@ one_alone files (add name doc note) h = refl
 one_alone files (rekey name spec) h = refl
 one_alone files (get name i) h = refl
 one_alone files (history name path) h = refl
+one_alone files (log name path) h = refl
 one_alone files (check name) h = refl
 one_alone files (stats name) h = refl
 one_alone files (versions name) h = refl
+one_alone files (export name) h = refl
+one_alone files (cut name new i j) h = refl
+one_alone files (table csv tag keys doc) h = refl
+one_alone files (tablekeys tag keys spec) h = refl
 one_alone files batch h = absurd h
 one_alone files (demo seed count name) h = refl

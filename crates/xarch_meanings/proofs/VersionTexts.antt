@@ -1,6 +1,6 @@
--- The text of a version is a function of the bytes of its archive.
+-- An archive, its versions and their texts are functions of the bytes of its file.
 use Rattle.std.proofs.Common.{◌≡◌, ℕ, zero, suc, ◌+◌, ◌≤◌, List, [], ◌∷◌, ◌++◌, map, length, drop, Option, Some, None, Ok, refl, sym, ap, ◌∙◌, arith, append_assoc, append-nil}
-use Rattle.std.specs.List.{AllByRecursion, flat_map, range_with_len}
+use Rattle.std.specs.List.{AllByRecursion, filter_map, flat_map, range_with_len, slice_get}
 use Rattle.std.specs.Option.{option_map_or}
 use Rattle.std.proofs.lemmas.List.{drop-append-le, drop_all, length-append}
 use Rattle.version_set.specs.Members.{upto_pairs}
@@ -10,7 +10,7 @@ use Rattle.key_spec.specs.Data.{PlainRule}
 use Rattle.keyed_tree.specs.Data.{PlainLabel, PlainKeyed}
 use Rattle.keyed_print.specs.KeyedText.{keyed_text}
 use Rattle.archive_tree.specs.Data.{Stamp, PlainAlt, PlainNode, inner_node, leaf_node, PlainNodes, no_nodes, node, PlainArchive}
-use Rattle.archive_tree.specs.Read.{read_root, version_at}
+use Rattle.archive_tree.specs.Read.{version_at}
 use Rattle.archive_tree.specs.Stands.{version_of, ArchiveOf}
 use Rattle.record_format.specs.Bounds.{IsRec}
 use Rattle.record_format.specs.Data.{PlainRec, inner_rec, leaf_rec, alt_rec, end_rec, leaf_end}
@@ -19,7 +19,7 @@ use Rattle.record_format.specs.Fronts.{header_at}
 use Rattle.record_format.specs.Nodes.{Piece, alt_of, dir_of, node_piece, node_pieces, set_in}
 use Rattle.record_format.specs.Reading.{record_at}
 use Rattle.record_format.specs.Spelling.{rec_bytes}
-use Rattle.xarch_meanings.specs.Texts.{TellsTexts}
+use Rattle.xarch_meanings.specs.Texts.{TellsArchives, TellsTexts, TellsVersions}
 
 -- ---- records
 
@@ -118,18 +118,38 @@ mutual
       ∙ node-comes set k (records_in set ks ++ rs) now opens
       ∙ row-comes set ks rs (k ∷ now) opens
 
+-- ---- archives
+
+abbrev archive_behind : Option ((List PlainRule × ℕ) × List ℕ) → PlainArchive
+archive_behind None = record { n = 0; kids = no_nodes }
+archive_behind (Some (h, rest)) = record { n = h.1; kids = nodes_of (records_at (length rest) rest) [] [] }
+
+abbrev pub archive_in : List ℕ → PlainArchive
+archive_in bytes = archive_behind (header_at bytes)
+
 -- ---- versions
+
+abbrev versions_of : PlainArchive → List PlainKeyed
+versions_of a = filter_map (λ i. version_at i a) (range_with_len 1 a.n)
+
+abbrev pub versions_in : List ℕ → List PlainKeyed
+versions_in bytes = versions_of (archive_in bytes)
+
+-- those of a function that gives each element at its place, from m on
+each-again : (f : ℕ → Option PlainKeyed) (vs : List PlainKeyed) (m : ℕ) → ((i : ℕ) → f (m + i) ≡ slice_get vs i) → filter_map f (range_with_len m (length vs)) ≡ vs
+each-again f [] m h = refl
+each-again f (v ∷ vs) m h =
+    let none : m ≡ m + 0 = omega arith in
+    let first : f m ≡ Some v = ap f none ∙ h 0 in
+    let rest = each-again f vs (m + 1) (λ i. (let on : m + 1 + i ≡ m + suc i = omega arith in ap f on ∙ h (suc i))) in
+    rw first (ap (λ us. v ∷ us) rest)
 
 abbrev text_of : Option PlainKeyed → List ℕ
 text_of None = []
 text_of (Some k) = keyed_text k
 
-abbrev text_behind : ℕ → Option ((List PlainRule × ℕ) × List ℕ) → List ℕ
-text_behind i None = []
-text_behind i (Some (h, rest)) = text_of (read_root i (range_with_len 1 h.1) (nodes_of (records_at (length rest) rest) [] []))
-
 abbrev pub text_in : List ℕ → ℕ → List ℕ
-text_in bytes i = text_behind i (header_at bytes)
+text_in bytes i = text_of (version_at i (archive_in bytes))
 
 -- From what is known of all records, of all archive files and of all archives: records are read as they are spelled, a header stands in front, and
 -- what is read at a number is that version.
@@ -160,15 +180,31 @@ module _ (again : (r : PlainRec) (rest : List ℕ) → IsRec r → record_at (re
       let rest = flat_map rec_bytes (file_records a) ++ tail_bytes a in
       drop-append-le (length head) head rest (omega arith) ∙ ap (λ l. l ++ rest) (drop_all (length head) head (omega arith))
 
-  pub texts : TellsTexts text_in
-  texts = record {
-    is = λ bytes rules vs i k sound version. (
+  pub archives : TellsArchives archive_in
+  archives = record {
+    is = λ bytes rules vs sound. (
         let f = sound.file in
         let a = f.archive in
         let rest = flat_map rec_bytes (file_records a) ++ tail_bytes a in
         let at : header_at bytes ≡ Some ((rules, a.n), rest) = ap header_at f.spelled ∙ stands rules a sound.specification f.has ∙ ap (λ (z : List ℕ). Some ((rules, a.n), z)) (behind-header rules a) in
-        ap (text_behind i) at
-        ∙ ap (λ ks. text_of (read_root i (range_with_len 1 a.n) ks)) (kids-again a (tail_bytes a) f.has.records)
-        ∙ ap text_of (versions vs a i f.is ∙ version)
+        ap archive_behind at ∙ ap (λ ks. record { n = a.n; kids = ks }) (kids-again a (tail_bytes a) f.has.records)
+        );
+  }
+
+  pub texts : TellsTexts text_in
+  texts = record {
+    is = λ bytes rules vs i k sound version. (
+        let f = sound.file in
+        ap (λ a. text_of (version_at i a)) (archives.is bytes rules vs sound) ∙ ap text_of (versions vs f.archive i f.is ∙ version)
+        );
+  }
+
+  pub all-versions : TellsVersions versions_in
+  all-versions = record {
+    is = λ bytes rules vs sound. (
+        let f = sound.file in
+        ap versions_of (archives.is bytes rules vs sound)
+        ∙ ap (λ n. filter_map (λ i. version_at i f.archive) (range_with_len 1 n)) (sym f.is.count)
+        ∙ each-again (λ i. version_at i f.archive) vs 1 (λ i. (let on : 1 + i ≡ suc i = omega arith in ap (λ j. version_at j f.archive) on ∙ versions vs f.archive (suc i) f.is))
         );
   }

@@ -3,7 +3,7 @@ use Rattle.std.specs.Prelude.{◌≡◌, Option, Some, None}
 use Rattle.std.proofs.Common.{refl, ap}
 use Rattle.xa_outside.specs.Folder.{Files}
 use Rattle.xa_outside.specs.Numbers.{Numbers}
-use Rattle.xarch_words.specs.Commands.{PlainCommand, norm, init, add, rekey, get, history, check, stats, versions, batch, demo}
+use Rattle.xarch_words.specs.Commands.{PlainCommand, norm, init, add, rekey, get, history, log, check, stats, versions, export, cut, table, tablekeys, batch, demo}
 use Rattle.xarch_words.specs.Refusal.{PlainFault}
 use Rattle.xarch_meanings.specs.OnePass.{GoesOnce}
 use Rattle.xarch_meanings.specs.Ran.{IsMetLate, MayHaveWritten, OnlyReads, made_name, status_after}
@@ -16,9 +16,14 @@ only_makes_none (add archive doc note) h = absurd h
 only_makes_none (rekey archive spec) h = absurd h
 only_makes_none (get archive i) h = refl
 only_makes_none (history archive path) h = refl
+only_makes_none (log archive path) h = refl
 only_makes_none (check archive) h = refl
 only_makes_none (stats archive) h = refl
 only_makes_none (versions archive) h = refl
+only_makes_none (export archive) h = refl
+only_makes_none (cut archive new i j) h = absurd h
+only_makes_none (table csv tag keys doc) h = absurd h
+only_makes_none (tablekeys tag keys spec) h = absurd h
 only_makes_none batch h = absurd h
 only_makes_none (demo seed count archive) h = absurd h
 
@@ -31,9 +36,14 @@ met-status (Some (add archive doc note)) e late = absurd late
 met-status (Some (rekey archive spec)) e late = absurd late
 met-status (Some (get archive i)) e late = ap status_after late
 met-status (Some (history archive path)) e late = absurd late
+met-status (Some (log archive path)) e late = ap status_after late
 met-status (Some (check archive)) e late = absurd late
 met-status (Some (stats archive)) e late = absurd late
 met-status (Some (versions archive)) e late = ap status_after late
+met-status (Some (export archive)) e late = absurd late
+met-status (Some (cut archive new i j)) e late = absurd late
+met-status (Some (table csv tag keys doc)) e late = absurd late
+met-status (Some (tablekeys tag keys spec)) e late = absurd late
 met-status (Some batch) e late = absurd late
 met-status (Some (demo seed count archive)) e late = absurd late
 
@@ -46,8 +56,13 @@ once_by (Some (add archive doc note)) told before after P Q f h = λ files rules
 once_by (Some (rekey archive spec)) told before after P Q f h = tt
 once_by (Some (get archive i)) told before after P Q f h = tt
 once_by (Some (history archive path)) told before after P Q f h = tt
+once_by (Some (log archive path)) told before after P Q f h = tt
 once_by (Some (check archive)) told before after P Q f h = tt
 once_by (Some (stats archive)) told before after P Q f h = tt
 once_by (Some (versions archive)) told before after P Q f h = tt
+once_by (Some (export archive)) told before after P Q f h = tt
+once_by (Some (cut archive new i j)) told before after P Q f h = tt
+once_by (Some (table csv tag keys doc)) told before after P Q f h = tt
+once_by (Some (tablekeys tag keys spec)) told before after P Q f h = tt
 once_by (Some batch) told before after P Q f h = tt
 once_by (Some (demo seed count archive)) told before after P Q f h = tt

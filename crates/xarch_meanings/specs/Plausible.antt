@@ -8,16 +8,19 @@ use Rattle.key_spec.specs.Data.{PlainRule}
 use Rattle.keyed_tree.specs.Data.{PlainLabel, PlainKeyed}
 use Rattle.record_format.specs.Fronts.{fixed}
 use Rattle.version_notes.specs.declared.parts.Parts.{Parts}
-use Rattle.xarch_words.specs.Commands.{PlainCommand, norm, init, add, rekey, get, history, check, stats, versions, batch, demo}
+use Rattle.xarch_words.specs.Commands.{PlainCommand, norm, init, add, rekey, get, history, log, check, stats, versions, export, cut, table, tablekeys, batch, demo}
 use Rattle.xarch_words.specs.Lines.{fault_line, refusal_status}
 use Rattle.xarch_words.specs.Refusal.{archive, document, Refusal, usage, damaged, no_version, limit, refused}
 use Rattle.xarch_meanings.specs.Add.{AddsTo, room_behind, tree_of}
 use Rattle.xarch_meanings.specs.Check.{CheckIs}
-use Rattle.xarch_parts.specs.Archives.{ArchiveIs, GoesOn, Opened, short_note}
+use Rattle.xarch_meanings.specs.Cut.{CutsFrom, are_versions}
+use Rattle.xarch_parts.specs.Archives.{ArchiveIs, GoesOn, Opened, free_in, short_note}
 use Rattle.xarch_meanings.specs.Demo.{DemoIs}
+use Rattle.xarch_meanings.specs.Export.{ExportsFrom}
 use Rattle.xarch_meanings.specs.Get.{GetsFrom}
 use Rattle.xarch_meanings.specs.History.{TellsFrom, labels_of}
 use Rattle.xarch_meanings.specs.Init.{InitIs}
+use Rattle.xarch_meanings.specs.Log.{LogsFrom, frontier_of}
 use Rattle.xarch_parts.specs.Inputs.{file_length, file_of, length_in, read_in}
 use Rattle.xarch_meanings.specs.Norm.{norm_of}
 use Rattle.xarch_meanings.specs.Rekey.{RekeysFrom, rekey_rules}
@@ -26,6 +29,7 @@ use Rattle.xarch_meanings.specs.Ran.{Ran}
 use Rattle.xarch_parts.specs.Readings.{core_in, front_in, parts_of}
 use Rattle.xarch_meanings.specs.Stats.{CountsFrom}
 use Rattle.xarch_meanings.specs.Step.{StepIs, single_of}
+use Rattle.xarch_meanings.specs.Table.{keys_tabled, tabled}
 use Rattle.xarch_meanings.specs.Versions.{ListsFrom}
 
 -- ---- what is decided before the records of an archive are looked at
@@ -81,6 +85,13 @@ history_input files name path =
     and_then (labels_of h.0 path) (λ ls.
     Ok (h, ls)))
 
+-- And these end in an attribute, or in an element at the frontier.
+abbrev pub log_input : Files → List ℕ → List ℕ → Result ((List PlainRule × ℕ) × List PlainLabel) Refusal
+log_input files name path =
+    and_then (read_in files name (front_in name)) (λ h.
+    and_then (frontier_of h.0 path) (λ ls.
+    Ok (h, ls)))
+
 -- The parts of the archive, or the first refusal: the archive is there, and has parts.
 abbrev pub stats_input : Files → List ℕ → Result Parts Refusal
 stats_input files name = read_in files name (parts_of name)
@@ -89,6 +100,16 @@ stats_input files name = read_in files name (parts_of name)
 -- in front of it.
 abbrev pub versions_input : Files → List ℕ → Result (List PlainRule × ℕ) Refusal
 versions_input files name = read_in files name (front_in name)
+
+-- The rules and the number of versions of the archive, or the first refusal: the archive is there, the new name is free, a header stands in front of the
+-- archive, and it counts the versions.
+abbrev pub cut_input : Files → List ℕ → List ℕ → ℕ → ℕ → Result (List PlainRule × ℕ) Refusal
+cut_input files name new i j =
+    and_then (file_length files name) (λ _.
+    and_then (free_in files new) (λ _.
+    and_then (read_in files name (front_in name)) (λ h.
+    and_then (are_versions i j h.1) (λ _.
+    Ok h))))
 
 -- ---- what may come then
 
@@ -102,9 +123,13 @@ pub record Written (files : Files) (r : Result Outcome Refusal) : Type 0 where
   pub output : List ℕ
   pub is : r ≡ Ok (record { files = files; output = output })
 
--- The archive is damaged, or too long with the new version, or some file replaces it.
+-- The archive is damaged, or the new one would be too long, or some file comes under the new one's name.
+abbrev pub MayMake : Files → List ℕ → List ℕ → Result Outcome Refusal → Type 0
+MayMake files name new r = (r ≡ Err (damaged name)) ⊎ (r ≡ Err (limit archive 274877906944)) ⊎ Replaced files new r
+
+-- the new archive replaces the old one
 abbrev pub MayAdd : Files → List ℕ → Result Outcome Refusal → Type 0
-MayAdd files name r = (r ≡ Err (damaged name)) ⊎ (r ≡ Err (limit archive 274877906944)) ⊎ Replaced files name r
+MayAdd files name r = MayMake files name name r
 
 -- The archive is damaged, or it is sound.
 abbrev pub MayRekey : Files → List ℕ → Result Outcome Refusal → Type 0
@@ -127,9 +152,14 @@ MayBe files (add name doc note) r = GoesOn (short_note note) (λ _. MayOver file
 MayBe files (rekey name spec) r = MayOver files name (GoesOn (rekey_rules files name spec) (λ _. MayRekey files name)) (RekeysFrom files name spec) r
 MayBe files (get name i) r = MayOver files name (GoesOn (get_input files name i) (λ _. MayWrite files name)) (GetsFrom files i) r
 MayBe files (history name path) r = MayOver files name (GoesOn (history_input files name path) (λ _. MayWrite files name)) (TellsFrom files path) r
+MayBe files (log name path) r = MayOver files name (GoesOn (log_input files name path) (λ _. MayWrite files name)) (LogsFrom files path) r
 MayBe files (check name) r = CheckIs files name r
 MayBe files (stats name) r = MayOver files name (GoesOn (stats_input files name) (λ _. MayWrite files name)) (CountsFrom files) r
 MayBe files (versions name) r = MayOver files name (GoesOn (versions_input files name) (λ _. MayWrite files name)) (ListsFrom files) r
+MayBe files (export name) r = MayOver files name (GoesOn (stats_input files name) (λ _. MayWrite files name)) (ExportsFrom files) r
+MayBe files (cut name new i j) r = MayOver files name (GoesOn (cut_input files name new i j) (λ _. MayMake files name new)) (CutsFrom files new i j) r
+MayBe files (table csv tag keys doc) r = r ≡ tabled files csv tag keys doc
+MayBe files (tablekeys tag keys spec) r = r ≡ keys_tabled files tag keys spec
 MayBe files batch r = r ≡ Err usage
 MayBe files (demo seed count name) r = DemoIs files seed count name r
 
@@ -138,9 +168,10 @@ MayDo files None r = r ≡ Err usage
 MayDo files (Some command) r = MayBe files command r
 
 -- A refusal that may come late, behind output: a `get` may meet damage while it writes, once what it reads first has told that there is such a
--- version, and so may a `versions`, once it has read a header. Nothing else is refused late.
+-- version, and so may a `log`, once it has read a header and its path, and a `versions`, once it has read a header. Nothing else is refused late.
 abbrev pub MayComeLate : Files → Option PlainCommand → Refusal → Type 0
 MayComeLate files (Some (get name i)) r = (r ≡ damaged name) × IsOk (get_input files name i)
+MayComeLate files (Some (log name path)) r = (r ≡ damaged name) × IsOk (log_input files name path)
 MayComeLate files (Some (versions name)) r = (r ≡ damaged name) × IsOk (versions_input files name)
 MayComeLate files other r = ⊥
 

@@ -1,14 +1,20 @@
 -- What the steps of a command are, where no refusal comes late.
-use Rattle.std.proofs.Common.{◌≡◌, inl, inr, ℕ, List, [], length, Option, Some, None, Result, Ok, Err, refl, sym, ap, ◌∙◌}
+use Rattle.std.proofs.Common.{◌≡◌, inl, inr, ℕ, Bool, true, false, if◌then◌else◌, List, [], length, Option, Some, None, Result, Ok, Err, refl, sym, ap, ◌∙◌}
 use Rattle.xa_outside.specs.Folder.{Files}
 use Rattle.key_spec.specs.Data.{PlainRule}
-use Rattle.keyed_tree.specs.Data.{PlainKeyed}
+use Rattle.content_log.specs.Frontier.{at_frontier}
+use Rattle.content_log.specs.Text.{log_text}
+use Rattle.key_rules.specs.UserPaths.{user_path}
+use Rattle.keyed_tree.specs.Data.{PlainLabel, PlainKeyed}
 use Rattle.archive_tree.specs.Stands.{version_of}
-use Rattle.xarch_words.specs.Commands.{PlainCommand, norm, init, add, rekey, get, history, check, stats, versions, batch, demo}
-use Rattle.xarch_words.specs.Refusal.{Refusal, damaged, no_version}
+use Rattle.xarch_words.specs.Commands.{PlainCommand, norm, init, add, rekey, get, history, log, check, stats, versions, export, cut, table, tablekeys, batch, demo}
+use Rattle.xarch_words.specs.Refusal.{Refusal, bad_path, damaged, no_version, not_frontier}
 use Rattle.keyed_print.specs.KeyedText.{keyed_text}
 use Rattle.xarch_parts.specs.Archives.{ArchiveIs}
 use Rattle.xarch_parts.specs.Outcome.{Outcome, Step, and_then, or_refuse, step_from}
+use Rattle.xarch_parts.specs.Readings.{refused_as}
+use Rattle.xarch_meanings.specs.History.{labels_of}
+use Rattle.xarch_meanings.specs.Log.{ending_at_frontier, frontier_of}
 use Rattle.xarch_meanings.specs.Versions.{versions_text}
 use Rattle.xarch_meanings.specs.Plausible.{IsLate, MayBe, MayComeLate, MayStep, step_behind}
 
@@ -24,20 +30,25 @@ plain-step files c s m early = elim m.behind [
   | inr late ↦ absurd (early late)
 ]
 
--- only a `get` and a `versions` are refused late
-pub late-two : (files : Files) (command : PlainCommand) (q : Refusal) (P : Type 0) → MayComeLate files (Some command) q → ((name : List ℕ) (i : ℕ) → command ≡ get name i → q ≡ damaged name → P)
-    → ((name : List ℕ) → command ≡ versions name → q ≡ damaged name → P) → P
-late-two files (norm spec doc) q P late h l = absurd late
-late-two files (init name spec) q P late h l = absurd late
-late-two files (add name doc note) q P late h l = absurd late
-late-two files (rekey name spec) q P late h l = absurd late
-late-two files (get name i) q P late h l = h name i refl late.0
-late-two files (history name path) q P late h l = absurd late
-late-two files (check name) q P late h l = absurd late
-late-two files (stats name) q P late h l = absurd late
-late-two files (versions name) q P late h l = l name refl late.0
-late-two files batch q P late h l = absurd late
-late-two files (demo seed count name) q P late h l = absurd late
+-- only a `get`, a `log` and a `versions` are refused late
+pub late-three : (files : Files) (command : PlainCommand) (q : Refusal) (P : Type 0) → MayComeLate files (Some command) q → ((name : List ℕ) (i : ℕ) → command ≡ get name i → q ≡ damaged name → P)
+    → ((name path : List ℕ) → command ≡ log name path → q ≡ damaged name → P) → ((name : List ℕ) → command ≡ versions name → q ≡ damaged name → P) → P
+late-three files (norm spec doc) q P late h g l = absurd late
+late-three files (init name spec) q P late h g l = absurd late
+late-three files (add name doc note) q P late h g l = absurd late
+late-three files (rekey name spec) q P late h g l = absurd late
+late-three files (get name i) q P late h g l = h name i refl late.0
+late-three files (history name path) q P late h g l = absurd late
+late-three files (log name path) q P late h g l = g name path refl late.0
+late-three files (check name) q P late h g l = absurd late
+late-three files (stats name) q P late h g l = absurd late
+late-three files (versions name) q P late h g l = l name refl late.0
+late-three files (export name) q P late h g l = absurd late
+late-three files (cut name new i j) q P late h g l = absurd late
+late-three files (table csv tag keys doc) q P late h g l = absurd late
+late-three files (tablekeys tag keys spec) q P late h g l = absurd late
+late-three files batch q P late h g l = absurd late
+late-three files (demo seed count name) q P late h g l = absurd late
 
 no_text : (files : Files) (vs : List PlainKeyed) (i : ℕ) (name : List ℕ) (o : Option PlainKeyed)
     → ◌≡◌ {A = Result Outcome Refusal} (Err (damaged name)) (and_then (or_refuse o (no_version i (length vs))) (λ k. Ok (record { files = files; output = keyed_text k }))) → ⊥
@@ -50,6 +61,30 @@ pub late-unsound : (files : Files) (name : List ℕ) (i : ℕ) (rules : List Pla
 unfolding MayBe
 late-unsound files name i rules vs notes (Ok o) a m late = late
 late-unsound files name i rules vs notes (Err q) a m late = no_text files vs i name (version_of vs i) (ap (λ s. Err s) (sym late.0) ∙ m.sound rules vs notes a)
+
+no_damage : (files : Files) (vs : List PlainKeyed) (name : List ℕ) (x : Result (List PlainLabel) Refusal) → ((q : Refusal) → x ≡ Err q → ¬ (q ≡ damaged name))
+    → ◌≡◌ {A = Result Outcome Refusal} (Err (damaged name)) (and_then x (λ labels. Ok (record { files = files; output = log_text vs labels }))) → ⊥
+no_damage files vs name (Ok labels) h e = cc
+no_damage files vs name (Err q) h e = (let same : q ≡ damaged name = cc in h q refl same)
+
+-- the labels of a path are refused as a bad path, or since they do not end at the frontier
+undamaged-end : (b : Bool) (labels : List PlainLabel) (name : List ℕ) (q : Refusal) → ◌≡◌ {A = Result (List PlainLabel) Refusal} (if b then Ok labels else Err not_frontier) (Err q) → ¬ (q ≡ damaged name)
+undamaged-end true labels name q e is = cc
+undamaged-end false labels name q e is = cc
+
+undamaged-path : (rules : List PlainRule) (name : List ℕ) (x : Result (List PlainLabel) ℕ) (q : Refusal) → and_then (refused_as bad_path x) (ending_at_frontier rules) ≡ Err q → ¬ (q ≡ damaged name)
+undamaged-path rules name (Ok labels) q e is = undamaged-end (at_frontier rules labels) labels name q e is
+undamaged-path rules name (Err step) q e is = cc
+
+undamaged : (rules : List PlainRule) (path name : List ℕ) (q : Refusal) → frontier_of rules path ≡ Err q → ¬ (q ≡ damaged name)
+unfolding frontier_of labels_of
+undamaged rules path name q e is = undamaged-path rules name (user_path rules path) q e is
+
+pub late-unlogged : (files : Files) (name path : List ℕ) (rules : List PlainRule) (vs : List PlainKeyed) (notes : List (List ℕ)) (r : Result Outcome Refusal) → ArchiveIs files name rules vs notes → MayBe files (log name path) r
+    → ¬ IsLate files (Some (log name path)) r
+unfolding MayBe
+late-unlogged files name path rules vs notes (Ok o) a m late = late
+late-unlogged files name path rules vs notes (Err q) a m late = no_damage files vs name (frontier_of rules path) (λ r e. undamaged rules path name r e) (ap (λ s. Err s) (sym late.0) ∙ m.sound rules vs notes a)
 
 no_list : (q : Refusal) (o : Outcome) → ◌≡◌ {A = Result Outcome Refusal} (Err q) (Ok o) → ⊥
 no_list q o e = cc

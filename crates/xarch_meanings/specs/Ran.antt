@@ -5,7 +5,7 @@ use Rattle.xa_outside.specs.Causes.{Rose}
 use Rattle.xa_outside.specs.Folder.{Files}
 use Rattle.xa_outside.specs.Numbers.{Numbers, PullsAtMost}
 use Rattle.xa_outside.specs.Taken.{Taken, Takes, TakesPrefix}
-use Rattle.xarch_words.specs.Commands.{PlainCommand, norm, init, add, rekey, get, history, check, stats, versions, batch, demo}
+use Rattle.xarch_words.specs.Commands.{PlainCommand, norm, init, add, rekey, get, history, log, check, stats, versions, export, cut, table, tablekeys, batch, demo}
 use Rattle.xarch_words.specs.Lines.{fault_status, fault_line}
 use Rattle.xarch_words.specs.Refusal.{PlainFault, damaged, refused, folder_fault, out_fault, in_fault, memory}
 use Rattle.xarch_parts.specs.Outcome.{Step}
@@ -56,15 +56,20 @@ made_name (add archive doc note) = Some archive
 made_name (rekey archive spec) = Some archive
 made_name (get archive i) = None
 made_name (history archive path) = None
+made_name (log archive path) = None
 made_name (check archive) = None
 made_name (stats archive) = None
 made_name (versions archive) = None
+made_name (export archive) = None
+made_name (cut archive new i j) = Some new
+made_name (table csv tag keys doc) = Some doc
+made_name (tablekeys tag keys spec) = Some spec
 made_name batch = None
 made_name (demo seed count archive) = Some archive
 
 -- How many bytes a command pulls at most: those of a specification and of a document at their limits, and those of an archive
 -- whole, each of them once, and 16 in which it is looked where the notes begin; but `rekey` reads the header of the archive
--- before its whole.
+-- before its whole, and `log` may read a leaf when it has been searched for.
 abbrev pub most_pulled : PlainCommand → Option Files → ℕ
 most_pulled (norm spec doc) told = 68157440
 most_pulled (init archive spec) told = 1048576
@@ -72,9 +77,14 @@ most_pulled (add archive doc note) told = size_in told archive + (16 + 67108864)
 most_pulled (rekey archive spec) told = size_in told archive + (16 + 1048576 + size_in told archive)
 most_pulled (get archive i) told = size_in told archive + 16
 most_pulled (history archive path) told = size_in told archive + 16
+most_pulled (log archive path) told = size_in told archive + (16 + size_in told archive)
 most_pulled (check archive) told = size_in told archive + 16
 most_pulled (stats archive) told = size_in told archive + 16
 most_pulled (versions archive) told = size_in told archive + 16
+most_pulled (export archive) told = size_in told archive + 16
+most_pulled (cut archive new i j) told = size_in told archive + 16
+most_pulled (table csv tag keys doc) told = 67108864
+most_pulled (tablekeys tag keys spec) told = 0
 most_pulled batch told = 0
 most_pulled (demo seed count archive) told = 0
 
@@ -99,17 +109,20 @@ abbrev pub CountsAsSaid : Option PlainCommand → Option Files → Numbers → N
 CountsAsSaid None told = PullsAtMost 0
 CountsAsSaid (Some batch) told = λ before after. ⊤
 CountsAsSaid (Some (add archive doc note)) told = CountsInTurn (most_pulled (add archive doc note) told)
+CountsAsSaid (Some (cut archive new i j)) told = CountsInTurn (most_pulled (cut archive new i j) told)
 CountsAsSaid (Some command) told = Counts (made_name command) (most_pulled command told)
 
--- Words with this answer may have written something before they were refused: a `get` or a `versions` that met damage.
+-- Words with this answer may have written something before they were refused: a `get`, a `log` or a `versions` that met damage.
 abbrev pub MayHaveWritten : Option PlainCommand → ℕ → Type 0
 MayHaveWritten (Some (get archive i)) answer = answer ≡ 11
+MayHaveWritten (Some (log archive path)) answer = answer ≡ 11
 MayHaveWritten (Some (versions archive)) answer = answer ≡ 11
 MayHaveWritten other answer = ⊥
 
 -- the same of the fault with which a command ended
 abbrev pub IsMetLate : Option PlainCommand → Option PlainFault → Type 0
 IsMetLate (Some (get archive i)) ended = ended ≡ Some (refused (damaged archive))
+IsMetLate (Some (log archive path)) ended = ended ≡ Some (refused (damaged archive))
 IsMetLate (Some (versions archive)) ended = ended ≡ Some (refused (damaged archive))
 IsMetLate other ended = ⊥
 

@@ -1,18 +1,22 @@
 -- What the words have the program do.
 use Rattle.std.specs.Prelude.{◌≡◌, ℕ, List, Option, Some, None, Result, Err}
 use Rattle.xa_outside.specs.Folder.{Files}
-use Rattle.xarch_words.specs.Commands.{PlainCommand, norm, init, add, rekey, get, history, check, stats, versions, batch, demo, command_of}
+use Rattle.xarch_words.specs.Commands.{PlainCommand, norm, init, add, rekey, get, history, log, check, stats, versions, export, cut, table, tablekeys, batch, demo, command_of}
 use Rattle.xarch_words.specs.Refusal.{Refusal, usage}
 use Rattle.xarch_meanings.specs.Add.{AddIs}
 use Rattle.xarch_meanings.specs.Check.{CheckIs}
+use Rattle.xarch_meanings.specs.Cut.{CutIs}
 use Rattle.xarch_meanings.specs.Demo.{DemoIs}
+use Rattle.xarch_meanings.specs.Export.{ExportIs}
 use Rattle.xarch_meanings.specs.Get.{GetIs}
 use Rattle.xarch_meanings.specs.History.{HistoryIs}
 use Rattle.xarch_meanings.specs.Init.{InitIs}
+use Rattle.xarch_meanings.specs.Log.{LogIs}
 use Rattle.xarch_meanings.specs.Norm.{norm_of}
 use Rattle.xarch_meanings.specs.Rekey.{RekeyIs}
 use Rattle.xarch_parts.specs.Outcome.{Outcome, Step, step_from}
 use Rattle.xarch_meanings.specs.Stats.{StatsIs}
+use Rattle.xarch_meanings.specs.Table.{keys_tabled, tabled}
 use Rattle.xarch_meanings.specs.Versions.{VersionsIs}
 
 -- What a command does to these files. It is defined where the archive that it names is absent or sound, and `check` always.
@@ -23,9 +27,14 @@ OutcomeIs files (add archive doc note) r = AddIs files archive doc note r
 OutcomeIs files (rekey archive spec) r = RekeyIs files archive spec r
 OutcomeIs files (get archive i) r = GetIs files archive i r
 OutcomeIs files (history archive path) r = HistoryIs files archive path r
+OutcomeIs files (log archive path) r = LogIs files archive path r
 OutcomeIs files (check archive) r = CheckIs files archive r
 OutcomeIs files (stats archive) r = StatsIs files archive r
 OutcomeIs files (versions archive) r = VersionsIs files archive r
+OutcomeIs files (export archive) r = ExportIs files archive r
+OutcomeIs files (cut archive new i j) r = CutIs files archive new i j r
+OutcomeIs files (table csv tag keys doc) r = r ≡ tabled files csv tag keys doc
+OutcomeIs files (tablekeys tag keys spec) r = r ≡ keys_tabled files tag keys spec
 OutcomeIs files batch r = r ≡ Err usage
 OutcomeIs files (demo seed count archive) r = DemoIs files seed count archive r
 

@@ -4,18 +4,22 @@ use Rattle.xa_outside.specs.Folder.{Files}
 use Rattle.key_spec.specs.Data.{PlainRule}
 use Rattle.keyed_tree.specs.Data.{PlainLabel, PlainKeyed}
 use Rattle.archive_tree.specs.Stands.{version_of}
+use Rattle.archive_cut.specs.Sliced.{items}
 use Rattle.archive_rekey.specs.Rekeyed.{AreRekeyed}
 use Rattle.record_format.specs.Files.{FileOf}
 use Rattle.xarch_gen.specs.Company.{company_rules}
-use Rattle.xarch_words.specs.Commands.{PlainCommand, norm, init, add, rekey, get, history, check, stats, versions, batch, demo}
+use Rattle.xarch_words.specs.Commands.{PlainCommand, norm, init, add, rekey, get, history, log, check, stats, versions, export, cut, table, tablekeys, batch, demo}
 use Rattle.xarch_words.specs.Refusal.{Refusal}
 use Rattle.xarch_meanings.specs.Add.{added}
 use Rattle.xarch_parts.specs.Archives.{ArchiveIs, short_note}
+use Rattle.xarch_meanings.specs.Cut.{cut_checked}
 use Rattle.xarch_meanings.specs.Demo.{demo_input, samples}
 use Rattle.xarch_meanings.specs.History.{labels_of}
 use Rattle.xarch_meanings.specs.Init.{init_rules}
+use Rattle.xarch_meanings.specs.Log.{frontier_of}
 use Rattle.xarch_meanings.specs.Norm.{norm_of}
 use Rattle.xarch_meanings.specs.Rekey.{rekey_rules}
+use Rattle.xarch_meanings.specs.Table.{keys_tabled, tabled}
 
 -- it has a value, and is not refused
 pub record HasValue {A : Type 0} (x : Result A Refusal) : Type 0 where
@@ -75,6 +79,25 @@ pub record CanTell (files : Files) (name path : List ℕ) : Type 0 where
   pub archive : ArchiveIs files name rules versions notes
   pub spelled : labels_of rules path ≡ Ok labels
 
+-- the archive is sound, and the path spells labels under its rules that end in an attribute, or in an element at the frontier
+pub record CanLog (files : Files) (name path : List ℕ) : Type 0 where
+  pub rules : List PlainRule
+  pub versions : List PlainKeyed
+  pub notes : List (List ℕ)
+  pub labels : List PlainLabel
+  pub archive : ArchiveIs files name rules versions notes
+  pub spelled : frontier_of rules path ≡ Ok labels
+
+-- the archive is sound, the new name is free, the archive has the versions, and these have a file
+pub record CanCut (files : Files) (name new : List ℕ) (i j : ℕ) : Type 0 where
+  pub rules : List PlainRule
+  pub versions : List PlainKeyed
+  pub notes : List (List ℕ)
+  pub bytes : List ℕ
+  pub archive : ArchiveIs files name rules versions notes
+  pub free : cut_checked files new i j (length versions) ≡ Ok tt
+  pub file : FileOf rules (items i j versions) bytes
+
 -- the archive is sound
 pub record HasArchive (files : Files) (name : List ℕ) : Type 0 where
   pub rules : List PlainRule
@@ -96,8 +119,13 @@ ShouldSucceed files (add name doc note) = CanAdd files name doc note
 ShouldSucceed files (rekey name spec) = CanRekey files name spec
 ShouldSucceed files (get name i) = CanGet files name i
 ShouldSucceed files (history name path) = CanTell files name path
+ShouldSucceed files (log name path) = CanLog files name path
 ShouldSucceed files (check name) = HasArchive files name
 ShouldSucceed files (stats name) = HasArchive files name
 ShouldSucceed files (versions name) = HasArchive files name
+ShouldSucceed files (export name) = HasArchive files name
+ShouldSucceed files (cut name new i j) = CanCut files name new i j
+ShouldSucceed files (table csv tag keys doc) = HasValue (tabled files csv tag keys doc)
+ShouldSucceed files (tablekeys tag keys spec) = HasValue (keys_tabled files tag keys spec)
 ShouldSucceed files batch = ⊥
 ShouldSucceed files (demo seed count name) = CanDemo files seed count name

@@ -1,12 +1,14 @@
 ghost use Rattle.std.specs.Prelude.{◌≡◌, ℕ, List, Some, Result, Err};
 ghost use Rattle.xa_outside.specs.Folder.{Files};
+ghost use Rattle.keyed_tree.specs.Data.{PlainKeyed};
+ghost use Rattle.archive_tree.specs.Data.{PlainArchive};
 ghost use Rattle.xarch_words.specs.Commands.{PlainCommand};
 ghost use Rattle.xarch_words.specs.Refusal.{Refusal};
 ghost use Rattle.xarch_parts.specs.Outcome.{Outcome, Step};
 ghost use Rattle.xarch_meanings.specs.Plausible.{MayBe, MayDo, Plausible};
 ghost use Rattle.xarch_meanings.specs.Step.{Defines, StepIs, alone, single_of};
 ghost use Rattle.xarch_meanings.specs.Succeeds.{ShouldSucceed};
-ghost use Rattle.xarch_meanings.specs.Texts.{TellsTexts};
+ghost use Rattle.xarch_meanings.specs.Texts.{TellsArchives, TellsTexts, TellsVersions};
 
 use archive_rekey::versions_have_one_rekeying;
 use archive_tree::archives_stand_for_one_list;
@@ -36,6 +38,16 @@ pub fn commands_take_one_step()
     versions_have_one_file();
     versions_have_one_rekeying();
     full_files_have_one_reading();
+}
+
+/// The bytes of a sound archive tell the archive and its versions. It does nothing.
+pub fn archives_tell_their_versions()
+    ensures archive { (read : List ℕ → PlainArchive) × TellsArchives read }
+    ensures versions { (read : List ℕ → List PlainKeyed) × TellsVersions read }
+{
+    records_are_read_as_spelled();
+    files_give_their_items();
+    archives_stand_for_one_list();
 }
 
 /// The bytes of a sound archive tell the text of each of its versions. It does nothing.

@@ -9,5 +9,6 @@ pub mod limits;
 
 pub use counts::{write_count, write_counts};
 pub use laws::{
-    archives_tell_their_texts, commands_take_one_step, what_should_succeed_is_not_refused,
+    archives_tell_their_texts, archives_tell_their_versions, commands_take_one_step,
+    what_should_succeed_is_not_refused,
 };

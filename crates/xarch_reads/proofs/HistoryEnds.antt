@@ -1,5 +1,5 @@
 -- How the parts of `history` lead to its end.
-use Rattle.std.proofs.Common.{◌≡◌, ◌≢◌, inl, inr, ℕ, ◌+◌, ◌-◌, ◌≤◌, List, length, Option, Some, None, Result, Ok, Err, refl, sym, ap, ◌∙◌, subst, arith}
+use Rattle.std.proofs.Common.{◌≡◌, ◌≢◌, inl, inr, ℕ, ◌+◌, ◌-◌, ◌≤◌, List, length, Option, Some, None, Ok, Err, refl, sym, ◌∙◌, subst, arith}
 use Rattle.xa_outside.specs.Causes.{Rose}
 use Rattle.xa_outside.specs.Folder.{Files}
 use Rattle.xa_outside.specs.NumberLaws.{PullsAtMost-more, PullsAtMost-trans}
@@ -21,18 +21,17 @@ use Rattle.version_notes.specs.Parts.{parts_behind, parts_in}
 use Rattle.noted_file.specs.Full.{FullAs}
 use Rattle.xarch_words.specs.Commands.{history}
 use Rattle.xarch_words.specs.Refusal.{Refusal, damaged, PlainFault, refused, folder_fault, memory}
-use Rattle.xarch_parts.specs.Archives.{ArchiveIs, GoesOn, IsRefusal, NoRefusal}
+use Rattle.xarch_parts.specs.Archives.{ArchiveIs, IsRefusal, NoRefusal}
 use Rattle.xarch_parts.specs.Ends.{IsInside, IsOfFolder}
 use Rattle.xarch_parts.specs.FolderLaws.{reads-then}
 use Rattle.xarch_parts.specs.Folders.{ReadsOnly}
-use Rattle.xarch_parts.specs.CoreLaws.{front-sound}
-use Rattle.xarch_parts.specs.Outcome.{Outcome, and_then}
 use Rattle.xarch_meanings.specs.ReadLaws.{reads-once}
 use Rattle.xarch_meanings.specs.History.{labels_of, numbers_text}
 use Rattle.xarch_meanings.specs.OnePass.{front_size}
-use Rattle.xarch_meanings.specs.Plausible.{MayWrite, MayBe, history_input}
+use Rattle.xarch_meanings.specs.Plausible.{MayBe, history_input}
 use Rattle.xarch_meanings.specs.ReadsBack.{path_bytes}
 use Rattle.xarch_reads.specs.Searched.{IsShownAs}
+use Rattle.xarch_reads.proofs.PathEnds.{path-damaged, path-given, path-refused, path-written}
 
 -- ---- the fault of the search
 
@@ -67,59 +66,34 @@ searched-read {h = h} {n = n} {most = most} is a b c v p once q =
 
 -- ---- what may come
 
-abbrev pub beside : List PlainRule × ℕ → Result (List PlainLabel) Refusal → Result ((List PlainRule × ℕ) × List PlainLabel) Refusal
-beside h x = and_then x (λ ls. Ok (h, ls))
-
-beside-refused : (h : List PlainRule × ℕ) (x : Result (List PlainLabel) Refusal) (q : Refusal) → beside h x ≡ Err q → x ≡ Err q
-beside-refused h (Ok ls) q e = absurd cc
-beside-refused h (Err r) q e = let same : r ≡ q = cc in ap (λ s. Err s) same
-
-beside-given : (h g : List PlainRule × ℕ) (x : Result (List PlainLabel) Refusal) (ls : List PlainLabel) → beside h x ≡ Ok (g, ls) → x ≡ Ok ls
-beside-given h g (Ok ks) ls e = let same : (h, ks) ≡ (g, ls) = cc in ap (λ (p : (List PlainRule × ℕ) × List PlainLabel). Ok p.1) same
-beside-given h g (Err r) ls e = absurd cc
+-- what is written of the labels
+abbrev pub told_text : List PlainKeyed → List PlainLabel → List ℕ
+told_text vs labels = numbers_text (hist vs labels)
 
 -- From what is known of all archive files: their header stands in front; and of all with notes: where their parts stand.
 module _ (has_parts : (rules : List PlainRule) (vs : List PlainKeyed) (notes : List (List ℕ)) (bytes : List ℕ) (full : FullAs rules vs notes bytes) → parts_in bytes ≡ Some (parts_behind full.core notes))
     (fronted : (rules : List PlainRule) (vs : List PlainKeyed) (bytes : List ℕ) → closed (canonical rules) ≡ Ok rules → FileOf rules vs bytes → header bytes ≡ Some (rules, length vs))
     (files : Files) (name path : List ℕ) where
-  -- over a sound archive the path is read by its rules
-  input_sound : (rules : List PlainRule) (vs : List PlainKeyed) (notes : List (List ℕ)) (a : ArchiveIs files name rules vs notes) → history_input files name path ≡ beside (rules, length vs) (labels_of rules path)
-  input_sound rules vs notes a = ap (λ x. and_then x (λ (h : List PlainRule × ℕ). and_then (labels_of h.0 path) (λ ls. Ok (h, ls)))) (front-sound has_parts files name rules vs notes a fronted)
-
   -- a refusal before the records are looked at
   pub may_refuse_early : (q : Refusal) → history_input files name path ≡ Err q → MayBe files (history name path) (Err q)
   unfolding MayBe
-  may_refuse_early q e = record {
-    whatever = subst (λ x. GoesOn x (λ _. MayWrite files name) (Err q)) (sym e) refl;
-    sound = λ rules vs notes a.
-        let none = beside-refused (rules, length vs) (labels_of rules path) q (sym (input_sound rules vs notes a) ∙ e) in
-        sym (ap (λ x. and_then x (λ labels. Ok (record { files = files; output = numbers_text (hist vs labels) }))) none);
-  }
+  may_refuse_early q e = path-refused files name (λ rules. labels_of rules path) told_text has_parts fronted q e
 
   module _ (h : List PlainRule × ℕ) (labels : List PlainLabel) (input : history_input files name path ≡ Ok (h, labels)) where
-    given : (rules : List PlainRule) (vs : List PlainKeyed) (notes : List (List ℕ)) (a : ArchiveIs files name rules vs notes) → labels_of rules path ≡ Ok labels
-    given rules vs notes a = beside-given (rules, length vs) h (labels_of rules path) labels (sym (input_sound rules vs notes a) ∙ input)
-
     -- the numbers are written
     pub may_write : (output : List ℕ) → ((rules : List PlainRule) (vs : List PlainKeyed) (notes : List (List ℕ)) → ArchiveIs files name rules vs notes → output ≡ numbers_text (hist vs labels))
         → MayBe files (history name path) (Ok (record { files = files; output = output }))
     unfolding MayBe
-    may_write output told =
-        let r : Result Outcome Refusal = Ok (record { files = files; output = output }) in
-        record {
-          whatever = subst (λ x. GoesOn x (λ _. MayWrite files name) r) (sym input) (inr (record { output = output; is = refl }));
-          sound = λ rules vs notes a.
-              ap (λ (o : List ℕ). Ok (record { files = files; output = o })) (told rules vs notes a)
-              ∙ sym (ap (λ x. and_then x (λ labels. Ok (record { files = files; output = numbers_text (hist vs labels) }))) (given rules vs notes a));
-        }
+    may_write output told = path-written files name (λ rules. labels_of rules path) told_text has_parts fronted h labels input output told
 
     -- the archive is damaged
     pub may_refuse : (q : Refusal) → q ≡ damaged name → ((rules : List PlainRule) (vs : List PlainKeyed) (notes : List (List ℕ)) → ¬ ArchiveIs files name rules vs notes) → MayBe files (history name path) (Err q)
     unfolding MayBe
-    may_refuse q e none = record {
-      whatever = subst (λ x. GoesOn x (λ _. MayWrite files name) (Err q)) (sym input) (inl (ap (λ s. Err s) e));
-      sound = λ rules vs notes a. absurd (none rules vs notes a);
-    }
+    may_refuse q e none = path-damaged files name (λ rules. labels_of rules path) told_text has_parts fronted h labels input q e none
+
+    -- the labels that the path spells under the rules of a sound archive
+    pub history-given : (rules : List PlainRule) (vs : List PlainKeyed) (notes : List (List ℕ)) → ArchiveIs files name rules vs notes → labels_of rules path ≡ Ok labels
+    history-given rules vs notes a = path-given files name (λ rules. labels_of rules path) told_text has_parts fronted h labels input rules vs notes a
 
     -- the header was read, and then the path was followed
     pub little-read : (rules : List PlainRule) (vs : List PlainKeyed) (notes : List (List ℕ)) (a : PlainArchive) (x y z : Numbers) → ArchiveIs files name rules vs notes → PullsAtMost (16 + front_size rules vs) x y → PullsAtMost (8 + probed a labels) y z
@@ -127,4 +101,4 @@ module _ (has_parts : (rules : List PlainRule) (vs : List PlainKeyed) (notes : L
     little-read rules vs notes a x y z is p q =
         let all = PullsAtMost-trans (16 + front_size rules vs) (8 + probed a labels) x y z p q in
         let most = PullsAtMost-more (16 + front_size rules vs + (8 + probed a labels)) (front_size rules vs + (24 + probed a labels)) x z (omega arith) all in
-        subst (λ r. PullsAtMost (front_size rules vs + (24 + path_bytes a r)) x z) (sym (given rules vs notes is)) most
+        subst (λ r. PullsAtMost (front_size rules vs + (24 + path_bytes a r)) x z) (sym (history-given rules vs notes is)) most

@@ -1,8 +1,11 @@
 pub mod CheckEnds
 pub mod GetEnds
 pub mod HistoryEnds
+pub mod LateEnds
 pub mod ListEnds
 pub mod ListLemmas
+pub mod LogEnds
 pub mod NormEnds
 pub mod PartEnds
+pub mod PathEnds
 pub mod StatsEnds

@@ -1,15 +1,13 @@
 -- How the parts of `versions` lead to its end.
-use Rattle.std.proofs.Common.{◌≡◌, inl, inr, ℕ, ◌+◌, ◌≤◌, List, [], length, take, Option, Some, None, option_map, Result, Ok, Err, OnOk, refl, sym, ap, ◌∙◌, subst, arith}
-use Rattle.std.specs.FinMap as map
+use Rattle.std.proofs.Common.{◌≡◌, inl, inr, ℕ, ◌+◌, ◌≤◌, List, [], length, take, Option, Some, None, option_map, Result, Ok, Err, refl, sym, ap, ◌∙◌, subst, arith}
 use Rattle.std.specs.Result.{is_ok}
-use Rattle.xa_outside.specs.Causes.{HasCause, Rose}
+use Rattle.xa_outside.specs.Causes.{Rose}
 use Rattle.xa_outside.specs.Folder.{Files, bytes_or_none}
 use Rattle.xa_outside.specs.Numbers.{Numbers, PullsAtMost}
 use Rattle.xa_outside.specs.Taken.{Taken, Takes, TakesNone, TakesPrefix}
 use Rattle.xa_outside.specs.TakenLaws.{Takes-kept, TakesPrefix-all}
 use Rattle.xa_outside.specs.Buffered.{buffered_faults, buffered_taken, waiting_bytes}
 use Rattle.xa_outside.specs.BufferedLaws.{TakesPrefix-through, Takes-through}
-use Rattle.xa_outside.specs.declared.Failed.{Failed}
 use Rattle.xa_outside.specs.declared.buffered.Buffered.{Buffered}
 use Rattle.key_spec.specs.Canonical.{canonical}
 use Rattle.key_spec.specs.Closed.{closed}
@@ -38,7 +36,7 @@ use Rattle.xarch_parts.specs.Outcome.{Outcome}
 use Rattle.xarch_meanings.specs.Plausible.{MayBe, MayComeLate, MayWrite, versions_input}
 use Rattle.xarch_meanings.specs.Ran.{GainsBy}
 use Rattle.xarch_meanings.specs.Versions.{versions_text}
-use Rattle.xarch_reads.specs.Listed.{Listed, ListEnds, Lists}
+use Rattle.xarch_reads.specs.Listed.{ListEnds, Lists}
 use Rattle.xarch_reads.specs.Written.{WrittenState, written_state}
 
 -- ---- through a buffer

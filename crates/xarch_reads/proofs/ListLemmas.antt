@@ -1,9 +1,9 @@
 -- Listing versions, line by line.
-use Rattle.std.proofs.Common.{◌≡◌, inl, inr, ℕ, zero, suc, ◌+◌, ◌-◌, ◌≤◌, ◌<◌, true, false, List, [], ◌∷◌, ◌++◌, length, take, Option, Some, None, IfSome, option_map, Result, Ok, Err, refl, sym, ap, ◌∙◌, subst, arith, append_assoc, append-nil}
+use Rattle.std.proofs.Common.{◌≡◌, inl, inr, ℕ, zero, suc, ◌+◌, ◌≤◌, ◌<◌, true, false, List, [], ◌∷◌, ◌++◌, length, take, Option, Some, None, IfSome, option_map, Result, Ok, Err, refl, sym, ap, ◌∙◌, subst, arith, append_assoc, append-nil}
 use Rattle.std.specs.Result.{is_err}
 use Rattle.xa_outside.specs.Causes.{HasCause, Rose}
 use Rattle.xa_outside.specs.Folder.{Files}
-use Rattle.xa_outside.specs.Numbers.{IsMeter, Numbers, PullsAtMost, after_pull}
+use Rattle.xa_outside.specs.Numbers.{IsMeter, PullsAtMost, after_pull}
 use Rattle.xa_outside.specs.NumberLaws.{PullsAtMost-more, PullsAtMost-none, PullsAtMost-of, PullsAtMost-trans}
 use Rattle.xa_outside.specs.Taken.{Puts, Taken, Takes, TakesPrefix}
 use Rattle.xa_outside.specs.TakenLaws.{Takes-nil, Takes-trans, TakesPrefix-after, TakesPrefix-all, TakesPrefix-in, TakesPrefix-more}
@@ -14,7 +14,7 @@ use Rattle.version_notes.specs.declared.place.Place.{Place}
 use Rattle.version_notes.specs.declared.fault.NotesFault.{NotesFault}
 use Rattle.version_notes.specs.declared.fault.NotesFault.TheVariants.{Damage, Folder, Memory}
 use Rattle.xarch_words.specs.Refusal.{Refusal, damaged, PlainFault, refused, folder_fault, out_fault, in_fault, memory}
-use Rattle.xarch_parts.specs.Ends.{Gained, IsInside, IsOfCommand, IsOfFolder}
+use Rattle.xarch_parts.specs.Ends.{IsInside, IsOfCommand, IsOfFolder}
 use Rattle.xarch_parts.specs.Noted.{IsOfNotes}
 use Rattle.xarch_meanings.specs.Versions.{lines_from, version_line, versions_text}
 use Rattle.xarch_reads.specs.Listed.{Listed, ListEnds, Lists}

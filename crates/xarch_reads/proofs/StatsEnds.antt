@@ -1,5 +1,5 @@
 -- How the parts of `stats` lead to its end.
-use Rattle.std.proofs.Common.{◌≡◌, inl, inr, ℕ, ◌+◌, List, ◌++◌, length, take, Some, Result, Ok, Err, refl, sym, ap, ◌∙◌, subst, arith}
+use Rattle.std.proofs.Common.{◌≡◌, inl, inr, ℕ, ◌+◌, List, length, take, Some, Result, Ok, Err, refl, sym, ap, ◌∙◌, subst, arith}
 use Rattle.std.proofs.lemmas.List.{length-append}
 use Rattle.xa_outside.specs.Folder.{Files, front_of}
 use Rattle.key_spec.specs.Data.{PlainRule}
@@ -8,7 +8,6 @@ use Rattle.archive_tree.specs.Data.{PlainArchive}
 use Rattle.archive_tree.specs.Stands.{ArchiveOf}
 use Rattle.archive_file.specs.Sound.{SoundAs}
 use Rattle.archive_stats.specs.Counts.{PlainCounts, counts}
-use Rattle.record_format.specs.Files.{file_bytes}
 use Rattle.version_notes.specs.Notes.{notes_part}
 use Rattle.version_notes.specs.Parts.{parts_behind, parts_in}
 use Rattle.version_notes.specs.declared.parts.Parts.{Parts}
@@ -18,11 +17,10 @@ use Rattle.xarch_words.specs.Refusal.{Refusal, damaged}
 use Rattle.xarch_parts.specs.Archives.{ArchiveIs, CoreIs, GoesOn, PartsAre}
 use Rattle.xarch_parts.specs.CoreLaws.{core-front, core-sound, no-parts, of-parts, parts-read}
 use Rattle.xarch_parts.specs.InputLaws.{length-is}
-use Rattle.xarch_parts.specs.Inputs.{file_length, read_in}
+use Rattle.xarch_parts.specs.Inputs.{file_length}
 use Rattle.xarch_parts.specs.Outcome.{Outcome}
-use Rattle.xarch_parts.specs.Readings.{parts_of}
 use Rattle.xarch_meanings.specs.Plausible.{MayWrite, MayBe, stats_input}
-use Rattle.xarch_meanings.specs.Stats.{counts_text, noted_counts, of_size}
+use Rattle.xarch_meanings.specs.Stats.{counts_text, of_size}
 
 -- From what is known of all archives with notes: where their parts stand.
 module _ (has_parts : (rules : List PlainRule) (vs : List PlainKeyed) (notes : List (List ℕ)) (bytes : List ℕ) (full : FullAs rules vs notes bytes) → parts_in bytes ≡ Some (parts_behind full.core notes))

@@ -1,3 +1,4 @@
 pub mod Searched
 pub mod Written
 pub mod Listed
+pub mod Logged

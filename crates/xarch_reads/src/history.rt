@@ -1,12 +1,11 @@
-#![tactic(auto, using(xarch_parts::specs::EndLaws::endings), unfolding(xarch_parts::specs::Ends::IsInside, xarch_parts::specs::Ends::IsDefined, xarch_meanings::specs::History::labels_of))]
+#![tactic(auto, using(xarch_parts::specs::EndLaws::endings), unfolding(xarch_parts::specs::Ends::IsInside, xarch_parts::specs::Ends::IsDefined))]
 
-ghost use Rattle.std.specs.Prelude.{◌≡◌, ◌<◌, ◌≤◌, ◌+◌, ◌-◌, ℕ, List, Some, IfOk, IfErr, map, string_bytes};
+ghost use Rattle.std.specs.Prelude.{◌≡◌, ◌<◌, ◌+◌, ◌-◌, ℕ, List, Some, IfOk, IfErr, map, string_bytes};
 ghost use Rattle.version_set.specs.Members.{members};
 ghost use Rattle.version_set.specs.View.{pairs_of};
 ghost use Rattle.xa_outside.specs.Folder.{Files};
 ghost use Rattle.xa_outside.specs.Numbers.{PullsAtMost};
 ghost use Rattle.key_spec.specs.Data.{PlainRule};
-ghost use Rattle.key_spec.specs.View.{spec_view};
 ghost use Rattle.keyed_tree.specs.Data.{PlainKeyed};
 ghost use Rattle.keyed_tree.specs.View.{label_view};
 ghost use Rattle.archive_tree.specs.Data.{PlainArchive};
@@ -18,22 +17,15 @@ ghost use Rattle.xarch_words.specs.Commands.{history};
 ghost use Rattle.xarch_words.specs.Refusal as refusal;
 ghost use Rattle.xarch_words.specs.View.{fault_view};
 ghost use Rattle.xarch_parts.specs.Archives.{ArchiveIs, IsFrontOf, IsRefusal, NoRefusal};
-ghost use Rattle.xarch_parts.specs.Ends.{IsInside, Matches, fault_of};
+ghost use Rattle.xarch_parts.specs.Ends.{IsInside, fault_of};
 ghost use Rattle.xarch_parts.specs.Folders.{ReadsOnly};
-ghost use Rattle.xarch_parts.specs.Inputs.{size_in};
-ghost use Rattle.xarch_meanings.specs.History.{labels_of, numbers_text};
-ghost use Rattle.xarch_meanings.specs.OnePass.{front_size};
-ghost use Rattle.xarch_meanings.specs.Plausible.{history_input};
+ghost use Rattle.xarch_meanings.specs.History.{numbers_text};
 ghost use Rattle.xarch_meanings.specs.Performs.{Performs};
-ghost use Rattle.xarch_reads.specs.Searched.{IsShownAs, asked_view};
+ghost use Rattle.xarch_reads.specs.Searched.{IsShownAs};
 
-use crate::fronts::front_of;
+use crate::asked::{Search, read_asked};
 use file_history::HistoryFault;
-use key_rules::{PathFault, read_path};
-use key_spec::Spec;
-use keyed_tree::Label;
 use noted_file::full_files_have_parts;
-use record_cursor::Header;
 use record_format::versions_have_one_file;
 use std::alloc::Global;
 use std::marker::Brand;
@@ -68,56 +60,6 @@ pub fn run_history<F: Folder, O: Sink>(
     let versions = versions_by::<F, Brand>(Blank::new(1), alloc, &search, folder)?;
     let line = line_of(&versions)?;
     write_bytes(line.as_bytes(), out)
-}
-
-// The header of the archive, and the labels that the path spells under its rules.
-fn read_asked<F: Folder>(
-    alloc: Global,
-    archive: &str,
-    path: &str,
-    folder: &mut F,
-) -> Result<(Header, Vec<Label>), Fault>
-    ensures header { IfOk result (λ r. IsHeader (header_view r.0)) }
-    ensures reads { ReadsOnly F.files F.draft F.numbers F.faults
-        (16 + size_in (F.files folder.old) archive.now)
-        folder.old folder.new (fault_of result) }
-    ensures told { (files : Files) → F.files folder.old ≡ Some files
-        → Matches (λ r. asked_view r.0 r.1.items) (history_input files archive.now path.now)
-        result }
-    ensures front { (files : Files) → F.files folder.old ≡ Some files
-        → IfOk result (λ r. IsFrontOf files archive.now (header_view r.0)) }
-    ensures once { IfOk result (λ r.
-        ((header_view r.0).length ≤ size_in (F.files folder.old) archive.now)
-        × PullsAtMost (16 + (header_view r.0).first)
-        (F.numbers folder.old) (F.numbers folder.new)) }
-    ensures few { (files : Files) (rules : List PlainRule) (vs : List PlainKeyed)
-        (notes : List (List ℕ))
-        → F.files folder.old ≡ Some files → ArchiveIs files archive.now rules vs notes
-        → PullsAtMost (16 + front_size rules vs) (F.numbers folder.old) (F.numbers folder.new) }
-{
-    let front = front_of(alloc, archive, folder)?;
-    let labels = labels_from(alloc, &front.header.spec, path)?;
-    Ok((front.header, labels))
-}
-
-fn labels_from(alloc: Global, spec: &Spec, path: &str) -> Result<Vec<Label>, Fault>
-    ensures cause { IsInside (fault_of result) }
-    ensures told { Matches (λ ls. map label_view ls.items)
-        (labels_of (spec_view spec.now) path.now) result }
-{
-    match read_path(alloc, spec, path) {
-        Ok(labels) => Ok(labels),
-        Err(PathFault::Bad { step }) => Err(Fault::BadPath { step }),
-        Err(PathFault::Memory) => Err(Fault::Memory),
-    }
-}
-
-/// A path that is searched for in the archive of this name, which has this header.
-#[derive(Clone, Copy)]
-struct Search<'a> {
-    archive: &'a str,
-    header: &'a Header,
-    path: &'a [Label],
 }
 
 // The versions that hold the path.

@@ -5,10 +5,10 @@ use Rattle.xa_outside.specs.Causes.{Rose}
 use Rattle.xa_outside.specs.Folder.{Files}
 use Rattle.xa_outside.specs.Numbers.{Numbers}
 use Rattle.xa_outside.specs.Taken.{Taken}
-use Rattle.xarch_words.specs.Commands.{PlainCommand, norm, init, add, rekey, get, history, check, stats, versions, batch, demo}
+use Rattle.xarch_words.specs.Commands.{PlainCommand, norm, init, add, rekey, get, history, log, check, stats, versions, export, cut, table, tablekeys, batch, demo}
 use Rattle.xarch_words.specs.Refusal.{folder_fault, out_fault, in_fault, memory}
 use Rattle.xarch_parts.specs.Outcome.{Step}
-use Rattle.xarch_writes.specs.FillsUp.{FillsUp}
+use Rattle.xarch_meanings.specs.FillsUp.{FillsUp}
 use Rattle.xarch_meanings.specs.OnePass.{GoesOnce}
 use Rattle.xarch_meanings.specs.Plausible.{Tried}
 use Rattle.xarch_meanings.specs.Ran.{CountsAsSaid, MayHaveWritten, OnlyReads, Ran, outside_of}
@@ -25,9 +25,14 @@ alone-reads (Some (add archive doc note)) h = h
 alone-reads (Some (rekey archive spec)) h = h
 alone-reads (Some (get archive i)) h = h
 alone-reads (Some (history archive path)) h = h
+alone-reads (Some (log archive path)) h = h
 alone-reads (Some (check archive)) h = h
 alone-reads (Some (stats archive)) h = h
 alone-reads (Some (versions archive)) h = h
+alone-reads (Some (export archive)) h = h
+alone-reads (Some (cut archive new i j)) h = absurd h
+alone-reads (Some (table csv tag keys doc)) h = absurd h
+alone-reads (Some (tablekeys tag keys spec)) h = absurd h
 alone-reads (Some batch) h = absurd h
 alone-reads (Some (demo seed count archive)) h = absurd h
 
@@ -40,9 +45,14 @@ alone-said P of (Some (add archive doc note)) h = h
 alone-said P of (Some (rekey archive spec)) h = h
 alone-said P of (Some (get archive i)) h = h
 alone-said P of (Some (history archive path)) h = h
+alone-said P of (Some (log archive path)) h = h
 alone-said P of (Some (check archive)) h = h
 alone-said P of (Some (stats archive)) h = h
 alone-said P of (Some (versions archive)) h = h
+alone-said P of (Some (export archive)) h = h
+alone-said P of (Some (cut archive new i j)) h = h
+alone-said P of (Some (table csv tag keys doc)) h = h
+alone-said P of (Some (tablekeys tag keys spec)) h = h
 alone-said P of (Some batch) h = of
 alone-said P of (Some (demo seed count archive)) h = h
 
@@ -57,9 +67,14 @@ alone-late (Some (add archive doc note)) answer late = absurd late
 alone-late (Some (rekey archive spec)) answer late = absurd late
 alone-late (Some (get archive i)) answer late = late
 alone-late (Some (history archive path)) answer late = absurd late
+alone-late (Some (log archive path)) answer late = late
 alone-late (Some (check archive)) answer late = absurd late
 alone-late (Some (stats archive)) answer late = absurd late
 alone-late (Some (versions archive)) answer late = late
+alone-late (Some (export archive)) answer late = absurd late
+alone-late (Some (cut archive new i j)) answer late = absurd late
+alone-late (Some (table csv tag keys doc)) answer late = absurd late
+alone-late (Some (tablekeys tag keys spec)) answer late = absurd late
 alone-late (Some batch) answer late = absurd late
 alone-late (Some (demo seed count archive)) answer late = absurd late
 
@@ -90,9 +105,14 @@ none-alone (Some (add archive doc note)) e other = absurd cc
 none-alone (Some (rekey archive spec)) e other = absurd cc
 none-alone (Some (get archive i)) e other = absurd cc
 none-alone (Some (history archive path)) e other = absurd cc
+none-alone (Some (log archive path)) e other = absurd cc
 none-alone (Some (check archive)) e other = absurd cc
 none-alone (Some (stats archive)) e other = absurd cc
 none-alone (Some (versions archive)) e other = absurd cc
+none-alone (Some (export archive)) e other = absurd cc
+none-alone (Some (cut archive new i j)) e other = absurd cc
+none-alone (Some (table csv tag keys doc)) e other = absurd cc
+none-alone (Some (tablekeys tag keys spec)) e other = absurd cc
 none-alone (Some batch) e other = absurd (other refl)
 none-alone (Some (demo seed count archive)) e other = absurd cc
 

@@ -11,31 +11,35 @@ use Rattle.archive_tree.specs.Stands.{version_of}
 use Rattle.record_format.specs.Files.{FileOf}
 use Rattle.archive_file.specs.KeyedBy.{IsKeyedBy}
 use Rattle.archive_file.specs.Sound.{SoundAs}
+use Rattle.archive_cut.specs.Sliced.{items}
 use Rattle.archive_rekey.specs.Rekeyed.{AreRekeyed, IsFirstBad}
 use Rattle.key_rules.specs.Faults.{PlainKeyFault}
 use Rattle.xarch_gen.specs.Company.{company_rules}
-use Rattle.xarch_words.specs.Commands.{PlainCommand, norm, init, add, rekey, get, history, check, stats, versions, batch, demo}
+use Rattle.xarch_words.specs.Commands.{PlainCommand, norm, init, add, rekey, get, history, log, check, stats, versions, export, cut, table, tablekeys, batch, demo, key_names}
 use Rattle.xarch_words.specs.Refusal.{specification, Refusal, exists, no_file}
 use Rattle.xarch_words.specs.Refusal as refusal
 use Rattle.xarch_meanings.specs.Add.{AddsTo, added}
 use Rattle.noted_file.specs.Full.{FullAs, FullOf}
 use Rattle.xarch_parts.specs.Archives.{ArchiveIs, GoesOn, Stores, free_in, short_note}
+use Rattle.xarch_meanings.specs.Cut.{CutsFrom, cut_checked, noted_items}
 use Rattle.xarch_meanings.specs.Demo.{MakesOrNone, demo_input, samples}
 use Rattle.xarch_meanings.specs.Get.{version_text}
 use Rattle.xarch_meanings.specs.History.{history_text}
 use Rattle.xarch_meanings.specs.Init.{init_rules}
+use Rattle.xarch_meanings.specs.Log.{logged}
 use Rattle.xarch_parts.specs.Inputs.{at_most, length_in, read_in}
 use Rattle.xarch_parts.specs.Outcome.{Outcome, Step, step_from}
-use Rattle.xarch_meanings.specs.Plausible.{MayAdd, MayBe, MayOver, MayRekey, add_input, step_behind}
+use Rattle.xarch_meanings.specs.Plausible.{MayAdd, MayBe, MayMake, MayOver, MayRekey, add_input, cut_input, step_behind}
 use Rattle.xarch_meanings.specs.Rekey.{RekeysTo, rekey_rules}
-use Rattle.xarch_meanings.specs.PlausibleLaws.{late-unlisted, late-unsound, no-late, plain-step}
+use Rattle.xarch_meanings.specs.PlausibleLaws.{late-unlisted, late-unlogged, late-unsound, no-late, plain-step}
 use Rattle.xarch_parts.specs.Readings.{rules_of}
-use Rattle.xarch_meanings.specs.Succeeds.{ShouldSucceed}
+use Rattle.xarch_meanings.specs.Succeeds.{HasArchive, ShouldSucceed}
+use Rattle.xarch_meanings.specs.Table.{document_for, keys_tabled, short_rules, table_input, tabled}
 use Rattle.xarch_meanings.specs.Versions.{listed}
 use Rattle.xarch_run.specs.Calls.{CommandMay, CommandsDid}
-use Rattle.xarch_run.specs.Held.{Accepted, AddsDoc, BeginsWith, Begun, ChangesKeys, ChangesOrTells, HandedIn, Held, HeldAfter, HeldBy, Holds, HoldsBehind, HoldsExactly, IsHandedIn, IsRekeyed, MakesArchive, NoneMakes, RefusalsKeep, TakesKeys, WritesCounts, with_keyed}
+use Rattle.xarch_run.specs.Held.{Accepted, AddsDoc, BeginsWith, Begun, ChangesKeys, ChangesOrTells, CutsOrTells, GoesOver, HandedIn, Held, HeldAfter, HeldBy, Holds, HoldsBehind, HoldsExactly, IsCutFrom, IsHandedIn, IsRekeyed, MakesArchive, MakesFile, NoneMakes, RefusalsKeep, TakesKeys, WritesCounts, WritesText, cut_held, with_keyed}
 use Rattle.xarch_run.specs.Steps.{files_after}
-use Rattle.xarch_run.proofs.OneFile.{absent, archive-moves, ends-refused, goes, init-spelled, init-taken, is_for, made-is, other-name, others-kept, same-name, stored-is, taken}
+use Rattle.xarch_run.proofs.OneFile.{absent, archive-moves, chained, cut-taken, ends-refused, goes, init-spelled, init-taken, is_for, made-is, other-name, others-kept, same-name, stored-is, table-taken, taken}
 use Rattle.xarch_run.proofs.Statuses.{status-other}
 
 by-name : (b : Bool) {P : Type 0} → (b ≡ true → P) → (b ≡ false → P) → P
@@ -147,6 +151,27 @@ module _ (files : Files) (name : List ℕ) (h : Held) (a : Holds files name h) w
       let taken-here = subst (λ n. finite.get files n ≡ Some a.bytes) (same-name name other e) a.there in
       goes o (demo_input files count other) (λ _. MakesOrNone files other seed count) (Ok o) refl m (λ u is _. ends-refused (at_most refusal.demo 1000 count) (free_in files other) (exists other) u is (taken files other a.bytes taken-here))
 
+  cut-here : (o : Outcome) (other new : List ℕ) (i j : ℕ) → bytes_eq name new ≡ true → MayBe files (cut other new i j) (Ok o) → Holds o.files name h
+  unfolding MayBe
+  cut-here o other new i j e m =
+      let taken-here = subst (λ n. finite.get files n ≡ Some a.bytes) (same-name name new e) a.there in
+      goes o (cut_input files other new i j) (λ _. MayMake files other new) (Ok o) refl m.whatever (λ p is _. cut-taken files other new a.bytes i j p taken-here is)
+
+  table-here : (o : Outcome) (csv tag keys doc : List ℕ) → bytes_eq name doc ≡ true → MayBe files (table csv tag keys doc) (Ok o) → Holds o.files name h
+  unfolding MayBe
+  table-here o csv tag keys doc e m =
+      let taken-here = subst (λ n. finite.get files n ≡ Some a.bytes) (same-name name doc e) a.there in
+      chained (table_input files csv doc) _ o (sym m) (λ t is _. table-taken files csv doc a.bytes t taken-here is)
+
+  keys-here : (o : Outcome) (tag keys spec : List ℕ) → bytes_eq name spec ≡ true → MayBe files (tablekeys tag keys spec) (Ok o) → Holds o.files name h
+  unfolding MayBe
+  keys-here o tag keys spec e m =
+      let taken-here = subst (λ n. finite.get files n ≡ Some a.bytes) (same-name name spec e) a.there in
+      chained (short_rules tag (key_names keys)) _ o (sym m) (λ rules _ rest. chained (free_in files spec) _ o rest (λ u is _. free-not u (taken files spec a.bytes taken-here) is))
+    where
+      free-not : (u : Unit) → free_in files spec ≡ Err (exists spec) → free_in files spec ≡ Ok u → Holds o.files name h
+      free-not u refused free = (let no : ◌≡◌ {A = Result Unit Refusal} (Err (exists spec)) (Ok u) = sym refused ∙ free in absurd cc)
+
   done-goes : (o : Outcome) (command : PlainCommand) → MayBe files command (Ok o) → Goes files name h (Some command) o.files
   done-goes o (norm spec doc) m = record { held = h; first = refl; archive = unchanged o (norm spec doc) refl m }
   done-goes o (init other spec) m =
@@ -155,9 +180,17 @@ module _ (files : Files) (name : List ℕ) (h : Held) (a : Holds files name h) w
   done-goes o (rekey other spec) m = rekey-goes o other spec m
   done-goes o (get other i) m = record { held = h; first = refl; archive = unchanged o (get other i) refl m }
   done-goes o (history other path) m = record { held = h; first = refl; archive = unchanged o (history other path) refl m }
+  done-goes o (log other path) m = record { held = h; first = refl; archive = unchanged o (log other path) refl m }
   done-goes o (check other) m = record { held = h; first = refl; archive = unchanged o (check other) refl m }
   done-goes o (stats other) m = record { held = h; first = refl; archive = unchanged o (stats other) refl m }
   done-goes o (versions other) m = record { held = h; first = refl; archive = unchanged o (versions other) refl m }
+  done-goes o (export other) m = record { held = h; first = refl; archive = unchanged o (export other) refl m }
+  done-goes o (cut other new i j) m =
+      record { held = h; first = refl; archive = by-name (bytes_eq name new) (λ e. cut-here o other new i j e m) (λ e. unchanged o (cut other new i j) e m) }
+  done-goes o (table csv tag keys doc) m =
+      record { held = h; first = refl; archive = by-name (bytes_eq name doc) (λ e. table-here o csv tag keys doc e m) (λ e. unchanged o (table csv tag keys doc) e m) }
+  done-goes o (tablekeys tag keys spec) m =
+      record { held = h; first = refl; archive = by-name (bytes_eq name spec) (λ e. keys-here o tag keys spec e m) (λ e. unchanged o (tablekeys tag keys spec) e m) }
   done-goes o batch m = record { held = h; first = refl; archive = unchanged o batch refl m }
   done-goes o (demo seed count other) m =
       record { held = h; first = refl; archive = by-name (bytes_eq name other) (λ e. demo-here o seed count other e m) (λ e. unchanged o (demo seed count other) e m) }
@@ -177,9 +210,14 @@ module _ (files : Files) (name : List ℕ) (h : Held) (a : Holds files name h) w
       (λ e. record { held = h; first = inr (other-name name other e, refl); archive = a })
   refused-goes one q (get other i) m = record { held = h; first = refl; archive = a }
   refused-goes one q (history other path) m = record { held = h; first = refl; archive = a }
+  refused-goes one q (log other path) m = record { held = h; first = refl; archive = a }
   refused-goes one q (check other) m = record { held = h; first = refl; archive = a }
   refused-goes one q (stats other) m = record { held = h; first = refl; archive = a }
   refused-goes one q (versions other) m = record { held = h; first = refl; archive = a }
+  refused-goes one q (export other) m = record { held = h; first = refl; archive = a }
+  refused-goes one q (cut other new i j) m = record { held = h; first = refl; archive = a }
+  refused-goes one q (table csv tag keys doc) m = record { held = h; first = refl; archive = a }
+  refused-goes one q (tablekeys tag keys spec) m = record { held = h; first = refl; archive = a }
   refused-goes one q batch m = record { held = h; first = refl; archive = a }
   refused-goes one q (demo seed count other) m = record { held = h; first = refl; archive = a }
 
@@ -249,9 +287,14 @@ one-by one files name (Some (rekey other spec)) h i j (inr p) (inl q) = absurd (
 one-by one files name (Some (rekey other spec)) h i j (inr p) (inr q) = p.1 ∙ sym q.1
 one-by one files name (Some (get other i)) h j k p q = p ∙ sym q
 one-by one files name (Some (history other path)) h i j p q = p ∙ sym q
+one-by one files name (Some (log other path)) h i j p q = p ∙ sym q
 one-by one files name (Some (check other)) h i j p q = p ∙ sym q
 one-by one files name (Some (stats other)) h i j p q = p ∙ sym q
 one-by one files name (Some (versions other)) h i j p q = p ∙ sym q
+one-by one files name (Some (export other)) h i j p q = p ∙ sym q
+one-by one files name (Some (cut other new first last)) h i j p q = p ∙ sym q
+one-by one files name (Some (table csv tag keys doc)) h i j p q = p ∙ sym q
+one-by one files name (Some (tablekeys tag keys spec)) h i j p q = p ∙ sym q
 one-by one files name (Some batch) h i j p q = p ∙ sym q
 one-by one files name (Some (demo seed count other)) h i j p q = p ∙ sym q
 
@@ -285,6 +328,19 @@ refused-status : {X : Type 0} (files : Files) (s : Step) (written : List ℕ) (q
 refused-status files s written q is success =
     absurd (status-other q (sym (ap (λ (z : Step). z.status) is) ∙ success))
 
+-- a file has one reading
+abbrev pub OneReading : Type 0
+OneReading = (rules others : List PlainRule) (vs us : List PlainKeyed) (notes more : List (List ℕ)) (bytes : List ℕ) → FullAs rules vs notes bytes → FullAs others us more bytes → (rules ≡ others) × (vs ≡ us) × (notes ≡ more)
+
+-- a file holds one thing
+pub one-held : OneReading → (files : Files) (name : List ℕ) (h i : Held) → Holds files name h → Holds files name i → h ≡ i
+one-held one files name h i a b =
+    let same = one h.rules i.rules h.versions i.versions h.notes i.notes b.bytes (subst (FullAs h.rules h.versions h.notes) (same-bytes a.bytes b.bytes (finite.get files name) a.there b.there) a.full) b.full in
+    both-held h i same.0 same.1 same.2
+  where
+    same-bytes : (x y : List ℕ) (o : Option (List ℕ)) → o ≡ Some x → o ≡ Some y → x ≡ y
+    same-bytes x y o e f = cc
+
 -- ---- how an archive begins
 
 -- an archive's file is one whose notes are all empty
@@ -307,27 +363,44 @@ demo-begins noted files name other seed count o same m = goes o (demo_input file
   archive = subst (λ n. ArchiveIs o.files n company_rules (samples seed count) (replicate (length (samples seed count)) [])) (sym same) (made-is noted files o other seed count s);
 })
 
-command-begins : (noted : AreNoted) (files : Files) (name : List ℕ) (command : PlainCommand) (o : Outcome) → MakesArchive name (Some command) → MayBe files command (Ok o) → Begun files name (Some command) o.files
-command-begins noted files name (norm spec doc) o makes m = absurd makes
-command-begins noted files name (init other spec) o makes m = init-begins files name other spec o makes m
-command-begins noted files name (add other doc note) o makes m = absurd makes
-command-begins noted files name (rekey other spec) o makes m = absurd makes
-command-begins noted files name (get other i) o makes m = absurd makes
-command-begins noted files name (history other path) o makes m = absurd makes
-command-begins noted files name (check other) o makes m = absurd makes
-command-begins noted files name (stats other) o makes m = absurd makes
-command-begins noted files name (versions other) o makes m = absurd makes
-command-begins noted files name batch o makes m = absurd makes
-command-begins noted files name (demo seed count other) o makes m = demo-begins noted files name other seed count o makes m
+-- some versions of a sound archive, with their notes
+cut-begins : (files : Files) (name other new : List ℕ) (i j : ℕ) (o : Outcome) → name ≡ new → HasArchive files other → MayBe files (cut other new i j) (Ok o) → Begun files name (Some (cut other new i j)) o.files
+unfolding MayBe
+cut-begins files name other new i j o same has m =
+    let whole : Held = record { rules = has.rules; versions = has.versions; notes = has.notes } in
+    let comes : CutsFrom files new i j has.rules has.versions has.notes (Ok o) = m.sound has.rules has.versions has.notes has.archive in
+    goes o (cut_checked files new i j (length has.versions)) (λ _. Stores files new has.rules (items i j has.versions) (noted_items i j has.notes)) (Ok o) refl comes (λ _ _ s. record {
+      held = cut_held i j whole;
+      begins = (same, record { whole = whole; from = has.archive; is = refl });
+      archive = subst (λ n. ArchiveIs o.files n has.rules (items i j has.versions) (noted_items i j has.notes)) (sym same) (stored-is files o new has.rules (items i j has.versions) (noted_items i j has.notes) s);
+    })
 
-outcome-begins : (noted : AreNoted) (files : Files) (name : List ℕ) (command : PlainCommand) (s : Step) (written : List ℕ) (r : Result Outcome Refusal) → MayBe files command r → s ≡ step_behind files written r → s.status ≡ 0 → MakesArchive name (Some command)
+command-begins : (noted : AreNoted) (files : Files) (name : List ℕ) (command : PlainCommand) (o : Outcome) → MakesArchive name (Some command) → GoesOver files (Some command) → MayBe files command (Ok o) → Begun files name (Some command) o.files
+command-begins noted files name (norm spec doc) o makes over m = absurd makes
+command-begins noted files name (init other spec) o makes over m = init-begins files name other spec o makes m
+command-begins noted files name (add other doc note) o makes over m = absurd makes
+command-begins noted files name (rekey other spec) o makes over m = absurd makes
+command-begins noted files name (get other i) o makes over m = absurd makes
+command-begins noted files name (history other path) o makes over m = absurd makes
+command-begins noted files name (log other path) o makes over m = absurd makes
+command-begins noted files name (check other) o makes over m = absurd makes
+command-begins noted files name (stats other) o makes over m = absurd makes
+command-begins noted files name (versions other) o makes over m = absurd makes
+command-begins noted files name (export other) o makes over m = absurd makes
+command-begins noted files name (cut other new i j) o makes over m = cut-begins files name other new i j o makes over m
+command-begins noted files name (table csv tag keys doc) o makes over m = absurd makes
+command-begins noted files name (tablekeys tag keys spec) o makes over m = absurd makes
+command-begins noted files name batch o makes over m = absurd makes
+command-begins noted files name (demo seed count other) o makes over m = demo-begins noted files name other seed count o makes m
+
+outcome-begins : (noted : AreNoted) (files : Files) (name : List ℕ) (command : PlainCommand) (s : Step) (written : List ℕ) (r : Result Outcome Refusal) → MayBe files command r → s ≡ step_behind files written r → s.status ≡ 0 → MakesArchive name (Some command) → GoesOver files (Some command)
     → Begun files name (Some command) s.files
-outcome-begins noted files name command s written (Err q) m is success makes = refused-status files s written q is success
-outcome-begins noted files name command s written (Ok o) m is success makes = subst (λ (z : Step). Begun files name (Some command) z.files) (sym is) (command-begins noted files name command o makes m)
+outcome-begins noted files name command s written (Err q) m is success makes over = refused-status files s written q is success
+outcome-begins noted files name command s written (Ok o) m is success makes over = subst (λ (z : Step). Begun files name (Some command) z.files) (sym is) (command-begins noted files name command o makes over m)
 
-pub step-begins : (noted : AreNoted) (files : Files) (name : List ℕ) (command : Option PlainCommand) (s : Step) → CommandMay files command s → s.status ≡ 0 → MakesArchive name command → Begun files name command s.files
-step-begins noted files name None s m success makes = absurd makes
-step-begins noted files name (Some command) s m success makes = outcome-begins noted files name command s m.written m.outcome m.may m.is success makes
+pub step-begins : (noted : AreNoted) (files : Files) (name : List ℕ) (command : Option PlainCommand) (s : Step) → CommandMay files command s → s.status ≡ 0 → MakesArchive name command → GoesOver files command → Begun files name command s.files
+step-begins noted files name None s m success makes over = absurd makes
+step-begins noted files name (Some command) s m success makes over = outcome-begins noted files name command s m.written m.outcome m.may m.is success makes over
 
 -- what begins an archive makes one
 begins-makes : (files : Files) (name : List ℕ) (command : Option PlainCommand) (h : Held) → BeginsWith files name command h → MakesArchive name command
@@ -338,45 +411,78 @@ begins-makes files name (Some (add other doc note)) h b = b
 begins-makes files name (Some (rekey other spec)) h b = b
 begins-makes files name (Some (get other i)) h b = b
 begins-makes files name (Some (history other path)) h b = b
+begins-makes files name (Some (log other path)) h b = b
 begins-makes files name (Some (check other)) h b = b
 begins-makes files name (Some (stats other)) h b = b
 begins-makes files name (Some (versions other)) h b = b
+begins-makes files name (Some (export other)) h b = b
+begins-makes files name (Some (cut other new i j)) h b = b.0
+begins-makes files name (Some (table csv tag keys doc)) h b = b
+begins-makes files name (Some (tablekeys tag keys spec)) h b = b
 begins-makes files name (Some batch) h b = b
 begins-makes files name (Some (demo seed count other)) h b = b.0
 
+-- and goes over a sound one, if over any
+begins-over : (files : Files) (name : List ℕ) (command : Option PlainCommand) (h : Held) → BeginsWith files name command h → GoesOver files command
+begins-over files name None h b = tt
+begins-over files name (Some (norm spec doc)) h b = tt
+begins-over files name (Some (init other spec)) h b = tt
+begins-over files name (Some (add other doc note)) h b = tt
+begins-over files name (Some (rekey other spec)) h b = tt
+begins-over files name (Some (get other i)) h b = tt
+begins-over files name (Some (history other path)) h b = tt
+begins-over files name (Some (log other path)) h b = tt
+begins-over files name (Some (check other)) h b = tt
+begins-over files name (Some (stats other)) h b = tt
+begins-over files name (Some (versions other)) h b = tt
+begins-over files name (Some (export other)) h b = tt
+begins-over files name (Some (cut other new i j)) h b = record { rules = b.1.whole.rules; versions = b.1.whole.versions; notes = b.1.whole.notes; archive = b.1.from }
+begins-over files name (Some (table csv tag keys doc)) h b = tt
+begins-over files name (Some (tablekeys tag keys spec)) h b = tt
+begins-over files name (Some batch) h b = tt
+begins-over files name (Some (demo seed count other)) h b = tt
+
 -- it begins with one thing to hold
-same-beginning : (files : Files) (name : List ℕ) (command : Option PlainCommand) (h g : Held) → BeginsWith files name command h → BeginsWith files name command g → (h.rules ≡ g.rules) × (h.versions ≡ g.versions) × (h.notes ≡ g.notes)
-same-beginning files name None h g b c = absurd b
-same-beginning files name (Some (norm spec doc)) h g b c = absurd b
-same-beginning files name (Some (init other spec)) h g b c = (one-reading (read_in files spec rules_of) b.1.0 c.1.0, b.1.1 ∙ sym c.1.1, b.1.2 ∙ sym c.1.2)
+same-beginning : (reading : OneReading) (files : Files) (name : List ℕ) (command : Option PlainCommand) (h g : Held) → BeginsWith files name command h → BeginsWith files name command g → (h.rules ≡ g.rules) × (h.versions ≡ g.versions) × (h.notes ≡ g.notes)
+same-beginning reading files name None h g b c = absurd b
+same-beginning reading files name (Some (norm spec doc)) h g b c = absurd b
+same-beginning reading files name (Some (init other spec)) h g b c = (one-reading (read_in files spec rules_of) b.1.0 c.1.0, b.1.1 ∙ sym c.1.1, b.1.2 ∙ sym c.1.2)
   where
     one-reading : (x : Result (List PlainRule) Refusal) → x ≡ Ok h.rules → x ≡ Ok g.rules → h.rules ≡ g.rules
     one-reading x e f = cc
-same-beginning files name (Some (add other doc note)) h g b c = absurd b
-same-beginning files name (Some (rekey other spec)) h g b c = absurd b
-same-beginning files name (Some (get other i)) h g b c = absurd b
-same-beginning files name (Some (history other path)) h g b c = absurd b
-same-beginning files name (Some (check other)) h g b c = absurd b
-same-beginning files name (Some (stats other)) h g b c = absurd b
-same-beginning files name (Some (versions other)) h g b c = absurd b
-same-beginning files name (Some batch) h g b c = absurd b
-same-beginning files name (Some (demo seed count other)) h g b c = let same : h ≡ g = b.1 ∙ sym c.1 in (ap (λ (z : Held). z.rules) same, ap (λ (z : Held). z.versions) same, ap (λ (z : Held). z.notes) same)
+same-beginning reading files name (Some (add other doc note)) h g b c = absurd b
+same-beginning reading files name (Some (rekey other spec)) h g b c = absurd b
+same-beginning reading files name (Some (get other i)) h g b c = absurd b
+same-beginning reading files name (Some (history other path)) h g b c = absurd b
+same-beginning reading files name (Some (log other path)) h g b c = absurd b
+same-beginning reading files name (Some (check other)) h g b c = absurd b
+same-beginning reading files name (Some (stats other)) h g b c = absurd b
+same-beginning reading files name (Some (versions other)) h g b c = absurd b
+same-beginning reading files name (Some (export other)) h g b c = absurd b
+same-beginning reading files name (Some (cut other new i j)) h g b c =
+    let whole : b.1.whole ≡ c.1.whole = one-held reading files other b.1.whole c.1.whole b.1.from c.1.from in
+    let same : h ≡ g = b.1.is ∙ ap (cut_held i j) whole ∙ sym c.1.is in
+    (ap (λ (z : Held). z.rules) same, ap (λ (z : Held). z.versions) same, ap (λ (z : Held). z.notes) same)
+same-beginning reading files name (Some (table csv tag keys doc)) h g b c = absurd b
+same-beginning reading files name (Some (tablekeys tag keys spec)) h g b c = absurd b
+same-beginning reading files name (Some batch) h g b c = absurd b
+same-beginning reading files name (Some (demo seed count other)) h g b c = let same : h ≡ g = b.1 ∙ sym c.1 in (ap (λ (z : Held). z.rules) same, ap (λ (z : Held). z.versions) same, ap (λ (z : Held). z.notes) same)
 
-step-archive : (noted : AreNoted) (files : Files) (name : List ℕ) (command : Option PlainCommand) (s : Step) (h : Held) → CommandMay files command s → s.status ≡ 0 → BeginsWith files name command h → Holds s.files name h
-step-archive noted files name command s h m success b =
-    let begun = step-begins noted files name command s m success (begins-makes files name command h b) in
-    let same = same-beginning files name command begun.held h begun.begins b in
+step-archive : (reading : OneReading) (noted : AreNoted) (files : Files) (name : List ℕ) (command : Option PlainCommand) (s : Step) (h : Held) → CommandMay files command s → s.status ≡ 0 → BeginsWith files name command h → Holds s.files name h
+step-archive reading noted files name command s h m success b =
+    let begun = step-begins noted files name command s m success (begins-makes files name command h b) (begins-over files name command h b) in
+    let same = same-beginning reading files name command begun.held h begun.begins b in
     subst (λ ns. ArchiveIs s.files name h.rules h.versions ns) same.2 (subst (λ us. ArchiveIs s.files name h.rules us begun.held.notes) same.1 (subst (λ r. ArchiveIs s.files name r begun.held.versions begun.held.notes) same.0 begun.archive))
 
 -- ---- an archive from its beginning on
 
-pub handed-holds : (one : OneRekeying) (noted : AreNoted) (files : Files) (name : List ℕ) (cs : List (Option PlainCommand)) (ss : List Step) (h : Held) → CommandsDid files cs ss → HandedIn files name cs ss h → Holds (files_after files ss) name h
-handed-holds one noted files name [] ss h did made = absurd made
-handed-holds one noted files name (c ∷ cs) [] h did made = absurd made
-handed-holds one noted files name (c ∷ cs) (s ∷ ss) h did (inl made) =
-    let behind = all-hold one s.files name cs ss made.first (step-archive noted files name c s made.first did.0 made.answered made.begins) did.1 in
+pub handed-holds : (one : OneRekeying) (reading : OneReading) (noted : AreNoted) (files : Files) (name : List ℕ) (cs : List (Option PlainCommand)) (ss : List Step) (h : Held) → CommandsDid files cs ss → HandedIn files name cs ss h → Holds (files_after files ss) name h
+handed-holds one reading noted files name [] ss h did made = absurd made
+handed-holds one reading noted files name (c ∷ cs) [] h did made = absurd made
+handed-holds one reading noted files name (c ∷ cs) (s ∷ ss) h did (inl made) =
+    let behind = all-hold one s.files name cs ss made.first (step-archive reading noted files name c s made.first did.0 made.answered made.begins) did.1 in
     subst (Holds (files_after s.files ss) name) (one-after one s.files name cs ss made.first behind.held h behind.after made.after) behind.archive
-handed-holds one noted files name (c ∷ cs) (s ∷ ss) h did (inr later) = handed-holds one noted s.files name cs ss h did.1 later
+handed-holds one reading noted files name (c ∷ cs) (s ∷ ss) h did (inr later) = handed-holds one reading noted s.files name cs ss h did.1 later
 
 -- no other bytes are the encoding
 pub exact : ((rules : List PlainRule) (vs : List PlainKeyed) (notes : List (List ℕ)) (a b : List ℕ) → FullOf rules vs notes a → FullOf rules vs notes b → a ≡ b)
@@ -418,26 +524,31 @@ module _ (files : Files) (name : List ℕ) (none : finite.get files name ≡ Non
       let refused : rekey_rules files other spec ≡ Err (no_file other) = rw none-here refl in
       goes o (rekey_rules files other spec) (λ _. MayRekey files other) (Ok o) refl m.whatever (λ p is _. absurd cc)
 
-  one-absent : (command : PlainCommand) → ¬ MakesArchive name (Some command) → MayBe files command (Ok o) → StaysAbsent
+  one-absent : (command : PlainCommand) → ¬ MakesFile name (Some command) → MayBe files command (Ok o) → StaysAbsent
   one-absent (norm spec doc) refused m = stays (others-kept files name o (Ok o) refl (norm spec doc) refl m)
   one-absent (init other spec) refused m = by-name (bytes_eq name other) (λ e. absurd (refused (same-name name other e))) (λ e. stays (others-kept files name o (Ok o) refl (init other spec) e m))
   one-absent (add other doc note) refused m = by-name (bytes_eq name other) (λ e. add-absent other doc note e m) (λ e. stays (others-kept files name o (Ok o) refl (add other doc note) e m))
   one-absent (rekey other spec) refused m = by-name (bytes_eq name other) (λ e. rekey-absent other spec e m) (λ e. stays (others-kept files name o (Ok o) refl (rekey other spec) e m))
   one-absent (get other i) refused m = stays (others-kept files name o (Ok o) refl (get other i) refl m)
   one-absent (history other path) refused m = stays (others-kept files name o (Ok o) refl (history other path) refl m)
+  one-absent (log other path) refused m = stays (others-kept files name o (Ok o) refl (log other path) refl m)
   one-absent (check other) refused m = stays (others-kept files name o (Ok o) refl (check other) refl m)
   one-absent (stats other) refused m = stays (others-kept files name o (Ok o) refl (stats other) refl m)
   one-absent (versions other) refused m = stays (others-kept files name o (Ok o) refl (versions other) refl m)
+  one-absent (export other) refused m = stays (others-kept files name o (Ok o) refl (export other) refl m)
+  one-absent (cut other new i j) refused m = by-name (bytes_eq name new) (λ e. absurd (refused (same-name name new e))) (λ e. stays (others-kept files name o (Ok o) refl (cut other new i j) e m))
+  one-absent (table csv tag keys doc) refused m = by-name (bytes_eq name doc) (λ e. absurd (refused (same-name name doc e))) (λ e. stays (others-kept files name o (Ok o) refl (table csv tag keys doc) e m))
+  one-absent (tablekeys tag keys spec) refused m = by-name (bytes_eq name spec) (λ e. absurd (refused (same-name name spec e))) (λ e. stays (others-kept files name o (Ok o) refl (tablekeys tag keys spec) e m))
   one-absent batch refused m = stays (others-kept files name o (Ok o) refl batch refl m)
   one-absent (demo seed count other) refused m = by-name (bytes_eq name other) (λ e. absurd (refused (same-name name other e))) (λ e. stays (others-kept files name o (Ok o) refl (demo seed count other) e m))
 
 outcome-absent : (files : Files) (name : List ℕ) (command : PlainCommand) (s : Step) (written : List ℕ) (r : Result Outcome Refusal) → finite.get files name ≡ None → MayBe files command r → s ≡ step_behind files written r
-    → (MakesArchive name (Some command) → s.status ≢ 0) → finite.get s.files name ≡ None
+    → (MakesFile name (Some command) → s.status ≢ 0) → finite.get s.files name ≡ None
 outcome-absent files name command s written (Err q) none m is refused = subst (λ (z : Step). finite.get z.files name ≡ None) (sym is) none
 outcome-absent files name command s written (Ok o) none m is refused =
     subst (λ (z : Step). finite.get z.files name ≡ None) (sym is) (one-absent files name none o command (λ makes. refused makes (ap (λ (z : Step). z.status) is)) m)
 
-step-absent : (files : Files) (name : List ℕ) (command : Option PlainCommand) (s : Step) → finite.get files name ≡ None → CommandMay files command s → (MakesArchive name command → s.status ≢ 0) → finite.get s.files name ≡ None
+step-absent : (files : Files) (name : List ℕ) (command : Option PlainCommand) (s : Step) → finite.get files name ≡ None → CommandMay files command s → (MakesFile name command → s.status ≢ 0) → finite.get s.files name ≡ None
 step-absent files name None s none m refused = subst (λ (u : Files). finite.get u name ≡ None) (sym (none-kept files s m)) none
 step-absent files name (Some command) s none m refused = outcome-absent files name command s m.written m.outcome none m.may m.is refused
 
@@ -490,6 +601,18 @@ module _ (files : Files) (name : List ℕ) (h : Held) (s : Step) (a : Holds file
   unfolding MayBe
   telling path m = plain-step files (Some (history name path)) s m (no-late files (Some (history name path)) m.outcome (λ q late. late)) ∙ ap (step_from files) (m.may.sound h.rules h.versions h.notes a)
 
+  pub logging : (path : List ℕ) → CommandMay files (Some (log name path)) s → s ≡ step_from files (logged files h.rules h.versions path)
+  unfolding MayBe
+  logging path m = plain-step files (Some (log name path)) s m (late-unlogged files name path h.rules h.versions h.notes m.outcome a m.may) ∙ ap (step_from files) (m.may.sound h.rules h.versions h.notes a)
+
+  pub exporting : CommandMay files (Some (export name)) s → WritesText files h s
+  unfolding MayBe
+  exporting m = record { outcome = m.outcome; text = m.may.sound h.rules h.versions h.notes a; is = plain-step files (Some (export name)) s m (no-late files (Some (export name)) m.outcome (λ q late. late)) }
+
+  pub cutting : (new : List ℕ) (i j : ℕ) → CommandMay files (Some (cut name new i j)) s → CutsOrTells files new i j h s
+  unfolding MayBe
+  cutting new i j m = record { outcome = m.outcome; comes = m.may.sound h.rules h.versions h.notes a; is = plain-step files (Some (cut name new i j)) s m (no-late files (Some (cut name new i j)) m.outcome (λ q late. late)) }
+
   pub counting : CommandMay files (Some (stats name)) s → WritesCounts files h s
   unfolding MayBe
   counting m = record { outcome = m.outcome; counts = m.may.sound h.rules h.versions h.notes a; is = plain-step files (Some (stats name)) s m (no-late files (Some (stats name)) m.outcome (λ q late. late)) }
@@ -499,16 +622,6 @@ module _ (files : Files) (name : List ℕ) (h : Held) (s : Step) (a : Holds file
   listing m = plain-step files (Some (versions name)) s m (late-unlisted files name h.rules h.versions h.notes m.outcome a m.may) ∙ ap (step_from files) (m.may.sound h.rules h.versions h.notes a)
 
 -- ---- what is held
-
--- a file holds one thing
-pub one-held : ((rules others : List PlainRule) (vs us : List PlainKeyed) (notes more : List (List ℕ)) (bytes : List ℕ) → FullAs rules vs notes bytes → FullAs others us more bytes → (rules ≡ others) × (vs ≡ us) × (notes ≡ more))
-    → (files : Files) (name : List ℕ) (h i : Held) → Holds files name h → Holds files name i → h ≡ i
-one-held one files name h i a b =
-    let same = one h.rules i.rules h.versions i.versions h.notes i.notes b.bytes (subst (FullAs h.rules h.versions h.notes) (same-bytes a.bytes b.bytes (finite.get files name) a.there b.there) a.full) b.full in
-    both-held h i same.0 same.1 same.2
-  where
-    same-bytes : (x y : List ℕ) (o : Option (List ℕ)) → o ≡ Some x → o ≡ Some y → x ≡ y
-    same-bytes x y o e f = cc
 
 -- what holds of all versions holds of each
 at-version : (P : PlainKeyed → Type 0) (vs : List PlainKeyed) (i : ℕ) (k : PlainKeyed) → AllByRecursion P vs → version_of vs i ≡ Some k → P k

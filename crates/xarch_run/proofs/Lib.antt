@@ -16,3 +16,4 @@ pub mod OneFile
 pub mod HeldLemmas
 pub mod CallLemmas
 pub mod BatchFronts
+pub mod TableLemmas

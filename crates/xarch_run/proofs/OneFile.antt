@@ -8,9 +8,12 @@ use Rattle.std.proofs.lemmas.Map.Text.{is_eq-slice_cmp}
 use Rattle.std.proofs.lemmas.Slice.Eq.{bytes_eq-Decides}
 use Rattle.xa_outside.specs.Folder.{Files}
 use Rattle.key_spec.specs.Data.{PlainRule}
+use Rattle.jsonml_print.specs.Printed.{document_text}
+use Rattle.key_spec.specs.Canonical.{canonical}
+use Rattle.csv_tables.specs.Data.{PlainTable}
 use Rattle.keyed_tree.specs.Data.{PlainKeyed}
 use Rattle.xarch_gen.specs.Company.{company_rules}
-use Rattle.xarch_words.specs.Commands.{PlainCommand, norm, init, add, rekey, get, history, check, stats, versions, batch, demo}
+use Rattle.xarch_words.specs.Commands.{PlainCommand, norm, init, add, rekey, get, history, log, check, stats, versions, export, cut, table, tablekeys, batch, demo, key_names}
 use Rattle.xarch_words.specs.Refusal.{document, specification, Refusal, usage, no_file, exists, key_fault_in, damaged, limit}
 use Rattle.xarch_words.specs.Refusal as refusal
 use Rattle.archive_file.specs.Sound.{SoundAs}
@@ -18,15 +21,17 @@ use Rattle.noted_file.specs.Full.{FullAs}
 use Rattle.xarch_parts.specs.Archives.{ArchiveIs, GoesOn, Stores, free_in, short_note}
 use Rattle.xarch_meanings.specs.Add.{AddsTo}
 use Rattle.xarch_meanings.specs.Check.{IsFound, check_text}
+use Rattle.xarch_meanings.specs.Table.{document_for, kept_as, keys_tabled, rows_of, short_rules, table_input, tabled}
 use Rattle.xarch_meanings.specs.Demo.{MakesOrNone, demo_input, samples}
 use Rattle.xarch_meanings.specs.Init.{init_rules}
-use Rattle.xarch_parts.specs.Inputs.{file_of, length_in, read_in}
+use Rattle.xarch_parts.specs.Inputs.{file_length, file_of, length_in, read_in}
+use Rattle.xarch_meanings.specs.Cut.{are_versions}
 use Rattle.xarch_meanings.specs.Norm.{norm_of}
 use Rattle.xarch_parts.specs.Outcome.{Outcome, and_then, or_refuse}
 use Rattle.xarch_meanings.specs.Rekey.{RekeysFrom, RekeysTo, rekey_rules}
-use Rattle.xarch_meanings.specs.Plausible.{MayAdd, MayBe, MayOver, MayRekey, MayWrite, add_input, get_input, history_input, stats_input, versions_input}
+use Rattle.xarch_meanings.specs.Plausible.{MayAdd, MayBe, MayMake, MayOver, MayRekey, MayWrite, add_input, cut_input, get_input, history_input, log_input, stats_input, versions_input}
 use Rattle.xarch_meanings.specs.Ran.{made_name}
-use Rattle.xarch_parts.specs.Readings.{document_of, keyed_of, rules_of}
+use Rattle.xarch_parts.specs.Readings.{document_of, front_in, keyed_of, rules_of}
 
 -- ---- files by name
 
@@ -99,10 +104,29 @@ module _ (files : Files) (name : List ℕ) (o : Outcome) where
     judge-keeps other bytes (inl p) = same-files (kept-by files o r (check_text (length p.full.versions)) is p.is)
     judge-keeps other bytes (inr p) = never o (damaged other) r is p.is
 
-    add-elsewhere : (other : List ℕ) → bytes_eq name other ≡ false → MayAdd files other r → Keeps
-    add-elsewhere other e (inl q) = never o (damaged other) r is q
-    add-elsewhere other e (inr (inl q)) = never o (limit refusal.archive 274877906944) r is q
-    add-elsewhere other e (inr (inr w)) = stored-elsewhere other w.bytes [] e w.is
+    make-elsewhere : (other new : List ℕ) → bytes_eq name new ≡ false → MayMake files other new r → Keeps
+    make-elsewhere other new e (inl q) = never o (damaged other) r is q
+    make-elsewhere other new e (inr (inl q)) = never o (limit refusal.archive 274877906944) r is q
+    make-elsewhere other new e (inr (inr w)) = stored-elsewhere new w.bytes [] e w.is
+
+    -- a file that comes of a table
+    kept-elsewhere : {A : Type 0} (other : List ℕ) (x : Result A Refusal) (f : A → List ℕ) → bytes_eq name other ≡ false → r ≡ and_then x (λ a. Ok (kept_as files other (f a))) → Keeps
+    kept-elsewhere other (Ok a) f e h = stored-elsewhere other (f a) [] e h
+    kept-elsewhere other (Err q) f e h = never o q r is h
+
+    table-elsewhere : (csv tag keys doc : List ℕ) → bytes_eq name doc ≡ false → r ≡ tabled files csv tag keys doc → Keeps
+    table-elsewhere csv tag keys doc e h = by_table (table_input files csv doc) h
+      where
+        by_table : (x : Result PlainTable Refusal) → r ≡ and_then x (λ t. and_then (document_for tag (key_names keys) t) (λ d. Ok (kept_as files doc (document_text d)))) → Keeps
+        by_table (Ok t) g = kept-elsewhere doc (document_for tag (key_names keys) t) document_text e g
+        by_table (Err q) g = never o q r is g
+
+    keys-elsewhere : (tag keys spec : List ℕ) → bytes_eq name spec ≡ false → r ≡ keys_tabled files tag keys spec → Keeps
+    keys-elsewhere tag keys spec e h = by_rules (short_rules tag (key_names keys)) h
+      where
+        by_rules : (x : Result (List PlainRule) Refusal) → r ≡ and_then x (λ rules. and_then (free_in files spec) (λ _. Ok (kept_as files spec (canonical rules)))) → Keeps
+        by_rules (Ok rules) g = kept-elsewhere spec (free_in files spec) (λ _. canonical rules) e g
+        by_rules (Err q) g = never o q r is g
 
     stores-elsewhere : (other : List ℕ) (rules : List PlainRule) (vs : List PlainKeyed) (notes : List (List ℕ)) → bytes_eq name other ≡ false → Stores files other rules vs notes r → Keeps
     stores-elsewhere other rules vs notes e (inl s) = stored-elsewhere other s.bytes [] e s.is
@@ -128,13 +152,18 @@ module _ (files : Files) (name : List ℕ) (o : Outcome) where
     others-kept (init other spec) e h = goes o (init_rules files other spec) (λ rules. Stores files other rules [] []) r is h (λ rules _ s. stores-elsewhere other rules [] [] e s)
     others-kept (add other doc note) e h =
         goes o (short_note note) (λ _. MayOver files other (GoesOn (add_input files other doc) (λ _. MayAdd files other)) (AddsTo files other doc note)) r is h
-        (λ _ _ over. goes o (add_input files other doc) (λ _. MayAdd files other) r is over.whatever (λ _ _ m. add-elsewhere other e m))
+        (λ _ _ over. goes o (add_input files other doc) (λ _. MayAdd files other) r is over.whatever (λ _ _ m. make-elsewhere other other e m))
     others-kept (rekey other spec) e h = goes o (rekey_rules files other spec) (λ _. MayRekey files other) r is h.whatever (λ _ _ m. rekey-elsewhere other spec e h.sound m)
     others-kept (get other i) e h = goes o (get_input files other i) (λ _. MayWrite files other) r is h.whatever (λ _ _ m. write-keeps other m)
     others-kept (history other path) e h = goes o (history_input files other path) (λ _. MayWrite files other) r is h.whatever (λ _ _ m. write-keeps other m)
+    others-kept (log other path) e h = goes o (log_input files other path) (λ _. MayWrite files other) r is h.whatever (λ _ _ m. write-keeps other m)
     others-kept (check other) e h = goes o (file_of files other) (IsFound files other) r is h (λ bytes _ m. judge-keeps other bytes m)
     others-kept (stats other) e h = goes o (stats_input files other) (λ _. MayWrite files other) r is h.whatever (λ _ _ m. write-keeps other m)
     others-kept (versions other) e h = goes o (versions_input files other) (λ _. MayWrite files other) r is h.whatever (λ _ _ m. write-keeps other m)
+    others-kept (export other) e h = goes o (stats_input files other) (λ _. MayWrite files other) r is h.whatever (λ _ _ m. write-keeps other m)
+    others-kept (cut other new i j) e h = goes o (cut_input files other new i j) (λ _. MayMake files other new) r is h.whatever (λ _ _ m. make-elsewhere other new e m)
+    others-kept (table csv tag keys doc) e h = table-elsewhere csv tag keys doc e h
+    others-kept (tablekeys tag keys spec) e h = keys-elsewhere tag keys spec e h
     others-kept batch e h = never o usage r is h
     others-kept (demo seed count other) e h = goes o (demo_input files count other) (λ _. MakesOrNone files other seed count) r is h (λ _ _ m. makes-elsewhere other seed count e m)
 
@@ -156,6 +185,20 @@ init-taken files name spec bytes rules e f =
 pub ends-refused : {X A B : Type 0} (x : Result A Refusal) (y : Result B Refusal) (q : Refusal) (b : B) → and_then x (λ _. y) ≡ Ok b → y ≡ Err q → X
 ends-refused (Ok a) y q b e f = absurd cc
 ends-refused (Err r) y q b e f = absurd cc
+
+pub cut-taken : {X : Type 0} (files : Files) (other new bytes : List ℕ) (i j : ℕ) (h : List PlainRule × ℕ) → finite.get files new ≡ Some bytes → cut_input files other new i j ≡ Ok h → X
+cut-taken files other new bytes i j h e f =
+    ends-refused (file_length files other) (and_then (free_in files new) (λ _. and_then (read_in files other (front_in other)) (λ g. and_then (are_versions i j g.1) (λ _. Ok g)))) (exists new) h f
+    (ap (λ x. and_then x (λ _. and_then (read_in files other (front_in other)) (λ g. and_then (are_versions i j g.1) (λ _. Ok g)))) (taken files new bytes e))
+
+pub table-taken : {X : Type 0} (files : Files) (csv doc bytes : List ℕ) (t : PlainTable) → finite.get files doc ≡ Some bytes → table_input files csv doc ≡ Ok t → X
+table-taken files csv doc bytes t e f =
+    ends-refused (length_in files csv document 67108864) (and_then (free_in files doc) (λ _. read_in files csv rows_of)) (exists doc) t f (ap (λ x. and_then x (λ _. read_in files csv rows_of)) (taken files doc bytes e))
+
+-- a chain that has a value goes on from one
+pub chained : {X A B : Type 0} (x : Result A Refusal) (f : A → Result B Refusal) (b : B) → and_then x f ≡ Ok b → ((a : A) → x ≡ Ok a → f a ≡ Ok b → X) → X
+chained (Ok a) f b e g = g a refl e
+chained (Err q) f b e g = absurd cc
 
 -- the rules of a new archive are those of its specification
 pub init-spelled : (x : Result Unit Refusal) (y : Result ℕ Refusal) (z : Result (List PlainRule) Refusal) (rules : List PlainRule) → and_then x (λ _. and_then y (λ _. z)) ≡ Ok rules → z ≡ Ok rules

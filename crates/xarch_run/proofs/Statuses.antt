@@ -1,33 +1,52 @@
--- The statuses of refusals, which are those from 2 to 12.
+-- The statuses of refusals, none of which is one of the outside.
 use Rattle.std.proofs.Common.{◌≡◌, ◌≢◌, ◌⊎◌, inl, inr, ℕ, List, ◌==◌, ◌≤◌, Bool, true, false, cond, None, Some, refl, ap, arith}
 use Rattle.std.proofs.lemmas.Bool.{eqb-true}
 use Rattle.xarch_words.specs.Lines.{refusal_status}
-use Rattle.xarch_words.specs.Refusal.{Refusal, usage, no_file, exists, bad_spec, bad_json, bad_shape, key_fault, key_fault_in, no_version, bad_path, damaged, limit, folder_fault, out_fault, in_fault, memory}
+use Rattle.xarch_words.specs.Refusal.{Refusal, usage, no_file, exists, bad_spec, bad_json, bad_shape, key_fault, key_fault_in, no_version, bad_path, damaged, limit, not_frontier, bad_csv, folder_fault, out_fault, in_fault, memory}
 use Rattle.xarch_meanings.specs.Ran.{outside_of}
 
--- words that are no command have the status 2, and every other refusal one from 3 to 12
-by-status : (q : Refusal) → (q ≡ usage) ⊎ ((3 ≤ refusal_status q) × (refusal_status q ≤ 12))
+-- words that are no command have the status 2, and every other refusal a greater one
+by-status : (q : Refusal) → (q ≡ usage) ⊎ (3 ≤ refusal_status q)
 by-status usage = inl refl
-by-status (no_file n) = inr (omega arith, omega arith)
-by-status (exists n) = inr (omega arith, omega arith)
-by-status (bad_spec l w) = inr (omega arith, omega arith)
-by-status bad_json = inr (omega arith, omega arith)
-by-status (bad_shape p w) = inr (omega arith, omega arith)
-by-status (key_fault f) = inr (omega arith, omega arith)
-by-status (key_fault_in i f) = inr (omega arith, omega arith)
-by-status (no_version i n) = inr (omega arith, omega arith)
-by-status (bad_path s) = inr (omega arith, omega arith)
-by-status (damaged n) = inr (omega arith, omega arith)
-by-status (limit q n) = inr (omega arith, omega arith)
+by-status (no_file n) = inr (omega arith)
+by-status (exists n) = inr (omega arith)
+by-status (bad_spec l w) = inr (omega arith)
+by-status bad_json = inr (omega arith)
+by-status (bad_shape p w) = inr (omega arith)
+by-status (key_fault f) = inr (omega arith)
+by-status (key_fault_in i f) = inr (omega arith)
+by-status (no_version i n) = inr (omega arith)
+by-status (bad_path s) = inr (omega arith)
+by-status (damaged n) = inr (omega arith)
+by-status (limit q n) = inr (omega arith)
+by-status not_frontier = inr (omega arith)
+by-status (bad_csv r w) = inr (omega arith)
 
-between : (q : Refusal) → (2 ≤ refusal_status q) × (refusal_status q ≤ 12)
-between q = elim (by-status q) [
-  | inl e ↦ let is : refusal_status q ≡ 2 = ap refusal_status e in (omega (arith, is), omega (arith, is))
-  | inr h ↦ let low = h.0 in (omega (arith, low), h.1)
+-- none has a status from 13 to 16
+beside : (q : Refusal) → (refusal_status q ≤ 12) ⊎ (17 ≤ refusal_status q)
+beside usage = inl (omega arith)
+beside (no_file n) = inl (omega arith)
+beside (exists n) = inl (omega arith)
+beside (bad_spec l w) = inl (omega arith)
+beside bad_json = inl (omega arith)
+beside (bad_shape p w) = inl (omega arith)
+beside (key_fault f) = inl (omega arith)
+beside (key_fault_in i f) = inl (omega arith)
+beside (no_version i n) = inl (omega arith)
+beside (bad_path s) = inl (omega arith)
+beside (damaged n) = inl (omega arith)
+beside (limit q n) = inl (omega arith)
+beside not_frontier = inr (omega arith)
+beside (bad_csv r w) = inr (omega arith)
+
+never-outside : (q : Refusal) (m : ℕ) → 13 ≤ m → m ≤ 16 → refusal_status q ≢ m
+never-outside q m low high e = elim (beside q) [
+  | inl few ↦ omega (arith, few, low, e)
+  | inr many ↦ omega (arith, many, high, e)
 ]
 
 pub usage-only : (q : Refusal) → refusal_status q ≡ 2 → q ≡ usage
-usage-only q two = elim (by-status q) [ inl e ↦ e | inr h ↦ let low = h.0 in absurd (omega (arith, low, two)) ]
+usage-only q two = elim (by-status q) [ inl e ↦ e | inr low ↦ absurd (omega (arith, low, two)) ]
 
 -- 11 is the status of damage
 pub damage-only : (q : Refusal) → refusal_status q ≡ 11 → (name : List ℕ) × (q ≡ damaged name)
@@ -43,9 +62,14 @@ damage-only (no_version i n) e = absurd (omega (arith, e))
 damage-only (bad_path t) e = absurd (omega (arith, e))
 damage-only (damaged name) e = (name, refl)
 damage-only (limit q n) e = absurd (omega (arith, e))
+damage-only not_frontier e = absurd (omega (arith, e))
+damage-only (bad_csv r w) e = absurd (omega (arith, e))
 
 pub status-other : (q : Refusal) → refusal_status q ≢ 0
-status-other q zero = let low = (between q).0 in omega (arith, low, zero)
+status-other q zero = elim (by-status q) [
+  | inl e ↦ let is : refusal_status q ≡ 2 = ap refusal_status e in omega (arith, is, zero)
+  | inr low ↦ omega (arith, low, zero)
+]
 
 other-number : (n m : ℕ) → n ≢ m → (n == m) ≡ false
 other-number n m other = by_test (n == m) refl
@@ -68,6 +92,5 @@ none-of false false false true e f g h = absurd cc
 pub outside_of-refusal : (q : Refusal) → outside_of (refusal_status q) ≡ None
 outside_of-refusal q =
     let n = refusal_status q in
-    let high = (between q).1 in
-    none-of (n == 13) (n == 14) (n == 15) (n == 16) (other-number n 13 (λ e. omega (arith, high, e))) (other-number n 14 (λ e. omega (arith, high, e))) (other-number n 15 (λ e. omega (arith, high, e)))
-    (other-number n 16 (λ e. omega (arith, high, e)))
+    none-of (n == 13) (n == 14) (n == 15) (n == 16) (other-number n 13 (never-outside q 13 (omega arith) (omega arith))) (other-number n 14 (never-outside q 14 (omega arith) (omega arith)))
+    (other-number n 15 (never-outside q 15 (omega arith) (omega arith))) (other-number n 16 (never-outside q 16 (omega arith) (omega arith)))

@@ -9,7 +9,7 @@ use Rattle.xa_outside.specs.CauseLaws.{Rose-later}
 use Rattle.xa_outside.specs.Folder.{Files}
 use Rattle.xa_outside.specs.Taken.{Taken, Takes, TakesNone, TakesPrefix}
 use Rattle.xa_outside.specs.TakenLaws.{Takes-nil, Takes-kept, Takes-trans, TakesPrefix-all}
-use Rattle.xarch_words.specs.Commands.{PlainCommand, norm, init, add, rekey, get, history, check, stats, versions, batch, demo}
+use Rattle.xarch_words.specs.Commands.{PlainCommand, norm, init, add, rekey, get, history, log, check, stats, versions, export, cut, table, tablekeys, batch, demo}
 use Rattle.xarch_words.specs.Lines.{fault_line, fault_status, refusal_status}
 use Rattle.xarch_words.specs.Refusal as refusal
 use Rattle.xarch_words.specs.Refusal.{Refusal, usage, damaged, line, limit, PlainFault, refused, folder_fault, out_fault, in_fault, memory}
@@ -18,7 +18,7 @@ use Rattle.xarch_parts.specs.Archives.{GoesOn, free_in}
 use Rattle.xarch_meanings.specs.Demo.{MakesOrNone}
 use Rattle.xarch_parts.specs.Outcome.{Outcome, Step, and_then, step_from}
 use Rattle.xarch_meanings.specs.Plausible.{IsLate, MayBe, MayDo, Plausible, Tried, Wrote, step_behind}
-use Rattle.xarch_meanings.specs.PlausibleLaws.{behind-none, late-two}
+use Rattle.xarch_meanings.specs.PlausibleLaws.{behind-none, late-three}
 use Rattle.xarch_meanings.specs.Ran.{IsLongDemo, MayHaveWritten, OnlyReads, Said, Says, line_after, outside_of, status_after}
 use Rattle.xarch_meanings.specs.Step.{alone, single_of}
 use Rattle.xarch_run.specs.Batch.{EndsTheBatch, Gains, IsPart, RunsOver, scene}
@@ -140,9 +140,14 @@ long-refused files (Some (add archive doc note)) r long may = absurd long
 long-refused files (Some (rekey archive spec)) r long may = absurd long
 long-refused files (Some (get archive i)) r long may = absurd long
 long-refused files (Some (history archive path)) r long may = absurd long
+long-refused files (Some (log archive path)) r long may = absurd long
 long-refused files (Some (check archive)) r long may = absurd long
 long-refused files (Some (stats archive)) r long may = absurd long
 long-refused files (Some (versions archive)) r long may = absurd long
+long-refused files (Some (export archive)) r long may = absurd long
+long-refused files (Some (cut archive new i j)) r long may = absurd long
+long-refused files (Some (table csv tag keys doc)) r long may = absurd long
+long-refused files (Some (tablekeys tag keys spec)) r long may = absurd long
 long-refused files (Some batch) r long may = absurd long
 long-refused files (Some (demo seed count archive)) r long may = by_test (nat_le count 1000) refl
   where
@@ -158,9 +163,14 @@ long-or-not (Some (add archive doc note)) = inr (λ long. long)
 long-or-not (Some (rekey archive spec)) = inr (λ long. long)
 long-or-not (Some (get archive i)) = inr (λ long. long)
 long-or-not (Some (history archive path)) = inr (λ long. long)
+long-or-not (Some (log archive path)) = inr (λ long. long)
 long-or-not (Some (check archive)) = inr (λ long. long)
 long-or-not (Some (stats archive)) = inr (λ long. long)
 long-or-not (Some (versions archive)) = inr (λ long. long)
+long-or-not (Some (export archive)) = inr (λ long. long)
+long-or-not (Some (cut archive new i j)) = inr (λ long. long)
+long-or-not (Some (table csv tag keys doc)) = inr (λ long. long)
+long-or-not (Some (tablekeys tag keys spec)) = inr (λ long. long)
 long-or-not (Some batch) = inr (λ long. long)
 long-or-not (Some (demo seed count archive)) = by_test (nat_lt 1000 count) refl
   where
@@ -178,11 +188,12 @@ late-answer : (files : Files) (c : Option PlainCommand) (r : Result Outcome Refu
 late-answer files c (Ok o) late = absurd late
 late-answer files None (Err q) late = absurd late
 late-answer files (Some command) (Err q) late =
-    late-two files command q (LateAnswer (Some command) (Err q)) late
+    late-three files command q (LateAnswer (Some command) (Err q)) late
     (λ name i is damage. record { name = name; is = ap (λ z. Err z) damage; may = subst (λ (z : PlainCommand). MayHaveWritten (Some z) 11) (sym is) refl })
+    (λ name path is damage. record { name = name; is = ap (λ z. Err z) damage; may = subst (λ (z : PlainCommand). MayHaveWritten (Some z) 11) (sym is) refl })
     (λ name is damage. record { name = name; is = ap (λ z. Err z) damage; may = subst (λ (z : PlainCommand). MayHaveWritten (Some z) 11) (sym is) refl })
 
--- the answer that comes late is of a `get` or a `versions`, and no other
+-- the answer that comes late is of a `get`, a `log` or a `versions`, and no other
 late-status : (c : Option PlainCommand) (answer : ℕ) → MayHaveWritten c answer → answer ≡ 11
 late-status None answer late = absurd late
 late-status (Some (norm spec doc)) answer late = absurd late
@@ -191,9 +202,14 @@ late-status (Some (add archive doc note)) answer late = absurd late
 late-status (Some (rekey archive spec)) answer late = absurd late
 late-status (Some (get archive i)) answer late = late
 late-status (Some (history archive path)) answer late = absurd late
+late-status (Some (log archive path)) answer late = late
 late-status (Some (check archive)) answer late = absurd late
 late-status (Some (stats archive)) answer late = absurd late
 late-status (Some (versions archive)) answer late = late
+late-status (Some (export archive)) answer late = absurd late
+late-status (Some (cut archive new i j)) answer late = absurd late
+late-status (Some (table csv tag keys doc)) answer late = absurd late
+late-status (Some (tablekeys tag keys spec)) answer late = absurd late
 late-status (Some batch) answer late = absurd late
 late-status (Some (demo seed count archive)) answer late = absurd late
 
@@ -212,9 +228,14 @@ late-or-not (Some (add archive doc note)) answer = inr (λ late. late)
 late-or-not (Some (rekey archive spec)) answer = inr (λ late. late)
 late-or-not (Some (get archive i)) answer = eleven-or-not answer
 late-or-not (Some (history archive path)) answer = inr (λ late. late)
+late-or-not (Some (log archive path)) answer = eleven-or-not answer
 late-or-not (Some (check archive)) answer = inr (λ late. late)
 late-or-not (Some (stats archive)) answer = inr (λ late. late)
 late-or-not (Some (versions archive)) answer = eleven-or-not answer
+late-or-not (Some (export archive)) answer = inr (λ late. late)
+late-or-not (Some (cut archive new i j)) answer = inr (λ late. late)
+late-or-not (Some (table csv tag keys doc)) answer = inr (λ late. late)
+late-or-not (Some (tablekeys tag keys spec)) answer = inr (λ late. late)
 late-or-not (Some batch) answer = inr (λ late. late)
 late-or-not (Some (demo seed count archive)) answer = inr (λ late. late)
 
@@ -225,9 +246,14 @@ late-short (add archive doc note) X late long = absurd late
 late-short (rekey archive spec) X late long = absurd late
 late-short (get archive i) X late long = absurd long
 late-short (history archive path) X late long = absurd late
+late-short (log archive path) X late long = absurd long
 late-short (check archive) X late long = absurd late
 late-short (stats archive) X late long = absurd late
 late-short (versions archive) X late long = absurd long
+late-short (export archive) X late long = absurd late
+late-short (cut archive new i j) X late long = absurd late
+late-short (table csv tag keys doc) X late long = absurd late
+late-short (tablekeys tag keys spec) X late long = absurd late
 late-short batch X late long = absurd late
 late-short (demo seed count archive) X late long = absurd late
 
@@ -274,9 +300,14 @@ long-alone (Some (add archive doc note)) answer judged h = absurd h
 long-alone (Some (rekey archive spec)) answer judged h = absurd h
 long-alone (Some (get archive i)) answer judged h = absurd h
 long-alone (Some (history archive path)) answer judged h = absurd h
+long-alone (Some (log archive path)) answer judged h = absurd h
 long-alone (Some (check archive)) answer judged h = absurd h
 long-alone (Some (stats archive)) answer judged h = absurd h
 long-alone (Some (versions archive)) answer judged h = absurd h
+long-alone (Some (export archive)) answer judged h = absurd h
+long-alone (Some (cut archive new i j)) answer judged h = absurd h
+long-alone (Some (table csv tag keys doc)) answer judged h = absurd h
+long-alone (Some (tablekeys tag keys spec)) answer judged h = absurd h
 long-alone (Some batch) answer judged h = absurd h
 long-alone (Some (demo seed count archive)) answer judged h = judged seed count archive refl h
 

@@ -6,18 +6,22 @@ use Rattle.key_spec.specs.Data.{PlainRule}
 use Rattle.keyed_tree.specs.Data.{PlainKeyed}
 use Rattle.record_format.specs.Files.{FileOf}
 use Rattle.noted_file.specs.Full.{Full, FullOf}
+use Rattle.archive_cut.specs.Sliced.{items}
 use Rattle.archive_rekey.specs.Rekeyed.{AreRekeyed}
 use Rattle.xarch_gen.specs.Company.{company_rules}
-use Rattle.xarch_words.specs.Commands.{PlainCommand, init, add, rekey, demo}
+use Rattle.xarch_words.specs.Commands.{PlainCommand, init, add, rekey, cut, table, tablekeys, demo}
 use Rattle.xarch_words.specs.Refusal.{Refusal}
 use Rattle.xarch_meanings.specs.Add.{added}
 use Rattle.xarch_parts.specs.Archives.{ArchiveIs, short_note}
+use Rattle.xarch_meanings.specs.Cut.{CutsFrom, noted_items}
 use Rattle.xarch_meanings.specs.Demo.{samples}
+use Rattle.xarch_meanings.specs.Export.{ExportsFrom}
 use Rattle.xarch_parts.specs.Inputs.{read_in}
 use Rattle.xarch_parts.specs.Outcome.{Outcome, Step, step_from}
 use Rattle.xarch_parts.specs.Readings.{rules_of}
 use Rattle.xarch_meanings.specs.Rekey.{RekeysFrom, rekey_rules}
 use Rattle.xarch_meanings.specs.Stats.{CountsFrom}
+use Rattle.xarch_meanings.specs.Succeeds.{HasArchive}
 use Rattle.xarch_run.specs.Steps.{files_after}
 
 -- the rules of an archive, its versions in order, and the note of each
@@ -39,18 +43,42 @@ pub record HoldsExactly (files : Files) (name : List ℕ) (h : Held) : Type 0 wh
 
 -- ---- how an archive begins
 
+-- what is left of this where only the versions from i to j stay, with their notes
+abbrev pub cut_held : ℕ → ℕ → Held → Held
+cut_held i j h = record { rules = h.rules; versions = items i j h.versions; notes = noted_items i j h.notes }
+
+-- It is what is left of what the archive of this name holds.
+pub record IsCutFrom (files : Files) (archive : List ℕ) (i j : ℕ) (h : Held) : Type 0 where
+  pub whole : Held
+  pub from : Holds files archive whole
+  pub is : h ≡ cut_held i j whole
+
 -- The command makes the archive of this name, which then holds this: an `init` the rules of its specification and no
--- versions, a `demo` the company rules and the generated documents, whose notes are empty.
+-- versions, a `demo` the company rules and the generated documents, whose notes are empty, a `cut` some versions of what
+-- another archive holds, with their notes.
 abbrev pub BeginsWith : Files → List ℕ → Option PlainCommand → Held → Type 0
 BeginsWith files name (Some (init archive spec)) h = (name ≡ archive) × ((read_in files spec rules_of ≡ Ok h.rules) × (h.versions ≡ []) × (h.notes ≡ []))
 BeginsWith files name (Some (demo seed count archive)) h = (name ≡ archive) × (h ≡ record { rules = company_rules; versions = samples seed count; notes = replicate (length (samples seed count)) [] })
+BeginsWith files name (Some (cut archive new i j)) h = (name ≡ new) × IsCutFrom files archive i j h
 BeginsWith files name _ h = ⊥
 
--- the command is an `init` or a `demo` of this name
+-- the command is an `init`, a `demo` or a `cut` that makes the archive of this name
 abbrev pub MakesArchive : List ℕ → Option PlainCommand → Type 0
 MakesArchive name (Some (init archive spec)) = name ≡ archive
 MakesArchive name (Some (demo seed count archive)) = name ≡ archive
+MakesArchive name (Some (cut archive new i j)) = name ≡ new
 MakesArchive name _ = ⊥
+
+-- the command makes a new file of this name, be it an archive or not
+abbrev pub MakesFile : List ℕ → Option PlainCommand → Type 0
+MakesFile name (Some (table csv tag keys doc)) = name ≡ doc
+MakesFile name (Some (tablekeys tag keys spec)) = name ≡ spec
+MakesFile name command = MakesArchive name command
+
+-- the archive that a command makes another of is sound
+abbrev pub GoesOver : Files → Option PlainCommand → Type 0
+GoesOver files (Some (cut archive new i j)) = HasArchive files archive
+GoesOver files other = ⊤
 
 -- the archive that the command made
 pub record Begun (files : Files) (name : List ℕ) (command : Option PlainCommand) (now : Files) : Type 0 where
@@ -58,11 +86,11 @@ pub record Begun (files : Files) (name : List ℕ) (command : Option PlainComman
   pub begins : BeginsWith files name command held
   pub archive : Holds now name held
 
--- each of these commands that makes the archive of this name was refused
+-- each of these commands that makes a new file of this name was refused
 abbrev pub NoneMakes : List ℕ → List (Option PlainCommand) → List Step → Type 0
 NoneMakes name [] ss = ⊤
 NoneMakes name (c ∷ cs) [] = ⊤
-NoneMakes name (c ∷ cs) (s ∷ ss) = (MakesArchive name c → s.status ≢ 0) × NoneMakes name cs ss
+NoneMakes name (c ∷ cs) (s ∷ ss) = (MakesFile name c → s.status ≢ 0) × NoneMakes name cs ss
 
 -- ---- how it goes on
 
@@ -191,4 +219,16 @@ pub record TellsSoundness (files : Files) (name : List ℕ) (s : Step) : Type 0 
 pub record WritesCounts (files : Files) (h : Held) (s : Step) : Type 0 where
   pub outcome : Result Outcome Refusal
   pub counts : CountsFrom files h.rules h.versions h.notes outcome
+  pub is : s ≡ step_from files outcome
+
+-- the step writes the text of the archive that holds this
+pub record WritesText (files : Files) (h : Held) (s : Step) : Type 0 where
+  pub outcome : Result Outcome Refusal
+  pub text : ExportsFrom files h.rules h.versions h.notes outcome
+  pub is : s ≡ step_from files outcome
+
+-- The step is what comes of some of these versions: their file under the new name, or why there is none.
+pub record CutsOrTells (files : Files) (new : List ℕ) (i j : ℕ) (h : Held) (s : Step) : Type 0 where
+  pub outcome : Result Outcome Refusal
+  pub comes : CutsFrom files new i j h.rules h.versions h.notes outcome
   pub is : s ≡ step_from files outcome

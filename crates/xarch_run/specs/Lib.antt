@@ -7,6 +7,7 @@ pub mod Taking
 pub mod Steps
 pub mod Batch
 pub mod Stays
+pub mod Tabled
 pub mod Calls
 pub mod Held
 pub mod Turns

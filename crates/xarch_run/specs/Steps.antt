@@ -48,7 +48,7 @@ pub record MeetsDamage (command : PlainCommand) (s : Step) : Type 0 where
   pub name : List ℕ
   pub line : s.line ≡ fault_line (refused (damaged name))
 
--- What a command answers: it was done, or it was refused, a `get` or a `versions` maybe behind output, and a `demo` of too many documents is refused.
+-- What a command answers: it was done, or it was refused, a `get`, a `log` or a `versions` maybe behind output, and a `demo` of too many documents is refused.
 pub record CommandAnswers (command : PlainCommand) (s : Step) : Type 0 where
   pub is : DoesCommand s ⊎ (RefusesCommand s ⊎ MeetsDamage command s)
   pub long_demo : IsLongDemo (Some command) → RefusesWith (limit demo 1000) s

@@ -1,32 +1,39 @@
 // What follows for the archives in a folder.
-ghost use Rattle.std.specs.Prelude.{◌≡◌, ℕ, List, None, Option, Some};
+ghost use Rattle.std.specs.Prelude.{◌≡◌, ◌↔◌, ℕ, IsUtf8, List, None, Option, Some};
+ghost use Rattle.std.specs.List.{AllByRecursion};
+ghost use Rattle.csv_tables.specs.Data.{PlainTable};
+ghost use Rattle.csv_tables.specs.Keys.{AreApart};
 ghost use Rattle.std.specs.FinMap as finite;
 ghost use Rattle.xa_outside.specs.Folder.{Files};
 ghost use Rattle.keyed_tree.specs.Data.{PlainKeyed};
 ghost use Rattle.keyed_tree.specs.Kids.{IsOrdered};
 ghost use Rattle.archive_tree.specs.Stands.{version_of};
 ghost use Rattle.archive_file.specs.KeyedBy.{IsKeyedBy};
-ghost use Rattle.xarch_words.specs.Commands.{PlainCommand, add, check, get, history, rekey, stats, versions};
+ghost use Rattle.xarch_words.specs.Commands.{AreForTable, PlainCommand, add, check, cut, export, get, history, key_names, log, rekey, stats, table, tablekeys, versions};
 ghost use Rattle.xarch_meanings.specs.Check.{checked};
 ghost use Rattle.xarch_meanings.specs.Get.{version_text};
 ghost use Rattle.xarch_meanings.specs.History.{history_text};
+ghost use Rattle.xarch_meanings.specs.Log.{logged};
+ghost use Rattle.xarch_meanings.specs.Table.{keys_tabled, tabled};
 ghost use Rattle.xarch_meanings.specs.Versions.{listed};
 ghost use Rattle.xarch_parts.specs.Outcome.{Step, step_from};
 ghost use Rattle.xarch_meanings.specs.Plausible.{Plausible};
 ghost use Rattle.xarch_meanings.specs.Step.{single_of};
 ghost use Rattle.xarch_meanings.specs.Succeeds.{ShouldSucceed};
 ghost use Rattle.xarch_run.specs.Calls.{Call, CallsDid, CommandMay, CommandsDid, CommandsLead};
-ghost use Rattle.xarch_run.specs.Held.{Accepted, Begun, ChangesOrTells, HandedIn, Held, Holds, HoldsBehind, HoldsExactly, IsHandedIn, IsRekeyed, MakesArchive, NoneMakes, RefusalsKeep, TakesKeys, TellsSoundness, WritesCounts};
+ghost use Rattle.xarch_run.specs.Held.{Accepted, Begun, ChangesOrTells, CutsOrTells, GoesOver, HandedIn, Held, Holds, HoldsBehind, HoldsExactly, IsHandedIn, IsRekeyed, MakesArchive, NoneMakes, RefusalsKeep, TakesKeys, TellsSoundness, WritesCounts, WritesText};
 ghost use Rattle.xarch_run.specs.Steps.{LineMay, files_after, line_command};
+ghost use Rattle.xarch_run.specs.Tabled.{HasDocument, HasKeys, IsForKeys};
 
 use archive_rekey::versions_have_one_rekeying;
+use csv_tables::{tables_read_back, tables_satisfy_their_keys};
 use noted_file::{full_files_have_one_reading, sound_files_are_full};
 use xarch_meanings::what_should_succeed_is_not_refused;
 
 /// After any list of commands, an archive's file is exactly the encoding of the handed-in documents
 /// that satisfied its keys, in order, and refused commands changed no file; `get` of a number
 /// writes that version with keyed siblings in key order; and `history` writes exactly the versions
-/// that hold the element.
+/// that hold the element. An archive that a `cut` made goes on from the versions that it was given.
 ///
 /// The encoding is that of the versions, and behind it of their notes, where one is not empty.
 ///
@@ -44,12 +51,12 @@ pub fn archives_hold_what_was_handed_in()
         → CommandsDid files commands steps → HandedIn files name commands steps held
         → HoldsExactly (files_after files steps) name held }
 
-    // An `init` or a `demo` that was not refused made such an archive, and an archive that stands
-    // goes on from what it holds. A name that has no file gets one only by a command that makes an
-    // archive.
+    // An `init`, a `demo`, or a `cut` of a sound archive that was not refused made such an archive,
+    // and an archive that stands goes on from what it holds. A name that has no file gets one only
+    // by a command that makes a new file.
     ensures made { (files : Files) (name : List ℕ) (command : Option PlainCommand) (s : Step)
         → CommandMay files command s → s.status ≡ 0 → MakesArchive name command
-        → Begun files name command s.files }
+        → GoesOver files command → Begun files name command s.files }
     ensures kept { (files : Files) (name : List ℕ) (commands : List (Option PlainCommand))
         (steps : List Step) (held : Held) → Holds files name held → CommandsDid files commands steps
         → HoldsBehind files name commands steps held }
@@ -105,6 +112,21 @@ pub fn archives_hold_what_was_handed_in()
         → Holds files name held → CommandMay files (Some (stats name)) s
         → WritesCounts files held s }
 
+    // Each content that an element or attribute has had is written with its versions, and the archive
+    // as text.
+    ensures logs { (files : Files) (name : List ℕ) (held : Held) (s : Step) (path : List ℕ)
+        → Holds files name held → CommandMay files (Some (log name path)) s
+        → s ≡ step_from files (logged files held.rules held.versions path) }
+    ensures exports { (files : Files) (name : List ℕ) (held : Held) (s : Step)
+        → Holds files name held → CommandMay files (Some (export name)) s
+        → WritesText files held s }
+
+    // A `cut` makes the archive of the versions from one to another with their notes, or tells why
+    // there is none.
+    ensures cuts { (files : Files) (name new : List ℕ) (i j : ℕ) (held : Held) (s : Step)
+        → Holds files name held → CommandMay files (Some (cut name new i j)) s
+        → CutsOrTells files new i j held s }
+
     // The numbers of the versions are listed, each with its note.
     ensures lists { (files : Files) (name : List ℕ) (held : Held) (s : Step)
         → Holds files name held → CommandMay files (Some (versions name)) s
@@ -133,4 +155,36 @@ pub fn archives_hold_what_was_handed_in()
     sound_files_are_full();
     what_should_succeed_is_not_refused();
     versions_have_one_rekeying();
+}
+
+/// What `table` makes is a document that satisfies the keys which `tablekeys` writes for the same tag
+/// and columns, and it is made exactly where no two rows have the same fields in all key columns. So an
+/// archive under that specification takes the document, within its limits.
+pub fn tables_make_documents_by_their_keys()
+    // What the commands do, over any files.
+    ensures tables { (files : Files) (csv tag keys doc : List ℕ) (s : Step)
+        → CommandMay files (Some (table csv tag keys doc)) s
+        → s ≡ step_from files (tabled files csv tag keys doc) }
+    ensures specifies { (files : Files) (tag keys spec : List ℕ) (s : Step)
+        → CommandMay files (Some (tablekeys tag keys spec)) s
+        → s ≡ step_from files (keys_tabled files tag keys spec) }
+
+    // Where `table` answers 0 the file is the printed document of the table, which reads back as it
+    // and satisfies the keys; nothing but rows that agree in their keys stands against it then.
+    ensures made { (files : Files) (csv tag keys doc : List ℕ) (s : Step)
+        → CommandMay files (Some (table csv tag keys doc)) s → s.status ≡ 0 → IsUtf8 tag
+        → HasDocument files csv tag keys doc s.files }
+    ensures apart { (files : Files) (csv tag keys doc : List ℕ) (table_read : PlainTable) (s : Step)
+        → CommandMay files (Some (table csv tag keys doc)) s
+        → IsForKeys files csv tag keys doc table_read
+        → (s.status ≡ 0) ↔ AreApart table_read (key_names keys) }
+
+    // Where `tablekeys` answers 0 the file is the canonical text of the keys, which reads back as them.
+    ensures specified { (files : Files) (tag keys spec : List ℕ) (s : Step)
+        → CommandMay files (Some (tablekeys tag keys spec)) s → s.status ≡ 0
+        → AreForTable tag keys → IsUtf8 tag → AllByRecursion IsUtf8 (key_names keys)
+        → HasKeys tag keys spec s.files }
+{
+    tables_read_back();
+    tables_satisfy_their_keys();
 }

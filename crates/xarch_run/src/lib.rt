@@ -13,6 +13,6 @@ mod stop;
 mod turn;
 mod words;
 
-pub use laws::archives_hold_what_was_handed_in;
+pub use laws::{archives_hold_what_was_handed_in, tables_make_documents_by_their_keys};
 pub use program::run;
 pub use xarch_words::{Command, Fault, Quantity, read_words, status, write_fault};

@@ -10,7 +10,7 @@ ghost use Rattle.xarch_words.specs.View.{words_view};
 ghost use Rattle.xarch_parts.specs.Ends.{Gained};
 ghost use Rattle.xarch_parts.specs.Folders.{IsTold};
 ghost use Rattle.xarch_parts.specs.Outcome.{Step};
-ghost use Rattle.xarch_writes.specs.FillsUp.{FillsUp};
+ghost use Rattle.xarch_meanings.specs.FillsUp.{FillsUp};
 ghost use Rattle.xarch_meanings.specs.OnePass.{GoesOnce};
 ghost use Rattle.xarch_meanings.specs.Plausible.{Tried, Wrote};
 ghost use Rattle.xarch_meanings.specs.Ran.{CountsAsSaid, MayHaveWritten, OnlyReads, Ran, Said, Says, outside_of};
@@ -31,8 +31,8 @@ use xarch_words::{Command, read_words};
 /// The words are those after the program's name. A batch takes its commands from the lines of
 /// `input`, which no other command reads. Every fault writes one line to `err`; a failure of `err`
 /// changes no status. Input files are read directly before the first step that judges their bytes:
-/// whole, but the archive of `add`, which is read record by record, and those of `get` and
-/// `history`, of which only what their searches look at is read.
+/// whole, but the archives of `add` and `cut`, which are read record by record, and those of `get`,
+/// `history` and `log`, of which only what their searches look at is read.
 pub fn run<F: Folder, S: Source, O: Sink, E: Sink>(
     alloc: Global,
     words: &[String],
@@ -73,7 +73,7 @@ pub fn run<F: Folder, S: Source, O: Sink, E: Sink>(
     // What any other command does where files are told: one of the steps that the words may have
     // the program take, and the one that is defined where the archive that they name is absent or
     // sound. Status, files, output and line are that step's, but after a fault of the outside,
-    // which leaves a prefix of its output. A refusal has no output, but where a `get` or a
+    // which leaves a prefix of its output. A refusal has no output, but where a `get`, a `log` or a
     // `versions` meets damage while it writes.
     ensures tried { (files : Files) → command_of (words_view words.now) ≢ Some batch
         → F.files folder.old ≡ Some files → outside_of result ≡ None
@@ -104,8 +104,8 @@ pub fn run<F: Folder, S: Source, O: Sink, E: Sink>(
         (E.taken err.old) (E.taken err.new) (E.faults err.old) (E.faults err.new) }
 
     // Whatever the folder tells, the answer is 0 or the status of a fault, whose line is said; the
-    // output only gains, and nothing after a refusal, but for a `get` or a `versions` that meets
-    // damage.
+    // output only gains, and nothing after a refusal, but for a `get`, a `log` or a `versions` that
+    // meets damage.
     ensures said { command_of (words_view words.now) ≢ Some batch
         → Said result (E.taken err.old) (E.taken err.new) (E.faults err.old) (E.faults err.new) }
     ensures gained { command_of (words_view words.now) ≢ Some batch
@@ -144,9 +144,9 @@ pub fn run<F: Folder, S: Source, O: Sink, E: Sink>(
     ensures draft_untold { F.draft folder.old ≡ None → F.draft folder.new ≡ None }
 
     // What is pulled and drafted: over a sound archive `add` goes once, and little of it is read
-    // that is not yet written; over any it is too long only where one more record does not fit
-    // behind the draft; and of a sound one `get` and `history` pull only what their searches look
-    // at. No count of faults falls.
+    // that is not yet written; over any, what `add` or `cut` makes is too long only where one more
+    // record does not fit behind the draft; and of a sound one `get` and `history` pull only what
+    // their searches look at, and `log` that and the leaf. No count of faults falls.
     ensures counts { CountsAsSaid (command_of (words_view words.now)) (F.files folder.old)
         (F.numbers folder.old) (F.numbers folder.new) }
     ensures one_pass { GoesOnce (command_of (words_view words.now)) (F.files folder.old)

@@ -1,10 +1,10 @@
 -- When words are refused by a limit.
 use Rattle.std.proofs.Common.{◌≡◌, ℕ, ◌+◌, List, Option, Some, None, sym, subst, arith}
 use Rattle.xa_outside.specs.Folder.{Files}
-use Rattle.xarch_words.specs.Commands.{PlainCommand, norm, init, add, rekey, get, history, check, stats, versions, batch, demo}
-use Rattle.xarch_words.specs.Refusal.{usage, no_file, exists, bad_spec, bad_json, bad_shape, key_fault, key_fault_in, no_version, bad_path, damaged, limit, PlainFault, refused, folder_fault, out_fault, in_fault, memory}
+use Rattle.xarch_words.specs.Commands.{PlainCommand, norm, init, add, rekey, get, history, log, check, stats, versions, export, cut, table, tablekeys, batch, demo}
+use Rattle.xarch_words.specs.Refusal.{usage, no_file, exists, bad_spec, bad_json, bad_shape, key_fault, key_fault_in, no_version, bad_path, damaged, limit, not_frontier, bad_csv, PlainFault, refused, folder_fault, out_fault, in_fault, memory}
 use Rattle.xarch_meanings.specs.Ran.{status_after}
-use Rattle.xarch_writes.specs.FillsUp.{FillsUp, IsLimited}
+use Rattle.xarch_meanings.specs.FillsUp.{FillsUp, IsLimited}
 
 -- the status of a limit is that of no other fault
 pub limited-status : (v : Option PlainFault) (n : ℕ) → n ≡ status_after v → n ≡ 12 → IsLimited v
@@ -21,6 +21,8 @@ limited-status (Some (refused (no_version i m))) n s e = (let z : n ≡ 9 = s in
 limited-status (Some (refused (bad_path step))) n s e = (let z : n ≡ 10 = s in absurd (omega (arith, z, e)))
 limited-status (Some (refused (damaged name))) n s e = (let z : n ≡ 11 = s in absurd (omega (arith, z, e)))
 limited-status (Some (refused (limit quantity number))) n s e = tt
+limited-status (Some (refused not_frontier)) n s e = (let z : n ≡ 17 = s in absurd (omega (arith, z, e)))
+limited-status (Some (refused (bad_csv row why))) n s e = (let z : n ≡ 19 = s in absurd (omega (arith, z, e)))
 limited-status (Some folder_fault) n s e = (let z : n ≡ 13 = s in absurd (omega (arith, z, e)))
 limited-status (Some out_fault) n s e = (let z : n ≡ 14 = s in absurd (omega (arith, z, e)))
 limited-status (Some in_fault) n s e = (let z : n ≡ 15 = s in absurd (omega (arith, z, e)))
@@ -34,9 +36,14 @@ fills_by (Some (add archive doc note)) told draft P Q f h = λ files rules n tre
 fills_by (Some (rekey archive spec)) told draft P Q f h = tt
 fills_by (Some (get archive i)) told draft P Q f h = tt
 fills_by (Some (history archive path)) told draft P Q f h = tt
+fills_by (Some (log archive path)) told draft P Q f h = tt
 fills_by (Some (check archive)) told draft P Q f h = tt
 fills_by (Some (stats archive)) told draft P Q f h = tt
 fills_by (Some (versions archive)) told draft P Q f h = tt
+fills_by (Some (export archive)) told draft P Q f h = tt
+fills_by (Some (cut archive new i j)) told draft P Q f h = λ files rules n b is input limited. h files rules n b is input (f limited)
+fills_by (Some (table csv tag keys doc)) told draft P Q f h = tt
+fills_by (Some (tablekeys tag keys spec)) told draft P Q f h = tt
 fills_by (Some batch) told draft P Q f h = tt
 fills_by (Some (demo seed count archive)) told draft P Q f h = tt
 

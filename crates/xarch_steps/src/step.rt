@@ -4,7 +4,7 @@ ghost use Rattle.std.specs.Prelude.{◌≡◌, ◌≢◌, ◌≤◌, ◌<◌, �
 ghost use Rattle.xa_outside.specs.Causes.{Rose};
 ghost use Rattle.xa_outside.specs.Folder.{Files};
 ghost use Rattle.xa_outside.specs.Taken.{TakesNone};
-ghost use Rattle.xarch_words.specs.Commands.{HasPrintedNote, PlainCommand, command_of, demo};
+ghost use Rattle.xarch_words.specs.Commands.{IsSpelled, PlainCommand, command_of, demo};
 ghost use Rattle.xarch_words.specs.Lines.{fault_line};
 ghost use Rattle.xarch_words.specs.Refusal as refusal;
 ghost use Rattle.xarch_words.specs.Refusal.{limit, refused};
@@ -19,13 +19,16 @@ ghost use Rattle.xarch_meanings.specs.Ran.{CountsAsSaid, MayHaveWritten, OnlyRea
 ghost use Rattle.xarch_meanings.specs.ReadsBack.{ReadsLittle};
 ghost use Rattle.xarch_meanings.specs.Step.{StepIs, alone, single_of};
 ghost use Rattle.xarch_meanings.specs.Succeeds.{ShouldSucceed};
-ghost use Rattle.xarch_writes.specs.FillsUp.{FillsUp, IsLimited};
+ghost use Rattle.xarch_meanings.specs.FillsUp.{FillsUp, IsLimited};
 ghost use Rattle.xarch_steps.specs.Obeys.{Obeys};
 
 use std::alloc::Global;
 use xa_outside::{Folder, Sink};
+use xarch_copies::run_cut;
 use xarch_meanings::{commands_take_one_step, what_should_succeed_is_not_refused};
-use xarch_reads::{run_check, run_get, run_history, run_norm, run_stats, run_versions};
+use xarch_reads::{run_check, run_get, run_history, run_log, run_norm, run_stats, run_versions};
+use xarch_tables::{run_table, run_tablekeys};
+use xarch_texts::run_export;
 use xarch_words::{Command, Fault, read_words, status, write_fault};
 use xarch_writes::{run_add, run_demo, run_init, run_rekey};
 
@@ -33,8 +36,8 @@ use xarch_writes::{run_add, run_demo, run_init, run_rekey};
 ///
 /// Words that are no command, and `batch`, are refused. Every fault writes one line to `err`; a
 /// failure of `err` changes no status. Input files are read directly before the first step that
-/// judges their bytes: whole, but the archive of `add`, which is read record by record, and those of
-/// `get` and `history`, of which only what their searches look at is read.
+/// judges their bytes: whole, but the archives of `add` and `cut`, which are read record by record, and
+/// those of `get`, `history` and `log`, of which only what their searches look at is read.
 pub fn take_step<F: Folder, O: Sink, E: Sink>(
     alloc: Global,
     words: &[String],
@@ -45,8 +48,8 @@ pub fn take_step<F: Folder, O: Sink, E: Sink>(
     // What is done where files are told: one of the steps that the words may have the program take,
     // and the one that is defined where the archive that they name is absent or sound. Status,
     // files, output and line are that step's, but after a fault of the outside, which leaves a
-    // prefix of its output. A refusal has no output, but where a `get` or a `versions` meets damage
-    // while it writes.
+    // prefix of its output. A refusal has no output, but where a `get`, a `log` or a `versions` meets
+    // damage while it writes.
     ensures tried { (files : Files) → F.files folder.old ≡ Some files → outside_of result ≡ None
         → Tried files (words_view words.now) result (F.files folder.new) (O.taken out.old)
         (O.taken out.new) (E.taken err.old) (E.taken err.new) (E.faults err.old)
@@ -54,8 +57,8 @@ pub fn take_step<F: Folder, O: Sink, E: Sink>(
     ensures wrote { (files : Files) → F.files folder.old ≡ Some files
         → Wrote files (words_view words.now) (O.taken out.old) (O.taken out.new) }
 
-    // What is written whatever the folder tells: nothing where a command is refused, but for a `get`
-    // or a `versions` that meets damage while it writes.
+    // What is written whatever the folder tells: nothing where a command is refused, but for a `get`,
+    // a `log` or a `versions` that meets damage while it writes.
     ensures gained { Gained (O.taken out.old) (O.taken out.new) }
     ensures nothing { result ≢ 0 → outside_of result ≡ None
         → ¬ MayHaveWritten (single_of (words_view words.now)) result
@@ -140,7 +143,7 @@ fn command_words<F: Folder, O: Sink>(
 fn single_command(words: &[String]) -> Option<Command<'_>>
     ensures is { option_map command_view result ≡ single_of (words_view words.now) }
     ensures alone { alone (option_map command_view result) ≡ option_map command_view result }
-    ensures printed { IfSome result (λ command. HasPrintedNote (command_view command)) }
+    ensures spelled { IfSome result (λ command. IsSpelled (command_view command)) }
 {
     match read_words(words)? {
         Command::Batch => None,
@@ -156,7 +159,7 @@ fn run_command<F: Folder, O: Sink>(
     out: &mut O,
 ) -> Result<(), Fault>
     requires alone { alone (Some (command_view command)) ≡ Some (command_view command) }
-    requires printed { HasPrintedNote (command_view command) }
+    requires spelled { IsSpelled (command_view command) }
     ensures performs { Performs F.files F.draft F.numbers F.faults (command_view command.entry)
         folder.old folder.new (O.taken out.old) (O.taken out.new)
         (O.faults out.old) (O.faults out.new) (fault_of result) }
@@ -170,9 +173,24 @@ fn run_command<F: Folder, O: Sink>(
         Command::Rekey { archive, spec } => run_rekey(alloc, archive, spec, folder),
         Command::Get { archive, version } => run_get(alloc, archive, version, folder, out),
         Command::History { archive, path } => run_history(alloc, archive, path, folder, out),
+        Command::Log { archive, path } => run_log(alloc, archive, path, folder, out),
         Command::Check { archive } => run_check(alloc, archive, folder, out),
         Command::Stats { archive } => run_stats(alloc, archive, folder, out),
         Command::Versions { archive } => run_versions(alloc, archive, folder, out),
+        Command::Export { archive } => run_export(alloc, archive, folder, out),
+        Command::Cut {
+            archive,
+            new,
+            first,
+            last,
+        } => run_cut(alloc, archive, new, first, last, folder),
+        Command::Table {
+            csv,
+            tag,
+            keys,
+            doc,
+        } => run_table(alloc, csv, tag, keys, doc, folder),
+        Command::TableKeys { tag, keys, spec } => run_tablekeys(alloc, tag, keys, spec, folder),
         Command::Demo {
             seed,
             count,

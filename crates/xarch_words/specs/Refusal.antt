@@ -35,6 +35,9 @@ pub data Refusal : Type 0 where
   damaged : List ℕ → Refusal
   -- the quantity and the number that it passed
   limit : PlainQuantity → ℕ → Refusal
+  not_frontier : Refusal
+  -- the record, which counts from 1, or 0 where there is none, and why
+  bad_csv : ℕ → ℕ → Refusal
 
 -- A fault is a refusal, a failure of the folder, of the output or of the input, or want of memory.
 pub data PlainFault : Type 0 where

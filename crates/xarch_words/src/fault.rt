@@ -63,6 +63,11 @@ pub enum Fault {
     Damaged { name: String },
     /// A quantity is above this number.
     Limit { quantity: Quantity, number: u64 },
+    /// The path ends in no attribute and in no element at the frontier.
+    NotFrontier,
+    /// The record of a table is bad. Records count from 1, the heading being the first; record 0
+    /// stands for the table as a whole.
+    BadCsv { row: u64, why: u8 },
     FolderFault,
     OutFault,
     InFault,
@@ -102,6 +107,8 @@ pub fn status(fault: &Fault) -> u8
         Fault::BadPath { .. } => 10,
         Fault::Damaged { .. } => 11,
         Fault::Limit { .. } => 12,
+        Fault::NotFrontier => 17,
+        Fault::BadCsv { .. } => 19,
         Fault::FolderFault => 13,
         Fault::OutFault => 14,
         Fault::InFault => 15,

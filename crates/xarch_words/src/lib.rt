@@ -2,6 +2,7 @@
 #![tactic(auto)]
 
 mod fault;
+mod keys;
 mod line;
 mod words;
 

@@ -75,6 +75,8 @@ fn put_text<E: Sink>(err: &mut E, fault: &Fault) -> Result<(), Failed>
         Fault::BadPath { step } => put_number(err, b"bad path, step ", *step),
         Fault::Damaged { name } => put_both(err, b"damaged archive ", name.as_bytes()),
         Fault::Limit { quantity, number } => put_limit(err, *quantity, *number),
+        Fault::NotFrontier => put_all(err, b"path is not at the frontier"),
+        Fault::BadCsv { row, why } => put_line(err, b"bad table, record ", *row, *why),
         Fault::FolderFault => put_all(err, b"folder fault"),
         Fault::OutFault => put_all(err, b"output fault"),
         Fault::InFault => put_all(err, b"input fault"),
@@ -107,9 +109,9 @@ fn put_why<E: Sink>(err: &mut E, why: u8) -> Result<(), Failed>
     put_number(err, b", why ", why)
 }
 
-fn put_line<E: Sink>(err: &mut E, before: &[u8], line: u32, why: u8) -> Result<(), Failed>
+fn put_line<E: Sink, N: Integer>(err: &mut E, before: &[u8], line: N, why: u8) -> Result<(), Failed>
     ensures bytes { Puts (E.taken err.old) (E.taken err.new) result
-        (before.now ++ decimal line ++ why_text why) }
+        (before.now ++ N.text line ++ why_text why) }
     ensures cause { HasCause (E.faults err.old) (E.faults err.new) result }
 {
     put_number(err, before, line)?;

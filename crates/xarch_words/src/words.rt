@@ -1,10 +1,13 @@
-ghost use Rattle.std.specs.Prelude.{◌≡◌, option_map, IfSome};
-ghost use Rattle.xarch_words.specs.Commands.{HasPrintedNote, command_of, command_of_four, command_of_one};
-ghost use Rattle.xarch_words.specs.Commands.{command_of_three, command_of_two, demo_of, get};
-ghost use Rattle.xarch_words.specs.Commands.{noted, number_of, question_of};
+ghost use Rattle.std.specs.Prelude.{◌≡◌, ◌≤◌, option_map, IfSome, map, length};
+ghost use Rattle.xarch_words.specs.Commands.{IsSpelled, command_of, command_of_five, command_of_four};
+ghost use Rattle.xarch_words.specs.Commands.{command_of_one, command_of_three, command_of_two, cut_of};
+ghost use Rattle.xarch_words.specs.Commands.{demo_of, get, noted, number_of, question_of, table_of};
+ghost use Rattle.xarch_words.specs.Commands.{tablekeys_of};
 ghost use Rattle.xarch_words.specs.View.{command_view, words_view};
 
+use crate::keys::are_keys;
 use itoa::Buffer;
+use key_spec::is_name;
 use version_notes::is_printed;
 
 /// One command, with the names that its words give.
@@ -42,6 +45,11 @@ pub enum Command<'a> {
         archive: &'a str,
         path: &'a str,
     },
+    /// Writes each content that the element or attribute at a path has had, with its versions.
+    Log {
+        archive: &'a str,
+        path: &'a str,
+    },
     /// Tells whether a file is a sound archive, and of how many versions.
     Check {
         archive: &'a str,
@@ -53,6 +61,35 @@ pub enum Command<'a> {
     /// Writes the number of each version of an archive, and its note.
     Versions {
         archive: &'a str,
+    },
+    /// Writes an archive as text.
+    Export {
+        archive: &'a str,
+    },
+    /// Makes an archive of some versions of another, which are counted from 1 there.
+    Cut {
+        archive: &'a str,
+        new: &'a str,
+        first: u32,
+        /// Not before the first.
+        last: u32,
+    },
+    /// Makes a document of a table of comma-separated fields.
+    Table {
+        csv: &'a str,
+        /// A name.
+        tag: &'a str,
+        /// From 1 to 16 names, all different, with a comma between any two.
+        keys: &'a str,
+        doc: &'a str,
+    },
+    /// Makes the specification for the document of a table.
+    TableKeys {
+        /// A name.
+        tag: &'a str,
+        /// From 1 to 16 names, all different, with a comma between any two.
+        keys: &'a str,
+        spec: &'a str,
     },
     /// Runs the commands that the input spells.
     Batch,
@@ -67,13 +104,14 @@ pub enum Command<'a> {
 /// The command that the words spell, or None where they are no command. It takes no memory.
 pub fn read_words(words: &[String]) -> Option<Command<'_>>
     ensures command { option_map command_view result ≡ command_of (words_view words.now) }
-    ensures printed { IfSome result (λ command. HasPrintedNote (command_view command)) }
+    ensures spelled { IfSome result (λ command. IsSpelled (command_view command)) }
 {
     match words {
         [word] => one_word(word),
         [word, archive] => two_words(word, archive),
         [word, first, second] => three_words(word, first, second),
         [word, first, second, third] => four_words(word, first, second, third),
+        [word, first, second, third, fourth] => five_words(word, first, second, third, fourth),
         _ => None,
     }
 }
@@ -94,6 +132,7 @@ fn two_words<'a>(word: &str, archive: &'a str) -> Option<Command<'a>>
         "check" => Some(Command::Check { archive }),
         "stats" => Some(Command::Stats { archive }),
         "versions" => Some(Command::Versions { archive }),
+        "export" => Some(Command::Export { archive }),
         _ => None,
     }
 }
@@ -135,6 +174,10 @@ fn question<'a>(word: &str, archive: &'a str, what: &'a str) -> Option<Command<'
             archive,
             path: what,
         }),
+        "log" => Some(Command::Log {
+            archive,
+            path: what,
+        }),
         _ => None,
     }
 }
@@ -158,6 +201,25 @@ fn four_words<'a>(
     match word {
         "add" => add_noted(first, second, third),
         "demo" => demo_from(first, second, third),
+        "tablekeys" => tablekeys_from(first, second, third),
+        _ => None,
+    }
+}
+
+#[tactic(auto, unfolding(crate::specs::Commands::command_of_five))]
+fn five_words<'a>(
+    word: &str,
+    first: &'a str,
+    second: &'a str,
+    third: &'a str,
+    fourth: &'a str,
+) -> Option<Command<'a>>
+    ensures { option_map command_view result
+        ≡ command_of_five word.now first.now second.now third.now fourth.now }
+{
+    match word {
+        "cut" => cut_from(first, second, third, fourth),
+        "table" => table_from(first, second, third, fourth),
         _ => None,
     }
 }
@@ -186,6 +248,48 @@ fn demo_from<'a>(seed: &str, count: &str, archive: &'a str) -> Option<Command<'a
         count,
         archive,
     })
+}
+
+fn cut_from<'a>(archive: &'a str, new: &'a str, first: &str, last: &str) -> Option<Command<'a>>
+    ensures { option_map command_view result ≡ cut_of archive.now new.now first.now last.now }
+{
+    let first = read_number(first)?;
+    let last = read_number(last)?;
+    if first <= last {
+        Some(Command::Cut {
+            archive,
+            new,
+            first,
+            last,
+        })
+    } else {
+        None
+    }
+}
+
+fn table_from<'a>(csv: &'a str, tag: &'a str, keys: &'a str, doc: &'a str) -> Option<Command<'a>>
+    ensures { option_map command_view result ≡ table_of csv.now tag.now keys.now doc.now }
+{
+    if is_name(tag) && are_keys(keys) {
+        Some(Command::Table {
+            csv,
+            tag,
+            keys,
+            doc,
+        })
+    } else {
+        None
+    }
+}
+
+fn tablekeys_from<'a>(tag: &'a str, keys: &'a str, spec: &'a str) -> Option<Command<'a>>
+    ensures { option_map command_view result ≡ tablekeys_of tag.now keys.now spec.now }
+{
+    if is_name(tag) && are_keys(keys) {
+        Some(Command::TableKeys { tag, keys, spec })
+    } else {
+        None
+    }
 }
 
 /// The number that a word spells as this program would print it, if it has 32 bits.

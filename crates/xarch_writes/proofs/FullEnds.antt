@@ -15,7 +15,7 @@ use Rattle.xarch_parts.specs.Ends.{IsDefined, fault_of}
 use Rattle.xarch_parts.specs.Outcome.{and_then}
 use Rattle.xarch_meanings.specs.Add.{room_behind, tree_of}
 use Rattle.xarch_writes.specs.Added.{IsToldAs}
-use Rattle.xarch_writes.specs.FillsUp.{IsLimited}
+use Rattle.xarch_meanings.specs.FillsUp.{IsLimited}
 use Rattle.xarch_meanings.specs.Plausible.{add_input, text_read, with_tree}
 
 -- ---- faults

@@ -25,7 +25,7 @@ use Rattle.xarch_parts.specs.Ends.{IsDefined, IsInside, IsOfFolder, fault_of}
 use Rattle.xarch_parts.specs.Inputs.{at_most}
 use Rattle.xarch_parts.specs.Noted.{IsOfNotes, notes_bytes}
 use Rattle.xarch_writes.specs.Appending.{GainsNotes, NotesEnd}
-use Rattle.xarch_writes.specs.FillsUp.{IsLimited}
+use Rattle.xarch_meanings.specs.FillsUp.{IsLimited}
 use Rattle.xarch_writes.proofs.Growing.{gained-more}
 
 -- ---- lists of notes with one more

@@ -1,4 +1,3 @@
 pub mod Added
 pub mod Appending
-pub mod FillsUp
 pub mod Rekeyed

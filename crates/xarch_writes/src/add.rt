@@ -19,7 +19,7 @@ ghost use Rattle.stream_merge.specs.Added.{Appended, Overfull};
 ghost use Rattle.stream_merge.specs.Short.{IsShortTree};
 ghost use Rattle.xarch_writes.specs.Added.{IsToldAs, KeepsUp, Merges, RecordsEnd, read_view};
 ghost use Rattle.xarch_writes.specs.Appending.{Grows};
-ghost use Rattle.xarch_writes.specs.FillsUp.{FillsUp, IsLimited};
+ghost use Rattle.xarch_meanings.specs.FillsUp.{FillsUp, IsLimited};
 ghost use Rattle.xarch_meanings.specs.OnePass.{document_size, front_size};
 ghost use Rattle.xarch_meanings.specs.Performs.{Performs};
 ghost use Rattle.xarch_parts.specs.Archives.{ArchiveIs, IsBlank, IsFrontOf, PartsAre, short_note};

@@ -1,4 +1,4 @@
-use Rattle.std.proofs.Common.{refl, ◌∙◌}
+use Rattle.std.proofs.Common.{refl}
 use Rattle.xarch_parts.specs.Ends.{IsInside, IsOfFolder}
 use Rattle.xarch_parts.specs.EndLaws.{IsOfFolder-inside}
 use Rattle.xarch_parts.specs.CoreLaws.{core-front}

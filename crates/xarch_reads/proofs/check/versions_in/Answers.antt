@@ -1,4 +1,4 @@
-use Rattle.std.proofs.Common.{◌+◌, ◌∙◌, take, arith}
+use Rattle.std.proofs.Common.{◌∙◌, take, arith}
 use Rattle.xarch_parts.specs.CoreLaws.{of-parts}
 use Rattle.xarch_parts.specs.EndLaws.{IfOk-passed}
 use Rattle.xarch_parts.specs.FolderLaws.{reads-more, reads-passed}

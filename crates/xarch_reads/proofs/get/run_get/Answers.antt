@@ -1,4 +1,4 @@
-use Rattle.std.proofs.Common.{inl, ◌+◌, ◌∙◌, take, refl, arith}
+use Rattle.std.proofs.Common.{inl, ◌∙◌, take, refl, arith}
 use Rattle.xa_outside.specs.NumberLaws.{PullsAtMost-more}
 use Rattle.xarch_words.specs.Commands.{get}
 use Rattle.xarch_words.specs.View.{fault_view}

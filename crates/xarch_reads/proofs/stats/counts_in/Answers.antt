@@ -1,4 +1,4 @@
-use Rattle.std.proofs.Common.{◌+◌, ◌∙◌, arith}
+use Rattle.std.proofs.Common.{◌∙◌, arith}
 use Rattle.archive_stats.specs.View.{counts_view}
 use Rattle.xarch_words.specs.View.{fault_view}
 use Rattle.xarch_parts.specs.Ends.{IsInside, IsOfFolder}

@@ -1,4 +1,4 @@
-use Rattle.std.proofs.Common.{◌≡◌, sym, ◌∙◌, ap, subst}
+use Rattle.std.proofs.Common.{sym, ◌∙◌, subst}
 use Rattle.xa_outside.specs.TakenLaws.{Takes-nil}
 use Rattle.xa_outside.specs.Taken.{Takes}
 use Rattle.xarch_meanings.specs.Versions.{note_text}

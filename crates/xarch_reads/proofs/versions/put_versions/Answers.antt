@@ -1,13 +1,12 @@
-use Rattle.std.proofs.Common.{◌≡◌, ℕ, ◌+◌, ◌≤◌, List, Option, Some, IfSome, refl, sym, ap, ◌∙◌, subst, arith}
-use Rattle.std.specs.Prelude.{String, string_bytes}
-use Rattle.std.specs.Global.{Global}
-use Rattle.xa_outside.specs.Taken.{Taken, Takes, TakesPrefix}
+use Rattle.std.proofs.Common.{ℕ, ◌+◌, ◌≤◌, List, IfSome, refl, sym, ap, ◌∙◌, subst, arith}
+use Rattle.std.specs.Prelude.{string_bytes}
+use Rattle.xa_outside.specs.Taken.{Takes, TakesPrefix}
 use Rattle.version_notes.specs.declared.place.Place.{Place}
 use Rattle.version_notes.specs.Reader.{PlainReader}
 use Rattle.xarch_words.specs.View.{fault_view}
 use Rattle.xarch_meanings.specs.Versions.{version_line}
-use Rattle.xarch_reads.specs.Written.{WrittenState, written_state}
-use Rattle.xarch_reads.proofs.ListLemmas.{SoFar, begun, finished, put-front, put-rose, put-whole, stopped-reading, stopped-writing, went-on}
+use Rattle.xarch_reads.specs.Written.{written_state}
+use Rattle.xarch_reads.proofs.ListLemmas.{begun, finished, put-front, put-rose, put-whole, stopped-reading, stopped-writing, went-on}
 use Rattle.xarch_reads.proofs.versions.put_versions.Goals as goal
 
 pub loop-note-init : goal.loop-note-init

@@ -1,4 +1,3 @@
-use Rattle.std.proofs.Common.{ℕ}
 use Rattle.xarch_reads.specs.Written.{written_state}
 use Rattle.xarch_reads.proofs.ListLemmas.{SoFar}
 use Rattle.xarch_reads.proofs.versions.put_versions.Given as goal

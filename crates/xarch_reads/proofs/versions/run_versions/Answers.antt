@@ -1,4 +1,4 @@
-use Rattle.std.proofs.Common.{inl, ◌≡◌, ◌+◌, ◌∙◌, arith}
+use Rattle.std.proofs.Common.{inl, ◌≡◌, ◌∙◌, arith}
 use Rattle.record_cursor.specs.View.{header_view}
 use Rattle.xarch_words.specs.Commands.{versions}
 use Rattle.xarch_words.specs.Refusal.{Refusal, memory, refused}

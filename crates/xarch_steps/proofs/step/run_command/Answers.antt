@@ -18,6 +18,9 @@ returns-in-Get g c = record { performs = rw c.in-Get.is c.run_get.ensures; fills
 pub returns-in-History : goal.returns-in-History
 returns-in-History g c = record { performs = rw c.in-History.is c.run_history.ensures; fills = rw c.in-History.is tt }
 
+pub returns-in-Log : goal.returns-in-Log
+returns-in-Log g c = record { performs = rw c.in-Log.is c.run_log.ensures; fills = rw c.in-Log.is tt }
+
 pub returns-in-Check : goal.returns-in-Check
 returns-in-Check g c = record { performs = rw c.in-Check.is c.run_check.ensures; fills = rw c.in-Check.is tt }
 
@@ -26,6 +29,18 @@ returns-in-Stats g c = record { performs = rw c.in-Stats.is c.run_stats.ensures;
 
 pub returns-in-Versions : goal.returns-in-Versions
 returns-in-Versions g c = record { performs = rw c.in-Versions.is c.run_versions.ensures; fills = rw c.in-Versions.is tt }
+
+pub returns-in-Export : goal.returns-in-Export
+returns-in-Export g c = record { performs = rw c.in-Export.is c.run_export.ensures; fills = rw c.in-Export.is tt }
+
+pub returns-in-Cut : goal.returns-in-Cut
+returns-in-Cut g c = record { performs = rw c.in-Cut.is (c.run_cut.ensures.performs (g.O.Sink.taken c.args.out.now) (g.O.Sink.faults c.args.out.now)); fills = rw c.in-Cut.is c.run_cut.ensures.fills }
+
+pub returns-in-Table : goal.returns-in-Table
+returns-in-Table g c = record { performs = rw c.in-Table.is (c.run_table.ensures (g.O.Sink.taken c.args.out.now) (g.O.Sink.faults c.args.out.now)); fills = rw c.in-Table.is tt }
+
+pub returns-in-TableKeys : goal.returns-in-TableKeys
+returns-in-TableKeys g c = record { performs = rw c.in-TableKeys.is (c.run_tablekeys.ensures (g.O.Sink.taken c.args.out.now) (g.O.Sink.faults c.args.out.now)); fills = rw c.in-TableKeys.is tt }
 
 pub returns-in-Demo : goal.returns-in-Demo
 returns-in-Demo g c = record { performs = rw c.in-Demo.is c.run_demo.ensures; fills = rw c.in-Demo.is tt }

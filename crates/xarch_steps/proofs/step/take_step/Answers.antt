@@ -6,7 +6,7 @@ use Rattle.xarch_meanings.specs.Plausible.{Tried}
 use Rattle.xarch_meanings.specs.Ran.{MayHaveWritten, outside_of, status_after}
 use Rattle.xarch_meanings.specs.Step.{single_of}
 use Rattle.xarch_meanings.specs.CommandLaws.{once_by}
-use Rattle.xarch_writes.specs.FillsUp.{IsLimited}
+use Rattle.xarch_meanings.specs.FillsUp.{IsLimited}
 use Rattle.xarch_steps.proofs.Filling.{fills_by, limited-status}
 use Rattle.xarch_steps.proofs.Running.{complete-from, failed-some, folder_fault-caused, gained-any, gained-refused, long_demo-alone, out_fault-caused, says-fault, status_after-input, status_after-usage, Tried-from, Wrote-from}
 use Rattle.xarch_steps.proofs.Succeeding.{succeeds-from}

@@ -13,7 +13,7 @@ use Rattle.xarch_parts.specs.Noted.{AreWithin, notes_bytes}
 use Rattle.xarch_meanings.specs.OnePass.{document_size, front_size}
 use Rattle.xarch_meanings.specs.Plausible.{MayBe, text_read}
 use Rattle.xarch_meanings.specs.ReadLaws.{reads-once}
-use Rattle.xarch_writes.specs.FillsUp.{IsLimited}
+use Rattle.xarch_meanings.specs.FillsUp.{IsLimited}
 use Rattle.xarch_writes.proofs.AddEnds.{may_refuse_note, may_refuse_text, may-ended}
 use Rattle.xarch_writes.proofs.FullEnds.{full-by, given, limited-given, limited-passed}
 use Rattle.xarch_writes.proofs.NotesEnds.{note-is}

@@ -1,11 +1,11 @@
-use Rattle.std.proofs.Common.{◌+◌, Ok, ap, ◌∙◌, arith}
+use Rattle.std.proofs.Common.{Ok, ap, arith}
 use Rattle.record_cursor.specs.View.{header_view}
 use Rattle.xarch_words.specs.View.{fault_view}
 use Rattle.xarch_parts.specs.EndLaws.{IfOk-passed, IsDefined-here, IsDefined-next, Matches-passed, and_then-Ok}
 use Rattle.xarch_parts.specs.FolderLaws.{reads-inside, reads-passed}
-use Rattle.xarch_reads.proofs.HistoryEnds.{beside}
+use Rattle.xarch_reads.proofs.PathEnds.{beside}
 use Rattle.xarch_meanings.specs.History.{labels_of}
-use Rattle.xarch_reads.proofs.history.read_asked.Goals as goal
+use Rattle.xarch_reads.proofs.asked.read_asked.Goals as goal
 
 -- ---- no header is read
 

@@ -1,15 +1,16 @@
--- When an `add` is refused since the new file would be too long.
+-- When an `add` or a `cut` is refused since the new file would be too long.
 use Rattle.std.specs.Prelude.{◌≡◌, ℕ, ◌+◌, ◌≤◌, List, Option, Some, Ok, ⊤}
 use Rattle.xa_outside.specs.Folder.{Files}
 use Rattle.key_spec.specs.Data.{PlainRule}
 use Rattle.keyed_tree.specs.Data.{PlainKeyed}
+use Rattle.archive_cut.specs.Cut as cutting
 use Rattle.stream_merge.specs.Added.{Overfull}
 use Rattle.stream_merge.specs.Short.{IsShortTree}
-use Rattle.xarch_words.specs.Commands.{PlainCommand, add}
+use Rattle.xarch_words.specs.Commands.{PlainCommand, add, cut}
 use Rattle.xarch_words.specs.Refusal.{PlainFault, limit, refused}
 use Rattle.xarch_parts.specs.Archives.{short_note}
 use Rattle.xarch_parts.specs.Inputs.{size_in}
-use Rattle.xarch_meanings.specs.Plausible.{add_input}
+use Rattle.xarch_meanings.specs.Plausible.{add_input, cut_input}
 
 -- it was refused by a limit
 abbrev pub IsLimited : Option PlainFault → Type 0
@@ -18,9 +19,12 @@ IsLimited other = ⊥
 
 -- Whatever the archive is: an `add` with a note that is short enough, which what it reads first does not refuse, is refused by a limit only where one more
 -- call of the writer does not fit behind the draft, and each part that a call was given takes at most so many bytes, as many as the archive, each label
--- and each body of the document's keyed tree, if those fit their fields. The draft holds no note then. Of no other command is anything said.
+-- and each body of the document's keyed tree, if those fit their fields. The draft holds no note then. So is a `cut`: each label and body that a
+-- call was given takes at most so many bytes, and each set is what is left of one that does. Of no other command is anything said.
 abbrev pub FillsUp : Option PlainCommand → Option Files → Option (List ℕ) → Type 0 → Type 0
 FillsUp (Some (add archive doc note)) told draft limited =
     (files : Files) (rules : List PlainRule) (n : ℕ) (tree : PlainKeyed) (b : ℕ) → told ≡ Some files → short_note note ≡ Ok tt → add_input files archive doc ≡ Ok ((rules, n), tree) → limited → size_in told archive + 12 ≤ b → IsShortTree b tree
     → Overfull b rules (n + 1) draft
+FillsUp (Some (cut archive new i j)) told draft limited =
+    (files : Files) (rules : List PlainRule) (n b : ℕ) → told ≡ Some files → cut_input files archive new i j ≡ Ok (rules, n) → limited → size_in told archive + 12 ≤ b → cutting.Overfull b rules i j draft
 FillsUp other told draft limited = ⊤

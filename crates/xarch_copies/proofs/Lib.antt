@@ -1,0 +1,5 @@
+pub mod CutEnds
+pub mod Cutting
+pub mod Extending
+pub mod NoteEnds
+pub mod Slicing

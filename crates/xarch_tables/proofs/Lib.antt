@@ -1,0 +1,4 @@
+pub mod ApartLemmas
+pub mod DocumentEnds
+pub mod Pages
+pub mod TableEnds

@@ -1,0 +1,3 @@
+pub mod ExportEnds
+pub mod GivingLemmas
+pub mod NotesRead
