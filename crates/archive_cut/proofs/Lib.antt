@@ -1,4 +1,5 @@
 pub mod Clips
+pub mod Pieces
 pub mod Windows
 pub mod Stamps
 pub mod LeftAlts

@@ -1,9 +1,13 @@
--- What is left of stamps under a parent of which a set is left.
-use Rattle.std.specs.Prelude.{ℕ, List, Option, Some, None, if◌then◌else◌}
+-- What is left of intervals, and of stamps under a parent of which a set is left.
+use Rattle.std.specs.Prelude.{ℕ, ◌+◌, ◌-◌, max, min, nat_le, List, [], ◌∷◌, Option, Some, None, if◌then◌else◌}
 use Rattle.version_set.specs.Members.{members}
 use Rattle.archive_tree.specs.Data.{Stamp, PlainAlt}
 use Rattle.archive_tree.specs.PartsTest.{is_none}
 use Rattle.archive_cut.specs.Sliced.{cut_set, stamp_under}
+
+-- the interval of an interval's numbers from i to j, counted from i, if there are any
+abbrev pub cut_pair : ℕ → ℕ → ℕ × ℕ → List (ℕ × ℕ)
+cut_pair i j p = if nat_le (max p.0 i) (min p.1 j) then (max p.0 i + 1 - i, min p.1 j + 1 - i) ∷ [] else []
 
 -- the set that is left where the stamp was, where now is left of the parent's
 abbrev pub set_left : ℕ → ℕ → List (ℕ × ℕ) → Stamp → List (ℕ × ℕ)

@@ -1,6 +1,5 @@
 // The alternatives of one leaf, which are held until all have been read.
-ghost use Rattle.std.specs.Prelude.{◌≡◌, ◌≢◌, ◌≤◌, [], ◌∷◌, ◌++◌, map, None, OnOk, IfOk};
-ghost use Rattle.std.specs.List.{AllByRecursion};
+ghost use Rattle.std.specs.Prelude.{◌≡◌, ◌≢◌, ◌≤◌, [], ◌∷◌, ◌++◌, None, OnOk, IfOk};
 ghost use Rattle.version_set.specs.Members.{members};
 ghost use Rattle.version_set.specs.View.{pairs_of};
 ghost use Rattle.archive_tree.specs.Stands.{head_or};

@@ -3,7 +3,6 @@ ghost use Rattle.std.specs.Prelude.{◌≡◌, ◌≢◌, ◌+◌, ◌-◌, ◌�
 ghost use Rattle.archive_file.specs.Sound.{SoundAs};
 ghost use Rattle.key_spec.specs.Data.{PlainRule};
 ghost use Rattle.keyed_tree.specs.Data.{PlainKeyed};
-ghost use Rattle.version_set.specs.Members.{upto_pairs};
 ghost use Rattle.version_set.specs.View.{pairs_of};
 ghost use Rattle.record_cursor.specs.Moves.{IsHeaderOf, TellsFront};
 ghost use Rattle.record_cursor.specs.Places.{among_nodes};

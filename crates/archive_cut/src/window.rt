@@ -1,10 +1,11 @@
 // Which versions are cut out, and what is left of sets.
-ghost use Rattle.std.specs.Prelude.{◌≡◌, ◌≤◌, [], ◌∷◌, IfOk};
+ghost use Rattle.std.specs.Prelude.{◌≡◌, ◌≤◌, ◌++◌, IfOk, OnOk};
 ghost use Rattle.std.specs.Option.{option_map};
+ghost use Rattle.version_set.specs.Pairs.{IsCanonical};
 ghost use Rattle.version_set.specs.View.{pairs_of};
 ghost use Rattle.archive_tree.specs.View.{stamp_view};
 ghost use Rattle.archive_cut.specs.Sliced.{cut_set};
-ghost use Rattle.archive_cut.specs.Windows.{stamp_left};
+ghost use Rattle.archive_cut.specs.Windows.{cut_pair, stamp_left};
 
 use std::alloc::{AllocError, Global};
 use version_set::VersionSet;
@@ -25,19 +26,26 @@ pub(crate) fn cut_set(window: &Window, set: &VersionSet) -> Result<VersionSet, A
     ensures { IfOk result (λ left.
         pairs_of left ≡ cut_set window.now.first window.now.last (pairs_of set.now)) }
 {
-    let span = span_of(window)?;
-    let both = set.meet(&span)?;
-    both.shift(1 - i64::from(window.first))
+    let mut left = VersionSet::empty(window.alloc);
+    for pair in set.pairs() {
+        push_left(window, *pair, &mut left)?;
+    }
+    Ok(left)
 }
 
-// The set of the versions.
-fn span_of(window: &Window) -> Result<VersionSet, AllocError>
-    ensures { IfOk result (λ span. pairs_of span ≡ (window.now.first, window.now.last) ∷ []) }
+// Adds what is left of an interval behind what is left of those before it.
+fn push_left(window: &Window, pair: (u32, u32), left: &mut VersionSet) -> Result<(), AllocError>
+    requires { IsCanonical (pairs_of left.old ++ cut_pair window.now.first window.now.last pair) }
+    ensures { OnOk result (pairs_of left.new
+        ≡ pairs_of left.old ++ cut_pair window.now.first window.now.last pair) }
 {
-    match VersionSet::from_pairs(window.alloc, &[(window.first, window.last)])? {
-        Some(span) => Ok(span),
-        None => unreachable!(),
+    let from = pair.0.max(window.first);
+    let to = pair.1.min(window.last);
+    if from <= to {
+        let before = window.first - 1;
+        left.push_pair((from - before, to - before))?;
     }
+    Ok(())
 }
 
 /// What is left of a stamp, under a parent of which this set is left; or None where no version is

@@ -1,6 +1,6 @@
 -- The lines of a log are those of the leaf that the path leads to.
 use Rattle.std.proofs.Common.{◌≡◌, ◌≢◌, ℕ, ◌+◌, List, [], ◌∷◌, ◌++◌, map, Option, Some, None, Result, Ok, Err, refl, sym, ap, subst, ◌∙◌}
-use Rattle.std.specs.Prelude.{IfErr}
+use Rattle.std.specs.Prelude.{IfErr, OnOk}
 use Rattle.std.specs.List.{flat_map}
 use Rattle.version_set.specs.Members.{members, intervals}
 use Rattle.version_set.specs.Text.{set_text}
@@ -98,3 +98,9 @@ pub search-undamaged : (e : HistoryFault) → e ≢ history.Damage → of_histor
 search-undamaged history.Damage h f = h refl
 search-undamaged history.Folder h f = cc
 search-undamaged history.Memory h f = cc
+
+-- ---- steps that were counted
+
+pub on-ok : {T E : Type 0} (r : Result T E) (P : Type 0) → P → OnOk r P
+on-ok (Ok x) P h = h
+on-ok (Err e) P h = tt

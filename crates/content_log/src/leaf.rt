@@ -1,5 +1,5 @@
 // Writing the log of a leaf.
-ghost use Rattle.std.specs.Prelude.{◌≡◌, ◌≢◌, ◌+◌, ◌-◌, ◌≤◌, ℕ, List, map, IfErr};
+ghost use Rattle.std.specs.Prelude.{◌≡◌, ◌≢◌, ◌+◌, ◌-◌, ◌≤◌, ℕ, List, map, length, None, IfErr, OnOk};
 ghost use Rattle.key_spec.specs.Data.{PlainRule};
 ghost use Rattle.keyed_tree.specs.Data.{PlainKeyed, name_bytes};
 ghost use Rattle.keyed_tree.specs.View.{label_view, name_view};
@@ -81,6 +81,14 @@ pub fn log<F: Folder, O: Sink, L: Ledger>(
         → TellsFront (F.files folder.old) name.now (header_view header.now).length bytes
         → IsHeaderOf (header_view header.now) bytes → SoundAs rules vs bytes → ArchiveOf vs a
         → steps.new ≤ steps.old + steps_along a (map label_view path.now) }
+
+    // Where the path leads to a node, at least one step is taken for each of its labels.
+    ensures counted { (bytes : List ℕ) (rules : List PlainRule) (vs : List PlainKeyed)
+        (a : PlainArchive)
+        → TellsFront (F.files folder.old) name.now (header_view header.now).length bytes
+        → IsHeaderOf (header_view header.now) bytes → SoundAs rules vs bytes → ArchiveOf vs a
+        → node_along a (map label_view path.now) ≢ None
+        → OnOk result (steps.old + length path.now ≤ steps.new) }
 {
     match find_leaf(alloc, folder, name, header, path, steps) {
         Ok(Some(leaf)) => write_leaf(alloc, folder, name, header, &leaf, tag_of(path), out),

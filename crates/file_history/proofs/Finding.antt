@@ -1,5 +1,5 @@
 -- What a search by halving goes on with.
-use Rattle.std.proofs.Common.{◌≡◌, ℕ, ◌-◌, ◌<◌, ◌≤◌, List, length, Option, Some, Ok, Result, subst, arith}
+use Rattle.std.proofs.Common.{◌≡◌, ℕ, ◌-◌, ◌<◌, ◌≤◌, List, length, Option, Some, None, Ok, Err, Result, subst, arith}
 use Rattle.std.specs.Prelude.{IfOk}
 use Rattle.keyed_tree.specs.Data.{PlainLabel}
 use Rattle.archive_tree.specs.Data.{PlainNode}
@@ -12,7 +12,7 @@ use Rattle.record_cursor.specs.declared.fault.CursorFault.{CursorFault}
 use Rattle.file_rows.specs.View.{PlainRow}
 use Rattle.file_history.specs.Parts.{PartIs, BesideIs, IsFoundIn, ProbedIs, IsSmaller}
 use Rattle.file_history.specs.Pulled.{PullsBut}
-use Rattle.file_history.specs.View.{PlainPart, part_view, room_of, left_probed}
+use Rattle.file_history.specs.View.{PlainPart, part_view, room_of, left_probed, OnFound}
 use Rattle.file_history.specs.declared.open.Found.{Found}
 use Rattle.file_history.specs.declared.search.Part.{Part}
 use Rattle.file_history.specs.declared.search.Probed.{Probed}
@@ -40,3 +40,13 @@ some-probes told name bytes row parent part front mid back h some =
     let many : 0 < length mid = omega (arith, h.low, h.high, some) in
     let one = probes-less 0 (length mid) many (omega arith) in
     omega (arith, one)
+
+-- ---- steps that were counted
+
+pub found-more : {T : Type 0} (r : Result (Option T) CursorFault) (P Q : Type 0) → (P → Q) → OnFound r P → OnFound r Q
+found-more (Ok (Some x)) P Q f h = f h
+found-more (Ok None) P Q f h = tt
+found-more (Err e) P Q f h = tt
+
+pub found-some : {T : Type 0} (o : Option T) (x : T) (P : Type 0) → o ≡ Some x → OnFound (Ok o) P → P
+found-some o x P e h = subst (λ p. OnFound (Ok p) P) e h

@@ -1,7 +1,7 @@
 -- What following a path comes to.
 use Rattle.std.proofs.Common.{◌≡◌, ℕ, ◌+◌, ◌≤◌, ◌<◌, List, [], ◌∷◌, map, length, drop, get_or, Option, Some, None, Ok, refl, sym, ap, subst, ◌∙◌, arith}
 use Rattle.std.proofs.lemmas.List.{drop_more, drop_all}
-use Rattle.std.specs.Prelude.{IsSomeAnd}
+use Rattle.std.specs.Prelude.{◌≢◌, IsSomeAnd}
 use Rattle.std.specs.List.{AllByRecursion}
 use Rattle.version_set.specs.Members.{members}
 use Rattle.version_set.specs.View.{pairs_of}
@@ -24,7 +24,7 @@ use Rattle.file_history.specs.Opened.{IsFound}
 use Rattle.file_history.specs.Parts.{IsFoundIn}
 use Rattle.file_history.specs.Pulled.{PullsBut}
 use Rattle.file_history.specs.Rows.{RowIs, InRow, Reached}
-use Rattle.file_history.specs.View.{span_in, left_found}
+use Rattle.file_history.specs.View.{span_in, left_found, OnFound}
 use Rattle.file_history.specs.declared.follow.Spot.{Spot}
 use Rattle.file_history.specs.declared.leaf.LeafAt.{LeafAt}
 use Rattle.file_history.specs.declared.open.Found.{Found}
@@ -72,6 +72,11 @@ followed-some bytes path first from o s e h = (subst (IsFollowed bytes path firs
 
 pub followed-none : (bytes : List ℕ) (path : List PlainLabel) (first : List (ℕ × ℕ)) (from : PlainNodes) (o : Option Spot) → o ≡ None → IsFollowed bytes path first from o → [] ≡ seek path (members first) from
 followed-none bytes path first from o e h = (subst (IsFollowed bytes path first from) e h).0
+
+-- what holds where a path led to a node
+pub counted-along : (bytes : List ℕ) (path : List PlainLabel) (first : List (ℕ × ℕ)) (from : PlainNodes) (o : Option Spot) (P : Type 0) → IsFollowed bytes path first from o → OnFound (Ok o) P → lead path None first from ≢ None → P
+counted-along bytes path first from None P h p some = absurd (some h.1)
+counted-along bytes path first from (Some s) P h p some = p
 
 -- the leaf that was found, where a path was followed to its end
 pub leaf-followed : (bytes : List ℕ) (path : List PlainLabel) (first : List (ℕ × ℕ)) (from : PlainNodes) (o : Option Spot) (r : Option LeafAt) → r ≡ leaf_of o → IsFollowed bytes path first from o → IsLeafOf bytes (lead path None first from) r

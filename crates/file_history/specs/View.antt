@@ -1,5 +1,5 @@
 -- What is found on the way down, as plain data.
-use Rattle.std.specs.Prelude.{ℕ, ◌+◌, ◌-◌, ◌*◌, Option, Some, None, Result, Ok, Err}
+use Rattle.std.specs.Prelude.{ℕ, ◌+◌, ◌-◌, ◌*◌, Option, Some, None, Result, Ok, Err, ⊤}
 use Rattle.archive_tree.specs.Data.{Stamp}
 use Rattle.archive_tree.specs.View.{stamp_view}
 use Rattle.record_cursor.specs.declared.fault.CursorFault.{CursorFault}
@@ -66,3 +66,8 @@ abbrev pub left_found : Result (Option Found) CursorFault → ℕ
 left_found (Ok None) = 0
 left_found (Ok (Some f)) = span_in f.row
 left_found (Err e) = 0
+
+-- where something was found, this holds
+abbrev pub OnFound : {T : Type 0} → Result (Option T) CursorFault → Type 0 → Type 0
+OnFound (Ok (Some x)) P = P
+OnFound other P = ⊤

@@ -1,5 +1,5 @@
 // Following a path through a file.
-ghost use Rattle.std.specs.Prelude.{◌≡◌, ◌≢◌, ◌+◌, ◌-◌, ◌<◌, ◌≤◌, ℕ, List, map, IfOk, IfErr};
+ghost use Rattle.std.specs.Prelude.{◌≡◌, ◌≢◌, ◌+◌, ◌-◌, ◌<◌, ◌≤◌, ℕ, List, map, length, None, IfOk, IfErr, OnOk};
 ghost use Rattle.version_set.specs.Members.{members, upto_pairs};
 ghost use Rattle.version_set.specs.View.{pairs_of};
 ghost use Rattle.key_spec.specs.Data.{PlainRule};
@@ -19,10 +19,10 @@ ghost use Rattle.record_cursor.specs.View.{header_view, IsHeader};
 ghost use Rattle.xa_outside.specs.Causes.{Rose};
 ghost use Rattle.xa_outside.specs.Numbers.{PullsAtMost};
 ghost use Rattle.file_rows.specs.View.{row_view};
-ghost use Rattle.file_history.specs.Leads.{IsFollowed};
+ghost use Rattle.file_history.specs.Leads.{IsFollowed, node_along};
 ghost use Rattle.file_history.specs.Rows.{FileIs, RowIs};
 ghost use Rattle.file_history.specs.Told.{IfFailed};
-ghost use Rattle.file_history.specs.View.{span_of};
+ghost use Rattle.file_history.specs.View.{span_of, OnFound};
 ghost use Rattle.file_history.specs.declared.fault.HistoryFault.TheVariants.{Damage};
 
 use crate::fault::HistoryFault;
@@ -86,6 +86,14 @@ pub fn history<F: Folder, L: Ledger>(
         → TellsFront (F.files folder.old) name.now (header_view header.now).length bytes
         → IsHeaderOf (header_view header.now) bytes → SoundAs rules vs bytes → ArchiveOf vs a
         → steps.new ≤ steps.old + steps_along a (map label_view path.now) }
+
+    // Where the path leads to a node, at least one step is taken for each of its labels.
+    ensures counted { (bytes : List ℕ) (rules : List PlainRule) (vs : List PlainKeyed)
+        (a : PlainArchive)
+        → TellsFront (F.files folder.old) name.now (header_view header.now).length bytes
+        → IsHeaderOf (header_view header.now) bytes → SoundAs rules vs bytes → ArchiveOf vs a
+        → node_along a (map label_view path.now) ≢ None
+        → OnOk result (steps.old + length path.now ≤ steps.new) }
 {
     let all = VersionSet::upto(alloc, header.versions);
     match search(alloc, folder, name, header, all, path, steps) {
@@ -123,6 +131,7 @@ pub(crate) fn search<F: Folder, L: Ledger>(
         → FileIs (F.files folder.old) name.now bytes (header_view header.now) a
         → pairs_of all ≡ upto_pairs a.n
         → steps.new ≤ steps.old + steps_along a (map label_view path.now) }
+    ensures counted { OnFound result (steps.old + length path.now ≤ steps.new) }
 {
     let mut cursor = Cursor::start(alloc, name, header)?;
     match root_row(folder, name, header.first, header.length) {
@@ -156,6 +165,7 @@ fn follow<F: Folder, L: Ledger>(
     ensures steps { (bytes : List ℕ) (ks : PlainNodes)
         → RowIs (F.files folder.old) name.now bytes 0 (row_view row) (pairs_of parent) ks
         → steps.new ≤ steps.old + path_steps (map label_view path.now) ks }
+    ensures counted { OnFound result (steps.old + length path.now ≤ steps.new) }
 {
     let mut set = parent;
     let mut here = Some(row);

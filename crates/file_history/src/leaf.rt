@@ -1,5 +1,5 @@
 // Finding the leaf that a path leads to.
-ghost use Rattle.std.specs.Prelude.{◌≡◌, ◌≢◌, ◌+◌, ◌-◌, ◌≤◌, ℕ, List, map, IfOk, IfErr};
+ghost use Rattle.std.specs.Prelude.{◌≡◌, ◌≢◌, ◌+◌, ◌-◌, ◌≤◌, ℕ, List, map, length, None, IfOk, IfErr, OnOk};
 ghost use Rattle.key_spec.specs.Data.{PlainRule};
 ghost use Rattle.keyed_tree.specs.Data.{PlainKeyed};
 ghost use Rattle.keyed_tree.specs.View.{label_view};
@@ -76,6 +76,14 @@ pub fn find_leaf<F: Folder, L: Ledger>(
         → TellsFront (F.files folder.old) name.now (header_view header.now).length bytes
         → IsHeaderOf (header_view header.now) bytes → SoundAs rules vs bytes → ArchiveOf vs a
         → steps.new ≤ steps.old + steps_along a (map label_view path.now) }
+
+    // Where the path leads to a node, at least one step is taken for each of its labels.
+    ensures counted { (bytes : List ℕ) (rules : List PlainRule) (vs : List PlainKeyed)
+        (a : PlainArchive)
+        → TellsFront (F.files folder.old) name.now (header_view header.now).length bytes
+        → IsHeaderOf (header_view header.now) bytes → SoundAs rules vs bytes → ArchiveOf vs a
+        → node_along a (map label_view path.now) ≢ None
+        → OnOk result (steps.old + length path.now ≤ steps.new) }
 {
     let all = VersionSet::upto(alloc, header.versions);
     match search(alloc, folder, name, header, all, path, steps) {

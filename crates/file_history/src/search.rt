@@ -10,7 +10,7 @@ ghost use Rattle.file_rows.specs.View.{row_view, child_view};
 ghost use Rattle.file_history.specs.Parts.{PartIs, ProbedIs, IsFoundIn, IsTurned, IsSmaller, cost};
 ghost use Rattle.file_history.specs.Pulled.{PullsBut};
 ghost use Rattle.file_history.specs.Rows.{RowIs};
-ghost use Rattle.file_history.specs.View.{part_view, span_of, room_of, left_probed, left_found};
+ghost use Rattle.file_history.specs.View.{part_view, span_of, room_of, left_probed, left_found, OnFound};
 
 use crate::open::{Found, Opened, open_child};
 use file_rows::{Child, Row, count_children, read_child};
@@ -66,6 +66,7 @@ pub(crate) fn find<F: Folder, L: Ledger>(
     ensures steps { (bytes : List ℕ) (parent : List (ℕ × ℕ)) (ks : PlainNodes)
         → RowIs (F.files folder.old) name.now bytes depth (row_view row) parent ks
         → steps.new ≤ steps.old + most_probes (length (nodes_list ks)) }
+    ensures counted { OnFound result (steps.old < steps.new) }
 {
     let count = match count_children(folder, name, row) {
         Ok(count) => count,
@@ -110,6 +111,7 @@ fn find_in<F: Folder, L: Ledger>(
         → PartIs (F.files folder.old) name.now bytes (row_view row) parent (part_view part)
         front mid back
         → steps.new ≤ steps.old + most_probes (length mid) }
+    ensures counted { OnFound result (steps.old < steps.new) }
 {
     if part.low >= part.high {
         return Ok(None);

@@ -169,3 +169,26 @@ fn a_file_without_its_tail_is_damaged(rt: HostRuntime) -> Result<(), Fail> {
         "the tail",
     )
 }
+
+/// The same bytes, but that the text begins with one that begins no character.
+fn spoiled(alloc: Global, bytes: &[u8], text: &[u8]) -> Result<Vec<u8>, Fail> {
+    let mut spoiled = Vec::from_slice(alloc, bytes)?;
+    for at in 0..bytes.len() {
+        if bytes[at..].starts_with(text) {
+            spoiled[at] = 255;
+            return Ok(spoiled);
+        }
+    }
+    Err("the text is not there".into())
+}
+
+#[test]
+fn an_alternative_that_is_no_text_is_damaged(rt: HostRuntime) -> Result<(), Fail> {
+    let alloc = rt.alloc();
+    let bytes = file(alloc, COMPANY, RAISED)?;
+    let first = spoiled(alloc, &bytes, b"90K")?;
+    let second = spoiled(alloc, &bytes, b"95K")?;
+    let damage = LogFault::Damage;
+    told(is_refused(alloc, &first, damage, NEVER, NEVER)?, "first")?;
+    told(is_refused(alloc, &second, damage, NEVER, NEVER)?, "second")
+}

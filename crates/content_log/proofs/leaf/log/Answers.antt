@@ -1,4 +1,4 @@
-use Rattle.std.proofs.Common.{◌≢◌, ◌+◌, ◌-◌, ℕ, List, [], map, Option, sym, subst, arith}
+use Rattle.std.proofs.Common.{◌≢◌, ◌+◌, ◌-◌, ◌≤◌, ℕ, List, [], map, length, Option, sym, subst, arith}
 use Rattle.keyed_tree.specs.View.{label_view}
 use Rattle.xa_outside.specs.Folder.{Files}
 use Rattle.xa_outside.specs.NumberLaws.{PullsAtMost-more, PullsAtMost-trans}
@@ -13,7 +13,7 @@ use Rattle.content_log.specs.Text.{log_text}
 use Rattle.content_log.specs.Written.{Prefixed, leaf_bytes}
 use Rattle.content_log.specs.declared.fault.LogFault.{LogFault}
 use Rattle.content_log.specs.declared.fault.LogFault.TheVariants.{Damage}
-use Rattle.content_log.proofs.Logs.{leaf-found, none-logged, log-text, log-none, pulls-both, puts-of, undamaged-of, search-undamaged}
+use Rattle.content_log.proofs.Logs.{on-ok, leaf-found, none-logged, log-text, log-none, pulls-both, puts-of, undamaged-of, search-undamaged}
 use Rattle.content_log.proofs.leaf.log.Goals as goal
 
 pub returns-in-Ok-Some-clause-lines : goal.returns-in-Ok-Some-clause-lines
@@ -97,3 +97,6 @@ pub returns-in-Err-clause-pulls : goal.returns-in-Err-clause-pulls
 returns-in-Err-clause-pulls g c =
     let h = header_view c.args.header.now in
     PullsAtMost-more (h.length - h.first) (h.length - h.first + h.length) (g.F.Folder.numbers c.args.folder.now) (g.F.Folder.numbers c.find_leaf.new.folder) (omega arith) c.in-Err.ensures.pulls
+
+pub returns-in-Ok-Some-clause-counted : goal.returns-in-Ok-Some-clause-counted
+returns-in-Ok-Some-clause-counted g c = λ bytes rules vs a tells stands sound is some. on-ok c.write_leaf.result (c.args.steps.now + length c.args.path.now ≤ c.find_leaf.new.steps) (c.in-Ok-Some.ensures.counted bytes rules vs a tells stands sound is some)

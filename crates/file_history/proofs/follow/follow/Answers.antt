@@ -1,4 +1,4 @@
-use Rattle.std.proofs.Common.{◌+◌, map, drop, refl, ap, subst, ◌∙◌, arith, ℕ, Ok, None, Option}
+use Rattle.std.proofs.Common.{◌+◌, ◌<◌, map, drop, refl, ap, subst, ◌∙◌, arith, ℕ, Ok, None, Option}
 use Rattle.version_set.specs.View.{pairs_of}
 use Rattle.keyed_tree.specs.View.{label_view}
 use Rattle.archive_tree.specs.Data.{nodes_list}
@@ -9,6 +9,7 @@ use Rattle.file_history.specs.Pulled.{PullsBut}
 use Rattle.file_history.specs.Parts.{IsFoundIn}
 use Rattle.file_history.specs.View.{span_of, span_in, left_found}
 use Rattle.file_history.specs.declared.open.Found.{Found}
+use Rattle.file_history.proofs.Finding.{found-some}
 use Rattle.file_history.proofs.InRows.{row-later}
 use Rattle.file_history.proofs.Following.{ends, ends-leaf, ends-none, goes-on, few-all, few-row, steps-all, steps-row, reached-row, rest-is, rest-none, onto-of, none-of, found-left}
 use Rattle.file_history.proofs.Pulls.{but-all, but-trans, reads-trans}
@@ -269,6 +270,7 @@ loop-label-preserved g c =
     let f = c.in-Some-answer.found in
     record {
       name = c.in-Ok.ensures.name ∙ l.invariant.name;
+      counted = (let more = found-some c.in-Ok.answer f (l.steps < c.find.new.steps) c.in-Some-answer.is c.in-Ok.ensures.counted in let before = l.invariant.counted in omega (arith, before, more));
       reads = reads-trans g.F.Folder.files g.F.Folder.draft g.F.Folder.faults c.args.folder.now l.folder c.find.new.folder None None l.invariant.reads c.in-Ok.ensures.reads;
       pulls = but-trans (span_of c.args.row) (span_of c.in-Some.inside) (span_in f.row) (g.F.Folder.numbers c.args.folder.now) (g.F.Folder.numbers l.folder) (g.F.Folder.numbers c.find.new.folder)
           (subst (λ (x : ℕ). PullsBut (span_of c.args.row) x (g.F.Folder.numbers c.args.folder.now) (g.F.Folder.numbers l.folder)) room l.invariant.pulls)
@@ -295,3 +297,9 @@ loop-label-preserved g c =
           goes-on files name bytes path first ks l.depth c.one_deeper-depth.result l.here l.leaf c.in-Some.inside (pairs_of l.set) (pairs_of c.inherited-set.result) w rest more a b d m n o f c.one_deeper-depth.ensures e c.in-Some.is r
           (onto-of w r.ks bytes (pairs_of l.set) f (node_with w (nodes_list r.ks)) refl found) c.inherited-set.ensures (c.in-Ok.ensures.few bytes (pairs_of l.set) r.ks at) (c.in-Ok.ensures.steps bytes (pairs_of l.set) r.ks at));
     }
+
+pub returns-clause-counted : goal.returns-clause-counted
+returns-clause-counted g c =
+    let counted = c.loop-label.invariant.counted in
+    let end = c.loop-label-test.false in
+    omega (arith, counted, end)

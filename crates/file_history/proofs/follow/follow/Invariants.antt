@@ -1,4 +1,4 @@
-use Rattle.std.proofs.Common.{◌≡◌, ℕ, List, None, map, drop}
+use Rattle.std.proofs.Common.{◌≡◌, ℕ, ◌+◌, ◌≤◌, List, None, map, drop}
 use Rattle.version_set.specs.View.{pairs_of}
 use Rattle.keyed_tree.specs.View.{label_view}
 use Rattle.archive_tree.specs.Data.{PlainNodes}
@@ -13,6 +13,7 @@ use Rattle.file_history.proofs.follow.follow.Given as goal
 abbrev pub invariant-loop-label : goal.invariant-loop-label
 invariant-loop-label g l = record {
   name : l.cursor.name ≡ l.name;
+  counted : l.fn.steps + l.label-index ≤ l.steps;
   reads : OnlyReads g.F.Folder.files g.F.Folder.draft g.F.Folder.faults l.fn.folder l.folder None;
   pulls : PullsBut (span_of l.fn.row) (span_in l.here) (g.F.Folder.numbers l.fn.folder) (g.F.Folder.numbers l.folder);
   told : (bytes : List ℕ) (ks : PlainNodes) → RowIs (g.F.Folder.files l.fn.folder) l.name bytes 0 (row_view l.fn.row) (pairs_of l.fn.parent) ks

@@ -1,10 +1,10 @@
-use Rattle.std.proofs.Common.{Ok, sym, ap, subst, ◌∙◌, arith, rules}
+use Rattle.std.proofs.Common.{◌<◌, Ok, sym, ap, subst, ◌∙◌, arith, rules}
 use Rattle.keyed_tree.specs.View.{label_view}
 use Rattle.record_cursor.specs.Steps.{Filled}
 use Rattle.file_rows.specs.View.{row_view}
 use Rattle.file_history.specs.Parts.{IsFoundIn, cost}
 use Rattle.file_history.specs.View.{part_view, room_of, left_found}
-use Rattle.file_history.proofs.Finding.{here-told, beside-told, beside-smaller, beside-pulls, some-probes}
+use Rattle.file_history.proofs.Finding.{here-told, beside-told, beside-smaller, beside-pulls, some-probes, found-more}
 use Rattle.file_history.proofs.Halves.{part-later}
 use Rattle.file_history.proofs.Pulls.{but-trans, but-then}
 use Rattle.file_history.proofs.search.+find_in.Goals as goal
@@ -74,3 +74,8 @@ returns-in-Ok-Beside-clause-steps g t c = λ bytes parent front mid back h. (
     let fewer = b.fewer in
     let rest = c.find_in.ensures.steps bytes parent b.front b.mid b.back (part-later told later name bytes row parent next b.front b.mid b.back c.probe.ensures.reads.same_files b.is) in
     omega (arith, fewer, rest, c.tick.ensures))
+
+pub returns-in-Ok-Beside-clause-counted : goal.returns-in-Ok-Beside-clause-counted
+returns-in-Ok-Beside-clause-counted g t c =
+    let one = c.tick.ensures in
+    found-more c.find_in.result (c.tick.new.self < c.find_in.new.steps) (c.args.steps.now < c.find_in.new.steps) (λ more. omega (arith, one, more)) c.find_in.ensures.counted
