@@ -2,3 +2,4 @@ mod Below
 mod Documents
 mod LentRows
 mod Rekeyings
+mod SpelledRows

@@ -1,11 +1,14 @@
 //! Archives under other keys.
 #![tactic(auto)]
 
+mod encode;
 mod fault;
+mod goes;
 mod laws;
 mod lend;
 mod versions;
 
+pub use encode::encode_spelled;
 pub use fault::RekeyFault;
 pub use laws::versions_have_one_rekeying;
 pub use versions::rekey;

@@ -6,6 +6,7 @@ ghost use Rattle.key_spec.specs.View.{spec_view};
 ghost use Rattle.key_annotate.specs.LentView.{lent_view};
 ghost use Rattle.key_annotate.specs.Stands.{Stands};
 ghost use Rattle.archive_tree.specs.ArchiveView.{archive_view};
+ghost use Rattle.spelled_archive.specs.ArchiveView.{spelled_archive_view};
 ghost use Rattle.archive_tree.specs.Stands.{ArchiveOf};
 ghost use Rattle.archive_file.specs.KeyedBy.{AreKeyedBy, IsKeyedBy};
 ghost use Rattle.archive_rekey.specs.Progress.{IsBehind, IsDocument, IsFaultOf, Reaches};
@@ -20,6 +21,7 @@ use jsonml_tree::LentTree;
 use key_annotate::{AnnotateFault, LentKeyed, lent_keyed};
 use key_spec::Spec;
 use lent_merge::merge_lent;
+use spelled_archive::SpelledArchive;
 use std::alloc::{AllocError, Global};
 
 /// The archive of the same versions under the keys of the specification, in their order, or the first version that does not
@@ -29,23 +31,23 @@ use std::alloc::{AllocError, Global};
 /// merged as it is lent, before the next is. So beside the old archive it holds the new one and the rows of one version. Of a
 /// version it copies what is new in the new archive, and key values that are more than one text. Recursion is as deep as nodes
 /// and elements nest.
-pub fn rekey(alloc: Global, old: &Archive, spec: &Spec) -> Result<Archive, RekeyFault>
+pub fn rekey(alloc: Global, old: &Archive, spec: &Spec) -> Result<SpelledArchive, RekeyFault>
     requires documents { (vs : List PlainKeyed) → ArchiveOf vs (archive_view old.now)
         → SpellDocuments vs }
     ensures archive { IfOk result (λ a. (vs : List PlainKeyed) → ArchiveOf vs (archive_view old.now)
-        → IsArchiveUnder (spec_view spec.now) vs (archive_view a)) }
+        → IsArchiveUnder (spec_view spec.now) vs (spelled_archive_view a)) }
     ensures key { IfErr result (λ e. IfSome (bad_version e) (λ b. (vs : List PlainKeyed)
         → ArchiveOf vs (archive_view old.now) → IsFirstBad (spec_view spec.now) vs b.0 b.1)) }
 
     // It can be written.
-    ensures count { IfOk result (λ a. (archive_view a).n ≡ (archive_view old.now).n) }
-    ensures keyed { IfOk result (λ a. (us : List PlainKeyed) → ArchiveOf us (archive_view a)
+    ensures count { IfOk result (λ a. (spelled_archive_view a).n ≡ (archive_view old.now).n) }
+    ensures keyed { IfOk result (λ a. (us : List PlainKeyed) → ArchiveOf us (spelled_archive_view a)
         → AreKeyedBy (spec_view spec.now) us) }
 {
     // A law, for the proofs of `count` and `keyed`.
     archives_stand_for_one_list();
     let count = old.n();
-    let mut archive = Archive::empty(alloc);
+    let mut archive = SpelledArchive::empty(alloc);
     for before in 0..count {
         archive = with_next(alloc, spec, old, archive, before)?;
     }
@@ -57,17 +59,17 @@ fn with_next(
     alloc: Global,
     spec: &Spec,
     old: &Archive,
-    archive: Archive,
+    archive: SpelledArchive,
     before: u32,
-) -> Result<Archive, RekeyFault>
+) -> Result<SpelledArchive, RekeyFault>
     requires documents { (vs : List PlainKeyed) → ArchiveOf vs (archive_view old.now)
         → SpellDocuments vs }
     requires more { before < (archive_view old.now).n }
     requires room { before < 4294967295 }
     requires so_far { (vs : List PlainKeyed) → ArchiveOf vs (archive_view old.now)
-        → Reaches (spec_view spec.now) vs before (archive_view archive) }
+        → Reaches (spec_view spec.now) vs before (spelled_archive_view archive) }
     ensures next { IfOk result (λ a. (vs : List PlainKeyed) → ArchiveOf vs (archive_view old.now)
-        → Reaches (spec_view spec.now) vs (before + 1) (archive_view a)) }
+        → Reaches (spec_view spec.now) vs (before + 1) (spelled_archive_view a)) }
     ensures key { IfErr result (λ e. IfSome (bad_version e) (λ b. (vs : List PlainKeyed)
         → ArchiveOf vs (archive_view old.now) → IsFirstBad (spec_view spec.now) vs b.0 b.1)) }
 {
@@ -81,16 +83,16 @@ fn with_next(
 fn with_document(
     alloc: Global,
     spec: &Spec,
-    archive: Archive,
+    archive: SpelledArchive,
     number: u32,
     document: &LentTree<'_>,
-) -> Result<Archive, RekeyFault>
+) -> Result<SpelledArchive, RekeyFault>
     requires document { IsDocument (lent_tree_view document.now) }
-    requires room { (archive_view archive).n < 4294967295 }
-    requires keyed { (us : List PlainKeyed) → ArchiveOf us (archive_view archive)
+    requires room { (spelled_archive_view archive).n < 4294967295 }
+    requires keyed { (us : List PlainKeyed) → ArchiveOf us (spelled_archive_view archive)
         → AreKeyedBy (spec_view spec.now) us }
     ensures next { IfOk result (λ a. IsBehind (spec_view spec.now) (lent_tree_view document.now)
-        (archive_view archive) (archive_view a)) }
+        (spelled_archive_view archive) (spelled_archive_view a)) }
     ensures key { IfErr result (λ e. IfSome (bad_version e)
         (IsFaultOf (spec_view spec.now) number (lent_tree_view document.now))) }
 {

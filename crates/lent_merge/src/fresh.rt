@@ -6,13 +6,14 @@ ghost use Rattle.keyed_tree.specs.Data.{kids_from};
 ghost use Rattle.keyed_tree.specs.Kids.{ascend, kid_at};
 ghost use Rattle.keyed_tree.specs.View.{key_view, label_view, keyed_view};
 ghost use Rattle.keyed_parts.specs.View.{kid_view, kids_view};
-ghost use Rattle.archive_tree.specs.View.{stamp_view, alt_view, node_view};
+ghost use Rattle.archive_tree.specs.View.{stamp_view};
+ghost use Rattle.spelled_archive.specs.View.{alt_view, node_view};
 ghost use Rattle.nested_merge.specs.Merged.{started, fresh, below, above};
 
-use archive_tree::{ANode, Alt};
 use keyed_parts::{Kid, Kids};
 use keyed_tree::{Body, Keyed, Label};
 use nested_merge::started_stamp;
+use spelled_archive::{Alt, KeptBody, SNode};
 use std::alloc::{AllocError, Global};
 use std::cmp::Ordering;
 use version_set::VersionSet;
@@ -25,7 +26,7 @@ pub fn put_below<'k, 'a, 't>(
     parent: &VersionSet,
     label: &Label,
     new: Kids<'k, 'a, 't>,
-    nodes: &mut Vec<ANode>,
+    nodes: &mut Vec<SNode>,
 ) -> Result<(Option<Kid<'k, 'a, 't>>, Kids<'k, 'a, 't>), AllocError>
     requires from { 1 ≤ n }
     requires ascending { IsTrue (ascend (kids_from (kids_view new))) }
@@ -59,7 +60,7 @@ pub fn put_all(
     n: u32,
     parent: &VersionSet,
     new: Kids<'_, '_, '_>,
-    nodes: &mut Vec<ANode>,
+    nodes: &mut Vec<SNode>,
 ) -> Result<(), AllocError>
     requires { 1 ≤ n }
     ensures { OnOk result (map node_view nodes.new.items ≡ map node_view nodes.old.items
@@ -79,7 +80,7 @@ fn put_started(
     n: u32,
     parent: &VersionSet,
     new: Kid<'_, '_, '_>,
-    nodes: &mut Vec<ANode>,
+    nodes: &mut Vec<SNode>,
 ) -> Result<(), AllocError>
     requires { 1 ≤ n }
     ensures { OnOk result (map node_view nodes.new.items ≡ map node_view nodes.old.items
@@ -91,16 +92,16 @@ fn put_started(
 }
 
 #[cycle(fresh)]
-fn fresh_node(alloc: Global, stamp: Option<VersionSet>, new: Keyed) -> Result<ANode, AllocError>
+fn fresh_node(alloc: Global, stamp: Option<VersionSet>, new: Keyed) -> Result<SNode, AllocError>
     ensures { IfOk result (λ a. node_view a ≡ fresh (stamp_view stamp) (keyed_view new)) }
 {
     match new {
-        Keyed::Inner { label, kids } => Ok(ANode::Inner {
+        Keyed::Inner { label, kids } => Ok(SNode::Inner {
             label,
             stamp,
             kids: fresh_nodes(alloc, kids)?,
         }),
-        Keyed::Leaf { label, body } => Ok(ANode::Leaf {
+        Keyed::Leaf { label, body } => Ok(SNode::Leaf {
             label,
             stamp,
             alts: only_alt(alloc, body)?,
@@ -113,13 +114,14 @@ fn only_alt(alloc: Global, body: Body) -> Result<Vec<Alt>, AllocError>
     ensures { IfOk result (λ v. map alt_view v.items
         ≡ record { stamp = None; body = key_view body } ∷ []) }
 {
+    let body = KeptBody::of(alloc, body)?;
     let mut alts = Vec::with_capacity(alloc, 1)?;
     alts.push_reserved(Alt { stamp: None, body });
     Ok(alts)
 }
 
 #[cycle(fresh)]
-fn fresh_nodes(alloc: Global, new: Vec<Keyed>) -> Result<Vec<ANode>, AllocError>
+fn fresh_nodes(alloc: Global, new: Vec<Keyed>) -> Result<Vec<SNode>, AllocError>
     ensures { IfOk result
         (λ v. map node_view v.items ≡ map (fresh None) (map keyed_view new.items)) }
 {

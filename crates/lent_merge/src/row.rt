@@ -5,15 +5,16 @@ ghost use Rattle.version_set.specs.View.{pairs_of};
 ghost use Rattle.keyed_tree.specs.Data.{kids_from};
 ghost use Rattle.keyed_tree.specs.Kids.{ascend, are_ordered, IsOrdered};
 ghost use Rattle.keyed_parts.specs.View.{kid_view, kids_view};
-ghost use Rattle.archive_tree.specs.View.{node_view, nodes_view};
+ghost use Rattle.spelled_archive.specs.View.{node_view, nodes_view};
 ghost use Rattle.nested_merge.specs.Below.{is_node_below, are_nodes_below};
 ghost use Rattle.nested_merge.specs.Merged.{vanished, turn, merged, merged_row};
 
 use crate::fresh::{put_all, put_below};
 use crate::leaf::merge_alts;
 use crate::stamp::{grow, vanish};
-use archive_tree::{ANode, effective};
+use archive_tree::effective;
 use keyed_parts::{Inside, Kid, Kids};
+use spelled_archive::SNode;
 use std::alloc::{AllocError, Global};
 use std::mem;
 use version_set::VersionSet;
@@ -25,7 +26,7 @@ pub fn merge_kids(
     alloc: Global,
     n: u32,
     set: &VersionSet,
-    row: &mut Vec<ANode>,
+    row: &mut Vec<SNode>,
     new: Kids<'_, '_, '_>,
 ) -> Result<(), AllocError>
     requires from { 1 ≤ n }
@@ -54,7 +55,7 @@ fn turn_node(
     alloc: Global,
     n: u32,
     parent: &VersionSet,
-    node: &mut ANode,
+    node: &mut SNode,
     new: Option<Kid<'_, '_, '_>>,
 ) -> Result<(), AllocError>
     requires from { 1 ≤ n }
@@ -77,7 +78,7 @@ fn merge_node(
     alloc: Global,
     n: u32,
     parent: &VersionSet,
-    node: &mut ANode,
+    node: &mut SNode,
     new: Kid<'_, '_, '_>,
 ) -> Result<(), AllocError>
     requires from { 1 ≤ n }
@@ -88,20 +89,20 @@ fn merge_node(
 {
     match new.inside() {
         Inside::Kids(more) => match node {
-            ANode::Inner { stamp, kids, .. } => {
+            SNode::Inner { stamp, kids, .. } => {
                 merge_kids(alloc, n, effective(stamp, parent), kids, more)?;
                 grow(n, stamp)
             }
             // Between alike versions this does not come.
-            ANode::Leaf { .. } => Ok(()),
+            SNode::Leaf { .. } => Ok(()),
         },
         Inside::Body(body) => match node {
-            ANode::Leaf { stamp, alts, .. } => {
+            SNode::Leaf { stamp, alts, .. } => {
                 merge_alts(alloc, n, effective(stamp, parent), body, alts)?;
                 grow(n, stamp)
             }
             // Between alike versions this does not come.
-            ANode::Inner { .. } => Ok(()),
+            SNode::Inner { .. } => Ok(()),
         },
     }
 }

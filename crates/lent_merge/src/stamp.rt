@@ -1,11 +1,12 @@
 // The stamps that a version changes, in place.
 ghost use Rattle.std.specs.Prelude.{◌≡◌, OnOk, IsTrue};
 ghost use Rattle.version_set.specs.View.{pairs_of};
-ghost use Rattle.archive_tree.specs.View.{stamp_view, node_view};
+ghost use Rattle.archive_tree.specs.View.{stamp_view};
+ghost use Rattle.spelled_archive.specs.View.{node_view};
 ghost use Rattle.nested_merge.specs.Below.{is_stamp_below};
 ghost use Rattle.nested_merge.specs.Merged.{grown, kept, vanished};
 
-use archive_tree::ANode;
+use spelled_archive::SNode;
 use std::alloc::AllocError;
 use version_set::VersionSet;
 
@@ -33,12 +34,12 @@ pub fn keep(parent: &VersionSet, stamp: &mut Option<VersionSet>) -> Result<(), A
 }
 
 // A node that a version does not have, under a parent with it that had the set before.
-pub fn vanish(parent: &VersionSet, node: &mut ANode) -> Result<(), AllocError>
+pub fn vanish(parent: &VersionSet, node: &mut SNode) -> Result<(), AllocError>
     ensures { OnOk result (node_view node.new
         ≡ vanished (pairs_of parent.now) (node_view node.old)) }
 {
     match node {
-        ANode::Inner { stamp, .. } => keep(parent, stamp),
-        ANode::Leaf { stamp, .. } => keep(parent, stamp),
+        SNode::Inner { stamp, .. } => keep(parent, stamp),
+        SNode::Leaf { stamp, .. } => keep(parent, stamp),
     }
 }

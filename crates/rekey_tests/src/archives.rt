@@ -7,7 +7,7 @@ ghost use Rattle.keyed_tree.specs.View.{keyed_view};
 ghost use Rattle.keyed_tree.specs.WellFormed.{IsKeyedWellFormed};
 
 use archive_file::{decode_file, encode_file, is_keyed};
-use archive_rekey::{RekeyFault, rekey};
+use archive_rekey::{RekeyFault, encode_spelled, rekey};
 use archive_tree::Archive;
 use jsonml_text::read_document;
 use jsonml_tree::Tree;
@@ -89,7 +89,7 @@ pub(crate) fn under(
 ) -> Result<Result<Vec<u8>, RekeyFault>, Fail> {
     let found = decode_file(alloc, file)?;
     match rekey(alloc, &found.1, spec) {
-        Ok(archive) => Ok(Ok(encode_file(alloc, spec, &archive)?)),
+        Ok(archive) => Ok(Ok(encode_spelled(alloc, spec, &archive)?)),
         Err(fault) => Ok(Err(fault)),
     }
 }

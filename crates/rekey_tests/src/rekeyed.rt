@@ -33,6 +33,22 @@ const ADA: &str = r#"["db",["e",{"id":2},["name","Ada"],["tel","1"]]]"#;
 const BOB_AND_ADA: &str =
     r#"["db",["e",{"id":1},["name","Bob"]],["e",{"id":2},["name","Ada"],["tel","2"],["tel","1"]]]"#;
 
+/// So many items that their content is kept as its encoding, where they have no rule.
+const SIXTEEN: &str =
+    r#"["db",["e",{"id":1}],["e",{"id":2}],["e",{"id":3}],["e",{"id":4}],["e",{"id":5}],
+["e",{"id":6}],["e",{"id":7}],["e",{"id":8}],["e",{"id":9}],["e",{"id":10}],
+["e",{"id":11}],["e",{"id":12}],["e",{"id":13}],["e",{"id":14}],["e",{"id":15}],
+["e",{"id":16}]]"#;
+
+/// One more, with a value of each kind.
+const SEVENTEEN: &str =
+    r#"["db",["e",{"id":1}],["e",{"id":2}],["e",{"id":3}],["e",{"id":4}],["e",{"id":5}],
+["e",{"id":6}],["e",{"id":7}],["e",{"id":8}],["e",{"id":9}],["e",{"id":10}],
+["e",{"id":11}],["e",{"id":12}],["e",{"id":13}],["e",{"id":14}],["e",{"id":15}],
+["e",{"id":16}],
+["e",{"a":null,"b":true,"c":false,"d":-7,"f":"x","id":17},"head",["t","text"],
+["u",{"k":"v"},["w"],["x","y","z"]]]]"#;
+
 /// Keys, documents, and other keys that these satisfy too.
 const REKEYED: &[(&str, &str, &[&str], &str)] = &[
     ("no versions", TINY, &[], ITEMS),
@@ -61,6 +77,24 @@ const REKEYED: &[(&str, &str, &[&str], &str)] = &[
         TINY,
     ),
     ("other key values", ITEMS, &[ADA, BOB_AND_ADA, ADA], NAMES),
+    (
+        "contents of many items",
+        ITEMS,
+        &[SIXTEEN, SEVENTEEN, TWO, SIXTEEN, SEVENTEEN, TWO],
+        TINY,
+    ),
+    (
+        "contents of many items, first of few",
+        TINY,
+        &[TWO, SEVENTEEN, SIXTEEN, SEVENTEEN, TWO],
+        TINY,
+    ),
+    (
+        "contents of many items that are dropped",
+        TINY,
+        &[SIXTEEN, SEVENTEEN, SIXTEEN, TWO],
+        ITEMS,
+    ),
     (
         "eight versions",
         ITEMS,

@@ -28,7 +28,7 @@ use Rattle.xarch_parts.specs.CoreLaws.{core-sound, of-parts, same-file}
 use Rattle.xarch_parts.specs.Folders.{ReadsOnly}
 use Rattle.xarch_parts.specs.Inputs.{size_in}
 use Rattle.xarch_parts.specs.Outcome.{Outcome}
-use Rattle.xarch_meanings.specs.Plausible.{MayBe, MayRekey}
+use Rattle.xarch_meanings.specs.Plausible.{DamagedOrSound, MayBe}
 use Rattle.xarch_meanings.specs.Rekey.{RekeysTo, rekey_rules}
 use Rattle.xarch_writes.specs.Added.{IsDamaged}
 use Rattle.xarch_writes.specs.Appending.{NotesEnd}
@@ -117,16 +117,16 @@ module _ (files : Files) (name spec : List ℕ) where
   pub rekey_refused_early : (q : Refusal) → rekey_rules files name spec ≡ Err q → MayBe files (rekey name spec) (Err q)
   unfolding MayBe
   rekey_refused_early q e = record {
-    whatever = subst (λ x. GoesOn x (λ _. MayRekey files name) (Err q)) (sym e) refl;
+    whatever = subst (λ x. GoesOn x (λ _. DamagedOrSound files name) (Err q)) (sym e) refl;
     sound = λ rules vs notes is. subst (λ x. GoesOn x (RekeysTo files name vs notes) (Err q)) (sym e) refl;
   }
 
   module _ (rules : List PlainRule) (input : rekey_rules files name spec ≡ Ok rules) where
     -- what the end of it says, behind the new keys
-    ends : (r : Result Outcome Refusal) → MayRekey files name r → ((old : List PlainRule) (vs : List PlainKeyed) (notes : List (List ℕ)) → ArchiveIs files name old vs notes → RekeysTo files name vs notes rules r) → MayBe files (rekey name spec) r
+    ends : (r : Result Outcome Refusal) → DamagedOrSound files name r → ((old : List PlainRule) (vs : List PlainKeyed) (notes : List (List ℕ)) → ArchiveIs files name old vs notes → RekeysTo files name vs notes rules r) → MayBe files (rekey name spec) r
     unfolding MayBe
     ends r may to = record {
-      whatever = subst (λ x. GoesOn x (λ _. MayRekey files name) r) (sym input) may;
+      whatever = subst (λ x. GoesOn x (λ _. DamagedOrSound files name) r) (sym input) may;
       sound = λ old vs notes is. subst (λ x. GoesOn x (RekeysTo files name vs notes) r) (sym input) (to old vs notes is);
     }
 

@@ -27,6 +27,7 @@ ghost use Rattle.xarch_writes.specs.Added.{IsDamaged};
 ghost use Rattle.xarch_writes.specs.Rekeyed.{CanFollow, IsFileOfVersions, IsNoArchive, IsOpened, IsSoundOf, IsUnkeyed};
 
 use crate::notes::{notes_of, push_notes};
+use crate::spelled_file::file_from;
 use archive_file::{FileFault, decode_file, sound_archives_have_one_reading};
 use archive_rekey::{RekeyFault, rekey};
 use archive_tree::{Archive, archives_stand_for_one_list};
@@ -39,7 +40,7 @@ use version_notes::Parts;
 use xa_outside::{Folder, ReadFault, read_front as read_bytes};
 use xarch_meanings::limits;
 use xarch_parts::{
-    begin, commit, damaged, draft, file_from, length_of, limited_length, read_front, read_spec,
+    begin, commit, damaged, draft, length_of, limited_length, read_front, read_spec,
 };
 use xarch_words::{Fault, Quantity};
 

@@ -1,6 +1,6 @@
 use Rattle.std.proofs.Common.{◌≡◌, None, map}
 use Rattle.keyed_tree.specs.View.{keyed_view}
-use Rattle.archive_tree.specs.View.{node_view}
+use Rattle.spelled_archive.specs.View.{node_view}
 use Rattle.nested_merge.specs.Merged.{fresh}
 use Rattle.lent_merge.proofs.fresh.+fresh.Given as goal
 

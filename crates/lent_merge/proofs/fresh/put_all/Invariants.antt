@@ -1,7 +1,7 @@
 use Rattle.std.proofs.Common.{◌≡◌, ◌++◌, map, length}
 use Rattle.version_set.specs.View.{pairs_of}
 use Rattle.keyed_parts.specs.View.{kids_view}
-use Rattle.archive_tree.specs.View.{node_view}
+use Rattle.spelled_archive.specs.View.{node_view}
 use Rattle.nested_merge.specs.Merged.{started, fresh}
 use Rattle.lent_merge.proofs.fresh.put_all.Given as goal
 

@@ -4,7 +4,7 @@ use Rattle.keyed_tree.specs.Data.{kids_from}
 use Rattle.keyed_tree.specs.Kids.{ascend, kid_at}
 use Rattle.keyed_tree.specs.View.{label_view}
 use Rattle.keyed_parts.specs.View.{kids_view}
-use Rattle.archive_tree.specs.View.{node_view}
+use Rattle.spelled_archive.specs.View.{node_view}
 use Rattle.nested_merge.specs.Merged.{started, fresh, below, above}
 use Rattle.lent_merge.proofs.fresh.put_below.Given as goal
 

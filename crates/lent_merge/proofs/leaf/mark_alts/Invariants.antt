@@ -1,7 +1,7 @@
 use Rattle.std.proofs.Common.{◌≡◌, ◌||◌, ◌++◌, IsTrue, map, take, drop}
 use Rattle.version_set.specs.View.{pairs_of}
 use Rattle.keyed_parts.specs.View.{body_view}
-use Rattle.archive_tree.specs.View.{alt_view}
+use Rattle.spelled_archive.specs.View.{alt_view}
 use Rattle.nested_merge.specs.Below.{are_alts_below}
 use Rattle.nested_merge.specs.Merged.{has_alt, merged_alt}
 use Rattle.lent_merge.proofs.leaf.mark_alts.Given as goal

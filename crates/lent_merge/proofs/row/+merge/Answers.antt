@@ -11,12 +11,14 @@ use Rattle.keyed_tree.specs.View.{label_view}
 use Rattle.keyed_tree.proofs.Kids.{both, kids_list-kids_from}
 use Rattle.keyed_parts.specs.View.{kid_view, kids_view, with_inside}
 use Rattle.archive_tree.specs.Data.{inner_node, nodes_from, nodes_list, node_label}
-use Rattle.archive_tree.specs.View.{stamp_view, node_view, nodes_view}
+use Rattle.archive_tree.specs.View.{stamp_view}
+use Rattle.spelled_archive.specs.View.{node_view, nodes_view}
 use Rattle.archive_tree.proofs.Parts.{nodes_from-nodes_list}
 use Rattle.nested_merge.specs.Below.{are_nodes_below}
 use Rattle.nested_merge.specs.Merged.{grown, started, vanished, fresh, below, above, turn, merged, merged_row}
-use Rattle.nested_merge.proofs.Rows.{rows, node_view-Inner, ascend_tail, ordered_tail, pushed}
-use Rattle.archive_tree.specs.declared.node.ANode.{the_lemmas}
+use Rattle.nested_merge.proofs.Rows.{rows, ascend_tail, ordered_tail, pushed}
+use Rattle.spelled_archive.proofs.NodeViews.{nodes, node_view-Inner}
+use Rattle.spelled_archive.specs.declared.node.SNode.{the_lemmas}
 use Rattle.lent_merge.proofs.Sizes.{nodes_size}
 use Rattle.lent_merge.proofs.Walk.{above_keeps, kid_seen, row_list, row_on, row_done, same_inner}
 use Rattle.lent_merge.proofs.row.+merge.Goals as goal
@@ -82,10 +84,10 @@ merge_node-returns-in_ok-merge_kids-in-Inner t c =
     on_ok_weaker c.grow.result (λ g. node_view-Inner _ c.grow.new.stamp c.merge_kids.new.row ∙ same_inner _ (label_view i.label) _ (grown n (stamp_view i.stamp)) _ _ (search (rules, the_lemmas, i.is)) (g ∙ ap (λ z. grown n (stamp_view z)) i.stamp-is) row ∙ sym (λ j. merged n p (old j) (new j))) c.grow.ensures
 
 pub merge_node-returns-in-Leaf : goal.merge_node-returns-in-Leaf
-merge_node-returns-in-Leaf t c = grind (arith, rows)
+merge_node-returns-in-Leaf t c = grind (arith, rows, nodes)
 
 pub merge_node-returns-in-Inner-node : goal.merge_node-returns-in-Inner-node
-merge_node-returns-in-Inner-node t c = grind (arith, rows)
+merge_node-returns-in-Inner-node t c = grind (arith, rows, nodes)
 
 pub merge_kids-loop-node-init : goal.merge_kids-loop-node-init
 merge_kids-loop-node-init t c = grind (arith, common_steps)

@@ -4,7 +4,7 @@ use Rattle.version_set.specs.View.{pairs_of}
 use Rattle.keyed_tree.specs.Data.{kids_from}
 use Rattle.keyed_tree.specs.Kids.{ascend, are_ordered}
 use Rattle.keyed_parts.specs.View.{kids_view}
-use Rattle.archive_tree.specs.View.{node_view, nodes_view}
+use Rattle.spelled_archive.specs.View.{node_view, nodes_view}
 use Rattle.nested_merge.specs.Below.{are_nodes_below}
 use Rattle.lent_merge.proofs.Sizes.{node_size, nodes_size}
 use Rattle.lent_merge.proofs.Walk.{row_list}

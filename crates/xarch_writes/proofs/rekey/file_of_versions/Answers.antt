@@ -2,7 +2,7 @@ use Rattle.std.proofs.Common.{inl, arith}
 use Rattle.std.proofs.lemmas.Result.{IfOk-weaker}
 use Rattle.key_rules.specs.View as keys
 use Rattle.key_spec.specs.View.{spec_view}
-use Rattle.archive_tree.specs.ArchiveView.{archive_view}
+use Rattle.spelled_archive.specs.ArchiveView.{spelled_archive_view}
 use Rattle.xarch_parts.specs.Ends.{IsInside}
 use Rattle.xarch_writes.proofs.RekeyEnds.{filed, no-memory, told-version, unfiled}
 use Rattle.xarch_writes.proofs.rekey.file_of_versions.Goals as goal
@@ -18,11 +18,11 @@ returns-in-Ok-clause-cause c = c.file_from.ensures.cause
 
 pub returns-in-Ok-clause-file : goal.returns-in-Ok-clause-file
 returns-in-Ok-clause-file c = λ vs is.
-    IfOk-weaker c.file_from.result _ _ (λ b sound. filed (spec_view c.args.spec.now) vs (archive_view c.in-Ok.archive) (c.in-Ok.ensures.archive vs is) b.items sound) c.file_from.ensures.sound
+    IfOk-weaker c.file_from.result _ _ (λ b sound. filed (spec_view c.args.spec.now) vs (spelled_archive_view c.in-Ok.archive) (c.in-Ok.ensures.archive vs is) b.items sound) c.file_from.ensures.sound
 
 pub returns-in-Ok-clause-refused : goal.returns-in-Ok-clause-refused
 returns-in-Ok-clause-refused c = λ vs q is.
-    unfiled (spec_view c.args.spec.now) vs (archive_view c.in-Ok.archive) (c.in-Ok.ensures.archive vs is) c.file_from.result q c.file_from.ensures.limit c.file_from.ensures.too_long
+    unfiled (spec_view c.args.spec.now) vs (spelled_archive_view c.in-Ok.archive) (c.in-Ok.ensures.archive vs is) c.file_from.result q c.file_from.ensures.limit c.file_from.ensures.too_long
 
 pub returns-in-Err-Key-clause-cause : goal.returns-in-Err-Key-clause-cause
 unfolding IsInside

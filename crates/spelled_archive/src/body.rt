@@ -1,0 +1,123 @@
+// The bodies of leaves.
+ghost use Rattle.record_parts.specs.Whole.{IsValueBytes};
+
+use crate::spell::{Unspelled, put_heavy};
+use jsonml_tree::LentRow;
+use keyed_tree::{Body, KeyVal};
+use record_parts::{BodyView, is_value, lend_body, put_value};
+use std::alloc::{AllocError, Global};
+
+/// A body as its encoding.
+#[derive(Drop)]
+pub struct Spelled {
+    bytes: Vec<u8>,
+    ghost valid: { IsValueBytes bytes.items },
+}
+
+/// A body of a leaf: a light one as it is, a heavy one as its encoding.
+///
+/// A content of 16 items or more is heavy, if it has an encoding.
+#[derive(Drop)]
+pub enum KeptBody {
+    Own(Body),
+    Spelled(Spelled),
+}
+
+/// A content of so many items is heavy.
+const HEAVY: usize = 16;
+
+impl Spelled {
+    ghost use Rattle.std.specs.Prelude.{◌≡◌, IfOk, IfSome};
+    ghost use Rattle.std.specs.Ordering.{is_eq};
+    ghost use Rattle.jsonml_tree.specs.LentView.{lent_row_view};
+    ghost use Rattle.keyed_tree.specs.Data.{inside};
+    ghost use Rattle.keyed_tree.specs.Order.{key_cmp};
+    ghost use Rattle.keyed_tree.specs.View.{key_view};
+    ghost use Rattle.xa_fields.specs.Reading.{whole};
+    ghost use Rattle.record_parts.specs.Reading.{value_at};
+    ghost use Rattle.record_parts.specs.ShownViews.{shown_body, value_in};
+    ghost use Rattle.spelled_archive.specs.View.{spelled_view};
+
+    /// The content, if it is heavy and has an encoding. Each byte is written once.
+    pub fn of_row(alloc: Global, row: &LentRow<'_>) -> Result<Option<Spelled>, AllocError>
+        ensures { IfOk result (λ o. IfSome o
+            (λ s. spelled_view s ≡ inside (lent_row_view row.now))) }
+    {
+        if row.items.len() < HEAVY {
+            return Ok(None);
+        }
+        let mut bytes = Vec::new(alloc);
+        match put_heavy(&mut bytes, row) {
+            Ok(()) => Ok(Some(Spelled::of_bytes(bytes))),
+            Err(Unspelled::Unfit) => Ok(None),
+            Err(Unspelled::Memory) => Err(AllocError),
+        }
+    }
+
+    // The body whose encoding these bytes are.
+    fn of_bytes(bytes: Vec<u8>) -> Spelled
+        requires { IsValueBytes bytes.items }
+        ensures { spelled_view result ≡ value_in (whole value_at bytes.items) }
+    {
+        Spelled { bytes }
+    }
+
+    // The body, if it is heavy and has an encoding.
+    fn of_own(alloc: Global, body: &Body) -> Result<Option<Spelled>, AllocError>
+        ensures { IfOk result (λ o. IfSome o (λ s. spelled_view s ≡ key_view body.now)) }
+    {
+        if !is_heavy(body) {
+            return Ok(None);
+        }
+        if !is_value(body) {
+            return Ok(None);
+        }
+        let mut bytes = Vec::new(alloc);
+        put_value(&mut bytes, body)?;
+        Ok(Some(Spelled::of_bytes(bytes)))
+    }
+
+    /// The body that it spells, lent.
+    pub fn lend(&self) -> BodyView<'_>
+        ensures { shown_body result ≡ spelled_view self.now }
+    {
+        lend_body(&self.bytes)
+    }
+
+    /// Whether both spell the same body.
+    pub fn same(&self, other: &Spelled) -> bool
+        ensures { result ≡ is_eq (key_cmp (spelled_view self.now) (spelled_view other.now)) }
+    {
+        self.lend().same_as(&other.lend())
+    }
+
+    /// The body that it spells.
+    pub fn copy(&self, alloc: Global) -> Result<Body, AllocError>
+        ensures { IfOk result (λ b. key_view b ≡ spelled_view self.now) }
+    {
+        self.lend().copy(alloc)
+    }
+}
+
+impl KeptBody {
+    ghost use Rattle.std.specs.Prelude.{◌≡◌, IfOk};
+    ghost use Rattle.keyed_tree.specs.View.{key_view};
+    ghost use Rattle.spelled_archive.specs.View.{kept_view};
+
+    /// The body, which is spelled if it is heavy and has an encoding.
+    pub fn of(alloc: Global, body: Body) -> Result<KeptBody, AllocError>
+        ensures { IfOk result (λ k. kept_view k ≡ key_view body) }
+    {
+        match Spelled::of_own(alloc, &body)? {
+            Some(spelled) => Ok(KeptBody::Spelled(spelled)),
+            None => Ok(KeptBody::Own(body)),
+        }
+    }
+}
+
+fn is_heavy(body: &Body) -> bool {
+    match body {
+        KeyVal::Content(content) => content.items.len() >= HEAVY,
+        KeyVal::Scalar(_) => false,
+    }
+}

@@ -1,0 +1,9 @@
+//! Archives in memory whose heavy bodies are kept as their encodings.
+#![tactic(auto)]
+
+mod body;
+mod node;
+mod spell;
+
+pub use body::{KeptBody, Spelled};
+pub use node::{Alt, SNode, SpelledArchive};
