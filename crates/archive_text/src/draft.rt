@@ -1,8 +1,6 @@
 // The parts of a line, appended to a text in memory, where a call fails for want of memory alone.
-ghost use Rattle.std.specs.Prelude.{◌≡◌, ◌++◌, ◌∷◌, [], map, OnOk, string_bytes, pos};
-ghost use Rattle.std.specs.List.{flat_map};
+ghost use Rattle.std.specs.Prelude.{◌≡◌, ◌++◌, ◌∷◌, [], map, OnOk};
 ghost use Rattle.json.specs.Print.{quoted};
-ghost use Rattle.jsonml_tree.specs.Data.{whole};
 ghost use Rattle.keyed_tree.specs.View.{key_view};
 ghost use Rattle.xa_outside.specs.InMemory.{sink_state};
 ghost use Rattle.jsonml_lines.specs.Lines.{cell_text, cells_text};

@@ -1,5 +1,5 @@
 // The text of an archive.
-ghost use Rattle.std.specs.Prelude.{◌≡◌, ◌++◌, ◌<◌, ◌^◌, ◌≤◌, [], ◌∷◌, map, length, OnOk, IfOk, IfErr, string_bytes};
+ghost use Rattle.std.specs.Prelude.{◌≡◌, ◌++◌, ◌<◌, ◌^◌, ◌≤◌, [], ◌∷◌, map, OnOk, IfErr, string_bytes};
 ghost use Rattle.xa_outside.specs.Causes.{Rose};
 ghost use Rattle.xa_outside.specs.InMemory.{sink_state};
 ghost use Rattle.xa_outside.specs.Taken.{Puts};
@@ -21,8 +21,7 @@ use xa_outside::{MemSink, Sink, put_all};
 
 /// Writes the text of an archive with a note for each version.
 ///
-/// The text is made in memory and then written in one piece: for want of memory nothing is written, and where the sink fails a
-/// prefix. It goes once over the nodes, and recurses as deep as they nest.
+/// The text is made in memory and then written in one piece. It goes once over the nodes, and recurses as deep as they nest.
 pub fn write_text<K: Sink>(
     alloc: Global,
     spec: &Spec,

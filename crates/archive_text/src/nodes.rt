@@ -1,11 +1,10 @@
 // The lines of nodes.
-ghost use Rattle.std.specs.Prelude.{◌≡◌, ◌++◌, map, codes, OnOk, IfOk, string_bytes};
-ghost use Rattle.version_set.specs.View.{pairs_of};
+ghost use Rattle.std.specs.Prelude.{◌≡◌, ◌++◌, map, OnOk, IfOk, string_bytes};
 ghost use Rattle.keyed_tree.specs.View.{name_view, label_view};
 ghost use Rattle.archive_tree.specs.View.{stamp_view, alt_view, node_view, nodes_view};
 ghost use Rattle.xa_outside.specs.InMemory.{sink_state};
 ghost use Rattle.jsonml_lines.specs.Lines.{line_text};
-ghost use Rattle.archive_text.specs.Export.{stamp_text, name_text, open_line, leaf_line, alt_line, end_line, node_lines, nodes_lines, lines_text, node_begun};
+ghost use Rattle.archive_text.specs.Export.{stamp_text, name_text, alt_line, end_line, node_lines, nodes_lines, lines_text, node_begun};
 
 use crate::draft::{put_cell, put_cells, put_end, put_text, put_word};
 use archive_tree::{ANode, Alt};

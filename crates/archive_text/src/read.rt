@@ -160,10 +160,10 @@ fn is_kept(
         (map string_bytes notes.now)
         → IfOk result (λ b. IsTrue b) }
 {
-    if !can_be_kept(alloc, spec, archive, notes)? {
+    if !is_text(alloc, spec, archive, notes, bytes)? {
         return Ok(false);
     }
-    is_text(alloc, spec, archive, notes, bytes)
+    can_be_kept(alloc, spec, archive, notes)
 }
 
 fn can_be_kept(

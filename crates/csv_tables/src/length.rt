@@ -26,7 +26,7 @@ pub fn text_length(table: &Table, tag: &str) -> u128
     length
 }
 
-/// The bytes of a row besides its fields: its brackets and tag, and for each column the name and three signs but one.
+/// The bytes of a row besides its fields: its brackets and tag, and for each column its name, a colon, and a comma for all but one.
 fn row_frame(heading: &[String]) -> u128
     ensures { result ≡ capped (frame (names_view heading.now)) }
 {

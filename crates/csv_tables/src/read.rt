@@ -2,7 +2,6 @@
 ghost use Rattle.std.specs.Prelude.{◌≡◌, ℕ, ◌≤◌, List, [], ◌∷◌, Option, None, Some, Ok, IfOk, IfErr, length};
 ghost use Rattle.csv.specs.Reading.{strip_bom};
 ghost use Rattle.csv.specs.Records.{fields_of};
-ghost use Rattle.key_spec.specs.View.{names_view};
 ghost use Rattle.csv_tables.specs.Records.{heading_why, table_of, IsRegular};
 ghost use Rattle.csv_tables.specs.Steps.{Stands, Steps, Owns, ReadsHeading, ReadsRows};
 ghost use Rattle.csv_tables.specs.View.{table_view, IsBad};
@@ -77,7 +76,7 @@ fn read_rows<R: Read>(alloc: Global, reader: &mut Reader<R>) -> Result<Vec<Vec<S
 
 /// Reads the record of this number, and says whether there is one.
 ///
-/// The bytes lie in memory, so that reading them fails for memory alone.
+/// The bytes lie in memory, so that a failure to read them is taken for want of memory.
 fn next<R: Read>(
     reader: &mut Reader<R>,
     row: &mut ByteRecord,

@@ -1,7 +1,7 @@
 ghost use Rattle.std.specs.Prelude.{◌≡◌, string_bytes};
 ghost use Rattle.std.specs.List.{list_all};
 ghost use Rattle.key_spec.specs.View.{names_view};
-ghost use Rattle.csv_tables.specs.Records.{has_field, IsRegular};
+ghost use Rattle.csv_tables.specs.Records.{has_field};
 ghost use Rattle.csv_tables.specs.View.{table_view};
 
 /// A heading, and the rows behind it. In a regular table the fields of the heading are pairwise different, and each row has

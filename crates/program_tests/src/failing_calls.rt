@@ -155,6 +155,19 @@ const TRIALS: &[Trial] = &[
         ..COMMAND
     },
     Trial {
+        name: "import",
+        words: &["import", "t", "B"],
+        left: ("B", 1198),
+        ..COMMAND
+    },
+    Trial {
+        name: "an import that is refused",
+        words: &["import", "d1", "B"],
+        status: 20,
+        line: b"xarch: bad text\n",
+        ..COMMAND
+    },
+    Trial {
         name: "cut",
         words: &["cut", "A", "B", "2", "3"],
         left: ("B", 1190),
@@ -280,6 +293,7 @@ fn scene_of(
         ("d1", JOHN),
         ("d2", JOHN_RAISED),
         ("c", TABLE),
+        ("t", TEXT_OF_THREE),
     ];
     let outside = Outside {
         input: trial.input,

@@ -18,6 +18,8 @@ mod failing_calls;
 #[cfg(test)]
 mod histories;
 #[cfg(test)]
+mod imports;
+#[cfg(test)]
 mod log;
 #[cfg(test)]
 mod notes;

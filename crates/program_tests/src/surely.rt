@@ -58,6 +58,8 @@ const ANSWERS: &[(&[&str], u8)] = &[
     (&["log", "A", "[]"], 17),
     (&["export", "A"], 0),
     (&["export", "doc"], 11),
+    (&["import", "doc", "B"], 20),
+    (&["import", "doc", "A"], 4),
 ];
 
 fn sure_files(alloc: Global) -> Result<SureFolder, AllocError> {

@@ -12,7 +12,7 @@ const DB: &[u8] = b"[\"db\"]";
 
 const DAMAGED: &[u8] = b"xarch: damaged archive A\n";
 
-const TEXT_OF_ONE: Pieces = &[(
+pub(crate) const TEXT_OF_ONE: Pieces = &[(
     b"[\"xarch\",1]\n[\"key\",\"(/, (db, {}))\"]\n[\"leaf\",\"\",\"db\"]\n[\"alt\",\"\",[]]\n[\"end\"]\n[\"end\"]\n",
     1,
 )];
@@ -52,7 +52,7 @@ pub(crate) const TEXT_OF_THREE: &[u8] = b"[\"xarch\",3]
 [\"end\"]
 ";
 
-const NOTED_TEXT: &[u8] =
+pub(crate) const NOTED_TEXT: &[u8] =
     b"[\"xarch\",2]\n[\"key\",\"(/, (db, {}))\"]\n[\"note\",1,\"first\"]\n[\"leaf\",\"\",\"db\"]\n[\"alt\",\"\",[]]\n[\"end\"]\n[\"end\"]\n";
 
 const FIRST_WRITE_FAILS: Outside<'static> = Outside {

@@ -112,6 +112,16 @@ const COMMANDS: &[(&str, &[&str], Option<Command<'static>>)] = &[
         Some(Command::Export { archive: "a.xar" }),
     ),
     (
+        "import",
+        &["import", "a.txt", "b.xar"],
+        Some(Command::Import {
+            text: "a.txt",
+            new: "b.xar",
+        }),
+    ),
+    ("import of no file", &["import"], None),
+    ("import of one file", &["import", "a.txt"], None),
+    (
         "cut",
         &["cut", "a.xar", "b.xar", "2", "3"],
         Some(Command::Cut {
@@ -281,6 +291,7 @@ const FAULTS: &[(u8, &str, &str)] = &[
     (16, "", "xarch: out of memory\n"),
     (17, "", "xarch: path is not at the frontier\n"),
     (19, "", "xarch: bad table, record 2, why 3\n"),
+    (20, "", "xarch: bad text\n"),
 ];
 
 /// A fault of this status.
@@ -300,6 +311,7 @@ fn fault_of(alloc: Global, status: u8, name: &str) -> Result<Fault, AllocError> 
         15 => Fault::InFault,
         17 => Fault::NotFrontier,
         19 => Fault::BadCsv { row: 2, why: 3 },
+        20 => Fault::BadText,
         _ => Fault::Memory,
     })
 }
@@ -357,6 +369,7 @@ const LIMITS: &[(Quantity, u64, &str)] = &[
     ),
     (Quantity::Demo, 1_000, "xarch: limit demo 1000\n"),
     (Quantity::Note, 1_024, "xarch: limit note 1024\n"),
+    (Quantity::Text, 67_108_864, "xarch: limit text 67108864\n"),
 ];
 
 fn is_limit_said(alloc: Global, quantity: Quantity, number: u64, line: &str) -> bool {

@@ -8,15 +8,14 @@ use Rattle.keyed_tree.specs.Data.{PlainKeyed}
 use Rattle.archive_tree.specs.Data.{PlainArchive}
 use Rattle.archive_tree.specs.Stands.{ArchiveOf}
 use Rattle.record_format.specs.Files.{FileOf}
-use Rattle.record_format.specs.Fronts.{fixed}
 use Rattle.noted_file.specs.Full.{Full, FullAs, FullOf}
 use Rattle.archive_stats.specs.Counts.{PlainCounts, counts}
 use Rattle.key_rules.specs.Faults.{PlainKeyFault}
 use Rattle.archive_cut.specs.Sliced.{items}
 use Rattle.archive_rekey.specs.Rekeyed.{AreRekeyed, IsFirstBad}
-use Rattle.archive_text.specs.Export.{export_text}
+use Rattle.archive_text.specs.Export.{ExportOf, export_text}
 use Rattle.xarch_gen.specs.Company.{company_rules}
-use Rattle.xarch_words.specs.Commands.{PlainCommand, norm, init, add, rekey, get, history, log, check, stats, versions, export, cut, table, tablekeys, batch, demo}
+use Rattle.xarch_words.specs.Commands.{PlainCommand, norm, init, add, rekey, get, history, log, check, stats, versions, export, import, cut, table, tablekeys, batch, demo}
 use Rattle.xarch_words.specs.Refusal.{Refusal, no_file, key_fault_in, damaged}
 use Rattle.xarch_meanings.specs.Add.{AddsTo, added}
 use Rattle.xarch_meanings.specs.Check.{IsFound, check_text}
@@ -24,10 +23,11 @@ use Rattle.xarch_meanings.specs.Cut.{CutsFrom, cut_checked, noted_items}
 use Rattle.xarch_meanings.specs.Export.{ExportsFrom}
 use Rattle.xarch_parts.specs.Archives.{GoesOn, Opens, Stores, short_note}
 use Rattle.xarch_meanings.specs.Demo.{MakesOrNone, demo_input, samples}
+use Rattle.xarch_meanings.specs.Import.{ImportsFrom, import_text}
 use Rattle.xarch_meanings.specs.Init.{init_rules}
 use Rattle.xarch_parts.specs.Inputs.{file_of}
-use Rattle.xarch_parts.specs.Outcome.{Outcome, Step, and_then, or_refuse, step_from}
-use Rattle.xarch_meanings.specs.Plausible.{IsLate, MayAdd, MayRekey, MayOver, MayWrite, MayBe, MayComeLate, MayDo, MayMake, Plausible, add_input, cut_input, get_input, history_input, log_input, stats_input, versions_input}
+use Rattle.xarch_parts.specs.Outcome.{Outcome, Step, step_from}
+use Rattle.xarch_meanings.specs.Plausible.{DamagedOrSound, IsLate, MayAdd, MayOver, MayWrite, MayBe, MayComeLate, MayDo, MayMake, Plausible, add_input, cut_input, get_input, history_input, log_input, stats_input, versions_input}
 use Rattle.xarch_meanings.specs.PlausibleLaws.{late-three, late-unlisted, late-unlogged, late-unsound, plain-step}
 use Rattle.xarch_meanings.specs.Rekey.{RekeysTo, rekey_rules}
 use Rattle.xarch_meanings.specs.Stats.{CountsFrom, counts_text, noted_counts}
@@ -38,6 +38,8 @@ module _ (one_archive : (vs : List PlainKeyed) (a b : PlainArchive) → ArchiveO
     (one_full : (rules : List PlainRule) (vs : List PlainKeyed) (notes : List (List ℕ)) (b c : List ℕ) → FullOf rules vs notes b → FullOf rules vs notes c → b ≡ c)
     (defined : (rules : List PlainRule) (vs : List PlainKeyed) (notes : List (List ℕ)) (b : List ℕ) → FullAs rules vs notes b → FullOf rules vs notes b)
     (one_reading : (rules others : List PlainRule) (vs us : List PlainKeyed) (notes more : List (List ℕ)) (b : List ℕ) → FullAs rules vs notes b → FullAs others us more b → (rules ≡ others) × (vs ≡ us) × (notes ≡ more))
+    (one_text : (rules others : List PlainRule) (vs us : List PlainKeyed) (notes more : List (List ℕ)) (file other text : List ℕ) → FullAs rules vs notes file → FullAs others us more other → ExportOf rules vs notes text → ExportOf others us more text
+    → (rules ≡ others) × (vs ≡ us) × (notes ≡ more))
     (one_list : (rules : List PlainRule) (vs us ws : List PlainKeyed) → AreRekeyed rules vs us → AreRekeyed rules vs ws → us ≡ ws)
     (one_fault : (rules : List PlainRule) (vs : List PlainKeyed) (i j : ℕ) (f g : PlainKeyFault) → IsFirstBad rules vs i f → IsFirstBad rules vs j g → (i ≡ j) × (f ≡ g))
     (apart : (rules : List PlainRule) (vs us : List PlainKeyed) (i : ℕ) (f : PlainKeyFault) → AreRekeyed rules vs us → ¬ IsFirstBad rules vs i f) where
@@ -90,6 +92,22 @@ module _ (one_archive : (vs : List PlainKeyed) (a b : PlainArchive) → ArchiveO
   one_cut : (files : Files) (new : List ℕ) (i j : ℕ) (rules : List PlainRule) (vs : List PlainKeyed) (notes : List (List ℕ)) (r s : Result Outcome Refusal) → CutsFrom files new i j rules vs notes r → CutsFrom files new i j rules vs notes s → s ≡ r
   one_cut files new i j rules vs notes r s p q =
       one_way (cut_checked files new i j (length vs)) (λ _. Stores files new rules (items i j vs) (noted_items i j notes)) (λ _. one_stored files new rules (items i j vs) (noted_items i j notes)) r s p q
+
+  -- what is one archive with notes has one file
+  same_file : (rules others : List PlainRule) (vs us : List PlainKeyed) (notes more : List (List ℕ)) (b c : List ℕ) → rules ≡ others → vs ≡ us → notes ≡ more → FullAs rules vs notes b → FullAs others us more c → b ≡ c
+  same_file rules others vs us notes more b c r v n p q =
+      let moved = subst (λ (x : List PlainRule). FullAs x us more b) r (subst (λ (x : List PlainKeyed). FullAs rules x more b) v (subst (λ (x : List (List ℕ)). FullAs rules vs x b) n p)) in
+      one_full others us more b c (defined others us more b moved) (defined others us more c q)
+
+  -- a text is that of one archive with notes, or of none
+  one_imported : (files : Files) (new bytes : List ℕ) (r s : Result Outcome Refusal) → ImportsFrom files new bytes r → ImportsFrom files new bytes s → s ≡ r
+  one_imported files new bytes r s (inl p) (inl q) =
+      let same = one_text q.rules p.rules q.versions p.versions q.notes p.notes q.stored.bytes p.stored.bytes bytes q.stored.full p.stored.full q.spelled p.spelled in
+      let one = same_file q.rules p.rules q.versions p.versions q.notes p.notes q.stored.bytes p.stored.bytes same.0 same.1 same.2 q.stored.full p.stored.full in
+      q.stored.is ∙ ap (λ (b : List ℕ). Ok (record { files = map.insert files new b; output = [] })) one ∙ sym p.stored.is
+  one_imported files new bytes r s (inl p) (inr q) = absurd (q.none p.rules p.versions p.notes p.stored.bytes p.stored.full p.spelled)
+  one_imported files new bytes r s (inr p) (inl q) = absurd (p.none q.rules q.versions q.notes q.stored.bytes q.stored.full q.spelled)
+  one_imported files new bytes r s (inr p) (inr q) = q.is ∙ sym p.is
 
   -- a file has one number of versions, and is not sound and damaged
   same_count : (bytes : List ℕ) (p q : Full bytes) → length q.versions ≡ length p.versions
@@ -148,7 +166,7 @@ module _ (one_archive : (vs : List PlainKeyed) (a b : PlainArchive) → ArchiveO
   one files (init name spec) r s p q = one_way (init_rules files name spec) (λ rules. Stores files name rules [] []) (λ rules. one_stored files name rules [] []) r s p q
   one files (add name doc note) r s p q =
       one_either (short_note note) (λ _. Opens files name (AddsTo files name doc note)) (λ _. MayOver files name (GoesOn (add_input files name doc) (λ _. MayAdd files name)) (AddsTo files name doc note)) (λ _. one_added files name doc note) r s p q
-  one files (rekey name spec) r s (inl p) q = subst (λ x. GoesOn x (λ _. MayRekey files name) s) (rekey_absent files name spec p.absent) q.whatever ∙ sym p.is
+  one files (rekey name spec) r s (inl p) q = subst (λ x. GoesOn x (λ _. DamagedOrSound files name) s) (rekey_absent files name spec p.absent) q.whatever ∙ sym p.is
   one files (rekey name spec) r s (inr p) q =
       one_way (rekey_rules files name spec) (RekeysTo files name p.versions p.notes) (one_rekeyed files name p.versions p.notes) r s p.rest (q.sound p.rules p.versions p.notes p.archive)
   one files (get name i) r s (inl p) q = subst (λ x. GoesOn x (λ _. MayWrite files name) s) (get_absent files name i p.absent) q.whatever ∙ sym p.is
@@ -162,8 +180,9 @@ module _ (one_archive : (vs : List PlainKeyed) (a b : PlainArchive) → ArchiveO
   one files (stats name) r s (inr p) q = one_counted files p.rules p.versions p.notes r s p.rest (q.sound p.rules p.versions p.notes p.archive)
   one files (versions name) r s (inl p) q = subst (λ x. GoesOn x (λ _. MayWrite files name) s) (versions_absent files name p.absent) q.whatever ∙ sym p.is
   one files (versions name) r s (inr p) q = q.sound p.rules p.versions p.notes p.archive ∙ sym p.rest
-  one files (export name) r s (inl p) q = subst (λ x. GoesOn x (λ _. MayWrite files name) s) (stats_absent files name p.absent) q.whatever ∙ sym p.is
+  one files (export name) r s (inl p) q = subst (λ x. GoesOn x (λ _. DamagedOrSound files name) s) (stats_absent files name p.absent) q.whatever ∙ sym p.is
   one files (export name) r s (inr p) q = one_exported files p.rules p.versions p.notes r s p.rest (q.sound p.rules p.versions p.notes p.archive)
+  one files (import text new) r s p q = one_way (import_text files text new) (ImportsFrom files new) (one_imported files new) r s p q
   one files (cut name new i j) r s (inl p) q = subst (λ x. GoesOn x (λ _. MayMake files name new) s) (cut_absent files name new i j p.absent) q.whatever ∙ sym p.is
   one files (cut name new i j) r s (inr p) q = one_cut files new i j p.rules p.versions p.notes r s p.rest (q.sound p.rules p.versions p.notes p.archive)
   one files (table csv tag keys doc) r s p q = q ∙ sym p

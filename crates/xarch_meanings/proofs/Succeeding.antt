@@ -5,19 +5,21 @@ use Rattle.key_spec.specs.Data.{PlainRule}
 use Rattle.keyed_tree.specs.Data.{PlainKeyed}
 use Rattle.archive_tree.specs.History.{hist}
 use Rattle.record_format.specs.Files.{FileOf}
-use Rattle.noted_file.specs.Full.{Full}
+use Rattle.noted_file.specs.Full.{Full, FullAs}
+use Rattle.archive_text.specs.Export.{ExportOf}
 use Rattle.archive_cut.specs.Sliced.{items}
 use Rattle.content_log.specs.Text.{log_text}
 use Rattle.archive_rekey.specs.Rekeyed.{AreRekeyed, IsFirstBad}
 use Rattle.key_rules.specs.Faults.{PlainKeyFault}
 use Rattle.xarch_gen.specs.Company.{company_rules}
-use Rattle.xarch_words.specs.Commands.{PlainCommand, norm, init, add, rekey, get, history, log, check, stats, versions, export, cut, table, tablekeys, batch, demo}
+use Rattle.xarch_words.specs.Commands.{PlainCommand, norm, init, add, rekey, get, history, log, check, stats, versions, export, import, cut, table, tablekeys, batch, demo}
 use Rattle.xarch_words.specs.Refusal.{Refusal, no_file, no_version}
 use Rattle.xarch_parts.specs.Archives.{GoesOn, Stores}
 use Rattle.xarch_meanings.specs.Check.{IsFound}
 use Rattle.xarch_meanings.specs.Cut.{noted_items}
 use Rattle.xarch_meanings.specs.Demo.{MakesOrNone, samples}
 use Rattle.xarch_meanings.specs.History.{numbers_text}
+use Rattle.xarch_meanings.specs.Import.{ImportsFrom}
 use Rattle.xarch_meanings.specs.Rekey.{RekeysTo}
 use Rattle.keyed_print.specs.KeyedText.{keyed_text}
 use Rattle.xarch_parts.specs.Outcome.{and_then, or_refuse}
@@ -40,6 +42,10 @@ not_made files name seed count bytes q file s = elim s [ inl p ↦ clash q _ p.i
 -- a sound archive is found sound
 not_found : (files : Files) (name bytes : List ℕ) (q : Refusal) → IsFound files name bytes (Err q) → Full bytes → ⊥
 not_found files name bytes q s sound = elim s [ inl p ↦ clash q _ p.is | inr p ↦ p.unsound sound ]
+
+-- the text of an archive with notes that has a file gives it
+not_imported : (files : Files) (new bytes : List ℕ) (rules : List PlainRule) (vs : List PlainKeyed) (notes : List (List ℕ)) (file : List ℕ) (q : Refusal) → FullAs rules vs notes file → ExportOf rules vs notes bytes → ImportsFrom files new bytes (Err q) → ⊥
+not_imported files new bytes rules vs notes file q full of s = elim s [ inl p ↦ clash q _ p.stored.is | inr p ↦ p.none rules vs notes file full of ]
 
 module _ (one_list : (rules : List PlainRule) (vs us ws : List PlainKeyed) → AreRekeyed rules vs us → AreRekeyed rules vs ws → us ≡ ws)
     (apart : (rules : List PlainRule) (vs us : List PlainKeyed) (i : ℕ) (f : PlainKeyFault) → AreRekeyed rules vs us → ¬ IsFirstBad rules vs i f) where
@@ -71,6 +77,8 @@ module _ (one_list : (rules : List PlainRule) (vs us ws : List PlainKeyed) → A
   never_refused files (stats name) q h m = clash q _ (m.sound h.rules h.versions h.notes h.archive).is
   never_refused files (versions name) q h m = clash q _ (m.sound h.rules h.versions h.notes h.archive)
   never_refused files (export name) q h m = clash q _ (m.sound h.rules h.versions h.notes h.archive).is
+  never_refused files (import text new) q h m =
+      not_imported files new h.bytes h.rules h.versions h.notes h.file q h.full h.spelled (subst (λ (x : Result (List ℕ) Refusal). GoesOn x (ImportsFrom files new) (Err q)) h.there m)
   never_refused files (cut name new i j) q h m =
       not_stored files new h.rules (items i j h.versions) (noted_items i j h.notes) h.bytes q h.file
       (subst (λ (x : Result Unit Refusal). GoesOn x (λ _. Stores files new h.rules (items i j h.versions) (noted_items i j h.notes)) (Err q)) h.free (m.sound h.rules h.versions h.notes h.archive))
@@ -94,6 +102,7 @@ one_alone files (check name) h = refl
 one_alone files (stats name) h = refl
 one_alone files (versions name) h = refl
 one_alone files (export name) h = refl
+one_alone files (import text new) h = refl
 one_alone files (cut name new i j) h = refl
 one_alone files (table csv tag keys doc) h = refl
 one_alone files (tablekeys tag keys spec) h = refl

@@ -3,8 +3,8 @@ use Rattle.std.proofs.Common.{◌≡◌, ℕ, List, Option, Some}
 use Rattle.xa_outside.specs.Folder.{Files}
 use Rattle.record_cursor.specs.Moves.{TellsFront, IsHeaderOf}
 use Rattle.record_cursor.specs.View.{PlainHeader}
-use Rattle.xarch_parts.specs.Archives.{CoreIs, IsFrontOf}
-use Rattle.xarch_parts.specs.CoreLaws.{core-told, one-core}
+use Rattle.xarch_parts.specs.Archives.{IsFrontOf}
+use Rattle.xarch_parts.specs.CoreLaws.{core-told}
 
 -- The header stands in front of the file of this name, among files that are told.
 module _ (files : Files) (told : Option Files) (name : List ℕ) (h : PlainHeader) (tells : told ≡ Some files) (front : IsFrontOf files name h) where

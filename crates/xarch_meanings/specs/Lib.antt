@@ -13,6 +13,7 @@ pub mod Log
 pub mod Stats
 pub mod Versions
 pub mod Export
+pub mod Import
 pub mod Cut
 pub mod Table
 pub mod KeyLaws

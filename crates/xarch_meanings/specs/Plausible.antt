@@ -8,7 +8,7 @@ use Rattle.key_spec.specs.Data.{PlainRule}
 use Rattle.keyed_tree.specs.Data.{PlainLabel, PlainKeyed}
 use Rattle.record_format.specs.Fronts.{fixed}
 use Rattle.version_notes.specs.declared.parts.Parts.{Parts}
-use Rattle.xarch_words.specs.Commands.{PlainCommand, norm, init, add, rekey, get, history, log, check, stats, versions, export, cut, table, tablekeys, batch, demo}
+use Rattle.xarch_words.specs.Commands.{PlainCommand, norm, init, add, rekey, get, history, log, check, stats, versions, export, import, cut, table, tablekeys, batch, demo}
 use Rattle.xarch_words.specs.Lines.{fault_line, refusal_status}
 use Rattle.xarch_words.specs.Refusal.{archive, document, Refusal, usage, damaged, no_version, limit, refused}
 use Rattle.xarch_meanings.specs.Add.{AddsTo, room_behind, tree_of}
@@ -19,6 +19,7 @@ use Rattle.xarch_meanings.specs.Demo.{DemoIs}
 use Rattle.xarch_meanings.specs.Export.{ExportsFrom}
 use Rattle.xarch_meanings.specs.Get.{GetsFrom}
 use Rattle.xarch_meanings.specs.History.{TellsFrom, labels_of}
+use Rattle.xarch_meanings.specs.Import.{ImportIs}
 use Rattle.xarch_meanings.specs.Init.{InitIs}
 use Rattle.xarch_meanings.specs.Log.{LogsFrom, frontier_of}
 use Rattle.xarch_parts.specs.Inputs.{file_length, file_of, length_in, read_in}
@@ -132,8 +133,8 @@ abbrev pub MayAdd : Files → List ℕ → Result Outcome Refusal → Type 0
 MayAdd files name r = MayMake files name name r
 
 -- The archive is damaged, or it is sound.
-abbrev pub MayRekey : Files → List ℕ → Result Outcome Refusal → Type 0
-MayRekey files name r = (r ≡ Err (damaged name)) ⊎ Opened files name (λ _ _ _ _. ⊤) r
+abbrev pub DamagedOrSound : Files → List ℕ → Result Outcome Refusal → Type 0
+DamagedOrSound files name r = (r ≡ Err (damaged name)) ⊎ Opened files name (λ _ _ _ _. ⊤) r
 
 abbrev pub MayWrite : Files → List ℕ → Result Outcome Refusal → Type 0
 MayWrite files name r = (r ≡ Err (damaged name)) ⊎ Written files r
@@ -149,14 +150,15 @@ unfoldable pub MayBe : Files → PlainCommand → Result Outcome Refusal → Typ
 MayBe files (norm spec doc) r = r ≡ norm_of files spec doc
 MayBe files (init name spec) r = InitIs files name spec r
 MayBe files (add name doc note) r = GoesOn (short_note note) (λ _. MayOver files name (GoesOn (add_input files name doc) (λ _. MayAdd files name)) (AddsTo files name doc note)) r
-MayBe files (rekey name spec) r = MayOver files name (GoesOn (rekey_rules files name spec) (λ _. MayRekey files name)) (RekeysFrom files name spec) r
+MayBe files (rekey name spec) r = MayOver files name (GoesOn (rekey_rules files name spec) (λ _. DamagedOrSound files name)) (RekeysFrom files name spec) r
 MayBe files (get name i) r = MayOver files name (GoesOn (get_input files name i) (λ _. MayWrite files name)) (GetsFrom files i) r
 MayBe files (history name path) r = MayOver files name (GoesOn (history_input files name path) (λ _. MayWrite files name)) (TellsFrom files path) r
 MayBe files (log name path) r = MayOver files name (GoesOn (log_input files name path) (λ _. MayWrite files name)) (LogsFrom files path) r
 MayBe files (check name) r = CheckIs files name r
 MayBe files (stats name) r = MayOver files name (GoesOn (stats_input files name) (λ _. MayWrite files name)) (CountsFrom files) r
 MayBe files (versions name) r = MayOver files name (GoesOn (versions_input files name) (λ _. MayWrite files name)) (ListsFrom files) r
-MayBe files (export name) r = MayOver files name (GoesOn (stats_input files name) (λ _. MayWrite files name)) (ExportsFrom files) r
+MayBe files (export name) r = MayOver files name (GoesOn (stats_input files name) (λ _. DamagedOrSound files name)) (ExportsFrom files) r
+MayBe files (import text new) r = ImportIs files text new r
 MayBe files (cut name new i j) r = MayOver files name (GoesOn (cut_input files name new i j) (λ _. MayMake files name new)) (CutsFrom files new i j) r
 MayBe files (table csv tag keys doc) r = r ≡ tabled files csv tag keys doc
 MayBe files (tablekeys tag keys spec) r = r ≡ keys_tabled files tag keys spec

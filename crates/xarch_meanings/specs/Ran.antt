@@ -5,7 +5,7 @@ use Rattle.xa_outside.specs.Causes.{Rose}
 use Rattle.xa_outside.specs.Folder.{Files}
 use Rattle.xa_outside.specs.Numbers.{Numbers, PullsAtMost}
 use Rattle.xa_outside.specs.Taken.{Taken, Takes, TakesPrefix}
-use Rattle.xarch_words.specs.Commands.{PlainCommand, norm, init, add, rekey, get, history, log, check, stats, versions, export, cut, table, tablekeys, batch, demo}
+use Rattle.xarch_words.specs.Commands.{PlainCommand, norm, init, add, rekey, get, history, log, check, stats, versions, export, import, cut, table, tablekeys, batch, demo}
 use Rattle.xarch_words.specs.Lines.{fault_status, fault_line}
 use Rattle.xarch_words.specs.Refusal.{PlainFault, damaged, refused, folder_fault, out_fault, in_fault, memory}
 use Rattle.xarch_parts.specs.Outcome.{Step}
@@ -61,13 +61,14 @@ made_name (check archive) = None
 made_name (stats archive) = None
 made_name (versions archive) = None
 made_name (export archive) = None
+made_name (import text new) = Some new
 made_name (cut archive new i j) = Some new
 made_name (table csv tag keys doc) = Some doc
 made_name (tablekeys tag keys spec) = Some spec
 made_name batch = None
 made_name (demo seed count archive) = Some archive
 
--- How many bytes a command pulls at most: those of a specification and of a document at their limits, and those of an archive
+-- How many bytes a command pulls at most: those of a specification, of a document and of a text at their limits, and those of an archive
 -- whole, each of them once, and 16 in which it is looked where the notes begin; but `rekey` reads the header of the archive
 -- before its whole, and `log` may read a leaf when it has been searched for.
 abbrev pub most_pulled : PlainCommand → Option Files → ℕ
@@ -82,6 +83,7 @@ most_pulled (check archive) told = size_in told archive + 16
 most_pulled (stats archive) told = size_in told archive + 16
 most_pulled (versions archive) told = size_in told archive + 16
 most_pulled (export archive) told = size_in told archive + 16
+most_pulled (import text new) told = 67108864
 most_pulled (cut archive new i j) told = size_in told archive + 16
 most_pulled (table csv tag keys doc) told = 67108864
 most_pulled (tablekeys tag keys spec) told = 0

@@ -1,7 +1,7 @@
 -- What the words have the program do.
 use Rattle.std.specs.Prelude.{◌≡◌, ℕ, List, Option, Some, None, Result, Err}
 use Rattle.xa_outside.specs.Folder.{Files}
-use Rattle.xarch_words.specs.Commands.{PlainCommand, norm, init, add, rekey, get, history, log, check, stats, versions, export, cut, table, tablekeys, batch, demo, command_of}
+use Rattle.xarch_words.specs.Commands.{PlainCommand, norm, init, add, rekey, get, history, log, check, stats, versions, export, import, cut, table, tablekeys, batch, demo, command_of}
 use Rattle.xarch_words.specs.Refusal.{Refusal, usage}
 use Rattle.xarch_meanings.specs.Add.{AddIs}
 use Rattle.xarch_meanings.specs.Check.{CheckIs}
@@ -10,6 +10,7 @@ use Rattle.xarch_meanings.specs.Demo.{DemoIs}
 use Rattle.xarch_meanings.specs.Export.{ExportIs}
 use Rattle.xarch_meanings.specs.Get.{GetIs}
 use Rattle.xarch_meanings.specs.History.{HistoryIs}
+use Rattle.xarch_meanings.specs.Import.{ImportIs}
 use Rattle.xarch_meanings.specs.Init.{InitIs}
 use Rattle.xarch_meanings.specs.Log.{LogIs}
 use Rattle.xarch_meanings.specs.Norm.{norm_of}
@@ -32,6 +33,7 @@ OutcomeIs files (check archive) r = CheckIs files archive r
 OutcomeIs files (stats archive) r = StatsIs files archive r
 OutcomeIs files (versions archive) r = VersionsIs files archive r
 OutcomeIs files (export archive) r = ExportIs files archive r
+OutcomeIs files (import text new) r = ImportIs files text new r
 OutcomeIs files (cut archive new i j) r = CutIs files archive new i j r
 OutcomeIs files (table csv tag keys doc) r = r ≡ tabled files csv tag keys doc
 OutcomeIs files (tablekeys tag keys spec) r = r ≡ keys_tabled files tag keys spec

@@ -6,15 +6,18 @@ use Rattle.keyed_tree.specs.Data.{PlainLabel, PlainKeyed}
 use Rattle.archive_tree.specs.Stands.{version_of}
 use Rattle.archive_cut.specs.Sliced.{items}
 use Rattle.archive_rekey.specs.Rekeyed.{AreRekeyed}
+use Rattle.archive_text.specs.Export.{ExportOf}
+use Rattle.noted_file.specs.Full.{FullAs}
 use Rattle.record_format.specs.Files.{FileOf}
 use Rattle.xarch_gen.specs.Company.{company_rules}
-use Rattle.xarch_words.specs.Commands.{PlainCommand, norm, init, add, rekey, get, history, log, check, stats, versions, export, cut, table, tablekeys, batch, demo}
+use Rattle.xarch_words.specs.Commands.{PlainCommand, norm, init, add, rekey, get, history, log, check, stats, versions, export, import, cut, table, tablekeys, batch, demo}
 use Rattle.xarch_words.specs.Refusal.{Refusal}
 use Rattle.xarch_meanings.specs.Add.{added}
 use Rattle.xarch_parts.specs.Archives.{ArchiveIs, short_note}
 use Rattle.xarch_meanings.specs.Cut.{cut_checked}
 use Rattle.xarch_meanings.specs.Demo.{demo_input, samples}
 use Rattle.xarch_meanings.specs.History.{labels_of}
+use Rattle.xarch_meanings.specs.Import.{import_text}
 use Rattle.xarch_meanings.specs.Init.{init_rules}
 use Rattle.xarch_meanings.specs.Log.{frontier_of}
 use Rattle.xarch_meanings.specs.Norm.{norm_of}
@@ -105,6 +108,17 @@ pub record HasArchive (files : Files) (name : List ℕ) : Type 0 where
   pub notes : List (List ℕ)
   pub archive : ArchiveIs files name rules versions notes
 
+-- The text is there and short enough, the new name is free, and the bytes are the text of an archive with notes that has a file.
+pub record CanImport (files : Files) (text new : List ℕ) : Type 0 where
+  pub bytes : List ℕ
+  pub rules : List PlainRule
+  pub versions : List PlainKeyed
+  pub notes : List (List ℕ)
+  pub file : List ℕ
+  pub there : import_text files text new ≡ Ok bytes
+  pub full : FullAs rules versions notes file
+  pub spelled : ExportOf rules versions notes bytes
+
 -- there are not too many documents, the archive's name is free, and the documents have a file
 pub record CanDemo (files : Files) (seed count : ℕ) (name : List ℕ) : Type 0 where
   pub bytes : List ℕ
@@ -124,6 +138,7 @@ ShouldSucceed files (check name) = HasArchive files name
 ShouldSucceed files (stats name) = HasArchive files name
 ShouldSucceed files (versions name) = HasArchive files name
 ShouldSucceed files (export name) = HasArchive files name
+ShouldSucceed files (import text new) = CanImport files text new
 ShouldSucceed files (cut name new i j) = CanCut files name new i j
 ShouldSucceed files (table csv tag keys doc) = HasValue (tabled files csv tag keys doc)
 ShouldSucceed files (tablekeys tag keys spec) = HasValue (keys_tabled files tag keys spec)

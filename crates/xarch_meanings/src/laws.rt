@@ -11,6 +11,7 @@ ghost use Rattle.xarch_meanings.specs.Succeeds.{ShouldSucceed};
 ghost use Rattle.xarch_meanings.specs.Texts.{TellsArchives, TellsTexts, TellsVersions};
 
 use archive_rekey::versions_have_one_rekeying;
+use archive_text::texts_have_one_reading;
 use archive_tree::archives_stand_for_one_list;
 use noted_file::full_files_have_one_reading;
 use record_cursor::files_give_their_items;
@@ -38,6 +39,7 @@ pub fn commands_take_one_step()
     versions_have_one_file();
     versions_have_one_rekeying();
     full_files_have_one_reading();
+    texts_have_one_reading();
 }
 
 /// The bytes of a sound archive tell the archive and its versions. It does nothing.

@@ -6,6 +6,9 @@ pub const SPECIFICATION: u64 = 1_048_576;
 /// The bytes of a document.
 pub const DOCUMENT: u64 = 67_108_864;
 
+/// The bytes of an archive's text.
+pub const TEXT: u64 = 67_108_864;
+
 /// The bytes of a note.
 pub const NOTE: u64 = 1_024;
 

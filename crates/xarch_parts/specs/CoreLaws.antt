@@ -1,5 +1,5 @@
 -- The bytes of a file before its notes.
-use Rattle.std.proofs.Common.{◌≡◌, ℕ, ◌+◌, ◌-◌, ◌≤◌, min, Bool, true, false, nat_le, List, ◌++◌, length, take, Option, Some, None, Result, Ok, Err, if◌then◌else◌, refl, sym, ap, ◌∙◌, subst, arith, length-take}
+use Rattle.std.proofs.Common.{◌≡◌, ℕ, ◌+◌, ◌-◌, ◌≤◌, Bool, true, false, nat_le, List, ◌++◌, length, take, Option, Some, None, Result, Ok, Err, if◌then◌else◌, refl, sym, ap, ◌∙◌, subst, arith, length-take}
 use Rattle.std.proofs.lemmas.Bool.{le-leb}
 use Rattle.std.proofs.Math.Seq.{take-append_seam}
 use Rattle.std.specs.FinMap as map
@@ -20,7 +20,7 @@ use Rattle.noted_file.specs.Full.{FullAs}
 use Rattle.xarch_words.specs.Refusal.{Refusal, no_file, damaged}
 use Rattle.xarch_parts.specs.Archives.{ArchiveIs, CoreIs, PartsAre}
 use Rattle.xarch_parts.specs.Inputs.{file_of, read_in}
-use Rattle.xarch_parts.specs.Noted.{AreWithin, notes_bytes}
+use Rattle.xarch_parts.specs.Noted.{AreWithin}
 use Rattle.xarch_parts.specs.Outcome.{and_then, or_refuse}
 use Rattle.xarch_parts.specs.Readings.{core_in, front_in, front_of_core, parts_of}
 

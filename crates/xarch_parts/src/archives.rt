@@ -3,7 +3,6 @@
 ghost use Rattle.std.specs.Prelude.{◌≡◌, ◌≤◌, ℕ, List, Some, IfOk, IfErr, OnOk};
 ghost use Rattle.std.specs.FinMap as map;
 ghost use Rattle.xa_outside.specs.Folder.{Files, committed};
-ghost use Rattle.key_spec.specs.Data.{PlainRule};
 ghost use Rattle.key_spec.specs.View.{spec_view};
 ghost use Rattle.keyed_tree.specs.Data.{PlainKeyed};
 ghost use Rattle.archive_tree.specs.ArchiveView.{archive_view};

@@ -5,7 +5,7 @@ use Rattle.xa_outside.specs.Causes.{Rose}
 use Rattle.xa_outside.specs.Folder.{Files}
 use Rattle.xa_outside.specs.Numbers.{Numbers}
 use Rattle.xa_outside.specs.Taken.{Taken}
-use Rattle.xarch_words.specs.Commands.{PlainCommand, norm, init, add, rekey, get, history, log, check, stats, versions, export, cut, table, tablekeys, batch, demo}
+use Rattle.xarch_words.specs.Commands.{PlainCommand, norm, init, add, rekey, get, history, log, check, stats, versions, export, import, cut, table, tablekeys, batch, demo}
 use Rattle.xarch_words.specs.Refusal.{folder_fault, out_fault, in_fault, memory}
 use Rattle.xarch_parts.specs.Outcome.{Step}
 use Rattle.xarch_meanings.specs.FillsUp.{FillsUp}
@@ -30,6 +30,7 @@ alone-reads (Some (check archive)) h = h
 alone-reads (Some (stats archive)) h = h
 alone-reads (Some (versions archive)) h = h
 alone-reads (Some (export archive)) h = h
+alone-reads (Some (import text new)) h = absurd h
 alone-reads (Some (cut archive new i j)) h = absurd h
 alone-reads (Some (table csv tag keys doc)) h = absurd h
 alone-reads (Some (tablekeys tag keys spec)) h = absurd h
@@ -50,6 +51,7 @@ alone-said P of (Some (check archive)) h = h
 alone-said P of (Some (stats archive)) h = h
 alone-said P of (Some (versions archive)) h = h
 alone-said P of (Some (export archive)) h = h
+alone-said P of (Some (import text new)) h = h
 alone-said P of (Some (cut archive new i j)) h = h
 alone-said P of (Some (table csv tag keys doc)) h = h
 alone-said P of (Some (tablekeys tag keys spec)) h = h
@@ -72,6 +74,7 @@ alone-late (Some (check archive)) answer late = absurd late
 alone-late (Some (stats archive)) answer late = absurd late
 alone-late (Some (versions archive)) answer late = late
 alone-late (Some (export archive)) answer late = absurd late
+alone-late (Some (import text new)) answer late = absurd late
 alone-late (Some (cut archive new i j)) answer late = absurd late
 alone-late (Some (table csv tag keys doc)) answer late = absurd late
 alone-late (Some (tablekeys tag keys spec)) answer late = absurd late
@@ -110,6 +113,7 @@ none-alone (Some (check archive)) e other = absurd cc
 none-alone (Some (stats archive)) e other = absurd cc
 none-alone (Some (versions archive)) e other = absurd cc
 none-alone (Some (export archive)) e other = absurd cc
+none-alone (Some (import text new)) e other = absurd cc
 none-alone (Some (cut archive new i j)) e other = absurd cc
 none-alone (Some (table csv tag keys doc)) e other = absurd cc
 none-alone (Some (tablekeys tag keys spec)) e other = absurd cc

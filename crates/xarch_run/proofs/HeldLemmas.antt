@@ -8,15 +8,15 @@ use Rattle.key_spec.specs.Data.{PlainRule}
 use Rattle.keyed_tree.specs.Data.{PlainKeyed}
 use Rattle.keyed_tree.specs.Kids.{IsOrdered}
 use Rattle.archive_tree.specs.Stands.{version_of}
-use Rattle.record_format.specs.Files.{FileOf}
 use Rattle.archive_file.specs.KeyedBy.{IsKeyedBy}
 use Rattle.archive_file.specs.Sound.{SoundAs}
 use Rattle.archive_cut.specs.Sliced.{items}
 use Rattle.archive_rekey.specs.Rekeyed.{AreRekeyed, IsFirstBad}
+use Rattle.archive_text.specs.Export.{ExportOf}
 use Rattle.key_rules.specs.Faults.{PlainKeyFault}
 use Rattle.xarch_gen.specs.Company.{company_rules}
-use Rattle.xarch_words.specs.Commands.{PlainCommand, norm, init, add, rekey, get, history, log, check, stats, versions, export, cut, table, tablekeys, batch, demo, key_names}
-use Rattle.xarch_words.specs.Refusal.{specification, Refusal, exists, no_file}
+use Rattle.xarch_words.specs.Commands.{PlainCommand, norm, init, add, rekey, get, history, log, check, stats, versions, export, import, cut, table, tablekeys, batch, demo, key_names}
+use Rattle.xarch_words.specs.Refusal.{specification, Refusal, bad_text, exists, no_file}
 use Rattle.xarch_words.specs.Refusal as refusal
 use Rattle.xarch_meanings.specs.Add.{AddsTo, added}
 use Rattle.noted_file.specs.Full.{FullAs, FullOf}
@@ -25,21 +25,22 @@ use Rattle.xarch_meanings.specs.Cut.{CutsFrom, cut_checked, noted_items}
 use Rattle.xarch_meanings.specs.Demo.{MakesOrNone, demo_input, samples}
 use Rattle.xarch_meanings.specs.Get.{version_text}
 use Rattle.xarch_meanings.specs.History.{history_text}
+use Rattle.xarch_meanings.specs.Import.{ImportsFrom, import_text}
 use Rattle.xarch_meanings.specs.Init.{init_rules}
 use Rattle.xarch_meanings.specs.Log.{logged}
 use Rattle.xarch_parts.specs.Inputs.{at_most, length_in, read_in}
-use Rattle.xarch_parts.specs.Outcome.{Outcome, Step, step_from}
-use Rattle.xarch_meanings.specs.Plausible.{MayAdd, MayBe, MayMake, MayOver, MayRekey, add_input, cut_input, step_behind}
+use Rattle.xarch_parts.specs.Outcome.{Outcome, Step, or_refuse, step_from}
+use Rattle.xarch_meanings.specs.Plausible.{DamagedOrSound, MayAdd, MayBe, MayMake, MayOver, add_input, cut_input, step_behind}
 use Rattle.xarch_meanings.specs.Rekey.{RekeysTo, rekey_rules}
 use Rattle.xarch_meanings.specs.PlausibleLaws.{late-unlisted, late-unlogged, late-unsound, no-late, plain-step}
 use Rattle.xarch_parts.specs.Readings.{rules_of}
 use Rattle.xarch_meanings.specs.Succeeds.{HasArchive, ShouldSucceed}
-use Rattle.xarch_meanings.specs.Table.{document_for, keys_tabled, short_rules, table_input, tabled}
+use Rattle.xarch_meanings.specs.Table.{short_rules, table_input}
 use Rattle.xarch_meanings.specs.Versions.{listed}
 use Rattle.xarch_run.specs.Calls.{CommandMay, CommandsDid}
-use Rattle.xarch_run.specs.Held.{Accepted, AddsDoc, BeginsWith, Begun, ChangesKeys, ChangesOrTells, CutsOrTells, GoesOver, HandedIn, Held, HeldAfter, HeldBy, Holds, HoldsBehind, HoldsExactly, IsCutFrom, IsHandedIn, IsRekeyed, MakesArchive, MakesFile, NoneMakes, RefusalsKeep, TakesKeys, WritesCounts, WritesText, cut_held, with_keyed}
+use Rattle.xarch_run.specs.Held.{Accepted, AddsDoc, BeginsWith, Begun, ChangesKeys, ChangesOrTells, CutsOrTells, GoesOver, HandedIn, Held, HeldAfter, HeldBy, Holds, HoldsBehind, HoldsExactly, IsHandedIn, IsRekeyed, MakesArchive, MakesFile, NoneMakes, RefusalsKeep, TakesKeys, WritesCounts, WritesText, cut_held, with_keyed}
 use Rattle.xarch_run.specs.Steps.{files_after}
-use Rattle.xarch_run.proofs.OneFile.{absent, archive-moves, chained, cut-taken, ends-refused, goes, init-spelled, init-taken, is_for, made-is, other-name, others-kept, same-name, stored-is, table-taken, taken}
+use Rattle.xarch_run.proofs.OneFile.{archive-moves, chained, cut-taken, ends-refused, goes, import-taken, init-spelled, init-taken, is_for, made-is, never, other-name, others-kept, same-name, stored-is, table-taken, taken}
 use Rattle.xarch_run.proofs.Statuses.{status-other}
 
 by-name : (b : Bool) {P : Type 0} → (b ≡ true → P) → (b ≡ false → P) → P
@@ -157,6 +158,12 @@ module _ (files : Files) (name : List ℕ) (h : Held) (a : Holds files name h) w
       let taken-here = subst (λ n. finite.get files n ≡ Some a.bytes) (same-name name new e) a.there in
       goes o (cut_input files other new i j) (λ _. MayMake files other new) (Ok o) refl m.whatever (λ p is _. cut-taken files other new a.bytes i j p taken-here is)
 
+  import-here : (o : Outcome) (text new : List ℕ) → bytes_eq name new ≡ true → MayBe files (import text new) (Ok o) → Holds o.files name h
+  unfolding MayBe
+  import-here o text new e m =
+      let taken-here = subst (λ n. finite.get files n ≡ Some a.bytes) (same-name name new e) a.there in
+      goes o (import_text files text new) (ImportsFrom files new) (Ok o) refl m (λ read is _. import-taken files text new a.bytes read taken-here is)
+
   table-here : (o : Outcome) (csv tag keys doc : List ℕ) → bytes_eq name doc ≡ true → MayBe files (table csv tag keys doc) (Ok o) → Holds o.files name h
   unfolding MayBe
   table-here o csv tag keys doc e m =
@@ -185,6 +192,8 @@ module _ (files : Files) (name : List ℕ) (h : Held) (a : Holds files name h) w
   done-goes o (stats other) m = record { held = h; first = refl; archive = unchanged o (stats other) refl m }
   done-goes o (versions other) m = record { held = h; first = refl; archive = unchanged o (versions other) refl m }
   done-goes o (export other) m = record { held = h; first = refl; archive = unchanged o (export other) refl m }
+  done-goes o (import text new) m =
+      record { held = h; first = refl; archive = by-name (bytes_eq name new) (λ e. import-here o text new e m) (λ e. unchanged o (import text new) e m) }
   done-goes o (cut other new i j) m =
       record { held = h; first = refl; archive = by-name (bytes_eq name new) (λ e. cut-here o other new i j e m) (λ e. unchanged o (cut other new i j) e m) }
   done-goes o (table csv tag keys doc) m =
@@ -215,6 +224,7 @@ module _ (files : Files) (name : List ℕ) (h : Held) (a : Holds files name h) w
   refused-goes one q (stats other) m = record { held = h; first = refl; archive = a }
   refused-goes one q (versions other) m = record { held = h; first = refl; archive = a }
   refused-goes one q (export other) m = record { held = h; first = refl; archive = a }
+  refused-goes one q (import text new) m = record { held = h; first = refl; archive = a }
   refused-goes one q (cut other new i j) m = record { held = h; first = refl; archive = a }
   refused-goes one q (table csv tag keys doc) m = record { held = h; first = refl; archive = a }
   refused-goes one q (tablekeys tag keys spec) m = record { held = h; first = refl; archive = a }
@@ -292,6 +302,7 @@ one-by one files name (Some (check other)) h i j p q = p ∙ sym q
 one-by one files name (Some (stats other)) h i j p q = p ∙ sym q
 one-by one files name (Some (versions other)) h i j p q = p ∙ sym q
 one-by one files name (Some (export other)) h i j p q = p ∙ sym q
+one-by one files name (Some (import text new)) h i j p q = p ∙ sym q
 one-by one files name (Some (cut other new first last)) h i j p q = p ∙ sym q
 one-by one files name (Some (table csv tag keys doc)) h i j p q = p ∙ sym q
 one-by one files name (Some (tablekeys tag keys spec)) h i j p q = p ∙ sym q
@@ -332,14 +343,14 @@ refused-status files s written q is success =
 abbrev pub OneReading : Type 0
 OneReading = (rules others : List PlainRule) (vs us : List PlainKeyed) (notes more : List (List ℕ)) (bytes : List ℕ) → FullAs rules vs notes bytes → FullAs others us more bytes → (rules ≡ others) × (vs ≡ us) × (notes ≡ more)
 
+one-some : (x y : List ℕ) (o : Option (List ℕ)) → o ≡ Some x → o ≡ Some y → x ≡ y
+one-some x y o e f = cc
+
 -- a file holds one thing
 pub one-held : OneReading → (files : Files) (name : List ℕ) (h i : Held) → Holds files name h → Holds files name i → h ≡ i
 one-held one files name h i a b =
-    let same = one h.rules i.rules h.versions i.versions h.notes i.notes b.bytes (subst (FullAs h.rules h.versions h.notes) (same-bytes a.bytes b.bytes (finite.get files name) a.there b.there) a.full) b.full in
+    let same = one h.rules i.rules h.versions i.versions h.notes i.notes b.bytes (subst (FullAs h.rules h.versions h.notes) (one-some a.bytes b.bytes (finite.get files name) a.there b.there) a.full) b.full in
     both-held h i same.0 same.1 same.2
-  where
-    same-bytes : (x y : List ℕ) (o : Option (List ℕ)) → o ≡ Some x → o ≡ Some y → x ≡ y
-    same-bytes x y o e f = cc
 
 -- ---- how an archive begins
 
@@ -375,6 +386,28 @@ cut-begins files name other new i j o same has m =
       archive = subst (λ n. ArchiveIs o.files n has.rules (items i j has.versions) (noted_items i j has.notes)) (sym same) (stored-is files o new has.rules (items i j has.versions) (noted_items i j has.notes) s);
     })
 
+-- the bytes of the text
+text-there : (o : Option (List ℕ)) (q : Refusal) (bytes : List ℕ) → or_refuse o q ≡ Ok bytes → o ≡ Some bytes
+text-there (Some x) q bytes e = cc
+text-there None q bytes e = absurd cc
+
+import-there : (files : Files) (text new bytes : List ℕ) → import_text files text new ≡ Ok bytes → finite.get files text ≡ Some bytes
+import-there files text new bytes e =
+    chained (length_in files text refusal.text 67108864) _ bytes e (λ _ _ rest. chained (free_in files new) _ bytes rest (λ _ _ read. text-there (finite.get files text) (no_file text) bytes read))
+
+-- what its text is that of
+import-begins : (files : Files) (name text new : List ℕ) (o : Outcome) → name ≡ new → MayBe files (import text new) (Ok o) → Begun files name (Some (import text new)) o.files
+unfolding MayBe
+import-begins files name text new o same m = goes o (import_text files text new) (ImportsFrom files new) (Ok o) refl m begun
+  where
+    begun : (bytes : List ℕ) → import_text files text new ≡ Ok bytes → ImportsFrom files new bytes (Ok o) → Begun files name (Some (import text new)) o.files
+    begun bytes is (inl p) = record {
+      held = record { rules = p.rules; versions = p.versions; notes = p.notes };
+      begins = (same, record { bytes = bytes; there = import-there files text new bytes is; spelled = p.spelled; file = p.stored.bytes; full = p.stored.full });
+      archive = subst (λ n. ArchiveIs o.files n p.rules p.versions p.notes) (sym same) (stored-is files o new p.rules p.versions p.notes (inl p.stored));
+    }
+    begun bytes is (inr n) = never o bad_text (Ok o) refl n.is
+
 command-begins : (noted : AreNoted) (files : Files) (name : List ℕ) (command : PlainCommand) (o : Outcome) → MakesArchive name (Some command) → GoesOver files (Some command) → MayBe files command (Ok o) → Begun files name (Some command) o.files
 command-begins noted files name (norm spec doc) o makes over m = absurd makes
 command-begins noted files name (init other spec) o makes over m = init-begins files name other spec o makes m
@@ -387,6 +420,7 @@ command-begins noted files name (check other) o makes over m = absurd makes
 command-begins noted files name (stats other) o makes over m = absurd makes
 command-begins noted files name (versions other) o makes over m = absurd makes
 command-begins noted files name (export other) o makes over m = absurd makes
+command-begins noted files name (import text new) o makes over m = import-begins files name text new o makes m
 command-begins noted files name (cut other new i j) o makes over m = cut-begins files name other new i j o makes over m
 command-begins noted files name (table csv tag keys doc) o makes over m = absurd makes
 command-begins noted files name (tablekeys tag keys spec) o makes over m = absurd makes
@@ -416,6 +450,7 @@ begins-makes files name (Some (check other)) h b = b
 begins-makes files name (Some (stats other)) h b = b
 begins-makes files name (Some (versions other)) h b = b
 begins-makes files name (Some (export other)) h b = b
+begins-makes files name (Some (import text new)) h b = b.0
 begins-makes files name (Some (cut other new i j)) h b = b.0
 begins-makes files name (Some (table csv tag keys doc)) h b = b
 begins-makes files name (Some (tablekeys tag keys spec)) h b = b
@@ -436,53 +471,62 @@ begins-over files name (Some (check other)) h b = tt
 begins-over files name (Some (stats other)) h b = tt
 begins-over files name (Some (versions other)) h b = tt
 begins-over files name (Some (export other)) h b = tt
+begins-over files name (Some (import text new)) h b = tt
 begins-over files name (Some (cut other new i j)) h b = record { rules = b.1.whole.rules; versions = b.1.whole.versions; notes = b.1.whole.notes; archive = b.1.from }
 begins-over files name (Some (table csv tag keys doc)) h b = tt
 begins-over files name (Some (tablekeys tag keys spec)) h b = tt
 begins-over files name (Some batch) h b = tt
 begins-over files name (Some (demo seed count other)) h b = tt
 
+-- a text has one reading
+abbrev pub OneText : Type 0
+OneText = (rules others : List PlainRule) (vs us : List PlainKeyed) (notes more : List (List ℕ)) (file other text : List ℕ) → FullAs rules vs notes file → FullAs others us more other → ExportOf rules vs notes text → ExportOf others us more text
+    → (rules ≡ others) × (vs ≡ us) × (notes ≡ more)
+
 -- it begins with one thing to hold
-same-beginning : (reading : OneReading) (files : Files) (name : List ℕ) (command : Option PlainCommand) (h g : Held) → BeginsWith files name command h → BeginsWith files name command g → (h.rules ≡ g.rules) × (h.versions ≡ g.versions) × (h.notes ≡ g.notes)
-same-beginning reading files name None h g b c = absurd b
-same-beginning reading files name (Some (norm spec doc)) h g b c = absurd b
-same-beginning reading files name (Some (init other spec)) h g b c = (one-reading (read_in files spec rules_of) b.1.0 c.1.0, b.1.1 ∙ sym c.1.1, b.1.2 ∙ sym c.1.2)
+same-beginning : (reading : OneReading) (texts : OneText) (files : Files) (name : List ℕ) (command : Option PlainCommand) (h g : Held) → BeginsWith files name command h → BeginsWith files name command g → (h.rules ≡ g.rules) × (h.versions ≡ g.versions) × (h.notes ≡ g.notes)
+same-beginning reading texts files name None h g b c = absurd b
+same-beginning reading texts files name (Some (norm spec doc)) h g b c = absurd b
+same-beginning reading texts files name (Some (init other spec)) h g b c = (one-reading (read_in files spec rules_of) b.1.0 c.1.0, b.1.1 ∙ sym c.1.1, b.1.2 ∙ sym c.1.2)
   where
     one-reading : (x : Result (List PlainRule) Refusal) → x ≡ Ok h.rules → x ≡ Ok g.rules → h.rules ≡ g.rules
     one-reading x e f = cc
-same-beginning reading files name (Some (add other doc note)) h g b c = absurd b
-same-beginning reading files name (Some (rekey other spec)) h g b c = absurd b
-same-beginning reading files name (Some (get other i)) h g b c = absurd b
-same-beginning reading files name (Some (history other path)) h g b c = absurd b
-same-beginning reading files name (Some (log other path)) h g b c = absurd b
-same-beginning reading files name (Some (check other)) h g b c = absurd b
-same-beginning reading files name (Some (stats other)) h g b c = absurd b
-same-beginning reading files name (Some (versions other)) h g b c = absurd b
-same-beginning reading files name (Some (export other)) h g b c = absurd b
-same-beginning reading files name (Some (cut other new i j)) h g b c =
+same-beginning reading texts files name (Some (add other doc note)) h g b c = absurd b
+same-beginning reading texts files name (Some (rekey other spec)) h g b c = absurd b
+same-beginning reading texts files name (Some (get other i)) h g b c = absurd b
+same-beginning reading texts files name (Some (history other path)) h g b c = absurd b
+same-beginning reading texts files name (Some (log other path)) h g b c = absurd b
+same-beginning reading texts files name (Some (check other)) h g b c = absurd b
+same-beginning reading texts files name (Some (stats other)) h g b c = absurd b
+same-beginning reading texts files name (Some (versions other)) h g b c = absurd b
+same-beginning reading texts files name (Some (export other)) h g b c = absurd b
+same-beginning reading texts files name (Some (import text new)) h g b c =
+    let bytes : b.1.bytes ≡ c.1.bytes = one-some b.1.bytes c.1.bytes (finite.get files text) b.1.there c.1.there in
+    texts h.rules g.rules h.versions g.versions h.notes g.notes b.1.file c.1.file c.1.bytes b.1.full c.1.full (subst (ExportOf h.rules h.versions h.notes) bytes b.1.spelled) c.1.spelled
+same-beginning reading texts files name (Some (cut other new i j)) h g b c =
     let whole : b.1.whole ≡ c.1.whole = one-held reading files other b.1.whole c.1.whole b.1.from c.1.from in
     let same : h ≡ g = b.1.is ∙ ap (cut_held i j) whole ∙ sym c.1.is in
     (ap (λ (z : Held). z.rules) same, ap (λ (z : Held). z.versions) same, ap (λ (z : Held). z.notes) same)
-same-beginning reading files name (Some (table csv tag keys doc)) h g b c = absurd b
-same-beginning reading files name (Some (tablekeys tag keys spec)) h g b c = absurd b
-same-beginning reading files name (Some batch) h g b c = absurd b
-same-beginning reading files name (Some (demo seed count other)) h g b c = let same : h ≡ g = b.1 ∙ sym c.1 in (ap (λ (z : Held). z.rules) same, ap (λ (z : Held). z.versions) same, ap (λ (z : Held). z.notes) same)
+same-beginning reading texts files name (Some (table csv tag keys doc)) h g b c = absurd b
+same-beginning reading texts files name (Some (tablekeys tag keys spec)) h g b c = absurd b
+same-beginning reading texts files name (Some batch) h g b c = absurd b
+same-beginning reading texts files name (Some (demo seed count other)) h g b c = let same : h ≡ g = b.1 ∙ sym c.1 in (ap (λ (z : Held). z.rules) same, ap (λ (z : Held). z.versions) same, ap (λ (z : Held). z.notes) same)
 
-step-archive : (reading : OneReading) (noted : AreNoted) (files : Files) (name : List ℕ) (command : Option PlainCommand) (s : Step) (h : Held) → CommandMay files command s → s.status ≡ 0 → BeginsWith files name command h → Holds s.files name h
-step-archive reading noted files name command s h m success b =
+pub step-archive : (reading : OneReading) (texts : OneText) (noted : AreNoted) (files : Files) (name : List ℕ) (command : Option PlainCommand) (s : Step) (h : Held) → CommandMay files command s → s.status ≡ 0 → BeginsWith files name command h → Holds s.files name h
+step-archive reading texts noted files name command s h m success b =
     let begun = step-begins noted files name command s m success (begins-makes files name command h b) (begins-over files name command h b) in
-    let same = same-beginning reading files name command begun.held h begun.begins b in
+    let same = same-beginning reading texts files name command begun.held h begun.begins b in
     subst (λ ns. ArchiveIs s.files name h.rules h.versions ns) same.2 (subst (λ us. ArchiveIs s.files name h.rules us begun.held.notes) same.1 (subst (λ r. ArchiveIs s.files name r begun.held.versions begun.held.notes) same.0 begun.archive))
 
 -- ---- an archive from its beginning on
 
-pub handed-holds : (one : OneRekeying) (reading : OneReading) (noted : AreNoted) (files : Files) (name : List ℕ) (cs : List (Option PlainCommand)) (ss : List Step) (h : Held) → CommandsDid files cs ss → HandedIn files name cs ss h → Holds (files_after files ss) name h
-handed-holds one reading noted files name [] ss h did made = absurd made
-handed-holds one reading noted files name (c ∷ cs) [] h did made = absurd made
-handed-holds one reading noted files name (c ∷ cs) (s ∷ ss) h did (inl made) =
-    let behind = all-hold one s.files name cs ss made.first (step-archive reading noted files name c s made.first did.0 made.answered made.begins) did.1 in
+pub handed-holds : (one : OneRekeying) (reading : OneReading) (texts : OneText) (noted : AreNoted) (files : Files) (name : List ℕ) (cs : List (Option PlainCommand)) (ss : List Step) (h : Held) → CommandsDid files cs ss → HandedIn files name cs ss h → Holds (files_after files ss) name h
+handed-holds one reading texts noted files name [] ss h did made = absurd made
+handed-holds one reading texts noted files name (c ∷ cs) [] h did made = absurd made
+handed-holds one reading texts noted files name (c ∷ cs) (s ∷ ss) h did (inl made) =
+    let behind = all-hold one s.files name cs ss made.first (step-archive reading texts noted files name c s made.first did.0 made.answered made.begins) did.1 in
     subst (Holds (files_after s.files ss) name) (one-after one s.files name cs ss made.first behind.held h behind.after made.after) behind.archive
-handed-holds one reading noted files name (c ∷ cs) (s ∷ ss) h did (inr later) = handed-holds one reading noted s.files name cs ss h did.1 later
+handed-holds one reading texts noted files name (c ∷ cs) (s ∷ ss) h did (inr later) = handed-holds one reading texts noted s.files name cs ss h did.1 later
 
 -- no other bytes are the encoding
 pub exact : ((rules : List PlainRule) (vs : List PlainKeyed) (notes : List (List ℕ)) (a b : List ℕ) → FullOf rules vs notes a → FullOf rules vs notes b → a ≡ b)
@@ -522,7 +566,7 @@ module _ (files : Files) (name : List ℕ) (none : finite.get files name ≡ Non
   rekey-absent other spec e m =
       let none-here = subst (λ n. finite.get files n ≡ None) (same-name name other e) none in
       let refused : rekey_rules files other spec ≡ Err (no_file other) = rw none-here refl in
-      goes o (rekey_rules files other spec) (λ _. MayRekey files other) (Ok o) refl m.whatever (λ p is _. absurd cc)
+      goes o (rekey_rules files other spec) (λ _. DamagedOrSound files other) (Ok o) refl m.whatever (λ p is _. absurd cc)
 
   one-absent : (command : PlainCommand) → ¬ MakesFile name (Some command) → MayBe files command (Ok o) → StaysAbsent
   one-absent (norm spec doc) refused m = stays (others-kept files name o (Ok o) refl (norm spec doc) refl m)
@@ -536,6 +580,7 @@ module _ (files : Files) (name : List ℕ) (none : finite.get files name ≡ Non
   one-absent (stats other) refused m = stays (others-kept files name o (Ok o) refl (stats other) refl m)
   one-absent (versions other) refused m = stays (others-kept files name o (Ok o) refl (versions other) refl m)
   one-absent (export other) refused m = stays (others-kept files name o (Ok o) refl (export other) refl m)
+  one-absent (import text new) refused m = by-name (bytes_eq name new) (λ e. absurd (refused (same-name name new e))) (λ e. stays (others-kept files name o (Ok o) refl (import text new) e m))
   one-absent (cut other new i j) refused m = by-name (bytes_eq name new) (λ e. absurd (refused (same-name name new e))) (λ e. stays (others-kept files name o (Ok o) refl (cut other new i j) e m))
   one-absent (table csv tag keys doc) refused m = by-name (bytes_eq name doc) (λ e. absurd (refused (same-name name doc e))) (λ e. stays (others-kept files name o (Ok o) refl (table csv tag keys doc) e m))
   one-absent (tablekeys tag keys spec) refused m = by-name (bytes_eq name spec) (λ e. absurd (refused (same-name name spec e))) (λ e. stays (others-kept files name o (Ok o) refl (tablekeys tag keys spec) e m))

@@ -14,6 +14,7 @@ pub mod CommandLemmas
 pub mod CheckLemmas
 pub mod OneFile
 pub mod HeldLemmas
+pub mod ImportLemmas
 pub mod CallLemmas
 pub mod BatchFronts
 pub mod TableLemmas

@@ -1,5 +1,5 @@
 -- A command changes at most the file that it names.
-use Rattle.std.proofs.Common.{◌≡◌, ◌≢◌, inl, inr, ℕ, Bool, true, false, cond, List, [], ◌∷◌, ◌++◌, length, replicate, Some, None, Result, Ok, Err, refl, sym, ap, ◌∙◌}
+use Rattle.std.proofs.Common.{◌≡◌, ◌≢◌, inl, inr, ℕ, Bool, true, false, cond, List, [], length, replicate, Some, None, Result, Ok, Err, refl, sym, ap, ◌∙◌}
 use Rattle.std.specs.FinMap as finite
 use Rattle.std.specs.Option.{option_map_or}
 use Rattle.std.specs.Str.{bytes_eq}
@@ -13,8 +13,8 @@ use Rattle.key_spec.specs.Canonical.{canonical}
 use Rattle.csv_tables.specs.Data.{PlainTable}
 use Rattle.keyed_tree.specs.Data.{PlainKeyed}
 use Rattle.xarch_gen.specs.Company.{company_rules}
-use Rattle.xarch_words.specs.Commands.{PlainCommand, norm, init, add, rekey, get, history, log, check, stats, versions, export, cut, table, tablekeys, batch, demo, key_names}
-use Rattle.xarch_words.specs.Refusal.{document, specification, Refusal, usage, no_file, exists, key_fault_in, damaged, limit}
+use Rattle.xarch_words.specs.Commands.{PlainCommand, norm, init, add, rekey, get, history, log, check, stats, versions, export, import, cut, table, tablekeys, batch, demo, key_names}
+use Rattle.xarch_words.specs.Refusal.{document, specification, Refusal, usage, no_file, exists, bad_text, key_fault_in, damaged, limit}
 use Rattle.xarch_words.specs.Refusal as refusal
 use Rattle.archive_file.specs.Sound.{SoundAs}
 use Rattle.noted_file.specs.Full.{FullAs}
@@ -22,14 +22,16 @@ use Rattle.xarch_parts.specs.Archives.{ArchiveIs, GoesOn, Stores, free_in, short
 use Rattle.xarch_meanings.specs.Add.{AddsTo}
 use Rattle.xarch_meanings.specs.Check.{IsFound, check_text}
 use Rattle.xarch_meanings.specs.Table.{document_for, kept_as, keys_tabled, rows_of, short_rules, table_input, tabled}
+use Rattle.xarch_meanings.specs.Export.{ExportsFrom}
 use Rattle.xarch_meanings.specs.Demo.{MakesOrNone, demo_input, samples}
+use Rattle.xarch_meanings.specs.Import.{ImportsFrom, import_text}
 use Rattle.xarch_meanings.specs.Init.{init_rules}
 use Rattle.xarch_parts.specs.Inputs.{file_length, file_of, length_in, read_in}
 use Rattle.xarch_meanings.specs.Cut.{are_versions}
 use Rattle.xarch_meanings.specs.Norm.{norm_of}
 use Rattle.xarch_parts.specs.Outcome.{Outcome, and_then, or_refuse}
 use Rattle.xarch_meanings.specs.Rekey.{RekeysFrom, RekeysTo, rekey_rules}
-use Rattle.xarch_meanings.specs.Plausible.{MayAdd, MayBe, MayMake, MayOver, MayRekey, MayWrite, add_input, cut_input, get_input, history_input, log_input, stats_input, versions_input}
+use Rattle.xarch_meanings.specs.Plausible.{DamagedOrSound, MayAdd, MayBe, MayMake, MayOver, MayWrite, add_input, cut_input, get_input, history_input, log_input, stats_input, versions_input}
 use Rattle.xarch_meanings.specs.Ran.{made_name}
 use Rattle.xarch_parts.specs.Readings.{document_of, front_in, keyed_of, rules_of}
 
@@ -100,6 +102,11 @@ module _ (files : Files) (name : List ℕ) (o : Outcome) where
     write-keeps other (inl q) = never o (damaged other) r is q
     write-keeps other (inr w) = same-files (kept-by files o r w.output is w.is)
 
+    -- over a sound archive its text is written
+    export-keeps : (other : List ℕ) → ((rules : List PlainRule) (vs : List PlainKeyed) (notes : List (List ℕ)) → ArchiveIs files other rules vs notes → ExportsFrom files rules vs notes r) → DamagedOrSound files other r → Keeps
+    export-keeps other sound (inl q) = never o (damaged other) r is q
+    export-keeps other sound (inr a) = let w = sound a.rules a.versions a.notes a.archive in same-files (kept-by files o r w.text is w.is)
+
     judge-keeps : (other bytes : List ℕ) → IsFound files other bytes r → Keeps
     judge-keeps other bytes (inl p) = same-files (kept-by files o r (check_text (length p.full.versions)) is p.is)
     judge-keeps other bytes (inr p) = never o (damaged other) r is p.is
@@ -137,7 +144,7 @@ module _ (files : Files) (name : List ℕ) (o : Outcome) where
     rekeys-elsewhere other vs notes rules e (inl s) = stores-elsewhere other rules s.versions notes e s.rest
     rekeys-elsewhere other vs notes rules e (inr b) = never o (key_fault_in b.number b.fault) r is b.is
 
-    rekey-elsewhere : (other spec : List ℕ) → bytes_eq name other ≡ false → ((old : List PlainRule) (vs : List PlainKeyed) (notes : List (List ℕ)) → ArchiveIs files other old vs notes → RekeysFrom files other spec old vs notes r) → MayRekey files other r → Keeps
+    rekey-elsewhere : (other spec : List ℕ) → bytes_eq name other ≡ false → ((old : List PlainRule) (vs : List PlainKeyed) (notes : List (List ℕ)) → ArchiveIs files other old vs notes → RekeysFrom files other spec old vs notes r) → DamagedOrSound files other r → Keeps
     rekey-elsewhere other spec e sound (inl q) = never o (damaged other) r is q
     rekey-elsewhere other spec e sound (inr a) =
         goes o (rekey_rules files other spec) (RekeysTo files other a.versions a.notes) r is (sound a.rules a.versions a.notes a.archive) (λ rules _ m. rekeys-elsewhere other a.versions a.notes rules e m)
@@ -146,6 +153,10 @@ module _ (files : Files) (name : List ℕ) (o : Outcome) where
     makes-elsewhere other seed count e (inl s) = stored-elsewhere other s.bytes _ e s.is
     makes-elsewhere other seed count e (inr t) = never o (limit refusal.archive 274877906944) r is t.is
 
+    imports-elsewhere : (new bytes : List ℕ) → bytes_eq name new ≡ false → ImportsFrom files new bytes r → Keeps
+    imports-elsewhere new bytes e (inl p) = stored-elsewhere new p.stored.bytes [] e p.stored.is
+    imports-elsewhere new bytes e (inr n) = never o bad_text r is n.is
+
     pub others-kept : (command : PlainCommand) → is_for name command ≡ false → MayBe files command r → Keeps
     unfolding MayBe
     others-kept (norm spec doc) e h = same-files (norm-keeps files spec doc o (sym h ∙ is))
@@ -153,14 +164,15 @@ module _ (files : Files) (name : List ℕ) (o : Outcome) where
     others-kept (add other doc note) e h =
         goes o (short_note note) (λ _. MayOver files other (GoesOn (add_input files other doc) (λ _. MayAdd files other)) (AddsTo files other doc note)) r is h
         (λ _ _ over. goes o (add_input files other doc) (λ _. MayAdd files other) r is over.whatever (λ _ _ m. make-elsewhere other other e m))
-    others-kept (rekey other spec) e h = goes o (rekey_rules files other spec) (λ _. MayRekey files other) r is h.whatever (λ _ _ m. rekey-elsewhere other spec e h.sound m)
+    others-kept (rekey other spec) e h = goes o (rekey_rules files other spec) (λ _. DamagedOrSound files other) r is h.whatever (λ _ _ m. rekey-elsewhere other spec e h.sound m)
     others-kept (get other i) e h = goes o (get_input files other i) (λ _. MayWrite files other) r is h.whatever (λ _ _ m. write-keeps other m)
     others-kept (history other path) e h = goes o (history_input files other path) (λ _. MayWrite files other) r is h.whatever (λ _ _ m. write-keeps other m)
     others-kept (log other path) e h = goes o (log_input files other path) (λ _. MayWrite files other) r is h.whatever (λ _ _ m. write-keeps other m)
     others-kept (check other) e h = goes o (file_of files other) (IsFound files other) r is h (λ bytes _ m. judge-keeps other bytes m)
     others-kept (stats other) e h = goes o (stats_input files other) (λ _. MayWrite files other) r is h.whatever (λ _ _ m. write-keeps other m)
     others-kept (versions other) e h = goes o (versions_input files other) (λ _. MayWrite files other) r is h.whatever (λ _ _ m. write-keeps other m)
-    others-kept (export other) e h = goes o (stats_input files other) (λ _. MayWrite files other) r is h.whatever (λ _ _ m. write-keeps other m)
+    others-kept (export other) e h = goes o (stats_input files other) (λ _. DamagedOrSound files other) r is h.whatever (λ _ _ m. export-keeps other h.sound m)
+    others-kept (import text new) e h = goes o (import_text files text new) (ImportsFrom files new) r is h (λ bytes _ m. imports-elsewhere new bytes e m)
     others-kept (cut other new i j) e h = goes o (cut_input files other new i j) (λ _. MayMake files other new) r is h.whatever (λ _ _ m. make-elsewhere other new e m)
     others-kept (table csv tag keys doc) e h = table-elsewhere csv tag keys doc e h
     others-kept (tablekeys tag keys spec) e h = keys-elsewhere tag keys spec e h
@@ -190,6 +202,10 @@ pub cut-taken : {X : Type 0} (files : Files) (other new bytes : List ℕ) (i j :
 cut-taken files other new bytes i j h e f =
     ends-refused (file_length files other) (and_then (free_in files new) (λ _. and_then (read_in files other (front_in other)) (λ g. and_then (are_versions i j g.1) (λ _. Ok g)))) (exists new) h f
     (ap (λ x. and_then x (λ _. and_then (read_in files other (front_in other)) (λ g. and_then (are_versions i j g.1) (λ _. Ok g)))) (taken files new bytes e))
+
+pub import-taken : {X : Type 0} (files : Files) (text new bytes read : List ℕ) → finite.get files new ≡ Some bytes → import_text files text new ≡ Ok read → X
+import-taken files text new bytes read e f =
+    ends-refused (length_in files text refusal.text 67108864) (and_then (free_in files new) (λ _. file_of files text)) (exists new) read f (ap (λ x. and_then x (λ _. file_of files text)) (taken files new bytes e))
 
 pub table-taken : {X : Type 0} (files : Files) (csv doc bytes : List ℕ) (t : PlainTable) → finite.get files doc ≡ Some bytes → table_input files csv doc ≡ Ok t → X
 table-taken files csv doc bytes t e f =

@@ -2,7 +2,7 @@
 use Rattle.std.proofs.Common.{◌≡◌, ◌≢◌, ◌⊎◌, inl, inr, ℕ, List, ◌==◌, ◌≤◌, Bool, true, false, cond, None, Some, refl, ap, arith}
 use Rattle.std.proofs.lemmas.Bool.{eqb-true}
 use Rattle.xarch_words.specs.Lines.{refusal_status}
-use Rattle.xarch_words.specs.Refusal.{Refusal, usage, no_file, exists, bad_spec, bad_json, bad_shape, key_fault, key_fault_in, no_version, bad_path, damaged, limit, not_frontier, bad_csv, folder_fault, out_fault, in_fault, memory}
+use Rattle.xarch_words.specs.Refusal.{Refusal, usage, no_file, exists, bad_spec, bad_json, bad_shape, key_fault, key_fault_in, no_version, bad_path, damaged, limit, not_frontier, bad_csv, bad_text, folder_fault, out_fault, in_fault, memory}
 use Rattle.xarch_meanings.specs.Ran.{outside_of}
 
 -- words that are no command have the status 2, and every other refusal a greater one
@@ -21,6 +21,7 @@ by-status (damaged n) = inr (omega arith)
 by-status (limit q n) = inr (omega arith)
 by-status not_frontier = inr (omega arith)
 by-status (bad_csv r w) = inr (omega arith)
+by-status bad_text = inr (omega arith)
 
 -- none has a status from 13 to 16
 beside : (q : Refusal) → (refusal_status q ≤ 12) ⊎ (17 ≤ refusal_status q)
@@ -38,6 +39,7 @@ beside (damaged n) = inl (omega arith)
 beside (limit q n) = inl (omega arith)
 beside not_frontier = inr (omega arith)
 beside (bad_csv r w) = inr (omega arith)
+beside bad_text = inr (omega arith)
 
 never-outside : (q : Refusal) (m : ℕ) → 13 ≤ m → m ≤ 16 → refusal_status q ≢ m
 never-outside q m low high e = elim (beside q) [
@@ -64,6 +66,7 @@ damage-only (damaged name) e = (name, refl)
 damage-only (limit q n) e = absurd (omega (arith, e))
 damage-only not_frontier e = absurd (omega (arith, e))
 damage-only (bad_csv r w) e = absurd (omega (arith, e))
+damage-only bad_text e = absurd (omega (arith, e))
 
 pub status-other : (q : Refusal) → refusal_status q ≢ 0
 status-other q zero = elim (by-status q) [

@@ -1,5 +1,5 @@
 -- What `table` and `tablekeys` leave.
-use Rattle.std.proofs.Common.{◌≡◌, ◌↔◌, inl, inr, ℕ, Bool, true, false, if◌then◌else◌, List, [], ◌∷◌, length, nat_le, Option, Some, None, Result, Ok, Err, IsUtf8, refl, sym, ap, ◌∙◌, subst}
+use Rattle.std.proofs.Common.{◌≡◌, ◌↔◌, ℕ, Bool, true, false, if◌then◌else◌, List, [], ◌∷◌, length, nat_le, Option, Some, None, Result, Ok, Err, IsUtf8, refl, sym, ap, ◌∙◌, subst}
 use Rattle.std.specs.FinMap as finite
 use Rattle.std.specs.List.{AllByRecursion, list_all}
 use Rattle.std.proofs.lemmas.Bool.{leb-true}
@@ -11,17 +11,15 @@ use Rattle.key_annotate.specs.Annotated.{keyed_tree}
 use Rattle.key_rules.specs.Faults.{PlainKeyFault, first_fault}
 use Rattle.key_rules.specs.Satisfies.{Satisfies}
 use Rattle.key_spec.specs.Canonical.{canonical}
-use Rattle.key_spec.specs.Closed.{closed}
 use Rattle.key_spec.specs.Data.{PlainRule}
 use Rattle.keyed_tree.specs.Data.{PlainKeyed}
-use Rattle.csv_tables.specs.Data.{PlainBadRow, PlainTable}
+use Rattle.csv_tables.specs.Data.{PlainTable}
 use Rattle.csv_tables.specs.Documents.{table_tree}
 use Rattle.csv_tables.specs.Keys.{AreApart, IsFaultlessByItsKeys, SatisfiesItsKeys, table_rules}
 use Rattle.csv_tables.specs.Laws.{KeysReadBack, ReadsRegular, TableReadsBack}
 use Rattle.csv_tables.specs.Records.{IsRegular, has_field, table_of}
 use Rattle.xarch_words.specs.Commands.{AreForTable, key_names, table, tablekeys}
-use Rattle.xarch_words.specs.Refusal.{Refusal, bad_csv, document, exists, key_fault, limit, specification}
-use Rattle.xarch_words.specs.Lines.{refusal_status}
+use Rattle.xarch_words.specs.Refusal.{Refusal, bad_csv, document, key_fault, limit, specification}
 use Rattle.xarch_parts.specs.Archives.{free_in}
 use Rattle.xarch_parts.specs.Inputs.{file_of, length_in, read_in}
 use Rattle.xarch_parts.specs.Outcome.{Outcome, Step, and_then, step_from}

@@ -5,17 +5,19 @@ use Rattle.xa_outside.specs.Folder.{Files}
 use Rattle.key_spec.specs.Data.{PlainRule}
 use Rattle.keyed_tree.specs.Data.{PlainKeyed}
 use Rattle.record_format.specs.Files.{FileOf}
-use Rattle.noted_file.specs.Full.{Full, FullOf}
+use Rattle.noted_file.specs.Full.{Full, FullAs, FullOf}
 use Rattle.archive_cut.specs.Sliced.{items}
 use Rattle.archive_rekey.specs.Rekeyed.{AreRekeyed}
+use Rattle.archive_text.specs.Export.{ExportOf}
 use Rattle.xarch_gen.specs.Company.{company_rules}
-use Rattle.xarch_words.specs.Commands.{PlainCommand, init, add, rekey, cut, table, tablekeys, demo}
+use Rattle.xarch_words.specs.Commands.{PlainCommand, init, add, rekey, import, cut, table, tablekeys, demo}
 use Rattle.xarch_words.specs.Refusal.{Refusal}
 use Rattle.xarch_meanings.specs.Add.{added}
 use Rattle.xarch_parts.specs.Archives.{ArchiveIs, short_note}
 use Rattle.xarch_meanings.specs.Cut.{CutsFrom, noted_items}
 use Rattle.xarch_meanings.specs.Demo.{samples}
 use Rattle.xarch_meanings.specs.Export.{ExportsFrom}
+use Rattle.xarch_meanings.specs.Import.{ImportIs}
 use Rattle.xarch_parts.specs.Inputs.{read_in}
 use Rattle.xarch_parts.specs.Outcome.{Outcome, Step, step_from}
 use Rattle.xarch_parts.specs.Readings.{rules_of}
@@ -53,20 +55,30 @@ pub record IsCutFrom (files : Files) (archive : List ℕ) (i j : ℕ) (h : Held)
   pub from : Holds files archive whole
   pub is : h ≡ cut_held i j whole
 
+-- The file of this name is the text of an archive with notes that holds this and has a file.
+pub record IsTextOf (files : Files) (text : List ℕ) (h : Held) : Type 0 where
+  pub bytes : List ℕ
+  pub there : finite.get files text ≡ Some bytes
+  pub spelled : ExportOf h.rules h.versions h.notes bytes
+  pub file : List ℕ
+  pub full : FullAs h.rules h.versions h.notes file
+
 -- The command makes the archive of this name, which then holds this: an `init` the rules of its specification and no
 -- versions, a `demo` the company rules and the generated documents, whose notes are empty, a `cut` some versions of what
--- another archive holds, with their notes.
+-- another archive holds, with their notes, an `import` what its text is that of.
 abbrev pub BeginsWith : Files → List ℕ → Option PlainCommand → Held → Type 0
 BeginsWith files name (Some (init archive spec)) h = (name ≡ archive) × ((read_in files spec rules_of ≡ Ok h.rules) × (h.versions ≡ []) × (h.notes ≡ []))
 BeginsWith files name (Some (demo seed count archive)) h = (name ≡ archive) × (h ≡ record { rules = company_rules; versions = samples seed count; notes = replicate (length (samples seed count)) [] })
 BeginsWith files name (Some (cut archive new i j)) h = (name ≡ new) × IsCutFrom files archive i j h
+BeginsWith files name (Some (import text new)) h = (name ≡ new) × IsTextOf files text h
 BeginsWith files name _ h = ⊥
 
--- the command is an `init`, a `demo` or a `cut` that makes the archive of this name
+-- the command is an `init`, a `demo`, a `cut` or an `import` that makes the archive of this name
 abbrev pub MakesArchive : List ℕ → Option PlainCommand → Type 0
 MakesArchive name (Some (init archive spec)) = name ≡ archive
 MakesArchive name (Some (demo seed count archive)) = name ≡ archive
 MakesArchive name (Some (cut archive new i j)) = name ≡ new
+MakesArchive name (Some (import text new)) = name ≡ new
 MakesArchive name _ = ⊥
 
 -- the command makes a new file of this name, be it an archive or not
@@ -231,4 +243,10 @@ pub record WritesText (files : Files) (h : Held) (s : Step) : Type 0 where
 pub record CutsOrTells (files : Files) (new : List ℕ) (i j : ℕ) (h : Held) (s : Step) : Type 0 where
   pub outcome : Result Outcome Refusal
   pub comes : CutsFrom files new i j h.rules h.versions h.notes outcome
+  pub is : s ≡ step_from files outcome
+
+-- The step is what comes of the text in this file: its archive under the new name, or why there is none.
+pub record ImportsOrTells (files : Files) (text new : List ℕ) (s : Step) : Type 0 where
+  pub outcome : Result Outcome Refusal
+  pub comes : ImportIs files text new outcome
   pub is : s ≡ step_from files outcome

@@ -1,5 +1,5 @@
 // What follows for the archives in a folder.
-ghost use Rattle.std.specs.Prelude.{◌≡◌, ◌↔◌, ℕ, IsUtf8, List, None, Option, Some};
+ghost use Rattle.std.specs.Prelude.{◌≡◌, ◌≤◌, ◌↔◌, ℕ, IsUtf8, List, length, None, Option, Some};
 ghost use Rattle.std.specs.List.{AllByRecursion};
 ghost use Rattle.csv_tables.specs.Data.{PlainTable};
 ghost use Rattle.csv_tables.specs.Keys.{AreApart};
@@ -9,7 +9,7 @@ ghost use Rattle.keyed_tree.specs.Data.{PlainKeyed};
 ghost use Rattle.keyed_tree.specs.Kids.{IsOrdered};
 ghost use Rattle.archive_tree.specs.Stands.{version_of};
 ghost use Rattle.archive_file.specs.KeyedBy.{IsKeyedBy};
-ghost use Rattle.xarch_words.specs.Commands.{AreForTable, PlainCommand, add, check, cut, export, get, history, key_names, log, rekey, stats, table, tablekeys, versions};
+ghost use Rattle.xarch_words.specs.Commands.{AreForTable, PlainCommand, add, check, cut, export, get, history, import, key_names, log, rekey, stats, table, tablekeys, versions};
 ghost use Rattle.xarch_meanings.specs.Check.{checked};
 ghost use Rattle.xarch_meanings.specs.Get.{version_text};
 ghost use Rattle.xarch_meanings.specs.History.{history_text};
@@ -21,11 +21,12 @@ ghost use Rattle.xarch_meanings.specs.Plausible.{Plausible};
 ghost use Rattle.xarch_meanings.specs.Step.{single_of};
 ghost use Rattle.xarch_meanings.specs.Succeeds.{ShouldSucceed};
 ghost use Rattle.xarch_run.specs.Calls.{Call, CallsDid, CommandMay, CommandsDid, CommandsLead};
-ghost use Rattle.xarch_run.specs.Held.{Accepted, Begun, ChangesOrTells, CutsOrTells, GoesOver, HandedIn, Held, Holds, HoldsBehind, HoldsExactly, IsHandedIn, IsRekeyed, MakesArchive, NoneMakes, RefusalsKeep, TakesKeys, TellsSoundness, WritesCounts, WritesText};
+ghost use Rattle.xarch_run.specs.Held.{Accepted, Begun, ChangesOrTells, CutsOrTells, GoesOver, HandedIn, Held, Holds, HoldsBehind, HoldsExactly, ImportsOrTells, IsHandedIn, IsRekeyed, IsTextOf, MakesArchive, NoneMakes, RefusalsKeep, TakesKeys, TellsSoundness, WritesCounts, WritesText};
 ghost use Rattle.xarch_run.specs.Steps.{LineMay, files_after, line_command};
 ghost use Rattle.xarch_run.specs.Tabled.{HasDocument, HasKeys, IsForKeys};
 
 use archive_rekey::versions_have_one_rekeying;
+use archive_text::texts_have_one_reading;
 use csv_tables::{tables_read_back, tables_satisfy_their_keys};
 use noted_file::{full_files_have_one_reading, sound_files_are_full};
 use xarch_meanings::what_should_succeed_is_not_refused;
@@ -33,7 +34,8 @@ use xarch_meanings::what_should_succeed_is_not_refused;
 /// After any list of commands, an archive's file is exactly the encoding of the handed-in documents
 /// that satisfied its keys, in order, and refused commands changed no file; `get` of a number
 /// writes that version with keyed siblings in key order; and `history` writes exactly the versions
-/// that hold the element. An archive that a `cut` made goes on from the versions that it was given.
+/// that hold the element. An archive that a `cut` or an `import` made goes on from the versions that
+/// it was given.
 ///
 /// The encoding is that of the versions, and behind it of their notes, where one is not empty.
 ///
@@ -51,9 +53,9 @@ pub fn archives_hold_what_was_handed_in()
         → CommandsDid files commands steps → HandedIn files name commands steps held
         → HoldsExactly (files_after files steps) name held }
 
-    // An `init`, a `demo`, or a `cut` of a sound archive that was not refused made such an archive,
-    // and an archive that stands goes on from what it holds. A name that has no file gets one only
-    // by a command that makes a new file.
+    // An `init`, a `demo`, an `import`, or a `cut` of a sound archive that was not refused made such
+    // an archive, and an archive that stands goes on from what it holds. A name that has no file gets
+    // one only by a command that makes a new file.
     ensures made { (files : Files) (name : List ℕ) (command : Option PlainCommand) (s : Step)
         → CommandMay files command s → s.status ≡ 0 → MakesArchive name command
         → GoesOver files command → Begun files name command s.files }
@@ -127,6 +129,23 @@ pub fn archives_hold_what_was_handed_in()
         → Holds files name held → CommandMay files (Some (cut name new i j)) s
         → CutsOrTells files new i j held s }
 
+    // An `import` makes the archive whose text a file is, or tells why there is none. So what an
+    // `export` wrote gives the same file again, where it is short enough, and no other text is taken.
+    ensures imports { (files : Files) (text new : List ℕ) (s : Step)
+        → CommandMay files (Some (import text new)) s → ImportsOrTells files text new s }
+    ensures imported { (files : Files) (text new : List ℕ) (held : Held) (s : Step)
+        → IsTextOf files text held → CommandMay files (Some (import text new)) s → s.status ≡ 0
+        → Holds s.files new held }
+    ensures spelled { (files : Files) (text new : List ℕ) (s : Step)
+        → CommandMay files (Some (import text new)) s → s.status ≡ 0
+        → (held : Held) × IsTextOf files text held }
+
+    ensures restores { (files later : Files) (name text new : List ℕ) (held : Held) (s t : Step)
+        → Holds files name held → CommandMay files (Some (export name)) s
+        → finite.get later text ≡ Some s.output → length s.output ≤ 67108864
+        → finite.get later new ≡ None → CommandMay later (Some (import text new)) t
+        → (t.status ≡ 0) × (finite.get t.files new ≡ finite.get files name) }
+
     // The numbers of the versions are listed, each with its note.
     ensures lists { (files : Files) (name : List ℕ) (held : Held) (s : Step)
         → Holds files name held → CommandMay files (Some (versions name)) s
@@ -155,6 +174,7 @@ pub fn archives_hold_what_was_handed_in()
     sound_files_are_full();
     what_should_succeed_is_not_refused();
     versions_have_one_rekeying();
+    texts_have_one_reading();
 }
 
 /// What `table` makes is a document that satisfies the keys which `tablekeys` writes for the same tag

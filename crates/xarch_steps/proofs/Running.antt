@@ -5,7 +5,7 @@ use Rattle.xa_outside.specs.Folder.{Files}
 use Rattle.xa_outside.specs.Taken.{Taken, TakesNone, TakesPrefix, Puts}
 use Rattle.xa_outside.specs.TakenLaws.{Takes-nil, Takes-kept, TakesNone-refl, TakesPrefix-none, TakesPrefix-all}
 use Rattle.xarch_words.specs.Commands.{PlainCommand, demo, command_of}
-use Rattle.xarch_words.specs.Refusal.{Refusal, usage, no_file, exists, bad_spec, bad_json, bad_shape, key_fault, key_fault_in, no_version, bad_path, damaged, limit, not_frontier, bad_csv, PlainFault, refused, folder_fault, out_fault, in_fault, memory}
+use Rattle.xarch_words.specs.Refusal.{Refusal, usage, no_file, exists, bad_spec, bad_json, bad_shape, key_fault, key_fault_in, no_version, bad_path, damaged, limit, not_frontier, bad_csv, bad_text, PlainFault, refused, folder_fault, out_fault, in_fault, memory}
 use Rattle.xarch_words.specs.Lines.{fault_line, refusal_status}
 use Rattle.xarch_parts.specs.Outcome.{Outcome, Step, output_of, step_from}
 use Rattle.xarch_parts.specs.Ends.{EndsGained, Gained, HasItsCause}
@@ -35,6 +35,7 @@ outside_of-refusal (damaged n) = refl
 outside_of-refusal (limit q n) = refl
 outside_of-refusal not_frontier = refl
 outside_of-refusal (bad_csv r w) = refl
+outside_of-refusal bad_text = refl
 
 -- 2 is the status of words that are no command
 refusal_2 : (r : Refusal) → refusal_status r ≡ 2 → r ≡ usage
@@ -52,6 +53,7 @@ refusal_2 (damaged n) e = absurd (omega (arith, e))
 refusal_2 (limit q n) e = absurd (omega (arith, e))
 refusal_2 not_frontier e = absurd (omega (arith, e))
 refusal_2 (bad_csv r w) e = absurd (omega (arith, e))
+refusal_2 bad_text e = absurd (omega (arith, e))
 
 refusal_some : (r : Refusal) (A : Type 0) → refusal_status r ≡ 0 → A
 refusal_some usage A e = absurd (omega (arith, e))
@@ -68,6 +70,7 @@ refusal_some (damaged n) A e = absurd (omega (arith, e))
 refusal_some (limit q n) A e = absurd (omega (arith, e))
 refusal_some not_frontier A e = absurd (omega (arith, e))
 refusal_some (bad_csv r w) A e = absurd (omega (arith, e))
+refusal_some bad_text A e = absurd (omega (arith, e))
 
 -- ---- from the end of a command
 

@@ -28,7 +28,7 @@ use xarch_copies::run_cut;
 use xarch_meanings::{commands_take_one_step, what_should_succeed_is_not_refused};
 use xarch_reads::{run_check, run_get, run_history, run_log, run_norm, run_stats, run_versions};
 use xarch_tables::{run_table, run_tablekeys};
-use xarch_texts::run_export;
+use xarch_texts::{run_export, run_import};
 use xarch_words::{Command, Fault, read_words, status, write_fault};
 use xarch_writes::{run_add, run_demo, run_init, run_rekey};
 
@@ -36,8 +36,9 @@ use xarch_writes::{run_add, run_demo, run_init, run_rekey};
 ///
 /// Words that are no command, and `batch`, are refused. Every fault writes one line to `err`; a
 /// failure of `err` changes no status. Input files are read directly before the first step that
-/// judges their bytes: whole, but the archives of `add` and `cut`, which are read record by record, and
-/// those of `get`, `history` and `log`, of which only what their searches look at is read.
+/// judges their bytes: whole, but the archives of `add`, `cut` and `stats`, which are read record by
+/// record, those of `get`, `history` and `log`, of which only what their searches look at and a `log`'s
+/// leaf is read, and that of `versions`, of which its header and its notes are read.
 pub fn take_step<F: Folder, O: Sink, E: Sink>(
     alloc: Global,
     words: &[String],
@@ -178,6 +179,7 @@ fn run_command<F: Folder, O: Sink>(
         Command::Stats { archive } => run_stats(alloc, archive, folder, out),
         Command::Versions { archive } => run_versions(alloc, archive, folder, out),
         Command::Export { archive } => run_export(alloc, archive, folder, out),
+        Command::Import { text, new } => run_import(alloc, text, new, folder),
         Command::Cut {
             archive,
             new,

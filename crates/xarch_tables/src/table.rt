@@ -25,7 +25,8 @@ use xarch_words::{Fault, Quantity};
 
 /// Makes the document of a table.
 ///
-/// The bytes of the file are let go as soon as the table is read, and each row when it is printed.
+/// The bytes of the file are let go as soon as the table is read, and its rows, some at a time, as they
+/// are printed.
 pub fn run_table<F: Folder>(
     alloc: Global,
     csv: &str,

@@ -1,3 +1,5 @@
 pub mod ExportEnds
 pub mod GivingLemmas
+pub mod ImportEnds
 pub mod NotesRead
+pub mod Pushing

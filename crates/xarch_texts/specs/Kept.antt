@@ -1,5 +1,5 @@
 -- What is read of an archive, and what is written of it.
-use Rattle.std.specs.Prelude.{◌≡◌, ℕ, List, map, string_bytes, Result, Ok}
+use Rattle.std.specs.Prelude.{ℕ, List, map, string_bytes, Result, Ok}
 use Rattle.xa_outside.specs.Folder.{Files}
 use Rattle.key_spec.specs.Data.{PlainRule}
 use Rattle.key_spec.specs.View.{spec_view}
@@ -13,9 +13,11 @@ use Rattle.xarch_words.specs.Refusal.{Refusal}
 use Rattle.xarch_parts.specs.Outcome.{Outcome}
 use Rattle.xarch_texts.specs.declared.export.Kept.{Kept}
 
--- if the bytes are a sound archive, these are its rules, and this is the archive of its versions
-abbrev pub IsReadOf : List ℕ → List PlainRule → PlainArchive → Type 0
-IsReadOf bytes rules a = (others : List PlainRule) (vs : List PlainKeyed) → SoundAs others vs bytes → (rules ≡ others) × ArchiveOf vs a
+-- The bytes are the sound archive of some versions under these rules, and this is the archive of these.
+pub record IsReadOf (bytes : List ℕ) (rules : List PlainRule) (a : PlainArchive) : Type 0 where
+  pub versions : List PlainKeyed
+  pub of : ArchiveOf versions a
+  pub sound : SoundAs rules versions bytes
 
 -- its text is written, and files stay
 abbrev pub exported : Files → Kept → Result Outcome Refusal

@@ -23,9 +23,11 @@ ghost use Rattle.xarch_texts.specs.Kept.{IsReadOf, exported};
 
 use archive_file::{FileFault, decode_file};
 use archive_text::{TextFault, write_text};
-use archive_tree::Archive;
+use archive_tree::{Archive, archives_stand_for_one_list};
 use key_spec::Spec;
-use noted_file::{full_files_are_read_note_by_note, full_files_have_parts};
+use noted_file::{
+    full_files_are_read_note_by_note, full_files_have_one_reading, full_files_have_parts,
+};
 use std::alloc::Global;
 use version_notes::{NoteReader, Parts, read_notes};
 use xa_outside::{Folder, ReadFault, Sink, read_front};
@@ -87,9 +89,10 @@ fn kept_in<F: Folder>(
         (λ files q. PartsAre files name.now parts.now
         → MayBe files (export name.now) (Err q)) }
 {
-    // Laws, for what comes of a sound archive.
+    // Laws: where the core and the notes are read the archive is sound, and it has one reading.
     full_files_have_parts();
     full_files_are_read_note_by_note();
+    full_files_have_one_reading();
     let (spec, archive) = read_core(alloc, name, parts.core, folder)?;
     match notes_of(alloc, name, parts, archive.n(), folder) {
         Ok(notes) => Ok(Kept {
@@ -128,6 +131,8 @@ fn archive_from(alloc: Global, name: &str, bytes: &[u8]) -> Result<(Spec, Archiv
     ensures damage { (q : Refusal) → IfErr result (λ f. fault_view f ≡ refused q
         → (q ≡ refusal.damaged name.now) × ¬ Sound bytes.now) }
 {
+    // A law: an archive is that of some versions.
+    archives_stand_for_one_list();
     match decode_file(alloc, bytes) {
         Ok(read) => Ok(read),
         Err(FileFault::Damage) => Err(damaged(alloc, name)),

@@ -2,5 +2,8 @@
 #![tactic(auto)]
 
 mod export;
+mod import;
+mod notes;
 
 pub use export::run_export;
+pub use import::run_import;

@@ -1,10 +1,10 @@
 -- What words that spell a command have seen to.
 use Rattle.std.proofs.Common.{◌≡◌, ℕ, ◌≤◌, ◌&&◌, nat_le, Bool, true, false, List, [], ◌∷◌, Option, Some, None, codes, option_map, option_and_then, IfSome, if◌then◌else◌, refl, sym, subst}
 use Rattle.std.specs.Str.{bytes_eq}
-use Rattle.std.proofs.lemmas.Bool.{and_parts, le-leb, leb-true}
+use Rattle.std.proofs.lemmas.Bool.{and_parts, leb-true}
 use Rattle.key_spec.specs.Names.{is_name}
 use Rattle.version_notes.specs.Notes.{is_printed}
-use Rattle.xarch_words.specs.Commands.{PlainCommand, norm, init, add, rekey, get, history, log, check, stats, versions, export, cut, table, tablekeys, batch, demo, AreForTable, IsSpelled, are_keys, command_of, command_of_one, command_of_two, command_of_three, command_of_four, command_of_five, cut_of, demo_of, noted, number_of, question_of, table_of, tablekeys_of}
+use Rattle.xarch_words.specs.Commands.{PlainCommand, norm, init, add, rekey, get, history, log, check, stats, versions, export, import, cut, table, tablekeys, batch, demo, AreForTable, IsSpelled, are_keys, command_of, command_of_one, command_of_two, command_of_three, command_of_four, command_of_five, cut_of, demo_of, noted, number_of, question_of, table_of, tablekeys_of}
 use Rattle.xarch_words.specs.View.{command_view}
 use Rattle.xarch_words.specs.declared.words.Command.{Command}
 
@@ -66,7 +66,8 @@ of-three word first second =
     either (bytes_eq word (codes "norm")) (Some (norm first second)) _ tt
     (either (bytes_eq word (codes "init")) (Some (init first second)) _ tt
     (either (bytes_eq word (codes "add")) (Some (add first second [])) _ refl
-    (either (bytes_eq word (codes "rekey")) (Some (rekey first second)) (question_of word first second) tt (of-question word first second))))
+    (either (bytes_eq word (codes "rekey")) (Some (rekey first second)) _ tt
+    (either (bytes_eq word (codes "import")) (Some (import first second)) (question_of word first second) tt (of-question word first second)))))
 
 of-four : (word first second third : List ℕ) → IfSpelled (command_of_four word first second third)
 of-four word first second third =

@@ -32,6 +32,8 @@ pub data PlainCommand : Type 0 where
   versions : List ℕ → PlainCommand
   -- the archive
   export : List ℕ → PlainCommand
+  -- the text and the new archive
+  import : List ℕ → List ℕ → PlainCommand
   -- the archive, the new archive, and the numbers of its first version and its last
   cut : List ℕ → List ℕ → ℕ → ℕ → PlainCommand
   -- the table, the tag of its document, the names of its key columns, and the document
@@ -72,7 +74,8 @@ command_of_three word first second =
     else (if bytes_eq word (codes "init") then Some (init first second)
     else (if bytes_eq word (codes "add") then Some (add first second [])
     else (if bytes_eq word (codes "rekey") then Some (rekey first second)
-    else question_of word first second)))
+    else (if bytes_eq word (codes "import") then Some (import first second)
+    else question_of word first second))))
 
 -- a seed and a number of versions, both of which are numbers
 abbrev pub demo_of : List ℕ → List ℕ → List ℕ → Option PlainCommand

@@ -4,7 +4,7 @@ use Rattle.std.specs.Fmt.{decimal}
 use Rattle.std.specs.List.{flat_map}
 use Rattle.key_spec.specs.Data.{PlainPath}
 use Rattle.key_spec.specs.Names.{path_text}
-use Rattle.xarch_words.specs.Refusal.{PlainQuantity, document, depth, versions, specification, archive, line, batch, demo, note, Refusal, usage, no_file, exists, bad_spec, bad_json, bad_shape, key_fault, key_fault_in, no_version, bad_path, damaged, limit, not_frontier, bad_csv, PlainFault, refused, folder_fault, out_fault, in_fault, memory}
+use Rattle.xarch_words.specs.Refusal.{PlainQuantity, document, depth, versions, specification, archive, line, batch, demo, note, text, Refusal, usage, no_file, exists, bad_spec, bad_json, bad_shape, key_fault, key_fault_in, no_version, bad_path, damaged, limit, not_frontier, bad_csv, bad_text, PlainFault, refused, folder_fault, out_fault, in_fault, memory}
 
 abbrev pub refusal_status : Refusal → ℕ
 refusal_status usage = 2
@@ -21,6 +21,7 @@ refusal_status (damaged name) = 11
 refusal_status (limit quantity number) = 12
 refusal_status not_frontier = 17
 refusal_status (bad_csv row why) = 19
+refusal_status bad_text = 20
 
 abbrev pub fault_status : PlainFault → ℕ
 fault_status (refused r) = refusal_status r
@@ -55,6 +56,7 @@ quantity_text line = codes "line "
 quantity_text batch = codes "batch "
 quantity_text demo = codes "demo "
 quantity_text note = codes "note "
+quantity_text text = codes "text "
 
 unfoldable pub no_version_text : ℕ → ℕ → List ℕ
 no_version_text i n = codes "no version " ++ decimal i ++ (codes " of " ++ decimal n)
@@ -75,6 +77,7 @@ refusal_text (damaged name) = codes "damaged archive " ++ name
 refusal_text (limit quantity number) = codes "limit " ++ quantity_text quantity ++ decimal number
 refusal_text not_frontier = codes "path is not at the frontier"
 refusal_text (bad_csv row why) = codes "bad table, record " ++ decimal row ++ why_text why
+refusal_text bad_text = codes "bad text"
 
 unfoldable pub fault_text : PlainFault → List ℕ
 fault_text (refused r) = refusal_text r

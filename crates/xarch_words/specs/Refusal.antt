@@ -13,6 +13,7 @@ pub data PlainQuantity : Type 0 where
   batch : PlainQuantity
   demo : PlainQuantity
   note : PlainQuantity
+  text : PlainQuantity
 
 -- A refusal is an answer of the command itself: the words and the files alone say when it comes.
 pub data Refusal : Type 0 where
@@ -38,6 +39,7 @@ pub data Refusal : Type 0 where
   not_frontier : Refusal
   -- the record, which counts from 1, or 0 where there is none, and why
   bad_csv : ℕ → ℕ → Refusal
+  bad_text : Refusal
 
 -- A fault is a refusal, a failure of the folder, of the output or of the input, or want of memory.
 pub data PlainFault : Type 0 where

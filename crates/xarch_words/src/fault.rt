@@ -28,6 +28,8 @@ pub enum Quantity {
     Demo,
     /// The bytes of a note.
     Note,
+    /// The bytes of an archive's text.
+    Text,
 }
 
 /// Why a command ends without its answer.
@@ -68,6 +70,8 @@ pub enum Fault {
     /// The record of a table is bad. Records count from 1, the heading being the first; record 0
     /// stands for the table as a whole.
     BadCsv { row: u64, why: u8 },
+    /// The bytes are the text of no archive.
+    BadText,
     FolderFault,
     OutFault,
     InFault,
@@ -109,6 +113,7 @@ pub fn status(fault: &Fault) -> u8
         Fault::Limit { .. } => 12,
         Fault::NotFrontier => 17,
         Fault::BadCsv { .. } => 19,
+        Fault::BadText => 20,
         Fault::FolderFault => 13,
         Fault::OutFault => 14,
         Fault::InFault => 15,

@@ -1,6 +1,5 @@
 // The names of key columns in a word.
-ghost use Rattle.std.specs.Prelude.{◌≡◌, ◌≤◌, List, bytes_eq, length, map, take};
-ghost use Rattle.std.specs.List.{list_any};
+ghost use Rattle.std.specs.Prelude.{◌≡◌, ◌≤◌, map};
 ghost use Rattle.csv_tables.specs.Records.{has_field};
 ghost use Rattle.xarch_words.specs.Commands.{are_keys};
 

@@ -77,6 +77,7 @@ fn put_text<E: Sink>(err: &mut E, fault: &Fault) -> Result<(), Failed>
         Fault::Limit { quantity, number } => put_limit(err, *quantity, *number),
         Fault::NotFrontier => put_all(err, b"path is not at the frontier"),
         Fault::BadCsv { row, why } => put_line(err, b"bad table, record ", *row, *why),
+        Fault::BadText => put_all(err, b"bad text"),
         Fault::FolderFault => put_all(err, b"folder fault"),
         Fault::OutFault => put_all(err, b"output fault"),
         Fault::InFault => put_all(err, b"input fault"),
@@ -188,6 +189,7 @@ fn put_limit<E: Sink>(err: &mut E, quantity: Quantity, number: u64) -> Result<()
         Quantity::Batch => b"limit batch ",
         Quantity::Demo => b"limit demo ",
         Quantity::Note => b"limit note ",
+        Quantity::Text => b"limit text ",
     };
     put_number(err, before, number)
 }

@@ -1,4 +1,4 @@
-ghost use Rattle.std.specs.Prelude.{◌≡◌, ◌≤◌, option_map, IfSome, map, length};
+ghost use Rattle.std.specs.Prelude.{◌≡◌, ◌≤◌, option_map, IfSome, map};
 ghost use Rattle.xarch_words.specs.Commands.{IsSpelled, command_of, command_of_five, command_of_four};
 ghost use Rattle.xarch_words.specs.Commands.{command_of_one, command_of_three, command_of_two, cut_of};
 ghost use Rattle.xarch_words.specs.Commands.{demo_of, get, noted, number_of, question_of, table_of};
@@ -65,6 +65,11 @@ pub enum Command<'a> {
     /// Writes an archive as text.
     Export {
         archive: &'a str,
+    },
+    /// Makes the archive of a text.
+    Import {
+        text: &'a str,
+        new: &'a str,
     },
     /// Makes an archive of some versions of another, which are counted from 1 there.
     Cut {
@@ -158,6 +163,10 @@ fn three_words<'a>(word: &str, first: &'a str, second: &'a str) -> Option<Comman
         "rekey" => Some(Command::Rekey {
             archive: first,
             spec: second,
+        }),
+        "import" => Some(Command::Import {
+            text: first,
+            new: second,
         }),
         _ => question(word, first, second),
     }

@@ -1,11 +1,12 @@
 use Rattle.xarch_run.proofs.CallLemmas.{calls-did, line-may, words-may}
 use Rattle.xarch_run.proofs.CheckLemmas.{checking, judging}
 use Rattle.xarch_run.proofs.HeldLemmas.{accepted, all-absent, all-hold, all-refused, counting, cutting, exact, exporting, getting, handed-holds, in-order, keys-taken, keys-told, listing, logging, one-held, rekeying, satisfying, should-succeed, step-begins, telling}
+use Rattle.xarch_run.proofs.ImportLemmas.{imported, importing, restoring, text-taken}
 use Rattle.xarch_run.proofs.laws.archives_hold_what_was_handed_in.Goals as goal
 
 pub returns-clause-headline : goal.returns-clause-headline
 returns-clause-headline c = λ files commands steps name held did handed. exact c.full_files_have_one_reading.ensures.file c.full_files_have_one_reading.ensures.defined _ name held
-    (handed-holds (record { one_list = c.versions_have_one_rekeying.ensures.one_list; apart = c.versions_have_one_rekeying.ensures.apart }) c.full_files_have_one_reading.ensures.reading c.sound_files_are_full.ensures.sound files name commands steps held did handed)
+    (handed-holds (record { one_list = c.versions_have_one_rekeying.ensures.one_list; apart = c.versions_have_one_rekeying.ensures.apart }) c.full_files_have_one_reading.ensures.reading c.texts_have_one_reading.ensures.reading c.sound_files_are_full.ensures.sound files name commands steps held did handed)
 
 pub returns-clause-made : goal.returns-clause-made
 returns-clause-made c = step-begins c.sound_files_are_full.ensures.sound
@@ -66,6 +67,20 @@ returns-clause-exports c = λ files name held s holds may. exporting files name 
 
 pub returns-clause-cuts : goal.returns-clause-cuts
 returns-clause-cuts c = λ files name new i j held s holds may. cutting files name held s holds new i j may
+
+pub returns-clause-imports : goal.returns-clause-imports
+returns-clause-imports c = importing
+
+pub returns-clause-imported : goal.returns-clause-imported
+returns-clause-imported c = imported c.full_files_have_one_reading.ensures.reading c.texts_have_one_reading.ensures.reading c.sound_files_are_full.ensures.sound
+
+pub returns-clause-spelled : goal.returns-clause-spelled
+returns-clause-spelled c = text-taken c.sound_files_are_full.ensures.sound
+
+pub returns-clause-restores : goal.returns-clause-restores
+returns-clause-restores c =
+    restoring c.full_files_have_one_reading.ensures.reading c.texts_have_one_reading.ensures.reading c.sound_files_are_full.ensures.sound c.full_files_have_one_reading.ensures.file c.full_files_have_one_reading.ensures.defined
+    c.what_should_succeed_is_not_refused.ensures.never
 
 pub returns-clause-checks : goal.returns-clause-checks
 returns-clause-checks c = λ files name held s holds may. checking files name s c.full_files_have_one_reading.ensures.reading held holds may

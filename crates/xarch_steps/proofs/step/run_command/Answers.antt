@@ -33,6 +33,9 @@ returns-in-Versions g c = record { performs = rw c.in-Versions.is c.run_versions
 pub returns-in-Export : goal.returns-in-Export
 returns-in-Export g c = record { performs = rw c.in-Export.is c.run_export.ensures; fills = rw c.in-Export.is tt }
 
+pub returns-in-Import : goal.returns-in-Import
+returns-in-Import g c = record { performs = rw c.in-Import.is (c.run_import.ensures (g.O.Sink.taken c.args.out.now) (g.O.Sink.faults c.args.out.now)); fills = rw c.in-Import.is tt }
+
 pub returns-in-Cut : goal.returns-in-Cut
 returns-in-Cut g c = record { performs = rw c.in-Cut.is (c.run_cut.ensures.performs (g.O.Sink.taken c.args.out.now) (g.O.Sink.faults c.args.out.now)); fills = rw c.in-Cut.is c.run_cut.ensures.fills }
 

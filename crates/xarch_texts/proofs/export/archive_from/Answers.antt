@@ -1,3 +1,4 @@
+use Rattle.archive_tree.specs.ArchiveView.{archive_view}
 use Rattle.xarch_parts.specs.Ends.{IsInside}
 use Rattle.xarch_texts.proofs.export.archive_from.Goals as goal
 
@@ -6,7 +7,10 @@ unfolding IsInside
 returns-in-Ok-clause-cause c = tt
 
 pub returns-in-Ok-clause-read : goal.returns-in-Ok-clause-read
-returns-in-Ok-clause-read c = λ others vs sound. c.in-Ok.ensures.only others vs sound
+returns-in-Ok-clause-read c =
+    let archive = c.in-Ok.read.1 in
+    let kept = c.archives_stand_for_one_list.ensures.told (archive_view archive) archive.stands in
+    record { versions = kept.versions; of = kept.is; sound = c.in-Ok.ensures.sound kept.versions kept.is }
 
 pub returns-in-Err-Damage-clause-cause : goal.returns-in-Err-Damage-clause-cause
 returns-in-Err-Damage-clause-cause c = c.damaged.ensures.inside

@@ -26,8 +26,9 @@ returns-in-Ok g c =
     let core = c.in_ok-spec in
     let n = c.in-Ok.ensures in
     gives-value (parts.core + notes_bytes parts.notes) _ _ _ _ _ (reads-then parts.core (notes_bytes parts.notes) _ _ _ _ _ (omega arith) core.ensures.reads n.reads)
-    (λ files told p. may_export c.full_files_have_parts.ensures.parts files name parts p c.full_files_are_read_note_by_note.ensures.come (spec_view core.spec) (archive_view core.archive) c.n.result c.n.ensures (core.ensures.given files told)
-    (map string_bytes c.in-Ok.notes.items) (n.given files (core.ensures.reads.same_files ∙ told)))
+    (λ files told p.
+    may_export c.full_files_have_parts.ensures.parts files name parts p (spec_view core.spec) (archive_view core.archive) c.n.result c.n.ensures (core.ensures.given files told) c.full_files_are_read_note_by_note.ensures.full
+    c.full_files_have_one_reading.ensures.reading (map string_bytes c.in-Ok.notes.items) (n.given files (core.ensures.reads.same_files ∙ told)))
 
 pub returns-in-Err : goal.returns-in-Err
 returns-in-Err g c =
@@ -37,4 +38,4 @@ returns-in-Err g c =
     let n = c.in-Err.ensures in
     gives-fault (parts.core + notes_bytes parts.notes) _ _ _ _ _ (reads-then parts.core (notes_bytes parts.notes) _ _ _ _ _ (omega arith) core.ensures.reads n.reads)
     (λ files q told is p. (let d = n.refuses files q (core.ensures.reads.same_files ∙ told) is in
-    may_refuse_notes c.full_files_have_parts.ensures.parts files name parts p c.full_files_are_read_note_by_note.ensures.come (spec_view core.spec) (archive_view core.archive) c.n.result c.n.ensures (core.ensures.given files told) q d.0 d.1))
+    may_refuse_notes c.full_files_have_parts.ensures.parts files name parts p (spec_view core.spec) (archive_view core.archive) c.n.result c.n.ensures (core.ensures.given files told) c.full_files_are_read_note_by_note.ensures.damaged q d.0 d.1))

@@ -1,7 +1,7 @@
 use Rattle.std.proofs.Common.{◌≡◌, ◌+◌, ◌∙◌, sym, ap, ap₂, lit<, ◌≤◌, true, false, List, ℕ, [], ◌∷◌, ◌++◌, length, map, take, get_or, eqb, Bor, arith, rules}
 use Rattle.std.proofs.lemmas.Iterator.Splits.{YieldsList-from_str_split}
 use Rattle.std.proofs.lemmas.Iterator.Consumers.{YieldsList-end, YieldsList-so_far, YieldsList-turn}
-use Rattle.std.proofs.lemmas.List.{length-append, length-map, map-append, take_more_set}
+use Rattle.std.proofs.lemmas.List.{length-append, map-append, take_more_set}
 use Rattle.std.proofs.lemmas.List.Folds.{list_all_at}
 use Rattle.std.specs.List.{list_all, slice_split}
 use Rattle.csv_tables.specs.Records.{has_field, repeats}

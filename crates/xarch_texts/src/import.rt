@@ -1,0 +1,125 @@
+#![tactic(auto)]
+
+ghost use Rattle.std.specs.Prelude.{◌≡◌, ◌≤◌, ◌++◌, ℕ, length, map, Some, IfOk, IfErr, OnOk, string_bytes};
+ghost use Rattle.std.specs.FinMap as finite;
+ghost use Rattle.xa_outside.specs.Folder.{Files};
+ghost use Rattle.xa_outside.specs.Taken.{Taken};
+ghost use Rattle.key_spec.specs.View.{spec_view};
+ghost use Rattle.archive_tree.specs.ArchiveView.{archive_view};
+ghost use Rattle.archive_text.specs.Export.{export_text};
+ghost use Rattle.archive_text.specs.Reading.{CanBeKept};
+ghost use Rattle.version_notes.specs.Notes.{AreNotes, notes_part};
+ghost use Rattle.xarch_words.specs.Commands.{import};
+ghost use Rattle.xarch_words.specs.Refusal.{Refusal, folder_fault, refused};
+ghost use Rattle.xarch_words.specs.View.{fault_view};
+ghost use Rattle.xarch_parts.specs.Archives.{IsBlank};
+ghost use Rattle.xarch_parts.specs.Ends.{IsCaused, IsInside, Matches, TellsOnly, fault_of};
+ghost use Rattle.xarch_parts.specs.Folders.{ReadsOnly, WritesOnly};
+ghost use Rattle.xarch_meanings.specs.Import.{IsNoText, import_text};
+ghost use Rattle.xarch_meanings.specs.Performs.{Performs};
+ghost use Rattle.xarch_texts.specs.Spelled.{IsFileOf};
+
+use crate::notes::push_notes;
+use archive_text::{Kept, ReadFault, read_text};
+use archive_tree::archives_stand_for_one_list;
+use std::alloc::Global;
+use xa_outside::Folder;
+use xarch_meanings::limits;
+use xarch_parts::{begin, check_free, commit, draft, file_from, limited_length, read_whole};
+use xarch_words::{Fault, Quantity};
+
+/// Makes the archive of a text, with its notes.
+///
+/// The text is read whole. It, the archive and its notes are held, and while the text is judged its
+/// file and the text that it would have are too.
+pub fn run_import<F: Folder>(
+    alloc: Global,
+    text: &str,
+    new: &str,
+    folder: &mut F,
+) -> Result<(), Fault>
+    ensures { (t : Taken) (n : ℕ) → Performs F.files F.draft F.numbers F.faults
+        (import text.now new.now) folder.old folder.new t t n n (fault_of result) }
+{
+    begin(folder)?;
+    let bytes = read_input(alloc, text, new, folder)?;
+    let (core, notes) = file_of(alloc, &bytes)?;
+    store_noted(new, &core, &notes, folder)
+}
+
+// The bytes of the text, where the new name is free.
+fn read_input<F: Folder>(
+    alloc: Global,
+    text: &str,
+    new: &str,
+    folder: &mut F,
+) -> Result<Vec<u8>, Fault>
+    ensures reads { ReadsOnly F.files F.draft F.numbers F.faults 67108864 folder.old folder.new
+        (fault_of result) }
+    ensures told { (files : Files) → F.files folder.old ≡ Some files
+        → Matches (λ v. v.items) (import_text files text.now new.now) result }
+    ensures short { IfOk result (λ v. length v.items ≤ 67108864) }
+{
+    let length = limited_length(alloc, folder, text, Quantity::Text, limits::TEXT)?;
+    check_free(alloc, folder, new)?;
+    read_whole(alloc, folder, text, length)
+}
+
+// The file of the archive whose text the bytes are, and the notes that come behind it.
+fn file_of(alloc: Global, bytes: &[u8]) -> Result<(Vec<u8>, Vec<String>), Fault>
+    requires { length bytes.now ≤ 67108864 }
+    ensures cause { IsInside (fault_of result) }
+    ensures file { IfOk result
+        (λ r. IsFileOf bytes.now r.0.items (map string_bytes r.1.items)) }
+    ensures notes { IfOk result (λ r. AreNotes (map string_bytes r.1.items)) }
+    ensures refused { (q : Refusal)
+        → IfErr result (λ f. fault_view f ≡ refused q → IsNoText bytes.now (Err q)) }
+{
+    // A law, for the proof of `file`.
+    archives_stand_for_one_list();
+    let kept = kept_in(alloc, bytes)?;
+    let core = file_from(alloc, &kept.spec, &kept.archive)?;
+    Ok((core, kept.notes))
+}
+
+// The archive with notes whose text the bytes are.
+fn kept_in(alloc: Global, bytes: &[u8]) -> Result<Kept, Fault>
+    requires { length bytes.now ≤ 67108864 }
+    ensures cause { IsInside (fault_of result) }
+    ensures kept { IfOk result (λ k. CanBeKept (spec_view k.spec) (archive_view k.archive)
+        (map string_bytes k.notes.items)) }
+    ensures text { IfOk result (λ k. bytes.now ≡ export_text (spec_view k.spec)
+        (archive_view k.archive) (map string_bytes k.notes.items)) }
+    ensures refused { (q : Refusal)
+        → IfErr result (λ f. fault_view f ≡ refused q → IsNoText bytes.now (Err q)) }
+{
+    match read_text(alloc, bytes) {
+        Ok(kept) => Ok(kept),
+        Err(ReadFault::Bad) => Err(Fault::BadText),
+        Err(ReadFault::Memory) => Err(Fault::Memory),
+    }
+}
+
+// Makes an archive, and its notes behind it, the file of this name.
+fn store_noted<F: Folder>(
+    name: &str,
+    core: &[u8],
+    notes: &[String],
+    folder: &mut F,
+) -> Result<(), Fault>
+    requires blank { IsBlank (F.draft folder.old) }
+    requires notes { AreNotes (map string_bytes notes.now) }
+    ensures writes { WritesOnly F.files F.draft F.numbers folder.old folder.new (fault_of result) }
+    ensures caused { (out : ℕ)
+        → IsCaused (F.faults folder.old) (F.faults folder.new) out out (fault_of result) }
+    ensures stored { (files : Files) → F.files folder.old ≡ Some files
+        → OnOk result (TellsOnly (F.files folder.new) (finite.insert files name.now
+        (core.now ++ notes_part (map string_bytes notes.now)))) }
+    ensures fault { IfErr result (λ f. fault_view f ≡ folder_fault) }
+{
+    draft(folder, core)?;
+    match push_notes(notes, folder) {
+        Ok(()) => commit(folder, name),
+        Err(_) => Err(Fault::FolderFault),
+    }
+}
