@@ -1,4 +1,9 @@
 pub mod Steps
+pub mod Chains
+pub mod Flushed
+pub mod LineParts
+pub mod SinkCauses
+pub mod Awaited
 pub mod LineLaws
 pub mod Cuts
 pub mod OneLine

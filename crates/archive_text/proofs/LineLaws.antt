@@ -3,7 +3,7 @@ use Rattle.std.proofs.Common.{◌≡◌, ◌≢◌, ℕ, suc, ◌<◌, ◌==◌,
 use Rattle.std.specs.List.{flat_map}
 use Rattle.std.proofs.lemmas.Grind.{flat_map-append}
 use Rattle.std.proofs.lemmas.Bool.Decides.{eqb_tells}
-use Rattle.archive_tree.specs.Data.{Stamp, PlainAlt, PlainNode, inner_node, leaf_node, PlainNodes}
+use Rattle.archive_tree.specs.Data.{Stamp, PlainNode, inner_node, leaf_node}
 use Rattle.keyed_tree.specs.Data.{PlainLabel}
 use Rattle.jsonml_lines.specs.Lines.{PlainLine}
 use Rattle.archive_tree.specs.View.{alt_view, node_view, nodes_view}
@@ -47,19 +47,15 @@ nodes_text (k ∷ ks) = flat_map-append line_text (node_lines (node_view k)) (no
 ended : (ls : List PlainLine) → lines_text (ls ++ end_line ∷ []) ≡ lines_text ls ++ line_text end_line
 ended ls = flat_map-append line_text ls (end_line ∷ []) ∙ ap (λ l. lines_text ls ++ l) (append-nil (line_text end_line))
 
--- a first line, others and the end, one after another
-three : (old a b new first : List ℕ) (ls : List PlainLine) → a ≡ old ++ first → b ≡ a ++ lines_text ls → new ≡ b ++ line_text end_line → new ≡ old ++ (first ++ lines_text (ls ++ end_line ∷ []))
-three old a b new first ls e f g =
-    g ∙ ap (λ l. l ++ line_text end_line) (f ∙ ap (λ l. l ++ lines_text ls) e) ∙ append_assoc (old ++ first) (lines_text ls) (line_text end_line) ∙ append_assoc old first (lines_text ls ++ line_text end_line)
-    ∙ ap (λ l. old ++ (first ++ l)) (sym (ended ls))
+pub inner_is : (k : PlainNode) (l : PlainLabel) (s : Stamp) (ks : List ANode) → k ≡ inner_node l s (nodes_view ks)
+    → lines_text (node_lines k) ≡ line_text (open_line l s) ++ (flat_map (λ k. lines_text (node_lines (node_view k))) ks ++ line_text end_line)
+inner_is k l s ks is =
+    ap (λ n. lines_text (node_lines n)) is ∙ ap (λ m. line_text (open_line l s) ++ m) (ended (nodes_lines (nodes_view ks)) ∙ ap (λ m. m ++ line_text end_line) (nodes_text ks))
 
-pub inner_text : (old a b new : List ℕ) (k : PlainNode) (l : PlainLabel) (s : Stamp) (ks : PlainNodes) → k ≡ inner_node l s ks → a ≡ old ++ line_text (open_line l s) → b ≡ a ++ lines_text (nodes_lines ks) → new ≡ b ++ line_text end_line
-    → new ≡ old ++ lines_text (node_lines k)
-inner_text old a b new k l s ks is e f g = three old a b new (line_text (open_line l s)) (nodes_lines ks) e f g ∙ ap (λ n. old ++ lines_text (node_lines n)) (sym is)
-
-pub leaf_text : (old a b new : List ℕ) (k : PlainNode) (l : PlainLabel) (s : Stamp) (xs : List PlainAlt) → k ≡ leaf_node l s xs → a ≡ old ++ line_text (leaf_line l s) → b ≡ a ++ lines_text (map alt_line xs) → new ≡ b ++ line_text end_line
-    → new ≡ old ++ lines_text (node_lines k)
-leaf_text old a b new k l s xs is e f g = three old a b new (line_text (leaf_line l s)) (map alt_line xs) e f g ∙ ap (λ n. old ++ lines_text (node_lines n)) (sym is)
+pub leaf_is : (k : PlainNode) (l : PlainLabel) (s : Stamp) (xs : List Alt) → k ≡ leaf_node l s (map alt_view xs)
+    → lines_text (node_lines k) ≡ line_text (leaf_line l s) ++ (flat_map (λ x. line_text (alt_line (alt_view x))) xs ++ line_text end_line)
+leaf_is k l s xs is =
+    ap (λ n. lines_text (node_lines n)) is ∙ ap (λ m. line_text (leaf_line l s) ++ m) (ended (map alt_line (map alt_view xs)) ∙ ap (λ m. m ++ line_text end_line) (alts_text xs))
 
 -- ---- keys
 

@@ -1,5 +1,5 @@
 -- What is judged of the parts of a text, and what follows for the whole.
-use Rattle.std.proofs.Common.{◌≡◌, ℕ, ◌≤◌, true, List, [], ◌∷◌, ◌++◌, length, map, Result, Ok, Err, IfOk, IfErr, Option, Some, None, is_some, IfSome, IfNone, true≢false, String, Global, string_bytes, refl, sym, ◌∙◌, subst, arith}
+use Rattle.std.proofs.Common.{◌≡◌, ℕ, ◌≤◌, true, List, [], ◌∷◌, ◌++◌, length, map, Result, Ok, Err, IfOk, IfErr, Option, Some, None, IfSome, IfNone, String, Global, string_bytes, refl, sym, ◌∙◌, subst, arith}
 use Rattle.std.specs.List.{AllByRecursion, list_all}
 use Rattle.std.proofs.lemmas.Bool.{and_parts, and_from, leb-true}
 use Rattle.std.proofs.lemmas.Str.{IsUtf8-string_bytes}
@@ -13,7 +13,7 @@ use Rattle.version_notes.specs.Notes.{IsNote, is_note, is_printed, notes_part}
 use Rattle.noted_file.specs.Full.{FullAs}
 use Rattle.archive_text.specs.Export.{export_text, ExportOf}
 use Rattle.archive_text.specs.Faults.{IfBad}
-use Rattle.archive_text.specs.Reading.{ArePartsOf, CanBeKept, Finds}
+use Rattle.archive_text.specs.Reading.{AreKeptAs, ArePartsOf, Finds}
 use Rattle.archive_text.proofs.OneText.{text_is}
 use Rattle.archive_text.specs.declared.fault.ReadFault.{ReadFault}
 use Rattle.archive_text.specs.declared.fault.ReadFault.TheVariants.{Bad, Memory}
@@ -23,10 +23,6 @@ use Rattle.archive_text.specs.declared.fault.ReadFault.TheVariants.{Bad, Memory}
 pub if_ok : {X E : Type 0} (P Q : X → Type 0) (r : Result X E) → ((x : X) → P x → Q x) → IfOk r P → IfOk r Q
 if_ok P Q (Ok x) f h = f x h
 if_ok P Q (Err e) f h = tt
-
-pub any_ok : {X E : Type 0} (Q : X → Type 0) (r : Result X E) → ((x : X) → Q x) → IfOk r Q
-any_ok Q (Ok x) f = f x
-any_ok Q (Err e) f = tt
 
 pub finds_ok : {X : Type 0} (P Q : X → Type 0) (r : Result X ReadFault) → ((x : X) → P x → Q x) → Finds r P → IfOk r Q
 finds_ok P Q (Ok x) f h = f x h
@@ -39,15 +35,22 @@ text_bad bytes (Ok x) Q h = tt
 text_bad bytes (Err Bad) Q h = λ rules vs notes file full e. h rules vs notes file full e
 text_bad bytes (Err Memory) Q h = tt
 
--- ---- options
+-- ---- what there may be
 
-pub some_there : {X : Type 0} (P : X → Type 0) (o : Option X) → is_some o ≡ true → IfSome o P → (x : X) × P x
-some_there P (Some x) e h = (x, h)
-some_there P None e h = absurd (true≢false (sym e))
+pub if_some : {X E : Type 0} (P Q : X → Type 0) (r : Result (Option X) E) → ((x : X) → P x → Q x) → IfOk r (λ o. IfSome o P) → IfOk r (λ o. IfSome o Q)
+if_some P Q (Ok (Some x)) f h = f x h
+if_some P Q (Ok None) f h = tt
+if_some P Q (Err e) f h = tt
 
-pub must_be : {X : Type 0} (N : Type 0) (o : Option X) → ¬ N → IfNone o N → is_some o ≡ true
-must_be N (Some x) never h = refl
-must_be N None never h = absurd (never h)
+pub any_some : {X E : Type 0} (Q : X → Type 0) (r : Result (Option X) E) → ((x : X) → Q x) → IfOk r (λ o. IfSome o Q)
+any_some Q (Ok (Some x)) f = f x
+any_some Q (Ok None) f = tt
+any_some Q (Err e) f = tt
+
+pub if_none : {X E : Type 0} (P Q : Type 0) (r : Result (Option X) E) → (P → Q) → IfOk r (λ o. IfNone o P) → IfOk r (λ o. IfNone o Q)
+if_none P Q (Ok (Some x)) f h = tt
+if_none P Q (Ok None) f h = f h
+if_none P Q (Err e) f h = tt
 
 -- ---- notes
 
@@ -67,14 +70,17 @@ all_notes (note ∷ notes) h = and_from (is_note note) (list_all is_note notes) 
 
 -- ---- what can be kept
 
-pub kept_of : (rules : List PlainRule) (a : PlainArchive) (notes : List (List ℕ)) → a.n ≤ most → length notes ≡ a.n → AllByRecursion IsNote notes → ((vs : List PlainKeyed) → ArchiveOf vs a → (core : List ℕ) × SoundAs rules vs core) → CanBeKept rules a notes
-kept_of rules a notes few many each sound =
+pub kept_of : (rules : List PlainRule) (a : PlainArchive) (notes : List (List ℕ)) (core : List ℕ) → a.n ≤ most → length notes ≡ a.n → AllByRecursion IsNote notes → ((vs : List PlainKeyed) → ArchiveOf vs a → SoundAs rules vs core) → AreKeptAs rules a notes core
+kept_of rules a notes core few many each sound =
     record {
-      few = few;
-      as_many = many;
-      each = each;
-      keyed = λ vs is. (sound vs is).1.keyed;
-      file = λ vs is. record { file = (sound vs is).0 ++ notes_part notes; is = record { core = (sound vs is).0; is = (sound vs is).1; as_many = many ∙ sym is.count; each = each; spelled = refl } };
+      kept = record {
+        few = few;
+        as_many = many;
+        each = each;
+        keyed = λ vs is. (sound vs is).keyed;
+        file = λ vs is. record { file = core ++ notes_part notes; is = record { core = core; is = sound vs is; as_many = many ∙ sym is.count; each = each; spelled = refl } };
+      };
+      sound = sound;
     }
 
 -- ---- what is known of the parts that were read

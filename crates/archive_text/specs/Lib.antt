@@ -3,3 +3,4 @@ pub mod Texts
 pub mod Names
 pub mod Reading
 pub mod Faults
+pub mod Expected

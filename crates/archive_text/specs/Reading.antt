@@ -11,6 +11,7 @@ use Rattle.record_format.specs.Shapes.{IsShapedNode, AreShapedNodes}
 use Rattle.record_format.specs.Nested.{is_nested, are_nested}
 use Rattle.record_parts.specs.Bounds.{most}
 use Rattle.archive_file.specs.KeyedBy.{AreKeyedBy}
+use Rattle.archive_file.specs.Sound.{SoundAs}
 use Rattle.version_notes.specs.Notes.{IsNote}
 use Rattle.noted_file.specs.Full.{FullAs}
 use Rattle.jsonml_lines.specs.Lines.{PlainLine}
@@ -85,3 +86,8 @@ pub record CanBeKept (rules : List PlainRule) (a : PlainArchive) (notes : List (
   pub each : AllByRecursion IsNote notes
   pub keyed : (vs : List PlainKeyed) → ArchiveOf vs a → AreKeyedBy rules vs
   pub file : (vs : List PlainKeyed) → ArchiveOf vs a → HaveFile rules vs notes
+
+-- It can be kept, and the bytes are the file of the versions.
+pub record AreKeptAs (rules : List PlainRule) (a : PlainArchive) (notes : List (List ℕ)) (core : List ℕ) : Type 0 where
+  pub kept : CanBeKept rules a notes
+  pub sound : (vs : List PlainKeyed) → ArchiveOf vs a → SoundAs rules vs core

@@ -1,9 +1,9 @@
 // The parts of a line, appended to a text in memory, where a call fails for want of memory alone.
-ghost use Rattle.std.specs.Prelude.{◌≡◌, ◌++◌, ◌∷◌, [], map, OnOk};
+ghost use Rattle.std.specs.Prelude.{◌≡◌, ◌++◌, ◌∷◌, [], OnOk};
 ghost use Rattle.json.specs.Print.{quoted};
 ghost use Rattle.keyed_tree.specs.View.{key_view};
 ghost use Rattle.xa_outside.specs.InMemory.{sink_state};
-ghost use Rattle.jsonml_lines.specs.Lines.{cell_text, cells_text};
+ghost use Rattle.jsonml_lines.specs.Lines.{cell_text};
 ghost use Rattle.archive_text.specs.Export.{number_cell};
 
 use jsonml_lines::{end_line, write_cell, write_text_cell, write_word};
@@ -32,7 +32,7 @@ pub(crate) fn put_text(out: &mut MemSink, text: &str) -> Result<(), AllocError>
     }
 }
 
-pub(crate) fn put_cell(out: &mut MemSink, cell: &KeyVal) -> Result<(), AllocError>
+fn put_cell(out: &mut MemSink, cell: &KeyVal) -> Result<(), AllocError>
     ensures { OnOk result ((sink_state out.new).taken
         ≡ (sink_state out.old).taken ++ (44 ∷ cell_text (key_view cell.now))) }
 {
@@ -57,14 +57,4 @@ pub(crate) fn put_end(out: &mut MemSink) -> Result<(), AllocError>
         Ok(()) => Ok(()),
         Err(_) => Err(AllocError),
     }
-}
-
-pub(crate) fn put_cells(out: &mut MemSink, cells: &[KeyVal]) -> Result<(), AllocError>
-    ensures { OnOk result ((sink_state out.new).taken
-        ≡ (sink_state out.old).taken ++ cells_text (map key_view cells.now)) }
-{
-    for cell in cells {
-        put_cell(out, cell)?;
-    }
-    Ok(())
 }

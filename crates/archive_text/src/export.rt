@@ -8,20 +8,21 @@ ghost use Rattle.key_spec.specs.View.{spec_view};
 ghost use Rattle.archive_tree.specs.ArchiveView.{archive_view};
 ghost use Rattle.jsonml_lines.specs.Lines.{line_text};
 ghost use Rattle.archive_text.specs.Export.{count_line, key_line, note_line, note_lines, lines_text, export_text};
-ghost use Rattle.archive_text.specs.Faults.{IfSink};
+ghost use Rattle.archive_text.specs.Faults.{HasSinkCause, IfSink};
 ghost use Rattle.archive_text.specs.Texts.{text_lines};
 
 use crate::draft::{put_end, put_number, put_text, put_word};
 use crate::fault::TextFault;
-use crate::nodes::{put_node_end, put_nodes};
+use crate::nodes::put_kids;
 use archive_tree::Archive;
 use key_spec::Spec;
 use std::alloc::{AllocError, Global};
-use xa_outside::{MemSink, Sink, put_all};
+use xa_outside::{Buffered, MemSink, Sink, put_all};
 
 /// Writes the text of an archive with a note for each version.
 ///
-/// The text is made in memory and then written in one piece. It goes once over the nodes, and recurses as deep as they nest.
+/// What stands in front of the nodes is made in memory. It goes once over the nodes, recurses as deep as they nest, and writes
+/// in pieces of kilobytes.
 pub fn write_text<K: Sink>(
     alloc: Global,
     spec: &Spec,
@@ -35,28 +36,48 @@ pub fn write_text<K: Sink>(
     ensures cause { IfErr result
         (λ e. IfSink e (Rose (K.faults sink.old) (K.faults sink.new))) }
 {
-    let mut out = MemSink::new(alloc, Vec::new(alloc));
-    put_export(alloc, &mut out, spec, archive, notes)?;
-    put_all(sink, out.taken())?;
-    Ok(())
+    let mut buffered = Buffered::new(sink);
+    put_export(alloc, &mut buffered, spec, archive, notes)?;
+    match buffered.flush() {
+        Ok(()) => Ok(()),
+        Err(_) => Err(TextFault::Sink),
+    }
 }
 
-pub(crate) fn put_export(
+/// The same, in small pieces.
+pub(crate) fn put_export<K: Sink>(
     alloc: Global,
-    out: &mut MemSink,
+    out: &mut K,
     spec: &Spec,
     archive: &Archive,
     notes: &[String],
+) -> Result<(), TextFault>
+    ensures bytes { Puts (K.taken out.old) (K.taken out.new) result
+        (export_text (spec_view spec.now) (archive_view archive.now) (map string_bytes notes.now)) }
+    ensures cause { HasSinkCause (K.faults out.old) (K.faults out.new) result }
+{
+    let mut head = MemSink::new(alloc, Vec::new(alloc));
+    put_head(alloc, &mut head, spec, archive.n(), notes)?;
+    put_all(out, head.taken())?;
+    put_kids(alloc, out, archive.kids())
+}
+
+/// The lines in front of the nodes of an archive of so many versions.
+fn put_head(
+    alloc: Global,
+    out: &mut MemSink,
+    spec: &Spec,
+    n: u32,
+    notes: &[String],
 ) -> Result<(), AllocError>
     ensures { OnOk result ((sink_state out.new).taken ≡ (sink_state out.old).taken
-        ++ export_text (spec_view spec.now) (archive_view archive.now)
-        (map string_bytes notes.now)) }
+        ++ (line_text (count_line n)
+        ++ (lines_text (map key_line (text_lines (canonical (spec_view spec.now))))
+        ++ lines_text (note_lines 1 (map string_bytes notes.now))))) }
 {
-    put_count(out, archive.n())?;
+    put_count(out, n)?;
     put_keys(alloc, out, spec)?;
-    put_notes(out, notes)?;
-    put_nodes(alloc, out, archive.kids())?;
-    put_node_end(out)
+    put_notes(out, notes)
 }
 
 fn put_count(out: &mut MemSink, n: u32) -> Result<(), AllocError>

@@ -3,6 +3,7 @@
 
 mod cells;
 mod draft;
+mod expected;
 mod export;
 mod fault;
 mod keys;
@@ -16,4 +17,4 @@ mod tree;
 pub use export::write_text;
 pub use fault::{ReadFault, TextFault};
 pub use laws::texts_have_one_reading;
-pub use read::{Kept, read_text};
+pub use read::{Kept, read_text, read_with_file};

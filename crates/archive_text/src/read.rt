@@ -10,16 +10,17 @@ ghost use Rattle.archive_tree.specs.Stands.{ArchiveOf};
 ghost use Rattle.record_format.specs.Files.{FileOf};
 ghost use Rattle.archive_file.specs.KeyedBy.{AreKeyedBy};
 ghost use Rattle.archive_file.specs.Sound.{SoundAs};
-ghost use Rattle.version_notes.specs.Notes.{IsNote, is_note};
+ghost use Rattle.version_notes.specs.Notes.{IsNote, is_note, notes_part};
 ghost use Rattle.noted_file.specs.Full.{FullAs};
 ghost use Rattle.jsonml_lines.specs.Lines.{PlainLine};
 ghost use Rattle.archive_text.specs.Export.{count_line, end_line, export_text, nodes_lines, ExportOf};
 ghost use Rattle.archive_text.specs.Faults.{IfBad};
-ghost use Rattle.archive_text.specs.Reading.{AreLines, ArePartsOf, AreReadable, CanBeKept, Finds, HaveFile};
+ghost use Rattle.archive_text.specs.Reading.{AreKeptAs, AreLines, ArePartsOf, AreReadable, Finds, HaveFile};
 
 use crate::cells::number_at;
+use crate::expected::Expected;
 use crate::export::put_export;
-use crate::fault::ReadFault;
+use crate::fault::{ReadFault, TextFault};
 use crate::keys::read_spec;
 use crate::laws::texts_can_be_read;
 use crate::lines::read_line;
@@ -30,7 +31,6 @@ use archive_tree::Archive;
 use key_spec::Spec;
 use std::alloc::{AllocError, Global};
 use version_notes::is_note;
-use xa_outside::MemSink;
 
 /// What a text keeps: an archive under a specification, with a note for each version.
 #[derive(Drop)]
@@ -48,9 +48,7 @@ const DEEPEST: u32 = 120;
 
 /// The archive with notes whose text the bytes are, or Bad where they are no such text.
 ///
-/// It reads the lines without asking how they are written, judges the archive that they spell, and writes its text again: the
-/// bytes have to be just that. So what it takes is no more than what `write_text` writes. All is in memory, the archive's file
-/// and its text once too.
+/// It does what `read_with_file` does, and lets the file go.
 pub fn read_text(alloc: Global, bytes: &[u8]) -> Result<Kept, ReadFault>
     requires short { length bytes.now ≤ 67108864 }
     ensures text { IfOk result (λ k. bytes.now ≡ export_text (spec_view k.spec)
@@ -74,27 +72,63 @@ pub fn read_text(alloc: Global, bytes: &[u8]) -> Result<Kept, ReadFault>
     ensures notes { IfOk result (λ k. AllByRecursion IsNote (map string_bytes k.notes.items)
         × (length k.notes.items ≡ (archive_view k.archive).n)) }
 {
+    match read_with_file(alloc, bytes) {
+        Ok((kept, _)) => Ok(kept),
+        Err(fault) => Err(fault),
+    }
+}
+
+/// The archive with notes whose text the bytes are, and its file without them, or Bad where the bytes are no such text.
+///
+/// It reads the lines without asking how they are written, judges the archive that they spell, and writes its text again: the
+/// bytes have to be just that. So what it takes is no more than what `write_text` writes. That text is compared as it is made,
+/// and not held.
+pub fn read_with_file(alloc: Global, bytes: &[u8]) -> Result<(Kept, Vec<u8>), ReadFault>
+    requires short { length bytes.now ≤ 67108864 }
+    ensures text { IfOk result (λ r. bytes.now ≡ export_text (spec_view r.0.spec)
+        (archive_view r.0.archive) (map string_bytes r.0.notes.items)) }
+    ensures bad { IfErr result (λ e. IfBad e ((rules : List PlainRule) (vs : List PlainKeyed)
+        (notes : List (List ℕ)) (file : List ℕ) → FullAs rules vs notes file
+        → ¬ (ExportOf rules vs notes bytes.now))) }
+
+    // A text has one reading.
+    ensures only { (rules : List PlainRule) (vs : List PlainKeyed) (notes : List (List ℕ))
+        (file : List ℕ) → FullAs rules vs notes file → ExportOf rules vs notes bytes.now
+        → IfOk result (λ r. (spec_view r.0.spec ≡ rules)
+        × ArchiveOf vs (archive_view r.0.archive)
+        × (map string_bytes r.0.notes.items ≡ notes)) }
+
+    // The notes come behind the file.
+    ensures file { IfOk result (λ r. (vs : List PlainKeyed)
+        → ArchiveOf vs (archive_view r.0.archive)
+        → FullAs (spec_view r.0.spec) vs (map string_bytes r.0.notes.items)
+        (r.1.items ++ notes_part (map string_bytes r.0.notes.items))) }
+    ensures few { IfOk result (λ r. (archive_view r.0.archive).n ≤ 999999) }
+    ensures keyed { IfOk result (λ r. (vs : List PlainKeyed)
+        → ArchiveOf vs (archive_view r.0.archive) → AreKeyedBy (spec_view r.0.spec) vs) }
+    ensures notes { IfOk result (λ r. AllByRecursion IsNote (map string_bytes r.0.notes.items)
+        × (length r.0.notes.items ≡ (archive_view r.0.archive).n)) }
+{
     texts_can_be_read();
     read_kept(alloc, bytes)
 }
 
-/// What the lines spell, where it can be kept and the bytes are its text.
-fn read_kept(alloc: Global, bytes: &[u8]) -> Result<Kept, ReadFault>
-    ensures kept { IfOk result (λ k. CanBeKept (spec_view k.spec) (archive_view k.archive)
-        (map string_bytes k.notes.items)) }
-    ensures text { IfOk result (λ k. bytes.now ≡ export_text (spec_view k.spec)
-        (archive_view k.archive) (map string_bytes k.notes.items)) }
+/// What the lines spell and its file, where it can be kept and the bytes are its text.
+fn read_kept(alloc: Global, bytes: &[u8]) -> Result<(Kept, Vec<u8>), ReadFault>
+    ensures kept { IfOk result (λ r. AreKeptAs (spec_view r.0.spec) (archive_view r.0.archive)
+        (map string_bytes r.0.notes.items) r.1.items) }
+    ensures text { IfOk result (λ r. bytes.now ≡ export_text (spec_view r.0.spec)
+        (archive_view r.0.archive) (map string_bytes r.0.notes.items)) }
     ensures found { (rules : List PlainRule) (vs : List PlainKeyed) (a : PlainArchive)
         (notes : List (List ℕ)) (file : List ℕ) → ArchiveOf vs a → FullAs rules vs notes file
         → ArePartsOf rules a notes bytes.now
-        → Finds result (λ k. (spec_view k.spec ≡ rules) × (archive_view k.archive ≡ a)
-        × (map string_bytes k.notes.items ≡ notes)) }
+        → Finds result (λ r. (spec_view r.0.spec ≡ rules) × (archive_view r.0.archive ≡ a)
+        × (map string_bytes r.0.notes.items ≡ notes)) }
 {
     let kept = read_parts(alloc, bytes)?;
-    if is_kept(alloc, &kept.spec, &kept.archive, &kept.notes, bytes)? {
-        Ok(kept)
-    } else {
-        Err(ReadFault::Bad)
+    match kept_file(alloc, &kept.spec, &kept.archive, &kept.notes, bytes)? {
+        Some(file) => Ok((kept, file)),
+        None => Err(ReadFault::Bad),
     }
 }
 
@@ -141,55 +175,56 @@ fn read_archive(alloc: Global, bytes: &[u8], at: usize, n: u32) -> Result<Archiv
     }
 }
 
-/// Whether an archive with notes can be kept and the bytes are its text.
-fn is_kept(
+/// The file of an archive, where it can be kept with the notes and the bytes are its text.
+fn kept_file(
     alloc: Global,
     spec: &Spec,
     archive: &Archive,
     notes: &[String],
     bytes: &[u8],
-) -> Result<bool, AllocError>
-    ensures kept { IfOk result (λ b. IsTrue b → CanBeKept (spec_view spec.now)
-        (archive_view archive.now) (map string_bytes notes.now)) }
-    ensures text { IfOk result (λ b. IsTrue b → bytes.now ≡ export_text (spec_view spec.now)
-        (archive_view archive.now) (map string_bytes notes.now)) }
+) -> Result<Option<Vec<u8>>, AllocError>
+    ensures kept { IfOk result (λ o. IfSome o (λ v. AreKeptAs (spec_view spec.now)
+        (archive_view archive.now) (map string_bytes notes.now) v.items)) }
+    ensures text { IfOk result (λ o. IfSome o (λ _. bytes.now ≡ export_text (spec_view spec.now)
+        (archive_view archive.now) (map string_bytes notes.now))) }
     ensures complete { (vs : List PlainKeyed) (file : List ℕ)
         → ArchiveOf vs (archive_view archive.now)
         → FullAs (spec_view spec.now) vs (map string_bytes notes.now) file
         → bytes.now ≡ export_text (spec_view spec.now) (archive_view archive.now)
         (map string_bytes notes.now)
-        → IfOk result (λ b. IsTrue b) }
+        → IfOk result (λ o. IfNone o ⊥) }
 {
     if !is_text(alloc, spec, archive, notes, bytes)? {
-        return Ok(false);
+        return Ok(None);
     }
-    can_be_kept(alloc, spec, archive, notes)
+    file_with_notes(alloc, spec, archive, notes)
 }
 
-fn can_be_kept(
+/// The file of an archive, where it can be kept with the notes.
+fn file_with_notes(
     alloc: Global,
     spec: &Spec,
     archive: &Archive,
     notes: &[String],
-) -> Result<bool, AllocError>
-    ensures kept { IfOk result (λ b. IsTrue b → CanBeKept (spec_view spec.now)
-        (archive_view archive.now) (map string_bytes notes.now)) }
+) -> Result<Option<Vec<u8>>, AllocError>
+    ensures kept { IfOk result (λ o. IfSome o (λ v. AreKeptAs (spec_view spec.now)
+        (archive_view archive.now) (map string_bytes notes.now) v.items)) }
     ensures complete { (vs : List PlainKeyed) (file : List ℕ)
         → ArchiveOf vs (archive_view archive.now)
         → FullAs (spec_view spec.now) vs (map string_bytes notes.now) file
-        → IfOk result (λ b. IsTrue b) }
+        → IfOk result (λ o. IfNone o ⊥) }
 {
     let n = archive.n();
     if n > MOST {
-        return Ok(false);
+        return Ok(None);
     }
     if notes.len() != n as usize {
-        return Ok(false);
+        return Ok(None);
     }
     if !are_notes(notes) {
-        return Ok(false);
+        return Ok(None);
     }
-    has_file(alloc, spec, archive)
+    sound_file(alloc, spec, archive)
 }
 
 /// Whether each is a note.
@@ -204,22 +239,19 @@ fn are_notes(notes: &[String]) -> bool
     true
 }
 
-/// Whether the versions are keyed by the specification and have an archive file.
-fn has_file(alloc: Global, spec: &Spec, archive: &Archive) -> Result<bool, AllocError>
+/// The archive file of the versions, where they are keyed by the specification and have one.
+fn sound_file(alloc: Global, spec: &Spec, archive: &Archive) -> Result<Option<Vec<u8>>, AllocError>
     requires { (archive_view archive.now).n ≤ 999999 }
-    ensures sound { IfOk result (λ b. IsTrue b → (vs : List PlainKeyed)
-        → ArchiveOf vs (archive_view archive.now)
-        → (core : List ℕ) × SoundAs (spec_view spec.now) vs core) }
-    ensures complete { (vs : List PlainKeyed) (core : List ℕ)
-        → ArchiveOf vs (archive_view archive.now) → SoundAs (spec_view spec.now) vs core
-        → IfOk result (λ b. IsTrue b) }
+    ensures sound { IfOk result (λ o. IfSome o (λ v. (vs : List PlainKeyed)
+        → ArchiveOf vs (archive_view archive.now) → SoundAs (spec_view spec.now) vs v.items)) }
+    ensures none { IfOk result (λ o. IfNone o ((vs : List PlainKeyed) (core : List ℕ)
+        → ArchiveOf vs (archive_view archive.now) → ¬ (SoundAs (spec_view spec.now) vs core))) }
 {
     let _rules = spec.rules();
     if !is_keyed(alloc, spec, archive)? {
-        return Ok(false);
+        return Ok(None);
     }
-    let file = file_of(alloc, spec, archive)?;
-    Ok(file.is_some())
+    file_of(alloc, spec, archive)
 }
 
 /// The archive file, if there is one.
@@ -249,7 +281,10 @@ fn is_text(
     ensures { IfOk result (λ b. IsTrue b ↔ (bytes.now ≡ export_text (spec_view spec.now)
         (archive_view archive.now) (map string_bytes notes.now))) }
 {
-    let mut out = MemSink::new(alloc, Vec::new(alloc));
-    put_export(alloc, &mut out, spec, archive, notes)?;
-    Ok(bytes == out.taken())
+    let mut expected = Expected::new(bytes);
+    match put_export(alloc, &mut expected, spec, archive, notes) {
+        Ok(()) => Ok(expected.is_whole()),
+        Err(TextFault::Sink) => Ok(false),
+        Err(TextFault::Memory) => Err(AllocError),
+    }
 }

@@ -5,3 +5,4 @@ pub mod Nesting
 pub mod LineTrips
 pub mod Feeds
 pub mod Cells
+pub mod PlainCells

@@ -4,6 +4,7 @@
 mod content;
 mod laws;
 mod line;
+mod plain;
 mod quote;
 mod read;
 mod split;

@@ -19,7 +19,8 @@ pub fn write_text<K: Sink>(text: &str, sink: &mut K) -> Result<(), Failed>
     write_behind_quote(text, sink)
 }
 
-fn write_behind_quote<K: Sink>(text: &str, sink: &mut K) -> Result<(), Failed>
+/// Writes what stands behind the first quote of a text as a JSON string.
+pub(crate) fn write_behind_quote<K: Sink>(text: &str, sink: &mut K) -> Result<(), Failed>
     ensures bytes { Puts (K.taken sink.old) (K.taken sink.new) result (escape text.now ++ 34 ∷ []) }
     ensures cause { HasCause (K.faults sink.old) (K.faults sink.new) result }
 {

@@ -9,6 +9,7 @@ ghost use Rattle.jsonml_lines.specs.RoundTrip.{AreLineTexts, IsLine};
 ghost use Rattle.jsonml_lines.specs.View.{line_view};
 
 use crate::line::Line;
+use crate::plain::plain_line;
 use crate::split::split_line;
 use crate::value::line_in;
 use serde_json::Value;
@@ -41,6 +42,20 @@ pub fn take_line(
 
 /// The line that stands in front of a line feed.
 fn line_of(alloc: Global, front: &[u8]) -> Result<Option<Line>, AllocError>
+    ensures found { (l : PlainLine) → IsUtf8 front.now
+        → option_and_then line_in (read front.now) ≡ Some l
+        → IfOk result (λ o. option_map line_view o ≡ Some l) }
+    ensures well_formed { IfOk result (λ o. IfSome o
+        (λ l. IsTrue (are_keys_well_formed (map key_view l.cells.items)))) }
+{
+    match plain_line(alloc, front)? {
+        Some(line) => Ok(Some(line)),
+        None => line_by_value(alloc, front),
+    }
+}
+
+/// The same, by way of its JSON value.
+fn line_by_value(alloc: Global, front: &[u8]) -> Result<Option<Line>, AllocError>
     ensures found { (l : PlainLine) → IsUtf8 front.now
         → option_and_then line_in (read front.now) ≡ Some l
         → IfOk result (λ o. option_map line_view o ≡ Some l) }

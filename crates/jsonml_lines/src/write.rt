@@ -8,7 +8,7 @@ ghost use Rattle.keyed_tree.specs.View.{key_view};
 ghost use Rattle.jsonml_lines.specs.Lines.{cell_text};
 
 use crate::content::write_content;
-use crate::quote::write_text;
+use crate::quote::write_behind_quote;
 use jsonml_print::write_scalar;
 use keyed_tree::KeyVal;
 use xa_outside::{Failed, Sink, put_all};
@@ -18,8 +18,8 @@ pub fn write_word<K: Sink>(word: &str, sink: &mut K) -> Result<(), Failed>
     ensures bytes { Puts (K.taken sink.old) (K.taken sink.new) result (91 ∷ quoted word.now) }
     ensures cause { HasCause (K.faults sink.old) (K.faults sink.new) result }
 {
-    put_all(sink, b"[")?;
-    write_text(word, sink)
+    put_all(sink, b"[\"")?;
+    write_behind_quote(word, sink)
 }
 
 /// Writes a cell, which is a text, behind a comma.
@@ -27,8 +27,8 @@ pub fn write_text_cell<K: Sink>(text: &str, sink: &mut K) -> Result<(), Failed>
     ensures bytes { Puts (K.taken sink.old) (K.taken sink.new) result (44 ∷ quoted text.now) }
     ensures cause { HasCause (K.faults sink.old) (K.faults sink.new) result }
 {
-    put_all(sink, b",")?;
-    write_text(text, sink)
+    put_all(sink, b",\"")?;
+    write_behind_quote(text, sink)
 }
 
 /// Writes a cell behind a comma. It takes no memory, and recurses as deep as elements nest.

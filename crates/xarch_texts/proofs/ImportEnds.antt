@@ -1,23 +1,15 @@
 -- How the parts of `import` lead to its end.
-use Rattle.std.proofs.Common.{◌≡◌, inl, inr, ℕ, List, [], ◌++◌, Option, Some, None, Result, Ok, Err, refl, sym, ap, ◌∙◌, subst, arith}
+use Rattle.std.proofs.Common.{◌≡◌, ◌≤◌, inl, inr, ℕ, List, [], ◌++◌, length, map as map_list, String, Global, string_bytes, Option, Some, None, Result, Ok, Err, refl, sym, ap, ◌∙◌, subst, arith}
 use Rattle.std.specs.FinMap as map
+use Rattle.std.specs.List.{AllByRecursion}
+use Rattle.std.proofs.lemmas.List.{length-map}
 use Rattle.std.specs.Option.{option_map}
 use Rattle.xa_outside.specs.Folder.{Files}
-use Rattle.key_spec.specs.Data.{PlainRule}
-use Rattle.keyed_tree.specs.Data.{PlainKeyed}
-use Rattle.archive_tree.specs.Data.{PlainArchive}
-use Rattle.archive_tree.specs.Stands.{ArchiveOf}
-use Rattle.record_format.specs.Files.{FileOf}
-use Rattle.archive_file.specs.Sound.{SoundAs}
-use Rattle.archive_text.specs.Export.{export_text}
-use Rattle.archive_text.specs.Reading.{CanBeKept}
-use Rattle.version_notes.specs.Notes.{AreNotes, notes_part}
+use Rattle.version_notes.specs.Notes.{AreNotes, IsNote, notes_part}
 use Rattle.xarch_words.specs.Commands.{import}
-use Rattle.xarch_words.specs.Refusal.{Refusal, folder_fault, PlainFault, refused}
-use Rattle.xarch_words.specs.View.{fault_view}
-use Rattle.xarch_words.specs.declared.fault.Fault.{Fault}
+use Rattle.xarch_words.specs.Refusal.{Refusal, folder_fault, PlainFault}
 use Rattle.xa_outside.specs.Causes.{Rose}
-use Rattle.xarch_parts.specs.Archives.{GoesOn, IsDrafted, NoRefusal}
+use Rattle.xarch_parts.specs.Archives.{GoesOn, IsDrafted}
 use Rattle.xarch_parts.specs.EndLaws.{IsOfFolder-inside}
 use Rattle.xarch_parts.specs.Ends.{IsInside, IsOfFolder}
 use Rattle.xarch_parts.specs.Outcome.{Outcome}
@@ -25,23 +17,10 @@ use Rattle.xarch_meanings.specs.Import.{ImportIs, ImportsFrom, IsNoText, import_
 use Rattle.xarch_meanings.specs.Plausible.{MayBe}
 use Rattle.xarch_texts.specs.Spelled.{IsFileOf}
 
--- ---- the file of what a text spells
+-- ---- the notes of what a text spells
 
-module _ (bytes : List ℕ) (rules : List PlainRule) (a : PlainArchive) (notes : List (List ℕ)) (kept : CanBeKept rules a notes) (vs : List PlainKeyed) (is : ArchiveOf vs a) where
-  pub file-of : (core : List ℕ) → bytes ≡ export_text rules a notes → SoundAs rules vs core → IsFileOf bytes core notes
-  file-of core text sound = (let full = (kept.file vs is).is in record {
-    rules = rules;
-    versions = vs;
-    spelled = record { archive = a; is = is; spelled = text };
-    full = record { core = core; is = sound; as_many = full.as_many; each = full.each; spelled = refl };
-  })
-
-  -- it is not too long
-  pub not-too_long : {X : Type 0} (f : Fault) (q : Refusal) → ((us : List PlainKeyed) (b : List ℕ) → ArchiveOf us a → FileOf rules us b → NoRefusal (fault_view f)) → fault_view f ≡ refused q → X
-  not-too_long f q none e = (let full = (kept.file vs is).is in absurd (none vs full.core is full.is.file q e))
-
-pub are-notes : (rules : List PlainRule) (a : PlainArchive) (notes : List (List ℕ)) → CanBeKept rules a notes → AreNotes notes
-are-notes rules a notes kept = (let many = kept.as_many in let few = kept.few in record { each = kept.each; few = omega (arith, many, few) })
+pub are-notes : (notes : List (String Global)) (n : ℕ) → n ≤ 999999 → length notes ≡ n → AllByRecursion IsNote (map_list string_bytes notes) → AreNotes (map_list string_bytes notes)
+are-notes notes n few many each = (let same = length-map notes string_bytes in record { each = each; few = omega (arith, few, many, same) })
 
 -- ---- the draft
 

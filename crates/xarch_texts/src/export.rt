@@ -36,8 +36,8 @@ use xarch_words::Fault;
 
 /// Writes an archive and its notes as text.
 ///
-/// No byte of the file is read twice, but for sixteen at its end. The archive, its notes and the
-/// text are held whole.
+/// No byte of the file is read twice, but for sixteen at its end. The archive and its notes are held
+/// whole, and the text is written in pieces of kilobytes.
 pub fn run_export<F: Folder, O: Sink>(
     alloc: Global,
     archive: &str,

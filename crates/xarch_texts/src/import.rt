@@ -4,10 +4,6 @@ ghost use Rattle.std.specs.Prelude.{◌≡◌, ◌≤◌, ◌++◌, ℕ, length,
 ghost use Rattle.std.specs.FinMap as finite;
 ghost use Rattle.xa_outside.specs.Folder.{Files};
 ghost use Rattle.xa_outside.specs.Taken.{Taken};
-ghost use Rattle.key_spec.specs.View.{spec_view};
-ghost use Rattle.archive_tree.specs.ArchiveView.{archive_view};
-ghost use Rattle.archive_text.specs.Export.{export_text};
-ghost use Rattle.archive_text.specs.Reading.{CanBeKept};
 ghost use Rattle.version_notes.specs.Notes.{AreNotes, notes_part};
 ghost use Rattle.xarch_words.specs.Commands.{import};
 ghost use Rattle.xarch_words.specs.Refusal.{Refusal, folder_fault, refused};
@@ -20,18 +16,17 @@ ghost use Rattle.xarch_meanings.specs.Performs.{Performs};
 ghost use Rattle.xarch_texts.specs.Spelled.{IsFileOf};
 
 use crate::notes::push_notes;
-use archive_text::{Kept, ReadFault, read_text};
+use archive_text::{ReadFault, read_with_file};
 use archive_tree::archives_stand_for_one_list;
 use std::alloc::Global;
 use xa_outside::Folder;
 use xarch_meanings::limits;
-use xarch_parts::{begin, check_free, commit, draft, file_from, limited_length, read_whole};
+use xarch_parts::{begin, check_free, commit, draft, limited_length, read_whole};
 use xarch_words::{Fault, Quantity};
 
 /// Makes the archive of a text, with its notes.
 ///
-/// The text is read whole. It, the archive and its notes are held, and while the text is judged its
-/// file and the text that it would have are too.
+/// The text is read whole. It, the archive, its notes and its file are held.
 pub fn run_import<F: Folder>(
     alloc: Global,
     text: &str,
@@ -77,24 +72,8 @@ fn file_of(alloc: Global, bytes: &[u8]) -> Result<(Vec<u8>, Vec<String>), Fault>
 {
     // A law, for the proof of `file`.
     archives_stand_for_one_list();
-    let kept = kept_in(alloc, bytes)?;
-    let core = file_from(alloc, &kept.spec, &kept.archive)?;
-    Ok((core, kept.notes))
-}
-
-// The archive with notes whose text the bytes are.
-fn kept_in(alloc: Global, bytes: &[u8]) -> Result<Kept, Fault>
-    requires { length bytes.now ≤ 67108864 }
-    ensures cause { IsInside (fault_of result) }
-    ensures kept { IfOk result (λ k. CanBeKept (spec_view k.spec) (archive_view k.archive)
-        (map string_bytes k.notes.items)) }
-    ensures text { IfOk result (λ k. bytes.now ≡ export_text (spec_view k.spec)
-        (archive_view k.archive) (map string_bytes k.notes.items)) }
-    ensures refused { (q : Refusal)
-        → IfErr result (λ f. fault_view f ≡ refused q → IsNoText bytes.now (Err q)) }
-{
-    match read_text(alloc, bytes) {
-        Ok(kept) => Ok(kept),
+    match read_with_file(alloc, bytes) {
+        Ok((kept, core)) => Ok((core, kept.notes)),
         Err(ReadFault::Bad) => Err(Fault::BadText),
         Err(ReadFault::Memory) => Err(Fault::Memory),
     }

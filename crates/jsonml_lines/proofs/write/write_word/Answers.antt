@@ -1,11 +1,12 @@
-use Rattle.std.proofs.Common.{◌∷◌, [], refl}
-use Rattle.json.specs.Print.{quoted}
+use Rattle.std.proofs.Common.{◌∷◌, ◌++◌, [], refl}
+use Rattle.json.specs.Print.{escape}
 use Rattle.xa_outside.proofs.Output.{Puts-cut, Puts-after}
 use Rattle.jsonml_lines.proofs.write.write_word.Goals as goal
 
 pub returns-in_err-put_all-clause-bytes : goal.returns-in_err-put_all-clause-bytes
-returns-in_err-put_all-clause-bytes g c = Puts-cut _ _ c.from_residual.result _ (91 ∷ []) (quoted c.args.word.now) refl c.from_residual.ensures.0 c.in_err-put_all.ensures.bytes
+returns-in_err-put_all-clause-bytes g c = Puts-cut _ _ c.from_residual.result _ (91 ∷ 34 ∷ []) (escape c.args.word.now ++ 34 ∷ []) refl c.from_residual.ensures.0 c.in_err-put_all.ensures.bytes
 
 pub returns-clause-bytes : goal.returns-clause-bytes
 returns-clause-bytes g c =
-    Puts-after (g.K.Sink.taken c.args.sink.now) (g.K.Sink.taken c.put_all.new.sink) (g.K.Sink.taken c.write_text.new.sink) c.write_text.result (91 ∷ []) (quoted c.args.word.now) c.in_ok-put_all.ensures.bytes c.write_text.ensures.bytes
+    Puts-after (g.K.Sink.taken c.args.sink.now) (g.K.Sink.taken c.put_all.new.sink) (g.K.Sink.taken c.write_behind_quote.new.sink) c.write_behind_quote.result (91 ∷ 34 ∷ []) (escape c.args.word.now ++ 34 ∷ []) c.in_ok-put_all.ensures.bytes
+    c.write_behind_quote.ensures.bytes
