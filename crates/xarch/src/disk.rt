@@ -5,6 +5,7 @@ use crate::opened::{Found, Opened, open};
 use std::alloc::Global;
 use std::fs::OpenOptions;
 use std::io::{ErrorKind, Write};
+use std::mem;
 use std::rt::Files;
 use xa_outside::{Failed, Folder, Meter};
 
@@ -16,13 +17,14 @@ const GATHERED: usize = 65536;
 
 /// The files of the folder that the program runs in.
 ///
-/// It keeps the file that it last opened and reads ahead in pages. What is appended is gathered, and written to a draft
+/// It keeps the two files that it last opened and reads ahead in pages, so that two are read side by side. What is appended is gathered, and written to a draft
 /// file that `commit` renames. It tells no files: what the system holds is trusted.
 #[derive(Drop)]
 pub struct DiskFolder<'a, R: Files> {
     rt: &'a R,
     alloc: Global,
     opened: Option<Opened<R::File>>,
+    opened_before: Option<Opened<R::File>>,
     draft: Option<R::File>,
     gathered: Vec<u8>,
     meter: Meter,
@@ -44,6 +46,7 @@ impl<'a, R: Files> DiskFolder<'a, R> {
             rt,
             alloc,
             opened: None,
+            opened_before: None,
             draft: None,
             gathered: Vec::new(alloc),
             meter: Meter::new(),
@@ -65,7 +68,12 @@ impl<'a, R: Files> DiskFolder<'a, R> {
         ensures meter { self.new.meter ≡ self.old.meter }
         ensures faults { self.new.faults ≡ self.old.faults }
     {
-        match &mut self.opened {
+        if let Some(opened) = &mut self.opened {
+            if opened.is_named(name) {
+                return opened.copy_held(at, buf);
+            }
+        }
+        match &mut self.opened_before {
             Some(opened) if opened.is_named(name) => opened.copy_held(at, buf),
             _ => 0,
         }
@@ -87,11 +95,25 @@ impl<'a, R: Files> DiskFolder<'a, R> {
                 return opened.read(at, buf);
             }
         }
+        if let Some(opened) = &mut self.opened_before {
+            if opened.is_named(name) {
+                return opened.read(at, buf);
+            }
+        }
+        self.read_new(name, at, buf)
+    }
+
+    /// Opens the named file in place of the one that was opened before the last, and reads from it. None on a failure.
+    fn read_new(&mut self, name: &str, at: u64, buf: &mut [u8]) -> Option<usize>
+        ensures bound { IfSome result (λ n. n ≤ length buf.new) }
+        ensures meter { self.new.meter ≡ self.old.meter }
+        ensures faults { self.new.faults ≡ self.old.faults }
+    {
         match open(self.rt, self.alloc, name)? {
             Found::Nothing => Some(0),
             Found::File(mut opened) => {
                 let count = opened.read(at, buf);
-                self.opened = Some(opened);
+                self.opened_before = mem::replace(&mut self.opened, Some(opened));
                 count
             }
         }
@@ -137,6 +159,7 @@ impl<'a, R: Files> DiskFolder<'a, R> {
         self.rt.rename(DRAFT, name).ok()?;
         self.draft = None;
         self.opened = None;
+        self.opened_before = None;
         Some(())
     }
 

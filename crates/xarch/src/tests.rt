@@ -74,6 +74,29 @@ fn a_file_that_stands_open_is_read_anew_after_a_commit(rt: HostRuntime) -> Resul
 }
 
 #[test]
+fn two_files_stand_open_side_by_side(rt: HostRuntime) -> Result<(), Fail> {
+    let names = ["xarch-test-of-one-of-two", "xarch-test-of-the-other"];
+    let mut folder = DiskFolder::new(&rt, rt.alloc());
+    for name in names {
+        assert!(rt; is_stored(&mut folder, name, &[name.as_bytes()]));
+    }
+    for name in names {
+        assert!(rt; holds(&mut folder, rt.alloc(), name, 0, name.as_bytes())?);
+    }
+
+    // (what stands open is read on, though its name is gone)
+    for name in names {
+        fs::remove_file(&rt, name)?;
+    }
+    for at in 0..20 {
+        for name in names {
+            assert!(rt; holds(&mut folder, rt.alloc(), name, at, &name.as_bytes()[at as usize..])?);
+        }
+    }
+    Ok(())
+}
+
+#[test]
 fn a_draft_does_not_go_through_a_link(rt: HostRuntime) -> Result<(), Fail> {
     let other = "xarch-test-of-another-file";
     let name = "xarch-test-of-a-draft";
