@@ -16,8 +16,9 @@ use Rattle.nested_merge.proofs.Alikes.{AlikeBelow, alike_below}
 use Rattle.nested_merge.proofs.Picked.{all_append}
 use Rattle.nested_merge.proofs.Stamps.{Below, range_below}
 use Rattle.nested_merge.proofs.Weave.{has_left, has_right}
-use Rattle.archive_join.specs.Joined.{raised, raised_nodes, joined_row, joined}
-use Rattle.archive_join.proofs.Sets.{Above, later, later_above, members-raised, IsCanonical-raised}
+use Rattle.archive_join.specs.Joined.{joined_row, joined}
+use Rattle.record_copy.specs.Raised.{raised, raised_nodes}
+use Rattle.archive_join.proofs.BothSets.{Above, later, later_above, members-raised, IsCanonical-raised}
 use Rattle.archive_join.proofs.Alts.{those_both, nums_both}
 use Rattle.archive_join.proofs.Later.{up, nums-up, those-up, row_raised}
 use Rattle.archive_join.proofs.Nodes.{Apart, AlikeLists, row_joins, nodes_join}
@@ -82,7 +83,7 @@ module _ (vs us : List PlainKeyed) (a b : PlainArchive) (h : ArchiveOf vs a) (g 
   both : (l : PlainLabel) → rooted (numbered (vs ++ us)) l ≡ ours l ++ theirs l
   both l = ap (λ z. rooted z l) (numbered-both vs us n h.count) ∙ those_both (passed (labelled l)) (numbered vs) (up n (numbered us)) ∙ ap (λ z. ours l ++ z) (sym (those_theirs l))
 
-  alike_roots : (l : PlainLabel) → AlikeLists (ours l) (theirs l)
+  pub alike_roots : (l : PlainLabel) → AlikeLists (ours l) (theirs l)
   alike_roots l w z i j =
       let our = rooted_has w.0 w.1 l (numbered vs) i in
       let at = source (λ (x : ℕ × PlainKeyed). (x.0 + n, x.1)) z (rooted (numbered us) l) j in

@@ -11,8 +11,8 @@ use Rattle.keyed_tree.specs.Order.{label_cmp}
 use Rattle.archive_tree.specs.Data.{Stamp, PlainAlt, PlainNode, inner_node, leaf_node, PlainNodes, no_nodes, node, node_label}
 use Rattle.archive_tree.specs.Stands.{Stamped, nums, those, under, labels, passed, has_body, nums_with, head_or, first_num, bodies, AllDiffer, AltStands, CommonStands, RowStands, StandsFor, EachStands}
 use Rattle.archive_tree.proofs.Those.{onto}
-use Rattle.archive_join.specs.Joined.{raised_stamp, raised_alt, raised_node, raised_nodes}
-use Rattle.archive_join.proofs.Sets.{nat_less, less_nat, later, raised_stamped}
+use Rattle.record_copy.specs.Raised.{raised_stamp, raised_alt, raised_node, raised_nodes}
+use Rattle.archive_join.proofs.BothSets.{nat_less, less_nat, later, raised_stamped}
 
 -- the trees with their later numbers
 abbrev pub up : ℕ → List (ℕ × PlainKeyed) → List (ℕ × PlainKeyed)

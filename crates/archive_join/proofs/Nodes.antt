@@ -22,7 +22,7 @@ use Rattle.nested_merge.proofs.Alikes.{AlikeBelow}
 use Rattle.nested_merge.proofs.Picked.{all_append, no_items}
 use Rattle.nested_merge.proofs.Stamps.{Below, eff-members, eff_canonical}
 use Rattle.archive_join.specs.Joined.{alone, paired, alone_node, alone_onto, node_at, below, above, turn, joined_node, joined_row}
-use Rattle.archive_join.proofs.Sets.{Above, paired_stamped, left_stamped, right_stamped}
+use Rattle.archive_join.proofs.BothSets.{Above, paired_stamped, left_stamped, right_stamped}
 use Rattle.archive_join.proofs.Weave.{names, has_found, not_found, high_above, above_ascends, above_higher, below_lower, has_above, has_below, alone_label, turn_label, joined_ascends, joined_left, joined_right}
 use Rattle.archive_join.proofs.Alts.{those_both, nums_both, alts_join, bodies_differ, bodies_covered, firsts_ascend}
 
@@ -40,6 +40,37 @@ AlikeLists ws zs = (w z : ℕ × PlainKeyed) → Has w ws → Has z zs → Alike
 abbrev pub Joins : ℕ → PlainNode → Type 0
 Joins m k = (p q : List (ℕ × ℕ)) (j : PlainNode) (ws zs : List (ℕ × PlainKeyed)) → Apart m p q → Below m (nums ws) → Above m (nums zs) → node_label j ≡ node_label k → AlikeLists ws zs
     → StandsFor k ws (members p) → StandsFor j zs (members q) → StandsFor (joined_node p q k j) (ws ++ zs) (members p ++ members q)
+
+-- ---- trees that are alike
+
+below_path : (l : PlainLabel) (path : List PlainLabel) (k j : PlainKeyed) → kid_at l (kids_of k) ≡ Some j → kid_node (l ∷ path) k ≡ kid_node path j
+below_path l path k j e = rw e
+
+alike_kids : (l : PlainLabel) (k j c d : PlainKeyed) → kid_at l (kids_of k) ≡ Some j → kid_at l (kids_of c) ≡ Some d → AlikeBelow k c → AlikeBelow j d
+alike_kids l k j c d e f h path x y a b = h (l ∷ path) x y (below_path l path k j e ∙ a) (below_path l path c d f ∙ b)
+
+pub alike_under : (l : PlainLabel) (ws zs : List (ℕ × PlainKeyed)) → AlikeLists ws zs → AlikeLists (under ws l) (under zs l)
+alike_under l ws zs h w z i j =
+    let our = those_has (λ k. kid_at l (kids_of k)) w.0 w.1 ws i in
+    let their = those_has (λ k. kid_at l (kids_of k)) z.0 z.1 zs j in
+    alike_kids l our.tree w.1 their.tree z.1 our.gives their.gives (h (w.0, our.tree) (z.0, their.tree) our.has their.has)
+
+-- a list that is not empty has a first tree
+first_of : (P : PlainKeyed → Type 0) (ws : List (ℕ × PlainKeyed)) → ws ≢ [] → AllByRecursion (λ w. P w.1) ws → (w : ℕ × PlainKeyed) × (Has w ws × P w.1)
+first_of P [] s h = absurd (s refl)
+first_of P (w ∷ ws) s h = (w, (inl refl, h.0))
+
+pub two_kinds : (ws zs : List (ℕ × PlainKeyed)) → ws ≢ [] → zs ≢ [] → AlikeLists ws zs → AllByRecursion (λ w. IsInner w.1) ws → ¬ (AllByRecursion (λ w. IsLeaf w.1) zs)
+two_kinds ws zs s t h f g =
+    let our = first_of IsInner ws s f in
+    let their = first_of IsLeaf zs t g in
+    not_both_kinds their.0.1 ((h our.0 their.0 our.1.0 their.1.0 [] our.0.1 their.0.1 refl refl).0 our.1.1) their.1.1
+
+pub kinds_two : (ws zs : List (ℕ × PlainKeyed)) → ws ≢ [] → zs ≢ [] → AlikeLists ws zs → AllByRecursion (λ w. IsLeaf w.1) ws → ¬ (AllByRecursion (λ w. IsInner w.1) zs)
+kinds_two ws zs s t h f g =
+    let our = first_of IsLeaf ws s f in
+    let their = first_of IsInner zs t g in
+    not_both_kinds our.0.1 ((h our.0 their.0 our.1.0 their.1.0 [] our.0.1 their.0.1 refl refl).1 their.1.1) our.1.1
 
 module _ (m : ℕ) (from : 1 ≤ m) where
   -- ---- what one archive alone has
@@ -151,35 +182,6 @@ module _ (m : ℕ) (from : 1 ≤ m) where
     low = subst (Below m) (sym (eff-members s p ∙ h.effective)) low;
     high = subst (Above m) (sym (eff-members t q ∙ g.effective)) high;
   }
-
-  below_path : (l : PlainLabel) (path : List PlainLabel) (k j : PlainKeyed) → kid_at l (kids_of k) ≡ Some j → kid_node (l ∷ path) k ≡ kid_node path j
-  below_path l path k j e = rw e
-
-  alike_kids : (l : PlainLabel) (k j c d : PlainKeyed) → kid_at l (kids_of k) ≡ Some j → kid_at l (kids_of c) ≡ Some d → AlikeBelow k c → AlikeBelow j d
-  alike_kids l k j c d e f h path x y a b = h (l ∷ path) x y (below_path l path k j e ∙ a) (below_path l path c d f ∙ b)
-
-  alike_under : (l : PlainLabel) (ws zs : List (ℕ × PlainKeyed)) → AlikeLists ws zs → AlikeLists (under ws l) (under zs l)
-  alike_under l ws zs h w z i j =
-      let our = those_has (λ k. kid_at l (kids_of k)) w.0 w.1 ws i in
-      let their = those_has (λ k. kid_at l (kids_of k)) z.0 z.1 zs j in
-      alike_kids l our.tree w.1 their.tree z.1 our.gives their.gives (h (w.0, our.tree) (z.0, their.tree) our.has their.has)
-
-  -- a list that is not empty has a first tree
-  first_of : (P : PlainKeyed → Type 0) (ws : List (ℕ × PlainKeyed)) → ws ≢ [] → AllByRecursion (λ w. P w.1) ws → (w : ℕ × PlainKeyed) × (Has w ws × P w.1)
-  first_of P [] s h = absurd (s refl)
-  first_of P (w ∷ ws) s h = (w, (inl refl, h.0))
-
-  two_kinds : (ws zs : List (ℕ × PlainKeyed)) → ws ≢ [] → zs ≢ [] → AlikeLists ws zs → AllByRecursion (λ w. IsInner w.1) ws → ¬ (AllByRecursion (λ w. IsLeaf w.1) zs)
-  two_kinds ws zs s t h f g =
-      let our = first_of IsInner ws s f in
-      let their = first_of IsLeaf zs t g in
-      not_both_kinds their.0.1 ((h our.0 their.0 our.1.0 their.1.0 [] our.0.1 their.0.1 refl refl).0 our.1.1) their.1.1
-
-  kinds_two : (ws zs : List (ℕ × PlainKeyed)) → ws ≢ [] → zs ≢ [] → AlikeLists ws zs → AllByRecursion (λ w. IsLeaf w.1) ws → ¬ (AllByRecursion (λ w. IsInner w.1) zs)
-  kinds_two ws zs s t h f g =
-      let our = first_of IsLeaf ws s f in
-      let their = first_of IsInner zs t g in
-      not_both_kinds our.0.1 ((h our.0 their.0 our.1.0 their.1.0 [] our.0.1 their.0.1 refl refl).1 their.1.1) our.1.1
 
   mutual
     pub node_joins : (k : PlainNode) → Joins m k

@@ -92,7 +92,7 @@ below_ascends m (j ∷ js) h =
     let low = all_below (λ x. label_cmp (node_label j) x ≡ Less) m js h.0 in
     elim (is_lt (label_cmp (node_label j) m)) as (λ b. Ascends label_cmp (names (cond b (j ∷ below m js) []))) [ true ↦ (low, rest) | false ↦ tt ]
 
-lower_all : (m x : PlainLabel) (xs : List PlainLabel) → label_cmp m x ≡ Less → AllByRecursion (λ y. label_cmp x y ≡ Less) xs → AllByRecursion (λ y. label_cmp m y ≡ Less) xs
+pub lower_all : (m x : PlainLabel) (xs : List PlainLabel) → label_cmp m x ≡ Less → AllByRecursion (λ y. label_cmp x y ≡ Less) xs → AllByRecursion (λ y. label_cmp m y ≡ Less) xs
 lower_all m x [] e h = tt
 lower_all m x (y ∷ ys) e h = (label_cmp_total.trans m x y e h.0, lower_all m x ys e h.1)
 

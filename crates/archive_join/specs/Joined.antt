@@ -7,27 +7,7 @@ use Rattle.version_set.specs.Members.{united, upto_pairs}
 use Rattle.keyed_tree.specs.Data.{PlainKey, PlainLabel}
 use Rattle.keyed_tree.specs.Order.{key_cmp, label_cmp}
 use Rattle.archive_tree.specs.Data.{Stamp, PlainAlt, PlainNode, inner_node, leaf_node, PlainNodes, no_nodes, node, node_label, nodes_list, PlainArchive}
-
--- ---- later numbers: each is n more
-
-abbrev pub raised : ℕ → List (ℕ × ℕ) → List (ℕ × ℕ)
-raised n ps = map (λ p. (p.0 + n, p.1 + n)) ps
-
-abbrev pub raised_stamp : ℕ → Stamp → Stamp
-raised_stamp n None = None
-raised_stamp n (Some s) = Some (raised n s)
-
-abbrev pub raised_alt : ℕ → PlainAlt → PlainAlt
-raised_alt n a = record { stamp = raised_stamp n a.stamp; body = a.body }
-
-abbrev mutual
-  pub raised_node : ℕ → PlainNode → PlainNode
-  raised_node n (inner_node l s ks) = inner_node l (raised_stamp n s) (raised_nodes n ks)
-  raised_node n (leaf_node l s xs) = leaf_node l (raised_stamp n s) (map (raised_alt n) xs)
-
-  pub raised_nodes : ℕ → PlainNodes → PlainNodes
-  raised_nodes n no_nodes = no_nodes
-  raised_nodes n (node k ks) = node (raised_node n k) (raised_nodes n ks)
+use Rattle.record_copy.specs.Raised.{raised, raised_nodes}
 
 -- ---- stamps, under a parent that has p in the one archive and q in the other
 

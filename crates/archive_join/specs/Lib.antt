@@ -1,1 +1,13 @@
 pub mod Joined
+pub mod Faults
+pub mod State
+pub mod Passes
+pub mod Runs
+pub mod Short
+pub mod Meets
+pub mod Heads
+pub mod Held
+pub mod Leaves
+pub mod Walked
+pub mod Whole
+pub mod Join

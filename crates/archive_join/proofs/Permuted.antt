@@ -1,0 +1,171 @@
+-- Lists with the same elements in another order.
+use Rattle.std.proofs.Common.{◌≡◌, ◌≢◌, ℕ, zero, suc, ◌+◌, ◌≤◌, ◌<◌, ◌==◌, ◌↔◌, Bool, true, false, IsTrue, List, [], ◌∷◌, map, length, get_or, refl, ap, sym, subst, subst₂, inl, inr, arith, eqb-true, eq-eqb}
+use Rattle.std.proofs.lemmas.Bool.Decides.{nat_tests}
+use Rattle.std.proofs.lemmas.Cmp.{nat_cmp_total}
+use Rattle.std.proofs.lemmas.List.{get_or-map, length-map}
+use Rattle.std.proofs.lemmas.List.Sums.{sum_by-cons}
+use Rattle.std.proofs.lemmas.List.Sorted.{sum_by-IsPermutation, Contains-permutation, IsPermutation-sym, IsPermutation-map}
+use Rattle.std.specs.List.{AllByRecursion, Contains, enumerate_from, sum_by}
+use Rattle.std.specs.List.Sorted.{IsPermutation, IsNonDecreasingBy, IsSortedBy}
+use Rattle.std.specs.Ordering.{nat_cmp}
+use Rattle.std.specs.declared.cmp.Ordering.TheVariants.{Less}
+use Rattle.keyed_tree.specs.Lists.{Ascends, Has}
+use Rattle.keyed_tree.proofs.Lists.{all_has, has_all, same_items}
+use Rattle.archive_tree.specs.Stands.{AllDiffer}
+
+-- ---- what a permutation has
+
+at_has : {X : Type 0} (xs : List X) (k : ℕ) (x : X) → k < length xs → get_or xs k x ≡ x → Has x xs
+at_has [] k x low at = absurd (omega arith)
+at_has (y ∷ ys) zero x low at = inl at
+at_has (y ∷ ys) (suc k) x low at = inr (at_has ys k x (omega arith) at)
+
+has_at : {X : Type 0} (xs : List X) (x : X) → Has x xs → Contains xs x
+has_at [] x m = absurd m
+has_at (y ∷ ys) x m = elim m [ inl e ↦ (0, omega arith, e) | inr n ↦ (let h = has_at ys x n in let low : h.0 < length ys = h.1 in (suc h.0, omega arith, h.2)) ]
+
+pub has_permuted : {X : Type 0} (xs ys : List X) → IsPermutation xs ys → (z : X) → Has z xs → Has z ys
+has_permuted xs ys p z m = (let h = Contains-permutation xs ys z p (has_at xs z m) in at_has ys h.0 z h.1 h.2)
+
+pub all_permuted : {X : Type 0} (P : X → Type 0) (xs ys : List X) → IsPermutation xs ys → AllByRecursion P xs → AllByRecursion P ys
+all_permuted P xs ys p h = has_all P ys (λ z m. all_has P xs z h (has_permuted ys xs (IsPermutation-sym xs ys p) z m))
+
+-- ---- indices
+
+pub get_has : {X : Type 0} (xs : List X) (i : ℕ) (d : X) → i < length xs → Has (get_or xs i d) xs
+get_has [] i d low = absurd (omega arith)
+get_has (x ∷ xs) zero d low = inl refl
+get_has (x ∷ xs) (suc i) d low = inr (get_has xs i d (omega arith))
+
+pub all_at : {X : Type 0} (P : X → Type 0) (xs : List X) → ((k : ℕ) (d : X) → k < length xs → P (get_or xs k d)) → AllByRecursion P xs
+all_at P [] h = tt
+all_at P (x ∷ xs) h = (h 0 x (omega arith), all_at P xs (λ k d low. h (suc k) d (omega arith)))
+
+pub map-map : {X Y Z : Type 0} (g : Y → Z) (f : X → Y) (xs : List X) → map g (map f xs) ≡ map (λ x. g (f x)) xs
+map-map g f [] = refl
+map-map g f (x ∷ xs) = ap (λ z. g (f x) ∷ z) (map-map g f xs)
+
+-- elements in the order of their keys, and the keys in order
+pub keys_sorted : {X K : Type 0} (f : X → K) (lt : K → K → Bool) (xs : List X) → IsSortedBy (λ a b. lt (f a) (f b)) xs → IsSortedBy lt (map f xs)
+keys_sorted f lt [] h k d low high = absurd (omega arith)
+keys_sorted f lt (x ∷ xs) h k d low high =
+    let within : k + 1 < length (x ∷ xs) = simp length-map at high in
+    subst₂ (λ a b. lt a b ≡ false) (sym (get_or-map f (x ∷ xs) (k + 1) x d within)) (sym (get_or-map f (x ∷ xs) k x d (omega arith))) (h k x low within)
+
+pub sorted_keys : {X K : Type 0} (f : X → K) (lt : K → K → Bool) (xs : List X) → IsSortedBy lt (map f xs) → IsSortedBy (λ a b. lt (f a) (f b)) xs
+sorted_keys f lt xs h k d low high =
+    subst₂ (λ a b. lt a b ≡ false) (get_or-map f xs (k + 1) d (f d) high) (get_or-map f xs k d (f d) (omega arith)) (h k (f d) low (simp length-map high))
+
+-- ---- how often an item stands in a list
+
+abbrev one_if : Bool → ℕ
+one_if true = 1
+one_if false = 0
+
+module _ {K : Type 0} (same : K → K → Bool) (exact : (x y : K) → IsTrue (same x y) ↔ (x ≡ y)) where
+  abbrev is_at : K → K → ℕ
+  is_at k j = one_if (same j k)
+
+  abbrev times : K → List K → ℕ
+  times k js = sum_by (is_at k) js
+
+  itself_once : (k : K) → is_at k k ≡ 1
+  itself_once k = (let e : same k k ≡ true = (exact k k).1 refl in rw e refl)
+
+  other_never : (k j : K) → k ≢ j → is_at k j ≡ 0
+  other_never k j other =
+      elim (same j k) as (λ b. same j k ≡ b → one_if b ≡ 0) [
+        | true ↦ λ e. absurd (other (sym ((exact j k).0 e)))
+        | false ↦ λ e. refl
+      ] refl
+
+  never_other : (k j : K) → is_at k j ≡ 0 → k ≢ j
+  never_other k j e d = (let one = itself_once k in let e' : is_at k j ≡ is_at k k = ap (is_at k) (sym d) in omega arith)
+
+  all-never : (k : K) (js : List K) → AllByRecursion (λ j. k ≢ j) js → times k js ≡ 0
+  all-never k [] h = refl
+  all-never k (j ∷ js) h = (let more = sum_by-cons (is_at k) j js in let this = other_never k j h.0 in let rest = all-never k js h.1 in omega arith)
+
+  never-all : (k : K) (js : List K) → times k js ≡ 0 → AllByRecursion (λ j. k ≢ j) js
+  never-all k [] e = tt
+  never-all k (j ∷ js) e = (let more = sum_by-cons (is_at k) j js in (never_other k j (omega arith), never-all k js (omega arith)))
+
+  at_most_one : (k j : K) → is_at k j ≤ 1
+  at_most_one k j = elim (same j k) as (λ b. one_if b ≤ 1) [ true ↦ omega arith | false ↦ omega arith ]
+
+  differ-times : (js : List K) → AllDiffer js → (k : K) → times k js ≤ 1
+  differ-times [] a k = omega arith
+  differ-times (j ∷ js) a k =
+      let more = sum_by-cons (is_at k) j js in
+      let one = at_most_one k j in
+      elim (same j k) as (λ b. same j k ≡ b → times k (j ∷ js) ≤ 1) [
+        | true ↦ λ e. (
+            let is : j ≡ k = (exact j k).0 e in
+            let rest : times k js ≡ 0 = subst (λ z. times z js ≡ 0) is (all-never j js a.0) in
+            omega arith)
+        | false ↦ λ e. (
+            let this : is_at k j ≡ 0 = rw e refl in
+            let rest = differ-times js a.1 k in
+            omega arith)
+      ] refl
+
+  times-differ : (js : List K) → ((k : K) → times k js ≤ 1) → AllDiffer js
+  times-differ [] h = tt
+  times-differ (j ∷ js) h =
+      let none : times j js ≡ 0 = (let more = sum_by-cons (is_at j) j js in let one = itself_once j in let most = h j in omega arith) in
+      (never-all j js none, times-differ js (λ k. (let more = sum_by-cons (is_at k) j js in let most = h k in omega arith)))
+
+  pub differ_permuted : (ks js : List K) → IsPermutation ks js → AllDiffer ks → AllDiffer js
+  differ_permuted ks js p a = times-differ js (λ k. (let e = sum_by-IsPermutation (is_at k) ks js p in let most = differ-times ks a k in omega arith))
+
+-- ---- back in their places
+
+less : (m n : ℕ) → m ≤ n → m ≢ n → nat_cmp m n ≡ Less
+less m n h d = grind (arith, nat_tests)
+
+all_less : {X : Type 0} (f : X → ℕ) (m : ℕ) (xs : List X) → AllByRecursion (λ x. m ≤ f x) xs → AllByRecursion (λ n. m ≢ n) (map f xs) → AllByRecursion (λ n. nat_cmp m n ≡ Less) (map f xs)
+all_less f m [] h d = tt
+all_less f m (x ∷ xs) h d = (less m (f x) h.0 d.0, all_less f m xs h.1 d.1)
+
+-- numbers that do not fall and differ ascend
+rises : {X : Type 0} (f : X → ℕ) (xs : List X) → IsNonDecreasingBy f xs → AllDiffer (map f xs) → Ascends nat_cmp (map f xs)
+rises f [] up d = tt
+rises f (x ∷ xs) up d = (
+  all_less f (f x) xs (all_at (λ y. f x ≤ f y) xs (λ k e low. up 0 (suc k) e (omega arith) (omega arith))) d.0,
+  rises f xs (λ k m e le low. up (suc k) (suc m) e (omega arith) (omega arith)) d.1,
+)
+
+abbrev place : {X : Type 0} → ℕ × X → ℕ
+place w = w.0
+
+later_places : {X : Type 0} (P : ℕ → Type 0) (m : ℕ) → ((n : ℕ) → m < n → P n) → (k : ℕ) (xs : List X) → m < k → AllByRecursion P (map place (enumerate_from k xs))
+later_places P m h k [] low = tt
+later_places P m h k (x ∷ xs) low = (h k low, later_places P m h (k + 1) xs (omega arith))
+
+apart : (m n : ℕ) → m < n → m ≢ n
+apart m n h e = absurd (omega arith)
+
+places_differ : {X : Type 0} (k : ℕ) (xs : List X) → AllDiffer (map place (enumerate_from k xs))
+places_differ k [] = tt
+places_differ k (x ∷ xs) = (later_places (λ n. k ≢ n) k (apart k) (k + 1) xs (omega arith), places_differ (k + 1) xs)
+
+places_rise : {X : Type 0} (k : ℕ) (xs : List X) → Ascends nat_cmp (map place (enumerate_from k xs))
+places_rise k [] = tt
+places_rise k (x ∷ xs) = (later_places (λ n. nat_cmp k n ≡ Less) k (λ n h. less k n (omega arith) (apart k n h)) (k + 1) xs (omega arith), places_rise (k + 1) xs)
+
+same_numbers : (m n : ℕ) → IsTrue (m == n) ↔ (m ≡ n)
+same_numbers m n = (eqb-true m n, eq-eqb m n)
+
+-- what is in the order of its places stands as it came
+pub in_place : {X Y : Type 0} (f : Y → ℕ × X) (xs : List X) (ys : List Y) → IsPermutation (enumerate_from 0 xs) (map f ys) → IsNonDecreasingBy (λ y. place (f y)) ys → map f ys ≡ enumerate_from 0 xs
+in_place {X} f xs ys p up =
+    let all = enumerate_from 0 xs in
+    let same = map-map place f ys in
+    let differ = differ_permuted (λ m n. m == n) same_numbers (map place all) (map place (map f ys)) (IsPermutation-map place all (map f ys) p) (places_differ 0 xs) in
+    let rise = rises (λ y. place (f y)) ys up (subst AllDiffer same differ) in
+    same_items place nat_cmp_total (map f ys) all (subst (Ascends nat_cmp) (sym same) rise) (places_rise 0 xs)
+    (has_permuted (map f ys) all (IsPermutation-sym all (map f ys) p)) (has_permuted all (map f ys) p)
+
+pub items_placed : {X : Type 0} (k : ℕ) (xs : List X) → map (λ (w : ℕ × X). w.1) (enumerate_from k xs) ≡ xs
+items_placed k [] = refl
+items_placed k (x ∷ xs) = ap (λ z. x ∷ z) (items_placed (k + 1) xs)

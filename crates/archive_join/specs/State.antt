@@ -1,0 +1,52 @@
+-- What a join goes along: a folder, the cursors that read the two archives, and the writer of the new one.
+use Rattle.std.specs.Prelude.{ℕ, List, Option}
+use Rattle.xa_outside.specs.Folder.{Files}
+use Rattle.xa_outside.specs.Numbers.{Numbers}
+use Rattle.record_copy.specs.State as copy
+use Rattle.record_cursor.specs.View.{PlainCursor}
+use Rattle.record_writer.specs.Data.{PlainWriter}
+use Rattle.record_writer.specs.View.{writer_view}
+use Rattle.record_writer.specs.declared.writer.Writer.{Writer}
+
+pub record State : Type 0 where
+  pub files : Option Files
+  pub draft : Option (List ℕ)
+  pub numbers : Numbers
+  pub faults : ℕ
+  pub first : PlainCursor
+  pub second : PlainCursor
+  pub writer : PlainWriter
+
+-- The folder's files, draft, numbers and count of faults stand first.
+abbrev pub state : {S : Type 0} → (S → Option Files) → (S → Option (List ℕ)) → (S → Numbers) → (S → ℕ) → S → PlainCursor → PlainCursor → Writer → State
+state files draft numbers faults folder first second writer =
+    record {
+      files = files folder;
+      draft = draft folder;
+      numbers = numbers folder;
+      faults = faults folder;
+      first = first;
+      second = second;
+      writer = writer_view writer;
+    }
+
+-- the same beside any writer
+abbrev pub beside : {S : Type 0} → (S → Option Files) → (S → Option (List ℕ)) → (S → Numbers) → (S → ℕ) → S → PlainCursor → PlainCursor → PlainWriter → State
+beside files draft numbers faults folder first second writer =
+    record {
+      files = files folder;
+      draft = draft folder;
+      numbers = numbers folder;
+      faults = faults folder;
+      first = first;
+      second = second;
+      writer = writer;
+    }
+
+-- ---- with one of the cursors alone
+
+abbrev pub with_first : State → copy.State
+with_first s = record { files = s.files; draft = s.draft; numbers = s.numbers; faults = s.faults; cursor = s.first; writer = s.writer }
+
+abbrev pub with_second : State → copy.State
+with_second s = record { files = s.files; draft = s.draft; numbers = s.numbers; faults = s.faults; cursor = s.second; writer = s.writer }

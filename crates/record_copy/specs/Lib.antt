@@ -1,0 +1,10 @@
+pub mod Raised
+pub mod Seen
+pub mod Faults
+pub mod Parts
+pub mod State
+pub mod Passes
+pub mod Runs
+pub mod Short
+pub mod Reads
+pub mod Copied
