@@ -14,7 +14,7 @@ const DB_LINE: &[u8] = b"[\"db\"]\n";
 const SALARY: &str = "[\"db\",[\"dept\",\"finance\"],[\"emp\",\"John\",\"Doe\"],\"sal\"]";
 
 /// Fewer bytes of notes than the one note has.
-const NOTE_TOO_LONG: Pieces = &[
+pub(crate) const NOTE_TOO_LONG: Pieces = &[
     (FRONT, 1),
     (ONE, 1),
     (MIDDLE, 1),

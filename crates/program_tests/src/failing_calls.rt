@@ -180,6 +180,20 @@ const TRIALS: &[Trial] = &[
         line: b"xarch: no version 4 of 3\n",
         ..COMMAND
     },
+    // Each salary comes as often again, so that the timestamp of either has one pair more.
+    Trial {
+        name: "join",
+        words: &["join", "A", "A", "B"],
+        left: ("B", 1198 + 2 * 8),
+        ..COMMAND
+    },
+    Trial {
+        name: "a join that is refused",
+        words: &["join", "A", "d1", "B"],
+        status: 11,
+        line: b"xarch: damaged archive d1\n",
+        ..COMMAND
+    },
     Trial {
         name: "table",
         words: &["table", "c", "t", "id", "B"],

@@ -20,6 +20,8 @@ mod histories;
 #[cfg(test)]
 mod imports;
 #[cfg(test)]
+mod join;
+#[cfg(test)]
 mod log;
 #[cfg(test)]
 mod notes;

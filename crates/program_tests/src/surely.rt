@@ -60,6 +60,8 @@ const ANSWERS: &[(&[&str], u8)] = &[
     (&["export", "doc"], 11),
     (&["import", "doc", "B"], 20),
     (&["import", "doc", "A"], 4),
+    (&["join", "A", "A", "B"], 0),
+    (&["join", "A", "doc", "B"], 11),
 ];
 
 fn sure_files(alloc: Global) -> Result<SureFolder, AllocError> {

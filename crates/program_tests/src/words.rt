@@ -152,6 +152,21 @@ const COMMANDS: &[(&str, &[&str], Option<Command<'static>>)] = &[
         None,
     ),
     (
+        "join",
+        &["join", "a.xar", "b.xar", "c.xar"],
+        Some(Command::Join {
+            one: "a.xar",
+            two: "b.xar",
+            new: "c.xar",
+        }),
+    ),
+    ("join of two files", &["join", "a.xar", "b.xar"], None),
+    (
+        "join of four files",
+        &["join", "a.xar", "b.xar", "c.xar", "d.xar"],
+        None,
+    ),
+    (
         "table",
         &["table", "c.csv", "t", "id,name", "d.json"],
         Some(Command::Table {
@@ -290,6 +305,7 @@ const FAULTS: &[(u8, &str, &str)] = &[
     (15, "", "xarch: input fault\n"),
     (16, "", "xarch: out of memory\n"),
     (17, "", "xarch: path is not at the frontier\n"),
+    (18, "a.xar", "xarch: keys of a.xar and b.xar differ\n"),
     (19, "", "xarch: bad table, record 2, why 3\n"),
     (20, "", "xarch: bad text\n"),
 ];
@@ -310,6 +326,10 @@ fn fault_of(alloc: Global, status: u8, name: &str) -> Result<Fault, AllocError> 
         14 => Fault::OutFault,
         15 => Fault::InFault,
         17 => Fault::NotFrontier,
+        18 => Fault::SpecDiffers {
+            one: name,
+            two: String::from_str(alloc, "b.xar")?,
+        },
         19 => Fault::BadCsv { row: 2, why: 3 },
         20 => Fault::BadText,
         _ => Fault::Memory,

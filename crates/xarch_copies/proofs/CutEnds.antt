@@ -1,41 +1,37 @@
 -- How the parts of `cut` lead to an end that it may have.
 use Rattle.std.proofs.Common.{◌≡◌, inl, inr, ℕ, ◌+◌, ◌-◌, ◌≤◌, List, [], ◌++◌, length, take, drop, Option, Some, None, option_map, Result, Ok, Err, refl, sym, ap, ◌∙◌, subst, length-take, length-drop, arith}
 use Rattle.std.specs.FinMap as map
-use Rattle.xa_outside.specs.Folder.{Files, bytes_or_none}
+use Rattle.xa_outside.specs.Folder.{Files}
 use Rattle.xa_outside.specs.Taken.{Taken}
 use Rattle.xa_outside.specs.TakenLaws.{Takes-nil}
 use Rattle.key_spec.specs.Canonical.{canonical}
 use Rattle.key_spec.specs.Closed.{closed}
 use Rattle.key_spec.specs.Data.{PlainRule}
 use Rattle.keyed_tree.specs.Data.{PlainKeyed}
-use Rattle.archive_file.specs.Sound.{SoundAs}
-use Rattle.record_cursor.specs.Moves.{TellsFront, IsHeaderOf}
 use Rattle.record_cursor.specs.View.{header_view}
 use Rattle.record_format.specs.Files.{FileOf}
 use Rattle.record_format.specs.Fronts.{header}
 use Rattle.archive_cut.specs.Sliced.{items}
 use Rattle.version_notes.specs.Notes.{notes_part}
 use Rattle.version_notes.specs.Parts.{parts_behind, parts_in}
-use Rattle.version_notes.specs.Reader.{at_first, file_of}
+use Rattle.version_notes.specs.Reader.{at_first}
 use Rattle.version_notes.specs.Reading.{notes_from}
 use Rattle.version_notes.specs.declared.parts.Parts.{Parts}
 use Rattle.noted_file.specs.Full.{FullAs}
 use Rattle.xarch_words.specs.Commands as command
-use Rattle.xarch_words.specs.Refusal.{archive, Refusal, no_file, damaged, limit, PlainFault, refused, folder_fault, out_fault, in_fault, memory}
+use Rattle.xarch_words.specs.Refusal.{archive, Refusal, no_file, damaged, limit, PlainFault, refused}
 use Rattle.xarch_parts.specs.Allowed.{MayEnd}
 use Rattle.xarch_parts.specs.AllowedLaws.{MayEnd-did, MayEnd-stopped, commit-tells}
 use Rattle.xarch_parts.specs.Archives.{ArchiveIs, GoesOn, IsFrontOf, PartsAre, Stores, free_in}
-use Rattle.xarch_parts.specs.CoreLaws.{core-sound, front-sound, same-file}
-use Rattle.xarch_parts.specs.Ends.{IsDefined}
+use Rattle.xarch_parts.specs.CoreLaws.{front-sound}
 use Rattle.xarch_parts.specs.Inputs.{read_in}
 use Rattle.xarch_parts.specs.Outcome.{Outcome, and_then, or_refuse}
 use Rattle.xarch_parts.specs.Readings.{front_in}
 use Rattle.xarch_parts.specs.declared.fronts.Front.{Front}
 use Rattle.xarch_meanings.specs.Cut.{are_versions, cut_checked, noted_items}
-use Rattle.xarch_meanings.specs.FillsUp.{IsLimited}
-use Rattle.xarch_meanings.specs.FrontLaws.{front-told, header-is}
 use Rattle.xarch_meanings.specs.Plausible.{MayBe, MayMake, cut_input}
 use Rattle.xarch_copies.specs.Cutting.{Comes, CutEnds, NotesEnd, RecordsEnd}
+use Rattle.xarch_copies.proofs.Checking.{IsSeen, checked-given, checked-once, checked-refused, drafted, seen}
 
 -- ---- the number of versions
 
@@ -43,35 +39,6 @@ pub items-many : {A : Type 0} (i j : ℕ) (xs : List A) → 1 ≤ i → i ≤ j 
 items-many i j xs from order most = omega (arith, from, order, most, length-take (j + 1 - i) (drop (i - 1) xs), length-drop (i - 1) xs)
 
 -- ---- what is decided before the records are looked at
-
-checked-once : {A : Type 0} (x y : Result Unit Refusal) (z : Result A Refusal) → and_then x (λ _. and_then y (λ _. z)) ≡ and_then (and_then x (λ _. y)) (λ _. z)
-checked-once (Ok u) y z = refl
-checked-once (Err q) y z = refl
-
-checked-refused : {A : Type 0} (x : Result Unit Refusal) (a : A) (q : Refusal) → and_then x (λ _. Ok a) ≡ Err q → x ≡ Err q
-checked-refused (Ok u) a q e = absurd cc
-checked-refused (Err r) a q e = (let same : r ≡ q = cc in ap (λ s. Err s) same)
-
-checked-given : {A : Type 0} (x : Result Unit Refusal) (a b : A) → and_then x (λ _. Ok a) ≡ Ok b → x ≡ Ok tt
-checked-given (Ok u) a b e = refl
-checked-given (Err r) a b e = absurd cc
-
--- what was read is one
-pub one-read : {A : Type 0} (x y : A) → ◌≡◌ {A = Result A Refusal} (Ok x) (Ok y) → x ≡ y
-one-read x y e = cc
-
--- what has a value is not refused by a limit
-pub limited-given : {A : Type 0} (x : Result A Refusal) (y : A) (v : PlainFault) → IsDefined x v → x ≡ Ok y → IsLimited (Some v) → ⊥
-unfolding IsDefined
-limited-given x y (refused q) defined is limited = (let wrong : Ok y ≡ Err q = sym is ∙ defined in cc)
-limited-given x y folder_fault defined is limited = limited
-limited-given x y out_fault defined is limited = limited
-limited-given x y in_fault defined is limited = limited
-limited-given x y memory defined is limited = limited
-
-drafted : (draft : Option (List ℕ)) (bytes told : List ℕ) → option_map (λ (d : List ℕ). bytes) draft ≡ Some told → told ≡ bytes
-drafted None bytes told e = absurd cc
-drafted (Some d) bytes told e = cc
 
 -- From what is known of all archive files with notes: where their parts stand, and the header in front.
 module _ (has_parts : (rules : List PlainRule) (vs : List PlainKeyed) (notes : List (List ℕ)) (bytes : List ℕ) (full : FullAs rules vs notes bytes) → parts_in bytes ≡ Some (parts_behind full.core notes))
@@ -140,49 +107,30 @@ module _ (has_parts : (rules : List PlainRule) (vs : List PlainKeyed) (notes : L
   module _ (come : (rules : List PlainRule) (vs : List PlainKeyed) (notes : List (List ℕ)) (bytes name : List ℕ) (parts : Parts) → FullAs rules vs notes bytes → parts_in bytes ≡ Some parts → notes_from (at_first name parts (length vs)) bytes ≡ Some notes)
       (told : Option Files) (tells : told ≡ Some files) (front : Front) (are : PartsAre files name front.parts) (stands : IsFrontOf files name (header_view front.header))
       (read : cut_input files name new i j ≡ Ok ((header_view front.header).rules, (header_view front.header).versions)) (from : 1 ≤ i) (order : i ≤ j) (most : j ≤ (header_view front.header).versions) where
-    at-front : TellsFront told name (header_view front.header).length stands.core
-    at-front = front-told files told name (header_view front.header) tells stands
-
-    heads : IsHeaderOf (header_view front.header) stands.core
-    heads = header-is files told name (header_view front.header) tells stands
-
     module _ (rules : List PlainRule) (vs : List PlainKeyed) (notes : List (List ℕ)) (a : ArchiveIs files name rules vs notes) where
-      sound-front : SoundAs rules vs stands.core
-      sound-front = core-sound has_parts files name rules vs notes a (header_view front.header).length stands.core stands.of
-
-      versions-are : (header_view front.header).versions ≡ length vs
-      versions-are =
-          let h = header_view front.header in
-          let one : Some (rules, length vs) ≡ Some (h.rules, h.versions) = sym (fronted rules vs stands.core sound-front.specification sound-front.file) ∙ ap (option_map (λ (x : (List PlainRule × ℕ) × List ℕ). x.0)) stands.is in
-          let same : (rules, length vs) ≡ (h.rules, h.versions) = cc in
-          sym (ap (λ (x : List PlainRule × ℕ). x.1) same)
-
-      -- the notes of the archive are those that are read
-      notes-read : notes_from (at_first name front.parts (header_view front.header).versions) (file_of files name) ≡ Some notes
-      notes-read =
-          let same : are.bytes ≡ a.bytes = same-file files name are.bytes a.bytes are.there a.there in
-          let parted : parts_in a.bytes ≡ Some front.parts = ap parts_in (sym same) ∙ are.are in
-          (λ k. notes_from (at_first name front.parts (versions-are k)) (bytes_or_none (a.there k))) ∙ come rules vs notes a.bytes name front.parts a.full parted
+      of-archive : IsSeen told files name front rules vs notes stands.core
+      of-archive = seen has_parts fronted come files name told tells front are stands rules vs notes a
 
       full-slice : (draft : Option (List ℕ)) (now : Option Files) (c : Comes told draft name new front i j now) → FullAs rules (items i j vs) (noted_items i j notes) (c.core ++ notes_part c.notes)
       full-slice draft now c =
-          let these : c.notes ≡ noted_items i j notes = c.given files notes tells notes-read in
-          let count = versions-are in
+          let s = of-archive in
+          let these : c.notes ≡ noted_items i j notes = c.given files notes tells s.read in
+          let count = s.versions in
           let many = c.many in
           let all : length (items i j vs) ≡ j + 1 - i = items-many i j vs from order (omega (arith, count, most)) in
           subst (λ (l : List (List ℕ)). FullAs rules (items i j vs) l (c.core ++ notes_part c.notes)) these
-          (record { core = c.core; is = c.slice stands.core rules vs at-front heads sound-front; as_many = many ∙ sym all; each = c.each; spelled = refl })
+          (record { core = c.core; is = c.slice stands.core rules vs s.at s.heads s.sound; as_many = many ∙ sym all; each = c.each; spelled = refl })
 
     records-may : (q : Refusal) → RecordsEnd told name (header_view front.header) i j (refused q) → MayBe files (command.cut name new i j) (Err q)
     records-may q (inl d) =
-        subst (λ s. MayBe files (command.cut name new i j) (Err s)) (sym d.0) (may-be-damaged ((header_view front.header).rules, (header_view front.header).versions) read (λ rules vs notes a. d.1 stands.core rules vs at-front heads (sound-front rules vs notes a)))
+        subst (λ s. MayBe files (command.cut name new i j) (Err s)) (sym d.0) (may-be-damaged ((header_view front.header).rules, (header_view front.header).versions) read (λ rules vs notes a. (let s = of-archive rules vs notes a in d.1 stands.core rules vs s.at s.heads s.sound)))
     records-may q (inr l) =
-        subst (λ s. MayBe files (command.cut name new i j) (Err s)) (sym l.0) (may-be-long ((header_view front.header).rules, (header_view front.header).versions) read (λ rules vs notes a. l.1 stands.core rules vs at-front heads (sound-front rules vs notes a)))
+        subst (λ s. MayBe files (command.cut name new i j) (Err s)) (sym l.0) (may-be-long ((header_view front.header).rules, (header_view front.header).versions) read (λ rules vs notes a. (let s = of-archive rules vs notes a in l.1 stands.core rules vs s.at s.heads s.sound)))
 
     notes-may : (q : Refusal) → NotesEnd told name front.parts (header_view front.header).versions (refused q) → MayBe files (command.cut name new i j) (Err q)
     notes-may q d =
         subst (λ s. MayBe files (command.cut name new i j) (Err s)) (sym d.0) (may-be-damaged ((header_view front.header).rules, (header_view front.header).versions) read
-        (λ rules vs notes a. (let wrong : None ≡ Some notes = sym (d.1 files tells) ∙ notes-read rules vs notes a in absurd cc)))
+        (λ rules vs notes a. (let wrong : None ≡ Some notes = sym (d.1 files tells) ∙ (of-archive rules vs notes a).read in absurd cc)))
 
     refused-may : (v : PlainFault) → RecordsEnd told name (header_view front.header) i j v → (q : Refusal) → v ≡ refused q → MayBe files (command.cut name new i j) (Err q)
     refused-may v ends q is = records-may q (subst (λ (z : PlainFault). RecordsEnd told name (header_view front.header) i j z) is ends)

@@ -1,5 +1,5 @@
 -- How some versions of an archive go into another.
-use Rattle.std.proofs.Common.{◌≡◌, inl, inr, ℕ, ◌+◌, ◌-◌, ◌≤◌, List, ◌++◌, Option, Some, None, option_map, Result, Ok, Err, IfErr, OnOk, refl, sym, ap, ◌∙◌, subst, arith}
+use Rattle.std.proofs.Common.{◌≡◌, inl, inr, ℕ, ◌+◌, ◌-◌, ◌≤◌, List, ◌++◌, Option, Some, option_map, Result, Err, IfErr, OnOk, refl, sym, ap, ◌∙◌, subst, arith}
 use Rattle.std.specs.Result.{IsErrAnd}
 use Rattle.xa_outside.specs.Causes.{Rose}
 use Rattle.xa_outside.specs.Folder.{Files, committed}
@@ -21,31 +21,18 @@ use Rattle.version_notes.specs.declared.parts.Parts.{Parts}
 use Rattle.xarch_words.specs.Refusal.{archive, damaged, limit, PlainFault, refused, folder_fault, out_fault, in_fault, memory, Refusal}
 use Rattle.xarch_words.specs.View.{fault_view}
 use Rattle.xarch_words.specs.declared.fault.Fault.{Fault}
-use Rattle.xarch_parts.specs.EndLaws.{IfOk-passed, Matches-passed}
-use Rattle.xarch_parts.specs.Ends.{IsCaused, IsDefined, IsInside, IsOfFolder, fault_of}
-use Rattle.xarch_parts.specs.FolderLaws.{caused-then, reads-passed}
-use Rattle.xarch_parts.specs.Folders.{ReadsOnly, WritesOnly}
-use Rattle.xarch_parts.specs.Inputs.{size_in}
+use Rattle.xarch_parts.specs.Ends.{IsCaused, IsInside, IsOfFolder, fault_of}
+use Rattle.xarch_parts.specs.Folders.{WritesOnly}
 use Rattle.xarch_parts.specs.Noted.{notes_bytes}
 use Rattle.xarch_parts.specs.declared.fronts.Front.{Front}
 use Rattle.xarch_meanings.specs.FillsUp.{IsLimited}
-use Rattle.xarch_meanings.specs.Plausible.{cut_input}
-use Rattle.xarch_copies.specs.Cutting.{Comes, CutEnds, Cuts, Fronts, IsFound, IsToldAs, Makes, NotesEnd, RecordsEnd, Uncut, Unnoted, front_read}
+use Rattle.xarch_copies.specs.Cutting.{Comes, Cuts, IsToldAs, Makes, NotesEnd, RecordsEnd, Uncut, Unnoted}
 use Rattle.xarch_copies.specs.Extending.{Extends}
+use Rattle.xarch_copies.specs.Making.{behind_front}
 use Rattle.xarch_copies.specs.Slicing.{Slices}
-use Rattle.xarch_copies.proofs.Extending.{caused-extended, caused-none, extends-more, extends-none, extends-then, streams-extended, streams-stored}
-use Rattle.xarch_copies.proofs.NoteEnds.{all-read, no-memory}
-
--- ---- what is read first
-
-pub fronts-failed : {S : Type 0} {files : S → Option Files} {draft : S → Option (List ℕ)} {numbers : S → Numbers} {faults : S → ℕ} (name new : List ℕ) (i j : ℕ) (old now : S) (r : Result Front Fault) (f : Fault) → IsErrAnd r (λ g. g ≡ f)
-    → ReadsOnly files draft numbers faults (size_in (files old) name + 16) old now (Some (fault_view f)) → ((told : Files) → files old ≡ Some told → IsDefined (cut_input told name new i j) (fault_view f)) → Fronts files draft numbers faults name new i j old now r
-fronts-failed {files} {numbers} name new i j old now r f is reads told = record {
-  reads = reads-passed (size_in (files old) name + 16) old now r f is reads;
-  told = λ all at. Matches-passed front_read (cut_input all name new i j) r f is (told all at);
-  found = IfOk-passed r f (IsFound (files old) name i j) is;
-  once = IfOk-passed r f _ is;
-}
+use Rattle.xarch_copies.proofs.Extending.{extends-then}
+use Rattle.xarch_copies.proofs.Making.{fails-memory, fails-then, grown-twice, makes-failed, makes-stored}
+use Rattle.xarch_copies.proofs.NoteEnds.{all-read}
 
 -- ---- the records
 
@@ -85,14 +72,12 @@ module _ {S : Type 0} {files : S → Option Files} {draft : S → Option (List �
       → ((front : List ℕ) (rules : List PlainRule) (vs : List PlainKeyed) → TellsFront (files old) name h.length front → IsHeaderOf h front → SoundAs rules vs front → IfTooLong e ((file : List ℕ) → ¬ FileOf rules (items i j vs) file))
       → ((b : ℕ) → h.length + 12 ≤ b → IfTooLong e (Overfull b h.rules i j (draft now))) → Uncut files draft numbers faults name h i j old now v
   uncut T old now name h i j e v is extends cause undamaged long full = record {
-    extends = extends;
-    cause = told-cause T name e v (faults old) (faults now) is cause;
-    ends = records-end (files old) name h i j e v is undamaged long;
-    fills = λ b limited fits. told-limit (Overfull b h.rules i j (draft now)) name e v is (full b fits) limited;
+    fails = record { extends = extends; cause = told-cause T name e v (faults old) (faults now) is cause; ends = records-end (files old) name h i j e v is undamaged long };
+    fills = λ limited b fits. told-limit (Overfull b h.rules i j (draft now)) name e v is (full b fits) limited;
   }
 
   pub uncut-memory : (s : S) (name : List ℕ) (h : PlainHeader) (i j : ℕ) → IsMeter (numbers s) → Uncut files draft numbers faults name h i j s s memory
-  uncut-memory s name h i j meter = record { extends = extends-none (h.length - h.first) s meter; cause = no-memory (faults s) (faults s); ends = tt; fills = λ b limited fits. absurd limited }
+  uncut-memory s name h i j meter = record { fails = fails-memory (h.length - h.first) (RecordsEnd (files s) name h i j) s meter tt; fills = λ limited. absurd limited }
 
   -- what a cut does to the folder
   pub lengthened : (n : ℕ) (old now : S) → files now ≡ files old → Lengthens (draft old) (draft now) → PullsAndDrafts n (numbers old) (numbers now) → faults old ≤ faults now → Extends files draft numbers faults n old now
@@ -104,7 +89,7 @@ named-cursor c name length at is = subst (λ (n : List ℕ). c ≡ record { name
 
 -- ---- no notes of an archive are refused by a limit
 
-notes-unlimited : (files : Option Files) (name : List ℕ) (parts : Parts) (versions : ℕ) (v : PlainFault) → NotesEnd files name parts versions v → IsLimited (Some v) → ⊥
+pub notes-unlimited : (files : Option Files) (name : List ℕ) (parts : Parts) (versions : ℕ) (v : PlainFault) → NotesEnd files name parts versions v → IsLimited (Some v) → ⊥
 notes-unlimited files name parts versions (refused q) ends limited = subst (λ (r : Refusal). IsLimited (Some (refused r))) ends.0 limited
 notes-unlimited files name parts versions folder_fault ends limited = limited
 notes-unlimited files name parts versions out_fault ends limited = limited
@@ -113,28 +98,12 @@ notes-unlimited files name parts versions memory ends limited = limited
 
 -- ---- the new archive
 
-grown-twice : (d : Option (List ℕ)) (x y : List ℕ) → option_map (λ (l : List ℕ). l ++ y) (option_map (λ (l : List ℕ). x) d) ≡ option_map (λ (l : List ℕ). x ++ y) d
-grown-twice None x y = refl
-grown-twice (Some d) x y = refl
-
 module _ {S : Type 0} {files : S → Option Files} {draft : S → Option (List ℕ)} {numbers : S → Numbers} {faults : S → ℕ} (name new : List ℕ) (front : Front) (i j : ℕ) (old mid : S) where
-  -- a call ends with the fault of a part of it
-  ended-by : (r : Result Unit Fault) (f : Fault) (now : S) → IsErrAnd r (λ g. g ≡ f) → Makes files draft numbers faults name new front i j old now (Some (fault_view f)) → Makes files draft numbers faults name new front i j old now (fault_of r)
-  ended-by (Ok u) f now is p = absurd is
-  ended-by (Err g) f now is p = subst (λ (z : Fault). Makes files draft numbers faults name new front i j old now (Some (fault_view z))) (sym is) p
-
   -- its records were not appended
   pub makes-uncut : (r : Result Unit Fault) (f : Fault) → IsErrAnd r (λ g. g ≡ f) → Uncut files draft numbers faults name (header_view front.header) i j old mid (fault_view f) → Makes files draft numbers faults name new front i j old mid (fault_of r)
   makes-uncut r f is p =
       let h = header_view front.header in
-      let n = notes_bytes front.parts.notes in
-      let v = fault_view f in
-      ended-by r f mid is (record {
-        streams = streams-extended (h.length - h.first + n) old mid (Some v) (extends-more (h.length - h.first) (h.length - h.first + n) old mid (omega arith) p.extends);
-        caused = λ out. caused-extended (h.length - h.first) old mid (Some v) out p.extends p.cause;
-        ends = inl p.ends;
-        fills = p.fills;
-      })
+      makes-failed (h.length - h.first) (RecordsEnd (files old) name h i j) old mid r f is (omega arith) p.fails (λ ends. inl ends) p.fills
 
   module _ (cuts : Cuts files draft numbers faults name (header_view front.header) i j old mid) where
     -- nor its notes
@@ -143,20 +112,18 @@ module _ {S : Type 0} {files : S → Option Files} {draft : S → Option (List �
         let h = header_view front.header in
         let n = notes_bytes front.parts.notes in
         let v = fault_view f in
-        let ends = subst (λ (fs : Option Files). NotesEnd fs name front.parts h.versions v) cuts.extends.same_files p.ends in
-        ended-by r f end is (record {
-          streams = streams-extended (h.length - h.first + n) old end (Some v) (extends-then (h.length - h.first) n (h.length - h.first + n) old mid end (omega arith) cuts.extends p.extends);
-          caused = λ out. caused-then (faults old) (faults mid) (faults end) out out out (Some v) (caused-none (h.length - h.first) old mid out cuts.extends) (caused-extended n mid end (Some v) out p.extends p.cause);
-          ends = inr ends;
-          fills = λ b limited fits. absurd (notes-unlimited (files old) name front.parts h.versions v ends limited);
-        })
+        let ends = NotesEnd (files old) name front.parts h.versions in
+        let stay : NotesEnd (files mid) name front.parts h.versions v → ends v = λ e. subst (λ (fs : Option Files). NotesEnd fs name front.parts h.versions v) cuts.extends.same_files e in
+        makes-failed (behind_front front) ends old end r f is (omega arith) (fails-then (h.length - h.first) n (behind_front front) (NotesEnd (files mid) name front.parts h.versions) ends old mid end v (omega arith) cuts.extends p stay) (λ e. inr e)
+        (λ limited. absurd (notes-unlimited (files mid) name front.parts h.versions v p.ends limited))
 
     module _ (end : S) (notes : Slices files draft numbers faults mid end (at_first name front.parts (header_view front.header).versions) (i - 1) (j + 1 - i)) where
-      both : (n : ℕ) → n ≡ notes_bytes front.parts.notes → Extends files draft numbers faults ((header_view front.header).length - (header_view front.header).first + n) old end
-      both n is =
+      both : Extends files draft numbers faults (behind_front front) old end
+      both =
           let h = header_view front.header in
-          let last = subst (λ (k : ℕ). Extends files draft numbers faults k mid end) (all-read name front.parts h.versions ∙ sym is) notes.extends in
-          extends-then (h.length - h.first) n (h.length - h.first + n) old mid end (omega arith) cuts.extends last
+          let n = notes_bytes front.parts.notes in
+          let last = subst (λ (k : ℕ). Extends files draft numbers faults k mid end) (all-read name front.parts h.versions) notes.extends in
+          extends-then (h.length - h.first) n (behind_front front) old mid end (omega arith) cuts.extends last
 
       comes : (after : Option Files) → after ≡ committed (files end) (draft end) new → Comes (files old) (draft old) name new front i j after
       comes after stored =
@@ -174,23 +141,7 @@ module _ {S : Type 0} {files : S → Option Files} {draft : S → Option (List �
             stored = stored ∙ (λ k. committed (same k) (drafted k) new);
           }
 
-      ends-stored : (r : Result Unit Fault) (after : Option Files) → OnOk r (after ≡ committed (files end) (draft end) new) → IfErr r (λ f. fault_view f ≡ folder_fault) → CutEnds (files old) (draft old) name new front i j after (fault_of r)
-      ends-stored (Ok u) after stored fault = comes after stored
-      ends-stored (Err f) after stored fault = inl (end-by (files old) name (header_view front.header) i j (fault_view f) folder_fault fault tt)
-
-      unlimited : (r : Result Unit Fault) → IfErr r (λ f. fault_view f ≡ folder_fault) → IsLimited (fault_of r) → ⊥
-      unlimited (Ok u) fault limited = limited
-      unlimited (Err f) fault limited = subst (λ (z : PlainFault). IsLimited (Some z)) fault limited
-
       -- the file came, or the folder failed
-      pub makes-stored : (now : S) (r : Result Unit Fault) → IsMeter (numbers end) → WritesOnly files draft numbers end now (fault_of r) → ((out : ℕ) → IsCaused (faults end) (faults now) out out (fault_of r))
+      pub makes-cut : (now : S) (r : Result Unit Fault) → IsMeter (numbers end) → WritesOnly files draft numbers end now (fault_of r) → ((out : ℕ) → IsCaused (faults end) (faults now) out out (fault_of r))
           → OnOk r (files now ≡ committed (files end) (draft end) new) → IfErr r (λ f. fault_view f ≡ folder_fault) → Makes files draft numbers faults name new front i j old now (fault_of r)
-      makes-stored now r meter writes caused stored fault =
-          let h = header_view front.header in
-          let n = notes_bytes front.parts.notes in
-          record {
-            streams = streams-stored (h.length - h.first + n) old end now (fault_of r) meter (both n refl) writes;
-            caused = λ out. caused-then (faults old) (faults end) (faults now) out out out (fault_of r) (caused-none (h.length - h.first + n) old end out (both n refl)) (caused out);
-            ends = ends-stored r (files now) stored fault;
-            fills = λ b limited fits. absurd (unlimited r fault limited);
-          }
+      makes-cut now r meter writes caused stored fault = makes-stored (behind_front front) new old end now r (omega arith) both meter writes caused stored fault (comes (files now)) (inl tt)

@@ -1,5 +1,10 @@
+pub mod Checking
 pub mod CutEnds
 pub mod Cutting
 pub mod Extending
+pub mod JoinEnds
+pub mod Joining
+pub mod Making
 pub mod NoteEnds
 pub mod Slicing
+pub mod JoinPasses

@@ -10,13 +10,12 @@ use Rattle.version_notes.specs.declared.fault.NotesFault.{NotesFault}
 use Rattle.version_notes.specs.declared.fault.NotesFault.TheVariants.{Damage, Folder, Memory}
 use Rattle.version_notes.specs.declared.parts.Parts.{Parts}
 use Rattle.xarch_words.specs.Refusal.{damaged, PlainFault, refused, folder_fault, memory}
-use Rattle.xarch_parts.specs.EndLaws.{IsOfFolder-inside}
 use Rattle.xarch_parts.specs.Ends.{IsInside, IsOfFolder}
 use Rattle.xarch_parts.specs.Noted.{IsOfNotes, notes_bytes}
 use Rattle.xarch_copies.specs.Cutting.{NotesEnd, Unnoted}
 use Rattle.xarch_copies.specs.Extending.{Extends}
 use Rattle.xarch_copies.specs.Slicing.{Stops}
-use Rattle.xarch_copies.proofs.Extending.{extends-none}
+use Rattle.xarch_copies.proofs.Making.{fails-memory}
 
 read-from : (core : ℕ) (o : Option ℕ) → all_from (option_map (λ n. first_place core n) o) ≡ notes_bytes o
 read-from core None = refl
@@ -42,13 +41,6 @@ module _ (files : Option Files) (name : List ℕ) (parts : Parts) (versions : �
   notes-end Folder v is none = end-by v folder_fault is tt
   notes-end Memory v is none = end-by v memory is tt
 
-inside-memory : IsInside (Some memory)
-unfolding IsInside
-inside-memory = tt
-
-pub no-memory : (a b : ℕ) → IsOfFolder a b (Some memory)
-no-memory a b = IsOfFolder-inside a b (Some memory) inside-memory
-
 module _ {S : Type 0} {files : S → Option Files} {draft : S → Option (List ℕ)} {numbers : S → Numbers} {faults : S → ℕ} where
   -- it was stopped
   pub unnoted : (old now : S) (name : List ℕ) (parts : Parts) (versions : ℕ) (e : NotesFault) (v : PlainFault) → IsOfNotes name e v → Stops files draft numbers faults old now (at_first name parts versions) e → Unnoted files draft numbers faults name parts versions old now v
@@ -59,4 +51,4 @@ module _ {S : Type 0} {files : S → Option Files} {draft : S → Option (List �
   }
 
   pub unnoted-memory : (s : S) (name : List ℕ) (parts : Parts) (versions : ℕ) → IsMeter (numbers s) → Unnoted files draft numbers faults name parts versions s s memory
-  unnoted-memory s name parts versions meter = record { extends = extends-none (notes_bytes parts.notes) s meter; cause = no-memory (faults s) (faults s); ends = tt }
+  unnoted-memory s name parts versions meter = fails-memory (notes_bytes parts.notes) (NotesEnd (files s) name parts versions) s meter tt

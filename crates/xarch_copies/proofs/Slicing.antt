@@ -1,9 +1,8 @@
 -- Some notes of an archive go from a reader to a writer.
-use Rattle.std.proofs.Common.{◌≡◌, ℕ, zero, suc, ◌+◌, ◌-◌, ◌<◌, ◌≤◌, leb, true, inl, inr, List, [], ◌∷◌, ◌++◌, length, take, drop, Option, Some, None, Result, Ok, Err, refl, sym, ap, subst, ◌∙◌, append_assoc, append-nil, length-append, arith}
-use Rattle.std.specs.Prelude.{Bool, false, option_map, String, string_bytes, MatchResult}
+use Rattle.std.proofs.Common.{◌≡◌, ℕ, zero, suc, ◌+◌, ◌-◌, ◌<◌, ◌≤◌, leb, true, inl, inr, List, [], ◌∷◌, ◌++◌, length, take, drop, Option, Some, None, Ok, Err, refl, sym, ap, subst, ◌∙◌, append_assoc, append-nil, length-append, arith}
+use Rattle.std.specs.Prelude.{Bool, false, option_map, String, string_bytes}
 use Rattle.std.specs.Global.{Global}
 use Rattle.std.specs.List.{AllByRecursion}
-use Rattle.std.specs.Result.{IsErrAnd}
 use Rattle.std.proofs.Math.Seq.{take-append_seam, drop-append_seam}
 use Rattle.std.proofs.lemmas.Bool.{cases_Bool, leb-true, leb-false}
 use Rattle.xa_outside.specs.Causes.{Rose}
@@ -49,19 +48,22 @@ pulled-note due (Some p) note m k is fits =
 
 -- ---- what is written
 
-after-more : (w : PlainWriter) (notes : List (List ℕ)) (note : List ℕ) → after_all w (notes ++ note ∷ []) ≡ after (after_all w notes) note
-after-more w [] note = refl
-after-more w (x ∷ xs) note = after-more (after w x) xs note
+pub after-then : (w : PlainWriter) (notes more : List (List ℕ)) → after_all w (notes ++ more) ≡ after_all (after_all w notes) more
+after-then w [] more = refl
+after-then w (x ∷ xs) more = after-then (after w x) xs more
+
+pub appended-then : (w : PlainWriter) (notes more : List (List ℕ)) → all_appended w (notes ++ more) ≡ all_appended w notes ++ all_appended (after_all w notes) more
+appended-then w [] more = refl
+appended-then w (x ∷ xs) more = ap (λ (l : List ℕ). appended w x ++ l) (appended-then (after w x) xs more) ∙ sym (append_assoc (appended w x) (all_appended (after w x) xs) (all_appended (after_all (after w x) xs) more))
 
 appended-more : (w : PlainWriter) (notes : List (List ℕ)) (note : List ℕ) → all_appended w (notes ++ note ∷ []) ≡ all_appended w notes ++ appended (after_all w notes) note
-appended-more w [] note = append-nil (appended w note)
-appended-more w (x ∷ xs) note = ap (λ (l : List ℕ). appended w x ++ l) (appended-more (after w x) xs note) ∙ sym (append_assoc (appended w x) (all_appended (after w x) xs) (appended (after_all (after w x) xs) note))
+appended-more w notes note = appended-then w notes (note ∷ []) ∙ ap (λ (l : List ℕ). all_appended w notes ++ l) (append-nil (appended (after_all w notes) note))
 
 at-once-after : (w : PlainWriter) (notes : List (List ℕ)) → (after_all w notes).at_once ≡ w.at_once
 at-once-after w [] = refl
 at-once-after w (x ∷ xs) = at-once-after (after w x) xs
 
-pushed-after : (w : PlainWriter) (notes : List (List ℕ)) → (after_all w notes).pushed ≡ w.pushed + length notes
+pub pushed-after : (w : PlainWriter) (notes : List (List ℕ)) → (after_all w notes).pushed ≡ w.pushed + length notes
 pushed-after w [] = omega arith
 pushed-after w (x ∷ xs) = (let rest = pushed-after (after w x) xs in omega (arith, rest))
 
@@ -73,9 +75,9 @@ waits-still w notes is once =
 
 -- ---- notes that the reader gave
 
-each-more : (notes : List (List ℕ)) (note : List ℕ) → AllByRecursion IsNote notes → IsNote note → AllByRecursion IsNote (notes ++ note ∷ [])
-each-more [] note h p = (p, tt)
-each-more (x ∷ xs) note h p = (h.0, each-more xs note h.1 p)
+pub each-then : (notes more : List (List ℕ)) → AllByRecursion IsNote notes → AllByRecursion IsNote more → AllByRecursion IsNote (notes ++ more)
+each-then [] more h p = p
+each-then (x ∷ xs) more h p = (h.0, each-then xs more h.1 p)
 
 map-none : (o : Option (List (List ℕ))) → o ≡ option_map (λ rest. [] ++ rest) o
 map-none None = refl
@@ -117,7 +119,7 @@ module _ (comes : (r : PlainReader) (file note : List ℕ) → next_of r file �
       subst (λ (r : PlainReader). Gives fs start r (notes ++ note ∷ [])) (sym moved) (record {
         same_name = h.same_name;
         due = omega (arith, count, due, length-append notes (note ∷ []));
-        each = each-more notes note h.each is;
+        each = each-then notes (note ∷ []) h.each (is, tt);
         fewer = omega (arith, fewer, before);
         left = λ told at.
             h.left told at
@@ -192,7 +194,7 @@ module _ {S : Type 0} {files : S → Option Files} {draft : S → Option (List �
             many = omega (arith, many, length-append h.notes (note ∷ []));
             gives = gives-note comes (files old) start now h.notes h.gives note next due is moved (λ told at. given told (h.extends.same_files ∙ at));
             extends = extends-note old mid new start now next h.notes note h.gives h.extends moved both;
-            writer = writer ∙ ap (λ (x : PlainWriter). after x note) h.writer ∙ sym (after-more w h.notes note);
+            writer = writer ∙ ap (λ (x : PlainWriter). after x note) h.writer ∙ sym (after-then w h.notes (note ∷ []));
             gains = gained-more (draft old) (draft read) (draft new) _ _ (same_draft ∙ h.gains) p.gains.draft
                 ∙ ap (λ (l : List ℕ). option_map (λ d. d ++ l) (draft old)) (ap (λ (x : PlainWriter). all_appended w h.notes ++ appended x note) h.writer ∙ sym (appended-more w h.notes note));
           }
@@ -296,8 +298,3 @@ module _ {S : Type 0} {files : S → Option Files} {draft : S → Option (List �
             gains = gained-more (draft old) (draft end) (draft new) _ _ (p.gains ∙ ap (option_map (λ d. d ++ all_appended (fresh false) p.notes)) s.same_draft) a.gains.draft
                 ∙ ap (λ (l : List ℕ). option_map (λ d. d ++ l) (draft old)) whole;
           }
-
--- a call ended with the fault of a part of it
-pub at-err : {T : Type 0} (r : Result T NotesFault) (e : NotesFault) (P : T → Type 0) (Q : NotesFault → Type 0) → IsErrAnd r (λ d. d ≡ e) → Q e → MatchResult r P Q
-at-err (Ok x) e P Q h q = absurd h
-at-err (Err d) e P Q h q = subst Q (sym h) q

@@ -1,13 +1,13 @@
 -- What comes of some versions of an archive that go into another.
-use Rattle.std.specs.Prelude.{◌≡◌, ◌⊎◌, ◌≤◌, ℕ, ◌+◌, ◌-◌, List, ◌++◌, length, Option, Some, None, Result, IfOk, option_map, ⊤}
+use Rattle.std.specs.Prelude.{◌≡◌, ◌⊎◌, ◌≤◌, ℕ, ◌+◌, ◌-◌, List, ◌++◌, length, Option, Some, None, Result, option_map, ⊤}
 use Rattle.std.specs.List.{AllByRecursion}
 use Rattle.xa_outside.specs.Folder.{Files, committed}
-use Rattle.xa_outside.specs.Numbers.{Numbers, PullsAtMost}
+use Rattle.xa_outside.specs.Numbers.{Numbers}
 use Rattle.key_spec.specs.Data.{PlainRule}
 use Rattle.keyed_tree.specs.Data.{PlainKeyed}
 use Rattle.archive_file.specs.Sound.{SoundAs}
 use Rattle.record_cursor.specs.Moves.{IsHeaderOf, TellsFront}
-use Rattle.record_cursor.specs.View.{PlainHeader, header_view, IsHeader}
+use Rattle.record_cursor.specs.View.{PlainHeader, header_view}
 use Rattle.record_format.specs.Files.{FileOf}
 use Rattle.archive_cut.specs.Cut.{Appended, IsSlice, Overfull}
 use Rattle.archive_cut.specs.Sliced.{items}
@@ -19,40 +19,28 @@ use Rattle.version_notes.specs.Reading.{notes_from}
 use Rattle.version_notes.specs.declared.parts.Parts.{Parts}
 use Rattle.xarch_words.specs.Refusal.{archive, damaged, limit, PlainFault, refused, folder_fault, memory}
 use Rattle.xarch_words.specs.declared.fault.Fault.{Fault}
-use Rattle.xarch_parts.specs.Archives.{IsFrontOf, PartsAre}
-use Rattle.xarch_parts.specs.Ends.{IsCaused, IsOfFolder, Matches, fault_of}
-use Rattle.xarch_parts.specs.Folders.{ReadsOnly, Streams}
 use Rattle.xarch_parts.specs.Inputs.{size_in}
-use Rattle.xarch_parts.specs.Noted.{AreWithin, notes_bytes}
+use Rattle.xarch_parts.specs.Noted.{notes_bytes}
 use Rattle.xarch_parts.specs.declared.fronts.Front.{Front}
 use Rattle.xarch_meanings.specs.Cut.{noted_items}
 use Rattle.xarch_meanings.specs.FillsUp.{IsLimited}
 use Rattle.xarch_meanings.specs.Plausible.{cut_input}
 use Rattle.xarch_copies.specs.Extending.{Extends}
+use Rattle.xarch_copies.specs.Making as making
+use Rattle.xarch_copies.specs.Making.{Asks, Fails, StandsBefore, behind_front, front_read}
 
 -- ---- what is read first
 
--- the rules and the number of versions that a header gives
-abbrev pub front_read : Front → List PlainRule × ℕ
-front_read front = ((header_view front.header).rules, (header_view front.header).versions)
-
 -- This stands in front of the archive of this name, which has the versions from i to j.
-pub record IsFound (files : Option Files) (name : List ℕ) (i j : ℕ) (front : Front) : Type 0 where
-  pub header : IsHeader (header_view front.header)
-  pub core : (header_view front.header).length ≡ front.parts.core
-  pub within : AreWithin (size_in files name) front.parts
+pub record IsFound (name : List ℕ) (i j : ℕ) (files : Option Files) (front : Front) : Type 0 where
+  pub before : StandsBefore files name front
   pub from : 1 ≤ i
   pub most : j ≤ (header_view front.header).versions
-  pub are : (told : Files) → files ≡ Some told → PartsAre told name front.parts
-  pub stands : (told : Files) → files ≡ Some told → IsFrontOf told name (header_view front.header)
 
 -- What a command reads first that cuts the versions from i to j out of an archive: where it finds them, no more than what stands in front, and 16 bytes.
-pub record Fronts {S : Type 0} (files : S → Option Files) (draft : S → Option (List ℕ)) (numbers : S → Numbers) (faults : S → ℕ)
-    (name new : List ℕ) (i j : ℕ) (old now : S) (result : Result Front Fault) : Type 0 where
-  pub reads : ReadsOnly files draft numbers faults (size_in (files old) name + 16) old now (fault_of result)
-  pub told : (told : Files) → files old ≡ Some told → Matches front_read (cut_input told name new i j) result
-  pub found : IfOk result (IsFound (files old) name i j)
-  pub once : IfOk result (λ f. PullsAtMost (16 + (header_view f.header).first) (numbers old) (numbers now))
+abbrev pub Fronts : {S : Type 0} → (S → Option Files) → (S → Option (List ℕ)) → (S → Numbers) → (S → ℕ) → List ℕ → List ℕ → ℕ → ℕ → S → S → Result Front Fault → Type 0
+Fronts files draft numbers faults name new i j old now result =
+    Asks files draft numbers faults (size_in (files old) name + 16) front_read (λ told. cut_input told name new i j) (IsFound name i j) (λ front. 16 + (header_view front.header).first) old now result
 
 -- ---- the records
 
@@ -82,13 +70,15 @@ pub record Cuts {S : Type 0} (files : S → Option Files) (draft : S → Option 
   pub extends : Extends files draft numbers faults (h.length - h.first) old now
   pub appended : Appended h name i j (files old) (draft old) (draft now)
 
--- They did not. Where the new file would be too long, the draft is as full as it can be.
+-- where the new file would be too long, the draft is as full as it can be
+abbrev pub IsFull : PlainHeader → ℕ → ℕ → Option (List ℕ) → Type 0
+IsFull h i j draft = (b : ℕ) → h.length + 12 ≤ b → Overfull b h.rules i j draft
+
+-- They did not.
 pub record Uncut {S : Type 0} (files : S → Option Files) (draft : S → Option (List ℕ)) (numbers : S → Numbers) (faults : S → ℕ)
     (name : List ℕ) (h : PlainHeader) (i j : ℕ) (old now : S) (fault : PlainFault) : Type 0 where
-  pub extends : Extends files draft numbers faults (h.length - h.first) old now
-  pub cause : IsOfFolder (faults old) (faults now) (Some fault)
-  pub ends : RecordsEnd (files old) name h i j fault
-  pub fills : (b : ℕ) → IsLimited (Some fault) → h.length + 12 ≤ b → Overfull b h.rules i j (draft now)
+  pub fails : Fails files draft numbers faults (h.length - h.first) (RecordsEnd (files old) name h i j) old now fault
+  pub fills : IsLimited (Some fault) → IsFull h i j (draft now)
 
 -- ---- the notes
 
@@ -98,11 +88,8 @@ NotesEnd files name parts versions (refused q) = (q ≡ damaged name) × ((told 
 NotesEnd files name parts versions other = ⊤
 
 -- Some notes of the file were not appended.
-pub record Unnoted {S : Type 0} (files : S → Option Files) (draft : S → Option (List ℕ)) (numbers : S → Numbers) (faults : S → ℕ)
-    (name : List ℕ) (parts : Parts) (versions : ℕ) (old now : S) (fault : PlainFault) : Type 0 where
-  pub extends : Extends files draft numbers faults (notes_bytes parts.notes) old now
-  pub cause : IsOfFolder (faults old) (faults now) (Some fault)
-  pub ends : NotesEnd (files old) name parts versions fault
+abbrev pub Unnoted : {S : Type 0} → (S → Option Files) → (S → Option (List ℕ)) → (S → Numbers) → (S → ℕ) → List ℕ → Parts → ℕ → S → S → PlainFault → Type 0
+Unnoted files draft numbers faults name parts versions old now fault = Fails files draft numbers faults (notes_bytes parts.notes) (NotesEnd (files old) name parts versions) old now fault
 
 -- ---- the new archive
 
@@ -123,9 +110,6 @@ CutEnds files draft name new front i j after None = Comes files draft name new f
 CutEnds files draft name new front i j after (Some fault) = RecordsEnd files name (header_view front.header) i j fault ⊎ NotesEnd files name front.parts (header_view front.header).versions fault
 
 -- What is done to the folder for this.
-pub record Makes {S : Type 0} (files : S → Option Files) (draft : S → Option (List ℕ)) (numbers : S → Numbers) (faults : S → ℕ)
-    (name new : List ℕ) (front : Front) (i j : ℕ) (old now : S) (ended : Option PlainFault) : Type 0 where
-  pub streams : Streams files draft numbers ((header_view front.header).length - (header_view front.header).first + notes_bytes front.parts.notes) old now ended
-  pub caused : (out : ℕ) → IsCaused (faults old) (faults now) out out ended
-  pub ends : CutEnds (files old) (draft old) name new front i j (files now) ended
-  pub fills : (b : ℕ) → IsLimited ended → (header_view front.header).length + 12 ≤ b → Overfull b (header_view front.header).rules i j (draft now)
+abbrev pub Makes : {S : Type 0} → (S → Option Files) → (S → Option (List ℕ)) → (S → Numbers) → (S → ℕ) → List ℕ → List ℕ → Front → ℕ → ℕ → S → S → Option PlainFault → Type 0
+Makes files draft numbers faults name new front i j old now ended =
+    making.Makes files draft numbers faults (behind_front front) (CutEnds (files old) (draft old) name new front i j) (IsFull (header_view front.header) i j) old now ended

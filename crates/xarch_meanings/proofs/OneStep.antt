@@ -15,19 +15,20 @@ use Rattle.archive_cut.specs.Sliced.{items}
 use Rattle.archive_rekey.specs.Rekeyed.{AreRekeyed, IsFirstBad}
 use Rattle.archive_text.specs.Export.{ExportOf, export_text}
 use Rattle.xarch_gen.specs.Company.{company_rules}
-use Rattle.xarch_words.specs.Commands.{PlainCommand, norm, init, add, rekey, get, history, log, check, stats, versions, export, import, cut, table, tablekeys, batch, demo}
+use Rattle.xarch_words.specs.Commands.{PlainCommand, norm, init, add, rekey, get, history, log, check, stats, versions, export, import, cut, join, table, tablekeys, batch, demo}
 use Rattle.xarch_words.specs.Refusal.{Refusal, no_file, key_fault_in, damaged}
 use Rattle.xarch_meanings.specs.Add.{AddsTo, added}
 use Rattle.xarch_meanings.specs.Check.{IsFound, check_text}
 use Rattle.xarch_meanings.specs.Cut.{CutsFrom, cut_checked, noted_items}
 use Rattle.xarch_meanings.specs.Export.{ExportsFrom}
-use Rattle.xarch_parts.specs.Archives.{GoesOn, Opens, Stores, short_note}
+use Rattle.xarch_parts.specs.Archives.{ArchiveIs, GoesOn, Opens, Stores, short_note}
 use Rattle.xarch_meanings.specs.Demo.{MakesOrNone, demo_input, samples}
 use Rattle.xarch_meanings.specs.Import.{ImportsFrom, import_text}
 use Rattle.xarch_meanings.specs.Init.{init_rules}
+use Rattle.xarch_meanings.specs.Join.{JoinsFrom, join_checked}
 use Rattle.xarch_parts.specs.Inputs.{file_of}
 use Rattle.xarch_parts.specs.Outcome.{Outcome, Step, step_from}
-use Rattle.xarch_meanings.specs.Plausible.{DamagedOrSound, IsLate, MayAdd, MayOver, MayWrite, MayBe, MayComeLate, MayDo, MayMake, Plausible, add_input, cut_input, get_input, history_input, log_input, stats_input, versions_input}
+use Rattle.xarch_meanings.specs.Plausible.{DamagedOrSound, IsLate, MayAdd, MayOver, MayWrite, MayBe, MayComeLate, MayDo, MayJoin, MayMake, MayOverBoth, Plausible, add_input, cut_input, get_input, history_input, join_input, log_input, stats_input, versions_input}
 use Rattle.xarch_meanings.specs.PlausibleLaws.{late-three, late-unlisted, late-unlogged, late-unsound, plain-step}
 use Rattle.xarch_meanings.specs.Rekey.{RekeysTo, rekey_rules}
 use Rattle.xarch_meanings.specs.Stats.{CountsFrom, counts_text, noted_counts}
@@ -71,6 +72,13 @@ module _ (one_archive : (vs : List PlainKeyed) (a b : PlainArchive) → ArchiveO
   cut_absent : (files : Files) (name new : List ℕ) (i j : ℕ) → map.get files name ≡ None → cut_input files name new i j ≡ Err (no_file name)
   cut_absent files name new i j e = rw e refl
 
+  join_absent : (files : Files) (one two new : List ℕ) → map.get files one ≡ None → join_input files one two new ≡ Err (no_file one)
+  join_absent files one two new e = rw e refl
+
+  -- so it is where the first file is there, but not the second
+  second_absent : (files : Files) (one two new bytes : List ℕ) → map.get files one ≡ Some bytes → map.get files two ≡ None → join_input files one two new ≡ Err (no_file two)
+  second_absent files one two new bytes h e = rw (h, e) refl
+
   stats_absent : (files : Files) (name : List ℕ) → map.get files name ≡ None → stats_input files name ≡ Err (no_file name)
   stats_absent files name e = rw e refl
 
@@ -92,6 +100,19 @@ module _ (one_archive : (vs : List PlainKeyed) (a b : PlainArchive) → ArchiveO
   one_cut : (files : Files) (new : List ℕ) (i j : ℕ) (rules : List PlainRule) (vs : List PlainKeyed) (notes : List (List ℕ)) (r s : Result Outcome Refusal) → CutsFrom files new i j rules vs notes r → CutsFrom files new i j rules vs notes s → s ≡ r
   one_cut files new i j rules vs notes r s p q =
       one_way (cut_checked files new i j (length vs)) (λ _. Stores files new rules (items i j vs) (noted_items i j notes)) (λ _. one_stored files new rules (items i j vs) (noted_items i j notes)) r s p q
+
+  -- the versions of two archives have one file with their notes
+  one_joined : (files : Files) (one two new : List ℕ) (rules : List PlainRule) (vs : List PlainKeyed) (notes : List (List ℕ)) (others : List PlainRule) (us : List PlainKeyed) (more : List (List ℕ)) (r s : Result Outcome Refusal)
+      → JoinsFrom files one two new rules vs notes others us more r → JoinsFrom files one two new rules vs notes others us more s → s ≡ r
+  one_joined files one two new rules vs notes others us more r s p q =
+      one_way (join_checked files one two new rules (length vs) others (length us)) (λ _. Stores files new rules (vs ++ us) (notes ++ more)) (λ _. one_stored files new rules (vs ++ us) (notes ++ more)) r s p q
+
+  -- and what a `join` comes to, whether the second archive is there or not, where the first is
+  one_behind : (files : Files) (one two new : List ℕ) (rules : List PlainRule) (vs : List PlainKeyed) (notes : List (List ℕ)) (r s : Result Outcome Refusal) → ArchiveIs files one rules vs notes
+      → Opens files two (JoinsFrom files one two new rules vs notes) r → MayOverBoth files one two (GoesOn (join_input files one two new) (λ _. MayJoin files one two new)) (JoinsFrom files one two new) s → s ≡ r
+  one_behind files one two new rules vs notes r s a (inl p) q = subst (λ x. GoesOn x (λ _. MayJoin files one two new) s) (second_absent files one two new a.bytes a.there p.absent) q.whatever ∙ sym p.is
+  one_behind files one two new rules vs notes r s a (inr p) q =
+      one_joined files one two new rules vs notes p.rules p.versions p.notes r s p.rest (q.sound rules vs notes p.rules p.versions p.notes a p.archive)
 
   -- what is one archive with notes has one file
   same_file : (rules others : List PlainRule) (vs us : List PlainKeyed) (notes more : List (List ℕ)) (b c : List ℕ) → rules ≡ others → vs ≡ us → notes ≡ more → FullAs rules vs notes b → FullAs others us more c → b ≡ c
@@ -185,6 +206,8 @@ module _ (one_archive : (vs : List PlainKeyed) (a b : PlainArchive) → ArchiveO
   one files (import text new) r s p q = one_way (import_text files text new) (ImportsFrom files new) (one_imported files new) r s p q
   one files (cut name new i j) r s (inl p) q = subst (λ x. GoesOn x (λ _. MayMake files name new) s) (cut_absent files name new i j p.absent) q.whatever ∙ sym p.is
   one files (cut name new i j) r s (inr p) q = one_cut files new i j p.rules p.versions p.notes r s p.rest (q.sound p.rules p.versions p.notes p.archive)
+  one files (join first two new) r s (inl p) q = subst (λ x. GoesOn x (λ _. MayJoin files first two new) s) (join_absent files first two new p.absent) q.whatever ∙ sym p.is
+  one files (join first two new) r s (inr p) q = one_behind files first two new p.rules p.versions p.notes r s p.archive p.rest q
   one files (table csv tag keys doc) r s p q = q ∙ sym p
   one files (tablekeys tag keys spec) r s p q = q ∙ sym p
   one files batch r s p q = q ∙ sym p

@@ -12,7 +12,7 @@ use Rattle.content_log.specs.Text.{log_text}
 use Rattle.archive_rekey.specs.Rekeyed.{AreRekeyed, IsFirstBad}
 use Rattle.key_rules.specs.Faults.{PlainKeyFault}
 use Rattle.xarch_gen.specs.Company.{company_rules}
-use Rattle.xarch_words.specs.Commands.{PlainCommand, norm, init, add, rekey, get, history, log, check, stats, versions, export, import, cut, table, tablekeys, batch, demo}
+use Rattle.xarch_words.specs.Commands.{PlainCommand, norm, init, add, rekey, get, history, log, check, stats, versions, export, import, cut, join, table, tablekeys, batch, demo}
 use Rattle.xarch_words.specs.Refusal.{Refusal, no_file, no_version}
 use Rattle.xarch_parts.specs.Archives.{GoesOn, Stores}
 use Rattle.xarch_meanings.specs.Check.{IsFound}
@@ -82,6 +82,9 @@ module _ (one_list : (rules : List PlainRule) (vs us ws : List PlainKeyed) → A
   never_refused files (cut name new i j) q h m =
       not_stored files new h.rules (items i j h.versions) (noted_items i j h.notes) h.bytes q h.file
       (subst (λ (x : Result Unit Refusal). GoesOn x (λ _. Stores files new h.rules (items i j h.versions) (noted_items i j h.notes)) (Err q)) h.free (m.sound h.rules h.versions h.notes h.archive))
+  never_refused files (join one two new) q h m =
+      not_stored files new h.rules (h.versions ++ h.behind) (h.notes ++ h.more) h.bytes q h.file
+      (subst (λ (x : Result Unit Refusal). GoesOn x (λ _. Stores files new h.rules (h.versions ++ h.behind) (h.notes ++ h.more)) (Err q)) h.free (m.sound h.rules h.versions h.notes h.others h.behind h.more h.first h.second))
   never_refused files (table csv tag keys doc) q h m = clash q h.value (m ∙ h.is)
   never_refused files (tablekeys tag keys spec) q h m = clash q h.value (m ∙ h.is)
   never_refused files batch q h m = h
@@ -104,6 +107,7 @@ one_alone files (versions name) h = refl
 one_alone files (export name) h = refl
 one_alone files (import text new) h = refl
 one_alone files (cut name new i j) h = refl
+one_alone files (join one two new) h = refl
 one_alone files (table csv tag keys doc) h = refl
 one_alone files (tablekeys tag keys spec) h = refl
 one_alone files batch h = absurd h

@@ -3,7 +3,7 @@ use Rattle.std.specs.Prelude.{◌≡◌, Option, Some, None}
 use Rattle.std.proofs.Common.{refl, ap}
 use Rattle.xa_outside.specs.Folder.{Files}
 use Rattle.xa_outside.specs.Numbers.{Numbers}
-use Rattle.xarch_words.specs.Commands.{PlainCommand, norm, init, add, rekey, get, history, log, check, stats, versions, export, import, cut, table, tablekeys, batch, demo}
+use Rattle.xarch_words.specs.Commands.{PlainCommand, norm, init, add, rekey, get, history, log, check, stats, versions, export, import, cut, join, table, tablekeys, batch, demo}
 use Rattle.xarch_words.specs.Refusal.{PlainFault}
 use Rattle.xarch_meanings.specs.OnePass.{GoesOnce}
 use Rattle.xarch_meanings.specs.Ran.{IsMetLate, MayHaveWritten, OnlyReads, made_name, status_after}
@@ -23,6 +23,7 @@ only_makes_none (versions archive) h = refl
 only_makes_none (export archive) h = refl
 only_makes_none (import text new) h = absurd h
 only_makes_none (cut archive new i j) h = absurd h
+only_makes_none (join one two new) h = absurd h
 only_makes_none (table csv tag keys doc) h = absurd h
 only_makes_none (tablekeys tag keys spec) h = absurd h
 only_makes_none batch h = absurd h
@@ -44,6 +45,7 @@ met-status (Some (versions archive)) e late = ap status_after late
 met-status (Some (export archive)) e late = absurd late
 met-status (Some (import text new)) e late = absurd late
 met-status (Some (cut archive new i j)) e late = absurd late
+met-status (Some (join one two new)) e late = absurd late
 met-status (Some (table csv tag keys doc)) e late = absurd late
 met-status (Some (tablekeys tag keys spec)) e late = absurd late
 met-status (Some batch) e late = absurd late
@@ -65,6 +67,7 @@ once_by (Some (versions archive)) told before after P Q f h = tt
 once_by (Some (export archive)) told before after P Q f h = tt
 once_by (Some (import text new)) told before after P Q f h = tt
 once_by (Some (cut archive new i j)) told before after P Q f h = tt
+once_by (Some (join one two new)) told before after P Q f h = λ not. h (λ p. not (f p))
 once_by (Some (table csv tag keys doc)) told before after P Q f h = tt
 once_by (Some (tablekeys tag keys spec)) told before after P Q f h = tt
 once_by (Some batch) told before after P Q f h = tt

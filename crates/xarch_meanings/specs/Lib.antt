@@ -15,6 +15,7 @@ pub mod Versions
 pub mod Export
 pub mod Import
 pub mod Cut
+pub mod Join
 pub mod Table
 pub mod KeyLaws
 pub mod Check

@@ -1,13 +1,13 @@
--- That `add` goes over a sound archive once, and writes what it read before it reads on.
+-- That `add` goes over a sound archive once, and writes what it read before it reads on, and that `join` goes over both archives once.
 use Rattle.std.specs.Prelude.{◌≡◌, ℕ, ◌+◌, ◌-◌, ◌^◌, ◌≤◌, ◌<◌, max, List, length, Option, Some, Result, Ok, Err, ⊤}
 use Rattle.xa_outside.specs.Folder.{Files}
-use Rattle.xa_outside.specs.Numbers.{Numbers}
+use Rattle.xa_outside.specs.Numbers.{Numbers, PullsAndDrafts, after_begin}
 use Rattle.key_spec.specs.Data.{PlainRule}
 use Rattle.keyed_tree.specs.Data.{PlainKeyed}
 use Rattle.archive_tree.specs.Data.{PlainArchive}
 use Rattle.archive_tree.specs.Stands.{ArchiveOf}
 use Rattle.record_format.specs.Files.{header_bytes, largest}
-use Rattle.xarch_words.specs.Commands.{PlainCommand, add}
+use Rattle.xarch_words.specs.Commands.{PlainCommand, add, join}
 use Rattle.xarch_words.specs.Refusal.{document, Refusal}
 use Rattle.xarch_parts.specs.Archives.{ArchiveIs}
 use Rattle.xarch_parts.specs.Inputs.{length_in, size_in}
@@ -32,10 +32,11 @@ pub record OnePass (files : Files) (archive doc : List ℕ) (rules : List PlainR
   pub once : after.since ≤ document_size files doc + (size_in (Some files) archive + 16)
   pub close : after.gap ≤ document_size files doc + (16 + max (largest rules a) 1028)
 
--- An `add` does so over a sound archive, as long as it has not failed so and the count of what was read since has not run out. Of no other command is
--- anything said.
+-- An `add` does so over a sound archive, as long as it has not failed so and the count of what was read since has not run out. A `join` of any archives, as long as it has not failed
+-- so, begins its draft before it reads, and then reads no more bytes than both have, and 16 of each in which it is looked where the notes begin. Of no other command is anything said.
 abbrev pub GoesOnce : Option PlainCommand → Option Files → Numbers → Numbers → Type 0 → Type 0
 GoesOnce (Some (add archive doc note)) told before after failed =
     (files : Files) (rules : List PlainRule) (vs : List PlainKeyed) (notes : List (List ℕ)) (a : PlainArchive) → told ≡ Some files → ArchiveIs files archive rules vs notes → ArchiveOf vs a
     → after.since < 2 ^ 64 - 1 → ¬ failed → OnePass files archive doc rules a before after
+GoesOnce (Some (join one two new)) told before after failed = ¬ failed → PullsAndDrafts (size_in told one + (size_in told two + 32)) (after_begin before) after
 GoesOnce other told before after failed = ⊤

@@ -1,5 +1,5 @@
 -- What a command may do to any files, whether the archive that it names is sound or not.
-use Rattle.std.specs.Prelude.{◌≡◌, ◌⊎◌, ℕ, List, [], ◌&&◌, nat_le, Option, Some, None, Result, Ok, Err, if◌then◌else◌, ⊤}
+use Rattle.std.specs.Prelude.{◌≡◌, ◌≢◌, ◌⊎◌, ℕ, List, [], ◌&&◌, nat_le, Option, Some, None, Result, Ok, Err, if◌then◌else◌, ⊤}
 use Rattle.std.specs.FinMap as map
 use Rattle.std.specs.Result.{IsOk}
 use Rattle.xa_outside.specs.Folder.{Files}
@@ -8,7 +8,7 @@ use Rattle.key_spec.specs.Data.{PlainRule}
 use Rattle.keyed_tree.specs.Data.{PlainLabel, PlainKeyed}
 use Rattle.record_format.specs.Fronts.{fixed}
 use Rattle.version_notes.specs.declared.parts.Parts.{Parts}
-use Rattle.xarch_words.specs.Commands.{PlainCommand, norm, init, add, rekey, get, history, log, check, stats, versions, export, import, cut, table, tablekeys, batch, demo}
+use Rattle.xarch_words.specs.Commands.{PlainCommand, norm, init, add, rekey, get, history, log, check, stats, versions, export, import, cut, join, table, tablekeys, batch, demo}
 use Rattle.xarch_words.specs.Lines.{fault_line, refusal_status}
 use Rattle.xarch_words.specs.Refusal.{archive, document, Refusal, usage, damaged, no_version, limit, refused}
 use Rattle.xarch_meanings.specs.Add.{AddsTo, room_behind, tree_of}
@@ -21,6 +21,7 @@ use Rattle.xarch_meanings.specs.Get.{GetsFrom}
 use Rattle.xarch_meanings.specs.History.{TellsFrom, labels_of}
 use Rattle.xarch_meanings.specs.Import.{ImportIs}
 use Rattle.xarch_meanings.specs.Init.{InitIs}
+use Rattle.xarch_meanings.specs.Join.{JoinsFrom, are_joinable}
 use Rattle.xarch_meanings.specs.Log.{LogsFrom, frontier_of}
 use Rattle.xarch_parts.specs.Inputs.{file_length, file_of, length_in, read_in}
 use Rattle.xarch_meanings.specs.Norm.{norm_of}
@@ -112,6 +113,18 @@ cut_input files name new i j =
     and_then (are_versions i j h.1) (λ _.
     Ok h))))
 
+-- The rules and the numbers of versions of two archives, or the first refusal: both are there, the new name is free, a header stands in front of each, both
+-- have one specification, and there is room for the versions of both.
+abbrev pub join_input : Files → List ℕ → List ℕ → List ℕ → Result ((List PlainRule × ℕ) × (List PlainRule × ℕ)) Refusal
+join_input files one two new =
+    and_then (file_length files one) (λ _.
+    and_then (file_length files two) (λ _.
+    and_then (free_in files new) (λ _.
+    and_then (read_in files one (front_in one)) (λ h.
+    and_then (read_in files two (front_in two)) (λ g.
+    and_then (are_joinable one two h.0 h.1 g.0 g.1) (λ _.
+    Ok (h, g)))))))
+
 -- ---- what may come then
 
 -- some file came under the archive's name
@@ -127,6 +140,10 @@ pub record Written (files : Files) (r : Result Outcome Refusal) : Type 0 where
 -- The archive is damaged, or the new one would be too long, or some file comes under the new one's name.
 abbrev pub MayMake : Files → List ℕ → List ℕ → Result Outcome Refusal → Type 0
 MayMake files name new r = (r ≡ Err (damaged name)) ⊎ (r ≡ Err (limit archive 274877906944)) ⊎ Replaced files new r
+
+-- One of the archives is damaged, or the new one would be too long, or some file comes under the new one's name.
+abbrev pub MayJoin : Files → List ℕ → List ℕ → List ℕ → Result Outcome Refusal → Type 0
+MayJoin files one two new r = (r ≡ Err (damaged one)) ⊎ MayMake files two new r
 
 -- the new archive replaces the old one
 abbrev pub MayAdd : Files → List ℕ → Result Outcome Refusal → Type 0
@@ -146,6 +163,15 @@ pub record MayOver (files : Files) (name : List ℕ) (any : Result Outcome Refus
   pub whatever : any r
   pub sound : (rules : List PlainRule) (vs : List PlainKeyed) (notes : List (List ℕ)) → ArchiveIs files name rules vs notes → exact rules vs notes r
 
+-- What may come whatever the archives of these names are, and what comes where both are sound; one that is sound is not said to be damaged.
+pub record MayOverBoth (files : Files) (one two : List ℕ) (any : Result Outcome Refusal → Type 0)
+    (exact : List PlainRule → List PlainKeyed → List (List ℕ) → List PlainRule → List PlainKeyed → List (List ℕ) → Result Outcome Refusal → Type 0) (r : Result Outcome Refusal) : Type 0 where
+  pub whatever : any r
+  pub first : (rules : List PlainRule) (vs : List PlainKeyed) (notes : List (List ℕ)) → ArchiveIs files one rules vs notes → r ≢ Err (damaged one)
+  pub second : (rules : List PlainRule) (vs : List PlainKeyed) (notes : List (List ℕ)) → ArchiveIs files two rules vs notes → r ≢ Err (damaged two)
+  pub sound : (rules : List PlainRule) (vs : List PlainKeyed) (notes : List (List ℕ)) (others : List PlainRule) (us : List PlainKeyed) (more : List (List ℕ)) → ArchiveIs files one rules vs notes → ArchiveIs files two others us more
+      → exact rules vs notes others us more r
+
 unfoldable pub MayBe : Files → PlainCommand → Result Outcome Refusal → Type 0
 MayBe files (norm spec doc) r = r ≡ norm_of files spec doc
 MayBe files (init name spec) r = InitIs files name spec r
@@ -160,6 +186,7 @@ MayBe files (versions name) r = MayOver files name (GoesOn (versions_input files
 MayBe files (export name) r = MayOver files name (GoesOn (stats_input files name) (λ _. DamagedOrSound files name)) (ExportsFrom files) r
 MayBe files (import text new) r = ImportIs files text new r
 MayBe files (cut name new i j) r = MayOver files name (GoesOn (cut_input files name new i j) (λ _. MayMake files name new)) (CutsFrom files new i j) r
+MayBe files (join one two new) r = MayOverBoth files one two (GoesOn (join_input files one two new) (λ _. MayJoin files one two new)) (JoinsFrom files one two new) r
 MayBe files (table csv tag keys doc) r = r ≡ tabled files csv tag keys doc
 MayBe files (tablekeys tag keys spec) r = r ≡ keys_tabled files tag keys spec
 MayBe files batch r = r ≡ Err usage

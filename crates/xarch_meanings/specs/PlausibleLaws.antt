@@ -7,7 +7,7 @@ use Rattle.content_log.specs.Text.{log_text}
 use Rattle.key_rules.specs.UserPaths.{user_path}
 use Rattle.keyed_tree.specs.Data.{PlainLabel, PlainKeyed}
 use Rattle.archive_tree.specs.Stands.{version_of}
-use Rattle.xarch_words.specs.Commands.{PlainCommand, norm, init, add, rekey, get, history, log, check, stats, versions, export, import, cut, table, tablekeys, batch, demo}
+use Rattle.xarch_words.specs.Commands.{PlainCommand, norm, init, add, rekey, get, history, log, check, stats, versions, export, import, cut, join, table, tablekeys, batch, demo}
 use Rattle.xarch_words.specs.Refusal.{Refusal, bad_path, damaged, no_version, not_frontier}
 use Rattle.keyed_print.specs.KeyedText.{keyed_text}
 use Rattle.xarch_parts.specs.Archives.{ArchiveIs}
@@ -46,6 +46,7 @@ late-three files (versions name) q P late h g l = l name refl late.0
 late-three files (export name) q P late h g l = absurd late
 late-three files (import text new) q P late h g l = absurd late
 late-three files (cut name new i j) q P late h g l = absurd late
+late-three files (join one two new) q P late h g l = absurd late
 late-three files (table csv tag keys doc) q P late h g l = absurd late
 late-three files (tablekeys tag keys spec) q P late h g l = absurd late
 late-three files batch q P late h g l = absurd late

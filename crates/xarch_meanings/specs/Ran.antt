@@ -5,7 +5,7 @@ use Rattle.xa_outside.specs.Causes.{Rose}
 use Rattle.xa_outside.specs.Folder.{Files}
 use Rattle.xa_outside.specs.Numbers.{Numbers, PullsAtMost}
 use Rattle.xa_outside.specs.Taken.{Taken, Takes, TakesPrefix}
-use Rattle.xarch_words.specs.Commands.{PlainCommand, norm, init, add, rekey, get, history, log, check, stats, versions, export, import, cut, table, tablekeys, batch, demo}
+use Rattle.xarch_words.specs.Commands.{PlainCommand, norm, init, add, rekey, get, history, log, check, stats, versions, export, import, cut, join, table, tablekeys, batch, demo}
 use Rattle.xarch_words.specs.Lines.{fault_status, fault_line}
 use Rattle.xarch_words.specs.Refusal.{PlainFault, damaged, refused, folder_fault, out_fault, in_fault, memory}
 use Rattle.xarch_parts.specs.Outcome.{Step}
@@ -63,13 +63,14 @@ made_name (versions archive) = None
 made_name (export archive) = None
 made_name (import text new) = Some new
 made_name (cut archive new i j) = Some new
+made_name (join one two new) = Some new
 made_name (table csv tag keys doc) = Some doc
 made_name (tablekeys tag keys spec) = Some spec
 made_name batch = None
 made_name (demo seed count archive) = Some archive
 
 -- How many bytes a command pulls at most: those of a specification, of a document and of a text at their limits, and those of an archive
--- whole, each of them once, and 16 in which it is looked where the notes begin; but `rekey` reads the header of the archive
+-- whole, each of them once, and 16 in which it is looked where the notes begin, for each archive; but `rekey` reads the header of the archive
 -- before its whole, and `log` may read a leaf when it has been searched for.
 abbrev pub most_pulled : PlainCommand → Option Files → ℕ
 most_pulled (norm spec doc) told = 68157440
@@ -85,6 +86,7 @@ most_pulled (versions archive) told = size_in told archive + 16
 most_pulled (export archive) told = size_in told archive + 16
 most_pulled (import text new) told = 67108864
 most_pulled (cut archive new i j) told = size_in told archive + 16
+most_pulled (join one two new) told = size_in told one + (size_in told two + 32)
 most_pulled (table csv tag keys doc) told = 67108864
 most_pulled (tablekeys tag keys spec) told = 0
 most_pulled batch told = 0
@@ -112,6 +114,7 @@ CountsAsSaid None told = PullsAtMost 0
 CountsAsSaid (Some batch) told = λ before after. ⊤
 CountsAsSaid (Some (add archive doc note)) told = CountsInTurn (most_pulled (add archive doc note) told)
 CountsAsSaid (Some (cut archive new i j)) told = CountsInTurn (most_pulled (cut archive new i j) told)
+CountsAsSaid (Some (join one two new)) told = CountsInTurn (most_pulled (join one two new) told)
 CountsAsSaid (Some command) told = Counts (made_name command) (most_pulled command told)
 
 -- Words with this answer may have written something before they were refused: a `get`, a `log` or a `versions` that met damage.

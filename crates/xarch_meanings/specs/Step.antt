@@ -1,7 +1,7 @@
 -- What the words have the program do.
 use Rattle.std.specs.Prelude.{◌≡◌, ℕ, List, Option, Some, None, Result, Err}
 use Rattle.xa_outside.specs.Folder.{Files}
-use Rattle.xarch_words.specs.Commands.{PlainCommand, norm, init, add, rekey, get, history, log, check, stats, versions, export, import, cut, table, tablekeys, batch, demo, command_of}
+use Rattle.xarch_words.specs.Commands.{PlainCommand, norm, init, add, rekey, get, history, log, check, stats, versions, export, import, cut, join, table, tablekeys, batch, demo, command_of}
 use Rattle.xarch_words.specs.Refusal.{Refusal, usage}
 use Rattle.xarch_meanings.specs.Add.{AddIs}
 use Rattle.xarch_meanings.specs.Check.{CheckIs}
@@ -12,6 +12,7 @@ use Rattle.xarch_meanings.specs.Get.{GetIs}
 use Rattle.xarch_meanings.specs.History.{HistoryIs}
 use Rattle.xarch_meanings.specs.Import.{ImportIs}
 use Rattle.xarch_meanings.specs.Init.{InitIs}
+use Rattle.xarch_meanings.specs.Join.{JoinIs}
 use Rattle.xarch_meanings.specs.Log.{LogIs}
 use Rattle.xarch_meanings.specs.Norm.{norm_of}
 use Rattle.xarch_meanings.specs.Rekey.{RekeyIs}
@@ -20,7 +21,7 @@ use Rattle.xarch_meanings.specs.Stats.{StatsIs}
 use Rattle.xarch_meanings.specs.Table.{keys_tabled, tabled}
 use Rattle.xarch_meanings.specs.Versions.{VersionsIs}
 
--- What a command does to these files. It is defined where the archive that it names is absent or sound, and `check` always.
+-- What a command does to these files. It is defined where each archive that it names is absent or sound, and `check` always.
 unfoldable pub OutcomeIs : Files → PlainCommand → Result Outcome Refusal → Type 0
 OutcomeIs files (norm spec doc) r = r ≡ norm_of files spec doc
 OutcomeIs files (init archive spec) r = InitIs files archive spec r
@@ -35,6 +36,7 @@ OutcomeIs files (versions archive) r = VersionsIs files archive r
 OutcomeIs files (export archive) r = ExportIs files archive r
 OutcomeIs files (import text new) r = ImportIs files text new r
 OutcomeIs files (cut archive new i j) r = CutIs files archive new i j r
+OutcomeIs files (join one two new) r = JoinIs files one two new r
 OutcomeIs files (table csv tag keys doc) r = r ≡ tabled files csv tag keys doc
 OutcomeIs files (tablekeys tag keys spec) r = r ≡ keys_tabled files tag keys spec
 OutcomeIs files batch r = r ≡ Err usage

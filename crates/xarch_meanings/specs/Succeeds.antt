@@ -10,7 +10,7 @@ use Rattle.archive_text.specs.Export.{ExportOf}
 use Rattle.noted_file.specs.Full.{FullAs}
 use Rattle.record_format.specs.Files.{FileOf}
 use Rattle.xarch_gen.specs.Company.{company_rules}
-use Rattle.xarch_words.specs.Commands.{PlainCommand, norm, init, add, rekey, get, history, log, check, stats, versions, export, import, cut, table, tablekeys, batch, demo}
+use Rattle.xarch_words.specs.Commands.{PlainCommand, norm, init, add, rekey, get, history, log, check, stats, versions, export, import, cut, join, table, tablekeys, batch, demo}
 use Rattle.xarch_words.specs.Refusal.{Refusal}
 use Rattle.xarch_meanings.specs.Add.{added}
 use Rattle.xarch_parts.specs.Archives.{ArchiveIs, short_note}
@@ -19,6 +19,7 @@ use Rattle.xarch_meanings.specs.Demo.{demo_input, samples}
 use Rattle.xarch_meanings.specs.History.{labels_of}
 use Rattle.xarch_meanings.specs.Import.{import_text}
 use Rattle.xarch_meanings.specs.Init.{init_rules}
+use Rattle.xarch_meanings.specs.Join.{join_checked}
 use Rattle.xarch_meanings.specs.Log.{frontier_of}
 use Rattle.xarch_meanings.specs.Norm.{norm_of}
 use Rattle.xarch_meanings.specs.Rekey.{rekey_rules}
@@ -101,6 +102,20 @@ pub record CanCut (files : Files) (name new : List ℕ) (i j : ℕ) : Type 0 whe
   pub free : cut_checked files new i j (length versions) ≡ Ok tt
   pub file : FileOf rules (items i j versions) bytes
 
+-- both archives are sound, the new name is free, they have one specification, there is room for the versions of both, and these have a file
+pub record CanJoin (files : Files) (one two new : List ℕ) : Type 0 where
+  pub rules : List PlainRule
+  pub versions : List PlainKeyed
+  pub notes : List (List ℕ)
+  pub others : List PlainRule
+  pub behind : List PlainKeyed
+  pub more : List (List ℕ)
+  pub bytes : List ℕ
+  pub first : ArchiveIs files one rules versions notes
+  pub second : ArchiveIs files two others behind more
+  pub free : join_checked files one two new rules (length versions) others (length behind) ≡ Ok tt
+  pub file : FileOf rules (versions ++ behind) bytes
+
 -- the archive is sound
 pub record HasArchive (files : Files) (name : List ℕ) : Type 0 where
   pub rules : List PlainRule
@@ -140,6 +155,7 @@ ShouldSucceed files (versions name) = HasArchive files name
 ShouldSucceed files (export name) = HasArchive files name
 ShouldSucceed files (import text new) = CanImport files text new
 ShouldSucceed files (cut name new i j) = CanCut files name new i j
+ShouldSucceed files (join one two new) = CanJoin files one two new
 ShouldSucceed files (table csv tag keys doc) = HasValue (tabled files csv tag keys doc)
 ShouldSucceed files (tablekeys tag keys spec) = HasValue (keys_tabled files tag keys spec)
 ShouldSucceed files batch = ⊥

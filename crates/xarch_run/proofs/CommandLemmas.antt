@@ -5,7 +5,7 @@ use Rattle.xa_outside.specs.Causes.{Rose}
 use Rattle.xa_outside.specs.Folder.{Files}
 use Rattle.xa_outside.specs.Numbers.{Numbers}
 use Rattle.xa_outside.specs.Taken.{Taken}
-use Rattle.xarch_words.specs.Commands.{PlainCommand, norm, init, add, rekey, get, history, log, check, stats, versions, export, import, cut, table, tablekeys, batch, demo}
+use Rattle.xarch_words.specs.Commands.{PlainCommand, norm, init, add, rekey, get, history, log, check, stats, versions, export, import, cut, join, table, tablekeys, batch, demo}
 use Rattle.xarch_words.specs.Refusal.{folder_fault, out_fault, in_fault, memory}
 use Rattle.xarch_parts.specs.Outcome.{Step}
 use Rattle.xarch_meanings.specs.FillsUp.{FillsUp}
@@ -32,6 +32,7 @@ alone-reads (Some (versions archive)) h = h
 alone-reads (Some (export archive)) h = h
 alone-reads (Some (import text new)) h = absurd h
 alone-reads (Some (cut archive new i j)) h = absurd h
+alone-reads (Some (join one two new)) h = absurd h
 alone-reads (Some (table csv tag keys doc)) h = absurd h
 alone-reads (Some (tablekeys tag keys spec)) h = absurd h
 alone-reads (Some batch) h = absurd h
@@ -53,6 +54,7 @@ alone-said P of (Some (versions archive)) h = h
 alone-said P of (Some (export archive)) h = h
 alone-said P of (Some (import text new)) h = h
 alone-said P of (Some (cut archive new i j)) h = h
+alone-said P of (Some (join one two new)) h = h
 alone-said P of (Some (table csv tag keys doc)) h = h
 alone-said P of (Some (tablekeys tag keys spec)) h = h
 alone-said P of (Some batch) h = of
@@ -76,6 +78,7 @@ alone-late (Some (versions archive)) answer late = late
 alone-late (Some (export archive)) answer late = absurd late
 alone-late (Some (import text new)) answer late = absurd late
 alone-late (Some (cut archive new i j)) answer late = absurd late
+alone-late (Some (join one two new)) answer late = absurd late
 alone-late (Some (table csv tag keys doc)) answer late = absurd late
 alone-late (Some (tablekeys tag keys spec)) answer late = absurd late
 alone-late (Some batch) answer late = absurd late
@@ -115,6 +118,7 @@ none-alone (Some (versions archive)) e other = absurd cc
 none-alone (Some (export archive)) e other = absurd cc
 none-alone (Some (import text new)) e other = absurd cc
 none-alone (Some (cut archive new i j)) e other = absurd cc
+none-alone (Some (join one two new)) e other = absurd cc
 none-alone (Some (table csv tag keys doc)) e other = absurd cc
 none-alone (Some (tablekeys tag keys spec)) e other = absurd cc
 none-alone (Some batch) e other = absurd (other refl)

@@ -15,7 +15,7 @@ use Rattle.archive_rekey.specs.Rekeyed.{AreRekeyed, IsFirstBad}
 use Rattle.archive_text.specs.Export.{ExportOf}
 use Rattle.key_rules.specs.Faults.{PlainKeyFault}
 use Rattle.xarch_gen.specs.Company.{company_rules}
-use Rattle.xarch_words.specs.Commands.{PlainCommand, norm, init, add, rekey, get, history, log, check, stats, versions, export, import, cut, table, tablekeys, batch, demo, key_names}
+use Rattle.xarch_words.specs.Commands.{PlainCommand, norm, init, add, rekey, get, history, log, check, stats, versions, export, import, cut, join, table, tablekeys, batch, demo, key_names}
 use Rattle.xarch_words.specs.Refusal.{specification, Refusal, bad_text, exists, no_file}
 use Rattle.xarch_words.specs.Refusal as refusal
 use Rattle.xarch_meanings.specs.Add.{AddsTo, added}
@@ -27,10 +27,11 @@ use Rattle.xarch_meanings.specs.Get.{version_text}
 use Rattle.xarch_meanings.specs.History.{history_text}
 use Rattle.xarch_meanings.specs.Import.{ImportsFrom, import_text}
 use Rattle.xarch_meanings.specs.Init.{init_rules}
+use Rattle.xarch_meanings.specs.Join.{JoinsFrom, join_checked}
 use Rattle.xarch_meanings.specs.Log.{logged}
 use Rattle.xarch_parts.specs.Inputs.{at_most, length_in, read_in}
 use Rattle.xarch_parts.specs.Outcome.{Outcome, Step, or_refuse, step_from}
-use Rattle.xarch_meanings.specs.Plausible.{DamagedOrSound, MayAdd, MayBe, MayMake, MayOver, add_input, cut_input, step_behind}
+use Rattle.xarch_meanings.specs.Plausible.{DamagedOrSound, MayAdd, MayBe, MayJoin, MayMake, MayOver, add_input, cut_input, join_input, step_behind}
 use Rattle.xarch_meanings.specs.Rekey.{RekeysTo, rekey_rules}
 use Rattle.xarch_meanings.specs.PlausibleLaws.{late-unlisted, late-unlogged, late-unsound, no-late, plain-step}
 use Rattle.xarch_parts.specs.Readings.{rules_of}
@@ -38,9 +39,9 @@ use Rattle.xarch_meanings.specs.Succeeds.{HasArchive, ShouldSucceed}
 use Rattle.xarch_meanings.specs.Table.{short_rules, table_input}
 use Rattle.xarch_meanings.specs.Versions.{listed}
 use Rattle.xarch_run.specs.Calls.{CommandMay, CommandsDid}
-use Rattle.xarch_run.specs.Held.{Accepted, AddsDoc, BeginsWith, Begun, ChangesKeys, ChangesOrTells, CutsOrTells, GoesOver, HandedIn, Held, HeldAfter, HeldBy, Holds, HoldsBehind, HoldsExactly, IsHandedIn, IsRekeyed, MakesArchive, MakesFile, NoneMakes, RefusalsKeep, TakesKeys, WritesCounts, WritesText, cut_held, with_keyed}
+use Rattle.xarch_run.specs.Held.{Accepted, AddsDoc, BeginsWith, Begun, ChangesKeys, ChangesOrTells, CutsOrTells, GoesOver, HandedIn, Held, HeldAfter, HeldBy, Holds, HoldsBehind, HoldsExactly, IsHandedIn, IsRekeyed, JoinsOrTells, MakesArchive, MakesFile, NoneMakes, RefusalsKeep, TakesKeys, WritesCounts, WritesText, cut_held, joined_held, with_keyed}
 use Rattle.xarch_run.specs.Steps.{files_after}
-use Rattle.xarch_run.proofs.OneFile.{archive-moves, chained, cut-taken, ends-refused, goes, import-taken, init-spelled, init-taken, is_for, made-is, never, other-name, others-kept, same-name, stored-is, table-taken, taken}
+use Rattle.xarch_run.proofs.OneFile.{archive-moves, chained, cut-taken, ends-refused, goes, import-taken, init-spelled, init-taken, is_for, join-taken, made-is, never, other-name, others-kept, same-name, stored-is, table-taken, taken}
 use Rattle.xarch_run.proofs.Statuses.{status-other}
 
 by-name : (b : Bool) {P : Type 0} → (b ≡ true → P) → (b ≡ false → P) → P
@@ -158,6 +159,12 @@ module _ (files : Files) (name : List ℕ) (h : Held) (a : Holds files name h) w
       let taken-here = subst (λ n. finite.get files n ≡ Some a.bytes) (same-name name new e) a.there in
       goes o (cut_input files other new i j) (λ _. MayMake files other new) (Ok o) refl m.whatever (λ p is _. cut-taken files other new a.bytes i j p taken-here is)
 
+  join-here : (o : Outcome) (one two new : List ℕ) → bytes_eq name new ≡ true → MayBe files (join one two new) (Ok o) → Holds o.files name h
+  unfolding MayBe
+  join-here o one two new e m =
+      let taken-here = subst (λ n. finite.get files n ≡ Some a.bytes) (same-name name new e) a.there in
+      goes o (join_input files one two new) (λ _. MayJoin files one two new) (Ok o) refl m.whatever (λ p is _. join-taken files one two new a.bytes p taken-here is)
+
   import-here : (o : Outcome) (text new : List ℕ) → bytes_eq name new ≡ true → MayBe files (import text new) (Ok o) → Holds o.files name h
   unfolding MayBe
   import-here o text new e m =
@@ -196,6 +203,8 @@ module _ (files : Files) (name : List ℕ) (h : Held) (a : Holds files name h) w
       record { held = h; first = refl; archive = by-name (bytes_eq name new) (λ e. import-here o text new e m) (λ e. unchanged o (import text new) e m) }
   done-goes o (cut other new i j) m =
       record { held = h; first = refl; archive = by-name (bytes_eq name new) (λ e. cut-here o other new i j e m) (λ e. unchanged o (cut other new i j) e m) }
+  done-goes o (join first two new) m =
+      record { held = h; first = refl; archive = by-name (bytes_eq name new) (λ e. join-here o first two new e m) (λ e. unchanged o (join first two new) e m) }
   done-goes o (table csv tag keys doc) m =
       record { held = h; first = refl; archive = by-name (bytes_eq name doc) (λ e. table-here o csv tag keys doc e m) (λ e. unchanged o (table csv tag keys doc) e m) }
   done-goes o (tablekeys tag keys spec) m =
@@ -226,6 +235,7 @@ module _ (files : Files) (name : List ℕ) (h : Held) (a : Holds files name h) w
   refused-goes one q (export other) m = record { held = h; first = refl; archive = a }
   refused-goes one q (import text new) m = record { held = h; first = refl; archive = a }
   refused-goes one q (cut other new i j) m = record { held = h; first = refl; archive = a }
+  refused-goes one q (join first two new) m = record { held = h; first = refl; archive = a }
   refused-goes one q (table csv tag keys doc) m = record { held = h; first = refl; archive = a }
   refused-goes one q (tablekeys tag keys spec) m = record { held = h; first = refl; archive = a }
   refused-goes one q batch m = record { held = h; first = refl; archive = a }
@@ -304,6 +314,7 @@ one-by one files name (Some (versions other)) h i j p q = p ∙ sym q
 one-by one files name (Some (export other)) h i j p q = p ∙ sym q
 one-by one files name (Some (import text new)) h i j p q = p ∙ sym q
 one-by one files name (Some (cut other new first last)) h i j p q = p ∙ sym q
+one-by one files name (Some (join first two new)) h i j p q = p ∙ sym q
 one-by one files name (Some (table csv tag keys doc)) h i j p q = p ∙ sym q
 one-by one files name (Some (tablekeys tag keys spec)) h i j p q = p ∙ sym q
 one-by one files name (Some batch) h i j p q = p ∙ sym q
@@ -386,6 +397,21 @@ cut-begins files name other new i j o same has m =
       archive = subst (λ n. ArchiveIs o.files n has.rules (items i j has.versions) (noted_items i j has.notes)) (sym same) (stored-is files o new has.rules (items i j has.versions) (noted_items i j has.notes) s);
     })
 
+-- the versions of two sound archives, with their notes
+join-begins : (files : Files) (name one two new : List ℕ) (o : Outcome) → name ≡ new → HasArchive files one × HasArchive files two → MayBe files (join one two new) (Ok o) → Begun files name (Some (join one two new)) o.files
+unfolding MayBe
+join-begins files name one two new o same has m =
+    let h : HasArchive files one = has.0 in
+    let g : HasArchive files two = has.1 in
+    let first : Held = record { rules = h.rules; versions = h.versions; notes = h.notes } in
+    let second : Held = record { rules = g.rules; versions = g.versions; notes = g.notes } in
+    let comes : JoinsFrom files one two new h.rules h.versions h.notes g.rules g.versions g.notes (Ok o) = m.sound h.rules h.versions h.notes g.rules g.versions g.notes h.archive g.archive in
+    goes o (join_checked files one two new h.rules (length h.versions) g.rules (length g.versions)) (λ _. Stores files new h.rules (h.versions ++ g.versions) (h.notes ++ g.notes)) (Ok o) refl comes (λ _ _ s. record {
+      held = joined_held first second;
+      begins = (same, record { first = first; second = second; from = h.archive; behind = g.archive; is = refl });
+      archive = subst (λ n. ArchiveIs o.files n h.rules (h.versions ++ g.versions) (h.notes ++ g.notes)) (sym same) (stored-is files o new h.rules (h.versions ++ g.versions) (h.notes ++ g.notes) s);
+    })
+
 -- the bytes of the text
 text-there : (o : Option (List ℕ)) (q : Refusal) (bytes : List ℕ) → or_refuse o q ≡ Ok bytes → o ≡ Some bytes
 text-there (Some x) q bytes e = cc
@@ -422,6 +448,7 @@ command-begins noted files name (versions other) o makes over m = absurd makes
 command-begins noted files name (export other) o makes over m = absurd makes
 command-begins noted files name (import text new) o makes over m = import-begins files name text new o makes m
 command-begins noted files name (cut other new i j) o makes over m = cut-begins files name other new i j o makes over m
+command-begins noted files name (join one two new) o makes over m = join-begins files name one two new o makes over m
 command-begins noted files name (table csv tag keys doc) o makes over m = absurd makes
 command-begins noted files name (tablekeys tag keys spec) o makes over m = absurd makes
 command-begins noted files name batch o makes over m = absurd makes
@@ -452,6 +479,7 @@ begins-makes files name (Some (versions other)) h b = b
 begins-makes files name (Some (export other)) h b = b
 begins-makes files name (Some (import text new)) h b = b.0
 begins-makes files name (Some (cut other new i j)) h b = b.0
+begins-makes files name (Some (join one two new)) h b = b.0
 begins-makes files name (Some (table csv tag keys doc)) h b = b
 begins-makes files name (Some (tablekeys tag keys spec)) h b = b
 begins-makes files name (Some batch) h b = b
@@ -473,6 +501,10 @@ begins-over files name (Some (versions other)) h b = tt
 begins-over files name (Some (export other)) h b = tt
 begins-over files name (Some (import text new)) h b = tt
 begins-over files name (Some (cut other new i j)) h b = record { rules = b.1.whole.rules; versions = b.1.whole.versions; notes = b.1.whole.notes; archive = b.1.from }
+begins-over files name (Some (join one two new)) h b = (
+  record { rules = b.1.first.rules; versions = b.1.first.versions; notes = b.1.first.notes; archive = b.1.from },
+  record { rules = b.1.second.rules; versions = b.1.second.versions; notes = b.1.second.notes; archive = b.1.behind },
+)
 begins-over files name (Some (table csv tag keys doc)) h b = tt
 begins-over files name (Some (tablekeys tag keys spec)) h b = tt
 begins-over files name (Some batch) h b = tt
@@ -506,6 +538,11 @@ same-beginning reading texts files name (Some (import text new)) h g b c =
 same-beginning reading texts files name (Some (cut other new i j)) h g b c =
     let whole : b.1.whole ≡ c.1.whole = one-held reading files other b.1.whole c.1.whole b.1.from c.1.from in
     let same : h ≡ g = b.1.is ∙ ap (cut_held i j) whole ∙ sym c.1.is in
+    (ap (λ (z : Held). z.rules) same, ap (λ (z : Held). z.versions) same, ap (λ (z : Held). z.notes) same)
+same-beginning reading texts files name (Some (join one two new)) h g b c =
+    let first : b.1.first ≡ c.1.first = one-held reading files one b.1.first c.1.first b.1.from c.1.from in
+    let second : b.1.second ≡ c.1.second = one-held reading files two b.1.second c.1.second b.1.behind c.1.behind in
+    let same : h ≡ g = b.1.is ∙ ap (λ (z : Held). joined_held z b.1.second) first ∙ ap (joined_held c.1.first) second ∙ sym c.1.is in
     (ap (λ (z : Held). z.rules) same, ap (λ (z : Held). z.versions) same, ap (λ (z : Held). z.notes) same)
 same-beginning reading texts files name (Some (table csv tag keys doc)) h g b c = absurd b
 same-beginning reading texts files name (Some (tablekeys tag keys spec)) h g b c = absurd b
@@ -582,6 +619,7 @@ module _ (files : Files) (name : List ℕ) (none : finite.get files name ≡ Non
   one-absent (export other) refused m = stays (others-kept files name o (Ok o) refl (export other) refl m)
   one-absent (import text new) refused m = by-name (bytes_eq name new) (λ e. absurd (refused (same-name name new e))) (λ e. stays (others-kept files name o (Ok o) refl (import text new) e m))
   one-absent (cut other new i j) refused m = by-name (bytes_eq name new) (λ e. absurd (refused (same-name name new e))) (λ e. stays (others-kept files name o (Ok o) refl (cut other new i j) e m))
+  one-absent (join one two new) refused m = by-name (bytes_eq name new) (λ e. absurd (refused (same-name name new e))) (λ e. stays (others-kept files name o (Ok o) refl (join one two new) e m))
   one-absent (table csv tag keys doc) refused m = by-name (bytes_eq name doc) (λ e. absurd (refused (same-name name doc e))) (λ e. stays (others-kept files name o (Ok o) refl (table csv tag keys doc) e m))
   one-absent (tablekeys tag keys spec) refused m = by-name (bytes_eq name spec) (λ e. absurd (refused (same-name name spec e))) (λ e. stays (others-kept files name o (Ok o) refl (tablekeys tag keys spec) e m))
   one-absent batch refused m = stays (others-kept files name o (Ok o) refl batch refl m)
@@ -657,6 +695,10 @@ module _ (files : Files) (name : List ℕ) (h : Held) (s : Step) (a : Holds file
   pub cutting : (new : List ℕ) (i j : ℕ) → CommandMay files (Some (cut name new i j)) s → CutsOrTells files new i j h s
   unfolding MayBe
   cutting new i j m = record { outcome = m.outcome; comes = m.may.sound h.rules h.versions h.notes a; is = plain-step files (Some (cut name new i j)) s m (no-late files (Some (cut name new i j)) m.outcome (λ q late. late)) }
+
+  pub joining : (two new : List ℕ) (g : Held) → Holds files two g → CommandMay files (Some (join name two new)) s → JoinsOrTells files name two new h g s
+  unfolding MayBe
+  joining two new g b m = record { outcome = m.outcome; comes = m.may.sound h.rules h.versions h.notes g.rules g.versions g.notes a b; is = plain-step files (Some (join name two new)) s m (no-late files (Some (join name two new)) m.outcome (λ q late. late)) }
 
   pub counting : CommandMay files (Some (stats name)) s → WritesCounts files h s
   unfolding MayBe

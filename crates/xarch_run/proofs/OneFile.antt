@@ -13,7 +13,7 @@ use Rattle.key_spec.specs.Canonical.{canonical}
 use Rattle.csv_tables.specs.Data.{PlainTable}
 use Rattle.keyed_tree.specs.Data.{PlainKeyed}
 use Rattle.xarch_gen.specs.Company.{company_rules}
-use Rattle.xarch_words.specs.Commands.{PlainCommand, norm, init, add, rekey, get, history, log, check, stats, versions, export, import, cut, table, tablekeys, batch, demo, key_names}
+use Rattle.xarch_words.specs.Commands.{PlainCommand, norm, init, add, rekey, get, history, log, check, stats, versions, export, import, cut, join, table, tablekeys, batch, demo, key_names}
 use Rattle.xarch_words.specs.Refusal.{document, specification, Refusal, usage, no_file, exists, bad_text, key_fault_in, damaged, limit}
 use Rattle.xarch_words.specs.Refusal as refusal
 use Rattle.archive_file.specs.Sound.{SoundAs}
@@ -31,7 +31,7 @@ use Rattle.xarch_meanings.specs.Cut.{are_versions}
 use Rattle.xarch_meanings.specs.Norm.{norm_of}
 use Rattle.xarch_parts.specs.Outcome.{Outcome, and_then, or_refuse}
 use Rattle.xarch_meanings.specs.Rekey.{RekeysFrom, RekeysTo, rekey_rules}
-use Rattle.xarch_meanings.specs.Plausible.{DamagedOrSound, MayAdd, MayBe, MayMake, MayOver, MayWrite, add_input, cut_input, get_input, history_input, log_input, stats_input, versions_input}
+use Rattle.xarch_meanings.specs.Plausible.{DamagedOrSound, MayAdd, MayBe, MayJoin, MayMake, MayOver, MayWrite, add_input, cut_input, get_input, history_input, join_input, log_input, stats_input, versions_input}
 use Rattle.xarch_meanings.specs.Ran.{made_name}
 use Rattle.xarch_parts.specs.Readings.{document_of, front_in, keyed_of, rules_of}
 
@@ -116,6 +116,10 @@ module _ (files : Files) (name : List ℕ) (o : Outcome) where
     make-elsewhere other new e (inr (inl q)) = never o (limit refusal.archive 274877906944) r is q
     make-elsewhere other new e (inr (inr w)) = stored-elsewhere new w.bytes [] e w.is
 
+    join-elsewhere : (one two new : List ℕ) → bytes_eq name new ≡ false → MayJoin files one two new r → Keeps
+    join-elsewhere one two new e (inl q) = never o (damaged one) r is q
+    join-elsewhere one two new e (inr m) = make-elsewhere two new e m
+
     -- a file that comes of a table
     kept-elsewhere : {A : Type 0} (other : List ℕ) (x : Result A Refusal) (f : A → List ℕ) → bytes_eq name other ≡ false → r ≡ and_then x (λ a. Ok (kept_as files other (f a))) → Keeps
     kept-elsewhere other (Ok a) f e h = stored-elsewhere other (f a) [] e h
@@ -174,6 +178,7 @@ module _ (files : Files) (name : List ℕ) (o : Outcome) where
     others-kept (export other) e h = goes o (stats_input files other) (λ _. DamagedOrSound files other) r is h.whatever (λ _ _ m. export-keeps other h.sound m)
     others-kept (import text new) e h = goes o (import_text files text new) (ImportsFrom files new) r is h (λ bytes _ m. imports-elsewhere new bytes e m)
     others-kept (cut other new i j) e h = goes o (cut_input files other new i j) (λ _. MayMake files other new) r is h.whatever (λ _ _ m. make-elsewhere other new e m)
+    others-kept (join one two new) e h = goes o (join_input files one two new) (λ _. MayJoin files one two new) r is h.whatever (λ _ _ m. join-elsewhere one two new e m)
     others-kept (table csv tag keys doc) e h = table-elsewhere csv tag keys doc e h
     others-kept (tablekeys tag keys spec) e h = keys-elsewhere tag keys spec e h
     others-kept batch e h = never o usage r is h
@@ -215,6 +220,12 @@ table-taken files csv doc bytes t e f =
 pub chained : {X A B : Type 0} (x : Result A Refusal) (f : A → Result B Refusal) (b : B) → and_then x f ≡ Ok b → ((a : A) → x ≡ Ok a → f a ≡ Ok b → X) → X
 chained (Ok a) f b e g = g a refl e
 chained (Err q) f b e g = absurd cc
+
+pub join-taken : {X : Type 0} (files : Files) (one two new bytes : List ℕ) (h : (List PlainRule × ℕ) × (List PlainRule × ℕ)) → finite.get files new ≡ Some bytes → join_input files one two new ≡ Ok h → X
+join-taken files one two new bytes h e f =
+    chained (file_length files one) _ h f (λ _ _ g.
+    chained (file_length files two) _ h g (λ _ _ k.
+    chained (free_in files new) _ h k (λ u is _. let no : ◌≡◌ {A = Result Unit Refusal} (Err (exists new)) (Ok u) = sym (taken files new bytes e) ∙ is in absurd cc)))
 
 -- the rules of a new archive are those of its specification
 pub init-spelled : (x : Result Unit Refusal) (y : Result ℕ Refusal) (z : Result (List PlainRule) Refusal) (rules : List PlainRule) → and_then x (λ _. and_then y (λ _. z)) ≡ Ok rules → z ≡ Ok rules

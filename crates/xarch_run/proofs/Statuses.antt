@@ -2,7 +2,7 @@
 use Rattle.std.proofs.Common.{◌≡◌, ◌≢◌, ◌⊎◌, inl, inr, ℕ, List, ◌==◌, ◌≤◌, Bool, true, false, cond, None, Some, refl, ap, arith}
 use Rattle.std.proofs.lemmas.Bool.{eqb-true}
 use Rattle.xarch_words.specs.Lines.{refusal_status}
-use Rattle.xarch_words.specs.Refusal.{Refusal, usage, no_file, exists, bad_spec, bad_json, bad_shape, key_fault, key_fault_in, no_version, bad_path, damaged, limit, not_frontier, bad_csv, bad_text, folder_fault, out_fault, in_fault, memory}
+use Rattle.xarch_words.specs.Refusal.{Refusal, usage, no_file, exists, bad_spec, bad_json, bad_shape, key_fault, key_fault_in, no_version, bad_path, damaged, limit, not_frontier, spec_differs, bad_csv, bad_text, folder_fault, out_fault, in_fault, memory}
 use Rattle.xarch_meanings.specs.Ran.{outside_of}
 
 -- words that are no command have the status 2, and every other refusal a greater one
@@ -20,6 +20,7 @@ by-status (bad_path s) = inr (omega arith)
 by-status (damaged n) = inr (omega arith)
 by-status (limit q n) = inr (omega arith)
 by-status not_frontier = inr (omega arith)
+by-status (spec_differs one two) = inr (omega arith)
 by-status (bad_csv r w) = inr (omega arith)
 by-status bad_text = inr (omega arith)
 
@@ -38,6 +39,7 @@ beside (bad_path s) = inl (omega arith)
 beside (damaged n) = inl (omega arith)
 beside (limit q n) = inl (omega arith)
 beside not_frontier = inr (omega arith)
+beside (spec_differs one two) = inr (omega arith)
 beside (bad_csv r w) = inr (omega arith)
 beside bad_text = inr (omega arith)
 
@@ -65,6 +67,7 @@ damage-only (bad_path t) e = absurd (omega (arith, e))
 damage-only (damaged name) e = (name, refl)
 damage-only (limit q n) e = absurd (omega (arith, e))
 damage-only not_frontier e = absurd (omega (arith, e))
+damage-only (spec_differs one two) e = absurd (omega (arith, e))
 damage-only (bad_csv r w) e = absurd (omega (arith, e))
 damage-only bad_text e = absurd (omega (arith, e))
 

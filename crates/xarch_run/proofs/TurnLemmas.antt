@@ -9,7 +9,7 @@ use Rattle.xa_outside.specs.CauseLaws.{Rose-later}
 use Rattle.xa_outside.specs.Folder.{Files}
 use Rattle.xa_outside.specs.Taken.{Taken, Takes, TakesNone, TakesPrefix}
 use Rattle.xa_outside.specs.TakenLaws.{Takes-nil, Takes-kept, Takes-trans, TakesPrefix-all}
-use Rattle.xarch_words.specs.Commands.{PlainCommand, norm, init, add, rekey, get, history, log, check, stats, versions, export, import, cut, table, tablekeys, batch, demo}
+use Rattle.xarch_words.specs.Commands.{PlainCommand, norm, init, add, rekey, get, history, log, check, stats, versions, export, import, cut, join, table, tablekeys, batch, demo}
 use Rattle.xarch_words.specs.Lines.{fault_line, fault_status, refusal_status}
 use Rattle.xarch_words.specs.Refusal as refusal
 use Rattle.xarch_words.specs.Refusal.{Refusal, usage, damaged, line, limit, PlainFault, refused, folder_fault, out_fault, in_fault, memory}
@@ -147,6 +147,7 @@ long-refused files (Some (versions archive)) r long may = absurd long
 long-refused files (Some (export archive)) r long may = absurd long
 long-refused files (Some (import text new)) r long may = absurd long
 long-refused files (Some (cut archive new i j)) r long may = absurd long
+long-refused files (Some (join one two new)) r long may = absurd long
 long-refused files (Some (table csv tag keys doc)) r long may = absurd long
 long-refused files (Some (tablekeys tag keys spec)) r long may = absurd long
 long-refused files (Some batch) r long may = absurd long
@@ -171,6 +172,7 @@ long-or-not (Some (versions archive)) = inr (λ long. long)
 long-or-not (Some (export archive)) = inr (λ long. long)
 long-or-not (Some (import text new)) = inr (λ long. long)
 long-or-not (Some (cut archive new i j)) = inr (λ long. long)
+long-or-not (Some (join one two new)) = inr (λ long. long)
 long-or-not (Some (table csv tag keys doc)) = inr (λ long. long)
 long-or-not (Some (tablekeys tag keys spec)) = inr (λ long. long)
 long-or-not (Some batch) = inr (λ long. long)
@@ -211,6 +213,7 @@ late-status (Some (versions archive)) answer late = late
 late-status (Some (export archive)) answer late = absurd late
 late-status (Some (import text new)) answer late = absurd late
 late-status (Some (cut archive new i j)) answer late = absurd late
+late-status (Some (join one two new)) answer late = absurd late
 late-status (Some (table csv tag keys doc)) answer late = absurd late
 late-status (Some (tablekeys tag keys spec)) answer late = absurd late
 late-status (Some batch) answer late = absurd late
@@ -238,6 +241,7 @@ late-or-not (Some (versions archive)) answer = eleven-or-not answer
 late-or-not (Some (export archive)) answer = inr (λ late. late)
 late-or-not (Some (import text new)) answer = inr (λ late. late)
 late-or-not (Some (cut archive new i j)) answer = inr (λ late. late)
+late-or-not (Some (join one two new)) answer = inr (λ late. late)
 late-or-not (Some (table csv tag keys doc)) answer = inr (λ late. late)
 late-or-not (Some (tablekeys tag keys spec)) answer = inr (λ late. late)
 late-or-not (Some batch) answer = inr (λ late. late)
@@ -257,6 +261,7 @@ late-short (versions archive) X late long = absurd long
 late-short (export archive) X late long = absurd late
 late-short (import text new) X late long = absurd late
 late-short (cut archive new i j) X late long = absurd late
+late-short (join one two new) X late long = absurd late
 late-short (table csv tag keys doc) X late long = absurd late
 late-short (tablekeys tag keys spec) X late long = absurd late
 late-short batch X late long = absurd late
@@ -312,6 +317,7 @@ long-alone (Some (versions archive)) answer judged h = absurd h
 long-alone (Some (export archive)) answer judged h = absurd h
 long-alone (Some (import text new)) answer judged h = absurd h
 long-alone (Some (cut archive new i j)) answer judged h = absurd h
+long-alone (Some (join one two new)) answer judged h = absurd h
 long-alone (Some (table csv tag keys doc)) answer judged h = absurd h
 long-alone (Some (tablekeys tag keys spec)) answer judged h = absurd h
 long-alone (Some batch) answer judged h = absurd h

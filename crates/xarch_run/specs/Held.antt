@@ -10,7 +10,7 @@ use Rattle.archive_cut.specs.Sliced.{items}
 use Rattle.archive_rekey.specs.Rekeyed.{AreRekeyed}
 use Rattle.archive_text.specs.Export.{ExportOf}
 use Rattle.xarch_gen.specs.Company.{company_rules}
-use Rattle.xarch_words.specs.Commands.{PlainCommand, init, add, rekey, import, cut, table, tablekeys, demo}
+use Rattle.xarch_words.specs.Commands.{PlainCommand, init, add, rekey, import, cut, join, table, tablekeys, demo}
 use Rattle.xarch_words.specs.Refusal.{Refusal}
 use Rattle.xarch_meanings.specs.Add.{added}
 use Rattle.xarch_parts.specs.Archives.{ArchiveIs, short_note}
@@ -18,6 +18,7 @@ use Rattle.xarch_meanings.specs.Cut.{CutsFrom, noted_items}
 use Rattle.xarch_meanings.specs.Demo.{samples}
 use Rattle.xarch_meanings.specs.Export.{ExportsFrom}
 use Rattle.xarch_meanings.specs.Import.{ImportIs}
+use Rattle.xarch_meanings.specs.Join.{JoinsFrom}
 use Rattle.xarch_parts.specs.Inputs.{read_in}
 use Rattle.xarch_parts.specs.Outcome.{Outcome, Step, step_from}
 use Rattle.xarch_parts.specs.Readings.{rules_of}
@@ -55,6 +56,18 @@ pub record IsCutFrom (files : Files) (archive : List ℕ) (i j : ℕ) (h : Held)
   pub from : Holds files archive whole
   pub is : h ≡ cut_held i j whole
 
+-- what two archives hold, the one behind the other
+abbrev pub joined_held : Held → Held → Held
+joined_held h g = record { rules = h.rules; versions = h.versions ++ g.versions; notes = h.notes ++ g.notes }
+
+-- It is what the archives of these names hold, the second behind the first.
+pub record IsJoinedFrom (files : Files) (one two : List ℕ) (h : Held) : Type 0 where
+  pub first : Held
+  pub second : Held
+  pub from : Holds files one first
+  pub behind : Holds files two second
+  pub is : h ≡ joined_held first second
+
 -- The file of this name is the text of an archive with notes that holds this and has a file.
 pub record IsTextOf (files : Files) (text : List ℕ) (h : Held) : Type 0 where
   pub bytes : List ℕ
@@ -65,19 +78,21 @@ pub record IsTextOf (files : Files) (text : List ℕ) (h : Held) : Type 0 where
 
 -- The command makes the archive of this name, which then holds this: an `init` the rules of its specification and no
 -- versions, a `demo` the company rules and the generated documents, whose notes are empty, a `cut` some versions of what
--- another archive holds, with their notes, an `import` what its text is that of.
+-- another archive holds, with their notes, a `join` those of two others, with theirs, an `import` what its text is that of.
 abbrev pub BeginsWith : Files → List ℕ → Option PlainCommand → Held → Type 0
 BeginsWith files name (Some (init archive spec)) h = (name ≡ archive) × ((read_in files spec rules_of ≡ Ok h.rules) × (h.versions ≡ []) × (h.notes ≡ []))
 BeginsWith files name (Some (demo seed count archive)) h = (name ≡ archive) × (h ≡ record { rules = company_rules; versions = samples seed count; notes = replicate (length (samples seed count)) [] })
 BeginsWith files name (Some (cut archive new i j)) h = (name ≡ new) × IsCutFrom files archive i j h
+BeginsWith files name (Some (join one two new)) h = (name ≡ new) × IsJoinedFrom files one two h
 BeginsWith files name (Some (import text new)) h = (name ≡ new) × IsTextOf files text h
 BeginsWith files name _ h = ⊥
 
--- the command is an `init`, a `demo`, a `cut` or an `import` that makes the archive of this name
+-- the command is an `init`, a `demo`, a `cut`, a `join` or an `import` that makes the archive of this name
 abbrev pub MakesArchive : List ℕ → Option PlainCommand → Type 0
 MakesArchive name (Some (init archive spec)) = name ≡ archive
 MakesArchive name (Some (demo seed count archive)) = name ≡ archive
 MakesArchive name (Some (cut archive new i j)) = name ≡ new
+MakesArchive name (Some (join one two new)) = name ≡ new
 MakesArchive name (Some (import text new)) = name ≡ new
 MakesArchive name _ = ⊥
 
@@ -87,9 +102,10 @@ MakesFile name (Some (table csv tag keys doc)) = name ≡ doc
 MakesFile name (Some (tablekeys tag keys spec)) = name ≡ spec
 MakesFile name command = MakesArchive name command
 
--- the archive that a command makes another of is sound
+-- each archive that a command makes another of is sound
 abbrev pub GoesOver : Files → Option PlainCommand → Type 0
 GoesOver files (Some (cut archive new i j)) = HasArchive files archive
+GoesOver files (Some (join one two new)) = HasArchive files one × HasArchive files two
 GoesOver files other = ⊤
 
 -- the archive that the command made
@@ -243,6 +259,12 @@ pub record WritesText (files : Files) (h : Held) (s : Step) : Type 0 where
 pub record CutsOrTells (files : Files) (new : List ℕ) (i j : ℕ) (h : Held) (s : Step) : Type 0 where
   pub outcome : Result Outcome Refusal
   pub comes : CutsFrom files new i j h.rules h.versions h.notes outcome
+  pub is : s ≡ step_from files outcome
+
+-- The step is what comes of the versions of both, the second's behind the first's: their file under the new name, or why there is none.
+pub record JoinsOrTells (files : Files) (one two new : List ℕ) (h g : Held) (s : Step) : Type 0 where
+  pub outcome : Result Outcome Refusal
+  pub comes : JoinsFrom files one two new h.rules h.versions h.notes g.rules g.versions g.notes outcome
   pub is : s ≡ step_from files outcome
 
 -- The step is what comes of the text in this file: its archive under the new name, or why there is none.

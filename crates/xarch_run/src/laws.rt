@@ -9,7 +9,7 @@ ghost use Rattle.keyed_tree.specs.Data.{PlainKeyed};
 ghost use Rattle.keyed_tree.specs.Kids.{IsOrdered};
 ghost use Rattle.archive_tree.specs.Stands.{version_of};
 ghost use Rattle.archive_file.specs.KeyedBy.{IsKeyedBy};
-ghost use Rattle.xarch_words.specs.Commands.{AreForTable, PlainCommand, add, check, cut, export, get, history, import, key_names, log, rekey, stats, table, tablekeys, versions};
+ghost use Rattle.xarch_words.specs.Commands.{AreForTable, PlainCommand, add, check, cut, export, get, history, import, join, key_names, log, rekey, stats, table, tablekeys, versions};
 ghost use Rattle.xarch_meanings.specs.Check.{checked};
 ghost use Rattle.xarch_meanings.specs.Get.{version_text};
 ghost use Rattle.xarch_meanings.specs.History.{history_text};
@@ -21,7 +21,7 @@ ghost use Rattle.xarch_meanings.specs.Plausible.{Plausible};
 ghost use Rattle.xarch_meanings.specs.Step.{single_of};
 ghost use Rattle.xarch_meanings.specs.Succeeds.{ShouldSucceed};
 ghost use Rattle.xarch_run.specs.Calls.{Call, CallsDid, CommandMay, CommandsDid, CommandsLead};
-ghost use Rattle.xarch_run.specs.Held.{Accepted, Begun, ChangesOrTells, CutsOrTells, GoesOver, HandedIn, Held, Holds, HoldsBehind, HoldsExactly, ImportsOrTells, IsHandedIn, IsRekeyed, IsTextOf, MakesArchive, NoneMakes, RefusalsKeep, TakesKeys, TellsSoundness, WritesCounts, WritesText};
+ghost use Rattle.xarch_run.specs.Held.{Accepted, Begun, ChangesOrTells, CutsOrTells, GoesOver, HandedIn, Held, Holds, HoldsBehind, HoldsExactly, ImportsOrTells, IsHandedIn, IsRekeyed, IsTextOf, JoinsOrTells, MakesArchive, NoneMakes, RefusalsKeep, TakesKeys, TellsSoundness, WritesCounts, WritesText};
 ghost use Rattle.xarch_run.specs.Steps.{LineMay, files_after, line_command};
 ghost use Rattle.xarch_run.specs.Tabled.{HasDocument, HasKeys, IsForKeys};
 
@@ -34,8 +34,8 @@ use xarch_meanings::what_should_succeed_is_not_refused;
 /// After any list of commands, an archive's file is exactly the encoding of the handed-in documents
 /// that satisfied its keys, in order, and refused commands changed no file; `get` of a number
 /// writes that version with keyed siblings in key order; and `history` writes exactly the versions
-/// that hold the element. An archive that a `cut` or an `import` made goes on from the versions that
-/// it was given.
+/// that hold the element. An archive that a `cut`, a `join` or an `import` made goes on from the
+/// versions that it was given.
 ///
 /// The encoding is that of the versions, and behind it of their notes, where one is not empty.
 ///
@@ -53,9 +53,9 @@ pub fn archives_hold_what_was_handed_in()
         → CommandsDid files commands steps → HandedIn files name commands steps held
         → HoldsExactly (files_after files steps) name held }
 
-    // An `init`, a `demo`, an `import`, or a `cut` of a sound archive that was not refused made such
-    // an archive, and an archive that stands goes on from what it holds. A name that has no file gets
-    // one only by a command that makes a new file.
+    // An `init`, a `demo`, an `import`, a `cut` of a sound archive, or a `join` of two, that was not
+    // refused made such an archive, and an archive that stands goes on from what it holds. A name that
+    // has no file gets one only by a command that makes a new file.
     ensures made { (files : Files) (name : List ℕ) (command : Option PlainCommand) (s : Step)
         → CommandMay files command s → s.status ≡ 0 → MakesArchive name command
         → GoesOver files command → Begun files name command s.files }
@@ -128,6 +128,13 @@ pub fn archives_hold_what_was_handed_in()
     ensures cuts { (files : Files) (name new : List ℕ) (i j : ℕ) (held : Held) (s : Step)
         → Holds files name held → CommandMay files (Some (cut name new i j)) s
         → CutsOrTells files new i j held s }
+
+    // A `join` makes the archive of the versions of two archives, those of the second behind those of
+    // the first, with their notes, or tells why there is none.
+    ensures joins { (files : Files) (one two new : List ℕ) (first second : Held) (s : Step)
+        → Holds files one first → Holds files two second
+        → CommandMay files (Some (join one two new)) s
+        → JoinsOrTells files one two new first second s }
 
     // An `import` makes the archive whose text a file is, or tells why there is none. So what an
     // `export` wrote gives the same file again, where it is short enough, and no other text is taken.

@@ -31,9 +31,9 @@ use xarch_words::{Command, read_words};
 /// The words are those after the program's name. A batch takes its commands from the lines of
 /// `input`, which no other command reads. Every fault writes one line to `err`; a failure of `err`
 /// changes no status. Input files are read directly before the first step that judges their bytes:
-/// whole, but the archives of `add`, `cut` and `stats`, which are read record by record, those of
-/// `get`, `history` and `log`, of which only what their searches look at and a `log`'s leaf is read, and
-/// that of `versions`, of which its header and its notes are read.
+/// whole, but the archives of `add`, `cut`, `join` and `stats`, which are read record by record, those
+/// of `get`, `history` and `log`, of which only what their searches look at and a `log`'s leaf is read,
+/// and that of `versions`, of which its header and its notes are read.
 pub fn run<F: Folder, S: Source, O: Sink, E: Sink>(
     alloc: Global,
     words: &[String],
@@ -72,7 +72,7 @@ pub fn run<F: Folder, S: Source, O: Sink, E: Sink>(
         → S.rest input.old ≡ Some bytes → ReadsAsSaid bytes (S.rest input.new) result }
 
     // What any other command does where files are told: one of the steps that the words may have
-    // the program take, and the one that is defined where the archive that they name is absent or
+    // the program take, and the one that is defined where each archive that they name is absent or
     // sound. Status, files, output and line are that step's, but after a fault of the outside,
     // which leaves a prefix of its output. A refusal has no output, but where a `get`, a `log` or a
     // `versions` meets damage while it writes.
@@ -145,9 +145,10 @@ pub fn run<F: Folder, S: Source, O: Sink, E: Sink>(
     ensures draft_untold { F.draft folder.old ≡ None → F.draft folder.new ≡ None }
 
     // What is pulled and drafted: over a sound archive `add` goes once, and little of it is read
-    // that is not yet written; over any, what `add` or `cut` makes is too long only where one more
-    // record does not fit behind the draft; and of a sound one `get` and `history` pull only what
-    // their searches look at, and `log` that and the leaf. No count of faults falls.
+    // that is not yet written, and `join` goes once over any; over any, what `add`, `cut` or `join`
+    // makes is too long only where one more record does not fit behind the draft; and of a sound
+    // one `get` and `history` pull only what their searches look at, and `log` that and the leaf.
+    // No count of faults falls.
     ensures counts { CountsAsSaid (command_of (words_view words.now)) (F.files folder.old)
         (F.numbers folder.old) (F.numbers folder.new) }
     ensures one_pass { GoesOnce (command_of (words_view words.now)) (F.files folder.old)

@@ -1,8 +1,8 @@
 -- When words are refused by a limit.
 use Rattle.std.proofs.Common.{◌≡◌, ℕ, ◌+◌, List, Option, Some, None, sym, subst, arith}
 use Rattle.xa_outside.specs.Folder.{Files}
-use Rattle.xarch_words.specs.Commands.{PlainCommand, norm, init, add, rekey, get, history, log, check, stats, versions, export, import, cut, table, tablekeys, batch, demo}
-use Rattle.xarch_words.specs.Refusal.{usage, no_file, exists, bad_spec, bad_json, bad_shape, key_fault, key_fault_in, no_version, bad_path, damaged, limit, not_frontier, bad_csv, bad_text, PlainFault, refused, folder_fault, out_fault, in_fault, memory}
+use Rattle.xarch_words.specs.Commands.{PlainCommand, norm, init, add, rekey, get, history, log, check, stats, versions, export, import, cut, join, table, tablekeys, batch, demo}
+use Rattle.xarch_words.specs.Refusal.{usage, no_file, exists, bad_spec, bad_json, bad_shape, key_fault, key_fault_in, no_version, bad_path, damaged, limit, not_frontier, spec_differs, bad_csv, bad_text, PlainFault, refused, folder_fault, out_fault, in_fault, memory}
 use Rattle.xarch_meanings.specs.Ran.{status_after}
 use Rattle.xarch_meanings.specs.FillsUp.{FillsUp, IsLimited}
 
@@ -22,6 +22,7 @@ limited-status (Some (refused (bad_path step))) n s e = (let z : n ≡ 10 = s in
 limited-status (Some (refused (damaged name))) n s e = (let z : n ≡ 11 = s in absurd (omega (arith, z, e)))
 limited-status (Some (refused (limit quantity number))) n s e = tt
 limited-status (Some (refused not_frontier)) n s e = (let z : n ≡ 17 = s in absurd (omega (arith, z, e)))
+limited-status (Some (refused (spec_differs one two))) n s e = (let z : n ≡ 18 = s in absurd (omega (arith, z, e)))
 limited-status (Some (refused (bad_csv row why))) n s e = (let z : n ≡ 19 = s in absurd (omega (arith, z, e)))
 limited-status (Some (refused bad_text)) n s e = (let z : n ≡ 20 = s in absurd (omega (arith, z, e)))
 limited-status (Some folder_fault) n s e = (let z : n ≡ 13 = s in absurd (omega (arith, z, e)))
@@ -44,6 +45,7 @@ fills_by (Some (versions archive)) told draft P Q f h = tt
 fills_by (Some (export archive)) told draft P Q f h = tt
 fills_by (Some (import text new)) told draft P Q f h = tt
 fills_by (Some (cut archive new i j)) told draft P Q f h = λ files rules n b is input limited. h files rules n b is input (f limited)
+fills_by (Some (join one two new)) told draft P Q f h = λ files rules others n m b is input limited. h files rules others n m b is input (f limited)
 fills_by (Some (table csv tag keys doc)) told draft P Q f h = tt
 fills_by (Some (tablekeys tag keys spec)) told draft P Q f h = tt
 fills_by (Some batch) told draft P Q f h = tt

@@ -5,7 +5,7 @@ use Rattle.xa_outside.specs.Folder.{Files}
 use Rattle.xa_outside.specs.Taken.{Taken, TakesNone, TakesPrefix, Puts}
 use Rattle.xa_outside.specs.TakenLaws.{Takes-nil, Takes-kept, TakesNone-refl, TakesPrefix-none, TakesPrefix-all}
 use Rattle.xarch_words.specs.Commands.{PlainCommand, demo, command_of}
-use Rattle.xarch_words.specs.Refusal.{Refusal, usage, no_file, exists, bad_spec, bad_json, bad_shape, key_fault, key_fault_in, no_version, bad_path, damaged, limit, not_frontier, bad_csv, bad_text, PlainFault, refused, folder_fault, out_fault, in_fault, memory}
+use Rattle.xarch_words.specs.Refusal.{Refusal, usage, no_file, exists, bad_spec, bad_json, bad_shape, key_fault, key_fault_in, no_version, bad_path, damaged, limit, not_frontier, spec_differs, bad_csv, bad_text, PlainFault, refused, folder_fault, out_fault, in_fault, memory}
 use Rattle.xarch_words.specs.Lines.{fault_line, refusal_status}
 use Rattle.xarch_parts.specs.Outcome.{Outcome, Step, output_of, step_from}
 use Rattle.xarch_parts.specs.Ends.{EndsGained, Gained, HasItsCause}
@@ -34,6 +34,7 @@ outside_of-refusal (bad_path n) = refl
 outside_of-refusal (damaged n) = refl
 outside_of-refusal (limit q n) = refl
 outside_of-refusal not_frontier = refl
+outside_of-refusal (spec_differs one two) = refl
 outside_of-refusal (bad_csv r w) = refl
 outside_of-refusal bad_text = refl
 
@@ -52,6 +53,7 @@ refusal_2 (bad_path n) e = absurd (omega (arith, e))
 refusal_2 (damaged n) e = absurd (omega (arith, e))
 refusal_2 (limit q n) e = absurd (omega (arith, e))
 refusal_2 not_frontier e = absurd (omega (arith, e))
+refusal_2 (spec_differs one two) e = absurd (omega (arith, e))
 refusal_2 (bad_csv r w) e = absurd (omega (arith, e))
 refusal_2 bad_text e = absurd (omega (arith, e))
 
@@ -69,6 +71,7 @@ refusal_some (bad_path n) A e = absurd (omega (arith, e))
 refusal_some (damaged n) A e = absurd (omega (arith, e))
 refusal_some (limit q n) A e = absurd (omega (arith, e))
 refusal_some not_frontier A e = absurd (omega (arith, e))
+refusal_some (spec_differs one two) A e = absurd (omega (arith, e))
 refusal_some (bad_csv r w) A e = absurd (omega (arith, e))
 refusal_some bad_text A e = absurd (omega (arith, e))
 

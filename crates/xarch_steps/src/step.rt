@@ -24,7 +24,7 @@ ghost use Rattle.xarch_steps.specs.Obeys.{Obeys};
 
 use std::alloc::Global;
 use xa_outside::{Folder, Sink};
-use xarch_copies::run_cut;
+use xarch_copies::{run_cut, run_join};
 use xarch_meanings::{commands_take_one_step, what_should_succeed_is_not_refused};
 use xarch_reads::{run_check, run_get, run_history, run_log, run_norm, run_stats, run_versions};
 use xarch_tables::{run_table, run_tablekeys};
@@ -36,9 +36,9 @@ use xarch_writes::{run_add, run_demo, run_init, run_rekey};
 ///
 /// Words that are no command, and `batch`, are refused. Every fault writes one line to `err`; a
 /// failure of `err` changes no status. Input files are read directly before the first step that
-/// judges their bytes: whole, but the archives of `add`, `cut` and `stats`, which are read record by
-/// record, those of `get`, `history` and `log`, of which only what their searches look at and a `log`'s
-/// leaf is read, and that of `versions`, of which its header and its notes are read.
+/// judges their bytes: whole, but the archives of `add`, `cut`, `join` and `stats`, which are read
+/// record by record, those of `get`, `history` and `log`, of which only what their searches look at and
+/// a `log`'s leaf is read, and that of `versions`, of which its header and its notes are read.
 pub fn take_step<F: Folder, O: Sink, E: Sink>(
     alloc: Global,
     words: &[String],
@@ -186,6 +186,7 @@ fn run_command<F: Folder, O: Sink>(
             first,
             last,
         } => run_cut(alloc, archive, new, first, last, folder),
+        Command::Join { one, two, new } => run_join(alloc, one, two, new, folder),
         Command::Table {
             csv,
             tag,

@@ -4,7 +4,7 @@ use Rattle.std.specs.Str.{bytes_eq}
 use Rattle.std.proofs.lemmas.Bool.{and_parts, leb-true}
 use Rattle.key_spec.specs.Names.{is_name}
 use Rattle.version_notes.specs.Notes.{is_printed}
-use Rattle.xarch_words.specs.Commands.{PlainCommand, norm, init, add, rekey, get, history, log, check, stats, versions, export, import, cut, table, tablekeys, batch, demo, AreForTable, IsSpelled, are_keys, command_of, command_of_one, command_of_two, command_of_three, command_of_four, command_of_five, cut_of, demo_of, noted, number_of, question_of, table_of, tablekeys_of}
+use Rattle.xarch_words.specs.Commands.{PlainCommand, norm, init, add, rekey, get, history, log, check, stats, versions, export, import, cut, join, table, tablekeys, batch, demo, AreForTable, IsSpelled, are_keys, command_of, command_of_one, command_of_two, command_of_three, command_of_four, command_of_five, cut_of, demo_of, noted, number_of, question_of, table_of, tablekeys_of}
 use Rattle.xarch_words.specs.View.{command_view}
 use Rattle.xarch_words.specs.declared.words.Command.{Command}
 
@@ -73,7 +73,8 @@ of-four : (word first second third : List ℕ) → IfSpelled (command_of_four wo
 of-four word first second third =
     either (bytes_eq word (codes "add")) (noted first second third) _ (of-noted (is_printed third) first second third refl)
     (either (bytes_eq word (codes "demo")) (demo_of first second third) _ (of-two_numbers (number_of first) (number_of second) third)
-    (either (bytes_eq word (codes "tablekeys")) (tablekeys_of first second third) None (of-keys (is_name first && are_keys second) first second (tablekeys first second third) refl (λ are. are)) tt))
+    (either (bytes_eq word (codes "tablekeys")) (tablekeys_of first second third) _ (of-keys (is_name first && are_keys second) first second (tablekeys first second third) refl (λ are. are))
+    (either (bytes_eq word (codes "join")) (Some (join first second third)) None tt tt)))
 
 of-five : (word first second third fourth : List ℕ) → IfSpelled (command_of_five word first second third fourth)
 unfolding command_of_five

@@ -36,6 +36,8 @@ pub data PlainCommand : Type 0 where
   import : List ℕ → List ℕ → PlainCommand
   -- the archive, the new archive, and the numbers of its first version and its last
   cut : List ℕ → List ℕ → ℕ → ℕ → PlainCommand
+  -- the archive whose versions come first, the one whose come behind them, and the new archive
+  join : List ℕ → List ℕ → List ℕ → PlainCommand
   -- the table, the tag of its document, the names of its key columns, and the document
   table : List ℕ → List ℕ → List ℕ → List ℕ → PlainCommand
   -- the tag of a table's document, the names of its key columns, and the specification
@@ -102,7 +104,8 @@ command_of_four word first second third =
     if bytes_eq word (codes "add") then noted first second third
     else (if bytes_eq word (codes "demo") then demo_of first second third
     else (if bytes_eq word (codes "tablekeys") then tablekeys_of first second third
-    else None))
+    else (if bytes_eq word (codes "join") then Some (join first second third)
+    else None)))
 
 -- the numbers of the versions, the first of which is not behind the last
 abbrev pub cut_of : List ℕ → List ℕ → List ℕ → List ℕ → Option PlainCommand

@@ -4,7 +4,7 @@ use Rattle.std.specs.Fmt.{decimal}
 use Rattle.std.specs.List.{flat_map}
 use Rattle.key_spec.specs.Data.{PlainPath}
 use Rattle.key_spec.specs.Names.{path_text}
-use Rattle.xarch_words.specs.Refusal.{PlainQuantity, document, depth, versions, specification, archive, line, batch, demo, note, text, Refusal, usage, no_file, exists, bad_spec, bad_json, bad_shape, key_fault, key_fault_in, no_version, bad_path, damaged, limit, not_frontier, bad_csv, bad_text, PlainFault, refused, folder_fault, out_fault, in_fault, memory}
+use Rattle.xarch_words.specs.Refusal.{PlainQuantity, document, depth, versions, specification, archive, line, batch, demo, note, text, Refusal, usage, no_file, exists, bad_spec, bad_json, bad_shape, key_fault, key_fault_in, no_version, bad_path, damaged, limit, not_frontier, spec_differs, bad_csv, bad_text, PlainFault, refused, folder_fault, out_fault, in_fault, memory}
 
 abbrev pub refusal_status : Refusal → ℕ
 refusal_status usage = 2
@@ -20,6 +20,7 @@ refusal_status (bad_path step) = 10
 refusal_status (damaged name) = 11
 refusal_status (limit quantity number) = 12
 refusal_status not_frontier = 17
+refusal_status (spec_differs one two) = 18
 refusal_status (bad_csv row why) = 19
 refusal_status bad_text = 20
 
@@ -76,6 +77,7 @@ refusal_text (bad_path step) = codes "bad path, step " ++ decimal step
 refusal_text (damaged name) = codes "damaged archive " ++ name
 refusal_text (limit quantity number) = codes "limit " ++ quantity_text quantity ++ decimal number
 refusal_text not_frontier = codes "path is not at the frontier"
+refusal_text (spec_differs one two) = codes "keys of " ++ one ++ (codes " and " ++ two ++ codes " differ")
 refusal_text (bad_csv row why) = codes "bad table, record " ++ decimal row ++ why_text why
 refusal_text bad_text = codes "bad text"
 

@@ -37,6 +37,8 @@ pub data Refusal : Type 0 where
   -- the quantity and the number that it passed
   limit : PlainQuantity → ℕ → Refusal
   not_frontier : Refusal
+  -- the names of the two archives
+  spec_differs : List ℕ → List ℕ → Refusal
   -- the record, which counts from 1, or 0 where there is none, and why
   bad_csv : ℕ → ℕ → Refusal
   bad_text : Refusal

@@ -5,16 +5,16 @@ use Rattle.std.specs.declared.alloc.Global.{Global}
 use Rattle.jsonml_tree.specs.View.{place_view}
 use Rattle.key_rules.specs.View as keys
 use Rattle.xarch_words.specs.Commands as commands
-use Rattle.xarch_words.specs.Commands.{PlainCommand, norm, init, add, rekey, get, history, log, check, stats, versions, export, import, cut, table, tablekeys}
+use Rattle.xarch_words.specs.Commands.{PlainCommand, norm, init, add, rekey, get, history, log, check, stats, versions, export, import, cut, join, table, tablekeys}
 use Rattle.xarch_words.specs.Refusal as refusals
-use Rattle.xarch_words.specs.Refusal.{PlainQuantity, document, depth, specification, archive, line, batch, demo, note, text, usage, no_file, exists, bad_spec, bad_json, bad_shape, key_fault, key_fault_in, no_version, bad_path, damaged, limit, not_frontier, bad_csv, bad_text, PlainFault, refused, folder_fault, out_fault, in_fault, memory}
+use Rattle.xarch_words.specs.Refusal.{PlainQuantity, document, depth, specification, archive, line, batch, demo, note, text, usage, no_file, exists, bad_spec, bad_json, bad_shape, key_fault, key_fault_in, no_version, bad_path, damaged, limit, not_frontier, spec_differs, bad_csv, bad_text, PlainFault, refused, folder_fault, out_fault, in_fault, memory}
 use Rattle.xarch_words.specs.declared.fault.Fault.{Fault}
-use Rattle.xarch_words.specs.declared.fault.Fault.TheVariants.{Usage, NoFile, Exists, BadSpec, BadJson, BadShape, KeyFault, KeyFaultIn, NoVersion, BadPath, Damaged, Limit, NotFrontier, BadCsv, BadText, FolderFault, OutFault, InFault, Memory}
+use Rattle.xarch_words.specs.declared.fault.Fault.TheVariants.{Usage, NoFile, Exists, BadSpec, BadJson, BadShape, KeyFault, KeyFaultIn, NoVersion, BadPath, Damaged, Limit, NotFrontier, SpecDiffers, BadCsv, BadText, FolderFault, OutFault, InFault, Memory}
 use Rattle.xarch_words.specs.declared.fault.Quantity.{Quantity}
 use Rattle.xarch_words.specs.declared.fault.Quantity.TheVariants as quantities
 use Rattle.xarch_words.specs.declared.fault.Quantity.TheVariants.{Document, Depth, Specification, Archive, Line, Note, Text}
 use Rattle.xarch_words.specs.declared.words.Command.{Command}
-use Rattle.xarch_words.specs.declared.words.Command.TheVariants.{Norm, Init, Add, Rekey, Get, History, Log, Check, Stats, Versions, Export, Import, Cut, Table, TableKeys, Batch, Demo}
+use Rattle.xarch_words.specs.declared.words.Command.TheVariants.{Norm, Init, Add, Rekey, Get, History, Log, Check, Stats, Versions, Export, Import, Cut, Join, Table, TableKeys, Batch, Demo}
 
 abbrev pub words_view : List (String Global) → List (List ℕ)
 words_view words = map string_bytes words
@@ -38,6 +38,7 @@ command_view (Versions name) = versions name.now
 command_view (Export name) = export name.now
 command_view (Import words new) = import words.now new.now
 command_view (Cut name new first last) = cut name.now new.now first last
+command_view (Join one two new) = join one.now two.now new.now
 command_view (Table csv tag keys doc) = table csv.now tag.now keys.now doc.now
 command_view (TableKeys tag keys spec) = tablekeys tag.now keys.now spec.now
 command_view Batch = commands.batch
@@ -69,6 +70,7 @@ fault_view (BadPath step) = refused (bad_path step)
 fault_view (Damaged name) = refused (damaged (string_bytes name))
 fault_view (Limit quantity number) = refused (limit (quantity_view quantity) number)
 fault_view NotFrontier = refused not_frontier
+fault_view (SpecDiffers one two) = refused (spec_differs (string_bytes one) (string_bytes two))
 fault_view (BadCsv row why) = refused (bad_csv row why)
 fault_view BadText = refused bad_text
 fault_view FolderFault = folder_fault

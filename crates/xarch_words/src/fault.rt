@@ -67,6 +67,8 @@ pub enum Fault {
     Limit { quantity: Quantity, number: u64 },
     /// The path ends in no attribute and in no element at the frontier.
     NotFrontier,
+    /// The archives of these names have different specifications.
+    SpecDiffers { one: String, two: String },
     /// The record of a table is bad. Records count from 1, the heading being the first; record 0
     /// stands for the table as a whole.
     BadCsv { row: u64, why: u8 },
@@ -112,6 +114,7 @@ pub fn status(fault: &Fault) -> u8
         Fault::Damaged { .. } => 11,
         Fault::Limit { .. } => 12,
         Fault::NotFrontier => 17,
+        Fault::SpecDiffers { .. } => 18,
         Fault::BadCsv { .. } => 19,
         Fault::BadText => 20,
         Fault::FolderFault => 13,

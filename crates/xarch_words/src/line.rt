@@ -76,6 +76,7 @@ fn put_text<E: Sink>(err: &mut E, fault: &Fault) -> Result<(), Failed>
         Fault::Damaged { name } => put_both(err, b"damaged archive ", name.as_bytes()),
         Fault::Limit { quantity, number } => put_limit(err, *quantity, *number),
         Fault::NotFrontier => put_all(err, b"path is not at the frontier"),
+        Fault::SpecDiffers { one, two } => put_names(err, one.as_bytes(), two.as_bytes()),
         Fault::BadCsv { row, why } => put_line(err, b"bad table, record ", *row, *why),
         Fault::BadText => put_all(err, b"bad text"),
         Fault::FolderFault => put_all(err, b"folder fault"),
@@ -91,6 +92,17 @@ fn put_both<E: Sink>(err: &mut E, first: &[u8], second: &[u8]) -> Result<(), Fai
 {
     put_all(err, first)?;
     put_all(err, second)
+}
+
+/// That the keys of two archives differ.
+fn put_names<E: Sink>(err: &mut E, one: &[u8], two: &[u8]) -> Result<(), Failed>
+    ensures bytes { Puts (E.taken err.old) (E.taken err.new) result
+        (codes "keys of " ++ one.now ++ (codes " and " ++ two.now ++ codes " differ")) }
+    ensures cause { HasCause (E.faults err.old) (E.faults err.new) result }
+{
+    put_both(err, b"keys of ", one)?;
+    put_both(err, b" and ", two)?;
+    put_all(err, b" differ")
 }
 
 /// A number behind a text.

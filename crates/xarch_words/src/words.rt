@@ -79,6 +79,12 @@ pub enum Command<'a> {
         /// Not before the first.
         last: u32,
     },
+    /// Makes an archive of the versions of one archive, and behind them those of another.
+    Join {
+        one: &'a str,
+        two: &'a str,
+        new: &'a str,
+    },
     /// Makes a document of a table of comma-separated fields.
     Table {
         csv: &'a str,
@@ -211,6 +217,11 @@ fn four_words<'a>(
         "add" => add_noted(first, second, third),
         "demo" => demo_from(first, second, third),
         "tablekeys" => tablekeys_from(first, second, third),
+        "join" => Some(Command::Join {
+            one: first,
+            two: second,
+            new: third,
+        }),
         _ => None,
     }
 }

@@ -1,4 +1,4 @@
-use Rattle.xarch_copies.proofs.Cutting.{makes-stored, makes-uncut, makes-unnoted}
+use Rattle.xarch_copies.proofs.Cutting.{makes-cut, makes-uncut, makes-unnoted}
 use Rattle.xarch_copies.proofs.cut.make_archive.Goals as goal
 
 pub returns-in_err-append_records : goal.returns-in_err-append_records
@@ -11,5 +11,5 @@ returns-in_err-append_notes g c =
 
 pub returns : goal.returns
 returns g c =
-    makes-stored c.args.archive.now c.args.new.now c.args.front.now c.args.first c.args.last c.args.folder.now c.append_records.new.folder c.in_ok-append_records.ensures c.append_notes.new.folder c.in_ok-append_notes.ensures c.commit.new.folder c.commit.result
+    makes-cut c.args.archive.now c.args.new.now c.args.front.now c.args.first c.args.last c.args.folder.now c.append_records.new.folder c.in_ok-append_records.ensures c.append_notes.new.folder c.in_ok-append_notes.ensures c.commit.new.folder c.commit.result
     (g.met.F.Folder.metered c.append_notes.new.folder) c.commit.ensures.writes c.commit.ensures.caused c.commit.ensures.committed c.commit.ensures.fault

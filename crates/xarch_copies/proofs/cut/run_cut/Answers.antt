@@ -1,4 +1,4 @@
-use Rattle.std.proofs.Common.{inl, ◌≡◌, ◌+◌, ◌-◌, ℕ, List, refl, sym, ap, ◌∙◌, subst, arith}
+use Rattle.std.proofs.Common.{inl, ◌≡◌, ◌+◌, ℕ, List, refl, sym, ap, ◌∙◌, subst, arith}
 use Rattle.archive_cut.specs.Cut.{Overfull}
 use Rattle.key_spec.specs.Data.{PlainRule}
 use Rattle.record_cursor.specs.View.{header_view}
@@ -9,11 +9,12 @@ use Rattle.xarch_parts.specs.AllowedLaws.{MayEnd-folder, MayEnd-passed, defined_
 use Rattle.xarch_parts.specs.Ends.{fault_of}
 use Rattle.xarch_parts.specs.FolderLaws.{caused-begin, caused-begun, caused-passed, caused-then, sized, streams-begun, streams-made, streams-not_begun}
 use Rattle.xarch_parts.specs.Inputs.{size_in}
-use Rattle.xarch_parts.specs.Noted.{notes_bytes}
 use Rattle.xarch_meanings.specs.FillsUp.{IsLimited}
 use Rattle.xarch_meanings.specs.Plausible.{MayBe, cut_input}
 use Rattle.xarch_meanings.specs.ReadLaws.{reads-once}
-use Rattle.xarch_copies.proofs.CutEnds.{limited-given, may-end, may-refuse, one-read}
+use Rattle.xarch_copies.specs.Making.{behind_front}
+use Rattle.xarch_copies.proofs.Checking.{limited-given, one-read}
+use Rattle.xarch_copies.proofs.CutEnds.{may-end, may-refuse}
 use Rattle.xarch_copies.proofs.cut.run_cut.Goals as goal
 
 -- the draft is not begun
@@ -67,20 +68,19 @@ returns g c =
     let found = read.found in
     let made = c.make_archive.ensures in
     let h = header_view c.in_ok-front.front.header in
-    let parts = c.in_ok-front.front.parts in
     let name = c.args.archive.now in
     let new = c.args.new.now in
-    let fits = found.within.within in
-    let within = found.header.within in
-    let core = found.core in
+    let fits = found.before.within.within in
+    let within = found.before.header.within in
+    let core = found.before.core in
     let same = ap (λ f. size_in f name) began.same_files in
     record {
       performs = λ t n. record {
-        keeps = streams-made _ _ (16 + h.first) (h.length - h.first + notes_bytes parts.notes) _ _ _ _ _ (omega (arith, fits, within, core, same)) began (reads-once _ (16 + h.first) _ _ _ read.reads read.once) made.streams;
+        keeps = streams-made _ _ (16 + h.first) (behind_front c.in_ok-front.front) _ _ _ _ _ (omega (arith, fits, within, core, same)) began (reads-once _ (16 + h.first) _ _ _ read.reads read.once) made.streams;
         caused = caused-then _ _ _ _ _ _ _ (caused-begun _ _ _ _ _ _ began read.reads) (made.caused n);
         may = λ files told.
             inl (let told1 = began.same_files ∙ told in
-            may-end c.full_files_have_parts.ensures.parts c.versions_have_one_file.ensures.header files name new c.args.first c.args.last c.full_files_are_read_note_by_note.ensures.come _ (read.reads.same_files ∙ told1) c.in_ok-front.front (found.are files told1) (found.stands files told1)
+            may-end c.full_files_have_parts.ensures.parts c.versions_have_one_file.ensures.header files name new c.args.first c.args.last c.full_files_are_read_note_by_note.ensures.come _ (read.reads.same_files ∙ told1) c.in_ok-front.front (found.before.are files told1) (found.before.stands files told1)
             (read.told files told1) found.from c.requires found.most _ _ t (fault_of c.make_archive.result) made.ends);
         long_demo = λ long. absurd long;
         one_pass = tt;
@@ -89,15 +89,15 @@ returns g c =
       };
       fills = λ files rules n b told input limited room.
           let both : (h.rules, h.versions) ≡ (rules, n) = one-read (h.rules, h.versions) (rules, n) (sym (read.told files (began.same_files ∙ told)) ∙ input) in
-          subst (λ (p : List PlainRule × ℕ). Overfull b p.0 c.args.first c.args.last (g.F.Folder.draft c.make_archive.new.folder)) both (made.fills b limited (omega (arith, fits, core, same, room)));
+          subst (λ (p : List PlainRule × ℕ). Overfull b p.0 c.args.first c.args.last (g.F.Folder.draft c.make_archive.new.folder)) both (made.fills limited b (omega (arith, fits, core, same, room)));
     }
 
 pub make_archive-requires : goal.make_archive-requires
 make_archive-requires g c =
     let found = c.in_ok-front.ensures.found in
     record {
-      header = found.header;
-      room = found.within.room;
+      header = found.before.header;
+      room = found.before.within.room;
       blank = λ b e. c.in_ok-begin.ensures.begins.blank refl b (sym c.in_ok-front.ensures.reads.same_draft ∙ e);
       from = found.from;
       order = c.requires;

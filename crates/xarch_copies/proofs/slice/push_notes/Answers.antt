@@ -2,7 +2,8 @@ use Rattle.std.proofs.Common.{◌+◌, sym, subst}
 use Rattle.version_notes.specs.declared.fault.NotesFault.TheVariants.{Folder}
 use Rattle.version_notes.specs.Writer.{appended}
 use Rattle.xarch_copies.specs.Slicing.{Pushes, Stops}
-use Rattle.xarch_copies.proofs.Slicing.{at-err, none-due, note-due, note-fits, pushes-next, pushes-none, stops-unpushed, stops-unread}
+use Rattle.xarch_copies.proofs.Making.{at-err}
+use Rattle.xarch_copies.proofs.Slicing.{none-due, note-due, note-fits, pushes-next, pushes-none, stops-unpushed, stops-unread}
 use Rattle.xarch_copies.proofs.slice.push_notes.Goals as goal
 use Rattle.xarch_copies.proofs.slice.push_notes.Goals.{in-Some+in_ok-push, in_default}
 

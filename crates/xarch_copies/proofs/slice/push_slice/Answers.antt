@@ -2,7 +2,8 @@ use Rattle.std.proofs.Common.{◌≡◌, ◌+◌, ◌-◌, ℕ, ap, ◌∙◌, s
 use Rattle.version_notes.specs.Writer.{PlainWriter, after_all, last_appended}
 use Rattle.version_notes.specs.declared.fault.NotesFault.TheVariants.{Folder}
 use Rattle.xarch_copies.specs.Slicing.{Pushes, Slices, Stops}
-use Rattle.xarch_copies.proofs.Slicing.{at-err, slices, stops-behind, stops-unclosed, waits-still}
+use Rattle.xarch_copies.proofs.Making.{at-err}
+use Rattle.xarch_copies.proofs.Slicing.{slices, stops-behind, stops-unclosed, waits-still}
 use Rattle.xarch_copies.proofs.slice.push_slice.Goals as goal
 
 pub returns-in_err-push_notes : goal.returns-in_err-push_notes

@@ -1,5 +1,6 @@
 use Rattle.xarch_copies.specs.Slicing.{Skips, Stops}
-use Rattle.xarch_copies.proofs.Slicing.{at-err, note-due, skips-next, skips-none, stops-unread}
+use Rattle.xarch_copies.proofs.Making.{at-err}
+use Rattle.xarch_copies.proofs.Slicing.{note-due, skips-next, skips-none, stops-unread}
 use Rattle.xarch_copies.proofs.slice.skip_notes.Goals as goal
 
 pub loop-init : goal.loop-init

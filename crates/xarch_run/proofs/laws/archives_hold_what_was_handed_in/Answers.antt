@@ -1,6 +1,6 @@
 use Rattle.xarch_run.proofs.CallLemmas.{calls-did, line-may, words-may}
 use Rattle.xarch_run.proofs.CheckLemmas.{checking, judging}
-use Rattle.xarch_run.proofs.HeldLemmas.{accepted, all-absent, all-hold, all-refused, counting, cutting, exact, exporting, getting, handed-holds, in-order, keys-taken, keys-told, listing, logging, one-held, rekeying, satisfying, should-succeed, step-begins, telling}
+use Rattle.xarch_run.proofs.HeldLemmas.{accepted, all-absent, all-hold, all-refused, counting, cutting, exact, exporting, getting, handed-holds, in-order, joining, keys-taken, keys-told, listing, logging, one-held, rekeying, satisfying, should-succeed, step-begins, telling}
 use Rattle.xarch_run.proofs.ImportLemmas.{imported, importing, restoring, text-taken}
 use Rattle.xarch_run.proofs.laws.archives_hold_what_was_handed_in.Goals as goal
 
@@ -67,6 +67,9 @@ returns-clause-exports c = λ files name held s holds may. exporting files name 
 
 pub returns-clause-cuts : goal.returns-clause-cuts
 returns-clause-cuts c = λ files name new i j held s holds may. cutting files name held s holds new i j may
+
+pub returns-clause-joins : goal.returns-clause-joins
+returns-clause-joins c = λ files one two new first second s holds behind may. joining files one first s holds two new second behind may
 
 pub returns-clause-imports : goal.returns-clause-imports
 returns-clause-imports c = importing

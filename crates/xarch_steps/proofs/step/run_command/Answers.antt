@@ -39,6 +39,9 @@ returns-in-Import g c = record { performs = rw c.in-Import.is (c.run_import.ensu
 pub returns-in-Cut : goal.returns-in-Cut
 returns-in-Cut g c = record { performs = rw c.in-Cut.is (c.run_cut.ensures.performs (g.O.Sink.taken c.args.out.now) (g.O.Sink.faults c.args.out.now)); fills = rw c.in-Cut.is c.run_cut.ensures.fills }
 
+pub returns-in-Join : goal.returns-in-Join
+returns-in-Join g c = record { performs = rw c.in-Join.is (c.run_join.ensures.performs (g.O.Sink.taken c.args.out.now) (g.O.Sink.faults c.args.out.now)); fills = rw c.in-Join.is c.run_join.ensures.fills }
+
 pub returns-in-Table : goal.returns-in-Table
 returns-in-Table g c = record { performs = rw c.in-Table.is (c.run_table.ensures (g.O.Sink.taken c.args.out.now) (g.O.Sink.faults c.args.out.now)); fills = rw c.in-Table.is tt }
 
