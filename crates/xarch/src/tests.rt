@@ -90,7 +90,8 @@ fn two_files_stand_open_side_by_side(rt: HostRuntime) -> Result<(), Fail> {
     }
     for at in 0..20 {
         for name in names {
-            assert!(rt; holds(&mut folder, rt.alloc(), name, at, &name.as_bytes()[at as usize..])?);
+            let rest = &name.as_bytes()[at as usize..];
+            assert!(rt; holds(&mut folder, rt.alloc(), name, at, rest)?);
         }
     }
     Ok(())
