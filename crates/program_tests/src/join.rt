@@ -149,7 +149,7 @@ const LITTLE_IS_HELD: &[Step] = &[
     Run(&["stats", "D"], 0, BeginsWith(b"versions 41\n"), b""),
 ];
 
-const CASES: &[Case] = &[
+const JOINED: &[Case] = &[
     Case {
         name: "two archives give the file of all their documents",
         fails: &[],
@@ -164,23 +164,6 @@ const CASES: &[Case] = &[
             HasLength("C", 142),
             Run(&["history", "C", "[\"db\"]"], 0, Is(&[(b"1-2\n", 1)]), b""),
             Has("A", ARCHIVE_OF_ONE),
-        ],
-    },
-    Case {
-        name: "archives of different keys are refused",
-        fails: &[],
-        steps: &[
-            Archive(TINY, &[DB]),
-            Put("other", &[(BY_ID, 1)]),
-            Run(&["init", "B", "other"], 0, NOTHING, b""),
-            Run(JOIN, 18, NOTHING, b"xarch: keys of A and B differ\n"),
-            HasNo("C"),
-            // (together they would have too many versions too, which is asked behind it)
-            Put("d", &[(DB, 1)]),
-            Run(&["add", "B", "d"], 0, NOTHING, b""),
-            Put("A", FULL_ARCHIVE),
-            Run(JOIN, 18, NOTHING, b"xarch: keys of A and B differ\n"),
-            HasNo("C"),
         ],
     },
     Case {
@@ -209,6 +192,9 @@ const CASES: &[Case] = &[
             Has("D", FULL_ARCHIVE),
         ],
     },
+];
+
+const KEPT: &[Case] = &[
     Case {
         name: "notes are kept in their order",
         fails: &[],
@@ -218,6 +204,31 @@ const CASES: &[Case] = &[
         name: "where one of the archives has notes, the versions of the other have none",
         fails: &[],
         steps: ONE_IS_NOTED,
+    },
+    Case {
+        name: "both archives are read once, and little is read that is not yet written",
+        fails: &[],
+        steps: LITTLE_IS_HELD,
+    },
+];
+
+const REFUSED: &[Case] = &[
+    Case {
+        name: "archives of different keys are refused",
+        fails: &[],
+        steps: &[
+            Archive(TINY, &[DB]),
+            Put("other", &[(BY_ID, 1)]),
+            Run(&["init", "B", "other"], 0, NOTHING, b""),
+            Run(JOIN, 18, NOTHING, b"xarch: keys of A and B differ\n"),
+            HasNo("C"),
+            // (together they would have too many versions too, which is asked behind it)
+            Put("d", &[(DB, 1)]),
+            Run(&["add", "B", "d"], 0, NOTHING, b""),
+            Put("A", FULL_ARCHIVE),
+            Run(JOIN, 18, NOTHING, b"xarch: keys of A and B differ\n"),
+            HasNo("C"),
+        ],
     },
     Case {
         name: "missing archives and a name that is taken are refused in their order",
@@ -248,14 +259,19 @@ const CASES: &[Case] = &[
             HasNo("C"),
         ],
     },
-    Case {
-        name: "both archives are read once, and little is read that is not yet written",
-        fails: &[],
-        steps: LITTLE_IS_HELD,
-    },
 ];
 
 #[test]
-fn versions_are_joined(rt: HostRuntime) -> Result<(), Fail> {
-    check(&rt, rt.alloc(), CASES)
+fn archives_are_joined(rt: HostRuntime) -> Result<(), Fail> {
+    check(&rt, rt.alloc(), JOINED)
+}
+
+#[test]
+fn notes_are_kept_and_little_is_held(rt: HostRuntime) -> Result<(), Fail> {
+    check(&rt, rt.alloc(), KEPT)
+}
+
+#[test]
+fn what_does_not_go_together_is_refused(rt: HostRuntime) -> Result<(), Fail> {
+    check(&rt, rt.alloc(), REFUSED)
 }
