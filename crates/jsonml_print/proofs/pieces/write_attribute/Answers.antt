@@ -2,7 +2,7 @@ use Rattle.std.proofs.Common.{◌≡◌, ◌++◌, ◌∷◌, [], List, ℕ, sub
 use Rattle.json.specs.Print.{escape}
 use Rattle.xa_outside.specs.Taken.{Puts}
 use Rattle.jsonml_tree.specs.LentAttrs.{lent_scalar_view}
-use Rattle.jsonml_print.specs.Printed.{attr_text, scalar_text}
+use Rattle.jsonml_print.specs.Printed.{scalar_text}
 use Rattle.jsonml_print.specs.Calls.{attribute_lead}
 use Rattle.xa_outside.proofs.Output.{Puts-cut, Puts-after}
 use Rattle.jsonml_print.proofs.pieces.write_attribute.Goals as goal

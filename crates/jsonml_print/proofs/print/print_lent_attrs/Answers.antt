@@ -1,4 +1,4 @@
-use Rattle.std.proofs.Common.{◌≡◌, ◌<◌, ◌∷◌, [], List, ℕ, length, get_or, rules, subst, ap, ◌∙◌}
+use Rattle.std.proofs.Common.{◌≡◌, ◌<◌, ◌∷◌, [], List, length, get_or, rules, subst, ap, ◌∙◌}
 use Rattle.xa_outside.specs.Taken.{Takes}
 use Rattle.xa_outside.specs.Taken.{TakesPrefix}
 use Rattle.jsonml_tree.specs.LentAttrs.{lent_attr_view}
