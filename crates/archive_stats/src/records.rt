@@ -1,5 +1,5 @@
 // The counts of records that a cursor gives.
-ghost use Rattle.std.specs.Prelude.{◌≡◌, ◌≤◌, ◌+◌, ◌-◌, ◌^◌, ℕ};
+ghost use Rattle.std.specs.Prelude.{◌≡◌, ◌≤◌, ◌+◌, ◌-◌, ◌^◌};
 ghost use Rattle.record_parts.specs.ShownViews.{shown_stamp};
 ghost use Rattle.record_cursor.specs.View.{shown_item};
 ghost use Rattle.archive_stats.specs.Counted.{RecordsCounted, seen};

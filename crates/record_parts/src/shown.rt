@@ -87,15 +87,20 @@ impl<'a> LabelView<'a> {
         }
     }
 
-    /// The order of two labels that are shown. Where they differ, it takes memory for a copy.
+    /// The order of two labels that are shown. Where they differ, it takes memory for a copy of the shorter one: along two
+    /// rows each comparison passes a label, so that all of them take no longer than the rows are.
     pub fn compare(&self, alloc: Global, other: &LabelView<'_>) -> Result<Ordering, AllocError>
         ensures { IfOk result (λ o. o ≡ label_cmp (shown_label self.now) (shown_label other.now)) }
     {
         if self.bytes() == other.bytes() {
             return Ok(Ordering::Equal);
         }
-        let other = other.copy(alloc)?;
-        Ok(self.order(&other))
+        if self.bytes().len() < other.bytes().len() {
+            let label = self.copy(alloc)?;
+            return Ok(other.order(&label).reverse());
+        }
+        let label = other.copy(alloc)?;
+        Ok(self.order(&label))
     }
 
     /// A label of its own with the same value.

@@ -2,7 +2,6 @@
 ghost use Rattle.std.specs.Prelude.{◌≡◌};
 ghost use Rattle.keyed_tree.specs.View.{label_view};
 ghost use Rattle.archive_tree.specs.Data.{node_label, node_stamp};
-ghost use Rattle.archive_tree.specs.Data.{PlainArchive};
 ghost use Rattle.archive_tree.specs.Stands.{Kept};
 ghost use Rattle.archive_tree.specs.View.{stamp_view};
 ghost use Rattle.spelled_archive.specs.View.{node_view, nodes_view};

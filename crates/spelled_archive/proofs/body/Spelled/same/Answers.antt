@@ -1,4 +1,3 @@
-use Rattle.spelled_archive.specs.View.{spelled_view}
 use Rattle.spelled_archive.proofs.Bodies.{same_bodies}
 use Rattle.spelled_archive.proofs.body.Spelled.same.Goals as goal
 
