@@ -27,6 +27,10 @@ took bs piece done odd r none within t found =
     let bare : (l : List ℕ) → l ++ option_to_list odd ≡ l = λ l. ap (λ o. l ++ option_to_list o) (none_is odd none) ∙ append-nil l in
     bare (take (done + length piece) bs) ∙ sym (take-rest done (length piece) bs within) ∙ ap (λ l. take done bs ++ l) (front ∙ sym (take-length piece)) ∙ ap (λ l. l ++ take (length piece) piece) (sym (bare (take done bs)))
 
+-- what stands at the front of a piece, taken anew by its length
+pub cut_again : (n : ℕ) (piece : List ℕ) → take (length (take n piece)) piece ≡ take n piece
+cut_again n piece = ap (take (length (take n piece))) (sym (take-append-drop n piece)) ∙ take-append_seam (take n piece) (drop n piece)
+
 -- ---- what is awaited stays
 
 none_more : (bytes more : List ℕ) → length (bytes ++ more) ≡ length bytes → more ≡ []

@@ -2,7 +2,7 @@
 use Rattle.std.proofs.Common.{◌≡◌, ℕ, ◌++◌, List, Result, sym, ap, ◌∙◌, subst, append_assoc}
 use Rattle.std.specs.Result.{IsErr}
 use Rattle.xa_outside.specs.Taken.{Taken, Takes, TakesPrefix, Puts}
-use Rattle.xa_outside.proofs.Output.{Puts-after, Puts-cut, Puts-in, Takes-trans, Takes-nil, TakesPrefix-none, outputs}
+use Rattle.xa_outside.proofs.Output.{Puts-after, Puts-in, Takes-trans, outputs}
 
 module _ {T E : Type 0} (r : Result T E) (whole : List ℕ) where
   pub second : (a b c : Taken) (x y z : List ℕ) → whole ≡ x ++ (y ++ z) → IsErr r → Takes a b x → TakesPrefix b c y → Puts a c r whole

@@ -7,6 +7,10 @@ ghost use Rattle.xa_outside.specs.Taken.{Writes};
 
 use xa_outside::{Failed, Sink};
 
+/// How many bytes are compared at once. Where these are not awaited, they are taken byte by byte until the first that is
+/// another one, and each time what is left of them is compared anew: so few are compared in vain, however long a piece is.
+const AT_ONCE: usize = 4096;
+
 /// A sink that awaits some bytes. It takes them as far as they come, and the first byte that is another one, and then it
 /// fails.
 #[derive(Drop)]
@@ -76,9 +80,10 @@ impl Sink for Expected<'_> {
             self.failures = self.failures.saturating_add(1);
             return Err(Failed);
         }
-        if self.bytes[self.done..].starts_with(piece) {
-            self.done += piece.len();
-            return Ok(piece.len());
+        let front = &piece[..piece.len().min(AT_ONCE)];
+        if self.bytes[self.done..].starts_with(front) {
+            self.done += front.len();
+            return Ok(front.len());
         }
         self.take_one(piece[0]);
         Ok(1)

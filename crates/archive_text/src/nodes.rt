@@ -1,14 +1,14 @@
 // The lines of nodes.
 #![tactic(auto, using(crate::proofs::Chains::chains))]
 
-ghost use Rattle.std.specs.Prelude.{◌≡◌, ◌++◌, ◌∷◌, [], map, codes, OnOk, IfOk, string_bytes};
+ghost use Rattle.std.specs.Prelude.{◌≡◌, ◌++◌, ◌∷◌, [], map, codes, IfOk, string_bytes};
 ghost use Rattle.std.specs.List.{flat_map};
 ghost use Rattle.xa_outside.specs.Causes.{HasCause};
 ghost use Rattle.xa_outside.specs.Taken.{Puts};
-ghost use Rattle.keyed_tree.specs.View.{key_view, name_view, label_view};
+ghost use Rattle.keyed_tree.specs.View.{key_view, label_view};
 ghost use Rattle.archive_tree.specs.View.{stamp_view, alt_view, node_view, nodes_view};
-ghost use Rattle.jsonml_lines.specs.Lines.{cell_text, cells_text, line_text};
-ghost use Rattle.archive_text.specs.Export.{stamp_text, name_text, text_cell, alt_line, end_line, node_lines, nodes_lines, lines_text, node_begun};
+ghost use Rattle.jsonml_lines.specs.Lines.{cell_text, line_text};
+ghost use Rattle.archive_text.specs.Export.{stamp_text, text_cell, alt_line, end_line, node_lines, nodes_lines, lines_text, node_begun};
 ghost use Rattle.archive_text.specs.Faults.{HasSinkCause};
 
 use crate::fault::TextFault;
