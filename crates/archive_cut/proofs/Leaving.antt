@@ -1,10 +1,8 @@
 -- What reading, holding and writing the alternatives of a leaf goes along.
 use Rattle.std.proofs.Common.{◌≡◌, ◌≢◌, ℕ, ◌+◌, ◌≤◌, true, false, cond, List, [], ◌∷◌, ◌++◌, map, length, Option, Some, None, Ok, Err, refl, sym, ap, subst, ◌∙◌, append_assoc, arith}
-use Rattle.std.proofs.lemmas.List.{append-nil, map-append, length-append}
+use Rattle.std.proofs.lemmas.List.{append-nil, map-append}
 use Rattle.std.specs.List.{AllByRecursion, cons_option}
-use Rattle.timestamp_tree.specs.Bytes.{set_bytes}
 use Rattle.version_set.specs.Members.{members}
-use Rattle.keyed_tree.specs.Data.{PlainKey}
 use Rattle.archive_tree.specs.Data.{Stamp, PlainAlt}
 use Rattle.archive_tree.specs.PartsTest.{is_none, is_same}
 use Rattle.archive_tree.proofs.Tells.{is_same-exact}
@@ -12,8 +10,6 @@ use Rattle.archive_tree.specs.Stands.{AllDiffer, first_num}
 use Rattle.record_format.specs.Data.{alt_rec}
 use Rattle.record_format.specs.Nodes.{set_in}
 use Rattle.record_format.specs.Spelling.{rec_bytes}
-use Rattle.record_format.proofs.Pieces.{rec-length}
-use Rattle.record_parts.specs.Spelling.{value_bytes}
 use Rattle.record_parts.specs.declared.views.BodyView.{BodyView}
 use Rattle.record_parts.specs.declared.views.StampView.{StampView}
 use Rattle.record_cursor.specs.Items.{PlainItem, alt_item, leaf_end_item}
@@ -28,49 +24,46 @@ use Rattle.record_writer.specs.Data.{PlainWriter, OpenLeaf, WriterCall, call_end
 use Rattle.record_writer.specs.Calls.{appended, after, after_all, leaf_ended}
 use Rattle.record_writer.specs.Walks.{alt_calls}
 use Rattle.record_writer.proofs.WalkLaws.{after-append, alts-keep}
+use Rattle.record_copy.specs.Faults.{Unless, IfLong, of_cursor}
+use Rattle.record_copy.specs.Passes.{Passes, Rests}
+use Rattle.record_copy.specs.Runs.{Sent}
+use Rattle.record_copy.specs.Short.{IfStored, IsShortCall}
+use Rattle.record_copy.specs.State.{State}
+use Rattle.record_copy.specs.declared.fault.CopyFault.{CopyFault}
+use Rattle.record_copy.specs.declared.fault.CopyFault.TheVariants.{Damage, TooLong, Folder, Memory}
+use Rattle.record_copy.proofs.Alternating.{not-long, whole-part}
+use Rattle.record_copy.proofs.FewBytes.{IsFewStamp, alternative-parts}
+use Rattle.record_copy.proofs.Passing.{passes-then, Nexts, Stays, gave, gave-stop, failed, given}
+use Rattle.record_copy.proofs.Reading.{not-long-cursor}
+use Rattle.record_copy.proofs.Running.{run-then, run-none, short-none, short-part, all-append}
 use Rattle.archive_cut.specs.Held.{held_view, KnowsFirst, alts_left, IsShortAlt, Holds, InOrder}
 use Rattle.archive_cut.specs.Items.{alt_items}
 use Rattle.archive_cut.specs.Leaves.{AltsRead, Reads}
-use Rattle.archive_cut.specs.Passes.{Passes, Unless, Rests, IfLong, of_cursor}
-use Rattle.archive_cut.specs.Runs.{Matches, IsPart, Sent}
-use Rattle.archive_cut.specs.Short.{IsLeftStamp, IsShortCall}
+use Rattle.archive_cut.specs.Runs.{Matches}
+use Rattle.archive_cut.specs.Short.{IsLeftOf}
 use Rattle.archive_cut.specs.Sliced.{cut_set, is_gone, stamp_under, cut_alt, left_alts, by_first, sliced_alts}
-use Rattle.archive_cut.specs.State.{State}
 use Rattle.archive_cut.specs.Walked.{LeafCut}
 use Rattle.archive_cut.specs.Windows.{set_left, alt_left}
 use Rattle.archive_cut.specs.declared.held.Held.{Held}
-use Rattle.archive_cut.specs.declared.fault.CutFault.{CutFault}
-use Rattle.archive_cut.specs.declared.fault.CutFault.TheVariants.{Damage, TooLong, Folder, Memory}
-use Rattle.archive_cut.proofs.Passing.{passes-then, Nexts, Stays, gave, gave-stop, failed, given}
-use Rattle.archive_cut.proofs.Running.{run-then, run-none, matches-part, short-none, short-part, all-append}
+use Rattle.archive_cut.proofs.Matching.{matches-part}
 use Rattle.archive_cut.proofs.Skips.{no-alt}
+use Rattle.record_parts.specs.Shapes.{FitsValue}
 
 -- ---- few bytes
 
-pub alt-parts : (b : ℕ) (s : Stamp) (v : PlainKey) → length (rec_bytes (alt_rec s v)) ≤ b → ((t : List (ℕ × ℕ)) → s ≡ Some t → length (set_bytes t) ≤ b) × (length (value_bytes v) ≤ b)
-alt-parts b None v le = (let e = rec-length (alt_rec None v) in let f = length-append (0 ∷ []) (value_bytes v) in ((λ t d. absurd cc), omega (arith, e, f, le)))
-alt-parts b (Some s) v le =
-    let e = rec-length (alt_rec (Some s) v) in
-    let f = length-append (1 ∷ set_bytes s) (value_bytes v) in
-    let short : length (set_bytes s) ≤ b = omega (arith, e, f, le) in
-    ((λ t d. subst (λ z. length (set_bytes z) ≤ b) (some_is s t d) short), omega (arith, e, f, le))
-  where
-    some_is : (s t : List (ℕ × ℕ)) → ◌≡◌ {A = Stamp} (Some s) (Some t) → s ≡ t
-    some_is s t e = cc
-
 -- the stamp that is left of one of few bytes
-pub left-stamp : (b i j : ℕ) (now : List (ℕ × ℕ)) (s : Stamp) → ((t : List (ℕ × ℕ)) → s ≡ Some t → length (set_bytes t) ≤ b) → IsLeftStamp b i j (stamp_under now (set_left i j now s))
+pub left-stamp : (b i j : ℕ) (now : List (ℕ × ℕ)) (s : Stamp) → IsFewStamp b s → IfStored (IsLeftOf b i j) (stamp_under now (set_left i j now s))
 left-stamp b i j now None h = (let e = (is_same-exact (members now) (members now)).1 refl in rw e tt)
 left-stamp b i j now (Some t) h =
-    elim (is_same (members (cut_set i j t)) (members now)) as (λ z. IsLeftStamp b i j (cond {A = Stamp} z None (Some (cut_set i j t)))) [ true ↦ tt | false ↦ (t, h t refl, refl) ]
+    elim (is_same (members (cut_set i j t)) (members now)) as (λ z. IfStored (IsLeftOf b i j) (cond {A = Stamp} z None (Some (cut_set i j t)))) [ true ↦ tt | false ↦ (t, h, refl) ]
 
-left-short : (b i j : ℕ) (now : List (ℕ × ℕ)) (x : PlainAlt) → length (rec_bytes (alt_rec x.stamp x.body)) ≤ b → AllByRecursion (IsShortAlt b i j) (alts_left i j now (x ∷ []))
-left-short b i j now x le =
-    let parts = alt-parts b x.stamp x.body le in
+left-short : (b i j : ℕ) (now : List (ℕ × ℕ)) (x : PlainAlt) → FitsValue x.body → length (rec_bytes (alt_rec x.stamp x.body)) ≤ b → AllByRecursion (IsShortAlt b i j) (alts_left i j now (x ∷ []))
+left-short b i j now x fits le =
+    let parts = alternative-parts b x.stamp x.body le in
     let stamp = left-stamp b i j now x.stamp parts.0 in
     elim (is_none (members (set_left i j now x.stamp))) as (λ z. AllByRecursion (IsShortAlt b i j) (cons_option (cond {A = Option PlainAlt} z None (Some (record { stamp = stamp_under now (set_left i j now x.stamp); body = x.body }))) [])) [
       | true ↦ tt
-      | false ↦ ((stamp, parts.1), tt)
+      | false ↦ ((stamp, (fits, parts.1)), tt)
     ]
 
 one-more : {X : Type 0} (o : Option X) (xs : List X) → cons_option o [] ++ xs ≡ cons_option o xs
@@ -115,11 +108,11 @@ alt-yet i j now x held more xs (y ∷ ys) behind s t item shown read views comes
           ∙ split;
     }
 
-pub read-on : (i j : ℕ) (now : List (ℕ × ℕ)) (r s t : State) (item : Item) (x : PlainAlt) (held more : List Held) → shown_item item ≡ alt_item x.stamp x.body → ReadOn i j now r s held → Nexts s t item → Holds i j now x held more → ReadOn i j now r t more
-read-on i j now r s t item x held more shown on read holds = record {
+pub read-on : (i j : ℕ) (now : List (ℕ × ℕ)) (r s t : State) (item : Item) (x : PlainAlt) (held more : List Held) → shown_item item ≡ alt_item x.stamp x.body → FitsValue x.body → ReadOn i j now r s held → Nexts s t item → Holds i j now x held more → ReadOn i j now r t more
+read-on i j now r s t item x held more shown fits on read holds = record {
   passes = passes-then [] [] r s t None on.passes (gave s t item read);
   firsts = holds.first on.firsts;
-  short = λ b file. subst (AllByRecursion (IsShortAlt b i j)) (sym holds.views) (all-append (IsShortAlt b i j) (map held_view held) (alts_left i j now (x ∷ [])) (on.short b file) (left-short b i j now x (
+  short = λ b file. subst (AllByRecursion (IsShortAlt b i j)) (sym holds.views) (all-append (IsShortAlt b i j) (map held_view held) (alts_left i j now (x ∷ [])) (on.short b file) (left-short b i j now x fits (
       let goes = read.goes in
       let size = ap (size_of s.cursor.standing) shown in
       let moved = goes.moved in
@@ -154,17 +147,12 @@ reads-failed i j now xs (y ∷ ys) behind s t read.Damage stays comes = stays.un
 reads-failed i j now xs ys behind s t read.Folder stays comes = tt
 reads-failed i j now xs ys behind s t read.Memory stays comes = tt
 
-never-long : (e : CursorFault) → IfLong (Some (of_cursor e)) ⊥
-never-long read.Damage = tt
-never-long read.Folder = tt
-never-long read.Memory = tt
-
 pub read-failed : (i j : ℕ) (now : List (ℕ × ℕ)) (r s t : State) (e : CursorFault) (held : List Held) → ReadOn i j now r s held → Stays s t e → AltsRead i j now r t (Err (of_cursor e))
 read-failed i j now r s t e held on stays =
     let passes = on.passes in
     record {
       passes = passes-then [] [] r s t (Some (of_cursor e)) passes (failed s t e passes.within stays);
-      not_long = never-long e;
+      not_long = not-long-cursor e;
       firsts = tt;
       short = λ b file. tt;
       alternatives = λ xs behind comes. (let yet = on.come xs behind comes in reads-failed i j now xs yet.yet behind s t e stays yet.comes);
@@ -190,7 +178,7 @@ read-damage i j now r s t item held alts end on read = record {
 
 -- ---- what is held is what is left
 
-left-set : (i j : ℕ) (q : List (ℕ × ℕ)) (s : Stamp) → set_left i j (cut_set i j q) s ≡ cut_set i j (set_in s q)
+pub left-set : (i j : ℕ) (q : List (ℕ × ℕ)) (s : Stamp) → set_left i j (cut_set i j q) s ≡ cut_set i j (set_in s q)
 left-set i j q None = refl
 left-set i j q (Some t) = refl
 
@@ -209,7 +197,7 @@ left-is i j q (x ∷ xs) = left-one i j q x (alts_left i j (cut_set i j q) xs) �
 pub calls-map : (xs ys : List PlainAlt) → alt_calls (xs ++ ys) ≡ alt_calls xs ++ alt_calls ys
 calls-map xs ys = map-append _ xs ys
 
-all-calls : (b i j : ℕ) (xs : List PlainAlt) → AllByRecursion (IsShortAlt b i j) xs → AllByRecursion (IsShortCall b i j) (alt_calls xs ++ call_end_leaf ∷ [])
+all-calls : (b i j : ℕ) (xs : List PlainAlt) → AllByRecursion (IsShortAlt b i j) xs → AllByRecursion (IsShortCall (IsLeftOf b i j) b) (alt_calls xs ++ call_end_leaf ∷ [])
 all-calls b i j [] h = (tt, tt)
 all-calls b i j (x ∷ xs) h = (h.0, all-calls b i j xs h.1)
 
@@ -228,38 +216,27 @@ closes-leaf v w xs is =
 
 -- ---- the leaf
 
-leaf-rests : (v w : PlainWriter) (xs : List PlainAlt) (made : List WriterCall) (e : Option CutFault) → Unless e (w ≡ after_all v made) → Unless e (made ≡ alt_calls xs ++ call_end_leaf ∷ []) → Unless e (Rests v w)
+leaf-rests : (v w : PlainWriter) (xs : List PlainAlt) (made : List WriterCall) (e : Option CopyFault) → Unless e (w ≡ after_all v made) → Unless e (made ≡ alt_calls xs ++ call_end_leaf ∷ []) → Unless e (Rests v w)
 leaf-rests v w xs made None is same = closes-leaf v w xs (is ∙ ap (after_all v) same)
 leaf-rests v w xs made (Some f) is same = tt
 
-part-of : (cs made : List WriterCall) (next : WriterCall) (e : Option CutFault) → IsPart cs made next e → Unless e (made ≡ cs)
-part-of cs made next None h = h
-part-of cs made next (Some f) h = tt
-
-not-long : (e : Option CutFault) → IfLong e ⊥ → e ≢ Some TooLong
-not-long None h d = absurd cc
-not-long (Some TooLong) h d = h
-not-long (Some Damage) h d = absurd cc
-not-long (Some Folder) h d = absurd cc
-not-long (Some Memory) h d = absurd cc
-
-stops : (i j : ℕ) (now : List (ℕ × ℕ)) (cs : List WriterCall) (xs : List PlainAlt) (behind : List PlainItem) (t : State) (f : CutFault) → IfLong (Some f) ⊥ → Reads i j now xs behind t (Err f) → Matches cs [] call_finish behind t (Some f)
+stops : (i j : ℕ) (now : List (ℕ × ℕ)) (cs : List WriterCall) (xs : List PlainAlt) (behind : List PlainItem) (t : State) (f : CopyFault) → IfLong (Some f) ⊥ → Reads i j now xs behind t (Err f) → Matches cs [] call_finish behind t (Some f)
 stops i j now cs xs behind t Damage n h = h
 stops i j now cs xs behind t TooLong n h = absurd n
 stops i j now cs xs behind t Folder n h = tt
 stops i j now cs xs behind t Memory n h = tt
 
-pub leaf-fault : (i j : ℕ) (q now : List (ℕ × ℕ)) (s t : State) (f : CutFault) → t.writer ≡ s.writer → AltsRead i j now s t (Err f) → LeafCut i j q s t (Some f)
+pub leaf-fault : (i j : ℕ) (q now : List (ℕ × ℕ)) (s t : State) (f : CopyFault) → t.writer ≡ s.writer → AltsRead i j now s t (Err f) → LeafCut i j q s t (Some f)
 leaf-fault i j q now s t f same h = record {
   made = [];
   next = call_finish;
   run = run-none call_finish s t (Some f) (not-long (Some f) h.not_long) same h.passes;
   rests = tt;
-  short = λ b file few. short-none b i j call_finish (Some f) (not-long (Some f) h.not_long);
+  short = λ b file few. short-none (IsLeftOf b i j) b call_finish (Some f) (not-long (Some f) h.not_long);
   alternatives = λ xs behind comes apart. stops i j now (alt_calls (sliced_alts i j q xs) ++ call_end_leaf ∷ []) xs behind t f h.not_long (h.alternatives xs behind comes);
 }
 
-pub leaf-cut : (i j : ℕ) (q now : List (ℕ × ℕ)) (s t u : State) (e : Option CutFault) (held put : List Held) → now ≡ cut_set i j q → t.writer ≡ s.writer → AltsRead i j now s t (Ok held) → InOrder held put
+pub leaf-cut : (i j : ℕ) (q now : List (ℕ × ℕ)) (s t u : State) (e : Option CopyFault) (held put : List Held) → now ≡ cut_set i j q → t.writer ≡ s.writer → AltsRead i j now s t (Ok held) → InOrder held put
     → Sent (alt_calls (map held_view put) ++ call_end_leaf ∷ []) t u e → LeafCut i j q s u e
 leaf-cut i j q now s t u e held put left same h order sent =
     let cs = alt_calls (map held_view put) ++ call_end_leaf ∷ [] in
@@ -269,8 +246,8 @@ leaf-cut i j q now s t u e held put left same h order sent =
       made = sent.made;
       next = sent.next;
       run = run;
-      rests = leaf-rests s.writer u.writer (map held_view put) sent.made e run.writer (part-of cs sent.made sent.next e sent.part);
-      short = λ b file few. short-part b i j cs sent.made sent.next e (all-calls b i j (map held_view put) (order.short b i j (h.short b file))) sent.part;
+      rests = leaf-rests s.writer u.writer (map held_view put) sent.made e run.writer (whole-part cs sent.made sent.next e sent.part);
+      short = λ b file few. short-part (IsLeftOf b i j) b cs sent.made sent.next e (all-calls b i j (map held_view put) (order.short b i j (h.short b file))) sent.part;
       alternatives = λ xs behind comes apart. (
           let reads = h.alternatives xs behind comes in
           let views : map held_view held ≡ left_alts i j q xs = reads.0 ∙ ap (λ z. alts_left i j z xs) left ∙ left-is i j q xs in

@@ -5,8 +5,7 @@ pub mod Stamps
 pub mod LeftAlts
 pub mod Nodes
 pub mod Slices
-pub mod Passing
-pub mod Running
+pub mod Matching
 pub mod Sets
 pub mod Skips
 pub mod Sorting

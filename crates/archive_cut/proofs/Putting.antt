@@ -8,12 +8,12 @@ use Rattle.record_writer.specs.Calls.{after_all}
 use Rattle.record_writer.specs.Data.{PlainWriter, WriterCall, call_end_leaf}
 use Rattle.record_writer.specs.Walks.{alt_calls}
 use Rattle.record_writer.proofs.WalkLaws.{alts-keep}
+use Rattle.record_copy.specs.Runs.{Sent}
+use Rattle.record_copy.specs.State.{State}
+use Rattle.record_copy.specs.declared.fault.CopyFault.{CopyFault}
+use Rattle.record_copy.proofs.Running.{sent-then, sent-fault, sent-as}
 use Rattle.archive_cut.specs.Held.{held_view, alt_call}
-use Rattle.archive_cut.specs.Runs.{Sent}
-use Rattle.archive_cut.specs.State.{State}
 use Rattle.archive_cut.specs.declared.held.Held.{Held}
-use Rattle.archive_cut.specs.declared.fault.CutFault.{CutFault}
-use Rattle.archive_cut.proofs.Running.{sent-then, sent-fault, sent-as}
 
 -- a cursor of which nothing is asked
 abbrev pub nowhere : PlainCursor
@@ -48,7 +48,7 @@ put-next k hs h s t u low at done sent =
     let is : calls (take (k + 1) hs) ≡ calls (take k hs) ++ alt_call (held_view h) ∷ [] = ap (λ n. calls (take n hs)) (add-one k) ∙ ap calls (take-next k hs h low at) ∙ calls-append (take k hs) (h ∷ []) in
     sent-as s u None _ _ is (sent-then s t u None (calls (take k hs)) (alt_call (held_view h) ∷ []) done sent)
 
-pub put-fault : (k : ℕ) (hs : List Held) (h : Held) (s t u : State) (f : CutFault) → k < length hs → h ≡ get_or hs k h → Sent (calls (take k hs)) s t None → Sent (alt_call (held_view h) ∷ []) t u (Some f) → Sent (calls hs ++ call_end_leaf ∷ []) s u (Some f)
+pub put-fault : (k : ℕ) (hs : List Held) (h : Held) (s t u : State) (f : CopyFault) → k < length hs → h ≡ get_or hs k h → Sent (calls (take k hs)) s t None → Sent (alt_call (held_view h) ∷ []) t u (Some f) → Sent (calls hs ++ call_end_leaf ∷ []) s u (Some f)
 put-fault k hs h s t u f low at done sent =
     let rest = calls (drop (suc k) hs) ++ call_end_leaf ∷ [] in
     let is : calls hs ++ call_end_leaf ∷ [] ≡ (calls (take k hs) ++ alt_call (held_view h) ∷ []) ++ rest =
@@ -57,7 +57,7 @@ put-fault k hs h s t u f low at done sent =
     ∙ sym (append_assoc (calls (take k hs)) (alt_call (held_view h) ∷ []) rest) in
     sent-as s u (Some f) _ _ is (sent-fault s u f (calls (take k hs) ++ alt_call (held_view h) ∷ []) rest (sent-then s t u (Some f) (calls (take k hs)) (alt_call (held_view h) ∷ []) done sent))
 
-pub put-end : (k : ℕ) (hs : List Held) (s t u : State) (e : Option CutFault) → length hs ≤ k → Sent (calls (take k hs)) s t None → Sent (call_end_leaf ∷ []) t u e → Sent (calls hs ++ call_end_leaf ∷ []) s u e
+pub put-end : (k : ℕ) (hs : List Held) (s t u : State) (e : Option CopyFault) → length hs ≤ k → Sent (calls (take k hs)) s t None → Sent (call_end_leaf ∷ []) t u e → Sent (calls hs ++ call_end_leaf ∷ []) s u e
 put-end k hs s t u e high done sent =
     sent-then s t u e (calls hs) (call_end_leaf ∷ []) (subst (λ z. Sent (calls z) s t None) (take-whole k hs high) done) sent
 

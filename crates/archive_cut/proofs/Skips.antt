@@ -15,12 +15,13 @@ use Rattle.record_cursor.specs.declared.fault.CursorFault.{CursorFault}
 use Rattle.record_cursor.specs.declared.fault.CursorFault.TheVariants.{Damage, Folder, Memory}
 use Rattle.record_cursor.specs.declared.item.Item.{Item}
 use Rattle.record_cursor.specs.declared.item.Item.TheVariants.{Inner, Leaf, Alt, LeafEnd, End, Finish}
+use Rattle.record_copy.specs.Faults.{of_cursor}
+use Rattle.record_copy.specs.Passes.{Passes}
+use Rattle.record_copy.specs.State.{State}
+use Rattle.record_copy.specs.declared.fault.CopyFault.TheVariants as cut
+use Rattle.record_copy.proofs.Passing.{passes-then, Nexts, Stays, gave, gave-stop, failed, given}
 use Rattle.archive_cut.specs.Items.{alt_items, node_items, row_items, end_of}
-use Rattle.archive_cut.specs.Passes.{Passes, of_cursor}
 use Rattle.archive_cut.specs.Skipped.{Follows, RowSkipped, AltsSkipped, ChildSkipped}
-use Rattle.archive_cut.specs.State.{State}
-use Rattle.archive_cut.specs.declared.fault.CutFault.TheVariants as cut
-use Rattle.archive_cut.proofs.Passing.{passes-then, Nexts, Stays, gave, gave-stop, failed, given}
 
 -- ---- items that are no others
 

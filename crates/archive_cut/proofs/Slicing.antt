@@ -38,16 +38,17 @@ use Rattle.record_writer.specs.Walks.{row_calls, walk_of}
 use Rattle.record_writer.specs.declared.writer.Writer.{Writer}
 use Rattle.record_writer.proofs.FitLaws.{walk-fits-exactly, fit-both}
 use Rattle.record_writer.proofs.WalkLaws.{walk-spells}
-use Rattle.archive_cut.specs.Passes.{IfFolder, IfLong, IfWhole, of_writer}
-use Rattle.archive_cut.specs.Sliced.{cut_set, sliced_row, sliced, items}
+use Rattle.record_copy.specs.Faults.{IfFolder, IfLong, IfWhole, of_writer}
+use Rattle.record_copy.specs.declared.fault.CopyFault.{CopyFault}
+use Rattle.record_copy.specs.declared.fault.CopyFault.TheVariants.{Damage, TooLong, Folder, Memory}
+use Rattle.record_copy.proofs.Passing.{lengthens-then, lengthens-none, cause-then}
+use Rattle.record_copy.proofs.Running.{short-none}
 use Rattle.archive_cut.specs.Items.{row_items}
+use Rattle.archive_cut.specs.Short.{IsLeftOf}
+use Rattle.archive_cut.specs.Sliced.{cut_set, sliced_row, sliced, items}
 use Rattle.archive_cut.specs.Walked.{AreApart}
 use Rattle.archive_cut.specs.Whole.{Called, Slices, NodesCut, VersionsCut}
-use Rattle.archive_cut.specs.declared.fault.CutFault.{CutFault}
-use Rattle.archive_cut.specs.declared.fault.CutFault.TheVariants.{Damage, TooLong, Folder, Memory}
 use Rattle.archive_cut.proofs.Coming.{Heads, sound-heads, items-are, comes-all}
-use Rattle.archive_cut.proofs.Passing.{lengthens-then, lengthens-none, cause-then}
-use Rattle.archive_cut.proofs.Running.{short-none}
 use Rattle.archive_cut.proofs.Slices.{archive_cut, archive-apart, all_items, root-left}
 
 -- ---- where the file is told
@@ -100,7 +101,7 @@ module _ (h : PlainHeader) (rules : List PlainRule) (vs : List PlainKeyed) (byte
   begun : (v : PlainWriter) → v ≡ started h.rules (j + 1 - i) → v ≡ started rules new.n
   begun v e = (let d = heads in e ∙ ap (λ rs. started rs (j + 1 - i)) d.rules_are)
 
-  pub slices-by : (v : PlainWriter) (made : List WriterCall) (next : WriterCall) (z : List ℕ) (e : Option CutFault) → v ≡ started h.rules (j + 1 - i) → Called calls made next e → AllFit v made → IfLong e (¬ Fits (after_all v made) next) → IfWhole e (z ≡ all_appended v made)
+  pub slices-by : (v : PlainWriter) (made : List WriterCall) (next : WriterCall) (z : List ℕ) (e : Option CopyFault) → v ≡ started h.rules (j + 1 - i) → Called calls made next e → AllFit v made → IfLong e (¬ Fits (after_all v made) next) → IfWhole e (z ≡ all_appended v made)
       → Slices (header_bytes h.rules (j + 1 - i) ++ z) rules i j vs e
   slices-by v made next z None at called fit over same =
       let d = heads in
@@ -126,7 +127,7 @@ upto-few n = (let size = length-set_bytes (upto_pairs n) in let few = one n in o
 
 module _ {S : Type 0} (files : S → Option Files) (draft : S → Option (List ℕ)) (numbers : S → Numbers) (count : S → ℕ) (h : PlainHeader) (i j : ℕ) (from : 1 ≤ i) (order : i ≤ j) (high : j ≤ h.versions) (old mid new : S) (c : PlainCursor) (w : Writer) where
   -- a writer began, and then the nodes were appended
-  pub versions-then : {T : Type 0} (v : T) (e : Option CutFault) → IsMeter (numbers old) → Appends files draft numbers count old mid (header_bytes h.rules (j + 1 - i)) (Ok v) → writer_view w ≡ started h.rules (j + 1 - i)
+  pub versions-then : {T : Type 0} (v : T) (e : Option CopyFault) → IsMeter (numbers old) → Appends files draft numbers count old mid (header_bytes h.rules (j + 1 - i)) (Ok v) → writer_view w ≡ started h.rules (j + 1 - i)
       → c.length ≡ h.length → c.standing ≡ among_nodes 0 → c.at ≡ h.first → NodesCut files draft numbers count i j (upto_pairs h.versions) mid new c w e → VersionsCut files draft numbers count h i j old new c e
   versions-then v e meter did begins length_is standing at nodes =
       let gains = did.gains in
@@ -149,6 +150,7 @@ module _ {S : Type 0} (files : S → Option Files) (draft : S → Option (List �
         made = nodes.made;
         next = nodes.next;
         spelled = spelled-by e nodes.same;
+        fit = subst (λ (v : PlainWriter). AllFit v nodes.made) begins nodes.fit;
         over = over-by e nodes.over;
         short = λ b file. nodes.short b (omega (arith, file, length_is)) (let u = upto-few h.versions in omega (arith, file, u));
         slices = λ bytes rules vs tells is s. (
@@ -163,14 +165,14 @@ module _ {S : Type 0} (files : S → Option Files) (draft : S → Option (List �
             slices-by h rules vs bytes is s i j from order high (writer_view w) nodes.made nodes.next nodes.bytes e begins (nodes.nodes a.kids m here differ) nodes.fit nodes.over nodes.same);
       }
     where
-      spelled-by : (e : Option CutFault) → IfWhole e (nodes.bytes ≡ all_appended (writer_view w) nodes.made) → IfLong e (header_bytes h.rules (j + 1 - i) ++ nodes.bytes ≡ header_bytes h.rules (j + 1 - i) ++ all_appended (started h.rules (j + 1 - i)) nodes.made)
+      spelled-by : (e : Option CopyFault) → IfWhole e (nodes.bytes ≡ all_appended (writer_view w) nodes.made) → IfLong e (header_bytes h.rules (j + 1 - i) ++ nodes.bytes ≡ header_bytes h.rules (j + 1 - i) ++ all_appended (started h.rules (j + 1 - i)) nodes.made)
       spelled-by None x = tt
       spelled-by (Some TooLong) x = ap (λ z. header_bytes h.rules (j + 1 - i) ++ z) (x ∙ ap (λ v. all_appended v nodes.made) begins)
       spelled-by (Some Damage) x = tt
       spelled-by (Some Folder) x = tt
       spelled-by (Some Memory) x = tt
 
-      over-by : (e : Option CutFault) → IfLong e (¬ Fits (after_all (writer_view w) nodes.made) nodes.next) → IfLong e (¬ Fits (after_all (started h.rules (j + 1 - i)) nodes.made) nodes.next)
+      over-by : (e : Option CopyFault) → IfLong e (¬ Fits (after_all (writer_view w) nodes.made) nodes.next) → IfLong e (¬ Fits (after_all (started h.rules (j + 1 - i)) nodes.made) nodes.next)
       over-by None x = tt
       over-by (Some TooLong) x = subst (λ v. ¬ Fits (after_all v nodes.made) nodes.next) begins x
       over-by (Some Damage) x = tt
@@ -230,7 +232,8 @@ versions-unbegun {T = T} files draft numbers count h i j old new c bytes e meter
       made = [];
       next = call_finish;
       spelled = not-long {T = T} e _ fits;
+      fit = tt;
       over = not-long {T = T} e _ fits;
-      short = λ b file. short-none b i j call_finish (Some (of_writer e)) (no-call {T = T} e fits);
+      short = λ b file. short-none (IsLeftOf b i j) b call_finish (Some (of_writer e)) (no-call {T = T} e fits);
       slices = λ front rules vs tells is sound. no-slices {T = T} begun.bytes rules i j vs e fits;
     }

@@ -1,6 +1,6 @@
 -- What cutting the nodes of a row goes along.
 use Rattle.std.proofs.Common.{IfOk, IsTrue, ◌≡◌, ◌≢◌, ℕ, ◌+◌, ◌-◌, ◌*◌, ◌≤◌, ◌<◌, List, [], ◌∷◌, ◌++◌, length, Option, Some, None, Result, Ok, Err, Bool, true, false, cond, true≢false, refl, sym, ap, subst, ◌∙◌, append_assoc, arith}
-use Rattle.std.proofs.lemmas.List.{append-nil, length-append}
+use Rattle.std.proofs.lemmas.List.{append-nil}
 use Rattle.std.specs.Option.{option_map, unwrap_or}
 use Rattle.std.specs.List.{AllByRecursion}
 use Rattle.timestamp_tree.specs.Bytes.{set_bytes}
@@ -14,54 +14,57 @@ use Rattle.archive_tree.specs.Data.{Stamp, PlainNode, inner_node, leaf_node, Pla
 use Rattle.archive_tree.specs.PartsTest.{is_none, is_same}
 use Rattle.archive_tree.specs.View.{stamp_view}
 use Rattle.archive_tree.proofs.Tells.{is_same-exact}
-use Rattle.record_format.specs.Data.{inner_rec, leaf_rec}
 use Rattle.record_format.specs.Nodes.{set_in}
-use Rattle.record_format.proofs.Pieces.{rec-length}
-use Rattle.record_parts.specs.Spelling.{label_bytes, stamp_bytes}
+use Rattle.record_parts.specs.Spelling.{label_bytes}
 use Rattle.record_parts.specs.declared.views.LabelView.{LabelView}
 use Rattle.record_parts.specs.declared.views.StampView.{StampView}
 use Rattle.record_cursor.specs.Items.{PlainItem, inner_item, leaf_item, leaf_end_item, end_item}
 use Rattle.record_cursor.specs.Moves.{Comes}
 use Rattle.record_cursor.specs.Next.{size_of}
-use Rattle.record_cursor.specs.Places.{Standing}
 use Rattle.record_cursor.specs.Faults as cursor
 use Rattle.record_cursor.specs.View.{shown_item}
 use Rattle.record_cursor.specs.declared.fault.CursorFault.{CursorFault}
 use Rattle.record_cursor.specs.declared.fault.CursorFault.TheVariants as read
 use Rattle.record_cursor.specs.declared.item.Item.{Item}
 use Rattle.record_cursor.specs.declared.item.Item.TheVariants as the_item
-use Rattle.record_writer.specs.Data.{PlainWriter, OpenInner, WriterCall, call_end_leaf, call_end_inner, call_finish}
-use Rattle.record_writer.specs.Calls.{appended, after, after_all, inner_ended}
+use Rattle.record_writer.specs.Data.{PlainWriter, WriterCall, call_end_leaf, call_end_inner, call_finish}
+use Rattle.record_writer.specs.Calls.{after, after_all}
 use Rattle.record_writer.specs.Walks.{alt_calls, node_calls, row_calls}
+use Rattle.record_copy.specs.Faults.{Unless, fault_of, of_cursor}
+use Rattle.record_copy.specs.Parts.{opening_of}
+use Rattle.record_copy.specs.Passes.{Passes, Rests, IsOpen, EndsKind, call_of}
+use Rattle.record_copy.specs.Runs.{Run, Sent}
+use Rattle.record_copy.specs.Short.{IfStored, IsShortCall, AreShort}
+use Rattle.record_copy.specs.State.{State}
+use Rattle.record_copy.specs.declared.kind.Kind.{Kind}
+use Rattle.record_copy.specs.declared.kind.Kind.TheVariants.{Inner, Leaf}
+use Rattle.record_copy.specs.declared.fault.CopyFault.{CopyFault}
+use Rattle.record_copy.specs.declared.fault.CopyFault.TheVariants.{Damage, TooLong, Folder, Memory}
+use Rattle.record_copy.proofs.Alternating.{not-long, rests-behind, whole-part}
+use Rattle.record_copy.proofs.Copying.{call-short, closes, ends-rest, moreover, open-stands}
+use Rattle.record_copy.proofs.FewBytes.{IsFewStamp, opening-long, opening-parts}
+use Rattle.record_copy.proofs.Passing.{Nexts, Stays, gave, gave-stop, failed, given}
+use Rattle.record_copy.proofs.Reading.{Opener, not-long-cursor, within-file}
+use Rattle.record_copy.proofs.Running.{run-then, run-none, short-none, short-part, short-then}
 use Rattle.archive_cut.specs.Items.{alt_items, node_items, row_items, end_of}
 use Rattle.archive_cut.specs.Opened.{opening_calls}
-use Rattle.archive_cut.specs.Passes.{Passes, Unless, Rests, Closes, IsOpen, EndsKind, call_of, fault_of, of_cursor}
-use Rattle.archive_cut.specs.Runs.{Run, Matches, IsPart, Sent}
-use Rattle.archive_cut.specs.Short.{IsLeftOf, IsLeftStamp, IsShortCall, AreShort}
+use Rattle.archive_cut.specs.Runs.{Matches}
+use Rattle.archive_cut.specs.Short.{IsLeftOf}
 use Rattle.archive_cut.specs.Skipped.{Follows, BegunSkipped}
 use Rattle.archive_cut.specs.Sliced.{cut_set, is_gone, stamp_under, cut_stamp, sliced_alts, sliced_node, sliced_row}
-use Rattle.archive_cut.specs.State.{State}
 use Rattle.archive_cut.specs.Walked.{AreAltsApart, AreApart, IsApart, calls_left, RowCut, InsideCut, LeafCut, BegunCut, OpenedCut, Gone, IsOpenIf, IsOwnLeft, ChildCut}
 use Rattle.archive_cut.specs.Windows.{set_left, stamp_left}
-use Rattle.archive_cut.specs.declared.kind.Kind.{Kind}
-use Rattle.archive_cut.specs.declared.kind.Kind.TheVariants.{Inner, Leaf}
-use Rattle.archive_cut.specs.declared.fault.CutFault.{CutFault}
-use Rattle.archive_cut.specs.declared.fault.CutFault.TheVariants.{Damage, TooLong, Folder, Memory}
 use Rattle.archive_cut.proofs.Clips.{IsCanonical-cut}
-use Rattle.archive_cut.proofs.Leaving.{left-stamp}
-use Rattle.archive_cut.proofs.Passing.{Nexts, Stays, gave, gave-stop, failed, given}
-use Rattle.archive_cut.proofs.Running.{run-then, run-none, matches-then, matches-fault, matches-part, short-none, short-part, short-then}
+use Rattle.archive_cut.proofs.Leaving.{left-set, left-stamp}
+use Rattle.archive_cut.proofs.Matching.{matches-then, matches-fault, matches-part}
 use Rattle.archive_cut.proofs.Skips.{first, behind_first, opens, node-given, not-first, no-node, not-end, moves-on, Behind, row-behind, alts-behind}
+use Rattle.record_parts.specs.Shapes.{FitsLabel}
 
 -- ---- sets
 
 pub set-is : (s : Stamp) (parent : List (ℕ × ℕ)) → set_in s parent ≡ unwrap_or s parent
 set-is None parent = refl
 set-is (Some t) parent = refl
-
-pub left-set : (i j : ℕ) (q : List (ℕ × ℕ)) (s : Stamp) → set_left i j (cut_set i j q) s ≡ cut_set i j (set_in s q)
-left-set i j q None = refl
-left-set i j q (Some t) = refl
 
 -- the set under a parent of a stamp that is stored where they differ
 under-set : (parent s : List (ℕ × ℕ)) → IsCanonical parent → IsCanonical s → set_in (stamp_under parent s) parent ≡ s
@@ -109,10 +112,6 @@ own-left i j q st c o = under-set (cut_set i j q) (cut_set i j (set_in st q)) (I
 
 -- ---- the calls of a node
 
-abbrev pub opening : Kind → PlainLabel → Stamp → PlainItem
-opening Inner l st = inner_item l st
-opening Leaf l st = leaf_item l st
-
 abbrev inside_calls : ℕ → ℕ → List (ℕ × ℕ) → PlainNode → List WriterCall
 inside_calls i j q (inner_node l st ks) = row_calls (cut_set i j (set_in st q)) (sliced_row i j (set_in st q) ks) ++ call_end_inner ∷ []
 inside_calls i j q (leaf_node l st xs) = alt_calls (sliced_alts i j (set_in st q) xs) ++ call_end_leaf ∷ []
@@ -120,13 +119,13 @@ inside_calls i j q (leaf_node l st xs) = alt_calls (sliced_alts i j (set_in st q
 abbrev opening_call : ℕ → ℕ → List (ℕ × ℕ) → Kind → PlainLabel → Stamp → WriterCall
 opening_call i j q kind l st = call_of kind l (cut_stamp i j q st) (set_in (cut_stamp i j q st) (cut_set i j q))
 
-stamp-same : (kind : Kind) (l : PlainLabel) (st : Stamp) (k : PlainNode) → opening kind l st ≡ first k → st ≡ node_stamp k
+stamp-same : (kind : Kind) (l : PlainLabel) (st : Stamp) (k : PlainNode) → opening_of kind l st ≡ first k → st ≡ node_stamp k
 stamp-same Inner l st (inner_node m z ks) same = cc
 stamp-same Leaf l st (leaf_node m z xs) same = cc
 stamp-same Inner l st (leaf_node m z xs) same = absurd cc
 stamp-same Leaf l st (inner_node m z ks) same = absurd cc
 
-called : (i j : ℕ) (q : List (ℕ × ℕ)) (kind : Kind) (l : PlainLabel) (st : Stamp) (k : PlainNode) → opening kind l st ≡ first k → set_in (cut_stamp i j q (node_stamp k)) (cut_set i j q) ≡ cut_set i j (set_in (node_stamp k) q)
+called : (i j : ℕ) (q : List (ℕ × ℕ)) (kind : Kind) (l : PlainLabel) (st : Stamp) (k : PlainNode) → opening_of kind l st ≡ first k → set_in (cut_stamp i j q (node_stamp k)) (cut_set i j q) ≡ cut_set i j (set_in (node_stamp k) q)
     → opening_call i j q kind l st ∷ inside_calls i j q k ≡ node_calls (cut_set i j q) (sliced_node i j q k)
 called i j q Inner l st (inner_node m z ks) same set =
     let labels : l ≡ m = cc in
@@ -140,7 +139,7 @@ called i j q Leaf l st (leaf_node m z xs) same set =
 called i j q Inner l st (leaf_node m z xs) same set = absurd cc
 called i j q Leaf l st (inner_node m z ks) same set = absurd cc
 
-left-called : (i j : ℕ) (q : List (ℕ × ℕ)) (kind : Kind) (l : PlainLabel) (st : Stamp) (k : PlainNode) → opening kind l st ≡ first k → is_gone i j (set_in st q) ≡ false → set_in (cut_stamp i j q st) (cut_set i j q) ≡ cut_set i j (set_in st q)
+left-called : (i j : ℕ) (q : List (ℕ × ℕ)) (kind : Kind) (l : PlainLabel) (st : Stamp) (k : PlainNode) → opening_of kind l st ≡ first k → is_gone i j (set_in st q) ≡ false → set_in (cut_stamp i j q st) (cut_set i j q) ≡ cut_set i j (set_in st q)
     → opening_call i j q kind l st ∷ inside_calls i j q k ≡ calls_left i j q k
 left-called i j q kind l st k same gone set =
     let stamps = stamp-same kind l st k same in
@@ -148,72 +147,32 @@ left-called i j q kind l st k same gone set =
     called i j q kind l st k same (subst (λ z. set_in (cut_stamp i j q z) (cut_set i j q) ≡ cut_set i j (set_in z q)) stamps set)
     ∙ sym (ap (λ b. cond b [] (node_calls (cut_set i j q) (sliced_node i j q k))) left)
 
-gone-called : (i j : ℕ) (q : List (ℕ × ℕ)) (kind : Kind) (l : PlainLabel) (st : Stamp) (k : PlainNode) → opening kind l st ≡ first k → is_gone i j (set_in st q) ≡ true → calls_left i j q k ≡ []
+gone-called : (i j : ℕ) (q : List (ℕ × ℕ)) (kind : Kind) (l : PlainLabel) (st : Stamp) (k : PlainNode) → opening_of kind l st ≡ first k → is_gone i j (set_in st q) ≡ true → calls_left i j q k ≡ []
 gone-called i j q kind l st k same gone =
     let stamps = stamp-same kind l st k same in
     ap (λ b. cond b [] (node_calls (cut_set i j q) (sliced_node i j q k))) (subst (λ z. is_gone i j (set_in z q) ≡ true) stamps gone)
 
-not-ended : (kind : Kind) (l : PlainLabel) (st : Stamp) (n : ℕ) → opening kind l st ≢ end_item n
+not-ended : (kind : Kind) (l : PlainLabel) (st : Stamp) (n : ℕ) → opening_of kind l st ≢ end_item n
 not-ended Inner l st n = λ e. absurd cc
 not-ended Leaf l st n = λ e. absurd cc
 
-pub opening-long : (kind : Kind) (c : Standing) (l : PlainLabel) (st : Stamp) → 9 ≤ size_of c (opening kind l st)
-opening-long Inner c l st = omega arith
-opening-long Leaf c l st = omega arith
-
 -- ---- few bytes
 
-opening-parts : (b : ℕ) (kind : Kind) (c : Standing) (l : PlainLabel) (st : Stamp) → size_of c (opening kind l st) ≤ b → (length (label_bytes l) ≤ b) × ((t : List (ℕ × ℕ)) → st ≡ Some t → length (set_bytes t) ≤ b)
-opening-parts b Inner c l None le = (let e = rec-length (inner_rec l None) in let f = length-append (label_bytes l) (stamp_bytes None) in (omega (arith, e, f, le), λ t d. absurd cc))
-opening-parts b Leaf c l None le = (let e = rec-length (leaf_rec l None) in let f = length-append (label_bytes l) (stamp_bytes None) in (omega (arith, e, f, le), λ t d. absurd cc))
-opening-parts b Inner c l (Some s) le =
-    let e = rec-length (inner_rec l (Some s)) in
-    let f = length-append (label_bytes l) (1 ∷ set_bytes s) in
-    let few : length (set_bytes s) ≤ b = omega (arith, e, f, le) in
-    (omega (arith, e, f, le), λ t d. (let same : s ≡ t = cc in subst (λ z. length (set_bytes z) ≤ b) same few))
-opening-parts b Leaf c l (Some s) le =
-    let e = rec-length (leaf_rec l (Some s)) in
-    let f = length-append (label_bytes l) (1 ∷ set_bytes s) in
-    let few : length (set_bytes s) ≤ b = omega (arith, e, f, le) in
-    (omega (arith, e, f, le), λ t d. (let same : s ≡ t = cc in subst (λ z. length (set_bytes z) ≤ b) same few))
-
-own-few : (b : ℕ) (st : Stamp) (q : List (ℕ × ℕ)) → ((t : List (ℕ × ℕ)) → st ≡ Some t → length (set_bytes t) ≤ b) → length (set_bytes q) ≤ b → length (set_bytes (set_in st q)) ≤ b
+own-few : (b : ℕ) (st : Stamp) (q : List (ℕ × ℕ)) → IsFewStamp b st → length (set_bytes q) ≤ b → length (set_bytes (set_in st q)) ≤ b
 own-few b None q h g = g
-own-few b (Some s) q h g = h s refl
-
-call-short : (b i j : ℕ) (kind : Kind) (l : PlainLabel) (s : Stamp) (set : List (ℕ × ℕ)) → length (label_bytes l) ≤ b → IsLeftStamp b i j s → IsLeftOf b i j set → IsShortCall b i j (call_of kind l s set)
-call-short b i j Inner l s set h g f = (h, g, f)
-call-short b i j Leaf l s set h g f = (h, g, f)
-
--- ---- the writer
-
-some-opened : (o : OpenInner) (is js : List OpenInner) → is ≡ o ∷ js → is ≢ []
-some-opened o is js e d = (let x = sym d ∙ e in absurd cc)
-
--- a node of this kind stands begun
-pub open-stands : (kind : Kind) (l : PlainLabel) (s : Stamp) (set : List (ℕ × ℕ)) (v w : PlainWriter) → v.leaf ≡ None → w ≡ after v (call_of kind l s set) → IsOpen kind w
-open-stands Inner l s set v w none is = (ap (λ (x : PlainWriter). x.leaf) is ∙ none, some-opened _ w.inners v.inners (ap (λ (x : PlainWriter). x.inners) is))
-open-stands Leaf l s set v w none is = λ e. (let x = sym (ap (λ (y : PlainWriter). y.leaf) is) ∙ e in absurd cc)
-
-tails : (i j : OpenInner) (is js : List OpenInner) → i ∷ is ≡ j ∷ js → js ≡ is
-tails i j is js e = cc
-
-ends-rest : (kind : Kind) (l : PlainLabel) (s : Stamp) (set : List (ℕ × ℕ)) (v w x : PlainWriter) (e : Option CutFault) → w ≡ after v (call_of kind l s set) → Unless e (EndsKind kind w x) → Unless e (Rests v x)
-ends-rest Inner l s set v w x None is h = record { no_leaf = h.no_leaf; inners = tails _ h.closed v.inners x.inners (sym (ap (λ (y : PlainWriter). y.inners) is) ∙ h.inners) }
-ends-rest Leaf l s set v w x None is h = record { no_leaf = h.no_leaf; inners = h.inners ∙ ap (λ (y : PlainWriter). y.inners) is }
-ends-rest kind l s set v w x (Some f) is h = tt
+own-few b (Some s) q h g = h
 
 -- ---- what is inside a node that was begun
 
-pub record Part (i j : ℕ) (q : List (ℕ × ℕ)) (kind : Kind) (l : PlainLabel) (st : Stamp) (s t : State) (ended : Option CutFault) : Type 0 where
+pub record Part (i j : ℕ) (q : List (ℕ × ℕ)) (kind : Kind) (l : PlainLabel) (st : Stamp) (s t : State) (ended : Option CopyFault) : Type 0 where
   pub made : List WriterCall
   pub next : WriterCall
   pub run : Run made next s t ended
   pub ends : Unless ended (EndsKind kind s.writer t.writer)
-  pub short : (b : ℕ) → s.cursor.length + 12 ≤ b → length (set_bytes (set_in st q)) ≤ b → AreShort b i j made next ended
-  pub cut : (k : PlainNode) (behind : List PlainItem) → opening kind l st ≡ first k → Comes s.files s.cursor (behind_first q k ++ behind) → IsApart i j q k → Matches (inside_calls i j q k) made next behind t ended
+  pub short : (b : ℕ) → s.cursor.length + 12 ≤ b → length (set_bytes (set_in st q)) ≤ b → AreShort (IsLeftOf b i j) b made next ended
+  pub cut : (k : PlainNode) (behind : List PlainItem) → opening_of kind l st ≡ first k → Comes s.files s.cursor (behind_first q k ++ behind) → IsApart i j q k → Matches (inside_calls i j q k) made next behind t ended
 
-inside-part : (i j : ℕ) (q own : List (ℕ × ℕ)) (l : PlainLabel) (st : Stamp) (s t : State) (e : Option CutFault) → own ≡ set_in st q → InsideCut i j own s t e → Part i j q Inner l st s t e
+inside-part : (i j : ℕ) (q own : List (ℕ × ℕ)) (l : PlainLabel) (st : Stamp) (s t : State) (e : Option CopyFault) → own ≡ set_in st q → InsideCut i j own s t e → Part i j q Inner l st s t e
 inside-part i j q own l st s t e set h = record {
   made = h.made;
   next = h.next;
@@ -231,7 +190,7 @@ inside-part i j q own l st s t e set h = record {
         (λ comes apart. h.inside ks _ behind (subst (λ is. Comes s.files s.cursor is) (append_assoc (row_items own ks) (end_of own ks ∷ []) behind) comes) apart)
     kids (leaf_node m z xs) behind same = absurd cc
 
-leaf-part : (i j : ℕ) (q own : List (ℕ × ℕ)) (l : PlainLabel) (st : Stamp) (s t : State) (e : Option CutFault) → own ≡ set_in st q → LeafCut i j own s t e → Part i j q Leaf l st s t e
+leaf-part : (i j : ℕ) (q own : List (ℕ × ℕ)) (l : PlainLabel) (st : Stamp) (s t : State) (e : Option CopyFault) → own ≡ set_in st q → LeafCut i j own s t e → Part i j q Leaf l st s t e
 leaf-part i j q own l st s t e set h = record {
   made = h.made;
   next = h.next;
@@ -249,28 +208,16 @@ leaf-part i j q own l st s t e set h = record {
         (h.alternatives xs behind (subst (λ is. Comes s.files s.cursor is) (append_assoc (alt_items xs) (leaf_end_item ∷ []) behind) comes) (subst (λ p. AreAltsApart i j p xs) (sym is) apart))
     alternatives (inner_node m z ks) behind same comes apart = absurd cc
 
-pub begun-part : (i j : ℕ) (q own : List (ℕ × ℕ)) (kind : Kind) (l : PlainLabel) (st : Stamp) (s t : State) (e : Option CutFault) → own ≡ set_in st q → BegunCut kind i j own s t e → Part i j q kind l st s t e
+pub begun-part : (i j : ℕ) (q own : List (ℕ × ℕ)) (kind : Kind) (l : PlainLabel) (st : Stamp) (s t : State) (e : Option CopyFault) → own ≡ set_in st q → BegunCut kind i j own s t e → Part i j q kind l st s t e
 begun-part i j q own Inner l st s t e set h = inside-part i j q own l st s t e set h
 begun-part i j q own Leaf l st s t e set h = leaf-part i j q own l st s t e set h
 
 -- ---- a node, from its opening on
 
--- an item that opens a node was given
-pub record Opener (kind : Kind) (s t : State) : Type 0 where
-  pub item : Item
-  pub label : PlainLabel
-  pub stamp : Stamp
-  pub shown : shown_item item ≡ opening kind label stamp
-  pub read : Nexts s t item
-
-abbrev pub moreover : Option CutFault → Result Bool CutFault
-moreover None = Ok true
-moreover (Some f) = Err f
-
-abbrev Truly : Option CutFault → Type 0
+abbrev Truly : Option CopyFault → Type 0
 Truly e = IfOk (moreover e) (λ m. IsTrue m)
 
-truly : (e : Option CutFault) → Truly e
+truly : (e : Option CopyFault) → Truly e
 truly None = refl
 truly (Some f) = tt
 
@@ -278,19 +225,14 @@ pub child-failed : (i j : ℕ) (q : List (ℕ × ℕ)) (s t : State) (e : Cursor
 child-failed i j q s t e within same stays = record {
   made = [];
   next = call_finish;
-  run = run-none call_finish s t (Some (of_cursor e)) (never e) same (failed s t e within stays);
+  run = run-none call_finish s t (Some (of_cursor e)) (not-long (Some (of_cursor e)) (not-long-cursor e)) same (failed s t e within stays);
   rests = tt;
   onward = tt;
-  short = λ b file few. short-none b i j call_finish (Some (of_cursor e)) (never e);
+  short = λ b file few. short-none (IsLeftOf b i j) b call_finish (Some (of_cursor e)) (not-long (Some (of_cursor e)) (not-long-cursor e));
   node_cut = λ k behind comes apart. (tt, stops e (calls_left i j q k) behind (λ d. stays.undamaged (first k) (behind_first q k ++ behind) (subst (λ is. Comes s.files s.cursor is) (opens q k behind) comes)));
   end_taken = λ m behind comes. (tt, stops e [] behind (λ d. stays.undamaged (end_item m) behind comes));
 }
   where
-    never : (e : CursorFault) → Some (of_cursor e) ≢ Some TooLong
-    never read.Damage = λ d. absurd cc
-    never read.Folder = λ d. absurd cc
-    never read.Memory = λ d. absurd cc
-
     stops : (e : CursorFault) (cs : List WriterCall) (behind : List PlainItem) → (Unit {0} → cursor.IfDamage e ⊥) → Matches cs [] call_finish behind t (Some (of_cursor e))
     stops read.Damage cs behind h = h tt
     stops read.Folder cs behind h = tt
@@ -303,7 +245,7 @@ child-ended i j q s t item m shown leaf read = record {
   run = run-none call_finish s t None (λ e. absurd cc) read.writer (gave s t item read);
   rests = record { no_leaf = ap (λ (w : PlainWriter). w.leaf) read.writer ∙ leaf; inners = ap (λ (w : PlainWriter). w.inners) read.writer };
   onward = moves-on s t item read (let e = ap (size_of s.cursor.standing) shown in omega (arith, e));
-  short = λ b file few. short-none b i j call_finish None (λ e. absurd cc);
+  short = λ b file few. short-none (IsLeftOf b i j) b call_finish None (λ e. absurd cc);
   node_cut = λ k behind comes apart. absurd (not-first k m (sym shown ∙ (node-given q k behind s t item read comes).0));
   end_taken = λ n behind comes. (refl, (refl, (given (end_item n) behind s t item read comes).1));
 }
@@ -315,12 +257,12 @@ child-damage i j q s t item inner leaf end read = record {
   run = run-none call_finish s t (Some Damage) (λ e. absurd cc) read.writer (gave-stop s t item Damage (λ e. absurd cc) read);
   rests = tt;
   onward = tt;
-  short = λ b file few. short-none b i j call_finish (Some Damage) (λ e. absurd cc);
+  short = λ b file few. short-none (IsLeftOf b i j) b call_finish (Some Damage) (λ e. absurd cc);
   node_cut = λ k behind comes apart. absurd (no-node item inner leaf k (node-given q k behind s t item read comes).0);
   end_taken = λ n behind comes. absurd (not-end item end n (given (end_item n) behind s t item read comes).0);
 }
 
-skips : (kind : Kind) (l : PlainLabel) (st : Stamp) (u v : State) (e : Option CursorFault) → BegunSkipped kind u v e → Passes [] u v (option_map of_cursor e) × Behind u v e (opening kind l st)
+skips : (kind : Kind) (l : PlainLabel) (st : Stamp) (u v : State) (e : Option CursorFault) → BegunSkipped kind u v e → Passes [] u v (option_map of_cursor e) × Behind u v e (opening_of kind l st)
 skips Inner l st u v e h = (h.passes, row-behind u v e l st h)
 skips Leaf l st u v e h = (h.passes, alts-behind u v e l st h)
 
@@ -338,7 +280,7 @@ module _ (i j : ℕ) (q : List (ℕ × ℕ)) (kind : Kind) (s t u : State) (o : 
         run = run-none call_finish s t (Some Memory) (λ e. absurd cc) read.writer (gave-stop s t o.item Memory (λ e. absurd cc) read);
         rests = tt;
         onward = tt;
-        short = λ b file few. short-none b i j call_finish (Some Memory) (λ e. absurd cc);
+        short = λ b file few. short-none (IsLeftOf b i j) b call_finish (Some Memory) (λ e. absurd cc);
         node_cut = λ k behind comes apart. (tt, tt);
         end_taken = λ m behind comes. absurd (no-end m behind comes);
       }
@@ -349,26 +291,19 @@ module _ (i j : ℕ) (q : List (ℕ × ℕ)) (kind : Kind) (s t u : State) (o : 
   passed-on : s.cursor.at < t.cursor.at
   passed-on = moves-on s t o.item o.read (let e = ap (size_of s.cursor.standing) o.shown in let long = opening-long kind s.cursor.standing o.label o.stamp in omega (arith, e, long))
 
-  few-parts : (b : ℕ) → s.cursor.length + 12 ≤ b → (length (label_bytes o.label) ≤ b) × ((z : List (ℕ × ℕ)) → o.stamp ≡ Some z → length (set_bytes z) ≤ b)
-  few-parts b file =
-      let read = o.read in
-      let goes = read.goes in
-      let moved = goes.moved in
-      let within = goes.within in
-      let long = goes.same_length in
-      let e = ap (size_of s.cursor.standing) o.shown in
-      opening-parts b kind s.cursor.standing o.label o.stamp (omega (arith, moved, within, long, e, file))
+  few-parts : (b : ℕ) → s.cursor.length + 12 ≤ b → (length (label_bytes o.label) ≤ b) × IsFewStamp b o.stamp
+  few-parts b file = opening-parts b kind s.cursor.standing o.label o.stamp (subst (λ (i : PlainItem). size_of s.cursor.standing i ≤ b) o.shown (within-file s t o.item b o.read file))
 
-  module _ (canonical : IsCanonical q) (own : IsCanonical (set_in o.stamp q)) where
+  module _ (canonical : IsCanonical q) (own : IsCanonical (set_in o.stamp q)) (fits : FitsLabel o.label) where
     call : WriterCall
     call = opening_call i j q kind o.label o.stamp
 
-    opening-short : (b : ℕ) → s.cursor.length + 12 ≤ b → length (set_bytes q) ≤ b → IsShortCall b i j call
+    opening-short : (b : ℕ) → s.cursor.length + 12 ≤ b → length (set_bytes q) ≤ b → IsShortCall (IsLeftOf b i j) b call
     unfolding call
     opening-short b file few =
         let p = few-parts b file in
-        let stamp : IsLeftStamp b i j (cut_stamp i j q o.stamp) = subst (λ z. IsLeftStamp b i j (stamp_under (cut_set i j q) z)) (left-set i j q o.stamp) (left-stamp b i j (cut_set i j q) o.stamp p.1) in
-        call-short b i j kind o.label (cut_stamp i j q o.stamp) (set_in (cut_stamp i j q o.stamp) (cut_set i j q)) p.0 stamp (set_in o.stamp q, own-few b o.stamp q p.1 few, own-left i j q o.stamp canonical own)
+        let stamp : IfStored (IsLeftOf b i j) (cut_stamp i j q o.stamp) = subst (λ z. IfStored (IsLeftOf b i j) (stamp_under (cut_set i j q) z)) (left-set i j q o.stamp) (left-stamp b i j (cut_set i j q) o.stamp p.1) in
+        call-short (IsLeftOf b i j) b kind o.label (cut_stamp i j q o.stamp) (set_in (cut_stamp i j q o.stamp) (cut_set i j q)) (fits, p.0) stamp (set_in o.stamp q, own-few b o.stamp q p.1 few, own-left i j q o.stamp canonical own)
 
     module _ (now : List (ℕ × ℕ)) (left : now ≡ cut_set i j q) where
       opened : (s' : Stamp) → stamp_left i j now o.stamp ≡ Some s' → opening_calls kind o.label now (stamp_left i j now o.stamp) ≡ call ∷ []
@@ -377,19 +312,19 @@ module _ (i j : ℕ) (q : List (ℕ × ℕ)) (kind : Kind) (s t u : State) (o : 
           let is = stamp-of i j q now o.stamp s' left h in
           ap (opening_calls kind o.label now) h ∙ (λ x. call_of kind o.label (is x) (set_in (is x) (left x)) ∷ [])
 
-      calls-of : (s' : Stamp) → stamp_left i j now o.stamp ≡ Some s' → (k : PlainNode) → opening kind o.label o.stamp ≡ first k → (call ∷ []) ++ inside_calls i j q k ≡ calls_left i j q k
+      calls-of : (s' : Stamp) → stamp_left i j now o.stamp ≡ Some s' → (k : PlainNode) → opening_of kind o.label o.stamp ≡ first k → (call ∷ []) ++ inside_calls i j q k ≡ calls_left i j q k
       unfolding call
       calls-of s' h k same = left-called i j q kind o.label o.stamp k same (not-gone i j q now o.stamp s' left h) (own-left i j q o.stamp canonical own)
 
-      opening-all : (b : ℕ) → s.cursor.length + 12 ≤ b → length (set_bytes q) ≤ b → AllByRecursion (IsShortCall b i j) (opening_calls kind o.label now (stamp_left i j now o.stamp))
+      opening-all : (b : ℕ) → s.cursor.length + 12 ≤ b → length (set_bytes q) ≤ b → AllByRecursion (IsShortCall (IsLeftOf b i j) b) (opening_calls kind o.label now (stamp_left i j now o.stamp))
       opening-all b file few =
-          elim (stamp_left i j now o.stamp) as (λ z. stamp_left i j now o.stamp ≡ z → AllByRecursion (IsShortCall b i j) (opening_calls kind o.label now (stamp_left i j now o.stamp))) [
-            | None ↦ λ e. subst (λ z. AllByRecursion (IsShortCall b i j) (opening_calls kind o.label now z)) (sym e) tt
-            | Some s' ↦ λ e. subst (AllByRecursion (IsShortCall b i j)) (sym (opened s' e)) (opening-short b file few, tt)
+          elim (stamp_left i j now o.stamp) as (λ z. stamp_left i j now o.stamp ≡ z → AllByRecursion (IsShortCall (IsLeftOf b i j) b) (opening_calls kind o.label now (stamp_left i j now o.stamp))) [
+            | None ↦ λ e. subst (λ z. AllByRecursion (IsShortCall (IsLeftOf b i j) b) (opening_calls kind o.label now z)) (sym e) tt
+            | Some s' ↦ λ e. subst (AllByRecursion (IsShortCall (IsLeftOf b i j) b)) (sym (opened s' e)) (opening-short b file few, tt)
           ] refl
 
       -- the node was not begun
-      pub child-open_fault : (f : CutFault) → Sent (opening_calls kind o.label now (stamp_left i j now o.stamp)) t u (Some f) → ChildCut i j q s u (Err f)
+      pub child-open_fault : (f : CopyFault) → Sent (opening_calls kind o.label now (stamp_left i j now o.stamp)) t u (Some f) → ChildCut i j q s u (Err f)
       child-open_fault f sent =
           let cs = opening_calls kind o.label now (stamp_left i j now o.stamp) in
           let did = sent.run in
@@ -400,10 +335,10 @@ module _ (i j : ℕ) (q : List (ℕ × ℕ)) (kind : Kind) (s t u : State) (o : 
             run = run-then [] sent.made call_finish sent.next s t u (Some f) begun did;
             rests = tt;
             onward = tt;
-            short = λ b file few. short-part b i j cs sent.made sent.next (Some f) (opening-all b file few) sent.part;
+            short = λ b file few. short-part (IsLeftOf b i j) b cs sent.made sent.next (Some f) (opening-all b file few) sent.part;
             node_cut = λ k behind comes apart. (
                 let n = node-given q k behind s t o.item o.read comes in
-                let same : opening kind o.label o.stamp ≡ first k = sym o.shown ∙ n.0 in
+                let same : opening_of kind o.label o.stamp ≡ first k = sym o.shown ∙ n.0 in
                 let part = matches-part cs sent.made sent.next (behind_first q k ++ behind) t u (Some f) sent.part passes.same_files sent.same_cursor n.1 in (
                   tt,
                   elim (stamp_left i j now o.stamp) as (λ z. stamp_left i j now o.stamp ≡ z → Matches (calls_left i j q k) sent.made sent.next behind u (Some f)) [
@@ -430,27 +365,27 @@ module _ (i j : ℕ) (q : List (ℕ × ℕ)) (kind : Kind) (s t u : State) (o : 
         unfolding call
         begun-open none = open-stands kind o.label (cut_stamp i j q o.stamp) (set_in (cut_stamp i j q o.stamp) (cut_set i j q)) t.writer u.writer none begun-writer
 
-        part-rests : (v : State) (e : Option CutFault) → Part i j q kind o.label o.stamp u v e → Unless e (Rests s.writer v.writer)
+        part-rests : (v : State) (e : Option CopyFault) → Part i j q kind o.label o.stamp u v e → Unless e (Rests s.writer v.writer)
         unfolding call
         part-rests v e h =
             let read = o.read in
             subst (λ w. Unless e (Rests w v.writer)) read.writer (ends-rest kind o.label (cut_stamp i j q o.stamp) (set_in (cut_stamp i j q o.stamp) (cut_set i j q)) t.writer u.writer v.writer e begun-writer h.ends)
 
-        part-run : (v : State) (e : Option CutFault) (h : Part i j q kind o.label o.stamp u v e) → Run (sent.made ++ h.made) h.next s v e
+        part-run : (v : State) (e : Option CopyFault) (h : Part i j q kind o.label o.stamp u v e) → Run (sent.made ++ h.made) h.next s v e
         part-run v e h = run-then [] (sent.made ++ h.made) call_finish h.next s t v e begun (run-then sent.made h.made sent.next h.next t u v e sent.run h.run)
 
         same-long : u.cursor.length ≡ s.cursor.length
         same-long = (let did = sent.run in let passes = did.passes in let read = o.read in let goes = read.goes in passes.same_length ∙ goes.same_length)
 
-        part-short : (v : State) (e : Option CutFault) (h : Part i j q kind o.label o.stamp u v e) (b : ℕ) → s.cursor.length + 12 ≤ b → length (set_bytes q) ≤ b → AreShort b i j (sent.made ++ h.made) h.next e
+        part-short : (v : State) (e : Option CopyFault) (h : Part i j q kind o.label o.stamp u v e) (b : ℕ) → s.cursor.length + 12 ≤ b → length (set_bytes q) ≤ b → AreShort (IsLeftOf b i j) b (sent.made ++ h.made) h.next e
         part-short v e h b file few =
-            short-then b i j sent.made h.made sent.next h.next e (short-part b i j (opening_calls kind o.label now (stamp_left i j now o.stamp)) sent.made sent.next None (opening-all b file few) sent.part)
+            short-then (IsLeftOf b i j) b sent.made h.made sent.next h.next e (short-part (IsLeftOf b i j) b (opening_calls kind o.label now (stamp_left i j now o.stamp)) sent.made sent.next None (opening-all b file few) sent.part)
             (h.short b (omega (arith, same-long, file)) (own-few b o.stamp q (few-parts b file).1 few))
 
-        part-cut : (v : State) (e : Option CutFault) (h : Part i j q kind o.label o.stamp u v e) (k : PlainNode) (behind : List PlainItem) → Comes s.files s.cursor (node_items q k ++ behind) → IsApart i j q k → Matches (calls_left i j q k) (sent.made ++ h.made) h.next behind v e
+        part-cut : (v : State) (e : Option CopyFault) (h : Part i j q kind o.label o.stamp u v e) (k : PlainNode) (behind : List PlainItem) → Comes s.files s.cursor (node_items q k ++ behind) → IsApart i j q k → Matches (calls_left i j q k) (sent.made ++ h.made) h.next behind v e
         part-cut v e h k behind comes apart =
             let n = node-given q k behind s t o.item o.read comes in
-            let same : opening kind o.label o.stamp ≡ first k = sym o.shown ∙ n.0 in
+            let same : opening_of kind o.label o.stamp ≡ first k = sym o.shown ∙ n.0 in
             let did = sent.run in
             let passes = did.passes in
             let there = (matches-part (opening_calls kind o.label now (stamp_left i j now o.stamp)) sent.made sent.next (behind_first q k ++ behind) t u None sent.part passes.same_files sent.same_cursor n.1).1 in
@@ -458,7 +393,7 @@ module _ (i j : ℕ) (q : List (ℕ × ℕ)) (kind : Kind) (s t u : State) (o : 
             (matches-then (call ∷ []) (inside_calls i j q k) sent.made h.made h.next behind v e made-is (h.cut k behind same there apart))
 
         -- what is inside of it was cut
-        pub child-cut : (v : State) (e : Option CutFault) → Part i j q kind o.label o.stamp u v e → ChildCut i j q s v (moreover e)
+        pub child-cut : (v : State) (e : Option CopyFault) → Part i j q kind o.label o.stamp u v e → ChildCut i j q s v (moreover e)
         child-cut v None h = record {
           made = sent.made ++ h.made;
           next = h.next;
@@ -481,18 +416,18 @@ module _ (i j : ℕ) (q : List (ℕ × ℕ)) (kind : Kind) (s t u : State) (o : 
         }
 
       -- the node was passed over
-      passed : (u v : State) (e : Option CursorFault) → BegunSkipped kind u v e → Passes [] u v (option_map of_cursor e) × Behind u v e (opening kind o.label o.stamp)
+      passed : (u v : State) (e : Option CursorFault) → BegunSkipped kind u v e → Passes [] u v (option_map of_cursor e) × Behind u v e (opening_of kind o.label o.stamp)
       passed u v e h = skips kind o.label o.stamp u v e h
 
       module _ (none : stamp_left i j now o.stamp ≡ None) (sent : Sent (opening_calls kind o.label now (stamp_left i j now o.stamp)) t u None) (leaf : s.writer.leaf ≡ None) where
         nothing : sent.made ≡ []
         nothing = sent.part ∙ ap (opening_calls kind o.label now) none
 
-        gone-run : (v : State) (e : Option CutFault) → e ≢ Some TooLong → v.writer ≡ u.writer → Passes [] u v e → Run (sent.made ++ []) call_finish s v e
+        gone-run : (v : State) (e : Option CopyFault) → e ≢ Some TooLong → v.writer ≡ u.writer → Passes [] u v e → Run (sent.made ++ []) call_finish s v e
         gone-run v e not same h = run-then [] (sent.made ++ []) call_finish call_finish s t v e begun (run-then sent.made [] sent.next call_finish t u v e sent.run (run-none call_finish u v e not same h))
 
-        gone-short : (e : Option CutFault) → e ≢ Some TooLong → (b : ℕ) → AreShort b i j (sent.made ++ []) call_finish e
-        gone-short e not b = subst (λ z. AreShort b i j (z ++ []) call_finish e) (sym nothing) (short-none b i j call_finish e not)
+        gone-short : (e : Option CopyFault) → e ≢ Some TooLong → (b : ℕ) → AreShort (IsLeftOf b i j) b (sent.made ++ []) call_finish e
+        gone-short e not b = subst (λ z. AreShort (IsLeftOf b i j) b (z ++ []) call_finish e) (sym nothing) (short-none (IsLeftOf b i j) b call_finish e not)
 
         gone-writer : (v : State) → v.writer ≡ u.writer → v.writer ≡ s.writer
         gone-writer v same = (let did = sent.run in let read = o.read in same ∙ did.writer ∙ ap (after_all t.writer) nothing ∙ read.writer)
@@ -500,13 +435,13 @@ module _ (i j : ℕ) (q : List (ℕ × ℕ)) (kind : Kind) (s t u : State) (o : 
         gone-comes : (v : State) (e : Option CursorFault) → BegunSkipped kind u v e → (k : PlainNode) (behind : List PlainItem) → Comes s.files s.cursor (node_items q k ++ behind) → Follows behind v e × (calls_left i j q k ≡ [])
         gone-comes v e h k behind comes =
             let n = node-given q k behind s t o.item o.read comes in
-            let same : opening kind o.label o.stamp ≡ first k = sym o.shown ∙ n.0 in
+            let same : opening_of kind o.label o.stamp ≡ first k = sym o.shown ∙ n.0 in
             let did = sent.run in
             let passes = did.passes in
             let there = (matches-part (opening_calls kind o.label now (stamp_left i j now o.stamp)) sent.made sent.next (behind_first q k ++ behind) t u None sent.part passes.same_files sent.same_cursor n.1).1 in
             ((passed u v e h).1 q k behind same there, gone-called i j q kind o.label o.stamp k same (is-gone i j q now o.stamp left none))
 
-        gone-fault : (v : State) (e : CursorFault) (f : CutFault) → f ≡ of_cursor e → Some f ≢ Some TooLong → v.writer ≡ u.writer → BegunSkipped kind u v (Some e) → ((cs : List WriterCall) (behind : List PlainItem) → Follows behind v (Some e) → Matches cs (sent.made ++ []) call_finish behind v (Some f)) → ChildCut i j q s v (Err f)
+        gone-fault : (v : State) (e : CursorFault) (f : CopyFault) → f ≡ of_cursor e → Some f ≢ Some TooLong → v.writer ≡ u.writer → BegunSkipped kind u v (Some e) → ((cs : List WriterCall) (behind : List PlainItem) → Follows behind v (Some e) → Matches cs (sent.made ++ []) call_finish behind v (Some f)) → ChildCut i j q s v (Err f)
         gone-fault v e f is not same h stops = record {
           made = sent.made ++ [];
           next = call_finish;
@@ -536,11 +471,11 @@ module _ (i j : ℕ) (q : List (ℕ × ℕ)) (kind : Kind) (s t u : State) (o : 
         gone-by v (Some read.Folder) same h = gone-fault v read.Folder Folder refl (λ d. absurd cc) same h (λ cs behind f. tt)
         gone-by v (Some read.Memory) same h = gone-fault v read.Memory Memory refl (λ d. absurd cc) same h (λ cs behind f. tt)
 
-        child-gone : (v : State) (e : Option CutFault) → Gone kind u v e → ChildCut i j q s v (moreover e)
+        child-gone : (v : State) (e : Option CopyFault) → Gone kind u v e → ChildCut i j q s v (moreover e)
         child-gone v e h = subst (λ z. ChildCut i j q s v (moreover z)) (sym h.is) (gone-by v h.fault h.same_writer h.skipped)
 
       -- what is inside of it was cut or passed over
-      pub child-opened : (o' : Option Stamp) → stamp_left i j now o.stamp ≡ o' → Sent (opening_calls kind o.label now (stamp_left i j now o.stamp)) t u None → s.writer.leaf ≡ None → (v : State) (e : Option CutFault) → OpenedCut kind i j q o.stamp o' u v e → ChildCut i j q s v (moreover e)
+      pub child-opened : (o' : Option Stamp) → stamp_left i j now o.stamp ≡ o' → Sent (opening_calls kind o.label now (stamp_left i j now o.stamp)) t u None → s.writer.leaf ≡ None → (v : State) (e : Option CopyFault) → OpenedCut kind i j q o.stamp o' u v e → ChildCut i j q s v (moreover e)
       child-opened (Some s') eq sent leaf v e h = child-cut s' eq sent v e (begun-part i j q (set_in o.stamp q) kind o.label o.stamp u v e refl h)
       child-opened None eq sent leaf v e h = child-gone eq sent leaf v e h
 
@@ -559,16 +494,12 @@ row-calls i j q k ks = elim (is_gone i j (set_in (node_stamp k) q)) as (λ b.
     cond b [] (node_calls (cut_set i j q) (sliced_node i j q k)) ++ row_calls (cut_set i j q) (sliced_row i j q ks)
     ≡ row_calls (cut_set i j q) (cond b (sliced_row i j q ks) (node (sliced_node i j q k) (sliced_row i j q ks)))) [ true ↦ refl | false ↦ refl ]
 
-rests-behind : (v w x : PlainWriter) (e : Option CutFault) → w.inners ≡ v.inners → Unless e (Rests w x) → Unless e (Rests v x)
-rests-behind v w x None same h = record { no_leaf = h.no_leaf; inners = h.inners ∙ same }
-rests-behind v w x (Some f) same h = tt
-
 module _ (i j : ℕ) (q : List (ℕ × ℕ)) (s t : State) where
-  first-cut : (more : Result Bool CutFault) (h : ChildCut i j q s t more) (k : PlainNode) (ks : PlainNodes) (m : ℕ) (behind : List PlainItem) → Comes s.files s.cursor (row_items q (node k ks) ++ end_item m ∷ behind) → IsApart i j q k
+  first-cut : (more : Result Bool CopyFault) (h : ChildCut i j q s t more) (k : PlainNode) (ks : PlainNodes) (m : ℕ) (behind : List PlainItem) → Comes s.files s.cursor (row_items q (node k ks) ++ end_item m ∷ behind) → IsApart i j q k
       → IfOk more (λ z. IsTrue z) × Matches (calls_left i j q k) h.made h.next (row_items q ks ++ end_item m ∷ behind) t (fault_of more)
   first-cut more h k ks m behind comes apart = h.node_cut k (row_items q ks ++ end_item m ∷ behind) (subst (λ is. Comes s.files s.cursor is) (append_assoc (node_items q k) (row_items q ks) (end_item m ∷ behind)) comes) apart
 
-  pub row-then : (u : State) (e : Option CutFault) → ChildCut i j q s t (Ok true) → RowCut i j q t u e → RowCut i j q s u e
+  pub row-then : (u : State) (e : Option CopyFault) → ChildCut i j q s t (Ok true) → RowCut i j q t u e → RowCut i j q s u e
   row-then u e h g =
       let did = h.run in
       let passes = did.passes in
@@ -577,7 +508,7 @@ module _ (i j : ℕ) (q : List (ℕ × ℕ)) (s t : State) where
         next = g.next;
         run = run-then h.made g.made h.next g.next s t u e h.run g.run;
         rests = (let r = h.rests in rests-behind s.writer t.writer u.writer e r.inners g.rests);
-        short = λ b file few. short-then b i j h.made g.made h.next g.next e (h.short b file few) (g.short b (let long = passes.same_length in omega (arith, long, file)) few);
+        short = λ b file few. short-then (IsLeftOf b i j) b h.made g.made h.next g.next e (h.short b file few) (g.short b (let long = passes.same_length in omega (arith, long, file)) few);
         row = nodes;
       }
     where
@@ -595,7 +526,7 @@ module _ (i j : ℕ) (q : List (ℕ × ℕ)) (s t : State) where
       none no_nodes m behind comes apart = (h.end_taken m behind comes).1
       none (node k ks) m behind comes apart = absurd (true≢false (sym (first-cut (Ok false) h k ks m behind comes apart.0).0))
 
-  pub row-fault : (f : CutFault) → ChildCut i j q s t (Err f) → RowCut i j q s t (Some f)
+  pub row-fault : (f : CopyFault) → ChildCut i j q s t (Err f) → RowCut i j q s t (Some f)
   row-fault f h = record { made = h.made; next = h.next; run = h.run; rests = tt; short = h.short; row = stops }
     where
       stops : (ks : PlainNodes) (m : ℕ) (behind : List PlainItem) → Comes s.files s.cursor (row_items q ks ++ end_item m ∷ behind) → AreApart i j q ks → Matches (row_calls (cut_set i j q) (sliced_row i j q ks)) h.made h.next behind t (Some f)
@@ -610,7 +541,7 @@ pub record RowOn (i j : ℕ) (q : List (ℕ × ℕ)) (s t : State) : Type 0 wher
   pub onward : s.cursor.at ≤ t.cursor.at
   pub within : t.cursor.at ≤ t.cursor.length
   pub no_leaf : t.writer.leaf ≡ None
-  pub rest : (u : State) (e : Option CutFault) → RowCut i j q t u e → RowCut i j q s u e
+  pub rest : (u : State) (e : Option CopyFault) → RowCut i j q t u e → RowCut i j q s u e
 
 pub row-start : (i j : ℕ) (q : List (ℕ × ℕ)) (s : State) → s.cursor.at ≤ s.cursor.length → s.writer.leaf ≡ None → RowOn i j q s s
 row-start i j q s within leaf = record { same_length = refl; onward = omega arith; within = within; no_leaf = leaf; rest = λ u e h. h }
@@ -630,7 +561,7 @@ row-on i j q s t u on h =
 
 -- ---- the node that a row is in
 
-pub inside-fault : (i j : ℕ) (q : List (ℕ × ℕ)) (s t : State) (f : CutFault) → RowCut i j q s t (Some f) → InsideCut i j q s t (Some f)
+pub inside-fault : (i j : ℕ) (q : List (ℕ × ℕ)) (s t : State) (f : CopyFault) → RowCut i j q s t (Some f) → InsideCut i j q s t (Some f)
 inside-fault i j q s t f h = record {
   made = h.made;
   next = h.next;
@@ -640,23 +571,8 @@ inside-fault i j q s t f h = record {
   inside = λ ks m behind comes apart. matches-fault (row_calls (cut_set i j q) (sliced_row i j q ks)) (call_end_inner ∷ []) h.made h.next behind behind t f (h.row ks m behind comes apart);
 }
 
-ended-closes : (v w : PlainWriter) (is : List OpenInner) (at : ℕ) → is ≢ [] → v.leaf ≡ None → w ≡ inner_ended v is at → (w.leaf ≡ None) × (i : OpenInner) × (is ≡ i ∷ w.inners)
-ended-closes v w [] at some leaf e = absurd (some refl)
-ended-closes v w (i ∷ is) at some leaf e = (ap (λ (x : PlainWriter). x.leaf) e ∙ leaf, i, ap (λ (x : PlainWriter). i ∷ x.inners) (sym e))
-
-closes : (s t u : State) (e : Option CutFault) → s.writer.inners ≢ [] → Rests s.writer t.writer → (made : List WriterCall) → Unless e (u.writer ≡ after_all t.writer made) → Unless e (made ≡ call_end_inner ∷ []) → Unless e (Closes s.writer u.writer)
-closes s t u None some h made is same =
-    let v = t.writer in
-    let parts = ended-closes v u.writer v.inners (v.written + length (appended v call_end_inner)) (λ none. some (sym h.inners ∙ none)) h.no_leaf (is ∙ ap (after_all v) same) in
-    record { no_leaf = parts.0; closed = parts.1; inners = sym h.inners ∙ parts.2 }
-closes s t u (Some f) some h made is same = tt
-
-whole-part : (cs made : List WriterCall) (next : WriterCall) (e : Option CutFault) → IsPart cs made next e → Unless e (made ≡ cs)
-whole-part cs made next None h = h
-whole-part cs made next (Some f) h = tt
-
 -- the row has ended, and the node is closed
-pub inside-close : (i j : ℕ) (q : List (ℕ × ℕ)) (s t u : State) (e : Option CutFault) → s.writer.inners ≢ [] → RowCut i j q s t None → Sent (call_end_inner ∷ []) t u e → InsideCut i j q s u e
+pub inside-close : (i j : ℕ) (q : List (ℕ × ℕ)) (s t u : State) (e : Option CopyFault) → s.writer.inners ≢ [] → RowCut i j q s t None → Sent (call_end_inner ∷ []) t u e → InsideCut i j q s u e
 inside-close i j q s t u e some h sent =
     let did = sent.run in
     let passes = did.passes in
@@ -665,7 +581,7 @@ inside-close i j q s t u e some h sent =
       next = sent.next;
       run = run-then h.made sent.made h.next sent.next s t u e h.run did;
       closed = closes s t u e some h.rests sent.made did.writer (whole-part (call_end_inner ∷ []) sent.made sent.next e sent.part);
-      short = λ b file few. short-then b i j h.made sent.made h.next sent.next e (h.short b file few) (short-part b i j (call_end_inner ∷ []) sent.made sent.next e (tt, tt) sent.part);
+      short = λ b file few. short-then (IsLeftOf b i j) b h.made sent.made h.next sent.next e (h.short b file few) (short-part (IsLeftOf b i j) b (call_end_inner ∷ []) sent.made sent.next e (tt, tt) sent.part);
       inside = λ ks m behind comes apart. (
           let row = h.row ks m behind comes apart in
           matches-then (row_calls (cut_set i j q) (sliced_row i j q ks)) (call_end_inner ∷ []) h.made sent.made sent.next behind u e row.0

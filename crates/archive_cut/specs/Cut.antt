@@ -8,9 +8,10 @@ use Rattle.archive_file.specs.Sound.{SoundAs}
 use Rattle.record_cursor.specs.Moves.{IsHeaderOf, TellsFront}
 use Rattle.record_cursor.specs.View.{PlainHeader}
 use Rattle.record_format.specs.Files.{header_bytes}
-use Rattle.record_writer.specs.Calls.{started, all_appended, after_all, Fits}
+use Rattle.record_writer.specs.Calls.{started, all_appended, after_all, Fits, AllFit}
 use Rattle.record_writer.specs.Data.{WriterCall}
-use Rattle.archive_cut.specs.Short.{IsShortCall}
+use Rattle.record_copy.specs.Short.{IsShortCall}
+use Rattle.archive_cut.specs.Short.{IsLeftOf}
 use Rattle.archive_cut.specs.Sliced.{items}
 use Rattle.archive_cut.specs.declared.fault.CutFault.{CutFault}
 use Rattle.archive_cut.specs.declared.fault.CutFault.TheVariants.{Folder, TooLong}
@@ -34,14 +35,15 @@ pub record Lengthens (old new : Option (List ℕ)) : Type 0 where
   pub bytes : List ℕ
   pub is : new ≡ option_map (λ d. d ++ bytes) old
 
--- Where the file would be too long: the draft, where it is told, is the header and what some calls of the writer append, and the next call does not fit
--- behind them. Each label and body that one of them is given takes at most so many bytes, and each set is what is left of one that does.
+-- Where the file would be too long: the draft, where it is told, is the header and what some calls of the writer append, which all fit, and the next call does not
+-- fit behind them. Each label and body that one of them is given fits its field and takes at most so many bytes, and each set is what is left of one that does.
 pub record Overfull (b : ℕ) (rules : List PlainRule) (i j : ℕ) (draft : Option (List ℕ)) : Type 0 where
   pub made : List WriterCall
   pub next : WriterCall
-  pub short : AllByRecursion (IsShortCall b i j) made
-  pub next_short : IsShortCall b i j next
+  pub short : AllByRecursion (IsShortCall (IsLeftOf b i j) b) made
+  pub next_short : IsShortCall (IsLeftOf b i j) b next
   pub drafted : (bytes : List ℕ) → draft ≡ Some bytes → bytes ≡ header_bytes rules (j + 1 - i) ++ all_appended (started rules (j + 1 - i)) made
+  pub fit : AllFit (started rules (j + 1 - i)) made
   pub over : ¬ Fits (after_all (started rules (j + 1 - i)) made) next
 
 -- ---- faults

@@ -9,8 +9,9 @@ use Rattle.archive_tree.specs.View.{stamp_view}
 use Rattle.record_parts.specs.Reading.{value_at}
 use Rattle.record_parts.specs.ShownViews.{value_in}
 use Rattle.record_writer.specs.Data.{WriterCall, call_alt}
+use Rattle.record_copy.specs.Short.{IsShortCall}
+use Rattle.archive_cut.specs.Short.{IsLeftOf}
 use Rattle.archive_cut.specs.Sliced.{by_first}
-use Rattle.archive_cut.specs.Short.{IsShortCall}
 use Rattle.archive_cut.specs.Windows.{alt_left}
 use Rattle.archive_cut.specs.declared.held.Held.{Held}
 
@@ -31,7 +32,7 @@ alt_call x = call_alt x.stamp x.body
 
 -- the call that writes it is short
 abbrev pub IsShortAlt : ℕ → ℕ → ℕ → PlainAlt → Type 0
-IsShortAlt b i j x = IsShortCall b i j (alt_call x)
+IsShortAlt b i j x = IsShortCall (IsLeftOf b i j) b (alt_call x)
 
 -- One more is held.
 pub record Pushed (now : List (ℕ × ℕ)) (x : PlainAlt) (old new : List Held) : Type 0 where

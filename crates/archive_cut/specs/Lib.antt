@@ -1,7 +1,6 @@
 pub mod Sliced
 pub mod Items
-pub mod State
-pub mod Passes
+pub mod Faults
 pub mod Runs
 pub mod Short
 pub mod Windows

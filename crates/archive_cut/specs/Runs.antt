@@ -1,41 +1,12 @@
 -- Which calls of the writer a part of the cut makes.
-use Rattle.std.specs.Prelude.{◌≡◌, ℕ, List, ◌∷◌, ◌++◌, Option, Some, None, ⊤}
+use Rattle.std.specs.Prelude.{List, Option}
 use Rattle.record_cursor.specs.Items.{PlainItem}
 use Rattle.record_cursor.specs.Moves.{Comes}
 use Rattle.record_writer.specs.Data.{WriterCall}
-use Rattle.record_writer.specs.Calls.{all_appended, after_all, Fits, AllFit}
-use Rattle.archive_cut.specs.Passes.{Unless, IfLong, IfWhole, Passes}
-use Rattle.archive_cut.specs.State.{State}
-use Rattle.archive_cut.specs.declared.fault.CutFault.{CutFault}
-use Rattle.archive_cut.specs.declared.fault.CutFault.TheVariants.{Damage, TooLong}
-
--- These calls were made, and all fit, and the bytes are theirs, unless the folder or memory failed; where it ended for want of room, the next did not fit behind them.
-pub record Run (made : List WriterCall) (next : WriterCall) (s t : State) (ended : Option CutFault) : Type 0 where
-  pub bytes : List ℕ
-  pub passes : Passes bytes s t ended
-  pub same : IfWhole ended (bytes ≡ all_appended s.writer made)
-  pub fit : AllFit s.writer made
-  pub writer : Unless ended (t.writer ≡ after_all s.writer made)
-  pub over : IfLong ended (¬ Fits (after_all s.writer made) next)
+use Rattle.record_copy.specs.Runs.{Makes}
+use Rattle.record_copy.specs.State.{State}
+use Rattle.record_copy.specs.declared.fault.CopyFault.{CopyFault}
 
 -- They are the calls that were to be made, and these items come next; or so far they are, and the next of those did not fit. There is no damage.
-abbrev pub Matches : List WriterCall → List WriterCall → WriterCall → List PlainItem → State → Option CutFault → Type 0
-Matches cs made next behind t None = (made ≡ cs) × Comes t.files t.cursor behind
-Matches cs made next behind t (Some TooLong) = (others : List WriterCall) × (cs ≡ made ++ next ∷ others)
-Matches cs made next behind t (Some Damage) = ⊥
-Matches cs made next behind t (Some other) = ⊤
-
--- Those that were made are these calls, or the first of them, before one that did not fit, or before the folder or memory failed.
-abbrev pub IsPart : List WriterCall → List WriterCall → WriterCall → Option CutFault → Type 0
-IsPart cs made next None = made ≡ cs
-IsPart cs made next (Some TooLong) = (others : List WriterCall) × (cs ≡ made ++ next ∷ others)
-IsPart cs made next (Some Damage) = ⊥
-IsPart cs made next (Some other) = (others : List WriterCall) × (cs ≡ made ++ others)
-
--- The writer is called so, and nothing is read.
-pub record Sent (cs : List WriterCall) (s t : State) (ended : Option CutFault) : Type 0 where
-  pub made : List WriterCall
-  pub next : WriterCall
-  pub run : Run made next s t ended
-  pub same_cursor : t.cursor ≡ s.cursor
-  pub part : IsPart cs made next ended
+abbrev pub Matches : List WriterCall → List WriterCall → WriterCall → List PlainItem → State → Option CopyFault → Type 0
+Matches cs made next behind t ended = Makes (Comes t.files t.cursor behind) cs made next ended

@@ -5,11 +5,12 @@ use Rattle.record_cursor.specs.Items.{PlainItem, leaf_end_item, end_item}
 use Rattle.record_cursor.specs.Moves.{Comes}
 use Rattle.record_cursor.specs.declared.fault.CursorFault.{CursorFault}
 use Rattle.record_cursor.specs.declared.fault.CursorFault.TheVariants.{Damage}
+use Rattle.record_copy.specs.Faults.{of_cursor}
+use Rattle.record_copy.specs.Passes.{Passes}
+use Rattle.record_copy.specs.State.{State}
+use Rattle.record_copy.specs.declared.kind.Kind.{Kind}
+use Rattle.record_copy.specs.declared.kind.Kind.TheVariants.{Inner, Leaf}
 use Rattle.archive_cut.specs.Items.{alt_items, node_items, row_items}
-use Rattle.archive_cut.specs.Passes.{Passes, of_cursor}
-use Rattle.archive_cut.specs.State.{State}
-use Rattle.archive_cut.specs.declared.kind.Kind.{Kind}
-use Rattle.archive_cut.specs.declared.kind.Kind.TheVariants.{Inner, Leaf}
 
 abbrev pub ended_by : {T : Type 0} → Result T CursorFault → Option CursorFault
 ended_by (Ok x) = None

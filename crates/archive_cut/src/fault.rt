@@ -1,11 +1,11 @@
 // Why nothing was cut out.
 ghost use Rattle.std.specs.Prelude.{◌≡◌};
 ghost use Rattle.std.specs.Result.{result_map_both};
-ghost use Rattle.archive_cut.specs.Passes.{of_cursor, of_writer};
+ghost use Rattle.record_copy.specs.Faults.{of_cursor};
+ghost use Rattle.archive_cut.specs.Faults.{of_cut};
 
+use record_copy::CopyFault;
 use record_cursor::CursorFault;
-use record_writer::WriteFault;
-use std::alloc::AllocError;
 use thiserror::Error;
 
 /// Why nothing was cut out: the file is no sound archive, the new file would be too long, the folder
@@ -22,60 +22,25 @@ pub enum CutFault {
     Memory,
 }
 
-impl From<AllocError> for CutFault {
-    ghost use Rattle.archive_cut.specs.declared.fault.CutFault.TheVariants.{Memory};
-
-    ghost from_gives = { λ _ e. e ≡ Memory };
-
-    fn from(_e: AllocError) -> CutFault {
-        CutFault::Memory
-    }
-}
-
-impl From<CursorFault> for CutFault {
-    ghost use Rattle.archive_cut.specs.Passes.{of_cursor};
-
-    ghost from_gives = { λ fault e. e ≡ of_cursor fault };
-
-    fn from(fault: CursorFault) -> CutFault {
-        match fault {
-            CursorFault::Damage => CutFault::Damage,
-            CursorFault::Folder => CutFault::Folder,
-            CursorFault::Memory => CutFault::Memory,
-        }
-    }
-}
-
-impl From<WriteFault> for CutFault {
-    ghost use Rattle.archive_cut.specs.Passes.{of_writer};
-
-    ghost from_gives = { λ fault e. e ≡ of_writer fault };
-
-    fn from(fault: WriteFault) -> CutFault {
-        match fault {
-            WriteFault::TooLong => CutFault::TooLong,
-            WriteFault::Folder => CutFault::Folder,
-            WriteFault::Memory => CutFault::Memory,
-        }
-    }
-}
-
-/// What a call of the writer comes to.
-pub(crate) fn written(call: Result<(), WriteFault>) -> Result<(), CutFault>
-    ensures { result ≡ result_map_both (λ x. x) of_writer call }
+/// What the cutting comes to.
+pub(crate) fn done(call: Result<(), CopyFault>) -> Result<(), CutFault>
+    ensures { result_map_both (λ x. x) of_cut result ≡ call }
 {
     match call {
         Ok(()) => Ok(()),
-        Err(fault) => Err(CutFault::from(fault)),
+        Err(CopyFault::Damage) => Err(CutFault::Damage),
+        Err(CopyFault::TooLong) => Err(CutFault::TooLong),
+        Err(CopyFault::Folder) => Err(CutFault::Folder),
+        Err(CopyFault::Memory) => Err(CutFault::Memory),
     }
 }
 
 /// What a call of the cursor comes to.
-pub(crate) fn taken(call: Result<(), CursorFault>) -> Result<(), CutFault>
+pub(crate) fn taken(call: Result<(), CursorFault>) -> Result<(), CopyFault>
     ensures { result ≡ result_map_both (λ x. x) of_cursor call }
 {
     match call {
         Ok(()) => Ok(()),
-        Err(fault) => Err(CutFault::from(fault)),
+        Err(fault) => Err(CopyFault::from(fault)),
     }
 }

@@ -5,19 +5,19 @@ ghost use Rattle.version_set.specs.View.{pairs_of};
 ghost use Rattle.record_writer.specs.Data.{PlainWriter, call_end_leaf};
 ghost use Rattle.record_writer.specs.View.{writer_view};
 ghost use Rattle.record_writer.specs.Walks.{alt_calls};
+ghost use Rattle.record_copy.specs.Faults.{fault_of};
+ghost use Rattle.record_copy.specs.Runs.{Sent};
+ghost use Rattle.record_copy.specs.State.{beside, state};
 ghost use Rattle.archive_cut.specs.Held.{held_view};
 ghost use Rattle.archive_cut.specs.Leaves.{AltsRead};
-ghost use Rattle.archive_cut.specs.Passes.{fault_of};
-ghost use Rattle.archive_cut.specs.Runs.{Sent};
 ghost use Rattle.archive_cut.specs.Sliced.{cut_set};
-ghost use Rattle.archive_cut.specs.State.{beside, state};
 ghost use Rattle.archive_cut.specs.Walked.{LeafCut};
 ghost use Rattle.record_cursor.specs.View.{PlainCursor};
 
 use crate::alternatives::{hold, in_order};
-use crate::fault::{CutFault, written};
 use crate::held::Held;
 use crate::window::Window;
+use record_copy::{CopyFault, written};
 use record_cursor::{Cursor, Item};
 use record_parts::lend_body;
 use record_writer::{BodyFrom, Writer};
@@ -33,7 +33,7 @@ pub(crate) fn cut_leaf<F: Folder>(
     writer: &mut Writer,
     before: &VersionSet,
     now: &VersionSet,
-) -> Result<(), CutFault>
+) -> Result<(), CopyFault>
     requires within { cursor.old.at ≤ cursor.old.length }
     requires leaf { (writer_view writer.old).leaf ≢ None }
     requires left { pairs_of now.now
@@ -53,7 +53,7 @@ fn read_alts<F: Folder>(
     folder: &mut F,
     cursor: &mut Cursor,
     now: &VersionSet,
-) -> Result<Vec<Held>, CutFault>
+) -> Result<Vec<Held>, CopyFault>
     requires within { cursor.old.at ≤ cursor.old.length }
     ensures { (w : PlainWriter) → AltsRead window.entry.now.first window.entry.now.last
         (pairs_of now.entry.now)
@@ -64,15 +64,19 @@ fn read_alts<F: Folder>(
     let mut held = Vec::new(window.alloc);
     loop {
         match cursor.next(folder)? {
-            Item::Alt { stamp, body } => hold(window, now, stamp, body, &mut held)?,
+            Item::Alt { stamp, body } => {
+                // Its bytes are those of a body, whose lengths and counts fit.
+                let _spelled = body.bytes();
+                hold(window, now, stamp, body, &mut held)?;
+            }
             Item::LeafEnd => return Ok(held),
-            _ => return Err(CutFault::Damage),
+            _ => return Err(CopyFault::Damage),
         }
     }
 }
 
 // Writes alternatives, and closes their leaf.
-fn put_held<F: Folder>(folder: &mut F, writer: &mut Writer, held: &[Held]) -> Result<(), CutFault>
+fn put_held<F: Folder>(folder: &mut F, writer: &mut Writer, held: &[Held]) -> Result<(), CopyFault>
     requires leaf { (writer_view writer.old).leaf ≢ None }
     ensures { (c : PlainCursor) → c.at ≤ c.length → Sent
         (alt_calls (map held_view held.now) ++ call_end_leaf ∷ [])

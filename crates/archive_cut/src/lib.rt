@@ -4,7 +4,6 @@
 mod alternatives;
 mod fault;
 mod held;
-mod kind;
 mod laws;
 mod leaf;
 mod open;

@@ -6,16 +6,16 @@ ghost use Rattle.archive_tree.specs.View.{stamp_view};
 ghost use Rattle.record_parts.specs.ShownViews.{shown_label};
 ghost use Rattle.record_cursor.specs.View.{PlainCursor};
 ghost use Rattle.record_writer.specs.View.{writer_view};
+ghost use Rattle.record_copy.specs.Faults.{fault_of};
+ghost use Rattle.record_copy.specs.Passes.{call_of};
+ghost use Rattle.record_copy.specs.Runs.{Sent};
+ghost use Rattle.record_copy.specs.State.{state};
 ghost use Rattle.archive_cut.specs.Opened.{opening_calls};
-ghost use Rattle.archive_cut.specs.Passes.{fault_of, call_of};
-ghost use Rattle.archive_cut.specs.Runs.{Sent};
-ghost use Rattle.archive_cut.specs.State.{state};
 ghost use Rattle.archive_cut.specs.Windows.{stamp_left};
 
-use crate::fault::{CutFault, written};
-use crate::kind::Kind;
 use crate::window::{Window, cut_stamp};
 use archive_tree::effective;
+use record_copy::{CopyFault, Kind, written};
 use record_format::LabelView;
 use record_writer::{LabelFrom, Writer};
 use version_set::VersionSet;
@@ -31,7 +31,7 @@ pub(crate) fn open_node<F: Folder>(
     label: LabelView<'_>,
     stamp: &Option<VersionSet>,
     now: &VersionSet,
-) -> Result<Option<Option<VersionSet>>, CutFault>
+) -> Result<Option<Option<VersionSet>>, CopyFault>
     requires no_leaf { (writer_view writer.old).leaf ≡ None }
     ensures sends { (c : PlainCursor) → c.at ≤ c.length → Sent
         (opening_calls kind (shown_label label.entry) (pairs_of now.entry.now)
@@ -59,7 +59,7 @@ fn begin_node<F: Folder>(
     label: LabelView<'_>,
     stamp: &Option<VersionSet>,
     set: &VersionSet,
-) -> Result<(), CutFault>
+) -> Result<(), CopyFault>
     requires no_leaf { (writer_view writer.old).leaf ≡ None }
     ensures sends { (c : PlainCursor) → c.at ≤ c.length → Sent
         (call_of kind (shown_label label.entry) (stamp_view stamp.now) (pairs_of set.now) ∷ [])

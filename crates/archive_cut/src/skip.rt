@@ -1,10 +1,10 @@
 // Passing over nodes of which no version is left.
 ghost use Rattle.std.specs.Prelude.{◌≤◌};
+ghost use Rattle.record_copy.specs.State.{beside};
 ghost use Rattle.archive_cut.specs.Skipped.{RowSkipped, AltsSkipped, ChildSkipped, BegunSkipped, ended_by};
-ghost use Rattle.archive_cut.specs.State.{beside};
 ghost use Rattle.record_writer.specs.Data.{PlainWriter};
 
-use crate::kind::Kind;
+use record_copy::Kind;
 use record_cursor::{Cursor, CursorFault, Item};
 use xa_outside::Folder;
 

@@ -4,18 +4,19 @@ ghost use Rattle.std.specs.Option.{option_map};
 ghost use Rattle.version_set.specs.View.{pairs_of};
 ghost use Rattle.archive_tree.specs.View.{stamp_view};
 ghost use Rattle.record_writer.specs.View.{writer_view};
-ghost use Rattle.archive_cut.specs.Passes.{fault_of, IsOpen};
+ghost use Rattle.record_copy.specs.Faults.{fault_of};
+ghost use Rattle.record_copy.specs.Passes.{IsOpen};
+ghost use Rattle.record_copy.specs.State.{state};
 ghost use Rattle.archive_cut.specs.Sliced.{cut_set};
-ghost use Rattle.archive_cut.specs.State.{state};
 ghost use Rattle.archive_cut.specs.Walked.{RowCut, InsideCut, BegunCut, OpenedCut, IsOpenIf, IsOwnLeft, ChildCut};
 
-use crate::fault::{CutFault, taken, written};
-use crate::kind::Kind;
+use crate::fault::taken;
 use crate::leaf::cut_leaf;
 use crate::open::open_node;
 use crate::skip::skip_begun;
 use crate::window::Window;
 use archive_tree::effective;
+use record_copy::{CopyFault, Kind, written};
 use record_cursor::{Cursor, Item};
 use record_writer::Writer;
 use version_set::VersionSet;
@@ -31,7 +32,7 @@ pub(crate) fn cut_row<F: Folder>(
     writer: &mut Writer,
     before: &VersionSet,
     now: &VersionSet,
-) -> Result<(), CutFault>
+) -> Result<(), CopyFault>
     requires within { cursor.old.at ≤ cursor.old.length }
     requires no_leaf { (writer_view writer.old).leaf ≡ None }
     requires left { pairs_of now.now
@@ -55,7 +56,7 @@ fn cut_child<F: Folder>(
     writer: &mut Writer,
     before: &VersionSet,
     now: &VersionSet,
-) -> Result<bool, CutFault>
+) -> Result<bool, CopyFault>
     requires within { cursor.old.at ≤ cursor.old.length }
     requires no_leaf { (writer_view writer.old).leaf ≡ None }
     requires left { pairs_of now.now
@@ -69,8 +70,10 @@ fn cut_child<F: Folder>(
         Item::Inner { label, stamp } => (Kind::Inner, label, stamp),
         Item::Leaf { label, stamp } => (Kind::Leaf, label, stamp),
         Item::End { .. } => return Ok(false),
-        _ => return Err(CutFault::Damage),
+        _ => return Err(CopyFault::Damage),
     };
+    // Its bytes are those of a label, whose lengths and counts fit.
+    let _spelled = label.bytes();
     let old = stamp.copy(window.alloc)?;
     let new = open_node(window, folder, writer, kind, label, &old, now)?;
     cut_opened(
@@ -92,7 +95,7 @@ fn cut_opened<F: Folder>(
     new: &Option<Option<VersionSet>>,
     before: &VersionSet,
     now: &VersionSet,
-) -> Result<(), CutFault>
+) -> Result<(), CopyFault>
     requires within { cursor.old.at ≤ cursor.old.length }
     requires stands { IsOpenIf kind (option_map stamp_view new.now) (writer_view writer.old) }
     requires left { IsOwnLeft window.now.first window.now.last (pairs_of before.now)
@@ -132,7 +135,7 @@ fn cut_begun<F: Folder>(
     kind: Kind,
     before: &VersionSet,
     now: &VersionSet,
-) -> Result<(), CutFault>
+) -> Result<(), CopyFault>
     requires within { cursor.old.at ≤ cursor.old.length }
     requires stands { IsOpen kind (writer_view writer.old) }
     requires left { pairs_of now.now
@@ -158,7 +161,7 @@ fn cut_inner<F: Folder>(
     writer: &mut Writer,
     before: &VersionSet,
     now: &VersionSet,
-) -> Result<(), CutFault>
+) -> Result<(), CopyFault>
     requires within { cursor.old.at ≤ cursor.old.length }
     requires no_leaf { (writer_view writer.old).leaf ≡ None }
     requires begun { (writer_view writer.old).inners ≢ [] }

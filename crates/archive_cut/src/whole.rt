@@ -11,15 +11,16 @@ ghost use Rattle.record_format.specs.Files.{FileOf};
 ghost use Rattle.record_writer.specs.View.{writer_view};
 ghost use Rattle.xa_outside.specs.Causes.{Rose};
 ghost use Rattle.xa_outside.specs.Numbers.{PullsAndDrafts};
+ghost use Rattle.record_copy.specs.Faults.{fault_of};
 ghost use Rattle.archive_cut.specs.Cut.{Appended, IsBlank, Overfull, IfTooLong, IfFailed, Lengthens};
-ghost use Rattle.archive_cut.specs.Passes.{fault_of};
 ghost use Rattle.archive_cut.specs.Sliced.{cut_set, items};
 ghost use Rattle.archive_cut.specs.Whole.{NodesCut, VersionsCut};
 ghost use Rattle.archive_cut.specs.declared.fault.CutFault.TheVariants.{Damage};
 
-use crate::fault::{CutFault, written};
+use crate::fault::{CutFault, done};
 use crate::walk::cut_row;
 use crate::window::Window;
+use record_copy::{CopyFault, written};
 use record_cursor::{Cursor, Header, Item};
 use record_writer::Writer;
 use std::alloc::Global;
@@ -82,7 +83,7 @@ pub fn cut<F: Folder>(
         (F.numbers folder.old) (F.numbers folder.new) }
 {
     let window = Window { alloc, first, last };
-    cut_versions(&window, folder, header, cursor)
+    done(cut_versions(&window, folder, header, cursor))
 }
 
 // Appends the archive of the versions.
@@ -91,7 +92,7 @@ fn cut_versions<F: Folder>(
     folder: &mut F,
     header: &Header,
     cursor: Cursor,
-) -> Result<(), CutFault>
+) -> Result<(), CopyFault>
     requires within { (header_view header.now).first ≤ (header_view header.now).length }
     requires length { cursor.length ≡ (header_view header.now).length }
     requires standing { cursor.standing ≡ among_nodes 0 }
@@ -117,7 +118,7 @@ fn cut_nodes<F: Folder>(
     writer: Writer,
     before: &VersionSet,
     now: &VersionSet,
-) -> Result<(), CutFault>
+) -> Result<(), CopyFault>
     requires within { cursor.old.at ≤ cursor.old.length }
     requires no_leaf { (writer_view writer).leaf ≡ None }
     requires no_inner { (writer_view writer).inners ≡ [] }
@@ -132,6 +133,6 @@ fn cut_nodes<F: Folder>(
     written(writer.finish(folder))?;
     match cursor.next(folder)? {
         Item::Finish => Ok(()),
-        _ => Err(CutFault::Damage),
+        _ => Err(CopyFault::Damage),
     }
 }

@@ -21,9 +21,9 @@ use Rattle.archive_tree.proofs.Those.{all_those, those_has}
 use Rattle.nested_merge.proofs.Alikes.{AlikeBelow}
 use Rattle.nested_merge.proofs.Picked.{all_append, no_items}
 use Rattle.nested_merge.proofs.Stamps.{Below, eff-members, eff_canonical}
-use Rattle.archive_join.specs.Joined.{alone, paired, alone_node, alone_onto, node_at, below, above, turn, joined_node, joined_row}
+use Rattle.archive_join.specs.Joined.{alone, paired, alone_node, alone_onto, node_at, below, above, alone_or_joined, joined_node, joined_row}
 use Rattle.archive_join.proofs.BothSets.{Above, paired_stamped, left_stamped, right_stamped}
-use Rattle.archive_join.proofs.Weave.{names, has_found, not_found, high_above, above_ascends, above_higher, below_lower, has_above, has_below, alone_label, turn_label, joined_ascends, joined_left, joined_right}
+use Rattle.archive_join.proofs.Weave.{names, has_found, not_found, high_above, above_ascends, above_higher, below_lower, has_above, has_below, alone_label, alone_or_joined_label, joined_ascends, joined_left, joined_right}
 use Rattle.archive_join.proofs.Alts.{those_both, nums_both, alts_join, bodies_differ, bodies_covered, firsts_ascend}
 
 -- the sets of a parent in the two archives: the numbers of the first are below m, those of the second from m on
@@ -106,11 +106,11 @@ module _ (m : ℕ) (from : 1 ≤ m) where
         let list : w (node_label (alone_node q p j)) ≡ v (node_label j) = ap w (alone_label q p j) ∙ both (node_label j) ∙ ap (λ z. z ++ v (node_label j)) (e j (inl refl)) in
         (subst (λ z. StandsFor (alone_node q p j) z (members p ++ members q)) (sym list) here, right_stand js r (λ i n. t i (inr n)) (λ i n. e i (inr n)) h)
 
-    turn_stands : (k : PlainNode) (js : List PlainNode) → Joins m k → StandsFor k (u (node_label k)) (members p) → Theirs js → (¬ (Has (node_label k) (names js)) → v (node_label k) ≡ [])
-        → StandsFor (turn (alone_node p q k) (λ j. joined_node p q k j) (node_at (node_label k) js)) (w (node_label k)) (members p ++ members q)
-    turn_stands k js joins h t none =
+    alone_or_joined_stands : (k : PlainNode) (js : List PlainNode) → Joins m k → StandsFor k (u (node_label k)) (members p) → Theirs js → (¬ (Has (node_label k) (names js)) → v (node_label k) ≡ [])
+        → StandsFor (alone_or_joined (alone_node p q k) (λ j. joined_node p q k j) (node_at (node_label k) js)) (w (node_label k)) (members p ++ members q)
+    alone_or_joined_stands k js joins h t none =
         let l = node_label k in
-        elim (node_at l js) as (λ o. node_at l js ≡ o → StandsFor (turn (alone_node p q k) (λ j. joined_node p q k j) o) (w l) (members p ++ members q)) [
+        elim (node_at l js) as (λ o. node_at l js ≡ o → StandsFor (alone_or_joined (alone_node p q k) (λ j. joined_node p q k j) o) (w l) (members p ++ members q)) [
           | None ↦ λ e. subst (λ z. StandsFor (alone_node p q k) z (members p ++ members q)) (sym (both l ∙ ap (λ z. u l ++ z) (none (not_found l js e)) ∙ append-nil (u l))) (left_stands k p q (u l) apart (low l) h)
           | Some j ↦ λ e. (let found = has_found l j js e in
               let theirs : StandsFor j (v l) (members q) = subst (λ z. StandsFor j (v z) (members q)) found.1 (t j found.0) in
@@ -125,7 +125,7 @@ module _ (m : ℕ) (from : 1 ≤ m) where
     each_joins no_nodes js joins a b h t ours theirs = right_stand js no_nodes t (λ j n. theirs j n (λ x. x)) tt
     each_joins (node k ks) js joins a b h t ours theirs =
         let l = node_label k in
-        let here = turn_stands k js (joins k (inl refl)) h.0 t (ours l (inl refl)) in
+        let here = alone_or_joined_stands k js (joins k (inl refl)) h.0 t (ours l (inl refl)) in
         let higher : (j : PlainNode) → Has j (above l js) → ¬ (Has (node_label j) (labels ks)) → ¬ (Has (node_label j) (labels (node k ks))) =
         λ j i d g. elim g [
           | inl e ↦ not_itself label_cmp_total l (subst (λ x. label_cmp l x ≡ Less) (sym e) (all_has (λ x. label_cmp l x ≡ Less) (names (above l js)) (node_label j) (above_higher l js b) (has_map node_label j (above l js) i)))
@@ -136,7 +136,7 @@ module _ (m : ℕ) (from : 1 ≤ m) where
           | inl e ↦ not_itself label_cmp_total l (subst (λ x. label_cmp x l ≡ Less) (sym e) less)
           | inr x ↦ not_both label_cmp_total (node_label j) l less (all_has (λ x. label_cmp l x ≡ Less) (labels ks) (node_label j) a.0 x)
         ]) in
-        let here' = subst (λ x. StandsFor (turn (alone_node p q k) (λ j. joined_node p q k j) (node_at l js)) (w x) (members p ++ members q)) (sym (turn_label p q k (node_at l js))) here in
+        let here' = subst (λ x. StandsFor (alone_or_joined (alone_node p q k) (λ j. joined_node p q k j) (node_at l js)) (w x) (members p ++ members q)) (sym (alone_or_joined_label p q k (node_at l js))) here in
         let rest = each_joins ks (above l js) (λ j i. joins j (inr i)) a.1 (above_ascends l js b) h.1
         (λ j i. t j (has_above l j js i))
         (λ x i d. ours x (inr i) (λ g. d (high_above l x js (all_has (λ y. label_cmp l y ≡ Less) (labels ks) x a.0 i) g)))

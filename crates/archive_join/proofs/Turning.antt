@@ -16,7 +16,7 @@ use Rattle.archive_tree.specs.Stands.{labels}
 use Rattle.record_copy.specs.Parts.{PlainHead, head_of}
 use Rattle.record_writer.specs.Walks.{node_calls, row_calls}
 use Rattle.archive_join.specs.Heads.{kind_cmp, turn}
-use Rattle.archive_join.specs.Joined.{node_at, below, above, alone_node, alone_onto, joined_node, joined_row, turn as taken}
+use Rattle.archive_join.specs.Joined.{node_at, below, above, alone_node, alone_onto, joined_node, joined_row, alone_or_joined}
 use Rattle.archive_join.specs.Meets.{Meet, RowsMeet}
 use Rattle.archive_join.specs.Walked.{RowsFit}
 use Rattle.archive_join.proofs.Weave.{names, lower_all}
@@ -50,10 +50,10 @@ module _ (p q : List (ℕ × ℕ)) where
   row_at k ks j js o =
       let l = node_label k in
       alone_onto q p (cond {A = List PlainNode} (is_lt o) (j ∷ below l js) [])
-      (node (taken (alone_node p q k) (λ x. joined_node p q k x) (cond {A = Option PlainNode} (is_eq o) (Some j) (node_at l js))) (joined_row p q ks (cond {A = List PlainNode} (is_le o) (above l js) (j ∷ js))))
+      (node (alone_or_joined (alone_node p q k) (λ x. joined_node p q k x) (cond {A = Option PlainNode} (is_eq o) (Some j) (node_at l js))) (joined_row p q ks (cond {A = List PlainNode} (is_le o) (above l js) (j ∷ js))))
 
   row_alone : (k : PlainNode) (ks : PlainNodes) (js : List PlainNode) → AreAbove (node_label k) js → joined_row p q (node k ks) js ≡ node (alone_node p q k) (joined_row p q ks js)
-  row_alone k ks js h = λ i. alone_onto q p (below_none (node_label k) js h i) (node (taken (alone_node p q k) (λ x. joined_node p q k x) (found_none (node_label k) js h i)) (joined_row p q ks (above_all (node_label k) js h i)))
+  row_alone k ks js h = λ i. alone_onto q p (below_none (node_label k) js h i) (node (alone_or_joined (alone_node p q k) (λ x. joined_node p q k x) (found_none (node_label k) js h i)) (joined_row p q ks (above_all (node_label k) js h i)))
 
   row_other : (k : PlainNode) (ks : PlainNodes) (j : PlainNode) (js : List PlainNode) → label_cmp (node_label j) (node_label k) ≡ Less → joined_row p q (node k ks) (j ∷ js) ≡ node (alone_node q p j) (joined_row p q (node k ks) js)
   row_other k ks j js e = ap (row_at k ks j js) e

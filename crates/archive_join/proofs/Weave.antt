@@ -14,7 +14,7 @@ use Rattle.archive_tree.specs.Data.{PlainNode, inner_node, leaf_node, PlainNodes
 use Rattle.archive_tree.specs.Stands.{labels}
 use Rattle.nested_merge.proofs.Picked.{all_append}
 use Rattle.nested_merge.proofs.Weave.{has_left, has_right}
-use Rattle.archive_join.specs.Joined.{node_at, below, above, alone_node, alone_onto, joined_node, joined_row, turn}
+use Rattle.archive_join.specs.Joined.{node_at, below, above, alone_node, alone_onto, joined_node, joined_row, alone_or_joined}
 
 abbrev pub names : List PlainNode → List PlainLabel
 names js = map node_label js
@@ -169,13 +169,13 @@ labels_onto : (p q : List (ℕ × ℕ)) (js : List PlainNode) (r : PlainNodes) �
 labels_onto p q [] r = refl
 labels_onto p q (j ∷ js) r = λ i. alone_label p q j i ∷ labels_onto p q js r i
 
-pub turn_label : (p q : List (ℕ × ℕ)) (k : PlainNode) (o : Option PlainNode) → node_label (turn (alone_node p q k) (λ j. joined_node p q k j) o) ≡ node_label k
-turn_label p q (inner_node l s ks) None = refl
-turn_label p q (leaf_node l s xs) None = refl
-turn_label p q (inner_node l s ks) (Some (inner_node m t js)) = refl
-turn_label p q (inner_node l s ks) (Some (leaf_node m t ys)) = refl
-turn_label p q (leaf_node l s xs) (Some (inner_node m t js)) = refl
-turn_label p q (leaf_node l s xs) (Some (leaf_node m t ys)) = refl
+pub alone_or_joined_label : (p q : List (ℕ × ℕ)) (k : PlainNode) (o : Option PlainNode) → node_label (alone_or_joined (alone_node p q k) (λ j. joined_node p q k j) o) ≡ node_label k
+alone_or_joined_label p q (inner_node l s ks) None = refl
+alone_or_joined_label p q (leaf_node l s xs) None = refl
+alone_or_joined_label p q (inner_node l s ks) (Some (inner_node m t js)) = refl
+alone_or_joined_label p q (inner_node l s ks) (Some (leaf_node m t ys)) = refl
+alone_or_joined_label p q (leaf_node l s xs) (Some (inner_node m t js)) = refl
+alone_or_joined_label p q (leaf_node l s xs) (Some (leaf_node m t ys)) = refl
 
 module _ (p q : List (ℕ × ℕ)) where
   pub labels_step : (k : PlainNode) (ks : PlainNodes) (js : List PlainNode)
@@ -183,8 +183,8 @@ module _ (p q : List (ℕ × ℕ)) where
   labels_step k ks js =
       let low = below (node_label k) js in
       let rest = joined_row p q ks (above (node_label k) js) in
-      let here = turn (alone_node p q k) (λ j. joined_node p q k j) (node_at (node_label k) js) in
-      labels_onto q p low (node here rest) ∙ ap (λ x. names low ++ x ∷ labels rest) (turn_label p q k (node_at (node_label k) js))
+      let here = alone_or_joined (alone_node p q k) (λ j. joined_node p q k j) (node_at (node_label k) js) in
+      labels_onto q p low (node here rest) ∙ ap (λ x. names low ++ x ∷ labels rest) (alone_or_joined_label p q k (node_at (node_label k) js))
 
   pub labels_end : (js : List PlainNode) → labels (joined_row p q no_nodes js) ≡ names js ++ []
   labels_end js = labels_onto q p js no_nodes

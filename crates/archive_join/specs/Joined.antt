@@ -76,9 +76,9 @@ above l [] = []
 above l (k ∷ ks) = if is_le (label_cmp (node_label k) l) then above l ks else k ∷ ks
 
 -- the node that the first alone has, or with the one that the second has
-abbrev pub turn : PlainNode → (PlainNode → PlainNode) → Option PlainNode → PlainNode
-turn k f None = k
-turn k f (Some j) = f j
+abbrev pub alone_or_joined : PlainNode → (PlainNode → PlainNode) → Option PlainNode → PlainNode
+alone_or_joined k f None = k
+alone_or_joined k f (Some j) = f j
 
 abbrev mutual
   -- a node that both have, of one kind
@@ -92,7 +92,7 @@ abbrev mutual
   pub joined_row : List (ℕ × ℕ) → List (ℕ × ℕ) → PlainNodes → List PlainNode → PlainNodes
   joined_row p q no_nodes js = alone_onto q p js no_nodes
   joined_row p q (node k ks) js = alone_onto q p (below (node_label k) js)
-      (node (turn (alone_node p q k) (λ j. joined_node p q k j) (node_at (node_label k) js)) (joined_row p q ks (above (node_label k) js)))
+      (node (alone_or_joined (alone_node p q k) (λ j. joined_node p q k j) (node_at (node_label k) js)) (joined_row p q ks (above (node_label k) js)))
 
 -- the archive of the versions of a, and behind them those of b
 abbrev pub joined : PlainArchive → PlainArchive → PlainArchive

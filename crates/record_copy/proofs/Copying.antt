@@ -29,7 +29,7 @@ use Rattle.record_copy.proofs.Running.{run-then, matches-then, matches-fault, ma
 
 -- ---- the calls of a node
 
-call-short : (S : List (ℕ × ℕ) → Type 0) (b : ℕ) (kind : Kind) (l : PlainLabel) (s : Stamp) (set : List (ℕ × ℕ)) → IsShortLabel b l → IfStored S s → S set → IsShortCall S b (call_of kind l s set)
+pub call-short : (S : List (ℕ × ℕ) → Type 0) (b : ℕ) (kind : Kind) (l : PlainLabel) (s : Stamp) (set : List (ℕ × ℕ)) → IsShortLabel b l → IfStored S s → S set → IsShortCall S b (call_of kind l s set)
 call-short S b Inner l s set h g f = (h, g, f)
 call-short S b Leaf l s set h g f = (h, g, f)
 
@@ -55,14 +55,14 @@ own-raised b n (Some t) parent own is h g = subst (IsRaisedOf b n) (sym is) h
 some-opened : (o : OpenInner) (is js : List OpenInner) → is ≡ o ∷ js → is ≢ []
 some-opened o is js e d = (let x = sym d ∙ e in absurd cc)
 
-open-stands : (kind : Kind) (l : PlainLabel) (s : Stamp) (set : List (ℕ × ℕ)) (v w : PlainWriter) → v.leaf ≡ None → w ≡ after v (call_of kind l s set) → IsOpen kind w
+pub open-stands : (kind : Kind) (l : PlainLabel) (s : Stamp) (set : List (ℕ × ℕ)) (v w : PlainWriter) → v.leaf ≡ None → w ≡ after v (call_of kind l s set) → IsOpen kind w
 open-stands Inner l s set v w none is = (ap (λ (x : PlainWriter). x.leaf) is ∙ none, some-opened _ w.inners v.inners (ap (λ (x : PlainWriter). x.inners) is))
 open-stands Leaf l s set v w none is = λ e. (let x = sym (ap (λ (y : PlainWriter). y.leaf) is) ∙ e in absurd cc)
 
 tails : (i j : OpenInner) (is js : List OpenInner) → i ∷ is ≡ j ∷ js → js ≡ is
 tails i j is js e = cc
 
-ends-rest : (kind : Kind) (l : PlainLabel) (s : Stamp) (set : List (ℕ × ℕ)) (v w x : PlainWriter) (e : Option CopyFault) → w ≡ after v (call_of kind l s set) → Unless e (EndsKind kind w x) → Unless e (Rests v x)
+pub ends-rest : (kind : Kind) (l : PlainLabel) (s : Stamp) (set : List (ℕ × ℕ)) (v w x : PlainWriter) (e : Option CopyFault) → w ≡ after v (call_of kind l s set) → Unless e (EndsKind kind w x) → Unless e (Rests v x)
 ends-rest Inner l s set v w x None is h = record { no_leaf = h.no_leaf; inners = tails _ h.closed v.inners x.inners (sym (ap (λ (y : PlainWriter). y.inners) is) ∙ h.inners) }
 ends-rest Leaf l s set v w x None is h = record { no_leaf = h.no_leaf; inners = h.inners ∙ ap (λ (y : PlainWriter). y.inners) is }
 ends-rest kind l s set v w x (Some f) is h = tt
@@ -313,7 +313,7 @@ ended-closes : (v w : PlainWriter) (is : List OpenInner) (at : ℕ) → is ≢ [
 ended-closes v w [] at some leaf e = absurd (some refl)
 ended-closes v w (i ∷ is) at some leaf e = (ap (λ (x : PlainWriter). x.leaf) e ∙ leaf, i, ap (λ (x : PlainWriter). i ∷ x.inners) (sym e))
 
-closes : (s t u : State) (e : Option CopyFault) → s.writer.inners ≢ [] → Rests s.writer t.writer → (made : List WriterCall) → Unless e (u.writer ≡ after_all t.writer made) → Unless e (made ≡ call_end_inner ∷ []) → Unless e (Closes s.writer u.writer)
+pub closes : (s t u : State) (e : Option CopyFault) → s.writer.inners ≢ [] → Rests s.writer t.writer → (made : List WriterCall) → Unless e (u.writer ≡ after_all t.writer made) → Unless e (made ≡ call_end_inner ∷ []) → Unless e (Closes s.writer u.writer)
 closes s t u None some h made is same =
     let v = t.writer in
     let parts = ended-closes v u.writer v.inners (v.written + length (appended v call_end_inner)) (λ none. some (sym h.inners ∙ none)) h.no_leaf (is ∙ ap (after_all v) same) in

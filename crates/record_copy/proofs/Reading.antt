@@ -90,7 +90,7 @@ shows-fault n view u next t read.Damage h = h
 shows-fault n view u next t read.Folder h = tt
 shows-fault n view u next t read.Memory h = tt
 
-not-long-cursor : (e : CursorFault) → IfLong (Some (of_cursor e)) ⊥
+pub not-long-cursor : (e : CursorFault) → IfLong (Some (of_cursor e)) ⊥
 not-long-cursor read.Damage = tt
 not-long-cursor read.Folder = tt
 not-long-cursor read.Memory = tt

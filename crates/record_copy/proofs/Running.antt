@@ -19,7 +19,7 @@ use Rattle.record_writer.proofs.WalkLaws.{appended-append, after-append}
 use Rattle.record_writer.proofs.FitLaws.{fit-both}
 use Rattle.record_copy.specs.Faults.{Unless, IfLong, IfWhole, fault_of, of_writer}
 use Rattle.record_copy.specs.Passes.{Passes}
-use Rattle.record_copy.specs.Runs.{Run, Matches, IsPart, Sent}
+use Rattle.record_copy.specs.Runs.{Run, Makes, Matches, IsPart, Sent}
 use Rattle.record_copy.specs.Seen.{Coming}
 use Rattle.record_copy.specs.Short.{IsShortCall, AreShort}
 use Rattle.record_copy.specs.State.{State, state}
@@ -92,28 +92,39 @@ run-none next s t e not same h = record {
 -- ---- what was to be written
 
 -- one part behind another
-pub matches-then : (n : ℕ) (cs ds made more : List WriterCall) (next : WriterCall) (behind : List PlainItem) (t : State) (e : Option CopyFault) → made ≡ cs → Matches n ds more next behind t e → Matches n (cs ++ ds) (made ++ more) next behind t e
-matches-then n cs ds made more next behind t None is h = ((λ i. is i ++ h.0 i), h.1)
-matches-then n cs ds made more next behind t (Some TooLong) is h =
+pub makes-then : (P : Type 0) (cs ds made more : List WriterCall) (next : WriterCall) (e : Option CopyFault) → made ≡ cs → Makes P ds more next e → Makes P (cs ++ ds) (made ++ more) next e
+makes-then P cs ds made more next None is h = ((λ i. is i ++ h.0 i), h.1)
+makes-then P cs ds made more next (Some TooLong) is h =
     (h.0, (λ i. sym is i ++ h.1 i) ∙ sym (append_assoc made more (next ∷ h.0)))
-matches-then n cs ds made more next behind t (Some Damage) is h = h
-matches-then n cs ds made more next behind t (Some Folder) is h = tt
-matches-then n cs ds made more next behind t (Some Memory) is h = tt
+makes-then P cs ds made more next (Some Damage) is h = h
+makes-then P cs ds made more next (Some Folder) is h = tt
+makes-then P cs ds made more next (Some Memory) is h = tt
 
 -- after a fault what was to come behind does not matter
-pub matches-fault : (n : ℕ) (cs ds made : List WriterCall) (next : WriterCall) (mid behind : List PlainItem) (t : State) (f : CopyFault) → Matches n cs made next mid t (Some f) → Matches n (cs ++ ds) made next behind t (Some f)
-matches-fault n cs ds made next mid behind t TooLong h = (h.0 ++ ds, ap (λ (z : List WriterCall). z ++ ds) h.1 ∙ append_assoc made (next ∷ h.0) ds)
-matches-fault n cs ds made next mid behind t Damage h = h
-matches-fault n cs ds made next mid behind t Folder h = tt
-matches-fault n cs ds made next mid behind t Memory h = tt
+pub makes-fault : (P Q : Type 0) (cs ds made : List WriterCall) (next : WriterCall) (f : CopyFault) → Makes P cs made next (Some f) → Makes Q (cs ++ ds) made next (Some f)
+makes-fault P Q cs ds made next TooLong h = (h.0 ++ ds, ap (λ (z : List WriterCall). z ++ ds) h.1 ∙ append_assoc made (next ∷ h.0) ds)
+makes-fault P Q cs ds made next Damage h = h
+makes-fault P Q cs ds made next Folder h = tt
+makes-fault P Q cs ds made next Memory h = tt
 
 -- calls that read nothing
+pub makes-part : (P : Type 0) (cs made : List WriterCall) (next : WriterCall) (e : Option CopyFault) → IsPart cs made next e → P → Makes P cs made next e
+makes-part P cs made next None part h = (part, h)
+makes-part P cs made next (Some TooLong) part h = part
+makes-part P cs made next (Some Damage) part h = part
+makes-part P cs made next (Some Folder) part h = tt
+makes-part P cs made next (Some Memory) part h = tt
+
+-- the same, where items come next
+
+pub matches-then : (n : ℕ) (cs ds made more : List WriterCall) (next : WriterCall) (behind : List PlainItem) (t : State) (e : Option CopyFault) → made ≡ cs → Matches n ds more next behind t e → Matches n (cs ++ ds) (made ++ more) next behind t e
+matches-then n cs ds made more next behind t e is h = makes-then (Coming n t.files t.cursor behind) cs ds made more next e is h
+
+pub matches-fault : (n : ℕ) (cs ds made : List WriterCall) (next : WriterCall) (mid behind : List PlainItem) (t : State) (f : CopyFault) → Matches n cs made next mid t (Some f) → Matches n (cs ++ ds) made next behind t (Some f)
+matches-fault n cs ds made next mid behind t f h = makes-fault (Coming n t.files t.cursor mid) (Coming n t.files t.cursor behind) cs ds made next f h
+
 pub matches-part : (n : ℕ) (cs made : List WriterCall) (next : WriterCall) (behind : List PlainItem) (s t : State) (e : Option CopyFault) → IsPart cs made next e → t.files ≡ s.files → t.cursor ≡ s.cursor → Coming n s.files s.cursor behind → Matches n cs made next behind t e
-matches-part n cs made next behind s t None part f c h = (part, coming-same n behind s t f c h)
-matches-part n cs made next behind s t (Some TooLong) part f c h = part
-matches-part n cs made next behind s t (Some Damage) part f c h = part
-matches-part n cs made next behind s t (Some Folder) part f c h = tt
-matches-part n cs made next behind s t (Some Memory) part f c h = tt
+matches-part n cs made next behind s t e part f c h = makes-part (Coming n t.files t.cursor behind) cs made next e part (coming-same n behind s t f c h)
 
 -- ---- short calls
 

@@ -19,12 +19,16 @@ pub record Run (made : List WriterCall) (next : WriterCall) (s t : State) (ended
   pub writer : Unless ended (t.writer ≡ after_all s.writer made)
   pub over : IfLong ended (¬ Fits (after_all s.writer made) next)
 
--- They are the calls that were to be made, and these come next, seen with n more in each number; or so far they are, and the next of those did not fit. There is no damage.
+-- They are the calls that were to be made, and this holds; or so far they are, and the next of those did not fit. There is no damage.
+abbrev pub Makes : Type 0 → List WriterCall → List WriterCall → WriterCall → Option CopyFault → Type 0
+Makes P cs made next None = (made ≡ cs) × P
+Makes P cs made next (Some TooLong) = (others : List WriterCall) × (cs ≡ made ++ next ∷ others)
+Makes P cs made next (Some Damage) = ⊥
+Makes P cs made next (Some other) = ⊤
+
+-- The same, where these come next, seen with n more in each number.
 abbrev pub Matches : ℕ → List WriterCall → List WriterCall → WriterCall → List PlainItem → State → Option CopyFault → Type 0
-Matches n cs made next behind t None = (made ≡ cs) × Coming n t.files t.cursor behind
-Matches n cs made next behind t (Some TooLong) = (others : List WriterCall) × (cs ≡ made ++ next ∷ others)
-Matches n cs made next behind t (Some Damage) = ⊥
-Matches n cs made next behind t (Some other) = ⊤
+Matches n cs made next behind t ended = Makes (Coming n t.files t.cursor behind) cs made next ended
 
 -- Those that were made are these calls, or the first of them, before one that did not fit, or before the folder or memory failed.
 abbrev pub IsPart : List WriterCall → List WriterCall → WriterCall → Option CopyFault → Type 0

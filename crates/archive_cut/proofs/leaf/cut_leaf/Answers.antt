@@ -6,13 +6,13 @@ use Rattle.record_writer.specs.Data.{call_end_leaf}
 use Rattle.record_writer.specs.View.{writer_view}
 use Rattle.record_writer.specs.Walks.{alt_calls}
 use Rattle.record_writer.specs.declared.writer.Writer.{Writer}
+use Rattle.record_copy.specs.Faults.{fault_of}
+use Rattle.record_copy.specs.Runs.{Sent}
+use Rattle.record_copy.specs.State.{State, state}
+use Rattle.record_copy.proofs.Passing.{at-err}
 use Rattle.archive_cut.specs.Held.{held_view}
-use Rattle.archive_cut.specs.Passes.{fault_of}
-use Rattle.archive_cut.specs.Runs.{Sent}
-use Rattle.archive_cut.specs.State.{State, state}
 use Rattle.archive_cut.specs.Walked.{LeafCut}
 use Rattle.archive_cut.proofs.Leaving.{leaf-fault, leaf-cut}
-use Rattle.archive_cut.proofs.Passing.{at-err}
 use Rattle.archive_cut.proofs.leaf.cut_leaf.Given.{Over}
 use Rattle.archive_cut.proofs.leaf.cut_leaf.Goals as goal
 

@@ -1,9 +1,9 @@
 use Rattle.std.proofs.Common.{◌≤◌, map, take, None}
 use Rattle.record_cursor.specs.View.{PlainCursor}
 use Rattle.record_writer.specs.Walks.{alt_calls}
+use Rattle.record_copy.specs.Runs.{Sent}
+use Rattle.record_copy.specs.State.{state}
 use Rattle.archive_cut.specs.Held.{held_view}
-use Rattle.archive_cut.specs.Runs.{Sent}
-use Rattle.archive_cut.specs.State.{state}
 use Rattle.archive_cut.proofs.leaf.put_held.Given as goal
 
 -- so many alternatives were written

@@ -1,7 +1,7 @@
 use Rattle.std.proofs.Common.{◌-◌}
 use Rattle.version_set.specs.View.{pairs_of}
 use Rattle.record_writer.specs.Data.{PlainWriter}
-use Rattle.archive_cut.specs.State.{beside}
+use Rattle.record_copy.specs.State.{beside}
 use Rattle.archive_cut.proofs.Leaving.{ReadOn}
 use Rattle.archive_cut.proofs.leaf.read_alts.Given as goal
 

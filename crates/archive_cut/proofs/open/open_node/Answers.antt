@@ -3,14 +3,14 @@ use Rattle.archive_tree.specs.View.{stamp_view}
 use Rattle.record_parts.specs.ShownViews.{shown_label}
 use Rattle.record_cursor.specs.View.{PlainCursor}
 use Rattle.record_writer.specs.declared.writer.Writer.{Writer}
+use Rattle.record_copy.specs.Faults.{fault_of}
+use Rattle.record_copy.specs.Runs.{Sent}
+use Rattle.record_copy.specs.State.{State, state}
+use Rattle.record_copy.specs.declared.fault.CopyFault.TheVariants.{Memory}
+use Rattle.record_copy.proofs.Passing.{at-err}
+use Rattle.record_copy.proofs.Running.{sent-none}
 use Rattle.archive_cut.specs.Opened.{opening_calls}
-use Rattle.archive_cut.specs.Passes.{fault_of}
-use Rattle.archive_cut.specs.Runs.{Sent}
-use Rattle.archive_cut.specs.State.{State, state}
 use Rattle.archive_cut.specs.Windows.{stamp_left}
-use Rattle.archive_cut.specs.declared.fault.CutFault.TheVariants.{Memory}
-use Rattle.archive_cut.proofs.Passing.{at-err}
-use Rattle.archive_cut.proofs.Running.{sent-none}
 use Rattle.archive_cut.proofs.open.open_node.Given.{Over}
 use Rattle.archive_cut.proofs.open.open_node.Goals as goal
 

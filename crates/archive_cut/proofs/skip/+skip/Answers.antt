@@ -2,10 +2,10 @@ use Rattle.std.proofs.Common.{ℕ, ◌*◌, ◌-◌, ◌<◌, Bool, None, Some, 
 use Rattle.record_cursor.specs.View.{PlainCursor, shown_item}
 use Rattle.record_parts.specs.ShownViews.{shown_label, shown_stamp}
 use Rattle.record_writer.specs.Data.{PlainWriter}
+use Rattle.record_copy.specs.State.{State, beside}
+use Rattle.record_copy.proofs.Passing.{Nexts, nexts, stays-by, at-err, nobody}
 use Rattle.archive_cut.specs.Skipped.{RowSkipped, ChildSkipped, ended_by}
-use Rattle.archive_cut.specs.State.{State, beside}
 use Rattle.archive_cut.proofs.Skips.{child-failed, child-ended, child-damage, child-inner, child-leaf, row-start, row-on, row-done, row-fault}
-use Rattle.archive_cut.proofs.Passing.{Nexts, nexts, stays-by, at-err, nobody}
 use Rattle.archive_cut.proofs.skip.+skip.Given.{Over}
 use Rattle.archive_cut.proofs.skip.+skip.Goals.{skip_child-In_ok-next}
 use Rattle.archive_cut.proofs.skip.+skip.Goals as goal

@@ -1,6 +1,6 @@
 use Rattle.std.proofs.Common.{◌-◌, ◌*◌, ◌+◌}
 use Rattle.record_writer.specs.Data.{PlainWriter}
-use Rattle.archive_cut.specs.State.{beside}
+use Rattle.record_copy.specs.State.{beside}
 use Rattle.archive_cut.proofs.Skips.{RowOn}
 use Rattle.archive_cut.proofs.skip.+skip.Given as goal
 

@@ -2,10 +2,10 @@ use Rattle.std.proofs.Common.{None, refl, ap}
 use Rattle.record_cursor.specs.View.{PlainCursor, shown_item}
 use Rattle.record_parts.specs.ShownViews.{shown_stamp, shown_body}
 use Rattle.record_writer.specs.Data.{PlainWriter}
+use Rattle.record_copy.specs.State.{State, beside}
+use Rattle.record_copy.proofs.Passing.{Nexts, nexts, stays-by, passes-none, at-err}
 use Rattle.archive_cut.specs.Skipped.{AltsSkipped, ended_by}
-use Rattle.archive_cut.specs.State.{State, beside}
 use Rattle.archive_cut.proofs.Skips.{skip-start, skip-on, skip-ended, skip-failed, skip-damage}
-use Rattle.archive_cut.proofs.Passing.{Nexts, nexts, stays-by, passes-none, at-err}
 use Rattle.archive_cut.proofs.skip.skip_alts.Given.{Over}
 use Rattle.archive_cut.proofs.skip.skip_alts.Goals.{In_ok-next}
 use Rattle.archive_cut.proofs.skip.skip_alts.Goals as goal

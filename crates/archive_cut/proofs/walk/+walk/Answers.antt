@@ -2,7 +2,20 @@ use Rattle.std.proofs.Common.{◌≡◌, ℕ, ◌<◌, ◌*◌, ◌+◌, ◌-◌
 use Rattle.std.specs.Option.{option_map}
 use Rattle.std.specs.Result.{result_map_both}
 use Rattle.record_cursor.specs.declared.fault.CursorFault.{CursorFault}
+use Rattle.record_copy.specs.Faults.{fault_of, of_cursor}
+use Rattle.record_copy.specs.Parts.{opening_of}
+use Rattle.record_copy.specs.State.{State, state}
+use Rattle.record_copy.specs.declared.fault.CopyFault.{CopyFault}
+use Rattle.record_copy.specs.declared.fault.CopyFault.TheVariants.{Memory}
+use Rattle.record_copy.proofs.Passing.{Nexts, nexts, stays-by, at-err}
+use Rattle.record_copy.proofs.Reading.{Opener}
+use Rattle.record_copy.proofs.Running.{written, called, call-sends}
 use Rattle.archive_cut.specs.Skipped.{ended_by}
+use Rattle.archive_cut.specs.Walked.{RowCut, InsideCut, OpenedCut, Gone, ChildCut}
+use Rattle.archive_cut.proofs.Walking.{canonical-own, smaller, child-failed, child-ended, child-damage, child-memory, child-open_fault, child-opened, opened-stands, opened-left, row-start, row-on, row-done, row-fault, inside-fault, inside-close}
+use Rattle.archive_cut.proofs.walk.+walk.Given.{Over}
+use Rattle.archive_cut.proofs.walk.+walk.Goals.{cut_child-In_ok-label, cut_child-Joined-branch-2, cut_child-in-Inner, cut_child-in-Leaf}
+use Rattle.archive_cut.proofs.walk.+walk.Goals as goal
 use Rattle.archive_tree.specs.View.{stamp_view}
 use Rattle.version_set.specs.View.{pairs_of}
 use Rattle.record_cursor.specs.View.{PlainCursor, shown_item}
@@ -10,17 +23,7 @@ use Rattle.record_parts.specs.ShownViews.{shown_label, shown_stamp}
 use Rattle.record_writer.specs.Data.{call_end_inner}
 use Rattle.record_writer.specs.View.{writer_view}
 use Rattle.record_writer.specs.declared.writer.Writer.{Writer}
-use Rattle.archive_cut.specs.Passes.{fault_of, of_cursor}
-use Rattle.archive_cut.specs.State.{State, state}
-use Rattle.archive_cut.specs.Walked.{RowCut, InsideCut, OpenedCut, Gone, ChildCut}
-use Rattle.archive_cut.specs.declared.fault.CutFault.{CutFault}
-use Rattle.archive_cut.specs.declared.fault.CutFault.TheVariants.{Memory}
-use Rattle.archive_cut.proofs.Passing.{Nexts, nexts, stays-by, at-err}
-use Rattle.archive_cut.proofs.Running.{written, called, call-sends}
-use Rattle.archive_cut.proofs.Walking.{Opener, opening, canonical-own, smaller, child-failed, child-ended, child-damage, child-memory, child-open_fault, child-opened, opened-stands, opened-left, row-start, row-on, row-done, row-fault, inside-fault, inside-close}
-use Rattle.archive_cut.proofs.walk.+walk.Given.{Over}
-use Rattle.archive_cut.proofs.walk.+walk.Goals.{cut_child-In_ok-label, cut_child-Joined-branch-2, cut_child-in-Inner, cut_child-in-Leaf}
-use Rattle.archive_cut.proofs.walk.+walk.Goals as goal
+use Rattle.record_parts.proofs.ShapeLaws.{label_parts}
 
 abbrev at : (g : Over) → g.row.F.Denot → PlainCursor → Writer → State
 at g = (let f = g.F.Folder in state f.files f.draft f.numbers f.faults)
@@ -60,11 +63,11 @@ cut_child-returns-in_default g t c =
     child-damage w.first w.last (pairs_of c.args.before.now) s p c.in_ok-label.field-0 d.not-Inner d.not-Leaf d.not-End (read g t (goal.at.cut_child-returns-in_default g t c).In_ok-label)
 
 -- it opens a node
-opens : (g : Over) (t : ℕ) (c : cut_child-Joined-branch-2 g t) → shown_item c.in_ok-label.field-0 ≡ opening c.match-branch-2.kind.0 (shown_label c.match-branch-2.kind.1) (shown_stamp c.match-branch-2.kind.2)
+opens : (g : Over) (t : ℕ) (c : cut_child-Joined-branch-2 g t) → shown_item c.in_ok-label.field-0 ≡ opening_of c.match-branch-2.kind.0 (shown_label c.match-branch-2.kind.1) (shown_stamp c.match-branch-2.kind.2)
 opens g t c =
     elim c.match-branch-2.branch [
-      | cut_child-in-Inner w ↦ ap shown_item w.in-Inner.is ∙ sym (ap (λ k. opening k.0 (shown_label k.1) (shown_stamp k.2)) w.kind-is)
-      | cut_child-in-Leaf w ↦ ap shown_item w.in-Leaf.is ∙ sym (ap (λ k. opening k.0 (shown_label k.1) (shown_stamp k.2)) w.kind-is)
+      | cut_child-in-Inner w ↦ ap shown_item w.in-Inner.is ∙ sym (ap (λ k. opening_of k.0 (shown_label k.1) (shown_stamp k.2)) w.kind-is)
+      | cut_child-in-Leaf w ↦ ap shown_item w.in-Leaf.is ∙ sym (ap (λ k. opening_of k.0 (shown_label k.1) (shown_stamp k.2)) w.kind-is)
     ]
 
 abbrev opener : (g : Over) (t : ℕ) (c : cut_child-Joined-branch-2 g t) → Nexts (at g c.args.folder.now c.args.cursor.now c.args.writer.now) (at g c.next.new.folder c.next.follows.lender-at-none c.args.writer.now) c.in_ok-label.field-0
@@ -84,7 +87,7 @@ cut_child-returns-in_err-old g t c =
 
 -- the opener with the stamp that was copied
 abbrev stored : {kind : _} {s p : State} → (o : Opener kind s p) (st : _) → st ≡ o.stamp → Opener kind s p
-stored {kind = kind} o st is = record { item = o.item; label = o.label; stamp = st; shown = o.shown ∙ ap (opening kind o.label) (sym is); read = o.read }
+stored {kind = kind} o st is = record { item = o.item; label = o.label; stamp = st; shown = o.shown ∙ ap (opening_of kind o.label) (sym is); read = o.read }
 
 pub cut_child-returns-in_err-new : goal.cut_child-returns-in_err-new
 cut_child-returns-in_err-new g t c =
@@ -103,7 +106,7 @@ cut_child-returns-in_err-new g t c =
     let e = c.in_err-new in
     let r = c.from_residual-in_err-new in
     at-err r.result e.field-0.0 r.ensures.1 (λ d. ChildCut w.first w.last q s u d)
-    (child-open_fault w.first w.last q c.match-branch-2.kind.0 s p u o before.canonical (canonical-own old.old before) (pairs_of c.args.now.now) c.requires.left e.field-0.0 (e.ensures.sends k goes.within))
+    (child-open_fault w.first w.last q c.match-branch-2.kind.0 s p u o before.canonical (canonical-own old.old before) (((label_parts (shown_label c.match-branch-2.kind.1)).0 c.bytes-spelled.ensures.is).1) (pairs_of c.args.now.now) c.requires.left e.field-0.0 (e.ensures.sends k goes.within))
 
 pub cut_child-cut_opened-requires : goal.cut_child-cut_opened-requires
 cut_child-cut_opened-requires g t c κs within =
@@ -125,8 +128,8 @@ cut_child-cut_opened-requires g t c κs within =
     let own = canonical-own old.old before in
     let small = smaller kind s p o in
     let less : 4 * (k.length - k.at) + 4 < t = omega (arith, small, c.decreases) in
-    let stands = opened-stands w.first w.last q kind s p u o before.canonical own now c.requires.left (option_map stamp_view new.new) (sym new.ensures.stamp) (new.ensures.sends k goes.within) c.requires.no_leaf in
-    let left = opened-left w.first w.last q kind s p u o before.canonical own now c.requires.left (option_map stamp_view new.new) (sym new.ensures.stamp) in
+    let stands = opened-stands w.first w.last q kind s p u o before.canonical own (((label_parts (shown_label c.match-branch-2.kind.1)).0 c.bytes-spelled.ensures.is).1) now c.requires.left (option_map stamp_view new.new) (sym new.ensures.stamp) (new.ensures.sends k goes.within) c.requires.no_leaf in
+    let left = opened-left w.first w.last q kind s p u o before.canonical own (((label_parts (shown_label c.match-branch-2.kind.1)).0 c.bytes-spelled.ensures.is).1) now c.requires.left (option_map stamp_view new.new) (sym new.ensures.stamp) in
     (less, (within, (goes.within, (stands, left))))
 
 pub cut_child-returns-in_err-cut_opened : goal.cut_child-returns-in_err-cut_opened
@@ -150,7 +153,7 @@ cut_child-returns-in_err-cut_opened g t c =
     let e = c.in_err-cut_opened in
     let r = c.from_residual-in_err-cut_opened in
     at-err r.result e.field-0.0 r.ensures.1 (λ d. ChildCut w.first w.last q s v d)
-    (child-opened w.first w.last q kind s p u o before.canonical (canonical-own old.old before) now c.requires.left (option_map stamp_view new.new) (sym new.ensures.stamp) (new.ensures.sends k goes.within) c.requires.no_leaf v (Some e.field-0.0) e.ensures)
+    (child-opened w.first w.last q kind s p u o before.canonical (canonical-own old.old before) (((label_parts (shown_label c.match-branch-2.kind.1)).0 c.bytes-spelled.ensures.is).1) now c.requires.left (option_map stamp_view new.new) (sym new.ensures.stamp) (new.ensures.sends k goes.within) c.requires.no_leaf v (Some e.field-0.0) e.ensures)
 
 pub cut_child-returns : goal.cut_child-returns
 cut_child-returns g t c =
@@ -170,7 +173,7 @@ cut_child-returns g t c =
     let old = c.in_ok-old in
     let new = c.in_ok-new in
     let o = stored (opener g t z.Joined-branch-2 gave) (stamp_view old.old) old.ensures in
-    child-opened w.first w.last q kind s p u o before.canonical (canonical-own old.old before) now c.requires.left (option_map stamp_view new.new) (sym new.ensures.stamp) (new.ensures.sends k goes.within) c.requires.no_leaf v None c.in_ok-cut_opened.ensures
+    child-opened w.first w.last q kind s p u o before.canonical (canonical-own old.old before) (((label_parts (shown_label c.match-branch-2.kind.1)).0 c.bytes-spelled.ensures.is).1) now c.requires.left (option_map stamp_view new.new) (sym new.ensures.stamp) (new.ensures.sends k goes.within) c.requires.no_leaf v None c.in_ok-cut_opened.ensures
 
 -- ---- the inside of a node
 
@@ -195,7 +198,7 @@ cut_inner-returns g t c =
     let run = row.run in
     let passes = run.passes in
     let e = c.end_inner.ensures in
-    subst (λ (o : Option CutFault). InsideCut w.first w.last q s u o) (called c.end_inner.result c.written.result c.written.ensures)
+    subst (λ (o : Option CopyFault). InsideCut w.first w.last q s u o) (called c.end_inner.result c.written.result c.written.ensures)
     (inside-close w.first w.last q s m u (written c.end_inner.result) c.requires.begun row
     (call-sends f.files f.draft f.numbers f.faults c.cut_row.new.folder c.end_inner.new.folder c.cut_row.new.cursor c.cut_row.new.writer c.end_inner.new.self call_end_inner c.end_inner.result (g.met.F.Folder.metered c.cut_row.new.folder) passes.within e.folder e.after e.too_long))
 
@@ -235,9 +238,9 @@ cut_row-returns g t c =
 
 -- ---- what was read
 
-skip-fault : (r : Result (Unit {0}) CursorFault) (z : Result (Unit {0}) CutFault) → z ≡ result_map_both (λ x. x) of_cursor r → fault_of z ≡ option_map of_cursor (ended_by r)
-skip-fault (Ok x) z is = ap (λ (d : Result (Unit {0}) CutFault). fault_of d) is
-skip-fault (Err e) z is = ap (λ (d : Result (Unit {0}) CutFault). fault_of d) is
+skip-fault : (r : Result (Unit {0}) CursorFault) (z : Result (Unit {0}) CopyFault) → z ≡ result_map_both (λ x. x) of_cursor r → fault_of z ≡ option_map of_cursor (ended_by r)
+skip-fault (Ok x) z is = ap (λ (d : Result (Unit {0}) CopyFault). fault_of d) is
+skip-fault (Err e) z is = ap (λ (d : Result (Unit {0}) CopyFault). fault_of d) is
 
 pub cut_opened-returns-in-None : goal.cut_opened-returns-in-None
 cut_opened-returns-in-None g t c =

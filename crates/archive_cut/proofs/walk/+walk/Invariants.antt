@@ -1,6 +1,6 @@
 use Rattle.std.proofs.Common.{◌-◌, ◌*◌, ◌+◌}
 use Rattle.version_set.specs.View.{pairs_of}
-use Rattle.archive_cut.specs.State.{state}
+use Rattle.record_copy.specs.State.{state}
 use Rattle.archive_cut.proofs.Walking.{RowOn}
 use Rattle.archive_cut.proofs.walk.+walk.Given as goal
 

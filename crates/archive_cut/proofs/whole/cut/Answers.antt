@@ -1,5 +1,8 @@
-use Rattle.std.proofs.Common.{ap}
+use Rattle.std.proofs.Common.{Option, Result, ap, subst, sym}
 use Rattle.record_cursor.specs.View.{PlainCursor, header_view}
+use Rattle.record_copy.specs.Faults.{fault_of}
+use Rattle.record_copy.specs.declared.fault.CopyFault.{CopyFault}
+use Rattle.archive_cut.specs.Whole.{VersionsCut}
 use Rattle.archive_cut.proofs.Ending.{appended-of, too_long-of, no_room-of, undamaged-of, cause-of}
 use Rattle.archive_cut.proofs.whole.cut.Goals as goal
 
@@ -24,8 +27,8 @@ returns g c =
     let old = c.args.folder.now in
     let new = c.cut_versions.new.folder in
     let k = c.args.cursor in
-    let out = c.cut_versions.result in
-    let v = c.cut_versions.ensures in
+    let out = c.done.result in
+    let v = subst (λ (o : Option CopyFault). VersionsCut f.files f.draft f.numbers f.faults h i j old new k o) (ap (λ (z : Result (Unit {0}) CopyFault). fault_of z) (sym c.done.ensures)) c.cut_versions.ensures in
     let reads = v.reads in
     let long = ap (λ (p : PlainCursor). p.length) r.cursor in
     record {

@@ -5,14 +5,14 @@ use Rattle.record_writer.specs.Calls.{after}
 use Rattle.record_writer.specs.Data.{PlainWriter, call_finish}
 use Rattle.record_writer.specs.View.{writer_view}
 use Rattle.record_writer.specs.declared.writer.Writer.{Writer}
-use Rattle.archive_cut.specs.Passes.{fault_of, of_cursor}
-use Rattle.archive_cut.specs.Runs.{Sent}
-use Rattle.archive_cut.specs.State.{State, beside}
+use Rattle.record_copy.specs.Faults.{fault_of, of_cursor}
+use Rattle.record_copy.specs.Runs.{Sent}
+use Rattle.record_copy.specs.State.{State, beside}
+use Rattle.record_copy.specs.declared.fault.CopyFault.{CopyFault}
+use Rattle.record_copy.proofs.Passing.{Nexts, nexts, stays-by, at-err}
+use Rattle.record_copy.proofs.Running.{written, called, plain-sends}
 use Rattle.archive_cut.specs.Whole.{NodesCut}
-use Rattle.archive_cut.specs.declared.fault.CutFault.{CutFault}
-use Rattle.archive_cut.proofs.Passing.{Nexts, nexts, stays-by, at-err}
 use Rattle.archive_cut.proofs.Rooting.{on-ok, nodes-uncut, nodes-unfinished, nodes-unread, nodes-other, nodes-cut}
-use Rattle.archive_cut.proofs.Running.{written, called, plain-sends}
 use Rattle.archive_cut.proofs.whole.cut_nodes.Given.{Over}
 use Rattle.archive_cut.proofs.whole.cut_nodes.Goals.{In_ok-written, In_ok-next}
 use Rattle.archive_cut.proofs.whole.cut_nodes.Goals as goal
@@ -52,7 +52,7 @@ returns-in_err-written g c =
     let sent = plain-sends f.files f.draft f.numbers f.faults m.folder n m.cursor v (after v call_finish) call_finish c.finish.result (g.met.F.Folder.metered m.folder) passes.within d.folder (on-ok c.finish.result _ refl) d.too_long in
     at-err r.result e.field-0.0 r.ensures.1 (λ z. NodesCut f.files f.draft f.numbers f.faults w.first w.last q c.args.folder.now n c.args.cursor.now c.args.writer (fault_of z))
     (nodes-unfinished f.files f.draft f.numbers f.faults w.first w.last q c.args.folder.now n c.args.cursor.now m.cursor c.args.writer (after v call_finish) (at g m.folder m.cursor v) row e.field-0.0
-    (subst (λ (o : Option CutFault). Sent (call_finish ∷ []) (at g m.folder m.cursor v) (at g n m.cursor (after v call_finish)) o) fault sent))
+    (subst (λ (o : Option CopyFault). Sent (call_finish ∷ []) (at g m.folder m.cursor v) (at g n m.cursor (after v call_finish)) o) fault sent))
 
 -- the last call was made
 sent : (g : Over) (c : In_ok-written g) → Sent (call_finish ∷ []) (at g c.cut_row.new.folder c.cut_row.new.cursor (writer_view c.cut_row.new.writer)) (at g c.finish.new.folder c.cut_row.new.cursor (last c.cut_row.new.writer)) None
@@ -66,7 +66,7 @@ sent g c =
     let passes = run.passes in
     let d = c.finish.ensures in
     let none : written c.finish.result ≡ None = called c.finish.result c.written.result c.written.ensures ∙ ap fault_of c.in_ok-written.was in
-    subst (λ (o : Option CutFault). Sent (call_finish ∷ []) (at g m.folder m.cursor v) (at g n m.cursor (after v call_finish)) o) none
+    subst (λ (o : Option CopyFault). Sent (call_finish ∷ []) (at g m.folder m.cursor v) (at g n m.cursor (after v call_finish)) o) none
     (plain-sends f.files f.draft f.numbers f.faults m.folder n m.cursor v (after v call_finish) call_finish c.finish.result (g.met.F.Folder.metered m.folder) passes.within d.folder (on-ok c.finish.result _ refl) d.too_long)
 
 -- the item that was given

@@ -5,10 +5,10 @@ use Rattle.record_format.specs.Files.{header_bytes}
 use Rattle.record_writer.specs.Data.{PlainWriter}
 use Rattle.record_writer.specs.Calls.{started}
 use Rattle.record_writer.specs.Faults.{Appends}
+use Rattle.record_copy.specs.Faults.{fault_of, of_writer}
+use Rattle.record_copy.proofs.Passing.{at-err}
 use Rattle.archive_cut.specs.Sliced.{cut_set}
-use Rattle.archive_cut.specs.Passes.{fault_of, of_writer}
 use Rattle.archive_cut.specs.Whole.{NodesCut, VersionsCut}
-use Rattle.archive_cut.proofs.Passing.{at-err}
 use Rattle.archive_cut.proofs.Slices.{root-left}
 use Rattle.archive_cut.proofs.Slicing.{versions-then, versions-unbegun}
 use Rattle.archive_cut.proofs.whole.cut_versions.Goals as goal
