@@ -73,6 +73,7 @@ overfull b h x old now merge.TooLong blank is r =
       short = room.short;
       next_short = room.next_short;
       drafted = λ bytes told. blank-is old bytes x blank (sym told ∙ is) ∙ r.1 ∙ ap (λ (y : List ℕ). header ++ y) room.same;
+      fit = room.fit;
       over = room.over;
     }
 overfull b h x old now merge.Damage blank is r = tt

@@ -167,7 +167,7 @@ module _ (own : PlainInherited) (b : PlainKey) where
 
   closing-short : (m : ℕ) (found : Bool) → 12 ≤ m → IsShortBody m b → AllByRecursion (IsShortCall m own.number) (closing found)
   closing-short m true room body = (tt, tt)
-  closing-short m false room body = ((set-alone m own.number own.number room, body.short), (tt, tt))
+  closing-short m false room body = ((set-alone m own.number own.number room, body), (tt, tt))
 
   closed-rests : (v u : PlainWriter) (found : Bool) → u.inners ≡ v.inners → Rests v (after_all u (closing found))
   closed-rests v u true same = leaf-rests v u same

@@ -10,6 +10,7 @@ use Rattle.nested_merge.specs.Below.{is_stamp_below}
 use Rattle.nested_merge.specs.Merged.{below, above}
 use Rattle.record_format.specs.Nodes.{set_in}
 use Rattle.record_format.specs.Spelling.{rec_bytes}
+use Rattle.record_parts.specs.Shapes.{FitsLabel}
 use Rattle.record_writer.specs.Calls.{after, all_appended, AllFit}
 use Rattle.record_writer.specs.Data.{PlainWriter, OpenInner, WriterCall}
 use Rattle.record_writer.specs.Walks.{row_calls}
@@ -29,7 +30,7 @@ use Rattle.stream_merge.specs.declared.fault.MergeFault.TheVariants.{Damage, Fol
 use Rattle.stream_merge.proofs.Handed.{at-err}
 use Rattle.stream_merge.proofs.Lengths.{Longer, opening_longer}
 use Rattle.stream_merge.proofs.Puts.{row-sent}
-use Rattle.stream_merge.proofs.Rooms.{went-stop, went-then, went-sent, opening-parts, own-short, turned-short, call-short}
+use Rattle.stream_merge.proofs.Rooms.{went-stop, went-then, went-sent, opening-label, opening-stamp, own-short, turned-short, call-short}
 use Rattle.stream_merge.proofs.States.{passes-then, passes-stop, sends-then, sends-fault}
 
 -- ---- a fault between two calls that is neither of the folder nor of the writer
@@ -120,8 +121,8 @@ module _ (kind : Kind) (h : PlainInherited) (l : PlainLabel) (st : Stamp) (cs : 
 
   -- the node was begun, or was not
   pub node-sent-beside : {T : Type 0} (r : Result T MergeFault) (u : State) (has : Bool) (stamp : Stamp) (own given : PlainInherited) → has ≡ is_some (kid_at l cs) → stamp ≡ turned h.number h.before has st → own ≡ inherited_with h has st → given ≡ own → Longer st stamp
-      → s.writer.leaf ≡ None → BelowPut h l cs s t None → Sent (call_of kind l stamp given.now ∷ []) t u (fault_of r) → BeganBeside kind h l st cs s u r
-  node-sent-beside r u has stamp own given there is owns gives longer none put second =
+      → FitsLabel l → s.writer.leaf ≡ None → BelowPut h l cs s t None → Sent (call_of kind l stamp given.now ∷ []) t u (fault_of r) → BeganBeside kind h l st cs s u r
+  node-sent-beside r u has stamp own given there is owns gives longer fits none put second =
       let first = put.sends in
       let b = second.sends in
       let rests = row-sent s t h.now (rest_of h.number h.before (below l cs)) none (record { appended = put.appended; sends = first; stops = tt }) in
@@ -136,12 +137,12 @@ module _ (kind : Kind) (h : PlainInherited) (l : PlainLabel) (st : Stamp) (cs : 
         paid = opening-paid r s t u put.appended second.appended kids_before kind l st stamp given.now longer first b;
         begins = begins-sent r s.writer t u second.appended kind l stamp given.now rests b;
         went = λ c room sets kids opens. (
-            let parts = opening-parts c kind l st opens in
-            let mine = own-short c h has st parts.1 sets in
+            let stored = opening-stamp c kind l st opens in
+            let mine = own-short c h has st stored sets in
             let set : IsShortSet c h.number given.now = subst (λ (z : PlainInherited). IsShortSet c h.number z.now) (sym (gives ∙ owns)) mine.now in
-            let new : IsShortStamp c h.number stamp = subst (λ (z : Stamp). IsShortStamp c h.number z) (sym is) (turned-short c h.number h.before has st parts.1 sets.before) in
+            let new : IsShortStamp c h.number stamp = subst (λ (z : Stamp). IsShortStamp c h.number z) (sym is) (turned-short c h.number h.before has st stored sets.before) in
             went-then c h.number put.appended second.appended s.writer t.writer u.writer (fault_of r) (put.went c room sets kids)
-            (went-sent c h.number (call_of kind l stamp given.now ∷ []) t u (fault_of r) (call-short c h.number kind l stamp given.now parts.0 new set, tt) second));
+            (went-sent c h.number (call_of kind l stamp given.now ∷ []) t u (fault_of r) (call-short c h.number kind l stamp given.now (opening-label c kind l st fits opens) new set, tt) second));
         sends = λ small. ends (fault_of r) (subst (λ (z : List WriterCall). Sends x (kids_before ++ z) s u (fault_of r)) called (sends-then put.appended second.appended s t u (fault_of r) kids_before (call_of kind l stamp given.now ∷ []) first b));
       }
     where

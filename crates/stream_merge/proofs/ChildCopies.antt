@@ -13,6 +13,7 @@ use Rattle.record_cursor.specs.View.{PlainCursor, shown_item}
 use Rattle.record_cursor.specs.declared.fault.CursorFault.{CursorFault}
 use Rattle.record_cursor.specs.declared.item.Item.{Item}
 use Rattle.record_cursor.specs.declared.item.Item.TheVariants as item
+use Rattle.record_parts.specs.Shapes.{FitsLabel}
 use Rattle.record_parts.specs.declared.views.LabelView.{LabelView}
 use Rattle.record_parts.specs.declared.views.StampView.{StampView}
 use Rattle.record_writer.specs.Data.{PlainWriter, OpenInner, WriterCall, call_end_leaf, call_end_inner}
@@ -33,7 +34,7 @@ use Rattle.stream_merge.specs.declared.fault.MergeFault.TheVariants.{Damage}
 use Rattle.stream_merge.proofs.States.{passes-then, passes-more, does-then, does-fault, takes-only, takes-sends, Takes, Nexts, Stays, Front, gave, gave-stop, gave-takes, gave-sent, failed, failed-does}
 use Rattle.stream_merge.proofs.Besides.{call-bytes, begins}
 use Rattle.stream_merge.proofs.Copies.{no-more, rests-behind}
-use Rattle.stream_merge.proofs.Rooms.{went-none, went-read, went-then, went-call, opening-parts, stamp-plain, set-in, call-short}
+use Rattle.stream_merge.proofs.Rooms.{went-none, went-read, went-then, went-call, opening-label, opening-stamp, stamp-plain, set-in, call-short}
 
 -- ---- nothing is written
 
@@ -185,6 +186,7 @@ pub record Opener (kind : Kind) (s t : State) : Type 0 where
   pub label : PlainLabel
   pub stamp : Stamp
   pub shown : shown_item item ≡ opening kind label stamp
+  pub fits : FitsLabel label
   pub read : Nexts s t item
 
 -- what is left gets less behind it
@@ -211,10 +213,10 @@ module _ (kind : Kind) (q : List (ℕ × ℕ)) (s t u : State) (o : Opener kind 
       let moved = goes.moved in
       let within = goes.within in
       let long = goes.same_length in
-      let parts = opening-parts b kind o.label o.stamp (omega (arith, size, same, moved, within, long, file)) in
-      let stamp = stamp-plain b n o.stamp parts.1 in
+      let le : length (rec_bytes (opening_of kind o.label o.stamp)) ≤ b = omega (arith, size, same, moved, within, long, file) in
+      let stamp = stamp-plain b n o.stamp (opening-stamp b kind o.label o.stamp le) in
       let own = set-in b n o.stamp q stamp set in
-      (own, call-short b n kind o.label o.stamp (set_in o.stamp q) parts.0 stamp own)
+      (own, call-short b n kind o.label o.stamp (set_in o.stamp q) (opening-label b kind o.label o.stamp o.fits le) stamp own)
 
   begun-went : (b n : ℕ) (e : Option MergeFault) → s.cursor.length + 12 ≤ b → IsShortSet b n q → (sent : Sent (call ∷ []) t u e) → WentIf b n sent.appended s.writer u.writer e
   begun-went b n e file set sent = (let read = o.read in went-call b n call s t u e read.writer (own-set b n file set).1 sent)

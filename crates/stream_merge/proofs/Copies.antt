@@ -13,6 +13,7 @@ use Rattle.record_cursor.specs.View.{shown_item}
 use Rattle.record_cursor.specs.declared.fault.CursorFault.{CursorFault}
 use Rattle.record_cursor.specs.declared.item.Item.{Item}
 use Rattle.record_cursor.specs.declared.item.Item.TheVariants.{Inner, Leaf, Alt, LeafEnd, End, Finish}
+use Rattle.record_parts.specs.Shapes.{FitsValue}
 use Rattle.record_parts.specs.declared.views.BodyView.{BodyView}
 use Rattle.record_parts.specs.declared.views.StampView.{StampView}
 use Rattle.record_writer.specs.Data.{PlainWriter, OpenLeaf, WriterCall, call_alt, call_end_leaf}
@@ -149,7 +150,7 @@ pub record AltsOn (s t : State) : Type 0 where
 pub alts-start : (s : State) → s.cursor.at ≤ s.cursor.length → s.writer.leaf ≢ None → AltsOn s s
 alts-start s within leaf = record { within = within; leaf = leaf; rest = λ u e h. h }
 
-module _ (s t u : State) (item : Item) (st : Stamp) (b : PlainKey) (shown : shown_item item ≡ alt_item st b) (read : Nexts s t item) where
+module _ (s t u : State) (item : Item) (st : Stamp) (b : PlainKey) (shown : shown_item item ≡ alt_item st b) (read : Nexts s t item) (fits : FitsValue b) where
   abbrev call : WriterCall
   call = call_alt st b
 
@@ -160,7 +161,7 @@ module _ (s t u : State) (item : Item) (st : Stamp) (b : PlainKey) (shown : show
       let moved = goes.moved in
       let within = goes.within in
       let long = goes.same_length in
-      let parts = alt-parts c st b (omega (arith, size, moved, within, long, file)) in
+      let parts = alt-parts c st b fits (omega (arith, size, moved, within, long, file)) in
       (stamp-plain c n st parts.0, parts.1)
 
   alt-passes : (x : List ℕ) (e : Option MergeFault) → Sends x (call ∷ []) t u e → Passes x 0 s u e

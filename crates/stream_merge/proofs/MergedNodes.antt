@@ -1,5 +1,5 @@
 -- What merging a node goes along.
-use Rattle.std.proofs.Common.{◌≡◌, ◌≢◌, ℕ, ◌+◌, ◌-◌, ◌*◌, ◌≤◌, ◌<◌, true≢false, List, [], ◌∷◌, ◌++◌, length, Option, Some, None, IfSome, Result, Ok, Err, IsTrue, refl, sym, ap, subst, ◌∙◌, append_assoc, arith}
+use Rattle.std.proofs.Common.{◌≡◌, ◌≢◌, ℕ, ◌+◌, ◌≤◌, true≢false, List, [], ◌∷◌, ◌++◌, length, Option, Some, None, IfSome, Result, Ok, Err, IsTrue, refl, sym, ap, subst, ◌∙◌, append_assoc, arith}
 use Rattle.std.specs.List.{AllByRecursion}
 use Rattle.std.specs.Option.{unwrap_or, is_some}
 use Rattle.keyed_tree.specs.Data.{PlainKey, PlainLabel, PlainKeyed, inner, leaf, kids_from}
@@ -49,7 +49,7 @@ use Rattle.stream_merge.proofs.Copies.{no-more, rests-behind}
 use Rattle.stream_merge.proofs.CopiedRows.{end-long, closes}
 use Rattle.stream_merge.proofs.ChildCopies.{node-front, end-front, opening, first, behind, behind-small, node-taken, not-ended, not-first, opening-read, opening-size, opening-long, unless-closed, not-inner, not-leaf, not-closing}
 use Rattle.stream_merge.proofs.Puts.{row-sent}
-use Rattle.stream_merge.proofs.Rooms.{went-read, went-from, went-then, went-sent, opening-parts, own-short, rest-calls, kid-short, kids-short}
+use Rattle.stream_merge.proofs.Rooms.{went-read, went-from, went-then, went-sent, opening-stamp, own-short, rest-calls, kid-short, kids-short}
 use Rattle.stream_merge.proofs.Weaving.{inner_met, leaf_met, own_alone, kid_known}
 
 -- ---- before anything is written
@@ -333,9 +333,8 @@ module _ (h : PlainInherited) (cs : List PlainKeyed) (l : PlainLabel) (st : Stam
       part-went e part c file sets kids =
           let passes = begun-passes in
           let long = passes.same_length in
-          let parts = opening-parts c kind l st (opening-short c file) in
           went-then c h.number began.appended part.appended s.writer u.writer v.writer e (began-went {B = B} c (Ok b) file sets kids began)
-          (part.went c (omega (arith, long, file)) (own-short c h (is_some its_kid) st parts.1 sets) (kid-short c l cs kids))
+          (part.went c (omega (arith, long, file)) (own-short c h (is_some its_kid) st (opening-stamp c kind l st (opening-short c file)) sets) (kid-short c l cs kids))
 
       part-does : (e : Option MergeFault) (part : Part kind u v e) (w : ℕ) (k : PlainNode) (next : List PlainItem) → AllByRecursion (IsWithin w) (node_items h.before k) → Comes s.files s.cursor (node_items h.before k ++ next)
           → IsTrue (is_node_below h.number k) → HasPlace k → Does (began.appended ++ part.appended) w (row_calls h.now (met h.number h.before k cs)) next s v e

@@ -21,6 +21,7 @@ use Rattle.record_cursor.specs.View.{PlainCursor, shown_item}
 use Rattle.record_cursor.specs.declared.fault.CursorFault.{CursorFault}
 use Rattle.record_cursor.specs.declared.item.Item.{Item}
 use Rattle.record_cursor.specs.declared.item.Item.TheVariants.{Alt, LeafEnd}
+use Rattle.record_parts.specs.Shapes.{FitsValue}
 use Rattle.record_parts.specs.declared.views.BodyView.{BodyView}
 use Rattle.record_parts.specs.declared.views.StampView.{StampView}
 use Rattle.record_writer.specs.Calls.{after}
@@ -175,14 +176,14 @@ module _ (own : PlainInherited) (b : PlainKey) where
   }
 
   -- what the alternative is written with is short
-  turned-call : (m : ℕ) (s t : State) (item : Item) (st new : Stamp) (k : PlainKey) (same : Bool) → shown_item item ≡ alt_item st k → Goes s.files s.cursor item t.cursor → new ≡ turned own.number own.before same st → s.cursor.length + 12 ≤ m → AreShortSets m own
+  turned-call : (m : ℕ) (s t : State) (item : Item) (st new : Stamp) (k : PlainKey) (same : Bool) → shown_item item ≡ alt_item st k → FitsValue k → Goes s.files s.cursor item t.cursor → new ≡ turned own.number own.before same st → s.cursor.length + 12 ≤ m → AreShortSets m own
       → IsShortCall m own.number (call_alt new k)
-  turned-call m s t item st new k same shown goes is file sets =
+  turned-call m s t item st new k same shown fits goes is file sets =
       let size = ap (size_of s.cursor.standing) shown in
       let moved = goes.moved in
       let within = goes.within in
       let long = goes.same_length in
-      let parts = alt-parts m st k (omega (arith, size, moved, within, long, file)) in
+      let parts = alt-parts m st k fits (omega (arith, size, moved, within, long, file)) in
       (subst (λ (z : Stamp). IsShortStamp m own.number z) (sym is) (turned-short m own.number own.before same st parts.0 sets.before), parts.1)
 
   merged-as : (x : PlainAlt) (t : Bool) → is_eq (key_cmp x.body b) ≡ t → call_alt (turned own.number own.before t x.stamp) x.body ≡ call_alt (merged_alt own.number own.before b x).stamp (merged_alt own.number own.before b x).body
@@ -201,14 +202,14 @@ module _ (own : PlainInherited) (b : PlainKey) where
       (λ i. call_alt (is i) (parts.1 i)) ∙ (λ i. call_alt (turned own.number own.before same (parts.0 i)) x.body) ∙ merged-as x same (sym yes) in
       (yes, takes-sends z w (alt_item x.stamp x.body) next s t u (shown_item item) (merged_call x) e taken (subst (λ (c : WriterCall). Sends z (c ∷ []) t u e) call sent))
 
-  pub alt-sent : {s t u : State} {item : Item} {st new : Stamp} {k : PlainKey} {same : Bool} → s.writer.leaf ≢ None → shown_item item ≡ alt_item st k → Nexts s t item → (IsTrue same ↔ (k ≡ b)) → new ≡ turned own.number own.before same st → Longer st new
+  pub alt-sent : {s t u : State} {item : Item} {st new : Stamp} {k : PlainKey} {same : Bool} → s.writer.leaf ≢ None → shown_item item ≡ alt_item st k → FitsValue k → Nexts s t item → (IsTrue same ↔ (k ≡ b)) → new ≡ turned own.number own.before same st → Longer st new
       → Sent (call_alt new k ∷ []) t u None → AltMerged own b s u (Ok (Some same))
-  alt-sent {s = s} {t = t} {u = u} {item = item} {st = st} {new = new} {k = k} {same = same} leaf shown read tells is longer sent = record {
+  alt-sent {s = s} {t = t} {u = u} {item = item} {st = st} {new = new} {k = k} {same = same} leaf shown fits read tells is longer sent = record {
     appended = sent.appended;
     passes = sent-passes sent.appended s t u item st new k None shown longer read sent.sends;
     begun = (let sends = sent.sends in let made = sends.made in alt-begun s.writer t.writer u.writer new k leaf read.writer made.writer);
     onward = subst (λ (c : PlainCursor). s.cursor.at < c.at) (let sends = sent.sends in sym sends.same_cursor) (onward-alt s.files s.cursor t.cursor item st k shown read.goes);
-    went = λ m file sets. went-call m own.number (call_alt new k) s t u None read.writer (turned-call m s t item st new k same shown read.goes is file sets) sent;
+    went = λ m file sets. went-call m own.number (call_alt new k) s t u None read.writer (turned-call m s t item st new k same shown fits read.goes is file sets) sent;
     alternative = λ w x next small comes below. (
         let did = alt-does sent.appended s t u item st new k same None shown read tells is sent.sends w x next small comes in
         (ap (λ (z : Bool). Some z) did.0, did.1));
@@ -216,14 +217,14 @@ module _ (own : PlainInherited) (b : PlainKey) where
   }
 
   -- and the call fails
-  pub alt-unsent : {s t u : State} {item : Item} {st new : Stamp} {k : PlainKey} (same : Bool) {f : MergeFault} → shown_item item ≡ alt_item st k → Nexts s t item → (IsTrue same ↔ (k ≡ b)) → new ≡ turned own.number own.before same st → Longer st new
+  pub alt-unsent : {s t u : State} {item : Item} {st new : Stamp} {k : PlainKey} (same : Bool) {f : MergeFault} → shown_item item ≡ alt_item st k → FitsValue k → Nexts s t item → (IsTrue same ↔ (k ≡ b)) → new ≡ turned own.number own.before same st → Longer st new
       → Sent (call_alt new k ∷ []) t u (Some f) → AltMerged own b s u (Err f)
-  alt-unsent {s = s} {t = t} {u = u} {item = item} {st = st} {new = new} {k = k} same {f = f} shown read tells is longer sent = record {
+  alt-unsent {s = s} {t = t} {u = u} {item = item} {st = st} {new = new} {k = k} same {f = f} shown fits read tells is longer sent = record {
     appended = sent.appended;
     passes = sent-passes sent.appended s t u item st new k (Some f) shown longer read sent.sends;
     begun = tt;
     onward = tt;
-    went = λ m file sets. went-call m own.number (call_alt new k) s t u (Some f) read.writer (turned-call m s t item st new k same shown read.goes is file sets) sent;
+    went = λ m file sets. went-call m own.number (call_alt new k) s t u (Some f) read.writer (turned-call m s t item st new k same shown fits read.goes is file sets) sent;
     alternative = λ w x next small comes below. (tt, (alt-does sent.appended s t u item st new k same (Some f) shown read tells is sent.sends w x next small comes).1);
     end_taken = no-leaf-end sent.appended s t u item (Err f) (alt-no-end item st k shown) read;
   }

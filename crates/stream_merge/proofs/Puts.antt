@@ -129,7 +129,7 @@ pub sent-long : (s : State) (call : WriterCall) → IsMeter s.numbers → s.curs
 sent-long s call meter within over = record {
   appended = [];
   sends = record { passes = passes-none s (Some TooLong) meter within (λ e. absurd cc); made = λ fit. over fit.0.parts; same_cursor = refl; same_gap = refl; paid = tt };
-  stops = record { made = []; next = call; others = []; walk = refl; same = refl; over = λ fit. over fit.parts };
+  stops = record { made = []; next = call; others = []; walk = refl; same = refl; fit = tt; over = λ fit. over fit.parts };
 }
 
 -- a label or a body that was not spelled: nothing is sent

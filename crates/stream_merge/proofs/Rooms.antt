@@ -1,5 +1,5 @@
 -- Calls of the writer up to one that does not fit, one part after the other.
-use Rattle.std.proofs.Common.{◌≡◌, ◌≢◌, ℕ, ◌+◌, ◌≤◌, ◌==◌, Bool, true, false, cond, List, [], ◌∷◌, ◌++◌, length, Option, Some, None, IfSome, refl, sym, ap, subst, ◌∙◌, inl, inr, arith}
+use Rattle.std.proofs.Common.{◌≡◌, ◌≢◌, ℕ, ◌≤◌, ◌==◌, Bool, true, false, cond, List, [], ◌∷◌, ◌++◌, length, Option, Some, None, IfSome, refl, sym, ap, subst, ◌∙◌, inl, inr, arith}
 use Rattle.std.specs.List.{AllByRecursion}
 use Rattle.std.specs.Ordering.{is_eq, is_lt}
 use Rattle.std.specs.Option.{unwrap_or}
@@ -12,7 +12,7 @@ use Rattle.keyed_tree.specs.Kids.{kid_at}
 use Rattle.keyed_tree.specs.Order.{label_cmp}
 use Rattle.archive_tree.specs.Data.{Stamp, no_nodes}
 use Rattle.nested_merge.specs.Merged.{started, fresh, fresh_row, fresh_onto, above, below}
-use Rattle.record_parts.specs.Shapes.{FitsLabel}
+use Rattle.record_parts.specs.Shapes.{FitsLabel, FitsValue}
 use Rattle.record_parts.specs.Spelling.{label_bytes, value_bytes, stamp_bytes}
 use Rattle.record_format.specs.Data.{alt_rec}
 use Rattle.record_format.specs.Nodes.{set_in}
@@ -20,28 +20,28 @@ use Rattle.record_format.specs.Spelling.{rec_bytes}
 use Rattle.record_format.proofs.Pieces.{all-append, all-front, all-back, rec-length}
 use Rattle.record_cursor.specs.declared.fault.CursorFault.{CursorFault}
 use Rattle.record_cursor.specs.declared.fault.CursorFault.TheVariants as read
-use Rattle.record_writer.specs.Calls.{all_appended, after_all, Fits}
+use Rattle.record_writer.specs.Calls.{all_appended, after_all, Fits, AllFit}
 use Rattle.record_writer.specs.Data.{PlainWriter, WriterCall, call_end_inner}
 use Rattle.record_writer.specs.Walks.{node_calls, row_calls}
 use Rattle.stream_merge.specs.Beside.{inherited_with}
 use Rattle.stream_merge.specs.Does.{Sent}
 use Rattle.stream_merge.specs.Meets.{call_of, opening_of, turned, rest_of}
 use Rattle.stream_merge.specs.Passes.{of_cursor}
-use Rattle.stream_merge.specs.Room.{Went, NoRoom, WentIf, NoRoomIf}
-use Rattle.stream_merge.specs.Short.{IsStampWithin, IsShortSet, IsShortStamp, AreShortSets, IsShortLabel, IsShortTree, AreShortKids, IsShortCall}
+use Rattle.stream_merge.specs.Room.{WentIf, NoRoomIf}
+use Rattle.stream_merge.specs.Short.{IsStampWithin, IsShortSet, IsShortStamp, AreShortSets, IsShortLabel, IsShortBody, IsShortTree, AreShortKids, IsShortCall}
 use Rattle.stream_merge.specs.State.{State}
 use Rattle.stream_merge.specs.View.{PlainInherited}
 use Rattle.stream_merge.specs.declared.begin.Kind.{Kind}
 use Rattle.stream_merge.specs.declared.begin.Kind.TheVariants.{Inner, Leaf}
 use Rattle.stream_merge.specs.declared.fault.MergeFault.{MergeFault}
 use Rattle.stream_merge.specs.declared.fault.MergeFault.TheVariants.{Damage, Folder, TooLong, Memory}
-use Rattle.stream_merge.proofs.States.{appended-append, after-append}
+use Rattle.stream_merge.proofs.States.{appended-append, after-append, fit-append}
 use Rattle.stream_merge.proofs.Weaving.{above_keeps}
 
 -- ---- one part behind another
 
 pub went-none : (b n : ℕ) (v w : PlainWriter) → w ≡ v → WentIf b n [] v w None
-went-none b n v w is = record { made = []; short = tt; same = refl; writer = is }
+went-none b n v w is = record { made = []; short = tt; same = refl; fit = tt; writer = is }
 
 -- a fault that is no want of room
 pub went-stop : (b n : ℕ) (x : List ℕ) (v w : PlainWriter) (f : MergeFault) → f ≢ TooLong → WentIf b n x v w (Some f)
@@ -64,6 +64,7 @@ went-then b n x y u v w None h g = record {
   made = h.made ++ g.made;
   short = all-append (IsShortCall b n) h.made g.made h.short g.short;
   same = (λ i. h.same i ++ g.same i) ∙ ap (λ (z : PlainWriter). all_appended u h.made ++ all_appended z g.made) h.writer ∙ sym (appended-append u h.made g.made);
+  fit = fit-append u h.made g.made h.fit (subst (λ (z : PlainWriter). AllFit z g.made) h.writer g.fit);
   writer = g.writer ∙ ap (λ (z : PlainWriter). after_all z g.made) h.writer ∙ sym (after-append u h.made g.made);
 }
 went-then b n x y u v w (Some TooLong) h g = record {
@@ -72,6 +73,7 @@ went-then b n x y u v w (Some TooLong) h g = record {
   short = all-append (IsShortCall b n) h.made g.made h.short g.short;
   next_short = g.next_short;
   same = (λ i. h.same i ++ g.same i) ∙ ap (λ (z : PlainWriter). all_appended u h.made ++ all_appended z g.made) h.writer ∙ sym (appended-append u h.made g.made);
+  fit = fit-append u h.made g.made h.fit (subst (λ (z : PlainWriter). AllFit z g.made) h.writer g.fit);
   over = subst (λ (z : PlainWriter). ¬ (Fits z g.next)) (ap (λ (z : PlainWriter). after_all z g.made) h.writer ∙ sym (after-append u h.made g.made)) g.over;
 }
 went-then b n x y u v w (Some Damage) h g = tt
@@ -80,12 +82,12 @@ went-then b n x y u v w (Some Memory) h g = tt
 
 -- calls that are given short parts
 pub went-sent : (b n : ℕ) (cs : List WriterCall) (s t : State) (e : Option MergeFault) → AllByRecursion (IsShortCall b n) cs → (h : Sent cs s t e) → WentIf b n h.appended s.writer t.writer e
-went-sent b n cs s t None short h = (let sends = h.sends in let did = sends.made in record { made = cs; short = short; same = did.same; writer = did.writer })
+went-sent b n cs s t None short h = (let sends = h.sends in let did = sends.made in record { made = cs; short = short; same = did.same; fit = did.fit; writer = did.writer })
 went-sent b n cs s t (Some TooLong) short h =
     let stops = h.stops in
     let all = subst (λ (z : List WriterCall). AllByRecursion (IsShortCall b n) z) stops.walk short in
     let back = all-back (IsShortCall b n) stops.made (stops.next ∷ stops.others) all in
-    record { made = stops.made; next = stops.next; short = all-front (IsShortCall b n) stops.made (stops.next ∷ stops.others) all; next_short = back.0; same = stops.same; over = stops.over }
+    record { made = stops.made; next = stops.next; short = all-front (IsShortCall b n) stops.made (stops.next ∷ stops.others) all; next_short = back.0; same = stops.same; fit = stops.fit; over = stops.over }
 went-sent b n cs s t (Some Damage) short h = tt
 went-sent b n cs s t (Some Folder) short h = tt
 went-sent b n cs s t (Some Memory) short h = tt
@@ -153,15 +155,25 @@ stamp-part : (b : ℕ) (kind : Kind) (l : PlainLabel) (s : List (ℕ × ℕ)) �
 stamp-part b Inner l s le = (let e = rec-length (opening_of Inner l (Some s)) in let f = length-append (label_bytes l) (1 ∷ set_bytes s) in omega (arith, e, f, le))
 stamp-part b Leaf l s le = (let e = rec-length (opening_of Leaf l (Some s)) in let f = length-append (label_bytes l) (1 ∷ set_bytes s) in omega (arith, e, f, le))
 
-pub opening-parts : (b : ℕ) (kind : Kind) (l : PlainLabel) (s : Stamp) → length (rec_bytes (opening_of kind l s)) ≤ b → (length (label_bytes l) ≤ b) × IsStampWithin b s
-opening-parts b kind l None le = (label-part b kind l None le, tt)
-opening-parts b kind l (Some s) le = (label-part b kind l (Some s) le, stamp-part b kind l s le)
+pub opening-label : (b : ℕ) (kind : Kind) (l : PlainLabel) (s : Stamp) → FitsLabel l → length (rec_bytes (opening_of kind l s)) ≤ b → IsShortLabel b l
+opening-label b kind l s fits le = record { fits = fits; short = label-part b kind l s le }
 
-pub alt-parts : (b : ℕ) (s : Stamp) (v : PlainKey) → length (rec_bytes (alt_rec s v)) ≤ b → IsStampWithin b s × (length (value_bytes v) ≤ b)
-alt-parts b None v le = (let e = rec-length (alt_rec None v) in let f = length-append (0 ∷ []) (value_bytes v) in (tt, omega (arith, e, f, le)))
-alt-parts b (Some s) v le = (let e = rec-length (alt_rec (Some s) v) in let f = length-append (1 ∷ set_bytes s) (value_bytes v) in (omega (arith, e, f, le), omega (arith, e, f, le)))
+pub opening-stamp : (b : ℕ) (kind : Kind) (l : PlainLabel) (s : Stamp) → length (rec_bytes (opening_of kind l s)) ≤ b → IsStampWithin b s
+opening-stamp b kind l None le = tt
+opening-stamp b kind l (Some s) le = stamp-part b kind l s le
 
-pub call-short : (b n : ℕ) (kind : Kind) (l : PlainLabel) (s : Stamp) (set : List (ℕ × ℕ)) → length (label_bytes l) ≤ b → IsShortStamp b n s → IsShortSet b n set → IsShortCall b n (call_of kind l s set)
+alt-body : (b : ℕ) (s : Stamp) (v : PlainKey) → length (rec_bytes (alt_rec s v)) ≤ b → length (value_bytes v) ≤ b
+alt-body b None v le = (let e = rec-length (alt_rec None v) in let f = length-append (0 ∷ []) (value_bytes v) in omega (arith, e, f, le))
+alt-body b (Some s) v le = (let e = rec-length (alt_rec (Some s) v) in let f = length-append (1 ∷ set_bytes s) (value_bytes v) in omega (arith, e, f, le))
+
+alt-stamp : (b : ℕ) (s : Stamp) (v : PlainKey) → length (rec_bytes (alt_rec s v)) ≤ b → IsStampWithin b s
+alt-stamp b None v le = tt
+alt-stamp b (Some s) v le = (let e = rec-length (alt_rec (Some s) v) in let f = length-append (1 ∷ set_bytes s) (value_bytes v) in omega (arith, e, f, le))
+
+pub alt-parts : (b : ℕ) (s : Stamp) (v : PlainKey) → FitsValue v → length (rec_bytes (alt_rec s v)) ≤ b → IsStampWithin b s × IsShortBody b v
+alt-parts b s v fits le = (alt-stamp b s v le, record { fits = fits; short = alt-body b s v le })
+
+pub call-short : (b n : ℕ) (kind : Kind) (l : PlainLabel) (s : Stamp) (set : List (ℕ × ℕ)) → IsShortLabel b l → IsShortStamp b n s → IsShortSet b n set → IsShortCall b n (call_of kind l s set)
 call-short b n Inner l s set h g f = (h, g, f)
 call-short b n Leaf l s set h g f = (h, g, f)
 
@@ -200,12 +212,9 @@ mutual
   fresh-calls : (b n : ℕ) (set : List (ℕ × ℕ)) (s : Stamp) (k : PlainKeyed) → IsShortSet b n set → IsShortStamp b n s → IsShortTree b k → AllByRecursion (IsShortCall b n) (node_calls set (fresh s k))
   fresh-calls b n set s (inner l ks) h g f =
       let own = set-in b n s set g h in
-      let label = f.0.short in
-      ((label, g, own), all-append (IsShortCall b n) (row_calls (set_in s set) (fresh_row ks)) (call_end_inner ∷ []) (fresh-row-calls b n (set_in s set) ks own f.1) (tt, tt))
+      ((f.0, g, own), all-append (IsShortCall b n) (row_calls (set_in s set) (fresh_row ks)) (call_end_inner ∷ []) (fresh-row-calls b n (set_in s set) ks own f.1) (tt, tt))
   fresh-calls b n set s (leaf l v) h g f =
-      let label = f.0.short in
-      let body = f.1.short in
-      ((label, g, set-in b n s set g h), ((tt, body), (tt, tt)))
+      ((f.0, g, set-in b n s set g h), ((tt, f.1), (tt, tt)))
 
   fresh-row-calls : (b n : ℕ) (set : List (ℕ × ℕ)) (ks : PlainKids) → IsShortSet b n set → AreShortKids b ks → AllByRecursion (IsShortCall b n) (row_calls set (fresh_row ks))
   fresh-row-calls b n set no_kids h f = tt

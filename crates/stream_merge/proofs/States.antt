@@ -29,7 +29,7 @@ use Rattle.record_writer.specs.declared.writer.Writer.{Writer}
 use Rattle.stream_merge.specs.Does.{Walks, Made, Sends, Sent, Does}
 use Rattle.stream_merge.specs.Items.{IsWithin}
 use Rattle.stream_merge.specs.Passes.{Unless, IfFolder, may_pull, Passes, fault_of, of_cursor, of_writer}
-use Rattle.stream_merge.specs.Room.{Stops, StopsIf}
+use Rattle.stream_merge.specs.Room.{StopsIf}
 use Rattle.stream_merge.specs.State.{State, state, lead}
 use Rattle.stream_merge.specs.declared.fault.MergeFault.{MergeFault}
 use Rattle.stream_merge.specs.declared.fault.MergeFault.TheVariants.{Damage, Folder, TooLong, Memory}
@@ -221,6 +221,7 @@ stops-then x y s t cs ds (Some TooLong) h g = record {
   others = g.others;
   walk = ap (λ (z : List WriterCall). cs ++ z) g.walk ∙ sym (append_assoc cs g.made (g.next ∷ g.others));
   same = (λ i. h.same i ++ g.same i) ∙ ap (λ (v : PlainWriter). all_appended s.writer cs ++ all_appended v g.made) h.writer ∙ sym (appended-append s.writer cs g.made);
+  fit = fit-append s.writer cs g.made h.fit (subst (λ (v : PlainWriter). AllFit v g.made) h.writer g.fit);
   over = subst (λ (v : PlainWriter). ¬ (Fits v g.next)) (ap (λ (v : PlainWriter). after_all v g.made) h.writer ∙ sym (after-append s.writer cs g.made)) g.over;
 }
 stops-then x y s t cs ds (Some Damage) h g = tt
@@ -228,7 +229,7 @@ stops-then x y s t cs ds (Some Folder) h g = tt
 stops-then x y s t cs ds (Some Memory) h g = tt
 
 stops-fault : (x : List ℕ) (v : PlainWriter) (cs ds : List WriterCall) (e : MergeFault) → StopsIf x cs v (Some e) → StopsIf x (cs ++ ds) v (Some e)
-stops-fault x v cs ds TooLong h = record { made = h.made; next = h.next; others = h.others ++ ds; walk = ap (λ (z : List WriterCall). z ++ ds) h.walk ∙ append_assoc h.made (h.next ∷ h.others) ds; same = h.same; over = h.over }
+stops-fault x v cs ds TooLong h = record { made = h.made; next = h.next; others = h.others ++ ds; walk = ap (λ (z : List WriterCall). z ++ ds) h.walk ∙ append_assoc h.made (h.next ∷ h.others) ds; same = h.same; fit = h.fit; over = h.over }
 stops-fault x v cs ds Damage h = tt
 stops-fault x v cs ds Folder h = tt
 stops-fault x v cs ds Memory h = tt
@@ -367,7 +368,7 @@ plain-sends files draft numbers faults old new c v w call (Err writer.TooLong) m
         same_gap = wrote.same_gap;
         paid = tt;
       };
-      stops = record { made = []; next = call; others = []; walk = refl; same = refl; over = fits };
+      stops = record { made = []; next = call; others = []; walk = refl; same = refl; fit = tt; over = fits };
     }
 plain-sends files draft numbers faults old new c v w call (Err writer.Folder) meter within did is fits =
     let g = did.gains in

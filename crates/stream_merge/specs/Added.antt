@@ -8,7 +8,7 @@ use Rattle.archive_file.specs.Sound.{SoundAs}
 use Rattle.record_cursor.specs.Moves.{IsHeaderOf, TellsFront}
 use Rattle.record_cursor.specs.View.{PlainHeader}
 use Rattle.record_format.specs.Files.{header_bytes}
-use Rattle.record_writer.specs.Calls.{started, all_appended, after_all, Fits}
+use Rattle.record_writer.specs.Calls.{started, all_appended, after_all, Fits, AllFit}
 use Rattle.record_writer.specs.Data.{WriterCall}
 use Rattle.stream_merge.specs.Short.{IsShortCall}
 use Rattle.stream_merge.specs.declared.fault.AddFault.{AddFault}
@@ -42,14 +42,16 @@ pub record Lengthens (old new : Option (List ℕ)) : Type 0 where
   pub bytes : List ℕ
   pub is : new ≡ option_map (λ d. d ++ bytes) old
 
--- Where the file would be too long: the draft, where it is told, is the header and what some calls of the writer append, and the next call does not fit
--- behind them. Each part that one of them is given takes at most so many bytes, a set maybe with the new version, of the number n.
+-- Where the file would be too long: the draft, where it is told, is the header and what some calls of the writer append, which all fit, and the next call does not
+-- fit behind them. Each label and body that one of them is given fits its field and takes at most so many bytes, and so does each set, maybe with the new version, of
+-- the number n.
 pub record Overfull (b : ℕ) (rules : List PlainRule) (n : ℕ) (draft : Option (List ℕ)) : Type 0 where
   pub made : List WriterCall
   pub next : WriterCall
   pub short : AllByRecursion (IsShortCall b n) made
   pub next_short : IsShortCall b n next
   pub drafted : (bytes : List ℕ) → draft ≡ Some bytes → bytes ≡ header_bytes rules n ++ all_appended (started rules n) made
+  pub fit : AllFit (started rules n) made
   pub over : ¬ Fits (after_all (started rules n) made) next
 
 -- ---- faults

@@ -50,11 +50,11 @@ abbrev mutual
 
 -- ---- calls
 
--- each part that it is given takes at most so many bytes, a set maybe with the version n
+-- each label and body that it is given is short, and each set takes at most so many bytes, maybe with the version n
 abbrev pub IsShortCall : ℕ → ℕ → WriterCall → Type 0
-IsShortCall b n (call_inner l s set) = (length (label_bytes l) ≤ b) × IsShortStamp b n s × IsShortSet b n set
-IsShortCall b n (call_leaf l s set) = (length (label_bytes l) ≤ b) × IsShortStamp b n s × IsShortSet b n set
-IsShortCall b n (call_alt s v) = IsShortStamp b n s × (length (value_bytes v) ≤ b)
+IsShortCall b n (call_inner l s set) = IsShortLabel b l × IsShortStamp b n s × IsShortSet b n set
+IsShortCall b n (call_leaf l s set) = IsShortLabel b l × IsShortStamp b n s × IsShortSet b n set
+IsShortCall b n (call_alt s v) = IsShortStamp b n s × IsShortBody b v
 IsShortCall b n call_end_leaf = ⊤
 IsShortCall b n call_end_inner = ⊤
 IsShortCall b n call_finish = ⊤

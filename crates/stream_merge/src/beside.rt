@@ -61,6 +61,7 @@ pub(crate) fn begin_beside<'p, 'k, 'a, 't, F: Folder>(
         (shown_label label.entry) (shown_stamp stamp.entry) (kids_view kids.entry)
         (option_map kid_view b.kid) (kids_view b.rest) (own_view b.own)) }
 {
+    let _spelled = label.bytes();
     let (kid, rest) = put_below(folder, writer, spelled, &label, kids, from)?;
     let (stamp, own) = turned_node(&stamp, kid.is_some(), from)?;
     let began = begin_node(folder, writer, kind, label, &stamp, &own.get().now);

@@ -4,6 +4,7 @@ ghost use Rattle.archive_tree.specs.View.{stamp_view};
 ghost use Rattle.version_set.specs.View.{pairs_of};
 ghost use Rattle.record_cursor.specs.View.{PlainCursor};
 ghost use Rattle.record_format.specs.Nodes.{set_in};
+ghost use Rattle.record_parts.specs.Shapes.{FitsLabel, FitsValue};
 ghost use Rattle.record_parts.specs.ShownViews.{shown_label, shown_stamp, shown_body};
 ghost use Rattle.record_writer.specs.Data.{call_alt};
 ghost use Rattle.record_writer.specs.View.{writer_view};
@@ -137,7 +138,9 @@ fn copy_opening<F: Folder>(
         (state F.files F.draft F.numbers F.faults folder.old c writer.old)
         (state F.files F.draft F.numbers F.faults folder.new c writer.new) (fault_of result) }
     ensures stamp { IfOk result (λ s. stamp_view s ≡ shown_stamp stamp.entry) }
+    ensures fits { FitsLabel (shown_label label.entry) }
 {
+    let _spelled = label.bytes();
     let stamp = stamp.copy(alloc)?;
     let set = effective(&stamp, parent);
     begin_node(folder, writer, kind, label, &stamp, set)?;
@@ -176,11 +179,13 @@ fn copy_alt<F: Folder>(
     body: BodyView<'_>,
 ) -> Result<(), MergeFault>
     requires leaf { (writer_view writer.old).leaf ≢ None }
-    ensures { (c : PlainCursor) → c.at ≤ c.length → Sent
+    ensures sends { (c : PlainCursor) → c.at ≤ c.length → Sent
         (call_alt (shown_stamp stamp.entry) (shown_body body.entry) ∷ [])
         (state F.files F.draft F.numbers F.faults folder.old c writer.old)
         (state F.files F.draft F.numbers F.faults folder.new c writer.new) (fault_of result) }
+    ensures fits { FitsValue (shown_body body.entry) }
 {
+    let _spelled = body.bytes();
     let stamp = stamp.copy(alloc)?;
     written(writer.alt(folder, &stamp, BodyFrom::Old(body)))
 }

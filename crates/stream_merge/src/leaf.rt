@@ -145,6 +145,7 @@ fn merge_alt<F: Folder>(
 {
     match cursor.next(folder)? {
         Item::Alt { stamp, body: old } => {
+            let _spelled = old.bytes();
             let same = old.same_as(body);
             let written = {
                 let stamp = turned_stamp(&stamp, same, own)?;

@@ -2,6 +2,7 @@ use Rattle.std.proofs.Common.{◌≡◌, ℕ, ◌<◌, ◌*◌, ◌+◌, ◌-◌
 use Rattle.archive_tree.specs.View.{stamp_view}
 use Rattle.version_set.specs.View.{pairs_of}
 use Rattle.record_cursor.specs.View.{PlainCursor, shown_item}
+use Rattle.record_parts.specs.Shapes.{FitsLabel}
 use Rattle.record_parts.specs.ShownViews.{shown_label, shown_stamp}
 use Rattle.record_writer.specs.Data.{call_end_inner}
 use Rattle.record_writer.specs.View.{writer_view}
@@ -51,8 +52,8 @@ opens g t c =
     ]
 
 abbrev opener : (g : Over) (t : ℕ) (c : copy_child-Joined-branch-2 g t) → Nexts (at g c.args.folder.now c.args.cursor.now c.args.writer.now) (at g c.next.new.folder c.next.follows.lender-at-none c.args.writer.now) c.in_ok-label.field-0
-    → Opener c.match-branch-2.kind.0 (at g c.args.folder.now c.args.cursor.now c.args.writer.now) (at g c.next.new.folder c.next.follows.lender-at-none c.args.writer.now)
-opener g t c read = (let k = c.match-branch-2.kind in record { item = c.in_ok-label.field-0; label = shown_label k.1; stamp = shown_stamp k.2; shown = opens g t c; read = read })
+    → FitsLabel (shown_label c.match-branch-2.kind.1) → Opener c.match-branch-2.kind.0 (at g c.args.folder.now c.args.cursor.now c.args.writer.now) (at g c.next.new.folder c.next.follows.lender-at-none c.args.writer.now)
+opener g t c read fits = (let k = c.match-branch-2.kind in record { item = c.in_ok-label.field-0; label = shown_label k.1; stamp = shown_stamp k.2; shown = opens g t c; fits = fits; read = read })
 
 pub copy_child-returns-in_err-stamp : goal.copy_child-returns-in_err-stamp
 copy_child-returns-in_err-stamp g t c =
@@ -64,7 +65,7 @@ copy_child-returns-in_err-stamp g t c =
     let u = at g c.copy_opening.new.folder k c.copy_opening.new.writer in
     let gave = read g t z.In_ok-label in
     let goes = gave.goes in
-    let o = opener g t z.Joined-branch-2 gave in
+    let o = opener g t z.Joined-branch-2 gave c.in_err-stamp.ensures.fits in
     let e = c.in_err-stamp in
     let r = c.from_residual-in_err-stamp in
     at-err r.result e.field-0.0 r.ensures.1 (λ d. ChildCopied q s u d) (child-fails c.match-branch-2.kind.0 q s p u o e.field-0.0 (e.ensures.sends k goes.within))
@@ -80,7 +81,7 @@ copy_child-copy_begun-copied-requires g t c κs within =
     let kind = c.match-branch-2.kind.0 in
     let gave = read g t z.In_ok-label in
     let goes = gave.goes in
-    let o = opener g t z.Joined-branch-2 gave in
+    let o = opener g t z.Joined-branch-2 gave c.in_ok-stamp.ensures.fits in
     let opens = begun-writer kind q s p u o c.requires.no_leaf (c.in_ok-stamp.ensures.sends k goes.within) in
     let small = opening-smaller kind (g.F.Folder.files c.args.folder.now) c.args.cursor.now k o.item o.label o.stamp o.shown goes in
     let less : 4 * (k.length - k.at) + 3 < t = omega (arith, small, c.decreases) in
@@ -98,7 +99,7 @@ copy_child-returns-in_err-copied g t c =
     let kind = c.match-branch-2.kind.0 in
     let gave = read g t z.In_ok-label in
     let goes = gave.goes in
-    let o = opener g t z.Joined-branch-2 gave in
+    let o = opener g t z.Joined-branch-2 gave c.in_ok-stamp.ensures.fits in
     let stamp = c.in_ok-stamp in
     let own = pairs_of c.effective.result.now in
     let set = set-of (stamp_view stamp.stamp) o.stamp q own stamp.ensures.stamp c.effective.ensures.pairs in
@@ -119,7 +120,7 @@ copy_child-returns g t c =
     let kind = c.match-branch-2.kind.0 in
     let gave = read g t z.In_ok-label in
     let goes = gave.goes in
-    let o = opener g t z.Joined-branch-2 gave in
+    let o = opener g t z.Joined-branch-2 gave c.in_ok-stamp.ensures.fits in
     let stamp = c.in_ok-stamp in
     let own = pairs_of c.effective.result.now in
     let set = set-of (stamp_view stamp.stamp) o.stamp q own stamp.ensures.stamp c.effective.ensures.pairs in

@@ -51,7 +51,7 @@ returns-in_err-copy_alt-in-Alt g c =
     let gave = read g (goal.at.returns-in_err-copy_alt-in-Alt g c).In_ok-stamp in
     let goes = gave.goes in
     at-err c.from_residual-in_err-copy_alt-in-Alt.result e.field-0.0 c.from_residual-in_err-copy_alt-in-Alt.ensures.1 (λ r. AltsCopied (at g c.args.folder.now c.args.cursor.now c.args.writer.now) u (fault_of r))
-    (l.invariant.rest u (Some e.field-0.0) (alts-fail s t u c.in_ok-stamp.field-0 (shown_stamp a.stamp) (shown_body a.body) (ap shown_item a.is) gave e.field-0.0 (e.ensures k goes.within)))
+    (l.invariant.rest u (Some e.field-0.0) (alts-fail s t u c.in_ok-stamp.field-0 (shown_stamp a.stamp) (shown_body a.body) (ap shown_item a.is) gave e.ensures.fits e.field-0.0 (e.ensures.sends k goes.within)))
 
 pub loop-stamp-preserved : goal.loop-stamp-preserved
 loop-stamp-preserved g c =
@@ -60,8 +60,8 @@ loop-stamp-preserved g c =
     let k : PlainCursor = c.next.follows.lender-at-none in
     let gave = read g (goal.at.loop-stamp-preserved g c).In_ok-stamp in
     let goes = gave.goes in
-    alts-on (at g l.folder l.cursor l.writer) (at g c.next.new.folder k l.writer) (at g c.copy_alt.new.folder k c.copy_alt.new.writer) c.in_ok-stamp.field-0 (shown_stamp a.stamp) (shown_body a.body) (ap shown_item a.is) gave
-    (at g c.args.folder.now c.args.cursor.now c.args.writer.now) l.invariant (c.in_ok-copy_alt-in-Alt.ensures k goes.within)
+    alts-on (at g l.folder l.cursor l.writer) (at g c.next.new.folder k l.writer) (at g c.copy_alt.new.folder k c.copy_alt.new.writer) c.in_ok-stamp.field-0 (shown_stamp a.stamp) (shown_body a.body) (ap shown_item a.is) gave c.in_ok-copy_alt-in-Alt.ensures.fits
+    (at g c.args.folder.now c.args.cursor.now c.args.writer.now) l.invariant (c.in_ok-copy_alt-in-Alt.ensures.sends k goes.within)
 
 pub returns-in-LeafEnd : goal.returns-in-LeafEnd
 returns-in-LeafEnd g c =

@@ -4,6 +4,7 @@ use Rattle.version_set.specs.View.{pairs_of}
 use Rattle.record_cursor.specs.View.{PlainCursor}
 use Rattle.record_format.specs.Nodes.{set_in}
 use Rattle.record_parts.specs.ShownViews.{shown_label, shown_stamp}
+use Rattle.record_parts.proofs.ShapeLaws.{label_parts}
 use Rattle.record_writer.specs.declared.writer.Writer.{Writer}
 use Rattle.stream_merge.specs.Meets.{call_of}
 use Rattle.stream_merge.specs.State.{State, state}
@@ -41,3 +42,12 @@ returns-clause-sends g c k within =
     let same = stored-call c.args.kind (shown_label c.args.label) (stamp_view stored.stamp) (shown_stamp c.args.stamp) (pairs_of c.args.parent.now) (pairs_of c.effective-set.result.now) stored.ensures c.effective-set.ensures.pairs in
     let b = c.begin_node in
     sent-as (at g c.args.folder.now k c.args.writer.now) (at g b.new.folder k b.new.writer) None _ _ same (c.in_ok-begin_node.ensures.sends k within)
+
+pub returns-in_err-stamp-clause-fits : goal.returns-in_err-stamp-clause-fits
+returns-in_err-stamp-clause-fits g c = ((label_parts (shown_label c.args.label)).0 c.bytes-spelled.ensures.is).1
+
+pub returns-in_err-begin_node-clause-fits : goal.returns-in_err-begin_node-clause-fits
+returns-in_err-begin_node-clause-fits g c = ((label_parts (shown_label c.args.label)).0 c.bytes-spelled.ensures.is).1
+
+pub returns-clause-fits : goal.returns-clause-fits
+returns-clause-fits g c = ((label_parts (shown_label c.args.label)).0 c.bytes-spelled.ensures.is).1
