@@ -1,6 +1,6 @@
 -- Writing the alternatives that come, one after another.
-use Rattle.std.proofs.Common.{◌≡◌, ◌≢◌, ℕ, ◌+◌, ◌-◌, ◌<◌, ◌≤◌, List, [], ◌∷◌, ◌++◌, length, map, Option, Some, None, Result, Ok, refl, sym, ap, subst, ◌∙◌, arith, length-append}
-use Rattle.std.specs.List.{flat_map}
+use Rattle.std.proofs.Common.{◌≡◌, ◌≢◌, ℕ, ◌+◌, ◌-◌, ◌<◌, ◌≤◌, List, [], ◌∷◌, ◌++◌, Bool, true, false, length, map, Option, Some, None, IsSome, is_some, Result, Ok, refl, sym, ap, subst, ◌∙◌, true≢false, arith, length-append}
+use Rattle.std.specs.List.{flat_map, AllByRecursion}
 use Rattle.archive_tree.specs.Data.{Stamp, PlainAlt}
 use Rattle.keyed_tree.specs.Data.{PlainKey, PlainLabel}
 use Rattle.xa_outside.specs.Causes.{Rose}
@@ -28,7 +28,7 @@ use Rattle.record_cursor.proofs.ItemLaws.{comes-on}
 use Rattle.record_cursor.proofs.Pulled.{read-within, size-least}
 use Rattle.content_log.specs.Entries.{EntryPut, IsOutCause}
 use Rattle.content_log.specs.Told.{IsCaused, IsSound, of_cursor}
-use Rattle.content_log.specs.Written.{Seen, Walks, Prefixed, Shows, alt_text, alts_text, AltsCome, alts_size, AltsWritten, RecordsWritten}
+use Rattle.content_log.specs.Written.{Seen, Walks, Prefixed, Shows, IsStored, MayCome, may_come, alt_text, alts_text, AltsCome, alts_size, Lines, AltsWritten, RecordsWritten}
 use Rattle.content_log.specs.declared.fault.LogFault.{LogFault}
 use Rattle.content_log.specs.declared.fault.LogFault.TheVariants.{Damage, Folder, Out, Memory}
 
@@ -168,10 +168,53 @@ head told c (x ∷ xs) h = record {
   read = (let more = alts-more x xs in omega (arith, more));
 }
 
-pub alts-missed : (tag : List ℕ) (set : List (ℕ × ℕ)) (c : PlainCursor) (s t : Seen) (f : CursorFault) → Missed c s t f → AltsWritten tag set c s t (Some (of_cursor f))
-alts-missed tag set c s t f m = record {
+-- ---- which may come
+
+none-may : (came : Option Bool) → MayCome came []
+none-may None = tt
+none-may (Some true) = tt
+none-may (Some false) = refl
+
+-- whether it may come, as it was answered
+pub may-as : (came : Option Bool) (x : PlainAlt) (stored r b : Bool) → stored ≡ is_some x.stamp → r ≡ may_come came stored → r ≡ b → may_come came (is_some x.stamp) ≡ b
+may-as came x stored r b told answer is = ap (may_come came) (sym told) ∙ sym answer ∙ is
+
+-- one that is the first of those that may come may come
+first-may : (came : Option Bool) (x : PlainAlt) (ys : List PlainAlt) → MayCome came (x ∷ ys) → may_come came (is_some x.stamp) ≡ true
+first-may None x ys h = refl
+first-may (Some true) x ys h = h.0
+first-may (Some false) x ys h = absurd cc
+
+-- and behind it the others
+rest-may : (came : Option Bool) (x : PlainAlt) (ys : List PlainAlt) → MayCome came (x ∷ ys) → MayCome (Some (is_some x.stamp)) ys
+rest-may None x [] h = none-may (Some (is_some x.stamp))
+rest-may None x (y ∷ ys) h = subst (λ (b : Bool). MayCome (Some b) (y ∷ ys)) (sym h.0) h.1
+rest-may (Some true) x ys h = subst (λ (b : Bool). MayCome (Some b) ys) (sym h.0) h.1
+rest-may (Some false) x ys h = absurd cc
+
+-- those behind one that may come may come with it
+both-may : (came : Option Bool) (x : PlainAlt) (ys : List PlainAlt) → may_come came (is_some x.stamp) ≡ true → MayCome (Some (is_some x.stamp)) ys → MayCome came (x ∷ ys)
+both-may None x [] e h = tt
+both-may None x (y ∷ ys) e h = by-stamp x.stamp h
+  where
+    by-stamp : (s : Stamp) → MayCome (Some (is_some s)) (y ∷ ys) → IsSome s × AllByRecursion IsStored (y ∷ ys)
+    by-stamp None g = absurd cc
+    by-stamp (Some set) g = (refl, g)
+both-may (Some true) x ys e h = (e, subst (λ (b : Bool). MayCome (Some b) ys) e h)
+both-may (Some false) x ys e h = absurd cc
+
+-- nothing was written
+pub no-lines : (came : Option Bool) (tag : List ℕ) (set : List (ℕ × ℕ)) (most : ℕ) (a b : Taken) → b ≡ a → Lines (MayCome came) tag set most a b
+no-lines came tag set most a b same = record { alts = []; are = none-may came; fit = omega arith; takes = subst (λ (x : Taken). TakesPrefix a x []) (sym same) (TakesPrefix-none a []) }
+
+pub lines-more : (may : List PlainAlt → Type 0) (tag : List ℕ) (set : List (ℕ × ℕ)) (n m : ℕ) (a b : Taken) → n ≤ m → Lines may tag set n a b → Lines may tag set m a b
+lines-more may tag set n m a b le h = record { alts = h.alts; are = h.are; fit = (let fit = h.fit in omega (arith, le, fit)); takes = h.takes }
+
+pub alts-missed : (came : Option Bool) (tag : List ℕ) (set : List (ℕ × ℕ)) (c : PlainCursor) (s t : Seen) (f : CursorFault) → Missed c s t f → AltsWritten came tag set c s t (Some (of_cursor f))
+alts-missed came tag set c s t f m = record {
   walks = missed-walks c s t f m;
-  shows = λ xs comes. (let h = head s.files c xs comes in missed-shows c s t f (alts_text tag set xs) (alts_size xs) h.first h.others m h.comes h.read);
+  told = no-lines came tag set (c.length - c.at) s.taken t.taken m.taken;
+  shows = λ xs may comes. (let h = head s.files c xs comes in missed-shows c s t f (alts_text tag set xs) (alts_size xs) h.first h.others m h.comes h.read);
 }
 
 -- ---- an item
@@ -190,29 +233,36 @@ alt-same s r b d e = (ap stamp e, ap body e)
     body (alt_item t k) = k
     body other = b
 
-module _ (tag : List ℕ) (set : List (ℕ × ℕ)) (c d : PlainCursor) (s m : Seen) (i : Item) (g : Given c d s m i) where
+module _ (came : Option Bool) (tag : List ℕ) (set : List (ℕ × ℕ)) (c d : PlainCursor) (s m : Seen) (i : Item) (g : Given c d s m i) where
+  -- nothing of it is written
+  untold : Lines (MayCome came) tag set (c.length - c.at) s.taken m.taken
+  untold = no-lines came tag set (c.length - c.at) s.taken m.taken g.taken
+
+  read-only : (e : Option LogFault) → IsCaused s.faults m.faults s.out_faults m.out_faults e → Walks (c.length - c.at) s m e
+  read-only e cause = walks-more (size_of c.standing (shown_item i)) (c.length - c.at) s m e (item-within s.files c d i g.goes) (given-walks c d s m i e g cause)
+
   -- their end
-  pub alts-end : shown_item i ≡ leaf_end_item → AltsWritten tag set c s m None
-  alts-end is = record { walks = walks-more (size_of c.standing (shown_item i)) (c.length - c.at) s m None (item-within s.files c d i g.goes) (given-walks c d s m i None g tt); shows = ends }
+  pub alts-end : shown_item i ≡ leaf_end_item → AltsWritten came tag set c s m None
+  alts-end is = record { walks = read-only None tt; told = untold; shows = ends }
     where
-      ends : (xs : List PlainAlt) → AltsCome s.files c xs → Shows (alts_text tag set xs) (alts_size xs) s m None
-      ends [] comes = record {
+      ends : (xs : List PlainAlt) → MayCome came xs → AltsCome s.files c xs → Shows (alts_text tag set xs) (alts_size xs) s m None
+      ends [] may comes = record {
         sound = tt;
         bytes = subst (λ x. Takes s.taken x []) (sym g.taken) (Takes-nil s.taken);
         pulls = PullsAtMost-of 9 (read_for c.standing (shown_item i)) s.numbers m.numbers (let same = ap (read_for c.standing) is in omega (arith, same)) g.numbers;
       }
-      ends (y ∷ ys) comes = absurd (let on = comes-on s.files c d i (item_of (alt_of y)) _ comes g.goes in alt-not-end y.stamp y.body (sym on.0 ∙ is))
+      ends (y ∷ ys) may comes = absurd (let on = comes-on s.files c d i (item_of (alt_of y)) _ comes g.goes in alt-not-end y.stamp y.body (sym on.0 ∙ is))
 
   -- another item
-  pub alts-damage : ((t : Stamp) (b : PlainKey) → shown_item i ≢ alt_item t b) → shown_item i ≢ leaf_end_item → AltsWritten tag set c s m (Some Damage)
-  alts-damage no-alt no-end = record { walks = walks-more (size_of c.standing (shown_item i)) (c.length - c.at) s m (Some Damage) (item-within s.files c d i g.goes) (given-walks c d s m i (Some Damage) g tt); shows = none }
+  pub alts-damage : ((t : Stamp) (b : PlainKey) → shown_item i ≢ alt_item t b) → shown_item i ≢ leaf_end_item → AltsWritten came tag set c s m (Some Damage)
+  alts-damage no-alt no-end = record { walks = read-only (Some Damage) tt; told = untold; shows = none }
     where
-      none : (xs : List PlainAlt) → AltsCome s.files c xs → Shows (alts_text tag set xs) (alts_size xs) s m (Some Damage)
-      none [] comes = absurd (no-end (comes-on s.files c d i leaf_end_item [] comes g.goes).0)
-      none (y ∷ ys) comes = absurd (no-alt y.stamp y.body (comes-on s.files c d i (item_of (alt_of y)) _ comes g.goes).0)
+      none : (xs : List PlainAlt) → MayCome came xs → AltsCome s.files c xs → Shows (alts_text tag set xs) (alts_size xs) s m (Some Damage)
+      none [] may comes = absurd (no-end (comes-on s.files c d i leaf_end_item [] comes g.goes).0)
+      none (y ∷ ys) may comes = absurd (no-alt y.stamp y.body (comes-on s.files c d i (item_of (alt_of y)) _ comes g.goes).0)
 
-  -- an alternative, which was written
-  module _ (x : PlainAlt) (is : shown_item i ≡ alt_item x.stamp x.body) (t : Seen) (files : t.files ≡ m.files) (draft : t.draft ≡ m.draft) (numbers : t.numbers ≡ m.numbers) (faults : t.faults ≡ m.faults) where
+  -- an alternative
+  module _ (x : PlainAlt) (is : shown_item i ≡ alt_item x.stamp x.body) where
     -- the first of those that come is this one
     record First (ys : List PlainAlt) : Type 0 where
       others : List PlainAlt
@@ -230,6 +280,19 @@ module _ (tag : List ℕ) (set : List (ℕ × ℕ)) (c d : PlainCursor) (s m : S
           next = subst (λ (f : Option Files). AltsCome f d ys) (sym g.files) on.1;
         }
 
+    -- it may not come
+    pub alts-astray : may_come came (is_some x.stamp) ≡ false → AltsWritten came tag set c s m (Some Damage)
+    alts-astray not = record {
+      walks = read-only (Some Damage) tt;
+      told = untold;
+      shows = λ ys may comes. (
+          let f = first ys comes in
+          let e = first-may came x f.others (subst (MayCome came) f.all may) in
+          absurd (true≢false (sym e ∙ not)));
+    }
+
+  -- an alternative, which was written
+  module _ (x : PlainAlt) (is : shown_item i ≡ alt_item x.stamp x.body) (may : may_come came (is_some x.stamp) ≡ true) (t : Seen) (files : t.files ≡ m.files) (draft : t.draft ≡ m.draft) (numbers : t.numbers ≡ m.numbers) (faults : t.faults ≡ m.faults) where
     entry-walks : (e : Option LogFault) → EntryPut s.taken t.taken s.out_faults t.out_faults (alt_text tag set x) e → Walks (size_of c.standing (shown_item i)) s t e
     entry-walks e p = record {
       same_files = files ∙ g.files;
@@ -256,14 +319,22 @@ module _ (tag : List ℕ) (set : List (ℕ × ℕ)) (c d : PlainCursor) (s m : S
     read-one = PullsAtMost-of (length (rec_bytes (alt_of x))) (read_for c.standing (shown_item i)) s.numbers t.numbers (let same = ap (read_for c.standing) is in omega (arith, same)) (numbers ∙ g.numbers)
 
     -- not to its end
-    pub alts-cut : (e : LogFault) → EntryPut s.taken t.taken s.out_faults t.out_faults (alt_text tag set x) (Some e) → AltsWritten tag set c s t (Some e)
-    alts-cut e p = record { walks = walks-more (size_of c.standing (shown_item i)) (c.length - c.at) s t (Some e) (item-within s.files c d i g.goes) (entry-walks (Some e) p); shows = cut }
+    pub alts-cut : (e : LogFault) → EntryPut s.taken t.taken s.out_faults t.out_faults (alt_text tag set x) (Some e) → AltsWritten came tag set c s t (Some e)
+    alts-cut e p = record { walks = walks-more (size_of c.standing (shown_item i)) (c.length - c.at) s t (Some e) (item-within s.files c d i g.goes) (entry-walks (Some e) p); told = one-line; shows = cut }
       where
         sound : (e : LogFault) → IsOutCause s.out_faults t.out_faults (Some e) → IsSound (Some e)
         sound Damage h = h
         sound Folder h = tt
         sound Out h = tt
         sound Memory h = tt
+
+        one-line : Lines (MayCome came) tag set (c.length - c.at) s.taken t.taken
+        one-line = record {
+          alts = x ∷ [];
+          are = both-may came x [] may (none-may (Some (is_some x.stamp)));
+          fit = (let more = alts-more x [] in let within = item-within s.files c d i g.goes in let size = ap (size_of c.standing) is in omega (arith, more, within, size));
+          takes = TakesPrefix-more s.taken t.taken (alt_text tag set x) [] p.bytes;
+        }
 
         cut-first : (ys : List PlainAlt) → Shows (alts_text tag set (x ∷ ys)) (alts_size (x ∷ ys)) s t (Some e)
         cut-first ys = record {
@@ -272,16 +343,24 @@ module _ (tag : List ℕ) (set : List (ℕ × ℕ)) (c d : PlainCursor) (s m : S
           pulls = PullsAtMost-more (length (rec_bytes (alt_of x))) (alts_size (x ∷ ys)) s.numbers t.numbers (let more = alts-more x ys in omega (arith, more)) read-one;
         }
 
-        cut : (ys : List PlainAlt) → AltsCome s.files c ys → Shows (alts_text tag set ys) (alts_size ys) s t (Some e)
-        cut ys comes = (let f = first ys comes in subst (λ (zs : List PlainAlt). Shows (alts_text tag set zs) (alts_size zs) s t (Some e)) (sym f.all) (cut-first f.others))
+        cut : (ys : List PlainAlt) → MayCome came ys → AltsCome s.files c ys → Shows (alts_text tag set ys) (alts_size ys) s t (Some e)
+        cut ys those comes = (let f = first x is ys comes in subst (λ (zs : List PlainAlt). Shows (alts_text tag set zs) (alts_size zs) s t (Some e)) (sym f.all) (cut-first f.others))
 
     -- and the others behind it
-    pub alts-then : (u : Seen) (e : Option LogFault) → EntryPut s.taken t.taken s.out_faults t.out_faults (alt_text tag set x) None → AltsWritten tag set d t u e → AltsWritten tag set c s u e
-    alts-then u e p h = record { walks = walks-then (size_of c.standing (shown_item i)) (d.length - d.at) (c.length - c.at) s t u e (item-room s.files c d i g.goes) (entry-walks None p) h.walks; shows = both }
+    pub alts-then : (u : Seen) (e : Option LogFault) → EntryPut s.taken t.taken s.out_faults t.out_faults (alt_text tag set x) None → AltsWritten (Some (is_some x.stamp)) tag set d t u e → AltsWritten came tag set c s u e
+    alts-then u e p h = record { walks = walks-then (size_of c.standing (shown_item i)) (d.length - d.at) (c.length - c.at) s t u e (item-room s.files c d i g.goes) (entry-walks None p) h.walks; told = both-told; shows = both }
       where
-        both-first : (ys : List PlainAlt) → AltsCome m.files d ys → Shows (alts_text tag set (x ∷ ys)) (alts_size (x ∷ ys)) s u e
-        both-first ys next =
-            let rest = h.shows ys (subst (λ (f : Option Files). AltsCome f d ys) (sym files) next) in
+        both-told : Lines (MayCome came) tag set (c.length - c.at) s.taken u.taken
+        both-told = record {
+          alts = x ∷ h.told.alts;
+          are = both-may came x h.told.alts may h.told.are;
+          fit = (let more = alts-more x h.told.alts in let room = item-room s.files c d i g.goes in let size = ap (size_of c.standing) is in let fit = h.told.fit in omega (arith, more, room, size, fit));
+          takes = TakesPrefix-after s.taken t.taken u.taken (alt_text tag set x) (alts_text tag set h.told.alts) p.bytes h.told.takes;
+        }
+
+        both-first : (ys : List PlainAlt) → MayCome came (x ∷ ys) → AltsCome m.files d ys → Shows (alts_text tag set (x ∷ ys)) (alts_size (x ∷ ys)) s u e
+        both-first ys those next =
+            let rest = h.shows ys (rest-may came x ys those) (subst (λ (f : Option Files). AltsCome f d ys) (sym files) next) in
             record {
               sound = rest.sound;
               bytes = prefixed-then s.taken t.taken u.taken (alt_text tag set x) (alts_text tag set ys) e p.bytes rest.bytes;
@@ -289,16 +368,16 @@ module _ (tag : List ℕ) (set : List (ℕ × ℕ)) (c d : PlainCursor) (s m : S
                   (PullsAtMost-trans (length (rec_bytes (alt_of x))) (alts_size ys) s.numbers t.numbers u.numbers read-one rest.pulls);
             }
 
-        both : (ys : List PlainAlt) → AltsCome s.files c ys → Shows (alts_text tag set ys) (alts_size ys) s u e
-        both ys comes = (let f = first ys comes in subst (λ (zs : List PlainAlt). Shows (alts_text tag set zs) (alts_size zs) s u e) (sym f.all) (both-first f.others f.next))
+        both : (ys : List PlainAlt) → MayCome came ys → AltsCome s.files c ys → Shows (alts_text tag set ys) (alts_size ys) s u e
+        both ys those comes = (let f = first x is ys comes in subst (λ (zs : List PlainAlt). Shows (alts_text tag set zs) (alts_size zs) s u e) (sym f.all) (both-first f.others (subst (MayCome came) f.all those) f.next))
 
 -- ---- the way through the loop
 
 -- what is done with the rest is done with the whole
-pub record On (tag : List ℕ) (set : List (ℕ × ℕ)) (c0 : PlainCursor) (s0 : Seen) (c : PlainCursor) (s : Seen) : Type 0 where
-  pub rest : (u : Seen) (e : Option LogFault) → AltsWritten tag set c s u e → AltsWritten tag set c0 s0 u e
+pub record On (tag : List ℕ) (set : List (ℕ × ℕ)) (c0 : PlainCursor) (s0 : Seen) (came : Option Bool) (c : PlainCursor) (s : Seen) : Type 0 where
+  pub rest : (u : Seen) (e : Option LogFault) → AltsWritten came tag set c s u e → AltsWritten None tag set c0 s0 u e
 
-pub on-start : (tag : List ℕ) (set : List (ℕ × ℕ)) (c : PlainCursor) (s : Seen) → On tag set c s c s
+pub on-start : (tag : List ℕ) (set : List (ℕ × ℕ)) (c : PlainCursor) (s : Seen) → On tag set c s None c s
 on-start tag set c s = record { rest = λ u e h. h }
 
 -- there is more left than the item
@@ -339,7 +418,8 @@ no-leaf item.Finish h m t e = absurd cc
 pub records-missed : (tag : List ℕ) (set : List (ℕ × ℕ)) (c : PlainCursor) (s t : Seen) (f : CursorFault) → Missed c s t f → RecordsWritten tag set c s t (Some (of_cursor f))
 records-missed tag set c s t f m = record {
   walks = missed-walks c s t f m;
-  shows = λ l stamp xs comes. missed-shows c s t f (alts_text tag set xs) (length (rec_bytes (leaf_rec l stamp)) + alts_size xs) (leaf_item l stamp) _ m comes (omega arith);
+  told = no-lines None tag set (c.length - c.at) s.taken t.taken m.taken;
+  shows = λ l stamp xs may comes. missed-shows c s t f (alts_text tag set xs) (length (rec_bytes (leaf_rec l stamp)) + alts_size xs) (leaf_item l stamp) _ m comes (omega arith);
 }
 
 module _ (tag : List ℕ) (set : List (ℕ × ℕ)) (c d : PlainCursor) (s m : Seen) (i : Item) (g : Given c d s m i) where
@@ -347,23 +427,28 @@ module _ (tag : List ℕ) (set : List (ℕ × ℕ)) (c d : PlainCursor) (s m : S
   pub records-damage : ((l : PlainLabel) (t : Stamp) → shown_item i ≢ leaf_item l t) → RecordsWritten tag set c s m (Some Damage)
   records-damage other = record {
     walks = walks-more (size_of c.standing (shown_item i)) (c.length - c.at) s m (Some Damage) (item-within s.files c d i g.goes) (given-walks c d s m i (Some Damage) g tt);
-    shows = λ l stamp xs comes. absurd (other l stamp (comes-on s.files c d i (leaf_item l stamp) _ comes g.goes).0);
+    told = no-lines None tag set (c.length - c.at) s.taken m.taken g.taken;
+    shows = λ l stamp xs may comes. absurd (other l stamp (comes-on s.files c d i (leaf_item l stamp) _ comes g.goes).0);
   }
 
   given-none : Walks (size_of c.standing (shown_item i)) s m None
   given-none = given-walks c d s m i None g tt
 
   -- the record that opens it, and the alternatives behind it
-  pub records-then : (u : Seen) (e : Option LogFault) → AltsWritten tag set d m u e → RecordsWritten tag set c s u e
-  records-then u e h = record { walks = walks-then (size_of c.standing (shown_item i)) (d.length - d.at) (c.length - c.at) s m u e (item-room s.files c d i g.goes) given-none h.walks; shows = opened }
+  pub records-then : (u : Seen) (e : Option LogFault) → AltsWritten None tag set d m u e → RecordsWritten tag set c s u e
+  records-then u e h = record { walks = walks-then (size_of c.standing (shown_item i)) (d.length - d.at) (c.length - c.at) s m u e (item-room s.files c d i g.goes) given-none h.walks; told = lines; shows = opened }
     where
+      lines : Lines (MayCome None) tag set (c.length - c.at) s.taken u.taken
+      lines = subst (λ (x : Taken). Lines (MayCome None) tag set (c.length - c.at) x u.taken) g.taken
+          (lines-more (MayCome None) tag set (d.length - d.at) (c.length - c.at) m.taken u.taken (let room = item-room s.files c d i g.goes in omega (arith, room)) h.told)
+
       taken-as : (e : Option LogFault) (text : List ℕ) → Prefixed m.taken u.taken e text → Prefixed s.taken u.taken e text
       taken-as e text p = subst (λ x. Prefixed x u.taken e text) g.taken p
 
-      opened : (l : PlainLabel) (stamp : Stamp) (xs : List PlainAlt) → Comes s.files c (leaf_item l stamp ∷ (map (λ x. item_of (alt_of x)) xs ++ leaf_end_item ∷ [])) → Shows (alts_text tag set xs) (length (rec_bytes (leaf_rec l stamp)) + alts_size xs) s u e
-      opened l stamp xs comes =
+      opened : (l : PlainLabel) (stamp : Stamp) (xs : List PlainAlt) → MayCome None xs → Comes s.files c (leaf_item l stamp ∷ (map (λ x. item_of (alt_of x)) xs ++ leaf_end_item ∷ [])) → Shows (alts_text tag set xs) (length (rec_bytes (leaf_rec l stamp)) + alts_size xs) s u e
+      opened l stamp xs may comes =
           let on = comes-on s.files c d i (leaf_item l stamp) _ comes g.goes in
-          let rest = h.shows xs (subst (λ (f : Option Files). AltsCome f d xs) (sym g.files) on.1) in
+          let rest = h.shows xs may (subst (λ (f : Option Files). AltsCome f d xs) (sym g.files) on.1) in
           let size = length (rec_bytes (leaf_rec l stamp)) in
           record {
             sound = rest.sound;

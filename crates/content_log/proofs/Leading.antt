@@ -8,7 +8,7 @@ use Rattle.keyed_tree.specs.Alike.{IsInner, IsLeaf}
 use Rattle.keyed_tree.specs.Data.{PlainKey, PlainLabel, PlainKeyed, inner, leaf, kids_of}
 use Rattle.keyed_tree.specs.Kids.{kid_at}
 use Rattle.keyed_tree.specs.Paths.{node_at}
-use Rattle.archive_tree.specs.Data.{Stamp, eff, PlainNode, inner_node, leaf_node, PlainNodes, node_stamp, node_kids, nodes_list, PlainArchive}
+use Rattle.archive_tree.specs.Data.{Stamp, eff, PlainAlt, PlainNode, inner_node, leaf_node, PlainNodes, node_stamp, node_kids, nodes_list, PlainArchive}
 use Rattle.archive_tree.specs.Seek.{node_with}
 use Rattle.archive_tree.specs.Stands.{nums, those, passed, under, rooted, numbered, StandsFor, ArchiveOf}
 use Rattle.archive_tree.proofs.Histories.{node_has, no_node, Row}
@@ -21,6 +21,8 @@ use Rattle.std.specs.Ordering.{nat_cmp}
 use Rattle.keyed_tree.specs.Lists.{Ascends}
 use Rattle.archive_tree.specs.Stands.{nums_with}
 use Rattle.content_log.specs.Log.{Entry, found_at, at_path, bodies_in, each_once, entries_of, log}
+use Rattle.content_log.specs.Written.{AloneOrStored}
+use Rattle.content_log.proofs.Alone.{alone-or-stored}
 use Rattle.content_log.proofs.Once.{alt_entry, leaf_entries}
 
 -- ---- what is picked of numbered trees
@@ -99,6 +101,12 @@ lead_all vs a (l ∷ ls) h =
     let set : nums (numbered vs) ≡ members (upto_pairs a.n) = numbers vs a h ∙ sym (members-upto_pairs a.n) in
     subst (IsThere (node_along a (l ∷ ls))) (those-those (passed _) (node_at ls) (numbered vs))
     (lead_row ls l a.kids (rooted (numbered vs)) (upto_pairs a.n) (lead_node ls) (subst (Row a.kids (rooted (numbered vs))) set h.row))
+
+-- the alternatives of the leaf that is there
+pub leaf_alone : (vs : List PlainKeyed) (a : PlainArchive) (path : List PlainLabel) (parent : List (ℕ × ℕ)) (l : PlainLabel) (s : Stamp) (xs : List PlainAlt) → ArchiveOf vs a → node_along a path ≡ Some (record { parent = parent; node = leaf_node l s xs }) → AloneOrStored xs
+leaf_alone vs a path parent l s xs h is =
+    let there = subst (λ (o : Option PlainSpot). IsThere o (at_path vs path)) is (lead_all vs a path h) in
+    alone-or-stored (at_path vs path) (those_ascend (found_at path) (numbered vs) (orderly_numbered vs h.ordered).ascending) xs there.different there.alts
 
 -- ---- what is logged of it
 

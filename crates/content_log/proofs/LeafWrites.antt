@@ -17,10 +17,10 @@ use Rattle.file_rows.specs.View.{child_view}
 use Rattle.file_history.specs.declared.leaf.LeafAt.{LeafAt}
 use Rattle.file_history.proofs.Opening.{before_child}
 use Rattle.content_log.specs.Told.{IsCaused, IsSound, fault_of}
-use Rattle.content_log.specs.Written.{Seen, seen, Walks, Prefixed, Shows, alts_text, RecordsWritten, LeafWritten}
+use Rattle.content_log.specs.Written.{Seen, seen, Walks, Prefixed, Shows, AloneOrStored, alts_text, Lines, RecordsWritten, LeafWritten}
 use Rattle.content_log.specs.declared.fault.LogFault.{LogFault}
 use Rattle.content_log.specs.declared.fault.LogFault.TheVariants.{Damage, Folder, Out, Memory}
-use Rattle.content_log.proofs.Coming.{walks-more}
+use Rattle.content_log.proofs.Coming.{walks-more, no-lines, lines-more}
 use Rattle.content_log.proofs.Entering.{at-err}
 use Rattle.content_log.proofs.Placed.{size-is, leaf-comes, leaf-fits}
 
@@ -28,22 +28,25 @@ use Rattle.content_log.proofs.Placed.{size-is, leaf-comes, leaf-fits}
 pub leaf-long : (name tag : List ℕ) (size : ℕ) (at : LeafAt) (s : Seen) → IsMeter s.numbers → size < at.child.end → LeafWritten name tag size at s s (Some Damage)
 leaf-long name tag size at s meter long = record {
   walks = record { same_files = refl; same_draft = refl; later = omega arith; out_later = omega arith; cause = tt; pulls = PullsAtMost-none _ s.numbers meter; gained = ([], Takes-nil s.taken) };
-  shows = λ bytes parent l stamp xs tells laid. absurd (let fits = leaf-fits s.files name bytes size (child_view at.child) (pairs_of at.set) parent l stamp xs tells laid in omega (arith, long, fits));
+  told = no-lines None tag (pairs_of at.set) size s.taken s.taken refl;
+  shows = λ bytes parent l stamp xs may tells laid. absurd (let fits = leaf-fits s.files name bytes size (child_view at.child) (pairs_of at.set) parent l stamp xs tells laid in omega (arith, long, fits));
 }
 
 -- no memory for a cursor
 pub leaf-unread : (name tag : List ℕ) (size : ℕ) (at : LeafAt) (s : Seen) → IsMeter s.numbers → LeafWritten name tag size at s s (Some Memory)
 leaf-unread name tag size at s meter = record {
   walks = record { same_files = refl; same_draft = refl; later = omega arith; out_later = omega arith; cause = tt; pulls = PullsAtMost-none _ s.numbers meter; gained = ([], Takes-nil s.taken) };
-  shows = λ bytes parent l stamp xs tells laid. record { sound = tt; bytes = TakesPrefix-none s.taken _; pulls = PullsAtMost-none _ s.numbers meter };
+  told = no-lines None tag (pairs_of at.set) size s.taken s.taken refl;
+  shows = λ bytes parent l stamp xs may tells laid. record { sound = tt; bytes = TakesPrefix-none s.taken _; pulls = PullsAtMost-none _ s.numbers meter };
 }
 
 -- the leaf comes at the cursor
 pub leaf-read : (name tag : List ℕ) (size : ℕ) (at : LeafAt) (c : PlainCursor) (s t : Seen) (e : Option LogFault) → c ≡ before_child name 0 (child_view at.child) → at.child.end ≤ size → RecordsWritten tag (pairs_of at.set) c s t e → LeafWritten name tag size at s t e
 leaf-read name tag size at c s t e is within h = record {
   walks = walks-more (at.child.end - at.child.first) size s t e (omega (arith, within)) (subst (λ (k : PlainCursor). Walks (k.length - k.at) s t e) is h.walks);
-  shows = λ bytes parent l stamp xs tells laid. (
-      let shows = h.shows l stamp xs (leaf-comes s.files name bytes size (child_view at.child) (pairs_of at.set) parent l stamp xs c is tells laid) in
+  told = lines-more AloneOrStored tag (pairs_of at.set) (at.child.end - at.child.first) size s.taken t.taken (omega (arith, within)) (subst (λ (k : PlainCursor). Lines AloneOrStored tag (pairs_of at.set) (k.length - k.at) s.taken t.taken) is h.told);
+  shows = λ bytes parent l stamp xs may tells laid. (
+      let shows = h.shows l stamp xs may (leaf-comes s.files name bytes size (child_view at.child) (pairs_of at.set) parent l stamp xs c is tells laid) in
       subst (λ (n : ℕ). Shows (alts_text tag (pairs_of at.set) xs) n s t e) (sym (size-is parent l stamp xs)) shows);
 }
 
@@ -70,6 +73,9 @@ module _ {S O : Type 0} (files : S → Option Files) (draft : S → Option (List
   gained-of : (s t : Taken) (piece : List ℕ) → TakesPrefix s t piece → (bytes : List ℕ) × Takes s t bytes
   gained-of s t piece p = (take p.count piece, p.takes)
 
+  prefix-kept : (a b c : Taken) (piece : List ℕ) → TakesPrefix a b piece → TakesNone b c → TakesPrefix a c piece
+  prefix-kept a b c piece p q = record { count = p.count; takes = Takes-kept a b c (take p.count piece) p.takes q }
+
   cause-as : (a b c d e f : ℕ) (ended : Option LogFault) → c ≡ e → d ≡ f → IsCaused a b c d ended → IsCaused a b e f ended
   cause-as a b c d e f None p q h = tt
   cause-as a b c d e f (Some Damage) p q h = tt
@@ -95,7 +101,8 @@ module _ {S O : Type 0} (files : S → Option Files) (draft : S → Option (List
           pulls = w.pulls;
           gained = gained-of (taken x) (taken y) g.0 (through made used x y g.0 same none last (TakesPrefix-all (buffered_taken taken made) (buffered_taken taken used) g.0 g.1));
         };
-        shows = λ bytes parent l stamp xs tells laid. (let s = h.shows bytes parent l stamp xs tells laid in record { sound = s.sound; bytes = through made used x y _ same none last s.bytes; pulls = s.pulls });
+        told = record { alts = h.told.alts; are = h.told.are; fit = h.told.fit; takes = through made used x y _ same none last h.told.takes };
+        shows = λ bytes parent l stamp xs may tells laid. (let s = h.shows bytes parent l stamp xs may tells laid in record { sound = s.sound; bytes = through made used x y _ same none last s.bytes; pulls = s.pulls });
       })
 
   put-through : {T : Type 0} (made used flushed : Buffered O) (x y : O) (piece : List ℕ) (r : Result T Failed) → made.out.now ≡ x → waiting_bytes made ≡ [] → y ≡ flushed.out.now → Takes (buffered_taken taken made) (buffered_taken taken used) piece
@@ -133,7 +140,13 @@ module _ {S O : Type 0} (files : S → Option Files) (draft : S → Option (List
           pulls = w.pulls;
           gained = gained-of (taken x) (taken y) g.0 (through made flushed x y g.0 same none last (TakesPrefix-all (buffered_taken taken made) (buffered_taken taken flushed) g.0 (Takes-kept (buffered_taken taken made) (buffered_taken taken used) (buffered_taken taken flushed) g.0 g.1 kept)));
         };
-        shows = λ bytes parent l stamp xs tells laid. (let s = h.shows bytes parent l stamp xs tells laid in record { sound = sound-out r; bytes = put-through made used flushed x y _ r same none last s.bytes kept empty; pulls = s.pulls });
+        told = record {
+          alts = h.told.alts;
+          are = h.told.are;
+          fit = h.told.fit;
+          takes = through made flushed x y _ same none last (prefix-kept (buffered_taken taken made) (buffered_taken taken used) (buffered_taken taken flushed) _ h.told.takes kept);
+        };
+        shows = λ bytes parent l stamp xs may tells laid. (let s = h.shows bytes parent l stamp xs may tells laid in record { sound = sound-out r; bytes = put-through made used flushed x y _ r same none last s.bytes kept empty; pulls = s.pulls });
       })
 
   pub unflushed-on : {T : Type 0} (z : Result T LogFault) (e : LogFault) → IsErrAnd z (λ d. d ≡ e) → (a b : S) (made used : Buffered O) (x y : O) → made.out.now ≡ x → waiting_bytes made ≡ [] → y ≡ used.out.now → LeafWritten name tag size at (inner a made) (inner b used) (Some e)

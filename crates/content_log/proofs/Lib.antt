@@ -1,4 +1,5 @@
 pub mod Once
+pub mod Alone
 pub mod Leading
 pub mod Entering
 pub mod Coming

@@ -20,11 +20,12 @@ use Rattle.file_history.specs.declared.leaf.LeafAt.{LeafAt}
 use Rattle.content_log.specs.Log.{log}
 use Rattle.content_log.specs.Text.{body_text, entry_text, last_name, log_text}
 use Rattle.content_log.specs.Told.{IsSound, fault_of, of_history}
-use Rattle.content_log.specs.Written.{Prefixed, alt_text, alts_text, leaf_bytes, leaf_size}
+use Rattle.content_log.specs.Written.{Prefixed, AloneOrStored, Lines, alt_text, alts_text, leaf_bytes, leaf_size}
 use Rattle.content_log.specs.declared.fault.LogFault.{LogFault}
 use Rattle.content_log.specs.declared.fault.LogFault.TheVariants.{Damage, Folder, Out, Memory}
+use Rattle.content_log.proofs.Coming.{no-lines}
 use Rattle.content_log.proofs.Once.{alt_entry}
-use Rattle.content_log.proofs.Leading.{set-members, spot_log, leaf_log, log_is}
+use Rattle.content_log.proofs.Leading.{set-members, leaf_alone, spot_log, leaf_log, log_is}
 
 -- ---- the leaf that was found
 
@@ -77,11 +78,21 @@ module _ (vs : List PlainKeyed) (a : PlainArchive) (path : List PlainLabel) (is 
   pub log-none : spot_log (node_along a path) ≡ [] → log_text vs path ≡ []
   log-none none = ap (flat_map (entry_text (last_name path))) (log_is vs a path is ∙ none)
 
+  pub log-alone : (bytes : List ℕ) (x : LeafAt) (f : Found bytes (node_along a path) x) → AloneOrStored f.xs
+  log-alone bytes x f = leaf_alone vs a path f.parent f.l f.s f.xs is f.is
+
   -- the search, and the leaf
   pub pulls-both : (bytes : List ℕ) (x : LeafAt) (f : Found bytes (node_along a path) x) (n : ℕ) (p q r : Numbers) → PullsAtMost n p q → PullsAtMost (leaf_size f.parent (leaf_node f.l f.s f.xs)) q r → PullsAtMost (n + leaf_bytes (node_along a path)) p r
   pulls-both bytes x f n p q r h g = subst (λ (o : Option PlainSpot). PullsAtMost (n + leaf_bytes o) p r) (sym f.is) (PullsAtMost-trans n (leaf_size f.parent (leaf_node f.l f.s f.xs)) p q r h g)
 
 -- ---- what was answered
+
+-- nothing was written
+pub nothing-told : (tag : List ℕ) (most : ℕ) (a : Taken) → (set : List (ℕ × ℕ)) × Lines AloneOrStored tag set most a a
+nothing-told tag most a = ([], no-lines None tag [] most a a refl)
+
+pub leaf-told : (tag name : List ℕ) (set : List (ℕ × ℕ)) (most : ℕ) (a b : Taken) → tag ≡ name → Lines AloneOrStored tag set most a b → (s : List (ℕ × ℕ)) × Lines AloneOrStored name s most a b
+leaf-told tag name set most a b same h = (set, subst (λ (t : List ℕ). Lines AloneOrStored t set most a b) same h)
 
 pub puts-of : {T : Type 0} (a b : Taken) (r : Result T LogFault) (text : List ℕ) → Prefixed a b (fault_of r) text → Puts a b r text
 puts-of a b (Ok x) text h = h

@@ -1,6 +1,6 @@
 -- What the writing of a log does.
-use Rattle.std.specs.Prelude.{◌≡◌, ℕ, ◌+◌, ◌-◌, ◌≤◌, List, [], ◌∷◌, ◌++◌, length, map, Option, Some, None}
-use Rattle.std.specs.List.{flat_map}
+use Rattle.std.specs.Prelude.{◌≡◌, ℕ, ◌+◌, ◌-◌, ◌≤◌, Bool, true, false, ◌&&◌, List, [], ◌∷◌, ◌++◌, length, map, Option, Some, None, IsSome, ⊤}
+use Rattle.std.specs.List.{flat_map, AllByRecursion}
 use Rattle.version_set.specs.Members.{intervals, members}
 use Rattle.version_set.specs.Text.{set_text}
 use Rattle.archive_tree.specs.Data.{Stamp, PlainAlt, PlainNode, inner_node, leaf_node}
@@ -65,6 +65,29 @@ pub record Shows (text : List ℕ) (most : ℕ) (s t : Seen) (ended : Option Log
   pub bytes : Prefixed s.taken t.taken ended text
   pub pulls : PullsAtMost most s.numbers t.numbers
 
+-- ---- which alternatives a leaf may have
+
+-- the alternative stores its set
+abbrev pub IsStored : PlainAlt → Type 0
+IsStored x = IsSome x.stamp
+
+-- one stands alone, or each one stores its set
+abbrev pub AloneOrStored : List PlainAlt → Type 0
+AloneOrStored [] = ⊤
+AloneOrStored (x ∷ []) = ⊤
+AloneOrStored (x ∷ y ∷ ys) = AllByRecursion IsStored (x ∷ y ∷ ys)
+
+-- which may come first, which behind one that stores its set, and which behind one that stores none
+abbrev pub MayCome : Option Bool → List PlainAlt → Type 0
+MayCome None xs = AloneOrStored xs
+MayCome (Some true) xs = AllByRecursion IsStored xs
+MayCome (Some false) xs = xs ≡ []
+
+-- whether one may come there that stores its set, or that stores none
+abbrev pub may_come : Option Bool → Bool → Bool
+may_come None stored = true
+may_come (Some before) stored = before && stored
+
 -- ---- what a leaf shows
 
 -- the numbers of the alternative, a blank, its body, a line feed; its leaf has this set
@@ -78,9 +101,13 @@ alts_text tag set xs = flat_map (alt_text tag set) xs
 abbrev pub AltsCome : Option Files → PlainCursor → List PlainAlt → Type 0
 AltsCome told c xs = Comes told c (map (λ x. item_of (alt_of x)) xs ++ leaf_end_item ∷ [])
 
--- how many bytes they have
+-- how many bytes their records have
+abbrev pub alts_bytes : List PlainAlt → ℕ
+alts_bytes xs = length (flat_map rec_bytes (map alt_of xs))
+
+-- how many bytes they have with the end of their leaf
 abbrev pub alts_size : List PlainAlt → ℕ
-alts_size xs = length (flat_map rec_bytes (map alt_of xs)) + 9
+alts_size xs = alts_bytes xs + 9
 
 -- how many bytes a leaf has, and none for an inner node
 abbrev pub leaf_size : List (ℕ × ℕ) → PlainNode → ℕ
@@ -92,20 +119,31 @@ abbrev pub leaf_bytes : Option PlainSpot → ℕ
 leaf_bytes None = 0
 leaf_bytes (Some p) = leaf_size p.parent p.node
 
--- Alternatives were written, or it is said why not: whatever the file is, and where they come.
-pub record AltsWritten (tag : List ℕ) (set : List (ℕ × ℕ)) (c : PlainCursor) (s t : Seen) (ended : Option LogFault) : Type 0 where
+-- The output took the lines of some alternatives in a leaf that has this set, or a prefix of them: of such ones as may stand there, whose
+-- records have together at most so many bytes.
+pub record Lines (may : List PlainAlt → Type 0) (tag : List ℕ) (set : List (ℕ × ℕ)) (most : ℕ) (old new : Taken) : Type 0 where
+  pub alts : List PlainAlt
+  pub are : may alts
+  pub fit : alts_bytes alts ≤ most
+  pub takes : TakesPrefix old new (alts_text tag set alts)
+
+-- Alternatives were written behind some other or behind none, or it is said why not: whatever the file is, and where those come that may.
+pub record AltsWritten (came : Option Bool) (tag : List ℕ) (set : List (ℕ × ℕ)) (c : PlainCursor) (s t : Seen) (ended : Option LogFault) : Type 0 where
   pub walks : Walks (c.length - c.at) s t ended
-  pub shows : (xs : List PlainAlt) → AltsCome s.files c xs → Shows (alts_text tag set xs) (alts_size xs) s t ended
+  pub told : Lines (MayCome came) tag set (c.length - c.at) s.taken t.taken
+  pub shows : (xs : List PlainAlt) → MayCome came xs → AltsCome s.files c xs → Shows (alts_text tag set xs) (alts_size xs) s t ended
 
 -- The leaf that comes was written, or it is said why not.
 pub record RecordsWritten (tag : List ℕ) (set : List (ℕ × ℕ)) (c : PlainCursor) (s t : Seen) (ended : Option LogFault) : Type 0 where
   pub walks : Walks (c.length - c.at) s t ended
-  pub shows : (l : PlainLabel) (stamp : Stamp) (xs : List PlainAlt) → Comes s.files c (leaf_item l stamp ∷ (map (λ x. item_of (alt_of x)) xs ++ leaf_end_item ∷ []))
+  pub told : Lines AloneOrStored tag set (c.length - c.at) s.taken t.taken
+  pub shows : (l : PlainLabel) (stamp : Stamp) (xs : List PlainAlt) → AloneOrStored xs → Comes s.files c (leaf_item l stamp ∷ (map (λ x. item_of (alt_of x)) xs ++ leaf_end_item ∷ []))
       → Shows (alts_text tag set xs) (length (rec_bytes (leaf_rec l stamp)) + alts_size xs) s t ended
 
 -- A leaf was written, or it is said why not: whatever the file is, and where it stands there.
 pub record LeafWritten (name tag : List ℕ) (size : ℕ) (at : LeafAt) (s t : Seen) (ended : Option LogFault) : Type 0 where
   pub walks : Walks size s t ended
-  pub shows : (bytes : List ℕ) (parent : List (ℕ × ℕ)) (l : PlainLabel) (stamp : Stamp) (xs : List PlainAlt) → TellsFront s.files name size bytes
+  pub told : Lines AloneOrStored tag (pairs_of at.set) size s.taken t.taken
+  pub shows : (bytes : List ℕ) (parent : List (ℕ × ℕ)) (l : PlainLabel) (stamp : Stamp) (xs : List PlainAlt) → AloneOrStored xs → TellsFront s.files name size bytes
       → LeafLaid bytes (child_view at.child) (pairs_of at.set) parent (leaf_node l stamp xs)
       → Shows (alts_text tag (pairs_of at.set) xs) (leaf_size parent (leaf_node l stamp xs)) s t ended

@@ -14,7 +14,7 @@ ghost use Rattle.xa_outside.specs.Taken.{Puts, Takes};
 ghost use Rattle.file_history.specs.Leads.{node_along};
 ghost use Rattle.content_log.specs.Text.{last_name, log_text};
 ghost use Rattle.content_log.specs.Told.{IsCaused, fault_of};
-ghost use Rattle.content_log.specs.Written.{LeafWritten, leaf_bytes, seen};
+ghost use Rattle.content_log.specs.Written.{AloneOrStored, LeafWritten, Lines, leaf_bytes, seen};
 ghost use Rattle.content_log.specs.declared.fault.LogFault.TheVariants.{Damage};
 
 use crate::alternatives::put_leaf;
@@ -55,8 +55,13 @@ pub fn log<F: Folder, O: Sink, L: Ledger>(
         → IsHeaderOf (header_view header.now) bytes → SoundAs rules vs bytes
         → IfErr result (λ e. e ≢ Damage) }
 
-    // Whatever the file is.
+    // Whatever the file is. What is written are the lines of alternatives, or a prefix of them, whose
+    // records are together no longer than the file, and of which one stands alone or each one stores
+    // its set: so what one inherits is written at most once.
     ensures gained { (bytes : List ℕ) × Takes (O.taken out.old) (O.taken out.new) bytes }
+    ensures told_once { (set : List (ℕ × ℕ)) × Lines AloneOrStored
+        (last_name (map label_view path.now)) set (header_view header.now).length
+        (O.taken out.old) (O.taken out.new) }
     ensures files { F.files folder.new ≡ F.files folder.old }
     ensures draft { F.draft folder.new ≡ F.draft folder.old }
     ensures later { F.faults folder.old ≤ F.faults folder.new }

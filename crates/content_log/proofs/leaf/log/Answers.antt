@@ -1,4 +1,5 @@
 use Rattle.std.proofs.Common.{◌≢◌, ◌+◌, ◌-◌, ◌≤◌, ℕ, List, [], map, length, Option, sym, subst, arith}
+use Rattle.version_set.specs.View.{pairs_of}
 use Rattle.keyed_tree.specs.View.{label_view}
 use Rattle.xa_outside.specs.Folder.{Files}
 use Rattle.xa_outside.specs.NumberLaws.{PullsAtMost-more, PullsAtMost-trans}
@@ -9,11 +10,11 @@ use Rattle.record_cursor.specs.View.{header_view}
 use Rattle.record_format.specs.Probed.{probed}
 use Rattle.file_history.specs.Leads.{node_along}
 use Rattle.content_log.specs.Told.{fault_of}
-use Rattle.content_log.specs.Text.{log_text}
+use Rattle.content_log.specs.Text.{last_name, log_text}
 use Rattle.content_log.specs.Written.{Prefixed, leaf_bytes}
 use Rattle.content_log.specs.declared.fault.LogFault.{LogFault}
 use Rattle.content_log.specs.declared.fault.LogFault.TheVariants.{Damage}
-use Rattle.content_log.proofs.Logs.{on-ok, leaf-found, none-logged, log-text, log-none, pulls-both, puts-of, undamaged-of, search-undamaged}
+use Rattle.content_log.proofs.Logs.{on-ok, leaf-found, none-logged, nothing-told, leaf-told, log-alone, log-text, log-none, pulls-both, puts-of, undamaged-of, search-undamaged}
 use Rattle.content_log.proofs.leaf.log.Goals as goal
 
 pub returns-in-Ok-Some-clause-lines : goal.returns-in-Ok-Some-clause-lines
@@ -24,7 +25,7 @@ returns-in-Ok-Some-clause-lines g c = λ bytes rules vs tells stands sound. (
     let size = (header_view c.args.header.now).length in
     let f = leaf-found bytes (node_along a path) i.field-0 i.leaf i.field-0-is (i.ensures.found bytes rules vs a tells stands sound sound.file.is) in
     let there = subst (λ (t : Option Files). TellsFront t c.args.name.now size bytes) (sym i.ensures.files) tells in
-    let shows = c.write_leaf.ensures.shows bytes f.parent f.l f.s f.xs there f.laid in
+    let shows = c.write_leaf.ensures.shows bytes f.parent f.l f.s f.xs (log-alone vs a path sound.file.is bytes i.leaf f) there f.laid in
     let before = g.O.Sink.taken c.args.out.now in
     let now = g.O.Sink.taken c.write_leaf.new.out in
     puts-of before now c.write_leaf.result (log_text vs path)
@@ -38,7 +39,7 @@ returns-in-Ok-Some-clause-undamaged g c = λ bytes rules vs tells stands sound. 
     let size = (header_view c.args.header.now).length in
     let f = leaf-found bytes (node_along a path) i.field-0 i.leaf i.field-0-is (i.ensures.found bytes rules vs a tells stands sound sound.file.is) in
     let there = subst (λ (t : Option Files). TellsFront t c.args.name.now size bytes) (sym i.ensures.files) tells in
-    let shows = c.write_leaf.ensures.shows bytes f.parent f.l f.s f.xs there f.laid in
+    let shows = c.write_leaf.ensures.shows bytes f.parent f.l f.s f.xs (log-alone vs a path sound.file.is bytes i.leaf f) there f.laid in
     undamaged-of c.write_leaf.result shows.sound)
 
 pub returns-in-Ok-Some-clause-few : goal.returns-in-Ok-Some-clause-few
@@ -48,7 +49,7 @@ returns-in-Ok-Some-clause-few g c = λ bytes rules vs a tells stands sound is. (
     let size = (header_view c.args.header.now).length in
     let f = leaf-found bytes (node_along a path) i.field-0 i.leaf i.field-0-is (i.ensures.found bytes rules vs a tells stands sound is) in
     let there = subst (λ (t : Option Files). TellsFront t c.args.name.now size bytes) (sym i.ensures.files) tells in
-    let shows = c.write_leaf.ensures.shows bytes f.parent f.l f.s f.xs there f.laid in
+    let shows = c.write_leaf.ensures.shows bytes f.parent f.l f.s f.xs (log-alone vs a path is bytes i.leaf f) there f.laid in
     pulls-both vs a path is bytes i.leaf f (8 + probed a path) (g.F.Folder.numbers c.args.folder.now) (g.F.Folder.numbers c.find_leaf.new.folder) (g.F.Folder.numbers c.write_leaf.new.folder) (i.ensures.few bytes rules vs a tells stands sound is) shows.pulls)
 
 pub returns-in-Ok-None-clause-lines : goal.returns-in-Ok-None-clause-lines
@@ -100,3 +101,13 @@ returns-in-Err-clause-pulls g c =
 
 pub returns-in-Ok-Some-clause-counted : goal.returns-in-Ok-Some-clause-counted
 returns-in-Ok-Some-clause-counted g c = λ bytes rules vs a tells stands sound is some. on-ok c.write_leaf.result (c.args.steps.now + length c.args.path.now ≤ c.find_leaf.new.steps) (c.in-Ok-Some.ensures.counted bytes rules vs a tells stands sound is some)
+
+pub returns-in-Ok-Some-clause-told_once : goal.returns-in-Ok-Some-clause-told_once
+returns-in-Ok-Some-clause-told_once g c =
+    leaf-told c.tag_of.result.now (last_name (map label_view c.args.path.now)) (pairs_of c.in-Ok-Some.leaf.set) (header_view c.args.header.now).length (g.O.Sink.taken c.args.out.now) (g.O.Sink.taken c.write_leaf.new.out) c.tag_of.ensures c.write_leaf.ensures.told
+
+pub returns-in-Ok-None-clause-told_once : goal.returns-in-Ok-None-clause-told_once
+returns-in-Ok-None-clause-told_once g c = nothing-told (last_name (map label_view c.args.path.now)) (header_view c.args.header.now).length (g.O.Sink.taken c.args.out.now)
+
+pub returns-in-Err-clause-told_once : goal.returns-in-Err-clause-told_once
+returns-in-Err-clause-told_once g c = nothing-told (last_name (map label_view c.args.path.now)) (header_view c.args.header.now).length (g.O.Sink.taken c.args.out.now)
