@@ -74,6 +74,23 @@ fn a_file_that_stands_open_is_read_anew_after_a_commit(rt: HostRuntime) -> Resul
 }
 
 #[test]
+fn the_older_of_two_open_files_is_read_anew_after_a_commit(rt: HostRuntime) -> Result<(), Fail> {
+    let name = "xarch-test-of-the-older-file";
+    let other = "xarch-test-of-the-newer-file";
+    let mut folder = DiskFolder::new(&rt, rt.alloc());
+    assert!(rt; is_stored(&mut folder, other, &[b"other"]));
+    assert!(rt; is_stored(&mut folder, name, &[b"old"]));
+    assert!(rt; holds(&mut folder, rt.alloc(), name, 0, b"old")?);
+    assert!(rt; holds(&mut folder, rt.alloc(), other, 0, b"other")?);
+    assert!(rt; is_stored(&mut folder, name, &[b"new"]));
+    assert!(rt; holds(&mut folder, rt.alloc(), name, 0, b"new")?);
+    assert!(rt; holds(&mut folder, rt.alloc(), other, 0, b"other")?);
+    fs::remove_file(&rt, name)?;
+    fs::remove_file(&rt, other)?;
+    Ok(())
+}
+
+#[test]
 fn two_files_stand_open_side_by_side(rt: HostRuntime) -> Result<(), Fail> {
     let names = ["xarch-test-of-one-of-two", "xarch-test-of-the-other"];
     let mut folder = DiskFolder::new(&rt, rt.alloc());
@@ -94,6 +111,33 @@ fn two_files_stand_open_side_by_side(rt: HostRuntime) -> Result<(), Fail> {
             assert!(rt; holds(&mut folder, rt.alloc(), name, at, rest)?);
         }
     }
+    Ok(())
+}
+
+#[test]
+fn a_third_open_file_replaces_the_older_of_two(rt: HostRuntime) -> Result<(), Fail> {
+    let names = [
+        "xarch-test-of-the-first",
+        "xarch-test-of-the-second",
+        "xarch-test-of-the-third",
+    ];
+    let [first, second, third] = names;
+    let mut folder = DiskFolder::new(&rt, rt.alloc());
+    for name in names {
+        assert!(rt; is_stored(&mut folder, name, &[name.as_bytes()]));
+    }
+    for name in [first, second, third, first, second, third] {
+        assert!(rt; holds(&mut folder, rt.alloc(), name, 0, name.as_bytes())?);
+    }
+
+    // (the last two stand open, and are read on though their names are gone; the first does not)
+    for name in names {
+        fs::remove_file(&rt, name)?;
+    }
+    for name in [second, third, second] {
+        assert!(rt; holds(&mut folder, rt.alloc(), name, 0, name.as_bytes())?);
+    }
+    assert!(rt; !holds(&mut folder, rt.alloc(), first, 0, first.as_bytes())?);
     Ok(())
 }
 

@@ -81,15 +81,15 @@ module _ (one_list : (rules : List PlainRule) (vs us ws : List PlainKeyed) → A
       not_imported files new h.bytes h.rules h.versions h.notes h.file q h.full h.spelled (subst (λ (x : Result (List ℕ) Refusal). GoesOn x (ImportsFrom files new) (Err q)) h.there m)
   never_refused files (cut name new i j) q h m =
       not_stored files new h.rules (items i j h.versions) (noted_items i j h.notes) h.bytes q h.file
-      (subst (λ (x : Result Unit Refusal). GoesOn x (λ _. Stores files new h.rules (items i j h.versions) (noted_items i j h.notes)) (Err q)) h.free (m.sound h.rules h.versions h.notes h.archive))
+      (subst (λ (x : Result Unit Refusal). GoesOn x (λ _. Stores files new h.rules (items i j h.versions) (noted_items i j h.notes)) (Err q)) h.checked (m.sound h.rules h.versions h.notes h.archive))
   never_refused files (join one two new) q h m =
       not_stored files new h.rules (h.versions ++ h.behind) (h.notes ++ h.more) h.bytes q h.file
-      (subst (λ (x : Result Unit Refusal). GoesOn x (λ _. Stores files new h.rules (h.versions ++ h.behind) (h.notes ++ h.more)) (Err q)) h.free (m.sound h.rules h.versions h.notes h.others h.behind h.more h.first h.second))
+      (subst (λ (x : Result Unit Refusal). GoesOn x (λ _. Stores files new h.rules (h.versions ++ h.behind) (h.notes ++ h.more)) (Err q)) h.checked (m.sound h.rules h.versions h.notes h.others h.behind h.more h.first h.second))
   never_refused files (table csv tag keys doc) q h m = clash q h.value (m ∙ h.is)
   never_refused files (tablekeys tag keys spec) q h m = clash q h.value (m ∙ h.is)
   never_refused files batch q h m = h
   never_refused files (demo seed count name) q h m =
-      not_made files name seed count h.bytes q h.file (subst (λ (x : Result Unit Refusal). GoesOn x (λ _. MakesOrNone files name seed count) (Err q)) h.free m)
+      not_made files name seed count h.bytes q h.file (subst (λ (x : Result Unit Refusal). GoesOn x (λ _. MakesOrNone files name seed count) (Err q)) h.checked m)
 
 -- and it is one by itself
 pub one_alone : (files : Files) (command : PlainCommand) → ShouldSucceed files command → alone (Some command) ≡ Some command

@@ -19,10 +19,10 @@ IsLimited (Some (refused (limit quantity number))) = ⊤
 IsLimited other = ⊥
 
 -- Whatever the archive is: an `add` with a note that is short enough, which what it reads first does not refuse, is refused by a limit only where one more
--- call of the writer does not fit behind the draft, and each part that a call was given takes at most so many bytes, as many as the archive, each label
--- and each body of the document's keyed tree, if those fit their fields. The draft holds no note then. So is a `cut`: each label and body that a
--- call was given takes at most so many bytes, and each set is what is left of one that does. So is a `join`: each label and body that a call was given fits its field and takes at most so
--- many bytes, and each set is made of one or two that do. Of no other command is anything said.
+-- call of the writer does not fit behind the draft and behind calls that fit, and each label and body that a call was given fits its field and takes at most
+-- so many bytes, as many as the archive, each label and each body of the document's keyed tree, if those fit their fields; the sets that it was given take at
+-- most so many, maybe with the new version. The draft holds no note then. So is a `cut`, where each set is what is left of one that takes at most so many
+-- bytes. So is a `join`, where each set is made of one or two that do. Of no other command is anything said.
 abbrev pub FillsUp : Option PlainCommand → Option Files → Option (List ℕ) → Type 0 → Type 0
 FillsUp (Some (add archive doc note)) told draft limited =
     (files : Files) (rules : List PlainRule) (n : ℕ) (tree : PlainKeyed) (b : ℕ) → told ≡ Some files → short_note note ≡ Ok tt → add_input files archive doc ≡ Ok ((rules, n), tree) → limited → size_in told archive + 12 ≤ b → IsShortTree b tree

@@ -14,6 +14,7 @@ use Rattle.xarch_words.specs.Commands.{PlainCommand, get, history, log}
 use Rattle.xarch_words.specs.Refusal.{Refusal}
 use Rattle.xarch_parts.specs.Archives.{ArchiveIs}
 use Rattle.xarch_meanings.specs.History.{labels_of}
+use Rattle.xarch_meanings.specs.Log.{frontier_of}
 use Rattle.xarch_meanings.specs.OnePass.{front_size}
 
 -- where the path spells labels, how many bytes a search for them looks at
@@ -32,14 +33,14 @@ version_bytes a i = if nat_le 1 i && nat_le i a.n then seen a i else 0
 
 -- Of a sound archive a `get` pulls at most 38 bytes, which are the fixed fields of the header, the tail, and 16 in which it is looked where the notes
 -- begin, and what the search for the version looks at, if there is one. A `history` pulls the header, the tail of 8 bytes, such 16, and what its search
--- looks at; a `log` pulls these and the bytes of the one leaf. None pulls a byte more, whatever is answered. Of no other command is anything said.
+-- looks at; a `log` whose path ends at the frontier pulls these and the bytes of the one leaf, and any other no more than the header and the 24 bytes. None pulls a byte more, whatever is answered. Of no other command is anything said.
 abbrev pub ReadsLittle : Option PlainCommand → Option Files → Numbers → Numbers → Type 0
 ReadsLittle (Some (history archive path)) told before after =
     (files : Files) (rules : List PlainRule) (vs : List PlainKeyed) (notes : List (List ℕ)) (a : PlainArchive) → told ≡ Some files → ArchiveIs files archive rules vs notes → ArchiveOf vs a
     → PullsAtMost (front_size rules vs + (24 + path_bytes a (labels_of rules path))) before after
 ReadsLittle (Some (log archive path)) told before after =
     (files : Files) (rules : List PlainRule) (vs : List PlainKeyed) (notes : List (List ℕ)) (a : PlainArchive) → told ≡ Some files → ArchiveIs files archive rules vs notes → ArchiveOf vs a
-    → PullsAtMost (front_size rules vs + (24 + leaf_path_bytes a (labels_of rules path))) before after
+    → PullsAtMost (front_size rules vs + (24 + leaf_path_bytes a (frontier_of rules path))) before after
 ReadsLittle (Some (get archive i)) told before after =
     (files : Files) (rules : List PlainRule) (vs : List PlainKeyed) (notes : List (List ℕ)) (a : PlainArchive) → told ≡ Some files → ArchiveIs files archive rules vs notes → ArchiveOf vs a
     → PullsAtMost (38 + version_bytes a i) before after

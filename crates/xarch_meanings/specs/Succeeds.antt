@@ -99,7 +99,7 @@ pub record CanCut (files : Files) (name new : List ℕ) (i j : ℕ) : Type 0 whe
   pub notes : List (List ℕ)
   pub bytes : List ℕ
   pub archive : ArchiveIs files name rules versions notes
-  pub free : cut_checked files new i j (length versions) ≡ Ok tt
+  pub checked : cut_checked files new i j (length versions) ≡ Ok tt
   pub file : FileOf rules (items i j versions) bytes
 
 -- both archives are sound, the new name is free, they have one specification, there is room for the versions of both, and these have a file
@@ -113,7 +113,7 @@ pub record CanJoin (files : Files) (one two new : List ℕ) : Type 0 where
   pub bytes : List ℕ
   pub first : ArchiveIs files one rules versions notes
   pub second : ArchiveIs files two others behind more
-  pub free : join_checked files one two new rules (length versions) others (length behind) ≡ Ok tt
+  pub checked : join_checked files one two new rules (length versions) others (length behind) ≡ Ok tt
   pub file : FileOf rules (versions ++ behind) bytes
 
 -- the archive is sound
@@ -137,7 +137,7 @@ pub record CanImport (files : Files) (text new : List ℕ) : Type 0 where
 -- there are not too many documents, the archive's name is free, and the documents have a file
 pub record CanDemo (files : Files) (seed count : ℕ) (name : List ℕ) : Type 0 where
   pub bytes : List ℕ
-  pub free : demo_input files count name ≡ Ok tt
+  pub checked : demo_input files count name ≡ Ok tt
   pub file : FileOf company_rules (samples seed count) bytes
 
 -- Of a batch nothing is said: its lines succeed or are refused one by one.

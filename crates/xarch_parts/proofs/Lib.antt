@@ -1,2 +1,3 @@
 pub mod MergedLemmas
+pub mod Pushing
 mod FrontLemmas

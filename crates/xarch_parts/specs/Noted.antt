@@ -1,5 +1,7 @@
--- The notes of an archive, as a command reads them.
-use Rattle.std.specs.Prelude.{◌≡◌, ◌⊎◌, ◌≤◌, ◌<◌, ◌^◌, ℕ, ◌+◌, ◌-◌, List, Option, Some, None, IfSome}
+-- The notes of an archive, as a command reads and appends them.
+use Rattle.std.specs.Prelude.{◌≡◌, ◌⊎◌, ◌≤◌, ◌<◌, ◌^◌, ℕ, ◌+◌, ◌-◌, Bool, true, false, List, length, Option, Some, None, IfSome}
+use Rattle.std.specs.List.{AllByRecursion}
+use Rattle.version_notes.specs.Notes.{IsNote, are_empty, most}
 use Rattle.version_notes.specs.declared.parts.Parts.{Parts}
 use Rattle.version_notes.specs.declared.fault.NotesFault.{NotesFault}
 use Rattle.version_notes.specs.declared.fault.NotesFault.TheVariants.{Damage, Folder, Memory}
@@ -20,3 +22,9 @@ abbrev pub IsOfNotes : List ℕ → NotesFault → PlainFault → Type 0
 IsOfNotes name Damage fault = (fault ≡ refused (damaged name)) ⊎ (fault ≡ memory)
 IsOfNotes name Folder fault = fault ≡ folder_fault
 IsOfNotes name Memory fault = fault ≡ memory
+
+-- Notes that can be appended, at once only where some is not empty.
+pub record CanFollow (noted : Bool) (notes : List (List ℕ)) : Type 0 where
+  pub few : length notes ≤ most
+  pub each : AllByRecursion IsNote notes
+  pub some : noted ≡ true → are_empty notes ≡ false

@@ -48,7 +48,7 @@ use Rattle.xarch_meanings.specs.ReadsBack.{leaf_path_bytes}
 use Rattle.xarch_reads.specs.Logged.{IsLoggedAs, Logs}
 use Rattle.xarch_reads.specs.Written.{WrittenState, written_state}
 use Rattle.xarch_reads.proofs.LateEnds.{all-of, front-of, no_folder, no_memory, no_out, outside}
-use Rattle.xarch_reads.proofs.PathEnds.{path-damaged, path-refused, path-written}
+use Rattle.xarch_reads.proofs.PathEnds.{path-damaged, path-given, path-refused, path-written}
 
 -- ---- the labels of the path, and whether they end at the frontier
 
@@ -123,6 +123,11 @@ module _ (has_parts : (rules : List PlainRule) (vs : List PlainKeyed) (notes : L
   pub log-refused : (files : Files) (name path : List ℕ) (q : Refusal) → log_input files name path ≡ Err q → MayBe files (log name path) (Err q)
   unfolding MayBe
   log-refused files name path q e = path-refused files name (λ rules. frontier_of rules path) log_text has_parts fronted q e
+
+  -- the labels are those that the path spells under the rules of the archive
+  pub log-given : (files : Files) (name path : List ℕ) (h : List PlainRule × ℕ) (labels : List PlainLabel) → log_input files name path ≡ Ok (h, labels)
+      → (rules : List PlainRule) (vs : List PlainKeyed) (notes : List (List ℕ)) → ArchiveIs files name rules vs notes → frontier_of rules path ≡ Ok labels
+  log-given files name path h labels input rules vs notes a = path-given files name (λ rules. frontier_of rules path) log_text has_parts fronted h labels input rules vs notes a
 
   -- And from what the bytes of a sound archive tell: its versions.
   module _ (versions : List ℕ → List PlainKeyed) (tells : (bytes : List ℕ) (rules : List PlainRule) (vs : List PlainKeyed) → SoundAs rules vs bytes → versions bytes ≡ vs)
@@ -247,8 +252,8 @@ module _ {S K : Type 0} (files : S → Option Files) (draft : S → Option (List
   log-caused = caused-then (faults a) (faults b) (faults c) (out_faults k) (out_faults k) (out_faults l) v (caused-read n a b None (out_faults k) asked) (record { folder_later = w.later; out_later = w.out_later; cause = w.cause })
 
 -- the header was read, the path was followed, and the leaf was read
-pub little-logged : (rules : List PlainRule) (vs : List PlainKeyed) (a : PlainArchive) (path : List ℕ) (labels : List PlainLabel) (x y z : Numbers) → labels_of rules path ≡ Ok labels → PullsAtMost (16 + front_size rules vs) x y
-    → PullsAtMost (8 + probed a labels + leaf_bytes (node_along a labels)) y z → PullsAtMost (front_size rules vs + (24 + leaf_path_bytes a (labels_of rules path))) x z
+pub little-logged : (rules : List PlainRule) (vs : List PlainKeyed) (a : PlainArchive) (path : List ℕ) (labels : List PlainLabel) (x y z : Numbers) → frontier_of rules path ≡ Ok labels → PullsAtMost (16 + front_size rules vs) x y
+    → PullsAtMost (8 + probed a labels + leaf_bytes (node_along a labels)) y z → PullsAtMost (front_size rules vs + (24 + leaf_path_bytes a (frontier_of rules path))) x z
 little-logged rules vs a path labels x y z given p q =
     let leaf = leaf_bytes (node_along a labels) in
     let all = PullsAtMost-trans (16 + front_size rules vs) (8 + probed a labels + leaf) x y z p q in

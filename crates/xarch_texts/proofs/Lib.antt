@@ -2,4 +2,3 @@ pub mod ExportEnds
 pub mod GivingLemmas
 pub mod ImportEnds
 pub mod NotesRead
-pub mod Pushing

@@ -1,27 +1,24 @@
 #![tactic(auto)]
 
-ghost use Rattle.std.specs.Prelude.{◌≡◌, ◌≤◌, ◌++◌, ℕ, length, map, Some, IfOk, IfErr, OnOk, string_bytes};
-ghost use Rattle.std.specs.FinMap as finite;
+ghost use Rattle.std.specs.Prelude.{◌≡◌, ◌≤◌, ℕ, length, map, Some, IfOk, IfErr, string_bytes};
 ghost use Rattle.xa_outside.specs.Folder.{Files};
 ghost use Rattle.xa_outside.specs.Taken.{Taken};
-ghost use Rattle.version_notes.specs.Notes.{AreNotes, notes_part};
+ghost use Rattle.version_notes.specs.Notes.{AreNotes};
 ghost use Rattle.xarch_words.specs.Commands.{import};
-ghost use Rattle.xarch_words.specs.Refusal.{Refusal, folder_fault, refused};
+ghost use Rattle.xarch_words.specs.Refusal.{Refusal, refused};
 ghost use Rattle.xarch_words.specs.View.{fault_view};
-ghost use Rattle.xarch_parts.specs.Archives.{IsBlank};
-ghost use Rattle.xarch_parts.specs.Ends.{IsCaused, IsInside, Matches, TellsOnly, fault_of};
-ghost use Rattle.xarch_parts.specs.Folders.{ReadsOnly, WritesOnly};
+ghost use Rattle.xarch_parts.specs.Ends.{IsInside, Matches, fault_of};
+ghost use Rattle.xarch_parts.specs.Folders.{ReadsOnly};
 ghost use Rattle.xarch_meanings.specs.Import.{IsNoText, import_text};
 ghost use Rattle.xarch_meanings.specs.Performs.{Performs};
 ghost use Rattle.xarch_texts.specs.Spelled.{IsFileOf};
 
-use crate::notes::push_notes;
 use archive_text::{ReadFault, read_with_file};
 use archive_tree::archives_stand_for_one_list;
 use std::alloc::Global;
 use xa_outside::Folder;
 use xarch_meanings::limits;
-use xarch_parts::{begin, check_free, commit, draft, limited_length, read_whole};
+use xarch_parts::{begin, check_free, limited_length, read_whole, store_noted};
 use xarch_words::{Fault, Quantity};
 
 /// Makes the archive of a text, with its notes.
@@ -39,7 +36,7 @@ pub fn run_import<F: Folder>(
     begin(folder)?;
     let bytes = read_input(alloc, text, new, folder)?;
     let (core, notes) = file_of(alloc, &bytes)?;
-    store_noted(new, &core, &notes, folder)
+    store_noted(new, &core, &notes, false, folder)
 }
 
 // The bytes of the text, where the new name is free.
@@ -76,29 +73,5 @@ fn file_of(alloc: Global, bytes: &[u8]) -> Result<(Vec<u8>, Vec<String>), Fault>
         Ok((kept, core)) => Ok((core, kept.notes)),
         Err(ReadFault::Bad) => Err(Fault::BadText),
         Err(ReadFault::Memory) => Err(Fault::Memory),
-    }
-}
-
-// Makes an archive, and its notes behind it, the file of this name.
-fn store_noted<F: Folder>(
-    name: &str,
-    core: &[u8],
-    notes: &[String],
-    folder: &mut F,
-) -> Result<(), Fault>
-    requires blank { IsBlank (F.draft folder.old) }
-    requires notes { AreNotes (map string_bytes notes.now) }
-    ensures writes { WritesOnly F.files F.draft F.numbers folder.old folder.new (fault_of result) }
-    ensures caused { (out : ℕ)
-        → IsCaused (F.faults folder.old) (F.faults folder.new) out out (fault_of result) }
-    ensures stored { (files : Files) → F.files folder.old ≡ Some files
-        → OnOk result (TellsOnly (F.files folder.new) (finite.insert files name.now
-        (core.now ++ notes_part (map string_bytes notes.now)))) }
-    ensures fault { IfErr result (λ f. fault_view f ≡ folder_fault) }
-{
-    draft(folder, core)?;
-    match push_notes(notes, folder) {
-        Ok(()) => commit(folder, name),
-        Err(_) => Err(Fault::FolderFault),
     }
 }

@@ -3,7 +3,6 @@
 
 mod export;
 mod import;
-mod notes;
 
 pub use export::run_export;
 pub use import::run_import;

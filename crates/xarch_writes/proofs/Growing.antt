@@ -1,7 +1,6 @@
 -- What is appended to a draft, part after part.
-use Rattle.std.proofs.Common.{◌≡◌, ℕ, ◌+◌, ◌≤◌, List, [], ◌++◌, take, Option, Some, None, IsSome, option_map, Result, Ok, Err, refl, sym, ap, ◌∙◌, subst, append-nil, append_assoc, arith}
+use Rattle.std.proofs.Common.{◌≡◌, ℕ, ◌+◌, ◌≤◌, List, [], ◌++◌, take, Option, Some, None, IsSome, option_map, Result, Ok, Err, refl, sym, ap, ◌∙◌, subst, arith}
 use Rattle.std.specs.Result.{IfErr, IsErrAnd}
-use Rattle.xa_outside.specs.Causes.{Rose}
 use Rattle.xa_outside.specs.Folder.{Files}
 use Rattle.xa_outside.specs.Numbers.{Numbers, IsMeter, PullsAndDrafts, after_draft}
 use Rattle.xa_outside.specs.NumberLaws.{PullsAndDrafts-none, PullsAndDrafts-of_draft, PullsAndDrafts-more, PullsAndDrafts-trans}
@@ -11,8 +10,9 @@ use Rattle.xarch_words.specs.Refusal.{PlainFault, folder_fault, memory}
 use Rattle.xarch_words.specs.View.{fault_view}
 use Rattle.xarch_words.specs.declared.fault.Fault.{Fault}
 use Rattle.xarch_parts.specs.EndLaws.{IsOfFolder-inside, IsOfFolder-later}
-use Rattle.xarch_parts.specs.Ends.{IsCaused, IsInside, IsOfFolder, fault_of}
-use Rattle.xarch_parts.specs.FolderLaws.{caused-folder, writes-drafted}
+use Rattle.xarch_parts.specs.Ends.{IsCaused, IsInside, fault_of}
+use Rattle.xarch_parts.proofs.Pushing.{gained-more, gained-none, no-fault, of-folder}
+use Rattle.xarch_parts.specs.FolderLaws.{caused-folder}
 use Rattle.xarch_parts.specs.Folders.{IsTold, Streams, WritesOnly}
 use Rattle.xarch_writes.specs.Appending.{Grows}
 
@@ -27,17 +27,6 @@ inside-memory = tt
 
 -- ---- drafts
 
-pub gained-none : (d : Option (List ℕ)) → d ≡ option_map (λ x. x ++ []) d
-gained-none None = refl
-gained-none (Some x) = ap (λ (l : List ℕ). Some l) (sym (append-nil x))
-
-pub gained-more : (a b c : Option (List ℕ)) (x y : List ℕ) → b ≡ option_map (λ d. d ++ x) a → c ≡ option_map (λ d. d ++ y) b → c ≡ option_map (λ d. d ++ (x ++ y)) a
-gained-more a b c x y first second = second ∙ ap (option_map (λ d. d ++ y)) first ∙ twice a
-  where
-    twice : (d : Option (List ℕ)) → option_map (λ (l : List ℕ). l ++ y) (option_map (λ (l : List ℕ). l ++ x) d) ≡ option_map (λ (l : List ℕ). l ++ (x ++ y)) d
-    twice None = refl
-    twice (Some d) = ap (λ (l : List ℕ). Some l) (append_assoc d x y)
-
 grown_untold : (d e : Option (List ℕ)) (x : List ℕ) → e ≡ option_map (λ b. b ++ x) d → d ≡ None → e ≡ None
 grown_untold d e x grown none = grown ∙ ap (option_map (λ b. b ++ x)) none
 
@@ -50,17 +39,6 @@ grown_told f g d e x same grown t = (subst (λ z. IsSome z) (sym same) t.0, subs
 
 drafted-counts : (a b : Numbers) (n : ℕ) → IsMeter a → b ≡ after_draft a n → PullsAndDrafts 0 a b
 drafted-counts a b n is counted = PullsAndDrafts-of_draft 0 n a b is counted
-
-pub of-folder : (a b : ℕ) (v : PlainFault) → v ≡ folder_fault → Rose a b → IsOfFolder a b (Some v)
-unfolding IsOfFolder
-of-folder a b v is rose = subst (λ (z : PlainFault). IsOfFolder a b (Some z)) (sym is) rose
-
-inside-none : IsInside None
-unfolding IsInside
-inside-none = tt
-
-pub no-fault : (a b : ℕ) → IsOfFolder a b None
-no-fault a b = IsOfFolder-inside a b None inside-none
 
 module _ {S : Type 0} {files : S → Option Files} {draft : S → Option (List ℕ)} {numbers : S → Numbers} {faults : S → ℕ} where
   -- nothing was appended yet
@@ -136,11 +114,6 @@ module _ {S : Type 0} {files : S → Option Files} {draft : S → Option (List �
         gains = DraftsPrefix-after (draft a) (draft b) (draft c) (numbers a) (numbers b) (numbers c) x y p.gains q.gains;
         cause = record { later = omega (arith, first, last); failed = omega (arith, first, rose) };
       }
-
-  -- where the folder is only written to
-  pub writes-appends : {T E : Type 0} (a b : S) (bytes : List ℕ) (r : Result T E) (v : Option PlainFault) → Appends files draft numbers faults a b bytes r → WritesOnly files draft numbers a b v
-  writes-appends a b bytes (Ok u) v p = writes-drafted a b v bytes p.same_files p.gains
-  writes-appends a b bytes (Err e) v p = writes-drafted a b v (take p.gains.count bytes) p.same_files p.gains.drafts
 
   -- what a writer appends at its end, behind a note
   pub appends-then : {T E : Type 0} (a b c : S) (v w : PlainWriter) (x : List ℕ) (u : T) (r : Result T E) → v ≡ w → Appends {E = E} files draft numbers faults a b x (Ok u) → Appends files draft numbers faults b c (last_appended v) r

@@ -7,6 +7,5 @@ pub mod MergeEnds
 pub mod Merging
 pub mod NotesEnds
 pub mod OnePassEnds
-pub mod Pushing
 pub mod RekeyEnds
 pub mod SampleLemmas

@@ -1,5 +1,5 @@
 -- How the notes of an archive go behind another.
-use Rattle.std.proofs.Common.{◌≡◌, ◌⊎◌, inl, inr, ℕ, ◌≤◌, ◌==◌, ◌&&◌, ◌||◌, not, nat_le, if◌then◌else◌, Bool, true, false, List, [], ◌∷◌, ◌++◌, length, Option, Some, None, IfSome, IsTrue, IsUtf8, option_map, Result, Ok, Err, refl, sym, ap, ◌∙◌, subst, append-nil, append_assoc, arith}
+use Rattle.std.proofs.Common.{◌≡◌, ◌⊎◌, inl, inr, ℕ, ◌≤◌, ◌==◌, ◌&&◌, ◌||◌, not, nat_le, if◌then◌else◌, Bool, true, false, List, [], ◌∷◌, ◌++◌, length, Option, Some, None, IfSome, IsTrue, IsUtf8, option_map, Result, Ok, Err, refl, sym, ap, ◌∙◌, subst, append_assoc, arith}
 use Rattle.std.specs.List.{AllByRecursion}
 use Rattle.std.specs.Option.{is_some}
 use Rattle.std.specs.Result.{IfErr, MatchResult, OnOk}
@@ -26,21 +26,9 @@ use Rattle.xarch_parts.specs.Inputs.{at_most}
 use Rattle.xarch_parts.specs.Noted.{IsOfNotes, notes_bytes}
 use Rattle.xarch_writes.specs.Appending.{GainsNotes, NotesEnd}
 use Rattle.xarch_meanings.specs.FillsUp.{IsLimited}
-use Rattle.xarch_writes.proofs.Growing.{gained-more}
+use Rattle.xarch_parts.proofs.Pushing.{after-more, appended-more, at-once-after, gained-more}
 
 -- ---- lists of notes with one more
-
-pub after-more : (w : PlainWriter) (done : List (List ℕ)) (note : List ℕ) → after_all w (done ++ note ∷ []) ≡ after (after_all w done) note
-after-more w [] note = refl
-after-more w (x ∷ xs) note = after-more (after w x) xs note
-
-pub appended-more : (w : PlainWriter) (done : List (List ℕ)) (note : List ℕ) → all_appended w (done ++ note ∷ []) ≡ all_appended w done ++ appended (after_all w done) note
-appended-more w [] note = append-nil (appended w note)
-appended-more w (x ∷ xs) note = ap (λ (l : List ℕ). appended w x ++ l) (appended-more (after w x) xs note) ∙ sym (append_assoc (appended w x) (all_appended (after w x) xs) (appended (after_all (after w x) xs) note))
-
-pub at-once-after : (w : PlainWriter) (notes : List (List ℕ)) → (after_all w notes).at_once ≡ w.at_once
-at-once-after w [] = refl
-at-once-after w (x ∷ xs) = at-once-after (after w x) xs
 
 none-empty : (b c : Bool) → not b ≡ true → (b && c) ≡ false
 none-empty true c e = absurd cc

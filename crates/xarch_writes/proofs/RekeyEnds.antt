@@ -2,7 +2,6 @@
 use Rattle.std.proofs.Common.{◌≡◌, inl, inr, ℕ, ◌+◌, ◌≤◌, Bool, true, false, List, [], ◌∷◌, ◌++◌, length, take, Option, Some, None, IfSome, IsSome, Result, Ok, Err, IfErr, refl, sym, ap, ◌∙◌, subst, arith}
 use Rattle.std.specs.FinMap as map
 use Rattle.std.specs.List.{AllByRecursion}
-use Rattle.std.specs.Option.{option_map}
 use Rattle.xa_outside.specs.Folder.{Files, bytes_or_none}
 use Rattle.xa_outside.specs.Numbers.{Numbers}
 use Rattle.key_spec.specs.Data.{PlainRule}
@@ -23,16 +22,17 @@ use Rattle.xarch_words.specs.Commands.{rekey}
 use Rattle.xarch_words.specs.Refusal.{archive, Refusal, key_fault_in, limit, PlainFault, refused, memory}
 use Rattle.xarch_words.specs.View.{fault_view}
 use Rattle.xarch_words.specs.declared.fault.Fault.{Fault}
-use Rattle.xarch_parts.specs.Archives.{ArchiveIs, CoreIs, GoesOn, IsDrafted, IsRefusal, NoRefusal, PartsAre}
+use Rattle.xarch_parts.specs.Archives.{ArchiveIs, CoreIs, GoesOn, IsRefusal, NoRefusal, PartsAre}
 use Rattle.xarch_parts.specs.CoreLaws.{core-sound, of-parts, same-file}
 use Rattle.xarch_parts.specs.Folders.{ReadsOnly}
 use Rattle.xarch_parts.specs.Inputs.{size_in}
+use Rattle.xarch_parts.specs.Noted.{CanFollow}
 use Rattle.xarch_parts.specs.Outcome.{Outcome}
 use Rattle.xarch_meanings.specs.Plausible.{DamagedOrSound, MayBe}
 use Rattle.xarch_meanings.specs.Rekey.{RekeysTo, rekey_rules}
 use Rattle.xarch_writes.specs.Added.{IsDamaged}
 use Rattle.xarch_writes.specs.Appending.{NotesEnd}
-use Rattle.xarch_writes.specs.Rekeyed.{CanFollow, IsFileOfVersions, IsNoArchive, IsOpened, IsSoundOf, IsUnkeyed}
+use Rattle.xarch_writes.specs.Rekeyed.{IsFileOfVersions, IsNoArchive, IsOpened, IsSoundOf, IsUnkeyed}
 
 -- ---- faults
 
@@ -92,11 +92,6 @@ module _ (files : Files) (name : List ℕ) (parts : Parts) (are : PartsAre files
 pub can-follow : (notes : List (List ℕ)) (n : ℕ) (there : Option ℕ) (noted : Bool) → length notes ≡ n → n ≤ 999999 → AllByRecursion IsNote notes → IfSome there (λ k. are_empty notes ≡ false) → (noted ≡ true → IsSome there) → CanFollow noted notes
 can-follow notes n None noted count few each some known = record { few = omega (arith, count, few); each = each; some = λ e. (let wrong = known e in absurd cc) }
 can-follow notes n (Some k) noted count few each some known = record { few = omega (arith, count, few); each = each; some = λ e. some }
-
--- a draft that they were appended to
-pub drafted-more : (d e : Option (List ℕ)) (x y : List ℕ) → IsDrafted d x → e ≡ option_map (λ b. b ++ y) d → IsDrafted e (x ++ y)
-drafted-more None e x y is grown told there = (let wrong : None ≡ Some told = sym grown ∙ there in absurd cc)
-drafted-more (Some b) e x y is grown told there = (let same : Some (b ++ y) ≡ Some told = sym grown ∙ there in let one : b ++ y ≡ told = cc in sym one ∙ ap (λ (l : List ℕ). l ++ y) (is b refl))
 
 -- ---- the whole command
 

@@ -1,6 +1,5 @@
 -- What comes of the versions of an archive under other keys.
-use Rattle.std.specs.Prelude.{◌≡◌, ◌≤◌, ◌⊎◌, ℕ, Bool, true, false, List, length}
-use Rattle.std.specs.List.{AllByRecursion}
+use Rattle.std.specs.Prelude.{◌≡◌, ◌⊎◌, ℕ, List}
 use Rattle.xa_outside.specs.Folder.{Files}
 use Rattle.key_spec.specs.Data.{PlainRule}
 use Rattle.key_rules.specs.Faults.{PlainKeyFault}
@@ -8,7 +7,6 @@ use Rattle.keyed_tree.specs.Data.{PlainKeyed}
 use Rattle.record_format.specs.Files.{FileOf}
 use Rattle.archive_file.specs.Sound.{SoundAs}
 use Rattle.archive_rekey.specs.Rekeyed.{AreRekeyed, IsFirstBad}
-use Rattle.version_notes.specs.Notes.{IsNote, are_empty, most}
 use Rattle.xarch_words.specs.Refusal.{archive, Refusal, damaged, key_fault_in, limit}
 use Rattle.xarch_parts.specs.Archives.{ArchiveIs}
 
@@ -53,9 +51,3 @@ pub record IsSoundOf (vs : List PlainKeyed) (bytes : List ℕ) : Type 0 where
 pub record IsNoArchive (name bytes : List ℕ) (q : Refusal) : Type 0 where
   pub unsound : (rules : List PlainRule) (vs : List PlainKeyed) → ¬ SoundAs rules vs bytes
   pub is : q ≡ damaged name
-
--- Notes that can be appended, at once only where some is not empty.
-pub record CanFollow (noted : Bool) (notes : List (List ℕ)) : Type 0 where
-  pub few : length notes ≤ most
-  pub each : AllByRecursion IsNote notes
-  pub some : noted ≡ true → are_empty notes ≡ false

@@ -1,11 +1,10 @@
 //! The notes behind an archive.
 #![tactic(auto, using(xarch_parts::specs::EndLaws::endings), unfolding(xarch_parts::specs::Ends::IsInside, xarch_parts::specs::Ends::IsOfFolder))]
 
-ghost use Rattle.std.specs.Prelude.{◌≡◌, ◌+◌, ◌-◌, ◌<◌, ◌≤◌, ◌^◌, ◌++◌, true, false, Some, None, option_map, IfSome, IfErr, IfOk, OnOk, IsTrue, length, map, max, string_bytes};
+ghost use Rattle.std.specs.Prelude.{◌≡◌, ◌+◌, ◌-◌, ◌<◌, ◌≤◌, ◌^◌, ◌++◌, true, false, Some, IfSome, IfErr, IfOk, OnOk, IsTrue, length, map, max, string_bytes};
 ghost use Rattle.std.specs.List.{AllByRecursion};
-ghost use Rattle.xa_outside.specs.Causes.{HasCause};
 ghost use Rattle.xa_outside.specs.Folder.{Files};
-ghost use Rattle.version_notes.specs.Notes.{IsNote, are_empty, is_note, most, notes_part};
+ghost use Rattle.version_notes.specs.Notes.{IsNote, are_empty, is_note, most};
 ghost use Rattle.version_notes.specs.Reader.{at_first, file_of};
 ghost use Rattle.version_notes.specs.Reading.{notes_from};
 ghost use Rattle.version_notes.specs.Walk.{lead};
@@ -13,7 +12,7 @@ ghost use Rattle.version_notes.specs.Writer.{Appends, after, appended, last_appe
 ghost use Rattle.xarch_words.specs.Refusal.{folder_fault};
 ghost use Rattle.xarch_words.specs.View.{fault_view};
 ghost use Rattle.xarch_parts.specs.Ends.{fault_of};
-ghost use Rattle.xarch_parts.specs.Folders.{ReadsOnly, WritesOnly};
+ghost use Rattle.xarch_parts.specs.Folders.{ReadsOnly};
 ghost use Rattle.xarch_parts.specs.Noted.{notes_bytes};
 ghost use Rattle.xarch_writes.specs.Appending.{GainsNotes, Grows, NotesEnd};
 ghost use Rattle.xarch_meanings.specs.FillsUp.{IsLimited};
@@ -119,28 +118,4 @@ pub(crate) fn notes_of<F: Folder>(
         },
         Err(_) => Err(Fault::Memory),
     }
-}
-
-/// Appends the notes, each of them at once where some is not empty.
-pub(crate) fn push_notes<F: Folder>(
-    notes: &[String],
-    noted: bool,
-    folder: &mut F,
-) -> Result<(), Failed>
-    requires few { length notes.now ≤ most }
-    requires each { AllByRecursion IsNote (map string_bytes notes.now) }
-    requires some { noted ≡ true → are_empty (map string_bytes notes.now) ≡ false }
-    ensures writes { WritesOnly F.files F.draft F.numbers folder.old folder.new None }
-    ensures files { F.files folder.new ≡ F.files folder.old }
-    ensures gains { OnOk result (F.draft folder.new ≡ option_map
-        (λ d. d ++ notes_part (map string_bytes notes.now)) (F.draft folder.old)) }
-    ensures cause { HasCause (F.faults folder.old) (F.faults folder.new) result }
-{
-    // A law, for the proof of `gains`.
-    writers_append_the_part();
-    let mut writer = NoteWriter::start(noted);
-    for note in notes {
-        writer.push(folder, note)?;
-    }
-    writer.finish(folder)
 }

@@ -1,6 +1,6 @@
 #![tactic(auto, using(xarch_parts::specs::EndLaws::endings))]
 
-ghost use Rattle.std.specs.Prelude.{◌≡◌, ◌+◌, ◌-◌, ◌^◌, ◌<◌, ◌≤◌, ◌++◌, ℕ, List, [], length, map, Some, Ok, Err, IfOk, IfErr, IfSome, IsSome, OnOk, Bool, true, string_bytes};
+ghost use Rattle.std.specs.Prelude.{◌≡◌, ◌+◌, ◌-◌, ◌^◌, ◌<◌, ◌≤◌, ◌++◌, ℕ, List, [], length, map, Some, Ok, Err, IfOk, IfErr, IfSome, IsSome, Bool, true, string_bytes};
 ghost use Rattle.std.specs.FinMap as finite;
 ghost use Rattle.xa_outside.specs.Folder.{Files};
 ghost use Rattle.xa_outside.specs.Taken.{Taken};
@@ -11,22 +11,22 @@ ghost use Rattle.archive_tree.specs.Stands.{ArchiveOf};
 ghost use Rattle.archive_rekey.specs.Rekeyed.{SpellDocuments};
 ghost use Rattle.version_notes.specs.Notes.{notes_part};
 ghost use Rattle.xarch_words.specs.Commands.{rekey};
-ghost use Rattle.xarch_words.specs.Refusal.{Refusal, folder_fault, refused};
+ghost use Rattle.xarch_words.specs.Refusal.{Refusal, refused};
 ghost use Rattle.xarch_words.specs.View.{fault_view};
-ghost use Rattle.xarch_parts.specs.Archives.{CoreIs, IsBlank, PartsAre};
-ghost use Rattle.xarch_parts.specs.Ends.{IsCaused, IsInside, Matches, TellsOnly, fault_of};
-ghost use Rattle.xarch_parts.specs.Folders.{ReadsOnly, WritesOnly};
+ghost use Rattle.xarch_parts.specs.Archives.{CoreIs, PartsAre};
+ghost use Rattle.xarch_parts.specs.Ends.{IsInside, Matches, fault_of};
+ghost use Rattle.xarch_parts.specs.Folders.{ReadsOnly};
 ghost use Rattle.xarch_parts.specs.Inputs.{file_length, read_in, size_in};
-ghost use Rattle.xarch_parts.specs.Noted.{AreWithin, notes_bytes};
+ghost use Rattle.xarch_parts.specs.Noted.{AreWithin, CanFollow, notes_bytes};
 ghost use Rattle.xarch_parts.specs.Outcome.{and_then};
 ghost use Rattle.xarch_parts.specs.Readings.{front_in, rules_of};
 ghost use Rattle.xarch_meanings.specs.Performs.{Performs};
 ghost use Rattle.xarch_meanings.specs.Plausible.{MayBe};
 ghost use Rattle.xarch_meanings.specs.Rekey.{rekey_rules};
 ghost use Rattle.xarch_writes.specs.Added.{IsDamaged};
-ghost use Rattle.xarch_writes.specs.Rekeyed.{CanFollow, IsFileOfVersions, IsNoArchive, IsOpened, IsSoundOf, IsUnkeyed};
+ghost use Rattle.xarch_writes.specs.Rekeyed.{IsFileOfVersions, IsNoArchive, IsOpened, IsSoundOf, IsUnkeyed};
 
-use crate::notes::{notes_of, push_notes};
+use crate::notes::notes_of;
 use crate::spelled_file::file_from;
 use archive_file::{FileFault, decode_file, sound_archives_have_one_reading};
 use archive_rekey::{RekeyFault, rekey};
@@ -39,9 +39,7 @@ use std::alloc::Global;
 use version_notes::Parts;
 use xa_outside::{Folder, ReadFault, read_front as read_bytes};
 use xarch_meanings::limits;
-use xarch_parts::{
-    begin, commit, damaged, draft, length_of, limited_length, read_front, read_spec,
-};
+use xarch_parts::{begin, damaged, length_of, limited_length, read_front, read_spec, store_noted};
 use xarch_words::{Fault, Quantity};
 
 /// Gives the versions of an archive the keys of another specification. Its notes stay.
@@ -58,7 +56,7 @@ pub fn run_rekey<F: Folder>(
 {
     begin(folder)?;
     let file = new_file(alloc, archive, spec, folder)?;
-    store_noted(archive, &file, folder)
+    store_noted(archive, &file.core, &file.notes, file.noted, folder)
 }
 
 // An archive file, and the notes that come behind it: whether some is not empty, and all of them.
@@ -103,25 +101,6 @@ fn new_file<F: Folder>(
         noted: parts.notes.is_some(),
         notes,
     })
-}
-
-// Makes the archive and its notes the file of this name.
-fn store_noted<F: Folder>(name: &str, file: &Noted, folder: &mut F) -> Result<(), Fault>
-    requires blank { IsBlank (F.draft folder.old) }
-    requires follow { CanFollow file.now.noted (map string_bytes file.now.notes.items) }
-    ensures writes { WritesOnly F.files F.draft F.numbers folder.old folder.new (fault_of result) }
-    ensures caused { (out : ℕ)
-        → IsCaused (F.faults folder.old) (F.faults folder.new) out out (fault_of result) }
-    ensures stored { (files : Files) → F.files folder.old ≡ Some files
-        → OnOk result (TellsOnly (F.files folder.new) (finite.insert files name.now
-        (file.now.core.items ++ notes_part (map string_bytes file.now.notes.items)))) }
-    ensures fault { IfErr result (λ f. fault_view f ≡ folder_fault) }
-{
-    draft(folder, &file.core)?;
-    match push_notes(&file.notes, file.noted, folder) {
-        Ok(()) => commit(folder, name),
-        Err(_) => Err(Fault::FolderFault),
-    }
 }
 
 // Where the notes of the archive are, and the new keys.

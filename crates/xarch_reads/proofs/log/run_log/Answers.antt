@@ -9,8 +9,7 @@ use Rattle.xarch_meanings.specs.OnePass.{front_size}
 use Rattle.xarch_meanings.specs.Plausible.{MayBe, history_input}
 use Rattle.xarch_parts.specs.AllowedLaws.{MayEnd-passed, defined_refused, gained-none}
 use Rattle.xarch_parts.specs.FolderLaws.{caused-passed, caused-read, keeps-read, reads-inside, reads-more}
-use Rattle.xarch_reads.proofs.HistoryEnds.{history-given}
-use Rattle.xarch_reads.proofs.LogEnds.{given-there, little-logged, log-caused, log-keeps, log-refused, refused-before, refused-there}
+use Rattle.xarch_reads.proofs.LogEnds.{given-there, little-logged, log-given, log-caused, log-keeps, log-refused, refused-before, refused-there}
 use Rattle.xarch_reads.proofs.log.run_log.Goals as goal
 
 -- no header is read, or the path spells no labels
@@ -72,7 +71,8 @@ returns g c =
       one_pass = tt;
       little = λ files rules vs notes a told is of.
           let input = e.told files told ∙ ap (λ (ls : List Label). Ok ((h.rules, h.versions), map label_view ls)) (sym c.deref.ensures.value) in
-          little-logged rules vs a path labels _ _ _ (history-given c.full_files_have_parts.ensures.parts c.versions_have_one_file.ensures.header files name path (h.rules, h.versions) labels input rules vs notes is)
+          little-logged rules vs a path labels _ _ _
+          (log-given c.full_files_have_parts.ensures.parts c.versions_have_one_file.ensures.header files name path (h.rules, h.versions) labels (given-there files name path (h.rules, h.versions) labels input c.in_ok-end_at_frontier.ensures.told) rules vs notes is)
           (e.few files rules vs notes told is) (c.write_log.ensures.little files rules vs notes a (e.reads.same_files ∙ told) (e.front files told) is of);
       gained = c.write_log.ensures.gained path;
     }

@@ -9,7 +9,7 @@ use Rattle.xarch_parts.specs.AllowedLaws.{MayEnd-folder, MayEnd-passed, MayEnd-s
 use Rattle.xarch_parts.specs.FolderLaws.{caused-begin, caused-begun, caused-passed, caused-then, keeps-begun, keeps-made, keeps-not_begun, reads-inside}
 use Rattle.xarch_meanings.specs.Import.{import_text}
 use Rattle.xarch_texts.specs.Spelled.{IsFileOf}
-use Rattle.xarch_texts.proofs.ImportEnds.{import-refused, import-refused_early, import-stored}
+use Rattle.xarch_texts.proofs.ImportEnds.{can-follow, import-refused, import-refused_early, import-stored}
 use Rattle.xarch_texts.proofs.import.run_import.Goals as goal
 
 pub returns-in_err-begin : goal.returns-in_err-begin
@@ -75,5 +75,5 @@ returns g c t n = record {
 pub store_noted-requires : goal.store_noted-requires
 store_noted-requires g c = record {
   blank = λ b e. c.in_ok-begin.ensures.begins.blank refl b (sym c.in_ok-bytes.ensures.reads.same_draft ∙ e);
-  notes = subst (λ l. AreNotes (std.map string_bytes l)) (sym c.deref-3.ensures.value) c.in_ok-core.ensures.notes;
+  follow = can-follow _ (subst (λ l. AreNotes (std.map string_bytes l)) (sym c.deref-3.ensures.value) c.in_ok-core.ensures.notes);
 }

@@ -4,7 +4,8 @@ use Rattle.xarch_parts.specs.EndLaws.{IsOfFolder-inside}
 use Rattle.xarch_words.specs.Refusal.{folder_fault, memory}
 use Rattle.xarch_parts.specs.AllowedLaws.{IfErr-more}
 use Rattle.xarch_writes.specs.Rekeyed.{IsNoArchive, IsSoundOf}
-use Rattle.xarch_writes.proofs.Growing.{inside-memory, of-folder}
+use Rattle.xarch_parts.proofs.Pushing.{of-folder}
+use Rattle.xarch_writes.proofs.Growing.{inside-memory}
 use Rattle.xarch_writes.proofs.RekeyEnds.{core-bytes}
 use Rattle.xarch_writes.proofs.rekey.read_records.Goals as goal
 

@@ -1,10 +1,11 @@
-use Rattle.std.proofs.Common.{inl, ◌++◌, refl, sym, ◌∙◌}
+use Rattle.std.proofs.Common.{inl, ◌++◌, List, [], ℕ, refl, sym, ◌∙◌, subst}
 use Rattle.std.proofs.Common as std
 use Rattle.std.specs.Prelude.{string_bytes}
 use Rattle.version_notes.specs.Notes.{notes_part}
 use Rattle.std.specs.FinMap as map
 use Rattle.xarch_words.specs.Commands.{rekey}
 use Rattle.xarch_meanings.specs.Plausible.{MayBe}
+use Rattle.xarch_parts.specs.Noted.{CanFollow}
 use Rattle.xarch_parts.specs.FolderLaws.{caused-begin, caused-begun, caused-passed, caused-then, keeps-begun, keeps-made, keeps-not_begun}
 use Rattle.xarch_parts.specs.AllowedLaws.{MayEnd-passed, MayEnd-folder, MayEnd-stored, gained-none}
 use Rattle.xarch_writes.proofs.RekeyEnds.{reads-sized}
@@ -43,7 +44,12 @@ returns g c t n = record {
       let told1 = c.in_ok-begin.ensures.begins.same_files ∙ told in
       let told2 = c.in_ok-file.ensures.reads.same_files ∙ told1 in
       let file = c.in_ok-file.file in
-      MayEnd-stored (MayBe files (rekey name c.args.spec.now)) (map.insert files name (file.core.items ++ notes_part (std.map string_bytes file.notes.items))) c.store_noted.result _ t (c.in_ok-file.ensures.file files told1) (c.store_noted.ensures.stored files told2) c.store_noted.ensures.fault);
+      let core = c.deref.result.now in
+      let notes = std.map string_bytes c.deref-2.result.now in
+      MayEnd-stored (MayBe files (rekey name c.args.spec.now)) (map.insert files name (core ++ notes_part notes)) c.store_noted.result _ t
+      (subst (λ (b : List ℕ). MayBe files (rekey name c.args.spec.now) (std.Ok (record { files = map.insert files name (b ++ notes_part notes); output = [] }))) (sym c.deref.ensures.value)
+      (subst (λ l. MayBe files (rekey name c.args.spec.now) (std.Ok (record { files = map.insert files name (file.core.items ++ notes_part (std.map string_bytes l)); output = [] }))) (sym c.deref-2.ensures.value) (c.in_ok-file.ensures.file files told1)))
+      (c.store_noted.ensures.stored files told2) c.store_noted.ensures.fault);
   long_demo = λ long. absurd long;
   one_pass = tt;
   little = tt;
@@ -51,4 +57,4 @@ returns g c t n = record {
 }
 
 pub store_noted-requires : goal.store_noted-requires
-store_noted-requires g c = record { blank = λ b e. c.in_ok-begin.ensures.begins.blank refl b (sym c.in_ok-file.ensures.reads.same_draft ∙ e); follow = c.in_ok-file.ensures.follow }
+store_noted-requires g c = record { blank = λ b e. c.in_ok-begin.ensures.begins.blank refl b (sym c.in_ok-file.ensures.reads.same_draft ∙ e); follow = subst (λ l. CanFollow c.in_ok-file.file.noted (std.map string_bytes l)) (sym c.deref-2.ensures.value) c.in_ok-file.ensures.follow }

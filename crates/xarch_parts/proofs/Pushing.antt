@@ -1,18 +1,67 @@
--- Notes that are pushed one after another.
-use Rattle.std.proofs.Common.{◌≡◌, ℕ, zero, suc, ◌+◌, ◌≤◌, ◌<◌, Bool, true, false, not, map, take, get_or, String, Global, string_bytes, IsTrue, length-take, List, [], ◌∷◌, ◌++◌, length, Option, None, option_map, Result, Ok, Err, refl, sym, ap, ◌∙◌, subst, arith}
+-- What is appended to a draft, and notes that are pushed one after another.
+use Rattle.std.proofs.Common.{◌≡◌, ℕ, zero, suc, ◌+◌, ◌≤◌, ◌<◌, Bool, true, false, not, map, take, get_or, String, Global, string_bytes, IsTrue, length-take, List, [], ◌∷◌, ◌++◌, length, Option, Some, None, option_map, Result, Ok, Err, refl, sym, ap, ◌∙◌, subst, append-nil, append_assoc, arith}
 use Rattle.std.specs.List.{AllByRecursion}
 use Rattle.std.specs.Result.{IsErrAnd, OnOk}
 use Rattle.std.proofs.Math.Seq.{take-length}
 use Rattle.std.proofs.lemmas.List.{length-map, get_or-map, take_more}
-use Rattle.xa_outside.specs.Causes.{HasCause}
+use Rattle.xa_outside.specs.Causes.{HasCause, Rose}
 use Rattle.xa_outside.specs.Folder.{Files}
 use Rattle.xa_outside.specs.Numbers.{Numbers, IsMeter}
 use Rattle.version_notes.specs.Notes.{IsNote, are_empty, is_note, most, notes_part}
 use Rattle.version_notes.specs.Writer.{Appends, PlainWriter, after, after_all, all_appended, appended, fresh, last_appended}
-use Rattle.xarch_parts.specs.FolderLaws.{writes-none, writes-then}
+use Rattle.xarch_words.specs.Refusal.{PlainFault, folder_fault}
+use Rattle.xarch_parts.specs.Archives.{IsDrafted}
+use Rattle.xarch_parts.specs.EndLaws.{IsOfFolder-inside}
+use Rattle.xarch_parts.specs.Ends.{IsInside, IsOfFolder}
+use Rattle.xarch_parts.specs.FolderLaws.{writes-drafted, writes-none, writes-then}
 use Rattle.xarch_parts.specs.Folders.{WritesOnly}
-use Rattle.xarch_writes.proofs.Growing.{gained-more, gained-none, writes-appends}
-use Rattle.xarch_writes.proofs.NotesEnds.{after-more, appended-more, at-once-after}
+
+-- ---- writers
+
+pub after-more : (w : PlainWriter) (done : List (List ℕ)) (note : List ℕ) → after_all w (done ++ note ∷ []) ≡ after (after_all w done) note
+after-more w [] note = refl
+after-more w (x ∷ xs) note = after-more (after w x) xs note
+
+pub appended-more : (w : PlainWriter) (done : List (List ℕ)) (note : List ℕ) → all_appended w (done ++ note ∷ []) ≡ all_appended w done ++ appended (after_all w done) note
+appended-more w [] note = append-nil (appended w note)
+appended-more w (x ∷ xs) note = ap (λ (l : List ℕ). appended w x ++ l) (appended-more (after w x) xs note) ∙ sym (append_assoc (appended w x) (all_appended (after w x) xs) (appended (after_all (after w x) xs) note))
+
+pub at-once-after : (w : PlainWriter) (notes : List (List ℕ)) → (after_all w notes).at_once ≡ w.at_once
+at-once-after w [] = refl
+at-once-after w (x ∷ xs) = at-once-after (after w x) xs
+
+-- ---- drafts
+
+pub gained-none : (d : Option (List ℕ)) → d ≡ option_map (λ x. x ++ []) d
+gained-none None = refl
+gained-none (Some x) = ap (λ (l : List ℕ). Some l) (sym (append-nil x))
+
+pub gained-more : (a b c : Option (List ℕ)) (x y : List ℕ) → b ≡ option_map (λ d. d ++ x) a → c ≡ option_map (λ d. d ++ y) b → c ≡ option_map (λ d. d ++ (x ++ y)) a
+gained-more a b c x y first second = second ∙ ap (option_map (λ d. d ++ y)) first ∙ twice a
+  where
+    twice : (d : Option (List ℕ)) → option_map (λ (l : List ℕ). l ++ y) (option_map (λ (l : List ℕ). l ++ x) d) ≡ option_map (λ (l : List ℕ). l ++ (x ++ y)) d
+    twice None = refl
+    twice (Some d) = ap (λ (l : List ℕ). Some l) (append_assoc d x y)
+
+-- a draft that bytes were appended to
+pub drafted-more : (d e : Option (List ℕ)) (x y : List ℕ) → IsDrafted d x → e ≡ option_map (λ b. b ++ y) d → IsDrafted e (x ++ y)
+drafted-more None e x y is grown told there = (let wrong : None ≡ Some told = sym grown ∙ there in absurd cc)
+drafted-more (Some b) e x y is grown told there = (let same : Some (b ++ y) ≡ Some told = sym grown ∙ there in let one : b ++ y ≡ told = cc in sym one ∙ ap (λ (l : List ℕ). l ++ y) (is b refl))
+
+-- ---- causes
+
+pub of-folder : (a b : ℕ) (v : PlainFault) → v ≡ folder_fault → Rose a b → IsOfFolder a b (Some v)
+unfolding IsOfFolder
+of-folder a b v is rose = subst (λ (z : PlainFault). IsOfFolder a b (Some z)) (sym is) rose
+
+inside-none : IsInside None
+unfolding IsInside
+inside-none = tt
+
+pub no-fault : (a b : ℕ) → IsOfFolder a b None
+no-fault a b = IsOfFolder-inside a b None inside-none
+
+-- ---- notes that were pushed to a writer
 
 -- These notes were pushed to a writer that was fresh.
 pub record Pushed {S : Type 0} (files : S → Option Files) (draft : S → Option (List ℕ)) (numbers : S → Numbers) (faults : S → ℕ) (old new : S) (noted : Bool) (w : PlainWriter) (done : List (List ℕ)) : Type 0 where
@@ -23,6 +72,11 @@ pub record Pushed {S : Type 0} (files : S → Option Files) (draft : S → Optio
   pub later : faults old ≤ faults new
 
 module _ {S : Type 0} {files : S → Option Files} {draft : S → Option (List ℕ)} {numbers : S → Numbers} {faults : S → ℕ} where
+  -- where the folder is only written to
+  pub writes-appends : {T E : Type 0} (a b : S) (bytes : List ℕ) (r : Result T E) (v : Option PlainFault) → Appends files draft numbers faults a b bytes r → WritesOnly files draft numbers a b v
+  writes-appends a b bytes (Ok u) v p = writes-drafted a b v bytes p.same_files p.gains
+  writes-appends a b bytes (Err e) v p = writes-drafted a b v (take p.gains.count bytes) p.same_files p.gains.drafts
+
   pub pushed-none : (s : S) (noted : Bool) (w : PlainWriter) → w ≡ fresh noted → IsMeter (numbers s) → Pushed files draft numbers faults s s noted w []
   pushed-none s noted w is meter = record { writer = is; writes = writes-none s None meter; same_files = refl; gained = gained-none (draft s); later = omega arith }
 
@@ -60,7 +114,7 @@ module _ {S : Type 0} {files : S → Option Files} {draft : S → Option (List �
 
 -- ---- the note that is pushed
 
-pub name-at : (notes : List (String Global)) (i : ℕ) (t : String Global) (bytes : List ℕ) → i < length notes → t ≡ get_or notes i t → bytes ≡ string_bytes t → bytes ≡ get_or (map string_bytes notes) i []
+name-at : (notes : List (String Global)) (i : ℕ) (t : String Global) (bytes : List ℕ) → i < length notes → t ≡ get_or notes i t → bytes ≡ string_bytes t → bytes ≡ get_or (map string_bytes notes) i []
 name-at notes i t bytes within is e = e ∙ ap string_bytes is ∙ sym (get_or-map string_bytes notes i t [] within)
 
 each-at : (notes : List (List ℕ)) (i : ℕ) → AllByRecursion IsNote notes → i < length notes → IsNote (get_or notes i [])
@@ -78,7 +132,7 @@ module _ (notes : List (String Global)) (i : ℕ) (t : String Global) (bytes : L
   pub one-more : take (i + 1) (map string_bytes notes) ≡ take i (map string_bytes notes) ++ bytes ∷ []
   one-more = take_more (map string_bytes notes) i [] inside ∙ ap (λ (l : List ℕ). take i (map string_bytes notes) ++ l ∷ []) (sym (name-at notes i t bytes within is e))
 
-pub pushed-few : (w : PlainWriter) (noted : Bool) (i : ℕ) (notes : List (String Global)) → ((at_once : Bool) (notes : List (List ℕ)) → (after_all (fresh at_once) notes).pushed ≡ length notes) → w ≡ after_all (fresh noted) (take i (map string_bytes notes)) → i < length notes → length notes ≤ most → w.pushed < most
+pub pushed-few : (w : PlainWriter) (noted : Bool) (i : ℕ) (notes : List (String Global)) → ((at_once : Bool) (notes : List (List ℕ)) → (after_all (fresh at_once) notes).pushed ≡ length notes) → w ≡ after_all (fresh noted) (take i (map string_bytes notes)) → i < length notes → length (map string_bytes notes) ≤ most → w.pushed < most
 pushed-few w noted i notes pushed is within few =
     let is' = ap (λ (x : PlainWriter). x.pushed) is ∙ pushed noted (take i (map string_bytes notes)) in
     let long = length-take i (map string_bytes notes) in

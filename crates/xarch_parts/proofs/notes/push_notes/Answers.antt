@@ -1,8 +1,8 @@
 use Rattle.std.proofs.Common.{List, ℕ, map, rules, sym, ap, ◌∙◌, subst}
 use Rattle.std.specs.Prelude.{string_bytes}
 use Rattle.version_notes.specs.Writer.{after_all, fresh}
-use Rattle.xarch_writes.proofs.Pushing.{Pushed, all-taken, cause-passed, closes, one-more, pushed-all, pushed-cause, pushed-few, pushed-is-note, pushed-next, pushed-none, pushed-writes}
-use Rattle.xarch_writes.proofs.notes.push_notes.Goals as goal
+use Rattle.xarch_parts.proofs.Pushing.{Pushed, all-taken, cause-passed, closes, one-more, pushed-all, pushed-cause, pushed-few, pushed-is-note, pushed-next, pushed-none, pushed-writes}
+use Rattle.xarch_parts.proofs.notes.push_notes.Goals as goal
 
 pub loop-note-init : goal.loop-note-init
 loop-note-init g c = pushed-none c.args.folder.now c.args.noted c.start-writer.result c.start-writer.ensures (g.met.F.Folder.metered c.args.folder.now)

@@ -1,7 +1,7 @@
 use Rattle.std.proofs.Common.{map, take}
 use Rattle.std.specs.Prelude.{string_bytes}
-use Rattle.xarch_writes.proofs.Pushing.{Pushed}
-use Rattle.xarch_writes.proofs.notes.push_notes.Given as goal
+use Rattle.xarch_parts.proofs.Pushing.{Pushed}
+use Rattle.xarch_parts.proofs.notes.push_notes.Given as goal
 
 abbrev pub invariant-loop-note : goal.invariant-loop-note
 invariant-loop-note g l = (

@@ -1,13 +1,12 @@
-use Rattle.std.proofs.Common.{map, ◌∙◌}
+use Rattle.std.proofs.Common.{◌++◌, None, Some, map, refl, ◌∙◌}
 use Rattle.std.specs.Prelude.{string_bytes}
 use Rattle.version_notes.specs.Notes.{notes_part}
 use Rattle.xarch_words.specs.Refusal.{folder_fault}
 use Rattle.xarch_parts.specs.AllowedLaws.{IfErr-passed, commit-tells}
 use Rattle.xarch_parts.specs.EndLaws.{OnOk-passed}
 use Rattle.xarch_parts.specs.FolderLaws.{caused-folder, caused-passed, caused-then, writes-kept, writes-passed, writes-then}
-use Rattle.std.proofs.Common.{◌++◌, None, Some, refl}
-use Rattle.xarch_texts.proofs.ImportEnds.{drafted-more, no-fault, of-folder}
-use Rattle.xarch_texts.proofs.import.store_noted.Goals as goal
+use Rattle.xarch_parts.proofs.Pushing.{drafted-more, no-fault, of-folder}
+use Rattle.xarch_parts.proofs.notes.store_noted.Goals as goal
 
 -- ---- the archive is not drafted
 
