@@ -1,18 +1,18 @@
 ghost use Rattle.archive_tree.specs.WellFormed.{AreNodesWellFormed};
 ghost use Rattle.archive_tree.specs.View.{nodes_view};
 
-use crate::shapes::{
-    COMPANY, COMPANY_OF_90, COMPANY_OF_95, COMPANY_OF_NONE, DATABASE, EMPLOYEE, FINANCE,
-    FIRST_NAME, LAST_NAME, NAME, Named, SALARIES, SALARY_90, Shape, TELEPHONE, Value, archive,
-    archive_of, has_version, label, labels, nodes, tree,
-};
-use crate::told::told;
 use archive_tree::{ANode, Archive, effective};
 use jsonml_tree::{Content, Scalar, Tree};
 use keyed_tree::{KeyVal, Keyed, Label};
 use std::alloc::{AllocError, Global};
 use std::test::Fail;
 use version_set::VersionSet;
+use worked_parts::shapes::{
+    COMPANY, COMPANY_OF_90, COMPANY_OF_95, COMPANY_OF_NONE, DATABASE, EMPLOYEE, FINANCE,
+    FIRST_NAME, LAST_NAME, NAME, Named, SALARIES, SALARY_90, Shape, TELEPHONE, Value, archive,
+    archive_of, has_version, label, labels, nodes, tree,
+};
+use worked_parts::told;
 
 /// The alternatives of the salary exchanged.
 const EXCHANGED: Shape = Shape::Inner(

@@ -1,15 +1,14 @@
 //! Files that are sound archives of so many versions, and others, which are damage.
-use crate::bytes::{
-    ALT, COMPANY, COMPANY_WITHOUT_VERSIONS, END, Edits, FLOORS, HEADER, LEAF, LEAF_END,
-    NO_VERSIONS, Pieces, TAIL, TEXTS, TINY, edited,
-};
 use crate::counts::{failing_folder, folder, longer_file};
 use crate::damaged_files::FILES;
-use crate::damaged_records::TWO_ATTRIBUTES;
-use crate::told::told;
 use archive_check::{CheckFault, check};
 use std::alloc::Global;
 use std::test::Fail;
+use worked_parts::bytes::{
+    ALT, COMPANY, COMPANY_WITHOUT_VERSIONS, END, Edits, FLOORS, HEADER, LEAF, LEAF_END,
+    NO_VERSIONS, Pieces, TAIL, TEXTS, TINY, TWO_ATTRIBUTES, edited,
+};
+use worked_parts::told;
 use xa_outside::{Folder, SureFolder};
 
 /// A file, and the number of its versions.

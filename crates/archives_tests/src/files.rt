@@ -1,11 +1,11 @@
 // Parts of known files.
-use crate::bytes::{COMPANY, TINY};
 use crate::damaged_files::written_again;
 use archive_file::decode_file;
 use archive_tree::{ANode, Alt, Archive};
 use key_spec::Spec;
 use record_format::{RecFault, take_fixed, take_frame, take_header};
 use std::alloc::{AllocError, Global};
+use worked_parts::bytes::{COMPANY, TINY};
 
 /// The kinds and the sizes of the company's records.
 const SIZES: &[(u8, usize)] = &[

@@ -6,11 +6,6 @@ ghost use Rattle.keyed_tree.specs.WellFormed.{IsKeyWellFormed, IsLabelWellFormed
 ghost use Rattle.archive_tree.specs.WellFormed.{are_alts_well_formed, IsNodeWellFormed, AreNodesWellFormed};
 ghost use Rattle.archive_tree.specs.View.{alt_view, node_view, nodes_view};
 
-use crate::shapes::{
-    COMPANY, DATABASE, EMPLOYEE, FINANCE, FIRST_NAME, LAST_NAME, NAME, Named, SALARY_90, Shape,
-    TELEPHONE, Value, archive_of, label, nodes,
-};
-use crate::told::told;
 use archive_file::is_keyed;
 use archive_tree::{ANode, Alt, Archive};
 use jsonml_tree::{Content, Tree};
@@ -18,6 +13,11 @@ use key_spec::Spec;
 use keyed_tree::{Body, Label};
 use std::alloc::{AllocError, Global};
 use std::test::Fail;
+use worked_parts::shapes::{
+    COMPANY, DATABASE, EMPLOYEE, FINANCE, FIRST_NAME, LAST_NAME, NAME, Named, SALARY_90, Shape,
+    TELEPHONE, Value, archive_of, label, nodes,
+};
+use worked_parts::told;
 
 const COMPANY_KEYS: &str = "(/, (db, {}))
 (/db, (dept, {name}))

@@ -1,7 +1,8 @@
 // Files that are no sound archives.
-use crate::archives::{NAME, cut_out, file, folder};
+use crate::archives::cut_out;
 use archive_cut::CutFault;
 use std::test::Fail;
+use worked_documents::{NAME, file, folder};
 
 const TINY: &str = "(/, (db, {}))\n";
 

@@ -1,8 +1,9 @@
 // What is refused where the folder fails.
-use crate::archives::{NAME, cut_out, file, folder};
+use crate::archives::cut_out;
 use archive_cut::CutFault;
 use std::alloc::Global;
 use std::test::Fail;
+use worked_documents::{NAME, file, folder};
 use xa_outside::{FolderCall, FolderFail};
 
 const TINY: &str = "(/, (db, {}))\n";

@@ -1,9 +1,10 @@
 // Versions cut out of files. What is expected was merged in memory of their documents alone, and
 // written at once.
-use crate::archives::{NAME, cut_out, file, folder};
+use crate::archives::cut_out;
 use archive_cut::CutFault;
 use std::alloc::Global;
 use std::test::Fail;
+use worked_documents::{NAME, file, folder};
 use xa_outside::Folder;
 
 const TINY: &str = "(/, (db, {}))\n";

@@ -1,12 +1,12 @@
 use crate::keyed_trees::is_spelled;
 use crate::reading::{COMPANY, keyed_of, parse};
-use crate::told::told;
 use jsonml_tree::LentTree;
 use key_annotate::{LentKeyed, lent_keyed};
 use key_spec::Spec;
 use std::alloc::Global;
 use std::borrow::CowStr;
 use std::test::Fail;
+use worked_parts::told;
 
 const TINY: &[u8] = b"(/, (db, {}))\n";
 

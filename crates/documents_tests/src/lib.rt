@@ -16,6 +16,4 @@ mod specifications;
 #[cfg(test)]
 mod texts;
 #[cfg(test)]
-mod told;
-#[cfg(test)]
 mod trees;

@@ -3,7 +3,6 @@ ghost use Rattle.jsonml_tree.specs.LentView.{lent_tree_view};
 ghost use Rattle.jsonml_tree.specs.View.{tree_view};
 
 use crate::reading::{COMPANY, NESTED, Named, label, labels, lend, parse, read, texts};
-use crate::told::told;
 use jsonml_tree::{LentTree, Tree};
 use key_annotate::{AnnotateFault, keyed};
 use key_rules::{
@@ -15,6 +14,7 @@ use std::alloc::{AllocError, Global};
 use std::borrow::CowStr;
 use std::cmp::Ordering;
 use std::test::Fail;
+use worked_parts::told;
 
 /// The place of a fault, why it is one, and the tag that is the key path, if one is to stand there.
 struct Wanted(&'static [u32], u8, Option<&'static str>);

@@ -1,9 +1,9 @@
 use crate::reading::{is_read, read};
-use crate::told::told;
 use jsonml_tree::Tree;
 use key_spec::Spec;
 use std::alloc::Global;
 use std::test::Fail;
+use worked_parts::told;
 use xarch_gen::{company_spec, sample};
 
 const COMPANY_TEXT: &str = "(/, (db, {}))

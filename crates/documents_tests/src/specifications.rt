@@ -1,8 +1,8 @@
 use crate::reading::{COMPANY, parse, texts};
-use crate::told::told;
 use key_spec::{KeyPath, Spec, SpecFault};
 use std::alloc::{AllocError, Global};
 use std::test::Fail;
+use worked_parts::told;
 
 const COMPANY_TEXT: &[u8] = b"(/, (db, {}))
 (/db, (dept, {name}))

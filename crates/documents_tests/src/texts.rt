@@ -2,7 +2,6 @@ ghost use Rattle.jsonml_tree.specs.Fits.{IsElement};
 ghost use Rattle.jsonml_tree.specs.View.{tree_view};
 
 use crate::reading::{Pieces, joined, lend, read};
-use crate::told::told;
 use jsonml_text::{
     DocFault, Printer, content_of, print_lent_content, read_document, scalar_of, write_tree,
 };
@@ -10,6 +9,7 @@ use jsonml_tree::{Content, LentContent, LentTree, Scalar, Tree};
 use serde_json::Value;
 use std::alloc::{AllocError, Global};
 use std::test::Fail;
+use worked_parts::told;
 use xa_outside::{Failed, MemSink};
 
 /// A text of more than a mebibyte.

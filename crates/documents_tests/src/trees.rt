@@ -1,9 +1,9 @@
 use crate::reading::{lend, read};
-use crate::told::told;
 use jsonml_tree::{Content, LentAttr, LentContent, LentScalar, LentTree, Scalar, Tree};
 use std::alloc::{AllocError, Global};
 use std::cmp::Ordering;
 use std::test::Fail;
+use worked_parts::told;
 
 /// Scalars, each before the next: by kind and then by value.
 fn scalars(alloc: Global) -> Result<[Scalar; 6], AllocError> {

@@ -1,24 +1,8 @@
-// The files of documents, and the folders that they stand in.
-ghost use Rattle.std.specs.Prelude.{IfOk};
-ghost use Rattle.jsonml_tree.specs.Fits.{IsElement, ItemsFit};
-ghost use Rattle.jsonml_tree.specs.View.{tree_view};
-ghost use Rattle.jsonml_tree.specs.WellFormed.{IsWellFormed};
-ghost use Rattle.keyed_tree.specs.View.{keyed_view};
-ghost use Rattle.keyed_tree.specs.WellFormed.{IsKeyedWellFormed};
-
-use archive_file::{encode_file, is_keyed};
-use archive_tree::Archive;
-use jsonml_text::read_document;
-use jsonml_tree::Tree;
-use key_annotate::keyed;
-use key_spec::Spec;
-use keyed_tree::Keyed;
-use nested_merge::{is_alike, merge};
+// The worked documents, and the folders that their files stand in.
 use std::alloc::Global;
 use std::test::Fail;
+use worked_documents::NAME;
 use xa_outside::{FolderCall, FolderFail, MemFolder};
-
-pub(crate) const NAME: &str = "a.xar";
 
 pub(crate) const COMPANY: &str = "(/, (db, {}))
 (/db, (dept, {name}))
@@ -61,62 +45,6 @@ const PAID_90: &str =
 
 const PAID_95: &str =
     r#"["db",["dept",["emp",["fn","John"],["ln","Doe"],["sal","95K"],["tel","123-4567"]],["name","finance"]]]"#;
-
-pub(crate) fn specification(alloc: Global, text: &str) -> Result<Spec, Fail> {
-    let text = text.as_bytes();
-    if text.len() > 1_048_576 {
-        return Err("the specification is too long".into());
-    }
-    Ok(Spec::parse(alloc, text)?)
-}
-
-fn document(alloc: Global, text: &[u8]) -> Result<Tree, Fail>
-    ensures element { IfOk result (λ t. IsElement (tree_view t)) }
-    ensures well_formed { IfOk result (λ t. IsWellFormed (tree_view t)) }
-    ensures items_fit { IfOk result (λ t. ItemsFit (tree_view t)) }
-{
-    if text.len() > 67_108_864 {
-        return Err("the document is too long".into());
-    }
-    Ok(read_document(alloc, text)?)
-}
-
-fn version(alloc: Global, spec: &Spec, text: &str) -> Result<Keyed, Fail>
-    ensures { IfOk result (λ k. IsKeyedWellFormed (keyed_view k)) }
-{
-    let tree = document(alloc, text.as_bytes())?;
-    Ok(keyed(alloc, spec, &tree)?)
-}
-
-// The archive with one more version, which has to meet the conditions.
-fn grown(alloc: Global, old: Archive, new: &Keyed) -> Result<Archive, Fail>
-    requires { IsKeyedWellFormed (keyed_view new.now) }
-{
-    if old.n() == u32::MAX || !new.is_element() || !new.is_ordered() {
-        return Err("this is no version".into());
-    }
-    if !is_alike(&old, new) {
-        return Err("the version is not alike".into());
-    }
-    match merge(alloc, old, new) {
-        Ok(archive) => Ok(archive),
-        Err((error, _)) => Err(error.into()),
-    }
-}
-
-/// The file of these documents under the keys.
-pub(crate) fn file(alloc: Global, keys: &str, documents: &[&str]) -> Result<Vec<u8>, Fail> {
-    let spec = specification(alloc, keys)?;
-    let mut archive = Archive::empty(alloc);
-    for text in documents {
-        let new = version(alloc, &spec, text)?;
-        archive = grown(alloc, archive, &new)?;
-    }
-    if archive.n() > 999_999 || !is_keyed(alloc, &spec, &archive)? {
-        return Err("these are no versions".into());
-    }
-    Ok(encode_file(alloc, &spec, &archive)?)
-}
 
 /// A folder with this file, whose read of this number fails.
 pub(crate) fn folder(alloc: Global, file: &[u8], failing: u64) -> Result<MemFolder, Fail> {

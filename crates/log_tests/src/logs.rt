@@ -2,7 +2,7 @@
 ghost use Rattle.std.specs.Prelude.{◌≡◌, ◌<◌};
 ghost use Rattle.record_cursor.specs.View.{header_view, IsHeader};
 
-use crate::archives::{COMPANY, CUT, FLOORS, ITEMS, NAME, RAISED, RETURNED, SIX, file, folder};
+use crate::archives::{COMPANY, CUT, FLOORS, ITEMS, RAISED, RETURNED, SIX, folder};
 use content_log::{LogFault, log};
 use key_rules::read_path;
 use keyed_tree::Label;
@@ -12,6 +12,8 @@ use std::marker::Brand;
 use std::sync::ledger::{Blank, Ledger};
 use std::test::Fail;
 use timestamp_tree::Steps;
+use worked_documents::{NAME, file};
+use worked_parts::told;
 use xa_outside::{MemFolder, MemSink};
 
 /// Nothing fails so late.
@@ -46,10 +48,6 @@ fn logged(
     let labels = read_path(alloc, &header.spec, path)?;
     let blank = Blank::new(1);
     Ok(counted::<Brand>(blank, alloc, folder, &header, &labels, out))
-}
-
-fn told(holds: bool, name: &'static str) -> Result<(), Fail> {
-    if holds { Ok(()) } else { Err(Fail::new(name)) }
 }
 
 /// Whether the log of the path in the archive of these documents has these lines.
@@ -170,25 +168,53 @@ fn a_file_without_its_tail_is_damaged(rt: HostRuntime) -> Result<(), Fail> {
     )
 }
 
-/// The same bytes, but that the text begins with one that begins no character.
-fn spoiled(alloc: Global, bytes: &[u8], text: &[u8]) -> Result<Vec<u8>, Fail> {
-    let mut spoiled = Vec::from_slice(alloc, bytes)?;
+/// The same bytes, but that the first of these old ones are replaced by the new ones.
+fn replaced(alloc: Global, bytes: &[u8], old: &[u8], new: &[u8]) -> Result<Vec<u8>, Fail> {
     for at in 0..bytes.len() {
-        if bytes[at..].starts_with(text) {
-            spoiled[at] = 255;
-            return Ok(spoiled);
+        if let Some(rest) = bytes[at..].strip_prefix(old) {
+            let mut replaced = Vec::from_slice(alloc, &bytes[..at])?;
+            replaced.extend_from_slice(new)?;
+            replaced.extend_from_slice(rest)?;
+            return Ok(replaced);
         }
     }
-    Err("the text is not there".into())
+    Err("the bytes are not there".into())
+}
+
+/// Whether the log of the salary is damage, once the first of these old bytes are replaced.
+fn is_damaged(alloc: Global, bytes: &[u8], old: &[u8], new: &[u8]) -> Result<bool, Fail> {
+    let changed = replaced(alloc, bytes, old, new)?;
+    is_refused(alloc, &changed, LogFault::Damage, NEVER, NEVER)
 }
 
 #[test]
 fn an_alternative_that_is_no_text_is_damaged(rt: HostRuntime) -> Result<(), Fail> {
     let alloc = rt.alloc();
     let bytes = file(alloc, COMPANY, RAISED)?;
-    let first = spoiled(alloc, &bytes, b"90K")?;
-    let second = spoiled(alloc, &bytes, b"95K")?;
-    let damage = LogFault::Damage;
-    told(is_refused(alloc, &first, damage, NEVER, NEVER)?, "first")?;
-    told(is_refused(alloc, &second, damage, NEVER, NEVER)?, "second")
+    told(is_damaged(alloc, &bytes, b"90K", b"\xff0K")?, "first")?;
+    told(is_damaged(alloc, &bytes, b"95K", b"\xff5K")?, "second")
+}
+
+/// The alternative of versions 1 and 3, and that of version 2: the stored set, and the content.
+const STORED: [&[u8]; 2] = [
+    b"\x01\0\0\0\x02\0\0\0\x01\0\0\0\x01\0\0\0\x03\0\0\0\x03\x01\0\0\0\0\0\0\0\x01\0\0\0\0\x0390K",
+    b"\x01\0\0\0\x01\0\0\0\x02\0\0\0\x02\x01\0\0\0\0\0\0\0\x01\0\0\0\0\x0395K",
+];
+
+/// The same without a set, with texts that are longer by as many bytes.
+const INHERITED: [&[u8]; 2] = [
+    b"\0\x01\0\0\0\0\0\0\0\x01\0\0\0\0\x1790K, and a pound a week",
+    b"\0\x01\0\0\0\0\0\0\0\x01\0\0\0\0\x0f95K, and a cart",
+];
+
+#[test]
+fn an_alternative_inherits_where_it_stands_alone(rt: HostRuntime) -> Result<(), Fail> {
+    let alloc = rt.alloc();
+    let bytes = file(alloc, COMPANY, RAISED)?;
+    for at in 0..2 {
+        let holds = is_damaged(alloc, &bytes, STORED[at], INHERITED[at])?;
+        told(holds, "one of two")?;
+    }
+    let first = replaced(alloc, &bytes, STORED[0], INHERITED[0])?;
+    told(is_damaged(alloc, &first, STORED[1], INHERITED[1])?, "both")
 }

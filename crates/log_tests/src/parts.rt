@@ -1,5 +1,5 @@
 // Which paths end where contents are, and copies of what a record of a leaf shows.
-use crate::archives::{COMPANY, NAME, RAISED, file, folder, specification};
+use crate::archives::{COMPANY, RAISED, folder};
 use content_log::at_frontier;
 use jsonml_tree::Tree;
 use key_rules::read_path;
@@ -7,6 +7,7 @@ use keyed_tree::{KeyVal, Label, Name};
 use record_cursor::{Cursor, Item, read_header};
 use std::alloc::Global;
 use std::test::Fail;
+use worked_documents::{NAME, file, specification};
 
 /// Paths, and whether they end in an attribute or at the frontier.
 const ENDS: &[(&str, bool)] = &[

@@ -1,7 +1,8 @@
-use crate::cases::Output::Is;
-use crate::cases::Step::{HasLength, Put, Run, RunOver};
-use crate::cases::{Case, NOTHING, Outside, Pieces, QUIET, Step, check};
-use crate::documents::{COMPANY, JOHN};
+use outside_cases::{Outside, Pieces, QUIET};
+use program_cases::cases::Output::Is;
+use program_cases::cases::Step::{HasLength, Put, Run, RunOver};
+use program_cases::cases::{Case, NOTHING, Step, check};
+use program_cases::documents::{COMPANY, JOHN};
 use std::test::Fail;
 use xa_outside::{FolderCall, FolderFail};
 
@@ -240,5 +241,5 @@ const CASES: &[Case] = &[
 
 #[test]
 fn batches_are_run_line_by_line(rt: HostRuntime) -> Result<(), Fail> {
-    check(&rt, rt.alloc(), CASES)
+    check(rt.alloc(), CASES)
 }

@@ -1,9 +1,9 @@
 //! Each call of the folder, of the input, of the output and of the errors' sink fails in turn, over the commands and a batch.
 use crate::batches::{HISTORY, HISTORY_OUTPUT, NO_COMMAND};
-use crate::cases::{Ends, Outside, Pieces, archive_of, are_joined, ends_of, is_prefix, texts};
-use crate::documents::{BY_ID, COMPANY, JOHN, JOHN_RAISED, TABLE, TINY};
-use crate::outside::folder;
-use crate::texts::TEXT_OF_THREE;
+use outside_cases::{Ends, Outside, Pieces, are_joined, ends_of, folder, is_prefix, texts};
+use program_cases::cases::archive_of;
+use program_cases::documents::{BY_ID, COMPANY, JOHN, JOHN_RAISED, TABLE, TINY};
+use program_cases::files::TEXT_OF_THREE;
 use std::alloc::{AllocError, Global};
 use std::test::Fail;
 use xa_outside::{Folder, FolderCall, FolderFail, MemFolder, Sink, Source};

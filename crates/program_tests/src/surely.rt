@@ -7,9 +7,8 @@ ghost use Rattle.xarch_words.specs.View.{words_view};
 ghost use Rattle.xarch_parts.specs.Outcome.{Step};
 ghost use Rattle.xarch_meanings.specs.Step.{StepIs};
 
-use crate::cases::texts;
-use crate::documents::{JOHN, TINY};
-use crate::told::told;
+use outside_cases::{texts, told};
+use program_cases::documents::{JOHN, TINY};
 use std::alloc::{AllocError, Global};
 use std::test::Fail;
 use xa_outside::{SureFolder, SureSink, SureSource};

@@ -1,10 +1,11 @@
 // Archives of which a version does not satisfy other keys.
-use crate::archives::{file, specification, under};
+use crate::archives::under;
 use archive_rekey::RekeyFault;
 use key_rules::KeyFault;
 use key_spec::{KeyPath, Spec};
 use std::alloc::Global;
 use std::test::Fail;
+use worked_documents::{file, specification};
 
 const TINY: &str = "(/, (db, {}))\n";
 

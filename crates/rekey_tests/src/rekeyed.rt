@@ -1,5 +1,5 @@
 // Archives whose versions satisfy other keys. What is expected was keyed by these from the first on.
-use crate::archives::{file, file_under};
+use crate::archives::file_under;
 use archive_file::decode_file;
 use archive_stats::{Counts, stats};
 use archive_tree::Archive;
@@ -9,6 +9,7 @@ use keyed_print::put_keyed;
 use keyed_tree::Keyed;
 use std::alloc::Global;
 use std::test::Fail;
+use worked_documents::file;
 use xa_outside::{MemSink, SureFolder};
 
 const TINY: &str = "(/, (db, {}))\n";

@@ -1,6 +1,5 @@
 // The files that are searched.
 use std::alloc::Global;
-use std::test::Fail;
 use xa_outside::{FolderCall, FolderFail, MemFolder};
 
 pub(crate) const NAME: &str = "a.xar";
@@ -70,9 +69,4 @@ pub(crate) fn changed(alloc: Global, file: &[u8], at: usize, bytes: &[u8]) -> Op
     copy.extend_from_slice(bytes).ok()?;
     copy.extend_from_slice(rest).ok()?;
     Some(copy)
-}
-
-/// Fails with the name of what does not hold.
-pub(crate) fn told(holds: bool, name: &'static str) -> Result<(), Fail> {
-    if holds { Ok(()) } else { Err(Fail::new(name)) }
 }

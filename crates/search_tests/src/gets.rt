@@ -1,13 +1,14 @@
 // Versions out of a file.
 ghost use Rattle.std.specs.Prelude.{◌≡◌, ◌<◌};
 
-use crate::files::{NAME, ONE, SIX, changed, folder, told};
+use crate::files::{NAME, ONE, SIX, changed, folder};
 use file_get::{GetFault, get};
 use std::alloc::Global;
 use std::marker::Brand;
 use std::sync::ledger::{Blank, Ledger};
 use std::test::Fail;
 use timestamp_tree::Steps;
+use worked_parts::told;
 use xa_outside::{MemFolder, MemSink};
 
 fn counted<L: Ledger>(

@@ -1,7 +1,7 @@
 // Histories out of a file.
 ghost use Rattle.std.specs.Prelude.{◌≡◌, ◌<◌};
 
-use crate::files::{NAME, ONE, SIX, changed, folder, told};
+use crate::files::{NAME, ONE, SIX, changed, folder};
 use file_history::{HistoryFault, history};
 use jsonml_tree::Scalar;
 use keyed_tree::{KeyVal, Label, Name};
@@ -12,6 +12,7 @@ use std::sync::ledger::{Blank, Ledger};
 use std::test::Fail;
 use timestamp_tree::Steps;
 use version_set::VersionSet;
+use worked_parts::told;
 use xa_outside::MemFolder;
 
 fn counted<L: Ledger>(

@@ -1,11 +1,12 @@
 // Rows and children of a file, each part at its offset.
 ghost use Rattle.std.specs.Prelude.{◌≤◌};
 
-use crate::files::{NAME, ONE, SIX, changed, folder, told};
+use crate::files::{NAME, ONE, SIX, changed, folder};
 use file_rows::{Child, Row, count_children, read_child, root_row, row_of};
 use record_cursor::CursorFault;
 use std::alloc::Global;
 use std::test::Fail;
+use worked_parts::told;
 use xa_outside::MemFolder;
 
 /// The row of the virtual root in a file, behind a header of so many bytes.

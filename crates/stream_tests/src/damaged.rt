@@ -1,8 +1,9 @@
 // Files that are no sound archives.
-use crate::archives::{NAME, add, folder};
+use crate::archives::add;
 use std::alloc::Global;
 use std::test::Fail;
 use stream_merge::AddFault;
+use worked_documents::{NAME, folder};
 
 /// Two versions of an element `db`: in its child `a`, which the second alone has, the text `x`, and
 /// in its child `b` first the text `y` and then `z`.

@@ -1,7 +1,8 @@
 // Files that gain a version. What is expected was merged in memory and written at once.
-use crate::archives::{NAME, add, append, file, folder};
+use crate::archives::{add, append};
 use std::alloc::Global;
 use std::test::Fail;
+use worked_documents::{NAME, file, folder};
 use xa_outside::Folder;
 
 const TINY: &str = "(/, (db, {}))\n";

@@ -1,8 +1,9 @@
 // What is refused over sound archives, and where the folder fails.
-use crate::archives::{NAME, add, file, folder};
+use crate::archives::add;
 use std::alloc::Global;
 use std::test::Fail;
 use stream_merge::AddFault;
+use worked_documents::{NAME, file, folder};
 use xa_outside::{FolderCall, FolderFail};
 
 const TINY: &str = "(/, (db, {}))\n";

@@ -5,13 +5,13 @@ ghost use Rattle.key_spec.specs.View.{names_view};
 ghost use Rattle.csv_tables.specs.Keys.{AreKeys};
 
 use crate::reading::{names, read};
-use crate::told::told;
 use csv_tables::{are_keys, keys_text, table_spec, table_tree};
 use jsonml_tree::Tree;
 use key_rules::first_fault;
 use key_spec::{Spec, is_name};
 use std::alloc::{AllocError, Global};
 use std::test::Fail;
+use worked_parts::told;
 
 /// Key columns, and the canonical text of their specification under the tag `t`; none where they may be no key columns.
 const SPECS: &[(&str, &[&str], Option<&str>)] = &[

@@ -7,5 +7,3 @@ mod keys;
 mod reading;
 #[cfg(test)]
 mod tables;
-#[cfg(test)]
-mod told;

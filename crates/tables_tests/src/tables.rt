@@ -3,12 +3,12 @@ ghost use Rattle.jsonml_tree.specs.Fits.{IsElement};
 ghost use Rattle.jsonml_tree.specs.View.{tree_view};
 
 use crate::reading::{names, read};
-use crate::told::told;
 use csv_tables::{TableFault, has_columns, table_tree, text_length};
 use jsonml_text::write_tree;
 use jsonml_tree::Tree;
 use std::alloc::Global;
 use std::test::Fail;
+use worked_parts::told;
 use xa_outside::MemSink;
 
 /// A text that is no table, and the number of its bad record and why.

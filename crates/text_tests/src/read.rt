@@ -1,11 +1,11 @@
 //! What is read from texts.
-use crate::archives::{archive, specification};
 use crate::written::{WRITTEN, Written};
 use archive_text::{Kept, ReadFault, read_text};
 use archive_tree::Archive;
 use key_spec::Spec;
 use std::alloc::{AllocError, Global};
 use std::test::Fail;
+use worked_documents::{archive, specification};
 
 fn kept(alloc: Global, text: &str) -> Result<Option<Kept>, Fail> {
     let text = text.as_bytes();

@@ -1,8 +1,8 @@
 //! What is written for archives.
-use crate::archives::{archive, specification};
 use archive_text::{TextFault, write_text};
 use std::alloc::{AllocError, Global};
 use std::test::Fail;
+use worked_documents::{archive, specification};
 use xa_outside::MemSink;
 
 const TINY: &str = "(/, (db, {}))\n";
