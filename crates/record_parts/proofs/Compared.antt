@@ -3,12 +3,12 @@ use Rattle.std.proofs.Common.{◌≡◌, ◌≢◌, ℕ, zero, suc, List, ◌∷
 use Rattle.std.specs.Int.{w32}
 use Rattle.std.specs.Ordering.{ordering_then}
 use Rattle.std.specs.declared.cmp.Ordering.{Ordering}
-use Rattle.std.specs.declared.cmp.Ordering.TheVariants.{Equal, Greater}
+use Rattle.std.specs.declared.cmp.Ordering.TheVariants.{Less, Equal, Greater}
 use Rattle.std.specs.Cmp.Lexicographic.{slice_cmp}
 use Rattle.jsonml_tree.specs.Data.{PlainScalar, PlainAttr, PlainTree, text, element, PlainContent, content, trees_of}
-use Rattle.jsonml_tree.specs.Order.{text_cmp, attr_cmp, tree_cmp, content_cmp}
+use Rattle.jsonml_tree.specs.Order.{text_cmp, scalar_cmp, attr_cmp, tree_cmp, content_cmp}
 use Rattle.jsonml_tree.proofs.Trees.{trees_cmp-trees_of}
-use Rattle.keyed_tree.specs.Data.{PlainKey, scalar, inside, PlainLabel}
+use Rattle.keyed_tree.specs.Data.{scalar, inside, PlainLabel}
 use Rattle.keyed_tree.specs.Order.{name_cmp, key_cmp, label_cmp}
 use Rattle.xa_fields.specs.Reading.{Reader, ◌>>=◌, byte_at, number_at, text_at, many_at, list_at, chain_at, chained_at}
 use Rattle.xa_fields.proofs.Fields.{bind_some, some_is}
@@ -81,6 +81,31 @@ second_decides whole first second make order oa ob bytes o n None s h eq k = λ 
     let p = s.parts x e in
     let w = h p.a p.a_is in
     k p.b (ap second (w.1 eq) ∙ p.b_is)
+
+-- ---- one part
+
+-- what is read is made of one value that is read, which decides
+pub record Wrapped {A C : Type 0} (inner : Option (A × List ℕ)) (order : C → Ordering) (oa : A → Ordering) (x : C × List ℕ) : Type 0 where
+  pub a : A × List ℕ
+  pub a_is : inner ≡ Some a
+  pub rest : a.1 ≡ x.1
+  pub same : oa a.0 ≡ order x.0
+
+pub wrapped : {A C : Type 0} (whole : Option (C × List ℕ)) (inner : Option (A × List ℕ)) (order : C → Ordering) (oa : A → Ordering) (bytes : List ℕ) (q : Option (Ordering × ℕ)) → ((x : C × List ℕ) → whole ≡ Some x → Wrapped inner order oa x) → Compares oa inner bytes q → Compares order whole bytes q
+wrapped whole inner order oa bytes (Some q) s h = λ x e. (let p = s x e in let w = h p.a p.a_is in (w.0 ∙ p.same, λ t. w.1 t ∙ p.rest))
+wrapped whole inner order oa bytes None s h = λ x e. (let p = s x e in h p.a p.a_is)
+
+pub held : {A C : Type 0} (r : Option (A × List ℕ)) (make : A → C) (order : C → Ordering) (oa : A → Ordering) (x : C × List ℕ) → ((a : A) → oa a ≡ order (make a)) → (r >>= λ s. Some (make s.0, s.1)) ≡ Some x → Wrapped r order oa x
+held {A} {C} r make order oa x same e =
+    let b = bind_some r (λ s. Some (make s.0, s.1)) x e in
+    let is : (make b.0.0, b.0.1) ≡ x = some_is (make b.0.0, b.0.1) x b.2 in
+    record { a = b.0; a_is = b.1; rest = ap (λ (y : C × List ℕ). y.1) is; same = same b.0.0 ∙ ap (λ (y : C × List ℕ). order y.0) is }
+
+-- whatever value is read, the order is one that is not equal
+pub always : {A C : Type 0} (r : Option (A × List ℕ)) (make : A → C) (order : C → Ordering) (o : Ordering) (bytes : List ℕ) (n : ℕ) → ((a : A) → order (make a) ≡ o) → (o ≡ Equal → ⊥) → Compares order (r >>= λ s. Some (make s.0, s.1)) bytes (Some (o, n))
+always {A} {C} r make order o bytes n is ne = λ x e.
+    let b = bind_some r (λ s. Some (make s.0, s.1)) x e in
+    (sym (is b.0.0) ∙ ap (λ (y : C × List ℕ). order y.0) (some_is (make b.0.0, b.0.1) x b.2), λ t. absurd (ne t))
 
 -- ---- counted lists
 
@@ -158,16 +183,15 @@ element_above inner bytes file s n = λ x e.
     let b = bind_some (inner a.0.1) (λ c. Some (element a.0.0 c.0, c.1)) x a.2 in
     (ap (λ (y : PlainTree × List ℕ). tree_cmp y.0 (text s)) (some_is (element a.0.0 b.0.0, b.0.1) x b.2), λ t. absurd cc)
 
-text_is : (inner : Reader PlainContent) (bytes rest t : List ℕ) → Some (t, rest) ≡ text_at bytes → Some (text t, rest) ≡ item_of inner 0 bytes
+-- a text against a text
+pub text_compare : (inner : Reader PlainContent) (bytes file u : List ℕ) (q : Option (Ordering × ℕ)) → Compares (λ s. text_cmp s u) (text_at bytes) file q → Compares (λ t. tree_cmp t (text u)) (item_of inner 0 bytes) file q
 unfolding item_of
-text_is inner bytes rest t e = (let f = sym e in rw f refl)
+text_compare inner bytes file u q h = wrapped (item_of inner 0 bytes) (text_at bytes) (λ t. tree_cmp t (text u)) (λ s. text_cmp s u) file q (λ x e. held (text_at bytes) text (λ t. tree_cmp t (text u)) (λ s. text_cmp s u) x (λ s. refl) e) h
 
-pub text_compare : (inner : Reader PlainContent) (bytes file t : List ℕ) (n : ℕ) (u : PlainTree) (o : Ordering) → Some (t, drop n file) ≡ text_at bytes → o ≡ tree_cmp (text t) u → Compares (λ x. tree_cmp x u) (item_of inner 0 bytes) file (Some (o, n))
-text_compare inner bytes file t n u o e is = exactly (λ x. tree_cmp x u) (item_of inner 0 bytes) file (text t) n o (text_is inner bytes (drop n file) t e) is
-
-pub text_none : (inner : Reader PlainContent) (bytes : List ℕ) → None ≡ text_at bytes → item_of inner 0 bytes ≡ None
+-- a text is below an element
+pub text_below : (inner : Reader PlainContent) (bytes file u : List ℕ) (d : PlainContent) (n : ℕ) → Compares (λ t. tree_cmp t (element u d)) (item_of inner 0 bytes) file (Some (Less, n))
 unfolding item_of
-text_none inner bytes e = (let f = sym e in rw f refl)
+text_below inner bytes file u d n = always (text_at bytes) text (λ t. tree_cmp t (element u d)) Less file n (λ s. refl) (λ t. absurd cc)
 
 pub item_is : (depth kind : ℕ) (bytes after : List ℕ) → Some (kind, after) ≡ byte_at bytes → item_at depth bytes ≡ item_of (content_below depth) kind after
 item_is depth kind bytes after e = (let f = sym e in rw f refl)
@@ -195,32 +219,22 @@ no_kind zero bytes f g = absurd (f refl)
 no_kind (suc zero) bytes f g = absurd (g refl)
 no_kind (suc (suc k)) bytes f g = refl
 
-scalar_is : (bytes rest : List ℕ) (s : PlainScalar) → Some (s, rest) ≡ scalar_at bytes → Some (scalar s, rest) ≡ value_of 0 bytes
+-- a scalar against a scalar
+pub scalar_compare : (bytes file : List ℕ) (u : PlainScalar) (q : Option (Ordering × ℕ)) → Compares (λ s. scalar_cmp s u) (scalar_at bytes) file q → Compares (λ k. key_cmp k (scalar u)) (value_of 0 bytes) file q
 unfolding value_of
-scalar_is bytes rest s e = (let f = sym e in rw f refl)
+scalar_compare bytes file u q h = wrapped (value_of 0 bytes) (scalar_at bytes) (λ k. key_cmp k (scalar u)) (λ s. scalar_cmp s u) file q (λ x e. held (scalar_at bytes) scalar (λ k. key_cmp k (scalar u)) (λ s. scalar_cmp s u) x (λ s. refl) e) h
 
-pub scalar_compare : (bytes file : List ℕ) (s : PlainScalar) (n : ℕ) (k : PlainKey) (o : Ordering) → Some (s, drop n file) ≡ scalar_at bytes → o ≡ key_cmp (scalar s) k → Compares (λ x. key_cmp x k) (value_of 0 bytes) file (Some (o, n))
-scalar_compare bytes file s n k o e is = exactly (λ x. key_cmp x k) (value_of 0 bytes) file (scalar s) n o (scalar_is bytes (drop n file) s e) is
-
-pub scalar_none : (bytes : List ℕ) → None ≡ scalar_at bytes → value_of 0 bytes ≡ None
+-- a scalar is below a content
+pub scalar_below : (bytes file : List ℕ) (d : PlainContent) (n : ℕ) → Compares (λ k. key_cmp k (inside d)) (value_of 0 bytes) file (Some (Less, n))
 unfolding value_of
-scalar_none bytes e = (let f = sym e in rw f refl)
+scalar_below bytes file d n = always (scalar_at bytes) scalar (λ k. key_cmp k (inside d)) Less file n (λ s. refl) (λ t. absurd cc)
 
 -- a content is above a scalar
 pub content_above : (bytes file : List ℕ) (s : PlainScalar) (n : ℕ) → Compares (λ k. key_cmp k (scalar s)) (value_of 1 bytes) file (Some (Greater, n))
 unfolding value_of
-content_above bytes file s n = λ x e.
-    let a = bind_some (content_at deepest bytes) (λ c. Some (inside c.0, c.1)) x e in
-    (ap (λ (y : PlainKey × List ℕ). key_cmp y.0 (scalar s)) (some_is (inside a.0.0, a.0.1) x a.2), λ t. absurd cc)
+content_above bytes file s n = always (content_at deepest bytes) inside (λ k. key_cmp k (scalar s)) Greater file n (λ c. refl) (λ t. absurd cc)
 
 -- a content against a content
 pub content_compare : (bytes file : List ℕ) (d : PlainContent) (q : Option (Ordering × ℕ)) → Compares (λ c. content_cmp c d) (content_at deepest bytes) file q → Compares (λ k. key_cmp k (inside d)) (value_of 1 bytes) file q
 unfolding value_of
-content_compare bytes file d (Some q) h = λ x e.
-    let a = bind_some (content_at deepest bytes) (λ c. Some (inside c.0, c.1)) x e in
-    let w = h a.0 a.1 in
-    let same = some_is (inside a.0.0, a.0.1) x a.2 in
-    (w.0 ∙ ap (λ (y : PlainKey × List ℕ). key_cmp y.0 (inside d)) same, λ t. w.1 t ∙ ap (λ (y : PlainKey × List ℕ). y.1) same)
-content_compare bytes file d None h = λ x e.
-    let a = bind_some (content_at deepest bytes) (λ c. Some (inside c.0, c.1)) x e in
-    h a.0 a.1
+content_compare bytes file d q h = wrapped (value_of 1 bytes) (content_at deepest bytes) (λ k. key_cmp k (inside d)) (λ c. content_cmp c d) file q (λ x e. held (content_at deepest bytes) inside (λ k. key_cmp k (inside d)) (λ c. content_cmp c d) x (λ c. refl) e) h

@@ -16,7 +16,7 @@ use Rattle.xa_fields.specs.Reading.{Reader, byte_at, number_at, text_at, many_at
 use Rattle.record_parts.specs.Compares.{Compares}
 use Rattle.record_parts.specs.Reading.{attrs_at, content_by, content_at, item_at, item_of, content_below}
 use Rattle.record_parts.proofs.Leads.{not_equal, is_equal}
-use Rattle.record_parts.proofs.Compared.{exactly, nothing, same_read, Splits, first_fails, first_decides, second_decides, list_is, list_none, content_splits, element_splits, element_above, text_compare, text_none, item_is, item_none, no_item}
+use Rattle.record_parts.proofs.Compared.{nothing, same_read, Splits, first_fails, first_decides, second_decides, list_is, list_none, content_splits, element_splits, element_above, text_compare, text_below, item_is, item_none, no_item}
 use Rattle.record_parts.proofs.Deep.{none_below, one_below}
 
 -- ---- contents
@@ -77,14 +77,13 @@ of_kind depth kind bytes after file t q e h = same_read (by_item t) (item_at dep
 pub of_no_kind : (depth kind : ℕ) (bytes file : List ℕ) (t : Tree) → kind ≢ 0 → kind ≢ 1 → Compares (by_item t) (item_of (content_below depth) kind bytes) file None
 of_no_kind depth kind bytes file t f g = nothing (by_item t) (item_of (content_below depth) kind bytes) file None (no_item (content_below depth) kind bytes f g)
 
-pub text_fails : (inner : Reader PlainContent) (bytes file : List ℕ) (t : Tree) → None ≡ text_at bytes → Compares (by_item t) (item_of inner 0 bytes) file None
-text_fails inner bytes file t e = nothing (by_item t) (item_of inner 0 bytes) file None (text_none inner bytes e)
+pub text_text : (inner : Reader PlainContent) (bytes file : List ℕ) (t : Tree) (u : String Global) (q : Option (Ordering × ℕ)) → t ≡ Text u → Compares (λ s. text_cmp s (string_bytes u)) (text_at bytes) file q → Compares (by_item t) (item_of inner 0 bytes) file q
+text_text inner bytes file t u q is h =
+    subst (λ (x : PlainTree). Compares (λ y. tree_cmp y x) (item_of inner 0 bytes) file q) (sym (ap tree_view is ∙ tree_view-Text u)) (text_compare inner bytes file (string_bytes u) q h)
 
-pub text_text : (inner : Reader PlainContent) (bytes file s : List ℕ) (n : ℕ) (t : Tree) (u : String Global) (o : Ordering) → t ≡ Text u → Some (s, drop n file) ≡ text_at bytes → o ≡ text_cmp s (string_bytes u) → Compares (by_item t) (item_of inner 0 bytes) file (Some (o, n))
-text_text inner bytes file s n t u o is e f = text_compare inner bytes file s n (tree_view t) o e (f ∙ ap (λ (x : PlainTree). tree_cmp (text s) x) (sym (ap tree_view is ∙ tree_view-Text u)))
-
-pub text_element : (inner : Reader PlainContent) (bytes file s : List ℕ) (n : ℕ) (t : Tree) (u : String Global) (d : Content) → t ≡ Elem u d → Some (s, drop n file) ≡ text_at bytes → Compares (by_item t) (item_of inner 0 bytes) file (Some (Less, n))
-text_element inner bytes file s n t u d is e = text_compare inner bytes file s n (tree_view t) Less e (ap (λ (x : PlainTree). tree_cmp (text s) x) (sym (ap tree_view is ∙ tree_view-Elem u d)))
+pub text_element : (inner : Reader PlainContent) (bytes file : List ℕ) (n : ℕ) (t : Tree) (u : String Global) (d : Content) → t ≡ Elem u d → Compares (by_item t) (item_of inner 0 bytes) file (Some (Less, n))
+text_element inner bytes file n t u d is =
+    subst (λ (x : PlainTree). Compares (λ y. tree_cmp y x) (item_of inner 0 bytes) file (Some (Less, n))) (sym (ap tree_view is ∙ tree_view-Elem u d)) (text_below inner bytes file (string_bytes u) (content_view d) n)
 
 element_parts : (depth : ℕ) (bytes : List ℕ) (t : Tree) (u : String Global) (d : Content) → t ≡ Elem u d
     → Splits (item_of (content_below depth) 1 bytes) (text_at bytes) (content_below depth) element (by_item t) (λ s. text_cmp s (string_bytes u)) (by_content d)
@@ -92,25 +91,20 @@ element_parts depth bytes t u d is =
     subst (λ (x : PlainTree). Splits (item_of (content_below depth) 1 bytes) (text_at bytes) (content_below depth) element (λ y. tree_cmp y x) (λ s. text_cmp s (string_bytes u)) (by_content d))
     (sym (ap tree_view is ∙ tree_view-Elem u d)) (element_splits (content_below depth) bytes (string_bytes u) (content_view d))
 
-no_text : (depth : ℕ) (bytes : List ℕ) → None ≡ text_at bytes → item_of (content_below depth) 1 bytes ≡ None
-unfolding item_of
-no_text depth bytes e = (let f = sym e in rw f refl)
-
-pub element_fails : (depth : ℕ) (bytes file : List ℕ) (t : Tree) → None ≡ text_at bytes → Compares (by_item t) (item_of (content_below depth) 1 bytes) file None
-element_fails depth bytes file t e = nothing (by_item t) (item_of (content_below depth) 1 bytes) file None (no_text depth bytes e)
+pub element_fails : (depth : ℕ) (bytes file : List ℕ) (t : Tree) (u : String Global) (d : Content) → t ≡ Elem u d → Compares (λ s. text_cmp s (string_bytes u)) (text_at bytes) file None → Compares (by_item t) (item_of (content_below depth) 1 bytes) file None
+element_fails depth bytes file t u d is h =
+    first_fails (item_of (content_below depth) 1 bytes) (text_at bytes) (content_below depth) element (by_item t) (λ s. text_cmp s (string_bytes u)) (by_content d) file (element_parts depth bytes t u d is) h
 
 pub element_text : (depth : ℕ) (bytes file : List ℕ) (n : ℕ) (t : Tree) (u : String Global) → t ≡ Text u → Compares (by_item t) (item_of (content_below depth) 1 bytes) file (Some (Greater, n))
 element_text depth bytes file n t u is =
     subst (λ (x : PlainTree). Compares (λ y. tree_cmp y x) (item_of (content_below depth) 1 bytes) file (Some (Greater, n))) (sym (ap tree_view is ∙ tree_view-Text u)) (element_above (content_below depth) bytes file (string_bytes u) n)
 
-pub element_decides : (depth : ℕ) (bytes file s : List ℕ) (n : ℕ) (t : Tree) (u : String Global) (d : Content) (o : Ordering) → t ≡ Elem u d → Some (s, drop n file) ≡ text_at bytes → o ≡ text_cmp s (string_bytes u) → is_ne o ≡ true
+pub element_decides : (depth : ℕ) (bytes file : List ℕ) (n : ℕ) (t : Tree) (u : String Global) (d : Content) (o : Ordering) → t ≡ Elem u d → is_ne o ≡ true → Compares (λ s. text_cmp s (string_bytes u)) (text_at bytes) file (Some (o, n))
     → Compares (by_item t) (item_of (content_below depth) 1 bytes) file (Some (o, n))
-element_decides depth bytes file s n t u d o is e f ne =
-    first_decides (item_of (content_below depth) 1 bytes) (text_at bytes) (content_below depth) element (by_item t) (λ s. text_cmp s (string_bytes u)) (by_content d) file o n n (element_parts depth bytes t u d is)
-    (exactly (λ s. text_cmp s (string_bytes u)) (text_at bytes) file s n o e f) (not_equal o ne)
+element_decides depth bytes file n t u d o is ne h =
+    first_decides (item_of (content_below depth) 1 bytes) (text_at bytes) (content_below depth) element (by_item t) (λ s. text_cmp s (string_bytes u)) (by_content d) file o n n (element_parts depth bytes t u d is) h (not_equal o ne)
 
-pub element_goes : (depth : ℕ) (bytes file s : List ℕ) (n : ℕ) (t : Tree) (u : String Global) (d : Content) (o : Ordering) (q : Option (Ordering × ℕ)) → t ≡ Elem u d → Some (s, drop n file) ≡ text_at bytes → o ≡ text_cmp s (string_bytes u) → is_ne o ≡ false
+pub element_goes : (depth : ℕ) (bytes file : List ℕ) (n : ℕ) (t : Tree) (u : String Global) (d : Content) (o : Ordering) (q : Option (Ordering × ℕ)) → t ≡ Elem u d → is_ne o ≡ false → Compares (λ s. text_cmp s (string_bytes u)) (text_at bytes) file (Some (o, n))
     → Compares (by_content d) (content_below depth (drop n file)) file q → Compares (by_item t) (item_of (content_below depth) 1 bytes) file q
-element_goes depth bytes file s n t u d o q is e f eq h =
-    second_decides (item_of (content_below depth) 1 bytes) (text_at bytes) (content_below depth) element (by_item t) (λ s. text_cmp s (string_bytes u)) (by_content d) file o n q (element_parts depth bytes t u d is)
-    (exactly (λ s. text_cmp s (string_bytes u)) (text_at bytes) file s n o e f) (is_equal o eq) h
+element_goes depth bytes file n t u d o q is eq h k =
+    second_decides (item_of (content_below depth) 1 bytes) (text_at bytes) (content_below depth) element (by_item t) (λ s. text_cmp s (string_bytes u)) (by_content d) file o n q (element_parts depth bytes t u d is) h (is_equal o eq) k

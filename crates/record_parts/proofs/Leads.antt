@@ -7,7 +7,7 @@ use Rattle.std.specs.Cmp.Lexicographic.{slice_cmp}
 use Rattle.std.proofs.lemmas.Bool.{eqb-true}
 use Rattle.xa_fields.proofs.Fields.{bind_some, some_is}
 use Rattle.xa_fields.specs.Reading.{Reader, ◌>>=◌, many_at}
-use Rattle.record_parts.specs.Compares.{Compares, ordered}
+use Rattle.record_parts.specs.Compares.{Compares}
 
 -- where the whole is read, so is what is left, and it decides
 pub record Rest {A : Type 0} (cmp : A → A → Ordering) (x : List A × List ℕ) (all left : List A) (read : Option (List A × List ℕ)) : Type 0 where
@@ -43,46 +43,16 @@ first {A} cmp one count i bytes x all left lt r =
     let y_is : r.y ≡ made = sym (some_is made r.y d.2) in
     record { a = b.0; z = d.0; one_is = b.1; others = d.1; same = r.same ∙ ap (λ (y : List A × List ℕ). slice_cmp cmp y.0 left) y_is; behind = r.behind ∙ ap (λ (y : List A × List ℕ). y.1) y_is }
 
--- what the comparison of the first one says
-answered : {A : Type 0} (f : A → Ordering) (r : Option (A × List ℕ)) (a : A × List ℕ) (o : Ordering) (after : List ℕ) → r ≡ Some a → Some (o, after) ≡ ordered f r → (o ≡ f a.0) × (after ≡ a.1)
-answered {A} f r a o after e h =
-    let both : (o, after) ≡ (f a.0, a.1) = some_is (o, after) (f a.0, a.1) (subst (λ (x : Option (A × List ℕ)). Some (o, after) ≡ ordered f x) e h) in
-    (ap (λ (p : Ordering × List ℕ). p.0) both, ap (λ (p : Ordering × List ℕ). p.1) both)
-
-unanswered : {A : Type 0} (f : A → Ordering) (r : Option (A × List ℕ)) (a : A × List ℕ) → r ≡ Some a → None ≡ ordered f r → ⊥
-unanswered {A} f r a e h = let n : None ≡ ordered f (Some a) = subst (λ (x : Option (A × List ℕ)). None ≡ ordered f x) e h in absurd cc
-
-pub goes_on : {A : Type 0} (cmp : A → A → Ordering) (one : Reader A) (count i : ℕ) (bytes after : List ℕ) (total : Option (List A × List ℕ)) (all left : List A) (b : A) (o : Ordering) → i < count → o ≡ Equal
-    → Some (o, after) ≡ ordered (λ a. cmp a b) (one bytes) → Leads cmp total all (many_at one (count - i) bytes) (b ∷ left) → Leads cmp total all (many_at one (count - (i + 1)) after) left
-goes_on {A} cmp one count i bytes after total all left b o lt eq h leads = λ x e.
-    let f = first cmp one count i bytes x all (b ∷ left) lt (leads x e) in
-    let w = answered (λ a. cmp a b) (one bytes) f.a o after f.one_is h in
-    let tie : cmp f.a.0 b ≡ Equal = sym w.0 ∙ eq in
-    record { y = f.z; read_is = ap (many_at one (count - (i + 1))) w.1 ∙ f.others; same = f.same ∙ ap (λ (p : Ordering). ordering_then p (slice_cmp cmp f.z.0 left)) tie; behind = f.behind }
-
 pub decides : (o p : Ordering) → (o ≡ Equal → ⊥) → ordering_then o p ≡ o
 decides Less p h = refl
 decides Equal p h = absurd (h refl)
 decides Greater p h = refl
-
-pub decided : {A : Type 0} (cmp : A → A → Ordering) (one : Reader A) (count i n : ℕ) (bytes file after : List ℕ) (total : Option (List A × List ℕ)) (all left : List A) (b : A) (o : Ordering) → i < count → (o ≡ Equal → ⊥)
-    → Some (o, after) ≡ ordered (λ a. cmp a b) (one bytes) → Leads cmp total all (many_at one (count - i) bytes) (b ∷ left) → Compares (λ xs. slice_cmp cmp xs all) total file (Some (o, n))
-decided {A} cmp one count i n bytes file after total all left b o lt ne h leads = λ x e.
-    let f = first cmp one count i bytes x all (b ∷ left) lt (leads x e) in
-    let w = answered (λ a. cmp a b) (one bytes) f.a o after f.one_is h in
-    (w.0 ∙ sym (f.same ∙ decides (cmp f.a.0 b) (slice_cmp cmp f.z.0 left) (λ t. ne (w.0 ∙ t))), λ t. absurd (ne t))
 
 pub longer : {A : Type 0} (cmp : A → A → Ordering) (one : Reader A) (count i n : ℕ) (bytes file : List ℕ) (total : Option (List A × List ℕ)) (all : List A) → i < count
     → Leads cmp total all (many_at one (count - i) bytes) [] → Compares (λ xs. slice_cmp cmp xs all) total file (Some (Greater, n))
 longer {A} cmp one count i n bytes file total all lt leads = λ x e.
     let f = first cmp one count i bytes x all [] lt (leads x e) in
     (sym f.same, λ t. absurd cc)
-
-pub failed : {A : Type 0} (cmp : A → A → Ordering) (one : Reader A) (count i : ℕ) (bytes file : List ℕ) (total : Option (List A × List ℕ)) (all left : List A) (b : A) → i < count
-    → None ≡ ordered (λ a. cmp a b) (one bytes) → Leads cmp total all (many_at one (count - i) bytes) (b ∷ left) → Compares (λ xs. slice_cmp cmp xs all) total file None
-failed {A} cmp one count i bytes file total all left b lt h leads = λ x e.
-    let f = first cmp one count i bytes x all (b ∷ left) lt (leads x e) in
-    unanswered (λ a. cmp a b) (one bytes) f.a f.one_is h
 
 shorter : {A : Type 0} (cmp : A → A → Ordering) (left : List A) (o : Ordering) → (left ≡ [] → o ≡ Equal) → ((b : A) (bs : List A) → left ≡ b ∷ bs → o ≡ Less) → slice_cmp cmp [] left ≡ o
 shorter cmp [] o p q = sym (p refl)
@@ -129,24 +99,24 @@ less_end cmp view (x ∷ xs) e = refl
 pub leads_at : {A : Type 0} (cmp : A → A → Ordering) (total : Option (List A × List ℕ)) (all left other : List A) (read : Option (List A × List ℕ)) → left ≡ other → Leads cmp total all read left → Leads cmp total all read other
 leads_at {A} cmp total all left other read e h = subst (λ (l : List A). Leads cmp total all read l) e h
 
--- ---- the same where the comparison of one says only what a comparison says
+-- ---- what the comparison of the first one says
 
-pub goes_by : {A : Type 0} (cmp : A → A → Ordering) (one : Reader A) (count i n : ℕ) (bytes file : List ℕ) (total : Option (List A × List ℕ)) (all left : List A) (b : A) (o : Ordering) → i < count → o ≡ Equal
+pub goes_on : {A : Type 0} (cmp : A → A → Ordering) (one : Reader A) (count i n : ℕ) (bytes file : List ℕ) (total : Option (List A × List ℕ)) (all left : List A) (b : A) (o : Ordering) → i < count → o ≡ Equal
     → Compares (λ a. cmp a b) (one bytes) file (Some (o, n)) → Leads cmp total all (many_at one (count - i) bytes) (b ∷ left) → Leads cmp total all (many_at one (count - (i + 1)) (drop n file)) left
-goes_by {A} cmp one count i n bytes file total all left b o lt eq h leads = λ x e.
+goes_on {A} cmp one count i n bytes file total all left b o lt eq h leads = λ x e.
     let f = first cmp one count i bytes x all (b ∷ left) lt (leads x e) in
     let w = h f.a f.one_is in
     let tie : cmp f.a.0 b ≡ Equal = sym w.0 ∙ eq in
     record { y = f.z; read_is = ap (many_at one (count - (i + 1))) (w.1 eq) ∙ f.others; same = f.same ∙ ap (λ (p : Ordering). ordering_then p (slice_cmp cmp f.z.0 left)) tie; behind = f.behind }
 
-pub decided_by : {A : Type 0} (cmp : A → A → Ordering) (one : Reader A) (count i n m : ℕ) (bytes file : List ℕ) (total : Option (List A × List ℕ)) (all left : List A) (b : A) (o : Ordering) → i < count → (o ≡ Equal → ⊥)
+pub decided : {A : Type 0} (cmp : A → A → Ordering) (one : Reader A) (count i n m : ℕ) (bytes file : List ℕ) (total : Option (List A × List ℕ)) (all left : List A) (b : A) (o : Ordering) → i < count → (o ≡ Equal → ⊥)
     → Compares (λ a. cmp a b) (one bytes) file (Some (o, n)) → Leads cmp total all (many_at one (count - i) bytes) (b ∷ left) → Compares (λ xs. slice_cmp cmp xs all) total file (Some (o, m))
-decided_by {A} cmp one count i n m bytes file total all left b o lt ne h leads = λ x e.
+decided {A} cmp one count i n m bytes file total all left b o lt ne h leads = λ x e.
     let f = first cmp one count i bytes x all (b ∷ left) lt (leads x e) in
     let w = h f.a f.one_is in
     (w.0 ∙ sym (f.same ∙ decides (cmp f.a.0 b) (slice_cmp cmp f.z.0 left) (λ t. ne (w.0 ∙ t))), λ t. absurd (ne t))
 
-pub failed_by : {A : Type 0} (cmp : A → A → Ordering) (one : Reader A) (count i : ℕ) (bytes file : List ℕ) (total : Option (List A × List ℕ)) (all left : List A) (b : A) → i < count
+pub failed : {A : Type 0} (cmp : A → A → Ordering) (one : Reader A) (count i : ℕ) (bytes file : List ℕ) (total : Option (List A × List ℕ)) (all left : List A) (b : A) → i < count
     → Compares (λ a. cmp a b) (one bytes) file None → Leads cmp total all (many_at one (count - i) bytes) (b ∷ left) → Compares (λ xs. slice_cmp cmp xs all) total file None
-failed_by {A} cmp one count i bytes file total all left b lt h leads = λ x e.
+failed {A} cmp one count i bytes file total all left b lt h leads = λ x e.
     let f = first cmp one count i bytes x all (b ∷ left) lt (leads x e) in h f.a f.one_is

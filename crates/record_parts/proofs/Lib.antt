@@ -13,6 +13,7 @@ pub mod ShapeLaws
 pub mod Local
 pub mod Leads
 pub mod Compared
+pub mod TextOrders
 pub mod ContentOrders
 pub mod ValueOrders
 pub mod ShownParts

@@ -1,16 +1,15 @@
 -- Comparing key values and labels with values.
-use Rattle.std.proofs.Common.{◌≡◌, ◌≢◌, ℕ, true, false, List, drop, map, Option, Some, None, refl, sym, ap, subst, ◌∙◌}
+use Rattle.std.proofs.Common.{◌≡◌, ◌≢◌, ℕ, true, false, List, drop, map, Option, Some, None, sym, subst}
 use Rattle.std.specs.Int.{w32}
 use Rattle.std.specs.Ordering.{is_ne}
 use Rattle.std.specs.declared.cmp.Ordering.{Ordering}
 use Rattle.std.specs.declared.cmp.Ordering.TheVariants.{Less, Greater}
 use Rattle.std.specs.Cmp.Lexicographic.{slice_cmp}
-use Rattle.jsonml_tree.specs.Data.{PlainScalar}
 use Rattle.jsonml_tree.specs.Order.{scalar_cmp, content_cmp}
 use Rattle.jsonml_tree.specs.View.{scalar_view, content_view}
 use Rattle.jsonml_tree.specs.declared.scalar.Scalar as values
 use Rattle.jsonml_tree.specs.declared.tree.Content as contents
-use Rattle.keyed_tree.specs.Data.{PlainName, PlainKey, scalar, PlainLabel}
+use Rattle.keyed_tree.specs.Data.{PlainName, PlainKey, PlainLabel}
 use Rattle.keyed_tree.specs.Order.{name_cmp, key_cmp, label_cmp}
 use Rattle.keyed_tree.specs.View.{key_view, name_view, label_view}
 use Rattle.keyed_tree.specs.declared.label.KeyVal.{KeyVal}
@@ -21,24 +20,18 @@ use Rattle.record_parts.specs.Bounds.{deepest}
 use Rattle.record_parts.specs.Compares.{Compares}
 use Rattle.record_parts.specs.Reading.{scalar_at, content_at, value_of, value_at, name_at, label_at}
 use Rattle.record_parts.proofs.Leads.{not_equal, is_equal}
-use Rattle.record_parts.proofs.Compared.{exactly, nothing, same_read, first_decides, second_decides, list_is, list_none, label_splits, value_is, value_none, no_kind, scalar_compare, scalar_none, content_above, content_compare}
+use Rattle.record_parts.proofs.Compared.{nothing, same_read, first_fails, first_decides, second_decides, list_is, list_none, label_splits, value_is, value_none, no_kind, scalar_compare, scalar_below, content_above, content_compare}
 
 -- ---- key values
 
 abbrev by_value : KeyVal → PlainKey → Ordering
 by_value k x = key_cmp x (key_view k)
 
-pub scalar_fails : (bytes file : List ℕ) (k : KeyVal) → None ≡ scalar_at bytes → Compares (by_value k) (value_of 0 bytes) file None
-scalar_fails bytes file k e = nothing (by_value k) (value_of 0 bytes) file None (scalar_none bytes e)
+pub scalar_scalar : (bytes file : List ℕ) (k : KeyVal) (u : values.Scalar) (q : Option (Ordering × ℕ)) → k ≡ Scalar u → Compares (λ s. scalar_cmp s (scalar_view u)) (scalar_at bytes) file q → Compares (by_value k) (value_of 0 bytes) file q
+scalar_scalar bytes file k u q is h = subst (λ (x : KeyVal). Compares (by_value x) (value_of 0 bytes) file q) (sym is) (scalar_compare bytes file (scalar_view u) q h)
 
-pub scalar_scalar : (bytes file : List ℕ) (s : PlainScalar) (n : ℕ) (k : KeyVal) (u : values.Scalar) (o : Ordering) → k ≡ Scalar u → Some (s, drop n file) ≡ scalar_at bytes → o ≡ scalar_cmp s (scalar_view u) → Compares (by_value k) (value_of 0 bytes) file (Some (o, n))
-scalar_scalar bytes file s n k u o is e f = scalar_compare bytes file s n (key_view k) o e (f ∙ ap (by_value_of (scalar s)) (sym is))
-  where
-    by_value_of : PlainKey → KeyVal → Ordering
-    by_value_of x k = key_cmp x (key_view k)
-
-pub scalar_content : (bytes file : List ℕ) (s : PlainScalar) (n : ℕ) (k : KeyVal) (d : contents.Content) → k ≡ Content d → Some (s, drop n file) ≡ scalar_at bytes → Compares (by_value k) (value_of 0 bytes) file (Some (Less, n))
-scalar_content bytes file s n k d is e = scalar_compare bytes file s n (key_view k) Less e (ap (λ (x : KeyVal). key_cmp (scalar s) (key_view x)) (sym is))
+pub scalar_content : (bytes file : List ℕ) (n : ℕ) (k : KeyVal) (d : contents.Content) → k ≡ Content d → Compares (by_value k) (value_of 0 bytes) file (Some (Less, n))
+scalar_content bytes file n k d is = subst (λ (x : KeyVal). Compares (by_value x) (value_of 0 bytes) file (Some (Less, n))) (sym is) (scalar_below bytes file (content_view d) n)
 
 pub content_scalar : (bytes file : List ℕ) (n : ℕ) (k : KeyVal) (u : values.Scalar) → k ≡ Scalar u → Compares (by_value k) (value_of 1 bytes) file (Some (Greater, n))
 content_scalar bytes file n k u is = subst (λ (x : KeyVal). Compares (by_value x) (value_of 1 bytes) file (Some (Greater, n))) (sym is) (content_above bytes file (scalar_view u) n)
@@ -69,22 +62,19 @@ by_name m n = name_cmp n (name_view m.name)
 abbrev made : PlainName → List PlainKey → PlainLabel
 made n ks = record { name = n; keys = ks }
 
-no_name : (bytes : List ℕ) → None ≡ name_at bytes → label_at bytes ≡ None
-unfolding label_at
-no_name bytes e = (let f = sym e in rw f refl)
+pub label_fails : (bytes file : List ℕ) (m : Label) → Compares (by_name m) (name_at bytes) file None → Compares (by_label m) (label_at bytes) file None
+label_fails bytes file m h =
+    first_fails (label_at bytes) (name_at bytes) (list_at value_at) made (by_label m) (by_name m) (by_keys m.keys.items) file (label_splits bytes (label_view m)) h
 
-pub label_fails : (bytes file : List ℕ) (m : Label) → None ≡ name_at bytes → Compares (by_label m) (label_at bytes) file None
-label_fails bytes file m e = nothing (by_label m) (label_at bytes) file None (no_name bytes e)
+pub label_decides : (bytes file : List ℕ) (m : Label) (o : Ordering) (n : ℕ) → is_ne o ≡ true → Compares (by_name m) (name_at bytes) file (Some (o, n)) → Compares (by_label m) (label_at bytes) file (Some (o, n))
+label_decides bytes file m o n ne h =
+    first_decides (label_at bytes) (name_at bytes) (list_at value_at) made (by_label m) (by_name m) (by_keys m.keys.items) file o n n (label_splits bytes (label_view m)) h (not_equal o ne)
 
-pub label_decides : (bytes file : List ℕ) (m : Label) (x : PlainName) (o : Ordering) (n : ℕ) → Some (x, drop n file) ≡ name_at bytes → o ≡ by_name m x → is_ne o ≡ true → Compares (by_label m) (label_at bytes) file (Some (o, n))
-label_decides bytes file m x o n e is ne =
-    first_decides (label_at bytes) (name_at bytes) (list_at value_at) made (by_label m) (by_name m) (by_keys m.keys.items) file o n n (label_splits bytes (label_view m)) (exactly (by_name m) (name_at bytes) file x n o e is) (not_equal o ne)
-
-pub label_goes : (bytes file : List ℕ) (m : Label) (x : PlainName) (us : List KeyVal) (o : Ordering) (n : ℕ) (q : Option (Ordering × ℕ)) → us ≡ m.keys.items → Some (x, drop n file) ≡ name_at bytes → o ≡ by_name m x → is_ne o ≡ false
+pub label_goes : (bytes file : List ℕ) (m : Label) (us : List KeyVal) (o : Ordering) (n : ℕ) (q : Option (Ordering × ℕ)) → us ≡ m.keys.items → is_ne o ≡ false → Compares (by_name m) (name_at bytes) file (Some (o, n))
     → Compares (by_keys us) (list_at value_at (drop n file)) file q → Compares (by_label m) (label_at bytes) file q
-label_goes bytes file m x us o n q same e is eq h =
-    second_decides (label_at bytes) (name_at bytes) (list_at value_at) made (by_label m) (by_name m) (by_keys m.keys.items) file o n q (label_splits bytes (label_view m)) (exactly (by_name m) (name_at bytes) file x n o e is) (is_equal o eq)
-    (subst (λ (ks : List KeyVal). Compares (by_keys ks) (list_at value_at (drop n file)) file q) same h)
+label_goes bytes file m us o n q same eq h k =
+    second_decides (label_at bytes) (name_at bytes) (list_at value_at) made (by_label m) (by_name m) (by_keys m.keys.items) file o n q (label_splits bytes (label_view m)) h (is_equal o eq)
+    (subst (λ (ks : List KeyVal). Compares (by_keys ks) (list_at value_at (drop n file)) file q) same k)
 
 pub keys_none : (bytes file : List ℕ) (us : List KeyVal) → None ≡ number_at w32 bytes → Compares (by_keys us) (list_at value_at bytes) file None
 keys_none bytes file us e = nothing (by_keys us) (list_at value_at bytes) file None (list_none value_at bytes e)

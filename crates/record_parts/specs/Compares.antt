@@ -7,13 +7,3 @@ use Rattle.std.specs.declared.cmp.Ordering.TheVariants.{Equal}
 abbrev pub Compares : {A : Type 0} → (A → Ordering) → Option (A × List ℕ) → List ℕ → Option (Ordering × ℕ) → Type 0
 Compares {A} order read bytes None = (x : A × List ℕ) → read ≡ Some x → ⊥
 Compares {A} order read bytes (Some r) = (x : A × List ℕ) → read ≡ Some x → (r.0 ≡ order x.0) × (r.0 ≡ Equal → drop r.1 bytes ≡ x.1)
-
--- the answer, with the bytes behind its offset
-abbrev pub placed : List ℕ → Option (Ordering × ℕ) → Option (Ordering × List ℕ)
-placed bytes None = None
-placed bytes (Some r) = Some (r.0, drop r.1 bytes)
-
--- the order of what is read, and the bytes behind it
-abbrev pub ordered : {A : Type 0} → (A → Ordering) → Option (A × List ℕ) → Option (Ordering × List ℕ)
-ordered order None = None
-ordered order (Some x) = Some (order x.0, x.1)

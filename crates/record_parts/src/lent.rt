@@ -2,7 +2,6 @@
 ghost use Rattle.std.specs.Prelude.{◌≡◌, ◌≤◌, length, drop, option_map, IfSome, IfOk};
 ghost use Rattle.jsonml_tree.specs.LentAttrs.{lent_scalar_view};
 ghost use Rattle.jsonml_tree.specs.View.{attr_view};
-ghost use Rattle.keyed_tree.specs.Order.{name_cmp};
 ghost use Rattle.keyed_tree.specs.View.{name_view};
 ghost use Rattle.record_parts.specs.Reading.{scalar_of, scalar_at, attr_at, name_of, name_at, is_above};
 ghost use Rattle.record_parts.specs.Shown.{shown_name};
@@ -10,7 +9,6 @@ ghost use Rattle.record_parts.specs.Shown.{shown_name};
 use jsonml_tree::{Attr, LentScalar};
 use keyed_tree::Name;
 use std::alloc::{AllocError, Global};
-use std::cmp::Ordering;
 use xa_fields::{take_text, take_u8, take_u64};
 
 /// The scalar at the offset, without memory, and the offset behind it.
@@ -25,7 +23,7 @@ pub fn lend_scalar(bytes: &[u8], at: usize) -> Option<(LentScalar<'_>, usize)>
 }
 
 #[tactic(auto, unfolding(crate::specs::Reading::scalar_of))]
-fn scalar_of_kind(kind: u8, bytes: &[u8], at: usize) -> Option<(LentScalar<'_>, usize)>
+pub(crate) fn scalar_of_kind(kind: u8, bytes: &[u8], at: usize) -> Option<(LentScalar<'_>, usize)>
     requires { at ≤ length bytes.now }
     ensures found { option_map (λ r. (lent_scalar_view r.0, drop r.1 bytes.now)) result
         ≡ scalar_of kind (drop at bytes.now) }
@@ -95,17 +93,6 @@ pub enum NameView<'a> {
 }
 
 impl<'a> NameView<'a> {
-    pub fn order(&self, other: &Name) -> Ordering
-        ensures { result ≡ name_cmp (shown_name self.now) (name_view other.now) }
-    {
-        match (self, other) {
-            (NameView::Attr(a), Name::Attr(b)) => (*a).cmp(b.as_str()),
-            (NameView::Attr(_), Name::Tag(_)) => Ordering::Less,
-            (NameView::Tag(_), Name::Attr(_)) => Ordering::Greater,
-            (NameView::Tag(a), Name::Tag(b)) => (*a).cmp(b.as_str()),
-        }
-    }
-
     pub fn copy(&self, alloc: Global) -> Result<Name, AllocError>
         ensures { IfOk result (λ n. name_view n ≡ shown_name self.now) }
     {

@@ -8,6 +8,7 @@ mod lend_parts;
 mod lent;
 mod limits;
 mod order_parts;
+mod order_scalars;
 mod order_values;
 mod put_parts;
 mod put_values;

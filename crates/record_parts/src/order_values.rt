@@ -1,6 +1,6 @@
 // The order of attributes, contents and key values as they stand in bytes. A comparison ends where
 // it is decided.
-ghost use Rattle.std.specs.Prelude.{◌≡◌, ◌≤◌, length, drop, map, IfSome};
+ghost use Rattle.std.specs.Prelude.{drop, map};
 ghost use Rattle.std.specs.Cmp.Lexicographic.{slice_cmp};
 ghost use Rattle.jsonml_tree.specs.Data.{PlainContent, text, element};
 ghost use Rattle.jsonml_tree.specs.Order.{attr_cmp, tree_cmp, content_cmp};
@@ -9,26 +9,27 @@ ghost use Rattle.keyed_tree.specs.Order.{key_cmp};
 ghost use Rattle.keyed_tree.specs.View.{key_view};
 ghost use Rattle.xa_fields.specs.Reading.{Reader, many_at};
 ghost use Rattle.record_parts.specs.Reading.{attr_at, attrs_at, item_at, item_of, content_at, content_below, value_of, value_at};
-ghost use Rattle.record_parts.specs.Compares.{Compares, placed, ordered};
+ghost use Rattle.record_parts.specs.Compares.{Compares};
 
-use crate::lent::{lend_attr, lend_scalar};
 use crate::limits::DEEPEST;
+use crate::order_scalars::{order_scalar, order_text};
 use jsonml_tree::{Attr, Content, Tree};
 use keyed_tree::KeyVal;
 use std::cmp::Ordering;
-use xa_fields::{take_text, take_u8, take_u32};
+use xa_fields::{take_u8, take_u32};
 
-/// The order of the attribute at the offset, and the offset behind it.
+/// The order of the attribute at the offset, and, if it is equal, the offset behind it.
 fn order_attr(bytes: &[u8], at: usize, other: &Attr) -> Option<(Ordering, usize)>
-    ensures found { placed bytes.now result
-        ≡ ordered (λ a. attr_cmp a (attr_view other.now)) (attr_at (drop at bytes.now)) }
-    ensures next { IfSome result (λ r. r.1 ≤ length bytes.now) }
+    ensures { Compares (λ a. attr_cmp a (attr_view other.now))
+        (attr_at (drop at bytes.now)) bytes.now result }
 {
-    let (name, value, at) = lend_attr(bytes, at)?;
-    let order = name
-        .cmp(other.name.as_str())
-        .then(value.order(other.value.lend()));
-    Some((order, at))
+    let Some((order, at)) = order_text(bytes, at, other.name.as_str()) else {
+        return None;
+    };
+    if order.is_ne() {
+        return Some((order, at));
+    }
+    order_scalar(bytes, at, other.value.lend())
 }
 
 fn order_each_attr(
@@ -37,7 +38,6 @@ fn order_each_attr(
     count: u32,
     others: &[Attr],
 ) -> Option<(Ordering, usize)>
-    requires { at ≤ length bytes.now }
     ensures { Compares (λ xs. slice_cmp attr_cmp xs (map attr_view others.now))
         (many_at attr_at count (drop at bytes.now)) bytes.now result }
 {
@@ -132,22 +132,19 @@ fn order_item(depth: u32, bytes: &[u8], at: usize, other: &Tree) -> Option<(Orde
         return None;
     };
     match kind {
-        0 => order_text(bytes, at, other),
+        0 => order_text_item(bytes, at, other),
         1 => order_element(depth, bytes, at, other),
         _ => None,
     }
 }
 
 // Whatever reads the content of an element, a text has none.
-fn order_text(bytes: &[u8], at: usize, other: &Tree) -> Option<(Ordering, usize)>
+fn order_text_item(bytes: &[u8], at: usize, other: &Tree) -> Option<(Ordering, usize)>
     ensures { (inner : Reader PlainContent) → Compares (λ t. tree_cmp t (tree_view other.now))
         (item_of inner 0 (drop at bytes.now)) bytes.now result }
 {
-    let Some((text, at)) = take_text(bytes, at) else {
-        return None;
-    };
     match other {
-        Tree::Text(other) => Some((text.cmp(other.as_str()), at)),
+        Tree::Text(other) => order_text(bytes, at, other.as_str()),
         Tree::Elem { .. } => Some((Ordering::Less, at)),
     }
 }
@@ -157,13 +154,12 @@ fn order_element(depth: u32, bytes: &[u8], at: usize, other: &Tree) -> Option<(O
     ensures { Compares (λ t. tree_cmp t (tree_view other.now))
         (item_of (content_below depth) 1 (drop at bytes.now)) bytes.now result }
 {
-    let Some((text, at)) = take_text(bytes, at) else {
-        return None;
-    };
     match other {
         Tree::Text(_) => Some((Ordering::Greater, at)),
         Tree::Elem { tag, content } => {
-            let order = text.cmp(tag.as_str());
+            let Some((order, at)) = order_text(bytes, at, tag.as_str()) else {
+                return None;
+            };
             if order.is_ne() {
                 return Some((order, at));
             }
@@ -207,11 +203,8 @@ fn order_scalar_value(bytes: &[u8], at: usize, other: &KeyVal) -> Option<(Orderi
     ensures { Compares (λ k. key_cmp k (key_view other.now))
         (value_of 0 (drop at bytes.now)) bytes.now result }
 {
-    let Some((scalar, at)) = lend_scalar(bytes, at) else {
-        return None;
-    };
     match other {
-        KeyVal::Scalar(other) => Some((scalar.order(other.lend()), at)),
+        KeyVal::Scalar(other) => order_scalar(bytes, at, other.lend()),
         KeyVal::Content(_) => Some((Ordering::Less, at)),
     }
 }

@@ -87,8 +87,8 @@ impl<'a> LabelView<'a> {
         }
     }
 
-    /// The order of two labels that are shown. Where they differ, it takes memory for a copy of the shorter one: along two
-    /// rows each comparison passes a label, so that all of them take no longer than the rows are.
+    /// The order of two labels that are shown. Where they differ, it takes memory for a copy of the shorter one, and time as
+    /// that is long: along two rows each comparison passes a label, so that all of them take no longer than the rows are.
     pub fn compare(&self, alloc: Global, other: &LabelView<'_>) -> Result<Ordering, AllocError>
         ensures { IfOk result (λ o. o ≡ label_cmp (shown_label self.now) (shown_label other.now)) }
     {

@@ -1,10 +1,11 @@
-use Rattle.std.proofs.Common.{rules, ◌∷◌, [], ◌-◌, map, drop, None, sym, ◌∙◌, arith}
+use Rattle.std.proofs.Common.{rules, ◌∷◌, [], ◌-◌, map, drop, Some, None, sym, subst, ◌∙◌, arith}
 use Rattle.std.specs.declared.cmp.Ordering.TheVariants.{Less, Equal}
-use Rattle.jsonml_tree.specs.Order.{tree_cmp}
+use Rattle.jsonml_tree.specs.Order.{text_cmp, tree_cmp}
 use Rattle.jsonml_tree.specs.View.{tree_view}
-use Rattle.xa_fields.specs.Reading.{many_at}
+use Rattle.xa_fields.specs.Reading.{text_at, many_at}
+use Rattle.record_parts.specs.Compares.{Compares}
 use Rattle.record_parts.specs.Reading.{item_at, content_below}
-use Rattle.record_parts.proofs.Leads.{goes_by, decided_by, longer, failed_by, ends, view_none, view_first, not_equal, is_equal, equal_end, less_end, leads_at}
+use Rattle.record_parts.proofs.Leads.{goes_on, decided, longer, failed, ends, view_none, view_first, not_equal, is_equal, equal_end, less_end, leads_at}
 use Rattle.record_parts.proofs.ContentOrders.{content_fails, content_decides, content_goes, items_none, items_counted, below_none, below_goes, no_kind_byte, of_kind, of_no_kind, element_fails, element_text, element_decides, element_goes}
 use Rattle.record_parts.proofs.order_values.+order.Goals as goal
 
@@ -39,7 +40,7 @@ pub order_item-returns-in_default : goal.order_item-returns-in_default
 order_item-returns-in_default t c = no_kind_byte c.args.depth (drop c.args.at c.args.bytes.now) c.args.bytes.now c.args.other.now c.in_default.ensures.found
 
 pub order_item-returns-in-0 : goal.order_item-returns-in-0
-order_item-returns-in-0 t c = of_kind c.args.depth 0 (drop c.args.at c.args.bytes.now) (drop c.in-Some.at c.args.bytes.now) c.args.bytes.now c.args.other.now c.order_text.result (search rules) (c.order_text.ensures (content_below c.args.depth))
+order_item-returns-in-0 t c = of_kind c.args.depth 0 (drop c.args.at c.args.bytes.now) (drop c.in-Some.at c.args.bytes.now) c.args.bytes.now c.args.other.now c.order_text_item.result (search rules) (c.order_text_item.ensures (content_below c.args.depth))
 
 pub order_item-returns-in-1 : goal.order_item-returns-in-1
 order_item-returns-in-1 t c = of_kind c.args.depth 1 (drop c.args.at c.args.bytes.now) (drop c.in-Some.at c.args.bytes.now) c.args.bytes.now c.args.other.now c.order_element.result (search rules) c.order_element.ensures
@@ -49,19 +50,23 @@ order_item-returns-in_default-kind t c =
     of_kind c.args.depth c.in-Some.kind (drop c.args.at c.args.bytes.now) (drop c.in-Some.at c.args.bytes.now) c.args.bytes.now c.args.other.now None c.in-Some.ensures.found
     (of_no_kind c.args.depth c.in-Some.kind (drop c.in-Some.at c.args.bytes.now) c.args.bytes.now c.args.other.now (search rules) (search rules))
 
-pub order_element-returns-in_default : goal.order_element-returns-in_default
-order_element-returns-in_default t c = element_fails c.args.depth (drop c.args.at c.args.bytes.now) c.args.bytes.now c.args.other.now c.in_default.ensures.found
-
 pub order_element-returns-in-Text : goal.order_element-returns-in-Text
-order_element-returns-in-Text t c = element_text c.args.depth (drop c.args.at c.args.bytes.now) c.args.bytes.now c.in-Some.at c.args.other.now c.in-Text.field-0 c.in-Text.is
+order_element-returns-in-Text t c = element_text c.args.depth (drop c.args.at c.args.bytes.now) c.args.bytes.now c.args.at c.args.other.now c.in-Text.field-0 c.in-Text.is
+
+pub order_element-returns-in_default : goal.order_element-returns-in_default
+order_element-returns-in_default t c = element_fails c.args.depth (drop c.args.at c.args.bytes.now) c.args.bytes.now c.args.other.now c.in-Elem.tag c.in-Elem.content c.in-Elem.is
+    (subst (λ u. Compares (λ s. text_cmp s u) (text_at (drop c.args.at c.args.bytes.now)) c.args.bytes.now None) c.as_str.ensures.value c.in_default.ensures)
 
 pub order_element-returns-then-is_ne : goal.order_element-returns-then-is_ne
 order_element-returns-then-is_ne t c =
-    element_decides c.args.depth (drop c.args.at c.args.bytes.now) c.args.bytes.now c.in-Some.text.now c.in-Some.at c.args.other.now c.in-Elem.tag c.in-Elem.content c.cmp-order.result c.in-Elem.is c.in-Some.ensures.found (search rules) (sym c.is_ne.ensures ∙ c.if-is_ne.true)
+    element_decides c.args.depth (drop c.args.at c.args.bytes.now) c.args.bytes.now c.in-Some.at c.args.other.now c.in-Elem.tag c.in-Elem.content c.in-Some.order c.in-Elem.is (sym c.is_ne.ensures ∙ c.if-is_ne.true)
+    (subst (λ u. Compares (λ s. text_cmp s u) (text_at (drop c.args.at c.args.bytes.now)) c.args.bytes.now (Some (c.in-Some.order, c.in-Some.at))) c.as_str.ensures.value c.in-Some.ensures)
 
 pub order_element-returns-else-is_ne : goal.order_element-returns-else-is_ne
 order_element-returns-else-is_ne t c =
-    element_goes c.args.depth (drop c.args.at c.args.bytes.now) c.args.bytes.now c.in-Some.text.now c.in-Some.at c.args.other.now c.in-Elem.tag c.in-Elem.content c.cmp-order.result c.order_content_below.result c.in-Elem.is c.in-Some.ensures.found (search rules) (sym c.is_ne.ensures ∙ c.if-is_ne.false) c.order_content_below.ensures
+    element_goes c.args.depth (drop c.args.at c.args.bytes.now) c.args.bytes.now c.in-Some.at c.args.other.now c.in-Elem.tag c.in-Elem.content c.in-Some.order c.order_content_below.result c.in-Elem.is (sym c.is_ne.ensures ∙ c.if-is_ne.false)
+    (subst (λ u. Compares (λ s. text_cmp s u) (text_at (drop c.args.at c.args.bytes.now)) c.args.bytes.now (Some (c.in-Some.order, c.in-Some.at))) c.as_str.ensures.value c.in-Some.ensures)
+    c.order_content_below.ensures
 
 -- ---- rows of items
 
@@ -72,19 +77,19 @@ order_items-returns-in_default t c =
 
 pub order_items-returns-in_default-order_item : goal.order_items-returns-in_default-order_item
 order_items-returns-in_default-order_item t c =
-    failed_by tree_cmp (item_at c.args.depth) c.args.count c.loop.counter (drop c.loop.at c.args.bytes.now) c.args.bytes.now (many_at (item_at c.args.depth) c.args.count (drop c.args.at c.args.bytes.now)) (map tree_view c.args.others.now) (map tree_view c.in-Some.tail.now) (tree_view c.in-Some.other.now) c.loop-test.true c.in_default-order_item.ensures
+    failed tree_cmp (item_at c.args.depth) c.args.count c.loop.counter (drop c.loop.at c.args.bytes.now) c.args.bytes.now (many_at (item_at c.args.depth) c.args.count (drop c.args.at c.args.bytes.now)) (map tree_view c.args.others.now) (map tree_view c.in-Some.tail.now) (tree_view c.in-Some.other.now) c.loop-test.true c.in_default-order_item.ensures
     (leads_at tree_cmp (many_at (item_at c.args.depth) c.args.count (drop c.args.at c.args.bytes.now)) (map tree_view c.args.others.now) (map tree_view c.loop.rest.now) (tree_view c.in-Some.other.now ∷ map tree_view c.in-Some.tail.now) (many_at (item_at c.args.depth) (c.args.count - c.loop.counter) (drop c.loop.at c.args.bytes.now)) (view_first tree_view c.loop.rest.now c.in-Some.tail.now c.in-Some.other.now c.in-Some.ensures.cases.0) c.loop.invariant.leads)
 
 pub order_items-returns-then-is_ne : goal.order_items-returns-then-is_ne
 order_items-returns-then-is_ne t c =
-    decided_by tree_cmp (item_at c.args.depth) c.args.count c.loop.counter c.in-Some-order_item.next c.in-Some-order_item.next (drop c.loop.at c.args.bytes.now) c.args.bytes.now (many_at (item_at c.args.depth) c.args.count (drop c.args.at c.args.bytes.now)) (map tree_view c.args.others.now) (map tree_view c.in-Some.tail.now) (tree_view c.in-Some.other.now) c.in-Some-order_item.order c.loop-test.true
+    decided tree_cmp (item_at c.args.depth) c.args.count c.loop.counter c.in-Some-order_item.next c.in-Some-order_item.next (drop c.loop.at c.args.bytes.now) c.args.bytes.now (many_at (item_at c.args.depth) c.args.count (drop c.args.at c.args.bytes.now)) (map tree_view c.args.others.now) (map tree_view c.in-Some.tail.now) (tree_view c.in-Some.other.now) c.in-Some-order_item.order c.loop-test.true
     (not_equal c.in-Some-order_item.order (sym c.is_ne.ensures ∙ c.if-is_ne.true)) c.in-Some-order_item.ensures
     (leads_at tree_cmp (many_at (item_at c.args.depth) c.args.count (drop c.args.at c.args.bytes.now)) (map tree_view c.args.others.now) (map tree_view c.loop.rest.now) (tree_view c.in-Some.other.now ∷ map tree_view c.in-Some.tail.now) (many_at (item_at c.args.depth) (c.args.count - c.loop.counter) (drop c.loop.at c.args.bytes.now)) (view_first tree_view c.loop.rest.now c.in-Some.tail.now c.in-Some.other.now c.in-Some.ensures.cases.0) c.loop.invariant.leads)
 
 pub order_items-loop-preserved : goal.order_items-loop-preserved
 order_items-loop-preserved t c =
     record {
-      leads = goes_by tree_cmp (item_at c.args.depth) c.args.count c.loop.counter c.in-Some-order_item.next (drop c.loop.at c.args.bytes.now) c.args.bytes.now (many_at (item_at c.args.depth) c.args.count (drop c.args.at c.args.bytes.now)) (map tree_view c.args.others.now) (map tree_view c.in-Some.tail.now) (tree_view c.in-Some.other.now) c.in-Some-order_item.order c.loop-test.true
+      leads = goes_on tree_cmp (item_at c.args.depth) c.args.count c.loop.counter c.in-Some-order_item.next (drop c.loop.at c.args.bytes.now) c.args.bytes.now (many_at (item_at c.args.depth) c.args.count (drop c.args.at c.args.bytes.now)) (map tree_view c.args.others.now) (map tree_view c.in-Some.tail.now) (tree_view c.in-Some.other.now) c.in-Some-order_item.order c.loop-test.true
           (is_equal c.in-Some-order_item.order (sym c.is_ne.ensures ∙ c.if-is_ne.false)) c.in-Some-order_item.ensures
           (leads_at tree_cmp (many_at (item_at c.args.depth) c.args.count (drop c.args.at c.args.bytes.now)) (map tree_view c.args.others.now) (map tree_view c.loop.rest.now) (tree_view c.in-Some.other.now ∷ map tree_view c.in-Some.tail.now) (many_at (item_at c.args.depth) (c.args.count - c.loop.counter) (drop c.loop.at c.args.bytes.now)) (view_first tree_view c.loop.rest.now c.in-Some.tail.now c.in-Some.other.now c.in-Some.ensures.cases.0) c.loop.invariant.leads);
     }

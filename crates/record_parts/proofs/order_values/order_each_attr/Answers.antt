@@ -14,21 +14,20 @@ returns-in_default c =
 
 pub returns-in_default-order_attr : goal.returns-in_default-order_attr
 returns-in_default-order_attr c =
-    failed attr_cmp attr_at c.args.count c.loop.counter (drop c.loop.at c.args.bytes.now) c.args.bytes.now (many_at attr_at c.args.count (drop c.args.at c.args.bytes.now)) (map attr_view c.args.others.now) (map attr_view c.in-Some.tail.now) (attr_view c.in-Some.other.now) c.loop-test.true c.in_default-order_attr.ensures.found
+    failed attr_cmp attr_at c.args.count c.loop.counter (drop c.loop.at c.args.bytes.now) c.args.bytes.now (many_at attr_at c.args.count (drop c.args.at c.args.bytes.now)) (map attr_view c.args.others.now) (map attr_view c.in-Some.tail.now) (attr_view c.in-Some.other.now) c.loop-test.true c.in_default-order_attr.ensures
     (leads_at attr_cmp (many_at attr_at c.args.count (drop c.args.at c.args.bytes.now)) (map attr_view c.args.others.now) (map attr_view c.loop.rest.now) (attr_view c.in-Some.other.now ∷ map attr_view c.in-Some.tail.now) (many_at attr_at (c.args.count - c.loop.counter) (drop c.loop.at c.args.bytes.now)) (view_first attr_view c.loop.rest.now c.in-Some.tail.now c.in-Some.other.now c.in-Some.ensures.cases.0) c.loop.invariant.leads)
 
 pub returns-then-is_ne : goal.returns-then-is_ne
 returns-then-is_ne c =
-    decided attr_cmp attr_at c.args.count c.loop.counter c.in-Some-order_attr.next (drop c.loop.at c.args.bytes.now) c.args.bytes.now (drop c.in-Some-order_attr.next c.args.bytes.now) (many_at attr_at c.args.count (drop c.args.at c.args.bytes.now)) (map attr_view c.args.others.now) (map attr_view c.in-Some.tail.now) (attr_view c.in-Some.other.now) c.in-Some-order_attr.order c.loop-test.true
-    (not_equal c.in-Some-order_attr.order (sym c.is_ne.ensures ∙ c.if-is_ne.true)) c.in-Some-order_attr.ensures.found
+    decided attr_cmp attr_at c.args.count c.loop.counter c.in-Some-order_attr.next c.in-Some-order_attr.next (drop c.loop.at c.args.bytes.now) c.args.bytes.now (many_at attr_at c.args.count (drop c.args.at c.args.bytes.now)) (map attr_view c.args.others.now) (map attr_view c.in-Some.tail.now) (attr_view c.in-Some.other.now) c.in-Some-order_attr.order c.loop-test.true
+    (not_equal c.in-Some-order_attr.order (sym c.is_ne.ensures ∙ c.if-is_ne.true)) c.in-Some-order_attr.ensures
     (leads_at attr_cmp (many_at attr_at c.args.count (drop c.args.at c.args.bytes.now)) (map attr_view c.args.others.now) (map attr_view c.loop.rest.now) (attr_view c.in-Some.other.now ∷ map attr_view c.in-Some.tail.now) (many_at attr_at (c.args.count - c.loop.counter) (drop c.loop.at c.args.bytes.now)) (view_first attr_view c.loop.rest.now c.in-Some.tail.now c.in-Some.other.now c.in-Some.ensures.cases.0) c.loop.invariant.leads)
 
 pub loop-preserved : goal.loop-preserved
 loop-preserved c =
     record {
-      within = c.in-Some-order_attr.ensures.next;
-      leads = goes_on attr_cmp attr_at c.args.count c.loop.counter (drop c.loop.at c.args.bytes.now) (drop c.in-Some-order_attr.next c.args.bytes.now) (many_at attr_at c.args.count (drop c.args.at c.args.bytes.now)) (map attr_view c.args.others.now) (map attr_view c.in-Some.tail.now) (attr_view c.in-Some.other.now) c.in-Some-order_attr.order c.loop-test.true
-          (is_equal c.in-Some-order_attr.order (sym c.is_ne.ensures ∙ c.if-is_ne.false)) c.in-Some-order_attr.ensures.found
+      leads = goes_on attr_cmp attr_at c.args.count c.loop.counter c.in-Some-order_attr.next (drop c.loop.at c.args.bytes.now) c.args.bytes.now (many_at attr_at c.args.count (drop c.args.at c.args.bytes.now)) (map attr_view c.args.others.now) (map attr_view c.in-Some.tail.now) (attr_view c.in-Some.other.now) c.in-Some-order_attr.order c.loop-test.true
+          (is_equal c.in-Some-order_attr.order (sym c.is_ne.ensures ∙ c.if-is_ne.false)) c.in-Some-order_attr.ensures
           (leads_at attr_cmp (many_at attr_at c.args.count (drop c.args.at c.args.bytes.now)) (map attr_view c.args.others.now) (map attr_view c.loop.rest.now) (attr_view c.in-Some.other.now ∷ map attr_view c.in-Some.tail.now) (many_at attr_at (c.args.count - c.loop.counter) (drop c.loop.at c.args.bytes.now)) (view_first attr_view c.loop.rest.now c.in-Some.tail.now c.in-Some.other.now c.in-Some.ensures.cases.0) c.loop.invariant.leads);
     }
 

@@ -1,4 +1,4 @@
-use Rattle.std.proofs.Common.{◌≤◌, ◌-◌, length, drop, map}
+use Rattle.std.proofs.Common.{◌-◌, drop, map}
 use Rattle.xa_fields.specs.Reading.{many_at}
 use Rattle.jsonml_tree.specs.Order.{attr_cmp}
 use Rattle.jsonml_tree.specs.View.{attr_view}
@@ -10,6 +10,5 @@ use Rattle.record_parts.proofs.order_values.order_each_attr.Given as goal
 abbrev pub invariant-loop : goal.invariant-loop
 invariant-loop l =
     record {
-      within : l.at ≤ length l.bytes;
       leads : Leads attr_cmp (many_at attr_at l.count (drop l.fn.at l.bytes)) (map attr_view l.others) (many_at attr_at (l.count - l.counter) (drop l.at l.bytes)) (map attr_view l.rest);
     }
