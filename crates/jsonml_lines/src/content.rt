@@ -8,8 +8,7 @@ ghost use Rattle.jsonml_tree.specs.View.{tree_view, content_view, attr_view, sca
 ghost use Rattle.jsonml_print.specs.Printed.{attr_text, attrs_text, scalar_text, tree_text, content_text, items_text};
 ghost use Rattle.jsonml_lines.specs.Lines.{array_text};
 
-use crate::quote::write_text;
-use jsonml_print::{write_scalar, write_tree};
+use jsonml_print::{write_quoted, write_scalar, write_tree};
 use jsonml_tree::{Attr, Content, Scalar, Tree};
 use xa_outside::{Failed, Sink, put_all};
 
@@ -114,7 +113,7 @@ fn write_pair<K: Sink>(attr: &Attr, sink: &mut K) -> Result<(), Failed>
         (attr_text (attr_view attr.now)) }
     ensures cause { HasCause (K.faults sink.old) (K.faults sink.new) result }
 {
-    write_text(attr.name.as_str(), sink)?;
+    write_quoted(attr.name.as_str(), sink)?;
     write_value(&attr.value, sink)
 }
 
@@ -176,7 +175,7 @@ fn write_item<K: Sink>(item: &Tree, sink: &mut K) -> Result<(), Failed>
     ensures cause { HasCause (K.faults sink.old) (K.faults sink.new) result }
 {
     match item {
-        Tree::Text(text) => write_text(text.as_str(), sink),
+        Tree::Text(text) => write_quoted(text.as_str(), sink),
         Tree::Elem { .. } => write_tree(item, sink),
     }
 }

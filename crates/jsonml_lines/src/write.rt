@@ -8,8 +8,7 @@ ghost use Rattle.keyed_tree.specs.View.{key_view};
 ghost use Rattle.jsonml_lines.specs.Lines.{cell_text};
 
 use crate::content::write_content;
-use crate::quote::write_behind_quote;
-use jsonml_print::write_scalar;
+use jsonml_print::{write_behind_quote, write_scalar};
 use keyed_tree::KeyVal;
 use xa_outside::{Failed, Sink, put_all};
 

@@ -12,4 +12,4 @@ pub use laws::calls_print_the_tree;
 pub use pieces::write_scalar;
 pub use print::{print_content, print_lent_content, write_tree};
 pub use printer::Printer;
-pub use quote::plain_run;
+pub use quote::{plain_run, write_behind_quote, write_quoted};

@@ -9,7 +9,7 @@ ghost use Rattle.xa_outside.specs.Causes.{HasCause};
 use xa_outside::{Failed, Sink, put_all};
 
 /// Writes a text as a JSON string.
-pub(crate) fn write_quoted<K: Sink>(text: &str, sink: &mut K) -> Result<(), Failed>
+pub fn write_quoted<K: Sink>(text: &str, sink: &mut K) -> Result<(), Failed>
     ensures bytes { Puts (K.taken sink.old) (K.taken sink.new) result (quoted text.now) }
     ensures cause { HasCause (K.faults sink.old) (K.faults sink.new) result }
 {
@@ -18,7 +18,7 @@ pub(crate) fn write_quoted<K: Sink>(text: &str, sink: &mut K) -> Result<(), Fail
 }
 
 /// Writes what stands behind the first quote of a text as a JSON string.
-pub(crate) fn write_behind_quote<K: Sink>(text: &str, sink: &mut K) -> Result<(), Failed>
+pub fn write_behind_quote<K: Sink>(text: &str, sink: &mut K) -> Result<(), Failed>
     ensures bytes { Puts (K.taken sink.old) (K.taken sink.new) result (escape text.now ++ 34 ∷ []) }
     ensures cause { HasCause (K.faults sink.old) (K.faults sink.new) result }
 {

@@ -1,5 +1,6 @@
 //! Lines and contents on their own.
-use jsonml_lines::{Line, end_line, take_line, write_cell, write_content, write_text, write_word};
+use jsonml_lines::{Line, end_line, take_line, write_cell, write_content, write_word};
+use jsonml_print::write_quoted;
 use jsonml_tree::{Attr, Content, Scalar, Tree};
 use keyed_tree::KeyVal;
 use std::alloc::{AllocError, Global};
@@ -32,7 +33,7 @@ fn a_content_is_written_as_an_array(rt: HostRuntime) -> Result<(), Fail> {
 
 fn is_quoted(alloc: Global, text: &str, wanted: &str) -> bool {
     let mut sink = MemSink::new(alloc, Vec::new(alloc));
-    write_text(text, &mut sink).is_ok() && sink.taken() == wanted.as_bytes()
+    write_quoted(text, &mut sink).is_ok() && sink.taken() == wanted.as_bytes()
 }
 
 #[test]
