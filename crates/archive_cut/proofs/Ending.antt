@@ -5,7 +5,7 @@ use Rattle.std.specs.Result.{IfErr, OnOk, result_map_both}
 use Rattle.key_spec.specs.Data.{PlainRule}
 use Rattle.keyed_tree.specs.Data.{PlainKeyed}
 use Rattle.xa_outside.specs.Causes.{Rose}
-use Rattle.xa_outside.specs.Folder.{Files}
+use Rattle.xa_outside.specs.Folder.{Files, IsBlank}
 use Rattle.xa_outside.specs.Numbers.{Numbers}
 use Rattle.xa_fields.proofs.Fields.{some_is}
 use Rattle.archive_file.specs.Sound.{SoundAs}
@@ -14,7 +14,7 @@ use Rattle.record_cursor.specs.View.{PlainHeader, PlainCursor}
 use Rattle.record_format.specs.Files.{FileOf}
 use Rattle.record_copy.specs.Faults.{fault_of}
 use Rattle.record_copy.specs.declared.fault.CopyFault.{CopyFault}
-use Rattle.archive_cut.specs.Cut.{Appended, IsBlank, Overfull, IfTooLong, IfFailed}
+use Rattle.archive_cut.specs.Cut.{Appended, Overfull, IfTooLong, IfFailed}
 use Rattle.archive_cut.specs.Faults.{of_cut}
 use Rattle.archive_cut.specs.Sliced.{items}
 use Rattle.archive_cut.specs.Whole.{VersionsCut}

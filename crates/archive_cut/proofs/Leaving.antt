@@ -37,7 +37,7 @@ use Rattle.record_copy.proofs.Passing.{passes-then, Nexts, Stays, gave, gave-sto
 use Rattle.record_copy.proofs.Reading.{not-long-cursor}
 use Rattle.record_copy.proofs.Running.{run-then, run-none, short-none, short-part, all-append}
 use Rattle.archive_cut.specs.Held.{held_view, KnowsFirst, alts_left, IsShortAlt, Holds, InOrder}
-use Rattle.archive_cut.specs.Items.{alt_items}
+use Rattle.record_cursor.specs.NodeItems.{alt_items}
 use Rattle.archive_cut.specs.Leaves.{AltsRead, Reads}
 use Rattle.archive_cut.specs.Runs.{Matches}
 use Rattle.archive_cut.specs.Short.{IsLeftOf}

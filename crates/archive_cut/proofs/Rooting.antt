@@ -27,7 +27,7 @@ use Rattle.record_copy.specs.declared.fault.CopyFault.{CopyFault}
 use Rattle.record_copy.specs.declared.fault.CopyFault.TheVariants.{Damage, TooLong, Folder, Memory}
 use Rattle.record_copy.proofs.Passing.{Nexts, Stays, gave, gave-stop, failed, given}
 use Rattle.record_copy.proofs.Running.{run-then, run-none, short-none, short-part, short-then}
-use Rattle.archive_cut.specs.Items.{row_items}
+use Rattle.record_cursor.specs.NodeItems.{row_items}
 use Rattle.archive_cut.specs.Runs.{Matches}
 use Rattle.archive_cut.specs.Short.{IsLeftOf}
 use Rattle.archive_cut.specs.Sliced.{cut_set, sliced_row}

@@ -20,7 +20,7 @@ use Rattle.record_copy.specs.Passes.{Passes}
 use Rattle.record_copy.specs.State.{State}
 use Rattle.record_copy.specs.declared.fault.CopyFault.TheVariants as cut
 use Rattle.record_copy.proofs.Passing.{passes-then, Nexts, Stays, gave, gave-stop, failed, given}
-use Rattle.archive_cut.specs.Items.{alt_items, node_items, row_items, end_of}
+use Rattle.record_cursor.specs.NodeItems.{alt_items, node_items, row_items, end_of}
 use Rattle.archive_cut.specs.Skipped.{Follows, RowSkipped, AltsSkipped, ChildSkipped}
 
 -- ---- items that are no others

@@ -43,13 +43,14 @@ use Rattle.record_copy.specs.declared.fault.CopyFault.{CopyFault}
 use Rattle.record_copy.specs.declared.fault.CopyFault.TheVariants.{Damage, TooLong, Folder, Memory}
 use Rattle.record_copy.proofs.Passing.{lengthens-then, lengthens-none, cause-then}
 use Rattle.record_copy.proofs.Running.{short-none}
-use Rattle.archive_cut.specs.Items.{row_items}
+use Rattle.record_cursor.specs.NodeItems.{row_items}
 use Rattle.archive_cut.specs.Short.{IsLeftOf}
 use Rattle.archive_cut.specs.Sliced.{cut_set, sliced_row, sliced, items}
 use Rattle.archive_cut.specs.Walked.{AreApart}
 use Rattle.archive_cut.specs.Whole.{Called, Slices, NodesCut, VersionsCut}
-use Rattle.archive_cut.proofs.Coming.{Heads, sound-heads, items-are, comes-all}
+use Rattle.archive_cut.proofs.Coming.{Heads, sound-heads, comes-all}
 use Rattle.archive_cut.proofs.Slices.{archive_cut, archive-apart, all_items, root-left}
+use Rattle.record_cursor.proofs.NodeItems.{items-are}
 
 -- ---- where the file is told
 

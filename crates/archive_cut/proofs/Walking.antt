@@ -46,7 +46,7 @@ use Rattle.record_copy.proofs.FewBytes.{IsFewStamp, opening-long, opening-parts}
 use Rattle.record_copy.proofs.Passing.{Nexts, Stays, gave, gave-stop, failed, given}
 use Rattle.record_copy.proofs.Reading.{Opener, not-long-cursor, within-file}
 use Rattle.record_copy.proofs.Running.{run-then, run-none, short-none, short-part, short-then}
-use Rattle.archive_cut.specs.Items.{alt_items, node_items, row_items, end_of}
+use Rattle.record_cursor.specs.NodeItems.{alt_items, node_items, row_items, end_of}
 use Rattle.archive_cut.specs.Opened.{opening_calls}
 use Rattle.archive_cut.specs.Runs.{Matches}
 use Rattle.archive_cut.specs.Short.{IsLeftOf}

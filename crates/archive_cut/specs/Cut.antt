@@ -1,5 +1,5 @@
 -- The archive of some of the versions, as a file.
-use Rattle.std.specs.Prelude.{◌≡◌, ℕ, ◌+◌, ◌-◌, List, [], ◌++◌, Option, Some, option_map, Result, Err, ⊤}
+use Rattle.std.specs.Prelude.{◌≡◌, ℕ, ◌+◌, ◌-◌, List, ◌++◌, Option, Some, option_map, Result, Err, ⊤}
 use Rattle.std.specs.List.{AllByRecursion}
 use Rattle.key_spec.specs.Data.{PlainRule}
 use Rattle.keyed_tree.specs.Data.{PlainKeyed}
@@ -16,10 +16,6 @@ use Rattle.archive_cut.specs.Sliced.{items}
 use Rattle.archive_cut.specs.declared.fault.CutFault.{CutFault}
 use Rattle.archive_cut.specs.declared.fault.CutFault.TheVariants.{Folder, TooLong}
 
--- where the draft is told, it is empty
-abbrev pub IsBlank : Option (List ℕ) → Type 0
-IsBlank draft = (bytes : List ℕ) → draft ≡ Some bytes → bytes ≡ []
-
 -- Where the file is the sound archive of some versions, the bytes are that of those from i to j.
 abbrev pub IsSlice : PlainHeader → List ℕ → ℕ → ℕ → Option Files → List ℕ → Type 0
 IsSlice h name i j files bytes = (front : List ℕ) (rules : List PlainRule) (vs : List PlainKeyed) → TellsFront files name h.length front → IsHeaderOf h front → SoundAs rules vs front → SoundAs rules (items i j vs) bytes
@@ -29,11 +25,6 @@ pub record Appended (h : PlainHeader) (name : List ℕ) (i j : ℕ) (files : Opt
   pub bytes : List ℕ
   pub drafted : now ≡ option_map (λ _. bytes) draft
   pub sound : IsSlice h name i j files bytes
-
--- a draft that is told gained some bytes
-pub record Lengthens (old new : Option (List ℕ)) : Type 0 where
-  pub bytes : List ℕ
-  pub is : new ≡ option_map (λ d. d ++ bytes) old
 
 -- Where the file would be too long: the draft, where it is told, is the header and what some calls of the writer append, which all fit, and the next call does not
 -- fit behind them. Each label and body that one of them is given fits its field and takes at most so many bytes, and each set is what is left of one that does.

@@ -10,7 +10,7 @@ use Rattle.record_copy.specs.State.{State}
 use Rattle.record_copy.specs.declared.fault.CopyFault.{CopyFault}
 use Rattle.record_copy.specs.declared.fault.CopyFault.TheVariants.{Damage}
 use Rattle.archive_cut.specs.Held.{held_view, KnowsFirst, alts_left, IsShortAlt}
-use Rattle.archive_cut.specs.Items.{alt_items}
+use Rattle.record_cursor.specs.NodeItems.{alt_items}
 use Rattle.archive_cut.specs.declared.held.Held.{Held}
 
 -- Of these alternatives, which came, what is held is left, and these items come next; or it failed, but for no damage.

@@ -1,5 +1,4 @@
 pub mod Sliced
-pub mod Items
 pub mod Faults
 pub mod Runs
 pub mod Short

@@ -10,7 +10,7 @@ use Rattle.record_copy.specs.Passes.{Passes}
 use Rattle.record_copy.specs.State.{State}
 use Rattle.record_copy.specs.declared.kind.Kind.{Kind}
 use Rattle.record_copy.specs.declared.kind.Kind.TheVariants.{Inner, Leaf}
-use Rattle.archive_cut.specs.Items.{alt_items, node_items, row_items}
+use Rattle.record_cursor.specs.NodeItems.{alt_items, node_items, row_items}
 
 abbrev pub ended_by : {T : Type 0} → Result T CursorFault → Option CursorFault
 ended_by (Ok x) = None

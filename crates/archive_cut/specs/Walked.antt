@@ -18,7 +18,7 @@ use Rattle.record_copy.specs.State.{State}
 use Rattle.record_copy.specs.declared.kind.Kind.{Kind}
 use Rattle.record_copy.specs.declared.kind.Kind.TheVariants.{Inner, Leaf}
 use Rattle.record_copy.specs.declared.fault.CopyFault.{CopyFault}
-use Rattle.archive_cut.specs.Items.{alt_items, node_items, row_items}
+use Rattle.record_cursor.specs.NodeItems.{alt_items, node_items, row_items}
 use Rattle.archive_cut.specs.Runs.{Matches}
 use Rattle.archive_cut.specs.Short.{IsLeftOf}
 use Rattle.archive_cut.specs.Skipped.{BegunSkipped}

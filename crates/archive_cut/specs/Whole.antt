@@ -21,7 +21,7 @@ use Rattle.record_copy.specs.Faults.{IfFolder, IfLong, IfWhole}
 use Rattle.record_copy.specs.Short.{AreShort}
 use Rattle.record_copy.specs.declared.fault.CopyFault.{CopyFault}
 use Rattle.record_copy.specs.declared.fault.CopyFault.TheVariants.{Damage, TooLong}
-use Rattle.archive_cut.specs.Items.{row_items}
+use Rattle.record_cursor.specs.NodeItems.{row_items}
 use Rattle.archive_cut.specs.Short.{IsLeftOf}
 use Rattle.archive_cut.specs.Sliced.{cut_set, sliced_row, items}
 use Rattle.archive_cut.specs.Walked.{AreApart}

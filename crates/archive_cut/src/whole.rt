@@ -12,10 +12,11 @@ ghost use Rattle.record_writer.specs.View.{writer_view};
 ghost use Rattle.xa_outside.specs.Causes.{Rose};
 ghost use Rattle.xa_outside.specs.Numbers.{PullsAndDrafts};
 ghost use Rattle.record_copy.specs.Faults.{fault_of};
-ghost use Rattle.archive_cut.specs.Cut.{Appended, IsBlank, Overfull, IfTooLong, IfFailed, Lengthens};
+ghost use Rattle.archive_cut.specs.Cut.{Appended, Overfull, IfTooLong, IfFailed};
 ghost use Rattle.archive_cut.specs.Sliced.{cut_set, items};
 ghost use Rattle.archive_cut.specs.Whole.{NodesCut, VersionsCut};
 ghost use Rattle.archive_cut.specs.declared.fault.CutFault.TheVariants.{Damage};
+ghost use Rattle.xa_outside.specs.Folder.{IsBlank, Lengthens};
 
 use crate::fault::{CutFault, done};
 use crate::walk::cut_row;

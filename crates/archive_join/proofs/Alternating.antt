@@ -13,7 +13,7 @@ use Rattle.record_copy.specs.Parts.{alternative_view}
 use Rattle.record_copy.specs.Passes.{Passes}
 use Rattle.record_copy.specs.Reads.{AlternativeRead, IsShortAlternative, Shows}
 use Rattle.record_copy.specs.Runs.{Run, IsPart, Sent}
-use Rattle.record_copy.specs.Seen.{Coming, alt_items}
+use Rattle.record_copy.specs.Seen.{Coming}
 use Rattle.record_copy.specs.Short.{AreShort, IfStored, IsRaisedOf, IsShortCall}
 use Rattle.record_copy.specs.State.{State}
 use Rattle.record_copy.specs.declared.fault.CopyFault.{CopyFault}
@@ -32,6 +32,7 @@ use Rattle.archive_join.specs.Runs.{AreCalls}
 use Rattle.archive_join.specs.Short.{IsMadeOf}
 use Rattle.archive_join.specs.declared.held.Held.{Held}
 use Rattle.archive_join.proofs.Running.{calls-as, calls-fault, calls-part, calls-then}
+use Rattle.record_cursor.specs.NodeItems.{alt_items}
 
 -- ---- faults
 

@@ -13,7 +13,7 @@ use Rattle.record_format.specs.Nodes.{dir_of, closed_by_end, alt_of, set_in, nod
 use Rattle.record_format.specs.Spelling.{rec_bytes}
 use Rattle.record_format.proofs.Pieces.{records_of}
 use Rattle.record_copy.specs.Raised.{raised_stamp, raised_alt, raised_node, raised_nodes}
-use Rattle.record_copy.specs.Seen.{seen, Coming, alt_items, node_items, row_items}
+use Rattle.record_copy.specs.Seen.{seen, Coming, node_items, row_items}
 use Rattle.record_cursor.specs.Items.{PlainItem, inner_item, leaf_item, alt_item, leaf_end_item, end_item, finish, item_of, items_of}
 use Rattle.record_cursor.specs.Moves.{TellsFront, IsHeaderOf}
 use Rattle.record_cursor.specs.Next.{Gives}
@@ -25,6 +25,7 @@ use Rattle.archive_file.proofs.FrontLaws.{behind_header}
 use Rattle.archive_file.proofs.SoundLaws.{sound-reads, versions-nested}
 use Rattle.archive_join.specs.Join.{IsArchive}
 use Rattle.archive_join.proofs.Running.{raised-none}
+use Rattle.record_cursor.specs.NodeItems.{alt_items}
 
 -- ---- node by node
 

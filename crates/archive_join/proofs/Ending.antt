@@ -6,7 +6,7 @@ use Rattle.key_spec.specs.Data.{PlainRule}
 use Rattle.keyed_tree.specs.Data.{PlainKeyed}
 use Rattle.archive_tree.specs.Data.{PlainNodes}
 use Rattle.xa_outside.specs.Causes.{Rose}
-use Rattle.xa_outside.specs.Folder.{Files}
+use Rattle.xa_outside.specs.Folder.{Files, IsBlank}
 use Rattle.xa_outside.specs.Numbers.{Numbers, PullsAndDrafts}
 use Rattle.xa_fields.proofs.Fields.{some_is}
 use Rattle.archive_file.specs.Sound.{SoundAs}
@@ -17,7 +17,7 @@ use Rattle.record_cursor.specs.Places.{among_nodes}
 use Rattle.record_cursor.specs.View.{PlainHeader, PlainCursor}
 use Rattle.record_format.specs.Files.{FileOf}
 use Rattle.archive_join.specs.Faults.{fault_of, plain, SparesFirst, SparesSecond}
-use Rattle.archive_join.specs.Join.{IsArchive, Appended, IsBlank, Overfull, IfTooLong, IfDamaged, IfFailed}
+use Rattle.archive_join.specs.Join.{IsArchive, Appended, Overfull, IfTooLong, IfDamaged, IfFailed}
 use Rattle.archive_join.specs.Runs.{AreCalls}
 use Rattle.archive_join.specs.Whole.{ArchivesJoined}
 use Rattle.archive_join.specs.declared.fault.JoinFault.{JoinFault}

@@ -18,7 +18,7 @@ use Rattle.record_copy.specs.Parts.{PlainHead, head_of}
 use Rattle.record_copy.specs.Passes.{Rests, Closes, IsOpen, EndsKind, call_of}
 use Rattle.record_copy.specs.Reads.{IsShortHead}
 use Rattle.record_copy.specs.Runs as copy
-use Rattle.record_copy.specs.Seen.{Coming, alt_items, row_items, inside_items}
+use Rattle.record_copy.specs.Seen.{Coming, row_items, inside_items}
 use Rattle.record_copy.specs.Short.{AreShort, IfStored, IsRaisedOf, IsShortCall, IsShortLabel}
 use Rattle.record_copy.specs.declared.kind.Kind.{Kind}
 use Rattle.record_copy.specs.declared.kind.Kind.TheVariants.{Inner, Leaf}
@@ -43,6 +43,7 @@ use Rattle.archive_join.proofs.Passing.{passes-none}
 use Rattle.archive_join.proofs.Running.{run-then, run-none, first-run, run-as, calls-then, calls-fault, calls-as, calls-part, spares-second, spares-own-first, comes-still, short-then, short-none}
 use Rattle.archive_join.proofs.SetLaws.{paired_made}
 use Rattle.archive_join.proofs.JoinWalking.{calls-stopped, never-long, same-side}
+use Rattle.record_cursor.specs.NodeItems.{alt_items}
 
 -- ---- writers
 

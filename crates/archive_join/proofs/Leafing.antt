@@ -15,7 +15,7 @@ use Rattle.record_copy.specs.Parts.{alternative_view}
 use Rattle.record_copy.specs.Passes.{Rests}
 use Rattle.record_copy.specs.Reads.{IsShortAlternative, Shows}
 use Rattle.record_copy.specs.Runs.{IsPart, Sent}
-use Rattle.record_copy.specs.Seen.{Coming, alt_items}
+use Rattle.record_copy.specs.Seen.{Coming}
 use Rattle.record_copy.specs.Short.{AreShort, IfStored, IsRaisedOf, IsShortCall}
 use Rattle.record_copy.specs.State as at_one
 use Rattle.record_copy.specs.declared.fault.CopyFault.{CopyFault}
@@ -45,6 +45,7 @@ use Rattle.archive_join.specs.declared.held.Held.{Held}
 use Rattle.archive_join.proofs.Alternating.{calls-map, calls-stopped}
 use Rattle.archive_join.proofs.Passing.{passes-stop, second-passes}
 use Rattle.archive_join.proofs.Running.{any-side, calls-as, calls-fault, calls-part, calls-then, comes-still, first-run, made-second, plain-side, run-none, run-then, second-run, side-fault, spares-first, spares-own-first, spares-second}
+use Rattle.record_cursor.specs.NodeItems.{alt_items}
 
 -- ---- those that are left
 

@@ -7,7 +7,7 @@ use Rattle.archive_tree.specs.Data.{PlainNode, inner_node, leaf_node, PlainNodes
 use Rattle.archive_tree.specs.Stands.{nums, under, rooted, numbered, StandsFor, EachStands, ArchiveOf}
 use Rattle.archive_tree.proofs.Parts.{each_has}
 use Rattle.record_copy.specs.Raised.{raised_nodes}
-use Rattle.archive_join.specs.Joined.{node_at, above}
+use Rattle.archive_join.specs.Joined.{above}
 use Rattle.archive_join.specs.Meets.{Meet, RowsMeet}
 use Rattle.archive_join.specs.Walked.{RowsFit}
 use Rattle.archive_join.proofs.Archives.{alike_roots}
@@ -15,6 +15,7 @@ use Rattle.archive_join.proofs.Later.{up, row_raised}
 use Rattle.archive_join.proofs.Nodes.{AlikeLists, alike_under, two_kinds, kinds_two}
 use Rattle.archive_join.proofs.BothSets.{later}
 use Rattle.archive_join.proofs.Weave.{has_found, has_above}
+use Rattle.archive_tree.specs.Seek.{node_with}
 
 -- with each node that stands for trees that are alike with its own
 abbrev Meets : PlainNode → Type 0
@@ -26,10 +27,10 @@ module _ (u v : PlainLabel → List (ℕ × PlainKeyed)) (alike : (l : PlainLabe
   abbrev Theirs : List PlainNode → Type 0
   Theirs js = (j : PlainNode) → Has j js → StandsFor j (v (node_label j)) qs
 
-  one_meets : (k : PlainNode) (js : List PlainNode) → Meets k → StandsFor k (u (node_label k)) ps → Theirs js → IfSome (node_at (node_label k) js) (λ j. Meet k j)
+  one_meets : (k : PlainNode) (js : List PlainNode) → Meets k → StandsFor k (u (node_label k)) ps → Theirs js → IfSome (node_with (node_label k) js) (λ j. Meet k j)
   one_meets k js meets h t =
       let l = node_label k in
-      elim (node_at l js) as (λ o. node_at l js ≡ o → IfSome o (λ j. Meet k j)) [
+      elim (node_with l js) as (λ o. node_with l js ≡ o → IfSome o (λ j. Meet k j)) [
         | None ↦ λ e. tt
         | Some j ↦ λ e. (let found = has_found l j js e in meets j (u l) (v l) ps qs (alike l) h (subst (λ z. StandsFor j (v z) qs) found.1 (t j found.0)))
       ] refl

@@ -21,10 +21,11 @@ use Rattle.archive_tree.proofs.Those.{all_those, those_has}
 use Rattle.nested_merge.proofs.Alikes.{AlikeBelow}
 use Rattle.nested_merge.proofs.Picked.{all_append, no_items}
 use Rattle.nested_merge.proofs.Stamps.{Below, eff-members, eff_canonical}
-use Rattle.archive_join.specs.Joined.{alone, paired, alone_node, alone_onto, node_at, below, above, alone_or_joined, joined_node, joined_row}
+use Rattle.archive_join.specs.Joined.{alone, paired, alone_node, alone_onto, below, above, alone_or_joined, joined_node, joined_row}
 use Rattle.archive_join.proofs.BothSets.{Above, paired_stamped, left_stamped, right_stamped}
 use Rattle.archive_join.proofs.Weave.{names, has_found, not_found, high_above, above_ascends, above_higher, below_lower, has_above, has_below, alone_label, alone_or_joined_label, joined_ascends, joined_left, joined_right}
 use Rattle.archive_join.proofs.Alts.{those_both, nums_both, alts_join, bodies_differ, bodies_covered, firsts_ascend}
+use Rattle.archive_tree.specs.Seek.{node_with}
 
 -- the sets of a parent in the two archives: the numbers of the first are below m, those of the second from m on
 pub record Apart (m : ℕ) (p q : List (ℕ × ℕ)) : Type 0 where
@@ -107,10 +108,10 @@ module _ (m : ℕ) (from : 1 ≤ m) where
         (subst (λ z. StandsFor (alone_node q p j) z (members p ++ members q)) (sym list) here, right_stand js r (λ i n. t i (inr n)) (λ i n. e i (inr n)) h)
 
     alone_or_joined_stands : (k : PlainNode) (js : List PlainNode) → Joins m k → StandsFor k (u (node_label k)) (members p) → Theirs js → (¬ (Has (node_label k) (names js)) → v (node_label k) ≡ [])
-        → StandsFor (alone_or_joined (alone_node p q k) (λ j. joined_node p q k j) (node_at (node_label k) js)) (w (node_label k)) (members p ++ members q)
+        → StandsFor (alone_or_joined (alone_node p q k) (λ j. joined_node p q k j) (node_with (node_label k) js)) (w (node_label k)) (members p ++ members q)
     alone_or_joined_stands k js joins h t none =
         let l = node_label k in
-        elim (node_at l js) as (λ o. node_at l js ≡ o → StandsFor (alone_or_joined (alone_node p q k) (λ j. joined_node p q k j) o) (w l) (members p ++ members q)) [
+        elim (node_with l js) as (λ o. node_with l js ≡ o → StandsFor (alone_or_joined (alone_node p q k) (λ j. joined_node p q k j) o) (w l) (members p ++ members q)) [
           | None ↦ λ e. subst (λ z. StandsFor (alone_node p q k) z (members p ++ members q)) (sym (both l ∙ ap (λ z. u l ++ z) (none (not_found l js e)) ∙ append-nil (u l))) (left_stands k p q (u l) apart (low l) h)
           | Some j ↦ λ e. (let found = has_found l j js e in
               let theirs : StandsFor j (v l) (members q) = subst (λ z. StandsFor j (v z) (members q)) found.1 (t j found.0) in
@@ -136,7 +137,7 @@ module _ (m : ℕ) (from : 1 ≤ m) where
           | inl e ↦ not_itself label_cmp_total l (subst (λ x. label_cmp x l ≡ Less) (sym e) less)
           | inr x ↦ not_both label_cmp_total (node_label j) l less (all_has (λ x. label_cmp l x ≡ Less) (labels ks) (node_label j) a.0 x)
         ]) in
-        let here' = subst (λ x. StandsFor (alone_or_joined (alone_node p q k) (λ j. joined_node p q k j) (node_at l js)) (w x) (members p ++ members q)) (sym (alone_or_joined_label p q k (node_at l js))) here in
+        let here' = subst (λ x. StandsFor (alone_or_joined (alone_node p q k) (λ j. joined_node p q k j) (node_with l js)) (w x) (members p ++ members q)) (sym (alone_or_joined_label p q k (node_with l js))) here in
         let rest = each_joins ks (above l js) (λ j i. joins j (inr i)) a.1 (above_ascends l js b) h.1
         (λ j i. t j (has_above l j js i))
         (λ x i d. ours x (inr i) (λ g. d (high_above l x js (all_has (λ y. label_cmp l y ≡ Less) (labels ks) x a.0 i) g)))

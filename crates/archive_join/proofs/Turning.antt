@@ -16,10 +16,11 @@ use Rattle.archive_tree.specs.Stands.{labels}
 use Rattle.record_copy.specs.Parts.{PlainHead, head_of}
 use Rattle.record_writer.specs.Walks.{node_calls, row_calls}
 use Rattle.archive_join.specs.Heads.{kind_cmp, turn}
-use Rattle.archive_join.specs.Joined.{node_at, below, above, alone_node, alone_onto, joined_node, joined_row, alone_or_joined}
+use Rattle.archive_join.specs.Joined.{below, above, alone_node, alone_onto, joined_node, joined_row, alone_or_joined}
 use Rattle.archive_join.specs.Meets.{Meet, RowsMeet}
 use Rattle.archive_join.specs.Walked.{RowsFit}
 use Rattle.archive_join.proofs.Weave.{names, lower_all}
+use Rattle.archive_tree.specs.Seek.{node_with}
 
 -- ---- labels
 
@@ -38,9 +39,9 @@ above_all : (l : PlainLabel) (js : List PlainNode) → AreAbove l js → above l
 above_all l [] h = refl
 above_all l (j ∷ js) h = ap (λ o. cond {A = List PlainNode} (is_le o) (above l js) (j ∷ js)) (back l (node_label j) Less h.0)
 
-found_none : (l : PlainLabel) (js : List PlainNode) → AreAbove l js → node_at l js ≡ None
+found_none : (l : PlainLabel) (js : List PlainNode) → AreAbove l js → node_with l js ≡ None
 found_none l [] h = refl
-found_none l (j ∷ js) h = ap (λ o. cond {A = Option PlainNode} (is_eq o) (Some j) (node_at l js)) (back l (node_label j) Less h.0) ∙ found_none l js h.1
+found_none l (j ∷ js) h = ap (λ o. cond {A = Option PlainNode} (is_eq o) (Some j) (node_with l js)) (back l (node_label j) Less h.0) ∙ found_none l js h.1
 
 -- ---- rows
 
@@ -50,7 +51,7 @@ module _ (p q : List (ℕ × ℕ)) where
   row_at k ks j js o =
       let l = node_label k in
       alone_onto q p (cond {A = List PlainNode} (is_lt o) (j ∷ below l js) [])
-      (node (alone_or_joined (alone_node p q k) (λ x. joined_node p q k x) (cond {A = Option PlainNode} (is_eq o) (Some j) (node_at l js))) (joined_row p q ks (cond {A = List PlainNode} (is_le o) (above l js) (j ∷ js))))
+      (node (alone_or_joined (alone_node p q k) (λ x. joined_node p q k x) (cond {A = Option PlainNode} (is_eq o) (Some j) (node_with l js))) (joined_row p q ks (cond {A = List PlainNode} (is_le o) (above l js) (j ∷ js))))
 
   row_alone : (k : PlainNode) (ks : PlainNodes) (js : List PlainNode) → AreAbove (node_label k) js → joined_row p q (node k ks) js ≡ node (alone_node p q k) (joined_row p q ks js)
   row_alone k ks js h = λ i. alone_onto q p (below_none (node_label k) js h i) (node (alone_or_joined (alone_node p q k) (λ x. joined_node p q k x) (found_none (node_label k) js h i)) (joined_row p q ks (above_all (node_label k) js h i)))
@@ -66,7 +67,7 @@ module _ (p q : List (ℕ × ℕ)) where
 -- what is said of the nodes of one label, where the first node of the second is that to the one of the first
 abbrev meet_at : PlainNode → PlainNodes → PlainNode → List PlainNode → Ordering → Type 0
 meet_at k ks j js o =
-    IfSome (cond {A = Option PlainNode} (is_eq o) (Some j) (node_at (node_label k) js)) (λ x. Meet k x) × RowsMeet ks (cond {A = List PlainNode} (is_le o) (above (node_label k) js) (j ∷ js))
+    IfSome (cond {A = Option PlainNode} (is_eq o) (Some j) (node_with (node_label k) js)) (λ x. Meet k x) × RowsMeet ks (cond {A = List PlainNode} (is_le o) (above (node_label k) js) (j ∷ js))
 
 meets : (k : PlainNode) (ks : PlainNodes) (j : PlainNode) (js : List PlainNode) (o : Ordering) → label_cmp (node_label j) (node_label k) ≡ o → RowsMeet (node k ks) (j ∷ js) → meet_at k ks j js o
 meets k ks j js o e h = subst (meet_at k ks j js) e h

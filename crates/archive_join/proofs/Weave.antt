@@ -14,7 +14,8 @@ use Rattle.archive_tree.specs.Data.{PlainNode, inner_node, leaf_node, PlainNodes
 use Rattle.archive_tree.specs.Stands.{labels}
 use Rattle.nested_merge.proofs.Picked.{all_append}
 use Rattle.nested_merge.proofs.Weave.{has_left, has_right}
-use Rattle.archive_join.specs.Joined.{node_at, below, above, alone_node, alone_onto, joined_node, joined_row, alone_or_joined}
+use Rattle.archive_join.specs.Joined.{below, above, alone_node, alone_onto, joined_node, joined_row, alone_or_joined}
+use Rattle.archive_tree.specs.Seek.{node_with}
 
 abbrev pub names : List PlainNode → List PlainLabel
 names js = map node_label js
@@ -36,13 +37,13 @@ not_le x m h =
       | Greater ↦ λ e t. rw e at back
     ] refl h
 
-lookup_less : (l : PlainLabel) (j : PlainNode) (js : List PlainNode) → label_cmp (node_label j) l ≡ Less → node_at l (j ∷ js) ≡ node_at l js
+lookup_less : (l : PlainLabel) (j : PlainNode) (js : List PlainNode) → label_cmp (node_label j) l ≡ Less → node_with l (j ∷ js) ≡ node_with l js
 lookup_less l j js e = rw e
 
-pub above_lookup : (m l : PlainLabel) (js : List PlainNode) → label_cmp m l ≡ Less → node_at l (above m js) ≡ node_at l js
+pub above_lookup : (m l : PlainLabel) (js : List PlainNode) → label_cmp m l ≡ Less → node_with l (above m js) ≡ node_with l js
 above_lookup m l [] h = refl
 above_lookup m l (j ∷ js) h =
-    elim (is_le (label_cmp (node_label j) m)) as (λ b. is_le (label_cmp (node_label j) m) ≡ b → node_at l (cond b (above m js) (j ∷ js)) ≡ node_at l (j ∷ js)) [
+    elim (is_le (label_cmp (node_label j) m)) as (λ b. is_le (label_cmp (node_label j) m) ≡ b → node_with l (cond b (above m js) (j ∷ js)) ≡ node_with l (j ∷ js)) [
       | true ↦ λ e. above_lookup m l js h ∙ sym (lookup_less l j js (le_less (node_label j) m l e h))
       | false ↦ λ e. refl
     ] refl
@@ -55,18 +56,18 @@ some_is a b e = cc
 none_is : (b : PlainNode) → ¬ (None ≡ Some b)
 none_is b e = cc
 
-pub has_found : (l : PlainLabel) (j : PlainNode) (js : List PlainNode) → node_at l js ≡ Some j → Has j js × (node_label j ≡ l)
+pub has_found : (l : PlainLabel) (j : PlainNode) (js : List PlainNode) → node_with l js ≡ Some j → Has j js × (node_label j ≡ l)
 has_found l j [] e = absurd (none_is j e)
 has_found l j (k ∷ ks) e =
-    elim (is_eq (label_cmp (node_label k) l)) as (λ b. is_eq (label_cmp (node_label k) l) ≡ b → cond b (Some k) (node_at l ks) ≡ Some j → Has j (k ∷ ks) × (node_label j ≡ l)) [
+    elim (is_eq (label_cmp (node_label k) l)) as (λ b. is_eq (label_cmp (node_label k) l) ≡ b → cond b (Some k) (node_with l ks) ≡ Some j → Has j (k ∷ ks) × (node_label j ≡ l)) [
       | true ↦ λ d f. (inl (some_is k j f), ap node_label (sym (some_is k j f)) ∙ (label_cmp-is_eq (node_label k) l).0 d)
       | false ↦ λ d f. (let rest = has_found l j ks f in (inr rest.0, rest.1))
     ] refl e
 
-pub not_found : (l : PlainLabel) (js : List PlainNode) → node_at l js ≡ None → ¬ (Has l (names js))
+pub not_found : (l : PlainLabel) (js : List PlainNode) → node_with l js ≡ None → ¬ (Has l (names js))
 not_found l [] e m = m
 not_found l (k ∷ ks) e m =
-    elim (is_eq (label_cmp (node_label k) l)) as (λ b. is_eq (label_cmp (node_label k) l) ≡ b → cond b (Some k) (node_at l ks) ≡ None → ⊥) [
+    elim (is_eq (label_cmp (node_label k) l)) as (λ b. is_eq (label_cmp (node_label k) l) ≡ b → cond b (Some k) (node_with l ks) ≡ None → ⊥) [
       | true ↦ λ d f. none_is k (sym f)
       | false ↦ λ d f. elim m [ inl g ↦ (let t = (label_cmp-is_eq (node_label k) l).1 g in cc) | inr n ↦ not_found l ks f n ]
     ] refl e
@@ -183,8 +184,8 @@ module _ (p q : List (ℕ × ℕ)) where
   labels_step k ks js =
       let low = below (node_label k) js in
       let rest = joined_row p q ks (above (node_label k) js) in
-      let here = alone_or_joined (alone_node p q k) (λ j. joined_node p q k j) (node_at (node_label k) js) in
-      labels_onto q p low (node here rest) ∙ ap (λ x. names low ++ x ∷ labels rest) (alone_or_joined_label p q k (node_at (node_label k) js))
+      let here = alone_or_joined (alone_node p q k) (λ j. joined_node p q k j) (node_with (node_label k) js) in
+      labels_onto q p low (node here rest) ∙ ap (λ x. names low ++ x ∷ labels rest) (alone_or_joined_label p q k (node_with (node_label k) js))
 
   pub labels_end : (js : List PlainNode) → labels (joined_row p q no_nodes js) ≡ names js ++ []
   labels_end js = labels_onto q p js no_nodes

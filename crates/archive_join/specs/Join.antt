@@ -1,5 +1,5 @@
 -- The archive of the versions of two archives, as a file.
-use Rattle.std.specs.Prelude.{◌≡◌, ℕ, ◌+◌, List, [], ◌++◌, Bool, Option, Some, option_map, Result, Err, ⊤}
+use Rattle.std.specs.Prelude.{◌≡◌, ℕ, ◌+◌, List, ◌++◌, Bool, Option, Some, option_map, Result, Err, ⊤}
 use Rattle.std.specs.List.{AllByRecursion}
 use Rattle.key_spec.specs.Data.{PlainRule}
 use Rattle.keyed_tree.specs.Data.{PlainKeyed}
@@ -15,10 +15,6 @@ use Rattle.archive_join.specs.Short.{IsMadeOf}
 use Rattle.archive_join.specs.declared.fault.JoinFault.{JoinFault}
 use Rattle.archive_join.specs.declared.fault.JoinFault.TheVariants.{Damage, Folder, TooLong}
 
--- where the draft is told, it is empty
-abbrev pub IsBlank : Option (List ℕ) → Type 0
-IsBlank draft = (bytes : List ℕ) → draft ≡ Some bytes → bytes ≡ []
-
 -- The file of this name is told, its header is this, and it is the sound archive of these versions.
 pub record IsArchive (files : Option Files) (name : List ℕ) (h : PlainHeader) (rules : List PlainRule) (vs : List PlainKeyed) : Type 0 where
   pub bytes : List ℕ
@@ -31,11 +27,6 @@ pub record Appended (h : PlainHeader) (name : List ℕ) (g : PlainHeader) (other
   pub bytes : List ℕ
   pub drafted : now ≡ option_map (λ _. bytes) draft
   pub sound : (rules : List PlainRule) (vs us : List PlainKeyed) → IsArchive files name h rules vs → IsArchive files other g rules us → SoundAs rules (vs ++ us) bytes
-
--- a draft that is told gained some bytes
-pub record Lengthens (old new : Option (List ℕ)) : Type 0 where
-  pub bytes : List ℕ
-  pub is : new ≡ option_map (λ d. d ++ bytes) old
 
 -- Where the file would be too long: the draft, where it is told, is the header and what some calls of the writer append, which all fit, and the next call does not
 -- fit behind them. Each label and body that one of them is given fits its field and takes at most so many bytes, and each set is made of one or two that do, of which the

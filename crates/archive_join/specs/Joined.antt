@@ -7,6 +7,7 @@ use Rattle.version_set.specs.Members.{united, upto_pairs}
 use Rattle.keyed_tree.specs.Data.{PlainKey, PlainLabel}
 use Rattle.keyed_tree.specs.Order.{key_cmp, label_cmp}
 use Rattle.archive_tree.specs.Data.{Stamp, PlainAlt, PlainNode, inner_node, leaf_node, PlainNodes, no_nodes, node, node_label, nodes_list, PlainArchive}
+use Rattle.archive_tree.specs.Seek.{node_with}
 use Rattle.record_copy.specs.Raised.{raised, raised_nodes}
 
 -- ---- stamps, under a parent that has p in the one archive and q in the other
@@ -61,10 +62,6 @@ abbrev pub alone_onto : List (ℕ × ℕ) → List (ℕ × ℕ) → List PlainNo
 alone_onto p q [] r = r
 alone_onto p q (k ∷ ks) r = node (alone_node p q k) (alone_onto p q ks r)
 
--- the node with the label
-abbrev pub node_at : PlainLabel → List PlainNode → Option PlainNode
-node_at l ks = find (λ k. is_eq (label_cmp (node_label k) l)) ks
-
 -- the front part of a row below a label
 abbrev pub below : PlainLabel → List PlainNode → List PlainNode
 below l [] = []
@@ -92,7 +89,7 @@ abbrev mutual
   pub joined_row : List (ℕ × ℕ) → List (ℕ × ℕ) → PlainNodes → List PlainNode → PlainNodes
   joined_row p q no_nodes js = alone_onto q p js no_nodes
   joined_row p q (node k ks) js = alone_onto q p (below (node_label k) js)
-      (node (alone_or_joined (alone_node p q k) (λ j. joined_node p q k j) (node_at (node_label k) js)) (joined_row p q ks (above (node_label k) js)))
+      (node (alone_or_joined (alone_node p q k) (λ j. joined_node p q k j) (node_with (node_label k) js)) (joined_row p q ks (above (node_label k) js)))
 
 -- the archive of the versions of a, and behind them those of b
 abbrev pub joined : PlainArchive → PlainArchive → PlainArchive

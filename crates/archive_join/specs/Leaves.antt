@@ -9,7 +9,7 @@ use Rattle.record_copy.specs.Parts.{alternative_view}
 use Rattle.record_copy.specs.Passes.{Passes, Rests}
 use Rattle.record_copy.specs.Reads.{IsShortAlternative, Shows}
 use Rattle.record_copy.specs.Runs as runs
-use Rattle.record_copy.specs.Seen.{Coming, alt_items}
+use Rattle.record_copy.specs.Seen.{Coming}
 use Rattle.record_copy.specs.Short.{AreShort, IsRaisedOf}
 use Rattle.record_copy.specs.State as copy
 use Rattle.record_copy.specs.declared.fault.CopyFault.{CopyFault}
@@ -26,6 +26,7 @@ use Rattle.archive_join.specs.Short.{IsMadeOf}
 use Rattle.archive_join.specs.State.{State}
 use Rattle.archive_join.specs.declared.fault.JoinFault.{JoinFault}
 use Rattle.archive_join.specs.declared.held.Held.{Held}
+use Rattle.record_cursor.specs.NodeItems.{alt_items}
 
 abbrev pub alternatives_view : List Alternative → List PlainAlt
 alternatives_view xs = map alternative_view xs

@@ -4,7 +4,8 @@ use Rattle.keyed_tree.specs.Lists.{Ascends}
 use Rattle.keyed_tree.specs.Order.{label_cmp}
 use Rattle.archive_tree.specs.Data.{PlainNode, inner_node, leaf_node, PlainNodes, no_nodes, node, node_label, nodes_list}
 use Rattle.archive_tree.specs.Stands.{AllDiffer, bodies, labels}
-use Rattle.archive_join.specs.Joined.{node_at, above}
+use Rattle.archive_join.specs.Joined.{above}
+use Rattle.archive_tree.specs.Seek.{node_with}
 
 -- Both are inner, and their rows can stand in one; or both are leaves, and the bodies of the second differ.
 abbrev mutual
@@ -17,4 +18,4 @@ abbrev mutual
   -- those of one label can
   pub RowsMeet : PlainNodes → List PlainNode → Type 0
   RowsMeet no_nodes js = ⊤
-  RowsMeet (node k ks) js = IfSome (node_at (node_label k) js) (λ j. Meet k j) × RowsMeet ks (above (node_label k) js)
+  RowsMeet (node k ks) js = IfSome (node_with (node_label k) js) (λ j. Meet k j) × RowsMeet ks (above (node_label k) js)

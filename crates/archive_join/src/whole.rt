@@ -1,7 +1,7 @@
 // Joining the files of two archives.
 ghost use Rattle.std.specs.Prelude.{◌≡◌, ◌+◌, ◌-◌, ◌≤◌, ◌++◌, [], ℕ, List, None, IfErr, OnOk, IfOk, true, false};
 ghost use Rattle.archive_join.specs.Faults.{fault_of};
-ghost use Rattle.archive_join.specs.Join.{Appended, IfDamaged, IfFailed, IfTooLong, IsArchive, IsBlank, Lengthens, Overfull};
+ghost use Rattle.archive_join.specs.Join.{Appended, IfDamaged, IfFailed, IfTooLong, IsArchive, Overfull};
 ghost use Rattle.archive_join.specs.Whole.{ArchivesJoined, Begun, NodesJoined};
 ghost use Rattle.key_spec.specs.Data.{PlainRule};
 ghost use Rattle.keyed_tree.specs.Data.{PlainKeyed};
@@ -14,6 +14,7 @@ ghost use Rattle.version_set.specs.Members.{upto_pairs};
 ghost use Rattle.version_set.specs.View.{pairs_of};
 ghost use Rattle.xa_outside.specs.Causes.{Rose};
 ghost use Rattle.xa_outside.specs.Numbers.{PullsAndDrafts};
+ghost use Rattle.xa_outside.specs.Folder.{IsBlank, Lengthens};
 
 use crate::fault::{JoinFault, of_side};
 use crate::sets::Sets;

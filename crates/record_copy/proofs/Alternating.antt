@@ -14,7 +14,7 @@ use Rattle.record_copy.specs.Parts.{alternative_view}
 use Rattle.record_copy.specs.Passes.{Passes, Rests}
 use Rattle.record_copy.specs.Reads.{AlternativeRead, Shows}
 use Rattle.record_copy.specs.Runs.{Run, Matches, IsPart, Sent}
-use Rattle.record_copy.specs.Seen.{Coming, alt_items}
+use Rattle.record_copy.specs.Seen.{Coming}
 use Rattle.record_copy.specs.Short.{IsRaisedOf, IsShortCall, AreShort}
 use Rattle.record_copy.specs.State.{State}
 use Rattle.record_copy.specs.declared.fault.CopyFault.{CopyFault}
@@ -22,6 +22,7 @@ use Rattle.record_copy.specs.declared.fault.CopyFault.TheVariants.{Damage, TooLo
 use Rattle.record_copy.specs.declared.parts.Alternative.{Alternative}
 use Rattle.record_copy.proofs.Passing.{coming-same}
 use Rattle.record_copy.proofs.Running.{run-then, run-none, matches-then, matches-fault, matches-part, short-then, short-none, short-part}
+use Rattle.record_cursor.specs.NodeItems.{alt_items}
 
 -- ---- reading
 

@@ -16,7 +16,7 @@ use Rattle.record_copy.specs.Parts.{PlainHead, head_of, head_view, opening}
 use Rattle.record_copy.specs.Passes.{Rests, Closes, IsOpen, EndsKind, call_of}
 use Rattle.record_copy.specs.Reads.{HeadRead}
 use Rattle.record_copy.specs.Runs.{Run, Matches, Sent}
-use Rattle.record_copy.specs.Seen.{Coming, alt_items, node_items, row_items, inside_items}
+use Rattle.record_copy.specs.Seen.{Coming, node_items, row_items, inside_items}
 use Rattle.record_copy.specs.Short.{IfStored, IsRaisedOf, IsShortCall, IsShortLabel, AreShort}
 use Rattle.record_copy.specs.State.{State}
 use Rattle.record_copy.specs.declared.kind.Kind.{Kind}
@@ -26,6 +26,7 @@ use Rattle.record_copy.specs.declared.parts.Head.{Head}
 use Rattle.record_copy.proofs.Alternating.{read-run, read-short, read-stops, whole-part, rests-behind}
 use Rattle.record_copy.proofs.Passing.{coming-as, coming-same}
 use Rattle.record_copy.proofs.Running.{run-then, matches-then, matches-fault, matches-part, short-part, short-then}
+use Rattle.record_cursor.specs.NodeItems.{alt_items}
 
 -- ---- the calls of a node
 

@@ -8,12 +8,13 @@ use Rattle.record_copy.specs.Faults.{Unless, fault_of}
 use Rattle.record_copy.specs.Parts.{PlainHead, head_of}
 use Rattle.record_copy.specs.Passes.{Rests, Closes, call_of}
 use Rattle.record_copy.specs.Runs.{Run, Matches}
-use Rattle.record_copy.specs.Seen.{Coming, alt_items, node_items, row_items, inside_items}
+use Rattle.record_copy.specs.Seen.{Coming, node_items, row_items, inside_items}
 use Rattle.record_copy.specs.Short.{AreShort, IfStored, IsShortLabel, IsRaisedOf}
 use Rattle.record_copy.specs.State.{State}
 use Rattle.record_copy.specs.declared.kind.Kind.{Kind}
 use Rattle.record_copy.specs.declared.kind.Kind.TheVariants.{Inner, Leaf}
 use Rattle.record_copy.specs.declared.fault.CopyFault.{CopyFault}
+use Rattle.record_cursor.specs.NodeItems.{alt_items}
 
 -- the calls that write what is inside a node that has the set, and close it
 abbrev pub inside_calls : List (ℕ × ℕ) → PlainNode → List WriterCall

@@ -1,9 +1,10 @@
 -- What comes in an archive file, seen with its numbers raised.
 use Rattle.std.specs.Prelude.{◌≡◌, ℕ, List, [], ◌∷◌, ◌++◌, map, Option}
-use Rattle.archive_tree.specs.Data.{PlainAlt, PlainNode, inner_node, leaf_node, PlainNodes, no_nodes, node}
+use Rattle.archive_tree.specs.Data.{PlainNode, inner_node, leaf_node, PlainNodes, no_nodes, node}
 use Rattle.xa_outside.specs.Folder.{Files}
 use Rattle.record_cursor.specs.Items.{PlainItem, inner_item, leaf_item, alt_item, leaf_end_item, end_item, finish}
 use Rattle.record_cursor.specs.Moves.{Comes}
+use Rattle.record_cursor.specs.NodeItems.{alt_items}
 use Rattle.record_cursor.specs.View.{PlainCursor}
 use Rattle.record_copy.specs.Raised.{raised_stamp}
 
@@ -23,9 +24,6 @@ pub record Coming (n : ℕ) (told : Option Files) (c : PlainCursor) (xs : List P
   pub are : map (seen n) items ≡ xs
 
 -- ---- what comes of nodes
-
-abbrev pub alt_items : List PlainAlt → List PlainItem
-alt_items xs = map (λ (x : PlainAlt). alt_item x.stamp x.body) xs
 
 -- a node opens, then come its alternatives or its kids, and it closes
 abbrev mutual

@@ -3,5 +3,6 @@ pub mod Sizes
 pub mod Comes
 pub mod Pulled
 pub mod Items
+pub mod NodeItems
 pub mod Headers
 pub mod ItemLaws

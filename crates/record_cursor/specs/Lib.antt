@@ -1,4 +1,5 @@
 pub mod Items
+pub mod NodeItems
 pub mod Places
 pub mod Next
 pub mod View

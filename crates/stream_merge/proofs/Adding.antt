@@ -9,13 +9,13 @@ use Rattle.key_spec.specs.Closed.{closed}
 use Rattle.key_spec.specs.Data.{PlainRule, PlainSpecFault}
 use Rattle.keyed_tree.specs.Data.{PlainKeyed}
 use Rattle.xa_fields.proofs.Fields.{some_is}
-use Rattle.xa_outside.specs.Folder.{Files, committed, emptied}
+use Rattle.xa_outside.specs.Folder.{Files, committed, emptied, IsBlank}
 use Rattle.record_format.specs.Files.{header_bytes, FileOf}
 use Rattle.record_cursor.specs.Moves.{TellsFront, IsHeaderOf}
 use Rattle.record_cursor.specs.View.{PlainHeader}
 use Rattle.record_cursor.proofs.Fills.{front-length}
 use Rattle.record_cursor.proofs.Headers.{header-is}
-use Rattle.stream_merge.specs.Added.{Added, Appended, IsBlank, Overfull, of_merge, IfTooLong, IfFailed}
+use Rattle.stream_merge.specs.Added.{Added, Appended, Overfull, of_merge, IfTooLong, IfFailed}
 use Rattle.stream_merge.specs.Appended.{Grows, NoRoomBehind}
 use Rattle.stream_merge.specs.Passes.{IfFolder}
 use Rattle.stream_merge.specs.declared.fault.AddFault.{AddFault}

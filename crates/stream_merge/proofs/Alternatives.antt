@@ -26,7 +26,7 @@ use Rattle.record_writer.specs.Data.{PlainWriter, WriterCall, call_alt, call_end
 use Rattle.record_writer.specs.Walks.{alt_calls}
 use Rattle.stream_merge.specs.Copied.{AltsCopied}
 use Rattle.stream_merge.specs.Does.{Made, Sends, Sent, Does}
-use Rattle.stream_merge.specs.Items.{alt_items, IsWithin}
+use Rattle.stream_merge.specs.Items.{IsWithin}
 use Rattle.stream_merge.specs.LeafMerged.{LeafMerged, AltsMerged, AltMerged}
 use Rattle.stream_merge.specs.Meets.{new_alts, alts_with, HasLeaf}
 use Rattle.stream_merge.specs.Passes.{Passes, Rests, Unless, fault_of, of_spell}
@@ -40,6 +40,7 @@ use Rattle.stream_merge.proofs.Copies.{no-more, rests-behind, ended-rests}
 use Rattle.stream_merge.proofs.Handed.{at-err}
 use Rattle.stream_merge.proofs.Rooms.{went-then, went-sent, set-alone}
 use Rattle.stream_merge.proofs.States.{passes-then, passes-none, passes-paid, does-then, does-fault, does-sends, sent-then, sent-fault}
+use Rattle.record_cursor.specs.NodeItems.{alt_items}
 
 -- ---- a leaf ends
 

@@ -8,7 +8,7 @@ use Rattle.key_spec.specs.Data.{PlainRule}
 use Rattle.keyed_tree.specs.Data.{PlainKeyed}
 use Rattle.xa_outside.specs.Causes.{Rose}
 use Rattle.xa_outside.specs.Folder.{Files}
-use Rattle.xa_outside.specs.Numbers.{Numbers, IsMeter, PullsAtMost, PullsAndDrafts, after_draft, after_pull}
+use Rattle.xa_outside.specs.Numbers.{Numbers, IsMeter, PullsAtMost, PullsAndDrafts, after_draft, after_pull, lead}
 use Rattle.xa_outside.specs.NumberLaws.{PullsAndDrafts-none, PullsAndDrafts-more}
 use Rattle.xa_fields.specs.Spelling.{u64_bytes}
 use Rattle.archive_tree.specs.Data.{PlainNodes}
@@ -37,17 +37,18 @@ use Rattle.record_writer.specs.declared.fault.WriteFault.TheVariants as writer
 use Rattle.record_writer.specs.declared.writer.Writer.{Writer}
 use Rattle.stream_merge.specs.Appended.{Reads, with_writer, Grows, NoRoomBehind, NodesAppended, VersionAppended}
 use Rattle.stream_merge.specs.Does.{Made, Walks, Sends, Sent, Does}
-use Rattle.stream_merge.specs.Items.{row_items, IsWithin}
+use Rattle.stream_merge.specs.Items.{IsWithin}
 use Rattle.stream_merge.specs.Passes.{IfFolder, Passes, of_cursor, of_writer, unpaid}
 use Rattle.stream_merge.specs.RowMerged.{RowMerged}
 use Rattle.stream_merge.specs.Short.{IsShortTree}
-use Rattle.stream_merge.specs.State.{State, state, lead}
+use Rattle.stream_merge.specs.State.{State, state}
 use Rattle.stream_merge.specs.View.{PlainInherited}
 use Rattle.stream_merge.specs.declared.fault.MergeFault.{MergeFault}
 use Rattle.stream_merge.specs.declared.fault.MergeFault.TheVariants.{Damage, Folder, TooLong, Memory}
 use Rattle.stream_merge.proofs.States.{Nexts, Stays, plain, lengthens-none, wrote-all, passes-then, passes-as, made-fault, does-sends, gap-read, gave, gave-stop, gave-takes, failed, passes-paid}
 use Rattle.stream_merge.proofs.Items.{finish-reads}
 use Rattle.stream_merge.proofs.Rooms.{went-read, went-then, went-sent, room-of}
+use Rattle.record_cursor.specs.NodeItems.{row_items}
 
 -- ---- a writer could not begin
 

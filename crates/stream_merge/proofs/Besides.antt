@@ -14,14 +14,14 @@ use Rattle.record_parts.specs.Shapes.{FitsLabel}
 use Rattle.record_writer.specs.Calls.{after, all_appended, AllFit}
 use Rattle.record_writer.specs.Data.{PlainWriter, OpenInner, WriterCall}
 use Rattle.record_writer.specs.Walks.{row_calls}
-use Rattle.xa_outside.specs.Numbers.{IsMeter}
+use Rattle.xa_outside.specs.Numbers.{IsMeter, lead}
 use Rattle.stream_merge.specs.Beside.{BelowPut, BeganBeside, IsBegun, inherited_with}
 use Rattle.stream_merge.specs.Does.{Made, Sends, Sent}
 use Rattle.stream_merge.specs.First.{SendsFirst}
 use Rattle.stream_merge.specs.Meets.{call_of, opening_of, turned, rest_of, stamp_beside, calls_beside, Begins}
 use Rattle.stream_merge.specs.Passes.{Rests, fault_of}
 use Rattle.stream_merge.specs.Short.{IsShortSet, IsShortStamp}
-use Rattle.stream_merge.specs.State.{State, lead}
+use Rattle.stream_merge.specs.State.{State}
 use Rattle.stream_merge.specs.View.{PlainInherited}
 use Rattle.stream_merge.specs.declared.begin.Kind.{Kind}
 use Rattle.stream_merge.specs.declared.begin.Kind.TheVariants.{Inner, Leaf}

@@ -21,7 +21,7 @@ use Rattle.record_writer.specs.Walks.{alt_calls, node_calls, row_calls}
 use Rattle.xa_outside.specs.Folder.{Files}
 use Rattle.stream_merge.specs.Copied.{InsideCopied, BegunCopied, ChildCopied, AltsCopied}
 use Rattle.stream_merge.specs.Does.{Sends, Sent, Does}
-use Rattle.stream_merge.specs.Items.{alt_items, end_of, node_items, row_items, IsWithin}
+use Rattle.stream_merge.specs.Items.{IsWithin}
 use Rattle.stream_merge.specs.Meets.{call_of, opening_of, Begins, IsOpen}
 use Rattle.stream_merge.specs.Passes.{Passes, Rests, Opens, Closes, Unless, of_cursor, unpaid}
 use Rattle.stream_merge.specs.Room.{WentIf}
@@ -35,6 +35,7 @@ use Rattle.stream_merge.proofs.States.{passes-then, passes-more, does-then, does
 use Rattle.stream_merge.proofs.Besides.{call-bytes, begins}
 use Rattle.stream_merge.proofs.Copies.{no-more, rests-behind}
 use Rattle.stream_merge.proofs.Rooms.{went-none, went-read, went-then, went-call, opening-label, opening-stamp, stamp-plain, set-in, call-short}
+use Rattle.record_cursor.specs.NodeItems.{alt_items, end_of, node_items, row_items}
 
 -- ---- nothing is written
 

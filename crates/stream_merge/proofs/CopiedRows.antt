@@ -13,13 +13,14 @@ use Rattle.record_writer.specs.Calls.{appended, all_appended, inner_ended}
 use Rattle.record_writer.specs.Walks.{node_calls, row_calls}
 use Rattle.stream_merge.specs.Copied.{RowCopied, InsideCopied, ChildCopied}
 use Rattle.stream_merge.specs.Does.{Made, Sent, Does}
-use Rattle.stream_merge.specs.Items.{node_items, row_items, IsWithin}
+use Rattle.stream_merge.specs.Items.{IsWithin}
 use Rattle.stream_merge.specs.Passes.{Rests, Closes, Unless, fault_of, unpaid}
 use Rattle.stream_merge.specs.State.{State}
 use Rattle.stream_merge.specs.declared.fault.MergeFault.{MergeFault}
 use Rattle.stream_merge.proofs.States.{passes-then, passes-fault, passes-paid, does-then, does-sends, does-fault}
 use Rattle.stream_merge.proofs.Copies.{all-front, all-back, no-more, rests-behind}
 use Rattle.stream_merge.proofs.Rooms.{went-then, went-sent}
+use Rattle.record_cursor.specs.NodeItems.{node_items, row_items}
 
 -- ---- the node that comes next, or the END
 

@@ -21,14 +21,16 @@ use Rattle.record_writer.specs.Calls.{appended, all_appended, leaf_ended}
 use Rattle.record_writer.specs.Walks.{alt_calls}
 use Rattle.stream_merge.specs.Copied.{AltsCopied}
 use Rattle.stream_merge.specs.Does.{Made, Sends, Sent, Does}
-use Rattle.stream_merge.specs.Items.{alt_items, IsWithin}
+use Rattle.stream_merge.specs.Items.{IsWithin}
 use Rattle.stream_merge.specs.Passes.{Passes, Rests, Unless, of_cursor}
 use Rattle.stream_merge.specs.Short.{IsShortCall}
-use Rattle.stream_merge.specs.State.{State, lead}
+use Rattle.stream_merge.specs.State.{State}
 use Rattle.stream_merge.specs.declared.fault.MergeFault.{MergeFault}
 use Rattle.stream_merge.specs.declared.fault.MergeFault.TheVariants.{Damage, Memory}
 use Rattle.stream_merge.proofs.States.{passes-then, does-then, does-fault, takes-sends, Nexts, Stays, front-of, gave-stop, gave-takes, gave-sent, gave-memory, failed, failed-does}
 use Rattle.stream_merge.proofs.Rooms.{went-read, went-call, went-then, alt-parts, stamp-plain}
+use Rattle.xa_outside.specs.Numbers.{lead}
+use Rattle.record_cursor.specs.NodeItems.{alt_items}
 
 -- ---- items that all are small
 

@@ -8,7 +8,7 @@ use Rattle.keyed_tree.specs.Data.{PlainKeyed}
 use Rattle.keyed_tree.specs.Plain.{plain}
 use Rattle.version_set.specs.Members.{upto_pairs}
 use Rattle.xa_outside.specs.Folder.{Files}
-use Rattle.xa_outside.specs.Numbers.{Numbers, IsMeter}
+use Rattle.xa_outside.specs.Numbers.{Numbers, IsMeter, lead}
 use Rattle.xa_outside.specs.NumberLaws.{PullsAndDrafts-more, PullsAndDrafts-trans}
 use Rattle.archive_tree.specs.Data.{PlainArchive}
 use Rattle.archive_tree.specs.Stands.{ArchiveOf}
@@ -34,15 +34,16 @@ use Rattle.stream_merge.specs.Appended.{Ends, WritesNodes, Grows, NoRoomBehind, 
 use Rattle.stream_merge.specs.Passes.{Unless}
 use Rattle.stream_merge.specs.Room.{NoRoom, NoRoomIf}
 use Rattle.stream_merge.specs.Short.{AreShortSets}
-use Rattle.stream_merge.specs.State.{State, state, lead}
+use Rattle.stream_merge.specs.State.{State, state}
 use Rattle.stream_merge.specs.View.{PlainInherited}
 use Rattle.stream_merge.specs.declared.fault.MergeFault.{MergeFault}
 use Rattle.stream_merge.specs.declared.fault.MergeFault.TheVariants.{Damage, Folder, TooLong, Memory}
 use Rattle.stream_merge.proofs.Rooms.{set-plain, upto-within}
 use Rattle.stream_merge.proofs.States.{cause-then, lengthens-then, wrote-all}
-use Rattle.stream_merge.proofs.Items.{items-are, all-within, finish-within, header-length}
+use Rattle.stream_merge.proofs.Items.{all-within, finish-within, header-length}
 use Rattle.archive_file.proofs.SoundLaws.{versions-nested}
 use Rattle.stream_merge.proofs.Whole.{Heads, sound-heads, old-below, old-fits, grown, walk-spelled, grown-sound, grown-none}
+use Rattle.record_cursor.proofs.NodeItems.{items-are}
 
 -- what the virtual root hands on, where there are so many versions
 abbrev pub root_inherited : ℕ → PlainInherited

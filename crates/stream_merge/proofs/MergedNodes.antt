@@ -31,7 +31,7 @@ use Rattle.stream_merge.specs.Beside.{BeganBeside, IsBegun}
 use Rattle.stream_merge.specs.Copied.{InsideCopied}
 use Rattle.stream_merge.specs.Does.{Sends, Sent, Does}
 use Rattle.stream_merge.specs.First.{HaveFitLabels}
-use Rattle.stream_merge.specs.Items.{alt_items, end_of, node_items, row_items, IsWithin}
+use Rattle.stream_merge.specs.Items.{IsWithin}
 use Rattle.stream_merge.specs.LeafMerged.{LeafMerged}
 use Rattle.stream_merge.specs.Meets.{opening_of, met, rest_of, kids_with, alts_with, inherited_beside, calls_beside, Begins}
 use Rattle.stream_merge.specs.Passes.{Passes, Rests, Unless, fault_of, of_cursor, unpaid}
@@ -51,6 +51,7 @@ use Rattle.stream_merge.proofs.ChildCopies.{node-front, end-front, opening, firs
 use Rattle.stream_merge.proofs.Puts.{row-sent}
 use Rattle.stream_merge.proofs.Rooms.{went-read, went-from, went-then, went-sent, opening-stamp, own-short, rest-calls, kid-short, kids-short}
 use Rattle.stream_merge.proofs.Weaving.{inner_met, leaf_met, own_alone, kid_known}
+use Rattle.record_cursor.specs.NodeItems.{alt_items, end_of, node_items, row_items}
 
 -- ---- before anything is written
 

@@ -21,7 +21,7 @@ use Rattle.record_writer.specs.Data.{WriterCall}
 use Rattle.record_writer.specs.Walks.{row_calls}
 use Rattle.stream_merge.specs.Does.{Does}
 use Rattle.stream_merge.specs.First.{DoesFirst}
-use Rattle.stream_merge.specs.Items.{node_items, row_items, IsWithin}
+use Rattle.stream_merge.specs.Items.{IsWithin}
 use Rattle.stream_merge.specs.Meets.{met}
 use Rattle.stream_merge.specs.Passes.{fault_of, unpaid}
 use Rattle.stream_merge.specs.RowMerged.{RowMerged, ChildMerged}
@@ -33,6 +33,7 @@ use Rattle.stream_merge.proofs.Copies.{all-front, all-back, no-more, rests-behin
 use Rattle.stream_merge.proofs.FitLabels.{row-labels}
 use Rattle.stream_merge.proofs.Rooms.{went-then, above-short}
 use Rattle.stream_merge.proofs.Weaving.{AreShapedKids, above_keeps, row_step, fit_step}
+use Rattle.record_cursor.specs.NodeItems.{node_items, row_items}
 
 no-some : (cs : List PlainKeyed) → ¬ (option_map kids_view None ≡ Some cs)
 no-some cs e = cc

@@ -16,10 +16,6 @@ use Rattle.stream_merge.specs.declared.fault.AddFault.TheVariants.{Damage, Folde
 use Rattle.stream_merge.specs.declared.fault.MergeFault.{MergeFault}
 use Rattle.stream_merge.specs.declared.fault.MergeFault.TheVariants as merge
 
--- where the draft is told, it is empty
-abbrev pub IsBlank : Option (List ℕ) → Type 0
-IsBlank draft = (bytes : List ℕ) → draft ≡ Some bytes → bytes ≡ []
-
 -- Where the file is the sound archive of some versions, the bytes are that of these and of the new one behind them.
 abbrev pub IsGrown : PlainHeader → List ℕ → PlainKeyed → Option Files → List ℕ → Type 0
 IsGrown h name new files bytes = (front : List ℕ) (rules : List PlainRule) (vs : List PlainKeyed) → TellsFront files name h.length front → IsHeaderOf h front → SoundAs rules vs front → SoundAs rules (vs ++ new ∷ []) bytes
@@ -36,11 +32,6 @@ pub record Added (h : PlainHeader) (name : List ℕ) (new : PlainKeyed) (files n
   pub stored : now ≡ committed files (option_map (λ _. bytes) draft) name
   pub blank : rest ≡ emptied draft
   pub sound : IsGrown h name new files bytes
-
--- a draft that is told gained some bytes
-pub record Lengthens (old new : Option (List ℕ)) : Type 0 where
-  pub bytes : List ℕ
-  pub is : new ≡ option_map (λ d. d ++ bytes) old
 
 -- Where the file would be too long: the draft, where it is told, is the header and what some calls of the writer append, which all fit, and the next call does not
 -- fit behind them. Each label and body that one of them is given fits its field and takes at most so many bytes, and so does each set, maybe with the new version, of

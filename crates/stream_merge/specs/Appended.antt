@@ -5,7 +5,7 @@ use Rattle.key_spec.specs.Data.{PlainRule}
 use Rattle.keyed_tree.specs.Data.{PlainKeyed}
 use Rattle.xa_outside.specs.Causes.{Rose}
 use Rattle.xa_outside.specs.Folder.{Files}
-use Rattle.xa_outside.specs.Numbers.{Numbers, PullsAndDrafts}
+use Rattle.xa_outside.specs.Numbers.{Numbers, PullsAndDrafts, lead}
 use Rattle.archive_tree.specs.Data.{PlainArchive, PlainNodes}
 use Rattle.archive_tree.specs.Stands.{ArchiveOf}
 use Rattle.archive_file.specs.Sound.{SoundAs}
@@ -22,14 +22,15 @@ use Rattle.record_writer.specs.View.{writer_view}
 use Rattle.record_writer.specs.Walks.{row_calls}
 use Rattle.record_writer.specs.declared.writer.Writer.{Writer}
 use Rattle.stream_merge.specs.Does.{Made}
-use Rattle.stream_merge.specs.Items.{row_items, IsWithin}
+use Rattle.stream_merge.specs.Items.{IsWithin}
 use Rattle.stream_merge.specs.Passes.{Unless, IfFolder}
 use Rattle.stream_merge.specs.Room.{NoRoom, NoRoomIf}
 use Rattle.stream_merge.specs.Short.{AreShortSets, IsShortTree}
-use Rattle.stream_merge.specs.State.{State, state, lead}
+use Rattle.stream_merge.specs.State.{State, state}
 use Rattle.stream_merge.specs.View.{PlainInherited}
 use Rattle.stream_merge.specs.declared.fault.MergeFault.{MergeFault}
 use Rattle.stream_merge.specs.declared.fault.MergeFault.TheVariants.{Damage, TooLong}
+use Rattle.record_cursor.specs.NodeItems.{row_items}
 
 -- Whatever the file is: the files stay, the draft only grows, by these bytes, the folder fails only where its count rose, and at most so many bytes are read. What
 -- was read is then ahead of what was written by so many bytes less than before.

@@ -15,11 +15,12 @@ use Rattle.stream_merge.specs.Meets.{opening_of, Begins, calls_beside, inherited
 use Rattle.stream_merge.specs.Passes.{Passes, fault_of}
 use Rattle.stream_merge.specs.Room.{WentIf}
 use Rattle.stream_merge.specs.Short.{AreShortSets, IsShortTree}
-use Rattle.stream_merge.specs.State.{State, lead}
+use Rattle.stream_merge.specs.State.{State}
 use Rattle.stream_merge.specs.View.{PlainInherited}
 use Rattle.stream_merge.specs.declared.begin.Kind.{Kind}
 use Rattle.stream_merge.specs.declared.fault.MergeFault.{MergeFault}
 use Rattle.stream_merge.specs.declared.fault.MergeFault.TheVariants.{TooLong, Memory}
+use Rattle.xa_outside.specs.Numbers.{lead}
 
 -- what the kids inherit of a node with this stamp that the version has, or has not
 abbrev pub inherited_with : PlainInherited → Bool → Stamp → PlainInherited

@@ -7,7 +7,7 @@ use Rattle.record_cursor.specs.Moves.{Comes}
 use Rattle.record_writer.specs.Data.{call_end_leaf, call_end_inner}
 use Rattle.record_writer.specs.Walks.{alt_calls, node_calls, row_calls}
 use Rattle.stream_merge.specs.Does.{Does}
-use Rattle.stream_merge.specs.Items.{alt_items, node_items, row_items, IsWithin}
+use Rattle.stream_merge.specs.Items.{IsWithin}
 use Rattle.stream_merge.specs.Passes.{Passes, Rests, Closes, Unless, fault_of, unpaid, unpaid_at}
 use Rattle.stream_merge.specs.Room.{WentIf}
 use Rattle.stream_merge.specs.Short.{IsShortSet}
@@ -15,6 +15,7 @@ use Rattle.stream_merge.specs.State.{State}
 use Rattle.stream_merge.specs.declared.begin.Kind.{Kind}
 use Rattle.stream_merge.specs.declared.begin.Kind.TheVariants.{Inner, Leaf}
 use Rattle.stream_merge.specs.declared.fault.MergeFault.{MergeFault}
+use Rattle.record_cursor.specs.NodeItems.{alt_items, node_items, row_items}
 
 -- The nodes of a row under a node that has this set are written, where they come and the END behind them.
 pub record RowCopied (q : List (ℕ × ℕ)) (s t : State) (ended : Option MergeFault) : Type 0 where

@@ -4,11 +4,12 @@ use Rattle.record_cursor.specs.Items.{PlainItem}
 use Rattle.record_cursor.specs.Moves.{Comes}
 use Rattle.record_writer.specs.Data.{WriterCall}
 use Rattle.record_writer.specs.Calls.{all_appended, after_all, AllFit}
-use Rattle.stream_merge.specs.State.{State, lead}
+use Rattle.stream_merge.specs.State.{State}
 use Rattle.stream_merge.specs.Passes.{Unless, Passes}
 use Rattle.stream_merge.specs.Room.{StopsIf}
 use Rattle.stream_merge.specs.declared.fault.MergeFault.{MergeFault}
 use Rattle.stream_merge.specs.declared.fault.MergeFault.TheVariants.{Damage, TooLong}
+use Rattle.xa_outside.specs.Numbers.{lead}
 
 -- the writer was called so, one call after the other, which appended these bytes
 pub record Walks (x : List ℕ) (cs : List WriterCall) (s t : State) : Type 0 where

@@ -13,7 +13,7 @@ use Rattle.record_cursor.specs.Moves.{Comes}
 use Rattle.record_writer.specs.Data.{call_end_leaf}
 use Rattle.record_writer.specs.Walks.{alt_calls}
 use Rattle.stream_merge.specs.Does.{Does}
-use Rattle.stream_merge.specs.Items.{alt_items, IsWithin}
+use Rattle.stream_merge.specs.Items.{IsWithin}
 use Rattle.stream_merge.specs.Meets.{alts_with, HasLeaf}
 use Rattle.stream_merge.specs.Passes.{Passes, Rests, Unless, fault_of, unpaid_with}
 use Rattle.stream_merge.specs.Room.{WentIf}
@@ -21,6 +21,7 @@ use Rattle.stream_merge.specs.Short.{AreShortSets, IsShortBody, IsShortTree}
 use Rattle.stream_merge.specs.State.{State}
 use Rattle.stream_merge.specs.View.{PlainInherited}
 use Rattle.stream_merge.specs.declared.fault.MergeFault.{MergeFault}
+use Rattle.record_cursor.specs.NodeItems.{alt_items}
 
 -- The alternatives of a leaf are merged with what the version has of it, or with nothing, and the leaf is closed.
 pub record LeafMerged (own : PlainInherited) (kid : Option PlainKeyed) (s t : State) (ended : Option MergeFault) : Type 0 where

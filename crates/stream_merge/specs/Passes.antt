@@ -1,7 +1,7 @@
 -- What a part of the merge does, whatever the archive is.
 use Rattle.std.specs.Prelude.{◌≡◌, ℕ, ◌+◌, ◌-◌, ◌≤◌, List, ◌∷◌, ◌++◌, Bool, true, false, Option, Some, None, option_map, Result, Ok, Err, ⊤}
 use Rattle.xa_outside.specs.Causes.{Rose}
-use Rattle.xa_outside.specs.Numbers.{PullsAndDrafts}
+use Rattle.xa_outside.specs.Numbers.{PullsAndDrafts, lead}
 use Rattle.keyed_parts.specs.declared.fault.SpellFault.{SpellFault}
 use Rattle.keyed_parts.specs.declared.fault.SpellFault.TheVariants as spell
 use Rattle.record_cursor.specs.declared.fault.CursorFault.{CursorFault}
@@ -9,7 +9,7 @@ use Rattle.record_cursor.specs.declared.fault.CursorFault.TheVariants as cursor
 use Rattle.record_writer.specs.Data.{OpenInner, PlainWriter}
 use Rattle.record_writer.specs.declared.fault.WriteFault.{WriteFault}
 use Rattle.record_writer.specs.declared.fault.WriteFault.TheVariants as writer
-use Rattle.stream_merge.specs.State.{State, lead}
+use Rattle.stream_merge.specs.State.{State}
 use Rattle.stream_merge.specs.declared.fault.MergeFault.{MergeFault}
 use Rattle.stream_merge.specs.declared.fault.MergeFault.TheVariants.{Damage, Folder, TooLong, Memory}
 

@@ -16,7 +16,7 @@ use Rattle.record_writer.specs.Data.{call_end_inner}
 use Rattle.record_writer.specs.Walks.{row_calls}
 use Rattle.stream_merge.specs.Does.{Does}
 use Rattle.stream_merge.specs.First.{DoesFirst}
-use Rattle.stream_merge.specs.Items.{node_items, row_items, IsWithin}
+use Rattle.stream_merge.specs.Items.{IsWithin}
 use Rattle.stream_merge.specs.LeafMerged.{LeafMerged}
 use Rattle.stream_merge.specs.Meets.{kids_with, met, rest_of}
 use Rattle.stream_merge.specs.Passes.{Passes, Rests, Closes, Unless, fault_of, unpaid, unpaid_with}
@@ -27,6 +27,7 @@ use Rattle.stream_merge.specs.View.{PlainInherited}
 use Rattle.stream_merge.specs.declared.begin.Kind.{Kind}
 use Rattle.stream_merge.specs.declared.begin.Kind.TheVariants.{Inner, Leaf}
 use Rattle.stream_merge.specs.declared.fault.MergeFault.{MergeFault}
+use Rattle.record_cursor.specs.NodeItems.{node_items, row_items}
 
 -- The row is merged with these kids, where it comes and the END behind it.
 pub record RowMerged (h : PlainInherited) (cs : List PlainKeyed) (s t : State) (ended : Option MergeFault) : Type 0 where

@@ -1,5 +1,5 @@
 -- What a merge goes along: a folder, the cursor that reads the archive, and the writer of the next one.
-use Rattle.std.specs.Prelude.{ℕ, ◌-◌, List, Option}
+use Rattle.std.specs.Prelude.{ℕ, List, Option}
 use Rattle.xa_outside.specs.Folder.{Files}
 use Rattle.xa_outside.specs.Numbers.{Numbers}
 use Rattle.record_cursor.specs.View.{PlainCursor}
@@ -26,7 +26,3 @@ state files draft numbers faults folder cursor writer =
       cursor = cursor;
       writer = writer_view writer;
     }
-
--- how far what was read is ahead of what was written
-abbrev pub lead : Numbers → ℕ
-lead m = m.since - m.drafted

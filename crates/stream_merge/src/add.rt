@@ -18,13 +18,12 @@ ghost use Rattle.record_format.specs.Files.{FileOf, header_bytes, largest};
 ghost use Rattle.record_format.specs.Shapes.{IsShapedNode};
 ghost use Rattle.record_writer.specs.View.{writer_view};
 ghost use Rattle.xa_outside.specs.Causes.{Rose};
-ghost use Rattle.xa_outside.specs.Folder.{committed, emptied};
-ghost use Rattle.xa_outside.specs.Numbers.{PullsAndDrafts};
-ghost use Rattle.stream_merge.specs.Added.{Added, Appended, IsBlank, Overfull, IfTooLong, IfFailed, Lengthens};
+ghost use Rattle.xa_outside.specs.Folder.{committed, emptied, IsBlank, Lengthens};
+ghost use Rattle.xa_outside.specs.Numbers.{PullsAndDrafts, lead};
+ghost use Rattle.stream_merge.specs.Added.{Added, Appended, Overfull, IfTooLong, IfFailed};
 ghost use Rattle.stream_merge.specs.Appended.{NodesAppended, VersionAppended};
 ghost use Rattle.stream_merge.specs.Passes.{fault_of};
 ghost use Rattle.stream_merge.specs.Short.{IsShortTree};
-ghost use Rattle.stream_merge.specs.State.{lead};
 ghost use Rattle.stream_merge.specs.View.{inherited_view};
 ghost use Rattle.stream_merge.specs.declared.fault.AddFault.TheVariants.{Damage, Limit};
 

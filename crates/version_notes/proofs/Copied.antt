@@ -4,14 +4,14 @@ use Rattle.std.specs.Prelude.{option_map, max, String, string_bytes}
 use Rattle.std.specs.Global.{Global}
 use Rattle.xa_fields.proofs.Fields.{some_is}
 use Rattle.xa_fields.specs.Spelling.{text_bytes}
-use Rattle.xa_outside.specs.Folder.{Files, Drafts, DraftsPrefix}
-use Rattle.xa_outside.specs.Numbers.{Numbers, IsMeter, PullsAtMost, PullsAndDrafts, after_draft, after_pull}
+use Rattle.xa_outside.specs.Folder.{Files, Drafts, DraftsPrefix, Lengthens}
+use Rattle.xa_outside.specs.Numbers.{Numbers, IsMeter, PullsAtMost, PullsAndDrafts, after_draft, after_pull, lead}
 use Rattle.xa_outside.specs.NumberLaws.{PullsAndDrafts-none, PullsAndDrafts-of_pulls, PullsAndDrafts-of_draft, PullsAndDrafts-more, PullsAndDrafts-trans}
 use Rattle.version_notes.specs.Faults.{IfDamage}
 use Rattle.version_notes.specs.Notes.{IsNote, most}
 use Rattle.version_notes.specs.Reader.{PlainReader, IsNext, IsSettled, Moves, behind, file_of, most_read, next_of, place_behind, read_from, read_for}
 use Rattle.version_notes.specs.Reading.{all_read, notes_from}
-use Rattle.version_notes.specs.Walk.{Copies, IsPrompt, Lengthens, lead}
+use Rattle.version_notes.specs.Walk.{Copies, IsPrompt}
 use Rattle.version_notes.specs.Writer.{PlainWriter, after, after_all, all_appended, appended, empty_texts, waits}
 use Rattle.version_notes.specs.declared.fault.NotesFault.{NotesFault}
 use Rattle.version_notes.specs.declared.place.Place.{Place}

@@ -1,8 +1,7 @@
 -- What a call does that goes through all notes that are left.
-use Rattle.std.specs.Prelude.{◌≡◌, ◌⊎◌, ℕ, ◌-◌, ◌||◌, not, true, List, ◌++◌, length, Option, Some, None, IfSome, option_map}
+use Rattle.std.specs.Prelude.{◌≡◌, ◌⊎◌, ℕ, ◌||◌, not, true, List, ◌++◌, length, Option, Some, None, IfSome, option_map}
 use Rattle.std.specs.List.{AllByRecursion}
 use Rattle.xa_outside.specs.Folder.{Files}
-use Rattle.xa_outside.specs.Numbers.{Numbers}
 use Rattle.version_notes.specs.Notes.{IsNote, are_empty}
 use Rattle.version_notes.specs.Reader.{PlainReader, file_of}
 use Rattle.version_notes.specs.Reading.{notes_from}
@@ -18,15 +17,6 @@ pub record Copies (files : Option Files) (r : PlainReader) (before after : Plain
   pub given : (told : Files) → files ≡ Some told → notes_from r (file_of told r.name) ≡ Some notes
   pub pushed : after ≡ after_all before notes
   pub gains : now ≡ option_map (λ d. d ++ all_appended before notes) draft
-
--- a draft that is told gained some bytes
-pub record Lengthens (old new : Option (List ℕ)) : Type 0 where
-  pub bytes : List ℕ
-  pub is : new ≡ option_map (λ d. d ++ bytes) old
-
--- how far what was read is ahead of what was written
-abbrev pub lead : Numbers → ℕ
-lead m = m.since - m.drafted
 
 -- each note is appended at once, or none is read, where the file has none
 abbrev pub IsPrompt : PlainReader → PlainWriter → Type 0

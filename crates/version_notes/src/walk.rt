@@ -2,13 +2,13 @@
 ghost use Rattle.std.specs.Prelude.{◌≡◌, ◌+◌, ◌≤◌, ◌||◌, not, true, length, map, max, Some, None, IfOk, IfErr, IfSome, IsSome, OnOk, OnErr, MatchResult, string_bytes};
 ghost use Rattle.std.specs.List.{AllByRecursion};
 ghost use Rattle.xa_outside.specs.Causes.{Rose};
-ghost use Rattle.xa_outside.specs.Folder.{Files};
-ghost use Rattle.xa_outside.specs.Numbers.{PullsAndDrafts, PullsAtMost};
+ghost use Rattle.xa_outside.specs.Folder.{Files, Lengthens};
+ghost use Rattle.xa_outside.specs.Numbers.{PullsAndDrafts, PullsAtMost, lead};
 ghost use Rattle.version_notes.specs.Faults.{IfDamage, IfFolder};
 ghost use Rattle.version_notes.specs.Notes.{IsNote, are_empty, most};
 ghost use Rattle.version_notes.specs.Reader.{file_of};
 ghost use Rattle.version_notes.specs.Reading.{all_read, notes_from};
-ghost use Rattle.version_notes.specs.Walk.{Copies, IsPrompt, Lengthens, lead};
+ghost use Rattle.version_notes.specs.Walk.{Copies, IsPrompt};
 
 use crate::fault::NotesFault;
 use crate::reader::NoteReader;

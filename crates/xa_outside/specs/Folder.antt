@@ -30,6 +30,15 @@ committed files draft name = option_and_then (λ fs. option_map (λ bytes. map.i
 abbrev pub emptied : Option (List ℕ) → Option (List ℕ)
 emptied draft = option_map (λ _. []) draft
 
+-- where the draft is told, it is empty
+abbrev pub IsBlank : Option (List ℕ) → Type 0
+IsBlank draft = (bytes : List ℕ) → draft ≡ Some bytes → bytes ≡ []
+
+-- a draft that is told gained some bytes
+pub record Lengthens (old new : Option (List ℕ)) : Type 0 where
+  pub bytes : List ℕ
+  pub is : new ≡ option_map (λ d. d ++ bytes) old
+
 -- the draft grows by these bytes, and they are counted
 pub record Drafts (old new : Option (List ℕ)) (before after : Numbers) (bytes : List ℕ) : Type 0 where
   pub draft : new ≡ option_map (λ d. d ++ bytes) old

@@ -24,6 +24,10 @@ pub record IsMeter (m : Numbers) : Type 0 where
   pub drafted_small : m.drafted < 2 ^ 64
   pub covers : m.since - m.drafted ≤ m.gap
 
+-- how far what was pulled since the last `begin` is ahead of what was drafted
+abbrev pub lead : Numbers → ℕ
+lead m = m.since - m.drafted
+
 abbrev pub after_pull : Numbers → ℕ → Numbers
 after_pull m n =
     record {

@@ -2,7 +2,7 @@
 use Rattle.std.proofs.Common.{◌≡◌, inl, inr, ℕ, ◌+◌, ◌-◌, ◌≤◌, List, ◌++◌, Option, Some, option_map, Result, Err, IfErr, OnOk, refl, sym, ap, ◌∙◌, subst, arith}
 use Rattle.std.specs.Result.{IsErrAnd}
 use Rattle.xa_outside.specs.Causes.{Rose}
-use Rattle.xa_outside.specs.Folder.{Files, committed}
+use Rattle.xa_outside.specs.Folder.{Files, committed, Lengthens}
 use Rattle.xa_outside.specs.Numbers.{Numbers, IsMeter, PullsAndDrafts}
 use Rattle.key_spec.specs.Data.{PlainRule}
 use Rattle.keyed_tree.specs.Data.{PlainKeyed}
@@ -11,7 +11,7 @@ use Rattle.record_cursor.specs.Moves.{IsHeaderOf, TellsFront}
 use Rattle.record_cursor.specs.Places.{among_nodes}
 use Rattle.record_cursor.specs.View.{PlainCursor, PlainHeader, header_view}
 use Rattle.record_format.specs.Files.{FileOf}
-use Rattle.archive_cut.specs.Cut.{IfTooLong, IfFailed, Lengthens, Overfull}
+use Rattle.archive_cut.specs.Cut.{IfTooLong, IfFailed, Overfull}
 use Rattle.archive_cut.specs.Sliced.{items}
 use Rattle.archive_cut.specs.declared.fault.CutFault.{CutFault}
 use Rattle.archive_cut.specs.declared.fault.CutFault.TheVariants.{Damage, Folder, TooLong, Memory}

@@ -3,13 +3,13 @@ use Rattle.std.proofs.Common.{◌≡◌, inl, inr, ℕ, ◌+◌, ◌-◌, ◌≤
 use Rattle.std.specs.Prelude.{Bool}
 use Rattle.std.specs.Result.{IsErrAnd}
 use Rattle.xa_outside.specs.Causes.{Rose}
-use Rattle.xa_outside.specs.Folder.{Files, committed}
+use Rattle.xa_outside.specs.Folder.{Files, committed, Lengthens}
 use Rattle.xa_outside.specs.Numbers.{Numbers, IsMeter, PullsAndDrafts}
 use Rattle.key_spec.specs.Data.{PlainRule}
 use Rattle.keyed_tree.specs.Data.{PlainKeyed}
 use Rattle.record_cursor.specs.View.{PlainHeader, header_view}
 use Rattle.record_format.specs.Files.{FileOf}
-use Rattle.archive_join.specs.Join.{Appended, IfDamaged, IfFailed, IfTooLong, IsArchive, Lengthens, Overfull}
+use Rattle.archive_join.specs.Join.{Appended, IfDamaged, IfFailed, IfTooLong, IsArchive, Overfull}
 use Rattle.archive_join.specs.declared.fault.JoinFault.{JoinFault}
 use Rattle.archive_join.specs.declared.fault.JoinFault.TheVariants.{Damage, Folder, TooLong, Memory}
 use Rattle.version_notes.specs.Notes.{are_empty, notes_part}

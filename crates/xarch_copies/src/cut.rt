@@ -5,7 +5,7 @@ ghost use Rattle.xa_outside.specs.Taken.{Taken};
 ghost use Rattle.record_cursor.specs.View.{header_view, IsHeader};
 ghost use Rattle.xarch_words.specs.Commands as command;
 ghost use Rattle.xarch_words.specs.View.{fault_view};
-ghost use Rattle.xarch_parts.specs.Archives.{IsBlank};
+ghost use Rattle.xa_outside.specs.Folder.{IsBlank};
 ghost use Rattle.xarch_parts.specs.Ends.{IsInside, Matches, fault_of};
 ghost use Rattle.xarch_meanings.specs.Cut.{are_versions};
 ghost use Rattle.xarch_meanings.specs.FillsUp.{FillsUp, IsLimited};

@@ -40,10 +40,6 @@ pub record IsFrontOf (files : Files) (name : List ℕ) (h : PlainHeader) : Type 
   pub of : CoreIs files name h.length core
   pub is : header_at core ≡ Some ((h.rules, h.versions), drop h.first core)
 
--- where the draft is told, it is empty
-abbrev pub IsBlank : Option (List ℕ) → Type 0
-IsBlank draft = (bytes : List ℕ) → draft ≡ Some bytes → bytes ≡ []
-
 -- where the draft is told, it is these bytes
 abbrev pub IsDrafted : Option (List ℕ) → List ℕ → Type 0
 IsDrafted draft bytes = (told : List ℕ) → draft ≡ Some told → told ≡ bytes

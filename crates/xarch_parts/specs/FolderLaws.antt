@@ -1,14 +1,13 @@
 -- What the parts of a command do to a folder makes up what the command does to it.
 use Rattle.std.proofs.Common.{◌≡◌, ◌⊎◌, inl, inr, ℕ, ◌+◌, ◌≤◌, List, [], ◌++◌, length, Option, Some, None, IsSome, option_map, Result, Ok, Err, refl, sym, ap, ◌∙◌, subst, arith}
 use Rattle.std.specs.Result.{IsErrAnd}
-use Rattle.xa_outside.specs.Folder.{Drafts, Files, committed, emptied}
+use Rattle.xa_outside.specs.Folder.{Drafts, Files, committed, emptied, IsBlank}
 use Rattle.xa_outside.specs.Numbers.{Numbers, IsMeter, PullsAtMost, PullsAndDrafts, after_begin, after_draft, after_pull}
 use Rattle.xa_outside.specs.NumberLaws.{PullsAtMost-none, PullsAtMost-more, PullsAtMost-trans, PullsAndDrafts-of_pulls, PullsAndDrafts-more, PullsAndDrafts-trans, after_draft-none, after_draft-twice}
 use Rattle.xa_outside.specs.CauseLaws.{Rose-later}
 use Rattle.xarch_words.specs.Refusal.{PlainFault, refused, folder_fault, out_fault, in_fault, memory}
 use Rattle.xarch_words.specs.View.{fault_view}
 use Rattle.xarch_words.specs.declared.fault.Fault.{Fault}
-use Rattle.xarch_parts.specs.Archives.{IsBlank}
 use Rattle.xarch_parts.specs.Ends.{fault_of, IsInside, IsOfFolder, IsOfOutput, IsOfCommand, IsCaused}
 use Rattle.xarch_parts.specs.Folders.{ReadsOnly, Begins, WritesOnly, Streams, Counts, CountsInTurn, Keeps, IsTold}
 use Rattle.xarch_parts.specs.Inputs.{size_in}

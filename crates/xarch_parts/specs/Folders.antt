@@ -1,10 +1,9 @@
 -- What a command, or a part of it, does to the folder that it is given. The folder's files, draft, numbers and count of faults
 -- stand first in each definition.
 use Rattle.std.specs.Prelude.{◌≡◌, ◌⊎◌, ◌≤◌, ℕ, List, Option, Some, None, IsSome}
-use Rattle.xa_outside.specs.Folder.{Files}
+use Rattle.xa_outside.specs.Folder.{Files, IsBlank}
 use Rattle.xa_outside.specs.Numbers.{Numbers, PullsAtMost, PullsAndDrafts, after_begin, after_draft, after_pull}
 use Rattle.xarch_words.specs.Refusal.{PlainFault}
-use Rattle.xarch_parts.specs.Archives.{IsBlank}
 use Rattle.xarch_parts.specs.Ends.{IsOfFolder}
 
 -- files and draft are both told

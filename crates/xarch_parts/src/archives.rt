@@ -2,7 +2,7 @@
 
 ghost use Rattle.std.specs.Prelude.{◌≡◌, ◌≤◌, ℕ, List, Some, IfOk, IfErr, OnOk};
 ghost use Rattle.std.specs.FinMap as map;
-ghost use Rattle.xa_outside.specs.Folder.{Files, committed};
+ghost use Rattle.xa_outside.specs.Folder.{Files, committed, IsBlank};
 ghost use Rattle.key_spec.specs.View.{spec_view};
 ghost use Rattle.keyed_tree.specs.Data.{PlainKeyed};
 ghost use Rattle.archive_tree.specs.ArchiveView.{archive_view};
@@ -13,7 +13,7 @@ ghost use Rattle.archive_file.specs.Sound.{SoundAs};
 ghost use Rattle.xarch_words.specs.Refusal as refusal;
 ghost use Rattle.xarch_words.specs.Refusal.{folder_fault};
 ghost use Rattle.xarch_words.specs.View.{fault_view};
-ghost use Rattle.xarch_parts.specs.Archives.{IsBlank, IsDrafted, IsRefusal, NoRefusal, free_in};
+ghost use Rattle.xarch_parts.specs.Archives.{IsDrafted, IsRefusal, NoRefusal, free_in};
 ghost use Rattle.xarch_parts.specs.Ends.{IsCaused, IsInside, Matches, TellsOnly, fault_of};
 ghost use Rattle.xarch_parts.specs.Folders.{Begins, ReadsOnly, WritesOnly};
 

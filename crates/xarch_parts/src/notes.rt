@@ -4,11 +4,10 @@
 ghost use Rattle.std.specs.Prelude.{◌≡◌, ◌++◌, ℕ, Some, None, option_map, map, IfErr, OnOk, string_bytes};
 ghost use Rattle.std.specs.FinMap as finite;
 ghost use Rattle.xa_outside.specs.Causes.{HasCause};
-ghost use Rattle.xa_outside.specs.Folder.{Files};
+ghost use Rattle.xa_outside.specs.Folder.{Files, IsBlank};
 ghost use Rattle.version_notes.specs.Notes.{notes_part};
 ghost use Rattle.xarch_words.specs.Refusal.{folder_fault};
 ghost use Rattle.xarch_words.specs.View.{fault_view};
-ghost use Rattle.xarch_parts.specs.Archives.{IsBlank};
 ghost use Rattle.xarch_parts.specs.Ends.{IsCaused, TellsOnly, fault_of};
 ghost use Rattle.xarch_parts.specs.Folders.{WritesOnly};
 ghost use Rattle.xarch_parts.specs.Noted.{CanFollow};

@@ -1,7 +1,7 @@
 #![tactic(auto, using(xarch_parts::specs::EndLaws::endings), unfolding(xarch_parts::specs::Ends::IsInside, xarch_parts::specs::Ends::IsDefined))]
 
 ghost use Rattle.std.specs.Prelude.{◌≡◌, ◌≢◌, ◌-◌, ◌+◌, ◌^◌, ◌<◌, ◌≤◌, ℕ, List, Some, Ok, IfOk, IfSome, OnOk, IsTrue, length};
-ghost use Rattle.xa_outside.specs.Folder.{Files};
+ghost use Rattle.xa_outside.specs.Folder.{Files, IsBlank};
 ghost use Rattle.xa_outside.specs.Numbers.{PullsAtMost};
 ghost use Rattle.xa_outside.specs.Taken.{Taken};
 ghost use Rattle.jsonml_text.specs.Texts.{AreTexts};
@@ -22,7 +22,7 @@ ghost use Rattle.xarch_writes.specs.Appending.{Grows};
 ghost use Rattle.xarch_meanings.specs.FillsUp.{FillsUp, IsLimited};
 ghost use Rattle.xarch_meanings.specs.OnePass.{document_size, front_size};
 ghost use Rattle.xarch_meanings.specs.Performs.{Performs};
-ghost use Rattle.xarch_parts.specs.Archives.{ArchiveIs, IsBlank, IsFrontOf, PartsAre, short_note};
+ghost use Rattle.xarch_parts.specs.Archives.{ArchiveIs, IsFrontOf, PartsAre, short_note};
 ghost use Rattle.xarch_parts.specs.Ends.{IsCaused, IsInside, Matches, fault_of};
 ghost use Rattle.xarch_parts.specs.Folders.{ReadsOnly, Streams};
 ghost use Rattle.xarch_parts.specs.Inputs.{file_length, read_in, size_in};

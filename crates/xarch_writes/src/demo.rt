@@ -1,7 +1,7 @@
 #![tactic(auto, using(xarch_parts::specs::EndLaws::endings), unfolding(xarch_parts::specs::Ends::IsInside, xarch_parts::specs::Ends::IsOfFolder, xarch_parts::specs::Ends::IsDefined))]
 
 ghost use Rattle.std.specs.Prelude.{◌≡◌, ◌≤◌, ◌<◌, ◌+◌, ℕ, List, Some, Ok, IfOk, IfErr, OnOk};
-ghost use Rattle.xa_outside.specs.Folder.{Files};
+ghost use Rattle.xa_outside.specs.Folder.{Files, IsBlank};
 ghost use Rattle.jsonml_tree.specs.View.{tree_view};
 ghost use Rattle.key_spec.specs.View.{spec_view};
 ghost use Rattle.keyed_tree.specs.View.{keyed_view};
@@ -18,7 +18,7 @@ ghost use Rattle.xarch_words.specs.Commands as commands;
 ghost use Rattle.xarch_words.specs.Refusal as refusal;
 ghost use Rattle.xarch_words.specs.Refusal.{Refusal, refused};
 ghost use Rattle.xarch_words.specs.View.{fault_view};
-ghost use Rattle.xarch_parts.specs.Archives.{IsBlank, IsRefusal};
+ghost use Rattle.xarch_parts.specs.Archives.{IsRefusal};
 ghost use Rattle.xarch_meanings.specs.Demo.{IsSampleArchive, IsSampleFile, MakesOrNone, sample_tree, samples, told_and_stored};
 ghost use Rattle.xarch_parts.specs.Ends.{EndsGained, IsCaused, IsInside, Matches, fault_of};
 ghost use Rattle.xarch_parts.specs.Folders.{WritesOnly};

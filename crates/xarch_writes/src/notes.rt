@@ -7,7 +7,7 @@ ghost use Rattle.xa_outside.specs.Folder.{Files};
 ghost use Rattle.version_notes.specs.Notes.{IsNote, are_empty, is_note, most};
 ghost use Rattle.version_notes.specs.Reader.{at_first, file_of};
 ghost use Rattle.version_notes.specs.Reading.{notes_from};
-ghost use Rattle.version_notes.specs.Walk.{lead};
+ghost use Rattle.xa_outside.specs.Numbers.{lead};
 ghost use Rattle.version_notes.specs.Writer.{Appends, after, appended, last_appended};
 ghost use Rattle.xarch_words.specs.Refusal.{folder_fault};
 ghost use Rattle.xarch_words.specs.View.{fault_view};

@@ -2,11 +2,11 @@ use Rattle.std.proofs.Common.{◌≡◌, ◌≢◌, ◌+◌, ◌-◌, ◌≤◌,
 use Rattle.std.specs.Result.{IfErr, OnOk, OnErr}
 use Rattle.key_annotate.specs.LentView.{lent_view}
 use Rattle.xa_outside.specs.Causes.{Rose}
-use Rattle.xa_outside.specs.Numbers.{Numbers, PullsAndDrafts}
+use Rattle.xa_outside.specs.Numbers.{Numbers, PullsAndDrafts, lead}
 use Rattle.record_cursor.specs.View.{header_view}
 use Rattle.record_format.specs.Files.{FileOf}
-use Rattle.stream_merge.specs.Added.{Added, Overfull, IfTooLong, IfFailed, Lengthens}
-use Rattle.stream_merge.specs.State.{lead}
+use Rattle.stream_merge.specs.Added.{Added, Overfull, IfTooLong, IfFailed}
+use Rattle.xa_outside.specs.Folder.{Lengthens}
 use Rattle.stream_merge.specs.declared.fault.AddFault.TheVariants.{Damage, Limit}
 use Rattle.stream_merge.proofs.Adding.{at-err, commit-adds, commit-fails, commit-err, no-commit-limit, if-failed, on-ok}
 use Rattle.stream_merge.proofs.add.stream_add.Goals as goal

@@ -7,7 +7,7 @@ use Rattle.record_cursor.specs.Moves.{TellsFront}
 use Rattle.record_cursor.specs.View.{PlainCursor, header_view}
 use Rattle.record_format.specs.Files.{FileOf}
 use Rattle.stream_merge.specs.Added.{Appended, Overfull, of_merge, IfTooLong, IfFailed}
-use Rattle.stream_merge.specs.State.{lead}
+use Rattle.xa_outside.specs.Numbers.{lead}
 use Rattle.stream_merge.specs.declared.fault.AddFault.TheVariants.{Damage, Limit}
 use Rattle.stream_merge.proofs.States.{lengthens-none}
 use Rattle.stream_merge.proofs.Adding.{header-first, at-err, none-longer, overfull, no-damage, no-limit, failed-of, blank-one}

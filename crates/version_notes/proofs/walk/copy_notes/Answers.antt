@@ -2,15 +2,16 @@ use Rattle.std.proofs.Common.{◌≡◌, ◌∙◌, ◌≤◌, None, List, ℕ, 
 use Rattle.std.specs.Result.{IfErr, OnErr, OnOk}
 use Rattle.std.proofs.Math.Nat.{le_trans}
 use Rattle.xa_outside.specs.Causes.{Rose}
-use Rattle.xa_outside.specs.Folder.{Drafts}
+use Rattle.xa_outside.specs.Folder.{Drafts, Lengthens}
 use Rattle.version_notes.specs.Faults.{IfDamage, IfFolder}
 use Rattle.version_notes.specs.Reader.{file_of}
 use Rattle.version_notes.specs.Reading.{notes_from}
-use Rattle.version_notes.specs.Walk.{Copies, Lengthens, lead}
+use Rattle.version_notes.specs.Walk.{Copies}
 use Rattle.version_notes.specs.Writer.{after, appended}
 use Rattle.version_notes.specs.declared.fault.NotesFault.TheVariants.{Folder}
 use Rattle.version_notes.proofs.Walks.{at-err, cause-then, no-note, note-due}
 use Rattle.version_notes.proofs.Copied.{copied-ahead, copied-all, copied-damage, copied-drafted, copied-gap, copied-later, copied-next, copied-none, copied-pulls, copied-room, copied-stopped, stopped-gap, stopped-pulls}
+use Rattle.xa_outside.specs.Numbers.{lead}
 use Rattle.version_notes.proofs.walk.copy_notes.Goals as goal
 
 pub loop-reader-init : goal.loop-reader-init

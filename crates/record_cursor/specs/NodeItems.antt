@@ -1,6 +1,7 @@
 -- What a cursor gives of the nodes of an archive.
 use Rattle.std.specs.Prelude.{ℕ, List, [], ◌∷◌, ◌++◌, length, map}
-use Rattle.archive_tree.specs.Data.{PlainAlt, PlainNode, inner_node, leaf_node, PlainNodes, no_nodes, node}
+use Rattle.version_set.specs.Members.{upto_pairs}
+use Rattle.archive_tree.specs.Data.{PlainAlt, PlainNode, inner_node, leaf_node, PlainNodes, no_nodes, node, PlainArchive}
 use Rattle.record_format.specs.Spelling.{dir_bytes}
 use Rattle.record_format.specs.Nodes.{dir_of, set_in, node_pieces}
 use Rattle.record_cursor.specs.Items.{PlainItem, inner_item, leaf_item, alt_item, leaf_end_item, end_item}
@@ -21,3 +22,7 @@ abbrev mutual
   pub row_items : List (ℕ × ℕ) → PlainNodes → List PlainItem
   row_items parent no_nodes = []
   row_items parent (node k ks) = node_items parent k ++ row_items parent ks
+
+-- the nodes of an archive, and the END behind them
+abbrev pub archive_items : PlainArchive → List PlainItem
+archive_items a = row_items (upto_pairs a.n) a.kids ++ end_of (upto_pairs a.n) a.kids ∷ []
