@@ -30,29 +30,8 @@ pub(crate) const NESTED: &[u8] = b"(/, (a, {}))
 (/a/b/c/d/e/f, (g, {}))
 ";
 
-/// Pieces of bytes, each so many times, one behind the other.
-pub(crate) type Pieces = &'static [(&'static [u8], usize)];
-
 /// A label: the name, with `@` before that of an attribute, and the texts that are its key values.
 pub(crate) type Named = (&'static str, &'static [&'static str]);
-
-pub(crate) fn joined(alloc: Global, pieces: Pieces) -> Result<Vec<u8>, AllocError> {
-    let mut bytes = Vec::new(alloc);
-    for (piece, count) in pieces {
-        for _ in 0..*count {
-            bytes.extend_from_slice(piece)?;
-        }
-    }
-    Ok(bytes)
-}
-
-pub(crate) fn texts(alloc: Global, texts: &[&str]) -> Result<Vec<String>, AllocError> {
-    let mut strings = Vec::new(alloc);
-    for text in texts {
-        strings.push(String::from_str(alloc, text)?)?;
-    }
-    Ok(strings)
-}
 
 pub(crate) fn parse(alloc: Global, text: &[u8]) -> Option<Spec> {
     if text.len() > 1_048_576 {

@@ -2,7 +2,7 @@ ghost use Rattle.jsonml_tree.specs.Fits.{IsElement, ItemsFit};
 ghost use Rattle.jsonml_tree.specs.LentView.{lent_tree_view};
 ghost use Rattle.jsonml_tree.specs.View.{tree_view};
 
-use crate::reading::{COMPANY, NESTED, Named, label, labels, lend, parse, read, texts};
+use crate::reading::{COMPANY, NESTED, Named, label, labels, lend, parse, read};
 use jsonml_tree::{LentTree, Tree};
 use key_annotate::{AnnotateFault, keyed};
 use key_rules::{
@@ -10,6 +10,7 @@ use key_rules::{
 };
 use key_spec::{KeyPath, Spec};
 use keyed_tree::{Keyed, Label};
+use outside_cases::texts;
 use std::alloc::{AllocError, Global};
 use std::borrow::CowStr;
 use std::cmp::Ordering;

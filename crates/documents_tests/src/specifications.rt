@@ -1,5 +1,6 @@
-use crate::reading::{COMPANY, parse, texts};
+use crate::reading::{COMPANY, parse};
 use key_spec::{KeyPath, Spec, SpecFault};
+use outside_cases::texts;
 use std::alloc::{AllocError, Global};
 use std::test::Fail;
 use worked_parts::told;

@@ -1,11 +1,12 @@
 ghost use Rattle.jsonml_tree.specs.Fits.{IsElement};
 ghost use Rattle.jsonml_tree.specs.View.{tree_view};
 
-use crate::reading::{Pieces, joined, lend, read};
+use crate::reading::{lend, read};
 use jsonml_text::{
     DocFault, Printer, content_of, print_lent_content, read_document, scalar_of, write_tree,
 };
 use jsonml_tree::{Content, LentContent, LentTree, Scalar, Tree};
+use outside_cases::{Pieces, joined};
 use serde_json::Value;
 use std::alloc::{AllocError, Global};
 use std::test::Fail;

@@ -1,5 +1,5 @@
-use crate::pieces::{Pieces, joined};
 use std::alloc::{AllocError, Global};
+use worked_parts::bytes::{Pieces, joined};
 use xa_outside::{MemSink, MemSource};
 
 /// The input, and which calls of the input, of the output and of the errors' sink fail.

@@ -8,5 +8,6 @@ mod pieces;
 
 pub use ends::{Ends, Outside, QUIET, ends_of, sink};
 pub use folders::folder;
-pub use pieces::{Pieces, are_joined, is_prefix, joined, texts};
+pub use pieces::{are_joined, is_prefix, texts};
+pub use worked_parts::bytes::{Pieces, joined};
 pub use worked_parts::told;

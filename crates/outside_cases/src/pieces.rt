@@ -1,18 +1,5 @@
 use std::alloc::{AllocError, Global};
-
-/// Pieces of bytes, each so many times, one behind the other.
-pub type Pieces = &'static [(&'static [u8], usize)];
-
-/// The bytes of the pieces.
-pub fn joined(alloc: Global, pieces: Pieces) -> Result<Vec<u8>, AllocError> {
-    let mut bytes = Vec::new(alloc);
-    for (piece, count) in pieces {
-        for _ in 0..*count {
-            bytes.extend_from_slice(piece)?;
-        }
-    }
-    Ok(bytes)
-}
+use worked_parts::bytes::{Pieces, joined};
 
 /// These words, as a program is given them.
 pub fn texts(alloc: Global, texts: &[&str]) -> Result<Vec<String>, AllocError> {

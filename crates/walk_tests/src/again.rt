@@ -1,17 +1,10 @@
 // The archive of a demonstration, written again.
 use crate::walk::write_again;
+use outside_cases::texts;
 use std::alloc::{AllocError, Global};
 use std::test::Fail;
 use xa_outside::{MemFolder, MemSink, MemSource};
 use xarch_run::run;
-
-fn texts(alloc: Global, texts: &[&str]) -> Result<Vec<String>, AllocError> {
-    let mut strings = Vec::new(alloc);
-    for text in texts {
-        strings.push(String::from_str(alloc, text)?)?;
-    }
-    Ok(strings)
-}
 
 // Whether the folder holds the archive now.
 fn is_made(alloc: Global, folder: &mut MemFolder, words: &[&str]) -> Result<bool, AllocError> {

@@ -7,7 +7,8 @@ pub type Pieces = &'static [(&'static [u8], usize)];
 /// Offsets, and the bytes that are put there.
 pub type Edits = &'static [(usize, u8)];
 
-fn joined(alloc: Global, pieces: Pieces) -> Result<Vec<u8>, AllocError> {
+/// The bytes of the pieces.
+pub fn joined(alloc: Global, pieces: Pieces) -> Result<Vec<u8>, AllocError> {
     let mut bytes = Vec::new(alloc);
     for (piece, count) in pieces {
         for _ in 0..*count {
