@@ -1,11 +1,10 @@
 //! The archiver as a program: the words of the command line, the folder that it runs in, and the standard streams.
 #![tactic(auto)]
 
-use disk::DiskFolder;
+use real_objects::{DiskFolder, ReaderSource, WriterSink};
 use std::env;
 use std::io::ErrorKind;
 use std::process::ExitCode;
-use streams::{ReaderSource, WriterSink};
 use xarch_run::run;
 
 /// The status of words that are no command.
@@ -13,12 +12,6 @@ const USAGE: u8 = 2;
 
 /// The status of want of memory.
 const MEMORY: u8 = 16;
-
-mod disk;
-mod opened;
-mod streams;
-#[cfg(test)]
-mod tests;
 
 /// The words after the program's name. Where one of them is no text they are no command; else no memory was found.
 fn words_of(rt: &HostRuntime) -> Result<Vec<String>, u8> {

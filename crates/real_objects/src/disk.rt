@@ -1,5 +1,7 @@
 ghost use Rattle.std.specs.Prelude.{◌≡◌, ◌≤◌, None, IfSome, length};
 ghost use Rattle.xa_outside.specs.Causes.{Rose};
+ghost use Rattle.xa_outside.specs.Meter.{numbers};
+ghost use Rattle.xa_outside.specs.Numbers.{numbers_none};
 
 use crate::opened::{Found, Opened, open};
 use std::alloc::Global;
@@ -41,7 +43,10 @@ fn make_draft<R: Files>(rt: &R) -> Option<R::File> {
 }
 
 impl<'a, R: Files> DiskFolder<'a, R> {
-    pub fn new(rt: &'a R, alloc: Global) -> DiskFolder<'a, R> {
+    pub fn new(rt: &'a R, alloc: Global) -> DiskFolder<'a, R>
+        ensures counts { numbers result.meter ≡ numbers_none }
+        ensures faults { result.faults ≡ 0 }
+    {
         DiskFolder {
             rt,
             alloc,
@@ -55,7 +60,10 @@ impl<'a, R: Files> DiskFolder<'a, R> {
     }
 
     /// Removes a draft that was not committed.
-    pub fn discard(&mut self) {
+    pub fn discard(&mut self)
+        ensures meter { self.new.meter ≡ self.old.meter }
+        ensures faults { self.new.faults ≡ self.old.faults }
+    {
         if self.draft.take().is_some() {
             let _ = self.rt.remove_file(DRAFT);
         }
@@ -174,7 +182,7 @@ impl<'a, R: Files> DiskFolder<'a, R> {
 }
 
 impl<R: Files> Folder for DiskFolder<'_, R> {
-    ghost use Rattle.xa_outside.specs.Meter.{numbers, meter_law};
+    ghost use Rattle.xa_outside.specs.Meter.{meter_law};
 
     ghost files = { λ _. None };
 

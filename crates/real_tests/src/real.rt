@@ -1,5 +1,4 @@
-use crate::disk::DiskFolder;
-use crate::streams::{ReaderSource, WriterSink};
+use real_objects::{DiskFolder, ReaderSource, WriterSink};
 use std::alloc::{AllocError, Global};
 use std::fs;
 use std::fs::Permissions;
