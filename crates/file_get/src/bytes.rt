@@ -4,7 +4,7 @@ ghost use Rattle.xa_outside.specs.Numbers.{PullsAtMost, after_pull};
 ghost use Rattle.record_cursor.specs.Moves.{TellsFront};
 ghost use Rattle.record_cursor.specs.Steps.{OnlyReads, fault_of, Filled};
 
-use record_cursor::{CursorFault, fill_part};
+use record_cursor::{CursorFault, fill_first, fill_part};
 use std::alloc::Global;
 use std::marker::Model;
 use xa_outside::Folder;
@@ -70,32 +70,11 @@ impl Bytes {
     {
         self.size = size;
         if size <= SHORT {
-            fill_front(folder, name, at, size, &mut self.short)
+            fill_first(folder, name, at, size, &mut self.short)
         } else {
             fill_long(folder, name, at, size, &mut self.long)
         }
     }
-}
-
-// Fills the front of the room with so many bytes of a file from the offset on.
-fn fill_front<F: Folder>(
-    folder: &mut F,
-    name: &str,
-    at: u64,
-    size: usize,
-    room: &mut [u8],
-) -> Result<(), CursorFault>
-    requires fits { at + size < 2 ^ 64 }
-    requires within { size ≤ length room.old }
-    ensures reads { OnlyReads F.files F.draft F.faults folder.old folder.new (fault_of result) }
-    ensures numbers { OnOk result
-        (F.numbers folder.new ≡ after_pull (F.numbers folder.old) size) }
-    ensures pulls { PullsAtMost size (F.numbers folder.old) (F.numbers folder.new) }
-    ensures told { (end : ℕ) (bytes : List ℕ) → TellsFront (F.files folder.old) name.now end bytes
-        → at + size ≤ end
-        → Filled result (λ _. take size room.new ≡ take size (drop at bytes)) }
-{
-    fill_part(folder, name, at, &mut room[..size])
 }
 
 // Fills the room, which takes this size, with the bytes of a file from the offset on.

@@ -36,7 +36,7 @@ pub fn fill_part<F: Folder>(
     }
 }
 
-/// Fills the front of the room with so many bytes of a file from the offset on.
+/// The same, in a room that grows where it is too small.
 pub(crate) fn fill_front<F: Folder>(
     folder: &mut F,
     name: &str,
@@ -63,7 +63,8 @@ pub(crate) fn fill_front<F: Folder>(
     }
 }
 
-fn fill_first<F: Folder>(
+/// Fills the front of the room with so many bytes of a file from the offset on. It is damaged where it has fewer.
+pub fn fill_first<F: Folder>(
     folder: &mut F,
     name: &str,
     at: u64,
@@ -79,6 +80,8 @@ fn fill_first<F: Folder>(
     ensures told { (end : ℕ) (bytes : List ℕ) → TellsFront (F.files folder.old) name.now end bytes
         → at + size ≤ end
         → Filled result (λ _. take size room.new ≡ take size (drop at bytes)) }
+    ensures damage { (files : Files) → F.files folder.old ≡ Some files → IfErr result (λ e.
+        IfDamage e (length (bytes_or_none (map.get files name.now)) < at + size)) }
 {
     fill_part(folder, name, at, &mut room[..size])
 }

@@ -17,7 +17,7 @@ mod step;
 
 pub use cursor::Cursor;
 pub use fault::CursorFault;
-pub use fill::fill_part;
+pub use fill::{fill_first, fill_part};
 pub use front::read_header;
 pub use header::Header;
 pub use item::Item;
