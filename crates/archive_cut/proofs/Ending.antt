@@ -1,13 +1,11 @@
 -- What the whole cut comes to.
-use Rattle.std.proofs.Common.{◌≡◌, ◌≢◌, ℕ, ◌+◌, ◌≤◌, List, ◌++◌, Option, Some, None, Result, Ok, Err, refl, sym, ap, subst, ◌∙◌}
-use Rattle.std.specs.Option.{option_map}
+use Rattle.std.proofs.Common.{◌≡◌, ◌≢◌, ℕ, ◌+◌, ◌≤◌, List, ◌++◌, Option, Result, Ok, Err, sym, ap, subst, ◌∙◌}
 use Rattle.std.specs.Result.{IfErr, OnOk, result_map_both}
 use Rattle.key_spec.specs.Data.{PlainRule}
 use Rattle.keyed_tree.specs.Data.{PlainKeyed}
 use Rattle.xa_outside.specs.Causes.{Rose}
 use Rattle.xa_outside.specs.Folder.{Files, IsBlank}
 use Rattle.xa_outside.specs.Numbers.{Numbers}
-use Rattle.xa_fields.proofs.Fields.{some_is}
 use Rattle.archive_file.specs.Sound.{SoundAs}
 use Rattle.record_cursor.specs.Moves.{TellsFront, IsHeaderOf}
 use Rattle.record_cursor.specs.View.{PlainHeader, PlainCursor}
@@ -20,15 +18,7 @@ use Rattle.archive_cut.specs.Sliced.{items}
 use Rattle.archive_cut.specs.Whole.{VersionsCut}
 use Rattle.archive_cut.specs.declared.fault.CutFault.{CutFault}
 use Rattle.archive_cut.specs.declared.fault.CutFault.TheVariants.{Damage, TooLong, Folder, Memory}
-
--- a draft that was empty is what was appended
-blank-is : (o : Option (List ℕ)) (bytes x : List ℕ) → IsBlank o → Some bytes ≡ option_map (λ (d : List ℕ). d ++ x) o → bytes ≡ x
-blank-is None bytes x blank is = absurd cc
-blank-is (Some d) bytes x blank is = some_is bytes (d ++ x) is ∙ ap (λ (z : List ℕ). z ++ x) (blank d refl)
-
-blank-one : (o : Option (List ℕ)) (file : List ℕ) → IsBlank o → option_map (λ (d : List ℕ). d ++ file) o ≡ option_map (λ (d : List ℕ). file) o
-blank-one None file h = refl
-blank-one (Some d) file h = ap (λ (b : List ℕ). Some (b ++ file)) (h d refl)
+use Rattle.record_copy.proofs.Passing.{blank-is, blank-one}
 
 -- how it ended
 abbrev pub ended_of : Result (Unit {0}) CutFault → Option CopyFault

@@ -20,10 +20,9 @@ use Rattle.record_cursor.specs.declared.fault.CursorFault.{CursorFault}
 use Rattle.record_cursor.specs.declared.fault.CursorFault.TheVariants as read
 use Rattle.record_cursor.specs.declared.item.Item.{Item}
 use Rattle.record_cursor.specs.declared.item.Item.TheVariants.{Alt, LeafEnd}
-use Rattle.record_writer.specs.Data.{PlainWriter, OpenLeaf, WriterCall, call_end_leaf, call_finish}
-use Rattle.record_writer.specs.Calls.{appended, after, after_all, leaf_ended}
+use Rattle.record_writer.specs.Data.{PlainWriter, WriterCall, call_end_leaf, call_finish}
+use Rattle.record_writer.specs.Calls.{after, after_all}
 use Rattle.record_writer.specs.Walks.{alt_calls}
-use Rattle.record_writer.proofs.WalkLaws.{after-append, alts-keep}
 use Rattle.record_copy.specs.Faults.{Unless, IfLong, of_cursor}
 use Rattle.record_copy.specs.Passes.{Passes, Rests}
 use Rattle.record_copy.specs.Runs.{Sent}
@@ -35,7 +34,7 @@ use Rattle.record_copy.proofs.Alternating.{not-long, whole-part}
 use Rattle.record_copy.proofs.FewBytes.{IsFewStamp, alternative-parts}
 use Rattle.record_copy.proofs.Passing.{passes-then, Nexts, Stays, gave, gave-stop, failed, given}
 use Rattle.record_copy.proofs.Reading.{not-long-cursor}
-use Rattle.record_copy.proofs.Running.{run-then, run-none, short-none, short-part, all-append}
+use Rattle.record_copy.proofs.Running.{run-then, run-none, short-none, short-part}
 use Rattle.archive_cut.specs.Held.{held_view, KnowsFirst, alts_left, IsShortAlt, Holds, InOrder}
 use Rattle.record_cursor.specs.NodeItems.{alt_items}
 use Rattle.archive_cut.specs.Leaves.{AltsRead, Reads}
@@ -48,6 +47,8 @@ use Rattle.archive_cut.specs.declared.held.Held.{Held}
 use Rattle.archive_cut.proofs.Matching.{matches-part}
 use Rattle.archive_cut.proofs.Skips.{no-alt}
 use Rattle.record_parts.specs.Shapes.{FitsValue}
+use Rattle.record_format.proofs.Pieces.{all-append}
+use Rattle.record_copy.proofs.Closing.{closes-leaf}
 
 -- ---- few bytes
 
@@ -200,19 +201,6 @@ calls-map xs ys = map-append _ xs ys
 all-calls : (b i j : ℕ) (xs : List PlainAlt) → AllByRecursion (IsShortAlt b i j) xs → AllByRecursion (IsShortCall (IsLeftOf b i j) b) (alt_calls xs ++ call_end_leaf ∷ [])
 all-calls b i j [] h = (tt, tt)
 all-calls b i j (x ∷ xs) h = (h.0, all-calls b i j xs h.1)
-
-ended-rests : (v : PlainWriter) (o : Option OpenLeaf) (at : ℕ) → v.leaf ≡ o → Rests v (leaf_ended v o at)
-ended-rests v None at e = record { no_leaf = e; inners = refl }
-ended-rests v (Some l) at e = record { no_leaf = refl; inners = refl }
-
--- behind the end of the leaf
-closes-leaf : (v w : PlainWriter) (xs : List PlainAlt) → w ≡ after_all v (alt_calls xs ++ call_end_leaf ∷ []) → Rests v w
-closes-leaf v w xs is =
-    let u = after_all v (alt_calls xs) in
-    let kept = alts-keep v xs in
-    let ended = ended-rests u u.leaf (u.written + length (appended u call_end_leaf)) refl in
-    let same : w ≡ after u call_end_leaf = is ∙ after-append v (alt_calls xs) (call_end_leaf ∷ []) in
-    subst (Rests v) (sym same) (record { no_leaf = ended.no_leaf; inners = ended.inners ∙ kept.1 })
 
 -- ---- the leaf
 

@@ -22,16 +22,9 @@ use Rattle.record_copy.specs.declared.fault.CopyFault.TheVariants as cut
 use Rattle.record_copy.proofs.Passing.{passes-then, Nexts, Stays, gave, gave-stop, failed, given}
 use Rattle.record_cursor.specs.NodeItems.{alt_items, node_items, row_items, end_of}
 use Rattle.archive_cut.specs.Skipped.{Follows, RowSkipped, AltsSkipped, ChildSkipped}
+use Rattle.record_copy.proofs.ItemKinds.{not-alt, first, not-first}
 
 -- ---- items that are no others
-
-pub not-alt : (item : Item) → ((s : StampView) (b : BodyView) → item ≢ Alt s b) → (st : Stamp) (b : PlainKey) → shown_item item ≢ alt_item st b
-not-alt (Alt s b) h st d = absurd (h s b refl)
-not-alt (Inner l s) h st d = λ e. absurd cc
-not-alt (Leaf l s) h st d = λ e. absurd cc
-not-alt LeafEnd h st d = λ e. absurd cc
-not-alt (End n) h st d = λ e. absurd cc
-not-alt Finish h st d = λ e. absurd cc
 
 pub not-leaf_end : (item : Item) → item ≢ LeafEnd → shown_item item ≢ leaf_end_item
 not-leaf_end (Alt s b) h = λ e. absurd cc
@@ -138,11 +131,6 @@ skip-damage r s t item alts end on read = record {
 
 -- ---- nodes
 
--- what a node opens with, and what is behind that
-abbrev pub first : PlainNode → PlainItem
-first (inner_node l st ks) = inner_item l st
-first (leaf_node l st xs) = leaf_item l st
-
 abbrev pub behind_first : List (ℕ × ℕ) → PlainNode → List PlainItem
 behind_first q (inner_node l st ks) = row_items (set_in st q) ks ++ end_of (set_in st q) ks ∷ []
 behind_first q (leaf_node l st xs) = alt_items xs ++ leaf_end_item ∷ []
@@ -153,10 +141,6 @@ opens q (leaf_node l st xs) next = refl
 
 pub node-given : (q : List (ℕ × ℕ)) (k : PlainNode) (next : List PlainItem) (s t : State) (item : Item) → Nexts s t item → Comes s.files s.cursor (node_items q k ++ next) → (shown_item item ≡ first k) × Comes t.files t.cursor (behind_first q k ++ next)
 node-given q k next s t item read comes = given (first k) (behind_first q k ++ next) s t item read (subst (λ (is : List PlainItem). Comes s.files s.cursor is) (opens q k next) comes)
-
-pub not-first : (k : PlainNode) (n : ℕ) → end_item n ≢ first k
-not-first (inner_node l st ks) n = λ e. absurd cc
-not-first (leaf_node l st xs) n = λ e. absurd cc
 
 pub no-node : (item : Item) → ((l : LabelView) (s : StampView) → item ≢ Inner l s) → ((l : LabelView) (s : StampView) → item ≢ Leaf l s) → (k : PlainNode) → shown_item item ≢ first k
 no-node item inner leaf (inner_node l st ks) = not-inner item inner l st

@@ -1,13 +1,11 @@
 -- The file of some versions of a sound archive.
-use Rattle.std.proofs.Common.{true, false, cond, ◌==◌, ◌≡◌, ◌↔◌, ◌≢◌, ℕ, ◌+◌, ◌-◌, ◌≤◌, List, [], ◌∷◌, ◌++◌, length, take, Option, Some, None, Result, Ok, Err, refl, sym, ap, subst, ◌∙◌, arith}
+use Rattle.std.proofs.Common.{cond, ◌==◌, ◌≡◌, ◌↔◌, ◌≢◌, ℕ, ◌+◌, ◌-◌, ◌≤◌, List, [], ◌∷◌, ◌++◌, length, take, Option, Some, None, Result, Ok, Err, refl, sym, ap, subst, ◌∙◌, arith}
 use Rattle.std.specs.Option.{option_map}
 use Rattle.jsonml_text.specs.Texts.{AreTexts}
 use Rattle.key_spec.specs.Canonical.{canonical}
 use Rattle.key_spec.specs.Data.{PlainRule}
 use Rattle.keyed_tree.specs.Data.{PlainKeyed}
 use Rattle.keyed_tree.specs.Plain.{plain}
-use Rattle.timestamp_tree.specs.Bytes.{set_bytes}
-use Rattle.timestamp_tree.proofs.Trees.{length-set_bytes}
 use Rattle.version_set.specs.Members.{upto_pairs}
 use Rattle.xa_outside.specs.Causes.{Rose}
 use Rattle.xa_outside.specs.Folder.{Files}
@@ -51,6 +49,7 @@ use Rattle.archive_cut.specs.Whole.{Called, Slices, NodesCut, VersionsCut}
 use Rattle.archive_cut.proofs.Coming.{Heads, sound-heads, comes-all}
 use Rattle.archive_cut.proofs.Slices.{archive_cut, archive-apart, all_items, root-left}
 use Rattle.record_cursor.proofs.NodeItems.{items-are}
+use Rattle.record_copy.proofs.FewBytes.{upto-few}
 
 -- ---- where the file is told
 
@@ -117,12 +116,6 @@ module _ (h : PlainHeader) (rules : List PlainRule) (vs : List PlainKeyed) (byte
   slices-by v made next z (Some Damage) at called fit over same = called
   slices-by v made next z (Some Folder) at called fit over same = tt
   slices-by v made next z (Some Memory) at called fit over same = tt
-
-upto-few : (n : ℕ) → length (set_bytes (upto_pairs n)) ≤ 12
-upto-few n = (let size = length-set_bytes (upto_pairs n) in let few = one n in omega (arith, size, few))
-  where
-    one : (n : ℕ) → length (upto_pairs n) ≤ 1
-    one n = elim (n == 0) as (λ t. length (cond {A = List (ℕ × ℕ)} t [] ((1, n) ∷ [])) ≤ 1) [ true ↦ omega arith | false ↦ omega arith ]
 
 -- ---- whatever the file is
 

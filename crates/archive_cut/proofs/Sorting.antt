@@ -1,39 +1,25 @@
 -- Alternatives that a sort has put into order.
-use Rattle.std.proofs.Common.{◌≡◌, ◌≢◌, ℕ, zero, suc, ◌≤◌, ◌<◌, ◌==◌, Bool, true, false, List, [], ◌∷◌, map, length, get_or, refl, ap, sym, subst, inl, inr, arith, eqb-true, eq-eqb}
+use Rattle.std.proofs.Common.{◌≡◌, ◌≢◌, ℕ, suc, ◌≤◌, ◌<◌, ◌==◌, Bool, true, false, List, [], ◌∷◌, map, refl, ap, sym, subst, arith, eqb-true, eq-eqb}
 use Rattle.std.proofs.lemmas.Bool.Decides.{nat_tests}
 use Rattle.std.proofs.lemmas.Cmp.{nat_cmp_total}
 use Rattle.std.proofs.lemmas.List.Sums.{sum_by-cons}
-use Rattle.std.proofs.lemmas.List.Sorted.{sum_by-IsPermutation, Contains-permutation, IsPermutation-sym, IsPermutation-map}
-use Rattle.std.specs.List.{AllByRecursion, Contains, sum_by}
+use Rattle.std.proofs.lemmas.List.Sorted.{sum_by-IsPermutation, IsPermutation-sym, IsPermutation-map}
+use Rattle.std.specs.List.{AllByRecursion, sum_by}
 use Rattle.std.specs.List.Sorted.{IsPermutation, IsNonDecreasingBy}
 use Rattle.std.specs.Ordering.{nat_cmp}
 use Rattle.std.specs.declared.cmp.Ordering.TheVariants.{Less}
 use Rattle.version_set.specs.Members.{members}
-use Rattle.keyed_tree.specs.Lists.{Ascends, Has}
-use Rattle.keyed_tree.proofs.Lists.{all_has, has_all, same_items}
+use Rattle.keyed_tree.specs.Lists.{Ascends}
+use Rattle.keyed_tree.proofs.Lists.{same_items}
 use Rattle.archive_tree.specs.Data.{PlainAlt}
 use Rattle.archive_tree.specs.Stands.{AllDiffer, first_num}
 use Rattle.archive_cut.specs.Held.{held_view, KnowsFirst, IsShortAlt, InOrder}
 use Rattle.archive_cut.specs.Sliced.{by_first}
 use Rattle.archive_cut.specs.declared.held.Held.{Held}
 use Rattle.archive_cut.proofs.LeftAlts.{has_by_first, by_first_has, by_first_ascends}
+use Rattle.record_copy.proofs.Permuted.{has_permuted, all_permuted, all_at, less}
 
 -- ---- what a permutation has
-
-at_has : {X : Type 0} (xs : List X) (k : ℕ) (x : X) → k < length xs → get_or xs k x ≡ x → Has x xs
-at_has [] k x low at = absurd (omega arith)
-at_has (y ∷ ys) zero x low at = inl at
-at_has (y ∷ ys) (suc k) x low at = inr (at_has ys k x (omega arith) at)
-
-has_at : {X : Type 0} (xs : List X) (x : X) → Has x xs → Contains xs x
-has_at [] x m = absurd m
-has_at (y ∷ ys) x m = elim m [ inl e ↦ (0, omega arith, e) | inr n ↦ (let h = has_at ys x n in let low : h.0 < length ys = h.1 in (suc h.0, omega arith, h.2)) ]
-
-has_permuted : {X : Type 0} (xs ys : List X) → IsPermutation xs ys → (z : X) → Has z xs → Has z ys
-has_permuted xs ys p z m = (let h = Contains-permutation xs ys z p (has_at xs z m) in at_has ys h.0 z h.1 h.2)
-
-all_permuted : {X : Type 0} (P : X → Type 0) (xs ys : List X) → IsPermutation xs ys → AllByRecursion P xs → AllByRecursion P ys
-all_permuted P xs ys p h = has_all P ys (λ z m. all_has P xs z h (has_permuted ys xs (IsPermutation-sym xs ys p) z m))
 
 -- ---- how often a number stands in a list
 
@@ -94,10 +80,6 @@ differ_permuted ms ns p a = times-differ ns (λ n. (let same = sum_by-IsPermutat
 
 -- ---- numbers that do not fall and differ ascend
 
-all_at : {X : Type 0} (P : X → Type 0) (xs : List X) → ((k : ℕ) (d : X) → k < length xs → P (get_or xs k d)) → AllByRecursion P xs
-all_at P [] h = tt
-all_at P (x ∷ xs) h = (h 0 x (omega arith), all_at P xs (λ k d low. h (suc k) d (omega arith)))
-
 module _ {X : Type 0} (f : X → ℕ) where
   abbrev Ups : List X → Type 0
   Ups [] = Unit {0}
@@ -112,9 +94,6 @@ module _ {X : Type 0} (f : X → ℕ) where
 
   ups-same : (g : X → ℕ) (xs : List X) → AllByRecursion (λ x. f x ≡ g x) xs → Ups xs → AllByRecursion (λ x. f x ≡ g x) xs
   ups-same g xs h u = h
-
-less : (m n : ℕ) → m ≤ n → m ≢ n → nat_cmp m n ≡ Less
-less m n h d = grind (arith, nat_tests)
 
 all_less : {X : Type 0} (f g : X → ℕ) (m : ℕ) (xs : List X) → AllByRecursion (λ x. f x ≡ g x) xs → AllByRecursion (λ y. m ≤ f y) xs → AllByRecursion (λ n. m ≢ n) (map g xs) → AllByRecursion (λ n. nat_cmp m n ≡ Less) (map g xs)
 all_less f g m [] s h d = tt

@@ -1,7 +1,7 @@
 -- What cutting the nodes of a row goes along.
 use Rattle.std.proofs.Common.{IfOk, IsTrue, ◌≡◌, ◌≢◌, ℕ, ◌+◌, ◌-◌, ◌*◌, ◌≤◌, ◌<◌, List, [], ◌∷◌, ◌++◌, length, Option, Some, None, Result, Ok, Err, Bool, true, false, cond, true≢false, refl, sym, ap, subst, ◌∙◌, append_assoc, arith}
 use Rattle.std.proofs.lemmas.List.{append-nil}
-use Rattle.std.specs.Option.{option_map, unwrap_or}
+use Rattle.std.specs.Option.{option_map}
 use Rattle.std.specs.List.{AllByRecursion}
 use Rattle.timestamp_tree.specs.Bytes.{set_bytes}
 use Rattle.version_set.specs.Pairs.{IsCanonical}
@@ -57,14 +57,11 @@ use Rattle.archive_cut.specs.Windows.{set_left, stamp_left}
 use Rattle.archive_cut.proofs.Clips.{IsCanonical-cut}
 use Rattle.archive_cut.proofs.Leaving.{left-set, left-stamp}
 use Rattle.archive_cut.proofs.Matching.{matches-then, matches-fault, matches-part}
-use Rattle.archive_cut.proofs.Skips.{first, behind_first, opens, node-given, not-first, no-node, not-end, moves-on, Behind, row-behind, alts-behind}
+use Rattle.archive_cut.proofs.Skips.{behind_first, opens, node-given, no-node, not-end, moves-on, Behind, row-behind, alts-behind}
 use Rattle.record_parts.specs.Shapes.{FitsLabel}
+use Rattle.record_copy.proofs.ItemKinds.{first, not-first}
 
 -- ---- sets
-
-pub set-is : (s : Stamp) (parent : List (ℕ × ℕ)) → set_in s parent ≡ unwrap_or s parent
-set-is None parent = refl
-set-is (Some t) parent = refl
 
 -- the set under a parent of a stamp that is stored where they differ
 under-set : (parent s : List (ℕ × ℕ)) → IsCanonical parent → IsCanonical s → set_in (stamp_under parent s) parent ≡ s

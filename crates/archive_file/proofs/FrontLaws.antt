@@ -64,7 +64,7 @@ bytes-read bytes x fits e =
 abbrev fields_bytes : List ℕ × ℕ → List ℕ
 fields_bytes p = text_bytes p.0 ++ u32_bytes p.1
 
-abbrev count_at : List ℕ → Option (ℕ × List ℕ)
+abbrev pub count_at : List ℕ → Option (ℕ × List ℕ)
 count_at bytes = only_at (λ n. leb n most) (number_at w32) bytes
 
 fields-read : (bytes : List ℕ) (x : (List ℕ × ℕ) × List ℕ) → IsBytes bytes → both_at bytes_at count_at bytes ≡ Some x → Read fields_bytes (λ p. IsShort p.0) bytes x

@@ -89,7 +89,7 @@ row-bytes old one two ps d e f g =
 
 -- ---- one more node
 
-module _ (f : ANode → Piece) (xs : List ANode) (i : ℕ) (x : ANode) (here : i < length xs) (is : x ≡ get_or xs i x) where
+module _ {X : Type 0} (f : X → Piece) (xs : List X) (i : ℕ) (x : X) (here : i < length xs) (is : x ≡ get_or xs i x) where
   pub more-wrote : (old cur new : List ℕ) → cur ≡ old ++ flat_map piece_bytes (map f (take i xs)) → new ≡ cur ++ piece_bytes (f x) → new ≡ old ++ flat_map piece_bytes (map f (take (i + 1) xs))
   more-wrote old cur new e g =
       let ps = map f (take i xs) in

@@ -21,7 +21,7 @@ use Rattle.record_copy.specs.declared.fault.CopyFault.TheVariants.{Damage, TooLo
 use Rattle.record_copy.specs.declared.parts.Alternative.{Alternative}
 use Rattle.record_copy.proofs.Alternating.{put-inners, put-leaf, read-run, read-short}
 use Rattle.record_copy.proofs.Passing.{coming-same, passes-none, passes-stop, passes-then}
-use Rattle.record_copy.proofs.Running.{all-append, run-none, run-then, short-none, short-part, short-then}
+use Rattle.record_copy.proofs.Running.{run-none, run-then, short-none, short-part, short-then}
 use Rattle.record_cursor.specs.Items.{PlainItem, leaf_end_item}
 use Rattle.record_writer.specs.Data.{PlainWriter, WriterCall, call_alt, call_finish}
 use Rattle.record_writer.specs.Walks.{alt_calls}
@@ -33,6 +33,7 @@ use Rattle.archive_join.specs.Short.{IsMadeOf}
 use Rattle.archive_join.specs.declared.held.Held.{Held}
 use Rattle.archive_join.proofs.Running.{calls-as, calls-fault, calls-part, calls-then}
 use Rattle.record_cursor.specs.NodeItems.{alt_items}
+use Rattle.record_format.proofs.Pieces.{all-append}
 
 -- ---- faults
 

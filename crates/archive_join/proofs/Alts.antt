@@ -17,8 +17,9 @@ use Rattle.archive_tree.proofs.Those.{onto, all_those}
 use Rattle.nested_merge.proofs.Picked.{all_append, no_items}
 use Rattle.nested_merge.proofs.Weave.{has_left, has_right}
 use Rattle.nested_merge.proofs.Stamps.{Below}
-use Rattle.archive_join.specs.Joined.{alone, paired, alt_of, has_alt, stamp_with, joined_alt, alone_alt, others, joined_alts}
+use Rattle.archive_join.specs.Joined.{alone, paired, alt_of, stamp_with, joined_alt, alone_alt, others, joined_alts}
 use Rattle.archive_join.proofs.BothSets.{Above, nat_less, paired_stamped, left_stamped, right_stamped}
+use Rattle.nested_merge.specs.Merged.{has_alt}
 
 -- ---- two lists of numbered trees
 

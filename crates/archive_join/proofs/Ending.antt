@@ -1,6 +1,5 @@
 -- What the whole join comes to.
-use Rattle.std.proofs.Common.{◌≡◌, ℕ, ◌+◌, ◌-◌, ◌≤◌, true, false, List, [], ◌∷◌, ◌++◌, Option, Some, None, Result, Ok, Err, refl, sym, ap, subst, ◌∙◌, arith}
-use Rattle.std.specs.Option.{option_map}
+use Rattle.std.proofs.Common.{◌≡◌, ℕ, ◌+◌, ◌-◌, ◌≤◌, true, false, List, [], ◌∷◌, ◌++◌, Option, Some, None, Result, Ok, Err, sym, ap, subst, ◌∙◌, arith}
 use Rattle.std.specs.Result.{IfErr, OnOk}
 use Rattle.key_spec.specs.Data.{PlainRule}
 use Rattle.keyed_tree.specs.Data.{PlainKeyed}
@@ -8,7 +7,6 @@ use Rattle.archive_tree.specs.Data.{PlainNodes}
 use Rattle.xa_outside.specs.Causes.{Rose}
 use Rattle.xa_outside.specs.Folder.{Files, IsBlank}
 use Rattle.xa_outside.specs.Numbers.{Numbers, PullsAndDrafts}
-use Rattle.xa_fields.proofs.Fields.{some_is}
 use Rattle.archive_file.specs.Sound.{SoundAs}
 use Rattle.record_copy.specs.Raised.{raised_nodes}
 use Rattle.record_copy.specs.Seen.{Coming, row_items}
@@ -24,15 +22,7 @@ use Rattle.archive_join.specs.declared.fault.JoinFault.{JoinFault}
 use Rattle.archive_join.specs.declared.fault.JoinFault.TheVariants.{Damage, TooLong, Folder, Memory}
 use Rattle.archive_join.proofs.Coming.{nodes-come, nodes-still}
 use Rattle.archive_join.proofs.Joining.{ours, theirs, calls, rows-fit, sound-of, none-of}
-
--- a draft that was empty is what was appended
-blank-is : (o : Option (List ℕ)) (bytes x : List ℕ) → IsBlank o → Some bytes ≡ option_map (λ (d : List ℕ). d ++ x) o → bytes ≡ x
-blank-is None bytes x blank is = absurd cc
-blank-is (Some d) bytes x blank is = some_is bytes (d ++ x) is ∙ ap (λ (z : List ℕ). z ++ x) (blank d refl)
-
-blank-one : (o : Option (List ℕ)) (file : List ℕ) → IsBlank o → option_map (λ (d : List ℕ). d ++ file) o ≡ option_map (λ (d : List ℕ). file) o
-blank-one None file h = refl
-blank-one (Some d) file h = ap (λ (b : List ℕ). Some (b ++ file)) (h d refl)
+use Rattle.record_copy.proofs.Passing.{blank-is, blank-one}
 
 -- the cursor stands before the first record behind the header
 abbrev pub IsBefore : PlainHeader → PlainCursor → Type 0

@@ -27,7 +27,7 @@ use Rattle.record_copy.specs.declared.fault.CopyFault.TheVariants.{Damage, TooLo
 use Rattle.record_copy.specs.declared.kind.Kind.TheVariants.{Inner, Leaf}
 use Rattle.record_copy.specs.declared.parts.Head.{Head}
 use Rattle.record_copy.proofs.Passing.{passes-none, coming-as, coming-same}
-use Rattle.record_copy.proofs.Running.{run-then, run-none}
+use Rattle.record_copy.proofs.Running.{run-then, run-none, short-none, short-then}
 use Rattle.archive_join.specs.Faults.{of_side}
 use Rattle.archive_join.specs.Heads.{Left, HeadsRead, LeavesOne, PassedAlone}
 use Rattle.archive_join.specs.Joined.{alone, alone_node}
@@ -36,7 +36,8 @@ use Rattle.archive_join.specs.Runs.{AreCalls}
 use Rattle.archive_join.specs.State.{State, with_first, with_second}
 use Rattle.archive_join.specs.declared.fault.JoinFault.{JoinFault}
 use Rattle.archive_join.proofs.Passing.{passes-then, first-passes, second-passes}
-use Rattle.archive_join.proofs.Running.{short-none, short-then, any-side, spares-first, spares-second, spares-own-first, spares-own-second}
+use Rattle.archive_join.proofs.Running.{any-side, spares-first, spares-second, spares-own-first, spares-own-second}
+use Rattle.record_copy.proofs.Alternating.{not-long, read-short}
 
 -- ---- the fault of a call that reads one of the archives
 
@@ -189,18 +190,8 @@ read-stops n cs made next behind ks t now TooLong long not = absurd long
 read-stops n cs made next behind ks t now Folder long not = (tt, tt)
 read-stops n cs made next behind ks t now Memory long not = (tt, tt)
 
-not-long : (e : Option CopyFault) → IfLong e ⊥ → e ≢ Some TooLong
-not-long None h d = absurd cc
-not-long (Some TooLong) h d = h
-not-long (Some Damage) h d = absurd cc
-not-long (Some Folder) h d = absurd cc
-not-long (Some Memory) h d = absurd cc
-
 read-run : (s t : copy.State) (e : Option CopyFault) → IfLong e ⊥ → t.writer ≡ s.writer → passing.Passes [] s t e → Run [] call_finish s t e
 read-run s t e not same h = run-none call_finish s t e (not-long e not) same h
-
-read-short : (S : List (ℕ × ℕ) → Type 0) (b : ℕ) (e : Option CopyFault) → IfLong e ⊥ → AreShort S b [] call_finish e
-read-short S b e not = short-none S b call_finish e (not-long e not)
 
 module _ (n : ℕ) (p q : List (ℕ × ℕ)) (h : PlainHead) where
   -- memory failed before the node was begun

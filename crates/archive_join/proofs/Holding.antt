@@ -29,7 +29,8 @@ use Rattle.archive_join.specs.Leaves.{alternatives_view}
 use Rattle.archive_join.specs.Short.{IsMadeOf}
 use Rattle.archive_join.specs.declared.held.Entry.{Entry}
 use Rattle.archive_join.specs.declared.held.Held.{Held}
-use Rattle.archive_join.proofs.Permuted.{all_at, all_permuted, differ_permuted, get_has, has_permuted, in_place, items_placed, map-map, sorted_keys}
+use Rattle.archive_join.proofs.Permuted.{differ_permuted, get_has, in_place, items_placed, map-map, sorted_keys}
+use Rattle.record_copy.proofs.Permuted.{has_permuted, all_permuted, all_at}
 
 -- ---- the alternative with a body
 

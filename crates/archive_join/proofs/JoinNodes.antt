@@ -10,8 +10,8 @@ use Rattle.archive_tree.specs.Data.{Stamp, PlainAlt, PlainNode, inner_node, leaf
 use Rattle.record_format.specs.Nodes.{set_in}
 use Rattle.record_cursor.specs.Items.{PlainItem, leaf_end_item, end_item}
 use Rattle.record_cursor.specs.View.{PlainCursor}
-use Rattle.record_writer.specs.Data.{PlainWriter, OpenInner, WriterCall, call_end_leaf, call_end_inner, call_finish}
-use Rattle.record_writer.specs.Calls.{appended, after, after_all, inner_ended}
+use Rattle.record_writer.specs.Data.{PlainWriter, WriterCall, call_end_leaf, call_end_inner, call_finish}
+use Rattle.record_writer.specs.Calls.{appended, after, after_all}
 use Rattle.record_writer.specs.Walks.{alt_calls, node_calls, row_calls}
 use Rattle.record_copy.specs.Faults.{Unless}
 use Rattle.record_copy.specs.Parts.{PlainHead, head_of}
@@ -25,7 +25,7 @@ use Rattle.record_copy.specs.declared.kind.Kind.TheVariants.{Inner, Leaf}
 use Rattle.record_copy.specs.declared.fault.CopyFault.{CopyFault}
 use Rattle.record_copy.specs.declared.fault.CopyFault.TheVariants.{Damage, Folder, TooLong, Memory}
 use Rattle.record_copy.proofs.Alternating.{not-long}
-use Rattle.record_copy.proofs.Running.{short-part}
+use Rattle.record_copy.proofs.Running.{short-part, short-then, short-none}
 use Rattle.archive_join.specs.Faults.{of_any, of_side, plain}
 use Rattle.archive_join.specs.Heads.{AreShortHeads, HeadsRead, Left, one_of, two_of}
 use Rattle.archive_join.specs.Joined.{joined_alts, joined_node, joined_row, paired}
@@ -40,31 +40,13 @@ use Rattle.archive_join.specs.declared.fault.JoinFault.{JoinFault}
 use Rattle.archive_join.specs.declared.fault.JoinFault.TheVariants as fault
 use Rattle.archive_join.specs.declared.heads.Heads.{Heads}
 use Rattle.archive_join.proofs.Passing.{passes-none}
-use Rattle.archive_join.proofs.Running.{run-then, run-none, first-run, run-as, calls-then, calls-fault, calls-as, calls-part, spares-second, spares-own-first, comes-still, short-then, short-none}
+use Rattle.archive_join.proofs.Running.{run-then, run-none, first-run, run-as, calls-then, calls-fault, calls-as, calls-part, spares-second, spares-own-first, comes-still}
 use Rattle.archive_join.proofs.SetLaws.{paired_made}
 use Rattle.archive_join.proofs.JoinWalking.{calls-stopped, never-long, same-side}
 use Rattle.record_cursor.specs.NodeItems.{alt_items}
+use Rattle.record_copy.proofs.Copying.{ends-rest, open-stands, ended-closes}
 
 -- ---- writers
-
-some-opened : (o : OpenInner) (is js : List OpenInner) → is ≡ o ∷ js → is ≢ []
-some-opened o is js e d = (let x = sym d ∙ e in absurd cc)
-
-open-stands : (kind : Kind) (l : PlainLabel) (s : Stamp) (set : List (ℕ × ℕ)) (v w : PlainWriter) → v.leaf ≡ None → w ≡ after v (call_of kind l s set) → IsOpen kind w
-open-stands Inner l s set v w none is = (ap (λ (x : PlainWriter). x.leaf) is ∙ none, some-opened _ w.inners v.inners (ap (λ (x : PlainWriter). x.inners) is))
-open-stands Leaf l s set v w none is = λ e. (let x = sym (ap (λ (y : PlainWriter). y.leaf) is) ∙ e in absurd cc)
-
-tails : (i j : OpenInner) (is js : List OpenInner) → i ∷ is ≡ j ∷ js → js ≡ is
-tails i j is js e = cc
-
-ends-rest : (kind : Kind) (l : PlainLabel) (s : Stamp) (set : List (ℕ × ℕ)) (v w x : PlainWriter) (e : Option CopyFault) → w ≡ after v (call_of kind l s set) → Unless e (EndsKind kind w x) → Unless e (Rests v x)
-ends-rest Inner l s set v w x None is h = record { no_leaf = h.no_leaf; inners = tails _ h.closed v.inners x.inners (sym (ap (λ (y : PlainWriter). y.inners) is) ∙ h.inners) }
-ends-rest Leaf l s set v w x None is h = record { no_leaf = h.no_leaf; inners = h.inners ∙ ap (λ (y : PlainWriter). y.inners) is }
-ends-rest kind l s set v w x (Some f) is h = tt
-
-ended-closes : (v w : PlainWriter) (is : List OpenInner) (at : ℕ) → is ≢ [] → v.leaf ≡ None → w ≡ inner_ended v is at → (w.leaf ≡ None) × (i : OpenInner) × (is ≡ i ∷ w.inners)
-ended-closes v w [] at some leaf e = absurd (some refl)
-ended-closes v w (i ∷ is) at some leaf e = (ap (λ (x : PlainWriter). x.leaf) e ∙ leaf, i, ap (λ (x : PlainWriter). i ∷ x.inners) (sym e))
 
 closes : (v w x : PlainWriter) (e : Option CopyFault) → v.inners ≢ [] → Rests v w → (made : List WriterCall) → Unless e (x ≡ after_all w made) → Unless e (made ≡ call_end_inner ∷ []) → Unless e (Closes v x)
 closes v w x None some h made is same =

@@ -31,7 +31,8 @@ use Rattle.archive_join.specs.declared.fault.JoinFault.{JoinFault}
 use Rattle.archive_join.specs.declared.fault.JoinFault.TheVariants as fault
 use Rattle.archive_join.specs.declared.heads.Heads.{Heads}
 use Rattle.archive_join.proofs.Passing.{goes-then, passes-none}
-use Rattle.archive_join.proofs.Running.{run-then, run-none, first-run, second-run, run-as, calls-then, calls-fault, calls-none, calls-as, any-side, spares-first, spares-second, spares-own-first, spares-own-second, short-then, short-none, short-made-first, short-made-second}
+use Rattle.record_copy.proofs.Running.{short-then, short-none}
+use Rattle.archive_join.proofs.Running.{run-then, run-none, first-run, second-run, run-as, calls-then, calls-fault, calls-none, calls-as, any-side, spares-first, spares-second, spares-own-first, spares-own-second, short-made-first, short-made-second}
 use Rattle.archive_join.proofs.Turning.{first_head, first_turned, second_turned, both_turned, less_some, greater_some, equal_first, equal_second, none_first, none_second, turned_as, calls_turned}
 
 -- ---- faults

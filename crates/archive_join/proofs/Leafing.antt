@@ -28,13 +28,13 @@ use Rattle.record_copy.proofs.Running.{sent-as, sent-fault, sent-none, sent-then
 use Rattle.record_cursor.specs.Items.{PlainItem, leaf_end_item}
 use Rattle.record_cursor.specs.Places.{among_nodes}
 use Rattle.record_cursor.specs.View.{PlainCursor}
-use Rattle.record_writer.specs.Calls.{appended, after, after_all, leaf_ended}
-use Rattle.record_writer.specs.Data.{PlainWriter, OpenLeaf, WriterCall, call_alt, call_end_leaf, call_finish}
+use Rattle.record_writer.specs.Calls.{after, after_all}
+use Rattle.record_writer.specs.Data.{PlainWriter, WriterCall, call_alt, call_end_leaf, call_finish}
 use Rattle.record_writer.specs.Walks.{alt_calls}
-use Rattle.record_writer.proofs.WalkLaws.{after-append, alts-keep}
+use Rattle.record_writer.proofs.WalkLaws.{alts-keep}
 use Rattle.archive_join.specs.Faults.{of_side, fault_of, plain, SparesFirst, SparesSecond}
 use Rattle.archive_join.specs.Held.{Holds, HoldsShort, is_among, left_over}
-use Rattle.archive_join.specs.Joined.{alone, alone_alt, has_alt, joined_alt, joined_alts, others}
+use Rattle.archive_join.specs.Joined.{alone, alone_alt, joined_alt, joined_alts, others}
 use Rattle.archive_join.specs.Leaves.{alternatives_view, AlternativesRead, FirstPut, Follows, LeafJoined, OthersPut}
 use Rattle.archive_join.specs.Runs.{AreCalls, Run}
 use Rattle.archive_join.specs.Short.{IsMadeOf}
@@ -46,6 +46,8 @@ use Rattle.archive_join.proofs.Alternating.{calls-map, calls-stopped}
 use Rattle.archive_join.proofs.Passing.{passes-stop, second-passes}
 use Rattle.archive_join.proofs.Running.{any-side, calls-as, calls-fault, calls-part, calls-then, comes-still, first-run, made-second, plain-side, run-none, run-then, second-run, side-fault, spares-first, spares-own-first, spares-second}
 use Rattle.record_cursor.specs.NodeItems.{alt_items}
+use Rattle.nested_merge.specs.Merged.{has_alt}
+use Rattle.record_copy.proofs.Closing.{closes-leaf}
 
 -- ---- those that are left
 
@@ -141,18 +143,6 @@ left-short b n p q (y ∷ ys) two h =
     ((stored-made b n (alone q p y.stamp) (alone-stored (IsRaisedOf b n) q p y.stamp two one.stamp), one.body), left-short b n p q ys two h.1)
 
 -- ---- the end of the leaf
-
-ended-rests : (v : PlainWriter) (o : Option OpenLeaf) (at : ℕ) → v.leaf ≡ o → Rests v (leaf_ended v o at)
-ended-rests v None at e = record { no_leaf = e; inners = refl }
-ended-rests v (Some l) at e = record { no_leaf = refl; inners = refl }
-
-closes-leaf : (v w : PlainWriter) (xs : List PlainAlt) → w ≡ after_all v (alt_calls xs ++ call_end_leaf ∷ []) → Rests v w
-closes-leaf v w xs is =
-    let u = after_all v (alt_calls xs) in
-    let kept = alts-keep v xs in
-    let ended = ended-rests u u.leaf (u.written + length (appended u call_end_leaf)) refl in
-    let same : w ≡ after u call_end_leaf = is ∙ after-append v (alt_calls xs) (call_end_leaf ∷ []) in
-    subst (Rests v) (sym same) (record { no_leaf = ended.no_leaf; inners = ended.inners ∙ kept.1 })
 
 leaf-rests : (v w : PlainWriter) (xs : List PlainAlt) (made : List WriterCall) (e : Option CopyFault) → copy.Unless e (w ≡ after_all v made) → copy.Unless e (made ≡ alt_calls xs ++ call_end_leaf ∷ []) → copy.Unless e (Rests v w)
 leaf-rests v w xs made None is same = closes-leaf v w xs (is ∙ ap (after_all v) same)

@@ -1,6 +1,5 @@
 -- What parts of the join do, one after the other, whatever the archives are.
-use Rattle.std.proofs.Common.{◌≡◌, ◌≢◌, ℕ, ◌+◌, ◌≤◌, List, [], ◌++◌, Option, Some, None, refl, sym, ap, subst, ◌∙◌, append_assoc, arith}
-use Rattle.std.specs.Option.{option_map}
+use Rattle.std.proofs.Common.{◌≡◌, ◌≢◌, ℕ, ◌+◌, ◌≤◌, List, [], ◌++◌, Option, Some, None, refl, sym, ap, subst, ◌∙◌, arith}
 use Rattle.std.proofs.lemmas.List.{append-nil}
 use Rattle.xa_outside.specs.Causes.{Rose}
 use Rattle.xa_outside.specs.Numbers.{IsMeter}
@@ -12,6 +11,7 @@ use Rattle.record_copy.specs.declared.fault.CopyFault.TheVariants.{Damage, Folde
 use Rattle.record_cursor.specs.View.{PlainCursor}
 use Rattle.archive_join.specs.Passes.{GoesOn, may_pull, Passes}
 use Rattle.archive_join.specs.State.{State, with_first, with_second}
+use Rattle.record_copy.proofs.Passing.{cause-then, lengthens-then, lengthens-none}
 
 -- ---- cursors
 
@@ -31,28 +31,7 @@ goes-then a b c h g = record {
 
 -- ---- drafts
 
-both-drafted : (o : Option (List ℕ)) (a b : List ℕ) → option_map (λ (d : List ℕ). d ++ b) (option_map (λ (d : List ℕ). d ++ a) o) ≡ option_map (λ (d : List ℕ). d ++ (a ++ b)) o
-both-drafted None a b = refl
-both-drafted (Some d) a b = ap Some (append_assoc d a b)
-
-none-drafted : (o : Option (List ℕ)) → o ≡ option_map (λ (d : List ℕ). d ++ []) o
-none-drafted None = refl
-none-drafted (Some d) = ap Some (sym (append-nil d))
-
-pub lengthens-then : (a b c : Option (List ℕ)) (x y : List ℕ) → b ≡ option_map (λ (d : List ℕ). d ++ x) a → c ≡ option_map (λ (d : List ℕ). d ++ y) b → c ≡ option_map (λ (d : List ℕ). d ++ (x ++ y)) a
-lengthens-then a b c x y h g = g ∙ ap (option_map (λ (d : List ℕ). d ++ y)) h ∙ both-drafted a x y
-
-pub lengthens-none : (a b : Option (List ℕ)) → b ≡ a → b ≡ option_map (λ (d : List ℕ). d ++ []) a
-lengthens-none a b e = e ∙ none-drafted a
-
 -- ---- parts
-
-cause-then : (a b c : ℕ) (e : Option CopyFault) → a ≤ b → b ≤ c → IfFolder e (Rose b c) → IfFolder e (Rose a c)
-cause-then a b c None first second h = tt
-cause-then a b c (Some Folder) first second h = omega (arith, first, second, h)
-cause-then a b c (Some Damage) first second h = tt
-cause-then a b c (Some TooLong) first second h = tt
-cause-then a b c (Some Memory) first second h = tt
 
 -- what one part may pull and what the next may are together what both may
 pull-fits : (s t u : State) (e : Option CopyFault) → GoesOn s.first t.first → GoesOn s.second t.second → GoesOn t.first u.first → GoesOn t.second u.second → may_pull s t None + may_pull t u e ≤ may_pull s u e

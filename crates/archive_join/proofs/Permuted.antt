@@ -1,34 +1,19 @@
 -- Lists with the same elements in another order.
 use Rattle.std.proofs.Common.{◌≡◌, ◌≢◌, ℕ, zero, suc, ◌+◌, ◌≤◌, ◌<◌, ◌==◌, ◌↔◌, Bool, true, false, IsTrue, List, [], ◌∷◌, map, length, get_or, refl, ap, sym, subst, subst₂, inl, inr, arith, eqb-true, eq-eqb}
-use Rattle.std.proofs.lemmas.Bool.Decides.{nat_tests}
 use Rattle.std.proofs.lemmas.Cmp.{nat_cmp_total}
 use Rattle.std.proofs.lemmas.List.{get_or-map, length-map}
 use Rattle.std.proofs.lemmas.List.Sums.{sum_by-cons}
-use Rattle.std.proofs.lemmas.List.Sorted.{sum_by-IsPermutation, Contains-permutation, IsPermutation-sym, IsPermutation-map}
-use Rattle.std.specs.List.{AllByRecursion, Contains, enumerate_from, sum_by}
+use Rattle.std.proofs.lemmas.List.Sorted.{sum_by-IsPermutation, IsPermutation-sym, IsPermutation-map}
+use Rattle.std.specs.List.{AllByRecursion, enumerate_from, sum_by}
 use Rattle.std.specs.List.Sorted.{IsPermutation, IsNonDecreasingBy, IsSortedBy}
 use Rattle.std.specs.Ordering.{nat_cmp}
 use Rattle.std.specs.declared.cmp.Ordering.TheVariants.{Less}
 use Rattle.keyed_tree.specs.Lists.{Ascends, Has}
-use Rattle.keyed_tree.proofs.Lists.{all_has, has_all, same_items}
+use Rattle.keyed_tree.proofs.Lists.{same_items}
 use Rattle.archive_tree.specs.Stands.{AllDiffer}
+use Rattle.record_copy.proofs.Permuted.{has_permuted, all_at, less}
 
 -- ---- what a permutation has
-
-at_has : {X : Type 0} (xs : List X) (k : ℕ) (x : X) → k < length xs → get_or xs k x ≡ x → Has x xs
-at_has [] k x low at = absurd (omega arith)
-at_has (y ∷ ys) zero x low at = inl at
-at_has (y ∷ ys) (suc k) x low at = inr (at_has ys k x (omega arith) at)
-
-has_at : {X : Type 0} (xs : List X) (x : X) → Has x xs → Contains xs x
-has_at [] x m = absurd m
-has_at (y ∷ ys) x m = elim m [ inl e ↦ (0, omega arith, e) | inr n ↦ (let h = has_at ys x n in let low : h.0 < length ys = h.1 in (suc h.0, omega arith, h.2)) ]
-
-pub has_permuted : {X : Type 0} (xs ys : List X) → IsPermutation xs ys → (z : X) → Has z xs → Has z ys
-has_permuted xs ys p z m = (let h = Contains-permutation xs ys z p (has_at xs z m) in at_has ys h.0 z h.1 h.2)
-
-pub all_permuted : {X : Type 0} (P : X → Type 0) (xs ys : List X) → IsPermutation xs ys → AllByRecursion P xs → AllByRecursion P ys
-all_permuted P xs ys p h = has_all P ys (λ z m. all_has P xs z h (has_permuted ys xs (IsPermutation-sym xs ys p) z m))
 
 -- ---- indices
 
@@ -36,10 +21,6 @@ pub get_has : {X : Type 0} (xs : List X) (i : ℕ) (d : X) → i < length xs →
 get_has [] i d low = absurd (omega arith)
 get_has (x ∷ xs) zero d low = inl refl
 get_has (x ∷ xs) (suc i) d low = inr (get_has xs i d (omega arith))
-
-pub all_at : {X : Type 0} (P : X → Type 0) (xs : List X) → ((k : ℕ) (d : X) → k < length xs → P (get_or xs k d)) → AllByRecursion P xs
-all_at P [] h = tt
-all_at P (x ∷ xs) h = (h 0 x (omega arith), all_at P xs (λ k d low. h (suc k) d (omega arith)))
 
 pub map-map : {X Y Z : Type 0} (g : Y → Z) (f : X → Y) (xs : List X) → map g (map f xs) ≡ map (λ x. g (f x)) xs
 map-map g f [] = refl
@@ -119,9 +100,6 @@ module _ {K : Type 0} (same : K → K → Bool) (exact : (x y : K) → IsTrue (s
   differ_permuted ks js p a = times-differ js (λ k. (let e = sum_by-IsPermutation (is_at k) ks js p in let most = differ-times ks a k in omega arith))
 
 -- ---- back in their places
-
-less : (m n : ℕ) → m ≤ n → m ≢ n → nat_cmp m n ≡ Less
-less m n h d = grind (arith, nat_tests)
 
 all_less : {X : Type 0} (f : X → ℕ) (m : ℕ) (xs : List X) → AllByRecursion (λ x. m ≤ f x) xs → AllByRecursion (λ n. m ≢ n) (map f xs) → AllByRecursion (λ n. nat_cmp m n ≡ Less) (map f xs)
 all_less f m [] h d = tt

@@ -17,7 +17,7 @@ use Rattle.record_copy.specs.Short.{AreShort, IsRaisedOf}
 use Rattle.record_copy.specs.State as at_one
 use Rattle.record_copy.specs.declared.fault.CopyFault.{CopyFault}
 use Rattle.record_copy.specs.declared.fault.CopyFault.TheVariants.{Damage, Folder, TooLong, Memory}
-use Rattle.record_copy.proofs.Running.{short-part, called, plain-sends}
+use Rattle.record_copy.proofs.Running.{short-part, called, plain-sends, short-then, short-none}
 use Rattle.record_cursor.specs.Items.{PlainItem, end_item, finish}
 use Rattle.record_cursor.specs.View.{PlainCursor}
 use Rattle.record_writer.specs.Calls.{appended, after, Fits}
@@ -36,7 +36,7 @@ use Rattle.archive_join.specs.Walked.{RowJoined, RowsFit}
 use Rattle.archive_join.specs.Whole.{Reads, NodesJoined}
 use Rattle.archive_join.specs.declared.fault.JoinFault.{JoinFault}
 use Rattle.archive_join.proofs.Passing.{passes-then, first-passes, second-passes}
-use Rattle.archive_join.proofs.Running.{run-then, run-none, first-run, calls-then, calls-fault, calls-part, plain-side, spares-first, spares-second, spares-own-first, spares-own-second, comes-still, short-then, short-none}
+use Rattle.archive_join.proofs.Running.{run-then, run-none, first-run, calls-then, calls-fault, calls-part, plain-side, spares-first, spares-second, spares-own-first, spares-own-second, comes-still}
 
 -- ---- faults
 

@@ -16,8 +16,7 @@ use Rattle.record_copy.specs.declared.fault.CopyFault.TheVariants.{Damage, Folde
 use Rattle.record_cursor.specs.Items.{PlainItem}
 use Rattle.record_cursor.specs.View.{PlainCursor}
 use Rattle.record_writer.specs.Data.{PlainWriter, WriterCall, call_inner, call_leaf, call_alt, call_end_leaf, call_end_inner, call_finish}
-use Rattle.record_writer.specs.Calls.{all_appended, after_all, Fits, AllFit}
-use Rattle.record_writer.proofs.WalkLaws.{appended-append, after-append}
+use Rattle.record_writer.specs.Calls.{AllFit}
 use Rattle.record_writer.proofs.FitLaws.{fit-both}
 use Rattle.archive_join.specs.Faults.{of_side, of_any, fault_of, plain, SparesFirst, SparesSecond}
 use Rattle.archive_join.specs.Passes.{Passes}
@@ -25,6 +24,7 @@ use Rattle.archive_join.specs.Runs.{Run, AreCalls}
 use Rattle.archive_join.specs.Short.{IsMadeOf}
 use Rattle.archive_join.specs.State.{State, with_first, with_second}
 use Rattle.archive_join.specs.declared.fault.JoinFault.{JoinFault}
+use Rattle.record_copy.proofs.Endings.{whole-map, whole-always, unless-map, unless-always, long-map, long-never, both-bytes, both-after, both-over}
 use Rattle.archive_join.proofs.Passing.{passes-then, first-passes, second-passes}
 
 -- ---- runs
@@ -33,61 +33,22 @@ pub run-then : (made more : List WriterCall) (over next : WriterCall) (s t u : S
 run-then made more over next s t u e h g = record {
   bytes = h.bytes ++ g.bytes;
   passes = passes-then h.bytes g.bytes s t u e h.passes g.passes;
-  same = same-of e g.same;
+  same = whole-map e (both-bytes s.writer t.writer made more h.writer h.bytes g.bytes h.same) g.same;
   fit = (fit-both s.writer made more).1 (h.fit, subst (λ (v : PlainWriter). AllFit v more) h.writer g.fit);
-  writer = writer-of e g.writer;
-  over = over-of e g.over;
+  writer = unless-map e (both-after s.writer t.writer made more h.writer u.writer) g.writer;
+  over = long-map e (both-over s.writer t.writer made more h.writer next) g.over;
 }
-  where
-    whole : g.bytes ≡ all_appended t.writer more → h.bytes ++ g.bytes ≡ all_appended s.writer (made ++ more)
-    whole is = (λ i. h.same i ++ is i) ∙ ap (λ (v : PlainWriter). all_appended s.writer made ++ all_appended v more) h.writer ∙ sym (appended-append s.writer made more)
-
-    same-of : (e : Option CopyFault) → faults.IfWhole e (g.bytes ≡ all_appended t.writer more) → faults.IfWhole e (h.bytes ++ g.bytes ≡ all_appended s.writer (made ++ more))
-    same-of None is = whole is
-    same-of (Some TooLong) is = whole is
-    same-of (Some Damage) is = tt
-    same-of (Some Folder) is = tt
-    same-of (Some Memory) is = tt
-
-    writer-of : (e : Option CopyFault) → faults.Unless e (u.writer ≡ after_all t.writer more) → faults.Unless e (u.writer ≡ after_all s.writer (made ++ more))
-    writer-of None is = is ∙ ap (λ (v : PlainWriter). after_all v more) h.writer ∙ sym (after-append s.writer made more)
-    writer-of (Some f) is = tt
-
-    over-of : (e : Option CopyFault) → faults.IfLong e (¬ Fits (after_all t.writer more) next) → faults.IfLong e (¬ Fits (after_all s.writer (made ++ more)) next)
-    over-of None is = tt
-    over-of (Some TooLong) is = subst (λ (v : PlainWriter). ¬ Fits v next) (ap (λ (v : PlainWriter). after_all v more) h.writer ∙ sym (after-append s.writer made more)) is
-    over-of (Some Damage) is = tt
-    over-of (Some Folder) is = tt
-    over-of (Some Memory) is = tt
 
 -- nothing was written, and it is no want of room
 pub run-none : (next : WriterCall) (s t : State) (e : Option CopyFault) → e ≢ Some TooLong → t.writer ≡ s.writer → Passes [] s t e → Run [] next s t e
 run-none next s t e not same h = record {
   bytes = [];
   passes = h;
-  same = whole e;
+  same = whole-always e refl;
   fit = tt;
-  writer = writer-of e;
-  over = over-of e not;
+  writer = unless-always e same;
+  over = long-never _ e not;
 }
-  where
-    whole : (e : Option CopyFault) → faults.IfWhole e ([] ≡ all_appended s.writer [])
-    whole None = refl
-    whole (Some TooLong) = refl
-    whole (Some Damage) = tt
-    whole (Some Folder) = tt
-    whole (Some Memory) = tt
-
-    writer-of : (e : Option CopyFault) → faults.Unless e (t.writer ≡ s.writer)
-    writer-of None = same
-    writer-of (Some f) = tt
-
-    over-of : (e : Option CopyFault) → e ≢ Some TooLong → faults.IfLong e (¬ Fits s.writer next)
-    over-of None n = tt
-    over-of (Some TooLong) n = absurd (n refl)
-    over-of (Some Damage) n = tt
-    over-of (Some Folder) n = tt
-    over-of (Some Memory) n = tt
 
 -- a part that goes along one of the cursors
 pub first-run : (made : List WriterCall) (next : WriterCall) (s t : State) (e : Option CopyFault) → s.second.at ≤ s.second.length → t.second ≡ s.second → copy.Run made next (with_first s) (with_first t) e → Run made next s t e
@@ -207,23 +168,6 @@ comes-still n told now c d xs files same h = subst (λ (f : Option Files). Comin
 
 -- ---- short calls
 
-all-append : {X : Type 0} (P : X → Type 0) (xs ys : List X) → AllByRecursion P xs → AllByRecursion P ys → AllByRecursion P (xs ++ ys)
-all-append P [] ys h g = g
-all-append P (x ∷ xs) ys h g = (h.0, all-append P xs ys h.1 g)
-
-pub short-then : (S : List (ℕ × ℕ) → Type 0) (b : ℕ) (made more : List WriterCall) (over next : WriterCall) (e : Option CopyFault) → AreShort S b made over None → AreShort S b more next e → AreShort S b (made ++ more) next e
-short-then S b made more over next e h g = record { each = all-append (IsShortCall S b) made more h.each g.each; last = g.last }
-
-pub short-none : (S : List (ℕ × ℕ) → Type 0) (b : ℕ) (next : WriterCall) (e : Option CopyFault) → e ≢ Some TooLong → AreShort S b [] next e
-short-none S b next e not = record { each = tt; last = last-of e not }
-  where
-    last-of : (e : Option CopyFault) → e ≢ Some TooLong → faults.IfLong e (IsShortCall S b next)
-    last-of None n = tt
-    last-of (Some TooLong) n = absurd (n refl)
-    last-of (Some Damage) n = tt
-    last-of (Some Folder) n = tt
-    last-of (Some Memory) n = tt
-
 -- sets that pass one test pass another
 stored-weaker : (S Z : List (ℕ × ℕ) → Type 0) (s : Stamp) → ((q : List (ℕ × ℕ)) → S q → Z q) → IfStored S s → IfStored Z s
 stored-weaker S Z None f h = tt
@@ -242,14 +186,7 @@ calls-weaker S Z b [] f h = tt
 calls-weaker S Z b (c ∷ cs) f h = (call-weaker S Z b c f h.0, calls-weaker S Z b cs f h.1)
 
 pub short-weaker : (S Z : List (ℕ × ℕ) → Type 0) (b : ℕ) (made : List WriterCall) (next : WriterCall) (e : Option CopyFault) → ((q : List (ℕ × ℕ)) → S q → Z q) → AreShort S b made next e → AreShort Z b made next e
-short-weaker S Z b made next e f h = record { each = calls-weaker S Z b made f h.each; last = last-of e h.last }
-  where
-    last-of : (e : Option CopyFault) → faults.IfLong e (IsShortCall S b next) → faults.IfLong e (IsShortCall Z b next)
-    last-of None g = tt
-    last-of (Some TooLong) g = call-weaker S Z b next f g
-    last-of (Some Damage) g = tt
-    last-of (Some Folder) g = tt
-    last-of (Some Memory) g = tt
+short-weaker S Z b made next e f h = record { each = calls-weaker S Z b made f h.each; last = long-map e (call-weaker S Z b next f) h.last }
 
 pub raised-none : (p : List (ℕ × ℕ)) → raised 0 p ≡ p
 raised-none [] = refl

@@ -1,9 +1,7 @@
 -- Joining archives behind a header that was appended.
-use Rattle.std.proofs.Common.{◌≡◌, ◌≢◌, ℕ, ◌+◌, ◌-◌, ◌≤◌, ◌==◌, true, false, cond, List, [], ◌∷◌, ◌++◌, length, take, Option, Some, None, Result, Ok, Err, refl, sym, ap, subst, ◌∙◌, arith}
+use Rattle.std.proofs.Common.{◌≡◌, ◌≢◌, ℕ, ◌+◌, ◌-◌, ◌≤◌, ◌==◌, false, cond, List, [], ◌∷◌, ◌++◌, length, take, Option, Some, None, Result, Ok, Err, refl, sym, ap, subst, ◌∙◌, arith}
 use Rattle.std.specs.Option.{option_map}
 use Rattle.std.specs.Result.{result_map_both}
-use Rattle.timestamp_tree.specs.Bytes.{set_bytes}
-use Rattle.timestamp_tree.proofs.Trees.{length-set_bytes}
 use Rattle.version_set.specs.Members.{upto_pairs}
 use Rattle.xa_outside.specs.Causes.{Rose}
 use Rattle.xa_outside.specs.Folder.{Files}
@@ -15,7 +13,7 @@ use Rattle.record_copy.specs.Seen.{Coming, row_items}
 use Rattle.record_copy.specs.Short.{IsRaisedOf}
 use Rattle.record_copy.specs.declared.fault.CopyFault.{CopyFault}
 use Rattle.record_copy.specs.declared.fault.CopyFault.TheVariants.{Damage, Folder, TooLong, Memory}
-use Rattle.record_copy.proofs.Passing.{cause-then}
+use Rattle.record_copy.proofs.Passing.{cause-then, lengthens-then, lengthens-none}
 use Rattle.record_cursor.specs.Items.{end_item, finish}
 use Rattle.record_cursor.specs.View.{PlainCursor, PlainHeader}
 use Rattle.record_format.specs.Files.{header_bytes}
@@ -31,8 +29,9 @@ use Rattle.archive_join.specs.Short.{IsMadeOf}
 use Rattle.archive_join.specs.Whole.{Reads, Begun, NodesJoined, ArchivesJoined}
 use Rattle.archive_join.specs.declared.fault.JoinFault.{JoinFault}
 use Rattle.archive_join.specs.declared.fault.JoinFault.TheVariants as fault
-use Rattle.archive_join.proofs.Passing.{lengthens-then, lengthens-none}
-use Rattle.archive_join.proofs.Running.{any-side, raised-none, calls-none, short-none}
+use Rattle.record_copy.proofs.Running.{short-none}
+use Rattle.archive_join.proofs.Running.{any-side, raised-none, calls-none}
+use Rattle.record_copy.proofs.FewBytes.{upto-few}
 
 -- ---- a writer that begins
 
@@ -84,12 +83,6 @@ began files draft numbers count h n old new (Ok v) z w begun is at = subst (λ (
 began files draft numbers count h n old new (Err e) z w begun is at = absurd (never-ok (of_side false e) w (sym is ∙ at))
 
 -- ---- sets of all versions
-
-upto-few : (n : ℕ) → length (set_bytes (upto_pairs n)) ≤ 12
-upto-few n = (let size = length-set_bytes (upto_pairs n) in let few = one n in omega (arith, size, few))
-  where
-    one : (n : ℕ) → length (upto_pairs n) ≤ 1
-    one n = elim (n == 0) as (λ t. length (cond {A = List (ℕ × ℕ)} t [] ((1, n) ∷ [])) ≤ 1) [ true ↦ omega arith | false ↦ omega arith ]
 
 upto-raised : (b k n : ℕ) → 12 ≤ b → IsRaisedOf b k (raised k (upto_pairs n))
 upto-raised b k n most = (upto_pairs n, (let few = upto-few n in omega (arith, most, few)), refl)

@@ -1,7 +1,7 @@
 -- What the nodes of two archives become in one archive, in which the versions of the second follow those of the first.
-use Rattle.std.specs.Prelude.{ℕ, ◌+◌, Bool, not, List, [], ◌∷◌, ◌++◌, map, filter, Option, Some, None, if◌then◌else◌}
+use Rattle.std.specs.Prelude.{ℕ, ◌+◌, not, List, [], ◌∷◌, ◌++◌, map, filter, Option, Some, None, if◌then◌else◌}
 use Rattle.std.specs.Option.{unwrap_or}
-use Rattle.std.specs.List.{find, list_any}
+use Rattle.std.specs.List.{find}
 use Rattle.std.specs.Ordering.{is_eq, is_lt, is_le}
 use Rattle.version_set.specs.Members.{united, upto_pairs}
 use Rattle.keyed_tree.specs.Data.{PlainKey, PlainLabel}
@@ -9,6 +9,7 @@ use Rattle.keyed_tree.specs.Order.{key_cmp, label_cmp}
 use Rattle.archive_tree.specs.Data.{Stamp, PlainAlt, PlainNode, inner_node, leaf_node, PlainNodes, no_nodes, node, node_label, nodes_list, PlainArchive}
 use Rattle.archive_tree.specs.Seek.{node_with}
 use Rattle.record_copy.specs.Raised.{raised, raised_nodes}
+use Rattle.nested_merge.specs.Merged.{has_alt}
 
 -- ---- stamps, under a parent that has p in the one archive and q in the other
 
@@ -28,9 +29,6 @@ alone p (r ∷ rs) s = Some (unwrap_or s p)
 -- the alternative with this body
 abbrev pub alt_of : PlainKey → List PlainAlt → Option PlainAlt
 alt_of b xs = find (λ a. is_eq (key_cmp a.body b)) xs
-
-abbrev pub has_alt : PlainKey → List PlainAlt → Bool
-has_alt b xs = list_any (λ a. is_eq (key_cmp a.body b)) xs
 
 -- the stamp of an alternative of the first, with the one of the second that has its body
 abbrev pub stamp_with : List (ℕ × ℕ) → List (ℕ × ℕ) → Stamp → Option PlainAlt → Stamp

@@ -16,18 +16,14 @@ use Rattle.record_cursor.specs.declared.fault.CursorFault.{CursorFault}
 use Rattle.record_cursor.specs.declared.fault.CursorFault.TheVariants.{Damage, Folder, Memory}
 use Rattle.record_cursor.proofs.Fills.{take-front}
 use Rattle.file_get.specs.Fixed.{count_in, EndsFirst}
+use Rattle.record_cursor.proofs.Headers.{number-there}
+use Rattle.archive_file.proofs.FrontLaws.{count_at}
 
 lt-ltb : (m n : ℕ) → m < n → ltb m n ≡ true
 lt-ltb m n h = grind (arith, nat_tests)
 
 number-few : (bytes : List ℕ) → length bytes < 4 → number_at w32 bytes ≡ None
 number-few bytes few = (let short : ltb (length bytes) 4 ≡ true = lt-ltb _ _ few in rw short refl)
-
-number-there : (bytes : List ℕ) → 4 ≤ length bytes → number_at w32 bytes ≡ Some (from_be_bytes w32 (take 4 bytes), drop 4 bytes)
-number-there bytes fits = (let long : ltb (length bytes) 4 ≡ false = le-ltb _ _ fits in rw long refl)
-
-abbrev count_at : List ℕ → Option (ℕ × List ℕ)
-count_at bytes = only_at (λ n. leb n most) (number_at w32) bytes
 
 counted-of : (text : List ℕ) (o : Option (ℕ × List ℕ)) → option_map (λ (x : (List ℕ × ℕ) × List ℕ). x.0.1) (o >>= λ b. Some ((text, b.0), b.1)) ≡ option_map (λ x. x.0) o
 counted-of text (Some x) = refl

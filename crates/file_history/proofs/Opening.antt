@@ -29,7 +29,7 @@ use Rattle.record_cursor.specs.Places.{Standing, among_nodes, after_item}
 use Rattle.record_cursor.specs.View.{PlainCursor, shown_item}
 use Rattle.record_cursor.specs.declared.fault.CursorFault.{CursorFault}
 use Rattle.record_cursor.specs.declared.item.Item.{Item}
-use Rattle.record_cursor.proofs.Fills.{take-front, front-length}
+use Rattle.record_cursor.proofs.Fills.{take-front, front-length, le-of}
 use Rattle.record_cursor.proofs.Items.{next-record}
 use Rattle.file_rows.specs.StandsAt.{RowLaid, ChildLaid}
 use Rattle.file_rows.specs.View.{PlainChild, row_view}
@@ -39,9 +39,6 @@ use Rattle.file_history.specs.Opened.{met_by, met_of, met_node, IsFound, ChildIs
 use Rattle.file_history.specs.View.{PlainMet, met_inner, met_leaf, stands_before, stands_behind}
 
 -- ---- the front of a file
-
-le-of : (m n : ℕ) → leb m n ≡ true → m ≤ n
-le-of m n h = grind (arith, nat_tests)
 
 pub front-less : (told : Option Files) (name bytes : List ℕ) (size end : ℕ) → TellsFront told name size bytes → end ≤ size → TellsFront told name end (take end bytes)
 front-less told name bytes size end h fits =

@@ -53,14 +53,14 @@ own-raised b n (Some t) parent own is h g = subst (IsRaisedOf b n) (sym is) h
 
 -- ---- the writer
 
-some-opened : (o : OpenInner) (is js : List OpenInner) → is ≡ o ∷ js → is ≢ []
+pub some-opened : (o : OpenInner) (is js : List OpenInner) → is ≡ o ∷ js → is ≢ []
 some-opened o is js e d = (let x = sym d ∙ e in absurd cc)
 
 pub open-stands : (kind : Kind) (l : PlainLabel) (s : Stamp) (set : List (ℕ × ℕ)) (v w : PlainWriter) → v.leaf ≡ None → w ≡ after v (call_of kind l s set) → IsOpen kind w
 open-stands Inner l s set v w none is = (ap (λ (x : PlainWriter). x.leaf) is ∙ none, some-opened _ w.inners v.inners (ap (λ (x : PlainWriter). x.inners) is))
 open-stands Leaf l s set v w none is = λ e. (let x = sym (ap (λ (y : PlainWriter). y.leaf) is) ∙ e in absurd cc)
 
-tails : (i j : OpenInner) (is js : List OpenInner) → i ∷ is ≡ j ∷ js → js ≡ is
+pub tails : (i j : OpenInner) (is js : List OpenInner) → i ∷ is ≡ j ∷ js → js ≡ is
 tails i j is js e = cc
 
 pub ends-rest : (kind : Kind) (l : PlainLabel) (s : Stamp) (set : List (ℕ × ℕ)) (v w x : PlainWriter) (e : Option CopyFault) → w ≡ after v (call_of kind l s set) → Unless e (EndsKind kind w x) → Unless e (Rests v x)
@@ -310,7 +310,7 @@ inside-fault n set s t f h = record {
   inside = λ ks behind coming. matches-fault n (row_calls set ks) (call_end_inner ∷ []) h.made h.next behind behind t f (h.row ks behind coming);
 }
 
-ended-closes : (v w : PlainWriter) (is : List OpenInner) (at : ℕ) → is ≢ [] → v.leaf ≡ None → w ≡ inner_ended v is at → (w.leaf ≡ None) × (i : OpenInner) × (is ≡ i ∷ w.inners)
+pub ended-closes : (v w : PlainWriter) (is : List OpenInner) (at : ℕ) → is ≢ [] → v.leaf ≡ None → w ≡ inner_ended v is at → (w.leaf ≡ None) × (i : OpenInner) × (is ≡ i ∷ w.inners)
 ended-closes v w [] at some leaf e = absurd (some refl)
 ended-closes v w (i ∷ is) at some leaf e = (ap (λ (x : PlainWriter). x.leaf) e ∙ leaf, i, ap (λ (x : PlainWriter). i ∷ x.inners) (sym e))
 

@@ -1,7 +1,9 @@
 -- The parts of records that are read, and their bytes.
-use Rattle.std.proofs.Common.{ℕ, ◌≤◌, [], ◌∷◌, length, Some, None, refl, arith}
+use Rattle.std.proofs.Common.{◌==◌, ℕ, ◌≤◌, true, false, cond, List, [], ◌∷◌, length, Some, None, refl, arith}
 use Rattle.std.proofs.lemmas.List.{length-append}
+use Rattle.version_set.specs.Members.{upto_pairs}
 use Rattle.timestamp_tree.specs.Bytes.{set_bytes}
+use Rattle.timestamp_tree.proofs.Trees.{length-set_bytes}
 use Rattle.keyed_tree.specs.Data.{PlainKey, PlainLabel}
 use Rattle.archive_tree.specs.Data.{Stamp}
 use Rattle.record_format.specs.Data.{inner_rec, leaf_rec, alt_rec}
@@ -41,3 +43,10 @@ alternative-parts b (Some s) v le = (let e = rec-length (alt_rec (Some s) v) in 
 pub raised-few : (b n : ℕ) (s : Stamp) → IsFewStamp b s → IfStored (IsRaisedOf b n) (raised_stamp n s)
 raised-few b n None h = tt
 raised-few b n (Some s) h = (s, h, refl)
+
+-- the set of all versions takes few bytes
+pub upto-few : (n : ℕ) → length (set_bytes (upto_pairs n)) ≤ 12
+upto-few n = (let size = length-set_bytes (upto_pairs n) in let few = one n in omega (arith, size, few))
+  where
+    one : (n : ℕ) → length (upto_pairs n) ≤ 1
+    one n = elim (n == 0) as (λ t. length (cond {A = List (ℕ × ℕ)} t [] ((1, n) ∷ [])) ≤ 1) [ true ↦ omega arith | false ↦ omega arith ]

@@ -1,7 +1,11 @@
 pub mod Raising
 pub mod FewBytes
 pub mod Passing
+pub mod Endings
 pub mod Running
 pub mod Reading
 pub mod Alternating
 pub mod Copying
+pub mod Permuted
+pub mod Closing
+pub mod ItemKinds

@@ -4,7 +4,7 @@ use Rattle.std.specs.Option.{option_map}
 use Rattle.std.specs.Result.{IsErrAnd}
 use Rattle.std.proofs.lemmas.List.{append-nil}
 use Rattle.xa_outside.specs.Causes.{Rose}
-use Rattle.xa_outside.specs.Folder.{Files}
+use Rattle.xa_outside.specs.Folder.{Files, IsBlank}
 use Rattle.xa_outside.specs.Numbers.{IsMeter, PullsAtMost, PullsAndDrafts, after_pull}
 use Rattle.xa_outside.specs.NumberLaws.{PullsAtMost-of, PullsAndDrafts-none, PullsAndDrafts-of_pulls, PullsAndDrafts-more, PullsAndDrafts-trans}
 use Rattle.xa_fields.proofs.Fields.{some_is}
@@ -34,11 +34,11 @@ pulls-then : (s t u : State) (e : Option CopyFault) → (t.cursor.at - s.cursor.
     → PullsAndDrafts (may_pull s u e) s.numbers u.numbers
 pulls-then s t u e fits h g = PullsAndDrafts-more ((t.cursor.at - s.cursor.at) + may_pull t u e) (may_pull s u e) s.numbers u.numbers fits (PullsAndDrafts-trans (t.cursor.at - s.cursor.at) (may_pull t u e) s.numbers t.numbers u.numbers h g)
 
-both-drafted : (o : Option (List ℕ)) (a b : List ℕ) → option_map (λ (d : List ℕ). d ++ b) (option_map (λ (d : List ℕ). d ++ a) o) ≡ option_map (λ (d : List ℕ). d ++ (a ++ b)) o
+pub both-drafted : (o : Option (List ℕ)) (a b : List ℕ) → option_map (λ (d : List ℕ). d ++ b) (option_map (λ (d : List ℕ). d ++ a) o) ≡ option_map (λ (d : List ℕ). d ++ (a ++ b)) o
 both-drafted None a b = refl
 both-drafted (Some d) a b = ap Some (append_assoc d a b)
 
-none-drafted : (o : Option (List ℕ)) → o ≡ option_map (λ (d : List ℕ). d ++ []) o
+pub none-drafted : (o : Option (List ℕ)) → o ≡ option_map (λ (d : List ℕ). d ++ []) o
 none-drafted None = refl
 none-drafted (Some d) = ap Some (sym (append-nil d))
 
@@ -114,7 +114,7 @@ passes-only x s t e within same files longer later cause counts = record {
 
 -- ---- one call of the cursor
 
-read-size : (c : Standing) (i : PlainItem) → read_for c i ≤ size_of c i
+pub read-size : (c : Standing) (i : PlainItem) → read_for c i ≤ size_of c i
 read-size c (inner_item l s) = omega arith
 read-size c (leaf_item l s) = omega arith
 read-size c (alt_item t b) = omega arith
@@ -183,7 +183,7 @@ failed s t e within h =
       pulls = PullsAndDrafts-of_pulls (s.cursor.length - s.cursor.at) s.numbers t.numbers h.pulls;
     }
 
-comes-next : (told : Option Files) (a b : PlainCursor) (item : Item) (i : PlainItem) (is : List PlainItem) → Goes told a item b → Comes told a (i ∷ is) → (shown_item item ≡ i) × Comes told b is
+pub comes-next : (told : Option Files) (a b : PlainCursor) (item : Item) (i : PlainItem) (is : List PlainItem) → Goes told a item b → Comes told a (i ∷ is) → (shown_item item ≡ i) × Comes told b is
 comes-next told a b item i is goes h =
     let u = h.gives.0 in
     let more = h.gives.1 in
@@ -239,10 +239,10 @@ module _ (n : ℕ) where
 
 -- ---- what the code hands on
 
-went : (told : Option Files) (old new : PlainCursor) (r : Result Item CursorFault) (item : Item) → r ≡ Ok item → Moves told old r new → Goes told old item new
+pub went : (told : Option Files) (old new : PlainCursor) (r : Result Item CursorFault) (item : Item) → r ≡ Ok item → Moves told old r new → Goes told old item new
 went told old new r item is h = subst (λ (x : Result Item CursorFault). Moves told old x new) is h
 
-stayed : (told : Option Files) (old new : PlainCursor) (r : Result Item CursorFault) (e : CursorFault) → r ≡ Err e → Moves told old r new → new ≡ old
+pub stayed : (told : Option Files) (old new : PlainCursor) (r : Result Item CursorFault) (e : CursorFault) → r ≡ Err e → Moves told old r new → new ≡ old
 stayed told old new r e is h = subst (λ (x : Result Item CursorFault). Moves told old x new) is h
 
 -- the call of the cursor gave the item, by its clauses
@@ -263,3 +263,14 @@ at-err {T = T} (Err d) f h P p = subst (λ z. P (Err z)) (sym h) p
 -- a writer of which nothing is asked
 abbrev pub nobody : PlainWriter
 nobody = record { written = 0; row = row_from 0; inners = []; leaf = None }
+
+-- ---- a draft that was empty
+
+-- it is what was appended
+pub blank-is : (o : Option (List ℕ)) (bytes x : List ℕ) → IsBlank o → Some bytes ≡ option_map (λ (d : List ℕ). d ++ x) o → bytes ≡ x
+blank-is None bytes x blank is = absurd cc
+blank-is (Some d) bytes x blank is = some_is bytes (d ++ x) is ∙ ap (λ (z : List ℕ). z ++ x) (blank d refl)
+
+pub blank-one : (o : Option (List ℕ)) (file : List ℕ) → IsBlank o → option_map (λ (d : List ℕ). d ++ file) o ≡ option_map (λ (d : List ℕ). file) o
+blank-one None file h = refl
+blank-one (Some d) file h = ap (λ (b : List ℕ). Some (b ++ file)) (h d refl)

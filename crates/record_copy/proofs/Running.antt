@@ -9,23 +9,24 @@ use Rattle.xa_outside.specs.NumberLaws.{PullsAndDrafts-none, PullsAndDrafts-of_d
 use Rattle.record_cursor.specs.Items.{PlainItem}
 use Rattle.record_cursor.specs.View.{PlainCursor}
 use Rattle.record_writer.specs.Data.{PlainWriter, WriterCall, call_finish}
-use Rattle.record_writer.specs.Calls.{appended, after, all_appended, after_all, Fits, AllFit}
+use Rattle.record_writer.specs.Calls.{appended, after, Fits, AllFit}
 use Rattle.record_writer.specs.Faults.{TooLongUnless, Appends}
 use Rattle.record_writer.specs.View.{writer_view}
 use Rattle.record_writer.specs.declared.fault.WriteFault.{WriteFault}
 use Rattle.record_writer.specs.declared.fault.WriteFault.TheVariants as writer
 use Rattle.record_writer.specs.declared.writer.Writer.{Writer}
-use Rattle.record_writer.proofs.WalkLaws.{appended-append, after-append}
 use Rattle.record_writer.proofs.FitLaws.{fit-both}
-use Rattle.record_copy.specs.Faults.{Unless, IfLong, IfWhole, fault_of, of_writer}
+use Rattle.record_copy.specs.Faults.{fault_of, of_writer}
 use Rattle.record_copy.specs.Passes.{Passes}
 use Rattle.record_copy.specs.Runs.{Run, Makes, Matches, IsPart, Sent}
 use Rattle.record_copy.specs.Seen.{Coming}
 use Rattle.record_copy.specs.Short.{IsShortCall, AreShort}
-use Rattle.record_copy.specs.State.{State, state}
+use Rattle.record_copy.specs.State.{State, state, beside}
 use Rattle.record_copy.specs.declared.fault.CopyFault.{CopyFault}
 use Rattle.record_copy.specs.declared.fault.CopyFault.TheVariants.{Damage, Folder, TooLong, Memory}
+use Rattle.record_copy.proofs.Endings.{whole-map, whole-always, unless-map, unless-always, long-map, long-never, both-bytes, both-after, both-over}
 use Rattle.record_copy.proofs.Passing.{passes-then, passes-none, passes-only, lengthens-none, coming-same}
+use Rattle.record_format.proofs.Pieces.{all-append, all-front, all-back}
 
 -- ---- runs
 
@@ -33,61 +34,22 @@ pub run-then : (made more : List WriterCall) (over next : WriterCall) (s t u : S
 run-then made more over next s t u e h g = record {
   bytes = h.bytes ++ g.bytes;
   passes = passes-then h.bytes g.bytes s t u e h.passes g.passes;
-  same = same-of e g.same;
+  same = whole-map e (both-bytes s.writer t.writer made more h.writer h.bytes g.bytes h.same) g.same;
   fit = (fit-both s.writer made more).1 (h.fit, subst (λ (v : PlainWriter). AllFit v more) h.writer g.fit);
-  writer = writer-of e g.writer;
-  over = over-of e g.over;
+  writer = unless-map e (both-after s.writer t.writer made more h.writer u.writer) g.writer;
+  over = long-map e (both-over s.writer t.writer made more h.writer next) g.over;
 }
-  where
-    whole : g.bytes ≡ all_appended t.writer more → h.bytes ++ g.bytes ≡ all_appended s.writer (made ++ more)
-    whole is = (λ i. h.same i ++ is i) ∙ ap (λ (v : PlainWriter). all_appended s.writer made ++ all_appended v more) h.writer ∙ sym (appended-append s.writer made more)
-
-    same-of : (e : Option CopyFault) → IfWhole e (g.bytes ≡ all_appended t.writer more) → IfWhole e (h.bytes ++ g.bytes ≡ all_appended s.writer (made ++ more))
-    same-of None is = whole is
-    same-of (Some TooLong) is = whole is
-    same-of (Some Damage) is = tt
-    same-of (Some Folder) is = tt
-    same-of (Some Memory) is = tt
-
-    writer-of : (e : Option CopyFault) → Unless e (u.writer ≡ after_all t.writer more) → Unless e (u.writer ≡ after_all s.writer (made ++ more))
-    writer-of None is = is ∙ ap (λ (v : PlainWriter). after_all v more) h.writer ∙ sym (after-append s.writer made more)
-    writer-of (Some f) is = tt
-
-    over-of : (e : Option CopyFault) → IfLong e (¬ Fits (after_all t.writer more) next) → IfLong e (¬ Fits (after_all s.writer (made ++ more)) next)
-    over-of None is = tt
-    over-of (Some TooLong) is = subst (λ (v : PlainWriter). ¬ Fits v next) (ap (λ (v : PlainWriter). after_all v more) h.writer ∙ sym (after-append s.writer made more)) is
-    over-of (Some Damage) is = tt
-    over-of (Some Folder) is = tt
-    over-of (Some Memory) is = tt
 
 -- nothing was written, and it is no want of room
 pub run-none : (next : WriterCall) (s t : State) (e : Option CopyFault) → e ≢ Some TooLong → t.writer ≡ s.writer → Passes [] s t e → Run [] next s t e
 run-none next s t e not same h = record {
   bytes = [];
   passes = h;
-  same = whole e;
+  same = whole-always e refl;
   fit = tt;
-  writer = writer-of e;
-  over = over-of e not;
+  writer = unless-always e same;
+  over = long-never _ e not;
 }
-  where
-    whole : (e : Option CopyFault) → IfWhole e ([] ≡ all_appended s.writer [])
-    whole None = refl
-    whole (Some TooLong) = refl
-    whole (Some Damage) = tt
-    whole (Some Folder) = tt
-    whole (Some Memory) = tt
-
-    writer-of : (e : Option CopyFault) → Unless e (t.writer ≡ s.writer)
-    writer-of None = same
-    writer-of (Some f) = tt
-
-    over-of : (e : Option CopyFault) → e ≢ Some TooLong → IfLong e (¬ Fits s.writer next)
-    over-of None n = tt
-    over-of (Some TooLong) n = absurd (n refl)
-    over-of (Some Damage) n = tt
-    over-of (Some Folder) n = tt
-    over-of (Some Memory) n = tt
 
 -- ---- what was to be written
 
@@ -128,30 +90,11 @@ matches-part n cs made next behind s t e part f c h = makes-part (Coming n t.fil
 
 -- ---- short calls
 
-pub all-append : {X : Type 0} (P : X → Type 0) (xs ys : List X) → AllByRecursion P xs → AllByRecursion P ys → AllByRecursion P (xs ++ ys)
-all-append P [] ys h g = g
-all-append P (x ∷ xs) ys h g = (h.0, all-append P xs ys h.1 g)
-
-pub all-front : {X : Type 0} (P : X → Type 0) (xs ys : List X) → AllByRecursion P (xs ++ ys) → AllByRecursion P xs
-all-front P [] ys h = tt
-all-front P (x ∷ xs) ys h = (h.0, all-front P xs ys h.1)
-
-pub all-back : {X : Type 0} (P : X → Type 0) (xs ys : List X) → AllByRecursion P (xs ++ ys) → AllByRecursion P ys
-all-back P [] ys h = h
-all-back P (x ∷ xs) ys h = all-back P xs ys h.1
-
 pub short-then : (S : List (ℕ × ℕ) → Type 0) (b : ℕ) (made more : List WriterCall) (over next : WriterCall) (e : Option CopyFault) → AreShort S b made over None → AreShort S b more next e → AreShort S b (made ++ more) next e
 short-then S b made more over next e h g = record { each = all-append (IsShortCall S b) made more h.each g.each; last = g.last }
 
 pub short-none : (S : List (ℕ × ℕ) → Type 0) (b : ℕ) (next : WriterCall) (e : Option CopyFault) → e ≢ Some TooLong → AreShort S b [] next e
-short-none S b next e not = record { each = tt; last = last-of e not }
-  where
-    last-of : (e : Option CopyFault) → e ≢ Some TooLong → IfLong e (IsShortCall S b next)
-    last-of None n = tt
-    last-of (Some TooLong) n = absurd (n refl)
-    last-of (Some Damage) n = tt
-    last-of (Some Folder) n = tt
-    last-of (Some Memory) n = tt
+short-none S b next e not = record { each = tt; last = long-never _ e not }
 
 -- calls of which these are a part
 pub short-part : (S : List (ℕ × ℕ) → Type 0) (b : ℕ) (cs made : List WriterCall) (next : WriterCall) (e : Option CopyFault) → AllByRecursion (IsShortCall S b) cs → IsPart cs made next e → AreShort S b made next e
@@ -225,16 +168,13 @@ pub called : (call : Result (Unit {0}) WriteFault) (r : Result (Unit {0}) CopyFa
 called (Ok v) r is = sym (ap (λ (z : Result (Unit {0}) CopyFault). fault_of z) is)
 called (Err e) r is = sym (ap (λ (z : Result (Unit {0}) CopyFault). fault_of z) is)
 
-abbrev pub plain : {S : Type 0} → (S → Option Files) → (S → Option (List ℕ)) → (S → Numbers) → (S → ℕ) → S → PlainCursor → PlainWriter → State
-plain files draft numbers faults folder cursor writer = record { files = files folder; draft = draft folder; numbers = numbers folder; faults = faults folder; cursor = cursor; writer = writer }
-
 no-draft : (x y : Numbers) → IsMeter x → y ≡ x → PullsAndDrafts 0 x y
 no-draft x y meter e = subst (λ (m : Numbers). PullsAndDrafts 0 x m) (sym e) (PullsAndDrafts-none 0 x meter)
 
 pub plain-sends : {S : Type 0} (files : S → Option Files) (draft : S → Option (List ℕ)) (numbers : S → Numbers) (faults : S → ℕ) (old new : S) (c : PlainCursor) (v w : PlainWriter) (call : WriterCall)
     (r : Result (Unit {0}) WriteFault) → IsMeter (numbers old) → c.at ≤ c.length
     → Appends files draft numbers faults old new (appended v call) r → OnOk r (w ≡ after v call) → TooLongUnless (Fits v call) r
-    → Sent (call ∷ []) (plain files draft numbers faults old c v) (plain files draft numbers faults new c w) (written r)
+    → Sent (call ∷ []) (beside files draft numbers faults old c v) (beside files draft numbers faults new c w) (written r)
 plain-sends files draft numbers faults old new c v w call (Ok x) meter within did is fits =
     let g = did.gains in
     record {
@@ -242,7 +182,7 @@ plain-sends files draft numbers faults old new c v w call (Ok x) meter within di
       next = call;
       run = record {
         bytes = appended v call;
-        passes = passes-only (appended v call) (plain files draft numbers faults old c v) (plain files draft numbers faults new c w) None within refl did.same_files g.draft did.later tt
+        passes = passes-only (appended v call) (beside files draft numbers faults old c v) (beside files draft numbers faults new c w) None within refl did.same_files g.draft did.later tt
             (PullsAndDrafts-of_draft 0 (length (appended v call)) (numbers old) (numbers new) meter g.numbers);
         same = sym (append-nil (appended v call));
         fit = (fits, tt);
@@ -257,7 +197,7 @@ plain-sends files draft numbers faults old new c v w call (Err writer.TooLong) m
   next = call;
   run = record {
     bytes = [];
-    passes = passes-only [] (plain files draft numbers faults old c v) (plain files draft numbers faults new c w) (Some TooLong) within refl did.same_files (lengthens-none (draft old) (draft new) did.gains.0) did.later tt (no-draft (numbers old) (numbers new) meter did.gains.1);
+    passes = passes-only [] (beside files draft numbers faults old c v) (beside files draft numbers faults new c w) (Some TooLong) within refl did.same_files (lengthens-none (draft old) (draft new) did.gains.0) did.later tt (no-draft (numbers old) (numbers new) meter did.gains.1);
     same = refl;
     fit = tt;
     writer = tt;
@@ -275,7 +215,7 @@ plain-sends files draft numbers faults old new c v w call (Err writer.Folder) me
       next = call;
       run = record {
         bytes = piece;
-        passes = passes-only piece (plain files draft numbers faults old c v) (plain files draft numbers faults new c w) (Some Folder) within refl did.same_files d.draft did.later did.cause
+        passes = passes-only piece (beside files draft numbers faults old c v) (beside files draft numbers faults new c w) (Some Folder) within refl did.same_files d.draft did.later did.cause
             (PullsAndDrafts-of_draft 0 (length piece) (numbers old) (numbers new) meter d.numbers);
         same = tt;
         fit = tt;
@@ -290,7 +230,7 @@ plain-sends files draft numbers faults old new c v w call (Err writer.Memory) me
   next = call;
   run = record {
     bytes = [];
-    passes = passes-only [] (plain files draft numbers faults old c v) (plain files draft numbers faults new c w) (Some Memory) within refl did.same_files (lengthens-none (draft old) (draft new) did.gains.0) did.later tt (no-draft (numbers old) (numbers new) meter did.gains.1);
+    passes = passes-only [] (beside files draft numbers faults old c v) (beside files draft numbers faults new c w) (Some Memory) within refl did.same_files (lengthens-none (draft old) (draft new) did.gains.0) did.later tt (no-draft (numbers old) (numbers new) meter did.gains.1);
     same = tt;
     fit = tt;
     writer = tt;

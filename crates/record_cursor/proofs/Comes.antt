@@ -24,6 +24,7 @@ use Rattle.record_cursor.specs.Next.{item_in, record_item_at, tail_at, next_of, 
 use Rattle.record_cursor.specs.Steps.{IsFrame, IsInside, MayCome, after_kind, IsRead, IsReadOf, body_read}
 use Rattle.record_cursor.specs.declared.item.Read.{Read}
 use Rattle.record_cursor.specs.declared.item.Read.TheVariants as read
+use Rattle.record_format.proofs.Pieces.{rec-length}
 
 -- ---- items and kinds
 
@@ -213,9 +214,6 @@ kind-leads (in_leaf depth) h (end_rec d) = refl
 kind-leads (in_leaf depth) h leaf_end = refl
 kind-leads (behind_root n) h r = absurd h
 kind-leads finished h r = absurd h
-
-rec-length : (r : PlainRec) → length (rec_bytes r) ≡ length (body_bytes r) + 9
-rec-length r = omega arith
 
 -- where an item leads that was read, and by how many bytes
 pub record Led (s t : Standing) (size : ℕ) (step : Read) (held : ℕ) (i : PlainItem) : Type 0 where

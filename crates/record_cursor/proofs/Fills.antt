@@ -22,7 +22,7 @@ record Fronted (file : List ℕ) (end : ℕ) (bytes : List ℕ) : Type 0 where
   is : bytes ≡ take end file
   within : end ≤ length file
 
-le-of : (m n : ℕ) → leb m n ≡ true → m ≤ n
+pub le-of : (m n : ℕ) → leb m n ≡ true → m ≤ n
 le-of m n h = grind (arith, nat_tests)
 
 fronted : (file bytes : List ℕ) (end : ℕ) → front end file ≡ Some bytes → Fronted file end bytes

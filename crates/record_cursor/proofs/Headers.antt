@@ -31,7 +31,7 @@ number-is bytes x e =
     let g = guard_some (ltb (length bytes) 4) (Some (from_be_bytes w32 (take 4 bytes), drop 4 bytes)) x e in
     record { fits = ltb-false _ _ g.0; is = some_is (from_be_bytes w32 (take 4 bytes), drop 4 bytes) x g.1 }
 
-number-there : (bytes : List ℕ) → 4 ≤ length bytes → number_at w32 bytes ≡ Some (from_be_bytes w32 (take 4 bytes), drop 4 bytes)
+pub number-there : (bytes : List ℕ) → 4 ≤ length bytes → number_at w32 bytes ≡ Some (from_be_bytes w32 (take 4 bytes), drop 4 bytes)
 number-there bytes fits = (let long : ltb (length bytes) 4 ≡ false = le-ltb _ _ fits in rw long refl)
 
 -- and is read of the front of the bytes as well

@@ -24,6 +24,7 @@ use Rattle.stream_merge.specs.declared.fault.AddFault.TheVariants as add
 use Rattle.stream_merge.specs.declared.fault.MergeFault.{MergeFault}
 use Rattle.stream_merge.specs.declared.fault.MergeFault.TheVariants as merge
 use Rattle.stream_merge.proofs.Items.{header-length}
+use Rattle.record_copy.proofs.Passing.{blank-is}
 
 -- ---- the header that was read
 
@@ -57,11 +58,6 @@ none-longer x rules vs k merge.TooLong h = h
 none-longer x rules vs k merge.Damage h = tt
 none-longer x rules vs k merge.Folder h = tt
 none-longer x rules vs k merge.Memory h = tt
-
--- a draft that was empty is what was appended
-blank-is : (o : Option (List ℕ)) (bytes x : List ℕ) → IsBlank o → Some bytes ≡ option_map (λ (d : List ℕ). d ++ x) o → bytes ≡ x
-blank-is None bytes x blank is = absurd cc
-blank-is (Some d) bytes x blank is = some_is bytes (d ++ x) is ∙ ap (λ (z : List ℕ). z ++ x) (blank d refl)
 
 pub overfull : (b : ℕ) (h : PlainHeader) (x : List ℕ) (old now : Option (List ℕ)) (e : MergeFault) → IsBlank old → now ≡ option_map (λ (d : List ℕ). d ++ x) old → NoRoomBehind b h x (Some e) → IfTooLong (of_merge e) (Overfull b h.rules (h.versions + 1) now)
 overfull b h x old now merge.TooLong blank is r =
@@ -99,10 +95,6 @@ failed-of T merge.TooLong P h = tt
 failed-of T merge.Memory P h = tt
 
 -- ---- the commit
-
-pub blank-one : (o : Option (List ℕ)) (file : List ℕ) → IsBlank o → option_map (λ (d : List ℕ). d ++ file) o ≡ option_map (λ (d : List ℕ). file) o
-blank-one None file h = refl
-blank-one (Some d) file h = ap (λ (b : List ℕ). Some (b ++ file)) (h d refl)
 
 emptied-same : (o : Option (List ℕ)) (bytes : List ℕ) → emptied (option_map (λ (d : List ℕ). bytes) o) ≡ emptied o
 emptied-same None bytes = refl

@@ -32,7 +32,7 @@ use Rattle.stream_merge.specs.Meets.{new_alts, alts_with, HasLeaf}
 use Rattle.stream_merge.specs.Passes.{Passes, Rests, Unless, fault_of, of_spell}
 use Rattle.stream_merge.specs.Room.{WentIf}
 use Rattle.stream_merge.specs.Short.{AreShortSets, IsShortBody, IsShortTree, IsShortCall}
-use Rattle.stream_merge.specs.State.{State}
+use Rattle.record_copy.specs.State.{State}
 use Rattle.stream_merge.specs.View.{PlainInherited}
 use Rattle.stream_merge.specs.declared.fault.MergeFault.{MergeFault}
 use Rattle.stream_merge.specs.declared.fault.MergeFault.TheVariants.{Damage, Folder}

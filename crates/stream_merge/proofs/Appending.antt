@@ -41,14 +41,15 @@ use Rattle.stream_merge.specs.Items.{IsWithin}
 use Rattle.stream_merge.specs.Passes.{IfFolder, Passes, of_cursor, of_writer, unpaid}
 use Rattle.stream_merge.specs.RowMerged.{RowMerged}
 use Rattle.stream_merge.specs.Short.{IsShortTree}
-use Rattle.stream_merge.specs.State.{State, state}
+use Rattle.record_copy.specs.State.{State, state, beside}
 use Rattle.stream_merge.specs.View.{PlainInherited}
 use Rattle.stream_merge.specs.declared.fault.MergeFault.{MergeFault}
 use Rattle.stream_merge.specs.declared.fault.MergeFault.TheVariants.{Damage, Folder, TooLong, Memory}
-use Rattle.stream_merge.proofs.States.{Nexts, Stays, plain, lengthens-none, wrote-all, passes-then, passes-as, made-fault, does-sends, gap-read, gave, gave-stop, gave-takes, failed, passes-paid}
+use Rattle.stream_merge.proofs.States.{Nexts, Stays, wrote-all, passes-then, passes-as, made-fault, does-sends, gap-read, gave, gave-stop, gave-takes, failed, passes-paid}
 use Rattle.stream_merge.proofs.Items.{finish-reads}
 use Rattle.stream_merge.proofs.Rooms.{went-read, went-then, went-sent, room-of}
 use Rattle.record_cursor.specs.NodeItems.{row_items}
+use Rattle.record_copy.proofs.Passing.{lengthens-none}
 
 -- ---- a writer could not begin
 
@@ -159,7 +160,7 @@ module _ {S : Type 0} (files : S → Option Files) (draft : S → Option (List �
   s = state files draft numbers count old c writer_then
 
   abbrev p : State
-  p = plain files draft numbers count new d v
+  p = beside files draft numbers count new d v
 
   abbrev u : State
   u = state files draft numbers count new c writer_then

@@ -22,7 +22,7 @@ use Rattle.stream_merge.specs.Meets.{rest_of}
 use Rattle.stream_merge.specs.Passes.{Passes, fault_of}
 use Rattle.stream_merge.specs.Room.{WentIf}
 use Rattle.stream_merge.specs.Short.{IsShortTree}
-use Rattle.stream_merge.specs.State.{State}
+use Rattle.record_copy.specs.State.{State}
 use Rattle.stream_merge.specs.View.{PlainInherited}
 use Rattle.stream_merge.specs.declared.fault.MergeFault.{MergeFault}
 use Rattle.stream_merge.specs.declared.fault.MergeFault.TheVariants.{Damage, Folder, TooLong, Memory}

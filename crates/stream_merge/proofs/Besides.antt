@@ -21,7 +21,7 @@ use Rattle.stream_merge.specs.First.{SendsFirst}
 use Rattle.stream_merge.specs.Meets.{call_of, opening_of, turned, rest_of, stamp_beside, calls_beside, Begins}
 use Rattle.stream_merge.specs.Passes.{Rests, fault_of}
 use Rattle.stream_merge.specs.Short.{IsShortSet, IsShortStamp}
-use Rattle.stream_merge.specs.State.{State}
+use Rattle.record_copy.specs.State.{State}
 use Rattle.stream_merge.specs.View.{PlainInherited}
 use Rattle.stream_merge.specs.declared.begin.Kind.{Kind}
 use Rattle.stream_merge.specs.declared.begin.Kind.TheVariants.{Inner, Leaf}

@@ -16,17 +16,17 @@ use Rattle.record_cursor.specs.declared.item.Item.TheVariants as item
 use Rattle.record_parts.specs.Shapes.{FitsLabel}
 use Rattle.record_parts.specs.declared.views.LabelView.{LabelView}
 use Rattle.record_parts.specs.declared.views.StampView.{StampView}
-use Rattle.record_writer.specs.Data.{PlainWriter, OpenInner, WriterCall, call_end_leaf, call_end_inner}
+use Rattle.record_writer.specs.Data.{PlainWriter, WriterCall, call_end_leaf, call_end_inner}
 use Rattle.record_writer.specs.Walks.{alt_calls, node_calls, row_calls}
 use Rattle.xa_outside.specs.Folder.{Files}
 use Rattle.stream_merge.specs.Copied.{InsideCopied, BegunCopied, ChildCopied, AltsCopied}
 use Rattle.stream_merge.specs.Does.{Sends, Sent, Does}
 use Rattle.stream_merge.specs.Items.{IsWithin}
-use Rattle.stream_merge.specs.Meets.{call_of, opening_of, Begins, IsOpen}
+use Rattle.stream_merge.specs.Meets.{opening_of, Begins, call_of, IsOpen}
 use Rattle.stream_merge.specs.Passes.{Passes, Rests, Opens, Closes, Unless, of_cursor, unpaid}
 use Rattle.stream_merge.specs.Room.{WentIf}
 use Rattle.stream_merge.specs.Short.{IsShortSet, IsShortCall}
-use Rattle.stream_merge.specs.State.{State}
+use Rattle.record_copy.specs.State.{State}
 use Rattle.stream_merge.specs.declared.begin.Kind.{Kind}
 use Rattle.stream_merge.specs.declared.begin.Kind.TheVariants.{Inner, Leaf}
 use Rattle.stream_merge.specs.declared.fault.MergeFault.{MergeFault}
@@ -36,6 +36,8 @@ use Rattle.stream_merge.proofs.Besides.{call-bytes, begins}
 use Rattle.stream_merge.proofs.Copies.{no-more, rests-behind}
 use Rattle.stream_merge.proofs.Rooms.{went-none, went-read, went-then, went-call, opening-label, opening-stamp, stamp-plain, set-in, call-short}
 use Rattle.record_cursor.specs.NodeItems.{alt_items, end_of, node_items, row_items}
+use Rattle.record_copy.proofs.ItemKinds.{first, not-first}
+use Rattle.record_copy.proofs.Copying.{tails}
 
 -- ---- nothing is written
 
@@ -62,10 +64,6 @@ child-failed q s t e within stays = record {
 abbrev pub opening : Kind → PlainLabel → Stamp → PlainItem
 opening Inner l st = inner_item l st
 opening Leaf l st = leaf_item l st
-
-abbrev pub first : PlainNode → PlainItem
-first (inner_node l st ks) = inner_item l st
-first (leaf_node l st xs) = leaf_item l st
 
 abbrev pub behind : List (ℕ × ℕ) → PlainNode → List PlainItem
 behind q (inner_node l st ks) = row_items (set_in st q) ks ++ end_of (set_in st q) ks ∷ []
@@ -100,10 +98,6 @@ pub not-ended : (kind : Kind) (l : PlainLabel) (st : Stamp) (n : ℕ) → openin
 not-ended Inner l st n = λ e. absurd cc
 not-ended Leaf l st n = λ e. absurd cc
 
-pub not-first : (k : PlainNode) (n : ℕ) → end_item n ≢ first k
-not-first (inner_node l st ks) n = λ e. absurd cc
-not-first (leaf_node l st xs) n = λ e. absurd cc
-
 pub opening-read : (kind : Kind) (c : Standing) (l : PlainLabel) (st : Stamp) → read_for c (opening kind l st) ≡ length (rec_bytes (opening_of kind l st))
 opening-read Inner c l st = refl
 opening-read Leaf c l st = refl
@@ -124,9 +118,6 @@ opened-some v w h e = (let d = sym e ∙ h.inners in absurd cc)
 pub begun-open : (kind : Kind) (v w : PlainWriter) → Begins kind v w → IsOpen kind w
 begun-open Inner v w h = (h.no_leaf, opened-some v w h)
 begun-open Leaf v w h = h.leaf
-
-tails : (i j : OpenInner) (is js : List OpenInner) → i ∷ is ≡ j ∷ js → js ≡ is
-tails i j is js e = cc
 
 -- what was opened is closed
 pub opened-closed : (v w x : PlainWriter) → Opens v w → Closes w x → Rests v x

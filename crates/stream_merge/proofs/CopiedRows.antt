@@ -8,19 +8,20 @@ use Rattle.xa_fields.specs.Spelling.{u64_bytes}
 use Rattle.record_format.specs.Spelling.{dir_bytes}
 use Rattle.record_cursor.specs.Items.{PlainItem, end_item}
 use Rattle.record_cursor.specs.Moves.{Comes}
-use Rattle.record_writer.specs.Data.{PlainWriter, OpenInner, call_end_inner}
-use Rattle.record_writer.specs.Calls.{appended, all_appended, inner_ended}
+use Rattle.record_writer.specs.Data.{PlainWriter, call_end_inner}
+use Rattle.record_writer.specs.Calls.{appended, all_appended}
 use Rattle.record_writer.specs.Walks.{node_calls, row_calls}
 use Rattle.stream_merge.specs.Copied.{RowCopied, InsideCopied, ChildCopied}
 use Rattle.stream_merge.specs.Does.{Made, Sent, Does}
 use Rattle.stream_merge.specs.Items.{IsWithin}
 use Rattle.stream_merge.specs.Passes.{Rests, Closes, Unless, fault_of, unpaid}
-use Rattle.stream_merge.specs.State.{State}
+use Rattle.record_copy.specs.State.{State}
 use Rattle.stream_merge.specs.declared.fault.MergeFault.{MergeFault}
 use Rattle.stream_merge.proofs.States.{passes-then, passes-fault, passes-paid, does-then, does-sends, does-fault}
 use Rattle.stream_merge.proofs.Copies.{all-front, all-back, no-more, rests-behind}
 use Rattle.stream_merge.proofs.Rooms.{went-then, went-sent}
 use Rattle.record_cursor.specs.NodeItems.{node_items, row_items}
+use Rattle.record_copy.proofs.Copying.{ended-closes}
 
 -- ---- the node that comes next, or the END
 
@@ -108,10 +109,6 @@ pub end-long : (w : PlainWriter) → unpaid ≤ length (all_appended w (call_end
 end-long w =
     let long : length (all_appended w (call_end_inner ∷ [])) ≡ length (appended w call_end_inner) = ap length (append-nil (appended w call_end_inner)) in
     omega (arith, long, length-append (u64_bytes (length (dir_bytes w.row.dir))) (dir_bytes w.row.dir))
-
-ended-closes : (v w : PlainWriter) (is : List OpenInner) (at : ℕ) → is ≢ [] → v.leaf ≡ None → w ≡ inner_ended v is at → (w.leaf ≡ None) × (i : OpenInner) × (is ≡ i ∷ w.inners)
-ended-closes v w [] at some leaf e = absurd (some refl)
-ended-closes v w (i ∷ is) at some leaf e = (ap (λ (x : PlainWriter). x.leaf) e ∙ leaf, i, ap (λ (x : PlainWriter). i ∷ x.inners) (sym e))
 
 pub closes : (x : List ℕ) (s t u : State) (e : Option MergeFault) → s.writer.inners ≢ [] → Rests s.writer t.writer → Made x (call_end_inner ∷ []) t u e → Unless e (Closes s.writer u.writer)
 closes x s t u None some h made =

@@ -24,13 +24,14 @@ use Rattle.stream_merge.specs.Does.{Made, Sends, Sent, Does}
 use Rattle.stream_merge.specs.Items.{IsWithin}
 use Rattle.stream_merge.specs.Passes.{Passes, Rests, Unless, of_cursor}
 use Rattle.stream_merge.specs.Short.{IsShortCall}
-use Rattle.stream_merge.specs.State.{State}
+use Rattle.record_copy.specs.State.{State}
 use Rattle.stream_merge.specs.declared.fault.MergeFault.{MergeFault}
 use Rattle.stream_merge.specs.declared.fault.MergeFault.TheVariants.{Damage, Memory}
 use Rattle.stream_merge.proofs.States.{passes-then, does-then, does-fault, takes-sends, Nexts, Stays, front-of, gave-stop, gave-takes, gave-sent, gave-memory, failed, failed-does}
 use Rattle.stream_merge.proofs.Rooms.{went-read, went-call, went-then, alt-parts, stamp-plain}
 use Rattle.xa_outside.specs.Numbers.{lead}
 use Rattle.record_cursor.specs.NodeItems.{alt_items}
+use Rattle.record_copy.proofs.ItemKinds.{not-alt}
 
 -- ---- items that all are small
 
@@ -70,15 +71,6 @@ alts-memory s t item read = record {
   went = λ b n file. tt;
   alternatives = λ w xs next small comes. gave-memory [] w (alt_items xs ++ leaf_end_item ∷ next) s t item (alt_calls xs ++ call_end_leaf ∷ []) next read (front-of w (alt_items xs) leaf_end_item next small) comes;
 }
-
--- an item that is no alternative, and not the end of a leaf
-pub not-alt : (item : Item) → ((s : StampView) (b : BodyView) → item ≢ Alt s b) → (st : Stamp) (b : PlainKey) → shown_item item ≢ alt_item st b
-not-alt (Alt s b) h st d = absurd (h s b refl)
-not-alt (Inner l s) h st d = λ e. absurd cc
-not-alt (Leaf l s) h st d = λ e. absurd cc
-not-alt LeafEnd h st d = λ e. absurd cc
-not-alt (End n) h st d = λ e. absurd cc
-not-alt Finish h st d = λ e. absurd cc
 
 pub not-end : (item : Item) → item ≢ LeafEnd → shown_item item ≢ leaf_end_item
 not-end (Alt s b) h = λ e. absurd cc

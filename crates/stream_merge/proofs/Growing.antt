@@ -34,16 +34,17 @@ use Rattle.stream_merge.specs.Appended.{Ends, WritesNodes, Grows, NoRoomBehind, 
 use Rattle.stream_merge.specs.Passes.{Unless}
 use Rattle.stream_merge.specs.Room.{NoRoom, NoRoomIf}
 use Rattle.stream_merge.specs.Short.{AreShortSets}
-use Rattle.stream_merge.specs.State.{State, state}
+use Rattle.record_copy.specs.State.{State, state}
 use Rattle.stream_merge.specs.View.{PlainInherited}
 use Rattle.stream_merge.specs.declared.fault.MergeFault.{MergeFault}
 use Rattle.stream_merge.specs.declared.fault.MergeFault.TheVariants.{Damage, Folder, TooLong, Memory}
 use Rattle.stream_merge.proofs.Rooms.{set-plain, upto-within}
-use Rattle.stream_merge.proofs.States.{cause-then, lengthens-then, wrote-all}
+use Rattle.stream_merge.proofs.States.{cause-then, wrote-all}
 use Rattle.stream_merge.proofs.Items.{all-within, finish-within, header-length}
 use Rattle.archive_file.proofs.SoundLaws.{versions-nested}
 use Rattle.stream_merge.proofs.Whole.{Heads, sound-heads, old-below, old-fits, grown, walk-spelled, grown-sound, grown-none}
 use Rattle.record_cursor.proofs.NodeItems.{items-are}
+use Rattle.record_copy.proofs.Passing.{lengthens-then}
 
 -- what the virtual root hands on, where there are so many versions
 abbrev pub root_inherited : ℕ → PlainInherited

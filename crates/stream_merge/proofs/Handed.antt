@@ -5,7 +5,7 @@ use Rattle.record_writer.specs.Data.{WriterCall}
 use Rattle.record_writer.specs.declared.fault.WriteFault.{WriteFault}
 use Rattle.stream_merge.specs.Does.{Sent}
 use Rattle.stream_merge.specs.Passes.{fault_of, of_writer}
-use Rattle.stream_merge.specs.State.{State}
+use Rattle.record_copy.specs.State.{State}
 use Rattle.stream_merge.specs.declared.fault.MergeFault.{MergeFault}
 use Rattle.stream_merge.proofs.States.{written}
 

@@ -38,7 +38,7 @@ use Rattle.stream_merge.specs.Passes.{Passes, Rests, Unless, fault_of, of_cursor
 use Rattle.stream_merge.specs.Room.{WentIf}
 use Rattle.stream_merge.specs.RowMerged.{RowMerged, ChildMerged, InsideMerged, BegunMerged}
 use Rattle.stream_merge.specs.Short.{AreShortSets, IsShortTree}
-use Rattle.stream_merge.specs.State.{State}
+use Rattle.record_copy.specs.State.{State}
 use Rattle.stream_merge.specs.View.{PlainInherited}
 use Rattle.stream_merge.specs.declared.begin.Kind.{Kind}
 use Rattle.stream_merge.specs.declared.begin.Kind.TheVariants.{Inner, Leaf}
@@ -47,11 +47,12 @@ use Rattle.stream_merge.specs.declared.fault.MergeFault.TheVariants.{Damage}
 use Rattle.stream_merge.proofs.States.{passes-then, passes-none, passes-fault, passes-paid, gave, gave-stop, failed, does-then, does-sends, does-fault, does-stopped, takes-sends, Nexts, Stays, gave-takes, failed-does}
 use Rattle.stream_merge.proofs.Copies.{no-more, rests-behind}
 use Rattle.stream_merge.proofs.CopiedRows.{end-long, closes}
-use Rattle.stream_merge.proofs.ChildCopies.{node-front, end-front, opening, first, behind, behind-small, node-taken, not-ended, not-first, opening-read, opening-size, opening-long, unless-closed, not-inner, not-leaf, not-closing}
+use Rattle.stream_merge.proofs.ChildCopies.{node-front, end-front, opening, behind, behind-small, node-taken, not-ended, opening-read, opening-size, opening-long, unless-closed, not-inner, not-leaf, not-closing}
 use Rattle.stream_merge.proofs.Puts.{row-sent}
 use Rattle.stream_merge.proofs.Rooms.{went-read, went-from, went-then, went-sent, opening-stamp, own-short, rest-calls, kid-short, kids-short}
 use Rattle.stream_merge.proofs.Weaving.{inner_met, leaf_met, own_alone, kid_known}
 use Rattle.record_cursor.specs.NodeItems.{alt_items, end_of, node_items, row_items}
+use Rattle.record_copy.proofs.ItemKinds.{first, not-first}
 
 -- ---- before anything is written
 

@@ -25,7 +25,7 @@ use Rattle.stream_merge.specs.Items.{IsWithin}
 use Rattle.stream_merge.specs.Meets.{met}
 use Rattle.stream_merge.specs.Passes.{fault_of, unpaid}
 use Rattle.stream_merge.specs.RowMerged.{RowMerged, ChildMerged}
-use Rattle.stream_merge.specs.State.{State}
+use Rattle.record_copy.specs.State.{State}
 use Rattle.stream_merge.specs.View.{PlainInherited}
 use Rattle.stream_merge.specs.declared.fault.MergeFault.{MergeFault}
 use Rattle.stream_merge.proofs.States.{passes-then, passes-fault, does-then, does-stopped}

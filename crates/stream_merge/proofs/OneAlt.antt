@@ -33,15 +33,16 @@ use Rattle.stream_merge.specs.LeafMerged.{AltMerged}
 use Rattle.stream_merge.specs.Meets.{HasLeaf, turned}
 use Rattle.stream_merge.specs.Passes.{Passes, fault_of, of_cursor}
 use Rattle.stream_merge.specs.Short.{IsShortStamp, AreShortSets, IsShortCall}
-use Rattle.stream_merge.specs.State.{State}
+use Rattle.record_copy.specs.State.{State}
 use Rattle.stream_merge.specs.View.{PlainInherited}
 use Rattle.stream_merge.specs.declared.fault.MergeFault.{MergeFault}
 use Rattle.stream_merge.specs.declared.fault.MergeFault.TheVariants.{Damage, Folder, TooLong, Memory}
-use Rattle.stream_merge.proofs.Copies.{not-alt, not-end}
+use Rattle.stream_merge.proofs.Copies.{not-end}
 use Rattle.stream_merge.proofs.Handed.{at-err}
 use Rattle.stream_merge.proofs.Lengths.{Longer, alt_longer}
 use Rattle.stream_merge.proofs.Rooms.{went-none, went-read, went-stop, went-call, alt-parts, turned-short}
 use Rattle.stream_merge.proofs.States.{Takes, Nexts, Stays, gave, gave-takes, gave-stop, gave-sent, failed, failed-does, takes-sends, takes-only}
+use Rattle.record_copy.proofs.ItemKinds.{not-alt}
 
 same-parts : (s t : Stamp) (a b : PlainKey) → alt_item s a ≡ alt_item t b → (s ≡ t) × (a ≡ b)
 same-parts s t a b e = (cc, cc)

@@ -25,15 +25,16 @@ use Rattle.record_writer.specs.declared.fault.WriteFault.{WriteFault}
 use Rattle.record_writer.specs.declared.writer.Writer.{Writer}
 use Rattle.record_writer.proofs.WalkLaws.{row-walked, node-walked, between}
 use Rattle.stream_merge.specs.Does.{Sent}
-use Rattle.stream_merge.specs.Meets.{call_of}
 use Rattle.stream_merge.specs.Passes.{Rests, Opens, fault_of, of_spell}
-use Rattle.stream_merge.specs.State.{State, state}
+use Rattle.record_copy.specs.State.{State, state}
 use Rattle.stream_merge.specs.declared.begin.Kind.{Kind}
 use Rattle.stream_merge.specs.declared.begin.Kind.TheVariants.{Inner, Leaf}
 use Rattle.stream_merge.specs.declared.fault.MergeFault.{MergeFault}
 use Rattle.stream_merge.specs.declared.fault.MergeFault.TheVariants.{TooLong}
 use Rattle.stream_merge.proofs.Handed.{sent-handed}
 use Rattle.stream_merge.proofs.States.{walks-none, passes-none, sent-then, sent-fault, sent-none, call-sends, written}
+use Rattle.record_copy.proofs.ItemKinds.{set-is}
+use Rattle.stream_merge.specs.Meets.{call_of}
 
 -- the calls that write these, each with the stamp, under a node that has the set
 abbrev pub fresh_calls : List (ℕ × ℕ) → Stamp → List PlainKeyed → List WriterCall
@@ -42,10 +43,6 @@ fresh_calls set s cs = row_calls set (fresh_onto s cs no_nodes)
 onto : (cs : List PlainKeyed) → fresh_row (kids_from cs) ≡ fresh_onto None cs no_nodes
 onto [] = refl
 onto (c ∷ cs) = ap (λ (z : PlainNodes). node (fresh None c) z) (onto cs)
-
-pub set-is : (s : Stamp) (parent : List (ℕ × ℕ)) → set_in s parent ≡ unwrap_or s parent
-set-is None parent = refl
-set-is (Some t) parent = refl
 
 -- the set that a node with this stamp has
 pub set-of : (stored s : Stamp) (parent set : List (ℕ × ℕ)) → stored ≡ s → set ≡ unwrap_or stored parent → set ≡ set_in s parent

@@ -29,14 +29,15 @@ use Rattle.stream_merge.specs.Meets.{call_of, opening_of, turned, rest_of}
 use Rattle.stream_merge.specs.Passes.{of_cursor}
 use Rattle.stream_merge.specs.Room.{WentIf, NoRoomIf}
 use Rattle.stream_merge.specs.Short.{IsStampWithin, IsShortSet, IsShortStamp, AreShortSets, IsShortLabel, IsShortBody, IsShortTree, AreShortKids, IsShortCall}
-use Rattle.stream_merge.specs.State.{State}
+use Rattle.record_copy.specs.State.{State}
 use Rattle.stream_merge.specs.View.{PlainInherited}
 use Rattle.stream_merge.specs.declared.begin.Kind.{Kind}
 use Rattle.stream_merge.specs.declared.begin.Kind.TheVariants.{Inner, Leaf}
 use Rattle.stream_merge.specs.declared.fault.MergeFault.{MergeFault}
 use Rattle.stream_merge.specs.declared.fault.MergeFault.TheVariants.{Damage, Folder, TooLong, Memory}
-use Rattle.stream_merge.proofs.States.{appended-append, after-append, fit-append}
+use Rattle.stream_merge.proofs.States.{fit-append}
 use Rattle.stream_merge.proofs.Weaving.{above_keeps}
+use Rattle.record_writer.proofs.WalkLaws.{appended-append, after-append}
 
 -- ---- one part behind another
 

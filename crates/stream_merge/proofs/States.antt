@@ -1,5 +1,5 @@
 -- What parts of the merge do, one after the other.
-use Rattle.std.proofs.Common.{◌≡◌, ◌≢◌, ℕ, ◌+◌, ◌-◌, ◌≤◌, List, [], ◌∷◌, ◌++◌, length, take, drop, Option, Some, None, Result, Ok, Err, refl, sym, ap, subst, ◌∙◌, append_assoc, arith}
+use Rattle.std.proofs.Common.{◌≡◌, ◌≢◌, ℕ, ◌+◌, ◌-◌, ◌≤◌, List, [], ◌∷◌, ◌++◌, length, take, Option, Some, None, Result, Ok, Err, refl, sym, ap, subst, ◌∙◌, append_assoc, arith}
 use Rattle.std.specs.Prelude.{max}
 use Rattle.std.specs.Option.{option_map}
 use Rattle.std.specs.List.{AllByRecursion}
@@ -11,9 +11,9 @@ use Rattle.xa_outside.specs.Numbers.{Numbers, IsMeter, PullsAtMost, PullsAndDraf
 use Rattle.xa_outside.specs.NumberLaws.{PullsAtMost-of, PullsAndDrafts-none, PullsAndDrafts-of_pulls, PullsAndDrafts-of_draft, PullsAndDrafts-more, PullsAndDrafts-trans}
 use Rattle.xa_fields.proofs.Fields.{some_is}
 use Rattle.record_cursor.specs.Faults as cursor
-use Rattle.record_cursor.specs.Items.{PlainItem, inner_item, leaf_item, alt_item, leaf_end_item, end_item, finish}
-use Rattle.record_cursor.specs.Moves.{TellsFront, Goes, Moves, Comes}
-use Rattle.record_cursor.specs.Next.{Gives, size_of, read_for}
+use Rattle.record_cursor.specs.Items.{PlainItem}
+use Rattle.record_cursor.specs.Moves.{Goes, Moves, Comes}
+use Rattle.record_cursor.specs.Next.{read_for}
 use Rattle.record_cursor.specs.Places.{Standing}
 use Rattle.record_cursor.specs.View.{PlainCursor, shown_item}
 use Rattle.record_cursor.specs.declared.fault.CursorFault.{CursorFault}
@@ -30,21 +30,13 @@ use Rattle.stream_merge.specs.Does.{Walks, Made, Sends, Sent, Does}
 use Rattle.stream_merge.specs.Items.{IsWithin}
 use Rattle.stream_merge.specs.Passes.{Unless, IfFolder, may_pull, Passes, fault_of, of_cursor, of_writer}
 use Rattle.stream_merge.specs.Room.{StopsIf}
-use Rattle.stream_merge.specs.State.{State, state}
+use Rattle.record_copy.specs.State.{State, state, beside}
 use Rattle.stream_merge.specs.declared.fault.MergeFault.{MergeFault}
 use Rattle.stream_merge.specs.declared.fault.MergeFault.TheVariants.{Damage, Folder, TooLong, Memory}
+use Rattle.record_writer.proofs.WalkLaws.{appended-append, after-append}
+use Rattle.record_copy.proofs.Passing.{comes-next, read-size, went, stayed, lengthens-then, lengthens-none}
 
 -- ---- calls one after the other
-
-pub appended-append : (w : PlainWriter) (cs ds : List WriterCall) → all_appended w (cs ++ ds) ≡ all_appended w cs ++ all_appended (after_all w cs) ds
-appended-append w [] ds = refl
-appended-append w (c ∷ cs) ds =
-    ap (λ (bs : List ℕ). appended w c ++ bs) (appended-append (after w c) cs ds)
-    ∙ sym (append_assoc (appended w c) (all_appended (after w c) cs) (all_appended (after_all (after w c) cs) ds))
-
-pub after-append : (w : PlainWriter) (cs ds : List WriterCall) → after_all w (cs ++ ds) ≡ after_all (after_all w cs) ds
-after-append w [] ds = refl
-after-append w (c ∷ cs) ds = after-append (after w c) cs ds
 
 pub fit-append : (w : PlainWriter) (cs ds : List WriterCall) → AllFit w cs → AllFit (after_all w cs) ds → AllFit w (cs ++ ds)
 fit-append w [] ds h g = g
@@ -67,20 +59,6 @@ within-then s t u (Some e) same first second within = omega (arith, same, first,
 pulls-then : (s t u : State) (e : Option MergeFault) → (t.cursor.at - s.cursor.at) + may_pull t u e ≤ may_pull s u e → PullsAndDrafts (may_pull s t None) s.numbers t.numbers → PullsAndDrafts (may_pull t u e) t.numbers u.numbers
     → PullsAndDrafts (may_pull s u e) s.numbers u.numbers
 pulls-then s t u e fits h g = PullsAndDrafts-more ((t.cursor.at - s.cursor.at) + may_pull t u e) (may_pull s u e) s.numbers u.numbers fits (PullsAndDrafts-trans (t.cursor.at - s.cursor.at) (may_pull t u e) s.numbers t.numbers u.numbers h g)
-
-both-drafted : (o : Option (List ℕ)) (a b : List ℕ) → option_map (λ (d : List ℕ). d ++ b) (option_map (λ (d : List ℕ). d ++ a) o) ≡ option_map (λ (d : List ℕ). d ++ (a ++ b)) o
-both-drafted None a b = refl
-both-drafted (Some d) a b = ap Some (append_assoc d a b)
-
-none-drafted : (o : Option (List ℕ)) → o ≡ option_map (λ (d : List ℕ). d ++ []) o
-none-drafted None = refl
-none-drafted (Some d) = ap Some (sym (append-nil d))
-
-pub lengthens-then : (a b c : Option (List ℕ)) (x y : List ℕ) → b ≡ option_map (λ (d : List ℕ). d ++ x) a → c ≡ option_map (λ (d : List ℕ). d ++ y) b → c ≡ option_map (λ (d : List ℕ). d ++ (x ++ y)) a
-lengthens-then a b c x y h g = g ∙ ap (option_map (λ (d : List ℕ). d ++ y)) h ∙ both-drafted a x y
-
-pub lengthens-none : (a b : Option (List ℕ)) → b ≡ a → b ≡ option_map (λ (d : List ℕ). d ++ []) a
-lengthens-none a b e = e ∙ none-drafted a
 
 pub cause-then : (a b c : ℕ) (e : Option MergeFault) → a ≤ b → b ≤ c → IfFolder e (Rose b c) → IfFolder e (Rose a c)
 cause-then a b c None first second h = tt
@@ -333,15 +311,11 @@ wrote-passes x n s t e within same files longer later cause h = record {
     ahead-by None l = omega (arith, l)
     ahead-by (Some f) l = tt
 
--- a state where the writer holds this
-abbrev pub plain : {S : Type 0} → (S → Option Files) → (S → Option (List ℕ)) → (S → Numbers) → (S → ℕ) → S → PlainCursor → PlainWriter → State
-plain files draft numbers faults folder cursor writer = record { files = files folder; draft = draft folder; numbers = numbers folder; faults = faults folder; cursor = cursor; writer = writer }
-
 -- the call is made, or fails
 pub plain-sends : {S : Type 0} (files : S → Option Files) (draft : S → Option (List ℕ)) (numbers : S → Numbers) (faults : S → ℕ) (old new : S) (c : PlainCursor) (v w : PlainWriter) (call : WriterCall)
     (r : Result (Unit {0}) WriteFault) → IsMeter (numbers old) → c.at ≤ c.length
     → Appends files draft numbers faults old new (appended v call) r → OnOk r (w ≡ after v call) → TooLongUnless (Fits v call) r
-    → Sent (call ∷ []) (plain files draft numbers faults old c v) (plain files draft numbers faults new c w) (written r)
+    → Sent (call ∷ []) (beside files draft numbers faults old c v) (beside files draft numbers faults new c w) (written r)
 plain-sends files draft numbers faults old new c v w call (Ok x) meter within did is fits =
     let long : length (all_appended v (call ∷ [])) ≡ length (appended v call) = ap length (append-nil (appended v call)) in
     let g = did.gains in
@@ -349,7 +323,7 @@ plain-sends files draft numbers faults old new c v w call (Ok x) meter within di
     record {
       appended = appended v call;
       sends = record {
-        passes = wrote-passes (appended v call) (length (appended v call)) (plain files draft numbers faults old c v) (plain files draft numbers faults new c w) None within refl did.same_files g.draft did.later tt wrote;
+        passes = wrote-passes (appended v call) (length (appended v call)) (beside files draft numbers faults old c v) (beside files draft numbers faults new c w) None within refl did.same_files g.draft did.later tt wrote;
         made = record { same = sym (append-nil (appended v call)); writer = is; fit = (fits, tt) };
         same_cursor = refl;
         same_gap = wrote.same_gap;
@@ -362,7 +336,7 @@ plain-sends files draft numbers faults old new c v w call (Err writer.TooLong) m
     record {
       appended = [];
       sends = record {
-        passes = wrote-passes [] 0 (plain files draft numbers faults old c v) (plain files draft numbers faults new c w) (Some TooLong) within refl did.same_files (lengthens-none (draft old) (draft new) did.gains.0) did.later tt wrote;
+        passes = wrote-passes [] 0 (beside files draft numbers faults old c v) (beside files draft numbers faults new c w) (Some TooLong) within refl did.same_files (lengthens-none (draft old) (draft new) did.gains.0) did.later tt wrote;
         made = λ f. fits f.0;
         same_cursor = refl;
         same_gap = wrote.same_gap;
@@ -378,7 +352,7 @@ plain-sends files draft numbers faults old new c v w call (Err writer.Folder) me
     record {
       appended = piece;
       sends = record {
-        passes = wrote-passes piece (length piece) (plain files draft numbers faults old c v) (plain files draft numbers faults new c w) (Some Folder) within refl did.same_files d.draft did.later did.cause wrote;
+        passes = wrote-passes piece (length piece) (beside files draft numbers faults old c v) (beside files draft numbers faults new c w) (Some Folder) within refl did.same_files d.draft did.later did.cause wrote;
         made = tt;
         same_cursor = refl;
         same_gap = wrote.same_gap;
@@ -391,7 +365,7 @@ plain-sends files draft numbers faults old new c v w call (Err writer.Memory) me
     record {
       appended = [];
       sends = record {
-        passes = wrote-passes [] 0 (plain files draft numbers faults old c v) (plain files draft numbers faults new c w) (Some Memory) within refl did.same_files (lengthens-none (draft old) (draft new) did.gains.0) did.later tt wrote;
+        passes = wrote-passes [] 0 (beside files draft numbers faults old c v) (beside files draft numbers faults new c w) (Some Memory) within refl did.same_files (lengthens-none (draft old) (draft new) did.gains.0) did.later tt wrote;
         made = tt;
         same_cursor = refl;
         same_gap = wrote.same_gap;
@@ -411,15 +385,6 @@ pub sent-none : (s : State) (cs : List WriterCall) → IsMeter s.numbers → s.c
 sent-none s cs meter within = record { appended = []; sends = record { passes = passes-none s (Some Memory) meter within (λ e. absurd cc); made = tt; same_cursor = refl; same_gap = refl; paid = tt }; stops = tt }
 
 -- ---- one call of the cursor
-
--- what the folder's numbers and files, its count of faults and the cursor are behind an item
-read-size : (c : Standing) (i : PlainItem) → read_for c i ≤ size_of c i
-read-size c (inner_item l s) = omega arith
-read-size c (leaf_item l s) = omega arith
-read-size c (alt_item t b) = omega arith
-read-size c leaf_end_item = omega arith
-read-size c (end_item n) = omega arith
-read-size c finish = omega arith
 
 -- the item was read, and nothing else was done
 pub next-passes : {told : Option Files} (s t : State) (item : Item) → t.files ≡ s.files → t.draft ≡ s.draft → t.numbers ≡ after_pull s.numbers (read_for s.cursor.standing (shown_item item)) → s.faults ≤ t.faults → Goes told s.cursor item t.cursor
@@ -478,22 +443,6 @@ gap-read w i c x y small pulls =
     let gap = ap (λ (m : Numbers). m.gap) pulls.pulled in
     let width = small c in
     omega (arith, few, gap, width)
-
-comes-next : (told : Option Files) (a b : PlainCursor) (item : Item) (i : PlainItem) (is : List PlainItem) → Goes told a item b → Comes told a (i ∷ is) → (shown_item item ≡ i) × Comes told b is
-comes-next told a b item i is goes h =
-    let u = h.gives.0 in
-    let more = h.gives.1 in
-    let both = some_is (shown_item item, (b.standing, drop b.at h.bytes)) (i, (u, more)) (sym (goes.comes h.bytes h.tells) ∙ h.gives.2) in
-    let rest = ap (λ (p : PlainItem × (Standing × List ℕ)). p.1) both in (
-      ap (λ (p : PlainItem × (Standing × List ℕ)). p.0) both,
-      record {
-        bytes = h.bytes;
-        tells = subst (λ (n : List ℕ). TellsFront told n b.length h.bytes) (sym goes.same_name) (subst (λ (n : ℕ). TellsFront told a.name n h.bytes) (sym goes.same_length) h.tells);
-        standing = h.standing;
-        rest = h.rest;
-        gives = subst (λ (p : Standing × List ℕ). Gives p.0 p.1 is h.standing h.rest) (sym rest) h.gives.3;
-      },
-    )
 
 -- an item where one comes that is told
 pub takes : (w : ℕ) (i : PlainItem) (is : List PlainItem) (s t : State) (item : Item) → IsWithin w i → t.files ≡ s.files → t.writer ≡ s.writer → PullsAtMost (read_for s.cursor.standing i) s.numbers t.numbers
@@ -644,14 +593,6 @@ failed-does x w is s t e cs next h f comes =
 pub fault-from : {T : Type 0} (r : Result T MergeFault) (f : MergeFault) → IsErrAnd r (λ d. d ≡ f) → fault_of r ≡ Some f
 fault-from (Ok x) f h = absurd h
 fault-from (Err d) f h = ap Some h
-
--- where the cursor stands behind an item that was given
-pub went : (told : Option Files) (old new : PlainCursor) (r : Result Item CursorFault) (item : Item) → r ≡ Ok item → Moves told old r new → Goes told old item new
-went told old new r item is h = subst (λ (x : Result Item CursorFault). Moves told old x new) is h
-
--- and after a fault
-pub stayed : (told : Option Files) (old new : PlainCursor) (r : Result Item CursorFault) (e : CursorFault) → r ≡ Err e → Moves told old r new → new ≡ old
-stayed told old new r e is h = subst (λ (x : Result Item CursorFault). Moves told old x new) is h
 
 pub does-none : (w : ℕ) (next : List PlainItem) (s : State) → Comes s.files s.cursor next → Does [] w [] next s s None
 does-none w next s comes = record { made = walks-none s; follows = comes; gap = omega arith }

@@ -26,7 +26,7 @@ use Rattle.stream_merge.specs.Items.{IsWithin}
 use Rattle.stream_merge.specs.Passes.{Unless, IfFolder}
 use Rattle.stream_merge.specs.Room.{NoRoom, NoRoomIf}
 use Rattle.stream_merge.specs.Short.{AreShortSets, IsShortTree}
-use Rattle.stream_merge.specs.State.{State, state}
+use Rattle.record_copy.specs.State.{State, state}
 use Rattle.stream_merge.specs.View.{PlainInherited}
 use Rattle.stream_merge.specs.declared.fault.MergeFault.{MergeFault}
 use Rattle.stream_merge.specs.declared.fault.MergeFault.TheVariants.{Damage, TooLong}

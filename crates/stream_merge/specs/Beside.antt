@@ -15,7 +15,7 @@ use Rattle.stream_merge.specs.Meets.{opening_of, Begins, calls_beside, inherited
 use Rattle.stream_merge.specs.Passes.{Passes, fault_of}
 use Rattle.stream_merge.specs.Room.{WentIf}
 use Rattle.stream_merge.specs.Short.{AreShortSets, IsShortTree}
-use Rattle.stream_merge.specs.State.{State}
+use Rattle.record_copy.specs.State.{State}
 use Rattle.stream_merge.specs.View.{PlainInherited}
 use Rattle.stream_merge.specs.declared.begin.Kind.{Kind}
 use Rattle.stream_merge.specs.declared.fault.MergeFault.{MergeFault}

@@ -11,7 +11,7 @@ use Rattle.stream_merge.specs.Items.{IsWithin}
 use Rattle.stream_merge.specs.Passes.{Passes, Rests, Closes, Unless, fault_of, unpaid, unpaid_at}
 use Rattle.stream_merge.specs.Room.{WentIf}
 use Rattle.stream_merge.specs.Short.{IsShortSet}
-use Rattle.stream_merge.specs.State.{State}
+use Rattle.record_copy.specs.State.{State}
 use Rattle.stream_merge.specs.declared.begin.Kind.{Kind}
 use Rattle.stream_merge.specs.declared.begin.Kind.TheVariants.{Inner, Leaf}
 use Rattle.stream_merge.specs.declared.fault.MergeFault.{MergeFault}

@@ -4,7 +4,7 @@ use Rattle.record_cursor.specs.Items.{PlainItem}
 use Rattle.record_cursor.specs.Moves.{Comes}
 use Rattle.record_writer.specs.Data.{WriterCall}
 use Rattle.record_writer.specs.Calls.{all_appended, after_all, AllFit}
-use Rattle.stream_merge.specs.State.{State}
+use Rattle.record_copy.specs.State.{State}
 use Rattle.stream_merge.specs.Passes.{Unless, Passes}
 use Rattle.stream_merge.specs.Room.{StopsIf}
 use Rattle.stream_merge.specs.declared.fault.MergeFault.{MergeFault}

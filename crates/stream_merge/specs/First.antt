@@ -7,7 +7,7 @@ use Rattle.record_parts.specs.Shapes.{FitsLabel}
 use Rattle.record_writer.specs.Calls.{AllFit}
 use Rattle.record_writer.specs.Data.{WriterCall}
 use Rattle.stream_merge.specs.Does.{Sends, Does}
-use Rattle.stream_merge.specs.State.{State}
+use Rattle.record_copy.specs.State.{State}
 use Rattle.stream_merge.specs.declared.fault.MergeFault.{MergeFault}
 
 -- the lengths and counts in their labels fit

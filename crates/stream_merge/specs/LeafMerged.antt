@@ -18,7 +18,7 @@ use Rattle.stream_merge.specs.Meets.{alts_with, HasLeaf}
 use Rattle.stream_merge.specs.Passes.{Passes, Rests, Unless, fault_of, unpaid_with}
 use Rattle.stream_merge.specs.Room.{WentIf}
 use Rattle.stream_merge.specs.Short.{AreShortSets, IsShortBody, IsShortTree}
-use Rattle.stream_merge.specs.State.{State}
+use Rattle.record_copy.specs.State.{State}
 use Rattle.stream_merge.specs.View.{PlainInherited}
 use Rattle.stream_merge.specs.declared.fault.MergeFault.{MergeFault}
 use Rattle.record_cursor.specs.NodeItems.{alt_items}

@@ -1,5 +1,4 @@
 pub mod Items
-pub mod State
 pub mod Passes
 pub mod Does
 pub mod View

@@ -9,7 +9,7 @@ use Rattle.record_cursor.specs.declared.fault.CursorFault.TheVariants as cursor
 use Rattle.record_writer.specs.Data.{OpenInner, PlainWriter}
 use Rattle.record_writer.specs.declared.fault.WriteFault.{WriteFault}
 use Rattle.record_writer.specs.declared.fault.WriteFault.TheVariants as writer
-use Rattle.stream_merge.specs.State.{State}
+use Rattle.record_copy.specs.State.{State}
 use Rattle.stream_merge.specs.declared.fault.MergeFault.{MergeFault}
 use Rattle.stream_merge.specs.declared.fault.MergeFault.TheVariants.{Damage, Folder, TooLong, Memory}
 

@@ -8,7 +8,7 @@ ghost use Rattle.record_writer.specs.View.{writer_view};
 ghost use Rattle.stream_merge.specs.Does.{Sent};
 ghost use Rattle.stream_merge.specs.Meets.{call_of};
 ghost use Rattle.stream_merge.specs.Passes.{fault_of};
-ghost use Rattle.stream_merge.specs.State.{state};
+ghost use Rattle.record_copy.specs.State.{state};
 
 use crate::fault::{MergeFault, written};
 use record_format::LabelView;

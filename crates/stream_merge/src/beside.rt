@@ -13,7 +13,7 @@ ghost use Rattle.record_parts.specs.ShownViews.{shown_label, shown_stamp};
 ghost use Rattle.record_writer.specs.View.{writer_view};
 ghost use Rattle.stream_merge.specs.Beside.{BeganBeside, BelowPut, IsBegun, IsUnspelled};
 ghost use Rattle.stream_merge.specs.Passes.{fault_of};
-ghost use Rattle.stream_merge.specs.State.{state};
+ghost use Rattle.record_copy.specs.State.{state};
 ghost use Rattle.stream_merge.specs.View.{inherited_view, own_view};
 
 use crate::begin::{Kind, begin_node};

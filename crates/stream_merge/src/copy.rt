@@ -12,7 +12,7 @@ ghost use Rattle.stream_merge.specs.Copied.{RowCopied, InsideCopied, BegunCopied
 ghost use Rattle.stream_merge.specs.Does.{Sent};
 ghost use Rattle.stream_merge.specs.Meets.{call_of, IsOpen};
 ghost use Rattle.stream_merge.specs.Passes.{fault_of};
-ghost use Rattle.stream_merge.specs.State.{state};
+ghost use Rattle.record_copy.specs.State.{state};
 
 use crate::begin::{Kind, begin_node};
 use crate::fault::{MergeFault, written};

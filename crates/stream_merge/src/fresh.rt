@@ -15,7 +15,7 @@ ghost use Rattle.record_writer.specs.Walks.{node_calls, row_calls};
 ghost use Rattle.stream_merge.specs.Does.{Sent};
 ghost use Rattle.stream_merge.specs.Meets.{call_of, rest_of};
 ghost use Rattle.stream_merge.specs.Passes.{fault_of};
-ghost use Rattle.stream_merge.specs.State.{state};
+ghost use Rattle.record_copy.specs.State.{state};
 ghost use Rattle.stream_merge.specs.View.{inherited_view};
 
 use crate::begin::{Kind, begin_node};

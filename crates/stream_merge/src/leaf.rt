@@ -14,7 +14,7 @@ ghost use Rattle.stream_merge.specs.Does.{Sent};
 ghost use Rattle.stream_merge.specs.LeafMerged.{LeafMerged, AltsMerged, AltMerged};
 ghost use Rattle.stream_merge.specs.Meets.{new_alts};
 ghost use Rattle.stream_merge.specs.Passes.{fault_of};
-ghost use Rattle.stream_merge.specs.State.{state};
+ghost use Rattle.record_copy.specs.State.{state};
 ghost use Rattle.stream_merge.specs.View.{inherited_view, own_view};
 
 use crate::beside::Begun;

@@ -10,7 +10,7 @@ ghost use Rattle.record_writer.specs.View.{writer_view};
 ghost use Rattle.stream_merge.specs.Meets.{IsOpen};
 ghost use Rattle.stream_merge.specs.Passes.{fault_of};
 ghost use Rattle.stream_merge.specs.RowMerged.{RowMerged, ChildMerged, InsideMerged, BegunMerged};
-ghost use Rattle.stream_merge.specs.State.{state};
+ghost use Rattle.record_copy.specs.State.{state};
 ghost use Rattle.stream_merge.specs.View.{inherited_view, own_view};
 
 use crate::begin::Kind;

@@ -16,14 +16,12 @@ use Rattle.version_notes.specs.Reader.{at_first, file_of}
 use Rattle.version_notes.specs.Reading.{notes_from}
 use Rattle.version_notes.specs.declared.parts.Parts.{Parts}
 use Rattle.noted_file.specs.Full.{FullAs}
-use Rattle.xarch_words.specs.Refusal.{Refusal, no_file, PlainFault, refused, folder_fault, out_fault, in_fault, memory}
+use Rattle.xarch_words.specs.Refusal.{Refusal, no_file, refused}
 use Rattle.xarch_parts.specs.Archives.{ArchiveIs, IsFrontOf, PartsAre}
 use Rattle.xarch_parts.specs.CoreLaws.{core-sound, same-file}
-use Rattle.xarch_parts.specs.Ends.{IsDefined}
 use Rattle.xarch_parts.specs.Inputs.{file_length}
 use Rattle.xarch_parts.specs.Outcome.{and_then, or_refuse}
 use Rattle.xarch_parts.specs.declared.fronts.Front.{Front}
-use Rattle.xarch_meanings.specs.FillsUp.{IsLimited}
 use Rattle.xarch_meanings.specs.FrontLaws.{front-told, header-is}
 
 -- ---- what is decided first
@@ -40,22 +38,9 @@ pub checked-given : {A : Type 0} (x : Result Unit Refusal) (a b : A) → and_the
 checked-given (Ok u) a b e = refl
 checked-given (Err r) a b e = absurd cc
 
--- what was read is one
-pub one-read : {A : Type 0} (x y : A) → ◌≡◌ {A = Result A Refusal} (Ok x) (Ok y) → x ≡ y
-one-read x y e = cc
-
 -- and so is what was found
 one-found : {A : Type 0} (x y : A) → Some x ≡ Some y → x ≡ y
 one-found x y e = cc
-
--- what has a value is not refused by a limit
-pub limited-given : {A : Type 0} (x : Result A Refusal) (y : A) (v : PlainFault) → IsDefined x v → x ≡ Ok y → IsLimited (Some v) → ⊥
-unfolding IsDefined
-limited-given x y (refused q) defined is limited = (let wrong : Ok y ≡ Err q = sym is ∙ defined in cc)
-limited-given x y folder_fault defined is limited = limited
-limited-given x y out_fault defined is limited = limited
-limited-given x y in_fault defined is limited = limited
-limited-given x y memory defined is limited = limited
 
 pub drafted : (draft : Option (List ℕ)) (bytes told : List ℕ) → option_map (λ (d : List ℕ). bytes) draft ≡ Some told → told ≡ bytes
 drafted None bytes told e = absurd cc

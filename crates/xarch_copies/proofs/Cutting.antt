@@ -32,7 +32,7 @@ use Rattle.xarch_copies.specs.Making.{behind_front}
 use Rattle.xarch_copies.specs.Slicing.{Slices}
 use Rattle.xarch_copies.proofs.Extending.{extends-then}
 use Rattle.xarch_copies.proofs.Making.{fails-memory, fails-then, grown-twice, makes-failed, makes-stored}
-use Rattle.xarch_copies.proofs.NoteEnds.{all-read}
+use Rattle.xarch_parts.proofs.NoteLaws.{all-read}
 
 -- ---- the records
 

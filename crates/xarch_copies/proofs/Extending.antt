@@ -1,5 +1,5 @@
 -- What is appended to a draft, part after part.
-use Rattle.std.proofs.Common.{◌≡◌, ℕ, ◌+◌, ◌≤◌, List, [], ◌++◌, take, Option, Some, None, IsSome, option_map, Result, Ok, Err, refl, sym, ap, ◌∙◌, subst, append-nil, append_assoc, arith}
+use Rattle.std.proofs.Common.{◌≡◌, ℕ, ◌+◌, ◌≤◌, List, [], ◌++◌, take, Option, Some, None, IsSome, option_map, Result, Ok, Err, refl, sym, ap, ◌∙◌, subst, arith}
 use Rattle.xa_outside.specs.Folder.{Files}
 use Rattle.xa_outside.specs.Numbers.{Numbers, IsMeter, PullsAtMost}
 use Rattle.xa_outside.specs.NumberLaws.{PullsAndDrafts-none, PullsAndDrafts-of_pulls, PullsAndDrafts-of_draft, PullsAndDrafts-more, PullsAndDrafts-trans}
@@ -10,17 +10,7 @@ use Rattle.xarch_parts.specs.Ends.{IsCaused, IsInside, IsOfFolder}
 use Rattle.xarch_parts.specs.FolderLaws.{caused-folder}
 use Rattle.xarch_parts.specs.Folders.{IsTold, Streams, WritesOnly}
 use Rattle.xarch_copies.specs.Extending.{Extends}
-
-pub gained-none : (d : Option (List ℕ)) → d ≡ option_map (λ x. x ++ []) d
-gained-none None = refl
-gained-none (Some x) = ap (λ (l : List ℕ). Some l) (sym (append-nil x))
-
-pub gained-more : (a b c : Option (List ℕ)) (x y : List ℕ) → b ≡ option_map (λ d. d ++ x) a → c ≡ option_map (λ d. d ++ y) b → c ≡ option_map (λ d. d ++ (x ++ y)) a
-gained-more a b c x y first second = second ∙ ap (option_map (λ d. d ++ y)) first ∙ twice a
-  where
-    twice : (d : Option (List ℕ)) → option_map (λ (l : List ℕ). l ++ y) (option_map (λ (l : List ℕ). l ++ x) d) ≡ option_map (λ (l : List ℕ). l ++ (x ++ y)) d
-    twice None = refl
-    twice (Some d) = ap (λ (l : List ℕ). Some l) (append_assoc d x y)
+use Rattle.xarch_parts.proofs.Pushing.{gained-more, gained-none}
 
 grown-untold : (d e : Option (List ℕ)) (x : List ℕ) → e ≡ option_map (λ b. b ++ x) d → d ≡ None → e ≡ None
 grown-untold d e x grown none = grown ∙ ap (option_map (λ b. b ++ x)) none

@@ -31,10 +31,11 @@ use Rattle.xarch_copies.specs.Making.{Fails, behind_front}
 use Rattle.xarch_copies.specs.Slicing.{Gives}
 use Rattle.xarch_copies.specs.declared.join.Both.{Both}
 use Rattle.xarch_copies.proofs.Cutting.{notes-unlimited}
-use Rattle.xarch_copies.proofs.Extending.{extends-appended, extends-more, extends-then, gained-more}
+use Rattle.xarch_copies.proofs.Extending.{extends-appended, extends-more, extends-then}
 use Rattle.xarch_copies.proofs.Making.{fails-appended, fails-memory, fails-then, grown-twice, makes-failed, makes-stored}
-use Rattle.xarch_copies.proofs.NoteEnds.{all-read}
 use Rattle.xarch_copies.proofs.Slicing.{after-then, appended-then, each-then}
+use Rattle.xarch_parts.proofs.Pushing.{gained-more}
+use Rattle.xarch_parts.proofs.NoteLaws.{all-read}
 
 -- ---- the records
 

@@ -14,7 +14,7 @@ use Rattle.xarch_words.specs.declared.fault.Fault.{Fault}
 use Rattle.xarch_parts.specs.Archives.{IsFrontOf, PartsAre}
 use Rattle.xarch_parts.specs.CoreLaws.{within-more}
 use Rattle.xarch_parts.specs.EndLaws.{IfOk-passed, IsOfFolder-inside, IsOfFolder-later, Matches-passed}
-use Rattle.xarch_parts.specs.Ends.{IsCaused, IsDefined, IsInside, IsOfFolder, Matches, fault_of}
+use Rattle.xarch_parts.specs.Ends.{IsCaused, IsDefined, IsOfFolder, Matches, fault_of}
 use Rattle.xarch_parts.specs.FolderLaws.{caused-then, reads-passed, reads-then}
 use Rattle.xarch_parts.specs.Folders.{ReadsOnly, WritesOnly}
 use Rattle.xarch_parts.specs.Inputs.{size_in}
@@ -24,15 +24,12 @@ use Rattle.xarch_meanings.specs.FillsUp.{IsLimited}
 use Rattle.xarch_copies.specs.Extending.{Extends}
 use Rattle.xarch_copies.specs.Making.{Asks, Fails, Makes, StandsBefore}
 use Rattle.xarch_copies.proofs.Extending.{caused-extended, caused-none, extends-appended, extends-more, extends-none, extends-then, streams-extended, streams-stored}
+use Rattle.xarch_parts.proofs.NoteLaws.{inside-memory}
 
 -- a call ended with the fault of a part of it
 pub at-err : {T E : Type 0} (r : Result T E) (e : E) (P : T → Type 0) (Q : E → Type 0) → IsErrAnd r (λ d. d ≡ e) → Q e → MatchResult r P Q
 at-err (Ok x) e P Q h q = absurd h
 at-err (Err d) e P Q h q = subst Q (sym h) q
-
-inside-memory : IsInside (Some memory)
-unfolding IsInside
-inside-memory = tt
 
 pub no-memory : (a b : ℕ) → IsOfFolder a b (Some memory)
 no-memory a b = IsOfFolder-inside a b (Some memory) inside-memory

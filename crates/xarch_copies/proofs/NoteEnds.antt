@@ -1,35 +1,20 @@
 -- With what the notes of some versions end.
-use Rattle.std.proofs.Common.{◌≡◌, inl, inr, ℕ, arith, List, Option, Some, None, option_map, sym, refl, subst}
-use Rattle.xa_outside.specs.Causes.{Rose}
+use Rattle.std.proofs.Common.{◌≡◌, inl, inr, ℕ, List, Option, Some, None, sym, refl, subst}
 use Rattle.xa_outside.specs.Folder.{Files}
 use Rattle.xa_outside.specs.Numbers.{Numbers, IsMeter}
-use Rattle.version_notes.specs.Faults.{IfDamage, IfFolder}
-use Rattle.version_notes.specs.Reader.{at_first, file_of, first_place}
-use Rattle.version_notes.specs.Reading.{all_from, all_read, notes_from}
+use Rattle.version_notes.specs.Faults.{IfDamage}
+use Rattle.version_notes.specs.Reader.{at_first, file_of}
+use Rattle.version_notes.specs.Reading.{notes_from}
 use Rattle.version_notes.specs.declared.fault.NotesFault.{NotesFault}
 use Rattle.version_notes.specs.declared.fault.NotesFault.TheVariants.{Damage, Folder, Memory}
 use Rattle.version_notes.specs.declared.parts.Parts.{Parts}
 use Rattle.xarch_words.specs.Refusal.{damaged, PlainFault, refused, folder_fault, memory}
-use Rattle.xarch_parts.specs.Ends.{IsInside, IsOfFolder}
 use Rattle.xarch_parts.specs.Noted.{IsOfNotes, notes_bytes}
 use Rattle.xarch_copies.specs.Cutting.{NotesEnd, Unnoted}
 use Rattle.xarch_copies.specs.Extending.{Extends}
 use Rattle.xarch_copies.specs.Slicing.{Stops}
 use Rattle.xarch_copies.proofs.Making.{fails-memory}
-
-read-from : (core : ℕ) (o : Option ℕ) → all_from (option_map (λ n. first_place core n) o) ≡ notes_bytes o
-read-from core None = refl
-read-from core (Some n) = omega arith
-
-pub all-read : (name : List ℕ) (parts : Parts) (versions : ℕ) → all_read (at_first name parts versions) ≡ notes_bytes parts.notes
-all-read name parts versions = read-from parts.core parts.notes
-
-notes-cause : (name : List ℕ) (e : NotesFault) (v : PlainFault) (a b : ℕ) → IsOfNotes name e v → IfFolder e (Rose a b) → IsOfFolder a b (Some v)
-unfolding IsInside IsOfFolder
-notes-cause name Damage v a b (inl is) h = subst (λ (z : PlainFault). IsOfFolder a b (Some z)) (sym is) tt
-notes-cause name Damage v a b (inr is) h = subst (λ (z : PlainFault). IsOfFolder a b (Some z)) (sym is) tt
-notes-cause name Folder v a b is h = subst (λ (z : PlainFault). IsOfFolder a b (Some z)) (sym is) h
-notes-cause name Memory v a b is h = subst (λ (z : PlainFault). IsOfFolder a b (Some z)) (sym is) tt
+use Rattle.xarch_parts.proofs.NoteLaws.{all-read, notes-cause}
 
 module _ (files : Option Files) (name : List ℕ) (parts : Parts) (versions : ℕ) where
   end-by : (v w : PlainFault) → v ≡ w → NotesEnd files name parts versions w → NotesEnd files name parts versions v

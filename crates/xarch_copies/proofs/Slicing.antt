@@ -20,7 +20,8 @@ use Rattle.version_notes.specs.declared.fault.NotesFault.TheVariants.{Damage, Fo
 use Rattle.version_notes.specs.declared.place.Place.{Place}
 use Rattle.xarch_copies.specs.Extending.{Extends}
 use Rattle.xarch_copies.specs.Slicing.{Gives, Skips, Pushes, Slices, Stops}
-use Rattle.xarch_copies.proofs.Extending.{extends-appended, extends-none, extends-read, extends-then, gained-more, gained-none}
+use Rattle.xarch_copies.proofs.Extending.{extends-appended, extends-none, extends-read, extends-then}
+use Rattle.xarch_parts.proofs.Pushing.{gained-more, gained-none, at-once-after}
 
 -- ---- what is read
 
@@ -58,10 +59,6 @@ appended-then w (x ∷ xs) more = ap (λ (l : List ℕ). appended w x ++ l) (app
 
 appended-more : (w : PlainWriter) (notes : List (List ℕ)) (note : List ℕ) → all_appended w (notes ++ note ∷ []) ≡ all_appended w notes ++ appended (after_all w notes) note
 appended-more w notes note = appended-then w notes (note ∷ []) ∙ ap (λ (l : List ℕ). all_appended w notes ++ l) (append-nil (appended (after_all w notes) note))
-
-at-once-after : (w : PlainWriter) (notes : List (List ℕ)) → (after_all w notes).at_once ≡ w.at_once
-at-once-after w [] = refl
-at-once-after w (x ∷ xs) = at-once-after (after w x) xs
 
 pub pushed-after : (w : PlainWriter) (notes : List (List ℕ)) → (after_all w notes).pushed ≡ w.pushed + length notes
 pushed-after w [] = omega arith

@@ -1,3 +1,4 @@
 pub mod OneStep
 pub mod Succeeding
 mod VersionTexts
+pub mod Limited

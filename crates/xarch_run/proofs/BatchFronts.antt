@@ -9,9 +9,10 @@ use Rattle.xarch_words.specs.Refusal.{PlainFault}
 use Rattle.xarch_parts.specs.Outcome.{Step}
 use Rattle.xarch_run.specs.Batch.{AreRead, BatchEnds, EndsTheBatch, RunsOver, Scene, Stops}
 use Rattle.xarch_run.specs.Calls.{Call, DidCommands}
-use Rattle.xarch_run.specs.Lines.{cut, cut_ended, in_front, in_front_ended, is_blank, is_line_feed, lines_of, ended_lines_of, without_blanks}
+use Rattle.xarch_run.specs.Lines.{cut, cut_ended, in_front_ended, is_blank, is_line_feed, lines_of, ended_lines_of, without_blanks}
 use Rattle.xarch_run.specs.Steps.{LinesLead, line_command}
 use Rattle.xarch_run.proofs.Runs.{LinesLead-append, told-before}
+use Rattle.archive_text.specs.Texts.{in_front}
 
 -- ---- the lines of the front of an input come first among its lines
 

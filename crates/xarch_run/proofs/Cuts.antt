@@ -1,7 +1,8 @@
 -- How the bytes of a batch are cut into lines, line by line.
 use Rattle.std.proofs.Common.{◌≡◌, ℕ, ◌==◌, ◌||◌, List, [], ◌∷◌, ◌++◌, Bool, true, false, cond, not, refl, sym, ap, ◌∙◌, append_assoc, append-nil}
 use Rattle.std.proofs.lemmas.List.Elements.{filter-append}
-use Rattle.xarch_run.specs.Lines.{is_blank, has_line_feed, in_front, in_front_ended, cut, cut_ended, without_blanks, lines_of, ended_lines_of}
+use Rattle.xarch_run.specs.Lines.{is_blank, has_line_feed, in_front_ended, cut, cut_ended, without_blanks, lines_of, ended_lines_of}
+use Rattle.archive_text.specs.Texts.{in_front}
 
 neither : (p q : Bool) → (p || q) ≡ false → (p ≡ false) × (q ≡ false)
 neither true q e = cc

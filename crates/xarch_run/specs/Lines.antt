@@ -1,6 +1,7 @@
 -- The lines of a batch.
 use Rattle.std.specs.Prelude.{ℕ, ◌==◌, ◌||◌, List, [], ◌∷◌, Bool, not, filter, if◌then◌else◌}
 use Rattle.std.specs.List.{list_all, list_any}
+use Rattle.archive_text.specs.Texts.{in_front}
 
 -- space, tab or CR
 abbrev pub is_blank_byte : ℕ → Bool
@@ -15,11 +16,6 @@ is_line_feed b = b == 10
 
 abbrev pub has_line_feed : List ℕ → Bool
 has_line_feed bytes = list_any is_line_feed bytes
-
--- the byte in front of the first line
-abbrev pub in_front : ℕ → List (List ℕ) → List (List ℕ)
-in_front b [] = (b ∷ []) ∷ []
-in_front b (l ∷ ls) = (b ∷ l) ∷ ls
 
 -- The bytes cut at each LF. What stands behind the last LF is a line where it is not empty.
 abbrev pub cut : List ℕ → List (List ℕ)

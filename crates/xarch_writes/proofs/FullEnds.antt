@@ -8,15 +8,16 @@ use Rattle.record_cursor.specs.View.{PlainHeader}
 use Rattle.stream_merge.specs.Added.{Overfull, IfTooLong}
 use Rattle.stream_merge.specs.declared.fault.AddFault.{AddFault}
 use Rattle.stream_merge.specs.declared.fault.AddFault.TheVariants.{Damage, Folder, Limit, TooLong, Memory}
-use Rattle.xarch_words.specs.Refusal.{versions, Refusal, limit, PlainFault, refused, folder_fault, out_fault, in_fault, memory}
+use Rattle.xarch_words.specs.Refusal.{versions, Refusal, limit, PlainFault, refused}
 use Rattle.xarch_words.specs.View.{fault_view}
 use Rattle.xarch_words.specs.declared.fault.Fault.{Fault}
-use Rattle.xarch_parts.specs.Ends.{IsDefined, fault_of}
+use Rattle.xarch_parts.specs.Ends.{fault_of}
 use Rattle.xarch_parts.specs.Outcome.{and_then}
 use Rattle.xarch_meanings.specs.Add.{room_behind, tree_of}
 use Rattle.xarch_writes.specs.Added.{IsToldAs}
 use Rattle.xarch_meanings.specs.FillsUp.{IsLimited}
 use Rattle.xarch_meanings.specs.Plausible.{add_input, text_read, with_tree}
+use Rattle.xarch_meanings.proofs.Limited.{one-read}
 
 -- ---- faults
 
@@ -34,15 +35,6 @@ pub limited-passed : {T : Type 0} (r : Result T Fault) (f : Fault) → IsErrAnd 
 limited-passed (Ok x) f h limited = absurd h
 limited-passed (Err d) f h limited = subst (λ (z : Fault). IsLimited (Some (fault_view z))) h limited
 
--- what has a value is not refused by a limit
-pub limited-given : {A : Type 0} (x : Result A Refusal) (y : A) (v : PlainFault) → IsDefined x v → x ≡ Ok y → IsLimited (Some v) → ⊥
-unfolding IsDefined
-limited-given x y (refused q) defined is limited = (let wrong : Ok y ≡ Err q = sym is ∙ defined in cc)
-limited-given x y folder_fault defined is limited = limited
-limited-given x y out_fault defined is limited = limited
-limited-given x y in_fault defined is limited = limited
-limited-given x y memory defined is limited = limited
-
 -- ---- what is read first
 
 pub record Given (files : Files) (name doc : List ℕ) (rules : List PlainRule) (n : ℕ) (tree : PlainKeyed) : Type 0 where
@@ -59,10 +51,6 @@ record Roomed (h g : List PlainRule × ℕ) (k tree : PlainKeyed) : Type 0 where
   same : h ≡ g
   trees : k ≡ tree
   room : h.1 ≢ 999999
-
--- what was read is one, and a refusal is no value
-one-read : {A : Type 0} (x y : A) → ◌≡◌ {A = Result A Refusal} (Ok x) (Ok y) → x ≡ y
-one-read x y e = cc
 
 not-refused : {A : Type 0} (q : Refusal) (x : A) → ◌≡◌ {A = Result A Refusal} (Err q) (Ok x) → ⊥
 not-refused q x e = cc

@@ -6,7 +6,7 @@ use Rattle.xa_outside.specs.Numbers.{Numbers, IsMeter, PullsAndDrafts, after_dra
 use Rattle.xa_outside.specs.NumberLaws.{PullsAndDrafts-none, PullsAndDrafts-of_draft, PullsAndDrafts-more, PullsAndDrafts-trans}
 use Rattle.xa_outside.proofs.DraftLemmas.{Drafts-trans, DraftsPrefix-after}
 use Rattle.version_notes.specs.Writer.{Appends, PlainWriter, last_appended}
-use Rattle.xarch_words.specs.Refusal.{PlainFault, folder_fault, memory}
+use Rattle.xarch_words.specs.Refusal.{PlainFault, folder_fault}
 use Rattle.xarch_words.specs.View.{fault_view}
 use Rattle.xarch_words.specs.declared.fault.Fault.{Fault}
 use Rattle.xarch_parts.specs.EndLaws.{IsOfFolder-inside, IsOfFolder-later}
@@ -20,10 +20,6 @@ use Rattle.xarch_writes.specs.Appending.{Grows}
 pub ended-by : {T : Type 0} (r : Result T Fault) (f : Fault) → IsErrAnd r (λ g. g ≡ f) → (P : Option PlainFault → Type 0) → P (Some (fault_view f)) → P (fault_of r)
 ended-by (Ok x) f h P p = absurd h
 ended-by (Err g) f h P p = subst (λ (z : Fault). P (Some (fault_view z))) (sym h) p
-
-pub inside-memory : IsInside (Some memory)
-unfolding IsInside
-inside-memory = tt
 
 -- ---- drafts
 

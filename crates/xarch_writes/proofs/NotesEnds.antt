@@ -4,13 +4,12 @@ use Rattle.std.specs.List.{AllByRecursion}
 use Rattle.std.specs.Option.{is_some}
 use Rattle.std.specs.Result.{IfErr, MatchResult, OnOk}
 use Rattle.std.proofs.lemmas.Bool.{le-leb, leb-true}
-use Rattle.xa_outside.specs.Causes.{Rose}
 use Rattle.xa_outside.specs.Folder.{Drafts, DraftsPrefix, Files}
 use Rattle.xa_outside.specs.Numbers.{Numbers}
-use Rattle.version_notes.specs.Faults.{IfDamage, IfFolder}
+use Rattle.version_notes.specs.Faults.{IfDamage}
 use Rattle.version_notes.specs.Notes.{IsNote, are_empty, is_note, is_printed, notes_part}
 use Rattle.version_notes.specs.Reader.{PlainReader, at_first, file_of, first_place}
-use Rattle.version_notes.specs.Reading.{all_from, all_read, notes_from}
+use Rattle.version_notes.specs.Reading.{notes_from}
 use Rattle.version_notes.specs.Walk.{Copies, IsPrompt}
 use Rattle.version_notes.specs.Writer.{PlainWriter, after, after_all, all_appended, appended, fresh, last_appended}
 use Rattle.version_notes.specs.declared.fault.NotesFault.{NotesFault}
@@ -21,9 +20,9 @@ use Rattle.xarch_words.specs.Refusal.{damaged, Refusal, limit, PlainFault, refus
 use Rattle.xarch_words.specs.View.{fault_view}
 use Rattle.xarch_words.specs.declared.fault.Fault.{Fault}
 use Rattle.xarch_parts.specs.Archives.{short_note}
-use Rattle.xarch_parts.specs.Ends.{IsDefined, IsInside, IsOfFolder, fault_of}
+use Rattle.xarch_parts.specs.Ends.{IsDefined, fault_of}
 use Rattle.xarch_parts.specs.Inputs.{at_most}
-use Rattle.xarch_parts.specs.Noted.{IsOfNotes, notes_bytes}
+use Rattle.xarch_parts.specs.Noted.{IsOfNotes}
 use Rattle.xarch_writes.specs.Appending.{GainsNotes, NotesEnd}
 use Rattle.xarch_meanings.specs.FillsUp.{IsLimited}
 use Rattle.xarch_parts.proofs.Pushing.{after-more, appended-more, at-once-after, gained-more}
@@ -61,13 +60,6 @@ is-note note utf8 is =
 pub some-there : (o : Option ℕ) → is_some o ≡ true → (n : ℕ) × (o ≡ Some n)
 some-there None e = absurd cc
 some-there (Some n) e = (n, refl)
-
-read-from : (core : ℕ) (o : Option ℕ) → all_from (option_map (λ n. first_place core n) o) ≡ notes_bytes o
-read-from core None = refl
-read-from core (Some n) = omega arith
-
-pub all-read : (name : List ℕ) (parts : Parts) (versions : ℕ) → all_read (at_first name parts versions) ≡ notes_bytes parts.notes
-all-read name parts versions = read-from parts.core parts.notes
 
 prompt-from : (core : ℕ) (o : Option ℕ) → (is_some o ≡ true) ⊎ (option_map (λ n. first_place core n) o ≡ None)
 prompt-from core None = inr refl
@@ -126,13 +118,6 @@ module _ (files : Option Files) (name : List ℕ) (parts : Parts) (versions : �
   gains-behind part note (Err x) f m k gains = tt
 
 -- ---- faults
-
-pub notes-cause : (name : List ℕ) (e : NotesFault) (v : PlainFault) (a b : ℕ) → IsOfNotes name e v → IfFolder e (Rose a b) → IsOfFolder a b (Some v)
-unfolding IsInside IsOfFolder
-notes-cause name Damage v a b (inl is) h = subst (λ (z : PlainFault). IsOfFolder a b (Some z)) (sym is) tt
-notes-cause name Damage v a b (inr is) h = subst (λ (z : PlainFault). IsOfFolder a b (Some z)) (sym is) tt
-notes-cause name Folder v a b is h = subst (λ (z : PlainFault). IsOfFolder a b (Some z)) (sym is) h
-notes-cause name Memory v a b is h = subst (λ (z : PlainFault). IsOfFolder a b (Some z)) (sym is) tt
 
 pub notes-unlimited : (name : List ℕ) (e : NotesFault) (v : PlainFault) → IsOfNotes name e v → ¬ IsLimited (Some v)
 notes-unlimited name Damage v (inl is) h = subst (λ (z : PlainFault). IsLimited (Some z)) is h

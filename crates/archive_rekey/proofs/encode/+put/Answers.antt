@@ -11,8 +11,8 @@ use Rattle.spelled_archive.proofs.NodeViews.{node_view-Inner, node_view-Leaf}
 use Rattle.record_format.specs.Data.{PlainEntry, PlainDir}
 use Rattle.record_format.specs.Nodes.{Piece, piece_bytes, entries_from, dir_of, node_piece, node_pieces}
 use Rattle.record_format.specs.View.{entry_view}
-use Rattle.archive_file.proofs.PutLaws.{on-ok, if-ok, inner-label, leaf-parts, inner-bytes, inner-dir, leaf-bytes, leaf-dir, row-bytes, row-dir, count-on}
-use Rattle.archive_rekey.proofs.SpelledRows.{inner-parts, more-wrote, more-entries, all-pieces, parts-on}
+use Rattle.archive_file.proofs.PutLaws.{on-ok, if-ok, inner-label, leaf-parts, inner-bytes, inner-dir, leaf-bytes, leaf-dir, row-bytes, row-dir, more-wrote, more-entries, count-on}
+use Rattle.archive_rekey.proofs.SpelledRows.{inner-parts, all-pieces, parts-on}
 use Rattle.archive_rekey.proofs.encode.+put.Goals as goal
 
 pub put_node-put_inner-requires : goal.put_node-put_inner-requires

@@ -1,8 +1,8 @@
 use Rattle.std.proofs.Common.{rules, lit<}
 use Rattle.std.proofs.lemmas.Str.Pattern.{split_parts}
-use Rattle.archive_text.proofs.Steps.{on-ok}
 use Rattle.archive_text.proofs.LineLaws.{key_step, last_key}
 use Rattle.archive_text.proofs.export.put_lines.Goals as goal
+use Rattle.archive_file.proofs.PutLaws.{on-ok}
 
 pub loop-line-preserved : goal.loop-line-preserved
 loop-line-preserved c =

@@ -9,9 +9,9 @@ use Rattle.record_writer.specs.declared.writer.Writer.{Writer}
 use Rattle.stream_merge.specs.Appended.{NodesAppended}
 use Rattle.stream_merge.specs.Does.{Sent}
 use Rattle.stream_merge.specs.Passes.{fault_of, of_cursor, of_writer}
-use Rattle.stream_merge.specs.State.{State}
+use Rattle.record_copy.specs.State.{State, beside}
 use Rattle.stream_merge.specs.View.{inherited_view}
-use Rattle.stream_merge.proofs.States.{plain, plain-sends, Nexts, nexts, stays-by}
+use Rattle.stream_merge.proofs.States.{plain-sends, Nexts, nexts, stays-by}
 use Rattle.stream_merge.proofs.Handed.{at-err}
 use Rattle.stream_merge.proofs.Appending.{nodes-unmerged, nodes-unfinished, nodes-unread, nodes-other, nodes-appended}
 use Rattle.stream_merge.proofs.add.append_nodes.Given.{Over}
@@ -19,7 +19,7 @@ use Rattle.stream_merge.proofs.add.append_nodes.Goals.{In_ok-finish, In_ok-next}
 use Rattle.stream_merge.proofs.add.append_nodes.Goals as goal
 
 abbrev at : (g : Over) → g.row.F.Denot → PlainCursor → PlainWriter → State
-at g = (let f = g.F.Folder in plain f.files f.draft f.numbers f.faults)
+at g = (let f = g.F.Folder in beside f.files f.draft f.numbers f.faults)
 
 -- the writer behind its last call
 abbrev last : Writer → PlainWriter

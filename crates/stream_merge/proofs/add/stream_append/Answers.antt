@@ -9,9 +9,9 @@ use Rattle.record_format.specs.Files.{FileOf}
 use Rattle.stream_merge.specs.Added.{Appended, Overfull, of_merge, IfTooLong, IfFailed}
 use Rattle.xa_outside.specs.Numbers.{lead}
 use Rattle.stream_merge.specs.declared.fault.AddFault.TheVariants.{Damage, Limit}
-use Rattle.stream_merge.proofs.States.{lengthens-none}
-use Rattle.stream_merge.proofs.Adding.{header-first, at-err, none-longer, overfull, no-damage, no-limit, failed-of, blank-one}
+use Rattle.stream_merge.proofs.Adding.{header-first, at-err, none-longer, overfull, no-damage, no-limit, failed-of}
 use Rattle.stream_merge.proofs.add.stream_append.Goals as goal
+use Rattle.record_copy.proofs.Passing.{blank-one, lengthens-none}
 
 pub append_version-requires : goal.append_version-requires
 append_version-requires g c =

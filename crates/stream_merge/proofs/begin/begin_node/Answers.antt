@@ -5,7 +5,7 @@ use Rattle.record_parts.specs.ShownViews.{shown_label}
 use Rattle.record_writer.specs.Data.{call_inner, call_leaf}
 use Rattle.stream_merge.specs.Does.{Sent}
 use Rattle.stream_merge.specs.Meets.{call_of}
-use Rattle.stream_merge.specs.State.{State, state}
+use Rattle.record_copy.specs.State.{State, state}
 use Rattle.stream_merge.specs.declared.begin.Kind.TheVariants.{Inner, Leaf}
 use Rattle.stream_merge.specs.declared.fault.MergeFault.{MergeFault}
 use Rattle.stream_merge.proofs.Handed.{called}

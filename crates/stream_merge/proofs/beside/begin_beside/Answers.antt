@@ -7,7 +7,7 @@ use Rattle.nested_merge.specs.Merged.{below}
 use Rattle.record_parts.specs.ShownViews.{shown_label, shown_stamp}
 use Rattle.record_parts.proofs.ShapeLaws.{label_parts}
 use Rattle.stream_merge.specs.Meets.{call_of, rest_of}
-use Rattle.stream_merge.specs.State.{State, state}
+use Rattle.record_copy.specs.State.{State, state}
 use Rattle.stream_merge.specs.View.{inherited_view, own_view}
 use Rattle.stream_merge.proofs.Besides.{has-kid, begun-is, kids-fail, stamp-fails, node-sent-beside}
 use Rattle.stream_merge.proofs.Handed.{sent-handed}

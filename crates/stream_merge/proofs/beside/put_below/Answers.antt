@@ -4,7 +4,7 @@ use Rattle.record_cursor.specs.View.{PlainCursor}
 use Rattle.record_parts.specs.ShownViews.{shown_label}
 use Rattle.record_writer.specs.declared.writer.Writer.{Writer}
 use Rattle.stream_merge.specs.Meets.{rest_of}
-use Rattle.stream_merge.specs.State.{State, state}
+use Rattle.record_copy.specs.State.{State, state}
 use Rattle.stream_merge.specs.View.{inherited_view}
 use Rattle.stream_merge.proofs.Belows.{puts-start, puts-more, puts-fail, puts-unspelled, puts-shaped, puts-label, puts-fewer, puts-at, puts-before, puts-end, puts-done, puts-kid, puts-above}
 use Rattle.stream_merge.proofs.Puts.{nowhere, row-sent}

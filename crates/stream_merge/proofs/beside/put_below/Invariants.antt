@@ -2,7 +2,7 @@ use Rattle.std.proofs.Common.{◌≡◌, None, length}
 use Rattle.keyed_parts.specs.View.{kids_view}
 use Rattle.record_parts.specs.ShownViews.{shown_label}
 use Rattle.record_writer.specs.View.{writer_view}
-use Rattle.stream_merge.specs.State.{state}
+use Rattle.record_copy.specs.State.{state}
 use Rattle.stream_merge.specs.View.{inherited_view}
 use Rattle.stream_merge.proofs.Belows.{PutOn}
 use Rattle.stream_merge.proofs.beside.put_below.Given as goal

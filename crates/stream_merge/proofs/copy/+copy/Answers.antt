@@ -10,7 +10,7 @@ use Rattle.record_writer.specs.declared.writer.Writer.{Writer}
 use Rattle.stream_merge.specs.Copied.{RowCopied, InsideCopied, BegunCopied, ChildCopied}
 use Rattle.stream_merge.specs.Meets.{IsOpen}
 use Rattle.stream_merge.specs.Passes.{fault_of, of_cursor}
-use Rattle.stream_merge.specs.State.{State, state}
+use Rattle.record_copy.specs.State.{State, state}
 use Rattle.stream_merge.specs.declared.begin.Kind.{Kind}
 use Rattle.stream_merge.specs.declared.fault.MergeFault.{MergeFault}
 use Rattle.stream_merge.proofs.States.{written, Nexts, nexts, stays-by, call-sends}

@@ -1,6 +1,6 @@
 use Rattle.std.proofs.Common.{◌-◌, ◌*◌, ◌+◌}
 use Rattle.version_set.specs.View.{pairs_of}
-use Rattle.stream_merge.specs.State.{state}
+use Rattle.record_copy.specs.State.{state}
 use Rattle.stream_merge.proofs.CopiedRows.{RowOn}
 use Rattle.stream_merge.proofs.copy.+copy.Given as goal
 

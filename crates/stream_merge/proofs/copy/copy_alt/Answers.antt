@@ -7,7 +7,7 @@ use Rattle.record_parts.proofs.ShapeLaws.{value_parts}
 use Rattle.record_writer.specs.Data.{call_alt}
 use Rattle.record_writer.specs.declared.writer.Writer.{Writer}
 use Rattle.stream_merge.specs.Does.{Sent}
-use Rattle.stream_merge.specs.State.{State, state}
+use Rattle.record_copy.specs.State.{State, state}
 use Rattle.stream_merge.specs.declared.fault.MergeFault.{MergeFault}
 use Rattle.stream_merge.specs.declared.fault.MergeFault.TheVariants.{Memory}
 use Rattle.stream_merge.proofs.States.{written, call-sends, sent-none}

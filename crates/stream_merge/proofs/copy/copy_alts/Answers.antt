@@ -5,7 +5,7 @@ use Rattle.record_writer.specs.Data.{call_end_leaf}
 use Rattle.record_writer.specs.declared.writer.Writer.{Writer}
 use Rattle.stream_merge.specs.Copied.{AltsCopied}
 use Rattle.stream_merge.specs.Passes.{fault_of, of_cursor}
-use Rattle.stream_merge.specs.State.{State, state}
+use Rattle.record_copy.specs.State.{State, state}
 use Rattle.stream_merge.specs.declared.fault.MergeFault.{MergeFault}
 use Rattle.stream_merge.specs.declared.fault.MergeFault.TheVariants.{Damage}
 use Rattle.stream_merge.proofs.States.{written, Nexts, nexts, stays-by, call-sends}

@@ -1,5 +1,5 @@
 use Rattle.std.proofs.Common.{◌-◌}
-use Rattle.stream_merge.specs.State.{state}
+use Rattle.record_copy.specs.State.{state}
 use Rattle.stream_merge.proofs.Copies.{AltsOn}
 use Rattle.stream_merge.proofs.copy.copy_alts.Given as goal
 

@@ -7,7 +7,7 @@ use Rattle.record_parts.specs.ShownViews.{shown_label, shown_stamp}
 use Rattle.record_parts.proofs.ShapeLaws.{label_parts}
 use Rattle.record_writer.specs.declared.writer.Writer.{Writer}
 use Rattle.stream_merge.specs.Meets.{call_of}
-use Rattle.stream_merge.specs.State.{State, state}
+use Rattle.record_copy.specs.State.{State, state}
 use Rattle.stream_merge.specs.declared.fault.MergeFault.TheVariants.{Memory}
 use Rattle.stream_merge.proofs.States.{sent-none}
 use Rattle.stream_merge.proofs.Handed.{sent-handed}

@@ -8,7 +8,7 @@ use Rattle.record_writer.specs.Data.{call_end_inner, call_end_leaf}
 use Rattle.record_writer.specs.View.{writer_view}
 use Rattle.record_writer.specs.Walks.{node_calls}
 use Rattle.stream_merge.specs.Does.{Sent}
-use Rattle.stream_merge.specs.State.{State, state}
+use Rattle.record_copy.specs.State.{State, state}
 use Rattle.stream_merge.specs.declared.fault.MergeFault.{MergeFault}
 use Rattle.stream_merge.proofs.Handed.{sent-handed, called}
 use Rattle.stream_merge.proofs.Puts.{fresh_calls, calls-left, nowhere, node-sent, opened, inside-open, is-open, sent-as, sent-nothing, call-sent, shaped-kids, shaped-value, leaf-stands, leaf-stays, inner-fails, inner-kids-fail, inner-put, leaf-fails, leaf-alt-fails, leaf-put}

@@ -6,7 +6,7 @@ use Rattle.archive_tree.specs.View.{stamp_view}
 use Rattle.record_cursor.specs.View.{PlainCursor}
 use Rattle.record_writer.specs.View.{writer_view}
 use Rattle.stream_merge.specs.Does.{Sent}
-use Rattle.stream_merge.specs.State.{State, state}
+use Rattle.record_copy.specs.State.{State, state}
 use Rattle.stream_merge.specs.declared.fault.MergeFault.{MergeFault}
 use Rattle.stream_merge.proofs.Puts.{fresh_calls}
 use Rattle.stream_merge.proofs.Weaving.{AreShapedKids}

@@ -6,7 +6,7 @@ use Rattle.record_parts.specs.ShownViews.{shown_body}
 use Rattle.record_writer.specs.Data.{call_alt}
 use Rattle.stream_merge.specs.Does.{Sent}
 use Rattle.stream_merge.specs.Passes.{of_spell}
-use Rattle.stream_merge.specs.State.{State, state}
+use Rattle.record_copy.specs.State.{State, state}
 use Rattle.stream_merge.specs.declared.fault.MergeFault.{MergeFault}
 use Rattle.stream_merge.proofs.Handed.{sent-handed, called}
 use Rattle.stream_merge.proofs.Puts.{call-sent, unspelled}

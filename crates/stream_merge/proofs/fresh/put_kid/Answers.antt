@@ -4,7 +4,7 @@ use Rattle.keyed_parts.specs.View.{kid_view}
 use Rattle.archive_tree.specs.Data.{Stamp}
 use Rattle.archive_tree.specs.View.{stamp_view}
 use Rattle.stream_merge.specs.Passes.{fault_of}
-use Rattle.stream_merge.specs.State.{State, state}
+use Rattle.record_copy.specs.State.{State, state}
 use Rattle.stream_merge.proofs.Puts.{calls-alone, fresh_calls, sent-as}
 use Rattle.stream_merge.proofs.fresh.put_kid.Goals as goal
 

@@ -7,7 +7,7 @@ use Rattle.record_parts.specs.Shapes.{FitsLabel}
 use Rattle.record_parts.specs.ShownViews.{shown_label}
 use Rattle.stream_merge.specs.Meets.{call_of}
 use Rattle.stream_merge.specs.Passes.{fault_of, of_spell}
-use Rattle.stream_merge.specs.State.{State, state}
+use Rattle.record_copy.specs.State.{State, state}
 use Rattle.stream_merge.proofs.Handed.{sent-handed}
 use Rattle.stream_merge.proofs.Puts.{fits-label, sent-as, unspelled}
 use Rattle.stream_merge.proofs.fresh.put_opening.Goals as goal

@@ -3,7 +3,7 @@ use Rattle.version_set.specs.View.{pairs_of}
 use Rattle.keyed_parts.specs.View.{kids_view}
 use Rattle.archive_tree.specs.Data.{Stamp}
 use Rattle.stream_merge.specs.Passes.{fault_of}
-use Rattle.stream_merge.specs.State.{State, state}
+use Rattle.record_copy.specs.State.{State, state}
 use Rattle.stream_merge.proofs.Puts.{fresh_calls, sent-as}
 use Rattle.stream_merge.proofs.fresh.put_started.Goals as goal
 

@@ -5,7 +5,7 @@ use Rattle.record_writer.specs.Data.{call_alt, call_end_leaf}
 use Rattle.record_writer.specs.Walks.{alt_calls}
 use Rattle.stream_merge.specs.Does.{Sent}
 use Rattle.stream_merge.specs.Meets.{new_alts}
-use Rattle.stream_merge.specs.State.{state}
+use Rattle.record_copy.specs.State.{state}
 use Rattle.stream_merge.specs.declared.fault.MergeFault.{MergeFault}
 use Rattle.stream_merge.proofs.Alternatives.{closes-found, closes-unsent, closes-new}
 use Rattle.stream_merge.proofs.Handed.{sent-handed, called}

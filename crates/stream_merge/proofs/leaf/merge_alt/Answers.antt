@@ -5,7 +5,7 @@ use Rattle.record_parts.specs.ShownViews.{shown_body}
 use Rattle.record_parts.proofs.ShapeLaws.{value_parts}
 use Rattle.record_writer.specs.Data.{call_alt}
 use Rattle.record_writer.specs.declared.writer.Writer.{Writer}
-use Rattle.stream_merge.specs.State.{State, state}
+use Rattle.record_copy.specs.State.{State, state}
 use Rattle.stream_merge.proofs.OneAlt.{alt-handed, alt-failed, alt-stopped, alt-sent, alt-unsent, alt-end, alt-other}
 use Rattle.stream_merge.proofs.States.{Nexts, call-sends, nexts, stays-by}
 use Rattle.stream_merge.proofs.leaf.merge_alt.Given.{Over}

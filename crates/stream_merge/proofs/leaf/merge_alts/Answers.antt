@@ -5,7 +5,7 @@ use Rattle.record_parts.specs.ShownViews.{shown_body}
 use Rattle.record_parts.specs.declared.views.BodyView.{BodyView}
 use Rattle.stream_merge.specs.LeafMerged.{AltsMerged}
 use Rattle.stream_merge.specs.Passes.{fault_of}
-use Rattle.stream_merge.specs.State.{State, state}
+use Rattle.record_copy.specs.State.{State, state}
 use Rattle.stream_merge.specs.View.{inherited_view}
 use Rattle.stream_merge.proofs.Alternatives.{alts-unspelled}
 use Rattle.stream_merge.proofs.leaf.merge_alts.Goals as goal

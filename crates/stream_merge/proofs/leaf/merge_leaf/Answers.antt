@@ -6,7 +6,7 @@ use Rattle.record_cursor.specs.View.{PlainCursor}
 use Rattle.record_writer.specs.declared.writer.Writer.{Writer}
 use Rattle.stream_merge.specs.LeafMerged.{AltsMerged}
 use Rattle.stream_merge.specs.Passes.{fault_of}
-use Rattle.stream_merge.specs.State.{State, state}
+use Rattle.record_copy.specs.State.{State, state}
 use Rattle.stream_merge.specs.View.{PlainInherited}
 use Rattle.stream_merge.proofs.Alternatives.{leaf-merged, leaf-copied, leaf-damaged}
 use Rattle.stream_merge.proofs.leaf.merge_leaf.Given.{Over}

@@ -1,7 +1,7 @@
 use Rattle.std.proofs.Common.{◌||◌, Bool, sym, ap, ◌∙◌}
 use Rattle.record_cursor.specs.View.{PlainCursor}
 use Rattle.record_writer.specs.declared.writer.Writer.{Writer}
-use Rattle.stream_merge.specs.State.{State, state}
+use Rattle.record_copy.specs.State.{State, state}
 use Rattle.stream_merge.proofs.Alternatives.{merging-none, merging-more, merging-nearer, alts-failed, alts-closed}
 use Rattle.stream_merge.proofs.leaf.merge_spelled.Given.{Over}
 use Rattle.stream_merge.proofs.leaf.merge_spelled.Goals as goal

@@ -1,6 +1,6 @@
 use Rattle.std.proofs.Common.{◌-◌}
 use Rattle.record_parts.specs.ShownViews.{shown_body}
-use Rattle.stream_merge.specs.State.{state}
+use Rattle.record_copy.specs.State.{state}
 use Rattle.stream_merge.specs.View.{inherited_view}
 use Rattle.stream_merge.proofs.Alternatives.{Merging}
 use Rattle.stream_merge.proofs.leaf.merge_spelled.Given as goal

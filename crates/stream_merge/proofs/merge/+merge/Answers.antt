@@ -10,7 +10,7 @@ use Rattle.record_writer.specs.declared.writer.Writer.{Writer}
 use Rattle.stream_merge.specs.Meets.{IsOpen}
 use Rattle.stream_merge.specs.Passes.{fault_of, of_cursor}
 use Rattle.stream_merge.specs.RowMerged.{RowMerged, ChildMerged, InsideMerged, BegunMerged}
-use Rattle.stream_merge.specs.State.{State, state}
+use Rattle.record_copy.specs.State.{State, state}
 use Rattle.stream_merge.specs.View.{PlainInherited, inherited_view, own_view}
 use Rattle.stream_merge.specs.declared.begin.Kind.{Kind}
 use Rattle.stream_merge.specs.declared.fault.MergeFault.{MergeFault}

@@ -1,6 +1,6 @@
 use Rattle.std.proofs.Common.{◌-◌, ◌*◌, ◌+◌}
 use Rattle.keyed_parts.specs.View.{kids_view}
-use Rattle.stream_merge.specs.State.{state}
+use Rattle.record_copy.specs.State.{state}
 use Rattle.stream_merge.specs.View.{inherited_view}
 use Rattle.stream_merge.proofs.MergedRows.{MergeOn}
 use Rattle.stream_merge.proofs.merge.+merge.Given as goal

@@ -13,9 +13,9 @@ use Rattle.xarch_meanings.specs.FillsUp.{IsLimited}
 use Rattle.xarch_meanings.specs.Plausible.{MayBe, cut_input}
 use Rattle.xarch_meanings.specs.ReadLaws.{reads-once}
 use Rattle.xarch_copies.specs.Making.{behind_front}
-use Rattle.xarch_copies.proofs.Checking.{limited-given, one-read}
 use Rattle.xarch_copies.proofs.CutEnds.{may-end, may-refuse}
 use Rattle.xarch_copies.proofs.cut.run_cut.Goals as goal
+use Rattle.xarch_meanings.proofs.Limited.{one-read, limited-given}
 
 -- the draft is not begun
 pub returns-in_err-begin : goal.returns-in_err-begin

@@ -14,10 +14,10 @@ use Rattle.xarch_meanings.specs.Plausible.{MayBe, join_input}
 use Rattle.xarch_meanings.specs.ReadLaws.{reads-once}
 use Rattle.xarch_copies.specs.Joining.{AreFound, fronts_read}
 use Rattle.xarch_copies.specs.Making.{behind_front}
-use Rattle.xarch_copies.proofs.Checking.{limited-given, one-read}
 use Rattle.xarch_copies.proofs.JoinEnds.{may-end, may-refuse}
 use Rattle.xarch_copies.proofs.JoinPasses.{once-begun, once-made}
 use Rattle.xarch_copies.proofs.join.run_join.Goals as goal
+use Rattle.xarch_meanings.proofs.Limited.{one-read, limited-given}
 
 -- the draft is not begun
 pub returns-in_err-begin : goal.returns-in_err-begin

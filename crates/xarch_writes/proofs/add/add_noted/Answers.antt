@@ -15,10 +15,11 @@ use Rattle.xarch_meanings.specs.Plausible.{MayBe, text_read}
 use Rattle.xarch_meanings.specs.ReadLaws.{reads-once}
 use Rattle.xarch_meanings.specs.FillsUp.{IsLimited}
 use Rattle.xarch_writes.proofs.AddEnds.{may_refuse_note, may_refuse_text, may-ended}
-use Rattle.xarch_writes.proofs.FullEnds.{full-by, given, limited-given, limited-passed}
+use Rattle.xarch_writes.proofs.FullEnds.{full-by, given, limited-passed}
 use Rattle.xarch_writes.proofs.NotesEnds.{note-is}
 use Rattle.xarch_writes.proofs.OnePassEnds.{failed-so, one_pass-merged, one_pass-read}
 use Rattle.xarch_writes.proofs.add.add_noted.Goals as goal
+use Rattle.xarch_meanings.proofs.Limited.{limited-given}
 
 -- the draft is not begun
 pub returns-in_err-begin : goal.returns-in_err-begin

@@ -14,9 +14,10 @@ use Rattle.xarch_writes.specs.Added.{Merges}
 use Rattle.keyed_tree.specs.Data.{PlainKeyed}
 use Rattle.stream_merge.specs.Short.{IsShortTree}
 use Rattle.xarch_words.specs.Refusal.{Refusal}
-use Rattle.xarch_writes.proofs.FullEnds.{limited-given, limited-passed}
+use Rattle.xarch_writes.proofs.FullEnds.{limited-passed}
 use Rattle.xarch_writes.proofs.MergeEnds.{merges-stopped, streams-none}
 use Rattle.xarch_writes.proofs.add.add_text.Goals as goal
+use Rattle.xarch_meanings.proofs.Limited.{limited-given}
 
 -- ---- the bytes spell no document
 

@@ -4,10 +4,11 @@ use Rattle.record_cursor.specs.View.{header_view}
 use Rattle.xarch_words.specs.View.{fault_view}
 use Rattle.stream_merge.specs.Added.{Overfull}
 use Rattle.xarch_parts.proofs.Pushing.{no-fault}
-use Rattle.xarch_writes.proofs.Growing.{grows-none, inside-memory}
+use Rattle.xarch_writes.proofs.Growing.{grows-none}
 use Rattle.xarch_writes.proofs.FullEnds.{limited-merge}
 use Rattle.xarch_writes.proofs.MergeEnds.{told-cause, records-failed, gap-of, keeps-up, roomy}
 use Rattle.xarch_writes.proofs.add.append_records.Goals as goal
+use Rattle.xarch_parts.proofs.NoteLaws.{inside-memory}
 
 -- ---- they were appended
 

@@ -5,9 +5,10 @@ use Rattle.version_notes.specs.Writer.{fresh}
 use Rattle.xarch_parts.specs.Noted.{notes_bytes}
 use Rattle.xarch_words.specs.View.{fault_view}
 use Rattle.xarch_parts.proofs.Pushing.{no-fault}
-use Rattle.xarch_writes.proofs.Growing.{gap-appends, grows-appends, grows-more, grows-none, grows-then, inside-memory}
-use Rattle.xarch_writes.proofs.NotesEnds.{all-read, copied-pushed, copied-used, folder-end, folder-unlimited, gains-behind, notes-cause, notes-end, notes-unlimited, prompt}
+use Rattle.xarch_writes.proofs.Growing.{gap-appends, grows-appends, grows-more, grows-none, grows-then}
+use Rattle.xarch_writes.proofs.NotesEnds.{copied-pushed, copied-used, folder-end, folder-unlimited, gains-behind, notes-end, notes-unlimited, prompt}
 use Rattle.xarch_writes.proofs.notes.append_notes.Goals as goal
+use Rattle.xarch_parts.proofs.NoteLaws.{all-read, notes-cause, inside-memory}
 
 -- ---- they are copied
 

@@ -5,9 +5,9 @@ use Rattle.xarch_words.specs.Refusal.{folder_fault, memory}
 use Rattle.xarch_parts.specs.AllowedLaws.{IfErr-more}
 use Rattle.xarch_writes.specs.Rekeyed.{IsNoArchive, IsSoundOf}
 use Rattle.xarch_parts.proofs.Pushing.{of-folder}
-use Rattle.xarch_writes.proofs.Growing.{inside-memory}
 use Rattle.xarch_writes.proofs.RekeyEnds.{core-bytes}
 use Rattle.xarch_writes.proofs.rekey.read_records.Goals as goal
+use Rattle.xarch_parts.proofs.NoteLaws.{inside-memory}
 
 pub returns-in-Ok-clause-sound : goal.returns-in-Ok-clause-sound
 returns-in-Ok-clause-sound g c = λ files bytes told core.
