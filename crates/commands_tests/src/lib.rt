@@ -1,4 +1,5 @@
-//! Tests of the commands that make no archive of another: what they read, write and say.
+//! Tests of the commands that make no archive of another: what they read, write and say; and what stays of a real file
+//! that nothing can be added to.
 #![tactic(auto)]
 
 #[cfg(test)]
@@ -13,5 +14,7 @@ mod log;
 mod notes;
 #[cfg(test)]
 mod numbers;
+#[cfg(test)]
+mod real_folder;
 #[cfg(test)]
 mod tables;

@@ -1,3 +1,6 @@
+ghost use Rattle.std.specs.Prelude.{◌≡◌, [], ◌∷◌, IfOk};
+ghost use Rattle.xa_outside.specs.InMemory.{sink_state};
+
 use std::alloc::{AllocError, Global};
 use worked_parts::bytes::{Pieces, joined};
 use xa_outside::{MemSink, MemSource};
@@ -34,7 +37,18 @@ fn source(alloc: Global, outside: &Outside) -> Result<MemSource, AllocError> {
 }
 
 /// The ends of a run over this outside.
-pub fn ends_of(alloc: Global, outside: &Outside) -> Result<Ends, AllocError> {
+pub fn ends_of(alloc: Global, outside: &Outside) -> Result<Ends, AllocError>
+    ensures out { IfOk result (λ ends. sink_state ends.out ≡ record {
+      taken = [];
+      plan = record { fails = outside.now.output_fails.now; made = 0 };
+      starved = 0;
+    }) }
+    ensures err { IfOk result (λ ends. sink_state ends.err ≡ record {
+      taken = [];
+      plan = record { fails = outside.now.error_fails.now; made = 0 };
+      starved = 0;
+    }) }
+{
     let output_fails = Vec::from_slice(alloc, outside.output_fails)?;
     let error_fails = Vec::from_slice(alloc, outside.error_fails)?;
     let input = source(alloc, outside)?;
@@ -44,7 +58,13 @@ pub fn ends_of(alloc: Global, outside: &Outside) -> Result<Ends, AllocError> {
 }
 
 /// A sink whose write of this number fails.
-pub fn sink(alloc: Global, fail: u64) -> Result<MemSink, AllocError> {
+pub fn sink(alloc: Global, fail: u64) -> Result<MemSink, AllocError>
+    ensures { IfOk result (λ sink. sink_state sink ≡ record {
+      taken = [];
+      plan = record { fails = fail ∷ []; made = 0 };
+      starved = 0;
+    }) }
+{
     let fails = vec![in alloc; fail]?;
     Ok(MemSink::new(alloc, fails))
 }

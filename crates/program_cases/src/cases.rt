@@ -1,4 +1,6 @@
 //! Cases over a folder in memory: what is done there, and what has to come of it.
+ghost use Rattle.std.specs.Prelude.{◌≡◌, ◌<◌, OnOk, OnErr};
+
 use outside_cases::{
     Ends, Outside, Pieces, QUIET, are_joined, ends_of, is_prefix, joined, texts, told,
 };
@@ -284,7 +286,10 @@ fn first_unmet(alloc: Global, state: &mut State, steps: &[Step]) -> usize {
 }
 
 /// Fails with the name of the case and the number of its first step that goes otherwise; 0 stands for none.
-fn gone(name: &str, unmet: usize) -> Result<(), Fail> {
+fn gone(name: &str, unmet: usize) -> Result<(), Fail>
+    ensures ok { OnOk result (unmet ≡ 0) }
+    ensures err { OnErr result (0 < unmet) }
+{
     if unmet == 0 {
         Ok(())
     } else {

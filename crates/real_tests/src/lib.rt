@@ -1,4 +1,4 @@
-//! Tests of the real folder and streams, alone and below whole commands.
+//! Tests of the real folder and streams.
 #![tactic(auto)]
 
 #[cfg(test)]

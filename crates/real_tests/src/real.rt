@@ -1,39 +1,50 @@
+use outside_cases::{holds, is_stored};
 use real_objects::{DiskFolder, ReaderSource, WriterSink};
-use std::alloc::{AllocError, Global};
+use std::alloc::Global;
 use std::fs;
 use std::fs::Permissions;
 use std::os::unix::fs::{PermissionsExt, symlink};
 use std::rt::Files;
 use std::test::Fail;
-use xa_outside::{Folder, MemSink, MemSource, Sink, Source, fill_at};
-use xarch_run::run;
-
-/// Whether a draft of these pieces is committed under this name.
-fn is_stored(folder: &mut DiskFolder<HostRuntime>, name: &str, pieces: &[&[u8]]) -> bool {
-    let mut is_written = folder.begin().is_ok();
-    for piece in pieces {
-        is_written = is_written && folder.append(piece).is_ok();
-    }
-    is_written && folder.commit(name).is_ok()
-}
-
-/// Whether these bytes stand in the file of this name from the offset on.
-fn holds(
-    folder: &mut DiskFolder<HostRuntime>,
-    alloc: Global,
-    name: &str,
-    at: u32,
-    bytes: &[u8],
-) -> Result<bool, AllocError> {
-    let mut found = vec![in alloc; 0u8; bytes.len()]?;
-    let count = fill_at(folder, name, at as u64, &mut found);
-    Ok(count == Ok(bytes.len()) && found.as_slice() == bytes)
-}
+use xa_outside::{Folder, Sink, Source};
 
 /// Whether neither the length nor a byte of what has this name is told.
 fn is_refused(folder: &mut DiskFolder<HostRuntime>, name: &str) -> bool {
     let mut one = [0u8; 1];
     folder.length(name).is_err() && folder.read_at(name, 0, &mut one).is_err()
+}
+
+/// Whether under each of these names its own bytes are stored.
+fn are_stored(folder: &mut DiskFolder<HostRuntime>, names: &[&str]) -> bool {
+    for name in names {
+        if !is_stored(folder, name, &[name.as_bytes()]) {
+            return false;
+        }
+    }
+    true
+}
+
+/// Whether the file of each of these names holds the name's own bytes from the offset on, read in this order.
+fn are_held(folder: &mut DiskFolder<HostRuntime>, alloc: Global, names: &[&str], at: u32) -> bool {
+    for name in names {
+        let Some(rest) = name.as_bytes().get(at as usize..) else {
+            return false;
+        };
+        if !holds(folder, alloc, name, at, rest) {
+            return false;
+        }
+    }
+    true
+}
+
+/// Whether each of these names is taken away.
+fn are_removed(rt: &HostRuntime, names: &[&str]) -> bool {
+    for name in names {
+        if fs::remove_file(rt, name).is_err() {
+            return false;
+        }
+    }
+    true
 }
 
 #[test]
@@ -42,11 +53,11 @@ fn the_real_folder_reads_what_was_committed(rt: HostRuntime) -> Result<(), Fail>
     let long = vec![in rt.alloc(); b'x'; 70_000]?;
     let mut folder = DiskFolder::new(&rt, rt.alloc());
     let is_stored = is_stored(&mut folder, name, &[b"first, ", &long, b", last"]);
-    assert!(rt; is_stored && folder.length(name) == Ok(Some(70_013)));
-    assert!(rt; holds(&mut folder, rt.alloc(), name, 70_007, b", last")?);
-    assert!(rt; holds(&mut folder, rt.alloc(), name, 7, &long)?);
-    fs::remove_file(&rt, name)?;
-    assert!(rt; folder.length(name) == Ok(None));
+    let is_read = is_stored
+        && folder.length(name) == Ok(Some(70_013))
+        && holds(&mut folder, rt.alloc(), name, 70_007, b", last")
+        && holds(&mut folder, rt.alloc(), name, 7, &long);
+    assert!(rt; is_read && are_removed(&rt, &[name]) && folder.length(name) == Ok(None));
     Ok(())
 }
 
@@ -61,98 +72,73 @@ fn folders_and_the_draft_are_no_files(rt: HostRuntime) {
 }
 
 #[test]
-fn a_file_that_stands_open_is_read_anew_after_a_commit(rt: HostRuntime) -> Result<(), Fail> {
+fn a_file_that_stands_open_is_read_anew_after_a_commit(rt: HostRuntime) {
     let name = "xarch-test-of-a-second-commit";
     let mut folder = DiskFolder::new(&rt, rt.alloc());
-    for bytes in [b"old", b"new"] {
-        let is_stored = is_stored(&mut folder, name, &[bytes]);
-        assert!(rt; is_stored && holds(&mut folder, rt.alloc(), name, 0, bytes)?);
-    }
-    fs::remove_file(&rt, name)?;
-    Ok(())
+    let is_read_anew = is_stored(&mut folder, name, &[b"old"])
+        && holds(&mut folder, rt.alloc(), name, 0, b"old")
+        && is_stored(&mut folder, name, &[b"new"])
+        && holds(&mut folder, rt.alloc(), name, 0, b"new");
+    assert!(rt; is_read_anew && are_removed(&rt, &[name]));
 }
 
 #[test]
-fn the_older_of_two_open_files_is_read_anew_after_a_commit(rt: HostRuntime) -> Result<(), Fail> {
+fn the_older_of_two_open_files_is_read_anew_after_a_commit(rt: HostRuntime) {
     let name = "xarch-test-of-the-older-file";
     let other = "xarch-test-of-the-newer-file";
     let mut folder = DiskFolder::new(&rt, rt.alloc());
-    assert!(rt; is_stored(&mut folder, other, &[b"other"]));
-    assert!(rt; is_stored(&mut folder, name, &[b"old"]));
-    assert!(rt; holds(&mut folder, rt.alloc(), name, 0, b"old")?);
-    assert!(rt; holds(&mut folder, rt.alloc(), other, 0, b"other")?);
-    assert!(rt; is_stored(&mut folder, name, &[b"new"]));
-    assert!(rt; holds(&mut folder, rt.alloc(), name, 0, b"new")?);
-    assert!(rt; holds(&mut folder, rt.alloc(), other, 0, b"other")?);
-    fs::remove_file(&rt, name)?;
-    fs::remove_file(&rt, other)?;
-    Ok(())
+    let is_open = is_stored(&mut folder, other, &[b"other"])
+        && is_stored(&mut folder, name, &[b"old"])
+        && holds(&mut folder, rt.alloc(), name, 0, b"old")
+        && holds(&mut folder, rt.alloc(), other, 0, b"other");
+    let is_read_anew = is_open
+        && is_stored(&mut folder, name, &[b"new"])
+        && holds(&mut folder, rt.alloc(), name, 0, b"new")
+        && holds(&mut folder, rt.alloc(), other, 0, b"other");
+    assert!(rt; is_read_anew && are_removed(&rt, &[name, other]));
 }
 
 #[test]
-fn two_files_stand_open_side_by_side(rt: HostRuntime) -> Result<(), Fail> {
+fn two_files_stand_open_side_by_side(rt: HostRuntime) {
     let names = ["xarch-test-of-one-of-two", "xarch-test-of-the-other"];
     let mut folder = DiskFolder::new(&rt, rt.alloc());
-    for name in names {
-        assert!(rt; is_stored(&mut folder, name, &[name.as_bytes()]));
-    }
-    for name in names {
-        assert!(rt; holds(&mut folder, rt.alloc(), name, 0, name.as_bytes())?);
-    }
+    let is_open = are_stored(&mut folder, &names) && are_held(&mut folder, rt.alloc(), &names, 0);
 
     // (what stands open is read on, though its name is gone)
-    for name in names {
-        fs::remove_file(&rt, name)?;
-    }
+    assert!(rt; is_open && are_removed(&rt, &names));
     for at in 0..20 {
-        for name in names {
-            let rest = &name.as_bytes()[at as usize..];
-            assert!(rt; holds(&mut folder, rt.alloc(), name, at, rest)?);
-        }
+        assert!(rt; are_held(&mut folder, rt.alloc(), &names, at));
     }
-    Ok(())
 }
 
 #[test]
-fn a_third_open_file_replaces_the_older_of_two(rt: HostRuntime) -> Result<(), Fail> {
-    let names = [
-        "xarch-test-of-the-first",
-        "xarch-test-of-the-second",
-        "xarch-test-of-the-third",
-    ];
-    let [first, second, third] = names;
+fn a_third_open_file_replaces_the_older_of_two(rt: HostRuntime) {
+    let first = "xarch-test-of-the-first";
+    let second = "xarch-test-of-the-second";
+    let third = "xarch-test-of-the-third";
+    let in_turn = [first, second, third, first, second, third];
     let mut folder = DiskFolder::new(&rt, rt.alloc());
-    for name in names {
-        assert!(rt; is_stored(&mut folder, name, &[name.as_bytes()]));
-    }
-    for name in [first, second, third, first, second, third] {
-        assert!(rt; holds(&mut folder, rt.alloc(), name, 0, name.as_bytes())?);
-    }
+    let is_open = are_stored(&mut folder, &[first, second, third])
+        && are_held(&mut folder, rt.alloc(), &in_turn, 0);
 
     // (the last two stand open, and are read on though their names are gone; the first does not)
-    for name in names {
-        fs::remove_file(&rt, name)?;
-    }
-    for name in [second, third, second] {
-        assert!(rt; holds(&mut folder, rt.alloc(), name, 0, name.as_bytes())?);
-    }
-    assert!(rt; !holds(&mut folder, rt.alloc(), first, 0, first.as_bytes())?);
-    Ok(())
+    assert!(rt; is_open && are_removed(&rt, &[first, second, third]));
+    assert!(rt; are_held(&mut folder, rt.alloc(), &[second, third, second], 0));
+    assert!(rt; !holds(&mut folder, rt.alloc(), first, 0, first.as_bytes()));
 }
 
 #[test]
-fn a_draft_does_not_go_through_a_link(rt: HostRuntime) -> Result<(), Fail> {
+fn a_draft_does_not_go_through_a_link(rt: HostRuntime) {
     let other = "xarch-test-of-another-file";
     let name = "xarch-test-of-a-draft";
     let mut folder = DiskFolder::new(&rt, rt.alloc());
-    assert!(rt; is_stored(&mut folder, other, &[b"other"]));
-    symlink(&rt, other, ".xarch-draft")?;
-    assert!(rt; is_stored(&mut folder, name, &[b"draft"]));
-    assert!(rt; holds(&mut folder, rt.alloc(), other, 0, b"other")?);
-    assert!(rt; holds(&mut folder, rt.alloc(), name, 0, b"draft")?);
-    fs::remove_file(&rt, other)?;
-    fs::remove_file(&rt, name)?;
-    Ok(())
+    let is_linked = is_stored(&mut folder, other, &[b"other"])
+        && symlink(&rt, other, ".xarch-draft").is_ok()
+        && is_stored(&mut folder, name, &[b"draft"]);
+    let is_apart = is_linked
+        && holds(&mut folder, rt.alloc(), other, 0, b"other")
+        && holds(&mut folder, rt.alloc(), name, 0, b"draft");
+    assert!(rt; is_apart && are_removed(&rt, &[other, name]));
 }
 
 #[test]
@@ -167,54 +153,6 @@ fn a_file_that_may_not_be_looked_at_is_not_absent(rt: HostRuntime) -> Result<(),
     let length = folder.length(inside);
     assert!(rt; length.is_err() || is_root);
     fs::remove_dir(&rt, closed)?;
-    Ok(())
-}
-
-/// The status of these words, which write nothing and have no input.
-fn status_of(
-    folder: &mut DiskFolder<HostRuntime>,
-    alloc: Global,
-    words: &[&str],
-) -> Result<u8, AllocError> {
-    let mut texts = Vec::new(alloc);
-    for word in words {
-        texts.push(String::from_str(alloc, word)?)?;
-    }
-    let mut input = MemSource::new(Vec::new(alloc), Vec::new(alloc));
-    let mut out = MemSink::new(alloc, Vec::new(alloc));
-    let mut err = MemSink::new(alloc, Vec::new(alloc));
-    Ok(run(alloc, &texts, folder, &mut input, &mut out, &mut err))
-}
-
-/// An archive of one version that has no node.
-const DAMAGED: &[u8] = b"XARC1\n\0\0\0\x0e(/, (db, {}))\n\0\0\0\x01\x09\0\0\0\0\0\0\0\0";
-
-#[test]
-fn what_cannot_be_added_leaves_the_real_file(rt: HostRuntime) -> Result<(), Fail> {
-    let alloc = rt.alloc();
-    let words = ["add", "xarch-test-archive", "xarch-test-document"];
-    let [_, archive, doc] = words;
-    let mut folder = DiskFolder::new(&rt, alloc);
-    let is_archived = is_stored(&mut folder, archive, &[DAMAGED]);
-    assert!(rt; is_archived && is_stored(&mut folder, doc, &[b"[\"db\"]\n"]));
-    assert!(rt; status_of(&mut folder, alloc, &words)? == 11);
-    assert!(rt; holds(&mut folder, alloc, archive, 0, DAMAGED)?);
-
-    // A folder stands where the draft would have to be written.
-    folder.discard();
-    fs::create_dir(&rt, ".xarch-draft")?;
-    assert!(rt; status_of(&mut folder, alloc, &words)? == 13);
-    assert!(rt; holds(&mut folder, alloc, archive, 0, DAMAGED)?);
-    fs::remove_dir(&rt, ".xarch-draft")?;
-
-    // The document has 65 MiB.
-    let piece = vec![in alloc; b' '; 1_048_576]?;
-    assert!(rt; is_stored(&mut folder, doc, &[piece.as_slice(); 65]));
-    assert!(rt; status_of(&mut folder, alloc, &words)? == 12);
-    assert!(rt; holds(&mut folder, alloc, archive, 0, DAMAGED)?);
-    folder.discard();
-    fs::remove_file(&rt, doc)?;
-    fs::remove_file(&rt, archive)?;
     Ok(())
 }
 
