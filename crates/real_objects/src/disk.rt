@@ -1,4 +1,4 @@
-ghost use Rattle.std.specs.Prelude.{◌≡◌, ◌≤◌, None, IfSome, length};
+ghost use Rattle.std.specs.Prelude.{◌≡◌, ◌≤◌, ◌⊎◌, [], None, IfSome, IsTrue, IsFalse, length};
 ghost use Rattle.xa_outside.specs.Causes.{Rose};
 ghost use Rattle.xa_outside.specs.Meter.{numbers};
 ghost use Rattle.xa_outside.specs.Numbers.{numbers_none};
@@ -11,16 +11,26 @@ use std::mem;
 use std::rt::Files;
 use xa_outside::{Failed, Folder, Meter};
 
-/// Where a draft is written, in the folder that the program runs in. No file of a user has this name.
+/// Where a draft is written, in the folder that the program runs in. No file of a user has this name, in any folder.
 const DRAFT: &str = ".xarch-draft";
+
+/// Whether a name is that of a draft: what stands behind its last slash, if it has one. So the draft is told by each
+/// spelling of its path.
+fn is_draft(name: &str) -> bool {
+    match name.as_bytes().strip_suffix(DRAFT.as_bytes()) {
+        Some(front) => front.is_empty() || front.ends_with(b"/"),
+        None => false,
+    }
+}
 
 /// How much of a draft is gathered before it is written.
 const GATHERED: usize = 65536;
 
 /// The files of the folder that the program runs in.
 ///
-/// It keeps the two files that it last opened and reads ahead in pages, so that two are read side by side. What is appended is gathered, and written to a draft
-/// file that `commit` renames. It tells no files: what the system holds is trusted.
+/// It keeps the two files that it last opened and reads ahead in pages, so that two are read side by side: each has at most 16 pages
+/// of 32 KiB. What is appended is gathered, 64 KiB at most, and written to a draft file that `commit` renames. The draft's name is
+/// refused, and want of memory is a failure as any other. It tells no files: what the system holds is trusted.
 #[derive(Drop)]
 pub struct DiskFolder<'a, R: Files> {
     rt: &'a R,
@@ -29,6 +39,8 @@ pub struct DiskFolder<'a, R: Files> {
     opened_before: Option<Opened<R::File>>,
     draft: Option<R::File>,
     gathered: Vec<u8>,
+    // A write to the draft failed, so how much of it stands there is not known.
+    is_spoiled: bool,
     meter: Meter,
     faults: u64,
 }
@@ -43,9 +55,10 @@ fn make_draft<R: Files>(rt: &R) -> Option<R::File> {
 }
 
 impl<'a, R: Files> DiskFolder<'a, R> {
+    /// The folder, of which nothing is read or drafted yet.
     pub fn new(rt: &'a R, alloc: Global) -> DiskFolder<'a, R>
-        ensures counts { numbers result.meter ≡ numbers_none }
-        ensures faults { result.faults ≡ 0 }
+        ensures counts { ⟦<DiskFolder<'a, R> as Folder>⟧.numbers result ≡ numbers_none }
+        ensures faults { ⟦<DiskFolder<'a, R> as Folder>⟧.faults result ≡ 0 }
     {
         DiskFolder {
             rt,
@@ -54,6 +67,7 @@ impl<'a, R: Files> DiskFolder<'a, R> {
             opened_before: None,
             draft: None,
             gathered: Vec::new(alloc),
+            is_spoiled: false,
             meter: Meter::new(),
             faults: 0,
         }
@@ -61,8 +75,10 @@ impl<'a, R: Files> DiskFolder<'a, R> {
 
     /// Removes a draft that was not committed.
     pub fn discard(&mut self)
-        ensures meter { self.new.meter ≡ self.old.meter }
-        ensures faults { self.new.faults ≡ self.old.faults }
+        ensures counts { ⟦<DiskFolder<'a, R> as Folder>⟧.numbers self.new
+            ≡ ⟦<DiskFolder<'a, R> as Folder>⟧.numbers self.old }
+        ensures faults { ⟦<DiskFolder<'a, R> as Folder>⟧.faults self.new
+            ≡ ⟦<DiskFolder<'a, R> as Folder>⟧.faults self.old }
     {
         if self.draft.take().is_some() {
             let _ = self.rt.remove_file(DRAFT);
@@ -95,7 +111,7 @@ impl<'a, R: Files> DiskFolder<'a, R> {
         ensures meter { self.new.meter ≡ self.old.meter }
         ensures faults { self.new.faults ≡ self.old.faults }
     {
-        if name == DRAFT {
+        if is_draft(name) {
             return None;
         }
         if let Some(opened) = &mut self.opened {
@@ -127,40 +143,73 @@ impl<'a, R: Files> DiskFolder<'a, R> {
         }
     }
 
+    /// Makes the file the draft, of which nothing is gathered.
+    fn start(&mut self, file: R::File)
+        ensures gathered { self.new.gathered.items ≡ [] }
+        ensures sound { IsFalse self.new.is_spoiled }
+        ensures meter { self.new.meter ≡ self.old.meter }
+        ensures faults { self.new.faults ≡ self.old.faults }
+    {
+        self.draft = Some(file);
+        self.gathered.clear();
+        self.is_spoiled = false;
+    }
+
     /// Writes what was gathered. None on a failure.
     fn flush(&mut self) -> Option<()>
+        ensures gathered { IfSome result (λ done. self.new.gathered.items ≡ []) }
+        ensures spoiled { result ≡ None → (self.old.draft ≡ None) ⊎ IsTrue self.new.is_spoiled }
         ensures meter { self.new.meter ≡ self.old.meter }
         ensures faults { self.new.faults ≡ self.old.faults }
     {
         let file = self.draft.as_mut()?;
-        file.write_all(&self.gathered).ok()?;
+        if file.write_all(&self.gathered).is_err() {
+            self.is_spoiled = true;
+            return None;
+        }
         self.gathered.clear();
+        Some(())
+    }
+
+    /// Writes a piece. None on a failure.
+    fn write_piece(&mut self, piece: &[u8]) -> Option<()>
+        ensures spoiled { result ≡ None → (self.old.draft ≡ None) ⊎ IsTrue self.new.is_spoiled }
+        ensures meter { self.new.meter ≡ self.old.meter }
+        ensures faults { self.new.faults ≡ self.old.faults }
+    {
+        let file = self.draft.as_mut()?;
+        if file.write_all(piece).is_err() {
+            self.is_spoiled = true;
+            return None;
+        }
         Some(())
     }
 
     /// Gathers a piece, or writes it where it is long. None on a failure.
     fn gather(&mut self, piece: &[u8]) -> Option<()>
+        ensures sound { IsTrue self.old.is_spoiled → result ≡ None }
         ensures meter { self.new.meter ≡ self.old.meter }
         ensures faults { self.new.faults ≡ self.old.faults }
     {
-        if self.draft.is_none() {
+        if self.draft.is_none() || self.is_spoiled {
             return None;
         }
         if self.gathered.len().saturating_add(piece.len()) > GATHERED {
             self.flush()?;
         }
         if piece.len() >= GATHERED {
-            return self.draft.as_mut()?.write_all(piece).ok();
+            return self.write_piece(piece);
         }
         self.gathered.extend_from_slice(piece).ok()
     }
 
     /// Writes what was gathered, and gives the draft its name. None on a failure.
     fn rename_draft(&mut self, name: &str) -> Option<()>
+        ensures sound { IsTrue self.old.is_spoiled → result ≡ None }
         ensures meter { self.new.meter ≡ self.old.meter }
         ensures faults { self.new.faults ≡ self.old.faults }
     {
-        if name == DRAFT {
+        if is_draft(name) || self.is_spoiled {
             return None;
         }
         self.flush()?;
@@ -195,7 +244,7 @@ impl<R: Files> Folder for DiskFolder<'_, R> {
     ghost metered = { λ f. meter_law f.meter };
 
     fn length(&mut self, name: &str) -> Result<Option<u64>, Failed> {
-        if name == DRAFT {
+        if is_draft(name) {
             return Err(self.fail());
         }
         match self.rt.metadata(name) {
@@ -222,8 +271,7 @@ impl<R: Files> Folder for DiskFolder<'_, R> {
     fn begin(&mut self) -> Result<(), Failed> {
         match make_draft(self.rt) {
             Some(file) => {
-                self.draft = Some(file);
-                self.gathered.clear();
+                self.start(file);
                 self.meter.begin();
                 Ok(())
             }

@@ -44,6 +44,12 @@ pub enum Found<F: Drop> {
 
 /// Opens a regular file. None where that fails, or where the name is that of anything else.
 pub fn open<R: Files>(rt: &R, alloc: Global, name: &str) -> Option<Found<R::File>> {
+    // (a pipe would have to be waited for)
+    if let Ok(found) = rt.metadata(name) {
+        if !found.is_file() {
+            return None;
+        }
+    }
     let file = match fs::open(rt, name) {
         Ok(file) => file,
         Err(error) if error.kind() == ErrorKind::NotFound => return Some(Found::Nothing),

@@ -10,9 +10,11 @@ pub struct ReaderSource<R> {
     faults: u64,
 }
 
-impl<R> ReaderSource<R> {
+impl<R: Read> ReaderSource<R> {
+    /// What the reader has left, as a source that has not failed.
     pub fn new(inner: R) -> ReaderSource<R>
-        ensures { result ≡ record { inner = inner; faults = 0 } }
+        ensures rest { ⟦<ReaderSource<R> as Source>⟧.rest result ≡ R.remaining inner }
+        ensures faults { ⟦<ReaderSource<R> as Source>⟧.faults result ≡ 0 }
     {
         ReaderSource { inner, faults: 0 }
     }
@@ -34,16 +36,20 @@ impl<R: Read> Source for ReaderSource<R> {
     }
 }
 
-/// A writer as a sink, with a count of its failures. Taking nothing of a piece is one.
+/// A writer as a sink, with a count of its failures. Taking nothing of a piece that is not empty is one.
 #[derive(Drop)]
 pub struct WriterSink<W> {
     inner: W,
     faults: u64,
 }
 
-impl<W> WriterSink<W> {
+impl<W: Write> WriterSink<W> {
+    ghost use Rattle.xa_outside.specs.Taken.{plainly};
+
+    /// What the writer has taken, as a sink that has not failed.
     pub fn new(inner: W) -> WriterSink<W>
-        ensures { result ≡ record { inner = inner; faults = 0 } }
+        ensures taken { ⟦<WriterSink<W> as Sink>⟧.taken result ≡ plainly (W.contents inner) }
+        ensures faults { ⟦<WriterSink<W> as Sink>⟧.faults result ≡ 0 }
     {
         WriterSink { inner, faults: 0 }
     }

@@ -1,6 +1,6 @@
 use outside_cases::{holds, is_stored};
 use real_objects::{DiskFolder, ReaderSource, WriterSink};
-use std::alloc::Global;
+use std::alloc::{AllocError, Global};
 use std::fs;
 use std::fs::Permissions;
 use std::os::unix::fs::{PermissionsExt, symlink};
@@ -66,7 +66,10 @@ fn folders_and_the_draft_are_no_files(rt: HostRuntime) {
     let mut folder = DiskFolder::new(&rt, rt.alloc());
     assert!(rt; is_refused(&mut folder, ".") && is_refused(&mut folder, ".xarch-draft"));
     let is_begun = folder.begin().is_ok();
-    assert!(rt; is_begun && folder.commit(".xarch-draft").is_err());
+    let is_told_apart = is_refused(&mut folder, "./.xarch-draft")
+        && folder.commit(".xarch-draft").is_err()
+        && folder.commit("./.xarch-draft").is_err();
+    assert!(rt; is_begun && is_told_apart);
     folder.discard();
     assert!(rt; fs::open(&rt, ".xarch-draft").is_err());
 }
@@ -125,6 +128,62 @@ fn a_third_open_file_replaces_the_older_of_two(rt: HostRuntime) {
     assert!(rt; is_open && are_removed(&rt, &[first, second, third]));
     assert!(rt; are_held(&mut folder, rt.alloc(), &[second, third, second], 0));
     assert!(rt; !holds(&mut folder, rt.alloc(), first, 0, first.as_bytes()));
+}
+
+/// Whether a draft of this piece is begun, and left.
+fn is_abandoned(folder: &mut DiskFolder<HostRuntime>, piece: &[u8]) -> bool {
+    folder.begin().is_ok() && folder.append(piece).is_ok()
+}
+
+#[test]
+fn what_was_appended_to_an_abandoned_draft_is_gone(rt: HostRuntime) {
+    let name = "xarch-test-of-a-second-draft";
+    let mut folder = DiskFolder::new(&rt, rt.alloc());
+    let is_stored = is_abandoned(&mut folder, b"old") && is_stored(&mut folder, name, &[b"new"]);
+    let is_new = is_stored
+        && folder.length(name) == Ok(Some(3))
+        && holds(&mut folder, rt.alloc(), name, 0, b"new");
+    assert!(rt; is_new && are_removed(&rt, &[name]));
+}
+
+/// So many pages of 32 KiB, each of its number.
+fn pages(alloc: Global, count: u8) -> Result<Vec<u8>, AllocError> {
+    let mut bytes = Vec::new(alloc);
+    for number in 0..count {
+        let end = bytes.len().saturating_add(32_768);
+        bytes.resize(end, number)?;
+    }
+    Ok(bytes)
+}
+
+/// Whether the file of this name holds these bytes, read in pieces of 10,000.
+fn is_held_in_pieces(
+    folder: &mut DiskFolder<HostRuntime>,
+    alloc: Global,
+    name: &str,
+    bytes: &[u8],
+) -> bool {
+    let mut at = 0u32;
+    for piece in bytes.chunks(10_000) {
+        if !holds(folder, alloc, name, at, piece) {
+            return false;
+        }
+        at = at.saturating_add(10_000);
+    }
+    true
+}
+
+#[test]
+fn more_pages_than_are_held_are_read_again_and_again(rt: HostRuntime) -> Result<(), Fail> {
+    let name = "xarch-test-of-many-pages";
+    let bytes = pages(rt.alloc(), 19)?;
+    let mut folder = DiskFolder::new(&rt, rt.alloc());
+    assert!(rt; is_stored(&mut folder, name, &[&bytes]));
+    for _ in 0..3 {
+        assert!(rt; is_held_in_pieces(&mut folder, rt.alloc(), name, &bytes));
+    }
+    assert!(rt; are_removed(&rt, &[name]));
+    Ok(())
 }
 
 #[test]
