@@ -1,5 +1,4 @@
-//! Tests of the commands that make no archive of another: what they read, write and say; and what stays of a real file
-//! that nothing can be added to.
+//! Tests of the commands that make no archive of another: what they read, write and say.
 #![tactic(auto)]
 
 #[cfg(test)]
@@ -14,7 +13,5 @@ mod log;
 mod notes;
 #[cfg(test)]
 mod numbers;
-#[cfg(test)]
-mod real_folder;
 #[cfg(test)]
 mod tables;
