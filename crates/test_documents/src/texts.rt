@@ -1,0 +1,389 @@
+ghost use Rattle.jsonml_tree.specs.Fits.{IsElement};
+ghost use Rattle.jsonml_tree.specs.View.{tree_view};
+
+use crate::reading::{lend, read};
+use jsonml_text::{
+    DocFault, Printer, content_of, print_lent_content, read_document, scalar_of, write_tree,
+};
+use jsonml_tree::{Content, LentContent, LentTree, Scalar, Tree};
+use given_outside::{Pieces, joined};
+use serde_json::Value;
+use std::alloc::{AllocError, Global};
+use std::test::Fail;
+use given_parts::told;
+use xa_outside::{Failed, MemSink};
+
+/// A text of more than a mebibyte.
+const LETTERS: (&[u8], usize) = (
+    b"0123456789012345678901234567890123456789012345678901234567890123",
+    17_000,
+);
+
+/// More items than two bytes count.
+const ITEMS: (&[u8], usize) = (b",\"\"", 66_000);
+
+/// 65 attributes.
+const ATTRIBUTES: &[u8] = b"{\"a\":0,\
+    \"b00\":\"x\",\"b01\":\"x\",\"b02\":\"x\",\"b03\":\"x\",\"b04\":\"x\",\"b05\":\"x\",\"b06\":\"x\",\"b07\":\"x\",\
+    \"b10\":\"x\",\"b11\":\"x\",\"b12\":\"x\",\"b13\":\"x\",\"b14\":\"x\",\"b15\":\"x\",\"b16\":\"x\",\"b17\":\"x\",\
+    \"b20\":\"x\",\"b21\":\"x\",\"b22\":\"x\",\"b23\":\"x\",\"b24\":\"x\",\"b25\":\"x\",\"b26\":\"x\",\"b27\":\"x\",\
+    \"b30\":\"x\",\"b31\":\"x\",\"b32\":\"x\",\"b33\":\"x\",\"b34\":\"x\",\"b35\":\"x\",\"b36\":\"x\",\"b37\":\"x\",\
+    \"b40\":\"x\",\"b41\":\"x\",\"b42\":\"x\",\"b43\":\"x\",\"b44\":\"x\",\"b45\":\"x\",\"b46\":\"x\",\"b47\":\"x\",\
+    \"b50\":\"x\",\"b51\":\"x\",\"b52\":\"x\",\"b53\":\"x\",\"b54\":\"x\",\"b55\":\"x\",\"b56\":\"x\",\"b57\":\"x\",\
+    \"b60\":\"x\",\"b61\":\"x\",\"b62\":\"x\",\"b63\":\"x\",\"b64\":\"x\",\"b65\":\"x\",\"b66\":\"x\",\"b67\":\"x\",\
+    \"b70\":\"x\",\"b71\":\"x\",\"b72\":\"x\",\"b73\":\"x\",\"b74\":\"x\",\"b75\":\"x\",\"b76\":\"x\",\"b77\":\"x\"}";
+
+const LENT: &[u8] =
+    b"[\"db\",{\"a\":\"x\\ty\"},\"\\\"one\\\"\",[\"e\",\"plain\"],[\"f\",{\"n\":-7},[\"g\"],\"two\",[\"h\",\"\\n\"]]]";
+
+const ESCAPED: &[u8] =
+    b"[\"a\",\"\\u0000\\u0007\\b\\t\\n\\u000b\\f\\r\\u001f\",\"\\\"\\\\/\x7f\xc3\xa9\"]";
+
+const WORDS: &[u8] =
+    b"[\"a\",{\"f\":false,\"g\":18446744073709551615,\"l\":-9223372036854775808,\"n\":null,\"t\":true}]";
+
+/// An object with a name twice is read by way of a JSON value, and the last value stays.
+const TWICE: &[u8] = b"[\"db\",{\"a\":1,\"a\":2}";
+
+/// A document, and what is printed of it.
+const PRINTED: &[(&str, Pieces, Pieces)] = &[
+    (
+        "no blanks",
+        &[(
+            b" [ \"db\" , { \"b\" : 1 , \"a\" : \"x\" } , [ \"e\" ] , \"t\" ]\n",
+            1,
+        )],
+        &[(b"[\"db\",{\"a\":\"x\",\"b\":1},[\"e\"],\"t\"]", 1)],
+    ),
+    ("all kinds of items", &[(LENT, 1)], &[(LENT, 1)]),
+    (
+        "names of attributes with escapes",
+        &[(b"[\"a\",{\"\\u006e\":1,\"m\\n\":\"x\"}]", 1)],
+        &[(b"[\"a\",{\"m\\n\":\"x\",\"n\":1}]", 1)],
+    ),
+    (
+        "one line feed at the end is left out",
+        &[(b"[\"db\"]\n", 1)],
+        &[(b"[\"db\"]", 1)],
+    ),
+    (
+        "depth 120 is accepted",
+        &[(b"[\"db\"", 1), (b",[\"a\"", 119), (b"]", 120)],
+        &[(b"[\"db\"", 1), (b",[\"a\"", 119), (b"]", 120)],
+    ),
+    (
+        "control characters, quotes and backslashes are escaped",
+        &[(ESCAPED, 1)],
+        &[(ESCAPED, 1)],
+    ),
+    (
+        "attributes are whole numbers of 64 bits and words",
+        &[(WORDS, 1)],
+        &[(WORDS, 1)],
+    ),
+    (
+        "an empty object is no attributes",
+        &[(b"[\"db\",{},\"a\"]", 1)],
+        &[(b"[\"db\",\"a\"]", 1)],
+    ),
+    (
+        "the empty text is an item",
+        &[(b"[\"db\",\"\",\"a\"]", 1)],
+        &[(b"[\"db\",\"\",\"a\"]", 1)],
+    ),
+    (
+        "a document above a mebibyte",
+        &[(b"[\"db\",\"", 1), LETTERS, (b"\"]", 1)],
+        &[(b"[\"db\",\"", 1), LETTERS, (b"\"]", 1)],
+    ),
+    (
+        "a large document in a rare form",
+        &[(TWICE, 1), (b",\"", 1), LETTERS, (b"\"]", 1)],
+        &[(b"[\"db\",{\"a\":2},\"", 1), LETTERS, (b"\"]", 1)],
+    ),
+    (
+        "more items than two bytes count",
+        &[(b"[\"db\"", 1), ITEMS, (b"]", 1)],
+        &[(b"[\"db\"", 1), ITEMS, (b"]", 1)],
+    ),
+    (
+        "as many in a rare form",
+        &[(TWICE, 1), ITEMS, (b"]", 1)],
+        &[(b"[\"db\",{\"a\":2}", 1), ITEMS, (b"]", 1)],
+    ),
+    (
+        "65 attributes",
+        &[(b"[\"db\",", 1), (ATTRIBUTES, 1), (b",\"y\"]", 1)],
+        &[(b"[\"db\",", 1), (ATTRIBUTES, 1), (b",\"y\"]", 1)],
+    ),
+];
+
+fn is_owned(alloc: Global, lent: &LentTree<'_>, tree: &Tree) -> bool {
+    match lent.own(alloc) {
+        Ok(owned) => owned == *tree,
+        Err(_) => false,
+    }
+}
+
+/// Whether the document whose texts are lent is the same tree.
+fn is_lent(alloc: Global, document: &[u8], tree: &Tree) -> bool {
+    match lend(alloc, document) {
+        Some(lent) => is_owned(alloc, &lent, tree),
+        None => false,
+    }
+}
+
+/// Whether this is written of a tree.
+fn is_put(sink: &mut MemSink, tree: &Tree, text: &[u8]) -> bool
+    requires { IsElement (tree_view tree.now) }
+{
+    write_tree(tree, sink).is_ok() && text == sink.taken()
+}
+
+fn is_written(alloc: Global, tree: &Tree, text: Pieces) -> bool
+    requires { IsElement (tree_view tree.now) }
+{
+    let mut sink = MemSink::new(alloc, Vec::new(alloc));
+    match joined(alloc, text) {
+        Ok(text) => is_put(&mut sink, tree, text.as_slice()),
+        Err(_) => false,
+    }
+}
+
+/// Whether both ways to read a document give one tree, and this is printed of it.
+fn is_read_and_written(alloc: Global, document: &[u8], text: Pieces) -> bool {
+    match read(alloc, document) {
+        Some(tree) => is_lent(alloc, document, &tree) && is_written(alloc, &tree, text),
+        None => false,
+    }
+}
+
+fn is_printed(alloc: Global, document: Pieces, text: Pieces) -> bool {
+    match joined(alloc, document) {
+        Ok(document) => is_read_and_written(alloc, &document, text),
+        Err(_) => false,
+    }
+}
+
+#[test]
+fn documents_are_printed(rt: HostRuntime) -> Result<(), Fail> {
+    for (name, document, text) in PRINTED {
+        told(is_printed(rt.alloc(), document, text), name)?;
+    }
+    Ok(())
+}
+
+/// A document that is no tree: the place and why.
+const MISSHAPEN: &[(&[u8], &[u32], u8)] = &[
+    (b"[\"db\",[]]", &[1], 1),
+    (b"[\"db\",[5]]", &[1], 2),
+    (b"[\"db\",{\"a\":\"x\"},{}]", &[1], 3),
+    (b"[\"db\",{\"a\":[]}]", &[], 4),
+    (b"[\"db\",{\"a\":1.5}]", &[], 5),
+    (b"\"db\"", &[], 6),
+    (b"{}", &[], 3),
+    // The first fault in preorder.
+    (b"[\"db\",{},\"x\",[\"e\",[\"f\",null]],[]]", &[2, 1, 1], 3),
+];
+
+fn is_bad_shape(found: &Result<Tree, DocFault>, steps: &[u32], code: u8) -> bool {
+    match found {
+        Err(DocFault::BadShape { place, why }) => place.steps.as_slice() == steps && *why == code,
+        _ => false,
+    }
+}
+
+fn is_misshapen(alloc: Global, document: &[u8], steps: &[u32], code: u8) -> bool {
+    if document.len() > 1000 {
+        return false;
+    }
+    let found = read_document(alloc, document);
+    is_bad_shape(&found, steps, code)
+}
+
+#[test]
+fn shape_faults_have_their_place_and_why(rt: HostRuntime) {
+    for (index, (document, steps, why)) in MISSHAPEN.iter().enumerate() {
+        assert!(rt;
+            is_misshapen(rt.alloc(), document, steps, *why),
+            "document {index}"
+        );
+    }
+}
+
+/// Whether this is too deep, at the first item of the first item and so on.
+fn is_deep_at(found: &Result<Tree, DocFault>, steps: &[u32]) -> bool {
+    match found {
+        Err(DocFault::TooDeep { place }) => place.steps.as_slice() == steps,
+        _ => false,
+    }
+}
+
+fn is_read_as_deep(alloc: Global, document: &[u8], steps: &[u32]) -> bool {
+    if document.len() > 10_000 {
+        return false;
+    }
+    let found = read_document(alloc, document);
+    is_deep_at(&found, steps)
+}
+
+fn is_too_deep(alloc: Global, document: Pieces, steps: &[u32]) -> bool {
+    match joined(alloc, document) {
+        Ok(document) => is_read_as_deep(alloc, &document, steps),
+        Err(_) => false,
+    }
+}
+
+#[test]
+fn depth_121_is_too_deep_at_its_place(rt: HostRuntime) {
+    let document: Pieces = &[(b"[\"db\"", 1), (b",[\"a\"", 120), (b"]", 121)];
+    assert!(rt; is_too_deep(rt.alloc(), document, &[1; 120]));
+}
+
+fn is_bad(found: &Result<Tree, DocFault>) -> bool {
+    matches!(found, Err(DocFault::BadJson))
+}
+
+#[test]
+fn half_an_array_is_bad_json(rt: HostRuntime) {
+    let found = read_document(rt.alloc(), b"[");
+    assert!(rt; is_bad(&found));
+}
+
+// Prints an element that holds more than a text.
+fn print_lent(tree: &LentTree<'_>, sink: &mut MemSink) -> Option<()> {
+    match tree {
+        LentTree::Elem { tag, row } => print_around(tag.as_str(), LentContent::Row(row), sink).ok(),
+        _ => None,
+    }
+}
+
+// Prints an element of this tag and content.
+fn print_around(tag: &str, content: LentContent<'_, '_>, sink: &mut MemSink) -> Result<(), Failed> {
+    let mut printer = Printer::new();
+    printer.begin_elem(sink, tag)?;
+    print_lent_content(content, &mut printer, sink)?;
+    printer.end_elem(sink)
+}
+
+fn is_printed_as(lent: &LentTree<'_>, sink: &mut MemSink, text: &[u8]) -> bool {
+    print_lent(lent, sink).is_some() && sink.taken() == text
+}
+
+fn is_lent_printed(alloc: Global) -> bool {
+    let mut sink = MemSink::new(alloc, Vec::new(alloc));
+    match lend(alloc, LENT) {
+        Some(lent) => is_printed_as(&lent, &mut sink, LENT),
+        None => false,
+    }
+}
+
+#[test]
+fn a_lent_content_is_printed_between_calls(rt: HostRuntime) {
+    assert!(rt; is_lent_printed(rt.alloc()));
+}
+
+/// Whether a scalar was found, the number 3, or none.
+fn is_three(found: &Result<Option<Scalar>, AllocError>, wanted: bool) -> bool {
+    match found {
+        Ok(Some(scalar)) => wanted && *scalar == Scalar::Whole(3),
+        Ok(None) => !wanted,
+        Err(_) => false,
+    }
+}
+
+/// Whether this is the JSON text of the number 3, or of no scalar.
+fn is_text_of_three(alloc: Global, text: &str, wanted: bool) -> bool {
+    match Value::from_str(alloc, text) {
+        Ok(value) => is_three(&scalar_of(alloc, &value), wanted),
+        Err(_) => false,
+    }
+}
+
+fn is_of_text(alloc: Global, content: &Content, text: &str) -> bool {
+    match Content::of_text(alloc, text) {
+        Ok(wanted) => content.same(&wanted),
+        Err(_) => false,
+    }
+}
+
+/// Whether values are the content of this text.
+fn are_content(alloc: Global, values: &[Value], text: &str) -> bool {
+    match content_of(alloc, values) {
+        Ok(Some(content)) => is_of_text(alloc, &content, text),
+        _ => false,
+    }
+}
+
+/// Whether a value is an array whose values are that.
+fn is_content(alloc: Global, value: &Value, text: &str) -> bool {
+    match value {
+        Value::Array(values) => are_content(alloc, values, text),
+        _ => false,
+    }
+}
+
+fn is_array_content(alloc: Global, array: &str, text: &str) -> bool {
+    match Value::from_str(alloc, array) {
+        Ok(value) => is_content(alloc, &value, text),
+        Err(_) => false,
+    }
+}
+
+#[test]
+fn values_are_a_scalar_or_a_content(rt: HostRuntime) {
+    let alloc = rt.alloc();
+    let are_scalars = is_text_of_three(alloc, "3", true) && is_text_of_three(alloc, "[]", false);
+    assert!(rt; are_scalars && is_array_content(alloc, "[\"finance\"]", "finance"));
+}
+
+/// What two elements in one another print by single calls.
+fn print_by_calls(sink: &mut MemSink) -> Result<(), Failed> {
+    let mut printer = Printer::new();
+    printer.begin_elem(sink, "db")?;
+    printer.attr(sink, "a", &Scalar::Whole(-1))?;
+    printer.attr(sink, "b", &Scalar::Null)?;
+    printer.text(sink, "x")?;
+    printer.begin_elem(sink, "e")?;
+    printer.end_elem(sink)?;
+    printer.end_elem(sink)
+}
+
+fn are_calls_printed(alloc: Global) -> bool {
+    let mut sink = MemSink::new(alloc, Vec::new(alloc));
+    let is_printed = print_by_calls(&mut sink).is_ok();
+    is_printed && sink.taken() == b"[\"db\",{\"a\":-1,\"b\":null},\"x\",[\"e\"]]".as_slice()
+}
+
+#[test]
+fn a_list_of_calls_prints_the_same_text(rt: HostRuntime) {
+    assert!(rt; are_calls_printed(rt.alloc()));
+}
+
+/// Whether a write that fails leaves what was written before.
+fn is_prefix_left(sink: &mut MemSink, tree: &Tree) -> bool
+    requires { IsElement (tree_view tree.now) }
+{
+    write_tree(tree, sink).is_err() && sink.taken() == b"[\"db".as_slice()
+}
+
+/// Whether that is so where the sink fails at its third write.
+fn is_prefix_of(alloc: Global, document: &[u8], fails: Vec<u64>) -> bool {
+    let mut sink = MemSink::new(alloc, fails);
+    match read(alloc, document) {
+        Some(tree) => is_prefix_left(&mut sink, &tree),
+        None => false,
+    }
+}
+
+fn is_third_write_failed(alloc: Global) -> bool {
+    match vec![in alloc; 3] {
+        Ok(fails) => is_prefix_of(alloc, b"[\"db\",[\"e\"]]", fails),
+        Err(_) => false,
+    }
+}
+
+#[test]
+fn a_write_that_fails_leaves_a_prefix(rt: HostRuntime) {
+    assert!(rt; is_third_write_failed(rt.alloc()));
+}

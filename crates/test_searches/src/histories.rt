@@ -1,0 +1,173 @@
+// Histories out of a file.
+ghost use Rattle.std.specs.Prelude.{◌≡◌, ◌<◌};
+
+use crate::files::{NAME, ONE, SIX, changed, folder};
+use file_history::{HistoryFault, history};
+use jsonml_tree::Scalar;
+use keyed_tree::{KeyVal, Label, Name};
+use record_cursor::read_header;
+use std::alloc::Global;
+use std::marker::Brand;
+use std::sync::ledger::{Blank, Ledger};
+use std::test::Fail;
+use timestamp_tree::Steps;
+use version_set::VersionSet;
+use given_parts::told;
+use xa_outside::MemFolder;
+
+fn counted<L: Ledger>(
+    blank: Blank,
+    alloc: Global,
+    folder: &mut MemFolder,
+    size: u64,
+    path: &[Label],
+) -> Result<VersionSet, HistoryFault>
+    requires name { blank.name ≡ L.name }
+    requires parts { blank.parts ≡ L.parts }
+    requires some { 0 < blank.parts }
+{
+    let mut steps: Steps<L> = Steps::new(blank);
+    match read_header(alloc, folder, NAME, size) {
+        Ok(header) => history(alloc, folder, NAME, &header, path, &mut steps),
+        Err(fault) => Err(HistoryFault::from(fault)),
+    }
+}
+
+/// The history of a path in the first bytes of the file in the folder.
+pub(crate) fn history_of(
+    alloc: Global,
+    folder: &mut MemFolder,
+    size: u64,
+    path: &[Label],
+) -> Result<VersionSet, HistoryFault> {
+    counted::<Brand>(Blank::new(1), alloc, folder, size, path)
+}
+
+/// The label of an element of this name, with these keys.
+pub(crate) fn label(alloc: Global, name: &str, keys: &[u64]) -> Option<Label> {
+    let name = Name::Tag(String::from_str(alloc, name).ok()?);
+    let mut values = Vec::new(alloc);
+    for key in keys {
+        values
+            .push(KeyVal::Scalar(Scalar::Whole(i128::from(*key))))
+            .ok()?;
+    }
+    Some(Label { name, keys: values })
+}
+
+/// The path of these names and keys.
+fn path(alloc: Global, names: &[(&str, &[u64])]) -> Option<Vec<Label>> {
+    let mut path = Vec::new(alloc);
+    for (name, keys) in names {
+        path.push(label(alloc, name, keys)?).ok()?;
+    }
+    Some(path)
+}
+
+/// Whether the path has this history, and so many bytes are pulled at most.
+fn is_told(alloc: Global, names: &[(&str, &[u64])], pairs: &[(u32, u32)], most: u64) -> bool {
+    let Some(mut folder) = folder(alloc, SIX, 100) else {
+        return false;
+    };
+    let Some(path) = path(alloc, names) else {
+        return false;
+    };
+    match history_of(alloc, &mut folder, SIX.len() as u64, &path) {
+        Ok(set) => set.pairs() == pairs && folder.pulled() <= most,
+        Err(_) => false,
+    }
+}
+
+/// A path, its history, and how many bytes are pulled at most.
+const TOLD: &[(&str, &[(&str, &[u64])], &[(u32, u32)], u64)] = &[
+    ("the empty path", &[], &[(1, 6)], 54),
+    ("the root", &[("db", &[])], &[(1, 6)], 112),
+    (
+        "a child",
+        &[("db", &[]), ("e", &[3])],
+        &[(2, 2), (5, 5)],
+        397,
+    ),
+    (
+        "the last child",
+        &[("db", &[]), ("e", &[8])],
+        &[(4, 4)],
+        397,
+    ),
+    ("no child", &[("db", &[]), ("e", &[9])], &[], 397),
+    (
+        "no child of a leaf",
+        &[("db", &[]), ("e", &[3]), ("f", &[])],
+        &[],
+        397,
+    ),
+    ("another root", &[("dc", &[])], &[], 112),
+];
+
+#[test]
+fn histories_are_told(rt: HostRuntime) -> Result<(), Fail> {
+    for (what, names, pairs, most) in TOLD {
+        let holds = is_told(rt.alloc(), names, pairs, *most);
+        assert!(rt; holds, "{what}");
+    }
+    Ok(())
+}
+
+/// Whether the history of `db` is refused so, where a read of this number fails.
+fn is_refused(alloc: Global, file: &[u8], wanted: HistoryFault, read: u64) -> bool {
+    let Some(mut folder) = folder(alloc, file, read) else {
+        return false;
+    };
+    match path(alloc, &[("db", &[])]) {
+        Some(path) => match history_of(alloc, &mut folder, file.len() as u64, &path) {
+            Ok(_) => false,
+            Err(fault) => fault == wanted,
+        },
+        None => false,
+    }
+}
+
+#[test]
+fn a_read_that_fails_is_no_damage(rt: HostRuntime) -> Result<(), Fail> {
+    let alloc = rt.alloc();
+    let failed = HistoryFault::Folder;
+    told(is_refused(alloc, ONE, failed, 1), "the header")?;
+    told(is_refused(alloc, ONE, failed, 3), "the tail")?;
+    told(is_refused(alloc, ONE, failed, 6), "a record")
+}
+
+/// What was changed, at which offset, and to which bytes.
+const DAMAGED: &[(&str, usize, &[u8])] = &[
+    ("the length of the specification", 6, b"\xff\xff\xff\xff"),
+    ("the number of versions", 24, b"\0\x0f\x42\x40"),
+    ("the kind of a child", 28, b"\x03"),
+    (
+        "the length of a record",
+        29,
+        b"\xff\xff\xff\xff\xff\xff\xff\xff",
+    ),
+    ("the kind of the END", 77, b"\x05"),
+    ("no child and its entry", 86, b"\0\0\0\0"),
+    ("the number of children", 86, b"\xff\xff\xff\xff"),
+    ("the number of children by one", 86, b"\0\0\0\x02"),
+    (
+        "the length of a child",
+        98,
+        b"\xff\xff\xff\xff\xff\xff\xff\xff",
+    ),
+    ("an END of a leaf", 106, b"\0\0\0\0\0\0\0\x01"),
+    ("the tail", 134, b"\0\0\0\0\0\0\0\xff"),
+];
+
+#[test]
+fn no_damaged_file_tells_the_history(rt: HostRuntime) -> Result<(), Fail> {
+    let alloc = rt.alloc();
+    for (what, at, bytes) in DAMAGED {
+        let holds = match changed(alloc, ONE, *at, bytes) {
+            Some(file) => is_refused(alloc, &file, HistoryFault::Damage, 100),
+            None => false,
+        };
+        assert!(rt; holds, "{what}");
+    }
+    Ok(())
+}

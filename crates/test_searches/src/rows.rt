@@ -1,0 +1,116 @@
+// Rows and children of a file, each part at its offset.
+ghost use Rattle.std.specs.Prelude.{◌≤◌};
+
+use crate::files::{NAME, ONE, SIX, changed, folder};
+use file_rows::{Child, Row, count_children, read_child, root_row, row_of};
+use record_cursor::CursorFault;
+use std::alloc::Global;
+use std::test::Fail;
+use given_parts::told;
+use xa_outside::MemFolder;
+
+/// The row of the virtual root in a file, behind a header of so many bytes.
+fn root(folder: &mut MemFolder, first: u64, size: u64) -> Result<Row, CursorFault>
+    requires { first ≤ size }
+{
+    root_row(folder, NAME, first, size)
+}
+
+/// The child of a row at a position, between the row's offsets.
+fn child(folder: &mut MemFolder, row: Row, position: u32) -> Result<Child, CursorFault> {
+    if row.dir < 4 + 24 * (u64::from(position) + 1) {
+        return Err(CursorFault::Damage);
+    }
+    read_child(folder, NAME, row, position, row.first, row.end)
+}
+
+fn is_row(row: Row, first: u64, end: u64, dir: u64) -> bool {
+    row.first == first && row.end == end && row.dir == dir
+}
+
+fn is_child(child: Child, first: u64, end: u64, dir: u64) -> bool {
+    child.first == first && child.end == end && child.dir == dir
+}
+
+/// Whether the row of `db` has eight children, of which the last stands at these offsets.
+fn has_eight(folder: &mut MemFolder, db: Child) -> bool {
+    let Some(row) = row_of(db, 67) else {
+        return false;
+    };
+    match count_children(folder, NAME, row) {
+        Ok(count) => count == 8,
+        Err(_) => false,
+    }
+}
+
+#[test]
+fn rows_and_children_stand_where_the_file_says(rt: HostRuntime) -> Result<(), Fail> {
+    let mut folder = folder(rt.alloc(), SIX, 100).ok_or("no folder")?;
+    let row = root(&mut folder, 46, 1349)?;
+    told(is_row(row, 46, 1284, 48), "the root")?;
+    let count = count_children(&mut folder, NAME, row)?;
+    assert!(rt; count == 1);
+    let db = child(&mut folder, row, 0)?;
+    told(is_child(db, 46, 1284, 520), "db")?;
+    told(has_eight(&mut folder, db), "its children")?;
+    assert!(rt; folder.pulled() == 58);
+    Ok(())
+}
+
+/// Whether the file is damaged where its root is read, its children are counted or the first one is
+/// read.
+fn is_damaged(alloc: Global, at: usize, bytes: &[u8]) -> bool {
+    let Some(file) = changed(alloc, ONE, at, bytes) else {
+        return false;
+    };
+    let Some(mut folder) = folder(alloc, &file, 100) else {
+        return false;
+    };
+    let Ok(row) = root(&mut folder, 28, 142) else {
+        return true;
+    };
+    match count_children(&mut folder, NAME, row) {
+        Ok(_) => match child(&mut folder, row, 0) {
+            Ok(_) => false,
+            Err(fault) => fault == CursorFault::Damage,
+        },
+        Err(fault) => fault == CursorFault::Damage,
+    }
+}
+
+/// What was changed, at which offset, and to which bytes.
+const DAMAGED: &[(&str, usize, &[u8])] = &[
+    ("the kind of the END", 77, b"\x05"),
+    ("the length of the END", 85, b"\x31"),
+    ("no child and its entry", 86, b"\0\0\0\0"),
+    ("one child more", 86, b"\0\0\0\x02"),
+    ("the start of a child", 90, b"\0\0\0\0\0\0\0\x01"),
+    ("the length of a child", 98, b"\0\0\0\0\0\0\0\x32"),
+    ("the tail", 134, b"\0\0\0\0\0\0\0\xff"),
+];
+
+#[test]
+fn what_does_not_fit_is_damage(rt: HostRuntime) -> Result<(), Fail> {
+    for (what, at, bytes) in DAMAGED {
+        let holds = is_damaged(rt.alloc(), *at, bytes);
+        assert!(rt; holds, "{what}");
+    }
+    Ok(())
+}
+
+#[test]
+fn a_read_that_fails_is_no_damage(rt: HostRuntime) -> Result<(), Fail> {
+    let alloc = rt.alloc();
+    let mut tail = folder(alloc, ONE, 1).ok_or("no folder")?;
+    let failed = root(&mut tail, 28, 142);
+    assert!(rt; matches!(&failed, Err(CursorFault::Folder)));
+    let mut head = folder(alloc, ONE, 2).ok_or("no folder")?;
+    let row = root(&mut head, 28, 142)?;
+    let failed = count_children(&mut head, NAME, row);
+    assert!(rt; matches!(&failed, Err(CursorFault::Folder)));
+    let mut entry = folder(alloc, ONE, 2).ok_or("no folder")?;
+    let row = root(&mut entry, 28, 142)?;
+    let failed = child(&mut entry, row, 0);
+    assert!(rt; matches!(&failed, Err(CursorFault::Folder)));
+    Ok(())
+}

@@ -1,6 +1,0 @@
-use Rattle.std.proofs.Common.{rules}
-use Rattle.worked_parts.proofs.Pushed.{alts_pushed}
-use Rattle.worked_parts.proofs.shapes.alts.Goals as goal
-
-pub loop-pairs-preserved : goal.loop-pairs-preserved
-loop-pairs-preserved c = search (rules, alts_pushed)

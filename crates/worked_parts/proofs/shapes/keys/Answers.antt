@@ -1,6 +1,0 @@
-use Rattle.std.proofs.Common.{rules}
-use Rattle.worked_parts.proofs.Pushed.{keys_pushed}
-use Rattle.worked_parts.proofs.shapes.keys.Goals as goal
-
-pub loop-value-preserved : goal.loop-value-preserved
-loop-value-preserved c = search (rules, keys_pushed)
