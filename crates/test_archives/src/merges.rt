@@ -3,14 +3,14 @@ ghost use Rattle.keyed_tree.specs.View.{keyed_view};
 ghost use Rattle.keyed_tree.specs.WellFormed.{IsKeyedWellFormed};
 
 use archive_tree::{ANode, Alt, Archive};
-use keyed_tree::{Body, Keyed};
-use nested_merge::{is_alike, merge};
-use std::alloc::Global;
-use std::test::Fail;
 use given_parts::shapes::{
     COMPANY_OF_90, COMPANY_OF_95, Named, Shape, Value, body, has_version, tree,
 };
 use given_parts::told;
+use keyed_tree::{Body, Keyed};
+use nested_merge::{is_alike, merge};
+use std::alloc::Global;
+use std::test::Fail;
 
 /// The tiny document: an element without attributes and items.
 const TINY: Shape = Shape::Leaf(Named("db", &[]), &[], &[(&[], Value::Nothing)]);

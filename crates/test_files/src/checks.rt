@@ -2,13 +2,13 @@
 use crate::counts::{failing_folder, folder, longer_file};
 use crate::damaged_files::FILES;
 use archive_check::{CheckFault, check};
-use std::alloc::Global;
-use std::test::Fail;
 use given_parts::bytes::{
     ALT, COMPANY, COMPANY_WITHOUT_VERSIONS, END, Edits, FLOORS, HEADER, LEAF, LEAF_END,
     NO_VERSIONS, Pieces, TAIL, TEXTS, TINY, TWO_ATTRIBUTES, edited,
 };
 use given_parts::told;
+use std::alloc::Global;
+use std::test::Fail;
 use xa_outside::{Folder, SureFolder};
 
 /// A file, and the number of its versions.
@@ -94,7 +94,7 @@ fn checked<F: Folder>(alloc: Global, folder: &mut F, length: u64) -> Result<u32,
 }
 
 /// Whether the bytes are the file of so many versions.
-fn has_versions(alloc: Global, file: &[u8], versions: u32) -> bool {
+pub(crate) fn has_versions(alloc: Global, file: &[u8], versions: u32) -> bool {
     match folder(alloc, file) {
         Ok(mut folder) => checked(alloc, &mut folder, file.len() as u64) == Ok(versions),
         Err(_) => false,

@@ -1,9 +1,9 @@
 use archive_file::decode_file;
 use archive_stats::{Counts, StatsFault, counts_of, stats};
-use std::alloc::{AllocError, Global};
-use std::test::Fail;
 use given_parts::bytes::{COMPANY, COMPANY_WITHOUT_VERSIONS, FLOORS, TEXTS, TINY};
 use given_parts::told;
+use std::alloc::{AllocError, Global};
+use std::test::Fail;
 use xa_outside::{FolderCall, FolderFail, MemFolder, SureFolder};
 
 /// A file, and its seven numbers in the order in which they are printed.

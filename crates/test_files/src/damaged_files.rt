@@ -1,12 +1,12 @@
 //! Bytes that are an archive's file, or none: damage is answered as damage.
 use archive_file::{FileFault, decode_file, encode_file};
-use std::alloc::{AllocError, Global};
-use std::test::Fail;
 use given_parts::bytes::{
     ALT, COMPANY, END, Edits, HEADER, LEAF, LEAF_END, NO_VERSIONS, Pieces, STORED_SET, TAIL, TINY,
     edit, edited,
 };
 use given_parts::told;
+use std::alloc::{AllocError, Global};
+use std::test::Fail;
 
 /// An inner node `db`.
 const OPENED: &[u8] = b"\x01\0\0\0\0\0\0\0\x0c\x01\0\0\0\x02db\0\0\0\0\0";

@@ -2,10 +2,10 @@
 use crate::damaged_files::written_again;
 use archive_file::decode_file;
 use archive_tree::{ANode, Alt, Archive};
+use given_parts::bytes::{COMPANY, TINY};
 use key_spec::Spec;
 use record_format::{RecFault, take_fixed, take_frame, take_header};
 use std::alloc::{AllocError, Global};
-use given_parts::bytes::{COMPANY, TINY};
 
 /// The kinds and the sizes of the company's records.
 const SIZES: &[(u8, usize)] = &[

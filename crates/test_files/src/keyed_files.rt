@@ -8,16 +8,16 @@ ghost use Rattle.archive_tree.specs.View.{alt_view, node_view, nodes_view};
 
 use archive_file::is_keyed;
 use archive_tree::{ANode, Alt, Archive};
-use jsonml_tree::{Content, Tree};
-use key_spec::Spec;
-use keyed_tree::{Body, Label};
-use std::alloc::{AllocError, Global};
-use std::test::Fail;
 use given_parts::shapes::{
     COMPANY, DATABASE, EMPLOYEE, FINANCE, FIRST_NAME, LAST_NAME, NAME, Named, SALARY_90, Shape,
     TELEPHONE, Value, archive_of, label, nodes,
 };
 use given_parts::told;
+use jsonml_tree::{Content, Tree};
+use key_spec::Spec;
+use keyed_tree::{Body, Label};
+use std::alloc::{AllocError, Global};
+use std::test::Fail;
 
 const COMPANY_KEYS: &str = "(/, (db, {}))
 (/db, (dept, {name}))

@@ -1,12 +1,13 @@
 use crate::keyed_trees::is_spelled;
-use crate::reading::{COMPANY, keyed_of, parse};
+use crate::reading::{COMPANY, keyed_of};
+use given_parts::documents::parse;
+use given_parts::told;
 use jsonml_tree::LentTree;
 use key_annotate::{LentKeyed, lent_keyed};
 use key_spec::Spec;
 use std::alloc::Global;
 use std::borrow::CowStr;
 use std::test::Fail;
-use given_parts::told;
 
 const TINY: &[u8] = b"(/, (db, {}))\n";
 

@@ -1,10 +1,11 @@
-use crate::reading::{Named, is_read, keyed_of, label, labels};
+use crate::reading::{Named, keyed_of, label, labels};
+use given_parts::documents::is_read;
+use given_parts::told;
 use jsonml_tree::{Content, Scalar};
 use keyed_tree::{KeyVal, Keyed, Label};
 use std::alloc::{AllocError, Global};
 use std::cmp::Ordering;
 use std::test::Fail;
-use given_parts::told;
 
 /// Labels in ascending order, by name and then by keys: an attribute comes before a tag.
 const ASCENDING: &[Named] = &[

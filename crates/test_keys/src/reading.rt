@@ -1,12 +1,6 @@
-//! Specifications, documents and labels that are made of texts.
-ghost use Rattle.std.specs.Prelude.{IfSome};
-ghost use Rattle.jsonml_tree.specs.Fits.{IsElement, ItemsFit};
-ghost use Rattle.jsonml_tree.specs.LentView.{lent_tree_view};
-ghost use Rattle.jsonml_tree.specs.View.{tree_view};
-ghost use Rattle.jsonml_tree.specs.WellFormed.{IsWellFormed};
-
-use jsonml_text::{lend_document, read_document};
-use jsonml_tree::{Content, LentTree, Tree};
+//! Keyed trees and labels that are made of texts.
+use given_parts::documents::{parse, read};
+use jsonml_tree::Content;
 use key_annotate::keyed;
 use key_spec::Spec;
 use keyed_tree::{KeyVal, Keyed, Label, Name};
@@ -32,48 +26,6 @@ pub(crate) const NESTED: &[u8] = b"(/, (a, {}))
 
 /// A label: the name, with `@` before that of an attribute, and the texts that are its key values.
 pub(crate) type Named = (&'static str, &'static [&'static str]);
-
-pub(crate) fn parse(alloc: Global, text: &[u8]) -> Option<Spec> {
-    if text.len() > 1_048_576 {
-        return None;
-    }
-    Spec::parse(alloc, text).ok()
-}
-
-pub(crate) fn read(alloc: Global, text: &[u8]) -> Option<Tree>
-    ensures element { IfSome result (λ t. IsElement (tree_view t)) }
-    ensures well_formed { IfSome result (λ t. IsWellFormed (tree_view t)) }
-    ensures items_fit { IfSome result (λ t. ItemsFit (tree_view t)) }
-{
-    if text.len() > 67_108_864 {
-        return None;
-    }
-    match read_document(alloc, text) {
-        Ok(tree) => Some(tree),
-        Err(_) => None,
-    }
-}
-
-/// Whether this is the tree of the document.
-pub(crate) fn is_read(alloc: Global, tree: &Tree, text: &[u8]) -> bool {
-    match read(alloc, text) {
-        Some(wanted) => tree.same(&wanted),
-        None => false,
-    }
-}
-
-pub(crate) fn lend<'a>(alloc: Global, text: &'a [u8]) -> Option<LentTree<'a>>
-    ensures element { IfSome result (λ t. IsElement (lent_tree_view t)) }
-    ensures items_fit { IfSome result (λ t. ItemsFit (lent_tree_view t)) }
-{
-    if text.len() > 67_108_864 {
-        return None;
-    }
-    match lend_document(alloc, text) {
-        Ok(tree) => Some(tree),
-        Err(_) => None,
-    }
-}
 
 fn keyed_doc(alloc: Global, spec: &Spec, doc: &[u8]) -> Option<Keyed> {
     match read(alloc, doc) {

@@ -2,7 +2,10 @@ ghost use Rattle.jsonml_tree.specs.Fits.{IsElement, ItemsFit};
 ghost use Rattle.jsonml_tree.specs.LentView.{lent_tree_view};
 ghost use Rattle.jsonml_tree.specs.View.{tree_view};
 
-use crate::reading::{COMPANY, NESTED, Named, label, labels, lend, parse, read};
+use crate::reading::{COMPANY, NESTED, Named, label, labels};
+use given_outside::texts;
+use given_parts::documents::{lend, parse, read};
+use given_parts::told;
 use jsonml_tree::{LentTree, Tree};
 use key_annotate::{AnnotateFault, keyed};
 use key_rules::{
@@ -10,12 +13,10 @@ use key_rules::{
 };
 use key_spec::{KeyPath, Spec};
 use keyed_tree::{Keyed, Label};
-use given_outside::texts;
 use std::alloc::{AllocError, Global};
 use std::borrow::CowStr;
 use std::cmp::Ordering;
 use std::test::Fail;
-use given_parts::told;
 
 /// The place of a fault, why it is one, and the tag that is the key path, if one is to stand there.
 struct Wanted(&'static [u32], u8, Option<&'static str>);
@@ -316,6 +317,8 @@ fn elements_have_their_labels(rt: HostRuntime) -> Result<(), Fail> {
     Ok(())
 }
 
+const NUMBERED: &[u8] = b"(/, (db, {}))\n(/db, (e, {@id}))\n";
+
 /// A path, and its labels or its first bad step.
 const PATHS: &[(&[u8], &str, Result<&[Named], u32>)] = &[
     (
@@ -367,6 +370,13 @@ const PATHS: &[(&[u8], &str, Result<&[Named], u32>)] = &[
         ]),
     ),
     (NESTED, r#"["a","b","c","d","e","f","g","h"]"#, Err(8)),
+    // A key value is a content or, of an attribute, a scalar.
+    (COMPANY, r#"["db",["dept",[5]]]"#, Err(2)),
+    (COMPANY, r#"["db",["dept",[[]]]]"#, Err(2)),
+    (COMPANY, r#"["db",["dept",["x",{}]]]"#, Err(2)),
+    (COMPANY, r#"["db",["dept",1.5]]"#, Err(2)),
+    (NUMBERED, r#"["db",["e",[1]]]"#, Err(2)),
+    (NUMBERED, r#"["db",["e",1.5]]"#, Err(2)),
 ];
 
 fn are_labels(alloc: Global, found: &[Label], named: &[Named]) -> bool {

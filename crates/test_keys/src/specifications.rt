@@ -1,9 +1,11 @@
-use crate::reading::{COMPANY, parse};
-use key_spec::{KeyPath, Spec, SpecFault};
+use crate::reading::COMPANY;
 use given_outside::texts;
+use given_parts::bytes::{Pieces, joined};
+use given_parts::documents::parse;
+use given_parts::told;
+use key_spec::{KeyPath, Spec, SpecFault};
 use std::alloc::{AllocError, Global};
 use std::test::Fail;
-use given_parts::told;
 
 const COMPANY_TEXT: &[u8] = b"(/, (db, {}))
 (/db, (dept, {name}))
@@ -112,6 +114,45 @@ fn each_fault_has_its_line_and_why(rt: HostRuntime) {
     for (index, (text, wanted)) in FAULTS.iter().enumerate() {
         assert!(rt; fault(rt.alloc(), text) == Some(*wanted), "text {index}");
     }
+}
+
+/// A rule of a long tag, whose sixteen key paths of eight tags imply as many times the rules of these, and the fault.
+const LONG: &[(&str, Pieces, (u32, u8))] = &[
+    (
+        "a canonical text of less than a mebibyte",
+        &[(TAG, 1), (LETTERS, 700), (KEY_PATHS, 1)],
+        (0, 0),
+    ),
+    (
+        "a canonical text of more than a mebibyte",
+        &[(TAG, 1), (LETTERS, 1000), (KEY_PATHS, 1)],
+        (0, 7),
+    ),
+];
+
+const TAG: &[u8] = b"(/, (db, {}))\n(/db, (";
+
+const LETTERS: &[u8] = b"abcdefghij";
+
+const KEY_PATHS: &[u8] =
+    b", {a0/b/c/d/e/f/g/h, a1/b/c/d/e/f/g/h, a2/b/c/d/e/f/g/h, a3/b/c/d/e/f/g/h, \
+    a4/b/c/d/e/f/g/h, a5/b/c/d/e/f/g/h, a6/b/c/d/e/f/g/h, a7/b/c/d/e/f/g/h, a8/b/c/d/e/f/g/h, \
+    a9/b/c/d/e/f/g/h, b0/b/c/d/e/f/g/h, b1/b/c/d/e/f/g/h, b2/b/c/d/e/f/g/h, b3/b/c/d/e/f/g/h, \
+    b4/b/c/d/e/f/g/h, b5/b/c/d/e/f/g/h}))\n";
+
+fn is_long_fault(alloc: Global, text: Pieces, wanted: (u32, u8)) -> bool {
+    match joined(alloc, text) {
+        Ok(text) => fault(alloc, &text) == Some(wanted),
+        Err(_) => false,
+    }
+}
+
+#[test]
+fn a_canonical_text_has_at_most_a_mebibyte(rt: HostRuntime) -> Result<(), Fail> {
+    for (name, text, wanted) in LONG {
+        told(is_long_fault(rt.alloc(), text, *wanted), name)?;
+    }
+    Ok(())
 }
 
 /// A rule with a key, 4,094 rules below it, and this line.

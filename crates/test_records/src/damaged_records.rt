@@ -1,9 +1,9 @@
 //! Bytes that are a record, or none: damage is answered as damage.
+use given_parts::bytes::{ALT, END, Edits, INNER, LEAF, LEAF_END, Pieces, TWO_ATTRIBUTES, edited};
+use given_parts::told;
 use record_format::{RecFault, decode, encode, view};
 use std::alloc::Global;
 use std::test::Fail;
-use given_parts::bytes::{ALT, END, Edits, INNER, LEAF, LEAF_END, Pieces, TWO_ATTRIBUTES, edited};
-use given_parts::told;
 
 /// A body that is the scalar -2^63.
 const LEAST: &[u8] = b"\x03\0\0\0\0\0\0\0\x0b\0\0\x04\x7f\xff\xff\xff\xff\xff\xff\xff";

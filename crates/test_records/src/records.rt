@@ -1,4 +1,6 @@
 // The records of the archive of one version, the element `db`, byte by byte.
+use given_parts::bytes::{ALT, END, INNER, LEAF, LEAF_END};
+use given_parts::told;
 use keyed_tree::{Body, Label, Name};
 use record_format::{
     BodyView, Dir, Entry, LabelView, Rec, StampView, View, decode, is_label, is_value, put_alt,
@@ -8,8 +10,6 @@ use std::alloc::{AllocError, Global};
 use std::cmp::Ordering;
 use std::test::Fail;
 use version_set::VersionSet;
-use given_parts::bytes::{ALT, END, INNER, LEAF, LEAF_END};
-use given_parts::told;
 
 fn tag(alloc: Global, name: &str) -> Result<Label, AllocError> {
     Ok(Label {

@@ -1,8 +1,8 @@
 // Small sets, whose text is known.
+use given_parts::told;
 use std::alloc::{AllocError, Global};
 use std::test::Fail;
 use version_set::VersionSet;
-use given_parts::told;
 
 type Pairs = &'static [(u32, u32)];
 
