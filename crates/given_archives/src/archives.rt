@@ -47,7 +47,10 @@ pub fn archive(alloc: Global, spec: &Spec, documents: &[&str]) -> Option<Archive
 
 /// The file of an archive, if its versions satisfy the keys.
 pub fn encoded(alloc: Global, spec: &Spec, archive: &Archive) -> Option<Vec<u8>> {
-    if archive.n() > 999_999 || is_keyed(alloc, spec, archive) != Ok(true) {
+    let Ok(is_keyed) = is_keyed(alloc, spec, archive) else {
+        return None;
+    };
+    if archive.n() > 999_999 || !is_keyed {
         return None;
     }
     match encode_file(alloc, spec, archive) {
