@@ -15,6 +15,8 @@ _, status, used = os.wait4(child, 0)
 print(used.ru_utime + used.ru_stime, used.ru_maxrss, os.waitstatus_to_exitcode(status))
 """
 
+RUNS = 1 if "--quick" in sys.argv else 3
+
 BESIDE = ["Other s", "Other MB", "Ratio", "Same"]
 
 
@@ -63,8 +65,8 @@ def spend(words, folder=None, output=None, stdin=None, status=0, prepare=None):
 
 
 def least(words, folder=None, output=None, stdin=None, status=0):
-    """The least of three runs."""
-    return min(spend(words, folder, output, stdin, status) for _ in range(3))
+    """The least of three runs, or one where the script is only tried."""
+    return min(spend(words, folder, output, stdin, status) for _ in range(RUNS))
 
 
 def head(*names):
