@@ -116,7 +116,7 @@ fn each_fault_has_its_line_and_why(rt: HostRuntime) {
     }
 }
 
-/// A rule of a long tag, in whose place the rules of its two key paths stand, and the fault.
+/// A rule of a long tag, which stands in the rules of its two key paths, too; and the fault.
 const LONG: &[(&str, Pieces, (u32, u8))] = &[
     (
         "a canonical text of less than a mebibyte",
