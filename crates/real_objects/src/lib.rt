@@ -5,6 +5,8 @@
 mod disk;
 mod opened;
 mod streams;
+mod system;
 
 pub use disk::DiskFolder;
 pub use streams::{ReaderSource, WriterSink};
+pub use system::{Kind, Mark, Moment, Seen, System};
