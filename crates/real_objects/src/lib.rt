@@ -2,6 +2,7 @@
 //! is trusted: the folder tells no files, and only what it counts is proved.
 #![tactic(auto)]
 
+mod again;
 mod disk;
 mod opened;
 mod streams;
