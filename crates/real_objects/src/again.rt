@@ -10,19 +10,6 @@ fn is_interrupted(error: &Error) -> bool {
     error.kind() == ErrorKind::Interrupted
 }
 
-/// Makes a call that may be made twice, and again while a signal interrupts it: at most 1,000 times.
-pub(crate) fn again<T, F: FnMut() -> Result<T>>(mut call: F) -> Result<T>
-    requires { F.IsAlwaysCallable call }
-{
-    for _ in 1..TRIES {
-        match call() {
-            Err(error) if is_interrupted(&error) => {}
-            done => return done,
-        }
-    }
-    call()
-}
-
 /// Reads once, and again while a signal interrupts it: at most 1,000 times.
 pub(crate) fn read_again<R: Read>(reader: &mut R, buf: &mut [u8]) -> Result<usize>
     ensures bound { ReadsAtMost result buf.new }

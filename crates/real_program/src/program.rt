@@ -7,11 +7,11 @@ ghost use Rattle.xarch_meanings.specs.Ran.{Says};
 ghost use Rattle.xarch_run.specs.Batch.{shown};
 ghost use Rattle.real_program.specs.Serves.{IsOfWords, Runs, counted};
 
-use real_objects::{DiskFolder, ReaderSource, WriterSink};
+use real_objects::{DiskFolder, ReaderSource, System, WriterSink};
 use std::alloc::Global;
 use std::env;
 use std::io::{Error, ErrorKind, Read, Write};
-use std::rt::{Env, Files};
+use std::rt::Env;
 use xa_outside::{Folder, Sink, Source};
 use xarch_run::run;
 use xarch_words::{Fault, status, write_fault};
@@ -87,7 +87,7 @@ pub fn run_words<F: Folder, S: Source, O: Sink, E: Sink>(
 
 /// The program: does what the words after the first of those given say, over the folder that the system runs it in and
 /// these streams, and answers the status with which it ends. No draft is left.
-pub fn serve<R: Files, V: Env + AllocGlobal, I: Read, O: Write, E: Write>(
+pub fn serve<R: System, V: Env + AllocGlobal, I: Read, O: Write, E: Write>(
     system: &R,
     given: &V,
     input: &mut I,
