@@ -87,12 +87,12 @@ pub fn run_words<F: Folder, S: Source, O: Sink, E: Sink>(
 
 /// The program: does what the words after the first of those given say, over the folder that the system runs it in and
 /// these streams, and answers the status with which it ends. No draft is left.
-pub fn serve<R: System, V: Env + AllocGlobal, I: Read, O: Write, E: Write>(
+pub fn serve<R: System, V: Env + AllocGlobal, I: Read + Drop, O: Write + Drop, E: Write + Drop>(
     system: &R,
     given: &V,
-    input: &mut I,
-    out: &mut O,
-    err: &mut E,
+    input: I,
+    out: O,
+    err: E,
 ) -> u8 {
     let alloc = given.alloc();
     let words = words_of(given);

@@ -222,10 +222,9 @@ const CALLS: &[Call] = &[
 fn is_answered(rt: &HostRuntime, called: &Call) -> bool {
     let Call(words, input, status, out, err) = called;
     let given = (Given { words }, rt.alloc());
-    let mut input = *input;
     let mut written = Vec::new(rt.alloc());
     let mut said = Vec::new(rt.alloc());
-    let answer = serve(rt, &given, &mut input, &mut written, &mut said);
+    let answer = serve(rt, &given, *input, &mut written, &mut said);
     answer == *status
         && written.as_slice() == *out
         && said.as_slice() == *err
@@ -276,8 +275,8 @@ fn an_output_without_room_is_a_fault(rt: HostRuntime) {
         rt.alloc(),
     );
     let mut said = Vec::new(rt.alloc());
-    let (mut input, mut room): (&[u8], &mut [u8]) = (&[], &mut [0u8; 3]);
-    let answer = serve(&rt, &given, &mut input, &mut room, &mut said);
+    let (input, mut room): (&[u8], [u8; 3]) = (&[], [0; 3]);
+    let answer = serve(&rt, &given, input, &mut room[..], &mut said);
     assert!(rt; answer == 14 && said.as_slice() == b"xarch: output fault\n".as_slice());
     assert!(rt; fs::open(&rt, "xarch-test-of-the-output").is_err());
     assert!(rt; fs::open(&rt, ".xarch-draft").is_err());

@@ -5,6 +5,5 @@ use real_program::serve;
 use std::process::ExitCode;
 
 fn main(rt: HostRuntime) -> ExitCode {
-    let (mut input, mut out, mut err) = (rt.reader(), rt.stdout(), rt.stderr());
-    ExitCode::from(serve(&rt, &rt, &mut input, &mut out, &mut err))
+    ExitCode::from(serve(&rt, &rt, rt.reader(), rt.stdout(), rt.stderr()))
 }
