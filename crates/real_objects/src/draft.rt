@@ -245,6 +245,7 @@ impl<'a, R: System> Draft<'a, R> {
     {
         calls::rename(self.rt, self.own_name.as_str(), target.path.as_str())
     }
+
     /// Copies the draft to one beside the target, and makes that the file there. None on a failure, and nothing is left of the copy.
     fn carry(&self, target: &Target) -> Option<()> {
         let folder = folder_of(self.alloc, target.path.as_str())?;
