@@ -3,6 +3,7 @@
 #![tactic(auto)]
 
 mod access;
+mod again;
 mod calls;
 mod disk;
 mod draft;

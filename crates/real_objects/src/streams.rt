@@ -1,9 +1,10 @@
 ghost use Rattle.std.specs.Prelude.{◌≡◌};
 
+use crate::again::{read_again, write_again};
 use std::io::{Read, Write};
 use xa_outside::{Failed, Sink, Source};
 
-/// A reader as a source, with a count of its failures.
+/// A reader as a source, with a count of its failures. A read that a signal interrupts is tried again, at most 1,000 times.
 #[derive(Drop)]
 pub struct ReaderSource<R> {
     inner: R,
@@ -26,7 +27,7 @@ impl<R: Read> Source for ReaderSource<R> {
     ghost faults = { λ s. s.faults };
 
     fn read(&mut self, buf: &mut [u8]) -> Result<usize, Failed> {
-        match self.inner.read(buf) {
+        match read_again(&mut self.inner, buf) {
             Ok(count) => Ok(count),
             Err(_) => {
                 self.faults = self.faults.saturating_add(1);
@@ -36,7 +37,8 @@ impl<R: Read> Source for ReaderSource<R> {
     }
 }
 
-/// A writer as a sink, with a count of its failures. Taking nothing of a piece that is not empty is one.
+/// A writer as a sink, with a count of its failures. Taking nothing of a piece that is not empty is one. A write that a signal
+/// interrupts is tried again, at most 1,000 times.
 #[derive(Drop)]
 pub struct WriterSink<W> {
     inner: W,
@@ -63,7 +65,7 @@ impl<W: Write> Sink for WriterSink<W> {
     ghost faults = { λ s. s.faults };
 
     fn write(&mut self, piece: &[u8]) -> Result<usize, Failed> {
-        match self.inner.write(piece) {
+        match write_again(&mut self.inner, piece) {
             Ok(count) if count > 0 || piece.is_empty() => Ok(count),
             _ => {
                 self.faults = self.faults.saturating_add(1);

@@ -3,3 +3,5 @@
 
 #[cfg(test)]
 mod real;
+#[cfg(test)]
+mod streams;
