@@ -2,4 +2,8 @@
 #![tactic(auto)]
 
 #[cfg(test)]
+mod over_memory;
+#[cfg(test)]
 mod real;
+#[cfg(test)]
+mod side_by_side;

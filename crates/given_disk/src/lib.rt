@@ -1,0 +1,28 @@
+//! Serves tests alone: a file system in memory, of which calls fail, are interrupted, or meet another process, as they are
+//! told. It is an instrument and no model: its contracts are bounds alone.
+#![tactic(auto)]
+
+mod calls;
+mod changes;
+mod compared;
+mod disk;
+mod events;
+mod file;
+mod inode;
+mod judged;
+mod numbers;
+mod paths;
+mod rows;
+mod state;
+mod stream;
+mod system;
+mod trouble;
+
+pub use disk::{MemDisk, OnDisk};
+pub use file::MemFile;
+pub use inode::{Inode, Sort};
+pub use judged::is_draft;
+pub use rows::{Access, PLAIN, Row};
+pub use state::{Limits, NO_LIMITS, State};
+pub use stream::MemStream;
+pub use trouble::{Call, CallKind, Event, NO_INODE, Trouble, What};
