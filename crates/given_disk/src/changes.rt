@@ -1,21 +1,60 @@
 use crate::inode::{Inode, Sort};
-use crate::state::{Name, State};
+use crate::paths::folder_of;
+use crate::state::{Name, State, refused};
 use std::alloc::AllocError;
 use std::io;
 use std::io::ErrorKind;
 
 impl State {
-    /// Puts this under the name, in place of what stands there. It counts as no call.
+    /// The index of the name that is spelled so.
+    pub(crate) fn index_of(&self, name: &str) -> Option<usize> {
+        for index in 0..self.names.len() {
+            if self.names[index].name.as_str() == name {
+                return Some(index);
+            }
+        }
+        None
+    }
+
+    /// The inode of the name that is spelled so.
+    pub fn inode_of(&self, name: &str) -> Option<usize> {
+        let index = self.index_of(name)?;
+        Some(self.names.get(index)?.inode)
+    }
+
+    /// What stands under the name that is spelled so.
+    pub fn found(&self, name: &str) -> Option<&Inode> {
+        self.inodes.get(self.inode_of(name)?)
+    }
+
+    /// The file system that a name stands on: that of its folder.
+    pub(crate) fn device_of(&self, name: &str) -> u64 {
+        match self.found(folder_of(name)) {
+            Some(inode) => inode.device,
+            None => 1,
+        }
+    }
+
+    /// Puts this under the name, in place of what stands there, and gives its inode. It counts as no call.
     pub fn put(&mut self, name: &str, sort: Sort, bytes: &[u8]) -> Result<usize, AllocError> {
-        let inode = self.inodes.len();
-        self.inodes.push(Inode::new(self.alloc, sort, bytes)?)?;
-        self.name(name, inode)?;
-        Ok(inode)
+        let made = self.inodes.len();
+        let device = match sort {
+            Sort::Mount => 2,
+            _ => self.device_of(name),
+        };
+        self.inodes
+            .push(Inode::new(self.alloc, sort, bytes, device)?)?;
+        self.name(name, made)?;
+        Ok(made)
     }
 
     /// Gives the inode this name, which is another one's no more.
     pub(crate) fn name(&mut self, name: &str, inode: usize) -> Result<(), AllocError> {
         self.forget(name);
+        self.push_name(name, inode)
+    }
+
+    pub(crate) fn push_name(&mut self, name: &str, inode: usize) -> Result<(), AllocError> {
         let name = String::from_str(self.alloc, name)?;
         self.names.push(Name { name, inode })?;
         Ok(())
@@ -30,34 +69,15 @@ impl State {
         }
     }
 
-    /// The inode's bytes are changed now.
-    pub(crate) fn touch(&mut self, index: usize) {
+    /// The inode is changed now, and its bytes too where that is said.
+    pub(crate) fn touch(&mut self, index: usize, bytes: bool) {
         let now = self.now;
         if let Some(inode) = self.inodes.get_mut(index) {
-            inode.modified = now;
             inode.changed = now;
+            if bytes {
+                inode.modified = now;
+            }
         }
-    }
-
-    /// Makes an empty file under a name that nothing has.
-    pub(crate) fn make(&mut self, name: &str, mode: u32) -> io::Result<usize> {
-        self.may_write()?;
-        let device = self.device_of(name);
-        let made = self.put(name, Sort::File, b"")?;
-        self.touch(made);
-        let umask = self.limits.umask;
-        if let Some(inode) = self.inodes.get_mut(made) {
-            inode.mode = mode & !umask & 0o7777;
-            inode.device = device;
-        }
-        Ok(made)
-    }
-
-    pub(crate) fn may_write(&self) -> io::Result<()> {
-        if self.limits.is_read_only {
-            return Err(io::Error::from(ErrorKind::ReadOnlyFilesystem));
-        }
-        Ok(())
     }
 
     /// Puts bytes of the inode from the offset on at the front of the buffer.
@@ -73,37 +93,20 @@ impl State {
         count
     }
 
-    /// Writes bytes into the inode from the offset on, as far as there is room.
-    pub(crate) fn write(&mut self, index: usize, at: usize, buf: &[u8]) -> io::Result<usize> {
+    /// Adds bytes to the inode, as far as there is room.
+    pub(crate) fn append(&mut self, index: usize, buf: &[u8]) -> io::Result<usize> {
         let (piece, room) = (self.limits.piece, self.limits.room);
-        let Some(inode) = self.inodes.get_mut(index) else {
-            return Err(io::Error::from(ErrorKind::InvalidInput));
-        };
-        let held = inode.bytes.len().saturating_sub(at);
-        let most = usize::try_from(room)
-            .unwrap_or(usize::MAX)
-            .saturating_add(held);
-        let count = buf.len().min(piece).min(most);
+        let room = usize::try_from(room).unwrap_or(usize::MAX);
+        let count = buf.len().min(piece).min(room);
         if count == 0 && !buf.is_empty() {
-            return Err(io::Error::from(ErrorKind::StorageFull));
+            return refused(ErrorKind::StorageFull);
         }
-        let before = inode.bytes.len();
-        overwrite(&mut inode.bytes, at, &buf[..count])?;
-        let grown = inode.bytes.len().saturating_sub(before) as u64;
-        self.limits.room = room.saturating_sub(grown);
-        self.touch(index);
+        let Some(inode) = self.inodes.get_mut(index) else {
+            return refused(ErrorKind::InvalidInput);
+        };
+        inode.bytes.extend_from_slice(&buf[..count])?;
+        self.limits.room = self.limits.room.saturating_sub(count as u64);
+        self.touch(index, true);
         Ok(count)
     }
-}
-
-/// Puts a piece into bytes from the offset on, behind zeros where they are too short.
-fn overwrite(bytes: &mut Vec<u8>, at: usize, piece: &[u8]) -> Result<(), AllocError> {
-    let Some(end) = at.checked_add(piece.len()) else {
-        return Ok(());
-    };
-    if bytes.len() < end {
-        bytes.resize(end, 0)?;
-    }
-    bytes[at..end].copy_from_slice(piece);
-    Ok(())
 }

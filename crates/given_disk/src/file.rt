@@ -10,7 +10,6 @@ pub struct MemFile<'a> {
     disk: &'a MemDisk,
     inode: usize,
     number: usize,
-    at: usize,
 }
 
 impl Drop for MemFile<'_> {
@@ -19,7 +18,6 @@ impl Drop for MemFile<'_> {
             disk,
             inode: _,
             number,
-            at: _,
         } = self;
         disk.close(number);
     }
@@ -33,7 +31,6 @@ impl<'a> MemFile<'a> {
             disk,
             inode,
             number,
-            at: 0,
         })
     }
 
@@ -49,18 +46,17 @@ impl<'a> MemFile<'a> {
         ensures bound { ReadsAtMost result buf.new }
     {
         let mut state = self.disk.state()?;
-        state.meet(CallKind::Read, "", self.inode)?;
+        state.meet(CallKind::Read, self.inode)?;
         Ok(state.read(self.inode, at, buf).min(buf.len()))
     }
 }
 
+/// It is written at its end: each file is made empty, and written from the front on.
 impl Write for MemFile<'_> {
     fn write(&mut self, buf: &[u8]) -> io::Result<usize> {
         let mut state = self.disk.state()?;
-        state.meet(CallKind::Write, "", self.inode)?;
-        let count = state.write(self.inode, self.at, buf)?.min(buf.len());
-        self.at = self.at.saturating_add(count);
-        Ok(count)
+        state.meet(CallKind::Write, self.inode)?;
+        Ok(state.append(self.inode, buf)?.min(buf.len()))
     }
 
     fn flush(&mut self) -> io::Result<()> {

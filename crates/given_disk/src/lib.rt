@@ -1,5 +1,5 @@
-//! Serves tests alone: a file system in memory, of which calls fail, are interrupted, or meet another process, as they are
-//! told. It is an instrument and no model: its contracts are bounds alone.
+//! Serves tests alone: a file system in memory, of which a call fails, is interrupted, or meets another process, as it is told.
+//! It is an instrument and no model: its contracts are bounds alone.
 #![tactic(auto)]
 
 mod calls;
@@ -12,7 +12,6 @@ mod inode;
 mod judged;
 mod numbers;
 mod paths;
-mod rows;
 mod state;
 mod stream;
 mod system;
@@ -20,9 +19,7 @@ mod trouble;
 
 pub use disk::{MemDisk, OnDisk};
 pub use file::MemFile;
-pub use inode::{Inode, Sort};
-pub use judged::is_draft;
-pub use rows::{Access, PLAIN, Row};
+pub use inode::{Access, Inode, PLAIN, Row, Sort};
 pub use state::{Limits, NO_LIMITS, State};
 pub use stream::MemStream;
 pub use trouble::{Call, CallKind, Event, NO_INODE, Trouble, What};

@@ -1,4 +1,4 @@
-use crate::state::State;
+use crate::state::{State, refused};
 use std::alloc::AllocError;
 use std::io;
 use std::io::ErrorKind;
@@ -29,7 +29,7 @@ impl State {
     pub(crate) fn behind(&self, number: usize) -> io::Result<usize> {
         match self.numbers.get(number) {
             Some(Some(inode)) => Ok(*inode),
-            _ => Err(io::Error::from(ErrorKind::InvalidInput)),
+            _ => refused(ErrorKind::InvalidInput),
         }
     }
 }

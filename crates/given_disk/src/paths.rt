@@ -1,12 +1,13 @@
 use crate::inode::Sort;
-use crate::state::State;
+use crate::state::{State, refused};
+use std::alloc::AllocError;
 use std::io;
 use std::io::ErrorKind;
 
 /// How many links are followed for one path.
 const LINKS: usize = 40;
 
-/// Where a walk along a path ends.
+/// Where a walk along a path is.
 #[derive(Drop)]
 enum Walk {
     /// At this name, spelled without links; nothing need have it.
@@ -23,22 +24,33 @@ fn first_part(path: &str) -> (&str, Option<&str>) {
     }
 }
 
-/// The folder that a name stands in; the empty name is the folder that the process runs in.
-fn folder_of(name: &str) -> &str {
+/// The folder that a name stands in.
+pub(crate) fn folder_of(name: &str) -> &str {
     match name.rsplit_once('/') {
         Some((folder, _)) => folder,
         None => "",
     }
 }
 
+/// Fails unless one may look into what is of this sort.
+fn may_enter(sort: Option<Sort>) -> io::Result<()> {
+    match sort {
+        Some(Sort::Folder | Sort::Mount) => Ok(()),
+        Some(Sort::Closed) => refused(ErrorKind::PermissionDenied),
+        Some(_) => refused(ErrorKind::NotADirectory),
+        None => refused(ErrorKind::NotFound),
+    }
+}
+
 impl State {
-    /// The name behind a path, spelled without links, slashes that say nothing, and dots. A link at its end is followed where that is asked for.
+    /// The name behind a path, spelled without links, slashes that say nothing, and dots. The root is the folder that the process
+    /// runs in. A link at the path's end is followed where that is asked for.
     pub(crate) fn resolved(&self, path: &str, follows: bool) -> io::Result<String> {
-        if path.as_bytes().contains(&0) {
-            return Err(io::Error::from(ErrorKind::InvalidInput));
-        }
         if path.is_empty() {
-            return Err(io::Error::from(ErrorKind::NotFound));
+            return refused(ErrorKind::NotFound);
+        }
+        if path.as_bytes().contains(&0) {
+            return refused(ErrorKind::InvalidInput);
         }
         let mut path = String::from_str(self.alloc, path)?;
         for _ in 0..=LINKS {
@@ -47,7 +59,7 @@ impl State {
                 Walk::On(other) => path = other,
             }
         }
-        Err(io::Error::from(ErrorKind::FilesystemLoop))
+        refused(ErrorKind::FilesystemLoop)
     }
 
     /// Goes along the path up to its end or to the first link.
@@ -60,93 +72,76 @@ impl State {
             };
             let (part, behind) = first_part(left);
             rest = behind;
-            let name = self.joined(done.as_str(), part)?;
-            if behind.is_some() || follows {
-                if let Some(text) = self.link_at(name.as_str())? {
-                    return Ok(Walk::On(self.onward(done.as_str(), text, behind)?));
-                }
+            match self.step(done.as_str(), part, behind, follows)? {
+                Walk::At(name) => done = name,
+                Walk::On(path) => return Ok(Walk::On(path)),
             }
-            if behind.is_some() {
-                self.may_enter(name.as_str())?;
-            }
-            done = name;
         }
         Ok(Walk::At(done))
     }
 
-    /// The name of a part in a folder.
-    fn joined(&self, folder: &str, part: &str) -> io::Result<String> {
-        let mut name = match part {
-            ".." => return Ok(String::from_str(self.alloc, folder_of(folder))?),
-            _ => String::from_str(self.alloc, folder)?,
-        };
-        if part.is_empty() || part == "." {
-            return Ok(name);
+    /// Goes from a folder to one of its names.
+    fn step(
+        &self,
+        folder: &str,
+        part: &str,
+        behind: Option<&str>,
+        follows: bool,
+    ) -> io::Result<Walk> {
+        let name = self.joined(folder, part)?;
+        let sort = self.sort_of(name.as_str());
+        let goes_on = behind.is_some();
+        if sort == Some(Sort::Link) && (follows || goes_on) {
+            return self.onward(folder, name.as_str(), behind);
         }
-        if !folder.is_empty() {
-            name.push('/')?;
+        if goes_on {
+            may_enter(sort)?;
         }
-        name.push_str(part)?;
-        Ok(name)
-    }
-
-    /// The text of the link that has this name, if it is one.
-    pub(crate) fn link_at(&self, name: &str) -> io::Result<Option<&str>> {
-        match self.found(name) {
-            Some(inode) if inode.sort == Sort::Link => match str::from_utf8(&inode.bytes) {
-                Ok(text) => Ok(Some(text)),
-                Err(_) => Err(io::Error::from(ErrorKind::InvalidFilename)),
-            },
-            _ => Ok(None),
-        }
-    }
-
-    /// The path that goes on from a link in this folder.
-    fn onward(&self, folder: &str, text: &str, behind: Option<&str>) -> io::Result<String> {
-        let mut path = match text.strip_prefix('/') {
-            Some(text) => String::from_str(self.alloc, text)?,
-            None => self.joined(folder, text)?,
-        };
-        if let Some(behind) = behind {
-            path.push('/')?;
-            path.push_str(behind)?;
-        }
-        Ok(path)
-    }
-
-    /// Fails unless the name is that of a folder into which one may look.
-    fn may_enter(&self, name: &str) -> io::Result<()> {
-        if name.is_empty() {
-            return Ok(());
-        }
-        match self.sort_of(name) {
-            Some(Sort::Folder | Sort::Mount) => Ok(()),
-            Some(Sort::Closed) => Err(io::Error::from(ErrorKind::PermissionDenied)),
-            Some(_) => Err(io::Error::from(ErrorKind::NotADirectory)),
-            None => Err(io::Error::from(ErrorKind::NotFound)),
-        }
+        Ok(Walk::At(name))
     }
 
     fn sort_of(&self, name: &str) -> Option<Sort> {
         Some(self.found(name)?.sort)
     }
 
+    /// The name of a part in a folder.
+    fn joined(&self, folder: &str, part: &str) -> Result<String, AllocError> {
+        match part {
+            "" | "." => String::from_str(self.alloc, folder),
+            ".." => String::from_str(self.alloc, folder_of(folder)),
+            _ if folder.is_empty() => String::from_str(self.alloc, part),
+            _ => format!(in self.alloc; "{folder}/{part}"),
+        }
+    }
+
+    /// The text of the link that has this name.
+    pub(crate) fn link_at(&self, name: &str) -> io::Result<&str> {
+        match self.found(name) {
+            Some(inode) if inode.sort == Sort::Link => match str::from_utf8(&inode.bytes) {
+                Ok(text) => Ok(text),
+                Err(_) => refused(ErrorKind::InvalidFilename),
+            },
+            _ => refused(ErrorKind::InvalidInput),
+        }
+    }
+
+    /// The path that goes on from a link in this folder.
+    fn onward(&self, folder: &str, link: &str, behind: Option<&str>) -> io::Result<Walk> {
+        let text = self.link_at(link)?;
+        let front = if text.starts_with('/') { "" } else { folder };
+        let path = match behind {
+            Some(behind) => format!(in self.alloc; "{front}/{text}/{behind}")?,
+            None => format!(in self.alloc; "{front}/{text}")?,
+        };
+        Ok(Walk::On(path))
+    }
+
     /// The inode that a path leads to.
     pub(crate) fn led(&self, path: &str, follows: bool) -> io::Result<usize> {
         let name = self.resolved(path, follows)?;
-        if name.is_empty() {
-            return Ok(0);
-        }
-        self.inode_of(name.as_str())
-            .ok_or(io::Error::from(ErrorKind::NotFound))
-    }
-
-    /// The file system that a name stands on: that of its folder.
-    pub(crate) fn device_of(&self, name: &str) -> u64 {
-        let folder = folder_of(name);
-        match self.found(folder) {
-            Some(inode) => inode.device,
-            None => 1,
+        match self.inode_of(name.as_str()) {
+            Some(inode) => Ok(inode),
+            None => refused(ErrorKind::NotFound),
         }
     }
 }

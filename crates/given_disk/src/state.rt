@@ -1,4 +1,4 @@
-use crate::inode::{Inode, Sort};
+use crate::inode::{Inode, Row, Sort};
 use crate::trouble::{Call, CallKind, Trouble, What};
 use std::alloc::{AllocError, Global};
 use std::io;
@@ -29,15 +29,15 @@ pub const NO_LIMITS: Limits = Limits {
     umask: 0o022,
 };
 
-/// A name, without the folder that the process runs in, and its inode.
+/// A name, spelled without links, and its inode.
 #[derive(Drop)]
 pub struct Name {
     pub name: String,
     pub inode: usize,
 }
 
-/// All of a disk and of the process that uses it. The first inode is the folder that the process runs in, and the three behind it
-/// are its standard streams.
+/// All of a disk and of the process that uses it. The first inode is the folder that the process runs in, whose name is empty,
+/// and the three behind it are its standard streams.
 #[derive(Drop)]
 pub struct State {
     pub(crate) alloc: Global,
@@ -47,10 +47,9 @@ pub struct State {
     /// Counts calls, unless no time passes.
     pub now: i64,
     /// The inode of each descriptor.
-    pub numbers: Vec<Option<usize>>,
+    pub(crate) numbers: Vec<Option<usize>>,
     pub log: Vec<Call>,
-    troubles: Vec<Trouble>,
-    calls: u64,
+    come: Option<Trouble>,
     interrupts: u32,
     is_dead: bool,
 }
@@ -58,10 +57,18 @@ pub struct State {
 /// The first descriptor that is no standard stream's.
 pub(crate) const FIRST: usize = 3;
 
+/// An error of this kind.
+pub(crate) fn refused<T>(kind: ErrorKind) -> io::Result<T> {
+    Err(io::Error::from(kind))
+}
+
 impl State {
-    /// A disk with no name, and a process with three streams and no other open file.
-    pub fn new(alloc: Global) -> Result<State, AllocError> {
-        let mut state = State {
+    pub fn alloc(&self) -> Global {
+        self.alloc
+    }
+
+    fn empty(alloc: Global) -> State {
+        State {
             alloc,
             inodes: Vec::new(alloc),
             names: Vec::new(alloc),
@@ -69,117 +76,126 @@ impl State {
             now: 1_000_000,
             numbers: Vec::new(alloc),
             log: Vec::new(alloc),
-            troubles: Vec::new(alloc),
-            calls: 0,
+            come: None,
             interrupts: 0,
             is_dead: false,
-        };
-        state.inodes.push(Inode::new(alloc, Sort::Folder, b"")?)?;
-        for number in 0..FIRST {
-            state.inodes.push(Inode::new(alloc, Sort::Pipe, b"")?)?;
-            state.numbers.push(Some(number + 1))?;
         }
+    }
+
+    /// A disk with these names, and a process with three streams and no other open file.
+    pub fn of(alloc: Global, rows: &[Row]) -> Result<State, AllocError> {
+        let mut state = State::empty(alloc);
+        state.put("", Sort::Folder, b"")?;
+        state.put_streams()?;
+        state.put_rows(rows)?;
         Ok(state)
     }
 
-    /// The same names and files on another disk, with a process of its own.
+    fn put_streams(&mut self) -> Result<(), AllocError> {
+        for number in 0..FIRST {
+            self.inodes
+                .push(Inode::new(self.alloc, Sort::Pipe, b"", 1)?)?;
+            self.numbers.push(Some(number + 1))?;
+        }
+        Ok(())
+    }
+
+    fn put_rows(&mut self, rows: &[Row]) -> Result<(), AllocError> {
+        for row in rows {
+            let made = self.put(row.0, row.1, row.2)?;
+            if let Some(inode) = self.inodes.get_mut(made) {
+                inode.access = row.3;
+            }
+        }
+        Ok(())
+    }
+
+    /// The same names and files on another disk, with the same limits and a process of its own.
     pub fn copied(&self) -> Result<State, AllocError> {
-        let mut other = State::new(self.alloc)?;
-        other.inodes.clear();
-        for inode in &self.inodes {
-            other.inodes.push(inode.copied(self.alloc)?)?;
-        }
-        for name in &self.names {
-            let copied = Name {
-                name: name.name.clone()?,
-                inode: name.inode,
-            };
-            other.names.push(copied)?;
-        }
+        let mut other = State::empty(self.alloc);
         other.limits = self.limits;
+        other.put_streams()?;
+        other.inodes.clear();
+        other.copy_inodes(self)?;
+        other.copy_names(self)?;
         Ok(other)
     }
 
-    /// From now on these troubles come. Calls are counted and logged anew, by a process that is alive.
-    pub fn plan(&mut self, troubles: &[Trouble]) -> Result<(), AllocError> {
-        self.troubles = Vec::from_slice(self.alloc, troubles)?;
-        self.log.clear();
-        self.calls = 0;
-        self.interrupts = 0;
-        self.is_dead = false;
+    fn copy_inodes(&mut self, from: &State) -> Result<(), AllocError> {
+        for inode in &from.inodes {
+            self.inodes.push(inode.copied(self.alloc)?)?;
+        }
         Ok(())
     }
 
-    /// How many calls there were since the troubles were planned.
-    pub fn calls(&self) -> u64 {
-        self.calls
-    }
-
-    /// The index of the name that is spelled so.
-    pub fn index_of(&self, name: &str) -> Option<usize> {
-        for index in 0..self.names.len() {
-            if self.names[index].name.as_str() == name {
-                return Some(index);
-            }
+    fn copy_names(&mut self, from: &State) -> Result<(), AllocError> {
+        for name in &from.names {
+            self.push_name(name.name.as_str(), name.inode)?;
         }
-        None
+        Ok(())
     }
 
-    /// The inode of the name that is spelled so.
-    pub fn inode_of(&self, name: &str) -> Option<usize> {
-        let index = self.index_of(name)?;
-        Some(self.names.get(index)?.inode)
+    /// From now on this comes, to a process that is alive. Its calls are counted and logged anew.
+    pub fn plan(&mut self, come: Option<Trouble>) {
+        self.come = come;
+        self.log.clear();
+        self.interrupts = 0;
+        self.is_dead = false;
     }
 
-    /// What stands under the name that is spelled so.
-    pub fn found(&self, name: &str) -> Option<&Inode> {
-        self.inodes.get(self.inode_of(name)?)
-    }
-
-    /// A call begins: it is counted and logged, and what is to come at it comes.
-    pub(crate) fn meet(&mut self, kind: CallKind, name: &str, inode: usize) -> io::Result<()> {
+    /// A call begins: it is logged, and what is to come at it comes.
+    pub(crate) fn meet(&mut self, kind: CallKind, inode: usize) -> io::Result<()> {
         if self.is_dead {
-            return Err(io::Error::from(ErrorKind::Other));
+            return refused(ErrorKind::Other);
         }
         if self.interrupts > 0 {
             self.interrupts -= 1;
-            return Err(io::Error::from(ErrorKind::Interrupted));
+            return refused(ErrorKind::Interrupted);
         }
-        let number = self.calls;
-        self.calls = number.saturating_add(1);
+        let number = self.log.len();
+        self.log(kind, inode)?;
+        match self.come {
+            Some(trouble) if trouble.at == number => self.suffer(trouble.what, kind),
+            _ => Ok(()),
+        }
+    }
+
+    fn log(&mut self, kind: CallKind, inode: usize) -> Result<(), AllocError> {
         if !self.limits.is_still {
             self.now = self.now.saturating_add(1);
         }
-        let name = String::from_str(self.alloc, name)?;
-        let mode = 0;
         self.log.push(Call {
             kind,
-            name,
-            inode,
-            mode,
+            inode: 0,
+            mode: 0,
+            names: false,
         })?;
-        for index in 0..self.troubles.len() {
-            self.suffer(index, number, kind)?;
-        }
+        self.tell(inode, false);
         Ok(())
     }
 
-    /// What the trouble of this index does to the call of this number.
-    fn suffer(&mut self, index: usize, number: u64, kind: CallKind) -> io::Result<()> {
-        let Some(trouble) = self.troubles.get(index).copied() else {
-            return Ok(());
+    /// Says which inode the call that was logged last leads to, and whether this gets a name that is not a draft's.
+    pub(crate) fn tell(&mut self, inode: usize, names: bool) {
+        let mode = match self.inodes.get(inode) {
+            Some(found) => found.access.mode,
+            None => 0,
         };
-        if trouble.at != number {
-            return Ok(());
+        if let Some(call) = self.log.last_mut() {
+            call.inode = inode;
+            call.mode = mode;
+            call.names = names;
         }
-        match trouble.what {
-            What::Fails(error) => Err(io::Error::from(error)),
+    }
+
+    fn suffer(&mut self, what: What, kind: CallKind) -> io::Result<()> {
+        match what {
+            What::Fails(error) => refused(error),
             What::IsInterrupted(times) => self.interrupt(times, kind),
             What::Stops => {
                 self.is_dead = true;
-                Err(io::Error::from(ErrorKind::Other))
+                refused(ErrorKind::Other)
             }
-            What::Meets(event) => self.happen(event),
+            What::Meets(event) => Ok(self.happen(event)?),
         }
     }
 
@@ -188,18 +204,6 @@ impl State {
             return Ok(());
         }
         self.interrupts = times - 1;
-        Err(io::Error::from(ErrorKind::Interrupted))
-    }
-
-    /// Says which inode the call that was logged last led to.
-    pub(crate) fn tell(&mut self, inode: usize) {
-        let Some(found) = self.inodes.get(inode) else {
-            return;
-        };
-        let mode = found.mode;
-        if let Some(call) = self.log.last_mut() {
-            call.inode = inode;
-            call.mode = mode;
-        }
+        refused(ErrorKind::Interrupted)
     }
 }

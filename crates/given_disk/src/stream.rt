@@ -7,26 +7,26 @@ use std::io::{Read, Write};
 pub struct MemStream<'a> {
     disk: &'a MemDisk,
     number: usize,
+    at: u64,
 }
 
 impl MemDisk {
     /// The stream of this descriptor.
     pub fn stream(&self, number: usize) -> MemStream<'_> {
-        MemStream { disk: self, number }
+        MemStream {
+            disk: self,
+            number,
+            at: 0,
+        }
     }
 }
 
 impl Read for MemStream<'_> {
-    /// Takes the bytes away that it reads.
     fn read(&mut self, buf: &mut [u8]) -> io::Result<usize> {
-        let mut state = self.disk.state()?;
+        let state = self.disk.state()?;
         let inode = state.behind(self.number)?;
-        let count = state.read(inode, 0, buf).min(buf.len());
-        if let Some(inode) = state.inodes.get_mut(inode) {
-            let rest = inode.bytes.len().saturating_sub(count);
-            inode.bytes.rotate_left(count.min(inode.bytes.len()));
-            inode.bytes.truncate(rest);
-        }
+        let count = state.read(inode, self.at, buf).min(buf.len());
+        self.at = self.at.saturating_add(count as u64);
         Ok(count)
     }
 }
@@ -35,12 +35,7 @@ impl Write for MemStream<'_> {
     fn write(&mut self, buf: &[u8]) -> io::Result<usize> {
         let mut state = self.disk.state()?;
         let inode = state.behind(self.number)?;
-        let end = match state.inodes.get(inode) {
-            Some(inode) => inode.bytes.len(),
-            None => 0,
-        };
-        let count = state.write(inode, end, buf)?;
-        Ok(count.min(buf.len()))
+        Ok(state.append(inode, buf)?.min(buf.len()))
     }
 
     fn flush(&mut self) -> io::Result<()> {

@@ -14,11 +14,11 @@ impl<'a> System for OnDisk<'a> {
     }
 
     fn seen(&self, path: &str) -> io::Result<Seen> {
-        self.disk.state()?.look(CallKind::Look, path, true)
+        self.disk.state()?.look(path, true)
     }
 
     fn seen_here(&self, path: &str) -> io::Result<Seen> {
-        self.disk.state()?.look(CallKind::LookHere, path, false)
+        self.disk.state()?.look(path, false)
     }
 
     fn seen_open(&self, file: &MemFile<'a>) -> io::Result<Seen> {
@@ -35,7 +35,7 @@ impl<'a> System for OnDisk<'a> {
     }
 
     fn make(&self, path: &str, mode: u32) -> io::Result<MemFile<'a>> {
-        let inode = self.disk.state()?.make_new(path, mode)?;
+        let inode = self.disk.state()?.make(path, mode)?;
         MemFile::new(self.disk, inode, 0)
     }
 
@@ -43,7 +43,7 @@ impl<'a> System for OnDisk<'a> {
         if file.number() >= FIRST {
             return Ok(file);
         }
-        self.disk.state()?.meet(CallKind::Raise, "", file.inode())?;
+        self.disk.state()?.meet(CallKind::Raise, file.inode())?;
         MemFile::new(self.disk, file.inode(), FIRST)
     }
 
@@ -60,7 +60,7 @@ impl<'a> System for OnDisk<'a> {
     }
 
     fn sync(&self, file: &MemFile<'a>) -> io::Result<()> {
-        self.disk.state()?.meet(CallKind::Sync, "", file.inode())
+        self.disk.state()?.meet(CallKind::Sync, file.inode())
     }
 
     fn rename(&self, from: &str, to: &str) -> io::Result<()> {

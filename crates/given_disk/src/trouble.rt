@@ -5,7 +5,6 @@ use std::io::ErrorKind;
 pub enum CallKind {
     Now,
     Look,
-    LookHere,
     LookAtOpen,
     ReadLink,
     Open,
@@ -23,13 +22,14 @@ pub enum CallKind {
 /// A call that leads to no inode.
 pub const NO_INODE: usize = usize::MAX;
 
-/// A call that was made: of what kind, the name that it was given last, the inode that it led to, and the mode that this has then.
-#[derive(Drop)]
+/// A call that was made: of what kind, the inode that it led to, and the mode that this had then.
+#[derive(Clone, Copy)]
 pub struct Call {
     pub kind: CallKind,
-    pub name: String,
     pub inode: usize,
     pub mode: u32,
+    /// A file was given a name that is not a draft's.
+    pub names: bool,
 }
 
 /// What another process does.
@@ -61,6 +61,6 @@ pub enum What {
 /// What comes at the call of this number, counted from 0.
 #[derive(Clone, Copy)]
 pub struct Trouble {
-    pub at: u64,
+    pub at: usize,
     pub what: What,
 }

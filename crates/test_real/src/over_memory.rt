@@ -1,8 +1,10 @@
 //! What the folder puts under a name, over a disk in memory: where links lead, who may read it, what fails, who else writes.
-use given_disk::{Access, Event, Limits, MemDisk, NO_LIMITS, PLAIN, Row, Sort, Trouble, What};
+use given_disk::{
+    Access, Event, Limits, MemDisk, NO_LIMITS, PLAIN, Row, Sort, State, Trouble, What,
+};
 use given_outside::{is_stored, told};
 use real_objects::DiskFolder;
-use std::alloc::Global;
+use std::alloc::{AllocError, Global};
 use std::io;
 use std::io::ErrorKind;
 use std::test::Fail;
@@ -305,14 +307,14 @@ const OTHERS: &[Case] = &[
 /// The case's disk before and after.
 #[derive(Drop)]
 struct Disks {
-    before: MemDisk,
-    after: MemDisk,
+    before: State,
+    after: State,
 }
 
-fn disks_of(alloc: Global, case: &Case) -> io::Result<Disks> {
-    let before = MemDisk::of(alloc, case.before)?;
-    let after = MemDisk::of(alloc, if case.is_put { case.after } else { case.before })?;
-    before.state()?.limits = case.limits;
+fn disks_of(alloc: Global, case: &Case) -> Result<Disks, AllocError> {
+    let mut before = State::of(alloc, case.before)?;
+    before.limits = case.limits;
+    let after = State::of(alloc, if case.is_put { case.after } else { case.before })?;
     Ok(Disks { before, after })
 }
 
@@ -327,15 +329,17 @@ fn is_put(alloc: Global, disk: &MemDisk, name: &str) -> bool {
 
 /// Whether the case goes as it says where reads and writes move at most so many bytes.
 fn goes_in_pieces(alloc: Global, case: &Case, piece: usize) -> io::Result<bool> {
-    let Disks { before, after } = disks_of(alloc, case)?;
-    before.state()?.limits.piece = piece;
-    before.plan(&[])?;
+    let Disks { mut before, after } = disks_of(alloc, case)?;
+    before.limits.piece = piece;
+    let disk = MemDisk::new(before);
+    let is_there = is_put(alloc, &disk, case.name);
+    let state = disk.state()?;
     Ok(
-        is_put(alloc, &before, case.name) == case.is_put
-            && before.is_like(&after)
-            && before.is_dressed_like(&after)
-            && !before.has_draft()
-            && before.are_calls_in_order(),
+        is_there == case.is_put
+            && state.is_like(&after)
+            && state.is_dressed_like(&after)
+            && !state.has_draft()
+            && state.are_calls_in_order(),
     )
 }
 
@@ -364,43 +368,60 @@ const TROUBLES: &[What] = &[
     What::Meets(Event::Removes(".xarch-draft")),
 ];
 
-/// Whether the case ends well where this comes at the call of this number: the new file is there, or the old one. The disk is
-/// the one where it came.
-fn ends_well(alloc: Global, case: &Case, disks: &Disks, disk: &MemDisk, come: Trouble) -> bool {
-    let is_there = is_put(alloc, disk, case.name);
-    let is_right = disk.is_like(if is_there {
+/// Whether the new file is there, where the folder says so, and else all is as before.
+fn is_as_told(disks: &Disks, state: &State, is_there: bool) -> bool {
+    state.is_like(if is_there {
         &disks.after
     } else {
         &disks.before
-    });
-    match come.what {
-        What::Fails(_) => is_right && (!is_there || disk.may_go_on(come.at)),
-        What::IsInterrupted(1) => {
-            is_right && is_there == case.is_put && disk.is_dressed_like(&disks.after)
-        }
-        What::Stops => {
-            disk.is_between(&disks.before, &disks.after)
-                && disk.plan(&[]).is_ok()
-                && is_put(alloc, disk, case.name) == case.is_put
-                && disk.is_like(&disks.after)
-        }
-        _ => is_right,
-    }
+    })
 }
 
-/// Whether the case ends well with this trouble.
-fn is_overcome(alloc: Global, case: &Case, disks: &Disks, come: Trouble) -> bool {
-    match disks.before.copied() {
-        Ok(disk) => disk.plan(&[come]).is_ok() && ends_well(alloc, case, disks, &disk, come),
-        Err(_) => false,
-    }
+/// Whether the case ends well where this comes, on a disk where it has not come yet.
+fn ends_well(
+    alloc: Global,
+    case: &Case,
+    disks: &Disks,
+    disk: &MemDisk,
+    come: Trouble,
+) -> io::Result<bool> {
+    let is_there = is_put(alloc, disk, case.name);
+    let state = disk.state()?;
+    Ok(match come.what {
+        What::Fails(_) => {
+            is_as_told(disks, &state, is_there) && (!is_there || state.may_go_on(come.at))
+        }
+        What::IsInterrupted(1) => {
+            is_there == case.is_put
+                && is_as_told(disks, &state, is_there)
+                && state.is_dressed_like(&disks.after)
+        }
+        What::Stops => state.is_between(&disks.before, &disks.after),
+        _ => is_as_told(disks, &state, is_there),
+    })
+}
+
+/// Whether another process puts the file there after the first one is dead.
+fn goes_on(alloc: Global, case: &Case, disks: &Disks, disk: &MemDisk) -> io::Result<bool> {
+    disk.state()?.plan(None);
+    let is_there = is_put(alloc, disk, case.name);
+    let state = disk.state()?;
+    Ok(is_there == case.is_put && state.is_like(&disks.after))
+}
+
+/// Whether the case ends well with this trouble, and goes well once it is over.
+fn is_overcome(alloc: Global, case: &Case, disks: &Disks, come: Trouble) -> io::Result<bool> {
+    let mut state = disks.before.copied()?;
+    state.plan(Some(come));
+    let disk = MemDisk::new(state);
+    Ok(ends_well(alloc, case, disks, &disk, come)? && goes_on(alloc, case, disks, &disk)?)
 }
 
 /// How many calls the case takes.
-fn calls_of(alloc: Global, case: &Case) -> io::Result<u64> {
-    let disks = disks_of(alloc, case)?;
-    let _ = is_put(alloc, &disks.before, case.name);
-    let calls = disks.before.state()?.calls();
+fn calls_of(alloc: Global, case: &Case) -> io::Result<usize> {
+    let disk = MemDisk::new(disks_of(alloc, case)?.before);
+    let _ = is_put(alloc, &disk, case.name);
+    let calls = disk.state()?.log.len();
     Ok(calls)
 }
 
@@ -413,7 +434,7 @@ fn whatever_comes_at_a_call_the_file_is_the_new_one_or_the_old(
         for at in 0..calls_of(rt.alloc(), case)? {
             for what in TROUBLES {
                 let come = Trouble { at, what: *what };
-                told(is_overcome(rt.alloc(), case, &disks, come), case.about)?;
+                told(is_overcome(rt.alloc(), case, &disks, come)?, case.about)?;
             }
         }
     }
@@ -423,16 +444,13 @@ fn whatever_comes_at_a_call_the_file_is_the_new_one_or_the_old(
 /// Whether the case ends well where only so many bytes can be added.
 fn fits(alloc: Global, case: &Case, room: u64) -> io::Result<bool> {
     let disks = disks_of(alloc, case)?;
-    let disk = disks.before.copied()?;
-    disk.state()?.limits.room = room;
+    let mut state = disks.before.copied()?;
+    state.limits.room = room;
+    let disk = MemDisk::new(state);
     let is_there = is_put(alloc, &disk, case.name);
-    let is_right = disk.is_like(if is_there {
-        &disks.after
-    } else {
-        &disks.before
-    });
+    let state = disk.state()?;
     let has_room = room >= NEW.len() as u64;
-    Ok(is_right && (has_room || !is_there) && !disk.has_draft())
+    Ok(is_as_told(&disks, &state, is_there) && (has_room || !is_there) && !state.has_draft())
 }
 
 #[test]

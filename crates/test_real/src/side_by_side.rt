@@ -1,5 +1,5 @@
 //! Two folders over one disk in memory, and one folder whose files change, or whose streams are closed, while it is used.
-use given_disk::{Event, MemDisk, OnDisk, PLAIN, Row, Sort, Trouble, What};
+use given_disk::{Event, MemDisk, OnDisk, PLAIN, Row, Sort, State, Trouble, What};
 use given_outside::{holds, told};
 use real_objects::DiskFolder;
 use std::alloc::Global;
@@ -63,7 +63,7 @@ fn committed(alloc: Global, disk: &MemDisk, turns: &Turns) -> [bool; 2] {
 }
 
 /// Whether a file has the two pieces of one command.
-fn is_whole(alloc: Global, disk: &MemDisk, name: &str, piece: &[u8], size: usize) -> bool {
+fn is_whole(alloc: Global, disk: &State, name: &str, piece: &[u8], size: usize) -> bool {
     let piece = &piece[..size.min(piece.len())];
     match Vec::from_slice(alloc, OLD) {
         Ok(mut whole) => whole.extend_from_slice(piece).is_ok() && disk.holds(name, &whole),
@@ -72,7 +72,7 @@ fn is_whole(alloc: Global, disk: &MemDisk, name: &str, piece: &[u8], size: usize
 }
 
 /// Whether each name has what it has to have: the last command that committed it wrote it, and else it is as before.
-fn are_whole(alloc: Global, disk: &MemDisk, turns: &Turns, done: [bool; 2]) -> bool {
+fn are_whole(alloc: Global, disk: &State, turns: &Turns, done: [bool; 2]) -> bool {
     let [first, second] = turns.names;
     let is_one = first == second;
     let is_first_over = is_one && done[1] && (turns.is_of_second(7) || !done[0]);
@@ -98,14 +98,15 @@ fn are_turns_right(alloc: Global, turns: &Turns) -> io::Result<bool> {
         Row("A", Sort::File, OLD, PLAIN),
         Row("B", Sort::File, OLD, PLAIN),
     ];
-    let disk = MemDisk::of(alloc, &rows)?;
+    let disk = MemDisk::new(State::of(alloc, &rows)?);
     let done = committed(alloc, &disk, turns);
     let is_last_done = if turns.is_of_second(0) {
         done[0]
     } else {
         done[1]
     };
-    Ok(is_last_done && are_whole(alloc, &disk, turns, done) && !disk.has_draft())
+    let state = disk.state()?;
+    Ok(is_last_done && are_whole(alloc, &state, turns, done) && !state.has_draft())
 }
 
 #[test]
@@ -206,17 +207,15 @@ fn is_seen(
     folder: &mut DiskFolder<OnDisk>,
     change: &Change,
 ) -> bool {
-    let come = Trouble {
-        at: 0,
-        what: What::Meets(change.event),
+    let what = What::Meets(change.event);
+    match disk.state() {
+        Ok(mut state) => state.plan(Some(Trouble { at: 0, what })),
+        Err(_) => return false,
+    }
+    let is_right = match change.then {
+        Some(bytes) => is_read(folder, alloc, "A", bytes) && is_read(folder, alloc, "link", bytes),
+        None => is_absent(folder, "A") && is_absent(folder, "link"),
     };
-    let is_right = disk.plan(&[come]).is_ok()
-        && match change.then {
-            Some(bytes) => {
-                is_read(folder, alloc, "A", bytes) && is_read(folder, alloc, "link", bytes)
-            }
-            None => is_absent(folder, "A") && is_absent(folder, "link"),
-        };
     is_right && is_read(folder, alloc, "B", OLD)
 }
 
@@ -227,8 +226,9 @@ fn are_seen(alloc: Global, is_still: bool, changes: [&Change; 2]) -> io::Result<
         Row("B", Sort::File, OLD, PLAIN),
         Row("link", Sort::Link, b"A", PLAIN),
     ];
-    let disk = MemDisk::of(alloc, &rows)?;
-    disk.state()?.limits.is_still = is_still;
+    let mut state = State::of(alloc, &rows)?;
+    state.limits.is_still = is_still;
+    let disk = MemDisk::new(state);
     let on = disk.on();
     let mut folder = DiskFolder::new(&on, alloc);
     Ok(
@@ -243,7 +243,7 @@ fn are_seen(alloc: Global, is_still: bool, changes: [&Change; 2]) -> io::Result<
 fn a_file_is_read_as_it_is_when_its_length_is_asked(rt: HostRuntime) -> Result<(), Fail> {
     for is_still in [false, true] {
         for first in CHANGES {
-            for second in &CHANGES[..3] {
+            for second in CHANGES.iter().take(3) {
                 told(
                     are_seen(rt.alloc(), is_still, [first, second])?,
                     first.about,
@@ -263,7 +263,7 @@ fn chat(disk: &MemDisk) {
 
 /// Whether files are written and read where these streams are closed, and nothing else gets into them.
 fn are_apart(alloc: Global, closed: [bool; 3]) -> io::Result<bool> {
-    let disk = MemDisk::of(alloc, &[Row("B", Sort::File, OLD, PLAIN)])?;
+    let disk = MemDisk::new(State::of(alloc, &[Row("B", Sort::File, OLD, PLAIN)])?);
     for number in 0..3 {
         if closed[number] {
             disk.close(number);
@@ -280,7 +280,7 @@ fn are_apart(alloc: Global, closed: [bool; 3]) -> io::Result<bool> {
     chat(&disk);
     let is_there = holds(&mut folder, alloc, "A", 0, FIRST)
         && holds(&mut folder, alloc, "A", 66_000, SECOND)
-        && disk.holds("B", OLD);
+        && disk.state()?.holds("B", OLD);
     Ok(is_begun && is_written && is_done && is_there)
 }
 
@@ -300,10 +300,11 @@ fn what_is_written_to_a_closed_stream_is_in_no_file(rt: HostRuntime) -> Result<(
 #[test]
 fn names_that_differ_in_a_letter_are_of_different_files(rt: HostRuntime) -> Result<(), Fail> {
     let names = ["one", "oNe", "onE", "One", "two"];
-    let disk = MemDisk::new(rt.alloc())?;
+    let mut state = State::of(rt.alloc(), &[])?;
     for name in names {
-        disk.put(name, Sort::File, name.as_bytes())?;
+        state.put(name, Sort::File, name.as_bytes())?;
     }
+    let disk = MemDisk::new(state);
     let on = disk.on();
     let mut folder = DiskFolder::new(&on, rt.alloc());
     for name in names {
@@ -313,6 +314,51 @@ fn names_that_differ_in_a_letter_are_of_different_files(rt: HostRuntime) -> Resu
                 && holds(&mut folder, rt.alloc(), name, 0, name.as_bytes());
             told(is_read, name)?;
         }
+    }
+    Ok(())
+}
+
+/// Names that lead to no file, and whether they are absent; else they are refused.
+const NO_FILES: &[(&str, bool)] = &[
+    ("none", true),
+    ("none/x", true),
+    ("file/x", true),
+    ("nowhere", true),
+    ("closed/x", false),
+    ("folder", false),
+    ("pipe", false),
+    ("loop", false),
+    ("file\0", false),
+    (".xarch-draft", false),
+    ("folder/.xarch-draft.12", false),
+];
+
+fn is_refused(folder: &mut DiskFolder<OnDisk>, name: &str) -> bool {
+    folder.length(name).is_err() && folder.read_at(name, 0, &mut [0u8; 1]).is_err()
+}
+
+#[test]
+fn what_is_no_file_is_absent_or_refused(rt: HostRuntime) -> Result<(), Fail> {
+    let rows = [
+        Row("file", Sort::File, OLD, PLAIN),
+        Row("nowhere", Sort::Link, b"none", PLAIN),
+        Row("closed", Sort::Closed, b"", PLAIN),
+        Row("folder", Sort::Folder, b"", PLAIN),
+        Row("pipe", Sort::Pipe, b"", PLAIN),
+        Row("loop", Sort::Link, b"./loop", PLAIN),
+        Row(".xarch-draft", Sort::File, OLD, PLAIN),
+        Row("folder/.xarch-draft.12", Sort::File, OLD, PLAIN),
+    ];
+    let disk = MemDisk::new(State::of(rt.alloc(), &rows)?);
+    let on = disk.on();
+    let mut folder = DiskFolder::new(&on, rt.alloc());
+    for (name, absent) in NO_FILES {
+        let is_right = if *absent {
+            is_absent(&mut folder, name)
+        } else {
+            is_refused(&mut folder, name)
+        };
+        told(is_right, name)?;
     }
     Ok(())
 }

@@ -1,9 +1,9 @@
 //! Whole commands over a disk in memory: each call in turn fails, is interrupted, is the last of its process, or meets another
 //! command; streams are closed; files change between two lines of a batch.
-use given_disk::{Event, MemDisk, PLAIN, Row, Sort, Trouble, What};
+use given_disk::{Event, MemDisk, PLAIN, Row, Sort, State, Trouble, What};
 use given_outside::{texts, told};
 use real_objects::{DiskFolder, ReaderSource, WriterSink};
-use std::alloc::Global;
+use std::alloc::{AllocError, Global};
 use std::io;
 use std::io::ErrorKind;
 use std::test::Fail;
@@ -109,11 +109,13 @@ const COMMANDS: &[Command] = &[
         words: &["check", "A"],
         input: b"",
     },
-    Command {
-        words: &["batch"],
-        input: BATCH,
-    },
 ];
+
+/// A batch of four lines, of which two make files.
+const FOUR: Command = Command {
+    words: &["batch"],
+    input: BATCH,
+};
 
 /// The status of these words on the disk, by a process of their own. Its streams are those of the disk.
 fn status_of(alloc: Global, disk: &MemDisk, words: &[String]) -> u8 {
@@ -135,17 +137,9 @@ fn answered(alloc: Global, disk: &MemDisk, words: &[&str]) -> u8 {
     }
 }
 
-/// The status of the command, whose input is put before it.
-fn ran(alloc: Global, disk: &MemDisk, command: &Command) -> u8 {
-    match disk.say(command.input) {
-        Ok(()) => answered(alloc, disk, command.words),
-        Err(_) => 16,
-    }
-}
-
 /// The disk with the archives, and the text of one of them.
-fn archived(alloc: Global) -> Result<MemDisk, Fail> {
-    let disk = MemDisk::of(alloc, GIVEN)?;
+fn archived(alloc: Global) -> Result<State, Fail> {
+    let disk = MemDisk::new(State::of(alloc, GIVEN)?);
     for words in ARCHIVED {
         told(answered(alloc, &disk, words) == 0, "an archive is made")?;
     }
@@ -153,32 +147,42 @@ fn archived(alloc: Global) -> Result<MemDisk, Fail> {
         answered(alloc, &disk, &["export", "A"]) == 0,
         "an archive is exported",
     )?;
-    disk.keep_printed("text")?;
-    Ok(disk)
+    let mut state = disk.state()?.copied()?;
+    state.keep_printed("text")?;
+    Ok(state)
+}
+
+/// The disk on which the command is to be run, with its input.
+fn given(before: &State, command: &Command) -> Result<State, AllocError> {
+    let mut state = before.copied()?;
+    state.say(&[command.input])?;
+    Ok(state)
 }
 
 /// A command, the disk before it and after it, and how many calls it made.
 #[derive(Drop)]
 struct Course<'a> {
     command: &'a Command,
-    before: &'a MemDisk,
-    after: MemDisk,
-    calls: u64,
+    before: State,
+    after: State,
+    calls: usize,
 }
 
 /// What the command does where nothing comes.
-fn course_of<'a>(
-    alloc: Global,
-    before: &'a MemDisk,
-    command: &'a Command,
-) -> Result<Course<'a>, Fail> {
-    let after = before.copied()?;
-    told(ran(alloc, &after, command) == 0, command.name())?;
+fn course_of<'a>(before: &State, command: &'a Command) -> Result<Course<'a>, Fail> {
+    let before = given(before, command)?;
+    let disk = MemDisk::new(before.copied()?);
     told(
-        after.are_calls_in_order() && !after.has_draft(),
+        answered(before.alloc(), &disk, command.words) == 0,
         command.name(),
     )?;
-    let calls = after.state()?.calls();
+    let state = disk.state()?;
+    told(
+        state.are_calls_in_order() && !state.has_draft(),
+        command.name(),
+    )?;
+    let calls = state.log.len();
+    let after = state.copied()?;
     Ok(Course {
         command,
         before,
@@ -205,93 +209,133 @@ impl Course<'_> {
         self.command.words.len() == 1
     }
 
+    /// The status of the command on this disk.
+    fn status(&self, disk: &MemDisk) -> u8 {
+        answered(self.before.alloc(), disk, self.command.words)
+    }
+
     /// Whether the disk is what the status says: all is done and printed, or nothing is done. Of a batch some lines may be done.
-    fn is_as_told(&self, disk: &MemDisk, status: u8) -> bool {
+    fn is_as_told(&self, state: &State, status: u8) -> bool {
         match status {
-            0 => disk.is_like(&self.after) && disk.has_printed_like(&self.after),
-            13 if self.is_batch() => disk.is_between(self.before, &self.after),
-            13 => disk.is_like(self.before),
+            0 => state.is_like(&self.after) && state.printed() == self.after.printed(),
+            13 if self.is_batch() => state.is_between(&self.before, &self.after),
+            13 => state.is_like(&self.before),
             _ => false,
         }
     }
 
-    /// Whether another process goes on after this one died: the archive is sound, and the command does what it does, unless it is done.
-    fn goes_on(&self, alloc: Global, disk: &MemDisk) -> bool {
-        let is_sound = disk.is_between(self.before, &self.after)
-            && disk.plan(&[]).is_ok()
-            && answered(alloc, disk, &["check", "A"]) == 0;
-        is_sound
-            && (self.is_batch()
-                || disk.is_like(&self.after)
-                || ran(alloc, disk, self.command) == 0 && disk.is_like(&self.after))
-    }
-
     /// Whether the command ends well though this comes, on a disk where nothing has come yet.
-    fn ends_well(&self, alloc: Global, disk: &MemDisk, come: Trouble) -> bool {
-        let status = ran(alloc, disk, self.command);
-        match come.what {
+    fn ends_well(&self, disk: &MemDisk, come: Trouble) -> io::Result<bool> {
+        let status = self.status(disk);
+        let state = disk.state()?;
+        Ok(match come.what {
             What::Fails(_) => {
-                self.is_as_told(disk, status) && (status == 13 || disk.may_go_on(come.at))
+                self.is_as_told(&state, status) && (status == 13 || state.may_go_on(come.at))
             }
-            What::IsInterrupted(1) => status == 0 && self.is_as_told(disk, 0) && !disk.has_draft(),
-            What::Stops => self.goes_on(alloc, disk),
-            _ => self.is_as_told(disk, status),
-        }
+            What::IsInterrupted(1) => {
+                status == 0 && self.is_as_told(&state, 0) && !state.has_draft()
+            }
+            What::Stops => state.is_between(&self.before, &self.after),
+            _ => self.is_as_told(&state, status),
+        })
     }
 
-    fn is_overcome(&self, alloc: Global, come: Trouble) -> bool {
-        match self.before.copied() {
-            Ok(disk) => disk.plan(&[come]).is_ok() && self.ends_well(alloc, &disk, come),
-            Err(_) => false,
+    /// Whether another process goes on after this one ended: the archive is sound, and the command does what it does, unless it is done.
+    fn goes_on(&self, disk: &MemDisk) -> io::Result<bool> {
+        disk.state()?.plan(None);
+        if answered(self.before.alloc(), disk, &["check", "A"]) != 0 {
+            return Ok(false);
+        }
+        if self.is_batch() || disk.state()?.is_like(&self.after) {
+            return Ok(true);
+        }
+        let status = self.status(disk);
+        let state = disk.state()?;
+        Ok(status == 0 && state.is_like(&self.after))
+    }
+
+    fn is_overcome(&self, come: Trouble) -> io::Result<bool> {
+        let mut state = self.before.copied()?;
+        state.plan(Some(come));
+        let disk = MemDisk::new(state);
+        Ok(self.ends_well(&disk, come)? && self.goes_on(&disk)?)
+    }
+
+    /// Whether the command does what it does where these streams are closed. With no output it is refused if it prints.
+    fn goes_without(&self, closed: [bool; 3]) -> io::Result<bool> {
+        let disk = MemDisk::new(self.before.copied()?);
+        for number in 0..3 {
+            if closed[number] {
+                disk.close(number);
+            }
+        }
+        let status = self.status(&disk);
+        let state = disk.state()?;
+        if closed[1] && !self.after.printed().is_empty() {
+            return Ok(status == 14 && state.is_like(&self.before));
+        }
+        Ok(status == 0 && state.is_like(&self.after))
+    }
+
+    /// Whether the command does what it does where reads and writes move at most so many bytes.
+    fn goes_in_pieces(&self, piece: usize) -> io::Result<bool> {
+        let mut state = self.before.copied()?;
+        state.limits.piece = piece;
+        let disk = MemDisk::new(state);
+        let status = self.status(&disk);
+        let state = disk.state()?;
+        Ok(status == 0 && self.is_as_told(&state, 0))
+    }
+}
+
+/// Checks that the command ends well with each trouble at each call.
+fn overcome(before: &State, command: &Command) -> Result<(), Fail> {
+    let course = course_of(before, command)?;
+    for at in 0..course.calls {
+        for what in TROUBLES {
+            let come = Trouble { at, what: *what };
+            told(course.is_overcome(come)?, command.name())?;
         }
     }
+    Ok(())
 }
 
 #[test]
 fn whatever_comes_at_a_call_files_are_the_new_ones_or_the_old(rt: HostRuntime) -> Result<(), Fail> {
     let before = archived(rt.alloc())?;
     for command in COMMANDS {
-        let course = course_of(rt.alloc(), &before, command)?;
-        for at in 0..course.calls {
-            for what in TROUBLES {
-                let come = Trouble { at, what: *what };
-                told(course.is_overcome(rt.alloc(), come), command.name())?;
-            }
+        overcome(&before, command)?;
+    }
+    overcome(&before, &FOUR)
+}
+
+/// Which streams are closed.
+const CLOSED: [[bool; 3]; 4] = [
+    [false, true, false],
+    [true, false, true],
+    [true, true, false],
+    [true, true, true],
+];
+
+#[test]
+fn what_is_printed_to_a_closed_stream_is_in_no_file(rt: HostRuntime) -> Result<(), Fail> {
+    let before = archived(rt.alloc())?;
+    for command in COMMANDS {
+        let course = course_of(&before, command)?;
+        for closed in CLOSED {
+            told(course.goes_without(closed)?, command.name())?;
         }
     }
     Ok(())
 }
 
-impl Course<'_> {
-    /// Whether the command does what it does where these streams are closed. With no output it is refused if it prints.
-    fn goes_without(&self, alloc: Global, closed: [bool; 3]) -> io::Result<bool> {
-        let disk = self.before.copied()?;
-        for number in 0..3 {
-            if closed[number] {
-                disk.close(number);
-            }
-        }
-        let status = ran(alloc, &disk, self.command);
-        let prints = !self.after.state()?.printed().is_empty();
-        if closed[1] && prints {
-            return Ok(status == 14 && disk.is_like(self.before));
-        }
-        Ok(status == 0 && disk.is_like(&self.after))
-    }
-}
-
 #[test]
-fn what_is_printed_to_a_closed_stream_is_in_no_file(rt: HostRuntime) -> Result<(), Fail> {
+fn short_reads_and_writes_change_nothing(rt: HostRuntime) -> Result<(), Fail> {
     let before = archived(rt.alloc())?;
-    for command in &COMMANDS[..14] {
-        let course = course_of(rt.alloc(), &before, command)?;
-        for closed in [
-            [false, true, false],
-            [true, false, true],
-            [true, true, false],
-            [true; 3],
-        ] {
-            told(course.goes_without(rt.alloc(), closed)?, command.name())?;
+    for command in COMMANDS {
+        let course = course_of(&before, command)?;
+        for piece in [1, 7] {
+            told(course.goes_in_pieces(piece)?, command.name())?;
         }
     }
     Ok(())
@@ -301,15 +345,6 @@ fn what_is_printed_to_a_closed_stream_is_in_no_file(rt: HostRuntime) -> Result<(
 struct Turn {
     line: &'static [u8],
     event: Event,
-}
-
-impl Turn {
-    fn come(&self, at: u64) -> Trouble {
-        Trouble {
-            at,
-            what: What::Meets(self.event),
-        }
-    }
 }
 
 const NORM: &[u8] = b"[\"norm\",\"spec\",\"one\"]\n";
@@ -357,40 +392,35 @@ const TURNS: &[Turn] = &[
     },
 ];
 
-/// Runs a batch of these lines on the disk.
-fn batched(alloc: Global, disk: &MemDisk, lines: &[&[u8]]) -> io::Result<bool> {
-    for line in lines {
-        disk.say(line)?;
-    }
-    Ok(answered(alloc, disk, &["batch"]) == 0)
+/// The disk behind a batch of these lines, where another process does this before the call of this number.
+fn batched(before: &State, lines: &[&[u8]], event: Event, at: usize) -> io::Result<MemDisk> {
+    let mut state = before.copied()?;
+    state.say(lines)?;
+    let what = What::Meets(event);
+    state.plan(Some(Trouble { at, what }));
+    let disk = MemDisk::new(state);
+    let _ = answered(before.alloc(), &disk, &["batch"]);
+    Ok(disk)
 }
 
-/// Whether the second of two equal lines answers of what another process has put there by then: as a batch of that line would that is
-/// begun then.
-fn is_read_anew(alloc: Global, before: &MemDisk, turn: &Turn, is_still: bool) -> io::Result<bool> {
-    let apart = before.copied()?;
-    apart.state()?.limits.is_still = is_still;
-    let is_first = batched(alloc, &apart, &[turn.line])?;
-    let at = apart.state()?.calls();
-    apart.plan(&[turn.come(0)])?;
-    let is_second = batched(alloc, &apart, &[turn.line])?;
-
-    let together = before.copied()?;
-    together.state()?.limits.is_still = is_still;
-    together.plan(&[turn.come(at)])?;
-    let is_both = batched(alloc, &together, &[turn.line, turn.line])?;
-    Ok(is_first && is_second && is_both && together.has_printed_like(&apart))
+/// Whether the second of two equal lines answers of what another process has put there by then, and the first of what stood there
+/// before: as batches of one line would.
+fn is_read_anew(before: &State, turn: &Turn) -> io::Result<bool> {
+    let first = batched(before, &[turn.line], turn.event, usize::MAX)?;
+    let second = batched(before, &[turn.line], turn.event, 0)?;
+    let at = first.state()?.log.len();
+    let both = batched(before, &[turn.line, turn.line], turn.event, at)?;
+    let (first, second, both) = (first.state()?, second.state()?, both.state()?);
+    Ok(both.printed().strip_prefix(first.printed()) == Some(second.printed()))
 }
 
 #[test]
 fn a_batch_reads_what_is_there_then(rt: HostRuntime) -> Result<(), Fail> {
-    let before = archived(rt.alloc())?;
-    for turn in TURNS {
-        for is_still in [false, true] {
-            told(
-                is_read_anew(rt.alloc(), &before, turn, is_still)?,
-                "two lines of a batch",
-            )?;
+    let mut before = archived(rt.alloc())?;
+    for is_still in [false, true] {
+        before.limits.is_still = is_still;
+        for turn in TURNS {
+            told(is_read_anew(&before, turn)?, "two lines of a batch")?;
         }
     }
     Ok(())
