@@ -2,6 +2,10 @@
 #![tactic(auto)]
 
 #[cfg(test)]
+mod over_memory;
+#[cfg(test)]
 mod real;
+#[cfg(test)]
+mod side_by_side;
 #[cfg(test)]
 mod streams;
