@@ -1,12 +1,14 @@
 """Two registers of the Unicode characters, as they stood at each of the 25 ages of the standard up to 15.0.
 
-They are made of Debian's package unicode-data: in one a character's fields are attributes, in the other elements.
+They are made of Debian's package unicode-data: in one a character's fields are attributes, in the other elements, and
+the document is indented.
 """
 import json
 from bisect import bisect_right
 from pathlib import Path
 
 UNICODE = Path("/usr/share/unicode")
+AGES = 25
 
 FIELDS = ["code", "name", "category", "combining", "bidi", "decomposition", "decimal", "digit", "numeric", "mirrored", "old_name",
           "comment", "upper", "lower", "title"]
@@ -44,15 +46,15 @@ def with_elements(fields):
     return ["char", ["code", fields[0]], ["name", fields[1]], ["props", *properties]]
 
 
-def versions(character, **form):
-    """The register's text at each age, one after the other."""
+def versions(character, ages, **form):
+    """The register's text at each of the first ages, one after the other."""
     held = list(characters())
-    for now in sorted({age for age, _ in held}):
+    for now in sorted({age for age, _ in held})[:ages]:
         register = ["ucd", *[character(fields) for age, fields in held if age <= now]]
         yield json.dumps(register, **form) + "\n"
 
 
-def registers():
-    """What each register is called, its keys, and its versions."""
-    yield "characters with attributes", ATTRIBUTES, versions(with_attributes, separators=(",", ":"))
-    yield "characters with elements, indented", ELEMENTS, versions(with_elements, indent=1)
+def registers(ages=AGES):
+    """What each register is called, its keys, and its versions, or the first of them."""
+    yield "characters with attributes", ATTRIBUTES, versions(with_attributes, ages, separators=(",", ":"))
+    yield "characters with elements", ELEMENTS, versions(with_elements, ages, indent=1)
