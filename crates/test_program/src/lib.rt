@@ -1,9 +1,7 @@
-//! Tests of batches, and of whole commands where calls fail, and where none can.
+//! Tests of whole commands that are no lines of text: over objects where no call fails, and beside the merge of all documents.
 #![tactic(auto)]
 
 #[cfg(test)]
-mod batches;
-#[cfg(test)]
-mod failing_calls;
+mod merged;
 #[cfg(test)]
 mod surely;

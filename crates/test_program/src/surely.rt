@@ -8,7 +8,6 @@ ghost use Rattle.xarch_parts.specs.Outcome.{Step};
 ghost use Rattle.xarch_meanings.specs.Step.{StepIs};
 
 use given_outside::{texts, told};
-use given_commands::documents::{JOHN, TINY};
 use std::alloc::{AllocError, Global};
 use std::test::Fail;
 use xa_outside::{SureFolder, SureSink, SureSource};
@@ -37,7 +36,12 @@ const ARCHIVE: &[u8] = b"\
     \0\0\0\0\0\0\0\0\0\0\0\01\0\0\0\0\0\0\0\0\0\0\0\x01\0\0\0\x01\0\0\0\x01\0\0\0\0\0\0\0\0\0\0\0\
     \0\0\0\00";
 
-const FILES: &[(&str, &[u8])] = &[("A", ARCHIVE), ("spec", TINY), ("doc", JOHN)];
+/// A specification, and a document of its one element.
+const SPEC: &[u8] = b"(/, (db, {}))\n";
+
+const DOC: &[u8] = b"[\"db\",[\"dept\",[\"name\",\"finance\"]]]\n";
+
+const FILES: &[(&str, &[u8])] = &[("A", ARCHIVE), ("spec", SPEC), ("doc", DOC)];
 
 /// Words, and the status that they have.
 const ANSWERS: &[(&[&str], u8)] = &[
