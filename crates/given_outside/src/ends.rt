@@ -1,8 +1,8 @@
 ghost use Rattle.std.specs.Prelude.{◌≡◌, [], ◌∷◌, IfOk};
 ghost use Rattle.xa_outside.specs.InMemory.{sink_state};
 
-use std::alloc::{AllocError, Global};
 use given_parts::bytes::{Pieces, joined};
+use std::alloc::{AllocError, Global};
 use xa_outside::{MemSink, MemSource};
 
 /// The input, and which calls of the input, of the output and of the errors' sink fail.

@@ -9,7 +9,7 @@ mod stored;
 
 pub use ends::{Ends, Outside, QUIET, ends_of, sink};
 pub use folders::folder;
-pub use pieces::{are_joined, is_prefix, texts};
-pub use stored::{holds, is_stored};
 pub use given_parts::bytes::{Pieces, joined};
 pub use given_parts::told;
+pub use pieces::{are_joined, is_prefix, texts};
+pub use stored::{holds, is_stored};

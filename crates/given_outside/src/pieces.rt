@@ -1,5 +1,5 @@
-use std::alloc::{AllocError, Global};
 use given_parts::bytes::{Pieces, joined};
+use std::alloc::{AllocError, Global};
 
 /// These words, as a program is given them.
 pub fn texts(alloc: Global, texts: &[&str]) -> Result<Vec<String>, AllocError> {

@@ -19,7 +19,7 @@ pub fn joined(alloc: Global, pieces: Pieces) -> Result<Vec<u8>, AllocError> {
 }
 
 /// Makes the edits that lie within the bytes.
-pub fn edit(bytes: &mut [u8], edits: Edits) {
+pub fn edit(bytes: &mut [u8], edits: &[(usize, u8)]) {
     for (at, byte) in edits {
         if let Some(place) = bytes.get_mut(*at) {
             *place = *byte;

@@ -2,17 +2,17 @@ ghost use Rattle.archive_tree.specs.WellFormed.{AreNodesWellFormed};
 ghost use Rattle.archive_tree.specs.View.{nodes_view};
 
 use archive_tree::{ANode, Archive, effective};
-use jsonml_tree::{Content, Scalar, Tree};
-use keyed_tree::{KeyVal, Keyed, Label};
-use std::alloc::{AllocError, Global};
-use std::test::Fail;
-use version_set::VersionSet;
 use given_parts::shapes::{
     COMPANY, COMPANY_OF_90, COMPANY_OF_95, COMPANY_OF_NONE, DATABASE, EMPLOYEE, FINANCE,
     FIRST_NAME, LAST_NAME, NAME, Named, SALARIES, SALARY_90, Shape, TELEPHONE, Value, archive,
     archive_of, has_version, label, labels, nodes, tree,
 };
 use given_parts::told;
+use jsonml_tree::{Content, Scalar, Tree};
+use keyed_tree::{KeyVal, Keyed, Label};
+use std::alloc::{AllocError, Global};
+use std::test::Fail;
+use version_set::VersionSet;
 
 /// The alternatives of the salary exchanged.
 const EXCHANGED: Shape = Shape::Inner(

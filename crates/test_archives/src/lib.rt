@@ -1,15 +1,7 @@
-//! Tests of the crates that know archives and their files.
+//! Tests of the crates that know archives in memory, and merge versions into them.
 #![tactic(auto)]
 
 #[cfg(test)]
 mod archives;
 #[cfg(test)]
-mod checks;
-#[cfg(test)]
-mod counts;
-#[cfg(test)]
-mod damaged_files;
-#[cfg(test)]
-mod files;
-#[cfg(test)]
-mod keyed_files;
+mod merges;

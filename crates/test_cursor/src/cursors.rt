@@ -1,13 +1,14 @@
 // Walking over the records of the archive of one version, the element `db`.
 use crate::headers::{TINY, folder};
-use keyed_tree::{Label, Name};
+use given_parts::bytes::edit;
+use given_parts::told;
 use record_cursor::{Cursor, CursorFault, Item, read_header};
-use std::alloc::{AllocError, Global};
+use std::alloc::Global;
 use std::test::Fail;
-use xa_outside::{FolderCall, MemFolder};
+use xa_outside::MemFolder;
 
 /// What was given: its kind as in the file, 0 for the end, and the length of an END's body.
-pub(crate) fn told(found: Result<Item<'_>, CursorFault>) -> Result<(u8, u64), CursorFault> {
+fn given(found: Result<Item<'_>, CursorFault>) -> Result<(u8, u64), CursorFault> {
     match found {
         Ok(Item::Inner { .. }) => Ok((1, 0)),
         Ok(Item::Leaf { .. }) => Ok((2, 0)),
@@ -19,56 +20,93 @@ pub(crate) fn told(found: Result<Item<'_>, CursorFault>) -> Result<(u8, u64), Cu
     }
 }
 
-fn start(alloc: Global, folder: &mut MemFolder) -> Result<Cursor, CursorFault> {
-    let header = read_header(alloc, folder, "a.xar", 142)?;
+/// A cursor at the first record of the file, of which it sees so many bytes.
+pub(crate) fn cursor(
+    alloc: Global,
+    folder: &mut MemFolder,
+    length: u64,
+) -> Result<Cursor, CursorFault> {
+    let header = read_header(alloc, folder, "a.xar", length)?;
     Ok(Cursor::start(alloc, "a.xar", &header)?)
 }
 
 /// The items of the file, of which the last comes again and again.
-pub(crate) const ITEMS: &[(u8, u64)] = &[(2, 0), (3, 0), (5, 0), (4, 48), (0, 0), (0, 0)];
+const ITEMS: &[(u8, u64)] = &[(2, 0), (3, 0), (5, 0), (4, 48), (0, 0), (0, 0)];
 
-#[test]
-fn each_record_is_given_in_order(rt: HostRuntime) -> Result<(), Fail> {
-    let mut folder = folder(rt.alloc(), TINY, FolderCall::ReadAt, 100)?;
-    let mut cursor = start(rt.alloc(), &mut folder)?;
-    for item in ITEMS {
-        let found = told(cursor.next(&mut folder));
-        assert!(rt; found == Ok(*item), "kind {}", item.0);
+/// Whether these items are given.
+fn are_given(cursor: &mut Cursor, folder: &mut MemFolder, items: &[(u8, u64)]) -> bool {
+    for item in items {
+        if given(cursor.next(folder)) != Ok(*item) {
+            return false;
+        }
     }
-    Ok(())
+    true
 }
 
-fn db(alloc: Global) -> Result<Label, AllocError> {
-    Ok(Label {
-        name: Name::Tag(String::from_str(alloc, "db")?),
-        keys: Vec::new(alloc),
-    })
-}
-
-#[test]
-fn the_label_is_lent(rt: HostRuntime) -> Result<(), Fail> {
-    let mut folder = folder(rt.alloc(), TINY, FolderCall::ReadAt, 100)?;
-    let mut cursor = start(rt.alloc(), &mut folder)?;
-    let db = db(rt.alloc())?;
-    let is_db = match cursor.next(&mut folder)? {
-        Item::Leaf { label, stamp } => label.order(&db).is_eq() && !stamp.is_stored(),
-        _ => false,
+/// Whether so many items are given and then this fault; and again, or once it was a fault of the folder, all that come
+/// behind.
+fn is_stopped(
+    cursor: &mut Cursor,
+    folder: &mut MemFolder,
+    count: usize,
+    fault: CursorFault,
+) -> bool {
+    let Some((front, rest)) = ITEMS.split_at_checked(count) else {
+        return false;
     };
-    assert!(rt; is_db);
-    Ok(())
+    let stops = are_given(cursor, folder, front) && given(cursor.next(folder)) == Err(fault);
+    match fault {
+        CursorFault::Folder => stops && are_given(cursor, folder, rest),
+        _ => stops && given(cursor.next(folder)) == Err(fault),
+    }
 }
 
-#[test]
-fn a_fault_leaves_the_cursor_where_it_stands(rt: HostRuntime) -> Result<(), Fail> {
-    // The header takes two reads, and the first record a third and a fourth.
-    let mut folder = folder(rt.alloc(), TINY, FolderCall::ReadAt, 4)?;
-    let mut cursor = start(rt.alloc(), &mut folder)?;
-    assert!(rt; told(cursor.next(&mut folder)) == Err(CursorFault::Folder));
-    for item in ITEMS {
-        let found = told(cursor.next(&mut folder));
-        assert!(rt; found == Ok(*item), "kind {}", item.0);
+/// Whether that is so in the first bytes of the file, whose read of this number fails; no fault comes where all is given.
+fn is_walked(
+    alloc: Global,
+    file: &[u8],
+    length: u64,
+    failing: u64,
+    count: usize,
+    fault: CursorFault,
+) -> bool {
+    let Ok(mut folder) = folder(alloc, file, failing) else {
+        return false;
+    };
+    match cursor(alloc, &mut folder, length) {
+        Ok(mut cursor) => {
+            if count == ITEMS.len() {
+                are_given(&mut cursor, &mut folder, ITEMS)
+            } else {
+                is_stopped(&mut cursor, &mut folder, count, fault)
+            }
+        }
+        Err(_) => false,
     }
-    Ok(())
+}
+
+/// The number of a read, and how many items are given before that one fails. The header takes two reads, each record one
+/// for its front and, where it has parts, one for its body.
+const CALLS: &[(u64, usize)] = &[
+    (0, 6),
+    (3, 0),
+    (4, 0),
+    (5, 1),
+    (6, 1),
+    (7, 2),
+    (8, 3),
+    (9, 4),
+];
+
+fn are_reads_told(alloc: Global) -> bool {
+    CALLS.iter().all(|(call, count)| is_walked(
+        alloc,
+        TINY,
+        142,
+        *call,
+        *count,
+        CursorFault::Folder,
+    ))
 }
 
 /// An offset and the byte that stands there instead, and how many items are given before damage. The
@@ -85,29 +123,69 @@ const DAMAGED: &[(usize, u8, usize)] = &[
     (49, 2, 1),
     (68, 1, 2),
     (77, 5, 3),
-    (90, 7, 5),
+    (90, 7, 6),
     (141, 49, 4),
 ];
 
-#[test]
-fn damage_comes_where_nothing_that_fits_stands(rt: HostRuntime) -> Result<(), Fail> {
-    for (at, byte, given) in DAMAGED {
-        let mut file = Vec::from_slice(rt.alloc(), TINY)?;
-        if let Some(place) = file.get_mut(*at) {
-            *place = *byte;
+fn is_damaged(alloc: Global, at: usize, byte: u8, count: usize) -> bool {
+    match Vec::from_slice(alloc, TINY) {
+        Ok(mut file) => {
+            edit(&mut file, &[(at, byte)]);
+            is_walked(alloc, &file, 142, 0, count, CursorFault::Damage)
         }
-        let mut folder = folder(rt.alloc(), &file, FolderCall::ReadAt, 100)?;
-        let mut cursor = start(rt.alloc(), &mut folder)?;
-        for item in ITEMS.iter().take(*given) {
-            assert!(rt;
-                told(cursor.next(&mut folder)) == Ok(*item),
-                "byte {at}, kind {}",
-                item.0
-            );
-        }
-        let last = told(cursor.next(&mut folder));
-        let is_damaged = last == Err(CursorFault::Damage);
-        assert!(rt; is_damaged == (*given < 5), "byte {at}");
+        Err(_) => false,
     }
-    Ok(())
+}
+
+fn are_damaged(alloc: Global) -> bool {
+    DAMAGED
+        .iter()
+        .all(|(at, byte, count)| is_damaged(alloc, *at, *byte, *count))
+}
+
+/// How many items are given of so many bytes of the file.
+fn count_of(length: u64) -> usize {
+    match length {
+        0..=48 => 0,
+        49..=67 => 1,
+        68..=76 => 2,
+        77..=133 => 3,
+        142 => 6,
+        _ => 4,
+    }
+}
+
+fn are_cut_files_walked(alloc: Global) -> bool {
+    let Ok(mut file) = Vec::from_slice(alloc, TINY) else {
+        return false;
+    };
+    if file.push(0).is_err() {
+        return false;
+    }
+    for length in 28..144u64 {
+        if !is_walked(
+            alloc,
+            &file,
+            length,
+            0,
+            count_of(length),
+            CursorFault::Damage,
+        ) {
+            return false;
+        }
+    }
+    true
+}
+
+#[test]
+fn records_are_given_in_order_until_a_fault(rt: HostRuntime) -> Result<(), Fail> {
+    told(
+        are_reads_told(rt.alloc()),
+        "each read that fails is told and made good",
+    )?;
+    told(
+        are_damaged(rt.alloc()),
+        "damage comes where nothing that fits stands",
+    )?;
+    told(are_cut_files_walked(rt.alloc()), "a file that is cut")
 }

@@ -1,71 +1,48 @@
-// Walking over records that the file does not hold whole, or that are long.
-use crate::cursors::{ITEMS, told};
+// A record that is long, and a label.
+use crate::cursors::cursor;
 use crate::headers::{TINY, folder};
 use crate::nested::record;
-use record_cursor::{Cursor, CursorFault, Item, read_header};
+use given_parts::told;
+use keyed_tree::{Label, Name};
+use record_cursor::{Cursor, Item};
 use std::alloc::{AllocError, Global};
 use std::test::Fail;
-use xa_outside::{FolderCall, MemFolder};
+use xa_outside::MemFolder;
 
-/// A cursor at the first record of the file, of which it sees so many bytes.
-fn cursor(alloc: Global, folder: &mut MemFolder, length: u64) -> Result<Cursor, CursorFault> {
-    let header = read_header(alloc, folder, "a.xar", length)?;
-    Ok(Cursor::start(alloc, "a.xar", &header)?)
+fn db(alloc: Global) -> Result<Label, AllocError> {
+    Ok(Label {
+        name: Name::Tag(String::from_str(alloc, "db")?),
+        keys: Vec::new(alloc),
+    })
 }
 
-/// How many items are given in order, and the fault that came then.
-fn walked(cursor: &mut Cursor, folder: &mut MemFolder) -> (usize, Option<CursorFault>) {
-    for (index, item) in ITEMS.iter().enumerate() {
-        match told(cursor.next(folder)) {
-            Ok(found) if found == *item => (),
-            Ok(_) => return (index, None),
-            Err(fault) => return (index, Some(fault)),
+/// Whether the next item is the leaf of this label, in all versions.
+fn is_leaf(cursor: &mut Cursor, folder: &mut MemFolder, db: &Label) -> bool {
+    match cursor.next(folder) {
+        Ok(Item::Leaf { label, stamp }) => label.order(db).is_eq() && !stamp.is_stored(),
+        _ => false,
+    }
+}
+
+/// Whether the next item is an alternative of this body.
+fn is_alternative(cursor: &mut Cursor, folder: &mut MemFolder, wanted: &[u8]) -> bool {
+    match cursor.next(folder) {
+        Ok(Item::Alt { body, .. }) => body.bytes() == wanted,
+        _ => false,
+    }
+}
+
+/// Whether the file begins with the leaf `db` and an alternative of this body.
+fn are_lent(alloc: Global, file: &[u8], body: &[u8]) -> bool {
+    let (Ok(mut folder), Ok(db)) = (folder(alloc, file, 0), db(alloc)) else {
+        return false;
+    };
+    match cursor(alloc, &mut folder, file.len() as u64) {
+        Ok(mut cursor) => {
+            is_leaf(&mut cursor, &mut folder, &db) && is_alternative(&mut cursor, &mut folder, body)
         }
+        Err(_) => false,
     }
-    (ITEMS.len(), None)
-}
-
-/// How many items are given of so many bytes of the file of one version, and what comes then.
-fn given(length: u64) -> (usize, Option<CursorFault>) {
-    match length {
-        0..=48 => (0, Some(CursorFault::Damage)),
-        49..=67 => (1, Some(CursorFault::Damage)),
-        68..=76 => (2, Some(CursorFault::Damage)),
-        77..=133 => (3, Some(CursorFault::Damage)),
-        142 => (6, None),
-        _ => (4, Some(CursorFault::Damage)),
-    }
-}
-
-#[test]
-fn a_file_that_is_cut_gives_its_whole_records(rt: HostRuntime) -> Result<(), Fail> {
-    let mut file = Vec::from_slice(rt.alloc(), TINY)?;
-    file.push(0)?;
-    let mut folder = folder(rt.alloc(), &file, FolderCall::ReadAt, 0)?;
-    for length in 28..144u64 {
-        let mut cursor = cursor(rt.alloc(), &mut folder, length)?;
-        let found = walked(&mut cursor, &mut folder);
-        assert!(rt; found == given(length), "{length} bytes");
-    }
-    Ok(())
-}
-
-/// The number of a call of `read_at`, and how many items are given before that one fails. The header
-/// takes two reads, each record one for its front and, where it has parts, one for its body.
-const CALLS: &[(u64, usize)] = &[(3, 0), (4, 0), (5, 1), (6, 1), (7, 2), (8, 3), (9, 4)];
-
-#[test]
-fn each_failed_read_is_told_and_made_good(rt: HostRuntime) -> Result<(), Fail> {
-    for (call, items) in CALLS {
-        let mut folder = folder(rt.alloc(), TINY, FolderCall::ReadAt, *call)?;
-        let mut cursor = cursor(rt.alloc(), &mut folder, 142)?;
-        let found = walked(&mut cursor, &mut folder);
-        assert!(rt; found == (*items, Some(CursorFault::Folder)), "call {call}");
-        for item in ITEMS.iter().skip(*items) {
-            assert!(rt; told(cursor.next(&mut folder)) == Ok(*item), "call {call}");
-        }
-    }
-    Ok(())
 }
 
 /// The header and the leaf of the file of one version.
@@ -80,18 +57,26 @@ fn long_body(alloc: Global, length: u32) -> Result<Vec<u8>, AllocError> {
     Ok(body)
 }
 
-#[test]
-fn a_long_body_is_lent_whole(rt: HostRuntime) -> Result<(), Fail> {
-    let body = long_body(rt.alloc(), 1_048_577)?;
-    let mut file = Vec::from_slice(rt.alloc(), OPEN)?;
-    file.extend_from_slice(&record(rt.alloc(), 3, b"\0", &body)?)?;
-    let mut folder = folder(rt.alloc(), &file, FolderCall::ReadAt, 0)?;
-    let mut cursor = cursor(rt.alloc(), &mut folder, file.len() as u64)?;
-    assert!(rt; told(cursor.next(&mut folder)) == Ok((2, 0)));
-    let is_lent = match cursor.next(&mut folder)? {
-        Item::Alt { body: lent, .. } => lent.bytes() == body.as_slice(),
-        _ => false,
+/// A file of a leaf with this body.
+fn file_of(alloc: Global, body: &[u8]) -> Result<Vec<u8>, AllocError> {
+    let mut file = Vec::from_slice(alloc, OPEN)?;
+    file.extend_from_slice(&record(alloc, 3, b"\0", body)?)?;
+    Ok(file)
+}
+
+fn is_long_lent(alloc: Global) -> bool {
+    let Ok(body) = long_body(alloc, 1_048_577) else {
+        return false;
     };
-    assert!(rt; is_lent);
-    Ok(())
+    match file_of(alloc, &body) {
+        Ok(file) => are_lent(alloc, &file, &body),
+        Err(_) => false,
+    }
+}
+
+#[test]
+fn labels_and_bodies_are_lent(rt: HostRuntime) -> Result<(), Fail> {
+    let empty = b"\x01\0\0\0\0\0\0\0\0";
+    told(are_lent(rt.alloc(), TINY, empty), "a label")?;
+    told(is_long_lent(rt.alloc()), "a long body")
 }

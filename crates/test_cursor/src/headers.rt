@@ -1,36 +1,38 @@
 // Reading the header of the archive of one version, the element `db`.
+pub(crate) use given_parts::bytes::TINY;
+use given_parts::bytes::edit;
+use given_parts::told;
 use record_cursor::{CursorFault, Header, read_header};
 use std::alloc::{AllocError, Global};
 use std::test::Fail;
 use xa_outside::{FolderCall, FolderFail, MemFolder};
 
-/// The file of one version, the element `db`.
-pub(crate) const TINY: &[u8] = b"\
-    XARC1\n\0\0\0\x0e(/, (db, {}))\n\0\0\0\x01\x02\0\0\0\0\0\0\0\x0c\x01\0\0\0\x02db\0\0\0\0\0\x03\
-    \0\0\0\0\0\0\0\n\0\x01\0\0\0\0\0\0\0\0\x05\0\0\0\0\0\0\0\0\x04\0\0\0\0\0\0\00\0\0\0\x01\0\0\0\
-    \0\0\0\0\0\0\0\0\0\0\0\01\0\0\0\0\0\0\0\0\0\0\0\x01\0\0\0\x01\0\0\0\x01\0\0\0\0\0\0\0\0\0\0\0\
-    \0\0\0\00";
-
-/// A folder with this file, whose call of this number fails.
-pub(crate) fn folder(
-    alloc: Global,
-    file: &[u8],
-    call: FolderCall,
-    number: u64,
-) -> Result<MemFolder, AllocError> {
+/// A folder with this file, whose read of this number fails.
+pub(crate) fn folder(alloc: Global, file: &[u8], number: u64) -> Result<MemFolder, AllocError> {
+    let call = FolderCall::ReadAt;
     let mut folder = MemFolder::new(alloc, vec![in alloc; FolderFail { call, number }]?);
     folder.put("a.xar", Vec::from_slice(alloc, file)?)?;
     Ok(folder)
 }
 
-#[test]
-fn the_header_is_read(rt: HostRuntime) -> Result<(), Fail> {
-    let mut folder = folder(rt.alloc(), TINY, FolderCall::ReadAt, 100)?;
-    let header = read_header(rt.alloc(), &mut folder, "a.xar", 142)?;
-    let text = header.spec.text(rt.alloc())?;
-    assert_eq!(rt; text.as_str(), "(/, (db, {}))\n");
-    assert!(rt; (header.versions, header.first, header.length) == (1, 28, 142));
-    Ok(())
+fn is_tiny(alloc: Global, header: &Header) -> bool {
+    match header.spec.text(alloc) {
+        Ok(text) => {
+            text.as_str() == "(/, (db, {}))\n"
+                && (header.versions, header.first, header.length) == (1, 28, 142)
+        }
+        Err(_) => false,
+    }
+}
+
+fn is_header_read(alloc: Global) -> bool {
+    let Ok(mut folder) = folder(alloc, TINY, 0) else {
+        return false;
+    };
+    match read_header(alloc, &mut folder, "a.xar", 142) {
+        Ok(header) => is_tiny(alloc, &header),
+        Err(_) => false,
+    }
 }
 
 /// The name and the length of a file, and whether a header stands there.
@@ -52,14 +54,16 @@ fn is_read(found: &Result<Header, CursorFault>) -> Option<bool> {
     }
 }
 
-#[test]
-fn a_header_ends_within_the_file(rt: HostRuntime) -> Result<(), Fail> {
-    let mut folder = folder(rt.alloc(), TINY, FolderCall::ReadAt, 100)?;
-    for (name, length, stands) in FRONTS {
-        let found = read_header(rt.alloc(), &mut folder, name, *length);
-        assert!(rt; is_read(&found) == Some(*stands), "{name}, {length} bytes");
+/// Whether a header stands in front of the first bytes of the file of this name, or does not, as it should.
+fn is_judged(alloc: Global, file: &[u8], name: &str, length: u64, stands: bool) -> bool {
+    match folder(alloc, file, 0) {
+        Ok(mut folder) => is_read(&read_header(alloc, &mut folder, name, length)) == Some(stands),
+        Err(_) => false,
     }
-    Ok(())
+}
+
+fn are_fronts_judged(alloc: Global) -> bool {
+    FRONTS.iter().all(|(name, length, stands)| is_judged(alloc, TINY, name, *length, *stands))
 }
 
 /// An offset and the byte that stands there instead: each byte of the magic, the length of the
@@ -83,26 +87,36 @@ const BROKEN: &[(usize, u8)] = &[
     (25, 16),
 ];
 
-#[test]
-fn no_header_has_a_broken_field(rt: HostRuntime) -> Result<(), Fail> {
-    for (at, byte) in BROKEN {
-        let mut file = Vec::from_slice(rt.alloc(), TINY)?;
-        if let Some(place) = file.get_mut(*at) {
-            *place = *byte;
+fn is_broken(alloc: Global, at: usize, byte: u8) -> bool {
+    match Vec::from_slice(alloc, TINY) {
+        Ok(mut file) => {
+            edit(&mut file, &[(at, byte)]);
+            is_judged(alloc, &file, "a.xar", 142, false)
         }
-        let mut folder = folder(rt.alloc(), &file, FolderCall::ReadAt, 0)?;
-        let found = read_header(rt.alloc(), &mut folder, "a.xar", 142);
-        assert!(rt; is_read(&found) == Some(false), "byte {at}");
+        Err(_) => false,
     }
-    Ok(())
+}
+
+fn are_broken(alloc: Global) -> bool {
+    BROKEN.iter().all(|(at, byte)| is_broken(alloc, *at, *byte))
+}
+
+fn is_fault_told(alloc: Global) -> bool {
+    let Ok(mut folder) = folder(alloc, TINY, 2) else {
+        return false;
+    };
+    let first = read_header(alloc, &mut folder, "a.xar", 142);
+    let second = read_header(alloc, &mut folder, "a.xar", 142);
+    matches!(&first, Err(CursorFault::Folder)) && is_read(&second) == Some(true)
 }
 
 #[test]
-fn a_failed_call_is_told_as_such(rt: HostRuntime) -> Result<(), Fail> {
-    let mut folder = folder(rt.alloc(), TINY, FolderCall::ReadAt, 2)?;
-    let first = read_header(rt.alloc(), &mut folder, "a.xar", 142);
-    assert!(rt; matches!(&first, Err(CursorFault::Folder)));
-    let second = read_header(rt.alloc(), &mut folder, "a.xar", 142);
-    assert!(rt; is_read(&second) == Some(true));
-    Ok(())
+fn headers_are_read_or_refused(rt: HostRuntime) -> Result<(), Fail> {
+    told(is_header_read(rt.alloc()), "the header")?;
+    told(
+        are_fronts_judged(rt.alloc()),
+        "a header ends within the file",
+    )?;
+    told(are_broken(rt.alloc()), "no header has a broken field")?;
+    told(is_fault_told(rt.alloc()), "a read that fails")
 }

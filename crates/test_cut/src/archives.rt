@@ -1,9 +1,8 @@
 //! Cutting versions out of archive files.
 use archive_cut::{CutFault, cut};
+use given_archives::{NAME, Stopped};
 use record_cursor::{Cursor, read_header};
 use std::alloc::Global;
-use std::test::Fail;
-use given_archives::NAME;
 use xa_outside::{Folder, MemFolder};
 
 /// What is answered where the versions from the first to the last are cut out of the file, which
@@ -11,13 +10,13 @@ use xa_outside::{Folder, MemFolder};
 pub(crate) fn cut_out(
     alloc: Global,
     folder: &mut MemFolder,
-    length: u64,
+    length: usize,
     first: u32,
     last: u32,
-) -> Result<Result<(), CutFault>, Fail> {
-    let header = read_header(alloc, folder, NAME, length)?;
+) -> Result<Result<(), CutFault>, Stopped> {
+    let header = read_header(alloc, folder, NAME, length as u64)?;
     if first < 1 || last < first || header.versions < last {
-        return Err("there are no such versions".into());
+        return Err(Stopped);
     }
     let cursor = Cursor::start(alloc, NAME, &header)?;
     folder.begin()?;

@@ -4,8 +4,6 @@
 #[cfg(test)]
 mod archives;
 #[cfg(test)]
-mod damaged;
-#[cfg(test)]
 mod refusals;
 #[cfg(test)]
 mod slices;

@@ -1,103 +1,104 @@
 // Versions cut out of files. What is expected was merged in memory of their documents alone, and
 // written at once.
 use crate::archives::cut_out;
-use archive_cut::CutFault;
+use given_archives::lists::LISTS;
+use given_archives::{
+    GREAT_SIZES, NAME, NEVER, SIZES, Size, documents_of, file, folder, is_drafted, keys_of, lent,
+};
+use given_parts::told;
 use std::alloc::Global;
 use std::test::Fail;
-use given_archives::{NAME, file, folder};
-use xa_outside::Folder;
 
-const TINY: &str = "(/, (db, {}))\n";
-
-const COMPANY: &str = "(/, (db, {}))
-(/db, (dept, {name}))
-(/db/dept, (emp, {fn, ln}))
-(/db/dept/emp, (sal, {}))
-(/db/dept/emp, (tel, {.}))
-";
-
-const NUMBERED: &str = "(/, (db, {}))
-(/db, (e, {@id}))
-";
-
-const OF_90: &str =
-    r#"["db",["dept",["name","finance"],["emp",["fn","John"],["ln","Doe"],["sal","90K"],["tel","123-4567"]]]]"#;
-
-const OF_95: &str =
-    r#"["db",["dept",["name","finance"],["emp",["fn","John"],["ln","Doe"],["sal","95K"],["tel","123-4567"]]]]"#;
-
-const OF_NONE: &str = r#"["db",["dept",["name","finance"]]]"#;
-
-/// A specification, and documents of which each slice is cut out.
-const SLICED: &[(&str, &str, &[&str])] = &[
-    (
-        "a content that changes and comes back",
-        TINY,
-        &[
-            r#"["db","x"]"#,
-            r#"["db","y"]"#,
-            r#"["db","x"]"#,
-            r#"["db"]"#,
-            r#"["db","y"]"#,
-        ],
-    ),
-    ("a salary that returns", COMPANY, &[OF_90, OF_95, OF_90]),
-    (
-        "an employee who goes and comes back",
-        COMPANY,
-        &[OF_90, OF_NONE, OF_NONE, OF_95],
-    ),
-    (
-        "elements that come and go",
-        NUMBERED,
-        &[
-            r#"["db",["e",{"id":1}],["e",{"id":2}],["e",{"id":4}]]"#,
-            r#"["db",["e",{"id":3}]]"#,
-            r#"["db",["e",{"id":5}],["e",{"id":6}]]"#,
-            r#"["db",["e",{"id":7}],["e",{"id":8}]]"#,
-            r#"["db",["e",{"id":3}]]"#,
-            r#"["db"]"#,
-        ],
-    ),
-];
-
-// The file of the versions from the first to the last.
-fn slice(alloc: Global, old: &[u8], first: usize, last: usize) -> Result<Option<Vec<u8>>, Fail> {
-    let (Ok(from), Ok(to)) = (u32::try_from(first), u32::try_from(last)) else {
-        return Ok(None);
+// Whether the versions from the first to the last are cut out as this file.
+fn is_slice(alloc: Global, whole: &[u8], first: u32, last: u32, wanted: &[u8]) -> bool {
+    let Some(mut folder) = folder(alloc, &[(NAME, whole)], NEVER) else {
+        return false;
     };
-    let mut folder = folder(alloc, old, Vec::new(alloc))?;
-    let answer = cut_out(alloc, &mut folder, old.len() as u64, from, to)?;
-    if answer != Ok(()) || folder.file(NAME) != Some(old) {
-        return Ok(None);
-    }
-    folder.commit("b.xar")?;
-    match folder.file("b.xar") {
-        Some(bytes) => Ok(Some(Vec::from_slice(alloc, bytes)?)),
-        None => Ok(None),
+    cut_out(alloc, &mut folder, whole.len(), first, last) == Ok(Ok(()))
+        && folder.file(NAME) == Some(whole)
+        && is_drafted(&mut folder, wanted)
+}
+
+// Whether the documents from one place to another are cut out of the file of all.
+fn is_cut(
+    alloc: Global,
+    whole: &[u8],
+    keys: &str,
+    documents: &[&str],
+    from: usize,
+    to: usize,
+) -> bool {
+    let slice = documents.get(from..to).unwrap_or(&[]);
+    match (
+        file(alloc, keys, slice),
+        u32::try_from(from),
+        u32::try_from(to),
+    ) {
+        (Some(wanted), Ok(from), Ok(to)) => {
+            is_slice(alloc, whole, from.saturating_add(1), to, &wanted)
+        }
+        _ => false,
     }
 }
 
 // Whether each slice of the documents' file is the file of its documents.
-fn are_sliced(alloc: Global, spec: &str, documents: &[&str]) -> Result<bool, Fail> {
-    let whole = file(alloc, spec, documents)?;
-    for first in 0..documents.len() {
-        for last in first..documents.len() {
-            let more = last + 1;
-            let wanted = file(alloc, spec, &documents[first..more])?;
-            let first = first + 1;
-            if slice(alloc, &whole, first, more)? != Some(wanted) {
-                return Ok(false);
+fn are_cut(alloc: Global, keys: &str, documents: &[&str]) -> bool {
+    let Some(whole) = file(alloc, keys, documents) else {
+        return false;
+    };
+    for from in 0..documents.len() {
+        for last in from..documents.len() {
+            if !is_cut(alloc, &whole, keys, documents, from, last + 1) {
+                return false;
             }
         }
     }
-    Ok(true)
+    true
 }
 
 #[test]
 fn slices_are_the_archives_of_their_versions(rt: HostRuntime) -> Result<(), Fail> {
-    for (name, spec, documents) in SLICED {
-        assert!(rt; are_sliced(rt.alloc(), spec, documents)?, "{name}");
+    for (name, keys, documents) in LISTS {
+        told(are_cut(rt.alloc(), keys, documents), name)?;
     }
     Ok(())
+}
+
+// Whether both halves of the documents are cut out of the file of all.
+fn are_halves_cut(alloc: Global, keys: &str, documents: &[&str]) -> bool {
+    let (middle, end) = (documents.len() / 2, documents.len());
+    match file(alloc, keys, documents) {
+        Some(whole) => {
+            is_cut(alloc, &whole, keys, documents, 0, middle)
+                && is_cut(alloc, &whole, keys, documents, middle, end)
+        }
+        None => false,
+    }
+}
+
+fn is_large_cut(alloc: Global, size: Size) -> bool {
+    let Ok(documents) = documents_of(alloc, size) else {
+        return false;
+    };
+    match lent(alloc, &documents) {
+        Some(documents) => are_halves_cut(alloc, keys_of(size), &documents),
+        None => false,
+    }
+}
+
+fn are_large_cut(alloc: Global, sizes: &[(&'static str, Size)]) -> Result<(), Fail> {
+    for (name, size) in sizes {
+        told(is_large_cut(alloc, *size), name)?;
+    }
+    Ok(())
+}
+
+#[test]
+fn large_archives_are_cut(rt: HostRuntime) -> Result<(), Fail> {
+    are_large_cut(rt.alloc(), SIZES)
+}
+
+#[test]
+fn great_archives_are_cut(rt: HostRuntime) -> Result<(), Fail> {
+    are_large_cut(rt.alloc(), GREAT_SIZES)
 }

@@ -1,9 +1,9 @@
-use crate::reading::{is_read, read};
+use given_parts::documents::{is_read, read};
+use given_parts::told;
 use jsonml_tree::Tree;
 use key_spec::Spec;
 use std::alloc::Global;
 use std::test::Fail;
-use given_parts::told;
 use xarch_gen::{company_spec, sample};
 
 const COMPANY_TEXT: &str = "(/, (db, {}))

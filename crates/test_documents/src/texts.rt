@@ -1,16 +1,16 @@
 ghost use Rattle.jsonml_tree.specs.Fits.{IsElement};
 ghost use Rattle.jsonml_tree.specs.View.{tree_view};
 
-use crate::reading::{lend, read};
+use given_outside::{Pieces, joined};
+use given_parts::documents::{lend, read};
+use given_parts::told;
 use jsonml_text::{
     DocFault, Printer, content_of, print_lent_content, read_document, scalar_of, write_tree,
 };
 use jsonml_tree::{Content, LentContent, LentTree, Scalar, Tree};
-use given_outside::{Pieces, joined};
 use serde_json::Value;
 use std::alloc::{AllocError, Global};
 use std::test::Fail;
-use given_parts::told;
 use xa_outside::{Failed, MemSink};
 
 /// A text of more than a mebibyte.
@@ -328,6 +328,32 @@ fn is_array_content(alloc: Global, array: &str, text: &str) -> bool {
         Ok(value) => is_content(alloc, &value, text),
         Err(_) => false,
     }
+}
+
+fn are_no_content(alloc: Global, value: &Value) -> bool {
+    match value {
+        Value::Array(values) => matches!(content_of(alloc, values), Ok(None)),
+        _ => false,
+    }
+}
+
+/// Whether this is the JSON text of an array whose values are no content.
+fn is_no_content(alloc: Global, array: &str) -> bool {
+    match Value::from_str(alloc, array) {
+        Ok(value) => are_no_content(alloc, &value),
+        Err(_) => false,
+    }
+}
+
+/// Arrays with a number, an element without a tag, attributes behind an item, a fraction, and a null.
+const NO_CONTENTS: &[&str] = &["[5]", "[[]]", "[\"x\",{}]", "[{\"a\":1.5}]", "[null]"];
+
+#[test]
+fn other_values_are_no_content(rt: HostRuntime) -> Result<(), Fail> {
+    for array in NO_CONTENTS {
+        told(is_no_content(rt.alloc(), array), array)?;
+    }
+    Ok(())
 }
 
 #[test]

@@ -1,9 +1,9 @@
-use crate::reading::{lend, read};
+use given_parts::documents::{lend, read};
+use given_parts::told;
 use jsonml_tree::{Content, LentAttr, LentContent, LentScalar, LentTree, Scalar, Tree};
 use std::alloc::{AllocError, Global};
 use std::cmp::Ordering;
 use std::test::Fail;
-use given_parts::told;
 
 /// Scalars, each before the next: by kind and then by value.
 fn scalars(alloc: Global) -> Result<[Scalar; 6], AllocError> {

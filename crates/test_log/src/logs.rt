@@ -2,8 +2,13 @@
 ghost use Rattle.std.specs.Prelude.{◌≡◌, ◌<◌};
 ghost use Rattle.record_cursor.specs.View.{header_view, IsHeader};
 
-use crate::archives::{COMPANY, CUT, FLOORS, ITEMS, RAISED, RETURNED, SIX, folder};
 use content_log::{LogFault, log};
+use given_archives::lists::{COMPANY, FLOORS, NUMBERED, PAID_90, PAID_95, RETURN, SALARIES, SIX};
+use given_archives::{
+    Failing, NAME, NEVER, Size, Stopped, documents_of, file, folder, keys_of, lent,
+};
+use given_outside::sink;
+use given_parts::told;
 use key_rules::read_path;
 use keyed_tree::Label;
 use record_cursor::{Header, read_header};
@@ -12,12 +17,7 @@ use std::marker::Brand;
 use std::sync::ledger::{Blank, Ledger};
 use std::test::Fail;
 use timestamp_tree::Steps;
-use given_archives::{NAME, file};
-use given_parts::told;
-use xa_outside::{MemFolder, MemSink};
-
-/// Nothing fails so late.
-const NEVER: u64 = 1000;
+use xa_outside::{FolderCall, MemFolder, MemSink};
 
 fn counted<L: Ledger>(
     blank: Blank,
@@ -40,181 +40,240 @@ fn counted<L: Ledger>(
 fn logged(
     alloc: Global,
     folder: &mut MemFolder,
-    size: u64,
+    size: usize,
     path: &str,
     out: &mut MemSink,
-) -> Result<Result<(), LogFault>, Fail> {
-    let header = read_header(alloc, folder, NAME, size)?;
+) -> Result<Result<(), LogFault>, Stopped> {
+    let header = read_header(alloc, folder, NAME, size as u64)?;
     let labels = read_path(alloc, &header.spec, path)?;
     let blank = Blank::new(1);
     Ok(counted::<Brand>(blank, alloc, folder, &header, &labels, out))
 }
 
-/// Whether the log of the path in the archive of these documents has these lines.
+/// Whether the log of the path in the file has these lines, and no more bytes are pulled than so many.
+fn is_told(alloc: Global, bytes: &[u8], path: &str, lines: &[u8], most: u64) -> bool {
+    let Some(mut folder) = folder(alloc, &[(NAME, bytes)], NEVER) else {
+        return false;
+    };
+    let mut out = MemSink::new(alloc, Vec::new(alloc));
+    logged(alloc, &mut folder, bytes.len(), path, &mut out) == Ok(Ok(()))
+        && out.taken() == lines
+        && folder.pulled() <= most
+}
+
 fn is_logged(
     alloc: Global,
     keys: &str,
     documents: &[&str],
     path: &str,
     lines: &str,
-) -> Result<bool, Fail> {
-    let bytes = file(alloc, keys, documents)?;
-    let mut folder = folder(alloc, &bytes, NEVER)?;
-    let mut out = MemSink::new(alloc, Vec::new(alloc));
-    let answer = logged(alloc, &mut folder, bytes.len() as u64, path, &mut out)?;
-    Ok(answer.is_ok() && out.taken() == lines.as_bytes())
+    most: u64,
+) -> bool {
+    match file(alloc, keys, documents) {
+        Some(bytes) => is_told(alloc, &bytes, path, lines.as_bytes(), most),
+        None => false,
+    }
 }
 
 const SALARY: &str = r#"["db",["dept","finance"],["emp","John","Doe"],"sal"]"#;
 
-#[test]
-fn a_salary_that_returns_has_one_line(rt: HostRuntime) -> Result<(), Fail> {
-    let lines = "1,3 [\"sal\",\"90K\"]\n2 [\"sal\",\"95K\"]\n";
-    told(
-        is_logged(rt.alloc(), COMPANY, RAISED, SALARY, lines)?,
-        "lines",
-    )
-}
+/// The salary is cut, and stays.
+const CUT: &[&str] = &[PAID_95, PAID_90, PAID_90];
 
-#[test]
-fn a_leaf_inherits_from_the_nodes_above_it(rt: HostRuntime) -> Result<(), Fail> {
-    let lines = "1,3 [\"sal\",\"90K\"]\n";
-    told(
-        is_logged(rt.alloc(), COMPANY, RETURNED, SALARY, lines)?,
-        "lines",
-    )
-}
-
-#[test]
-fn lines_stand_in_the_order_of_first_versions(rt: HostRuntime) -> Result<(), Fail> {
-    let lines = "1 [\"sal\",\"95K\"]\n2-3 [\"sal\",\"90K\"]\n";
-    told(is_logged(rt.alloc(), COMPANY, CUT, SALARY, lines)?, "lines")
-}
-
-#[test]
-fn an_attribute_is_its_scalar(rt: HostRuntime) -> Result<(), Fail> {
-    let path = r#"["db",["dept","finance"],"@floor"]"#;
-    told(
-        is_logged(rt.alloc(), COMPANY, FLOORS, path, "1 \"3\"\n2 3\n")?,
-        "lines",
-    )
-}
-
-/// The lines of a path in the archive of six versions, and how many bytes are pulled behind the
-/// header: the tail, what the search looks at, and the leaf.
-const ITEM_LINES: &[(&str, &str, u64)] = &[
-    (r#"["db",["e",3]]"#, "2,5 [\"e\",{\"id\":3}]\n", 444),
-    (r#"["db",["e",9]]"#, "", 351),
-    (r#"["db"]"#, "", 66),
-    ("[]", "", 8),
+/// Keys, documents, a path, its lines, and how many bytes are pulled at most: the front and the tail, what the search
+/// looks at, and the leaf.
+const LOGGED: &[(&str, &str, &[&str], &str, &str, u64)] = &[
+    (
+        "a salary that returns has one line",
+        COMPANY,
+        SALARIES,
+        SALARY,
+        "1,3 [\"sal\",\"90K\"]\n2 [\"sal\",\"95K\"]\n",
+        100_000,
+    ),
+    (
+        "a leaf inherits from the nodes above it",
+        COMPANY,
+        RETURN,
+        SALARY,
+        "1,3 [\"sal\",\"90K\"]\n",
+        100_000,
+    ),
+    (
+        "lines stand in the order of first versions",
+        COMPANY,
+        CUT,
+        SALARY,
+        "1 [\"sal\",\"95K\"]\n2-3 [\"sal\",\"90K\"]\n",
+        100_000,
+    ),
+    (
+        "an attribute is its scalar",
+        COMPANY,
+        FLOORS,
+        r#"["db",["dept","finance"],"@floor"]"#,
+        "1 \"3\"\n2 3\n",
+        100_000,
+    ),
+    (
+        "an element",
+        NUMBERED,
+        SIX,
+        r#"["db",["e",3]]"#,
+        "2,5 [\"e\",{\"id\":3}]\n",
+        490,
+    ),
+    ("no element", NUMBERED, SIX, r#"["db",["e",9]]"#, "", 397),
+    ("an inner node", NUMBERED, SIX, r#"["db"]"#, "", 112),
+    ("the root", NUMBERED, SIX, "[]", "", 54),
 ];
 
 #[test]
-fn no_more_is_read_than_the_search_and_the_leaf(rt: HostRuntime) -> Result<(), Fail> {
-    let alloc = rt.alloc();
-    let bytes = file(alloc, ITEMS, SIX)?;
-    for (path, lines, most) in ITEM_LINES {
-        let mut folder = folder(alloc, &bytes, NEVER)?;
-        let mut out = MemSink::new(alloc, Vec::new(alloc));
-        let answer = logged(alloc, &mut folder, bytes.len() as u64, path, &mut out)?;
-        told(answer.is_ok() && out.taken() == lines.as_bytes(), "lines")?;
-        told(folder.pulled() <= 46 + most, "bytes that are pulled")?;
+fn contents_are_logged(rt: HostRuntime) -> Result<(), Fail> {
+    for (name, keys, documents, path, lines, most) in LOGGED {
+        let holds = is_logged(rt.alloc(), keys, documents, path, lines, *most);
+        told(holds, name)?;
     }
     Ok(())
 }
 
-/// Whether the log of the salary is refused so, where a read and a write of these numbers fail, and
-/// what was written is a prefix of the lines.
-fn is_refused(
-    alloc: Global,
-    bytes: &[u8],
-    wanted: LogFault,
-    read: u64,
-    write: u64,
-) -> Result<bool, Fail> {
-    let mut folder = folder(alloc, bytes, read)?;
-    let mut fails = Vec::new(alloc);
-    fails.push(write)?;
-    let mut out = MemSink::new(alloc, fails);
-    let answer = logged(alloc, &mut folder, bytes.len() as u64, SALARY, &mut out)?;
-    Ok(answer == Err(wanted) && out.taken().is_empty())
-}
-
-#[test]
-fn a_call_that_fails_is_no_damage(rt: HostRuntime) -> Result<(), Fail> {
-    let alloc = rt.alloc();
-    let bytes = file(alloc, COMPANY, RAISED)?;
-    let folder = LogFault::Folder;
-    told(is_refused(alloc, &bytes, folder, 3, NEVER)?, "the tail")?;
-    told(is_refused(alloc, &bytes, folder, 28, NEVER)?, "the leaf")?;
-    told(
-        is_refused(alloc, &bytes, LogFault::Out, NEVER, 1)?,
-        "output",
-    )
-}
-
-#[test]
-fn a_file_without_its_tail_is_damaged(rt: HostRuntime) -> Result<(), Fail> {
-    let alloc = rt.alloc();
-    let mut bytes = file(alloc, COMPANY, RAISED)?;
-    let last = bytes.len().saturating_sub(1);
-    match bytes.get_mut(last) {
-        Some(byte) => *byte = 255,
-        None => return Err("the file is empty".into()),
+/// A line for each of the contents, of which one is in one version.
+fn lines_of(alloc: Global, documents: &[&str]) -> Option<String> {
+    let mut lines = String::new(alloc);
+    let mut version = 0u32;
+    for document in documents {
+        version = version.saturating_add(1);
+        lines
+            .push_str(format!(in alloc; "{version} {document}\n").ok()?.as_str())
+            .ok()?;
     }
-    told(
-        is_refused(alloc, &bytes, LogFault::Damage, NEVER, NEVER)?,
-        "the tail",
-    )
+    Some(lines)
+}
+
+fn are_lines(alloc: Global, keys: &str, documents: &[&str]) -> bool {
+    match lines_of(alloc, documents) {
+        Some(lines) => is_logged(
+            alloc,
+            keys,
+            documents,
+            r#"["db"]"#,
+            lines.as_str(),
+            u64::MAX,
+        ),
+        None => false,
+    }
+}
+
+/// Whether the root of documents of this size is logged.
+fn is_large_logged(alloc: Global, size: Size) -> bool {
+    let Ok(documents) = documents_of(alloc, size) else {
+        return false;
+    };
+    match lent(alloc, &documents) {
+        Some(documents) => are_lines(alloc, keys_of(size), &documents),
+        None => false,
+    }
+}
+
+#[test]
+fn many_and_deep_contents_are_logged(rt: HostRuntime) -> Result<(), Fail> {
+    told(is_large_logged(rt.alloc(), Size::Contents), "many contents")?;
+    told(is_large_logged(rt.alloc(), Size::Depth), "deep contents")
+}
+
+/// Whether the log of the salary is refused so, where a call and a write fail, and nothing was written.
+fn is_refused(alloc: Global, bytes: &[u8], wanted: LogFault, failing: Failing, write: u64) -> bool {
+    match (folder(alloc, &[(NAME, bytes)], failing), sink(alloc, write)) {
+        (Some(mut folder), Ok(mut out)) => {
+            logged(alloc, &mut folder, bytes.len(), SALARY, &mut out) == Ok(Err(wanted))
+                && out.taken().is_empty()
+        }
+        _ => false,
+    }
+}
+
+/// Whether faults of the file's calls, and of the output, are told.
+fn are_told(alloc: Global, bytes: &[u8]) -> bool {
+    let read = |number: u64| (FolderCall::ReadAt, number);
+    is_refused(alloc, bytes, LogFault::Folder, read(3), 0)
+        && is_refused(alloc, bytes, LogFault::Folder, read(28), 0)
+        && is_refused(alloc, bytes, LogFault::Out, NEVER, 1)
+}
+
+/// Whether the file without its last byte's value is damaged.
+fn is_tail_damage(alloc: Global, bytes: &[u8]) -> bool {
+    match bytes.split_last() {
+        Some((_, front)) => is_damaged(alloc, front, &[255]),
+        None => false,
+    }
+}
+
+/// Whether the log of the salary is damage in the file of these bytes.
+fn is_damaged(alloc: Global, front: &[u8], rest: &[u8]) -> bool {
+    let Ok(mut bytes) = Vec::from_slice(alloc, front) else {
+        return false;
+    };
+    bytes.extend_from_slice(rest).is_ok() && is_refused(alloc, &bytes, LogFault::Damage, NEVER, 0)
 }
 
 /// The same bytes, but that the first of these old ones are replaced by the new ones.
-fn replaced(alloc: Global, bytes: &[u8], old: &[u8], new: &[u8]) -> Result<Vec<u8>, Fail> {
+fn replaced(alloc: Global, bytes: &[u8], old: &[u8], new: &[u8]) -> Option<Vec<u8>> {
     for at in 0..bytes.len() {
         if let Some(rest) = bytes[at..].strip_prefix(old) {
-            let mut replaced = Vec::from_slice(alloc, &bytes[..at])?;
-            replaced.extend_from_slice(new)?;
-            replaced.extend_from_slice(rest)?;
-            return Ok(replaced);
+            let mut replaced = Vec::from_slice(alloc, &bytes[..at]).ok()?;
+            replaced.extend_from_slice(new).ok()?;
+            replaced.extend_from_slice(rest).ok()?;
+            return Some(replaced);
         }
     }
-    Err("the bytes are not there".into())
+    None
 }
 
 /// Whether the log of the salary is damage, once the first of these old bytes are replaced.
-fn is_damaged(alloc: Global, bytes: &[u8], old: &[u8], new: &[u8]) -> Result<bool, Fail> {
-    let changed = replaced(alloc, bytes, old, new)?;
-    is_refused(alloc, &changed, LogFault::Damage, NEVER, NEVER)
+fn is_changed_damage(alloc: Global, bytes: &[u8], old: &[u8], new: &[u8]) -> bool {
+    match replaced(alloc, bytes, old, new) {
+        Some(changed) => is_refused(alloc, &changed, LogFault::Damage, NEVER, 0),
+        None => false,
+    }
 }
 
-#[test]
-fn an_alternative_that_is_no_text_is_damaged(rt: HostRuntime) -> Result<(), Fail> {
-    let alloc = rt.alloc();
-    let bytes = file(alloc, COMPANY, RAISED)?;
-    told(is_damaged(alloc, &bytes, b"90K", b"\xff0K")?, "first")?;
-    told(is_damaged(alloc, &bytes, b"95K", b"\xff5K")?, "second")
-}
+/// The alternative of versions 1 and 3: the stored set, and the content.
+const FIRST: &[u8] =
+    b"\x01\0\0\0\x02\0\0\0\x01\0\0\0\x01\0\0\0\x03\0\0\0\x03\x01\0\0\0\0\0\0\0\x01\0\0\0\0\x0390K";
 
-/// The alternative of versions 1 and 3, and that of version 2: the stored set, and the content.
-const STORED: [&[u8]; 2] = [
-    b"\x01\0\0\0\x02\0\0\0\x01\0\0\0\x01\0\0\0\x03\0\0\0\x03\x01\0\0\0\0\0\0\0\x01\0\0\0\0\x0390K",
-    b"\x01\0\0\0\x01\0\0\0\x02\0\0\0\x02\x01\0\0\0\0\0\0\0\x01\0\0\0\0\x0395K",
-];
+/// That of version 2.
+const SECOND: &[u8] = b"\x01\0\0\0\x01\0\0\0\x02\0\0\0\x02\x01\0\0\0\0\0\0\0\x01\0\0\0\0\x0395K";
 
 /// The same without a set, with texts that are longer by as many bytes.
-const INHERITED: [&[u8]; 2] = [
-    b"\0\x01\0\0\0\0\0\0\0\x01\0\0\0\0\x1790K, and a pound a week",
-    b"\0\x01\0\0\0\0\0\0\0\x01\0\0\0\0\x0f95K, and a cart",
+const FIRST_INHERITED: &[u8] = b"\0\x01\0\0\0\0\0\0\0\x01\0\0\0\0\x1790K, and a pound a week";
+
+const SECOND_INHERITED: &[u8] = b"\0\x01\0\0\0\0\0\0\0\x01\0\0\0\0\x0f95K, and a cart";
+
+/// Bytes of the salary's alternatives, and others in their place: texts that are none, and sets that are missing.
+const CHANGED: &[(&str, &[u8], &[u8])] = &[
+    ("the first text", b"90K", b"\xff0K"),
+    ("the second text", b"95K", b"\xff5K"),
+    ("the first of two inherits", FIRST, FIRST_INHERITED),
+    ("the second of two inherits", SECOND, SECOND_INHERITED),
 ];
 
-#[test]
-fn an_alternative_inherits_where_it_stands_alone(rt: HostRuntime) -> Result<(), Fail> {
-    let alloc = rt.alloc();
-    let bytes = file(alloc, COMPANY, RAISED)?;
-    for at in 0..2 {
-        let holds = is_damaged(alloc, &bytes, STORED[at], INHERITED[at])?;
-        told(holds, "one of two")?;
+/// Whether both inherit, and that is damage.
+fn is_both_damage(alloc: Global, bytes: &[u8]) -> bool {
+    match replaced(alloc, bytes, FIRST, FIRST_INHERITED) {
+        Some(first) => is_changed_damage(alloc, &first, SECOND, SECOND_INHERITED),
+        None => false,
     }
-    let first = replaced(alloc, &bytes, STORED[0], INHERITED[0])?;
-    told(is_damaged(alloc, &first, STORED[1], INHERITED[1])?, "both")
+}
+
+#[test]
+fn faults_and_damage_are_told(rt: HostRuntime) -> Result<(), Fail> {
+    let alloc = rt.alloc();
+    let bytes = file(alloc, COMPANY, SALARIES).ok_or("no file")?;
+    told(are_told(alloc, &bytes), "a call that fails")?;
+    told(is_tail_damage(alloc, &bytes), "the tail")?;
+    told(is_both_damage(alloc, &bytes), "both inherit")?;
+    for (name, old, new) in CHANGED {
+        told(is_changed_damage(alloc, &bytes, old, new), name)?;
+    }
+    Ok(())
 }

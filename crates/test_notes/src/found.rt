@@ -1,6 +1,5 @@
 // The parts of a file.
 use std::alloc::{AllocError, Global};
-use std::test::Fail;
 use version_notes::{Parts, PartsFault, parts_of};
 use xa_outside::{FolderCall, FolderFail, MemFolder};
 
@@ -31,32 +30,58 @@ pub(crate) fn folder(
     Ok(folder)
 }
 
-#[test]
-fn the_parts_of_a_file_with_a_note(rt: HostRuntime) -> Result<(), Fail> {
-    let mut folder = folder(rt.alloc(), &[TINY, FIRST], FolderCall::ReadAt, 100)?;
-    let parts = parts_of(&mut folder, "a.xar", 167);
+/// Whether these are the parts of the first bytes of a file, or why there are none.
+fn are_told(
+    alloc: Global,
+    pieces: &[&[u8]],
+    name: &str,
+    length: u64,
+    wanted: Result<Parts, PartsFault>,
+) -> bool {
+    match folder(alloc, pieces, FolderCall::ReadAt, 0) {
+        Ok(mut folder) => parts_of(&mut folder, name, length) == wanted,
+        Err(_) => false,
+    }
+}
+
+/// The parts of a file without notes.
+fn core(length: u64) -> Result<Parts, PartsFault> {
+    Ok(Parts {
+        core: length,
+        notes: None,
+    })
+}
+
+/// The last bytes of a front end in the mark only where the file does.
+fn has_each_front_no_notes(alloc: Global) -> bool {
+    for length in 0..167 {
+        if !are_told(alloc, &[TINY, FIRST], "a.xar", length, core(length)) {
+            return false;
+        }
+    }
+    true
+}
+
+fn has_a_shorter_file_no_notes(alloc: Global) -> bool {
+    let pieces: &[&[u8]] = &[TINY, FIRST];
+    are_told(alloc, pieces, "a.xar", 168, core(168))
+        && are_told(alloc, pieces, "a.xar", u64::MAX, core(u64::MAX))
+        && are_told(alloc, pieces, "b.xar", 8, core(8))
+}
+
+/// Whether the parts are found, of which sixteen bytes are read, once a read that failed was told.
+fn are_parts_found(alloc: Global) -> bool {
+    let Ok(mut folder) = folder(alloc, &[TINY, FIRST], FolderCall::ReadAt, 1) else {
+        return false;
+    };
     let wanted = Parts {
         core: 142,
         notes: Some(9),
     };
-    assert!(rt; parts == Ok(wanted));
-    assert!(rt; folder.pulled() == 16);
-    Ok(())
-}
-
-/// The last bytes of a front end in the mark only where the file does.
-#[test]
-fn each_front_of_the_file_has_no_notes(rt: HostRuntime) -> Result<(), Fail> {
-    let mut folder = folder(rt.alloc(), &[TINY, FIRST], FolderCall::ReadAt, 1000)?;
-    for length in 0..167 {
-        let parts = parts_of(&mut folder, "a.xar", length);
-        let wanted = Parts {
-            core: length,
-            notes: None,
-        };
-        assert!(rt; parts == Ok(wanted), "{length} bytes");
-    }
-    Ok(())
+    parts_of(&mut folder, "a.xar", 167) == Err(PartsFault::Folder)
+        && parts_of(&mut folder, "a.xar", 0) == core(0)
+        && parts_of(&mut folder, "a.xar", 167) == Ok(wanted)
+        && folder.pulled() == 16
 }
 
 const MARK: &[u8] = b"\xff\xff\xff\xff\xff\xff\xff\xff";
@@ -77,50 +102,32 @@ const MARKED: &[(&[u8], Option<(u64, u64)>)] = &[
     (b"abc\xff\xff\xff\xff\xff\xff\xff\xff", None),
 ];
 
+fn is_mark_told(alloc: Global, front: &[u8], wanted: &Option<(u64, u64)>) -> bool {
+    let length = (front.len() + MARK.len()) as u64;
+    let wanted = match wanted {
+        Some((core, notes)) => Ok(Parts {
+            core: *core,
+            notes: Some(*notes),
+        }),
+        None => Err(PartsFault::Damage),
+    };
+    are_told(alloc, &[front, MARK], "a.xar", length, wanted)
+}
+
 #[test]
-fn what_stands_before_the_mark(rt: HostRuntime) -> Result<(), Fail> {
+fn what_stands_before_the_mark(rt: HostRuntime) {
     for (front, wanted) in MARKED {
-        let mut folder = folder(rt.alloc(), &[*front, MARK], FolderCall::ReadAt, 100)?;
-        let length = (front.len() + MARK.len()) as u64;
-        let found = match parts_of(&mut folder, "a.xar", length) {
-            Ok(
-                Parts {
-                    core,
-                    notes: Some(notes),
-                },
-            ) => Ok(Some((core, notes))),
-            Err(PartsFault::Damage) => Ok(None),
-            other => Err(other),
-        };
-        assert!(rt; found == Ok(*wanted), "{length} bytes");
+        assert!(rt;
+            is_mark_told(rt.alloc(), front, wanted),
+            "{} bytes",
+            front.len()
+        );
     }
-    Ok(())
 }
 
 #[test]
-fn a_shorter_file_has_no_notes_there(rt: HostRuntime) -> Result<(), Fail> {
-    let mut folder = folder(rt.alloc(), &[TINY, FIRST], FolderCall::ReadAt, 100)?;
-    for (name, length) in [("a.xar", 168), ("a.xar", u64::MAX), ("b.xar", 8)] {
-        let parts = parts_of(&mut folder, name, length);
-        let wanted = Parts {
-            core: length,
-            notes: None,
-        };
-        assert!(rt; parts == Ok(wanted), "{name}, {length} bytes");
-    }
-    Ok(())
-}
-
-#[test]
-fn a_read_fails(rt: HostRuntime) -> Result<(), Fail> {
-    let mut folder = folder(rt.alloc(), &[TINY, FIRST], FolderCall::ReadAt, 1)?;
-    assert!(rt; parts_of(&mut folder, "a.xar", 167) == Err(PartsFault::Folder));
-    assert!(rt;
-        parts_of(&mut folder, "a.xar", 0)
-            == Ok(Parts {
-                core: 0,
-                notes: None
-            })
-    );
-    Ok(())
+fn the_notes_stand_behind_the_core(rt: HostRuntime) {
+    let alloc = rt.alloc();
+    assert!(rt; are_parts_found(alloc) && has_each_front_no_notes(alloc));
+    assert!(rt; has_a_shorter_file_no_notes(alloc));
 }

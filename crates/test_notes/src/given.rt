@@ -1,9 +1,8 @@
 // Notes that are read.
 ghost use Rattle.std.specs.Prelude.{◌≡◌, IfOk};
 
-use crate::found::{FIRST, TINY, folder};
+use crate::found::{TINY, folder};
 use std::alloc::{AllocError, Global};
-use std::test::Fail;
 use version_notes::{NoteReader, NotesFault, Parts};
 use xa_outside::{FolderCall, MemFolder};
 
@@ -50,31 +49,51 @@ const NOTES: &[(&[u8], u32, &[&str])] = &[
     (b"\xff\xff\xff\xffabc", 1, &["!", "!"]),
 ];
 
-#[test]
-fn notes_are_given_in_order(rt: HostRuntime) -> Result<(), Fail> {
-    for (index, (notes, versions, wanted)) in NOTES.iter().enumerate() {
-        let mut folder = folder(rt.alloc(), &[TINY, *notes], FolderCall::ReadAt, 100)?;
-        let mut reader = reader(rt.alloc(), notes.len() as u32, *versions)?;
-        for text in wanted.iter() {
-            let found = reader.next(&mut folder);
-            assert!(rt; told(&found) == *text, "{text}, of the notes {index}");
+/// Whether the reader gives these, call by call.
+fn are_given(folder: &mut MemFolder, reader: &mut NoteReader, wanted: &[&str]) -> bool {
+    for text in wanted {
+        if told(&reader.next(folder)) != *text {
+            return false;
         }
     }
-    Ok(())
+    true
+}
+
+/// Whether the notes of a file, of which a read fails, are given so, call by call.
+fn are_read(alloc: Global, notes: &[u8], versions: u32, failing: u64, wanted: &[&str]) -> bool {
+    match (
+        folder(alloc, &[TINY, notes], FolderCall::ReadAt, failing),
+        reader(alloc, notes.len() as u32, versions),
+    ) {
+        (Ok(mut folder), Ok(mut reader)) => are_given(&mut folder, &mut reader, wanted),
+        _ => false,
+    }
 }
 
 #[test]
-fn a_file_without_notes_has_empty_ones(rt: HostRuntime) -> Result<(), Fail> {
-    let mut folder = folder(rt.alloc(), &[TINY], FolderCall::ReadAt, 1)?;
+fn notes_are_given_in_order(rt: HostRuntime) {
+    for (index, (notes, versions, wanted)) in NOTES.iter().enumerate() {
+        assert!(rt;
+            are_read(rt.alloc(), notes, *versions, 0, wanted),
+            "notes {index}"
+        );
+    }
+}
+
+fn are_none_given(alloc: Global) -> bool {
     let parts = Parts {
         core: 142,
         notes: None,
     };
-    let mut reader = NoteReader::start(rt.alloc(), "a.xar", &parts, 2)?;
-    for wanted in ["", "", "-", "-"] {
-        assert!(rt; told(&reader.next(&mut folder)) == wanted);
+    match (
+        folder(alloc, &[TINY], FolderCall::ReadAt, 1),
+        NoteReader::start(alloc, "a.xar", &parts, 2),
+    ) {
+        (Ok(mut folder), Ok(mut reader)) => {
+            are_given(&mut folder, &mut reader, &["", "", "-", "-"])
+        }
+        _ => false,
     }
-    Ok(())
 }
 
 /// A note of so many letters.
@@ -84,36 +103,25 @@ fn letters(alloc: Global, count: u32) -> Result<Vec<u8>, AllocError> {
     Ok(note)
 }
 
-#[test]
-fn a_note_is_no_longer_than_its_limit(rt: HostRuntime) -> Result<(), Fail> {
-    let note = letters(rt.alloc(), 1024)?;
-    let mut folder = folder(rt.alloc(), &[TINY, &note], FolderCall::ReadAt, 100)?;
-    let mut reader = reader(rt.alloc(), 1028, 1)?;
-    let longest = reader.next(&mut folder);
-    assert!(rt; told(&longest).len() == 1024);
-    assert!(rt; folder.pulled() == 1028);
-    Ok(())
+/// How many bytes are pulled where a note of so many letters is read, and how long what is told is.
+fn pulled(alloc: Global, count: u32) -> Option<(u64, usize)> {
+    let note = letters(alloc, count).ok()?;
+    let mut folder = folder(alloc, &[TINY, &note], FolderCall::ReadAt, 0).ok()?;
+    let mut reader = reader(alloc, note.len() as u32, 1).ok()?;
+    let length = told(&reader.next(&mut folder)).len();
+    Some((folder.pulled(), length))
 }
 
 #[test]
-fn a_longer_note_is_not_read(rt: HostRuntime) -> Result<(), Fail> {
-    let note = letters(rt.alloc(), 1025)?;
-    let mut folder = folder(rt.alloc(), &[TINY, &note], FolderCall::ReadAt, 100)?;
-    let mut reader = reader(rt.alloc(), 1029, 1)?;
-    assert!(rt; told(&reader.next(&mut folder)) == "!");
-    assert!(rt; folder.pulled() == 4);
-    Ok(())
+fn files_without_notes_and_long_notes_are_read(rt: HostRuntime) {
+    let alloc = rt.alloc();
+    assert!(rt; are_none_given(alloc));
+    assert!(rt; pulled(alloc, 1024) == Some((1028, 1024)) && pulled(alloc, 1025) == Some((4, 1)));
 }
 
 #[test]
-fn a_read_that_fails_can_be_tried_again(rt: HostRuntime) -> Result<(), Fail> {
-    for number in [1, 2] {
-        let mut folder = folder(rt.alloc(), &[TINY, FIRST], FolderCall::ReadAt, number)?;
-        let mut reader = reader(rt.alloc(), 9, 1)?;
-        for wanted in ["?", "first", "-"] {
-            let found = reader.next(&mut folder);
-            assert!(rt; told(&found) == wanted, "read {number}");
-        }
-    }
-    Ok(())
+fn a_read_that_fails_can_be_tried_again(rt: HostRuntime) {
+    let (notes, wanted): (&[u8], &[&str]) = (b"\0\0\0\x05first", &["?", "first", "-"]);
+    let alloc = rt.alloc();
+    assert!(rt; are_read(alloc, notes, 1, 1, wanted) && are_read(alloc, notes, 1, 2, wanted));
 }

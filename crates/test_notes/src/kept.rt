@@ -3,8 +3,7 @@ ghost use Rattle.std.specs.Prelude.{◌≡◌, ◌+◌, ◌≤◌, false, length
 
 use crate::found::{FIRST, TINY};
 use crate::given::told;
-use std::alloc::Global;
-use std::test::Fail;
+use std::alloc::{AllocError, Global};
 use version_notes::{NoteReader, NoteWriter, is_note, parts_of};
 use xa_outside::{Failed, Folder, FolderCall, FolderFail, MemFolder};
 
@@ -46,7 +45,7 @@ fn write(folder: &mut MemFolder, empty: u32, notes: &[&str]) -> Result<(), Faile
     folder.commit("a.xar")
 }
 
-fn failing(alloc: Global, number: u64) -> Result<MemFolder, Fail> {
+fn failing(alloc: Global, number: u64) -> Result<MemFolder, AllocError> {
     let call = FolderCall::Append;
     let fails = vec![in alloc; FolderFail { call, number }]?;
     Ok(MemFolder::new(alloc, fails))
@@ -71,79 +70,115 @@ const LISTS: &[(&[&str], &[u8])] = &[
     ),
 ];
 
+/// Whether the file has these bytes behind its records.
+fn is_behind(folder: &MemFolder, behind: &[u8]) -> bool {
+    match folder.file("a.xar") {
+        Some(file) => file.strip_prefix(TINY) == Some(behind),
+        None => false,
+    }
+}
+
+/// Whether the reader gives these notes, and no more.
+fn are_given(folder: &mut MemFolder, reader: &mut NoteReader, notes: &[&str]) -> bool {
+    for note in notes {
+        if told(&reader.next(folder)) != *note {
+            return false;
+        }
+    }
+    told(&reader.next(folder)) == "-"
+}
+
+/// Whether these are the notes of the first bytes of the file.
+fn are_read_back(alloc: Global, folder: &mut MemFolder, length: usize, notes: &[&str]) -> bool {
+    let Ok(parts) = parts_of(folder, "a.xar", length as u64) else {
+        return false;
+    };
+    match NoteReader::start(alloc, "a.xar", &parts, notes.len() as u32) {
+        Ok(mut reader) => are_given(folder, &mut reader, notes),
+        Err(_) => false,
+    }
+}
+
+fn are_kept(alloc: Global, notes: &[&str], behind: &[u8]) -> bool {
+    if notes.len() > 9 {
+        return false;
+    }
+    let Ok(mut folder) = failing(alloc, 0) else {
+        return false;
+    };
+    let length = TINY.len().saturating_add(behind.len());
+    write(&mut folder, 0, notes).is_ok()
+        && is_behind(&folder, behind)
+        && are_read_back(alloc, &mut folder, length, notes)
+}
+
 #[test]
-fn notes_stand_behind_the_file(rt: HostRuntime) -> Result<(), Fail> {
+fn notes_stand_behind_the_file_and_are_read_back(rt: HostRuntime) {
     for (notes, behind) in LISTS {
-        let mut folder = failing(rt.alloc(), 100)?;
-        write(&mut folder, 0, notes)?;
-        let file = folder.file("a.xar").unwrap_or_default();
-        assert!(rt; file.starts_with(TINY), "{} notes", notes.len());
         assert!(rt;
-            file.get(TINY.len()..) == Some(*behind),
+            are_kept(rt.alloc(), notes, behind),
             "{} notes",
             notes.len()
         );
     }
-    Ok(())
 }
 
-#[test]
-fn notes_are_read_back(rt: HostRuntime) -> Result<(), Fail> {
-    for (notes, behind) in LISTS {
-        let mut folder = failing(rt.alloc(), 100)?;
-        write(&mut folder, 0, notes)?;
-        let length = (TINY.len() + behind.len()) as u64;
-        let parts = parts_of(&mut folder, "a.xar", length)?;
-        let mut reader = NoteReader::start(rt.alloc(), "a.xar", &parts, notes.len() as u32)?;
-        for note in notes.iter() {
-            let found = reader.next(&mut folder);
-            assert!(rt; told(&found) == *note, "{note}");
-        }
-        assert!(rt; told(&reader.next(&mut folder)) == "-");
-    }
-    Ok(())
-}
-
-#[test]
-fn many_empty_notes_wait(rt: HostRuntime) -> Result<(), Fail> {
-    // The file, 977 pieces of empty notes, the last note and the end: the call behind these fails.
-    let mut folder = failing(rt.alloc(), 981)?;
-    write(&mut folder, 999998, &["b"])?;
-    let file = folder.file("a.xar").unwrap_or_default();
-    assert!(rt; file.len() == 142 + 3999992 + 5 + 16);
+/// Whether many empty notes wait: the file, 977 pieces of empty notes, the last note and the end are appended, and the
+/// call behind these would fail.
+fn do_many_wait(alloc: Global) -> bool {
+    let Ok(mut folder) = failing(alloc, 981) else {
+        return false;
+    };
     let end = b"\0\0\0\x01b\0\0\0\0\0\x3d\x08\xfd\xff\xff\xff\xff\xff\xff\xff\xff";
-    assert!(rt; file.ends_with(end));
-    Ok(())
-}
-
-#[test]
-fn an_append_that_fails_leaves_no_file(rt: HostRuntime) -> Result<(), Fail> {
-    // The file, an empty note, two more notes and the end.
-    for number in 1..6 {
-        let mut folder = failing(rt.alloc(), number)?;
-        assert!(rt;
-            write(&mut folder, 1, &["b", ""]).is_err(),
-            "append {number}"
-        );
-        assert!(rt; folder.file("a.xar").is_none());
+    let is_written = write(&mut folder, 999998, &["b"]).is_ok();
+    match folder.file("a.xar") {
+        Some(file) => is_written && file.len() == 142 + 3999992 + 5 + 16 && file.ends_with(end),
+        None => false,
     }
-    Ok(())
+}
+
+/// Whether an append that fails leaves no file: of the file, an empty note, two more notes and the end.
+fn is_none_left(alloc: Global, number: u64) -> bool {
+    match failing(alloc, number) {
+        Ok(mut folder) => {
+            write(&mut folder, 1, &["b", ""]).is_err() && folder.file("a.xar").is_none()
+        }
+        Err(_) => false,
+    }
 }
 
 #[test]
-fn notes_are_appended_at_once(rt: HostRuntime) -> Result<(), Fail> {
-    let mut folder = failing(rt.alloc(), 100)?;
+fn empty_notes_wait_and_no_failed_file_stays(rt: HostRuntime) {
+    let alloc = rt.alloc();
+    assert!(rt; do_many_wait(alloc));
+    assert!(rt; (1..6u64).all(|number| is_none_left(alloc, number)));
+}
+
+/// What comes of notes that are appended at once, between other bytes.
+fn append_at_once(folder: &mut MemFolder) -> Result<(), Failed> {
     folder.begin()?;
     let mut writer = NoteWriter::start(true);
-    writer.push(&mut folder, "")?;
+    writer.push(folder, "")?;
     folder.append(b"|")?;
-    writer.push(&mut folder, "b")?;
+    writer.push(folder, "b")?;
     folder.append(b"|")?;
-    writer.finish(&mut folder)?;
-    folder.commit("a.xar")?;
+    writer.finish(folder)?;
+    folder.commit("a.xar")
+}
+
+fn are_appended(alloc: Global) -> bool {
     let wanted = b"\0\0\0\0|\0\0\0\x01b|\0\0\0\0\0\0\0\x09\xff\xff\xff\xff\xff\xff\xff\xff";
-    assert!(rt; folder.file("a.xar") == Some(wanted.as_slice()));
-    Ok(())
+    match failing(alloc, 0) {
+        Ok(mut folder) => {
+            append_at_once(&mut folder).is_ok() && folder.file("a.xar") == Some(wanted.as_slice())
+        }
+        Err(_) => false,
+    }
+}
+
+#[test]
+fn notes_are_appended_at_once(rt: HostRuntime) {
+    assert!(rt; are_appended(rt.alloc()));
 }
 
 /// A text, and whether it is a note.
@@ -156,12 +191,15 @@ const TEXTS: &[(&str, bool)] = &[
     ("a\0", false),
 ];
 
-#[test]
-fn a_text_may_be_a_note(rt: HostRuntime) -> Result<(), Fail> {
-    for (text, is) in TEXTS {
-        assert!(rt; is_note(text) == *is);
+fn are_notes(alloc: Global) -> bool {
+    match ("abcdefgh".repeat(alloc, 128), "abc".repeat(alloc, 342)) {
+        (Ok(longest), Ok(longer)) => is_note(longest.as_str()) && !is_note(longer.as_str()),
+        _ => false,
     }
-    assert!(rt; is_note("abcdefgh".repeat(rt.alloc(), 128)?.as_str()));
-    assert!(rt; !is_note("abc".repeat(rt.alloc(), 342)?.as_str()));
-    Ok(())
+}
+
+#[test]
+fn a_text_may_be_a_note(rt: HostRuntime) {
+    let are_judged = TEXTS.iter().all(|(text, is)| is_note(text) == *is);
+    assert!(rt; are_judged && are_notes(rt.alloc()));
 }

@@ -1,17 +1,13 @@
 // Archives of which a version does not satisfy other keys.
 use crate::archives::under;
 use archive_rekey::RekeyFault;
+use given_archives::lists::{NUMBERED, TINY};
+use given_archives::{file, specification};
+use given_parts::told;
 use key_rules::KeyFault;
 use key_spec::{KeyPath, Spec};
 use std::alloc::Global;
 use std::test::Fail;
-use given_archives::{file, specification};
-
-const TINY: &str = "(/, (db, {}))\n";
-
-const ITEMS: &str = "(/, (db, {}))
-(/db, (e, {@id}))
-";
 
 const EMPTY: &str = r#"["db"]"#;
 
@@ -65,28 +61,32 @@ fn is_fault(alloc: Global, fault: &KeyFault, wanted: &Wanted) -> bool {
 }
 
 /// Whether the documents are refused so.
-fn is_refused(
-    alloc: Global,
-    spec: &Spec,
-    documents: &[&str],
-    wanted: &Wanted,
-) -> Result<bool, Fail> {
-    let old = file(alloc, TINY, documents)?;
-    match under(alloc, &old, spec)? {
-        Err(RekeyFault::Key { version, fault }) => {
-            Ok(version == wanted.0 && is_fault(alloc, &fault, wanted))
+fn is_refused(alloc: Global, spec: &Spec, documents: &[&str], wanted: &Wanted) -> bool {
+    let Some(old) = file(alloc, TINY, documents) else {
+        return false;
+    };
+    match under(alloc, &old, spec) {
+        Some(Err(RekeyFault::Key { version, fault })) => {
+            version == wanted.0 && is_fault(alloc, &fault, wanted)
         }
-        _ => Ok(false),
+        _ => false,
+    }
+}
+
+fn is_refused_under(alloc: Global, keys: &str, documents: &[&str], wanted: &Wanted) -> bool {
+    match specification(alloc, keys) {
+        Some(spec) => is_refused(alloc, &spec, documents, wanted),
+        None => false,
     }
 }
 
 #[test]
 fn the_first_version_with_a_fault_is_told(rt: HostRuntime) -> Result<(), Fail> {
-    let spec = specification(rt.alloc(), ITEMS)?;
     for (name, documents, wanted) in REFUSED {
-        if !is_refused(rt.alloc(), &spec, documents, wanted)? {
-            return Err(Fail::new(name));
-        }
+        told(
+            is_refused_under(rt.alloc(), NUMBERED, documents, wanted),
+            name,
+        )?;
     }
     Ok(())
 }

@@ -3,20 +3,16 @@ use crate::archives::file_under;
 use archive_file::decode_file;
 use archive_stats::{Counts, stats};
 use archive_tree::Archive;
+use given_archives::lists::{NUMBERED, TINY};
+use given_archives::{GREAT_SIZES, SIZES, Size, documents_of, file, keys_of, lent};
+use given_parts::told;
 use key_rules::read_path;
 use key_spec::Spec;
 use keyed_print::put_keyed;
 use keyed_tree::Keyed;
 use std::alloc::Global;
 use std::test::Fail;
-use given_archives::file;
 use xa_outside::{MemSink, SureFolder};
-
-const TINY: &str = "(/, (db, {}))\n";
-
-const ITEMS: &str = "(/, (db, {}))
-(/db, (e, {@id}))
-";
 
 const NAMES: &str = "(/, (db, {}))
 (/db, (e, {name}))
@@ -52,35 +48,40 @@ const SEVENTEEN: &str =
 
 /// Keys, documents, and other keys that these satisfy too.
 const REKEYED: &[(&str, &str, &[&str], &str)] = &[
-    ("no versions", TINY, &[], ITEMS),
+    ("no versions", TINY, &[], NUMBERED),
     (
         "a frontier that goes down",
         TINY,
         &[ONE_AND_TWO, TWO],
-        ITEMS,
+        NUMBERED,
     ),
     (
         "siblings that get an order",
         TINY,
         &[TWO_AND_ONE, TWO],
-        ITEMS,
+        NUMBERED,
     ),
     (
         "a content that comes back",
         TINY,
         &[TWO, ONE_AND_TWO, TWO],
-        ITEMS,
+        NUMBERED,
     ),
     (
         "keys that are dropped",
-        ITEMS,
+        NUMBERED,
         &[ADA, BOB_AND_ADA, ADA],
         TINY,
     ),
-    ("other key values", ITEMS, &[ADA, BOB_AND_ADA, ADA], NAMES),
+    (
+        "other key values",
+        NUMBERED,
+        &[ADA, BOB_AND_ADA, ADA],
+        NAMES,
+    ),
     (
         "contents of many items",
-        ITEMS,
+        NUMBERED,
         &[SIXTEEN, SEVENTEEN, TWO, SIXTEEN, SEVENTEEN, TWO],
         TINY,
     ),
@@ -94,11 +95,11 @@ const REKEYED: &[(&str, &str, &[&str], &str)] = &[
         "contents of many items that are dropped",
         TINY,
         &[SIXTEEN, SEVENTEEN, SIXTEEN, TWO],
-        ITEMS,
+        NUMBERED,
     ),
     (
         "eight versions",
-        ITEMS,
+        NUMBERED,
         &[
             ADA,
             BOB_AND_ADA,
@@ -114,25 +115,57 @@ const REKEYED: &[(&str, &str, &[&str], &str)] = &[
 ];
 
 /// The file of the documents under the one and then under the other keys.
-fn rekeyed(alloc: Global, keys: &str, documents: &[&str], others: &str) -> Result<Vec<u8>, Fail> {
-    let old = file(alloc, keys, documents)?;
-    file_under(alloc, &old, others)
+fn rekeyed(alloc: Global, keys: &str, documents: &[&str], others: &str) -> Option<Vec<u8>> {
+    match file(alloc, keys, documents) {
+        Some(old) => file_under(alloc, &old, others),
+        None => None,
+    }
 }
 
-fn is_same_file(alloc: Global, keys: &str, documents: &[&str], others: &str) -> Result<bool, Fail> {
-    let found = rekeyed(alloc, keys, documents, others)?;
-    let wanted = file(alloc, others, documents)?;
-    Ok(found.as_slice() == wanted.as_slice())
+fn is_same_file(alloc: Global, keys: &str, documents: &[&str], others: &str) -> bool {
+    match (
+        rekeyed(alloc, keys, documents, others),
+        file(alloc, others, documents),
+    ) {
+        (Some(found), Some(wanted)) => found.as_slice() == wanted.as_slice(),
+        _ => false,
+    }
 }
 
 #[test]
 fn the_file_is_that_of_the_documents_under_the_other_keys(rt: HostRuntime) -> Result<(), Fail> {
     for (name, keys, documents, others) in REKEYED {
-        if !is_same_file(rt.alloc(), keys, documents, others)? {
-            return Err(Fail::new(name));
-        }
+        told(is_same_file(rt.alloc(), keys, documents, others), name)?;
     }
     Ok(())
+}
+
+/// Whether documents of this size have the file of one element that has no key value.
+fn is_large_rekeyed(alloc: Global, size: Size) -> bool {
+    let Ok(documents) = documents_of(alloc, size) else {
+        return false;
+    };
+    match lent(alloc, &documents) {
+        Some(documents) => is_same_file(alloc, keys_of(size), &documents, TINY),
+        None => false,
+    }
+}
+
+fn are_large_rekeyed(alloc: Global, sizes: &[(&'static str, Size)]) -> Result<(), Fail> {
+    for (name, size) in sizes {
+        told(is_large_rekeyed(alloc, *size), name)?;
+    }
+    Ok(())
+}
+
+#[test]
+fn large_archives_are_rekeyed(rt: HostRuntime) -> Result<(), Fail> {
+    are_large_rekeyed(rt.alloc(), SIZES)
+}
+
+#[test]
+fn great_archives_are_rekeyed(rt: HostRuntime) -> Result<(), Fail> {
+    are_large_rekeyed(rt.alloc(), GREAT_SIZES)
 }
 
 fn are_counts(counts: &Counts) -> bool {
@@ -145,21 +178,18 @@ fn are_counts(counts: &Counts) -> bool {
         && counts.bytes == 411
 }
 
-fn is_counted(alloc: Global, folder: &mut SureFolder, length: u64) -> bool {
-    match stats(alloc, folder, "a.xar", length) {
+fn is_counted(alloc: Global, file: &[u8]) -> bool {
+    let mut folder = SureFolder::new(alloc);
+    let Ok(copy) = Vec::from_slice(alloc, file) else {
+        return false;
+    };
+    if folder.put("a.xar", copy).is_err() {
+        return false;
+    }
+    match stats(alloc, &mut folder, "a.xar", file.len() as u64) {
         Ok(counts) => are_counts(&counts),
         Err(_) => false,
     }
-}
-
-#[test]
-fn elements_are_counted_under_their_new_keys(rt: HostRuntime) -> Result<(), Fail> {
-    let file = rekeyed(rt.alloc(), TINY, &[ONE_AND_TWO, TWO], ITEMS)?;
-    let length = file.len() as u64;
-    let mut folder = SureFolder::new(rt.alloc());
-    folder.put("a.xar", file)?;
-    assert!(rt; is_counted(rt.alloc(), &mut folder, length));
-    Ok(())
 }
 
 /// Whether these are the versions that hold the element at the path.
@@ -189,13 +219,6 @@ fn are_histories(alloc: Global, file: &[u8]) -> bool {
     }
 }
 
-#[test]
-fn elements_have_histories_under_their_new_keys(rt: HostRuntime) -> Result<(), Fail> {
-    let file = rekeyed(rt.alloc(), TINY, &[ONE_AND_TWO, TWO], ITEMS)?;
-    assert!(rt; are_histories(rt.alloc(), &file));
-    Ok(())
-}
-
 /// The version that is read.
 const IN_ORDER: &str = "[\"db\",[\"e\",{\"id\":1}],[\"e\",{\"id\":2}]]\n";
 
@@ -215,17 +238,35 @@ fn is_first_in_order(alloc: Global, file: &[u8]) -> bool {
     }
 }
 
-#[test]
-fn a_version_is_read_under_its_new_keys(rt: HostRuntime) -> Result<(), Fail> {
-    let file = rekeyed(rt.alloc(), TINY, &[TWO_AND_ONE], ITEMS)?;
-    assert!(rt; is_first_in_order(rt.alloc(), &file));
-    Ok(())
+/// Whether the file under new keys, in which elements have an order, has these counts and histories.
+fn is_right(alloc: Global) -> bool {
+    match rekeyed(alloc, TINY, &[ONE_AND_TWO, TWO], NUMBERED) {
+        Some(file) => is_counted(alloc, &file) && are_histories(alloc, &file),
+        None => false,
+    }
+}
+
+fn is_ordered(alloc: Global) -> bool {
+    match rekeyed(alloc, TINY, &[TWO_AND_ONE], NUMBERED) {
+        Some(file) => is_first_in_order(alloc, &file),
+        None => false,
+    }
+}
+
+fn is_given_back(alloc: Global) -> bool {
+    match rekeyed(alloc, TINY, &[ONE_AND_TWO, TWO], NUMBERED) {
+        Some(file) => match file_under(alloc, &file, TINY) {
+            Some(back) => is_first_in_order(alloc, &back),
+            None => false,
+        },
+        None => false,
+    }
 }
 
 #[test]
-fn keys_are_given_and_taken_back(rt: HostRuntime) -> Result<(), Fail> {
-    let file = rekeyed(rt.alloc(), TINY, &[ONE_AND_TWO, TWO], ITEMS)?;
-    let back = file_under(rt.alloc(), &file, TINY)?;
-    assert!(rt; is_first_in_order(rt.alloc(), &back));
-    Ok(())
+fn elements_stand_under_their_new_keys(rt: HostRuntime) -> Result<(), Fail> {
+    let alloc = rt.alloc();
+    told(is_right(alloc), "counts and histories")?;
+    told(is_ordered(alloc), "an order")?;
+    told(is_given_back(alloc), "keys that are taken back")
 }

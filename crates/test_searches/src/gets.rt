@@ -3,12 +3,14 @@ ghost use Rattle.std.specs.Prelude.{◌≡◌, ◌<◌};
 
 use crate::files::{NAME, ONE, SIX, changed, folder};
 use file_get::{GetFault, get};
+use given_archives::{GREAT_SIZES, SIZES, Size, documents_of, file, keys_of, lent};
+use given_parts::bytes::{ALT, END, Edits, HEADER, LEAF, LEAF_END, Pieces, TAIL, edited};
+use given_parts::told;
 use std::alloc::Global;
 use std::marker::Brand;
 use std::sync::ledger::{Blank, Ledger};
 use std::test::Fail;
 use timestamp_tree::Steps;
-use given_parts::told;
 use xa_outside::{MemFolder, MemSink};
 
 fn counted<L: Ledger>(
@@ -151,15 +153,43 @@ const DAMAGED_CONTENT: &[(&str, usize, &[u8])] = &[
     ("one item more", 139, b"\0\0\0\x01"),
 ];
 
+/// The same in the row of eight elements: its entries, its END, and the left part of its tree.
+const DAMAGED_ROW: &[(&str, usize, &[u8])] = &[
+    ("one child more", 764, b"\0\0\0\x09"),
+    ("one child less", 764, b"\0\0\0\x07"),
+    ("a child in the one before it", 792, b"\0\0\0\0\0\0\0\x54"),
+    ("an END that begins sooner", 1313, b"\0\0\0\0\0\0\x02\x09"),
+    ("an END that begins later", 1313, b"\0\0\0\0\0\0\x02\x07"),
+    ("no left part", 972, b"\0\0\0\0\0\0\0\0"),
+    ("no right part", 972, b"\0\0\0\0\0\0\x01\x30"),
+    ("a left part behind the tree", 972, b"\0\0\0\0\0\0\x01\x31"),
+];
+
+/// What is damage also where no element has the version.
+const DAMAGED_TREE: &[(&str, usize, &[u8])] = &[
+    ("no left part", 972, b"\0\0\0\0\0\0\0\0"),
+    ("no right part", 972, b"\0\0\0\0\0\0\x01\x30"),
+    ("a left part behind the tree", 972, b"\0\0\0\0\0\0\x01\x31"),
+];
+
+/// Files that are damaged, and a version of theirs.
+const DAMAGED_FILES: &[(&[u8], u32, &[(&str, usize, &[u8])])] = &[
+    (ONE, 1, DAMAGED),
+    (SIX, 1, DAMAGED_CONTENT),
+    (SIX, 1, DAMAGED_ROW),
+    (SIX, 6, DAMAGED_TREE),
+];
+
 /// Whether the version is refused in each of the files that come of these changes.
 fn are_refused(
     alloc: Global,
     file: &[u8],
+    version: u32,
     rows: &[(&'static str, usize, &[u8])],
 ) -> Result<(), Fail> {
     for (what, at, bytes) in rows {
         let holds = match changed(alloc, file, *at, bytes) {
-            Some(file) => is_refused(alloc, &file, 1, GetFault::Damage, 100, 100),
+            Some(file) => is_refused(alloc, &file, version, GetFault::Damage, 0, 0),
             None => false,
         };
         told(holds, what)?;
@@ -167,12 +197,75 @@ fn are_refused(
     Ok(())
 }
 
-#[test]
-fn no_damaged_file_has_the_version(rt: HostRuntime) -> Result<(), Fail> {
-    are_refused(rt.alloc(), ONE, DAMAGED)
+/// The file of one version, whose END has one byte more behind its tree.
+const LONGER: Pieces = &[
+    (HEADER, 1),
+    (LEAF, 1),
+    (ALT, 1),
+    (LEAF_END, 1),
+    (END, 1),
+    (b"\0", 1),
+    (TAIL, 1),
+];
+
+/// The length of that END, in front of it and in the tail.
+const LONGER_LENGTHS: Edits = &[(85, 0x31), (142, 0x31)];
+
+fn is_longer_refused(alloc: Global) -> bool {
+    match edited(alloc, LONGER, LONGER_LENGTHS) {
+        Ok(file) => is_refused(alloc, &file, 1, GetFault::Damage, 0, 0),
+        Err(_) => false,
+    }
 }
 
 #[test]
-fn no_damaged_content_is_written_whole(rt: HostRuntime) -> Result<(), Fail> {
-    are_refused(rt.alloc(), SIX, DAMAGED_CONTENT)
+fn no_damaged_file_has_the_version(rt: HostRuntime) -> Result<(), Fail> {
+    for (file, version, rows) in DAMAGED_FILES {
+        are_refused(rt.alloc(), file, *version, rows)?;
+    }
+    told(is_longer_refused(rt.alloc()), "a byte behind the tree")
+}
+
+/// Whether the last version of the file is this document.
+fn is_last(alloc: Global, file: &[u8], version: usize, document: &str) -> bool {
+    let (Some(mut folder), Ok(version)) = (folder(alloc, file, 0), u32::try_from(version)) else {
+        return false;
+    };
+    let mut out = MemSink::new(alloc, Vec::new(alloc));
+    written(alloc, &mut folder, file.len() as u64, version, &mut out).is_ok()
+        && out.taken().strip_suffix(b"\n") == Some(document.as_bytes())
+}
+
+fn is_last_written(alloc: Global, keys: &str, documents: &[&str]) -> bool {
+    match (file(alloc, keys, documents), documents.last()) {
+        (Some(file), Some(last)) => is_last(alloc, &file, documents.len(), last),
+        _ => false,
+    }
+}
+
+fn is_large_written(alloc: Global, size: Size) -> bool {
+    let Ok(documents) = documents_of(alloc, size) else {
+        return false;
+    };
+    match lent(alloc, &documents) {
+        Some(documents) => is_last_written(alloc, keys_of(size), &documents),
+        None => false,
+    }
+}
+
+fn are_large_written(alloc: Global, sizes: &[(&'static str, Size)]) -> Result<(), Fail> {
+    for (name, size) in sizes {
+        told(is_large_written(alloc, *size), name)?;
+    }
+    Ok(())
+}
+
+#[test]
+fn large_versions_are_written(rt: HostRuntime) -> Result<(), Fail> {
+    are_large_written(rt.alloc(), SIZES)
+}
+
+#[test]
+fn great_versions_are_written(rt: HostRuntime) -> Result<(), Fail> {
+    are_large_written(rt.alloc(), GREAT_SIZES)
 }

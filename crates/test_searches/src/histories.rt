@@ -3,6 +3,9 @@ ghost use Rattle.std.specs.Prelude.{◌≡◌, ◌<◌};
 
 use crate::files::{NAME, ONE, SIX, changed, folder};
 use file_history::{HistoryFault, history};
+use given_archives::{Size, documents_of, keys_of, lent};
+use given_parts::bytes::NO_VERSIONS;
+use given_parts::told;
 use jsonml_tree::Scalar;
 use keyed_tree::{KeyVal, Label, Name};
 use record_cursor::read_header;
@@ -12,7 +15,6 @@ use std::sync::ledger::{Blank, Ledger};
 use std::test::Fail;
 use timestamp_tree::Steps;
 use version_set::VersionSet;
-use given_parts::told;
 use xa_outside::MemFolder;
 
 fn counted<L: Ledger>(
@@ -108,9 +110,45 @@ const TOLD: &[(&str, &[(&str, &[u64])], &[(u32, u32)], u64)] = &[
 fn histories_are_told(rt: HostRuntime) -> Result<(), Fail> {
     for (what, names, pairs, most) in TOLD {
         let holds = is_told(rt.alloc(), names, pairs, *most);
-        assert!(rt; holds, "{what}");
+        told(holds, what)?;
     }
     Ok(())
+}
+
+/// Whether the last element of a great row has both versions.
+fn is_last_told(alloc: Global, file: &[u8]) -> bool {
+    let Some(mut folder) = folder(alloc, file, 0) else {
+        return false;
+    };
+    match path(alloc, &[("db", &[]), ("e", &[69_999])]) {
+        Some(path) => match history_of(alloc, &mut folder, file.len() as u64, &path) {
+            Ok(set) => set.pairs() == [(1, 2)].as_slice(),
+            Err(_) => false,
+        },
+        None => false,
+    }
+}
+
+fn is_row_told(alloc: Global, documents: &[&str]) -> bool {
+    match given_archives::file(alloc, keys_of(Size::Row), documents) {
+        Some(file) => is_last_told(alloc, &file),
+        None => false,
+    }
+}
+
+fn is_great_row_told(alloc: Global) -> bool {
+    let Ok(documents) = documents_of(alloc, Size::Row) else {
+        return false;
+    };
+    match lent(alloc, &documents) {
+        Some(documents) => is_row_told(alloc, &documents),
+        None => false,
+    }
+}
+
+#[test]
+fn a_history_is_told_in_a_great_row(rt: HostRuntime) {
+    assert!(rt; is_great_row_told(rt.alloc()));
 }
 
 /// Whether the history of `db` is refused so, where a read of this number fails.
@@ -159,15 +197,19 @@ const DAMAGED: &[(&str, usize, &[u8])] = &[
     ("the tail", 134, b"\0\0\0\0\0\0\0\xff"),
 ];
 
+/// Whether the history is refused in the file with other bytes there.
+fn is_damaged(alloc: Global, file: &[u8], at: usize, bytes: &[u8]) -> bool {
+    match changed(alloc, file, at, bytes) {
+        Some(file) => is_refused(alloc, &file, HistoryFault::Damage, 0),
+        None => false,
+    }
+}
+
 #[test]
 fn no_damaged_file_tells_the_history(rt: HostRuntime) -> Result<(), Fail> {
-    let alloc = rt.alloc();
     for (what, at, bytes) in DAMAGED {
-        let holds = match changed(alloc, ONE, *at, bytes) {
-            Some(file) => is_refused(alloc, &file, HistoryFault::Damage, 100),
-            None => false,
-        };
-        assert!(rt; holds, "{what}");
+        told(is_damaged(rt.alloc(), ONE, *at, bytes), what)?;
     }
-    Ok(())
+    let is_tail_damage = is_damaged(rt.alloc(), NO_VERSIONS, 48, b"\xff");
+    told(is_tail_damage, "the tail behind no child")
 }

@@ -3,10 +3,11 @@ ghost use Rattle.std.specs.Prelude.{◌≤◌};
 
 use crate::files::{NAME, ONE, SIX, changed, folder};
 use file_rows::{Child, Row, count_children, read_child, root_row, row_of};
+use given_parts::bytes::NO_VERSIONS;
+use given_parts::told;
 use record_cursor::CursorFault;
 use std::alloc::Global;
 use std::test::Fail;
-use given_parts::told;
 use xa_outside::MemFolder;
 
 /// The row of the virtual root in a file, behind a header of so many bytes.
@@ -66,8 +67,9 @@ fn is_damaged(alloc: Global, at: usize, bytes: &[u8]) -> bool {
     let Some(mut folder) = folder(alloc, &file, 100) else {
         return false;
     };
-    let Ok(row) = root(&mut folder, 28, 142) else {
-        return true;
+    let row = match root(&mut folder, 28, 142) {
+        Ok(row) => row,
+        Err(fault) => return fault == CursorFault::Damage,
     };
     match count_children(&mut folder, NAME, row) {
         Ok(_) => match child(&mut folder, row, 0) {
@@ -89,13 +91,23 @@ const DAMAGED: &[(&str, usize, &[u8])] = &[
     ("the tail", 134, b"\0\0\0\0\0\0\0\xff"),
 ];
 
+/// Whether no row stands in front of a tail that is longer than an archive of no versions.
+fn is_tail_damage(alloc: Global) -> bool {
+    let Some(file) = changed(alloc, NO_VERSIONS, 48, b"\xff") else {
+        return false;
+    };
+    match folder(alloc, &file, 0) {
+        Some(mut folder) => matches!(root(&mut folder, 28, 49), Err(CursorFault::Damage)),
+        None => false,
+    }
+}
+
 #[test]
 fn what_does_not_fit_is_damage(rt: HostRuntime) -> Result<(), Fail> {
     for (what, at, bytes) in DAMAGED {
-        let holds = is_damaged(rt.alloc(), *at, bytes);
-        assert!(rt; holds, "{what}");
+        told(is_damaged(rt.alloc(), *at, bytes), what)?;
     }
-    Ok(())
+    told(is_tail_damage(rt.alloc()), "the tail behind no child")
 }
 
 #[test]

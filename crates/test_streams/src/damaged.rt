@@ -1,9 +1,11 @@
 // Files that are no sound archives.
 use crate::archives::add;
+use given_archives::{NAME, NEVER, folder};
+use given_parts::bytes::edit;
+use given_parts::told;
 use std::alloc::Global;
 use std::test::Fail;
 use stream_merge::AddFault;
-use given_archives::{NAME, folder};
 
 /// Two versions of an element `db`: in its child `a`, which the second alone has, the text `x`, and
 /// in its child `b` first the text `y` and then `z`.
@@ -38,36 +40,41 @@ const DAMAGED: &[(&str, usize, u8)] = &[
     ("a record that is longer than the file", KIND + 2, 1),
 ];
 
-fn with_byte(alloc: Global, at: usize, byte: u8) -> Result<Vec<u8>, Fail> {
-    let mut bytes = Vec::from_slice(alloc, NESTED)?;
-    match bytes.get_mut(at) {
-        Some(place) => *place = byte,
-        None => return Err("the file is shorter".into()),
-    }
-    Ok(bytes)
+// Whether nothing is added to the bytes, which are damaged, and they stay.
+fn is_refused(alloc: Global, bytes: &[u8]) -> bool {
+    let Some(mut folder) = folder(alloc, &[(NAME, bytes)], NEVER) else {
+        return false;
+    };
+    add(alloc, &mut folder, bytes.len(), DOCUMENT) == Ok(Err(AddFault::Damage))
+        && folder.file(NAME) == Some(bytes)
 }
 
-// Whether nothing is added to the bytes, which are damaged, and they stay.
-fn is_refused(alloc: Global, bytes: &[u8]) -> Result<bool, Fail> {
-    let mut folder = folder(alloc, bytes, Vec::new(alloc))?;
-    let answer = add(alloc, &mut folder, bytes.len() as u64, DOCUMENT)?;
-    Ok(answer == Err(AddFault::Damage) && folder.file(NAME) == Some(bytes))
+fn is_changed_refused(alloc: Global, at: usize, byte: u8) -> bool {
+    match Vec::from_slice(alloc, NESTED) {
+        Ok(mut bytes) => {
+            edit(&mut bytes, &[(at, byte)]);
+            bytes.as_slice() != NESTED && is_refused(alloc, &bytes)
+        }
+        Err(_) => false,
+    }
+}
+
+// Whether the bytes without so many at their end are refused.
+fn is_cut_refused(alloc: Global, less: usize) -> bool {
+    match NESTED.len().checked_sub(less) {
+        Some(kept) => is_refused(alloc, &NESTED[..kept]),
+        None => false,
+    }
 }
 
 #[test]
 fn a_damaged_file_stays(rt: HostRuntime) -> Result<(), Fail> {
+    let alloc = rt.alloc();
     for (name, at, byte) in DAMAGED {
-        let bytes = with_byte(rt.alloc(), *at, *byte)?;
-        assert!(rt; is_refused(rt.alloc(), &bytes)?, "{name}");
+        told(is_changed_refused(alloc, *at, *byte), name)?;
     }
-    Ok(())
-}
-
-#[test]
-fn a_file_that_is_cut_stays(rt: HostRuntime) -> Result<(), Fail> {
-    for cut in [1, 8, 9, 65, 375] {
-        let bytes = &NESTED[..NESTED.len() - cut];
-        assert!(rt; is_refused(rt.alloc(), bytes)?, "less {cut}");
-    }
-    Ok(())
+    let are_refused = [1, 8, 9, 65, 375]
+        .iter()
+        .all(|less| is_cut_refused(alloc, *less));
+    told(are_refused, "a file that is cut")
 }

@@ -1,160 +1,96 @@
 // Files that gain a version. What is expected was merged in memory and written at once.
 use crate::archives::{add, append};
+use given_archives::lists::LISTS;
+use given_archives::{
+    GREAT_SIZES, NAME, NEVER, SIZES, Size, documents_of, file, folder, is_drafted, keys_of, lent,
+};
+use given_parts::bytes::TINY;
+use given_parts::told;
 use std::alloc::Global;
 use std::test::Fail;
-use given_archives::{NAME, file, folder};
-use xa_outside::Folder;
 
-const TINY: &str = "(/, (db, {}))\n";
-
-const COMPANY: &str = "(/, (db, {}))
-(/db, (dept, {name}))
-(/db/dept, (emp, {fn, ln}))
-(/db/dept/emp, (sal, {}))
-(/db/dept/emp, (tel, {.}))
-";
-
-const GOODS: &str = "(/, (goods, {}))
-(/goods, (item, {@id}))
-(/goods/item, (name, {}))
-(/goods/item, (price, {}))
-";
-
-const OF_90: &str =
-    r#"["db",["dept",["name","finance"],["emp",["fn","John"],["ln","Doe"],["sal","90K"],["tel","123-4567"]]]]"#;
-
-const OF_95: &str =
-    r#"["db",["dept",["name","finance"],["emp",["fn","John"],["ln","Doe"],["sal","95K"],["tel","123-4567"]]]]"#;
-
-const OF_NONE: &str = r#"["db",["dept",["name","finance"]]]"#;
-
-const BELL: &str = r#"["goods",["item",{"id":"b"},["name","bell"],["price","7"]]]"#;
-
-const ANVIL_BELL_CORD: &str =
-    r#"["goods",["item",{"id":"a"},["name","anvil"],["price","10"]],["item",{"id":"b"},["name","bell"],["price","7"]],["item",{"id":"c"},["name","cord"],["price","2"]]]"#;
-
-const ANVIL_CORD: &str =
-    r#"["goods",["item",{"id":"a"},["name","anvil"],["price","12"]],["item",{"id":"c","new":true},["name","cord"],["price","2"]]]"#;
-
-const NO_GOODS: &str = r#"["goods"]"#;
-
-/// A specification, and documents that are added one after another.
-const GROWING: &[(&str, &str, &[&str])] = &[
-    (
-        "an element that stays",
-        TINY,
-        &[r#"["db"]"#, r#"["db"]"#, r#"["db"]"#],
-    ),
-    (
-        "a content that changes and comes back",
-        TINY,
-        &[
-            r#"["db","x"]"#,
-            r#"["db","y"]"#,
-            r#"["db","x"]"#,
-            r#"["db"]"#,
-        ],
-    ),
-    (
-        "a salary that returns",
-        COMPANY,
-        &[OF_90, OF_95, OF_90, OF_90],
-    ),
-    (
-        "an employee who goes and comes back",
-        COMPANY,
-        &[OF_90, OF_NONE, OF_NONE, OF_95],
-    ),
-    (
-        "kids before and behind, and none",
-        GOODS,
-        &[
-            BELL,
-            ANVIL_BELL_CORD,
-            BELL,
-            ANVIL_CORD,
-            NO_GOODS,
-            ANVIL_BELL_CORD,
-        ],
-    ),
-    (
-        "kids where there were none",
-        GOODS,
-        &[NO_GOODS, ANVIL_CORD, BELL],
-    ),
-];
-
-// Whether the file of the documents before the last becomes that of all.
-fn is_grown(
-    alloc: Global,
-    spec: &str,
-    before: &[&str],
-    last: &str,
-    all: &[&str],
-) -> Result<bool, Fail> {
-    let old = file(alloc, spec, before)?;
-    let wanted = file(alloc, spec, all)?;
-    let mut folder = folder(alloc, &old, Vec::new(alloc))?;
-    let answer = add(alloc, &mut folder, old.len() as u64, last)?;
-    Ok(answer == Ok(()) && folder.file(NAME) == Some(wanted.as_slice()))
+// Whether the file becomes this one, once the document is added.
+fn becomes(alloc: Global, old: &[u8], document: &str, wanted: &[u8]) -> bool {
+    let Some(mut folder) = folder(alloc, &[(NAME, old)], NEVER) else {
+        return false;
+    };
+    add(alloc, &mut folder, old.len(), document) == Ok(Ok(())) && folder.file(NAME) == Some(wanted)
 }
 
-// How many of the documents can be added, one after another, to the file of those before.
-fn grown(alloc: Global, spec: &str, documents: &[&str]) -> Result<usize, Fail> {
-    for count in 0..documents.len() {
-        let more = count + 1;
-        if !is_grown(
-            alloc,
-            spec,
-            &documents[..count],
-            documents[count],
-            &documents[..more],
-        )? {
-            return Ok(count);
+// Whether the file of the documents before the last becomes that of all.
+fn is_grown(alloc: Global, keys: &str, documents: &[&str]) -> bool {
+    let Some((last, before)) = documents.split_last() else {
+        return false;
+    };
+    match (file(alloc, keys, before), file(alloc, keys, documents)) {
+        (Some(old), Some(wanted)) => becomes(alloc, &old, last, &wanted),
+        _ => false,
+    }
+}
+
+// Whether the documents can be added, one after another, each to the file of those before.
+fn are_grown(alloc: Global, keys: &str, documents: &[&str]) -> bool {
+    for last in 0..documents.len() {
+        if !is_grown(alloc, keys, &documents[..last + 1]) {
+            return false;
         }
     }
-    Ok(documents.len())
+    true
 }
 
 #[test]
 fn files_gain_versions(rt: HostRuntime) -> Result<(), Fail> {
-    for (name, spec, documents) in GROWING {
-        assert!(rt;
-            grown(rt.alloc(), spec, documents)? == documents.len(),
-            "{name}"
-        );
+    for (name, keys, documents) in LISTS {
+        told(are_grown(rt.alloc(), keys, documents), name)?;
     }
     Ok(())
 }
 
-/// One version, the element `db`.
-const ONE: &[u8] = b"\
-    XARC1\n\0\0\0\x0e(/, (db, {}))\n\0\0\0\x01\x02\0\0\0\0\0\0\0\x0c\x01\0\0\0\x02db\0\0\0\0\0\x03\
-    \0\0\0\0\0\0\0\n\0\x01\0\0\0\0\0\0\0\0\x05\0\0\0\0\0\0\0\0\x04\0\0\0\0\0\0\00\0\0\0\x01\0\0\0\
-    \0\0\0\0\0\0\0\0\0\0\0\01\0\0\0\0\0\0\0\0\0\0\0\x01\0\0\0\x01\0\0\0\x01\0\0\0\0\0\0\0\0\0\0\0\
-    \0\0\0\00";
+fn is_large_grown(alloc: Global, size: Size) -> bool {
+    let Ok(documents) = documents_of(alloc, size) else {
+        return false;
+    };
+    match lent(alloc, &documents) {
+        Some(documents) => is_grown(alloc, keys_of(size), &documents),
+        None => false,
+    }
+}
 
-/// Two of them: the number of versions in the header, and the last number in the END's tree.
+fn are_large_grown(alloc: Global, sizes: &[(&'static str, Size)]) -> Result<(), Fail> {
+    for (name, size) in sizes {
+        told(is_large_grown(alloc, *size), name)?;
+    }
+    Ok(())
+}
+
+#[test]
+fn large_files_gain_a_version(rt: HostRuntime) -> Result<(), Fail> {
+    are_large_grown(rt.alloc(), SIZES)
+}
+
+#[test]
+fn great_files_gain_a_version(rt: HostRuntime) -> Result<(), Fail> {
+    are_large_grown(rt.alloc(), GREAT_SIZES)
+}
+
+/// Two versions of an empty element `db`, which differ in two numbers from one: the number of versions in the header, and the last number in the END's tree.
 const TWO: &[u8] = b"\
     XARC1\n\0\0\0\x0e(/, (db, {}))\n\0\0\0\x02\x02\0\0\0\0\0\0\0\x0c\x01\0\0\0\x02db\0\0\0\0\0\x03\
     \0\0\0\0\0\0\0\n\0\x01\0\0\0\0\0\0\0\0\x05\0\0\0\0\0\0\0\0\x04\0\0\0\0\0\0\00\0\0\0\x01\0\0\0\
     \0\0\0\0\0\0\0\0\0\0\0\01\0\0\0\0\0\0\0\0\0\0\0\x01\0\0\0\x01\0\0\0\x02\0\0\0\0\0\0\0\0\0\0\0\
     \0\0\0\00";
 
-#[test]
-fn an_equal_version_changes_two_numbers(rt: HostRuntime) -> Result<(), Fail> {
-    let mut folder = folder(rt.alloc(), ONE, Vec::new(rt.alloc()))?;
-    let answer = add(rt.alloc(), &mut folder, 142, r#"["db"]"#)?;
-    assert!(rt; answer == Ok(()) && folder.file(NAME) == Some(TWO));
-    Ok(())
+fn is_appended(alloc: Global) -> bool {
+    let Some(mut folder) = folder(alloc, &[(NAME, TINY)], NEVER) else {
+        return false;
+    };
+    append(alloc, &mut folder, TINY.len(), r#"["db"]"#) == Ok(Ok(()))
+        && folder.file(NAME) == Some(TINY)
+        && is_drafted(&mut folder, TWO)
 }
 
 #[test]
-fn a_version_is_appended_and_committed_later(rt: HostRuntime) -> Result<(), Fail> {
-    let mut folder = folder(rt.alloc(), ONE, Vec::new(rt.alloc()))?;
-    let answer = append(rt.alloc(), &mut folder, 142, r#"["db"]"#)?;
-    assert!(rt; answer == Ok(()) && folder.file(NAME) == Some(ONE));
-    folder.commit(NAME)?;
-    assert!(rt; folder.file(NAME) == Some(TWO));
-    Ok(())
+fn an_equal_version_changes_two_numbers(rt: HostRuntime) -> Result<(), Fail> {
+    told(becomes(rt.alloc(), TINY, r#"["db"]"#, TWO), "added")?;
+    told(is_appended(rt.alloc()), "appended, and committed later")
 }

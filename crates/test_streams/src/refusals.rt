@@ -1,22 +1,29 @@
 // What is refused over sound archives, and where the folder fails.
 use crate::archives::add;
+use given_archives::{Failing, NAME, NEVER, folder};
+use given_parts::bytes::TINY;
+use given_parts::told;
 use std::alloc::Global;
 use std::test::Fail;
 use stream_merge::AddFault;
-use given_archives::{NAME, file, folder};
-use xa_outside::{FolderCall, FolderFail};
-
-const TINY: &str = "(/, (db, {}))\n";
+use xa_outside::FolderCall;
 
 /// The header of 999,999 versions.
 const FULL: &[u8] = b"XARC1\n\0\0\0\x0e(/, (db, {}))\n\0\x0f\x42\x3f";
 
-#[test]
-fn there_are_no_more_than_999_999_versions(rt: HostRuntime) -> Result<(), Fail> {
-    let mut folder = folder(rt.alloc(), FULL, Vec::new(rt.alloc()))?;
-    let answer = add(rt.alloc(), &mut folder, FULL.len() as u64, r#"["db"]"#)?;
-    assert!(rt; answer == Err(AddFault::Limit) && folder.file(NAME) == Some(FULL));
-    Ok(())
+// Whether this is answered where a version is added to these bytes, which stay where it is not added.
+fn is_answered(
+    alloc: Global,
+    bytes: &[u8],
+    failing: Failing,
+    wanted: Result<(), AddFault>,
+) -> bool {
+    let Some(mut folder) = folder(alloc, &[(NAME, bytes)], failing) else {
+        return false;
+    };
+    let stays = wanted.is_err();
+    add(alloc, &mut folder, bytes.len(), r#"["db"]"#) == Ok(wanted)
+        && (folder.file(NAME) == Some(bytes)) == stays
 }
 
 /// The calls that are made after the header was read, in their numbers: of two parts of each record
@@ -27,27 +34,21 @@ const CALLS: &[(FolderCall, u64, u64)] = &[
     (FolderCall::Commit, 1, 1),
 ];
 
-// What is answered where this call fails, and whether the file is as before.
-fn failed(
-    alloc: Global,
-    call: FolderCall,
-    number: u64,
-) -> Result<(Result<(), AddFault>, bool), Fail> {
-    let bytes = file(alloc, TINY, &[r#"["db"]"#])?;
-    let mut folder = folder(alloc, &bytes, vec![in alloc; FolderFail { call, number }]?)?;
-    let answer = add(alloc, &mut folder, bytes.len() as u64, r#"["db"]"#)?;
-    Ok((answer, folder.file(NAME) == Some(bytes.as_slice())))
+// Whether the folder's fault is told at each of these calls, and there is none behind the last.
+fn are_told(alloc: Global, call: FolderCall, first: u64, last: u64) -> bool {
+    for number in first..=last {
+        if !is_answered(alloc, TINY, (call, number), Err(AddFault::Folder)) {
+            return false;
+        }
+    }
+    is_answered(alloc, TINY, (call, last.saturating_add(1)), Ok(()))
 }
 
 #[test]
-fn a_file_stays_where_the_folder_fails(rt: HostRuntime) -> Result<(), Fail> {
-    for (call, first, last) in CALLS {
-        for number in *first..=*last {
-            let (answer, stays) = failed(rt.alloc(), *call, number)?;
-            assert!(rt; answer == Err(AddFault::Folder) && stays, "call {number}");
-        }
-        let (answer, _) = failed(rt.alloc(), *call, *last + 1)?;
-        assert!(rt; answer == Ok(()), "there is a call behind {last}");
-    }
-    Ok(())
+fn a_file_stays_where_a_version_is_refused(rt: HostRuntime) -> Result<(), Fail> {
+    let alloc = rt.alloc();
+    let is_limit = is_answered(alloc, FULL, NEVER, Err(AddFault::Limit));
+    told(is_limit, "999,999 versions")?;
+    let are_told = CALLS.iter().all(|(call, first, last)| are_told(alloc, *call, *first, *last));
+    told(are_told, "a call that fails")
 }

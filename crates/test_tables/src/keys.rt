@@ -6,12 +6,12 @@ ghost use Rattle.csv_tables.specs.Keys.{AreKeys};
 
 use crate::reading::{names, read};
 use csv_tables::{are_keys, keys_text, table_spec, table_tree};
+use given_parts::told;
 use jsonml_tree::Tree;
 use key_rules::first_fault;
 use key_spec::{Spec, is_name};
 use std::alloc::{AllocError, Global};
 use std::test::Fail;
-use given_parts::told;
 
 /// Key columns, and the canonical text of their specification under the tag `t`; none where they may be no key columns.
 const SPECS: &[(&str, &[&str], Option<&str>)] = &[

@@ -4,11 +4,11 @@ ghost use Rattle.jsonml_tree.specs.View.{tree_view};
 
 use crate::reading::{names, read};
 use csv_tables::{TableFault, has_columns, table_tree, text_length};
+use given_parts::told;
 use jsonml_text::write_tree;
 use jsonml_tree::Tree;
-use std::alloc::Global;
+use std::alloc::{AllocError, Global};
 use std::test::Fail;
-use given_parts::told;
 use xa_outside::MemSink;
 
 /// A text that is no table, and the number of its bad record and why.
@@ -139,7 +139,32 @@ fn tables_make_documents(rt: HostRuntime) -> Result<(), Fail> {
     for (name, text, wanted, length) in DOCUMENTS {
         told(has_document(rt.alloc(), text, wanted, *length), name)?;
     }
-    Ok(())
+    told(has_wide_document(rt.alloc()), "200 columns")
+}
+
+/// A table of 200 columns and a row, and its document.
+fn wide_table(alloc: Global) -> Result<(String, String), AllocError> {
+    let mut heading = String::from_str(alloc, "a100")?;
+    let mut row = String::from_str(alloc, "x")?;
+    let mut attrs = String::from_str(alloc, r#""a100":"x""#)?;
+    for column in 101..300 {
+        heading.push_str(format!(in alloc; ",a{column}")?.as_str())?;
+        row.push_str(",x")?;
+        attrs.push_str(format!(in alloc; ",\"a{column}\":\"x\"")?.as_str())?;
+    }
+    let text = format!(in alloc; "{heading}\n{row}\n")?;
+    let document = format!(in alloc; "[\"t\",[\"row\",{{{attrs}}}]]")?;
+    Ok((text, document))
+}
+
+fn has_wide_document(alloc: Global) -> bool {
+    match wide_table(alloc) {
+        Ok((text, document)) => {
+            let length = (document.len() as u128).saturating_add(1);
+            has_document(alloc, text.as_bytes(), document.as_bytes(), length)
+        }
+        Err(_) => false,
+    }
 }
 
 fn has_names(alloc: Global, keys: &[&str]) -> bool {

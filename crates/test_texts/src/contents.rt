@@ -1,4 +1,5 @@
 //! Lines and contents on their own.
+use given_parts::told;
 use jsonml_lines::{Line, end_line, take_line, write_cell, write_content, write_word};
 use jsonml_print::write_quoted;
 use jsonml_tree::{Attr, Content, Scalar, Tree};
@@ -24,21 +25,9 @@ fn is_written(alloc: Global, content: &Content, wanted: &str) -> bool {
     write_content(content, &mut sink).is_ok() && sink.taken() == wanted.as_bytes()
 }
 
-#[test]
-fn a_content_is_written_as_an_array(rt: HostRuntime) -> Result<(), Fail> {
-    let content = sample(rt.alloc())?;
-    assert!(rt; is_written(rt.alloc(), &content, r#"[{"a\"":7},"x\ny"]"#));
-    Ok(())
-}
-
 fn is_quoted(alloc: Global, text: &str, wanted: &str) -> bool {
     let mut sink = MemSink::new(alloc, Vec::new(alloc));
     write_quoted(text, &mut sink).is_ok() && sink.taken() == wanted.as_bytes()
-}
-
-#[test]
-fn a_text_has_its_escapes(rt: HostRuntime) {
-    assert!(rt; is_quoted(rt.alloc(), "a\t\u{1}\u{e9}", "\"a\\t\\u0001\u{e9}\""));
 }
 
 fn line(alloc: Global, cell: &KeyVal) -> Option<Vec<u8>> {
@@ -66,12 +55,29 @@ fn is_read_back(alloc: Global, cell: &KeyVal) -> bool {
     }
 }
 
+/// Whether a content is written as an array, and read back as a cell.
+fn is_sample_right(alloc: Global) -> bool {
+    match sample(alloc) {
+        Ok(content) => {
+            is_written(alloc, &content, r#"[{"a\"":7},"x\ny"]"#)
+                && is_read_back(alloc, &KeyVal::Content(content))
+        }
+        Err(_) => false,
+    }
+}
+
 #[test]
-fn a_line_is_read_back(rt: HostRuntime) -> Result<(), Fail> {
-    let content = sample(rt.alloc())?;
-    assert!(rt; is_read_back(rt.alloc(), &KeyVal::Content(content)));
-    assert!(rt; is_read_back(rt.alloc(), &KeyVal::Scalar(Scalar::Null)));
-    Ok(())
+fn lines_and_contents_are_written(rt: HostRuntime) -> Result<(), Fail> {
+    let alloc = rt.alloc();
+    told(is_sample_right(alloc), "a content")?;
+    told(
+        is_read_back(alloc, &KeyVal::Scalar(Scalar::Null)),
+        "a scalar",
+    )?;
+    told(
+        is_quoted(alloc, "a\t\u{1}\u{e9}", "\"a\\t\\u0001\u{e9}\""),
+        "escapes",
+    )
 }
 
 fn is_no_line(alloc: Global, text: &str) -> bool {
@@ -83,17 +89,25 @@ fn is_no_line(alloc: Global, text: &str) -> bool {
 
 const NO_LINES: &[&str] = &[
     "",
+    "\n",
+    "x\n",
+    "[\n",
     "[\"a\"]",
     "[]\n",
     "[1]\n",
     "{}\n",
     "[\"a\",{}]\n",
     "[\"a\",1.5]\n",
+    // An array that is no content.
+    "[\"a\",[5]]\n",
+    "[\"a\",[[]]]\n",
+    "[\"a\",[\"x\",{}]]\n",
 ];
 
 #[test]
-fn other_bytes_are_no_line(rt: HostRuntime) {
+fn other_bytes_are_no_line(rt: HostRuntime) -> Result<(), Fail> {
     for text in NO_LINES {
-        assert!(rt; is_no_line(rt.alloc(), text), "{text}");
+        told(is_no_line(rt.alloc(), text), text)?;
     }
+    Ok(())
 }

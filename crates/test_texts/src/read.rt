@@ -1,88 +1,123 @@
 //! What is read from texts.
-use crate::written::{WRITTEN, Written};
-use archive_text::{Kept, ReadFault, read_text};
+use crate::written::{WRITTEN, Written, is_written};
+use archive_text::{Kept, ReadFault, read_text, read_with_file, write_text};
 use archive_tree::Archive;
+use given_archives::lists::LISTS;
+use given_archives::{
+    GREAT_SIZES, SIZES, Size, archive, documents_of, file, keys_of, lent, specification,
+};
+use given_parts::bytes::{Pieces, joined};
+use given_parts::told;
 use key_spec::Spec;
-use std::alloc::{AllocError, Global};
+use std::alloc::Global;
 use std::test::Fail;
-use given_archives::{archive, specification};
-
-fn kept(alloc: Global, text: &str) -> Result<Option<Kept>, Fail> {
-    let text = text.as_bytes();
-    if text.len() > 67_108_864 {
-        return Err("the text is too long".into());
-    }
-    match read_text(alloc, text) {
-        Ok(kept) => Ok(Some(kept)),
-        Err(ReadFault::Bad) => Ok(None),
-        Err(ReadFault::Memory) => Err(AllocError.into()),
-    }
-}
-
-fn are_same_keys(alloc: Global, ours: &Spec, others: &Spec) -> Result<bool, AllocError> {
-    let own = ours.text(alloc)?;
-    let other = others.text(alloc)?;
-    Ok(own.as_str() == other.as_str())
-}
-
-fn is_same_version(
-    alloc: Global,
-    ours: &Archive,
-    others: &Archive,
-    i: u32,
-) -> Result<bool, AllocError> {
-    match (ours.version(alloc, i)?, others.version(alloc, i)?) {
-        (Some(own), Some(other)) => Ok(own.same(&other)),
-        _ => Ok(false),
-    }
-}
-
-fn are_same_versions(alloc: Global, ours: &Archive, others: &Archive) -> Result<bool, AllocError> {
-    if ours.n() != others.n() || ours.n() > 9 {
-        return Ok(false);
-    }
-    for i in 0..ours.n() {
-        if !is_same_version(alloc, ours, others, i + 1)? {
-            return Ok(false);
-        }
-    }
-    Ok(true)
-}
+use xa_outside::MemSink;
 
 fn are_same_notes(ours: &[String], others: &[&str]) -> bool {
-    if ours.len() != others.len() {
-        return false;
-    }
-    for (own, other) in ours.iter().zip(others.iter()) {
-        if own.as_str() != *other {
-            return false;
-        }
-    }
-    true
+    ours.len() == others.len()
+        && ours
+            .iter()
+            .zip(others.iter())
+            .all(|(own, other)| own.as_str() == *other)
 }
 
-fn is_read_back(alloc: Global, written: &Written) -> Result<bool, Fail> {
-    let spec = specification(alloc, written.0)?;
-    let archive = archive(alloc, &spec, written.1)?;
-    let Some(kept) = kept(alloc, written.3)? else {
-        return Ok(false);
+/// Whether what was read has this text and these notes.
+fn is_kept(alloc: Global, kept: &Kept, notes: &[&str], text: &[u8]) -> bool {
+    are_same_notes(&kept.notes, notes) && is_written(alloc, &kept.spec, &kept.archive, notes, text)
+}
+
+/// Whether the text and the file of an archive are read of the text, with the notes.
+fn is_read_back(alloc: Global, text: &[u8], notes: &[&str], file: &[u8]) -> bool {
+    if text.len() > 67_108_864 {
+        return false;
+    }
+    match read_with_file(alloc, text) {
+        Ok((kept, found)) => found.as_slice() == file && is_kept(alloc, &kept, notes, text),
+        Err(_) => false,
+    }
+}
+
+fn is_written_read_back(alloc: Global, written: &Written) -> bool {
+    match file(alloc, written.0, written.1) {
+        Some(file) => is_read_back(alloc, written.3.as_bytes(), written.2, &file),
+        None => false,
+    }
+}
+
+/// The text of an archive without notes.
+fn text(alloc: Global, spec: &Spec, archive: &Archive) -> Option<Vec<u8>> {
+    let mut notes = Vec::new(alloc);
+    for _ in 0..archive.n() {
+        notes.push(String::new(alloc)).ok()?;
+    }
+    let mut sink = MemSink::new(alloc, Vec::new(alloc));
+    write_text(alloc, spec, archive, &notes, &mut sink).ok()?;
+    Vec::from_slice(alloc, sink.taken()).ok()
+}
+
+/// Whether the text of the documents' archive is read as their file.
+fn is_told_again(alloc: Global, keys: &str, documents: &[&str]) -> bool {
+    let (Some(spec), Some(file)) = (specification(alloc, keys), file(alloc, keys, documents)) else {
+        return false;
     };
-    Ok(
-        are_same_keys(alloc, &kept.spec, &spec)?
-            && are_same_versions(alloc, &kept.archive, &archive)?
-            && are_same_notes(&kept.notes, written.2),
-    )
+    let Some(archive) = archive(alloc, &spec, documents) else {
+        return false;
+    };
+    match text(alloc, &spec, &archive) {
+        Some(text) => is_file_read(alloc, &text, &file),
+        None => false,
+    }
+}
+
+fn is_file_read(alloc: Global, text: &[u8], file: &[u8]) -> bool {
+    if text.len() > 67_108_864 {
+        return false;
+    }
+    match read_with_file(alloc, text) {
+        Ok((_, found)) => found.as_slice() == file,
+        Err(_) => false,
+    }
 }
 
 #[test]
 fn texts_give_their_archives(rt: HostRuntime) -> Result<(), Fail> {
     for (name, written) in WRITTEN {
-        let same = is_read_back(rt.alloc(), written)?;
-        assert!(rt; same, "{name}");
+        told(is_written_read_back(rt.alloc(), written), name)?;
+    }
+    for (name, keys, documents) in LISTS {
+        told(is_told_again(rt.alloc(), keys, documents), name)?;
     }
     Ok(())
 }
 
+fn is_large_told_again(alloc: Global, size: Size) -> bool {
+    let Ok(documents) = documents_of(alloc, size) else {
+        return false;
+    };
+    match lent(alloc, &documents) {
+        Some(documents) => is_told_again(alloc, keys_of(size), &documents),
+        None => false,
+    }
+}
+
+fn are_large_told_again(alloc: Global, sizes: &[(&'static str, Size)]) -> Result<(), Fail> {
+    for (name, size) in sizes {
+        told(is_large_told_again(alloc, *size), name)?;
+    }
+    Ok(())
+}
+
+#[test]
+fn large_texts_give_their_archives(rt: HostRuntime) -> Result<(), Fail> {
+    are_large_told_again(rt.alloc(), SIZES)
+}
+
+#[test]
+fn great_texts_give_their_archives(rt: HostRuntime) -> Result<(), Fail> {
+    are_large_told_again(rt.alloc(), GREAT_SIZES)
+}
+
+/// Texts of no archive.
 const REFUSED: &[(&str, &str)] = &[
     ("nothing", ""),
     (
@@ -206,13 +241,119 @@ const REFUSED: &[(&str, &str)] = &[
 ["end"]
 "#,
     ),
+    (
+        "a million versions",
+        "[\"xarch\",1000000]\n[\"key\",\"(/, (db, {}))\"]\n[\"end\"]\n",
+    ),
+    (
+        "4,294,967,295 versions",
+        "[\"xarch\",4294967295]\n[\"key\",\"(/, (db, {}))\"]\n[\"end\"]\n",
+    ),
+    (
+        "a note of version 4,294,967,295",
+        r#"["xarch",1]
+["key","(/, (db, {}))"]
+["note",4294967295,"first"]
+["leaf","","db"]
+["alt","",[]]
+["end"]
+["end"]
+"#,
+    ),
+    (
+        "a number in a content",
+        r#"["xarch",1]
+["key","(/, (db, {}))"]
+["leaf","","db"]
+["alt","",[5]]
+["end"]
+["end"]
+"#,
+    ),
+    (
+        "an element without a tag",
+        r#"["xarch",1]
+["key","(/, (db, {}))"]
+["leaf","","db"]
+["alt","",[[]]]
+["end"]
+["end"]
+"#,
+    ),
+    (
+        "a tag that is spelled otherwise",
+        r#"["xarch",1]
+["key","(/, (db, {}))"]
+["leaf","","d\u0062"]
+["alt","",[]]
+["end"]
+["end"]
+"#,
+    ),
+    (
+        "a text that is spelled otherwise",
+        r#"["xarch",1]
+["key","(/, (db, {}))"]
+["leaf","","db"]
+["alt","",["\/"]]
+["end"]
+["end"]
+"#,
+    ),
 ];
+
+const HEAD: &[u8] = b"[\"xarch\",1]\n[\"key\",\"(/, (db, {}))\"]\n";
+
+/// Long texts of no archive.
+const LONG: &[(&str, Pieces)] = &[
+    (
+        "121 open nodes",
+        &[
+            (HEAD, 1),
+            (b"[\"open\",\"\",\"a\"]\n", 121),
+            (b"[\"end\"]\n", 122),
+        ],
+    ),
+    (
+        "many open nodes",
+        &[(HEAD, 1), (b"[\"open\",\"\",\"a\"]\n", 200_000)],
+    ),
+    // What is written for it differs behind two million letters, up to which it is not compared again and again.
+    (
+        "a long text whose last letter is spelled otherwise",
+        &[
+            (HEAD, 1),
+            (b"[\"leaf\",\"\",\"db\"]\n[\"alt\",\"\",[\"", 1),
+            (
+                b"abcdefghijklmnopqrstuvwxyzabcdefghijklmnopqrstuvwxyz",
+                40_000,
+            ),
+            (b"\\u0061\"]]\n[\"end\"]\n[\"end\"]\n", 1),
+        ],
+    ),
+];
+
+fn is_refused(alloc: Global, text: &[u8]) -> bool {
+    if text.len() > 67_108_864 {
+        return false;
+    }
+    matches!(read_text(alloc, text), Err(ReadFault::Bad))
+}
+
+fn is_long_refused(alloc: Global, text: Pieces) -> bool {
+    match joined(alloc, text) {
+        Ok(text) => is_refused(alloc, &text),
+        Err(_) => false,
+    }
+}
 
 #[test]
 fn other_texts_are_refused(rt: HostRuntime) -> Result<(), Fail> {
     for (name, text) in REFUSED {
-        let kept = kept(rt.alloc(), text)?;
-        assert!(rt; kept.is_none(), "{name}");
+        told(is_refused(rt.alloc(), text.as_bytes()), name)?;
+    }
+    for (name, text) in LONG {
+        told(is_long_refused(rt.alloc(), text), name)?;
     }
     Ok(())
 }

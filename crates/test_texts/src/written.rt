@@ -1,28 +1,13 @@
 //! What is written for archives.
 use archive_text::{TextFault, write_text};
+use archive_tree::Archive;
+use given_archives::lists::{COMPANY, NUMBERED, SALARIES, TINY};
+use given_archives::{archive, specification};
+use given_parts::told;
+use key_spec::Spec;
 use std::alloc::{AllocError, Global};
 use std::test::Fail;
-use given_archives::{archive, specification};
 use xa_outside::MemSink;
-
-const TINY: &str = "(/, (db, {}))\n";
-
-const COMPANY: &str = "(/, (db, {}))
-(/db, (dept, {name}))
-(/db/dept, (emp, {fn, ln}))
-(/db/dept/emp, (sal, {}))
-(/db/dept/emp, (tel, {.}))
-";
-
-const FIRST: &str =
-    r#"["db",["dept",["emp",["fn","John"],["ln","Doe"],["sal","90K"],["tel","123-4567"]],["name","finance"]]]"#;
-
-const SECOND: &str =
-    r#"["db",["dept",["emp",["fn","John"],["ln","Doe"],["sal","95K"],["tel","123-4567"]],["name","finance"]]]"#;
-
-const ITEMS: &str = "(/, (db, {}))
-(/db, (e, {@id}))
-";
 
 /// The keys, the documents, their notes, and the text.
 pub(crate) struct Written(
@@ -80,7 +65,7 @@ pub(crate) const WRITTEN: &[(&str, Written)] = &[
         "a salary that returns",
         Written(
             COMPANY,
-            &[FIRST, SECOND, FIRST],
+            SALARIES,
             &["", "", "back"],
             r#"["xarch",3]
 ["key","(/, (db, {}))"]
@@ -121,7 +106,7 @@ pub(crate) const WRITTEN: &[(&str, Written)] = &[
     (
         "attributes, and a number as a key value",
         Written(
-            ITEMS,
+            NUMBERED,
             &[r#"["db",{"by":"me"},["e",{"id":-2,"x":true},"a\n",["b",{"c":null}]]]"#],
             &[""],
             r#"["xarch",1]
@@ -149,42 +134,53 @@ pub(crate) fn strings(alloc: Global, texts: &[&str]) -> Result<Vec<String>, Allo
     Ok(strings)
 }
 
-fn text_of(alloc: Global, written: &Written) -> Result<Vec<u8>, Fail> {
-    let spec = specification(alloc, written.0)?;
-    let archive = archive(alloc, &spec, written.1)?;
-    let notes = strings(alloc, written.2)?;
+/// Whether this is written of an archive with these notes.
+pub(crate) fn is_written(
+    alloc: Global,
+    spec: &Spec,
+    archive: &Archive,
+    notes: &[&str],
+    text: &[u8],
+) -> bool {
     let mut sink = MemSink::new(alloc, Vec::new(alloc));
-    write_text(alloc, &spec, &archive, &notes, &mut sink)?;
-    Ok(Vec::from_slice(alloc, sink.taken())?)
+    match strings(alloc, notes) {
+        Ok(notes) => {
+            write_text(alloc, spec, archive, &notes, &mut sink).is_ok() && sink.taken() == text
+        }
+        Err(_) => false,
+    }
 }
 
-fn is_text(alloc: Global, written: &Written) -> Result<bool, Fail> {
-    let text = text_of(alloc, written)?;
-    Ok(text.as_slice() == written.3.as_bytes())
+fn is_text(alloc: Global, written: &Written) -> bool {
+    let Some(spec) = specification(alloc, written.0) else {
+        return false;
+    };
+    match archive(alloc, &spec, written.1) {
+        Some(archive) => is_written(alloc, &spec, &archive, written.2, written.3.as_bytes()),
+        None => false,
+    }
+}
+
+/// What is answered where a write of the empty archive fails.
+fn is_fault_told(alloc: Global) -> bool {
+    let mut fails = Vec::new(alloc);
+    if fails.push(1).is_err() {
+        return false;
+    }
+    let mut sink = MemSink::new(alloc, fails);
+    match specification(alloc, TINY) {
+        Some(spec) => {
+            let archive = Archive::empty(alloc);
+            write_text(alloc, &spec, &archive, &[], &mut sink) == Err(TextFault::Sink)
+        }
+        None => false,
+    }
 }
 
 #[test]
 fn archives_have_their_text(rt: HostRuntime) -> Result<(), Fail> {
     for (name, written) in WRITTEN {
-        let same = is_text(rt.alloc(), written)?;
-        assert!(rt; same, "{name}");
+        told(is_text(rt.alloc(), written), name)?;
     }
-    Ok(())
-}
-
-fn fault_of(alloc: Global, fails: Vec<u64>) -> Result<Option<TextFault>, Fail> {
-    let spec = specification(alloc, TINY)?;
-    let archive = archive(alloc, &spec, &[])?;
-    let mut sink = MemSink::new(alloc, fails);
-    match write_text(alloc, &spec, &archive, &[], &mut sink) {
-        Ok(()) => Ok(None),
-        Err(fault) => Ok(Some(fault)),
-    }
-}
-
-#[test]
-fn a_write_that_fails_is_told(rt: HostRuntime) -> Result<(), Fail> {
-    let fault = fault_of(rt.alloc(), Vec::from_array(rt.alloc(), [1])?)?;
-    assert!(rt; fault == Some(TextFault::Sink));
-    Ok(())
+    told(is_fault_told(rt.alloc()), "a write that fails")
 }

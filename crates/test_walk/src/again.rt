@@ -1,35 +1,45 @@
-// The archive of a demonstration, written again.
+// Archives that are written again.
 use crate::walk::write_again;
-use given_outside::texts;
-use std::alloc::{AllocError, Global};
+use given_archives::lists::LISTS;
+use given_archives::{NAME, NEVER, OTHER, SIZES, Size, documents_of, file, folder, keys_of, lent};
+use given_parts::told;
+use std::alloc::Global;
 use std::test::Fail;
-use xa_outside::{MemFolder, MemSink, MemSource};
-use xarch_run::run;
 
-// Whether the folder holds the archive now.
-fn is_made(alloc: Global, folder: &mut MemFolder, words: &[&str]) -> Result<bool, AllocError> {
-    let words = texts(alloc, words)?;
-    let mut input = MemSource::new(Vec::new(alloc), Vec::new(alloc));
-    let mut out = MemSink::new(alloc, Vec::new(alloc));
-    let mut err = MemSink::new(alloc, Vec::new(alloc));
-    let status = run(alloc, &words, folder, &mut input, &mut out, &mut err);
-    Ok(status == 0)
+fn is_same(alloc: Global, bytes: &[u8]) -> bool {
+    match folder(alloc, &[(NAME, bytes)], NEVER) {
+        Some(mut folder) => {
+            write_again(alloc, &mut folder, NAME, OTHER).is_ok()
+                && folder.file(OTHER) == Some(bytes)
+        }
+        None => false,
+    }
 }
 
-// Whether both names have a file, and the same.
-fn are_same(folder: &MemFolder, name: &str, other: &str) -> bool {
-    match (folder.file(name), folder.file(other)) {
-        (Some(bytes), Some(others)) => bytes == others,
-        _ => false,
+fn is_written_again(alloc: Global, keys: &str, documents: &[&str]) -> bool {
+    match file(alloc, keys, documents) {
+        Some(bytes) => is_same(alloc, &bytes),
+        None => false,
+    }
+}
+
+fn is_large_written_again(alloc: Global, size: Size) -> bool {
+    let Ok(documents) = documents_of(alloc, size) else {
+        return false;
+    };
+    match lent(alloc, &documents) {
+        Some(documents) => is_written_again(alloc, keys_of(size), &documents),
+        None => false,
     }
 }
 
 #[test]
 fn an_archive_walked_by_a_cursor_into_a_writer_is_the_same(rt: HostRuntime) -> Result<(), Fail> {
-    let alloc = rt.alloc();
-    let mut folder = MemFolder::new(alloc, Vec::new(alloc));
-    let is_there = is_made(alloc, &mut folder, &["demo", "7", "40", "A"])?;
-    let is_walked = write_again(alloc, &mut folder, "A", "B").is_ok();
-    assert!(rt; is_there && is_walked && are_same(&folder, "A", "B"));
+    for (name, keys, documents) in LISTS {
+        told(is_written_again(rt.alloc(), keys, documents), name)?;
+    }
+    for (name, size) in SIZES {
+        told(is_large_written_again(rt.alloc(), *size), name)?;
+    }
     Ok(())
 }

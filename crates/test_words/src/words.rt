@@ -1,7 +1,7 @@
+use given_outside::{sink, texts, told};
 use jsonml_tree::Place;
 use key_rules::KeyFault;
 use key_spec::KeyPath;
-use given_outside::{sink, texts, told};
 use std::alloc::{AllocError, Global};
 use std::test::Fail;
 use xa_outside::MemSink;

@@ -1,0 +1,250 @@
+use crate::reading::COMPANY;
+use given_outside::texts;
+use given_parts::bytes::{Pieces, joined};
+use given_parts::documents::parse;
+use given_parts::told;
+use key_spec::{KeyPath, Spec, SpecFault};
+use std::alloc::{AllocError, Global};
+use std::test::Fail;
+
+const COMPANY_TEXT: &[u8] = b"(/, (db, {}))
+(/db, (dept, {name}))
+(/db/dept, (emp, {fn, ln}))
+(/db/dept, (name, {}))
+(/db/dept/emp, (fn, {}))
+(/db/dept/emp, (ln, {}))
+(/db/dept/emp, (sal, {}))
+(/db/dept/emp, (tel, {.}))
+";
+
+/// A text, and the canonical text of what it specifies.
+const CANONICAL: &[(&str, &[u8], &[u8])] = &[
+    ("the company", COMPANY, COMPANY_TEXT),
+    ("the canonical company", COMPANY_TEXT, COMPANY_TEXT),
+    // A carriage return belongs to the end of a line.
+    (
+        "blanks and carriage returns",
+        b"\r\n (\t/ ,(db , { } ) ) \r\n(/db, (e, {@id}))\r",
+        b"(/, (db, {}))\n(/db, (e, {@id}))\n",
+    ),
+];
+
+fn has_text(alloc: Global, spec: &Spec, wanted: &[u8]) -> bool {
+    match spec.text(alloc) {
+        Ok(text) => text.as_bytes() == wanted,
+        Err(_) => false,
+    }
+}
+
+fn is_canonical(alloc: Global, text: &[u8], wanted: &[u8]) -> bool {
+    match parse(alloc, text) {
+        Some(spec) => has_text(alloc, &spec, wanted),
+        None => false,
+    }
+}
+
+#[test]
+fn specifications_have_their_canonical_texts(rt: HostRuntime) -> Result<(), Fail> {
+    for (name, text, wanted) in CANONICAL {
+        told(is_canonical(rt.alloc(), text, wanted), name)?;
+    }
+    told(COMPANY_TEXT.len() == 190, "the company's length")
+}
+
+/// A text, and the line and why of its fault, or no line and no why.
+const FAULTS: &[(&[u8], (u32, u8))] = &[
+    (b"(/, (db, {})", (1, 1)),
+    (b"(/db, (a, {}))", (1, 2)),
+    (b"(/, (db, {}))\n(/, (db, {}))", (2, 3)),
+    (b"(/, (db, {a, a}))", (1, 4)),
+    (b"(/, (db, {a}))\n(/db, (a, {b}))", (2, 5)),
+    (b"(/, (db, {a}))\n(/db/a, (c, {}))", (2, 6)),
+    (b"(/, (db, {a/b/c/d/e/f/g/h/i}))", (1, 7)),
+    // A key for an implied rule is refused also before the line that implies it.
+    (
+        b"(/, (db, {}))\n(/db/x, (a, {b}))\n(/db, (x, {a/c}))",
+        (2, 5),
+    ),
+    // The first pass comes before the second.
+    (b"(/db, (a, {}))\n(/, (db, {a, a}))", (2, 4)),
+    // A comment may hold any bytes.
+    (b" \t# \xff\xfe\n(/, (db, {}))\n", (0, 0)),
+    (b"(/, (d\xff, {}))\n", (1, 1)),
+    (b"(/, (db, {}))\r\r\n", (1, 1)),
+    // A dot stands alone.
+    (b"(/, (db, {.}))", (0, 0)),
+    (b"(/, (db, {., a}))", (1, 4)),
+    (b"(/, (., {}))", (1, 1)),
+    (b"(/, (db, {./a}))", (1, 1)),
+    (b"(/, (db, {a/@b, @b, a/b}))", (0, 0)),
+    // Blanks stand between tokens only.
+    (b"(/, (db, {}))\n(/db /a, (b, {}))", (2, 1)),
+    (b"(/, (db, {a,}))", (1, 1)),
+    (b"(/, (db, {})) x", (1, 1)),
+    // Sixteen key paths of eight tags are enough.
+    (
+        b"(/, (db, {a0, a1, a2, a3, a4, a5, a6, a7, a8, a9, a10, a11, a12, a13, a14, a15}))\n",
+        (0, 0),
+    ),
+    (
+        b"(/, (db, {a0, a1, a2, a3, a4, a5, a6, a7, a8, a9, a10, a11, a12, a13, a14, a15, a16}))\n",
+        (1, 7),
+    ),
+    (b"(/, (db, {a/b/c/d/e/f/g/h/@i}))", (0, 0)),
+];
+
+fn fault_in(found: &Result<Spec, SpecFault>) -> Option<(u32, u8)> {
+    match found {
+        Ok(_) => Some((0, 0)),
+        Err(SpecFault::Bad { line, why }) => Some((*line, *why)),
+        Err(_) => None,
+    }
+}
+
+fn fault(alloc: Global, text: &[u8]) -> Option<(u32, u8)> {
+    if text.len() > 1_048_576 {
+        return None;
+    }
+    let found = Spec::parse(alloc, text);
+    fault_in(&found)
+}
+
+#[test]
+fn each_fault_has_its_line_and_why(rt: HostRuntime) {
+    for (index, (text, wanted)) in FAULTS.iter().enumerate() {
+        assert!(rt; fault(rt.alloc(), text) == Some(*wanted), "text {index}");
+    }
+}
+
+/// A rule of a long tag, which stands in the rules of its two key paths, too; and the fault.
+const LONG: &[(&str, Pieces, (u32, u8))] = &[
+    (
+        "a canonical text of less than a mebibyte",
+        &[(TAG, 1), (LETTERS, 30_000), (KEY_PATHS, 1)],
+        (0, 0),
+    ),
+    (
+        "a canonical text of more than a mebibyte",
+        &[(TAG, 1), (LETTERS, 40_000), (KEY_PATHS, 1)],
+        (0, 7),
+    ),
+];
+
+const TAG: &[u8] = b"(/, (db, {}))\n(/db, (";
+
+const LETTERS: &[u8] = b"abcdefghij";
+
+const KEY_PATHS: &[u8] = b", {k, l}))\n";
+
+fn is_long_fault(alloc: Global, text: Pieces, wanted: (u32, u8)) -> bool {
+    match joined(alloc, text) {
+        Ok(text) => fault(alloc, &text) == Some(wanted),
+        Err(_) => false,
+    }
+}
+
+#[test]
+fn a_canonical_text_has_at_most_a_mebibyte(rt: HostRuntime) -> Result<(), Fail> {
+    for (name, text, wanted) in LONG {
+        told(is_long_fault(rt.alloc(), text, *wanted), name)?;
+    }
+    Ok(())
+}
+
+/// A rule with a key, 4,094 rules below it, and this line.
+fn with_rules(alloc: Global, last: &str) -> Result<String, AllocError> {
+    let mut text = String::from_str(alloc, "(/, (r, {k}))\n")?;
+    for i in 0..4094 {
+        text.push_str(format!(in alloc; "(/r, (t{i}, {{}}))\n")?.as_str())?;
+    }
+    text.push_str(last)?;
+    Ok(text)
+}
+
+fn fault_of_many(alloc: Global, last: &str) -> Option<(u32, u8)> {
+    match with_rules(alloc, last) {
+        Ok(text) => fault(alloc, text.as_bytes()),
+        Err(_) => None,
+    }
+}
+
+#[test]
+fn there_are_at_most_4096_closed_rules(rt: HostRuntime) {
+    let are_enough = fault_of_many(rt.alloc(), "") == Some((0, 0));
+    let is_too_many = fault_of_many(rt.alloc(), "(/r, (last, {}))") == Some((0, 7));
+    assert!(rt; are_enough && is_too_many);
+}
+
+/// Whether the frontier is at this context, or not.
+fn is_frontier(alloc: Global, spec: &Spec, context: &[&str], wanted: bool) -> bool {
+    match texts(alloc, context) {
+        Ok(context) => spec.is_frontier(&context) == wanted,
+        Err(_) => false,
+    }
+}
+
+fn is_path(alloc: Global, path: &KeyPath, text: &str) -> bool {
+    match path.text(alloc) {
+        Ok(found) => found.as_str() == text,
+        Err(_) => false,
+    }
+}
+
+fn are_two(alloc: Global, paths: &[KeyPath], first: &str, second: &str) -> bool {
+    match paths {
+        [one, other] => is_path(alloc, one, first) && is_path(alloc, other, second),
+        _ => false,
+    }
+}
+
+/// Whether the employees' rule has these key paths, and a salary none.
+fn are_rules(alloc: Global, spec: &Spec, dept: &[String], first: &str, second: &str) -> bool {
+    if spec.rule(dept, "sal").is_some() {
+        return false;
+    }
+    match spec.rule(dept, "emp") {
+        Some(rule) => are_two(alloc, rule.paths.as_slice(), first, second),
+        None => false,
+    }
+}
+
+fn are_paths(alloc: Global, spec: &Spec, first: &str, second: &str) -> bool {
+    match texts(alloc, &["db", "dept"]) {
+        Ok(dept) => are_rules(alloc, spec, &dept, first, second),
+        Err(_) => false,
+    }
+}
+
+/// A rule of the company with two key paths, and where the frontier is.
+fn are_found(alloc: Global, spec: &Spec) -> bool {
+    spec.rules().len() == 8
+        && are_paths(alloc, spec, "fn", "ln")
+        && is_frontier(alloc, spec, &["db", "dept", "emp", "tel"], true)
+        && is_frontier(alloc, spec, &["db", "dept"], false)
+}
+
+#[test]
+fn rules_are_found_by_context_and_tag(rt: HostRuntime) -> Result<(), Fail> {
+    match parse(rt.alloc(), COMPANY) {
+        Some(spec) => told(are_found(rt.alloc(), &spec), "rules"),
+        None => Err(Fail::new("no specification")),
+    }
+}
+
+fn key_path(alloc: Global, tags: &[&str], attr: &str) -> Result<KeyPath, AllocError> {
+    let attr = Some(String::from_str(alloc, attr)?);
+    let tags = texts(alloc, tags)?;
+    Ok(KeyPath { tags, attr })
+}
+
+fn is_path_text(alloc: Global, tags: &[&str], attr: &str, text: &str) -> bool {
+    match key_path(alloc, tags, attr) {
+        Ok(path) => is_path(alloc, &path, text),
+        Err(_) => false,
+    }
+}
+
+#[test]
+fn key_paths_are_written_as_they_are_read(rt: HostRuntime) {
+    assert!(rt; is_path_text(rt.alloc(), &["a", "b"], "c", "a/b/@c"));
+}

@@ -1,4 +1,0 @@
-use Rattle.test_parts.proofs.nodes.said.Given as goal
-
-abbrev pub ghosts-asked : goal.ghosts-asked
-ghosts-asked a = record { name = a.blank.name; parts = a.blank.parts }

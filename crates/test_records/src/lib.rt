@@ -1,0 +1,7 @@
+//! Tests of the crates that know records and their parts.
+#![tactic(auto)]
+
+#[cfg(test)]
+mod damaged_records;
+#[cfg(test)]
+mod records;
