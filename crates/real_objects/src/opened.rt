@@ -1,4 +1,4 @@
-ghost use Rattle.std.specs.Prelude.{◌≡◌, ◌≢◌, ◌≤◌, ◌↔◌, IfSome, IsSomeAnd, IsTrue, Some, length, string_bytes};
+ghost use Rattle.std.specs.Prelude.{◌≡◌, ◌≤◌, ◌↔◌, IfSome, IsFalse, IsSomeAnd, IsTrue, None, Some, length, string_bytes};
 ghost use Rattle.real_objects.specs.Mark.{IsSame};
 
 use crate::calls::{self, is_absent};
@@ -51,7 +51,7 @@ impl<F: Drop> Opened<F> {
     fn may_stay(&self, name: &str, mark: Option<Mark>) -> bool
         ensures fresh { IsTrue result → string_bytes self.now.name ≡ name.now
             → IsTrue self.now.is_settled × IsSomeAnd mark (λ m. IsSame self.now.mark m) }
-        ensures other { string_bytes self.now.name ≢ name.now → IsTrue result }
+        ensures other { IsFalse result → string_bytes self.now.name ≡ name.now }
     {
         if !self.is_named(name) {
             return true;
@@ -67,7 +67,8 @@ impl<F: Drop> Opened<F> {
 fn kept<F: Drop>(opened: Option<Opened<F>>, name: &str, mark: Option<Mark>) -> Option<Opened<F>>
     ensures fresh { IfSome result (λ o. string_bytes o.name ≡ name.now
         → IsTrue o.is_settled × IsSomeAnd mark (λ m. IsSame o.mark m)) }
-    ensures other { IfSome opened (λ o. string_bytes o.name ≢ name.now → result ≡ opened) }
+    ensures same { IfSome result (λ o. opened ≡ Some o) }
+    ensures gone { result ≡ None → IfSome opened (λ o. string_bytes o.name ≡ name.now) }
 {
     let file = opened?;
     if file.may_stay(name, mark) {

@@ -1,5 +1,4 @@
-use Rattle.std.proofs.Common.{◌-◌}
 use Rattle.real_objects.proofs.draft.Draft.append_all.Given as goal
 
-abbrev pub decreases-loop-at : goal.decreases-loop-at
-decreases-loop-at g l = l.from.written - l.at
+abbrev pub decreases-loop-left : goal.decreases-loop-left
+decreases-loop-left g l = l.left
