@@ -13,9 +13,9 @@ use xa_outside::{Failed, Folder, Meter};
 /// The files of the folder that the program runs in.
 ///
 /// It keeps the two files that it read last open, with pages of what it read, so that two are read side by side. A file is read as
-/// it was when its length was last asked for, or after that. What is appended is gathered, 64 KiB at most, and written to a draft that `commit` renames: a
-/// file is replaced whole or not at all. The names of drafts are refused, and want of memory is a failure as any other. It tells no
-/// files: what the system holds is trusted.
+/// it was when its length was last asked for, or after that. What is appended is gathered, 64 KiB at most, and written to a draft
+/// that `commit` renames: a file is replaced whole or not at all. The names of drafts are refused, and want of memory is a failure
+/// as any other. It tells no files: what the system holds is trusted.
 #[derive(Drop)]
 pub struct DiskFolder<'a, R: System> {
     rt: &'a R,
@@ -24,6 +24,12 @@ pub struct DiskFolder<'a, R: System> {
     draft: Option<Draft<'a, R>>,
     meter: Meter,
     faults: u64,
+}
+
+fn remove<R: System>(draft: &mut Option<Draft<'_, R>>) {
+    if let Some(draft) = draft.take() {
+        draft.remove();
+    }
 }
 
 impl<'a, R: System> DiskFolder<'a, R> {
@@ -49,9 +55,7 @@ impl<'a, R: System> DiskFolder<'a, R> {
         ensures faults { ⟦<DiskFolder<'a, R> as Folder>⟧.faults self.new
             ≡ ⟦<DiskFolder<'a, R> as Folder>⟧.faults self.old }
     {
-        if let Some(draft) = self.draft.take() {
-            draft.remove();
-        }
+        remove(&mut self.draft);
     }
 
     /// Reads what is held, or else what stands in the file. None on a failure.
@@ -76,7 +80,7 @@ impl<'a, R: System> DiskFolder<'a, R> {
         ensures meter { self.new.meter ≡ self.old.meter }
         ensures faults { self.new.faults ≡ self.old.faults }
     {
-        self.discard();
+        remove(&mut self.draft);
         self.draft = Some(Draft::make(self.rt, self.alloc, "")?);
         Some(())
     }

@@ -245,6 +245,7 @@ impl<'a, R: System> Draft<'a, R> {
     {
         calls::rename(self.rt, self.own_name.as_str(), target.path.as_str())
     }
+
     /// Copies the draft to one beside the target, and makes that the file there. None on a failure, and nothing is left of the copy.
     fn carry(&self, target: &Target) -> Option<()> {
         let folder = folder_of(self.alloc, target.path.as_str())?;
@@ -268,14 +269,16 @@ impl<'a, R: System> Draft<'a, R> {
     fn append_all(&mut self, from: &Draft<'a, R>) -> Option<()> {
         let mut room = Vec::new(self.alloc);
         room.resize(GATHERED, 0u8).ok()?;
-        let mut at = 0;
-        while at < from.written {
+        let mut at = 0u64;
+        let mut left = from.written;
+        while left > 0 {
             let count = calls::read_at(self.rt, &from.file, at, &mut room).ok()?;
             if count == 0 {
                 return None;
             }
             self.append(&room[..count])?;
             at = at.saturating_add(count as u64);
+            left = left.saturating_sub(count as u64);
         }
         Some(())
     }

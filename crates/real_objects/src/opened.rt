@@ -1,4 +1,5 @@
-ghost use Rattle.std.specs.Prelude.{◌≡◌, ◌≢◌, ◌≤◌, ◌↔◌, IfSome, IsTrue, None, Some, length, string_bytes};
+ghost use Rattle.std.specs.Prelude.{◌≡◌, ◌≤◌, ◌↔◌, IfSome, IsFalse, IsSomeAnd, IsTrue, None, Some, length, string_bytes};
+ghost use Rattle.real_objects.specs.Mark.{IsSame};
 
 use crate::calls::{self, is_absent};
 use crate::pages::Pages;
@@ -39,10 +40,41 @@ impl<F: Drop> Opened<F> {
     }
 
     /// Whether it is still the file of this mark, with the bytes that its pages hold.
-    fn is_as_marked(&self, mark: Mark) -> bool
-        ensures { IsTrue result ↔ (IsTrue self.now.is_settled × (self.now.mark ≡ mark)) }
+    fn is_as_marked(&self, mark: &Mark) -> bool
+        ensures rested { IsTrue result → IsTrue self.now.is_settled }
+        ensures same { IsTrue result → IsSame self.now.mark mark.now }
     {
-        self.is_settled && self.mark == mark
+        self.is_settled && self.mark.is_same(mark)
+    }
+
+    /// Whether it may stay open where the file of this name has this mark.
+    fn may_stay(&self, name: &str, mark: Option<Mark>) -> bool
+        ensures fresh { IsTrue result → string_bytes self.now.name ≡ name.now
+            → IsTrue self.now.is_settled × IsSomeAnd mark (λ m. IsSame self.now.mark m) }
+        ensures other { IsFalse result → string_bytes self.now.name ≡ name.now }
+    {
+        if !self.is_named(name) {
+            return true;
+        }
+        match mark {
+            Some(mark) => self.is_as_marked(&mark),
+            None => false,
+        }
+    }
+}
+
+/// The open file, unless it has this name and another mark: then it is let go.
+fn kept<F: Drop>(opened: Option<Opened<F>>, name: &str, mark: Option<Mark>) -> Option<Opened<F>>
+    ensures fresh { IfSome result (λ o. string_bytes o.name ≡ name.now
+        → IsTrue o.is_settled × IsSomeAnd mark (λ m. IsSame o.mark m)) }
+    ensures same { IfSome result (λ o. opened ≡ Some o) }
+    ensures gone { result ≡ None → IfSome opened (λ o. string_bytes o.name ≡ name.now) }
+{
+    let file = opened?;
+    if file.may_stay(name, mark) {
+        Some(file)
+    } else {
+        None
     }
 }
 
@@ -107,23 +139,6 @@ fn has_name<F: Drop>(opened: &Option<Opened<F>>, name: &str) -> bool {
     }
 }
 
-/// Lets the file go if it has this name, unless it is as marked.
-fn keep_only<F: Drop>(opened: &mut Option<Opened<F>>, name: &str, mark: Option<Mark>)
-    ensures fresh { IfSome opened.new (λ o. string_bytes o.name ≡ name.now
-        → (mark ≡ Some o.mark) × IsTrue o.is_settled) }
-    ensures other { IfSome opened.old (λ o. string_bytes o.name ≢ name.now
-        → opened.new ≡ opened.old) }
-{
-    let is_kept = match (&*opened, mark) {
-        (Some(file), Some(mark)) => !file.is_named(name) || file.is_as_marked(mark),
-        (Some(file), None) => !file.is_named(name),
-        (None, _) => true,
-    };
-    if !is_kept {
-        *opened = None;
-    }
-}
-
 impl<'a, R: System> OpenFiles<'a, R> {
     pub fn new(rt: &'a R, alloc: Global) -> OpenFiles<'a, R> {
         OpenFiles {
@@ -148,14 +163,31 @@ impl<'a, R: System> OpenFiles<'a, R> {
         ensures second { IfSome result (λ r. IfSome self.new.second
             (λ o. string_bytes o.name ≡ name.now → r ≡ Some o.mark.length)) }
     {
-        let found = marked(self.rt, name);
-        let mark = found.flatten();
-        keep_only(&mut self.first, name, mark);
-        keep_only(&mut self.second, name, mark);
-        match found? {
-            Some(mark) => Some(Some(mark.length)),
-            None => Some(None),
+        match marked(self.rt, name) {
+            Some(Some(mark)) => {
+                self.keep_only(name, Some(mark));
+                Some(Some(mark.length))
+            }
+            Some(None) => {
+                self.keep_only(name, None);
+                Some(None)
+            }
+            None => {
+                self.keep_only(name, None);
+                None
+            }
         }
+    }
+
+    /// Lets an open file of this name go, unless it has this mark.
+    fn keep_only(&mut self, name: &str, mark: Option<Mark>)
+        ensures first { IfSome self.new.first (λ o. string_bytes o.name ≡ name.now
+            → IsTrue o.is_settled × IsSomeAnd mark (λ m. IsSame o.mark m)) }
+        ensures second { IfSome self.new.second (λ o. string_bytes o.name ≡ name.now
+            → IsTrue o.is_settled × IsSomeAnd mark (λ m. IsSame o.mark m)) }
+    {
+        self.first = kept(self.first.take(), name, mark);
+        self.second = kept(self.second.take(), name, mark);
     }
 
     /// Puts what is held of the named file from the offset on at the front of the buffer.

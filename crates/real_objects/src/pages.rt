@@ -19,6 +19,17 @@ const LARGE_PAGES: usize = 16;
 /// How many hints are kept.
 const HINTS: usize = 64;
 
+/// Copies as much as there is, and as there is room for.
+#[inline]
+fn copy_front(from: &[u8], buf: &mut [u8]) -> usize
+    ensures bound { result ≤ length buf.new }
+    ensures front { take result buf.new ≡ take result from.now }
+{
+    let count = buf.len().min(from.len());
+    buf[..count].copy_from_slice(&from[..count]);
+    count
+}
+
 /// A piece of a file: its offset, and so many bytes in front of the room.
 #[derive(Drop)]
 struct Page {
@@ -47,13 +58,11 @@ impl Page {
         ensures bytes { take result buf.new
             ≡ take result (drop (at - self.now.start) (take self.now.size self.now.room.items)) }
     {
-        if at < self.start || at - self.start >= self.size as u64 {
+        let held = &self.room[..self.size];
+        if at < self.start || at - self.start >= held.len() as u64 {
             return 0;
         }
-        let held = &self.room[(at - self.start) as usize..self.size];
-        let count = held.len().min(buf.len());
-        buf[..count].copy_from_slice(&held[..count]);
-        count
+        copy_front(&held[(at - self.start) as usize..], buf)
     }
 
     /// Whether the page is full, by this size, and ends at the offset.

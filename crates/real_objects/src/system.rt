@@ -1,3 +1,4 @@
+ghost use Rattle.std.specs.Prelude.{◌≡◌, IsTrue};
 ghost use Rattle.std.specs.Io.{ReadsAtMost};
 
 use std::alloc::Global;
@@ -15,6 +16,15 @@ pub struct Moment {
     pub nanoseconds: i64,
 }
 
+impl Moment {
+    pub fn is_same(&self, other: &Moment) -> bool
+        ensures seconds { IsTrue result → self.now.seconds ≡ other.now.seconds }
+        ensures nanoseconds { IsTrue result → self.now.nanoseconds ≡ other.now.nanoseconds }
+    {
+        self.seconds == other.seconds && self.nanoseconds == other.nanoseconds
+    }
+}
+
 /// Which file, and in which state. Two marks that are equal are of one file that nobody wrote in between, if it was
 /// settled at the first.
 #[derive(Clone, Copy, PartialEq, Eq)]
@@ -29,6 +39,23 @@ pub struct Mark {
     pub modified: Moment,
     /// When the bytes or the metadata last changed, which no program sets.
     pub changed: Moment,
+}
+
+impl Mark {
+    ghost use Rattle.real_objects.specs.Mark.{IsSame};
+
+    /// Whether both are of one file in one state.
+    pub fn is_same(&self, other: &Mark) -> bool
+        ensures { IsTrue result → IsSame self.now other.now }
+    {
+        if self.device != other.device || self.inode != other.inode {
+            return false;
+        }
+        if self.length != other.length {
+            return false;
+        }
+        self.modified.is_same(&other.modified) && self.changed.is_same(&other.changed)
+    }
 }
 
 /// What a path leads to.
