@@ -116,11 +116,11 @@ fn each_fault_has_its_line_and_why(rt: HostRuntime) {
     }
 }
 
-/// A rule of a long tag, which stands in the rules of its two key paths, too; and the fault.
+/// A rule of a long tag, which stands in the rules of its three key paths, too; and the fault.
 const LONG: &[(&str, Pieces, (u32, u8))] = &[
     (
         "a canonical text of less than a mebibyte",
-        &[(TAG, 1), (LETTERS, 30_000), (KEY_PATHS, 1)],
+        &[(TAG, 1), (LETTERS, 25_000), (KEY_PATHS, 1)],
         (0, 0),
     ),
     (
@@ -134,7 +134,7 @@ const TAG: &[u8] = b"(/, (db, {}))\n(/db, (";
 
 const LETTERS: &[u8] = b"abcdefghij";
 
-const KEY_PATHS: &[u8] = b", {k, l}))\n";
+const KEY_PATHS: &[u8] = b", {k, l, m}))\n";
 
 fn is_long_fault(alloc: Global, text: Pieces, wanted: (u32, u8)) -> bool {
     match joined(alloc, text) {
