@@ -1,60 +1,38 @@
-ghost use Rattle.std.specs.Prelude.{◌≡◌, ◌≤◌, ◌⊎◌, [], None, IfSome, IsTrue, IsFalse, length};
+ghost use Rattle.std.specs.Prelude.{◌≡◌, ◌≤◌, IfSome, IsTrue, None, length};
 ghost use Rattle.xa_outside.specs.Causes.{Rose};
 ghost use Rattle.xa_outside.specs.Meter.{numbers};
 ghost use Rattle.xa_outside.specs.Numbers.{numbers_none};
 
-use crate::opened::{Found, Opened, open};
+use crate::draft::Draft;
+use crate::opened::OpenFiles;
+use crate::system::System;
+use crate::target::{followed, is_draft};
 use std::alloc::Global;
-use std::fs::OpenOptions;
-use std::io::{ErrorKind, Write};
-use std::mem;
-use std::rt::Files;
 use xa_outside::{Failed, Folder, Meter};
-
-/// Where a draft is written, in the folder that the program runs in. No file of a user has this name, in any folder.
-const DRAFT: &str = ".xarch-draft";
-
-/// Whether a name is that of a draft: what stands behind its last slash, if it has one. So the draft is told by each
-/// spelling of its path.
-fn is_draft(name: &str) -> bool {
-    match name.as_bytes().strip_suffix(DRAFT.as_bytes()) {
-        Some(front) => front.is_empty() || front.ends_with(b"/"),
-        None => false,
-    }
-}
-
-/// How much of a draft is gathered before it is written.
-const GATHERED: usize = 65536;
 
 /// The files of the folder that the program runs in.
 ///
-/// It keeps the two files that it last opened and reads ahead in pages, so that two are read side by side: each has at most 16 pages
-/// of 32 KiB. What is appended is gathered, 64 KiB at most, and written to a draft file that `commit` renames. The draft's name is
-/// refused, and want of memory is a failure as any other. It tells no files: what the system holds is trusted.
+/// It keeps the two files that it read last open, with pages of what it read, so that two are read side by side. A file is read as
+/// it was when its length was last asked for, or after that. What is appended is gathered, 64 KiB at most, and written to a draft
+/// that `commit` renames: a file is replaced whole or not at all. The names of drafts are refused, and want of memory is a failure
+/// as any other. It tells no files: what the system holds is trusted.
 #[derive(Drop)]
-pub struct DiskFolder<'a, R: Files> {
+pub struct DiskFolder<'a, R: System> {
     rt: &'a R,
     alloc: Global,
-    opened: Option<Opened<R::File>>,
-    opened_before: Option<Opened<R::File>>,
-    draft: Option<R::File>,
-    gathered: Vec<u8>,
-    // A write to the draft failed, so how much of it stands there is not known.
-    is_spoiled: bool,
+    files: OpenFiles<'a, R>,
+    draft: Option<Draft<'a, R>>,
     meter: Meter,
     faults: u64,
 }
 
-/// Makes the draft's file. What has its name is removed before: a draft that was left, or a link to another file, which is
-/// not to be written, or a pipe, which would have to be waited for. None on a failure.
-fn make_draft<R: Files>(rt: &R) -> Option<R::File> {
-    let _ = rt.remove_file(DRAFT);
-    let mut options = OpenOptions::new();
-    options.write(true).create_new(true);
-    options.open(rt, DRAFT).ok()
+fn remove<R: System>(draft: &mut Option<Draft<'_, R>>) {
+    if let Some(draft) = draft.take() {
+        draft.remove();
+    }
 }
 
-impl<'a, R: Files> DiskFolder<'a, R> {
+impl<'a, R: System> DiskFolder<'a, R> {
     /// The folder, of which nothing is read or drafted yet.
     pub fn new(rt: &'a R, alloc: Global) -> DiskFolder<'a, R>
         ensures counts { ⟦<DiskFolder<'a, R> as Folder>⟧.numbers result ≡ numbers_none }
@@ -63,11 +41,8 @@ impl<'a, R: Files> DiskFolder<'a, R> {
         DiskFolder {
             rt,
             alloc,
-            opened: None,
-            opened_before: None,
+            files: OpenFiles::new(rt, alloc),
             draft: None,
-            gathered: Vec::new(alloc),
-            is_spoiled: false,
             meter: Meter::new(),
             faults: 0,
         }
@@ -80,143 +55,46 @@ impl<'a, R: Files> DiskFolder<'a, R> {
         ensures faults { ⟦<DiskFolder<'a, R> as Folder>⟧.faults self.new
             ≡ ⟦<DiskFolder<'a, R> as Folder>⟧.faults self.old }
     {
-        if self.draft.take().is_some() {
-            let _ = self.rt.remove_file(DRAFT);
-        }
+        remove(&mut self.draft);
     }
 
-    /// Puts what was read ahead of the named file at the front of the buffer: nothing of a file that does not stand open.
-    #[inline(never)]
-    fn copy_ahead(&mut self, name: &str, at: u64, buf: &mut [u8]) -> usize
-        ensures bound { result ≤ length buf.new }
-        ensures meter { self.new.meter ≡ self.old.meter }
-        ensures faults { self.new.faults ≡ self.old.faults }
-    {
-        if let Some(opened) = &mut self.opened {
-            if opened.is_named(name) {
-                return opened.copy_held(at, buf);
-            }
-        }
-        match &mut self.opened_before {
-            Some(opened) if opened.is_named(name) => opened.copy_held(at, buf),
-            _ => 0,
-        }
-    }
-
-    /// Opens the named file unless it stands open, and reads from it. None on a failure.
-    #[cold]
-    #[inline(never)]
-    fn read_named(&mut self, name: &str, at: u64, buf: &mut [u8]) -> Option<usize>
+    /// Reads what is held, or else what stands in the file. None on a failure.
+    #[inline]
+    fn read(&mut self, name: &str, at: u64, buf: &mut [u8]) -> Option<usize>
         ensures bound { IfSome result (λ n. n ≤ length buf.new) }
         ensures meter { self.new.meter ≡ self.old.meter }
         ensures faults { self.new.faults ≡ self.old.faults }
     {
+        let held = self.files.copy(name, at, buf);
+        if held > 0 {
+            return Some(held);
+        }
         if is_draft(name) {
             return None;
         }
-        if let Some(opened) = &mut self.opened {
-            if opened.is_named(name) {
-                return opened.read(at, buf);
-            }
-        }
-        if let Some(opened) = &mut self.opened_before {
-            if opened.is_named(name) {
-                return opened.read(at, buf);
-            }
-        }
-        self.read_new(name, at, buf)
+        self.files.read(name, at, buf)
     }
 
-    /// Opens the named file in place of the one that was opened before the last, and reads from it. None on a failure.
-    fn read_new(&mut self, name: &str, at: u64, buf: &mut [u8]) -> Option<usize>
-        ensures bound { IfSome result (λ n. n ≤ length buf.new) }
+    /// Makes a draft in place of the one before, which is removed. None on a failure.
+    fn start(&mut self) -> Option<()>
         ensures meter { self.new.meter ≡ self.old.meter }
         ensures faults { self.new.faults ≡ self.old.faults }
     {
-        match open(self.rt, self.alloc, name)? {
-            Found::Nothing => Some(0),
-            Found::File(mut opened) => {
-                let count = opened.read(at, buf);
-                self.opened_before = mem::replace(&mut self.opened, Some(opened));
-                count
-            }
-        }
-    }
-
-    /// Makes the file the draft, of which nothing is gathered.
-    fn start(&mut self, file: R::File)
-        ensures gathered { self.new.gathered.items ≡ [] }
-        ensures sound { IsFalse self.new.is_spoiled }
-        ensures meter { self.new.meter ≡ self.old.meter }
-        ensures faults { self.new.faults ≡ self.old.faults }
-    {
-        self.draft = Some(file);
-        self.gathered.clear();
-        self.is_spoiled = false;
-    }
-
-    /// Writes what was gathered. None on a failure.
-    fn flush(&mut self) -> Option<()>
-        ensures gathered { IfSome result (λ done. self.new.gathered.items ≡ []) }
-        ensures spoiled { result ≡ None → (self.old.draft ≡ None) ⊎ IsTrue self.new.is_spoiled }
-        ensures meter { self.new.meter ≡ self.old.meter }
-        ensures faults { self.new.faults ≡ self.old.faults }
-    {
-        let file = self.draft.as_mut()?;
-        if file.write_all(&self.gathered).is_err() {
-            self.is_spoiled = true;
-            return None;
-        }
-        self.gathered.clear();
+        remove(&mut self.draft);
+        self.draft = Some(Draft::make(self.rt, self.alloc, "")?);
         Some(())
     }
 
-    /// Writes a piece. None on a failure.
-    fn write_piece(&mut self, piece: &[u8]) -> Option<()>
-        ensures spoiled { result ≡ None → (self.old.draft ≡ None) ⊎ IsTrue self.new.is_spoiled }
+    /// Makes the draft a file of this name. None on a failure, and the draft stays.
+    fn finish(&mut self, name: &str) -> Option<()>
         ensures meter { self.new.meter ≡ self.old.meter }
         ensures faults { self.new.faults ≡ self.old.faults }
     {
-        let file = self.draft.as_mut()?;
-        if file.write_all(piece).is_err() {
-            self.is_spoiled = true;
-            return None;
-        }
-        Some(())
-    }
-
-    /// Gathers a piece, or writes it where it is long. None on a failure.
-    fn gather(&mut self, piece: &[u8]) -> Option<()>
-        ensures sound { IsTrue self.old.is_spoiled → result ≡ None }
-        ensures meter { self.new.meter ≡ self.old.meter }
-        ensures faults { self.new.faults ≡ self.old.faults }
-    {
-        if self.draft.is_none() || self.is_spoiled {
-            return None;
-        }
-        if self.gathered.len().saturating_add(piece.len()) > GATHERED {
-            self.flush()?;
-        }
-        if piece.len() >= GATHERED {
-            return self.write_piece(piece);
-        }
-        self.gathered.extend_from_slice(piece).ok()
-    }
-
-    /// Writes what was gathered, and gives the draft its name. None on a failure.
-    fn rename_draft(&mut self, name: &str) -> Option<()>
-        ensures sound { IsTrue self.old.is_spoiled → result ≡ None }
-        ensures meter { self.new.meter ≡ self.old.meter }
-        ensures faults { self.new.faults ≡ self.old.faults }
-    {
-        if is_draft(name) || self.is_spoiled {
-            return None;
-        }
-        self.flush()?;
-        self.rt.rename(DRAFT, name).ok()?;
+        let draft = self.draft.as_mut()?;
+        let target = followed(self.rt, self.alloc, name)?;
+        draft.put(&target)?;
         self.draft = None;
-        self.opened = None;
-        self.opened_before = None;
+        self.files.clear();
         Some(())
     }
 
@@ -230,7 +108,7 @@ impl<'a, R: Files> DiskFolder<'a, R> {
     }
 }
 
-impl<R: Files> Folder for DiskFolder<'_, R> {
+impl<R: System> Folder for DiskFolder<'_, R> {
     ghost use Rattle.xa_outside.specs.Meter.{meter_law};
 
     ghost files = { λ _. None };
@@ -247,19 +125,14 @@ impl<R: Files> Folder for DiskFolder<'_, R> {
         if is_draft(name) {
             return Err(self.fail());
         }
-        match self.rt.metadata(name) {
-            Ok(found) if found.is_file() => Ok(Some(found.len())),
-            Err(error) if error.kind() == ErrorKind::NotFound => Ok(None),
-            _ => Err(self.fail()),
+        match self.files.length(name) {
+            Some(length) => Ok(length),
+            None => Err(self.fail()),
         }
     }
 
     fn read_at(&mut self, name: &str, at: u64, buf: &mut [u8]) -> Result<usize, Failed> {
-        let count = match self.copy_ahead(name, at, buf) {
-            0 => self.read_named(name, at, buf),
-            held => Some(held),
-        };
-        match count {
+        match self.read(name, at, buf) {
             Some(count) => {
                 self.meter.pull(count);
                 Ok(count)
@@ -269,9 +142,8 @@ impl<R: Files> Folder for DiskFolder<'_, R> {
     }
 
     fn begin(&mut self) -> Result<(), Failed> {
-        match make_draft(self.rt) {
-            Some(file) => {
-                self.start(file);
+        match self.start() {
+            Some(()) => {
                 self.meter.begin();
                 Ok(())
             }
@@ -280,7 +152,11 @@ impl<R: Files> Folder for DiskFolder<'_, R> {
     }
 
     fn append(&mut self, piece: &[u8]) -> Result<(), Failed> {
-        match self.gather(piece) {
+        let added = match &mut self.draft {
+            Some(draft) => draft.append(piece),
+            None => None,
+        };
+        match added {
             Some(()) => {
                 self.meter.draft(piece.len());
                 Ok(())
@@ -290,7 +166,7 @@ impl<R: Files> Folder for DiskFolder<'_, R> {
     }
 
     fn commit(&mut self, name: &str) -> Result<(), Failed> {
-        match self.rename_draft(name) {
+        match self.finish(name) {
             Some(()) => Ok(()),
             None => Err(self.fail()),
         }

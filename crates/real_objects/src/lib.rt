@@ -2,9 +2,16 @@
 //! is trusted: the folder tells no files, and only what it counts is proved.
 #![tactic(auto)]
 
+mod access;
+mod calls;
 mod disk;
+mod draft;
 mod opened;
+mod pages;
 mod streams;
+mod system;
+mod target;
 
 pub use disk::DiskFolder;
 pub use streams::{ReaderSource, WriterSink};
+pub use system::{Kind, Mark, Moment, Seen, System};

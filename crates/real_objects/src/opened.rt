@@ -1,175 +1,226 @@
-ghost use Rattle.std.specs.Prelude.{◌≡◌, ◌≤◌, ◌<◌, IfSome, length};
+ghost use Rattle.std.specs.Prelude.{◌≡◌, ◌≢◌, ◌≤◌, ◌↔◌, IfSome, IsSomeAnd, IsTrue, Some, length, string_bytes};
+ghost use Rattle.real_objects.specs.Mark.{IsSame};
 
+use crate::calls::{self, is_absent};
+use crate::pages::Pages;
+use crate::system::{Kind, Mark, System};
 use std::alloc::Global;
-use std::fs;
-use std::fs::OpenFile;
-use std::io::{ErrorKind, Read, Seek, SeekFrom};
-use std::rt::Files;
+use std::mem;
 
-/// How much is read ahead at a time.
-const PAGE: usize = 32768;
+/// How many seconds a file has to rest before its times tell each change: a file system counts time in ticks, of two seconds where
+/// they are longest, and a second change in one tick shows in no time.
+const TICK: i64 = 2;
 
-/// How many pages are held: what goes between a few places of a file reads none of them again and again.
-const PAGES: usize = 16;
-
-/// A piece of a file: its offset, and so many bytes in front of the room.
+/// A file that stays open between reads, with pages of its bytes.
 #[derive(Drop)]
-struct Page {
-    start: u64,
-    size: usize,
-    room: Vec<u8>,
-}
-
-/// How many hints are kept.
-const HINTS: usize = 64;
-
-/// A file that stays open between reads, with some pages of its bytes, of which one is the next to go. A hint is the index of the
-/// page that had what was read last of a piece of the file: pieces are as long as pages, and a hint serves each 64th.
-#[derive(Drop)]
-pub struct Opened<F: Drop> {
+struct Opened<F: Drop> {
     name: String,
     file: F,
-    alloc: Global,
-    pages: Vec<Page>,
-    hints: [usize; HINTS],
-    next: usize,
+    // As it was when it was opened.
+    mark: Mark,
+    // Whether each change since then shows in the mark.
+    is_settled: bool,
+    pages: Pages,
 }
 
 /// What a name leads to.
 #[derive(Drop)]
-pub enum Found<F: Drop> {
+enum Found<F: Drop> {
     File(Opened<F>),
     Nothing,
 }
 
-/// Opens a regular file. None where that fails, or where the name is that of anything else.
-pub fn open<R: Files>(rt: &R, alloc: Global, name: &str) -> Option<Found<R::File>> {
-    // (a pipe would have to be waited for)
-    if let Ok(found) = rt.metadata(name) {
-        if !found.is_file() {
-            return None;
+impl<F: Drop> Opened<F> {
+    /// Whether it has this name.
+    #[inline]
+    fn is_named(&self, name: &str) -> bool
+        ensures { IsTrue result ↔ (string_bytes self.now.name ≡ name.now) }
+    {
+        self.name.as_str() == name
+    }
+
+    /// Whether it is still the file of this mark, with the bytes that its pages hold.
+    fn is_as_marked(&self, mark: &Mark) -> bool
+        ensures rested { IsTrue result → IsTrue self.now.is_settled }
+        ensures same { IsTrue result → IsSame self.now.mark mark.now }
+    {
+        self.is_settled && self.mark.is_same(mark)
+    }
+
+    /// Whether it may stay open where the file of this name has this mark.
+    fn may_stay(&self, name: &str, mark: Option<Mark>) -> bool
+        ensures fresh { IsTrue result → string_bytes self.now.name ≡ name.now
+            → IsTrue self.now.is_settled × IsSomeAnd mark (λ m. IsSame self.now.mark m) }
+        ensures other { string_bytes self.now.name ≢ name.now → IsTrue result }
+    {
+        if !self.is_named(name) {
+            return true;
+        }
+        match mark {
+            Some(mark) => self.is_as_marked(&mark),
+            None => false,
         }
     }
-    let file = match fs::open(rt, name) {
-        Ok(file) => file,
-        Err(error) if error.kind() == ErrorKind::NotFound => return Some(Found::Nothing),
-        Err(_) => return None,
-    };
-    if !file.metadata().ok()?.is_file() {
+}
+
+/// The open file, unless it has this name and another mark: then it is let go.
+fn kept<F: Drop>(opened: Option<Opened<F>>, name: &str, mark: Option<Mark>) -> Option<Opened<F>>
+    ensures fresh { IfSome result (λ o. string_bytes o.name ≡ name.now
+        → IsTrue o.is_settled × IsSomeAnd mark (λ m. IsSame o.mark m)) }
+    ensures other { IfSome opened (λ o. string_bytes o.name ≢ name.now → result ≡ opened) }
+{
+    let file = opened?;
+    if file.may_stay(name, mark) {
+        Some(file)
+    } else {
+        None
+    }
+}
+
+/// The mark of a file as it is now. Some of None where there is nothing, None on a failure or where the name is that of
+/// anything else.
+fn marked<R: System>(rt: &R, name: &str) -> Option<Option<Mark>> {
+    match calls::seen(rt, name) {
+        Ok(seen) if seen.kind == Kind::File => Some(Some(seen.mark)),
+        Err(error) if is_absent(&error) => Some(None),
+        _ => None,
+    }
+}
+
+/// Opens a file. None where that fails, or where the name is that of anything else.
+#[inline(never)]
+fn open<R: System>(rt: &R, alloc: Global, name: &str) -> Option<Found<R::File>> {
+    // (it is looked at before: a pipe would have to be waited for)
+    if marked(rt, name)?.is_none() {
+        return Some(Found::Nothing);
+    }
+    match calls::open(rt, name) {
+        Ok(file) => keep(rt, alloc, name, file),
+        Err(error) if is_absent(&error) => Some(Found::Nothing),
+        Err(_) => None,
+    }
+}
+
+/// The open file, to be read under this name.
+fn keep<R: System>(rt: &R, alloc: Global, name: &str, file: R::File) -> Option<Found<R::File>> {
+    let name = String::from_str(alloc, name).ok()?;
+    let file = rt.raised(file).ok()?;
+    // (the clock is asked before the file is looked at: what changes after that look changes later than the clock said)
+    let now = rt.now().ok()?;
+    let seen = calls::seen_open(rt, &file).ok()?;
+    if seen.kind != Kind::File {
         return None;
     }
     Some(Found::File(Opened {
-        name: String::from_str(alloc, name).ok()?,
+        name,
         file,
-        alloc,
-        pages: Vec::new(alloc),
-        hints: [0; HINTS],
-        next: 0,
+        mark: seen.mark,
+        is_settled: seen.mark.changed.seconds.saturating_add(TICK) < now,
+        pages: Pages::new(alloc),
     }))
 }
 
-impl Page {
-    /// Puts what the page holds from the offset on at the front of the buffer.
-    fn copy(&self, at: u64, buf: &mut [u8]) -> usize
-        ensures { result ≤ length buf.new }
-    {
-        let held = &self.room[..self.size.min(self.room.len())];
-        if at < self.start || at - self.start >= held.len() as u64 {
-            return 0;
-        }
-        let held = &held[(at - self.start) as usize..];
-        let count = held.len().min(buf.len());
-        buf[..count].copy_from_slice(&held[..count]);
-        count
+/// The two files that were read last, so that two are read side by side.
+#[derive(Drop)]
+pub struct OpenFiles<'a, R: System> {
+    rt: &'a R,
+    alloc: Global,
+    // From `first` was read last, when pages had to be.
+    first: Option<Opened<R::File>>,
+    second: Option<Opened<R::File>>,
+}
+
+/// Whether the file is open under this name.
+fn has_name<F: Drop>(opened: &Option<Opened<F>>, name: &str) -> bool {
+    match opened {
+        Some(opened) => opened.is_named(name),
+        None => false,
     }
 }
 
-impl<F: Read + Seek + Drop> Opened<F> {
-    /// Whether it has this name. Names are short and are compared before each read, so this goes byte by byte.
-    pub fn is_named(&self, name: &str) -> bool {
-        let own = self.name.as_bytes();
-        let other = name.as_bytes();
-        if own.len() != other.len() {
-            return false;
+impl<'a, R: System> OpenFiles<'a, R> {
+    pub fn new(rt: &'a R, alloc: Global) -> OpenFiles<'a, R> {
+        OpenFiles {
+            rt,
+            alloc,
+            first: None,
+            second: None,
         }
-        for at in 0..own.len() {
-            if own[at] != other[at] {
-                return false;
-            }
-        }
-        true
     }
 
-    /// Puts bytes from the offset at the front of the buffer; 0 only at the end of the file, or with an empty buffer.
-    pub fn read(&mut self, at: u64, buf: &mut [u8]) -> Option<usize>
+    /// Lets all files go.
+    pub fn clear(&mut self) {
+        self.first = None;
+        self.second = None;
+    }
+
+    /// The length of the named file as it is now. Some of None where there is no such file, None on a failure. An open file of that
+    /// name goes, with its pages, if it is another file now, or may have been written.
+    pub fn length(&mut self, name: &str) -> Option<Option<u64>>
+        ensures first { IfSome result (λ r. IfSome self.new.first
+            (λ o. string_bytes o.name ≡ name.now → r ≡ Some o.mark.length)) }
+        ensures second { IfSome result (λ r. IfSome self.new.second
+            (λ o. string_bytes o.name ≡ name.now → r ≡ Some o.mark.length)) }
+    {
+        match marked(self.rt, name) {
+            Some(Some(mark)) => {
+                self.keep_only(name, Some(mark));
+                Some(Some(mark.length))
+            }
+            Some(None) => {
+                self.keep_only(name, None);
+                Some(None)
+            }
+            None => {
+                self.keep_only(name, None);
+                None
+            }
+        }
+    }
+
+    /// Lets an open file of this name go, unless it has this mark.
+    fn keep_only(&mut self, name: &str, mark: Option<Mark>)
+        ensures first { IfSome self.new.first (λ o. string_bytes o.name ≡ name.now
+            → IsTrue o.is_settled × IsSomeAnd mark (λ m. IsSame o.mark m)) }
+        ensures second { IfSome self.new.second (λ o. string_bytes o.name ≡ name.now
+            → IsTrue o.is_settled × IsSomeAnd mark (λ m. IsSame o.mark m)) }
+    {
+        self.first = kept(self.first.take(), name, mark);
+        self.second = kept(self.second.take(), name, mark);
+    }
+
+    /// Puts what is held of the named file from the offset on at the front of the buffer.
+    #[inline(never)]
+    pub fn copy(&mut self, name: &str, at: u64, buf: &mut [u8]) -> usize
+        ensures { result ≤ length buf.new }
+    {
+        if let Some(opened) = &mut self.first {
+            if opened.is_named(name) {
+                return opened.pages.copy(at, buf);
+            }
+        }
+        match &mut self.second {
+            Some(opened) if opened.is_named(name) => opened.pages.copy(at, buf),
+            _ => 0,
+        }
+    }
+
+    /// Reads from an offset of the named file at which nothing is held. A file that is not open is opened, in place of the one
+    /// that was read before the last. None on a failure.
+    #[cold]
+    #[inline(never)]
+    pub fn read(&mut self, name: &str, at: u64, buf: &mut [u8]) -> Option<usize>
         ensures { IfSome result (λ n. n ≤ length buf.new) }
     {
-        let held = self.copy_held(at, buf);
-        if held > 0 || buf.is_empty() {
-            return Some(held);
-        }
-        if buf.len() < PAGE {
-            self.refill(at - at % PAGE as u64)?;
-            let held = self.copy_held(at, buf);
-            if held > 0 {
-                return Some(held);
+        if has_name(&self.second, name) {
+            mem::swap(&mut self.first, &mut self.second);
+        } else if !has_name(&self.first, name) {
+            match open(self.rt, self.alloc, name)? {
+                Found::Nothing => return Some(0),
+                Found::File(opened) => self.second = mem::replace(&mut self.first, Some(opened)),
             }
         }
-        self.file.seek(SeekFrom::Start(at)).ok()?;
-        self.file.read(buf).ok()
-    }
-
-    /// Reads a page from the offset on, into new room or in place of the page that was read longest ago.
-    fn refill(&mut self, start: u64) -> Option<()> {
-        if self.pages.len() < PAGES {
-            self.next = self.pages.len();
-            self.add_page()?;
-        }
-        let page = self.pages.get_mut(self.next)?;
-        self.next = (self.next + 1) % PAGES;
-        page.start = start;
-        page.size = 0;
-        self.file.seek(SeekFrom::Start(start)).ok()?;
-        page.size = self.file.read(&mut page.room).ok()?;
-        Some(())
-    }
-
-    fn add_page(&mut self) -> Option<()> {
-        let mut room = Vec::new(self.alloc);
-        room.resize(PAGE, 0).ok()?;
-        let page = Page {
-            start: 0,
-            size: 0,
-            room,
-        };
-        self.pages.push(page).ok()
-    }
-
-    /// Puts what a page holds from the offset on at the front of the buffer. The page that the hint says is looked at first.
-    pub fn copy_held(&mut self, at: u64, buf: &mut [u8]) -> usize
-        ensures { result ≤ length buf.new }
-    {
-        let piece = (at / PAGE as u64) as usize % HINTS;
-        if let Some(page) = self.pages.get(self.hints[piece]) {
-            let count = page.copy(at, buf);
-            if count > 0 {
-                return count;
-            }
-        }
-        self.copy_from_any(at, piece, buf)
-    }
-
-    fn copy_from_any(&mut self, at: u64, piece: usize, buf: &mut [u8]) -> usize
-        requires { piece < 64 }
-        ensures { result ≤ length buf.new }
-    {
-        for index in 0..self.pages.len() {
-            let count = self.pages[index].copy(at, buf);
-            if count > 0 {
-                self.hints[piece] = index;
-                return count;
-            }
-        }
-        0
+        let opened = self.first.as_mut()?;
+        opened.pages.read(self.rt, &opened.file, at, buf)
     }
 }

@@ -103,7 +103,8 @@ fn the_older_of_two_open_files_is_read_anew_after_a_commit(rt: HostRuntime) {
 
 #[test]
 fn two_files_stand_open_side_by_side(rt: HostRuntime) {
-    let names = ["xarch-test-of-one-of-two", "xarch-test-of-the-other"];
+    // (the names are of one length, and differ in their first letter)
+    let names = ["one-xarch-test-of-two", "two-xarch-test-of-two"];
     let mut folder = DiskFolder::new(&rt, rt.alloc());
     let is_open = are_stored(&mut folder, &names) && are_held(&mut folder, rt.alloc(), &names, 0);
 
@@ -201,25 +202,89 @@ fn a_draft_does_not_go_through_a_link(rt: HostRuntime) {
 }
 
 #[test]
-fn a_file_that_may_not_be_looked_at_is_not_absent(rt: HostRuntime) -> Result<(), Fail> {
-    let closed = "xarch-test-of-a-closed-folder";
-    let inside = "xarch-test-of-a-closed-folder/file";
-    fs::create_dir(&rt, closed)?;
-    rt.set_permissions(closed, Permissions::from_mode(0))?;
-    // (root may look into any folder, and then finds nothing)
-    let is_root = fs::read_dir(&rt, closed).is_ok();
+fn a_link_that_leads_to_itself_is_not_absent(rt: HostRuntime) -> Result<(), Fail> {
+    let link = "xarch-test-of-a-loop";
+    symlink(&rt, link, link)?;
     let mut folder = DiskFolder::new(&rt, rt.alloc());
-    let length = folder.length(inside);
-    assert!(rt; length.is_err() || is_root);
-    fs::remove_dir(&rt, closed)?;
+    let is_refused = is_refused(&mut folder, link)
+        && folder.begin().is_ok()
+        && folder.commit(link).is_err();
+    folder.discard();
+    assert!(rt; is_refused && are_removed(&rt, &[link]));
     Ok(())
 }
 
 #[test]
-fn the_standard_input_ends(rt: HostRuntime) {
-    let mut input = ReaderSource::new(rt.reader());
-    let mut bytes = [0u8; 0];
-    assert!(rt; input.read(&mut bytes) == Ok(0));
+fn a_path_through_a_file_is_absent(rt: HostRuntime) {
+    let name = "xarch-test-of-a-path";
+    let mut folder = DiskFolder::new(&rt, rt.alloc());
+    let mut one = [0u8; 1];
+    let is_absent = is_stored(&mut folder, name, &[b"file"])
+        && folder.length("xarch-test-of-a-path/x") == Ok(None)
+        && folder.read_at("xarch-test-of-a-path/x", 0, &mut one) == Ok(0);
+    assert!(rt; is_absent && are_removed(&rt, &[name]));
+}
+
+#[test]
+fn a_file_that_was_rewritten_is_read_anew(rt: HostRuntime) -> Result<(), Fail> {
+    let name = "xarch-test-of-a-rewritten-file";
+    let mut folder = DiskFolder::new(&rt, rt.alloc());
+    for bytes in [b"old", b"new", b"odd"] {
+        fs::write(&rt, name, bytes.as_slice())?;
+        assert!(rt; folder.length(name) == Ok(Some(3)));
+        assert!(rt; holds(&mut folder, rt.alloc(), name, 0, bytes));
+    }
+    assert!(rt; are_removed(&rt, &[name]));
+    Ok(())
+}
+
+#[test]
+fn an_archive_that_is_a_link_stays_one_and_keeps_its_mode(rt: HostRuntime) -> Result<(), Fail> {
+    let name = "xarch-test-of-a-mode";
+    let link = "xarch-test-of-a-link";
+    fs::write(&rt, name, b"old".as_slice())?;
+    rt.set_permissions(name, Permissions::from_mode(0o640))?;
+    symlink(&rt, name, link)?;
+    let mut folder = DiskFolder::new(&rt, rt.alloc());
+    assert!(rt; is_stored(&mut folder, link, &[b"new"]));
+    assert!(rt; holds(&mut folder, rt.alloc(), name, 0, b"new"));
+    assert!(rt; fs::symlink_metadata(&rt, link)?.is_symlink());
+    assert!(rt; fs::metadata(&rt, name)?.permissions().mode() % 0o1000 == 0o640);
+    assert!(rt; are_removed(&rt, &[link, name]));
+    Ok(())
+}
+
+#[test]
+fn a_draft_is_its_owners_alone(rt: HostRuntime) -> Result<(), Fail> {
+    let mut folder = DiskFolder::new(&rt, rt.alloc());
+    assert!(rt; is_abandoned(&mut folder, b"draft"));
+    assert!(rt; fs::metadata(&rt, ".xarch-draft")?.permissions().mode() % 0o1000 == 0o600);
+    folder.discard();
+    assert!(rt; fs::metadata(&rt, ".xarch-draft").is_err());
+    Ok(())
+}
+
+#[test]
+fn the_draft_of_another_command_is_not_committed(rt: HostRuntime) {
+    let name = "xarch-test-of-two-commands";
+    let mut first = DiskFolder::new(&rt, rt.alloc());
+    let mut second = DiskFolder::new(&rt, rt.alloc());
+    let is_apart = is_abandoned(&mut first, b"first")
+        && is_abandoned(&mut second, b"other")
+        && first.commit(name).is_err()
+        && first.length(name) == Ok(None)
+        && second.commit(name).is_ok()
+        && holds(&mut second, rt.alloc(), name, 0, b"other");
+    first.discard();
+    assert!(rt; is_apart && are_removed(&rt, &[name]));
+}
+
+#[test]
+fn an_input_ends(rt: HostRuntime) {
+    let mut input = ReaderSource::new(b"a".as_slice());
+    let mut one = [0u8; 1];
+    assert!(rt; input.read(&mut one) == Ok(1) && one == *b"a");
+    assert!(rt; input.read(&mut one) == Ok(0) && input.read(&mut one) == Ok(0));
 }
 
 #[test]

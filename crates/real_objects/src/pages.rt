@@ -1,0 +1,240 @@
+ghost use Rattle.std.specs.Prelude.{◌≡◌, ◌-◌, ◌/◌, ◌%◌, ◌≤◌, ◌<◌, IfSome, None, drop, length, take};
+
+use crate::calls;
+use crate::system::System;
+use std::alloc::Global;
+
+/// How much is read where a file is read here and there.
+const SMALL: usize = 4096;
+
+/// How many small pages are held. What a search of a long file reads first stays held from search to search.
+const SMALL_PAGES: usize = 256;
+
+/// How much is read where a file is read on.
+const LARGE: usize = 65536;
+
+/// How many large pages are held: so many places of a file are read on side by side.
+const LARGE_PAGES: usize = 16;
+
+/// How many hints are kept.
+const HINTS: usize = 64;
+
+/// Copies as much as there is, and as there is room for.
+#[inline]
+fn copy_front(from: &[u8], buf: &mut [u8]) -> usize
+    ensures bound { result ≤ length buf.new }
+    ensures front { take result buf.new ≡ take result from.now }
+{
+    let count = buf.len().min(from.len());
+    buf[..count].copy_from_slice(&from[..count]);
+    count
+}
+
+/// A piece of a file: its offset, and so many bytes in front of the room.
+#[derive(Drop)]
+struct Page {
+    start: u64,
+    size: usize,
+    room: Vec<u8>,
+    ghost fits: { size ≤ length room.items },
+}
+
+impl Page {
+    fn new(alloc: Global) -> Page
+        ensures { result.size ≡ 0 }
+    {
+        Page {
+            start: 0,
+            size: 0,
+            room: Vec::new(alloc),
+        }
+    }
+
+    /// Puts what the page holds from the offset on at the front of the buffer.
+    #[inline]
+    fn copy(&self, at: u64, buf: &mut [u8]) -> usize
+        ensures bound { result ≤ length buf.new }
+        ensures inside { 0 < result → self.now.start ≤ at }
+        ensures bytes { take result buf.new
+            ≡ take result (drop (at - self.now.start) (take self.now.size self.now.room.items)) }
+    {
+        let held = &self.room[..self.size];
+        if at < self.start || at - self.start >= held.len() as u64 {
+            return 0;
+        }
+        copy_front(&held[(at - self.start) as usize..], buf)
+    }
+
+    /// Whether the page is full, by this size, and ends at the offset.
+    fn is_full_to(&self, at: u64, size: usize) -> bool {
+        self.size == size && at >= size as u64 && self.start == at - size as u64
+    }
+
+    /// Fills the page from the offset on, as far as one read goes. None on a failure: the page is empty then.
+    fn fill<R: System>(&mut self, rt: &R, file: &R::File, at: u64, size: usize) -> Option<()>
+        ensures failed { result ≡ None → self.new.size ≡ 0 }
+    {
+        self.size = 0;
+        self.start = at;
+        self.room.resize(size, 0).ok()?;
+        self.size = calls::read_at(rt, file, at, &mut self.room).ok()?;
+        Some(())
+    }
+}
+
+/// What was read of one file. A small page begins at a multiple of its size and has one place; a large one begins where a read
+/// went on. A hint is the index of the large page that had what was read last of a piece of the file: pieces are as long as large
+/// pages, and a hint serves each 64th. Room is taken when a page is first used: at most 2 MiB.
+#[derive(Drop)]
+pub struct Pages {
+    alloc: Global,
+    small: Vec<Page>,
+    large: Vec<Page>,
+    hints: [usize; HINTS],
+    // Which large page is the next to go.
+    turn: usize,
+}
+
+/// The place of the small page that has what stands at the offset.
+#[inline]
+fn place_of(at: u64) -> usize
+    ensures { result ≡ (at / 4096) % 256 }
+{
+    (at / SMALL as u64 % SMALL_PAGES as u64) as usize
+}
+
+impl Pages {
+    pub fn new(alloc: Global) -> Pages {
+        Pages {
+            alloc,
+            small: Vec::new(alloc),
+            large: Vec::new(alloc),
+            hints: [0; HINTS],
+            turn: 0,
+        }
+    }
+
+    /// Puts what is held from the offset on at the front of the buffer.
+    #[inline]
+    pub fn copy(&mut self, at: u64, buf: &mut [u8]) -> usize
+        ensures { result ≤ length buf.new }
+    {
+        let piece = (at / LARGE as u64 % HINTS as u64) as usize;
+        if let Some(page) = self.large.get(self.hints[piece]) {
+            let count = page.copy(at, buf);
+            if count > 0 {
+                return count;
+            }
+        }
+        if let Some(page) = self.small.get(place_of(at)) {
+            let count = page.copy(at, buf);
+            if count > 0 {
+                return count;
+            }
+        }
+        self.copy_from_large(at, piece, buf)
+    }
+
+    fn copy_from_large(&mut self, at: u64, piece: usize, buf: &mut [u8]) -> usize
+        requires { piece < 64 }
+        ensures { result ≤ length buf.new }
+    {
+        for index in 0..self.large.len() {
+            let count = self.large[index].copy(at, buf);
+            if count > 0 {
+                self.hints[piece] = index;
+                return count;
+            }
+        }
+        0
+    }
+
+    /// Reads from an offset at which nothing is held: 0 only at the end of the file, or with an empty buffer. None on a failure.
+    pub fn read<R: System>(
+        &mut self,
+        rt: &R,
+        file: &R::File,
+        at: u64,
+        buf: &mut [u8],
+    ) -> Option<usize>
+        ensures { IfSome result (λ n. n ≤ length buf.new) }
+    {
+        if buf.is_empty() {
+            return Some(0);
+        }
+        if buf.len() < LARGE {
+            self.fill(rt, file, at)?;
+            let held = self.copy(at, buf);
+            if held > 0 {
+                return Some(held);
+            }
+        }
+        calls::read_at(rt, file, at, buf).ok()
+    }
+
+    /// Fills a large page from the offset on where the file is read on there, else the small page of the offset. None on a
+    /// failure.
+    fn fill<R: System>(&mut self, rt: &R, file: &R::File, at: u64) -> Option<()> {
+        if let Some(index) = self.ending_at(at) {
+            return self.large.get_mut(index)?.fill(rt, file, at, LARGE);
+        }
+        if self.is_read_on(at) {
+            let index = self.next_large()?;
+            return self.large.get_mut(index)?.fill(rt, file, at, LARGE);
+        }
+        self.add_small_pages()?;
+        let start = at - at % SMALL as u64;
+        self.small
+            .get_mut(place_of(at))?
+            .fill(rt, file, start, SMALL)
+    }
+
+    /// The full large page that ends at the offset: it is filled anew by the run that it is part of.
+    fn ending_at(&self, at: u64) -> Option<usize> {
+        for index in 0..self.large.len() {
+            if self.large[index].is_full_to(at, LARGE) {
+                return Some(index);
+            }
+        }
+        None
+    }
+
+    /// Whether the two small pages in front of the offset are held and full. One of them says less: a piece that is read here or
+    /// there may lie on two pages.
+    fn is_read_on(&self, at: u64) -> bool {
+        self.is_small_to(at) && self.is_small_to(at.saturating_sub(SMALL as u64))
+    }
+
+    fn is_small_to(&self, at: u64) -> bool {
+        match self.small.get(place_of(at.saturating_sub(1))) {
+            Some(page) => page.is_full_to(at, SMALL),
+            None => false,
+        }
+    }
+
+    /// The large page that is the next to be filled from a new offset: a new one, or the next in turn.
+    fn next_large(&mut self) -> Option<usize> {
+        let index = self.turn;
+        if self.large.len() < LARGE_PAGES {
+            self.large.push(Page::new(self.alloc)).ok()?;
+        }
+        self.turn = if index < LARGE_PAGES - 1 {
+            index + 1
+        } else {
+            0
+        };
+        Some(index)
+    }
+
+    /// Makes the small pages, without room, unless they are there.
+    fn add_small_pages(&mut self) -> Option<()> {
+        if !self.small.is_empty() {
+            return Some(());
+        }
+        self.small.reserve(SMALL_PAGES).ok()?;
+        for _ in 0..SMALL_PAGES {
+            self.small.push(Page::new(self.alloc)).ok()?;
+        }
+        Some(())
+    }
+}
