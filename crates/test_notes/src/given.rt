@@ -61,9 +61,12 @@ fn are_given(folder: &mut MemFolder, reader: &mut NoteReader, wanted: &[&str]) -
 
 /// Whether the notes of a file, of which a read fails, are given so, call by call.
 fn are_read(alloc: Global, notes: &[u8], versions: u32, failing: u64, wanted: &[&str]) -> bool {
+    let Ok(size) = u32::try_from(notes.len()) else {
+        return false;
+    };
     match (
         folder(alloc, &[TINY, notes], FolderCall::ReadAt, failing),
-        reader(alloc, notes.len() as u32, versions),
+        reader(alloc, size, versions),
     ) {
         (Ok(mut folder), Ok(mut reader)) => are_given(&mut folder, &mut reader, wanted),
         _ => false,
@@ -107,7 +110,7 @@ fn letters(alloc: Global, count: u32) -> Result<Vec<u8>, AllocError> {
 fn pulled(alloc: Global, count: u32) -> Option<(u64, usize)> {
     let note = letters(alloc, count).ok()?;
     let mut folder = folder(alloc, &[TINY, &note], FolderCall::ReadAt, 0).ok()?;
-    let mut reader = reader(alloc, note.len() as u32, 1).ok()?;
+    let mut reader = reader(alloc, count.saturating_add(4), 1).ok()?;
     let length = told(&reader.next(&mut folder)).len();
     Some((folder.pulled(), length))
 }

@@ -93,7 +93,10 @@ fn are_read_back(alloc: Global, folder: &mut MemFolder, length: usize, notes: &[
     let Ok(parts) = parts_of(folder, "a.xar", length as u64) else {
         return false;
     };
-    match NoteReader::start(alloc, "a.xar", &parts, notes.len() as u32) {
+    let Ok(count) = u32::try_from(notes.len()) else {
+        return false;
+    };
+    match NoteReader::start(alloc, "a.xar", &parts, count) {
         Ok(mut reader) => are_given(folder, &mut reader, notes),
         Err(_) => false,
     }
