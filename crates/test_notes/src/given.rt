@@ -66,9 +66,6 @@ fn size(bytes: &[u8]) -> u32 {
 
 /// Whether the notes of a file, of which a read fails, are given so, call by call.
 fn are_read(alloc: Global, notes: &[u8], versions: u32, failing: u64, wanted: &[&str]) -> bool {
-    let Ok(size) = u32::try_from(notes.len()) else {
-        return false;
-    };
     match (
         folder(alloc, &[TINY, notes], FolderCall::ReadAt, failing),
         reader(alloc, size(notes), versions),
