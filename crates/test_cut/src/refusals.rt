@@ -23,8 +23,8 @@ fn is_answered(
 
 // Whether a file without so many of its last bytes is damaged.
 fn is_damaged(alloc: Global, whole: &[u8], less: usize) -> bool {
-    match whole.len().checked_sub(less) {
-        Some(kept) => is_answered(alloc, &whole[..kept], NEVER, Err(CutFault::Damage)),
+    match whole.get(..whole.len().saturating_sub(less)) {
+        Some(front) => is_answered(alloc, front, NEVER, Err(CutFault::Damage)),
         None => false,
     }
 }

@@ -24,12 +24,11 @@ fn is_answered(
         && folder.file(OTHER) == Some(two)
 }
 
-// Whether the side is named that lacks so many of its last bytes, and the first where both do.
+// Whether the side is named that lacks so many of its last bytes.
 fn is_named(alloc: Global, whole: &[u8], less: usize) -> bool {
-    let Some(cut) = whole.len().checked_sub(less) else {
+    let Some(cut) = whole.get(..whole.len().saturating_sub(less)) else {
         return false;
     };
-    let cut = &whole[..cut];
     is_answered(
         alloc,
         cut,

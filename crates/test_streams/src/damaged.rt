@@ -61,8 +61,8 @@ fn is_changed_refused(alloc: Global, at: usize, byte: u8) -> bool {
 
 // Whether the bytes without so many at their end are refused.
 fn is_cut_refused(alloc: Global, less: usize) -> bool {
-    match NESTED.len().checked_sub(less) {
-        Some(kept) => is_refused(alloc, &NESTED[..kept]),
+    match NESTED.get(..NESTED.len().saturating_sub(less)) {
+        Some(front) => is_refused(alloc, front),
         None => false,
     }
 }
