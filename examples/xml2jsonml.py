@@ -4,7 +4,11 @@ from xml.etree import ElementTree
 
 def jsonml(element):
     local = lambda name: name.rpartition("}")[2]
-    attributes = {local(name): value for name, value in element.items()}
+    attributes = {}
+    for name, value in element.items():
+        if local(name) in attributes:
+            sys.exit(f"xml2jsonml.py: without its namespace, an attribute of {local(element.tag)} is {local(name)} too")
+        attributes[local(name)] = value
     items = [local(element.tag), attributes] if attributes else [local(element.tag)]
     items += [element.text] if element.text else []
     for child in element:
