@@ -1,15 +1,13 @@
 -- What a call of the program does, from the words that it is given or from the fault with which there are none.
-use Rattle.std.specs.Prelude.{◌≡◌, ◌≢◌, ◌×◌, ◌↔◌, ◌⊎◌, ℕ, ◌<◌, List, Option, Some, None}
+use Rattle.std.specs.Prelude.{◌≡◌, ◌≢◌, ◌≤◌, ◌↔◌, ◌⊎◌, ℕ, List, Option, Some, None}
 use Rattle.xa_outside.specs.Causes.{Rose}
 use Rattle.xa_outside.specs.Folder.{Files}
 use Rattle.xa_outside.specs.Taken.{Taken, TakesNone}
-use Rattle.xarch_words.specs.Commands.{batch, command_of, demo}
-use Rattle.xarch_words.specs.Lines.{fault_line, fault_status}
-use Rattle.xarch_words.specs.Refusal as refusal
-use Rattle.xarch_words.specs.Refusal.{PlainFault, refused, limit, usage, memory}
+use Rattle.xarch_words.specs.Commands.{batch, command_of}
+use Rattle.xarch_words.specs.Refusal.{PlainFault, refused, usage, memory}
 use Rattle.xarch_parts.specs.Ends.{Gained}
 use Rattle.xarch_meanings.specs.Plausible.{Tried}
-use Rattle.xarch_meanings.specs.Ran.{MayHaveWritten, Said, Says, outside_of}
+use Rattle.xarch_meanings.specs.Ran.{MayHaveWritten, Said, outside_of}
 use Rattle.xarch_run.specs.Batch.{BatchEnds, IsAnswer, Scene}
 use Rattle.xarch_run.specs.Calls.{DidCommands, call_of}
 
@@ -49,3 +47,7 @@ pub record Runs (words : List (List ℕ)) (w : Scene) (n : Counts) (answer : ℕ
 -- why there may be no words: one of them is no text, or no memory was found for them
 abbrev pub IsOfWords : PlainFault → Type 0
 IsOfWords fault = (fault ≡ refused usage) ⊎ (fault ≡ memory)
+
+-- with what the program ends: 0, and from 2 to 20
+abbrev pub IsStatus : ℕ → Type 0
+IsStatus answer = (answer ≢ 1) × (answer ≤ 20)

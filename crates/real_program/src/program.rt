@@ -5,7 +5,7 @@ ghost use Rattle.xarch_words.specs.Refusal.{memory, refused, usage};
 ghost use Rattle.xarch_words.specs.View.{fault_view, words_view};
 ghost use Rattle.xarch_meanings.specs.Ran.{Says};
 ghost use Rattle.xarch_run.specs.Batch.{shown};
-ghost use Rattle.real_program.specs.Serves.{IsOfWords, Runs, counted};
+ghost use Rattle.real_program.specs.Serves.{IsOfWords, IsStatus, Runs, counted};
 
 use real_objects::{DiskFolder, ReaderSource, System, WriterSink};
 use std::alloc::Global;
@@ -78,6 +78,7 @@ pub fn run_words<F: Folder, S: Source, O: Sink, E: Sink>(
     ensures folder_stays { IfErr words.now (λ _. folder.new ≡ folder.old) }
     ensures input_stays { IfErr words.now (λ _. input.new ≡ input.old) }
     ensures out_stays { IfErr words.now (λ _. out.new ≡ out.old) }
+    ensures status { IsStatus result }
 {
     match words {
         Ok(words) => run(alloc, words, folder, input, out, err),
@@ -93,7 +94,9 @@ pub fn serve<R: System, V: Env + AllocGlobal, I: Read + Drop, O: Write + Drop, E
     input: I,
     out: O,
     err: E,
-) -> u8 {
+) -> u8
+    ensures { IsStatus result }
+{
     let alloc = given.alloc();
     let words = words_of(given);
     let mut folder = DiskFolder::new(system, alloc);

@@ -1,0 +1,10 @@
+use Rattle.std.proofs.Common.{subst, sym}
+use Rattle.real_program.specs.Serves.{IsStatus}
+use Rattle.real_program.proofs.StatusLemmas.{answer-is, fault-is}
+use Rattle.real_program.proofs.program.run_words.Goals as goal
+
+pub returns-in-Ok-clause-status : goal.returns-in-Ok-clause-status
+returns-in-Ok-clause-status g c = answer-is _ _ _ _ _ _ _ _ _ _ _ _ c.run.ensures.said c.run.ensures.batch_answer
+
+pub returns-in-Err-clause-status : goal.returns-in-Err-clause-status
+returns-in-Err-clause-status g c = subst IsStatus (sym c.say.ensures.status) (fault-is _)
