@@ -200,7 +200,7 @@ fn is_absent(folder: &mut DiskFolder<OnDisk>, name: &str) -> bool {
     folder.length(name) == Ok(None) && folder.read_at(name, 0, &mut [0u8; 1]) == Ok(0)
 }
 
-/// Whether the folder reads the file as it is after the change, by each of its names, and other files too.
+/// Whether the folder reads the file as it is after the change, by each of its two names. It keeps two files open.
 fn is_seen(
     alloc: Global,
     disk: &MemDisk,
@@ -212,11 +212,10 @@ fn is_seen(
         Ok(mut state) => state.plan(Some(Trouble { at: 0, what })),
         Err(_) => return false,
     }
-    let is_right = match change.then {
+    match change.then {
         Some(bytes) => is_read(folder, alloc, "A", bytes) && is_read(folder, alloc, "link", bytes),
         None => is_absent(folder, "A") && is_absent(folder, "link"),
-    };
-    is_right && is_read(folder, alloc, "B", OLD)
+    }
 }
 
 /// Whether one change and then the other are seen, by a folder that has the file open.
@@ -235,7 +234,8 @@ fn are_seen(alloc: Global, is_still: bool, changes: [&Change; 2]) -> io::Result<
         is_read(&mut folder, alloc, "A", BEFORE)
             && is_read(&mut folder, alloc, "link", BEFORE)
             && is_seen(alloc, &disk, &mut folder, changes[0])
-            && is_seen(alloc, &disk, &mut folder, changes[1]),
+            && is_seen(alloc, &disk, &mut folder, changes[1])
+            && is_read(&mut folder, alloc, "B", OLD),
     )
 }
 
