@@ -6,7 +6,7 @@ use std::alloc::Global;
 const ALL: u32 = 0o666;
 
 /// Gives a draft the access that its file is to have: the owner, the group and the mode of the file that it replaces, or, where it
-/// replaces none, the mode that a new file has in its folder. The draft's own name serves to find that out. None on a
+/// replaces none, the mode that a new file has in the draft's folder. The draft's own name serves to find that out. None on a
 /// failure. That an owner or a group may not be given is none.
 pub fn dress<R: System>(
     rt: &R,
@@ -27,7 +27,7 @@ pub fn dress<R: System>(
 }
 
 /// Gives the file the group and the owner of the old one, as far as that is allowed, and answers the mode that it may have
-/// then. Where the group is another, it may do what all others may: its members were among them.
+/// then.
 fn give_as<R: System>(rt: &R, file: &R::File, now: Seen, old: Seen) -> u32 {
     let has_group = now.group == old.group || calls::give(rt, file, now.owner, old.group).is_ok();
     let group = if has_group { old.group } else { now.group };
@@ -37,8 +37,15 @@ fn give_as<R: System>(rt: &R, file: &R::File, now: Seen, old: Seen) -> u32 {
     if has_group {
         old.mode
     } else {
-        old.mode & 0o707 | (old.mode & 0o007) << 3
+        without_group(old.mode)
     }
+}
+
+/// The mode where the group is another: the group and all others may do what both of them might. So nobody gains a right, be he in
+/// the old group, in the new one, in both or in none.
+fn without_group(mode: u32) -> u32 {
+    let both = mode >> 3 & mode & 0o007;
+    mode & 0o700 | both << 3 | both
 }
 
 /// The mode of a new file, as the umask or the folder has it: an empty one is made, looked at and removed. None on a failure.

@@ -4,9 +4,9 @@ ghost use Rattle.std.specs.Io.KnownBytes.{ReadConsumes, WriteAppends};
 use std::io::{Error, ErrorKind, Read, Result, Write};
 
 /// How often a call is made, at most, that a signal interrupts each time.
-const TRIES: u32 = 1000;
+pub(crate) const TRIES: u32 = 1000;
 
-fn is_interrupted(error: &Error) -> bool {
+pub(crate) fn is_interrupted(error: &Error) -> bool {
     error.kind() == ErrorKind::Interrupted
 }
 

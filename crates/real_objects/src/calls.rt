@@ -1,19 +1,17 @@
 //! The calls of the system, each of which is made again where it was interrupted.
 ghost use Rattle.std.specs.Io.{ReadsAtMost};
 
+use crate::again::{TRIES, is_interrupted};
 use crate::system::{Seen, System};
 use std::alloc::Global;
 use std::io;
 use std::io::ErrorKind;
 
-/// How often a call is made where each time it is interrupted.
-const TRIES: u32 = 1000;
-
 macro_rules! again {
     ($call:expr) => {{
         for _ in 0..TRIES {
             match $call {
-                Err(error) if error.kind() == ErrorKind::Interrupted => {}
+                Err(error) if is_interrupted(&error) => {}
                 answer => return answer,
             }
         }

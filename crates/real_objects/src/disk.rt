@@ -1,4 +1,4 @@
-ghost use Rattle.std.specs.Prelude.{◌≡◌, ◌≤◌, IfSome, IsTrue, None, length};
+ghost use Rattle.std.specs.Prelude.{◌≡◌, ◌≤◌, IfSome, None, length};
 ghost use Rattle.xa_outside.specs.Causes.{Rose};
 ghost use Rattle.xa_outside.specs.Meter.{numbers};
 ghost use Rattle.xa_outside.specs.Numbers.{numbers_none};
@@ -12,8 +12,8 @@ use xa_outside::{Failed, Folder, Meter};
 
 /// The files of the folder that the program runs in.
 ///
-/// It keeps the two files that it read last open, with pages of what it read, so that two are read side by side. A file is read as
-/// it was when its length was last asked for, or after that. What is appended is gathered, 64 KiB at most, and written to a draft
+/// It keeps the two files that were asked for last open, with pages of what it read, so that two are read side by side. What is read
+/// of a file is of the one whose length was told last, unless a third was asked for in between. What is appended is gathered, 64 KiB at most, and written to a draft
 /// that `commit` renames: a file is replaced whole or not at all. The names of drafts are refused, and want of memory is a failure
 /// as any other. It tells no files: what the system holds is trusted.
 #[derive(Drop)]
@@ -26,7 +26,9 @@ pub struct DiskFolder<'a, R: System> {
     faults: u64,
 }
 
-fn remove<R: System>(draft: &mut Option<Draft<'_, R>>) {
+fn remove<R: System>(draft: &mut Option<Draft<'_, R>>)
+    ensures { draft.new ≡ None }
+{
     if let Some(draft) = draft.take() {
         draft.remove();
     }
@@ -77,6 +79,7 @@ impl<'a, R: System> DiskFolder<'a, R> {
 
     /// Makes a draft in place of the one before, which is removed. None on a failure.
     fn start(&mut self) -> Option<()>
+        ensures none { result ≡ None → self.new.draft ≡ None }
         ensures meter { self.new.meter ≡ self.old.meter }
         ensures faults { self.new.faults ≡ self.old.faults }
     {
@@ -85,13 +88,18 @@ impl<'a, R: System> DiskFolder<'a, R> {
         Some(())
     }
 
-    /// Makes the draft a file of this name. None on a failure, and the draft stays.
+    /// Makes the draft a file of this name. None on a failure, and where the file that was read under this name has been replaced or
+    /// written since then.
     fn finish(&mut self, name: &str) -> Option<()>
+        ensures none { IfSome result (λ done. self.new.draft ≡ None) }
         ensures meter { self.new.meter ≡ self.old.meter }
         ensures faults { self.new.faults ≡ self.old.faults }
     {
         let draft = self.draft.as_mut()?;
         let target = followed(self.rt, self.alloc, name)?;
+        if !self.files.is_as_read(name, target.replaced) {
+            return None;
+        }
         draft.put(&target)?;
         self.draft = None;
         self.files.clear();

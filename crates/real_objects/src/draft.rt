@@ -1,4 +1,6 @@
-ghost use Rattle.std.specs.Prelude.{◌≡◌, ◌↔◌, [], IfSome, IsTrue, None};
+ghost use Rattle.std.specs.Prelude.{◌≡◌, ◌↔◌, ◌++◌, [], IfSome, IsFalse, IsTrue, None};
+ghost use Rattle.std.specs.Io.KnownBytes.{Appends};
+ghost use Rattle.real_objects.specs.Draft.{IsAdded};
 
 use crate::access::dress;
 use crate::calls;
@@ -57,7 +59,10 @@ fn draft_of<'a, R: System>(
     alloc: Global,
     name: &str,
     file: R::File,
-) -> Option<Draft<'a, R>> {
+) -> Option<Draft<'a, R>>
+    ensures { IfSome result (λ d. (d.gathered.items ≡ []) × (d.written ≡ 0)
+        × IsFalse d.is_spoiled) }
+{
     let file = rt.raised(file).ok()?;
     let mark = calls::seen_open(rt, &file).ok()?.mark;
     let common_name = String::from_str(alloc, name).ok()?;
@@ -79,7 +84,10 @@ fn draft_of<'a, R: System>(
 
 impl<'a, R: System> Draft<'a, R> {
     /// Makes an empty draft in a folder, whose path ends in a slash or is empty. None on a failure.
-    pub fn make(rt: &'a R, alloc: Global, folder: &str) -> Option<Draft<'a, R>> {
+    pub fn make(rt: &'a R, alloc: Global, folder: &str) -> Option<Draft<'a, R>>
+        ensures { IfSome result (λ d. (d.gathered.items ≡ []) × (d.written ≡ 0)
+            × IsFalse d.is_spoiled) }
+    {
         let name = format!(in alloc; "{folder}{DRAFT}").ok()?;
         let file = make_file(rt, name.as_str())?;
         let draft = draft_of(rt, alloc, name.as_str(), file);
@@ -119,6 +127,9 @@ impl<'a, R: System> Draft<'a, R> {
     /// Writes a piece behind what was written. None on a failure.
     fn write(&mut self, piece: &[u8]) -> Option<()>
         ensures spoiled { result ≡ None → IsTrue self.new.is_spoiled }
+        ensures taken { IfSome result (λ done.
+            Appends (R.File.contents self.old.file) (R.File.contents self.new.file) piece.now) }
+        ensures gathered { self.new.gathered ≡ self.old.gathered }
     {
         if self.file.write_all(piece).is_err() {
             self.is_spoiled = true;
@@ -132,6 +143,8 @@ impl<'a, R: System> Draft<'a, R> {
     fn flush(&mut self) -> Option<()>
         ensures gathered { IfSome result (λ done. self.new.gathered.items ≡ []) }
         ensures spoiled { result ≡ None → IsTrue self.new.is_spoiled }
+        ensures taken { IfSome result (λ done. Appends (R.File.contents self.old.file)
+            (R.File.contents self.new.file) self.old.gathered.items) }
     {
         if self.file.write_all(&self.gathered).is_err() {
             self.is_spoiled = true;
@@ -142,20 +155,38 @@ impl<'a, R: System> Draft<'a, R> {
         Some(())
     }
 
+    /// Keeps a piece behind what was gathered. None for want of memory.
+    fn gather(&mut self, piece: &[u8]) -> Option<()>
+        ensures gathered { IfSome result (λ done.
+            self.new.gathered.items ≡ self.old.gathered.items ++ piece.now) }
+        ensures file { self.new.file ≡ self.old.file }
+    {
+        match self.gathered.extend_from_slice(piece) {
+            Ok(()) => Some(()),
+            Err(_) => None,
+        }
+    }
+
     /// Adds a piece: gathers it, or writes it where it is long. None on a failure.
+    #[tactic(auto, using(crate::proofs::DraftLemmas::gathered, crate::proofs::DraftLemmas::passed, crate::proofs::DraftLemmas::written))]
     pub fn append(&mut self, piece: &[u8]) -> Option<()>
         ensures sound { IsTrue self.old.is_spoiled → result ≡ None }
+        ensures taken { IfSome result (λ done. IsAdded
+            (R.File.contents self.old.file) self.old.gathered.items
+            (R.File.contents self.new.file) self.new.gathered.items piece.now) }
     {
         if self.is_spoiled {
             return None;
         }
-        if self.gathered.len().saturating_add(piece.len()) > GATHERED {
-            self.flush()?;
+        if self.gathered.len().saturating_add(piece.len()) <= GATHERED {
+            return self.gather(piece);
         }
-        if piece.len() >= GATHERED {
-            return self.write(piece);
+        self.flush()?;
+        if piece.len() < GATHERED {
+            self.gather(piece)
+        } else {
+            self.write(piece)
         }
-        self.gathered.extend_from_slice(piece).ok()
     }
 
     /// Makes the draft the file at the target: writes what was gathered, gives the file the target's access, has it brought to
@@ -181,6 +212,8 @@ impl<'a, R: System> Draft<'a, R> {
         ensures own { IfSome result (λ mark. (mark.device ≡ self.new.device)
             × (mark.inode ≡ self.new.inode) × (mark.length ≡ self.new.written)) }
         ensures written { IfSome result (λ mark. self.new.gathered.items ≡ []) }
+        ensures taken { IfSome result (λ mark. Appends (R.File.contents self.old.file)
+            (R.File.contents self.new.file) self.old.gathered.items) }
     {
         if self.is_spoiled || self.flush().is_none() {
             return None;
@@ -200,6 +233,7 @@ impl<'a, R: System> Draft<'a, R> {
     /// knows no such call does what it can.
     fn sync(&mut self) -> Option<()>
         ensures gathered { self.new.gathered ≡ self.old.gathered }
+        ensures file { self.new.file ≡ self.old.file }
     {
         match calls::sync(self.rt, &self.file) {
             Ok(()) => Some(()),
@@ -215,21 +249,34 @@ impl<'a, R: System> Draft<'a, R> {
         }
     }
 
+    /// What stands under the draft's own name, if it is seen to be all that this draft wrote.
+    fn seen_whole(&self) -> Option<Mark>
+        ensures { IfSome result (λ mark. (mark.device ≡ self.now.device)
+            × (mark.inode ≡ self.now.inode) × (mark.length ≡ self.now.written)) }
+    {
+        let seen = calls::seen_here(self.rt, self.own_name.as_str()).ok()?;
+        if self.is_file(&seen) && seen.mark.length == self.written {
+            Some(seen.mark)
+        } else {
+            None
+        }
+    }
+
     /// Takes the draft from the common name to its own, unless it is there, and looks at what stands there. It is given back if it
-    /// is not all that this draft wrote: then it is another command's. None on a failure.
+    /// is not seen to be all that this draft wrote: then it may be another command's. None on a failure.
     fn claim(&mut self) -> Option<Mark>
         ensures own { IfSome result (λ mark. (mark.device ≡ self.new.device)
             × (mark.inode ≡ self.new.inode) × (mark.length ≡ self.new.written)) }
         ensures gathered { self.new.gathered ≡ self.old.gathered }
+        ensures file { self.new.file ≡ self.old.file }
     {
         if !self.has_own_name {
             let (common, own) = (self.common_name.as_str(), self.own_name.as_str());
             calls::rename(self.rt, common, own).ok()?;
             self.has_own_name = true;
         }
-        let seen = calls::seen_here(self.rt, self.own_name.as_str()).ok()?;
-        if self.is_file(&seen) && seen.mark.length == self.written {
-            return Some(seen.mark);
+        if let Some(mark) = self.seen_whole() {
+            return Some(mark);
         }
         let (common, own) = (self.common_name.as_str(), self.own_name.as_str());
         let _ = calls::rename(self.rt, own, common);
@@ -247,14 +294,15 @@ impl<'a, R: System> Draft<'a, R> {
     }
 
     /// Copies the draft to one beside the target, and makes that the file there. None on a failure, and nothing is left of the copy.
+    /// The draft's name goes first, so that nothing of that name is left by a command that is killed meanwhile.
     fn carry(&self, target: &Target) -> Option<()> {
+        let _ = calls::remove(self.rt, self.own_name.as_str());
         let folder = folder_of(self.alloc, target.path.as_str())?;
         let mut copy = Draft::make(self.rt, self.alloc, folder.as_str())?;
         if copy.put_copy(self, target).is_none() {
             copy.remove();
             return None;
         }
-        let _ = calls::remove(self.rt, self.own_name.as_str());
         Some(())
     }
 

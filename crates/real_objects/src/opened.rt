@@ -1,9 +1,9 @@
-ghost use Rattle.std.specs.Prelude.{◌≡◌, ◌≤◌, ◌↔◌, IfSome, IsFalse, IsSomeAnd, IsTrue, None, Some, length, string_bytes};
+ghost use Rattle.std.specs.Prelude.{◌≡◌, ◌≤◌, ◌<◌, ◌↔◌, ◌⊎◌, IfSome, IsFalse, IsSomeAnd, IsTrue, None, Some, length, string_bytes};
 ghost use Rattle.real_objects.specs.Mark.{IsSame};
 
 use crate::calls::{self, is_absent};
 use crate::pages::Pages;
-use crate::system::{Kind, Mark, System};
+use crate::system::{Kind, Mark, Seen, System};
 use std::alloc::Global;
 use std::mem;
 
@@ -28,6 +28,8 @@ struct Opened<F: Drop> {
 enum Found<F: Drop> {
     File(Opened<F>),
     Nothing,
+    /// A file that can't be opened.
+    Closed,
 }
 
 impl<F: Drop> Opened<F> {
@@ -45,6 +47,21 @@ impl<F: Drop> Opened<F> {
         ensures same { IsTrue result → IsSame self.now.mark mark.now }
     {
         self.is_settled && self.mark.is_same(mark)
+    }
+
+    /// Whether this was found: the same file, of the same length, and written last at the same moment.
+    fn is_found(&self, found: Option<Seen>) -> bool
+        ensures { IsTrue result → IsSomeAnd found (λ f. (f.mark.device ≡ self.now.mark.device)
+            × (f.mark.inode ≡ self.now.mark.inode) × (f.mark.length ≡ self.now.mark.length)) }
+    {
+        let Some(found) = found else {
+            return false;
+        };
+        let (own, other) = (&self.mark, &found.mark);
+        if own.device != other.device || own.inode != other.inode || own.length != other.length {
+            return false;
+        }
+        own.modified.is_same(&other.modified)
     }
 
     /// Whether it may stay open where the file of this name has this mark.
@@ -88,17 +105,13 @@ fn marked<R: System>(rt: &R, name: &str) -> Option<Option<Mark>> {
     }
 }
 
-/// Opens a file. None where that fails, or where the name is that of anything else.
+/// Opens what stands under a name that a file had when it was looked at: a pipe would have to be waited for. None on a failure.
 #[inline(never)]
 fn open<R: System>(rt: &R, alloc: Global, name: &str) -> Option<Found<R::File>> {
-    // (it is looked at before: a pipe would have to be waited for)
-    if marked(rt, name)?.is_none() {
-        return Some(Found::Nothing);
-    }
     match calls::open(rt, name) {
         Ok(file) => keep(rt, alloc, name, file),
         Err(error) if is_absent(&error) => Some(Found::Nothing),
-        Err(_) => None,
+        Err(_) => Some(Found::Closed),
     }
 }
 
@@ -132,15 +145,28 @@ pub struct OpenFiles<'a, R: System> {
 }
 
 /// Whether the file is open under this name.
-fn has_name<F: Drop>(opened: &Option<Opened<F>>, name: &str) -> bool {
+fn has_name<F: Drop>(opened: &Option<Opened<F>>, name: &str) -> bool
+    ensures { IsTrue result ↔ IsSomeAnd opened.now (λ o. string_bytes o.name ≡ name.now) }
+{
     match opened {
         Some(opened) => opened.is_named(name),
         None => false,
     }
 }
 
+/// Whether the file is open under another name, or is the one that was found.
+fn is_in_place<F: Drop>(opened: &Option<Opened<F>>, name: &str, found: Option<Seen>) -> bool {
+    match (opened, found) {
+        (Some(opened), found) if opened.is_named(name) => opened.is_found(found),
+        _ => true,
+    }
+}
+
 impl<'a, R: System> OpenFiles<'a, R> {
-    pub fn new(rt: &'a R, alloc: Global) -> OpenFiles<'a, R> {
+    pub fn new(rt: &'a R, alloc: Global) -> OpenFiles<'a, R>
+        ensures first { result.first ≡ None }
+        ensures second { result.second ≡ None }
+    {
         OpenFiles {
             rt,
             alloc,
@@ -150,33 +176,54 @@ impl<'a, R: System> OpenFiles<'a, R> {
     }
 
     /// Lets all files go.
-    pub fn clear(&mut self) {
+    pub fn clear(&mut self)
+        ensures first { self.new.first ≡ None }
+        ensures second { self.new.second ≡ None }
+    {
         self.first = None;
         self.second = None;
     }
 
     /// The length of the named file as it is now. Some of None where there is no such file, None on a failure. An open file of that
-    /// name goes, with its pages, if it is another file now, or may have been written.
+    /// name goes, with its pages, if it is another file now, or may have been written. A file that is not open is opened, so that
+    /// what is read then is of the file whose length this is; where it may not be read, its length is told all the same.
     pub fn length(&mut self, name: &str) -> Option<Option<u64>>
         ensures first { IfSome result (λ r. IfSome self.new.first
             (λ o. string_bytes o.name ≡ name.now → r ≡ Some o.mark.length)) }
         ensures second { IfSome result (λ r. IfSome self.new.second
             (λ o. string_bytes o.name ≡ name.now → r ≡ Some o.mark.length)) }
     {
-        match marked(self.rt, name) {
-            Some(Some(mark)) => {
-                self.keep_only(name, Some(mark));
-                Some(Some(mark.length))
-            }
-            Some(None) => {
-                self.keep_only(name, None);
-                Some(None)
-            }
-            None => {
-                self.keep_only(name, None);
-                None
-            }
+        let found = marked(self.rt, name);
+        self.keep_only(name, found.flatten());
+        let Some(mark) = found? else {
+            return Some(None);
+        };
+        if has_name(&self.first, name) || has_name(&self.second, name) {
+            return Some(Some(mark.length));
         }
+        match open(self.rt, self.alloc, name)? {
+            Found::File(opened) => {
+                let length = opened.mark.length;
+                self.hold(opened);
+                Some(Some(length))
+            }
+            Found::Nothing => Some(None),
+            Found::Closed => Some(Some(mark.length)),
+        }
+    }
+
+    /// Holds a file that was opened, in place of the one that was read before the last.
+    fn hold(&mut self, opened: Opened<R::File>)
+        ensures first { self.new.first ≡ Some opened }
+        ensures second { self.new.second ≡ self.old.first }
+    {
+        self.second = self.first.take();
+        self.first = Some(opened);
+    }
+
+    /// Whether the named file, if it is open, is the one that was found there now, unchanged but for who may use it.
+    pub fn is_as_read(&self, name: &str, found: Option<Seen>) -> bool {
+        is_in_place(&self.first, name, found) && is_in_place(&self.second, name, found)
     }
 
     /// Lets an open file of this name go, unless it has this mark.
@@ -193,7 +240,10 @@ impl<'a, R: System> OpenFiles<'a, R> {
     /// Puts what is held of the named file from the offset on at the front of the buffer.
     #[inline(never)]
     pub fn copy(&mut self, name: &str, at: u64, buf: &mut [u8]) -> usize
-        ensures { result ≤ length buf.new }
+        ensures bound { result ≤ length buf.new }
+        ensures named { 0 < result
+            → IsSomeAnd self.old.first (λ o. string_bytes o.name ≡ name.now)
+            ⊎ IsSomeAnd self.old.second (λ o. string_bytes o.name ≡ name.now) }
     {
         if let Some(opened) = &mut self.first {
             if opened.is_named(name) {
@@ -216,9 +266,13 @@ impl<'a, R: System> OpenFiles<'a, R> {
         if has_name(&self.second, name) {
             mem::swap(&mut self.first, &mut self.second);
         } else if !has_name(&self.first, name) {
+            if marked(self.rt, name)?.is_none() {
+                return Some(0);
+            }
             match open(self.rt, self.alloc, name)? {
+                Found::File(opened) => self.hold(opened),
                 Found::Nothing => return Some(0),
-                Found::File(opened) => self.second = mem::replace(&mut self.first, Some(opened)),
+                Found::Closed => return None,
             }
         }
         let opened = self.first.as_mut()?;

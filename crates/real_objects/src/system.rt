@@ -78,8 +78,8 @@ pub struct Seen {
     pub group: u32,
 }
 
-/// A file system: the calls that the folder makes. Each is one call of the system and decides nothing, so a disk in memory can
-/// stand in for it. A call that was interrupted says so, and is not tried again here, but `Write::write_all` tries again.
+/// A file system: the calls that the folder makes. Each is one call of the system and decides nothing but which number an open
+/// file has, so a disk in memory can stand in for it. A call that was interrupted may say so: it is tried again by its caller.
 pub trait System {
     /// An open file. It is written at its own place, which begins at the front, and is closed where it is dropped.
     type File: Write + Drop;

@@ -19,6 +19,8 @@ const TWO: &[u8] = b"[\"db\",[\"e\",{\"id\":1},\"b\"],[\"e\",{\"id\":3}]]\n";
 
 const TABLE: &[u8] = b"id,name\n2,Ann\n1,Bo\n";
 
+const LONGER_TABLE: &[u8] = b"id,name\n2,Annabel\n1,Bo\n";
+
 /// What there is before any archive.
 const GIVEN: &[Row] = &[
     Row("spec", Sort::File, SPEC, PLAIN),
@@ -26,6 +28,7 @@ const GIVEN: &[Row] = &[
     Row("one", Sort::File, ONE, PLAIN),
     Row("two", Sort::File, TWO, PLAIN),
     Row("csv", Sort::File, TABLE, PLAIN),
+    Row("longer", Sort::File, LONGER_TABLE, PLAIN),
 ];
 
 /// The archives `A`, of two versions, and `B`, of one.
@@ -421,6 +424,90 @@ fn a_batch_reads_what_is_there_then(rt: HostRuntime) -> Result<(), Fail> {
         for turn in TURNS {
             told(is_read_anew(&before, turn)?, "two lines of a batch")?;
         }
+    }
+    Ok(())
+}
+
+/// A command, and the file that another process puts in the place of one that it reads.
+struct Replaced {
+    words: &'static [&'static str],
+    event: Event,
+}
+
+const REPLACED: &[Replaced] = &[
+    Replaced {
+        words: &["norm", "spec", "one"],
+        event: Event::Moves("two", "one"),
+    },
+    Replaced {
+        words: &["norm", "spec", "one"],
+        event: Event::Moves("wide", "spec"),
+    },
+    Replaced {
+        words: &["table", "csv", "t", "id", "N"],
+        event: Event::Moves("longer", "csv"),
+    },
+    Replaced {
+        words: &["table", "longer", "t", "id", "N"],
+        event: Event::Moves("csv", "longer"),
+    },
+    Replaced {
+        words: &["get", "A", "1"],
+        event: Event::Moves("B", "A"),
+    },
+    Replaced {
+        words: &["check", "A"],
+        event: Event::Moves("B", "A"),
+    },
+];
+
+impl Replaced {
+    /// The disk behind the command, where the file is replaced before the call of this number.
+    fn behind(&self, before: &State, at: usize) -> io::Result<MemDisk> {
+        let mut state = before.copied()?;
+        let what = What::Meets(self.event);
+        state.plan(Some(Trouble { at, what }));
+        let disk = MemDisk::new(state);
+        let _ = answered(before.alloc(), &disk, self.words);
+        Ok(disk)
+    }
+
+    /// Whether the command, if the file is replaced before this call, prints and makes what it does of the old file or of the new.
+    fn is_of_one(&self, before: &State, at: usize) -> io::Result<bool> {
+        let (old, new) = (self.behind(before, usize::MAX)?, self.behind(before, 0)?);
+        let met = self.behind(before, at)?;
+        let (old, new, met) = (old.state()?, new.state()?, met.state()?);
+        Ok(is_answer(&met, &old) || is_answer(&met, &new))
+    }
+}
+
+/// Whether both commands printed the same, and made the same file.
+fn is_answer(state: &State, other: &State) -> bool {
+    let made = match (state.found("N"), other.found("N")) {
+        (Some(made), Some(other)) => made.bytes == other.bytes,
+        (None, None) => true,
+        _ => false,
+    };
+    made && state.printed() == other.printed()
+}
+
+/// Checks a file that is replaced before each call.
+fn of_one(before: &State, replaced: &Replaced) -> Result<(), Fail> {
+    let calls = replaced.behind(before, usize::MAX)?.state()?.log.len();
+    for at in 0..calls {
+        told(
+            replaced.is_of_one(before, at)?,
+            "a file is replaced while it is read",
+        )?;
+    }
+    Ok(())
+}
+
+#[test]
+fn what_is_read_is_of_the_file_whose_length_was_told(rt: HostRuntime) -> Result<(), Fail> {
+    let before = archived(rt.alloc())?;
+    for replaced in REPLACED {
+        of_one(&before, replaced)?;
     }
     Ok(())
 }
