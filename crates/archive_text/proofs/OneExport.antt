@@ -20,7 +20,9 @@ use Rattle.archive_file.specs.Sound.{SoundAs}
 use Rattle.archive_file.proofs.ArchiveKeyed.{archive-keyed}
 use Rattle.archive_file.proofs.ClosedWays.{closed-lead}
 use Rattle.archive_file.proofs.SoundLaws.{row-well}
+use Rattle.noted_file.specs.Contents.{Contents}
 use Rattle.noted_file.specs.Full.{FullAs}
+use Rattle.noted_file.proofs.Readings.{same-contents}
 use Rattle.jsonml_lines.specs.RoundTrip.{IsLine}
 use Rattle.archive_text.specs.Texts.{text_lines}
 use Rattle.archive_text.specs.Export.{key_line, note_lines, end_line, nodes_lines, ExportOf}
@@ -52,25 +54,25 @@ pub record Readable (rules : List PlainRule) (notes : List (List ℕ)) (a : Plai
   pub as_many : length notes ≡ a.n
   pub lines : AllByRecursion IsLine (all_lines rules a notes)
 
-pub readable : OneArchive → SoundTexts → KeyedShaped → (rules : List PlainRule) (vs : List PlainKeyed) (notes : List (List ℕ)) (file : List ℕ) (a : PlainArchive) → FullAs rules vs notes file → ArchiveOf vs a → Readable rules notes a
-readable one texts shapes rules vs notes file a full is =
-    let sound : SoundAs rules vs full.core = full.is in
-    let closes : IsClosed rules = (canonical rules, sound.specification) in
+pub readable : OneArchive → SoundTexts → KeyedShaped → (c : Contents) (file : List ℕ) (a : PlainArchive) → FullAs c file → ArchiveOf c.versions a → Readable c.rules c.notes a
+readable one texts shapes c file a full is =
+    let sound : SoundAs c.rules c.versions full.core = full.is in
+    let closes : IsClosed c.rules = (canonical c.rules, sound.specification) in
     let few : a.n ≤ most = omega (arith, is.count, sound.few) in
-    let count : length notes ≡ a.n = full.as_many ∙ is.count in
-    let shaped = (shapes rules vs a closes sound.keyed (texts rules vs full.core sound) is few).kids in
+    let count : length c.notes ≡ a.n = full.as_many ∙ is.count in
+    let shaped = (shapes c.rules c.versions a closes sound.keyed (texts c.rules c.versions full.core sound) is few).kids in
     let other = sound.file.archive in
     let well_there : AreNodesWellFormed other.kids = row-well (upto_pairs other.n) other.kids sound.file.has.records in
-    let well : AreNodesWellFormed a.kids = subst (λ (x : PlainArchive). AreNodesWellFormed x.kids) (one vs other a sound.file.is is) well_there in
-    let fits = and_parts (are_shallow 120 a.kids) (nodes_fit rules [] a.kids) ((archive-keyed vs a is rules (closed-lead rules closes) well).1 sound.keyed) in
+    let well : AreNodesWellFormed a.kids = subst (λ (x : PlainArchive). AreNodesWellFormed x.kids) (one c.versions other a sound.file.is is) well_there in
+    let fits = and_parts (are_shallow 120 a.kids) (nodes_fit c.rules [] a.kids) ((archive-keyed c.versions a is c.rules (closed-lead c.rules closes) well).1 sound.keyed) in
     record {
       shaped = shaped;
-      names = row_names rules (rules_named rules sound.specification) [] a.kids fits.1;
+      names = row_names c.rules (rules_named c.rules sound.specification) [] a.kids fits.1;
       as_many = count;
       lines = (
         count_good a.n (omega arith),
-        all_join IsLine (map key_line (text_lines (canonical rules))) _ (keys_good (text_lines (canonical rules)))
-            (all_join IsLine (note_lines 1 notes) _ (notes_good 1 notes (omega arith)) (all_join IsLine (nodes_lines a.kids) (end_line ∷ []) (nodes_good a.kids shaped well) end_good)),
+        all_join IsLine (map key_line (text_lines (canonical c.rules))) _ (keys_good (text_lines (canonical c.rules)))
+            (all_join IsLine (note_lines 1 c.notes) _ (notes_good 1 c.notes (omega arith)) (all_join IsLine (nodes_lines a.kids) (end_line ∷ []) (nodes_good a.kids shaped well) end_good)),
       );
     }
 
@@ -81,15 +83,14 @@ rules_are : (rules others : List PlainRule) → closed (canonical rules) ≡ Ok 
 rules_are rules others h k e = ok_one rules others (closed (canonical others)) (ap closed (sym e) ∙ h) k
 
 pub one_export : LinesReadBack → OneArchive → OneList → SoundTexts → KeyedShaped
-    → (rules others : List PlainRule) (vs us : List PlainKeyed) (notes more : List (List ℕ)) (file other text : List ℕ) → FullAs rules vs notes file → FullAs others us more other → ExportOf rules vs notes text → ExportOf others us more text
-    → (rules ≡ others) × (vs ≡ us) × (notes ≡ more)
-one_export back one lists texts shapes rules others vs us notes more file other text h k x y =
+    → (c d : Contents) (file other text : List ℕ) → FullAs c file → FullAs d other → ExportOf c text → ExportOf d text → c ≡ d
+one_export back one lists texts shapes c d file other text h k x y =
     let a = x.archive in
     let b = y.archive in
-    let f = readable one texts shapes rules vs notes file a h x.is in
-    let g = readable one texts shapes others us more other b k y.is in
-    let lines = same_lines back (all_lines rules a notes) (all_lines others b more) f.lines g.lines (sym (text_is rules a notes) ∙ sym x.spelled ∙ y.spelled ∙ text_is others b more) in
-    let parts = same_parts rules others a b notes more f.as_many g.as_many lines in
+    let f = readable one texts shapes c file a h x.is in
+    let g = readable one texts shapes d other b k y.is in
+    let lines = same_lines back (all_lines c.rules a c.notes) (all_lines d.rules b d.notes) f.lines g.lines (sym (text_is c.rules a c.notes) ∙ sym x.spelled ∙ y.spelled ∙ text_is d.rules b d.notes) in
+    let parts = same_parts c.rules d.rules a b c.notes d.notes f.as_many g.as_many lines in
     let kids = (row_one a.kids b.kids [] [] f.shaped g.shaped f.names g.names parts.lines).0 in
     let same : a ≡ b = λ i. record { n = parts.count i; kids = kids i } in
-    (rules_are rules others h.is.specification k.is.specification parts.text, lists vs us a x.is (subst (ArchiveOf us) (sym same) y.is), parts.notes_are)
+    same-contents c d (rules_are c.rules d.rules h.is.specification k.is.specification parts.text) (lists c.versions d.versions a x.is (subst (ArchiveOf d.versions) (sym same) y.is)) parts.notes_are

@@ -10,6 +10,7 @@ use Rattle.archive_tree.specs.Stands.{ArchiveOf}
 use Rattle.record_parts.specs.Bounds.{most}
 use Rattle.archive_file.specs.Sound.{SoundAs}
 use Rattle.version_notes.specs.Notes.{IsNote, is_note, is_printed, notes_part}
+use Rattle.noted_file.specs.Contents.{Contents}
 use Rattle.noted_file.specs.Full.{FullAs}
 use Rattle.archive_text.specs.Export.{export_text, ExportOf}
 use Rattle.archive_text.specs.Faults.{IfBad}
@@ -29,10 +30,10 @@ finds_ok P Q (Ok x) f h = f x h
 finds_ok P Q (Err e) f h = tt
 
 pub text_bad : {X : Type 0} (bytes : List ℕ) (r : Result X ReadFault) (Q : List PlainRule → PlainArchive → List (List ℕ) → X → Type 0)
-    → ((rules : List PlainRule) (vs : List PlainKeyed) (notes : List (List ℕ)) (file : List ℕ) → FullAs rules vs notes file → (e : ExportOf rules vs notes bytes) → Finds r (Q rules e.archive notes))
-    → IfErr r (λ d. IfBad d ((rules : List PlainRule) (vs : List PlainKeyed) (notes : List (List ℕ)) (file : List ℕ) → FullAs rules vs notes file → ¬ (ExportOf rules vs notes bytes)))
+    → ((c : Contents) (file : List ℕ) → FullAs c file → (e : ExportOf c bytes) → Finds r (Q c.rules e.archive c.notes))
+    → IfErr r (λ d. IfBad d ((c : Contents) (file : List ℕ) → FullAs c file → ¬ (ExportOf c bytes)))
 text_bad bytes (Ok x) Q h = tt
-text_bad bytes (Err Bad) Q h = λ rules vs notes file full e. h rules vs notes file full e
+text_bad bytes (Err Bad) Q h = λ c file full e. h c file full e
 text_bad bytes (Err Memory) Q h = tt
 
 -- ---- what there may be
@@ -87,11 +88,11 @@ kept_of rules a notes core few many each sound =
 
 pub record Known (vs : List PlainKeyed) (file bytes : List ℕ) (rules : List PlainRule) (a : PlainArchive) (notes : List (List ℕ)) : Type 0 where
   pub is : ArchiveOf vs a
-  pub full : FullAs rules vs notes file
+  pub full : FullAs (record { rules = rules; versions = vs; notes = notes }) file
   pub text : bytes ≡ export_text rules a notes
 
-pub known : (rules : List PlainRule) (vs : List PlainKeyed) (a : PlainArchive) (notes : List (List ℕ)) (file bytes : List ℕ) → ArchiveOf vs a → FullAs rules vs notes file → ArePartsOf rules a notes bytes
-    → (r : List PlainRule) (b : PlainArchive) (n : List (List ℕ)) → r ≡ rules → b ≡ a → n ≡ notes → Known vs file bytes r b n
-known rules vs a notes file bytes is full p r b n e f g =
-    let first : Known vs file bytes rules a notes = record { is = is; full = full; text = p.lines.spelled ∙ sym (text_is rules a notes) } in
-    subst (λ (x : List PlainRule). Known vs file bytes x b n) (sym e) (subst (λ (x : PlainArchive). Known vs file bytes rules x n) (sym f) (subst (λ (x : List (List ℕ)). Known vs file bytes rules a x) (sym g) first))
+pub known : (c : Contents) (a : PlainArchive) (file bytes : List ℕ) → ArchiveOf c.versions a → FullAs c file → ArePartsOf c.rules a c.notes bytes
+    → (r : List PlainRule) (b : PlainArchive) (n : List (List ℕ)) → r ≡ c.rules → b ≡ a → n ≡ c.notes → Known c.versions file bytes r b n
+known c a file bytes is full p r b n e f g =
+    let first : Known c.versions file bytes c.rules a c.notes = record { is = is; full = full; text = p.lines.spelled ∙ sym (text_is c.rules a c.notes) } in
+    subst (λ (x : List PlainRule). Known c.versions file bytes x b n) (sym e) (subst (λ (x : PlainArchive). Known c.versions file bytes c.rules x n) (sym f) (subst (λ (x : List (List ℕ)). Known c.versions file bytes c.rules a x) (sym g) first))

@@ -10,6 +10,7 @@ use Rattle.archive_tree.specs.Stands.{ArchiveOf}
 use Rattle.record_parts.specs.Bounds.{deepest}
 use Rattle.record_format.specs.Nested.{are_nested}
 use Rattle.archive_file.specs.Sound.{SoundAs}
+use Rattle.noted_file.specs.Contents.{Contents}
 use Rattle.noted_file.specs.Full.{FullAs}
 use Rattle.jsonml_lines.specs.RoundTrip.{IsLine, AreLineTexts}
 use Rattle.archive_text.specs.Texts.{text_lines}
@@ -30,20 +31,20 @@ both_all P Q [] h k = tt
 both_all P Q (x ∷ xs) h k = ((h.0, k.0), both_all P Q xs h.1 k.1)
 
 pub parts_of_text : OneArchive → SoundTexts → KeyedShaped → SoundNested
-    → (rules : List PlainRule) (vs : List PlainKeyed) (notes : List (List ℕ)) (file text : List ℕ) → FullAs rules vs notes file → (e : ExportOf rules vs notes text) → ArePartsOf rules e.archive notes text
-parts_of_text one texts shapes nested rules vs notes file text full e =
+    → (c : Contents) (file text : List ℕ) → FullAs c file → (e : ExportOf c text) → ArePartsOf c.rules e.archive c.notes text
+parts_of_text one texts shapes nested c file text full e =
     let a = e.archive in
-    let r = readable one texts shapes rules vs notes file a full e.is in
-    let sound : SoundAs rules vs full.core = full.is in
-    let keys = text_lines (canonical rules) in
+    let r = readable one texts shapes c file a full e.is in
+    let sound : SoundAs c.rules c.versions full.core = full.is in
+    let keys = text_lines (canonical c.rules) in
     let last = all_join AreLineTexts (nodes_lines a.kids) (end_line ∷ []) (nodes_texts a.kids r.shaped) end_texts in
-    let noted = all_join AreLineTexts (note_lines 1 notes) (nodes_lines a.kids ++ end_line ∷ []) (notes_texts 1 notes full.each) last in
-    let keyed = all_join AreLineTexts (map key_line keys) (note_lines 1 notes ++ (nodes_lines a.kids ++ end_line ∷ [])) (keys_texts keys (key_texts rules sound.specification)) noted in
+    let noted = all_join AreLineTexts (note_lines 1 c.notes) (nodes_lines a.kids ++ end_line ∷ []) (notes_texts 1 c.notes full.each) last in
+    let keyed = all_join AreLineTexts (map key_line keys) (note_lines 1 c.notes ++ (nodes_lines a.kids ++ end_line ∷ [])) (keys_texts keys (key_texts c.rules sound.specification)) noted in
     record {
       specification = sound.specification;
-      short = (closed_list (canonical rules) rules sound.specification).short;
+      short = (closed_list (canonical c.rules) c.rules sound.specification).short;
       few = omega (arith, e.is.count, sound.few);
       as_many = r.as_many;
-      kids = record { shaped = r.shaped; named = r.names; nested = nested rules vs full.core a sound e.is };
-      lines = record { good = both_all IsLine AreLineTexts (all_lines rules a notes) r.lines (count_texts a.n, keyed); spelled = e.spelled ∙ text_is rules a notes };
+      kids = record { shaped = r.shaped; named = r.names; nested = nested c.rules c.versions full.core a sound e.is };
+      lines = record { good = both_all IsLine AreLineTexts (all_lines c.rules a c.notes) r.lines (count_texts a.n, keyed); spelled = e.spelled ∙ text_is c.rules a c.notes };
     }

@@ -3,11 +3,12 @@ use Rattle.std.specs.Prelude.{◌≡◌, ℕ, ◌+◌, ◌==◌, pos, List, [], 
 use Rattle.std.specs.List.{flat_map}
 use Rattle.version_set.specs.Text.{set_text}
 use Rattle.jsonml_tree.specs.Data.{whole, string}
-use Rattle.keyed_tree.specs.Data.{PlainName, attr, tag, PlainKey, scalar, PlainLabel, PlainKeyed}
+use Rattle.keyed_tree.specs.Data.{PlainName, attr, tag, PlainKey, scalar, PlainLabel}
 use Rattle.key_spec.specs.Data.{PlainRule}
 use Rattle.key_spec.specs.Canonical.{canonical}
 use Rattle.archive_tree.specs.Data.{Stamp, PlainAlt, PlainNode, inner_node, leaf_node, PlainNodes, no_nodes, node, PlainArchive}
 use Rattle.archive_tree.specs.Stands.{ArchiveOf}
+use Rattle.noted_file.specs.Contents.{Contents}
 use Rattle.jsonml_lines.specs.Lines.{PlainLine, line_text}
 use Rattle.archive_text.specs.Texts.{text_lines}
 
@@ -88,8 +89,8 @@ export_text rules a notes =
     line_text (count_line a.n) ++ (lines_text (map key_line (text_lines (canonical rules)))
     ++ (lines_text (note_lines 1 notes) ++ (lines_text (nodes_lines a.kids) ++ line_text end_line)))
 
--- the text is that of the archive of these versions
-pub record ExportOf (rules : List PlainRule) (versions : List PlainKeyed) (notes : List (List ℕ)) (text : List ℕ) : Type 0 where
+-- the text is that of the archive of these versions, with these rules and notes
+pub record ExportOf (c : Contents) (text : List ℕ) : Type 0 where
   pub archive : PlainArchive
-  pub is : ArchiveOf versions archive
-  pub spelled : text ≡ export_text rules archive notes
+  pub is : ArchiveOf c.versions archive
+  pub spelled : text ≡ export_text c.rules archive c.notes

@@ -13,6 +13,7 @@ use Rattle.record_parts.specs.Bounds.{most}
 use Rattle.archive_file.specs.KeyedBy.{AreKeyedBy}
 use Rattle.archive_file.specs.Sound.{SoundAs}
 use Rattle.version_notes.specs.Notes.{IsNote}
+use Rattle.noted_file.specs.Contents.{Contents}
 use Rattle.noted_file.specs.Full.{FullAs}
 use Rattle.jsonml_lines.specs.Lines.{PlainLine}
 use Rattle.jsonml_lines.specs.RoundTrip.{IsLine, AreLineTexts}
@@ -75,9 +76,9 @@ pub record ArePartsOf (rules : List PlainRule) (a : PlainArchive) (notes : List 
   pub lines : AreLines (all_lines rules a notes) bytes
 
 -- the versions under the specification have a file with these notes
-pub record HaveFile (rules : List PlainRule) (versions : List PlainKeyed) (notes : List (List ℕ)) : Type 0 where
+pub record HaveFile (c : Contents) : Type 0 where
   pub file : List ℕ
-  pub is : FullAs rules versions notes file
+  pub is : FullAs c file
 
 -- What is kept is as it has to be: not too many versions, a note for each, and a file.
 pub record CanBeKept (rules : List PlainRule) (a : PlainArchive) (notes : List (List ℕ)) : Type 0 where
@@ -85,7 +86,7 @@ pub record CanBeKept (rules : List PlainRule) (a : PlainArchive) (notes : List (
   pub as_many : length notes ≡ a.n
   pub each : AllByRecursion IsNote notes
   pub keyed : (vs : List PlainKeyed) → ArchiveOf vs a → AreKeyedBy rules vs
-  pub file : (vs : List PlainKeyed) → ArchiveOf vs a → HaveFile rules vs notes
+  pub file : (vs : List PlainKeyed) → ArchiveOf vs a → HaveFile (record { rules = rules; versions = vs; notes = notes })
 
 -- It can be kept, and the bytes are the file of the versions.
 pub record AreKeptAs (rules : List PlainRule) (a : PlainArchive) (notes : List (List ℕ)) (core : List ℕ) : Type 0 where

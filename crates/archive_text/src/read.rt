@@ -11,6 +11,7 @@ ghost use Rattle.record_format.specs.Files.{FileOf};
 ghost use Rattle.archive_file.specs.KeyedBy.{AreKeyedBy};
 ghost use Rattle.archive_file.specs.Sound.{SoundAs};
 ghost use Rattle.version_notes.specs.Notes.{IsNote, is_note, notes_part};
+ghost use Rattle.noted_file.specs.Contents.{Contents};
 ghost use Rattle.noted_file.specs.Full.{FullAs};
 ghost use Rattle.jsonml_lines.specs.Lines.{PlainLine};
 ghost use Rattle.archive_text.specs.Export.{count_line, end_line, export_text, nodes_lines, ExportOf};
@@ -53,19 +54,22 @@ pub fn read_text(alloc: Global, bytes: &[u8]) -> Result<Kept, ReadFault>
     requires short { length bytes.now ≤ 67108864 }
     ensures text { IfOk result (λ k. bytes.now ≡ export_text (spec_view k.spec)
         (archive_view k.archive) (map string_bytes k.notes.items)) }
-    ensures bad { IfErr result (λ e. IfBad e ((rules : List PlainRule) (vs : List PlainKeyed)
-        (notes : List (List ℕ)) (file : List ℕ) → FullAs rules vs notes file
-        → ¬ (ExportOf rules vs notes bytes.now))) }
+    ensures bad { IfErr result (λ e. IfBad e ((c : Contents) (file : List ℕ)
+        → FullAs c file → ¬ (ExportOf c bytes.now))) }
 
     // A text has one reading.
-    ensures only { (rules : List PlainRule) (vs : List PlainKeyed) (notes : List (List ℕ))
-        (file : List ℕ) → FullAs rules vs notes file → ExportOf rules vs notes bytes.now
-        → IfOk result (λ k. (spec_view k.spec ≡ rules) × ArchiveOf vs (archive_view k.archive)
-        × (map string_bytes k.notes.items ≡ notes)) }
+    ensures only { (c : Contents) (file : List ℕ) → FullAs c file → ExportOf c bytes.now
+        → IfOk result (λ k. (spec_view k.spec ≡ c.rules)
+        × ArchiveOf c.versions (archive_view k.archive)
+        × (map string_bytes k.notes.items ≡ c.notes)) }
 
     // It can be written as a file.
     ensures file { IfOk result (λ k. (vs : List PlainKeyed) → ArchiveOf vs (archive_view k.archive)
-        → HaveFile (spec_view k.spec) vs (map string_bytes k.notes.items)) }
+        → HaveFile (record {
+          rules = spec_view k.spec;
+          versions = vs;
+          notes = map string_bytes k.notes.items;
+        })) }
     ensures few { IfOk result (λ k. (archive_view k.archive).n ≤ 999999) }
     ensures keyed { IfOk result (λ k. (vs : List PlainKeyed)
         → ArchiveOf vs (archive_view k.archive) → AreKeyedBy (spec_view k.spec) vs) }
@@ -87,21 +91,23 @@ pub fn read_with_file(alloc: Global, bytes: &[u8]) -> Result<(Kept, Vec<u8>), Re
     requires short { length bytes.now ≤ 67108864 }
     ensures text { IfOk result (λ r. bytes.now ≡ export_text (spec_view r.0.spec)
         (archive_view r.0.archive) (map string_bytes r.0.notes.items)) }
-    ensures bad { IfErr result (λ e. IfBad e ((rules : List PlainRule) (vs : List PlainKeyed)
-        (notes : List (List ℕ)) (file : List ℕ) → FullAs rules vs notes file
-        → ¬ (ExportOf rules vs notes bytes.now))) }
+    ensures bad { IfErr result (λ e. IfBad e ((c : Contents) (file : List ℕ)
+        → FullAs c file → ¬ (ExportOf c bytes.now))) }
 
     // A text has one reading.
-    ensures only { (rules : List PlainRule) (vs : List PlainKeyed) (notes : List (List ℕ))
-        (file : List ℕ) → FullAs rules vs notes file → ExportOf rules vs notes bytes.now
-        → IfOk result (λ r. (spec_view r.0.spec ≡ rules)
-        × ArchiveOf vs (archive_view r.0.archive)
-        × (map string_bytes r.0.notes.items ≡ notes)) }
+    ensures only { (c : Contents) (file : List ℕ) → FullAs c file → ExportOf c bytes.now
+        → IfOk result (λ r. (spec_view r.0.spec ≡ c.rules)
+        × ArchiveOf c.versions (archive_view r.0.archive)
+        × (map string_bytes r.0.notes.items ≡ c.notes)) }
 
     // The notes come behind the file.
     ensures file { IfOk result (λ r. (vs : List PlainKeyed)
         → ArchiveOf vs (archive_view r.0.archive)
-        → FullAs (spec_view r.0.spec) vs (map string_bytes r.0.notes.items)
+        → FullAs (record {
+          rules = spec_view r.0.spec;
+          versions = vs;
+          notes = map string_bytes r.0.notes.items;
+        })
         (r.1.items ++ notes_part (map string_bytes r.0.notes.items))) }
     ensures few { IfOk result (λ r. (archive_view r.0.archive).n ≤ 999999) }
     ensures keyed { IfOk result (λ r. (vs : List PlainKeyed)
@@ -119,11 +125,10 @@ fn read_kept(alloc: Global, bytes: &[u8]) -> Result<(Kept, Vec<u8>), ReadFault>
         (map string_bytes r.0.notes.items) r.1.items) }
     ensures text { IfOk result (λ r. bytes.now ≡ export_text (spec_view r.0.spec)
         (archive_view r.0.archive) (map string_bytes r.0.notes.items)) }
-    ensures found { (rules : List PlainRule) (vs : List PlainKeyed) (a : PlainArchive)
-        (notes : List (List ℕ)) (file : List ℕ) → ArchiveOf vs a → FullAs rules vs notes file
-        → ArePartsOf rules a notes bytes.now
-        → Finds result (λ r. (spec_view r.0.spec ≡ rules) × (archive_view r.0.archive ≡ a)
-        × (map string_bytes r.0.notes.items ≡ notes)) }
+    ensures found { (c : Contents) (a : PlainArchive) (file : List ℕ)
+        → ArchiveOf c.versions a → FullAs c file → ArePartsOf c.rules a c.notes bytes.now
+        → Finds result (λ r. (spec_view r.0.spec ≡ c.rules) × (archive_view r.0.archive ≡ a)
+        × (map string_bytes r.0.notes.items ≡ c.notes)) }
 {
     let kept = read_parts(alloc, bytes)?;
     match kept_file(alloc, &kept.spec, &kept.archive, &kept.notes, bytes)? {
@@ -189,7 +194,11 @@ fn kept_file(
         (archive_view archive.now) (map string_bytes notes.now))) }
     ensures complete { (vs : List PlainKeyed) (file : List ℕ)
         → ArchiveOf vs (archive_view archive.now)
-        → FullAs (spec_view spec.now) vs (map string_bytes notes.now) file
+        → FullAs (record {
+          rules = spec_view spec.now;
+          versions = vs;
+          notes = map string_bytes notes.now;
+        }) file
         → bytes.now ≡ export_text (spec_view spec.now) (archive_view archive.now)
         (map string_bytes notes.now)
         → IfOk result (λ o. IfNone o ⊥) }
@@ -211,7 +220,11 @@ fn file_with_notes(
         (archive_view archive.now) (map string_bytes notes.now) v.items)) }
     ensures complete { (vs : List PlainKeyed) (file : List ℕ)
         → ArchiveOf vs (archive_view archive.now)
-        → FullAs (spec_view spec.now) vs (map string_bytes notes.now) file
+        → FullAs (record {
+          rules = spec_view spec.now;
+          versions = vs;
+          notes = map string_bytes notes.now;
+        }) file
         → IfOk result (λ o. IfNone o ⊥) }
 {
     let n = archive.n();

@@ -19,6 +19,7 @@ use Rattle.version_notes.specs.Parts.{last, is_marked, parts_in, parts_behind}
 use Rattle.version_notes.specs.Reader.{AreBehind}
 use Rattle.version_notes.specs.declared.parts.Parts.{Parts}
 use Rattle.version_notes.proofs.Spelled.{parts_found}
+use Rattle.noted_file.specs.Contents.{Contents}
 use Rattle.noted_file.specs.Full.{Noted, FullOf, FullAs, Full}
 
 -- ---- files without notes
@@ -49,51 +50,51 @@ noted-core IsCore n notes bytes e f =
     subst IsCore same f.is
 
 -- versions and notes have one file
-pub file-one : (rules : List PlainRule) (vs : List PlainKeyed) (notes : List (List ℕ)) (a b : List ℕ) → FullOf rules vs notes a → FullOf rules vs notes b → a ≡ b
-file-one rules vs notes a b f g = f.spelled ∙ ap (λ (core : List ℕ). core ++ notes_part notes) (one_file rules vs f.core g.core f.is g.is) ∙ sym g.spelled
+pub file-one : (c : Contents) (a b : List ℕ) → FullOf c a → FullOf c b → a ≡ b
+file-one c a b f g = f.spelled ∙ ap (λ (core : List ℕ). core ++ notes_part c.notes) (one_file c.rules c.versions f.core g.core f.is g.is) ∙ sym g.spelled
 
 -- ---- parts
 
 unmarked : (rules : List PlainRule) (vs : List PlainKeyed) (core : List ℕ) → FileOf rules vs core → is_marked core ≡ false
 unmarked rules vs core f = false_from_ne_true (bytes_eq mark (last 8 core)) (λ e. file-unmarked rules vs core f (sym ((bytes_eq-Decides mark (last 8 core)).0 e)))
 
-pub as_file : (rules : List PlainRule) (vs : List PlainKeyed) (notes : List (List ℕ)) (bytes : List ℕ) → FullAs rules vs notes bytes → FullOf rules vs notes bytes
-as_file rules vs notes bytes f = record { core = f.core; is = f.is.file; as_many = f.as_many; each = f.each; spelled = f.spelled }
+pub as_file : (c : Contents) (bytes : List ℕ) → FullAs c bytes → FullOf c bytes
+as_file c bytes f = record { core = f.core; is = f.is.file; as_many = f.as_many; each = f.each; spelled = f.spelled }
 
-are-notes : (rules : List PlainRule) (vs : List PlainKeyed) (notes : List (List ℕ)) (bytes : List ℕ) → FullOf rules vs notes bytes → AreNotes notes
-are-notes rules vs notes bytes f = (let few = f.is.has.count in let count = f.is.is.count in let many = f.as_many in record { each = f.each; few = omega (arith, few, count, many) })
+are-notes : (c : Contents) (bytes : List ℕ) → FullOf c bytes → AreNotes c.notes
+are-notes c bytes f = (let few = f.is.has.count in let count = f.is.is.count in let many = f.as_many in record { each = f.each; few = omega (arith, few, count, many) })
 
-file-parts : (rules : List PlainRule) (vs : List PlainKeyed) (notes : List (List ℕ)) (bytes : List ℕ) (f : FullOf rules vs notes bytes) → parts_in bytes ≡ Some (parts_behind f.core notes)
-file-parts rules vs notes bytes f = ap parts_in f.spelled ∙ parts_found f.core notes (unmarked rules vs f.core f.is) (are-notes rules vs notes bytes f)
+file-parts : (c : Contents) (bytes : List ℕ) (f : FullOf c bytes) → parts_in bytes ≡ Some (parts_behind f.core c.notes)
+file-parts c bytes f = ap parts_in f.spelled ∙ parts_found f.core c.notes (unmarked c.rules c.versions f.core f.is) (are-notes c bytes f)
 
-pub full-parts : (rules : List PlainRule) (vs : List PlainKeyed) (notes : List (List ℕ)) (bytes : List ℕ) (f : FullAs rules vs notes bytes) → parts_in bytes ≡ Some (parts_behind f.core notes)
+pub full-parts : (c : Contents) (bytes : List ℕ) (f : FullAs c bytes) → parts_in bytes ≡ Some (parts_behind f.core c.notes)
 unfolding as_file
-full-parts rules vs notes bytes f = file-parts rules vs notes bytes (as_file rules vs notes bytes f)
+full-parts c bytes f = file-parts c bytes (as_file c bytes f)
 
-pub full-notes : (rules : List PlainRule) (vs : List PlainKeyed) (notes : List (List ℕ)) (bytes : List ℕ) → FullAs rules vs notes bytes → AreNotes notes
-full-notes rules vs notes bytes f = are-notes rules vs notes bytes (as_file rules vs notes bytes f)
+pub full-notes : (c : Contents) (bytes : List ℕ) → FullAs c bytes → AreNotes c.notes
+full-notes c bytes f = are-notes c bytes (as_file c bytes f)
 
-pub full-part : (rules : List PlainRule) (vs : List PlainKeyed) (notes : List (List ℕ)) (bytes : List ℕ) (parts : Parts) (f : FullAs rules vs notes bytes) → parts_in bytes ≡ Some parts → parts ≡ parts_behind f.core notes
-full-part rules vs notes bytes parts f e = some_is parts (parts_behind f.core notes) (sym e ∙ full-parts rules vs notes bytes f)
+pub full-part : (c : Contents) (bytes : List ℕ) (parts : Parts) (f : FullAs c bytes) → parts_in bytes ≡ Some parts → parts ≡ parts_behind f.core c.notes
+full-part c bytes parts f e = some_is parts (parts_behind f.core c.notes) (sym e ∙ full-parts c bytes f)
 
 -- the front of so many bytes is the core
-full-front : (rules : List PlainRule) (vs : List PlainKeyed) (notes : List (List ℕ)) (bytes : List ℕ) (parts : Parts) (f : FullAs rules vs notes bytes) → parts_in bytes ≡ Some parts → take parts.core bytes ≡ f.core
-full-front rules vs notes bytes parts f e = ap (λ (p : Parts). take p.core bytes) (full-part rules vs notes bytes parts f e) ∙ ap (take (length f.core)) f.spelled ∙ take_at f.core (notes_part notes) (length f.core) refl
+full-front : (c : Contents) (bytes : List ℕ) (parts : Parts) (f : FullAs c bytes) → parts_in bytes ≡ Some parts → take parts.core bytes ≡ f.core
+full-front c bytes parts f e = ap (λ (p : Parts). take p.core bytes) (full-part c bytes parts f e) ∙ ap (take (length f.core)) f.spelled ∙ take_at f.core (notes_part c.notes) (length f.core) refl
 
-pub full-core : (rules : List PlainRule) (vs : List PlainKeyed) (notes : List (List ℕ)) (bytes : List ℕ) (parts : Parts) → FullAs rules vs notes bytes → parts_in bytes ≡ Some parts → SoundAs rules vs (take parts.core bytes)
-full-core rules vs notes bytes parts f e = subst (SoundAs rules vs) (sym (full-front rules vs notes bytes parts f e)) f.is
+pub full-core : (c : Contents) (bytes : List ℕ) (parts : Parts) → FullAs c bytes → parts_in bytes ≡ Some parts → SoundAs c.rules c.versions (take parts.core bytes)
+full-core c bytes parts f e = subst (SoundAs c.rules c.versions) (sym (full-front c bytes parts f e)) f.is
 
 -- what stands behind it
-pub full-behind : (rules : List PlainRule) (vs : List PlainKeyed) (notes : List (List ℕ)) (bytes : List ℕ) (parts : Parts) → FullAs rules vs notes bytes → parts_in bytes ≡ Some parts → AreBehind parts (length vs) bytes notes
-full-behind rules vs notes bytes parts f e = record { count = f.as_many; each = f.each; bytes = f.spelled ∙ ap (λ (core : List ℕ). core ++ notes_part notes) (sym (full-front rules vs notes bytes parts f e)) }
+pub full-behind : (c : Contents) (bytes : List ℕ) (parts : Parts) → FullAs c bytes → parts_in bytes ≡ Some parts → AreBehind parts (length c.versions) bytes c.notes
+full-behind c bytes parts f e = record { count = f.as_many; each = f.each; bytes = f.spelled ∙ ap (λ (core : List ℕ). core ++ notes_part c.notes) (sym (full-front c bytes parts f e)) }
 
 -- a sound core, and the notes behind it
-pub behind-full : (rules : List PlainRule) (vs : List PlainKeyed) (notes : List (List ℕ)) (bytes : List ℕ) (parts : Parts) → SoundAs rules vs (take parts.core bytes) → AreBehind parts (length vs) bytes notes → FullAs rules vs notes bytes
-behind-full rules vs notes bytes parts s b = record { core = take parts.core bytes; is = s; as_many = b.count; each = b.each; spelled = b.bytes }
+pub behind-full : (c : Contents) (bytes : List ℕ) (parts : Parts) → SoundAs c.rules c.versions (take parts.core bytes) → AreBehind parts (length c.versions) bytes c.notes → FullAs c bytes
+behind-full c bytes parts s b = record { core = take parts.core bytes; is = s; as_many = b.count; each = b.each; spelled = b.bytes }
 
 pub none_some : {A : Type 0} (o : Option A) (x : A) → o ≡ None → o ≡ Some x → ⊥
 none_some (Some y) x e f = absurd cc
 none_some None x e f = absurd cc
 
 pub unparted : (bytes : List ℕ) → parts_in bytes ≡ None → Full bytes → ⊥
-unparted bytes e f = none_some (parts_in bytes) (parts_behind f.is.core f.notes) e (full-parts f.rules f.versions f.notes bytes f.is)
+unparted bytes e f = none_some (parts_in bytes) (parts_behind f.is.core f.contents.notes) e (full-parts f.contents bytes f.is)

@@ -15,6 +15,7 @@ use Rattle.version_notes.specs.Parts.{parts_behind, parts_in}
 use Rattle.version_notes.specs.Reader.{at_first, file_of}
 use Rattle.version_notes.specs.Reading.{notes_from}
 use Rattle.version_notes.specs.declared.parts.Parts.{Parts}
+use Rattle.noted_file.specs.Contents.{Contents}
 use Rattle.noted_file.specs.Full.{FullAs}
 use Rattle.xarch_words.specs.Refusal.{Refusal, no_file, refused}
 use Rattle.xarch_parts.specs.Archives.{ArchiveIs, IsFrontOf, PartsAre}
@@ -53,40 +54,40 @@ length-there files name bytes there = ap (λ o. and_then (or_refuse o (no_file n
 -- ---- a sound archive
 
 -- The archive of these versions and notes is what the header and the parts in front of it say.
-pub record IsSeen (told : Option Files) (files : Files) (name : List ℕ) (front : Front) (rules : List PlainRule) (vs : List PlainKeyed) (notes : List (List ℕ)) (core : List ℕ) : Type 0 where
+pub record IsSeen (told : Option Files) (files : Files) (name : List ℕ) (front : Front) (c : Contents) (core : List ℕ) : Type 0 where
   pub at : TellsFront told name (header_view front.header).length core
   pub heads : IsHeaderOf (header_view front.header) core
-  pub sound : SoundAs rules vs core
-  pub same_rules : (header_view front.header).rules ≡ rules
-  pub versions : (header_view front.header).versions ≡ length vs
-  pub read : notes_from (at_first name front.parts (header_view front.header).versions) (file_of files name) ≡ Some notes
+  pub sound : SoundAs c.rules c.versions core
+  pub same_rules : (header_view front.header).rules ≡ c.rules
+  pub versions : (header_view front.header).versions ≡ length c.versions
+  pub read : notes_from (at_first name front.parts (header_view front.header).versions) (file_of files name) ≡ Some c.notes
 
 -- From what is known of all archive files with notes: where their parts stand, the header in front, and how their notes are read.
-module _ (has_parts : (rules : List PlainRule) (vs : List PlainKeyed) (notes : List (List ℕ)) (bytes : List ℕ) (full : FullAs rules vs notes bytes) → parts_in bytes ≡ Some (parts_behind full.core notes))
+module _ (has_parts : (c : Contents) (bytes : List ℕ) (full : FullAs c bytes) → parts_in bytes ≡ Some (parts_behind full.core c.notes))
     (fronted : (rules : List PlainRule) (vs : List PlainKeyed) (bytes : List ℕ) → closed (canonical rules) ≡ Ok rules → FileOf rules vs bytes → header bytes ≡ Some (rules, length vs))
-    (come : (rules : List PlainRule) (vs : List PlainKeyed) (notes : List (List ℕ)) (bytes name : List ℕ) (parts : Parts) → FullAs rules vs notes bytes → parts_in bytes ≡ Some parts → notes_from (at_first name parts (length vs)) bytes ≡ Some notes)
+    (come : (c : Contents) (bytes name : List ℕ) (parts : Parts) → FullAs c bytes → parts_in bytes ≡ Some parts → notes_from (at_first name parts (length c.versions)) bytes ≡ Some c.notes)
     (files : Files) (name : List ℕ) (told : Option Files) (tells : told ≡ Some files) (front : Front) (are : PartsAre files name front.parts) (stands : IsFrontOf files name (header_view front.header))
-    (rules : List PlainRule) (vs : List PlainKeyed) (notes : List (List ℕ)) (a : ArchiveIs files name rules vs notes) where
-  sound-front : SoundAs rules vs stands.core
-  sound-front = core-sound has_parts files name rules vs notes a (header_view front.header).length stands.core stands.of
+    (c : Contents) (a : ArchiveIs files name c) where
+  sound-front : SoundAs c.rules c.versions stands.core
+  sound-front = core-sound has_parts files name c a (header_view front.header).length stands.core stands.of
 
-  front-is : ◌≡◌ {A = List PlainRule × ℕ} (rules, length vs) ((header_view front.header).rules, (header_view front.header).versions)
+  front-is : ◌≡◌ {A = List PlainRule × ℕ} (c.rules, length c.versions) ((header_view front.header).rules, (header_view front.header).versions)
   front-is =
       let h = header_view front.header in
-      let one : ◌≡◌ {A = Option (List PlainRule × ℕ)} (Some (rules, length vs)) (Some (h.rules, h.versions)) = sym (fronted rules vs stands.core sound-front.specification sound-front.file) ∙ ap (option_map (λ (x : (List PlainRule × ℕ) × List ℕ). x.0)) stands.is in
-      one-found (rules, length vs) (h.rules, h.versions) one
+      let one : ◌≡◌ {A = Option (List PlainRule × ℕ)} (Some (c.rules, length c.versions)) (Some (h.rules, h.versions)) = sym (fronted c.rules c.versions stands.core sound-front.specification sound-front.file) ∙ ap (option_map (λ (x : (List PlainRule × ℕ) × List ℕ). x.0)) stands.is in
+      one-found (c.rules, length c.versions) (h.rules, h.versions) one
 
-  versions-are : (header_view front.header).versions ≡ length vs
+  versions-are : (header_view front.header).versions ≡ length c.versions
   versions-are = sym (ap (λ (x : List PlainRule × ℕ). x.1) front-is)
 
   -- the notes of the archive are those that are read
-  notes-read : notes_from (at_first name front.parts (header_view front.header).versions) (file_of files name) ≡ Some notes
+  notes-read : notes_from (at_first name front.parts (header_view front.header).versions) (file_of files name) ≡ Some c.notes
   notes-read =
       let same : are.bytes ≡ a.bytes = same-file files name are.bytes a.bytes are.there a.there in
       let parted : parts_in a.bytes ≡ Some front.parts = ap parts_in (sym same) ∙ are.are in
-      (λ k. notes_from (at_first name front.parts (versions-are k)) (bytes_or_none (a.there k))) ∙ come rules vs notes a.bytes name front.parts a.full parted
+      (λ k. notes_from (at_first name front.parts (versions-are k)) (bytes_or_none (a.there k))) ∙ come c a.bytes name front.parts a.full parted
 
-  pub seen : IsSeen told files name front rules vs notes stands.core
+  pub seen : IsSeen told files name front c stands.core
   seen = record {
     at = front-told files told name (header_view front.header) tells stands;
     heads = header-is files told name (header_view front.header) tells stands;

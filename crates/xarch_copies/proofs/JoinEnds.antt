@@ -19,6 +19,7 @@ use Rattle.version_notes.specs.Parts.{parts_behind, parts_in}
 use Rattle.version_notes.specs.Reader.{at_first}
 use Rattle.version_notes.specs.Reading.{notes_from}
 use Rattle.version_notes.specs.declared.parts.Parts.{Parts}
+use Rattle.noted_file.specs.Contents.{Contents, fronted}
 use Rattle.noted_file.specs.Full.{FullAs}
 use Rattle.xarch_words.specs.Commands as command
 use Rattle.xarch_words.specs.Refusal.{archive, versions, Refusal, no_file, exists, damaged, limit, spec_differs, PlainFault, refused}
@@ -32,7 +33,7 @@ use Rattle.xarch_parts.specs.Inputs.{file_length, read_in}
 use Rattle.xarch_parts.specs.Outcome.{Outcome, and_then, or_refuse}
 use Rattle.xarch_parts.specs.Readings.{core_in, front_in, front_of_core, parts_of}
 use Rattle.xarch_parts.specs.declared.fronts.Front.{Front}
-use Rattle.xarch_meanings.specs.Join.{JoinsFrom, are_joinable, join_checked, room_for, same_keys}
+use Rattle.xarch_meanings.specs.Join.{JoinsFrom, are_joinable, join_checked, joined, room_for, same_keys}
 use Rattle.xarch_meanings.specs.Plausible.{MayBe, MayJoin, join_input}
 use Rattle.xarch_copies.specs.Cutting.{IsUnsound}
 use Rattle.xarch_copies.specs.Joining.{AreFound, BothNotesEnd, Comes, JoinEnds, RecordsEnd, fronts_in, fronts_read}
@@ -87,7 +88,7 @@ both-undamaged (Err q) y a m first second e = (let same : q ≡ damaged m = cc i
 
 -- both headers, where they go together
 abbrev together : List ℕ → List ℕ → List PlainRule × ℕ → List PlainRule × ℕ → Result ((List PlainRule × ℕ) × (List PlainRule × ℕ)) Refusal
-together one two h g = and_then (are_joinable one two h.0 h.1 g.0 g.1) (λ _. Ok (h, g))
+together one two h g = and_then (are_joinable one two h g) (λ _. Ok (h, g))
 
 -- those that do not are not damaged by that
 joinable-undamaged : (one two m : List ℕ) (h g : List PlainRule × ℕ) → together one two h g ≡ Err (damaged m) → ⊥
@@ -133,29 +134,29 @@ not-damaged : (m : List ℕ) → ◌≡◌ {A = Result Outcome Refusal} (Err (li
 not-damaged m e = absurd cc
 
 -- From what is known of all archive files with notes: where their parts stand, and the header in front.
-module _ (has_parts : (rules : List PlainRule) (vs : List PlainKeyed) (notes : List (List ℕ)) (bytes : List ℕ) (full : FullAs rules vs notes bytes) → parts_in bytes ≡ Some (parts_behind full.core notes))
-    (fronted : (rules : List PlainRule) (vs : List PlainKeyed) (bytes : List ℕ) → closed (canonical rules) ≡ Ok rules → FileOf rules vs bytes → header bytes ≡ Some (rules, length vs))
+module _ (has_parts : (c : Contents) (bytes : List ℕ) (full : FullAs c bytes) → parts_in bytes ≡ Some (parts_behind full.core c.notes))
+    (headed : (rules : List PlainRule) (vs : List PlainKeyed) (bytes : List ℕ) → closed (canonical rules) ≡ Ok rules → FileOf rules vs bytes → header bytes ≡ Some (rules, length vs))
     (files : Files) where
   -- a sound archive is not damaged in front
-  front-whole : (name m : List ℕ) (rules : List PlainRule) (vs : List PlainKeyed) (notes : List (List ℕ)) → ArchiveIs files name rules vs notes → read_in files name (front_in name) ≡ Err (damaged m) → ⊥
-  front-whole name m rules vs notes a e =
-      let wrong : ◌≡◌ {A = Result (List PlainRule × ℕ) Refusal} (Ok (rules, length vs)) (Err (damaged m)) = sym (front-sound has_parts files name rules vs notes a fronted) ∙ e in
+  front-whole : (name m : List ℕ) (c : Contents) → ArchiveIs files name c → read_in files name (front_in name) ≡ Err (damaged m) → ⊥
+  front-whole name m c a e =
+      let wrong : ◌≡◌ {A = Result (List PlainRule × ℕ) Refusal} (Ok (c.rules, length c.versions)) (Err (damaged m)) = sym (front-sound has_parts files name c a headed) ∙ e in
       absurd cc
 
   module _ (one two new : List ℕ) where
     -- over sound archives their rules and the numbers of their versions are read
-    input-sound : (rules : List PlainRule) (vs : List PlainKeyed) (notes : List (List ℕ)) (others : List PlainRule) (us : List PlainKeyed) (more : List (List ℕ)) → ArchiveIs files one rules vs notes → ArchiveIs files two others us more
-        → join_input files one two new ≡ and_then (join_checked files one two new rules (length vs) others (length us)) (λ _. Ok ((rules, length vs), (others, length us)))
-    input-sound rules vs notes others us more a b =
-        let h : List PlainRule × ℕ = (rules, length vs) in
-        let g : List PlainRule × ℕ = (others, length us) in
-        let first = front-sound has_parts files one rules vs notes a fronted in
-        let second = front-sound has_parts files two others us more b fronted in
+    input-sound : (c d : Contents) → ArchiveIs files one c → ArchiveIs files two d
+        → join_input files one two new ≡ and_then (join_checked files one two new (fronted c) (fronted d)) (λ _. Ok (fronted c, fronted d))
+    input-sound c d a b =
+        let h : List PlainRule × ℕ = (c.rules, length c.versions) in
+        let g : List PlainRule × ℕ = (d.rules, length d.versions) in
+        let first = front-sound has_parts files one c a headed in
+        let second = front-sound has_parts files two d b headed in
         and_then-Ok (file_length files one) (λ _. and_then (file_length files two) (λ _. and_then (free_in files new) (λ _. fronts_in files one two))) (length a.bytes) _ (length-there files one a.bytes a.there)
         (and_then-Ok (file_length files two) (λ _. and_then (free_in files new) (λ _. fronts_in files one two)) (length b.bytes) _ (length-there files two b.bytes b.there)
         (ap (λ (x : Result (List PlainRule × ℕ) Refusal). and_then (free_in files new) (λ _. and_then x (λ h. and_then (read_in files two (front_in two)) (together one two h)))) first
         ∙ ap (λ (x : Result (List PlainRule × ℕ) Refusal). and_then (free_in files new) (λ _. and_then x (together one two h))) second
-        ∙ checked-once (free_in files new) (are_joinable one two rules (length vs) others (length us)) (Ok (h, g))))
+        ∙ checked-once (free_in files new) (are_joinable one two h g) (Ok (h, g))))
 
     -- damage that is met first is of a header
     damaged-front : (m : List ℕ) → join_input files one two new ≡ Err (damaged m) → (read_in files one (front_in one) ≡ Err (damaged m)) ⊎ (read_in files two (front_in two) ≡ Err (damaged m))
@@ -166,18 +167,18 @@ module _ (has_parts : (rules : List PlainRule) (vs : List PlainKeyed) (notes : L
         (undamaged-then (file_length files one) (and_then (file_length files two) (λ _. and_then (free_in files new) (λ _. fronts_in files one two))) m (length-undamaged (map.get files one) one m) e)))
 
     -- and of no sound archive
-    first-whole : (rules : List PlainRule) (vs : List PlainKeyed) (notes : List (List ℕ)) → ArchiveIs files one rules vs notes → join_input files one two new ≡ Err (damaged one) → ⊥
-    first-whole rules vs notes a e =
+    first-whole : (c : Contents) → ArchiveIs files one c → join_input files one two new ≡ Err (damaged one) → ⊥
+    first-whole c a e =
         elim (damaged-front one e) [
-          | inl at ↦ front-whole one one rules vs notes a at
-          | inr at ↦ front-whole one one rules vs notes a (subst (λ (n : List ℕ). read_in files n (front_in n) ≡ Err (damaged one)) (sym (front-names files two one at)) at)
+          | inl at ↦ front-whole one one c a at
+          | inr at ↦ front-whole one one c a (subst (λ (n : List ℕ). read_in files n (front_in n) ≡ Err (damaged one)) (sym (front-names files two one at)) at)
         ]
 
-    second-whole : (rules : List PlainRule) (vs : List PlainKeyed) (notes : List (List ℕ)) → ArchiveIs files two rules vs notes → join_input files one two new ≡ Err (damaged two) → ⊥
-    second-whole rules vs notes a e =
+    second-whole : (c : Contents) → ArchiveIs files two c → join_input files one two new ≡ Err (damaged two) → ⊥
+    second-whole c a e =
         elim (damaged-front two e) [
-          | inl at ↦ front-whole two two rules vs notes a (subst (λ (n : List ℕ). read_in files n (front_in n) ≡ Err (damaged two)) (sym (front-names files one two at)) at)
-          | inr at ↦ front-whole two two rules vs notes a at
+          | inl at ↦ front-whole two two c a (subst (λ (n : List ℕ). read_in files n (front_in n) ≡ Err (damaged two)) (sym (front-names files one two at)) at)
+          | inr at ↦ front-whole two two c a at
         ]
 
     -- a refusal before the records are looked at
@@ -185,122 +186,122 @@ module _ (has_parts : (rules : List PlainRule) (vs : List PlainKeyed) (notes : L
     unfolding MayBe
     may-refuse q e = record {
       whatever = subst (λ x. GoesOn x (λ _. MayJoin files one two new) (Err q)) (sym e) refl;
-      first = λ rules vs notes a w. first-whole rules vs notes a (e ∙ refused-as q (damaged one) (same-refusal q (damaged one) w));
-      second = λ rules vs notes a w. second-whole rules vs notes a (e ∙ refused-as q (damaged two) (same-refusal q (damaged two) w));
-      sound = λ rules vs notes others us more a b.
-          let none = checked-refused (join_checked files one two new rules (length vs) others (length us)) ((rules, length vs), (others, length us)) q (sym (input-sound rules vs notes others us more a b) ∙ e) in
-          subst (λ x. GoesOn x (λ _. Stores files new rules (vs ++ us) (notes ++ more)) (Err q)) (sym none) refl;
+      first = λ c a w. first-whole c a (e ∙ refused-as q (damaged one) (same-refusal q (damaged one) w));
+      second = λ c a w. second-whole c a (e ∙ refused-as q (damaged two) (same-refusal q (damaged two) w));
+      sound = λ c d a b.
+          let none = checked-refused (join_checked files one two new (fronted c) (fronted d)) (fronted c, fronted d) q (sym (input-sound c d a b) ∙ e) in
+          subst (λ x. GoesOn x (λ _. Stores files new (joined c d)) (Err q)) (sym none) refl;
     }
 
     module _ (h : (List PlainRule × ℕ) × (List PlainRule × ℕ)) (read : join_input files one two new ≡ Ok h) where
-      checked : (rules : List PlainRule) (vs : List PlainKeyed) (notes : List (List ℕ)) (others : List PlainRule) (us : List PlainKeyed) (more : List (List ℕ)) → ArchiveIs files one rules vs notes → ArchiveIs files two others us more → join_checked files one two new rules (length vs) others (length us) ≡ Ok tt
-      checked rules vs notes others us more a b = checked-given (join_checked files one two new rules (length vs) others (length us)) ((rules, length vs), (others, length us)) h (sym (input-sound rules vs notes others us more a b) ∙ read)
+      checked : (c d : Contents) → ArchiveIs files one c → ArchiveIs files two d → join_checked files one two new (fronted c) (fronted d) ≡ Ok tt
+      checked c d a b = checked-given (join_checked files one two new (fronted c) (fronted d)) (fronted c, fronted d) h (sym (input-sound c d a b) ∙ read)
 
       -- what comes of the rest
-      goes-on : (rules : List PlainRule) (vs : List PlainKeyed) (notes : List (List ℕ)) (others : List PlainRule) (us : List PlainKeyed) (more : List (List ℕ)) (r : Result Outcome Refusal) → ArchiveIs files one rules vs notes → ArchiveIs files two others us more → Stores files new rules (vs ++ us) (notes ++ more) r
-          → JoinsFrom files one two new rules vs notes others us more r
-      goes-on rules vs notes others us more r a b s = subst (λ x. GoesOn x (λ _. Stores files new rules (vs ++ us) (notes ++ more)) r) (sym (checked rules vs notes others us more a b)) s
+      goes-on : (c d : Contents) (r : Result Outcome Refusal) → ArchiveIs files one c → ArchiveIs files two d → Stores files new (joined c d) r
+          → JoinsFrom files one two new c d r
+      goes-on c d r a b s = subst (λ x. GoesOn x (λ _. Stores files new (joined c d)) r) (sym (checked c d a b)) s
 
       -- the new file comes
-      may-come : (bytes : List ℕ) → ((rules : List PlainRule) (vs : List PlainKeyed) (notes : List (List ℕ)) (others : List PlainRule) (us : List PlainKeyed) (more : List (List ℕ)) → ArchiveIs files one rules vs notes → ArchiveIs files two others us more → FullAs rules (vs ++ us) (notes ++ more) bytes)
+      may-come : (bytes : List ℕ) → ((c d : Contents) → ArchiveIs files one c → ArchiveIs files two d → FullAs (joined c d) bytes)
           → MayBe files (command.join one two new) (Ok (record { files = map.insert files new bytes; output = [] }))
       unfolding MayBe
       may-come bytes full =
           let o : Outcome = record { files = map.insert files new bytes; output = [] } in
           record {
             whatever = subst (λ x. GoesOn x (λ _. MayJoin files one two new) (Ok o)) (sym read) (inr (inr (inr (record { bytes = bytes; is = refl }))));
-            first = λ rules vs notes a w. not-refused o (damaged one) w;
-            second = λ rules vs notes a w. not-refused o (damaged two) w;
-            sound = λ rules vs notes others us more a b. goes-on rules vs notes others us more (Ok o) a b (inl (record { bytes = bytes; full = full rules vs notes others us more a b; is = refl }));
+            first = λ c a w. not-refused o (damaged one) w;
+            second = λ c a w. not-refused o (damaged two) w;
+            sound = λ c d a b. goes-on c d (Ok o) a b (inl (record { bytes = bytes; full = full c d a b; is = refl }));
           }
 
-      first-damaged : ((rules : List PlainRule) (vs : List PlainKeyed) (notes : List (List ℕ)) → ¬ ArchiveIs files one rules vs notes) → MayBe files (command.join one two new) (Err (damaged one))
+      first-damaged : ((c : Contents) → ¬ ArchiveIs files one c) → MayBe files (command.join one two new) (Err (damaged one))
       unfolding MayBe
       first-damaged none = record {
         whatever = subst (λ x. GoesOn x (λ _. MayJoin files one two new) (Err (damaged one))) (sym read) (inl refl);
-        first = λ rules vs notes a w. none rules vs notes a;
-        second = λ rules vs notes a w. none rules vs notes (subst (λ (n : List ℕ). ArchiveIs files n rules vs notes) (sym (named one two w)) a);
-        sound = λ rules vs notes others us more a b. absurd (none rules vs notes a);
+        first = λ c a w. none c a;
+        second = λ c a w. none c (subst (λ (n : List ℕ). ArchiveIs files n c) (sym (named one two w)) a);
+        sound = λ c d a b. absurd (none c a);
       }
 
-      second-damaged : ((rules : List PlainRule) (vs : List PlainKeyed) (notes : List (List ℕ)) → ¬ ArchiveIs files two rules vs notes) → MayBe files (command.join one two new) (Err (damaged two))
+      second-damaged : ((c : Contents) → ¬ ArchiveIs files two c) → MayBe files (command.join one two new) (Err (damaged two))
       unfolding MayBe
       second-damaged none = record {
         whatever = subst (λ x. GoesOn x (λ _. MayJoin files one two new) (Err (damaged two))) (sym read) (inr (inl refl));
-        first = λ rules vs notes a w. none rules vs notes (subst (λ (n : List ℕ). ArchiveIs files n rules vs notes) (sym (named two one w)) a);
-        second = λ rules vs notes a w. none rules vs notes a;
-        sound = λ rules vs notes others us more a b. absurd (none others us more b);
+        first = λ c a w. none c (subst (λ (n : List ℕ). ArchiveIs files n c) (sym (named two one w)) a);
+        second = λ c a w. none c a;
+        sound = λ c d a b. absurd (none d b);
       }
 
-      may-be-long : ((rules : List PlainRule) (vs : List PlainKeyed) (notes : List (List ℕ)) (others : List PlainRule) (us : List PlainKeyed) (more : List (List ℕ)) → ArchiveIs files one rules vs notes → ArchiveIs files two others us more → (bytes : List ℕ) → ¬ FileOf rules (vs ++ us) bytes)
+      may-be-long : ((c d : Contents) → ArchiveIs files one c → ArchiveIs files two d → (bytes : List ℕ) → ¬ FileOf c.rules (c.versions ++ d.versions) bytes)
           → MayBe files (command.join one two new) (Err (limit archive 274877906944))
       unfolding MayBe
       may-be-long none =
           let r : Result Outcome Refusal = Err (limit archive 274877906944) in
           record {
             whatever = subst (λ x. GoesOn x (λ _. MayJoin files one two new) r) (sym read) (inr (inr (inl refl)));
-            first = λ rules vs notes a w. not-damaged one w;
-            second = λ rules vs notes a w. not-damaged two w;
-            sound = λ rules vs notes others us more a b. goes-on rules vs notes others us more r a b (inr (record { none = none rules vs notes others us more a b; is = refl }));
+            first = λ c a w. not-damaged one w;
+            second = λ c a w. not-damaged two w;
+            sound = λ c d a b. goes-on c d r a b (inr (record { none = none c d a b; is = refl }));
           }
 
     -- ---- by what stands in front of both
 
     -- And of how their notes are read.
-    module _ (come : (rules : List PlainRule) (vs : List PlainKeyed) (notes : List (List ℕ)) (bytes name : List ℕ) (parts : Parts) → FullAs rules vs notes bytes → parts_in bytes ≡ Some parts → notes_from (at_first name parts (length vs)) bytes ≡ Some notes)
+    module _ (come : (c : Contents) (bytes name : List ℕ) (parts : Parts) → FullAs c bytes → parts_in bytes ≡ Some parts → notes_from (at_first name parts (length c.versions)) bytes ≡ Some c.notes)
         (told : Option Files) (tells : told ≡ Some files) (both : Both) (found : AreFound one two told both) (read : join_input files one two new ≡ Ok (fronts_read both)) where
       abbrev core-of : (name : List ℕ) (front : Front) → StandsBefore told name front → List ℕ
       core-of name front s = (s.stands files tells).core
 
-      first-seen : (rules : List PlainRule) (vs : List PlainKeyed) (notes : List (List ℕ)) → ArchiveIs files one rules vs notes → IsSeen told files one both.one rules vs notes (core-of one both.one found.first)
-      first-seen rules vs notes a = seen has_parts fronted come files one told tells both.one (found.first.are files tells) (found.first.stands files tells) rules vs notes a
+      first-seen : (c : Contents) → ArchiveIs files one c → IsSeen told files one both.one c (core-of one both.one found.first)
+      first-seen c a = seen has_parts headed come files one told tells both.one (found.first.are files tells) (found.first.stands files tells) c a
 
-      second-seen : (rules : List PlainRule) (vs : List PlainKeyed) (notes : List (List ℕ)) → ArchiveIs files two rules vs notes → IsSeen told files two both.two rules vs notes (core-of two both.two found.second)
-      second-seen rules vs notes a = seen has_parts fronted come files two told tells both.two (found.second.are files tells) (found.second.stands files tells) rules vs notes a
+      second-seen : (c : Contents) → ArchiveIs files two c → IsSeen told files two both.two c (core-of two both.two found.second)
+      second-seen c a = seen has_parts headed come files two told tells both.two (found.second.are files tells) (found.second.stands files tells) c a
 
-      first-archive : (rules : List PlainRule) (vs : List PlainKeyed) (notes : List (List ℕ)) → ArchiveIs files one rules vs notes → IsArchive told one (header_view both.one.header) rules vs
-      first-archive rules vs notes a = (let s = first-seen rules vs notes a in record { bytes = core-of one both.one found.first; tells = s.at; header = s.heads; sound = s.sound })
+      first-archive : (c : Contents) → ArchiveIs files one c → IsArchive told one (header_view both.one.header) c.rules c.versions
+      first-archive c a = (let s = first-seen c a in record { bytes = core-of one both.one found.first; tells = s.at; header = s.heads; sound = s.sound })
 
-      module _ (rules : List PlainRule) (vs : List PlainKeyed) (notes : List (List ℕ)) (others : List PlainRule) (us : List PlainKeyed) (more : List (List ℕ)) (a : ArchiveIs files one rules vs notes) (b : ArchiveIs files two others us more) where
+      module _ (held d : Contents) (a : ArchiveIs files one held) (b : ArchiveIs files two d) where
         -- both have the same rules
-        second-archive : IsArchive told two (header_view both.two.header) rules us
+        second-archive : IsArchive told two (header_view both.two.header) held.rules d.versions
         second-archive =
-            let s = first-seen rules vs notes a in
-            let t = second-seen others us more b in
-            let same : others ≡ rules = sym t.same_rules ∙ sym found.together.rules ∙ s.same_rules in
-            subst (λ (rs : List PlainRule). IsArchive told two (header_view both.two.header) rs us) same (record { bytes = core-of two both.two found.second; tells = t.at; header = t.heads; sound = t.sound })
+            let s = first-seen held a in
+            let t = second-seen d b in
+            let same : d.rules ≡ held.rules = sym t.same_rules ∙ sym found.together.rules ∙ s.same_rules in
+            subst (λ (rs : List PlainRule). IsArchive told two (header_view both.two.header) rs d.versions) same (record { bytes = core-of two both.two found.second; tells = t.at; header = t.heads; sound = t.sound })
 
-        full-joined : (draft : Option (List ℕ)) (now : Option Files) (c : Comes told draft one two new both now) → FullAs rules (vs ++ us) (notes ++ more) (c.core ++ notes_part c.notes)
+        full-joined : (draft : Option (List ℕ)) (now : Option Files) (c : Comes told draft one two new both now) → FullAs (joined held d) (c.core ++ notes_part c.notes)
         full-joined draft now c =
-            let s = first-seen rules vs notes a in
-            let t = second-seen others us more b in
-            let these : c.notes ≡ notes ++ more = c.given files notes more tells s.read t.read in
+            let s = first-seen held a in
+            let t = second-seen d b in
+            let these : c.notes ≡ held.notes ++ d.notes = c.given files held.notes d.notes tells s.read t.read in
             let many = c.many in
             let first = s.versions in
             let second = t.versions in
-            subst (λ (l : List (List ℕ)). FullAs rules (vs ++ us) l (c.core ++ notes_part c.notes)) these
-            (record { core = c.core; is = c.joined rules vs us (first-archive rules vs notes a) second-archive; as_many = omega (arith, many, first, second, length-append vs us); each = c.each; spelled = refl })
+            subst (λ (l : List (List ℕ)). FullAs (record { rules = held.rules; versions = held.versions ++ d.versions; notes = l }) (c.core ++ notes_part c.notes)) these
+            (record { core = c.core; is = c.joined held.rules held.versions d.versions (first-archive held a) second-archive; as_many = omega (arith, many, first, second, length-append held.versions d.versions); each = c.each; spelled = refl })
 
-      unsound-first : IsUnsound told one (header_view both.one.header) → (rules : List PlainRule) (vs : List PlainKeyed) (notes : List (List ℕ)) → ¬ ArchiveIs files one rules vs notes
-      unsound-first none rules vs notes a = (let s = first-seen rules vs notes a in none (core-of one both.one found.first) rules vs s.at s.heads s.sound)
+      unsound-first : IsUnsound told one (header_view both.one.header) → (c : Contents) → ¬ ArchiveIs files one c
+      unsound-first none c a = (let s = first-seen c a in none (core-of one both.one found.first) c.rules c.versions s.at s.heads s.sound)
 
-      unsound-second : IsUnsound told two (header_view both.two.header) → (rules : List PlainRule) (vs : List PlainKeyed) (notes : List (List ℕ)) → ¬ ArchiveIs files two rules vs notes
-      unsound-second none rules vs notes a = (let s = second-seen rules vs notes a in none (core-of two both.two found.second) rules vs s.at s.heads s.sound)
+      unsound-second : IsUnsound told two (header_view both.two.header) → (c : Contents) → ¬ ArchiveIs files two c
+      unsound-second none c a = (let s = second-seen c a in none (core-of two both.two found.second) c.rules c.versions s.at s.heads s.sound)
 
       records-may : (q : Refusal) → RecordsEnd told one (header_view both.one.header) two (header_view both.two.header) (refused q) → MayBe files (command.join one two new) (Err q)
       records-may q (inl d) = subst (λ s. MayBe files (command.join one two new) (Err s)) (sym d.0) (first-damaged (fronts_read both) read (unsound-first d.1))
       records-may q (inr (inl d)) = subst (λ s. MayBe files (command.join one two new) (Err s)) (sym d.0) (second-damaged (fronts_read both) read (unsound-second d.1))
       records-may q (inr (inr l)) =
           subst (λ s. MayBe files (command.join one two new) (Err s)) (sym l.0)
-          (may-be-long (fronts_read both) read (λ rules vs notes others us more a b. l.1 rules vs us (first-archive rules vs notes a) (second-archive rules vs notes others us more a b)))
+          (may-be-long (fronts_read both) read (λ c d a b. l.1 c.rules c.versions d.versions (first-archive c a) (second-archive c d a b)))
 
       notes-may : (q : Refusal) → BothNotesEnd told one both.one two both.two (refused q) → MayBe files (command.join one two new) (Err q)
       notes-may q (inl d) =
           subst (λ s. MayBe files (command.join one two new) (Err s)) (sym d.0)
-          (first-damaged (fronts_read both) read (λ rules vs notes a. (let wrong : None ≡ Some notes = sym (d.1 files tells) ∙ (first-seen rules vs notes a).read in absurd cc)))
+          (first-damaged (fronts_read both) read (λ c a. (let wrong : None ≡ Some c.notes = sym (d.1 files tells) ∙ (first-seen c a).read in absurd cc)))
       notes-may q (inr d) =
           subst (λ s. MayBe files (command.join one two new) (Err s)) (sym d.0)
-          (second-damaged (fronts_read both) read (λ rules vs notes a. (let wrong : None ≡ Some notes = sym (d.1 files tells) ∙ (second-seen rules vs notes a).read in absurd cc)))
+          (second-damaged (fronts_read both) read (λ c a. (let wrong : None ≡ Some c.notes = sym (d.1 files tells) ∙ (second-seen c a).read in absurd cc)))
 
       refused-may : (v : PlainFault) → RecordsEnd told one (header_view both.one.header) two (header_view both.two.header) v → (q : Refusal) → v ≡ refused q → MayBe files (command.join one two new) (Err q)
       refused-may v ends q is = records-may q (subst (λ (z : PlainFault). RecordsEnd told one (header_view both.one.header) two (header_view both.two.header) z) is ends)
@@ -314,6 +315,6 @@ module _ (has_parts : (rules : List PlainRule) (vs : List PlainKeyed) (notes : L
           let bytes = c.core ++ notes_part c.notes in
           let stored = commit-tells (Ok tt) files after told (option_map (λ (d : List ℕ). bytes) draft) new bytes c.stored tells (drafted draft bytes) in
           MayEnd-did (MayBe files (command.join one two new)) (record { files = map.insert files new bytes; output = [] }) after t t
-          (may-come (fronts_read both) read bytes (λ rules vs notes others us more a b. full-joined rules vs notes others us more a b draft after c)) stored (Takes-nil t)
+          (may-come (fronts_read both) read bytes (λ held d a b. full-joined held d a b draft after c)) stored (Takes-nil t)
       may-end draft after t (Some v) (inl ends) = MayEnd-stopped (MayBe files (command.join one two new)) v after t (refused-may v ends)
       may-end draft after t (Some v) (inr ends) = MayEnd-stopped (MayBe files (command.join one two new)) v after t (unnoted-may v ends)

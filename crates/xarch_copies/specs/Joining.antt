@@ -41,7 +41,7 @@ abbrev pub fronts_in : Files → List ℕ → List ℕ → Result ((List PlainRu
 fronts_in files one two =
     and_then (read_in files one (front_in one)) (λ h.
     and_then (read_in files two (front_in two)) (λ g.
-    and_then (are_joinable one two h.0 h.1 g.0 g.1) (λ _.
+    and_then (are_joinable one two h g) (λ _.
     Ok (h, g))))
 
 -- both headers give the same rules, and together no more versions than there may be

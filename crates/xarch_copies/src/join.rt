@@ -119,8 +119,8 @@ fn check_joinable(
     requires second { IsHeader (header_view second.now) }
     ensures cause { IsInside (fault_of result) }
     ensures told { Matches (λ _. tt) (are_joinable one.now two.now
-        (header_view first.now).rules (header_view first.now).versions
-        (header_view second.now).rules (header_view second.now).versions) result }
+        ((header_view first.now).rules, (header_view first.now).versions)
+        ((header_view second.now).rules, (header_view second.now).versions)) result }
     ensures together { OnOk result (GoTogether (header_view first.now) (header_view second.now)) }
 {
     if !are_same(alloc, &first.spec, &second.spec)? {

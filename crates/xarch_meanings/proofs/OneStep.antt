@@ -1,6 +1,6 @@
 -- What a command may do is what is defined, where that is. It is so since versions have one archive and one file, at whose
 -- front their number stands.
-use Rattle.std.proofs.Common.{◌≡◌, inl, inr, ℕ, List, [], ◌∷◌, ◌++◌, length, Option, Some, None, Result, Ok, Err, sym, ap, ◌∙◌, subst, refl}
+use Rattle.std.proofs.Common.{◌≡◌, inl, inr, ℕ, List, [], length, Option, Some, None, Result, Ok, Err, sym, ap, ◌∙◌, subst, refl}
 use Rattle.std.specs.FinMap as map
 use Rattle.xa_outside.specs.Folder.{Files}
 use Rattle.key_spec.specs.Data.{PlainRule}
@@ -8,10 +8,10 @@ use Rattle.keyed_tree.specs.Data.{PlainKeyed}
 use Rattle.archive_tree.specs.Data.{PlainArchive}
 use Rattle.archive_tree.specs.Stands.{ArchiveOf}
 use Rattle.record_format.specs.Files.{FileOf}
+use Rattle.noted_file.specs.Contents.{Contents, fronted, unnoted, with_keys, with_version}
 use Rattle.noted_file.specs.Full.{Full, FullAs, FullOf}
 use Rattle.archive_stats.specs.Counts.{PlainCounts, counts}
 use Rattle.key_rules.specs.Faults.{PlainKeyFault}
-use Rattle.archive_cut.specs.Sliced.{items}
 use Rattle.archive_rekey.specs.Rekeyed.{AreRekeyed, IsFirstBad}
 use Rattle.archive_text.specs.Export.{ExportOf, export_text}
 use Rattle.xarch_gen.specs.Company.{company_rules}
@@ -19,13 +19,13 @@ use Rattle.xarch_words.specs.Commands.{PlainCommand, norm, init, add, rekey, get
 use Rattle.xarch_words.specs.Refusal.{Refusal, no_file, key_fault_in, damaged}
 use Rattle.xarch_meanings.specs.Add.{AddsTo, added}
 use Rattle.xarch_meanings.specs.Check.{IsFound, check_text}
-use Rattle.xarch_meanings.specs.Cut.{CutsFrom, cut_checked, noted_items}
+use Rattle.xarch_meanings.specs.Cut.{CutsFrom, cut_checked, slice}
 use Rattle.xarch_meanings.specs.Export.{ExportsFrom}
 use Rattle.xarch_parts.specs.Archives.{ArchiveIs, GoesOn, Opens, Stores, short_note}
 use Rattle.xarch_meanings.specs.Demo.{MakesOrNone, demo_input, samples}
 use Rattle.xarch_meanings.specs.Import.{ImportsFrom, import_text}
 use Rattle.xarch_meanings.specs.Init.{init_rules}
-use Rattle.xarch_meanings.specs.Join.{JoinsFrom, join_checked}
+use Rattle.xarch_meanings.specs.Join.{joined, JoinsFrom, join_checked}
 use Rattle.xarch_parts.specs.Inputs.{file_of}
 use Rattle.xarch_parts.specs.Outcome.{Outcome, Step, step_from}
 use Rattle.xarch_meanings.specs.Plausible.{DamagedOrSound, IsLate, MayAdd, MayOver, MayWrite, MayBe, MayComeLate, MayDo, MayJoin, MayMake, MayOverBoth, Plausible, add_input, cut_input, get_input, history_input, join_input, log_input, stats_input, versions_input}
@@ -36,21 +36,20 @@ use Rattle.xarch_meanings.specs.Step.{OutcomeIs, DoesOrRefuses, Defines, StepIs,
 
 module _ (one_archive : (vs : List PlainKeyed) (a b : PlainArchive) → ArchiveOf vs a → ArchiveOf vs b → a ≡ b)
     (one_file : (rules : List PlainRule) (vs : List PlainKeyed) (b c : List ℕ) → FileOf rules vs b → FileOf rules vs c → b ≡ c)
-    (one_full : (rules : List PlainRule) (vs : List PlainKeyed) (notes : List (List ℕ)) (b c : List ℕ) → FullOf rules vs notes b → FullOf rules vs notes c → b ≡ c)
-    (defined : (rules : List PlainRule) (vs : List PlainKeyed) (notes : List (List ℕ)) (b : List ℕ) → FullAs rules vs notes b → FullOf rules vs notes b)
-    (one_reading : (rules others : List PlainRule) (vs us : List PlainKeyed) (notes more : List (List ℕ)) (b : List ℕ) → FullAs rules vs notes b → FullAs others us more b → (rules ≡ others) × (vs ≡ us) × (notes ≡ more))
-    (one_text : (rules others : List PlainRule) (vs us : List PlainKeyed) (notes more : List (List ℕ)) (file other text : List ℕ) → FullAs rules vs notes file → FullAs others us more other → ExportOf rules vs notes text → ExportOf others us more text
-    → (rules ≡ others) × (vs ≡ us) × (notes ≡ more))
+    (one_full : (held : Contents) (b c : List ℕ) → FullOf held b → FullOf held c → b ≡ c)
+    (defined : (c : Contents) (b : List ℕ) → FullAs c b → FullOf c b)
+    (one_reading : (c d : Contents) (b : List ℕ) → FullAs c b → FullAs d b → c ≡ d)
+    (one_text : (c d : Contents) (file other text : List ℕ) → FullAs c file → FullAs d other → ExportOf c text → ExportOf d text → c ≡ d)
     (one_list : (rules : List PlainRule) (vs us ws : List PlainKeyed) → AreRekeyed rules vs us → AreRekeyed rules vs ws → us ≡ ws)
     (one_fault : (rules : List PlainRule) (vs : List PlainKeyed) (i j : ℕ) (f g : PlainKeyFault) → IsFirstBad rules vs i f → IsFirstBad rules vs j g → (i ≡ j) × (f ≡ g))
     (apart : (rules : List PlainRule) (vs us : List PlainKeyed) (i : ℕ) (f : PlainKeyFault) → AreRekeyed rules vs us → ¬ IsFirstBad rules vs i f) where
-  one_stored : (files : Files) (name : List ℕ) (rules : List PlainRule) (vs : List PlainKeyed) (notes : List (List ℕ)) (r s : Result Outcome Refusal) → Stores files name rules vs notes r → Stores files name rules vs notes s → s ≡ r
-  one_stored files name rules vs notes r s (inl p) (inl q) =
-      let same = one_full rules vs notes q.bytes p.bytes (defined rules vs notes q.bytes q.full) (defined rules vs notes p.bytes p.full) in
+  one_stored : (files : Files) (name : List ℕ) (c : Contents) (r s : Result Outcome Refusal) → Stores files name c r → Stores files name c s → s ≡ r
+  one_stored files name c r s (inl p) (inl q) =
+      let same = one_full c q.bytes p.bytes (defined c q.bytes q.full) (defined c p.bytes p.full) in
       q.is ∙ ap (λ b. Ok (record { files = map.insert files name b; output = [] })) same ∙ sym p.is
-  one_stored files name rules vs notes r s (inl p) (inr q) = absurd (q.none p.full.core p.full.is.file)
-  one_stored files name rules vs notes r s (inr p) (inl q) = absurd (p.none q.full.core q.full.is.file)
-  one_stored files name rules vs notes r s (inr p) (inr q) = q.is ∙ sym p.is
+  one_stored files name c r s (inl p) (inr q) = absurd (q.none p.full.core p.full.is.file)
+  one_stored files name c r s (inr p) (inl q) = absurd (p.none q.full.core q.full.is.file)
+  one_stored files name c r s (inr p) (inr q) = q.is ∙ sym p.is
 
   one_way : {A : Type 0} (x : Result A Refusal) (P : A → Result Outcome Refusal → Type 0) → ((a : A) (r s : Result Outcome Refusal) → P a r → P a s → s ≡ r) → (r s : Result Outcome Refusal) → GoesOn x P r → GoesOn x P s → s ≡ r
   one_way (Ok a) P h r s p q = h a r s p q
@@ -86,53 +85,51 @@ module _ (one_archive : (vs : List PlainKeyed) (a b : PlainArchive) → ArchiveO
   versions_absent files name e = rw e refl
 
   -- versions have one archive, and it has one count
-  one_counted : (files : Files) (rules : List PlainRule) (vs : List PlainKeyed) (notes : List (List ℕ)) (r s : Result Outcome Refusal) → CountsFrom files rules vs notes r → CountsFrom files rules vs notes s → s ≡ r
-  one_counted files rules vs notes r s p q =
-      q.is ∙ ap (λ (a : PlainArchive). Ok (record { files = files; output = counts_text (noted_counts rules a notes) })) (one_archive vs q.archive p.archive q.of p.of) ∙ sym p.is
+  one_counted : (files : Files) (c : Contents) (r s : Result Outcome Refusal) → CountsFrom files c r → CountsFrom files c s → s ≡ r
+  one_counted files c r s p q =
+      q.is ∙ ap (λ (a : PlainArchive). Ok (record { files = files; output = counts_text (noted_counts c.rules a c.notes) })) (one_archive c.versions q.archive p.archive q.of p.of) ∙ sym p.is
 
   -- and one text
-  one_exported : (files : Files) (rules : List PlainRule) (vs : List PlainKeyed) (notes : List (List ℕ)) (r s : Result Outcome Refusal) → ExportsFrom files rules vs notes r → ExportsFrom files rules vs notes s → s ≡ r
-  one_exported files rules vs notes r s p q =
-      let same : q.text ≡ p.text = q.of.spelled ∙ ap (λ (a : PlainArchive). export_text rules a notes) (one_archive vs q.of.archive p.of.archive q.of.is p.of.is) ∙ sym p.of.spelled in
+  one_exported : (files : Files) (c : Contents) (r s : Result Outcome Refusal) → ExportsFrom files c r → ExportsFrom files c s → s ≡ r
+  one_exported files c r s p q =
+      let same : q.text ≡ p.text = q.of.spelled ∙ ap (λ (a : PlainArchive). export_text c.rules a c.notes) (one_archive c.versions q.of.archive p.of.archive q.of.is p.of.is) ∙ sym p.of.spelled in
       q.is ∙ ap (λ (t : List ℕ). Ok (record { files = files; output = t })) same ∙ sym p.is
 
   -- some of its versions have one file with their notes
-  one_cut : (files : Files) (new : List ℕ) (i j : ℕ) (rules : List PlainRule) (vs : List PlainKeyed) (notes : List (List ℕ)) (r s : Result Outcome Refusal) → CutsFrom files new i j rules vs notes r → CutsFrom files new i j rules vs notes s → s ≡ r
-  one_cut files new i j rules vs notes r s p q =
-      one_way (cut_checked files new i j (length vs)) (λ _. Stores files new rules (items i j vs) (noted_items i j notes)) (λ _. one_stored files new rules (items i j vs) (noted_items i j notes)) r s p q
+  one_cut : (files : Files) (new : List ℕ) (i j : ℕ) (c : Contents) (r s : Result Outcome Refusal) → CutsFrom files new i j c r → CutsFrom files new i j c s → s ≡ r
+  one_cut files new i j c r s p q =
+      one_way (cut_checked files new i j (length c.versions)) (λ _. Stores files new (slice i j c)) (λ _. one_stored files new (slice i j c)) r s p q
 
   -- the versions of two archives have one file with their notes
-  one_joined : (files : Files) (one two new : List ℕ) (rules : List PlainRule) (vs : List PlainKeyed) (notes : List (List ℕ)) (others : List PlainRule) (us : List PlainKeyed) (more : List (List ℕ)) (r s : Result Outcome Refusal)
-      → JoinsFrom files one two new rules vs notes others us more r → JoinsFrom files one two new rules vs notes others us more s → s ≡ r
-  one_joined files one two new rules vs notes others us more r s p q =
-      one_way (join_checked files one two new rules (length vs) others (length us)) (λ _. Stores files new rules (vs ++ us) (notes ++ more)) (λ _. one_stored files new rules (vs ++ us) (notes ++ more)) r s p q
+  one_joined : (files : Files) (one two new : List ℕ) (c d : Contents) (r s : Result Outcome Refusal)
+      → JoinsFrom files one two new c d r → JoinsFrom files one two new c d s → s ≡ r
+  one_joined files one two new c d r s p q =
+      one_way (join_checked files one two new (fronted c) (fronted d)) (λ _. Stores files new (joined c d)) (λ _. one_stored files new (joined c d)) r s p q
 
   -- and what a `join` comes to, whether the second archive is there or not, where the first is
-  one_behind : (files : Files) (one two new : List ℕ) (rules : List PlainRule) (vs : List PlainKeyed) (notes : List (List ℕ)) (r s : Result Outcome Refusal) → ArchiveIs files one rules vs notes
-      → Opens files two (JoinsFrom files one two new rules vs notes) r → MayOverBoth files one two (GoesOn (join_input files one two new) (λ _. MayJoin files one two new)) (JoinsFrom files one two new) s → s ≡ r
-  one_behind files one two new rules vs notes r s a (inl p) q = subst (λ x. GoesOn x (λ _. MayJoin files one two new) s) (second_absent files one two new a.bytes a.there p.absent) q.whatever ∙ sym p.is
-  one_behind files one two new rules vs notes r s a (inr p) q =
-      one_joined files one two new rules vs notes p.rules p.versions p.notes r s p.rest (q.sound rules vs notes p.rules p.versions p.notes a p.archive)
+  one_behind : (files : Files) (one two new : List ℕ) (c : Contents) (r s : Result Outcome Refusal) → ArchiveIs files one c
+      → Opens files two (JoinsFrom files one two new c) r → MayOverBoth files one two (GoesOn (join_input files one two new) (λ _. MayJoin files one two new)) (JoinsFrom files one two new) s → s ≡ r
+  one_behind files one two new c r s a (inl p) q = subst (λ x. GoesOn x (λ _. MayJoin files one two new) s) (second_absent files one two new a.bytes a.there p.absent) q.whatever ∙ sym p.is
+  one_behind files one two new c r s a (inr p) q =
+      one_joined files one two new c p.contents r s p.rest (q.sound c p.contents a p.archive)
 
   -- what is one archive with notes has one file
-  same_file : (rules others : List PlainRule) (vs us : List PlainKeyed) (notes more : List (List ℕ)) (b c : List ℕ) → rules ≡ others → vs ≡ us → notes ≡ more → FullAs rules vs notes b → FullAs others us more c → b ≡ c
-  same_file rules others vs us notes more b c r v n p q =
-      let moved = subst (λ (x : List PlainRule). FullAs x us more b) r (subst (λ (x : List PlainKeyed). FullAs rules x more b) v (subst (λ (x : List (List ℕ)). FullAs rules vs x b) n p)) in
-      one_full others us more b c (defined others us more b moved) (defined others us more c q)
+  same_file : (c d : Contents) (a b : List ℕ) → c ≡ d → FullAs c a → FullAs d b → a ≡ b
+  same_file c d a b same p q = one_full d a b (defined d a (subst (λ (x : Contents). FullAs x a) same p)) (defined d b q)
 
   -- a text is that of one archive with notes, or of none
   one_imported : (files : Files) (new bytes : List ℕ) (r s : Result Outcome Refusal) → ImportsFrom files new bytes r → ImportsFrom files new bytes s → s ≡ r
   one_imported files new bytes r s (inl p) (inl q) =
-      let same = one_text q.rules p.rules q.versions p.versions q.notes p.notes q.stored.bytes p.stored.bytes bytes q.stored.full p.stored.full q.spelled p.spelled in
-      let one = same_file q.rules p.rules q.versions p.versions q.notes p.notes q.stored.bytes p.stored.bytes same.0 same.1 same.2 q.stored.full p.stored.full in
+      let same = one_text q.contents p.contents q.stored.bytes p.stored.bytes bytes q.stored.full p.stored.full q.spelled p.spelled in
+      let one = same_file q.contents p.contents q.stored.bytes p.stored.bytes same q.stored.full p.stored.full in
       q.stored.is ∙ ap (λ (b : List ℕ). Ok (record { files = map.insert files new b; output = [] })) one ∙ sym p.stored.is
-  one_imported files new bytes r s (inl p) (inr q) = absurd (q.none p.rules p.versions p.notes p.stored.bytes p.stored.full p.spelled)
-  one_imported files new bytes r s (inr p) (inl q) = absurd (p.none q.rules q.versions q.notes q.stored.bytes q.stored.full q.spelled)
+  one_imported files new bytes r s (inl p) (inr q) = absurd (q.none p.contents p.stored.bytes p.stored.full p.spelled)
+  one_imported files new bytes r s (inr p) (inl q) = absurd (p.none q.contents q.stored.bytes q.stored.full q.spelled)
   one_imported files new bytes r s (inr p) (inr q) = q.is ∙ sym p.is
 
   -- a file has one number of versions, and is not sound and damaged
-  same_count : (bytes : List ℕ) (p q : Full bytes) → length q.versions ≡ length p.versions
-  same_count bytes p q = let same = one_reading q.rules p.rules q.versions p.versions q.notes p.notes bytes q.is p.is in ap length same.1
+  same_count : (bytes : List ℕ) (p q : Full bytes) → length q.contents.versions ≡ length p.contents.versions
+  same_count bytes p q = ap (λ (c : Contents). length c.versions) (one_reading q.contents p.contents bytes q.is p.is)
 
   one_found : (files : Files) (name bytes : List ℕ) (r s : Result Outcome Refusal) → IsFound files name bytes r → IsFound files name bytes s → s ≡ r
   one_found files name bytes r s (inl p) (inl q) = q.is ∙ ap (λ (n : ℕ). Ok (record { files = files; output = check_text n })) (same_count bytes p.full q.full) ∙ sym p.is
@@ -157,13 +154,13 @@ module _ (one_archive : (vs : List PlainKeyed) (a b : PlainArchive) → ArchiveO
   one_told : (i j : ℕ) (f g : PlainKeyFault) → i ≡ j → f ≡ g → ◌≡◌ {A = Result Outcome Refusal} (Err (key_fault_in j g)) (Err (key_fault_in i f))
   one_told i j f g e h = cc
 
-  one_rekeyed : (files : Files) (name : List ℕ) (vs : List PlainKeyed) (notes : List (List ℕ)) (rules : List PlainRule) (r s : Result Outcome Refusal) → RekeysTo files name vs notes rules r → RekeysTo files name vs notes rules s → s ≡ r
-  one_rekeyed files name vs notes rules r s (inl p) (inl q) =
-      one_stored files name rules p.versions notes r s p.rest (subst (λ us. Stores files name rules us notes s) (one_list rules vs q.versions p.versions q.are p.are) q.rest)
-  one_rekeyed files name vs notes rules r s (inl p) (inr q) = absurd (apart rules vs p.versions q.number q.fault p.are q.first)
-  one_rekeyed files name vs notes rules r s (inr p) (inl q) = absurd (apart rules vs q.versions p.number p.fault q.are p.first)
-  one_rekeyed files name vs notes rules r s (inr p) (inr q) =
-      let same = one_fault rules vs p.number q.number p.fault q.fault p.first q.first in
+  one_rekeyed : (files : Files) (name : List ℕ) (c : Contents) (rules : List PlainRule) (r s : Result Outcome Refusal) → RekeysTo files name c rules r → RekeysTo files name c rules s → s ≡ r
+  one_rekeyed files name c rules r s (inl p) (inl q) =
+      one_stored files name (with_keys c rules p.versions) r s p.rest (subst (λ (us : List PlainKeyed). Stores files name (with_keys c rules us) s) (one_list rules c.versions q.versions p.versions q.are p.are) q.rest)
+  one_rekeyed files name c rules r s (inl p) (inr q) = absurd (apart rules c.versions p.versions q.number q.fault p.are q.first)
+  one_rekeyed files name c rules r s (inr p) (inl q) = absurd (apart rules c.versions q.versions p.number p.fault q.are p.first)
+  one_rekeyed files name c rules r s (inr p) (inr q) =
+      let same = one_fault rules c.versions p.number q.number p.fault q.fault p.first q.first in
       q.is ∙ one_told p.number q.number p.fault q.fault same.0 same.1 ∙ sym p.is
 
   rekey_absent : (files : Files) (name spec : List ℕ) → map.get files name ≡ None → rekey_rules files name spec ≡ Err (no_file name)
@@ -174,8 +171,8 @@ module _ (one_archive : (vs : List PlainKeyed) (a b : PlainArchive) → ArchiveO
       → MayOver files name (GoesOn (add_input files name doc) (λ _. MayAdd files name)) (AddsTo files name doc note) s → s ≡ r
   one_added files name doc note r s (inl p) q = subst (λ x. GoesOn x (λ _. MayAdd files name) s) (add_absent files name doc p.absent) q.whatever ∙ sym p.is
   one_added files name doc note r s (inr p) q =
-      one_way (added files doc p.rules (length p.versions)) (λ k. Stores files name p.rules (p.versions ++ k ∷ []) (p.notes ++ note ∷ [])) (λ k. one_stored files name p.rules (p.versions ++ k ∷ []) (p.notes ++ note ∷ [])) r s p.rest
-      (q.sound p.rules p.versions p.notes p.archive)
+      one_way (added files doc p.contents.rules (length p.contents.versions)) (λ k. Stores files name (with_version p.contents k note)) (λ k. one_stored files name (with_version p.contents k note)) r s p.rest
+      (q.sound p.contents p.archive)
 
   one_either : {A : Type 0} (x : Result A Refusal) (P Q : A → Result Outcome Refusal → Type 0) → ((a : A) (r s : Result Outcome Refusal) → P a r → Q a s → s ≡ r) → (r s : Result Outcome Refusal) → GoesOn x P r → GoesOn x Q s → s ≡ r
   one_either (Ok a) P Q h r s p q = h a r s p q
@@ -184,30 +181,30 @@ module _ (one_archive : (vs : List PlainKeyed) (a b : PlainArchive) → ArchiveO
   one : (files : Files) (command : PlainCommand) (r s : Result Outcome Refusal) → OutcomeIs files command r → MayBe files command s → s ≡ r
   unfolding OutcomeIs MayBe
   one files (norm spec doc) r s p q = q ∙ sym p
-  one files (init name spec) r s p q = one_way (init_rules files name spec) (λ rules. Stores files name rules [] []) (λ rules. one_stored files name rules [] []) r s p q
+  one files (init name spec) r s p q = one_way (init_rules files name spec) (λ rules. Stores files name (unnoted rules [])) (λ rules. one_stored files name (unnoted rules [])) r s p q
   one files (add name doc note) r s p q =
       one_either (short_note note) (λ _. Opens files name (AddsTo files name doc note)) (λ _. MayOver files name (GoesOn (add_input files name doc) (λ _. MayAdd files name)) (AddsTo files name doc note)) (λ _. one_added files name doc note) r s p q
   one files (rekey name spec) r s (inl p) q = subst (λ x. GoesOn x (λ _. DamagedOrSound files name) s) (rekey_absent files name spec p.absent) q.whatever ∙ sym p.is
   one files (rekey name spec) r s (inr p) q =
-      one_way (rekey_rules files name spec) (RekeysTo files name p.versions p.notes) (one_rekeyed files name p.versions p.notes) r s p.rest (q.sound p.rules p.versions p.notes p.archive)
+      one_way (rekey_rules files name spec) (RekeysTo files name p.contents) (one_rekeyed files name p.contents) r s p.rest (q.sound p.contents p.archive)
   one files (get name i) r s (inl p) q = subst (λ x. GoesOn x (λ _. MayWrite files name) s) (get_absent files name i p.absent) q.whatever ∙ sym p.is
-  one files (get name i) r s (inr p) q = q.sound p.rules p.versions p.notes p.archive ∙ sym p.rest
+  one files (get name i) r s (inr p) q = q.sound p.contents p.archive ∙ sym p.rest
   one files (history name path) r s (inl p) q = subst (λ x. GoesOn x (λ _. MayWrite files name) s) (history_absent files name path p.absent) q.whatever ∙ sym p.is
-  one files (history name path) r s (inr p) q = q.sound p.rules p.versions p.notes p.archive ∙ sym p.rest
+  one files (history name path) r s (inr p) q = q.sound p.contents p.archive ∙ sym p.rest
   one files (log name path) r s (inl p) q = subst (λ x. GoesOn x (λ _. MayWrite files name) s) (log_absent files name path p.absent) q.whatever ∙ sym p.is
-  one files (log name path) r s (inr p) q = q.sound p.rules p.versions p.notes p.archive ∙ sym p.rest
+  one files (log name path) r s (inr p) q = q.sound p.contents p.archive ∙ sym p.rest
   one files (check name) r s p q = one_way (file_of files name) (IsFound files name) (one_found files name) r s p q
   one files (stats name) r s (inl p) q = subst (λ x. GoesOn x (λ _. MayWrite files name) s) (stats_absent files name p.absent) q.whatever ∙ sym p.is
-  one files (stats name) r s (inr p) q = one_counted files p.rules p.versions p.notes r s p.rest (q.sound p.rules p.versions p.notes p.archive)
+  one files (stats name) r s (inr p) q = one_counted files p.contents r s p.rest (q.sound p.contents p.archive)
   one files (versions name) r s (inl p) q = subst (λ x. GoesOn x (λ _. MayWrite files name) s) (versions_absent files name p.absent) q.whatever ∙ sym p.is
-  one files (versions name) r s (inr p) q = q.sound p.rules p.versions p.notes p.archive ∙ sym p.rest
+  one files (versions name) r s (inr p) q = q.sound p.contents p.archive ∙ sym p.rest
   one files (export name) r s (inl p) q = subst (λ x. GoesOn x (λ _. DamagedOrSound files name) s) (stats_absent files name p.absent) q.whatever ∙ sym p.is
-  one files (export name) r s (inr p) q = one_exported files p.rules p.versions p.notes r s p.rest (q.sound p.rules p.versions p.notes p.archive)
+  one files (export name) r s (inr p) q = one_exported files p.contents r s p.rest (q.sound p.contents p.archive)
   one files (import text new) r s p q = one_way (import_text files text new) (ImportsFrom files new) (one_imported files new) r s p q
   one files (cut name new i j) r s (inl p) q = subst (λ x. GoesOn x (λ _. MayMake files name new) s) (cut_absent files name new i j p.absent) q.whatever ∙ sym p.is
-  one files (cut name new i j) r s (inr p) q = one_cut files new i j p.rules p.versions p.notes r s p.rest (q.sound p.rules p.versions p.notes p.archive)
+  one files (cut name new i j) r s (inr p) q = one_cut files new i j p.contents r s p.rest (q.sound p.contents p.archive)
   one files (join first two new) r s (inl p) q = subst (λ x. GoesOn x (λ _. MayJoin files first two new) s) (join_absent files first two new p.absent) q.whatever ∙ sym p.is
-  one files (join first two new) r s (inr p) q = one_behind files first two new p.rules p.versions p.notes r s p.archive p.rest q
+  one files (join first two new) r s (inr p) q = one_behind files first two new p.contents r s p.archive p.rest q
   one files (table csv tag keys doc) r s p q = q ∙ sym p
   one files (tablekeys tag keys spec) r s p q = q ∙ sym p
   one files batch r s p q = q ∙ sym p
@@ -239,21 +236,21 @@ module _ (one_archive : (vs : List PlainKeyed) (a b : PlainArchive) → ArchiveO
           let same : Err e ≡ r = one files (versions name) r (Err e) (inl missing) m in
           let wrong : ◌≡◌ {A = Result Outcome Refusal} (Err (damaged name)) (Err (no_file name)) = ap (λ q. Err q) (sym damage) ∙ same ∙ missing.is in
           damage_or_none name wrong
-      by_list name damage (inr opened) m late = late-unlisted files name opened.rules opened.versions opened.notes (Err e) opened.archive m late
+      by_list name damage (inr opened) m late = late-unlisted files name opened.contents (Err e) opened.archive m late
 
       by_log : (name path : List ℕ) → e ≡ damaged name → OutcomeIs files (log name path) r → MayBe files (log name path) (Err e) → MayComeLate files (Some (log name path)) e → ⊥
       by_log name path damage (inl missing) m late =
           let same : Err e ≡ r = one files (log name path) r (Err e) (inl missing) m in
           let wrong : ◌≡◌ {A = Result Outcome Refusal} (Err (damaged name)) (Err (no_file name)) = ap (λ q. Err q) (sym damage) ∙ same ∙ missing.is in
           damage_or_none name wrong
-      by_log name path damage (inr opened) m late = late-unlogged files name path opened.rules opened.versions opened.notes (Err e) opened.archive m late
+      by_log name path damage (inr opened) m late = late-unlogged files name path opened.contents (Err e) opened.archive m late
 
       by_archive : (name : List ℕ) (i : ℕ) → e ≡ damaged name → OutcomeIs files (get name i) r → MayBe files (get name i) (Err e) → MayComeLate files (Some (get name i)) e → ⊥
       by_archive name i damage (inl missing) m late =
           let same : Err e ≡ r = one files (get name i) r (Err e) (inl missing) m in
           let wrong : ◌≡◌ {A = Result Outcome Refusal} (Err (damaged name)) (Err (no_file name)) = ap (λ q. Err q) (sym damage) ∙ same ∙ missing.is in
           damage_or_none name wrong
-      by_archive name i damage (inr opened) m late = late-unsound files name i opened.rules opened.versions opened.notes (Err e) opened.archive m late
+      by_archive name i damage (inr opened) m late = late-unsound files name i opened.contents (Err e) opened.archive m late
 
   none_does : (files : Files) (command : Option PlainCommand) (r s : Result Outcome Refusal) → DoesOrRefuses files command r → MayDo files command s → ¬ IsLate files command s
   none_does files None r (Ok o) p q late = late

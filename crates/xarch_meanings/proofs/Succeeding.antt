@@ -1,13 +1,13 @@
 -- A command that should succeed is not refused.
-use Rattle.std.proofs.Common.{◌≡◌, ◌⊎◌, inl, inr, ℕ, List, [], ◌∷◌, ◌++◌, length, Option, Some, Result, Ok, Err, refl, ap, ◌∙◌, subst}
+use Rattle.std.proofs.Common.{◌≡◌, ◌⊎◌, inl, inr, ℕ, List, [], length, Option, Some, Result, Ok, Err, refl, ap, ◌∙◌, subst}
 use Rattle.xa_outside.specs.Folder.{Files}
 use Rattle.key_spec.specs.Data.{PlainRule}
 use Rattle.keyed_tree.specs.Data.{PlainKeyed}
 use Rattle.archive_tree.specs.History.{hist}
 use Rattle.record_format.specs.Files.{FileOf}
+use Rattle.noted_file.specs.Contents.{Contents, unnoted, with_keys, with_version}
 use Rattle.noted_file.specs.Full.{Full, FullAs}
 use Rattle.archive_text.specs.Export.{ExportOf}
-use Rattle.archive_cut.specs.Sliced.{items}
 use Rattle.content_log.specs.Text.{log_text}
 use Rattle.archive_rekey.specs.Rekeyed.{AreRekeyed, IsFirstBad}
 use Rattle.key_rules.specs.Faults.{PlainKeyFault}
@@ -16,10 +16,11 @@ use Rattle.xarch_words.specs.Commands.{PlainCommand, norm, init, add, rekey, get
 use Rattle.xarch_words.specs.Refusal.{Refusal, no_file, no_version}
 use Rattle.xarch_parts.specs.Archives.{GoesOn, Stores}
 use Rattle.xarch_meanings.specs.Check.{IsFound}
-use Rattle.xarch_meanings.specs.Cut.{noted_items}
+use Rattle.xarch_meanings.specs.Cut.{slice}
 use Rattle.xarch_meanings.specs.Demo.{MakesOrNone, samples}
 use Rattle.xarch_meanings.specs.History.{numbers_text}
 use Rattle.xarch_meanings.specs.Import.{ImportsFrom}
+use Rattle.xarch_meanings.specs.Join.{joined}
 use Rattle.xarch_meanings.specs.Rekey.{RekeysTo}
 use Rattle.keyed_print.specs.KeyedText.{keyed_text}
 use Rattle.xarch_parts.specs.Outcome.{and_then, or_refuse}
@@ -33,8 +34,8 @@ clash : {A X : Type 0} (q : Refusal) (x : A) → ◌≡◌ {A = Result A Refusal
 clash q x e = cc
 
 -- versions that have a file are stored
-not_stored : (files : Files) (name : List ℕ) (rules : List PlainRule) (vs : List PlainKeyed) (notes : List (List ℕ)) (bytes : List ℕ) (q : Refusal) → FileOf rules vs bytes → Stores files name rules vs notes (Err q) → ⊥
-not_stored files name rules vs notes bytes q file s = elim s [ inl p ↦ clash q _ p.is | inr p ↦ p.none bytes file ]
+not_stored : (files : Files) (name : List ℕ) (c : Contents) (bytes : List ℕ) (q : Refusal) → FileOf c.rules c.versions bytes → Stores files name c (Err q) → ⊥
+not_stored files name c bytes q file s = elim s [ inl p ↦ clash q _ p.is | inr p ↦ p.none bytes file ]
 
 not_made : (files : Files) (name : List ℕ) (seed count : ℕ) (bytes : List ℕ) (q : Refusal) → FileOf company_rules (samples seed count) bytes → MakesOrNone files name seed count (Err q) → ⊥
 not_made files name seed count bytes q file s = elim s [ inl p ↦ clash q _ p.is | inr p ↦ p.none bytes file ]
@@ -44,47 +45,48 @@ not_found : (files : Files) (name bytes : List ℕ) (q : Refusal) → IsFound fi
 not_found files name bytes q s sound = elim s [ inl p ↦ clash q _ p.is | inr p ↦ p.unsound sound ]
 
 -- the text of an archive with notes that has a file gives it
-not_imported : (files : Files) (new bytes : List ℕ) (rules : List PlainRule) (vs : List PlainKeyed) (notes : List (List ℕ)) (file : List ℕ) (q : Refusal) → FullAs rules vs notes file → ExportOf rules vs notes bytes → ImportsFrom files new bytes (Err q) → ⊥
-not_imported files new bytes rules vs notes file q full of s = elim s [ inl p ↦ clash q _ p.stored.is | inr p ↦ p.none rules vs notes file full of ]
+not_imported : (files : Files) (new bytes : List ℕ) (c : Contents) (file : List ℕ) (q : Refusal) → FullAs c file → ExportOf c bytes → ImportsFrom files new bytes (Err q) → ⊥
+not_imported files new bytes c file q full of s = elim s [ inl p ↦ clash q _ p.stored.is | inr p ↦ p.none c file full of ]
 
 module _ (one_list : (rules : List PlainRule) (vs us ws : List PlainKeyed) → AreRekeyed rules vs us → AreRekeyed rules vs ws → us ≡ ws)
     (apart : (rules : List PlainRule) (vs us : List PlainKeyed) (i : ℕ) (f : PlainKeyFault) → AreRekeyed rules vs us → ¬ IsFirstBad rules vs i f) where
   -- versions that satisfy other rules, and have a file under them, are stored
-  not_rekeyed : (files : Files) (name : List ℕ) (vs : List PlainKeyed) (notes : List (List ℕ)) (rules : List PlainRule) (us : List PlainKeyed) (bytes : List ℕ) (q : Refusal) → AreRekeyed rules vs us → FileOf rules us bytes
-      → RekeysTo files name vs notes rules (Err q) → ⊥
-  not_rekeyed files name vs notes rules us bytes q are file (inl p) = not_stored files name rules us notes bytes q file (subst (λ ws. Stores files name rules ws notes (Err q)) (one_list rules vs p.versions us p.are are) p.rest)
-  not_rekeyed files name vs notes rules us bytes q are file (inr p) = apart rules vs us p.number p.fault are p.first
+  not_rekeyed : (files : Files) (name : List ℕ) (c : Contents) (rules : List PlainRule) (us : List PlainKeyed) (bytes : List ℕ) (q : Refusal) → AreRekeyed rules c.versions us → FileOf rules us bytes
+      → RekeysTo files name c rules (Err q) → ⊥
+  not_rekeyed files name c rules us bytes q are file (inl p) =
+      not_stored files name (with_keys c rules us) bytes q file (subst (λ (ws : List PlainKeyed). Stores files name (with_keys c rules ws) (Err q)) (one_list rules c.versions p.versions us p.are are) p.rest)
+  not_rekeyed files name c rules us bytes q are file (inr p) = apart rules c.versions us p.number p.fault are p.first
 
   pub never_refused : (files : Files) (command : PlainCommand) (q : Refusal) → ShouldSucceed files command → MayBe files command (Err q) → ⊥
   unfolding ShouldSucceed MayBe
   never_refused files (norm spec doc) q h m = clash q h.value (m ∙ h.is)
   never_refused files (init name spec) q h m =
-      not_stored files name h.rules [] [] h.bytes q h.file (subst (λ (x : Result (List PlainRule) Refusal). GoesOn x (λ rules. Stores files name rules [] []) (Err q)) h.specified m)
+      not_stored files name (unnoted h.rules []) h.bytes q h.file (subst (λ (x : Result (List PlainRule) Refusal). GoesOn x (λ rules. Stores files name (unnoted rules [])) (Err q)) h.specified m)
   never_refused files (add name doc note) q h m =
       let over = subst (λ (x : Result Unit Refusal). GoesOn x (λ _. MayOver files name (GoesOn (add_input files name doc) (λ _. MayAdd files name)) (AddsTo files name doc note)) (Err q)) h.short m in
-      not_stored files name h.rules (h.versions ++ h.tree ∷ []) (h.notes ++ note ∷ []) h.bytes q h.file
-      (subst (λ (x : Result PlainKeyed Refusal). GoesOn x (λ k. Stores files name h.rules (h.versions ++ k ∷ []) (h.notes ++ note ∷ [])) (Err q)) h.keyed (over.sound h.rules h.versions h.notes h.archive))
+      not_stored files name (with_version h.contents h.tree note) h.bytes q h.file
+      (subst (λ (x : Result PlainKeyed Refusal). GoesOn x (λ k. Stores files name (with_version h.contents k note)) (Err q)) h.keyed (over.sound h.contents h.archive))
   never_refused files (rekey name spec) q h m =
-      not_rekeyed files name h.versions h.notes h.rules h.under h.bytes q h.satisfied h.file
-      (subst (λ (x : Result (List PlainRule) Refusal). GoesOn x (RekeysTo files name h.versions h.notes) (Err q)) h.specified (m.sound h.old h.versions h.notes h.archive))
+      not_rekeyed files name h.contents h.rules h.under h.bytes q h.satisfied h.file
+      (subst (λ (x : Result (List PlainRule) Refusal). GoesOn x (RekeysTo files name h.contents) (Err q)) h.specified (m.sound h.contents h.archive))
   never_refused files (get name i) q h m =
-      clash q _ (m.sound h.rules h.versions h.notes h.archive ∙ ap (λ (o : Option PlainKeyed). and_then (or_refuse o (no_version i (length h.versions))) (λ k. Ok (record { files = files; output = keyed_text k }))) h.there)
+      clash q _ (m.sound h.contents h.archive ∙ ap (λ (o : Option PlainKeyed). and_then (or_refuse o (no_version i (length h.contents.versions))) (λ k. Ok (record { files = files; output = keyed_text k }))) h.there)
   never_refused files (history name path) q h m =
-      clash q _ (m.sound h.rules h.versions h.notes h.archive ∙ ap (λ x. and_then x (λ labels. Ok (record { files = files; output = numbers_text (hist h.versions labels) }))) h.spelled)
+      clash q _ (m.sound h.contents h.archive ∙ ap (λ x. and_then x (λ labels. Ok (record { files = files; output = numbers_text (hist h.contents.versions labels) }))) h.spelled)
   never_refused files (log name path) q h m =
-      clash q _ (m.sound h.rules h.versions h.notes h.archive ∙ ap (λ x. and_then x (λ labels. Ok (record { files = files; output = log_text h.versions labels }))) h.spelled)
-  never_refused files (check name) q h m = not_found files name h.archive.bytes q (subst (λ o. GoesOn (or_refuse o (no_file name)) (IsFound files name) (Err q)) h.archive.there m) (record { rules = h.rules; versions = h.versions; notes = h.notes; is = h.archive.full })
-  never_refused files (stats name) q h m = clash q _ (m.sound h.rules h.versions h.notes h.archive).is
-  never_refused files (versions name) q h m = clash q _ (m.sound h.rules h.versions h.notes h.archive)
-  never_refused files (export name) q h m = clash q _ (m.sound h.rules h.versions h.notes h.archive).is
+      clash q _ (m.sound h.contents h.archive ∙ ap (λ x. and_then x (λ labels. Ok (record { files = files; output = log_text h.contents.versions labels }))) h.spelled)
+  never_refused files (check name) q h m = not_found files name h.archive.bytes q (subst (λ o. GoesOn (or_refuse o (no_file name)) (IsFound files name) (Err q)) h.archive.there m) (record { contents = h.contents; is = h.archive.full })
+  never_refused files (stats name) q h m = clash q _ (m.sound h.contents h.archive).is
+  never_refused files (versions name) q h m = clash q _ (m.sound h.contents h.archive)
+  never_refused files (export name) q h m = clash q _ (m.sound h.contents h.archive).is
   never_refused files (import text new) q h m =
-      not_imported files new h.bytes h.rules h.versions h.notes h.file q h.full h.spelled (subst (λ (x : Result (List ℕ) Refusal). GoesOn x (ImportsFrom files new) (Err q)) h.there m)
+      not_imported files new h.bytes h.contents h.file q h.full h.spelled (subst (λ (x : Result (List ℕ) Refusal). GoesOn x (ImportsFrom files new) (Err q)) h.there m)
   never_refused files (cut name new i j) q h m =
-      not_stored files new h.rules (items i j h.versions) (noted_items i j h.notes) h.bytes q h.file
-      (subst (λ (x : Result Unit Refusal). GoesOn x (λ _. Stores files new h.rules (items i j h.versions) (noted_items i j h.notes)) (Err q)) h.checked (m.sound h.rules h.versions h.notes h.archive))
+      not_stored files new (slice i j h.contents) h.bytes q h.file
+      (subst (λ (x : Result Unit Refusal). GoesOn x (λ _. Stores files new (slice i j h.contents)) (Err q)) h.checked (m.sound h.contents h.archive))
   never_refused files (join one two new) q h m =
-      not_stored files new h.rules (h.versions ++ h.behind) (h.notes ++ h.more) h.bytes q h.file
-      (subst (λ (x : Result Unit Refusal). GoesOn x (λ _. Stores files new h.rules (h.versions ++ h.behind) (h.notes ++ h.more)) (Err q)) h.checked (m.sound h.rules h.versions h.notes h.others h.behind h.more h.first h.second))
+      not_stored files new (joined h.contents h.behind) h.bytes q h.file
+      (subst (λ (x : Result Unit Refusal). GoesOn x (λ _. Stores files new (joined h.contents h.behind)) (Err q)) h.checked (m.sound h.contents h.behind h.first h.second))
   never_refused files (table csv tag keys doc) q h m = clash q h.value (m ∙ h.is)
   never_refused files (tablekeys tag keys spec) q h m = clash q h.value (m ∙ h.is)
   never_refused files batch q h m = h

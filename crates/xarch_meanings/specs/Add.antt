@@ -1,8 +1,9 @@
 -- What `add` does: it adds a document to an archive as its next version, with a note.
-use Rattle.std.specs.Prelude.{ℕ, List, [], ◌∷◌, ◌++◌, length, nat_lt, Result, Ok, Err, if◌then◌else◌}
+use Rattle.std.specs.Prelude.{ℕ, List, length, nat_lt, Result, Ok, Err, if◌then◌else◌}
 use Rattle.xa_outside.specs.Folder.{Files}
 use Rattle.key_spec.specs.Data.{PlainRule}
 use Rattle.keyed_tree.specs.Data.{PlainKeyed}
+use Rattle.noted_file.specs.Contents.{Contents, with_version}
 use Rattle.xarch_words.specs.Refusal.{document, versions, Refusal, limit}
 use Rattle.xarch_parts.specs.Archives.{GoesOn, Opens, Stores, short_note}
 use Rattle.xarch_parts.specs.Inputs.{length_in, read_in}
@@ -27,9 +28,9 @@ added files doc rules n =
     and_then (room_behind n) (λ _.
     Ok k))))
 
--- what comes of the document and its note where these are the archive's rules, versions and notes
-abbrev pub AddsTo : Files → List ℕ → List ℕ → List ℕ → List PlainRule → List PlainKeyed → List (List ℕ) → Result Outcome Refusal → Type 0
-AddsTo files archive doc note rules vs notes r = GoesOn (added files doc rules (length vs)) (λ k. Stores files archive rules (vs ++ k ∷ []) (notes ++ note ∷ [])) r
+-- what comes of the document and its note where the archive holds this
+abbrev pub AddsTo : Files → List ℕ → List ℕ → List ℕ → Contents → Result Outcome Refusal → Type 0
+AddsTo files archive doc note c r = GoesOn (added files doc c.rules (length c.versions)) (λ k. Stores files archive (with_version c k note)) r
 
 -- The length of the note is judged before all else.
 abbrev pub AddIs : Files → List ℕ → List ℕ → List ℕ → Result Outcome Refusal → Type 0

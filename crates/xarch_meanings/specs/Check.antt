@@ -20,7 +20,7 @@ checked files vs = Ok (record { files = files; output = check_text (length vs) }
 -- the bytes are a sound archive with its notes, whose versions are counted
 pub record IsFoundSound (files : Files) (bytes : List ℕ) (r : Result Outcome Refusal) : Type 0 where
   pub full : Full bytes
-  pub is : r ≡ checked files full.versions
+  pub is : r ≡ checked files full.contents.versions
 
 -- they are none, and the archive of this name is refused
 pub record IsFoundDamaged (name bytes : List ℕ) (r : Result Outcome Refusal) : Type 0 where

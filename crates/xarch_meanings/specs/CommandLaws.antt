@@ -56,7 +56,7 @@ pub once_by : (c : Option PlainCommand) (told : Option Files) (before after : Nu
 once_by None told before after P Q f h = tt
 once_by (Some (norm spec doc)) told before after P Q f h = tt
 once_by (Some (init archive spec)) told before after P Q f h = tt
-once_by (Some (add archive doc note)) told before after P Q f h = λ files rules vs notes a is there of small not. h files rules vs notes a is there of small (λ p. not (f p))
+once_by (Some (add archive doc note)) told before after P Q f h = λ files c a is there of small not. h files c a is there of small (λ p. not (f p))
 once_by (Some (rekey archive spec)) told before after P Q f h = tt
 once_by (Some (get archive i)) told before after P Q f h = tt
 once_by (Some (history archive path)) told before after P Q f h = tt

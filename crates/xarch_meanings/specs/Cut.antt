@@ -1,9 +1,8 @@
 -- What `cut` does: it makes an archive of some versions of another.
 use Rattle.std.specs.Prelude.{ℕ, ◌+◌, ◌-◌, ◌==◌, nat_lt, List, length, take, drop, Result, Ok, Err, if◌then◌else◌}
 use Rattle.xa_outside.specs.Folder.{Files}
-use Rattle.key_spec.specs.Data.{PlainRule}
-use Rattle.keyed_tree.specs.Data.{PlainKeyed}
 use Rattle.archive_cut.specs.Sliced.{items}
+use Rattle.noted_file.specs.Contents.{Contents}
 use Rattle.xarch_words.specs.Refusal.{Refusal, no_version}
 use Rattle.xarch_parts.specs.Archives.{GoesOn, Opens, Stores, free_in}
 use Rattle.xarch_parts.specs.Outcome.{Outcome, and_then}
@@ -20,9 +19,13 @@ noted_items i j notes = take (j + 1 - i) (drop (i - 1) notes)
 abbrev pub cut_checked : Files → List ℕ → ℕ → ℕ → ℕ → Result Unit Refusal
 cut_checked files new i j n = and_then (free_in files new) (λ _. are_versions i j n)
 
--- what comes where these are the archive's rules, versions and notes
-abbrev pub CutsFrom : Files → List ℕ → ℕ → ℕ → List PlainRule → List PlainKeyed → List (List ℕ) → Result Outcome Refusal → Type 0
-CutsFrom files new i j rules vs notes r = GoesOn (cut_checked files new i j (length vs)) (λ _. Stores files new rules (items i j vs) (noted_items i j notes)) r
+-- what is left where only the versions from i to j stay, with their notes
+abbrev pub slice : ℕ → ℕ → Contents → Contents
+slice i j c = record { rules = c.rules; versions = items i j c.versions; notes = noted_items i j c.notes }
+
+-- what comes where the archive holds this
+abbrev pub CutsFrom : Files → List ℕ → ℕ → ℕ → Contents → Result Outcome Refusal → Type 0
+CutsFrom files new i j c r = GoesOn (cut_checked files new i j (length c.versions)) (λ _. Stores files new (slice i j c)) r
 
 abbrev pub CutIs : Files → List ℕ → List ℕ → ℕ → ℕ → Result Outcome Refusal → Type 0
 CutIs files archive new i j r = Opens files archive (CutsFrom files new i j) r

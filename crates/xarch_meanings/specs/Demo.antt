@@ -12,6 +12,7 @@ use Rattle.archive_file.specs.Sound.{SoundAs}
 use Rattle.archive_stats.specs.Counts.{PlainCounts, counts}
 use Rattle.xarch_gen.specs.Company.{company_rules}
 use Rattle.xarch_gen.specs.Sample.{sample_of}
+use Rattle.noted_file.specs.Contents.{unnoted}
 use Rattle.xarch_words.specs.Refusal.{demo, Refusal}
 use Rattle.xarch_parts.specs.Archives.{GoesOn, TooLong, free_in}
 use Rattle.xarch_parts.specs.Inputs.{at_most}
@@ -55,7 +56,7 @@ pub record Makes (files : Files) (name : List ℕ) (seed count : ℕ) (r : Resul
 
 -- that file, where there is one
 abbrev pub MakesOrNone : Files → List ℕ → ℕ → ℕ → Result Outcome Refusal → Type 0
-MakesOrNone files name seed count r = Makes files name seed count r ⊎ TooLong company_rules (samples seed count) r
+MakesOrNone files name seed count r = Makes files name seed count r ⊎ TooLong (unnoted company_rules (samples seed count)) r
 
 abbrev pub DemoIs : Files → ℕ → ℕ → List ℕ → Result Outcome Refusal → Type 0
 DemoIs files seed count name r = GoesOn (demo_input files count name) (λ _. MakesOrNone files name seed count) r

@@ -7,6 +7,7 @@ use Rattle.key_spec.specs.Data.{PlainRule}
 use Rattle.key_rules.specs.UserPaths.{user_path}
 use Rattle.keyed_tree.specs.Data.{PlainLabel, PlainKeyed}
 use Rattle.archive_tree.specs.History.{hist}
+use Rattle.noted_file.specs.Contents.{Contents}
 use Rattle.xarch_words.specs.Refusal.{Refusal, bad_path}
 use Rattle.xarch_parts.specs.Archives.{Opens}
 use Rattle.xarch_parts.specs.Outcome.{Outcome, and_then}
@@ -24,9 +25,9 @@ numbers_text ns = set_text (intervals ns) ++ codes "\n"
 abbrev pub history_text : Files → List PlainRule → List PlainKeyed → List ℕ → Result Outcome Refusal
 history_text files rules vs path = and_then (labels_of rules path) (λ labels. Ok (record { files = files; output = numbers_text (hist vs labels) }))
 
--- what is written where these are the archive's rules, versions and notes
-abbrev pub TellsFrom : Files → List ℕ → List PlainRule → List PlainKeyed → List (List ℕ) → Result Outcome Refusal → Type 0
-TellsFrom files path rules vs notes r = r ≡ history_text files rules vs path
+-- what is written where the archive holds this
+abbrev pub TellsFrom : Files → List ℕ → Contents → Result Outcome Refusal → Type 0
+TellsFrom files path c r = r ≡ history_text files c.rules c.versions path
 
 abbrev pub HistoryIs : Files → List ℕ → List ℕ → Result Outcome Refusal → Type 0
 HistoryIs files archive path r = Opens files archive (TellsFrom files path) r

@@ -1,9 +1,8 @@
 -- What `import` does: it makes the archive of a text.
 use Rattle.std.specs.Prelude.{◌≡◌, ◌⊎◌, ℕ, List, Result, Err}
 use Rattle.xa_outside.specs.Folder.{Files}
-use Rattle.key_spec.specs.Data.{PlainRule}
-use Rattle.keyed_tree.specs.Data.{PlainKeyed}
 use Rattle.archive_text.specs.Export.{ExportOf}
+use Rattle.noted_file.specs.Contents.{Contents}
 use Rattle.noted_file.specs.Full.{FullAs}
 use Rattle.xarch_words.specs.Refusal as refusal
 use Rattle.xarch_words.specs.Refusal.{Refusal, bad_text}
@@ -18,17 +17,15 @@ import_text files text new =
     and_then (free_in files new) (λ _.
     file_of files text))
 
--- The bytes are the text of the archive of these versions and notes, whose file comes under the name.
+-- The bytes are the text of an archive with notes, whose file comes under the name.
 pub record ImportsAs (files : Files) (new bytes : List ℕ) (r : Result Outcome Refusal) : Type 0 where
-  pub rules : List PlainRule
-  pub versions : List PlainKeyed
-  pub notes : List (List ℕ)
-  pub spelled : ExportOf rules versions notes bytes
-  pub stored : Stored files new rules versions notes r
+  pub contents : Contents
+  pub spelled : ExportOf contents bytes
+  pub stored : Stored files new contents r
 
 -- the bytes are the text of no archive with notes that has a file
 pub record IsNoText (bytes : List ℕ) (r : Result Outcome Refusal) : Type 0 where
-  pub none : (rules : List PlainRule) (vs : List PlainKeyed) (notes : List (List ℕ)) (file : List ℕ) → FullAs rules vs notes file → ¬ ExportOf rules vs notes bytes
+  pub none : (c : Contents) (file : List ℕ) → FullAs c file → ¬ ExportOf c bytes
   pub is : r ≡ Err bad_text
 
 abbrev pub ImportsFrom : Files → List ℕ → List ℕ → Result Outcome Refusal → Type 0

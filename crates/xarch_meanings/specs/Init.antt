@@ -2,6 +2,7 @@
 use Rattle.std.specs.Prelude.{ℕ, List, [], Result}
 use Rattle.xa_outside.specs.Folder.{Files}
 use Rattle.key_spec.specs.Data.{PlainRule}
+use Rattle.noted_file.specs.Contents.{unnoted}
 use Rattle.xarch_words.specs.Refusal.{specification, Refusal}
 use Rattle.xarch_parts.specs.Archives.{free_in, GoesOn, Stores}
 use Rattle.xarch_parts.specs.Inputs.{length_in, read_in}
@@ -13,4 +14,4 @@ abbrev pub init_rules : Files → List ℕ → List ℕ → Result (List PlainRu
 init_rules files archive spec = and_then (free_in files archive) (λ _. and_then (length_in files spec specification 1048576) (λ _. read_in files spec rules_of))
 
 abbrev pub InitIs : Files → List ℕ → List ℕ → Result Outcome Refusal → Type 0
-InitIs files archive spec r = GoesOn (init_rules files archive spec) (λ rules. Stores files archive rules [] []) r
+InitIs files archive spec r = GoesOn (init_rules files archive spec) (λ rules. Stores files archive (unnoted rules [])) r

@@ -1,10 +1,10 @@
 -- What `join` does: it makes an archive of the versions of two others.
-use Rattle.std.specs.Prelude.{ℕ, ◌+◌, nat_le, List, ◌++◌, length, Result, Ok, Err, if◌then◌else◌}
+use Rattle.std.specs.Prelude.{ℕ, ◌+◌, nat_le, List, ◌++◌, Result, Ok, Err, if◌then◌else◌}
 use Rattle.std.specs.Str.{bytes_eq}
 use Rattle.xa_outside.specs.Folder.{Files}
 use Rattle.key_spec.specs.Canonical.{canonical}
 use Rattle.key_spec.specs.Data.{PlainRule}
-use Rattle.keyed_tree.specs.Data.{PlainKeyed}
+use Rattle.noted_file.specs.Contents.{Contents, fronted}
 use Rattle.xarch_words.specs.Refusal.{Refusal, limit, spec_differs, versions}
 use Rattle.xarch_parts.specs.Archives.{GoesOn, Opens, Stores, free_in}
 use Rattle.xarch_parts.specs.Outcome.{Outcome, and_then}
@@ -17,18 +17,21 @@ same_keys one two rules others = if bytes_eq (canonical rules) (canonical others
 abbrev pub room_for : ℕ → ℕ → Result Unit Refusal
 room_for n m = if nat_le (n + m) 999999 then Ok tt else Err (limit versions 999999)
 
--- the archives have one specification, and there is room for the versions of both
-abbrev pub are_joinable : List ℕ → List ℕ → List PlainRule → ℕ → List PlainRule → ℕ → Result Unit Refusal
-are_joinable one two rules n others m = and_then (same_keys one two rules others) (λ _. room_for n m)
+-- the archives have one specification, and there is room for the versions of both, by the rules and the number of versions of each
+abbrev pub are_joinable : List ℕ → List ℕ → List PlainRule × ℕ → List PlainRule × ℕ → Result Unit Refusal
+are_joinable one two h g = and_then (same_keys one two h.0 g.0) (λ _. room_for h.1 g.1)
 
 -- the new archive's name is free, and so they are
-abbrev pub join_checked : Files → List ℕ → List ℕ → List ℕ → List PlainRule → ℕ → List PlainRule → ℕ → Result Unit Refusal
-join_checked files one two new rules n others m = and_then (free_in files new) (λ _. are_joinable one two rules n others m)
+abbrev pub join_checked : Files → List ℕ → List ℕ → List ℕ → List PlainRule × ℕ → List PlainRule × ℕ → Result Unit Refusal
+join_checked files one two new h g = and_then (free_in files new) (λ _. are_joinable one two h g)
 
--- what comes where these are the rules, versions and notes of the first archive, and those of the second
-abbrev pub JoinsFrom : Files → List ℕ → List ℕ → List ℕ → List PlainRule → List PlainKeyed → List (List ℕ) → List PlainRule → List PlainKeyed → List (List ℕ) → Result Outcome Refusal → Type 0
-JoinsFrom files one two new rules vs notes others us more r =
-    GoesOn (join_checked files one two new rules (length vs) others (length us)) (λ _. Stores files new rules (vs ++ us) (notes ++ more)) r
+-- what two archives hold, the one behind the other, under the rules of the one
+abbrev pub joined : Contents → Contents → Contents
+joined c d = record { rules = c.rules; versions = c.versions ++ d.versions; notes = c.notes ++ d.notes }
+
+-- what comes where the first archive holds this, and the second that
+abbrev pub JoinsFrom : Files → List ℕ → List ℕ → List ℕ → Contents → Contents → Result Outcome Refusal → Type 0
+JoinsFrom files one two new c d r = GoesOn (join_checked files one two new (fronted c) (fronted d)) (λ _. Stores files new (joined c d)) r
 
 abbrev pub JoinIs : Files → List ℕ → List ℕ → List ℕ → Result Outcome Refusal → Type 0
-JoinIs files one two new r = Opens files one (λ rules vs notes. Opens files two (JoinsFrom files one two new rules vs notes)) r
+JoinIs files one two new r = Opens files one (λ c. Opens files two (JoinsFrom files one two new c)) r

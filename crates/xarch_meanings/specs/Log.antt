@@ -5,6 +5,7 @@ use Rattle.key_spec.specs.Data.{PlainRule}
 use Rattle.keyed_tree.specs.Data.{PlainLabel, PlainKeyed}
 use Rattle.content_log.specs.Frontier.{at_frontier}
 use Rattle.content_log.specs.Text.{log_text}
+use Rattle.noted_file.specs.Contents.{Contents}
 use Rattle.xarch_words.specs.Refusal.{Refusal, not_frontier}
 use Rattle.xarch_parts.specs.Archives.{Opens}
 use Rattle.xarch_parts.specs.Outcome.{Outcome, and_then}
@@ -22,9 +23,9 @@ frontier_of rules path = and_then (labels_of rules path) (ending_at_frontier rul
 abbrev pub logged : Files → List PlainRule → List PlainKeyed → List ℕ → Result Outcome Refusal
 logged files rules vs path = and_then (frontier_of rules path) (λ labels. Ok (record { files = files; output = log_text vs labels }))
 
--- what is written where these are the archive's rules, versions and notes
-abbrev pub LogsFrom : Files → List ℕ → List PlainRule → List PlainKeyed → List (List ℕ) → Result Outcome Refusal → Type 0
-LogsFrom files path rules vs notes r = r ≡ logged files rules vs path
+-- what is written where the archive holds this
+abbrev pub LogsFrom : Files → List ℕ → Contents → Result Outcome Refusal → Type 0
+LogsFrom files path c r = r ≡ logged files c.rules c.versions path
 
 abbrev pub LogIs : Files → List ℕ → List ℕ → Result Outcome Refusal → Type 0
 LogIs files archive path r = Opens files archive (LogsFrom files path) r

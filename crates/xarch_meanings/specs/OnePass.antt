@@ -7,6 +7,7 @@ use Rattle.keyed_tree.specs.Data.{PlainKeyed}
 use Rattle.archive_tree.specs.Data.{PlainArchive}
 use Rattle.archive_tree.specs.Stands.{ArchiveOf}
 use Rattle.record_format.specs.Files.{header_bytes, largest}
+use Rattle.noted_file.specs.Contents.{Contents}
 use Rattle.xarch_words.specs.Commands.{PlainCommand, add, join}
 use Rattle.xarch_words.specs.Refusal.{document, Refusal}
 use Rattle.xarch_parts.specs.Archives.{ArchiveIs}
@@ -36,7 +37,7 @@ pub record OnePass (files : Files) (archive doc : List ℕ) (rules : List PlainR
 -- so, begins its draft before it reads, and then reads no more bytes than both have, and 16 of each in which it is looked where the notes begin. Of no other command is anything said.
 abbrev pub GoesOnce : Option PlainCommand → Option Files → Numbers → Numbers → Type 0 → Type 0
 GoesOnce (Some (add archive doc note)) told before after failed =
-    (files : Files) (rules : List PlainRule) (vs : List PlainKeyed) (notes : List (List ℕ)) (a : PlainArchive) → told ≡ Some files → ArchiveIs files archive rules vs notes → ArchiveOf vs a
-    → after.since < 2 ^ 64 - 1 → ¬ failed → OnePass files archive doc rules a before after
+    (files : Files) (c : Contents) (a : PlainArchive) → told ≡ Some files → ArchiveIs files archive c → ArchiveOf c.versions a
+    → after.since < 2 ^ 64 - 1 → ¬ failed → OnePass files archive doc c.rules a before after
 GoesOnce (Some (join one two new)) told before after failed = ¬ failed → PullsAndDrafts (size_in told one + (size_in told two + 32)) (after_begin before) after
 GoesOnce other told before after failed = ⊤

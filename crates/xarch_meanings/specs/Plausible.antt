@@ -8,6 +8,7 @@ use Rattle.key_spec.specs.Data.{PlainRule}
 use Rattle.keyed_tree.specs.Data.{PlainLabel, PlainKeyed}
 use Rattle.record_format.specs.Fronts.{fixed}
 use Rattle.version_notes.specs.declared.parts.Parts.{Parts}
+use Rattle.noted_file.specs.Contents.{Contents}
 use Rattle.xarch_words.specs.Commands.{PlainCommand, norm, init, add, rekey, get, history, log, check, stats, versions, export, import, cut, join, table, tablekeys, batch, demo}
 use Rattle.xarch_words.specs.Lines.{fault_line, refusal_status}
 use Rattle.xarch_words.specs.Refusal.{archive, document, Refusal, usage, damaged, no_version, limit, refused}
@@ -122,7 +123,7 @@ join_input files one two new =
     and_then (free_in files new) (λ _.
     and_then (read_in files one (front_in one)) (λ h.
     and_then (read_in files two (front_in two)) (λ g.
-    and_then (are_joinable one two h.0 h.1 g.0 g.1) (λ _.
+    and_then (are_joinable one two h g) (λ _.
     Ok (h, g)))))))
 
 -- ---- what may come then
@@ -151,7 +152,7 @@ MayAdd files name r = MayMake files name name r
 
 -- The archive is damaged, or it is sound.
 abbrev pub DamagedOrSound : Files → List ℕ → Result Outcome Refusal → Type 0
-DamagedOrSound files name r = (r ≡ Err (damaged name)) ⊎ Opened files name (λ _ _ _ _. ⊤) r
+DamagedOrSound files name r = (r ≡ Err (damaged name)) ⊎ Opened files name (λ _ _. ⊤) r
 
 abbrev pub MayWrite : Files → List ℕ → Result Outcome Refusal → Type 0
 MayWrite files name r = (r ≡ Err (damaged name)) ⊎ Written files r
@@ -159,18 +160,17 @@ MayWrite files name r = (r ≡ Err (damaged name)) ⊎ Written files r
 -- ---- commands
 
 -- What may come whatever the archive of this name is, and what comes where it is sound.
-pub record MayOver (files : Files) (name : List ℕ) (any : Result Outcome Refusal → Type 0) (exact : List PlainRule → List PlainKeyed → List (List ℕ) → Result Outcome Refusal → Type 0) (r : Result Outcome Refusal) : Type 0 where
+pub record MayOver (files : Files) (name : List ℕ) (any : Result Outcome Refusal → Type 0) (exact : Contents → Result Outcome Refusal → Type 0) (r : Result Outcome Refusal) : Type 0 where
   pub whatever : any r
-  pub sound : (rules : List PlainRule) (vs : List PlainKeyed) (notes : List (List ℕ)) → ArchiveIs files name rules vs notes → exact rules vs notes r
+  pub sound : (c : Contents) → ArchiveIs files name c → exact c r
 
 -- What may come whatever the archives of these names are, and what comes where both are sound; one that is sound is not said to be damaged.
 pub record MayOverBoth (files : Files) (one two : List ℕ) (any : Result Outcome Refusal → Type 0)
-    (exact : List PlainRule → List PlainKeyed → List (List ℕ) → List PlainRule → List PlainKeyed → List (List ℕ) → Result Outcome Refusal → Type 0) (r : Result Outcome Refusal) : Type 0 where
+    (exact : Contents → Contents → Result Outcome Refusal → Type 0) (r : Result Outcome Refusal) : Type 0 where
   pub whatever : any r
-  pub first : (rules : List PlainRule) (vs : List PlainKeyed) (notes : List (List ℕ)) → ArchiveIs files one rules vs notes → r ≢ Err (damaged one)
-  pub second : (rules : List PlainRule) (vs : List PlainKeyed) (notes : List (List ℕ)) → ArchiveIs files two rules vs notes → r ≢ Err (damaged two)
-  pub sound : (rules : List PlainRule) (vs : List PlainKeyed) (notes : List (List ℕ)) (others : List PlainRule) (us : List PlainKeyed) (more : List (List ℕ)) → ArchiveIs files one rules vs notes → ArchiveIs files two others us more
-      → exact rules vs notes others us more r
+  pub first : (c : Contents) → ArchiveIs files one c → r ≢ Err (damaged one)
+  pub second : (c : Contents) → ArchiveIs files two c → r ≢ Err (damaged two)
+  pub sound : (c d : Contents) → ArchiveIs files one c → ArchiveIs files two d → exact c d r
 
 unfoldable pub MayBe : Files → PlainCommand → Result Outcome Refusal → Type 0
 MayBe files (norm spec doc) r = r ≡ norm_of files spec doc

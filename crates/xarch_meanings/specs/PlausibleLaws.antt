@@ -10,6 +10,7 @@ use Rattle.archive_tree.specs.Stands.{version_of}
 use Rattle.xarch_words.specs.Commands.{PlainCommand, norm, init, add, rekey, get, history, log, check, stats, versions, export, import, cut, join, table, tablekeys, batch, demo}
 use Rattle.xarch_words.specs.Refusal.{Refusal, bad_path, damaged, no_version, not_frontier}
 use Rattle.keyed_print.specs.KeyedText.{keyed_text}
+use Rattle.noted_file.specs.Contents.{Contents}
 use Rattle.xarch_parts.specs.Archives.{ArchiveIs}
 use Rattle.xarch_parts.specs.Outcome.{Outcome, Step, and_then, or_refuse, step_from}
 use Rattle.xarch_parts.specs.Readings.{refused_as}
@@ -58,11 +59,11 @@ no_text files vs i name None e = cc
 no_text files vs i name (Some k) e = cc
 
 -- and never over a sound archive
-pub late-unsound : (files : Files) (name : List ℕ) (i : ℕ) (rules : List PlainRule) (vs : List PlainKeyed) (notes : List (List ℕ)) (r : Result Outcome Refusal) → ArchiveIs files name rules vs notes → MayBe files (get name i) r
+pub late-unsound : (files : Files) (name : List ℕ) (i : ℕ) (c : Contents) (r : Result Outcome Refusal) → ArchiveIs files name c → MayBe files (get name i) r
     → ¬ IsLate files (Some (get name i)) r
 unfolding MayBe
-late-unsound files name i rules vs notes (Ok o) a m late = late
-late-unsound files name i rules vs notes (Err q) a m late = no_text files vs i name (version_of vs i) (ap (λ s. Err s) (sym late.0) ∙ m.sound rules vs notes a)
+late-unsound files name i c (Ok o) a m late = late
+late-unsound files name i c (Err q) a m late = no_text files c.versions i name (version_of c.versions i) (ap (λ s. Err s) (sym late.0) ∙ m.sound c a)
 
 no_damage : (files : Files) (vs : List PlainKeyed) (name : List ℕ) (x : Result (List PlainLabel) Refusal) → ((q : Refusal) → x ≡ Err q → ¬ (q ≡ damaged name))
     → ◌≡◌ {A = Result Outcome Refusal} (Err (damaged name)) (and_then x (λ labels. Ok (record { files = files; output = log_text vs labels }))) → ⊥
@@ -82,20 +83,20 @@ undamaged : (rules : List PlainRule) (path name : List ℕ) (q : Refusal) → fr
 unfolding frontier_of labels_of
 undamaged rules path name q e is = undamaged-path rules name (user_path rules path) q e is
 
-pub late-unlogged : (files : Files) (name path : List ℕ) (rules : List PlainRule) (vs : List PlainKeyed) (notes : List (List ℕ)) (r : Result Outcome Refusal) → ArchiveIs files name rules vs notes → MayBe files (log name path) r
+pub late-unlogged : (files : Files) (name path : List ℕ) (c : Contents) (r : Result Outcome Refusal) → ArchiveIs files name c → MayBe files (log name path) r
     → ¬ IsLate files (Some (log name path)) r
 unfolding MayBe
-late-unlogged files name path rules vs notes (Ok o) a m late = late
-late-unlogged files name path rules vs notes (Err q) a m late = no_damage files vs name (frontier_of rules path) (λ r e. undamaged rules path name r e) (ap (λ s. Err s) (sym late.0) ∙ m.sound rules vs notes a)
+late-unlogged files name path c (Ok o) a m late = late
+late-unlogged files name path c (Err q) a m late = no_damage files c.versions name (frontier_of c.rules path) (λ r e. undamaged c.rules path name r e) (ap (λ s. Err s) (sym late.0) ∙ m.sound c a)
 
 no_list : (q : Refusal) (o : Outcome) → ◌≡◌ {A = Result Outcome Refusal} (Err q) (Ok o) → ⊥
 no_list q o e = cc
 
-pub late-unlisted : (files : Files) (name : List ℕ) (rules : List PlainRule) (vs : List PlainKeyed) (notes : List (List ℕ)) (r : Result Outcome Refusal) → ArchiveIs files name rules vs notes → MayBe files (versions name) r
+pub late-unlisted : (files : Files) (name : List ℕ) (c : Contents) (r : Result Outcome Refusal) → ArchiveIs files name c → MayBe files (versions name) r
     → ¬ IsLate files (Some (versions name)) r
 unfolding MayBe
-late-unlisted files name rules vs notes (Ok o) a m late = late
-late-unlisted files name rules vs notes (Err q) a m late = no_list q (record { files = files; output = versions_text notes }) (m.sound rules vs notes a)
+late-unlisted files name c (Ok o) a m late = late
+late-unlisted files name c (Err q) a m late = no_list q (record { files = files; output = versions_text c.notes }) (m.sound c a)
 
 -- what has no late refusal has no late outcome
 pub no-late : (files : Files) (c : Option PlainCommand) (r : Result Outcome Refusal) → ((q : Refusal) → ¬ MayComeLate files c q) → ¬ IsLate files c r

@@ -2,14 +2,14 @@
 use Rattle.std.specs.Prelude.{◌≡◌, ℕ, ◌+◌, ◌&&◌, nat_le, List, Option, Some, Result, Ok, Err, if◌then◌else◌, ⊤}
 use Rattle.xa_outside.specs.Folder.{Files}
 use Rattle.xa_outside.specs.Numbers.{Numbers, PullsAtMost}
-use Rattle.key_spec.specs.Data.{PlainRule}
-use Rattle.keyed_tree.specs.Data.{PlainLabel, PlainKeyed}
+use Rattle.keyed_tree.specs.Data.{PlainLabel}
 use Rattle.archive_tree.specs.Data.{PlainArchive}
 use Rattle.archive_tree.specs.Stands.{ArchiveOf}
 use Rattle.content_log.specs.Written.{leaf_bytes}
 use Rattle.file_history.specs.Leads.{node_along}
 use Rattle.record_format.specs.Probed.{probed}
 use Rattle.record_format.specs.Seen.{seen}
+use Rattle.noted_file.specs.Contents.{Contents}
 use Rattle.xarch_words.specs.Commands.{PlainCommand, get, history, log}
 use Rattle.xarch_words.specs.Refusal.{Refusal}
 use Rattle.xarch_parts.specs.Archives.{ArchiveIs}
@@ -36,12 +36,12 @@ version_bytes a i = if nat_le 1 i && nat_le i a.n then seen a i else 0
 -- looks at; a `log` whose path ends at the frontier pulls these and the bytes of the one leaf, and any other no more than the header and the 24 bytes. None pulls a byte more, whatever is answered. Of no other command is anything said.
 abbrev pub ReadsLittle : Option PlainCommand → Option Files → Numbers → Numbers → Type 0
 ReadsLittle (Some (history archive path)) told before after =
-    (files : Files) (rules : List PlainRule) (vs : List PlainKeyed) (notes : List (List ℕ)) (a : PlainArchive) → told ≡ Some files → ArchiveIs files archive rules vs notes → ArchiveOf vs a
-    → PullsAtMost (front_size rules vs + (24 + path_bytes a (labels_of rules path))) before after
+    (files : Files) (c : Contents) (a : PlainArchive) → told ≡ Some files → ArchiveIs files archive c → ArchiveOf c.versions a
+    → PullsAtMost (front_size c.rules c.versions + (24 + path_bytes a (labels_of c.rules path))) before after
 ReadsLittle (Some (log archive path)) told before after =
-    (files : Files) (rules : List PlainRule) (vs : List PlainKeyed) (notes : List (List ℕ)) (a : PlainArchive) → told ≡ Some files → ArchiveIs files archive rules vs notes → ArchiveOf vs a
-    → PullsAtMost (front_size rules vs + (24 + leaf_path_bytes a (frontier_of rules path))) before after
+    (files : Files) (c : Contents) (a : PlainArchive) → told ≡ Some files → ArchiveIs files archive c → ArchiveOf c.versions a
+    → PullsAtMost (front_size c.rules c.versions + (24 + leaf_path_bytes a (frontier_of c.rules path))) before after
 ReadsLittle (Some (get archive i)) told before after =
-    (files : Files) (rules : List PlainRule) (vs : List PlainKeyed) (notes : List (List ℕ)) (a : PlainArchive) → told ≡ Some files → ArchiveIs files archive rules vs notes → ArchiveOf vs a
+    (files : Files) (c : Contents) (a : PlainArchive) → told ≡ Some files → ArchiveIs files archive c → ArchiveOf c.versions a
     → PullsAtMost (38 + version_bytes a i) before after
 ReadsLittle other told before after = ⊤

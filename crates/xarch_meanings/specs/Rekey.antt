@@ -5,6 +5,7 @@ use Rattle.key_spec.specs.Data.{PlainRule}
 use Rattle.key_rules.specs.Faults.{PlainKeyFault}
 use Rattle.keyed_tree.specs.Data.{PlainKeyed}
 use Rattle.archive_rekey.specs.Rekeyed.{AreRekeyed, IsFirstBad}
+use Rattle.noted_file.specs.Contents.{Contents, with_keys}
 use Rattle.xarch_words.specs.Refusal.{specification, Refusal, key_fault_in}
 use Rattle.xarch_parts.specs.Archives.{GoesOn, Opens, Stores}
 use Rattle.xarch_parts.specs.Inputs.{file_length, length_in, read_in}
@@ -22,10 +23,10 @@ rekey_rules files archive spec =
 
 -- Each version satisfies the rules, and the archive file of the versions under them, with the notes that there are, comes under the name, where there is
 -- one.
-pub record StoresRekeyed (files : Files) (archive : List ℕ) (rules : List PlainRule) (vs : List PlainKeyed) (notes : List (List ℕ)) (r : Result Outcome Refusal) : Type 0 where
+pub record StoresRekeyed (files : Files) (archive : List ℕ) (c : Contents) (rules : List PlainRule) (r : Result Outcome Refusal) : Type 0 where
   pub versions : List PlainKeyed
-  pub are : AreRekeyed rules vs versions
-  pub rest : Stores files archive rules versions notes r
+  pub are : AreRekeyed rules c.versions versions
+  pub rest : Stores files archive (with_keys c rules versions) r
 
 -- One does not, and the first such is told.
 pub record TellsFirstBad (rules : List PlainRule) (vs : List PlainKeyed) (r : Result Outcome Refusal) : Type 0 where
@@ -34,13 +35,13 @@ pub record TellsFirstBad (rules : List PlainRule) (vs : List PlainKeyed) (r : Re
   pub first : IsFirstBad rules vs number fault
   pub is : r ≡ Err (key_fault_in number fault)
 
--- what comes of these versions and notes under the rules
-abbrev pub RekeysTo : Files → List ℕ → List PlainKeyed → List (List ℕ) → List PlainRule → Result Outcome Refusal → Type 0
-RekeysTo files archive vs notes rules r = StoresRekeyed files archive rules vs notes r ⊎ TellsFirstBad rules vs r
+-- what comes of what an archive holds under the rules
+abbrev pub RekeysTo : Files → List ℕ → Contents → List PlainRule → Result Outcome Refusal → Type 0
+RekeysTo files archive c rules r = StoresRekeyed files archive c rules r ⊎ TellsFirstBad rules c.versions r
 
--- what comes where these are the archive's rules, versions and notes
-abbrev pub RekeysFrom : Files → List ℕ → List ℕ → List PlainRule → List PlainKeyed → List (List ℕ) → Result Outcome Refusal → Type 0
-RekeysFrom files archive spec old vs notes r = GoesOn (rekey_rules files archive spec) (RekeysTo files archive vs notes) r
+-- what comes where the archive holds this
+abbrev pub RekeysFrom : Files → List ℕ → List ℕ → Contents → Result Outcome Refusal → Type 0
+RekeysFrom files archive spec c r = GoesOn (rekey_rules files archive spec) (RekeysTo files archive c) r
 
 abbrev pub RekeyIs : Files → List ℕ → List ℕ → Result Outcome Refusal → Type 0
 RekeyIs files archive spec r = Opens files archive (RekeysFrom files archive spec) r

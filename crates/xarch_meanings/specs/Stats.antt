@@ -2,11 +2,11 @@
 use Rattle.std.specs.Prelude.{◌≡◌, ℕ, ◌+◌, List, ◌++◌, length, codes, decimal, Result, Ok}
 use Rattle.xa_outside.specs.Folder.{Files}
 use Rattle.key_spec.specs.Data.{PlainRule}
-use Rattle.keyed_tree.specs.Data.{PlainKeyed}
 use Rattle.archive_tree.specs.Data.{PlainArchive}
 use Rattle.archive_tree.specs.Stands.{ArchiveOf}
 use Rattle.archive_stats.specs.Counts.{PlainCounts, counts}
 use Rattle.version_notes.specs.Notes.{notes_part}
+use Rattle.noted_file.specs.Contents.{Contents}
 use Rattle.xarch_words.specs.Refusal.{Refusal}
 use Rattle.xarch_parts.specs.Archives.{Opens}
 use Rattle.xarch_parts.specs.Outcome.{Outcome}
@@ -35,11 +35,11 @@ of_size size c = record { versions = c.versions; inner = c.inner; leaves = c.lea
 abbrev pub noted_counts : List PlainRule → PlainArchive → List (List ℕ) → PlainCounts
 noted_counts rules a notes = of_size ((counts rules a).bytes + length (notes_part notes)) (counts rules a)
 
--- the counts of the archive of these versions and notes are written
-pub record CountsFrom (files : Files) (rules : List PlainRule) (vs : List PlainKeyed) (notes : List (List ℕ)) (r : Result Outcome Refusal) : Type 0 where
+-- the counts of the archive that holds this are written
+pub record CountsFrom (files : Files) (c : Contents) (r : Result Outcome Refusal) : Type 0 where
   pub archive : PlainArchive
-  pub of : ArchiveOf vs archive
-  pub is : r ≡ Ok (record { files = files; output = counts_text (noted_counts rules archive notes) })
+  pub of : ArchiveOf c.versions archive
+  pub is : r ≡ Ok (record { files = files; output = counts_text (noted_counts c.rules archive c.notes) })
 
 abbrev pub StatsIs : Files → List ℕ → Result Outcome Refusal → Type 0
 StatsIs files archive r = Opens files archive (CountsFrom files) r

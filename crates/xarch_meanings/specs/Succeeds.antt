@@ -7,6 +7,7 @@ use Rattle.archive_tree.specs.Stands.{version_of}
 use Rattle.archive_cut.specs.Sliced.{items}
 use Rattle.archive_rekey.specs.Rekeyed.{AreRekeyed}
 use Rattle.archive_text.specs.Export.{ExportOf}
+use Rattle.noted_file.specs.Contents.{Contents, fronted}
 use Rattle.noted_file.specs.Full.{FullAs}
 use Rattle.record_format.specs.Files.{FileOf}
 use Rattle.xarch_gen.specs.Company.{company_rules}
@@ -41,98 +42,78 @@ pub record CanInit (files : Files) (name spec : List ℕ) : Type 0 where
 -- The archive is sound. The document is there, short enough, a document, and satisfies the archive's keys; its note is short
 -- enough; there is room for a version more, and the versions with it have a file.
 pub record CanAdd (files : Files) (name doc note : List ℕ) : Type 0 where
-  pub rules : List PlainRule
-  pub versions : List PlainKeyed
-  pub notes : List (List ℕ)
+  pub contents : Contents
   pub short : short_note note ≡ Ok tt
   pub tree : PlainKeyed
   pub bytes : List ℕ
-  pub archive : ArchiveIs files name rules versions notes
-  pub keyed : added files doc rules (length versions) ≡ Ok tree
-  pub file : FileOf rules (versions ++ tree ∷ []) bytes
+  pub archive : ArchiveIs files name contents
+  pub keyed : added files doc contents.rules (length contents.versions) ≡ Ok tree
+  pub file : FileOf contents.rules (contents.versions ++ tree ∷ []) bytes
 
 -- The archive is sound. The specification is there, short enough, and has a closed reading; each version satisfies it, and the versions under it have a
 -- file.
 pub record CanRekey (files : Files) (name spec : List ℕ) : Type 0 where
-  pub old : List PlainRule
-  pub versions : List PlainKeyed
-  pub notes : List (List ℕ)
+  pub contents : Contents
   pub rules : List PlainRule
   pub under : List PlainKeyed
   pub bytes : List ℕ
-  pub archive : ArchiveIs files name old versions notes
+  pub archive : ArchiveIs files name contents
   pub specified : rekey_rules files name spec ≡ Ok rules
-  pub satisfied : AreRekeyed rules versions under
+  pub satisfied : AreRekeyed rules contents.versions under
   pub file : FileOf rules under bytes
 
 -- the archive is sound and has the version
 pub record CanGet (files : Files) (name : List ℕ) (i : ℕ) : Type 0 where
-  pub rules : List PlainRule
-  pub versions : List PlainKeyed
-  pub notes : List (List ℕ)
+  pub contents : Contents
   pub tree : PlainKeyed
-  pub archive : ArchiveIs files name rules versions notes
-  pub there : version_of versions i ≡ Some tree
+  pub archive : ArchiveIs files name contents
+  pub there : version_of contents.versions i ≡ Some tree
 
 -- the archive is sound, and the path spells labels under its rules
 pub record CanTell (files : Files) (name path : List ℕ) : Type 0 where
-  pub rules : List PlainRule
-  pub versions : List PlainKeyed
-  pub notes : List (List ℕ)
+  pub contents : Contents
   pub labels : List PlainLabel
-  pub archive : ArchiveIs files name rules versions notes
-  pub spelled : labels_of rules path ≡ Ok labels
+  pub archive : ArchiveIs files name contents
+  pub spelled : labels_of contents.rules path ≡ Ok labels
 
 -- the archive is sound, and the path spells labels under its rules that end in an attribute, or in an element at the frontier
 pub record CanLog (files : Files) (name path : List ℕ) : Type 0 where
-  pub rules : List PlainRule
-  pub versions : List PlainKeyed
-  pub notes : List (List ℕ)
+  pub contents : Contents
   pub labels : List PlainLabel
-  pub archive : ArchiveIs files name rules versions notes
-  pub spelled : frontier_of rules path ≡ Ok labels
+  pub archive : ArchiveIs files name contents
+  pub spelled : frontier_of contents.rules path ≡ Ok labels
 
 -- the archive is sound, the new name is free, the archive has the versions, and these have a file
 pub record CanCut (files : Files) (name new : List ℕ) (i j : ℕ) : Type 0 where
-  pub rules : List PlainRule
-  pub versions : List PlainKeyed
-  pub notes : List (List ℕ)
+  pub contents : Contents
   pub bytes : List ℕ
-  pub archive : ArchiveIs files name rules versions notes
-  pub checked : cut_checked files new i j (length versions) ≡ Ok tt
-  pub file : FileOf rules (items i j versions) bytes
+  pub archive : ArchiveIs files name contents
+  pub checked : cut_checked files new i j (length contents.versions) ≡ Ok tt
+  pub file : FileOf contents.rules (items i j contents.versions) bytes
 
 -- both archives are sound, the new name is free, they have one specification, there is room for the versions of both, and these have a file
 pub record CanJoin (files : Files) (one two new : List ℕ) : Type 0 where
-  pub rules : List PlainRule
-  pub versions : List PlainKeyed
-  pub notes : List (List ℕ)
-  pub others : List PlainRule
-  pub behind : List PlainKeyed
-  pub more : List (List ℕ)
+  pub contents : Contents
+  pub behind : Contents
   pub bytes : List ℕ
-  pub first : ArchiveIs files one rules versions notes
-  pub second : ArchiveIs files two others behind more
-  pub checked : join_checked files one two new rules (length versions) others (length behind) ≡ Ok tt
-  pub file : FileOf rules (versions ++ behind) bytes
+  pub first : ArchiveIs files one contents
+  pub second : ArchiveIs files two behind
+  pub checked : join_checked files one two new (fronted contents) (fronted behind) ≡ Ok tt
+  pub file : FileOf contents.rules (contents.versions ++ behind.versions) bytes
 
 -- the archive is sound
 pub record HasArchive (files : Files) (name : List ℕ) : Type 0 where
-  pub rules : List PlainRule
-  pub versions : List PlainKeyed
-  pub notes : List (List ℕ)
-  pub archive : ArchiveIs files name rules versions notes
+  pub contents : Contents
+  pub archive : ArchiveIs files name contents
 
 -- The text is there and short enough, the new name is free, and the bytes are the text of an archive with notes that has a file.
 pub record CanImport (files : Files) (text new : List ℕ) : Type 0 where
   pub bytes : List ℕ
-  pub rules : List PlainRule
-  pub versions : List PlainKeyed
-  pub notes : List (List ℕ)
+  pub contents : Contents
   pub file : List ℕ
   pub there : import_text files text new ≡ Ok bytes
-  pub full : FullAs rules versions notes file
-  pub spelled : ExportOf rules versions notes bytes
+  pub full : FullAs contents file
+  pub spelled : ExportOf contents bytes
 
 -- there are not too many documents, the archive's name is free, and the documents have a file
 pub record CanDemo (files : Files) (seed count : ℕ) (name : List ℕ) : Type 0 where

@@ -1,8 +1,7 @@
 -- What `versions` does: it writes the number of each version of an archive, and its note.
 use Rattle.std.specs.Prelude.{◌≡◌, ℕ, ◌+◌, List, [], ◌∷◌, ◌++◌, codes, decimal, Result, Ok}
 use Rattle.xa_outside.specs.Folder.{Files}
-use Rattle.key_spec.specs.Data.{PlainRule}
-use Rattle.keyed_tree.specs.Data.{PlainKeyed}
+use Rattle.noted_file.specs.Contents.{Contents}
 use Rattle.xarch_words.specs.Refusal.{Refusal}
 use Rattle.xarch_parts.specs.Archives.{Opens}
 use Rattle.xarch_parts.specs.Outcome.{Outcome}
@@ -29,9 +28,9 @@ versions_text notes = lines_from 1 notes
 abbrev pub listed : Files → List (List ℕ) → Result Outcome Refusal
 listed files notes = Ok (record { files = files; output = versions_text notes })
 
--- what is written where these are the archive's rules, versions and notes
-abbrev pub ListsFrom : Files → List PlainRule → List PlainKeyed → List (List ℕ) → Result Outcome Refusal → Type 0
-ListsFrom files rules vs notes r = r ≡ listed files notes
+-- what is written where the archive holds this
+abbrev pub ListsFrom : Files → Contents → Result Outcome Refusal → Type 0
+ListsFrom files c r = r ≡ listed files c.notes
 
 abbrev pub VersionsIs : Files → List ℕ → Result Outcome Refusal → Type 0
 VersionsIs files archive r = Opens files archive (ListsFrom files) r

@@ -50,7 +50,7 @@ module _ (rules : List PlainRule) (vs : List PlainKeyed) where
     none_of_archive (Err Memory) h = tt
 
   -- where a folder has an archive of them, its file is this one
-  module _ (files : Files) (name : List ℕ) (notes : List (List ℕ)) (there : ArchiveIs files name rules vs notes) where
+  module _ (files : Files) (name : List ℕ) (notes : List (List ℕ)) (there : ArchiveIs files name (record { rules = rules; versions = vs; notes = notes })) where
     pub held_there : ((rules : List PlainRule) (vs : List PlainKeyed) (a b : List ℕ) → FileOf rules vs a → FileOf rules vs b → a ≡ b)
         → (r : Result (Vec ℕ Global) EncodeFault) → IsFile r → IfOk r (λ v. finite.get files name ≡ Some (v.items ++ notes_part notes))
     held_there one (Ok v) h = there.there ∙ ap (λ b. Some b) (there.full.spelled ∙ ap (λ (core : List ℕ). core ++ notes_part notes) (one rules vs there.full.core v.items there.full.is.file h))

@@ -2,22 +2,21 @@
 use Rattle.std.specs.Prelude.{◌≡◌, ◌⊎◌, ℕ, List, [], length, take, drop, nat_le, Option, Some, None, Result, Ok, Err, if◌then◌else◌}
 use Rattle.std.specs.FinMap as map
 use Rattle.xa_outside.specs.Folder.{Files}
-use Rattle.key_spec.specs.Data.{PlainRule}
-use Rattle.keyed_tree.specs.Data.{PlainKeyed}
 use Rattle.record_cursor.specs.View.{PlainHeader}
 use Rattle.record_format.specs.Files.{FileOf}
 use Rattle.record_format.specs.Fronts.{header_at}
 use Rattle.version_notes.specs.Parts.{parts_in}
 use Rattle.version_notes.specs.declared.parts.Parts.{Parts}
+use Rattle.noted_file.specs.Contents.{Contents}
 use Rattle.noted_file.specs.Full.{FullAs}
 use Rattle.xarch_words.specs.Refusal.{Refusal, no_file, exists, archive, note, limit, PlainFault, refused}
 use Rattle.xarch_parts.specs.Outcome.{Outcome}
 
--- the file of this name is the sound archive of these versions under these rules, with these notes
-pub record ArchiveIs (files : Files) (name : List ℕ) (rules : List PlainRule) (vs : List PlainKeyed) (notes : List (List ℕ)) : Type 0 where
+-- the file of this name is a sound archive that holds this
+pub record ArchiveIs (files : Files) (name : List ℕ) (c : Contents) : Type 0 where
   pub bytes : List ℕ
   pub there : map.get files name ≡ Some bytes
-  pub full : FullAs rules vs notes bytes
+  pub full : FullAs c bytes
 
 -- the file of this name has these parts
 pub record PartsAre (files : Files) (name : List ℕ) (parts : Parts) : Type 0 where
@@ -64,37 +63,35 @@ free_in files name = unless_there name (map.get files name)
 abbrev pub short_note : List ℕ → Result Unit Refusal
 short_note text = if nat_le (length text) 1024 then Ok tt else Err (limit note 1024)
 
--- The file of these versions and notes comes under the name. It is a sound archive.
-pub record Stored (files : Files) (name : List ℕ) (rules : List PlainRule) (vs : List PlainKeyed) (notes : List (List ℕ)) (r : Result Outcome Refusal) : Type 0 where
+-- A file that holds this comes under the name. It is a sound archive.
+pub record Stored (files : Files) (name : List ℕ) (c : Contents) (r : Result Outcome Refusal) : Type 0 where
   pub bytes : List ℕ
-  pub full : FullAs rules vs notes bytes
+  pub full : FullAs c bytes
   pub is : r ≡ Ok (record { files = map.insert files name bytes; output = [] })
 
 -- no file can hold these versions
-pub record TooLong (rules : List PlainRule) (vs : List PlainKeyed) (r : Result Outcome Refusal) : Type 0 where
-  pub none : (bytes : List ℕ) → ¬ FileOf rules vs bytes
+pub record TooLong (c : Contents) (r : Result Outcome Refusal) : Type 0 where
+  pub none : (bytes : List ℕ) → ¬ FileOf c.rules c.versions bytes
   pub is : r ≡ Err (limit archive 274877906944)
 
--- the archive file of these versions and notes comes under the name, where there is one
-abbrev pub Stores : Files → List ℕ → List PlainRule → List PlainKeyed → List (List ℕ) → Result Outcome Refusal → Type 0
-Stores files name rules vs notes r = Stored files name rules vs notes r ⊎ TooLong rules vs r
+-- the archive file that holds this comes under the name, where there is one
+abbrev pub Stores : Files → List ℕ → Contents → Result Outcome Refusal → Type 0
+Stores files name c r = Stored files name c r ⊎ TooLong c r
 
 -- go on with the value, or stay refused
 abbrev pub GoesOn : {A : Type 0} → Result A Refusal → (A → Result Outcome Refusal → Type 0) → Result Outcome Refusal → Type 0
 GoesOn (Ok x) P r = P x r
 GoesOn (Err e) P r = r ≡ Err e
 
--- the archive of this name is not there, or it is sound, and then the rest is said of its rules, versions and notes
+-- the archive of this name is not there, or it is sound, and then the rest is said of what it holds
 pub record Missing (files : Files) (name : List ℕ) (r : Result Outcome Refusal) : Type 0 where
   pub absent : map.get files name ≡ None
   pub is : r ≡ Err (no_file name)
 
-pub record Opened (files : Files) (name : List ℕ) (P : List PlainRule → List PlainKeyed → List (List ℕ) → Result Outcome Refusal → Type 0) (r : Result Outcome Refusal) : Type 0 where
-  pub rules : List PlainRule
-  pub versions : List PlainKeyed
-  pub notes : List (List ℕ)
-  pub archive : ArchiveIs files name rules versions notes
-  pub rest : P rules versions notes r
+pub record Opened (files : Files) (name : List ℕ) (P : Contents → Result Outcome Refusal → Type 0) (r : Result Outcome Refusal) : Type 0 where
+  pub contents : Contents
+  pub archive : ArchiveIs files name contents
+  pub rest : P contents r
 
-abbrev pub Opens : Files → List ℕ → (List PlainRule → List PlainKeyed → List (List ℕ) → Result Outcome Refusal → Type 0) → Result Outcome Refusal → Type 0
+abbrev pub Opens : Files → List ℕ → (Contents → Result Outcome Refusal → Type 0) → Result Outcome Refusal → Type 0
 Opens files name P r = Missing files name r ⊎ Opened files name P r

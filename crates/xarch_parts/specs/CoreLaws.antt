@@ -16,6 +16,7 @@ use Rattle.record_format.specs.Fronts.{header}
 use Rattle.version_notes.specs.Notes.{notes_part}
 use Rattle.version_notes.specs.Parts.{is_marked, no_notes, notes_size, parts_behind, parts_in, with_notes}
 use Rattle.version_notes.specs.declared.parts.Parts.{Parts}
+use Rattle.noted_file.specs.Contents.{Contents}
 use Rattle.noted_file.specs.Full.{FullAs}
 use Rattle.xarch_words.specs.Refusal.{Refusal, no_file, damaged}
 use Rattle.xarch_parts.specs.Archives.{ArchiveIs, CoreIs, PartsAre}
@@ -108,36 +109,36 @@ no-front files name q e = front-after (file_of files name) name q e
 -- ---- archives
 
 -- From what is known of all archives with notes: where their parts stand.
-module _ (has_parts : (rules : List PlainRule) (vs : List PlainKeyed) (notes : List (List ℕ)) (bytes : List ℕ) (full : FullAs rules vs notes bytes) → parts_in bytes ≡ Some (parts_behind full.core notes))
-    (files : Files) (name : List ℕ) (rules : List PlainRule) (vs : List PlainKeyed) (notes : List (List ℕ)) (a : ArchiveIs files name rules vs notes) where
+module _ (has_parts : (c : Contents) (bytes : List ℕ) (full : FullAs c bytes) → parts_in bytes ≡ Some (parts_behind full.core c.notes))
+    (files : Files) (name : List ℕ) (held : Contents) (a : ArchiveIs files name held) where
   -- the sound archive before the notes
   pub core-of : CoreIs files name (length a.full.core) a.full.core
   core-of = record {
     bytes = a.bytes;
     there = a.there;
-    parts = parts_behind a.full.core notes;
-    are = has_parts rules vs notes a.bytes a.full;
+    parts = parts_behind a.full.core held.notes;
+    are = has_parts held a.bytes a.full;
     long = refl;
-    is = sym (ap (take (length a.full.core)) a.full.spelled ∙ take-append_seam a.full.core (notes_part notes));
+    is = sym (ap (take (length a.full.core)) a.full.spelled ∙ take-append_seam a.full.core (notes_part held.notes));
   }
 
   -- any other is the same
   pub core-same : (size : ℕ) (core : List ℕ) → CoreIs files name size core → (size ≡ length a.full.core) × (core ≡ a.full.core)
   core-same size core c = one-core files name size (length a.full.core) core a.full.core c core-of
 
-  pub core-sound : (size : ℕ) (core : List ℕ) → CoreIs files name size core → SoundAs rules vs core
-  core-sound size core c = subst (λ (z : List ℕ). SoundAs rules vs z) (sym (core-same size core c).1) a.full.is
+  pub core-sound : (size : ℕ) (core : List ℕ) → CoreIs files name size core → SoundAs held.rules held.versions core
+  core-sound size core c = subst (λ (z : List ℕ). SoundAs held.rules held.versions z) (sym (core-same size core c).1) a.full.is
 
   -- the header that stands in front, from what is known of all archive files
   pub front-sound : ((rules : List PlainRule) (vs : List PlainKeyed) (bytes : List ℕ) → closed (canonical rules) ≡ Ok rules → FileOf rules vs bytes → header bytes ≡ Some (rules, length vs))
-      → read_in files name (front_in name) ≡ Ok (rules, length vs)
+      → read_in files name (front_in name) ≡ Ok (held.rules, length held.versions)
   front-sound fronted =
       front-read files name (length a.full.core) a.full.core core-of
-      ∙ ap (λ o. or_refuse o (damaged name)) (fronted rules vs a.full.core a.full.is.specification a.full.is.file)
+      ∙ ap (λ o. or_refuse o (damaged name)) (fronted held.rules held.versions a.full.core a.full.is.specification a.full.is.file)
 
   -- it has parts
   pub no-parts : (q : Refusal) → read_in files name (parts_of name) ≡ Err q → ⊥
-  no-parts q refuses = let wrong : ◌≡◌ {A = Result Parts Refusal} (Ok (parts_behind a.full.core notes)) (Err q) = sym (parts-read files name a.bytes (parts_behind a.full.core notes) a.there (has_parts rules vs notes a.bytes a.full)) ∙ refuses in cc
+  no-parts q refuses = let wrong : ◌≡◌ {A = Result Parts Refusal} (Ok (parts_behind a.full.core held.notes)) (Err q) = sym (parts-read files name a.bytes (parts_behind a.full.core held.notes) a.there (has_parts held a.bytes a.full)) ∙ refuses in cc
 
 -- parts of no more than fewer bytes
 pub within-more : (n most : ℕ) (parts : Parts) → n ≤ most → AreWithin n parts → AreWithin most parts

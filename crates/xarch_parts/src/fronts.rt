@@ -8,6 +8,7 @@ ghost use Rattle.keyed_tree.specs.Data.{PlainKeyed};
 ghost use Rattle.archive_file.specs.Sound.{SoundAs};
 ghost use Rattle.record_cursor.specs.View.{header_view, IsHeader};
 ghost use Rattle.record_format.specs.Files.{header_bytes};
+ghost use Rattle.noted_file.specs.Contents.{Contents};
 ghost use Rattle.xarch_parts.specs.Archives.{ArchiveIs, CoreIs, IsFrontOf, PartsAre};
 ghost use Rattle.xarch_parts.specs.Ends.{Matches, fault_of};
 ghost use Rattle.xarch_parts.specs.Folders.{ReadsOnly};
@@ -82,11 +83,10 @@ pub fn read_front<F: Folder>(
         (F.numbers folder.old) (F.numbers folder.new)) }
 
     // Over a sound archive no more is pulled than its header and these bytes, whatever is answered.
-    ensures few { (files : Files) (rules : List PlainRule) (vs : List PlainKeyed)
-        (notes : List (List ℕ))
+    ensures few { (files : Files) (c : Contents)
         → F.files folder.old ≡ Some files → file_length files name.now ≡ Ok size
-        → ArchiveIs files name.now rules vs notes
-        → PullsAtMost (16 + length (header_bytes rules (length vs)))
+        → ArchiveIs files name.now c
+        → PullsAtMost (16 + length (header_bytes c.rules (length c.versions)))
         (F.numbers folder.old) (F.numbers folder.new) }
 {
     // A law, for the proof of `few`.

@@ -41,12 +41,20 @@ pub fn file_of_versions(
     // In any folder, the file of an archive of these versions and some notes has exactly these bytes,
     // and behind them those of the notes.
     ensures held { (files : Files) (name : List ℕ) (notes : List (List ℕ))
-        → ArchiveIs files name (spec_view spec.now) (map keyed_view versions.now) notes
+        → ArchiveIs files name (record {
+          rules = spec_view spec.now;
+          versions = map keyed_view versions.now;
+          notes = notes;
+        })
         → IfOk result (λ v. finite.get files name ≡ Some (v.items ++ notes_part notes)) }
 
     // Where a folder has such an archive, the answer is never TooLong.
     ensures fits { (files : Files) (name : List ℕ) (notes : List (List ℕ))
-        → ArchiveIs files name (spec_view spec.now) (map keyed_view versions.now) notes
+        → ArchiveIs files name (record {
+          rules = spec_view spec.now;
+          versions = map keyed_view versions.now;
+          notes = notes;
+        })
         → IfErr result (λ e. e ≢ TooLong) }
 {
     // Laws: for the proof of `held`, and for what the two calls require.

@@ -9,6 +9,7 @@ use Rattle.version_notes.specs.Parts.{parts_behind, parts_in}
 use Rattle.version_notes.specs.Reader.{at_first, file_of}
 use Rattle.version_notes.specs.Reading.{notes_from}
 use Rattle.version_notes.specs.declared.parts.Parts.{Parts}
+use Rattle.noted_file.specs.Contents.{Contents}
 use Rattle.noted_file.specs.Full.{Full, FullAs}
 use Rattle.xarch_words.specs.Commands.{check}
 use Rattle.xarch_words.specs.Refusal.{Refusal, no_file, damaged}
@@ -29,7 +30,7 @@ some_is (Some a) h = (a, refl)
 some_is None h = absurd cc
 
 -- From what is known of all archives with notes.
-module _ (has_parts : (rules : List PlainRule) (vs : List PlainKeyed) (notes : List (List ℕ)) (bytes : List ℕ) (full : FullAs rules vs notes bytes) → parts_in bytes ≡ Some (parts_behind full.core notes))
+module _ (has_parts : (c : Contents) (bytes : List ℕ) (full : FullAs c bytes) → parts_in bytes ≡ Some (parts_behind full.core c.notes))
     (none : (bytes : List ℕ) → parts_in bytes ≡ None → ¬ Full bytes)
     (files : Files) (name : List ℕ) where
   early : (x : Result (List ℕ) Refusal) (q : Refusal) → and_then x (parts_of name) ≡ Err q → GoesOn x (IsFound files name) (Err q)
@@ -46,11 +47,11 @@ module _ (has_parts : (rules : List PlainRule) (vs : List PlainKeyed) (notes : L
     judged r is = subst (λ o. GoesOn (or_refuse o (no_file name)) (IsFound files name) r) (sym p.there) is
 
     -- a file with notes has a sound archive before them
-    pub core_sound : (f : Full p.bytes) → SoundAs f.rules f.versions (take parts.core p.bytes)
+    pub core_sound : (f : Full p.bytes) → SoundAs f.contents.rules f.contents.versions (take parts.core p.bytes)
     core_sound f =
-        let both : Some (parts_behind f.is.core f.notes) ≡ Some parts = sym (has_parts f.rules f.versions f.notes p.bytes f.is) ∙ p.are in
-        let same : parts_behind f.is.core f.notes ≡ parts = cc in
-        subst (λ (z : List ℕ). SoundAs f.rules f.versions z) (sym (cut f (ap (λ (x : Parts). x.core) same))) f.is.is
+        let both : Some (parts_behind f.is.core f.contents.notes) ≡ Some parts = sym (has_parts f.contents p.bytes f.is) ∙ p.are in
+        let same : parts_behind f.is.core f.contents.notes ≡ parts = cc in
+        subst (λ (z : List ℕ). SoundAs f.contents.rules f.contents.versions z) (sym (cut f (ap (λ (x : Parts). x.core) same))) f.is.is
       where
         cut : (f : Full p.bytes) → length f.is.core ≡ parts.core → take parts.core p.bytes ≡ f.is.core
         cut f long = ap (λ n. take n p.bytes) (sym long) ∙ ap (take (length f.is.core)) f.is.spelled ∙ take-append_seam f.is.core _
@@ -58,22 +59,23 @@ module _ (has_parts : (rules : List PlainRule) (vs : List PlainKeyed) (notes : L
     -- it has no sound archive before its notes
     pub may_refuse_core : (q : Refusal) → q ≡ damaged name → ¬ Sound (take parts.core p.bytes) → MayBe files (check name) (Err q)
     unfolding MayBe
-    may_refuse_core q named h = judged (Err q) (inr (record { unsound = λ f. h (record { rules = f.rules; versions = f.versions; is = core_sound f }); is = ap (λ (z : Refusal). Err z) named }))
+    may_refuse_core q named h = judged (Err q) (inr (record { unsound = λ f. h (record { rules = f.contents.rules; versions = f.contents.versions; is = core_sound f }); is = ap (λ (z : Refusal). Err z) named }))
 
     whole : file_of files name ≡ p.bytes
     whole = ap bytes_or_none p.there
 
     module _ (s : Sound (take parts.core p.bytes)) (n : ℕ) (count : length s.versions ≡ n) where
       -- its notes are as many as its versions
-      pub may_tell : ((rules : List PlainRule) (vs : List PlainKeyed) (notes : List (List ℕ)) (bytes name : List ℕ) (parts : Parts) → parts_in bytes ≡ Some parts → SoundAs rules vs (take parts.core bytes) → notes_from (at_first name parts (length vs)) bytes ≡ Some notes → FullAs rules vs notes bytes)
+      pub may_tell : ((c : Contents) (bytes name : List ℕ) (parts : Parts) → parts_in bytes ≡ Some parts → SoundAs c.rules c.versions (take parts.core bytes) → notes_from (at_first name parts (length c.versions)) bytes ≡ Some c.notes → FullAs c bytes)
           → IsSome (notes_from (at_first name parts n) (file_of files name)) → MayBe files (check name) (Ok (record { files = files; output = check_text n }))
       unfolding MayBe
       may_tell full some =
           let here : IsSome (notes_from (at_first name parts (length s.versions)) p.bytes) = subst (λ k. IsSome (notes_from (at_first name parts k) p.bytes)) (sym count) (subst (λ b. IsSome (notes_from (at_first name parts n) b)) whole some) in
           let notes = some_is (notes_from (at_first name parts (length s.versions)) p.bytes) here in
+          let c : Contents = record { rules = s.rules; versions = s.versions; notes = notes.0 } in
           judged (Ok (record { files = files; output = check_text n }))
           (inl (record {
-            full = record { rules = s.rules; versions = s.versions; notes = notes.0; is = full s.rules s.versions notes.0 p.bytes name parts p.are s.is notes.1 };
+            full = record { contents = c; is = full c p.bytes name parts p.are s.is notes.1 };
             is = ap (λ (k : ℕ). Ok (record { files = files; output = check_text k })) (sym count);
           }))
 

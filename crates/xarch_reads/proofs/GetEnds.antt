@@ -28,6 +28,7 @@ use Rattle.xarch_parts.specs.Allowed.{MayEnd, MayEndLate, PutSome}
 use Rattle.xarch_parts.specs.AllowedLaws.{defined_refused, MayEnd-did, MayEnd-outside, MayEnd-refused}
 use Rattle.version_notes.specs.Parts.{parts_behind, parts_in}
 use Rattle.version_notes.specs.declared.parts.Parts.{Parts}
+use Rattle.noted_file.specs.Contents.{Contents}
 use Rattle.noted_file.specs.Full.{FullAs}
 use Rattle.xarch_parts.specs.Archives.{ArchiveIs, CoreIs, GoesOn, NoRefusal, PartsAre}
 use Rattle.xarch_parts.specs.CoreLaws.{core-read, core-sound, core-told, no-core, no-parts, of-parts}
@@ -77,7 +78,7 @@ little-of a i x y few = elim (counted-or-not a.n i) [
 
 -- From what is known of all archive files: the number of their versions stands in their header; and of all with notes: where their parts stand.
 module _ (counted : (rules : List PlainRule) (vs : List PlainKeyed) (bytes : List ℕ) → FileOf rules vs bytes → fixed bytes ≡ Some (length vs))
-    (has_parts : (rules : List PlainRule) (vs : List PlainKeyed) (notes : List (List ℕ)) (bytes : List ℕ) (full : FullAs rules vs notes bytes) → parts_in bytes ≡ Some (parts_behind full.core notes))
+    (has_parts : (c : Contents) (bytes : List ℕ) (full : FullAs c bytes) → parts_in bytes ≡ Some (parts_behind full.core c.notes))
     (files : Files) (name : List ℕ) (i size : ℕ) (bytes : List ℕ) (there : CoreIs files name size bytes) where
   abbrev judged : Option ℕ → Result (List ℕ) Refusal
   judged o = and_then (or_refuse o (damaged name)) (λ n. and_then (is_version n i) (λ _. Ok bytes))
@@ -88,19 +89,19 @@ module _ (counted : (rules : List PlainRule) (vs : List PlainKeyed) (bytes : Lis
       ∙ ap judged e
 
   -- a sound archive of this name has these bytes before its notes
-  own-sound : (rules : List PlainRule) (vs : List PlainKeyed) (notes : List (List ℕ)) → ArchiveIs files name rules vs notes → SoundAs rules vs bytes
-  own-sound rules vs notes a = core-sound has_parts files name rules vs notes a size bytes there
+  own-sound : (c : Contents) → ArchiveIs files name c → SoundAs c.rules c.versions bytes
+  own-sound c a = core-sound has_parts files name c a size bytes there
 
   -- its header counts its versions
-  own-count : (n : ℕ) (rules : List PlainRule) (vs : List PlainKeyed) (notes : List (List ℕ)) → fixed bytes ≡ Some n → ArchiveIs files name rules vs notes → n ≡ length vs
-  own-count n rules vs notes e a = let both : Some n ≡ Some (length vs) = sym e ∙ counted rules vs bytes (own-sound rules vs notes a).file in cc
+  own-count : (n : ℕ) (c : Contents) → fixed bytes ≡ Some n → ArchiveIs files name c → n ≡ length c.versions
+  own-count n c e a = let both : Some n ≡ Some (length c.versions) = sym e ∙ counted c.rules c.versions bytes (own-sound c a).file in cc
 
   -- no header stands in front
   no_header : fixed bytes ≡ None → MayBe files (get name i) (Err (damaged name))
   unfolding MayBe
   no_header e = record {
     whatever = subst (λ x. GoesOn x (λ _. MayWrite files name) (Err (damaged name))) (sym (input-is None e)) refl;
-    sound = λ rules vs notes a. (let wrong : Some (length vs) ≡ None = sym (counted rules vs bytes (own-sound rules vs notes a).file) ∙ e in absurd cc);
+    sound = λ c a. (let wrong : Some (length c.versions) ≡ None = sym (counted c.rules c.versions bytes (own-sound c a).file) ∙ e in absurd cc);
   }
 
   module _ (n : ℕ) (e : fixed bytes ≡ Some n) where
@@ -111,10 +112,10 @@ module _ (counted : (rules : List PlainRule) (vs : List PlainKeyed) (bytes : Lis
         let input : get_input files name i ≡ Err (no_version i n) = input-is (Some n) e ∙ ap (λ b. and_then (cond b (Ok tt) (Err (no_version i n))) (λ _. Ok bytes)) uncounted in
         record {
           whatever = subst (λ x. GoesOn x (λ _. MayWrite files name) (Err (no_version i n))) (sym input) refl;
-          sound = λ rules vs notes a. (
-              let same = own-count n rules vs notes e a in
-              let none = (version_there vs i).1 (subst (λ m. ¬ told.is_version i m) same out) in
-              ap (λ m. Err (no_version i m)) same ∙ sym (ap (λ o. and_then (or_refuse o (no_version i (length vs))) (λ k. Ok (record { files = files; output = keyed_text k }))) none));
+          sound = λ c a. (
+              let same = own-count n c e a in
+              let none = (version_there c.versions i).1 (subst (λ m. ¬ told.is_version i m) same out) in
+              ap (λ m. Err (no_version i m)) same ∙ sym (ap (λ o. and_then (or_refuse o (no_version i (length c.versions))) (λ k. Ok (record { files = files; output = keyed_text k }))) none));
         }
 
     module _ (yes : is_counted n i ≡ true) (is : told.is_version i n) where
@@ -122,8 +123,8 @@ module _ (counted : (rules : List PlainRule) (vs : List PlainKeyed) (bytes : Lis
       counted-input = input-is (Some n) e ∙ ap (λ b. and_then (cond b (Ok tt) (Err (no_version i n))) (λ _. Ok bytes)) yes
 
       -- the version that a sound archive has
-      own-version : (rules : List PlainRule) (vs : List PlainKeyed) (notes : List (List ℕ)) → ArchiveIs files name rules vs notes → IsSome (version_of vs i)
-      own-version rules vs notes a = (version_there vs i).0 (subst (λ m. told.is_version i m) (own-count n rules vs notes e a) is)
+      own-version : (c : Contents) → ArchiveIs files name c → IsSome (version_of c.versions i)
+      own-version c a = (version_there c.versions i).0 (subst (λ m. told.is_version i m) (own-count n c e a) is)
 
       written-text : (vs : List PlainKeyed) (output : List ℕ) (o : Option PlainKeyed) → version_of vs i ≡ o → IsSome o → ((k : PlainKeyed) → version_of vs i ≡ Some k → output ≡ keyed_text k)
           → Ok (record { files = files; output = output }) ≡ version_text files vs i
@@ -140,7 +141,7 @@ module _ (counted : (rules : List PlainRule) (vs : List PlainKeyed) (bytes : Lis
           let r : Result Outcome Refusal = Ok (record { files = files; output = output }) in
           record {
             whatever = subst (λ x. GoesOn x (λ _. MayWrite files name) r) (sym counted-input) (inr (record { output = output; is = refl }));
-            sound = λ rules vs notes a. written-text vs output (version_of vs i) refl (own-version rules vs notes a) (λ k at. h rules vs k (own-sound rules vs notes a) at);
+            sound = λ c a. written-text c.versions output (version_of c.versions i) refl (own-version c a) (λ k at. h c.rules c.versions k (own-sound c a) at);
           }
 
       -- the archive is damaged
@@ -148,7 +149,7 @@ module _ (counted : (rules : List PlainRule) (vs : List PlainKeyed) (bytes : Lis
       unfolding MayBe
       may-refuse none = record {
         whatever = subst (λ x. GoesOn x (λ _. MayWrite files name) (Err (damaged name))) (sym counted-input) (inl refl);
-        sound = λ rules vs notes a. absurd (none rules vs (own-sound rules vs notes a));
+        sound = λ c a. absurd (none c.rules c.versions (own-sound c a));
       }
 
   -- ---- how the writing ends
@@ -261,15 +262,15 @@ module _ (name : List ℕ) (i : ℕ) where
   gained-as Memory v old new is nothing g = inl (subst (λ (z : PlainFault). EndsGained (Some z) old new) (sym is) g)
 
 module _ (counted : (rules : List PlainRule) (vs : List PlainKeyed) (bytes : List ℕ) → FileOf rules vs bytes → fixed bytes ≡ Some (length vs))
-    (has_parts : (rules : List PlainRule) (vs : List PlainKeyed) (notes : List (List ℕ)) (bytes : List ℕ) (full : FullAs rules vs notes bytes) → parts_in bytes ≡ Some (parts_behind full.core notes))
+    (has_parts : (c : Contents) (bytes : List ℕ) (full : FullAs c bytes) → parts_in bytes ≡ Some (parts_behind full.core c.notes))
     (text : List ℕ → ℕ → List ℕ) (texts : TellsTexts text)
     (name : List ℕ) (size i : ℕ) (s t : WrittenState) where
   front : (files : Files) (bytes : List ℕ) → s.files ≡ Some files → CoreIs files name size bytes → TellsFront s.files name size bytes
   front files bytes is_told there = core-told files s.files name size bytes is_told there
 
-  little-in : (r : Result Unit GetFault) → WroteSo name size i s t r → (files : Files) (core : List ℕ) (rules : List PlainRule) (vs : List PlainKeyed) (notes : List (List ℕ)) (a : PlainArchive) → s.files ≡ Some files → CoreIs files name size core
-      → ArchiveIs files name rules vs notes → ArchiveOf vs a → PullsAtMost (22 + version_bytes a i) s.numbers t.numbers
-  little-in r w files core rules vs notes a is_told there is of = little-of a i s.numbers t.numbers (w.few core rules vs a (front files core is_told there) (core-sound has_parts files name rules vs notes is size core there) of)
+  little-in : (r : Result Unit GetFault) → WroteSo name size i s t r → (files : Files) (core : List ℕ) (c : Contents) (a : PlainArchive) → s.files ≡ Some files → CoreIs files name size core
+      → ArchiveIs files name c → ArchiveOf c.versions a → PullsAtMost (22 + version_bytes a i) s.numbers t.numbers
+  little-in r w files core c a is_told there is of = little-of a i s.numbers t.numbers (w.few core c.rules c.versions a (front files core is_told there) (core-sound has_parts files name c is size core there) of)
 
   -- it ended with this fault, over a file with these bytes
   ends-as : (e : GetFault) (v : PlainFault) → IsWrittenAs name i e v → (w : WroteSo name size i s t (Err e)) → (files : Files) (bytes : List ℕ) → s.files ≡ Some files → CoreIs files name size bytes
@@ -336,23 +337,23 @@ module _ {S K : Type 0} (files : S → Option Files) (draft : S → Option (List
   get-caused = caused-then (faults a) (faults b) (faults c) (out_faults k) (out_faults k) (out_faults l) v (caused-read 16 a b None (out_faults k) asked) (record { folder_later = w.later; out_later = w.out_later; cause = w.cause })
 
   pub get-little : (parts : Parts) → parts.core ≡ size → ((fs : Files) → files a ≡ Some fs → PartsAre fs name parts) → ReadsLittle (Some (get name i)) (files a) (numbers a) (numbers c)
-  get-little parts long are = λ fs rules vs notes ar is at of. (
+  get-little parts long are = λ fs held ar is at of. (
       let p = are fs is in
       let core = of-core fs name parts size long p in
       PullsAtMost-more (16 + (22 + version_bytes ar i)) (38 + version_bytes ar i) (numbers a) (numbers c) (omega arith)
-      (PullsAtMost-trans 16 (22 + version_bytes ar i) (numbers a) (numbers b) (numbers c) asked.pulls (w.little fs (take parts.core p.bytes) rules vs notes ar (asked.same_files ∙ is) core at of)))
+      (PullsAtMost-trans 16 (22 + version_bytes ar i) (numbers a) (numbers b) (numbers c) asked.pulls (w.little fs (take parts.core p.bytes) held ar (asked.same_files ∙ is) core at of)))
     where
       of-core : (fs : Files) (name : List ℕ) (parts : Parts) (size : ℕ) → parts.core ≡ size → (p : PartsAre fs name parts) → CoreIs fs name size (take parts.core p.bytes)
       of-core fs name parts size long p = subst (λ n. CoreIs fs name n (take parts.core p.bytes)) long (of-parts fs name parts p)
 
 -- ---- the file has no parts
 
-pub absent-parts : (has_parts : (rules : List PlainRule) (vs : List PlainKeyed) (notes : List (List ℕ)) (bytes : List ℕ) (full : FullAs rules vs notes bytes) → parts_in bytes ≡ Some (parts_behind full.core notes))
+pub absent-parts : (has_parts : (c : Contents) (bytes : List ℕ) (full : FullAs c bytes) → parts_in bytes ≡ Some (parts_behind full.core c.notes))
     → (files : Files) (name : List ℕ) (i : ℕ) (v : PlainFault) → IsDefined (read_in files name (parts_of name)) v → (q : Refusal) → v ≡ refused q → MayBe files (get name i) (Err q)
 unfolding MayBe
 absent-parts has_parts files name i v d q e = record {
   whatever = subst (λ x. GoesOn x (λ _. MayWrite files name) (Err q)) (sym (no-input files name i q refuses)) refl;
-  sound = λ rules vs notes a. absurd (no-parts has_parts files name rules vs notes a q refuses);
+  sound = λ c a. absurd (no-parts has_parts files name c a q refuses);
 }
   where
     refuses : read_in files name (parts_of name) ≡ Err q

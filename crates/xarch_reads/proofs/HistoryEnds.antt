@@ -18,6 +18,7 @@ use Rattle.file_history.specs.declared.fault.HistoryFault.{HistoryFault}
 use Rattle.file_history.specs.declared.fault.HistoryFault.TheVariants.{Damage, Folder, Memory}
 use Rattle.record_cursor.specs.View.{PlainHeader, IsHeader}
 use Rattle.version_notes.specs.Parts.{parts_behind, parts_in}
+use Rattle.noted_file.specs.Contents.{Contents}
 use Rattle.noted_file.specs.Full.{FullAs}
 use Rattle.xarch_words.specs.Commands.{history}
 use Rattle.xarch_words.specs.Refusal.{Refusal, damaged, PlainFault, refused, folder_fault, memory}
@@ -71,7 +72,7 @@ abbrev pub told_text : List PlainKeyed → List PlainLabel → List ℕ
 told_text vs labels = numbers_text (hist vs labels)
 
 -- From what is known of all archive files: their header stands in front; and of all with notes: where their parts stand.
-module _ (has_parts : (rules : List PlainRule) (vs : List PlainKeyed) (notes : List (List ℕ)) (bytes : List ℕ) (full : FullAs rules vs notes bytes) → parts_in bytes ≡ Some (parts_behind full.core notes))
+module _ (has_parts : (c : Contents) (bytes : List ℕ) (full : FullAs c bytes) → parts_in bytes ≡ Some (parts_behind full.core c.notes))
     (fronted : (rules : List PlainRule) (vs : List PlainKeyed) (bytes : List ℕ) → closed (canonical rules) ≡ Ok rules → FileOf rules vs bytes → header bytes ≡ Some (rules, length vs))
     (files : Files) (name path : List ℕ) where
   -- a refusal before the records are looked at
@@ -81,24 +82,24 @@ module _ (has_parts : (rules : List PlainRule) (vs : List PlainKeyed) (notes : L
 
   module _ (h : List PlainRule × ℕ) (labels : List PlainLabel) (input : history_input files name path ≡ Ok (h, labels)) where
     -- the numbers are written
-    pub may_write : (output : List ℕ) → ((rules : List PlainRule) (vs : List PlainKeyed) (notes : List (List ℕ)) → ArchiveIs files name rules vs notes → output ≡ numbers_text (hist vs labels))
+    pub may_write : (output : List ℕ) → ((c : Contents) → ArchiveIs files name c → output ≡ numbers_text (hist c.versions labels))
         → MayBe files (history name path) (Ok (record { files = files; output = output }))
     unfolding MayBe
     may_write output told = path-written files name (λ rules. labels_of rules path) told_text has_parts fronted h labels input output told
 
     -- the archive is damaged
-    pub may_refuse : (q : Refusal) → q ≡ damaged name → ((rules : List PlainRule) (vs : List PlainKeyed) (notes : List (List ℕ)) → ¬ ArchiveIs files name rules vs notes) → MayBe files (history name path) (Err q)
+    pub may_refuse : (q : Refusal) → q ≡ damaged name → ((c : Contents) → ¬ ArchiveIs files name c) → MayBe files (history name path) (Err q)
     unfolding MayBe
     may_refuse q e none = path-damaged files name (λ rules. labels_of rules path) told_text has_parts fronted h labels input q e none
 
     -- the labels that the path spells under the rules of a sound archive
-    pub history-given : (rules : List PlainRule) (vs : List PlainKeyed) (notes : List (List ℕ)) → ArchiveIs files name rules vs notes → labels_of rules path ≡ Ok labels
-    history-given rules vs notes a = path-given files name (λ rules. labels_of rules path) told_text has_parts fronted h labels input rules vs notes a
+    pub history-given : (c : Contents) → ArchiveIs files name c → labels_of c.rules path ≡ Ok labels
+    history-given c a = path-given files name (λ rules. labels_of rules path) told_text has_parts fronted h labels input c a
 
     -- the header was read, and then the path was followed
-    pub little-read : (rules : List PlainRule) (vs : List PlainKeyed) (notes : List (List ℕ)) (a : PlainArchive) (x y z : Numbers) → ArchiveIs files name rules vs notes → PullsAtMost (16 + front_size rules vs) x y → PullsAtMost (8 + probed a labels) y z
-        → PullsAtMost (front_size rules vs + (24 + path_bytes a (labels_of rules path))) x z
-    little-read rules vs notes a x y z is p q =
-        let all = PullsAtMost-trans (16 + front_size rules vs) (8 + probed a labels) x y z p q in
-        let most = PullsAtMost-more (16 + front_size rules vs + (8 + probed a labels)) (front_size rules vs + (24 + probed a labels)) x z (omega arith) all in
-        subst (λ r. PullsAtMost (front_size rules vs + (24 + path_bytes a r)) x z) (sym (history-given rules vs notes is)) most
+    pub little-read : (c : Contents) (a : PlainArchive) (x y z : Numbers) → ArchiveIs files name c → PullsAtMost (16 + front_size c.rules c.versions) x y → PullsAtMost (8 + probed a labels) y z
+        → PullsAtMost (front_size c.rules c.versions + (24 + path_bytes a (labels_of c.rules path))) x z
+    little-read c a x y z is p q =
+        let all = PullsAtMost-trans (16 + front_size c.rules c.versions) (8 + probed a labels) x y z p q in
+        let most = PullsAtMost-more (16 + front_size c.rules c.versions + (8 + probed a labels)) (front_size c.rules c.versions + (24 + probed a labels)) x z (omega arith) all in
+        subst (λ r. PullsAtMost (front_size c.rules c.versions + (24 + path_bytes a r)) x z) (sym (history-given c is)) most

@@ -19,6 +19,7 @@ use Rattle.version_notes.specs.Parts.{parts_behind, parts_in}
 use Rattle.version_notes.specs.Reader.{PlainReader, at_first, file_of, first_place}
 use Rattle.version_notes.specs.Reading.{all_from, all_read, notes_from}
 use Rattle.version_notes.specs.declared.parts.Parts.{Parts}
+use Rattle.noted_file.specs.Contents.{Contents}
 use Rattle.noted_file.specs.Full.{FullAs}
 use Rattle.xarch_words.specs.Commands.{versions}
 use Rattle.xarch_words.specs.Refusal.{Refusal, damaged, PlainFault, refused, folder_fault, out_fault, in_fault, memory}
@@ -128,9 +129,9 @@ module _ {S O : Type 0} (files : S → Option Files) (draft : S → Option (List
 -- ---- what may come
 
 -- From what is known of all archives with notes: where their parts stand, their header, and what a reader gives of them.
-module _ (has_parts : (rules : List PlainRule) (vs : List PlainKeyed) (notes : List (List ℕ)) (bytes : List ℕ) (full : FullAs rules vs notes bytes) → parts_in bytes ≡ Some (parts_behind full.core notes))
+module _ (has_parts : (c : Contents) (bytes : List ℕ) (full : FullAs c bytes) → parts_in bytes ≡ Some (parts_behind full.core c.notes))
     (fronted : (rules : List PlainRule) (vs : List PlainKeyed) (bytes : List ℕ) → closed (canonical rules) ≡ Ok rules → FileOf rules vs bytes → header bytes ≡ Some (rules, length vs))
-    (come : (rules : List PlainRule) (vs : List PlainKeyed) (notes : List (List ℕ)) (bytes name : List ℕ) (parts : Parts) → FullAs rules vs notes bytes → parts_in bytes ≡ Some parts → notes_from (at_first name parts (length vs)) bytes ≡ Some notes)
+    (come : (c : Contents) (bytes name : List ℕ) (parts : Parts) → FullAs c bytes → parts_in bytes ≡ Some parts → notes_from (at_first name parts (length c.versions)) bytes ≡ Some c.notes)
     (files : Files) (name : List ℕ) where
   clash : (q : Refusal) (h : List PlainRule × ℕ) → ◌≡◌ {A = Result (List PlainRule × ℕ) Refusal} (Err q) (Ok h) → ⊥
   clash q h e = cc
@@ -140,7 +141,7 @@ module _ (has_parts : (rules : List PlainRule) (vs : List PlainKeyed) (notes : L
   unfolding MayBe
   may_refuse_early q e = record {
     whatever = subst (λ x. GoesOn x (λ _. MayWrite files name) (Err q)) (sym e) refl;
-    sound = λ rules vs notes a. absurd (clash q (rules, length vs) (sym e ∙ front-sound has_parts files name rules vs notes a fronted));
+    sound = λ c a. absurd (clash q (c.rules, length c.versions) (sym e ∙ front-sound has_parts files name c a fronted));
   }
 
   module _ (h : List PlainRule × ℕ) (input : versions_input files name ≡ Ok h) (parts : Parts) (p : PartsAre files name parts) where
@@ -150,15 +151,15 @@ module _ (has_parts : (rules : List PlainRule) (vs : List PlainKeyed) (notes : L
     abbrev left : Option (List (List ℕ))
     left = notes_from reader (file_of files name)
 
-    counted : (rules : List PlainRule) (vs : List PlainKeyed) (notes : List (List ℕ)) → ArchiveIs files name rules vs notes → h.1 ≡ length vs
-    counted rules vs notes a = let both : Ok h ≡ Ok (rules, length vs) = sym input ∙ front-sound has_parts files name rules vs notes a fronted in let same : h ≡ (rules, length vs) = cc in ap (λ (z : List PlainRule × ℕ). z.1) same
+    counted : (c : Contents) → ArchiveIs files name c → h.1 ≡ length c.versions
+    counted c a = let both : Ok h ≡ Ok (c.rules, length c.versions) = sym input ∙ front-sound has_parts files name c a fronted in let same : h ≡ (c.rules, length c.versions) = cc in ap (λ (z : List PlainRule × ℕ). z.1) same
 
     -- the notes of an archive are those that are left
-    own-notes : (rules : List PlainRule) (vs : List PlainKeyed) (notes : List (List ℕ)) → ArchiveIs files name rules vs notes → left ≡ Some notes
-    own-notes rules vs notes a =
+    own-notes : (c : Contents) → ArchiveIs files name c → left ≡ Some c.notes
+    own-notes c a =
         let same = same-file files name a.bytes p.bytes a.there p.there in
-        let here = come rules vs notes a.bytes name parts a.full (ap parts_in same ∙ p.are) in
-        ap (λ n. notes_from (at_first name parts n) (file_of files name)) (counted rules vs notes a) ∙ ap (notes_from (at_first name parts (length vs))) (ap bytes_or_none a.there) ∙ here
+        let here = come c a.bytes name parts a.full (ap parts_in same ∙ p.are) in
+        ap (λ n. notes_from (at_first name parts n) (file_of files name)) (counted c a) ∙ ap (notes_from (at_first name parts (length c.versions))) (ap bytes_or_none a.there) ∙ here
 
     -- something is written, and the lines of the notes of an archive
     may-write : (output : List ℕ) → ((notes : List (List ℕ)) → left ≡ Some notes → output ≡ versions_text notes) → MayBe files (versions name) (Ok (record { files = files; output = output }))
@@ -167,7 +168,7 @@ module _ (has_parts : (rules : List PlainRule) (vs : List PlainKeyed) (notes : L
         let r : Result Outcome Refusal = Ok (record { files = files; output = output }) in
         record {
           whatever = subst (λ x. GoesOn x (λ _. MayWrite files name) r) (sym input) (inr (record { output = output; is = refl }));
-          sound = λ rules vs notes a. ap (λ (o : List ℕ). Ok (record { files = files; output = o })) (told notes (own-notes rules vs notes a));
+          sound = λ c a. ap (λ (o : List ℕ). Ok (record { files = files; output = o })) (told c.notes (own-notes c a));
         }
 
     no-notes : (notes : List (List ℕ)) → left ≡ None → left ≡ Some notes → ⊥
@@ -181,7 +182,7 @@ module _ (has_parts : (rules : List PlainRule) (vs : List PlainKeyed) (notes : L
     unfolding MayBe
     may-refuse e = record {
       whatever = subst (λ x. GoesOn x (λ _. MayWrite files name) (Err (damaged name))) (sym input) (inl refl);
-      sound = λ rules vs notes a. absurd (no-notes notes e (own-notes rules vs notes a));
+      sound = λ c a. absurd (no-notes c.notes e (own-notes c a));
     }
 
     module _ (after : Option Files) (same : after ≡ Some files) (old new : Taken) (gained : Gained old new) where

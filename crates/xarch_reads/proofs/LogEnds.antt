@@ -25,6 +25,7 @@ use Rattle.content_log.specs.Written.{leaf_bytes}
 use Rattle.content_log.specs.declared.fault.LogFault.{LogFault}
 use Rattle.content_log.specs.declared.fault.LogFault.TheVariants.{Damage, Folder, Out, Memory}
 use Rattle.version_notes.specs.Parts.{parts_behind, parts_in}
+use Rattle.noted_file.specs.Contents.{Contents}
 use Rattle.noted_file.specs.Full.{FullAs}
 use Rattle.xarch_words.specs.Commands.{log}
 use Rattle.xarch_words.specs.Refusal.{Refusal, damaged, PlainFault, refused, folder_fault, out_fault, memory}
@@ -117,7 +118,7 @@ pub record LoggedSo (name : List ℕ) (h : PlainHeader) (labels : List PlainLabe
       → PullsAtMost (8 + probed a labels + leaf_bytes (node_along a labels)) s.numbers t.numbers
 
 -- From what is known of all archive files: their header stands in front; and of all with notes: where their parts stand.
-module _ (has_parts : (rules : List PlainRule) (vs : List PlainKeyed) (notes : List (List ℕ)) (bytes : List ℕ) (full : FullAs rules vs notes bytes) → parts_in bytes ≡ Some (parts_behind full.core notes))
+module _ (has_parts : (c : Contents) (bytes : List ℕ) (full : FullAs c bytes) → parts_in bytes ≡ Some (parts_behind full.core c.notes))
     (fronted : (rules : List PlainRule) (vs : List PlainKeyed) (bytes : List ℕ) → closed (canonical rules) ≡ Ok rules → FileOf rules vs bytes → header bytes ≡ Some (rules, length vs)) where
   -- a refusal before the records are looked at
   pub log-refused : (files : Files) (name path : List ℕ) (q : Refusal) → log_input files name path ≡ Err q → MayBe files (log name path) (Err q)
@@ -126,16 +127,16 @@ module _ (has_parts : (rules : List PlainRule) (vs : List PlainKeyed) (notes : L
 
   -- the labels are those that the path spells under the rules of the archive
   pub log-given : (files : Files) (name path : List ℕ) (h : List PlainRule × ℕ) (labels : List PlainLabel) → log_input files name path ≡ Ok (h, labels)
-      → (rules : List PlainRule) (vs : List PlainKeyed) (notes : List (List ℕ)) → ArchiveIs files name rules vs notes → frontier_of rules path ≡ Ok labels
-  log-given files name path h labels input rules vs notes a = path-given files name (λ rules. frontier_of rules path) log_text has_parts fronted h labels input rules vs notes a
+      → (c : Contents) → ArchiveIs files name c → frontier_of c.rules path ≡ Ok labels
+  log-given files name path h labels input c a = path-given files name (λ rules. frontier_of rules path) log_text has_parts fronted h labels input c a
 
   -- And from what the bytes of a sound archive tell: its versions.
   module _ (versions : List ℕ → List PlainKeyed) (tells : (bytes : List ℕ) (rules : List PlainRule) (vs : List PlainKeyed) → SoundAs rules vs bytes → versions bytes ≡ vs)
       (name : List ℕ) (h : PlainHeader) (labels : List PlainLabel) (s t : WrittenState) where
-    little-in : (r : Result Unit LogFault) → LoggedSo name h labels s t r → (files : Files) (rules : List PlainRule) (vs : List PlainKeyed) (notes : List (List ℕ)) (a : PlainArchive) → s.files ≡ Some files → IsFrontOf files name h
-        → ArchiveIs files name rules vs notes → ArchiveOf vs a → PullsAtMost (8 + probed a labels + leaf_bytes (node_along a labels)) s.numbers t.numbers
-    little-in r w files rules vs notes a is_told front is of =
-        w.few front.core rules vs a (front-told files s.files name h is_told front) (header-is files s.files name h is_told front) (core-sound has_parts files name rules vs notes is h.length front.core front.of) of
+    little-in : (r : Result Unit LogFault) → LoggedSo name h labels s t r → (files : Files) (c : Contents) (a : PlainArchive) → s.files ≡ Some files → IsFrontOf files name h
+        → ArchiveIs files name c → ArchiveOf c.versions a → PullsAtMost (8 + probed a labels + leaf_bytes (node_along a labels)) s.numbers t.numbers
+    little-in r w files c a is_told front is of =
+        w.few front.core c.rules c.versions a (front-told files s.files name h is_told front) (header-is files s.files name h is_told front) (core-sound has_parts files name c is h.length front.core front.of) of
 
     -- the files are told, this header stands in front, and the path spells the labels
     module _ (files : Files) (path : List ℕ) (is_told : s.files ≡ Some files) (front : IsFrontOf files name h) (input : log_input files name path ≡ Ok ((h.rules, h.versions), labels)) where
@@ -163,14 +164,14 @@ module _ (has_parts : (rules : List PlainRule) (vs : List PlainKeyed) (notes : L
       unfolding MayBe
       may-write output is =
           path-written files name (λ rules. frontier_of rules path) log_text has_parts fronted (h.rules, h.versions) labels input output
-          (λ rules vs notes a. is rules vs (core-sound has_parts files name rules vs notes a h.length front.core front.of))
+          (λ c a. is c.rules c.versions (core-sound has_parts files name c a h.length front.core front.of))
 
       -- the archive is damaged
       may-refuse : ((rules : List PlainRule) (vs : List PlainKeyed) → ¬ SoundAs rules vs front.core) → Allowed (Err (damaged name))
       unfolding MayBe
       may-refuse none =
           path-damaged files name (λ rules. frontier_of rules path) log_text has_parts fronted (h.rules, h.versions) labels input (damaged name) refl
-          (λ rules vs notes a. none rules vs (core-sound has_parts files name rules vs notes a h.length front.core front.of))
+          (λ c a. none c.rules c.versions (core-sound has_parts files name c a h.length front.core front.of))
 
       -- a front of the log was written before the outside failed
       stopped : (e : LogFault) (v : PlainFault) → NoRefusal v → LoggedSo name h labels s t (Err e) → Ends (Some v)

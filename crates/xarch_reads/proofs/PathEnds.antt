@@ -8,6 +8,7 @@ use Rattle.keyed_tree.specs.Data.{PlainLabel, PlainKeyed}
 use Rattle.record_format.specs.Files.{FileOf}
 use Rattle.record_format.specs.Fronts.{header}
 use Rattle.version_notes.specs.Parts.{parts_behind, parts_in}
+use Rattle.noted_file.specs.Contents.{Contents}
 use Rattle.noted_file.specs.Full.{FullAs}
 use Rattle.xarch_words.specs.Refusal.{Refusal, damaged}
 use Rattle.xarch_parts.specs.Archives.{ArchiveIs, GoesOn}
@@ -38,43 +39,43 @@ module _ (files : Files) (name : List ℕ) (spelled : List PlainRule → Result 
   outcome_over rules vs = and_then (spelled rules) (λ labels. Ok (record { files = files; output = text vs labels }))
 
   abbrev MayTell : Result Outcome Refusal → Type 0
-  MayTell r = MayOver files name (GoesOn path_input (λ _. MayWrite files name)) (λ rules vs notes s. s ≡ outcome_over rules vs) r
+  MayTell r = MayOver files name (GoesOn path_input (λ _. MayWrite files name)) (λ c s. s ≡ outcome_over c.rules c.versions) r
 
   -- From what is known of all archive files: their header stands in front; and of all with notes: where their parts stand.
-  module _ (has_parts : (rules : List PlainRule) (vs : List PlainKeyed) (notes : List (List ℕ)) (bytes : List ℕ) (full : FullAs rules vs notes bytes) → parts_in bytes ≡ Some (parts_behind full.core notes))
+  module _ (has_parts : (c : Contents) (bytes : List ℕ) (full : FullAs c bytes) → parts_in bytes ≡ Some (parts_behind full.core c.notes))
       (fronted : (rules : List PlainRule) (vs : List PlainKeyed) (bytes : List ℕ) → closed (canonical rules) ≡ Ok rules → FileOf rules vs bytes → header bytes ≡ Some (rules, length vs)) where
     -- over a sound archive the path is read by its rules
-    input-sound : (rules : List PlainRule) (vs : List PlainKeyed) (notes : List (List ℕ)) → ArchiveIs files name rules vs notes → path_input ≡ beside (rules, length vs) (spelled rules)
-    input-sound rules vs notes a = ap (λ x. and_then x (λ (h : List PlainRule × ℕ). beside h (spelled h.0))) (front-sound has_parts files name rules vs notes a fronted)
+    input-sound : (c : Contents) → ArchiveIs files name c → path_input ≡ beside (c.rules, length c.versions) (spelled c.rules)
+    input-sound c a = ap (λ x. and_then x (λ (h : List PlainRule × ℕ). beside h (spelled h.0))) (front-sound has_parts files name c a fronted)
 
     -- a refusal before the records are looked at
     pub path-refused : (q : Refusal) → path_input ≡ Err q → MayTell (Err q)
     path-refused q e = record {
       whatever = subst (λ x. GoesOn x (λ _. MayWrite files name) (Err q)) (sym e) refl;
-      sound = λ rules vs notes a. (
-          let none = beside-refused (rules, length vs) (spelled rules) q (sym (input-sound rules vs notes a) ∙ e) in
-          sym (ap (λ x. and_then x (λ labels. Ok (record { files = files; output = text vs labels }))) none));
+      sound = λ c a. (
+          let none = beside-refused (c.rules, length c.versions) (spelled c.rules) q (sym (input-sound c a) ∙ e) in
+          sym (ap (λ x. and_then x (λ labels. Ok (record { files = files; output = text c.versions labels }))) none));
     }
 
     module _ (h : List PlainRule × ℕ) (labels : List PlainLabel) (input : path_input ≡ Ok (h, labels)) where
-      pub path-given : (rules : List PlainRule) (vs : List PlainKeyed) (notes : List (List ℕ)) → ArchiveIs files name rules vs notes → spelled rules ≡ Ok labels
-      path-given rules vs notes a = beside-given (rules, length vs) h (spelled rules) labels (sym (input-sound rules vs notes a) ∙ input)
+      pub path-given : (c : Contents) → ArchiveIs files name c → spelled c.rules ≡ Ok labels
+      path-given c a = beside-given (c.rules, length c.versions) h (spelled c.rules) labels (sym (input-sound c a) ∙ input)
 
       -- something is written, and of a sound archive what is defined
-      pub path-written : (output : List ℕ) → ((rules : List PlainRule) (vs : List PlainKeyed) (notes : List (List ℕ)) → ArchiveIs files name rules vs notes → output ≡ text vs labels)
+      pub path-written : (output : List ℕ) → ((c : Contents) → ArchiveIs files name c → output ≡ text c.versions labels)
           → MayTell (Ok (record { files = files; output = output }))
       path-written output told =
           let r : Result Outcome Refusal = Ok (record { files = files; output = output }) in
           record {
             whatever = subst (λ x. GoesOn x (λ _. MayWrite files name) r) (sym input) (inr (record { output = output; is = refl }));
-            sound = λ rules vs notes a. (
-                ap (λ (o : List ℕ). Ok (record { files = files; output = o })) (told rules vs notes a)
-                ∙ sym (ap (λ x. and_then x (λ labels. Ok (record { files = files; output = text vs labels }))) (path-given rules vs notes a)));
+            sound = λ c a. (
+                ap (λ (o : List ℕ). Ok (record { files = files; output = o })) (told c a)
+                ∙ sym (ap (λ x. and_then x (λ labels. Ok (record { files = files; output = text c.versions labels }))) (path-given c a)));
           }
 
       -- the archive is damaged
-      pub path-damaged : (q : Refusal) → q ≡ damaged name → ((rules : List PlainRule) (vs : List PlainKeyed) (notes : List (List ℕ)) → ¬ ArchiveIs files name rules vs notes) → MayTell (Err q)
+      pub path-damaged : (q : Refusal) → q ≡ damaged name → ((c : Contents) → ¬ ArchiveIs files name c) → MayTell (Err q)
       path-damaged q e none = record {
         whatever = subst (λ x. GoesOn x (λ _. MayWrite files name) (Err q)) (sym input) (inl (ap (λ s. Err s) e));
-        sound = λ rules vs notes a. absurd (none rules vs notes a);
+        sound = λ c a. absurd (none c a);
       }

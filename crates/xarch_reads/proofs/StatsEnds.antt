@@ -11,6 +11,7 @@ use Rattle.archive_stats.specs.Counts.{PlainCounts, counts}
 use Rattle.version_notes.specs.Notes.{notes_part}
 use Rattle.version_notes.specs.Parts.{parts_behind, parts_in}
 use Rattle.version_notes.specs.declared.parts.Parts.{Parts}
+use Rattle.noted_file.specs.Contents.{Contents}
 use Rattle.noted_file.specs.Full.{FullAs}
 use Rattle.xarch_words.specs.Commands.{stats}
 use Rattle.xarch_words.specs.Refusal.{Refusal, damaged}
@@ -23,14 +24,14 @@ use Rattle.xarch_meanings.specs.Plausible.{MayWrite, MayBe, stats_input}
 use Rattle.xarch_meanings.specs.Stats.{counts_text, of_size}
 
 -- From what is known of all archives with notes: where their parts stand.
-module _ (has_parts : (rules : List PlainRule) (vs : List PlainKeyed) (notes : List (List ℕ)) (bytes : List ℕ) (full : FullAs rules vs notes bytes) → parts_in bytes ≡ Some (parts_behind full.core notes))
+module _ (has_parts : (c : Contents) (bytes : List ℕ) (full : FullAs c bytes) → parts_in bytes ≡ Some (parts_behind full.core c.notes))
     (files : Files) (name : List ℕ) where
   -- the archive is not there, or has no parts
   pub may_refuse_early : (q : Refusal) → stats_input files name ≡ Err q → MayBe files (stats name) (Err q)
   unfolding MayBe
   may_refuse_early q e = record {
     whatever = subst (λ x. GoesOn x (λ _. MayWrite files name) (Err q)) (sym e) refl;
-    sound = λ rules vs notes a. absurd (no-parts has_parts files name rules vs notes a q e);
+    sound = λ c a. absurd (no-parts has_parts files name c a q e);
   }
 
   module _ (parts : Parts) (p : PartsAre files name parts) where
@@ -41,12 +42,12 @@ module _ (has_parts : (rules : List PlainRule) (vs : List PlainKeyed) (notes : L
     core = of-parts files name parts p
 
     -- the bytes of the archive and its notes are those of the file
-    whole : (rules : List PlainRule) (vs : List PlainKeyed) (notes : List (List ℕ)) (a : ArchiveIs files name rules vs notes) (n : ℕ) → file_length files name ≡ Ok n → n ≡ (counts rules a.full.is.file.archive).bytes + length (notes_part notes)
+    whole : (c : Contents) (a : ArchiveIs files name c) (n : ℕ) → file_length files name ≡ Ok n → n ≡ (counts c.rules a.full.is.file.archive).bytes + length (notes_part c.notes)
     unfolding counts
-    whole rules vs notes a n long =
+    whole c a n long =
         let all = length-is files name a.bytes n a.there long in
-        let split = ap length a.full.spelled ∙ length-append a.full.core (notes_part notes) in
-        let spelled : length a.full.core ≡ (counts rules a.full.is.file.archive).bytes = ap length a.full.is.file.spelled in
+        let split = ap length a.full.spelled ∙ length-append a.full.core (notes_part c.notes) in
+        let spelled : length a.full.core ≡ (counts c.rules a.full.is.file.archive).bytes = ap length a.full.is.file.spelled in
         omega (arith, all, split, spelled)
 
     -- the counts are written
@@ -58,15 +59,15 @@ module _ (has_parts : (rules : List PlainRule) (vs : List PlainKeyed) (notes : L
         let r : Result Outcome Refusal = Ok (record { files = files; output = counts_text (of_size n c) }) in
         record {
           whatever = subst (λ x. GoesOn x (λ _. MayWrite files name) r) (sym input) (inr (record { output = counts_text (of_size n c); is = refl }));
-          sound = λ rules vs notes a.
+          sound = λ held a.
               let file = a.full.is.file in
-              let here = core-sound has_parts files name rules vs notes a parts.core (take parts.core p.bytes) core in
-              let same : c ≡ counts rules file.archive = h (take parts.core p.bytes) rules vs file.archive (core-front files name parts.core (take parts.core p.bytes) core) here file.is in
+              let here = core-sound has_parts files name held a parts.core (take parts.core p.bytes) core in
+              let same : c ≡ counts held.rules file.archive = h (take parts.core p.bytes) held.rules held.versions file.archive (core-front files name parts.core (take parts.core p.bytes) core) here file.is in
               record {
                 archive = file.archive;
                 of = file.is;
                 is = ap (λ (k : PlainCounts). Ok (record { files = files; output = counts_text (of_size n k) })) same
-                    ∙ ap (λ k. Ok (record { files = files; output = counts_text (of_size k (counts rules file.archive)) })) (whole rules vs notes a n long);
+                    ∙ ap (λ k. Ok (record { files = files; output = counts_text (of_size k (counts held.rules file.archive)) })) (whole held a n long);
               };
         }
 
@@ -75,7 +76,7 @@ module _ (has_parts : (rules : List PlainRule) (vs : List PlainKeyed) (notes : L
     unfolding MayBe
     may_refuse h = record {
       whatever = subst (λ x. GoesOn x (λ _. MayWrite files name) (Err (damaged name))) (sym input) (inl refl);
-      sound = λ rules vs notes a. absurd (h (take parts.core p.bytes) rules vs (core-front files name parts.core (take parts.core p.bytes) core) (core-sound has_parts files name rules vs notes a parts.core (take parts.core p.bytes) core));
+      sound = λ c a. absurd (h (take parts.core p.bytes) c.rules c.versions (core-front files name parts.core (take parts.core p.bytes) core) (core-sound has_parts files name c a parts.core (take parts.core p.bytes) core));
     }
 
 -- the refusal that is named

@@ -2,8 +2,7 @@
 use Rattle.std.specs.Prelude.{◌≡◌, ◌⊎◌, ℕ, ◌+◌, ◌-◌, ◌≤◌, List, Option, Some, Ok}
 use Rattle.xa_outside.specs.Folder.{Files}
 use Rattle.xa_outside.specs.Numbers.{PullsAtMost}
-use Rattle.key_spec.specs.Data.{PlainRule}
-use Rattle.keyed_tree.specs.Data.{PlainLabel, PlainKeyed}
+use Rattle.keyed_tree.specs.Data.{PlainLabel}
 use Rattle.archive_tree.specs.Data.{PlainArchive}
 use Rattle.archive_tree.specs.Stands.{ArchiveOf}
 use Rattle.record_format.specs.Probed.{probed}
@@ -12,6 +11,7 @@ use Rattle.file_history.specs.Leads.{node_along}
 use Rattle.content_log.specs.Written.{leaf_bytes}
 use Rattle.content_log.specs.declared.fault.LogFault.{LogFault}
 use Rattle.content_log.specs.declared.fault.LogFault.TheVariants.{Damage, Folder, Out, Memory}
+use Rattle.noted_file.specs.Contents.{Contents}
 use Rattle.xarch_words.specs.Commands.{log}
 use Rattle.xarch_words.specs.Refusal.{damaged, PlainFault, refused, folder_fault, out_fault, memory}
 use Rattle.xarch_parts.specs.Allowed.{MayEndLate}
@@ -40,5 +40,5 @@ pub record Logs (name : List ℕ) (h : PlainHeader) (labels : List PlainLabel) (
   pub gained : (path : List ℕ) → GainsBy (Some (log name path)) ended s.taken t.taken
   pub may : (files : Files) (path : List ℕ) → s.files ≡ Some files → IsFrontOf files name h → log_input files name path ≡ Ok ((h.rules, h.versions), labels)
       → MayEndLate (MayComeLate files (Some (log name path))) (MayBe files (log name path)) ended t.files s.taken t.taken
-  pub little : (files : Files) (rules : List PlainRule) (vs : List PlainKeyed) (notes : List (List ℕ)) (a : PlainArchive) → s.files ≡ Some files → IsFrontOf files name h → ArchiveIs files name rules vs notes → ArchiveOf vs a
+  pub little : (files : Files) (c : Contents) (a : PlainArchive) → s.files ≡ Some files → IsFrontOf files name h → ArchiveIs files name c → ArchiveOf c.versions a
       → PullsAtMost (8 + probed a labels + leaf_bytes (node_along a labels)) s.numbers t.numbers

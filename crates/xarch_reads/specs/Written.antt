@@ -3,12 +3,11 @@ use Rattle.std.specs.Prelude.{◌≡◌, ◌⊎◌, ℕ, ◌+◌, ◌≤◌, Lis
 use Rattle.xa_outside.specs.Folder.{Files}
 use Rattle.xa_outside.specs.Numbers.{Numbers, PullsAtMost}
 use Rattle.xa_outside.specs.Taken.{Taken}
-use Rattle.key_spec.specs.Data.{PlainRule}
-use Rattle.keyed_tree.specs.Data.{PlainKeyed}
 use Rattle.archive_tree.specs.Data.{PlainArchive}
 use Rattle.archive_tree.specs.Stands.{ArchiveOf}
 use Rattle.file_get.specs.declared.fault.GetFault.{GetFault}
 use Rattle.file_get.specs.declared.fault.GetFault.TheVariants.{NoVersion, Damage, Folder, Out, Memory}
+use Rattle.noted_file.specs.Contents.{Contents}
 use Rattle.xarch_words.specs.Commands.{get}
 use Rattle.xarch_words.specs.Refusal.{damaged, no_version, PlainFault, refused, folder_fault, out_fault, memory}
 use Rattle.xarch_parts.specs.Allowed.{MayEndLate}
@@ -49,5 +48,5 @@ pub record Writes (name : List ℕ) (size i : ℕ) (s t : WrittenState) (ended :
   pub cause : IsOfCommand s.faults t.faults s.out_faults t.out_faults ended
   pub gained : GainsBy (Some (get name i)) ended s.taken t.taken
   pub may : (files : Files) (core : List ℕ) → s.files ≡ Some files → CoreIs files name size core → MayEndLate (MayComeLate files (Some (get name i))) (MayBe files (get name i)) ended t.files s.taken t.taken
-  pub little : (files : Files) (core : List ℕ) (rules : List PlainRule) (vs : List PlainKeyed) (notes : List (List ℕ)) (a : PlainArchive) → s.files ≡ Some files → CoreIs files name size core → ArchiveIs files name rules vs notes → ArchiveOf vs a
+  pub little : (files : Files) (core : List ℕ) (c : Contents) (a : PlainArchive) → s.files ≡ Some files → CoreIs files name size core → ArchiveIs files name c → ArchiveOf c.versions a
       → PullsAtMost (22 + version_bytes a i) s.numbers t.numbers

@@ -1,14 +1,13 @@
 // What is asked of an archive by a path.
 #![tactic(auto, using(xarch_parts::specs::EndLaws::endings), unfolding(xarch_parts::specs::Ends::IsInside, xarch_parts::specs::Ends::IsDefined, xarch_meanings::specs::History::labels_of))]
 
-ghost use Rattle.std.specs.Prelude.{◌≡◌, ◌≤◌, ◌+◌, ℕ, List, Some, IfOk, map};
+ghost use Rattle.std.specs.Prelude.{◌≡◌, ◌≤◌, ◌+◌, Some, IfOk, map};
 ghost use Rattle.xa_outside.specs.Folder.{Files};
 ghost use Rattle.xa_outside.specs.Numbers.{PullsAtMost};
-ghost use Rattle.key_spec.specs.Data.{PlainRule};
 ghost use Rattle.key_spec.specs.View.{spec_view};
-ghost use Rattle.keyed_tree.specs.Data.{PlainKeyed};
 ghost use Rattle.keyed_tree.specs.View.{label_view};
 ghost use Rattle.record_cursor.specs.View.{header_view, IsHeader};
+ghost use Rattle.noted_file.specs.Contents.{Contents};
 ghost use Rattle.xarch_parts.specs.Archives.{ArchiveIs, IsFrontOf};
 ghost use Rattle.xarch_parts.specs.Ends.{IsInside, Matches, fault_of};
 ghost use Rattle.xarch_parts.specs.Folders.{ReadsOnly};
@@ -55,10 +54,10 @@ pub(crate) fn read_asked<F: Folder>(
         ((header_view r.0).length ≤ size_in (F.files folder.old) archive.now)
         × PullsAtMost (16 + (header_view r.0).first)
         (F.numbers folder.old) (F.numbers folder.new)) }
-    ensures few { (files : Files) (rules : List PlainRule) (vs : List PlainKeyed)
-        (notes : List (List ℕ))
-        → F.files folder.old ≡ Some files → ArchiveIs files archive.now rules vs notes
-        → PullsAtMost (16 + front_size rules vs) (F.numbers folder.old) (F.numbers folder.new) }
+    ensures few { (files : Files) (c : Contents)
+        → F.files folder.old ≡ Some files → ArchiveIs files archive.now c
+        → PullsAtMost (16 + front_size c.rules c.versions)
+        (F.numbers folder.old) (F.numbers folder.new) }
 {
     let front = front_of(alloc, archive, folder)?;
     let labels = labels_from(alloc, &front.header.spec, path)?;

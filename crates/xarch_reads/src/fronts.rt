@@ -1,11 +1,10 @@
 #![tactic(auto, using(xarch_parts::specs::EndLaws::endings))]
 
-ghost use Rattle.std.specs.Prelude.{◌≡◌, ◌+◌, ◌≤◌, ℕ, List, Some, IfOk};
+ghost use Rattle.std.specs.Prelude.{◌≡◌, ◌+◌, ◌≤◌, Some, IfOk};
 ghost use Rattle.xa_outside.specs.Folder.{Files};
 ghost use Rattle.xa_outside.specs.Numbers.{PullsAtMost};
-ghost use Rattle.key_spec.specs.Data.{PlainRule};
-ghost use Rattle.keyed_tree.specs.Data.{PlainKeyed};
 ghost use Rattle.record_cursor.specs.View.{header_view, IsHeader};
+ghost use Rattle.noted_file.specs.Contents.{Contents};
 ghost use Rattle.xarch_parts.specs.Archives.{ArchiveIs, IsFrontOf, PartsAre};
 ghost use Rattle.xarch_parts.specs.Ends.{Matches, fault_of};
 ghost use Rattle.xarch_parts.specs.Folders.{ReadsOnly};
@@ -60,10 +59,10 @@ pub(crate) fn front_of<F: Folder>(
     ensures once { IfOk result (λ f. ((header_view f.header).length ≡ f.parts.core)
         × PullsAtMost (16 + (header_view f.header).first)
         (F.numbers folder.old) (F.numbers folder.new)) }
-    ensures few { (files : Files) (rules : List PlainRule) (vs : List PlainKeyed)
-        (notes : List (List ℕ))
-        → F.files folder.old ≡ Some files → ArchiveIs files archive.now rules vs notes
-        → PullsAtMost (16 + front_size rules vs) (F.numbers folder.old) (F.numbers folder.new) }
+    ensures few { (files : Files) (c : Contents)
+        → F.files folder.old ≡ Some files → ArchiveIs files archive.now c
+        → PullsAtMost (16 + front_size c.rules c.versions)
+        (F.numbers folder.old) (F.numbers folder.new) }
 {
     let size = length_of(alloc, folder, archive)?;
     read_front(alloc, folder, archive, size)

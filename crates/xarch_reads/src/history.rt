@@ -1,18 +1,17 @@
 #![tactic(auto, using(xarch_parts::specs::EndLaws::endings), unfolding(xarch_parts::specs::Ends::IsInside, xarch_parts::specs::Ends::IsDefined))]
 
-ghost use Rattle.std.specs.Prelude.{◌≡◌, ◌<◌, ◌+◌, ◌-◌, ℕ, List, Some, IfOk, IfErr, map, string_bytes};
+ghost use Rattle.std.specs.Prelude.{◌≡◌, ◌<◌, ◌+◌, ◌-◌, Some, IfOk, IfErr, map, string_bytes};
 ghost use Rattle.version_set.specs.Members.{members};
 ghost use Rattle.version_set.specs.View.{pairs_of};
 ghost use Rattle.xa_outside.specs.Folder.{Files};
 ghost use Rattle.xa_outside.specs.Numbers.{PullsAtMost};
-ghost use Rattle.key_spec.specs.Data.{PlainRule};
-ghost use Rattle.keyed_tree.specs.Data.{PlainKeyed};
 ghost use Rattle.keyed_tree.specs.View.{label_view};
 ghost use Rattle.archive_tree.specs.Data.{PlainArchive};
 ghost use Rattle.archive_tree.specs.History.{hist};
 ghost use Rattle.archive_tree.specs.Stands.{ArchiveOf};
 ghost use Rattle.record_cursor.specs.View.{header_view, IsHeader};
 ghost use Rattle.record_format.specs.Probed.{probed};
+ghost use Rattle.noted_file.specs.Contents.{Contents};
 ghost use Rattle.xarch_words.specs.Commands.{history};
 ghost use Rattle.xarch_words.specs.Refusal as refusal;
 ghost use Rattle.xarch_words.specs.View.{fault_view};
@@ -78,23 +77,19 @@ fn versions_by<F: Folder, L: Ledger>(
         folder.old folder.new (fault_of result) }
     ensures damaged { IfErr result
         (λ f. IsRefusal (refusal.damaged search.now.archive.now) (fault_view f)) }
-    ensures members { (files : Files) (rules : List PlainRule) (vs : List PlainKeyed)
-        (notes : List (List ℕ))
-        → F.files folder.old ≡ Some files
+    ensures members { (files : Files) (c : Contents) → F.files folder.old ≡ Some files
         → IsFrontOf files search.now.archive.now (header_view search.now.header.now)
-        → ArchiveIs files search.now.archive.now rules vs notes
-        → IfOk result (λ s. members (pairs_of s) ≡ hist vs (map label_view search.now.path.now)) }
-    ensures undamaged { (files : Files) (rules : List PlainRule) (vs : List PlainKeyed)
-        (notes : List (List ℕ))
-        → F.files folder.old ≡ Some files
+        → ArchiveIs files search.now.archive.now c
+        → IfOk result (λ s. members (pairs_of s)
+        ≡ hist c.versions (map label_view search.now.path.now)) }
+    ensures undamaged { (files : Files) (c : Contents) → F.files folder.old ≡ Some files
         → IsFrontOf files search.now.archive.now (header_view search.now.header.now)
-        → ArchiveIs files search.now.archive.now rules vs notes
+        → ArchiveIs files search.now.archive.now c
         → IfErr result (λ f. NoRefusal (fault_view f)) }
-    ensures few { (files : Files) (rules : List PlainRule) (vs : List PlainKeyed)
-        (notes : List (List ℕ)) (a : PlainArchive)
+    ensures few { (files : Files) (c : Contents) (a : PlainArchive)
         → F.files folder.old ≡ Some files
         → IsFrontOf files search.now.archive.now (header_view search.now.header.now)
-        → ArchiveIs files search.now.archive.now rules vs notes → ArchiveOf vs a
+        → ArchiveIs files search.now.archive.now c → ArchiveOf c.versions a
         → PullsAtMost (8 + probed a (map label_view search.now.path.now))
         (F.numbers folder.old) (F.numbers folder.new) }
 {

@@ -2,8 +2,7 @@
 use Rattle.std.proofs.Common.{◌≡◌, ◌⊎◌, inl, inr, ℕ, List, Option, Some, None, Result, Err, refl, sym, ap, ◌∙◌, subst, arith}
 use Rattle.std.specs.FinMap as finite
 use Rattle.xa_outside.specs.Folder.{Files}
-use Rattle.key_spec.specs.Data.{PlainRule}
-use Rattle.keyed_tree.specs.Data.{PlainKeyed}
+use Rattle.noted_file.specs.Contents.{Contents}
 use Rattle.noted_file.specs.Full.{Full, FullAs}
 use Rattle.xarch_words.specs.Commands.{check}
 use Rattle.xarch_words.specs.Refusal.{Refusal, no_file}
@@ -52,7 +51,7 @@ module _ (files : Files) (name : List ℕ) where
 
     by-file : (o : Option (List ℕ)) (r : Result Outcome Refusal) → finite.get files name ≡ o → GoesOn (or_refuse o (no_file name)) (IsFound files name) r → s ≡ step_from files r → TellsSoundness files name s
     by-file None r none e is = tells-absent (status-from r (Err (no_file name)) is e) none
-    by-file (Some bytes) r there (inl p) is = tells-sound (status-from r (checked files p.full.versions) is p.is) (record { bytes = bytes; there = there; is = p.full })
+    by-file (Some bytes) r there (inl p) is = tells-sound (status-from r (checked files p.full.contents.versions) is p.is) (record { bytes = bytes; there = there; is = p.full })
     by-file (Some bytes) r there (inr p) is = tells-damaged (status-from r _ is p.is) (record { bytes = bytes; there = there; is = p.unsound })
 
     -- no refusal of it comes late
@@ -65,11 +64,11 @@ module _ (files : Files) (name : List ℕ) where
     judging m = by-file (finite.get files name) m.outcome refl m.may (plain m)
 
     -- a sound archive's versions are counted
-    pub checking : ((rules others : List PlainRule) (vs us : List PlainKeyed) (notes more : List (List ℕ)) (bytes : List ℕ) → FullAs rules vs notes bytes → FullAs others us more bytes → (rules ≡ others) × (vs ≡ us) × (notes ≡ more))
+    pub checking : ((c d : Contents) (bytes : List ℕ) → FullAs c bytes → FullAs d bytes → c ≡ d)
         → (h : Held) → Holds files name h → CommandMay files (Some (check name)) s → s ≡ step_from files (checked files h.versions)
     unfolding MayBe
     checking one h a m = plain m ∙ ap (step_from files) (judged m.outcome (subst (λ o. GoesOn (or_refuse o (no_file name)) (IsFound files name) m.outcome) a.there m.may))
       where
         judged : (r : Result Outcome Refusal) → IsFound files name a.bytes r → r ≡ checked files h.versions
-        judged r (inl p) = p.is ∙ ap (checked files) (one p.full.rules h.rules p.full.versions h.versions p.full.notes h.notes a.bytes p.full.is a.full).1
-        judged r (inr p) = absurd (p.unsound (record { rules = h.rules; versions = h.versions; notes = h.notes; is = a.full }))
+        judged r (inl p) = p.is ∙ ap (λ (x : Contents). checked files x.versions) (one p.full.contents h a.bytes p.full.is a.full)
+        judged r (inr p) = absurd (p.unsound (record { contents = h; is = a.full }))

@@ -1,5 +1,5 @@
 -- What was handed in to an archive is what its file holds.
-use Rattle.std.proofs.Common.{◌≡◌, ◌≢◌, inl, inr, ℕ, zero, suc, Bool, true, false, List, [], ◌∷◌, ◌++◌, length, replicate, Option, Some, None, Result, Ok, Err, refl, sym, ap, ◌∙◌, subst}
+use Rattle.std.proofs.Common.{◌≡◌, ◌≢◌, inl, inr, ℕ, zero, suc, Bool, true, false, List, [], ◌∷◌, length, Option, Some, None, Result, Ok, Err, refl, sym, ap, ◌∙◌, subst}
 use Rattle.std.specs.FinMap as finite
 use Rattle.std.specs.List.{AllByRecursion}
 use Rattle.std.specs.Str.{bytes_eq}
@@ -10,7 +10,6 @@ use Rattle.keyed_tree.specs.Kids.{IsOrdered}
 use Rattle.archive_tree.specs.Stands.{version_of}
 use Rattle.archive_file.specs.KeyedBy.{IsKeyedBy}
 use Rattle.archive_file.specs.Sound.{SoundAs}
-use Rattle.archive_cut.specs.Sliced.{items}
 use Rattle.archive_rekey.specs.Rekeyed.{AreRekeyed, IsFirstBad}
 use Rattle.archive_text.specs.Export.{ExportOf}
 use Rattle.key_rules.specs.Faults.{PlainKeyFault}
@@ -19,15 +18,17 @@ use Rattle.xarch_words.specs.Commands.{PlainCommand, norm, init, add, rekey, get
 use Rattle.xarch_words.specs.Refusal.{specification, Refusal, bad_text, exists, no_file}
 use Rattle.xarch_words.specs.Refusal as refusal
 use Rattle.xarch_meanings.specs.Add.{AddsTo, added}
+use Rattle.noted_file.specs.Contents.{Contents, fronted, unnoted, with_keys, with_version}
 use Rattle.noted_file.specs.Full.{FullAs, FullOf}
+use Rattle.noted_file.proofs.Readings.{same-contents}
 use Rattle.xarch_parts.specs.Archives.{ArchiveIs, GoesOn, Stores, free_in, short_note}
-use Rattle.xarch_meanings.specs.Cut.{CutsFrom, cut_checked, noted_items}
+use Rattle.xarch_meanings.specs.Cut.{CutsFrom, cut_checked, slice}
 use Rattle.xarch_meanings.specs.Demo.{MakesOrNone, demo_input, samples}
 use Rattle.xarch_meanings.specs.Get.{version_text}
 use Rattle.xarch_meanings.specs.History.{history_text}
 use Rattle.xarch_meanings.specs.Import.{ImportsFrom, import_text}
 use Rattle.xarch_meanings.specs.Init.{init_rules}
-use Rattle.xarch_meanings.specs.Join.{JoinsFrom, join_checked}
+use Rattle.xarch_meanings.specs.Join.{JoinsFrom, join_checked, joined}
 use Rattle.xarch_meanings.specs.Log.{logged}
 use Rattle.xarch_parts.specs.Inputs.{at_most, length_in, read_in}
 use Rattle.xarch_parts.specs.Outcome.{Outcome, Step, or_refuse, step_from}
@@ -39,7 +40,7 @@ use Rattle.xarch_meanings.specs.Succeeds.{HasArchive, ShouldSucceed}
 use Rattle.xarch_meanings.specs.Table.{short_rules, table_input}
 use Rattle.xarch_meanings.specs.Versions.{listed}
 use Rattle.xarch_run.specs.Calls.{CommandMay, CommandsDid}
-use Rattle.xarch_run.specs.Held.{Accepted, AddsDoc, BeginsWith, Begun, ChangesKeys, ChangesOrTells, CutsOrTells, GoesOver, HandedIn, Held, HeldAfter, HeldBy, Holds, HoldsBehind, HoldsExactly, IsHandedIn, IsRekeyed, JoinsOrTells, MakesArchive, MakesFile, NoneMakes, RefusalsKeep, TakesKeys, WritesCounts, WritesText, cut_held, joined_held, with_keyed}
+use Rattle.xarch_run.specs.Held.{Accepted, AddsDoc, BeginsWith, Begun, ChangesKeys, ChangesOrTells, CutsOrTells, GoesOver, HandedIn, Held, HeldAfter, HeldBy, Holds, HoldsBehind, HoldsExactly, IsHandedIn, IsRekeyed, JoinsOrTells, MakesArchive, MakesFile, NoneMakes, RefusalsKeep, TakesKeys, WritesCounts, WritesText}
 use Rattle.xarch_run.specs.Steps.{files_after}
 use Rattle.xarch_run.proofs.OneFile.{archive-moves, chained, cut-taken, ends-refused, goes, import-taken, init-spelled, init-taken, is_for, join-taken, made-is, never, other-name, others-kept, same-name, stored-is, table-taken, taken}
 use Rattle.xarch_run.proofs.Statuses.{status-other}
@@ -72,10 +73,10 @@ module _ (files : Files) (name : List ℕ) (h : Held) (a : Holds files name h) w
   unfolding MayBe
   not-refused doc note k q handed m =
       let over = subst (λ (x : Result Unit Refusal). GoesOn x (λ _. MayOver files name (GoesOn (add_input files name doc) (λ _. MayAdd files name)) (AddsTo files name doc note)) (Err q)) handed.short m in
-      let adds = over.sound h.rules h.versions h.notes a in
-      stored (subst (λ x. GoesOn x (λ j. Stores files name h.rules (h.versions ++ j ∷ []) (h.notes ++ note ∷ [])) (Err q)) handed.satisfies adds)
+      let adds = over.sound h a in
+      stored (subst (λ x. GoesOn x (λ j. Stores files name (with_version h j note)) (Err q)) handed.satisfies adds)
     where
-      stored : Stores files name h.rules (h.versions ++ k ∷ []) (h.notes ++ note ∷ []) (Err q) → ⊥
+      stored : Stores files name (with_version h k note) (Err q) → ⊥
       stored (inl st) = (let no : ◌≡◌ {A = Result Outcome Refusal} (Err q) (Ok _) = st.is in cc)
       stored (inr long) = long.none handed.bytes handed.file
 
@@ -84,35 +85,35 @@ module _ (files : Files) (name : List ℕ) (h : Held) (a : Holds files name h) w
   unfolding MayBe
   was-handed doc note o m =
       goes o (short_note note) (λ _. MayOver files name (GoesOn (add_input files name doc) (λ _. MayAdd files name)) (AddsTo files name doc note)) (Ok o) refl m (λ u short over.
-      goes o (added files doc h.rules (length h.versions)) (λ k. Stores files name h.rules (h.versions ++ k ∷ []) (h.notes ++ note ∷ [])) (Ok o) refl (over.sound h.rules h.versions h.notes a) (λ k is s.
-      let archive = stored-is files o name h.rules (h.versions ++ k ∷ []) (h.notes ++ note ∷ []) s in
+      goes o (added files doc h.rules (length h.versions)) (λ k. Stores files name (with_version h k note)) (Ok o) refl (over.sound h a) (λ k is s.
+      let archive = stored-is files o name (with_version h k note) s in
       record { tree = k; handed = record { short = short; satisfies = is; bytes = archive.full.core; file = archive.full.is.file }; archive = archive }))
 
   -- a specification that is handed in is not refused
   not-rekeyed : (one : OneRekeying) (spec : List ℕ) (i : Held) (q : Refusal) → IsRekeyed files name spec h i → MayBe files (rekey name spec) (Err q) → ⊥
   unfolding MayBe
   not-rekeyed one spec i q keyed m =
-      comes (subst (λ x. GoesOn x (RekeysTo files name h.versions h.notes) (Err q)) keyed.specified (m.sound h.rules h.versions h.notes a))
+      comes (subst (λ x. GoesOn x (RekeysTo files name h) (Err q)) keyed.specified (m.sound h a))
     where
-      stored : Stores files name i.rules i.versions h.notes (Err q) → ⊥
+      stored : Stores files name (with_keys h i.rules i.versions) (Err q) → ⊥
       stored (inl st) = (let no : ◌≡◌ {A = Result Outcome Refusal} (Err q) (Ok _) = st.is in cc)
       stored (inr long) = long.none keyed.bytes keyed.file
 
-      comes : RekeysTo files name h.versions h.notes i.rules (Err q) → ⊥
-      comes (inl s) = stored (subst (λ us. Stores files name i.rules us h.notes (Err q)) (one.one_list i.rules h.versions s.versions i.versions s.are keyed.satisfied) s.rest)
+      comes : RekeysTo files name h i.rules (Err q) → ⊥
+      comes (inl s) = stored (subst (λ (us : List PlainKeyed). Stores files name (with_keys h i.rules us) (Err q)) (one.one_list i.rules h.versions s.versions i.versions s.are keyed.satisfied) s.rest)
       comes (inr b) = one.apart i.rules h.versions i.versions b.number b.fault keyed.satisfied b.first
 
   -- one that is not refused was handed in
   was-rekeyed : (spec : List ℕ) (o : Outcome) → MayBe files (rekey name spec) (Ok o) → TakesKeys files name spec h o.files
   unfolding MayBe
   was-rekeyed spec o m =
-      goes o (rekey_rules files name spec) (RekeysTo files name h.versions h.notes) (Ok o) refl (m.sound h.rules h.versions h.notes a) (λ rules is s. comes rules is s)
+      goes o (rekey_rules files name spec) (RekeysTo files name h) (Ok o) refl (m.sound h a) (λ rules is s. comes rules is s)
     where
-      comes : (rules : List PlainRule) → rekey_rules files name spec ≡ Ok rules → RekeysTo files name h.versions h.notes rules (Ok o) → TakesKeys files name spec h o.files
+      comes : (rules : List PlainRule) → rekey_rules files name spec ≡ Ok rules → RekeysTo files name h rules (Ok o) → TakesKeys files name spec h o.files
       comes rules is (inl s) =
-          let archive = stored-is files o name rules s.versions h.notes s.rest in
+          let archive = stored-is files o name (with_keys h rules s.versions) s.rest in
           record {
-            under = record { rules = rules; versions = s.versions; notes = h.notes };
+            under = with_keys h rules s.versions;
             keys = record { specified = is; satisfied = s.are; noted = refl; bytes = archive.full.core; file = archive.full.is.file };
             archive = archive;
           }
@@ -120,7 +121,7 @@ module _ (files : Files) (name : List ℕ) (h : Held) (a : Holds files name h) w
 
   -- where its file is as it was
   same-held : (o : Outcome) → finite.get o.files name ≡ finite.get files name → Holds o.files name h
-  same-held o e = archive-moves files o.files name h.rules h.versions h.notes a e
+  same-held o e = archive-moves files o.files name h a e
 
   unchanged : (o : Outcome) (command : PlainCommand) → is_for name command ≡ false → MayBe files command (Ok o) → Holds o.files name h
   unchanged o command e m = same-held o (others-kept files name o (Ok o) refl command e m)
@@ -130,7 +131,7 @@ module _ (files : Files) (name : List ℕ) (h : Held) (a : Holds files name h) w
       (λ e.
       let same = same-name name other e in
       let k = was-handed doc note o (subst (λ n. MayBe files (add n doc note) (Ok o)) (sym same) m) in
-      record { held = with_keyed h k.tree note; first = inl (same, inl (record { tree = k.tree; handed = k.handed; is = refl })); archive = k.archive })
+      record { held = with_version h k.tree note; first = inl (same, inl (record { tree = k.tree; handed = k.handed; is = refl })); archive = k.archive })
       (λ e. record { held = h; first = inr (other-name name other e, refl); archive = unchanged o (add other doc note) e m })
 
   rekey-goes : (o : Outcome) (other spec : List ℕ) → MayBe files (rekey other spec) (Ok o) → Goes files name h (Some (rekey other spec)) o.files
@@ -145,7 +146,7 @@ module _ (files : Files) (name : List ℕ) (h : Held) (a : Holds files name h) w
   unfolding MayBe
   init-here o other spec e m =
       let taken-here = subst (λ n. finite.get files n ≡ Some a.bytes) (same-name name other e) a.there in
-      goes o (init_rules files other spec) (λ rules. Stores files other rules [] []) (Ok o) refl m (λ new is _. init-taken files other spec a.bytes new taken-here is)
+      goes o (init_rules files other spec) (λ rules. Stores files other (unnoted rules [])) (Ok o) refl m (λ new is _. init-taken files other spec a.bytes new taken-here is)
 
   demo-here : (o : Outcome) (seed count : ℕ) (other : List ℕ) → bytes_eq name other ≡ true → MayBe files (demo seed count other) (Ok o) → Holds o.files name h
   unfolding MayBe
@@ -268,16 +269,10 @@ one-tree files doc note h k j p q = same (added files doc h.rules (length h.vers
     same x e f = cc
 
 one-added : (files : Files) (doc note : List ℕ) (h i j : Held) → AddsDoc files doc note h i → AddsDoc files doc note h j → i ≡ j
-one-added files doc note h i j (inl p) (inl q) = p.is ∙ ap (λ (k : PlainKeyed). with_keyed h k note) (one-tree files doc note h p.tree q.tree p.handed q.handed) ∙ sym q.is
+one-added files doc note h i j (inl p) (inl q) = p.is ∙ ap (λ (k : PlainKeyed). with_version h k note) (one-tree files doc note h p.tree q.tree p.handed q.handed) ∙ sym q.is
 one-added files doc note h i j (inl p) (inr q) = absurd (q.none p.tree p.handed)
 one-added files doc note h i j (inr p) (inl q) = absurd (p.none q.tree q.handed)
 one-added files doc note h i j (inr p) (inr q) = p.is ∙ sym q.is
-
-both-held : (i j : Held) → i.rules ≡ j.rules → i.versions ≡ j.versions → i.notes ≡ j.notes → i ≡ j
-both-held i j e f n =
-    let rules : i ≡ record { rules = j.rules; versions = i.versions; notes = i.notes } = ap (λ (r : List PlainRule). record { rules = r; versions = i.versions; notes = i.notes }) e in
-    let versions : ◌≡◌ {A = Held} (record { rules = j.rules; versions = i.versions; notes = i.notes }) (record { rules = j.rules; versions = j.versions; notes = i.notes }) = ap (λ (us : List PlainKeyed). record { rules = j.rules; versions = us; notes = i.notes }) f in
-    rules ∙ versions ∙ ap (λ (ns : List (List ℕ)). record { rules = j.rules; versions = j.versions; notes = ns }) n
 
 same-rules : (x : Result (List PlainRule) Refusal) (r s : List PlainRule) → x ≡ Ok r → x ≡ Ok s → r ≡ s
 same-rules x r s e f = cc
@@ -285,7 +280,7 @@ same-rules x r s e f = cc
 one-keys : (one : OneRekeying) (files : Files) (name spec : List ℕ) (h i j : Held) → IsRekeyed files name spec h i → IsRekeyed files name spec h j → i ≡ j
 one-keys one files name spec h i j p q =
     let rules = same-rules (rekey_rules files name spec) i.rules j.rules p.specified q.specified in
-    both-held i j rules (one.one_list j.rules h.versions i.versions j.versions (subst (λ r. AreRekeyed r h.versions i.versions) rules p.satisfied) q.satisfied) (p.noted ∙ sym q.noted)
+    same-contents i j rules (one.one_list j.rules h.versions i.versions j.versions (subst (λ r. AreRekeyed r h.versions i.versions) rules p.satisfied) q.satisfied) (p.noted ∙ sym q.noted)
 
 one-changed : (one : OneRekeying) (files : Files) (name spec : List ℕ) (h i j : Held) → ChangesKeys files name spec h i → ChangesKeys files name spec h j → i ≡ j
 one-changed one files name spec h i j (inl p) (inl q) = one-keys one files name spec h i j p q
@@ -352,7 +347,7 @@ refused-status files s written q is success =
 
 -- a file has one reading
 abbrev pub OneReading : Type 0
-OneReading = (rules others : List PlainRule) (vs us : List PlainKeyed) (notes more : List (List ℕ)) (bytes : List ℕ) → FullAs rules vs notes bytes → FullAs others us more bytes → (rules ≡ others) × (vs ≡ us) × (notes ≡ more)
+OneReading = (c d : Contents) (bytes : List ℕ) → FullAs c bytes → FullAs d bytes → c ≡ d
 
 one-some : (x y : List ℕ) (o : Option (List ℕ)) → o ≡ Some x → o ≡ Some y → x ≡ y
 one-some x y o e f = cc
@@ -360,41 +355,40 @@ one-some x y o e f = cc
 -- a file holds one thing
 pub one-held : OneReading → (files : Files) (name : List ℕ) (h i : Held) → Holds files name h → Holds files name i → h ≡ i
 one-held one files name h i a b =
-    let same = one h.rules i.rules h.versions i.versions h.notes i.notes b.bytes (subst (FullAs h.rules h.versions h.notes) (one-some a.bytes b.bytes (finite.get files name) a.there b.there) a.full) b.full in
-    both-held h i same.0 same.1 same.2
+    one h i b.bytes (subst (FullAs h) (one-some a.bytes b.bytes (finite.get files name) a.there b.there) a.full) b.full
 
 -- ---- how an archive begins
 
 -- an archive's file is one whose notes are all empty
 abbrev pub AreNoted : Type 0
-AreNoted = (rules : List PlainRule) (vs : List PlainKeyed) (bytes : List ℕ) → SoundAs rules vs bytes → FullAs rules vs (replicate (length vs) []) bytes
+AreNoted = (rules : List PlainRule) (vs : List PlainKeyed) (bytes : List ℕ) → SoundAs rules vs bytes → FullAs (unnoted rules vs) bytes
 
 init-begins : (files : Files) (name other spec : List ℕ) (o : Outcome) → name ≡ other → MayBe files (init other spec) (Ok o) → Begun files name (Some (init other spec)) o.files
 unfolding MayBe
-init-begins files name other spec o same m = goes o (init_rules files other spec) (λ rules. Stores files other rules [] []) (Ok o) refl m (λ rules is s. record {
-  held = record { rules = rules; versions = []; notes = [] };
+init-begins files name other spec o same m = goes o (init_rules files other spec) (λ rules. Stores files other (unnoted rules [])) (Ok o) refl m (λ rules is s. record {
+  held = unnoted rules [];
   begins = (same, (init-spelled (free_in files other) (length_in files spec refusal.specification 1048576) (read_in files spec rules_of) rules is, refl, refl));
-  archive = subst (λ n. ArchiveIs o.files n rules [] []) (sym same) (stored-is files o other rules [] [] s);
+  archive = subst (λ n. ArchiveIs o.files n (unnoted rules [])) (sym same) (stored-is files o other (unnoted rules []) s);
 })
 
 demo-begins : (noted : AreNoted) (files : Files) (name other : List ℕ) (seed count : ℕ) (o : Outcome) → name ≡ other → MayBe files (demo seed count other) (Ok o) → Begun files name (Some (demo seed count other)) o.files
 unfolding MayBe
 demo-begins noted files name other seed count o same m = goes o (demo_input files count other) (λ _. MakesOrNone files other seed count) (Ok o) refl m (λ _ _ s. record {
-  held = record { rules = company_rules; versions = samples seed count; notes = replicate (length (samples seed count)) [] };
+  held = unnoted company_rules (samples seed count);
   begins = (same, refl);
-  archive = subst (λ n. ArchiveIs o.files n company_rules (samples seed count) (replicate (length (samples seed count)) [])) (sym same) (made-is noted files o other seed count s);
+  archive = subst (λ n. ArchiveIs o.files n (unnoted company_rules (samples seed count))) (sym same) (made-is noted files o other seed count s);
 })
 
 -- some versions of a sound archive, with their notes
 cut-begins : (files : Files) (name other new : List ℕ) (i j : ℕ) (o : Outcome) → name ≡ new → HasArchive files other → MayBe files (cut other new i j) (Ok o) → Begun files name (Some (cut other new i j)) o.files
 unfolding MayBe
 cut-begins files name other new i j o same has m =
-    let whole : Held = record { rules = has.rules; versions = has.versions; notes = has.notes } in
-    let comes : CutsFrom files new i j has.rules has.versions has.notes (Ok o) = m.sound has.rules has.versions has.notes has.archive in
-    goes o (cut_checked files new i j (length has.versions)) (λ _. Stores files new has.rules (items i j has.versions) (noted_items i j has.notes)) (Ok o) refl comes (λ _ _ s. record {
-      held = cut_held i j whole;
+    let whole = has.contents in
+    let comes : CutsFrom files new i j whole (Ok o) = m.sound whole has.archive in
+    goes o (cut_checked files new i j (length whole.versions)) (λ _. Stores files new (slice i j whole)) (Ok o) refl comes (λ _ _ s. record {
+      held = slice i j whole;
       begins = (same, record { whole = whole; from = has.archive; is = refl });
-      archive = subst (λ n. ArchiveIs o.files n has.rules (items i j has.versions) (noted_items i j has.notes)) (sym same) (stored-is files o new has.rules (items i j has.versions) (noted_items i j has.notes) s);
+      archive = subst (λ n. ArchiveIs o.files n (slice i j whole)) (sym same) (stored-is files o new (slice i j whole) s);
     })
 
 -- the versions of two sound archives, with their notes
@@ -403,13 +397,13 @@ unfolding MayBe
 join-begins files name one two new o same has m =
     let h : HasArchive files one = has.0 in
     let g : HasArchive files two = has.1 in
-    let first : Held = record { rules = h.rules; versions = h.versions; notes = h.notes } in
-    let second : Held = record { rules = g.rules; versions = g.versions; notes = g.notes } in
-    let comes : JoinsFrom files one two new h.rules h.versions h.notes g.rules g.versions g.notes (Ok o) = m.sound h.rules h.versions h.notes g.rules g.versions g.notes h.archive g.archive in
-    goes o (join_checked files one two new h.rules (length h.versions) g.rules (length g.versions)) (λ _. Stores files new h.rules (h.versions ++ g.versions) (h.notes ++ g.notes)) (Ok o) refl comes (λ _ _ s. record {
-      held = joined_held first second;
+    let first = h.contents in
+    let second = g.contents in
+    let comes : JoinsFrom files one two new first second (Ok o) = m.sound first second h.archive g.archive in
+    goes o (join_checked files one two new (fronted first) (fronted second)) (λ _. Stores files new (joined first second)) (Ok o) refl comes (λ _ _ s. record {
+      held = joined first second;
       begins = (same, record { first = first; second = second; from = h.archive; behind = g.archive; is = refl });
-      archive = subst (λ n. ArchiveIs o.files n h.rules (h.versions ++ g.versions) (h.notes ++ g.notes)) (sym same) (stored-is files o new h.rules (h.versions ++ g.versions) (h.notes ++ g.notes) s);
+      archive = subst (λ n. ArchiveIs o.files n (joined first second)) (sym same) (stored-is files o new (joined first second) s);
     })
 
 -- the bytes of the text
@@ -428,9 +422,9 @@ import-begins files name text new o same m = goes o (import_text files text new)
   where
     begun : (bytes : List ℕ) → import_text files text new ≡ Ok bytes → ImportsFrom files new bytes (Ok o) → Begun files name (Some (import text new)) o.files
     begun bytes is (inl p) = record {
-      held = record { rules = p.rules; versions = p.versions; notes = p.notes };
+      held = p.contents;
       begins = (same, record { bytes = bytes; there = import-there files text new bytes is; spelled = p.spelled; file = p.stored.bytes; full = p.stored.full });
-      archive = subst (λ n. ArchiveIs o.files n p.rules p.versions p.notes) (sym same) (stored-is files o new p.rules p.versions p.notes (inl p.stored));
+      archive = subst (λ n. ArchiveIs o.files n p.contents) (sym same) (stored-is files o new p.contents (inl p.stored));
     }
     begun bytes is (inr n) = never o bad_text (Ok o) refl n.is
 
@@ -500,11 +494,8 @@ begins-over files name (Some (stats other)) h b = tt
 begins-over files name (Some (versions other)) h b = tt
 begins-over files name (Some (export other)) h b = tt
 begins-over files name (Some (import text new)) h b = tt
-begins-over files name (Some (cut other new i j)) h b = record { rules = b.1.whole.rules; versions = b.1.whole.versions; notes = b.1.whole.notes; archive = b.1.from }
-begins-over files name (Some (join one two new)) h b = (
-  record { rules = b.1.first.rules; versions = b.1.first.versions; notes = b.1.first.notes; archive = b.1.from },
-  record { rules = b.1.second.rules; versions = b.1.second.versions; notes = b.1.second.notes; archive = b.1.behind },
-)
+begins-over files name (Some (cut other new i j)) h b = record { contents = b.1.whole; archive = b.1.from }
+begins-over files name (Some (join one two new)) h b = (record { contents = b.1.first; archive = b.1.from }, record { contents = b.1.second; archive = b.1.behind })
 begins-over files name (Some (table csv tag keys doc)) h b = tt
 begins-over files name (Some (tablekeys tag keys spec)) h b = tt
 begins-over files name (Some batch) h b = tt
@@ -512,14 +503,13 @@ begins-over files name (Some (demo seed count other)) h b = tt
 
 -- a text has one reading
 abbrev pub OneText : Type 0
-OneText = (rules others : List PlainRule) (vs us : List PlainKeyed) (notes more : List (List ℕ)) (file other text : List ℕ) → FullAs rules vs notes file → FullAs others us more other → ExportOf rules vs notes text → ExportOf others us more text
-    → (rules ≡ others) × (vs ≡ us) × (notes ≡ more)
+OneText = (c d : Contents) (file other text : List ℕ) → FullAs c file → FullAs d other → ExportOf c text → ExportOf d text → c ≡ d
 
 -- it begins with one thing to hold
-same-beginning : (reading : OneReading) (texts : OneText) (files : Files) (name : List ℕ) (command : Option PlainCommand) (h g : Held) → BeginsWith files name command h → BeginsWith files name command g → (h.rules ≡ g.rules) × (h.versions ≡ g.versions) × (h.notes ≡ g.notes)
+same-beginning : (reading : OneReading) (texts : OneText) (files : Files) (name : List ℕ) (command : Option PlainCommand) (h g : Held) → BeginsWith files name command h → BeginsWith files name command g → h ≡ g
 same-beginning reading texts files name None h g b c = absurd b
 same-beginning reading texts files name (Some (norm spec doc)) h g b c = absurd b
-same-beginning reading texts files name (Some (init other spec)) h g b c = (one-reading (read_in files spec rules_of) b.1.0 c.1.0, b.1.1 ∙ sym c.1.1, b.1.2 ∙ sym c.1.2)
+same-beginning reading texts files name (Some (init other spec)) h g b c = same-contents h g (one-reading (read_in files spec rules_of) b.1.0 c.1.0) (b.1.1 ∙ sym c.1.1) (b.1.2 ∙ sym c.1.2)
   where
     one-reading : (x : Result (List PlainRule) Refusal) → x ≡ Ok h.rules → x ≡ Ok g.rules → h.rules ≡ g.rules
     one-reading x e f = cc
@@ -534,26 +524,23 @@ same-beginning reading texts files name (Some (versions other)) h g b c = absurd
 same-beginning reading texts files name (Some (export other)) h g b c = absurd b
 same-beginning reading texts files name (Some (import text new)) h g b c =
     let bytes : b.1.bytes ≡ c.1.bytes = one-some b.1.bytes c.1.bytes (finite.get files text) b.1.there c.1.there in
-    texts h.rules g.rules h.versions g.versions h.notes g.notes b.1.file c.1.file c.1.bytes b.1.full c.1.full (subst (ExportOf h.rules h.versions h.notes) bytes b.1.spelled) c.1.spelled
+    texts h g b.1.file c.1.file c.1.bytes b.1.full c.1.full (subst (ExportOf h) bytes b.1.spelled) c.1.spelled
 same-beginning reading texts files name (Some (cut other new i j)) h g b c =
     let whole : b.1.whole ≡ c.1.whole = one-held reading files other b.1.whole c.1.whole b.1.from c.1.from in
-    let same : h ≡ g = b.1.is ∙ ap (cut_held i j) whole ∙ sym c.1.is in
-    (ap (λ (z : Held). z.rules) same, ap (λ (z : Held). z.versions) same, ap (λ (z : Held). z.notes) same)
+    b.1.is ∙ ap (slice i j) whole ∙ sym c.1.is
 same-beginning reading texts files name (Some (join one two new)) h g b c =
     let first : b.1.first ≡ c.1.first = one-held reading files one b.1.first c.1.first b.1.from c.1.from in
     let second : b.1.second ≡ c.1.second = one-held reading files two b.1.second c.1.second b.1.behind c.1.behind in
-    let same : h ≡ g = b.1.is ∙ ap (λ (z : Held). joined_held z b.1.second) first ∙ ap (joined_held c.1.first) second ∙ sym c.1.is in
-    (ap (λ (z : Held). z.rules) same, ap (λ (z : Held). z.versions) same, ap (λ (z : Held). z.notes) same)
+    b.1.is ∙ ap (λ (z : Held). joined z b.1.second) first ∙ ap (joined c.1.first) second ∙ sym c.1.is
 same-beginning reading texts files name (Some (table csv tag keys doc)) h g b c = absurd b
 same-beginning reading texts files name (Some (tablekeys tag keys spec)) h g b c = absurd b
 same-beginning reading texts files name (Some batch) h g b c = absurd b
-same-beginning reading texts files name (Some (demo seed count other)) h g b c = let same : h ≡ g = b.1 ∙ sym c.1 in (ap (λ (z : Held). z.rules) same, ap (λ (z : Held). z.versions) same, ap (λ (z : Held). z.notes) same)
+same-beginning reading texts files name (Some (demo seed count other)) h g b c = b.1 ∙ sym c.1
 
 pub step-archive : (reading : OneReading) (texts : OneText) (noted : AreNoted) (files : Files) (name : List ℕ) (command : Option PlainCommand) (s : Step) (h : Held) → CommandMay files command s → s.status ≡ 0 → BeginsWith files name command h → Holds s.files name h
 step-archive reading texts noted files name command s h m success b =
     let begun = step-begins noted files name command s m success (begins-makes files name command h b) (begins-over files name command h b) in
-    let same = same-beginning reading texts files name command begun.held h begun.begins b in
-    subst (λ ns. ArchiveIs s.files name h.rules h.versions ns) same.2 (subst (λ us. ArchiveIs s.files name h.rules us begun.held.notes) same.1 (subst (λ r. ArchiveIs s.files name r begun.held.versions begun.held.notes) same.0 begun.archive))
+    subst (Holds s.files name) (same-beginning reading texts files name command begun.held h begun.begins b) begun.archive
 
 -- ---- an archive from its beginning on
 
@@ -566,14 +553,14 @@ handed-holds one reading texts noted files name (c ∷ cs) (s ∷ ss) h did (inl
 handed-holds one reading texts noted files name (c ∷ cs) (s ∷ ss) h did (inr later) = handed-holds one reading texts noted s.files name cs ss h did.1 later
 
 -- no other bytes are the encoding
-pub exact : ((rules : List PlainRule) (vs : List PlainKeyed) (notes : List (List ℕ)) (a b : List ℕ) → FullOf rules vs notes a → FullOf rules vs notes b → a ≡ b)
-    → ((rules : List PlainRule) (vs : List PlainKeyed) (notes : List (List ℕ)) (bytes : List ℕ) → FullAs rules vs notes bytes → FullOf rules vs notes bytes)
+pub exact : ((c : Contents) (a b : List ℕ) → FullOf c a → FullOf c b → a ≡ b)
+    → ((c : Contents) (bytes : List ℕ) → FullAs c bytes → FullOf c bytes)
     → (files : Files) (name : List ℕ) (h : Held) → Holds files name h → HoldsExactly files name h
 exact one defined files name h a = record {
   archive = a;
   exactly = λ bytes. (
-    λ e. subst (FullOf h.rules h.versions h.notes) (some-same a.bytes bytes (sym a.there ∙ e)) (defined h.rules h.versions h.notes a.bytes a.full),
-    λ file. a.there ∙ ap (λ b. Some b) (one h.rules h.versions h.notes a.bytes bytes (defined h.rules h.versions h.notes a.bytes a.full) file),
+    λ e. subst (FullOf h) (some-same a.bytes bytes (sym a.there ∙ e)) (defined h a.bytes a.full),
+    λ file. a.there ∙ ap (λ b. Some b) (one h a.bytes bytes (defined h a.bytes a.full) file),
   );
 }
   where
@@ -674,39 +661,39 @@ module _ (files : Files) (name : List ℕ) (h : Held) (s : Step) (a : Holds file
 
   pub keys-told : (spec : List ℕ) → CommandMay files (Some (rekey name spec)) s → ChangesOrTells files name spec h s
   unfolding MayBe
-  keys-told spec m = record { outcome = m.outcome; comes = m.may.sound h.rules h.versions h.notes a; is = plain-step files (Some (rekey name spec)) s m (no-late files (Some (rekey name spec)) m.outcome (λ q late. late)) }
+  keys-told spec m = record { outcome = m.outcome; comes = m.may.sound h a; is = plain-step files (Some (rekey name spec)) s m (no-late files (Some (rekey name spec)) m.outcome (λ q late. late)) }
 
   pub getting : (i : ℕ) → CommandMay files (Some (get name i)) s → s ≡ step_from files (version_text files h.versions i)
   unfolding MayBe
-  getting i m = plain-step files (Some (get name i)) s m (late-unsound files name i h.rules h.versions h.notes m.outcome a m.may) ∙ ap (step_from files) (m.may.sound h.rules h.versions h.notes a)
+  getting i m = plain-step files (Some (get name i)) s m (late-unsound files name i h m.outcome a m.may) ∙ ap (step_from files) (m.may.sound h a)
 
   pub telling : (path : List ℕ) → CommandMay files (Some (history name path)) s → s ≡ step_from files (history_text files h.rules h.versions path)
   unfolding MayBe
-  telling path m = plain-step files (Some (history name path)) s m (no-late files (Some (history name path)) m.outcome (λ q late. late)) ∙ ap (step_from files) (m.may.sound h.rules h.versions h.notes a)
+  telling path m = plain-step files (Some (history name path)) s m (no-late files (Some (history name path)) m.outcome (λ q late. late)) ∙ ap (step_from files) (m.may.sound h a)
 
   pub logging : (path : List ℕ) → CommandMay files (Some (log name path)) s → s ≡ step_from files (logged files h.rules h.versions path)
   unfolding MayBe
-  logging path m = plain-step files (Some (log name path)) s m (late-unlogged files name path h.rules h.versions h.notes m.outcome a m.may) ∙ ap (step_from files) (m.may.sound h.rules h.versions h.notes a)
+  logging path m = plain-step files (Some (log name path)) s m (late-unlogged files name path h m.outcome a m.may) ∙ ap (step_from files) (m.may.sound h a)
 
   pub exporting : CommandMay files (Some (export name)) s → WritesText files h s
   unfolding MayBe
-  exporting m = record { outcome = m.outcome; text = m.may.sound h.rules h.versions h.notes a; is = plain-step files (Some (export name)) s m (no-late files (Some (export name)) m.outcome (λ q late. late)) }
+  exporting m = record { outcome = m.outcome; text = m.may.sound h a; is = plain-step files (Some (export name)) s m (no-late files (Some (export name)) m.outcome (λ q late. late)) }
 
   pub cutting : (new : List ℕ) (i j : ℕ) → CommandMay files (Some (cut name new i j)) s → CutsOrTells files new i j h s
   unfolding MayBe
-  cutting new i j m = record { outcome = m.outcome; comes = m.may.sound h.rules h.versions h.notes a; is = plain-step files (Some (cut name new i j)) s m (no-late files (Some (cut name new i j)) m.outcome (λ q late. late)) }
+  cutting new i j m = record { outcome = m.outcome; comes = m.may.sound h a; is = plain-step files (Some (cut name new i j)) s m (no-late files (Some (cut name new i j)) m.outcome (λ q late. late)) }
 
   pub joining : (two new : List ℕ) (g : Held) → Holds files two g → CommandMay files (Some (join name two new)) s → JoinsOrTells files name two new h g s
   unfolding MayBe
-  joining two new g b m = record { outcome = m.outcome; comes = m.may.sound h.rules h.versions h.notes g.rules g.versions g.notes a b; is = plain-step files (Some (join name two new)) s m (no-late files (Some (join name two new)) m.outcome (λ q late. late)) }
+  joining two new g b m = record { outcome = m.outcome; comes = m.may.sound h g a b; is = plain-step files (Some (join name two new)) s m (no-late files (Some (join name two new)) m.outcome (λ q late. late)) }
 
   pub counting : CommandMay files (Some (stats name)) s → WritesCounts files h s
   unfolding MayBe
-  counting m = record { outcome = m.outcome; counts = m.may.sound h.rules h.versions h.notes a; is = plain-step files (Some (stats name)) s m (no-late files (Some (stats name)) m.outcome (λ q late. late)) }
+  counting m = record { outcome = m.outcome; counts = m.may.sound h a; is = plain-step files (Some (stats name)) s m (no-late files (Some (stats name)) m.outcome (λ q late. late)) }
 
   pub listing : CommandMay files (Some (versions name)) s → s ≡ step_from files (listed files h.notes)
   unfolding MayBe
-  listing m = plain-step files (Some (versions name)) s m (late-unlisted files name h.rules h.versions h.notes m.outcome a m.may) ∙ ap (step_from files) (m.may.sound h.rules h.versions h.notes a)
+  listing m = plain-step files (Some (versions name)) s m (late-unlisted files name h m.outcome a m.may) ∙ ap (step_from files) (m.may.sound h a)
 
 -- ---- what is held
 

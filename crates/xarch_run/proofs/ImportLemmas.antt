@@ -3,8 +3,7 @@ use Rattle.std.proofs.Common.{◌≡◌, ℕ, ◌≤◌, List, length, Option, S
 use Rattle.std.specs.FinMap as finite
 use Rattle.std.proofs.lemmas.Bool.{le-leb}
 use Rattle.xa_outside.specs.Folder.{Files}
-use Rattle.key_spec.specs.Data.{PlainRule}
-use Rattle.keyed_tree.specs.Data.{PlainKeyed}
+use Rattle.noted_file.specs.Contents.{Contents}
 use Rattle.noted_file.specs.Full.{FullAs, FullOf}
 use Rattle.archive_text.specs.Export.{ExportOf}
 use Rattle.xarch_words.specs.Commands.{PlainCommand, export, import}
@@ -41,8 +40,8 @@ module _ (reading : OneReading) (texts : OneText) (noted : AreNoted) where
   text-read files text new bytes there short none = rw there (rw none (rw (le-leb (length bytes) 67108864 short) refl))
 
   -- what an export wrote gives the file again
-  pub restoring : ((rules : List PlainRule) (vs : List PlainKeyed) (notes : List (List ℕ)) (a b : List ℕ) → FullOf rules vs notes a → FullOf rules vs notes b → a ≡ b)
-      → ((rules : List PlainRule) (vs : List PlainKeyed) (notes : List (List ℕ)) (bytes : List ℕ) → FullAs rules vs notes bytes → FullOf rules vs notes bytes)
+  pub restoring : ((c : Contents) (a b : List ℕ) → FullOf c a → FullOf c b → a ≡ b)
+      → ((c : Contents) (bytes : List ℕ) → FullAs c bytes → FullOf c bytes)
       → ((files : Files) (command : PlainCommand) (q : Refusal) → ShouldSucceed files command → MayBe files command (Err q) → ⊥)
       → (files later : Files) (name text new : List ℕ) (h : Held) (s t : Step) → Holds files name h → CommandMay files (Some (export name)) s → finite.get later text ≡ Some s.output → length s.output ≤ 67108864 → finite.get later new ≡ None
       → CommandMay later (Some (import text new)) t → (t.status ≡ 0) × (finite.get t.files new ≡ finite.get files name)
@@ -50,9 +49,9 @@ module _ (reading : OneReading) (texts : OneText) (noted : AreNoted) where
   restoring one defined never files later name text new h s t a e there short free m =
       let wrote = exporting files name h s a e in
       let output : s.output ≡ wrote.text.text = ap (λ (z : Step). z.output) wrote.is ∙ ap (λ (r : Result Outcome Refusal). (step_from files r).output) wrote.text.is in
-      let spelled : ExportOf h.rules h.versions h.notes s.output = subst (ExportOf h.rules h.versions h.notes) (sym output) wrote.text.of in
-      let can : CanImport later text new = record { bytes = s.output; rules = h.rules; versions = h.versions; notes = h.notes; file = a.bytes; there = text-read later text new s.output there short free; full = a.full; spelled = spelled } in
+      let spelled : ExportOf h s.output = subst (ExportOf h) (sym output) wrote.text.of in
+      let can : CanImport later text new = record { bytes = s.output; contents = h; file = a.bytes; there = text-read later text new s.output there short free; full = a.full; spelled = spelled } in
       let zero = should-succeed never later (import text new) t m can in
       let holds = imported later text new h t (record { bytes = s.output; there = there; spelled = spelled; file = a.bytes; full = a.full }) m zero in
-      let same : holds.bytes ≡ a.bytes = one h.rules h.versions h.notes holds.bytes a.bytes (defined h.rules h.versions h.notes holds.bytes holds.full) (defined h.rules h.versions h.notes a.bytes a.full) in
+      let same : holds.bytes ≡ a.bytes = one h holds.bytes a.bytes (defined h holds.bytes holds.full) (defined h a.bytes a.full) in
       (zero, same-file (finite.get t.files new) (finite.get files name) holds.bytes a.bytes holds.there same a.there)

@@ -1,5 +1,5 @@
 -- A command changes at most the file that it names.
-use Rattle.std.proofs.Common.{◌≡◌, ◌≢◌, inl, inr, ℕ, Bool, true, false, cond, List, [], length, replicate, Some, None, Result, Ok, Err, refl, sym, ap, ◌∙◌}
+use Rattle.std.proofs.Common.{◌≡◌, ◌≢◌, inl, inr, ℕ, Bool, true, false, cond, List, [], length, Some, None, Result, Ok, Err, refl, sym, ap, ◌∙◌}
 use Rattle.std.specs.FinMap as finite
 use Rattle.std.specs.Option.{option_map_or}
 use Rattle.std.specs.Str.{bytes_eq}
@@ -17,6 +17,7 @@ use Rattle.xarch_words.specs.Commands.{PlainCommand, norm, init, add, rekey, get
 use Rattle.xarch_words.specs.Refusal.{document, specification, Refusal, usage, no_file, exists, bad_text, key_fault_in, damaged, limit}
 use Rattle.xarch_words.specs.Refusal as refusal
 use Rattle.archive_file.specs.Sound.{SoundAs}
+use Rattle.noted_file.specs.Contents.{Contents, unnoted, with_keys}
 use Rattle.noted_file.specs.Full.{FullAs}
 use Rattle.xarch_parts.specs.Archives.{ArchiveIs, GoesOn, Stores, free_in, short_note}
 use Rattle.xarch_meanings.specs.Add.{AddsTo}
@@ -103,12 +104,12 @@ module _ (files : Files) (name : List ℕ) (o : Outcome) where
     write-keeps other (inr w) = same-files (kept-by files o r w.output is w.is)
 
     -- over a sound archive its text is written
-    export-keeps : (other : List ℕ) → ((rules : List PlainRule) (vs : List PlainKeyed) (notes : List (List ℕ)) → ArchiveIs files other rules vs notes → ExportsFrom files rules vs notes r) → DamagedOrSound files other r → Keeps
+    export-keeps : (other : List ℕ) → ((c : Contents) → ArchiveIs files other c → ExportsFrom files c r) → DamagedOrSound files other r → Keeps
     export-keeps other sound (inl q) = never o (damaged other) r is q
-    export-keeps other sound (inr a) = let w = sound a.rules a.versions a.notes a.archive in same-files (kept-by files o r w.text is w.is)
+    export-keeps other sound (inr a) = let w = sound a.contents a.archive in same-files (kept-by files o r w.text is w.is)
 
     judge-keeps : (other bytes : List ℕ) → IsFound files other bytes r → Keeps
-    judge-keeps other bytes (inl p) = same-files (kept-by files o r (check_text (length p.full.versions)) is p.is)
+    judge-keeps other bytes (inl p) = same-files (kept-by files o r (check_text (length p.full.contents.versions)) is p.is)
     judge-keeps other bytes (inr p) = never o (damaged other) r is p.is
 
     make-elsewhere : (other new : List ℕ) → bytes_eq name new ≡ false → MayMake files other new r → Keeps
@@ -139,19 +140,19 @@ module _ (files : Files) (name : List ℕ) (o : Outcome) where
         by_rules (Ok rules) g = kept-elsewhere spec (free_in files spec) (λ _. canonical rules) e g
         by_rules (Err q) g = never o q r is g
 
-    stores-elsewhere : (other : List ℕ) (rules : List PlainRule) (vs : List PlainKeyed) (notes : List (List ℕ)) → bytes_eq name other ≡ false → Stores files other rules vs notes r → Keeps
-    stores-elsewhere other rules vs notes e (inl s) = stored-elsewhere other s.bytes [] e s.is
-    stores-elsewhere other rules vs notes e (inr t) = never o (limit refusal.archive 274877906944) r is t.is
+    stores-elsewhere : (other : List ℕ) (c : Contents) → bytes_eq name other ≡ false → Stores files other c r → Keeps
+    stores-elsewhere other c e (inl s) = stored-elsewhere other s.bytes [] e s.is
+    stores-elsewhere other c e (inr t) = never o (limit refusal.archive 274877906944) r is t.is
 
     -- over a sound archive its versions under other keys are stored
-    rekeys-elsewhere : (other : List ℕ) (vs : List PlainKeyed) (notes : List (List ℕ)) (rules : List PlainRule) → bytes_eq name other ≡ false → RekeysTo files other vs notes rules r → Keeps
-    rekeys-elsewhere other vs notes rules e (inl s) = stores-elsewhere other rules s.versions notes e s.rest
-    rekeys-elsewhere other vs notes rules e (inr b) = never o (key_fault_in b.number b.fault) r is b.is
+    rekeys-elsewhere : (other : List ℕ) (c : Contents) (rules : List PlainRule) → bytes_eq name other ≡ false → RekeysTo files other c rules r → Keeps
+    rekeys-elsewhere other c rules e (inl s) = stores-elsewhere other (with_keys c rules s.versions) e s.rest
+    rekeys-elsewhere other c rules e (inr b) = never o (key_fault_in b.number b.fault) r is b.is
 
-    rekey-elsewhere : (other spec : List ℕ) → bytes_eq name other ≡ false → ((old : List PlainRule) (vs : List PlainKeyed) (notes : List (List ℕ)) → ArchiveIs files other old vs notes → RekeysFrom files other spec old vs notes r) → DamagedOrSound files other r → Keeps
+    rekey-elsewhere : (other spec : List ℕ) → bytes_eq name other ≡ false → ((c : Contents) → ArchiveIs files other c → RekeysFrom files other spec c r) → DamagedOrSound files other r → Keeps
     rekey-elsewhere other spec e sound (inl q) = never o (damaged other) r is q
     rekey-elsewhere other spec e sound (inr a) =
-        goes o (rekey_rules files other spec) (RekeysTo files other a.versions a.notes) r is (sound a.rules a.versions a.notes a.archive) (λ rules _ m. rekeys-elsewhere other a.versions a.notes rules e m)
+        goes o (rekey_rules files other spec) (RekeysTo files other a.contents) r is (sound a.contents a.archive) (λ rules _ m. rekeys-elsewhere other a.contents rules e m)
 
     makes-elsewhere : (other : List ℕ) (seed count : ℕ) → bytes_eq name other ≡ false → MakesOrNone files other seed count r → Keeps
     makes-elsewhere other seed count e (inl s) = stored-elsewhere other s.bytes _ e s.is
@@ -164,7 +165,7 @@ module _ (files : Files) (name : List ℕ) (o : Outcome) where
     pub others-kept : (command : PlainCommand) → is_for name command ≡ false → MayBe files command r → Keeps
     unfolding MayBe
     others-kept (norm spec doc) e h = same-files (norm-keeps files spec doc o (sym h ∙ is))
-    others-kept (init other spec) e h = goes o (init_rules files other spec) (λ rules. Stores files other rules [] []) r is h (λ rules _ s. stores-elsewhere other rules [] [] e s)
+    others-kept (init other spec) e h = goes o (init_rules files other spec) (λ rules. Stores files other (unnoted rules [])) r is h (λ rules _ s. stores-elsewhere other (unnoted rules []) e s)
     others-kept (add other doc note) e h =
         goes o (short_note note) (λ _. MayOver files other (GoesOn (add_input files other doc) (λ _. MayAdd files other)) (AddsTo files other doc note)) r is h
         (λ _ _ over. goes o (add_input files other doc) (λ _. MayAdd files other) r is over.whatever (λ _ _ m. make-elsewhere other other e m))
@@ -233,17 +234,17 @@ init-spelled (Err q) y z rules e = absurd cc
 init-spelled (Ok u) (Err q) z rules e = absurd cc
 init-spelled (Ok u) (Ok n) z rules e = e
 
-pub archive-moves : (files now : Files) (name : List ℕ) (rules : List PlainRule) (vs : List PlainKeyed) (notes : List (List ℕ)) → ArchiveIs files name rules vs notes → finite.get now name ≡ finite.get files name → ArchiveIs now name rules vs notes
-archive-moves files now name rules vs notes a e = record { bytes = a.bytes; there = e ∙ a.there; full = a.full }
+pub archive-moves : (files now : Files) (name : List ℕ) (c : Contents) → ArchiveIs files name c → finite.get now name ≡ finite.get files name → ArchiveIs now name c
+archive-moves files now name c a e = record { bytes = a.bytes; there = e ∙ a.there; full = a.full }
 
 -- the file of a stored archive
-pub stored-is : (files : Files) (o : Outcome) (name : List ℕ) (rules : List PlainRule) (vs : List PlainKeyed) (notes : List (List ℕ)) → Stores files name rules vs notes (Ok o) → ArchiveIs o.files name rules vs notes
-stored-is files o name rules vs notes (inl s) =
+pub stored-is : (files : Files) (o : Outcome) (name : List ℕ) (c : Contents) → Stores files name c (Ok o) → ArchiveIs o.files name c
+stored-is files o name c (inl s) =
     record { bytes = s.bytes; there = ap (λ (x : Files). finite.get x name) (kept-by (finite.insert files name s.bytes) o (Ok o) [] refl s.is) ∙ new-there files name s.bytes; full = s.full }
-stored-is files o name rules vs notes (inr t) = absurd (never o (limit refusal.archive 274877906944) (Ok o) refl t.is)
+stored-is files o name c (inr t) = absurd (never o (limit refusal.archive 274877906944) (Ok o) refl t.is)
 
-pub made-is : (noted : (rules : List PlainRule) (vs : List PlainKeyed) (bytes : List ℕ) → SoundAs rules vs bytes → FullAs rules vs (replicate (length vs) []) bytes) → (files : Files) (o : Outcome) (name : List ℕ) (seed count : ℕ) → MakesOrNone files name seed count (Ok o)
-    → ArchiveIs o.files name company_rules (samples seed count) (replicate (length (samples seed count)) [])
+pub made-is : (noted : (rules : List PlainRule) (vs : List PlainKeyed) (bytes : List ℕ) → SoundAs rules vs bytes → FullAs (unnoted rules vs) bytes) → (files : Files) (o : Outcome) (name : List ℕ) (seed count : ℕ) → MakesOrNone files name seed count (Ok o)
+    → ArchiveIs o.files name (unnoted company_rules (samples seed count))
 made-is noted files o name seed count (inl s) =
     record { bytes = s.bytes; there = ap (λ (x : Files). finite.get x name) (kept-by (finite.insert files name s.bytes) o (Ok o) _ refl s.is) ∙ new-there files name s.bytes; full = noted company_rules (samples seed count) s.bytes s.made.sound }
 made-is noted files o name seed count (inr t) = absurd (never o (limit refusal.archive 274877906944) (Ok o) refl t.is)

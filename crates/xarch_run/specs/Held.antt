@@ -1,12 +1,11 @@
 -- What an archive holds after commands: the documents that were handed in to it.
-use Rattle.std.specs.Prelude.{◌≡◌, ◌≢◌, ◌↔◌, ◌⊎◌, ℕ, List, [], ◌∷◌, ◌++◌, length, replicate, Option, Some, None, Result, Ok, ⊤}
+use Rattle.std.specs.Prelude.{◌≡◌, ◌≢◌, ◌↔◌, ◌⊎◌, ℕ, List, [], ◌∷◌, ◌++◌, length, Option, Some, None, Result, Ok, ⊤}
 use Rattle.std.specs.FinMap as finite
 use Rattle.xa_outside.specs.Folder.{Files}
-use Rattle.key_spec.specs.Data.{PlainRule}
 use Rattle.keyed_tree.specs.Data.{PlainKeyed}
 use Rattle.record_format.specs.Files.{FileOf}
+use Rattle.noted_file.specs.Contents.{Contents, unnoted, with_version}
 use Rattle.noted_file.specs.Full.{Full, FullAs, FullOf}
-use Rattle.archive_cut.specs.Sliced.{items}
 use Rattle.archive_rekey.specs.Rekeyed.{AreRekeyed}
 use Rattle.archive_text.specs.Export.{ExportOf}
 use Rattle.xarch_gen.specs.Company.{company_rules}
@@ -14,11 +13,11 @@ use Rattle.xarch_words.specs.Commands.{PlainCommand, init, add, rekey, import, c
 use Rattle.xarch_words.specs.Refusal.{Refusal}
 use Rattle.xarch_meanings.specs.Add.{added}
 use Rattle.xarch_parts.specs.Archives.{ArchiveIs, short_note}
-use Rattle.xarch_meanings.specs.Cut.{CutsFrom, noted_items}
+use Rattle.xarch_meanings.specs.Cut.{CutsFrom, slice}
 use Rattle.xarch_meanings.specs.Demo.{samples}
 use Rattle.xarch_meanings.specs.Export.{ExportsFrom}
 use Rattle.xarch_meanings.specs.Import.{ImportIs}
-use Rattle.xarch_meanings.specs.Join.{JoinsFrom}
+use Rattle.xarch_meanings.specs.Join.{JoinsFrom, joined}
 use Rattle.xarch_parts.specs.Inputs.{read_in}
 use Rattle.xarch_parts.specs.Outcome.{Outcome, Step, step_from}
 use Rattle.xarch_parts.specs.Readings.{rules_of}
@@ -28,37 +27,27 @@ use Rattle.xarch_meanings.specs.Succeeds.{HasArchive}
 use Rattle.xarch_run.specs.Steps.{files_after}
 
 -- the rules of an archive, its versions in order, and the note of each
-pub record Held : Type 0 where
-  pub rules : List PlainRule
-  pub versions : List PlainKeyed
-  pub notes : List (List ℕ)
+abbrev pub Held : Type 0
+Held = Contents
 
 -- ---- what a file holds
 
 -- the file of this name is a sound archive of these rules and versions, with these notes
 abbrev pub Holds : Files → List ℕ → Held → Type 0
-Holds files name h = ArchiveIs files name h.rules h.versions h.notes
+Holds files name h = ArchiveIs files name h
 
 -- The name has such a file, and its bytes are exactly the encoding of the versions under the rules, with the notes.
 pub record HoldsExactly (files : Files) (name : List ℕ) (h : Held) : Type 0 where
   pub archive : Holds files name h
-  pub exactly : (bytes : List ℕ) → (finite.get files name ≡ Some bytes) ↔ FullOf h.rules h.versions h.notes bytes
+  pub exactly : (bytes : List ℕ) → (finite.get files name ≡ Some bytes) ↔ FullOf h bytes
 
 -- ---- how an archive begins
-
--- what is left of this where only the versions from i to j stay, with their notes
-abbrev pub cut_held : ℕ → ℕ → Held → Held
-cut_held i j h = record { rules = h.rules; versions = items i j h.versions; notes = noted_items i j h.notes }
 
 -- It is what is left of what the archive of this name holds.
 pub record IsCutFrom (files : Files) (archive : List ℕ) (i j : ℕ) (h : Held) : Type 0 where
   pub whole : Held
   pub from : Holds files archive whole
-  pub is : h ≡ cut_held i j whole
-
--- what two archives hold, the one behind the other
-abbrev pub joined_held : Held → Held → Held
-joined_held h g = record { rules = h.rules; versions = h.versions ++ g.versions; notes = h.notes ++ g.notes }
+  pub is : h ≡ slice i j whole
 
 -- It is what the archives of these names hold, the second behind the first.
 pub record IsJoinedFrom (files : Files) (one two : List ℕ) (h : Held) : Type 0 where
@@ -66,22 +55,22 @@ pub record IsJoinedFrom (files : Files) (one two : List ℕ) (h : Held) : Type 0
   pub second : Held
   pub from : Holds files one first
   pub behind : Holds files two second
-  pub is : h ≡ joined_held first second
+  pub is : h ≡ joined first second
 
 -- The file of this name is the text of an archive with notes that holds this and has a file.
 pub record IsTextOf (files : Files) (text : List ℕ) (h : Held) : Type 0 where
   pub bytes : List ℕ
   pub there : finite.get files text ≡ Some bytes
-  pub spelled : ExportOf h.rules h.versions h.notes bytes
+  pub spelled : ExportOf h bytes
   pub file : List ℕ
-  pub full : FullAs h.rules h.versions h.notes file
+  pub full : FullAs h file
 
 -- The command makes the archive of this name, which then holds this: an `init` the rules of its specification and no
 -- versions, a `demo` the company rules and the generated documents, whose notes are empty, a `cut` some versions of what
 -- another archive holds, with their notes, a `join` those of two others, with theirs, an `import` what its text is that of.
 abbrev pub BeginsWith : Files → List ℕ → Option PlainCommand → Held → Type 0
 BeginsWith files name (Some (init archive spec)) h = (name ≡ archive) × ((read_in files spec rules_of ≡ Ok h.rules) × (h.versions ≡ []) × (h.notes ≡ []))
-BeginsWith files name (Some (demo seed count archive)) h = (name ≡ archive) × (h ≡ record { rules = company_rules; versions = samples seed count; notes = replicate (length (samples seed count)) [] })
+BeginsWith files name (Some (demo seed count archive)) h = (name ≡ archive) × (h ≡ unnoted company_rules (samples seed count))
 BeginsWith files name (Some (cut archive new i j)) h = (name ≡ new) × IsCutFrom files archive i j h
 BeginsWith files name (Some (join one two new)) h = (name ≡ new) × IsJoinedFrom files one two h
 BeginsWith files name (Some (import text new)) h = (name ≡ new) × IsTextOf files text h
@@ -130,15 +119,11 @@ pub record IsHandedIn (files : Files) (doc note : List ℕ) (h : Held) (k : Plai
   pub bytes : List ℕ
   pub file : FileOf h.rules (h.versions ++ k ∷ []) bytes
 
--- with this tree as its next version, and its note
-abbrev pub with_keyed : Held → PlainKeyed → List ℕ → Held
-with_keyed h k note = record { rules = h.rules; versions = h.versions ++ k ∷ []; notes = h.notes ++ note ∷ [] }
-
 -- the document is handed in, and its tree comes behind the versions, its note behind the notes
 pub record ComesIn (files : Files) (doc note : List ℕ) (h i : Held) : Type 0 where
   pub tree : PlainKeyed
   pub handed : IsHandedIn files doc note h tree
-  pub is : i ≡ with_keyed h tree note
+  pub is : i ≡ with_version h tree note
 
 -- the document is not handed in, and the versions are as they were
 pub record StaysOut (files : Files) (doc note : List ℕ) (h i : Held) : Type 0 where
@@ -210,7 +195,7 @@ HandedIn files name (c ∷ cs) (s ∷ ss) h = MadeBy files name c s cs ss h ⊎ 
 pub record Accepted (files : Files) (name doc note : List ℕ) (h : Held) (now : Files) : Type 0 where
   pub tree : PlainKeyed
   pub handed : IsHandedIn files doc note h tree
-  pub archive : Holds now name (with_keyed h tree note)
+  pub archive : Holds now name (with_version h tree note)
 
 -- The specification in this file was handed in, and the versions come under it.
 pub record TakesKeys (files : Files) (name spec : List ℕ) (h : Held) (now : Files) : Type 0 where
@@ -221,7 +206,7 @@ pub record TakesKeys (files : Files) (name spec : List ℕ) (h : Held) (now : Fi
 -- The step is what comes of these versions under the keys of the specification: their file, or the first that does not satisfy them, or why neither is.
 pub record ChangesOrTells (files : Files) (name spec : List ℕ) (h : Held) (s : Step) : Type 0 where
   pub outcome : Result Outcome Refusal
-  pub comes : RekeysFrom files name spec h.rules h.versions h.notes outcome
+  pub comes : RekeysFrom files name spec h outcome
   pub is : s ≡ step_from files outcome
 
 -- ---- what else steps do
@@ -246,25 +231,25 @@ pub record TellsSoundness (files : Files) (name : List ℕ) (s : Step) : Type 0 
 -- the step writes the counts of the archive that holds this
 pub record WritesCounts (files : Files) (h : Held) (s : Step) : Type 0 where
   pub outcome : Result Outcome Refusal
-  pub counts : CountsFrom files h.rules h.versions h.notes outcome
+  pub counts : CountsFrom files h outcome
   pub is : s ≡ step_from files outcome
 
 -- the step writes the text of the archive that holds this
 pub record WritesText (files : Files) (h : Held) (s : Step) : Type 0 where
   pub outcome : Result Outcome Refusal
-  pub text : ExportsFrom files h.rules h.versions h.notes outcome
+  pub text : ExportsFrom files h outcome
   pub is : s ≡ step_from files outcome
 
 -- The step is what comes of some of these versions: their file under the new name, or why there is none.
 pub record CutsOrTells (files : Files) (new : List ℕ) (i j : ℕ) (h : Held) (s : Step) : Type 0 where
   pub outcome : Result Outcome Refusal
-  pub comes : CutsFrom files new i j h.rules h.versions h.notes outcome
+  pub comes : CutsFrom files new i j h outcome
   pub is : s ≡ step_from files outcome
 
 -- The step is what comes of the versions of both, the second's behind the first's: their file under the new name, or why there is none.
 pub record JoinsOrTells (files : Files) (one two new : List ℕ) (h g : Held) (s : Step) : Type 0 where
   pub outcome : Result Outcome Refusal
-  pub comes : JoinsFrom files one two new h.rules h.versions h.notes g.rules g.versions g.notes outcome
+  pub comes : JoinsFrom files one two new h g outcome
   pub is : s ≡ step_from files outcome
 
 -- The step is what comes of the text in this file: its archive under the new name, or why there is none.

@@ -44,9 +44,7 @@ module _ (files : Files) (text new : List ℕ) where
     pub import-stored : (core : List ℕ) (notes : List (List ℕ)) → IsFileOf bytes core notes → MayBe files (import text new) (Ok (record { files = map.insert files new (core ++ notes_part notes); output = [] }))
     unfolding MayBe
     import-stored core notes f = goes _ (inl (record {
-      rules = f.rules;
-      versions = f.versions;
-      notes = notes;
+      contents = record { rules = f.rules; versions = f.versions; notes = notes };
       spelled = f.spelled;
       stored = record { bytes = core ++ notes_part notes; full = f.full; is = refl };
     }))

@@ -10,5 +10,5 @@ use Rattle.archive_text.specs.Export.{ExportOf}
 pub record IsFileOf (bytes core : List ℕ) (notes : List (List ℕ)) : Type 0 where
   pub rules : List PlainRule
   pub versions : List PlainKeyed
-  pub spelled : ExportOf rules versions notes bytes
-  pub full : FullAs rules versions notes (core ++ notes_part notes)
+  pub spelled : ExportOf (record { rules = rules; versions = versions; notes = notes }) bytes
+  pub full : FullAs (record { rules = rules; versions = versions; notes = notes }) (core ++ notes_part notes)

@@ -13,6 +13,7 @@ use Rattle.record_cursor.specs.View.{PlainHeader}
 use Rattle.record_format.specs.Files.{FileOf}
 use Rattle.record_format.specs.Fronts.{header}
 use Rattle.version_notes.specs.Parts.{parts_behind, parts_in}
+use Rattle.noted_file.specs.Contents.{Contents, with_version}
 use Rattle.noted_file.specs.Full.{FullAs}
 use Rattle.xarch_words.specs.Commands.{add}
 use Rattle.xarch_words.specs.Refusal.{archive, document, versions, Refusal, no_file, damaged, limit, PlainFault, refused, folder_fault, out_fault, in_fault, memory}
@@ -70,7 +71,7 @@ behind-room h (Ok n) (Ok bytes) = document-room h (document_of bytes)
 -- ---- what may come
 
 -- From what is known of all archive files with notes: where their parts stand, and the header in front.
-module _ (has_parts : (rules : List PlainRule) (vs : List PlainKeyed) (notes : List (List ℕ)) (bytes : List ℕ) (full : FullAs rules vs notes bytes) → parts_in bytes ≡ Some (parts_behind full.core notes))
+module _ (has_parts : (c : Contents) (bytes : List ℕ) (full : FullAs c bytes) → parts_in bytes ≡ Some (parts_behind full.core c.notes))
     (fronted : (rules : List PlainRule) (vs : List PlainKeyed) (bytes : List ℕ) → closed (canonical rules) ≡ Ok rules → FileOf rules vs bytes → header bytes ≡ Some (rules, length vs))
     (files : Files) (name doc note : List ℕ) where
   -- what may come of a note that is short enough
@@ -87,10 +88,10 @@ module _ (has_parts : (rules : List PlainRule) (vs : List PlainKeyed) (notes : L
   may_refuse_note q long = subst (λ x. GoesOn x (λ _. MayOver files name (GoesOn (add_input files name doc) (λ _. MayAdd files name)) (AddsTo files name doc note)) (Err q)) (sym long) refl
 
   -- over a sound archive the document is read by its rules
-  input_sound : (rules : List PlainRule) (vs : List PlainKeyed) (notes : List (List ℕ)) (a : ArchiveIs files name rules vs notes) → add_input files name doc ≡ beside (rules, length vs) (added files doc rules (length vs))
-  input_sound rules vs notes a =
-      let h : List PlainRule × ℕ = (rules, length vs) in
-      let front = front-sound has_parts files name rules vs notes a fronted in
+  input_sound : (c : Contents) (a : ArchiveIs files name c) → add_input files name doc ≡ beside (c.rules, length c.versions) (added files doc c.rules (length c.versions))
+  input_sound c a =
+      let h : List PlainRule × ℕ = (c.rules, length c.versions) in
+      let front = front-sound has_parts files name c a fronted in
       ap (λ o. and_then (and_then (and_then (and_then (or_refuse o (no_file name)) (λ bytes. Ok (length bytes))) (λ _.
       and_then (length_in files doc document 67108864) (λ _.
       and_then (read_in files name (front_in name)) (text_behind files doc)))) with_tree) with_room) a.there
@@ -101,9 +102,9 @@ module _ (has_parts : (rules : List PlainRule) (vs : List PlainKeyed) (notes : L
   may_refuse_input : (q : Refusal) → add_input files name doc ≡ Err q → Over (Err q)
   may_refuse_input q e = record {
     whatever = subst (λ x. GoesOn x (λ _. MayAdd files name) (Err q)) (sym e) refl;
-    sound = λ rules vs notes a.
-        let none = beside-refused (rules, length vs) (added files doc rules (length vs)) q (sym (input_sound rules vs notes a) ∙ e) in
-        subst (λ x. GoesOn x (λ k. Stores files name rules (vs ++ k ∷ []) (notes ++ note ∷ [])) (Err q)) (sym none) refl;
+    sound = λ c a.
+        let none = beside-refused (c.rules, length c.versions) (added files doc c.rules (length c.versions)) q (sym (input_sound c a) ∙ e) in
+        subst (λ x. GoesOn x (λ k. Stores files name (with_version c k note)) (Err q)) (sym none) refl;
   }
 
   may_refuse_early : (q : Refusal) → add_read files name doc ≡ Err q → Over (Err q)
@@ -125,33 +126,33 @@ module _ (has_parts : (rules : List PlainRule) (vs : List PlainKeyed) (notes : L
           let some : room_behind h.versions ≡ Ok tt = (let fits : nat_lt h.versions 999999 ≡ true = lt-ltb h.versions 999999 room in rw fits refl) in
           ap (λ x. and_then x with_room) read ∙ ap (λ w. and_then w (λ _. Ok ((h.rules, h.versions), k))) some
 
-      given : (rules : List PlainRule) (vs : List PlainKeyed) (notes : List (List ℕ)) (a : ArchiveIs files name rules vs notes) → added files doc rules (length vs) ≡ Ok k
-      given rules vs notes a = (beside-given (rules, length vs) (h.rules, h.versions) (added files doc rules (length vs)) k (sym (input_sound rules vs notes a) ∙ input)).1
+      given : (c : Contents) (a : ArchiveIs files name c) → added files doc c.rules (length c.versions) ≡ Ok k
+      given c a = (beside-given (c.rules, length c.versions) (h.rules, h.versions) (added files doc c.rules (length c.versions)) k (sym (input_sound c a) ∙ input)).1
 
       -- the new file comes
-      may_replace : (new : List ℕ) → ((rules : List PlainRule) (vs : List PlainKeyed) (notes : List (List ℕ)) → ArchiveIs files name rules vs notes → FullAs rules (vs ++ k ∷ []) (notes ++ note ∷ []) new)
+      may_replace : (new : List ℕ) → ((c : Contents) → ArchiveIs files name c → FullAs (with_version c k note) new)
           → Over (Ok (record { files = map.insert files name new; output = [] }))
       may_replace new full =
           let r : Result Outcome Refusal = Ok (record { files = map.insert files name new; output = [] }) in
           record {
             whatever = subst (λ x. GoesOn x (λ _. MayAdd files name) r) (sym input) (inr (inr (record { bytes = new; is = refl })));
-            sound = λ rules vs notes a.
-                subst (λ x. GoesOn x (λ k. Stores files name rules (vs ++ k ∷ []) (notes ++ note ∷ [])) r) (sym (given rules vs notes a)) (inl (record { bytes = new; full = full rules vs notes a; is = refl }));
+            sound = λ c a.
+                subst (λ x. GoesOn x (λ k. Stores files name (with_version c k note)) r) (sym (given c a)) (inl (record { bytes = new; full = full c a; is = refl }));
           }
 
-      may_be_damaged : ((rules : List PlainRule) (vs : List PlainKeyed) (notes : List (List ℕ)) → ¬ ArchiveIs files name rules vs notes) → Over (Err (damaged name))
+      may_be_damaged : ((c : Contents) → ¬ ArchiveIs files name c) → Over (Err (damaged name))
       may_be_damaged none = record {
         whatever = subst (λ x. GoesOn x (λ _. MayAdd files name) (Err (damaged name))) (sym input) (inl refl);
-        sound = λ rules vs notes a. absurd (none rules vs notes a);
+        sound = λ c a. absurd (none c a);
       }
 
-      may_be_long : ((rules : List PlainRule) (vs : List PlainKeyed) (notes : List (List ℕ)) → ArchiveIs files name rules vs notes → (bytes : List ℕ) → ¬ FileOf rules (vs ++ k ∷ []) bytes) → Over (Err (limit archive 274877906944))
+      may_be_long : ((c : Contents) → ArchiveIs files name c → (bytes : List ℕ) → ¬ FileOf c.rules (c.versions ++ k ∷ []) bytes) → Over (Err (limit archive 274877906944))
       may_be_long none =
           let r : Result Outcome Refusal = Err (limit archive 274877906944) in
           record {
             whatever = subst (λ x. GoesOn x (λ _. MayAdd files name) r) (sym input) (inr (inl refl));
-            sound = λ rules vs notes a.
-                subst (λ x. GoesOn x (λ k. Stores files name rules (vs ++ k ∷ []) (notes ++ note ∷ [])) r) (sym (given rules vs notes a)) (inr (record { none = none rules vs notes a; is = refl }));
+            sound = λ c a.
+                subst (λ x. GoesOn x (λ k. Stores files name (with_version c k note)) r) (sym (given c a)) (inr (record { none = none c a; is = refl }));
           }
 
     below : h.versions ≤ 999999 → h.versions ≢ 999999 → h.versions < 999999

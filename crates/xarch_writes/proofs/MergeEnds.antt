@@ -27,6 +27,7 @@ use Rattle.version_notes.specs.Parts.{parts_behind, parts_in}
 use Rattle.version_notes.specs.Reader.{at_first, file_of}
 use Rattle.version_notes.specs.Reading.{notes_from}
 use Rattle.version_notes.specs.declared.parts.Parts.{Parts}
+use Rattle.noted_file.specs.Contents.{Contents}
 use Rattle.noted_file.specs.Full.{FullAs}
 use Rattle.xarch_words.specs.Refusal.{archive, versions, Refusal, damaged, limit, PlainFault, refused, folder_fault, out_fault, in_fault, memory}
 use Rattle.xarch_words.specs.View.{fault_view}
@@ -71,7 +72,7 @@ grown-twice None x y = refl
 grown-twice (Some d) x y = refl
 
 -- From what is known of all archive files with notes: where their parts stand.
-module _ (has_parts : (rules : List PlainRule) (vs : List PlainKeyed) (notes : List (List ℕ)) (bytes : List ℕ) (full : FullAs rules vs notes bytes) → parts_in bytes ≡ Some (parts_behind full.core notes)) where
+module _ (has_parts : (c : Contents) (bytes : List ℕ) (full : FullAs c bytes) → parts_in bytes ≡ Some (parts_behind full.core c.notes)) where
   -- The header stands in front of the file of this name, among files that are told.
   module _ (files : Files) (told : Option Files) (name : List ℕ) (h : PlainHeader) (new : PlainKeyed) (tells : told ≡ Some files) (front : IsFrontOf files name h) where
     at-front : TellsFront told name h.length front.core
@@ -80,8 +81,8 @@ module _ (has_parts : (rules : List PlainRule) (vs : List PlainKeyed) (notes : L
     heads : IsHeaderOf h front.core
     heads = header-is files told name h tells front
 
-    sound-front : (rules : List PlainRule) (vs : List PlainKeyed) (notes : List (List ℕ)) → ArchiveIs files name rules vs notes → SoundAs rules vs front.core
-    sound-front rules vs notes a = core-sound has_parts files name rules vs notes a h.length front.core front.of
+    sound-front : (c : Contents) → ArchiveIs files name c → SoundAs c.rules c.versions front.core
+    sound-front c a = core-sound has_parts files name c a h.length front.core front.of
 
     refused-as : (v : PlainFault) (q : Refusal) → v ≡ refused q → IsNotAdded files name h new q → RecordsEnd files name h new (Some v)
     refused-as v q is ends = subst (λ (z : PlainFault). RecordsEnd files name h new (Some z)) (sym is) ends
@@ -92,20 +93,20 @@ module _ (has_parts : (rules : List PlainRule) (vs : List PlainKeyed) (notes : L
         → ((bytes : List ℕ) (rules : List PlainRule) (vs : List PlainKeyed) → TellsFront told name h.length bytes → IsHeaderOf h bytes → SoundAs rules vs bytes → IfTooLong e ((file : List ℕ) → ¬ FileOf rules (vs ++ new ∷ []) file))
         → RecordsEnd files name h new (Some v)
     records-failed Damage v (inl is) most undamaged long =
-        refused-as v (damaged name) is (inr ((λ full. (let wrong = most.1 full in absurd cc)), inl (refl, (λ rules vs notes a. undamaged front.core rules vs at-front heads (sound-front rules vs notes a) refl))))
+        refused-as v (damaged name) is (inr ((λ full. (let wrong = most.1 full in absurd cc)), inl (refl, (λ c a. undamaged front.core c.rules c.versions at-front heads (sound-front c a) refl))))
     records-failed Damage v (inr is) most undamaged long = subst (λ (z : PlainFault). RecordsEnd files name h new (Some z)) (sym is) tt
     records-failed Folder v is most undamaged long = subst (λ (z : PlainFault). RecordsEnd files name h new (Some z)) (sym is) tt
     records-failed Limit v is most undamaged long = refused-as v (limit versions 999999) is (inl (most.0 refl, refl))
     records-failed TooLong v is most undamaged long =
-        refused-as v (limit archive 274877906944) is (inr ((λ full. (let wrong = most.1 full in absurd cc)), inr (refl, (λ rules vs notes a. long front.core rules vs at-front heads (sound-front rules vs notes a)))))
+        refused-as v (limit archive 274877906944) is (inr ((λ full. (let wrong = most.1 full in absurd cc)), inr (refl, (λ c a. long front.core c.rules c.versions at-front heads (sound-front c a)))))
     records-failed Memory v is most undamaged long = subst (λ (z : PlainFault). RecordsEnd files name h new (Some z)) (sym is) tt
 
     -- over a sound archive what was read is little ahead
     pub gap-of : (x y : Numbers)
         → ((bytes : List ℕ) (rules : List PlainRule) (vs : List PlainKeyed) (a : PlainArchive) → TellsFront told name h.length bytes → IsHeaderOf h bytes → SoundAs rules vs bytes → ArchiveOf vs a
         → y.gap ≤ max x.gap (x.since - x.drafted - length (header_bytes rules a.n) + largest rules a))
-        → (rules : List PlainRule) (vs : List PlainKeyed) (notes : List (List ℕ)) (a : PlainArchive) → ArchiveIs files name rules vs notes → ArchiveOf vs a → y.gap ≤ max x.gap (x.since - x.drafted - length (header_bytes rules a.n) + largest rules a)
-    gap-of x y gap rules vs notes a is of = gap front.core rules vs a at-front heads (sound-front rules vs notes is) of
+        → (c : Contents) (a : PlainArchive) → ArchiveIs files name c → ArchiveOf c.versions a → y.gap ≤ max x.gap (x.since - x.drafted - length (header_bytes c.rules a.n) + largest c.rules a)
+    gap-of x y gap c a is of = gap front.core c.rules c.versions a at-front heads (sound-front c is) of
 
     pub keeps-up : {T : Type 0} (r : Result T AddFault) (ended : Option PlainFault) (x y : Numbers) → (ended ≡ None → (t : T) × (r ≡ Ok t))
         → ((bytes : List ℕ) (rules : List PlainRule) (vs : List PlainKeyed) (a : PlainArchive) → TellsFront told name h.length bytes → IsHeaderOf h bytes → SoundAs rules vs bytes → ArchiveOf vs a
@@ -120,25 +121,25 @@ module _ (has_parts : (rules : List PlainRule) (vs : List PlainKeyed) (notes : L
 
     -- From what is known of the headers of archive files, and of how their notes are read.
     module _ (fronted : (rules : List PlainRule) (vs : List PlainKeyed) (bytes : List ℕ) → closed (canonical rules) ≡ Ok rules → FileOf rules vs bytes → header bytes ≡ Some (rules, length vs))
-        (come : (rules : List PlainRule) (vs : List PlainKeyed) (notes : List (List ℕ)) (bytes name : List ℕ) (parts : Parts) → FullAs rules vs notes bytes → parts_in bytes ≡ Some parts → notes_from (at_first name parts (length vs)) bytes ≡ Some notes)
+        (come : (c : Contents) (bytes name : List ℕ) (parts : Parts) → FullAs c bytes → parts_in bytes ≡ Some parts → notes_from (at_first name parts (length c.versions)) bytes ≡ Some c.notes)
         (parts : Parts) (are : PartsAre files name parts) where
-      versions-are : (rules : List PlainRule) (vs : List PlainKeyed) (notes : List (List ℕ)) → ArchiveIs files name rules vs notes → h.versions ≡ length vs
-      versions-are rules vs notes a =
-          let s = sound-front rules vs notes a in
-          let one : Some (rules, length vs) ≡ Some (h.rules, h.versions) = sym (fronted rules vs front.core s.specification s.file) ∙ ap (option_map (λ (x : (List PlainRule × ℕ) × List ℕ). x.0)) front.is in
-          let same : (rules, length vs) ≡ (h.rules, h.versions) = cc in
+      versions-are : (c : Contents) → ArchiveIs files name c → h.versions ≡ length c.versions
+      versions-are c a =
+          let s = sound-front c a in
+          let one : Some (c.rules, length c.versions) ≡ Some (h.rules, h.versions) = sym (fronted c.rules c.versions front.core s.specification s.file) ∙ ap (option_map (λ (x : (List PlainRule × ℕ) × List ℕ). x.0)) front.is in
+          let same : (c.rules, length c.versions) ≡ (h.rules, h.versions) = cc in
           sym (ap (λ (x : List PlainRule × ℕ). x.1) same)
 
       -- the notes of the archive are those that are read
-      pub read-notes : (rules : List PlainRule) (vs : List PlainKeyed) (notes : List (List ℕ)) → ArchiveIs files name rules vs notes → notes_from (at_first name parts h.versions) (file_of files name) ≡ Some notes
-      read-notes rules vs notes a =
+      pub read-notes : (c : Contents) → ArchiveIs files name c → notes_from (at_first name parts h.versions) (file_of files name) ≡ Some c.notes
+      read-notes c a =
           let same : are.bytes ≡ a.bytes = same-file files name are.bytes a.bytes are.there a.there in
           let parted : parts_in a.bytes ≡ Some parts = ap parts_in (sym same) ∙ are.are in
-          (λ i. notes_from (at_first name parts (versions-are rules vs notes a i)) (bytes_or_none (a.there i))) ∙ come rules vs notes a.bytes name parts a.full parted
+          (λ i. notes_from (at_first name parts (versions-are c a i)) (bytes_or_none (a.there i))) ∙ come c a.bytes name parts a.full parted
 
       -- they were not read
       pub notes-damaged : (q : Refusal) → NotesEnd files name parts h.versions (Some (refused q)) → IsDamaged files name q
-      notes-damaged q d = (d.0, (λ rules vs notes a. (let wrong : None ≡ Some notes = sym d.1 ∙ read-notes rules vs notes a in absurd cc)))
+      notes-damaged q d = (d.0, (λ c a. (let wrong : None ≡ Some c.notes = sym d.1 ∙ read-notes c a in absurd cc)))
 
       pub notes-stopped : (note : List ℕ) (after : Option Files) (v : PlainFault) → h.versions ≢ 999999 → NotesEnd files name parts h.versions (Some v) → AddEnds files name h new note after (Some v)
       notes-stopped note after (refused q) room d = inr (room, inl (notes-damaged q d))
@@ -158,19 +159,19 @@ module _ (has_parts : (rules : List PlainRule) (vs : List PlainKeyed) (notes : L
             record {
               bytes = bytes;
               tells = stored-tells files told after draft bytes name tells (stored ∙ ap (λ (o : Option (List ℕ)). committed told o name) drafted);
-              full = λ rules vs notes a.
-                  let both : Some gains.notes ≡ Some notes = sym (gains.given files (same ∙ tells)) ∙ read-notes rules vs notes a in
-                  let all : gains.notes ≡ notes = cc in
-                  let count = versions-are rules vs notes a in
+              full = λ c a.
+                  let both : Some gains.notes ≡ Some c.notes = sym (gains.given files (same ∙ tells)) ∙ read-notes c a in
+                  let all : gains.notes ≡ c.notes = cc in
+                  let count = versions-are c a in
                   let many = gains.count in
-                  let grown : FullAs rules (vs ++ new ∷ []) (gains.notes ++ note ∷ []) bytes = record {
+                  let grown : FullAs (record { rules = c.rules; versions = c.versions ++ new ∷ []; notes = gains.notes ++ note ∷ [] }) bytes = record {
                     core = added.bytes;
-                    is = added.sound front.core rules vs at-front heads (sound-front rules vs notes a);
-                    as_many = omega (arith, count, many, length-append gains.notes (note ∷ []), length-append vs (new ∷ []));
+                    is = added.sound front.core c.rules c.versions at-front heads (sound-front c a);
+                    as_many = omega (arith, count, many, length-append gains.notes (note ∷ []), length-append c.versions (new ∷ []));
                     each = each-more gains.notes note gains.each is;
                     spelled = refl;
                   } in
-                  subst (λ (l : List (List ℕ)). FullAs rules (vs ++ new ∷ []) (l ++ note ∷ []) bytes) all grown;
+                  subst (λ (l : List (List ℕ)). FullAs (record { rules = c.rules; versions = c.versions ++ new ∷ []; notes = l ++ note ∷ [] }) bytes) all grown;
             }),
       )
 
@@ -219,7 +220,7 @@ module _ (files : Files) (name : List ℕ) (h : PlainHeader) (new : Result Plain
   -- nothing was read or written
   pub merges-stopped : {T : Type 0} (r : Result T Fault) (f : Fault) → IsErrAnd r (λ g. g ≡ f) → IsDefined new (fault_view f) → Merges files name h new note after x x (fault_of r)
   merges-stopped (Ok u) f e is = absurd e
-  merges-stopped (Err g) f e is = subst (λ (z : Fault). Merges files name h new note after x x (Some (fault_view z))) (sym e) (record { ends = tree-stopped new (fault_view f) is; gap = λ rules vs notes a is of. omega arith })
+  merges-stopped (Err g) f e is = subst (λ (z : Fault). Merges files name h new note after x x (Some (fault_view z))) (sym e) (record { ends = tree-stopped new (fault_view f) is; gap = λ c a is of. omega arith })
 
 -- the folder stays as it is
 pub streams-none : {S : Type 0} {files : S → Option Files} {draft : S → Option (List ℕ)} {numbers : S → Numbers} (n : ℕ) (a : S) (v : Option PlainFault) → IsMeter (numbers a) → Streams files draft numbers n a a v

@@ -6,7 +6,6 @@ use Rattle.std.proofs.lemmas.List.{length-append}
 use Rattle.key_spec.specs.Canonical.{canonical}
 use Rattle.key_spec.specs.Closed.{closed}
 use Rattle.key_spec.specs.Data.{PlainRule}
-use Rattle.keyed_tree.specs.Data.{PlainKeyed}
 use Rattle.archive_tree.specs.Data.{PlainArchive}
 use Rattle.archive_tree.specs.Stands.{ArchiveOf}
 use Rattle.xa_outside.specs.Folder.{Files, bytes_or_none}
@@ -15,6 +14,7 @@ use Rattle.record_cursor.specs.View.{PlainHeader, IsHeader}
 use Rattle.version_notes.specs.Notes.{notes_part}
 use Rattle.version_notes.specs.Parts.{parts_behind, parts_in}
 use Rattle.version_notes.specs.declared.parts.Parts.{Parts}
+use Rattle.noted_file.specs.Contents.{Contents}
 use Rattle.noted_file.specs.Full.{FullAs}
 use Rattle.record_format.specs.Data.{PlainRec}
 use Rattle.record_format.specs.Files.{HasFile, header_bytes, file_bytes, file_records, tail_bytes, largest, weight}
@@ -57,49 +57,49 @@ one-first n m core x y same fits within =
     omega (arith, lengths, length-drop n core, length-drop m core, fits, within)
 
 module _ (stands : (rules : List PlainRule) (a : PlainArchive) → closed (canonical rules) ≡ Ok rules → HasFile rules a → header_at (file_bytes rules a) ≡ Some ((rules, a.n), drop (length (header_bytes rules a.n)) (file_bytes rules a)))
-    (has_parts : (rules : List PlainRule) (vs : List PlainKeyed) (notes : List (List ℕ)) (bytes : List ℕ) (full : FullAs rules vs notes bytes) → parts_in bytes ≡ Some (parts_behind full.core notes))
-    (files : Files) (archive doc : List ℕ) (rules : List PlainRule) (vs : List PlainKeyed) (notes : List (List ℕ)) (is : ArchiveIs files archive rules vs notes) where
+    (has_parts : (c : Contents) (bytes : List ℕ) (full : FullAs c bytes) → parts_in bytes ≡ Some (parts_behind full.core c.notes))
+    (files : Files) (archive doc : List ℕ) (c : Contents) (is : ArchiveIs files archive c) where
   size-is : size_in (Some files) archive ≡ length is.bytes
   size-is = ap (λ o. length (bytes_or_none o)) is.there
 
   core-within : length is.full.core ≤ size_in (Some files) archive
-  core-within = (let size = size-is in let all = ap length is.full.spelled in omega (arith, size, all, length-append is.full.core (notes_part notes)))
+  core-within = (let size = size-is in let all = ap length is.full.spelled in omega (arith, size, all, length-append is.full.core (notes_part c.notes)))
 
-  front-within : front_size rules vs ≤ length is.full.core
+  front-within : front_size c.rules c.versions ≤ length is.full.core
   front-within =
       let f = is.full.is.file in
-      let count : length vs ≡ f.archive.n = f.is.count in
-      let same : front_size rules vs ≡ length (header_bytes rules f.archive.n) = ap (λ n. length (header_bytes rules n)) count in
+      let count : length c.versions ≡ f.archive.n = f.is.count in
+      let same : front_size c.rules c.versions ≡ length (header_bytes c.rules f.archive.n) = ap (λ n. length (header_bytes c.rules n)) count in
       let s = ap length f.spelled in
-      let b = length-append (header_bytes rules f.archive.n) (flat_map rec_bytes (file_records f.archive) ++ tail_bytes f.archive) in
+      let b = length-append (header_bytes c.rules f.archive.n) (flat_map rec_bytes (file_records f.archive) ++ tail_bytes f.archive) in
       omega (arith, same, s, b)
 
   -- the header that was read is the one that stands there
-  first-is : (h : PlainHeader) → IsHeader h → IsFrontOf files archive h → h.first ≡ front_size rules vs
+  first-is : (h : PlainHeader) → IsHeader h → IsFrontOf files archive h → h.first ≡ front_size c.rules c.versions
   first-is h header front =
       let f = is.full.is.file in
       let core = is.full.core in
-      let one : (h.length ≡ length core) × (front.core ≡ core) = core-same has_parts files archive rules vs notes is h.length front.core front.of in
-      let count : length vs ≡ f.archive.n = f.is.count in
-      let head = length (header_bytes rules f.archive.n) in
-      let at : header_at core ≡ Some ((rules, f.archive.n), drop head core) = ap header_at f.spelled ∙ stands rules f.archive is.full.is.specification f.has ∙ ap (λ z. Some ((rules, f.archive.n), drop head z)) (sym f.spelled) in
+      let one : (h.length ≡ length core) × (front.core ≡ core) = core-same has_parts files archive c is h.length front.core front.of in
+      let count : length c.versions ≡ f.archive.n = f.is.count in
+      let head = length (header_bytes c.rules f.archive.n) in
+      let at : header_at core ≡ Some ((c.rules, f.archive.n), drop head core) = ap header_at f.spelled ∙ stands c.rules f.archive is.full.is.specification f.has ∙ ap (λ z. Some ((c.rules, f.archive.n), drop head z)) (sym f.spelled) in
       let here : header_at core ≡ Some ((h.rules, h.versions), drop h.first core) = subst (λ z. header_at z ≡ Some ((h.rules, h.versions), drop h.first z)) one.1 front.is in
       let within = header.within in
       let long : h.length ≡ length core = one.0 in
       let fits = front-within in
-      let heads : front_size rules vs ≡ head = ap (λ n. length (header_bytes rules n)) count in
-      one-first h.first head core (h.rules, h.versions) (rules, f.archive.n) (sym here ∙ at) (omega (arith, within, long)) (omega (arith, fits, heads)) ∙ sym heads
+      let heads : front_size c.rules c.versions ≡ head = ap (λ n. length (header_bytes c.rules n)) count in
+      one-first h.first head core (h.rules, h.versions) (c.rules, f.archive.n) (sym here ∙ at) (omega (arith, within, long)) (omega (arith, fits, heads)) ∙ sym heads
 
-  module _ (a : PlainArchive) (of : ArchiveOf vs a) where
-    front-least : front_size rules vs ≤ largest rules a
+  module _ (a : PlainArchive) (of : ArchiveOf c.versions a) where
+    front-least : front_size c.rules c.versions ≤ largest c.rules a
     front-least =
-        let count : length vs ≡ a.n = of.count in
-        let same : front_size rules vs ≡ length (header_bytes rules a.n) = ap (λ n. length (header_bytes rules n)) count in
-        let more = fold-least (file_records a) (length (header_bytes rules a.n)) in
+        let count : length c.versions ≡ a.n = of.count in
+        let same : front_size c.rules c.versions ≡ length (header_bytes c.rules a.n) = ap (λ n. length (header_bytes c.rules n)) count in
+        let more = fold-least (file_records a) (length (header_bytes c.rules a.n)) in
         omega (arith, same, more)
 
     -- it was read from alone
-    pub one_pass-read : (x y : Numbers) → y.since < 2 ^ 64 - 1 → PullsAtMost (16 + front_size rules vs + document_size files doc) (after_begin x) y → OnePass files archive doc rules a x y
+    pub one_pass-read : (x y : Numbers) → y.since < 2 ^ 64 - 1 → PullsAtMost (16 + front_size c.rules c.versions + document_size files doc) (after_begin x) y → OnePass files archive doc c.rules a x y
     one_pass-read x y small p =
         let n = p.within in
         let pulled = ap (λ (m : Numbers). m.pulled) p.pulled in
@@ -116,8 +116,8 @@ module _ (stands : (rules : List PlainRule) (a : PlainArchive) → closed (canon
 
     -- and then it was gone over
     pub one_pass-merged : (h : PlainHeader) (parts : Parts) (x y z : Numbers) → IsHeader h → IsFrontOf files archive h → h.length ≡ parts.core → AreWithin (size_in (Some files) archive) parts
-        → z.since < 2 ^ 64 - 1 → PullsAtMost (16 + front_size rules vs + document_size files doc) (after_begin x) y → PullsAndDrafts (h.length - h.first + notes_bytes parts.notes) y z
-        → z.gap ≤ max y.gap (most_ahead h rules a y) → OnePass files archive doc rules a x z
+        → z.since < 2 ^ 64 - 1 → PullsAtMost (16 + front_size c.rules c.versions + document_size files doc) (after_begin x) y → PullsAndDrafts (h.length - h.first + notes_bytes parts.notes) y z
+        → z.gap ≤ max y.gap (most_ahead h c.rules a y) → OnePass files archive doc c.rules a x z
     one_pass-merged h parts x y z header front long fit small p q gap-is =
         let n = p.within in
         let m = q.within in
@@ -131,8 +131,8 @@ module _ (stands : (rules : List PlainRule) (a : PlainArchive) → closed (canon
         let within = header.within in
         let all = fit.within in
         let least = front-least in
-        let count : length vs ≡ a.n = of.count in
-        let heads : front_size rules vs ≡ length (header_bytes rules a.n) = ap (λ n. length (header_bytes rules n)) count in
+        let count : length c.versions ≡ a.n = of.count in
+        let heads : front_size c.rules c.versions ≡ length (header_bytes c.rules a.n) = ap (λ n. length (header_bytes c.rules n)) count in
         record {
           begun_first = omega (arith, small, pulled, since, pulled2, since2);
           once = omega (arith, n, m, since, since2, first, within, long, all);

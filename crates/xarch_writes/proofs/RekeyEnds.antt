@@ -17,6 +17,7 @@ use Rattle.version_notes.specs.Parts.{parts_behind, parts_in}
 use Rattle.version_notes.specs.Reader.{at_first, file_of}
 use Rattle.version_notes.specs.Reading.{notes_from}
 use Rattle.version_notes.specs.declared.parts.Parts.{Parts}
+use Rattle.noted_file.specs.Contents.{Contents}
 use Rattle.noted_file.specs.Full.{Full, FullAs}
 use Rattle.xarch_words.specs.Commands.{rekey}
 use Rattle.xarch_words.specs.Refusal.{archive, Refusal, key_fault_in, limit, PlainFault, refused, memory}
@@ -61,10 +62,10 @@ module _ (rules : List PlainRule) (vs : List PlainKeyed) (a : PlainArchive) (und
 -- ---- the archive that is read
 
 -- From what is known of all archive files with notes.
-module _ (has_parts : (rules : List PlainRule) (vs : List PlainKeyed) (notes : List (List ℕ)) (bytes : List ℕ) (full : FullAs rules vs notes bytes) → parts_in bytes ≡ Some (parts_behind full.core notes))
+module _ (has_parts : (c : Contents) (bytes : List ℕ) (full : FullAs c bytes) → parts_in bytes ≡ Some (parts_behind full.core c.notes))
     (files : Files) (name : List ℕ) (parts : Parts) (are : PartsAre files name parts) where
   pub core-damaged : (q : Refusal) → IsNoArchive name (take parts.core are.bytes) q → IsDamaged files name q
-  core-damaged q w = (w.is, (λ rules vs notes a. w.unsound rules vs (core-sound has_parts files name rules vs notes a parts.core (take parts.core are.bytes) (of-parts files name parts are))))
+  core-damaged q w = (w.is, (λ c a. w.unsound c.rules c.versions (core-sound has_parts files name c a parts.core (take parts.core are.bytes) (of-parts files name parts are))))
 
 -- the first bytes of a file that has this core
 pub core-bytes : (files : Files) (name : List ℕ) (size : ℕ) (core read : List ℕ) → CoreIs files name size core → read ≡ take size (bytes_or_none (map.get files name)) → read ≡ core
@@ -74,18 +75,18 @@ module _ (files : Files) (name : List ℕ) (parts : Parts) (are : PartsAre files
   from-file : (found : Option (List (List ℕ))) → notes_from (at_first name parts n) (file_of files name) ≡ found → notes_from (at_first name parts (length vs)) are.bytes ≡ found
   from-file found e = (λ i. notes_from (at_first name parts (sym count i)) (bytes_or_none (sym are.there i))) ∙ e
 
-  pub opened-by : ((rules : List PlainRule) (vs : List PlainKeyed) (notes : List (List ℕ)) (bytes name : List ℕ) (parts : Parts) → parts_in bytes ≡ Some parts → SoundAs rules vs (take parts.core bytes)
-      → notes_from (at_first name parts (length vs)) bytes ≡ Some notes → FullAs rules vs notes bytes)
+  pub opened-by : ((c : Contents) (bytes name : List ℕ) (parts : Parts) → parts_in bytes ≡ Some parts → SoundAs c.rules c.versions (take parts.core bytes)
+      → notes_from (at_first name parts (length c.versions)) bytes ≡ Some c.notes → FullAs c bytes)
       → (notes : List (List ℕ)) → notes_from (at_first name parts n) (file_of files name) ≡ Some notes → IsOpened files name vs notes
-  opened-by full notes e = record { rules = sound.rules; is = record { bytes = are.bytes; there = are.there; full = full sound.rules vs notes are.bytes name parts are.are sound.is (from-file (Some notes) e) } }
+  opened-by full notes e = record { rules = sound.rules; is = record { bytes = are.bytes; there = are.there; full = full (record { rules = sound.rules; versions = vs; notes = notes }) are.bytes name parts are.are sound.is (from-file (Some notes) e) } }
 
   pub damaged-notes : ((rules : List PlainRule) (vs : List PlainKeyed) (bytes name : List ℕ) (parts : Parts) → parts_in bytes ≡ Some parts → SoundAs rules vs (take parts.core bytes) → notes_from (at_first name parts (length vs)) bytes ≡ None → ¬ Full bytes)
       → (q : Refusal) → NotesEnd files name parts n (Some (refused q)) → IsDamaged files name q
   damaged-notes none q d = (
     d.0,
-    (λ rules us notes a.
+    (λ c a.
         let same : a.bytes ≡ are.bytes = same-file files name a.bytes are.bytes a.there are.there in
-        none sound.rules vs are.bytes name parts are.are sound.is (from-file None d.1) (record { rules = rules; versions = us; notes = notes; is = subst (λ (b : List ℕ). FullAs rules us notes b) same a.full })),
+        none sound.rules vs are.bytes name parts are.are sound.is (from-file None d.1) (record { contents = c; is = subst (λ (b : List ℕ). FullAs c b) same a.full })),
   )
 
 -- notes that were read can be appended
@@ -113,32 +114,35 @@ module _ (files : Files) (name spec : List ℕ) where
   unfolding MayBe
   rekey_refused_early q e = record {
     whatever = subst (λ x. GoesOn x (λ _. DamagedOrSound files name) (Err q)) (sym e) refl;
-    sound = λ rules vs notes is. subst (λ x. GoesOn x (RekeysTo files name vs notes) (Err q)) (sym e) refl;
+    sound = λ c is. subst (λ x. GoesOn x (RekeysTo files name c) (Err q)) (sym e) refl;
   }
 
   module _ (rules : List PlainRule) (input : rekey_rules files name spec ≡ Ok rules) where
     -- what the end of it says, behind the new keys
-    ends : (r : Result Outcome Refusal) → DamagedOrSound files name r → ((old : List PlainRule) (vs : List PlainKeyed) (notes : List (List ℕ)) → ArchiveIs files name old vs notes → RekeysTo files name vs notes rules r) → MayBe files (rekey name spec) r
+    ends : (r : Result Outcome Refusal) → DamagedOrSound files name r → ((c : Contents) → ArchiveIs files name c → RekeysTo files name c rules r) → MayBe files (rekey name spec) r
     unfolding MayBe
     ends r may to = record {
       whatever = subst (λ x. GoesOn x (λ _. DamagedOrSound files name) r) (sym input) may;
-      sound = λ old vs notes is. subst (λ x. GoesOn x (RekeysTo files name vs notes) r) (sym input) (to old vs notes is);
+      sound = λ c is. subst (λ x. GoesOn x (RekeysTo files name c) r) (sym input) (to c is);
     }
 
     -- it is damaged
     pub rekey_damaged : (q : Refusal) → IsDamaged files name q → MayBe files (rekey name spec) (Err q)
-    rekey_damaged q d = ends (Err q) (inl (ap (λ s. Err s) d.0)) (λ old vs notes is. absurd (d.1 old vs notes is))
+    rekey_damaged q d = ends (Err q) (inl (ap (λ s. Err s) d.0)) (λ c is. absurd (d.1 c is))
 
-    module _ (one : (rules others : List PlainRule) (vs us : List PlainKeyed) (notes more : List (List ℕ)) (bytes : List ℕ) → FullAs rules vs notes bytes → FullAs others us more bytes → (rules ≡ others) × (vs ≡ us) × (notes ≡ more))
+    module _ (one : (c d : Contents) (bytes : List ℕ) → FullAs c bytes → FullAs d bytes → c ≡ d)
         (vs : List PlainKeyed) (notes : List (List ℕ)) (is : IsOpened files name vs notes) where
+      abbrev held : Contents
+      held = record { rules = is.rules; versions = vs; notes = notes }
+
       -- it is sound, and these are its versions and notes
-      opened : (r : Result Outcome Refusal) → RekeysTo files name vs notes rules r → MayBe files (rekey name spec) r
+      opened : (r : Result Outcome Refusal) → RekeysTo files name held rules r → MayBe files (rekey name spec) r
       opened r to =
-          ends r (inr (record { rules = is.rules; versions = vs; notes = notes; archive = is.is; rest = tt }))
-          (λ others us more a.
+          ends r (inr (record { contents = held; archive = is.is; rest = tt }))
+          (λ c a.
           let bytes : a.bytes ≡ is.is.bytes = same-file files name a.bytes is.is.bytes a.there is.is.there in
-          let same = one is.rules others vs us notes more is.is.bytes is.is.full (subst (λ (b : List ℕ). FullAs others us more b) bytes a.full) in
-          subst (λ (l : List (List ℕ)). RekeysTo files name us l rules r) same.2 (subst (λ (ws : List PlainKeyed). RekeysTo files name ws notes rules r) same.1 to))
+          let same = one held c is.is.bytes is.is.full (subst (λ (b : List ℕ). FullAs c b) bytes a.full) in
+          subst (λ (x : Contents). RekeysTo files name x rules r) same to)
 
       -- the file of its versions under the keys comes
       pub rekey_stored : (core : List ℕ) → IsFileOfVersions rules vs core → MayBe files (rekey name spec) (Ok (record { files = map.insert files name (core ++ notes_part notes); output = [] }))
@@ -148,7 +152,7 @@ module _ (files : Files) (name spec : List ℕ) where
           opened (Ok (record { files = map.insert files name bytes; output = [] }))
           (inl (record { versions = file.versions; are = file.are; rest = inl (record { bytes = bytes; full = record { core = core; is = file.sound; as_many = count; each = is.is.full.each; spelled = refl }; is = refl }) }))
 
-      unkeyed : (q : Refusal) → IsUnkeyed rules vs q → RekeysTo files name vs notes rules (Err q)
+      unkeyed : (q : Refusal) → IsUnkeyed rules vs q → RekeysTo files name held rules (Err q)
       unkeyed q (inl bad) = inr (record { number = bad.number; fault = bad.fault; first = bad.first; is = ap (λ s. Err s) bad.is })
       unkeyed q (inr long) = inl (record { versions = long.versions; are = long.are; rest = inr (record { none = long.none; is = ap (λ s. Err s) long.is }) })
 

@@ -11,6 +11,7 @@ use Rattle.record_cursor.specs.View.{PlainHeader, header_view}
 use Rattle.record_format.specs.Files.{FileOf, header_bytes, largest}
 use Rattle.stream_merge.specs.declared.fault.AddFault.{AddFault}
 use Rattle.stream_merge.specs.declared.fault.AddFault.TheVariants.{Damage, Folder, Limit, TooLong, Memory}
+use Rattle.noted_file.specs.Contents.{Contents, with_version}
 use Rattle.noted_file.specs.Full.{FullAs}
 use Rattle.xarch_words.specs.Refusal.{archive, versions, Refusal, damaged, limit, PlainFault, refused, folder_fault, memory}
 use Rattle.xarch_parts.specs.Archives.{ArchiveIs}
@@ -33,17 +34,17 @@ IsToldAs name Memory fault = fault ≡ memory
 pub record Replaces (files : Files) (name : List ℕ) (new : PlainKeyed) (note : List ℕ) (after : Option Files) : Type 0 where
   pub bytes : List ℕ
   pub tells : TellsOnly after (map.insert files name bytes)
-  pub full : (rules : List PlainRule) (vs : List PlainKeyed) (notes : List (List ℕ)) → ArchiveIs files name rules vs notes → FullAs rules (vs ++ new ∷ []) (notes ++ note ∷ []) bytes
+  pub full : (c : Contents) → ArchiveIs files name c → FullAs (with_version c new note) bytes
 
 -- the archive is damaged, which none is that is sound with its notes
 abbrev pub IsDamaged : Files → List ℕ → Refusal → Type 0
-IsDamaged files name q = (q ≡ damaged name) × ((rules : List PlainRule) (vs : List PlainKeyed) (notes : List (List ℕ)) → ¬ ArchiveIs files name rules vs notes)
+IsDamaged files name q = (q ≡ damaged name) × ((c : Contents) → ¬ ArchiveIs files name c)
 
 -- it is damaged; or it would be too long, and so it would if it is sound
 abbrev pub IsUnmerged : Files → List ℕ → PlainKeyed → Refusal → Type 0
 IsUnmerged files name new q =
     IsDamaged files name q
-    ⊎ ((q ≡ limit archive 274877906944) × ((rules : List PlainRule) (vs : List PlainKeyed) (notes : List (List ℕ)) → ArchiveIs files name rules vs notes → (bytes : List ℕ) → ¬ FileOf rules (vs ++ new ∷ []) bytes))
+    ⊎ ((q ≡ limit archive 274877906944) × ((c : Contents) → ArchiveIs files name c → (bytes : List ℕ) → ¬ FileOf c.rules (c.versions ++ new ∷ []) bytes))
 
 -- The new version is refused. The limit of versions is judged first.
 abbrev pub IsNotAdded : Files → List ℕ → PlainHeader → PlainKeyed → Refusal → Type 0
@@ -74,10 +75,10 @@ most_ahead h rules a x = max (x.since - x.drafted - length (header_bytes rules a
 -- It ends so, and over a sound archive what was read is little ahead of what was written.
 pub record Merges (files : Files) (name : List ℕ) (h : PlainHeader) (new : Result PlainKeyed Refusal) (note : List ℕ) (after : Option Files) (x y : Numbers) (ended : Option PlainFault) : Type 0 where
   pub ends : TreeEnds files name h new note after ended
-  pub gap : (rules : List PlainRule) (vs : List PlainKeyed) (notes : List (List ℕ)) (a : PlainArchive) → ArchiveIs files name rules vs notes → ArchiveOf vs a → y.gap ≤ max x.gap (most_ahead h rules a x)
+  pub gap : (c : Contents) (a : PlainArchive) → ArchiveIs files name c → ArchiveOf c.versions a → y.gap ≤ max x.gap (most_ahead h c.rules a x)
 
 -- Over a sound archive what was read is little ahead of what was written: once its records are written, no further than before them.
 pub record KeepsUp (files : Files) (name : List ℕ) (h : PlainHeader) (x y : Numbers) (ended : Option PlainFault) : Type 0 where
-  pub gap : (rules : List PlainRule) (vs : List PlainKeyed) (notes : List (List ℕ)) (a : PlainArchive) → ArchiveIs files name rules vs notes → ArchiveOf vs a
-      → y.gap ≤ max x.gap (x.since - x.drafted - length (header_bytes rules a.n) + largest rules a)
+  pub gap : (c : Contents) (a : PlainArchive) → ArchiveIs files name c → ArchiveOf c.versions a
+      → y.gap ≤ max x.gap (x.since - x.drafted - length (header_bytes c.rules a.n) + largest c.rules a)
   pub ahead : ended ≡ None → y.since - y.drafted ≤ x.since - x.drafted - h.first

@@ -40,7 +40,7 @@ IsUnkeyed rules vs q = IsBadTold rules vs q ⊎ AreTooLong rules vs q
 -- the file of this name is the archive of these versions under some rules, with these notes
 pub record IsOpened (files : Files) (name : List ℕ) (vs : List PlainKeyed) (notes : List (List ℕ)) : Type 0 where
   pub rules : List PlainRule
-  pub is : ArchiveIs files name rules vs notes
+  pub is : ArchiveIs files name (record { rules = rules; versions = vs; notes = notes })
 
 -- bytes are the sound archive of these versions under some rules
 pub record IsSoundOf (vs : List PlainKeyed) (bytes : List ℕ) : Type 0 where

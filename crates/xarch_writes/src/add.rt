@@ -1,17 +1,17 @@
 #![tactic(auto, using(xarch_parts::specs::EndLaws::endings), unfolding(xarch_parts::specs::Ends::IsInside, xarch_parts::specs::Ends::IsDefined))]
 
-ghost use Rattle.std.specs.Prelude.{◌≡◌, ◌≢◌, ◌-◌, ◌+◌, ◌^◌, ◌<◌, ◌≤◌, ℕ, List, Some, Ok, IfOk, IfSome, OnOk, IsTrue, length};
+ghost use Rattle.std.specs.Prelude.{◌≡◌, ◌≢◌, ◌-◌, ◌+◌, ◌^◌, ◌<◌, ◌≤◌, ℕ, Some, Ok, IfOk, IfSome, OnOk, IsTrue, length};
 ghost use Rattle.xa_outside.specs.Folder.{Files, IsBlank};
 ghost use Rattle.xa_outside.specs.Numbers.{PullsAtMost};
 ghost use Rattle.xa_outside.specs.Taken.{Taken};
 ghost use Rattle.jsonml_text.specs.Texts.{AreTexts};
 ghost use Rattle.key_annotate.specs.LentView.{lent_view};
-ghost use Rattle.key_spec.specs.Data.{PlainRule};
 ghost use Rattle.keyed_tree.specs.Data.{PlainKeyed};
 ghost use Rattle.keyed_tree.specs.Plain.{plain};
 ghost use Rattle.archive_file.specs.KeyedBy.{IsKeyedBy};
 ghost use Rattle.record_cursor.specs.View.{header_view, IsHeader};
 ghost use Rattle.version_notes.specs.Notes.{is_note, is_printed};
+ghost use Rattle.noted_file.specs.Contents.{Contents};
 ghost use Rattle.xarch_words.specs.Commands.{add};
 ghost use Rattle.xarch_words.specs.View.{fault_view, note_view};
 ghost use Rattle.xarch_meanings.specs.Add.{tree_of};
@@ -120,10 +120,9 @@ fn read_added<F: Folder>(
     ensures front { (files : Files) → F.files folder.old ≡ Some files
         → IfOk result (λ r. PartsAre files archive.now r.0.parts
         × IsFrontOf files archive.now (header_view r.0.header)) }
-    ensures few { (files : Files) (rules : List PlainRule) (vs : List PlainKeyed)
-        (notes : List (List ℕ))
-        → F.files folder.old ≡ Some files → ArchiveIs files archive.now rules vs notes
-        → PullsAtMost (16 + front_size rules vs + document_size files doc.now)
+    ensures few { (files : Files) (c : Contents)
+        → F.files folder.old ≡ Some files → ArchiveIs files archive.now c
+        → PullsAtMost (16 + front_size c.rules c.versions + document_size files doc.now)
         (F.numbers folder.old) (F.numbers folder.new) }
     ensures once { IfOk result (λ r.
         AreWithin (size_in (F.files folder.old) archive.now) r.0.parts
@@ -159,11 +158,10 @@ fn read_text<F: Folder>(
         → file_length files archive.now ≡ Ok size
         → IfOk result (λ r. PartsAre files archive.now r.0.parts
         × IsFrontOf files archive.now (header_view r.0.header)) }
-    ensures few { (files : Files) (rules : List PlainRule) (vs : List PlainKeyed)
-        (notes : List (List ℕ))
+    ensures few { (files : Files) (c : Contents)
         → F.files folder.old ≡ Some files → file_length files archive.now ≡ Ok size
-        → ArchiveIs files archive.now rules vs notes
-        → PullsAtMost (16 + front_size rules vs + doc_size)
+        → ArchiveIs files archive.now c
+        → PullsAtMost (16 + front_size c.rules c.versions + doc_size)
         (F.numbers folder.old) (F.numbers folder.new) }
     ensures once { IfOk result (λ r. AreWithin size r.0.parts
         × PullsAtMost (16 + (header_view r.0.header).first + doc_size)

@@ -6,11 +6,11 @@ use Rattle.archive_text.proofs.read.read_with_file.Goals as goal
 
 pub returns-clause-bad : goal.returns-clause-bad
 returns-clause-bad c =
-    text_bad c.args.bytes.now c.read_kept.result _ (λ rules vs notes file full e. c.read_kept.ensures.found rules vs e.archive notes file e.is full (c.texts_can_be_read.ensures rules vs notes file c.args.bytes.now full e))
+    text_bad c.args.bytes.now c.read_kept.result _ (λ held file full e. c.read_kept.ensures.found held e.archive file e.is full (c.texts_can_be_read.ensures held file c.args.bytes.now full e))
 
 pub returns-clause-only : goal.returns-clause-only
-returns-clause-only c = λ rules vs notes file full e.
-    finds_ok _ _ c.read_kept.result (λ k h. (h.0, subst (ArchiveOf vs) (sym h.1) e.is, h.2)) (c.read_kept.ensures.found rules vs e.archive notes file e.is full (c.texts_can_be_read.ensures rules vs notes file c.args.bytes.now full e))
+returns-clause-only c = λ held file full e.
+    finds_ok _ _ c.read_kept.result (λ k h. (h.0, subst (ArchiveOf held.versions) (sym h.1) e.is, h.2)) (c.read_kept.ensures.found held e.archive file e.is full (c.texts_can_be_read.ensures held file c.args.bytes.now full e))
 
 pub returns-clause-file : goal.returns-clause-file
 returns-clause-file c = if_ok _ _ c.read_kept.result (λ r h vs is. record { core = r.1.items; is = h.sound vs is; as_many = h.kept.as_many ∙ sym is.count; each = h.kept.each; spelled = refl }) c.read_kept.ensures.kept

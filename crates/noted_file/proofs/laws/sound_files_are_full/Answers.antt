@@ -11,7 +11,7 @@ pub returns-clause-file : goal.returns-clause-file
 returns-clause-file c = λ rules vs bytes f. core-noted (FileOf rules vs) (length vs) bytes f
 
 pub returns-clause-sound_core : goal.returns-clause-sound_core
-returns-clause-sound_core c = λ rules vs notes bytes e f. noted-core (SoundAs rules vs) (length vs) notes bytes e f
+returns-clause-sound_core c = λ held bytes e f. noted-core (SoundAs held.rules held.versions) (length held.versions) held.notes bytes e f
 
 pub returns-clause-file_core : goal.returns-clause-file_core
-returns-clause-file_core c = λ rules vs notes bytes e f. noted-core (FileOf rules vs) (length vs) notes bytes e f
+returns-clause-file_core c = λ held bytes e f. noted-core (FileOf held.rules held.versions) (length held.versions) held.notes bytes e f

@@ -30,13 +30,13 @@ pub returns-in-Ok-clause-once : goal.returns-in-Ok-clause-once
 returns-in-Ok-clause-once g c = (c.in-Ok.ensures.once.0, PullsAtMost-trans 16 (header_view c.in-Ok.header).first _ _ _ c.in_ok-parts.ensures.reads.pulls c.in-Ok.ensures.once.1)
 
 pub returns-in-Ok-clause-few : goal.returns-in-Ok-clause-few
-returns-in-Ok-clause-few g c = λ files rules vs notes told long a.
+returns-in-Ok-clause-few g c = λ files held told long a.
     let name = c.args.name.now in
     let parts = c.in_ok-parts.parts in
     let p = c.in_ok-parts.ensures.are files told long in
     let core = of-parts files name parts p in
-    let sound = core-sound c.full_files_have_parts.ensures.parts files name rules vs notes a parts.core (take parts.core p.bytes) core in
-    PullsAtMost-trans 16 _ _ _ _ c.in_ok-parts.ensures.reads.pulls (c.in-Ok.ensures.few files (take parts.core p.bytes) rules vs (c.in_ok-parts.ensures.reads.same_files ∙ told) core sound)
+    let sound = core-sound c.full_files_have_parts.ensures.parts files name held a parts.core (take parts.core p.bytes) core in
+    PullsAtMost-trans 16 _ _ _ _ c.in_ok-parts.ensures.reads.pulls (c.in-Ok.ensures.few files (take parts.core p.bytes) held.rules held.versions (c.in_ok-parts.ensures.reads.same_files ∙ told) core sound)
 
 -- ---- none does
 
@@ -52,10 +52,10 @@ returns-in-Err-clause-told g c = λ files told long.
     subst (λ x. IsDefined x (fault_view c.in-Err.fault)) (sym (front-read files name parts.core (take parts.core p.bytes) core)) (c.in-Err.ensures.told files (take parts.core p.bytes) (c.in_ok-parts.ensures.reads.same_files ∙ told) core)
 
 pub returns-in-Err-clause-few : goal.returns-in-Err-clause-few
-returns-in-Err-clause-few g c = λ files rules vs notes told long a.
+returns-in-Err-clause-few g c = λ files held told long a.
     let name = c.args.name.now in
     let parts = c.in_ok-parts.parts in
     let p = c.in_ok-parts.ensures.are files told long in
     let core = of-parts files name parts p in
-    let sound = core-sound c.full_files_have_parts.ensures.parts files name rules vs notes a parts.core (take parts.core p.bytes) core in
-    PullsAtMost-trans 16 _ _ _ _ c.in_ok-parts.ensures.reads.pulls (c.in-Err.ensures.few files (take parts.core p.bytes) rules vs (c.in_ok-parts.ensures.reads.same_files ∙ told) core sound)
+    let sound = core-sound c.full_files_have_parts.ensures.parts files name held a parts.core (take parts.core p.bytes) core in
+    PullsAtMost-trans 16 _ _ _ _ c.in_ok-parts.ensures.reads.pulls (c.in-Err.ensures.few files (take parts.core p.bytes) held.rules held.versions (c.in_ok-parts.ensures.reads.same_files ∙ told) core sound)

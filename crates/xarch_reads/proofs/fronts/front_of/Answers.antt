@@ -36,7 +36,7 @@ pub returns-in_err-size-clause-once : goal.returns-in_err-size-clause-once
 returns-in_err-size-clause-once g c = IfOk-passed c.from_residual.result _ _ c.from_residual.ensures.1
 
 pub returns-in_err-size-clause-few : goal.returns-in_err-size-clause-few
-returns-in_err-size-clause-few g c = λ files rules vs notes told is. PullsAtMost-more 0 _ _ _ (omega arith) c.in_err-size.ensures.reads.pulls
+returns-in_err-size-clause-few g c = λ files held told is. PullsAtMost-more 0 _ _ _ (omega arith) c.in_err-size.ensures.reads.pulls
 
 pub returns-clause-header : goal.returns-clause-header
 returns-clause-header g c = c.read_front.ensures.header
@@ -55,8 +55,8 @@ returns-clause-once g c =
     IfOk-weaker c.read_front.result _ _ (λ f is. (is.0, behind-length (16 + (header_view f.header).first) _ _ _ c.in_ok-size.ensures.reads.pulls is.1)) c.read_front.ensures.once
 
 pub returns-clause-few : goal.returns-clause-few
-returns-clause-few g c = λ files rules vs notes told is.
-    behind-length (16 + front_size rules vs) _ _ _ c.in_ok-size.ensures.reads.pulls (c.read_front.ensures.few files rules vs notes (c.in_ok-size.ensures.reads.same_files ∙ told) (c.in_ok-size.ensures.told files told) is)
+returns-clause-few g c = λ files held told is.
+    behind-length (16 + front_size held.rules held.versions) _ _ _ c.in_ok-size.ensures.reads.pulls (c.read_front.ensures.few files held (c.in_ok-size.ensures.reads.same_files ∙ told) (c.in_ok-size.ensures.told files told) is)
 
 pub returns-in_err-size-clause-within : goal.returns-in_err-size-clause-within
 returns-in_err-size-clause-within g c = IfOk-passed c.from_residual.result _ _ c.from_residual.ensures.1

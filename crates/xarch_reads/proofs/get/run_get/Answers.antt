@@ -19,7 +19,7 @@ returns-in_err-parts g c = record {
       (absent-parts c.full_files_have_parts.ensures.parts files c.args.archive.now c.args.version (fault_view c.in_err-parts.field-0.0) (c.in_err-parts.ensures.told files told)));
   long_demo = λ long. absurd long;
   one_pass = tt;
-  little = λ files rules vs notes a told is of. PullsAtMost-more 16 _ _ _ (omega arith) c.in_err-parts.ensures.reads.pulls;
+  little = λ files held a told is of. PullsAtMost-more 16 _ _ _ (omega arith) c.in_err-parts.ensures.reads.pulls;
   gained = inl (gained-none _ _);
 }
 

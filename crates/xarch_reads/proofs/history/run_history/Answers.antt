@@ -28,7 +28,7 @@ returns-in_err-header g c = record {
       (λ q e. may_refuse_early c.full_files_have_parts.ensures.parts c.versions_have_one_file.ensures.header files c.args.archive.now c.args.path.now q (defined_refused (history_input files c.args.archive.now c.args.path.now) _ q input e)));
   long_demo = λ long. absurd long;
   one_pass = tt;
-  little = λ files rules vs notes a told is of. PullsAtMost-more (16 + front_size rules vs) _ _ _ (omega arith) (c.in_err-header.ensures.few files rules vs notes told is);
+  little = λ files held a told is of. PullsAtMost-more (16 + front_size held.rules held.versions) _ _ _ (omega arith) (c.in_err-header.ensures.few files held told is);
   gained = inl (gained-none _ _);
 }
 
@@ -45,16 +45,16 @@ returns-in_err-versions g c = record {
       let input = c.in_ok-header.ensures.told files told ∙ ap (λ (ls : List Label). Ok ((h.rules, h.versions), map label_view ls)) (sym c.deref.ensures.value) in
       MayEnd-passed (MayBe files (history c.args.archive.now c.args.path.now)) c.from_residual-in_err-versions.result c.in_err-versions.field-0.0 _ _ c.from_residual-in_err-versions.ensures.1
       (λ q e. may_refuse c.full_files_have_parts.ensures.parts c.versions_have_one_file.ensures.header files c.args.archive.now c.args.path.now (h.rules, h.versions) (map label_view c.deref.result.now) input q (c.in_err-versions.ensures.damaged q e)
-      (λ rules vs notes is. c.in_err-versions.ensures.undamaged files rules vs notes told1 front is q e)));
+      (λ held is. c.in_err-versions.ensures.undamaged files held told1 front is q e)));
   long_demo = λ long. absurd long;
   one_pass = tt;
-  little = λ files rules vs notes a told is of.
+  little = λ files held a told is of.
       let h = header_view c.in_ok-header.header in
       let told1 = c.in_ok-header.ensures.reads.same_files ∙ told in
       let front = c.in_ok-header.ensures.front files told in
       let input = c.in_ok-header.ensures.told files told ∙ ap (λ (ls : List Label). Ok ((h.rules, h.versions), map label_view ls)) (sym c.deref.ensures.value) in
-      little-read c.full_files_have_parts.ensures.parts c.versions_have_one_file.ensures.header files c.args.archive.now c.args.path.now (h.rules, h.versions) (map label_view c.deref.result.now) input rules vs notes a _ _ _ is
-      (c.in_ok-header.ensures.few files rules vs notes told is) (c.in_err-versions.ensures.few files rules vs notes a told1 front is of);
+      little-read c.full_files_have_parts.ensures.parts c.versions_have_one_file.ensures.header files c.args.archive.now c.args.path.now (h.rules, h.versions) (map label_view c.deref.result.now) input held a _ _ _ is
+      (c.in_ok-header.ensures.few files held told is) (c.in_err-versions.ensures.few files held a told1 front is of);
   gained = inl (gained-none _ _);
 }
 
@@ -70,13 +70,13 @@ returns-in_err-line g c = record {
       (λ q e. no_memory _ q (sym c.in_err-line.ensures.memory ∙ e)));
   long_demo = λ long. absurd long;
   one_pass = tt;
-  little = λ files rules vs notes a told is of.
+  little = λ files held a told is of.
       let h = header_view c.in_ok-header.header in
       let told1 = c.in_ok-header.ensures.reads.same_files ∙ told in
       let front = c.in_ok-header.ensures.front files told in
       let input = c.in_ok-header.ensures.told files told ∙ ap (λ (ls : List Label). Ok ((h.rules, h.versions), map label_view ls)) (sym c.deref.ensures.value) in
-      little-read c.full_files_have_parts.ensures.parts c.versions_have_one_file.ensures.header files c.args.archive.now c.args.path.now (h.rules, h.versions) (map label_view c.deref.result.now) input rules vs notes a _ _ _ is
-      (c.in_ok-header.ensures.few files rules vs notes told is) (c.in_ok-versions.ensures.few files rules vs notes a told1 front is of);
+      little-read c.full_files_have_parts.ensures.parts c.versions_have_one_file.ensures.header files c.args.archive.now c.args.path.now (h.rules, h.versions) (map label_view c.deref.result.now) input held a _ _ _ is
+      (c.in_ok-header.ensures.few files held told is) (c.in_ok-versions.ensures.few files held a told1 front is of);
   gained = inl (gained-none _ _);
 }
 
@@ -93,17 +93,17 @@ returns g c = record {
       let input = c.in_ok-header.ensures.told files told ∙ ap (λ (ls : List Label). Ok ((h.rules, h.versions), map label_view ls)) (sym c.deref.ensures.value) in
       MayEnd-written (MayBe files (history c.args.archive.now c.args.path.now)) (record { files = files; output = c.as_bytes.result.now }) c.write_bytes.result _ _ _ _ _
       (may_write c.full_files_have_parts.ensures.parts c.versions_have_one_file.ensures.header files c.args.archive.now c.args.path.now (h.rules, h.versions) (map label_view c.deref.result.now) input c.as_bytes.result.now
-      (λ rules vs notes is. c.as_bytes.ensures.value ∙ c.in_ok-line.ensures.text ∙ ap numbers_text (c.in_ok-versions.ensures.members files rules vs notes told1 front is)))
+      (λ held is. c.as_bytes.ensures.value ∙ c.in_ok-line.ensures.text ∙ ap numbers_text (c.in_ok-versions.ensures.members files held told1 front is)))
       (tells_same _ files (c.in_ok-versions.ensures.reads.same_files ∙ told1)) c.write_bytes.ensures.bytes c.write_bytes.ensures.cause);
   long_demo = λ long. absurd long;
   one_pass = tt;
-  little = λ files rules vs notes a told is of.
+  little = λ files held a told is of.
       let h = header_view c.in_ok-header.header in
       let told1 = c.in_ok-header.ensures.reads.same_files ∙ told in
       let front = c.in_ok-header.ensures.front files told in
       let input = c.in_ok-header.ensures.told files told ∙ ap (λ (ls : List Label). Ok ((h.rules, h.versions), map label_view ls)) (sym c.deref.ensures.value) in
-      little-read c.full_files_have_parts.ensures.parts c.versions_have_one_file.ensures.header files c.args.archive.now c.args.path.now (h.rules, h.versions) (map label_view c.deref.result.now) input rules vs notes a _ _ _ is
-      (c.in_ok-header.ensures.few files rules vs notes told is) (c.in_ok-versions.ensures.few files rules vs notes a told1 front is of);
+      little-read c.full_files_have_parts.ensures.parts c.versions_have_one_file.ensures.header files c.args.archive.now c.args.path.now (h.rules, h.versions) (map label_view c.deref.result.now) input held a _ _ _ is
+      (c.in_ok-header.ensures.few files held told is) (c.in_ok-versions.ensures.few files held a told1 front is of);
   gained = inl (gained-written c.write_bytes.result _ _ _ _ _ c.write_bytes.ensures.bytes c.write_bytes.ensures.cause);
 }
 

@@ -25,7 +25,7 @@ returns-in_err-header g c = record {
       (λ q e. log-refused c.full_files_have_parts.ensures.parts c.versions_have_one_file.ensures.header files name path q (refused-before files name path q (defined_refused (history_input files name path) _ q input e))));
   long_demo = λ long. absurd long;
   one_pass = tt;
-  little = λ files rules vs notes a told is of. PullsAtMost-more (16 + front_size rules vs) _ _ _ (omega arith) (c.in_err-header.ensures.few files rules vs notes told is);
+  little = λ files held a told is of. PullsAtMost-more (16 + front_size held.rules held.versions) _ _ _ (omega arith) (c.in_err-header.ensures.few files held told is);
   gained = inl (gained-none _ _);
 }
 
@@ -47,7 +47,7 @@ returns-in_err-end_at_frontier g c =
           (refused-there files name path (h.rules, h.versions) labels input q (defined_refused (ending_at_frontier h.rules labels) _ q c.in_err-end_at_frontier.ensures.told e))));
       long_demo = λ long. absurd long;
       one_pass = tt;
-      little = λ files rules vs notes a told is of. PullsAtMost-more (16 + front_size rules vs) _ _ _ (omega arith) (c.in_ok-header.ensures.few files rules vs notes told is);
+      little = λ files held a told is of. PullsAtMost-more (16 + front_size held.rules held.versions) _ _ _ (omega arith) (c.in_ok-header.ensures.few files held told is);
       gained = inl (gained-none _ _);
     }
 
@@ -69,11 +69,11 @@ returns g c =
           c.write_log.ensures.may files path (e.reads.same_files ∙ told) (e.front files told) (given-there files name path (h.rules, h.versions) labels input c.in_ok-end_at_frontier.ensures.told);
       long_demo = λ long. absurd long;
       one_pass = tt;
-      little = λ files rules vs notes a told is of.
+      little = λ files held a told is of.
           let input = e.told files told ∙ ap (λ (ls : List Label). Ok ((h.rules, h.versions), map label_view ls)) (sym c.deref.ensures.value) in
-          little-logged rules vs a path labels _ _ _
-          (log-given c.full_files_have_parts.ensures.parts c.versions_have_one_file.ensures.header files name path (h.rules, h.versions) labels (given-there files name path (h.rules, h.versions) labels input c.in_ok-end_at_frontier.ensures.told) rules vs notes is)
-          (e.few files rules vs notes told is) (c.write_log.ensures.little files rules vs notes a (e.reads.same_files ∙ told) (e.front files told) is of);
+          little-logged held.rules held.versions a path labels _ _ _
+          (log-given c.full_files_have_parts.ensures.parts c.versions_have_one_file.ensures.header files name path (h.rules, h.versions) labels (given-there files name path (h.rules, h.versions) labels input c.in_ok-end_at_frontier.ensures.told) held is)
+          (e.few files held told is) (c.write_log.ensures.little files held a (e.reads.same_files ∙ told) (e.front files told) is of);
       gained = c.write_log.ensures.gained path;
     }
 

@@ -29,7 +29,7 @@ returns-in_err-begin g c = record {
     caused = caused-passed _ _ _ _ c.from_residual.result _ c.from_residual.ensures.1 (caused-begin _ _ _ _ c.in_err-begin.ensures.begins);
     may = λ files told. inl (MayEnd-folder (MayBe files (add c.args.archive.now c.args.doc.now c.args.note.now)) c.from_residual.result c.in_err-begin.field-0.0 _ t c.from_residual.ensures.1 c.in_err-begin.ensures.fault);
     long_demo = λ long. absurd long;
-    one_pass = λ files rules vs notes a told is of small not. absurd (not (failed-so c.from_residual.result c.in_err-begin.field-0.0 c.from_residual.ensures.1 c.in_err-begin.ensures.fault));
+    one_pass = λ files held a told is of small not. absurd (not (failed-so c.from_residual.result c.in_err-begin.field-0.0 c.from_residual.ensures.1 c.in_err-begin.ensures.fault));
     little = tt;
     gained = inl (gained-none _ _);
   };
@@ -52,11 +52,11 @@ returns-in_err-check_note g c =
             inl (MayEnd-passed (MayBe files (add c.args.archive.now c.args.doc.now c.args.note.now)) r.result e.field-0.0 _ t r.ensures.1
             (λ q is. may_refuse_note c.full_files_have_parts.ensures.parts c.versions_have_one_file.ensures.header files c.args.archive.now c.args.doc.now c.args.note.now q (defined_refused (short_note c.args.note.now) _ q e.ensures.told is)));
         long_demo = λ long. absurd long;
-        one_pass = λ files rules vs notes a told is of small not.
+        one_pass = λ files held a told is of small not.
             let numbers = g.F.Folder.numbers in
-            let none = PullsAtMost-none (16 + front_size rules vs + document_size files c.args.doc.now) (numbers c.begin.new.folder) meter in
-            one_pass-read c.files_give_their_items.ensures.header c.full_files_have_parts.ensures.parts files c.args.archive.now c.args.doc.now rules vs notes is a of (numbers c.args.folder.now) (numbers c.begin.new.folder) small
-            (subst (λ m. PullsAtMost (16 + front_size rules vs + document_size files c.args.doc.now) m (numbers c.begin.new.folder)) (began.begun refl) none);
+            let none = PullsAtMost-none (16 + front_size held.rules held.versions + document_size files c.args.doc.now) (numbers c.begin.new.folder) meter in
+            one_pass-read c.files_give_their_items.ensures.header c.full_files_have_parts.ensures.parts files c.args.archive.now c.args.doc.now held is a of (numbers c.args.folder.now) (numbers c.begin.new.folder) small
+            (subst (λ m. PullsAtMost (16 + front_size held.rules held.versions + document_size files c.args.doc.now) m (numbers c.begin.new.folder)) (began.begun refl) none);
         little = tt;
         gained = inl (gained-none _ _);
       };
@@ -80,11 +80,11 @@ returns-in_err-front g c =
             (λ q is. may_refuse_text c.full_files_have_parts.ensures.parts c.versions_have_one_file.ensures.header files c.args.archive.now c.args.doc.now c.args.note.now c.in_ok-check_note.ensures.told q
             (defined_refused (text_read files c.args.archive.now c.args.doc.now) _ q read is)));
         long_demo = λ long. absurd long;
-        one_pass = λ files rules vs notes a told is of small not.
+        one_pass = λ files held a told is of small not.
             let numbers = g.F.Folder.numbers in
-            let few = e.ensures.few files rules vs notes (began.same_files ∙ told) is in
-            one_pass-read c.files_give_their_items.ensures.header c.full_files_have_parts.ensures.parts files c.args.archive.now c.args.doc.now rules vs notes is a of (numbers c.args.folder.now) (numbers c.read_added.new.folder) small
-            (subst (λ m. PullsAtMost (16 + front_size rules vs + document_size files c.args.doc.now) m (numbers c.read_added.new.folder)) (began.begun refl) few);
+            let few = e.ensures.few files held (began.same_files ∙ told) is in
+            one_pass-read c.files_give_their_items.ensures.header c.full_files_have_parts.ensures.parts files c.args.archive.now c.args.doc.now held is a of (numbers c.args.folder.now) (numbers c.read_added.new.folder) small
+            (subst (λ m. PullsAtMost (16 + front_size held.rules held.versions + document_size files c.args.doc.now) m (numbers c.read_added.new.folder)) (began.begun refl) few);
         little = tt;
         gained = inl (gained-none _ _);
       };
@@ -119,16 +119,16 @@ returns g c =
             let same : ((h.rules, h.versions), c.in_ok-front.text.items) ≡ ((h.rules, h.versions), text) = ap (λ (bytes : List ℕ). ((h.rules, h.versions), bytes)) (sym c.deref.ensures.value) in
             may-ended c.full_files_have_parts.ensures.parts c.versions_have_one_file.ensures.header files c.args.archive.now c.args.doc.now c.args.note.now c.in_ok-check_note.ensures.told h text (read.told files told1 ∙ ap (λ p. Ok p) same) _ t (fault_of c.add_text.result) read.known.0.few merges.ends);
         long_demo = λ long. absurd long;
-        one_pass = λ files rules vs notes a told is of small not.
+        one_pass = λ files held a told is of small not.
             let numbers = g.F.Folder.numbers in
             let told1 = began.same_files ∙ told in
             let told2 = read.reads.same_files ∙ told1 in
             let front = read.front files told1 in
             let merges = c.add_text.ensures.merges files told2 front.0 front.1 in
-            let few = read.few files rules vs notes told1 is in
+            let few = read.few files held told1 is in
             let fits = subst (λ f. AreWithin (size_in f c.args.archive.now) parts) told1 read.once.0 in
-            one_pass-merged c.files_give_their_items.ensures.header c.full_files_have_parts.ensures.parts files c.args.archive.now c.args.doc.now rules vs notes is a of h parts (numbers c.args.folder.now) (numbers c.read_added.new.folder) (numbers c.add_text.new.folder)
-            read.known.0 front.1 read.known.1 fits small (subst (λ m. PullsAtMost (16 + front_size rules vs + document_size files c.args.doc.now) m (numbers c.read_added.new.folder)) (began.begun refl) few) c.add_text.ensures.streams.counted (merges.gap rules vs notes a is of);
+            one_pass-merged c.files_give_their_items.ensures.header c.full_files_have_parts.ensures.parts files c.args.archive.now c.args.doc.now held is a of h parts (numbers c.args.folder.now) (numbers c.read_added.new.folder) (numbers c.add_text.new.folder)
+            read.known.0 front.1 read.known.1 fits small (subst (λ m. PullsAtMost (16 + front_size held.rules held.versions + document_size files c.args.doc.now) m (numbers c.read_added.new.folder)) (began.begun refl) few) c.add_text.ensures.streams.counted (merges.gap held a is of);
         little = tt;
         gained = inl (gained-none _ _);
       };

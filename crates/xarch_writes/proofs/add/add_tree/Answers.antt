@@ -34,7 +34,7 @@ returns-in_err-append_records-clause-merges g c = λ files told are front.
     ended-by c.from_residual.result e.field-0.0 c.from_residual.ensures.1 (λ (w : Option PlainFault). Merges files c.args.archive.now h (Ok new) c.args.note.now files_after before after w)
     (record {
       ends = records-stopped files c.args.archive.now h new c.args.note.now files_after v (e.ensures.ends files told front);
-      gap = λ rules vs notes a is of. ahead-records h rules a before after ((e.ensures.keeps_up files told front).gap rules vs notes a is of);
+      gap = λ held a is of. ahead-records h held.rules a before after ((e.ensures.keeps_up files told front).gap held a is of);
     })
 
 -- ---- its notes are not read
@@ -63,7 +63,7 @@ returns-in_err-append_notes-clause-merges g c = λ files told are front.
     (record {
       ends = notes-stopped c.full_files_have_parts.ensures.parts files (f.files c.args.folder.now) c.args.archive.now h new told front c.versions_have_one_file.ensures.header c.full_files_are_read_note_by_note.ensures.come parts are c.args.note.now files_after v r.room
           (e.ensures.ends files (r.grows.same_files ∙ told));
-      gap = λ rules vs notes a is of. ahead-notes h rules a before between after (kept.gap rules vs notes a is of) (kept.ahead refl) e.ensures.gap;
+      gap = λ held a is of. ahead-notes h held.rules a before between after (kept.gap held a is of) (kept.ahead refl) e.ensures.gap;
     })
 
 pub returns-in_err-append_notes-clause-fills : goal.returns-in_err-append_notes-clause-fills
@@ -102,8 +102,8 @@ returns-clause-merges g c = λ files told are front.
           (λ done. ends-added c.full_files_have_parts.ensures.parts files (f.files c.args.folder.now) name h new told front c.versions_have_one_file.ensures.header c.full_files_are_read_note_by_note.ensures.come parts are
           note (f.draft c.args.folder.now) (f.draft c.append_records.new.folder) (f.draft c.append_notes.new.folder) (f.files c.append_records.new.folder) (f.files c.commit.new.folder) (is-note note c.utf8.note c.requires.note) r.room r.appended r.grows.same_files n.gains
           (done ∙ ap (λ (o : Option Files). committed o (f.draft c.append_notes.new.folder) name) same));
-      gap = λ rules vs notes a is of.
-          ahead-same _ behind after (ap (λ (m : Numbers). m.gap) c.commit.ensures.writes.counted) (ahead-notes h rules a before between behind (kept.gap rules vs notes a is of) (kept.ahead refl) n.gap);
+      gap = λ held a is of.
+          ahead-same _ behind after (ap (λ (m : Numbers). m.gap) c.commit.ensures.writes.counted) (ahead-notes h held.rules a before between behind (kept.gap held a is of) (kept.ahead refl) n.gap);
     }
 
 pub returns-clause-fills : goal.returns-clause-fills

@@ -75,7 +75,7 @@ pub returns-in-Err-clause-grows : goal.returns-in-Err-clause-grows
 returns-in-Err-clause-grows g c = grows-none _ c.args.folder.now _ (g.met.F.Folder.metered c.args.folder.now) inside-memory
 
 pub returns-in-Err-clause-keeps_up : goal.returns-in-Err-clause-keeps_up
-returns-in-Err-clause-keeps_up g c = λ files told front. record { gap = λ rules vs notes a is of. omega arith; ahead = λ none. absurd cc }
+returns-in-Err-clause-keeps_up g c = λ files told front. record { gap = λ held a is of. omega arith; ahead = λ none. absurd cc }
 
 pub returns-in-Err-clause-fills : goal.returns-in-Err-clause-fills
 returns-in-Err-clause-fills g c = λ b room limited. absurd limited

@@ -19,7 +19,7 @@ pub returns-in_err-size-clause-front : goal.returns-in_err-size-clause-front
 returns-in_err-size-clause-front g c = λ files told. IfOk-passed c.from_residual.result _ _ c.from_residual.ensures.1
 
 pub returns-in_err-size-clause-few : goal.returns-in_err-size-clause-few
-returns-in_err-size-clause-few g c = λ files rules vs notes told is. PullsAtMost-more 0 _ _ _ (omega arith) c.in_err-size.ensures.reads.pulls
+returns-in_err-size-clause-few g c = λ files held told is. PullsAtMost-more 0 _ _ _ (omega arith) c.in_err-size.ensures.reads.pulls
 
 pub returns-in_err-size-clause-once : goal.returns-in_err-size-clause-once
 returns-in_err-size-clause-once g c = IfOk-passed c.from_residual.result _ _ c.from_residual.ensures.1
@@ -39,7 +39,7 @@ pub returns-in_err-doc_size-clause-front : goal.returns-in_err-doc_size-clause-f
 returns-in_err-doc_size-clause-front g c = λ files told. IfOk-passed c.from_residual-in_err-doc_size.result _ _ c.from_residual-in_err-doc_size.ensures.1
 
 pub returns-in_err-doc_size-clause-few : goal.returns-in_err-doc_size-clause-few
-returns-in_err-doc_size-clause-few g c = λ files rules vs notes told is. PullsAtMost-more (0 + 0) _ _ _ (omega arith) (PullsAtMost-trans 0 0 _ _ _ c.in_ok-size.ensures.reads.pulls c.in_err-doc_size.ensures.reads.pulls)
+returns-in_err-doc_size-clause-few g c = λ files held told is. PullsAtMost-more (0 + 0) _ _ _ (omega arith) (PullsAtMost-trans 0 0 _ _ _ c.in_ok-size.ensures.reads.pulls c.in_err-doc_size.ensures.reads.pulls)
 
 pub returns-in_err-doc_size-clause-once : goal.returns-in_err-doc_size-clause-once
 returns-in_err-doc_size-clause-once g c = IfOk-passed c.from_residual-in_err-doc_size.result _ _ c.from_residual-in_err-doc_size.ensures.1
@@ -63,13 +63,13 @@ pub returns-clause-front : goal.returns-clause-front
 returns-clause-front g c = λ files told. c.read_text.ensures.front files (c.in_ok-doc_size.ensures.reads.same_files ∙ (c.in_ok-size.ensures.reads.same_files ∙ told)) (c.in_ok-size.ensures.told files told)
 
 pub returns-clause-few : goal.returns-clause-few
-returns-clause-few g c = λ files rules vs notes told is.
+returns-clause-few g c = λ files held told is.
     let told1 = c.in_ok-size.ensures.reads.same_files ∙ told in
     let told2 = c.in_ok-doc_size.ensures.reads.same_files ∙ told1 in
     let same = size-of files c.args.doc.now c.in_ok-doc_size.doc_size (c.in_ok-doc_size.ensures.told files told1) in
-    let n = 16 + front_size rules vs + c.in_ok-doc_size.doc_size in
-    let all = PullsAtMost-trans (0 + 0) n _ _ _ (PullsAtMost-trans 0 0 _ _ _ c.in_ok-size.ensures.reads.pulls c.in_ok-doc_size.ensures.reads.pulls) (c.read_text.ensures.few files rules vs notes told2 (c.in_ok-size.ensures.told files told) is) in
-    PullsAtMost-more (0 + 0 + n) (16 + front_size rules vs + document_size files c.args.doc.now) _ _ (omega (arith, same)) all
+    let n = 16 + front_size held.rules held.versions + c.in_ok-doc_size.doc_size in
+    let all = PullsAtMost-trans (0 + 0) n _ _ _ (PullsAtMost-trans 0 0 _ _ _ c.in_ok-size.ensures.reads.pulls c.in_ok-doc_size.ensures.reads.pulls) (c.read_text.ensures.few files held told2 (c.in_ok-size.ensures.told files told) is) in
+    PullsAtMost-more (0 + 0 + n) (16 + front_size held.rules held.versions + document_size files c.args.doc.now) _ _ (omega (arith, same)) all
 
 pub returns-clause-once : goal.returns-clause-once
 returns-clause-once g c =

@@ -18,7 +18,7 @@ pub returns-in_err-front-clause-front : goal.returns-in_err-front-clause-front
 returns-in_err-front-clause-front g c = λ files told long. IfOk-passed c.from_residual.result _ _ c.from_residual.ensures.1
 
 pub returns-in_err-front-clause-few : goal.returns-in_err-front-clause-few
-returns-in_err-front-clause-few g c = λ files rules vs notes told long is. PullsAtMost-more (16 + front_size rules vs) _ _ _ (omega arith) (c.in_err-front.ensures.few files rules vs notes told long is)
+returns-in_err-front-clause-few g c = λ files held told long is. PullsAtMost-more (16 + front_size held.rules held.versions) _ _ _ (omega arith) (c.in_err-front.ensures.few files held told long is)
 
 pub returns-in_err-front-clause-once : goal.returns-in_err-front-clause-once
 returns-in_err-front-clause-once g c = IfOk-passed c.from_residual.result _ _ c.from_residual.ensures.1
@@ -40,7 +40,7 @@ pub returns-in_err-text-clause-front : goal.returns-in_err-text-clause-front
 returns-in_err-text-clause-front g c = λ files told long. IfOk-passed c.from_residual-in_err-text.result _ _ c.from_residual-in_err-text.ensures.1
 
 pub returns-in_err-text-clause-few : goal.returns-in_err-text-clause-few
-returns-in_err-text-clause-few g c = λ files rules vs notes told long is. PullsAtMost-trans (16 + front_size rules vs) c.args.doc_size _ _ _ (c.in_ok-front.ensures.few files rules vs notes told long is) c.in_err-text.ensures.reads.pulls
+returns-in_err-text-clause-few g c = λ files held told long is. PullsAtMost-trans (16 + front_size held.rules held.versions) c.args.doc_size _ _ _ (c.in_ok-front.ensures.few files held told long is) c.in_err-text.ensures.reads.pulls
 
 pub returns-in_err-text-clause-once : goal.returns-in_err-text-clause-once
 returns-in_err-text-clause-once g c = IfOk-passed c.from_residual-in_err-text.result _ _ c.from_residual-in_err-text.ensures.1
@@ -60,7 +60,7 @@ pub returns-clause-front : goal.returns-clause-front
 returns-clause-front g c = c.in_ok-front.ensures.front
 
 pub returns-clause-few : goal.returns-clause-few
-returns-clause-few g c = λ files rules vs notes told long is. PullsAtMost-trans (16 + front_size rules vs) c.args.doc_size _ _ _ (c.in_ok-front.ensures.few files rules vs notes told long is) c.in_ok-text.ensures.reads.pulls
+returns-clause-few g c = λ files held told long is. PullsAtMost-trans (16 + front_size held.rules held.versions) c.args.doc_size _ _ _ (c.in_ok-front.ensures.few files held told long is) c.in_ok-text.ensures.reads.pulls
 
 pub returns-clause-once : goal.returns-clause-once
 returns-clause-once g c = (c.in_ok-front.ensures.within, PullsAtMost-trans (16 + (header_view c.in_ok-front.front.header).first) c.args.doc_size _ _ _ c.in_ok-front.ensures.once.1 c.in_ok-text.ensures.reads.pulls)

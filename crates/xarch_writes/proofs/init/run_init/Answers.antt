@@ -3,6 +3,7 @@ use Rattle.std.specs.FinMap as map
 use Rattle.key_spec.specs.View.{spec_view}
 use Rattle.archive_tree.specs.ArchiveView.{archive_view}
 use Rattle.archive_file.specs.Sound.{SoundAs}
+use Rattle.noted_file.specs.Contents.{unnoted}
 use Rattle.noted_file.specs.Full.{FullAs}
 use Rattle.xarch_meanings.specs.Plausible.{MayBe}
 use Rattle.xarch_meanings.specs.Init.{InitIs, init_rules}
@@ -64,7 +65,7 @@ returns g c t n = record {
       let input = c.in_ok-spec.ensures.told files told1 in
       let rules = spec_view c.in_ok-spec.spec in
       let sound : SoundAs rules [] c.deref.result.now = subst (λ b. SoundAs rules [] b) (sym c.deref.ensures.value) (c.in_ok-bytes.ensures.sound [] c.empty.ensures) in
-      let full : FullAs rules [] [] c.deref.result.now = c.sound_files_are_full.ensures.sound rules [] c.deref.result.now sound in
+      let full : FullAs (unnoted rules []) c.deref.result.now = c.sound_files_are_full.ensures.sound rules [] c.deref.result.now sound in
       MayEnd-stored (InitIs files c.args.archive.now c.args.spec.now) (map.insert files c.args.archive.now c.deref.result.now) c.store.result _ t
       (init_stored files c.args.archive.now c.args.spec.now rules input c.deref.result.now full) (c.store.ensures.stored files told2) c.store.ensures.fault);
   long_demo = λ long. absurd long;
