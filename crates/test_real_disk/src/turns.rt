@@ -11,30 +11,26 @@ const OLD: &[u8] = b"what stood there";
 
 /// A command: it begins a draft, adds its piece twice, and commits it, in this order.
 #[derive(Drop)]
-struct Command<'a> {
-    folder: DiskFolder<'a, OnDisk<'a>>,
+struct Command {
     name: &'static str,
-    piece: &'a [u8],
     step: u8,
     is_done: bool,
 }
 
-impl<'a> Command<'a> {
-    fn new(on: &'a OnDisk<'a>, alloc: Global, name: &'static str, piece: &'a [u8]) -> Command<'a> {
+impl Command {
+    fn new(name: &'static str) -> Command {
         Command {
-            folder: DiskFolder::new(on, alloc),
             name,
-            piece,
             step: 0,
             is_done: false,
         }
     }
 
-    fn go_on(&mut self) {
+    fn go_on(&mut self, folder: &mut DiskFolder<OnDisk>, piece: &[u8]) {
         self.is_done = match self.step {
-            0 => self.folder.begin().is_ok(),
-            1 | 2 => self.folder.append(self.piece).is_ok(),
-            _ => self.folder.commit(self.name).is_ok(),
+            0 => folder.begin().is_ok(),
+            1 | 2 => folder.append(piece).is_ok(),
+            _ => folder.commit(self.name).is_ok(),
         };
         self.step = self.step.saturating_add(1);
     }
@@ -101,17 +97,19 @@ struct Added<'a> {
 /// Whose commit goes well.
 fn committed(alloc: Global, disk: &MemDisk, turns: &Turns, added: Added) -> Done {
     let on = disk.on();
-    let mut first = Command::new(&on, alloc, turns.names[0], added.first);
-    let mut second = Command::new(&on, alloc, turns.names[1], added.second);
+    let mut folder = DiskFolder::new(&on, alloc);
+    let mut other = DiskFolder::new(&on, alloc);
+    let mut first = Command::new(turns.names[0]);
+    let mut second = Command::new(turns.names[1]);
     for turn in 0..8 {
         if turns.is_of_second(turn) {
-            second.go_on();
+            second.go_on(&mut other, added.second);
         } else {
-            first.go_on();
+            first.go_on(&mut folder, added.first);
         }
     }
-    first.folder.discard();
-    second.folder.discard();
+    folder.discard();
+    other.discard();
     Done {
         first: first.is_done,
         second: second.is_done,
