@@ -3,21 +3,23 @@
 //! The forms of the lines stand in the README of the crate `test_commands`, whose data are such cases.
 #![tactic(auto)]
 
-mod case;
+mod calls;
 mod failing;
 mod file;
-mod fresh;
 mod given;
+mod interpreter;
 mod judge;
-mod kept;
+mod line;
 mod number;
 mod runs;
 mod scene;
+mod scope;
 mod shown;
-mod split;
-mod stages;
+mod spelled;
 mod steps;
-mod unmet;
+mod stopped;
+mod tried;
+mod verb;
 
 pub use file::{Report, check};
 pub use given::{Given, read_given};

@@ -1,28 +1,35 @@
-use crate::unmet::Unmet;
-
-fn part_of(text: &str, round: u64) -> Result<u64, Unmet> {
-    if text == "#" {
-        return Ok(round);
-    }
-    match text.parse::<u64>() {
-        Ok(number) => Ok(number),
-        Err(_) => Err(Unmet::Malformed("no number stands there")),
-    }
-}
-
-/// The number that a text is: numbers joined by `+`, of which `#` is that of the round.
-pub(crate) fn number_of(text: &str, round: u64) -> Result<u64, Unmet> {
+/// The number in front, which is numbers joined by `+` of which `#` is that of the round, and what stands behind it.
+fn front_number(text: &[u8], round: u64) -> (u64, &[u8]) {
     let mut sum = 0u64;
-    for part in text.split('+') {
-        sum = sum.saturating_add(part_of(part, round)?);
+    let mut part = 0u64;
+    for (index, byte) in text.iter().enumerate() {
+        match *byte {
+            b'#' => part = round,
+            b'+' => {
+                sum = sum.saturating_add(part);
+                part = 0;
+            }
+            b'0'..=b'9' => part = part
+                .saturating_mul(10)
+                .saturating_add(u64::from(*byte - b'0')),
+            _ => return (sum.saturating_add(part), text.get(index..).unwrap_or(&[])),
+        }
     }
-    Ok(sum)
+    (sum.saturating_add(part), &[])
 }
 
 /// The first and the last of so many copies: `LAST`, or `FIRST..LAST`.
-pub(crate) fn range_of(text: &str, round: u64) -> Result<(u64, u64), Unmet> {
-    match text.split_once("..") {
-        Some((first, last)) => Ok((number_of(first, round)?, number_of(last, round)?)),
-        None => Ok((1, number_of(text, round)?)),
+pub(crate) fn range_of(text: &[u8], round: u64) -> Option<(u64, u64)> {
+    let (first, rest) = front_number(text, round);
+    let (range, rest) = match rest {
+        [b'.', b'.', rest @ ..] => {
+            let (last, rest) = front_number(rest, round);
+            ((first, last), rest)
+        }
+        _ => ((1, first), rest),
+    };
+    if text.is_empty() || !rest.is_empty() {
+        return None;
     }
+    Some(range)
 }

@@ -1,65 +1,64 @@
 //! What came, in a line that can be read.
-use std::alloc::{AllocError, Global};
-use std::fmt::Write;
+use std::alloc::Global;
 
 /// No more bytes than these are shown.
 const MOST: usize = 160;
 
-fn show_byte(line: &mut String, byte: u8) -> Result<(), AllocError> {
-    match byte {
-        b'\n' => line.push_str("\\n"),
-        b'\\' | b'\'' => {
-            line.push('\\')?;
-            line.push(char::from(byte))
-        }
-        b' '..=b'~' => line.push(char::from(byte)),
-        _ => {
-            let digits = format!(in *line.allocator(); "\\x{byte:02x}")?;
-            line.push_str(&digits)
-        }
-    }
-}
-
-/// The bytes in quotes, as a case writes them.
-pub(crate) fn shown(alloc: Global, bytes: &[u8]) -> Result<String, AllocError> {
-    let mut line = String::from_str(alloc, "'")?;
-    for byte in bytes.iter().take(MOST) {
-        show_byte(&mut line, *byte)?;
-    }
-    line.push('\'')?;
-    if bytes.len() > MOST {
-        line.push_str("..")?;
-    }
-    Ok(line)
+/// Some of the bytes from this place on.
+pub(crate) fn part_of(bytes: &[u8], from: usize) -> &[u8] {
+    let behind = bytes.get(from..).unwrap_or(&[]);
+    behind.get(..MOST).unwrap_or(behind)
 }
 
 /// How many bytes the two begin with alike.
-fn alike(one: &[u8], two: &[u8]) -> usize {
-    let mut count = 0usize;
-    for (left, right) in one.iter().zip(two.iter()) {
-        if left != right {
-            return count;
+pub(crate) fn alike(one: &[u8], two: &[u8]) -> usize {
+    for at in 0..one.len() {
+        if one.get(at) != two.get(at) {
+            return at;
         }
-        count = count.saturating_add(1);
     }
-    count
+    one.len()
 }
 
-fn shown_from(alloc: Global, bytes: &[u8], from: usize) -> Result<String, AllocError> {
-    match bytes.get(from..) {
-        Some(rest) => shown(alloc, rest),
-        None => shown(alloc, b""),
+/// What stands behind a front, where it is one.
+pub(crate) fn behind<'a>(bytes: &'a [u8], front: &[u8]) -> Option<&'a [u8]> {
+    match bytes.split_at_checked(front.len()) {
+        Some((first, rest)) if first == front => Some(rest),
+        _ => None,
     }
 }
 
 /// What was wanted and what came, from a little before the place where they part.
-pub(crate) fn parting(alloc: Global, wanted: &[u8], came: &[u8]) -> Result<String, AllocError> {
+fn parting(alloc: Global, what: &str, wanted: &[u8], came: &[u8]) -> String {
     let from = alike(wanted, came).saturating_sub(40);
-    let left = shown_from(alloc, wanted, from)?;
-    let right = shown_from(alloc, came, from)?;
-    let wanted = wanted.len();
-    let came = came.len();
-    format!(in alloc;
-        "from byte {from} on {left} of {wanted} bytes was wanted, {right} of {came} came"
-    )
+    let left = part_of(wanted, from).escape_ascii();
+    let right = part_of(came, from).escape_ascii();
+    let message = format!(in alloc;
+        "{what}: from byte {from} on '{left}' was wanted, '{right}' came"
+    );
+    message.unwrap_or(String::new(alloc))
+}
+
+/// What to say of bytes that are not those that were wanted.
+pub(crate) fn difference(alloc: Global, what: &str, wanted: &[u8], came: &[u8]) -> Option<String> {
+    if wanted == came {
+        None
+    } else {
+        Some(parting(alloc, what, wanted, came))
+    }
+}
+
+/// What to say of a number that is not between these two.
+pub(crate) fn beyond(
+    alloc: Global,
+    what: &str,
+    least: u64,
+    most: u64,
+    came: u64,
+) -> Option<String> {
+    if least <= came && came <= most {
+        return None;
+    }
+    let message = format!(in alloc; "{what}: {least} to {most} was wanted, {came} came");
+    Some(message.unwrap_or(String::new(alloc)))
 }

@@ -1,223 +1,138 @@
 //! Lines that do something.
-use crate::failing::{OBJECTS, Object, list};
-use crate::given::Scope;
+use crate::calls::object_of;
+use crate::interpreter::Interpreter;
+use crate::line::Line;
 use crate::runs::Runs;
-use crate::scene::Scene;
-use crate::split::Word;
-use crate::unmet::Unmet;
-use std::alloc::Global;
+use crate::verb::Verb;
 
-const NO_SUCH_LINE: Unmet = Unmet::Malformed("such a line has other words");
-
-fn put(scene: &mut Scene, scope: &Scope, words: &[Word]) -> Result<(), Unmet> {
-    let [name, words @ ..] = words else {
-        return Err(NO_SUCH_LINE);
-    };
-    let name = scope.text(scene.alloc, name)?;
-    let bytes = scope.joined(scene.alloc, words)?;
-    scene.put(&name, bytes)
-}
-
-fn copy(scene: &mut Scene, scope: &Scope, words: &[Word]) -> Result<(), Unmet> {
-    let [from, to] = words else {
-        return Err(NO_SUCH_LINE);
-    };
-    let from = scope.text(scene.alloc, from)?;
-    let to = scope.text(scene.alloc, to)?;
-    let bytes = Vec::from_slice(scene.alloc, scene.file(&from)?)?;
-    scene.put(&to, bytes)
-}
-
-/// Keeps so many bytes of the front of a file, or all but so many of its end.
-fn shorten(scene: &mut Scene, scope: &Scope, words: &[Word], is_kept: bool) -> Result<(), Unmet> {
-    let [name, count] = words else {
-        return Err(NO_SUCH_LINE);
-    };
-    let name = scope.text(scene.alloc, name)?;
-    let count = scope.number(count)?;
-    let file = scene.file(&name)?;
-    let whole = file.len() as u64;
-    let length = if is_kept {
-        count
-    } else {
-        whole.saturating_sub(count)
-    };
-    if count > whole {
-        return Err(Unmet::Malformed("the file has fewer bytes"));
+impl<'a> Interpreter<'a> {
+    /// Has these bytes be the file of the name that was read last.
+    fn put(&mut self, bytes: Vec<u8>) {
+        self.scene.put(&self.scope.name, bytes);
     }
-    let mut bytes = Vec::from_slice(scene.alloc, file)?;
-    bytes.truncate(length as usize);
-    scene.put(&name, bytes)
-}
 
-/// The bytes of a file, in which these at this place, which are the old ones, become the new ones.
-fn changed(
-    alloc: Global,
-    file: &[u8],
-    at: usize,
-    old: &[u8],
-    new: &[u8],
-) -> Result<Vec<u8>, Unmet> {
-    let back = match file.get(at..) {
-        Some(back) => back.strip_prefix(old),
-        None => None,
-    };
-    let Some(back) = back else {
-        return Err(Unmet::Malformed("the file has other bytes there"));
-    };
-    let mut bytes = Vec::from_slice(alloc, file.get(..at).unwrap_or(b""))?;
-    bytes.extend_from_slice(new)?;
-    bytes.extend_from_slice(back)?;
-    Ok(bytes)
-}
-
-fn change(scene: &mut Scene, scope: &Scope, words: &[Word]) -> Result<(), Unmet> {
-    let alloc = scene.alloc;
-    let [name, at, old, new] = words else {
-        return Err(NO_SUCH_LINE);
-    };
-    let name = scope.text(alloc, name)?;
-    let at = scope.number(at)?;
-    let old = scope.bytes(alloc, old)?;
-    let new = scope.bytes(alloc, new)?;
-    let bytes = changed(alloc, scene.file(&name)?, at as usize, &old, &new)?;
-    scene.put(&name, bytes)
-}
-
-/// Turns all bits of the byte at this place.
-fn flip(scene: &mut Scene, scope: &Scope, words: &[Word]) -> Result<(), Unmet> {
-    let [name, at] = words else {
-        return Err(NO_SUCH_LINE);
-    };
-    let name = scope.text(scene.alloc, name)?;
-    let at = scope.number(at)?;
-    let mut bytes = Vec::from_slice(scene.alloc, scene.file(&name)?)?;
-    match bytes.get_mut(at as usize) {
-        Some(byte) => *byte ^= 0xff,
-        None => return Err(Unmet::Malformed("the file has fewer bytes")),
+    fn put_pieces(&mut self) {
+        self.scope.take_name();
+        let bytes = self.scope.bytes();
+        self.put(bytes);
     }
-    scene.put(&name, bytes)
-}
 
-fn watch(scene: &mut Scene, scope: &Scope, words: &[Word]) -> Result<(), Unmet> {
-    for word in words {
-        let name = scope.text(scene.alloc, word)?;
-        scene.know(&name)?;
+    /// A copy of the file whose name is the next word.
+    pub(crate) fn copied(&mut self) -> Vec<u8> {
+        self.scope.take_name();
+        let file = self.scene.file(&self.scope.name);
+        self.scope.spelled.begin();
+        self.scope.spelled.add(file);
+        self.scope.spelled.taken()
     }
-    Ok(())
-}
 
-fn object_of(word: &Word) -> Result<Object, Unmet> {
-    for (name, object) in OBJECTS {
-        if word.bare() == Some(name) {
-            return Ok(object);
+    fn copy(&mut self) {
+        let bytes = self.copied();
+        self.scope.take_name();
+        self.put(bytes);
+    }
+
+    /// Keeps so many bytes of the front of a file, or all but so many of its end.
+    fn shorten(&mut self, is_kept: bool) {
+        let mut bytes = self.copied();
+        let count = self.scope.number() as usize;
+        if count > bytes.len() {
+            self.scope.fail("the file has fewer bytes");
+        }
+        let rest = bytes.len().saturating_sub(count);
+        bytes.truncate(if is_kept { count } else { rest });
+        self.put(bytes);
+    }
+
+    /// Turns all bits of the byte at this place.
+    fn flip(&mut self) {
+        let mut bytes = self.copied();
+        match bytes.get_mut(self.scope.number() as usize) {
+            Some(byte) => *byte ^= 0xff,
+            None => self.scope.fail("the file has fewer bytes"),
+        }
+        self.put(bytes);
+    }
+
+    /// Has the new bytes in the place of the old ones, which stand there in the file.
+    fn change(&mut self) {
+        self.scope.take_name();
+        let at = self.scope.number() as usize;
+        let old = self.scope.word();
+        let new = self.scope.word();
+        let file = self.scene.file(&self.scope.name);
+        self.scope.spelled.add_changed(file, at, &old, &new);
+        let bytes = self.scope.spelled.taken();
+        self.put(bytes);
+    }
+
+    fn watch(&mut self) {
+        for _ in 0..self.scope.line.rest.len() {
+            if !self.scope.line.rest.is_empty() {
+                self.scope.take_name();
+                self.scene.know(&self.scope.name);
+            }
         }
     }
-    Err(Unmet::Malformed("no such call can fail"))
-}
 
-/// Lists a call that fails in the next run.
-fn fail(scene: &mut Scene, scope: &Scope, words: &[Word]) -> Result<(), Unmet> {
-    let [object, number] = words else {
-        return Err(NO_SUCH_LINE);
-    };
-    let number = scope.number(number)?;
-    Ok(list(&mut scene.next.fails, object_of(object)?, number)?)
-}
-
-fn run_words<R: Runs>(scene: &mut Scene, runs: &mut R, words: &[String]) -> Result<(), Unmet> {
-    scene.end_run()?;
-    scene.run(runs, words)
-}
-
-fn run<R: Runs>(
-    scene: &mut Scene,
-    scope: &Scope,
-    runs: &mut R,
-    words: &[Word],
-) -> Result<(), Unmet> {
-    let words = scope.texts(scene.alloc, words)?;
-    run_words(scene, runs, &words)
-}
-
-/// These words, as a program is given them.
-fn texts(alloc: Global, words: [&str; 3]) -> Result<Vec<String>, Unmet> {
-    let mut texts = Vec::new(alloc);
-    for word in words {
-        texts.push(String::from_str(alloc, word)?)?;
-    }
-    Ok(texts)
-}
-
-fn store<R: Runs>(
-    scene: &mut Scene,
-    runs: &mut R,
-    bytes: Vec<u8>,
-    words: [&str; 3],
-) -> Result<(), Unmet> {
-    scene.put(words[2], bytes)?;
-    let words = texts(scene.alloc, words)?;
-    run_words(scene, runs, &words)
-}
-
-/// Makes the archive `A` by a specification of some documents, each of which is taken.
-fn archive<R: Runs>(
-    scene: &mut Scene,
-    scope: &Scope,
-    runs: &mut R,
-    words: &[Word],
-) -> Result<(), Unmet> {
-    let alloc = scene.alloc;
-    let [spec, docs @ ..] = words else {
-        return Err(NO_SUCH_LINE);
-    };
-    let spec = scope.bytes(alloc, spec)?;
-    store(scene, runs, spec, ["init", "A", "spec"])?;
-    for doc in docs {
-        let doc = scope.bytes(alloc, doc)?;
-        store(scene, runs, doc, ["add", "A", "doc"])?;
-    }
-    scene.end_run()
-}
-
-fn prepare(scene: &mut Scene, scope: &Scope, verb: &str, words: &[Word]) -> Result<bool, Unmet> {
-    match verb {
-        "input" => scene.next.input = scope.joined(scene.alloc, words)?,
-        "fail" => fail(scene, scope, words)?,
-        "watch" => watch(scene, scope, words)?,
-        "each-call-fails" => scene.next.each_call_fails = true,
-        _ => return Ok(false),
-    }
-    Ok(true)
-}
-
-fn do_files(scene: &mut Scene, scope: &Scope, verb: &str, words: &[Word]) -> Result<bool, Unmet> {
-    match verb {
-        "put" => put(scene, scope, words)?,
-        "copy" => copy(scene, scope, words)?,
-        "cut" => shorten(scene, scope, words, true)?,
-        "drop" => shorten(scene, scope, words, false)?,
-        "change" => change(scene, scope, words)?,
-        "flip" => flip(scene, scope, words)?,
-        _ => return Ok(false),
-    }
-    Ok(true)
-}
-
-/// Does what the line says, and answers whether the line is one that does something.
-pub(crate) fn take_step<R: Runs>(
-    scene: &mut Scene,
-    scope: &Scope,
-    runs: &mut R,
-    verb: &str,
-    words: &[Word],
-) -> Result<bool, Unmet> {
-    match verb {
-        "run" => run(scene, scope, runs, words)?,
-        "archive" => archive(scene, scope, runs, words)?,
-        _ => {
-            return Ok(prepare(scene, scope, verb, words)? || do_files(scene, scope, verb, words)?);
+    /// Lists a call that fails in the next run.
+    fn fail_call(&mut self) {
+        self.scope.take_name();
+        let number = self.scope.number();
+        let is_listed = match object_of(&self.scope.name) {
+            Some(object) => self.scene.fails.list(object, number),
+            None => false,
+        };
+        if !is_listed {
+            self.scope.fail("no such call can fail");
         }
     }
-    Ok(true)
+
+    pub(crate) fn run<R: Runs>(&mut self, runs: &mut R) {
+        let words = self.scope.texts();
+        self.scene.end_run();
+        self.scene.run(runs, &words);
+    }
+
+    /// Makes the next word's bytes a file, and runs what the line says of it.
+    fn store<R: Runs>(&mut self, runs: &mut R, name: &str, words: &'static [u8]) {
+        let bytes = self.scope.word();
+        self.scene.put(name, bytes);
+        let line = self.scope.line;
+        self.scope.line = Line { rest: words };
+        self.run(runs);
+        self.scope.line = line;
+    }
+
+    /// Makes the archive `A` by a specification of some documents, each of which is taken.
+    pub(crate) fn archive<R: Runs>(&mut self, runs: &mut R) {
+        self.store(runs, "spec", b"init A spec");
+        for _ in 0..self.scope.line.rest.len() {
+            if !self.scope.line.rest.is_empty() {
+                self.store(runs, "doc", b"add A doc");
+            }
+        }
+        self.scene.end_run();
+    }
+
+    /// Does what the line asks for, which runs nothing.
+    pub(crate) fn take_step(&mut self, verb: Verb) {
+        match verb {
+            Verb::Put => self.put_pieces(),
+            Verb::Copy => self.copy(),
+            Verb::Cut => self.shorten(true),
+            Verb::Drop => self.shorten(false),
+            Verb::Change => self.change(),
+            Verb::Flip => self.flip(),
+            Verb::Watch => self.watch(),
+            Verb::Input => self.scene.input = self.scope.bytes(),
+            Verb::Fail => self.fail_call(),
+            Verb::EachCallFails => self.scene.each_call_fails = true,
+            Verb::Has => self.judge_file(),
+            Verb::HasNo => self.judge_absence(),
+            Verb::Length => self.judge_length(),
+            Verb::Alike => self.judge_likeness(),
+            _ => self.judge_run(verb),
+        }
+    }
 }
