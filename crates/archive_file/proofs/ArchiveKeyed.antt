@@ -8,7 +8,7 @@ use Rattle.keyed_tree.specs.Data.{PlainKeyed, label_of}
 use Rattle.keyed_tree.specs.Lists.{Has}
 use Rattle.keyed_tree.specs.Plain.{plain}
 use Rattle.keyed_tree.specs.Proper.{is_tag}
-use Rattle.keyed_tree.proofs.Lists.{all_has, has_all, source}
+use Rattle.jsonml_tree.proofs.Lists.{all_has, has_all, source}
 use Rattle.key_spec.specs.Data.{PlainRule}
 use Rattle.archive_tree.specs.Data.{eff, PlainNode, PlainNodes, no_nodes, node, node_label, node_stamp, nodes_list, PlainArchive}
 use Rattle.archive_tree.specs.Parts.{IsArchive}

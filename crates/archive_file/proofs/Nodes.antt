@@ -5,7 +5,7 @@ use Rattle.std.proofs.lemmas.Bool.{and_parts}
 use Rattle.std.proofs.lemmas.Bool.Decides.{nat_tests}
 use Rattle.std.specs.Cmp.Lexicographic.{slice_cmp}
 use Rattle.std.specs.declared.cmp.Ordering.TheVariants.{Equal, Greater}
-use Rattle.keyed_tree.specs.Data.{PlainKey, PlainLabel}
+use Rattle.keyed_tree.specs.Data.{PlainKey, PlainLabel, PlainName}
 use Rattle.keyed_tree.specs.Lists.{Ascends, Has}
 use Rattle.keyed_tree.specs.Order.{key_cmp, label_cmp}
 use Rattle.keyed_tree.specs.Plain.{name_bytes}
@@ -21,7 +21,7 @@ use Rattle.archive_tree.specs.View.{node_view, nodes_view}
 use Rattle.archive_tree.specs.declared.node.ANode.{ANode}
 use Rattle.archive_tree.proofs.Histories.{node_has, rise-all}
 use Rattle.archive_tree.proofs.Parts.{nodes_list-nodes_from}
-use Rattle.archive_file.specs.NodeFits.{bare_label, on_some, lasting, node_leads, node_has_keys, node_fits, inside_fits}
+use Rattle.archive_file.specs.NodeFits.{bare_label, on_some, lasting, node_leads, node_has_keys, is_attr_node, node_fits, inside_fits, kid_fits}
 
 pub node_fits-is : (rules : List PlainRule) (context : List (List ℕ)) (k : PlainNode)
     → node_fits rules context k ≡ (is_tag (node_label k).name && (node_has_keys (rule_of rules context (name_bytes (node_label k).name)) (node_label k).keys k && inside_fits rules (below context (name_bytes (node_label k).name)) k))
@@ -29,6 +29,24 @@ node_fits-is rules context (inner_node l s ks) = refl
 node_fits-is rules context (leaf_node l s xs) = refl
 
 pub ruleset nodes = (node_fits-is)
+
+-- a kid that is an attribute, one whose tag has no rule, and one whose tag has this rule
+module _ (rules : List PlainRule) (path : List (List ℕ)) (k : PlainNode) (n : PlainName) (named : (node_label k).name ≡ n) where
+  pub attr-fits : is_tag n ≡ false → kid_fits rules path k ≡ is_attr_node k
+  attr-fits e = ap (λ b. cond b (node_fits rules path k) (is_attr_node k)) (ap is_tag named ∙ e)
+
+  tag-fits : is_tag n ≡ true → kid_fits rules path k ≡ (node_has_keys (rule_of rules path (name_bytes n)) (node_label k).keys k && inside_fits rules (below path (name_bytes n)) k)
+  tag-fits e =
+      let is : is_tag (node_label k).name ≡ true = ap is_tag named ∙ e in
+      ap (λ b. cond b (node_fits rules path k) (is_attr_node k)) is ∙ node_fits-is rules path k
+      ∙ ap (λ b. b && (node_has_keys (rule_of rules path (name_bytes (node_label k).name)) (node_label k).keys k && inside_fits rules (below path (name_bytes (node_label k).name)) k)) is
+      ∙ ap (λ m. node_has_keys (rule_of rules path (name_bytes m)) (node_label k).keys k && inside_fits rules (below path (name_bytes m)) k) named
+
+  pub none-fits : is_tag n ≡ true → rule_of rules path (name_bytes n) ≡ None → kid_fits rules path k ≡ false
+  none-fits e none = tag-fits e ∙ ap (λ o. node_has_keys o (node_label k).keys k && inside_fits rules (below path (name_bytes n)) k) none
+
+  pub rule-fits : (r : PlainRule) → is_tag n ≡ true → rule_of rules path (name_bytes n) ≡ Some r → kid_fits rules path k ≡ (node_has_keys (Some r) (node_label k).keys k && inside_fits rules (below path (name_bytes n)) k)
+  rule-fits r e some = tag-fits e ∙ ap (λ o. node_has_keys o (node_label k).keys k && inside_fits rules (below path (name_bytes n)) k) some
 
 -- ---- labels
 

@@ -228,7 +228,7 @@ among_put Less a x xs more e up f = and_from _ _ (ap is_lt e) up
 among_put Equal a x xs more e up f = up
 among_put Greater a x xs more e up f = f (ap is_lt (nat_list_cmp_total.antisymm x.name a.name ∙ ap ordering_reverse e))
 
-is_ascending-put : (a : PlainAttr) (xs : List PlainAttr) → IsTrue (is_ascending xs) → IsTrue (is_ascending (put_attr a xs))
+pub is_ascending-put : (a : PlainAttr) (xs : List PlainAttr) → IsTrue (is_ascending xs) → IsTrue (is_ascending (put_attr a xs))
 is_ascending-put a [] up = refl
 is_ascending-put a (x ∷ xs) up = among_put (text_cmp a.name x.name) a x xs (put_attr a xs) refl up (λ q. ascends-put x.name a xs q up)
 
@@ -254,35 +254,6 @@ are_texts-put a (x ∷ xs) n v h = texts_put (text_cmp a.name x.name) a x xs (pu
 
 pub AreAttrsKept-put : (a : PlainAttr) (xs : List PlainAttr) → IsTrue (is_in_range a.value) → IsUtf8 a.name → IsScalarText a.value → AreAttrsKept xs → AreAttrsKept (put_attr a xs)
 AreAttrsKept-put a xs p n v h = record { ascending = is_ascending-put a xs h.ascending; in_range = are_in_range-put a xs p h.in_range; texts = are_texts-put a xs n v h.texts }
-
--- ---- the place of a name
-
-module _ (a : LentAttr) (xs : List LentAttr) (i : ℕ) (x : LentAttr) (within : i < length xs) (here : get_or xs i x ≡ x) where
-  at_place : put_attr (lent_attr_view a) (map lent_attr_view (drop i xs)) ≡ put_attr (lent_attr_view a) (lent_attr_view x ∷ map lent_attr_view (drop (i + 1) xs))
-  at_place = ap (λ l. put_attr (lent_attr_view a) (map lent_attr_view l)) (drop_more xs i x within ∙ ap (λ y. y ∷ drop (i + 1) xs) here)
-
-  pub place_next : text_cmp (lent_attr_view a).name (lent_attr_view x).name ≡ Greater
-      → map lent_attr_view (take i xs) ++ put_attr (lent_attr_view a) (map lent_attr_view (drop i xs)) ≡ map lent_attr_view (take (i + 1) xs) ++ put_attr (lent_attr_view a) (map lent_attr_view (drop (i + 1) xs))
-  place_next above =
-      let y = lent_attr_view x in
-      let rest = put_attr (lent_attr_view a) (map lent_attr_view (drop (i + 1) xs)) in
-      let more : map lent_attr_view (take (i + 1) xs) ≡ map lent_attr_view (take i xs) ++ y ∷ [] =
-      ap (map lent_attr_view) (take_more xs i x within ∙ ap (λ z. take i xs ++ z ∷ []) here) ∙ map-append lent_attr_view (take i xs) (x ∷ []) in
-      ap (λ l. map lent_attr_view (take i xs) ++ l) (at_place ∙ ap (λ o. match_ordering o (lent_attr_view a ∷ y ∷ map lent_attr_view (drop (i + 1) xs)) (record { name = y.name; value = (lent_attr_view a).value } ∷ map lent_attr_view (drop (i + 1) xs)) (y ∷ rest)) above)
-      ∙ sym (append_assoc (map lent_attr_view (take i xs)) (y ∷ []) rest) ∙ ap (λ l. l ++ rest) (sym more)
-
-  pub place_here : text_cmp (lent_attr_view a).name (lent_attr_view x).name ≡ Less → map lent_attr_view (take i xs) ++ put_attr (lent_attr_view a) (map lent_attr_view (drop i xs)) ≡ map lent_attr_view (insert xs i a)
-  place_here below =
-      let y = lent_attr_view x in
-      let rest = map lent_attr_view (drop (i + 1) xs) in
-      let behind : lent_attr_view a ∷ y ∷ rest ≡ map lent_attr_view (a ∷ drop i xs) = ap (λ l. map lent_attr_view (a ∷ l)) (sym (drop_more xs i x within ∙ ap (λ z. z ∷ drop (i + 1) xs) here)) in
-      ap (λ l. map lent_attr_view (take i xs) ++ l) (at_place ∙ ap (λ o. match_ordering o (lent_attr_view a ∷ y ∷ rest) (record { name = y.name; value = (lent_attr_view a).value } ∷ rest) (y ∷ put_attr (lent_attr_view a) rest)) below ∙ behind)
-      ∙ sym (map-append lent_attr_view (take i xs) (a ∷ drop i xs))
-
-pub place_last : (a : LentAttr) (xs : List LentAttr) (i : ℕ) → i ≡ length xs → map lent_attr_view (take i xs) ++ put_attr (lent_attr_view a) (map lent_attr_view (drop i xs)) ≡ map lent_attr_view (insert xs i a)
-place_last a xs i end =
-    let none : drop i xs ≡ [] = drop_all i xs (omega arith) in
-    ap (λ l. map lent_attr_view (take i xs) ++ put_attr (lent_attr_view a) (map lent_attr_view l)) none ∙ ap (λ l. map lent_attr_view (take i xs) ++ map lent_attr_view (a ∷ l)) (sym none) ∙ sym (map-append lent_attr_view (take i xs) (a ∷ drop i xs))
 
 -- ---- objects
 

@@ -1,7 +1,7 @@
 ghost use Rattle.std.specs.Prelude.{◌≡◌, ◌≤◌, ◌↔◌, [], None};
-ghost use Rattle.jsonml_tree.specs.Data.{PlainScalar, PlainTree, tree_depth};
+ghost use Rattle.jsonml_tree.specs.Data.{PlainContent, PlainScalar, PlainTree, tree_depth};
 ghost use Rattle.jsonml_text.specs.Document.{too_deep_at};
-ghost use Rattle.jsonml_text.specs.RoundTrip.{TextReadsBack, DocumentReadsBack, ScalarReadsBack};
+ghost use Rattle.jsonml_text.specs.RoundTrip.{TextReadsBack, DocumentReadsBack, ScalarReadsBack, ContentReadsBack};
 
 /// A tree has an element that stands too deep exactly where its depth is above 120.
 pub fn levels_end_with_the_depth()
@@ -14,4 +14,9 @@ pub fn printed_documents_read_back()
     ensures text { (t : PlainTree) → TextReadsBack t }
     ensures document { (t : PlainTree) → DocumentReadsBack t }
     ensures scalar { (s : PlainScalar) → ScalarReadsBack s }
+{}
+
+/// What is printed for a content as an array reads back as it.
+pub fn contents_read_back()
+    ensures { (c : PlainContent) → ContentReadsBack c }
 {}

@@ -14,10 +14,12 @@ mod order;
 mod place;
 mod rule;
 mod spec;
+mod stretch;
+mod tagged;
 mod texts;
 mod token;
 
-pub use context::rule_with_tag;
+pub use context::Context;
 pub use copies::copy_names;
 pub use fault::SpecFault;
 pub use name::is_name;

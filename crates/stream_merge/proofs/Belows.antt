@@ -85,35 +85,6 @@ module _ (h : PlainInherited) (l : PlainLabel) where
             (sends-fault x s t f (kid_calls c) (low_calls cs ++ ds) a);
       }
 
-  -- the label of the next kid was not spelled
-  put-unspelled : (c : PlainKeyed) (cs : List PlainKeyed) (s : State) (f : MergeFault) → IsUnspelled (FitsLabel (label_of c)) f → IsMeter s.numbers → s.cursor.at ≤ s.cursor.length → BelowPut h l (c ∷ cs) s s (Some f)
-  put-unspelled c cs s f un meter within =
-      record {
-        appended = [];
-        passes = passes f un;
-        same_gap = refl;
-        went = λ b room sets kids. room_left f un b kids.0;
-        sends = λ ds fit. record { passes = passes f un; made = made f un ds fit; same_cursor = refl; same_gap = refl; paid = tt };
-      }
-    where
-      passes : (f : MergeFault) → IsUnspelled (FitsLabel (label_of c)) f → Passes [] 0 s s (Some f)
-      passes TooLong un = passes-none s (Some TooLong) meter within (λ e. absurd cc)
-      passes Memory un = passes-none s (Some Memory) meter within (λ e. absurd cc)
-      passes Damage un = absurd un
-      passes Folder un = absurd un
-
-      room_left : (f : MergeFault) → IsUnspelled (FitsLabel (label_of c)) f → (b : ℕ) → IsShortTree b c → WentIf b h.number [] s.writer s.writer (Some f)
-      room_left TooLong un b short = absurd (un (label-fits b c short))
-      room_left Memory un b short = tt
-      room_left Damage un b short = tt
-      room_left Folder un b short = tt
-
-      made : (f : MergeFault) → IsUnspelled (FitsLabel (label_of c)) f → (ds : List WriterCall) → (AllFit s.writer (low_calls (c ∷ cs) ++ ds) → HaveFitLabels (c ∷ cs)) → Made [] (low_calls (c ∷ cs) ++ ds) s s (Some f)
-      made TooLong un ds fit = λ all. un (fit all).0
-      made Memory un ds fit = tt
-      made Damage un ds fit = absurd un
-      made Folder un ds fit = absurd un
-
   -- no kid comes before the label
   put-none : (cs : List PlainKeyed) (s : State) → below l cs ≡ [] → IsMeter s.numbers → s.cursor.at ≤ s.cursor.length → BelowPut h l cs s s None
   put-none cs s none meter within =
@@ -156,16 +127,9 @@ module _ (h : PlainInherited) (l : PlainLabel) where
     pub puts-fail : {T : Type 0} (r : Result T MergeFault) (f : MergeFault) → IsErrAnd r (λ d. d ≡ f) → (p : PlainCursor) → p.at ≤ p.length → (u : State) → label_cmp l (label_of c) ≡ Greater → Sent (kid_calls c) (now p) u (Some f) → BelowPut h l cs (old p) u (fault_of r)
     puts-fail r f is p within u low sent = at-err r f is (λ z. BelowPut h l cs (old p) u (fault_of z)) (here.rest p within u (Some f) (put-fails c rest (now p) u f low sent))
 
-    pub puts-unspelled : {T : Type 0} (r : Result T MergeFault) (f : MergeFault) → IsErrAnd r (λ d. d ≡ f) → (p : PlainCursor) → p.at ≤ p.length → IsUnspelled (FitsLabel (label_of c)) f → IsMeter (now p).numbers → (now p).cursor ≡ p → BelowPut h l cs (old p) (now p) (fault_of r)
-    puts-unspelled r f is p within un meter same =
-        at-err r f is (λ z. BelowPut h l cs (old p) (now p) (fault_of z)) (here.rest p within (now p) (Some f) (put-unspelled c rest (now p) f un meter (subst (λ (z : PlainCursor). z.at ≤ z.length) (sym same) within)))
-
     -- the next kid is within the bounds of the format
     pub puts-shaped : IsShapedNode (fresh None c)
     puts-shaped = (let shaped = here.shaped in shaped.0)
-
-    pub puts-label : IsShapedLabel (label_of c)
-    puts-label = shaped-label c puts-shaped
 
     pub puts-fewer : length rest < length left
     puts-fewer = (let fewer = ap length is in omega (arith, fewer))

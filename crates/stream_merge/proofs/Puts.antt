@@ -1,5 +1,5 @@
 -- The calls that write what one version alone has.
-use Rattle.std.proofs.Common.{◌≡◌, ◌≢◌, ℕ, ◌≤◌, List, [], ◌∷◌, ◌++◌, Option, Some, None, Result, Err, refl, sym, ap, subst, ◌∙◌, arith}
+use Rattle.std.proofs.Common.{map, ◌≡◌, ◌≢◌, ℕ, ◌≤◌, List, [], ◌∷◌, ◌++◌, Option, Some, None, Result, Err, refl, sym, ap, subst, ◌∙◌, arith}
 use Rattle.std.specs.Option.{unwrap_or}
 use Rattle.std.specs.Result.{OnOk, IsErrAnd}
 use Rattle.std.proofs.lemmas.List.{append-nil}
@@ -9,9 +9,10 @@ use Rattle.keyed_tree.specs.Data.{PlainKey, PlainLabel, PlainKeyed, inner, leaf,
 use Rattle.archive_tree.specs.Data.{Stamp, PlainNode, PlainNodes, no_nodes, node}
 use Rattle.nested_merge.specs.Merged.{fresh, fresh_row, fresh_onto}
 use Rattle.record_format.specs.Nodes.{set_in}
-use Rattle.keyed_parts.specs.Spells.{Spells}
-use Rattle.keyed_parts.specs.declared.fault.SpellFault.{SpellFault}
-use Rattle.keyed_parts.specs.declared.fault.SpellFault.TheVariants as spell
+use Rattle.keyed_tree.specs.LentView.{lent_val_view, shown_name}
+use Rattle.keyed_tree.specs.declared.lent.LentVal.{LentVal}
+use Rattle.keyed_tree.specs.declared.lent.NameView.{NameView}
+use Rattle.record_parts.specs.Shown.{named}
 use Rattle.record_format.specs.Shapes.{IsShapedNode, AreShapedNodes}
 use Rattle.record_parts.specs.Shapes.{FitsLabel, IsShapedLabel, IsShapedValue}
 use Rattle.record_cursor.specs.Places.{finished}
@@ -25,7 +26,7 @@ use Rattle.record_writer.specs.declared.fault.WriteFault.{WriteFault}
 use Rattle.record_writer.specs.declared.writer.Writer.{Writer}
 use Rattle.record_writer.proofs.WalkLaws.{row-walked, node-walked, between}
 use Rattle.stream_merge.specs.Does.{Sent}
-use Rattle.stream_merge.specs.Passes.{Rests, Opens, fault_of, of_spell}
+use Rattle.stream_merge.specs.Passes.{Rests, Opens, fault_of}
 use Rattle.record_copy.specs.State.{State, state}
 use Rattle.stream_merge.specs.declared.begin.Kind.{Kind}
 use Rattle.stream_merge.specs.declared.begin.Kind.TheVariants.{Inner, Leaf}
@@ -121,22 +122,9 @@ sent-nothing s meter within = record {
   stops = tt;
 }
 
--- what does not fit is not sent, and nothing is
-pub sent-long : (s : State) (call : WriterCall) → IsMeter s.numbers → s.cursor.at ≤ s.cursor.length → ¬ (FitsParts s.writer call) → Sent (call ∷ []) s s (Some TooLong)
-sent-long s call meter within over = record {
-  appended = [];
-  sends = record { passes = passes-none s (Some TooLong) meter within (λ e. absurd cc); made = λ fit. over fit.0.parts; same_cursor = refl; same_gap = refl; paid = tt };
-  stops = record { made = []; next = call; others = []; walk = refl; same = refl; fit = tt; over = λ fit. over fit.parts };
-}
-
--- a label or a body that was not spelled: nothing is sent
-pub unspelled : (s : State) (call : WriterCall) (e : SpellFault) → IsMeter s.numbers → s.cursor.at ≤ s.cursor.length → {V : Type 0} (P : Type 0) (Q : V → Type 0) → (FitsParts s.writer call → P) → Spells P Q (Err e) → Sent (call ∷ []) s s (Some (of_spell e))
-unspelled s call spell.TooLong meter within P Q parts over = sent-long s call meter within (λ fit. over (parts fit))
-unspelled s call spell.Memory meter within P Q parts over = sent-none s (call ∷ []) meter within
-
-pub fits-label : (kind : Kind) (l : PlainLabel) (s : Stamp) (set : List (ℕ × ℕ)) (w : PlainWriter) → FitsParts w (call_of kind l s set) → FitsLabel l
-fits-label Inner l s set w h = h
-fits-label Leaf l s set w h = h
+-- the label of a kid, given by its name and its key values
+pub label-given : (n : NameView) (ks : List LentVal) (l : PlainLabel) → shown_name n ≡ l.name → map lent_val_view ks ≡ l.keys → named n ks ≡ l
+label-given n ks l e f = λ i. record { name = e i; keys = f i }
 
 -- one call of the writer
 pub call-sent : {S : Type 0} (files : S → Option Files) (draft : S → Option (List ℕ)) (numbers : S → Numbers) (faults : S → ℕ) → ((x : S) → IsMeter (numbers x)) → (c : PlainCursor) → c.at ≤ c.length

@@ -19,18 +19,11 @@ use Rattle.record_copy.specs.State.{State}
 use Rattle.stream_merge.specs.View.{PlainInherited}
 use Rattle.stream_merge.specs.declared.begin.Kind.{Kind}
 use Rattle.stream_merge.specs.declared.fault.MergeFault.{MergeFault}
-use Rattle.stream_merge.specs.declared.fault.MergeFault.TheVariants.{TooLong, Memory}
 use Rattle.xa_outside.specs.Numbers.{lead}
 
 -- what the kids inherit of a node with this stamp that the version has, or has not
 abbrev pub inherited_with : PlainInherited → Bool → Stamp → PlainInherited
 inherited_with h has s = record { number = h.number; before = unwrap_or s h.before; now = set_in (turned h.number h.before has s) h.now }
-
--- A label was not spelled, or not compared: it does not fit, or there is no memory.
-abbrev pub IsUnspelled : Type 0 → MergeFault → Type 0
-IsUnspelled Fit TooLong = ¬ Fit
-IsUnspelled Fit Memory = ⊤
-IsUnspelled Fit other = ⊥
 
 -- Nothing is read, and the kids that come before the label are written.
 pub record BelowPut (h : PlainInherited) (l : PlainLabel) (cs : List PlainKeyed) (s t : State) (ended : Option MergeFault) : Type 0 where

@@ -1,0 +1,10 @@
+use Rattle.std.proofs.Common.{◌≡◌, map, drop}
+use Rattle.std.specs.Option.{option_map}
+use Rattle.jsonml_tree.specs.LentAttrs.{lent_attr_view}
+use Rattle.jsonml_tree.specs.WellFormed.{is_ascending}
+use Rattle.record_parts.proofs.Names.{ascend_behind}
+use Rattle.record_parts.proofs.put_lent.do_names_ascend.Given as goal
+
+-- what is left decides
+abbrev pub invariant-loop-attr : goal.invariant-loop-attr
+invariant-loop-attr l = is_ascending (map lent_attr_view l.attrs) ≡ ascend_behind (option_map (λ s. s.now) l.last) (map lent_attr_view (drop l.attr-index l.attrs))
