@@ -28,37 +28,44 @@ const BODY: u64 = 48;
 /// How many bytes a node has more than its one child: those that open it, and its END.
 const AROUND: u64 = 77;
 
-/// Puts the END of a node whose child has so many bytes, and an END of such a length or none.
-fn put_end(out: &mut Vec<u8>, child: u64, dir: u64) -> Option<()> {
-    out.extend_from_slice(END).ok()?;
-    out.extend_from_slice(&child.to_be_bytes()).ok()?;
-    out.extend_from_slice(&dir.to_be_bytes()).ok()?;
-    out.extend_from_slice(SET).ok()
+/// Adds bytes, and answers whether there was memory for them.
+fn put(out: &mut Vec<u8>, bytes: &[u8]) -> bool {
+    out.extend_from_slice(bytes).is_ok()
 }
 
-/// Puts a leaf in so many inner nodes, each the only child of the one around it, and the END of the virtual root.
-fn put_nested(out: &mut Vec<u8>, depth: u32) -> Option<()> {
+/// Puts the END of a node whose child has so many bytes, and an END of such a length or none.
+fn put_end(out: &mut Vec<u8>, child: u64, dir: u64) -> bool {
+    put(out, END) && put(out, &child.to_be_bytes()) && put(out, &dir.to_be_bytes()) && put(out, SET)
+}
+
+fn put_openings(out: &mut Vec<u8>, depth: u32) -> bool {
+    let mut is_put = true;
     for _ in 0..depth {
-        out.extend_from_slice(INNER).ok()?;
+        is_put = is_put && put(out, INNER);
     }
-    out.extend_from_slice(LEAF).ok()?;
+    is_put
+}
+
+/// Puts the ENDs of so many inner nodes, each the only child of the one around it, and that of the virtual root.
+fn put_ends(out: &mut Vec<u8>, depth: u32) -> bool {
     let mut child = LEAF.len() as u64;
-    let mut dir = 0;
+    let mut is_put = put_end(out, child, 0);
     for _ in 0..depth {
-        put_end(out, child, dir)?;
         child = child.saturating_add(AROUND);
-        dir = BODY;
+        is_put = is_put && put_end(out, child, BODY);
     }
-    put_end(out, child, dir)
+    is_put
 }
 
 /// The file of a leaf in so many inner nodes.
 fn nested(alloc: Global, depth: u32) -> Option<Vec<u8>> {
     let mut file = Vec::new(alloc);
-    file.extend_from_slice(ONE.get(..28)?).ok()?;
-    put_nested(&mut file, depth)?;
-    file.extend_from_slice(&BODY.to_be_bytes()).ok()?;
-    Some(file)
+    let is_put = put(&mut file, ONE.get(..28).unwrap_or(&[]))
+        && put_openings(&mut file, depth)
+        && put(&mut file, LEAF)
+        && put_ends(&mut file, depth)
+        && put(&mut file, &BODY.to_be_bytes());
+    if is_put { Some(file) } else { None }
 }
 
 /// The path of `a` in `a`, so many.

@@ -44,18 +44,44 @@ fn has_eight(folder: &mut MemFolder, db: Child) -> bool {
     }
 }
 
+/// Whether the first child of the row of the virtual root is `db`.
+fn has_db(folder: &mut MemFolder, row: Row) -> bool {
+    match child(folder, row, 0) {
+        Ok(db) => is_child(db, 46, 1284, 520) && has_eight(folder, db),
+        Err(_) => false,
+    }
+}
+
+/// Whether the rows stand where the file says, and so many bytes are read.
+fn are_rows(folder: &mut MemFolder) -> bool {
+    match root(folder, 46, 1349) {
+        Ok(row) => {
+            is_row(row, 46, 1284, 48)
+                && count_children(folder, NAME, row) == Ok(1)
+                && has_db(folder, row)
+                && folder.pulled() == 58
+        }
+        Err(_) => false,
+    }
+}
+
+fn are_rows_of_six(alloc: Global) -> bool {
+    match folder(alloc, SIX, 100) {
+        Some(mut folder) => are_rows(&mut folder),
+        None => false,
+    }
+}
+
 #[test]
-fn rows_and_children_stand_where_the_file_says(rt: HostRuntime) -> Result<(), Fail> {
-    let mut folder = folder(rt.alloc(), SIX, 100).ok_or("no folder")?;
-    let row = root(&mut folder, 46, 1349)?;
-    told(is_row(row, 46, 1284, 48), "the root")?;
-    let count = count_children(&mut folder, NAME, row)?;
-    assert!(rt; count == 1);
-    let db = child(&mut folder, row, 0)?;
-    told(is_child(db, 46, 1284, 520), "db")?;
-    told(has_eight(&mut folder, db), "its children")?;
-    assert!(rt; folder.pulled() == 58);
-    Ok(())
+fn rows_and_children_stand_where_the_file_says(rt: HostRuntime) {
+    assert!(rt; are_rows_of_six(rt.alloc()));
+}
+
+/// Reads the root, counts its children and reads the first one.
+fn first_child(folder: &mut MemFolder) -> Result<Child, CursorFault> {
+    let row = root(folder, 28, 142)?;
+    count_children(folder, NAME, row)?;
+    child(folder, row, 0)
 }
 
 /// Whether the file is damaged where its root is read, its children are counted or the first one is
@@ -64,19 +90,9 @@ fn is_damaged(alloc: Global, at: usize, bytes: &[u8]) -> bool {
     let Some(file) = changed(alloc, ONE, at, bytes) else {
         return false;
     };
-    let Some(mut folder) = folder(alloc, &file, 100) else {
-        return false;
-    };
-    let row = match root(&mut folder, 28, 142) {
-        Ok(row) => row,
-        Err(fault) => return fault == CursorFault::Damage,
-    };
-    match count_children(&mut folder, NAME, row) {
-        Ok(_) => match child(&mut folder, row, 0) {
-            Ok(_) => false,
-            Err(fault) => fault == CursorFault::Damage,
-        },
-        Err(fault) => fault == CursorFault::Damage,
+    match folder(alloc, &file, 100) {
+        Some(mut folder) => matches!(first_child(&mut folder), Err(CursorFault::Damage)),
+        None => false,
     }
 }
 
@@ -110,19 +126,42 @@ fn what_does_not_fit_is_damage(rt: HostRuntime) -> Result<(), Fail> {
     told(is_tail_damage(rt.alloc()), "the tail behind no child")
 }
 
+/// What is read of a file in turn.
+#[derive(Clone, Copy)]
+enum Part {
+    Root,
+    Count,
+    Child,
+}
+
+/// Why the part that is read behind the root cannot be read.
+fn fault_behind(folder: &mut MemFolder, row: Row, part: Part) -> Option<CursorFault> {
+    match part {
+        Part::Root => None,
+        Part::Count => count_children(folder, NAME, row).err(),
+        Part::Child => child(folder, row, 0).err(),
+    }
+}
+
+/// Why the part cannot be read, where those before it can.
+fn fault_at(folder: &mut MemFolder, part: Part) -> Option<CursorFault> {
+    match (root(folder, 28, 142), part) {
+        (Ok(row), _) => fault_behind(folder, row, part),
+        (Err(fault), Part::Root) => Some(fault),
+        _ => None,
+    }
+}
+
+fn is_failed(alloc: Global, failing: u64, part: Part) -> bool {
+    match folder(alloc, ONE, failing) {
+        Some(mut folder) => fault_at(&mut folder, part) == Some(CursorFault::Folder),
+        None => false,
+    }
+}
+
 #[test]
-fn a_read_that_fails_is_no_damage(rt: HostRuntime) -> Result<(), Fail> {
+fn a_read_that_fails_is_no_damage(rt: HostRuntime) {
     let alloc = rt.alloc();
-    let mut tail = folder(alloc, ONE, 1).ok_or("no folder")?;
-    let failed = root(&mut tail, 28, 142);
-    assert!(rt; matches!(&failed, Err(CursorFault::Folder)));
-    let mut head = folder(alloc, ONE, 2).ok_or("no folder")?;
-    let row = root(&mut head, 28, 142)?;
-    let failed = count_children(&mut head, NAME, row);
-    assert!(rt; matches!(&failed, Err(CursorFault::Folder)));
-    let mut entry = folder(alloc, ONE, 2).ok_or("no folder")?;
-    let row = root(&mut entry, 28, 142)?;
-    let failed = child(&mut entry, row, 0);
-    assert!(rt; matches!(&failed, Err(CursorFault::Folder)));
-    Ok(())
+    assert!(rt; is_failed(alloc, 1, Part::Root));
+    assert!(rt; is_failed(alloc, 2, Part::Count) && is_failed(alloc, 2, Part::Child));
 }

@@ -1,4 +1,4 @@
-use given_outside::{folder, sink, told};
+use given_outside::{Outside, ends_of, folder, sink, told};
 use std::alloc::{AllocError, Global};
 use std::test::Fail;
 use xa_outside::{
@@ -210,16 +210,54 @@ fn leave_around_a_long_one(sink: &mut MemSink) -> bool {
     put_buffered(sink, &[b"a", &long, b"b", b"c"]).is_ok() && sink.taken().len() == 10_003
 }
 
+/// What is done with a sink.
+#[derive(Clone, Copy)]
+enum Deed {
+    Fail,
+    FlushAgain,
+    PutTogether,
+    PutLong,
+}
+
+/// What is done, with a sink whose write of this number fails.
+const DEEDS: &[(&str, u64, Deed)] = &[
+    ("a failed write keeps what was taken", 2, Deed::Fail),
+    (
+        "a failed flush leaves the rest for the next",
+        1,
+        Deed::FlushAgain,
+    ),
+    ("pieces leave a buffer together", 2, Deed::PutTogether),
+    ("a long piece goes by itself", 4, Deed::PutLong),
+];
+
+fn is_done(sink: &mut MemSink, deed: Deed) -> bool {
+    match deed {
+        Deed::Fail => keeps_what_was_taken(sink),
+        Deed::FlushAgain => keeps_the_rest(sink),
+        Deed::PutTogether => leave_together(sink),
+        Deed::PutLong => leave_around_a_long_one(sink),
+    }
+}
+
+fn is_done_anew(alloc: Global, failing: u64, deed: Deed) -> bool {
+    match sink(alloc, failing) {
+        Ok(mut sink) => is_done(&mut sink, deed),
+        Err(_) => false,
+    }
+}
+
 #[test]
 fn sinks_keep_what_they_took(rt: HostRuntime) -> Result<(), Fail> {
-    let mut second = sink(rt.alloc(), 2)?;
-    let mut first = sink(rt.alloc(), 1)?;
-    assert!(rt; keeps_what_was_taken(&mut second) && keeps_the_rest(&mut first));
-    let mut second = sink(rt.alloc(), 2)?;
-    let mut fourth = sink(rt.alloc(), 4)?;
-    assert!(rt; leave_together(&mut second) && leave_around_a_long_one(&mut fourth));
-    assert!(rt; SureSink::new().write(b"gone") == Ok(4));
+    for (name, failing, deed) in DEEDS {
+        told(is_done_anew(rt.alloc(), *failing, *deed), name)?;
+    }
     Ok(())
+}
+
+#[test]
+fn a_sure_sink_takes_all(rt: HostRuntime) {
+    assert!(rt; SureSink::new().write(b"gone") == Ok(4));
 }
 
 /// A listed read fails, and the next goes on.
@@ -230,18 +268,36 @@ fn goes_on(source: &mut MemSource) -> bool {
     is_read && fails && fill(source, &mut buf) == Ok(1) && buf == [4, 2, 3]
 }
 
-/// Whether a source with these bytes ends behind them.
+/// Four bytes, of which the second read fails.
+const FOUR: Outside = Outside {
+    input: &[(&[1, 2, 3, 4], 1)],
+    input_fails: &[2],
+    output_fails: &[],
+    error_fails: &[],
+};
+
+fn is_gone_on(alloc: Global) -> bool {
+    match ends_of(alloc, &FOUR) {
+        Ok(mut ends) => goes_on(&mut ends.input),
+        Err(_) => false,
+    }
+}
+
+/// Whether a source of two bytes ends behind them.
 fn ends(bytes: Vec<u8>) -> bool {
     let mut source = SureSource::new(bytes);
     let mut buf = [0; 4];
     fill(&mut source, &mut buf) == Ok(2) && buf == [7, 8, 0, 0]
 }
 
+fn is_ended(alloc: Global) -> bool {
+    match Vec::from_slice(alloc, &[7, 8]) {
+        Ok(bytes) => ends(bytes),
+        Err(_) => false,
+    }
+}
+
 #[test]
-fn sources_give_their_bytes(rt: HostRuntime) -> Result<(), Fail> {
-    let fails = vec![in rt.alloc(); 2]?;
-    let mut source = MemSource::new(vec![in rt.alloc(); 1, 2, 3, 4]?, fails);
-    assert!(rt; goes_on(&mut source));
-    assert!(rt; ends(vec![in rt.alloc(); 7, 8]?));
-    Ok(())
+fn sources_give_their_bytes(rt: HostRuntime) {
+    assert!(rt; is_gone_on(rt.alloc()) && is_ended(rt.alloc()));
 }

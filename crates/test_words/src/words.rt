@@ -492,12 +492,19 @@ fn is_line_taken(err: &mut MemSink, fault: &Fault, wanted: &str) -> bool {
     is_written != wanted.is_empty() && err.taken() == wanted.as_bytes()
 }
 
+/// Whether the line of a fault comes to this at a sink whose write of this number fails.
+fn is_line_written(alloc: Global, failing: u64, wanted: &str) -> bool {
+    let Ok(fault) = fault_of(alloc, 3, "doc.json") else {
+        return false;
+    };
+    match sink(alloc, failing) {
+        Ok(mut err) => is_line_taken(&mut err, &fault, wanted),
+        Err(_) => false,
+    }
+}
+
 #[test]
-fn a_line_goes_in_one_write(rt: HostRuntime) -> Result<(), Fail> {
-    let fault = fault_of(rt.alloc(), 3, "doc.json")?;
-    let mut second = sink(rt.alloc(), 2)?;
-    let mut first = sink(rt.alloc(), 1)?;
-    assert!(rt; is_line_taken(&mut second, &fault, "xarch: no file doc.json\n"));
-    assert!(rt; is_line_taken(&mut first, &fault, ""));
-    Ok(())
+fn a_line_goes_in_one_write(rt: HostRuntime) {
+    assert!(rt; is_line_written(rt.alloc(), 2, "xarch: no file doc.json\n"));
+    assert!(rt; is_line_written(rt.alloc(), 1, ""));
 }
