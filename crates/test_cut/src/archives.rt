@@ -14,11 +14,11 @@ pub(crate) fn cut_out(
     first: u32,
     last: u32,
 ) -> Result<Result<(), CutFault>, Stopped> {
+    folder.begin()?;
     let header = read_header(alloc, folder, NAME, length as u64)?;
     if first < 1 || last < first || header.versions < last {
         return Err(Stopped);
     }
     let cursor = Cursor::start(alloc, NAME, &header)?;
-    folder.begin()?;
     Ok(cut(alloc, folder, &header, cursor, first, last))
 }

@@ -26,6 +26,7 @@ pub(crate) fn joined(
     names: (&str, &str),
     lengths: (usize, usize),
 ) -> Result<Result<(), JoinFault>, Stopped> {
+    folder.begin()?;
     let one = read_header(alloc, folder, names.0, lengths.0 as u64)?;
     let two = read_header(alloc, folder, names.1, lengths.1 as u64)?;
     if !are_same(alloc, &one.spec, &two.spec)? || one.versions + two.versions > 999_999 {
@@ -33,6 +34,5 @@ pub(crate) fn joined(
     }
     let left = Cursor::start(alloc, names.0, &one)?;
     let right = Cursor::start(alloc, names.1, &two)?;
-    folder.begin()?;
     Ok(join(alloc, folder, &one, left, &two, right))
 }

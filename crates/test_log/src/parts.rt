@@ -61,22 +61,54 @@ fn is_text(body: &KeyVal, text: &str) -> bool {
     }
 }
 
-/// Whether copies of the label and of the first body are those of the leaf, in the file.
-fn are_copied(alloc: Global, folder: &mut MemFolder, size: u64) -> Option<bool> {
-    let header = read_header(alloc, folder, NAME, size).ok()?;
-    let mut cursor = Cursor::start(alloc, NAME, &header).ok()?;
-    let mut is_open = false;
+/// How far a walk to the salary is.
+#[derive(Clone, Copy, PartialEq, Eq)]
+enum Walk {
+    Before,
+    AtSalary,
+    Copied,
+    Ended,
+}
+
+/// How far the walk is behind this item: a copy of the label, and of the first body behind it, are to be the salary's.
+fn behind(alloc: Global, item: &Item<'_>, walk: Walk) -> Walk {
+    match item {
+        Item::Leaf { label, .. } => match label.copy(alloc) {
+            Ok(label) if is_salary(&label) => Walk::AtSalary,
+            _ => Walk::Before,
+        },
+        Item::Alt { body, .. } if walk == Walk::AtSalary => match body.copy(alloc) {
+            Ok(body) if is_text(&body, "90K") => Walk::Copied,
+            _ => Walk::Ended,
+        },
+        Item::Finish => Walk::Ended,
+        _ => walk,
+    }
+}
+
+/// Whether the salary's label and first body are copied within a hundred items.
+fn is_salary_copied(alloc: Global, folder: &mut MemFolder, cursor: &mut Cursor) -> bool {
+    let mut walk = Walk::Before;
     for _ in 0..100 {
-        match cursor.next(folder).ok()? {
-            Item::Leaf { label, .. } => is_open = is_salary(&label.copy(alloc).ok()?),
-            Item::Alt { body, .. } if is_open => {
-                return Some(is_text(&body.copy(alloc).ok()?, "90K"));
-            }
-            Item::Finish => return None,
-            _ => {}
+        walk = match cursor.next(folder) {
+            Ok(item) => behind(alloc, &item, walk),
+            Err(_) => Walk::Ended,
+        };
+        if walk == Walk::Copied || walk == Walk::Ended {
+            return walk == Walk::Copied;
         }
     }
-    None
+    false
+}
+
+fn are_copied(alloc: Global, folder: &mut MemFolder, size: u64) -> bool {
+    let Ok(header) = read_header(alloc, folder, NAME, size) else {
+        return false;
+    };
+    match Cursor::start(alloc, NAME, &header) {
+        Ok(mut cursor) => is_salary_copied(alloc, folder, &mut cursor),
+        Err(_) => false,
+    }
 }
 
 fn are_parts_copied(alloc: Global) -> bool {
@@ -84,7 +116,7 @@ fn are_parts_copied(alloc: Global) -> bool {
         return false;
     };
     match folder(alloc, &[(NAME, &bytes)], NEVER) {
-        Some(mut folder) => are_copied(alloc, &mut folder, bytes.len() as u64) == Some(true),
+        Some(mut folder) => are_copied(alloc, &mut folder, bytes.len() as u64),
         None => false,
     }
 }

@@ -34,14 +34,14 @@ fn grow(
     document: &str,
     commits: bool,
 ) -> Result<Result<(), AddFault>, Stopped> {
-    let header = read_header(alloc, folder, NAME, length)?;
     if document.len() > 67_108_864 {
         return Err(Stopped);
     }
+    folder.begin()?;
+    let header = read_header(alloc, folder, NAME, length)?;
     let tree = lend_document(alloc, document.as_bytes())?;
     let new = lent_keyed(alloc, &header.spec, &tree)?;
     let cursor = Cursor::start(alloc, NAME, &header)?;
-    folder.begin()?;
     if commits {
         Ok(stream_add(alloc, folder, NAME, &header, cursor, &new))
     } else {
