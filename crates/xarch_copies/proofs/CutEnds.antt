@@ -28,7 +28,7 @@ use Rattle.xarch_parts.specs.CoreLaws.{front-sound}
 use Rattle.xarch_parts.specs.Inputs.{read_in}
 use Rattle.xarch_parts.specs.Outcome.{Outcome, and_then, or_refuse}
 use Rattle.xarch_parts.specs.Readings.{front_in}
-use Rattle.xarch_parts.specs.declared.fronts.Front.{Front}
+use Rattle.xarch_parts.specs.declared.front.Front.{Front}
 use Rattle.xarch_meanings.specs.Cut.{are_versions, cut_checked, noted_items, slice}
 use Rattle.xarch_meanings.specs.Plausible.{MayBe, MayMake, cut_input}
 use Rattle.xarch_copies.specs.Cutting.{Comes, CutEnds, NotesEnd, RecordsEnd}

@@ -32,7 +32,7 @@ use Rattle.xarch_parts.specs.Inputs as inputs
 use Rattle.xarch_parts.specs.Inputs.{file_length, read_in}
 use Rattle.xarch_parts.specs.Outcome.{Outcome, and_then, or_refuse}
 use Rattle.xarch_parts.specs.Readings.{core_in, front_in, front_of_core, parts_of}
-use Rattle.xarch_parts.specs.declared.fronts.Front.{Front}
+use Rattle.xarch_parts.specs.declared.front.Front.{Front}
 use Rattle.xarch_meanings.specs.Join.{JoinsFrom, are_joinable, join_checked, joined, room_for, same_keys}
 use Rattle.xarch_meanings.specs.Plausible.{MayBe, MayJoin, join_input}
 use Rattle.xarch_copies.specs.Cutting.{IsUnsound}

@@ -20,7 +20,7 @@ use Rattle.xarch_words.specs.declared.fault.Fault.{Fault}
 use Rattle.xarch_parts.specs.Inputs.{file_length, read_in, size_in}
 use Rattle.xarch_parts.specs.Outcome.{and_then}
 use Rattle.xarch_parts.specs.Readings.{front_in}
-use Rattle.xarch_parts.specs.declared.fronts.Front.{Front}
+use Rattle.xarch_parts.specs.declared.front.Front.{Front}
 use Rattle.xarch_meanings.specs.FillsUp.{IsLimited}
 use Rattle.xarch_meanings.specs.Join.{are_joinable}
 use Rattle.xarch_copies.specs.Cutting.{IsUnsound, NotesEnd}

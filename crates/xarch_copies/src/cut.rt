@@ -1,6 +1,6 @@
 #![tactic(auto, using(xarch_parts::specs::EndLaws::endings), unfolding(xarch_parts::specs::Ends::IsInside, xarch_parts::specs::Ends::IsDefined))]
 
-ghost use Rattle.std.specs.Prelude.{◌+◌, ◌-◌, ◌<◌, ◌≤◌, ◌^◌, ℕ, Some, IfSome, MatchResult, OnOk};
+ghost use Rattle.std.specs.Prelude.{◌≤◌, ℕ, Some, MatchResult, OnOk};
 ghost use Rattle.xa_outside.specs.Taken.{Taken};
 ghost use Rattle.record_cursor.specs.View.{header_view, IsHeader};
 ghost use Rattle.xarch_words.specs.Commands as command;
@@ -100,9 +100,6 @@ fn make_archive<F: Folder>(
     last: u32,
     folder: &mut F,
 ) -> Result<(), Fault>
-    requires header { IsHeader (header_view front.now.header) }
-    requires room { IfSome front.now.parts.notes
-        (λ n. front.now.parts.core + n < 2 ^ 64 - 16) }
     requires blank { IsBlank (F.draft folder.old) }
     requires from { 1 ≤ first }
     requires order { first ≤ last }

@@ -1,6 +1,6 @@
 #![tactic(auto, using(xarch_parts::specs::EndLaws::endings), unfolding(xarch_parts::specs::Ends::IsInside, xarch_parts::specs::Ends::IsDefined))]
 
-ghost use Rattle.std.specs.Prelude.{◌≡◌, ◌+◌, ◌-◌, ◌<◌, ◌≤◌, ◌^◌, ℕ, Some, true, IfOk, IfSome, MatchResult, OnOk};
+ghost use Rattle.std.specs.Prelude.{◌≡◌, ℕ, Some, true, IfOk, MatchResult, OnOk};
 ghost use Rattle.std.specs.Str.{bytes_eq};
 ghost use Rattle.xa_outside.specs.Taken.{Taken};
 ghost use Rattle.key_spec.specs.Canonical.{canonical};
@@ -169,14 +169,8 @@ fn make_archive<F: Folder>(
     both: &Both,
     folder: &mut F,
 ) -> Result<(), Fault>
-    requires first { IsHeader (header_view both.now.one.header) }
-    requires second { IsHeader (header_view both.now.two.header) }
     requires together { GoTogether (header_view both.now.one.header)
         (header_view both.now.two.header) }
-    requires room { IfSome both.now.one.parts.notes
-        (λ n. both.now.one.parts.core + n < 2 ^ 64 - 16) }
-    requires other_room { IfSome both.now.two.parts.notes
-        (λ n. both.now.two.parts.core + n < 2 ^ 64 - 16) }
     requires blank { IsBlank (F.draft folder.old) }
     ensures { Assembles F.files F.draft F.numbers F.faults one.now two.now new.now both.now
         folder.old folder.new (fault_of result) }

@@ -63,10 +63,6 @@ pub(crate) fn append_both<F: Folder>(
     second: &Front,
     folder: &mut F,
 ) -> Result<(), Fault>
-    requires room { IfSome first.now.parts.notes
-        (λ n. first.now.parts.core + n < 2 ^ 64 - 16) }
-    requires other_room { IfSome second.now.parts.notes
-        (λ n. second.now.parts.core + n < 2 ^ 64 - 16) }
     requires few { (header_view first.now.header).versions
         + (header_view second.now.header).versions ≤ most }
     ensures { MatchResult result
@@ -96,8 +92,6 @@ fn copy_notes<F: Folder>(
     writer: &mut NoteWriter,
     folder: &mut F,
 ) -> Result<(), Fault>
-    requires room { IfSome front.now.parts.notes
-        (λ n. front.now.parts.core + n < 2 ^ 64 - 16) }
     requires few { writer.old.pushed + (header_view front.now.header).versions ≤ most }
     ensures { MatchResult result
         (λ _. Copies F.files F.draft F.numbers F.faults folder.old folder.new

@@ -16,7 +16,7 @@ use Rattle.noted_file.specs.Full.{FullAs}
 use Rattle.xarch_words.specs.Refusal.{archive, versions, Refusal, damaged, limit, PlainFault, refused, folder_fault, memory}
 use Rattle.xarch_parts.specs.Archives.{ArchiveIs}
 use Rattle.xarch_parts.specs.Ends.{IsDefined, TellsOnly}
-use Rattle.xarch_parts.specs.declared.fronts.Front.{Front}
+use Rattle.xarch_parts.specs.declared.front.Front.{Front}
 
 -- the rules and the number of versions that a header gives, and the bytes of a document
 abbrev pub read_view : Front → List ℕ → (List PlainRule × ℕ) × List ℕ

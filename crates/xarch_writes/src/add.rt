@@ -1,6 +1,6 @@
 #![tactic(auto, using(xarch_parts::specs::EndLaws::endings), unfolding(xarch_parts::specs::Ends::IsInside, xarch_parts::specs::Ends::IsDefined))]
 
-ghost use Rattle.std.specs.Prelude.{◌≡◌, ◌≢◌, ◌-◌, ◌+◌, ◌^◌, ◌<◌, ◌≤◌, ℕ, Some, Ok, IfOk, IfSome, OnOk, IsTrue, length};
+ghost use Rattle.std.specs.Prelude.{◌≡◌, ◌≢◌, ◌-◌, ◌+◌, ◌≤◌, ℕ, Some, Ok, IfOk, OnOk, IsTrue, length};
 ghost use Rattle.xa_outside.specs.Folder.{Files, IsBlank};
 ghost use Rattle.xa_outside.specs.Numbers.{PullsAtMost};
 ghost use Rattle.xa_outside.specs.Taken.{Taken};
@@ -128,8 +128,7 @@ fn read_added<F: Folder>(
         AreWithin (size_in (F.files folder.old) archive.now) r.0.parts
         × PullsAtMost (16 + (header_view r.0.header).first + 67108864)
         (F.numbers folder.old) (F.numbers folder.new)) }
-    ensures known { IfOk result (λ r. IsHeader (header_view r.0.header)
-        × ((header_view r.0.header).length ≡ r.0.parts.core) × (length r.1.items ≤ 67108864)) }
+    ensures known { IfOk result (λ r. length r.1.items ≤ 67108864) }
 {
     let size = length_of(alloc, folder, archive)?;
     let doc_size = limited_length(alloc, folder, doc, Quantity::Document, limits::DOCUMENT)?;
@@ -166,8 +165,7 @@ fn read_text<F: Folder>(
     ensures once { IfOk result (λ r. AreWithin size r.0.parts
         × PullsAtMost (16 + (header_view r.0.header).first + doc_size)
         (F.numbers folder.old) (F.numbers folder.new)) }
-    ensures known { IfOk result (λ r. IsHeader (header_view r.0.header)
-        × ((header_view r.0.header).length ≡ r.0.parts.core) × (length r.1.items ≤ 67108864)) }
+    ensures known { IfOk result (λ r. length r.1.items ≤ 67108864) }
 {
     let front = read_front(alloc, folder, archive, size)?;
     let text = read_whole(alloc, folder, doc, doc_size)?;
@@ -186,9 +184,6 @@ fn add_text<F: Folder>(
     note: &str,
     folder: &mut F,
 ) -> Result<(), Fault>
-    requires header { IsHeader (header_view front.now.header) }
-    requires room { IfSome front.now.parts.notes
-        (λ n. front.now.parts.core + n < 2 ^ 64 - 16) }
     requires short { length text.now ≤ 67108864 }
     requires note { IsTrue (is_note note.now) }
     requires blank { IsBlank (F.draft folder.old) }
@@ -225,9 +220,6 @@ fn add_tree<F: Folder>(
     note: &str,
     folder: &mut F,
 ) -> Result<(), Fault>
-    requires header { IsHeader (header_view front.now.header) }
-    requires room { IfSome front.now.parts.notes
-        (λ n. front.now.parts.core + n < 2 ^ 64 - 16) }
     requires keyed { IsKeyedBy (header_view front.now.header).rules (lent_view new.now) }
     requires texts { AreTexts (plain (lent_view new.now)) }
     requires note { IsTrue (is_note note.now) }

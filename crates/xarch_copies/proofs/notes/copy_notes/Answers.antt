@@ -14,3 +14,6 @@ returns-in-Ok g c =
 
 pub returns : goal.returns
 returns g c = unnoted-memory c.args.folder.now c.args.archive.now c.args.front.now.parts (header_view c.args.front.now.header).versions (g.met.F.Folder.metered c.args.folder.now)
+
+pub start-requires : goal.start-requires
+start-requires g c = c.args.front.now.room
