@@ -8,7 +8,7 @@ use Rattle.version_set.specs.Pairs.{IsCanonical}
 use Rattle.version_set.specs.Members.{members}
 use Rattle.keyed_tree.specs.Data.{PlainKey, PlainKeyed}
 use Rattle.keyed_tree.specs.Lists.{Ascends, Has}
-use Rattle.keyed_tree.proofs.Lists.{all_has, has_map, source}
+use Rattle.jsonml_tree.proofs.Lists.{all_has, has_map, source}
 use Rattle.archive_tree.specs.Data.{PlainAlt, eff}
 use Rattle.archive_tree.specs.Stands.{AllDiffer, Stamped, has_body, nums, nums_with, first_num, head_or, bodies, AltStands}
 use Rattle.archive_tree.proofs.Those.{one_tree}

@@ -10,7 +10,7 @@ use Rattle.keyed_tree.specs.Data.{PlainLabel, PlainKeyed, label_of, kids_of}
 use Rattle.keyed_tree.specs.Kids.{kid_at}
 use Rattle.keyed_tree.specs.Lists.{Ascends, Has}
 use Rattle.keyed_tree.specs.Order.{label_cmp}
-use Rattle.keyed_tree.proofs.Lists.{source}
+use Rattle.jsonml_tree.proofs.Lists.{source}
 use Rattle.archive_tree.specs.Data.{Stamp, PlainNode, inner_node, leaf_node, PlainNodes, no_nodes, node, node_label, node_stamp, nodes_list}
 use Rattle.archive_tree.specs.Stands.{nums, under, labels, Stamped, CommonStands, RowStands, StandsFor, EachStands}
 use Rattle.archive_tree.proofs.Parts.{each_has, stands_stamped}

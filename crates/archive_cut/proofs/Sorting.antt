@@ -1,82 +1,21 @@
 -- Alternatives that a sort has put into order.
-use Rattle.std.proofs.Common.{◌≡◌, ◌≢◌, ℕ, suc, ◌≤◌, ◌<◌, ◌==◌, Bool, true, false, List, [], ◌∷◌, map, refl, ap, sym, subst, arith, eqb-true, eq-eqb}
-use Rattle.std.proofs.lemmas.Bool.Decides.{nat_tests}
+use Rattle.std.proofs.Common.{◌≡◌, ◌≢◌, ℕ, suc, ◌≤◌, ◌<◌, ◌==◌, List, [], ◌∷◌, map, refl, ap, sym, subst, arith, eqb-true, eq-eqb}
 use Rattle.std.proofs.lemmas.Cmp.{nat_cmp_total}
-use Rattle.std.proofs.lemmas.List.Sums.{sum_by-cons}
-use Rattle.std.proofs.lemmas.List.Sorted.{sum_by-IsPermutation, IsPermutation-sym, IsPermutation-map}
-use Rattle.std.specs.List.{AllByRecursion, sum_by}
+use Rattle.std.proofs.lemmas.List.Sorted.{IsPermutation-sym, IsPermutation-map}
+use Rattle.std.specs.List.{AllByRecursion}
 use Rattle.std.specs.List.Sorted.{IsPermutation, IsNonDecreasingBy}
 use Rattle.std.specs.Ordering.{nat_cmp}
 use Rattle.std.specs.declared.cmp.Ordering.TheVariants.{Less}
 use Rattle.version_set.specs.Members.{members}
 use Rattle.keyed_tree.specs.Lists.{Ascends}
-use Rattle.keyed_tree.proofs.Lists.{same_items}
+use Rattle.jsonml_tree.proofs.Lists.{all_permuted, differ_permuted, has_permuted, same_items}
 use Rattle.archive_tree.specs.Data.{PlainAlt}
 use Rattle.archive_tree.specs.Stands.{AllDiffer, first_num}
 use Rattle.archive_cut.specs.Held.{held_view, KnowsFirst, IsShortAlt, InOrder}
 use Rattle.archive_cut.specs.Sliced.{by_first}
 use Rattle.archive_cut.specs.declared.held.Held.{Held}
 use Rattle.archive_cut.proofs.LeftAlts.{has_by_first, by_first_has, by_first_ascends}
-use Rattle.record_copy.proofs.Permuted.{has_permuted, all_permuted, all_at, less}
-
--- ---- what a permutation has
-
--- ---- how often a number stands in a list
-
-abbrev one_if : Bool → ℕ
-one_if true = 1
-one_if false = 0
-
-abbrev is_at : ℕ → ℕ → ℕ
-is_at n m = one_if (m == n)
-
-abbrev times : ℕ → List ℕ → ℕ
-times n ms = sum_by (is_at n) ms
-
-itself_once : (n : ℕ) → is_at n n ≡ 1
-itself_once n = (let e : (n == n) ≡ true = eq-eqb n n refl in rw e refl)
-
-other_never : (n m : ℕ) → n ≢ m → is_at n m ≡ 0
-other_never n m other = (let e : (m == n) ≡ false = grind (arith, nat_tests) in rw e refl)
-
-never_other : (n m : ℕ) → is_at n m ≡ 0 → n ≢ m
-never_other n m e d = (let one = itself_once n in let same : is_at n m ≡ is_at n n = ap (is_at n) (sym d) in omega arith)
-
-all-never : (n : ℕ) (ms : List ℕ) → AllByRecursion (λ m. n ≢ m) ms → times n ms ≡ 0
-all-never n [] h = refl
-all-never n (m ∷ ms) h = (let more = sum_by-cons (is_at n) m ms in let this = other_never n m h.0 in let rest = all-never n ms h.1 in omega arith)
-
-never-all : (n : ℕ) (ms : List ℕ) → times n ms ≡ 0 → AllByRecursion (λ m. n ≢ m) ms
-never-all n [] e = tt
-never-all n (m ∷ ms) e = (let more = sum_by-cons (is_at n) m ms in (never_other n m (omega arith), never-all n ms (omega arith)))
-
-at_most_one : (n m : ℕ) → is_at n m ≤ 1
-at_most_one n m = elim (m == n) as (λ b. one_if b ≤ 1) [ true ↦ omega arith | false ↦ omega arith ]
-
-differ-times : (ms : List ℕ) → AllDiffer ms → (n : ℕ) → times n ms ≤ 1
-differ-times [] a n = omega arith
-differ-times (m ∷ ms) a n =
-    let more = sum_by-cons (is_at n) m ms in
-    let one = at_most_one n m in
-    elim (m == n) as (λ b. (m == n) ≡ b → times n (m ∷ ms) ≤ 1) [
-      | true ↦ λ e. (
-          let same : m ≡ n = eqb-true m n e in
-          let rest : times n ms ≡ 0 = subst (λ k. times k ms ≡ 0) same (all-never m ms a.0) in
-          omega arith)
-      | false ↦ λ e. (
-          let this : is_at n m ≡ 0 = rw e refl in
-          let rest = differ-times ms a.1 n in
-          omega arith)
-    ] refl
-
-times-differ : (ms : List ℕ) → ((n : ℕ) → times n ms ≤ 1) → AllDiffer ms
-times-differ [] h = tt
-times-differ (m ∷ ms) h =
-    let none : times m ms ≡ 0 = (let more = sum_by-cons (is_at m) m ms in let one = itself_once m in let most = h m in omega arith) in
-    (never-all m ms none, times-differ ms (λ n. (let more = sum_by-cons (is_at n) m ms in let most = h n in omega arith)))
-
-differ_permuted : (ms ns : List ℕ) → IsPermutation ms ns → AllDiffer ms → AllDiffer ns
-differ_permuted ms ns p a = times-differ ns (λ n. (let same = sum_by-IsPermutation (is_at n) ms ns p in let most = differ-times ms a n in omega arith))
+use Rattle.record_copy.proofs.Permuted.{all_at, less}
 
 -- ---- numbers that do not fall and differ ascend
 
@@ -118,7 +57,7 @@ in-order old new p up = record {
       let views = IsPermutation-map held_view old new p in
       let back = IsPermutation-sym (map held_view old) (map held_view new) views in
       let knows = all_permuted (KnowsFirst now) old new p known in
-      let apart : AllDiffer (map g (map held_view new)) = differ_permuted (map g (map held_view old)) (map g (map held_view new)) (IsPermutation-map g (map held_view old) (map held_view new) views) differ in
+      let apart : AllDiffer (map g (map held_view new)) = differ_permuted (λ m n. m == n) (λ m n. (eqb-true m n, eq-eqb m n)) (map g (map held_view old)) (map g (map held_view new)) (IsPermutation-map g (map held_view old) (map held_view new) views) differ in
       let rises : Ascends nat_cmp (map g (map held_view new)) = subst (Ascends nat_cmp) (map-map g new) (ups-ascend (λ (h : Held). h.first) (λ h. g (held_view h)) new knows (ups-of (λ (h : Held). h.first) new up) (subst AllDiffer (sym (map-map g new)) apart)) in
       same_items g nat_cmp_total (map held_view new) (by_first (members now) (map held_view old)) rises (by_first_ascends (members now) (map held_view old) differ)
       (λ z m. has_by_first (members now) z (map held_view old) (has_permuted (map held_view new) (map held_view old) back z m))

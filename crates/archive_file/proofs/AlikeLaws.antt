@@ -2,7 +2,7 @@
 use Rattle.std.proofs.Common.{List}
 use Rattle.keyed_tree.specs.Alike.{Alike, AllAlike}
 use Rattle.keyed_tree.specs.Data.{PlainKeyed}
-use Rattle.keyed_tree.proofs.Lists.{all_has}
+use Rattle.jsonml_tree.proofs.Lists.{all_has}
 use Rattle.key_spec.specs.Data.{PlainRule}
 use Rattle.key_annotate.proofs.Alikes as documents
 use Rattle.archive_file.specs.KeyedBy.{IsKeyedBy, AreKeyedBy}

@@ -4,11 +4,12 @@ use Rattle.std.specs.Prelude.{nat_le}
 use Rattle.std.proofs.lemmas.Bool.{and_parts, and_from}
 use Rattle.std.specs.List.{AllByRecursion, enumerate_from}
 use Rattle.jsonml_tree.specs.Data.{tree_depth}
+use Rattle.jsonml_tree.specs.declared.limits.TheConstants.{GREATEST_DEPTH}
 use Rattle.keyed_tree.specs.Data.{PlainKeyed, label_of}
 use Rattle.keyed_tree.specs.Lists.{Has}
 use Rattle.keyed_tree.specs.Plain.{plain}
 use Rattle.keyed_tree.specs.Proper.{is_tag}
-use Rattle.keyed_tree.proofs.Lists.{all_has, has_all, source}
+use Rattle.jsonml_tree.proofs.Lists.{all_has, has_all, source}
 use Rattle.key_spec.specs.Data.{PlainRule}
 use Rattle.archive_tree.specs.Data.{eff, PlainNode, PlainNodes, no_nodes, node, node_label, node_stamp, nodes_list, PlainArchive}
 use Rattle.archive_tree.specs.Parts.{IsArchive}
@@ -34,7 +35,7 @@ use Rattle.archive_file.proofs.Ways.{PathsLead}
 
 record NodeIsFit (rules : List PlainRule) (k : PlainNode) : Type 0 where
   fit : node_fits rules [] k ≡ true
-  shallow : is_shallow 120 k ≡ true
+  shallow : is_shallow GREATEST_DEPTH k ≡ true
 
 abbrev AreTags : PlainNodes → Type 0
 AreTags ks = AllByRecursion (λ k. IsTrue (is_tag (node_label k).name)) (nodes_list ks)
@@ -43,26 +44,26 @@ chosen : (b x y : Bool) → b ≡ true → cond b x y ≡ x
 chosen true x y e = refl
 chosen false x y e = absurd (true≢false (sym e))
 
-roots-fit : (rules : List PlainRule) (ks : PlainNodes) → AreTags ks → are_shallow 120 ks ≡ true → nodes_fit rules [] ks ≡ true → (k : PlainNode) → Has k (nodes_list ks) → NodeIsFit rules k
+roots-fit : (rules : List PlainRule) (ks : PlainNodes) → AreTags ks → are_shallow GREATEST_DEPTH ks ≡ true → nodes_fit rules [] ks ≡ true → (k : PlainNode) → Has k (nodes_list ks) → NodeIsFit rules k
 roots-fit rules no_nodes tags d f k m = absurd m
 roots-fit rules (node j ks) tags d f k m =
-    let deep = and_parts (cond (is_tag (node_label j).name) (is_shallow 120 j) true) (are_shallow 120 ks) d in
+    let deep = and_parts (cond (is_tag (node_label j).name) (is_shallow GREATEST_DEPTH j) true) (are_shallow GREATEST_DEPTH ks) d in
     let fit = and_parts (cond (is_tag (node_label j).name) (node_fits rules [] j) (is_attr_node j)) (nodes_fit rules [] ks) f in
     elim m [
       | inl e ↦ subst (NodeIsFit rules) e (record {
         fit = sym (chosen (is_tag (node_label j).name) (node_fits rules [] j) (is_attr_node j) tags.0) ∙ fit.0;
-        shallow = sym (chosen (is_tag (node_label j).name) (is_shallow 120 j) true tags.0) ∙ deep.0;
+        shallow = sym (chosen (is_tag (node_label j).name) (is_shallow GREATEST_DEPTH j) true tags.0) ∙ deep.0;
       })
       | inr n ↦ roots-fit rules ks tags.1 deep.1 fit.1 k n
     ]
 
-fit-roots : (rules : List PlainRule) (ks : PlainNodes) → AreTags ks → ((k : PlainNode) → Has k (nodes_list ks) → NodeIsFit rules k) → (are_shallow 120 ks ≡ true) × (nodes_fit rules [] ks ≡ true)
+fit-roots : (rules : List PlainRule) (ks : PlainNodes) → AreTags ks → ((k : PlainNode) → Has k (nodes_list ks) → NodeIsFit rules k) → (are_shallow GREATEST_DEPTH ks ≡ true) × (nodes_fit rules [] ks ≡ true)
 fit-roots rules no_nodes tags h = (refl, refl)
 fit-roots rules (node j ks) tags h =
     let own = h j (inl refl) in
     let rest = fit-roots rules ks tags.1 (λ k m. h k (inr m)) in
     let is_element : is_tag (node_label j).name ≡ true = tags.0 in (
-      and_from (cond (is_tag (node_label j).name) (is_shallow 120 j) true) (are_shallow 120 ks) (chosen (is_tag (node_label j).name) (is_shallow 120 j) true is_element ∙ own.shallow) rest.0,
+      and_from (cond (is_tag (node_label j).name) (is_shallow GREATEST_DEPTH j) true) (are_shallow GREATEST_DEPTH ks) (chosen (is_tag (node_label j).name) (is_shallow GREATEST_DEPTH j) true is_element ∙ own.shallow) rest.0,
       and_from (cond (is_tag (node_label j).name) (node_fits rules [] j) (is_attr_node j)) (nodes_fit rules [] ks) (chosen (is_tag (node_label j).name) (node_fits rules [] j) (is_attr_node j) is_element ∙ own.fit) rest.1,
     )
 
@@ -133,8 +134,8 @@ module _ (vs : List PlainKeyed) (a : PlainArchive) (h : ArchiveOf vs a) where
     told : (k : PlainNode) → Has k (nodes_list a.kids) → Tells (eff (node_stamp k) (all_numbers a)) (λ n. fits rules [] (read n (all_numbers a) k)) (node_fits rules [] k)
     told k m = fits-tell rules [] k (all_numbers a) (range-ascend 1 a.n) (well-has a.kids (all_numbers a) k well.kids m)
 
-    level : (k : PlainNode) → Has k (nodes_list a.kids) → Tells (eff (node_stamp k) (all_numbers a)) (λ n. nat_le (tree_depth (plain (read n (all_numbers a) k))) 120) (is_shallow 120 k)
-    level k m = level-tells 120 k (all_numbers a) (well-has a.kids (all_numbers a) k well.kids m)
+    level : (k : PlainNode) → Has k (nodes_list a.kids) → Tells (eff (node_stamp k) (all_numbers a)) (λ n. nat_le (tree_depth (plain (read n (all_numbers a) k))) GREATEST_DEPTH) (is_shallow GREATEST_DEPTH k)
+    level k m = level-tells GREATEST_DEPTH k (all_numbers a) (well-has a.kids (all_numbers a) k well.kids m)
 
     node-fit : AreKeyedBy rules vs → (k : PlainNode) → Has k (nodes_list a.kids) → NodeIsFit rules k
     node-fit keyed k m =
@@ -153,6 +154,6 @@ module _ (vs : List PlainKeyed) (a : PlainArchive) (h : ArchiveOf vs a) where
     -- the test tells whether the versions are keyed
     pub archive-keyed : IsTrue (is_archive_keyed rules a) ↔ AreKeyedBy rules vs
     archive-keyed = (
-      λ e. (let two = and_parts (are_shallow 120 a.kids) (nodes_fit rules [] a.kids) e in has_all (IsKeyedBy rules) vs (version-keyed (roots-fit rules a.kids well.elements two.0 two.1))),
-      λ keyed. (let two = fit-roots rules a.kids well.elements (node-fit keyed) in and_from (are_shallow 120 a.kids) (nodes_fit rules [] a.kids) two.0 two.1),
+      λ e. (let two = and_parts (are_shallow GREATEST_DEPTH a.kids) (nodes_fit rules [] a.kids) e in has_all (IsKeyedBy rules) vs (version-keyed (roots-fit rules a.kids well.elements two.0 two.1))),
+      λ keyed. (let two = fit-roots rules a.kids well.elements (node-fit keyed) in and_from (are_shallow GREATEST_DEPTH a.kids) (nodes_fit rules [] a.kids) two.0 two.1),
     )

@@ -8,7 +8,7 @@ use Rattle.key_spec.specs.Data.{PlainRule}
 use Rattle.keyed_tree.specs.Data.{PlainName, attr, tag, PlainKey, scalar, inside, PlainKeyed, kid, label_of}
 use Rattle.keyed_tree.specs.Lists.{Has}
 use Rattle.keyed_tree.specs.Plain.{content_of, item_onto, plain, items_among}
-use Rattle.keyed_tree.proofs.Lists.{has_all}
+use Rattle.jsonml_tree.proofs.Lists.{has_all}
 use Rattle.version_set.specs.Members.{has, upto_pairs}
 use Rattle.archive_tree.specs.Data.{eff, PlainAlt, PlainNode, inner_node, leaf_node, PlainNodes, no_nodes, node, node_stamp, nodes_list}
 use Rattle.archive_tree.specs.Read.{body_at, read, read_row}

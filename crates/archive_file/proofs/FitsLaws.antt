@@ -15,7 +15,7 @@ use Rattle.keyed_tree.specs.Order.{label_cmp}
 use Rattle.keyed_tree.specs.Plain.{name_bytes, attr_before, attr_onto, attrs_among, item_onto, items_among, plain}
 use Rattle.keyed_tree.specs.Proper.{is_tag, has_no_keys, is_scalar}
 use Rattle.keyed_tree.proofs.Kids.{kids_from-kids_list, ascend-all}
-use Rattle.keyed_tree.proofs.Lists.{any_has, has_all, has_any, not_itself}
+use Rattle.jsonml_tree.proofs.Lists.{any_has, has_all, has_any, not_itself}
 use Rattle.key_spec.specs.Data.{PlainPath, PlainRule}
 use Rattle.key_spec.specs.Rules.{rule_of, is_frontier, below}
 use Rattle.key_rules.specs.Labels.{PlainLabelFault, and_then, one_of, keys_from, label_by, label_in}

@@ -4,7 +4,6 @@ pub mod FitsLaws
 pub mod Tells
 pub mod Levels
 pub mod Nodes
-pub mod Frontier
 pub mod AllVersions
 pub mod KeyedLaws
 pub mod AlikeLaws

@@ -2,6 +2,7 @@
 use Rattle.std.proofs.Common.{◌≡◌, ℕ, ◌-◌, ltb, List, [], ◌∷◌, ◌++◌, map, length, refl, sym, ap, subst, ◌∙◌, append_assoc}
 use Rattle.std.specs.List.{flat_map}
 use Rattle.std.proofs.lemmas.List.{append-nil}
+use Rattle.jsonml_tree.specs.declared.limits.TheConstants.{GREATEST_DEPTH}
 use Rattle.key_spec.specs.Data.{PlainRule}
 use Rattle.keyed_tree.specs.Data.{PlainKeyed}
 use Rattle.keyed_tree.proofs.Kids.{both}
@@ -73,7 +74,7 @@ sound-one rules vs others us bytes s z =
     let a = s.file.archive in
     let b = z.file.archive in
     let h = sound-reads rules vs bytes s others (length us) (behind_header b) (sound-header_at others us bytes z) in
-    let kids = row-one (upto_pairs a.n) (upto_pairs b.n) a.kids b.kids (tail_bytes a) (tail_bytes b) 120 120 (behind_header b) (sound-row rules vs bytes s (behind_header b) h.now_is) (sound-row others us bytes z (behind_header b) refl) in
+    let kids = row-one (upto_pairs a.n) (upto_pairs b.n) a.kids b.kids (tail_bytes a) (tail_bytes b) GREATEST_DEPTH GREATEST_DEPTH (behind_header b) (sound-row rules vs bytes s (behind_header b) h.now_is) (sound-row others us bytes z (behind_header b) refl) in
     let count : a.n ≡ b.n = sym h.count ∙ z.file.is.count in
     let same : a ≡ b = (λ i. record { n = count i; kids = kids i }) in
     (sym h.specification, one_list vs us b (subst (ArchiveOf vs) same s.file.is) z.file.is)

@@ -8,7 +8,7 @@ use Rattle.keyed_tree.specs.Laws.{key_cmp-is_eq}
 use Rattle.keyed_tree.specs.Lists.{Has}
 use Rattle.keyed_tree.specs.Plain.{plain}
 use Rattle.keyed_tree.proofs.Kids.{has_found}
-use Rattle.keyed_tree.proofs.Lists.{all_has, has_all}
+use Rattle.jsonml_tree.proofs.Lists.{all_has, has_all}
 use Rattle.key_spec.specs.Closed.{IsClosed}
 use Rattle.key_spec.specs.Data.{PlainRule}
 use Rattle.version_set.specs.Members.{has, members, numbers, upto_pairs}

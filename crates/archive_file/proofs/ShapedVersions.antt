@@ -9,6 +9,7 @@ use Rattle.std.specs.Str.{IsUtf8, bytes_eq}
 use Rattle.std.proofs.lemmas.Bool.Decides.{nat_tests}
 use Rattle.jsonml_tree.specs.Data.{PlainScalar, null, boolean, whole, string, PlainAttr, PlainTree, text, element, PlainContent, content, PlainTrees, no_trees, tree, tree_depth, content_depth, trees_depth}
 use Rattle.jsonml_tree.specs.WellFormed.{is_in_range, is_ascending, are_in_range, is_well_formed, is_content_well_formed, are_well_formed}
+use Rattle.jsonml_tree.specs.declared.limits.TheConstants.{GREATEST_DEPTH}
 use Rattle.jsonml_text.specs.Texts.{IsScalarText, AreAttrTexts, AreTexts, AreContentTexts, AreItemTexts}
 use Rattle.keyed_tree.specs.Data.{PlainName, attr, tag, PlainKey, scalar, inside, PlainLabel, PlainKeyed, inner, leaf, PlainKids, no_kids, kid, kids_list, label_of, name_bytes}
 use Rattle.keyed_tree.specs.Kids.{ascend, kid_at}
@@ -89,9 +90,9 @@ abbrev mutual
 record Spell (xs : List PlainAttr) (ts : PlainTrees) : Type 0 where
   attrs : AreAttrTexts xs
   items : AreItemTexts ts
-  depth : trees_depth ts ≤ 120
+  depth : trees_depth ts ≤ GREATEST_DEPTH
 
-leaf-filled : (n : PlainName) (keys : List PlainKey) (b : PlainKey) → IsTrue (is_tag n) → IsTrue (is_leaf_proper n keys b) → IsTrue (is_key_well_formed b) → AreContentTexts (content_of b) → suc (content_depth (content_of b)) ≤ 120 → IsShapedValue b
+leaf-filled : (n : PlainName) (keys : List PlainKey) (b : PlainKey) → IsTrue (is_tag n) → IsTrue (is_leaf_proper n keys b) → IsTrue (is_key_well_formed b) → AreContentTexts (content_of b) → suc (content_depth (content_of b)) ≤ GREATEST_DEPTH → IsShapedValue b
 leaf-filled (attr s) keys b e p w t d = absurd (true≢false (sym e))
 leaf-filled (tag s) keys (scalar v) e p w t d = absurd (true≢false (sym p))
 leaf-filled (tag s) keys (inside c) e p w t d = (content-shaped c w t, omega arith)
@@ -105,12 +106,12 @@ leaf-kid (tag s) keys (inside c) xs ts p w h =
     let d = h.depth in
     ((h.items.0.0, (content-shaped c w h.items.0.1, omega arith)), record { attrs = h.attrs; items = h.items.1; depth = omega arith })
 
-inner-kid : (n : PlainName) (t : PlainTree) (xs : List PlainAttr) (ts : PlainTrees) → IsTrue (is_tag n) → Spell xs (item_onto n t ts) → (AreTexts t × (tree_depth t ≤ 120)) × Spell xs ts
+inner-kid : (n : PlainName) (t : PlainTree) (xs : List PlainAttr) (ts : PlainTrees) → IsTrue (is_tag n) → Spell xs (item_onto n t ts) → (AreTexts t × (tree_depth t ≤ GREATEST_DEPTH)) × Spell xs ts
 inner-kid (attr s) t xs ts e h = absurd (true≢false (sym e))
 inner-kid (tag s) t xs ts e h = (let d = h.depth in ((h.items.0, omega arith), record { attrs = h.attrs; items = h.items.1; depth = omega arith }))
 
 mutual
-  element-filled : (k : PlainKeyed) → IsElement k → IsProper k → IsKeyedWellFormed k → AreTexts (plain k) → tree_depth (plain k) ≤ 120 → IsFilled k
+  element-filled : (k : PlainKeyed) → IsElement k → IsProper k → IsKeyedWellFormed k → AreTexts (plain k) → tree_depth (plain k) ≤ GREATEST_DEPTH → IsFilled k
   element-filled (leaf l b) e p w t d = (let two = both (is_label_well_formed l) (is_key_well_formed b) w in (t.0, leaf-filled l.name l.keys b e p two.1 t.1 d))
   element-filled (inner l ks) e p w t d =
       let proper = both (is_tag l.name && ascend ks) (are_proper ks) p in

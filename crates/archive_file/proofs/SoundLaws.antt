@@ -1,6 +1,7 @@
 -- What a sound archive says of its bytes.
 use Rattle.std.proofs.Common.{◌≡◌, ℕ, ◌-◌, ◌≤◌, Bool, true, false, cond, ltb, not, ◌&&◌, IsTrue, List, [], ◌∷◌, ◌++◌, map, length, Option, Some, None, refl, sym, ap, subst, ◌∙◌, true≢false, arith}
 use Rattle.std.specs.List.{flat_map, AllByRecursion}
+use Rattle.jsonml_tree.specs.declared.limits.TheConstants.{GREATEST_DEPTH}
 use Rattle.key_spec.specs.Data.{PlainRule}
 use Rattle.key_spec.specs.Canonical.{canonical}
 use Rattle.key_spec.specs.Rules.{rule_of, is_frontier, below}
@@ -83,13 +84,13 @@ mutual
       let fit = both (cond (is_tag (node_label k).name) (node_fits rules path k) (is_attr_node k)) (nodes_fit rules path ks) g in
       both-hold (is_nested d k) (are_nested d ks) (kid-nests rules path d k (is_tag (node_label k).name) (λ x y. node-nests rules path d k x y) deep.0 fit.0) (nodes-nest rules path d ks deep.1 fit.1)
 
-sound-nested : (rules : List PlainRule) (vs : List PlainKeyed) (bytes : List ℕ) (s : SoundAs rules vs bytes) → IsTrue (are_nested 120 s.file.archive.kids)
+sound-nested : (rules : List PlainRule) (vs : List PlainKeyed) (bytes : List ℕ) (s : SoundAs rules vs bytes) → IsTrue (are_nested GREATEST_DEPTH s.file.archive.kids)
 sound-nested rules vs bytes s =
     let a = s.file.archive in
     let formed = row-well (upto_pairs a.n) a.kids s.file.has.records in
     let told = (archive-keyed vs a s.file.is rules (closed-lead rules (canonical rules, s.specification)) formed).1 s.keyed in
-    let two = both (are_shallow 120 a.kids) (nodes_fit rules [] a.kids) told in
-    nodes-nest rules [] 120 a.kids two.0 two.1
+    let two = both (are_shallow GREATEST_DEPTH a.kids) (nodes_fit rules [] a.kids) told in
+    nodes-nest rules [] GREATEST_DEPTH a.kids two.0 two.1
 
 -- the same of the archive of its versions
 pub versions-nested : (rules : List PlainRule) (vs : List PlainKeyed) (bytes : List ℕ) (a : PlainArchive) → SoundAs rules vs bytes → ArchiveOf vs a → IsTrue (are_nested deepest a.kids)
@@ -98,7 +99,7 @@ versions-nested rules vs bytes a s at = subst (λ (b : PlainArchive). IsTrue (ar
 -- ---- what a reader of its bytes finds
 
 pub sound-row : (rules : List PlainRule) (vs : List PlainKeyed) (bytes : List ℕ) (s : SoundAs rules vs bytes) (now : List ℕ) → now ≡ behind_header s.file.archive
-    → RowAt (upto_pairs s.file.archive.n) s.file.archive.kids (tail_bytes s.file.archive) 120 now
+    → RowAt (upto_pairs s.file.archive.n) s.file.archive.kids (tail_bytes s.file.archive) GREATEST_DEPTH now
 sound-row rules vs bytes s now e = record { records = s.file.has.records; nested = sound-nested rules vs bytes s; bytes = e }
 
 -- the header that was read is that of the sound archive

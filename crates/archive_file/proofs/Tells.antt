@@ -11,7 +11,7 @@ use Rattle.keyed_tree.specs.Kids.{kid_at}
 use Rattle.keyed_tree.specs.Laws.{label_cmp_total}
 use Rattle.keyed_tree.specs.Lists.{Ascends, Has}
 use Rattle.keyed_tree.specs.Order.{label_cmp}
-use Rattle.keyed_tree.proofs.Lists.{all_has, has_map, source}
+use Rattle.jsonml_tree.proofs.Lists.{all_has, has_map, source}
 use Rattle.keyed_tree.proofs.Kids.{found_at, has_found}
 use Rattle.archive_tree.specs.Data.{Stamp, eff, PlainAlt, PlainNode, inner_node, leaf_node, PlainNodes, no_nodes, node, node_label, node_stamp, nodes_list}
 use Rattle.archive_tree.specs.Parts.{IsStampWell, AreAltsWell, IsNodeWell, AreNodesWell}

@@ -17,7 +17,7 @@ use Rattle.keyed_tree.specs.Laws.{key_cmp-is_eq}
 use Rattle.keyed_tree.specs.Lists.{Ascends, Has}
 use Rattle.keyed_tree.specs.Order.{key_cmp, label_cmp}
 use Rattle.keyed_tree.proofs.Kids.{kids_list-kids_from, ascend-all, found_at, has_found}
-use Rattle.keyed_tree.proofs.Lists.{all_has, any_has}
+use Rattle.jsonml_tree.proofs.Lists.{all_has, any_has}
 use Rattle.key_spec.specs.Data.{PlainPath, PlainRule}
 use Rattle.key_spec.specs.Rules.{place_cmp, path_cmp, name_cmp, rule_of, is_frontier, below}
 use Rattle.key_rules.specs.Labels.{and_then, keys_from, label_by, label_in}

@@ -1,6 +1,5 @@
 pub mod KeyedBy
 pub mod NodeFits
-pub mod Known
 pub mod Sound
 pub mod Faults
 pub mod Goes

@@ -5,12 +5,13 @@ use Rattle.std.specs.List.{list_all}
 use Rattle.std.specs.Option.{option_map, is_none}
 use Rattle.std.specs.Ordering.{is_eq}
 use Rattle.jsonml_tree.specs.Data.{PlainContent, content_depth}
+use Rattle.jsonml_tree.specs.declared.limits.TheConstants.{GREATEST_DEPTH}
 use Rattle.keyed_tree.specs.Data.{attr, tag, PlainKey, scalar, inside, PlainLabel}
 use Rattle.keyed_tree.specs.Order.{key_cmp}
 use Rattle.keyed_tree.specs.Plain.{name_bytes, content_of}
 use Rattle.keyed_tree.specs.Proper.{is_tag, has_no_keys, is_scalar, is_content}
 use Rattle.key_spec.specs.Data.{PlainPath, PlainRule}
-use Rattle.key_spec.specs.Rules.{rule_of, tagged, is_frontier, below}
+use Rattle.key_spec.specs.Rules.{rule_of, is_frontier, below}
 use Rattle.key_rules.specs.Reach.{attrs_in, scalar_named}
 use Rattle.archive_tree.specs.Data.{PlainAlt, PlainNode, inner_node, leaf_node, PlainNodes, no_nodes, node, node_label, node_stamp, node_kids, nodes_list, PlainArchive}
 use Rattle.archive_tree.specs.Seek.{node_with}
@@ -100,17 +101,9 @@ abbrev pub inside_fits : List PlainRule → List (List ℕ) → PlainNode → Bo
 inside_fits rules path (leaf_node l s xs) = is_frontier rules path && list_all (λ (x : PlainAlt). is_content x.body) xs
 inside_fits rules path (inner_node l s ks) = not (is_frontier rules path) && nodes_fit rules path ks
 
--- Of a node at the frontier, by the rules of its context: an attribute's leaf, or a leaf with contents.
-abbrev pub leaf_fits : List PlainRule → PlainNode → Bool
-leaf_fits rules (inner_node l s ks) = false
-leaf_fits rules (leaf_node l s xs) =
-    if is_tag l.name
-    then node_has_keys (tagged rules (name_bytes l.name)) l.keys (leaf_node l s xs) && list_all (λ (x : PlainAlt). is_content x.body) xs
-    else is_attr_node (leaf_node l s xs)
-
-abbrev pub leaves_fit : List PlainRule → PlainNodes → Bool
-leaves_fit rules no_nodes = true
-leaves_fit rules (node k ks) = leaf_fits rules k && leaves_fit rules ks
+-- A kid of an inner node with this path: an attribute's leaf, or an element's node.
+abbrev pub kid_fits : List PlainRule → List (List ℕ) → PlainNode → Bool
+kid_fits rules path k = if is_tag (node_label k).name then node_fits rules path k else is_attr_node k
 
 -- ---- levels
 
@@ -127,4 +120,4 @@ abbrev mutual
 
 -- every version is keyed by the rules
 abbrev pub is_archive_keyed : List PlainRule → PlainArchive → Bool
-is_archive_keyed rules a = are_shallow 120 a.kids && nodes_fit rules [] a.kids
+is_archive_keyed rules a = are_shallow GREATEST_DEPTH a.kids && nodes_fit rules [] a.kids

@@ -3,6 +3,7 @@ ghost use Rattle.std.specs.Prelude.{◌≡◌, ◌≤◌, ◌&&◌, List, length
 ghost use Rattle.std.specs.List.{AllByRecursion};
 ghost use Rattle.jsonml_tree.specs.Data.{tree_depth};
 ghost use Rattle.jsonml_tree.specs.Fits.{ItemsFit};
+ghost use Rattle.jsonml_tree.specs.declared.limits.TheConstants.{GREATEST_DEPTH};
 ghost use Rattle.key_spec.specs.Canonical.{canonical};
 ghost use Rattle.key_spec.specs.Closed.{closed};
 ghost use Rattle.key_spec.specs.Data.{PlainRule};
@@ -14,6 +15,7 @@ ghost use Rattle.archive_tree.specs.ArchiveView.{archive_view};
 ghost use Rattle.keyed_tree.specs.Alike.{AllAlike};
 ghost use Rattle.archive_tree.specs.Stands.{ArchiveOf};
 ghost use Rattle.xa_fields.specs.Spelling.{u64_bytes};
+ghost use Rattle.record_parts.specs.declared.limits.TheConstants.{MOST_VERSIONS};
 ghost use Rattle.record_format.specs.Files.{longest, FileOf};
 ghost use Rattle.archive_file.specs.Faults.{IfDamage};
 ghost use Rattle.archive_file.specs.KeyedBy.{AreKeyedBy};
@@ -25,8 +27,9 @@ use crate::front::read_header;
 use crate::keyedness::is_keyed;
 use crate::reading::read_row;
 use archive_tree::Archive;
+use jsonml_tree::GREATEST_DEPTH;
 use key_spec::Spec;
-use record_format::{DEEPEST, LONGEST};
+use record_format::LONGEST;
 use std::alloc::Global;
 use version_set::VersionSet;
 
@@ -54,10 +57,10 @@ pub fn decode_file(alloc: Global, bytes: &[u8]) -> Result<(Spec, Archive), FileF
 
     // Each version is proper, and as a document no deeper than others.
     ensures plain { (rules : List PlainRule) (vs : List PlainKeyed) → SoundAs rules vs bytes.now
-        → AllByRecursion (λ v. IsProper v × (tree_depth (plain v) ≤ 120)) vs }
+        → AllByRecursion (λ v. IsProper v × (tree_depth (plain v) ≤ GREATEST_DEPTH)) vs }
 
     // It can be written again.
-    ensures few { IfOk result (λ r. (archive_view r.1).n ≤ 999999) }
+    ensures few { IfOk result (λ r. (archive_view r.1).n ≤ MOST_VERSIONS) }
     ensures keyed { IfOk result (λ r. (vs : List PlainKeyed)
         → ArchiveOf vs (archive_view r.1) → AreKeyedBy (spec_view r.0) vs) }
 
@@ -80,12 +83,12 @@ fn read_archive(alloc: Global, bytes: &[u8]) -> Result<(Spec, Archive), FileFaul
         ≡ Ok (spec_view r.0)) }
     ensures file { IfOk result (λ r. (vs : List PlainKeyed)
         → ArchiveOf vs (archive_view r.1) → FileOf (spec_view r.0) vs bytes.now) }
-    ensures few { IfOk result (λ r. (archive_view r.1).n ≤ 999999) }
-    ensures nested { IfOk result (λ r. IsTrue (are_nested 120 (archive_view r.1).kids)) }
+    ensures few { IfOk result (λ r. (archive_view r.1).n ≤ MOST_VERSIONS) }
+    ensures nested { IfOk result (λ r. IsTrue (are_nested GREATEST_DEPTH (archive_view r.1).kids)) }
 {
     let (spec, n, at) = read_header(alloc, bytes)?;
     let all = VersionSet::upto(alloc, n);
-    let (kids, end, dir) = read_row(alloc, bytes, at, DEEPEST, &all)?;
+    let (kids, end, dir) = read_row(alloc, bytes, at, GREATEST_DEPTH, &all)?;
     if !is_closed(bytes, end, dir) {
         return Err(FileFault::Damage);
     }

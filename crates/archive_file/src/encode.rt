@@ -9,6 +9,7 @@ ghost use Rattle.archive_tree.specs.ArchiveView.{archive_view};
 ghost use Rattle.archive_tree.specs.Data.{nodes_list};
 ghost use Rattle.archive_tree.specs.Stands.{ArchiveOf};
 ghost use Rattle.archive_tree.specs.View.{alt_view, node_view, nodes_view};
+ghost use Rattle.record_parts.specs.declared.limits.TheConstants.{MOST_VERSIONS};
 ghost use Rattle.record_format.specs.View.{entry_view};
 ghost use Rattle.record_format.specs.Spelling.{rec_bytes, dir_bytes};
 ghost use Rattle.record_format.specs.Nodes.{piece_bytes, entries_from, dir_of, closed_by_end, alt_of, node_piece, node_pieces};
@@ -27,14 +28,14 @@ use record_format::{
 };
 use std::alloc::{AllocError, Global};
 use version_set::VersionSet;
-use xa_fields::put_u64;
+use xa_fields::append_u64;
 
 /// The bytes of the archive file of an archive under a specification that keys its versions.
 ///
 /// TooLong where a text or a list has 2^32 bytes or items or more, or the whole more than 274,877,906,944 bytes. Each byte
 /// is written once; a directory of k children takes k log k steps.
 pub fn encode_file(alloc: Global, spec: &Spec, archive: &Archive) -> Result<Vec<u8>, EncodeFault>
-    requires few { (archive_view archive.now).n ≤ 999999 }
+    requires few { (archive_view archive.now).n ≤ MOST_VERSIONS }
     requires keyed { (vs : List PlainKeyed)
         → ArchiveOf vs (archive_view archive.now) → AreKeyedBy (spec_view spec.now) vs }
     ensures file { IfOk result (λ v. (vs : List PlainKeyed)
@@ -63,7 +64,7 @@ fn file_of(alloc: Global, spec: &Spec, archive: &Archive) -> Result<Vec<u8>, All
     put_header(alloc, &mut out, spec, archive.n())?;
     let all = VersionSet::upto(alloc, archive.n());
     let dir = put_row(alloc, &mut out, &all, archive.kids())?;
-    put_u64(&mut out, dir)?;
+    append_u64(&mut out, dir)?;
     Ok(out)
 }
 

@@ -11,9 +11,7 @@ use archive_tree::{ANode, effective};
 use record_format::{Entry, FRAME, put_end};
 use std::alloc::{AllocError, Global};
 use version_set::VersionSet;
-
-/// Counts have four bytes.
-pub(crate) const FOUR_BYTES: usize = 4_294_967_296;
+use xa_fields::FIELD;
 
 /// An interval of a set takes so many bytes.
 const PAIR: usize = 8;
@@ -66,7 +64,7 @@ pub(crate) fn is_directory(
         (dir_bytes (dir_with (map entry_view entries.now) (pairs_of parent.now) (nodes_view nodes.now)))
         body.now)) }
 {
-    if nodes.len() >= FOUR_BYTES {
+    if nodes.len() >= FIELD {
         return Ok(false);
     }
     let sets = sets_of(alloc, parent, nodes)?;

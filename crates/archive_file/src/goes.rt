@@ -3,9 +3,9 @@ ghost use Rattle.std.specs.Prelude.{◌≡◌, map};
 ghost use Rattle.archive_tree.specs.View.{alt_view, node_view, nodes_view};
 ghost use Rattle.archive_file.specs.Goes.{alts_go, node_goes, nodes_go, row_goes};
 
-use crate::ends::FOUR_BYTES;
 use archive_tree::{ANode, Alt};
 use record_format::{is_label, is_stamp, is_value};
+use xa_fields::FIELD;
 
 fn alts_go(alts: &[Alt]) -> bool
     ensures { result ≡ alts_go (map alt_view alts.now) }
@@ -25,7 +25,7 @@ fn node_goes(node: &ANode) -> bool
 {
     match node {
         ANode::Inner { label, stamp, kids } => {
-            if !is_label(label) || !is_stamp(stamp) || kids.len() >= FOUR_BYTES {
+            if !is_label(label) || !is_stamp(stamp) || kids.len() >= FIELD {
                 return false;
             }
             nodes_go(kids)
@@ -54,5 +54,5 @@ fn nodes_go(nodes: &[ANode]) -> bool
 pub fn row_goes(nodes: &[ANode]) -> bool
     ensures { result ≡ row_goes (nodes_view nodes.now) }
 {
-    nodes.len() < FOUR_BYTES && nodes_go(nodes)
+    nodes.len() < FIELD && nodes_go(nodes)
 }

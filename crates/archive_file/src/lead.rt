@@ -23,17 +23,14 @@ use key_spec::{KeyPath, Rule};
 use keyed_tree::{Body, KeyVal, Label, Name};
 use std::cmp::Ordering;
 
-/// Whether there is a rule, and its key paths lead to the node's key values in every version.
+/// Whether the rule's key paths lead to the node's key values in every version.
 #[tactic(auto, using(crate::proofs::Nodes::sorted))]
-pub(crate) fn has_keys(found: Option<&Rule>, node: &ANode) -> bool
+pub(crate) fn has_keys(rule: &Rule, node: &ANode) -> bool
     requires { IsTrue (is_sorted (node_view node.now)) }
-    ensures { result ≡ node_has_keys (option_map (λ r. rule_view r.now) found.entry)
+    ensures { result ≡ node_has_keys (Some (rule_view rule.now))
         (node_label (node_view node.now)).keys (node_view node.now) }
 {
-    match found {
-        Some(rule) => do_lead(&rule.paths, &node.label().keys, node),
-        None => false,
-    }
+    do_lead(&rule.paths, &node.label().keys, node)
 }
 
 fn do_lead(paths: &[KeyPath], keys: &[KeyVal], node: &ANode) -> bool

@@ -16,7 +16,9 @@ mod reading;
 pub use decode::decode_file;
 pub use encode::encode_file;
 pub use fault::{EncodeFault, FileFault};
+pub use front::header_of;
 pub use keyedness::is_keyed;
 pub use laws::{
     files_do_not_end_in_a_mark, keyed_versions_can_be_merged, sound_archives_have_one_reading,
 };
+pub use record_format::fixed_of;

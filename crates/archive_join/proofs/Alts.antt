@@ -10,7 +10,7 @@ use Rattle.keyed_tree.specs.Data.{PlainKey, PlainKeyed}
 use Rattle.keyed_tree.specs.Laws.{key_cmp-is_eq}
 use Rattle.keyed_tree.specs.Lists.{Ascends, Has}
 use Rattle.keyed_tree.specs.Order.{key_cmp}
-use Rattle.keyed_tree.proofs.Lists.{all_has}
+use Rattle.jsonml_tree.proofs.Lists.{all_has}
 use Rattle.archive_tree.specs.Data.{Stamp, PlainAlt}
 use Rattle.archive_tree.specs.Stands.{AllDiffer, Stamped, nums, those, nums_with, has_body, passed, first_num, head_or, bodies, AltStands}
 use Rattle.archive_tree.proofs.Those.{onto, all_those}

@@ -8,7 +8,7 @@ use Rattle.keyed_tree.specs.Data.{PlainLabel, PlainKeyed}
 use Rattle.keyed_tree.specs.Kids.{IsOrdered}
 use Rattle.keyed_tree.specs.Lists.{Has}
 use Rattle.keyed_tree.specs.Proper.{IsElement}
-use Rattle.keyed_tree.proofs.Lists.{source}
+use Rattle.jsonml_tree.proofs.Lists.{source}
 use Rattle.archive_tree.specs.Data.{nodes_list, PlainArchive}
 use Rattle.archive_tree.specs.Stands.{nums, passed, rooted, numbered, RowStands, EachStands, ArchiveOf}
 use Rattle.archive_tree.proofs.Those.{all_those, labelled, rooted_has, nums-enumerate}

@@ -15,7 +15,7 @@ use Rattle.keyed_tree.specs.Data.{PlainKey}
 use Rattle.keyed_tree.specs.Laws.{key_cmp-is_eq}
 use Rattle.keyed_tree.specs.Lists.{Has}
 use Rattle.keyed_tree.specs.Order.{key_cmp}
-use Rattle.keyed_tree.proofs.Lists.{all_has, has_map}
+use Rattle.jsonml_tree.proofs.Lists.{all_has, all_permuted, differ_permuted, has_map, has_permuted}
 use Rattle.archive_tree.specs.Data.{Stamp, PlainAlt}
 use Rattle.archive_tree.specs.Stands.{AllDiffer, bodies}
 use Rattle.archive_tree.specs.View.{stamp_view}
@@ -29,8 +29,8 @@ use Rattle.archive_join.specs.Leaves.{alternatives_view}
 use Rattle.archive_join.specs.Short.{IsMadeOf}
 use Rattle.archive_join.specs.declared.held.Entry.{Entry}
 use Rattle.archive_join.specs.declared.held.Held.{Held}
-use Rattle.archive_join.proofs.Permuted.{differ_permuted, get_has, in_place, items_placed, map-map, sorted_keys}
-use Rattle.record_copy.proofs.Permuted.{has_permuted, all_permuted, all_at}
+use Rattle.archive_join.proofs.Permuted.{get_has, in_place, items_placed, map-map, sorted_keys}
+use Rattle.record_copy.proofs.Permuted.{all_at}
 
 -- ---- the alternative with a body
 

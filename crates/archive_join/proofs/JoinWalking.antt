@@ -80,20 +80,6 @@ abbrev pub moreover : Option JoinFault → Result Bool JoinFault
 moreover None = Ok true
 moreover (Some f) = Err f
 
--- memory fails before it
-pub turn-memory : (n : ℕ) (p q both : List (ℕ × ℕ)) (one two : Option PlainHead) (s : State) → IsMeter s.numbers → s.first.at ≤ s.first.length → s.second.at ≤ s.second.length → TurnJoined n p q both one two one two s s (Err fault.Memory)
-turn-memory n p q both one two s meter left right = record {
-  made = [];
-  next = call_finish;
-  run = run-none call_finish s s (Some Memory) (λ d. absurd cc) refl (passes-none s (Some Memory) meter left right (λ d. absurd cc));
-  rests = tt;
-  onward = tt;
-  short = λ b x y few some heads. (short-none (IsMadeOf b n) b call_finish (Some Memory) (λ d. absurd cc), tt);
-  first = λ ks behind l. tt;
-  second = λ js behind l. tt;
-  rows = λ ks js others more l r fits. tt;
-}
-
 -- there is no node
 pub turn-none : (n : ℕ) (p q both : List (ℕ × ℕ)) (one two : Option PlainHead) (s : State) → IsMeter s.numbers → s.first.at ≤ s.first.length → s.second.at ≤ s.second.length → s.writer.leaf ≡ None → turn one two ≡ None → TurnJoined n p q both one two one two s s (Ok false)
 turn-none n p q both one two s meter left right leaf none = record {

@@ -13,7 +13,7 @@ use Rattle.keyed_tree.specs.Laws.{label_cmp_total}
 use Rattle.keyed_tree.specs.Lists.{Ascends, Has}
 use Rattle.keyed_tree.specs.Order.{label_cmp}
 use Rattle.keyed_tree.specs.Paths.{node_at as kid_node}
-use Rattle.keyed_tree.proofs.Lists.{all_has, has_map, not_itself, not_both}
+use Rattle.jsonml_tree.proofs.Lists.{all_has, has_map, not_itself, not_both}
 use Rattle.archive_tree.specs.Data.{Stamp, PlainNode, inner_node, leaf_node, PlainNodes, no_nodes, node, node_label, nodes_list}
 use Rattle.archive_tree.specs.Stands.{Stamped, nums, under, labels, CommonStands, RowStands, StandsFor, EachStands}
 use Rattle.archive_tree.proofs.Parts.{each_has, not_both_kinds}

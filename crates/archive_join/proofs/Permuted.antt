@@ -2,16 +2,15 @@
 use Rattle.std.proofs.Common.{◌≡◌, ◌≢◌, ℕ, zero, suc, ◌+◌, ◌≤◌, ◌<◌, ◌==◌, ◌↔◌, Bool, true, false, IsTrue, List, [], ◌∷◌, map, length, get_or, refl, ap, sym, subst, subst₂, inl, inr, arith, eqb-true, eq-eqb}
 use Rattle.std.proofs.lemmas.Cmp.{nat_cmp_total}
 use Rattle.std.proofs.lemmas.List.{get_or-map, length-map}
-use Rattle.std.proofs.lemmas.List.Sums.{sum_by-cons}
-use Rattle.std.proofs.lemmas.List.Sorted.{sum_by-IsPermutation, IsPermutation-sym, IsPermutation-map}
-use Rattle.std.specs.List.{AllByRecursion, enumerate_from, sum_by}
+use Rattle.std.proofs.lemmas.List.Sorted.{IsPermutation-sym, IsPermutation-map}
+use Rattle.std.specs.List.{AllByRecursion, enumerate_from}
 use Rattle.std.specs.List.Sorted.{IsPermutation, IsNonDecreasingBy, IsSortedBy}
 use Rattle.std.specs.Ordering.{nat_cmp}
 use Rattle.std.specs.declared.cmp.Ordering.TheVariants.{Less}
 use Rattle.keyed_tree.specs.Lists.{Ascends, Has}
-use Rattle.keyed_tree.proofs.Lists.{same_items}
+use Rattle.jsonml_tree.proofs.Lists.{differ_permuted, has_permuted, same_items}
 use Rattle.archive_tree.specs.Stands.{AllDiffer}
-use Rattle.record_copy.proofs.Permuted.{has_permuted, all_at, less}
+use Rattle.record_copy.proofs.Permuted.{all_at, less}
 
 -- ---- what a permutation has
 
@@ -36,68 +35,6 @@ keys_sorted f lt (x ∷ xs) h k d low high =
 pub sorted_keys : {X K : Type 0} (f : X → K) (lt : K → K → Bool) (xs : List X) → IsSortedBy lt (map f xs) → IsSortedBy (λ a b. lt (f a) (f b)) xs
 sorted_keys f lt xs h k d low high =
     subst₂ (λ a b. lt a b ≡ false) (get_or-map f xs (k + 1) d (f d) high) (get_or-map f xs k d (f d) (omega arith)) (h k (f d) low (simp length-map high))
-
--- ---- how often an item stands in a list
-
-abbrev one_if : Bool → ℕ
-one_if true = 1
-one_if false = 0
-
-module _ {K : Type 0} (same : K → K → Bool) (exact : (x y : K) → IsTrue (same x y) ↔ (x ≡ y)) where
-  abbrev is_at : K → K → ℕ
-  is_at k j = one_if (same j k)
-
-  abbrev times : K → List K → ℕ
-  times k js = sum_by (is_at k) js
-
-  itself_once : (k : K) → is_at k k ≡ 1
-  itself_once k = (let e : same k k ≡ true = (exact k k).1 refl in rw e refl)
-
-  other_never : (k j : K) → k ≢ j → is_at k j ≡ 0
-  other_never k j other =
-      elim (same j k) as (λ b. same j k ≡ b → one_if b ≡ 0) [
-        | true ↦ λ e. absurd (other (sym ((exact j k).0 e)))
-        | false ↦ λ e. refl
-      ] refl
-
-  never_other : (k j : K) → is_at k j ≡ 0 → k ≢ j
-  never_other k j e d = (let one = itself_once k in let e' : is_at k j ≡ is_at k k = ap (is_at k) (sym d) in omega arith)
-
-  all-never : (k : K) (js : List K) → AllByRecursion (λ j. k ≢ j) js → times k js ≡ 0
-  all-never k [] h = refl
-  all-never k (j ∷ js) h = (let more = sum_by-cons (is_at k) j js in let this = other_never k j h.0 in let rest = all-never k js h.1 in omega arith)
-
-  never-all : (k : K) (js : List K) → times k js ≡ 0 → AllByRecursion (λ j. k ≢ j) js
-  never-all k [] e = tt
-  never-all k (j ∷ js) e = (let more = sum_by-cons (is_at k) j js in (never_other k j (omega arith), never-all k js (omega arith)))
-
-  at_most_one : (k j : K) → is_at k j ≤ 1
-  at_most_one k j = elim (same j k) as (λ b. one_if b ≤ 1) [ true ↦ omega arith | false ↦ omega arith ]
-
-  differ-times : (js : List K) → AllDiffer js → (k : K) → times k js ≤ 1
-  differ-times [] a k = omega arith
-  differ-times (j ∷ js) a k =
-      let more = sum_by-cons (is_at k) j js in
-      let one = at_most_one k j in
-      elim (same j k) as (λ b. same j k ≡ b → times k (j ∷ js) ≤ 1) [
-        | true ↦ λ e. (
-            let is : j ≡ k = (exact j k).0 e in
-            let rest : times k js ≡ 0 = subst (λ z. times z js ≡ 0) is (all-never j js a.0) in
-            omega arith)
-        | false ↦ λ e. (
-            let this : is_at k j ≡ 0 = rw e refl in
-            let rest = differ-times js a.1 k in
-            omega arith)
-      ] refl
-
-  times-differ : (js : List K) → ((k : K) → times k js ≤ 1) → AllDiffer js
-  times-differ [] h = tt
-  times-differ (j ∷ js) h =
-      let none : times j js ≡ 0 = (let more = sum_by-cons (is_at j) j js in let one = itself_once j in let most = h j in omega arith) in
-      (never-all j js none, times-differ js (λ k. (let more = sum_by-cons (is_at k) j js in let most = h k in omega arith)))
-
-  pub differ_permuted : (ks js : List K) → IsPermutation ks js → AllDiffer ks → AllDiffer js
-  differ_permuted ks js p a = times-differ js (λ k. (let e = sum_by-IsPermutation (is_at k) ks js p in let most = differ-times ks a k in omega arith))
 
 -- ---- back in their places
 

@@ -8,7 +8,7 @@ use Rattle.keyed_tree.specs.Data.{PlainLabel}
 use Rattle.keyed_tree.specs.Laws.{label_cmp_total, label_cmp_exact, label_cmp-is_eq}
 use Rattle.keyed_tree.specs.Lists.{Ascends, Has}
 use Rattle.keyed_tree.specs.Order.{label_cmp}
-use Rattle.keyed_tree.proofs.Lists.{all_has, not_itself}
+use Rattle.jsonml_tree.proofs.Lists.{all_has, not_itself}
 use Rattle.keyed_tree.proofs.Kids.{is_lt-Less}
 use Rattle.archive_tree.specs.Data.{PlainNode, inner_node, leaf_node, PlainNodes, no_nodes, node, node_label}
 use Rattle.archive_tree.specs.Stands.{labels}

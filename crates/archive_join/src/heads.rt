@@ -1,5 +1,5 @@
 // The next node of a row in each archive, as far as there is one.
-ghost use Rattle.std.specs.Prelude.{◌≡◌, ◌≤◌, None, Some, IfOk, IsSome};
+ghost use Rattle.std.specs.Prelude.{◌≡◌, ◌≤◌, None, IsSome};
 ghost use Rattle.std.specs.Option.{option_map};
 ghost use Rattle.archive_join.specs.Heads.{HeadsRead, PassedAlone, head_cmp, one_of, turn, two_of};
 ghost use Rattle.archive_join.specs.State.{beside};
@@ -18,7 +18,6 @@ use record_copy::{CopyFault, Head, Raise, copy_node, read_head};
 use record_cursor::Cursor;
 use record_parts::lend_label;
 use record_writer::Writer;
-use std::alloc::{AllocError, Global};
 use std::cmp::Ordering;
 use version_set::VersionSet;
 use xa_outside::Folder;
@@ -51,27 +50,27 @@ pub(crate) fn read_heads<F: Folder>(
 
 /// Which of them comes next: less is that of the first alone, greater that of the second, equal are
 /// both; or None where there is none.
-pub(crate) fn next_of(alloc: Global, heads: &Heads) -> Result<Option<Ordering>, AllocError>
-    ensures { IfOk result (λ o. o ≡ turn (one_of heads.now) (two_of heads.now)) }
+pub(crate) fn next_of(heads: &Heads) -> Option<Ordering>
+    ensures { result ≡ turn (one_of heads.now) (two_of heads.now) }
 {
     match (&heads.one, &heads.two) {
-        (Some(one), Some(two)) => Ok(Some(order(alloc, one, two)?)),
-        (Some(_), None) => Ok(Some(Ordering::Less)),
-        (None, Some(_)) => Ok(Some(Ordering::Greater)),
-        (None, None) => Ok(None),
+        (Some(one), Some(two)) => Some(order(one, two)),
+        (Some(_), None) => Some(Ordering::Less),
+        (None, Some(_)) => Some(Ordering::Greater),
+        (None, None) => None,
     }
 }
 
 // The order of two nodes: by their labels, and of two kinds that of the first comes first, which
 // sound archives of one specification do not have.
-fn order(alloc: Global, one: &Head, two: &Head) -> Result<Ordering, AllocError>
-    ensures { IfOk result (λ o. o ≡ head_cmp (head_view one.now) (head_view two.now)) }
+fn order(one: &Head, two: &Head) -> Ordering
+    ensures { result ≡ head_cmp (head_view one.now) (head_view two.now) }
 {
-    let order = lend_label(&one.label).compare(alloc, &lend_label(&two.label))?;
+    let order = lend_label(&one.label).compare(&lend_label(&two.label));
     if order.is_eq() && one.kind != two.kind {
-        return Ok(Ordering::Less);
+        return Ordering::Less;
     }
-    Ok(order)
+    order
 }
 
 /// Writes the node whose head was read as one that its archive alone has, under a parent that has

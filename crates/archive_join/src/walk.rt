@@ -69,7 +69,7 @@ fn join_turn<F: Folder>(
         result }
 {
     let (one, two) = (&sets.one, &sets.two);
-    match next_of(sides.one.alloc, heads)? {
+    match next_of(heads) {
         None => return Ok(false),
         Some(Ordering::Less) => {
             let passed = pass_alone(&sides.one, folder, left, writer, one, two, &mut heads.one);

@@ -34,7 +34,7 @@ use record_parts::put_stamp;
 use spelled_archive::{Alt, KeptBody, SNode, SpelledArchive};
 use std::alloc::{AllocError, Global};
 use version_set::VersionSet;
-use xa_fields::put_u64;
+use xa_fields::append_u64;
 
 /// The bytes of the archive file of an archive under a specification that keys its versions.
 ///
@@ -74,7 +74,7 @@ fn file_of(alloc: Global, spec: &Spec, archive: &SpelledArchive) -> Result<Vec<u
     put_header(alloc, &mut out, spec, archive.n())?;
     let all = VersionSet::upto(alloc, archive.n());
     let dir = put_row(alloc, &mut out, &all, archive.kids())?;
-    put_u64(&mut out, dir)?;
+    append_u64(&mut out, dir)?;
     Ok(out)
 }
 

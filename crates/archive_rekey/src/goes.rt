@@ -6,9 +6,7 @@ ghost use Rattle.archive_file.specs.Goes.{alts_go, node_goes, nodes_go, row_goes
 
 use record_format::{is_label, is_stamp, is_value};
 use spelled_archive::{Alt, KeptBody, SNode};
-
-/// Counts have four bytes.
-const FOUR_BYTES: usize = 4_294_967_296;
+use xa_fields::FIELD;
 
 fn body_goes(body: &KeptBody) -> bool
     ensures { result ≡ value_fits (kept_view body.now) }
@@ -40,7 +38,7 @@ fn node_goes(node: &SNode) -> bool
 {
     match node {
         SNode::Inner { label, stamp, kids } => {
-            if !is_label(label) || !is_stamp(stamp) || kids.len() >= FOUR_BYTES {
+            if !is_label(label) || !is_stamp(stamp) || kids.len() >= FIELD {
                 return false;
             }
             nodes_go(kids)
@@ -69,5 +67,5 @@ fn nodes_go(nodes: &[SNode]) -> bool
 pub(crate) fn row_goes(nodes: &[SNode]) -> bool
     ensures { result ≡ row_goes (nodes_view nodes.now) }
 {
-    nodes.len() < FOUR_BYTES && nodes_go(nodes)
+    nodes.len() < FIELD && nodes_go(nodes)
 }

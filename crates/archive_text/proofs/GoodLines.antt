@@ -26,14 +26,11 @@ use Rattle.archive_file.specs.NodeFits.{node_has_keys, node_fits, nodes_fit, is_
 use Rattle.archive_file.proofs.WellLaws.{value-well}
 use Rattle.jsonml_lines.specs.Lines.{PlainLine}
 use Rattle.jsonml_lines.specs.RoundTrip.{IsCell, IsLine}
+use Rattle.jsonml_tree.proofs.Lists.{all-append}
 use Rattle.archive_text.specs.Export.{text_cell, number_cell, stamp_text, name_text, key_line, note_line, note_lines, alt_line, end_line, node_lines, nodes_lines}
 use Rattle.archive_text.specs.Names.{IsNamed, HasNames, HaveNames}
 
 -- ---- lines
-
-pub all_join : {X : Type 0} (P : X → Type 0) (xs ys : List X) → AllByRecursion P xs → AllByRecursion P ys → AllByRecursion P (xs ++ ys)
-all_join P [] ys h k = k
-all_join P (x ∷ xs) ys h k = (h.0, all_join P xs ys h.1 k)
 
 text_good : (s : List ℕ) → IsCell (text_cell s)
 text_good s = record { well_formed = refl; shallow = omega arith }
@@ -61,14 +58,14 @@ mutual
   node_good : (k : PlainNode) → IsShapedNode k → IsTrue (is_node_well_formed k) → AllByRecursion IsLine (node_lines k)
   node_good (inner_node l s ks) h w =
       let both = and_parts (is_label_well_formed l) (are_nodes_well_formed ks) w in
-      ((text_good (stamp_text s), (text_good (name_text l.name), values_good l.keys h.0.keys both.0)), all_join IsLine (nodes_lines ks) (end_line ∷ []) (nodes_good ks h.2 both.1) end_good)
+      ((text_good (stamp_text s), (text_good (name_text l.name), values_good l.keys h.0.keys both.0)), all-append IsLine (nodes_lines ks) (end_line ∷ []) (nodes_good ks h.2 both.1) end_good)
   node_good (leaf_node l s xs) h w =
       let both = and_parts (is_label_well_formed l) (are_alts_well_formed xs) w in
-      ((text_good (stamp_text s), (text_good (name_text l.name), values_good l.keys h.0.keys both.0)), all_join IsLine (map alt_line xs) (end_line ∷ []) (alts_good xs h.2 both.1) end_good)
+      ((text_good (stamp_text s), (text_good (name_text l.name), values_good l.keys h.0.keys both.0)), all-append IsLine (map alt_line xs) (end_line ∷ []) (alts_good xs h.2 both.1) end_good)
 
   pub nodes_good : (ks : PlainNodes) → AreShapedNodes ks → IsTrue (are_nodes_well_formed ks) → AllByRecursion IsLine (nodes_lines ks)
   nodes_good no_nodes h w = tt
-  nodes_good (node k ks) h w = let both = and_parts (is_node_well_formed k) (are_nodes_well_formed ks) w in all_join IsLine (node_lines k) (nodes_lines ks) (node_good k h.0 both.0) (nodes_good ks h.1 both.1)
+  nodes_good (node k ks) h w = let both = and_parts (is_node_well_formed k) (are_nodes_well_formed ks) w in all-append IsLine (node_lines k) (nodes_lines ks) (node_good k h.0 both.0) (nodes_good ks h.1 both.1)
 
 pub keys_good : (ls : List (List ℕ)) → AllByRecursion IsLine (map key_line ls)
 keys_good [] = tt

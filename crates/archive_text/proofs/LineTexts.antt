@@ -19,7 +19,7 @@ use Rattle.jsonml_lines.specs.Lines.{PlainLine}
 use Rattle.jsonml_lines.specs.RoundTrip.{AreCellTexts, AreLineTexts}
 use Rattle.archive_text.specs.Export.{stamp_text, name_text, key_line, note_line, note_lines, count_line, node_begun, alt_line, end_line, node_lines, nodes_lines}
 use Rattle.archive_text.proofs.Cuts.{IsSmall, behind, small_set, span}
-use Rattle.archive_text.proofs.GoodLines.{all_join}
+use Rattle.jsonml_tree.proofs.Lists.{all-append}
 
 ascii : (bs : List ℕ) → list_all (λ b. ltb b 128) bs ≡ true → IsUtf8 bs
 ascii bs e = IsUtf8-from_ascii bs (IsAscii-from_all bs (λ k d l. ltb-true _ 128 (AllPass-from_list_all (λ b. ltb b 128) bs e k d l)))
@@ -101,13 +101,13 @@ end_texts = (record { word = ascii (codes "end") refl; cells = tt }, tt)
 mutual
   node_texts : (k : PlainNode) → IsShapedNode k → AllByRecursion AreLineTexts (node_lines k)
   node_texts (inner_node l s ks) h =
-      (begun_texts (codes "open") l s (ascii (codes "open") refl) h.0 h.1, all_join AreLineTexts (nodes_lines ks) (end_line ∷ []) (nodes_texts ks h.2) end_texts)
+      (begun_texts (codes "open") l s (ascii (codes "open") refl) h.0 h.1, all-append AreLineTexts (nodes_lines ks) (end_line ∷ []) (nodes_texts ks h.2) end_texts)
   node_texts (leaf_node l s xs) h =
-      (begun_texts (codes "leaf") l s (ascii (codes "leaf") refl) h.0 h.1, all_join AreLineTexts (map alt_line xs) (end_line ∷ []) (alts_texts xs h.2) end_texts)
+      (begun_texts (codes "leaf") l s (ascii (codes "leaf") refl) h.0 h.1, all-append AreLineTexts (map alt_line xs) (end_line ∷ []) (alts_texts xs h.2) end_texts)
 
   pub nodes_texts : (ks : PlainNodes) → AreShapedNodes ks → AllByRecursion AreLineTexts (nodes_lines ks)
   nodes_texts no_nodes h = tt
-  nodes_texts (node k ks) h = all_join AreLineTexts (node_lines k) (nodes_lines ks) (node_texts k h.0) (nodes_texts ks h.1)
+  nodes_texts (node k ks) h = all-append AreLineTexts (node_lines k) (nodes_lines ks) (node_texts k h.0) (nodes_texts ks h.1)
 
 pub keys_texts : (ls : List (List ℕ)) → AllByRecursion IsUtf8 ls → AllByRecursion AreLineTexts (map key_line ls)
 keys_texts [] h = tt

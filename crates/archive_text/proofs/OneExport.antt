@@ -26,7 +26,8 @@ use Rattle.noted_file.proofs.Readings.{same-contents}
 use Rattle.jsonml_lines.specs.RoundTrip.{IsLine}
 use Rattle.archive_text.specs.Texts.{text_lines}
 use Rattle.archive_text.specs.Export.{key_line, note_lines, end_line, nodes_lines, ExportOf}
-use Rattle.archive_text.proofs.GoodLines.{all_join, end_good, nodes_good, keys_good, notes_good, count_good, row_names, rules_named}
+use Rattle.jsonml_tree.proofs.Lists.{all-append}
+use Rattle.archive_text.proofs.GoodLines.{end_good, nodes_good, keys_good, notes_good, count_good, row_names, rules_named}
 use Rattle.archive_text.proofs.OneLine.{LinesReadBack, same_lines}
 use Rattle.archive_text.specs.Names.{HaveNames}
 use Rattle.archive_text.specs.Reading.{all_lines}
@@ -71,8 +72,8 @@ readable one texts shapes c file a full is =
       as_many = count;
       lines = (
         count_good a.n (omega arith),
-        all_join IsLine (map key_line (text_lines (canonical c.rules))) _ (keys_good (text_lines (canonical c.rules)))
-            (all_join IsLine (note_lines 1 c.notes) _ (notes_good 1 c.notes (omega arith)) (all_join IsLine (nodes_lines a.kids) (end_line ∷ []) (nodes_good a.kids shaped well) end_good)),
+        all-append IsLine (map key_line (text_lines (canonical c.rules))) _ (keys_good (text_lines (canonical c.rules)))
+            (all-append IsLine (note_lines 1 c.notes) _ (notes_good 1 c.notes (omega arith)) (all-append IsLine (nodes_lines a.kids) (end_line ∷ []) (nodes_good a.kids shaped well) end_good)),
       );
     }
 

@@ -16,7 +16,7 @@ use Rattle.jsonml_lines.specs.RoundTrip.{IsLine, AreLineTexts}
 use Rattle.archive_text.specs.Texts.{text_lines}
 use Rattle.archive_text.specs.Export.{key_line, note_lines, end_line, nodes_lines, ExportOf}
 use Rattle.archive_text.specs.Reading.{all_lines, ArePartsOf}
-use Rattle.archive_text.proofs.GoodLines.{all_join}
+use Rattle.jsonml_tree.proofs.Lists.{all-append}
 use Rattle.archive_text.proofs.KeyTexts.{key_texts}
 use Rattle.archive_text.proofs.LineTexts.{end_texts, nodes_texts, keys_texts, notes_texts, count_texts}
 use Rattle.archive_text.proofs.OneExport.{OneArchive, SoundTexts, KeyedShaped, readable}
@@ -37,9 +37,9 @@ parts_of_text one texts shapes nested c file text full e =
     let r = readable one texts shapes c file a full e.is in
     let sound : SoundAs c.rules c.versions full.core = full.is in
     let keys = text_lines (canonical c.rules) in
-    let last = all_join AreLineTexts (nodes_lines a.kids) (end_line ∷ []) (nodes_texts a.kids r.shaped) end_texts in
-    let noted = all_join AreLineTexts (note_lines 1 c.notes) (nodes_lines a.kids ++ end_line ∷ []) (notes_texts 1 c.notes full.each) last in
-    let keyed = all_join AreLineTexts (map key_line keys) (note_lines 1 c.notes ++ (nodes_lines a.kids ++ end_line ∷ [])) (keys_texts keys (key_texts c.rules sound.specification)) noted in
+    let last = all-append AreLineTexts (nodes_lines a.kids) (end_line ∷ []) (nodes_texts a.kids r.shaped) end_texts in
+    let noted = all-append AreLineTexts (note_lines 1 c.notes) (nodes_lines a.kids ++ end_line ∷ []) (notes_texts 1 c.notes full.each) last in
+    let keyed = all-append AreLineTexts (map key_line keys) (note_lines 1 c.notes ++ (nodes_lines a.kids ++ end_line ∷ [])) (keys_texts keys (key_texts c.rules sound.specification)) noted in
     record {
       specification = sound.specification;
       short = (closed_list (canonical c.rules) c.rules sound.specification).short;

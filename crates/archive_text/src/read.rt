@@ -7,6 +7,7 @@ ghost use Rattle.keyed_tree.specs.Data.{PlainKeyed};
 ghost use Rattle.archive_tree.specs.ArchiveView.{archive_view};
 ghost use Rattle.archive_tree.specs.Data.{PlainArchive};
 ghost use Rattle.archive_tree.specs.Stands.{ArchiveOf};
+ghost use Rattle.record_parts.specs.declared.limits.TheConstants.{MOST_VERSIONS};
 ghost use Rattle.record_format.specs.Files.{FileOf};
 ghost use Rattle.archive_file.specs.KeyedBy.{AreKeyedBy};
 ghost use Rattle.archive_file.specs.Sound.{SoundAs};
@@ -30,6 +31,7 @@ use crate::tree::read_row;
 use archive_file::{EncodeFault, encode_file, is_keyed};
 use archive_tree::Archive;
 use key_spec::Spec;
+use record_format::{DEEPEST, MOST_VERSIONS};
 use std::alloc::{AllocError, Global};
 use version_notes::is_note;
 
@@ -40,12 +42,6 @@ pub struct Kept {
     pub archive: Archive,
     pub notes: Vec<String>,
 }
-
-/// The most versions of an archive.
-const MOST: u32 = 999_999;
-
-/// How deep elements may nest.
-const DEEPEST: u32 = 120;
 
 /// The archive with notes whose text the bytes are, or Bad where they are no such text.
 ///
@@ -70,7 +66,7 @@ pub fn read_text(alloc: Global, bytes: &[u8]) -> Result<Kept, ReadFault>
           versions = vs;
           notes = map string_bytes k.notes.items;
         })) }
-    ensures few { IfOk result (λ k. (archive_view k.archive).n ≤ 999999) }
+    ensures few { IfOk result (λ k. (archive_view k.archive).n ≤ MOST_VERSIONS) }
     ensures keyed { IfOk result (λ k. (vs : List PlainKeyed)
         → ArchiveOf vs (archive_view k.archive) → AreKeyedBy (spec_view k.spec) vs) }
     ensures notes { IfOk result (λ k. AllByRecursion IsNote (map string_bytes k.notes.items)
@@ -109,7 +105,7 @@ pub fn read_with_file(alloc: Global, bytes: &[u8]) -> Result<(Kept, Vec<u8>), Re
           notes = map string_bytes r.0.notes.items;
         })
         (r.1.items ++ notes_part (map string_bytes r.0.notes.items))) }
-    ensures few { IfOk result (λ r. (archive_view r.0.archive).n ≤ 999999) }
+    ensures few { IfOk result (λ r. (archive_view r.0.archive).n ≤ MOST_VERSIONS) }
     ensures keyed { IfOk result (λ r. (vs : List PlainKeyed)
         → ArchiveOf vs (archive_view r.0.archive) → AreKeyedBy (spec_view r.0.spec) vs) }
     ensures notes { IfOk result (λ r. AllByRecursion IsNote (map string_bytes r.0.notes.items)
@@ -156,13 +152,13 @@ fn read_parts(alloc: Global, bytes: &[u8]) -> Result<Kept, ReadFault>
 }
 
 fn read_count(alloc: Global, bytes: &[u8]) -> Result<(u32, usize), ReadFault>
-    ensures found { (n : ℕ) (ls : List PlainLine) → n ≤ 999999
+    ensures found { (n : ℕ) (ls : List PlainLine) → n ≤ MOST_VERSIONS
         → AreLines (count_line n ∷ ls) bytes.now
         → Finds result (λ r. (r.0 ≡ n) × AreLines ls (drop r.1 bytes.now)) }
     ensures within { IfOk result (λ r. r.1 ≤ length bytes.now) }
 {
     let (line, next) = read_line(alloc, bytes, 0)?;
-    Ok((number_at(&line.cells, 0, MOST), next))
+    Ok((number_at(&line.cells, 0, MOST_VERSIONS), next))
 }
 
 /// The archive of so many versions whose nodes stand from the offset on.
@@ -228,7 +224,7 @@ fn file_with_notes(
         → IfOk result (λ o. IfNone o ⊥) }
 {
     let n = archive.n();
-    if n > MOST {
+    if n > MOST_VERSIONS {
         return Ok(None);
     }
     if notes.len() != n as usize {
@@ -254,7 +250,7 @@ fn are_notes(notes: &[String]) -> bool
 
 /// The archive file of the versions, where they are keyed by the specification and have one.
 fn sound_file(alloc: Global, spec: &Spec, archive: &Archive) -> Result<Option<Vec<u8>>, AllocError>
-    requires { (archive_view archive.now).n ≤ 999999 }
+    requires { (archive_view archive.now).n ≤ MOST_VERSIONS }
     ensures sound { IfOk result (λ o. IfSome o (λ v. (vs : List PlainKeyed)
         → ArchiveOf vs (archive_view archive.now) → SoundAs (spec_view spec.now) vs v.items)) }
     ensures none { IfOk result (λ o. IfNone o ((vs : List PlainKeyed) (core : List ℕ)
@@ -269,7 +265,7 @@ fn sound_file(alloc: Global, spec: &Spec, archive: &Archive) -> Result<Option<Ve
 
 /// The archive file, if there is one.
 fn file_of(alloc: Global, spec: &Spec, archive: &Archive) -> Result<Option<Vec<u8>>, AllocError>
-    requires few { (archive_view archive.now).n ≤ 999999 }
+    requires few { (archive_view archive.now).n ≤ MOST_VERSIONS }
     requires keyed { (vs : List PlainKeyed)
         → ArchiveOf vs (archive_view archive.now) → AreKeyedBy (spec_view spec.now) vs }
     ensures file { IfOk result (λ o. IfSome o (λ v. (vs : List PlainKeyed)

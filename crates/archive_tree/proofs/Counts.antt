@@ -4,7 +4,7 @@ use Rattle.std.specs.List.{list_all}
 use Rattle.std.proofs.lemmas.Bool.{eqb-true, eq-eqb, cases_lt}
 use Rattle.version_set.specs.Members.{has}
 use Rattle.keyed_tree.specs.Lists.{Has}
-use Rattle.keyed_tree.proofs.Lists.{all_has, has_all}
+use Rattle.jsonml_tree.proofs.Lists.{all_has, has_all}
 use Rattle.keyed_tree.proofs.Kids.{both}
 use Rattle.archive_tree.specs.Parts.{Apart, AllApart, AreParts}
 use Rattle.archive_tree.specs.PartsTest.{sets_with, are_parts}

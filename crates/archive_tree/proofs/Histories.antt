@@ -14,7 +14,7 @@ use Rattle.keyed_tree.specs.Laws.{label_cmp_total, label_cmp-is_eq}
 use Rattle.keyed_tree.specs.Lists.{Ascends, Has}
 use Rattle.keyed_tree.specs.Order.{label_cmp}
 use Rattle.keyed_tree.specs.Paths.{node_at}
-use Rattle.keyed_tree.proofs.Lists.{any_has, has_any}
+use Rattle.jsonml_tree.proofs.Lists.{any_has, has_any}
 use Rattle.keyed_tree.proofs.Kids.{both, is_lt-Less}
 use Rattle.keyed_tree.proofs.KidsKeep.{holds_at}
 use Rattle.archive_tree.specs.Data.{eff, PlainNode, inner_node, leaf_node, PlainNodes, no_nodes, node, node_label, node_stamp, node_kids, nodes_list, nodes_from, PlainArchive}

@@ -10,7 +10,7 @@ use Rattle.keyed_tree.specs.Laws.{label_cmp_total, key_cmp-is_eq}
 use Rattle.keyed_tree.specs.Lists.{Ascends, Has}
 use Rattle.keyed_tree.specs.Order.{label_cmp}
 use Rattle.keyed_tree.specs.Proper.{is_tag, IsElement}
-use Rattle.keyed_tree.proofs.Lists.{all_has, has_all, has_map, source, not_itself}
+use Rattle.jsonml_tree.proofs.Lists.{all_has, has_all, has_map, source, not_itself}
 use Rattle.archive_tree.specs.Data.{Stamp, eff, PlainAlt, PlainNode, inner_node, leaf_node, PlainNodes, no_nodes, node, node_label, node_stamp, nodes_list, PlainArchive}
 use Rattle.archive_tree.specs.Stands.{AllDiffer, nums, those, passed, has_body, nums_with, under, rooted, numbered, first_num, bodies, Stamped, AltStands, StandsFor, EachStands, ArchiveOf}
 use Rattle.archive_tree.specs.Parts.{IsStampWell, Apart, AllApart, alt_sets, AreAltsWell, IsNodeWell, AreNodesWell, IsArchive}

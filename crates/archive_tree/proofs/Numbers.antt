@@ -10,7 +10,7 @@ use Rattle.version_set.specs.Pairs.{IsCanonical}
 use Rattle.version_set.specs.Members.{members, has, AscendsFrom}
 use Rattle.version_set.proofs.MembersLemmas.{members_ascend}
 use Rattle.keyed_tree.specs.Lists.{Ascends, Has}
-use Rattle.keyed_tree.proofs.Lists.{same_items}
+use Rattle.jsonml_tree.proofs.Lists.{same_items}
 
 pub has-Has : (ns : List ℕ) (n : ℕ) → has ns n ≡ true → Has n ns
 has-Has [] n h = absurd (true≢false (sym h))

@@ -5,7 +5,7 @@ use Rattle.std.proofs.lemmas.Cmp.{nat_cmp_total}
 use Rattle.keyed_tree.specs.Data.{PlainKey, PlainLabel, PlainKeyed}
 use Rattle.keyed_tree.specs.Laws.{label_cmp_total}
 use Rattle.keyed_tree.specs.Lists.{Has}
-use Rattle.keyed_tree.proofs.Lists.{all_has, source, same_items}
+use Rattle.jsonml_tree.proofs.Lists.{all_has, source, same_items}
 use Rattle.archive_tree.specs.Data.{PlainAlt, PlainNode, inner_node, leaf_node, PlainNodes, no_nodes, node, node_label, nodes_list, PlainArchive}
 use Rattle.archive_tree.specs.Stands.{Stamped, nums, nums_with, first_num, under, bodies, RowStands, AltStands, StandsFor, EachStands, ArchiveOf}
 use Rattle.archive_tree.proofs.Parts.{nodes_list-injective, each_has, stands_some, same_label, one_kind, same_stamp}

@@ -9,7 +9,7 @@ use Rattle.keyed_tree.specs.Kids.{IsOrdered, kid_at}
 use Rattle.keyed_tree.specs.Laws.{label_cmp_total, key_cmp-is_eq}
 use Rattle.keyed_tree.specs.Lists.{Ascends, Has}
 use Rattle.keyed_tree.specs.Order.{label_cmp}
-use Rattle.keyed_tree.proofs.Lists.{all_has, has_map, source, same_items}
+use Rattle.jsonml_tree.proofs.Lists.{all_has, has_map, source, same_items}
 use Rattle.keyed_tree.proofs.Kids.{kids_list-injective, kids_ascend, found_at, has_found}
 use Rattle.archive_tree.specs.Data.{eff, PlainAlt, PlainNode, inner_node, leaf_node, PlainNodes, no_nodes, node, node_label, node_stamp, nodes_list, PlainArchive}
 use Rattle.archive_tree.specs.Stands.{nums, those, passed, has_body, nums_with, under, rooted, numbered, labels, bodies, RowStands, AltStands, StandsFor, EachStands, ArchiveOf}

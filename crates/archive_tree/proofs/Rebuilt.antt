@@ -12,7 +12,7 @@ use Rattle.keyed_tree.specs.Lists.{Ascends, Has}
 use Rattle.keyed_tree.specs.Order.{label_cmp}
 use Rattle.keyed_tree.specs.Paths.{node_at}
 use Rattle.keyed_tree.specs.Proper.{is_tag, IsElement}
-use Rattle.keyed_tree.proofs.Lists.{all_has, has_map, source}
+use Rattle.jsonml_tree.proofs.Lists.{all_has, has_map, source}
 use Rattle.keyed_tree.proofs.Kids.{all-ascend, has_found}
 use Rattle.archive_tree.specs.Data.{eff, PlainNode, inner_node, leaf_node, PlainNodes, no_nodes, node, node_label, node_stamp, nodes_list, PlainArchive}
 use Rattle.archive_tree.specs.Stands.{nums, rooted, numbered, passed, labels, StandsFor, Kept}

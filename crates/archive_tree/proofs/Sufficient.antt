@@ -13,7 +13,7 @@ use Rattle.keyed_tree.specs.Kids.{kid_at}
 use Rattle.keyed_tree.specs.Laws.{label_cmp_total, key_cmp-is_eq}
 use Rattle.keyed_tree.specs.Lists.{Ascends, Has}
 use Rattle.keyed_tree.specs.Order.{label_cmp}
-use Rattle.keyed_tree.proofs.Lists.{all_has, has_all, has_map, source, not_itself, same_items}
+use Rattle.jsonml_tree.proofs.Lists.{all_has, has_all, has_map, source, not_itself, same_items}
 use Rattle.keyed_tree.proofs.Kids.{found_at, has_found}
 use Rattle.archive_tree.specs.Data.{Stamp, eff, PlainAlt, PlainNode, inner_node, leaf_node, PlainNodes, no_nodes, node, node_label, node_stamp, nodes_list}
 use Rattle.archive_tree.specs.Stands.{AllDiffer, nums, those, passed, has_body, nums_with, under, first_num, bodies, labels, Stamped, AltStands, StandsFor}

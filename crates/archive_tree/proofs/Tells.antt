@@ -16,7 +16,7 @@ use Rattle.keyed_tree.specs.Laws.{key_cmp-is_eq}
 use Rattle.keyed_tree.specs.Lists.{Ascends, Has}
 use Rattle.keyed_tree.specs.Order.{key_cmp, label_cmp}
 use Rattle.keyed_tree.specs.Proper.{is_tag}
-use Rattle.keyed_tree.proofs.Lists.{all_has, has_all}
+use Rattle.jsonml_tree.proofs.Lists.{all_has, has_all}
 use Rattle.keyed_tree.proofs.Kids.{both}
 use Rattle.archive_tree.specs.Data.{Stamp, eff, PlainAlt, PlainNode, inner_node, leaf_node, PlainNodes, no_nodes, node, node_label, nodes_list, PlainArchive}
 use Rattle.archive_tree.specs.Stands.{AllDiffer, head_or, first_num, bodies, labels}

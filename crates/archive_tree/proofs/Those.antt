@@ -10,7 +10,7 @@ use Rattle.keyed_tree.specs.Kids.{IsOrdered, kid_at}
 use Rattle.keyed_tree.specs.Laws.{label_cmp-is_eq}
 use Rattle.keyed_tree.specs.Lists.{Ascends, Has}
 use Rattle.keyed_tree.specs.Order.{label_cmp}
-use Rattle.keyed_tree.proofs.Lists.{all_has, has_map, not_itself}
+use Rattle.jsonml_tree.proofs.Lists.{all_has, has_map, not_itself}
 use Rattle.keyed_tree.proofs.Kids.{has_found}
 use Rattle.keyed_tree.proofs.KidsKeep.{kid_ordered}
 use Rattle.archive_tree.specs.Stands.{nums, those, passed, under, rooted, numbered}

@@ -1,4 +1,5 @@
 -- For which lists of versions a node and an archive stand.
+pub use Rattle.jsonml_tree.specs.Lists.{AllDiffer}
 use Rattle.std.specs.Prelude.{◌≡◌, ◌≢◌, ◌↔◌, ℕ, zero, suc, Bool, false, List, [], ◌∷◌, map, length, Option, Some, None, IsSome, ⊤, slice_get, if◌then◌else◌}
 use Rattle.std.specs.Option.{option_map}
 use Rattle.std.specs.List.{filter_map, enumerate_from, AllByRecursion}
@@ -18,11 +19,6 @@ use Rattle.archive_tree.specs.Data.{Stamp, eff, PlainAlt, PlainNode, inner_node,
 abbrev pub head_or : ℕ → List ℕ → ℕ
 head_or d [] = d
 head_or d (n ∷ ns) = n
-
--- any two of them are different
-abbrev pub AllDiffer : {K : Type 0} → List K → Type 0
-AllDiffer [] = ⊤
-AllDiffer (x ∷ xs) = AllByRecursion (λ y. x ≢ y) xs × AllDiffer xs
 
 abbrev pub nums : List (ℕ × PlainKeyed) → List ℕ
 nums ws = map (λ w. w.0) ws

@@ -14,8 +14,8 @@ use Rattle.xa_outside.specs.NumberLaws.{PullsAtMost-trans}
 use Rattle.xa_outside.specs.Taken.{Taken, Puts}
 use Rattle.file_rows.specs.View.{child_view}
 use Rattle.file_history.specs.Leads.{PlainSpot, node_along, LeafLaid, IsLeafThere, IsLeafOf}
-use Rattle.file_history.specs.declared.fault.HistoryFault.{HistoryFault}
-use Rattle.file_history.specs.declared.fault.HistoryFault.TheVariants as history
+use Rattle.file_history.specs.declared.fault.HistFault.{HistFault}
+use Rattle.file_history.specs.declared.fault.HistFault.TheVariants as history
 use Rattle.file_history.specs.declared.leaf.LeafAt.{LeafAt}
 use Rattle.content_log.specs.Log.{log}
 use Rattle.content_log.specs.Text.{body_text, entry_text, last_name, log_text}
@@ -105,7 +105,7 @@ undamaged-of (Err Folder) h = λ e. cc
 undamaged-of (Err Out) h = λ e. cc
 undamaged-of (Err Memory) h = λ e. cc
 
-pub search-undamaged : (e : HistoryFault) → e ≢ history.Damage → of_history e ≢ Damage
+pub search-undamaged : (e : HistFault) → e ≢ history.Damage → of_history e ≢ Damage
 search-undamaged history.Damage h f = h refl
 search-undamaged history.Folder h f = cc
 search-undamaged history.Memory h f = cc

@@ -8,7 +8,7 @@ use Rattle.keyed_tree.specs.Data.{PlainKey, PlainLabel, PlainKeyed, inner, leaf}
 use Rattle.keyed_tree.specs.Laws.{key_cmp-is_eq}
 use Rattle.keyed_tree.specs.Lists.{Ascends, Has}
 use Rattle.keyed_tree.specs.Order.{key_cmp}
-use Rattle.keyed_tree.proofs.Lists.{all_has, has_map, source, same_items}
+use Rattle.jsonml_tree.proofs.Lists.{all_has, has_map, source, same_items}
 use Rattle.archive_tree.specs.Data.{Stamp, eff, PlainAlt}
 use Rattle.archive_tree.specs.Stands.{nums, passed, has_body, nums_with, head_or, first_num, bodies, AltStands, LeafStands}
 use Rattle.archive_tree.proofs.Those.{all_those}

@@ -3,8 +3,8 @@ use Rattle.std.specs.Prelude.{ℕ, Option, Some, None, Result, Ok, Err, ⊤}
 use Rattle.xa_outside.specs.Causes.{Rose}
 use Rattle.record_cursor.specs.declared.fault.CursorFault.{CursorFault}
 use Rattle.record_cursor.specs.declared.fault.CursorFault.TheVariants as cursor
-use Rattle.file_history.specs.declared.fault.HistoryFault.{HistoryFault}
-use Rattle.file_history.specs.declared.fault.HistoryFault.TheVariants as history
+use Rattle.file_history.specs.declared.fault.HistFault.{HistFault}
+use Rattle.file_history.specs.declared.fault.HistFault.TheVariants as history
 use Rattle.content_log.specs.declared.fault.LogFault.{LogFault}
 use Rattle.content_log.specs.declared.fault.LogFault.TheVariants.{Damage, Folder, Out, Memory}
 
@@ -13,7 +13,7 @@ of_cursor cursor.Damage = Damage
 of_cursor cursor.Folder = Folder
 of_cursor cursor.Memory = Memory
 
-abbrev pub of_history : HistoryFault → LogFault
+abbrev pub of_history : HistFault → LogFault
 of_history history.Damage = Damage
 of_history history.Folder = Folder
 of_history history.Memory = Memory

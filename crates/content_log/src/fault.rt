@@ -2,7 +2,7 @@
 ghost use Rattle.std.specs.Prelude.{◌≡◌};
 ghost use Rattle.content_log.specs.declared.fault.LogFault.TheVariants.{Memory, Out};
 
-use file_history::HistoryFault;
+use file_history::HistFault;
 use record_cursor::CursorFault;
 use std::alloc::AllocError;
 use thiserror::Error;
@@ -52,16 +52,16 @@ impl From<CursorFault> for LogFault {
     }
 }
 
-impl From<HistoryFault> for LogFault {
+impl From<HistFault> for LogFault {
     ghost use Rattle.content_log.specs.Told.{of_history};
 
     ghost from_gives = { λ fault e. e ≡ of_history fault };
 
-    fn from(fault: HistoryFault) -> LogFault {
+    fn from(fault: HistFault) -> LogFault {
         match fault {
-            HistoryFault::Damage => LogFault::Damage,
-            HistoryFault::Folder => LogFault::Folder,
-            HistoryFault::Memory => LogFault::Memory,
+            HistFault::Damage => LogFault::Damage,
+            HistFault::Folder => LogFault::Folder,
+            HistFault::Memory => LogFault::Memory,
         }
     }
 }

@@ -33,7 +33,7 @@ use xa_outside::{Buffered, Folder, Sink};
 ///
 /// The leaf is searched for as a history is, and then read once, record by record. Memory is taken
 /// for one record, its printed set, and a scalar; the content of an element is printed straight out
-/// of its bytes, over a buffer of 8 KiB in front of the output.
+/// of its bytes, over a buffer of 64 KiB in front of the output.
 pub fn log<F: Folder, O: Sink, L: Ledger>(
     alloc: Global,
     folder: &mut F,

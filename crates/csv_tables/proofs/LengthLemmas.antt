@@ -13,7 +13,7 @@ use Rattle.jsonml_tree.specs.Data.{PlainAttr, string, trees_of}
 use Rattle.key_spec.proofs.SortLemmas.{by_order}
 use Rattle.csv_tables.specs.Data.{PlainTable}
 use Rattle.csv_tables.specs.Documents.{cells, name_cmp, row_attrs, row_tree, table_tree}
-use Rattle.csv_tables.specs.Lengths.{capped, quoted_size, sizes, frame, rows_size}
+use Rattle.csv_tables.specs.Lengths.{at_most, quoted_size, sizes, frame, rows_size}
 use Rattle.csv_tables.specs.Records.{has_field, repeats, IsRegular}
 use Rattle.csv_tables.proofs.CellLemmas.{Different, all-different, named, named-test}
 use Rattle.csv_tables.proofs.PutLemmas.{any-put}
@@ -21,11 +21,11 @@ use Rattle.csv_tables.proofs.TextLemmas.{same-bytes, cmp-same}
 
 -- ---- sums up to the greatest number
 
-pub capped-sum : (a b : ℕ) → capped (capped a + b) ≡ capped (a + b)
-capped-sum a b = omega arith
+pub at_most-sum : (a b : ℕ) → at_most (at_most a + b) ≡ at_most (a + b)
+at_most-sum a b = omega arith
 
-pub capped-both : (a b : ℕ) → capped (capped a + capped b) ≡ capped (a + b)
-capped-both a b = omega arith
+pub at_most-both : (a b : ℕ) → at_most (at_most a + at_most b) ≡ at_most (a + b)
+at_most-both a b = omega arith
 
 -- ---- texts
 

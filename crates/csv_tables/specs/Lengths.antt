@@ -3,8 +3,8 @@ use Rattle.std.specs.Prelude.{ℕ, ◌+◌, ◌-◌, ◌*◌, ◌^◌, min, List
 use Rattle.json.specs.Print.{quoted}
 
 -- a number, or the greatest one of 128 bits where it is more
-abbrev pub capped : ℕ → ℕ
-capped n = min n (2 ^ 128 - 1)
+abbrev pub at_most : ℕ → ℕ
+at_most n = min n (2 ^ 128 - 1)
 
 abbrev pub quoted_size : List ℕ → ℕ
 quoted_size s = length (quoted s)

@@ -1,7 +1,7 @@
 use std::alloc::{AllocError, AllocFailed};
 
 /// Why some bytes are no table.
-#[derive(Debug, Drop)]
+#[derive(Debug, Drop, PartialEq, Eq)]
 pub enum TableFault {
     /// The number of the bad record, the heading being 1, and the kind of the fault: 1 there is no record, whose number is
     /// then 0; 2 another number of fields than the heading has; 3 a field that is not UTF-8; 4 two fields of the heading

@@ -4,7 +4,7 @@ ghost use Rattle.json.specs.Print.{escape_byte};
 ghost use Rattle.jsonml_print.specs.Printed.{document_text};
 ghost use Rattle.key_spec.specs.View.{names_view};
 ghost use Rattle.csv_tables.specs.Documents.{table_tree};
-ghost use Rattle.csv_tables.specs.Lengths.{capped, quoted_size, sizes, frame};
+ghost use Rattle.csv_tables.specs.Lengths.{at_most, quoted_size, sizes, frame};
 ghost use Rattle.csv_tables.specs.Records.{IsRegular};
 ghost use Rattle.csv_tables.specs.View.{table_view};
 
@@ -16,7 +16,7 @@ use crate::table::Table;
 pub fn text_length(table: &Table, tag: &str) -> u128
     requires { IsRegular (table_view table.now) }
     ensures { result
-        ≡ capped (length (document_text (table_tree (table_view table.now) tag.now))) }
+        ≡ at_most (length (document_text (table_tree (table_view table.now) tag.now))) }
 {
     let row = row_frame(&table.heading);
     let mut length = sum(quoted_length(tag), 3);
@@ -26,9 +26,10 @@ pub fn text_length(table: &Table, tag: &str) -> u128
     length
 }
 
-/// The bytes of a row besides its fields: its brackets and tag, and for each column its name, a colon, and a comma for all but one.
+/// The bytes of a row besides its fields: the comma in front, its brackets and its tag, and where it
+/// has columns a comma, the braces, and for each column its name, a colon, and a comma for all but one.
 fn row_frame(heading: &[String]) -> u128
-    ensures { result ≡ capped (frame (names_view heading.now)) }
+    ensures { result ≡ at_most (frame (names_view heading.now)) }
 {
     match heading {
         [] => 8,
@@ -37,7 +38,7 @@ fn row_frame(heading: &[String]) -> u128
 }
 
 fn texts_length(texts: &[String]) -> u128
-    ensures { result ≡ capped (sizes (names_view texts.now)) }
+    ensures { result ≡ at_most (sizes (names_view texts.now)) }
 {
     let mut length = 0;
     for text in texts {
@@ -48,7 +49,7 @@ fn texts_length(texts: &[String]) -> u128
 
 /// The bytes of a text as a JSON string.
 fn quoted_length(text: &str) -> u128
-    ensures { result ≡ capped (quoted_size text.now) }
+    ensures { result ≡ at_most (quoted_size text.now) }
 {
     let mut length = 2;
     for byte in text.as_bytes() {
@@ -71,7 +72,7 @@ fn escaped_length(byte: u8) -> u128
 
 /// The sum, or the greatest number where it is more.
 fn sum(a: u128, b: u128) -> u128
-    ensures { result ≡ capped (a + b) }
+    ensures { result ≡ at_most (a + b) }
 {
     if a > u128::MAX - b { u128::MAX } else { a + b }
 }

@@ -7,6 +7,7 @@ use Rattle.std.proofs.lemmas.Bool.{le-ltb, ltb-false}
 use Rattle.std.proofs.lemmas.Bool.Decides.{nat_tests}
 use Rattle.std.proofs.lemmas.List.{length-take}
 use Rattle.xa_fields.specs.Reading.{◌>>=◌, number_at, both_at, only_at}
+use Rattle.xa_fields.specs.FieldLaws.{number-there}
 use Rattle.record_parts.specs.Bounds.{most}
 use Rattle.record_format.specs.Files.{magic}
 use Rattle.record_format.specs.Fronts.{bytes_at, front_at, fixed}
@@ -16,7 +17,6 @@ use Rattle.record_cursor.specs.declared.fault.CursorFault.{CursorFault}
 use Rattle.record_cursor.specs.declared.fault.CursorFault.TheVariants.{Damage, Folder, Memory}
 use Rattle.record_cursor.proofs.Fills.{take-front}
 use Rattle.file_get.specs.Fixed.{count_in, EndsFirst}
-use Rattle.record_cursor.proofs.Headers.{number-there}
 use Rattle.archive_file.proofs.FrontLaws.{count_at}
 
 lt-ltb : (m n : ℕ) → m < n → ltb m n ≡ true
@@ -76,7 +76,7 @@ no-fields bytes few = by (bytes_eq (take 6 bytes) magic) refl
     long : bytes_eq (take 6 bytes) magic ≡ true → 4 ≤ length (drop 6 bytes) → fixed bytes ≡ None
     long is h =
         let text = from_be_bytes w32 (take 4 (drop 6 bytes)) in
-        no-count bytes text is (number-there (drop 6 bytes) h ∙ ap (λ (y : List ℕ). Some (text, y)) (drop-drop 4 6 bytes)) (omega (arith, h, length-drop 6 bytes)) (omega (arith, few))
+        no-count bytes text is (number-there w32 (drop 6 bytes) h ∙ ap (λ (y : List ℕ). Some (text, y)) (drop-drop 4 6 bytes)) (omega (arith, h, length-drop 6 bytes)) (omega (arith, few))
 
     either : bytes_eq (take 6 bytes) magic ≡ true → (b : Bool) → ltb (length (drop 6 bytes)) 4 ≡ b → fixed bytes ≡ None
     either is true e = short is (grind (arith, nat_tests))
@@ -95,8 +95,8 @@ pub count-front : (bytes : List ℕ) → 4 ≤ length bytes → count_in (take 4
 unfolding only_at
 count-front bytes fits =
     let len : length (take 4 bytes) ≡ 4 = length-take-le _ _ fits in
-    let here = number-there (take 4 bytes) (omega (arith, len)) in
-    let there = number-there bytes fits in
+    let here = number-there w32 (take 4 bytes) (omega (arith, len)) in
+    let there = number-there w32 bytes fits in
     let all : take 4 (take 4 bytes) ≡ take 4 bytes = take_all 4 (take 4 bytes) (omega (arith, len)) in
     rw (here, there, all) (by (leb (from_be_bytes w32 (take 4 bytes)) most))
   where

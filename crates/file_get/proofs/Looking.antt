@@ -18,7 +18,7 @@ use Rattle.timestamp_tree.specs.Reading.{stored_at, some_stored_at}
 use Rattle.timestamp_tree.specs.Probes.{said_of}
 use Rattle.timestamp_tree.proofs.Probed.{some_is_stored}
 use Rattle.record_parts.specs.Bounds.{IsSet, most}
-use Rattle.record_parts.proofs.Readers.{passed_some}
+use Rattle.xa_fields.specs.FieldLaws.{passed_some}
 use Rattle.record_format.proofs.TreeNodes.{IsSet-top}
 use Rattle.record_format.proofs.WholeDirectories.{node_reads}
 use Rattle.file_rows.specs.StandsAt.{StandsAt}

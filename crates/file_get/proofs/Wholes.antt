@@ -17,7 +17,7 @@ use Rattle.keyed_tree.specs.Lists.{Ascends, Has}
 use Rattle.keyed_tree.specs.Order.{name_cmp, label_cmp}
 use Rattle.keyed_tree.specs.Proper.{IsElement, IsProper, is_tag, has_no_keys, is_scalar, is_leaf_proper, is_proper, are_proper}
 use Rattle.keyed_tree.proofs.Kids.{both, ascend-all}
-use Rattle.keyed_tree.proofs.Lists.{all_has, not_itself, source}
+use Rattle.jsonml_tree.proofs.Lists.{all_has, not_itself, source}
 use Rattle.archive_tree.specs.Data.{eff, Stamp, PlainAlt, PlainNode, inner_node, leaf_node, PlainNodes, no_nodes, node, node_label, node_stamp, nodes_list, PlainArchive}
 use Rattle.archive_tree.specs.Read.{read, read_root}
 use Rattle.archive_tree.specs.Stands.{nums, those, passed, has_body, nums_with, under, rooted, numbered, labels, AltStands, LeafStands, StandsFor, EachStands, version_of, ArchiveOf}

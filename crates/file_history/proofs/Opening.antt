@@ -16,7 +16,7 @@ use Rattle.xa_fields.proofs.Fields.{some_is}
 use Rattle.xa_outside.specs.Folder.{Files, bytes_or_none}
 use Rattle.xa_outside.specs.Numbers.{Numbers, PullsAtMost}
 use Rattle.record_parts.specs.Bounds.{deepest}
-use Rattle.record_parts.proofs.Readers.{passed_some}
+use Rattle.xa_fields.specs.FieldLaws.{passed_some}
 use Rattle.record_format.specs.Data.{inner_rec}
 use Rattle.record_format.specs.Nested.{is_nested, are_nested}
 use Rattle.record_format.specs.Nodes.{Piece, piece_bytes, set_in, node_piece, node_pieces, inner_piece, closed_by_end}

@@ -31,8 +31,8 @@ use Rattle.file_rows.specs.View.{PlainRow}
 use Rattle.file_rows.proofs.RootRows.{RootRow, root-row-of}
 use Rattle.file_history.specs.Rows.{RowIs, FileIs}
 use Rattle.file_history.specs.Told.{of_cursor, IfFailed}
-use Rattle.file_history.specs.declared.fault.HistoryFault.{HistoryFault}
-use Rattle.file_history.specs.declared.fault.HistoryFault.TheVariants.{Damage}
+use Rattle.file_history.specs.declared.fault.HistFault.{HistFault}
+use Rattle.file_history.specs.declared.fault.HistFault.TheVariants.{Damage}
 
 -- ---- the row of the virtual root
 
@@ -92,7 +92,7 @@ no-damage-of cursor.Damage h f = h
 no-damage-of cursor.Folder h f = cc
 no-damage-of cursor.Memory h f = cc
 
-pub failed-of : (T : Type 0) (e : CursorFault) (g : HistoryFault) (P : Type 0) → g ≡ of_cursor e → IfFolder e P → IfFailed {T = T} (Err g) P
-failed-of T cursor.Damage g P is h = subst (λ (x : HistoryFault). IfFailed {T = T} (Err x) P) (sym is) tt
-failed-of T cursor.Folder g P is h = subst (λ (x : HistoryFault). IfFailed {T = T} (Err x) P) (sym is) h
-failed-of T cursor.Memory g P is h = subst (λ (x : HistoryFault). IfFailed {T = T} (Err x) P) (sym is) tt
+pub failed-of : (T : Type 0) (e : CursorFault) (g : HistFault) (P : Type 0) → g ≡ of_cursor e → IfFolder e P → IfFailed {T = T} (Err g) P
+failed-of T cursor.Damage g P is h = subst (λ (x : HistFault). IfFailed {T = T} (Err x) P) (sym is) tt
+failed-of T cursor.Folder g P is h = subst (λ (x : HistFault). IfFailed {T = T} (Err x) P) (sym is) h
+failed-of T cursor.Memory g P is h = subst (λ (x : HistFault). IfFailed {T = T} (Err x) P) (sym is) tt

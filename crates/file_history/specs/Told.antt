@@ -2,15 +2,15 @@
 use Rattle.std.specs.Prelude.{Result, Err, ⊤}
 use Rattle.record_cursor.specs.declared.fault.CursorFault.{CursorFault}
 use Rattle.record_cursor.specs.declared.fault.CursorFault.TheVariants as cursor
-use Rattle.file_history.specs.declared.fault.HistoryFault.{HistoryFault}
-use Rattle.file_history.specs.declared.fault.HistoryFault.TheVariants.{Damage, Folder, Memory}
+use Rattle.file_history.specs.declared.fault.HistFault.{HistFault}
+use Rattle.file_history.specs.declared.fault.HistFault.TheVariants.{Damage, Folder, Memory}
 
-abbrev pub of_cursor : CursorFault → HistoryFault
+abbrev pub of_cursor : CursorFault → HistFault
 of_cursor cursor.Damage = Damage
 of_cursor cursor.Folder = Folder
 of_cursor cursor.Memory = Memory
 
 -- where the folder failed, this holds
-abbrev pub IfFailed : {T : Type 0} → Result T HistoryFault → Type 0 → Type 0
+abbrev pub IfFailed : {T : Type 0} → Result T HistFault → Type 0 → Type 0
 IfFailed (Err Folder) P = P
 IfFailed other P = ⊤

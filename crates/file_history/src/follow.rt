@@ -23,9 +23,9 @@ ghost use Rattle.file_history.specs.Leads.{IsFollowed, node_along};
 ghost use Rattle.file_history.specs.Rows.{FileIs, RowIs};
 ghost use Rattle.file_history.specs.Told.{IfFailed};
 ghost use Rattle.file_history.specs.View.{span_of, OnFound};
-ghost use Rattle.file_history.specs.declared.fault.HistoryFault.TheVariants.{Damage};
+ghost use Rattle.file_history.specs.declared.fault.HistFault.TheVariants.{Damage};
 
-use crate::fault::HistoryFault;
+use crate::fault::HistFault;
 use crate::search::find;
 use file_rows::{Child, Row, root_row};
 use keyed_tree::Label;
@@ -55,7 +55,7 @@ pub fn history<F: Folder, L: Ledger>(
     header: &Header,
     path: &[Label],
     steps: &mut Steps<L>,
-) -> Result<VersionSet, HistoryFault>
+) -> Result<VersionSet, HistFault>
     requires { IsHeader (header_view header.now) }
     ensures members { (bytes : List ℕ) (rules : List PlainRule) (vs : List PlainKeyed)
         → TellsFront (F.files folder.old) name.now (header_view header.now).length bytes
@@ -99,7 +99,7 @@ pub fn history<F: Folder, L: Ledger>(
     match search(alloc, folder, name, header, all, path, steps) {
         Ok(Some(spot)) => Ok(spot.set),
         Ok(None) => Ok(VersionSet::empty(alloc)),
-        Err(fault) => Err(HistoryFault::from(fault)),
+        Err(fault) => Err(HistFault::from(fault)),
     }
 }
 

@@ -13,9 +13,9 @@ ghost use Rattle.xa_outside.specs.Causes.{Rose};
 ghost use Rattle.xa_outside.specs.Numbers.{PullsAtMost};
 ghost use Rattle.file_history.specs.Leads.{IsLeafOf, leaf_of, leaf_with, node_along};
 ghost use Rattle.file_history.specs.Told.{IfFailed};
-ghost use Rattle.file_history.specs.declared.fault.HistoryFault.TheVariants.{Damage};
+ghost use Rattle.file_history.specs.declared.fault.HistFault.TheVariants.{Damage};
 
-use crate::fault::HistoryFault;
+use crate::fault::HistFault;
 use crate::follow::{Spot, search};
 use file_rows::Child;
 use keyed_tree::Label;
@@ -44,7 +44,7 @@ pub fn find_leaf<F: Folder, L: Ledger>(
     header: &Header,
     path: &[Label],
     steps: &mut Steps<L>,
-) -> Result<Option<LeafAt>, HistoryFault>
+) -> Result<Option<LeafAt>, HistFault>
     requires { IsHeader (header_view header.now) }
     ensures found { (bytes : List ℕ) (rules : List PlainRule) (vs : List PlainKeyed)
         (a : PlainArchive)
@@ -88,7 +88,7 @@ pub fn find_leaf<F: Folder, L: Ledger>(
     let all = VersionSet::upto(alloc, header.versions);
     match search(alloc, folder, name, header, all, path, steps) {
         Ok(spot) => Ok(leaf_in(spot)),
-        Err(fault) => Err(HistoryFault::from(fault)),
+        Err(fault) => Err(HistFault::from(fault)),
     }
 }
 

@@ -7,6 +7,6 @@ mod leaf;
 mod open;
 mod search;
 
-pub use fault::HistoryFault;
+pub use fault::HistFault;
 pub use follow::history;
 pub use leaf::{LeafAt, find_leaf};

@@ -1,12 +1,11 @@
 -- What the bytes of a directory say, of which some were read.
-use Rattle.std.proofs.Common.{◌≡◌, ℕ, zero, suc, ◌+◌, ◌-◌, ◌*◌, ◌≤◌, false, eqb, ltb, leb, true, IsTrue, List, [], ◌∷◌, ◌++◌, length, map, take, drop, Option, Some, None, Result, Ok, refl, sym, ap, subst, ◌∙◌, arith, length-take-le, length-drop, drop-drop}
+use Rattle.std.proofs.Common.{◌≡◌, ℕ, zero, suc, ◌+◌, ◌-◌, ◌*◌, ◌≤◌, false, eqb, leb, true, IsTrue, List, [], ◌∷◌, ◌++◌, length, map, take, drop, Option, Some, None, Result, Ok, refl, sym, ap, subst, ◌∙◌, arith, length-take-le, length-drop, drop-drop}
 use Rattle.std.specs.Int.{Width, w64, byte_len, from_be_bytes}
 use Rattle.std.specs.Prelude.{ok_or, IfOk, IfSome}
-use Rattle.std.proofs.lemmas.Bool.{le-ltb}
 use Rattle.std.proofs.lemmas.Bool.Decides.{nat_tests}
 use Rattle.std.proofs.lemmas.List.{drop-take, take-take, length-append}
 use Rattle.xa_fields.specs.Reading.{number_at}
-use Rattle.xa_fields.proofs.Fields.{some_is}
+use Rattle.xa_fields.specs.FieldLaws.{number-there, some_is}
 use Rattle.timestamp_tree.specs.Data.{PlainTs, leaf, node, leaves}
 use Rattle.timestamp_tree.specs.Bytes.{tree_bytes}
 use Rattle.timestamp_tree.specs.Tree.{tree_of}
@@ -21,9 +20,6 @@ use Rattle.file_rows.specs.StandsAt.{IsEntered, has_room}
 use Rattle.file_rows.proofs.Children.{entries-size}
 
 -- ---- numbers
-
-number-there : (w : Width) (bytes : List ℕ) → byte_len w ≤ length bytes → number_at w bytes ≡ Some (from_be_bytes w (take (byte_len w) bytes), drop (byte_len w) bytes)
-number-there w bytes fits = (let long : ltb (length bytes) (byte_len w) ≡ false = le-ltb _ _ fits in rw long refl)
 
 -- a number that was read of the first bytes stands there
 number-front : (w : Width) (at n : ℕ) (bytes out : List ℕ) (x : ℕ) (rest : List ℕ) → out ≡ take n bytes → at + byte_len w ≤ n → n ≤ length bytes → Some (x, rest) ≡ number_at w (drop at out)

@@ -1,29 +1,26 @@
 -- Printed lines read back.
-use Rattle.std.proofs.Common.{◌≡◌, ℕ, ◌+◌, ◌≤◌, true, false, IsUtf8, List, [], ◌∷◌, ◌++◌, drop, Some, option_map, option_and_then, Ok, refl, sym, ap, ap₂, ◌∙◌, subst, arith, append_assoc}
+use Rattle.std.proofs.Common.{◌≡◌, ◌≤◌, true, false, IsUtf8, List, [], ◌∷◌, ◌++◌, Some, option_map, option_and_then, refl, sym, ap, ap₂, ◌∙◌, subst, arith, append_assoc}
 use Rattle.std.specs.List.{AllByRecursion}
 use Rattle.std.specs.Result.{result_ok}
 use Rattle.json.specs.Print.{quoted}
 use Rattle.json.specs.Tree as outlined
-use Rattle.std.proofs.lemmas.Str.{IsUtf8-append}
+use Rattle.std.proofs.lemmas.Str.{IsUtf8-append, IsUtf8-nil}
 use Rattle.json.proofs.Printed.Utf8.{IsUtf8-are_ascii, IsUtf8-quoted}
 use Rattle.serde_json.specs.Data.{Data, string, array, Items, no_items, item}
 use Rattle.serde_json.specs.Read.{read, of_json, of_items}
 use Rattle.serde_json.specs.Written as written
 use Rattle.serde_json.specs.Written.{compact_text, outline, items_outline}
 use Rattle.jsonml_tree.specs.Data as plain
-use Rattle.jsonml_tree.specs.Data.{PlainScalar, PlainAttr, PlainTree, text, element, PlainContent, content, PlainTrees, no_trees, tree}
-use Rattle.jsonml_print.specs.Printed.{scalar_text, content_text}
-use Rattle.jsonml_text.specs.Spelled.{and_then, mapped, attrs_at, scalar_in, item_at, content_at, items_at}
-use Rattle.jsonml_text.proofs.ReadBack.{scalar_data, attrs_data, tree_data, content_data, items_data, whole_text, tree_text-is, reads_scalar}
-use Rattle.jsonml_text.proofs.RoundTrips.{scalar_back}
+use Rattle.jsonml_tree.specs.Data.{PlainScalar}
+use Rattle.jsonml_text.specs.Spelled.{scalar_in}
+use Rattle.jsonml_text.proofs.ReadBack.{scalar_data, content_data, scalar_text-is, array_text-is, scalar_read, content_read, scalar_numbers, content_numbers, scalar_flat, content_nests, reads_outline}
+use Rattle.jsonml_text.proofs.RoundTrips.{byte, scalar_utf8, array_utf8, scalar_back, content_back}
 use Rattle.keyed_tree.specs.Data.{PlainKey, scalar, inside}
-use Rattle.jsonml_lines.specs.Lines.{PlainLine, array_text, cell_text, cells_text, front_text}
+use Rattle.jsonml_lines.specs.Lines.{PlainLine, cell_text, cells_text, front_text}
 use Rattle.jsonml_lines.specs.Read.{cell_in, cells_in, line_in}
 use Rattle.jsonml_lines.specs.RoundTrip.{AreCellTexts, AreLineTexts, IsCell, IsLine, CellReadsBack, ReadsBack}
-use Rattle.jsonml_lines.proofs.GoodTexts.{behind, comma, good_scalar, good_content}
 use Rattle.jsonml_lines.proofs.Unbroken as whole
 use Rattle.jsonml_lines.proofs.Unbroken.{Unbroken, joined, whole_string, whole_scalar, whole_content}
-use Rattle.jsonml_lines.proofs.Nesting.{scalar_numbers, content_numbers, scalar_flat, content_nests, reads_outline, content_read}
 
 -- ---- the value that spells a cell, and a line
 
@@ -39,21 +36,6 @@ abbrev pub line_data : PlainLine → Data
 line_data l = array (item (string l.word) (cells_data l.cells))
 
 -- ---- what is printed for the line is what is printed for that value
-
-scalar_text-is : (s : PlainScalar) → scalar_text s ≡ compact_text (scalar_data s)
-scalar_text-is plain.null = refl
-scalar_text-is (plain.boolean true) = refl
-scalar_text-is (plain.boolean false) = refl
-scalar_text-is (plain.whole n) = whole_text n
-scalar_text-is (plain.string s) = refl
-
-content_text-is : (c : PlainContent) → content_text c ++ 93 ∷ [] ≡ written.items_text true (content_data c)
-content_text-is c = ap (drop 3) (tree_text-is (element [] c))
-
-array_text-is : (c : PlainContent) → array_text c ≡ compact_text (array (content_data c))
-array_text-is (content [] no_trees) = refl
-array_text-is (content [] (tree t ts)) = ap (λ l. 91 ∷ drop 1 l) (content_text-is (content [] (tree t ts)))
-array_text-is (content (x ∷ xs) ts) = ap (λ l. 91 ∷ drop 1 l) (content_text-is (content (x ∷ xs) ts))
 
 pub cell_text-is : (k : PlainKey) → cell_text k ≡ compact_text (cell_data k)
 cell_text-is (scalar s) = scalar_text-is s
@@ -81,16 +63,16 @@ whole_line l h = whole.behind 91 _ refl (joined (quoted l.word) _ (whole_string 
 
 -- ---- it is UTF-8
 
-good_cell : (k : PlainKey) → IsCell k → AreCellTexts k → IsUtf8 (compact_text (cell_data k))
-good_cell (scalar s) h t = good_scalar s h.well_formed t
-good_cell (inside c) h t = behind 91 _ (IsUtf8-are_ascii _ refl) (good_content false c h.well_formed t)
+good_cell : (k : PlainKey) → IsCell k → AreCellTexts k → IsUtf8 (cell_text k)
+good_cell (scalar s) h t = scalar_utf8 s h.well_formed t
+good_cell (inside c) h t = array_utf8 c h.well_formed t
 
-good_cells : (ks : List PlainKey) → AllByRecursion IsCell ks → AllByRecursion AreCellTexts ks → IsUtf8 (written.items_text true (cells_data ks))
-good_cells [] h t = IsUtf8-are_ascii (93 ∷ []) refl
-good_cells (k ∷ ks) h t = comma true _ (IsUtf8-append (compact_text (cell_data k)) _ (good_cell k h.0 t.0) (good_cells ks h.1 t.1))
+good_cells : (ks : List PlainKey) → AllByRecursion IsCell ks → AllByRecursion AreCellTexts ks → IsUtf8 (cells_text ks)
+good_cells [] h t = IsUtf8-nil
+good_cells (k ∷ ks) h t = byte 44 _ (IsUtf8-are_ascii _ refl) (IsUtf8-append (cell_text k) (cells_text ks) (good_cell k h.0 t.0) (good_cells ks h.1 t.1))
 
-good_line : (l : PlainLine) → IsLine l → AreLineTexts l → IsUtf8 (compact_text (line_data l))
-good_line l h t = behind 91 _ (IsUtf8-are_ascii _ refl) (IsUtf8-append (quoted l.word) _ (IsUtf8-quoted l.word t.word) (good_cells l.cells h t.cells))
+good_line : (l : PlainLine) → IsLine l → AreLineTexts l → IsUtf8 (front_text l)
+good_line l h t = byte 91 _ (IsUtf8-are_ascii _ refl) (IsUtf8-append (quoted l.word) _ (IsUtf8-quoted l.word t.word) (IsUtf8-append (cells_text l.cells) (93 ∷ []) (good_cells l.cells h t.cells) (IsUtf8-are_ascii _ refl)))
 
 -- ---- it is read
 
@@ -111,8 +93,8 @@ cells_nest [] h = omega arith
 cells_nest (k ∷ ks) h = omega (arith, cell_nests k h.0, cells_nest ks h.1)
 
 cell_read : (k : PlainKey) → IsCell k → of_json (outline (cell_data k)) ≡ Some (cell_data k)
-cell_read (scalar s) h = sym (reads_outline (scalar_text s) (scalar_data s) (scalar_text-is s) (scalar_numbers s h.well_formed) (omega (arith, scalar_flat s))) ∙ reads_scalar s h.well_formed
-cell_read (inside c) h = ap (option_map array) (content_read c h.well_formed h.shallow)
+cell_read (scalar s) h = scalar_read s h.well_formed
+cell_read (inside c) h = ap (option_map array) (content_read c h.well_formed)
 
 cells_read : (ks : List PlainKey) → AllByRecursion IsCell ks → of_items (items_outline (cells_data ks)) ≡ Some (cells_data ks)
 cells_read [] h = refl
@@ -125,31 +107,6 @@ line_read l h =
     ∙ ap (λ o. option_map array (option_map (item (string l.word)) o)) (cells_read l.cells h)
 
 -- ---- the value spells the line
-
-attrs_back : (place : List ℕ) (xs : List PlainAttr) → attrs_at place (attrs_data xs) ≡ Ok xs
-attrs_back place [] = refl
-attrs_back place (x ∷ xs) =
-    ap (λ r. and_then r (λ value. mapped (λ xs. record { name = x.name; value = value } ∷ xs) (attrs_at place (attrs_data xs)))) (scalar_back place x.value)
-    ∙ ap (mapped (λ xs. x ∷ xs)) (attrs_back place xs)
-
-mutual
-  item_back : (place : List ℕ) (t : PlainTree) → item_at place (tree_data t) ≡ Ok t
-  item_back place (text s) = refl
-  item_back place (element tag c) = ap (mapped (element tag)) (content_back place c)
-
-  content_back : (place : List ℕ) (c : PlainContent) → content_at place (content_data c) ≡ Ok c
-  content_back place (content [] no_trees) = refl
-  content_back place (content [] (tree (text s) ts)) = ap (mapped (λ us. content [] (tree (text s) us))) (items_back place 2 ts)
-  content_back place (content [] (tree (element tag c) ts)) =
-      ap (λ r. and_then r (λ t. mapped (λ us. content [] (tree t us)) (items_at place 2 (items_data ts)))) (ap (mapped (element tag)) (content_back (place ++ 1 ∷ []) c))
-      ∙ ap (mapped (λ us. content [] (tree (element tag c) us))) (items_back place 2 ts)
-  content_back place (content (x ∷ xs) ts) =
-      ap (λ r. and_then r (λ ys. mapped (content ys) (items_at place 1 (items_data ts)))) (attrs_back place (x ∷ xs)) ∙ ap (mapped (content (x ∷ xs))) (items_back place 1 ts)
-
-  items_back : (place : List ℕ) (n : ℕ) (ts : PlainTrees) → items_at place n (items_data ts) ≡ Ok ts
-  items_back place n no_trees = refl
-  items_back place n (tree t ts) =
-      ap (λ r. and_then r (λ u. mapped (tree u) (items_at place (n + 1) (items_data ts)))) (item_back (place ++ n ∷ []) t) ∙ ap (mapped (tree t)) (items_back place (n + 1) ts)
 
 scalar_spelled : (s : PlainScalar) → scalar_in (scalar_data s) ≡ Some s
 scalar_spelled s = ap result_ok (scalar_back [] s)
@@ -178,5 +135,5 @@ line_reads_back l h =
     record {
       unbroken = (subst Unbroken (sym (front_text-is l)) (whole_line l h)).is;
       value = ap (option_and_then line_in) (line_read l h) ∙ line_back l;
-      utf8 = λ t. subst IsUtf8 (sym (front_text-is l)) (good_line l h t);
+      utf8 = λ t. good_line l h t;
     }

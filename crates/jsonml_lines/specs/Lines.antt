@@ -1,14 +1,9 @@
--- The text of contents and of flat lines: JSON without blanks.
-use Rattle.std.specs.Prelude.{ℕ, List, [], ◌∷◌, ◌++◌, drop}
+-- The text of flat lines: JSON without blanks.
+use Rattle.std.specs.Prelude.{ℕ, List, [], ◌∷◌, ◌++◌}
 use Rattle.std.specs.List.{flat_map}
 use Rattle.json.specs.Print.{quoted}
-use Rattle.jsonml_tree.specs.Data.{PlainContent}
-use Rattle.jsonml_print.specs.Printed.{scalar_text, content_text}
+use Rattle.jsonml_print.specs.Printed.{scalar_text, array_text}
 use Rattle.keyed_tree.specs.Data.{PlainKey, scalar, inside}
-
--- a content as an array: what an element prints behind its tag, without the comma in front
-abbrev pub array_text : PlainContent → List ℕ
-array_text c = 91 ∷ (drop 1 (content_text c) ++ 93 ∷ [])
 
 -- a scalar as itself, a content as an array
 abbrev pub cell_text : PlainKey → List ℕ

@@ -1,5 +1,8 @@
 -- What a JSON value spells in a line.
-use Rattle.std.specs.Prelude.{List, [], ◌∷◌, Option, Some, None, option_map, option_and_then}
+use Rattle.std.specs.Prelude.{ℕ, ◌+◌, ◌==◌, List, [], ◌∷◌, take, drop, Option, Some, None, option_map, option_and_then, if◌then◌else◌}
+use Rattle.std.specs.List.{position}
+use Rattle.std.specs.Str.{is_utf8}
+use Rattle.serde_json.specs.Read.{read}
 use Rattle.serde_json.specs.Data.{Data, null, boolean, number, string, array, object, Items, no_items, item}
 use Rattle.jsonml_text.specs.Spelled.{scalar_in, content_in}
 use Rattle.keyed_tree.specs.Data.{PlainKey, scalar, inside}
@@ -40,3 +43,15 @@ line_in (number n) = None
 line_in (string s) = None
 line_in (array ds) = words_in ds
 line_in (object ms) = None
+
+-- the line that stands in front of a line feed: UTF-8 that `serde_json` reads as one value, and that spells a line
+unfoldable pub line_of : List ℕ → Option PlainLine
+line_of front = if is_utf8 front then option_and_then line_in (read front) else None
+
+-- the bytes in front of the one at a place, and those behind it
+abbrev pub cut : List ℕ → ℕ → List ℕ × List ℕ
+cut bytes i = (take i bytes, drop (i + 1) bytes)
+
+-- the line up to the first line feed, and what stands behind that
+abbrev pub line_at : List ℕ → Option (PlainLine × List ℕ)
+line_at bytes = option_and_then (λ i. option_map (λ l. (l, drop (i + 1) bytes)) (line_of (take i bytes))) (position (λ b. b == 10) bytes)

@@ -4,6 +4,7 @@ use Rattle.std.specs.List.{AllByRecursion, list_all}
 use Rattle.std.specs.Str.{IsUtf8}
 use Rattle.serde_json.specs.Read.{read}
 use Rattle.jsonml_tree.specs.Data.{content_depth}
+use Rattle.jsonml_tree.specs.declared.limits.TheConstants.{GREATEST_DEPTH}
 use Rattle.jsonml_text.specs.Texts.{IsScalarText, AreContentTexts}
 use Rattle.keyed_tree.specs.Data.{PlainKey, scalar, inside}
 use Rattle.keyed_tree.specs.WellFormed.{is_key_well_formed}
@@ -18,10 +19,10 @@ abbrev pub cell_depth : PlainKey → ℕ
 cell_depth (scalar s) = 0
 cell_depth (inside c) = content_depth c
 
--- the cell is well formed, and its elements nest at most 120 deep
+-- the cell is well formed, and its elements nest at most so deep
 pub record IsCell (k : PlainKey) : Type 0 where
   pub well_formed : IsTrue (is_key_well_formed k)
-  pub shallow : cell_depth k ≤ 120
+  pub shallow : cell_depth k ≤ GREATEST_DEPTH
 
 abbrev pub IsLine : PlainLine → Type 0
 IsLine l = AllByRecursion IsCell l.cells

@@ -1,7 +1,6 @@
 //! Flat lines of JSON: an array of a word, scalars and contents on each, written and read one after another.
 #![tactic(auto)]
 
-mod content;
 mod laws;
 mod line;
 mod plain;
@@ -10,7 +9,7 @@ mod split;
 mod value;
 mod write;
 
-pub use content::write_content;
+pub use jsonml_print::write_content;
 pub use laws::printed_lines_read_back;
 pub use line::Line;
 pub use read::take_line;

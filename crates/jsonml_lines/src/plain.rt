@@ -4,8 +4,6 @@
 ghost use Rattle.std.specs.Prelude.{◌≡◌, ◌++◌, ◌∷◌, [], map, IfOk, IfSome};
 ghost use Rattle.std.specs.List.{AllByRecursion};
 ghost use Rattle.json.specs.Print.{escape, quoted};
-ghost use Rattle.jsonml_tree.specs.Data.{only_text};
-ghost use Rattle.jsonml_tree.specs.View.{content_view};
 ghost use Rattle.keyed_tree.specs.View.{key_view};
 ghost use Rattle.jsonml_lines.specs.Lines.{cell_text, cells_text, front_text};
 ghost use Rattle.jsonml_lines.specs.RoundTrip.{IsCell, IsLine};
@@ -13,7 +11,7 @@ ghost use Rattle.jsonml_lines.specs.View.{line_view};
 
 use crate::line::Line;
 use jsonml_print::plain_run;
-use jsonml_tree::{Content, Scalar, Tree};
+use jsonml_tree::{Content, Scalar};
 use keyed_tree::KeyVal;
 use std::alloc::{AllocError, Global};
 
@@ -105,25 +103,12 @@ fn array_cell(alloc: Global, bytes: &[u8]) -> Result<Option<(KeyVal, &[u8])>, Al
 {
     match plain_text(bytes) {
         Some((text, [b']', rest @ ..])) => {
-            let content = only_text(alloc, text)?;
+            let content = Content::of_text(alloc, text)?;
             Ok(Some((KeyVal::Content(content), rest)))
         }
         Some(_) => Ok(None),
         None => Ok(None),
     }
-}
-
-/// The content of one text and nothing else.
-fn only_text(alloc: Global, text: &str) -> Result<Content, AllocError>
-    ensures { IfOk result (λ c. content_view c ≡ only_text text.now) }
-{
-    let text = String::from_str(alloc, text)?;
-    let mut items = Vec::with_capacity(alloc, 1)?;
-    items.push(Tree::Text(text))?;
-    Ok(Content {
-        attrs: Vec::new(alloc),
-        items,
-    })
 }
 
 /// The plain text that goes on behind a quote, and what stands behind the next one.

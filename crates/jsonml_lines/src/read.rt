@@ -1,10 +1,9 @@
-ghost use Rattle.std.specs.Prelude.{◌≡◌, ◌<◌, ◌≤◌, ◌++◌, ℕ, List, length, drop, map, Some, IfOk, IfSome, IsTrue, IsUtf8, option_map, option_and_then};
+ghost use Rattle.std.specs.Prelude.{◌≡◌, ◌<◌, ◌≤◌, ◌++◌, ℕ, List, length, drop, map, IfOk, IfSome, IsTrue, option_map};
 ghost use Rattle.std.specs.Option.{IsSomeAnd};
-ghost use Rattle.serde_json.specs.Read.{read};
 ghost use Rattle.keyed_tree.specs.View.{key_view};
 ghost use Rattle.keyed_tree.specs.WellFormed.{are_keys_well_formed};
 ghost use Rattle.jsonml_lines.specs.Lines.{PlainLine, line_text};
-ghost use Rattle.jsonml_lines.specs.Read.{line_in};
+ghost use Rattle.jsonml_lines.specs.Read.{line_at, line_of};
 ghost use Rattle.jsonml_lines.specs.RoundTrip.{AreLineTexts, IsLine};
 ghost use Rattle.jsonml_lines.specs.View.{line_view};
 
@@ -15,14 +14,17 @@ use crate::value::line_in;
 use serde_json::Value;
 use std::alloc::{AllocError, Global};
 
-/// The line that begins at an offset, and the offset behind its line feed. None where no line feed follows, or what stands in
-/// front of it is no array of a string, scalars and contents. It recurses as deep as JSON nests, which is at most 127 levels.
+/// The line that begins at an offset, and the offset behind its line feed. None exactly where no line feed follows, or what
+/// stands in front of the first is no array of a string, scalars and contents. It recurses as deep as JSON nests, which is at
+/// most 127 levels.
 pub fn take_line(
     alloc: Global,
     bytes: &[u8],
     at: usize,
 ) -> Result<Option<(Line, usize)>, AllocError>
     requires { at ≤ length bytes.now }
+    ensures line { IfOk result (λ o. option_map (λ r. (line_view r.0, drop r.1 bytes.now)) o
+        ≡ line_at (drop at bytes.now)) }
     ensures found { (l : PlainLine) (rest : List ℕ) → IsLine l → AreLineTexts l
         → drop at bytes.now ≡ line_text l ++ rest
         → IfOk result (λ o. IsSomeAnd o (λ r. (line_view r.0 ≡ l) × (drop r.1 bytes.now ≡ rest))) }
@@ -42,9 +44,7 @@ pub fn take_line(
 
 /// The line that stands in front of a line feed.
 fn line_of(alloc: Global, front: &[u8]) -> Result<Option<Line>, AllocError>
-    ensures found { (l : PlainLine) → IsUtf8 front.now
-        → option_and_then line_in (read front.now) ≡ Some l
-        → IfOk result (λ o. option_map line_view o ≡ Some l) }
+    ensures line { IfOk result (λ o. option_map line_view o ≡ line_of front.now) }
     ensures well_formed { IfOk result (λ o. IfSome o
         (λ l. IsTrue (are_keys_well_formed (map key_view l.cells.items)))) }
 {
@@ -56,9 +56,7 @@ fn line_of(alloc: Global, front: &[u8]) -> Result<Option<Line>, AllocError>
 
 /// The same, by way of its JSON value.
 fn line_by_value(alloc: Global, front: &[u8]) -> Result<Option<Line>, AllocError>
-    ensures found { (l : PlainLine) → IsUtf8 front.now
-        → option_and_then line_in (read front.now) ≡ Some l
-        → IfOk result (λ o. option_map line_view o ≡ Some l) }
+    ensures line { IfOk result (λ o. option_map line_view o ≡ line_of front.now) }
     ensures well_formed { IfOk result (λ o. IfSome o
         (λ l. IsTrue (are_keys_well_formed (map key_view l.cells.items)))) }
 {

@@ -1,14 +1,12 @@
-ghost use Rattle.std.specs.Prelude.{◌≡◌, ◌==◌, ◌<◌, ◌≤◌, ◌++◌, ◌∷◌, ℕ, List, length, drop, IfSome, IsTrue};
-ghost use Rattle.std.specs.Option.{IsSomeAnd};
+ghost use Rattle.std.specs.Prelude.{◌≡◌, ◌==◌, ◌<◌, ◌≤◌, length, drop, IfSome, option_map};
 ghost use Rattle.std.specs.List.{position};
-ghost use Rattle.jsonml_lines.specs.RoundTrip.{is_unbroken};
+ghost use Rattle.jsonml_lines.specs.Read.{cut};
 
 /// What stands from an offset to the next line feed, and the offset behind that. None where no line feed follows.
 pub(crate) fn split_line(bytes: &[u8], at: usize) -> Option<(&[u8], usize)>
     requires { at ≤ length bytes.now }
-    ensures found { (front rest : List ℕ) → IsTrue (is_unbroken front)
-        → drop at bytes.now ≡ front ++ 10 ∷ rest
-        → IsSomeAnd result (λ r. (r.0.now ≡ front) × (drop r.1 bytes.now ≡ rest)) }
+    ensures split { option_map (λ r. (r.0.now, drop r.1 bytes.now)) result
+        ≡ option_map (cut (drop at bytes.now)) (position (λ b. b == 10) (drop at bytes.now)) }
     ensures further { IfSome result (λ r. at < r.1) }
     ensures within { IfSome result (λ r. r.1 ≤ length bytes.now) }
 {

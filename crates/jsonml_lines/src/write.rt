@@ -7,8 +7,7 @@ ghost use Rattle.xa_outside.specs.Causes.{HasCause};
 ghost use Rattle.keyed_tree.specs.View.{key_view};
 ghost use Rattle.jsonml_lines.specs.Lines.{cell_text};
 
-use crate::content::write_content;
-use jsonml_print::{write_behind_quote, write_scalar};
+use jsonml_print::{write_behind_quote, write_content, write_scalar};
 use keyed_tree::KeyVal;
 use xa_outside::{Failed, Sink, put_all};
 

@@ -1,3 +1,4 @@
 pub mod Escapes
 pub mod Walks
 pub mod TreeWalk
+pub mod Arrays

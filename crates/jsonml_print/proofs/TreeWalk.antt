@@ -10,7 +10,7 @@ use Rattle.jsonml_print.specs.Printed.{attr_text, attrs_text, tree_text, content
 use Rattle.jsonml_print.specs.Pen.{Pen, fresh, one_more, one_less, has_ended, is_item, IsOpen}
 use Rattle.jsonml_print.specs.Calls.{begin, attribute, end, after, piece, brace, item_lead, printed, reached, AllMayCome, calls_of, items_calls}
 use Rattle.jsonml_print.specs.declared.last.Last.{Last}
-use Rattle.jsonml_print.specs.declared.last.Last.TheVariants.{Nothing, Begun, Attribute, Item}
+use Rattle.jsonml_print.specs.declared.last.Last.TheVariants.{Nothing, Opened, Begun, Attribute, Item}
 use Rattle.jsonml_print.proofs.Walks.{printed-append, reached-append, AllMayCome-append}
 
 -- ---- how many elements are open
@@ -68,6 +68,7 @@ attrs_may n (x ∷ xs) = (refl, more_may n xs)
 -- something has been printed
 abbrev has_begun : Last → Bool
 has_begun Nothing = false
+has_begun Opened = false
 has_begun Begun = true
 has_begun Attribute = true
 has_begun Item = true
@@ -78,6 +79,7 @@ attrs_begun (x ∷ xs) = refl
 
 lead_is : (l : Last) → has_begun l ≡ true → item_lead l ≡ brace l ++ 44 ∷ []
 lead_is Nothing e = absurd (cc)
+lead_is Opened e = absurd (cc)
 lead_is Begun e = refl
 lead_is Attribute e = refl
 lead_is Item e = refl

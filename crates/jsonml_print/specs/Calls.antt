@@ -7,7 +7,7 @@ use Rattle.jsonml_tree.specs.Data as plain
 use Rattle.jsonml_print.specs.Printed.{attr_text}
 use Rattle.jsonml_print.specs.Pen.{Pen, one_more, one_less, takes_attribute, has_ended, IsOpen}
 use Rattle.jsonml_print.specs.declared.last.Last.{Last}
-use Rattle.jsonml_print.specs.declared.last.Last.TheVariants.{Nothing, Begun, Attribute, Item}
+use Rattle.jsonml_print.specs.declared.last.Last.TheVariants.{Nothing, Opened, Begun, Attribute, Item}
 
 pub data Call : Type 0 where
   begin : List ℕ → Call
@@ -33,20 +33,23 @@ after p end = record { depth = one_less p.depth; last = Item }
 -- the brace behind the attributes of an element
 abbrev pub brace : Last → List ℕ
 brace Nothing = []
+brace Opened = []
 brace Begun = []
 brace Attribute = 125 ∷ []
 brace Item = []
 
--- what comes before an item: that brace, and a comma
+-- what comes before an item: that brace, and a comma, but for the first in an array
 abbrev pub item_lead : Last → List ℕ
 item_lead Nothing = []
+item_lead Opened = []
 item_lead Begun = 44 ∷ []
 item_lead Attribute = 125 ∷ 44 ∷ []
 item_lead Item = 44 ∷ []
 
--- what comes before an attribute: a comma, and the brace before the first of an element
+-- what comes before an attribute: a comma, and the brace before the first of an element; no comma in front in an array
 abbrev pub attribute_lead : Last → List ℕ
 attribute_lead Nothing = []
+attribute_lead Opened = 123 ∷ []
 attribute_lead Begun = 44 ∷ 123 ∷ []
 attribute_lead Attribute = 44 ∷ []
 attribute_lead Item = []

@@ -1,5 +1,5 @@
 -- The text of trees: JSON without blanks.
-use Rattle.std.specs.Prelude.{ℕ, List, [], ◌∷◌, ◌++◌, map, codes, if◌then◌else◌}
+use Rattle.std.specs.Prelude.{ℕ, List, [], ◌∷◌, ◌++◌, drop, map, codes, if◌then◌else◌}
 use Rattle.std.specs.Fmt.{signed_decimal}
 use Rattle.std.specs.List.{join_with_byte}
 use Rattle.json.specs.Print.{quoted}
@@ -35,6 +35,10 @@ abbrev mutual
   pub items_text : PlainTrees → List ℕ
   items_text no_trees = []
   items_text (tree t ts) = 44 ∷ (tree_text t ++ items_text ts)
+
+-- a content as an array: what an element prints behind its tag, without the comma in front
+abbrev pub array_text : PlainContent → List ℕ
+array_text c = 91 ∷ (drop 1 (content_text c) ++ 93 ∷ [])
 
 -- a printed document ends with a line feed
 abbrev pub document_text : PlainTree → List ℕ

@@ -1,6 +1,7 @@
 //! Printing of documents, whole or call by call.
 #![tactic(auto)]
 
+mod array;
 mod last;
 mod laws;
 mod pieces;
@@ -8,6 +9,7 @@ mod print;
 mod printer;
 mod quote;
 
+pub use array::write_content;
 pub use laws::calls_print_the_tree;
 pub use pieces::write_scalar;
 pub use print::{print_content, print_lent_content, write_tree};

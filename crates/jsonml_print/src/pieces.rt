@@ -66,6 +66,7 @@ fn write_attribute_lead<K: Sink>(last: Last, sink: &mut K) -> Result<(), Failed>
     ensures cause { HasCause (K.faults sink.old) (K.faults sink.new) result }
 {
     match last {
+        Last::Opened => put_all(sink, b"{\""),
         Last::Begun => put_all(sink, b",{\""),
         _ => put_all(sink, b",\""),
     }
@@ -120,7 +121,7 @@ fn write_text_lead<K: Sink>(last: Last, sink: &mut K) -> Result<(), Failed>
     ensures cause { HasCause (K.faults sink.old) (K.faults sink.new) result }
 {
     match last {
-        Last::Nothing => put_all(sink, b"\""),
+        Last::Nothing | Last::Opened => put_all(sink, b"\""),
         Last::Begun | Last::Item => put_all(sink, b",\""),
         Last::Attribute => put_all(sink, b"},\""),
     }
@@ -143,7 +144,7 @@ fn write_begin_lead<K: Sink>(last: Last, sink: &mut K) -> Result<(), Failed>
     ensures cause { HasCause (K.faults sink.old) (K.faults sink.new) result }
 {
     match last {
-        Last::Nothing => put_all(sink, b"[\""),
+        Last::Nothing | Last::Opened => put_all(sink, b"[\""),
         Last::Begun | Last::Item => put_all(sink, b",[\""),
         Last::Attribute => put_all(sink, b"},[\""),
     }

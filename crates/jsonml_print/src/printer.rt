@@ -2,7 +2,7 @@ ghost use Rattle.std.specs.Prelude.{◌≡◌, ◌∷◌, []};
 ghost use Rattle.xa_outside.specs.Causes.{HasCause};
 ghost use Rattle.jsonml_tree.specs.LentAttrs.{lent_attr_view};
 ghost use Rattle.jsonml_tree.specs.View.{scalar_view};
-ghost use Rattle.jsonml_print.specs.Pen.{fresh};
+ghost use Rattle.jsonml_print.specs.Pen.{fresh, opened};
 ghost use Rattle.jsonml_print.specs.Calls.{begin, attribute, text as text_call, end, MayCome, Prints};
 
 use crate::last::Last;
@@ -37,6 +37,16 @@ impl Printer {
         Printer {
             depth: 0,
             last: Last::Nothing,
+        }
+    }
+
+    /// A printer of what an element holds, as an array whose bracket stands.
+    pub(crate) fn opened() -> Printer
+        ensures { result ≡ opened }
+    {
+        Printer {
+            depth: 1,
+            last: Last::Opened,
         }
     }
 

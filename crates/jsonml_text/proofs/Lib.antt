@@ -9,6 +9,7 @@ pub mod Lexing
 pub mod Contained
 pub mod Straightness
 pub mod Members
+pub mod Placed
 pub mod Pushing
 pub mod ReadBack
 pub mod RoundTrips

@@ -2,7 +2,7 @@
 use Rattle.std.proofs.Common.{◌≡◌, ◌⊎◌, inl, inr, ℕ, zero, suc, ◌<◌, List, [], ◌∷◌, map, String, Global, string_bytes, arith, sym, ap, ◌∙◌, subst, refl}
 use Rattle.std.proofs.lemmas.Str.{IsUtf8-string_bytes}
 use Rattle.jsonml_tree.specs.Data.{element, content, trees_of, tree_depth, trees_depth}
-use Rattle.jsonml_tree.specs.View.{scalar_view, attr_view, tree_view}
+use Rattle.jsonml_tree.specs.View.{scalar_view, attr_view, tree_view, content_view}
 use Rattle.jsonml_tree.specs.declared.scalar.Attr.{Attr}
 use Rattle.jsonml_tree.specs.declared.scalar.Scalar.{Scalar}
 use Rattle.jsonml_tree.specs.declared.scalar.Scalar.TheVariants as scalar
@@ -10,9 +10,9 @@ use Rattle.jsonml_tree.specs.declared.tree.Content.{Content}
 use Rattle.jsonml_tree.specs.declared.tree.Tree.{Tree, Tree-F, Text, Elem, out-Tree, roll-Tree, roll-out-Tree}
 use Rattle.jsonml_tree.specs.declared.tree.Tree.TheVariants.{rolls-Text, rolls-Elem}
 use Rattle.jsonml_tree.proofs.Trees.{tree_view-Text, tree_view-Elem, content_view-is}
-use Rattle.jsonml_text.specs.Texts.{IsScalarText, AreAttrTexts, AreTexts, AreItemTexts}
+use Rattle.jsonml_text.specs.Texts.{IsScalarText, AreAttrTexts, AreTexts, AreContentTexts, AreItemTexts}
 
-scalar_text : (x : Scalar) → IsScalarText (scalar_view x)
+pub scalar_text : (x : Scalar) → IsScalarText (scalar_view x)
 scalar_text scalar.Null = tt
 scalar_text (scalar.Bool b) = tt
 scalar_text (scalar.Whole n) = tt
@@ -57,3 +57,10 @@ texts_below (suc n) t below =
 
 pub tree_texts : (t : Tree) → AreTexts (tree_view t)
 tree_texts t = texts_below (suc (tree_depth (tree_view t))) t (omega arith)
+
+item_texts : (ts : List Tree) → AreItemTexts (trees_of (map tree_view ts))
+item_texts [] = tt
+item_texts (t ∷ ts) = (tree_texts t, item_texts ts)
+
+pub content_texts : (c : Content) → AreContentTexts (content_view c)
+content_texts c = subst AreContentTexts (sym (content_view-is c)) (attr_texts c.attrs.items, item_texts c.items.items)

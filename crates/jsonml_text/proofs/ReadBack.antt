@@ -1,5 +1,5 @@
 -- The text of a document reads back as it.
-use Rattle.std.proofs.Common.{◌≡◌, ℕ, ◌+◌, ◌<◌, ◌≤◌, ◌^◌, ◌&&◌, ℤ, pos, negsuc, Bool, true, false, not, IsTrue, List, [], ◌∷◌, ◌++◌, map, Some, option_map, option_and_then, refl, sym, ap, ap₂, ◌∙◌, arith, append_assoc, append-nil}
+use Rattle.std.proofs.Common.{◌≡◌, ℕ, ◌+◌, ◌<◌, ◌≤◌, ◌^◌, ◌&&◌, ℤ, pos, negsuc, Bool, true, false, not, IsTrue, List, [], ◌∷◌, ◌++◌, drop, map, Some, option_map, option_and_then, refl, sym, ap, ap₂, ◌∙◌, arith, append_assoc, append-nil}
 use Rattle.std.specs.Prelude.{⊤}
 use Rattle.std.specs.List.{flat_map, join_with_byte}
 use Rattle.std.specs.Ordering.{is_lt, ordering_reverse, match_ordering}
@@ -25,8 +25,9 @@ use Rattle.jsonml_tree.specs.Data as plain
 use Rattle.jsonml_tree.specs.Data.{PlainScalar, PlainAttr, PlainTree, text, element, PlainContent, content, PlainTrees, no_trees, tree, tree_depth, content_depth, trees_depth}
 use Rattle.jsonml_tree.specs.Order.{text_cmp}
 use Rattle.jsonml_tree.specs.WellFormed.{is_in_range, ascends, is_ascending, are_in_range, is_well_formed, is_content_well_formed, are_well_formed}
+use Rattle.jsonml_tree.specs.declared.limits.TheConstants.{GREATEST_DEPTH}
 use Rattle.jsonml_print.proofs.TreeWalk.{joined}
-use Rattle.jsonml_print.specs.Printed.{scalar_text, attr_text, tree_text, content_text, items_text}
+use Rattle.jsonml_print.specs.Printed.{scalar_text, attr_text, tree_text, content_text, items_text, array_text}
 
 -- ---- the value that spells a tree
 
@@ -59,7 +60,7 @@ pub whole_text : (n : ℤ) → scalar_text (plain.whole n) ≡ number_text (of_i
 whole_text (pos n) = refl
 whole_text (negsuc n) = refl
 
-scalar_text-is : (s : PlainScalar) → scalar_text s ≡ compact_text (scalar_data s)
+pub scalar_text-is : (s : PlainScalar) → scalar_text s ≡ compact_text (scalar_data s)
 scalar_text-is plain.null = refl
 scalar_text-is (plain.boolean true) = refl
 scalar_text-is (plain.boolean false) = refl
@@ -87,7 +88,7 @@ mutual
   tree_text-is (text s) = refl
   tree_text-is (element tag c) = ap (λ l. 91 ∷ (quoted tag ++ l)) (content_text-is c)
 
-  content_text-is : (c : PlainContent) → content_text c ++ 93 ∷ [] ≡ written.items_text true (content_data c)
+  pub content_text-is : (c : PlainContent) → content_text c ++ 93 ∷ [] ≡ written.items_text true (content_data c)
   content_text-is (content [] ts) = items_text-is ts
   content_text-is (content (x ∷ xs) ts) =
       ap (λ l. 44 ∷ 123 ∷ l) (append_assoc (join_with_byte 44 (map attr_text (x ∷ xs)) ++ 125 ∷ []) (items_text ts) (93 ∷ []) ∙ ap₂ (λ l m. l ++ m) (first_attrs x xs) (items_text-is ts))
@@ -95,6 +96,11 @@ mutual
   items_text-is : (ts : PlainTrees) → items_text ts ++ 93 ∷ [] ≡ written.items_text true (items_data ts)
   items_text-is no_trees = refl
   items_text-is (tree t ts) = ap (λ l. 44 ∷ l) (append_assoc (tree_text t) (items_text ts) (93 ∷ []) ∙ ap₂ (λ l m. l ++ m) (tree_text-is t) (items_text-is ts))
+
+pub array_text-is : (c : PlainContent) → array_text c ≡ compact_text (array (content_data c))
+array_text-is (content [] no_trees) = refl
+array_text-is (content [] (tree t ts)) = ap (λ l. 91 ∷ drop 1 l) (content_text-is (content [] (tree t ts)))
+array_text-is (content (x ∷ xs) ts) = ap (λ l. 91 ∷ drop 1 l) (content_text-is (content (x ∷ xs) ts))
 
 -- ---- the value is read from its outline
 
@@ -172,7 +178,7 @@ mutual
   tree_read (text s) e = refl
   tree_read (element tag c) e = ap (λ o. option_map array (option_map (item (string tag)) o)) (content_read c e)
 
-  content_read : (c : PlainContent) → IsTrue (is_content_well_formed c) → of_items (items_outline (content_data c)) ≡ Some (content_data c)
+  pub content_read : (c : PlainContent) → IsTrue (is_content_well_formed c) → of_items (items_outline (content_data c)) ≡ Some (content_data c)
   content_read (content [] ts) e = items_read ts (and_parts (is_ascending [] && are_in_range []) (are_well_formed ts) e).1
   content_read (content (x ∷ xs) ts) e =
       let outer = and_parts (is_ascending (x ∷ xs) && are_in_range (x ∷ xs)) (are_well_formed ts) e in
@@ -188,7 +194,7 @@ mutual
 
 -- ---- its numbers, and how deep it nests
 
-scalar_numbers : (s : PlainScalar) → IsTrue (is_in_range s) → outlined.HasNumbers (outline (scalar_data s))
+pub scalar_numbers : (s : PlainScalar) → IsTrue (is_in_range s) → outlined.HasNumbers (outline (scalar_data s))
 scalar_numbers plain.null e = tt
 scalar_numbers (plain.boolean b) e = tt
 scalar_numbers (plain.whole n) e = (whole_read n e).1
@@ -203,7 +209,7 @@ mutual
   tree_numbers (text s) e = tt
   tree_numbers (element tag c) e = (tt, content_numbers c e)
 
-  content_numbers : (c : PlainContent) → IsTrue (is_content_well_formed c) → outlined.ItemsHaveNumbers (items_outline (content_data c))
+  pub content_numbers : (c : PlainContent) → IsTrue (is_content_well_formed c) → outlined.ItemsHaveNumbers (items_outline (content_data c))
   content_numbers (content [] ts) e = items_numbers ts (and_parts (is_ascending [] && are_in_range []) (are_well_formed ts) e).1
   content_numbers (content (x ∷ xs) ts) e =
       let outer = and_parts (is_ascending (x ∷ xs) && are_in_range (x ∷ xs)) (are_well_formed ts) e in
@@ -213,7 +219,7 @@ mutual
   items_numbers no_trees e = tt
   items_numbers (tree t ts) e = let both = and_parts (is_well_formed t) (are_well_formed ts) e in (tree_numbers t both.0, items_numbers ts both.1)
 
-scalar_flat : (s : PlainScalar) → outlined.depth (outline (scalar_data s)) ≡ 0
+pub scalar_flat : (s : PlainScalar) → outlined.depth (outline (scalar_data s)) ≡ 0
 scalar_flat plain.null = refl
 scalar_flat (plain.boolean b) = refl
 scalar_flat (plain.whole n) = refl
@@ -228,7 +234,7 @@ mutual
   tree_nests (text s) = omega arith
   tree_nests (element tag c) = omega (arith, content_nests c)
 
-  content_nests : (c : PlainContent) → outlined.items_depth (items_outline (content_data c)) ≤ content_depth c + 1
+  pub content_nests : (c : PlainContent) → outlined.items_depth (items_outline (content_data c)) ≤ content_depth c + 1
   content_nests (content [] ts) = items_nest ts
   content_nests (content (x ∷ xs) ts) = omega (arith, attrs_flat (x ∷ xs), items_nest ts)
 
@@ -236,17 +242,22 @@ mutual
   items_nest no_trees = omega arith
   items_nest (tree t ts) = omega (arith, tree_nests t, items_nest ts)
 
-pub reads_value : (t : PlainTree) → IsTrue (is_well_formed t) → tree_depth t ≤ 120 → read (tree_text t) ≡ Some (tree_data t)
-reads_value t well shallow =
-    let j = outline (tree_data t) in
-    let tokens_of : tokens (tree_text t) ≡ outlined.json_tokens j ++ [] =
-    ap tokens (tree_text-is t ∙ sym (print-outline (tree_data t))) ∙ tokens-print (outlined.json_tokens j) (ArePrintable-json_tokens j (tree_numbers t well)) ∙ sym (append-nil (outlined.json_tokens j)) in
-    ap (option_and_then of_json) (ap (option_and_then (λ p. if_last p.0 p.1)) (ap (value max_depth) tokens_of ∙ value-json_tokens j max_depth [] (omega (arith, tree_nests t)))) ∙ tree_read t well
+-- ---- what is read from the text of a value is what is read from its outline
+
+pub reads_outline : (bytes : List ℕ) (d : Data) → bytes ≡ compact_text d → outlined.HasNumbers (outline d) → outlined.depth (outline d) ≤ 127 → read bytes ≡ of_json (outline d)
+reads_outline bytes d is numbers shallow =
+    let j = outline d in
+    let tokens_of : tokens bytes ≡ outlined.json_tokens j ++ [] =
+    ap tokens (is ∙ sym (print-outline d)) ∙ tokens-print (outlined.json_tokens j) (ArePrintable-json_tokens j numbers) ∙ sym (append-nil (outlined.json_tokens j)) in
+    ap (option_and_then of_json) (ap (option_and_then (λ p. if_last p.0 p.1)) (ap (value max_depth) tokens_of ∙ value-json_tokens j max_depth [] shallow))
+
+pub reads_value : (t : PlainTree) → IsTrue (is_well_formed t) → tree_depth t ≤ GREATEST_DEPTH → read (tree_text t) ≡ Some (tree_data t)
+reads_value t well shallow = reads_outline (tree_text t) (tree_data t) (tree_text-is t) (tree_numbers t well) (omega (arith, tree_nests t)) ∙ tree_read t well
 
 -- the same of a scalar on its own
 pub reads_scalar : (s : PlainScalar) → IsTrue (is_in_range s) → read (scalar_text s) ≡ Some (scalar_data s)
-reads_scalar s fit =
-    let j = outline (scalar_data s) in
-    let tokens_of : tokens (scalar_text s) ≡ outlined.json_tokens j ++ [] =
-    ap tokens (scalar_text-is s ∙ sym (print-outline (scalar_data s))) ∙ tokens-print (outlined.json_tokens j) (ArePrintable-json_tokens j (scalar_numbers s fit)) ∙ sym (append-nil (outlined.json_tokens j)) in
-    ap (option_and_then of_json) (ap (option_and_then (λ p. if_last p.0 p.1)) (ap (value max_depth) tokens_of ∙ value-json_tokens j max_depth [] (omega (arith, scalar_flat s)))) ∙ scalar_read s fit
+reads_scalar s fit = reads_outline (scalar_text s) (scalar_data s) (scalar_text-is s) (scalar_numbers s fit) (omega (arith, scalar_flat s)) ∙ scalar_read s fit
+
+-- and of a content as an array
+pub reads_array : (c : PlainContent) → IsTrue (is_content_well_formed c) → content_depth c ≤ GREATEST_DEPTH → read (array_text c) ≡ Some (array (content_data c))
+reads_array c well shallow = reads_outline (array_text c) (array (content_data c)) (array_text-is c) (content_numbers c well) (omega (arith, content_nests c)) ∙ ap (option_map array) (content_read c well)

@@ -1,5 +1,5 @@
 -- The document of what is printed for a document.
-use Rattle.std.proofs.Common.{◌≡◌, ℕ, ◌+◌, ◌-◌, ◌≤◌, ◌^◌, ◌&&◌, ◌==◌, pos, negsuc, ℤ, option_and_then, Bool, true, false, cond, IsTrue, List, [], ◌∷◌, ◌++◌, length, map, take, Some, None, Ok, refl, sym, ap, ◌∙◌, subst, arith, append_assoc, length-append, decimal, le_refl}
+use Rattle.std.proofs.Common.{◌≡◌, ℕ, ◌+◌, ◌-◌, ◌≤◌, ◌^◌, ◌&&◌, ◌==◌, pos, negsuc, ℤ, option_and_then, Bool, true, false, cond, IsTrue, List, [], ◌∷◌, ◌++◌, length, map, take, drop, Some, None, Ok, refl, sym, ap, ◌∙◌, subst, arith, append_assoc, length-append, decimal, le_refl}
 use Rattle.std.specs.Prelude.{nat_lt, slice_index}
 use Rattle.std.specs.List.{flat_map, join_with_byte}
 use Rattle.std.specs.Str.{IsUtf8}
@@ -18,16 +18,17 @@ use Rattle.serde_json.specs.Find.{of_integer}
 use Rattle.jsonml_tree.specs.Data as plain
 use Rattle.jsonml_tree.specs.Data.{PlainScalar, PlainAttr, PlainTree, text, element, PlainContent, content, PlainTrees, no_trees, tree, tree_depth}
 use Rattle.jsonml_tree.specs.WellFormed.{is_in_range, is_ascending, are_in_range, is_well_formed, is_content_well_formed, are_well_formed}
+use Rattle.jsonml_tree.specs.declared.limits.TheConstants.{GREATEST_DEPTH}
 use Rattle.jsonml_text.specs.Reading.{reading, less_lf, ends_with_lf}
-use Rattle.jsonml_text.specs.Spelled.{and_then, mapped, whole_of, whole_at, scalar_at, scalar_in, attrs_at, item_at, content_at, items_at, root_of}
+use Rattle.jsonml_text.specs.Spelled.{and_then, mapped, whole_of, whole_at, scalar_at, scalar_in, content_of_data, attrs_at, item_at, content_at, items_at, root_of}
 use Rattle.jsonml_text.specs.Document.{doc, of_value, of_shape, unless_too_deep}
 use Rattle.jsonml_tree.specs.Fits.{IsElement}
 use Rattle.jsonml_text.specs.Texts.{IsScalarText, AreAttrTexts, AreTexts, AreContentTexts, AreItemTexts}
-use Rattle.jsonml_print.specs.Printed.{scalar_text, attr_text, attrs_text, tree_text, content_text, items_text, document_text}
-use Rattle.jsonml_text.specs.RoundTrip.{TextReadsBack, DocumentReadsBack, ScalarReadsBack}
+use Rattle.jsonml_print.specs.Printed.{scalar_text, attr_text, attrs_text, tree_text, content_text, items_text, array_text, document_text}
+use Rattle.jsonml_text.specs.RoundTrip.{TextReadsBack, DocumentReadsBack, ScalarReadsBack, ContentReadsBack}
 use Rattle.jsonml_text.proofs.Levels.{found_at}
 use Rattle.jsonml_text.proofs.Readings.{reading-Some}
-use Rattle.jsonml_text.proofs.ReadBack.{scalar_data, attrs_data, tree_data, content_data, items_data, reads_value, reads_scalar, natural_small, negative_small}
+use Rattle.jsonml_text.proofs.ReadBack.{scalar_data, attrs_data, tree_data, content_data, items_data, reads_value, reads_scalar, reads_array, natural_small, negative_small}
 use Rattle.jsonml_print.proofs.TreeWalk.{joined}
 
 -- ---- the value spells the tree
@@ -57,7 +58,7 @@ mutual
   item_back place (text s) = refl
   item_back place (element tag c) = ap (mapped (element tag)) (content_back place c)
 
-  content_back : (place : List ℕ) (c : PlainContent) → content_at place (content_data c) ≡ Ok c
+  pub content_back : (place : List ℕ) (c : PlainContent) → content_at place (content_data c) ≡ Ok c
   content_back place (content [] no_trees) = refl
   content_back place (content [] (tree (text s) ts)) = ap (mapped (λ us. content [] (tree (text s) us))) (items_back place 2 ts)
   content_back place (content [] (tree (element tag c) ts)) =
@@ -77,10 +78,10 @@ root_back (element tag c) e = item_back [] (element tag c)
 
 -- ---- the text is UTF-8
 
-byte : (b : ℕ) (xs : List ℕ) → IsUtf8 (b ∷ []) → IsUtf8 xs → IsUtf8 (b ∷ xs)
+pub byte : (b : ℕ) (xs : List ℕ) → IsUtf8 (b ∷ []) → IsUtf8 xs → IsUtf8 (b ∷ xs)
 byte b xs p q = IsUtf8-append (b ∷ []) xs p q
 
-scalar_utf8 : (s : PlainScalar) → IsTrue (is_in_range s) → IsScalarText s → IsUtf8 (scalar_text s)
+pub scalar_utf8 : (s : PlainScalar) → IsTrue (is_in_range s) → IsScalarText s → IsUtf8 (scalar_text s)
 scalar_utf8 plain.null e h = IsUtf8-are_ascii _ refl
 scalar_utf8 (plain.boolean true) e h = IsUtf8-are_ascii _ refl
 scalar_utf8 (plain.boolean false) e h = IsUtf8-are_ascii _ refl
@@ -97,12 +98,15 @@ more_utf8 (x ∷ xs) e h =
     let fits = and_parts (is_in_range x.value) (are_in_range xs) e in
     byte 44 _ (IsUtf8-are_ascii _ refl) (IsUtf8-append (attr_text x) _ (attr_utf8 x fits.0 h.0 h.1) (more_utf8 xs fits.1 h.2))
 
-attrs_utf8 : (xs : List PlainAttr) → IsTrue (are_in_range xs) → AreAttrTexts xs → IsUtf8 (attrs_text xs)
-attrs_utf8 [] e h = IsUtf8-nil
-attrs_utf8 (x ∷ xs) e h =
+object_utf8 : (x : PlainAttr) (xs : List PlainAttr) → IsTrue (are_in_range (x ∷ xs)) → AreAttrTexts (x ∷ xs) → IsUtf8 (123 ∷ (join_with_byte 44 (map attr_text (x ∷ xs)) ++ 125 ∷ []))
+object_utf8 x xs e h =
     let fits = and_parts (is_in_range x.value) (are_in_range xs) e in
     let pairs : IsUtf8 (join_with_byte 44 (map attr_text (x ∷ xs))) = subst IsUtf8 (sym (joined x xs)) (IsUtf8-append (attr_text x) _ (attr_utf8 x fits.0 h.0 h.1) (more_utf8 xs fits.1 h.2)) in
-    byte 44 _ (IsUtf8-are_ascii _ refl) (byte 123 _ (IsUtf8-are_ascii _ refl) (IsUtf8-append _ (125 ∷ []) pairs (IsUtf8-are_ascii _ refl)))
+    byte 123 _ (IsUtf8-are_ascii _ refl) (IsUtf8-append _ (125 ∷ []) pairs (IsUtf8-are_ascii _ refl))
+
+attrs_utf8 : (xs : List PlainAttr) → IsTrue (are_in_range xs) → AreAttrTexts xs → IsUtf8 (attrs_text xs)
+attrs_utf8 [] e h = IsUtf8-nil
+attrs_utf8 (x ∷ xs) e h = byte 44 _ (IsUtf8-are_ascii _ refl) (object_utf8 x xs e h)
 
 mutual
   tree_utf8 : (t : PlainTree) → IsTrue (is_well_formed t) → AreTexts t → IsUtf8 (tree_text t)
@@ -121,6 +125,21 @@ mutual
   items_utf8 (tree t ts) e h =
       let both = and_parts (is_well_formed t) (are_well_formed ts) e in
       byte 44 _ (IsUtf8-are_ascii _ refl) (IsUtf8-append (tree_text t) (items_text ts) (tree_utf8 t both.0 h.0) (items_utf8 ts both.1 h.1))
+
+-- a content as an array
+row_utf8 : (ts : PlainTrees) → IsTrue (are_well_formed ts) → AreItemTexts ts → IsUtf8 (drop 1 (items_text ts))
+row_utf8 no_trees e h = IsUtf8-nil
+row_utf8 (tree t ts) e h = let both = and_parts (is_well_formed t) (are_well_formed ts) e in IsUtf8-append (tree_text t) (items_text ts) (tree_utf8 t both.0 h.0) (items_utf8 ts both.1 h.1)
+
+inside_utf8 : (c : PlainContent) → IsTrue (is_content_well_formed c) → AreContentTexts c → IsUtf8 (drop 1 (content_text c))
+inside_utf8 (content [] ts) e h = row_utf8 ts (and_parts (is_ascending [] && are_in_range []) (are_well_formed ts) e).1 h.1
+inside_utf8 (content (x ∷ xs) ts) e h =
+    let outer = and_parts (is_ascending (x ∷ xs) && are_in_range (x ∷ xs)) (are_well_formed ts) e in
+    let inner = and_parts (is_ascending (x ∷ xs)) (are_in_range (x ∷ xs)) outer.0 in
+    IsUtf8-append (123 ∷ (join_with_byte 44 (map attr_text (x ∷ xs)) ++ 125 ∷ [])) (items_text ts) (object_utf8 x xs inner.1 h.0) (items_utf8 ts outer.1 h.1)
+
+pub array_utf8 : (c : PlainContent) → IsTrue (is_content_well_formed c) → AreContentTexts c → IsUtf8 (array_text c)
+array_utf8 c e h = byte 91 _ (IsUtf8-are_ascii _ refl) (IsUtf8-append (drop 1 (content_text c)) (93 ∷ []) (inside_utf8 c e h) (IsUtf8-are_ascii _ refl))
 
 -- ---- with or without the line feed
 
@@ -149,7 +168,7 @@ bracket_last (element tag c) e =
 
 -- ---- the document
 
-doc_from : (bytes : List ℕ) (t : PlainTree) → IsElement t → IsTrue (is_well_formed t) → AreTexts t → tree_depth t ≤ 120 → less_lf bytes ≡ tree_text t → doc bytes ≡ Ok t
+doc_from : (bytes : List ℕ) (t : PlainTree) → IsElement t → IsTrue (is_well_formed t) → AreTexts t → tree_depth t ≤ GREATEST_DEPTH → less_lf bytes ≡ tree_text t → doc bytes ≡ Ok t
 doc_from bytes t elem well texts shallow is =
     let some : reading bytes ≡ Some (tree_data t) =
     reading-Some bytes (tree_data t) (subst IsUtf8 (sym is) (tree_utf8 t well texts)) (ap read is ∙ reads_value t well shallow) in
@@ -163,3 +182,6 @@ document_reads_back t elem well texts shallow = doc_from (document_text t) t ele
 
 pub scalar_reads_back : (s : PlainScalar) → ScalarReadsBack s
 scalar_reads_back s fit = ap (option_and_then scalar_in) (reads_scalar s fit) ∙ ap result_ok (scalar_back [] s)
+
+pub content_reads_back : (c : PlainContent) → ContentReadsBack c
+content_reads_back c well shallow = ap (option_and_then content_of_data) (reads_array c well shallow) ∙ ap result_ok (content_back [] c)

@@ -1,7 +1,6 @@
 -- Parts of a text that has a document, put together.
-use Rattle.std.proofs.Common.{◌≡◌, ℕ, suc, ◌+◌, ◌-◌, ◌<◌, ◌≤◌, false, IsTrue, List, [], ◌∷◌, ◌++◌, length, take, drop, get_or, map, append_assoc, Some, None, Result, Ok, Err, option_map, option_and_then, refl, sym, ap, ◌∙◌, arith}
-use Rattle.std.proofs.lemmas.List.{drop_all, drop_more, take_more, map-append}
-use Rattle.std.specs.List.{insert}
+use Rattle.std.proofs.Common.{◌≡◌, ℕ, suc, ◌+◌, ◌-◌, ◌<◌, ◌≤◌, false, IsTrue, List, [], ◌∷◌, ◌++◌, length, Some, None, Result, Ok, Err, option_map, option_and_then, refl, sym, ap, ◌∙◌, arith}
+use Rattle.std.proofs.lemmas.List.{drop_all}
 use Rattle.std.specs.Str.{IsUtf8}
 use Rattle.std.proofs.lemmas.Bool.{and_parts, and_from}
 use Rattle.std.proofs.lemmas.Cmp.{nat_list_cmp_total}
@@ -19,9 +18,8 @@ use Rattle.serde_json.specs.Read.{of_json, of_items, of_members, read, max_depth
 use Rattle.jsonml_tree.specs.Data.{PlainAttr, PlainScalar, PlainTree, text, element, PlainContent, content, PlainTrees, no_trees, tree, tree_depth}
 use Rattle.jsonml_tree.specs.Fits.{IsElement}
 use Rattle.jsonml_tree.specs.Order.{text_cmp}
-use Rattle.jsonml_tree.specs.LentAttrs.{lent_attr_view}
-use Rattle.jsonml_tree.specs.declared.lent_attr.LentAttr.{LentAttr}
 use Rattle.jsonml_tree.specs.WellFormed.{ascends, is_ascending, is_in_range, are_in_range}
+use Rattle.jsonml_tree.specs.declared.limits.TheConstants.{GREATEST_DEPTH}
 use Rattle.jsonml_text.specs.Document.{of_value, of_shape, unless_too_deep}
 use Rattle.jsonml_text.specs.Kept.{AreAttrsKept}
 use Rattle.jsonml_text.proofs.Levels.{found_at}
@@ -228,7 +226,7 @@ among_put Less a x xs more e up f = and_from _ _ (ap is_lt e) up
 among_put Equal a x xs more e up f = up
 among_put Greater a x xs more e up f = f (ap is_lt (nat_list_cmp_total.antisymm x.name a.name ∙ ap ordering_reverse e))
 
-is_ascending-put : (a : PlainAttr) (xs : List PlainAttr) → IsTrue (is_ascending xs) → IsTrue (is_ascending (put_attr a xs))
+pub is_ascending-put : (a : PlainAttr) (xs : List PlainAttr) → IsTrue (is_ascending xs) → IsTrue (is_ascending (put_attr a xs))
 is_ascending-put a [] up = refl
 is_ascending-put a (x ∷ xs) up = among_put (text_cmp a.name x.name) a x xs (put_attr a xs) refl up (λ q. ascends-put x.name a xs q up)
 
@@ -254,35 +252,6 @@ are_texts-put a (x ∷ xs) n v h = texts_put (text_cmp a.name x.name) a x xs (pu
 
 pub AreAttrsKept-put : (a : PlainAttr) (xs : List PlainAttr) → IsTrue (is_in_range a.value) → IsUtf8 a.name → IsScalarText a.value → AreAttrsKept xs → AreAttrsKept (put_attr a xs)
 AreAttrsKept-put a xs p n v h = record { ascending = is_ascending-put a xs h.ascending; in_range = are_in_range-put a xs p h.in_range; texts = are_texts-put a xs n v h.texts }
-
--- ---- the place of a name
-
-module _ (a : LentAttr) (xs : List LentAttr) (i : ℕ) (x : LentAttr) (within : i < length xs) (here : get_or xs i x ≡ x) where
-  at_place : put_attr (lent_attr_view a) (map lent_attr_view (drop i xs)) ≡ put_attr (lent_attr_view a) (lent_attr_view x ∷ map lent_attr_view (drop (i + 1) xs))
-  at_place = ap (λ l. put_attr (lent_attr_view a) (map lent_attr_view l)) (drop_more xs i x within ∙ ap (λ y. y ∷ drop (i + 1) xs) here)
-
-  pub place_next : text_cmp (lent_attr_view a).name (lent_attr_view x).name ≡ Greater
-      → map lent_attr_view (take i xs) ++ put_attr (lent_attr_view a) (map lent_attr_view (drop i xs)) ≡ map lent_attr_view (take (i + 1) xs) ++ put_attr (lent_attr_view a) (map lent_attr_view (drop (i + 1) xs))
-  place_next above =
-      let y = lent_attr_view x in
-      let rest = put_attr (lent_attr_view a) (map lent_attr_view (drop (i + 1) xs)) in
-      let more : map lent_attr_view (take (i + 1) xs) ≡ map lent_attr_view (take i xs) ++ y ∷ [] =
-      ap (map lent_attr_view) (take_more xs i x within ∙ ap (λ z. take i xs ++ z ∷ []) here) ∙ map-append lent_attr_view (take i xs) (x ∷ []) in
-      ap (λ l. map lent_attr_view (take i xs) ++ l) (at_place ∙ ap (λ o. match_ordering o (lent_attr_view a ∷ y ∷ map lent_attr_view (drop (i + 1) xs)) (record { name = y.name; value = (lent_attr_view a).value } ∷ map lent_attr_view (drop (i + 1) xs)) (y ∷ rest)) above)
-      ∙ sym (append_assoc (map lent_attr_view (take i xs)) (y ∷ []) rest) ∙ ap (λ l. l ++ rest) (sym more)
-
-  pub place_here : text_cmp (lent_attr_view a).name (lent_attr_view x).name ≡ Less → map lent_attr_view (take i xs) ++ put_attr (lent_attr_view a) (map lent_attr_view (drop i xs)) ≡ map lent_attr_view (insert xs i a)
-  place_here below =
-      let y = lent_attr_view x in
-      let rest = map lent_attr_view (drop (i + 1) xs) in
-      let behind : lent_attr_view a ∷ y ∷ rest ≡ map lent_attr_view (a ∷ drop i xs) = ap (λ l. map lent_attr_view (a ∷ l)) (sym (drop_more xs i x within ∙ ap (λ z. z ∷ drop (i + 1) xs) here)) in
-      ap (λ l. map lent_attr_view (take i xs) ++ l) (at_place ∙ ap (λ o. match_ordering o (lent_attr_view a ∷ y ∷ rest) (record { name = y.name; value = (lent_attr_view a).value } ∷ rest) (y ∷ put_attr (lent_attr_view a) rest)) below ∙ behind)
-      ∙ sym (map-append lent_attr_view (take i xs) (a ∷ drop i xs))
-
-pub place_last : (a : LentAttr) (xs : List LentAttr) (i : ℕ) → i ≡ length xs → map lent_attr_view (take i xs) ++ put_attr (lent_attr_view a) (map lent_attr_view (drop i xs)) ≡ map lent_attr_view (insert xs i a)
-place_last a xs i end =
-    let none : drop i xs ≡ [] = drop_all i xs (omega arith) in
-    ap (λ l. map lent_attr_view (take i xs) ++ put_attr (lent_attr_view a) (map lent_attr_view l)) none ∙ ap (λ l. map lent_attr_view (take i xs) ++ map lent_attr_view (a ∷ l)) (sym none) ∙ sym (map-append lent_attr_view (take i xs) (a ∷ drop i xs))
 
 -- ---- objects
 
@@ -364,7 +333,7 @@ root_item (text_value s) (element u c) e h = absurd (cc)
 root_item (array vs) t e h = e
 root_item (object ms) t e h = absurd (cc)
 
-pub document_read : (d : List ℕ) (at : ℕ) (t : PlainTree) → lexemes d at ≡ lexemes d 0 → HasTree max_levels d at t (length d) → IsElement t → tree_depth t ≤ 120 → of_value (read d) ≡ Ok t
+pub document_read : (d : List ℕ) (at : ℕ) (t : PlainTree) → lexemes d at ≡ lexemes d 0 → HasTree max_levels d at t (length d) → IsElement t → tree_depth t ≤ GREATEST_DEPTH → of_value (read d) ≡ Ok t
 unfolding lex punctuate
 document_read d at t same h is shallow =
     let nothing : tokens_from after_value d (length d) ≡ [] = ap (λ l. punctuate after_value (lex between l)) (drop_all (length d) d (omega arith)) in

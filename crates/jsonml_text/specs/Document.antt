@@ -3,6 +3,7 @@ use Rattle.std.specs.Prelude.{ℕ, ◌+◌, List, [], ◌∷◌, ◌++◌, lengt
 use Rattle.std.specs.Option.{option_or}
 use Rattle.serde_json.specs.Data.{Data}
 use Rattle.jsonml_tree.specs.Data.{PlainTree, text, element, PlainContent, content, PlainTrees, no_trees, tree}
+use Rattle.jsonml_tree.specs.declared.limits.TheConstants.{GREATEST_DEPTH}
 use Rattle.jsonml_text.specs.Reading.{reading}
 use Rattle.jsonml_text.specs.Spelled.{ShapeFault, root_of}
 
@@ -11,15 +12,12 @@ pub data DocRefusal : Type 0 where
   bad_shape : List ℕ → ℕ → DocRefusal
   too_deep : List ℕ → DocRefusal
 
--- the greatest level of an element; the root has level 1, and an item of an element the level after its own
-abbrev pub last_level : ℕ
-last_level = 120
-
--- the place of the first element in preorder that stands on a higher level
+-- the place of the first element in preorder that stands on a level above the greatest depth; the root has level 1, and an item
+-- of an element the level after its own
 abbrev mutual
   pub too_deep_at : List ℕ → PlainTree → Option (List ℕ)
   too_deep_at place (text s) = None
-  too_deep_at place (element tag c) = if nat_lt last_level (length place + 1) then Some place else too_deep_in place c
+  too_deep_at place (element tag c) = if nat_lt GREATEST_DEPTH (length place + 1) then Some place else too_deep_in place c
 
   pub too_deep_in : List ℕ → PlainContent → Option (List ℕ)
   too_deep_in place (content xs ts) = too_deep_from place 1 ts

@@ -3,6 +3,7 @@ use Rattle.std.specs.Prelude.{◌≤◌, List, length, IsTrue}
 use Rattle.jsonml_tree.specs.Data.{PlainAttr, PlainTree, PlainContent, trees_of, tree_depth}
 use Rattle.jsonml_tree.specs.WellFormed.{is_ascending, are_in_range, is_well_formed, is_content_well_formed, are_well_formed, IsWellFormed}
 use Rattle.jsonml_tree.specs.Fits.{IsElement, ItemsFit, items_fit, content_items_fit, all_items_fit}
+use Rattle.jsonml_tree.specs.declared.limits.TheConstants.{GREATEST_DEPTH}
 use Rattle.jsonml_text.specs.Texts.{AreTexts, AreAttrTexts}
 
 pub record AreAttrsKept (xs : List PlainAttr) : Type 0 where
@@ -26,6 +27,6 @@ pub record AreKept (ts : List PlainTree) : Type 0 where
 pub record IsDocument (t : PlainTree) : Type 0 where
   pub element : IsElement t
   pub well_formed : IsWellFormed t
-  pub shallow : tree_depth t ≤ 120
+  pub shallow : tree_depth t ≤ GREATEST_DEPTH
   pub items_fit : ItemsFit t
   pub texts : AreTexts t

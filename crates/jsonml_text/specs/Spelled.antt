@@ -103,3 +103,12 @@ scalar_in d = result_ok (scalar_at [] d)
 -- the content that some values spell, if they spell one
 abbrev pub content_in : Items → Option PlainContent
 content_in ds = result_ok (content_at [] ds)
+
+-- the content that an array spells, if it spells one
+abbrev pub content_of_data : Data → Option PlainContent
+content_of_data null = None
+content_of_data (boolean b) = None
+content_of_data (number n) = None
+content_of_data (string s) = None
+content_of_data (array ds) = content_in ds
+content_of_data (object ms) = None

@@ -1,5 +1,6 @@
 -- For private clauses: what a text has from one offset to another.
 use Rattle.std.specs.Prelude.{◌≡◌, ℕ, ◌<◌, ◌≤◌, List, [], ◌∷◌, length, drop, Bool, true, false, Some, Ok}
+use Rattle.std.specs.List.{fold}
 use Rattle.std.specs.Ordering.{match_ordering}
 use Rattle.std.specs.Str.{IsUtf8}
 use Rattle.json.specs.Token.{Token}
@@ -96,6 +97,10 @@ pub record HasTree (depth : ℕ) (text : List ℕ) (at : ℕ) (t : PlainTree) (n
 abbrev pub put_attr : PlainAttr → List PlainAttr → List PlainAttr
 put_attr a [] = a ∷ []
 put_attr a (x ∷ xs) = match_ordering (text_cmp a.name x.name) (a ∷ x ∷ xs) (record { name = x.name; value = a.value } ∷ xs) (x ∷ put_attr a xs)
+
+-- the attributes put one after another, in the order of a text
+abbrev pub placed : List PlainAttr → List PlainAttr
+placed xs = fold (λ ys a. put_attr a ys) [] xs
 
 -- a scalar that is written without quotes
 abbrev pub is_word : PlainScalar → Bool

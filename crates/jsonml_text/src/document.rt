@@ -4,6 +4,7 @@ ghost use Rattle.jsonml_tree.specs.Data.{tree_depth};
 ghost use Rattle.jsonml_tree.specs.LentView.{lent_tree_view};
 ghost use Rattle.jsonml_tree.specs.View.{tree_view, content_view};
 ghost use Rattle.jsonml_tree.specs.WellFormed.{IsWellFormed, is_content_well_formed};
+ghost use Rattle.jsonml_tree.specs.declared.limits.TheConstants.{GREATEST_DEPTH};
 ghost use Rattle.jsonml_text.specs.Reading.{reading, less_lf};
 ghost use Rattle.jsonml_text.specs.Spelled.{root_of, content_in};
 ghost use Rattle.jsonml_text.specs.Document.{doc, of_shape, of_value};
@@ -34,7 +35,7 @@ pub fn read_document(alloc: Global, bytes: &[u8]) -> Result<Tree, DocFault>
     // What every document is.
     ensures element { IfOk result (λ t. IsElement (tree_view t)) }
     ensures well_formed { IfOk result (λ t. IsWellFormed (tree_view t)) }
-    ensures shallow { IfOk result (λ t. tree_depth (tree_view t) ≤ 120) }
+    ensures shallow { IfOk result (λ t. tree_depth (tree_view t) ≤ GREATEST_DEPTH) }
     ensures items_fit { IfOk result (λ t. ItemsFit (tree_view t)) }
     ensures texts { IfOk result (λ t. AreTexts (tree_view t)) }
 {
@@ -54,7 +55,7 @@ pub fn lend_document<'a>(alloc: Global, bytes: &'a [u8]) -> Result<LentTree<'a>,
     // What every document is.
     ensures element { IfOk result (λ t. IsElement (lent_tree_view t)) }
     ensures well_formed { IfOk result (λ t. IsWellFormed (lent_tree_view t)) }
-    ensures shallow { IfOk result (λ t. tree_depth (lent_tree_view t) ≤ 120) }
+    ensures shallow { IfOk result (λ t. tree_depth (lent_tree_view t) ≤ GREATEST_DEPTH) }
     ensures items_fit { IfOk result (λ t. ItemsFit (lent_tree_view t)) }
     ensures texts { IfOk result (λ t. AreTexts (lent_tree_view t)) }
 {

@@ -1,27 +1,23 @@
-ghost use Rattle.std.specs.Prelude.{◌≡◌, ◌+◌, ◌≤◌, [], IfSome, insert, length, map, string_bytes};
+ghost use Rattle.std.specs.Prelude.{◌≡◌, ◌+◌, [], IfSome, map, string_bytes};
 ghost use Rattle.std.specs.Cow.{cow_str_bytes};
 ghost use Rattle.json.specs.Lex.{token};
 ghost use Rattle.json.specs.Token.{begin_object};
 ghost use Rattle.jsonml_tree.specs.Data.{string};
-ghost use Rattle.jsonml_tree.specs.declared.lent_attr.LentAttr.{LentAttr};
 ghost use Rattle.jsonml_tree.specs.LentAttrs.{lent_attr_view, lent_scalar_view};
 ghost use Rattle.jsonml_tree.specs.View.{scalar_view};
 ghost use Rattle.jsonml_text.specs.Objects.{PutsMember, ReadsMember, ReadsObject};
-ghost use Rattle.jsonml_text.specs.Straight.{HasLexeme, put_attr};
+ghost use Rattle.jsonml_text.specs.Straight.{HasLexeme, placed};
 
 use crate::scan::{is_sign, skip_blanks};
 use crate::string::{read_key, read_text};
 use crate::word::read_word;
 use json::Scratch;
-use jsonml_tree::{Attr, LentAttr, LentScalar, Scalar};
+use jsonml_tree::{Attr, LentAttr, LentScalar, Scalar, do_names_ascend};
 use std::alloc::Global;
 use std::borrow::CowStr;
-use std::cmp::Ordering;
 
-/// An object with more members than this is left to the other reader, so that no object takes quadratic time.
-const MOST: usize = 64;
-
-/// The attributes that the object at an offset spells, and where the text goes on behind it.
+/// The attributes that the object at an offset spells, and where the text goes on behind it. Nothing where two have one
+/// name, and where a number is written in another form than it is printed in.
 pub(crate) fn read_attributes<'a>(
     alloc: Global,
     text: &'a str,
@@ -33,10 +29,29 @@ pub(crate) fn read_attributes<'a>(
 {
     let mut attrs = Vec::new(alloc);
     let end = read_members(alloc, text, at, &mut attrs, scratch)?;
+    let mut attrs = in_order(attrs)?;
+    attrs.shrink_to_fit();
     Some((attrs, end))
 }
 
-/// Reads them into `attrs`, which is empty.
+/// The attributes in the order of their names. Nothing where two have one name.
+///
+/// Names that ascend already, as printed ones do, are compared once each; others are sorted.
+fn in_order<'a>(mut attrs: Vec<LentAttr<'a>>) -> Option<Vec<LentAttr<'a>>>
+    ensures { IfSome result (λ v. map lent_attr_view v.items
+        ≡ placed (map lent_attr_view attrs.entry.items)) }
+{
+    if do_names_ascend(&attrs) {
+        return Some(attrs);
+    }
+    attrs.sort_unstable_by(|a, b| a.name().cmp(b.name()));
+    if !do_names_ascend(&attrs) {
+        return None;
+    }
+    Some(attrs)
+}
+
+/// Reads the members into `attrs`, which is empty, in the order of the text.
 fn read_members<'a>(
     alloc: Global,
     text: &'a str,
@@ -47,7 +62,7 @@ fn read_members<'a>(
     requires begun { HasLexeme text.now at (token begin_object) (at + 1) }
     requires empty { attrs.old.items ≡ [] }
     ensures { IfSome result
-        (λ end. ReadsObject text.now at (map lent_attr_view attrs.new.items) end) }
+        (λ end. ReadsObject text.now at (placed (map lent_attr_view attrs.new.items)) end) }
 {
     let begun = skip_blanks(text, at + 1);
     if is_sign(text, begun, b'}') {
@@ -64,8 +79,7 @@ fn read_members<'a>(
     }
 }
 
-/// Puts the member at an offset among the attributes, in their order, and tells where the text goes on behind it and its
-/// blanks.
+/// Puts the member at an offset behind the attributes, and tells where the text goes on behind it and its blanks.
 fn put_member<'a>(
     alloc: Global,
     text: &'a str,
@@ -73,12 +87,11 @@ fn put_member<'a>(
     attrs: &mut Vec<LentAttr<'a>>,
     scratch: &mut Scratch,
 ) -> Option<usize>
-    ensures { IfSome result (λ next. PutsMember text.now at
-        (map lent_attr_view attrs.old.items) (map lent_attr_view attrs.new.items) next) }
+    ensures { IfSome result (λ next. PutsMember text.now at (placed (map lent_attr_view attrs.old.items))
+        (placed (map lent_attr_view attrs.new.items)) next) }
 {
     let (attr, next) = read_attribute(alloc, text, at, scratch)?;
-    let place = place_of(attrs, attr.name())?;
-    attrs.insert(place, attr).ok()?;
+    attrs.push(attr).ok()?;
     Some(next)
 }
 
@@ -135,24 +148,4 @@ fn own_attr<'a>(alloc: Global, name: String, value: Scalar) -> Option<LentAttr<'
 {
     let attr = Box::new(alloc, Attr { name, value }).ok()?;
     Some(LentAttr::Own(attr))
-}
-
-/// The place of a new name among those that ascend. Nothing where it is there already, or where there are many.
-fn place_of(attrs: &[LentAttr<'_>], name: &str) -> Option<usize>
-    ensures within { IfSome result (λ i. i ≤ length attrs.now) }
-    ensures place { IfSome result (λ i. (a : LentAttr) → (lent_attr_view a).name ≡ name.now
-        → put_attr (lent_attr_view a) (map lent_attr_view attrs.now)
-        ≡ map lent_attr_view (insert attrs.now i a)) }
-{
-    if attrs.len() >= MOST {
-        return None;
-    }
-    for (place, attr) in attrs.iter().enumerate() {
-        match name.cmp(attr.name()) {
-            Ordering::Less => return Some(place),
-            Ordering::Equal => return None,
-            Ordering::Greater => {}
-        }
-    }
-    Some(attrs.len())
 }

@@ -24,7 +24,7 @@ use std::borrow::CowStr;
 /// The tree of a whole document, in one pass over its text and with no value in between.
 ///
 /// Nothing where the text is no document, and where it is one that is written in a rare way: a number in another form
-/// than it is printed in, or an object with a name twice or more than 64 names.
+/// than it is printed in, or an object with a name twice.
 pub(crate) fn read_straight<'a>(alloc: Global, text: &'a str) -> Option<LentTree<'a>>
     ensures tree { IfSome result (λ t. of_value (read text.now) ≡ Ok (lent_tree_view t)) }
     ensures kept { IfSome result (λ t. IsDocument (lent_tree_view t)) }

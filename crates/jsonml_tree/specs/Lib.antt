@@ -4,5 +4,6 @@ pub mod Order
 pub mod Laws
 pub mod WellFormed
 pub mod Fits
+pub mod Lists
 pub mod LentAttrs
 pub mod LentView

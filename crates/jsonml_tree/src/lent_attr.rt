@@ -4,6 +4,7 @@ ghost use Rattle.std.specs.Prelude.{◌≡◌, IfOk, map};
 ghost use Rattle.jsonml_tree.specs.LentAttrs.{lent_attr_view, lent_scalar_view};
 ghost use Rattle.jsonml_tree.specs.Order.{scalar_cmp};
 ghost use Rattle.jsonml_tree.specs.View.{attr_view, scalar_view};
+ghost use Rattle.jsonml_tree.specs.WellFormed.{is_ascending};
 
 use crate::scalar::{Attr, Scalar};
 use std::alloc::{AllocError, Global};
@@ -102,6 +103,23 @@ impl<'a> LentAttr<'a> {
             value: self.value().own(alloc)?,
         })
     }
+}
+
+/// Whether the names ascend strictly by their bytes. It takes no memory.
+pub fn do_names_ascend(attrs: &[LentAttr<'_>]) -> bool
+    ensures { result ≡ is_ascending (map lent_attr_view attrs.now) }
+{
+    let Some((first, rest)) = attrs.split_first() else {
+        return true;
+    };
+    let mut last = first;
+    for attr in rest {
+        if !last.name().cmp(attr.name()).is_lt() {
+            return false;
+        }
+        last = attr;
+    }
+    true
 }
 
 /// The same attributes, whose texts they lend.

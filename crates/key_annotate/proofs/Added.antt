@@ -1,5 +1,5 @@
 -- One item on in a row: what it adds to the kids so far.
-use Rattle.std.proofs.Common.{◌≡◌, ◌≢◌, ℕ, true, List, [], ◌∷◌, ◌++◌, Option, Some, None, Global, append_assoc, refl, ap, sym, ◌∙◌}
+use Rattle.std.proofs.Common.{◌≡◌, ◌≢◌, ℕ, true, false, List, [], ◌∷◌, ◌++◌, Option, Some, None, Global, append_assoc, refl, ap, sym, ◌∙◌}
 use Rattle.std.specs.Option.{option_map}
 use Rattle.std.specs.declared.borrow.CowStr.{CowStr}
 use Rattle.jsonml_tree.specs.Data.{PlainTree, text, element, PlainContent, PlainTrees, tree}
@@ -10,7 +10,7 @@ use Rattle.jsonml_tree.specs.declared.lent.LentTree.TheVariants.{rolls-Text, rol
 use Rattle.jsonml_tree.proofs.LentTrees.{lent_tree_view-Leaf, lent_tree_view-Elem}
 use Rattle.keyed_tree.specs.Data.{PlainKeyed}
 use Rattle.key_spec.specs.Data.{PlainRule}
-use Rattle.key_rules.specs.Satisfies.{is_blank}
+use Rattle.key_rules.specs.Satisfies.{is_space_only}
 use Rattle.key_annotate.specs.Ordered.{put_first, built_items, built_tree}
 
 -- these kids, and then those of the items
@@ -21,8 +21,11 @@ after-one : (ks : List PlainKeyed) (k : PlainKeyed) (o : Option (List PlainKeyed
 after-one ks k None = refl
 after-one ks k (Some js) = ap (λ x. Some x) (sym (append_assoc ks (k ∷ []) js))
 
-pub added-text : (rules : List PlainRule) (path : List (List ℕ)) (s : List ℕ) (rest : PlainTrees) (ks : List PlainKeyed) → is_blank s ≡ true → after ks (built_items rules path (tree (text s) rest)) ≡ after ks (built_items rules path rest)
+pub added-text : (rules : List PlainRule) (path : List (List ℕ)) (s : List ℕ) (rest : PlainTrees) (ks : List PlainKeyed) → is_space_only s ≡ true → after ks (built_items rules path (tree (text s) rest)) ≡ after ks (built_items rules path rest)
 added-text rules path s rest ks e = rw e refl
+
+pub added-other : (rules : List PlainRule) (path : List (List ℕ)) (s : List ℕ) (rest : PlainTrees) (ks : List PlainKeyed) → is_space_only s ≡ false → after ks (built_items rules path (tree (text s) rest)) ≡ None
+added-other rules path s rest ks e = rw e refl
 
 pub added-kid : (rules : List PlainRule) (path : List (List ℕ)) (t : List ℕ) (c : PlainContent) (rest : PlainTrees) (ks : List PlainKeyed) (k : PlainKeyed) → built_tree rules path (element t c) ≡ Some k
     → after ks (built_items rules path (tree (element t c) rest)) ≡ after (ks ++ k ∷ []) (built_items rules path rest)

@@ -9,7 +9,7 @@ use Rattle.keyed_tree.specs.Kids.{kid_at}
 use Rattle.keyed_tree.specs.Lists.{Has}
 use Rattle.keyed_tree.specs.Paths.{node_at}
 use Rattle.keyed_tree.proofs.Kids.{has_found, kids_list-kids_from}
-use Rattle.keyed_tree.proofs.Lists.{all_has}
+use Rattle.jsonml_tree.proofs.Lists.{all_has}
 use Rattle.key_spec.specs.Data.{PlainRule}
 use Rattle.key_spec.specs.Rules.{is_frontier, below}
 use Rattle.key_annotate.specs.KeyedOf.{attr_leaf, InnerKeyed, ContentKeyed, EachIsKid, IsOfItem, IsKeyedTreeOf}

@@ -13,7 +13,7 @@ use Rattle.keyed_tree.proofs.Kids.{both}
 use Rattle.key_spec.specs.Data.{PlainRule}
 use Rattle.key_spec.specs.Rules.{is_frontier, below}
 use Rattle.key_rules.specs.Labels.{PlainLabelFault, label_in}
-use Rattle.key_rules.specs.Satisfies.{is_blank, ItemIsGood, ok_of, item_label, AreApart, ItemsSatisfy, ContentSatisfies, EachSatisfies, Satisfies}
+use Rattle.key_rules.specs.Satisfies.{is_space_only, ItemIsGood, ok_of, item_label, AreApart, ItemsSatisfy, ContentSatisfies, EachSatisfies, Satisfies}
 use Rattle.key_rules.proofs.Law.{apart-differ}
 use Rattle.key_annotate.specs.KeyedOf.{attr_leaf}
 use Rattle.key_annotate.specs.Annotated.{in_order, label_or_bare, annotated, annotated_items, keyed_tree}
@@ -74,7 +74,7 @@ mutual
   items-some : (rules : List PlainRule) (path : List (List ℕ)) (ts : PlainTrees) → IsTrue (are_well_formed ts)
       → Good rules path ts → EachSatisfies rules path ts → built_items rules path ts ≡ Some (annotated_items rules path ts)
   items-some rules path no_trees w g s = refl
-  items-some rules path (tree (text x) ts) w g s = blank-some (is_blank x) (built_items rules path ts) g.0 ∙ items-some rules path ts w g.1 s.1
+  items-some rules path (tree (text x) ts) w g s = blank-some (is_space_only x) (built_items rules path ts) g.0 ∙ items-some rules path ts w g.1 s.1
   items-some rules path (tree (element t c) ts) w g s =
       let two = both (is_content_well_formed c) (are_well_formed ts) w in
       put-some (built rules path t c) (built_items rules path ts) (annotated rules path t c) (annotated_items rules path ts)
@@ -146,7 +146,7 @@ mutual
       → built_items rules path ts ≡ Some ks → Good rules path ts × EachSatisfies rules path ts
   some-items rules path no_trees ks w e = (tt, tt)
   some-items rules path (tree (text x) ts) ks w e =
-      let two = blank-back (is_blank x) (built_items rules path ts) ks e in
+      let two = blank-back (is_space_only x) (built_items rules path ts) ks e in
       let rest = some-items rules path ts ks w two.1 in
       ((two.0, rest.0), (tt, rest.1))
   some-items rules path (tree (element t c) ts) ks w e =

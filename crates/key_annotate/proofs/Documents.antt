@@ -23,6 +23,7 @@ keyed-laws rules t e w =
     let alone : Satisfies rules t → (k : PlainKeyed) → IsKeyedTreeOf rules t k → k ≡ keyed_tree rules t = λ s k h. keyed_tree-one rules t k w s h in
     record {
       satisfied = λ s. (first_fault-None rules t).1 s;
+      faultless = λ none. (first_fault-None rules t).0 none;
       one = λ s. record { stands = keyed_tree-keyed rules t w s e; alone = alone s };
       well_formed = λ s k h. subst IsKeyedWellFormed (sym (alone s k h)) (keyed_tree-well rules t w);
       proper = record {

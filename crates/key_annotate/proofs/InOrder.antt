@@ -9,7 +9,7 @@ use Rattle.keyed_tree.specs.Kids.{ascend}
 use Rattle.keyed_tree.specs.Lists.{Ascends, Has}
 use Rattle.keyed_tree.specs.Order.{label_cmp}
 use Rattle.keyed_tree.specs.Laws.{label_cmp_total, label_cmp_exact}
-use Rattle.keyed_tree.proofs.Lists.{all_has, has_all, not_itself}
+use Rattle.jsonml_tree.proofs.Lists.{all_has, has_all, not_itself}
 use Rattle.keyed_tree.proofs.Kids.{kids_list-kids_from, ascend-all, all-ascend}
 use Rattle.key_annotate.specs.Annotated.{put_kid, in_order}
 

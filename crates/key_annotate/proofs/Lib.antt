@@ -9,7 +9,7 @@ pub mod Added
 pub mod ProperLemmas
 pub mod Alikes
 pub mod Documents
-pub mod Bares
-pub mod RulesAt
 pub mod Insides
 pub mod TextKeys
+pub mod NodeKinds
+pub mod TagOrders

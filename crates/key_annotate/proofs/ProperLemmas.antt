@@ -11,7 +11,7 @@ use Rattle.keyed_tree.specs.Proper.{is_tag, is_leaf_proper, is_proper, are_prope
 use Rattle.keyed_tree.specs.Plain.{item_onto, items_among, plain}
 use Rattle.keyed_tree.specs.WellFormed.{is_key_well_formed, is_label_well_formed, is_keyed_well_formed, are_kids_well_formed, IsKeyedWellFormed}
 use Rattle.keyed_tree.proofs.Kids.{both}
-use Rattle.keyed_tree.proofs.Lists.{all_has, has_all}
+use Rattle.jsonml_tree.proofs.Lists.{all_has, has_all}
 use Rattle.key_spec.specs.Data.{PlainRule}
 use Rattle.key_spec.specs.Rules.{is_frontier, below}
 use Rattle.key_rules.specs.Labels.{PlainLabelFault, label_in}

@@ -12,7 +12,7 @@ use Rattle.std.proofs.lemmas.List.{length-map, get_or-map}
 use Rattle.keyed_tree.specs.Lists.{Has}
 use Rattle.keyed_tree.specs.Order.{label_cmp}
 use Rattle.keyed_tree.specs.Laws.{label_cmp_total, label_cmp_exact, label_cmp-is_eq}
-use Rattle.keyed_tree.proofs.Lists.{same_items}
+use Rattle.jsonml_tree.proofs.Lists.{same_items}
 use Rattle.key_annotate.specs.Annotated.{in_order}
 use Rattle.key_annotate.specs.Ordered.{kids_in_order}
 use Rattle.key_annotate.proofs.InOrder.{Apart, Rise, has-order, order-has, rise-order, apart-rise, order-apart, ascend-rise, rise-ascend}

@@ -11,7 +11,7 @@ use Rattle.keyed_tree.specs.Kids.{ascend}
 use Rattle.keyed_tree.specs.Lists.{Has}
 use Rattle.keyed_tree.specs.Laws.{label_cmp_total}
 use Rattle.keyed_tree.proofs.Kids.{both, kids_list-kids_from}
-use Rattle.keyed_tree.proofs.Lists.{all_has, has_all, any_has, has_any, same_items}
+use Rattle.jsonml_tree.proofs.Lists.{all_has, has_all, any_has, has_any, same_items}
 use Rattle.key_spec.specs.Data.{PlainRule}
 use Rattle.key_spec.specs.Rules.{is_frontier, below}
 use Rattle.key_rules.specs.Labels.{PlainLabelFault, label_in}

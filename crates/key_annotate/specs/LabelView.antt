@@ -1,10 +1,13 @@
 -- The label of a lent keyed tree.
-use Rattle.std.specs.Prelude.{ℕ, Bool, true, false, List, [], ◌∷◌}
+use Rattle.std.specs.Prelude.{ℕ, Bool, true, false, List, [], ◌∷◌, map}
 use Rattle.jsonml_tree.specs.Data.{string}
 use Rattle.jsonml_tree.specs.LentView.{only_text}
 use Rattle.keyed_tree.specs.Data.{PlainKey, scalar, inside, PlainLabel, tag}
+use Rattle.keyed_tree.specs.LentView.{lent_val_view}
 use Rattle.key_rules.specs.LentView.{lent_label_view}
 use Rattle.key_annotate.specs.FrontedText.{fronted_text}
+use Rattle.key_annotate.specs.declared.label.KeyList.{KeyList}
+use Rattle.key_annotate.specs.declared.label.KeyList.TheVariants.{One, Row}
 use Rattle.key_annotate.specs.declared.label.KeyedLabel.{KeyedLabel}
 use Rattle.key_annotate.specs.declared.label.TextKey.{TextKey}
 use Rattle.key_annotate.specs.declared.label.Values.{Values}
@@ -18,6 +21,10 @@ key_of_text false s = inside (only_text s)
 abbrev pub text_key_view : TextKey → PlainKey
 text_key_view k = key_of_text k.is_scalar (fronted_text k.text)
 
+-- a tag without key values
+abbrev pub label_of_tag : List ℕ → PlainLabel
+label_of_tag t = record { name = tag t; keys = [] }
+
 -- a tag with one key value
 abbrev pub label_of_one : List ℕ → PlainKey → PlainLabel
 label_of_one t k = record { name = tag t; keys = k ∷ [] }
@@ -28,3 +35,7 @@ values_view (Other l) = lent_label_view l
 
 abbrev pub keyed_label_view : KeyedLabel → PlainLabel
 keyed_label_view l = values_view l.values
+
+abbrev pub key_list_view : KeyList → List PlainKey
+key_list_view (One k) = lent_val_view k ∷ []
+key_list_view (Row ks) = map lent_val_view ks.now

@@ -27,10 +27,11 @@ pub record HasProperTrees (rules : List PlainRule) (t : PlainTree) : Type 0 wher
 pub record HasAlikeTrees (rules : List PlainRule) (t : PlainTree) : Type 0 where
   pub alike : (u : PlainTree) (k j : PlainKeyed) → IsKeyedTreeOf rules t k → IsKeyedTreeOf rules u j → Alike k j
 
--- A document that satisfies the keys has no fault and exactly one tree, which is well formed. Every tree that stands for
--- the document is proper and alike with the others.
+-- A document that satisfies the keys has no fault and exactly one tree, which is well formed; one without a fault satisfies
+-- the keys. Every tree that stands for the document is proper and alike with the others.
 pub record KeyedLaws (rules : List PlainRule) (t : PlainTree) : Type 0 where
   pub satisfied : Satisfies rules t → first_fault rules t ≡ None
+  pub faultless : first_fault rules t ≡ None → Satisfies rules t
   pub one : Satisfies rules t → HasOneTree rules t
   pub well_formed : Satisfies rules t → (k : PlainKeyed) → IsKeyedTreeOf rules t k → IsKeyedWellFormed k
   pub proper : HasProperTrees rules t

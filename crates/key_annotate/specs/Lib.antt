@@ -6,7 +6,6 @@ pub mod Front
 pub mod FrontedText
 pub mod LabelView
 pub mod LentView
-pub mod Flat
 pub mod Laws
 pub mod Stands
 pub mod Inside

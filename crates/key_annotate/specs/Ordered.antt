@@ -7,7 +7,7 @@ use Rattle.keyed_tree.specs.Kids.{ascend}
 use Rattle.key_spec.specs.Data.{PlainRule}
 use Rattle.key_spec.specs.Rules.{is_frontier, below}
 use Rattle.key_rules.specs.Labels.{label_in}
-use Rattle.key_rules.specs.Satisfies.{is_blank, ok_of}
+use Rattle.key_rules.specs.Satisfies.{is_space_only, ok_of}
 use Rattle.key_annotate.specs.KeyedOf.{attr_leaf}
 use Rattle.key_annotate.specs.Annotated.{in_order}
 
@@ -33,7 +33,7 @@ abbrev mutual
       node_of (is_frontier rules (below context t)) (ok_of (label_in rules context t (content xs ts))) (content xs ts) (all_kids xs (built_items rules (below context t) ts))
 
   pub built_onto : List PlainRule → List (List ℕ) → PlainTree → Option (List PlainKeyed) → Option (List PlainKeyed)
-  built_onto rules path (text s) rest = if is_blank s then rest else None
+  built_onto rules path (text s) rest = if is_space_only s then rest else None
   built_onto rules path (element t c) rest = put_first (built rules path t c) rest
 
   pub built_items : List PlainRule → List (List ℕ) → PlainTrees → Option (List PlainKeyed)
@@ -44,20 +44,7 @@ abbrev mutual
 abbrev pub items_inside : List PlainRule → List (List ℕ) → PlainContent → Option (List PlainKeyed)
 items_inside rules path (content xs ts) = option_and_then kids_in_order (built_items rules path ts)
 
--- all kids of that element
-abbrev pub kids_inside : List PlainRule → List (List ℕ) → PlainContent → Option (List PlainKeyed)
-kids_inside rules path (content xs ts) = all_kids xs (built_items rules path ts)
-
--- what an element holds
-abbrev pub held : PlainTree → Option PlainContent
-held (text s) = None
-held (element t c) = Some c
-
--- the node of an element with this path, label and content
-abbrev pub node_inside : List PlainRule → List (List ℕ) → PlainLabel → PlainContent → Option PlainKeyed
-node_inside rules path l c = node_of (is_frontier rules path) (Some l) c (kids_inside rules path c)
-
--- the same of a tree, which is an element
+-- the keyed tree of a tree, which is an element
 abbrev pub built_tree : List PlainRule → List (List ℕ) → PlainTree → Option PlainKeyed
 built_tree rules context (text s) = None
 built_tree rules context (element t c) = built rules context t c

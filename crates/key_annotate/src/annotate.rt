@@ -58,8 +58,8 @@ fn own_keyed(alloc: Global, spec: &Spec, doc: &LentTree<'_>) -> Result<Keyed, An
 
 /// The keyed tree of a document, lent by the document, or its first key fault.
 ///
-/// It is built in one pass, which reads each label once, copies no more than key values that are more than a text, and sorts
-/// the kids of each node once; the first fault is looked for only where that pass meets one.
+/// It is built in one pass, which looks each rule up once and reads each label once, copies nothing of the document, and
+/// sorts the kids of each node once; the first fault is looked for only where that pass meets one.
 /// Recursion is as deep as elements nest.
 #[tactic(auto, using(crate::proofs::Documents::documents))]
 pub fn lent_keyed<'a, 't>(
@@ -77,8 +77,7 @@ pub fn lent_keyed<'a, 't>(
         (λ f. first_fault (spec_view spec.now) (lent_tree_view doc.now) ≡ Some f)) }
     ensures laws { KeyedLaws (spec_view spec.now) (lent_tree_view doc.now) }
 {
-    let mut path = Vec::new(alloc);
-    if let Some(tree) = build(alloc, spec, &mut path, doc)? {
+    if let Some(tree) = build(alloc, spec.root(), doc)? {
         return Ok(tree);
     }
     match first_lent_fault(alloc, spec, doc)? {

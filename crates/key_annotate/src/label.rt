@@ -1,30 +1,33 @@
 #![tactic(auto, using(jsonml_tree::proofs::Trees::trees, keyed_tree::proofs::Views::views))]
 
-ghost use Rattle.std.specs.Prelude.{◌≡◌, IfOk, IfSome};
+ghost use Rattle.std.specs.Cmp.Lexicographic.{slice_cmp};
+ghost use Rattle.std.specs.Prelude.{◌≡◌, [], IfOk, map};
 ghost use Rattle.keyed_tree.specs.Order.{key_cmp, label_cmp};
 ghost use Rattle.keyed_tree.specs.Plain.{name_bytes};
 ghost use Rattle.keyed_tree.specs.View.{label_view};
-ghost use Rattle.key_rules.specs.LentView.{lent_key_view, lent_label_view};
-ghost use Rattle.key_annotate.specs.LabelView.{key_of_text, keyed_label_view, label_of_one, text_key_view, values_view};
+ghost use Rattle.keyed_tree.specs.LentView.{lent_val_view};
+ghost use Rattle.key_rules.specs.LentView.{lent_label_view};
+ghost use Rattle.key_annotate.specs.LabelView.{key_list_view, key_of_text, keyed_label_view, label_of_one, label_of_tag, text_key_view, values_view};
 
 use crate::fronted::Fronted;
-use jsonml_tree::LentScalar;
-use key_rules::{LentKey, LentKeys, LentLabel};
-use keyed_tree::Label;
+use jsonml_tree::{LentContent, LentScalar};
+use key_rules::{LentKeys, LentLabel};
+use keyed_tree::{Label, LentVal, Name};
 use std::alloc::{AllocError, Global};
 use std::cmp::Ordering;
+use std::slice;
 
 /// The label of a keyed tree that a document lends.
 #[derive(Drop)]
-pub struct KeyedLabel<'a> {
-    values: Values<'a>,
+pub struct KeyedLabel<'a, 't> {
+    values: Values<'a, 't>,
 }
 
 /// A tag and its key values. Mostly it is one, and a text.
 #[derive(Drop)]
-enum Values<'a> {
+enum Values<'a, 't> {
     Text { tag: &'a str, key: TextKey<'a> },
-    Other(LentLabel<'a>),
+    Other(LentLabel<'a, 't>),
 }
 
 /// A key value that is one text: a scalar, or all that an element holds.
@@ -34,12 +37,23 @@ struct TextKey<'a> {
     is_scalar: bool,
 }
 
-/// A label with one key value that is one text: a scalar, or all that an element holds.
+/// The key values of a label.
 #[derive(Clone, Copy)]
-pub struct OneText<'a> {
-    pub tag: &'a str,
-    pub text: &'a str,
-    pub is_scalar: bool,
+pub enum KeyList<'k, 'a, 't> {
+    One(LentVal<'a, 't>),
+    Row(&'k [LentVal<'a, 't>]),
+}
+
+impl<'a, 't> KeyList<'_, 'a, 't> {
+    /// All of them.
+    pub fn as_slice(&self) -> &[LentVal<'a, 't>]
+        ensures { map lent_val_view result.now ≡ key_list_view self.now }
+    {
+        match self {
+            KeyList::One(key) => slice::from_ref(key),
+            KeyList::Row(keys) => keys,
+        }
+    }
 }
 
 impl<'a> TextKey<'a> {
@@ -59,19 +73,19 @@ impl<'a> TextKey<'a> {
     }
 
     /// The key value as the document lends it.
-    fn lent(&self) -> LentKey<'a>
-        ensures { lent_key_view result ≡ text_key_view self.now }
+    fn lent<'t>(&self) -> LentVal<'a, 't>
+        ensures { lent_val_view result ≡ text_key_view self.now }
     {
         if self.is_scalar {
-            LentKey::Scalar(LentScalar::Text(self.text.text()))
+            LentVal::Scalar(LentScalar::Text(self.text.text()))
         } else {
-            LentKey::Text(self.text.text())
+            LentVal::Content(LentContent::Text(self.text.text()))
         }
     }
 }
 
-impl<'a> KeyedLabel<'a> {
-    pub(crate) fn new(label: LentLabel<'a>) -> KeyedLabel<'a>
+impl<'a, 't> KeyedLabel<'a, 't> {
+    pub(crate) fn new(label: LentLabel<'a, 't>) -> KeyedLabel<'a, 't>
         ensures { keyed_label_view result ≡ lent_label_view label.entry }
     {
         let values = values_of(label);
@@ -89,7 +103,7 @@ impl<'a> KeyedLabel<'a> {
     }
 
     /// The order of labels. It takes no memory.
-    pub(crate) fn order(&self, other: &KeyedLabel<'_>) -> Ordering
+    pub(crate) fn order(&self, other: &KeyedLabel<'_, '_>) -> Ordering
         ensures { result ≡ label_cmp (keyed_label_view self.now) (keyed_label_view other.now) }
     {
         order_values(&self.values, &other.values)
@@ -105,22 +119,23 @@ impl<'a> KeyedLabel<'a> {
         }
     }
 
-    /// The label's texts, where it has one key value and that is one text.
-    pub fn one_text(&self) -> Option<OneText<'a>>
-        ensures { IfSome result (λ one. keyed_label_view self.now
-            ≡ label_of_one one.tag.now (key_of_text one.is_scalar one.text.now)) }
+    /// The order of labels, against a tag without key values. It takes no memory.
+    pub(crate) fn order_tag(&self, tag: &str) -> Ordering
+        ensures { result ≡ label_cmp (keyed_label_view self.now) (label_of_tag tag.now) }
+    {
+        match self.tag().cmp(tag) {
+            Ordering::Equal => order_none(self.keys().as_slice()),
+            order => order,
+        }
+    }
+
+    /// The key values.
+    pub fn keys(&self) -> KeyList<'_, 'a, 't>
+        ensures { key_list_view result ≡ (keyed_label_view self.now).keys }
     {
         match &self.values {
-            Values::Text { tag, key } => {
-                let text = key.text.text();
-                let is_scalar = key.is_scalar;
-                Some(OneText {
-                    tag,
-                    text,
-                    is_scalar,
-                })
-            }
-            Values::Other(_) => None,
+            Values::Text { key, .. } => KeyList::One(key.lent()),
+            Values::Other(label) => KeyList::Row(label.keys.as_slice()),
         }
     }
 
@@ -135,19 +150,32 @@ impl<'a> KeyedLabel<'a> {
     }
 }
 
-fn values_of<'a>(label: LentLabel<'a>) -> Values<'a>
+/// Key values against none.
+fn order_none(keys: &[LentVal<'_, '_>]) -> Ordering
+    ensures { result ≡ slice_cmp key_cmp (map lent_val_view keys.now) [] }
+{
+    if keys.is_empty() {
+        Ordering::Equal
+    } else {
+        Ordering::Greater
+    }
+}
+
+fn values_of<'a, 't>(label: LentLabel<'a, 't>) -> Values<'a, 't>
     ensures { values_view result ≡ lent_label_view label.entry }
 {
     match &label.keys {
-        LentKeys::One(LentKey::Text(text)) => text_values(label.tag, text, false),
-        LentKeys::One(LentKey::Scalar(LentScalar::Text(text))) => {
+        LentKeys::One(LentVal::Content(LentContent::Text(text))) => text_values(
+            label.tag, text, false,
+        ),
+        LentKeys::One(LentVal::Scalar(LentScalar::Text(text))) => {
             text_values(label.tag, text, true)
         }
         _ => Values::Other(label),
     }
 }
 
-fn text_values<'a>(tag: &'a str, text: &'a str, is_scalar: bool) -> Values<'a>
+fn text_values<'a, 't>(tag: &'a str, text: &'a str, is_scalar: bool) -> Values<'a, 't>
     ensures { values_view result ≡ label_of_one tag.now (key_of_text is_scalar text.now) }
 {
     let text = Fronted::new(text);
@@ -155,7 +183,7 @@ fn text_values<'a>(tag: &'a str, text: &'a str, is_scalar: bool) -> Values<'a>
     Values::Text { tag, key }
 }
 
-fn order_values(ours: &Values<'_>, theirs: &Values<'_>) -> Ordering
+fn order_values(ours: &Values<'_, '_>, theirs: &Values<'_, '_>) -> Ordering
     ensures { result ≡ label_cmp (values_view ours.now) (values_view theirs.now) }
 {
     match (ours, theirs) {
@@ -170,9 +198,31 @@ fn order_values(ours: &Values<'_>, theirs: &Values<'_>) -> Ordering
 }
 
 /// The label as the document lends it.
-fn lent_label<'a>(tag: &'a str, key: &TextKey<'a>) -> LentLabel<'a>
+fn lent_label<'a, 't>(tag: &'a str, key: &TextKey<'a>) -> LentLabel<'a, 't>
     ensures { lent_label_view result ≡ label_of_one tag.now (text_key_view key.now) }
 {
     let keys = LentKeys::One(key.lent());
     LentLabel { tag, keys }
+}
+
+/// A tag without key values against a label. It takes no memory.
+pub(crate) fn order_tag_own(tag: &str, other: &Label) -> Ordering
+    ensures { result ≡ label_cmp (label_of_tag tag.now) (label_view other.now) }
+{
+    let Name::Tag(theirs) = &other.name else {
+        return Ordering::Greater;
+    };
+    match tag.cmp(theirs.as_str()) {
+        Ordering::Equal if !other.keys.is_empty() => Ordering::Less,
+        order => order,
+    }
+}
+
+/// A label of its own of this tag without key values.
+pub(crate) fn copy_tag(alloc: Global, tag: &str) -> Result<Label, AllocError>
+    ensures { IfOk result (λ l. label_view l ≡ label_of_tag tag.now) }
+{
+    let name = Name::Tag(String::from_str(alloc, tag)?);
+    let keys = Vec::new(alloc);
+    Ok(Label { name, keys })
 }

@@ -1,17 +1,18 @@
 #![tactic(auto, using(jsonml_tree::proofs::Trees::trees, keyed_tree::proofs::Views::views, crate::proofs::LentViews::lent_views))]
 
-ghost use Rattle.std.specs.Prelude.{◌≡◌, ◌++◌, IfOk, map};
+ghost use Rattle.std.specs.Prelude.{◌≡◌, ◌++◌, [], IfOk, IfSome, IfNone, map};
 ghost use Rattle.jsonml_tree.specs.LentAttrs.{lent_attr_view};
+ghost use Rattle.jsonml_tree.specs.LentView.{lent_content_view};
 ghost use Rattle.keyed_tree.specs.Data.{label_of};
-ghost use Rattle.keyed_tree.specs.View.{keyed_view};
+ghost use Rattle.keyed_tree.specs.Order.{label_cmp};
+ghost use Rattle.keyed_tree.specs.Plain.{name_bytes};
+ghost use Rattle.keyed_tree.specs.View.{keyed_view, label_view};
 ghost use Rattle.key_annotate.specs.KeyedOf.{attr_leaf};
-ghost use Rattle.key_annotate.specs.LabelView.{keyed_label_view};
-ghost use Rattle.key_annotate.specs.LentView.{bare_view, lent_view};
+ghost use Rattle.key_annotate.specs.LabelView.{key_list_view, keyed_label_view};
+ghost use Rattle.key_annotate.specs.LentView.{bare_leaf, lent_view};
 
-use crate::bare::Bare;
-use crate::label::KeyedLabel;
-use crate::order::Labelled;
-use jsonml_tree::{LentAttr, LentContent, LentRow};
+use crate::label::{KeyList, KeyedLabel, copy_tag, order_tag_own};
+use jsonml_tree::{Content, LentAttr, LentContent, LentRow};
 use keyed_tree::{KeyVal, Keyed, Label, Name};
 use std::alloc::{AllocError, Global};
 use std::cmp::Ordering;
@@ -19,43 +20,104 @@ use std::cmp::Ordering;
 /// A keyed tree whose tags, key values and bodies a specification and a document lend, for `'a`, and the document's lender
 /// its texts, for `'t`.
 ///
-/// It takes memory for rows, of kids and of several key values, and for key values that are more than a text.
+/// It takes 40 bytes. A label that has key values, and the head of an inner node, stand beside it. A leaf without key
+/// values takes nothing more.
 #[derive(Drop)]
 pub enum LentKeyed<'a, 't> {
+    /// A leaf without key values, which holds one text and nothing else.
+    Text {
+        tag: &'a str,
+        text: &'a str,
+    },
+    /// Another leaf without key values.
+    Row {
+        tag: &'a str,
+        row: &'a LentRow<'t>,
+    },
+    /// A leaf with key values.
     Leaf {
-        label: KeyedLabel<'a>,
+        label: Box<KeyedLabel<'a, 't>>,
         content: LentContent<'a, 't>,
     },
-    /// An inner node whose first kids are the attributes of the row, each a leaf with its name and no key values.
+    /// An inner node. Its first kids are the attributes of its element; the others stand in the order of their labels.
     Inner {
-        label: KeyedLabel<'a>,
-        row: &'a LentRow<'t>,
+        head: Box<Head<'a, 't>>,
         kids: Vec<LentKeyed<'a, 't>>,
     },
-    /// An inner node whose kids are all elements of the document without key values.
-    Flat {
-        label: KeyedLabel<'a>,
-        leaves: Vec<Bare<'a, 't>>,
-    },
 }
 
-impl Labelled for LentKeyed<'_, '_> {
-    ghost keyed = { lent_view };
+/// The label of an inner node, and its attributes, each a leaf with its name and no key values.
+#[derive(Drop)]
+pub struct Head<'a, 't> {
+    pub label: KeyedLabel<'a, 't>,
+    pub attrs: &'a [LentAttr<'t>],
+}
 
-    fn order(&self, other: &Self) -> Ordering {
-        self.label().order(other.label())
+impl<'a, 't> LentKeyed<'a, 't> {
+    /// The leaf of this tag without key values.
+    pub(crate) fn bare(tag: &'a str, content: LentContent<'a, 't>) -> LentKeyed<'a, 't>
+        ensures { lent_view result ≡ bare_leaf tag.now (lent_content_view content.entry) }
+    {
+        match content {
+            LentContent::Text(text) => LentKeyed::Text { tag, text },
+            LentContent::Row(row) => LentKeyed::Row { tag, row },
+        }
     }
-}
 
-impl<'a> LentKeyed<'a, '_> {
-    /// The label of the element that it is.
-    pub fn label(&self) -> &KeyedLabel<'a>
-        ensures { keyed_label_view result.now ≡ label_of (lent_view self.now) }
+    /// The tag of the element that it is.
+    pub fn tag(&self) -> &'a str
+        ensures { result.now ≡ name_bytes (label_of (lent_view self.now)).name }
     {
         match self {
-            LentKeyed::Leaf { label, .. } => label,
-            LentKeyed::Inner { label, .. } => label,
-            LentKeyed::Flat { label, .. } => label,
+            LentKeyed::Text { tag, .. } => tag,
+            LentKeyed::Row { tag, .. } => tag,
+            LentKeyed::Leaf { label, .. } => label.tag(),
+            LentKeyed::Inner { head, .. } => head.label.tag(),
+        }
+    }
+
+    /// Its label, unless it is a leaf whose label is the tag alone.
+    pub fn label(&self) -> Option<&KeyedLabel<'a, 't>>
+        ensures some { IfSome result (λ l. keyed_label_view l.now ≡ label_of (lent_view self.now)) }
+        ensures none { IfNone result ((label_of (lent_view self.now)).keys ≡ []) }
+    {
+        match self {
+            LentKeyed::Text { .. } => None,
+            LentKeyed::Row { .. } => None,
+            LentKeyed::Leaf { label, .. } => Some(label),
+            LentKeyed::Inner { head, .. } => Some(&head.label),
+        }
+    }
+
+    /// The key values of its label.
+    pub fn keys(&self) -> KeyList<'_, 'a, 't>
+        ensures { key_list_view result ≡ (label_of (lent_view self.now)).keys }
+    {
+        match self.label() {
+            Some(label) => label.keys(),
+            None => KeyList::Row(Default::default()),
+        }
+    }
+
+    /// By the labels. It takes no memory.
+    pub(crate) fn order(&self, other: &LentKeyed<'_, '_>) -> Ordering
+        ensures { result ≡ label_cmp (label_of (lent_view self.now)) (label_of (lent_view other.now)) }
+    {
+        match (self.label(), other.label()) {
+            (Some(ours), Some(theirs)) => ours.order(theirs),
+            (Some(ours), None) => ours.order_tag(other.tag()),
+            (None, Some(theirs)) => theirs.order_tag(self.tag()).reverse(),
+            (None, None) => self.tag().cmp(other.tag()),
+        }
+    }
+
+    /// The order of its label, against one of its own. It takes no memory.
+    pub fn order_own(&self, other: &Label) -> Ordering
+        ensures { result ≡ label_cmp (label_of (lent_view self.now)) (label_view other.now) }
+    {
+        match self.label() {
+            Some(label) => label.order_own(other),
+            None => order_tag_own(self.tag(), other),
         }
     }
 
@@ -65,17 +127,21 @@ impl<'a> LentKeyed<'a, '_> {
         ensures { IfOk result (λ k. keyed_view k ≡ lent_view self.now) }
     {
         match self {
+            LentKeyed::Text { tag, text } => Ok(Keyed::Leaf {
+                label: copy_tag(alloc, tag)?,
+                body: KeyVal::Content(Content::of_text(alloc, text)?),
+            }),
+            LentKeyed::Row { tag, row } => Ok(Keyed::Leaf {
+                label: copy_tag(alloc, tag)?,
+                body: KeyVal::Content(LentContent::Row(row).own(alloc)?),
+            }),
             LentKeyed::Leaf { label, content } => Ok(Keyed::Leaf {
                 label: label.copy(alloc)?,
                 body: KeyVal::Content(content.own(alloc)?),
             }),
-            LentKeyed::Inner { label, row, kids } => Ok(Keyed::Inner {
-                label: label.copy(alloc)?,
-                kids: behind_attrs(alloc, &row.attrs, own_kids(alloc, kids)?)?,
-            }),
-            LentKeyed::Flat { label, leaves } => Ok(Keyed::Inner {
-                label: label.copy(alloc)?,
-                kids: own_leaves(alloc, leaves)?,
+            LentKeyed::Inner { head, kids } => Ok(Keyed::Inner {
+                label: head.label.copy(alloc)?,
+                kids: behind_attrs(alloc, head.attrs, own_kids(alloc, kids)?)?,
             }),
         }
     }
@@ -109,16 +175,6 @@ fn behind_attrs(
     let mut kids = kids;
     all.append(&mut kids)?;
     Ok(all)
-}
-
-fn own_leaves(alloc: Global, leaves: &[Bare<'_, '_>]) -> Result<Vec<Keyed>, AllocError>
-    ensures { IfOk result (λ v. map keyed_view v.items ≡ map bare_view leaves.now) }
-{
-    let mut copies = Vec::with_capacity(alloc, leaves.len())?;
-    for leaf in leaves {
-        copies.push(leaf.own(alloc)?)?;
-    }
-    Ok(copies)
 }
 
 /// The leaf of an attribute, as a keyed tree of its own.

@@ -2,17 +2,14 @@
 #![tactic(auto)]
 
 mod annotate;
-mod bare;
 mod build;
 mod fault;
-mod flat;
 mod fronted;
 mod label;
 mod lent;
 mod order;
 
 pub use annotate::{keyed, keyed_laws, lent_keyed};
-pub use bare::Bare;
 pub use fault::AnnotateFault;
-pub use label::{KeyedLabel, OneText};
-pub use lent::{LentKeyed, own_attr};
+pub use label::{KeyList, KeyedLabel};
+pub use lent::{Head, LentKeyed, own_attr};

@@ -10,7 +10,7 @@ use Rattle.keyed_tree.specs.Data.{PlainLabel}
 use Rattle.key_spec.specs.Data.{PlainRule}
 use Rattle.key_spec.specs.Rules.{rule_of, is_frontier, below}
 use Rattle.key_rules.specs.Labels.{PlainLabelFault, unkeyed, missing, twice, label_in}
-use Rattle.key_rules.specs.Satisfies.{is_blank, ItemIsGood, item_label, AreApart, ItemsSatisfy, ContentSatisfies, TreeSatisfies, EachSatisfies, Satisfies}
+use Rattle.key_rules.specs.Satisfies.{is_space_only, ItemIsGood, item_label, AreApart, ItemsSatisfy, ContentSatisfies, TreeSatisfies, EachSatisfies, Satisfies}
 use Rattle.key_rules.specs.Faults.{PlainKeyFault, label_fault, item_fault, first_bad_item, first_repeat, repeated_item, fault_among, item_place, content_fault, tree_fault, row_fault, first_fault}
 use Rattle.key_rules.proofs.Repeats.{Differ, first_repeat-None}
 
@@ -29,7 +29,7 @@ blank_fault true f = (λ e. refl, λ h. refl)
 blank_fault false f = (λ e. cc, λ h. absurd (true≢false (sym h)))
 
 item_fault-None : (rules : List PlainRule) (path : List (List ℕ)) (place : List ℕ) (t : PlainTree) → (item_fault rules path place t ≡ None) ↔ ItemIsGood rules path t
-item_fault-None rules path place (text s) = blank_fault (is_blank s) _
+item_fault-None rules path place (text s) = blank_fault (is_space_only s) _
 item_fault-None rules path place (element t c) = label_fault-None (rule_of rules path t) place (label_in rules path t c)
 
 first_bad_item-None : (rules : List PlainRule) (path : List (List ℕ)) (at : ℕ → List ℕ) (n : ℕ) (ts : List PlainTree)

@@ -8,10 +8,10 @@ use Rattle.jsonml_tree.specs.LentView.{lent_tree_view}
 use Rattle.jsonml_tree.specs.declared.lent.LentTree.{LentTree}
 use Rattle.keyed_tree.specs.Data.{PlainLabel}
 use Rattle.keyed_tree.specs.Order.{label_cmp}
-use Rattle.keyed_tree.specs.View.{label_view}
-use Rattle.keyed_tree.specs.declared.label.Label.{Label}
 use Rattle.key_spec.specs.Data.{PlainRule}
+use Rattle.key_rules.specs.LentView.{lent_label_view}
 use Rattle.key_rules.specs.Satisfies.{item_label}
+use Rattle.key_rules.specs.declared.lent.LentLabel.{LentLabel}
 use Rattle.key_rules.specs.Faults.{item_fault, first_bad_item, is_label, is_among, first_repeat}
 use Rattle.key_rules.proofs.Repeats.{repeat_from, repeat_from-none, repeat_from-some, any_take-more, labels_at}
 use Rattle.key_rules.proofs.Rows.{map-more}
@@ -19,13 +19,13 @@ use Rattle.key_rules.proofs.Rows.{map-more}
 abbrev pub labels_of : List PlainRule → List (List ℕ) → List LentTree → List (Option PlainLabel)
 labels_of rules path items = map (item_label rules path) (map lent_tree_view items)
 
-abbrev pub has_label : BTreeSet Label → Label → Bool
-has_label = contains (on label_view label_cmp)
+abbrev pub has_label : BTreeSet LentLabel → LentLabel → Bool
+has_label = contains (on lent_label_view label_cmp)
 
 -- before the item at i: none so far is bad, the set has their labels, and `repeated` is the first of them that repeats one
-pub record Looked (rules : List PlainRule) (path : List (List ℕ)) (at : ℕ → List ℕ) (items : List LentTree) (i : ℕ) (labels : BTreeSet Label) (repeated : Option ℕ) : Type 0 where
+pub record Looked (rules : List PlainRule) (path : List (List ℕ)) (at : ℕ → List ℕ) (items : List LentTree) (i : ℕ) (labels : BTreeSet LentLabel) (repeated : Option ℕ) : Type 0 where
   pub bad : first_bad_item rules path at 1 (map lent_tree_view items) ≡ first_bad_item rules path at (i + 1) (map lent_tree_view (drop i items))
-  pub seen : (q : Label) → has_label labels q ≡ is_among (take i (labels_of rules path items)) (Some (label_view q))
+  pub seen : (q : LentLabel) → has_label labels q ≡ is_among (take i (labels_of rules path items)) (Some (lent_label_view q))
   pub repeat : first_repeat (labels_of rules path items) ≡ option_or repeated (repeat_from (labels_of rules path items) i)
   pub before : IfSome repeated (λ n. n < i)
 
@@ -55,52 +55,52 @@ module _ (rules : List PlainRule) (path : List (List ℕ)) (at : ℕ → List �
       ap (first_bad_item rules path at (i + 1)) (map-more lent_tree_view items i x low is) ∙ ap (λ o. option_or o rest) good
 
   -- an item that is dropped
-  pub looked-dropped : (s : BTreeSet Label) (r : Option ℕ) → i < length items → x ≡ get_or items i x
+  pub looked-dropped : (s : BTreeSet LentLabel) (r : Option ℕ) → i < length items → x ≡ get_or items i x
       → item_fault rules path (at (i + 1)) (lent_tree_view x) ≡ None → item_label rules path (lent_tree_view x) ≡ None → Looked rules path at items i s r → Looked rules path at items (i + 1) s r
   looked-dropped s r low is good label h =
       let ls = labels_of rules path items in
       let here : slice_get ls i ≡ Some None = labels_at (item_label rules path) items i x low is ∙ ap (λ o. Some o) label in
       record {
         bad = h.bad ∙ bad-more low is good;
-        seen = λ q. h.seen q ∙ sym (any_take-more (is_label (label_view q)) ls i None here ∙ or_comm (list_any (is_label (label_view q)) (take i ls)) false);
+        seen = λ q. h.seen q ∙ sym (any_take-more (is_label (lent_label_view q)) ls i None here ∙ or_comm (list_any (is_label (lent_label_view q)) (take i ls)) false);
         repeat = h.repeat ∙ ap (option_or r) (repeat_from-none ls i here);
         before = IfSome-later r i h.before;
       }
 
-  seen-more : (s n : BTreeSet Label) (l : Label) (r : Option ℕ) → i < length items → x ≡ get_or items i x → item_label rules path (lent_tree_view x) ≡ Some (label_view l)
-      → ((q : Label) → has_label n q ≡ cond (is_eq (label_cmp (label_view l) (label_view q))) true (has_label s q)) → Looked rules path at items i s r
-      → (q : Label) → has_label n q ≡ is_among (take (i + 1) (labels_of rules path items)) (Some (label_view q))
+  seen-more : (s n : BTreeSet LentLabel) (l : LentLabel) (r : Option ℕ) → i < length items → x ≡ get_or items i x → item_label rules path (lent_tree_view x) ≡ Some (lent_label_view l)
+      → ((q : LentLabel) → has_label n q ≡ cond (is_eq (label_cmp (lent_label_view l) (lent_label_view q))) true (has_label s q)) → Looked rules path at items i s r
+      → (q : LentLabel) → has_label n q ≡ is_among (take (i + 1) (labels_of rules path items)) (Some (lent_label_view q))
   seen-more s n l r low is label added h q =
       let ls = labels_of rules path items in
-      let here : slice_get ls i ≡ Some (Some (label_view l)) = labels_at (item_label rules path) items i x low is ∙ ap (λ o. Some o) label in
-      let more = any_take-more (is_label (label_view q)) ls i (Some (label_view l)) here in
-      let swap = or_comm (list_any (is_label (label_view q)) (take i ls)) (is_eq (label_cmp (label_view l) (label_view q))) in
-      added q ∙ ap (cond (is_eq (label_cmp (label_view l) (label_view q))) true) (h.seen q) ∙ sym (more ∙ swap)
+      let here : slice_get ls i ≡ Some (Some (lent_label_view l)) = labels_at (item_label rules path) items i x low is ∙ ap (λ o. Some o) label in
+      let more = any_take-more (is_label (lent_label_view q)) ls i (Some (lent_label_view l)) here in
+      let swap = or_comm (list_any (is_label (lent_label_view q)) (take i ls)) (is_eq (label_cmp (lent_label_view l) (lent_label_view q))) in
+      added q ∙ ap (cond (is_eq (label_cmp (lent_label_view l) (lent_label_view q))) true) (h.seen q) ∙ sym (more ∙ swap)
 
   -- an element whose label is new
-  pub looked-new : (s n : BTreeSet Label) (l : Label) (r : Option ℕ) → i < length items → x ≡ get_or items i x
-      → item_fault rules path (at (i + 1)) (lent_tree_view x) ≡ None → item_label rules path (lent_tree_view x) ≡ Some (label_view l)
-      → ((q : Label) → has_label n q ≡ cond (is_eq (label_cmp (label_view l) (label_view q))) true (has_label s q)) → has_label s l ≡ false
+  pub looked-new : (s n : BTreeSet LentLabel) (l : LentLabel) (r : Option ℕ) → i < length items → x ≡ get_or items i x
+      → item_fault rules path (at (i + 1)) (lent_tree_view x) ≡ None → item_label rules path (lent_tree_view x) ≡ Some (lent_label_view l)
+      → ((q : LentLabel) → has_label n q ≡ cond (is_eq (label_cmp (lent_label_view l) (lent_label_view q))) true (has_label s q)) → has_label s l ≡ false
       → Looked rules path at items i s r → Looked rules path at items (i + 1) n r
   looked-new s n l r low is good label added new h =
       let ls = labels_of rules path items in
-      let here : slice_get ls i ≡ Some (Some (label_view l)) = labels_at (item_label rules path) items i x low is ∙ ap (λ o. Some o) label in
+      let here : slice_get ls i ≡ Some (Some (lent_label_view l)) = labels_at (item_label rules path) items i x low is ∙ ap (λ o. Some o) label in
       record {
         bad = h.bad ∙ bad-more low is good;
         seen = seen-more s n l r low is label added h;
-        repeat = h.repeat ∙ ap (option_or r) (repeat_from-some ls i (label_view l) here ∙ ap (λ b. cond b (Some i) (repeat_from ls (i + 1))) (sym (h.seen l) ∙ new));
+        repeat = h.repeat ∙ ap (option_or r) (repeat_from-some ls i (lent_label_view l) here ∙ ap (λ b. cond b (Some i) (repeat_from ls (i + 1))) (sym (h.seen l) ∙ new));
         before = IfSome-later r i h.before;
       }
 
   -- an element whose label an earlier one has
-  pub looked-repeated : (s n : BTreeSet Label) (l : Label) (r : Option ℕ) → i < length items → x ≡ get_or items i x
-      → item_fault rules path (at (i + 1)) (lent_tree_view x) ≡ None → item_label rules path (lent_tree_view x) ≡ Some (label_view l)
-      → ((q : Label) → has_label n q ≡ cond (is_eq (label_cmp (label_view l) (label_view q))) true (has_label s q)) → has_label s l ≡ true
+  pub looked-repeated : (s n : BTreeSet LentLabel) (l : LentLabel) (r : Option ℕ) → i < length items → x ≡ get_or items i x
+      → item_fault rules path (at (i + 1)) (lent_tree_view x) ≡ None → item_label rules path (lent_tree_view x) ≡ Some (lent_label_view l)
+      → ((q : LentLabel) → has_label n q ≡ cond (is_eq (label_cmp (lent_label_view l) (lent_label_view q))) true (has_label s q)) → has_label s l ≡ true
       → Looked rules path at items i s r → Looked rules path at items (i + 1) n (option_or r (Some i))
   looked-repeated s n l r low is good label added old h =
       let ls = labels_of rules path items in
-      let here : slice_get ls i ≡ Some (Some (label_view l)) = labels_at (item_label rules path) items i x low is ∙ ap (λ o. Some o) label in
-      let this = ap (option_or r) (repeat_from-some ls i (label_view l) here ∙ ap (λ b. cond b (Some i) (repeat_from ls (i + 1))) (sym (h.seen l) ∙ old)) in
+      let here : slice_get ls i ≡ Some (Some (lent_label_view l)) = labels_at (item_label rules path) items i x low is ∙ ap (λ o. Some o) label in
+      let this = ap (option_or r) (repeat_from-some ls i (lent_label_view l) here ∙ ap (λ b. cond b (Some i) (repeat_from ls (i + 1))) (sym (h.seen l) ∙ old)) in
       record {
         bad = h.bad ∙ bad-more low is good;
         seen = seen-more s n l r low is label added h;

@@ -8,7 +8,7 @@ use Rattle.key_spec.specs.Data.{PlainPath, PlainRule}
 use Rattle.key_spec.specs.Rules.{rule_of, is_frontier, below}
 use Rattle.key_rules.specs.Reach.{reach}
 use Rattle.key_rules.specs.Labels.{PlainLabelFault, unkeyed, missing, twice, and_then, one_of, keys_from, label_by}
-use Rattle.key_rules.specs.Satisfies.{is_blank, item_label}
+use Rattle.key_rules.specs.Satisfies.{is_space_only, item_label}
 use Rattle.key_rules.specs.Faults.{PlainKeyFault, HasItsPath, label_fault, item_fault, first_bad_item, first_repeat, repeated_item, fault_among, item_place, content_fault, tree_fault, row_fault, first_fault}
 
 -- the number of a key path without one value is that of a path
@@ -65,7 +65,7 @@ text-path true place = tt
 text-path false place = refl
 
 item-path : (rules : List PlainRule) (path : List (List ℕ)) (place : List ℕ) (t : PlainTree) → IfSome (item_fault rules path place t) HasItsPath
-item-path rules path place (text s) = text-path (is_blank s) place
+item-path rules path place (text s) = text-path (is_space_only s) place
 item-path rules path place (element t c) = label-path (rule_of rules path t) place t c
 
 bad-path : (rules : List PlainRule) (path : List (List ℕ)) (at : ℕ → List ℕ) (n : ℕ) (ts : List PlainTree) → IfSome (first_bad_item rules path at n ts) HasItsPath

@@ -2,12 +2,12 @@
 use Rattle.std.specs.Prelude.{◌≡◌, ℕ, List, Option, Some, None, Err}
 use Rattle.std.specs.Option.{option_map}
 use Rattle.keyed_tree.specs.Data.{PlainLabel}
-use Rattle.keyed_tree.specs.View.{label_view}
 use Rattle.key_spec.specs.View.{path_view}
 use Rattle.key_spec.specs.Data.{PlainRule}
 use Rattle.jsonml_tree.specs.Data.{PlainTree}
 use Rattle.key_rules.specs.Faults.{PlainKeyFault, item_fault, label_fault}
 use Rattle.key_rules.specs.Labels.{PlainLabelFault}
+use Rattle.key_rules.specs.LentView.{lent_label_view}
 use Rattle.key_rules.specs.Satisfies.{item_label}
 use Rattle.key_rules.specs.declared.check.Checked.{Checked}
 use Rattle.key_rules.specs.declared.check.Checked.TheVariants.{Dropped, Labelled, Bad}
@@ -21,7 +21,7 @@ checked_fault place (Bad why p) = Some (record { place = place; why = why; path 
 -- the label of an item that is an element with one
 abbrev pub checked_label : Checked → Option PlainLabel
 checked_label Dropped = None
-checked_label (Labelled l) = Some (label_view l)
+checked_label (Labelled l) = Some (lent_label_view l)
 checked_label (Bad why p) = None
 
 -- these are the fault and the label of the item, wherever it stands

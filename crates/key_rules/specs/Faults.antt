@@ -9,7 +9,7 @@ use Rattle.keyed_tree.specs.Order.{label_cmp}
 use Rattle.key_spec.specs.Data.{PlainPath, PlainRule}
 use Rattle.key_spec.specs.Rules.{rule_of, is_frontier, below}
 use Rattle.key_rules.specs.Labels.{PlainLabelFault, unkeyed, missing, twice, label_by}
-use Rattle.key_rules.specs.Satisfies.{is_blank, item_label}
+use Rattle.key_rules.specs.Satisfies.{is_space_only, item_label}
 
 -- A fault: the place of the item, why, and for why 3 and 4 the key path.
 pub record PlainKeyFault : Type 0 where
@@ -35,7 +35,7 @@ label_fault rule place (Err (twice n)) = Some (record { place = place; why = 4; 
 
 -- the fault of one item of an inner element; 2: a string that is not dropped
 abbrev pub item_fault : List PlainRule → List (List ℕ) → List ℕ → PlainTree → Option PlainKeyFault
-item_fault rules path place (text s) = if is_blank s then None else Some (record { place = place; why = 2; path = None })
+item_fault rules path place (text s) = if is_space_only s then None else Some (record { place = place; why = 2; path = None })
 item_fault rules path place (element t c) = label_fault (rule_of rules path t) place (label_by (rule_of rules path t) t c)
 
 -- the fault of the first item that has one; `at` gives the place of the item at each position

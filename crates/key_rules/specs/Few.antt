@@ -1,14 +1,11 @@
 -- None, one or several: what a search for one value tells of a list.
 use Rattle.std.specs.Prelude.{ℕ, ◌+◌, List, [], ◌∷◌, drop, get_or}
 use Rattle.jsonml_tree.specs.Data.{PlainTrees, PlainContent}
-use Rattle.keyed_tree.specs.Data.{PlainKey, scalar, inside}
+use Rattle.keyed_tree.specs.Data.{PlainKey}
+use Rattle.keyed_tree.specs.LentView.{lent_val_view}
 use Rattle.std.specs.List.{flat_map}
-use Rattle.jsonml_tree.specs.LentAttrs.{lent_scalar_view}
-use Rattle.jsonml_tree.specs.LentView.{lent_content_view}
 use Rattle.key_spec.specs.Data.{PlainPath}
 use Rattle.key_rules.specs.Reach.{children, found, values_at}
-use Rattle.key_rules.specs.declared.node.Node.{Node}
-use Rattle.key_rules.specs.declared.node.Node.TheVariants.{Scalar, Content}
 use Rattle.key_rules.specs.declared.node.Reached.{Reached}
 use Rattle.key_rules.specs.declared.node.Reached.TheVariants.{Nothing, One, Several}
 
@@ -30,13 +27,9 @@ join (one_key k) (one_key j) = several_keys
 join (one_key k) several_keys = several_keys
 join several_keys f = several_keys
 
-abbrev pub node_view : Node → PlainKey
-node_view (Scalar s) = scalar (lent_scalar_view s)
-node_view (Content c) = inside (lent_content_view c)
-
 abbrev pub reached_view : Reached → Few
 reached_view Nothing = no_key
-reached_view (One n) = one_key (node_view n)
+reached_view (One n) = one_key (lent_val_view n)
 reached_view Several = several_keys
 
 -- the values behind the tags of a path from a level on, at an element with this content

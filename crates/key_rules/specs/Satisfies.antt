@@ -10,16 +10,16 @@ use Rattle.key_spec.specs.Rules.{is_frontier, below}
 use Rattle.key_rules.specs.Labels.{PlainLabelFault, label_in}
 
 -- space, tab, LF and CR
-abbrev pub is_blank_byte : ℕ → Bool
-is_blank_byte b = (b == 32) || (b == 9) || (b == 10) || (b == 13)
+abbrev pub is_space : ℕ → Bool
+is_space b = (b == 32) || (b == 9) || (b == 10) || (b == 13)
 
 -- a string that is dropped directly inside an inner element: it is empty or has only such bytes
-abbrev pub is_blank : List ℕ → Bool
-is_blank s = list_all is_blank_byte s
+abbrev pub is_space_only : List ℕ → Bool
+is_space_only s = list_all is_space s
 
 -- an item of an inner element: a dropped string, or an element with a label
 abbrev pub ItemIsGood : List PlainRule → List (List ℕ) → PlainTree → Type 0
-ItemIsGood rules path (text s) = IsTrue (is_blank s)
+ItemIsGood rules path (text s) = IsTrue (is_space_only s)
 ItemIsGood rules path (element t c) = IsOk (label_in rules path t c)
 
 abbrev pub ok_of : Result PlainLabel PlainLabelFault → Option PlainLabel

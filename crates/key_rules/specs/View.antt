@@ -2,6 +2,7 @@
 use Rattle.std.specs.Prelude.{◌≡◌, ℕ, List, map, Option, Some, None, IfSome, Result, Ok, Err, option_map, String, Vec}
 use Rattle.std.specs.List.{AllByRecursion}
 use Rattle.std.specs.Global.{Global}
+use Rattle.jsonml_tree.specs.View.{place_view}
 use Rattle.keyed_tree.specs.Data.{PlainLabel}
 use Rattle.keyed_tree.specs.View.{label_view}
 use Rattle.keyed_tree.specs.WellFormed.{IsLabelWellFormed}
@@ -16,7 +17,7 @@ use Rattle.key_rules.specs.declared.fault.PathFault.{PathFault}
 use Rattle.key_rules.specs.declared.fault.PathFault.TheVariants as PathFault
 
 abbrev pub fault_view : KeyFault → PlainKeyFault
-fault_view f = record { place = f.place.steps.items; why = f.why; path = option_map path_view f.key_path }
+fault_view f = record { place = place_view f.place; why = f.why; path = option_map path_view f.key_path }
 
 -- why there is no label, and nothing for want of memory
 abbrev pub label_fault_view : LabelFault → Option PlainLabelFault

@@ -6,7 +6,7 @@ use key_spec::KeyPath;
 use std::alloc::{AllocError, AllocFailed};
 
 /// Why an element has no label. Key paths are numbered from 1, in the order of the rule.
-#[derive(Debug, Drop)]
+#[derive(Debug, Drop, PartialEq, Eq)]
 pub enum LabelFault {
     /// No rule has the context and the element's tag.
     Unkeyed,
@@ -34,7 +34,7 @@ impl<T: Drop> From<AllocFailed<T>> for LabelFault {
 }
 
 /// Why a user's path names nothing.
-#[derive(Debug, Drop)]
+#[derive(Debug, Drop, PartialEq, Eq)]
 pub enum PathFault {
     /// The first step that is bad, counted from 1, or 0 where the text is no JSON array.
     Bad { step: u32 },

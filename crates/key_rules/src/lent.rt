@@ -4,40 +4,32 @@ ghost use Rattle.std.specs.Prelude.{◌≡◌, map, IfOk};
 ghost use Rattle.std.specs.Cmp.Lexicographic.{slice_cmp};
 ghost use Rattle.keyed_tree.specs.Order.{key_cmp, label_cmp};
 ghost use Rattle.keyed_tree.specs.View.{key_view, label_view};
-ghost use Rattle.key_rules.specs.LentView.{lent_key_view, lent_keys_view, lent_label_view};
+ghost use Rattle.keyed_tree.specs.LentView.{lent_val_view};
+ghost use Rattle.key_rules.specs.LentView.{lent_keys_view, lent_label_view};
 
-use jsonml_tree::{Content, LentContent, LentScalar};
-use keyed_tree::{KeyVal, Label, Name};
+use keyed_tree::{KeyVal, Label, LentVal, Name};
 use std::alloc::{AllocError, Global};
 use std::cmp::Ordering;
 use std::slice;
 
-/// A key value that a document lends. A content of one text and nothing else is seen as its text; another one is copied.
-#[derive(Drop)]
-pub enum LentKey<'a> {
-    Scalar(LentScalar<'a>),
-    Text(&'a str),
-    Content(Content),
-}
-
 /// The key values of a label. One alone takes no memory.
 #[derive(Drop)]
-pub enum LentKeys<'a> {
-    One(LentKey<'a>),
-    Row(Vec<LentKey<'a>>),
+pub enum LentKeys<'a, 't> {
+    One(LentVal<'a, 't>),
+    Row(Vec<LentVal<'a, 't>>),
 }
 
 /// The label of an element, whose key values the document lends. The tag is that of the rule.
 #[derive(Drop)]
-pub struct LentLabel<'a> {
+pub struct LentLabel<'a, 't> {
     pub tag: &'a str,
-    pub keys: LentKeys<'a>,
+    pub keys: LentKeys<'a, 't>,
 }
 
-impl<'a> LentKeys<'a> {
+impl<'a, 't> LentKeys<'a, 't> {
     /// All of them.
-    fn as_slice(&self) -> &[LentKey<'a>]
-        ensures { map lent_key_view result.now ≡ lent_keys_view self.now }
+    pub fn as_slice(&self) -> &[LentVal<'a, 't>]
+        ensures { map lent_val_view result.now ≡ lent_keys_view self.now }
     {
         match self {
             LentKeys::One(key) => slice::from_ref(key),
@@ -46,9 +38,9 @@ impl<'a> LentKeys<'a> {
     }
 }
 
-impl LentLabel<'_> {
+impl LentLabel<'_, '_> {
     /// The order of labels. It takes no memory.
-    pub fn order(&self, other: &LentLabel<'_>) -> Ordering
+    pub fn order(&self, other: &LentLabel<'_, '_>) -> Ordering
         ensures { result ≡ label_cmp (lent_label_view self.now) (lent_label_view other.now) }
     {
         match self.tag.cmp(other.tag) {
@@ -80,16 +72,77 @@ impl LentLabel<'_> {
     }
 }
 
-fn order_keys(ours: &[LentKey<'_>], theirs: &[LentKey<'_>]) -> Ordering
+impl PartialEq for LentLabel<'_, '_> {
+    ghost use Rattle.std.specs.Ordering.{eq_by_cmp, on};
+    ghost use Rattle.std.specs.Cmp.{on_total, eq_by_cmp_equiv, partial_equiv_from_equiv};
+    ghost use Rattle.keyed_tree.specs.Laws.{label_cmp_total};
+    ghost use Rattle.keyed_tree.specs.Order.{label_cmp};
+    ghost use Rattle.key_rules.specs.LentView.{lent_label_view};
+
+    ghost eq = { eq_by_cmp (on lent_label_view label_cmp) };
+
+    ghost laws = { partial_equiv_from_equiv (eq_by_cmp_equiv (on_total lent_label_view label_cmp_total)) };
+
+    fn eq(&self, other: &Self) -> bool {
+        self.order(other).is_eq()
+    }
+}
+
+impl Eq for LentLabel<'_, '_> {
+    ghost use Rattle.std.specs.Cmp.{on_total, eq_by_cmp_equiv};
+    ghost use Rattle.keyed_tree.specs.Laws.{label_cmp_total};
+    ghost use Rattle.key_rules.specs.LentView.{lent_label_view};
+
+    ghost laws = { eq_by_cmp_equiv (on_total lent_label_view label_cmp_total) };
+}
+
+impl PartialOrd for LentLabel<'_, '_> {
+    ghost use Rattle.std.specs.Ordering.{on, as_partial_cmp};
+    ghost use Rattle.std.specs.Cmp.{on_total, partial_order_from_total};
+    ghost use Rattle.keyed_tree.specs.Laws.{label_cmp_total};
+    ghost use Rattle.keyed_tree.specs.Order.{label_cmp};
+    ghost use Rattle.key_rules.specs.LentView.{lent_label_view};
+
+    ghost partial_cmp = { as_partial_cmp (on lent_label_view label_cmp) };
+
+    ghost laws = { partial_order_from_total (on_total lent_label_view label_cmp_total) };
+
+    fn partial_cmp(&self, other: &Self) -> Option<Ordering> {
+        Some(self.order(other))
+    }
+}
+
+impl Ord for LentLabel<'_, '_> {
+    ghost use Rattle.std.proofs.Common.{refl};
+    ghost use Rattle.std.specs.Ordering.{on};
+    ghost use Rattle.std.specs.Cmp.{on_total};
+    ghost use Rattle.keyed_tree.specs.Laws.{label_cmp_total};
+    ghost use Rattle.keyed_tree.specs.Order.{label_cmp};
+    ghost use Rattle.key_rules.specs.LentView.{lent_label_view};
+
+    ghost cmp = { on lent_label_view label_cmp };
+
+    ghost total = { on_total lent_label_view label_cmp_total };
+
+    ghost matches_partial_cmp = { λ x y. refl };
+
+    ghost matches_eq = { λ x y. refl };
+
+    fn cmp(&self, other: &Self) -> Ordering {
+        self.order(other)
+    }
+}
+
+fn order_keys(ours: &[LentVal<'_, '_>], theirs: &[LentVal<'_, '_>]) -> Ordering
     ensures { result
-        ≡ slice_cmp key_cmp (map lent_key_view ours.now) (map lent_key_view theirs.now) }
+        ≡ slice_cmp key_cmp (map lent_val_view ours.now) (map lent_val_view theirs.now) }
 {
     let mut others = theirs.iter();
     for a in ours {
         let Some(b) = others.next() else {
             return Ordering::Greater;
         };
-        match order_key(a, b) {
+        match a.order(*b) {
             Ordering::Equal => {}
             order => return order,
         }
@@ -101,29 +154,15 @@ fn order_keys(ours: &[LentKey<'_>], theirs: &[LentKey<'_>]) -> Ordering
     }
 }
 
-fn order_key(a: &LentKey<'_>, b: &LentKey<'_>) -> Ordering
-    ensures { result ≡ key_cmp (lent_key_view a.now) (lent_key_view b.now) }
-{
-    match (a, b) {
-        (LentKey::Text(a), LentKey::Text(b)) => a.cmp(b),
-        (LentKey::Scalar(a), LentKey::Scalar(b)) => a.order(*b),
-        (LentKey::Scalar(_), _) => Ordering::Less,
-        (_, LentKey::Scalar(_)) => Ordering::Greater,
-        (LentKey::Text(a), LentKey::Content(b)) => LentContent::Text(a).order(b),
-        (LentKey::Content(a), LentKey::Text(b)) => LentContent::Text(b).order(a).reverse(),
-        (LentKey::Content(a), LentKey::Content(b)) => a.order(b),
-    }
-}
-
-fn order_keys_own(ours: &[LentKey<'_>], theirs: &[KeyVal]) -> Ordering
-    ensures { result ≡ slice_cmp key_cmp (map lent_key_view ours.now) (map key_view theirs.now) }
+fn order_keys_own(ours: &[LentVal<'_, '_>], theirs: &[KeyVal]) -> Ordering
+    ensures { result ≡ slice_cmp key_cmp (map lent_val_view ours.now) (map key_view theirs.now) }
 {
     let mut others = theirs.iter();
     for a in ours {
         let Some(b) = others.next() else {
             return Ordering::Greater;
         };
-        match order_key_own(a, b) {
+        match a.order_own(b) {
             Ordering::Equal => {}
             order => return order,
         }
@@ -135,34 +174,12 @@ fn order_keys_own(ours: &[LentKey<'_>], theirs: &[KeyVal]) -> Ordering
     }
 }
 
-fn order_key_own(a: &LentKey<'_>, b: &KeyVal) -> Ordering
-    ensures { result ≡ key_cmp (lent_key_view a.now) (key_view b.now) }
-{
-    match (a, b) {
-        (LentKey::Scalar(a), KeyVal::Scalar(b)) => a.order(b.lend()),
-        (LentKey::Scalar(_), KeyVal::Content(_)) => Ordering::Less,
-        (_, KeyVal::Scalar(_)) => Ordering::Greater,
-        (LentKey::Text(a), KeyVal::Content(b)) => LentContent::Text(a).order(b),
-        (LentKey::Content(a), KeyVal::Content(b)) => a.order(b),
-    }
-}
-
-fn copy_keys(alloc: Global, keys: &[LentKey<'_>]) -> Result<Vec<KeyVal>, AllocError>
-    ensures { IfOk result (λ v. map key_view v.items ≡ map lent_key_view keys.now) }
+fn copy_keys(alloc: Global, keys: &[LentVal<'_, '_>]) -> Result<Vec<KeyVal>, AllocError>
+    ensures { IfOk result (λ v. map key_view v.items ≡ map lent_val_view keys.now) }
 {
     let mut copies = Vec::with_capacity(alloc, keys.len())?;
     for key in keys {
-        copies.push_reserved(copy_key(alloc, key)?);
+        copies.push_reserved(key.own(alloc)?);
     }
     Ok(copies)
-}
-
-fn copy_key(alloc: Global, key: &LentKey<'_>) -> Result<KeyVal, AllocError>
-    ensures { IfOk result (λ k. key_view k ≡ lent_key_view key.now) }
-{
-    match key {
-        LentKey::Scalar(scalar) => Ok(KeyVal::Scalar(scalar.own(alloc)?)),
-        LentKey::Text(text) => Ok(KeyVal::Content(Content::of_text(alloc, text)?)),
-        LentKey::Content(content) => Ok(KeyVal::Content(content.copy(alloc)?)),
-    }
 }

@@ -11,19 +11,14 @@ ghost use Rattle.key_rules.specs.Few.{few, join, reached_view, values_from, valu
 
 use jsonml_tree::{LentAttr, LentContent, LentRow, LentScalar, LentTree};
 use key_spec::KeyPath;
+use keyed_tree::LentVal;
 
-/// A node of a key path, in a lent document: the scalar of an attribute, or the content of an element.
-#[derive(Clone, Copy)]
-pub(crate) enum Node<'a, 'b> {
-    Scalar(LentScalar<'a>),
-    Content(LentContent<'a, 'b>),
-}
-
-/// The nodes that a search has found so far. It ends at the second.
+/// The nodes of a key path that a search has found so far, each the scalar of an attribute or the content of an element.
+/// It ends at the second.
 #[derive(Clone, Copy)]
 pub(crate) enum Reached<'a, 'b> {
     Nothing,
-    One(Node<'a, 'b>),
+    One(LentVal<'a, 'b>),
     Several,
 }
 
@@ -131,7 +126,7 @@ fn own_text<'a, 'b>(path: &KeyPath, text: &'a str) -> Reached<'a, 'b>
         ≡ few (values_at (path_view path.now).attr (only_text text.now ∷ [])) }
 {
     match &path.attr {
-        None => Reached::One(Node::Content(LentContent::Text(text))),
+        None => Reached::One(LentVal::Content(LentContent::Text(text))),
         Some(_) => Reached::Nothing,
     }
 }
@@ -142,10 +137,10 @@ fn own_node<'a, 'b>(path: &KeyPath, row: &'a LentRow<'b>) -> Reached<'a, 'b>
         ≡ few (values_at (path_view path.now).attr (lent_row_view row.now ∷ [])) }
 {
     let Some(name) = &path.attr else {
-        return Reached::One(Node::Content(LentContent::Row(row)));
+        return Reached::One(LentVal::Content(LentContent::Row(row)));
     };
     match attribute(&row.attrs, name.as_str()) {
-        Some(scalar) => Reached::One(Node::Scalar(scalar)),
+        Some(scalar) => Reached::One(LentVal::Scalar(scalar)),
         None => Reached::Nothing,
     }
 }

@@ -25,7 +25,7 @@ use std::alloc::{AllocError, Global};
 ///
 /// A step is the tag of an element, as `"db"`; an array of the tag and the key values in the order of its rule, as
 /// `["dept", "finance"]`; or `@` and the name of an attribute. A key value is a scalar for a key path that ends in an
-/// attribute, else a string or an array of items.
+/// attribute, else a string, or an array of items, in front of which an object of attributes may stand.
 pub fn read_path(alloc: Global, spec: &Spec, text: &str) -> Result<Vec<Label>, PathFault>
     ensures labels { IfOk result
         (λ ls. user_path (spec_view spec.now) text.now ≡ Ok (map label_view ls.items)) }

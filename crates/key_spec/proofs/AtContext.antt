@@ -63,6 +63,13 @@ module _ {X : Type 0} (f : X → PlainRule) (p : PlainRule → Bool) where
   kept-front (x ∷ xs) zero h = kept-front xs zero (none x xs h) ∙ sym (cond-false (p (f x)) _ _ (h.1 0 x (omega arith) (omega arith)))
   kept-front (x ∷ xs) (suc n) h = ap (λ ys. f x ∷ ys) (kept-front xs n (later x xs n h)) ∙ sym (cond-true (p (f x)) _ _ (h.0 0 x (omega arith) (omega arith)))
 
+  -- so it has as many as pass
+  pub front-length : (xs : List X) (n : ℕ) → n ≤ length xs → Parts xs n → n ≡ length (filter p (map f xs))
+  front-length [] zero l h = refl
+  front-length [] (suc n) l h = absurd (omega (arith, l))
+  front-length (x ∷ xs) zero l h = front-length xs zero (omega arith) (none x xs h) ∙ sym (ap length (cond-false (p (f x)) _ _ (h.1 0 x (omega arith) (omega arith))))
+  front-length (x ∷ xs) (suc n) l h = ap suc (front-length xs n (omega (arith, l)) (later x xs n h)) ∙ sym (ap length (cond-true (p (f x)) _ _ (h.0 0 x (omega arith) (omega arith))))
+
   pub kept-back : (xs : List X) (n : ℕ) → Parts xs n → map f (drop n xs) ≡ filter (λ r. not (p r)) (map f xs)
   kept-back [] zero h = refl
   kept-back [] (suc n) h = refl

@@ -1,5 +1,5 @@
 -- What tokens spell, one step after another.
-use Rattle.std.proofs.Common.{◌≡◌, ℕ, ◌<◌, false, List, [], ◌∷◌, ◌++◌, length, refl, ap, sym, ◌∙◌, arith, eqb, Option, Some, None, option_map, option_and_then, eqb-true, drop, suc, append_assoc}
+use Rattle.std.proofs.Common.{◌≡◌, ℕ, false, List, [], ◌∷◌, ◌++◌, length, refl, ap, sym, ◌∙◌, arith, eqb, Option, Some, None, option_map, option_and_then, eqb-true, drop, suc, append_assoc}
 use Rattle.std.proofs.lemmas.Bool.{cond-false, cond-true, ne_eqb, and_left, and_from, not_from_false}
 use Rattle.std.specs.List.{prefix_len}
 use Rattle.key_spec.specs.Data.{PlainPath}

@@ -21,6 +21,8 @@ pub mod SearchLemmas
 pub mod SortLemmas
 pub mod SpecLaws
 pub mod Steps
+pub mod StretchLaws
+pub mod StretchRows
 pub mod TextLemmas
 pub mod TokenLemmas
 pub mod MarkLemmas

@@ -10,6 +10,7 @@ use Rattle.key_spec.specs.Rules.{path_cmp, rule_cmp, below}
 use Rattle.key_spec.specs.Lines.{lines, is_skipped}
 use Rattle.key_spec.specs.Form.{line_rule}
 use Rattle.key_spec.specs.Canonical.{canonical}
+use Rattle.key_spec.specs.declared.limits.TheConstants.{LONGEST_TEXT, MOST_RULES}
 
 -- ---- the lines, and the first pass over them
 
@@ -137,7 +138,7 @@ closed_rules rules = after_all [] (implied_rules rules ++ rules)
 
 -- at most 4,096 rules, whose canonical text has at most 1,048,576 bytes
 abbrev pub within_limits : List PlainRule → Result (List PlainRule) PlainSpecFault
-within_limits rules = if nat_lt 4096 (length rules) || nat_lt 1048576 (length (canonical rules)) then Err (record { line = 0; why = 7 }) else Ok rules
+within_limits rules = if nat_lt MOST_RULES (length rules) || nat_lt LONGEST_TEXT (length (canonical rules)) then Err (record { line = 0; why = 7 }) else Ok rules
 
 abbrev pub unless : {X : Type 0} → Option PlainSpecFault → Result X PlainSpecFault → Result X PlainSpecFault
 unless None result = result

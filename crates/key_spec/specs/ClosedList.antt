@@ -7,6 +7,7 @@ use Rattle.key_spec.specs.Names.{is_named}
 use Rattle.key_spec.specs.Canonical.{canonical}
 use Rattle.key_spec.specs.Closed.{paths_why, target_of, implied_by, frontier_ends}
 use Rattle.key_spec.specs.Rules.{rule_cmp, is_frontier}
+use Rattle.key_spec.specs.declared.limits.TheConstants.{LONGEST_TEXT, MOST_RULES}
 
 pub record IsClosedList (rules : List PlainRule) : Type 0 where
   -- it ascends by context and then by tag, with one rule for each
@@ -22,5 +23,5 @@ pub record IsClosedList (rules : List PlainRule) : Type 0 where
   -- no rule goes on behind the end of a key path without an attribute
   pub ends : (path : List (List ℕ)) → Contains (frontier_ends rules) path → is_frontier rules path ≡ true
   -- there are few, and their text is short
-  pub few : length rules ≤ 4096
-  pub short : length (canonical rules) ≤ 1048576
+  pub few : length rules ≤ MOST_RULES
+  pub short : length (canonical rules) ≤ LONGEST_TEXT

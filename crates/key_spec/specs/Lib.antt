@@ -12,3 +12,6 @@ pub mod Rules
 pub mod Texts
 pub mod View
 pub mod Marks
+pub mod Stretches
+pub mod StretchView
+pub mod ContextView

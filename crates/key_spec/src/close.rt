@@ -2,33 +2,32 @@
 ghost use Rattle.std.specs.Prelude.{◌≡◌, ◌++◌, ◌∷◌, ◌<◌, ◌≤◌, [], length, map, IfOk, OnOk, IfSome, IfNone, string_bytes};
 ghost use Rattle.std.specs.Bool.{OnTrue, OnFalse};
 ghost use Rattle.key_spec.specs.Closed.{target_of, unkeyed, implied_along, implied_by, implied_rules, after_all, closed_rules};
+ghost use Rattle.key_spec.specs.declared.limits.TheConstants.{MOST_RULES};
 ghost use Rattle.key_spec.specs.View.{names_view, rule_view, rules_view, placed_rules, Puts};
 
 use crate::copies::{copy_name, copy_names, push_copy};
 use crate::given::Given;
+use crate::limits::MOST_RULES;
 use crate::place::{Placed, place_of};
 use crate::rule::Rule;
 use std::alloc::{AllocError, Global};
 use std::collections::BTreeSet;
 
-/// At most so many closed rules.
-const MAX_RULES: usize = 4096;
-
 /// The closed rules, unless there are too many.
 pub(crate) fn close(alloc: Global, given: Vec<Given>) -> Result<Option<Vec<Rule>>, AllocError>
     ensures some { IfOk result (λ found. IfSome found
         (λ rules. map rule_view rules.items ≡ closed_rules (rules_view given.items))) }
-    ensures few { IfOk result
-        (λ found. IfSome found (λ rules. length (closed_rules (rules_view given.items)) ≤ 4096)) }
+    ensures few { IfOk result (λ found. IfSome found
+        (λ rules. length (closed_rules (rules_view given.items)) ≤ MOST_RULES)) }
     ensures none { IfOk result
-        (λ found. IfNone found (4096 < length (closed_rules (rules_view given.items)))) }
+        (λ found. IfNone found (MOST_RULES < length (closed_rules (rules_view given.items)))) }
 {
     let mut closed = BTreeSet::new(alloc);
     if !put_all_implied(alloc, &mut closed, &given)? {
         return Ok(None);
     }
     put_given(alloc, &mut closed, given)?;
-    if closed.len() > MAX_RULES {
+    if closed.len() > MOST_RULES {
         return Ok(None);
     }
     Ok(Some(in_order(alloc, closed)?))
@@ -43,12 +42,12 @@ fn put_all_implied(
     ensures all { IfOk result
         (λ few. OnTrue few (Puts closed.old closed.new (implied_rules (rules_view given.now)))) }
     ensures many { IfOk result (λ few. OnFalse few
-        (4096 < length
+        (MOST_RULES < length
         (after_all (placed_rules closed.old) (implied_rules (rules_view given.now))))) }
 {
     for one in given {
         put_implied(alloc, closed, &one.rule)?;
-        if closed.len() > MAX_RULES {
+        if closed.len() > MOST_RULES {
             return Ok(false);
         }
     }

@@ -1,81 +1,78 @@
-// The rules of one context, which stand together in a list that ascends, and contexts behind a path.
-ghost use Rattle.std.specs.Prelude.{◌≡◌, not, map, option_map};
-ghost use Rattle.std.specs.List.{filter};
-ghost use Rattle.std.specs.List.Sorted.{IsStrictlySortedBy};
-ghost use Rattle.key_spec.specs.RuleView.{names_view, rule_view};
-ghost use Rattle.key_spec.specs.Rules.{rule_cmp, has_context, is_before, is_up_to, tag_cmp, tagged, ends_below};
+// A walk down the rules, by numbers in the place of names.
+ghost use Rattle.std.specs.Prelude.{◌≤◌, length, map};
+ghost use Rattle.key_spec.specs.RuleView.{rule_view};
 
-use crate::order::{goes_behind, order_paths};
 use crate::rule::Rule;
+use crate::spec::Spec;
+use crate::stretch::Stretch;
+use crate::tagged::find_tag;
 
-/// So many rules are looked at one after the other; more are looked up by halving.
-pub(crate) const FEW: usize = 64;
-
-/// The rules with this context.
-pub(crate) fn at_context<'a>(rules: &'a [Rule], path: &[String]) -> &'a [Rule]
-    requires { IsStrictlySortedBy rule_cmp (map rule_view rules.now) }
-    ensures { map rule_view result.now
-        ≡ filter (has_context (names_view path.now)) (map rule_view rules.now) }
-{
-    up_to(not_before(rules, path), path)
+/// A place among the rules: that of the elements below one path.
+///
+/// It is a reference and a number, and costs the same however long the path is.
+#[derive(Clone, Copy)]
+pub struct Context<'a> {
+    spec: &'a Spec,
+    number: usize,
+    ghost within: { number ≤ length (map rule_view spec.now.rules.items) },
 }
 
-/// Whether no rule's context goes on behind this path: the first rule behind those of the path tells.
-pub(crate) fn ends_below(rules: &[Rule], path: &[String]) -> bool
-    requires { IsStrictlySortedBy rule_cmp (map rule_view rules.now) }
-    ensures { result ≡ ends_below (map rule_view rules.now) (names_view path.now) }
-{
-    match behind(rules, path).split_first() {
-        None => true,
-        Some((rule, _)) => !goes_behind(path, &rule.context),
-    }
-}
+impl Spec {
+    ghost use Rattle.std.specs.Prelude.{◌≡◌, []};
+    ghost use Rattle.key_spec.specs.ContextView.{context_rules, context_path};
+    ghost use Rattle.key_spec.specs.View.{spec_view};
 
-fn not_before<'a>(rules: &'a [Rule], path: &[String]) -> &'a [Rule]
-    requires { IsStrictlySortedBy rule_cmp (map rule_view rules.now) }
-    ensures { map rule_view result.now
-        ≡ filter (λ r. not (is_before (names_view path.now) r)) (map rule_view rules.now) }
-{
-    &rules[rules.partition_point(|rule| order_paths(&rule.context, path).is_lt())..]
-}
-
-fn up_to<'a>(rules: &'a [Rule], path: &[String]) -> &'a [Rule]
-    requires { IsStrictlySortedBy rule_cmp (map rule_view rules.now) }
-    ensures { map rule_view result.now
-        ≡ filter (is_up_to (names_view path.now)) (map rule_view rules.now) }
-{
-    &rules[..rules.partition_point(|rule| order_paths(&rule.context, path).is_le())]
-}
-
-fn behind<'a>(rules: &'a [Rule], path: &[String]) -> &'a [Rule]
-    requires { IsStrictlySortedBy rule_cmp (map rule_view rules.now) }
-    ensures { map rule_view result.now
-        ≡ filter (λ r. not (is_up_to (names_view path.now) r)) (map rule_view rules.now) }
-{
-    &rules[rules.partition_point(|rule| order_paths(&rule.context, path).is_le())..]
-}
-
-/// The rule with this tag, among rules of one context.
-pub fn rule_with_tag<'a>(rules: &'a [Rule], tag: &str) -> Option<&'a Rule>
-    requires { IsStrictlySortedBy tag_cmp (map rule_view rules.now) }
-    ensures { option_map (λ r. rule_view r.now) result ≡ tagged (map rule_view rules.now) tag.now }
-{
-    if rules.len() <= FEW {
-        return tagged_in_turn(rules, tag);
-    }
-    match rules.binary_search_by(|rule| rule.tag.as_str().cmp(tag)) {
-        Ok(at) => Some(&rules[at]),
-        Err(_) => None,
-    }
-}
-
-fn tagged_in_turn<'a>(rules: &'a [Rule], tag: &str) -> Option<&'a Rule>
-    ensures { option_map (λ r. rule_view r.now) result ≡ tagged (map rule_view rules.now) tag.now }
-{
-    for rule in rules {
-        if rule.tag.as_str() == tag {
-            return Some(rule);
+    /// The place of the root element.
+    pub fn root(&self) -> Context<'_>
+        ensures rules { context_rules result ≡ spec_view self.now }
+        ensures path { context_path result ≡ [] }
+    {
+        Context {
+            spec: self,
+            number: 0,
         }
     }
-    None
+}
+
+impl<'a> Context<'a> {
+    ghost use Rattle.std.specs.Prelude.{◌≡◌, true, string_bytes, vec_len, IfSome, IsNone};
+    ghost use Rattle.std.specs.Option.{option_map};
+    ghost use Rattle.key_spec.specs.ContextView.{context_rules, context_path};
+    ghost use Rattle.key_spec.specs.Rules.{below, is_frontier, rule_of};
+
+    /// The rule for this tag, and the place below the elements that it is about. It is looked up by halving where there are many here.
+    pub fn rule(self, tag: &str) -> Option<(&'a Rule, Context<'a>)>
+        ensures rule { option_map (λ r. rule_view r.0.now) result
+            ≡ rule_of (context_rules self.entry) (context_path self.entry) tag.now }
+        ensures few_paths { IfSome result (λ r. vec_len r.0.now.paths ≤ 16) }
+        ensures tag { IfSome result (λ r. string_bytes r.0.now.tag ≡ tag.now) }
+        ensures inside { IfSome result (λ r. context_rules r.1 ≡ context_rules self.entry) }
+        ensures path { IfSome result (λ r. context_path r.1 ≡ below (context_path self.entry) tag.now) }
+
+        // Where there is no rule for the tag there is none below its elements.
+        ensures none { IsNone result
+            → is_frontier (context_rules self.entry) (below (context_path self.entry) tag.now)
+            ≡ true }
+    {
+        let spec = self.spec;
+        let Stretch { start, end } = spec.stretch(self.number);
+        let rules = spec.rules();
+        let Some(at) = find_tag(&rules[start as usize..end as usize], tag) else {
+            return None;
+        };
+        let number = start as usize + at;
+        let below = Context {
+            spec,
+            number: number + 1,
+        };
+        Some((&rules[number], below))
+    }
+
+    /// Whether no rule has the path of this place as its context.
+    pub fn is_frontier(self) -> bool
+        ensures { result ≡ is_frontier (context_rules self.entry) (context_path self.entry) }
+    {
+        let Stretch { start, end } = self.spec.stretch(self.number);
+        start == end
+    }
 }

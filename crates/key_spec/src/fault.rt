@@ -1,7 +1,7 @@
 use std::alloc::{AllocError, AllocFailed};
 
 /// Why a text is no specification.
-#[derive(Debug, Drop)]
+#[derive(Debug, Drop, PartialEq, Eq)]
 pub enum SpecFault {
     /// The number of the faulty line, or 0 for the text as a whole, and the kind of the fault:
     /// 1 no rule or not UTF-8, 2 a context that is no target, 3 a repeated context and tag, 4 a repeated key path or `.` beside another,

@@ -1,7 +1,7 @@
 // The order of paths, and where a rule stands to a context and a tag.
 ghost use Rattle.std.specs.Prelude.{◌≡◌};
 ghost use Rattle.std.specs.Ordering.{is_eq};
-ghost use Rattle.key_spec.specs.Rules.{path_cmp, rule_cmp, goes_behind};
+ghost use Rattle.key_spec.specs.Rules.{path_cmp, rule_cmp};
 ghost use Rattle.key_spec.specs.Closed.{unkeyed};
 ghost use Rattle.key_spec.specs.View.{names_view, rule_view};
 
@@ -36,14 +36,4 @@ pub(crate) fn are_same(ours: &[String], theirs: &[String]) -> bool
     ensures { result ≡ is_eq (path_cmp (names_view ours.now) (names_view theirs.now)) }
 {
     ours == theirs
-}
-
-/// Whether the names begin with the path and go on.
-pub(crate) fn goes_behind(path: &[String], names: &[String]) -> bool
-    ensures { result ≡ goes_behind (names_view path.now) (names_view names.now) }
-{
-    if names.len() <= path.len() {
-        return false;
-    }
-    are_same(path, &names[..path.len()])
 }

@@ -4,39 +4,49 @@ ghost use Rattle.key_spec.specs.Data.{PlainRule};
 ghost use Rattle.key_spec.specs.Canonical.{canonical, spelled_by};
 ghost use Rattle.key_spec.specs.Closed.{closed, IsClosed};
 ghost use Rattle.key_spec.specs.ClosedList.{IsClosedList};
-ghost use Rattle.std.specs.List.{filter, list_any};
+ghost use Rattle.std.specs.List.{list_any};
 ghost use Rattle.std.specs.List.Sorted.{IsStrictlySortedBy};
 ghost use Rattle.key_spec.specs.RuleView.{names_view, rule_view};
-ghost use Rattle.key_spec.specs.Rules.{rule_cmp, tag_cmp, has_context};
+ghost use Rattle.key_spec.specs.Rules.{rule_cmp, has_context};
+ghost use Rattle.key_spec.specs.StretchView.{start_of, end_of};
+ghost use Rattle.key_spec.specs.Stretches.{places, path_at, count_before, count_up_to};
+ghost use Rattle.key_spec.specs.declared.limits.TheConstants.{LONGEST_TEXT};
 
 use crate::close::close;
 use crate::closing::check_closing;
-use crate::context::{FEW, at_context, ends_below};
 use crate::fault::SpecFault;
 use crate::given::read_lines;
+use crate::limits::LONGEST_TEXT;
 use crate::order::{are_same, order_paths, order_place, stands_at};
 use crate::rule::{Rule, push_rule};
+use crate::stretch::{Stretch, stretches};
+use crate::tagged::FEW;
 use std::alloc::{AllocError, Global};
 
-/// At most so many bytes of canonical text.
-const MAX_TEXT: usize = 1_048_576;
-
 /// A closed specification: all given and implied rules, ascending by context and then by tag.
+///
+/// It takes 8 bytes more for each rule, by which a walk finds the rules below it.
 #[derive(Debug, Drop)]
 pub struct Spec {
     rules: Vec<Rule>,
+    // For `/`, and then for the target of each rule.
+    stretches: Vec<Stretch>,
     ghost closed: { ∥ IsClosed (map rule_view rules.items) ∥₁ },
+    ghost starts: { map start_of stretches.items
+        ≡ map (count_before (map rule_view rules.items)) (places (map rule_view rules.items)) },
+    ghost ends: { map end_of stretches.items
+        ≡ map (count_up_to (map rule_view rules.items)) (places (map rule_view rules.items)) },
 }
 
 impl Spec {
-    ghost use Rattle.key_spec.specs.Rules.{rule_of, is_frontier, ends_below, EndsBelow};
+    ghost use Rattle.key_spec.specs.Rules.{rule_of, is_frontier};
     ghost use Rattle.key_spec.specs.View.{spec_view, IsRefusal};
 
     /// The closed rules of a text of lines such as `(/db/dept, (emp, {fn, ln}))`, or its first fault.
     ///
     /// Blank lines and those that begin with `#` are skipped. It sorts once, and looks nothing up rule by rule.
     pub fn parse(alloc: Global, text: &[u8]) -> Result<Spec, SpecFault>
-        requires { length text.now ≤ 1048576 }
+        requires { length text.now ≤ LONGEST_TEXT }
         ensures found { IfOk result (λ spec. closed text.now ≡ Ok (spec_view spec)) }
         ensures fault { IfErr result (λ e. IsRefusal e (closed text.now)) }
 
@@ -47,7 +57,7 @@ impl Spec {
     }
 
     fn read(alloc: Global, text: &[u8]) -> Result<Spec, SpecFault>
-        requires { length text.now ≤ 1048576 }
+        requires { length text.now ≤ LONGEST_TEXT }
         ensures found { IfOk result (λ spec. closed text.now ≡ Ok (spec_view spec)) }
         ensures fault { IfErr result (λ e. IsRefusal e (closed text.now)) }
     {
@@ -56,10 +66,19 @@ impl Spec {
         let Some(rules) = close(alloc, given)? else {
             return Err(SpecFault::Bad { line: 0, why: 7 });
         };
-        if canonical_text(alloc, &rules)?.len() > MAX_TEXT {
+        if canonical_text(alloc, &rules)?.len() > LONGEST_TEXT {
             return Err(SpecFault::Bad { line: 0, why: 7 });
         }
-        Ok(Spec { rules })
+        Ok(Spec::of(alloc, rules)?)
+    }
+
+    /// The specification of closed rules.
+    fn of(alloc: Global, rules: Vec<Rule>) -> Result<Spec, AllocError>
+        requires { IsClosed (map rule_view rules.items) }
+        ensures { IfOk result (λ spec. spec_view spec ≡ map rule_view rules.items) }
+    {
+        let stretches = stretches(alloc, &rules)?;
+        Ok(Spec { rules, stretches })
     }
 
     /// The specification of which this is the canonical text, if it is one's.
@@ -99,7 +118,7 @@ impl Spec {
 
         // Their canonical text specifies them again.
         ensures closed { closed (canonical (spec_view self.now)) ≡ Ok (spec_view self.now) }
-        ensures short { length (canonical (spec_view self.now)) ≤ 1048576 }
+        ensures short { length (canonical (spec_view self.now)) ≤ LONGEST_TEXT }
     {
         &self.rules
     }
@@ -148,28 +167,24 @@ impl Spec {
             .is_err()
     }
 
-    /// The rules with this context, which stand together, looked up by halving.
-    pub fn rules_at(&self, path: &[String]) -> &[Rule]
-        ensures rules { map rule_view result.now
-            ≡ filter (has_context (names_view path.now)) (spec_view self.now) }
-        ensures ascending { IsStrictlySortedBy tag_cmp (map rule_view result.now) }
+    /// Where the rules below the place of this number stand.
+    pub(crate) fn stretch(&self, number: usize) -> Stretch
+        requires { number ≤ length (spec_view self.now) }
+        ensures start { result.start
+            ≡ count_before (spec_view self.now) (path_at (spec_view self.now) number) }
+        ensures end { result.end
+            ≡ count_up_to (spec_view self.now) (path_at (spec_view self.now) number) }
+        ensures ordered { result.start ≤ result.end }
+        ensures within { result.end ≤ length (spec_view self.now) }
     {
-        at_context(&self.rules, path)
-    }
-
-    /// Whether no rule's context goes on behind this path, looked up by halving.
-    pub fn ends_below(&self, path: &[String]) -> bool
-        ensures value { result ≡ ends_below (spec_view self.now) (names_view path.now) }
-        ensures frontier { IsTrue result → EndsBelow (spec_view self.now) (names_view path.now) }
-    {
-        ends_below(&self.rules, path)
+        self.stretches[number]
     }
 
     /// The canonical text: one line for each rule, in their order. What it specifies is this specification again.
     pub fn text(&self, alloc: Global) -> Result<String, AllocError>
         ensures text { IfOk result (λ text. string_bytes text ≡ canonical (spec_view self.now)) }
         ensures again { closed (canonical (spec_view self.now)) ≡ Ok (spec_view self.now) }
-        ensures short { length (canonical (spec_view self.now)) ≤ 1048576 }
+        ensures short { length (canonical (spec_view self.now)) ≤ LONGEST_TEXT }
     {
         canonical_text(alloc, &self.rules)
     }
@@ -177,11 +192,11 @@ impl Spec {
 
 /// Whether a canonical text may have so many bytes.
 pub fn may_be_canonical(len: usize) -> bool
-    ensures few { result ≡ nat_le len 1048576 }
+    ensures few { result ≡ nat_le len LONGEST_TEXT }
     ensures many { OnFalse result ((text : List ℕ) → length text
         ≡ len → spelled_by text (closed text) ≡ None) }
 {
-    len <= MAX_TEXT
+    len <= LONGEST_TEXT
 }
 
 /// Whether one of the rules has this context.

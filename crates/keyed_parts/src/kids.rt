@@ -5,7 +5,7 @@ ghost use Rattle.keyed_parts.specs.View.{kid_view, kids_view};
 
 use crate::kid::Kid;
 use jsonml_tree::LentAttr;
-use key_annotate::{Bare, LentKeyed};
+use key_annotate::LentKeyed;
 use std::slice;
 
 /// The kids of a lent keyed tree that are left, in the order of their labels.
@@ -15,7 +15,6 @@ use std::slice;
 pub struct Kids<'k, 'a, 't> {
     pub(crate) attrs: &'k [LentAttr<'t>],
     pub(crate) nodes: &'k [LentKeyed<'a, 't>],
-    pub(crate) leaves: &'k [Bare<'a, 't>],
 }
 
 impl<'k, 'a, 't> Kids<'k, 'a, 't> {
@@ -26,7 +25,6 @@ impl<'k, 'a, 't> Kids<'k, 'a, 't> {
         Kids {
             attrs: none(),
             nodes: slice::from_ref(tree),
-            leaves: none(),
         }
     }
 
@@ -39,26 +37,16 @@ impl<'k, 'a, 't> Kids<'k, 'a, 't> {
             let rest = Kids {
                 attrs,
                 nodes: self.nodes,
-                leaves: self.leaves,
             };
             return Some((Kid::Attr(attr), rest));
         }
-        if let Some((node, nodes)) = self.nodes.split_first() {
-            let rest = Kids {
-                attrs: self.attrs,
-                nodes,
-                leaves: self.leaves,
-            };
-            return Some((Kid::Node(node), rest));
-        }
-        match self.leaves.split_first() {
-            Some((leaf, leaves)) => {
+        match self.nodes.split_first() {
+            Some((node, nodes)) => {
                 let rest = Kids {
                     attrs: self.attrs,
-                    nodes: self.nodes,
-                    leaves,
+                    nodes,
                 };
-                Some((Kid::Bare(leaf), rest))
+                Some((Kid::Node(node), rest))
             }
             None => None,
         }
@@ -66,7 +54,7 @@ impl<'k, 'a, 't> Kids<'k, 'a, 't> {
 }
 
 /// The row that has nothing.
-pub(crate) fn none<'k, T>() -> &'k [T]
+fn none<'k, T>() -> &'k [T]
     ensures { result.now ≡ [] }
 {
     &[]

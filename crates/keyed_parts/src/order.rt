@@ -1,4 +1,4 @@
-// The order of labels without key values, against labels of their own.
+// The order of attributes' labels, against labels of their own.
 ghost use Rattle.std.specs.Prelude.{◌≡◌, [], map};
 ghost use Rattle.std.specs.Cmp.Lexicographic.{slice_cmp};
 ghost use Rattle.std.specs.Ordering.{ordering_then};
@@ -8,10 +8,8 @@ ghost use Rattle.keyed_tree.specs.Data.{label_of};
 ghost use Rattle.keyed_tree.specs.Order.{key_cmp, label_cmp};
 ghost use Rattle.keyed_tree.specs.View.{key_view, label_view};
 ghost use Rattle.key_annotate.specs.KeyedOf.{attr_leaf};
-ghost use Rattle.key_annotate.specs.LentView.{bare_view};
 
 use jsonml_tree::LentAttr;
-use key_annotate::Bare;
 use keyed_tree::{KeyVal, Label, Name};
 use std::cmp::Ordering;
 
@@ -23,16 +21,6 @@ pub(crate) fn order_attr(attr: &LentAttr<'_>, other: &Label) -> Ordering
     match &other.name {
         Name::Attr(name) => order_alone(attr.name(), name.as_str(), &other.keys),
         Name::Tag(_) => Ordering::Less,
-    }
-}
-
-/// The label of an element without key values against another.
-pub(crate) fn order_bare(leaf: &Bare<'_, '_>, other: &Label) -> Ordering
-    ensures { result ≡ label_cmp (label_of (bare_view leaf.now)) (label_view other.now) }
-{
-    match &other.name {
-        Name::Attr(_) => Ordering::Greater,
-        Name::Tag(tag) => order_alone(leaf.tag, tag.as_str(), &other.keys),
     }
 }
 

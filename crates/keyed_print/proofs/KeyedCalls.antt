@@ -1,5 +1,5 @@
 -- The calls of a printer that print a keyed tree.
-use Rattle.std.proofs.Common.{◌≡◌, true, ℕ, zero, suc, ◌<◌, ◌≤◌, List, [], ◌∷◌, ◌++◌, length, get_or, map, refl, sym, ap, ◌∙◌, subst, arith, Global, Vec, Bor}
+use Rattle.std.proofs.Common.{◌≡◌, true, ℕ, zero, suc, ◌<◌, ◌≤◌, List, [], ◌∷◌, ◌++◌, length, get_or, map, refl, sym, ap, ◌∙◌, subst, arith, Box, Global, Vec}
 use denote.Param.Weighed.{most}
 use Rattle.std.proofs.lemmas.List.{map-append}
 use Rattle.std.specs.List.{flat_map}
@@ -9,14 +9,12 @@ use Rattle.keyed_tree.specs.Data.{PlainName, attr, tag, PlainKey, scalar, inside
 use Rattle.keyed_tree.specs.Proper.{is_tag}
 use Rattle.keyed_tree.specs.Plain.{name_bytes, attr_before, attr_onto, attrs_among, item_onto, items_among, plain}
 use Rattle.jsonml_tree.specs.LentAttrs.{lent_attr_view}
-use Rattle.jsonml_tree.specs.declared.lent.LentRow.{LentRow}
 use Rattle.jsonml_tree.specs.declared.lent_attr.LentAttr.{LentAttr}
 use Rattle.key_annotate.specs.KeyedOf.{attr_leaf}
-use Rattle.key_annotate.specs.LentView.{bare_view, lent_view}
-use Rattle.key_annotate.proofs.LentViews.{lent_view-Inner, lent_view-Flat, lent-tagged}
-use Rattle.key_annotate.specs.declared.bare.Bare.{Bare}
-use Rattle.key_annotate.specs.declared.label.KeyedLabel.{KeyedLabel}
-use Rattle.key_annotate.specs.declared.lent.LentKeyed.{LentKeyed, Inner, Flat}
+use Rattle.key_annotate.specs.LentView.{lent_view}
+use Rattle.key_annotate.proofs.LentViews.{lent_view-Inner, lent-tagged}
+use Rattle.key_annotate.specs.declared.lent.Head.{Head}
+use Rattle.key_annotate.specs.declared.lent.LentKeyed.{LentKeyed, Inner}
 use Rattle.keyed_print.specs.KeyedText.{calls_by, element_calls}
 use Rattle.key_annotate.specs.Inside.{inside_of}
 use Rattle.key_annotate.proofs.Insides.{plain-is}
@@ -113,25 +111,11 @@ most_at f xs i x within is = subst (λ y. f y ≤ most f xs) (sym is) (at f xs i
     at f (x ∷ xs) (suc i) d within = omega (arith, at f xs i d (omega (arith, within)))
 
 -- what stands behind the tag of an inner node
-pub inside_of-Inner : (k : LentKeyed) (l : KeyedLabel) (row : Bor LentRow) (ks : Vec LentKeyed Global) (xs : List LentAttr) (js : List LentKeyed) → k ≡ Inner l row ks → xs ≡ row.now.attrs.items → js ≡ ks.items
+pub inside_of-Inner : (k : LentKeyed) (h : Box Head Global) (ks : Vec LentKeyed Global) (xs : List LentAttr) (js : List LentKeyed) → k ≡ Inner h ks → xs ≡ h.value.attrs.now → js ≡ ks.items
     → content_calls (inside_of (lent_view k)) ≡ flat_map attr_calls xs ++ flat_map kid_calls js
-inside_of-Inner k l row ks xs js e d f =
-    let as' = map lent_attr_view row.now.attrs.items in
+inside_of-Inner k h ks xs js e d f =
+    let as' = map lent_attr_view h.value.attrs.now in
     let rest = items_calls (items_among (kids_from (map attr_leaf as' ++ map lent_view ks.items))) in
-    ap (λ j. content_calls (inside_of (lent_view j))) e ∙ ap (λ v. content_calls (inside_of v)) (lent_view-Inner l row ks) ∙ ap (λ ys. map attribute ys ++ rest) (attrs-behind as' ks.items)
-    ∙ ap (λ cs. cs ++ rest) (attrs-each row.now.attrs.items) ∙ ap (λ cs. flat_map attr_calls row.now.attrs.items ++ cs) (items-behind as' ks.items)
+    ap (λ j. content_calls (inside_of (lent_view j))) e ∙ ap (λ v. content_calls (inside_of v)) (lent_view-Inner h ks) ∙ ap (λ ys. map attribute ys ++ rest) (attrs-behind as' ks.items)
+    ∙ ap (λ cs. cs ++ rest) (attrs-each h.value.attrs.now) ∙ ap (λ cs. flat_map attr_calls h.value.attrs.now ++ cs) (items-behind as' ks.items)
     ∙ ap (λ (ys : List LentAttr). flat_map attr_calls ys ++ flat_map kid_calls ks.items) (sym d) ∙ ap (λ (zs : List LentKeyed). flat_map attr_calls xs ++ flat_map kid_calls zs) (sym f)
-
--- an element without key values is among the elements, and not among the attributes
-abbrev pub leaf_calls : Bare → List Call
-leaf_calls b = calls_of (plain (bare_view b))
-
-leaves-calls : (ls : List Bare) → flat_map (λ b. map attribute (attr_onto (bare_view b) [])) ls ++ flat_map (λ b. element_calls (bare_view b)) ls ≡ flat_map leaf_calls ls
-leaves-calls ls = ap (λ l. l ++ flat_map leaf_calls ls) (none ls)
-  where
-    none : (ls : List Bare) → flat_map (λ b. map attribute (attr_onto (bare_view b) [])) ls ≡ []
-    none [] = refl
-    none (b ∷ ls) = none ls
-
-pub inside_of-Flat : (k : LentKeyed) (l : KeyedLabel) (ls : Vec Bare Global) → k ≡ Flat l ls → content_calls (inside_of (lent_view k)) ≡ flat_map leaf_calls ls.items
-inside_of-Flat k l ls e = ap (λ j. content_calls (inside_of (lent_view j))) e ∙ ap (λ v. content_calls (inside_of v)) (lent_view-Flat l ls) ∙ kids-calls bare_view ls.items ∙ leaves-calls ls.items

@@ -7,13 +7,13 @@ ghost use Rattle.jsonml_print.specs.Calls.{AllMayCome, Prints, attribute, calls_
 ghost use Rattle.jsonml_tree.specs.LentAttrs.{lent_attr_view};
 ghost use Rattle.keyed_tree.specs.Data.{label_of};
 ghost use Rattle.keyed_tree.specs.Plain.{name_bytes, plain};
-ghost use Rattle.key_annotate.specs.LentView.{bare_view, lent_view};
+ghost use Rattle.key_annotate.specs.LentView.{lent_view};
 ghost use Rattle.key_annotate.specs.Inside.{inside_of};
 
 use crate::put::Printable;
 use jsonml_text::{Printer, print_lent_content};
-use jsonml_tree::LentAttr;
-use key_annotate::{Bare, LentKeyed};
+use jsonml_tree::{LentAttr, LentContent};
+use key_annotate::LentKeyed;
 use xa_outside::{Failed, Sink};
 
 impl Printable for LentKeyed<'_, '_> {
@@ -67,12 +67,15 @@ fn print_inside<K: Sink>(
     ensures cause { HasCause (K.faults sink.old) (K.faults sink.new) result }
 {
     match keyed {
-        LentKeyed::Inner { row, kids, .. } => {
-            print_attributes(&row.attrs, printer, sink)?;
+        LentKeyed::Text { text, .. } => {
+            print_lent_content(LentContent::Text(text), printer, sink)
+        }
+        LentKeyed::Row { row, .. } => print_lent_content(LentContent::Row(row), printer, sink),
+        LentKeyed::Leaf { content, .. } => print_lent_content(*content, printer, sink),
+        LentKeyed::Inner { head, kids } => {
+            print_attributes(head.attrs, printer, sink)?;
             print_elements(kids, printer, sink)
         }
-        LentKeyed::Leaf { content, .. } => print_lent_content(*content, printer, sink),
-        LentKeyed::Flat { leaves, .. } => print_leaves(leaves, printer, sink),
     }
 }
 
@@ -113,50 +116,5 @@ fn print_elements<K: Sink>(
 fn name_of<'a>(keyed: &'a LentKeyed<'_, '_>) -> &'a str
     ensures { result.now ≡ name_bytes (label_of (lent_view keyed.now)).name }
 {
-    keyed.label().tag()
-}
-
-/// Elements that the document has as they are.
-fn print_leaves<K: Sink>(
-    leaves: &[Bare<'_, '_>],
-    printer: &mut Printer,
-    sink: &mut K,
-) -> Result<(), Failed>
-    requires { AllMayCome printer.old (flat_map (λ b. calls_of (plain (bare_view b))) leaves.now) }
-    ensures prints { Prints (K.taken sink.old) (K.taken sink.new) printer.old printer.new
-        (flat_map (λ b. calls_of (plain (bare_view b))) leaves.now) result }
-    ensures cause { HasCause (K.faults sink.old) (K.faults sink.new) result }
-{
-    for leaf in leaves {
-        print_leaf(leaf, printer, sink)?;
-    }
-    Ok(())
-}
-
-fn print_leaf<K: Sink>(
-    leaf: &Bare<'_, '_>,
-    printer: &mut Printer,
-    sink: &mut K,
-) -> Result<(), Failed>
-    requires { AllMayCome printer.old (calls_of (plain (bare_view leaf.now))) }
-    ensures prints { Prints (K.taken sink.old) (K.taken sink.new) printer.old printer.new
-        (calls_of (plain (bare_view leaf.now))) result }
-    ensures cause { HasCause (K.faults sink.old) (K.faults sink.new) result }
-{
-    printer.begin_elem(sink, leaf.tag)?;
-    print_behind_leaf(leaf, printer, sink)
-}
-
-fn print_behind_leaf<K: Sink>(
-    leaf: &Bare<'_, '_>,
-    printer: &mut Printer,
-    sink: &mut K,
-) -> Result<(), Failed>
-    requires { AllMayCome printer.old (content_calls (inside_of (bare_view leaf.now)) ++ end ∷ []) }
-    ensures prints { Prints (K.taken sink.old) (K.taken sink.new) printer.old printer.new
-        (content_calls (inside_of (bare_view leaf.now)) ++ end ∷ []) result }
-    ensures cause { HasCause (K.faults sink.old) (K.faults sink.new) result }
-{
-    print_lent_content(leaf.content, printer, sink)?;
-    printer.end_elem(sink)
+    keyed.tag()
 }

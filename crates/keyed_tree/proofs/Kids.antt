@@ -13,7 +13,7 @@ use Rattle.keyed_tree.specs.Kids.{ascend_from, ascend, are_ordered, IsOrdered, k
 use Rattle.keyed_tree.specs.Lists.{Ascends, Has}
 use Rattle.keyed_tree.specs.Order.{label_cmp}
 use Rattle.keyed_tree.specs.Laws.{label_cmp_total, label_cmp_exact, label_cmp-is_eq}
-use Rattle.keyed_tree.proofs.Lists.{all_has}
+use Rattle.jsonml_tree.proofs.Lists.{all_has}
 
 pub kids_list-kids_from : (ks : List PlainKeyed) → kids_list (kids_from ks) ≡ ks
 kids_list-kids_from [] = refl

@@ -11,7 +11,7 @@ use Rattle.keyed_tree.specs.Paths.{node_at}
 use Rattle.keyed_tree.specs.Holds.{Holds}
 use Rattle.keyed_tree.specs.Proper.{is_tag, is_proper, are_proper, IsProper}
 use Rattle.keyed_tree.specs.WellFormed.{is_label_well_formed, is_keyed_well_formed, are_kids_well_formed, IsKeyedWellFormed}
-use Rattle.keyed_tree.proofs.Lists.{any_has, has_any}
+use Rattle.jsonml_tree.proofs.Lists.{any_has, has_any}
 use Rattle.keyed_tree.proofs.Kids.{both, kids_from-kids_list, kids_ascend, found_at, has_found, not_found}
 
 pub ordered_kids : (t : PlainKeyed) → IsOrdered t → Ascend (kids_from (kids_of t))

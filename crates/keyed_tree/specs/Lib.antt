@@ -11,3 +11,4 @@ pub mod WellFormed
 pub mod Proper
 pub mod Plain
 pub mod View
+pub mod LentView

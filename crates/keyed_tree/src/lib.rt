@@ -3,6 +3,8 @@
 
 mod keyed;
 mod label;
+mod lent;
 
 pub use keyed::{Body, Keyed};
 pub use label::{KeyVal, Label, Name};
+pub use lent::{LentVal, NameView};

@@ -10,7 +10,7 @@ use Rattle.keyed_tree.specs.Laws.{label_cmp-is_eq}
 use Rattle.keyed_tree.specs.Lists.{Has}
 use Rattle.keyed_tree.specs.Order.{label_cmp}
 use Rattle.keyed_tree.specs.Proper.{IsElement}
-use Rattle.keyed_tree.proofs.Lists.{has_all}
+use Rattle.jsonml_tree.proofs.Lists.{has_all}
 use Rattle.archive_tree.specs.Data.{PlainNodes, no_nodes, node, node_label, PlainArchive}
 use Rattle.archive_tree.specs.Stands.{nums, passed, rooted, numbered, RowStands, EachStands, ArchiveOf}
 use Rattle.archive_tree.proofs.Those.{onto, all_those, labelled, rooted_has, nums-enumerate}

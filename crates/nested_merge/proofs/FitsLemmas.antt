@@ -14,7 +14,7 @@ use Rattle.keyed_tree.specs.Lists.{Has}
 use Rattle.keyed_tree.specs.Order.{label_cmp}
 use Rattle.keyed_tree.specs.Paths.{node_at}
 use Rattle.keyed_tree.proofs.Kids.{both}
-use Rattle.keyed_tree.proofs.Lists.{all_has, source}
+use Rattle.jsonml_tree.proofs.Lists.{all_has, source}
 use Rattle.archive_tree.specs.Data.{PlainNode, inner_node, leaf_node, PlainNodes, no_nodes, node, node_label, nodes_list, PlainArchive}
 use Rattle.archive_tree.specs.Stands.{nums, under, rooted, numbered, StandsFor, ArchiveOf, Kept}
 use Rattle.archive_tree.proofs.Parts.{each_has, not_both_kinds}

@@ -12,7 +12,7 @@ use Rattle.keyed_tree.specs.Kids.{ascend, are_ordered, IsOrdered, kid_at}
 use Rattle.keyed_tree.specs.Laws.{label_cmp_total}
 use Rattle.keyed_tree.specs.Lists.{Ascends, Has}
 use Rattle.keyed_tree.specs.Order.{label_cmp}
-use Rattle.keyed_tree.proofs.Lists.{all_has, has_map, not_itself, not_both}
+use Rattle.jsonml_tree.proofs.Lists.{all_has, has_map, not_itself, not_both}
 use Rattle.keyed_tree.proofs.Kids.{both, ascend-all, found_at, has_found}
 use Rattle.keyed_tree.proofs.KidsKeep.{kid_ordered}
 use Rattle.archive_tree.specs.Data.{Stamp, PlainNode, inner_node, leaf_node, PlainNodes, no_nodes, node, node_label, nodes_list}

@@ -10,7 +10,7 @@ use Rattle.keyed_tree.specs.Data.{PlainKeyed}
 use Rattle.keyed_tree.specs.Kids.{IsOrdered}
 use Rattle.keyed_tree.specs.Lists.{Has}
 use Rattle.keyed_tree.specs.Proper.{IsElement}
-use Rattle.keyed_tree.proofs.Lists.{all_has, has_map}
+use Rattle.jsonml_tree.proofs.Lists.{all_has, at_has, has_map}
 use Rattle.archive_tree.specs.Data.{PlainNodes, PlainArchive}
 use Rattle.archive_tree.specs.Stands.{ArchiveOf, Kept}
 use Rattle.archive_tree.proofs.Readings.{one_list}
@@ -45,14 +45,9 @@ module _ (a : PlainArchive) (k : PlainKeyed) (kept : ∥ Kept a ∥₁) (alike :
 
 -- ---- versions one after another
 
-has_at : {X : Type 0} (xs : List X) (i : ℕ) (x : X) → i < length xs → x ≡ get_or xs i x → Has x xs
-has_at [] i x h e = absurd (omega arith)
-has_at (y ∷ ys) zero x h e = inl (sym e)
-has_at (y ∷ ys) (suc i) x h e = inr (has_at ys i x (omega arith) e)
-
 module _ {X : Type 0} (view : X → PlainKeyed) (xs : List X) (i : ℕ) (x : X) (h : i < length xs) (e : x ≡ get_or xs i x) where
   here : Has (view x) (map view xs)
-  here = has_map view x xs (has_at xs i x h e)
+  here = has_map view x xs (at_has xs i x h (sym e))
 
   pub all_at : (P : PlainKeyed → Type 0) → AllByRecursion P (map view xs) → P (view x)
   all_at P all = all_has P (map view xs) (view x) all here

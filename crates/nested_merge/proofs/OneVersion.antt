@@ -6,7 +6,7 @@ use Rattle.keyed_tree.specs.Kids.{ascend, is_ordered, are_ordered, IsOrdered, ki
 use Rattle.keyed_tree.specs.Laws.{key_cmp-is_eq}
 use Rattle.keyed_tree.specs.Lists.{Ascends, Has}
 use Rattle.keyed_tree.specs.Order.{key_cmp, label_cmp}
-use Rattle.keyed_tree.proofs.Lists.{has_map}
+use Rattle.jsonml_tree.proofs.Lists.{has_map}
 use Rattle.keyed_tree.proofs.Kids.{both, ascend-all, found_at, has_found}
 use Rattle.archive_tree.specs.Data.{Stamp, node_label}
 use Rattle.archive_tree.specs.Stands.{Stamped, nums, nums_with, under, labels, StandsFor, EachStands}

@@ -10,8 +10,8 @@ pub record Contents : Type 0 where
   pub notes : List (List ℕ)
 
 -- what a header tells of it: the rules, and how many versions there are
-abbrev pub fronted : Contents → List PlainRule × ℕ
-fronted c = (c.rules, length c.versions)
+abbrev pub header_of : Contents → List PlainRule × ℕ
+header_of c = (c.rules, length c.versions)
 
 -- these versions, all notes of which are empty
 abbrev pub unnoted : List PlainRule → List PlainKeyed → Contents

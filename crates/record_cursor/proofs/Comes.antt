@@ -8,7 +8,6 @@ use Rattle.keyed_tree.specs.Data.{PlainKey, PlainLabel}
 use Rattle.archive_tree.specs.Data.{Stamp}
 use Rattle.xa_fields.specs.Reading.{◌>>=◌, both_at, whole}
 use Rattle.xa_fields.specs.Spelling.{u64_bytes}
-use Rattle.xa_fields.proofs.Fields.{some_is}
 use Rattle.record_parts.specs.Bounds.{deepest}
 use Rattle.record_parts.specs.Reading.{label_at, stamp_at, value_at}
 use Rattle.record_format.specs.Data.{PlainRec, inner_rec, leaf_rec, alt_rec, end_rec, leaf_end}
@@ -16,7 +15,7 @@ use Rattle.record_format.specs.Spelling.{kind_of, body_bytes, rec_bytes}
 use Rattle.record_format.specs.Reading.{record_of, frame_at}
 use Rattle.record_format.specs.Whole.{has_parts, with_parts}
 use Rattle.record_format.proofs.Records.{Body, body_found}
-use Rattle.record_parts.proofs.Readers.{passed_some}
+use Rattle.xa_fields.specs.FieldLaws.{passed_some}
 use Rattle.xa_fields.specs.Laws.{IsBytes}
 use Rattle.record_cursor.specs.Items.{PlainItem, leaf_end_item, end_item, finish, item_of}
 use Rattle.record_cursor.specs.Places.{Standing, among_nodes, in_leaf, behind_root, finished, after_item}
@@ -236,14 +235,10 @@ end-leads (in_leaf depth) t size h may = absurd cc
 end-leads (behind_root n) t size h may = absurd h
 end-leads finished t size h may = absurd h
 
-some-of : (b : Bool) (x y : Standing) → cond b (Some x) None ≡ Some y → (b ≡ true) × (x ≡ y)
-some-of true x y e = (refl, some_is x y e)
-some-of false x y e = absurd cc
-
 -- the end of a leaf has no body
 leaf-end-leads : (s t : Standing) (size : ℕ) → IsInside s → after_kind s 5 size ≡ Some t → (after_item s leaf_end_item ≡ Some t) × (size ≡ 0)
 leaf-end-leads (among_nodes depth) t size h may = absurd cc
-leaf-end-leads (in_leaf depth) t size h may = (let p = some-of (size == 0) (among_nodes depth) t may in (ap Some p.1, eqb-true _ _ p.0))
+leaf-end-leads (in_leaf depth) t size h may = (let p = passed_some (size == 0) (among_nodes depth) t may in (ap Some p.1, eqb-true _ _ p.0))
 leaf-end-leads (behind_root n) t size h may = absurd h
 leaf-end-leads finished t size h may = absurd h
 
@@ -282,7 +277,7 @@ parts-of (suc (suc (suc (suc (suc (suc k)))))) body no_end no_leaf_end = (let ot
 -- the end of a leaf that may come has no body
 no-body : (s t : Standing) (size : ℕ) → after_kind s 5 size ≡ Some t → size ≡ 0
 no-body (among_nodes depth) t size may = absurd cc
-no-body (in_leaf depth) t size may = eqb-true _ _ (some-of (size == 0) (among_nodes depth) t may).0
+no-body (in_leaf depth) t size may = eqb-true _ _ (passed_some (size == 0) (among_nodes depth) t may).0
 no-body (behind_root n) t size may = absurd cc
 no-body finished t size may = absurd cc
 

@@ -10,7 +10,7 @@ use Rattle.std.proofs.Math.Seq.{take-add}
 use Rattle.xa_fields.specs.Reading.{byte_at, number_at}
 use Rattle.xa_fields.proofs.Fields.{some_is}
 use Rattle.xa_outside.specs.Folder.{Files, bytes_or_none, front}
-use Rattle.record_parts.proofs.Readers.{passed_some}
+use Rattle.xa_fields.specs.FieldLaws.{passed_some}
 use Rattle.record_cursor.specs.Moves.{TellsFront}
 use Rattle.record_cursor.specs.Faults.{IfDamage}
 use Rattle.record_cursor.specs.Steps.{IsFrame, Filled}

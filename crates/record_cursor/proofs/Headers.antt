@@ -10,7 +10,7 @@ use Rattle.key_spec.specs.Data.{PlainRule}
 use Rattle.key_spec.specs.Canonical.{spelled_by}
 use Rattle.key_spec.specs.Closed.{closed}
 use Rattle.xa_fields.specs.Reading.{Reader, ◌>>=◌, number_at, both_at, only_at}
-use Rattle.xa_fields.proofs.Fields.{bind_some, guard_some, some_is}
+use Rattle.xa_fields.specs.FieldLaws.{bind_some, guard_some, number-there, some_is}
 use Rattle.xa_outside.specs.Numbers.{Numbers, PullsAtMost}
 use Rattle.xa_outside.specs.NumberLaws.{PullsAtMost-more, PullsAtMost-trans}
 use Rattle.record_parts.specs.Bounds.{most}
@@ -31,14 +31,11 @@ number-is bytes x e =
     let g = guard_some (ltb (length bytes) 4) (Some (from_be_bytes w32 (take 4 bytes), drop 4 bytes)) x e in
     record { fits = ltb-false _ _ g.0; is = some_is (from_be_bytes w32 (take 4 bytes), drop 4 bytes) x g.1 }
 
-pub number-there : (bytes : List ℕ) → 4 ≤ length bytes → number_at w32 bytes ≡ Some (from_be_bytes w32 (take 4 bytes), drop 4 bytes)
-number-there bytes fits = (let long : ltb (length bytes) 4 ≡ false = le-ltb _ _ fits in rw long refl)
-
 -- and is read of the front of the bytes as well
 number-front : (bytes : List ℕ) (k : ℕ) → 4 + k ≤ length bytes → number_at w32 (take (4 + k) bytes) ≡ Some (from_be_bytes w32 (take 4 bytes), take k (drop 4 bytes))
 number-front bytes k fits =
     let len : length (take (4 + k) bytes) ≡ 4 + k = length-take-le _ _ fits in
-    number-there (take (4 + k) bytes) (omega (arith, len))
+    number-there w32 (take (4 + k) bytes) (omega (arith, len))
     ∙ (λ i. Some (from_be_bytes w32 (take-front 4 k bytes fits i), drop-take 4 k bytes i))
 
 -- ---- fields
@@ -75,13 +72,13 @@ fields d text is fits =
     let n = from_be_bytes w32 (take 4 behind) in
     let room : text + 4 ≤ length more = omega (arith, length-drop 4 d) in
     let last : 4 ≤ length behind = omega (arith, length-drop 4 d, length-drop text more) in
-    let here : number_at w32 d ≡ Some (text, more) = number-there d (omega arith) ∙ ap (λ (k : ℕ). Some (k, more)) is in
+    let here : number_at w32 d ≡ Some (text, more) = number-there w32 d (omega arith) ∙ ap (λ (k : ℕ). Some (k, more)) is in
     let there : number_at w32 (take (4 + (text + 4)) d) ≡ Some (text, take (text + 4) more) = number-front d (text + 4) (omega arith) ∙ ap (λ (k : ℕ). Some (k, take (text + 4) more)) is in
     let len : length (take (text + 4) more) ≡ text + 4 = length-take-le _ _ room in
     let short : bytes_at (take (4 + (text + 4)) d) ≡ Some (take text more, take 4 behind) =
     bytes-there (take (4 + (text + 4)) d) text (take (text + 4) more) there (omega (arith, len)) ∙ (λ i. Some (take-front text 4 more room i, drop-take text 4 more i)) in
     record {
-      whole = both-there d (take text more) behind (drop 4 behind) n (bytes-there d text more here (omega arith)) (number-there behind last);
+      whole = both-there d (take text more) behind (drop 4 behind) n (bytes-there d text more here (omega arith)) (number-there w32 behind last);
       front = both-there (take (4 + (text + 4)) d) (take text more) (take 4 behind) [] n short (number-front behind 0 (omega arith));
     }
 
@@ -205,7 +202,7 @@ text-of bytes front behind text is len e =
     let more : 4 ≤ length (drop 6 bytes) = omega (arith, length-drop 6 bytes) in
     let n = from_be_bytes w32 (take 4 (drop 6 bytes)) in
     let same : text ≡ n = ap (λ (x : ℕ × List ℕ). x.0) (some_is (text, behind) (n, []) (e ∙ ap (number_at w32) four ∙ number-front (drop 6 bytes) 0 more)) in
-    number-there (drop 6 bytes) more ∙ (λ i. Some (sym same i, drop-drop 4 6 bytes i))
+    number-there w32 (drop 6 bytes) more ∙ (λ i. Some (sym same i, drop-drop 4 6 bytes i))
 
 same-text : (bytes : List ℕ) (text other : ℕ) → number_at w32 (drop 6 bytes) ≡ Some (text, drop 10 bytes) → number_at w32 (drop 6 bytes) ≡ Some (other, drop 10 bytes) → text ≡ other
 same-text bytes text other e f = ap (λ (x : ℕ × List ℕ). x.0) (some_is (text, drop 10 bytes) (other, drop 10 bytes) (sym e ∙ f))

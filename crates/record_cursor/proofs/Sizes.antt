@@ -17,7 +17,7 @@ use Rattle.timestamp_tree.specs.Bytes.{pair_bytes, set_bytes}
 use Rattle.record_parts.specs.Bounds.{deepest, most}
 use Rattle.record_parts.specs.Reading.{scalar_of, scalar_at, attr_at, next_attr, attrs_at, content_by, item_of, item_by, content_below, item_at, content_at, value_of, value_at, name_of, name_at, label_at, stamp_of, stamp_at}
 use Rattle.record_parts.specs.Spelling.{scalar_bytes, attr_bytes, item_bytes, content_bytes, items_bytes, value_bytes, name_spelling, label_bytes, stamp_bytes}
-use Rattle.record_parts.proofs.Readers.{passed_some}
+use Rattle.xa_fields.specs.FieldLaws.{passed_some}
 use Rattle.record_parts.proofs.Values.{items_bytes-is}
 
 -- what is read, and what is left, are all of the bytes

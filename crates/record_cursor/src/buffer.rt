@@ -10,7 +10,7 @@ use std::alloc::Global;
 use std::marker::Model;
 use xa_outside::Folder;
 
-/// The bytes that were read last. Their room is used again, and only grows.
+/// The bytes that were read last. Their room is used again; of more than 1 MiB the rest is given back when less is read.
 #[derive(Drop)]
 pub(crate) struct Buffer {
     room: Vec<u8>,

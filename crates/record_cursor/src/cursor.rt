@@ -99,8 +99,8 @@ impl Cursor {
     ///
     /// A record is read once: nine bytes of its kind and length, and then its body into the
     /// cursor's buffer, out of which its parts are lent. The body of an END is passed over unread,
-    /// whatever it is. Memory is taken only for a body that is longer than all before it and ends
-    /// within the file.
+    /// whatever it is. Memory is taken only for a body that is longer than what the buffer holds and
+    /// ends within the file.
     pub fn next<F: Folder>(&mut self, folder: &mut F) -> Result<Item<'_>, CursorFault>
         // Behind the item that is given; after a fault where it stood.
         ensures* after { sem 𝓛 (follows_so the_row the_row self.entry.ghost_name none (λ _ _. ⊤)

@@ -36,7 +36,7 @@ pub fn fill_part<F: Folder>(
     }
 }
 
-/// The same, in a room that grows where it is too small.
+/// The same, in a room that grows where it is too small, and of which what is great is given back where little is read.
 pub(crate) fn fill_front<F: Folder>(
     folder: &mut F,
     name: &str,
@@ -54,7 +54,7 @@ pub(crate) fn fill_front<F: Folder>(
         → at + size ≤ end
         → Filled result (λ _. take size room.new.items ≡ take size (drop at bytes)) }
 {
-    if !grows(room, size) {
+    if !makes_room(room, size) {
         return Err(CursorFault::Memory);
     }
     match fill_first(folder, name, at, size, room) {
@@ -86,9 +86,16 @@ pub fn fill_first<F: Folder>(
     fill_part(folder, name, at, &mut room[..size])
 }
 
-/// Makes room for so many bytes, where memory suffices.
-fn grows(room: &mut Vec<u8>, size: usize) -> bool
+/// More room than this is not kept where less is read.
+const GREAT: usize = 1_048_576;
+
+/// Makes room for so many bytes, where memory suffices. Great room that is not needed is given back.
+fn makes_room(room: &mut Vec<u8>, size: usize) -> bool
     ensures { IsTrue result → size ≤ length room.new.items }
 {
+    if room.len() > GREAT && size < GREAT {
+        room.truncate(GREAT);
+        room.shrink_to_fit();
+    }
     room.len() >= size || room.resize(size, 0).is_ok()
 }

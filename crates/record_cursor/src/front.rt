@@ -4,6 +4,7 @@ ghost use Rattle.std.specs.FinMap as map;
 ghost use Rattle.key_spec.specs.Data.{PlainRule};
 ghost use Rattle.key_spec.specs.View.{spec_view};
 ghost use Rattle.record_format.specs.Fronts.{header, header_at};
+ghost use Rattle.record_parts.specs.declared.limits.TheConstants.{MOST_VERSIONS};
 ghost use Rattle.xa_outside.specs.Causes.{Rose};
 ghost use Rattle.xa_outside.specs.Folder.{Files, bytes_or_none, front_of};
 ghost use Rattle.xa_outside.specs.Numbers.{PullsAtMost, after_pull};
@@ -225,7 +226,7 @@ fn join(alloc: Global, front: &[u8], rest: &[u8]) -> Result<Vec<u8>, AllocError>
 /// The specification and the number of versions of the header that the bytes are.
 fn decode(alloc: Global, bytes: &[u8]) -> Result<(Spec, u32), CursorFault>
     ensures found { Finds (λ r. Some (spec_view r.0, r.1)) result (header bytes.now) }
-    ensures few { IfOk result (λ r. r.1 ≤ 999999) }
+    ensures few { IfOk result (λ r. r.1 ≤ MOST_VERSIONS) }
     ensures cause { IfErr result (λ e. IfFolder e ⊥) }
 {
     match take_header(alloc, bytes) {

@@ -10,7 +10,7 @@ use Rattle.record_format.specs.Reading.{whole_record}
 use Rattle.record_format.specs.Whole.{has_parts, with_parts}
 use Rattle.record_format.specs.ShownViews.{shown}
 use Rattle.record_format.specs.declared.views.View.{View}
-use Rattle.record_parts.proofs.Readers.{passed_some}
+use Rattle.xa_fields.specs.FieldLaws.{passed_some}
 use Rattle.record_format.proofs.Records.{whole_record_found, whole_record_only}
 
 parted : (o : Option PlainRec) (r : PlainRec) → with_parts o ≡ Some r → o ≡ Some r

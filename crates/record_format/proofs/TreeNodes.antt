@@ -8,7 +8,7 @@ use Rattle.timestamp_tree.specs.Bytes.{set_bytes, tree_bytes}
 use Rattle.timestamp_tree.specs.Tree.{IsTree}
 use Rattle.timestamp_tree.proofs.Trees.{length-set_bytes, length-leaf, length-node}
 use Rattle.record_parts.specs.Bounds.{IsSet}
-use Rattle.record_parts.proofs.Readers.{not_zero}
+use Rattle.xa_fields.specs.FieldLaws.{not_zero}
 use Rattle.record_format.specs.Reading.{leaf_sets}
 use Rattle.record_format.proofs.Unions.{IsSet-united}
 

@@ -23,7 +23,7 @@ use Rattle.record_parts.specs.Bounds.{IsSet, most}
 use Rattle.record_format.specs.Bounds.{IsEntry, IsDir}
 use Rattle.record_format.specs.Reading.{entry_at, leaf_sets, with_leaf_sets, node_count, entries_and_leaves, spells_dir, whole_dir}
 use Rattle.timestamp_tree.specs.Reading.{set_at, stored_at}
-use Rattle.record_parts.proofs.Readers.{passed_some}
+use Rattle.xa_fields.specs.FieldLaws.{passed_some}
 use Rattle.record_format.proofs.Entries.{entry_reads}
 use Rattle.record_parts.proofs.Parts.{set_reads}
 use Rattle.record_format.proofs.TreeNodes.{Node, nodes_of, node_bytes, IsNode, tree_bytes-is, length-nodes_of, leaf_sets-nodes_of, each_node, each_leaf_set}

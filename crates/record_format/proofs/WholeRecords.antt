@@ -1,7 +1,7 @@
 -- Records that take all of some bytes.
 use Rattle.std.proofs.Common.{◌≡◌, ℕ, ◌<◌, ◌==◌, cond, List, length, Option, Some, None, refl}
 use Rattle.xa_fields.specs.Reading.{◌>>=◌, whole}
-use Rattle.record_parts.proofs.Readers.{not_zero}
+use Rattle.xa_fields.specs.FieldLaws.{not_zero}
 use Rattle.record_format.specs.Data.{PlainRec}
 use Rattle.record_format.specs.Reading.{record_of, frame_at, record_at, whole_record}
 

@@ -13,6 +13,7 @@ use Rattle.record_format.specs.Spelling.{dir_bytes, rec_bytes}
 use Rattle.record_format.specs.Bounds.{IsRec}
 use Rattle.record_parts.specs.Bounds.{most}
 use Rattle.record_format.specs.Nodes.{Piece, dir_of, closed_by_end, node_pieces}
+use Rattle.record_format.specs.declared.limits.TheConstants.{LONGEST}
 
 -- `XARC1` and a line feed
 abbrev pub magic : List ℕ
@@ -51,7 +52,7 @@ largest rules a = fold (λ most r. max most (weight r)) (length (header_bytes ru
 
 -- how many bytes an archive file may have
 abbrev pub longest : ℕ
-longest = 274877906944
+longest = LONGEST
 
 -- every length and count fits its field, each record has an encoding, and the whole is not too long
 pub record HasFile (rules : List PlainRule) (a : PlainArchive) : Type 0 where

@@ -7,6 +7,7 @@ ghost use Rattle.key_spec.specs.View.{spec_view};
 ghost use Rattle.xa_fields.specs.Reading.{number_at, both_at, only_at};
 ghost use Rattle.xa_fields.specs.Laws.{Grows};
 ghost use Rattle.record_parts.specs.Bounds.{most};
+ghost use Rattle.record_parts.specs.declared.limits.TheConstants.{MOST_VERSIONS};
 ghost use Rattle.record_format.specs.Files.{magic, header_bytes};
 ghost use Rattle.record_format.specs.Fronts.{bytes_at, front_at, fixed, header_at};
 ghost use Rattle.record_parts.specs.Reading.{Gives};
@@ -14,7 +15,7 @@ ghost use Rattle.record_parts.specs.Reading.{Gives};
 use key_spec::Spec;
 use record_parts::{MOST_VERSIONS, RecFault};
 use std::alloc::{AllocError, Global};
-use xa_fields::{put_text, put_u32, take_u32};
+use xa_fields::{append_text, append_u32, take_u32};
 
 /// The first bytes of each archive file.
 const MAGIC: [u8; 6] = *b"XARC1\n";
@@ -47,7 +48,7 @@ fn take_front(bytes: &[u8]) -> Option<(&[u8], u32, usize)>
     ensures found { option_map (λ r. ((r.0.now, r.1), drop r.2 bytes.now)) result
         ≡ front_at bytes.now }
     ensures next { IfSome result (λ r. r.2 ≤ length bytes.now) }
-    ensures few { IfSome result (λ r. r.1 ≤ 999999) }
+    ensures few { IfSome result (λ r. r.1 ≤ MOST_VERSIONS) }
 {
     if bytes.len() < 6 || !is_magic(&bytes[..6]) {
         return None;
@@ -60,7 +61,7 @@ fn take_fields(bytes: &[u8]) -> Option<(&[u8], u32, usize)>
     ensures found { option_map (λ r. ((r.0.now, r.1), drop r.2 bytes.now)) result
         ≡ both_at bytes_at (only_at (λ n. nat_le n most) (number_at w32)) (drop 6 bytes.now) }
     ensures next { IfSome result (λ r. r.2 ≤ length bytes.now) }
-    ensures few { IfSome result (λ r. r.1 ≤ 999999) }
+    ensures few { IfSome result (λ r. r.1 ≤ MOST_VERSIONS) }
 {
     let (text, at) = take_bytes(bytes, 6)?;
     let (n, at) = take_u32(bytes, at)?;
@@ -86,7 +87,7 @@ pub fn take_header(alloc: Global, bytes: &[u8]) -> Result<(Spec, u32, usize), Re
     ensures found { Gives (λ r. ((spec_view r.0, r.1), drop r.2 bytes.now)) result
         (header_at bytes.now) }
     ensures next { IfOk result (λ r. r.2 ≤ length bytes.now) }
-    ensures few { IfOk result (λ r. r.1 ≤ 999999) }
+    ensures few { IfOk result (λ r. r.1 ≤ MOST_VERSIONS) }
 {
     let Some((text, n, at)) = take_front(bytes) else {
         return Err(RecFault::Damage);
@@ -97,14 +98,14 @@ pub fn take_header(alloc: Global, bytes: &[u8]) -> Result<(Spec, u32, usize), Re
 
 /// The number of versions in the fixed fields of a header. It takes no memory and does not read the
 /// specification.
-pub fn take_fixed(bytes: &[u8]) -> Option<u32>
+pub fn fixed_of(bytes: &[u8]) -> Option<u32>
     ensures { result ≡ fixed bytes.now }
 {
     let (_, n, _) = take_front(bytes)?;
     Some(n)
 }
 
-/// Appends the header of a file of so many versions. On a refusal some of it was appended.
+/// Appends the header of a file of so many versions. On a refusal what was there stays.
 #[tactic(auto, using(xa_fields::proofs::Combinators::growth))]
 pub fn put_header(alloc: Global, out: &mut Vec<u8>, spec: &Spec, n: u32) -> Result<(), AllocError>
     ensures ok { OnOk result (out.new.items
@@ -117,6 +118,6 @@ pub fn put_header(alloc: Global, out: &mut Vec<u8>, spec: &Spec, n: u32) -> Resu
 {
     let text = spec.text(alloc)?;
     out.extend_from_slice(&MAGIC)?;
-    put_text(out, text.as_str())?;
-    put_u32(out, n)
+    append_text(out, text.as_str())?;
+    append_u32(out, n)
 }

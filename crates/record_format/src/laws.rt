@@ -4,7 +4,7 @@ ghost use Rattle.std.specs.List.{slice_get, AllByRecursion};
 ghost use Rattle.key_spec.specs.Canonical.{canonical};
 ghost use Rattle.key_spec.specs.Closed.{closed};
 ghost use Rattle.key_spec.specs.Data.{PlainRule};
-ghost use Rattle.keyed_tree.specs.Data.{PlainKey, PlainLabel, PlainKeyed};
+ghost use Rattle.keyed_tree.specs.Data.{PlainKeyed};
 ghost use Rattle.xa_fields.specs.Laws.{IsBytes, Reads};
 ghost use Rattle.timestamp_tree.specs.Bytes.{stored};
 ghost use Rattle.timestamp_tree.specs.Data.{top};
@@ -14,12 +14,11 @@ ghost use Rattle.record_format.specs.Data.{PlainDir, PlainRec};
 ghost use Rattle.record_format.specs.DirParts.{DirParts, entry_of};
 ghost use Rattle.record_format.specs.Nodes.{Piece, dir_of};
 ghost use Rattle.record_format.specs.Spelling.{framed, rec_bytes};
-ghost use Rattle.record_parts.specs.Bounds.{IsValue, IsLabel, IsSet, most};
+ghost use Rattle.record_parts.specs.Bounds.{IsSet, most};
 ghost use Rattle.record_format.specs.Bounds.{IsDir, IsRec};
 ghost use Rattle.record_format.specs.Files.{FileOf};
 ghost use Rattle.record_format.specs.Fronts.{fixed, header};
 ghost use Rattle.record_format.specs.Reading.{frame_at, record_at};
-ghost use Rattle.record_parts.specs.Shapes.{IsShapedValue, FitsValue, IsShapedLabel, FitsLabel};
 ghost use Rattle.record_format.specs.Shapes.{IsShapedDir, FitsDir};
 
 /// An encoding has one value, and none is the front of another.
@@ -48,11 +47,9 @@ pub fn records_are_read_as_spelled()
         (λ p. IsBytes p.1 × (length p.1 < 2 ^ 64)) }
 {}
 
-/// What has an encoding is in shape, and its lengths and counts fit their fields.
+/// A directory that has an encoding is in shape, and its lengths and counts fit their fields.
 pub fn encodings_are_of_shape_and_fit()
-    ensures values { (k : PlainKey) → IsValue k ↔ (IsShapedValue k × FitsValue k) }
-    ensures labels { (l : PlainLabel) → IsLabel l ↔ (IsShapedLabel l × FitsLabel l) }
-    ensures directories { (d : PlainDir) → IsDir d ↔ (IsShapedDir d × FitsDir d) }
+    ensures { (d : PlainDir) → IsDir d ↔ (IsShapedDir d × FitsDir d) }
 {}
 
 /// Where the parts of a directory stand, and what is read of a node of its tree.

@@ -1,5 +1,5 @@
 // Appending directories.
-ghost use Rattle.std.specs.Prelude.{◌≡◌, ◌++◌, ◌<◌, ◌^◌, length, IfOk, OnOk, map};
+ghost use Rattle.std.specs.Prelude.{◌≡◌, ◌++◌, ◌<◌, ◌^◌, length, OnOk, map};
 ghost use Rattle.std.specs.List.{flat_map};
 ghost use Rattle.version_set.specs.View.{pairs_of};
 ghost use Rattle.xa_fields.specs.Laws.{Grows};
@@ -7,10 +7,10 @@ ghost use Rattle.record_format.specs.View.{entry_view};
 ghost use Rattle.record_format.specs.Spelling.{entry_bytes, sets_bytes, dir_bytes};
 
 use crate::rec::Entry;
-use std::alloc::{AllocError, Global};
+use std::alloc::AllocError;
 use timestamp_tree::put_tree;
 use version_set::VersionSet;
-use xa_fields::{put_u32, put_u64};
+use xa_fields::{append_u32, append_u64};
 
 #[tactic(auto, using(xa_fields::proofs::Combinators::growth))]
 fn put_entry(out: &mut Vec<u8>, entry: &Entry) -> Result<(), AllocError>
@@ -18,9 +18,9 @@ fn put_entry(out: &mut Vec<u8>, entry: &Entry) -> Result<(), AllocError>
         ≡ out.old.items ++ entry_bytes (entry_view entry.now)) }
     ensures grows { Grows out.old.items out.new.items }
 {
-    put_u64(out, entry.start)?;
-    put_u64(out, entry.length)?;
-    put_u64(out, entry.dir)
+    append_u64(out, entry.start)?;
+    append_u64(out, entry.length)?;
+    append_u64(out, entry.dir)
 }
 
 #[tactic(auto, using(xa_fields::proofs::Combinators::growth))]
@@ -48,7 +48,7 @@ fn put_sets(out: &mut Vec<u8>, sets: &[&VersionSet]) -> Result<(), AllocError>
 }
 
 /// Appends a directory: the number of children, their entries, and the timestamp tree over their
-/// sets where there are any. On a refusal some of it was appended.
+/// sets where there are any. On a refusal what was there stays.
 #[tactic(auto, using(xa_fields::proofs::Combinators::growth))]
 pub fn put_directory(
     out: &mut Vec<u8>,
@@ -63,20 +63,7 @@ pub fn put_directory(
     })) }
     ensures grows { Grows out.old.items out.new.items }
 {
-    put_u32(out, entries.len() as u32)?;
+    append_u32(out, entries.len() as u32)?;
     put_entries(out, entries)?;
     put_sets(out, sets)
-}
-
-/// The sets, lent.
-pub fn lend_sets(alloc: Global, sets: &[VersionSet]) -> Result<Vec<&VersionSet>, AllocError>
-    ensures sets { IfOk result (λ lent.
-        map (λ s. pairs_of s.now) lent.items ≡ map pairs_of sets.now) }
-    ensures count { IfOk result (λ lent. length lent.items ≡ length sets.now) }
-{
-    let mut lent = Vec::with_capacity(alloc, sets.len())?;
-    for set in sets {
-        lent.push(set)?;
-    }
-    Ok(lent)
 }

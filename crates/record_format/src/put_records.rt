@@ -11,13 +11,14 @@ ghost use Rattle.record_format.specs.Spelling.{framed, rec_bytes};
 ghost use Rattle.record_parts.specs.Bounds.{IsLabel, IsValue};
 ghost use Rattle.record_format.specs.Bounds.{IsRec};
 
-use crate::put_directory::{lend_sets, put_directory};
+use crate::put_directory::put_directory;
 use crate::rec::{ALT, END, Entry, FRAME, INNER, LEAF, LEAF_END, Rec};
 use keyed_tree::{Body, Label};
 use record_parts::{put_label, put_stamp, put_value};
 use std::alloc::{AllocError, Global};
+use timestamp_tree::lend_sets;
 use version_set::VersionSet;
-use xa_fields::{put_u8, put_u64};
+use xa_fields::{append_u8, append_u64};
 
 /// Appends the kind of a record, and eight bytes for the length of its body, and answers where the
 /// body begins.
@@ -28,8 +29,8 @@ pub fn open(out: &mut Vec<u8>, kind: u8) -> Result<usize, AllocError>
     ensures grows { Grows out.old.items out.new.items }
 {
     let at = out.len() + FRAME;
-    put_u8(out, kind)?;
-    put_u64(out, 0)?;
+    append_u8(out, kind)?;
+    append_u64(out, 0)?;
     Ok(at)
 }
 
@@ -53,7 +54,7 @@ pub fn close(out: &mut Vec<u8>, at: usize)
     set_u64(out, at - 8, length);
 }
 
-/// Appends the record that opens an inner node. On a refusal some of it was appended.
+/// Appends the record that opens an inner node. On a refusal what was there stays.
 #[tactic(auto, using(xa_fields::proofs::Combinators::growth))]
 pub fn put_inner(
     out: &mut Vec<u8>,
@@ -72,7 +73,7 @@ pub fn put_inner(
     Ok(())
 }
 
-/// Appends the record that opens a leaf. On a refusal some of it was appended.
+/// Appends the record that opens a leaf. On a refusal what was there stays.
 #[tactic(auto, using(xa_fields::proofs::Combinators::growth))]
 pub fn put_leaf(
     out: &mut Vec<u8>,
@@ -91,7 +92,7 @@ pub fn put_leaf(
     Ok(())
 }
 
-/// Appends the record of an alternative. On a refusal some of it was appended.
+/// Appends the record of an alternative. On a refusal what was there stays.
 #[tactic(auto, using(xa_fields::proofs::Combinators::growth))]
 pub fn put_alt(out: &mut Vec<u8>, stamp: &Option<VersionSet>, body: &Body) -> Result<(), AllocError>
     requires { IsValue (key_view body.now) }
@@ -106,7 +107,7 @@ pub fn put_alt(out: &mut Vec<u8>, stamp: &Option<VersionSet>, body: &Body) -> Re
     Ok(())
 }
 
-/// Appends the record that closes an inner node. On a refusal some of it was appended.
+/// Appends the record that closes an inner node. On a refusal what was there stays.
 #[tactic(auto, using(xa_fields::proofs::Combinators::growth))]
 pub fn put_end(out: &mut Vec<u8>, entries: &[Entry], sets: &[&VersionSet]) -> Result<(), AllocError>
     requires few { length entries.now < 2 ^ 32 }
@@ -123,7 +124,7 @@ pub fn put_end(out: &mut Vec<u8>, entries: &[Entry], sets: &[&VersionSet]) -> Re
     Ok(())
 }
 
-/// Appends the record that closes a leaf. On a refusal some of it was appended.
+/// Appends the record that closes a leaf. On a refusal what was there stays.
 #[tactic(auto, using(xa_fields::proofs::Combinators::growth))]
 pub fn put_leaf_end(out: &mut Vec<u8>) -> Result<(), AllocError>
     ensures ok { OnOk result (out.new.items ≡ out.old.items ++ rec_bytes leaf_end) }

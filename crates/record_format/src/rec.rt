@@ -5,9 +5,6 @@ use version_set::VersionSet;
 /// A record has so many bytes before its body: one of its kind, and eight of the body's length.
 pub const FRAME: usize = 9;
 
-/// An archive file has at most so many bytes.
-pub const LONGEST: u64 = 274_877_906_944;
-
 /// The kind of the record that opens an inner node.
 pub const INNER: u8 = 1;
 

@@ -8,10 +8,11 @@ ghost use Rattle.record_parts.specs.Reading.{Gives};
 ghost use Rattle.record_format.specs.Reading.{entry_at, leaf_sets, with_leaf_sets, node_count, entries_and_leaves, spells_dir, whole_dir};
 ghost use Rattle.timestamp_tree.specs.Reading.{stored_at};
 
-use crate::put_directory::{lend_sets, put_directory};
+use crate::put_directory::put_directory;
 use crate::rec::{Dir, Entry};
 use record_parts::{RecFault, take_set};
 use std::alloc::{AllocError, Global};
+use timestamp_tree::lend_sets;
 use version_set::VersionSet;
 use xa_fields::{take_u32, take_u64};
 

@@ -131,7 +131,7 @@ unchained {A} {S} one next s (suc n) bytes x e =
     made : (r : Option (A × List ℕ)) (a : A × List ℕ) (b : List A × List ℕ) → r ≡ Some a → many_at one n a.1 ≡ Some b → Some (a.0 ∷ b.0, b.1) ≡ Some x → (r >>= λ first. many_at one n first.1 >>= λ others. Some (first.0 ∷ others.0, others.1)) ≡ Some x
     made r a b f g h = rw f (rw g h)
 
-attrs_is : (n : ℕ) (bytes after : List ℕ) → Some (n, after) ≡ number_at w32 bytes → attrs_at bytes ≡ chain_at attr_at next_attr None n after
+pub attrs_is : (n : ℕ) (bytes after : List ℕ) → Some (n, after) ≡ number_at w32 bytes → attrs_at bytes ≡ chain_at attr_at next_attr None n after
 unfolding chained_at
 attrs_is n bytes after e = (let f = sym e in rw f refl)
 

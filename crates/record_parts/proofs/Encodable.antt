@@ -31,7 +31,7 @@ text_there s h = (let p = both (ltb (length s) (2 ^ 32)) (is_utf8 s) h in record
 text_back : (s : List ℕ) → IsText s → IsTrue (text_fits s)
 text_back s h = both_hold (ltb (length s) (2 ^ 32)) (is_utf8 s) (lt-ltb _ _ h.short) (is_utf8-from_IsUtf8 s h.utf8)
 
-scalar_there : (v : PlainScalar) → IsTrue (scalar_fits v) → IsScalar v
+pub scalar_there : (v : PlainScalar) → IsTrue (scalar_fits v) → IsScalar v
 scalar_there null h = tt
 scalar_there (boolean b) h = tt
 scalar_there (whole (pos n)) h = ltb-true _ _ h

@@ -17,4 +17,8 @@ pub mod TextOrders
 pub mod ContentOrders
 pub mod ValueOrders
 pub mod ShownParts
+pub mod Both
+pub mod BothOrders
+pub mod Spelled
+pub mod Rows
 pub mod SomeSets

@@ -10,7 +10,7 @@ use Rattle.record_parts.specs.Bounds.{IsItem, AreItems}
 use Rattle.record_parts.specs.Spelling.{item_bytes, items_bytes}
 
 -- the value that is next, in front of those behind it
-next_first : {X A : Type 0} (view : X → A) (xs : List X) (i : ℕ) (x : X) → i < length xs → x ≡ get_or xs i x → map view (drop i xs) ≡ view x ∷ map view (drop (i + 1) xs)
+pub next_first : {X A : Type 0} (view : X → A) (xs : List X) (i : ℕ) (x : X) → i < length xs → x ≡ get_or xs i x → map view (drop i xs) ≡ view x ∷ map view (drop (i + 1) xs)
 next_first {X} view xs i x lt is =
     let next : suc i ≡ i + 1 = omega arith in
     ap (map view) (drop-cons xs i x lt ∙ ap (λ (k : ℕ). get_or xs i x ∷ drop k xs) next) ∙ ap (λ (y : X). view y ∷ map view (drop (i + 1) xs)) (sym is)

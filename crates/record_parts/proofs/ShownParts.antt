@@ -2,9 +2,7 @@
 use Rattle.std.proofs.Common.{◌≡◌, ℕ, cond, ◌==◌, List, length, Option, Some, None, refl, sym, ap, subst, ◌∙◌}
 use Rattle.std.specs.Prelude.{IsSome}
 use Rattle.std.specs.declared.cmp.Ordering.{Ordering}
-use Rattle.std.specs.declared.cmp.Ordering.TheVariants.{Equal}
 use Rattle.keyed_tree.specs.Data.{PlainKey, PlainLabel, PlainName}
-use Rattle.keyed_tree.specs.Laws.{label_cmp-Equal}
 use Rattle.keyed_tree.specs.Order.{label_cmp}
 use Rattle.archive_tree.specs.Data.{Stamp}
 use Rattle.xa_fields.specs.Reading.{Reader, ◌>>=◌, list_at, whole}
@@ -12,7 +10,7 @@ use Rattle.xa_fields.specs.Laws.{IsBytes}
 use Rattle.xa_fields.proofs.Fields.{bind_some, some_is}
 use Rattle.xa_fields.proofs.Combinators.{whole_again, whole_takes}
 use Rattle.record_parts.specs.Bounds.{IsLabel, IsStamp, IsValue}
-use Rattle.record_parts.specs.Compares.{Compares}
+use Rattle.record_parts.specs.Compares.{Compares, ComparesBoth}
 use Rattle.record_parts.specs.Reading.{label_at, name_at, stamp_at, value_at}
 use Rattle.record_parts.specs.ShownViews.{label_in, stamp_in, value_in}
 use Rattle.record_parts.specs.Spelling.{label_bytes, stamp_bytes, value_bytes}
@@ -99,12 +97,6 @@ spelling_of_value k bytes h e = is_there (whole value_at bytes) k (spelled_value
 
 -- ---- the same bytes
 
-pub same_labels : (a b : PlainLabel) → IsLabel a → IsLabel b → label_bytes a ≡ label_bytes b → a ≡ b
-same_labels a b h g e = some_is a b (sym (spelled_label a (label_bytes a) h refl) ∙ spelled_label b (label_bytes a) g e)
-
-pub equal_labels : (a b : PlainLabel) → IsLabel a → IsLabel b → label_bytes a ≡ label_bytes b → Equal ≡ label_cmp a b
-equal_labels a b h g e = sym ((label_cmp-Equal a b).1 (same_labels a b h g e))
-
 pub same_values : (a b : PlainKey) → IsValue a → IsValue b → value_bytes a ≡ value_bytes b → a ≡ b
 same_values a b h g e = some_is a b (sym (spelled_value a (value_bytes a) h refl) ∙ spelled_value b (value_bytes a) g e)
 
@@ -115,6 +107,14 @@ label_answer bytes f o n h c = (let a = front_of label_at bytes h in (c (a.value
 
 pub label_answered : (bytes : List ℕ) (f : PlainLabel → Ordering) → IsLabelBytes bytes → Compares f (label_at bytes) bytes None → ⊥
 label_answered bytes f h c = (let a = front_of label_at bytes h in c (a.value, a.rest) a.read_is)
+
+pub labels_answer : (mine theirs : List ℕ) (o : Ordering) (n m : ℕ) → IsLabelBytes mine → IsLabelBytes theirs → ComparesBoth label_cmp (label_at mine) (label_at theirs) mine theirs (Some (o, n, m)) → o ≡ label_cmp (label_in (whole label_at mine)) (label_in (whole label_at theirs))
+labels_answer mine theirs o n m h g c =
+    let b = front_of label_at theirs g in
+    label_answer mine (λ (l : PlainLabel). label_cmp l b.value) o n h (c (b.value, b.rest) b.read_is).0 ∙ ap (λ (x : Option PlainLabel). label_cmp (label_in (whole label_at mine)) (label_in x)) (sym b.whole_is)
+
+pub labels_answered : (mine theirs : List ℕ) → IsLabelBytes mine → IsLabelBytes theirs → ComparesBoth label_cmp (label_at mine) (label_at theirs) mine theirs None → ⊥
+labels_answered mine theirs h g c = (let b = front_of label_at theirs g in label_answered mine (λ (l : PlainLabel). label_cmp l b.value) h (c (b.value, b.rest) b.read_is).0)
 
 pub value_answer : (bytes : List ℕ) (f : PlainKey → Ordering) (o : Ordering) (n : ℕ) → IsValueBytes bytes → Compares f (value_at bytes) bytes (Some (o, n)) → o ≡ f (value_in (whole value_at bytes))
 value_answer bytes f o n h c = (let a = front_of value_at bytes h in (c (a.value, a.rest) a.read_is).0 ∙ ap (λ (x : Option PlainKey). f (value_in x)) (sym a.whole_is))

@@ -44,27 +44,44 @@ no_length : (bytes : List ℕ) → None ≡ number_at w32 bytes → text_at byte
 unfolding text_at
 no_length bytes e = (let f = sym e in rw f refl)
 
-pub text_fails : (bytes file u : List ℕ) → None ≡ number_at w32 bytes → Compares (by_text u) (text_at bytes) file None
-text_fails bytes file u e = nothing (by_text u) (text_at bytes) file None (no_length bytes e)
+-- no text is read where no length is, or where it is cut
+pub text_none : (bytes : List ℕ) (x : List ℕ × List ℕ) → None ≡ number_at w32 bytes → text_at bytes ≡ Some x → ⊥
+text_none bytes x e f = no_text (text_at bytes) x (no_length bytes e) f
+  where
+    no_text : (r : Option (List ℕ × List ℕ)) (x : List ℕ × List ℕ) → r ≡ None → r ≡ Some x → ⊥
+    no_text (Some y) x e f = absurd cc
+    no_text None x e f = absurd cc
 
-pub text_cut : (n : ℕ) (bytes after file u : List ℕ) → Some (n, after) ≡ number_at w32 bytes → length after < n → Compares (by_text u) (text_at bytes) file None
-text_cut n bytes after file u e lt = λ x f. let p = text_parts n bytes after x e f in let le = p.0 in absurd (omega (arith, le))
+pub text_cut : (n : ℕ) (bytes after : List ℕ) (x : List ℕ × List ℕ) → Some (n, after) ≡ number_at w32 bytes → length after < n → text_at bytes ≡ Some x → ⊥
+text_cut n bytes after x e lt f = let p = text_parts n bytes after x e f in let le = p.0 in absurd (omega (arith, le))
 
-pub text_compared : (n start : ℕ) (bytes file u : List ℕ) (o : Ordering) → Some (n, drop start file) ≡ number_at w32 bytes → o ≡ text_cmp (take n (drop start file)) u → Compares (by_text u) (text_at bytes) file (Some (o, start + n))
-text_compared n start bytes file u o e is = λ x f.
+pub text_sliced : (n start : ℕ) (bytes file : List ℕ) (s : List ℕ) (x : List ℕ × List ℕ) → Some (n, drop start file) ≡ number_at w32 bytes → s ≡ take n (drop start file) → text_at bytes ≡ Some x → Some (s, drop (start + n) file) ≡ Some x
+text_sliced n start bytes file s x e is f =
     let p = text_parts n bytes (drop start file) x e f in
-    (is ∙ ap (λ (y : List ℕ × List ℕ). text_cmp y.0 u) p.1, λ t. sym (drop-drop n start file) ∙ ap (λ (y : List ℕ × List ℕ). y.1) p.1)
+    (λ i. Some (is i, sym (drop-drop n start file) i)) ∙ ap Some p.1
+
+-- the bytes of a text, compared
+pub text_compared : (bytes file s u : List ℕ) (o : Ordering) (n : ℕ) → ((x : List ℕ × List ℕ) → text_at bytes ≡ Some x → Some (s, drop n file) ≡ Some x) → o ≡ text_cmp s u → Compares (by_text u) (text_at bytes) file (Some (o, n))
+text_compared bytes file s u o n sliced is = λ x f.
+    let same : (s, drop n file) ≡ x = some_is (s, drop n file) x (sliced x f) in
+    (is ∙ ap (λ (y : List ℕ × List ℕ). text_cmp y.0 u) same, λ t. ap (λ (y : List ℕ × List ℕ). y.1) same)
+
+pub no_text_there : (bytes file u : List ℕ) → ((x : List ℕ × List ℕ) → text_at bytes ≡ Some x → None ≡ Some x) → Compares (by_text u) (text_at bytes) file None
+no_text_there bytes file u none = λ x f. missing x (none x f)
+  where
+    missing : (x : List ℕ × List ℕ) → None ≡ Some x → ⊥
+    missing x e = absurd cc
 
 -- ---- scalars
 
 abbrev pub by_scalar : PlainScalar → PlainScalar → Ordering
 by_scalar u s = scalar_cmp s u
 
-scalar_is : (kind : ℕ) (bytes after : List ℕ) → Some (kind, after) ≡ byte_at bytes → scalar_at bytes ≡ scalar_of kind after
+pub scalar_is : (kind : ℕ) (bytes after : List ℕ) → Some (kind, after) ≡ byte_at bytes → scalar_at bytes ≡ scalar_of kind after
 unfolding scalar_at
 scalar_is kind bytes after e = (let f = sym e in rw f refl)
 
-no_scalar : (bytes : List ℕ) → None ≡ byte_at bytes → scalar_at bytes ≡ None
+pub no_scalar : (bytes : List ℕ) → None ≡ byte_at bytes → scalar_at bytes ≡ None
 unfolding scalar_at
 no_scalar bytes e = (let f = sym e in rw f refl)
 
@@ -105,15 +122,15 @@ text_above_scalar bytes file n u e = always (text_at bytes) string (by_scalar u)
 abbrev by_name : PlainName → PlainName → Ordering
 by_name u n = name_cmp n u
 
-name_is : (kind : ℕ) (bytes after : List ℕ) → Some (kind, after) ≡ byte_at bytes → name_at bytes ≡ name_of kind after
+pub name_is : (kind : ℕ) (bytes after : List ℕ) → Some (kind, after) ≡ byte_at bytes → name_at bytes ≡ name_of kind after
 unfolding name_at
 name_is kind bytes after e = (let f = sym e in rw f refl)
 
-no_name : (bytes : List ℕ) → None ≡ byte_at bytes → name_at bytes ≡ None
+pub no_name : (bytes : List ℕ) → None ≡ byte_at bytes → name_at bytes ≡ None
 unfolding name_at
 no_name bytes e = (let f = sym e in rw f refl)
 
-no_name_of : (kind : ℕ) (bytes : List ℕ) → kind ≢ 0 → kind ≢ 1 → name_of kind bytes ≡ None
+pub no_name_of : (kind : ℕ) (bytes : List ℕ) → kind ≢ 0 → kind ≢ 1 → name_of kind bytes ≡ None
 unfolding name_of
 no_name_of zero bytes f g = absurd (f refl)
 no_name_of (suc zero) bytes f g = absurd (g refl)
@@ -152,7 +169,7 @@ by_attr u a = attr_cmp a u
 abbrev made : List ℕ → PlainScalar → PlainAttr
 made name value = record { name = name; value = value }
 
-attr_splits : (bytes : List ℕ) (u : PlainAttr) → Splits (attr_at bytes) (text_at bytes) scalar_at made (by_attr u) (by_text u.name) (by_scalar u.value)
+pub attr_splits : (bytes : List ℕ) (u : PlainAttr) → Splits (attr_at bytes) (text_at bytes) scalar_at made (by_attr u) (by_text u.name) (by_scalar u.value)
 unfolding attr_at
 attr_splits bytes u = record {
   parts = λ x e.
@@ -170,3 +187,9 @@ attr_decides bytes file u o n ne h = first_decides (attr_at bytes) (text_at byte
 
 pub attr_goes : (bytes file : List ℕ) (u : PlainAttr) (o : Ordering) (n : ℕ) (q : Option (Ordering × ℕ)) → is_ne o ≡ false → Compares (by_text u.name) (text_at bytes) file (Some (o, n)) → Compares (by_scalar u.value) (scalar_at (drop n file)) file q → Compares (by_attr u) (attr_at bytes) file q
 attr_goes bytes file u o n q eq h k = second_decides (attr_at bytes) (text_at bytes) scalar_at made (by_attr u) (by_text u.name) (by_scalar u.value) file o n q (attr_splits bytes u) h (is_equal o eq) k
+
+-- an attribute that is seen by its name and its value
+pub attr_seen : (bytes file : List ℕ) (u : PlainAttr) (n : List ℕ) (v : PlainScalar) (q : Option (Ordering × ℕ)) → n ≡ u.name → v ≡ u.value → Compares (by_attr (made n v)) (attr_at bytes) file q → Compares (by_attr u) (attr_at bytes) file q
+attr_seen bytes file u n v q e f h =
+    subst (λ (w : PlainScalar). Compares (by_attr (made u.name w)) (attr_at bytes) file q) f
+    (subst (λ (m : List ℕ). Compares (by_attr (made m v)) (attr_at bytes) file q) e h)

@@ -8,6 +8,7 @@ use Rattle.keyed_tree.specs.Data.{name_bytes, PlainKey, scalar, inside, PlainLab
 use Rattle.archive_tree.specs.Data.{Stamp}
 use Rattle.version_set.specs.Pairs.{IsCanonical}
 use Rattle.xa_fields.specs.Spelling.{IsText}
+use Rattle.record_parts.specs.declared.limits.TheConstants.{DEEPEST, MOST_VERSIONS}
 
 -- ---- values
 
@@ -47,7 +48,7 @@ pub record IsContent (limit : ℕ) (c : PlainContent) : Type 0 where
 
 -- how deep elements may nest
 abbrev pub deepest : ℕ
-deepest = 120
+deepest = DEEPEST
 
 abbrev pub IsValue : PlainKey → Type 0
 IsValue (scalar s) = IsScalar s
@@ -62,7 +63,7 @@ pub record IsLabel (l : PlainLabel) : Type 0 where
 
 -- the greatest number of a version
 abbrev pub most : ℕ
-most = 999999
+most = MOST_VERSIONS
 
 -- the intervals of a set of such numbers
 pub record IsSet (s : List (ℕ × ℕ)) : Type 0 where

@@ -26,6 +26,11 @@ each_attr_fits (a ∷ xs) = text_fits a.name && scalar_fits a.value && each_attr
 abbrev pub attrs_fit : List PlainAttr → Bool
 attrs_fit xs = nat_lt (length xs) (2 ^ 32) && each_attr_fits xs && is_ascending xs
 
+-- whether an element of this tag may stand where so many may nest
+abbrev pub tag_fits : ℕ → List ℕ → Bool
+tag_fits zero t = false
+tag_fits (suc depth) t = text_fits t
+
 -- elements nest at most so deep
 abbrev mutual
   pub item_fits : ℕ → PlainTree → Bool

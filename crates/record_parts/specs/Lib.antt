@@ -8,3 +8,4 @@ pub mod Behind
 pub mod Whole
 pub mod Compares
 pub mod ShownViews
+pub mod Spells

@@ -1,8 +1,11 @@
--- What lent names show.
-use Rattle.keyed_tree.specs.Data.{PlainName, attr, tag}
-use Rattle.record_parts.specs.declared.lent.NameView.{NameView}
-use Rattle.record_parts.specs.declared.lent.NameView.TheVariants.{Attr, Tag}
+-- What lent names and labels show.
+pub use Rattle.keyed_tree.specs.LentView.{shown_name}
+use Rattle.std.specs.Prelude.{List, map}
+use Rattle.keyed_tree.specs.Data.{PlainLabel}
+use Rattle.keyed_tree.specs.LentView.{lent_val_view}
+use Rattle.keyed_tree.specs.declared.lent.LentVal.{LentVal}
+use Rattle.keyed_tree.specs.declared.lent.NameView.{NameView}
 
-abbrev pub shown_name : NameView → PlainName
-shown_name (Attr s) = attr s.now
-shown_name (Tag s) = tag s.now
+-- the label of this name and these key values
+abbrev pub named : NameView → List LentVal → PlainLabel
+named name keys = record { name = shown_name name; keys = map lent_val_view keys }

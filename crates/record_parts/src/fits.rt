@@ -1,7 +1,8 @@
 // Whether values have an encoding.
 ghost use Rattle.std.specs.Prelude.{◌≡◌, ◌↔◌, map, Some, IsTrue};
+ghost use Rattle.jsonml_tree.specs.LentAttrs.{lent_scalar_view};
 ghost use Rattle.jsonml_tree.specs.WellFormed.{is_ascending};
-ghost use Rattle.jsonml_tree.specs.View.{scalar_view, attr_view, tree_view, content_view, items_view};
+ghost use Rattle.jsonml_tree.specs.View.{attr_view, tree_view, content_view, items_view};
 ghost use Rattle.keyed_tree.specs.View.{name_view, key_view, label_view};
 ghost use Rattle.keyed_tree.specs.Data.{name_bytes};
 ghost use Rattle.version_set.specs.View.{pairs_of};
@@ -11,30 +12,31 @@ ghost use Rattle.record_parts.specs.Checks.{text_fits, scalar_fits, each_attr_fi
 
 use crate::lent::is_above;
 use crate::limits::{DEEPEST, MOST_VERSIONS};
-use jsonml_tree::{Attr, Content, Scalar, Tree};
+use jsonml_tree::{Attr, Content, LentScalar, Tree};
 use keyed_tree::{KeyVal, Label, Name};
 use version_set::VersionSet;
+use xa_fields::FIELD;
 
 fn text_fits(text: &str) -> bool
     ensures { result ≡ text_fits text.now }
 {
-    text.len() < 4_294_967_296
+    text.len() < FIELD
 }
 
-fn scalar_fits(scalar: &Scalar) -> bool
-    ensures { result ≡ scalar_fits (scalar_view scalar.now) }
+pub(crate) fn scalar_fits(scalar: LentScalar<'_>) -> bool
+    ensures { result ≡ scalar_fits (lent_scalar_view scalar.entry) }
 {
     match scalar {
-        Scalar::Null => true,
-        Scalar::Bool(_) => true,
-        Scalar::Whole(n) => {
-            if *n >= 0 {
-                *n < 18_446_744_073_709_551_616
+        LentScalar::Null => true,
+        LentScalar::Bool(_) => true,
+        LentScalar::Whole(n) => {
+            if n >= 0 {
+                n < 18_446_744_073_709_551_616
             } else {
-                -1 - *n < 9_223_372_036_854_775_808
+                -1 - n < 9_223_372_036_854_775_808
             }
         }
-        Scalar::Text(text) => text_fits(text.as_str()),
+        LentScalar::Text(text) => text_fits(text),
     }
 }
 
@@ -42,7 +44,7 @@ fn each_attr_fits(attrs: &[Attr]) -> bool
     ensures { result ≡ each_attr_fits (map attr_view attrs.now) }
 {
     for attr in attrs {
-        if !text_fits(attr.name.as_str()) || !scalar_fits(&attr.value) {
+        if !text_fits(attr.name.as_str()) || !scalar_fits(attr.value.lend()) {
             return false;
         }
     }
@@ -65,7 +67,7 @@ fn do_names_ascend(attrs: &[Attr]) -> bool
 fn attrs_fit(attrs: &[Attr]) -> bool
     ensures { result ≡ attrs_fit (map attr_view attrs.now) }
 {
-    attrs.len() < 4_294_967_296 && each_attr_fits(attrs) && do_names_ascend(attrs)
+    attrs.len() < FIELD && each_attr_fits(attrs) && do_names_ascend(attrs)
 }
 
 #[cycle(fits)]
@@ -73,9 +75,7 @@ fn attrs_fit(attrs: &[Attr]) -> bool
 fn content_fits(depth: u32, content: &Content) -> bool
     ensures { result ≡ content_fits depth (content_view content.now) }
 {
-    attrs_fit(&content.attrs)
-        && content.items.len() < 4_294_967_296
-        && items_fit(depth, &content.items)
+    attrs_fit(&content.attrs) && content.items.len() < FIELD && items_fit(depth, &content.items)
 }
 
 #[cycle(fits)]
@@ -108,7 +108,7 @@ fn value_fits(value: &KeyVal) -> bool
     ensures { result ≡ value_fits (key_view value.now) }
 {
     match value {
-        KeyVal::Scalar(scalar) => scalar_fits(scalar),
+        KeyVal::Scalar(scalar) => scalar_fits(scalar.lend()),
         KeyVal::Content(content) => content_fits(DEEPEST, content),
     }
 }
@@ -137,7 +137,7 @@ fn name_fits(name: &Name) -> bool
 fn parts_fit(label: &Label) -> bool
     ensures { result ≡ label_fits (label_view label.now) }
 {
-    name_fits(&label.name) && label.keys.len() < 4_294_967_296 && values_fit(&label.keys)
+    name_fits(&label.name) && label.keys.len() < FIELD && values_fit(&label.keys)
 }
 
 /// Whether a label has an encoding. It takes no memory.

@@ -7,7 +7,7 @@ ghost use Rattle.record_parts.specs.Reading.{scalar_of, scalar_at, attr_at, name
 ghost use Rattle.record_parts.specs.Shown.{shown_name};
 
 use jsonml_tree::{Attr, LentScalar};
-use keyed_tree::Name;
+use keyed_tree::{Name, NameView};
 use std::alloc::{AllocError, Global};
 use xa_fields::{take_text, take_u8, take_u64};
 
@@ -85,21 +85,13 @@ pub fn is_above(last: Option<&str>, name: &str) -> bool
     }
 }
 
-/// The name of a node, whose text is lent.
-#[derive(Drop)]
-pub enum NameView<'a> {
-    Attr(&'a str),
-    Tag(&'a str),
-}
-
-impl<'a> NameView<'a> {
-    pub fn copy(&self, alloc: Global) -> Result<Name, AllocError>
-        ensures { IfOk result (λ n. name_view n ≡ shown_name self.now) }
-    {
-        match self {
-            NameView::Attr(text) => Ok(Name::Attr(String::from_str(alloc, text)?)),
-            NameView::Tag(text) => Ok(Name::Tag(String::from_str(alloc, text)?)),
-        }
+/// The same name, whose text is lent.
+pub(crate) fn lent_name(name: &Name) -> NameView<'_>
+    ensures { shown_name result ≡ name_view name.now }
+{
+    match name {
+        Name::Attr(text) => NameView::Attr(text.as_str()),
+        Name::Tag(text) => NameView::Tag(text.as_str()),
     }
 }
 

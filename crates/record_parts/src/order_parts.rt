@@ -7,6 +7,7 @@ ghost use Rattle.xa_fields.specs.Reading.{many_at};
 ghost use Rattle.record_parts.specs.Reading.{value_at, label_at};
 ghost use Rattle.record_parts.specs.Compares.{Compares};
 
+use crate::lent::lent_name;
 use crate::order_scalars::order_name;
 use crate::order_values::order_value;
 use keyed_tree::{KeyVal, Label};
@@ -43,7 +44,7 @@ pub fn order_label(bytes: &[u8], at: usize, other: &Label) -> Option<(Ordering, 
     ensures { Compares (λ l. label_cmp l (label_view other.now))
         (label_at (drop at bytes.now)) bytes.now result }
 {
-    let Some((order, at)) = order_name(bytes, at, &other.name) else {
+    let Some((order, at)) = order_name(bytes, at, lent_name(&other.name)) else {
         return None;
     };
     if order.is_ne() {

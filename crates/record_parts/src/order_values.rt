@@ -3,6 +3,7 @@
 ghost use Rattle.std.specs.Prelude.{drop, map};
 ghost use Rattle.std.specs.Cmp.Lexicographic.{slice_cmp};
 ghost use Rattle.jsonml_tree.specs.Data.{PlainContent, text, element};
+ghost use Rattle.jsonml_tree.specs.LentAttrs.{lent_scalar_view};
 ghost use Rattle.jsonml_tree.specs.Order.{attr_cmp, tree_cmp, content_cmp};
 ghost use Rattle.jsonml_tree.specs.View.{attr_view, tree_view, content_view};
 ghost use Rattle.keyed_tree.specs.Order.{key_cmp};
@@ -13,23 +14,29 @@ ghost use Rattle.record_parts.specs.Compares.{Compares};
 
 use crate::limits::DEEPEST;
 use crate::order_scalars::{order_scalar, order_text};
-use jsonml_tree::{Attr, Content, Tree};
+use jsonml_tree::{Attr, Content, LentScalar, Tree};
 use keyed_tree::KeyVal;
 use std::cmp::Ordering;
 use xa_fields::{take_u8, take_u32};
 
 /// The order of the attribute at the offset, and, if it is equal, the offset behind it.
-fn order_attr(bytes: &[u8], at: usize, other: &Attr) -> Option<(Ordering, usize)>
-    ensures { Compares (λ a. attr_cmp a (attr_view other.now))
+pub fn order_attr(
+    bytes: &[u8],
+    at: usize,
+    name: &str,
+    value: LentScalar<'_>,
+) -> Option<(Ordering, usize)>
+    ensures { Compares
+        (λ a. attr_cmp a (record { name = name.now; value = lent_scalar_view value.entry }))
         (attr_at (drop at bytes.now)) bytes.now result }
 {
-    let Some((order, at)) = order_text(bytes, at, other.name.as_str()) else {
+    let Some((order, at)) = order_text(bytes, at, name) else {
         return None;
     };
     if order.is_ne() {
         return Some((order, at));
     }
-    order_scalar(bytes, at, other.value.lend())
+    order_scalar(bytes, at, value)
 }
 
 fn order_each_attr(
@@ -47,7 +54,8 @@ fn order_each_attr(
         let Some((other, tail)) = rest.split_first() else {
             return Some((Ordering::Greater, at));
         };
-        let Some((order, next)) = order_attr(bytes, at, other) else {
+        let (name, value) = (other.name.as_str(), other.value.lend());
+        let Some((order, next)) = order_attr(bytes, at, name, value) else {
             return None;
         };
         if order.is_ne() {

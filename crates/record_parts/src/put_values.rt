@@ -2,33 +2,34 @@
 ghost use Rattle.std.specs.Prelude.{◌≡◌, ◌++◌, OnOk, map};
 ghost use Rattle.std.specs.List.{flat_map, AllByRecursion};
 ghost use Rattle.jsonml_tree.specs.Data.{whole};
-ghost use Rattle.jsonml_tree.specs.View.{scalar_view, attr_view, tree_view, content_view, items_view};
+ghost use Rattle.jsonml_tree.specs.LentAttrs.{lent_scalar_view};
+ghost use Rattle.jsonml_tree.specs.View.{attr_view, tree_view, content_view, items_view};
 ghost use Rattle.keyed_tree.specs.View.{key_view};
 ghost use Rattle.xa_fields.specs.Spelling.{list_bytes};
 ghost use Rattle.xa_fields.specs.Laws.{Grows};
 ghost use Rattle.record_parts.specs.Spelling.{scalar_bytes, attr_bytes, content_bytes, item_bytes, items_bytes, value_bytes};
 ghost use Rattle.record_parts.specs.Bounds.{IsScalar, IsAttr, AreAttrs, IsItem, AreItems, IsInside, IsValue};
 
-use jsonml_tree::{Attr, Content, Scalar, Tree};
+use jsonml_tree::{Attr, Content, LentScalar, Tree};
 use keyed_tree::KeyVal;
 use std::alloc::AllocError;
-use xa_fields::{put_text, put_u8, put_u32, put_u64};
+use xa_fields::{append_text, append_u8, append_u32, append_u64};
 
 #[tactic(auto, using(xa_fields::proofs::Combinators::growth))]
-fn put_scalar(out: &mut Vec<u8>, scalar: &Scalar) -> Result<(), AllocError>
-    requires { IsScalar (scalar_view scalar.now) }
+pub(crate) fn put_scalar(out: &mut Vec<u8>, scalar: LentScalar<'_>) -> Result<(), AllocError>
+    requires { IsScalar (lent_scalar_view scalar) }
     ensures ok { OnOk result (out.new.items
-        ≡ out.old.items ++ scalar_bytes (scalar_view scalar.now)) }
+        ≡ out.old.items ++ scalar_bytes (lent_scalar_view scalar.entry)) }
     ensures grows { Grows out.old.items out.new.items }
 {
     match scalar {
-        Scalar::Null => put_u8(out, 0),
-        Scalar::Bool(false) => put_u8(out, 1),
-        Scalar::Bool(true) => put_u8(out, 2),
-        Scalar::Whole(n) => put_whole(out, *n),
-        Scalar::Text(text) => {
-            put_u8(out, 5)?;
-            put_text(out, text.as_str())
+        LentScalar::Null => append_u8(out, 0),
+        LentScalar::Bool(false) => append_u8(out, 1),
+        LentScalar::Bool(true) => append_u8(out, 2),
+        LentScalar::Whole(n) => put_whole(out, n),
+        LentScalar::Text(text) => {
+            append_u8(out, 5)?;
+            append_text(out, text)
         }
     }
 }
@@ -40,11 +41,11 @@ fn put_whole(out: &mut Vec<u8>, n: i128) -> Result<(), AllocError>
     ensures grows { Grows out.old.items out.new.items }
 {
     if n >= 0 {
-        put_u8(out, 3)?;
-        put_u64(out, n as u64)
+        append_u8(out, 3)?;
+        append_u64(out, n as u64)
     } else {
-        put_u8(out, 4)?;
-        put_u64(out, (-1 - n) as u64)
+        append_u8(out, 4)?;
+        append_u64(out, (-1 - n) as u64)
     }
 }
 
@@ -54,8 +55,8 @@ fn put_attr(out: &mut Vec<u8>, attr: &Attr) -> Result<(), AllocError>
     ensures ok { OnOk result (out.new.items ≡ out.old.items ++ attr_bytes (attr_view attr.now)) }
     ensures grows { Grows out.old.items out.new.items }
 {
-    put_text(out, attr.name.as_str())?;
-    put_scalar(out, &attr.value)
+    append_text(out, attr.name.as_str())?;
+    put_scalar(out, attr.value.lend())
 }
 
 #[tactic(auto, using(xa_fields::proofs::Combinators::growth, jsonml_tree::proofs::Trees::trees))]
@@ -65,7 +66,7 @@ fn put_attrs(out: &mut Vec<u8>, attrs: &[Attr]) -> Result<(), AllocError>
         ≡ out.old.items ++ list_bytes attr_bytes (map attr_view attrs.now)) }
     ensures grows { Grows out.old.items out.new.items }
 {
-    put_u32(out, attrs.len() as u32)?;
+    append_u32(out, attrs.len() as u32)?;
     put_each_attr(out, attrs)
 }
 
@@ -91,7 +92,7 @@ fn put_content(out: &mut Vec<u8>, content: &Content) -> Result<(), AllocError>
     ensures grows { Grows out.old.items out.new.items }
 {
     put_attrs(out, &content.attrs)?;
-    put_u32(out, content.items.len() as u32)?;
+    append_u32(out, content.items.len() as u32)?;
     put_items(out, &content.items)?;
     Ok(())
 }
@@ -118,19 +119,19 @@ fn put_item(out: &mut Vec<u8>, item: &Tree) -> Result<(), AllocError>
 {
     match item {
         Tree::Text(text) => {
-            put_u8(out, 0)?;
-            put_text(out, text.as_str())
+            append_u8(out, 0)?;
+            append_text(out, text.as_str())
         }
         Tree::Elem { tag, content } => {
-            put_u8(out, 1)?;
-            put_text(out, tag.as_str())?;
+            append_u8(out, 1)?;
+            append_text(out, tag.as_str())?;
             put_content(out, content)
         }
     }
 }
 
 /// Appends a key value or a body: a byte of its kind, and the scalar or the content. On a refusal
-/// some of it was appended.
+/// what was there stays, and some of the encoding may stand behind it.
 #[tactic(auto, using(xa_fields::proofs::Combinators::growth))]
 pub fn put_value(out: &mut Vec<u8>, value: &KeyVal) -> Result<(), AllocError>
     requires { IsValue (key_view value.now) }
@@ -139,11 +140,11 @@ pub fn put_value(out: &mut Vec<u8>, value: &KeyVal) -> Result<(), AllocError>
 {
     match value {
         KeyVal::Scalar(scalar) => {
-            put_u8(out, 0)?;
-            put_scalar(out, scalar)
+            append_u8(out, 0)?;
+            put_scalar(out, scalar.lend())
         }
         KeyVal::Content(content) => {
-            put_u8(out, 1)?;
+            append_u8(out, 1)?;
             put_content(out, content)
         }
     }

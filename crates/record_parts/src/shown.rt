@@ -1,6 +1,7 @@
 // What lent parts answer.
 ghost use Rattle.std.specs.Prelude.{◌≡◌, ◌↔◌, IsTrue, IfOk};
 ghost use Rattle.std.specs.Option.{is_some};
+ghost use Rattle.keyed_tree.specs.LentView.{lent_val_view};
 ghost use Rattle.keyed_tree.specs.Order.{key_cmp, label_cmp};
 ghost use Rattle.keyed_tree.specs.View.{key_view, label_view};
 ghost use Rattle.archive_tree.specs.Data.{Stamp};
@@ -10,16 +11,19 @@ ghost use Rattle.record_parts.specs.Spelling.{label_bytes, stamp_bytes, value_by
 ghost use Rattle.xa_fields.specs.Reading.{whole};
 ghost use Rattle.record_parts.specs.Reading.{label_at, stamp_at, value_at};
 ghost use Rattle.record_parts.specs.Whole.{IsLabelBytes, IsStampBytes, IsValueBytes};
-ghost use Rattle.record_parts.specs.Shown.{shown_name};
+ghost use Rattle.record_parts.specs.Shapes.{FitsLabel, FitsValue, IsShapedLabel, IsShapedValue};
+ghost use Rattle.record_parts.specs.Shown.{named, shown_name};
 ghost use Rattle.record_parts.specs.ShownViews.{label_in, stamp_in, value_in, shown_label, shown_stamp, shown_body};
 
-use crate::lent::{NameView, lend_name};
+use crate::lent::lend_name;
+use crate::order_both::both_label;
+use crate::order_lent::{order_lent_label, order_lent_value};
 use crate::order_parts::order_label;
 use crate::order_values::order_value;
 use crate::take_parts::{take_label, take_stamp};
 use crate::take_values::take_value;
 use crate::views::{BodyView, LabelView, StampView};
-use keyed_tree::{Body, Label};
+use keyed_tree::{Body, Label, LentVal, NameView};
 use std::alloc::{AllocError, Global};
 use std::cmp::Ordering;
 use version_set::VersionSet;
@@ -28,6 +32,8 @@ fn label_spelled(bytes: &[u8]) -> &[u8]
     requires { IsLabelBytes bytes.now }
     ensures spelled { result.now ≡ label_bytes (label_in (whole label_at bytes.now)) }
     ensures is { IsLabel (label_in (whole label_at bytes.now)) }
+    ensures shape { IsShapedLabel (label_in (whole label_at bytes.now)) }
+    ensures fits { FitsLabel (label_in (whole label_at bytes.now)) }
 {
     bytes
 }
@@ -54,6 +60,8 @@ fn body_spelled(bytes: &[u8]) -> &[u8]
     requires { IsValueBytes bytes.now }
     ensures spelled { result.now ≡ value_bytes (value_in (whole value_at bytes.now)) }
     ensures is { IsValue (value_in (whole value_at bytes.now)) }
+    ensures shape { IsShapedValue (value_in (whole value_at bytes.now)) }
+    ensures fits { FitsValue (value_in (whole value_at bytes.now)) }
 {
     bytes
 }
@@ -63,6 +71,8 @@ impl<'a> LabelView<'a> {
     pub fn bytes(&self) -> &'a [u8]
         ensures spelled { result.now ≡ label_bytes (shown_label self.now) }
         ensures is { IsLabel (shown_label self.now) }
+        ensures shape { IsShapedLabel (shown_label self.now) }
+        ensures fits { FitsLabel (shown_label self.now) }
     {
         label_spelled(self.bytes)
     }
@@ -87,20 +97,24 @@ impl<'a> LabelView<'a> {
         }
     }
 
-    /// The order of two labels that are shown. Where they differ, it takes memory for a copy of the shorter one, and time as
-    /// that is long: along two rows each comparison passes a label, so that all of them take no longer than the rows are.
-    pub fn compare(&self, alloc: Global, other: &LabelView<'_>) -> Result<Ordering, AllocError>
-        ensures { IfOk result (λ o. o ≡ label_cmp (shown_label self.now) (shown_label other.now)) }
+    /// The order of the label that is shown, against one of this name and these key values. It takes no memory.
+    pub fn order_lent(&self, name: NameView<'_>, keys: &[LentVal<'_, '_>]) -> Ordering
+        ensures { result ≡ label_cmp (shown_label self.now) (named name.entry keys.now) }
     {
-        if self.bytes() == other.bytes() {
-            return Ok(Ordering::Equal);
+        match order_lent_label(self.bytes, 0, name, keys) {
+            Some((order, _)) => order,
+            None => Ordering::Equal,
         }
-        if self.bytes().len() < other.bytes().len() {
-            let label = self.copy(alloc)?;
-            return Ok(other.order(&label).reverse());
+    }
+
+    /// The order of two labels that are shown. It takes no memory, and no longer than the shorter of them is.
+    pub fn compare(&self, other: &LabelView<'_>) -> Ordering
+        ensures { result ≡ label_cmp (shown_label self.now) (shown_label other.now) }
+    {
+        match both_label(self.bytes, 0, other.bytes, 0) {
+            Some((order, _, _)) => order,
+            None => Ordering::Equal,
         }
-        let label = other.copy(alloc)?;
-        Ok(self.order(&label))
     }
 
     /// A label of its own with the same value.
@@ -146,6 +160,8 @@ impl<'a> BodyView<'a> {
     pub fn bytes(&self) -> &'a [u8]
         ensures spelled { result.now ≡ value_bytes (shown_body self.now) }
         ensures is { IsValue (shown_body self.now) }
+        ensures shape { IsShapedValue (shown_body self.now) }
+        ensures fits { FitsValue (shown_body self.now) }
     {
         body_spelled(self.bytes)
     }
@@ -156,6 +172,14 @@ impl<'a> BodyView<'a> {
         ensures { IsTrue result ↔ (shown_body self.now ≡ key_view other.now) }
     {
         self.order(other).is_eq()
+    }
+
+    /// Whether the body is the one that is shown. It takes no memory and builds no body.
+    #[tactic(auto, using(keyed_tree::specs::Laws::equal))]
+    pub fn same_lent(&self, other: LentVal<'_, '_>) -> bool
+        ensures { IsTrue result ↔ (shown_body self.now ≡ lent_val_view other.entry) }
+    {
+        self.order_lent(other).is_eq()
     }
 
     /// Whether both show the same body.
@@ -179,6 +203,15 @@ impl<'a> BodyView<'a> {
         ensures { result ≡ key_cmp (shown_body self.now) (key_view other.now) }
     {
         match order_value(self.bytes, 0, other) {
+            Some((order, _)) => order,
+            None => Ordering::Equal,
+        }
+    }
+
+    fn order_lent(&self, other: LentVal<'_, '_>) -> Ordering
+        ensures { result ≡ key_cmp (shown_body self.now) (lent_val_view other.entry) }
+    {
+        match order_lent_value(self.bytes, 0, other) {
             Some((order, _)) => order,
             None => Ordering::Equal,
         }

@@ -1,9 +1,11 @@
 // Spelling the records that a writer appends.
-ghost use Rattle.std.specs.Prelude.{◌≡◌, ◌+◌, ◌-◌, ◌≤◌, ◌<◌, ◌^◌, ◌++◌, length, OnOk, IsTrue, IsFalse};
+ghost use Rattle.std.specs.Prelude.{◌≡◌, ◌+◌, ◌-◌, ◌≤◌, ◌<◌, ◌^◌, ◌++◌, [], length, OnOk, true};
 ghost use Rattle.archive_tree.specs.View.{stamp_view};
+ghost use Rattle.keyed_tree.specs.View.{key_view, label_view};
 ghost use Rattle.xa_fields.specs.Spelling.{u64_bytes};
-ghost use Rattle.record_parts.specs.Bounds.{IsLabel, IsValue};
-ghost use Rattle.record_parts.specs.Shapes.{FitsLabel, FitsValue};
+ghost use Rattle.record_parts.specs.Checks.{label_fits, value_fits};
+ghost use Rattle.record_parts.specs.Shapes.{FitsLabel, FitsValue, IsShapedLabel, IsShapedValue};
+ghost use Rattle.record_parts.specs.Spells.{Spells};
 ghost use Rattle.record_parts.specs.Spelling.{label_bytes, stamp_bytes, value_bytes};
 ghost use Rattle.record_format.specs.Data.{alt_rec, end_rec, leaf_end};
 ghost use Rattle.record_format.specs.Spelling.{dir_bytes, framed, rec_bytes};
@@ -14,74 +16,108 @@ ghost use Rattle.record_writer.specs.Faults.{Prepares};
 
 use crate::fault::WriteFault;
 use crate::given::{BodyFrom, LabelFrom};
+use keyed_tree::{Body, Label};
 use record_format::{
     ALT, Dir, FRAME, LONGEST, close, is_label, is_value, lend_sets, open, put_end, put_leaf_end,
 };
-use record_parts::{put_label, put_stamp, put_value};
+use record_parts::{
+    SpellFault, parts_are_of_shape_and_fit, put_label, put_lent_label, put_lent_value, put_stamp,
+    put_value,
+};
 use std::alloc::{AllocError, Global};
 use version_set::VersionSet;
-use xa_fields::put_u64;
+use xa_fields::{FIELD, append_u64};
 
-/// Counts have four bytes.
-const FOUR_BYTES: usize = 4_294_967_296;
+// Appends what a record lends.
+fn put_old(out: &mut Vec<u8>, bytes: &[u8]) -> Result<(), SpellFault>
+    ensures { Spells true out.old.items out.new.items bytes.now result }
+{
+    out.extend_from_slice(bytes)?;
+    Ok(())
+}
 
-fn label_fits(label: &LabelFrom<'_>) -> bool
+fn put_new_label(out: &mut Vec<u8>, label: &Label) -> Result<(), SpellFault>
+    ensures { Spells (label_fits (label_view label.now)) out.old.items out.new.items
+        (label_bytes (label_view label.now)) result }
+{
+    if !is_label(label) {
+        return Err(SpellFault::TooLong);
+    }
+    put_label(out, label)?;
+    Ok(())
+}
+
+fn put_new_body(out: &mut Vec<u8>, body: &Body) -> Result<(), SpellFault>
+    ensures { Spells (value_fits (key_view body.now)) out.old.items out.new.items
+        (value_bytes (key_view body.now)) result }
+{
+    if !is_value(body) {
+        return Err(SpellFault::TooLong);
+    }
+    put_value(out, body)?;
+    Ok(())
+}
+
+fn put_label_from(out: &mut Vec<u8>, label: &LabelFrom<'_, '_>) -> Result<(), SpellFault>
+    ensures { Spells (label_fits (given_label label.now)) out.old.items out.new.items
+        (label_bytes (given_label label.now)) result }
+{
+    parts_are_of_shape_and_fit();
+    match label {
+        LabelFrom::Old(view) => put_old(out, view.bytes()),
+        LabelFrom::New(label) => put_new_label(out, label),
+        LabelFrom::Lent { name, keys } => put_lent_label(out, *name, keys),
+    }
+}
+
+fn put_body_from(out: &mut Vec<u8>, body: &BodyFrom<'_, '_>) -> Result<(), SpellFault>
+    ensures { Spells (value_fits (given_body body.now)) out.old.items out.new.items
+        (value_bytes (given_body body.now)) result }
+{
+    parts_are_of_shape_and_fit();
+    match body {
+        BodyFrom::Old(view) => put_old(out, view.bytes()),
+        BodyFrom::New(body) => put_new_body(out, body),
+        BodyFrom::Lent(value) => put_lent_value(out, *value),
+    }
+}
+
+// What is given has its shape, since what a record lends always has.
+fn is_label_shaped(label: &LabelFrom<'_, '_>)
     requires { IsShapedLabelFrom label.now }
-    ensures yes { IsTrue result → IsLabel (given_label label.now) }
-    ensures no { IsFalse result → ¬ (FitsLabel (given_label label.now)) }
+    ensures { IsShapedLabel (given_label label.now) }
 {
     match label {
         LabelFrom::Old(view) => {
             let _spelled = view.bytes();
-            true
         }
-        LabelFrom::New(label) => is_label(label),
+        LabelFrom::New(_) => {}
+        LabelFrom::Lent { .. } => {}
     }
 }
 
-fn body_fits(body: &BodyFrom<'_>) -> bool
+fn is_body_shaped(body: &BodyFrom<'_, '_>)
     requires { IsShapedBodyFrom body.now }
-    ensures yes { IsTrue result → IsValue (given_body body.now) }
-    ensures no { IsFalse result → ¬ (FitsValue (given_body body.now)) }
+    ensures { IsShapedValue (given_body body.now) }
 {
     match body {
         BodyFrom::Old(view) => {
             let _spelled = view.bytes();
-            true
         }
-        BodyFrom::New(body) => is_value(body),
-    }
-}
-
-fn put_label_from(out: &mut Vec<u8>, label: &LabelFrom<'_>) -> Result<(), AllocError>
-    requires { IsLabel (given_label label.now) }
-    ensures { OnOk result (out.new.items ≡ out.old.items ++ label_bytes (given_label label.now)) }
-{
-    match label {
-        LabelFrom::Old(view) => out.extend_from_slice(view.bytes()),
-        LabelFrom::New(label) => put_label(out, label),
-    }
-}
-
-fn put_body_from(out: &mut Vec<u8>, body: &BodyFrom<'_>) -> Result<(), AllocError>
-    requires { IsValue (given_body body.now) }
-    ensures { OnOk result (out.new.items ≡ out.old.items ++ value_bytes (given_body body.now)) }
-{
-    match body {
-        BodyFrom::Old(view) => out.extend_from_slice(view.bytes()),
-        BodyFrom::New(body) => put_value(out, body),
+        BodyFrom::New(_) => {}
+        BodyFrom::Lent(_) => {}
     }
 }
 
 fn put_opening(
     record: &mut Vec<u8>,
     kind: u8,
-    label: &LabelFrom<'_>,
+    label: &LabelFrom<'_, '_>,
     stamp: &Option<VersionSet>,
-) -> Result<(), AllocError>
-    requires { IsLabel (given_label label.now) }
-    ensures { OnOk result (record.new.items
-        ≡ framed kind (label_bytes (given_label label.now) ++ stamp_bytes (stamp_view stamp.now))) }
+) -> Result<(), SpellFault>
+    ensures { Spells (label_fits (given_label label.now)) [] record.new.items
+        (framed kind (label_bytes (given_label label.now) ++ stamp_bytes (stamp_view stamp.now)))
+        result }
 {
     record.clear();
     let at = open(record, kind)?;
@@ -94,11 +130,10 @@ fn put_opening(
 fn put_alternative(
     record: &mut Vec<u8>,
     stamp: &Option<VersionSet>,
-    body: &BodyFrom<'_>,
-) -> Result<(), AllocError>
-    requires { IsValue (given_body body.now) }
-    ensures { OnOk result (record.new.items
-        ≡ rec_bytes (alt_rec (stamp_view stamp.now) (given_body body.now))) }
+    body: &BodyFrom<'_, '_>,
+) -> Result<(), SpellFault>
+    ensures { Spells (value_fits (given_body body.now)) [] record.new.items
+        (rec_bytes (alt_rec (stamp_view stamp.now) (given_body body.now))) result }
 {
     record.clear();
     let at = open(record, ALT)?;
@@ -112,7 +147,7 @@ fn put_alternative(
 pub fn spell_opening(
     record: &mut Vec<u8>,
     kind: u8,
-    label: &LabelFrom<'_>,
+    label: &LabelFrom<'_, '_>,
     stamp: &Option<VersionSet>,
 ) -> Result<(), WriteFault>
     requires { IsShapedLabelFrom label.now }
@@ -120,28 +155,32 @@ pub fn spell_opening(
         ≡ framed kind (label_bytes (given_label label.now) ++ stamp_bytes (stamp_view stamp.now)))
         result }
 {
-    if !label_fits(label) {
-        return Err(WriteFault::TooLong);
+    parts_are_of_shape_and_fit();
+    is_label_shaped(label);
+    match put_opening(record, kind, label, stamp) {
+        Ok(()) => Ok(()),
+        Err(SpellFault::TooLong) => Err(WriteFault::TooLong),
+        Err(SpellFault::Memory) => Err(WriteFault::Memory),
     }
-    put_opening(record, kind, label, stamp)?;
-    Ok(())
 }
 
 /// Spells the record of an alternative.
 pub fn spell_alternative(
     record: &mut Vec<u8>,
     stamp: &Option<VersionSet>,
-    body: &BodyFrom<'_>,
+    body: &BodyFrom<'_, '_>,
 ) -> Result<(), WriteFault>
     requires { IsShapedBodyFrom body.now }
     ensures { Prepares (FitsValue (given_body body.now)) (λ _. record.new.items
         ≡ rec_bytes (alt_rec (stamp_view stamp.now) (given_body body.now))) result }
 {
-    if !body_fits(body) {
-        return Err(WriteFault::TooLong);
+    parts_are_of_shape_and_fit();
+    is_body_shaped(body);
+    match put_alternative(record, stamp, body) {
+        Ok(()) => Ok(()),
+        Err(SpellFault::TooLong) => Err(WriteFault::TooLong),
+        Err(SpellFault::Memory) => Err(WriteFault::Memory),
     }
-    put_alternative(record, stamp, body)?;
-    Ok(())
 }
 
 /// Spells the record that closes a leaf.
@@ -169,7 +208,7 @@ pub fn spell_end(alloc: Global, record: &mut Vec<u8>, dir: &Dir) -> Result<(), W
     ensures { Prepares (length dir.now.entries.items < 2 ^ 32)
         (λ _. record.new.items ≡ rec_bytes (end_rec (dir_view dir.now))) result }
 {
-    if dir.entries.len() >= FOUR_BYTES {
+    if dir.entries.len() >= FIELD {
         return Err(WriteFault::TooLong);
     }
     put_dir(alloc, record, dir)?;
@@ -185,7 +224,7 @@ pub fn spell_tail(alloc: Global, record: &mut Vec<u8>, dir: &Dir) -> Result<(), 
 {
     spell_end(alloc, record, dir)?;
     let body = body_length(record);
-    put_u64(record, body)?;
+    append_u64(record, body)?;
     Ok(())
 }
 

@@ -78,7 +78,7 @@ impl Writer {
     pub fn inner<F: Folder>(
         &mut self,
         folder: &mut F,
-        label: LabelFrom<'_>,
+        label: LabelFrom<'_, '_>,
         stamp: &Option<VersionSet>,
         set: &VersionSet,
     ) -> Result<(), WriteFault>
@@ -102,7 +102,7 @@ impl Writer {
     pub fn leaf<F: Folder>(
         &mut self,
         folder: &mut F,
-        label: LabelFrom<'_>,
+        label: LabelFrom<'_, '_>,
         stamp: &Option<VersionSet>,
         set: &VersionSet,
     ) -> Result<(), WriteFault>
@@ -127,7 +127,7 @@ impl Writer {
         &mut self,
         folder: &mut F,
         stamp: &Option<VersionSet>,
-        body: BodyFrom<'_>,
+        body: BodyFrom<'_, '_>,
     ) -> Result<(), WriteFault>
         requires leaf { (writer_view self.old).leaf ≢ None }
         requires body { IsShapedBodyFrom body }
@@ -238,7 +238,7 @@ impl Writer {
 
     fn begin_inner(
         &mut self,
-        label: &LabelFrom<'_>,
+        label: &LabelFrom<'_, '_>,
         stamp: &Option<VersionSet>,
         set: &VersionSet,
     ) -> Result<(), WriteFault>
@@ -258,7 +258,7 @@ impl Writer {
 
     fn begin_leaf(
         &mut self,
-        label: &LabelFrom<'_>,
+        label: &LabelFrom<'_, '_>,
         stamp: &Option<VersionSet>,
         set: &VersionSet,
     ) -> Result<(), WriteFault>
@@ -282,7 +282,7 @@ impl Writer {
     fn add_alternative(
         &mut self,
         stamp: &Option<VersionSet>,
-        body: &BodyFrom<'_>,
+        body: &BodyFrom<'_, '_>,
     ) -> Result<(), WriteFault>
         requires { IsShapedBodyFrom body.now }
         ensures { Prepares (Fits (writer_view self.old)

@@ -1,10 +1,12 @@
 // The bodies of leaves.
 ghost use Rattle.record_parts.specs.Whole.{IsValueBytes};
 
-use crate::spell::{Unspelled, put_heavy};
-use jsonml_tree::LentRow;
-use keyed_tree::{Body, KeyVal};
-use record_parts::{BodyView, is_value, lend_body, put_value};
+use jsonml_tree::{LentContent, LentRow};
+use keyed_tree::{Body, KeyVal, LentVal};
+use record_parts::{
+    BodyView, SpellFault, is_value, lend_body, parts_are_of_shape_and_fit, put_lent_value,
+    put_value,
+};
 use std::alloc::{AllocError, Global};
 
 /// A body as its encoding.
@@ -27,30 +29,35 @@ pub enum KeptBody {
 const HEAVY: usize = 16;
 
 impl Spelled {
-    ghost use Rattle.std.specs.Prelude.{◌≡◌, IfOk, IfSome};
+    ghost use Rattle.std.specs.Prelude.{◌≡◌, ◌<◌, ◌⊎◌, IfOk, IfSome, IsNone, false, length};
     ghost use Rattle.std.specs.Ordering.{is_eq};
     ghost use Rattle.jsonml_tree.specs.LentView.{lent_row_view};
     ghost use Rattle.keyed_tree.specs.Data.{inside};
+    ghost use Rattle.keyed_tree.specs.LentView.{lent_val_view};
     ghost use Rattle.keyed_tree.specs.Order.{key_cmp};
     ghost use Rattle.keyed_tree.specs.View.{key_view};
     ghost use Rattle.xa_fields.specs.Reading.{whole};
+    ghost use Rattle.record_parts.specs.Checks.{value_fits};
     ghost use Rattle.record_parts.specs.Reading.{value_at};
     ghost use Rattle.record_parts.specs.ShownViews.{shown_body, value_in};
     ghost use Rattle.spelled_archive.specs.View.{spelled_view};
 
     /// The content, if it is heavy and has an encoding. Each byte is written once.
     pub fn of_row(alloc: Global, row: &LentRow<'_>) -> Result<Option<Spelled>, AllocError>
-        ensures { IfOk result (λ o. IfSome o
+        ensures some { IfOk result (λ o. IfSome o
             (λ s. spelled_view s ≡ inside (lent_row_view row.now))) }
+        ensures none { IfOk result (λ o. IsNone o → (length row.now.items.items < 16)
+            ⊎ (value_fits (inside (lent_row_view row.now)) ≡ false)) }
     {
         if row.items.len() < HEAVY {
             return Ok(None);
         }
+        parts_are_of_shape_and_fit();
         let mut bytes = Vec::new(alloc);
-        match put_heavy(&mut bytes, row) {
+        match put_lent_value(&mut bytes, LentVal::Content(LentContent::Row(row))) {
             Ok(()) => Ok(Some(Spelled::of_bytes(bytes))),
-            Err(Unspelled::Unfit) => Ok(None),
-            Err(Unspelled::Memory) => Err(AllocError),
+            Err(SpellFault::TooLong) => Ok(None),
+            Err(SpellFault::Memory) => Err(AllocError),
         }
     }
 
@@ -84,11 +91,11 @@ impl Spelled {
         lend_body(&self.bytes)
     }
 
-    /// Whether both spell the same body.
-    pub fn same(&self, other: &Spelled) -> bool
-        ensures { result ≡ is_eq (key_cmp (spelled_view self.now) (spelled_view other.now)) }
+    /// Whether it spells a body that a document lends. It takes no memory and builds no body.
+    pub fn same_lent(&self, other: LentVal<'_, '_>) -> bool
+        ensures { result ≡ is_eq (key_cmp (spelled_view self.now) (lent_val_view other.entry)) }
     {
-        self.lend().same_as(&other.lend())
+        self.lend().same_lent(other)
     }
 
     /// The body that it spells.

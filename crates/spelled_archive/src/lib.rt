@@ -3,7 +3,6 @@
 
 mod body;
 mod node;
-mod spell;
 
 pub use body::{KeptBody, Spelled};
 pub use node::{Alt, SNode, SpelledArchive};

@@ -1,41 +1,36 @@
 -- Merging the alternatives of a leaf, one after the other.
-use Rattle.std.proofs.Common.{◌≡◌, ◌≢◌, ℕ, ◌+◌, ◌-◌, ◌<◌, ◌≤◌, ◌||◌, Bool, true, false, cond, IsTrue, List, [], ◌∷◌, ◌++◌, length, map, Option, Some, None, IfSome, Result, Ok, Err, refl, sym, ap, subst, ◌∙◌, append_assoc, arith}
+use Rattle.std.proofs.Common.{◌≡◌, ◌≢◌, ℕ, ◌+◌, ◌-◌, ◌<◌, ◌≤◌, ◌||◌, Bool, true, false, IsTrue, List, [], ◌∷◌, ◌++◌, length, map, Option, Some, None, IfSome, Result, Ok, Err, refl, sym, ap, subst, ◌∙◌, append_assoc, arith}
 use Rattle.std.specs.List.{AllByRecursion}
 use Rattle.std.specs.Ordering.{is_eq}
 use Rattle.std.specs.Result.{IsErrAnd}
 use Rattle.std.proofs.lemmas.List.{map-append, length-append}
 use Rattle.xa_outside.specs.Numbers.{IsMeter}
 use Rattle.keyed_tree.specs.Data.{PlainKey, PlainLabel, PlainKeyed, PlainKids, inner, leaf}
-use Rattle.keyed_tree.specs.Laws.{key_cmp-is_eq}
 use Rattle.keyed_tree.specs.Order.{key_cmp}
 use Rattle.keyed_tree.proofs.Kids.{both}
-use Rattle.keyed_parts.specs.Spells.{Spells}
-use Rattle.keyed_parts.specs.declared.fault.SpellFault.{SpellFault}
-use Rattle.keyed_parts.specs.declared.fault.SpellFault.TheVariants as spell
 use Rattle.archive_tree.specs.Data.{Stamp, PlainAlt, leaf_node}
 use Rattle.nested_merge.specs.Below.{is_stamp_below, are_alts_below}
 use Rattle.nested_merge.specs.Fits.{if_there, fits}
-use Rattle.nested_merge.specs.Merged.{grown, kept, merged_alt, has_alt, merged_alts}
+use Rattle.nested_merge.specs.Merged.{merged_alt, has_alt, merged_alts}
 use Rattle.record_format.specs.Data.{alt_rec, leaf_end}
 use Rattle.record_format.specs.Spelling.{rec_bytes}
 use Rattle.record_cursor.specs.Items.{PlainItem, leaf_end_item}
 use Rattle.record_cursor.specs.Moves.{Comes}
-use Rattle.record_parts.specs.Shapes.{FitsValue}
-use Rattle.record_writer.specs.Calls.{appended, after, after_all, all_appended, AllFit}
+use Rattle.record_writer.specs.Calls.{appended, after, after_all, all_appended}
 use Rattle.record_writer.specs.Data.{PlainWriter, WriterCall, call_alt, call_end_leaf}
 use Rattle.record_writer.specs.Walks.{alt_calls}
 use Rattle.stream_merge.specs.Copied.{AltsCopied}
-use Rattle.stream_merge.specs.Does.{Made, Sends, Sent, Does}
+use Rattle.stream_merge.specs.Does.{Sends, Sent, Does}
 use Rattle.stream_merge.specs.Items.{IsWithin}
 use Rattle.stream_merge.specs.LeafMerged.{LeafMerged, AltsMerged, AltMerged}
 use Rattle.stream_merge.specs.Meets.{new_alts, alts_with, HasLeaf}
-use Rattle.stream_merge.specs.Passes.{Passes, Rests, Unless, fault_of, of_spell}
+use Rattle.stream_merge.specs.Passes.{Passes, Rests, Unless, fault_of}
 use Rattle.stream_merge.specs.Room.{WentIf}
 use Rattle.stream_merge.specs.Short.{AreShortSets, IsShortBody, IsShortTree, IsShortCall}
 use Rattle.record_copy.specs.State.{State}
 use Rattle.stream_merge.specs.View.{PlainInherited}
 use Rattle.stream_merge.specs.declared.fault.MergeFault.{MergeFault}
-use Rattle.stream_merge.specs.declared.fault.MergeFault.TheVariants.{Damage, Folder}
+use Rattle.stream_merge.specs.declared.fault.MergeFault.TheVariants.{Damage}
 use Rattle.stream_merge.proofs.Copies.{no-more, rests-behind, ended-rests}
 use Rattle.stream_merge.proofs.Handed.{at-err}
 use Rattle.stream_merge.proofs.Rooms.{went-then, went-sent, set-alone}
@@ -216,47 +211,6 @@ module _ (n : ℕ) (b : PlainKey) {found : Bool} where
   closes-new {s = s} {t = t} {u = u} {e = e} is new h g =
       subst (λ (z : Bool). Sent (alt_calls (new_alts n b z) ++ call_end_leaf ∷ []) s u e) (sym is)
       (sent-then s t u e (call_alt (Some ((n, n) ∷ [])) b ∷ []) (call_end_leaf ∷ []) (subst (λ (z : List (ℕ × ℕ)). Sent (call_alt (Some z) b ∷ []) s t None) new h) g)
-
--- ---- a body that is spelled
-
-module _ (n : ℕ) (q : List (ℕ × ℕ)) (b : PlainKey) where
-  merged-body : (x : PlainAlt) → FitsValue (merged_alt n q b x).body → FitsValue x.body
-  merged-body x = elim (is_eq (key_cmp x.body b)) as (λ (t : Bool). FitsValue (cond {A = PlainAlt} t (record { stamp = grown n x.stamp; body = x.body }) (record { stamp = kept q x.stamp; body = x.body })).body → FitsValue x.body) [
-    | true ↦ λ h. h
-    | false ↦ λ h. h
-  ]
-
-  -- where all calls fit, the body does
-  body-fits : (xs : List PlainAlt) (rest : List WriterCall) (w : PlainWriter) → AllFit w (alt_calls (merged_alts n q b xs) ++ rest) → FitsValue b
-  body-fits [] rest w h = (let fits = h.0 in fits.parts)
-  body-fits (x ∷ xs) rest w h =
-      elim (is_eq (key_cmp x.body b)) as (λ (t : Bool). is_eq (key_cmp x.body b) ≡ t → AllFit w (alt_calls (map (merged_alt n q b) (x ∷ xs) ++ cond (t || has_alt b xs) [] (record { stamp = Some ((n, n) ∷ []); body = b } ∷ [])) ++ rest) → FitsValue b) [
-        | true ↦ λ e g. (let fits = g.0 in let equal = key_cmp-is_eq x.body b in subst FitsValue (equal.0 e) (merged-body x fits.parts))
-        | false ↦ λ e g. body-fits xs rest (after w (call_alt (merged_alt n q b x).stamp (merged_alt n q b x).body)) g.1
-      ] refl h
-
--- the body was not spelled
-pub alts-unspelled : {own : PlainInherited} {b : PlainKey} {s : State} {T U : Type 0} (Q : U → Type 0) (r : Result T MergeFault) (e : SpellFault) → Spells (FitsValue b) Q (Err e) → IsErrAnd r (λ d. d ≡ of_spell e) → IsMeter s.numbers → s.cursor.at ≤ s.cursor.length
-    → AltsMerged own b s s (fault_of r)
-alts-unspelled {own = own} {b = b} {s = s} Q r e un is meter within = at-err r (of_spell e) is (λ z. AltsMerged own b s s (fault_of z)) (record {
-  appended = [];
-  passes = passes-none s (Some (of_spell e)) meter within (inside e);
-  rests = tt;
-  went = λ m file sets body. room m e un body;
-  alternatives = λ w xs next small comes below. record { made = made e un xs; follows = tt; gap = omega arith };
-})
-  where
-    inside : (e : SpellFault) → Some (of_spell e) ≢ Some Folder
-    inside spell.TooLong d = absurd cc
-    inside spell.Memory d = absurd cc
-
-    room : (m : ℕ) (e : SpellFault) → Spells (FitsValue b) Q (Err e) → IsShortBody m b → WentIf m own.number [] s.writer s.writer (Some (of_spell e))
-    room m spell.TooLong h body = absurd (h body.fits)
-    room m spell.Memory h body = tt
-
-    made : (e : SpellFault) → Spells (FitsValue b) Q (Err e) → (xs : List PlainAlt) → Made [] (alt_calls (merged_alts own.number own.before b xs) ++ call_end_leaf ∷ []) s s (Some (of_spell e))
-    made spell.TooLong h xs = λ all. h (body-fits own.number own.before b xs (call_end_leaf ∷ []) s.writer all)
-    made spell.Memory h xs = tt
 
 -- ---- a leaf, with what the version has of it
 

@@ -1,5 +1,5 @@
 -- Writing the kids that come before a label, one after the other.
-use Rattle.std.proofs.Common.{◌≡◌, ℕ, ◌<◌, ◌≤◌, List, [], ◌∷◌, ◌++◌, length, Option, Some, None, Result, IsTrue, refl, sym, ap, subst, ◌∙◌, append_assoc, arith}
+use Rattle.std.proofs.Common.{◌≡◌, ◌<◌, ◌≤◌, List, [], ◌∷◌, ◌++◌, length, Option, Some, None, Result, IsTrue, refl, sym, ap, subst, ◌∙◌, arith}
 use Rattle.std.specs.Result.{IsErrAnd}
 use Rattle.std.specs.declared.cmp.Ordering.TheVariants.{Less, Equal, Greater}
 use Rattle.std.proofs.lemmas.List.{append-nil}
@@ -11,25 +11,18 @@ use Rattle.nested_merge.specs.Merged.{fresh, below, above}
 use Rattle.nested_merge.proofs.Rows.{ascend_tail}
 use Rattle.record_cursor.specs.View.{PlainCursor}
 use Rattle.record_format.specs.Shapes.{IsShapedNode}
-use Rattle.record_parts.specs.Shapes.{FitsLabel, IsShapedLabel}
-use Rattle.record_writer.specs.Calls.{AllFit}
-use Rattle.record_writer.specs.Data.{PlainWriter, WriterCall}
+use Rattle.record_writer.specs.Data.{WriterCall}
 use Rattle.record_writer.specs.Walks.{row_calls}
-use Rattle.stream_merge.specs.Beside.{BelowPut, IsUnspelled}
-use Rattle.stream_merge.specs.Does.{Made, Sends, Sent}
-use Rattle.stream_merge.specs.First.{HaveFitLabels, SendsFirst}
+use Rattle.stream_merge.specs.Beside.{BelowPut}
+use Rattle.stream_merge.specs.Does.{Sends, Sent}
 use Rattle.stream_merge.specs.Meets.{rest_of}
-use Rattle.stream_merge.specs.Passes.{Passes, fault_of}
-use Rattle.stream_merge.specs.Room.{WentIf}
-use Rattle.stream_merge.specs.Short.{IsShortTree}
+use Rattle.stream_merge.specs.Passes.{fault_of}
 use Rattle.record_copy.specs.State.{State}
 use Rattle.stream_merge.specs.View.{PlainInherited}
 use Rattle.stream_merge.specs.declared.fault.MergeFault.{MergeFault}
-use Rattle.stream_merge.specs.declared.fault.MergeFault.TheVariants.{Damage, Folder, TooLong, Memory}
 use Rattle.stream_merge.proofs.Handed.{at-err}
-use Rattle.stream_merge.proofs.Puts.{shaped-label}
-use Rattle.stream_merge.proofs.Rooms.{went-none, went-then, went-sent, rest-calls, label-fits}
-use Rattle.stream_merge.proofs.States.{fit-append, passes-none, passes-then, sends-fault, sends-then, walks-none}
+use Rattle.stream_merge.proofs.Rooms.{went-none, went-then, went-sent, rest-calls}
+use Rattle.stream_merge.proofs.States.{passes-none, passes-then, sends-fault, sends-then, walks-none}
 use Rattle.stream_merge.proofs.Taken.{Splits, splits_none, splits_on, splits_at, splits_before}
 use Rattle.stream_merge.proofs.Weaving.{AreShapedKids}
 
@@ -58,18 +51,8 @@ module _ (h : PlainInherited) (l : PlainLabel) where
         passes = passes-then x rest.appended s t u e 0 0 0 (omega arith) a.passes rest.passes;
         same_gap = rest.same_gap ∙ a.same_gap;
         went = λ b room sets kids. went-then b h.number x rest.appended s.writer t.writer u.writer e (went-sent b h.number (kid_calls c) s t None (rest-calls b h (c ∷ []) room sets (kids.0, tt)) first) (rest.went b room sets kids.1);
-        sends = subst (λ (z : List WriterCall). SendsFirst (c ∷ cs) (x ++ rest.appended) z s u e) (sym (calls-on c cs low)) (both e rest.sends);
+        sends = subst (λ (z : List WriterCall). Sends (x ++ rest.appended) z s u e) (sym (calls-on c cs low)) (sends-then x rest.appended s t u e (kid_calls c) (low_calls cs) a rest.sends);
       }
-    where
-      both : (e : Option MergeFault) → SendsFirst cs rest.appended (low_calls cs) t u e → SendsFirst (c ∷ cs) (first.appended ++ rest.appended) (kid_calls c ++ low_calls cs) s u e
-      both None b = sends-then first.appended rest.appended s t u None (kid_calls c) (low_calls cs) first.sends b
-      both (Some f) b = λ ds fit.
-          let a = first.sends in
-          let made = a.made in
-          let assoc = append_assoc (kid_calls c) (low_calls cs) ds in
-          subst (λ (z : List WriterCall). Sends (first.appended ++ rest.appended) z s u (Some f)) (sym assoc)
-          (sends-then first.appended rest.appended s t u (Some f) (kid_calls c) (low_calls cs ++ ds) a
-          (b ds (λ all. (fit (subst (λ (z : List WriterCall). AllFit s.writer z) (sym assoc) (fit-append s.writer (kid_calls c) (low_calls cs ++ ds) made.fit (subst (λ (w : PlainWriter). AllFit w (low_calls cs ++ ds)) made.writer all)))).1)))
 
   -- the next kid could not be written
   put-fails : (c : PlainKeyed) (cs : List PlainKeyed) (s t : State) (f : MergeFault) → label_cmp l (label_of c) ≡ Greater → Sent (kid_calls c) s t (Some f) → BelowPut h l (c ∷ cs) s t (Some f)
@@ -81,38 +64,8 @@ module _ (h : PlainInherited) (l : PlainLabel) where
         passes = a.passes;
         same_gap = a.same_gap;
         went = λ b room sets kids. went-sent b h.number (kid_calls c) s t (Some f) (rest-calls b h (c ∷ []) room sets (kids.0, tt)) sent;
-        sends = λ ds fit. subst (λ (z : List WriterCall). Sends x z s t (Some f)) (sym (append_assoc (kid_calls c) (low_calls cs) ds) ∙ ap (λ (z : List WriterCall). z ++ ds) (sym (calls-on c cs low)))
-            (sends-fault x s t f (kid_calls c) (low_calls cs ++ ds) a);
+        sends = subst (λ (z : List WriterCall). Sends x z s t (Some f)) (sym (calls-on c cs low)) (sends-fault x s t f (kid_calls c) (low_calls cs) a);
       }
-
-  -- the label of the next kid was not spelled
-  put-unspelled : (c : PlainKeyed) (cs : List PlainKeyed) (s : State) (f : MergeFault) → IsUnspelled (FitsLabel (label_of c)) f → IsMeter s.numbers → s.cursor.at ≤ s.cursor.length → BelowPut h l (c ∷ cs) s s (Some f)
-  put-unspelled c cs s f un meter within =
-      record {
-        appended = [];
-        passes = passes f un;
-        same_gap = refl;
-        went = λ b room sets kids. room_left f un b kids.0;
-        sends = λ ds fit. record { passes = passes f un; made = made f un ds fit; same_cursor = refl; same_gap = refl; paid = tt };
-      }
-    where
-      passes : (f : MergeFault) → IsUnspelled (FitsLabel (label_of c)) f → Passes [] 0 s s (Some f)
-      passes TooLong un = passes-none s (Some TooLong) meter within (λ e. absurd cc)
-      passes Memory un = passes-none s (Some Memory) meter within (λ e. absurd cc)
-      passes Damage un = absurd un
-      passes Folder un = absurd un
-
-      room_left : (f : MergeFault) → IsUnspelled (FitsLabel (label_of c)) f → (b : ℕ) → IsShortTree b c → WentIf b h.number [] s.writer s.writer (Some f)
-      room_left TooLong un b short = absurd (un (label-fits b c short))
-      room_left Memory un b short = tt
-      room_left Damage un b short = tt
-      room_left Folder un b short = tt
-
-      made : (f : MergeFault) → IsUnspelled (FitsLabel (label_of c)) f → (ds : List WriterCall) → (AllFit s.writer (low_calls (c ∷ cs) ++ ds) → HaveFitLabels (c ∷ cs)) → Made [] (low_calls (c ∷ cs) ++ ds) s s (Some f)
-      made TooLong un ds fit = λ all. un (fit all).0
-      made Memory un ds fit = tt
-      made Damage un ds fit = absurd un
-      made Folder un ds fit = absurd un
 
   -- no kid comes before the label
   put-none : (cs : List PlainKeyed) (s : State) → below l cs ≡ [] → IsMeter s.numbers → s.cursor.at ≤ s.cursor.length → BelowPut h l cs s s None
@@ -156,16 +109,9 @@ module _ (h : PlainInherited) (l : PlainLabel) where
     pub puts-fail : {T : Type 0} (r : Result T MergeFault) (f : MergeFault) → IsErrAnd r (λ d. d ≡ f) → (p : PlainCursor) → p.at ≤ p.length → (u : State) → label_cmp l (label_of c) ≡ Greater → Sent (kid_calls c) (now p) u (Some f) → BelowPut h l cs (old p) u (fault_of r)
     puts-fail r f is p within u low sent = at-err r f is (λ z. BelowPut h l cs (old p) u (fault_of z)) (here.rest p within u (Some f) (put-fails c rest (now p) u f low sent))
 
-    pub puts-unspelled : {T : Type 0} (r : Result T MergeFault) (f : MergeFault) → IsErrAnd r (λ d. d ≡ f) → (p : PlainCursor) → p.at ≤ p.length → IsUnspelled (FitsLabel (label_of c)) f → IsMeter (now p).numbers → (now p).cursor ≡ p → BelowPut h l cs (old p) (now p) (fault_of r)
-    puts-unspelled r f is p within un meter same =
-        at-err r f is (λ z. BelowPut h l cs (old p) (now p) (fault_of z)) (here.rest p within (now p) (Some f) (put-unspelled c rest (now p) f un meter (subst (λ (z : PlainCursor). z.at ≤ z.length) (sym same) within)))
-
     -- the next kid is within the bounds of the format
     pub puts-shaped : IsShapedNode (fresh None c)
     puts-shaped = (let shaped = here.shaped in shaped.0)
-
-    pub puts-label : IsShapedLabel (label_of c)
-    puts-label = shaped-label c puts-shaped
 
     pub puts-fewer : length rest < length left
     puts-fewer = (let fewer = ap length is in omega (arith, fewer))

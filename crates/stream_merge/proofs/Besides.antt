@@ -1,5 +1,5 @@
 -- Beginning a node of the archive behind the kids of the version that come before it.
-use Rattle.std.proofs.Common.{◌≡◌, ◌≢◌, ℕ, ◌-◌, ◌≤◌, Bool, List, [], ◌∷◌, ◌++◌, length, Option, Some, None, Result, Ok, Err, IsTrue, refl, sym, ap, subst, ◌∙◌, append_assoc, arith}
+use Rattle.std.proofs.Common.{◌≡◌, ◌≢◌, ℕ, ◌-◌, ◌≤◌, Bool, List, [], ◌∷◌, ◌++◌, length, Option, Some, None, Result, Ok, Err, IsTrue, refl, sym, ap, subst, ◌∙◌, arith}
 use Rattle.std.specs.Option.{option_map, is_some}
 use Rattle.std.specs.Result.{OnOk, IsErrAnd}
 use Rattle.std.proofs.lemmas.List.{append-nil}
@@ -11,13 +11,12 @@ use Rattle.nested_merge.specs.Merged.{below, above}
 use Rattle.record_format.specs.Nodes.{set_in}
 use Rattle.record_format.specs.Spelling.{rec_bytes}
 use Rattle.record_parts.specs.Shapes.{FitsLabel}
-use Rattle.record_writer.specs.Calls.{after, all_appended, AllFit}
+use Rattle.record_writer.specs.Calls.{after, all_appended}
 use Rattle.record_writer.specs.Data.{PlainWriter, OpenInner, WriterCall}
 use Rattle.record_writer.specs.Walks.{row_calls}
 use Rattle.xa_outside.specs.Numbers.{IsMeter, lead}
 use Rattle.stream_merge.specs.Beside.{BelowPut, BeganBeside, IsBegun, inherited_with}
 use Rattle.stream_merge.specs.Does.{Made, Sends, Sent}
-use Rattle.stream_merge.specs.First.{SendsFirst}
 use Rattle.stream_merge.specs.Meets.{call_of, opening_of, turned, rest_of, stamp_beside, calls_beside, Begins}
 use Rattle.stream_merge.specs.Passes.{Rests, fault_of}
 use Rattle.stream_merge.specs.Short.{IsShortSet, IsShortStamp}
@@ -98,9 +97,7 @@ module _ (kind : Kind) (h : PlainInherited) (l : PlainLabel) (st : Stamp) (cs : 
         paid = tt;
         begins = tt;
         went = λ b room sets kids opens. put.went b room sets kids;
-        sends = λ small. λ ds fit. (
-            let assoc = append_assoc kids_before node_begun ds in
-            subst (λ (z : List WriterCall). Sends put.appended z s t (Some e)) (sym assoc) (put.sends (node_begun ++ ds) (λ all. fit (subst (λ (z : List WriterCall). AllFit s.writer z) (sym assoc) all))));
+        sends = λ small. sends-fault put.appended s t e kids_before node_begun put.sends;
       })
 
   -- the stamp was not made
@@ -116,7 +113,7 @@ module _ (kind : Kind) (h : PlainInherited) (l : PlainLabel) (st : Stamp) (cs : 
         paid = tt;
         begins = tt;
         went = λ b room sets kids opens. went-stop b h.number put.appended s.writer t.writer e inside.1;
-        sends = λ small. λ ds fit. record { passes = passes; made = stop-made put.appended (calls_beside kind h l st cs ++ ds) s t e inside.1 (damage small); same_cursor = first.same_cursor; same_gap = put.same_gap; paid = tt };
+        sends = λ small. record { passes = passes; made = stop-made put.appended (calls_beside kind h l st cs) s t e inside.1 (damage small); same_cursor = first.same_cursor; same_gap = put.same_gap; paid = tt };
       })
 
   -- the node was begun, or was not
@@ -143,9 +140,5 @@ module _ (kind : Kind) (h : PlainInherited) (l : PlainLabel) (st : Stamp) (cs : 
             let new : IsShortStamp c h.number stamp = subst (λ (z : Stamp). IsShortStamp c h.number z) (sym is) (turned-short c h.number h.before has st stored sets.before) in
             went-then c h.number put.appended second.appended s.writer t.writer u.writer (fault_of r) (put.went c room sets kids)
             (went-sent c h.number (call_of kind l stamp given.now ∷ []) t u (fault_of r) (call-short c h.number kind l stamp given.now (opening-label c kind l st fits opens) new set, tt) second));
-        sends = λ small. ends (fault_of r) (subst (λ (z : List WriterCall). Sends x (kids_before ++ z) s u (fault_of r)) called (sends-then put.appended second.appended s t u (fault_of r) kids_before (call_of kind l stamp given.now ∷ []) first b));
+        sends = λ small. subst (λ (z : List WriterCall). Sends x (kids_before ++ z) s u (fault_of r)) called (sends-then put.appended second.appended s t u (fault_of r) kids_before (call_of kind l stamp given.now ∷ []) first b);
       }
-    where
-      ends : (e : Option MergeFault) → Sends (put.appended ++ second.appended) (calls_beside kind h l st cs) s u e → SendsFirst cs (put.appended ++ second.appended) (calls_beside kind h l st cs) s u e
-      ends None sends = sends
-      ends (Some f) sends = λ ds fit. sends-fault (put.appended ++ second.appended) s u f (calls_beside kind h l st cs) ds sends

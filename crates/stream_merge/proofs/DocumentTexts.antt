@@ -10,7 +10,7 @@ use Rattle.key_spec.specs.Data.{PlainRule}
 use Rattle.key_spec.specs.Rules.{is_frontier, below}
 use Rattle.keyed_tree.specs.Data.{PlainName, attr, tag, PlainKey, scalar, inside, PlainKeyed, inner, leaf, PlainKids, no_kids, kid, kids_from, kids_of, label_of, name_bytes}
 use Rattle.keyed_tree.specs.Plain.{content_of, attr_before, attrs_among, item_onto, items_among, plain}
-use Rattle.keyed_tree.proofs.Lists.{any_has, all_has}
+use Rattle.jsonml_tree.proofs.Lists.{any_has, all_has}
 use Rattle.key_annotate.specs.KeyedOf.{attr_leaf, InnerKeyed, ContentKeyed, EachIsKid, IsOfItem, IsKeyedTreeOf}
 use Rattle.key_annotate.proofs.KidsOf.{label-name}
 

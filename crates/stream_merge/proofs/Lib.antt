@@ -5,7 +5,6 @@ pub mod Weights
 pub mod Weaving
 pub mod Taken
 pub mod Puts
-pub mod FitLabels
 pub mod Belows
 pub mod Alternatives
 pub mod Besides

@@ -23,14 +23,12 @@ use Rattle.record_cursor.specs.declared.item.Item.{Item}
 use Rattle.record_cursor.specs.declared.item.Item.TheVariants as item
 use Rattle.record_parts.specs.declared.views.LabelView.{LabelView}
 use Rattle.record_parts.specs.declared.views.StampView.{StampView}
-use Rattle.record_writer.specs.Calls.{AllFit}
 use Rattle.record_writer.specs.Data.{PlainWriter, WriterCall, call_end_leaf, call_end_inner}
 use Rattle.record_writer.specs.Walks.{alt_calls, row_calls}
 use Rattle.xa_outside.specs.Numbers.{IsMeter}
 use Rattle.stream_merge.specs.Beside.{BeganBeside, IsBegun}
 use Rattle.stream_merge.specs.Copied.{InsideCopied}
 use Rattle.stream_merge.specs.Does.{Sends, Sent, Does}
-use Rattle.stream_merge.specs.First.{HaveFitLabels}
 use Rattle.stream_merge.specs.Items.{IsWithin}
 use Rattle.stream_merge.specs.LeafMerged.{LeafMerged}
 use Rattle.stream_merge.specs.Meets.{opening_of, met, rest_of, kids_with, alts_with, inherited_beside, calls_beside, Begins}
@@ -44,7 +42,7 @@ use Rattle.stream_merge.specs.declared.begin.Kind.{Kind}
 use Rattle.stream_merge.specs.declared.begin.Kind.TheVariants.{Inner, Leaf}
 use Rattle.stream_merge.specs.declared.fault.MergeFault.{MergeFault}
 use Rattle.stream_merge.specs.declared.fault.MergeFault.TheVariants.{Damage}
-use Rattle.stream_merge.proofs.States.{passes-then, passes-none, passes-fault, passes-paid, gave, gave-stop, failed, does-then, does-sends, does-fault, does-stopped, takes-sends, Nexts, Stays, gave-takes, failed-does}
+use Rattle.stream_merge.proofs.States.{passes-then, passes-none, passes-fault, passes-paid, gave, gave-stop, failed, does-then, does-sends, does-fault, takes-sends, Nexts, Stays, gave-takes, failed-does}
 use Rattle.stream_merge.proofs.Copies.{no-more, rests-behind}
 use Rattle.stream_merge.proofs.CopiedRows.{end-long, closes}
 use Rattle.stream_merge.proofs.ChildCopies.{node-front, end-front, opening, behind, behind-small, node-taken, not-ended, opening-read, opening-size, opening-long, unless-closed, not-inner, not-leaf, not-closing}
@@ -64,7 +62,7 @@ child-failed h cs s t e within stays = record {
   onward = tt;
   behind = tt;
   went = λ b file sets kids. went-read b h.number [] s.writer t.writer e;
-  node_merged = λ w k next small comes below fit. (tt, λ ds labels. failed-does [] w (node_items h.before k ++ next) s t e (row_calls h.now (met h.number h.before k cs) ++ ds) next stays (node-front h.before w k next small) comes);
+  node_merged = λ w k next small comes below fit. (tt, failed-does [] w (node_items h.before k ++ next) s t e (row_calls h.now (met h.number h.before k cs)) next stays (node-front h.before w k next small) comes);
   end_taken = λ w m next small comes. (tt, failed-does [] w (end_item m ∷ next) s t e (row_calls h.now (rest_of h.number h.before cs)) next stays (end-front w m next small) comes);
 }
 
@@ -295,14 +293,10 @@ module _ (h : PlainInherited) (cs : List PlainKeyed) (l : PlainLabel) (st : Stam
       went = λ b file sets kids. began-went {B = B} b (Err f) file sets kids began;
       node_merged = λ w k next small comes below fit. (
         tt,
-        λ ds labels.
-            let begins = calls_beside kind h l st cs in
-            let called : row_calls h.now (met h.number h.before k cs) ++ ds ≡ begins ++ (inside k ++ ds) =
-            ap (λ (z : List WriterCall). z ++ ds) (node-called kind k (opened w k next small comes) fit) ∙ append_assoc begins (inside k) ds in
-            let fitted : AllFit t.writer (begins ++ (inside k ++ ds)) → HaveFitLabels cs = λ all. labels (subst (λ (z : List WriterCall). AllFit s.writer z) (sym called) (subst (λ (x : PlainWriter). AllFit x (begins ++ (inside k ++ ds))) read.writer all)) in
-            subst (λ (z : List WriterCall). Does began.appended w z next s u (Some f)) (sym called)
-            (does-stopped began.appended s u f w (begins ++ (inside k ++ ds)) (behind h.before k ++ next) next
-            (begun-does began.appended w k next (Some f) (begins ++ (inside k ++ ds)) (λ low. began.sends low (inside k ++ ds) fitted) small comes below)),
+        let begins = calls_beside kind h l st cs in
+            subst (λ (z : List WriterCall). Does began.appended w z next s u (Some f)) (sym (node-called kind k (opened w k next small comes) fit))
+            (does-fault began.appended began.appended s u f w begins (inside k) (behind h.before k ++ next) next
+            (begun-does began.appended w k next (Some f) begins began.sends small comes below)),
       );
       end_taken = λ w m next small comes. absurd (no-end w m next small comes);
     }
@@ -359,7 +353,7 @@ module _ (h : PlainInherited) (cs : List PlainKeyed) (l : PlainLabel) (st : Stam
             onward = tt;
             behind = tt;
             went = part-went (Some f) inner;
-            node_merged = λ w k next small comes below fit. (tt, λ ds labels. does-fault x x s v f w (row_calls h.now (met h.number h.before k cs)) ds next next (part-does (Some f) inner w k next small comes below fit));
+            node_merged = λ w k next small comes below fit. (tt, part-does (Some f) inner w k next small comes below fit);
             end_taken = λ w m next small comes. absurd (no-end w m next small comes);
           }
 

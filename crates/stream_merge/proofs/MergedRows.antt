@@ -16,11 +16,9 @@ use Rattle.nested_merge.specs.Merged.{above, merged_row}
 use Rattle.nested_merge.proofs.Rows.{ascend_tail, ordered_tail}
 use Rattle.record_cursor.specs.Items.{PlainItem, end_item}
 use Rattle.record_cursor.specs.Moves.{Comes}
-use Rattle.record_writer.specs.Calls.{AllFit}
 use Rattle.record_writer.specs.Data.{WriterCall}
 use Rattle.record_writer.specs.Walks.{row_calls}
 use Rattle.stream_merge.specs.Does.{Does}
-use Rattle.stream_merge.specs.First.{DoesFirst}
 use Rattle.stream_merge.specs.Items.{IsWithin}
 use Rattle.stream_merge.specs.Meets.{met}
 use Rattle.stream_merge.specs.Passes.{fault_of, unpaid}
@@ -28,9 +26,8 @@ use Rattle.stream_merge.specs.RowMerged.{RowMerged, ChildMerged}
 use Rattle.record_copy.specs.State.{State}
 use Rattle.stream_merge.specs.View.{PlainInherited}
 use Rattle.stream_merge.specs.declared.fault.MergeFault.{MergeFault}
-use Rattle.stream_merge.proofs.States.{passes-then, passes-fault, does-then, does-stopped}
+use Rattle.stream_merge.proofs.States.{passes-then, passes-fault, does-then, does-fault}
 use Rattle.stream_merge.proofs.Copies.{all-front, all-back, no-more, rests-behind}
-use Rattle.stream_merge.proofs.FitLabels.{row-labels}
 use Rattle.stream_merge.proofs.Rooms.{went-then, above-short}
 use Rattle.stream_merge.proofs.Weaving.{AreShapedKids, above_keeps, row_step, fit_step}
 use Rattle.record_cursor.specs.NodeItems.{node_items, row_items}
@@ -44,7 +41,7 @@ module _ (h : PlainInherited) (cs : List PlainKeyed) (up : IsTrue (ascend (kids_
   -- the node that comes next
   meets : (left : Result (Option Kids) MergeFault) (child : ChildMerged h cs s t left) (w : ℕ) (k : PlainNode) (ks : PlainNodes) (m : ℕ) (next : List PlainItem) → AllByRecursion (IsWithin w) (row_items h.before (node k ks) ++ end_item m ∷ [])
       → Comes s.files s.cursor (row_items h.before (node k ks) ++ end_item m ∷ next) → IsTrue (are_nodes_below h.number (node k ks)) → IsTrue (all_fit (node k ks) cs)
-      → IfOk left (λ r. option_map kids_view r ≡ Some (above (node_label k) cs)) × DoesFirst cs child.appended w (row_calls h.now (met h.number h.before k cs)) (row_items h.before ks ++ end_item m ∷ next) s t (fault_of left)
+      → IfOk left (λ r. option_map kids_view r ≡ Some (above (node_label k) cs)) × Does child.appended w (row_calls h.now (met h.number h.before k cs)) (row_items h.before ks ++ end_item m ∷ next) s t (fault_of left)
   meets left child w k ks m next small comes below fit =
       child.node_merged w k (row_items h.before ks ++ end_item m ∷ next) (all-front w (node_items h.before k) (row_items h.before ks) (all-front w (node_items h.before k ++ row_items h.before ks) (end_item m ∷ []) small))
       (subst (λ (xs : List PlainItem). Comes s.files s.cursor xs) (append_assoc (node_items h.before k) (row_items h.before ks) (end_item m ∷ next)) comes)
@@ -69,9 +66,8 @@ module _ (h : PlainInherited) (cs : List PlainKeyed) (up : IsTrue (ascend (kids_
           let calls = row_calls h.now (met h.number h.before k cs) in
           let others = row_calls h.now (merged_row h.number h.before ks (above (node_label k) cs)) in
           let step = row_step h.number h.before h.now k ks cs in
-          let labels = row-labels h.number h.before h.now (node k ks) cs up s.writer in
           subst (λ (z : List WriterCall). Does child.appended w z next s t (Some f)) (sym step)
-          (does-stopped child.appended s t f w (calls ++ others) (row_items h.before ks ++ end_item m ∷ next) next (c.1 others (λ all. labels (subst (λ (z : List WriterCall). AllFit s.writer z) (sym step) all))))
+          (does-fault child.appended child.appended s t f w calls others (row_items h.before ks ++ end_item m ∷ next) next c.1)
 
   row-more : (ks : Kids) (left : List PlainKeyed) (u : State) (e : Option MergeFault) → kids_view ks ≡ left → ChildMerged h cs s t (Ok (Some ks)) → RowMerged h left t u e → RowMerged h cs s u e
   row-more more left u e same child rest = record {

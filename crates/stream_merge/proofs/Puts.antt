@@ -1,22 +1,23 @@
 -- The calls that write what one version alone has.
-use Rattle.std.proofs.Common.{◌≡◌, ◌≢◌, ℕ, ◌≤◌, List, [], ◌∷◌, ◌++◌, Option, Some, None, Result, Err, refl, sym, ap, subst, ◌∙◌, arith}
+use Rattle.std.proofs.Common.{map, ◌≡◌, ◌≢◌, ℕ, ◌≤◌, List, [], ◌∷◌, ◌++◌, Option, Some, None, Result, refl, sym, ap, subst, ◌∙◌, arith}
 use Rattle.std.specs.Option.{unwrap_or}
 use Rattle.std.specs.Result.{OnOk, IsErrAnd}
 use Rattle.std.proofs.lemmas.List.{append-nil}
 use Rattle.xa_outside.specs.Folder.{Files}
 use Rattle.xa_outside.specs.Numbers.{Numbers, IsMeter}
-use Rattle.keyed_tree.specs.Data.{PlainKey, PlainLabel, PlainKeyed, inner, leaf, kids_from, label_of}
+use Rattle.keyed_tree.specs.Data.{PlainKey, PlainLabel, PlainKeyed, inner, leaf, kids_from}
 use Rattle.archive_tree.specs.Data.{Stamp, PlainNode, PlainNodes, no_nodes, node}
 use Rattle.nested_merge.specs.Merged.{fresh, fresh_row, fresh_onto}
 use Rattle.record_format.specs.Nodes.{set_in}
-use Rattle.keyed_parts.specs.Spells.{Spells}
-use Rattle.keyed_parts.specs.declared.fault.SpellFault.{SpellFault}
-use Rattle.keyed_parts.specs.declared.fault.SpellFault.TheVariants as spell
+use Rattle.keyed_tree.specs.LentView.{lent_val_view, shown_name}
+use Rattle.keyed_tree.specs.declared.lent.LentVal.{LentVal}
+use Rattle.keyed_tree.specs.declared.lent.NameView.{NameView}
+use Rattle.record_parts.specs.Shown.{named}
 use Rattle.record_format.specs.Shapes.{IsShapedNode, AreShapedNodes}
-use Rattle.record_parts.specs.Shapes.{FitsLabel, IsShapedLabel, IsShapedValue}
+use Rattle.record_parts.specs.Shapes.{IsShapedValue}
 use Rattle.record_cursor.specs.Places.{finished}
 use Rattle.record_cursor.specs.View.{PlainCursor}
-use Rattle.record_writer.specs.Calls.{appended, after, after_all, Fits, FitsParts}
+use Rattle.record_writer.specs.Calls.{appended, after, after_all, Fits}
 use Rattle.record_writer.specs.Data.{PlainWriter, WriterCall, call_inner, call_leaf, call_alt, call_end_inner, call_end_leaf}
 use Rattle.record_writer.specs.Faults.{TooLongUnless, Appends}
 use Rattle.record_writer.specs.View.{writer_view}
@@ -25,14 +26,12 @@ use Rattle.record_writer.specs.declared.fault.WriteFault.{WriteFault}
 use Rattle.record_writer.specs.declared.writer.Writer.{Writer}
 use Rattle.record_writer.proofs.WalkLaws.{row-walked, node-walked, between}
 use Rattle.stream_merge.specs.Does.{Sent}
-use Rattle.stream_merge.specs.Passes.{Rests, Opens, fault_of, of_spell}
+use Rattle.stream_merge.specs.Passes.{Rests, Opens, fault_of}
 use Rattle.record_copy.specs.State.{State, state}
 use Rattle.stream_merge.specs.declared.begin.Kind.{Kind}
-use Rattle.stream_merge.specs.declared.begin.Kind.TheVariants.{Inner, Leaf}
 use Rattle.stream_merge.specs.declared.fault.MergeFault.{MergeFault}
-use Rattle.stream_merge.specs.declared.fault.MergeFault.TheVariants.{TooLong}
 use Rattle.stream_merge.proofs.Handed.{sent-handed}
-use Rattle.stream_merge.proofs.States.{walks-none, passes-none, sent-then, sent-fault, sent-none, call-sends, written}
+use Rattle.stream_merge.proofs.States.{walks-none, passes-none, sent-then, sent-fault, call-sends, written}
 use Rattle.record_copy.proofs.ItemKinds.{set-is}
 use Rattle.stream_merge.specs.Meets.{call_of}
 
@@ -72,10 +71,6 @@ leaf-calls parent set s k l b e is =
     ∙ ap (λ (z : List (ℕ × ℕ)). call_leaf l s z ∷ (call_alt None b ∷ (call_end_leaf ∷ []))) same
 
 -- ---- what the calls need of a node
-
-pub shaped-label : (k : PlainKeyed) → IsShapedNode (fresh None k) → IsShapedLabel (label_of k)
-shaped-label (inner l ks) h = h.0
-shaped-label (leaf l b) h = h.0
 
 pub shaped-kids : (k : PlainKeyed) (l : PlainLabel) (cs : List PlainKeyed) → k ≡ inner l (kids_from cs) → IsShapedNode (fresh None k) → AreShapedNodes (fresh_row (kids_from cs))
 shaped-kids k l cs is h = (let parts = subst (λ (z : PlainKeyed). IsShapedNode (fresh None z)) is h in parts.2)
@@ -121,22 +116,9 @@ sent-nothing s meter within = record {
   stops = tt;
 }
 
--- what does not fit is not sent, and nothing is
-pub sent-long : (s : State) (call : WriterCall) → IsMeter s.numbers → s.cursor.at ≤ s.cursor.length → ¬ (FitsParts s.writer call) → Sent (call ∷ []) s s (Some TooLong)
-sent-long s call meter within over = record {
-  appended = [];
-  sends = record { passes = passes-none s (Some TooLong) meter within (λ e. absurd cc); made = λ fit. over fit.0.parts; same_cursor = refl; same_gap = refl; paid = tt };
-  stops = record { made = []; next = call; others = []; walk = refl; same = refl; fit = tt; over = λ fit. over fit.parts };
-}
-
--- a label or a body that was not spelled: nothing is sent
-pub unspelled : (s : State) (call : WriterCall) (e : SpellFault) → IsMeter s.numbers → s.cursor.at ≤ s.cursor.length → {V : Type 0} (P : Type 0) (Q : V → Type 0) → (FitsParts s.writer call → P) → Spells P Q (Err e) → Sent (call ∷ []) s s (Some (of_spell e))
-unspelled s call spell.TooLong meter within P Q parts over = sent-long s call meter within (λ fit. over (parts fit))
-unspelled s call spell.Memory meter within P Q parts over = sent-none s (call ∷ []) meter within
-
-pub fits-label : (kind : Kind) (l : PlainLabel) (s : Stamp) (set : List (ℕ × ℕ)) (w : PlainWriter) → FitsParts w (call_of kind l s set) → FitsLabel l
-fits-label Inner l s set w h = h
-fits-label Leaf l s set w h = h
+-- the label of a kid, given by its name and its key values
+pub label-given : (n : NameView) (ks : List LentVal) (l : PlainLabel) → shown_name n ≡ l.name → map lent_val_view ks ≡ l.keys → named n ks ≡ l
+label-given n ks l e f = λ i. record { name = e i; keys = f i }
 
 -- one call of the writer
 pub call-sent : {S : Type 0} (files : S → Option Files) (draft : S → Option (List ℕ)) (numbers : S → Numbers) (faults : S → ℕ) → ((x : S) → IsMeter (numbers x)) → (c : PlainCursor) → c.at ≤ c.length

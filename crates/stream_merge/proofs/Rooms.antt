@@ -180,13 +180,6 @@ call-short b n Leaf l s set h g f = (h, g, f)
 
 -- ---- the new version
 
-label-short : (b : ℕ) (k : PlainKeyed) → IsShortTree b k → IsShortLabel b (label_of k)
-label-short b (inner l ks) h = h.0
-label-short b (leaf l v) h = h.0
-
-pub label-fits : (b : ℕ) (k : PlainKeyed) → IsShortTree b k → FitsLabel (label_of k)
-label-fits b k h = (let l = label-short b k h in l.fits)
-
 pub kids-short : (b : ℕ) (cs : List PlainKeyed) → AreShortKids b (kids_from cs) → AllByRecursion (IsShortTree b) cs
 kids-short b [] h = tt
 kids-short b (c ∷ cs) h = (h.0, kids-short b cs h.1)

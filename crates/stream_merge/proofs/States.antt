@@ -256,10 +256,6 @@ does-sends x y s t u e w cs ds next h g = record {
 pub does-fault : (x y : List ℕ) (s t : State) (e : MergeFault) (w : ℕ) (cs ds : List WriterCall) (mid next : List PlainItem) → Does x w cs mid s t (Some e) → Does y w (cs ++ ds) next s t (Some e)
 does-fault x y s t e w cs ds mid next h = record { made = made-fault x y s t e cs ds h.made; follows = tt; gap = h.gap }
 
--- after a fault nothing is said of what comes next
-pub does-stopped : (x : List ℕ) (s t : State) (e : MergeFault) (w : ℕ) (cs : List WriterCall) (mid next : List PlainItem) → Does x w cs mid s t (Some e) → Does x w cs next s t (Some e)
-does-stopped x s t e w cs mid next h = record { made = h.made; follows = tt; gap = h.gap }
-
 -- ---- one call of the writer
 
 -- the fault of a call

@@ -7,7 +7,7 @@ use Rattle.keyed_tree.specs.Kids.{ascend, kid_at}
 use Rattle.keyed_tree.specs.Laws.{label_cmp_total, label_cmp_exact}
 use Rattle.keyed_tree.specs.Order.{label_cmp}
 use Rattle.keyed_tree.proofs.Kids.{labels_ascend}
-use Rattle.keyed_tree.proofs.Lists.{all_has, has_all}
+use Rattle.jsonml_tree.proofs.Lists.{all_has, has_all}
 use Rattle.nested_merge.specs.Merged.{below, above}
 
 -- each kid is above the label

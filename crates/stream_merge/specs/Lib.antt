@@ -8,7 +8,6 @@ pub mod Appended
 pub mod Copied
 pub mod LeafMerged
 pub mod RowMerged
-pub mod First
 pub mod Beside
 pub mod Short
 pub mod Room

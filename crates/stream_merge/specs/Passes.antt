@@ -2,8 +2,6 @@
 use Rattle.std.specs.Prelude.{◌≡◌, ℕ, ◌+◌, ◌-◌, ◌≤◌, List, ◌∷◌, ◌++◌, Bool, true, false, Option, Some, None, option_map, Result, Ok, Err, ⊤}
 use Rattle.xa_outside.specs.Causes.{Rose}
 use Rattle.xa_outside.specs.Numbers.{PullsAndDrafts, lead}
-use Rattle.keyed_parts.specs.declared.fault.SpellFault.{SpellFault}
-use Rattle.keyed_parts.specs.declared.fault.SpellFault.TheVariants as spell
 use Rattle.record_cursor.specs.declared.fault.CursorFault.{CursorFault}
 use Rattle.record_cursor.specs.declared.fault.CursorFault.TheVariants as cursor
 use Rattle.record_writer.specs.Data.{OpenInner, PlainWriter}
@@ -24,10 +22,6 @@ abbrev pub of_writer : WriteFault → MergeFault
 of_writer writer.TooLong = TooLong
 of_writer writer.Folder = Folder
 of_writer writer.Memory = Memory
-
-abbrev pub of_spell : SpellFault → MergeFault
-of_spell spell.TooLong = TooLong
-of_spell spell.Memory = Memory
 
 abbrev pub fault_of : {T : Type 0} → Result T MergeFault → Option MergeFault
 fault_of (Ok x) = None

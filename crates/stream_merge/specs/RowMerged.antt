@@ -15,7 +15,6 @@ use Rattle.record_cursor.specs.Moves.{Comes}
 use Rattle.record_writer.specs.Data.{call_end_inner}
 use Rattle.record_writer.specs.Walks.{row_calls}
 use Rattle.stream_merge.specs.Does.{Does}
-use Rattle.stream_merge.specs.First.{DoesFirst}
 use Rattle.stream_merge.specs.Items.{IsWithin}
 use Rattle.stream_merge.specs.LeafMerged.{LeafMerged}
 use Rattle.stream_merge.specs.Meets.{kids_with, met, rest_of}
@@ -54,7 +53,7 @@ pub record ChildMerged (h : PlainInherited) (cs : List PlainKeyed) (s t : State)
   pub behind : IfOk left (λ r. IfSome r (λ ks. IsAbove cs (kids_view ks)))
   pub node_merged : (w : ℕ) (k : PlainNode) (next : List PlainItem) → AllByRecursion (IsWithin w) (node_items h.before k) → Comes s.files s.cursor (node_items h.before k ++ next)
       → IsTrue (is_node_below h.number k) → IsTrue (if_there (kid_at (node_label k) cs) (λ c. fits k c))
-      → IfOk left (λ r. option_map kids_view r ≡ Some (above (node_label k) cs)) × DoesFirst cs appended w (row_calls h.now (met h.number h.before k cs)) next s t (fault_of left)
+      → IfOk left (λ r. option_map kids_view r ≡ Some (above (node_label k) cs)) × Does appended w (row_calls h.now (met h.number h.before k cs)) next s t (fault_of left)
   pub end_taken : (w : ℕ) (m : ℕ) (next : List PlainItem) → IsWithin w (end_item m) → Comes s.files s.cursor (end_item m ∷ next)
       → IfOk left (λ r. r ≡ None) × Does appended w (row_calls h.now (rest_of h.number h.before cs)) next s t (fault_of left)
 

@@ -209,8 +209,7 @@ fn append_version<F: Folder>(
         now: VersionSet::upto(alloc, number),
     };
     let mut cursor = cursor;
-    let mut spelled = Vec::new(alloc);
-    append_nodes(folder, &mut cursor, writer, &mut spelled, new, &from)
+    append_nodes(folder, &mut cursor, writer, new, &from)
 }
 
 // Appends the nodes of the archive with one more version to the draft, and what stands behind them.
@@ -218,7 +217,6 @@ fn append_nodes<F: Folder>(
     folder: &mut F,
     cursor: &mut Cursor,
     writer: Writer,
-    spelled: &mut Vec<u8>,
     new: &LentKeyed<'_, '_>,
     from: &Inherited,
 ) -> Result<(), MergeFault>
@@ -232,7 +230,7 @@ fn append_nodes<F: Folder>(
         (lent_view new.now) folder.old folder.new cursor.old writer (fault_of result) }
 {
     let mut writer = writer;
-    merge_row(folder, cursor, &mut writer, spelled, Kids::only(new), from)?;
+    merge_row(folder, cursor, &mut writer, Kids::only(new), from)?;
     writer.finish(folder)?;
     match cursor.next(folder)? {
         Item::Finish => Ok(()),

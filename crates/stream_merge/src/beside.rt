@@ -1,5 +1,5 @@
 // Beginning a node of the archive beside a row of the new version.
-ghost use Rattle.std.specs.Prelude.{◌≡◌, ◌≢◌, ◌≤◌, None, IfErr, IfOk, IsTrue};
+ghost use Rattle.std.specs.Prelude.{◌≡◌, ◌≢◌, ◌≤◌, None, IfOk, IsTrue};
 ghost use Rattle.std.specs.Option.{option_map};
 ghost use Rattle.keyed_tree.specs.Data.{kids_from, label_of};
 ghost use Rattle.keyed_tree.specs.Kids.{ascend, kid_at};
@@ -8,10 +8,9 @@ ghost use Rattle.keyed_parts.specs.View.{kid_view, kids_view};
 ghost use Rattle.nested_merge.specs.Merged.{above, fresh_row};
 ghost use Rattle.record_cursor.specs.View.{PlainCursor};
 ghost use Rattle.record_format.specs.Shapes.{AreShapedNodes};
-ghost use Rattle.record_parts.specs.Shapes.{FitsLabel, IsShapedLabel};
 ghost use Rattle.record_parts.specs.ShownViews.{shown_label, shown_stamp};
 ghost use Rattle.record_writer.specs.View.{writer_view};
-ghost use Rattle.stream_merge.specs.Beside.{BeganBeside, BelowPut, IsBegun, IsUnspelled};
+ghost use Rattle.stream_merge.specs.Beside.{BeganBeside, BelowPut, IsBegun};
 ghost use Rattle.stream_merge.specs.Passes.{fault_of};
 ghost use Rattle.record_copy.specs.State.{state};
 ghost use Rattle.stream_merge.specs.View.{inherited_view, own_view};
@@ -22,8 +21,7 @@ use crate::fresh::put_kid;
 use crate::inherited::{Inherited, Own, turned_node};
 use keyed_parts::{Kid, Kids};
 use record_format::{LabelView, StampView};
-use record_writer::Writer;
-use std::alloc::Global;
+use record_writer::{LabelFrom, Writer};
 use std::cmp::Ordering;
 use xa_outside::Folder;
 
@@ -41,7 +39,6 @@ pub(crate) struct Begun<'p, 'k, 'a, 't> {
 pub(crate) fn begin_beside<'p, 'k, 'a, 't, F: Folder>(
     folder: &mut F,
     writer: &mut Writer,
-    spelled: &mut Vec<u8>,
     kind: Kind,
     label: LabelView<'_>,
     stamp: StampView<'_>,
@@ -62,8 +59,9 @@ pub(crate) fn begin_beside<'p, 'k, 'a, 't, F: Folder>(
         (option_map kid_view b.kid) (kids_view b.rest) (own_view b.own)) }
 {
     let _spelled = label.bytes();
-    let (kid, rest) = put_below(folder, writer, spelled, &label, kids, from)?;
+    let (kid, rest) = put_below(folder, writer, &label, kids, from)?;
     let (stamp, own) = turned_node(&stamp, kid.is_some(), from)?;
+    let label = LabelFrom::Old(label);
     let began = begin_node(folder, writer, kind, label, &stamp, &own.get().now);
     drop(stamp);
     began?;
@@ -75,7 +73,6 @@ pub(crate) fn begin_beside<'p, 'k, 'a, 't, F: Folder>(
 fn put_below<'k, 'a, 't, F: Folder>(
     folder: &mut F,
     writer: &mut Writer,
-    spelled: &mut Vec<u8>,
     label: &LabelView<'_>,
     kids: Kids<'k, 'a, 't>,
     from: &Inherited,
@@ -95,8 +92,8 @@ fn put_below<'k, 'a, 't, F: Folder>(
 {
     let mut left = kids;
     while let Some((kid, rest)) = left.split_first() {
-        match place(from.alloc, spelled, label, kid)? {
-            Ordering::Greater => put_kid(folder, writer, spelled, kid, from)?,
+        match place(label, kid) {
+            Ordering::Greater => put_kid(folder, writer, kid, from)?,
             Ordering::Equal => return Ok((Some(kid), rest)),
             Ordering::Less => return Ok((None, left)),
         }
@@ -105,19 +102,9 @@ fn put_below<'k, 'a, 't, F: Folder>(
     Ok((None, left))
 }
 
-// The order of a label of the archive and that of a kid, which is spelled for it.
-fn place(
-    alloc: Global,
-    spelled: &mut Vec<u8>,
-    label: &LabelView<'_>,
-    kid: Kid<'_, '_, '_>,
-) -> Result<Ordering, MergeFault>
-    requires { IsShapedLabel (label_of (kid_view kid)) }
-    ensures order { IfOk result (λ o.
-        o ≡ label_cmp (shown_label label.entry.now) (label_of (kid_view kid.entry))) }
-    ensures fault { IfErr result (IsUnspelled (FitsLabel (label_of (kid_view kid.entry)))) }
+// The order of a label of the archive and that of a kid.
+fn place(label: &LabelView<'_>, kid: Kid<'_, '_, '_>) -> Ordering
+    ensures { result ≡ label_cmp (shown_label label.entry.now) (label_of (kid_view kid.entry)) }
 {
-    let other = kid.spell(alloc, spelled)?;
-    let order = label.compare(alloc, &other)?;
-    Ok(order)
+    label.order_lent(kid.name(), kid.keys().as_slice())
 }

@@ -19,7 +19,7 @@ use crate::fault::{MergeFault, written};
 use archive_tree::effective;
 use record_cursor::{Cursor, Item};
 use record_format::{BodyView, LabelView, StampView};
-use record_writer::{BodyFrom, Writer};
+use record_writer::{BodyFrom, LabelFrom, Writer};
 use std::alloc::Global;
 use version_set::VersionSet;
 use xa_outside::Folder;
@@ -143,7 +143,7 @@ fn copy_opening<F: Folder>(
     let _spelled = label.bytes();
     let stamp = stamp.copy(alloc)?;
     let set = effective(&stamp, parent);
-    begin_node(folder, writer, kind, label, &stamp, set)?;
+    begin_node(folder, writer, kind, LabelFrom::Old(label), &stamp, set)?;
     Ok(stamp)
 }
 

@@ -3,7 +3,6 @@ ghost use Rattle.std.specs.Prelude.{◌≡◌};
 ghost use Rattle.std.specs.Result.{result_map_both};
 ghost use Rattle.stream_merge.specs.Passes.{of_writer};
 
-use keyed_parts::SpellFault;
 use record_cursor::CursorFault;
 use record_writer::WriteFault;
 use std::alloc::AllocError;
@@ -68,19 +67,6 @@ impl From<WriteFault> for MergeFault {
             WriteFault::TooLong => MergeFault::TooLong,
             WriteFault::Folder => MergeFault::Folder,
             WriteFault::Memory => MergeFault::Memory,
-        }
-    }
-}
-
-impl From<SpellFault> for MergeFault {
-    ghost use Rattle.stream_merge.specs.Passes.{of_spell};
-
-    ghost from_gives = { λ fault e. e ≡ of_spell fault };
-
-    fn from(fault: SpellFault) -> MergeFault {
-        match fault {
-            SpellFault::TooLong => MergeFault::TooLong,
-            SpellFault::Memory => MergeFault::Memory,
         }
     }
 }

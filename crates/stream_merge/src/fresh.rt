@@ -1,7 +1,8 @@
 // Writing what begins with the new version.
 ghost use Rattle.std.specs.Prelude.{◌≡◌, ◌≢◌, ◌≤◌, ◌∷◌, [], None};
 ghost use Rattle.keyed_tree.specs.Data.{kids_from, label_of};
-ghost use Rattle.keyed_parts.specs.View.{body_view, kid_view, kids_view};
+ghost use Rattle.keyed_tree.specs.LentView.{lent_val_view};
+ghost use Rattle.keyed_parts.specs.View.{kid_view, kids_view};
 ghost use Rattle.archive_tree.specs.Data.{no_nodes};
 ghost use Rattle.archive_tree.specs.View.{stamp_view};
 ghost use Rattle.nested_merge.specs.Merged.{fresh, fresh_onto, fresh_row};
@@ -22,9 +23,9 @@ use crate::begin::{Kind, begin_node};
 use crate::fault::{MergeFault, written};
 use crate::inherited::{Inherited, started_stamp};
 use archive_tree::effective;
-use keyed_parts::{Inside, Kid, Kids, LentBody};
-use record_writer::{BodyFrom, Writer};
-use std::alloc::Global;
+use keyed_parts::{Inside, Kid, Kids};
+use keyed_tree::LentVal;
+use record_writer::{BodyFrom, LabelFrom, Writer};
 use version_set::VersionSet;
 use xa_outside::Folder;
 
@@ -32,7 +33,6 @@ use xa_outside::Folder;
 pub(crate) fn put_started<F: Folder>(
     folder: &mut F,
     writer: &mut Writer,
-    spelled: &mut Vec<u8>,
     kids: Kids<'_, '_, '_>,
     from: &Inherited,
 ) -> Result<(), MergeFault>
@@ -47,14 +47,13 @@ pub(crate) fn put_started<F: Folder>(
         (state F.files F.draft F.numbers F.faults folder.new c writer.new) (fault_of result) }
 {
     let stamp = started_stamp(from.alloc, from.number, &from.before);
-    put_kids(from.alloc, folder, writer, spelled, &stamp, &from.now, kids)
+    put_kids(folder, writer, &stamp, &from.now, kids)
 }
 
 /// Writes a kid that begins with the new version, beside a row of the archive.
 pub(crate) fn put_kid<F: Folder>(
     folder: &mut F,
     writer: &mut Writer,
-    spelled: &mut Vec<u8>,
     kid: Kid<'_, '_, '_>,
     from: &Inherited,
 ) -> Result<(), MergeFault>
@@ -69,16 +68,14 @@ pub(crate) fn put_kid<F: Folder>(
         (state F.files F.draft F.numbers F.faults folder.new c writer.new) (fault_of result) }
 {
     let stamp = started_stamp(from.alloc, from.number, &from.before);
-    put_node(from.alloc, folder, writer, spelled, &stamp, &from.now, kid)
+    put_node(folder, writer, &stamp, &from.now, kid)
 }
 
 // Writes kids of the version alone, each with this stamp, under a node that has the set.
 #[cycle(put)]
 fn put_kids<F: Folder>(
-    alloc: Global,
     folder: &mut F,
     writer: &mut Writer,
-    spelled: &mut Vec<u8>,
     stamp: &Option<VersionSet>,
     parent: &VersionSet,
     kids: Kids<'_, '_, '_>,
@@ -92,7 +89,7 @@ fn put_kids<F: Folder>(
 {
     let mut left = kids;
     while let Some((kid, rest)) = left.split_first() {
-        put_node(alloc, folder, writer, spelled, stamp, parent, kid)?;
+        put_node(folder, writer, stamp, parent, kid)?;
         left = rest;
     }
     Ok(())
@@ -101,10 +98,8 @@ fn put_kids<F: Folder>(
 /// Writes a node of the version alone with this stamp, under a parent that has the set.
 #[cycle(put)]
 pub(crate) fn put_node<F: Folder>(
-    alloc: Global,
     folder: &mut F,
     writer: &mut Writer,
-    spelled: &mut Vec<u8>,
     stamp: &Option<VersionSet>,
     parent: &VersionSet,
     kid: Kid<'_, '_, '_>,
@@ -119,13 +114,13 @@ pub(crate) fn put_node<F: Folder>(
     let set = effective(stamp, parent);
     match kid.inside() {
         Inside::Kids(kids) => {
-            put_opening(alloc, folder, writer, spelled, Kind::Inner, kid, stamp, set)?;
-            put_kids(alloc, folder, writer, spelled, &None, set, kids)?;
+            put_opening(folder, writer, Kind::Inner, kid, stamp, set)?;
+            put_kids(folder, writer, &None, set, kids)?;
             written(writer.end_inner(folder))
         }
         Inside::Body(body) => {
-            put_opening(alloc, folder, writer, spelled, Kind::Leaf, kid, stamp, set)?;
-            put_body(alloc, folder, writer, spelled, body)?;
+            put_opening(folder, writer, Kind::Leaf, kid, stamp, set)?;
+            put_body(folder, writer, body)?;
             written(writer.end_leaf(folder))
         }
     }
@@ -133,10 +128,8 @@ pub(crate) fn put_node<F: Folder>(
 
 // Begins a node of the version alone, with this stamp and effective set.
 fn put_opening<F: Folder>(
-    alloc: Global,
     folder: &mut F,
     writer: &mut Writer,
-    spelled: &mut Vec<u8>,
     kind: Kind,
     kid: Kid<'_, '_, '_>,
     stamp: &Option<VersionSet>,
@@ -150,25 +143,26 @@ fn put_opening<F: Folder>(
         (state F.files F.draft F.numbers F.faults folder.old c writer.old)
         (state F.files F.draft F.numbers F.faults folder.new c writer.new) (fault_of result) }
 {
-    let label = kid.spell(alloc, spelled)?;
+    let keys = kid.keys();
+    let label = LabelFrom::Lent {
+        name: kid.name(),
+        keys: keys.as_slice(),
+    };
     begin_node(folder, writer, kind, label, stamp, set)
 }
 
 // Writes the body of a leaf that was begun, which inherits its stamp.
 fn put_body<F: Folder>(
-    alloc: Global,
     folder: &mut F,
     writer: &mut Writer,
-    spelled: &mut Vec<u8>,
-    body: LentBody<'_, '_>,
+    body: LentVal<'_, '_>,
 ) -> Result<(), MergeFault>
     requires leaf { (writer_view writer.old).leaf ≢ None }
-    requires shaped { IsShapedValue (body_view body) }
+    requires shaped { IsShapedValue (lent_val_view body) }
     ensures sends { (c : PlainCursor) → c.at ≤ c.length → Sent
-        (call_alt None (body_view body.entry) ∷ [])
+        (call_alt None (lent_val_view body.entry) ∷ [])
         (state F.files F.draft F.numbers F.faults folder.old c writer.old)
         (state F.files F.draft F.numbers F.faults folder.new c writer.new) (fault_of result) }
 {
-    let body = body.spell(alloc, spelled)?;
-    written(writer.alt(folder, &None, BodyFrom::Old(body)))
+    written(writer.alt(folder, &None, BodyFrom::Lent(body)))
 }

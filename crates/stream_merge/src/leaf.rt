@@ -1,12 +1,12 @@
 // Merging the alternatives of a leaf.
 ghost use Rattle.std.specs.Prelude.{◌≡◌, ◌≢◌, ◌≤◌, ◌++◌, ◌∷◌, [], None, IfSome};
 ghost use Rattle.std.specs.Option.{option_map};
-ghost use Rattle.keyed_parts.specs.View.{body_view, kid_view};
+ghost use Rattle.keyed_tree.specs.LentView.{lent_val_view};
+ghost use Rattle.keyed_parts.specs.View.{kid_view};
 ghost use Rattle.nested_merge.specs.Merged.{fresh};
 ghost use Rattle.record_cursor.specs.View.{PlainCursor};
 ghost use Rattle.record_format.specs.Shapes.{IsShapedNode};
 ghost use Rattle.record_parts.specs.Shapes.{IsShapedValue};
-ghost use Rattle.record_parts.specs.ShownViews.{shown_body};
 ghost use Rattle.record_writer.specs.Data.{call_end_leaf};
 ghost use Rattle.record_writer.specs.View.{writer_view};
 ghost use Rattle.record_writer.specs.Walks.{alt_calls};
@@ -21,9 +21,9 @@ use crate::beside::Begun;
 use crate::copy::copy_alts;
 use crate::fault::{MergeFault, written};
 use crate::inherited::{Inherited, turned_stamp};
-use keyed_parts::{Inside, LentBody};
+use keyed_parts::Inside;
+use keyed_tree::LentVal;
 use record_cursor::{Cursor, Item};
-use record_format::BodyView;
 use record_writer::{BodyFrom, Writer};
 use std::alloc::Global;
 use version_set::VersionSet;
@@ -34,7 +34,6 @@ pub(crate) fn merge_leaf<F: Folder>(
     folder: &mut F,
     cursor: &mut Cursor,
     writer: &mut Writer,
-    spelled: &mut Vec<u8>,
     begun: &Begun<'_, '_, '_, '_>,
 ) -> Result<(), MergeFault>
     requires within { cursor.old.at ≤ cursor.old.length }
@@ -49,7 +48,7 @@ pub(crate) fn merge_leaf<F: Folder>(
     let own = begun.own.get();
     match begun.kid {
         Some(kid) => match kid.inside() {
-            Inside::Body(body) => merge_alts(folder, cursor, writer, spelled, body, own),
+            Inside::Body(body) => merge_alts(folder, cursor, writer, body, own),
             Inside::Kids(_) => Err(MergeFault::Damage),
         },
         None => copy_alts(own.alloc, folder, cursor, writer),
@@ -61,41 +60,20 @@ fn merge_alts<F: Folder>(
     folder: &mut F,
     cursor: &mut Cursor,
     writer: &mut Writer,
-    spelled: &mut Vec<u8>,
-    body: LentBody<'_, '_>,
+    body: LentVal<'_, '_>,
     own: &Inherited,
 ) -> Result<(), MergeFault>
     requires within { cursor.old.at ≤ cursor.old.length }
     requires leaf { (writer_view writer.old).leaf ≢ None }
     requires number { 1 ≤ (inherited_view own.now).number }
-    requires shaped { IsShapedValue (body_view body) }
-    ensures { AltsMerged (inherited_view own.entry.now) (body_view body.entry)
-        (state F.files F.draft F.numbers F.faults folder.old cursor.old writer.old)
-        (state F.files F.draft F.numbers F.faults folder.new cursor.new writer.new)
-        (fault_of result) }
-{
-    let body = body.spell(own.alloc, spelled)?;
-    merge_spelled(folder, cursor, writer, body, own)
-}
-
-// Merges the alternatives of a leaf with this body, and closes it.
-fn merge_spelled<F: Folder>(
-    folder: &mut F,
-    cursor: &mut Cursor,
-    writer: &mut Writer,
-    body: BodyView<'_>,
-    own: &Inherited,
-) -> Result<(), MergeFault>
-    requires within { cursor.old.at ≤ cursor.old.length }
-    requires leaf { (writer_view writer.old).leaf ≢ None }
-    requires number { 1 ≤ (inherited_view own.now).number }
-    ensures { AltsMerged (inherited_view own.entry.now) (shown_body body.entry)
+    requires shaped { IsShapedValue (lent_val_view body) }
+    ensures { AltsMerged (inherited_view own.entry.now) (lent_val_view body.entry)
         (state F.files F.draft F.numbers F.faults folder.old cursor.old writer.old)
         (state F.files F.draft F.numbers F.faults folder.new cursor.new writer.new)
         (fault_of result) }
 {
     let mut found = false;
-    while let Some(same) = merge_alt(folder, cursor, writer, &body, own)? {
+    while let Some(same) = merge_alt(folder, cursor, writer, body, own)? {
         found = found || same;
     }
     close_leaf(own.alloc, folder, writer, body, own.number, found)
@@ -106,14 +84,15 @@ fn close_leaf<F: Folder>(
     alloc: Global,
     folder: &mut F,
     writer: &mut Writer,
-    body: BodyView<'_>,
+    body: LentVal<'_, '_>,
     number: u32,
     found: bool,
 ) -> Result<(), MergeFault>
     requires leaf { (writer_view writer.old).leaf ≢ None }
     requires number { 1 ≤ number }
+    requires shaped { IsShapedValue (lent_val_view body) }
     ensures sends { (c : PlainCursor) → c.at ≤ c.length → Sent
-        (alt_calls (new_alts number (shown_body body.entry) found) ++ call_end_leaf ∷ [])
+        (alt_calls (new_alts number (lent_val_view body.entry) found) ++ call_end_leaf ∷ [])
         (state F.files F.draft F.numbers F.faults folder.old c writer.old)
         (state F.files F.draft F.numbers F.faults folder.new c writer.new) (fault_of result) }
 {
@@ -122,7 +101,7 @@ fn close_leaf<F: Folder>(
     }
     let begun = {
         let stamp = Some(VersionSet::single(alloc, number));
-        writer.alt(folder, &stamp, BodyFrom::Old(body))
+        writer.alt(folder, &stamp, BodyFrom::Lent(body))
     };
     begun?;
     written(writer.end_leaf(folder))
@@ -133,12 +112,12 @@ fn merge_alt<F: Folder>(
     folder: &mut F,
     cursor: &mut Cursor,
     writer: &mut Writer,
-    body: &BodyView<'_>,
+    body: LentVal<'_, '_>,
     own: &Inherited,
 ) -> Result<Option<bool>, MergeFault>
     requires within { cursor.old.at ≤ cursor.old.length }
     requires leaf { (writer_view writer.old).leaf ≢ None }
-    ensures { AltMerged (inherited_view own.entry.now) (shown_body body.entry.now)
+    ensures { AltMerged (inherited_view own.entry.now) (lent_val_view body.entry)
         (state F.files F.draft F.numbers F.faults folder.old cursor.old writer.old)
         (state F.files F.draft F.numbers F.faults folder.new cursor.new writer.new)
         result }
@@ -146,7 +125,7 @@ fn merge_alt<F: Folder>(
     match cursor.next(folder)? {
         Item::Alt { stamp, body: old } => {
             let _spelled = old.bytes();
-            let same = old.same_as(body);
+            let same = old.same_lent(body);
             let written = {
                 let stamp = turned_stamp(&stamp, same, own)?;
                 writer.alt(folder, &stamp, BodyFrom::Old(old))

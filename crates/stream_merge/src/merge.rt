@@ -31,7 +31,6 @@ pub(crate) fn merge_row<F: Folder>(
     folder: &mut F,
     cursor: &mut Cursor,
     writer: &mut Writer,
-    spelled: &mut Vec<u8>,
     kids: Kids<'_, '_, '_>,
     from: &Inherited,
 ) -> Result<(), MergeFault>
@@ -47,7 +46,7 @@ pub(crate) fn merge_row<F: Folder>(
         (fault_of result) }
 {
     let mut left = kids;
-    while let Some(rest) = merge_child(folder, cursor, writer, spelled, left, from)? {
+    while let Some(rest) = merge_child(folder, cursor, writer, left, from)? {
         left = rest;
     }
     Ok(())
@@ -60,7 +59,6 @@ fn merge_child<'k, 'a, 't, F: Folder>(
     folder: &mut F,
     cursor: &mut Cursor,
     writer: &mut Writer,
-    spelled: &mut Vec<u8>,
     kids: Kids<'k, 'a, 't>,
     from: &Inherited,
 ) -> Result<Option<Kids<'k, 'a, 't>>, MergeFault>
@@ -79,14 +77,14 @@ fn merge_child<'k, 'a, 't, F: Folder>(
         Item::Inner { label, stamp } => (Kind::Inner, label, stamp),
         Item::Leaf { label, stamp } => (Kind::Leaf, label, stamp),
         Item::End { .. } => {
-            put_started(folder, writer, spelled, kids, from)?;
+            put_started(folder, writer, kids, from)?;
             return Ok(None);
         }
         _ => return Err(MergeFault::Damage),
     };
-    let begun = begin_beside(folder, writer, spelled, kind, label, stamp, kids, from)?;
+    let begun = begin_beside(folder, writer, kind, label, stamp, kids, from)?;
     let rest = begun.rest;
-    let merged = merge_begun(folder, cursor, writer, spelled, kind, &begun);
+    let merged = merge_begun(folder, cursor, writer, kind, &begun);
     drop(begun);
     merged?;
     Ok(Some(rest))
@@ -98,7 +96,6 @@ fn merge_begun<F: Folder>(
     folder: &mut F,
     cursor: &mut Cursor,
     writer: &mut Writer,
-    spelled: &mut Vec<u8>,
     kind: Kind,
     begun: &Begun<'_, '_, '_, '_>,
 ) -> Result<(), MergeFault>
@@ -116,8 +113,8 @@ fn merge_begun<F: Folder>(
         (fault_of result) }
 {
     match kind {
-        Kind::Inner => merge_inner(folder, cursor, writer, spelled, begun),
-        Kind::Leaf => merge_leaf(folder, cursor, writer, spelled, begun),
+        Kind::Inner => merge_inner(folder, cursor, writer, begun),
+        Kind::Leaf => merge_leaf(folder, cursor, writer, begun),
     }
 }
 
@@ -127,7 +124,6 @@ fn merge_inner<F: Folder>(
     folder: &mut F,
     cursor: &mut Cursor,
     writer: &mut Writer,
-    spelled: &mut Vec<u8>,
     begun: &Begun<'_, '_, '_, '_>,
 ) -> Result<(), MergeFault>
     requires within { cursor.old.at ≤ cursor.old.length }
@@ -148,7 +144,7 @@ fn merge_inner<F: Folder>(
     match begun.kid {
         Some(kid) => match kid.inside() {
             Inside::Kids(kids) => {
-                merge_row(folder, cursor, writer, spelled, kids, own)?;
+                merge_row(folder, cursor, writer, kids, own)?;
                 written(writer.end_inner(folder))
             }
             Inside::Body(_) => Err(MergeFault::Damage),

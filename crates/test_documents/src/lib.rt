@@ -7,3 +7,5 @@ mod samples;
 mod texts;
 #[cfg(test)]
 mod trees;
+#[cfg(test)]
+mod wide;

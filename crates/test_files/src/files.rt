@@ -1,10 +1,10 @@
 // Parts of known files.
 use crate::damaged_files::written_again;
-use archive_file::decode_file;
+use archive_file::{FileFault, decode_file, fixed_of, header_of};
 use archive_tree::{ANode, Alt, Archive};
 use given_parts::bytes::{COMPANY, TINY};
 use key_spec::Spec;
-use record_format::{RecFault, take_fixed, take_frame, take_header};
+use record_format::take_frame;
 use std::alloc::{AllocError, Global};
 
 /// The kinds and the sizes of the company's records.
@@ -122,9 +122,9 @@ fn is_text(alloc: Global, spec: &Spec, text: &str) -> bool {
 
 /// Whether the bytes begin with the header of this specification and so many versions.
 fn is_header(alloc: Global, bytes: &[u8], text: &str, n: u32) -> bool {
-    match take_header(alloc, bytes) {
-        Ok((spec, versions, _)) => {
-            is_text(alloc, &spec, text) && versions == n && take_fixed(bytes) == Some(n)
+    match header_of(alloc, bytes) {
+        Ok((spec, versions)) => {
+            is_text(alloc, &spec, text) && versions == n && fixed_of(bytes) == Some(n)
         }
         Err(_) => false,
     }
@@ -134,6 +134,6 @@ fn is_header(alloc: Global, bytes: &[u8], text: &str, n: u32) -> bool {
 fn headers_stand_at_the_front(rt: HostRuntime) {
     assert!(rt; is_header(rt.alloc(), TINY, "(/, (db, {}))\n", 1));
     let front = &TINY[..27];
-    let is_damage = matches!(take_header(rt.alloc(), front), Err(RecFault::Damage));
-    assert!(rt; is_damage && take_fixed(front).is_none());
+    let is_damage = matches!(header_of(rt.alloc(), front), Err(FileFault::Damage));
+    assert!(rt; is_damage && fixed_of(front).is_none());
 }

@@ -15,6 +15,9 @@ const ROWS: &[u8] = b"(/, (db, {}))\n(/db, (row, {id}))\n(/db/row, (name, {}))\n
 
 const ROWS_BY_ATTRIBUTE: &[u8] = b"(/, (db, {}))\n(/db, (row, {@id}))\n(/db/row, (name, {}))\n";
 
+const MIXED: &[u8] =
+    b"(/, (db, {}))\n(/db, (a, {}))\n(/db, (c, {}))\n(/db, (m, {.}))\n(/db, (r, {k}))\n(/db, (z, {}))\n";
+
 const IN_KEY_ORDER: &[u8] =
     br#"["db",["dept",["emp",["fn","John"],["ln","Doe"],["sal","90K"],["tel","123-4567"]],["name","finance"]]]"#;
 
@@ -51,6 +54,12 @@ const SPELLED: &[(&str, &[u8], &[u8], &[u8])] = &[
         br#"["db",["row",["id",""]],["row",["id","a"],["name","b"]],["row",["id","a\u0000"]],["row",["id","a key that is long 1"]],["row",["id","a key that is long 2"],["name","e"]]]"#,
     ),
     (
+        "elements with and without key values stand in the order of their tags",
+        MIXED,
+        br#"["db",{"a":1},["z","1"],["m","b"],["a",["i"]],["m",{"x":1},"a"],["c","2"],["r",["k","2"]],["r",["k","1"]]]"#,
+        br#"["db",{"a":1},["a",["i"]],["c","2"],["m","b"],["m",{"x":1},"a"],["r",["k","1"]],["r",["k","2"]],["z","1"]]"#,
+    ),
+    (
         "an attribute of a row of leaves comes back",
         ROWS_BY_ATTRIBUTE,
         br#"["db",["row",{"id":1},["name","e"]],["row",{"id":2,"x":true},["name","f"]]]"#,
@@ -73,9 +82,9 @@ fn keyed_trees_spell_documents(rt: HostRuntime) -> Result<(), Fail> {
     Ok(())
 }
 
-fn has_no_leaves(tree: &LentKeyed<'_, '_>) -> bool {
+fn has_no_kids(tree: &LentKeyed<'_, '_>) -> bool {
     match tree {
-        LentKeyed::Flat { leaves, .. } => leaves.is_empty(),
+        LentKeyed::Inner { kids, .. } => kids.is_empty(),
         _ => false,
     }
 }
@@ -86,7 +95,7 @@ fn is_blank_dropped(alloc: Global, spec: &Spec) -> bool {
         text: CowStr::Borrowed(" "),
     };
     match lent_keyed(alloc, spec, &doc) {
-        Ok(tree) => has_no_leaves(&tree),
+        Ok(tree) => has_no_kids(&tree),
         Err(_) => false,
     }
 }

@@ -6,7 +6,7 @@ use crate::reading::{COMPANY, NESTED, Named, label, labels};
 use given_outside::texts;
 use given_parts::documents::{lend, parse, read};
 use given_parts::told;
-use jsonml_tree::{LentTree, Tree};
+use jsonml_tree::{LentContent, LentTree, Tree};
 use key_annotate::{AnnotateFault, keyed};
 use key_rules::{
     KeyFault, LabelFault, PathFault, first_fault, first_lent_fault, label_of, lent_label, read_path,
@@ -14,7 +14,6 @@ use key_rules::{
 use key_spec::{KeyPath, Spec};
 use keyed_tree::{Keyed, Label};
 use std::alloc::{AllocError, Global};
-use std::borrow::CowStr;
 use std::cmp::Ordering;
 use std::test::Fail;
 
@@ -252,8 +251,8 @@ fn is_label(
 ) -> bool {
     match (found, wanted) {
         (Ok(found), Ok(named)) => is_named(alloc, found, named),
-        (Err(LabelFault::Missing { path }), Err(wanted)) => path == wanted,
-        (Err(LabelFault::Unkeyed), Err(wanted)) => *wanted == 0,
+        (Err(fault), Err(0)) => *fault == LabelFault::Unkeyed,
+        (Err(fault), Err(path)) => *fault == LabelFault::Missing { path: *path },
         _ => false,
     }
 }
@@ -394,7 +393,7 @@ fn is_path(
 ) -> bool {
     match (found, wanted) {
         (Ok(found), Ok(named)) => are_labels(alloc, found, named),
-        (Err(PathFault::Bad { step }), Err(wanted)) => step == wanted,
+        (Err(fault), Err(step)) => *fault == PathFault::Bad { step: *step },
         _ => false,
     }
 }
@@ -419,21 +418,12 @@ fn paths_have_their_labels_or_a_bad_step(rt: HostRuntime) -> Result<(), Fail> {
     Ok(())
 }
 
-/// A leaf of this tag and text.
-fn leaf<'a>(tag: &'a str, text: &'a str) -> LentTree<'a> {
-    LentTree::Leaf {
-        tag: CowStr::Borrowed(tag),
-        text: CowStr::Borrowed(text),
-    }
-}
-
-/// How the labels of two leaves are ordered, if they have labels.
+/// How the labels of two elements that hold these texts are ordered, if they have labels.
 fn order_by(alloc: Global, spec: &Spec, one: &str, other: &str) -> Option<Ordering> {
-    let (one, other) = (leaf("p", one), leaf("p", other));
-    let first = lent_label(alloc, spec, &[], &one);
-    let second = lent_label(alloc, spec, &[], &other);
+    let first = lent_label(alloc, spec.root(), "p", LentContent::Text(one));
+    let second = lent_label(alloc, spec.root(), "p", LentContent::Text(other));
     match (&first, &second) {
-        (Ok(Some(first)), Ok(Some(second))) => Some(first.order(second)),
+        (Ok(Some((first, _))), Ok(Some((second, _)))) => Some(first.order(second)),
         _ => None,
     }
 }

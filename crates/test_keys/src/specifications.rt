@@ -3,7 +3,7 @@ use given_outside::texts;
 use given_parts::bytes::{Pieces, joined};
 use given_parts::documents::parse;
 use given_parts::told;
-use key_spec::{KeyPath, Spec, SpecFault};
+use key_spec::{Context, KeyPath, Spec, SpecFault};
 use std::alloc::{AllocError, Global};
 use std::test::Fail;
 
@@ -231,6 +231,110 @@ fn rules_are_found_by_context_and_tag(rt: HostRuntime) -> Result<(), Fail> {
     }
 }
 
+/// What is shown, tags on the way down from the root, and whether the frontier is there, if all have rules.
+type Walk = (&'static str, &'static [&'static str], Option<bool>);
+
+const WALKS: &[Walk] = &[
+    ("the root", &[], Some(false)),
+    ("no rule below the root", &["dept"], None),
+    ("the root element", &["db"], Some(false)),
+    ("a tag that has a rule elsewhere", &["db", "emp"], None),
+    ("an inner element", &["db", "dept", "emp"], Some(false)),
+    ("an implied rule", &["db", "dept", "name"], Some(true)),
+    ("below the frontier", &["db", "dept", "name", "name"], None),
+    (
+        "another implied rule",
+        &["db", "dept", "emp", "ln"],
+        Some(true),
+    ),
+    ("the last rule", &["db", "dept", "emp", "tel"], Some(true)),
+];
+
+/// Whether the frontier is where the tags lead.
+fn frontier_below(context: Context<'_>, tags: &[&str]) -> Option<bool> {
+    let mut place = context;
+    for tag in tags {
+        let (_, inside) = place.rule(tag)?;
+        place = inside;
+    }
+    Some(place.is_frontier())
+}
+
+fn are_walks(spec: &Spec, walks: &[Walk]) -> Result<(), Fail> {
+    for (name, tags, wanted) in walks {
+        told(frontier_below(spec.root(), tags) == *wanted, name)?;
+    }
+    Ok(())
+}
+
+#[test]
+fn a_walk_goes_down_the_rules(rt: HostRuntime) -> Result<(), Fail> {
+    match parse(rt.alloc(), COMPANY) {
+        Some(spec) => are_walks(&spec, WALKS),
+        None => Err(Fail::new("no specification")),
+    }
+}
+
+/// A rule, a hundred rules below it, and one below the 78th.
+fn with_many(alloc: Global) -> Result<String, AllocError> {
+    let mut text = String::from_str(alloc, "(/, (r, {}))\n(/r/t77, (u, {}))\n")?;
+    for i in 0..100 {
+        text.push_str(format!(in alloc; "(/r, (t{i}, {{}}))\n")?.as_str())?;
+    }
+    Ok(text)
+}
+
+const MANY_WALKS: &[Walk] = &[
+    ("the first of many", &["r", "t0"], Some(true)),
+    ("one of many", &["r", "t78"], Some(true)),
+    ("one with a rule below it", &["r", "t77"], Some(false)),
+    ("the rule below it", &["r", "t77", "u"], Some(true)),
+    ("that rule below another", &["r", "t78", "u"], None),
+    ("the last of many", &["r", "t99"], Some(true)),
+    ("behind the last", &["r", "t999"], None),
+];
+
+#[test]
+fn a_walk_finds_one_of_many_rules(rt: HostRuntime) -> Result<(), Fail> {
+    let Ok(text) = with_many(rt.alloc()) else {
+        return Err(Fail::new("no memory"));
+    };
+    match parse(rt.alloc(), text.as_bytes()) {
+        Some(spec) => are_walks(&spec, MANY_WALKS),
+        None => Err(Fail::new("no specification")),
+    }
+}
+
+/// Three rules, one below the other, of which the second has a name of 200,000 bytes.
+const LONG_NAME: Pieces = &[
+    (b"(/, (r, {}))\n(/r, (", 1),
+    (LETTERS, 20_000),
+    (b", {}))\n(/r/", 1),
+    (LETTERS, 20_000),
+    (b", (u, {}))\n", 1),
+];
+
+fn is_long_walk(alloc: Global, spec: &Spec) -> bool {
+    match joined(alloc, &[(LETTERS, 20_000)]) {
+        Ok(bytes) => match str::from_utf8(&bytes) {
+            Ok(name) => frontier_below(spec.root(), &["r", name, "u"]) == Some(true),
+            Err(_) => false,
+        },
+        Err(_) => false,
+    }
+}
+
+#[test]
+fn a_walk_goes_past_a_long_name(rt: HostRuntime) -> Result<(), Fail> {
+    let Ok(text) = joined(rt.alloc(), LONG_NAME) else {
+        return Err(Fail::new("no memory"));
+    };
+    match parse(rt.alloc(), &text) {
+        Some(spec) => told(is_long_walk(rt.alloc(), &spec), "a long name"),
+        None => Err(Fail::new("no specification")),
+    }
+}
+
 fn key_path(alloc: Global, tags: &[&str], attr: &str) -> Result<KeyPath, AllocError> {
     let attr = Some(String::from_str(alloc, attr)?);
     let tags = texts(alloc, tags)?;
@@ -247,4 +351,13 @@ fn is_path_text(alloc: Global, tags: &[&str], attr: &str, text: &str) -> bool {
 #[test]
 fn key_paths_are_written_as_they_are_read(rt: HostRuntime) {
     assert!(rt; is_path_text(rt.alloc(), &["a", "b"], "c", "a/b/@c"));
+}
+
+#[test]
+fn faults_of_the_same_numbers_are_equal(rt: HostRuntime) {
+    let fault = SpecFault::Bad { line: 3, why: 1 };
+    assert!(rt; fault == SpecFault::Bad { line: 3, why: 1 });
+    assert!(rt; fault != SpecFault::Bad { line: 3, why: 2 });
+    assert!(rt; fault != SpecFault::Bad { line: 1, why: 1 });
+    assert!(rt; fault != SpecFault::Memory);
 }

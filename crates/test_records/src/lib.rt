@@ -4,4 +4,6 @@
 #[cfg(test)]
 mod damaged_records;
 #[cfg(test)]
+mod lent_labels;
+#[cfg(test)]
 mod records;

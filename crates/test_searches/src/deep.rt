@@ -3,7 +3,7 @@ use crate::files::{ONE, folder};
 use crate::gets::written;
 use crate::histories::{history_of, label};
 use file_get::GetFault;
-use file_history::HistoryFault;
+use file_history::HistFault;
 use keyed_tree::Label;
 use std::alloc::Global;
 use std::test::Fail;
@@ -81,7 +81,7 @@ fn is_found(alloc: Global, depth: u32, wanted: bool) -> bool {
     match path(alloc, depth.saturating_add(1)) {
         Some(path) => match history_of(alloc, &mut folder, file.len() as u64, &path) {
             Ok(set) => wanted && set.pairs() == [(1, 1)].as_slice(),
-            Err(fault) => !wanted && fault == HistoryFault::Damage,
+            Err(fault) => !wanted && fault == HistFault::Damage,
         },
         None => false,
     }

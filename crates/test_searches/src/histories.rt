@@ -2,7 +2,7 @@
 ghost use Rattle.std.specs.Prelude.{◌≡◌, ◌<◌};
 
 use crate::files::{NAME, ONE, SIX, changed, folder};
-use file_history::{HistoryFault, history};
+use file_history::{HistFault, history};
 use given_archives::{Size, documents_of, keys_of, lent};
 use given_parts::bytes::NO_VERSIONS;
 use given_parts::told;
@@ -23,7 +23,7 @@ fn counted<L: Ledger>(
     folder: &mut MemFolder,
     size: u64,
     path: &[Label],
-) -> Result<VersionSet, HistoryFault>
+) -> Result<VersionSet, HistFault>
     requires name { blank.name ≡ L.name }
     requires parts { blank.parts ≡ L.parts }
     requires some { 0 < blank.parts }
@@ -31,7 +31,7 @@ fn counted<L: Ledger>(
     let mut steps: Steps<L> = Steps::new(blank);
     match read_header(alloc, folder, NAME, size) {
         Ok(header) => history(alloc, folder, NAME, &header, path, &mut steps),
-        Err(fault) => Err(HistoryFault::from(fault)),
+        Err(fault) => Err(HistFault::from(fault)),
     }
 }
 
@@ -41,7 +41,7 @@ pub(crate) fn history_of(
     folder: &mut MemFolder,
     size: u64,
     path: &[Label],
-) -> Result<VersionSet, HistoryFault> {
+) -> Result<VersionSet, HistFault> {
     counted::<Brand>(Blank::new(1), alloc, folder, size, path)
 }
 
@@ -152,7 +152,7 @@ fn a_history_is_told_in_a_great_row(rt: HostRuntime) {
 }
 
 /// Whether the history of `db` is refused so, where a read of this number fails.
-fn is_refused(alloc: Global, file: &[u8], wanted: HistoryFault, read: u64) -> bool {
+fn is_refused(alloc: Global, file: &[u8], wanted: HistFault, read: u64) -> bool {
     let Some(mut folder) = folder(alloc, file, read) else {
         return false;
     };
@@ -168,7 +168,7 @@ fn is_refused(alloc: Global, file: &[u8], wanted: HistoryFault, read: u64) -> bo
 #[test]
 fn a_read_that_fails_is_no_damage(rt: HostRuntime) -> Result<(), Fail> {
     let alloc = rt.alloc();
-    let failed = HistoryFault::Folder;
+    let failed = HistFault::Folder;
     told(is_refused(alloc, ONE, failed, 1), "the header")?;
     told(is_refused(alloc, ONE, failed, 3), "the tail")?;
     told(is_refused(alloc, ONE, failed, 6), "a record")
@@ -200,7 +200,7 @@ const DAMAGED: &[(&str, usize, &[u8])] = &[
 /// Whether the history is refused in the file with other bytes there.
 fn is_damaged(alloc: Global, file: &[u8], at: usize, bytes: &[u8]) -> bool {
     match changed(alloc, file, at, bytes) {
-        Some(file) => is_refused(alloc, &file, HistoryFault::Damage, 0),
+        Some(file) => is_refused(alloc, &file, HistFault::Damage, 0),
         None => false,
     }
 }

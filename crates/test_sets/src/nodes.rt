@@ -26,7 +26,6 @@ fn counted<L: Ledger>(
     folder: &mut MemFolder,
     at: u64,
     limit: u64,
-    most: u32,
 ) -> Result<Node, NodeFault>
     requires name { blank.name ≡ L.name }
     requires parts { blank.parts ≡ L.parts }
@@ -34,20 +33,14 @@ fn counted<L: Ledger>(
     requires limit { at ≤ limit }
 {
     let mut steps: Steps<L> = Steps::new(blank);
-    node_at(alloc, folder, "tree", at, limit, most, &mut steps)
+    node_at(alloc, folder, "tree", at, limit, &mut steps)
 }
 
 /// The node at the offset.
-fn found(
-    alloc: Global,
-    folder: &mut MemFolder,
-    at: u64,
-    limit: u64,
-    most: u32,
-) -> Result<Node, NodeFault>
+fn found(alloc: Global, folder: &mut MemFolder, at: u64, limit: u64) -> Result<Node, NodeFault>
     requires { at ≤ limit }
 {
-    counted::<Brand>(Blank::new(1), alloc, folder, at, limit, most)
+    counted::<Brand>(Blank::new(1), alloc, folder, at, limit)
 }
 
 /// Whether it is the node with these intervals, this size of the left part and this size.
@@ -69,11 +62,11 @@ fn is_damage(found: &Result<Node, NodeFault>) -> bool {
 fn nodes_stand_one_behind_another(rt: HostRuntime) -> Result<(), Fail> {
     let alloc = rt.alloc();
     let mut folder = folder(alloc, 9)?;
-    let root = found(alloc, &mut folder, 0, 324, 5);
+    let root = found(alloc, &mut folder, 0, 324);
     assert!(rt; is_node(&root, &[(1, 5)], 164, 20));
-    let left = found(alloc, &mut folder, 20, 48, 5);
+    let left = found(alloc, &mut folder, 20, 48);
     assert!(rt; is_node(&left, &[(1, 2), (5, 5)], 60, 28));
-    let last = found(alloc, &mut folder, 304, 324, 5);
+    let last = found(alloc, &mut folder, 304, 324);
     assert!(rt; is_node(&last, &[(4, 4)], 0, 20));
     assert!(rt; folder.pulled() == 68);
     Ok(())
@@ -85,6 +78,7 @@ fn asked<L: Ledger>(
     folder: &mut MemFolder,
     at: u64,
     limit: u64,
+    most: u32,
     number: u32,
 ) -> Result<Probe, NodeFault>
     requires name { blank.name ≡ L.name }
@@ -93,20 +87,22 @@ fn asked<L: Ledger>(
     requires limit { at ≤ limit }
 {
     let mut steps: Steps<L> = Steps::new(blank);
-    probe_at(alloc, folder, "tree", at, limit, 5, number, &mut steps)
+    probe_at(alloc, folder, "tree", at, limit, most, number, &mut steps)
 }
 
-/// Whether the node at the offset has a number, the size of its left part, and its size.
+/// Whether the node at the offset, of a set of numbers up to `most`, has a number, the size of its
+/// left part, and its size.
 fn said(
     alloc: Global,
     folder: &mut MemFolder,
     at: u64,
     limit: u64,
+    most: u32,
     number: u32,
 ) -> Option<(bool, u64, u64)>
     requires { at ≤ limit }
 {
-    match asked::<Brand>(Blank::new(1), alloc, folder, at, limit, number) {
+    match asked::<Brand>(Blank::new(1), alloc, folder, at, limit, most, number) {
         Ok(probe) => Some((probe.has, probe.left, probe.size)),
         Err(_) => None,
     }
@@ -116,11 +112,12 @@ fn said(
 fn nodes_are_asked_for_a_number(rt: HostRuntime) -> Result<(), Fail> {
     let alloc = rt.alloc();
     let mut folder = folder(alloc, 9)?;
-    assert!(rt; said(alloc, &mut folder, 0, 324, 5) == Some((true, 164, 20)));
-    assert!(rt; said(alloc, &mut folder, 20, 48, 4) == Some((false, 60, 28)));
+    assert!(rt; said(alloc, &mut folder, 0, 324, 5, 5) == Some((true, 164, 20)));
+    assert!(rt; said(alloc, &mut folder, 20, 48, 5, 4) == Some((false, 60, 28)));
     assert!(rt; folder.pulled() == 48);
-    assert!(rt; said(alloc, &mut folder, 0, 19, 5).is_none());
+    assert!(rt; said(alloc, &mut folder, 0, 19, 5, 5).is_none());
     assert!(rt; folder.pulled() == 48);
+    assert!(rt; said(alloc, &mut folder, 0, 324, 4, 1).is_none());
     Ok(())
 }
 
@@ -128,15 +125,13 @@ fn nodes_are_asked_for_a_number(rt: HostRuntime) -> Result<(), Fail> {
 fn no_node_ends_past_its_limit(rt: HostRuntime) -> Result<(), Fail> {
     let alloc = rt.alloc();
     let mut folder = folder(alloc, 9)?;
-    let short = found(alloc, &mut folder, 0, 19, 5);
+    let short = found(alloc, &mut folder, 0, 19);
     assert!(rt; is_damage(&short));
     assert!(rt; folder.pulled() == 4);
-    let none = found(alloc, &mut folder, 0, 11, 5);
+    let none = found(alloc, &mut folder, 0, 11);
     assert!(rt; is_damage(&none));
-    let past = found(alloc, &mut folder, 320, 340, 5);
+    let past = found(alloc, &mut folder, 320, 340);
     assert!(rt; is_damage(&past));
-    let great = found(alloc, &mut folder, 0, 324, 4);
-    assert!(rt; is_damage(&great));
     Ok(())
 }
 
@@ -144,7 +139,7 @@ fn no_node_ends_past_its_limit(rt: HostRuntime) -> Result<(), Fail> {
 fn a_read_that_fails_is_no_damage(rt: HostRuntime) -> Result<(), Fail> {
     let alloc = rt.alloc();
     let mut folder = folder(alloc, 2)?;
-    let failed = found(alloc, &mut folder, 0, 324, 5);
+    let failed = found(alloc, &mut folder, 0, 324);
     assert!(rt; matches!(&failed, Err(NodeFault::Folder)));
     assert!(rt; folder.pulled() == 4);
     Ok(())

@@ -48,13 +48,24 @@ fn tree_over(alloc: Global, sets: &[&VersionSet]) -> Option<TsTree> {
     if sets.is_empty() || sets.len() > 5000 {
         return None;
     }
+    match TsTree::over(alloc, sets) {
+        Ok(tree) => Some(tree),
+        Err(_) => None,
+    }
+}
+
+/// The tree over these sets, at least one and at most five thousand.
+fn tree_of(alloc: Global, sets: &[VersionSet]) -> Option<TsTree> {
+    if sets.is_empty() || sets.len() > 5000 {
+        return None;
+    }
     match TsTree::of(alloc, sets) {
         Ok(tree) => Some(tree),
         Err(_) => None,
     }
 }
 
-fn tree_of(alloc: Global, sets: &[VersionSet]) -> Option<TsTree> {
+fn tree_of_lent(alloc: Global, sets: &[VersionSet]) -> Option<TsTree> {
     match lent(alloc, sets) {
         Ok(lent) => tree_over(alloc, &lent),
         Err(_) => None,
@@ -113,7 +124,7 @@ fn answers_of<L: Ledger>(
 {
     let mut steps: Steps<L> = Steps::new(blank);
     let mut out = Vec::new(alloc);
-    tree.select(i, &mut out, &mut steps)?;
+    tree.select(alloc, i, &mut out, &mut steps)?;
     Ok(out)
 }
 
@@ -144,7 +155,7 @@ fn is_range_found(alloc: Global, tree: &TsTree) -> bool {
 
 fn written(alloc: Global, tree: &TsTree) -> Result<Vec<u8>, AllocError> {
     let mut out = Vec::new(alloc);
-    tree.encode(&mut out)?;
+    tree.encode(alloc, &mut out)?;
     Ok(out)
 }
 
@@ -181,14 +192,27 @@ fn are_many_put(alloc: Global) -> bool {
 /// The root: one interval from 1 to 5, and a left part of 164 bytes.
 const ROOT_OF_EIGHT: &[u8] = b"\0\0\0\x01\0\0\0\x01\0\0\0\x05\0\0\0\0\0\0\0\xa4";
 
+/// Whether it is the tree over the eight sets.
+fn is_over_eight(alloc: Global, tree: &TsTree) -> bool {
+    are_found(alloc, tree, 5, &[2])
+        && are_found(alloc, tree, 6, &[])
+        && tree.height() == 3
+        && is_written(alloc, tree, 324, ROOT_OF_EIGHT)
+}
+
 fn are_eight_leaves_right(alloc: Global) -> bool {
     match eight_leaves(alloc) {
-        Some(tree) => {
-            are_found(alloc, &tree, 5, &[2])
-                && are_found(alloc, &tree, 6, &[])
-                && tree.height() == 3
-                && is_written(alloc, &tree, 324, ROOT_OF_EIGHT)
-        }
+        Some(tree) => is_over_eight(alloc, &tree),
+        None => false,
+    }
+}
+
+fn are_eight_lent_leaves_right(alloc: Global) -> bool {
+    let Some(sets) = eight_sets(alloc) else {
+        return false;
+    };
+    match tree_of_lent(alloc, &sets) {
+        Some(tree) => is_over_eight(alloc, &tree),
         None => false,
     }
 }
@@ -244,7 +268,7 @@ fn trees_over_sets_that_are_the_same_are_put_as_they_are_written(rt: HostRuntime
 
 #[test]
 fn eight_sets_make_three_levels(rt: HostRuntime) {
-    assert!(rt; are_eight_leaves_right(rt.alloc()));
+    assert!(rt; are_eight_leaves_right(rt.alloc()) && are_eight_lent_leaves_right(rt.alloc()));
     visited_nodes();
 }
 

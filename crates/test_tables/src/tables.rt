@@ -104,8 +104,14 @@ const COLUMNS: &[(&str, &[&str], bool)] = &[
 fn bad_tables_are_refused(rt: HostRuntime) -> Result<(), Fail> {
     for (name, text, row, why) in BAD {
         let refused = match read(rt.alloc(), text) {
-            Err(TableFault::Bad { row: r, why: w }) => r == *row && w == *why,
-            _ => false,
+            Err(fault) => {
+                fault
+                    == TableFault::Bad {
+                        row: *row,
+                        why: *why,
+                    }
+            }
+            Ok(_) => false,
         };
         told(refused, name)?;
     }

@@ -1,4 +1,5 @@
 //! Lines and contents on their own.
+use given_parts::documents::read;
 use given_parts::told;
 use jsonml_lines::{Line, end_line, take_line, write_cell, write_content, write_word};
 use jsonml_print::write_quoted;
@@ -23,6 +24,37 @@ fn sample(alloc: Global) -> Result<Content, AllocError> {
 fn is_written(alloc: Global, content: &Content, wanted: &str) -> bool {
     let mut sink = MemSink::new(alloc, Vec::new(alloc));
     write_content(content, &mut sink).is_ok() && sink.taken() == wanted.as_bytes()
+}
+
+/// Documents, and what their root elements hold, as arrays.
+const ARRAYS: &[(&str, &str)] = &[
+    (r#"["db"]"#, "[]"),
+    (r#"["db","t"]"#, r#"["t"]"#),
+    (r#"["db",["e"],"t"]"#, r#"[["e"],"t"]"#),
+    (r#"["db",{"a":1,"b":null}]"#, r#"[{"a":1,"b":null}]"#),
+    (
+        r#"["db",{"a":1},["e",{"b":2},"x"],["f"]]"#,
+        r#"[{"a":1},["e",{"b":2},"x"],["f"]]"#,
+    ),
+];
+
+/// Whether this is written for what the root element of a document holds.
+fn is_array_of(alloc: Global, document: &str, wanted: &str) -> bool {
+    let Some(tree) = read(alloc, document.as_bytes()) else {
+        return false;
+    };
+    match &tree {
+        Tree::Elem { content, .. } => is_written(alloc, content, wanted),
+        Tree::Text(_) => false,
+    }
+}
+
+#[test]
+fn contents_are_written_as_arrays(rt: HostRuntime) -> Result<(), Fail> {
+    for (document, array) in ARRAYS {
+        told(is_array_of(rt.alloc(), document, array), document)?;
+    }
+    Ok(())
 }
 
 fn is_quoted(alloc: Global, text: &str, wanted: &str) -> bool {

@@ -206,8 +206,14 @@ fn leave_together(sink: &mut MemSink) -> bool {
 
 /// A piece that is longer than the buffer goes by itself.
 fn leave_around_a_long_one(sink: &mut MemSink) -> bool {
-    let long = [9; 10_000];
-    put_buffered(sink, &[b"a", &long, b"b", b"c"]).is_ok() && sink.taken().len() == 10_003
+    let long = [9; 70_000];
+    put_buffered(sink, &[b"a", &long, b"b", b"c"]).is_ok() && sink.taken().len() == 70_003
+}
+
+/// A piece of the buffer's whole length waits for the next one.
+fn waits_where_it_fits(sink: &mut MemSink) -> bool {
+    let whole = [9; 65_536];
+    put_buffered(sink, &[&whole, b"b"]).is_ok() && sink.taken().len() == 65_537
 }
 
 #[test]
@@ -218,6 +224,8 @@ fn sinks_keep_what_they_took(rt: HostRuntime) -> Result<(), Fail> {
     let mut second = sink(rt.alloc(), 2)?;
     let mut fourth = sink(rt.alloc(), 4)?;
     assert!(rt; leave_together(&mut second) && leave_around_a_long_one(&mut fourth));
+    let mut third = sink(rt.alloc(), 3)?;
+    assert!(rt; waits_where_it_fits(&mut third));
     assert!(rt; SureSink::new().write(b"gone") == Ok(4));
     Ok(())
 }

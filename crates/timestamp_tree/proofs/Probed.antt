@@ -7,27 +7,22 @@ use Rattle.std.proofs.lemmas.Bool.Decides.{nat_tests}
 use Rattle.std.proofs.lemmas.List.{append-nil, drop-drop, drop-take, length-drop, take-append-drop, take-append-le, take-take}
 use Rattle.version_set.specs.Members.{members, has}
 use Rattle.xa_fields.specs.Reading.{number_at, chain_at, only_at}
-use Rattle.xa_fields.proofs.Fields.{bind_some, some_is}
+use Rattle.xa_fields.specs.FieldLaws.{bind_some, none_unless, passed_some, some_is}
 use Rattle.timestamp_tree.specs.Reading.{pair_at, next_pair, stored_at, some_stored_at}
 use Rattle.timestamp_tree.specs.Bytes.{stored}
 use Rattle.timestamp_tree.specs.Nodes.{IfDamage, TellsBytes}
 use Rattle.timestamp_tree.specs.Probes.{said_of}
 use Rattle.timestamp_tree.specs.declared.fault.NodeFault.{NodeFault}
 use Rattle.timestamp_tree.proofs.Pieces.{count_stands, damage_map}
-use Rattle.timestamp_tree.proofs.Stored.{none_unless, chain_sizes, stored_is, stored_sizes, no_parts, parts_are, size_is, too_short}
+use Rattle.timestamp_tree.proofs.Stored.{chain_sizes, stored_is, stored_sizes, no_parts, parts_are, size_is, too_short}
 
 -- ---- nodes of sets that are not empty
-
--- what passed a test
-kept : {A : Type 0} (b : Bool) (a x : A) → ◌≡◌ {A = Option A} (if b then Some a else None) (Some x) → (b ≡ true) × (a ≡ x)
-kept true a x e = (refl, some_is a x e)
-kept false a x e = absurd cc
 
 pub some_stands : (most : ℕ) (piece : List ℕ) (x : (List (ℕ × ℕ) × ℕ) × List ℕ) → some_stored_at most piece ≡ Some x → (stored_at most piece ≡ Some x) × (1 ≤ length x.0.0)
 unfolding only_at
 some_stands most piece x e =
     let a = bind_some (stored_at most piece) (λ a. if nat_lt 0 (length a.0.0) then Some a else None) x e in
-    let b = kept (nat_lt 0 (length a.0.0.0)) a.0 x a.2 in
+    let b = passed_some (nat_lt 0 (length a.0.0.0)) a.0 x a.2 in
     let test : ltb 0 (length a.0.0.0) ≡ true = b.0 in
     let some : 0 < length a.0.0.0 = grind (arith, nat_tests) in
     let same : length a.0.0.0 ≡ length x.0.0 = ap (λ (y : (List (ℕ × ℕ) × ℕ) × List ℕ). length y.0.0) b.1 in

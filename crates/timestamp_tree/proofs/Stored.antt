@@ -4,22 +4,13 @@ use Rattle.std.specs.Int.{Width, w32, w64, byte_len, from_be_bytes}
 use Rattle.std.proofs.lemmas.Bool.{le-ltb, ltb-false}
 use Rattle.std.proofs.lemmas.List.{take-append-le, drop-append-le, take-append-drop, drop-drop, length-drop, length-append, length-take, take-take}
 use Rattle.xa_fields.specs.Reading.{◌>>=◌, number_at, both_at, chain_at, chained_at}
-use Rattle.xa_fields.proofs.Fields.{bind_some, guard_some, some_is}
+use Rattle.xa_fields.specs.FieldLaws.{bind_some, guard_some, none_unless, number_sizes, some_is}
 use Rattle.timestamp_tree.specs.Bytes.{stored}
 use Rattle.timestamp_tree.specs.Reading.{pair_at, next_pair, set_at, stored_at}
 use Rattle.timestamp_tree.specs.Nodes.{parts_at}
 use Rattle.timestamp_tree.proofs.Trees.{length-set_bytes, length-stored}
 
 -- ---- how many bytes are read
-
-pub none_unless : {A : Type 0} (o : Option A) → ((x : A) → o ≡ Some x → ⊥) → o ≡ None
-none_unless (Some x) h = absurd (h x refl)
-none_unless None h = refl
-
-number_sizes : (w : Width) (bytes : List ℕ) (x : ℕ × List ℕ) → number_at w bytes ≡ Some x → (byte_len w ≤ length bytes) × (x.1 ≡ drop (byte_len w) bytes)
-number_sizes w bytes x e =
-    let g = guard_some (ltb (length bytes) (byte_len w)) (Some (from_be_bytes w (take (byte_len w) bytes), drop (byte_len w) bytes)) x e in
-    (ltb-false _ _ g.0, sym (ap (λ (y : ℕ × List ℕ). y.1) (some_is (from_be_bytes w (take (byte_len w) bytes), drop (byte_len w) bytes) x g.1)))
 
 pair_sizes : (bytes : List ℕ) (x : (ℕ × ℕ) × List ℕ) → pair_at bytes ≡ Some x → (8 ≤ length bytes) × (x.1 ≡ drop 8 bytes)
 unfolding both_at

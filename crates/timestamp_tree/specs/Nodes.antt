@@ -11,6 +11,15 @@ use Rattle.timestamp_tree.specs.declared.node.Node.{Node}
 use Rattle.timestamp_tree.specs.declared.fault.NodeFault.{NodeFault}
 use Rattle.timestamp_tree.specs.declared.fault.NodeFault.TheVariants.{Damage, Folder}
 
+-- a stored node, as plain data: the intervals of its set, the byte size of its left part, and its own size
+pub record StoredNode : Type 0 where
+  pub pairs : List (ℕ × ℕ)
+  pub left : ℕ
+  pub size : ℕ
+
+abbrev pub stored_view : Node → StoredNode
+stored_view node = record { pairs = pairs_of node.set; left = node.left; size = node.size }
+
 -- ---- what a fault says
 
 abbrev pub IfDamage : NodeFault → Type 0 → Type 0

@@ -9,7 +9,7 @@ ghost use Rattle.timestamp_tree.specs.PartView.{part_view};
 use crate::part::Part;
 use std::alloc::AllocError;
 use version_set::VersionSet;
-use xa_fields::{put_u32, put_u64};
+use xa_fields::{append_u32, append_u64};
 
 /// Appends the number of intervals and the intervals, and on a refusal some of it. It is for the
 /// spelling of records, which take back what a refusal left.
@@ -18,7 +18,7 @@ pub fn put_set(out: &mut Vec<u8>, set: &VersionSet) -> Result<(), AllocError>
     ensures ok { OnOk result (out.new.items ≡ out.old.items ++ set_bytes (pairs_of set.now)) }
     ensures grows { Grows out.old.items out.new.items }
 {
-    put_u32(out, set.count())?;
+    append_u32(out, set.count())?;
     put_pairs(out, set.pairs())
 }
 
@@ -28,8 +28,8 @@ fn put_pairs(out: &mut Vec<u8>, pairs: &[(u32, u32)]) -> Result<(), AllocError>
     ensures grows { Grows out.old.items out.new.items }
 {
     for (from, to) in pairs {
-        put_u32(out, *from)?;
-        put_u32(out, *to)?;
+        append_u32(out, *from)?;
+        append_u32(out, *to)?;
     }
     Ok(())
 }
@@ -42,7 +42,7 @@ pub fn put_stored(out: &mut Vec<u8>, set: &VersionSet, left_size: u64) -> Result
     ensures grows { Grows out.old.items out.new.items }
 {
     put_set(out, set)?;
-    put_u64(out, left_size)
+    append_u64(out, left_size)
 }
 
 /// Appends a tree in preorder, and on a refusal some of it.

@@ -1,19 +1,20 @@
 // One node of a tree that a file has.
 ghost use Rattle.std.specs.Prelude.{◌≡◌, ◌+◌, ◌-◌, ◌*◌, ◌<◌, ◌≤◌, ◌^◌, ℕ, List, length, take, Some, IfOk, IfErr, OnOk};
 ghost use Rattle.version_set.specs.View.{pairs_of};
+ghost use Rattle.version_set.specs.declared.limits.TheConstants.{GREATEST_NUMBER};
 ghost use Rattle.xa_outside.specs.Causes.{Rose};
 ghost use Rattle.xa_outside.specs.Folder.{Files};
 ghost use Rattle.xa_outside.specs.Numbers.{PullsAtMost, after_pull};
 ghost use Rattle.timestamp_tree.specs.Bytes.{stored};
 ghost use Rattle.timestamp_tree.specs.Reading.{stored_at};
-ghost use Rattle.timestamp_tree.specs.Nodes.{IfFolder, piece_of, TellsBytes, TellsNode, OnlyReads, fault_of, TellsCount, TellsParts};
+ghost use Rattle.timestamp_tree.specs.Nodes.{IfFolder, stored_view, piece_of, TellsBytes, TellsNode, OnlyReads, fault_of, TellsCount, TellsParts};
 
 use crate::fault::NodeFault;
 use crate::steps::Steps;
 use crate::take::take_pairs;
 use std::alloc::Global;
 use std::sync::ledger::Ledger;
-use version_set::VersionSet;
+use version_set::{GREATEST_NUMBER, VersionSet};
 use xa_fields::{take_u32, take_u64};
 use xa_outside::{Folder, fill_at};
 
@@ -34,8 +35,8 @@ pub struct Node {
     pub size: u64,
 }
 
-/// The node whose bytes begin at this offset of a file, of a set of numbers up to `most`. Where it
-/// would not end before `limit` there is none. It counts one step.
+/// The node whose bytes begin at this offset of a file. Where it would not end before `limit` there
+/// is none. It counts one step.
 ///
 /// It reads the number of the set's intervals and then the rest, and takes memory only for a node
 /// that ends before `limit`. What the left part's size says is not judged.
@@ -45,18 +46,17 @@ pub fn node_at<F: Folder, L: Ledger>(
     name: &str,
     at: u64,
     limit: u64,
-    most: u32,
     steps: &mut Steps<L>,
 ) -> Result<Node, NodeFault>
     requires { at ≤ limit }
     ensures steps { steps.new ≡ steps.old + 1 }
-    ensures size { IfOk result (λ node.
-        node.size ≡ length (stored (pairs_of node.set) node.left)) }
-    ensures within { IfOk result (λ node. at + node.size ≤ limit) }
+    ensures size { IfOk result (λ node. (stored_view node).size
+        ≡ length (stored (stored_view node).pairs (stored_view node).left)) }
+    ensures within { IfOk result (λ node. at + (stored_view node).size ≤ limit) }
     ensures files { F.files folder.new ≡ F.files folder.old }
     ensures draft { F.draft folder.new ≡ F.draft folder.old }
     ensures numbers { IfOk result (λ node.
-        F.numbers folder.new ≡ after_pull (F.numbers folder.old) node.size) }
+        F.numbers folder.new ≡ after_pull (F.numbers folder.old) (stored_view node).size) }
     ensures pulls { PullsAtMost (limit - at) (F.numbers folder.old) (F.numbers folder.new) }
     ensures later { F.faults folder.old ≤ F.faults folder.new }
     ensures cause { IfErr result (λ e.
@@ -64,17 +64,18 @@ pub fn node_at<F: Folder, L: Ledger>(
 
     // Where files are told, it is the node that stands there, and damage where there is none.
     ensures told { (files : Files) → F.files folder.old ≡ Some files
-        → TellsNode most (piece_of files name.now at limit) result }
+        → TellsNode GREATEST_NUMBER (piece_of files name.now at limit) result }
 
     // Where a node stands there, no byte behind it is pulled, whatever is answered.
     ensures only { (files : Files) (rest : List ℕ) (set : List (ℕ × ℕ)) (left : ℕ)
         → F.files folder.old ≡ Some files
-        → stored_at most (piece_of files name.now at limit) ≡ Some ((set, left), rest)
+        → stored_at GREATEST_NUMBER (piece_of files name.now at limit)
+        ≡ Some ((set, left), rest)
         → PullsAtMost (length (stored set left))
         (F.numbers folder.old) (F.numbers folder.new) }
 {
     steps.tick();
-    read_node(alloc, folder, name, at, limit, most)
+    read_node(alloc, folder, name, at, limit)
 }
 
 fn read_node<F: Folder>(
@@ -83,7 +84,6 @@ fn read_node<F: Folder>(
     name: &str,
     at: u64,
     limit: u64,
-    most: u32,
 ) -> Result<Node, NodeFault>
     requires { at ≤ limit }
     ensures reads { OnlyReads F.files F.draft F.faults folder.old folder.new (fault_of result) }
@@ -93,14 +93,15 @@ fn read_node<F: Folder>(
         F.numbers folder.new ≡ after_pull (F.numbers folder.old) node.size) }
     ensures pulls { PullsAtMost (limit - at) (F.numbers folder.old) (F.numbers folder.new) }
     ensures told { (files : Files) → F.files folder.old ≡ Some files
-        → TellsNode most (piece_of files name.now at limit) result }
+        → TellsNode GREATEST_NUMBER (piece_of files name.now at limit) result }
     ensures only { (files : Files) (rest : List ℕ) (set : List (ℕ × ℕ)) (left : ℕ)
         → F.files folder.old ≡ Some files
-        → stored_at most (piece_of files name.now at limit) ≡ Some ((set, left), rest)
+        → stored_at GREATEST_NUMBER (piece_of files name.now at limit)
+        ≡ Some ((set, left), rest)
         → PullsAtMost (12 + 8 * length set) (F.numbers folder.old) (F.numbers folder.new) }
 {
     match read_count(folder, name, at, limit) {
-        Ok(count) => read_parts(alloc, folder, name, at + 4, count, most),
+        Ok(count) => read_parts(alloc, folder, name, at + 4, count),
         Err(fault) => Err(fault),
     }
 }
@@ -148,7 +149,6 @@ fn read_parts<F: Folder>(
     name: &str,
     at: u64,
     count: u32,
-    most: u32,
 ) -> Result<Node, NodeFault>
     requires { at + (8 * count + 8) < 2 ^ 64 }
     ensures reads { OnlyReads F.files F.draft F.faults folder.old folder.new (fault_of result) }
@@ -160,7 +160,7 @@ fn read_parts<F: Folder>(
         (F.numbers folder.old) (F.numbers folder.new) }
     ensures told { (files : Files) (limit : ℕ) → F.files folder.old ≡ Some files
         → at + (8 * count + 8) ≤ limit
-        → TellsParts most count (piece_of files name.now at limit) result }
+        → TellsParts GREATEST_NUMBER count (piece_of files name.now at limit) result }
 {
     let size = 8 * count as usize + 8;
     let mut bytes = Vec::new(alloc);
@@ -168,21 +168,21 @@ fn read_parts<F: Folder>(
         return Err(NodeFault::Memory);
     }
     match fill(folder, name, at, &mut bytes) {
-        Ok(()) => node_of(alloc, &bytes, count, most),
+        Ok(()) => node_of(alloc, &bytes, count),
         Err(fault) => Err(fault),
     }
 }
 
 /// The node of so many intervals, of which these are the bytes behind their number.
-fn node_of(alloc: Global, bytes: &[u8], count: u32, most: u32) -> Result<Node, NodeFault>
+fn node_of(alloc: Global, bytes: &[u8], count: u32) -> Result<Node, NodeFault>
     requires { length bytes.now ≡ 8 * count + 8 }
     ensures size { IfOk result (λ node. node.size ≡ 12 + 8 * count) }
     ensures count { IfOk result (λ node. length (pairs_of node.set) ≡ count) }
     ensures cause { IfErr result (λ e. IfFolder e ⊥) }
     ensures told { (piece : List ℕ) → bytes.now ≡ take (8 * count + 8) piece
-        → TellsParts most count piece result }
+        → TellsParts GREATEST_NUMBER count piece result }
 {
-    let Some((set, at)) = take_pairs(alloc, bytes, 0, count, most)? else {
+    let Some((set, at)) = take_pairs(alloc, bytes, 0, count, GREATEST_NUMBER)? else {
         return Err(NodeFault::Damage);
     };
     let Some((left, _)) = take_u64(bytes, at) else {

@@ -2,6 +2,7 @@ ghost use Rattle.std.specs.Prelude.{◌≡◌, ◌+◌, ◌<◌, ◌^◌};
 ghost use Rattle.timestamp_tree.specs.Data.{top, height};
 ghost use Rattle.timestamp_tree.specs.PartView.{part_view};
 ghost use Rattle.version_set.specs.View.{pairs_of};
+ghost use Rattle.xa_fields.specs.declared.limits.TheConstants.{FIELD};
 
 use version_set::VersionSet;
 
@@ -33,7 +34,7 @@ pub fn set_of(node: &Part) -> &VersionSet
 
 /// The number of levels below the root.
 pub fn height_of(node: &Part) -> u32
-    requires { height (part_view node.now) < 2 ^ 32 }
+    requires { height (part_view node.now) < FIELD }
     ensures { result ≡ height (part_view node.now) }
 {
     match node {

@@ -12,7 +12,7 @@ ghost use Rattle.timestamp_tree.specs.Tree.{tree_of};
 use crate::encode::put_stored;
 use std::alloc::AllocError;
 use version_set::VersionSet;
-use xa_fields::put_u64;
+use xa_fields::append_u64;
 
 /// Appends the bytes of the tree over these sets, as `TsTree::of` and `encode` do together, and on
 /// a refusal some bytes.
@@ -95,7 +95,7 @@ fn put_above(out: &mut Vec<u8>, leaf: &[u8], nodes: usize) -> Result<(), AllocEr
 {
     let left_size = nodes.checked_mul(leaf.len()).ok_or(AllocError)?;
     out.extend_from_slice(&leaf[..leaf.len() - 8])?;
-    put_u64(out, left_size as u64)
+    append_u64(out, left_size as u64)
 }
 
 /// Appends the tree's bytes in reverse, and gives the union of the sets. So the head of a node,

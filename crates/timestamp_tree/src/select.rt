@@ -5,6 +5,7 @@ ghost use Rattle.timestamp_tree.specs.Tree.{IsTree};
 ghost use Rattle.timestamp_tree.specs.Search.{answers_from, visits};
 ghost use Rattle.timestamp_tree.specs.Prefix.{AppendsPrefix};
 ghost use Rattle.timestamp_tree.specs.PartView.{part_view};
+ghost use Rattle.xa_fields.specs.declared.limits.TheConstants.{FIELD};
 
 use crate::part::Part;
 use crate::steps::Steps;
@@ -24,7 +25,7 @@ pub fn select_from<L: Ledger>(
 ) -> Result<(), AllocError>
     requires tree { IsTree (part_view node.now) }
     requires count { count ≡ length (leaves (part_view node.now)) }
-    requires few { first + count ≤ 2 ^ 32 }
+    requires few { first + count ≤ FIELD }
     ensures ok { OnOk result (out.new.items
         ≡ out.old.items ++ answers_from i first (leaves (part_view node.now))) }
     ensures err { OnErr result (AppendsPrefix out.old.items out.new.items

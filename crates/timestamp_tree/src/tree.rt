@@ -1,5 +1,6 @@
 ghost use Rattle.std.specs.Prelude.{◌≡◌, ◌+◌, ◌*◌, ◌≤◌, ◌<◌, ◌^◌, ◌++◌, length, map, IfOk, OnOk, OnErr};
 ghost use Rattle.version_set.specs.View.{pairs_of};
+ghost use Rattle.xa_fields.specs.declared.limits.TheConstants.{FIELD};
 ghost use Rattle.timestamp_tree.specs.Data.{leaves, height};
 ghost use Rattle.timestamp_tree.specs.Bytes.{tree_bytes};
 ghost use Rattle.timestamp_tree.specs.Tree.{IsTree, IsTree-prop, tree_of};
@@ -9,6 +10,7 @@ ghost use Rattle.timestamp_tree.specs.PartView.{part_view};
 
 use crate::build::build;
 use crate::encode::put_node;
+use crate::lend::lend_sets;
 use crate::part::{Part, height_of};
 use crate::select::select_from;
 use crate::steps::Steps;
@@ -26,7 +28,7 @@ pub struct TsTree {
     size: u64,
     pub ghost is_tree: { IsTree (part_view root) } by { IsTree-prop (part_view root) },
     ghost counted: { count ≡ length (leaves (part_view root)) },
-    ghost few: { length (leaves (part_view root)) < 2 ^ 32 },
+    ghost few: { length (leaves (part_view root)) < FIELD },
     ghost sized: { size ≡ length (tree_bytes (part_view root)) },
 }
 
@@ -36,9 +38,21 @@ impl TsTree {
     /// The tree over these sets.
     ///
     /// It copies each of them once, and makes one union for each inner node.
-    pub fn of(alloc: Global, sets: &[&VersionSet]) -> Result<TsTree, AllocError>
+    pub fn of(alloc: Global, sets: &[VersionSet]) -> Result<TsTree, AllocError>
         requires some { 1 ≤ length sets.now }
-        requires few { length sets.now < 2 ^ 32 }
+        requires few { length sets.now < FIELD }
+        ensures tree { IfOk result (λ tree. ts_view tree ≡ tree_of (map pairs_of sets.now)) }
+        ensures leaves { IfOk result (λ tree.
+            leaves (ts_view tree) ≡ map pairs_of sets.now) }
+    {
+        let lent = lend_sets(alloc, sets)?;
+        TsTree::over(alloc, &lent)
+    }
+
+    /// The tree over these sets, which are lent.
+    pub fn over(alloc: Global, sets: &[&VersionSet]) -> Result<TsTree, AllocError>
+        requires some { 1 ≤ length sets.now }
+        requires few { length sets.now < FIELD }
         ensures tree { IfOk result (λ tree.
             ts_view tree ≡ tree_of (map (λ s. pairs_of s.now) sets.now)) }
         ensures leaves { IfOk result (λ tree.
@@ -58,9 +72,10 @@ impl TsTree {
 
     /// Appends the positions, from 0, of the sets that hold i, and on a refusal the first of them.
     ///
-    /// A step is a visited node.
+    /// A step is a visited node. The memory is the row's own allocator's.
     pub fn select<L: Ledger>(
         &self,
+        _alloc: Global,
         i: u32,
         out: &mut Vec<u32>,
         steps: &mut Steps<L>,
@@ -82,8 +97,8 @@ impl TsTree {
     }
 
     /// Appends the nodes in preorder: the set, the byte size of the left part or 0, the left part
-    /// and the right part. On a refusal nothing changes.
-    pub fn encode(&self, out: &mut Vec<u8>) -> Result<(), AllocError>
+    /// and the right part. On a refusal nothing changes. The memory is the row's own allocator's.
+    pub fn encode(&self, _alloc: Global, out: &mut Vec<u8>) -> Result<(), AllocError>
         ensures ok { OnOk result (out.new.items
             ≡ out.old.items ++ tree_bytes (ts_view self.now)) }
         ensures err { OnErr result (out.new.items ≡ out.old.items) }

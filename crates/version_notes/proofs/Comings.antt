@@ -10,13 +10,12 @@ use Rattle.std.proofs.lemmas.Slice.Eq.{bytes_eq-Decides}
 use Rattle.std.proofs.lemmas.Str.{IsUtf8-nil}
 use Rattle.xa_fields.specs.Spelling.{text_bytes}
 use Rattle.xa_fields.specs.Reading.{◌>>=◌, number_at}
-use Rattle.xa_fields.proofs.Fields.{bind_some, some_is}
+use Rattle.xa_fields.specs.FieldLaws.{bind_some, number_sizes, passed_some, some_is}
 use Rattle.version_notes.specs.Notes.{IsNote, AreNotes, are_empty, texts, ending, notes_part, note_at}
 use Rattle.version_notes.specs.Parts.{last, all_but, is_marked, notes_size, no_notes, with_notes, parts_in, parts_behind}
 use Rattle.version_notes.specs.Reader.{PlainReader, at_first, left_of, is_done, next_from, next_of, place_behind, Comes, AreBehind}
 use Rattle.version_notes.specs.declared.parts.Parts.{Parts}
 use Rattle.version_notes.specs.declared.place.Place.{Place}
-use Rattle.version_notes.proofs.Fronts.{number_sizes, passed}
 use Rattle.version_notes.proofs.Spelled.{note_again, note_only, part_used}
 use Rattle.version_notes.proofs.Written.{used_more}
 
@@ -157,7 +156,7 @@ record Marked (bytes : List ℕ) (n : ℕ) : Type 0 where
 marked_by : (bytes : List ℕ) (n : ℕ) → notes_size bytes ≡ Some n → Marked bytes n
 marked_by bytes n e =
     let x = bind_some (number_at w64 (last 8 (all_but 8 bytes))) (λ (m : ℕ × List ℕ). cond (leb m.0 (length bytes - 16) && bytes_eq (ending m.0) (last 16 bytes)) (Some m.0) None) n e in
-    let p = passed (leb x.0.0 (length bytes - 16) && bytes_eq (ending x.0.0) (last 16 bytes)) x.0.0 n x.2 in
+    let p = passed_some (leb x.0.0 (length bytes - 16) && bytes_eq (ending x.0.0) (last 16 bytes)) x.0.0 n x.2 in
     let tests = and_parts (leb x.0.0 (length bytes - 16)) (bytes_eq (ending x.0.0) (last 16 bytes)) p.0 in
     let le = leb-true x.0.0 (length bytes - 16) tests.0 in
     let before = last 8 (all_but 8 bytes) in

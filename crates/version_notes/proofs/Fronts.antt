@@ -1,8 +1,8 @@
 -- The note at the front of some bytes.
-use Rattle.std.proofs.Common.{◌≡◌, ℕ, ◌+◌, ◌-◌, ◌<◌, ◌≤◌, ◌||◌, not, Bool, true, false, cond, ltb, List, ◌++◌, length, take, drop, Option, Some, None, Result, Ok, Err, refl, sym, ap, subst, ◌∙◌, append_assoc, arith, inl, inr, ◌⊎◌}
+use Rattle.std.proofs.Common.{◌≡◌, ℕ, ◌+◌, ◌-◌, ◌<◌, ◌≤◌, ◌||◌, not, true, false, cond, ltb, List, ◌++◌, length, take, drop, Some, None, Result, Ok, Err, refl, sym, ap, subst, ◌∙◌, append_assoc, arith, inl, inr, ◌⊎◌}
 use Rattle.std.specs.Prelude.{String, string_bytes, IfOk}
 use Rattle.std.specs.Global.{Global}
-use Rattle.std.specs.Int.{Width, w32, byte_len, from_be_bytes}
+use Rattle.std.specs.Int.{w32, from_be_bytes}
 use Rattle.std.specs.Str.{is_utf8, bytes_eq}
 use Rattle.std.proofs.lemmas.Bool.{le-ltb, ltb-false, leb-true, and_parts, or_parts, not-false}
 use Rattle.std.proofs.lemmas.Str.{is_utf8-from_IsUtf8, IsUtf8-from_is_utf8}
@@ -10,7 +10,7 @@ use Rattle.std.proofs.lemmas.Slice.Eq.{bytes_eq-Decides}
 use Rattle.std.proofs.lemmas.List.{drop-drop, length-drop, length-take, take-append-drop, take-take}
 use Rattle.xa_fields.specs.Reading.{number_at, text_at, only_at}
 use Rattle.xa_fields.specs.Spelling.{text_bytes, u32_bytes}
-use Rattle.xa_fields.proofs.Fields.{bind_some, guard_some, some_is}
+use Rattle.xa_fields.specs.FieldLaws.{bind_some, guard_some, none_unless, number-there, number_sizes, passed_some, some_is}
 use Rattle.xa_outside.specs.Numbers.{Numbers, PullsAtMost, after_pull}
 use Rattle.xa_outside.specs.NumberLaws.{PullsAtMost-of, PullsAtMost-more, PullsAtMost-trans}
 use Rattle.version_notes.specs.Notes.{is_note, IsNote, note_at}
@@ -20,31 +20,13 @@ use Rattle.version_notes.specs.declared.place.Place.{Place}
 use Rattle.version_notes.specs.declared.fault.NotesFault.{NotesFault}
 use Rattle.version_notes.specs.declared.fault.NotesFault.TheVariants.{Damage, Folder, Memory}
 
-pub none_unless : {A : Type 0} (o : Option A) → ((x : A) → o ≡ Some x → ⊥) → o ≡ None
-none_unless (Some x) h = absurd (h x refl)
-none_unless None h = refl
-
-pub passed : {A : Type 0} (b : Bool) (a x : A) → cond b (Some a) None ≡ Some x → (b ≡ true) × (a ≡ x)
-passed true a x e = (refl, some_is a x e)
-passed false a x e = absurd cc
-
--- ---- numbers
-
-pub number_is : (w : Width) (bytes : List ℕ) → byte_len w ≤ length bytes → number_at w bytes ≡ Some (from_be_bytes w (take (byte_len w) bytes), drop (byte_len w) bytes)
-number_is w bytes le = (let long : ltb (length bytes) (byte_len w) ≡ false = le-ltb _ _ le in rw long refl)
-
-pub number_sizes : (w : Width) (bytes : List ℕ) (x : ℕ × List ℕ) → number_at w bytes ≡ Some x → (byte_len w ≤ length bytes) × (x.1 ≡ drop (byte_len w) bytes)
-number_sizes w bytes x e =
-    let g = guard_some (ltb (length bytes) (byte_len w)) (Some (from_be_bytes w (take (byte_len w) bytes), drop (byte_len w) bytes)) x e in
-    (ltb-false _ _ g.0, sym (ap (λ (y : ℕ × List ℕ). y.1) (some_is (from_be_bytes w (take (byte_len w) bytes), drop (byte_len w) bytes) x g.1)))
-
 -- the number in the first four bytes
 pub size_is : (piece front rest : List ℕ) (n : ℕ) → 4 ≤ length piece → front ≡ take 4 piece → Some (n, rest) ≡ number_at w32 front → number_at w32 piece ≡ Some (n, drop 4 piece)
 size_is piece front rest n le e h =
     let size : length (take 4 piece) ≡ 4 = omega (arith, length-take 4 piece) in
-    let short = number_is w32 (take 4 piece) (omega arith) in
+    let short = number-there w32 (take 4 piece) (omega arith) in
     let same : n ≡ from_be_bytes w32 (take 4 (take 4 piece)) = ap (λ (y : ℕ × List ℕ). y.0) (some_is (n, rest) (from_be_bytes w32 (take 4 (take 4 piece)), drop 4 (take 4 piece)) (h ∙ ap (number_at w32) e ∙ short)) in
-    number_is w32 piece le ∙ ap (λ (k : ℕ). Some (k, drop 4 piece)) (sym (same ∙ ap (from_be_bytes w32) (take-take 4 4 piece (omega arith))))
+    number-there w32 piece le ∙ ap (λ (k : ℕ). Some (k, drop 4 piece)) (sym (same ∙ ap (from_be_bytes w32) (take-take 4 4 piece (omega arith))))
 
 -- ---- notes
 
@@ -65,7 +47,7 @@ found_stands : (piece : List ℕ) (x : List ℕ × List ℕ) → only_at is_note
 unfolding only_at text_at
 found_stands piece x e =
     let a = bind_some (text_at piece) (λ a. cond (is_note a.0) (Some a) None) x e in
-    let p = passed (is_note a.0.0) a.0 x a.2 in
+    let p = passed_some (is_note a.0.0) a.0 x a.2 in
     let n = bind_some (number_at w32 piece) (λ n. cond (ltb (length n.1) n.0 || not (is_utf8 (take n.0 n.1))) None (Some (take n.0 n.1, drop n.0 n.1))) a.0 a.1 in
     let g = guard_some (ltb (length n.0.1) n.0.0 || not (is_utf8 (take n.0.0 n.0.1))) (Some (take n.0.0 n.0.1, drop n.0.0 n.0.1)) a.0 n.2 in
     let tests = or_parts _ _ g.0 in
@@ -89,7 +71,7 @@ found_stands piece x e =
 note_found : (piece : List ℕ) (x : List ℕ × List ℕ) → note_at piece ≡ Some x → (only_at is_note text_at piece ≡ Some x) × (text_bytes x.0 ++ x.1 ≡ piece)
 note_found piece x e =
     let a = bind_some (only_at is_note text_at piece) (λ found. cond (bytes_eq (text_bytes found.0 ++ found.1) piece) (Some found) None) x e in
-    let p = passed (bytes_eq (text_bytes a.0.0 ++ a.0.1) piece) a.0 x a.2 in
+    let p = passed_some (bytes_eq (text_bytes a.0.0 ++ a.0.1) piece) a.0 x a.2 in
     let spelled = (bytes_eq-Decides (text_bytes a.0.0 ++ a.0.1) piece).0 p.0 in
     subst (λ (y : List ℕ × List ℕ). (only_at is_note text_at piece ≡ Some y) × (text_bytes y.0 ++ y.1 ≡ piece)) p.1 (a.1, spelled)
 

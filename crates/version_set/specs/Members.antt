@@ -1,6 +1,7 @@
 -- The numbers of a list of intervals, and what is said of ascending lists of numbers.
 use Rattle.std.specs.Prelude.{ℕ, ◌+◌, ◌-◌, ◌≤◌, ◌==◌, ◌||◌, Bool, false, List, [], ◌∷◌, ◌++◌, ⊤, nat_lt, if◌then◌else◌, max, filter, ℤ, pos, negsuc, ◌+ℤ◌, ◌≤ℤ◌}
 use Rattle.std.specs.List.{range_with_len}
+use Rattle.version_set.specs.declared.limits.TheConstants.{GREATEST_NUMBER}
 
 -- the numbers of one interval, from its first to its last
 abbrev pub numbers : ℕ × ℕ → List ℕ
@@ -64,7 +65,7 @@ greatest (n ∷ ns) = max n (greatest ns)
 
 -- a number that a set may hold
 abbrev pub IsVersion : ℤ → Type 0
-IsVersion z = (pos 1 ≤ℤ z) × (z ≤ℤ pos 4294967295)
+IsVersion z = (pos 1 ≤ℤ z) × (z ≤ℤ pos GREATEST_NUMBER)
 
 abbrev pub whole_number : ℤ → ℕ
 whole_number (pos n) = n

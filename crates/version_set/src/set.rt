@@ -12,7 +12,7 @@ use crate::text::text_of;
 use smallvec::SmallVec;
 use std::alloc::{AllocError, Global};
 
-/// A set of version numbers from 1 to 4,294,967,295. Two intervals need no memory of their own.
+/// A set of version numbers from 1 to `GREATEST_NUMBER`. Two intervals need no memory of their own.
 #[derive(Debug, Drop)]
 pub struct VersionSet {
     pairs: Pairs,

@@ -1,5 +1,5 @@
 -- The laws of readers that are made of readers.
-use Rattle.std.proofs.Common.{◌≡◌, ℕ, zero, suc, ◌^◌, ◌<◌, ◌≤◌, ◌==◌, Bool, true, false, cond, IsTrue, List, [], ◌∷◌, ◌++◌, length, take, Some, None, refl, sym, ap, subst, ◌∙◌, append_assoc, arith}
+use Rattle.std.proofs.Common.{◌≡◌, ℕ, zero, suc, ◌^◌, ◌<◌, ◌≤◌, ◌==◌, Bool, true, cond, IsTrue, List, [], ◌∷◌, ◌++◌, length, take, Some, None, refl, sym, ap, subst, ◌∙◌, append_assoc, arith}
 use Rattle.std.specs.Int.{w32}
 use Rattle.std.specs.List.{flat_map, AllByRecursion}
 use Rattle.std.proofs.lemmas.Bool.{eqb-true}
@@ -7,7 +7,8 @@ use Rattle.std.proofs.lemmas.List.{append-nil, nil_from_length, take_all, take_a
 use Rattle.xa_fields.specs.Spelling.{u32_bytes, list_bytes}
 use Rattle.xa_fields.specs.Reading.{Reader, ◌>>=◌, number_at, many_at, list_at, both_at, only_at, whole}
 use Rattle.xa_fields.specs.Laws.{IsBytes, Takes, Read, Reads, Grows}
-use Rattle.xa_fields.proofs.Fields.{bind_some, some_is, Takes-then, Takes-none, u32_reads}
+use Rattle.xa_fields.specs.FieldLaws.{bind_some, passed_some, some_is}
+use Rattle.xa_fields.proofs.Fields.{Takes-then, Takes-none, u32_reads}
 
 -- ---- many values
 
@@ -98,17 +99,13 @@ both_reads {A} {B} first second spell write Fits Goes g h = record {
 
 -- ---- what passes a test
 
-passed : {A : Type 0} (b : Bool) (a x : A × List ℕ) → cond b (Some a) None ≡ Some x → (b ≡ true) × (a ≡ x)
-passed true a x e = (refl, some_is a x e)
-passed false a x e = absurd cc
-
 pub only_reads : {A : Type 0} (test : A → Bool) (read : Reader A) (spell : A → List ℕ) (Fits : A → Type 0) → Reads read spell Fits → Reads (only_at test read) spell (λ a. Fits a × IsTrue (test a))
 unfolding only_at
 only_reads {A} test read spell Fits h = record {
   takes = λ bytes x fits e.
       let a = bind_some (read bytes) (λ a. cond (test a.0) (Some a) None) x e in
       let t = h.takes bytes a.0 fits a.1 in
-      let p = passed (test a.0.0) a.0 x a.2 in
+      let p = passed_some (test a.0.0) a.0 x a.2 in
       subst (λ (y : A × List ℕ). Read spell (λ (a : A). Fits a × IsTrue (test a)) bytes y) p.1 (record { takes = t.takes; fits = (t.fits, p.0) });
   again = λ a rest fits. rw (h.again a rest fits.0) (let e = fits.1 in rw e refl);
 }
@@ -118,17 +115,13 @@ only_reads {A} test read spell Fits h = record {
 empty_rest : (rest : List ℕ) → (length rest == 0) ≡ true → rest ≡ []
 empty_rest rest e = nil_from_length rest (eqb-true (length rest) 0 e)
 
-chosen : {A : Type 0} (b : Bool) (a x : A) → cond b (Some a) None ≡ Some x → (b ≡ true) × (a ≡ x)
-chosen true a x e = (refl, some_is a x e)
-chosen false a x e = absurd cc
-
 -- what all of the bytes are, they spell
 pub whole_takes : {A : Type 0} (read : Reader A) (spell : A → List ℕ) (Fits : A → Type 0) → Reads read spell Fits → (bytes : List ℕ) (x : A) → IsBytes bytes → whole read bytes ≡ Some x → (bytes ≡ spell x) × Fits x
 unfolding whole
 whole_takes {A} read spell Fits h bytes x fits e =
     let a = bind_some (read bytes) (λ a. cond (length a.1 == 0) (Some a.0) None) x e in
     let t = h.takes bytes a.0 fits a.1 in
-    let c = chosen (length a.0.1 == 0) a.0.0 x a.2 in
+    let c = passed_some (length a.0.1 == 0) a.0.0 x a.2 in
     let all : bytes ≡ spell a.0.0 = t.takes.parts ∙ ap (λ (r : List ℕ). spell a.0.0 ++ r) (empty_rest a.0.1 c.0) ∙ append-nil (spell a.0.0) in
     subst (λ (y : A). (bytes ≡ spell y) × Fits y) c.1 (all, t.fits)
 

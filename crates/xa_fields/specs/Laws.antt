@@ -20,6 +20,6 @@ pub record Reads {A : Type 0} (read : Reader A) (spell : A → List ℕ) (Fits :
   pub takes : (bytes : List ℕ) (x : A × List ℕ) → IsBytes bytes → read bytes ≡ Some x → Read spell Fits bytes x
   pub again : (a : A) (rest : List ℕ) → Fits a → read (spell a ++ rest) ≡ Some (a, rest)
 
--- what was appended left what was there
+-- what was there still stands in front; anything may stand behind it
 pub record Grows (old new : List ℕ) : Type 0 where
   pub kept : take (length old) new ≡ old

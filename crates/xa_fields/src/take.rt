@@ -1,5 +1,5 @@
 // Reading numbers and texts.
-ghost use Rattle.std.specs.Prelude.{◌≡◌, ℕ, ◌+◌, ◌<◌, ◌≤◌, ◌^◌, ◌++◌, ◌∷◌, ◌↔◌, List, length, drop, option_map, Some, IsNone, IfSome, IsSomeAnd, if◌then◌else◌};
+ghost use Rattle.std.specs.Prelude.{◌≡◌, ℕ, ◌+◌, ◌<◌, ◌≤◌, ◌^◌, ◌++◌, ◌∷◌, ◌↔◌, List, length, drop, option_map, Some, None, IsNone, IfSome, IsSomeAnd, if◌then◌else◌};
 ghost use Rattle.std.specs.Str.{is_utf8};
 ghost use Rattle.std.specs.Int.{w32, w64};
 ghost use Rattle.xa_fields.specs.Spelling.{u32_bytes, u64_bytes, text_bytes, IsText};
@@ -23,7 +23,7 @@ pub fn take_u32(bytes: &[u8], at: usize) -> Option<(u32, usize)>
     ensures none { IsNone result ↔ (length bytes.now < at + 4) }
     ensures next { IfSome result (λ r. (r.1 ≡ at + 4) × (r.1 ≤ length bytes.now)) }
 
-    // What `put_u32` wrote there is taken again, whatever follows.
+    // What `append_u32` wrote there is taken again, whatever follows.
     ensures again { (n : ℕ) (rest : List ℕ) → n < 2 ^ 32
         → drop at bytes.now ≡ u32_bytes n ++ rest → result ≡ Some (n, at + 4) }
 {
@@ -38,7 +38,7 @@ pub fn take_u64(bytes: &[u8], at: usize) -> Option<(u64, usize)>
     ensures none { IsNone result ↔ (length bytes.now < at + 8) }
     ensures next { IfSome result (λ r. (r.1 ≡ at + 8) × (r.1 ≤ length bytes.now)) }
 
-    // What `put_u64` wrote there is taken again, whatever follows.
+    // What `append_u64` wrote there is taken again, whatever follows.
     ensures again { (n : ℕ) (rest : List ℕ) → n < 2 ^ 64
         → drop at bytes.now ≡ u64_bytes n ++ rest → result ≡ Some (n, at + 8) }
 {
@@ -51,10 +51,11 @@ pub fn take_u64(bytes: &[u8], at: usize) -> Option<(u64, usize)>
 pub fn take_text(bytes: &[u8], at: usize) -> Option<(&str, usize)>
     ensures found { option_map (λ r. (r.0.now, drop r.1 bytes.now)) result
         ≡ text_at (drop at bytes.now) }
+    ensures none { IsNone result → text_at (drop at bytes.now) ≡ None }
     ensures next { IfSome result (λ r.
         (r.1 ≡ at + 4 + length r.0.now) × (r.1 ≤ length bytes.now)) }
 
-    // What `put_text` wrote there is taken again, whatever follows.
+    // What `append_text` wrote there is taken again, whatever follows.
     ensures again { (text rest : List ℕ) → IsText text
         → drop at bytes.now ≡ text_bytes text ++ rest
         → IsSomeAnd result (λ r. (r.0.now ≡ text) × (r.1 ≡ at + 4 + length text)) }

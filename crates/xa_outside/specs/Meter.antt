@@ -7,4 +7,4 @@ numbers m = record { pulled = m.pulled; since = m.since; drafted = m.drafted; ga
 
 -- as the invariant of a meter says
 pub meter_law : (m : Meter) → IsMeter (numbers m)
-meter_law m = record { pulled_small = m.pulled_small; since_small = m.since_small; drafted_small = m.drafted_small; covers = m.covers }
+meter_law m = record { pulled_small = m.pulled_small; since_small = m.since_small; drafted_small = m.drafted_small; gap_small = m.gap_small; covers = m.covers }

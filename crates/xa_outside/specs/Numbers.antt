@@ -22,6 +22,7 @@ pub record IsMeter (m : Numbers) : Type 0 where
   pub pulled_small : m.pulled < 2 ^ 64
   pub since_small : m.since < 2 ^ 64
   pub drafted_small : m.drafted < 2 ^ 64
+  pub gap_small : m.gap < 2 ^ 64
   pub covers : m.since - m.drafted ≤ m.gap
 
 -- how far what was pulled since the last `begin` is ahead of what was drafted

@@ -2,6 +2,7 @@ ghost use Rattle.std.specs.Prelude.{◌≡◌, ◌+◌, ◌<◌, ◌≤◌, [], 
 ghost use Rattle.xa_outside.specs.Taken.{Takes, TakesNone, Writes};
 ghost use Rattle.std.specs.Io.{WritesAtMost};
 ghost use Rattle.xa_outside.specs.Held.{held_end};
+ghost use Rattle.xa_outside.specs.declared.held.TheConstants.{SIZE};
 ghost use Rattle.xa_outside.specs.Causes.{HasCause};
 ghost use Rattle.xa_outside.specs.Buffered.{buffered_faults, buffered_taken, sink_behind, waiting_bytes};
 
@@ -10,8 +11,8 @@ use crate::{Failed, Sink};
 
 /// A sink in front of another one, to which it passes on what it takes, in pieces of kilobytes.
 ///
-/// It has a fixed buffer of 8 KiB and takes no memory. A piece that is longer than the buffer goes
-/// straight through. What still waits when the buffer is dropped is lost, so end with a `flush`.
+/// It has a fixed buffer of 64 KiB and takes no memory. A piece that is as long as the buffer, or
+/// longer, goes straight through. What still waits when the buffer is dropped is lost, so end with a `flush`.
 #[derive(Drop)]
 pub struct Buffered<'a, O> {
     out: &'a mut O,
@@ -57,10 +58,10 @@ impl<'a, O: Sink> Buffered<'a, O> {
     }
 
     fn make_room(&mut self, count: usize) -> Result<(), Failed>
-        requires { count < 8192 }
+        requires { count < SIZE }
         ensures bytes { TakesNone (buffered_taken O.taken self.old)
             (buffered_taken O.taken self.new) }
-        ensures room { OnOk result (held_end self.new.held + count ≤ 8192) }
+        ensures room { OnOk result (held_end self.new.held + count ≤ SIZE) }
         ensures cause { HasCause (buffered_faults O.faults self.old)
             (buffered_faults O.faults self.new) result }
     {

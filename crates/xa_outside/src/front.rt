@@ -2,7 +2,7 @@
 ghost use Rattle.std.specs.Prelude.{◌≡◌, ◌≤◌, Some, IfOk, IfErr, take, vec_len};
 ghost use Rattle.std.specs.FinMap as map;
 ghost use Rattle.xa_outside.specs.Causes.{Rose};
-ghost use Rattle.xa_outside.specs.Fault.{IfFolder};
+ghost use Rattle.xa_outside.specs.Fault.{IfFolder, IfMemory};
 ghost use Rattle.xa_outside.specs.Folder.{Files, bytes_or_none, front, front_of};
 ghost use Rattle.xa_outside.specs.Numbers.{PullsAtMost, after_pull};
 
@@ -45,6 +45,9 @@ pub fn read_front<F: Folder>(
     ensures later { F.faults folder.old ≤ F.faults folder.new }
     ensures cause { IfErr result (λ e.
         IfFolder e (Rose (F.faults folder.old) (F.faults folder.new))) }
+
+    // Room is made before the folder is asked, so want of memory comes with the folder untouched.
+    ensures memory { IfErr result (λ e. IfMemory e (folder.new ≡ folder.old)) }
     ensures short { IfOk result (λ v. vec_len v ≤ length) }
 
     // Where files are told, these are the bytes, and there are so many where the file has so many.

@@ -1,7 +1,8 @@
 ghost use Rattle.std.specs.Prelude.{◌≡◌, ◌+◌, ◌≤◌, ◌↔◌, [], ◌++◌, drop, length, IsTrue};
+ghost use Rattle.xa_outside.specs.declared.held.TheConstants.{SIZE};
 
 /// How many bytes can be held.
-pub(crate) const SIZE: usize = 8192;
+pub(crate) const SIZE: usize = 65_536;
 
 /// Bytes that wait, in a buffer of fixed size.
 #[derive(Drop)]
@@ -10,7 +11,7 @@ pub(crate) struct Held {
     start: usize,
     end: usize,
     ghost ordered: { start ≤ end },
-    ghost in_range: { end ≤ 8192 },
+    ghost in_range: { end ≤ SIZE },
 }
 
 impl Held {
@@ -34,7 +35,7 @@ impl Held {
 
     /// Whether the piece fits behind what waits.
     pub(crate) fn has_room(&self, count: usize) -> bool
-        ensures { IsTrue result ↔ (held_end self.now + count ≤ 8192) }
+        ensures { IsTrue result ↔ (held_end self.now + count ≤ SIZE) }
     {
         count <= SIZE - self.end
     }
@@ -53,7 +54,7 @@ impl Held {
     }
 
     pub(crate) fn add(&mut self, piece: &[u8])
-        requires { held_end self.old + length piece.now ≤ 8192 }
+        requires { held_end self.old + length piece.now ≤ SIZE }
         ensures { held_bytes self.new ≡ held_bytes self.old ++ piece.now }
     {
         let end = self.end + piece.len();

@@ -15,6 +15,7 @@ pub struct Meter {
     pub ghost pulled_small: { pulled < 2 ^ 64 },
     pub ghost since_small: { since < 2 ^ 64 },
     pub ghost drafted_small: { drafted < 2 ^ 64 },
+    pub ghost gap_small: { gap < 2 ^ 64 },
     pub ghost covers: { since - drafted ≤ gap },
 }
 

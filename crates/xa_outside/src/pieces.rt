@@ -18,7 +18,8 @@ pub(crate) fn put_pieces<K: Sink>(sink: &mut K, pieces: &[&[u8]]) -> Result<(), 
     Ok(())
 }
 
-/// Writes the pieces, one after the other, in as few writes as a buffer allows.
+/// Writes the pieces, one after the other, through a buffer: one write for all of them where they
+/// are shorter than the buffer together.
 pub fn put_buffered<O: Sink>(out: &mut O, pieces: &[&[u8]]) -> Result<(), Failed>
     ensures bytes { Puts (O.taken out.old) (O.taken out.new) result
         (flat_map (λ p. p.now) pieces.now) }

@@ -19,7 +19,7 @@ use Rattle.version_notes.specs.Parts.{parts_behind, parts_in}
 use Rattle.version_notes.specs.Reader.{at_first}
 use Rattle.version_notes.specs.Reading.{notes_from}
 use Rattle.version_notes.specs.declared.parts.Parts.{Parts}
-use Rattle.noted_file.specs.Contents.{Contents, fronted}
+use Rattle.noted_file.specs.Contents.{Contents, header_of}
 use Rattle.noted_file.specs.Full.{FullAs}
 use Rattle.xarch_words.specs.Commands as command
 use Rattle.xarch_words.specs.Refusal.{archive, versions, Refusal, no_file, exists, damaged, limit, spec_differs, PlainFault, refused}
@@ -146,7 +146,7 @@ module _ (has_parts : (c : Contents) (bytes : List ℕ) (full : FullAs c bytes) 
   module _ (one two new : List ℕ) where
     -- over sound archives their rules and the numbers of their versions are read
     input-sound : (c d : Contents) → ArchiveIs files one c → ArchiveIs files two d
-        → join_input files one two new ≡ and_then (join_checked files one two new (fronted c) (fronted d)) (λ _. Ok (fronted c, fronted d))
+        → join_input files one two new ≡ and_then (join_checked files one two new (header_of c) (header_of d)) (λ _. Ok (header_of c, header_of d))
     input-sound c d a b =
         let h : List PlainRule × ℕ = (c.rules, length c.versions) in
         let g : List PlainRule × ℕ = (d.rules, length d.versions) in
@@ -189,13 +189,13 @@ module _ (has_parts : (c : Contents) (bytes : List ℕ) (full : FullAs c bytes) 
       first = λ c a w. first-whole c a (e ∙ refused-as q (damaged one) (same-refusal q (damaged one) w));
       second = λ c a w. second-whole c a (e ∙ refused-as q (damaged two) (same-refusal q (damaged two) w));
       sound = λ c d a b.
-          let none = checked-refused (join_checked files one two new (fronted c) (fronted d)) (fronted c, fronted d) q (sym (input-sound c d a b) ∙ e) in
+          let none = checked-refused (join_checked files one two new (header_of c) (header_of d)) (header_of c, header_of d) q (sym (input-sound c d a b) ∙ e) in
           subst (λ x. GoesOn x (λ _. Stores files new (joined c d)) (Err q)) (sym none) refl;
     }
 
     module _ (h : (List PlainRule × ℕ) × (List PlainRule × ℕ)) (read : join_input files one two new ≡ Ok h) where
-      checked : (c d : Contents) → ArchiveIs files one c → ArchiveIs files two d → join_checked files one two new (fronted c) (fronted d) ≡ Ok tt
-      checked c d a b = checked-given (join_checked files one two new (fronted c) (fronted d)) (fronted c, fronted d) h (sym (input-sound c d a b) ∙ read)
+      checked : (c d : Contents) → ArchiveIs files one c → ArchiveIs files two d → join_checked files one two new (header_of c) (header_of d) ≡ Ok tt
+      checked c d a b = checked-given (join_checked files one two new (header_of c) (header_of d)) (header_of c, header_of d) h (sym (input-sound c d a b) ∙ read)
 
       -- what comes of the rest
       goes-on : (c d : Contents) (r : Result Outcome Refusal) → ArchiveIs files one c → ArchiveIs files two d → Stores files new (joined c d) r

@@ -8,7 +8,7 @@ use Rattle.keyed_tree.specs.Data.{PlainKeyed}
 use Rattle.archive_tree.specs.Data.{PlainArchive}
 use Rattle.archive_tree.specs.Stands.{ArchiveOf}
 use Rattle.record_format.specs.Files.{FileOf}
-use Rattle.noted_file.specs.Contents.{Contents, fronted, unnoted, with_keys, with_version}
+use Rattle.noted_file.specs.Contents.{Contents, header_of, unnoted, with_keys, with_version}
 use Rattle.noted_file.specs.Full.{Full, FullAs, FullOf}
 use Rattle.archive_stats.specs.Counts.{PlainCounts, counts}
 use Rattle.key_rules.specs.Faults.{PlainKeyFault}
@@ -104,7 +104,7 @@ module _ (one_archive : (vs : List PlainKeyed) (a b : PlainArchive) → ArchiveO
   one_joined : (files : Files) (one two new : List ℕ) (c d : Contents) (r s : Result Outcome Refusal)
       → JoinsFrom files one two new c d r → JoinsFrom files one two new c d s → s ≡ r
   one_joined files one two new c d r s p q =
-      one_way (join_checked files one two new (fronted c) (fronted d)) (λ _. Stores files new (joined c d)) (λ _. one_stored files new (joined c d)) r s p q
+      one_way (join_checked files one two new (header_of c) (header_of d)) (λ _. Stores files new (joined c d)) (λ _. one_stored files new (joined c d)) r s p q
 
   -- and what a `join` comes to, whether the second archive is there or not, where the first is
   one_behind : (files : Files) (one two new : List ℕ) (c : Contents) (r s : Result Outcome Refusal) → ArchiveIs files one c

@@ -4,7 +4,7 @@ use Rattle.std.specs.Str.{bytes_eq}
 use Rattle.xa_outside.specs.Folder.{Files}
 use Rattle.key_spec.specs.Canonical.{canonical}
 use Rattle.key_spec.specs.Data.{PlainRule}
-use Rattle.noted_file.specs.Contents.{Contents, fronted}
+use Rattle.noted_file.specs.Contents.{Contents, header_of}
 use Rattle.xarch_words.specs.Refusal.{Refusal, limit, spec_differs, versions}
 use Rattle.xarch_parts.specs.Archives.{GoesOn, Opens, Stores, free_in}
 use Rattle.xarch_parts.specs.Outcome.{Outcome, and_then}
@@ -31,7 +31,7 @@ joined c d = record { rules = c.rules; versions = c.versions ++ d.versions; note
 
 -- what comes where the first archive holds this, and the second that
 abbrev pub JoinsFrom : Files → List ℕ → List ℕ → List ℕ → Contents → Contents → Result Outcome Refusal → Type 0
-JoinsFrom files one two new c d r = GoesOn (join_checked files one two new (fronted c) (fronted d)) (λ _. Stores files new (joined c d)) r
+JoinsFrom files one two new c d r = GoesOn (join_checked files one two new (header_of c) (header_of d)) (λ _. Stores files new (joined c d)) r
 
 abbrev pub JoinIs : Files → List ℕ → List ℕ → List ℕ → Result Outcome Refusal → Type 0
 JoinIs files one two new r = Opens files one (λ c. Opens files two (JoinsFrom files one two new c)) r

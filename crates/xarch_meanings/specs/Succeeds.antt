@@ -7,7 +7,7 @@ use Rattle.archive_tree.specs.Stands.{version_of}
 use Rattle.archive_cut.specs.Sliced.{items}
 use Rattle.archive_rekey.specs.Rekeyed.{AreRekeyed}
 use Rattle.archive_text.specs.Export.{ExportOf}
-use Rattle.noted_file.specs.Contents.{Contents, fronted}
+use Rattle.noted_file.specs.Contents.{Contents, header_of}
 use Rattle.noted_file.specs.Full.{FullAs}
 use Rattle.record_format.specs.Files.{FileOf}
 use Rattle.xarch_gen.specs.Company.{company_rules}
@@ -98,7 +98,7 @@ pub record CanJoin (files : Files) (one two new : List ℕ) : Type 0 where
   pub bytes : List ℕ
   pub first : ArchiveIs files one contents
   pub second : ArchiveIs files two behind
-  pub checked : join_checked files one two new (fronted contents) (fronted behind) ≡ Ok tt
+  pub checked : join_checked files one two new (header_of contents) (header_of behind) ≡ Ok tt
   pub file : FileOf contents.rules (contents.versions ++ behind.versions) bytes
 
 -- the archive is sound

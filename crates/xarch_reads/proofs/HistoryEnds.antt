@@ -14,8 +14,8 @@ use Rattle.record_format.specs.Files.{FileOf}
 use Rattle.record_format.specs.Fronts.{header}
 use Rattle.record_format.specs.Probed.{probed}
 use Rattle.file_history.specs.Told.{IfFailed}
-use Rattle.file_history.specs.declared.fault.HistoryFault.{HistoryFault}
-use Rattle.file_history.specs.declared.fault.HistoryFault.TheVariants.{Damage, Folder, Memory}
+use Rattle.file_history.specs.declared.fault.HistFault.{HistFault}
+use Rattle.file_history.specs.declared.fault.HistFault.TheVariants.{Damage, Folder, Memory}
 use Rattle.record_cursor.specs.View.{PlainHeader, IsHeader}
 use Rattle.version_notes.specs.Parts.{parts_behind, parts_in}
 use Rattle.noted_file.specs.Contents.{Contents}
@@ -36,7 +36,7 @@ use Rattle.xarch_reads.proofs.PathEnds.{path-damaged, path-given, path-refused, 
 
 -- ---- the fault of the search
 
-pub shown-cause : (T : Type 0) (name : List ℕ) (e : HistoryFault) (v : PlainFault) (a b : ℕ) → IsShownAs name e v → IfFailed {T = T} (Err e) (Rose a b) → IsOfFolder a b (Some v)
+pub shown-cause : (T : Type 0) (name : List ℕ) (e : HistFault) (v : PlainFault) (a b : ℕ) → IsShownAs name e v → IfFailed {T = T} (Err e) (Rose a b) → IsOfFolder a b (Some v)
 unfolding IsInside IsOfFolder
 shown-cause T name Damage v a b (inl is) h = subst (λ (z : PlainFault). IsOfFolder a b (Some z)) (sym is) tt
 shown-cause T name Damage v a b (inr is) h = subst (λ (z : PlainFault). IsOfFolder a b (Some z)) (sym is) tt
@@ -44,13 +44,13 @@ shown-cause T name Folder v a b is h = subst (λ (z : PlainFault). IsOfFolder a 
 shown-cause T name Memory v a b is h = subst (λ (z : PlainFault). IsOfFolder a b (Some z)) (sym is) tt
 
 -- it is no refusal but damage
-pub shown-refusal : (name : List ℕ) (e : HistoryFault) (v : PlainFault) → IsShownAs name e v → IsRefusal (damaged name) v
+pub shown-refusal : (name : List ℕ) (e : HistFault) (v : PlainFault) → IsShownAs name e v → IsRefusal (damaged name) v
 shown-refusal name Damage v (inl is) q r = let same : refused q ≡ refused (damaged name) = sym r ∙ is in cc
 shown-refusal name Damage v (inr is) q r = let wrong : memory ≡ refused q = sym is ∙ r in absurd cc
 shown-refusal name Folder v is q r = let wrong : folder_fault ≡ refused q = sym is ∙ r in absurd cc
 shown-refusal name Memory v is q r = let wrong : memory ≡ refused q = sym is ∙ r in absurd cc
 
-pub shown-sound : (name : List ℕ) (e : HistoryFault) (v : PlainFault) → IsShownAs name e v → e ≢ Damage → NoRefusal v
+pub shown-sound : (name : List ℕ) (e : HistFault) (v : PlainFault) → IsShownAs name e v → e ≢ Damage → NoRefusal v
 shown-sound name Damage v is not q r = not refl
 shown-sound name Folder v is not q r = let wrong : folder_fault ≡ refused q = sym is ∙ r in absurd cc
 shown-sound name Memory v is not q r = let wrong : memory ≡ refused q = sym is ∙ r in absurd cc

@@ -23,7 +23,7 @@ ghost use Rattle.xarch_meanings.specs.Performs.{Performs};
 ghost use Rattle.xarch_reads.specs.Searched.{IsShownAs};
 
 use crate::asked::{Search, read_asked};
-use file_history::HistoryFault;
+use file_history::HistFault;
 use noted_file::full_files_have_parts;
 use record_format::versions_have_one_file;
 use std::alloc::Global;
@@ -108,13 +108,13 @@ fn versions_by<F: Folder, L: Ledger>(
 }
 
 // What is said of the fault, where it befell the archive of this name.
-fn shown_fault(alloc: Global, archive: &str, fault: HistoryFault) -> Fault
+fn shown_fault(alloc: Global, archive: &str, fault: HistFault) -> Fault
     ensures { IsShownAs archive.now fault (fault_view result) }
 {
     match fault {
-        HistoryFault::Damage => damaged(alloc, archive),
-        HistoryFault::Folder => Fault::FolderFault,
-        HistoryFault::Memory => Fault::Memory,
+        HistFault::Damage => damaged(alloc, archive),
+        HistFault::Folder => Fault::FolderFault,
+        HistFault::Memory => Fault::Memory,
     }
 }
 

@@ -18,7 +18,7 @@ use Rattle.xarch_words.specs.Commands.{PlainCommand, norm, init, add, rekey, get
 use Rattle.xarch_words.specs.Refusal.{specification, Refusal, bad_text, exists, no_file}
 use Rattle.xarch_words.specs.Refusal as refusal
 use Rattle.xarch_meanings.specs.Add.{AddsTo, added}
-use Rattle.noted_file.specs.Contents.{Contents, fronted, unnoted, with_keys, with_version}
+use Rattle.noted_file.specs.Contents.{Contents, header_of, unnoted, with_keys, with_version}
 use Rattle.noted_file.specs.Full.{FullAs, FullOf}
 use Rattle.noted_file.proofs.Readings.{same-contents}
 use Rattle.xarch_parts.specs.Archives.{ArchiveIs, GoesOn, Stores, free_in, short_note}
@@ -400,7 +400,7 @@ join-begins files name one two new o same has m =
     let first = h.contents in
     let second = g.contents in
     let comes : JoinsFrom files one two new first second (Ok o) = m.sound first second h.archive g.archive in
-    goes o (join_checked files one two new (fronted first) (fronted second)) (λ _. Stores files new (joined first second)) (Ok o) refl comes (λ _ _ s. record {
+    goes o (join_checked files one two new (header_of first) (header_of second)) (λ _. Stores files new (joined first second)) (Ok o) refl comes (λ _ _ s. record {
       held = joined first second;
       begins = (same, record { first = first; second = second; from = h.archive; behind = g.archive; is = refl });
       archive = subst (λ n. ArchiveIs o.files n (joined first second)) (sym same) (stored-is files o new (joined first second) s);

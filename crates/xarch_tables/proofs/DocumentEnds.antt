@@ -11,7 +11,7 @@ use Rattle.key_spec.specs.Data.{PlainRule}
 use Rattle.csv_tables.specs.Data.{PlainTable}
 use Rattle.csv_tables.specs.Documents.{table_tree}
 use Rattle.csv_tables.specs.Keys.{table_rules, AreApart, IsFaultlessByItsKeys, SatisfiesItsKeys}
-use Rattle.csv_tables.specs.Lengths.{capped}
+use Rattle.csv_tables.specs.Lengths.{at_most as capped}
 use Rattle.csv_tables.specs.Records.{has_field, IsRegular}
 use Rattle.xarch_words.specs.Refusal.{Refusal, document, specification, key_fault, limit, PlainFault}
 use Rattle.xarch_parts.specs.Ends.{IsDefined}

@@ -2,8 +2,6 @@ use Rattle.std.proofs.Common.{None, refl, sym, ap, subst}
 use Rattle.std.specs.Result.{result_map_both}
 use Rattle.version_set.specs.View.{pairs_of}
 use Rattle.record_cursor.specs.View.{PlainCursor, shown_item}
-use Rattle.record_parts.specs.ShownViews.{shown_body}
-use Rattle.record_parts.proofs.ShapeLaws.{value_parts}
 use Rattle.record_writer.specs.Data.{PlainWriter}
 use Rattle.record_copy.specs.Faults.{of_cursor}
 use Rattle.record_copy.specs.State.{State, beside}
@@ -50,7 +48,7 @@ loop-held-preserved g c w =
     let l = c.loop-held in
     let a = c.in-Alt in
     let win = c.args.window.now in
-    read-on win.first win.last (pairs_of c.args.now.now) (at g c.args.folder.now c.args.cursor.now w) (at g l.folder l.cursor w) (at g c.next.new.folder c.next.follows.lender-at-none w) c.in_ok-stamp.field-0 _ l.held.items c.hold.new.held.items (ap shown_item a.is) (((value_parts (shown_body a.body)).0 c.bytes-spelled.ensures.is).1) (l.invariant w)
+    read-on win.first win.last (pairs_of c.args.now.now) (at g c.args.folder.now c.args.cursor.now w) (at g l.folder l.cursor w) (at g c.next.new.folder c.next.follows.lender-at-none w) c.in_ok-stamp.field-0 _ l.held.items c.hold.new.held.items (ap shown_item a.is) c.bytes-spelled.ensures.fits (l.invariant w)
     (read g (goal.at.loop-held-preserved g c).In_ok-stamp w) c.in_ok-hold-in-Alt.ensures
 
 pub returns-in_err-hold-in-Alt : goal.returns-in_err-hold-in-Alt

@@ -23,7 +23,6 @@ use Rattle.record_parts.specs.ShownViews.{shown_label, shown_stamp}
 use Rattle.record_writer.specs.Data.{call_end_inner}
 use Rattle.record_writer.specs.View.{writer_view}
 use Rattle.record_writer.specs.declared.writer.Writer.{Writer}
-use Rattle.record_parts.proofs.ShapeLaws.{label_parts}
 
 abbrev at : (g : Over) → g.row.F.Denot → PlainCursor → Writer → State
 at g = (let f = g.F.Folder in state f.files f.draft f.numbers f.faults)
@@ -106,7 +105,7 @@ cut_child-returns-in_err-new g t c =
     let e = c.in_err-new in
     let r = c.from_residual-in_err-new in
     at-err r.result e.field-0.0 r.ensures.1 (λ d. ChildCut w.first w.last q s u d)
-    (child-open_fault w.first w.last q c.match-branch-2.kind.0 s p u o before.canonical (canonical-own old.old before) (((label_parts (shown_label c.match-branch-2.kind.1)).0 c.bytes-spelled.ensures.is).1) (pairs_of c.args.now.now) c.requires.left e.field-0.0 (e.ensures.sends k goes.within))
+    (child-open_fault w.first w.last q c.match-branch-2.kind.0 s p u o before.canonical (canonical-own old.old before) c.bytes-spelled.ensures.fits (pairs_of c.args.now.now) c.requires.left e.field-0.0 (e.ensures.sends k goes.within))
 
 pub cut_child-cut_opened-requires : goal.cut_child-cut_opened-requires
 cut_child-cut_opened-requires g t c κs within =
@@ -128,8 +127,8 @@ cut_child-cut_opened-requires g t c κs within =
     let own = canonical-own old.old before in
     let small = smaller kind s p o in
     let less : 4 * (k.length - k.at) + 4 < t = omega (arith, small, c.decreases) in
-    let stands = opened-stands w.first w.last q kind s p u o before.canonical own (((label_parts (shown_label c.match-branch-2.kind.1)).0 c.bytes-spelled.ensures.is).1) now c.requires.left (option_map stamp_view new.new) (sym new.ensures.stamp) (new.ensures.sends k goes.within) c.requires.no_leaf in
-    let left = opened-left w.first w.last q kind s p u o before.canonical own (((label_parts (shown_label c.match-branch-2.kind.1)).0 c.bytes-spelled.ensures.is).1) now c.requires.left (option_map stamp_view new.new) (sym new.ensures.stamp) in
+    let stands = opened-stands w.first w.last q kind s p u o before.canonical own c.bytes-spelled.ensures.fits now c.requires.left (option_map stamp_view new.new) (sym new.ensures.stamp) (new.ensures.sends k goes.within) c.requires.no_leaf in
+    let left = opened-left w.first w.last q kind s p u o before.canonical own c.bytes-spelled.ensures.fits now c.requires.left (option_map stamp_view new.new) (sym new.ensures.stamp) in
     (less, (within, (goes.within, (stands, left))))
 
 pub cut_child-returns-in_err-cut_opened : goal.cut_child-returns-in_err-cut_opened
@@ -153,7 +152,7 @@ cut_child-returns-in_err-cut_opened g t c =
     let e = c.in_err-cut_opened in
     let r = c.from_residual-in_err-cut_opened in
     at-err r.result e.field-0.0 r.ensures.1 (λ d. ChildCut w.first w.last q s v d)
-    (child-opened w.first w.last q kind s p u o before.canonical (canonical-own old.old before) (((label_parts (shown_label c.match-branch-2.kind.1)).0 c.bytes-spelled.ensures.is).1) now c.requires.left (option_map stamp_view new.new) (sym new.ensures.stamp) (new.ensures.sends k goes.within) c.requires.no_leaf v (Some e.field-0.0) e.ensures)
+    (child-opened w.first w.last q kind s p u o before.canonical (canonical-own old.old before) c.bytes-spelled.ensures.fits now c.requires.left (option_map stamp_view new.new) (sym new.ensures.stamp) (new.ensures.sends k goes.within) c.requires.no_leaf v (Some e.field-0.0) e.ensures)
 
 pub cut_child-returns : goal.cut_child-returns
 cut_child-returns g t c =
@@ -173,7 +172,7 @@ cut_child-returns g t c =
     let old = c.in_ok-old in
     let new = c.in_ok-new in
     let o = stored (opener g t z.Joined-branch-2 gave) (stamp_view old.old) old.ensures in
-    child-opened w.first w.last q kind s p u o before.canonical (canonical-own old.old before) (((label_parts (shown_label c.match-branch-2.kind.1)).0 c.bytes-spelled.ensures.is).1) now c.requires.left (option_map stamp_view new.new) (sym new.ensures.stamp) (new.ensures.sends k goes.within) c.requires.no_leaf v None c.in_ok-cut_opened.ensures
+    child-opened w.first w.last q kind s p u o before.canonical (canonical-own old.old before) c.bytes-spelled.ensures.fits now c.requires.left (option_map stamp_view new.new) (sym new.ensures.stamp) (new.ensures.sends k goes.within) c.requires.no_leaf v None c.in_ok-cut_opened.ensures
 
 -- ---- the inside of a node
 

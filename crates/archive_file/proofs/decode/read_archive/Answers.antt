@@ -2,6 +2,7 @@ use Rattle.std.proofs.Common.{◌≡◌, ℕ, List, length, leb, true≢false, s
 use Rattle.std.specs.Prelude.{bytes_eq}
 use Rattle.std.proofs.lemmas.Bool.{le-leb, leb-true}
 use Rattle.std.proofs.lemmas.Slice.Eq.{bytes_eq-Decides}
+use Rattle.jsonml_tree.specs.declared.limits.TheConstants.{GREATEST_DEPTH}
 use Rattle.key_spec.specs.Data.{PlainRule}
 use Rattle.key_spec.specs.View.{spec_view}
 use Rattle.keyed_tree.specs.Data.{PlainKeyed}
@@ -25,9 +26,9 @@ use Rattle.archive_file.proofs.decode.read_archive.Goals as goal
 
 -- the row of a sound archive, under the set of all versions
 row-there : (rules : List PlainRule) (vs : List PlainKeyed) (bytes : List ℕ) (s : SoundAs rules vs bytes) (found : List PlainRule) (n : ℕ) (now : List ℕ) (set : List (ℕ × ℕ)) → Header rules vs bytes s found n now → set ≡ upto_pairs n
-    → RowAt set s.file.archive.kids (tail_bytes s.file.archive) 120 now
+    → RowAt set s.file.archive.kids (tail_bytes s.file.archive) GREATEST_DEPTH now
 row-there rules vs bytes s found n now set h own =
-    subst (λ (z : List (ℕ × ℕ)). RowAt z s.file.archive.kids (tail_bytes s.file.archive) 120 now) (ap upto_pairs (sym h.count) ∙ sym own) (sound-row rules vs bytes s now h.now_is)
+    subst (λ (z : List (ℕ × ℕ)). RowAt z s.file.archive.kids (tail_bytes s.file.archive) GREATEST_DEPTH now) (ap upto_pairs (sym h.count) ∙ sym own) (sound-row rules vs bytes s now h.now_is)
 
 pub read_row-requires : goal.read_row-requires
 read_row-requires c = subst IsSet (sym c.upto-all.ensures.pairs) (upto-set c.in_ok-spec.n c.in_ok-spec.ensures.few)
@@ -82,11 +83,11 @@ returns-in-Some-clause-file c =
     let rest = drop kids.end bytes in
     let ks = nodes_view kids.kids.items in
     let own = c.upto-all.ensures.pairs in
-    let row = subst (λ (z : List (ℕ × ℕ)). RowAt z ks rest 120 now) own kids.ensures.lie in
+    let row = subst (λ (z : List (ℕ × ℕ)). RowAt z ks rest GREATEST_DEPTH now) own kids.ensures.lie in
     let dirs = kids.ensures.dir ∙ ap (λ (z : List (ℕ × ℕ)). length (dir_bytes (dir_of (node_pieces z ks)))) own in
     let two = both (leb (length bytes) longest) (bytes_eq rest (u64_bytes kids.dir)) (sym c.is_closed.ensures ∙ c.if-not-is_closed.false) in
     let parts = rw c.in-Some.is at c.in_ok-archive.ensures.parts in
-    read-file (spec_view c.in_ok-spec.spec) n ks rest now bytes kids.dir 120 c.in_ok-spec.ensures.spelled c.in_ok-spec.ensures.few row ((bytes_eq-Decides rest (u64_bytes kids.dir)).0 two.1) dirs (leb-true _ _ two.0) _ parts
+    read-file (spec_view c.in_ok-spec.spec) n ks rest now bytes kids.dir GREATEST_DEPTH c.in_ok-spec.ensures.spelled c.in_ok-spec.ensures.few row ((bytes_eq-Decides rest (u64_bytes kids.dir)).0 two.1) dirs (leb-true _ _ two.0) _ parts
 
 pub returns-in-None-clause-found : goal.returns-in-None-clause-found
 returns-in-None-clause-found c = λ rules vs s. (

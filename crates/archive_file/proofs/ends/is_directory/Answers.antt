@@ -12,5 +12,5 @@ returns-then-not-do_pairs_fit c =
     no_room (ltb (length c.args.nodes.now) (2 ^ 32)) (dir_with (map entry_view c.args.entries.now) (pairs_of c.args.parent.now) (nodes_view c.args.nodes.now)) _ c.args.body.now
     (ap (map (λ s. pairs_of s.now)) c.deref.ensures.value ∙ c.in_ok-sets.ensures.sets) (sym c.do_pairs_fit.ensures ∙ c.if-not-do_pairs_fit.true)
 
-pub returns-then-nodes-ge-FOUR_BYTES : goal.returns-then-nodes-ge-FOUR_BYTES
-returns-then-nodes-ge-FOUR_BYTES c = grind (arith, common_steps)
+pub returns-then-nodes-ge-FIELD : goal.returns-then-nodes-ge-FIELD
+returns-then-nodes-ge-FIELD c = grind (arith, common_steps)

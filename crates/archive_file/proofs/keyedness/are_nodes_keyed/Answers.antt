@@ -10,4 +10,4 @@ pub nodes_fit-requires : goal.nodes_fit-requires
 nodes_fit-requires c =
     let a = archive_view c.args.archive.now in
     let sorted = and_parts (rise (labels a.kids)) (are_sorted a.kids) (kept_sorted a c.args.archive.now.stands) in
-    subst (λ ks. IsTrue (are_sorted ks)) (sym c.kids-2.ensures.nodes) sorted.1
+    subst (λ ks. IsTrue (are_sorted ks)) (sym c.kids-then-are_shallow.ensures.nodes) sorted.1

@@ -22,7 +22,7 @@ use Rattle.archive_join.specs.declared.fault.JoinFault.{JoinFault}
 use Rattle.archive_join.specs.declared.fault.JoinFault.TheVariants.{Memory}
 use Rattle.archive_join.proofs.Running.{side-fault}
 use Rattle.archive_join.proofs.JoinNodes.{PairPut, inner-closed, inner-fault, node-joined, node-memory, node-open, node-stopped, pair-fault, pair-put, put-joined, put-stopped}
-use Rattle.archive_join.proofs.JoinWalking.{moreover, rest-done, rest-fault, row-stopped, rows-on, rows-start, side-none, turn-both, turn-first, turn-memory, turn-none, turn-second}
+use Rattle.archive_join.proofs.JoinWalking.{moreover, rest-done, rest-fault, row-stopped, rows-on, rows-start, side-none, turn-both, turn-first, turn-none, turn-second}
 use Rattle.archive_join.proofs.Turning.{all_first, all_second, equal_first, equal_second, no_turn, some_turn}
 use Rattle.archive_join.proofs.walk.+walk.Given.{Over}
 use Rattle.archive_join.proofs.walk.+walk.Goals.{join_pair-in-Some-Some+in_ok-join_node, join_pair-in-Some+in-None-1, join_pair-in-None-1}
@@ -302,18 +302,6 @@ join_row-returns g t c =
 
 -- ---- a turn
 
-pub join_turn-returns-in_err-next_of : goal.join_turn-returns-in_err-next_of
-join_turn-returns-in_err-next_of g t c =
-    let n = c.args.sides.now.two.by in
-    let sets = c.args.sets.now in
-    let p = pairs_of sets.one in
-    let q = pairs_of sets.two in
-    let both = pairs_of sets.both in
-    let one = one_of c.args.heads.now in
-    let two = two_of c.args.heads.now in
-    let s = at g c.args.folder.now c.args.left.now c.args.right.now c.args.writer.now in
-    at-err c.from_residual.result Memory c.from_residual.ensures.1 (λ r. TurnJoined n p q both one two one two s s r) (turn-memory n p q both one two s (g.met.F.Folder.metered c.args.folder.now) c.requires.left c.requires.right)
-
 pub join_turn-returns-in-None : goal.join_turn-returns-in-None
 join_turn-returns-in-None g t c =
     let n = c.args.sides.now.two.by in
@@ -324,7 +312,7 @@ join_turn-returns-in-None g t c =
     let one = one_of c.args.heads.now in
     let two = two_of c.args.heads.now in
     let s = at g c.args.folder.now c.args.left.now c.args.right.now c.args.writer.now in
-    turn-none n p q both one two s (g.met.F.Folder.metered c.args.folder.now) c.requires.left c.requires.right c.requires.no_leaf (no_turn one two c.in_ok-next_of.field-0 c.in_ok-next_of.ensures c.in-None.is)
+    turn-none n p q both one two s (g.met.F.Folder.metered c.args.folder.now) c.requires.left c.requires.right c.requires.no_leaf (no_turn one two c.next_of.result c.next_of.ensures c.in-None.is)
 
 pub join_turn-returns-in_err-of_side-in-Some-Less : goal.join_turn-returns-in_err-of_side-in-Some-Less
 join_turn-returns-in_err-of_side-in-Some-Less g t c =
@@ -340,10 +328,10 @@ join_turn-returns-in_err-of_side-in-Some-Less g t c =
     let new = z.new in
     let now = option_map head_view new.head in
     let u = at g new.folder new.cursor c.args.right.now new.writer in
-    let less : turn one two ≡ Some Less = some_turn one two c.in_ok-next_of.field-0 c.in-Some-Less.field-0 Less c.in_ok-next_of.ensures c.in-Some-Less.is c.in-Some-Less.field-0-is in
+    let less : turn one two ≡ Some Less = some_turn one two c.next_of.result c.in-Some-Less.field-0 Less c.next_of.ensures c.in-Some-Less.is c.in-Some-Less.field-0-is in
     let passed = subst (λ (k : ℕ). PassedAlone k p q one now (with_first s) (with_first u) (copy.fault_of z.result)) c.args.sides.now.first z.ensures in
     let e = c.in_err-of_side-in-Some-Less in
-    let r = c.from_residual-in_err-of_side-in-Some-Less in
+    let r = c.from_residual in
     at-err r.result e.field-0.0 r.ensures.1 (λ d. TurnJoined n p q both one two now two s u d)
     (subst (λ (o : Option JoinFault). TurnJoined n p q both one two now two s u (moreover o)) (sym (side-fault false z.result (Err e.field-0.0) e.ensures))
     (turn-first n p q both one two now s u c.requires.right refl (all_first p q both sets.one.canonical sets.whole) less (copy.fault_of z.result) passed))
@@ -362,7 +350,7 @@ join_turn-returns-in_ok-of_side-in-Some-Less g t c =
     let new = z.new in
     let now = option_map head_view new.head in
     let u = at g new.folder new.cursor c.args.right.now new.writer in
-    let less : turn one two ≡ Some Less = some_turn one two c.in_ok-next_of.field-0 c.in-Some-Less.field-0 Less c.in_ok-next_of.ensures c.in-Some-Less.is c.in-Some-Less.field-0-is in
+    let less : turn one two ≡ Some Less = some_turn one two c.next_of.result c.in-Some-Less.field-0 Less c.next_of.ensures c.in-Some-Less.is c.in-Some-Less.field-0-is in
     let passed = subst (λ (k : ℕ). PassedAlone k p q one now (with_first s) (with_first u) (copy.fault_of z.result)) c.args.sides.now.first z.ensures in
     let e = c.in_ok-of_side-in-Some-Less in
     subst (λ (o : Option JoinFault). TurnJoined n p q both one two now two s u (moreover o)) (sym (side-fault false z.result (Ok e.field-0) e.ensures))
@@ -382,7 +370,7 @@ join_turn-returns-in_err-of_side-in-Some-Greater g t c =
     let new = z.new in
     let now = option_map head_view new.head in
     let u = at g new.folder c.args.left.now new.cursor new.writer in
-    let greater : turn one two ≡ Some Greater = some_turn one two c.in_ok-next_of.field-0 c.in-Some-Greater.field-0 Greater c.in_ok-next_of.ensures c.in-Some-Greater.is c.in-Some-Greater.field-0-is in
+    let greater : turn one two ≡ Some Greater = some_turn one two c.next_of.result c.in-Some-Greater.field-0 Greater c.next_of.ensures c.in-Some-Greater.is c.in-Some-Greater.field-0-is in
     let e = c.in_err-of_side-in-Some-Greater in
     let r = c.from_residual-in_err-of_side-in-Some-Greater in
     at-err r.result e.field-0.0 r.ensures.1 (λ d. TurnJoined n p q both one two one now s u d)
@@ -403,7 +391,7 @@ join_turn-returns-in_ok-of_side-in-Some-Greater g t c =
     let new = z.new in
     let now = option_map head_view new.head in
     let u = at g new.folder c.args.left.now new.cursor new.writer in
-    let greater : turn one two ≡ Some Greater = some_turn one two c.in_ok-next_of.field-0 c.in-Some-Greater.field-0 Greater c.in_ok-next_of.ensures c.in-Some-Greater.is c.in-Some-Greater.field-0-is in
+    let greater : turn one two ≡ Some Greater = some_turn one two c.next_of.result c.in-Some-Greater.field-0 Greater c.next_of.ensures c.in-Some-Greater.is c.in-Some-Greater.field-0-is in
     let e = c.in_ok-of_side-in-Some-Greater in
     subst (λ (o : Option JoinFault). TurnJoined n p q both one two one now s u (moreover o)) (sym (side-fault true z.result (Ok e.field-0) e.ensures))
     (turn-second n p q both one two now s u c.requires.left refl (all_second p q both sets.two.canonical sets.whole) greater (copy.fault_of z.result) z.ensures)
@@ -420,7 +408,7 @@ join_turn-returns-in_err-join_pair-in-Some-Equal g t c =
     let s = at g c.args.folder.now c.args.left.now c.args.right.now c.args.writer.now in
     let new = c.join_pair.new in
     let u = at g new.folder new.left new.right new.writer in
-    let equal : turn one two ≡ Some Equal = some_turn one two c.in_ok-next_of.field-0 c.in-Some-Equal.field-0 Equal c.in_ok-next_of.ensures c.in-Some-Equal.is c.in-Some-Equal.field-0-is in
+    let equal : turn one two ≡ Some Equal = some_turn one two c.next_of.result c.in-Some-Equal.field-0 Equal c.next_of.ensures c.in-Some-Equal.is c.in-Some-Equal.field-0-is in
     let e = c.in_err-join_pair-in-Some-Equal in
     let r = c.from_residual-in_err-join_pair-in-Some-Equal in
     at-err r.result e.field-0.0 r.ensures.1 (λ d. TurnJoined n p q both one two (one_of new.heads) (two_of new.heads) s u d)
@@ -438,5 +426,5 @@ join_turn-returns-in_ok-join_pair-in-Some-Equal g t c =
     let s = at g c.args.folder.now c.args.left.now c.args.right.now c.args.writer.now in
     let new = c.join_pair.new in
     let u = at g new.folder new.left new.right new.writer in
-    let equal : turn one two ≡ Some Equal = some_turn one two c.in_ok-next_of.field-0 c.in-Some-Equal.field-0 Equal c.in_ok-next_of.ensures c.in-Some-Equal.is c.in-Some-Equal.field-0-is in
+    let equal : turn one two ≡ Some Equal = some_turn one two c.next_of.result c.in-Some-Equal.field-0 Equal c.next_of.ensures c.in-Some-Equal.is c.in-Some-Equal.field-0-is in
     turn-both n p q both one two (one_of new.heads) (two_of new.heads) s u equal None c.in_ok-join_pair-in-Some-Equal.ensures

@@ -3,11 +3,11 @@ use Rattle.std.proofs.lemmas.List.{length-map}
 use Rattle.archive_text.proofs.ReadWhole.{if_none, if_some, notes_of, all_notes, kept_of}
 use Rattle.archive_text.proofs.read.file_with_notes.Goals as goal
 
-pub returns-then-n-gt-MOST-clause-complete : goal.returns-then-n-gt-MOST-clause-complete
-returns-then-n-gt-MOST-clause-complete c = λ vs file is full. (
+pub returns-then-n-gt-MOST_VERSIONS-clause-complete : goal.returns-then-n-gt-MOST_VERSIONS-clause-complete
+returns-then-n-gt-MOST_VERSIONS-clause-complete c = λ vs file is full. (
     let few = full.is.few in
     let count = is.count in
-    absurd (omega (arith, c.n-n.ensures, c.if-n-gt-MOST.true)))
+    absurd (omega (arith, c.n-n.ensures, c.if-n-gt-MOST_VERSIONS.true)))
 
 pub returns-then-notes-n-clause-complete : goal.returns-then-notes-n-clause-complete
 returns-then-notes-n-clause-complete c = λ vs file is full. (

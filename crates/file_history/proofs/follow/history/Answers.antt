@@ -8,7 +8,7 @@ use Rattle.version_set.specs.declared.set.VersionSet.{VersionSet}
 use Rattle.keyed_tree.specs.View.{label_view}
 use Rattle.record_cursor.specs.View.{header_view}
 use Rattle.file_history.specs.Leads.{lead}
-use Rattle.file_history.specs.declared.fault.HistoryFault.TheVariants.{Damage}
+use Rattle.file_history.specs.declared.fault.HistFault.TheVariants.{Damage}
 use Rattle.file_history.proofs.Finding.{found-some}
 use Rattle.file_history.proofs.Following.{followed-some, followed-none, counted-along}
 use Rattle.file_history.proofs.WholeFiles.{sound-file, sound-archive, sound-set, no-damage-of, failed-of}

@@ -7,7 +7,7 @@ use Rattle.keyed_tree.specs.View.{label_view}
 use Rattle.record_cursor.specs.View.{header_view}
 use Rattle.file_history.specs.Leads.{lead, IsLeafOf}
 use Rattle.file_history.specs.declared.leaf.LeafAt.{LeafAt}
-use Rattle.file_history.specs.declared.fault.HistoryFault.TheVariants.{Damage}
+use Rattle.file_history.specs.declared.fault.HistFault.TheVariants.{Damage}
 use Rattle.file_history.proofs.Following.{leaf-followed, counted-along}
 use Rattle.file_history.proofs.WholeFiles.{sound-file, sound-archive, no-damage-of, failed-of}
 use Rattle.file_history.proofs.leaf.find_leaf.Goals as goal

@@ -1,35 +1,31 @@
-use Rattle.std.proofs.Common.{◌≡◌, List, ℕ, [], ◌∷◌, ◌++◌, Some, None, IsUtf8, option_map, option_and_then, sym, ap, ◌∙◌, subst, append_assoc}
-use Rattle.serde_json.specs.Read.{read}
-use Rattle.jsonml_lines.specs.Lines.{PlainLine, front_text, line_text}
-use Rattle.jsonml_lines.specs.Read.{line_in}
+use Rattle.std.proofs.Common.{◌==◌, Some, None, drop, option_map, ap, sym, ◌∙◌}
+use Rattle.std.specs.List.{position}
 use Rattle.jsonml_lines.specs.View.{line_view}
-use Rattle.jsonml_lines.proofs.LineTrips.{line_reads_back}
+use Rattle.jsonml_lines.proofs.Taking.{line_at-cut, line_at-none, printed_found}
 use Rattle.jsonml_lines.proofs.read.take_line.Goals as goal
 
-line_is : (l m : PlainLine) → Some l ≡ Some m → l ≡ m
-line_is l m e = cc
+pub returns-in-Some-2-clause-line : goal.returns-in-Some-2-clause-line
+returns-in-Some-2-clause-line c =
+    let bytes = c.args.bytes.now in
+    let left = drop c.args.at bytes in
+    let rest = drop c.in-Some.next bytes in
+    ap (λ o. option_map (λ l. (l, rest)) (option_map line_view o)) (sym c.in-Some-2.is) ∙ ap (option_map (λ l. (l, rest))) c.in_ok-line-in-Some.ensures.line ∙ sym (line_at-cut left c.in-Some.front.now rest (position (λ b. b == 10) left) c.in-Some.ensures.split)
 
-no_line : (l : PlainLine) → None ≡ Some l → ⊥
-no_line l e = cc
+pub returns-in-None-2-clause-line : goal.returns-in-None-2-clause-line
+returns-in-None-2-clause-line c =
+    let bytes = c.args.bytes.now in
+    let left = drop c.args.at bytes in
+    let rest = drop c.in-Some.next bytes in
+    ap (λ o. option_map (λ l. (l, rest)) (option_map line_view o)) (sym c.in-None-2.is) ∙ ap (option_map (λ l. (l, rest))) c.in_ok-line-in-Some.ensures.line ∙ sym (line_at-cut left c.in-Some.front.now rest (position (λ b. b == 10) left) c.in-Some.ensures.split)
 
-feed_on : (bytes : List ℕ) (l : PlainLine) (rest : List ℕ) → bytes ≡ line_text l ++ rest → bytes ≡ front_text l ++ 10 ∷ rest
-feed_on bytes l rest is = is ∙ append_assoc (front_text l) (10 ∷ []) rest
+pub returns-in-None-clause-line : goal.returns-in-None-clause-line
+returns-in-None-clause-line c = let left = drop c.args.at c.args.bytes.now in line_at-none left (position (λ b. b == 10) left) c.in-None.ensures.split
 
 pub returns-in-Some-2-clause-found : goal.returns-in-Some-2-clause-found
-returns-in-Some-2-clause-found c = λ l rest line texts is.
-    let trip = line_reads_back l line in
-    let parts = c.in-Some.ensures.found (front_text l) rest trip.unbroken (feed_on _ l rest is) in
-    let here = c.in_ok-line-in-Some.ensures.found l (subst IsUtf8 (sym parts.0) (trip.utf8 texts)) (ap (λ t. option_and_then line_in (read t)) parts.0 ∙ trip.value) in
-    (line_is _ l (ap (option_map line_view) (sym c.in-Some-2.is) ∙ here), parts.1)
+returns-in-Some-2-clause-found c = printed_found (Some (c.in-Some-2.line, c.in-Some.next)) c.args.bytes.now c.args.at (returns-in-Some-2-clause-line c)
 
 pub returns-in-None-2-clause-found : goal.returns-in-None-2-clause-found
-returns-in-None-2-clause-found c = λ l rest line texts is.
-    let trip = line_reads_back l line in
-    let parts = c.in-Some.ensures.found (front_text l) rest trip.unbroken (feed_on _ l rest is) in
-    let here = c.in_ok-line-in-Some.ensures.found l (subst IsUtf8 (sym parts.0) (trip.utf8 texts)) (ap (λ t. option_and_then line_in (read t)) parts.0 ∙ trip.value) in
-    no_line l (ap (option_map line_view) (sym c.in-None-2.is) ∙ here)
+returns-in-None-2-clause-found c = printed_found None c.args.bytes.now c.args.at (returns-in-None-2-clause-line c)
 
 pub returns-in-None-clause-found : goal.returns-in-None-clause-found
-returns-in-None-clause-found c = λ l rest line texts is.
-    let trip = line_reads_back l line in
-    c.in-None.ensures.found (front_text l) rest trip.unbroken (feed_on _ l rest is)
+returns-in-None-clause-found c = printed_found None c.args.bytes.now c.args.at (returns-in-None-clause-line c)

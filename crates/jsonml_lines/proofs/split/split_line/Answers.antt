@@ -1,9 +1,8 @@
-use Rattle.std.proofs.Common.{None}
-use Rattle.jsonml_lines.proofs.Feeds.{feed_is, split_at}
+use Rattle.jsonml_lines.proofs.Feeds.{split_some, split_none}
 use Rattle.jsonml_lines.proofs.split.split_line.Goals as goal
 
-pub returns-in-Some-clause-found : goal.returns-in-Some-clause-found
-returns-in-Some-clause-found c = λ front rest e is. split_at c.args.bytes.now c.args.at front rest c.in-Some.size e is c.in-Some.ensures.place
+pub returns-in-Some-clause-split : goal.returns-in-Some-clause-split
+returns-in-Some-clause-split c = split_some c.args.bytes.now c.args.at c.in-Some.size c.in-Some.ensures.place
 
-pub returns-in-None-clause-found : goal.returns-in-None-clause-found
-returns-in-None-clause-found c = λ front rest e is. let none = feed_is c.args.bytes.now c.args.at front rest None e is c.in-None.ensures.place in absurd (cc)
+pub returns-in-None-clause-split : goal.returns-in-None-clause-split
+returns-in-None-clause-split c = split_none c.args.bytes.now c.args.at c.in-None.ensures.place

@@ -2,6 +2,7 @@ use Rattle.std.proofs.Common.{◌≤◌, Ok, sym, ap, ◌∙◌, subst}
 use Rattle.jsonml_tree.specs.Data.{PlainTree, tree_depth}
 use Rattle.jsonml_tree.specs.Fits.{IsElement, ItemsFit}
 use Rattle.jsonml_tree.specs.WellFormed.{IsWellFormed}
+use Rattle.jsonml_tree.specs.declared.limits.TheConstants.{GREATEST_DEPTH}
 use Rattle.jsonml_text.specs.Texts.{AreTexts}
 use Rattle.jsonml_text.proofs.document.read_document.Goals as goal
 
@@ -14,7 +15,7 @@ returns c =
       refused = tt;
       element = subst IsElement same lent.element;
       well_formed = subst IsWellFormed same lent.well_formed;
-      shallow = subst (λ (t : PlainTree). tree_depth t ≤ 120) same lent.shallow;
+      shallow = subst (λ (t : PlainTree). tree_depth t ≤ GREATEST_DEPTH) same lent.shallow;
       items_fit = subst ItemsFit same lent.items_fit;
       texts = subst AreTexts same lent.texts;
     }

@@ -1,17 +1,18 @@
 use Rattle.std.proofs.Common.{map, refl, ap}
 use Rattle.jsonml_tree.specs.LentAttrs.{lent_attr_view}
+use Rattle.jsonml_text.specs.Straight.{placed}
 use Rattle.jsonml_text.proofs.Members.{HasPut-first, HasPut-more, ReadsObject-end, ReadsObject-none}
 use Rattle.jsonml_text.proofs.object.read_members.Goals as goal
 
 pub returns-then-is_sign : goal.returns-then-is_sign
 returns-then-is_sign c =
     let begun = c.skip_blanks-begun in
-    ReadsObject-none c.args.text.now c.args.at begun.result (map lent_attr_view c.args.attrs.now.items) c.requires.begun begun.ensures.same begun.ensures.later (c.if-is_sign.ensures refl) (ap (map lent_attr_view) c.requires.empty)
+    ReadsObject-none c.args.text.now c.args.at begun.result (placed (map lent_attr_view c.args.attrs.now.items)) c.requires.begun begun.ensures.same begun.ensures.later (c.if-is_sign.ensures refl) (ap (λ l. placed (map lent_attr_view l)) c.requires.empty)
 
 pub members-init : goal.members-init
 members-init c =
     let begun = c.skip_blanks-begun in
-    HasPut-first c.args.text.now c.args.at begun.result (map lent_attr_view c.args.attrs.now.items) _ c.in_ok-end.end c.requires.begun begun.ensures.same begun.ensures.later (ap (map lent_attr_view) c.requires.empty) c.in_ok-end.ensures
+    HasPut-first c.args.text.now c.args.at begun.result (placed (map lent_attr_view c.args.attrs.now.items)) _ c.in_ok-end.end c.requires.begun begun.ensures.same begun.ensures.later (ap (λ l. placed (map lent_attr_view l)) c.requires.empty) c.in_ok-end.ensures
 
 pub members-preserved : goal.members-preserved
 members-preserved c =

@@ -8,8 +8,8 @@ loop-a-init c = grind (arith, common_steps)
 pub returns-in_default : goal.returns-in_default
 returns-in_default c = grind (arith, common_steps)
 
-pub returns-in_default-order_key : goal.returns-in_default-order_key
-returns-in_default-order_key c = grind (arith, common_steps)
+pub returns-in_default-order : goal.returns-in_default-order
+returns-in_default-order c = grind (arith, common_steps)
 
 pub loop-a-preserved : goal.loop-a-preserved
 loop-a-preserved c = grind (arith, common_steps)

@@ -8,8 +8,8 @@ loop-a-init c = grind (arith, common_steps)
 pub returns-in_default : goal.returns-in_default
 returns-in_default c = grind (arith, common_steps)
 
-pub returns-in_default-order_key_own : goal.returns-in_default-order_key_own
-returns-in_default-order_key_own c = grind (arith, common_steps)
+pub returns-in_default-order_own : goal.returns-in_default-order_own
+returns-in_default-order_own c = grind (arith, common_steps)
 
 pub loop-a-preserved : goal.loop-a-preserved
 loop-a-preserved c = grind (arith, common_steps)

@@ -21,8 +21,8 @@ returns-then-not-branch-clause-none c =
     let whole = ap length (fold-append put [] (implied_rules rules) rules) in
     omega (arith, many, ap length same, grown, whole)
 
-pub returns-then-len-gt-MAX_RULES-clause-none : goal.returns-then-len-gt-MAX_RULES-clause-none
-returns-then-len-gt-MAX_RULES-clause-none c = grind (arith, common_steps)
+pub returns-then-len-gt-MOST_RULES-clause-none : goal.returns-then-len-gt-MOST_RULES-clause-none
+returns-then-len-gt-MOST_RULES-clause-none c = grind (arith, common_steps)
 
 pub returns-clause-some : goal.returns-clause-some
 returns-clause-some c = grind (arith, common_steps)
@@ -36,11 +36,11 @@ returns-then-not-branch-clause-some c = grind (arith, common_steps)
 pub returns-then-not-branch-clause-few : goal.returns-then-not-branch-clause-few
 returns-then-not-branch-clause-few c = grind (arith, common_steps)
 
-pub returns-then-len-gt-MAX_RULES-clause-some : goal.returns-then-len-gt-MAX_RULES-clause-some
-returns-then-len-gt-MAX_RULES-clause-some c = grind (arith, common_steps)
+pub returns-then-len-gt-MOST_RULES-clause-some : goal.returns-then-len-gt-MOST_RULES-clause-some
+returns-then-len-gt-MOST_RULES-clause-some c = grind (arith, common_steps)
 
-pub returns-then-len-gt-MAX_RULES-clause-few : goal.returns-then-len-gt-MAX_RULES-clause-few
-returns-then-len-gt-MAX_RULES-clause-few c = grind (arith, common_steps)
+pub returns-then-len-gt-MOST_RULES-clause-few : goal.returns-then-len-gt-MOST_RULES-clause-few
+returns-then-len-gt-MOST_RULES-clause-few c = grind (arith, common_steps)
 
 pub returns-clause-none : goal.returns-clause-none
 returns-clause-none c = grind (arith, common_steps)

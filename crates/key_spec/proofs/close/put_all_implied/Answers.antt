@@ -11,8 +11,8 @@ use Rattle.key_spec.proofs.CloseLemmas.{length-put_all}
 use Rattle.key_spec.proofs.Steps.{map-drop}
 use Rattle.key_spec.proofs.close.put_all_implied.Goals as goal
 
-pub returns-then-len-gt-MAX_RULES-clause-many : goal.returns-then-len-gt-MAX_RULES-clause-many
-returns-then-len-gt-MAX_RULES-clause-many c =
+pub returns-then-len-gt-MOST_RULES-clause-many : goal.returns-then-len-gt-MOST_RULES-clause-many
+returns-then-len-gt-MOST_RULES-clause-many c =
     let given = c.args.given.now in
     let i = c.loop-one.one-index in
     let item = c.one-item.result in
@@ -27,7 +27,7 @@ returns-then-len-gt-MAX_RULES-clause-many c =
     let grown = length-put_all rule_cmp now (implied_rules rest) in
     let size : length now ≡ c.len.result = length-map c.put_implied.new.closed.keys placed_view ∙ sym c.len.ensures.len in
     let same = ap length all in
-    omega (arith, grown, size, same, c.if-len-gt-MAX_RULES.true)
+    omega (arith, grown, size, same, c.if-len-gt-MOST_RULES.true)
 
 pub loop-one-preserved : goal.loop-one-preserved
 loop-one-preserved c = grind (arith, common_steps)

@@ -1,14 +1,14 @@
-use Rattle.std.proofs.Common.{◌≡◌, ◌<◌, ◌∷◌, [], ◌++◌, List, length, get_or, refl, ap, ◌∙◌, arith, rules, subst, sym}
+use Rattle.std.proofs.Common.{◌≡◌, ◌<◌, ◌∷◌, [], ◌++◌, List, length, get_or, refl, ap, arith, rules, subst, sym}
 use Rattle.std.specs.List.{flat_map}
 use Rattle.xa_outside.specs.Taken.{Takes, TakesPrefix}
 use Rattle.xa_outside.specs.TakenLaws.{Takes-nil}
 use Rattle.jsonml_print.specs.Calls.{Call, begin, end, printed, reached, AllMayCome, Prints, content_calls}
 use Rattle.jsonml_print.proofs.Walks.{AllMayCome-front, AllMayCome-back, Prints-after, Prints-failed, walk_stop, walk_bytes, walk_pen, walk_now, walk_rest}
 use Rattle.key_annotate.specs.LentView.{lent_view}
+use Rattle.key_annotate.specs.declared.lent.Head.{Head}
 use Rattle.key_annotate.specs.declared.lent.LentKeyed.{LentKeyed, size-LentKeyed, the_lemmas}
 use Rattle.key_annotate.specs.Inside.{inside_of}
-use Rattle.key_annotate.specs.declared.bare.Bare.{Bare}
-use Rattle.keyed_print.proofs.KeyedCalls.{attr_calls, kid_calls, leaf_calls, inside_of-Inner, inside_of-Flat, calls-named, most_at}
+use Rattle.keyed_print.proofs.KeyedCalls.{attr_calls, kid_calls, inside_of-Inner, calls-named, most_at}
 use Rattle.keyed_print.proofs.print_lent.+print.Goals as goal
 
 pub print_elements-loop-kid-init : goal.print_elements-loop-kid-init
@@ -59,9 +59,9 @@ print_behind_tag-returns-clause-prints g t c =
 pub print_inside-print_attributes-requires : goal.print_inside-print_attributes-requires
 print_inside-print_attributes-requires g t c =
     let p = c.args.printer.now in
-    let xs = c.deref.result.now in
+    let xs = c.deref.result.now.attrs.now in
     let ks = c.in-Inner.kids.items in
-    let whole = inside_of-Inner c.args.keyed.now c.in-Inner.label c.in-Inner.row c.in-Inner.kids xs ks c.in-Inner.is c.deref.ensures.value refl in
+    let whole = inside_of-Inner c.args.keyed.now c.in-Inner.head c.in-Inner.kids xs ks c.in-Inner.is (ap (λ (h : Head). h.attrs.now) c.deref.ensures) refl in
     AllMayCome-front p (flat_map attr_calls xs) (flat_map kid_calls ks) (subst (AllMayCome p) whole c.requires)
 
 pub print_inside-returns-in_err-print_attributes-in-Inner-clause-prints : goal.print_inside-returns-in_err-print_attributes-in-Inner-clause-prints
@@ -70,9 +70,9 @@ print_inside-returns-in_err-print_attributes-in-Inner-clause-prints g t c =
     let b = g.K.Sink.taken c.print_attributes.new.sink in
     let p = c.args.printer.now in
     let q = c.print_attributes.new.printer in
-    let xs = c.deref.result.now in
+    let xs = c.deref.result.now.attrs.now in
     let ks = c.in-Inner.kids.items in
-    let whole = inside_of-Inner c.args.keyed.now c.in-Inner.label c.in-Inner.row c.in-Inner.kids xs ks c.in-Inner.is c.deref.ensures.value refl in
+    let whole = inside_of-Inner c.args.keyed.now c.in-Inner.head c.in-Inner.kids xs ks c.in-Inner.is (ap (λ (h : Head). h.attrs.now) c.deref.ensures) refl in
     subst (λ (l : List Call). Prints a b p q l c.from_residual.result) (sym whole)
     (Prints-failed a b p q (flat_map attr_calls xs) (flat_map kid_calls ks) c.from_residual.result c.from_residual.ensures.0 c.in_err-print_attributes-in-Inner.ensures.prints.bytes)
 
@@ -80,9 +80,9 @@ pub print_inside-print_elements-requires : goal.print_inside-print_elements-requ
 print_inside-print_elements-requires g t c =
     let p = c.args.printer.now in
     let q = c.print_attributes.new.printer in
-    let xs = c.deref.result.now in
+    let xs = c.deref.result.now.attrs.now in
     let ks = c.deref-in-Inner.result.now in
-    let whole = inside_of-Inner c.args.keyed.now c.in-Inner.label c.in-Inner.row c.in-Inner.kids xs ks c.in-Inner.is c.deref.ensures.value c.deref-in-Inner.ensures.value in
+    let whole = inside_of-Inner c.args.keyed.now c.in-Inner.head c.in-Inner.kids xs ks c.in-Inner.is (ap (λ (h : Head). h.attrs.now) c.deref.ensures) c.deref-in-Inner.ensures.value in
     λ κs lives. (
       search (rules, the_lemmas),
       (lives, AllMayCome-back p q (flat_map attr_calls xs) (flat_map kid_calls ks) c.in_ok-print_attributes-in-Inner.ensures.prints.pen (subst (AllMayCome p) whole c.requires)),
@@ -96,9 +96,9 @@ print_inside-returns-in_ok-print_attributes-in-Inner-clause-prints g t c =
     let p = c.args.printer.now in
     let q = c.print_attributes.new.printer in
     let r = c.print_elements.new.printer in
-    let xs = c.deref.result.now in
+    let xs = c.deref.result.now.attrs.now in
     let ks = c.deref-in-Inner.result.now in
-    let whole = inside_of-Inner c.args.keyed.now c.in-Inner.label c.in-Inner.row c.in-Inner.kids xs ks c.in-Inner.is c.deref.ensures.value c.deref-in-Inner.ensures.value in
+    let whole = inside_of-Inner c.args.keyed.now c.in-Inner.head c.in-Inner.kids xs ks c.in-Inner.is (ap (λ (h : Head). h.attrs.now) c.deref.ensures) c.deref-in-Inner.ensures.value in
     subst (λ (l : List Call). Prints a d p r l c.print_elements.result) (sym whole)
     (Prints-after a b d p q r (flat_map attr_calls xs) (flat_map kid_calls ks) c.print_elements.result c.in_ok-print_attributes-in-Inner.ensures.prints.bytes c.in_ok-print_attributes-in-Inner.ensures.prints.pen c.print_elements.ensures.prints)
 
@@ -147,13 +147,3 @@ print_elements-loop-kid-preserved g t c =
       rest = walk_rest kid_calls q r ks i k within pen c.loop-kid.invariant.rest;
       later = search rules;
     }
-
-pub print_inside-print_leaves-requires : goal.print_inside-print_leaves-requires
-print_inside-print_leaves-requires g t c =
-    let whole = inside_of-Flat c.args.keyed.now c.in-Flat.label c.in-Flat.leaves c.in-Flat.is ∙ ap (λ (ls : List Bare). flat_map leaf_calls ls) (sym c.deref-in-Flat.ensures.value) in
-    subst (AllMayCome c.args.printer.now) whole c.requires
-
-pub print_inside-returns-in-Flat-clause-prints : goal.print_inside-returns-in-Flat-clause-prints
-print_inside-returns-in-Flat-clause-prints g t c =
-    let whole = inside_of-Flat c.args.keyed.now c.in-Flat.label c.in-Flat.leaves c.in-Flat.is ∙ ap (λ (ls : List Bare). flat_map leaf_calls ls) (sym c.deref-in-Flat.ensures.value) in
-    subst (λ (l : List Call). Prints (g.K.Sink.taken c.args.sink.now) (g.K.Sink.taken c.print_leaves.new.sink) c.args.printer.now c.print_leaves.new.printer l c.print_leaves.result) (sym whole) c.print_leaves.ensures.prints

@@ -1,6 +1,6 @@
 use Rattle.std.proofs.Common.{◌≡◌, ◌||◌, ◌++◌, IsTrue, map, take, drop}
 use Rattle.version_set.specs.View.{pairs_of}
-use Rattle.keyed_parts.specs.View.{body_view}
+use Rattle.keyed_tree.specs.LentView.{lent_val_view}
 use Rattle.spelled_archive.specs.View.{alt_view}
 use Rattle.nested_merge.specs.Below.{are_alts_below}
 use Rattle.nested_merge.specs.Merged.{has_alt, merged_alt}
@@ -9,7 +9,7 @@ use Rattle.lent_merge.proofs.leaf.mark_alts.Given as goal
 -- what is passed is marked, and the others stand
 abbrev pub invariant-loop-alt : goal.invariant-loop-alt
 invariant-loop-alt l =
-    let b = body_view l.body in
+    let b = lent_val_view l.body in
     let mark = merged_alt l.n (pairs_of l.set) b in
     let left = map alt_view (drop l.alt-index l.alts) in
     record {

@@ -6,20 +6,20 @@ use Rattle.record_cursor.proofs.fill.fill_front.Goals as goal
 pub returns-in-Ok-clause-told : goal.returns-in-Ok-clause-told
 returns-in-Ok-clause-told g c = λ end bytes tells fits. room-front _ _ c.fill_first.new.room _ (search rules) (search rules) ∙ c.in-Ok.ensures.told end bytes tells fits
 
-pub returns-then-not-grows-clause-reads : goal.returns-then-not-grows-clause-reads
-returns-then-not-grows-clause-reads g c = grind (arith, common_steps)
+pub returns-then-not-makes_room-clause-reads : goal.returns-then-not-makes_room-clause-reads
+returns-then-not-makes_room-clause-reads g c = grind (arith, common_steps)
 
-pub returns-then-not-grows-clause-numbers : goal.returns-then-not-grows-clause-numbers
-returns-then-not-grows-clause-numbers g c = grind (arith, common_steps)
+pub returns-then-not-makes_room-clause-numbers : goal.returns-then-not-makes_room-clause-numbers
+returns-then-not-makes_room-clause-numbers g c = grind (arith, common_steps)
 
-pub returns-then-not-grows-clause-pulls : goal.returns-then-not-grows-clause-pulls
-returns-then-not-grows-clause-pulls g c = grind (arith, common_steps)
+pub returns-then-not-makes_room-clause-pulls : goal.returns-then-not-makes_room-clause-pulls
+returns-then-not-makes_room-clause-pulls g c = grind (arith, common_steps)
 
-pub returns-then-not-grows-clause-size : goal.returns-then-not-grows-clause-size
-returns-then-not-grows-clause-size g c = grind (arith, common_steps)
+pub returns-then-not-makes_room-clause-size : goal.returns-then-not-makes_room-clause-size
+returns-then-not-makes_room-clause-size g c = grind (arith, common_steps)
 
-pub returns-then-not-grows-clause-told : goal.returns-then-not-grows-clause-told
-returns-then-not-grows-clause-told g c = grind (arith, common_steps)
+pub returns-then-not-makes_room-clause-told : goal.returns-then-not-makes_room-clause-told
+returns-then-not-makes_room-clause-told g c = grind (arith, common_steps)
 
 pub returns-in-Ok-clause-reads : goal.returns-in-Ok-clause-reads
 returns-in-Ok-clause-reads g c = grind (arith, common_steps)

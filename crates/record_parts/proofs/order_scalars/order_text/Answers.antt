@@ -1,19 +1,12 @@
-use Rattle.std.proofs.Common.{◌≡◌, ◌<◌, length, take, drop, ◌∙◌}
-use Rattle.std.proofs.lemmas.List.{take_rest}
+use Rattle.std.proofs.Common.{drop, ap, ◌∙◌}
 use Rattle.jsonml_tree.specs.Order.{text_cmp}
-use Rattle.record_parts.proofs.TextOrders.{text_fails, text_cut, text_compared}
+use Rattle.record_parts.proofs.TextOrders.{text_compared, no_text_there}
 use Rattle.record_parts.proofs.order_scalars.order_text.Goals as goal
 
-pub returns-in_default : goal.returns-in_default
-returns-in_default c = text_fails (drop c.args.at c.args.bytes.now) c.args.bytes.now c.args.other.now c.in_default.ensures.found
+pub returns-in-Some : goal.returns-in-Some
+returns-in-Some c =
+    text_compared (drop c.args.at c.args.bytes.now) c.args.bytes.now c.in-Some.text.now c.args.other.now c.cmp.result c.in-Some.next c.in-Some.ensures
+    (c.cmp.ensures ∙ ap (text_cmp c.in-Some.text.now) c.as_bytes.ensures.value)
 
-pub returns-then-rest-len : goal.returns-then-rest-len
-returns-then-rest-len c =
-    let short : length (drop c.in-Some.start c.args.bytes.now) < c.in-Some.len = simp take_rest at c.if-rest-len.true in
-    text_cut c.in-Some.len (drop c.args.at c.args.bytes.now) (drop c.in-Some.start c.args.bytes.now) c.args.bytes.now c.args.other.now c.in-Some.ensures.found short
-
-pub returns : goal.returns
-returns c =
-    let is : c.cmp-order.result ≡ text_cmp (take c.in-Some.len (drop c.in-Some.start c.args.bytes.now)) c.args.other.now =
-    c.cmp-order.ensures ∙ (λ i. text_cmp (take c.in-Some.len (take_rest c.args.bytes.now c.in-Some.start i)) (c.as_bytes.ensures.value i)) in
-    text_compared c.in-Some.len c.in-Some.start (drop c.args.at c.args.bytes.now) c.args.bytes.now c.args.other.now c.cmp-order.result c.in-Some.ensures.found is
+pub returns-in-None : goal.returns-in-None
+returns-in-None c = no_text_there (drop c.args.at c.args.bytes.now) c.args.bytes.now c.args.other.now c.in-None.ensures

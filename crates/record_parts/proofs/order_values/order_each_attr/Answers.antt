@@ -1,10 +1,12 @@
-use Rattle.std.proofs.Common.{◌∷◌, [], ◌-◌, map, drop, sym, ◌∙◌}
+use Rattle.std.proofs.Common.{◌∷◌, [], ◌-◌, Some, None, map, drop, sym, ◌∙◌}
 use Rattle.std.specs.declared.cmp.Ordering.TheVariants.{Less, Equal}
+use Rattle.jsonml_tree.specs.LentAttrs.{lent_scalar_view}
 use Rattle.jsonml_tree.specs.Order.{attr_cmp}
 use Rattle.jsonml_tree.specs.View.{attr_view}
 use Rattle.xa_fields.specs.Reading.{many_at}
 use Rattle.record_parts.specs.Reading.{attr_at}
 use Rattle.record_parts.proofs.Leads.{goes_on, decided, longer, failed, ends, view_none, view_first, not_equal, is_equal, equal_end, less_end, leads_at}
+use Rattle.record_parts.proofs.TextOrders.{attr_seen}
 use Rattle.record_parts.proofs.order_values.order_each_attr.Goals as goal
 
 pub returns-in_default : goal.returns-in_default
@@ -14,20 +16,20 @@ returns-in_default c =
 
 pub returns-in_default-order_attr : goal.returns-in_default-order_attr
 returns-in_default-order_attr c =
-    failed attr_cmp attr_at c.args.count c.loop.counter (drop c.loop.at c.args.bytes.now) c.args.bytes.now (many_at attr_at c.args.count (drop c.args.at c.args.bytes.now)) (map attr_view c.args.others.now) (map attr_view c.in-Some.tail.now) (attr_view c.in-Some.other.now) c.loop-test.true c.in_default-order_attr.ensures
+    failed attr_cmp attr_at c.args.count c.loop.counter (drop c.loop.at c.args.bytes.now) c.args.bytes.now (many_at attr_at c.args.count (drop c.args.at c.args.bytes.now)) (map attr_view c.args.others.now) (map attr_view c.in-Some.tail.now) (attr_view c.in-Some.other.now) c.loop-test.true (attr_seen (drop c.loop.at c.args.bytes.now) c.args.bytes.now (attr_view c.in-Some.other.now) c.as_str-name.result.now (lent_scalar_view c.lend-value.result) None c.as_str-name.ensures.value c.lend-value.ensures c.in_default-order_attr.ensures)
     (leads_at attr_cmp (many_at attr_at c.args.count (drop c.args.at c.args.bytes.now)) (map attr_view c.args.others.now) (map attr_view c.loop.rest.now) (attr_view c.in-Some.other.now ∷ map attr_view c.in-Some.tail.now) (many_at attr_at (c.args.count - c.loop.counter) (drop c.loop.at c.args.bytes.now)) (view_first attr_view c.loop.rest.now c.in-Some.tail.now c.in-Some.other.now c.in-Some.ensures.cases.0) c.loop.invariant.leads)
 
 pub returns-then-is_ne : goal.returns-then-is_ne
 returns-then-is_ne c =
     decided attr_cmp attr_at c.args.count c.loop.counter c.in-Some-order_attr.next c.in-Some-order_attr.next (drop c.loop.at c.args.bytes.now) c.args.bytes.now (many_at attr_at c.args.count (drop c.args.at c.args.bytes.now)) (map attr_view c.args.others.now) (map attr_view c.in-Some.tail.now) (attr_view c.in-Some.other.now) c.in-Some-order_attr.order c.loop-test.true
-    (not_equal c.in-Some-order_attr.order (sym c.is_ne.ensures ∙ c.if-is_ne.true)) c.in-Some-order_attr.ensures
+    (not_equal c.in-Some-order_attr.order (sym c.is_ne.ensures ∙ c.if-is_ne.true)) (attr_seen (drop c.loop.at c.args.bytes.now) c.args.bytes.now (attr_view c.in-Some.other.now) c.as_str-name.result.now (lent_scalar_view c.lend-value.result) (Some (c.in-Some-order_attr.order, c.in-Some-order_attr.next)) c.as_str-name.ensures.value c.lend-value.ensures c.in-Some-order_attr.ensures)
     (leads_at attr_cmp (many_at attr_at c.args.count (drop c.args.at c.args.bytes.now)) (map attr_view c.args.others.now) (map attr_view c.loop.rest.now) (attr_view c.in-Some.other.now ∷ map attr_view c.in-Some.tail.now) (many_at attr_at (c.args.count - c.loop.counter) (drop c.loop.at c.args.bytes.now)) (view_first attr_view c.loop.rest.now c.in-Some.tail.now c.in-Some.other.now c.in-Some.ensures.cases.0) c.loop.invariant.leads)
 
 pub loop-preserved : goal.loop-preserved
 loop-preserved c =
     record {
       leads = goes_on attr_cmp attr_at c.args.count c.loop.counter c.in-Some-order_attr.next (drop c.loop.at c.args.bytes.now) c.args.bytes.now (many_at attr_at c.args.count (drop c.args.at c.args.bytes.now)) (map attr_view c.args.others.now) (map attr_view c.in-Some.tail.now) (attr_view c.in-Some.other.now) c.in-Some-order_attr.order c.loop-test.true
-          (is_equal c.in-Some-order_attr.order (sym c.is_ne.ensures ∙ c.if-is_ne.false)) c.in-Some-order_attr.ensures
+          (is_equal c.in-Some-order_attr.order (sym c.is_ne.ensures ∙ c.if-is_ne.false)) (attr_seen (drop c.loop.at c.args.bytes.now) c.args.bytes.now (attr_view c.in-Some.other.now) c.as_str-name.result.now (lent_scalar_view c.lend-value.result) (Some (c.in-Some-order_attr.order, c.in-Some-order_attr.next)) c.as_str-name.ensures.value c.lend-value.ensures c.in-Some-order_attr.ensures)
           (leads_at attr_cmp (many_at attr_at c.args.count (drop c.args.at c.args.bytes.now)) (map attr_view c.args.others.now) (map attr_view c.loop.rest.now) (attr_view c.in-Some.other.now ∷ map attr_view c.in-Some.tail.now) (many_at attr_at (c.args.count - c.loop.counter) (drop c.loop.at c.args.bytes.now)) (view_first attr_view c.loop.rest.now c.in-Some.tail.now c.in-Some.other.now c.in-Some.ensures.cases.0) c.loop.invariant.leads);
     }
 

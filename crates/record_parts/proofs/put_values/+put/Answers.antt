@@ -24,16 +24,16 @@ parts c o p q r m em e f g =
 
 pub put_content-returns-clause-ok : goal.put_content-returns-clause-ok
 put_content-returns-clause-ok t c =
-    parts c.args.content.now c.args.out.now.items c.put_attrs.new.out.items c.put_u32.new.out.items c.put_items.new.out.items c.len.result (search rules) (search rules) (search rules) (search rules)
+    parts c.args.content.now c.args.out.now.items c.put_attrs.new.out.items c.append_u32.new.out.items c.put_items.new.out.items c.len.result (search rules) (search rules) (search rules) (search rules)
 
-pub put_item-returns-in_err-put_text-in-Elem-clause-grows : goal.put_item-returns-in_err-put_text-in-Elem-clause-grows
-put_item-returns-in_err-put_text-in-Elem-clause-grows t c = grind (arith, growth)
+pub put_item-returns-in_err-append_text-in-Elem-clause-grows : goal.put_item-returns-in_err-append_text-in-Elem-clause-grows
+put_item-returns-in_err-append_text-in-Elem-clause-grows t c = grind (arith, growth)
 
-pub put_item-returns-in_ok-put_text-in-Elem-clause-grows : goal.put_item-returns-in_ok-put_text-in-Elem-clause-grows
-put_item-returns-in_ok-put_text-in-Elem-clause-grows t c = grind (arith, growth)
+pub put_item-returns-in_ok-append_text-in-Elem-clause-grows : goal.put_item-returns-in_ok-append_text-in-Elem-clause-grows
+put_item-returns-in_ok-append_text-in-Elem-clause-grows t c = grind (arith, growth)
 
-pub put_content-returns-in_err-put_u32-clause-grows : goal.put_content-returns-in_err-put_u32-clause-grows
-put_content-returns-in_err-put_u32-clause-grows t c = grind (arith, growth)
+pub put_content-returns-in_err-append_u32-clause-grows : goal.put_content-returns-in_err-append_u32-clause-grows
+put_content-returns-in_err-append_u32-clause-grows t c = grind (arith, growth)
 
 pub put_content-returns-in_err-put_items-clause-grows : goal.put_content-returns-in_err-put_items-clause-grows
 put_content-returns-in_err-put_items-clause-grows t c = grind (arith, growth)
@@ -44,20 +44,20 @@ put_content-returns-clause-grows t c = grind (arith, growth)
 pub put_content-returns-in_err-put_attrs-clause-grows : goal.put_content-returns-in_err-put_attrs-clause-grows
 put_content-returns-in_err-put_attrs-clause-grows t c = grind (arith, growth)
 
-pub put_item-returns-in_err-put_u8-in-Text-clause-grows : goal.put_item-returns-in_err-put_u8-in-Text-clause-grows
-put_item-returns-in_err-put_u8-in-Text-clause-grows t c = grind (arith, growth)
+pub put_item-returns-in_err-append_u8-in-Text-clause-grows : goal.put_item-returns-in_err-append_u8-in-Text-clause-grows
+put_item-returns-in_err-append_u8-in-Text-clause-grows t c = grind (arith, growth)
 
-pub put_item-returns-in_err-put_u8-in-Elem-clause-grows : goal.put_item-returns-in_err-put_u8-in-Elem-clause-grows
-put_item-returns-in_err-put_u8-in-Elem-clause-grows t c = grind (arith, growth)
+pub put_item-returns-in_err-append_u8-in-Elem-clause-grows : goal.put_item-returns-in_err-append_u8-in-Elem-clause-grows
+put_item-returns-in_err-append_u8-in-Elem-clause-grows t c = grind (arith, growth)
 
-pub put_item-returns-in_ok-put_u8-in-Text-clause-ok : goal.put_item-returns-in_ok-put_u8-in-Text-clause-ok
-put_item-returns-in_ok-put_u8-in-Text-clause-ok t c = grind (arith, common_steps, trees)
+pub put_item-returns-in_ok-append_u8-in-Text-clause-ok : goal.put_item-returns-in_ok-append_u8-in-Text-clause-ok
+put_item-returns-in_ok-append_u8-in-Text-clause-ok t c = grind (arith, common_steps, trees)
 
-pub put_item-returns-in_ok-put_u8-in-Text-clause-grows : goal.put_item-returns-in_ok-put_u8-in-Text-clause-grows
-put_item-returns-in_ok-put_u8-in-Text-clause-grows t c = grows_with c.put_text.result _ _ _ _ (grows_to _ _ _ c.in_ok-put_u8-in-Text.ensures.ok) c.put_text.ensures.ok c.put_text.ensures.err
+pub put_item-returns-in_ok-append_u8-in-Text-clause-grows : goal.put_item-returns-in_ok-append_u8-in-Text-clause-grows
+put_item-returns-in_ok-append_u8-in-Text-clause-grows t c = grows_with c.append_text.result _ _ _ _ (grows_to _ _ _ c.in_ok-append_u8-in-Text.ensures.ok) c.append_text.ensures.ok c.append_text.ensures.err
 
-pub put_item-returns-in_ok-put_text-in-Elem-clause-ok : goal.put_item-returns-in_ok-put_text-in-Elem-clause-ok
-put_item-returns-in_ok-put_text-in-Elem-clause-ok t c = grind (arith, common_steps, trees)
+pub put_item-returns-in_ok-append_text-in-Elem-clause-ok : goal.put_item-returns-in_ok-append_text-in-Elem-clause-ok
+put_item-returns-in_ok-append_text-in-Elem-clause-ok t c = grind (arith, common_steps, trees)
 
 pub put_items-loop-item-init : goal.put_items-loop-item-init
 put_items-loop-item-init t c = record { fits = c.requires; wrote = refl; grows = grows_itself c.args.out.now.items }

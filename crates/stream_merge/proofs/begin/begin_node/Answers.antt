@@ -1,8 +1,8 @@
 use Rattle.std.proofs.Common.{[], ◌∷◌, Option, subst}
 use Rattle.archive_tree.specs.View.{stamp_view}
 use Rattle.version_set.specs.View.{pairs_of}
-use Rattle.record_parts.specs.ShownViews.{shown_label}
 use Rattle.record_writer.specs.Data.{call_inner, call_leaf}
+use Rattle.record_writer.specs.Given.{given_label}
 use Rattle.stream_merge.specs.Does.{Sent}
 use Rattle.stream_merge.specs.Meets.{call_of}
 use Rattle.record_copy.specs.State.{State, state}
@@ -17,7 +17,7 @@ pub returns-in-Inner : goal.returns-in-Inner
 returns-in-Inner g c = record {
   sends = λ c' within. (
       let f = g.F.Folder in
-      let l = shown_label c.args.label in
+      let l = given_label c.args.label in
       let st = stamp_view c.args.stamp.now in
       let set = pairs_of c.args.set.now in
       let s : State = state f.files f.draft f.numbers f.faults c.args.folder.now c' c.args.writer.now in
@@ -31,7 +31,7 @@ pub returns-in-Leaf : goal.returns-in-Leaf
 returns-in-Leaf g c = record {
   sends = λ c' within. (
       let f = g.F.Folder in
-      let l = shown_label c.args.label in
+      let l = given_label c.args.label in
       let st = stamp_view c.args.stamp.now in
       let set = pairs_of c.args.set.now in
       let s : State = state f.files f.draft f.numbers f.faults c.args.folder.now c' c.args.writer.now in

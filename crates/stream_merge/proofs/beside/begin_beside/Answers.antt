@@ -5,7 +5,6 @@ use Rattle.archive_tree.specs.View.{stamp_view}
 use Rattle.version_set.specs.View.{pairs_of}
 use Rattle.nested_merge.specs.Merged.{below}
 use Rattle.record_parts.specs.ShownViews.{shown_label, shown_stamp}
-use Rattle.record_parts.proofs.ShapeLaws.{label_parts}
 use Rattle.stream_merge.specs.Meets.{call_of, rest_of}
 use Rattle.record_copy.specs.State.{State, state}
 use Rattle.stream_merge.specs.View.{inherited_view, own_view}
@@ -42,7 +41,7 @@ begin_node-began-requires g c =
     let put = c.in_ok-kid.ensures.puts nowhere (omega arith) in
     let rests = row-sent (at c.args.folder.now nowhere c.args.writer.now) (at c.put_below.new.folder nowhere c.put_below.new.writer) h.now (rest_of h.number h.before (below (shown_label c.args.label) (kids_view c.args.kids))) c.requires.no_leaf
     (record { appended = put.appended; sends = put.sends; stops = tt }) in
-    record { no_leaf = rests.no_leaf }
+    record { no_leaf = rests.no_leaf; shaped = tt }
 
 pub returns-in_err-began-clause-begins : goal.returns-in_err-began-clause-begins
 returns-in_err-began-clause-begins g c = λ c' within. (
@@ -56,7 +55,7 @@ returns-in_err-began-clause-begins g c = λ c' within. (
     let r = c.from_residual-in_err-began in
     let call = call_of c.args.kind (shown_label c.args.label) (stamp_view n.stamp) (pairs_of c.get.result.now.now) ∷ [] in
     let has = has-kid kid_view k.kid _ c.is_some.result k.ensures.kid c.is_some.ensures in
-    node-sent-beside c.args.kind (inherited_view c.args.from.now) (shown_label c.args.label) (shown_stamp c.args.stamp) (kids_view c.args.kids) s t r.result u c.is_some.result (stamp_view n.stamp) (own_view n.own) (inherited_view c.get.result.now) has n.ensures.stamp n.ensures.own c.get.ensures n.ensures.no_shorter ((label_parts (shown_label c.args.label)).0 c.bytes-spelled.ensures.is).1 c.requires.no_leaf (k.ensures.puts c' within) (sent-handed r.result c.in_err-began.field-0.0 r.ensures.1 call t u (c.in_err-began.ensures.sends c' within)))
+    node-sent-beside c.args.kind (inherited_view c.args.from.now) (shown_label c.args.label) (shown_stamp c.args.stamp) (kids_view c.args.kids) s t r.result u c.is_some.result (stamp_view n.stamp) (own_view n.own) (inherited_view c.get.result.now) has n.ensures.stamp n.ensures.own c.get.ensures n.ensures.no_shorter c.bytes-spelled.ensures.fits c.requires.no_leaf (k.ensures.puts c' within) (sent-handed r.result c.in_err-began.field-0.0 r.ensures.1 call t u (c.in_err-began.ensures.sends c' within)))
 
 pub returns-clause-begins : goal.returns-clause-begins
 returns-clause-begins g c = λ c' within. (
@@ -68,7 +67,7 @@ returns-clause-begins g c = λ c' within. (
     let k = c.in_ok-kid in
     let n = c.in_ok-stamp in
     let has = has-kid kid_view k.kid _ c.is_some.result k.ensures.kid c.is_some.ensures in
-    node-sent-beside c.args.kind (inherited_view c.args.from.now) (shown_label c.args.label) (shown_stamp c.args.stamp) (kids_view c.args.kids) s t _ u c.is_some.result (stamp_view n.stamp) (own_view n.own) (inherited_view c.get.result.now) has n.ensures.stamp n.ensures.own c.get.ensures n.ensures.no_shorter ((label_parts (shown_label c.args.label)).0 c.bytes-spelled.ensures.is).1 c.requires.no_leaf (k.ensures.puts c' within) (c.in_ok-began.ensures.sends c' within))
+    node-sent-beside c.args.kind (inherited_view c.args.from.now) (shown_label c.args.label) (shown_stamp c.args.stamp) (kids_view c.args.kids) s t _ u c.is_some.result (stamp_view n.stamp) (own_view n.own) (inherited_view c.get.result.now) has n.ensures.stamp n.ensures.own c.get.ensures n.ensures.no_shorter c.bytes-spelled.ensures.fits c.requires.no_leaf (k.ensures.puts c' within) (c.in_ok-began.ensures.sends c' within))
 
 pub returns-clause-begun : goal.returns-clause-begun
 returns-clause-begun g c =

@@ -6,7 +6,7 @@ use Rattle.record_writer.specs.declared.writer.Writer.{Writer}
 use Rattle.stream_merge.specs.Meets.{rest_of}
 use Rattle.record_copy.specs.State.{State, state}
 use Rattle.stream_merge.specs.View.{inherited_view}
-use Rattle.stream_merge.proofs.Belows.{puts-start, puts-more, puts-fail, puts-unspelled, puts-shaped, puts-label, puts-fewer, puts-at, puts-before, puts-end, puts-done, puts-kid, puts-above}
+use Rattle.stream_merge.proofs.Belows.{puts-start, puts-more, puts-fail, puts-shaped, puts-fewer, puts-at, puts-before, puts-end, puts-done, puts-kid, puts-above}
 use Rattle.stream_merge.proofs.Puts.{nowhere, row-sent}
 use Rattle.stream_merge.proofs.beside.put_below.Given.{Over}
 use Rattle.stream_merge.proofs.beside.put_below.Goals as goal
@@ -17,15 +17,6 @@ at g folder writer c = (let f = g.F.Folder in state f.files f.draft f.numbers f.
 pub loop-kid-init : goal.loop-kid-init
 loop-kid-init g c = record { no_leaf = c.requires.no_leaf; puts = puts-start (inherited_view c.args.from.now) (shown_label c.args.label.now) (kids_view c.args.kids) (at g c.args.folder.now c.args.writer.now) c.requires.ascending c.requires.shaped }
 
-pub place-requires : goal.place-requires
-place-requires g c = (let i = c.in-Some in puts-label _ _ (kid_view i.kid) (kids_view i.rest) i.ensures.some c.loop-kid.invariant.puts)
-
-pub returns-in_err-place-clause-puts : goal.returns-in_err-place-clause-puts
-returns-in_err-place-clause-puts g c = λ p within. (
-    let i = c.in-Some in
-    let e = c.in_err-place in
-    puts-unspelled _ _ (kid_view i.kid) (kids_view i.rest) i.ensures.some c.loop-kid.invariant.puts c.from_residual.result e.field-0.0 c.from_residual.ensures.1 p within e.ensures.fault (g.met.F.Folder.metered c.loop-kid.folder) refl)
-
 pub put_kid-requires-clause-shaped : goal.put_kid-requires-clause-shaped
 put_kid-requires-clause-shaped g c = (let i = c.in-Some in puts-shaped _ _ (kid_view i.kid) (kids_view i.rest) i.ensures.some c.loop-kid.invariant.puts)
 
@@ -33,47 +24,47 @@ pub returns-in_err-put_kid-in-Greater-clause-puts : goal.returns-in_err-put_kid-
 returns-in_err-put_kid-in-Greater-clause-puts g c = λ p within. (
     let i = c.in-Some in
     let e = c.in_err-put_kid-in-Greater in
-    let r = c.from_residual-in_err-put_kid-in-Greater in
-    let low = sym c.in_ok-place.ensures.order ∙ c.in-Greater.is in
+    let r = c.from_residual in
+    let low = sym c.place.ensures ∙ c.in-Greater.is in
     puts-fail _ _ (kid_view i.kid) (kids_view i.rest) i.ensures.some c.loop-kid.invariant.puts r.result e.field-0.0 r.ensures.1 p within (at g c.put_kid.new.folder c.put_kid.new.writer p) low (e.ensures.sends p within))
 
 pub returns-in-Equal-clause-puts : goal.returns-in-Equal-clause-puts
 returns-in-Equal-clause-puts g c = λ p within. (
     let i = c.in-Some in
     let on = c.loop-kid.invariant.puts in
-    let splits = puts-at _ _ (kid_view i.kid) (kids_view i.rest) i.ensures.some on (sym c.in_ok-place.ensures.order ∙ c.in-Equal.is) in
+    let splits = puts-at _ _ (kid_view i.kid) (kids_view i.rest) i.ensures.some on (sym c.place.ensures ∙ c.in-Equal.is) in
     puts-done _ _ on splits p within (g.met.F.Folder.metered c.loop-kid.folder) refl)
 
 pub returns-in-Equal-clause-kid : goal.returns-in-Equal-clause-kid
 returns-in-Equal-clause-kid g c =
     let i = c.in-Some in
     let on = c.loop-kid.invariant.puts in
-    puts-kid _ _ on (puts-at _ _ (kid_view i.kid) (kids_view i.rest) i.ensures.some on (sym c.in_ok-place.ensures.order ∙ c.in-Equal.is))
+    puts-kid _ _ on (puts-at _ _ (kid_view i.kid) (kids_view i.rest) i.ensures.some on (sym c.place.ensures ∙ c.in-Equal.is))
 
 pub returns-in-Equal-clause-rest : goal.returns-in-Equal-clause-rest
 returns-in-Equal-clause-rest g c =
     let i = c.in-Some in
     let on = c.loop-kid.invariant.puts in
-    puts-above _ _ on (puts-at _ _ (kid_view i.kid) (kids_view i.rest) i.ensures.some on (sym c.in_ok-place.ensures.order ∙ c.in-Equal.is))
+    puts-above _ _ on (puts-at _ _ (kid_view i.kid) (kids_view i.rest) i.ensures.some on (sym c.place.ensures ∙ c.in-Equal.is))
 
 pub returns-in-Less-clause-puts : goal.returns-in-Less-clause-puts
 returns-in-Less-clause-puts g c = λ p within. (
     let i = c.in-Some in
     let on = c.loop-kid.invariant.puts in
-    let splits = puts-before _ _ (kid_view i.kid) (kids_view i.rest) i.ensures.some on (sym c.in_ok-place.ensures.order ∙ c.in-Less.is) in
+    let splits = puts-before _ _ (kid_view i.kid) (kids_view i.rest) i.ensures.some on (sym c.place.ensures ∙ c.in-Less.is) in
     puts-done _ _ on splits p within (g.met.F.Folder.metered c.loop-kid.folder) refl)
 
 pub returns-in-Less-clause-kid : goal.returns-in-Less-clause-kid
 returns-in-Less-clause-kid g c =
     let i = c.in-Some in
     let on = c.loop-kid.invariant.puts in
-    puts-kid _ _ on (puts-before _ _ (kid_view i.kid) (kids_view i.rest) i.ensures.some on (sym c.in_ok-place.ensures.order ∙ c.in-Less.is))
+    puts-kid _ _ on (puts-before _ _ (kid_view i.kid) (kids_view i.rest) i.ensures.some on (sym c.place.ensures ∙ c.in-Less.is))
 
 pub returns-in-Less-clause-rest : goal.returns-in-Less-clause-rest
 returns-in-Less-clause-rest g c =
     let i = c.in-Some in
     let on = c.loop-kid.invariant.puts in
-    puts-above _ _ on (puts-before _ _ (kid_view i.kid) (kids_view i.rest) i.ensures.some on (sym c.in_ok-place.ensures.order ∙ c.in-Less.is))
+    puts-above _ _ on (puts-before _ _ (kid_view i.kid) (kids_view i.rest) i.ensures.some on (sym c.place.ensures ∙ c.in-Less.is))
 
 pub loop-kid-smaller : goal.loop-kid-smaller
 loop-kid-smaller g c = (let i = c.in-Some in puts-fewer _ _ (kid_view i.kid) (kids_view i.rest) i.ensures.some c.loop-kid.invariant.puts)
@@ -87,7 +78,7 @@ loop-kid-preserved g c =
     let rests = row-sent (at g l.folder l.writer nowhere) (at g c.put_kid.new.folder c.put_kid.new.writer nowhere) h.now (rest_of h.number h.before (kid_view i.kid ∷ [])) l.invariant.no_leaf (sent nowhere (omega arith)) in
     record {
       no_leaf = rests.no_leaf;
-      puts = puts-more _ _ (kid_view i.kid) (kids_view i.rest) i.ensures.some l.invariant.puts (at g c.put_kid.new.folder c.put_kid.new.writer) (sym c.in_ok-place.ensures.order ∙ c.in-Greater.is) sent;
+      puts = puts-more _ _ (kid_view i.kid) (kids_view i.rest) i.ensures.some l.invariant.puts (at g c.put_kid.new.folder c.put_kid.new.writer) (sym c.place.ensures ∙ c.in-Greater.is) sent;
     }
 
 pub returns-clause-puts : goal.returns-clause-puts

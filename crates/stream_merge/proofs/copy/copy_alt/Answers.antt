@@ -3,7 +3,6 @@ use Rattle.archive_tree.specs.Data.{Stamp}
 use Rattle.archive_tree.specs.View.{stamp_view}
 use Rattle.record_cursor.specs.View.{PlainCursor}
 use Rattle.record_parts.specs.ShownViews.{shown_stamp, shown_body}
-use Rattle.record_parts.proofs.ShapeLaws.{value_parts}
 use Rattle.record_writer.specs.Data.{call_alt}
 use Rattle.record_writer.specs.declared.writer.Writer.{Writer}
 use Rattle.stream_merge.specs.Does.{Sent}
@@ -24,7 +23,7 @@ returns-in_err-stamp g c = record {
       let calls = call_alt (shown_stamp c.args.stamp) (shown_body c.args.body) ∷ [] in
       let s = at g c.args.folder.now k c.args.writer.now in
       sent-handed c.from_residual.result Memory c.from_residual.ensures.1 calls s s (sent-none s calls (g.met.F.Folder.metered c.args.folder.now) within));
-  fits = ((value_parts (shown_body c.args.body)).0 c.bytes-spelled.ensures.is).1;
+  fits = c.bytes-spelled.ensures.fits;
 }
 
 pub returns : goal.returns
@@ -38,5 +37,5 @@ returns g c = record {
       let sent = call-sends f.files f.draft f.numbers f.faults c.args.folder.now c.alt.new.folder k c.args.writer.now c.alt.new.self (call_alt (stamp_view c.in_ok-stamp.stamp) body) c.alt.result (g.met.F.Folder.metered c.args.folder.now) within e.folder e.after e.too_long in
       subst (λ (o : Option MergeFault). Sent (call_alt (shown_stamp c.args.stamp) body ∷ []) s t o) (called c.alt.result c.written.result c.written.ensures)
       (subst (λ (st : Stamp). Sent (call_alt st body ∷ []) s t (written c.alt.result)) c.in_ok-stamp.ensures sent));
-  fits = ((value_parts (shown_body c.args.body)).0 c.bytes-spelled.ensures.is).1;
+  fits = c.bytes-spelled.ensures.fits;
 }

@@ -4,7 +4,6 @@ use Rattle.version_set.specs.View.{pairs_of}
 use Rattle.record_cursor.specs.View.{PlainCursor}
 use Rattle.record_format.specs.Nodes.{set_in}
 use Rattle.record_parts.specs.ShownViews.{shown_label, shown_stamp}
-use Rattle.record_parts.proofs.ShapeLaws.{label_parts}
 use Rattle.record_writer.specs.declared.writer.Writer.{Writer}
 use Rattle.stream_merge.specs.Meets.{call_of}
 use Rattle.record_copy.specs.State.{State, state}
@@ -44,10 +43,10 @@ returns-clause-sends g c k within =
     sent-as (at g c.args.folder.now k c.args.writer.now) (at g b.new.folder k b.new.writer) None _ _ same (c.in_ok-begin_node.ensures.sends k within)
 
 pub returns-in_err-stamp-clause-fits : goal.returns-in_err-stamp-clause-fits
-returns-in_err-stamp-clause-fits g c = ((label_parts (shown_label c.args.label)).0 c.bytes-spelled.ensures.is).1
+returns-in_err-stamp-clause-fits g c = c.bytes-spelled.ensures.fits
 
 pub returns-in_err-begin_node-clause-fits : goal.returns-in_err-begin_node-clause-fits
-returns-in_err-begin_node-clause-fits g c = ((label_parts (shown_label c.args.label)).0 c.bytes-spelled.ensures.is).1
+returns-in_err-begin_node-clause-fits g c = c.bytes-spelled.ensures.fits
 
 pub returns-clause-fits : goal.returns-clause-fits
-returns-clause-fits g c = ((label_parts (shown_label c.args.label)).0 c.bytes-spelled.ensures.is).1
+returns-clause-fits g c = c.bytes-spelled.ensures.fits

@@ -1,7 +1,8 @@
 use Rattle.std.proofs.Common.{◌≡◌, ◌<◌, [], ◌++◌, Option, None, Some, refl, ap, subst, ◌∙◌, arith}
 use Rattle.version_set.specs.View.{pairs_of}
 use Rattle.keyed_tree.specs.Data.{label_of, inner, leaf, kids_from}
-use Rattle.keyed_parts.specs.View.{body_view, kid_view, kids_view, with_inside}
+use Rattle.keyed_tree.specs.LentView.{lent_val_view}
+use Rattle.keyed_parts.specs.View.{kid_view, kids_view, with_inside}
 use Rattle.archive_tree.specs.View.{stamp_view}
 use Rattle.nested_merge.specs.Merged.{fresh}
 use Rattle.record_writer.specs.Data.{call_end_inner, call_end_leaf}
@@ -168,12 +169,12 @@ put_node-returns-in_err-put_opening-in-Body g t c = record {
       let k = kid_view c.args.kid in
       let l = label_of k in
       let i = c.in-Body in
-      let is : k ≡ leaf l (body_view i.body) = c.inside.ensures ∙ ap (with_inside l) i.is in
+      let is : k ≡ leaf l (lent_val_view i.body) = c.inside.ensures ∙ ap (with_inside l) i.is in
       let p : State = at c.args.folder.now c' c.args.writer.now in
       let u : State = at c.put_opening-in-Body.new.folder c' c.put_opening-in-Body.new.writer in
       let e = c.in_err-put_opening-in-Body in
       let r = c.from_residual-in_err-put_opening-in-Body in
-      leaf-fails (pairs_of c.args.parent.now) (pairs_of c.effective-set.result.now) (stamp_view c.args.stamp.now) k l (body_view i.body) is c.effective-set.ensures.pairs p u r.result e.field-0.0 r.ensures.1 (e.ensures.sends c' within));
+      leaf-fails (pairs_of c.args.parent.now) (pairs_of c.effective-set.result.now) (stamp_view c.args.stamp.now) k l (lent_val_view i.body) is c.effective-set.ensures.pairs p u r.result e.field-0.0 r.ensures.1 (e.ensures.sends c' within));
 }
 
 pub put_node-put_body-requires : goal.put_node-put_body-requires
@@ -183,12 +184,12 @@ put_node-put_body-requires g t c =
     let k = kid_view c.args.kid in
     let l = label_of k in
     let i = c.in-Body in
-    let is : k ≡ leaf l (body_view i.body) = c.inside.ensures ∙ ap (with_inside l) i.is in
+    let is : k ≡ leaf l (lent_val_view i.body) = c.inside.ensures ∙ ap (with_inside l) i.is in
     let p : State = at c.args.folder.now nowhere c.args.writer.now in
     let u : State = at c.put_opening-in-Body.new.folder nowhere c.put_opening-in-Body.new.writer in
     record {
       leaf = leaf-stands p u l (stamp_view c.args.stamp.now) (pairs_of c.effective-set.result.now) (c.in_ok-put_opening-in-Body.ensures.sends nowhere (omega arith));
-      shaped = shaped-value k l (body_view i.body) is c.requires.shaped;
+      shaped = shaped-value k l (lent_val_view i.body) is c.requires.shaped;
     }
 
 pub put_node-returns-in_err-put_body-in-Body : goal.put_node-returns-in_err-put_body-in-Body
@@ -199,13 +200,13 @@ put_node-returns-in_err-put_body-in-Body g t c = record {
       let k = kid_view c.args.kid in
       let l = label_of k in
       let i = c.in-Body in
-      let is : k ≡ leaf l (body_view i.body) = c.inside.ensures ∙ ap (with_inside l) i.is in
+      let is : k ≡ leaf l (lent_val_view i.body) = c.inside.ensures ∙ ap (with_inside l) i.is in
       let p : State = at c.args.folder.now c' c.args.writer.now in
       let u : State = at c.put_opening-in-Body.new.folder c' c.put_opening-in-Body.new.writer in
       let v : State = at c.put_body.new.folder c' c.put_body.new.writer in
       let e = c.in_err-put_body-in-Body in
       let r = c.from_residual-in_err-put_body-in-Body in
-      leaf-alt-fails (pairs_of c.args.parent.now) (pairs_of c.effective-set.result.now) (stamp_view c.args.stamp.now) k l (body_view i.body) is c.effective-set.ensures.pairs p u r.result e.field-0.0 r.ensures.1 v
+      leaf-alt-fails (pairs_of c.args.parent.now) (pairs_of c.effective-set.result.now) (stamp_view c.args.stamp.now) k l (lent_val_view i.body) is c.effective-set.ensures.pairs p u r.result e.field-0.0 r.ensures.1 v
       (c.in_ok-put_opening-in-Body.ensures.sends c' within) (e.ensures.sends c' within));
 }
 
@@ -218,7 +219,7 @@ put_node-end_leaf-requires g t c =
     let u : State = at c.put_opening-in-Body.new.folder nowhere c.put_opening-in-Body.new.writer in
     let v : State = at c.put_body.new.folder nowhere c.put_body.new.writer in
     let stands = leaf-stands p u (label_of k) (stamp_view c.args.stamp.now) (pairs_of c.effective-set.result.now) (c.in_ok-put_opening-in-Body.ensures.sends nowhere (omega arith)) in
-    record { leaf = leaf-stays u v None (body_view c.in-Body.body) (c.in_ok-put_body-in-Body.ensures.sends nowhere (omega arith)) stands }
+    record { leaf = leaf-stays u v None (lent_val_view c.in-Body.body) (c.in_ok-put_body-in-Body.ensures.sends nowhere (omega arith)) stands }
 
 pub put_node-returns-in_ok-put_body-in-Body : goal.put_node-returns-in_ok-put_body-in-Body
 put_node-returns-in_ok-put_body-in-Body g t c = record {
@@ -229,7 +230,7 @@ put_node-returns-in_ok-put_body-in-Body g t c = record {
       let k = kid_view c.args.kid in
       let l = label_of k in
       let i = c.in-Body in
-      let is : k ≡ leaf l (body_view i.body) = c.inside.ensures ∙ ap (with_inside l) i.is in
+      let is : k ≡ leaf l (lent_val_view i.body) = c.inside.ensures ∙ ap (with_inside l) i.is in
       let parent = pairs_of c.args.parent.now in
       let st = stamp_view c.args.stamp.now in
       let p : State = at c.args.folder.now c' c.args.writer.now in
@@ -239,5 +240,5 @@ put_node-returns-in_ok-put_body-in-Body g t c = record {
       let e = c.end_leaf.ensures in
       let last = call c.put_body.new.folder c.end_leaf.new.folder c.put_body.new.writer c.end_leaf.new.self call_end_leaf c.end_leaf.result e.folder e.after e.too_long in
       subst (λ (o : Option MergeFault). Sent (node_calls parent (fresh st k)) p w o) (called c.end_leaf.result c.written-in-Body.result c.written-in-Body.ensures)
-      (leaf-put parent (pairs_of c.effective-set.result.now) st k l (body_view i.body) is c.effective-set.ensures.pairs p u v w (written c.end_leaf.result) (c.in_ok-put_opening-in-Body.ensures.sends c' within) (c.in_ok-put_body-in-Body.ensures.sends c' within) last));
+      (leaf-put parent (pairs_of c.effective-set.result.now) st k l (lent_val_view i.body) is c.effective-set.ensures.pairs p u v w (written c.end_leaf.result) (c.in_ok-put_opening-in-Body.ensures.sends c' within) (c.in_ok-put_body-in-Body.ensures.sends c' within) last));
 }

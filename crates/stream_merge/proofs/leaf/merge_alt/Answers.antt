@@ -2,7 +2,6 @@ use Rattle.std.proofs.Common.{Ok, Err, refl, ap}
 use Rattle.archive_tree.specs.View.{stamp_view}
 use Rattle.record_cursor.specs.View.{PlainCursor, shown_item}
 use Rattle.record_parts.specs.ShownViews.{shown_body}
-use Rattle.record_parts.proofs.ShapeLaws.{value_parts}
 use Rattle.record_writer.specs.Data.{call_alt}
 use Rattle.record_writer.specs.declared.writer.Writer.{Writer}
 use Rattle.record_copy.specs.State.{State, state}
@@ -47,7 +46,7 @@ returns-in_err-written-in-Alt g c =
     let sent = call-sends f.files f.draft f.numbers f.faults c.next.new.folder c.alt-written.new.folder c.next.follows.lender-at-none c.args.writer.now c.alt-written.new.self (call_alt (stamp_view turned.stamp) (shown_body c.in-Alt.old)) (Err e.field-0.0)
     (g.met.F.Folder.metered c.next.new.folder) goes.within e.ensures.folder e.ensures.after e.ensures.too_long in
     alt-handed _ _ c.from_residual-in_err-written-in-Alt.ensures.1
-    (alt-unsent _ _ c.same_as-same.result (ap shown_item c.in-Alt.is) ((value_parts (shown_body c.in-Alt.old)).0 c.bytes-spelled.ensures.is).1 read c.same_as-same.ensures turned.ensures.stamp turned.ensures.no_shorter sent)
+    (alt-unsent _ _ c.same_lent-same.result (ap shown_item c.in-Alt.is) c.bytes-spelled.ensures.fits read c.same_lent-same.ensures turned.ensures.stamp turned.ensures.no_shorter sent)
 
 pub returns-in_ok-written-in-Alt : goal.returns-in_ok-written-in-Alt
 returns-in_ok-written-in-Alt g c =
@@ -58,7 +57,7 @@ returns-in_ok-written-in-Alt g c =
     let e = c.in_ok-written-in-Alt in
     let sent = call-sends f.files f.draft f.numbers f.faults c.next.new.folder c.alt-written.new.folder c.next.follows.lender-at-none c.args.writer.now c.alt-written.new.self (call_alt (stamp_view turned.stamp) (shown_body c.in-Alt.old)) (Ok e.field-0)
     (g.met.F.Folder.metered c.next.new.folder) goes.within e.ensures.folder e.ensures.after e.ensures.too_long in
-    alt-sent _ _ c.requires.leaf (ap shown_item c.in-Alt.is) ((value_parts (shown_body c.in-Alt.old)).0 c.bytes-spelled.ensures.is).1 read c.same_as-same.ensures turned.ensures.stamp turned.ensures.no_shorter sent
+    alt-sent _ _ c.requires.leaf (ap shown_item c.in-Alt.is) c.bytes-spelled.ensures.fits read c.same_lent-same.ensures turned.ensures.stamp turned.ensures.no_shorter sent
 
 pub returns-in-LeafEnd : goal.returns-in-LeafEnd
 returns-in-LeafEnd g c = alt-end _ _ c.requires.leaf (ap shown_item c.in-LeafEnd.is) (read g (goal.at.returns-in-LeafEnd g c).In_ok-stamp)

@@ -1,7 +1,8 @@
 use Rattle.std.proofs.Common.{Some, ap, subst, ◌∙◌}
 use Rattle.std.specs.Option.{option_map}
 use Rattle.keyed_tree.specs.Data.{PlainKeyed}
-use Rattle.keyed_parts.specs.View.{body_view, kid_view}
+use Rattle.keyed_tree.specs.LentView.{lent_val_view}
+use Rattle.keyed_parts.specs.View.{kid_view}
 use Rattle.record_cursor.specs.View.{PlainCursor}
 use Rattle.record_writer.specs.declared.writer.Writer.{Writer}
 use Rattle.stream_merge.specs.LeafMerged.{AltsMerged}
@@ -21,7 +22,7 @@ returns-in-Body g c =
     let m = c.merge_alts in
     let s = at g c.args.folder.now c.args.cursor.now c.args.writer.now in
     let t = at g m.new.folder m.new.cursor m.new.writer in
-    leaf-merged {t = t} (ap (option_map kid_view) c.in-Some.is ∙ ap (λ (k : PlainKeyed). Some k) i.ensures) (subst (λ (own : PlainInherited). AltsMerged own (body_view i.body) s t (fault_of m.result)) c.get-own.ensures m.ensures)
+    leaf-merged {t = t} (ap (option_map kid_view) c.in-Some.is ∙ ap (λ (k : PlainKeyed). Some k) i.ensures) (subst (λ (own : PlainInherited). AltsMerged own (lent_val_view i.body) s t (fault_of m.result)) c.get-own.ensures m.ensures)
 
 pub returns-in-Kids : goal.returns-in-Kids
 returns-in-Kids g c = leaf-damaged (ap (option_map kid_view) c.in-Some.is ∙ ap (λ (k : PlainKeyed). Some k) c.in-Kids.ensures) (g.met.F.Folder.metered c.args.folder.now) c.requires.within

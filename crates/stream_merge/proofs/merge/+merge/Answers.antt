@@ -1,7 +1,8 @@
 use Rattle.std.proofs.Common.{◌≡◌, ◌<◌, ◌*◌, ◌+◌, ◌-◌, ℕ, List, Option, Some, None, refl, sym, ap, subst, ◌∙◌, arith}
 use Rattle.std.specs.Option.{option_map}
 use Rattle.keyed_tree.specs.Data.{PlainKeyed, inner, leaf, kids_from, label_of}
-use Rattle.keyed_parts.specs.View.{body_view, kid_view, kids_view}
+use Rattle.keyed_tree.specs.LentView.{lent_val_view}
+use Rattle.keyed_parts.specs.View.{kid_view, kids_view}
 use Rattle.record_cursor.specs.View.{PlainCursor, shown_item}
 use Rattle.record_parts.specs.ShownViews.{shown_label, shown_stamp}
 use Rattle.record_writer.specs.Data.{call_end_inner}
@@ -244,7 +245,7 @@ pub merge_inner-returns-in-Body : goal.merge_inner-returns-in-Body
 merge_inner-returns-in-Body g t c =
     let o : Option PlainKeyed = option_map kid_view c.args.begun.now.kid in
     let k : PlainKeyed = kid_view c.in-Some.kid in
-    let b = body_view c.in-Body.field-0 in
+    let b = lent_val_view c.in-Body.field-0 in
     let s = at g c.args.folder.now c.args.cursor.now c.args.writer.now in
     let is : o ≡ Some (leaf (label_of k) b) = ap (option_map kid_view) c.in-Some.is ∙ ap Some c.in-Body.ensures in
     inside-misfit (own_view c.args.begun.now.own) o (label_of k) b s is (g.met.F.Folder.metered c.args.folder.now) c.requires.within

@@ -4,6 +4,7 @@ use Rattle.std.specs.FinMap as map
 use Rattle.xa_outside.specs.Folder.{bytes_or_none}
 use Rattle.timestamp_tree.specs.Nodes.{piece_of}
 use Rattle.timestamp_tree.proofs.Pieces.{pulled_both, node_told, count_stands}
+use Rattle.version_set.specs.declared.limits.TheConstants.{GREATEST_NUMBER}
 use Rattle.timestamp_tree.proofs.node.read_node.Goals as goal
 
 pub returns-in-Ok-clause-pulls : goal.returns-in-Ok-clause-pulls
@@ -16,12 +17,12 @@ returns-in-Ok-clause-told g c = λ files told. (
     let front = take c.args.limit (bytes_or_none (map.get files c.args.name.now)) in
     let count = c.in-Ok.ensures.told files told in
     let parts = c.read_parts.ensures.told files c.args.limit (c.in-Ok.ensures.reads.same_files ∙ told) (omega (arith, c.in-Ok.ensures.within)) in
-    node_told c.args.most c.in-Ok.count c.args.at front c.read_parts.result count c.read_parts.ensures.size parts)
+    node_told GREATEST_NUMBER c.in-Ok.count c.args.at front c.read_parts.result count c.read_parts.ensures.size parts)
 
 pub returns-in-Ok-clause-only : goal.returns-in-Ok-clause-only
 returns-in-Ok-clause-only g c = λ files rest set left told stands. (
     let piece = piece_of files c.args.name.now c.args.at c.args.limit in
-    let same = count_stands c.args.most c.in-Ok.count piece rest set left (c.in-Ok.ensures.told files told) stands in
+    let same = count_stands GREATEST_NUMBER c.in-Ok.count piece rest set left (c.in-Ok.ensures.told files told) stands in
     pulled_both (12 + 8 * length set) c.in-Ok.count (g.F.Folder.numbers c.args.folder.now) (g.F.Folder.numbers c.read_count.new.folder) (g.F.Folder.numbers c.read_parts.new.folder)
     (omega (arith, same)) c.in-Ok.ensures.numbers c.read_parts.ensures.pulls)
 

@@ -1,4 +1,4 @@
-use Rattle.std.proofs.Common.{◌≡◌, ◌<◌, [], None, true, map, length, sym, ap, ◌∙◌, subst, string_bytes, rules}
+use Rattle.std.proofs.Common.{◌≡◌, ◌<◌, [], None, Ok, true, map, length, sym, ap, ◌∙◌, subst, string_bytes, rules}
 use Rattle.std.proofs.lemmas.Result.{err_from_is_err_and}
 use Rattle.std.specs.List.{list_all}
 use Rattle.key_spec.specs.Names.{is_named}
@@ -37,8 +37,8 @@ returns-in_default-clause-fault c =
     let many : 4096 < length (closed_rules (rules_view given)) = rw c.in_default.is at c.in_ok-rules.ensures.none in
     closed-limits text c.in_ok-given.ensures.none fine ∙ limits-many (closed_rules (rules_of text)) (subst (λ rs. 4096 < length (closed_rules rs)) same many)
 
-pub returns-then-len-gt-MAX_TEXT-clause-fault : goal.returns-then-len-gt-MAX_TEXT-clause-fault
-returns-then-len-gt-MAX_TEXT-clause-fault c =
+pub returns-then-len-gt-LONGEST_TEXT-clause-fault : goal.returns-then-len-gt-LONGEST_TEXT-clause-fault
+returns-then-len-gt-LONGEST_TEXT-clause-fault c =
     let text = c.args.text.now in
     let given = c.in_ok-given.given.items in
     let fine : closing_fault (rules_of text) [] (given_rules (lines_of text)) ≡ None = sym (closing-read text given c.deref.result.now c.deref.ensures.value c.in_ok-given.ensures.all) ∙ c.in_ok-check_closing.ensures.none in
@@ -47,16 +47,14 @@ returns-then-len-gt-MAX_TEXT-clause-fault c =
     let long : 1048576 < length (canonical (closed_rules (rules_of text))) = subst (λ bs. 1048576 < length bs) bytes (search rules) in
     closed-limits text c.in_ok-given.ensures.none fine ∙ limits-long (closed_rules (rules_of text)) long
 
-pub invariant_of-result : goal.invariant_of-result
-invariant_of-result c = record {
-  closed = ∣ (
-    c.args.text.now,
-    closed-found c.args.text.now (string_bytes c.in_ok-canonical_text.field-0) c.in_ok-given.given.items c.deref.result.now c.in-Some.rules.items c.deref-2.result.now
-        c.in_ok-given.ensures.none c.in_ok-given.ensures.all c.deref.ensures.value c.in_ok-check_closing.ensures.none
-        (rw c.in-Some.is at c.in_ok-rules.ensures.some) (rw c.in-Some.is at c.in_ok-rules.ensures.few) c.deref-2.ensures.value c.in_ok-canonical_text.ensures
-        (search rules),
-  ) ∣₁;
-}
+pub of-requires : goal.of-requires
+of-requires c = (
+  c.args.text.now,
+  closed-found c.args.text.now (string_bytes c.in_ok-canonical_text.field-0) c.in_ok-given.given.items c.deref.result.now c.in-Some.rules.items c.deref-2.result.now
+      c.in_ok-given.ensures.none c.in_ok-given.ensures.all c.deref.ensures.value c.in_ok-check_closing.ensures.none
+      (rw c.in-Some.is at c.in_ok-rules.ensures.some) (rw c.in-Some.is at c.in_ok-rules.ensures.few) c.deref-2.ensures.value c.in_ok-canonical_text.ensures
+      (search rules),
+)
 
 pub returns-clause-found : goal.returns-clause-found
 returns-clause-found c =
@@ -64,3 +62,4 @@ returns-clause-found c =
     c.in_ok-given.ensures.none c.in_ok-given.ensures.all c.deref.ensures.value c.in_ok-check_closing.ensures.none
     (rw c.in-Some.is at c.in_ok-rules.ensures.some) (rw c.in-Some.is at c.in_ok-rules.ensures.few) c.deref-2.ensures.value c.in_ok-canonical_text.ensures
     (search rules)
+    ∙ ap (λ rs. Ok rs) (sym c.in_ok-of.ensures)
