@@ -6,6 +6,7 @@ mod fault;
 mod goes;
 mod laws;
 mod lend;
+mod spread;
 mod versions;
 
 pub use encode::encode_spelled;

@@ -37,6 +37,26 @@ const REFUSED: &[(&str, &[&str], Wanted)] = &[
         &[EMPTY, WITH_TEXT, TWICE],
         Wanted(2, &[1], 2, None),
     ),
+    (
+        "a run in the middle",
+        &[EMPTY, TWICE, TWICE, TWICE, EMPTY],
+        Wanted(2, &[2], 5, None),
+    ),
+    (
+        "the last run",
+        &[EMPTY, EMPTY, TWICE, TWICE],
+        Wanted(3, &[2], 5, None),
+    ),
+    (
+        "the first run",
+        &[TWICE, TWICE, EMPTY],
+        Wanted(1, &[2], 5, None),
+    ),
+    (
+        "the first of two runs",
+        &[EMPTY, EMPTY, WITH_TEXT, WITH_TEXT, TWICE, TWICE],
+        Wanted(3, &[1], 2, None),
+    ),
 ];
 
 fn is_text(alloc: Global, path: &KeyPath, wanted: &str) -> bool {
