@@ -1,11 +1,11 @@
-ghost use Rattle.std.specs.Prelude.{◌≡◌, ◌≢◌, ◌++◌, ◌∷◌, [], ◌<◌, ◌≤◌, length, take, get_or, IsTrue, MatchResult, IfOk};
-ghost use Rattle.std.specs.Bool.{OnFalse};
+ghost use Rattle.std.specs.Prelude.{◌≡◌, ◌++◌, ◌∷◌, [], ◌<◌, ◌≤◌, length, take, MatchResult, IfOk};
 ghost use Rattle.std.specs.Char.{digit_char};
 ghost use Rattle.xa_outside.specs.Taken.{Takes};
 ghost use Rattle.json.specs.Print.{escape, escape_byte, quoted};
 ghost use Rattle.xa_outside.specs.Taken.{Puts, TakesPrefix};
 ghost use Rattle.xa_outside.specs.Causes.{HasCause};
 
+use crate::run::plain_run;
 use xa_outside::{Failed, Sink, put_all};
 
 /// Writes a text as a JSON string.
@@ -31,6 +31,19 @@ pub(crate) fn write_escaped<K: Sink>(bytes: &[u8], sink: &mut K) -> Result<(), F
     ensures bytes { Puts (K.taken sink.old) (K.taken sink.new) result (escape bytes.now) }
     ensures cause { HasCause (K.faults sink.old) (K.faults sink.new) result }
 {
+    let done = write_run(bytes, sink)?;
+    if done < bytes.len() {
+        return write_runs(&bytes[done..], sink);
+    }
+    Ok(())
+}
+
+/// The same, run by run.
+#[inline(never)]
+fn write_runs<K: Sink>(bytes: &[u8], sink: &mut K) -> Result<(), Failed>
+    ensures bytes { Puts (K.taken sink.old) (K.taken sink.new) result (escape bytes.now) }
+    ensures cause { HasCause (K.faults sink.old) (K.faults sink.new) result }
+{
     let mut done = 0;
     while done < bytes.len() {
         done += write_run(&bytes[done..], sink)?;
@@ -39,6 +52,7 @@ pub(crate) fn write_escaped<K: Sink>(bytes: &[u8], sink: &mut K) -> Result<(), F
 }
 
 /// Writes the bytes up to and with the first that has an escape, and answers how many these are.
+#[inline]
 fn write_run<K: Sink>(bytes: &[u8], sink: &mut K) -> Result<usize, Failed>
     ensures bytes { MatchResult result
         (λ n. Takes (K.taken sink.old) (K.taken sink.new) (escape (take n bytes.now)))
@@ -58,30 +72,8 @@ fn write_run<K: Sink>(bytes: &[u8], sink: &mut K) -> Result<usize, Failed>
     }
 }
 
-/// How many bytes at the front have no escape, up to the first that has one.
-pub fn plain_run(bytes: &[u8]) -> usize
-    ensures within { result ≤ length bytes.now }
-    ensures plain { escape (take result bytes.now) ≡ take result bytes.now }
-    ensures ends { result < length bytes.now
-        → escape_byte (get_or bytes.now result 0) ≢ get_or bytes.now result 0 ∷ [] }
-{
-    for (index, byte) in bytes.iter().enumerate() {
-        if has_escape(*byte) {
-            return index;
-        }
-    }
-    bytes.len()
-}
-
-#[tactic(auto, unfolding(json::specs::Print::escape_byte))]
-fn has_escape(byte: u8) -> bool
-    ensures plain { OnFalse result (escape_byte byte ≡ byte ∷ []) }
-    ensures escaped { IsTrue result → escape_byte byte ≢ byte ∷ [] }
-{
-    byte < 32 || byte == b'"' || byte == b'\\'
-}
-
 /// Writes what stands in a string for a byte.
+#[inline(never)]
 #[tactic(auto, unfolding(json::specs::Print::escape_byte))]
 fn write_byte<K: Sink>(byte: u8, sink: &mut K) -> Result<(), Failed>
     ensures bytes { Puts (K.taken sink.old) (K.taken sink.new) result (escape_byte byte) }

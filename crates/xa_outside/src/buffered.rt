@@ -1,8 +1,7 @@
-ghost use Rattle.std.specs.Prelude.{◌≡◌, ◌+◌, ◌<◌, ◌≤◌, [], OnOk, IfOk, length, take};
+ghost use Rattle.std.specs.Prelude.{◌≡◌, ◌<◌, ◌≤◌, [], OnOk, IfOk, length, take};
 ghost use Rattle.xa_outside.specs.Taken.{Takes, TakesNone, Writes};
 ghost use Rattle.std.specs.Io.{WritesAtMost};
 ghost use Rattle.xa_outside.specs.Held.{held_end};
-ghost use Rattle.xa_outside.specs.declared.held.TheConstants.{SIZE};
 ghost use Rattle.xa_outside.specs.Causes.{HasCause};
 ghost use Rattle.xa_outside.specs.Buffered.{buffered_faults, buffered_taken, sink_behind, waiting_bytes};
 
@@ -11,8 +10,8 @@ use crate::{Failed, Sink};
 
 /// A sink in front of another one, to which it passes on what it takes, in pieces of kilobytes.
 ///
-/// It has a fixed buffer of 64 KiB and takes no memory. A piece that is as long as the buffer, or
-/// longer, goes straight through. What still waits when the buffer is dropped is lost, so end with a `flush`.
+/// It has a fixed buffer of 64 KiB and takes no memory. A piece that is longer than the buffer goes
+/// straight through. What still waits when the buffer is dropped is lost, so end with a `flush`.
 #[derive(Drop)]
 pub struct Buffered<'a, O> {
     out: &'a mut O,
@@ -57,18 +56,22 @@ impl<'a, O: Sink> Buffered<'a, O> {
         result
     }
 
-    fn make_room(&mut self, count: usize) -> Result<(), Failed>
-        requires { count < SIZE }
-        ensures bytes { TakesNone (buffered_taken O.taken self.old)
-            (buffered_taken O.taken self.new) }
-        ensures room { OnOk result (held_end self.new.held + count ≤ SIZE) }
+    /// Takes a piece that does not fit behind what waits.
+    #[inline(never)]
+    fn write_past(&mut self, piece: &[u8]) -> Result<usize, Failed>
+        ensures bound { WritesAtMost result piece.now }
+        ensures some { IfOk result (λ n. 0 < length piece.now → 0 < n) }
+        ensures bytes { Writes (buffered_taken O.taken self.old)
+            (buffered_taken O.taken self.new) result piece.now }
         ensures cause { HasCause (buffered_faults O.faults self.old)
             (buffered_faults O.faults self.new) result }
     {
-        if self.held.has_room(count) {
-            return Ok(());
+        if piece.len() > SIZE {
+            return self.write_through(piece);
         }
-        self.pass_on()
+        self.pass_on()?;
+        self.held.add(piece);
+        Ok(piece.len())
     }
 
     /// Passes on a piece that is too long to wait, behind what waits.
@@ -90,13 +93,13 @@ impl<O: Sink> Sink for Buffered<'_, O> {
 
     ghost faults = { buffered_faults O.faults };
 
+    #[inline]
     fn write(&mut self, piece: &[u8]) -> Result<usize, Failed> {
-        if piece.len() >= SIZE {
-            return self.write_through(piece);
+        if self.held.has_room(piece.len()) {
+            self.held.add(piece);
+            return Ok(piece.len());
         }
-        self.make_room(piece.len())?;
-        self.held.add(piece);
-        Ok(piece.len())
+        self.write_past(piece)
     }
 }
 

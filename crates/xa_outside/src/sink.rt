@@ -22,7 +22,24 @@ pub trait Sink {
 }
 
 /// Writes the whole piece.
+#[inline]
 pub fn put_all<K: Sink>(sink: &mut K, piece: &[u8]) -> Result<(), Failed>
+    ensures bytes { Puts (K.taken sink.old) (K.taken sink.new) result piece.now }
+    ensures cause { HasCause (K.faults sink.old) (K.faults sink.new) result }
+{
+    if piece.is_empty() {
+        return Ok(());
+    }
+    let done = sink.write(piece)?;
+    if done < piece.len() {
+        return put_rest(sink, &piece[done..]);
+    }
+    Ok(())
+}
+
+/// Writes what a first write of a piece has left.
+#[inline(never)]
+fn put_rest<K: Sink>(sink: &mut K, piece: &[u8]) -> Result<(), Failed>
     ensures bytes { Puts (K.taken sink.old) (K.taken sink.new) result piece.now }
     ensures cause { HasCause (K.faults sink.old) (K.faults sink.new) result }
 {

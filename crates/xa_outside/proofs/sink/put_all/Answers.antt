@@ -1,20 +1,20 @@
-use Rattle.std.proofs.Common.{subst, rules}
-use Rattle.xa_outside.specs.Taken.{Takes}
-use Rattle.xa_outside.specs.TakenLaws.{Takes-nil, Takes-trans, Puts-stopped}
-use Rattle.xa_outside.proofs.Fronts.{take-rest}
+use Rattle.std.proofs.Common.{◌-◌, drop, take, length, subst, sym, ap, ◌∙◌, ◌++◌, eqb-true, arith, take_all, length-drop, take-append-drop}
+use Rattle.std.proofs.lemmas.List.{nil_from_length}
+use Rattle.xa_outside.specs.Taken.{Takes, Puts}
+use Rattle.xa_outside.specs.TakenLaws.{Takes-nil, Puts-after}
 use Rattle.xa_outside.proofs.sink.put_all.Goals as goal
 
-pub loop-done-init : goal.loop-done-init
-loop-done-init g c = record { within = search rules; bytes = Takes-nil _; later = search rules }
+pub returns-then-is_empty-clause-bytes : goal.returns-then-is_empty-clause-bytes
+returns-then-is_empty-clause-bytes g c =
+    let a = g.K.Sink.taken c.args.sink.now in
+    subst (Takes a a) (sym (nil_from_length c.args.piece.now (eqb-true _ 0 (sym c.is_empty.ensures ∙ c.if-is_empty.true)))) (Takes-nil a)
 
-pub loop-done-preserved : goal.loop-done-preserved
-loop-done-preserved g c =
-    let old = c.loop-done.invariant in
-    record {
-      within = search rules;
-      bytes = subst (Takes _ _) (take-rest c.loop-done.done c.in_ok-done.field-0 c.args.piece.now old.within) (Takes-trans _ _ _ _ _ old.bytes c.in_ok-done.ensures.bytes);
-      later = search rules;
-    }
-
-pub returns-in_err-done-clause-bytes : goal.returns-in_err-done-clause-bytes
-returns-in_err-done-clause-bytes g c = Puts-stopped _ _ _ c.from_residual.result c.args.piece.now c.loop-done.done (search rules) c.loop-done.invariant.bytes c.in_err-done.ensures.bytes
+pub returns-then-done-piece-clause-bytes : goal.returns-then-done-piece-clause-bytes
+returns-then-done-piece-clause-bytes g c =
+    let a = g.K.Sink.taken c.args.sink.now in
+    let b = g.K.Sink.taken c.write.new.self in
+    let d = g.K.Sink.taken c.put_rest.new.sink in
+    let n = c.in_ok-done.done in
+    let piece = c.args.piece.now in
+    let rest = take_all (length piece - n) (drop n piece) (omega (arith, length-drop n piece)) in
+    subst (Puts a d c.put_rest.result) (ap (λ l. take n piece ++ l) rest ∙ take-append-drop n piece) (Puts-after a b d c.put_rest.result (take n piece) _ c.in_ok-done.ensures.bytes c.put_rest.ensures.bytes)

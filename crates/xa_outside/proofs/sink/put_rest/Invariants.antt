@@ -1,6 +1,6 @@
 use Rattle.std.proofs.Common.{◌-◌, ◌≤◌, take, length}
 use Rattle.xa_outside.specs.Taken.{Takes}
-use Rattle.xa_outside.proofs.sink.put_all.Given as goal
+use Rattle.xa_outside.proofs.sink.put_rest.Given as goal
 
 abbrev pub invariant-loop-done : goal.invariant-loop-done
 invariant-loop-done g l =

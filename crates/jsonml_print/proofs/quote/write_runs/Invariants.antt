@@ -1,7 +1,7 @@
 use Rattle.std.proofs.Common.{◌-◌, ◌≤◌, take, length}
 use Rattle.xa_outside.specs.Taken.{Takes}
 use Rattle.json.specs.Print.{escape}
-use Rattle.jsonml_print.proofs.quote.write_escaped.Given as goal
+use Rattle.jsonml_print.proofs.quote.write_runs.Given as goal
 
 abbrev pub invariant-loop-done : goal.invariant-loop-done
 invariant-loop-done g l =
