@@ -14,6 +14,7 @@ use crate::held::Held;
 use crate::window::{Window, cut_stamp};
 use archive_tree::effective;
 use record_format::{BodyView, StampView};
+use record_parts::parts_are_read_as_spelled;
 use std::alloc::{AllocError, Global};
 use version_set::VersionSet;
 
@@ -61,6 +62,7 @@ fn copied(alloc: Global, body: BodyView<'_>) -> Result<Vec<u8>, AllocError>
     ensures same { IfOk result (λ v.
         value_in (whole value_at v.items) ≡ shown_body body.entry) }
 {
+    parts_are_read_as_spelled();
     Vec::from_slice(alloc, body.bytes())
 }
 

@@ -14,6 +14,7 @@ use Rattle.record_cursor.specs.Items.{end_item, finish}
 use Rattle.record_cursor.specs.Places.{among_nodes}
 use Rattle.record_cursor.specs.View.{PlainHeader, PlainCursor}
 use Rattle.record_format.specs.Files.{FileOf}
+use Rattle.record_parts.specs.declared.limits.TheConstants.{MOST_VERSIONS}
 use Rattle.archive_join.specs.Faults.{fault_of, plain, SparesFirst, SparesSecond}
 use Rattle.archive_join.specs.Join.{IsArchive, Appended, Overfull, IfTooLong, IfDamaged, IfFailed}
 use Rattle.archive_join.specs.Runs.{AreCalls}
@@ -49,7 +50,7 @@ module _ {S : Type 0} (files : S → Option Files) (draft : S → Option (List �
 
   -- ---- where both are sound
 
-  module _ (few : h.versions + g.versions ≤ 999999) (rules : List PlainRule) (vs us : List PlainKeyed) (one : IsArchive (files old) c.name h rules vs) (two : IsArchive (files old) d.name g rules us) where
+  module _ (few : h.versions + g.versions ≤ MOST_VERSIONS) (rules : List PlainRule) (vs us : List PlainKeyed) (one : IsArchive (files old) c.name h rules vs) (two : IsArchive (files old) d.name g rules us) where
     called : (ended : Option JoinFault) (v : Joined ended) → AreCalls (calls (files old) c.name d.name h g rules vs us one two few) v.made v.next (plain ended)
     called ended v = v.nodes (ours (files old) c.name d.name h g rules vs us one two few).kids (raised_nodes h.versions (theirs (files old) c.name d.name h g rules vs us one two few).kids) (ours-come rules vs one) (theirs-come rules us two)
         (rows-fit (files old) c.name d.name h g rules vs us one two few)
@@ -62,7 +63,7 @@ module _ {S : Type 0} (files : S → Option Files) (draft : S → Option (List �
 
   -- ---- the clauses
 
-  pub appended-of : (r : Result (Unit {0}) JoinFault) → Joined (fault_of r) → h.versions + g.versions ≤ 999999 → IsBlank (draft old) → OnOk r (Appended h c.name g d.name (files old) (draft old) (draft new))
+  pub appended-of : (r : Result (Unit {0}) JoinFault) → Joined (fault_of r) → h.versions + g.versions ≤ MOST_VERSIONS → IsBlank (draft old) → OnOk r (Appended h c.name g d.name (files old) (draft old) (draft new))
   appended-of (Ok x) v few blank =
       let reads = v.reads in
       record {
@@ -72,7 +73,7 @@ module _ {S : Type 0} (files : S → Option Files) (draft : S → Option (List �
       }
   appended-of (Err e) v few blank = tt
 
-  pub too_long-of : (r : Result (Unit {0}) JoinFault) → Joined (fault_of r) → h.versions + g.versions ≤ 999999 → (rules : List PlainRule) (vs us : List PlainKeyed) → IsArchive (files old) c.name h rules vs → IsArchive (files old) d.name g rules us
+  pub too_long-of : (r : Result (Unit {0}) JoinFault) → Joined (fault_of r) → h.versions + g.versions ≤ MOST_VERSIONS → (rules : List PlainRule) (vs us : List PlainKeyed) → IsArchive (files old) c.name h rules vs → IsArchive (files old) d.name g rules us
       → IfErr r (λ e. IfTooLong e ((file : List ℕ) → ¬ (FileOf rules (vs ++ us) file)))
   too_long-of (Ok x) v few rules vs us one two = tt
   too_long-of (Err TooLong) v few rules vs us one two = no-file few rules vs us one two v

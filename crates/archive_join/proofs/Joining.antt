@@ -14,6 +14,7 @@ use Rattle.archive_tree.specs.Stands.{ArchiveOf}
 use Rattle.archive_tree.proofs.OneArchive.{one_archive}
 use Rattle.nested_merge.proofs.Picked.{all_append}
 use Rattle.record_parts.specs.Bounds.{most}
+use Rattle.record_parts.specs.declared.limits.TheConstants.{MOST_VERSIONS}
 use Rattle.record_format.specs.Files.{header_bytes, file_bytes, HasFile, FileOf}
 use Rattle.archive_file.specs.KeyedBy.{IsKeyedBy, AreKeyedBy}
 use Rattle.archive_file.specs.Sound.{SoundAs}
@@ -33,7 +34,7 @@ use Rattle.archive_join.proofs.Archives.{archives_join}
 use Rattle.archive_join.proofs.Coming.{Heads, sound-heads}
 use Rattle.archive_join.proofs.Meeting.{rows_fit}
 
-module _ (told : Option Files) (name other : List ℕ) (h g : PlainHeader) (rules : List PlainRule) (vs us : List PlainKeyed) (one : IsArchive told name h rules vs) (two : IsArchive told other g rules us) (few : h.versions + g.versions ≤ 999999) where
+module _ (told : Option Files) (name other : List ℕ) (h g : PlainHeader) (rules : List PlainRule) (vs us : List PlainKeyed) (one : IsArchive told name h rules vs) (two : IsArchive told other g rules us) (few : h.versions + g.versions ≤ MOST_VERSIONS) where
   abbrev pub ours : PlainArchive
   ours = one.sound.file.archive
 

@@ -9,6 +9,7 @@ use Rattle.version_set.proofs.Sets.{members-upto_pairs, IsCanonical-upto_pairs}
 use Rattle.archive_tree.specs.Data.{Stamp}
 use Rattle.nested_merge.proofs.Stamps.{Below, range_below}
 use Rattle.record_copy.specs.Raised.{raised}
+use Rattle.record_parts.specs.declared.limits.TheConstants.{MOST_VERSIONS}
 use Rattle.record_copy.specs.Short.{IfStored, IsRaisedOf}
 use Rattle.archive_join.specs.Joined.{alone, paired}
 use Rattle.archive_join.specs.Short.{IsMadeOf}
@@ -56,7 +57,7 @@ range_has a (suc k) n h = split (a == n) (has (range_with_len (a + 1) k) n) (eqb
     split false c here there h = (let r = there h in let low : a + 1 ≤ n = r.0 in let high : n < a + 1 + k = r.1 in (omega arith, omega arith))
 
 -- with so many more each is a version still
-pub may_rise : (ns : List ℕ) (n m : ℕ) (by : ℤ) → ns ≡ range_with_len 1 m → n + m ≤ 999999 → by ≡ pos n → (k : ℕ) → IsTrue (has ns k) → IsVersion (pos k +ℤ by)
+pub may_rise : (ns : List ℕ) (n m : ℕ) (by : ℤ) → ns ≡ range_with_len 1 m → n + m ≤ MOST_VERSIONS → by ≡ pos n → (k : ℕ) → IsTrue (has ns k) → IsVersion (pos k +ℤ by)
 may_rise ns n m by e few is k h =
     let r = range_has 1 m k (subst (λ z. IsTrue (has z k)) e h) in
     let low : 1 ≤ k = r.0 in

@@ -9,6 +9,7 @@ ghost use Rattle.record_copy.specs.Raised.{raised};
 ghost use Rattle.record_cursor.specs.Places.{among_nodes};
 ghost use Rattle.record_cursor.specs.View.{header_view, IsHeader};
 ghost use Rattle.record_format.specs.Files.{FileOf};
+ghost use Rattle.record_parts.specs.declared.limits.TheConstants.{MOST_VERSIONS};
 ghost use Rattle.record_writer.specs.View.{writer_view};
 ghost use Rattle.version_set.specs.Members.{upto_pairs};
 ghost use Rattle.version_set.specs.View.{pairs_of};
@@ -57,7 +58,7 @@ pub fn join<F: Folder>(
       at = (header_view two.now).first;
     } }
     requires rules { (header_view one.now).rules ≡ (header_view two.now).rules }
-    requires few { (header_view one.now).versions + (header_view two.now).versions ≤ 999999 }
+    requires few { (header_view one.now).versions + (header_view two.now).versions ≤ MOST_VERSIONS }
     requires draft { IsBlank (F.draft folder.old) }
 
     // Over sound archives the draft becomes the file of the versions of both. Whatever the archives
@@ -114,7 +115,7 @@ fn join_archives<F: Folder>(
     requires left { left.at ≤ left.length }
     requires right { right.at ≤ right.length }
     requires second { sides.now.two.by ≡ (header_view one.now).versions }
-    requires few { (header_view one.now).versions + (header_view two.now).versions ≤ 999999 }
+    requires few { (header_view one.now).versions + (header_view two.now).versions ≤ MOST_VERSIONS }
     ensures { ArchivesJoined F.files F.draft F.numbers F.faults (header_view one.now)
         (header_view two.now).versions folder.old folder.new left right (fault_of result) }
 {
@@ -141,7 +142,7 @@ fn start<F: Folder>(
 
 // All versions of the first, and those of the second behind them.
 fn first_sets(alloc: Global, one: u32, two: u32) -> Result<Sets, AllocError>
-    requires { one + two ≤ 999999 }
+    requires { one + two ≤ MOST_VERSIONS }
     ensures one { IfOk result (λ sets. pairs_of sets.one ≡ upto_pairs one) }
     ensures two { IfOk result (λ sets. pairs_of sets.two ≡ raised one (upto_pairs two)) }
     ensures both { IfOk result (λ sets. pairs_of sets.both ≡ upto_pairs (one + two)) }

@@ -3,6 +3,7 @@ use Rattle.std.proofs.Common.{◌≡◌, ℕ, ◌≤◌, List, [], ◌∷◌, le
 use Rattle.std.specs.List.{AllByRecursion}
 use Rattle.std.proofs.lemmas.Bool.{and_parts}
 use Rattle.version_set.specs.Members.{upto_pairs}
+use Rattle.jsonml_tree.specs.declared.limits.TheConstants.{GREATEST_DEPTH}
 use Rattle.jsonml_text.specs.Texts.{AreTexts}
 use Rattle.key_spec.specs.Data.{PlainRule}
 use Rattle.key_spec.specs.Canonical.{canonical}
@@ -65,7 +66,7 @@ readable one texts shapes c file a full is =
     let other = sound.file.archive in
     let well_there : AreNodesWellFormed other.kids = row-well (upto_pairs other.n) other.kids sound.file.has.records in
     let well : AreNodesWellFormed a.kids = subst (λ (x : PlainArchive). AreNodesWellFormed x.kids) (one c.versions other a sound.file.is is) well_there in
-    let fits = and_parts (are_shallow 120 a.kids) (nodes_fit c.rules [] a.kids) ((archive-keyed c.versions a is c.rules (closed-lead c.rules closes) well).1 sound.keyed) in
+    let fits = and_parts (are_shallow GREATEST_DEPTH a.kids) (nodes_fit c.rules [] a.kids) ((archive-keyed c.versions a is c.rules (closed-lead c.rules closes) well).1 sound.keyed) in
     record {
       shaped = shaped;
       names = row_names c.rules (rules_named c.rules sound.specification) [] a.kids fits.1;

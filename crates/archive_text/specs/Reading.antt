@@ -1,6 +1,7 @@
 -- What can be read from the lines of a text.
 use Rattle.std.specs.Prelude.{◌≡◌, ◌≤◌, ◌-◌, ℕ, List, [], ◌∷◌, ◌++◌, length, map, replicate, Ok, Result, Err, ⊤, IsTrue}
 use Rattle.std.specs.List.{AllByRecursion, flat_map}
+use Rattle.jsonml_tree.specs.declared.limits.TheConstants.{GREATEST_DEPTH}
 use Rattle.key_spec.specs.Data.{PlainRule}
 use Rattle.key_spec.specs.Canonical.{canonical}
 use Rattle.key_spec.specs.Closed.{closed}
@@ -72,7 +73,7 @@ pub record ArePartsOf (rules : List PlainRule) (a : PlainArchive) (notes : List 
   pub short : length (canonical rules) ≤ 1048576
   pub few : a.n ≤ most
   pub as_many : length notes ≡ a.n
-  pub kids : AreReadable 120 a.kids
+  pub kids : AreReadable GREATEST_DEPTH a.kids
   pub lines : AreLines (all_lines rules a notes) bytes
 
 -- the versions under the specification have a file with these notes

@@ -7,6 +7,7 @@ ghost use Rattle.keyed_tree.specs.Data.{PlainKeyed};
 ghost use Rattle.archive_tree.specs.ArchiveView.{archive_view};
 ghost use Rattle.archive_tree.specs.Data.{PlainArchive};
 ghost use Rattle.archive_tree.specs.Stands.{ArchiveOf};
+ghost use Rattle.jsonml_tree.specs.declared.limits.TheConstants.{GREATEST_DEPTH};
 ghost use Rattle.record_parts.specs.declared.limits.TheConstants.{MOST_VERSIONS};
 ghost use Rattle.record_format.specs.Files.{FileOf};
 ghost use Rattle.archive_file.specs.KeyedBy.{AreKeyedBy};
@@ -165,7 +166,7 @@ fn read_count(alloc: Global, bytes: &[u8]) -> Result<(u32, usize), ReadFault>
 fn read_archive(alloc: Global, bytes: &[u8], at: usize, n: u32) -> Result<Archive, ReadFault>
     requires { at ≤ length bytes.now }
     ensures { (vs : List PlainKeyed) (a : PlainArchive) (rest : List PlainLine) → a.n ≡ n
-        → ArchiveOf vs a → AreReadable 120 a.kids
+        → ArchiveOf vs a → AreReadable GREATEST_DEPTH a.kids
         → AreLines (nodes_lines a.kids ++ end_line ∷ rest) (drop at bytes.now)
         → Finds result (λ r. archive_view r ≡ a) }
 {

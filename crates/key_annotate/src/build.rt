@@ -1,6 +1,6 @@
 #![tactic(auto, using(jsonml_tree::proofs::Trees::trees, jsonml_tree::proofs::LentTrees::lent_trees, keyed_tree::proofs::Views::views, crate::proofs::LentViews::lent_views))]
 
-ghost use Rattle.std.specs.Prelude.{◌≡◌, ◌++◌, Some, IfOk, map};
+ghost use Rattle.std.specs.Prelude.{◌≡◌, ◌++◌, IfOk, map};
 ghost use Rattle.std.specs.Option.{option_map};
 ghost use Rattle.jsonml_tree.specs.Data.{only_text};
 ghost use Rattle.jsonml_tree.specs.LentAttrs.{lent_attr_view};
@@ -59,12 +59,13 @@ fn build_text<'a, 't>(
         return Ok(None);
     };
     if inside.is_frontier() {
-        return leaf(alloc, label, content);
+        return Ok(Some(leaf(alloc, label, content)?));
     }
     if !is_space_only(text) {
         return Ok(None);
     }
-    inner(alloc, label, Default::default(), Vec::new(alloc))
+    let attrs = Default::default();
+    Ok(Some(inner(alloc, label, attrs, Vec::new(alloc))?))
 }
 
 /// The keyed tree of an element with this row.
@@ -85,47 +86,47 @@ fn build_row<'a, 't>(
         return Ok(None);
     };
     if inside.is_frontier() {
-        return leaf(alloc, label, content);
+        return Ok(Some(leaf(alloc, label, content)?));
     }
     let Some(kids) = row_kids(alloc, inside, row)? else {
         return Ok(None);
     };
-    inner(alloc, label, &row.attrs, kids)
+    Ok(Some(inner(alloc, label, &row.attrs, kids)?))
 }
 
-/// The leaf with this label and content, as what is built. One without key values is bare.
+/// The leaf with this label and content. One without key values is bare.
 fn leaf<'a, 't>(
     alloc: Global,
     label: LentLabel<'a, 't>,
     content: LentContent<'a, 't>,
-) -> Result<Option<LentKeyed<'a, 't>>, AllocError>
+) -> Result<LentKeyed<'a, 't>, AllocError>
     ensures { IfOk result
-        (λ k. option_map lent_view k
-        ≡ Some (leaf (lent_label_view label.entry) (inside (lent_content_view content.entry)))) }
+        (λ k. lent_view k
+        ≡ leaf (lent_label_view label.entry) (inside (lent_content_view content.entry))) }
 {
     if label.keys.as_slice().is_empty() {
-        return Ok(Some(LentKeyed::bare(label.tag, content)));
+        return Ok(LentKeyed::bare(label.tag, content));
     }
     let label = Box::new(alloc, KeyedLabel::new(label))?;
-    Ok(Some(LentKeyed::Leaf { label, content }))
+    Ok(LentKeyed::Leaf { label, content })
 }
 
-/// The inner node with this label, these attributes and kids, as what is built.
+/// The inner node with this label, these attributes and kids.
 fn inner<'a, 't>(
     alloc: Global,
     label: LentLabel<'a, 't>,
     attrs: &'a [LentAttr<'t>],
     kids: Vec<LentKeyed<'a, 't>>,
-) -> Result<Option<LentKeyed<'a, 't>>, AllocError>
+) -> Result<LentKeyed<'a, 't>, AllocError>
     ensures { IfOk result
-        (λ k. option_map lent_view k
-        ≡ Some (inner (lent_label_view label.entry)
+        (λ k. lent_view k
+        ≡ inner (lent_label_view label.entry)
         (kids_from (map attr_leaf (map lent_attr_view attrs.now)
-        ++ map lent_view kids.entry.items)))) }
+        ++ map lent_view kids.entry.items))) }
 {
     let label = KeyedLabel::new(label);
     let head = Box::new(alloc, Head { label, attrs })?;
-    Ok(Some(LentKeyed::Inner { head, kids }))
+    Ok(LentKeyed::Inner { head, kids })
 }
 
 /// The kids that the items of an inner element with this row give, in the order of their labels.

@@ -3,11 +3,10 @@ use Rattle.std.proofs.Common.{◌≡◌, ◌≢◌, ℕ, ◌+◌, ◌≤◌, ◌
 use Rattle.std.specs.Option.{option_map}
 use Rattle.keyed_tree.specs.Data.{PlainKey, PlainLabel}
 use Rattle.archive_tree.specs.Data.{Stamp, PlainAlt}
-use Rattle.record_parts.specs.Bounds.{IsLabel, IsValue}
+use Rattle.record_parts.specs.Shapes.{FitsLabel, FitsValue}
 use Rattle.record_parts.specs.declared.views.BodyView.{BodyView}
 use Rattle.record_parts.specs.declared.views.LabelView.{LabelView}
 use Rattle.record_parts.specs.declared.views.StampView.{StampView}
-use Rattle.record_parts.proofs.ShapeLaws.{label_parts, value_parts}
 use Rattle.record_cursor.specs.Faults as cursor
 use Rattle.record_cursor.specs.Items.{PlainItem, alt_item, leaf_end_item, end_item, finish}
 use Rattle.record_cursor.specs.Next.{size_of}
@@ -169,14 +168,14 @@ module _ (n : ℕ) (s t : State) where
       ended = λ next coming. tt;
     }
 
-    pub head-read : (head : Head) → head_view head ≡ record { kind = kind; label = o.label; stamp = raised_stamp n o.stamp } → IsLabel o.label → HeadRead n s t (Ok (Some head))
-    head-read head is label = record {
+    pub head-read : (head : Head) → head_view head ≡ record { kind = kind; label = o.label; stamp = raised_stamp n o.stamp } → FitsLabel o.label → HeadRead n s t (Ok (Some head))
+    head-read head is fits = record {
       passes = gave s t o.item o.read;
       not_long = tt;
       onward = moves s t o.item o.read (subst (λ (i : PlainItem). 9 ≤ size_of s.cursor.standing i) (sym o.shown) (opening-long kind s.cursor.standing o.label o.stamp));
       short = λ b file. (
           let parts = opening-parts b kind s.cursor.standing o.label o.stamp (subst (λ (i : PlainItem). size_of s.cursor.standing i ≤ b) o.shown (within-file s t o.item b o.read file)) in
-          subst (λ (h : PlainHead). IsShortHead (IsRaisedOf b n) b h) (sym is) (record { label = (((label_parts o.label).0 label).1, parts.0); stamp = raised-few b n o.stamp parts.1 }));
+          subst (λ (h : PlainHead). IsShortHead (IsRaisedOf b n) b h) (sym is) (record { label = (fits, parts.0); stamp = raised-few b n o.stamp parts.1 }));
       node = λ h next coming. (let came = head-came h next coming in (ap Some (is ∙ came.0), came.1));
       ended = λ next coming. absurd (no-end next coming);
     }
@@ -247,14 +246,14 @@ module _ (n : ℕ) (s t : State) where
       ended = λ next coming. tt;
     }
 
-    pub alternative-read : (alternative : Alternative) → alternative_view alternative ≡ record { stamp = raised_stamp n o.stamp; body = o.body } → IsValue o.body → AlternativeRead n s t (Ok (Some alternative))
-    alternative-read alternative is value = record {
+    pub alternative-read : (alternative : Alternative) → alternative_view alternative ≡ record { stamp = raised_stamp n o.stamp; body = o.body } → FitsValue o.body → AlternativeRead n s t (Ok (Some alternative))
+    alternative-read alternative is fits = record {
       passes = gave s t o.item o.read;
       not_long = tt;
       onward = moves s t o.item o.read (subst (λ (i : PlainItem). 9 ≤ size_of s.cursor.standing i) (sym o.shown) (alternative-long o.stamp o.body));
       short = λ b file. (
           let parts = alternative-parts b o.stamp o.body (subst (λ (i : PlainItem). size_of s.cursor.standing i ≤ b) o.shown (within-file s t o.item b o.read file)) in
-          subst (λ (a : PlainAlt). IsShortAlternative (IsRaisedOf b n) b a) (sym is) (record { body = (((value_parts o.body).0 value).1, parts.1); stamp = raised-few b n o.stamp parts.0 }));
+          subst (λ (a : PlainAlt). IsShortAlternative (IsRaisedOf b n) b a) (sym is) (record { body = (fits, parts.1); stamp = raised-few b n o.stamp parts.0 }));
       one = λ a next coming. (let came = alternative-came a next coming in (ap Some (is ∙ came.0), came.1));
       ended = λ next coming. absurd (no-leaf_end next coming);
     }

@@ -9,6 +9,7 @@ use crate::kind::Kind;
 use crate::parts::{Alternative, Head};
 use crate::raise::{Raise, raise_stamp};
 use record_cursor::{Cursor, Item};
+use record_parts::parts_are_read_as_spelled;
 use xa_outside::Folder;
 
 /// The next node of a row, or None for the END behind the row.
@@ -23,6 +24,7 @@ pub fn read_head<F: Folder>(
         (beside F.files F.draft F.numbers F.faults folder.new cursor.new w)
         result }
 {
+    parts_are_read_as_spelled();
     let (kind, label, stamp) = match cursor.next(folder)? {
         Item::Inner { label, stamp } => (Kind::Inner, label, stamp),
         Item::Leaf { label, stamp } => (Kind::Leaf, label, stamp),
@@ -46,6 +48,7 @@ pub fn read_alternative<F: Folder>(
         (beside F.files F.draft F.numbers F.faults folder.new cursor.new w)
         result }
 {
+    parts_are_read_as_spelled();
     let (stored, body) = match cursor.next(folder)? {
         Item::Alt { stamp, body } => (stamp, body),
         Item::LeafEnd => return Ok(None),

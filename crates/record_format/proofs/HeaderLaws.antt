@@ -11,13 +11,12 @@ use Rattle.key_spec.specs.Closed.{closed}
 use Rattle.keyed_tree.specs.Data.{PlainKeyed}
 use Rattle.archive_tree.proofs.OneArchive.{one_archive}
 use Rattle.xa_fields.specs.Spelling.{u32_bytes, text_bytes}
-use Rattle.xa_fields.specs.Reading.{number_at, only_at}
+use Rattle.xa_fields.specs.Reading.{number_at, both_at, only_at}
 use Rattle.xa_fields.proofs.Fields.{u32_reads}
 use Rattle.record_parts.specs.Bounds.{most}
 use Rattle.record_format.specs.Spelling.{rec_bytes}
 use Rattle.record_format.specs.Files.{header_bytes, file_records, tail_bytes, file_bytes, FileOf}
 use Rattle.record_format.specs.Fronts.{bytes_at, front_at, fixed, header_at, header}
-use Rattle.record_parts.proofs.Local.{both_read}
 use Rattle.record_format.proofs.WholeDirectories.{same_bytes}
 
 -- ---- headers
@@ -38,10 +37,11 @@ count_again n rest le =
     rw (u32_reads.again n rest small) (rw within refl)
 
 pub front_again : (rules : List PlainRule) (n : ℕ) (rest : List ℕ) → length (canonical rules) < 2 ^ 32 → n ≤ most → front_at (header_bytes rules n ++ rest) ≡ Some ((canonical rules, n), rest)
-unfolding front_at
+unfolding front_at both_at
 front_again rules n rest short le =
-    both_read bytes_at (only_at (λ n. leb n most) (number_at w32)) ((text_bytes (canonical rules) ++ u32_bytes n) ++ rest) (u32_bytes n ++ rest) rest (canonical rules) n
-    (ap bytes_at (append_assoc (text_bytes (canonical rules)) (u32_bytes n) rest) ∙ bytes_again (canonical rules) (u32_bytes n ++ rest) short) (count_again n rest le)
+    let text : bytes_at ((text_bytes (canonical rules) ++ u32_bytes n) ++ rest) ≡ Some (canonical rules, u32_bytes n ++ rest) = ap bytes_at (append_assoc (text_bytes (canonical rules)) (u32_bytes n) rest) ∙ bytes_again (canonical rules) (u32_bytes n ++ rest) short in
+    let count = count_again n rest le in
+    rw (text, count) refl
 
 -- a header is read again
 pub header_again : (rules : List PlainRule) (n : ℕ) (rest : List ℕ) → closed (canonical rules) ≡ Ok rules → length (canonical rules) < 2 ^ 32 → n ≤ most → header_at (header_bytes rules n ++ rest) ≡ Some ((rules, n), rest)

@@ -4,7 +4,7 @@ use Rattle.version_set.specs.Pairs.{last_of}
 use Rattle.version_set.specs.Members.{members, greatest, put, either, united}
 use Rattle.version_set.proofs.SetLemmas.{members-united, IsCanonical-united, greatest-members}
 use Rattle.record_parts.specs.Bounds.{IsSet, most}
-use Rattle.record_parts.proofs.Sets.{below_last, last_below}
+use Rattle.record_parts.proofs.Sets.{set_parts}
 
 one_of : (b : Bool) (xs ys : List ℕ) (n : ℕ) → greatest xs ≤ n → greatest ys ≤ n → greatest (cond b xs ys) ≤ n
 one_of true xs ys n p q = p
@@ -25,7 +25,7 @@ IsSet-united ps qs p q =
     let canonical = IsCanonical-united ps qs p.canonical q.canonical in
     let of : greatest (members (united ps qs)) ≤ max (greatest (members ps)) (greatest (members qs)) =
     subst (λ (ns : List ℕ). greatest ns ≤ max (greatest (members ps)) (greatest (members qs))) (sym (members-united ps qs p.canonical q.canonical)) (greatest-either (members ps) (members qs)) in
-    let first = last_below most ps p.within in
-    let second = last_below most qs q.within in
+    let first = ((set_parts ps).0 p).1 in
+    let second = ((set_parts qs).0 q).1 in
     let last : last_of (united ps qs) ≤ most = omega (arith, of, first, second, greatest-members 1 ps p.canonical, greatest-members 1 qs q.canonical, greatest-members 1 (united ps qs) canonical) in
-    record { canonical = canonical; within = below_last 1 most (united ps qs) canonical last }
+    (set_parts (united ps qs)).1 (canonical, last)

@@ -14,7 +14,7 @@ ghost use Rattle.record_format.specs.Bounds.{IsRec};
 use crate::put_directory::put_directory;
 use crate::rec::{ALT, END, Entry, FRAME, INNER, LEAF, LEAF_END, Rec};
 use keyed_tree::{Body, Label};
-use record_parts::{put_label, put_stamp, put_value};
+use record_parts::{parts_are_of_shape_and_fit, put_label, put_stamp, put_value};
 use std::alloc::{AllocError, Global};
 use timestamp_tree::lend_sets;
 use version_set::VersionSet;
@@ -66,6 +66,7 @@ pub fn put_inner(
         ≡ out.old.items ++ rec_bytes (inner_rec (label_view label.now) (stamp_view stamp.now))) }
     ensures grows { Grows out.old.items out.new.items }
 {
+    parts_are_of_shape_and_fit();
     let at = open(out, INNER)?;
     put_label(out, label)?;
     put_stamp(out, stamp)?;
@@ -85,6 +86,7 @@ pub fn put_leaf(
         ≡ out.old.items ++ rec_bytes (leaf_rec (label_view label.now) (stamp_view stamp.now))) }
     ensures grows { Grows out.old.items out.new.items }
 {
+    parts_are_of_shape_and_fit();
     let at = open(out, LEAF)?;
     put_label(out, label)?;
     put_stamp(out, stamp)?;
@@ -100,6 +102,7 @@ pub fn put_alt(out: &mut Vec<u8>, stamp: &Option<VersionSet>, body: &Body) -> Re
         ≡ out.old.items ++ rec_bytes (alt_rec (stamp_view stamp.now) (key_view body.now))) }
     ensures grows { Grows out.old.items out.new.items }
 {
+    parts_are_of_shape_and_fit();
     let at = open(out, ALT)?;
     put_stamp(out, stamp)?;
     put_value(out, body)?;

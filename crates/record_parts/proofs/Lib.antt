@@ -22,3 +22,4 @@ pub mod BothOrders
 pub mod Spelled
 pub mod Rows
 pub mod SomeSets
+pub mod Wraps

@@ -6,7 +6,7 @@ use Rattle.jsonml_tree.specs.View.{tree_view, items_view}
 use Rattle.jsonml_tree.specs.declared.tree.Tree.{Tree}
 use Rattle.xa_fields.specs.Laws.{Grows}
 use Rattle.xa_fields.proofs.Combinators.{grows_on, grows_to, grows_same}
-use Rattle.record_parts.specs.Bounds.{IsItem, AreItems}
+use Rattle.record_parts.specs.Shapes.{FitsItem, FitItems}
 use Rattle.record_parts.specs.Spelling.{item_bytes, items_bytes}
 
 -- the value that is next, in front of those behind it
@@ -26,8 +26,8 @@ next_put {X} {A} spell view xs i x total old new lt is e h =
 
 -- ---- items
 
-pub item_is : (xs : List Tree) (i : ℕ) (x : Tree) → i < length xs → x ≡ get_or xs i x → AreItems (items_view (drop i xs)) → IsItem (tree_view x) × AreItems (items_view (drop (i + 1) xs))
-item_is xs i x lt is h = subst (λ (ys : List PlainTree). AreItems (trees_of ys)) (next_first tree_view xs i x lt is) h
+pub item_fits : (xs : List Tree) (i : ℕ) (x : Tree) → i < length xs → x ≡ get_or xs i x → FitItems (items_view (drop i xs)) → FitsItem (tree_view x) × FitItems (items_view (drop (i + 1) xs))
+item_fits xs i x lt is h = subst (λ (ys : List PlainTree). FitItems (trees_of ys)) (next_first tree_view xs i x lt is) h
 
 pub item_put : (xs : List Tree) (i : ℕ) (x : Tree) (total old new : List ℕ) → i < length xs → x ≡ get_or xs i x → new ≡ old ++ item_bytes (tree_view x)
     → old ++ items_bytes (items_view (drop i xs)) ≡ total → new ++ items_bytes (items_view (drop (i + 1) xs)) ≡ total

@@ -4,7 +4,7 @@ use Rattle.std.specs.List.{AllByRecursion}
 use Rattle.std.proofs.lemmas.Bool.{true≢false}
 use Rattle.std.proofs.lemmas.Bool.Decides.{nat_tests}
 use Rattle.keyed_tree.proofs.Kids.{both}
-use Rattle.version_set.specs.Pairs.{IsFrom, last_of}
+use Rattle.version_set.specs.Pairs.{IsFrom, IsCanonical, last_of}
 use Rattle.archive_tree.specs.Data.{Stamp}
 use Rattle.archive_tree.specs.PartsTest.{is_from}
 use Rattle.archive_tree.proofs.Tells.{from-is_from}
@@ -25,7 +25,7 @@ from_of low (p ∷ ps) h =
     let two = both (leb low p.0) (leb p.0 p.1) one.0 in
     (le_of low p.0 two.0, le_of p.0 p.1 two.1, from_of (p.1 + 2) ps one.1)
 
-pub below_last : (low limit : ℕ) (ps : List (ℕ × ℕ)) → IsFrom low ps → last_of ps ≤ limit → AllByRecursion (λ p. p.1 ≤ limit) ps
+below_last : (low limit : ℕ) (ps : List (ℕ × ℕ)) → IsFrom low ps → last_of ps ≤ limit → AllByRecursion (λ p. p.1 ≤ limit) ps
 below_last low limit [] h g = tt
 below_last low limit (p ∷ []) h g = (g, tt)
 below_last low limit (p ∷ q ∷ ps) h g =
@@ -35,19 +35,22 @@ below_last low limit (p ∷ q ∷ ps) h g =
     let up : q.0 ≤ q.1 = h.2.1 in
     (omega arith, rest)
 
-pub last_below : (limit : ℕ) (ps : List (ℕ × ℕ)) → AllByRecursion (λ p. p.1 ≤ limit) ps → last_of ps ≤ limit
+last_below : (limit : ℕ) (ps : List (ℕ × ℕ)) → AllByRecursion (λ p. p.1 ≤ limit) ps → last_of ps ≤ limit
 last_below limit [] h = omega arith
 last_below limit (p ∷ []) h = h.0
 last_below limit (p ∷ q ∷ ps) h = last_below limit (q ∷ ps) h.1
 
+-- the last number decides, since the numbers of a set ascend
+pub set_parts : (s : List (ℕ × ℕ)) → IsSet s ↔ (IsCanonical s × (last_of s ≤ most))
+set_parts s = (λ h. (h.canonical, last_below most s h.within), λ h. record { canonical = h.0; within = below_last 1 most s h.0 h.1 })
+
 set_there : (s : List (ℕ × ℕ)) → IsTrue (set_fits s) → IsSet s
 set_there s h =
     let two = both (is_from 1 s) (leb (last_of s) most) h in
-    let from = from_of 1 s two.0 in
-    record { canonical = from; within = below_last 1 most s from (le_of (last_of s) most two.1) }
+    (set_parts s).1 (from_of 1 s two.0, le_of (last_of s) most two.1)
 
 set_back : (s : List (ℕ × ℕ)) → IsSet s → IsTrue (set_fits s)
-set_back s h = both_hold (is_from 1 s) (leb (last_of s) most) (from-is_from 1 s h.canonical) (of_le (last_of s) most (last_below most s h.within))
+set_back s h = (let p = (set_parts s).0 h in both_hold (is_from 1 s) (leb (last_of s) most) (from-is_from 1 s p.0) (of_le (last_of s) most p.1))
 
 not_empty : (s : List (ℕ × ℕ)) → IsTrue (is_some_set s) → s ≢ []
 not_empty [] h e = true≢false (sym h)

@@ -25,7 +25,7 @@ scalar_shape (whole (pos n)) h = h
 scalar_shape (whole (negsuc n)) h = h
 scalar_shape (string s) h = h.utf8
 
-scalar_fit : (s : PlainScalar) → IsScalar s → FitsScalar s
+pub scalar_fit : (s : PlainScalar) → IsScalar s → FitsScalar s
 scalar_fit null h = tt
 scalar_fit (boolean b) h = tt
 scalar_fit (whole n) h = tt

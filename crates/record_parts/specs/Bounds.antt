@@ -8,6 +8,7 @@ use Rattle.keyed_tree.specs.Data.{name_bytes, PlainKey, scalar, inside, PlainLab
 use Rattle.archive_tree.specs.Data.{Stamp}
 use Rattle.version_set.specs.Pairs.{IsCanonical}
 use Rattle.xa_fields.specs.Spelling.{IsText}
+use Rattle.xa_fields.specs.declared.limits.TheConstants.{FIELD}
 use Rattle.record_parts.specs.declared.limits.TheConstants.{DEEPEST, MOST_VERSIONS}
 
 -- ---- values
@@ -24,7 +25,7 @@ pub record IsAttr (a : PlainAttr) : Type 0 where
   pub value : IsScalar a.value
 
 pub record AreAttrs (xs : List PlainAttr) : Type 0 where
-  pub few : length xs < 2 ^ 32
+  pub few : length xs < FIELD
   pub each : AllByRecursion IsAttr xs
   pub ascending : IsTrue (is_ascending xs)
 
@@ -35,7 +36,7 @@ abbrev mutual
   IsItem (element t c) = IsText t × IsInside c
 
   pub IsInside : PlainContent → Type 0
-  IsInside (content xs ts) = AreAttrs xs × (length (list_of ts) < 2 ^ 32) × AreItems ts
+  IsInside (content xs ts) = AreAttrs xs × (length (list_of ts) < FIELD) × AreItems ts
 
   pub AreItems : PlainTrees → Type 0
   AreItems no_trees = ⊤
@@ -58,7 +59,7 @@ IsValue (inside c) = IsContent deepest c
 
 pub record IsLabel (l : PlainLabel) : Type 0 where
   pub name : IsText (name_bytes l.name)
-  pub few : length l.keys < 2 ^ 32
+  pub few : length l.keys < FIELD
   pub keys : AllByRecursion IsValue l.keys
 
 -- the greatest number of a version

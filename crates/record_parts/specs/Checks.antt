@@ -7,10 +7,11 @@ use Rattle.keyed_tree.specs.Data.{PlainKey, scalar, inside, PlainLabel, name_byt
 use Rattle.version_set.specs.Pairs.{last_of}
 use Rattle.archive_tree.specs.Data.{Stamp}
 use Rattle.archive_tree.specs.PartsTest.{is_from}
+use Rattle.xa_fields.specs.declared.limits.TheConstants.{FIELD}
 use Rattle.record_parts.specs.Bounds.{deepest, most}
 
 abbrev pub text_fits : List ℕ → Bool
-text_fits s = nat_lt (length s) (2 ^ 32) && is_utf8 s
+text_fits s = nat_lt (length s) FIELD && is_utf8 s
 
 abbrev pub scalar_fits : PlainScalar → Bool
 scalar_fits null = true
@@ -24,7 +25,7 @@ each_attr_fits [] = true
 each_attr_fits (a ∷ xs) = text_fits a.name && scalar_fits a.value && each_attr_fits xs
 
 abbrev pub attrs_fit : List PlainAttr → Bool
-attrs_fit xs = nat_lt (length xs) (2 ^ 32) && each_attr_fits xs && is_ascending xs
+attrs_fit xs = nat_lt (length xs) FIELD && each_attr_fits xs && is_ascending xs
 
 -- whether an element of this tag may stand where so many may nest
 abbrev pub tag_fits : ℕ → List ℕ → Bool
@@ -39,7 +40,7 @@ abbrev mutual
   item_fits (suc depth) (element t c) = text_fits t && content_fits depth c
 
   pub content_fits : ℕ → PlainContent → Bool
-  content_fits depth (content xs ts) = attrs_fit xs && nat_lt (length (list_of ts)) (2 ^ 32) && items_fit depth ts
+  content_fits depth (content xs ts) = attrs_fit xs && nat_lt (length (list_of ts)) FIELD && items_fit depth ts
 
   pub items_fit : ℕ → PlainTrees → Bool
   items_fit depth no_trees = true
@@ -54,7 +55,7 @@ values_fit [] = true
 values_fit (k ∷ ks) = value_fits k && values_fit ks
 
 abbrev pub label_fits : PlainLabel → Bool
-label_fits l = text_fits (name_bytes l.name) && nat_lt (length l.keys) (2 ^ 32) && values_fit l.keys
+label_fits l = text_fits (name_bytes l.name) && nat_lt (length l.keys) FIELD && values_fit l.keys
 
 -- ---- sets
 

@@ -5,6 +5,7 @@ use Rattle.std.specs.List.{AllByRecursion}
 use Rattle.jsonml_tree.specs.Data.{PlainScalar, null, boolean, whole, string, PlainAttr, PlainTree, text, element, PlainContent, content, PlainTrees, no_trees, tree, list_of, content_depth}
 use Rattle.jsonml_tree.specs.WellFormed.{is_ascending}
 use Rattle.keyed_tree.specs.Data.{PlainKey, scalar, inside, PlainLabel, name_bytes}
+use Rattle.xa_fields.specs.declared.limits.TheConstants.{FIELD}
 use Rattle.record_parts.specs.Bounds.{deepest}
 
 -- ---- shapes: texts are UTF-8, numbers are in range, attributes ascend by name, and elements nest at most so deep
@@ -42,7 +43,7 @@ pub record IsShapedLabel (l : PlainLabel) : Type 0 where
 -- ---- lengths and counts
 
 abbrev pub FitsText : List ℕ → Type 0
-FitsText s = length s < 2 ^ 32
+FitsText s = length s < FIELD
 
 abbrev pub FitsScalar : PlainScalar → Type 0
 FitsScalar null = ⊤
@@ -59,7 +60,7 @@ abbrev mutual
   FitsItem (element t c) = FitsText t × FitsInside c
 
   pub FitsInside : PlainContent → Type 0
-  FitsInside (content xs ts) = (length xs < 2 ^ 32) × AllByRecursion FitsAttr xs × (length (list_of ts) < 2 ^ 32) × FitItems ts
+  FitsInside (content xs ts) = (length xs < FIELD) × AllByRecursion FitsAttr xs × (length (list_of ts) < FIELD) × FitItems ts
 
   pub FitItems : PlainTrees → Type 0
   FitItems no_trees = ⊤
@@ -71,5 +72,5 @@ FitsValue (inside c) = FitsInside c
 
 pub record FitsLabel (l : PlainLabel) : Type 0 where
   pub name : FitsText (name_bytes l.name)
-  pub few : length l.keys < 2 ^ 32
+  pub few : length l.keys < FIELD
   pub keys : AllByRecursion FitsValue l.keys

@@ -30,7 +30,7 @@ impl<T: Drop> From<AllocFailed<T>> for RecFault {
 
 /// Why a label or a body was not spelled: a length, a count or a number does not fit its field, elements nest too deep or
 /// names do not ascend, or there is no memory.
-#[derive(Clone, Copy, Drop)]
+#[derive(Clone, Copy, Debug, Drop, PartialEq, Eq)]
 pub enum SpellFault {
     TooLong,
     Memory,

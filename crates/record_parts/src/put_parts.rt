@@ -4,11 +4,11 @@ ghost use Rattle.std.specs.List.{flat_map, AllByRecursion};
 ghost use Rattle.keyed_tree.specs.View.{key_view, name_view, label_view};
 ghost use Rattle.keyed_tree.specs.Data.{name_bytes};
 ghost use Rattle.archive_tree.specs.View.{stamp_view};
-ghost use Rattle.xa_fields.specs.Spelling.{list_bytes, IsText};
+ghost use Rattle.xa_fields.specs.Spelling.{list_bytes};
 ghost use Rattle.xa_fields.specs.Laws.{Grows};
 ghost use Rattle.xa_fields.specs.declared.limits.TheConstants.{FIELD};
 ghost use Rattle.record_parts.specs.Spelling.{value_bytes, name_spelling, label_bytes, stamp_bytes};
-ghost use Rattle.record_parts.specs.Bounds.{IsValue, IsLabel};
+ghost use Rattle.record_parts.specs.Shapes.{FitsText, FitsValue, FitsLabel};
 
 use crate::put_values::put_value;
 use keyed_tree::{KeyVal, Label, Name};
@@ -19,7 +19,7 @@ use xa_fields::{append_text, append_u8, append_u32};
 
 #[tactic(auto, using(xa_fields::proofs::Combinators::growth))]
 fn put_name(out: &mut Vec<u8>, name: &Name) -> Result<(), AllocError>
-    requires { IsText (name_bytes (name_view name.now)) }
+    requires { FitsText (name_bytes (name_view name.now)) }
     ensures ok { OnOk result (out.new.items ≡ out.old.items ++ name_spelling (name_view name.now)) }
     ensures grows { Grows out.old.items out.new.items }
 {
@@ -38,7 +38,7 @@ fn put_name(out: &mut Vec<u8>, name: &Name) -> Result<(), AllocError>
 #[tactic(auto, using(xa_fields::proofs::Combinators::growth, jsonml_tree::proofs::Trees::trees))]
 fn put_values(out: &mut Vec<u8>, values: &[KeyVal]) -> Result<(), AllocError>
     requires few { length values.now < FIELD }
-    requires values { AllByRecursion IsValue (map key_view values.now) }
+    requires values { AllByRecursion FitsValue (map key_view values.now) }
     ensures ok { OnOk result (out.new.items
         ≡ out.old.items ++ list_bytes value_bytes (map key_view values.now)) }
     ensures grows { Grows out.old.items out.new.items }
@@ -49,7 +49,7 @@ fn put_values(out: &mut Vec<u8>, values: &[KeyVal]) -> Result<(), AllocError>
 
 #[tactic(auto, using(xa_fields::proofs::Combinators::growth))]
 fn put_each_value(out: &mut Vec<u8>, values: &[KeyVal]) -> Result<(), AllocError>
-    requires { AllByRecursion IsValue (map key_view values.now) }
+    requires { AllByRecursion FitsValue (map key_view values.now) }
     ensures ok { OnOk result (out.new.items
         ≡ out.old.items ++ flat_map value_bytes (map key_view values.now)) }
     ensures grows { Grows out.old.items out.new.items }
@@ -60,11 +60,11 @@ fn put_each_value(out: &mut Vec<u8>, values: &[KeyVal]) -> Result<(), AllocError
     Ok(())
 }
 
-/// Appends the name, the number of key values and the key values of a label. On a refusal what was
-/// there stays, and some of the encoding may stand behind it.
+/// Appends the name, the number of key values and the key values of a label. They are the bytes of a
+/// label where it is one. On a refusal what was there stays, and some may stand behind it.
 #[tactic(auto, using(xa_fields::proofs::Combinators::growth, jsonml_tree::proofs::Trees::trees))]
 pub fn put_label(out: &mut Vec<u8>, label: &Label) -> Result<(), AllocError>
-    requires { IsLabel (label_view label.now) }
+    requires { FitsLabel (label_view label.now) }
     ensures ok { OnOk result (out.new.items ≡ out.old.items ++ label_bytes (label_view label.now)) }
     ensures grows { Grows out.old.items out.new.items }
 {

@@ -1,14 +1,15 @@
 // Appending scalars, contents and key values.
-ghost use Rattle.std.specs.Prelude.{◌≡◌, ◌++◌, OnOk, map};
+ghost use Rattle.std.specs.Prelude.{◌≡◌, ◌<◌, ◌++◌, length, OnOk, OnErr, map};
 ghost use Rattle.std.specs.List.{flat_map, AllByRecursion};
 ghost use Rattle.jsonml_tree.specs.Data.{whole};
 ghost use Rattle.jsonml_tree.specs.LentAttrs.{lent_scalar_view};
 ghost use Rattle.jsonml_tree.specs.View.{attr_view, tree_view, content_view, items_view};
 ghost use Rattle.keyed_tree.specs.View.{key_view};
-ghost use Rattle.xa_fields.specs.Spelling.{list_bytes};
+ghost use Rattle.xa_fields.specs.Spelling.{list_bytes, u64_bytes};
 ghost use Rattle.xa_fields.specs.Laws.{Grows};
+ghost use Rattle.xa_fields.specs.declared.limits.TheConstants.{FIELD};
 ghost use Rattle.record_parts.specs.Spelling.{scalar_bytes, attr_bytes, content_bytes, item_bytes, items_bytes, value_bytes};
-ghost use Rattle.record_parts.specs.Bounds.{IsScalar, IsAttr, AreAttrs, IsItem, AreItems, IsInside, IsValue};
+ghost use Rattle.record_parts.specs.Shapes.{FitsScalar, FitsAttr, FitsItem, FitItems, FitsInside, FitsValue};
 
 use jsonml_tree::{Attr, Content, LentScalar, Tree};
 use keyed_tree::KeyVal;
@@ -17,7 +18,7 @@ use xa_fields::{append_text, append_u8, append_u32, append_u64};
 
 #[tactic(auto, using(xa_fields::proofs::Combinators::growth))]
 pub(crate) fn put_scalar(out: &mut Vec<u8>, scalar: LentScalar<'_>) -> Result<(), AllocError>
-    requires { IsScalar (lent_scalar_view scalar) }
+    requires { FitsScalar (lent_scalar_view scalar) }
     ensures ok { OnOk result (out.new.items
         ≡ out.old.items ++ scalar_bytes (lent_scalar_view scalar.entry)) }
     ensures grows { Grows out.old.items out.new.items }
@@ -36,22 +37,29 @@ pub(crate) fn put_scalar(out: &mut Vec<u8>, scalar: LentScalar<'_>) -> Result<()
 
 #[tactic(auto, using(xa_fields::proofs::Combinators::growth))]
 fn put_whole(out: &mut Vec<u8>, n: i128) -> Result<(), AllocError>
-    requires { IsScalar (whole n) }
     ensures ok { OnOk result (out.new.items ≡ out.old.items ++ scalar_bytes (whole n)) }
     ensures grows { Grows out.old.items out.new.items }
 {
     if n >= 0 {
         append_u8(out, 3)?;
-        append_u64(out, n as u64)
+        put_low(out, n as u128)
     } else {
         append_u8(out, 4)?;
-        append_u64(out, (-1 - n) as u64)
+        put_low(out, (-1 - n) as u128)
     }
+}
+
+// The lowest eight bytes of a number, which are all of it where it fits.
+fn put_low(out: &mut Vec<u8>, n: u128) -> Result<(), AllocError>
+    ensures ok { OnOk result (out.new.items ≡ out.old.items ++ u64_bytes n) }
+    ensures err { OnErr result (out.new.items ≡ out.old.items) }
+{
+    append_u64(out, (n % 18_446_744_073_709_551_616) as u64)
 }
 
 #[tactic(auto, using(xa_fields::proofs::Combinators::growth))]
 fn put_attr(out: &mut Vec<u8>, attr: &Attr) -> Result<(), AllocError>
-    requires { IsAttr (attr_view attr.now) }
+    requires { FitsAttr (attr_view attr.now) }
     ensures ok { OnOk result (out.new.items ≡ out.old.items ++ attr_bytes (attr_view attr.now)) }
     ensures grows { Grows out.old.items out.new.items }
 {
@@ -61,7 +69,8 @@ fn put_attr(out: &mut Vec<u8>, attr: &Attr) -> Result<(), AllocError>
 
 #[tactic(auto, using(xa_fields::proofs::Combinators::growth, jsonml_tree::proofs::Trees::trees))]
 fn put_attrs(out: &mut Vec<u8>, attrs: &[Attr]) -> Result<(), AllocError>
-    requires { AreAttrs (map attr_view attrs.now) }
+    requires few { length attrs.now < FIELD }
+    requires each { AllByRecursion FitsAttr (map attr_view attrs.now) }
     ensures ok { OnOk result (out.new.items
         ≡ out.old.items ++ list_bytes attr_bytes (map attr_view attrs.now)) }
     ensures grows { Grows out.old.items out.new.items }
@@ -72,7 +81,7 @@ fn put_attrs(out: &mut Vec<u8>, attrs: &[Attr]) -> Result<(), AllocError>
 
 #[tactic(auto, using(xa_fields::proofs::Combinators::growth))]
 fn put_each_attr(out: &mut Vec<u8>, attrs: &[Attr]) -> Result<(), AllocError>
-    requires { AllByRecursion IsAttr (map attr_view attrs.now) }
+    requires { AllByRecursion FitsAttr (map attr_view attrs.now) }
     ensures ok { OnOk result (out.new.items
         ≡ out.old.items ++ flat_map attr_bytes (map attr_view attrs.now)) }
     ensures grows { Grows out.old.items out.new.items }
@@ -86,7 +95,7 @@ fn put_each_attr(out: &mut Vec<u8>, attrs: &[Attr]) -> Result<(), AllocError>
 #[cycle(put)]
 #[tactic(auto, using(xa_fields::proofs::Combinators::growth, jsonml_tree::proofs::Trees::trees, crate::proofs::Contents::insides))]
 fn put_content(out: &mut Vec<u8>, content: &Content) -> Result<(), AllocError>
-    requires { IsInside (content_view content.now) }
+    requires { FitsInside (content_view content.now) }
     ensures ok { OnOk result (out.new.items
         ≡ out.old.items ++ content_bytes (content_view content.now)) }
     ensures grows { Grows out.old.items out.new.items }
@@ -100,7 +109,7 @@ fn put_content(out: &mut Vec<u8>, content: &Content) -> Result<(), AllocError>
 #[cycle(put)]
 #[tactic(auto, using(xa_fields::proofs::Combinators::growth, jsonml_tree::proofs::Trees::trees))]
 fn put_items(out: &mut Vec<u8>, items: &[Tree]) -> Result<(), AllocError>
-    requires { AreItems (items_view items.now) }
+    requires { FitItems (items_view items.now) }
     ensures ok { OnOk result (out.new.items ≡ out.old.items ++ items_bytes (items_view items.now)) }
     ensures grows { Grows out.old.items out.new.items }
 {
@@ -113,7 +122,7 @@ fn put_items(out: &mut Vec<u8>, items: &[Tree]) -> Result<(), AllocError>
 #[cycle(put)]
 #[tactic(auto, using(xa_fields::proofs::Combinators::growth, jsonml_tree::proofs::Trees::trees))]
 fn put_item(out: &mut Vec<u8>, item: &Tree) -> Result<(), AllocError>
-    requires { IsItem (tree_view item.now) }
+    requires { FitsItem (tree_view item.now) }
     ensures ok { OnOk result (out.new.items ≡ out.old.items ++ item_bytes (tree_view item.now)) }
     ensures grows { Grows out.old.items out.new.items }
 {
@@ -130,11 +139,11 @@ fn put_item(out: &mut Vec<u8>, item: &Tree) -> Result<(), AllocError>
     }
 }
 
-/// Appends a key value or a body: a byte of its kind, and the scalar or the content. On a refusal
-/// what was there stays, and some of the encoding may stand behind it.
+/// Appends a key value or a body: a byte of its kind, and the scalar or the content. They are the
+/// bytes of a value where it is one. On a refusal what was there stays, and some may stand behind it.
 #[tactic(auto, using(xa_fields::proofs::Combinators::growth))]
 pub fn put_value(out: &mut Vec<u8>, value: &KeyVal) -> Result<(), AllocError>
-    requires { IsValue (key_view value.now) }
+    requires { FitsValue (key_view value.now) }
     ensures ok { OnOk result (out.new.items ≡ out.old.items ++ value_bytes (key_view value.now)) }
     ensures grows { Grows out.old.items out.new.items }
 {

@@ -43,6 +43,7 @@ fn put_new_label(out: &mut Vec<u8>, label: &Label) -> Result<(), SpellFault>
     if !is_label(label) {
         return Err(SpellFault::TooLong);
     }
+    parts_are_of_shape_and_fit();
     put_label(out, label)?;
     Ok(())
 }
@@ -54,6 +55,7 @@ fn put_new_body(out: &mut Vec<u8>, body: &Body) -> Result<(), SpellFault>
     if !is_value(body) {
         return Err(SpellFault::TooLong);
     }
+    parts_are_of_shape_and_fit();
     put_value(out, body)?;
     Ok(())
 }

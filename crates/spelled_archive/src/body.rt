@@ -4,8 +4,8 @@ ghost use Rattle.record_parts.specs.Whole.{IsValueBytes};
 use jsonml_tree::{LentContent, LentRow};
 use keyed_tree::{Body, KeyVal, LentVal};
 use record_parts::{
-    BodyView, SpellFault, is_value, lend_body, parts_are_of_shape_and_fit, put_lent_value,
-    put_value,
+    BodyView, SpellFault, is_value, lend_body, parts_are_of_shape_and_fit,
+    parts_are_read_as_spelled, put_lent_value, put_value,
 };
 use std::alloc::{AllocError, Global};
 
@@ -53,6 +53,7 @@ impl Spelled {
             return Ok(None);
         }
         parts_are_of_shape_and_fit();
+        parts_are_read_as_spelled();
         let mut bytes = Vec::new(alloc);
         match put_lent_value(&mut bytes, LentVal::Content(LentContent::Row(row))) {
             Ok(()) => Ok(Some(Spelled::of_bytes(bytes))),
@@ -79,6 +80,8 @@ impl Spelled {
         if !is_value(body) {
             return Ok(None);
         }
+        parts_are_of_shape_and_fit();
+        parts_are_read_as_spelled();
         let mut bytes = Vec::new(alloc);
         put_value(&mut bytes, body)?;
         Ok(Some(Spelled::of_bytes(bytes)))

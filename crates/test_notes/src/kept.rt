@@ -1,5 +1,6 @@
 // Notes that are written, and what they are read back as.
 ghost use Rattle.std.specs.Prelude.{◌≡◌, ◌+◌, ◌≤◌, false, length, OnOk};
+ghost use Rattle.version_notes.specs.Notes.{most};
 
 use crate::found::{FIRST, TINY};
 use crate::given::told;
@@ -9,7 +10,7 @@ use xa_outside::{Failed, Folder, FolderCall, FolderFail, MemFolder};
 
 /// So many empty notes.
 fn push_empty(folder: &mut MemFolder, writer: &mut NoteWriter, count: u32) -> Result<(), Failed>
-    requires { writer.old.pushed + count ≤ 999999 }
+    requires { writer.old.pushed + count ≤ most }
     ensures pushed { OnOk result (writer.new.pushed ≡ writer.old.pushed + count) }
     ensures at_once { OnOk result (writer.new.at_once ≡ writer.old.at_once) }
 {
@@ -20,7 +21,7 @@ fn push_empty(folder: &mut MemFolder, writer: &mut NoteWriter, count: u32) -> Re
 }
 
 fn push_all(folder: &mut MemFolder, writer: &mut NoteWriter, notes: &[&str]) -> Result<(), Failed>
-    requires { writer.old.pushed + length notes.now ≤ 999999 }
+    requires { writer.old.pushed + length notes.now ≤ most }
     ensures at_once { OnOk result (writer.new.at_once ≡ writer.old.at_once) }
 {
     for note in notes {
@@ -34,7 +35,7 @@ fn push_all(folder: &mut MemFolder, writer: &mut NoteWriter, notes: &[&str]) -> 
 
 /// A file of one version's records, and behind these so many empty notes and others.
 fn write(folder: &mut MemFolder, empty: u32, notes: &[&str]) -> Result<(), Failed>
-    requires { empty + length notes.now ≤ 999999 }
+    requires { empty + length notes.now ≤ most }
 {
     folder.begin()?;
     folder.append(TINY)?;

@@ -1,5 +1,6 @@
 // All notes of a file in one call.
 ghost use Rattle.std.specs.Prelude.{◌≤◌};
+ghost use Rattle.version_notes.specs.Notes.{most};
 
 use crate::found::{FIRST, TINY, folder};
 use crate::given::reader;
@@ -67,7 +68,7 @@ fn copy(
     size: u32,
     count: u32,
 ) -> Result<Result<(), NotesFault>, Fail>
-    requires { count ≤ 999999 }
+    requires { count ≤ most }
 {
     let reader = reader(alloc, size, count)?;
     folder.begin()?;

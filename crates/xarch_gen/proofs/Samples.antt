@@ -8,6 +8,7 @@ use Rattle.std.proofs.lemmas.List.Sums.{length-filter, count_by-le-length}
 use Rattle.std.proofs.lemmas.List.FromFn.{length-range_with_len}
 use Rattle.jsonml_tree.specs.Data.{PlainTree, text, element, content, PlainTrees, tree, trees_of, tree_depth}
 use Rattle.jsonml_tree.specs.Fits.{IsElement, ItemsFit, content_items_fit}
+use Rattle.jsonml_tree.specs.declared.limits.TheConstants.{GREATEST_DEPTH}
 use Rattle.jsonml_tree.specs.WellFormed.{IsWellFormed}
 use Rattle.jsonml_tree.proofs.Trees.{list_of-trees_of}
 use Rattle.key_rules.specs.Reach.{children}
@@ -193,7 +194,7 @@ pub sample-fits : (seed k : ℕ) → ItemsFit (sample_of seed k)
 unfolding sample_of
 sample-fits seed k = fits-with (map (department_of seed k) (range_with_len 0 4)) (omega arith) (each-made ItemsFit (department_of seed k) (department-fits seed k) (range_with_len 0 4))
 
-pub sample-depth : (seed k : ℕ) → tree_depth (sample_of seed k) ≤ 120
+pub sample-depth : (seed k : ℕ) → tree_depth (sample_of seed k) ≤ GREATEST_DEPTH
 unfolding sample_of
 sample-depth seed k =
     let P : PlainTree → Type 0 = λ t. tree_depth t ≤ 3 in

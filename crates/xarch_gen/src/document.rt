@@ -4,6 +4,7 @@ ghost use Rattle.jsonml_tree.specs.Data.{tree_depth};
 ghost use Rattle.jsonml_tree.specs.Fits.{IsElement, ItemsFit};
 ghost use Rattle.jsonml_tree.specs.View.{tree_view};
 ghost use Rattle.jsonml_tree.specs.WellFormed.{IsWellFormed};
+ghost use Rattle.jsonml_tree.specs.declared.limits.TheConstants.{GREATEST_DEPTH};
 ghost use Rattle.key_rules.specs.Satisfies.{Satisfies};
 ghost use Rattle.xarch_gen.specs.Company.{company_rules};
 ghost use Rattle.xarch_gen.specs.Sample.{department_of, sample_of};
@@ -30,7 +31,7 @@ pub fn sample(alloc: Global, seed: u32, document: u32) -> Result<Tree, AllocErro
     ensures element { IfOk result (λ t. IsElement (tree_view t)) }
     ensures items_fit { IfOk result (λ t. ItemsFit (tree_view t)) }
     ensures well_formed { IfOk result (λ t. IsWellFormed (tree_view t)) }
-    ensures shallow { IfOk result (λ t. tree_depth (tree_view t) ≤ 120) }
+    ensures shallow { IfOk result (λ t. tree_depth (tree_view t) ≤ GREATEST_DEPTH) }
 {
     let mut departments = Vec::with_capacity(alloc, DEPARTMENTS as usize)?;
     for department in 0..DEPARTMENTS {

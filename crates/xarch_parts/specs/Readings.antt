@@ -1,6 +1,7 @@
 -- What the bytes of input files are read as.
 use Rattle.std.specs.Prelude.{ℕ, List, take, Option, Some, None, Result, Ok, Err}
 use Rattle.jsonml_tree.specs.Data.{PlainTree}
+use Rattle.jsonml_tree.specs.declared.limits.TheConstants.{GREATEST_DEPTH}
 use Rattle.jsonml_text.specs.Document as document
 use Rattle.keyed_tree.specs.Data.{PlainKeyed}
 use Rattle.key_spec.specs.Closed.{closed}
@@ -25,11 +26,11 @@ spec_refusal f = bad_spec f.line f.why
 unfoldable pub rules_of : List ℕ → Result (List PlainRule) Refusal
 rules_of bytes = refused_as spec_refusal (closed bytes)
 
--- An element on a level above 120 is refused by the limit alone, without its place.
+-- An element on a level above the greatest is refused by the limit alone, without its place.
 abbrev pub doc_refusal : document.DocRefusal → Refusal
 doc_refusal document.bad_json = bad_json
 doc_refusal (document.bad_shape place why) = bad_shape place why
-doc_refusal (document.too_deep place) = limit depth 120
+doc_refusal (document.too_deep place) = limit depth GREATEST_DEPTH
 
 -- the tree of a document
 unfoldable pub document_of : List ℕ → Result PlainTree Refusal

@@ -7,6 +7,7 @@ ghost use Rattle.jsonml_tree.specs.Data.{tree_depth};
 ghost use Rattle.jsonml_tree.specs.Fits.{IsElement, ItemsFit};
 ghost use Rattle.jsonml_tree.specs.LentView.{lent_tree_view};
 ghost use Rattle.jsonml_tree.specs.WellFormed.{IsWellFormed};
+ghost use Rattle.jsonml_tree.specs.declared.limits.TheConstants.{GREATEST_DEPTH};
 ghost use Rattle.key_annotate.specs.LentView.{lent_view};
 ghost use Rattle.key_annotate.specs.Stands.{Stands};
 ghost use Rattle.key_spec.specs.View.{spec_view};
@@ -64,7 +65,7 @@ pub fn doc_from<'a>(alloc: Global, bytes: &'a [u8]) -> Result<LentTree<'a>, Faul
     ensures element { IfOk result (λ t. IsElement (lent_tree_view t)) }
     ensures items_fit { IfOk result (λ t. ItemsFit (lent_tree_view t)) }
     ensures well_formed { IfOk result (λ t. IsWellFormed (lent_tree_view t)) }
-    ensures shallow { IfOk result (λ t. tree_depth (lent_tree_view t) ≤ 120) }
+    ensures shallow { IfOk result (λ t. tree_depth (lent_tree_view t) ≤ GREATEST_DEPTH) }
     ensures texts { IfOk result (λ t. AreTexts (lent_tree_view t)) }
 {
     match lend_document(alloc, bytes) {

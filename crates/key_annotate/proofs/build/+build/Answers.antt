@@ -1,12 +1,12 @@
 use Rattle.std.proofs.lemmas.Grind.{common_steps}
-use Rattle.std.proofs.Common.{arith, None, ◌≡◌, ◌+◌, ◌++◌, ◌∷◌, [], true, false, List, Option, Some, IfOk, Vec, Global, map, drop, ap, sym, subst, ◌∙◌}
+use Rattle.std.proofs.Common.{arith, None, ◌≡◌, ◌+◌, ◌++◌, ◌∷◌, [], true, false, List, Some, Vec, Global, map, drop, ap, sym, ◌∙◌}
 use Rattle.std.specs.Cow.{cow_str_bytes}
 use Rattle.std.specs.Option.{option_map}
 use Rattle.jsonml_tree.specs.Data.{PlainAttr, text, tree}
 use Rattle.jsonml_tree.specs.LentAttrs.{lent_attr_view}
 use Rattle.jsonml_tree.specs.LentView.{lent_tree_view, lent_items_view, lent_row_view}
 use Rattle.jsonml_tree.proofs.LentTrees.{lent_row_view-is, lent_tree_view-Text}
-use Rattle.keyed_tree.specs.Data.{PlainKeyed, inner, kids_from}
+use Rattle.keyed_tree.specs.Data.{inner, kids_from}
 use Rattle.key_annotate.specs.KeyedOf.{attr_leaf}
 use Rattle.key_annotate.specs.LentView.{lent_view}
 use Rattle.key_annotate.specs.declared.lent.LentKeyed.{LentKeyed}
@@ -91,7 +91,7 @@ build_row-returns-then-is_frontier t' c =
     let label : ok_of (label_in rules' path t content) ≡ Some (lent_label_view c.in-Some.label) = found-some c.in_ok-label.field-0 c.in-Some.label c.in-Some.inside _ c.in-Some.is c.in_ok-label.ensures.label in
     let place = found-below c.args.context t c.in_ok-label.field-0 c.in-Some.label c.in-Some.inside c.in-Some.is c.in_ok-label.ensures.below in
     let here : is_frontier rules' (below path t) ≡ true = at-frontier c.args.context c.in-Some.inside t c.is_frontier.result true place c.is_frontier.ensures c.if-is_frontier.true in
-    subst (λ (o : Option PlainKeyed). IfOk c.leaf.result (λ k. option_map lent_view k ≡ o)) (leaf-kind rules' path t (lent_label_view c.in-Some.label) content label here) c.leaf.ensures
+    ap (λ k. Some k) c.in_ok-leaf.ensures ∙ leaf-kind rules' path t (lent_label_view c.in-Some.label) content label here
 
 pub build_row-returns-in_default-2 : goal.build_row-returns-in_default-2
 build_row-returns-in_default-2 t' c =
@@ -119,5 +119,5 @@ build_row-returns t' c =
     let items : items_inside rules' (below path t) content ≡ Some ks =
     items-below c.args.context c.in-Some.inside t content _ (Some ks) place (ap (option_map (λ (ks : Vec LentKeyed Global). map lent_view ks.items)) c.in-Some-2.is) c.in_ok-kids.ensures in
     let attrs : map lent_attr_view c.deref.result.now ≡ attrs_in content = ap (map lent_attr_view) c.deref.ensures.value ∙ sym (ap attrs_in (lent_row_view-is c.args.row.now)) in
-    let whole = subst (λ (xs : List PlainAttr). IfOk c.inner.result (λ k. option_map lent_view k ≡ Some (inner l (kids_from (map attr_leaf xs ++ ks))))) attrs c.inner.ensures in
-    subst (λ (o : Option PlainKeyed). IfOk c.inner.result (λ k. option_map lent_view k ≡ o)) (inner-kind rules' path t l content ks label above items) whole
+    let whole = ap (λ (xs : List PlainAttr). inner l (kids_from (map attr_leaf xs ++ ks))) attrs in
+    ap (λ k. Some k) (c.in_ok-inner.ensures ∙ whole) ∙ inner-kind rules' path t l content ks label above items

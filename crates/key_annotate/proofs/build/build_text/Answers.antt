@@ -1,9 +1,8 @@
-use Rattle.std.proofs.Common.{◌≡◌, ◌++◌, true, false, [], List, Option, Some, IfOk, map, sym, subst, ◌∙◌}
-use Rattle.std.specs.Option.{option_map}
+use Rattle.std.proofs.Common.{◌≡◌, ◌++◌, true, false, [], List, Some, map, sym, ◌∙◌, ap}
 use Rattle.jsonml_tree.specs.Data.{only_text}
 use Rattle.jsonml_tree.specs.LentAttrs.{lent_attr_view}
 use Rattle.jsonml_tree.specs.declared.lent_attr.LentAttr.{LentAttr}
-use Rattle.keyed_tree.specs.Data.{PlainKeyed, inner, kids_from}
+use Rattle.keyed_tree.specs.Data.{inner, kids_from}
 use Rattle.key_spec.specs.ContextView.{context_path, context_rules}
 use Rattle.key_spec.specs.Rules.{below, is_frontier}
 use Rattle.key_rules.specs.Labels.{label_in}
@@ -29,7 +28,7 @@ returns-then-is_frontier c =
     let label : ok_of (label_in rules' path t content) ≡ Some (lent_label_view c.in-Some.label) = found-some c.in_ok-label.field-0 c.in-Some.label c.in-Some.inside _ c.in-Some.is c.in_ok-label.ensures.label in
     let place = found-below c.args.context t c.in_ok-label.field-0 c.in-Some.label c.in-Some.inside c.in-Some.is c.in_ok-label.ensures.below in
     let here : is_frontier rules' (below path t) ≡ true = at-frontier c.args.context c.in-Some.inside t c.is_frontier.result true place c.is_frontier.ensures c.if-is_frontier.true in
-    subst (λ (o : Option PlainKeyed). IfOk c.leaf.result (λ k. option_map lent_view k ≡ o)) (leaf-kind rules' path t (lent_label_view c.in-Some.label) content label here) c.leaf.ensures
+    ap (λ k. Some k) c.in_ok-leaf.ensures ∙ leaf-kind rules' path t (lent_label_view c.in-Some.label) content label here
 
 pub returns-then-not-is_space_only : goal.returns-then-not-is_space_only
 returns-then-not-is_space_only c =
@@ -54,6 +53,6 @@ returns c =
     let l = lent_label_view c.in-Some.label in
     let blank : is_space_only c.args.text.now ≡ true = sym c.is_space_only.ensures ∙ c.if-not-is_space_only.false in
     let built = inner-kind rules' path t l content [] label above (spaces-inside rules' (below path t) c.args.text.now blank) in
-    let bare = subst (λ (xs : List LentAttr). IfOk c.inner.result (λ k. option_map lent_view k ≡ Some (inner l (kids_from (map attr_leaf (map lent_attr_view xs) ++ map lent_view c.new.result.items))))) c.default.ensures c.inner.ensures in
-    let empty = subst (λ (ks : List LentKeyed). IfOk c.inner.result (λ k. option_map lent_view k ≡ Some (inner l (kids_from (map lent_view ks))))) c.new.ensures.items bare in
-    subst (λ (o : Option PlainKeyed). IfOk c.inner.result (λ k. option_map lent_view k ≡ o)) built empty
+    let bare = ap (λ (xs : List LentAttr). inner l (kids_from (map attr_leaf (map lent_attr_view xs) ++ map lent_view c.new.result.items))) c.default-attrs.ensures in
+    let empty = ap (λ (ks : List LentKeyed). inner l (kids_from (map lent_view ks))) c.new.ensures.items in
+    ap (λ k. Some k) (c.in_ok-inner.ensures ∙ bare ∙ empty) ∙ built

@@ -1,10 +1,12 @@
-use Rattle.std.proofs.Common.{◌≡◌, refl, sym, ap, ◌∙◌}
+use Rattle.std.proofs.Common.{◌≡◌, Some, refl, sym, ap, ◌∙◌}
 use Rattle.record_cursor.specs.View.{PlainCursor, shown_item}
 use Rattle.archive_tree.specs.View.{stamp_view}
 use Rattle.xa_fields.specs.Reading.{whole}
+use Rattle.xa_fields.proofs.Combinators.{whole_again}
+use Rattle.record_parts.specs.Bounds.{IsLabel}
 use Rattle.record_parts.specs.Reading.{label_at}
 use Rattle.record_parts.specs.ShownViews.{label_in, shown_label, shown_stamp}
-use Rattle.record_parts.proofs.ShownParts.{spelled_label, spelling_of_label}
+use Rattle.record_parts.specs.Spelling.{label_bytes}
 use Rattle.record_writer.specs.Data.{PlainWriter}
 use Rattle.record_copy.specs.Faults.{of_cursor}
 use Rattle.record_copy.specs.Parts.{opening_of}
@@ -15,7 +17,7 @@ use Rattle.record_copy.specs.State.{State, beside}
 use Rattle.record_copy.proofs.Passing.{Nexts, nexts, stays-by, at-err}
 use Rattle.record_copy.proofs.Reading.{Opener, head-failed, head-ended, head-damage, head-memory, head-read}
 use Rattle.record_copy.proofs.read.read_head.Given.{Over}
-use Rattle.record_copy.proofs.read.read_head.Goals.{In_ok-label, Joined-branch-2, in-Inner, in-Leaf}
+use Rattle.record_copy.proofs.read.read_head.Goals.{In_ok-label, In_ok-label-2, Joined-branch-2, in-Inner, in-Leaf}
 use Rattle.record_copy.proofs.read.read_head.Goals as goal
 
 abbrev at : (g : Over) → g.row.F.Denot → PlainCursor → PlainWriter → State
@@ -62,8 +64,12 @@ abbrev opener : (g : Over) (c : Joined-branch-2 g) (w : PlainWriter) → Nexts (
     → Opener c.match-branch-2.kind.0 (at g c.args.folder.now c.args.cursor.now w) (at g c.next.new.folder c.next.follows.lender-at-none w)
 opener g c w read = (let k = c.match-branch-2.kind in record { item = c.in_ok-label.field-0; label = shown_label k.1; stamp = shown_stamp k.2; shown = opens g c; read = read })
 
+-- the copied bytes are those of the label
+label-read : (g : Over) (c : In_ok-label-2 g) → whole label_at c.in_ok-label-2.label.items ≡ Some (shown_label c.match-branch-2.kind.1)
+label-read g c = (let b = c.bytes.ensures in ap (whole label_at) (c.in_ok-label-2.ensures.items ∙ b.spelled) ∙ whole_again label_at label_bytes IsLabel c.parts_are_read_as_spelled.ensures.labels (shown_label c.match-branch-2.kind.1) b.is)
+
 pub invariant_of-result : goal.invariant_of-result
-invariant_of-result g c = (let b = c.bytes.ensures in record { valid = spelling_of_label (shown_label c.match-branch-2.kind.1) c.in_ok-label-2.label.items b.is (c.in_ok-label-2.ensures.items ∙ b.spelled) })
+invariant_of-result g c = (let e = label-read g (goal.at.invariant_of-result g c).In_ok-label-2 in record { valid = rw e refl })
 
 pub returns-in_err-stamp : goal.returns-in_err-stamp
 returns-in_err-stamp g c w =
@@ -90,7 +96,6 @@ returns g c w =
     let k = c.match-branch-2.kind in
     let s = at g c.args.folder.now c.args.cursor.now w in
     let t = at g c.next.new.folder c.next.follows.lender-at-none w in
-    let b = c.bytes.ensures in
-    let labels : label_in (whole label_at c.in_ok-label-2.label.items) ≡ shown_label k.1 = ap label_in (spelled_label (shown_label k.1) c.in_ok-label-2.label.items b.is (c.in_ok-label-2.ensures.items ∙ b.spelled)) in
+    let labels : label_in (whole label_at c.in_ok-label-2.label.items) ≡ shown_label k.1 = ap label_in (label-read g z.In_ok-label-2) in
     let stamps : stamp_view c.in_ok-stamp.stamp ≡ raised_stamp n (shown_stamp k.2) = c.in_ok-stamp.ensures in
-    head-read n s t k.0 (opener g z.Joined-branch-2 w (read g z.In_ok-label w)) _ (λ i. record { kind = k.0; label = labels i; stamp = stamps i }) b.is
+    head-read n s t k.0 (opener g z.Joined-branch-2 w (read g z.In_ok-label w)) _ (λ i. record { kind = k.0; label = labels i; stamp = stamps i }) c.bytes.ensures.fits

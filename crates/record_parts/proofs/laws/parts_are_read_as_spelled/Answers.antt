@@ -1,5 +1,5 @@
 use Rattle.record_parts.proofs.Parts.{label_reads, set_reads, stamp_reads}
-use Rattle.record_parts.proofs.Values.{value_reads}
+use Rattle.record_parts.proofs.Values.{content_reads, value_reads}
 use Rattle.record_parts.proofs.laws.parts_are_read_as_spelled.Goals as goal
 
 pub returns-clause-labels : goal.returns-clause-labels
@@ -13,3 +13,6 @@ returns-clause-stamps c = stamp_reads
 
 pub returns-clause-sets : goal.returns-clause-sets
 returns-clause-sets c = set_reads
+
+pub returns-clause-contents : goal.returns-clause-contents
+returns-clause-contents c = content_reads

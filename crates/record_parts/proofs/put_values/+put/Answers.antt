@@ -8,7 +8,7 @@ use Rattle.jsonml_tree.specs.declared.tree.Content.{Content}
 use Rattle.jsonml_tree.proofs.Trees.{trees, content_view-is, list_of-trees_of}
 use Rattle.xa_fields.specs.Spelling.{u32_bytes, list_bytes}
 use Rattle.record_parts.specs.Spelling.{attr_bytes, items_bytes, content_bytes}
-use Rattle.record_parts.proofs.Puts.{item_is, item_put, grows_with}
+use Rattle.record_parts.proofs.Puts.{item_fits, item_put, grows_with}
 use Rattle.record_parts.proofs.put_values.+put.Goals as goal
 
 parts : (c : Content) (o p q r : List ℕ) (m : ℕ) → m ≡ length c.items.items → p ≡ o ++ list_bytes attr_bytes (map attr_view c.attrs.items) → q ≡ p ++ u32_bytes m → r ≡ q ++ items_bytes (trees_of (map tree_view c.items.items))
@@ -68,7 +68,7 @@ put_items-returns-in_err-put_item-clause-grows t c = grows_on _ _ _ c.loop-item.
 pub put_items-loop-item-preserved : goal.put_items-loop-item-preserved
 put_items-loop-item-preserved t c =
     record {
-      fits = (item_is c.args.items.now c.loop-item.item-index c.item-item.result c.loop-item-test.true c.item-item.is c.loop-item.invariant.fits).1;
+      fits = (item_fits c.args.items.now c.loop-item.item-index c.item-item.result c.loop-item-test.true c.item-item.is c.loop-item.invariant.fits).1;
       wrote = item_put c.args.items.now c.loop-item.item-index c.item-item.result _ _ _ c.loop-item-test.true c.item-item.is (search rules) c.loop-item.invariant.wrote;
       grows = grows_on _ _ _ c.loop-item.invariant.grows c.put_item.ensures.grows;
     }

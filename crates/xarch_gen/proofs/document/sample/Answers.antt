@@ -3,6 +3,7 @@ use Rattle.jsonml_tree.specs.Data.{PlainTree, tree_depth}
 use Rattle.jsonml_tree.specs.Fits.{IsElement, ItemsFit}
 use Rattle.jsonml_tree.specs.View.{tree_view}
 use Rattle.jsonml_tree.specs.WellFormed.{IsWellFormed}
+use Rattle.jsonml_tree.specs.declared.limits.TheConstants.{GREATEST_DEPTH}
 use Rattle.key_rules.specs.Satisfies.{Satisfies}
 use Rattle.xarch_gen.specs.Company.{company_rules}
 use Rattle.xarch_gen.specs.Sample.{department_of, sample_of}
@@ -34,5 +35,5 @@ returns c =
       element = holds-of-view IsElement (sample_of seed k) c.element.result (sample-element seed k) document;
       items_fit = holds-of-view ItemsFit (sample_of seed k) c.element.result (sample-fits seed k) document;
       well_formed = holds-of-view IsWellFormed (sample_of seed k) c.element.result (sample-formed seed k) document;
-      shallow = holds-of-view (λ t. tree_depth t ≤ 120) (sample_of seed k) c.element.result (sample-depth seed k) document;
+      shallow = holds-of-view (λ t. tree_depth t ≤ GREATEST_DEPTH) (sample_of seed k) c.element.result (sample-depth seed k) document;
     }
