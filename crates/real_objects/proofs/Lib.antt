@@ -1,1 +1,2 @@
 mod DraftLemmas
+pub mod NameLemmas

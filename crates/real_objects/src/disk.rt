@@ -1,4 +1,4 @@
-ghost use Rattle.std.specs.Prelude.{◌≡◌, ◌≤◌, IfSome, None, length};
+ghost use Rattle.std.specs.Prelude.{◌≡◌, ◌≤◌, IfSome, None};
 ghost use Rattle.xa_outside.specs.Causes.{Rose};
 ghost use Rattle.xa_outside.specs.Meter.{numbers};
 ghost use Rattle.xa_outside.specs.Numbers.{numbers_none};
@@ -13,9 +13,9 @@ use xa_outside::{Failed, Folder, Meter};
 /// The files of the folder that the program runs in.
 ///
 /// It keeps the two files that were asked for last open, with pages of what it read, so that two are read side by side. What is read
-/// of a file is of the one whose length was told last, unless a third was asked for in between. What is appended is gathered, 64 KiB at most, and written to a draft
-/// that `commit` renames: a file is replaced whole or not at all. The names of drafts are refused, and want of memory is a failure
-/// as any other. It tells no files: what the system holds is trusted.
+/// of a file is of the one whose length was told last, unless a third was asked for in between. What is appended is gathered,
+/// 64 KiB at most, and written to a draft that `commit` renames: a file is replaced whole or not at all. The names of drafts are
+/// refused, and want of memory is a failure as any other. It tells no files: what the system holds is trusted.
 #[derive(Drop)]
 pub struct DiskFolder<'a, R: System> {
     rt: &'a R,
@@ -58,23 +58,6 @@ impl<'a, R: System> DiskFolder<'a, R> {
             ≡ ⟦<DiskFolder<'a, R> as Folder>⟧.faults self.old }
     {
         remove(&mut self.draft);
-    }
-
-    /// Reads what is held, or else what stands in the file. None on a failure.
-    #[inline]
-    fn read(&mut self, name: &str, at: u64, buf: &mut [u8]) -> Option<usize>
-        ensures bound { IfSome result (λ n. n ≤ length buf.new) }
-        ensures meter { self.new.meter ≡ self.old.meter }
-        ensures faults { self.new.faults ≡ self.old.faults }
-    {
-        let held = self.files.copy(name, at, buf);
-        if held > 0 {
-            return Some(held);
-        }
-        if is_draft(name) {
-            return None;
-        }
-        self.files.read(name, at, buf)
     }
 
     /// Makes a draft in place of the one before, which is removed. None on a failure.
@@ -140,7 +123,7 @@ impl<R: System> Folder for DiskFolder<'_, R> {
     }
 
     fn read_at(&mut self, name: &str, at: u64, buf: &mut [u8]) -> Result<usize, Failed> {
-        match self.read(name, at, buf) {
+        match self.files.read(name, at, buf) {
             Some(count) => {
                 self.meter.pull(count);
                 Ok(count)

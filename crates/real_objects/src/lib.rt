@@ -9,6 +9,7 @@ mod disk;
 mod draft;
 mod opened;
 mod pages;
+mod same_name;
 mod streams;
 mod system;
 mod target;

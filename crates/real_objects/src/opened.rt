@@ -3,7 +3,9 @@ ghost use Rattle.real_objects.specs.Mark.{IsSame};
 
 use crate::calls::{self, is_absent};
 use crate::pages::Pages;
+use crate::same_name::is_same;
 use crate::system::{Kind, Mark, Seen, System};
+use crate::target::is_draft;
 use std::alloc::Global;
 use std::mem;
 
@@ -38,13 +40,16 @@ impl<F: Drop> Opened<F> {
     fn is_named(&self, name: &str) -> bool
         ensures { IsTrue result ↔ (string_bytes self.now.name ≡ name.now) }
     {
-        self.name.as_str() == name
+        if self.name.len() < 8 {
+            return self.name.as_str() == name;
+        }
+        is_same(self.name.as_bytes(), name.as_bytes())
     }
 
     /// Whether it is still the file of this mark, with the bytes that its pages hold.
     fn is_as_marked(&self, mark: &Mark) -> bool
-        ensures rested { IsTrue result → IsTrue self.now.is_settled }
-        ensures same { IsTrue result → IsSame self.now.mark mark.now }
+        ensures { IsTrue result
+            ↔ (IsTrue self.now.is_settled × IsSame self.now.mark mark.now) }
     {
         self.is_settled && self.mark.is_same(mark)
     }
@@ -237,9 +242,39 @@ impl<'a, R: System> OpenFiles<'a, R> {
         self.second = kept(self.second.take(), name, mark);
     }
 
-    /// Puts what is held of the named file from the offset on at the front of the buffer.
-    #[inline(never)]
-    pub fn copy(&mut self, name: &str, at: u64, buf: &mut [u8]) -> usize
+    /// The open file of this name.
+    #[inline]
+    fn named(&self, name: &str) -> Option<&Opened<R::File>>
+        ensures named { IfSome result (λ o. string_bytes o.now.name ≡ name.now) }
+        ensures open { IfSome result (λ o.
+            (self.now.first ≡ Some o.now) ⊎ (self.now.second ≡ Some o.now)) }
+    {
+        match &self.first {
+            Some(opened) if opened.is_named(name) => return Some(opened),
+            _ => {}
+        }
+        match &self.second {
+            Some(opened) if opened.is_named(name) => Some(opened),
+            _ => None,
+        }
+    }
+
+    /// Puts what the page that was read last holds of the named file, from the offset on, at the front of the buffer.
+    #[inline]
+    fn copy(&self, name: &str, at: u64, buf: &mut [u8]) -> usize
+        ensures bound { result ≤ length buf.new }
+        ensures named { 0 < result
+            → IsSomeAnd self.now.first (λ o. string_bytes o.name ≡ name.now)
+            ⊎ IsSomeAnd self.now.second (λ o. string_bytes o.name ≡ name.now) }
+    {
+        match self.named(name) {
+            Some(opened) => opened.pages.copy(at, buf),
+            None => 0,
+        }
+    }
+
+    /// The same of any page.
+    fn copy_any(&mut self, name: &str, at: u64, buf: &mut [u8]) -> usize
         ensures bound { result ≤ length buf.new }
         ensures named { 0 < result
             → IsSomeAnd self.old.first (λ o. string_bytes o.name ≡ name.now)
@@ -247,20 +282,47 @@ impl<'a, R: System> OpenFiles<'a, R> {
     {
         if let Some(opened) = &mut self.first {
             if opened.is_named(name) {
-                return opened.pages.copy(at, buf);
+                return opened.pages.copy_any(at, buf);
             }
         }
         match &mut self.second {
-            Some(opened) if opened.is_named(name) => opened.pages.copy(at, buf),
+            Some(opened) if opened.is_named(name) => opened.pages.copy_any(at, buf),
             _ => 0,
         }
+    }
+
+    /// Reads what is held of the named file from the offset on, or else what stands in the file. None on a failure.
+    #[inline(never)]
+    pub fn read(&mut self, name: &str, at: u64, buf: &mut [u8]) -> Option<usize>
+        ensures { IfSome result (λ n. n ≤ length buf.new) }
+    {
+        let held = self.copy(name, at, buf);
+        if held > 0 {
+            return Some(held);
+        }
+        self.read_on(name, at, buf)
+    }
+
+    /// The same where the page that was read last holds nothing there.
+    #[inline(never)]
+    fn read_on(&mut self, name: &str, at: u64, buf: &mut [u8]) -> Option<usize>
+        ensures { IfSome result (λ n. n ≤ length buf.new) }
+    {
+        let held = self.copy_any(name, at, buf);
+        if held > 0 {
+            return Some(held);
+        }
+        if is_draft(name) {
+            return None;
+        }
+        self.read_new(name, at, buf)
     }
 
     /// Reads from an offset of the named file at which nothing is held. A file that is not open is opened, in place of the one
     /// that was read before the last. None on a failure.
     #[cold]
     #[inline(never)]
-    pub fn read(&mut self, name: &str, at: u64, buf: &mut [u8]) -> Option<usize>
+    fn read_new(&mut self, name: &str, at: u64, buf: &mut [u8]) -> Option<usize>
         ensures { IfSome result (λ n. n ≤ length buf.new) }
     {
         if has_name(&self.second, name) {

@@ -1,4 +1,5 @@
-ghost use Rattle.std.specs.Prelude.{◌≡◌, ◌-◌, ◌/◌, ◌%◌, ◌≤◌, ◌<◌, IfSome, None, drop, length, take};
+ghost use Rattle.std.specs.Prelude.{◌≡◌, ◌+◌, ◌-◌, ◌/◌, ◌%◌, ◌≤◌, ◌<◌, ◌↔◌, IfNone, IfSome, IsSomeAnd, IsTrue, None, length, min, slice_get, slice_index, take};
+ghost use Rattle.real_objects.specs.Pages.{held_from};
 
 use crate::calls;
 use crate::system::System;
@@ -16,13 +17,16 @@ const LARGE: usize = 65536;
 /// How many large pages are held: so many places of a file are read on side by side.
 const LARGE_PAGES: usize = 16;
 
+/// How many pages are held.
+const PAGES: usize = SMALL_PAGES + LARGE_PAGES;
+
 /// How many hints are kept.
 const HINTS: usize = 64;
 
 /// Copies as much as there is, and as there is room for.
 #[inline]
 fn copy_front(from: &[u8], buf: &mut [u8]) -> usize
-    ensures bound { result ≤ length buf.new }
+    ensures count { result ≡ min (length buf.new) (length from.now) }
     ensures front { take result buf.new ≡ take result from.now }
 {
     let count = buf.len().min(from.len());
@@ -50,13 +54,24 @@ impl Page {
         }
     }
 
+    /// Whether the page holds what stands at the offset.
+    #[inline]
+    fn holds(&self, at: u64) -> bool
+        ensures { IsTrue result
+            ↔ ((self.now.start ≤ at) × (at < self.now.start + self.now.size)) }
+    {
+        at >= self.start && at - self.start < self.size as u64
+    }
+
     /// Puts what the page holds from the offset on at the front of the buffer.
     #[inline]
     fn copy(&self, at: u64, buf: &mut [u8]) -> usize
         ensures bound { result ≤ length buf.new }
         ensures inside { 0 < result → self.now.start ≤ at }
-        ensures bytes { take result buf.new
-            ≡ take result (drop (at - self.now.start) (take self.now.size self.now.room.items)) }
+        ensures count { self.now.start ≤ at
+            → result ≡ min (length buf.new) (self.now.size - (at - self.now.start)) }
+        ensures bytes { take result buf.new ≡ take result
+            (held_from self.now.start self.now.size self.now.room.items at) }
     {
         let held = &self.room[..self.size];
         if at < self.start || at - self.start >= held.len() as u64 {
@@ -83,13 +98,13 @@ impl Page {
 }
 
 /// What was read of one file. A small page begins at a multiple of its size and has one place; a large one begins where a read
-/// went on. A hint is the index of the large page that had what was read last of a piece of the file: pieces are as long as large
-/// pages, and a hint serves each 64th. Room is taken when a page is first used: at most 2 MiB.
+/// went on. A hint is the index of the page that had what was read last of a piece of the file: pieces are as long as large pages,
+/// and a hint serves each 64th. Room is taken when a page is first used: at most 2 MiB.
 #[derive(Drop)]
 pub struct Pages {
     alloc: Global,
-    small: Vec<Page>,
-    large: Vec<Page>,
+    // The small pages, and the large ones behind them: none before the first read.
+    held: Vec<Page>,
     hints: [usize; HINTS],
     // Which large page is the next to go.
     turn: usize,
@@ -103,50 +118,74 @@ fn place_of(at: u64) -> usize
     (at / SMALL as u64 % SMALL_PAGES as u64) as usize
 }
 
+/// The piece that has what stands at the offset.
+#[inline]
+fn piece_of(at: u64) -> usize
+    ensures { result ≡ (at / 65536) % 64 }
+{
+    (at / LARGE as u64 % HINTS as u64) as usize
+}
+
 impl Pages {
     pub fn new(alloc: Global) -> Pages {
         Pages {
             alloc,
-            small: Vec::new(alloc),
-            large: Vec::new(alloc),
+            held: Vec::new(alloc),
             hints: [0; HINTS],
             turn: 0,
         }
     }
 
-    /// Puts what is held from the offset on at the front of the buffer.
+    /// Puts what the page of the hint holds from the offset on at the front of the buffer.
     #[inline]
-    pub fn copy(&mut self, at: u64, buf: &mut [u8]) -> usize
-        ensures { result ≤ length buf.new }
+    pub fn copy(&self, at: u64, buf: &mut [u8]) -> usize
+        ensures bound { result ≤ length buf.new }
+        ensures bytes { IfSome
+            (slice_get self.now.held.items (slice_index self.now.hints ((at / 65536) % 64)))
+            (λ p. take result buf.new ≡ take result (held_from p.start p.size p.room.items at)) }
+        ensures none { IfNone
+            (slice_get self.now.held.items (slice_index self.now.hints ((at / 65536) % 64)))
+            (result ≡ 0) }
     {
-        let piece = (at / LARGE as u64 % HINTS as u64) as usize;
-        if let Some(page) = self.large.get(self.hints[piece]) {
-            let count = page.copy(at, buf);
-            if count > 0 {
-                return count;
-            }
+        match self.held.get(self.hints[piece_of(at)]) {
+            Some(page) => page.copy(at, buf),
+            None => 0,
         }
-        if let Some(page) = self.small.get(place_of(at)) {
-            let count = page.copy(at, buf);
-            if count > 0 {
-                return count;
-            }
-        }
-        self.copy_from_large(at, piece, buf)
     }
 
-    fn copy_from_large(&mut self, at: u64, piece: usize, buf: &mut [u8]) -> usize
-        requires { piece < 64 }
-        ensures { result ≤ length buf.new }
+    /// The same of any page, which the hint names then.
+    #[inline(never)]
+    pub fn copy_any(&mut self, at: u64, buf: &mut [u8]) -> usize
+        ensures bound { result ≤ length buf.new }
+        ensures bytes { 0 < result → IfSome
+            (slice_get self.new.held.items (slice_index self.new.hints ((at / 65536) % 64)))
+            (λ p. take result buf.new ≡ take result (held_from p.start p.size p.room.items at)) }
+        ensures held { self.new.held ≡ self.old.held }
     {
-        for index in 0..self.large.len() {
-            let count = self.large[index].copy(at, buf);
-            if count > 0 {
-                self.hints[piece] = index;
-                return count;
+        let Some(index) = self.holding(at) else {
+            return 0;
+        };
+        self.hints[piece_of(at)] = index;
+        self.copy(at, buf)
+    }
+
+    /// The page that holds what stands at the offset: the small one that has its place there, or a large one.
+    fn holding(&self, at: u64) -> Option<usize>
+        ensures { IfSome result (λ i. IsSomeAnd (slice_get self.now.held.items i)
+            (λ p. (p.start ≤ at) × (at < p.start + p.size))) }
+    {
+        let place = place_of(at);
+        if let Some(page) = self.held.get(place) {
+            if page.holds(at) {
+                return Some(place);
             }
         }
-        0
+        for index in SMALL_PAGES..self.held.len() {
+            if self.held[index].holds(at) {
+                return Some(index);
+            }
+        }
+        None
     }
 
     /// Reads from an offset at which nothing is held: 0 only at the end of the file, or with an empty buffer. None on a failure.
@@ -164,7 +203,7 @@ impl Pages {
         }
         if buf.len() < LARGE {
             self.fill(rt, file, at)?;
-            let held = self.copy(at, buf);
+            let held = self.copy_any(at, buf);
             if held > 0 {
                 return Some(held);
             }
@@ -175,24 +214,24 @@ impl Pages {
     /// Fills a large page from the offset on where the file is read on there, else the small page of the offset. None on a
     /// failure.
     fn fill<R: System>(&mut self, rt: &R, file: &R::File, at: u64) -> Option<()> {
+        self.add_small_pages()?;
         if let Some(index) = self.ending_at(at) {
-            return self.large.get_mut(index)?.fill(rt, file, at, LARGE);
+            return self.held.get_mut(index)?.fill(rt, file, at, LARGE);
         }
         if self.is_read_on(at) {
             let index = self.next_large()?;
-            return self.large.get_mut(index)?.fill(rt, file, at, LARGE);
+            return self.held.get_mut(index)?.fill(rt, file, at, LARGE);
         }
-        self.add_small_pages()?;
         let start = at - at % SMALL as u64;
-        self.small
+        self.held
             .get_mut(place_of(at))?
             .fill(rt, file, start, SMALL)
     }
 
     /// The full large page that ends at the offset: it is filled anew by the run that it is part of.
     fn ending_at(&self, at: u64) -> Option<usize> {
-        for index in 0..self.large.len() {
-            if self.large[index].is_full_to(at, LARGE) {
+        for index in SMALL_PAGES..self.held.len() {
+            if self.held[index].is_full_to(at, LARGE) {
                 return Some(index);
             }
         }
@@ -206,7 +245,7 @@ impl Pages {
     }
 
     fn is_small_to(&self, at: u64) -> bool {
-        match self.small.get(place_of(at.saturating_sub(1))) {
+        match self.held.get(place_of(at.saturating_sub(1))) {
             Some(page) => page.is_full_to(at, SMALL),
             None => false,
         }
@@ -215,25 +254,25 @@ impl Pages {
     /// The large page that is the next to be filled from a new offset: a new one, or the next in turn.
     fn next_large(&mut self) -> Option<usize> {
         let index = self.turn;
-        if self.large.len() < LARGE_PAGES {
-            self.large.push(Page::new(self.alloc)).ok()?;
+        if self.held.len() < PAGES {
+            self.held.push(Page::new(self.alloc)).ok()?;
         }
         self.turn = if index < LARGE_PAGES - 1 {
             index + 1
         } else {
             0
         };
-        Some(index)
+        Some(SMALL_PAGES.saturating_add(index))
     }
 
-    /// Makes the small pages, without room, unless they are there.
+    /// Makes the small pages, without room, unless they are there, with a place for the large ones.
     fn add_small_pages(&mut self) -> Option<()> {
-        if !self.small.is_empty() {
+        if !self.held.is_empty() {
             return Some(());
         }
-        self.small.reserve(SMALL_PAGES).ok()?;
+        self.held.reserve(PAGES).ok()?;
         for _ in 0..SMALL_PAGES {
-            self.small.push(Page::new(self.alloc)).ok()?;
+            self.held.push(Page::new(self.alloc)).ok()?;
         }
         Some(())
     }

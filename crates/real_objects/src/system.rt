@@ -1,4 +1,4 @@
-ghost use Rattle.std.specs.Prelude.{◌≡◌, IsTrue};
+ghost use Rattle.std.specs.Prelude.{◌≡◌, ◌↔◌, IsTrue};
 ghost use Rattle.std.specs.Io.{ReadsAtMost};
 
 use std::alloc::Global;
@@ -18,8 +18,8 @@ pub struct Moment {
 
 impl Moment {
     pub fn is_same(&self, other: &Moment) -> bool
-        ensures seconds { IsTrue result → self.now.seconds ≡ other.now.seconds }
-        ensures nanoseconds { IsTrue result → self.now.nanoseconds ≡ other.now.nanoseconds }
+        ensures { IsTrue result ↔ ((self.now.seconds ≡ other.now.seconds)
+            × (self.now.nanoseconds ≡ other.now.nanoseconds)) }
     {
         self.seconds == other.seconds && self.nanoseconds == other.nanoseconds
     }
@@ -46,7 +46,7 @@ impl Mark {
 
     /// Whether both are of one file in one state.
     pub fn is_same(&self, other: &Mark) -> bool
-        ensures { IsTrue result → IsSame self.now other.now }
+        ensures { IsTrue result ↔ IsSame self.now other.now }
     {
         if self.device != other.device || self.inode != other.inode {
             return false;

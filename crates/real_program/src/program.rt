@@ -13,8 +13,8 @@ use std::env;
 use std::io::{Error, ErrorKind, Read, Write};
 use std::rt::Env;
 use xa_outside::{Folder, Sink, Source};
-use xarch_run::run;
-use xarch_words::{Fault, status, write_fault};
+use xarch_run::{run, say};
+use xarch_words::Fault;
 
 /// Why the words that were given could not be read: one of them is not UTF-8, or no memory was found for them.
 fn fault_of_words(error: &Error) -> Fault
@@ -42,17 +42,6 @@ fn words_of<V: Env + AllocGlobal>(given: &V) -> Result<Vec<String>, Fault>
         words.push(word)?;
     }
     Ok(words)
-}
-
-/// Writes the line of a fault, and answers its status.
-fn say<E: Sink>(fault: &Fault, err: &mut E) -> u8
-    ensures status { result ≡ fault_status (fault_view fault.now) }
-    ensures line { Says (E.taken err.old) (E.taken err.new) (E.faults err.old) (E.faults err.new)
-        (fault_line (fault_view fault.now)) }
-    ensures later { E.faults err.old ≤ E.faults err.new }
-{
-    let _ = write_fault(fault, err);
-    status(fault)
 }
 
 /// Does what the words say, and answers the status: what `run` says of the files, the answer, the output and the line, as one

@@ -4,9 +4,9 @@ ghost use Rattle.xarch_run.specs.Batch.{BatchEnds, IsAnswer, ReadsAsSaid, shown}
 ghost use Rattle.xarch_run.specs.Faults.{stop_fault};
 ghost use Rattle.xarch_run.specs.Stays.{Stays};
 
+use crate::answers::say;
 use crate::feed::BATCH_LIMIT;
 use crate::lines::Lines;
-use crate::say::say;
 use crate::stop::Stop;
 use crate::turn::run_line;
 use std::alloc::Global;

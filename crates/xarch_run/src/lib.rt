@@ -1,6 +1,7 @@
 //! The program as one call: what the words of a command line have it do.
 #![tactic(auto)]
 
+mod answers;
 mod batch;
 mod feed;
 mod front;
@@ -8,11 +9,11 @@ mod laws;
 mod line;
 mod lines;
 mod program;
-mod say;
 mod stop;
 mod turn;
 mod words;
 
+pub use answers::say;
 pub use laws::{archives_hold_what_was_handed_in, tables_make_documents_by_their_keys};
 pub use program::run;
 pub use xarch_words::{Command, Fault, Quantity, read_words, status, write_fault};

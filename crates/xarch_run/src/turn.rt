@@ -5,8 +5,8 @@ ghost use Rattle.xarch_run.specs.Shown.{Shows};
 ghost use Rattle.xarch_run.specs.Stays.{Stays};
 ghost use Rattle.xarch_run.specs.Turns.{IsLastStatus, IsUntouched, LineRuns, LineTakes, StatusEnds};
 
+use crate::answers::{put_status, say};
 use crate::line::{LINE_LIMIT, Line};
-use crate::say::{put_status, say};
 use crate::words::read_line_words;
 use std::alloc::{AllocError, Global};
 use xa_outside::{Folder, Sink};

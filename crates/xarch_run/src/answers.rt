@@ -11,7 +11,9 @@ use xa_outside::{Failed, Sink, put_buffered};
 use xarch_words::{Fault, status, write_fault};
 
 /// Writes the line of a fault, and answers its status.
-pub(crate) fn say<E: Sink>(fault: &Fault, err: &mut E) -> u8
+///
+/// It takes no memory. A failure of the sink is not answered: its own count of faults tells it.
+pub fn say<E: Sink>(fault: &Fault, err: &mut E) -> u8
     ensures status { result ≡ fault_status (fault_view fault.now) }
     ensures line { Says (E.taken err.old) (E.taken err.new) (E.faults err.old) (E.faults err.new)
         (fault_line (fault_view fault.now)) }
