@@ -2,4 +2,6 @@ mod Below
 mod Documents
 mod LentRows
 mod Rekeyings
+mod RunVersions
 mod SpelledRows
+mod SpreadRows

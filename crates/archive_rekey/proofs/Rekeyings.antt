@@ -141,18 +141,17 @@ reaches-next rules vs i b d t r spelled h =
       keyed = all-behind (IsKeyedBy rules) r.versions h.tree r.keyed h.keyed;
     }
 
-pub reaches-count : (rules : List PlainRule) (vs : List PlainKeyed) (i : ℕ) (a b : PlainArchive) → ArchiveOf vs a → i ≤ a.n → Reaches rules vs i b → b.n ≡ i
-reaches-count rules vs i a b is low r =
-    let count : length vs ≡ a.n = is.count in
+pub reaches-count : (rules : List PlainRule) (vs : List PlainKeyed) (i : ℕ) (b : PlainArchive) → i ≤ length vs → Reaches rules vs i b → b.n ≡ i
+reaches-count rules vs i b low r =
     let size : length r.versions ≡ b.n = r.archive.count in
     let same : length r.versions ≡ length (take i vs) = rekeyed-length rules (take i vs) r.versions r.are in
-    let taken : length (take i vs) ≡ i = length-take-le i vs (omega (arith, low, count)) in
+    let taken : length (take i vs) ≡ i = length-take-le i vs low in
     sym size ∙ same ∙ taken
 
 -- there is room for one more
-pub room : (rules : List PlainRule) (vs : List PlainKeyed) (i : ℕ) (a b : PlainArchive) → ArchiveOf vs a → i < a.n → i < 4294967295 → Reaches rules vs i b → b.n < 4294967295
-room rules vs i a b is low few r =
-    let count : b.n ≡ i = reaches-count rules vs i a b is (omega (arith, low)) r in
+pub room : (rules : List PlainRule) (vs : List PlainKeyed) (i : ℕ) (b : PlainArchive) → i < length vs → i < 4294967295 → Reaches rules vs i b → b.n < 4294967295
+room rules vs i b low few r =
+    let count : b.n ≡ i = reaches-count rules vs i b (omega (arith, low)) r in
     omega (arith, count, few)
 
 -- it goes with those before it
@@ -161,14 +160,12 @@ pub alike : ((rules : List PlainRule) (vs : List PlainKeyed) → AreKeyedBy rule
 alike keyed_alike rules us k keyed h v m = keyed_alike rules (us ++ k ∷ []) (all-behind (IsKeyedBy rules) us k keyed h) v k (has-front us k v m) (has-last us k)
 
 -- all of them
-pub reaches-all : (rules : List PlainRule) (vs : List PlainKeyed) (i : ℕ) (a b : PlainArchive) → ArchiveOf vs a → i ≡ a.n → Reaches rules vs i b → IsArchiveUnder rules vs b
-reaches-all rules vs i a b is all r =
-    let count : length vs ≡ a.n = is.count in
-    record {
-      versions = r.versions;
-      are = subst (λ ws. AreRekeyed rules ws r.versions) (take_all i vs (omega (arith, count, all))) r.are;
-      archive = r.archive;
-    }
+pub reaches-all : (rules : List PlainRule) (vs : List PlainKeyed) (i : ℕ) (b : PlainArchive) → length vs ≡ i → Reaches rules vs i b → IsArchiveUnder rules vs b
+reaches-all rules vs i b all r = record {
+  versions = r.versions;
+  are = subst (λ ws. AreRekeyed rules ws r.versions) (take_all i vs (omega (arith, all))) r.are;
+  archive = r.archive;
+}
 
 pub reaches-keyed : ((vs us : List PlainKeyed) (a : PlainArchive) → ArchiveOf vs a → ArchiveOf us a → vs ≡ us) → (rules : List PlainRule) (vs : List PlainKeyed) (i : ℕ) (b : PlainArchive) → Reaches rules vs i b
     → (us : List PlainKeyed) → ArchiveOf us b → AreKeyedBy rules us
@@ -192,6 +189,7 @@ is-bad rules vs i t x spelled h =
       fault = subst (λ z. first_fault rules z ≡ Some x.1) here.document h.fault;
     }
 
+-- the first one: its number among these, and what it is told by
 pub first-bad : (rules : List PlainRule) (vs : List PlainKeyed) (i : ℕ) (b : PlainArchive) (t : PlainTree) (x : ℕ × PlainKeyFault) → Reaches rules vs i b → option_map plain (version_of vs (i + 1)) ≡ Some t → IsFaultOf rules (i + 1) t x
     → IsFirstBad rules vs x.0 x.1
 first-bad rules vs i b t x r spelled h = record {

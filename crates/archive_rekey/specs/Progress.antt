@@ -3,6 +3,7 @@ use Rattle.std.specs.Prelude.{◌≡◌, ◌≤◌, ℕ, List, [], ◌∷◌, �
 use Rattle.jsonml_tree.specs.Data.{PlainTree, tree_depth}
 use Rattle.jsonml_tree.specs.Fits.{IsElement, ItemsFit}
 use Rattle.jsonml_tree.specs.WellFormed.{IsWellFormed}
+use Rattle.jsonml_tree.specs.declared.limits.TheConstants.{GREATEST_DEPTH}
 use Rattle.keyed_tree.specs.Data.{PlainKeyed}
 use Rattle.key_spec.specs.Data.{PlainRule}
 use Rattle.key_rules.specs.Faults.{PlainKeyFault, first_fault}
@@ -17,7 +18,7 @@ use Rattle.archive_rekey.specs.Rekeyed.{AreRekeyed}
 pub record IsDocument (t : PlainTree) : Type 0 where
   pub element : IsElement t
   pub well_formed : IsWellFormed t
-  pub shallow : tree_depth t ≤ 120
+  pub shallow : tree_depth t ≤ GREATEST_DEPTH
   pub items : ItemsFit t
 
 -- the document does not satisfy the rules: the number is that of the version that spells it, and the fault its first

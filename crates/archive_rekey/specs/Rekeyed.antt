@@ -3,6 +3,7 @@ use Rattle.std.specs.Prelude.{◌≡◌, ◌≤◌, ◌<◌, ℕ, List, [], ◌�
 use Rattle.std.specs.List.{AllByRecursion}
 use Rattle.jsonml_tree.specs.Data.{tree_depth}
 use Rattle.jsonml_tree.specs.Fits.{ItemsFit}
+use Rattle.jsonml_tree.specs.declared.limits.TheConstants.{GREATEST_DEPTH}
 use Rattle.keyed_tree.specs.Data.{PlainKeyed}
 use Rattle.keyed_tree.specs.Plain.{plain}
 use Rattle.keyed_tree.specs.Proper.{IsProper}
@@ -13,10 +14,10 @@ use Rattle.key_annotate.specs.Stands.{Stands}
 use Rattle.archive_tree.specs.Data.{PlainArchive}
 use Rattle.archive_tree.specs.Stands.{ArchiveOf, version_of}
 
--- Each version is proper, and what it spells is a document as others: its elements nest at most 120 deep, and every position of
--- an item fits four bytes.
+-- Each version is proper, and what it spells is a document as others: its elements nest at most so
+-- deep, and every position of an item fits four bytes.
 pub record SpellDocuments (vs : List PlainKeyed) : Type 0 where
-  pub proper : AllByRecursion (λ v. IsProper v × (tree_depth (plain v) ≤ 120)) vs
+  pub proper : AllByRecursion (λ v. IsProper v × (tree_depth (plain v) ≤ GREATEST_DEPTH)) vs
   pub items : AllByRecursion (λ v. ItemsFit (plain v)) vs
 
 -- One tree for each version, in order: what the version spells satisfies the rules, and the tree stands for it.

@@ -12,6 +12,7 @@ ghost use Rattle.spelled_archive.specs.ArchiveView.{spelled_archive_view};
 ghost use Rattle.spelled_archive.specs.View.{alt_view, kept_view, node_view, nodes_view};
 ghost use Rattle.record_parts.specs.Bounds.{IsValue};
 ghost use Rattle.record_parts.specs.ShownViews.{shown_body};
+ghost use Rattle.record_parts.specs.declared.limits.TheConstants.{MOST_VERSIONS};
 ghost use Rattle.record_format.specs.Data.{alt_rec};
 ghost use Rattle.archive_file.specs.Laid.{sets_in};
 ghost use Rattle.record_format.specs.View.{entry_view};
@@ -45,13 +46,15 @@ pub fn encode_spelled(
     spec: &Spec,
     archive: &SpelledArchive,
 ) -> Result<Vec<u8>, EncodeFault>
-    requires few { (spelled_archive_view archive.now).n ≤ 999999 }
+    requires few { (spelled_archive_view archive.now).n ≤ MOST_VERSIONS }
     requires keyed { (vs : List PlainKeyed)
         → ArchiveOf vs (spelled_archive_view archive.now) → AreKeyedBy (spec_view spec.now) vs }
     ensures file { IfOk result (λ v. (vs : List PlainKeyed)
-        → ArchiveOf vs (spelled_archive_view archive.now) → FileOf (spec_view spec.now) vs v.items) }
+        → ArchiveOf vs (spelled_archive_view archive.now)
+        → FileOf (spec_view spec.now) vs v.items) }
     ensures too_long { IfErr result (λ e. IfTooLong e ((vs : List PlainKeyed) (bytes : List ℕ)
-        → ArchiveOf vs (spelled_archive_view archive.now) → ¬ (FileOf (spec_view spec.now) vs bytes))) }
+        → ArchiveOf vs (spelled_archive_view archive.now)
+        → ¬ (FileOf (spec_view spec.now) vs bytes))) }
 {
     if !row_goes(archive.kids()) {
         return Err(EncodeFault::TooLong);

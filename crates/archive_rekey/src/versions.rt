@@ -1,5 +1,5 @@
-// The versions of an archive under other keys, one after another.
-ghost use Rattle.std.specs.Prelude.{◌≡◌, ◌+◌, ◌<◌, List, IfOk, IfErr, IfSome};
+// The versions of an archive under other keys, one of each run after another.
+ghost use Rattle.std.specs.Prelude.{◌≡◌, ◌+◌, ◌<◌, List, IfOk, IfErr, IfSome, length};
 ghost use Rattle.jsonml_tree.specs.LentView.{lent_tree_view};
 ghost use Rattle.keyed_tree.specs.Data.{PlainKeyed};
 ghost use Rattle.key_spec.specs.View.{spec_view};
@@ -8,6 +8,7 @@ ghost use Rattle.key_annotate.specs.Stands.{Stands};
 ghost use Rattle.archive_tree.specs.ArchiveView.{archive_view};
 ghost use Rattle.spelled_archive.specs.ArchiveView.{spelled_archive_view};
 ghost use Rattle.archive_tree.specs.Stands.{ArchiveOf};
+ghost use Rattle.version_runs.specs.Runs.{starts_of, versions_at};
 ghost use Rattle.archive_file.specs.KeyedBy.{AreKeyedBy, IsKeyedBy};
 ghost use Rattle.archive_rekey.specs.Progress.{IsBehind, IsDocument, IsFaultOf, Reaches};
 ghost use Rattle.archive_rekey.specs.Rekeyed.{IsArchiveUnder, IsFirstBad, SpellDocuments};
@@ -15,6 +16,7 @@ ghost use Rattle.archive_rekey.specs.View.{bad_version};
 
 use crate::fault::RekeyFault;
 use crate::lend::lend_document;
+use crate::spread::spread_archive;
 use archive_file::keyed_versions_can_be_merged;
 use archive_tree::{Archive, archives_stand_for_one_list};
 use jsonml_tree::LentTree;
@@ -23,15 +25,22 @@ use key_spec::Spec;
 use lent_merge::merge_lent;
 use spelled_archive::SpelledArchive;
 use std::alloc::{AllocError, Global};
+use version_runs::starts_of;
 
 /// The archive of the same versions under the keys of the specification, in their order, or the first version that does not
 /// satisfy them.
 ///
-/// It goes over the old archive version by version: each is lent by the old archive as a document, keyed as it is lent, and
-/// merged as it is lent, before the next is. So beside the old archive it holds the new one and the rows of one version. Of a
-/// version it copies what is new in the new archive, and key values that are more than one text. Recursion is as deep as nodes
-/// and elements nest.
-pub fn rekey(alloc: Global, old: &Archive, spec: &Spec) -> Result<SpelledArchive, RekeyFault>
+/// Between two numbers at which no stored set begins or ends all versions are equal: the first of each such run is lent by the
+/// old archive as a document, keyed as it is lent, and merged as it is lent, before the next is. At the end each set of runs is
+/// spread to their numbers. So the steps do not grow with the number of versions, but with that of runs, of which there are at
+/// most two for each interval that is stored, and one. Beside the old archive it holds the new one and the rows of one version.
+/// Of a version it copies what is new in the new archive, and key values that are more than one text. Recursion is as deep as
+/// nodes and elements nest.
+pub fn rekey_spelled(
+    alloc: Global,
+    old: &Archive,
+    spec: &Spec,
+) -> Result<SpelledArchive, RekeyFault>
     requires documents { (vs : List PlainKeyed) → ArchiveOf vs (archive_view old.now)
         → SpellDocuments vs }
     ensures archive { IfOk result (λ a. (vs : List PlainKeyed) → ArchiveOf vs (archive_view old.now)
@@ -44,39 +53,70 @@ pub fn rekey(alloc: Global, old: &Archive, spec: &Spec) -> Result<SpelledArchive
     ensures keyed { IfOk result (λ a. (us : List PlainKeyed) → ArchiveOf us (spelled_archive_view a)
         → AreKeyedBy (spec_view spec.now) us) }
 {
-    // A law, for the proofs of `count` and `keyed`.
+    // A law, for the proofs of what `spread_archive` requires, of `count` and of `keyed`.
     archives_stand_for_one_list();
-    let count = old.n();
+    let last = old.n();
+    let starts = starts_of(alloc, old)?;
+    let archive = archive_of_runs(alloc, spec, old, last, &starts)?;
+    match spread_archive(alloc, &starts, last, archive) {
+        Ok(archive) => Ok(archive),
+        Err(AllocError) => Err(RekeyFault::Memory),
+    }
+}
+
+/// The archive of the first version of each run.
+fn archive_of_runs(
+    alloc: Global,
+    spec: &Spec,
+    old: &Archive,
+    last: u32,
+    starts: &[u32],
+) -> Result<SpelledArchive, RekeyFault>
+    requires documents { (vs : List PlainKeyed) → ArchiveOf vs (archive_view old.now)
+        → SpellDocuments vs }
+    requires last { last ≡ (archive_view old.now).n }
+    requires starts { starts.now ≡ starts_of (archive_view old.now) }
+    ensures archive { IfOk result (λ a. (vs : List PlainKeyed) → ArchiveOf vs (archive_view old.now)
+        → Reaches (spec_view spec.now) (versions_at starts.now vs) (length starts.now)
+        (spelled_archive_view a)) }
+    ensures key { IfErr result (λ e. IfSome (bad_version e) (λ b. (vs : List PlainKeyed)
+        → ArchiveOf vs (archive_view old.now) → IsFirstBad (spec_view spec.now) vs b.0 b.1)) }
+{
     let mut archive = SpelledArchive::empty(alloc);
-    for before in 0..count {
-        archive = with_next(alloc, spec, old, archive, before)?;
+    for before in 0..starts.len() {
+        archive = with_next(alloc, spec, old, starts, archive, before)?;
     }
     Ok(archive)
 }
 
-/// The archive with the version behind those that are in it.
+/// The archive with the first version of the run behind those that are in it.
 fn with_next(
     alloc: Global,
     spec: &Spec,
     old: &Archive,
+    starts: &[u32],
     archive: SpelledArchive,
-    before: u32,
+    before: usize,
 ) -> Result<SpelledArchive, RekeyFault>
     requires documents { (vs : List PlainKeyed) → ArchiveOf vs (archive_view old.now)
         → SpellDocuments vs }
-    requires more { before < (archive_view old.now).n }
+    requires starts { starts.now ≡ starts_of (archive_view old.now) }
+    requires more { before < length starts.now }
     requires room { before < 4294967295 }
     requires so_far { (vs : List PlainKeyed) → ArchiveOf vs (archive_view old.now)
-        → Reaches (spec_view spec.now) vs before (spelled_archive_view archive) }
+        → Reaches (spec_view spec.now) (versions_at starts.now vs) before
+        (spelled_archive_view archive) }
     ensures next { IfOk result (λ a. (vs : List PlainKeyed) → ArchiveOf vs (archive_view old.now)
-        → Reaches (spec_view spec.now) vs (before + 1) (spelled_archive_view a)) }
+        → Reaches (spec_view spec.now) (versions_at starts.now vs) (before + 1)
+        (spelled_archive_view a)) }
     ensures key { IfErr result (λ e. IfSome (bad_version e) (λ b. (vs : List PlainKeyed)
         → ArchiveOf vs (archive_view old.now) → IsFirstBad (spec_view spec.now) vs b.0 b.1)) }
 {
     // A law, for the proofs of what `with_document` requires.
     archives_stand_for_one_list();
-    let document = lend_document(alloc, old, before + 1)?;
-    with_document(alloc, spec, archive, before + 1, &document)
+    let number = starts[before];
+    let document = lend_document(alloc, old, number)?;
+    with_document(alloc, spec, archive, number, &document)
 }
 
 /// The archive with the keyed tree of the document behind its versions, as the version of that number.
@@ -106,7 +146,7 @@ fn with_document(
 }
 
 /// The keyed tree of the document that the version of that number spells, under the specification.
-fn version_under<'a, 't>(
+pub(crate) fn version_under<'a, 't>(
     alloc: Global,
     spec: &'a Spec,
     number: u32,

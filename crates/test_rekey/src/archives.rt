@@ -1,6 +1,6 @@
 //! What archive files hold under other keys.
-use archive_file::decode_file;
-use archive_rekey::{RekeyFault, encode_spelled, rekey};
+use archive_file::{decode_file, encode_file};
+use archive_rekey::{RekeyFault, encode_spelled, rekey, rekey_spelled};
 use given_archives::specification;
 use key_spec::Spec;
 use std::alloc::Global;
@@ -12,8 +12,26 @@ pub(crate) fn under(
     spec: &Spec,
 ) -> Option<Result<Vec<u8>, RekeyFault>> {
     match decode_file(alloc, file) {
-        Ok((_, old)) => match rekey(alloc, &old, spec) {
+        Ok((_, old)) => match rekey_spelled(alloc, &old, spec) {
             Ok(archive) => match encode_spelled(alloc, spec, &archive) {
+                Ok(bytes) => Some(Ok(bytes)),
+                Err(_) => None,
+            },
+            Err(fault) => Some(Err(fault)),
+        },
+        Err(_) => None,
+    }
+}
+
+/// The same, one version after another.
+pub(crate) fn plainly_under(
+    alloc: Global,
+    file: &[u8],
+    spec: &Spec,
+) -> Option<Result<Vec<u8>, RekeyFault>> {
+    match decode_file(alloc, file) {
+        Ok((_, old)) => match rekey(alloc, &old, spec) {
+            Ok(archive) => match encode_file(alloc, spec, &archive) {
                 Ok(bytes) => Some(Ok(bytes)),
                 Err(_) => None,
             },
@@ -27,6 +45,14 @@ pub(crate) fn under(
 pub(crate) fn file_under(alloc: Global, file: &[u8], keys: &str) -> Option<Vec<u8>> {
     match specification(alloc, keys) {
         Some(spec) => under(alloc, file, &spec)?.ok(),
+        None => None,
+    }
+}
+
+/// The same, one version after another.
+pub(crate) fn plain_file_under(alloc: Global, file: &[u8], keys: &str) -> Option<Vec<u8>> {
+    match specification(alloc, keys) {
+        Some(spec) => plainly_under(alloc, file, &spec)?.ok(),
         None => None,
     }
 }

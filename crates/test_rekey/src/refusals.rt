@@ -1,5 +1,5 @@
 // Archives of which a version does not satisfy other keys.
-use crate::archives::under;
+use crate::archives::{plainly_under, under};
 use archive_rekey::RekeyFault;
 use given_archives::lists::{NUMBERED, TINY};
 use given_archives::{file, specification};
@@ -37,6 +37,26 @@ const REFUSED: &[(&str, &[&str], Wanted)] = &[
         &[EMPTY, WITH_TEXT, TWICE],
         Wanted(2, &[1], 2, None),
     ),
+    (
+        "a run in the middle",
+        &[EMPTY, TWICE, TWICE, TWICE, EMPTY],
+        Wanted(2, &[2], 5, None),
+    ),
+    (
+        "the last run",
+        &[EMPTY, EMPTY, TWICE, TWICE],
+        Wanted(3, &[2], 5, None),
+    ),
+    (
+        "the first run",
+        &[TWICE, TWICE, EMPTY],
+        Wanted(1, &[2], 5, None),
+    ),
+    (
+        "the first of two runs",
+        &[EMPTY, EMPTY, WITH_TEXT, WITH_TEXT, TWICE, TWICE],
+        Wanted(3, &[1], 2, None),
+    ),
 ];
 
 fn is_text(alloc: Global, path: &KeyPath, wanted: &str) -> bool {
@@ -60,16 +80,24 @@ fn is_fault(alloc: Global, fault: &KeyFault, wanted: &Wanted) -> bool {
         && is_path(alloc, &fault.key_path, &wanted.3)
 }
 
-/// Whether the documents are refused so.
-fn is_refused(alloc: Global, spec: &Spec, documents: &[&str], wanted: &Wanted) -> bool {
-    let Some(old) = file(alloc, TINY, documents) else {
-        return false;
-    };
-    match under(alloc, &old, spec) {
+/// Whether this is what is told.
+fn is_told(alloc: Global, found: &Option<Result<Vec<u8>, RekeyFault>>, wanted: &Wanted) -> bool {
+    match found {
         Some(Err(RekeyFault::Key { version, fault })) => {
-            version == wanted.0 && is_fault(alloc, &fault, wanted)
+            *version == wanted.0 && is_fault(alloc, fault, wanted)
         }
         _ => false,
+    }
+}
+
+/// Whether the documents are refused so, in runs and one version after another.
+fn is_refused(alloc: Global, spec: &Spec, documents: &[&str], wanted: &Wanted) -> bool {
+    match file(alloc, TINY, documents) {
+        Some(old) => {
+            is_told(alloc, &under(alloc, &old, spec), wanted)
+                && is_told(alloc, &plainly_under(alloc, &old, spec), wanted)
+        }
+        None => false,
     }
 }
 

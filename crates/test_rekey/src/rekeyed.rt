@@ -1,10 +1,12 @@
 // Archives whose versions satisfy other keys. What is expected was keyed by these from the first on.
-use crate::archives::file_under;
+use crate::archives::{file_under, plain_file_under};
 use archive_file::decode_file;
 use archive_stats::{Counts, stats};
 use archive_tree::Archive;
 use given_archives::lists::{NUMBERED, TINY};
-use given_archives::{GREAT_SIZES, SIZES, Size, documents_of, file, keys_of, lent};
+use given_archives::{
+    GREAT_SIZES, SIZES, Size, archive, documents_of, encoded, file, keys_of, lent, specification,
+};
 use given_parts::told;
 use key_rules::read_path;
 use key_spec::Spec;
@@ -19,11 +21,23 @@ const NAMES: &str = "(/, (db, {}))
 (/db/e, (tel, {.}))
 ";
 
+/// The keys of items, and one more that no element here has.
+const NUMBERED_TOO: &str = "(/, (db, {}))
+(/db, (e, {@id}))
+(/db/e, (tel, {.}))
+";
+
 const ONE_AND_TWO: &str = r#"["db",["e",{"id":1}],["e",{"id":2}]]"#;
 
 const TWO: &str = r#"["db",["e",{"id":2}]]"#;
 
 const TWO_AND_ONE: &str = r#"["db",["e",{"id":2}],["e",{"id":1}]]"#;
+
+const ONE: &str = r#"["db",["e",{"id":1}]]"#;
+
+const THREE: &str = r#"["db",["e",{"id":3}]]"#;
+
+const EMPTY: &str = r#"["db"]"#;
 
 const ADA: &str = r#"["db",["e",{"id":2},["name","Ada"],["tel","1"]]]"#;
 
@@ -49,6 +63,51 @@ const SEVENTEEN: &str =
 /// Keys, documents, and other keys that these satisfy too.
 const REKEYED: &[(&str, &str, &[&str], &str)] = &[
     ("no versions", TINY, &[], NUMBERED),
+    ("one version", NUMBERED, &[ONE_AND_TWO], TINY),
+    (
+        "versions that are all equal",
+        NUMBERED,
+        &[ONE_AND_TWO, ONE_AND_TWO, ONE_AND_TWO, ONE_AND_TWO],
+        TINY,
+    ),
+    (
+        "versions that all differ",
+        TINY,
+        &[ONE, TWO, THREE, ONE_AND_TWO, EMPTY],
+        NUMBERED,
+    ),
+    (
+        "element 1 in versions 1-3 and 5 of seven",
+        NUMBERED,
+        &[
+            ONE_AND_TWO,
+            ONE_AND_TWO,
+            ONE_AND_TWO,
+            TWO,
+            ONE_AND_TWO,
+            TWO,
+            TWO,
+        ],
+        TINY,
+    ),
+    (
+        "sets that begin where others end",
+        NUMBERED,
+        &[ONE, ONE, TWO, TWO, TWO, THREE],
+        TINY,
+    ),
+    (
+        "sets that end with the last version",
+        NUMBERED,
+        &[EMPTY, EMPTY, ONE, ONE_AND_TWO, ONE_AND_TWO],
+        TINY,
+    ),
+    (
+        "runs of contents that come back",
+        TINY,
+        &[TWO, TWO, ONE_AND_TWO, ONE_AND_TWO, TWO, TWO, ONE_AND_TWO],
+        NUMBERED,
+    ),
     (
         "a frontier that goes down",
         TINY,
@@ -140,6 +199,28 @@ fn the_file_is_that_of_the_documents_under_the_other_keys(rt: HostRuntime) -> Re
     Ok(())
 }
 
+/// Whether the file that is made one version after another is the same.
+fn is_same_plainly(alloc: Global, keys: &str, documents: &[&str], others: &str) -> bool {
+    let Some(old) = file(alloc, keys, documents) else {
+        return false;
+    };
+    match (
+        file_under(alloc, &old, others),
+        plain_file_under(alloc, &old, others),
+    ) {
+        (Some(found), Some(wanted)) => found.as_slice() == wanted.as_slice(),
+        _ => false,
+    }
+}
+
+#[test]
+fn both_forms_give_the_same_file(rt: HostRuntime) -> Result<(), Fail> {
+    for (name, keys, documents, others) in REKEYED {
+        told(is_same_plainly(rt.alloc(), keys, documents, others), name)?;
+    }
+    Ok(())
+}
+
 /// Whether documents of this size have the file of one element that has no key value.
 fn is_large_rekeyed(alloc: Global, size: Size) -> bool {
     let Ok(documents) = documents_of(alloc, size) else {
@@ -166,6 +247,58 @@ fn large_archives_are_rekeyed(rt: HostRuntime) -> Result<(), Fail> {
 #[test]
 fn great_archives_are_rekeyed(rt: HostRuntime) -> Result<(), Fail> {
     are_large_rekeyed(rt.alloc(), GREAT_SIZES)
+}
+
+/// The archive of the documents, the last of which stands for all versions up to the number, if it stands for them where no set
+/// is stored.
+fn stretched(alloc: Global, spec: &Spec, documents: &[&str], last: u32) -> Option<Archive> {
+    match archive(alloc, spec, documents) {
+        Some(archive) => {
+            let (_, kids) = archive.into_parts();
+            match Archive::of_parts(alloc, last, kids) {
+                Ok(stretched) => stretched,
+                Err(_) => None,
+            }
+        }
+        None => None,
+    }
+}
+
+fn stretched_file(alloc: Global, keys: &str, documents: &[&str], last: u32) -> Option<Vec<u8>> {
+    match specification(alloc, keys) {
+        Some(spec) => match stretched(alloc, &spec, documents, last) {
+            Some(archive) => encoded(alloc, &spec, &archive),
+            None => None,
+        },
+        None => None,
+    }
+}
+
+/// Whether the file with so many versions is that of them under the other keys.
+fn is_stretched(alloc: Global, keys: &str, documents: &[&str], others: &str, last: u32) -> bool {
+    let Some(old) = stretched_file(alloc, keys, documents, last) else {
+        return false;
+    };
+    match (
+        file_under(alloc, &old, others),
+        stretched_file(alloc, others, documents, last),
+    ) {
+        (Some(found), Some(wanted)) => found.as_slice() == wanted.as_slice(),
+        _ => false,
+    }
+}
+
+#[test]
+fn as_many_versions_as_a_file_can_have_are_rekeyed(rt: HostRuntime) -> Result<(), Fail> {
+    let alloc = rt.alloc();
+    told(
+        is_stretched(alloc, NUMBERED, &[ONE_AND_TWO], TINY, 999_999),
+        "one run",
+    )?;
+    told(
+        is_stretched(alloc, NUMBERED, &[ONE_AND_TWO, TWO], NUMBERED_TOO, 999_999),
+        "one interval",
+    )
 }
 
 fn are_counts(counts: &Counts) -> bool {

@@ -4,6 +4,7 @@ use Rattle.std.proofs.lemmas.List.FromFn.{length-map-range_with_len, map-range_w
 use Rattle.jsonml_tree.specs.Data.{PlainTree, tree_depth}
 use Rattle.jsonml_tree.specs.Fits.{IsElement}
 use Rattle.jsonml_tree.specs.WellFormed.{IsWellFormed}
+use Rattle.jsonml_tree.specs.declared.limits.TheConstants.{GREATEST_DEPTH}
 use Rattle.key_annotate.specs.Annotated.{keyed_tree}
 use Rattle.key_annotate.specs.Stands.{Stands}
 use Rattle.key_spec.specs.Data.{PlainRule}
@@ -33,7 +34,7 @@ module _ (rules : List PlainRule) (t : PlainTree) (k : PlainKeyed) (same : rules
   pub tree_is : (seed n : ℕ) → t ≡ sample_of seed n → k ≡ sample_tree seed n
   tree_is seed n is = stands.tree ∙ ap (λ r. keyed_tree r t) same ∙ ap (keyed_tree company_rules) is
 
-  pub keyed_by : IsElement t → IsWellFormed t → tree_depth t ≤ 120 → IsKeyedBy company_rules k
+  pub keyed_by : IsElement t → IsWellFormed t → tree_depth t ≤ GREATEST_DEPTH → IsKeyedBy company_rules k
   keyed_by element formed shallow = subst (λ r. IsKeyedBy r k) same (record { document = t; element = element; well_formed = formed; shallow = shallow; satisfies = stands.satisfies; stands = stands.keyed })
 
 -- what holds of a part holds of the whole that ends with it

@@ -36,7 +36,7 @@ pub(crate) fn append_notes<F: Folder>(
     note: &str,
     folder: &mut F,
 ) -> Result<(), Fault>
-    requires few { versions < 999999 }
+    requires few { versions < most }
     requires room { IfSome parts.now.notes (λ n. parts.now.core + n < 2 ^ 64 - 16) }
     requires note { IsTrue (is_note note.now) }
     ensures grows { Grows F.files F.draft F.numbers F.faults (notes_bytes parts.now.notes)

@@ -29,7 +29,7 @@ ghost use Rattle.xarch_writes.specs.Rekeyed.{IsFileOfVersions, IsNoArchive, IsOp
 use crate::notes::notes_of;
 use crate::spelled_file::file_from;
 use archive_file::{FileFault, decode_file, sound_archives_have_one_reading};
-use archive_rekey::{RekeyFault, rekey};
+use archive_rekey::{RekeyFault, rekey_spelled};
 use archive_tree::{Archive, archives_stand_for_one_list};
 use key_spec::Spec;
 use noted_file::{
@@ -247,7 +247,7 @@ fn file_of_versions(alloc: Global, old: &Archive, spec: &Spec) -> Result<Vec<u8>
     ensures refused { (vs : List PlainKeyed) (q : Refusal) → ArchiveOf vs (archive_view old.now)
         → IfErr result (λ f. fault_view f ≡ refused q → IsUnkeyed (spec_view spec.now) vs q) }
 {
-    match rekey(alloc, old, spec) {
+    match rekey_spelled(alloc, old, spec) {
         Ok(archive) => file_from(alloc, spec, &archive),
         Err(RekeyFault::Key { version, fault }) => Err(Fault::KeyFaultIn { version, fault }),
         Err(RekeyFault::Memory) => Err(Fault::Memory),

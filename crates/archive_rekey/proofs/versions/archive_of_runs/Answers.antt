@@ -1,0 +1,21 @@
+use Rattle.std.proofs.Common.{◌≡◌, ◌≤◌, length, subst, arith}
+use Rattle.key_spec.specs.View.{spec_view}
+use Rattle.archive_tree.specs.ArchiveView.{archive_view}
+use Rattle.spelled_archive.specs.ArchiveView.{spelled_archive_view}
+use Rattle.version_runs.specs.Runs.{versions_at}
+use Rattle.version_runs.proofs.RunLemmas.{few_starts}
+use Rattle.archive_rekey.specs.Progress.{Reaches}
+use Rattle.archive_rekey.proofs.RunVersions.{are-starts}
+use Rattle.archive_rekey.proofs.versions.archive_of_runs.Goals as goal
+
+pub with_next-requires-clause-room : goal.with_next-requires-clause-room
+with_next-requires-clause-room c =
+    let old = archive_view c.args.old.now in
+    let few : length c.args.starts.now ≤ old.n = few_starts c.args.starts.now old.n (are-starts c.args.starts.now old c.requires.starts) in
+    let last = c.requires.last in
+    omega (arith, few, last)
+
+pub returns-clause-archive : goal.returns-clause-archive
+returns-clause-archive c = λ vs is. (
+    let end : c.loop-before.before ≡ length c.args.starts.now = omega (arith, c.loop-before.auto.before-end, c.loop-before-test.false) in
+    subst (λ i. Reaches (spec_view c.args.spec.now) (versions_at c.args.starts.now vs) i (spelled_archive_view c.loop-before.archive)) end (c.loop-before.invariant vs is))

@@ -1,0 +1,9 @@
+pub mod RunLemmas
+pub mod Sets
+pub mod Numbers
+pub mod Parts
+pub mod Readings
+pub mod Lists
+pub mod SameRun
+pub mod StartLemmas
+pub mod Archives
