@@ -14,7 +14,7 @@ ghost use Rattle.content_log.specs.Told.{fault_of};
 ghost use Rattle.content_log.specs.Written.{alt_text};
 
 use crate::fault::LogFault;
-use file_get::write_lent_element;
+use content_print::write_lent_element;
 use jsonml_print::write_scalar;
 use keyed_tree::KeyVal;
 use record_parts::{BodyView, StampView};

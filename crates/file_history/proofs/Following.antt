@@ -19,6 +19,7 @@ use Rattle.file_rows.specs.StandsAt.{ChildLaid}
 use Rattle.file_rows.specs.View.{row_view, child_view}
 use Rattle.file_rows.specs.declared.places.Child.{Child}
 use Rattle.file_rows.specs.declared.places.Row.{Row}
+use Rattle.file_history.specs.Halving.{probes, path_probes}
 use Rattle.file_history.specs.Leads.{PlainSpot, lead, onto_node, LeafLaid, StandsThere, LastStands, IsFollowed, IsLeafThere, IsLeafOf, leaf_with, leaf_of}
 use Rattle.file_history.specs.Opened.{IsFound}
 use Rattle.file_history.specs.Parts.{IsFoundIn}
@@ -94,7 +95,7 @@ leaf-followed bytes path first from (Some s) r e h = there s.leaf refl (lead pat
 
 module _ (told : Option Files) (name bytes : List ℕ) (path : List PlainLabel) (first : List (ℕ × ℕ)) (from : PlainNodes) where
   pub starts : (row : Row) (a : Numbers) (n : ℕ) → IsMeter a → RowIs told name bytes 0 (row_view row) first from → Reached told name bytes path first from path 0 (Some row) None first a a n n
-  starts row a n is h = record { ks = from; there = h; leads = refl; last = None; stands = refl; way = refl; less = but-none (path_probed path from) a is; fewer = omega arith }
+  starts row a n is h = record { ks = from; there = h; leads = refl; last = None; stands = refl; way = refl; less = but-none (path_probed path from) a is; exact = refl; fewer = omega arith }
 
   -- behind the last label
   pub ends : (depth : ℕ) (row : Option Row) (leaf : Option Child) (set : List (ℕ × ℕ)) (rest : List PlainLabel) (a b : Numbers) (m n : ℕ) → rest ≡ [] → Reached told name bytes path first from rest depth row leaf set a b m n → (members set ≡ seek path (members first) from) × LastStands bytes leaf set (lead path None first from)
@@ -142,16 +143,40 @@ module _ (told : Option Files) (name bytes : List ℕ) (path : List PlainLabel) 
       let fewer = subst (λ (ls : List PlainLabel). n + path_steps ls r.ks ≤ m + path_steps path from) e r.fewer in
       omega (arith, fewer, h)
 
+  -- all steps that are taken, where there is no row
+  pub exact-leaf : (depth : ℕ) (row : Option Row) (leaf : Option Child) (set : List (ℕ × ℕ)) (w : PlainLabel) (rest more : List PlainLabel) (a b : Numbers) (m n : ℕ) → rest ≡ w ∷ more → row ≡ None → Reached told name bytes path first from rest depth row leaf set a b m n → n ≡ m + path_probes path from
+  exact-leaf depth row leaf set w rest more a b m n e no_row r =
+      let none : r.ks ≡ no_nodes = subst (λ (o : Option Row). InRow told name bytes depth o set r.ks) no_row r.there in
+      let left : path_probes rest r.ks ≡ 0 = (λ i. path_probes (e i) (none i)) in
+      let exact = r.exact in
+      omega (arith, exact, left)
+
+  -- where a row has no such kid
+  pub exact-none : (depth : ℕ) (row : Option Row) (leaf : Option Child) (set : List (ℕ × ℕ)) (w : PlainLabel) (rest more : List PlainLabel) (a b : Numbers) (m n o : ℕ) → rest ≡ w ∷ more → (r : Reached told name bytes path first from rest depth row leaf set a b m n)
+      → node_with w (nodes_list r.ks) ≡ None → o ≡ n + probes w (nodes_list r.ks) → o ≡ m + path_probes path from
+  exact-none depth row leaf set w rest more a b m n o e r none h =
+      let exact = subst (λ (ls : List PlainLabel). n + path_probes ls r.ks ≡ m + path_probes path from) e r.exact in
+      let left : onward (path_probes more) (node_with w (nodes_list r.ks)) ≡ 0 = ap (onward (path_probes more)) none in
+      omega (arith, exact, left, h)
+
+  -- and behind the last label
+  pub exact-end : (depth : ℕ) (row : Option Row) (leaf : Option Child) (set : List (ℕ × ℕ)) (rest : List PlainLabel) (a b : Numbers) (m n : ℕ) → rest ≡ [] → Reached told name bytes path first from rest depth row leaf set a b m n → n ≡ m + path_probes path from
+  exact-end depth row leaf set rest a b m n none r =
+      let exact = subst (λ (ls : List PlainLabel). n + path_probes ls r.ks ≡ m + path_probes path from) none r.exact in
+      omega (arith, exact)
+
   -- on to the kids of a node that is found
   pub goes-on : (depth deeper : ℕ) (row : Option Row) (leaf : Option Child) (inside : Row) (set later : List (ℕ × ℕ)) (w : PlainLabel) (rest more : List PlainLabel) (a b c : Numbers) (m n o : ℕ) (f : Found) → (depth < deepest → deeper ≡ depth + 1) → rest ≡ w ∷ more → row ≡ Some inside
-      → (r : Reached told name bytes path first from rest depth row leaf set a b m n) → Onto w r.ks bytes set f → later ≡ set_in (stamp_view f.stamp) set → PullsAtMost (row_probed (nodes_list r.ks)) b c → o ≤ n + most_probes (length (nodes_list r.ks))
+      → (r : Reached told name bytes path first from rest depth row leaf set a b m n) → Onto w r.ks bytes set f → later ≡ set_in (stamp_view f.stamp) set → PullsAtMost (row_probed (nodes_list r.ks)) b c → o ≤ n + most_probes (length (nodes_list r.ks)) → o ≡ n + probes w (nodes_list r.ks)
       → Reached told name bytes path first from more deeper f.row f.leaf later a c m o
-  goes-on depth deeper row leaf inside set later w rest more a b c m n o f step e here r t is p h =
+  goes-on depth deeper row leaf inside set later w rest more a b c m n o f step e here r t is p h x =
       let there = found-row told name bytes depth deeper (row_view inside) set r.ks w t.k f step (reached-row depth row leaf inside set rest a b m n here r) t.is t.found in
       let kids = node_kids t.k in
       let less = subst (λ (ls : List PlainLabel). PullsBut (path_probed path from) (path_probed ls r.ks) a b) e r.less in
       let fewer = subst (λ (ls : List PlainLabel). n + path_steps ls r.ks ≤ m + path_steps path from) e r.fewer in
       let probed_on : onward (path_probed more) (node_with w (nodes_list r.ks)) ≡ path_probed more kids = ap (onward (path_probed more)) t.is in
+      let exact = subst (λ (ls : List PlainLabel). n + path_probes ls r.ks ≡ m + path_probes path from) e r.exact in
+      let probes_on : onward (path_probes more) (node_with w (nodes_list r.ks)) ≡ path_probes more kids = ap (onward (path_probes more)) t.is in
       let steps_on : onward (path_steps more) (node_with w (nodes_list r.ks)) ≡ path_steps more kids = ap (onward (path_steps more)) t.is in
       let stamp : members later ≡ eff (node_stamp t.k) (members set) = ap members is ∙ stored-set (stamp_view f.stamp) set ∙ ap (λ s. eff s (members set)) (found-stamp t.k t.found) in
       record {
@@ -162,6 +187,7 @@ module _ (told : Option Files) (name bytes : List ℕ) (path : List PlainLabel) 
         way = r.way ∙ ap (λ (ls : List PlainLabel). lead ls r.last set r.ks) e ∙ ap (onto_node (lead more) set) t.is ∙ ap (λ (s : List (ℕ × ℕ)). lead more (Some (record { parent = set; node = t.k })) s kids) (sym (is ∙ ap (λ s. set_in s set) (found-stamp t.k t.found)));
         leads = r.leads ∙ ap (λ (ls : List PlainLabel). seek ls (members set) r.ks) e ∙ ap (enter (seek more) (members set)) t.is ∙ ap (λ (ns : List ℕ). seek more ns kids) (sym stamp);
         less = but-on (path_probed path from) (row_probed (nodes_list r.ks)) (path_probed more kids) a b c (subst (λ (x : ℕ). PullsBut (path_probed path from) (row_probed (nodes_list r.ks) + x) a b) probed_on less) p;
+        exact = omega (arith, exact, probes_on, x);
         fewer = omega (arith, fewer, steps_on, h);
       }
     where

@@ -40,7 +40,7 @@ cut (x ∷ mid) (suc i) h =
     let c = cut mid i (omega (arith, h)) in
     record { left = x ∷ c.left; k = c.k; right = c.right; is = ap (λ (xs : List PlainNode). x ∷ xs) c.is; place = ap suc c.place }
 
-get-at : (xs ys : List Piece) (p : Piece) → slice_get (xs ++ p ∷ ys) (length xs) ≡ Some p
+pub get-at : {X : Type 0} (xs ys : List X) (p : X) → slice_get (xs ++ p ∷ ys) (length xs) ≡ Some p
 get-at [] ys p = refl
 get-at (x ∷ xs) ys p = get-at xs ys p
 

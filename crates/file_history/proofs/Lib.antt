@@ -3,6 +3,7 @@ pub mod Budgets
 pub mod Searching
 pub mod Pulls
 pub mod Halves
+pub mod Probes
 pub mod Probing
 pub mod Finding
 pub mod InRows

@@ -24,6 +24,7 @@ use Rattle.file_history.specs.declared.search.Probed.{Probed}
 use Rattle.file_history.specs.declared.search.Probed.TheVariants.{Here, Beside}
 use Rattle.file_history.proofs.Budgets.{Costs, cost-left, cost-right}
 use Rattle.file_history.proofs.Searching.{with-less, with-greater, with-equal}
+use Rattle.file_history.proofs.Probes.{halved-less, halved-greater, halved-equal}
 use Rattle.file_history.proofs.Pulls.{but-most, most-both}
 use Rattle.file_history.proofs.Halves.{cut, row-within, Middle, middle, middle-opens, middle-nested, middle-sorted, child-start, part-before, part-behind}
 
@@ -61,6 +62,7 @@ pub record Look (row : PlainRow) (parent : List (ℕ × ℕ)) (part : PlainPart)
   pub is : mid ≡ left ++ k ∷ right
   pub here : place ≡ part.low + length left
   pub some : 0 < length mid
+  pub half : length left ≡ length mid / 2
   pub left_half : length left ≤ length mid / 2
   pub right_half : length right ≤ length mid / 2
   pub stands : Middle row parent part (front ++ (mid ++ back)) k place
@@ -84,6 +86,7 @@ look told name bytes row parent part front mid back place h some is =
       is = c.is;
       here = at;
       some = many;
+      half = c.place;
       left_half = omega (arith, c.place);
       right_half = omega (arith, c.place, len);
       stands = stands;
@@ -119,7 +122,7 @@ module _ (told : Option Files) (name bytes : List ℕ) (row : PlainRow) (parent 
       → ProbedIs told name bytes row parent w mid a c p
   looked w child a b c (opened.Here f) (Here g) is stands start found m n =
       let there : node_with w mid ≡ Some l.k = ap (node_with w) l.is ∙ with-equal w l.k l.left l.right (middle-sorted told name bytes row parent part front mid back l.left l.right l.k h l.is) found.0 in
-      subst (λ (k : Option PlainNode). IsFoundIn bytes parent k (Some g)) (sym there) (subst (λ x. IsFound bytes parent l.k x) is found.1)
+      (subst (λ (k : Option PlainNode). IsFoundIn bytes parent k (Some g)) (sym there) (subst (λ x. IsFound bytes parent l.k x) is found.1), halved-equal w mid l.left l.right l.k l.is l.half found.0)
   looked w child a b c (opened.Here f) (Beside next) is stands start found m n = absurd is
   looked w child a b c opened.Before (Here g) is stands start found m n = absurd is
   looked w child a b c opened.Before (Beside next) is stands start found m n =
@@ -132,6 +135,7 @@ module _ (told : Option Files) (name bytes : List ℕ) (row : PlainRow) (parent 
         back = back;
         is = subst (λ (x : PlainPart). PartIs told name bytes row parent x (front ++ (l.left ++ l.k ∷ [])) l.right back) (sym is) (part-behind told name bytes row parent part front mid back l.left l.right l.k h l.is place child.end l.here ends);
         same = ap (node_with w) l.is ∙ with-less w l.k l.left l.right (middle-sorted told name bytes row parent part front mid back l.left l.right l.k h l.is) found;
+        steps = halved-less w mid l.left l.right l.k l.is l.half found;
         fewer = costs-right.fewer;
         less = looked-but l.right a b c costs-right m n;
       }
@@ -144,6 +148,7 @@ module _ (told : Option Files) (name bytes : List ℕ) (row : PlainRow) (parent 
         back = l.k ∷ (l.right ++ back);
         is = subst (λ (x : PlainPart). PartIs told name bytes row parent x front l.left (l.k ∷ (l.right ++ back))) (sym is) (part-before told name bytes row parent part front mid back l.left l.right l.k h l.is place child.first l.here begins);
         same = ap (node_with w) l.is ∙ with-greater w l.k l.left l.right (middle-sorted told name bytes row parent part front mid back l.left l.right l.k h l.is) found;
+        steps = halved-greater w mid l.left l.right l.k l.is l.half found;
         fewer = costs-left.fewer;
         less = looked-but l.left a b c costs-left m n;
       }

@@ -4,4 +4,5 @@ pub mod Pulled
 pub mod View
 pub mod Opened
 pub mod Parts
+pub mod Halving
 pub mod Rows

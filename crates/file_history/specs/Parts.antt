@@ -17,6 +17,7 @@ use Rattle.record_format.specs.Spelling.{rec_bytes}
 use Rattle.record_cursor.specs.Moves.{TellsFront}
 use Rattle.file_rows.specs.StandsAt.{RowLaid}
 use Rattle.file_rows.specs.View.{PlainRow, PlainChild}
+use Rattle.file_history.specs.Halving.{probes}
 use Rattle.file_history.specs.Opened.{IsFound}
 use Rattle.file_history.specs.Pulled.{PullsBut}
 use Rattle.file_history.specs.View.{PlainPart, part_view}
@@ -55,13 +56,14 @@ pub record PartIs (told : Option Files) (name bytes : List ℕ) (row : PlainRow)
   pub low_at : part.low_at ≡ row.first + bytes_of parent front
   pub high_at : part.high_at ≡ part.low_at + bytes_of parent mid
 
--- What is left to search has the node exactly where the whole has it, and takes fewer steps and bytes.
+-- What is left to search has the node exactly where the whole has it, and takes one step less and fewer bytes.
 pub record BesideIs (told : Option Files) (name bytes : List ℕ) (row : PlainRow) (parent : List (ℕ × ℕ)) (wanted : PlainLabel) (ns : List PlainNode) (old new : Numbers) (next : PlainPart) : Type 0 where
   pub front : List PlainNode
   pub mid : List PlainNode
   pub back : List PlainNode
   pub is : PartIs told name bytes row parent next front mid back
   pub same : node_with wanted ns ≡ node_with wanted mid
+  pub steps : probes wanted ns ≡ 1 + probes wanted mid
   pub fewer : most_probes (length mid) + 1 ≤ most_probes (length ns)
   pub less : PullsBut (cost ns) (cost mid) old new
 
@@ -73,7 +75,7 @@ IsFoundIn bytes parent (Some k) None = ⊥
 IsFoundIn bytes parent (Some k) (Some f) = IsFound bytes parent k f
 
 abbrev pub ProbedIs : Option Files → List ℕ → List ℕ → PlainRow → List (ℕ × ℕ) → PlainLabel → List PlainNode → Numbers → Numbers → Probed → Type 0
-ProbedIs told name bytes row parent wanted ns old new (Here f) = IsFoundIn bytes parent (node_with wanted ns) (Some f)
+ProbedIs told name bytes row parent wanted ns old new (Here f) = IsFoundIn bytes parent (node_with wanted ns) (Some f) × (probes wanted ns ≡ 1)
 ProbedIs told name bytes row parent wanted ns old new (Beside next) = BesideIs told name bytes row parent wanted ns old new (part_view next)
 
 -- what is left to search is within the part, and smaller

@@ -20,6 +20,7 @@ use Rattle.file_rows.specs.StandsAt.{RowLaid}
 use Rattle.file_rows.specs.View.{PlainRow, row_view}
 use Rattle.file_rows.specs.declared.places.Row.{Row}
 use Rattle.file_rows.specs.declared.places.Child.{Child}
+use Rattle.file_history.specs.Halving.{path_probes}
 use Rattle.file_history.specs.Leads.{PlainSpot, lead, LastStands}
 use Rattle.file_history.specs.Pulled.{PullsBut}
 
@@ -37,8 +38,8 @@ abbrev pub InRow : Option Files → List ℕ → List ℕ → ℕ → Option Row
 InRow told name bytes depth (Some row) parent ks = RowIs told name bytes depth (row_view row) parent ks
 InRow told name bytes depth None parent ks = ks ≡ no_nodes
 
--- A search for the path came to nodes where the rest of it leads to what the path leads to from the first; it takes no more bytes and
--- steps in all.
+-- A search for the path came to nodes where the rest of it leads to what the path leads to from the first; it takes as many steps
+-- in all, and no more bytes.
 pub record Reached (told : Option Files) (name bytes : List ℕ) (path : List PlainLabel) (first : List (ℕ × ℕ)) (from : PlainNodes) (rest : List PlainLabel) (depth : ℕ) (row : Option Row) (leaf : Option Child) (set : List (ℕ × ℕ)) (old new : Numbers) (began now : ℕ) : Type 0 where
   pub ks : PlainNodes
   pub there : InRow told name bytes depth row set ks
@@ -47,6 +48,7 @@ pub record Reached (told : Option Files) (name bytes : List ℕ) (path : List Pl
   pub stands : LastStands bytes leaf set last
   pub way : lead path None first from ≡ lead rest last set ks
   pub less : PullsBut (path_probed path from) (path_probed rest ks) old new
+  pub exact : now + path_probes rest ks ≡ began + path_probes path from
   pub fewer : now + path_steps rest ks ≤ began + path_steps path from
 
 -- The file is that of an archive, whose header is this one.

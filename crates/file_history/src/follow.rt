@@ -19,6 +19,7 @@ ghost use Rattle.record_cursor.specs.View.{header_view, IsHeader};
 ghost use Rattle.xa_outside.specs.Causes.{Rose};
 ghost use Rattle.xa_outside.specs.Numbers.{PullsAtMost};
 ghost use Rattle.file_rows.specs.View.{row_view};
+ghost use Rattle.file_history.specs.Halving.{path_probes, probes_along};
 ghost use Rattle.file_history.specs.Leads.{IsFollowed, node_along};
 ghost use Rattle.file_history.specs.Rows.{FileIs, RowIs};
 ghost use Rattle.file_history.specs.Told.{IfFailed};
@@ -87,6 +88,13 @@ pub fn history<F: Folder, L: Ledger>(
         → IsHeaderOf (header_view header.now) bytes → SoundAs rules vs bytes → ArchiveOf vs a
         → steps.new ≤ steps.old + steps_along a (map label_view path.now) }
 
+    // Exactly the children are counted that a search by halving looks at.
+    ensures exactly { (bytes : List ℕ) (rules : List PlainRule) (vs : List PlainKeyed)
+        (a : PlainArchive)
+        → TellsFront (F.files folder.old) name.now (header_view header.now).length bytes
+        → IsHeaderOf (header_view header.now) bytes → SoundAs rules vs bytes → ArchiveOf vs a
+        → OnOk result (steps.new ≡ steps.old + probes_along a (map label_view path.now)) }
+
     // Where the path leads to a node, at least one step is taken for each of its labels.
     ensures counted { (bytes : List ℕ) (rules : List PlainRule) (vs : List PlainKeyed)
         (a : PlainArchive)
@@ -131,6 +139,10 @@ pub(crate) fn search<F: Folder, L: Ledger>(
         → FileIs (F.files folder.old) name.now bytes (header_view header.now) a
         → pairs_of all ≡ upto_pairs a.n
         → steps.new ≤ steps.old + steps_along a (map label_view path.now) }
+    ensures exactly { (bytes : List ℕ) (a : PlainArchive)
+        → FileIs (F.files folder.old) name.now bytes (header_view header.now) a
+        → pairs_of all ≡ upto_pairs a.n
+        → OnOk result (steps.new ≡ steps.old + probes_along a (map label_view path.now)) }
     ensures counted { OnFound result (steps.old + length path.now ≤ steps.new) }
 {
     let mut cursor = Cursor::start(alloc, name, header)?;
@@ -165,6 +177,9 @@ fn follow<F: Folder, L: Ledger>(
     ensures steps { (bytes : List ℕ) (ks : PlainNodes)
         → RowIs (F.files folder.old) name.now bytes 0 (row_view row) (pairs_of parent) ks
         → steps.new ≤ steps.old + path_steps (map label_view path.now) ks }
+    ensures exactly { (bytes : List ℕ) (ks : PlainNodes)
+        → RowIs (F.files folder.old) name.now bytes 0 (row_view row) (pairs_of parent) ks
+        → OnOk result (steps.new ≡ steps.old + path_probes (map label_view path.now) ks) }
     ensures counted { OnFound result (steps.old + length path.now ≤ steps.new) }
 {
     let mut set = parent;

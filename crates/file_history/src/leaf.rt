@@ -11,6 +11,7 @@ ghost use Rattle.record_cursor.specs.Moves.{TellsFront, IsHeaderOf};
 ghost use Rattle.record_cursor.specs.View.{header_view, IsHeader};
 ghost use Rattle.xa_outside.specs.Causes.{Rose};
 ghost use Rattle.xa_outside.specs.Numbers.{PullsAtMost};
+ghost use Rattle.file_history.specs.Halving.{probes_along};
 ghost use Rattle.file_history.specs.Leads.{IsLeafOf, leaf_of, leaf_with, node_along};
 ghost use Rattle.file_history.specs.Told.{IfFailed};
 ghost use Rattle.file_history.specs.declared.fault.HistFault.TheVariants.{Damage};
@@ -76,6 +77,13 @@ pub fn find_leaf<F: Folder, L: Ledger>(
         → TellsFront (F.files folder.old) name.now (header_view header.now).length bytes
         → IsHeaderOf (header_view header.now) bytes → SoundAs rules vs bytes → ArchiveOf vs a
         → steps.new ≤ steps.old + steps_along a (map label_view path.now) }
+
+    // Exactly the children are counted that a search by halving looks at.
+    ensures exactly { (bytes : List ℕ) (rules : List PlainRule) (vs : List PlainKeyed)
+        (a : PlainArchive)
+        → TellsFront (F.files folder.old) name.now (header_view header.now).length bytes
+        → IsHeaderOf (header_view header.now) bytes → SoundAs rules vs bytes → ArchiveOf vs a
+        → OnOk result (steps.new ≡ steps.old + probes_along a (map label_view path.now)) }
 
     // Where the path leads to a node, at least one step is taken for each of its labels.
     ensures counted { (bytes : List ℕ) (rules : List PlainRule) (vs : List PlainKeyed)

@@ -1,5 +1,5 @@
 // Searching a row by halving.
-ghost use Rattle.std.specs.Prelude.{◌≡◌, ◌+◌, ◌-◌, ◌*◌, ◌<◌, ◌≤◌, ℕ, List, length, IfOk};
+ghost use Rattle.std.specs.Prelude.{◌≡◌, ◌+◌, ◌-◌, ◌*◌, ◌<◌, ◌≤◌, ℕ, List, length, IfOk, OnOk};
 ghost use Rattle.keyed_tree.specs.View.{label_view};
 ghost use Rattle.archive_tree.specs.Data.{PlainNode, PlainNodes, nodes_list};
 ghost use Rattle.archive_tree.specs.Seek.{node_with};
@@ -7,6 +7,7 @@ ghost use Rattle.xa_outside.specs.Numbers.{PullsAtMost};
 ghost use Rattle.record_format.specs.Probed.{most_probes, row_probed};
 ghost use Rattle.record_cursor.specs.Steps.{OnlyReads, fault_of, Filled};
 ghost use Rattle.file_rows.specs.View.{row_view, child_view};
+ghost use Rattle.file_history.specs.Halving.{probes};
 ghost use Rattle.file_history.specs.Parts.{PartIs, ProbedIs, IsFoundIn, IsTurned, IsSmaller, cost};
 ghost use Rattle.file_history.specs.Pulled.{PullsBut};
 ghost use Rattle.file_history.specs.Rows.{RowIs};
@@ -66,6 +67,9 @@ pub(crate) fn find<F: Folder, L: Ledger>(
     ensures steps { (bytes : List ℕ) (parent : List (ℕ × ℕ)) (ks : PlainNodes)
         → RowIs (F.files folder.old) name.now bytes depth (row_view row) parent ks
         → steps.new ≤ steps.old + most_probes (length (nodes_list ks)) }
+    ensures exactly { (bytes : List ℕ) (parent : List (ℕ × ℕ)) (ks : PlainNodes)
+        → RowIs (F.files folder.old) name.now bytes depth (row_view row) parent ks
+        → OnOk result (steps.new ≡ steps.old + probes (label_view wanted.now) (nodes_list ks)) }
     ensures counted { OnFound result (steps.old < steps.new) }
 {
     let count = match count_children(folder, name, row) {
@@ -111,6 +115,10 @@ fn find_in<F: Folder, L: Ledger>(
         → PartIs (F.files folder.old) name.now bytes (row_view row) parent (part_view part)
         front mid back
         → steps.new ≤ steps.old + most_probes (length mid) }
+    ensures exactly { (bytes : List ℕ) (parent : List (ℕ × ℕ)) (front mid back : List PlainNode)
+        → PartIs (F.files folder.old) name.now bytes (row_view row) parent (part_view part)
+        front mid back
+        → OnOk result (steps.new ≡ steps.old + probes (label_view wanted.now) mid) }
     ensures counted { OnFound result (steps.old < steps.new) }
 {
     if part.low >= part.high {

@@ -3,7 +3,7 @@ use Rattle.std.proofs.Common.{◌≡◌, ℕ, zero, suc, ◌+◌, ◌-◌, ◌*�
 use Rattle.std.specs.Int.{Width, w64, byte_len, from_be_bytes}
 use Rattle.std.specs.Prelude.{ok_or, IfOk, IfSome}
 use Rattle.std.proofs.lemmas.Bool.Decides.{nat_tests}
-use Rattle.std.proofs.lemmas.List.{drop-take, take-take, length-append}
+use Rattle.std.proofs.lemmas.List.{drop-take, drop_all, take-take, length-append}
 use Rattle.xa_fields.specs.Reading.{number_at}
 use Rattle.xa_fields.specs.FieldLaws.{number-there, some_is}
 use Rattle.timestamp_tree.specs.Data.{PlainTs, leaf, node, leaves}
@@ -47,6 +47,17 @@ entry-is bytes out start size dir a b c long e n m k = record {
   first_is = omega arith;
   end_is = omega arith;
 }
+
+-- ---- a tail
+
+pub tail-is : (bytes out : List ℕ) (dir : ℕ) (rest : List ℕ) → length bytes ≡ 8 → out ≡ take 8 bytes → Some (dir, rest) ≡ number_at w64 out
+    → number_at w64 bytes ≡ Some (dir, [])
+tail-is bytes out dir rest long e n =
+    number-front w64 0 8 bytes out dir rest e (omega arith) (omega (arith, long)) n ∙ ap (λ (bs : List ℕ). Some (dir, bs)) (drop_all 8 bytes (omega (arith, long)))
+
+pub said-of : {T : Type 0} (o : Option T) (dir : T → ℕ) (n : ℕ) (P : ℕ → Type 0) → IfSome o (λ t. dir t ≡ n) → P n → IfSome o (λ t. P (dir t))
+said-of (Some t) dir n P e h = subst P (sym e) h
+said-of None dir n P e h = tt
 
 -- ---- how long a directory is
 

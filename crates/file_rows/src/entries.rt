@@ -21,6 +21,7 @@ pub(crate) const ENTRY: usize = 24;
 pub(crate) fn row_before(first: u64, end: u64, dir: u64) -> Option<Row>
     ensures within { IfSome result (λ row. (row.first ≡ first)
         × (row.end + (9 + row.dir) ≡ end)) }
+    ensures dir { IfSome result (λ row. row.dir ≡ dir) }
     ensures told { (row : PlainRow) → row.first ≡ first → row.first ≤ row.end → row.dir ≡ dir
         → row.end + (9 + row.dir) ≡ end → option_map row_view result ≡ Some row }
 {

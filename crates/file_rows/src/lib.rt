@@ -6,4 +6,4 @@ mod places;
 mod rows;
 
 pub use places::{Child, Row};
-pub use rows::{count_children, read_child, root_row, row_of};
+pub use rows::{count_children, read_child, root_row, row_of, tree_of};

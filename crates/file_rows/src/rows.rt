@@ -1,5 +1,7 @@
 // Rows of children, and the directories behind them.
-ghost use Rattle.std.specs.Prelude.{◌≡◌, ◌≢◌, ◌+◌, ◌-◌, ◌*◌, ◌<◌, ◌≤◌, ◌^◌, ℕ, List, length, drop, None, Some, IfOk, IfSome, IsTrue, option_map, slice_get};
+ghost use Rattle.std.specs.Prelude.{◌≡◌, ◌≢◌, ◌+◌, ◌-◌, ◌*◌, ◌<◌, ◌≤◌, ◌^◌, ℕ, List, [], length, take, drop, None, Some, IfOk, IfSome, IsTrue, option_map, slice_get};
+ghost use Rattle.std.specs.Int.{w64};
+ghost use Rattle.xa_fields.specs.Reading.{number_at};
 ghost use Rattle.xa_fields.specs.Spelling.{u64_bytes};
 ghost use Rattle.xa_outside.specs.Numbers.{PullsAtMost};
 ghost use Rattle.keyed_tree.specs.Data.{PlainLabel};
@@ -16,6 +18,7 @@ ghost use Rattle.file_rows.specs.View.{PlainRow, row_view, child_view};
 use crate::entries::{ENTRY, HEAD, child_of, counted, row_before};
 use crate::places::{Child, Row};
 use record_cursor::{CursorFault, fill_part};
+use record_format::FRAME;
 use xa_fields::take_u64;
 use xa_outside::Folder;
 
@@ -37,6 +40,10 @@ pub fn root_row<F: Folder>(
     ensures inside { PullsAtMost (size - first) (F.numbers folder.old) (F.numbers folder.new) }
     ensures within { IfOk result (λ row. (row.first ≡ first)
         × (row.end + (9 + row.dir) + 8 ≡ size)) }
+
+    // Where the file is told, the END's length is the number in the last eight bytes.
+    ensures tail { (bytes : List ℕ) → TellsFront (F.files folder.old) name.now size bytes
+        → IfOk result (λ row. number_at w64 (drop (size - 8) bytes) ≡ Some (row.dir, [])) }
     ensures told { (bytes : List ℕ) (row : PlainRow) (ps : List Piece)
         → TellsFront (F.files folder.old) name.now size bytes → RowLaid bytes row ps
         → row.first ≡ first → row.end + (9 + row.dir) + 8 ≡ size
@@ -58,6 +65,8 @@ pub fn root_row<F: Folder>(
 fn tail_row(first: u64, end: u64, tail: &[u8]) -> Option<Row>
     ensures within { IfSome result (λ row. (row.first ≡ first)
         × (row.end + (9 + row.dir) ≡ end)) }
+    ensures is { (piece : List ℕ) → length piece ≡ 8 → tail.now ≡ take 8 piece
+        → IfSome result (λ row. number_at w64 piece ≡ Some (row.dir, [])) }
     ensures told { (row : PlainRow) → row.first ≡ first → row.first ≤ row.end
         → row.end + (9 + row.dir) ≡ end → tail.now ≡ u64_bytes row.dir
         → option_map row_view result ≡ Some row }
@@ -94,6 +103,17 @@ pub fn count_children<F: Folder>(folder: &mut F, name: &str, row: Row) -> Result
         Ok(()) => counted(&head, row.dir).ok_or(CursorFault::Damage),
         Err(fault) => Err(fault),
     }
+}
+
+/// The offsets between which the stored tree over the sets of so many children stands: behind their
+/// entries, up to where the END's body ends.
+pub fn tree_of(row: Row, count: u32) -> (u64, u64)
+    requires { 4 + 24 * count ≤ row.dir }
+    ensures at { result.0 ≡ row.end + (13 + 24 * count) }
+    ensures limit { result.1 ≡ row.end + (9 + row.dir) }
+{
+    let at = row.end + (HEAD as u64 + ENTRY as u64 * u64::from(count));
+    (at, row.end + (FRAME as u64 + row.dir))
 }
 
 /// The child at a position, from 0, where it stands between two offsets.
@@ -138,6 +158,7 @@ pub fn read_child<F: Folder>(
 pub fn row_of(child: Child, behind: u64) -> Option<Row>
     ensures within { IfSome result (λ row. (row.first ≡ behind)
         × (row.end + (9 + row.dir) ≡ child.end)) }
+    ensures dir { IfSome result (λ row. row.dir ≡ child.dir) }
     ensures told { (bytes : List ℕ) (l : PlainLabel) (s : Stamp) (set : List (ℕ × ℕ))
         (ps : List Piece) → ChildLaid bytes (child_view child) (inner_piece l s set ps)
         → behind ≡ child.first + length (rec_bytes (inner_rec l s))

@@ -5,4 +5,5 @@ pub mod Pulled
 pub mod Items
 pub mod NodeItems
 pub mod Headers
+pub mod FixedFields
 pub mod ItemLaws

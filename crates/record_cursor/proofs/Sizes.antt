@@ -1,12 +1,11 @@
 -- What is read has as many bytes as it is spelled with. Files may tell numbers that are no bytes; it holds of them as well.
-use Rattle.std.proofs.Common.{◌≡◌, ℕ, zero, suc, ◌+◌, ◌^◌, ◌==◌, pos, negsuc, true, false, cond, ltb, ◌||◌, not, List, [], ◌∷◌, ◌++◌, length, take, drop, Option, Some, None, ap, subst, ◌∙◌, arith}
+use Rattle.std.proofs.Common.{◌≡◌, ℕ, zero, suc, ◌+◌, ◌^◌, ◌==◌, pos, negsuc, true, false, cond, ltb, ◌||◌, not, List, [], ◌∷◌, ◌++◌, length, take, drop, Option, Some, None, refl, ap, subst, ◌∙◌, arith}
 use Rattle.std.specs.Int.{w32, w64, from_be_bytes}
 use Rattle.std.specs.List.{flat_map}
 use Rattle.std.specs.Str.{is_utf8}
 use Rattle.std.proofs.lemmas.Bool.{ltb-false, eqb-true}
 use Rattle.std.proofs.lemmas.List.{length-append, length-take, length-drop}
 use Rattle.jsonml_tree.specs.Data.{null, boolean, whole, string, PlainAttr, PlainTree, text, element, PlainContent, content, trees_of, list_of}
-use Rattle.jsonml_tree.proofs.Trees.{list_of-trees_of}
 use Rattle.keyed_tree.specs.Data.{attr, tag, scalar, inside, PlainLabel}
 use Rattle.xa_fields.specs.Spelling.{u32_bytes, u64_bytes, text_bytes, list_bytes}
 use Rattle.xa_fields.specs.Reading.{Reader, ◌>>=◌, byte_at, number_at, text_at, many_at, list_at, chain_at, chained_at, both_at}
@@ -18,7 +17,6 @@ use Rattle.record_parts.specs.Bounds.{deepest, most}
 use Rattle.record_parts.specs.Reading.{scalar_of, scalar_at, attr_at, next_attr, attrs_at, content_by, item_of, item_by, content_below, item_at, content_at, value_of, value_at, name_of, name_at, label_at, stamp_of, stamp_at}
 use Rattle.record_parts.specs.Spelling.{scalar_bytes, attr_bytes, item_bytes, content_bytes, items_bytes, value_bytes, name_spelling, label_bytes, stamp_bytes}
 use Rattle.xa_fields.specs.FieldLaws.{passed_some}
-use Rattle.record_parts.proofs.Values.{items_bytes-is}
 
 -- what is read, and what is left, are all of the bytes
 abbrev HasSize : {A : Type 0} → (A → List ℕ) → ℕ → A × List ℕ → Type 0
@@ -145,8 +143,12 @@ attr-sized bytes x e =
     read-is attr_bytes (length bytes) made x b.2
     (omega (arith, text-sized bytes a.0 a.1, scalar-sized a.0.1 b.0 b.1, length-append (text_bytes a.0.0) (scalar_bytes b.0.0)))
 
+items-spelled : (ts : List PlainTree) → items_bytes (trees_of ts) ≡ flat_map item_bytes ts
+items-spelled [] = refl
+items-spelled (t ∷ ts) = ap (λ (bytes : List ℕ). item_bytes t ++ bytes) (items-spelled ts)
+
 items-size : (ts : List PlainTree) → length (items_bytes (trees_of ts)) ≡ length (flat_map item_bytes ts)
-items-size ts = ap length (items_bytes-is (trees_of ts) ∙ ap (flat_map item_bytes) (list_of-trees_of ts))
+items-size ts = ap length (items-spelled ts)
 
 content-sized : (one : Reader PlainTree) → Sized one item_bytes → Sized (content_by one) content_bytes
 unfolding content_by

@@ -6,3 +6,4 @@ pub mod View
 pub mod Faults
 pub mod Moves
 pub mod Steps
+pub mod Fixed

@@ -24,13 +24,13 @@ use xa_fields::take_u32;
 use xa_outside::Folder;
 
 /// The length of a header's text stands behind six bytes of magic.
-const TEXT_LENGTH: usize = 6;
+pub(crate) const TEXT_LENGTH: usize = 6;
 
 /// The magic, and the four bytes of the text's length.
-const FRONT: usize = 10;
+pub(crate) const FRONT: usize = 10;
 
 /// A header without its text: the front, and the four bytes of the number of versions.
-const FIELDS: u64 = 14;
+pub(crate) const FIELDS: u64 = 14;
 
 /// The header of the first `length` bytes of a file. A file with fewer bytes has none.
 ///
@@ -110,7 +110,11 @@ fn read_stored<F: Folder>(
 }
 
 /// Nothing, where the file has so many bytes.
-fn check_length<F: Folder>(folder: &mut F, name: &str, length: u64) -> Result<(), CursorFault>
+pub(crate) fn check_length<F: Folder>(
+    folder: &mut F,
+    name: &str,
+    length: u64,
+) -> Result<(), CursorFault>
     ensures reads { OnlyReads F.files F.draft F.faults folder.old folder.new (fault_of result) }
     ensures numbers { F.numbers folder.new ≡ F.numbers folder.old }
     ensures told { (files : Files) → F.files folder.old ≡ Some files

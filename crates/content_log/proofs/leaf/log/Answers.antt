@@ -1,4 +1,4 @@
-use Rattle.std.proofs.Common.{◌≢◌, ◌+◌, ◌-◌, ◌≤◌, ℕ, List, [], map, length, Option, sym, subst, arith}
+use Rattle.std.proofs.Common.{◌≡◌, ◌≢◌, ◌+◌, ◌-◌, ◌≤◌, ℕ, List, [], map, length, Option, sym, subst, arith}
 use Rattle.version_set.specs.View.{pairs_of}
 use Rattle.keyed_tree.specs.View.{label_view}
 use Rattle.xa_outside.specs.Folder.{Files}
@@ -8,6 +8,7 @@ use Rattle.xa_outside.specs.TakenLaws.{Takes-nil, TakesPrefix-none}
 use Rattle.record_cursor.specs.Moves.{TellsFront}
 use Rattle.record_cursor.specs.View.{header_view}
 use Rattle.record_format.specs.Probed.{probed}
+use Rattle.file_history.specs.Halving.{probes_along}
 use Rattle.file_history.specs.Leads.{node_along}
 use Rattle.content_log.specs.Told.{fault_of}
 use Rattle.content_log.specs.Text.{last_name, log_text}
@@ -101,6 +102,11 @@ returns-in-Err-clause-pulls g c =
 
 pub returns-in-Ok-Some-clause-counted : goal.returns-in-Ok-Some-clause-counted
 returns-in-Ok-Some-clause-counted g c = λ bytes rules vs a tells stands sound is some. on-ok c.write_leaf.result (c.args.steps.now + length c.args.path.now ≤ c.find_leaf.new.steps) (c.in-Ok-Some.ensures.counted bytes rules vs a tells stands sound is some)
+
+pub returns-in-Ok-Some-clause-exactly : goal.returns-in-Ok-Some-clause-exactly
+returns-in-Ok-Some-clause-exactly g c = λ bytes rules vs a tells stands sound is. (
+    on-ok c.write_leaf.result (c.find_leaf.new.steps ≡ c.args.steps.now + probes_along a (map label_view c.args.path.now))
+    (c.in-Ok-Some.ensures.exactly bytes rules vs a tells stands sound is))
 
 pub returns-in-Ok-Some-clause-told_once : goal.returns-in-Ok-Some-clause-told_once
 returns-in-Ok-Some-clause-told_once g c =

@@ -11,7 +11,7 @@ use Rattle.file_history.specs.View.{span_of, span_in, left_found}
 use Rattle.file_history.specs.declared.open.Found.{Found}
 use Rattle.file_history.proofs.Finding.{found-some}
 use Rattle.file_history.proofs.InRows.{row-later}
-use Rattle.file_history.proofs.Following.{ends, ends-leaf, ends-none, goes-on, few-all, few-row, steps-all, steps-row, reached-row, rest-is, rest-none, onto-of, none-of, found-left}
+use Rattle.file_history.proofs.Following.{ends, ends-leaf, ends-none, goes-on, few-all, few-row, steps-all, steps-row, exact-leaf, exact-none, exact-end, reached-row, rest-is, rest-none, onto-of, none-of, found-left}
 use Rattle.file_history.proofs.Pulls.{but-all, but-trans, reads-trans}
 use Rattle.file_history.proofs.follow.follow.Goals as goal
 
@@ -295,7 +295,7 @@ loop-label-preserved g c =
           (reached-row files name bytes path first ks l.depth l.here l.leaf c.in-Some.inside (pairs_of l.set) rest a b m n c.in-Some.is r) in
           let found = subst (λ (x : Option Found). IsFoundIn bytes (pairs_of l.set) (node_with w (nodes_list r.ks)) x) c.in-Some-answer.is (c.in-Ok.ensures.told bytes (pairs_of l.set) r.ks at) in
           goes-on files name bytes path first ks l.depth c.one_deeper-depth.result l.here l.leaf c.in-Some.inside (pairs_of l.set) (pairs_of c.inherited-set.result) w rest more a b d m n o f c.one_deeper-depth.ensures e c.in-Some.is r
-          (onto-of w r.ks bytes (pairs_of l.set) f (node_with w (nodes_list r.ks)) refl found) c.inherited-set.ensures (c.in-Ok.ensures.few bytes (pairs_of l.set) r.ks at) (c.in-Ok.ensures.steps bytes (pairs_of l.set) r.ks at));
+          (onto-of w r.ks bytes (pairs_of l.set) f (node_with w (nodes_list r.ks)) refl found) c.inherited-set.ensures (c.in-Ok.ensures.few bytes (pairs_of l.set) r.ks at) (c.in-Ok.ensures.steps bytes (pairs_of l.set) r.ks at) (c.in-Ok.ensures.exactly bytes (pairs_of l.set) r.ks at));
     }
 
 pub returns-clause-counted : goal.returns-clause-counted
@@ -303,3 +303,59 @@ returns-clause-counted g c =
     let counted = c.loop-label.invariant.counted in
     let end = c.loop-label-test.false in
     omega (arith, counted, end)
+
+pub returns-in-None-clause-exactly : goal.returns-in-None-clause-exactly
+returns-in-None-clause-exactly g c = λ bytes ks h. (
+    let files = g.F.Folder.files c.args.folder.now in
+    let name = c.args.name.now in
+    let path = map label_view c.args.path.now in
+    let first = pairs_of c.args.parent in
+    let l = c.loop-label in
+    let a = g.F.Folder.numbers c.args.folder.now in
+    let b = g.F.Folder.numbers l.folder in
+    let m = c.args.steps.now in
+    let n = l.steps in
+    let r = l.invariant.told bytes ks h in
+    let w = label_view c.label-item.result in
+    let rest = map label_view (drop l.label-index c.args.path.now) in
+    let more = map label_view (drop (l.label-index + 1) c.args.path.now) in
+    let e = rest-is label_view c.args.path.now l.label-index c.label-item.result (omega (arith, c.loop-label-test.true)) c.label-item.is in
+    exact-leaf files name bytes path first ks l.depth l.here l.leaf (pairs_of l.set) w rest more a b m n e c.in-None.is r)
+
+pub returns-in-None-answer-clause-exactly : goal.returns-in-None-answer-clause-exactly
+returns-in-None-answer-clause-exactly g c = λ bytes ks h. (
+    let files = g.F.Folder.files c.args.folder.now in
+    let name = c.args.name.now in
+    let path = map label_view c.args.path.now in
+    let first = pairs_of c.args.parent in
+    let l = c.loop-label in
+    let a = g.F.Folder.numbers c.args.folder.now in
+    let b = g.F.Folder.numbers l.folder in
+    let m = c.args.steps.now in
+    let n = l.steps in
+    let r = l.invariant.told bytes ks h in
+    let w = label_view c.label-item.result in
+    let rest = map label_view (drop l.label-index c.args.path.now) in
+    let more = map label_view (drop (l.label-index + 1) c.args.path.now) in
+    let e = rest-is label_view c.args.path.now l.label-index c.label-item.result (omega (arith, c.loop-label-test.true)) c.label-item.is in
+    let d = g.F.Folder.numbers c.find.new.folder in
+    let o = c.find.new.steps in
+    let at = row-later files (g.F.Folder.files l.folder) name bytes l.depth (row_view c.in-Some.inside) (pairs_of l.set) r.ks l.invariant.reads.same_files
+    (reached-row files name bytes path first ks l.depth l.here l.leaf c.in-Some.inside (pairs_of l.set) rest a b m n c.in-Some.is r) in
+    let found = subst (λ (x : Option Found). IsFoundIn bytes (pairs_of l.set) (node_with w (nodes_list r.ks)) x) c.in-None-answer.is (c.in-Ok.ensures.told bytes (pairs_of l.set) r.ks at) in
+    exact-none files name bytes path first ks l.depth l.here l.leaf (pairs_of l.set) w rest more a b m n o e r (none-of bytes (pairs_of l.set) (node_with w (nodes_list r.ks)) found) (c.in-Ok.ensures.exactly bytes (pairs_of l.set) r.ks at))
+
+pub returns-clause-exactly : goal.returns-clause-exactly
+returns-clause-exactly g c = λ bytes ks h. (
+    let files = g.F.Folder.files c.args.folder.now in
+    let name = c.args.name.now in
+    let path = map label_view c.args.path.now in
+    let first = pairs_of c.args.parent in
+    let l = c.loop-label in
+    let a = g.F.Folder.numbers c.args.folder.now in
+    let b = g.F.Folder.numbers l.folder in
+    let m = c.args.steps.now in
+    let n = l.steps in
+    let r = l.invariant.told bytes ks h in
+    let rest = map label_view (drop l.label-index c.args.path.now) in
+    exact-end files name bytes path first ks l.depth l.here l.leaf (pairs_of l.set) rest a b m n (rest-none label_view c.args.path.now l.label-index (omega (arith, c.loop-label-test.false))) r)

@@ -51,3 +51,12 @@ returns-in-Ok-clause-pulls g c =
     let h = header_view c.args.header.now in
     most-both 8 (span_of c.in-Ok.row) (h.length - h.first) (g.F.Folder.numbers c.args.folder.now) (g.F.Folder.numbers c.root_row.new.folder) (g.F.Folder.numbers c.follow.new.folder)
     (omega (arith, c.in-Ok.row.ordered, c.in-Ok.ensures.within.0, c.in-Ok.ensures.within.1)) c.in-Ok.ensures.pulls c.follow.ensures.pulls
+
+pub returns-in-Ok-clause-exactly : goal.returns-in-Ok-clause-exactly
+returns-in-Ok-clause-exactly g c = λ bytes a f is. (
+    let h = header_view c.args.header.now in
+    let told = g.F.Folder.files c.args.folder.now in
+    let name = c.args.name.now in
+    let r = root-row told name bytes h a f in
+    let stands = c.in-Ok.ensures.told bytes (row_in h.first (root_pieces a)) (root_pieces a) f.tells r.stands refl r.ends r.tail in
+    c.follow.ensures.exactly bytes a.kids (root-is told (g.F.Folder.files c.root_row.new.folder) name bytes h a (row_view c.in-Ok.row) (pairs_of c.args.all) f c.in-Ok.ensures.reads.same_files is stands))

@@ -94,3 +94,14 @@ returns-in-Ok-clause-counted g c = λ bytes rules vs a tells stands sound is som
     let first : all ≡ upto_pairs a.n = c.upto-all.ensures.pairs ∙ ap upto_pairs f.1 in
     let leads = subst (λ (set : List (ℕ × ℕ)). lead path None set a.kids ≢ None) (sym first) some in
     counted-along bytes path all a.kids c.in-Ok.spot (c.args.steps.now + length c.args.path.now ≤ c.search.new.steps) (c.in-Ok.ensures.told bytes a f.0 first) c.in-Ok.ensures.counted leads)
+
+pub returns-in-Ok-clause-exactly : goal.returns-in-Ok-clause-exactly
+returns-in-Ok-clause-exactly g c = λ bytes rules vs a tells stands sound is. (
+    let h = header_view c.args.header.now in
+    let told = g.F.Folder.files c.args.folder.now in
+    let name = c.args.name.now in
+    let path = map label_view c.args.path.now in
+    let all = pairs_of c.upto-all.result in
+    let s = sound-file told name bytes h rules vs c.requires tells stands sound in
+    let f = sound-archive told name bytes h vs a is s in
+    c.in-Ok.ensures.exactly bytes a f.0 (c.upto-all.ensures.pairs ∙ ap upto_pairs f.1))

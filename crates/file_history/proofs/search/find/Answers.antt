@@ -59,3 +59,14 @@ returns-clause-steps g c = λ bytes parent ks h. (
     let part = row-part told name bytes c.args.depth row parent ks c.in-Ok.count h count in
     c.find_in.ensures.steps bytes parent [] (nodes_list ks) []
     (part-later told (g.F.Folder.files c.count_children.new.folder) name bytes row parent (record { depth = c.args.depth; low = 0; high = c.in-Ok.count; low_at = row.first; high_at = row.end }) [] (nodes_list ks) [] c.in-Ok.ensures.reads.same_files part))
+
+pub returns-clause-exactly : goal.returns-clause-exactly
+returns-clause-exactly g c = λ bytes parent ks h. (
+    let told = g.F.Folder.files c.args.folder.now in
+    let name = c.args.name.now in
+    let row = row_view c.args.row in
+    let ps = node_pieces parent ks in
+    let count = c.in-Ok.ensures.told h.size bytes ps h.tells (row-within told name bytes h.size row ps h.tells h.stands) h.stands (end-dir ps h.records) in
+    let part = row-part told name bytes c.args.depth row parent ks c.in-Ok.count h count in
+    c.find_in.ensures.exactly bytes parent [] (nodes_list ks) []
+    (part-later told (g.F.Folder.files c.count_children.new.folder) name bytes row parent (record { depth = c.args.depth; low = 0; high = c.in-Ok.count; low_at = row.first; high_at = row.end }) [] (nodes_list ks) [] c.in-Ok.ensures.reads.same_files part))

@@ -1,9 +1,24 @@
-use Rattle.std.proofs.Common.{◌-◌, ◌∙◌, arith}
-use Rattle.record_cursor.proofs.Fills.{filled-from, never-short}
+use Rattle.std.proofs.Common.{◌≡◌, ◌-◌, ◌∙◌, [], Some, drop, length-drop, arith}
+use Rattle.std.specs.Int.{w64}
+use Rattle.xa_fields.specs.Reading.{number_at}
+use Rattle.record_cursor.proofs.Fills.{front-length, filled-from, never-short}
 use Rattle.file_rows.specs.StandsAt.{RowLaid}
 use Rattle.file_rows.specs.View.{PlainRow, row_view}
 use Rattle.file_rows.proofs.Children.{filled-of, row-ordered}
+use Rattle.file_rows.specs.declared.places.Row.{Row}
+use Rattle.file_rows.proofs.Fields.{answered}
 use Rattle.file_rows.proofs.rows.root_row.Goals as goal
+
+pub returns-in-Ok-clause-tail : goal.returns-in-Ok-clause-tail
+returns-in-Ok-clause-tail g c = λ bytes tells. (
+    let eight = c.if-size-first-lt-TAIL.false in
+    let size = c.args.size in
+    let piece = drop (size - 8) bytes in
+    let told = g.F.Folder.files c.args.folder.now in
+    let read = filled-from told c.args.name.now bytes size (size - 8) 8 c.fill_part.new.out tells (omega (arith, eight)) (c.in-Ok.ensures.told tells.0 tells.1) in
+    let len = front-length told c.args.name.now bytes size tells in
+    answered (λ (row : Row). number_at w64 piece ≡ Some (row.dir, [])) c.tail_row.result _ c.ok_or.result c.ok_or.ensures.value
+    (c.tail_row.ensures.is piece (omega (arith, len, eight, length-drop (size - 8) bytes)) read))
 
 pub returns-in-Ok-clause-told : goal.returns-in-Ok-clause-told
 returns-in-Ok-clause-told g c = λ bytes row ps tells h f e tail. (
