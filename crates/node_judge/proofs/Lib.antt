@@ -1,0 +1,4 @@
+pub mod Rows
+pub mod Keys
+pub mod InPlaceLaws
+pub mod SoundFiles

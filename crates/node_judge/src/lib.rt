@@ -1,0 +1,6 @@
+//! What holds of each node of a sound archive, said of the node in its place.
+#![tactic(auto)]
+
+mod laws;
+
+pub use laws::nodes_are_sound_in_their_place;
