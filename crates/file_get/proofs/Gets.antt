@@ -1,5 +1,5 @@
 -- Writing a version, as far as a sound archive goes.
-use Rattle.std.proofs.Common.{◌≡◌, ◌≢◌, ℕ, zero, suc, ◌+◌, ◌-◌, ◌<◌, ◌≤◌, List, [], ◌∷◌, ◌++◌, length, drop, Option, Some, None, Result, Ok, Err, IfErr, OnOk, slice_get, refl, sym, ap, subst, ◌∙◌, arith}
+use Rattle.std.proofs.Common.{◌≡◌, ◌≢◌, ℕ, zero, suc, ◌+◌, ◌-◌, ◌<◌, ◌≤◌, List, [], ◌∷◌, ◌++◌, length, drop, Option, Some, None, Result, Ok, Err, IfErr, slice_get, refl, sym, ap, subst, ◌∙◌, arith}
 use Rattle.std.specs.List.{flat_map}
 use Rattle.std.proofs.lemmas.List.{length-append, drop_at}
 use Rattle.key_spec.specs.Data.{PlainRule}
@@ -11,7 +11,7 @@ use Rattle.archive_tree.proofs.OneArchive.{one_archive}
 use Rattle.archive_file.specs.Sound.{SoundAs}
 use Rattle.archive_file.proofs.FrontLaws.{sound-fixed}
 use Rattle.xa_fields.proofs.Fields.{some_is}
-use Rattle.xa_outside.specs.Folder.{Files, front_of}
+use Rattle.xa_outside.specs.Folder.{Files}
 use Rattle.xa_outside.specs.Numbers.{Numbers, PullsAtMost}
 use Rattle.xa_outside.specs.NumberLaws.{PullsAtMost-more, PullsAtMost-trans}
 use Rattle.xa_outside.specs.Taken.{Taken, Puts}
@@ -30,7 +30,7 @@ use Rattle.record_cursor.specs.declared.fault.CursorFault.{CursorFault}
 use Rattle.record_cursor.specs.declared.fault.CursorFault.TheVariants as fault
 use Rattle.record_cursor.proofs.Headers.{header-first}
 use Rattle.file_rows.proofs.Children.{row_in}
-use Rattle.file_get.specs.Told.{IsBehind, IsRefused, IsSound, Judges, Unless, fault_of, is_version, of_cursor}
+use Rattle.file_get.specs.Told.{IsBehind, IsSound, Judges, fault_of, is_version, of_cursor}
 use Rattle.file_get.specs.State.{State, state}
 use Rattle.file_get.specs.Walks.{Prefixed}
 use Rattle.file_get.specs.Roots.{RootTold, TextPut}
@@ -63,11 +63,6 @@ sound-unread o n fault.Damage s h = absurd cc
 sound-unread o n fault.Folder s h = tt
 sound-unread o n fault.Memory s h = tt
 
-refused-unread : (e : CursorFault) → IsRefused (Some (of_cursor e))
-refused-unread fault.Damage = tt
-refused-unread fault.Folder = tt
-refused-unread fault.Memory = tt
-
 pub undamaged-of : {T : Type 0} (r : Result T GetFault) → IsSound (fault_of r) → IfErr r (λ e. e ≢ Damage)
 undamaged-of (Ok x) h = tt
 undamaged-of (Err Damage) h = absurd h
@@ -75,10 +70,6 @@ undamaged-of (Err (NoVersion n)) h = λ e. cc
 undamaged-of (Err Folder) h = λ e. cc
 undamaged-of (Err Out) h = λ e. cc
 undamaged-of (Err Memory) h = λ e. cc
-
-pub exactly-of : {T : Type 0} (r : Result T GetFault) (P : Type 0) → Unless (fault_of r) P → OnOk r P
-exactly-of (Ok x) P h = h
-exactly-of (Err e) P h = tt
 
 pub puts-of : {T : Type 0} (s t : Taken) (r : Result T GetFault) (text : List ℕ) → Prefixed s t (fault_of r) text → Puts s t r text
 puts-of s t (Ok x) text h = h
@@ -113,10 +104,6 @@ module _ {S O : Type 0} (files : S → Option Files) (draft : S → Option (List
   abbrev pub at : S → O → ℕ → State
   at a o n = state files draft numbers faults taken out_faults a o fresh n
 
-  -- a file that is told has so many bytes
-  abbrev IsLong : S → Type 0
-  IsLong a = (fs : Files) → files a ≡ Some fs → front_of fs name size ≡ None → ⊥
-
   few-of : (i : ℕ) (c : PlainArchive) (s t : State) → PullsAtMost 14 s.numbers t.numbers → Few i c s t
   few-of i c s t h = (λ is. PullsAtMost-more 14 (22 + seen c i) s.numbers t.numbers (omega arith) h, λ not. PullsAtMost-more 14 22 s.numbers t.numbers (omega arith) h)
 
@@ -134,20 +121,18 @@ module _ {S O : Type 0} (files : S → Option Files) (draft : S → Option (List
         pulls = inside;
         gained = w.gained;
         nothing = λ n f. TakesNone-refl (taken x);
-        short = λ fs told none. refused-unread e;
         judges = λ bytes tells. judged-unread (fixed bytes) i e (told bytes tells);
         uncounted = λ bytes tells f. TakesNone-refl (taken x);
         undamaged = λ bytes rules vs tells s. sound-unread (fixed bytes) (length vs) e (sound-fixed rules vs bytes s) (told bytes tells);
         text = λ bytes rules vs k tells s is. TakesPrefix-none (taken x) (keyed_text k);
         few = λ bytes rules vs c tells s is. few-of i c (at a x m) (at b x m) pulls;
         steps = λ bytes rules vs c tells s is. omega arith;
-        exact = λ bytes rules vs c tells s is. tt;
       })
 
   -- the archive has no such version
   pub missing : (a b : S) (x : O) (m v : ℕ) → cursor.OnlyReads files draft faults a b None → PullsAtMost 14 (numbers a) (numbers b) → PullsAtMost size (numbers a) (numbers b)
-      → IsLong a → ((bytes : List ℕ) → TellsFront (files a) name size bytes → fixed bytes ≡ Some v) → (is_version i v → ⊥) → Written i name size (at a x m) (at b x m) (Some (NoVersion v))
-  missing a b x m v reads pulls inside long told none = (
+      → ((bytes : List ℕ) → TellsFront (files a) name size bytes → fixed bytes ≡ Some v) → (is_version i v → ⊥) → Written i name size (at a x m) (at b x m) (Some (NoVersion v))
+  missing a b x m v reads pulls inside told none = (
       let w = states.reads files draft numbers faults taken out_faults a b x fresh m m None size reads inside in
       record {
         same_files = w.same_files;
@@ -158,14 +143,12 @@ module _ {S O : Type 0} (files : S → Option Files) (draft : S → Option (List
         pulls = inside;
         gained = w.gained;
         nothing = λ n f. TakesNone-refl (taken x);
-        short = λ fs there few. absurd (long fs there few);
         judges = λ bytes tells. subst (λ (o : Option ℕ). Judges i o (Some (NoVersion v))) (sym (told bytes tells)) (refl, none);
         uncounted = λ bytes tells f. TakesNone-refl (taken x);
         undamaged = λ bytes rules vs tells s. tt;
         text = λ bytes rules vs k tells s is. TakesPrefix-none (taken x) (keyed_text k);
         few = λ bytes rules vs c tells s is. few-of i c (at a x m) (at b x m) pulls;
         steps = λ bytes rules vs c tells s is. omega arith;
-        exact = λ bytes rules vs c tells s is. tt;
       })
 
   -- a fault that is behind the header
@@ -196,11 +179,11 @@ module _ {S O : Type 0} (files : S → Option Files) (draft : S → Option (List
   )
 
   -- the version was written, or not to its end
-  pub written : (a b d : S) (x y : O) (m n v first : ℕ) (e : Option GetFault) → cursor.OnlyReads files draft faults a b None → PullsAtMost 14 (numbers a) (numbers b) → IsLong a → (14 ≤ first) × (first ≤ size)
+  pub written : (a b d : S) (x y : O) (m n v first : ℕ) (e : Option GetFault) → cursor.OnlyReads files draft faults a b None → PullsAtMost 14 (numbers a) (numbers b) → (14 ≤ first) × (first ≤ size)
       → PullsAtMost first (numbers a) (numbers b)
       → ((bytes : List ℕ) → TellsFront (files a) name size bytes → fixed bytes ≡ Some v) → ((bytes : List ℕ) → TellsFront (files a) name size bytes → HasText bytes first) → is_version i v
       → TextPut i name size first (at b x m) (at d y n) e → Written i name size (at a x m) (at d y n) e
-  written a b d x y m n v first e reads pulls long within upto told text is put = (
+  written a b d x y m n v first e reads pulls within upto told text is put = (
       let h : Header a v first = record { within = within; told = told; text = text; is = is } in
       let r = states.reads files draft numbers faults taken out_faults a b x fresh m m None first reads upto in
       let w = states.walks-then (at a x m) (at b x m) (at d y n) e first (size - first) size (let le = within.1 in omega (arith, le)) r put.walks in
@@ -214,12 +197,10 @@ module _ {S O : Type 0} (files : S → Option Files) (draft : S → Option (List
         pulls = w.pulls;
         gained = w.gained;
         nothing = λ j f. absurd (not-missing e j w.behind f);
-        short = λ fs there few. absurd (long fs there few);
         judges = λ bytes tells. subst (λ (o : Option ℕ). Judges i o e) (sym (told bytes tells)) (judged-put v i e is w.behind);
         uncounted = λ bytes tells f. absurd (subst (IsUncounted i) (told bytes tells) f is);
         undamaged = λ bytes rules vs tells s. (let k = has-version a v first h bytes rules vs tells s in let c = s.file.archive in (put.sound bytes (row_in first (root_pieces c)) c k.0 (told-root a b v first same h bytes rules vs c k.0 tells s s.file.is k.1)).0);
         text = λ bytes rules vs k tells s at_i. (let c = s.file.archive in (put.sound bytes (row_in first (root_pieces c)) c k (told-root a b v first same h bytes rules vs c k tells s s.file.is at_i)).1);
         few = λ bytes rules vs c tells s is_c. (let k = has-version a v first h bytes rules vs tells s in few-put a b d x y m n v first c pulls (put.sound bytes (row_in first (root_pieces c)) c k.0 (told-root a b v first same h bytes rules vs c k.0 tells s is_c k.1)).2 (counts a v first h bytes rules vs tells s ∙ is_c.count) is);
         steps = λ bytes rules vs c tells s is_c. (let k = has-version a v first h bytes rules vs tells s in (put.sound bytes (row_in first (root_pieces c)) c k.0 (told-root a b v first same h bytes rules vs c k.0 tells s is_c k.1)).3);
-        exact = λ bytes rules vs c tells s is_c. (let k = has-version a v first h bytes rules vs tells s in (put.sound bytes (row_in first (root_pieces c)) c k.0 (told-root a b v first same h bytes rules vs c k.0 tells s is_c k.1)).4);
       })

@@ -1,8 +1,10 @@
+pub mod Handed
 pub mod ReadBytes
 pub mod States
 pub mod Pens
 pub mod Opened
-pub mod LentContents
+pub mod LentReadings
+pub mod LentElements
 pub mod Leaves
 pub mod Attributes
 pub mod Elements
@@ -15,12 +17,10 @@ pub mod Visiting
 pub mod Rows
 pub mod Looking
 pub mod Openings
+pub mod FixedFields
 pub mod Roots
 pub mod Texts
 pub mod Buffers
 pub mod Wholes
 pub mod Gets
-pub mod AltHeads
-pub mod SetSearch
-pub mod SetLooks
 pub mod Bodies

@@ -1,5 +1,5 @@
 -- Writing the text of a version.
-use Rattle.std.proofs.Common.{◌≡◌, ℕ, ◌+◌, ◌-◌, List, [], ◌∷◌, ◌++◌, take, Option, Some, None, Result, Ok, Err, refl, ap, subst, ◌∙◌, arith}
+use Rattle.std.proofs.Common.{◌≡◌, ℕ, ◌-◌, List, [], ◌∷◌, ◌++◌, take, Option, Some, None, Result, Ok, Err, refl, ap, subst, ◌∙◌, arith}
 use Rattle.xa_outside.specs.Causes.{HasCause}
 use Rattle.xa_outside.specs.Folder.{Files}
 use Rattle.xa_outside.specs.Numbers.{Numbers, IsMeter}
@@ -17,7 +17,6 @@ use Rattle.keyed_tree.specs.Plain.{plain}
 use Rattle.keyed_print.specs.KeyedText.{keyed_text}
 use Rattle.file_get.specs.Told.{IsSound}
 use Rattle.file_get.specs.State.{State}
-use Rattle.record_format.specs.Seen.{steps_for}
 use Rattle.file_get.specs.Walks.{Walks, Prefixed}
 use Rattle.file_get.specs.Roots.{RootPrinted, TextPut}
 use Rattle.file_get.specs.declared.fault.GetFault.{GetFault}
@@ -46,7 +45,6 @@ module _ {S K : Type 0} (files : S → Option Files) (draft : S → Option (List
           TakesPrefix-more (taken k) (taken l) (tree_text (plain v)) (10 ∷ []) (subst (TakesPrefix (taken k) (taken l)) (text-is p v new) s.bytes),
           s.pulls,
           s.steps,
-          tt,
         ));
   }
 
@@ -74,6 +72,5 @@ module _ {S K : Type 0} (files : S → Option Files) (draft : S → Option (List
           ended-out (taken k) (taken l) (taken j) (tree_text (plain v)) (10 ∷ []) r (subst (Takes (taken k) (taken l)) (text-is p v new) s.bytes) puts,
           s.pulls,
           s.steps,
-          states.unless-out r (n ≡ m + steps_for c i) s.exact,
         ));
   }

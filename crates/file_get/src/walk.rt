@@ -15,7 +15,7 @@ use crate::fault::GetFault;
 use crate::look::{Sight, look};
 use crate::print::{print_attribute, print_leaf};
 use crate::read::{Opening, read_opening};
-use crate::span::{Ask, Place, Span, whole_of};
+use crate::span::{Ask, Place, Span};
 use file_rows::{Child, Row, count_children, read_child, row_of};
 use jsonml_text::Printer;
 use record_parts::{DEEPEST, NameView};
@@ -47,7 +47,12 @@ pub(crate) fn print_row<F: Folder, K: Sink, L: Ledger>(
     if count == 0 {
         return Ok(false);
     }
-    let span = whole_of(row, count);
+    let span = Span {
+        at: row.end + (13 + 24 * count as u64),
+        limit: row.end + (9 + row.dir),
+        position: 0,
+        count,
+    };
     let place = Place {
         depth,
         after: row.first,

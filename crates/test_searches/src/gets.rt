@@ -111,29 +111,6 @@ fn a_call_that_fails_is_no_damage(rt: HostRuntime) -> Result<(), Fail> {
     told(is_refused(alloc, ONE, 1, out, 100, 1), "the output")
 }
 
-/// Whether a version is refused as damage in so many first bytes of the file of one version.
-fn is_short(alloc: Global, size: u64, version: u32) -> bool {
-    let Some(mut folder) = folder(alloc, ONE, 100) else {
-        return false;
-    };
-    let mut out = MemSink::new(alloc, Vec::new(alloc));
-    written(alloc, &mut folder, size, version, &mut out) == Err(GetFault::Damage)
-        && out.taken().is_empty()
-        && folder.pulled() == 0
-}
-
-/// More bytes than the file has, and a version.
-const SHORT: &[(u64, u32)] = &[(143, 1), (143, 7), (150, 0), (1 << 40, 1)];
-
-#[test]
-fn a_file_with_fewer_bytes_is_damaged(rt: HostRuntime) -> Result<(), Fail> {
-    for (size, version) in SHORT {
-        let holds = is_short(rt.alloc(), *size, *version);
-        assert!(rt; holds, "version {version} of {size} bytes");
-    }
-    Ok(())
-}
-
 /// What was changed, at which offset, and to which bytes.
 const DAMAGED: &[(&str, usize, &[u8])] = &[
     ("the magic", 0, b"Y"),

@@ -13,5 +13,3 @@ mod gets;
 mod histories;
 #[cfg(test)]
 mod rows;
-#[cfg(test)]
-mod turns;

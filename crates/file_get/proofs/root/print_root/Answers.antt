@@ -4,7 +4,7 @@ use Rattle.file_get.specs.Told.{fault_of, of_cursor}
 use Rattle.file_get.specs.State.{state}
 use Rattle.file_get.specs.Printed.{RowPrinted}
 use Rattle.file_get.specs.Roots.{RootPrinted}
-use Rattle.content_print.proofs.Handed.{at-err}
+use Rattle.file_get.proofs.Handed.{at-err}
 use Rattle.file_get.proofs.Roots.{root-unread, root-printed}
 use Rattle.file_get.proofs.root.print_root.Goals as goal
 

@@ -4,7 +4,7 @@ use Rattle.jsonml_print.specs.Pen.{fresh}
 use Rattle.file_get.specs.Told.{fault_of, of_cursor}
 use Rattle.file_get.specs.State.{state}
 use Rattle.file_get.specs.Written.{Written}
-use Rattle.content_print.proofs.Handed.{at-err}
+use Rattle.file_get.proofs.Handed.{at-err}
 use Rattle.file_get.proofs.Gets.{unread, missing, written}
 use Rattle.file_get.proofs.version.write_version.Goals as goal
 
@@ -27,7 +27,7 @@ returns-then-ask-lt1 g c =
     let a = c.args in
     let o = c.in_ok-fixed in
     let got = o.ensures in
-    missing f.files f.draft f.numbers f.faults k.taken k.faults a.ask.version a.ask.name.now a.size a.folder.now c.read_fixed.new.folder a.out.now a.steps.now o.fixed.versions got.reads got.pulls got.inside got.short got.told
+    missing f.files f.draft f.numbers f.faults k.taken k.faults a.ask.version a.ask.name.now a.size a.folder.now c.read_fixed.new.folder a.out.now a.steps.now o.fixed.versions got.reads got.pulls got.inside got.told
     (λ v. (let least = v.0 in let most = v.1 in omega (arith, least, most, c.then-ask-lt1.either)))
 
 pub returns : goal.returns
@@ -40,5 +40,5 @@ returns g c =
     let first = o.fixed.first in
     let least = got.within.0 in
     written f.files f.draft f.numbers f.faults k.taken k.faults a.ask.version a.ask.name.now a.size a.folder.now c.read_fixed.new.folder c.put_version.new.folder a.out.now c.put_version.new.out a.steps.now c.put_version.new.steps o.fixed.versions first (fault_of c.put_version.result)
-    got.reads got.pulls got.short got.within (PullsAtMost-more 14 first (f.numbers a.folder.now) (f.numbers c.read_fixed.new.folder) (omega (arith, least)) got.pulls) got.told got.text
+    got.reads got.pulls got.within (PullsAtMost-more 14 first (f.numbers a.folder.now) (f.numbers c.read_fixed.new.folder) (omega (arith, least)) got.pulls) got.told got.text
     (omega (arith, c.if-ask-lt1.false), omega (arith, c.if-fixed-ask.false)) c.put_version.ensures
