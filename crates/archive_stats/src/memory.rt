@@ -6,6 +6,7 @@ ghost use Rattle.key_spec.specs.View.{spec_view};
 ghost use Rattle.archive_tree.specs.ArchiveView.{archive_view};
 ghost use Rattle.archive_tree.specs.Data.{PlainArchive};
 ghost use Rattle.archive_tree.specs.Stands.{ArchiveOf};
+ghost use Rattle.record_parts.specs.declared.limits.TheConstants.{MOST_VERSIONS};
 ghost use Rattle.record_format.specs.Files.{FileOf};
 ghost use Rattle.archive_file.specs.KeyedBy.{AreKeyedBy};
 ghost use Rattle.archive_stats.specs.Counted.{IsFileOf};
@@ -27,7 +28,7 @@ const NAME: &str = "archive";
 ///
 /// It encodes the file once, and goes over its records.
 pub fn counts_of(alloc: Global, spec: &Spec, archive: &Archive) -> Result<Counts, AllocError>
-    requires few { (archive_view archive.now).n ≤ 999999 }
+    requires few { (archive_view archive.now).n ≤ MOST_VERSIONS }
     requires keyed { (vs : List PlainKeyed)
         → ArchiveOf vs (archive_view archive.now) → AreKeyedBy (spec_view spec.now) vs }
     requires file { (vs : List PlainKeyed)

@@ -1,7 +1,6 @@
 -- Comparing texts, scalars, names, attributes, contents, items, key values and labels where both stand in bytes.
-use Rattle.std.proofs.Common.{◌≡◌, ◌≢◌, ℕ, zero, suc, ◌-◌, ◌<◌, cond, ltb, ◌^◌, Bool, true, false, pos, negsuc, List, [], drop, Option, Some, None, refl, sym, ap, subst, ◌∙◌}
+use Rattle.std.proofs.Common.{◌≡◌, ◌≢◌, ℕ, zero, suc, ◌-◌, ◌<◌, cond, ltb, ◌^◌, true, false, pos, negsuc, List, [], drop, Option, Some, None, refl, sym, ap, subst, ◌∙◌}
 use Rattle.std.specs.Int.{w32, w64}
-use Rattle.std.specs.Ordering.{is_ne}
 use Rattle.std.specs.declared.cmp.Ordering.{Ordering}
 use Rattle.std.specs.declared.cmp.Ordering.TheVariants.{Less, Equal, Greater}
 use Rattle.std.specs.Cmp.Lexicographic.{slice_cmp}
@@ -9,16 +8,16 @@ use Rattle.jsonml_tree.specs.Data.{PlainScalar, null, boolean, whole, string, Pl
 use Rattle.jsonml_tree.specs.Order.{text_cmp, scalar_cmp, attr_cmp, tree_cmp, content_cmp}
 use Rattle.keyed_tree.specs.Data.{PlainName, attr, tag, PlainKey, scalar, inside, PlainLabel}
 use Rattle.keyed_tree.specs.Order.{name_cmp, key_cmp, label_cmp}
-use Rattle.xa_fields.specs.Reading.{Reader, ◌>>=◌, byte_at, number_at, text_at, many_at, list_at}
+use Rattle.xa_fields.specs.Reading.{Reader, byte_at, number_at, text_at, many_at, list_at}
 use Rattle.xa_fields.proofs.Fields.{bind_some, some_is}
 use Rattle.record_parts.specs.Bounds.{deepest}
 use Rattle.record_parts.specs.Compares.{Compares, ComparesBoth}
 use Rattle.record_parts.specs.Reading.{scalar_of, scalar_at, attr_at, next_attr, attrs_at, content_by, content_at, item_at, item_of, content_below, value_of, value_at, name_of, name_at, label_at}
 use Rattle.record_parts.proofs.Both.{no_ours, no_theirs, both_weaker, both_read_as, both_lent, both_lent_none, Halves, both_wrapped, both_always}
-use Rattle.record_parts.proofs.Compared.{Part, list_is, list_none, attrs_is, attrs_none, unchained, content_splits, element_splits, label_splits, element_above, text_below, item_is, item_none, no_item, value_is, value_none, no_kind, scalar_below, content_above}
+use Rattle.record_parts.proofs.Compared.{list_is, list_none, attrs_is, unchained, content_splits, element_splits, label_splits, element_above, text_below, item_is, no_item, value_is, no_kind, scalar_below, content_above}
 use Rattle.record_parts.proofs.Deep.{none_below, one_below}
 use Rattle.record_parts.proofs.Readers.{passed_some}
-use Rattle.record_parts.proofs.TextOrders.{text_compared, no_text_there, is_text, attr_splits, scalar_is, no_scalar, name_is, no_name, no_name_of}
+use Rattle.record_parts.proofs.TextOrders.{text_compared, no_text_there, is_text, attr_splits, scalar_is, name_is, no_name_of}
 
 -- an answer other than Equal, whatever is read of the other
 unequal : {A : Type 0} (order : A → A → Ordering) (r s : Option (A × List ℕ)) (xs ys : List ℕ) (o : Ordering) (n m : ℕ) → (o ≡ Equal → ⊥) → ((y : A × List ℕ) → s ≡ Some y → Compares (λ x. order x y.0) r xs (Some (o, n))) → ComparesBoth order r s xs ys (Some (o, n, m))

@@ -2,7 +2,7 @@
 use Rattle.std.proofs.Common.{◌≡◌, ℕ, zero, suc, ◌-◌, ◌<◌, ◌≤◌, ◌^◌, ◌&&◌, Bool, true, false, ltb, List, [], ◌∷◌, ◌++◌, length, map, Result, refl, sym, ap, subst, ◌∙◌, arith}
 use Rattle.std.proofs.lemmas.Bool.{lt-ltb}
 use Rattle.std.proofs.lemmas.List.{append-nil, length-map}
-use Rattle.jsonml_tree.specs.Data.{PlainAttr, PlainTree, element, PlainContent, content, only_text, trees_of, list_of}
+use Rattle.jsonml_tree.specs.Data.{PlainAttr, PlainTree, element, PlainContent, only_text, trees_of, list_of}
 use Rattle.jsonml_tree.specs.LentAttrs.{lent_attr_view}
 use Rattle.jsonml_tree.specs.LentView.{lent_items_view, lent_row_view, lent_tree_view}
 use Rattle.jsonml_tree.specs.declared.lent.LentRow.{LentRow}

@@ -16,6 +16,7 @@ use Rattle.archive_tree.proofs.OneArchive.{one_archive}
 use Rattle.record_format.specs.Files.{header_bytes, largest}
 use Rattle.record_format.specs.Spelling.{dir_bytes}
 use Rattle.record_format.specs.Nodes.{dir_of, node_pieces}
+use Rattle.record_parts.specs.declared.limits.TheConstants.{MOST_VERSIONS}
 use Rattle.archive_file.specs.KeyedBy.{IsKeyedBy}
 use Rattle.archive_file.specs.Sound.{SoundAs}
 use Rattle.record_cursor.specs.Items.{items_of}
@@ -75,11 +76,11 @@ module _ (h : PlainHeader) (rules : List PlainRule) (vs : List PlainKeyed) (byte
         gives = subst (λ (p : Standing × List ℕ). Gives p.0 p.1 (items_of old) finished []) (λ i. (sym standing i, drop (sym place i) (sym s.file.spelled i))) gives;
       }
 
-  module _ (keyed : IsKeyedBy h.rules k) (texts : AreTexts (plain k)) (room : h.versions < 999999) where
+  module _ (keyed : IsKeyedBy h.rules k) (texts : AreTexts (plain k)) (room : h.versions < MOST_VERSIONS) where
     own : IsKeyedBy rules k
     own = (let e = heads in subst (λ (rs : List PlainRule). IsKeyedBy rs k) e.rules_are keyed)
 
-    few : old.n < 999999
+    few : old.n < MOST_VERSIONS
     few = (let e = heads in let count = e.count in omega (arith, room, count))
 
     -- the calls that walk the archive with the version
@@ -128,7 +129,7 @@ module _ {S : Type 0} (files : S → Option Files) (draft : S → Option (List �
 
   -- a writer began, and then the nodes were appended
   pub version-then : {T : Type 0} (v : T) (e : Option MergeFault) → IsMeter (numbers old) → Appends files draft numbers count old mid head (Ok v) → writer_view w ≡ started h.rules (h.versions + 1) → from ≡ root_inherited h.versions
-      → h.versions < 999999 → IsKeyedBy h.rules k → AreTexts (plain k) → c.length ≡ h.length → c.standing ≡ among_nodes 0 → c.at ≡ h.first → NodesAppended files draft numbers count from k mid new c w e → VersionAppended files draft numbers count h k old new c e
+      → h.versions < MOST_VERSIONS → IsKeyedBy h.rules k → AreTexts (plain k) → c.length ≡ h.length → c.standing ≡ among_nodes 0 → c.at ≡ h.first → NodesAppended files draft numbers count from k mid new c w e → VersionAppended files draft numbers count h k old new c e
   version-then v e meter did begins root room keyed texts length_is standing at nodes =
       let gains = did.gains in
       let wrote = wrote-all (length head) (numbers old) (numbers mid) meter gains.numbers in

@@ -16,6 +16,7 @@ ghost use Rattle.record_cursor.specs.Places.{among_nodes};
 ghost use Rattle.record_cursor.specs.View.{header_view, IsHeader};
 ghost use Rattle.record_format.specs.Files.{FileOf, header_bytes, largest};
 ghost use Rattle.record_format.specs.Shapes.{IsShapedNode};
+ghost use Rattle.record_parts.specs.declared.limits.TheConstants.{MOST_VERSIONS};
 ghost use Rattle.record_writer.specs.View.{writer_view};
 ghost use Rattle.xa_outside.specs.Causes.{Rose};
 ghost use Rattle.xa_outside.specs.Folder.{committed, emptied, IsBlank, Lengthens};
@@ -84,7 +85,7 @@ pub fn stream_add<F: Folder>(
         → IsHeaderOf (header_view header.now) bytes → SoundAs rules vs bytes
         → IfErr result (λ e. e ≢ Damage) }
 
-    ensures limit { (result ≡ Err Limit) ↔ ((header_view header.now).versions ≡ 999999) }
+    ensures limit { (result ≡ Err Limit) ↔ ((header_view header.now).versions ≡ MOST_VERSIONS) }
     ensures later { F.faults folder.old ≤ F.faults folder.new }
     ensures cause { IfFailed result (Rose (F.faults folder.old) (F.faults folder.new)) }
 
@@ -155,7 +156,7 @@ pub fn stream_append<F: Folder>(
         → IsHeaderOf (header_view header.now) bytes → SoundAs rules vs bytes
         → IfErr result (λ e. e ≢ Damage) }
 
-    ensures limit { (result ≡ Err Limit) ↔ ((header_view header.now).versions ≡ 999999) }
+    ensures limit { (result ≡ Err Limit) ↔ ((header_view header.now).versions ≡ MOST_VERSIONS) }
     ensures later { F.faults folder.old ≤ F.faults folder.new }
     ensures cause { IfFailed result (Rose (F.faults folder.old) (F.faults folder.new)) }
 
@@ -190,7 +191,7 @@ fn append_version<F: Folder>(
     cursor: Cursor,
     new: &LentKeyed<'_, '_>,
 ) -> Result<(), MergeFault>
-    requires room { (header_view header.now).versions < 999999 }
+    requires room { (header_view header.now).versions < MOST_VERSIONS }
     requires within { (header_view header.now).first ≤ (header_view header.now).length }
     requires length { cursor.length ≡ (header_view header.now).length }
     requires standing { cursor.standing ≡ among_nodes 0 }

@@ -7,7 +7,7 @@ use Rattle.xa_fields.specs.Reading.{byte_at, text_at, many_at, list_at}
 use Rattle.record_parts.specs.Reading.{attrs_at, content_at, content_below, item_at, item_of}
 use Rattle.record_parts.proofs.Both.{no_ours, no_theirs, below, both_first_fails, both_first_decides, both_second_decides, both_failed, both_decided, both_go_on, both_ended}
 use Rattle.record_parts.proofs.BothOrders.{a_content, content_halves, element_halves, both_rows, no_row, no_other_row, both_below_none, both_below_goes, both_item_kinds, both_text_items, both_text_element, both_element_text, both_no_item, both_no_other_item}
-use Rattle.record_parts.proofs.Compared.{item_none, no_item, item_is}
+use Rattle.record_parts.proofs.Compared.{item_none}
 use Rattle.record_parts.proofs.order_both.+both.Goals as goal
 
 -- ---- contents

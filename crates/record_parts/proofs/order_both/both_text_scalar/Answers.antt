@@ -1,4 +1,4 @@
-use Rattle.std.proofs.Common.{◌≡◌, rules, drop, Some, None, subst}
+use Rattle.std.proofs.Common.{◌≡◌, drop, Some, subst}
 use Rattle.jsonml_tree.specs.Order.{scalar_cmp}
 use Rattle.xa_fields.specs.Reading.{byte_at}
 use Rattle.record_parts.specs.Reading.{scalar_at, scalar_of}

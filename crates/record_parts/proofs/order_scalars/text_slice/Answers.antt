@@ -1,4 +1,4 @@
-use Rattle.std.proofs.Common.{◌<◌, length, drop, sym, ◌∙◌, ap, take}
+use Rattle.std.proofs.Common.{◌<◌, length, drop, ap, take}
 use Rattle.std.proofs.lemmas.List.{take_rest}
 use Rattle.record_parts.proofs.TextOrders.{text_none, text_cut, text_sliced}
 use Rattle.record_parts.proofs.order_scalars.text_slice.Goals as goal

@@ -1,7 +1,7 @@
 use Rattle.std.proofs.Common.{◌≡◌, ◌-◌, ◌<◌, ◌≤◌, ◌^◌, rules, [], ◌∷◌, length, map, refl, sym, ap, ◌∙◌, arith}
 use Rattle.std.proofs.lemmas.Grind.{common_steps}
 use Rattle.std.specs.Cow.{cow_str_bytes}
-use Rattle.jsonml_tree.specs.Data.{PlainTree, element, only_text, trees_of}
+use Rattle.jsonml_tree.specs.Data.{element, only_text, trees_of}
 use Rattle.jsonml_tree.specs.LentAttrs.{lent_attr_view}
 use Rattle.jsonml_tree.specs.LentView.{lent_items_view, lent_row_view, lent_tree_view}
 use Rattle.jsonml_tree.proofs.LentTrees.{lent_tree_view-Text, lent_tree_view-Leaf, lent_tree_view-Elem}
@@ -9,7 +9,7 @@ use Rattle.xa_fields.specs.Spelling.{list_bytes, text_bytes}
 use Rattle.record_parts.specs.Checks.{attrs_fit, content_fits, item_fits, items_fit, tag_fits, text_fits}
 use Rattle.record_parts.specs.Spelling.{attr_bytes, item_bytes, items_bytes, content_bytes}
 use Rattle.record_parts.proofs.Rows.{row_spells, row_long, row_unfit, element_spells, element_unfit, items_step, only_fits}
-use Rattle.record_parts.proofs.Spelled.{refused, spelled_as, spelled_behind, all_refused, all_go_on}
+use Rattle.record_parts.proofs.Spelled.{refused, spelled_as, spelled_behind, all_refused}
 use Rattle.record_parts.proofs.put_lent.+put.Goals as goal
 
 -- ---- rows

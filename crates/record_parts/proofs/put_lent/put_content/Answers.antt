@@ -1,6 +1,5 @@
 use Rattle.std.proofs.Common.{refl}
 use Rattle.jsonml_tree.specs.Data.{only_text}
-use Rattle.jsonml_tree.specs.LentView.{lent_row_view}
 use Rattle.record_parts.specs.Bounds.{deepest}
 use Rattle.record_parts.specs.Checks.{content_fits, text_fits}
 use Rattle.record_parts.specs.Spelling.{content_bytes}

@@ -1,10 +1,6 @@
 use Rattle.std.proofs.Common.{[], ◌∷◌}
-use Rattle.keyed_tree.specs.Data.{name_bytes}
-use Rattle.keyed_tree.specs.LentView.{shown_name}
 use Rattle.xa_fields.specs.Spelling.{text_bytes}
 use Rattle.record_parts.specs.Checks.{text_fits}
-use Rattle.record_parts.specs.Spelling.{name_spelling}
-use Rattle.record_parts.specs.Spells.{Spells}
 use Rattle.record_parts.proofs.Spelled.{spelled_behind}
 use Rattle.record_parts.proofs.put_lent.put_lent_name.Goals as goal
 

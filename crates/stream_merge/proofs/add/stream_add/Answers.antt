@@ -5,6 +5,7 @@ use Rattle.xa_outside.specs.Causes.{Rose}
 use Rattle.xa_outside.specs.Numbers.{Numbers, PullsAndDrafts, lead}
 use Rattle.record_cursor.specs.View.{header_view}
 use Rattle.record_format.specs.Files.{FileOf}
+use Rattle.record_parts.specs.declared.limits.TheConstants.{MOST_VERSIONS}
 use Rattle.stream_merge.specs.Added.{Added, Overfull, IfTooLong, IfFailed}
 use Rattle.xa_outside.specs.Folder.{Lengthens}
 use Rattle.stream_merge.specs.declared.fault.AddFault.TheVariants.{Damage, Limit}
@@ -28,7 +29,7 @@ returns-in_err-stream_append g c =
       too_long = λ bytes rules vs tells is sound. at-err r.result e.field-0.0 r.ensures.1 (λ r. IfErr r (λ d. IfTooLong d ((file : List ℕ) → ¬ FileOf rules (vs ++ k ∷ []) file))) (v.too_long bytes rules vs tells is sound);
       no_room = λ b file tree. at-err r.result e.field-0.0 r.ensures.1 (λ r. IfErr r (λ d. IfTooLong d (Overfull b h.rules (h.versions + 1) (f.draft now)))) (v.no_room b file tree);
       undamaged = λ bytes rules vs tells is sound. at-err r.result e.field-0.0 r.ensures.1 (λ r. IfErr r (λ d. d ≢ Damage)) (v.undamaged bytes rules vs tells is sound);
-      limit = at-err r.result e.field-0.0 r.ensures.1 (λ r. (r ≡ Err Limit) ↔ (h.versions ≡ 999999)) v.limit;
+      limit = at-err r.result e.field-0.0 r.ensures.1 (λ r. (r ≡ Err Limit) ↔ (h.versions ≡ MOST_VERSIONS)) v.limit;
       later = v.later;
       cause = at-err r.result e.field-0.0 r.ensures.1 (λ r. IfFailed r (Rose (f.faults old) (f.faults now))) v.cause;
       pulls = v.pulls;
