@@ -5,6 +5,9 @@ use record_format::{Dir, Entry};
 use std::alloc::{AllocError, Global};
 use version_set::VersionSet;
 
+/// A row of more children gives its memory back when it is closed.
+const KEPT: usize = 1024;
+
 /// The finished children of a node that stands begun, or of the virtual root.
 #[derive(Drop)]
 pub struct Row {
@@ -51,6 +54,16 @@ impl Row {
         Row { start, dir }
     }
 
+    /// A row without children that has the memory of this one.
+    fn again(self, start: u64) -> Row
+        ensures { row_view result ≡ row_from start }
+    {
+        let mut dir = self.dir;
+        dir.entries.clear();
+        dir.sets.clear();
+        Row { start, dir }
+    }
+
     /// Adds a child from one offset to another, with the length of the body of its END or 0.
     pub fn add(&mut self, begin: u64, end: u64, dir: u64, set: VersionSet) -> Result<(), AllocError>
         requires behind { self.old.start ≤ begin }
@@ -68,6 +81,25 @@ impl Row {
         };
         self.dir.entries.push_reserved(entry);
         self.dir.sets.push_reserved(set);
+        Ok(())
+    }
+
+    /// A row without children, in the memory of one that was kept where there is one.
+    pub fn take(alloc: Global, kept: &mut Vec<Row>, start: u64) -> Row
+        ensures { row_view result ≡ row_from start }
+    {
+        match kept.pop() {
+            Some(row) => row.again(start),
+            None => Row::new(alloc, start),
+        }
+    }
+
+    /// Keeps the memory of a row that is closed, unless it had more than `KEPT` children.
+    pub fn keep(self, kept: &mut Vec<Row>) -> Result<(), AllocError> {
+        if self.dir.entries.len() <= KEPT {
+            kept.reserve(1)?;
+            kept.push_reserved(self.again(0));
+        }
         Ok(())
     }
 }

@@ -1,5 +1,5 @@
 // Spelling the records that a writer appends.
-ghost use Rattle.std.specs.Prelude.{◌≡◌, ◌+◌, ◌-◌, ◌≤◌, ◌<◌, ◌^◌, ◌++◌, [], length, OnOk, true};
+ghost use Rattle.std.specs.Prelude.{◌≡◌, ◌+◌, ◌-◌, ◌≤◌, ◌<◌, ◌^◌, ◌∷◌, ◌++◌, [], length, OnOk, IfOk, true};
 ghost use Rattle.archive_tree.specs.View.{stamp_view};
 ghost use Rattle.keyed_tree.specs.View.{key_view, label_view};
 ghost use Rattle.xa_fields.specs.Spelling.{u64_bytes};
@@ -18,7 +18,7 @@ use crate::fault::WriteFault;
 use crate::given::{BodyFrom, LabelFrom};
 use keyed_tree::{Body, Label};
 use record_format::{
-    ALT, Dir, FRAME, LONGEST, close, is_label, is_value, lend_sets, open, put_end, put_leaf_end,
+    ALT, Dir, FRAME, LEAF_END, LONGEST, close, is_label, is_value, lend_sets, put_end,
 };
 use record_parts::{
     SpellFault, parts_are_of_shape_and_fit, put_label, put_lent_label, put_lent_value, put_stamp,
@@ -109,6 +109,16 @@ fn is_body_shaped(body: &BodyFrom<'_, '_>)
     }
 }
 
+// The kind of a record, and eight bytes for the length of its body, in one piece.
+fn begin(out: &mut Vec<u8>, kind: u8) -> Result<usize, AllocError>
+    ensures ok { OnOk result (out.new.items ≡ out.old.items ++ kind ∷ u64_bytes 0) }
+    ensures at { IfOk result (λ at. at ≡ length out.old.items + 9) }
+{
+    let at = out.len() + FRAME;
+    out.extend_from_slice(&[kind, 0, 0, 0, 0, 0, 0, 0, 0])?;
+    Ok(at)
+}
+
 fn put_opening(
     record: &mut Vec<u8>,
     kind: u8,
@@ -120,7 +130,7 @@ fn put_opening(
         result }
 {
     record.clear();
-    let at = open(record, kind)?;
+    let at = begin(record, kind)?;
     put_label_from(record, label)?;
     put_stamp(record, stamp)?;
     close(record, at);
@@ -136,7 +146,7 @@ fn put_alternative(
         (rec_bytes (alt_rec (stamp_view stamp.now) (given_body body.now))) result }
 {
     record.clear();
-    let at = open(record, ALT)?;
+    let at = begin(record, ALT)?;
     put_stamp(record, stamp)?;
     put_body_from(record, body)?;
     close(record, at);
@@ -188,7 +198,8 @@ pub fn spell_leaf_end(record: &mut Vec<u8>) -> Result<(), AllocError>
     ensures { OnOk result (record.new.items ≡ rec_bytes leaf_end) }
 {
     record.clear();
-    put_leaf_end(record)
+    begin(record, LEAF_END)?;
+    Ok(())
 }
 
 fn put_dir(alloc: Global, record: &mut Vec<u8>, dir: &Dir) -> Result<(), AllocError>

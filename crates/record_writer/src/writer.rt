@@ -34,6 +34,8 @@ pub struct Writer {
     /// The inner nodes that stand begun, the last at the end.
     inners: Vec<Inner>,
     leaf: Option<Leaf>,
+    /// Closed rows whose memory is used again.
+    kept: Vec<Row>,
     /// The bytes of the record that is appended next.
     record: Vec<u8>,
     ghost short: { written ≤ longest },
@@ -203,6 +205,7 @@ impl Writer {
             row: Row::new(alloc, written),
             inners: Vec::new(alloc),
             leaf: None,
+            kept: Vec::new(alloc),
             record,
         })
     }
@@ -352,7 +355,8 @@ impl Writer {
     {
         let set = set.copy()?;
         self.inners.reserve(1)?;
-        let row = mem::replace(&mut self.row, Row::new(self.alloc, end));
+        let fresh = Row::take(self.alloc, &mut self.kept, end);
+        let row = mem::replace(&mut self.row, fresh);
         let begin = self.written;
         self.written = end;
         self.inners.push_reserved(Inner { begin, set, row });
@@ -372,7 +376,8 @@ impl Writer {
         self.written = end;
         match self.inners.pop() {
             Some(inner) => {
-                self.row = inner.row;
+                let closed = mem::replace(&mut self.row, inner.row);
+                closed.keep(&mut self.kept)?;
                 self.row.add(inner.begin, end, dir, inner.set)
             }
             None => Ok(()),
