@@ -2,3 +2,4 @@ pub mod WalkLaws
 pub mod FitLaws
 pub mod CallLaws
 pub mod GivenLaws
+pub mod RunLaws

@@ -2,6 +2,7 @@ pub mod Data
 pub mod Calls
 pub mod Faults
 pub mod Given
+pub mod Runs
 pub mod Rows
 pub mod View
 pub mod Nested

@@ -5,6 +5,7 @@ mod fault;
 mod given;
 mod laws;
 mod rows;
+mod runs;
 mod spell;
 mod writer;
 

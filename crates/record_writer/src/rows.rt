@@ -1,7 +1,9 @@
 // The nodes that stand begun.
 ghost use Rattle.std.specs.Prelude.{◌≡◌, length};
+ghost use Rattle.record_writer.specs.Runs.{sets_of};
 
-use record_format::{Dir, Entry};
+use crate::runs::{Run, add_set};
+use record_format::Entry;
 use std::alloc::{AllocError, Global};
 use version_set::VersionSet;
 
@@ -13,8 +15,10 @@ const KEPT: usize = 1024;
 pub struct Row {
     /// The offset of the first child's first byte.
     pub start: u64,
-    pub dir: Dir,
-    pub ghost paired: { length dir.sets.items ≡ length dir.entries.items },
+    pub entries: Vec<Entry>,
+    /// Their effective sets.
+    pub runs: Vec<Run>,
+    pub ghost paired: { length (sets_of runs.items) ≡ length entries.items },
 }
 
 /// An inner node that stands begun.
@@ -47,21 +51,26 @@ impl Row {
     pub fn new(alloc: Global, start: u64) -> Row
         ensures { row_view result ≡ row_from start }
     {
-        let dir = Dir {
+        Row {
+            start,
             entries: Vec::new(alloc),
-            sets: Vec::new(alloc),
-        };
-        Row { start, dir }
+            runs: Vec::new(alloc),
+        }
     }
 
     /// A row without children that has the memory of this one.
     fn again(self, start: u64) -> Row
         ensures { row_view result ≡ row_from start }
     {
-        let mut dir = self.dir;
-        dir.entries.clear();
-        dir.sets.clear();
-        Row { start, dir }
+        let mut entries = self.entries;
+        let mut runs = self.runs;
+        entries.clear();
+        runs.clear();
+        Row {
+            start,
+            entries,
+            runs,
+        }
     }
 
     /// Adds a child from one offset to another, with the length of the body of its END or 0.
@@ -72,15 +81,14 @@ impl Row {
             ≡ with_child (row_view self.old) begin end dir (pairs_of set)) }
         ensures start { self.new.start ≡ self.old.start }
     {
-        self.dir.entries.reserve(1)?;
-        self.dir.sets.reserve(1)?;
+        self.entries.reserve(1)?;
+        add_set(&mut self.runs, set)?;
         let entry = Entry {
             start: begin - self.start,
             length: end - begin,
             dir,
         };
-        self.dir.entries.push_reserved(entry);
-        self.dir.sets.push_reserved(set);
+        self.entries.push_reserved(entry);
         Ok(())
     }
 
@@ -96,7 +104,7 @@ impl Row {
 
     /// Keeps the memory of a row that is closed, unless it had more than `KEPT` children.
     pub fn keep(self, kept: &mut Vec<Row>) -> Result<(), AllocError> {
-        if self.dir.entries.len() <= KEPT {
+        if self.entries.len() <= KEPT {
             kept.reserve(1)?;
             kept.push_reserved(self.again(0));
         }

@@ -9,16 +9,19 @@ ghost use Rattle.record_parts.specs.Spells.{Spells};
 ghost use Rattle.record_parts.specs.Spelling.{label_bytes, stamp_bytes, value_bytes};
 ghost use Rattle.record_format.specs.Data.{alt_rec, end_rec, leaf_end};
 ghost use Rattle.record_format.specs.Spelling.{dir_bytes, framed, rec_bytes};
-ghost use Rattle.record_format.specs.View.{dir_view};
 ghost use Rattle.record_writer.specs.Given.{given_label, given_body, IsShapedLabelFrom, IsShapedBodyFrom};
 ghost use Rattle.record_format.specs.Files.{longest};
 ghost use Rattle.record_writer.specs.Faults.{Prepares};
+ghost use Rattle.record_writer.specs.Rows.{row_view};
+ghost use Rattle.record_writer.specs.Runs.{sets_of};
 
 use crate::fault::WriteFault;
 use crate::given::{BodyFrom, LabelFrom};
+use crate::rows::Row;
+use crate::runs::lend_runs;
 use keyed_tree::{Body, Label};
 use record_format::{
-    ALT, Dir, FRAME, LEAF_END, LONGEST, close, is_label, is_value, lend_sets, put_end,
+    ALT, FRAME, LEAF_END, LONGEST, close, is_label, is_value, put_end,
 };
 use record_parts::{
     SpellFault, parts_are_of_shape_and_fit, put_label, put_lent_label, put_lent_value, put_stamp,
@@ -202,38 +205,38 @@ pub fn spell_leaf_end(record: &mut Vec<u8>) -> Result<(), AllocError>
     Ok(())
 }
 
-fn put_dir(alloc: Global, record: &mut Vec<u8>, dir: &Dir) -> Result<(), AllocError>
-    requires few { length dir.now.entries.items < 2 ^ 32 }
-    requires paired { length dir.now.sets.items ≡ length dir.now.entries.items }
-    ensures { OnOk result (record.new.items ≡ rec_bytes (end_rec (dir_view dir.now))) }
+fn put_dir(alloc: Global, record: &mut Vec<u8>, row: &Row) -> Result<(), AllocError>
+    requires few { length row.now.entries.items < 2 ^ 32 }
+    requires paired { length (sets_of row.now.runs.items) ≡ length row.now.entries.items }
+    ensures { OnOk result (record.new.items ≡ rec_bytes (end_rec (row_view row.now).dir)) }
 {
     record.clear();
-    let sets = lend_sets(alloc, &dir.sets)?;
-    put_end(record, &dir.entries, &sets)
+    let sets = lend_runs(alloc, &row.runs, row.entries.len())?;
+    put_end(record, &row.entries, &sets)
 }
 
-/// Spells the record that closes an inner node with this directory. The timestamp tree over the
+/// Spells the record that closes an inner node with this row. The timestamp tree over the
 /// sets is built here.
-pub fn spell_end(alloc: Global, record: &mut Vec<u8>, dir: &Dir) -> Result<(), WriteFault>
-    requires { length dir.now.sets.items ≡ length dir.now.entries.items }
-    ensures { Prepares (length dir.now.entries.items < 2 ^ 32)
-        (λ _. record.new.items ≡ rec_bytes (end_rec (dir_view dir.now))) result }
+pub fn spell_end(alloc: Global, record: &mut Vec<u8>, row: &Row) -> Result<(), WriteFault>
+    requires { length (sets_of row.now.runs.items) ≡ length row.now.entries.items }
+    ensures { Prepares (length row.now.entries.items < 2 ^ 32)
+        (λ _. record.new.items ≡ rec_bytes (end_rec (row_view row.now).dir)) result }
 {
-    if dir.entries.len() >= FIELD {
+    if row.entries.len() >= FIELD {
         return Err(WriteFault::TooLong);
     }
-    put_dir(alloc, record, dir)?;
+    put_dir(alloc, record, row)?;
     Ok(())
 }
 
 /// Spells the record that closes the virtual root, and the length of its body behind it.
-pub fn spell_tail(alloc: Global, record: &mut Vec<u8>, dir: &Dir) -> Result<(), WriteFault>
-    requires { length dir.now.sets.items ≡ length dir.now.entries.items }
-    ensures { Prepares (length dir.now.entries.items < 2 ^ 32) (λ _. record.new.items
-        ≡ rec_bytes (end_rec (dir_view dir.now))
-        ++ u64_bytes (length (dir_bytes (dir_view dir.now)))) result }
+pub fn spell_tail(alloc: Global, record: &mut Vec<u8>, row: &Row) -> Result<(), WriteFault>
+    requires { length (sets_of row.now.runs.items) ≡ length row.now.entries.items }
+    ensures { Prepares (length row.now.entries.items < 2 ^ 32) (λ _. record.new.items
+        ≡ rec_bytes (end_rec (row_view row.now).dir)
+        ++ u64_bytes (length (dir_bytes (row_view row.now).dir))) result }
 {
-    spell_end(alloc, record, dir)?;
+    spell_end(alloc, record, row)?;
     let body = body_length(record);
     append_u64(record, body)?;
     Ok(())

@@ -22,8 +22,9 @@ use xa_outside::Folder;
 /// Nodes come in preorder, children by ascending labels: `inner` begins an inner node, `end_inner`
 /// closes the one that was begun last; `leaf` begins a leaf, `alt` adds one of its alternatives, at
 /// least one and in the order of their first versions, `end_leaf` closes it; `finish` comes last. A
-/// writer keeps an entry and the set of each finished child of the nodes that stand begun, and the
-/// bytes of one record. After a call that failed it is of no use.
+/// writer keeps an entry of each finished child of the nodes that stand begun, a set for neighbours
+/// that have the same, and the bytes of one record. It keeps the memory of closed rows of at most
+/// 1,024 children. After a call that failed it is of no use.
 #[derive(Drop)]
 pub struct Writer {
     alloc: Global,
@@ -328,7 +329,7 @@ impl Writer {
         ensures { Prepares (Fits (writer_view self.old) call_end_inner)
             (λ _. IsReady (writer_view self.old) call_end_inner self.new) result }
     {
-        spell_end(self.alloc, &mut self.record, &self.row.dir)?;
+        spell_end(self.alloc, &mut self.record, &self.row)?;
         let end = end_of(self.written, &self.record)?;
         let dir = body_length(&self.record);
         self.pop_inner(end, dir)?;
@@ -339,7 +340,7 @@ impl Writer {
         ensures { Prepares (Fits (writer_view self.old) call_finish)
             (λ _. IsReady (writer_view self.old) call_finish self.new) result }
     {
-        spell_tail(self.alloc, &mut self.record, &self.row.dir)?;
+        spell_tail(self.alloc, &mut self.record, &self.row)?;
         self.written = end_of(self.written, &self.record)?;
         Ok(())
     }
