@@ -22,7 +22,7 @@ use Rattle.archive_tree.proofs.Readings.{all_numbers}
 use Rattle.archive_tree.proofs.Those.{all_those, those_has, passed_is, labelled}
 use Rattle.record_parts.specs.Bounds.{IsStamp, most}
 use Rattle.record_parts.specs.Shapes.{IsShapedValue, IsShapedLabel}
-use Rattle.record_parts.proofs.ShapeLaws.{value_parts, label_parts}
+use Rattle.record_parts.specs.ShapeLaws.{value_parts, label_parts}
 use Rattle.record_format.specs.Bounds.{IsRec}
 use Rattle.record_format.specs.Data.{end_rec, leaf_end}
 use Rattle.record_format.specs.Nodes.{dir_of, alt_of, set_in, node_piece, node_pieces, closed_by_end}

@@ -61,7 +61,8 @@ pub(crate) fn is_directory(
     requires { length entries.now ≡ length nodes.now }
     ensures { IfOk result (λ b. b ≡ (nat_lt (length nodes.now) (2 ^ 32)
         && bytes_eq
-        (dir_bytes (dir_with (map entry_view entries.now) (pairs_of parent.now) (nodes_view nodes.now)))
+        (dir_bytes (dir_with (map entry_view entries.now) (pairs_of parent.now)
+        (nodes_view nodes.now)))
         body.now)) }
 {
     if nodes.len() >= FIELD {

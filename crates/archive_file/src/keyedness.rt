@@ -24,11 +24,11 @@ use keyed_tree::{KeyVal, Name};
 use std::alloc::{AllocError, Global};
 
 /// Whether every version of the archive is the keyed tree of a document that satisfies the keys, with elements at most
-/// 120 deep.
+/// `GREATEST_DEPTH` deep.
 ///
 /// It goes over the nodes and not over the versions: once for their levels, and then once for their labels, with one look
 /// at the rules for each, and each key path by halving at each of its tags. It stops at the first node that does not fit.
-/// Recursion is at most 120 levels deep. It takes no memory, and always answers.
+/// Recursion is at most `GREATEST_DEPTH` levels deep. It takes no memory, and always answers.
 pub fn is_keyed(_alloc: Global, spec: &Spec, archive: &Archive) -> Result<bool, AllocError>
     ensures keyed { (vs : List PlainKeyed) → ArchiveOf vs (archive_view archive.now)
         → IfOk result (λ b. IsTrue b ↔ AreKeyedBy (spec_view spec.now) vs) }

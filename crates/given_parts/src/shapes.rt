@@ -179,7 +179,8 @@ pub fn tree(alloc: Global, shape: &Shape) -> Result<Keyed, AllocError>
 
 #[cycle(trees)]
 fn trees(alloc: Global, shapes: &[Shape]) -> Result<Vec<Keyed>, AllocError>
-    ensures { IfOk result (λ v. IsTrue (are_kids_well_formed (kids_from (map keyed_view v.items)))) }
+    ensures { IfOk result
+        (λ v. IsTrue (are_kids_well_formed (kids_from (map keyed_view v.items)))) }
 {
     let mut kids = Vec::new(alloc);
     for shape in shapes {

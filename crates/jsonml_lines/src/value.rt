@@ -42,7 +42,8 @@ fn line_from(alloc: Global, values: &[Value]) -> Result<Option<Line>, AllocError
 /// The line of a word and the cells that values spell.
 fn line_with(alloc: Global, word: &str, values: &[Value]) -> Result<Option<Line>, AllocError>
     ensures line { IfOk result (λ o. option_map line_view o
-        ≡ option_map (λ ks. record { word = word.now; cells = ks }) (cells_in (items_view values.now))) }
+        ≡ option_map (λ ks. record { word = word.now; cells = ks })
+        (cells_in (items_view values.now))) }
     ensures well_formed { IfOk result (λ o. IfSome o
         (λ l. IsTrue (are_keys_well_formed (map key_view l.cells.items)))) }
 {

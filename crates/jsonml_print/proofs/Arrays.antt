@@ -1,5 +1,5 @@
 -- What the calls of a content print in an array.
-use Rattle.std.proofs.Common.{◌≡◌, List, [], ◌∷◌, ◌++◌, drop, refl, ap}
+use Rattle.std.proofs.Common.{◌≡◌, [], ◌∷◌, ◌++◌, drop, refl, ap}
 use Rattle.jsonml_tree.specs.Data.{text, element, PlainContent, content, no_trees, tree}
 use Rattle.jsonml_print.specs.Printed.{content_text}
 use Rattle.jsonml_print.specs.Pen.{Pen, fresh, opened}

@@ -87,7 +87,8 @@ fn put_member<'a>(
     attrs: &mut Vec<LentAttr<'a>>,
     scratch: &mut Scratch,
 ) -> Option<usize>
-    ensures { IfSome result (λ next. PutsMember text.now at (placed (map lent_attr_view attrs.old.items))
+    ensures { IfSome result (λ next. PutsMember text.now at
+        (placed (map lent_attr_view attrs.old.items))
         (placed (map lent_attr_view attrs.new.items)) next) }
 {
     let (attr, next) = read_attribute(alloc, text, at, scratch)?;

@@ -5,7 +5,7 @@ ghost use Rattle.std.specs.Cmp.Lexicographic.{slice_cmp};
 ghost use Rattle.jsonml_tree.specs.Data.{text, no_trees, only_text, tree};
 ghost use Rattle.jsonml_tree.specs.LentAttrs.{lent_attr_view};
 ghost use Rattle.jsonml_tree.specs.LentView.{lent_content_view, lent_items_view, lent_row_view, lent_tree_view};
-ghost use Rattle.jsonml_tree.specs.Order.{attr_cmp, content_cmp, text_cmp, tree_cmp, trees_cmp};
+ghost use Rattle.jsonml_tree.specs.Order.{attr_cmp, content_cmp, tree_cmp, trees_cmp};
 
 use crate::lent::{LentContent, LentRow, LentTree};
 use crate::lent_attr::LentAttr;

@@ -101,7 +101,8 @@ impl<'a, 't> LentKeyed<'a, 't> {
 
     /// By the labels. It takes no memory.
     pub(crate) fn order(&self, other: &LentKeyed<'_, '_>) -> Ordering
-        ensures { result ≡ label_cmp (label_of (lent_view self.now)) (label_of (lent_view other.now)) }
+        ensures { result
+            ≡ label_cmp (label_of (lent_view self.now)) (label_of (lent_view other.now)) }
     {
         match (self.label(), other.label()) {
             (Some(ours), Some(theirs)) => ours.order(theirs),

@@ -47,7 +47,8 @@ impl<'a> Context<'a> {
         ensures few_paths { IfSome result (λ r. vec_len r.0.now.paths ≤ 16) }
         ensures tag { IfSome result (λ r. string_bytes r.0.now.tag ≡ tag.now) }
         ensures inside { IfSome result (λ r. context_rules r.1 ≡ context_rules self.entry) }
-        ensures path { IfSome result (λ r. context_path r.1 ≡ below (context_path self.entry) tag.now) }
+        ensures path { IfSome result
+            (λ r. context_path r.1 ≡ below (context_path self.entry) tag.now) }
 
         // Where there is no rule for the tag there is none below its elements.
         ensures none { IsNone result

@@ -1,4 +1,4 @@
-ghost use Rattle.std.specs.Prelude.{◌≡◌, ℕ, ◌≤◌, nat_le, List, None, Ok, IsTrue, IfOk, IfErr, IfSome, map, option_map, length, string_bytes, vec_len};
+ghost use Rattle.std.specs.Prelude.{◌≡◌, ℕ, ◌≤◌, nat_le, List, None, Ok, IfOk, IfErr, IfSome, map, option_map, length, string_bytes, vec_len};
 ghost use Rattle.std.specs.Bool.{OnFalse};
 ghost use Rattle.key_spec.specs.Data.{PlainRule};
 ghost use Rattle.key_spec.specs.Canonical.{canonical, spelled_by};

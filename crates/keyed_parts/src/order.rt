@@ -27,7 +27,8 @@ pub(crate) fn order_attr(attr: &LentAttr<'_>, other: &Label) -> Ordering
 /// A name without key values against another name and its key values.
 fn order_alone(ours: &str, theirs: &str, keys: &[KeyVal]) -> Ordering
     ensures { result
-        ≡ ordering_then (text_cmp ours.now theirs.now) (slice_cmp key_cmp [] (map key_view keys.now)) }
+        ≡ ordering_then (text_cmp ours.now theirs.now)
+        (slice_cmp key_cmp [] (map key_view keys.now)) }
 {
     match ours.cmp(theirs) {
         Ordering::Equal if !keys.is_empty() => Ordering::Less,

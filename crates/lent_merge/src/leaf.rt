@@ -29,7 +29,8 @@ pub fn merge_alts(
     requires from { 1 ≤ n }
     requires below { IsTrue (are_alts_below n (map alt_view alts.old.items)) }
     ensures { OnOk result (map alt_view alts.new.items
-        ≡ merged_alts n (pairs_of set.now) (lent_val_view body.entry) (map alt_view alts.old.items)) }
+        ≡ merged_alts n (pairs_of set.now) (lent_val_view body.entry)
+        (map alt_view alts.old.items)) }
 {
     if !mark_alts(n, set, body, alts)? {
         let body = keep_body(alloc, body)?;
@@ -68,7 +69,8 @@ fn mark_alts(
 ) -> Result<bool, AllocError>
     requires below { IsTrue (are_alts_below n (map alt_view alts.old)) }
     ensures marked { OnOk result (map alt_view alts.new
-        ≡ map (merged_alt n (pairs_of set.now) (lent_val_view body.entry)) (map alt_view alts.old)) }
+        ≡ map (merged_alt n (pairs_of set.now) (lent_val_view body.entry))
+        (map alt_view alts.old)) }
     ensures found { IfOk result
         (λ found. found ≡ has_alt (lent_val_view body.entry) (map alt_view alts.old)) }
 {

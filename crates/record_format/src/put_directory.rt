@@ -10,7 +10,17 @@ use crate::rec::Entry;
 use std::alloc::AllocError;
 use timestamp_tree::put_tree;
 use version_set::VersionSet;
-use xa_fields::{append_u32, append_u64};
+use xa_fields::append_u32;
+
+fn spell_entry(entry: &Entry) -> [u8; 24]
+    ensures { result ≡ entry_bytes (entry_view entry.now) }
+{
+    let mut bytes = [0; 24];
+    bytes[..8].copy_from_slice(&entry.start.to_be_bytes());
+    bytes[8..16].copy_from_slice(&entry.length.to_be_bytes());
+    bytes[16..].copy_from_slice(&entry.dir.to_be_bytes());
+    bytes
+}
 
 #[tactic(auto, using(xa_fields::proofs::Combinators::growth))]
 fn put_entry(out: &mut Vec<u8>, entry: &Entry) -> Result<(), AllocError>
@@ -18,9 +28,7 @@ fn put_entry(out: &mut Vec<u8>, entry: &Entry) -> Result<(), AllocError>
         ≡ out.old.items ++ entry_bytes (entry_view entry.now)) }
     ensures grows { Grows out.old.items out.new.items }
 {
-    append_u64(out, entry.start)?;
-    append_u64(out, entry.length)?;
-    append_u64(out, entry.dir)
+    out.extend_from_slice(&spell_entry(entry))
 }
 
 #[tactic(auto, using(xa_fields::proofs::Combinators::growth))]

@@ -18,7 +18,6 @@ use record_parts::{parts_are_of_shape_and_fit, put_label, put_stamp, put_value};
 use std::alloc::{AllocError, Global};
 use timestamp_tree::lend_sets;
 use version_set::VersionSet;
-use xa_fields::{append_u8, append_u64};
 
 /// Appends the kind of a record, and eight bytes for the length of its body, and answers where the
 /// body begins.
@@ -29,8 +28,7 @@ pub fn open(out: &mut Vec<u8>, kind: u8) -> Result<usize, AllocError>
     ensures grows { Grows out.old.items out.new.items }
 {
     let at = out.len() + FRAME;
-    append_u8(out, kind)?;
-    append_u64(out, 0)?;
+    out.extend_from_slice(&[kind, 0, 0, 0, 0, 0, 0, 0, 0])?;
     Ok(at)
 }
 

@@ -9,7 +9,6 @@ pub mod Skips
 pub mod Puts
 pub mod Encodable
 pub mod Sets
-pub mod ShapeLaws
 pub mod Local
 pub mod Leads
 pub mod Compared

@@ -1,5 +1,5 @@
 -- The eight bytes of a number are those of what is left of it at 64 bits.
-use Rattle.std.proofs.Common.{◌≡◌, ℕ, ◌^◌, ◌/◌, ◌%◌, List, ◌∷◌, [], arith}
+use Rattle.std.proofs.Common.{◌≡◌, ℕ, ◌^◌, ◌/◌, ◌%◌, ◌∷◌, [], arith}
 use Rattle.xa_fields.specs.Spelling.{u64_bytes}
 
 pub u64_bytes-wrapped : (n : ℕ) → u64_bytes (n % 2 ^ 64) ≡ u64_bytes n

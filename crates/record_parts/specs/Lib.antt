@@ -1,6 +1,7 @@
 pub mod Spelling
 pub mod Bounds
 pub mod Shapes
+pub mod ShapeLaws
 pub mod Checks
 pub mod Reading
 pub mod Shown

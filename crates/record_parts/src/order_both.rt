@@ -6,7 +6,7 @@ ghost use Rattle.jsonml_tree.specs.Order.{attr_cmp, content_cmp, scalar_cmp, tex
 ghost use Rattle.keyed_tree.specs.Order.{key_cmp, label_cmp, name_cmp};
 ghost use Rattle.xa_fields.specs.Reading.{many_at, text_at};
 ghost use Rattle.record_parts.specs.Compares.{ComparesBoth};
-ghost use Rattle.record_parts.specs.Reading.{attr_at, attrs_at, content_at, content_below, item_at, item_of, label_at, name_at, scalar_at, scalar_of, value_at, value_of};
+ghost use Rattle.record_parts.specs.Reading.{attr_at, attrs_at, content_at, content_below, item_at, item_of, label_at, name_at, scalar_at, scalar_of, value_at};
 
 use crate::lent::scalar_of_kind;
 use crate::limits::DEEPEST;

@@ -100,13 +100,6 @@ impl Spelled {
     {
         self.lend().same_lent(other)
     }
-
-    /// The body that it spells.
-    pub fn copy(&self, alloc: Global) -> Result<Body, AllocError>
-        ensures { IfOk result (λ b. key_view b ≡ spelled_view self.now) }
-    {
-        self.lend().copy(alloc)
-    }
 }
 
 impl KeptBody {

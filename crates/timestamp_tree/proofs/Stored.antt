@@ -1,10 +1,10 @@
 -- The bytes of a stored node, of which some stand before others.
 use Rattle.std.proofs.Common.{◌≡◌, ℕ, zero, suc, ◌+◌, ◌*◌, ◌<◌, ◌≤◌, false, ltb, List, [], ◌∷◌, ◌++◌, length, take, drop, Option, Some, None, refl, sym, ap, subst, ◌∙◌, arith}
 use Rattle.std.specs.Int.{Width, w32, w64, byte_len, from_be_bytes}
-use Rattle.std.proofs.lemmas.Bool.{le-ltb, ltb-false}
+use Rattle.std.proofs.lemmas.Bool.{le-ltb}
 use Rattle.std.proofs.lemmas.List.{take-append-le, drop-append-le, take-append-drop, drop-drop, length-drop, length-append, length-take, take-take}
 use Rattle.xa_fields.specs.Reading.{◌>>=◌, number_at, both_at, chain_at, chained_at}
-use Rattle.xa_fields.specs.FieldLaws.{bind_some, guard_some, none_unless, number_sizes, some_is}
+use Rattle.xa_fields.specs.FieldLaws.{bind_some, none_unless, number_sizes, some_is}
 use Rattle.timestamp_tree.specs.Bytes.{stored}
 use Rattle.timestamp_tree.specs.Reading.{pair_at, next_pair, set_at, stored_at}
 use Rattle.timestamp_tree.specs.Nodes.{parts_at}

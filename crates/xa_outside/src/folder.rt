@@ -72,7 +72,37 @@ pub trait Folder {
 }
 
 /// Reads a file from an offset until the buffer is full or the file ends.
+#[inline]
 pub fn fill_at<F: Folder>(
+    folder: &mut F,
+    name: &str,
+    at: u64,
+    buf: &mut [u8],
+) -> Result<usize, Failed>
+    requires { at + length buf.old < 2 ^ 64 }
+    ensures bound { ReadsAtMost result buf.new }
+    ensures bytes { IfOk result (λ n.
+        FillsFrom (F.files folder.old) name.now at (take n buf.new) (length buf.new)) }
+    ensures files { F.files folder.new ≡ F.files folder.old }
+    ensures draft { F.draft folder.new ≡ F.draft folder.old }
+    ensures numbers { Pulls (F.numbers folder.old) (F.numbers folder.new) result (length buf.old) }
+    ensures cause { HasCause (F.faults folder.old) (F.faults folder.new) result }
+{
+    if buf.is_empty() {
+        return Ok(0);
+    }
+    let count = folder.read_at(name, at, buf)?;
+    if count == 0 || count == buf.len() {
+        return Ok(count);
+    }
+    let more = fill_rest(folder, name, at + count as u64, &mut buf[count..])?;
+    Ok(count + more)
+}
+
+/// Reads on from an offset until the buffer is full or the file ends.
+#[cold]
+#[inline(never)]
+fn fill_rest<F: Folder>(
     folder: &mut F,
     name: &str,
     at: u64,

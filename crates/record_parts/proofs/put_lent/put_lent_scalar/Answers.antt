@@ -1,7 +1,7 @@
 use Rattle.std.proofs.Common.{sym, ◌∙◌}
 use Rattle.jsonml_tree.specs.LentAttrs.{lent_scalar_view}
 use Rattle.record_parts.proofs.Encodable.{scalar_there}
-use Rattle.record_parts.proofs.ShapeLaws.{scalar_fit}
+use Rattle.record_parts.specs.ShapeLaws.{scalar_fit}
 use Rattle.record_parts.proofs.put_lent.put_lent_scalar.Goals as goal
 
 pub put_scalar-requires : goal.put_scalar-requires

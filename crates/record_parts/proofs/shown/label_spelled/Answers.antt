@@ -2,7 +2,7 @@ use Rattle.std.proofs.Common.{arith}
 use Rattle.xa_fields.specs.Reading.{whole}
 use Rattle.record_parts.specs.Reading.{label_at}
 use Rattle.record_parts.specs.ShownViews.{label_in}
-use Rattle.record_parts.proofs.ShapeLaws.{label_parts}
+use Rattle.record_parts.specs.ShapeLaws.{label_parts}
 use Rattle.record_parts.proofs.ShownParts.{label_spelled, label_is}
 use Rattle.record_parts.proofs.shown.label_spelled.Goals as goal
 

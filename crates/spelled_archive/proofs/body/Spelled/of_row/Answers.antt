@@ -1,4 +1,4 @@
-use Rattle.std.proofs.Common.{◌≡◌, inl, inr, rules, ◌∙◌}
+use Rattle.std.proofs.Common.{◌≡◌, rules, ◌∙◌}
 use Rattle.jsonml_tree.specs.LentView.{lent_row_view}
 use Rattle.keyed_tree.specs.Data.{inside}
 use Rattle.spelled_archive.proofs.Bodies.{appended_is, appended_valid}

@@ -1,4 +1,4 @@
-use Rattle.std.proofs.Common.{length, take, subst, sym}
+use Rattle.std.proofs.Common.{subst, sym}
 use Rattle.std.proofs.Math.Seq.{take-length}
 use Rattle.xa_outside.specs.Taken.{Takes}
 use Rattle.xa_outside.specs.Buffered.{buffered_taken}

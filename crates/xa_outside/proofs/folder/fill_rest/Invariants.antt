@@ -1,7 +1,7 @@
 use Rattle.std.proofs.Common.{◌-◌, ◌≤◌, ◌≡◌, take, length}
 use Rattle.xa_outside.specs.Numbers.{after_pull}
 use Rattle.xa_outside.proofs.Fronts.{StandsAt}
-use Rattle.xa_outside.proofs.folder.fill_at.Given as goal
+use Rattle.xa_outside.proofs.folder.fill_rest.Given as goal
 
 abbrev pub invariant-loop-done : goal.invariant-loop-done
 invariant-loop-done g l =

@@ -1,5 +1,5 @@
 -- What has an encoding is in shape and fits, and what is in shape and fits has one.
-use Rattle.std.proofs.Common.{◌↔◌, ℕ, pos, negsuc, List, [], ◌∷◌}
+use Rattle.std.specs.Prelude.{◌↔◌, ℕ, pos, negsuc, List, [], ◌∷◌}
 use Rattle.std.specs.List.{AllByRecursion}
 use Rattle.std.specs.Str.{IsUtf8}
 use Rattle.jsonml_tree.specs.Data.{PlainScalar, null, boolean, whole, string, PlainAttr, PlainTree, text, element, PlainContent, content, PlainTrees, no_trees, tree}
