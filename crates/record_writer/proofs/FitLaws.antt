@@ -9,7 +9,7 @@ use Rattle.keyed_tree.specs.Data.{PlainLabel}
 use Rattle.archive_tree.specs.Data.{Stamp, PlainAlt, PlainNode, inner_node, leaf_node, PlainNodes, no_nodes, node, PlainArchive}
 use Rattle.xa_fields.specs.Spelling.{u64_bytes}
 use Rattle.record_parts.specs.Bounds.{IsSet}
-use Rattle.record_parts.proofs.ShapeLaws.{value_parts, label_parts}
+use Rattle.record_parts.specs.ShapeLaws.{value_parts, label_parts}
 use Rattle.record_format.specs.Data.{PlainDir, inner_rec, leaf_rec, end_rec, leaf_end}
 use Rattle.record_format.specs.Spelling.{dir_bytes, rec_bytes}
 use Rattle.record_format.specs.Bounds.{IsDir, IsRec}

@@ -1,5 +1,5 @@
 -- What is prepared, where a given label or body was spelled or not.
-use Rattle.std.proofs.Common.{◌≡◌, ◌↔◌, ◌≢◌, ℕ, Bool, true, false, IsTrue, List, ◌++◌, Result, Ok, Err, sym, ap, subst, ◌∙◌, true≢false}
+use Rattle.std.proofs.Common.{◌≡◌, ◌↔◌, ℕ, Bool, true, false, IsTrue, List, ◌++◌, Result, Ok, Err, sym, ap, ◌∙◌, true≢false}
 use Rattle.record_parts.specs.Spells.{Spells}
 use Rattle.record_parts.specs.declared.fault.SpellFault.{SpellFault}
 use Rattle.record_parts.specs.declared.fault.SpellFault.TheVariants as spell

@@ -2,7 +2,10 @@ pub mod Data
 pub mod Calls
 pub mod Faults
 pub mod Given
+pub mod Places
+pub mod Plans
 pub mod Rows
+pub mod Ends
 pub mod View
 pub mod Nested
 pub mod Walks

@@ -1,9 +1,12 @@
 //! Writing an archive file into the draft of a folder, record by record.
 #![tactic(auto)]
 
+mod end;
 mod fault;
 mod given;
 mod laws;
+mod places;
+mod plan;
 mod rows;
 mod spell;
 mod writer;

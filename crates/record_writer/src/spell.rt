@@ -1,15 +1,13 @@
 // Spelling the records that a writer appends.
-ghost use Rattle.std.specs.Prelude.{◌≡◌, ◌+◌, ◌-◌, ◌≤◌, ◌<◌, ◌^◌, ◌++◌, [], length, OnOk, true};
+ghost use Rattle.std.specs.Prelude.{◌≡◌, ◌+◌, ◌-◌, ◌≤◌, ◌++◌, [], length, OnOk, true};
 ghost use Rattle.archive_tree.specs.View.{stamp_view};
 ghost use Rattle.keyed_tree.specs.View.{key_view, label_view};
-ghost use Rattle.xa_fields.specs.Spelling.{u64_bytes};
 ghost use Rattle.record_parts.specs.Checks.{label_fits, value_fits};
 ghost use Rattle.record_parts.specs.Shapes.{FitsLabel, FitsValue, IsShapedLabel, IsShapedValue};
 ghost use Rattle.record_parts.specs.Spells.{Spells};
 ghost use Rattle.record_parts.specs.Spelling.{label_bytes, stamp_bytes, value_bytes};
-ghost use Rattle.record_format.specs.Data.{alt_rec, end_rec, leaf_end};
-ghost use Rattle.record_format.specs.Spelling.{dir_bytes, framed, rec_bytes};
-ghost use Rattle.record_format.specs.View.{dir_view};
+ghost use Rattle.record_format.specs.Data.{alt_rec, leaf_end};
+ghost use Rattle.record_format.specs.Spelling.{framed, rec_bytes};
 ghost use Rattle.record_writer.specs.Given.{given_label, given_body, IsShapedLabelFrom, IsShapedBodyFrom};
 ghost use Rattle.record_format.specs.Files.{longest};
 ghost use Rattle.record_writer.specs.Faults.{Prepares};
@@ -17,16 +15,13 @@ ghost use Rattle.record_writer.specs.Faults.{Prepares};
 use crate::fault::WriteFault;
 use crate::given::{BodyFrom, LabelFrom};
 use keyed_tree::{Body, Label};
-use record_format::{
-    ALT, Dir, FRAME, LONGEST, close, is_label, is_value, lend_sets, open, put_end, put_leaf_end,
-};
+use record_format::{ALT, FRAME, LONGEST, close, is_label, is_value, open, put_leaf_end};
 use record_parts::{
     SpellFault, parts_are_of_shape_and_fit, put_label, put_lent_label, put_lent_value, put_stamp,
     put_value,
 };
-use std::alloc::{AllocError, Global};
+use std::alloc::AllocError;
 use version_set::VersionSet;
-use xa_fields::{FIELD, append_u64};
 
 // Appends what a record lends.
 fn put_old(out: &mut Vec<u8>, bytes: &[u8]) -> Result<(), SpellFault>
@@ -193,43 +188,6 @@ pub fn spell_leaf_end(record: &mut Vec<u8>) -> Result<(), AllocError>
     put_leaf_end(record)
 }
 
-fn put_dir(alloc: Global, record: &mut Vec<u8>, dir: &Dir) -> Result<(), AllocError>
-    requires few { length dir.now.entries.items < 2 ^ 32 }
-    requires paired { length dir.now.sets.items ≡ length dir.now.entries.items }
-    ensures { OnOk result (record.new.items ≡ rec_bytes (end_rec (dir_view dir.now))) }
-{
-    record.clear();
-    let sets = lend_sets(alloc, &dir.sets)?;
-    put_end(record, &dir.entries, &sets)
-}
-
-/// Spells the record that closes an inner node with this directory. The timestamp tree over the
-/// sets is built here.
-pub fn spell_end(alloc: Global, record: &mut Vec<u8>, dir: &Dir) -> Result<(), WriteFault>
-    requires { length dir.now.sets.items ≡ length dir.now.entries.items }
-    ensures { Prepares (length dir.now.entries.items < 2 ^ 32)
-        (λ _. record.new.items ≡ rec_bytes (end_rec (dir_view dir.now))) result }
-{
-    if dir.entries.len() >= FIELD {
-        return Err(WriteFault::TooLong);
-    }
-    put_dir(alloc, record, dir)?;
-    Ok(())
-}
-
-/// Spells the record that closes the virtual root, and the length of its body behind it.
-pub fn spell_tail(alloc: Global, record: &mut Vec<u8>, dir: &Dir) -> Result<(), WriteFault>
-    requires { length dir.now.sets.items ≡ length dir.now.entries.items }
-    ensures { Prepares (length dir.now.entries.items < 2 ^ 32) (λ _. record.new.items
-        ≡ rec_bytes (end_rec (dir_view dir.now))
-        ++ u64_bytes (length (dir_bytes (dir_view dir.now)))) result }
-{
-    spell_end(alloc, record, dir)?;
-    let body = body_length(record);
-    append_u64(record, body)?;
-    Ok(())
-}
-
 /// The length of the body of the record.
 pub fn body_length(record: &[u8]) -> u64
     ensures { result ≡ length record.now - 9 }
@@ -239,13 +197,18 @@ pub fn body_length(record: &[u8]) -> u64
 
 /// How many bytes there are behind the record, where they are not too many.
 pub fn end_of(written: u64, record: &[u8]) -> Result<u64, WriteFault>
-    requires { written ≤ longest }
     ensures { Prepares (written + length record.now ≤ longest)
         (λ end. end ≡ written + length record.now) result }
 {
-    let end = written + record.len() as u64;
-    if end > LONGEST {
+    end_after(written, record.len() as u64)
+}
+
+/// How many bytes there are behind so many more, where they are not too many.
+pub fn end_after(written: u64, more: u64) -> Result<u64, WriteFault>
+    ensures { Prepares (written + more ≤ longest) (λ end. end ≡ written + more) result }
+{
+    if more > LONGEST || written > LONGEST - more {
         return Err(WriteFault::TooLong);
     }
-    Ok(end)
+    Ok(written + more)
 }

@@ -1,14 +1,16 @@
 // Writing the records of a file.
-ghost use Rattle.std.specs.Prelude.{◌≡◌, ◌≢◌, ◌≤◌, [], length, None, Err, IfErr, IfOk, OnOk};
+ghost use Rattle.std.specs.Prelude.{◌≡◌, ◌≢◌, ◌+◌, ◌≤◌, ◌<◌, ◌^◌, [], length, None, Err, IfErr, IfOk, OnOk};
 ghost use Rattle.record_format.specs.Files.{longest};
 ghost use Rattle.record_writer.specs.Nested.{IsNested, IsNested-prop};
-ghost use Rattle.record_writer.specs.Rows.{held};
+ghost use Rattle.record_writer.specs.Rows.{above_leaf, held};
 
+use crate::end::{plan_end, spell_end, spell_tail};
 use crate::fault::WriteFault;
 use crate::given::{BodyFrom, LabelFrom};
+use crate::plan::TreeNode;
 use crate::rows::{Inner, Leaf, Row};
 use crate::spell::{
-    body_length, end_of, spell_alternative, spell_end, spell_leaf_end, spell_opening, spell_tail,
+    body_length, end_after, end_of, spell_alternative, spell_leaf_end, spell_opening,
 };
 use key_spec::Spec;
 use record_format::{INNER, LEAF, put_header};
@@ -22,8 +24,9 @@ use xa_outside::Folder;
 /// Nodes come in preorder, children by ascending labels: `inner` begins an inner node, `end_inner`
 /// closes the one that was begun last; `leaf` begins a leaf, `alt` adds one of its alternatives, at
 /// least one and in the order of their first versions, `end_leaf` closes it; `finish` comes last. A
-/// writer keeps an entry and the set of each finished child of the nodes that stand begun, and the
-/// bytes of one record. After a call that failed it is of no use.
+/// writer keeps an entry of each finished child of the nodes that stand begun and its place in a list
+/// of sets, in which no two neighbours are the same, and the bytes and the plan of one record. After
+/// a call that failed it is of no use.
 #[derive(Drop)]
 pub struct Writer {
     alloc: Global,
@@ -34,9 +37,14 @@ pub struct Writer {
     /// The inner nodes that stand begun, the last at the end.
     inners: Vec<Inner>,
     leaf: Option<Leaf>,
+    /// Closed rows whose memory is used again.
+    kept: Vec<Row>,
+    /// The nodes of the timestamp tree that is written next.
+    nodes: Vec<TreeNode>,
     /// The bytes of the record that is appended next.
     record: Vec<u8>,
     ghost short: { written ≤ longest },
+    ghost placed: { above_leaf leaf ≤ length row.sets.items },
     ghost nested: { IsNested (held written row inners.items leaf) } by { IsNested-prop (held written row inners.items leaf) },
 }
 
@@ -46,12 +54,13 @@ impl Writer {
     ghost use Rattle.key_spec.specs.View.{spec_view};
     ghost use Rattle.archive_tree.specs.View.{stamp_view};
     ghost use Rattle.record_format.specs.Files.{header_bytes};
-    ghost use Rattle.record_format.specs.Spelling.{dir_bytes};
+    ghost use Rattle.record_format.specs.Data.{end_rec};
+    ghost use Rattle.record_format.specs.Spelling.{dir_bytes, rec_bytes};
     ghost use Rattle.record_writer.specs.Data.{call_inner, call_leaf, call_alt, call_end_leaf, call_end_inner, call_finish};
     ghost use Rattle.record_writer.specs.Calls.{appended, after, started, inner_begun, inner_ended, leaf_ended, Fits};
     ghost use Rattle.record_writer.specs.Faults.{TooLongUnless, Appends, Prepares, IsSent};
     ghost use Rattle.record_writer.specs.Given.{given_label, given_body, IsShapedLabelFrom, IsShapedBodyFrom};
-    ghost use Rattle.record_writer.specs.View.{writer_view, IsReady};
+    ghost use Rattle.record_writer.specs.View.{writer_view, IsLaid, IsReady};
     ghost use Rattle.record_writer.specs.declared.fault.WriteFault.TheVariants.{TooLong};
 
     /// Appends the header of a file of so many versions. A header is never too long.
@@ -158,8 +167,8 @@ impl Writer {
 
     /// Closes the inner node that was begun last. It becomes a child of the row that it stands in.
     ///
-    /// The timestamp tree over its children's sets is built here: so many steps as there are pairs
-    /// in the sets, for each of its levels.
+    /// The timestamp tree over its children's sets is planned here: so many steps as there are pairs
+    /// in the sets, for each of its levels. Nothing is spelled of a record that would be too long.
     pub fn end_inner<F: Folder>(&mut self, folder: &mut F) -> Result<(), WriteFault>
         requires no_leaf { (writer_view self.old).leaf ≡ None }
         requires inner { (writer_view self.old).inners ≢ [] }
@@ -197,12 +206,16 @@ impl Writer {
         let mut record = Vec::new(alloc);
         put_header(alloc, &mut record, spec, versions)?;
         let written = record.len() as u64;
+        let mut row = Row::new(alloc, written);
+        row.place(&VersionSet::upto(alloc, versions))?;
         Ok(Writer {
             alloc,
             written,
-            row: Row::new(alloc, written),
+            row,
             inners: Vec::new(alloc),
             leaf: None,
+            kept: Vec::new(alloc),
+            nodes: Vec::new(alloc),
             record,
         })
     }
@@ -262,7 +275,8 @@ impl Writer {
         stamp: &Option<VersionSet>,
         set: &VersionSet,
     ) -> Result<(), WriteFault>
-        requires { IsShapedLabelFrom label.now }
+        requires no_leaf { (writer_view self.old).leaf ≡ None }
+        requires label { IsShapedLabelFrom label.now }
         ensures { Prepares (Fits (writer_view self.old)
             (call_leaf (given_label label.now) (stamp_view stamp.now) (pairs_of set.now)))
             (λ _. IsReady (writer_view self.old)
@@ -271,9 +285,10 @@ impl Writer {
     {
         spell_opening(&mut self.record, LEAF, label, stamp)?;
         let end = end_of(self.written, &self.record)?;
+        let set = self.row.place(set)?;
         self.leaf = Some(Leaf {
             begin: self.written,
-            set: set.copy()?,
+            set,
         });
         self.written = end;
         Ok(())
@@ -325,20 +340,36 @@ impl Writer {
         ensures { Prepares (Fits (writer_view self.old) call_end_inner)
             (λ _. IsReady (writer_view self.old) call_end_inner self.new) result }
     {
-        spell_end(self.alloc, &mut self.record, &self.row.dir)?;
-        let end = end_of(self.written, &self.record)?;
+        let end = self.lay(0)?;
+        spell_end(&mut self.record, &self.row, &mut self.nodes)?;
         let dir = body_length(&self.record);
         self.pop_inner(end, dir)?;
         Ok(())
     }
 
     fn close_root(&mut self) -> Result<(), WriteFault>
+        requires { (writer_view self.old).leaf ≡ None }
         ensures { Prepares (Fits (writer_view self.old) call_finish)
             (λ _. IsReady (writer_view self.old) call_finish self.new) result }
     {
-        spell_tail(self.alloc, &mut self.record, &self.row.dir)?;
-        self.written = end_of(self.written, &self.record)?;
+        let end = self.lay(8)?;
+        spell_tail(&mut self.record, &self.row, &mut self.nodes)?;
+        self.written = end;
         Ok(())
+    }
+
+    // Where the record ends that closes the row, with so many bytes behind it. Nothing is spelled.
+    fn lay(&mut self, tail: u64) -> Result<u64, WriteFault>
+        requires no_leaf { (writer_view self.old).leaf ≡ None }
+        requires tail { tail ≤ 8 }
+        ensures { Prepares ((length (writer_view self.old).row.dir.entries < 2 ^ 32)
+            × (self.old.written + (length (rec_bytes (end_rec (writer_view self.old).row.dir))
+            + tail) ≤ longest))
+            (λ end. IsLaid (writer_view self.old) self.new × (end ≡ self.old.written
+            + (length (rec_bytes (end_rec (writer_view self.old).row.dir)) + tail))) result }
+    {
+        let size = plan_end(&mut self.row, &mut self.nodes)?;
+        end_after(self.written + tail, size)
     }
 
     // The inner node begins where the writer stands, and its row behind the record that ends here.
@@ -350,12 +381,18 @@ impl Writer {
             ≡ inner_begun (writer_view self.old) (pairs_of set.now) end) }
         ensures record { self.new.record.items ≡ self.old.record.items }
     {
-        let set = set.copy()?;
+        let place = self.row.place(set)?;
         self.inners.reserve(1)?;
-        let row = mem::replace(&mut self.row, Row::new(self.alloc, end));
+        let mut fresh = Row::take(self.alloc, &mut self.kept, end);
+        fresh.place(set)?;
+        let row = mem::replace(&mut self.row, fresh);
         let begin = self.written;
         self.written = end;
-        self.inners.push_reserved(Inner { begin, set, row });
+        self.inners.push_reserved(Inner {
+            begin,
+            set: place,
+            row,
+        });
         Ok(())
     }
 
@@ -372,7 +409,8 @@ impl Writer {
         self.written = end;
         match self.inners.pop() {
             Some(inner) => {
-                self.row = inner.row;
+                let closed = mem::replace(&mut self.row, inner.row);
+                closed.keep(&mut self.kept);
                 self.row.add(inner.begin, end, dir, inner.set)
             }
             None => Ok(()),

@@ -57,6 +57,31 @@ const NESTED: &[u8] = b"\
     \0\0\0\0\0\0\0\0\0\0\0\0\0\x017\0\0\0\0\0\0\0p\0\0\0\x01\0\0\0\x01\0\0\0\x02\0\0\0\0\0\0\0\0\
     \0\0\0\0\0\0\00";
 
+/// Two versions of an element `db` with six empty leaves: `a` and `d` inherit, the second version
+/// alone has `b`, `c` and `f`, and the first `e`.
+const WIDE: &[u8] = b"\
+    XARC1\n\0\0\0h(/, (db, {}))\n(/db, (a, {}))\n(/db, (b, {}))\n(/db, (c, {}))\n(/db, (d, {}))\n(\
+    /db, (e, {}))\n(/db, (f, {}))\n\0\0\0\x02\x01\0\0\0\0\0\0\0\x0c\x01\0\0\0\x02db\0\0\0\0\0\x02\
+    \0\0\0\0\0\0\0\x0b\x01\0\0\0\x01a\0\0\0\0\0\x03\0\0\0\0\0\0\0\n\0\x01\0\0\0\0\0\0\0\0\x05\0\0\
+    \0\0\0\0\0\0\x02\0\0\0\0\0\0\0\x17\x01\0\0\0\x01b\0\0\0\0\x01\0\0\0\x01\0\0\0\x02\0\0\0\x02\
+    \x03\0\0\0\0\0\0\0\n\0\x01\0\0\0\0\0\0\0\0\x05\0\0\0\0\0\0\0\0\x02\0\0\0\0\0\0\0\x17\x01\0\0\0\
+    \x01c\0\0\0\0\x01\0\0\0\x01\0\0\0\x02\0\0\0\x02\x03\0\0\0\0\0\0\0\n\0\x01\0\0\0\0\0\0\0\0\x05\
+    \0\0\0\0\0\0\0\0\x02\0\0\0\0\0\0\0\x0b\x01\0\0\0\x01d\0\0\0\0\0\x03\0\0\0\0\0\0\0\n\0\x01\0\0\
+    \0\0\0\0\0\0\x05\0\0\0\0\0\0\0\0\x02\0\0\0\0\0\0\0\x17\x01\0\0\0\x01e\0\0\0\0\x01\0\0\0\x01\0\
+    \0\0\x01\0\0\0\x01\x03\0\0\0\0\0\0\0\n\0\x01\0\0\0\0\0\0\0\0\x05\0\0\0\0\0\0\0\0\x02\0\0\0\0\0\
+    \0\0\x17\x01\0\0\0\x01f\0\0\0\0\x01\0\0\0\x01\0\0\0\x02\0\0\0\x02\x03\0\0\0\0\0\0\0\n\0\x01\0\
+    \0\0\0\0\0\0\0\x05\0\0\0\0\0\0\0\0\x04\0\0\0\0\0\0\x01p\0\0\0\x06\0\0\0\0\0\0\0\0\0\0\0\0\0\0\
+    \00\0\0\0\0\0\0\0\0\0\0\0\0\0\0\00\0\0\0\0\0\0\0<\0\0\0\0\0\0\0\0\0\0\0\0\0\0\0l\0\0\0\0\0\0\0\
+    <\0\0\0\0\0\0\0\0\0\0\0\0\0\0\0\xa8\0\0\0\0\0\0\00\0\0\0\0\0\0\0\0\0\0\0\0\0\0\0\xd8\0\0\0\0\0\
+    \0\0<\0\0\0\0\0\0\0\0\0\0\0\0\0\0\x01\x14\0\0\0\0\0\0\0<\0\0\0\0\0\0\0\0\0\0\0\x01\0\0\0\x01\0\
+    \0\0\x02\0\0\0\0\0\0\0d\0\0\0\x01\0\0\0\x01\0\0\0\x02\0\0\0\0\0\0\0<\0\0\0\x01\0\0\0\x01\0\0\0\
+    \x02\0\0\0\0\0\0\0\x14\0\0\0\x01\0\0\0\x01\0\0\0\x02\0\0\0\0\0\0\0\0\0\0\0\x01\0\0\0\x02\0\0\0\
+    \x02\0\0\0\0\0\0\0\0\0\0\0\x01\0\0\0\x02\0\0\0\x02\0\0\0\0\0\0\0\0\0\0\0\x01\0\0\0\x01\0\0\0\
+    \x02\0\0\0\0\0\0\0<\0\0\0\x01\0\0\0\x01\0\0\0\x02\0\0\0\0\0\0\0\x14\0\0\0\x01\0\0\0\x01\0\0\0\
+    \x02\0\0\0\0\0\0\0\0\0\0\0\x01\0\0\0\x01\0\0\0\x01\0\0\0\0\0\0\0\0\0\0\0\x01\0\0\0\x02\0\0\0\
+    \x02\0\0\0\0\0\0\0\0\x04\0\0\0\0\0\0\00\0\0\0\x01\0\0\0\0\0\0\0\0\0\0\0\0\0\0\x02\xde\0\0\0\0\
+    \0\0\x01p\0\0\0\x01\0\0\0\x01\0\0\0\x02\0\0\0\0\0\0\0\0\0\0\0\0\0\0\00";
+
 /// The first version alone, the second alone, or both.
 #[derive(Clone, Copy, Drop)]
 pub(crate) enum Versions {
@@ -109,6 +134,51 @@ const CHILDREN: &[Node] = &[Node(
                 (Some(Versions::First), Some("y")),
                 (Some(Versions::Second), Some("z")),
             ]),
+        ),
+    ]),
+)];
+
+/// Children that inherit between those that store, and neighbours with the same set.
+const SIBLINGS: &[Node] = &[Node(
+    "db",
+    None,
+    Versions::Both,
+    Below::Nodes(&[
+        Node(
+            "a",
+            None,
+            Versions::Both,
+            Below::Alternatives(&[(None, None)]),
+        ),
+        Node(
+            "b",
+            Some(Versions::Second),
+            Versions::Second,
+            Below::Alternatives(&[(None, None)]),
+        ),
+        Node(
+            "c",
+            Some(Versions::Second),
+            Versions::Second,
+            Below::Alternatives(&[(None, None)]),
+        ),
+        Node(
+            "d",
+            None,
+            Versions::Both,
+            Below::Alternatives(&[(None, None)]),
+        ),
+        Node(
+            "e",
+            Some(Versions::First),
+            Versions::First,
+            Below::Alternatives(&[(None, None)]),
+        ),
+        Node(
+            "f",
+            Some(Versions::Second),
+            Versions::Second,
+            Below::Alternatives(&[(None, None)]),
         ),
     ]),
 )];
@@ -378,4 +448,13 @@ fn lent_parts_are_written_as_they_stand(rt: HostRuntime) -> Result<(), Fail> {
 fn children_stand_in_the_directory_of_their_parent(rt: HostRuntime) -> Result<(), Fail> {
     let rules = b"(/, (db, {}))\n(/db, (a, {}))\n(/db, (b, {}))\n".as_slice();
     made(rt.alloc(), rules, 2, CHILDREN, NESTED)
+}
+
+#[test]
+fn each_child_has_its_own_set_in_the_directory(rt: HostRuntime) -> Result<(), Fail> {
+    let rules = b"\
+        (/, (db, {}))\n(/db, (a, {}))\n(/db, (b, {}))\n(/db, (c, {}))\n(/db, (d, {}))\n\
+        (/db, (e, {}))\n(/db, (f, {}))\n"
+        .as_slice();
+    made(rt.alloc(), rules, 2, SIBLINGS, WIDE)
 }

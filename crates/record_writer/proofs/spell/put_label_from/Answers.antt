@@ -1,4 +1,3 @@
-use Rattle.std.proofs.Common.{sym, ap, subst}
 use Rattle.record_parts.specs.ShownViews.{shown_label}
 use Rattle.record_writer.proofs.GivenLaws.{old-spelled}
 use Rattle.record_writer.proofs.spell.put_label_from.Goals as goal
