@@ -35,7 +35,7 @@ use Rattle.file_get.specs.declared.read.Opening.{Opening}
 use Rattle.file_get.specs.declared.fault.GetFault.{GetFault}
 use Rattle.file_get.specs.declared.fault.GetFault.TheVariants.{Damage, Out}
 use Rattle.file_get.proofs.Opened.{eff-members, alts-told, attr-leaf}
-use Rattle.file_get.proofs.LentReadings.{content-read}
+use Rattle.file_get.proofs.LentContents.{content-read}
 use Rattle.file_get.proofs.Pens.{stands-attribute}
 use Rattle.file_get.proofs.States.{walks-none, walks-then, walks-damage, shows-then}
 use Rattle.file_get.proofs.States as states

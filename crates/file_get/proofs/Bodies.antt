@@ -41,7 +41,7 @@ use Rattle.file_get.specs.Inside.{AltsTold, AltIs, SetIs, head_bytes}
 use Rattle.file_get.specs.Kids.{some_has}
 use Rattle.file_get.specs.declared.body.Alternative.{Alternative}
 use Rattle.file_get.proofs.Opened.{eff-members}
-use Rattle.file_get.proofs.ReadBytes.{past-end}
+use Rattle.std.proofs.lemmas.List.{drop_all}
 use Rattle.file_get.proofs.Openings.{body-stands}
 use Rattle.file_get.specs.LeafBodies.{whole_inside, body_view, body_found}
 use Rattle.file_get.specs.declared.value.Body.{Body}
@@ -263,7 +263,7 @@ module _ (bytes rest : List ℕ) where
 
     pub scalar-whole : byte_at bytes ≡ Some (0, rest) → scalar_at rest ≡ Some (s, drop n all) → length all ≤ n → whole value_at bytes ≡ Some (scalar s)
     unfolding whole value_at value_of
-    scalar-whole kind h le = (let end = past-end n all le in rw (kind, h, end) refl)
+    scalar-whole kind h le = (let end = drop_all n all le in rw (kind, h, end) refl)
 
   abbrev inside-of : PlainContent × List ℕ → Option (PlainKey × List ℕ)
   inside-of c = Some (inside c.0, c.1)

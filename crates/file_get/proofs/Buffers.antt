@@ -1,5 +1,5 @@
 -- Writing the text of a version through a buffer.
-use Rattle.std.proofs.Common.{◌≡◌, ℕ, ◌≤◌, List, [], take, Option, Some, None, Result, Ok, Err, OnOk, sym, ap, subst, arith}
+use Rattle.std.proofs.Common.{◌≡◌, ℕ, ◌+◌, ◌≤◌, List, [], take, Option, Some, None, Result, Ok, Err, OnOk, sym, ap, subst, arith}
 use Rattle.xa_outside.specs.Causes.{HasCause}
 use Rattle.xa_outside.specs.Folder.{Files}
 use Rattle.xa_outside.specs.Numbers.{Numbers}
@@ -11,7 +11,8 @@ use Rattle.xa_outside.specs.declared.Failed.{Failed}
 use Rattle.xa_outside.specs.declared.buffered.Buffered.{Buffered}
 use Rattle.jsonml_print.specs.Pen.{fresh}
 use Rattle.std.specs.Result.{IsErrAnd}
-use Rattle.file_get.proofs.Handed.{at-err}
+use Rattle.record_format.specs.Seen.{steps_for}
+use Rattle.content_print.proofs.Handed.{at-err}
 use Rattle.file_get.specs.Told.{IsCaused, IsBehind, IsSound, fault_of}
 use Rattle.file_get.specs.State.{State, state}
 use Rattle.file_get.specs.Walks.{Prefixed}
@@ -59,6 +60,7 @@ module _ {S O : Type 0} (files : S → Option Files) (draft : S → Option (List
       let ends : out_faults used.out.now ≡ out_faults y = ap out_faults (sym last) in
       let begins = ap out_faults same in
       record {
+        short = h.short;
         walks = record {
           same_files = w.same_files;
           same_draft = w.same_draft;
@@ -69,7 +71,7 @@ module _ {S O : Type 0} (files : S → Option Files) (draft : S → Option (List
           pulls = w.pulls;
           gained = gained-of (taken x) (taken y) g.0 (through made used x y g.0 same none last (TakesPrefix-all (buffered_taken taken made) (buffered_taken taken used) g.0 g.1));
         };
-        sound = λ bytes row c v r. (let s = h.sound bytes row c v (record { tells = r.tells; stands = r.stands; begins = r.begins; ends = r.ends; tail = r.tail; records = r.records; nested = r.nested; bodies = r.bodies; one = r.one; fits = r.fits; element = r.element; some = r.some }) in (s.0, through made used x y _ same none last s.1, s.2, s.3));
+        sound = λ bytes row c v r. (let s = h.sound bytes row c v (record { tells = r.tells; stands = r.stands; begins = r.begins; ends = r.ends; tail = r.tail; records = r.records; nested = r.nested; bodies = r.bodies; one = r.one; fits = r.fits; element = r.element; some = r.some }) in (s.0, through made used x y _ same none last s.1, s.2, s.3, tt));
       })
 
   put-through : {T : Type 0} (made used flushed : Buffered O) (x y : O) (piece : List ℕ) (r : Result T Failed) → made.out.now ≡ x → waiting_bytes made ≡ [] → y ≡ flushed.out.now → Takes (buffered_taken taken made) (buffered_taken taken used) piece
@@ -102,6 +104,7 @@ module _ {S O : Type 0} (files : S → Option Files) (draft : S → Option (List
       let ends : out_faults flushed.out.now ≡ out_faults y = ap out_faults (sym last) in
       let begins = ap out_faults same in
       record {
+        short = λ fs there none. absurd (h.short fs there none);
         walks = record {
           same_files = w.same_files;
           same_draft = w.same_draft;
@@ -112,7 +115,7 @@ module _ {S O : Type 0} (files : S → Option Files) (draft : S → Option (List
           pulls = w.pulls;
           gained = gained-of (taken x) (taken y) g.0 (through made flushed x y g.0 same none last (TakesPrefix-all (buffered_taken taken made) (buffered_taken taken flushed) g.0 (Takes-kept (buffered_taken taken made) (buffered_taken taken used) (buffered_taken taken flushed) g.0 g.1 kept)));
         };
-        sound = λ bytes row c v z. (let s = h.sound bytes row c v (record { tells = z.tells; stands = z.stands; begins = z.begins; ends = z.ends; tail = z.tail; records = z.records; nested = z.nested; bodies = z.bodies; one = z.one; fits = z.fits; element = z.element; some = z.some }) in (sound-out r, put-through made used flushed x y _ r same none last s.1 kept empty, s.2, s.3));
+        sound = λ bytes row c v z. (let s = h.sound bytes row c v (record { tells = z.tells; stands = z.stands; begins = z.begins; ends = z.ends; tail = z.tail; records = z.records; nested = z.nested; bodies = z.bodies; one = z.one; fits = z.fits; element = z.element; some = z.some }) in (sound-out r, put-through made used flushed x y _ r same none last s.1 kept empty, s.2, s.3, states.unless-out r (n ≡ m + steps_for c i) s.4));
       })
 
   pub unflushed-on : {T : Type 0} (z : Result T GetFault) (e : GetFault) → IsErrAnd z (λ d. d ≡ e) → (a b : S) (made used : Buffered O) (x y : O) (m n : ℕ) → made.out.now ≡ x → waiting_bytes made ≡ [] → y ≡ used.out.now → TextPut i name size first (inner a made m) (inner b used n) (Some e)

@@ -14,6 +14,7 @@ use Rattle.keyed_print.proofs.KeyedCalls.{calls-named}
 use Rattle.keyed_tree.specs.Data.{PlainName, attr, tag, PlainKey, PlainLabel, PlainKeyed, inner, leaf, label_of, name_bytes}
 use Rattle.keyed_tree.specs.Plain.{plain}
 use Rattle.record_parts.specs.Shown.{shown_name}
+use Rattle.record_parts.specs.declared.limits.TheConstants.{DEEPEST}
 use Rattle.keyed_tree.specs.Proper.{is_tag, is_content}
 use Rattle.archive_tree.specs.Data.{PlainNode, node_label}
 use Rattle.archive_tree.specs.Read.{read}
@@ -135,7 +136,7 @@ module _ (i : ℕ) (name : List ℕ) (child : PlainChild) (o : Opening) (depth :
         ));
   }
 
-  stands-by : {T : Type 0} (r : Result T Failed) (x y : Taken) (p q : Pen) → depth ≤ 120 → depth + 1 ≤ p.depth → Prints x y p q (end ∷ []) r → IfOk (ended_by r) (λ h. StandsIn depth h q)
+  stands-by : {T : Type 0} (r : Result T Failed) (x y : Taken) (p q : Pen) → depth ≤ DEEPEST → depth + 1 ≤ p.depth → Prints x y p q (end ∷ []) r → IfOk (ended_by r) (λ h. StandsIn depth h q)
   stands-by (Ok v) x y p q few more h = stands-ended depth p q few more h.pen
   stands-by (Err v) x y p q few more h = tt
 
@@ -144,7 +145,7 @@ module _ (i : ℕ) (name : List ℕ) (child : PlainChild) (o : Opening) (depth :
   one (Err v) b e = tt
 
   -- the element was printed, and its end or a part of it
-  pub element-printed : {T : Type 0} (s t u v : State) (r : Result T Failed) → s.files ≡ t.files → depth ≤ 120 → shown_name o.name ≡ tag text → Walks 0 s t None → Shows (begin text ∷ []) 0 0 s t None → InsidePrinted i name child o depth t u None
+  pub element-printed : {T : Type 0} (s t u v : State) (r : Result T Failed) → s.files ≡ t.files → depth ≤ DEEPEST → shown_name o.name ≡ tag text → Walks 0 s t None → Shows (begin text ∷ []) 0 0 s t None → InsidePrinted i name child o depth t u None
       → Walks 0 u v (states.out_fault r) → Shows (end ∷ []) 0 0 u v (states.out_fault r) → Prints u.taken v.taken u.pen v.pen (end ∷ []) r → OpenedPrinted i name child o depth has_item s v (ended_by r)
   element-printed s t u v r same few named walk show h back last-show prints = (
       let e = fault_of (ended_by r) in

@@ -1,5 +1,5 @@
 -- Writing a version, as far as a sound archive goes.
-use Rattle.std.proofs.Common.{◌≡◌, ◌≢◌, ℕ, zero, suc, ◌+◌, ◌-◌, ◌<◌, ◌≤◌, List, [], ◌∷◌, ◌++◌, length, drop, Option, Some, None, Result, Ok, Err, IfErr, slice_get, refl, sym, ap, subst, ◌∙◌, arith}
+use Rattle.std.proofs.Common.{◌≡◌, ◌≢◌, ℕ, zero, suc, ◌+◌, ◌-◌, ◌<◌, ◌≤◌, List, [], ◌∷◌, ◌++◌, length, drop, Option, Some, None, Result, Ok, Err, IfErr, IfOk, OnOk, slice_get, refl, sym, ap, subst, ◌∙◌, arith}
 use Rattle.std.specs.List.{flat_map}
 use Rattle.std.proofs.lemmas.List.{length-append, drop_at}
 use Rattle.key_spec.specs.Data.{PlainRule}
@@ -11,7 +11,7 @@ use Rattle.archive_tree.proofs.OneArchive.{one_archive}
 use Rattle.archive_file.specs.Sound.{SoundAs}
 use Rattle.archive_file.proofs.FrontLaws.{sound-fixed}
 use Rattle.xa_fields.proofs.Fields.{some_is}
-use Rattle.xa_outside.specs.Folder.{Files}
+use Rattle.xa_outside.specs.Folder.{Files, front, front_of}
 use Rattle.xa_outside.specs.Numbers.{Numbers, PullsAtMost}
 use Rattle.xa_outside.specs.NumberLaws.{PullsAtMost-more, PullsAtMost-trans}
 use Rattle.xa_outside.specs.Taken.{Taken, Puts}
@@ -30,7 +30,8 @@ use Rattle.record_cursor.specs.declared.fault.CursorFault.{CursorFault}
 use Rattle.record_cursor.specs.declared.fault.CursorFault.TheVariants as fault
 use Rattle.record_cursor.proofs.Headers.{header-first}
 use Rattle.file_rows.proofs.Children.{row_in}
-use Rattle.file_get.specs.Told.{IsBehind, IsSound, Judges, fault_of, is_version, of_cursor}
+use Rattle.file_rows.proofs.Fields.{has-front}
+use Rattle.file_get.specs.Told.{IsBehind, IsSound, Judges, Unless, fault_of, is_version, of_cursor}
 use Rattle.file_get.specs.State.{State, state}
 use Rattle.file_get.specs.Walks.{Prefixed}
 use Rattle.file_get.specs.Roots.{RootTold, TextPut}
@@ -38,6 +39,7 @@ use Rattle.file_get.specs.Written.{Few, IsUncounted, Written}
 use Rattle.file_get.specs.declared.fault.GetFault.{GetFault}
 use Rattle.file_get.specs.declared.fault.GetFault.TheVariants.{NoVersion, Damage, Folder, Out, Memory}
 use Rattle.file_get.proofs.Wholes.{root_told}
+use Rattle.file_get.proofs.States.{refused-unread}
 use Rattle.file_get.proofs.States as states
 
 -- ---- what is answered
@@ -71,9 +73,18 @@ undamaged-of (Err Folder) h = λ e. cc
 undamaged-of (Err Out) h = λ e. cc
 undamaged-of (Err Memory) h = λ e. cc
 
+pub exactly-of : {T : Type 0} (r : Result T GetFault) (P : Type 0) → Unless (fault_of r) P → OnOk r P
+exactly-of (Ok x) P h = h
+exactly-of (Err e) P h = tt
+
 pub puts-of : {T : Type 0} (s t : Taken) (r : Result T GetFault) (text : List ℕ) → Prefixed s t (fault_of r) text → Puts s t r text
 puts-of s t (Ok x) text h = h
 puts-of s t (Err e) text h = h
+
+-- a file that has so many bytes has a front of so many
+pub none-long : {T : Type 0} (r : Result T CursorFault) (file : List ℕ) (n : ℕ) → OnOk r (n ≤ length file) → front n file ≡ None → IfOk r (λ x. ⊥)
+none-long (Ok x) file n h none = has-front file n h none
+none-long (Err e) file n h none = tt
 
 -- ---- sound archives
 
@@ -104,11 +115,39 @@ module _ {S O : Type 0} (files : S → Option Files) (draft : S → Option (List
   abbrev pub at : S → O → ℕ → State
   at a o n = state files draft numbers faults taken out_faults a o fresh n
 
-  few-of : (i : ℕ) (c : PlainArchive) (s t : State) → PullsAtMost 14 s.numbers t.numbers → Few i c s t
-  few-of i c s t h = (λ is. PullsAtMost-more 14 (22 + seen c i) s.numbers t.numbers (omega arith) h, λ not. PullsAtMost-more 14 22 s.numbers t.numbers (omega arith) h)
+  -- a file that is told has so many bytes
+  abbrev IsLong : S → Type 0
+  IsLong a = (fs : Files) → files a ≡ Some fs → front_of fs name size ≡ None → ⊥
 
-  -- the header was not read
-  pub unread : (a b : S) (x : O) (m : ℕ) (e : CursorFault) → cursor.OnlyReads files draft faults a b (Some e) → PullsAtMost 14 (numbers a) (numbers b) → PullsAtMost size (numbers a) (numbers b)
+  few-of : (i : ℕ) (c : PlainArchive) (s t : State) → PullsAtMost 22 s.numbers t.numbers → Few i c s t
+  few-of i c s t h = (λ is. PullsAtMost-more 22 (22 + seen c i) s.numbers t.numbers (omega arith) h, λ not. h)
+
+  rose : (a b d : ℕ) (e : Option CursorFault) → a ≤ b → cursor.IsCause b d e → cursor.IsCause a d e
+  rose a b d None le h = tt
+  rose a b d (Some fault.Damage) le h = tt
+  rose a b d (Some fault.Folder) le h = omega (arith, le, h)
+  rose a b d (Some fault.Memory) le h = tt
+
+  -- the header was read, and then the last byte, or not
+  pub reads-both : (a b d : S) (e : Option CursorFault) → cursor.OnlyReads files draft faults a b None → cursor.OnlyReads files draft faults b d e → cursor.OnlyReads files draft faults a d e
+  reads-both a b d e h g = record {
+    same_files = g.same_files ∙ h.same_files;
+    same_draft = g.same_draft ∙ h.same_draft;
+    later = (let x = h.later in let y = g.later in omega (arith, x, y));
+    cause = rose (faults a) (faults b) (faults d) e h.later g.cause;
+  }
+
+  pub both-few : (a b d : S) → PullsAtMost 14 (numbers a) (numbers b) → PullsAtMost 1 (numbers b) (numbers d) → PullsAtMost 22 (numbers a) (numbers d)
+  both-few a b d h g = PullsAtMost-more 15 22 (numbers a) (numbers d) (omega arith) (PullsAtMost-trans 14 1 (numbers a) (numbers b) (numbers d) h g)
+
+  pub both-inside : (a b d : S) (first : ℕ) → (14 ≤ first) × (first ≤ size) → PullsAtMost 14 (numbers a) (numbers b) → PullsAtMost (size - first) (numbers b) (numbers d) → PullsAtMost size (numbers a) (numbers d)
+  both-inside a b d first fits h g = (
+      let least = fits.0 in
+      let most = fits.1 in
+      PullsAtMost-more (14 + (size - first)) size (numbers a) (numbers d) (omega (arith, least, most)) (PullsAtMost-trans 14 (size - first) (numbers a) (numbers b) (numbers d) h g))
+
+  -- the header was not read, or not the last byte of a file without that version
+  pub unread : (a b : S) (x : O) (m : ℕ) (e : CursorFault) → cursor.OnlyReads files draft faults a b (Some e) → PullsAtMost 22 (numbers a) (numbers b) → PullsAtMost size (numbers a) (numbers b)
       → ((bytes : List ℕ) → TellsFront (files a) name size bytes → IfDamage e (fixed bytes ≡ None)) → Written i name size (at a x m) (at b x m) (Some (of_cursor e))
   unread a b x m e reads pulls inside told = (
       let w = states.reads files draft numbers faults taken out_faults a b x fresh m m (Some e) size reads inside in
@@ -121,18 +160,20 @@ module _ {S O : Type 0} (files : S → Option Files) (draft : S → Option (List
         pulls = inside;
         gained = w.gained;
         nothing = λ n f. TakesNone-refl (taken x);
+        short = λ fs told none. refused-unread e;
         judges = λ bytes tells. judged-unread (fixed bytes) i e (told bytes tells);
         uncounted = λ bytes tells f. TakesNone-refl (taken x);
         undamaged = λ bytes rules vs tells s. sound-unread (fixed bytes) (length vs) e (sound-fixed rules vs bytes s) (told bytes tells);
         text = λ bytes rules vs k tells s is. TakesPrefix-none (taken x) (keyed_text k);
         few = λ bytes rules vs c tells s is. few-of i c (at a x m) (at b x m) pulls;
         steps = λ bytes rules vs c tells s is. omega arith;
+        exact = λ bytes rules vs c tells s is. tt;
       })
 
   -- the archive has no such version
-  pub missing : (a b : S) (x : O) (m v : ℕ) → cursor.OnlyReads files draft faults a b None → PullsAtMost 14 (numbers a) (numbers b) → PullsAtMost size (numbers a) (numbers b)
-      → ((bytes : List ℕ) → TellsFront (files a) name size bytes → fixed bytes ≡ Some v) → (is_version i v → ⊥) → Written i name size (at a x m) (at b x m) (Some (NoVersion v))
-  missing a b x m v reads pulls inside told none = (
+  pub missing : (a b : S) (x : O) (m v : ℕ) → cursor.OnlyReads files draft faults a b None → PullsAtMost 22 (numbers a) (numbers b) → PullsAtMost size (numbers a) (numbers b)
+      → IsLong a → ((bytes : List ℕ) → TellsFront (files a) name size bytes → fixed bytes ≡ Some v) → (is_version i v → ⊥) → Written i name size (at a x m) (at b x m) (Some (NoVersion v))
+  missing a b x m v reads pulls inside long told none = (
       let w = states.reads files draft numbers faults taken out_faults a b x fresh m m None size reads inside in
       record {
         same_files = w.same_files;
@@ -143,12 +184,14 @@ module _ {S O : Type 0} (files : S → Option Files) (draft : S → Option (List
         pulls = inside;
         gained = w.gained;
         nothing = λ n f. TakesNone-refl (taken x);
+        short = λ fs there few. absurd (long fs there few);
         judges = λ bytes tells. subst (λ (o : Option ℕ). Judges i o (Some (NoVersion v))) (sym (told bytes tells)) (refl, none);
         uncounted = λ bytes tells f. TakesNone-refl (taken x);
         undamaged = λ bytes rules vs tells s. tt;
         text = λ bytes rules vs k tells s is. TakesPrefix-none (taken x) (keyed_text k);
         few = λ bytes rules vs c tells s is. few-of i c (at a x m) (at b x m) pulls;
         steps = λ bytes rules vs c tells s is. omega arith;
+        exact = λ bytes rules vs c tells s is. tt;
       })
 
   -- a fault that is behind the header
@@ -197,10 +240,12 @@ module _ {S O : Type 0} (files : S → Option Files) (draft : S → Option (List
         pulls = w.pulls;
         gained = w.gained;
         nothing = λ j f. absurd (not-missing e j w.behind f);
+        short = λ fs there few. put.short fs (same ∙ there) few;
         judges = λ bytes tells. subst (λ (o : Option ℕ). Judges i o e) (sym (told bytes tells)) (judged-put v i e is w.behind);
         uncounted = λ bytes tells f. absurd (subst (IsUncounted i) (told bytes tells) f is);
         undamaged = λ bytes rules vs tells s. (let k = has-version a v first h bytes rules vs tells s in let c = s.file.archive in (put.sound bytes (row_in first (root_pieces c)) c k.0 (told-root a b v first same h bytes rules vs c k.0 tells s s.file.is k.1)).0);
         text = λ bytes rules vs k tells s at_i. (let c = s.file.archive in (put.sound bytes (row_in first (root_pieces c)) c k (told-root a b v first same h bytes rules vs c k tells s s.file.is at_i)).1);
         few = λ bytes rules vs c tells s is_c. (let k = has-version a v first h bytes rules vs tells s in few-put a b d x y m n v first c pulls (put.sound bytes (row_in first (root_pieces c)) c k.0 (told-root a b v first same h bytes rules vs c k.0 tells s is_c k.1)).2 (counts a v first h bytes rules vs tells s ∙ is_c.count) is);
         steps = λ bytes rules vs c tells s is_c. (let k = has-version a v first h bytes rules vs tells s in (put.sound bytes (row_in first (root_pieces c)) c k.0 (told-root a b v first same h bytes rules vs c k.0 tells s is_c k.1)).3);
+        exact = λ bytes rules vs c tells s is_c. (let k = has-version a v first h bytes rules vs tells s in (put.sound bytes (row_in first (root_pieces c)) c k.0 (told-root a b v first same h bytes rules vs c k.0 tells s is_c k.1)).4);
       })

@@ -20,6 +20,7 @@ use Rattle.record_format.specs.Nodes.{Piece, closed_by_end, inner_piece, set_in,
 use Rattle.record_format.specs.Seen.{piece_sets, dir_seen, sets_visits, row_seen, node_steps}
 use Rattle.record_format.specs.Spelling.{rec_bytes}
 use Rattle.record_parts.specs.Bounds.{deepest}
+use Rattle.record_parts.specs.declared.limits.TheConstants.{DEEPEST}
 use Rattle.file_rows.specs.StandsAt.{RowLaid, ChildLaid}
 use Rattle.file_rows.specs.View.{PlainRow, PlainChild}
 use Rattle.file_get.specs.Told.{fault_of, Unless}
@@ -145,7 +146,7 @@ module _ (i : ℕ) (name : List ℕ) (child : PlainChild) (o : Opening) (depth :
   }
 
   -- inner nodes nest no deeper
-  pub never-deep : (files : Option Files) → o.is_inner ≡ true → 120 ≤ depth → (bytes : List ℕ) (end : ℕ) (h : Bool) (parent : List (ℕ × ℕ)) (k : PlainNode) → NodeOpened i files name bytes end child o depth h parent k → ⊥
+  pub never-deep : (files : Option Files) → o.is_inner ≡ true → DEEPEST ≤ depth → (bytes : List ℕ) (end : ℕ) (h : Bool) (parent : List (ℕ × ℕ)) (k : PlainNode) → NodeOpened i files name bytes end child o depth h parent k → ⊥
   never-deep files isin deep bytes end h parent k x =
       let q = inner-node i files name bytes end child o depth h parent k x isin in
       let x' = subst (NodeOpened i files name bytes end child o depth h parent) q.is x in

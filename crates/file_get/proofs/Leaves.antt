@@ -9,6 +9,7 @@ use Rattle.xa_fields.proofs.Fields.{some_is}
 use Rattle.jsonml_tree.specs.Data.{PlainScalar}
 use Rattle.jsonml_print.specs.Calls.{Call, content_calls}
 use Rattle.jsonml_print.specs.Pen.{Pen}
+use Rattle.record_parts.specs.declared.limits.TheConstants.{DEEPEST}
 use Rattle.key_annotate.specs.Inside.{inside_of}
 use Rattle.keyed_tree.specs.Data.{PlainKey, scalar}
 use Rattle.keyed_tree.specs.Plain.{content_of}
@@ -25,7 +26,8 @@ use Rattle.record_cursor.specs.declared.fault.CursorFault.{CursorFault}
 use Rattle.file_rows.specs.View.{PlainChild}
 use Rattle.file_get.specs.Told.{of_cursor, fault_of, Unless}
 use Rattle.file_get.specs.LeafBodies.{whole_inside}
-use Rattle.file_get.specs.LentPrinted.{output, whole_calls, PrintsRead}
+use Rattle.content_print.specs.LentPrinted.{output, whole_calls}
+use Rattle.file_get.specs.Contents.{ContentPrinted}
 use Rattle.file_get.specs.declared.fault.GetFault.{GetFault}
 use Rattle.file_get.specs.State.{State}
 use Rattle.file_get.specs.Walks.{Shows, IsBegun}
@@ -34,7 +36,7 @@ use Rattle.file_get.specs.declared.read.Opening.{Opening}
 use Rattle.file_get.specs.declared.fault.GetFault.TheVariants.{Damage}
 use Rattle.file_get.proofs.Opened.{eff-members, alts-told, tag-leaf}
 use Rattle.file_get.proofs.Pens.{begun-stands}
-use Rattle.file_get.proofs.LentReadings.{content-read, lent-walks, lent-shows}
+use Rattle.file_get.proofs.LentContents.{content-read, lent-walks, lent-shows}
 use Rattle.file_get.proofs.States.{walks-then, walks-damage, shows-then}
 use Rattle.file_get.proofs.States as states
 
@@ -84,14 +86,14 @@ module _ {S K : Type 0} (files : S → Option Files) (draft : S → Option (List
         absurd (no-content (body_at i (members (set_in t.stamp parent)) t.alts) (lacks (body_at i (members (set_in t.stamp parent)) t.alts) y.0) t.body));
   }
 
-  stands-by : {T : Type 0} (p q : Pen) (r : Result T GetFault) → depth ≤ 120 → IsBegun depth p → OnOk r (p.depth ≤ q.depth) → Unless (fault_of r) (depth + 1 ≤ q.depth)
+  stands-by : {T : Type 0} (p q : Pen) (r : Result T GetFault) → depth ≤ DEEPEST → IsBegun depth p → OnOk r (p.depth ≤ q.depth) → Unless (fault_of r) (depth + 1 ≤ q.depth)
   stands-by p q (Ok u) few begun deeper = (let w = begun-stands depth p few begun in let count = w.count in omega (arith, count, deeper))
   stands-by p q (Err e) few begun deeper = tt
 
   -- the body was printed out of its bytes
-  pub leaf-printed : {T : Type 0} (old new : S) (a b : K) (p q : Pen) (n : ℕ) (bytes : List ℕ) (body : Option PlainKey) (r : Result T GetFault) → body ≡ whole_inside bytes → o.is_inner ≡ false → depth ≤ 120 → IsBegun depth p → IsMeter (numbers new)
+  pub leaf-printed : {T : Type 0} (old new : S) (a b : K) (p q : Pen) (n : ℕ) (bytes : List ℕ) (body : Option PlainKey) (r : Result T GetFault) → body ≡ whole_inside bytes → o.is_inner ≡ false → depth ≤ DEEPEST → IsBegun depth p → IsMeter (numbers new)
       → cursor.OnlyReads files draft faults old new None → PullsAtMost (child.end - o.behind) (numbers old) (numbers new) → Tells old new (λ set xs. body ≡ Some (body_at i (members set) xs))
-      → PrintsRead (output taken out_faults a p) (output taken out_faults b q) (λ u. []) (whole_calls bytes) r → OnOk r (p.depth ≤ q.depth)
+      → ContentPrinted (output taken out_faults a p) (output taken out_faults b q) (whole_calls bytes) r → OnOk r (p.depth ≤ q.depth)
       → InsidePrinted i name child o depth (at old a p n) (at new b q n) (fault_of r)
   leaf-printed old new a b p q n bytes body r is-body leaf few begun meter h pulls told prints deeper = (
       let got = states.reads files draft numbers faults taken out_faults old new a p n n None (child.end - o.behind) h pulls in

@@ -1,10 +1,8 @@
-pub mod Handed
 pub mod ReadBytes
 pub mod States
 pub mod Pens
 pub mod Opened
-pub mod LentReadings
-pub mod LentElements
+pub mod LentContents
 pub mod Leaves
 pub mod Attributes
 pub mod Elements
@@ -17,10 +15,13 @@ pub mod Visiting
 pub mod Rows
 pub mod Looking
 pub mod Openings
-pub mod FixedFields
 pub mod Roots
 pub mod Texts
 pub mod Buffers
 pub mod Wholes
 pub mod Gets
+pub mod AltHeads
+pub mod SetSearch
+pub mod ShortLeaves
+pub mod SetLooks
 pub mod Bodies

@@ -1,5 +1,5 @@
 -- Reading opening records.
-use Rattle.std.proofs.Common.{◌≡◌, ℕ, ◌+◌, ◌-◌, ◌≤◌, ◌<◌, ◌^◌, Bool, true, false, List, ◌∷◌, ◌++◌, length, take, drop, Option, Some, None, Result, refl, sym, ap, subst, ◌∙◌, arith}
+use Rattle.std.proofs.Common.{◌≡◌, ℕ, ◌+◌, ◌-◌, ◌≤◌, ◌<◌, ◌^◌, Bool, true, false, List, ◌∷◌, ◌++◌, length, take, drop, Option, Some, None, Result, IsTrue, refl, sym, ap, subst, ◌∙◌, arith}
 use Rattle.std.proofs.lemmas.List.{length-append}
 use Rattle.xa_fields.specs.Spelling.{u64_bytes}
 use Rattle.xa_fields.proofs.Fields.{some_is}
@@ -18,7 +18,7 @@ use Rattle.std.specs.Prelude.{ok_or}
 use Rattle.record_cursor.specs.Steps as cursor
 use Rattle.record_cursor.specs.declared.fault.CursorFault.{CursorFault}
 use Rattle.record_parts.specs.Shown.{shown_name}
-use Rattle.file_get.specs.Inside.{opening_rec, is_inner, may_close, OpeningIs}
+use Rattle.file_get.specs.Inside.{opening_rec, opens, is_inner, may_close, OpeningIs}
 use Rattle.file_get.specs.declared.read.Opening.{Opening}
 
 -- what a record's first nine bytes are
@@ -44,6 +44,11 @@ pub record-room : (at end : ℕ) (r : PlainRec) (more : List ℕ) → end ≡ at
 record-room at end r more e = omega (arith, e, length-append (rec_bytes r) more, rec-length r)
 
 -- an option that was handed on as a fault
+-- the record that opens a node does so by its kind
+pub opens-node : (k : PlainNode) → IsTrue (opens (kind_of (opening_rec k)))
+opens-node (inner_node l s ks) = refl
+opens-node (leaf_node l s xs) = refl
+
 pub filled-some : {T : Type 0} (o : Option T) (e : CursorFault) (r : Result T CursorFault) (x : T) (P : T → Type 0) → r ≡ ok_or o e → o ≡ Some x → P x → cursor.Filled r P
 filled-some (Some t) e r x P is same h = subst (λ (s : Result _ CursorFault). cursor.Filled s P) (sym is) (subst P (sym (some_is t x same)) h)
 filled-some None e r x P is same h = absurd cc

@@ -4,10 +4,11 @@ use Rattle.std.proofs.lemmas.Bool.Decides.{nat_tests}
 use Rattle.jsonml_tree.specs.Data.{PlainAttr}
 use Rattle.jsonml_print.specs.Calls.{attribute, begin, end, after, MayCome}
 use Rattle.jsonml_print.specs.Pen.{Pen, is_item, one_more, one_less}
+use Rattle.record_parts.specs.declared.limits.TheConstants.{DEEPEST}
 use Rattle.file_get.specs.Walks.{IsBegun, StandsIn}
 
 -- where an element was begun, an attribute may come
-pub begun-stands : (depth : ℕ) (p : Pen) → depth ≤ 120 → IsBegun depth p → StandsIn (depth + 1) false p
+pub begun-stands : (depth : ℕ) (p : Pen) → depth ≤ DEEPEST → IsBegun depth p → StandsIn (depth + 1) false p
 begun-stands depth p few h = subst (λ (q : Pen). StandsIn (depth + 1) false q) (sym h.2) (record { count = more h.0 h.1; item = λ e. refl; attribute = λ a b. refl })
   where
     more : (d : ℕ) → depth ≤ d → depth + 1 ≤ one_more d
@@ -29,7 +30,7 @@ may-begin depth false p tag h e = ends (p.depth == 0) (is_item p.last) (h.item r
     ends false b e = refl
 
 -- an element was printed
-pub stands-ended : (depth : ℕ) (p q : Pen) → depth ≤ 120 → depth + 1 ≤ p.depth → q ≡ after p end → StandsIn depth true q
+pub stands-ended : (depth : ℕ) (p q : Pen) → depth ≤ DEEPEST → depth + 1 ≤ p.depth → q ≡ after p end → StandsIn depth true q
 stands-ended depth p q few more e = (
     let same : q.depth ≡ one_less p.depth = ap (λ (r : Pen). r.depth) e in
     record {

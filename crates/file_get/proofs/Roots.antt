@@ -3,7 +3,7 @@ use Rattle.std.proofs.Common.{◌≡◌, ℕ, ◌+◌, ◌-◌, ◌*◌, ◌≤�
 use Rattle.std.specs.List.{AllByRecursion}
 use Rattle.std.specs.Result.{IfOk}
 use Rattle.xa_fields.specs.Spelling.{u64_bytes}
-use Rattle.xa_outside.specs.Folder.{Files}
+use Rattle.xa_outside.specs.Folder.{Files, front_of}
 use Rattle.xa_outside.specs.Numbers.{Numbers, PullsAtMost}
 use Rattle.xa_outside.specs.Taken.{Taken}
 use Rattle.version_set.specs.Members.{upto_pairs}
@@ -37,7 +37,7 @@ use Rattle.file_get.specs.declared.fault.GetFault.{GetFault}
 use Rattle.file_get.specs.declared.fault.GetFault.TheVariants.{Damage}
 use Rattle.file_get.proofs.Elements.{tag-calls}
 use Rattle.file_get.proofs.RowLists.{from-list, row-sets, row-seen, row-steps}
-use Rattle.file_get.proofs.States.{walks-then, walks-damage, shows-then}
+use Rattle.file_get.proofs.States.{refused-unread, walks-then, walks-damage, shows-then}
 use Rattle.file_get.proofs.States as states
 
 tag-of : (k : PlainKeyed) → IsElement k → is_tag (label_of k).name ≡ true
@@ -62,6 +62,10 @@ module _ {S K : Type 0} (files : S → Option Files) (draft : S → Option (List
   abbrev pub Tells : S → (List ℕ → List Piece → Type 0) → Type 0
   Tells old P = (bytes : List ℕ) (row : PlainRow) (ps : List Piece) → TellsFront (files old) name size bytes → RowLaid bytes row ps → row.first ≡ first → row.end + (9 + row.dir) + 8 ≡ size → StandsAt bytes (size - 8) (u64_bytes row.dir) → P bytes ps
 
+  -- a file that is told has so many bytes
+  abbrev pub IsLong : S → Type 0
+  IsLong a = (fs : Files) → files a ≡ Some fs → front_of fs name size ≡ None → ⊥
+
   more : {a b : Numbers} (m l : ℕ) → m ≤ l → PullsAtMost m a b → PullsAtMost l a b
   more m l le h = (let w = h.within in record { count = h.count; within = omega (arith, le, w); pulled = h.pulled })
 
@@ -70,6 +74,7 @@ module _ {S K : Type 0} (files : S → Option Files) (draft : S → Option (List
       → RootPrinted i name size first (at old k p n) (at new k p n) (Some (of_cursor e))
   root-unread old new k p n e h pulls inside told = record {
     walks = states.reads files draft numbers faults taken out_faults old new k p n n (Some e) (size - first) h inside;
+    short = λ fs there none. refused-unread e;
     shows = λ bytes row a v x. states.shows-unread files draft numbers faults taken out_faults old new k p n n (8 + seen a i) (steps_for a i) e (calls_of (plain v)) (told bytes row (root_pieces a) x.tells x.stands x.begins x.ends x.tail) (omega arith) (more 8 (8 + seen a i) (omega arith) pulls);
   }
 
@@ -109,14 +114,15 @@ module _ {S K : Type 0} (files : S → Option Files) (draft : S → Option (List
 
   -- the row of the root was printed
   pub root-printed : (old new : S) (k : K) (p : Pen) (n : ℕ) (row : PlainRow) (u : State) (r : Result Bool GetFault) → row.first ≡ first → row.end + (9 + row.dir) + 8 ≡ size → first ≤ row.end → cursor.OnlyReads files draft faults old new None
-      → PullsAtMost 8 (numbers old) (numbers new) → Tells old (λ bytes ps. RowLaid bytes row ps) → RowPrinted i name row (0) (at new k p n) u r → RootPrinted i name size first (at old k p n) u (rooted r)
-  root-printed old new k p n row u r begins ends ordered h pulls told printed = (
+      → IsLong old → PullsAtMost 8 (numbers old) (numbers new) → Tells old (λ bytes ps. RowLaid bytes row ps) → RowPrinted i name row (0) (at new k p n) u r → RootPrinted i name size first (at old k p n) u (rooted r)
+  root-printed old new k p n row u r begins ends ordered h long pulls told printed = (
       let s = at old k p n in
       let t = at new k p n in
       let m = row.end + (9 + row.dir) - row.first in
       let got = states.reads files draft numbers faults taken out_faults old new k p n n None 8 h pulls in
       record {
         walks = walk-of s t u m r got (omega (arith, begins, ends, ordered)) printed.walks;
+        short = λ fs there none. absurd (long fs there none);
         shows = λ bytes w a v x. (
             let stands = told bytes w (root_pieces a) x.tells x.stands x.begins x.ends x.tail in
             let parent = upto_pairs a.n in

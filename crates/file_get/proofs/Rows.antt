@@ -29,10 +29,9 @@ use Rattle.file_get.specs.Told.{of_cursor, fault_of}
 use Rattle.file_get.specs.State.{State}
 use Rattle.file_get.specs.Kids.{set_of, kids_in, kids_calls, item_behind, nodes_seen, nodes_steps, sets_seen, sets_steps}
 use Rattle.file_get.specs.Walks.{Walks, Shows, StandsIn}
-use Rattle.file_get.specs.Stands.{RowIs, VisitIs}
+use Rattle.file_get.specs.Stands.{whole_of, RowIs, VisitIs}
 use Rattle.file_get.specs.Visits.{may_pull, Reaches, EndsAt, Visited}
 use Rattle.file_get.specs.Printed.{RowTold, RowPrinted}
-use Rattle.file_get.specs.declared.span.Span.{Span}
 use Rattle.file_get.specs.declared.span.Place.{Place}
 use Rattle.file_get.specs.declared.fault.GetFault.{GetFault}
 use Rattle.file_get.proofs.Spans.{dir-is, rows-sets}
@@ -51,10 +50,6 @@ has_item_of (Err e) = Err e
 pub has_item-fault : (r : Result Place GetFault) → fault_of r ≡ fault_of (has_item_of r)
 has_item-fault (Ok p) = refl
 has_item-fault (Err e) = refl
-
--- the whole of a row, whose tree stands behind its entries
-abbrev pub whole_of : PlainRow → ℕ → Span
-whole_of row count = record { at = row.end + (13 + 24 * count); limit = row.end + (9 + row.dir); position = 0; count = count }
 
 abbrev pub first_place : PlainRow → ℕ → Place
 first_place row depth = record { depth = depth; after = row.first; has_item = false }

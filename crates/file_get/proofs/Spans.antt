@@ -20,6 +20,7 @@ use Rattle.record_format.specs.Bounds.{IsRec, IsDir}
 use Rattle.record_format.specs.Data.{end_rec}
 use Rattle.record_format.specs.Nested.{are_nested, is_nested}
 use Rattle.record_format.specs.Nodes.{Piece, dir_of, closed_by_end, node_piece, node_pieces, set_in}
+use Rattle.record_format.specs.Seen.{node_steps}
 use Rattle.record_format.proofs.Pieces.{all-front, all-back}
 use Rattle.file_get.specs.Kids.{IsFilled, set_of, has_at, finds, all_find, kids_in, item_behind, kid_fits, kids_fit, nodes_seen, nodes_steps}
 use Rattle.file_get.specs.Looked.{tree_over, own_bytes}
@@ -225,16 +226,25 @@ nodes-split parent ks many h =
     ∙ ap (λ (n : ℕ). joined (tree_of (take (half n) sets)) (tree_of (drop (half n) sets))) same
     ∙ (λ j. joined (tree_of (sym (map-take (set_of parent) (half (length ks)) ks) j)) (tree_of (sym (map-drop (set_of parent) (half (length ks)) ks) j)))
 
+neither : (a b : Bool) → (a || b) ≡ false → (a ≡ false) × (b ≡ false)
+neither true b e = absurd cc
+neither false b e = (refl, e)
+
 -- no node of a part has i where the top of their tree lacks it
 lacks-each : (i : ℕ) (parent : List (ℕ × ℕ)) (ks : List PlainNode) → some_has (map (set_of parent) ks) i ≡ false → kids_in i parent ks ≡ []
 lacks-each i parent [] e = refl
 lacks-each i parent (k ∷ ks) e =
     let both = neither (has_at i parent k) (some_has (map (set_of parent) ks) i) e in
     ap (λ (b : Bool). if b then read i (members parent) k ∷ kids_in i parent ks else kids_in i parent ks) both.0 ∙ lacks-each i parent ks both.1
-  where
-    neither : (a b : Bool) → (a || b) ≡ false → (a ≡ false) × (b ≡ false)
-    neither true b e = absurd cc
-    neither false b e = (refl, e)
+
+-- and so none is stepped into
+idle-each : (i : ℕ) (parent : List (ℕ × ℕ)) (ks : List PlainNode) → some_has (map (set_of parent) ks) i ≡ false → nodes_steps i parent ks ≡ 0
+idle-each i parent [] e = refl
+idle-each i parent (k ∷ ks) e =
+    let both = neither (has_at i parent k) (some_has (map (set_of parent) ks) i) e in
+    let one : (if has_at i parent k then node_steps i parent k else 0) ≡ 0 = ap (λ (b : Bool). if b then node_steps i parent k else 0) both.0 in
+    let rest = idle-each i parent ks both.1 in
+    omega (arith, one, rest)
 
 pub top-leaves : (i : ℕ) (parent : List (ℕ × ℕ)) (ks : List PlainNode) → 1 ≤ length ks → AllByRecursion IsSet (map (set_of parent) ks) → has (members (top (tree_over parent ks))) i ≡ some_has (map (set_of parent) ks) i
 top-leaves i parent ks some h =
@@ -245,7 +255,15 @@ top-leaves i parent ks some h =
 pub lacks-none : (i : ℕ) (parent : List (ℕ × ℕ)) (ks : List PlainNode) → 1 ≤ length ks → AllByRecursion IsSet (map (set_of parent) ks) → has (members (top (tree_over parent ks))) i ≡ false → kids_in i parent ks ≡ []
 lacks-none i parent ks some h e = lacks-each i parent ks (sym (top-leaves i parent ks some h) ∙ e)
 
+pub lacks-idle : (i : ℕ) (parent : List (ℕ × ℕ)) (ks : List PlainNode) → 1 ≤ length ks → AllByRecursion IsSet (map (set_of parent) ks) → has (members (top (tree_over parent ks))) i ≡ false → nodes_steps i parent ks ≡ 0
+lacks-idle i parent ks some h e = idle-each i parent ks (sym (top-leaves i parent ks some h) ∙ e)
+
 -- ---- what a node of a tree takes
+
+-- of a node that lacks i, no part is visited
+pub lacks-visits : (t : PlainTs) (i : ℕ) → has (members (top t)) i ≡ false → visits t i ≡ 1
+lacks-visits (leaf s) i e = refl
+lacks-visits (node s n l r) i e = ap (λ (b : Bool). if b then 1 + visits l i + visits r i else 1) e
 
 pub own-visited : (t : PlainTs) (i : ℕ) → own_bytes t ≤ visited_bytes t i
 own-visited (leaf s) i = omega arith

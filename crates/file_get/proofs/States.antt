@@ -15,7 +15,7 @@ use Rattle.record_cursor.specs.Faults.{IfDamage}
 use Rattle.record_cursor.specs.Steps as cursor
 use Rattle.record_cursor.specs.declared.fault.CursorFault.{CursorFault}
 use Rattle.record_cursor.specs.declared.fault.CursorFault.TheVariants as fault
-use Rattle.file_get.specs.Told.{of_cursor, IsCaused, IsBehind, IsSound, Unless}
+use Rattle.file_get.specs.Told.{of_cursor, IsCaused, IsBehind, IsRefused, IsSound, Unless}
 use Rattle.file_get.specs.State.{State, state}
 use Rattle.file_get.specs.Walks.{Walks, Prefixed, Shows, Sends}
 use Rattle.file_get.specs.declared.fault.GetFault.{GetFault}
@@ -80,6 +80,12 @@ walks-none s m meter = record {
   gained = ([], Takes-nil s.taken);
 }
 
+-- where a read is not answered, nothing else is said
+pub refused-unread : (e : CursorFault) → IsRefused (Some (of_cursor e))
+refused-unread fault.Damage = tt
+refused-unread fault.Folder = tt
+refused-unread fault.Memory = tt
+
 -- ---- where the file is sound
 
 prefixed-then : (a b c : Taken) (e : Option GetFault) (x y : List ℕ) → Takes a b x → Prefixed b c e y → Prefixed a c e (x ++ y)
@@ -90,13 +96,21 @@ pen-then : (p q r : Pen) (e : Option GetFault) (cs ds : List Call) → q ≡ rea
 pen-then p q r None cs ds h g = g ∙ ap (λ (o : Pen). reached o ds) h ∙ sym (reached-append p cs ds)
 pen-then p q r (Some e) cs ds h g = tt
 
-pub shows-then : (s t u : State) (e : Option GetFault) (cs ds : List Call) (a b m i j n : ℕ) → a + b ≤ m → i + j ≤ n → Shows cs a i s t None → Shows ds b j t u e → Shows (cs ++ ds) m n s u e
+exact-then : (a b c i j n : ℕ) (e : Option GetFault) → i + j ≡ n → b ≡ a + i → Unless e (c ≡ b + j) → Unless e (c ≡ a + n)
+exact-then a b c i j n None all h g = omega (arith, all, h, g)
+exact-then a b c i j n (Some e) all h g = tt
+
+exact-as : (a b i n : ℕ) (e : Option GetFault) → i ≡ n → Unless e (b ≡ a + i) → Unless e (b ≡ a + n)
+exact-as a b i n e same h = subst (λ (k : ℕ). Unless e (b ≡ a + k)) same h
+
+pub shows-then : (s t u : State) (e : Option GetFault) (cs ds : List Call) (a b m i j n : ℕ) → a + b ≤ m → i + j ≡ n → Shows cs a i s t None → Shows ds b j t u e → Shows (cs ++ ds) m n s u e
 shows-then s t u e cs ds a b m i j n le few h g = record {
   sound = g.sound;
   bytes = subst (Prefixed s.taken u.taken e) (ap (λ (p : Pen). printed s.pen cs ++ printed p ds) h.pen ∙ sym (printed-append s.pen cs ds)) (prefixed-then s.taken t.taken u.taken e (printed s.pen cs) (printed t.pen ds) h.bytes g.bytes);
   pen = pen-then s.pen t.pen u.pen e cs ds h.pen g.pen;
   pulls = PullsAtMost-more (a + b) m s.numbers u.numbers le (PullsAtMost-trans a b s.numbers t.numbers u.numbers h.pulls g.pulls);
   steps = (let x = h.steps in let y = g.steps in omega (arith, few, x, y));
+  exact = exact-then s.steps t.steps u.steps i j n e few h.exact g.exact;
 }
 
 -- a fault before further calls
@@ -107,20 +121,22 @@ shows-fault s t e cs ds a m i n le few h = record {
   pen = tt;
   pulls = PullsAtMost-more a m s.numbers t.numbers le h.pulls;
   steps = (let x = h.steps in omega (arith, few, x));
+  exact = tt;
 }
 
 -- the same, said in another way
-pub shows-as : (s t : State) (e : Option GetFault) (cs ds : List Call) (a m i n : ℕ) → cs ≡ ds → a ≤ m → i ≤ n → Shows cs a i s t e → Shows ds m n s t e
+pub shows-as : (s t : State) (e : Option GetFault) (cs ds : List Call) (a m i n : ℕ) → cs ≡ ds → a ≤ m → i ≡ n → Shows cs a i s t e → Shows ds m n s t e
 shows-as s t e cs ds a m i n same le few h = record {
   sound = h.sound;
   bytes = subst (λ (xs : List Call). Prefixed s.taken t.taken e (printed s.pen xs)) same h.bytes;
   pen = subst (λ (xs : List Call). Unless e (t.pen ≡ reached s.pen xs)) same h.pen;
   pulls = PullsAtMost-more a m s.numbers t.numbers le h.pulls;
   steps = (let x = h.steps in omega (arith, few, x));
+  exact = exact-as s.steps t.steps i n e few h.exact;
 }
 
-pub shows-none : (s : State) (m n : ℕ) → IsMeter s.numbers → Shows [] m n s s None
-shows-none s m n meter = record { sound = tt; bytes = Takes-nil s.taken; pen = refl; pulls = PullsAtMost-none m s.numbers meter; steps = omega arith }
+pub shows-none : (s : State) (m : ℕ) → IsMeter s.numbers → Shows [] m 0 s s None
+shows-none s m meter = record { sound = tt; bytes = Takes-nil s.taken; pen = refl; pulls = PullsAtMost-none m s.numbers meter; steps = omega arith; exact = omega arith }
 
 -- ---- parts
 
@@ -128,6 +144,10 @@ shows-none s m n meter = record { sound = tt; bytes = Takes-nil s.taken; pen = r
 abbrev pub out_fault : {T : Type 0} → Result T Failed → Option GetFault
 out_fault (Ok x) = None
 out_fault (Err e) = Some Out
+
+pub unless-out : {T : Type 0} (r : Result T Failed) (P : Type 0) → P → Unless (out_fault r) P
+unless-out (Ok x) P h = h
+unless-out (Err e) P h = tt
 
 module _ {S K : Type 0} (files : S → Option Files) (draft : S → Option (List ℕ)) (numbers : S → Numbers) (faults : S → ℕ) (taken : K → Taken) (out_faults : K → ℕ) where
   abbrev pub at : S → K → Pen → ℕ → State
@@ -137,11 +157,11 @@ module _ {S K : Type 0} (files : S → Option Files) (draft : S → Option (List
       → Sends calls (at folder a p n) (at folder b q n) (out_fault r)
   sends folder a b p q n calls (Ok x) meter h c = record {
     walks = record { same_files = refl; same_draft = refl; later = omega arith; out_later = c.later; cause = tt; behind = tt; pulls = PullsAtMost-none 0 (numbers folder) meter; gained = (printed p calls, h.bytes) };
-    shows = record { sound = tt; bytes = h.bytes; pen = h.pen; pulls = PullsAtMost-none 0 (numbers folder) meter; steps = omega arith };
+    shows = record { sound = tt; bytes = h.bytes; pen = h.pen; pulls = PullsAtMost-none 0 (numbers folder) meter; steps = omega arith; exact = omega arith };
   }
   sends folder a b p q n calls (Err x) meter h c = record {
     walks = record { same_files = refl; same_draft = refl; later = omega arith; out_later = c.later; cause = c.failed; behind = tt; pulls = PullsAtMost-none 0 (numbers folder) meter; gained = (let b = h.bytes in (take b.count (printed p calls), b.takes)) };
-    shows = record { sound = tt; bytes = h.bytes; pen = tt; pulls = PullsAtMost-none 0 (numbers folder) meter; steps = omega arith };
+    shows = record { sound = tt; bytes = h.bytes; pen = tt; pulls = PullsAtMost-none 0 (numbers folder) meter; steps = omega arith; exact = tt };
   }
 
   caused : (a b x y : ℕ) (e : Option CursorFault) → cursor.IsCause a b e → IsCaused a b x y (option_map of_cursor e)
@@ -169,8 +189,8 @@ module _ {S K : Type 0} (files : S → Option Files) (draft : S → Option (List
   }
 
   -- a read that was answered
-  pub shows-read : (old new : S) (k : K) (p : Pen) (m n read walked : ℕ) → n ≤ m + walked → PullsAtMost read (numbers old) (numbers new) → Shows [] read walked (at old k p m) (at new k p n) None
-  shows-read old new k p m n read walked few pulls = record { sound = tt; bytes = Takes-nil (taken k); pen = refl; pulls = pulls; steps = few }
+  pub shows-read : (old new : S) (k : K) (p : Pen) (m n read walked : ℕ) → n ≡ m + walked → PullsAtMost read (numbers old) (numbers new) → Shows [] read walked (at old k p m) (at new k p n) None
+  shows-read old new k p m n read walked few pulls = record { sound = tt; bytes = Takes-nil (taken k); pen = refl; pulls = pulls; steps = omega (arith, few); exact = few }
 
   sound-of : (e : CursorFault) → IfDamage e ⊥ → IsSound (Some (of_cursor e))
   sound-of fault.Damage h = absurd h
@@ -180,4 +200,4 @@ module _ {S K : Type 0} (files : S → Option Files) (draft : S → Option (List
   -- a read that failed, where something stands there
   pub shows-unread : (old new : S) (k : K) (p : Pen) (m n read walked : ℕ) (e : CursorFault) (calls : List Call) → IfDamage e ⊥ → n ≤ m + walked → PullsAtMost read (numbers old) (numbers new)
       → Shows calls read walked (at old k p m) (at new k p n) (Some (of_cursor e))
-  shows-unread old new k p m n read walked e calls d few pulls = record { sound = sound-of e d; bytes = TakesPrefix-none (taken k) (printed p calls); pen = tt; pulls = pulls; steps = few }
+  shows-unread old new k p m n read walked e calls d few pulls = record { sound = sound-of e d; bytes = TakesPrefix-none (taken k) (printed p calls); pen = tt; pulls = pulls; steps = few; exact = tt }

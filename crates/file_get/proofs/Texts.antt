@@ -1,5 +1,5 @@
 -- Writing the text of a version.
-use Rattle.std.proofs.Common.{◌≡◌, ℕ, ◌-◌, List, [], ◌∷◌, ◌++◌, take, Option, Some, None, Result, Ok, Err, refl, ap, subst, ◌∙◌, arith}
+use Rattle.std.proofs.Common.{◌≡◌, ℕ, ◌+◌, ◌-◌, List, [], ◌∷◌, ◌++◌, take, Option, Some, None, Result, Ok, Err, refl, ap, subst, ◌∙◌, arith}
 use Rattle.xa_outside.specs.Causes.{HasCause}
 use Rattle.xa_outside.specs.Folder.{Files}
 use Rattle.xa_outside.specs.Numbers.{Numbers, IsMeter}
@@ -17,6 +17,7 @@ use Rattle.keyed_tree.specs.Plain.{plain}
 use Rattle.keyed_print.specs.KeyedText.{keyed_text}
 use Rattle.file_get.specs.Told.{IsSound}
 use Rattle.file_get.specs.State.{State}
+use Rattle.record_format.specs.Seen.{steps_for}
 use Rattle.file_get.specs.Walks.{Walks, Prefixed}
 use Rattle.file_get.specs.Roots.{RootPrinted, TextPut}
 use Rattle.file_get.specs.declared.fault.GetFault.{GetFault}
@@ -39,12 +40,14 @@ module _ {S K : Type 0} (files : S → Option Files) (draft : S → Option (List
   unfolding keyed_text
   text-unprinted a b k l p q m n e new h = record {
     walks = walks-pens a b k l p q fresh m n (size - first) (Some e) h.walks;
+    short = h.short;
     sound = λ bytes row c v x. (
         let s = h.shows bytes row c v (record { tells = x.tells; stands = x.stands; begins = x.begins; ends = x.ends; tail = x.tail; records = x.records; nested = x.nested; bodies = x.bodies; one = x.one; fits = x.fits; element = x.element; some = x.some }) in (
           s.sound,
           TakesPrefix-more (taken k) (taken l) (tree_text (plain v)) (10 ∷ []) (subst (TakesPrefix (taken k) (taken l)) (text-is p v new) s.bytes),
           s.pulls,
           s.steps,
+          tt,
         ));
   }
 
@@ -66,11 +69,13 @@ module _ {S K : Type 0} (files : S → Option Files) (draft : S → Option (List
   unfolding keyed_text
   text-printed a b k l j p q m n r new meter h puts cause = record {
     walks = walks-then (at a k fresh m) (at b l fresh n) (at b j fresh n) (states.out_fault r) (size - first) 0 (size - first) (omega arith) (walks-pens a b k l p q fresh m n (size - first) None h.walks) (put-walks b l j n (10 ∷ []) r meter puts cause);
+    short = λ fs there none. absurd (h.short fs there none);
     sound = λ bytes row c v x. (
         let s = h.shows bytes row c v (record { tells = x.tells; stands = x.stands; begins = x.begins; ends = x.ends; tail = x.tail; records = x.records; nested = x.nested; bodies = x.bodies; one = x.one; fits = x.fits; element = x.element; some = x.some }) in (
           sound-out r,
           ended-out (taken k) (taken l) (taken j) (tree_text (plain v)) (10 ∷ []) r (subst (Takes (taken k) (taken l)) (text-is p v new) s.bytes) puts,
           s.pulls,
           s.steps,
+          states.unless-out r (n ≡ m + steps_for c i) s.exact,
         ));
   }

@@ -34,7 +34,7 @@ use Rattle.file_get.specs.declared.span.Span.{Span}
 use Rattle.file_get.specs.declared.span.Place.{Place}
 use Rattle.file_get.specs.declared.look.Sight.TheVariants.{Parts}
 use Rattle.file_get.specs.declared.fault.GetFault.{GetFault}
-use Rattle.file_get.proofs.Spans.{dir-is, rows-filled, rows-sets, part-sets, kids-append, item-append, fit-front, fit-back, find-front, find-back, seen-append, steps-append, nodes-split, lacks-none, own-visited, some-visits, joined-visited, joined-visits}
+use Rattle.file_get.proofs.Spans.{dir-is, rows-filled, rows-sets, part-sets, kids-append, item-append, fit-front, fit-back, find-front, find-back, seen-append, steps-append, nodes-split, lacks-none, lacks-idle, lacks-visits, own-visited, some-visits, joined-visited, joined-visits}
 use Rattle.file_get.proofs.States.{walks-then, walks-more, shows-then, shows-fault}
 use Rattle.file_get.proofs.States as states
 
@@ -120,12 +120,13 @@ module _ {S K : Type 0} (files : S → Option Files) (draft : S → Option (List
         let y = told bytes end parent front ks behind l in
         let t = tree_over parent ks in
         let own = own-visited t i in
-        let one = some-visits t i in
         let none = lacks-none i parent ks l.some l.sets y.0 in
+        let alone = lacks-visits t i y.0 in
+        let idle = lacks-idle i parent ks l.some l.sets y.0 in
         let start = start-later row.first (length front) (length ks) (node_pieces parent (nodes_from (front ++ (ks ++ behind)))) in
         let after = x.after in (
           subst (λ (cs : List PlainKeyed). Shows (kids_calls cs) (visited_bytes t i + nodes_seen i parent ks) (visits t i + nodes_steps i parent ks) (at old k p m) (at new k p n) None) (sym none)
-              (states.shows-read files draft numbers faults taken out_faults old new k p m n (visited_bytes t i + nodes_seen i parent ks) (visits t i + nodes_steps i parent ks) (omega (arith, one, step)) (more (own_bytes t) (visited_bytes t i + nodes_seen i parent ks) (omega (arith, own)) y.1)),
+              (states.shows-read files draft numbers faults taken out_faults old new k p m n (visited_bytes t i + nodes_seen i parent ks) (visits t i + nodes_steps i parent ks) (omega (arith, alone, idle, step)) (more (own_bytes t) (visited_bytes t i + nodes_seen i parent ks) (omega (arith, own)) y.1)),
           record { item = ap (λ (cs : List PlainKeyed). item_behind place.has_item cs) (sym none); after = omega (arith, after, start) },
         ));
   }
@@ -152,7 +153,7 @@ module _ {S K : Type 0} (files : S → Option Files) (draft : S → Option (List
             let x2 = subst (λ (f : Option Files). VisitIs i f name bytes end row span place parent front (j ∷ []) behind) (sym h.same_files) x1 in
             let inner = printed.shows bytes end parent front behind j x2 y.0.2 in
             let own = own-visited (tree_over parent (j ∷ [])) i in
-            let one = some-visits (tree_over parent (j ∷ [])) i in
+            let one : visits (tree_over parent (j ∷ [])) i ≡ 1 = refl in
             let w = visited_bytes (tree_over parent (j ∷ [])) i in
             let v = visits (tree_over parent (j ∷ [])) i in
             let pulled = subst (λ (js : List PlainNode). PullsAtMost (own_bytes (tree_over parent js)) (numbers old) (numbers new)) is y.1 in

@@ -1,6 +1,8 @@
 -- What stands inside a node.
-use Rattle.std.specs.Prelude.{◌≡◌, ℕ, ◌+◌, ◌-◌, ◌≤◌, List, [], ◌∷◌, ◌++◌, length, map, Bool, true, false, not, ◌||◌, ◌==◌, if◌then◌else◌, Result, IfOk, Option, is_some}
+use Rattle.std.specs.Prelude.{◌≡◌, ℕ, ◌+◌, ◌-◌, ◌≤◌, List, [], ◌∷◌, ◌++◌, length, map, drop, Some, Bool, true, false, not, ◌||◌, ◌==◌, if◌then◌else◌, Result, IfOk, Option, is_some}
+use Rattle.std.specs.Int.{w64}
 use Rattle.std.specs.List.{flat_map, AllByRecursion}
+use Rattle.xa_fields.specs.Reading.{byte_at, number_at}
 use Rattle.version_set.specs.Members.{members, has}
 use Rattle.jsonml_print.specs.Calls.{content_calls}
 use Rattle.key_annotate.specs.Inside.{inside_of}
@@ -37,6 +39,10 @@ abbrev pub is_inner : PlainNode → Bool
 is_inner (inner_node l s ks) = true
 is_inner (leaf_node l s xs) = false
 
+-- a record of this kind opens a node
+abbrev pub opens : ℕ → Bool
+opens kind = kind == 1 || kind == 2
+
 -- an END with a body of so many bytes may close what a record of this kind opens: none closes a leaf
 abbrev pub may_close : ℕ → ℕ → Bool
 may_close kind dir = not (kind == 2) || dir == 0
@@ -64,6 +70,13 @@ SetIs i behind set r = (r.0 ≡ has (members set) i) × (r.1 ≡ behind)
 -- the first bytes of an alternative whose body has this size: its kind, the size, and whether its timestamp is stored
 abbrev pub head_bytes : ℕ → Stamp → List ℕ
 head_bytes size s = 3 ∷ (u64_bytes size ++ (if is_some s then 1 else 0) ∷ [])
+
+-- The kind of an alternative, the length of its body and whether its timestamp is stored stand at the front of the bytes; the record has so many.
+pub record IsAltHead (bytes : List ℕ) (size : ℕ) (is_stored : Bool) : Type 0 where
+  pub kind : byte_at bytes ≡ Some (3, drop 1 bytes)
+  pub length : number_at w64 (drop 1 bytes) ≡ Some (size - 9, drop 9 bytes)
+  pub stored : byte_at (drop 9 bytes) ≡ Some (if is_stored then 1 else 0, drop 10 bytes)
+  pub some : 10 ≤ size
 
 -- what is read of an alternative that stands here, in a leaf that has this set
 pub record AltIs (i at : ℕ) (set : List (ℕ × ℕ)) (x : PlainAlt) (a : Alternative) : Type 0 where

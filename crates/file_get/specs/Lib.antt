@@ -5,10 +5,10 @@ pub mod Kids
 pub mod Stands
 pub mod Visits
 pub mod Printed
-pub mod Fixed
 pub mod Inside
-pub mod LentPrinted
+pub mod Contents
 pub mod LeafBodies
+pub mod Searched
 pub mod Looked
 pub mod Roots
 pub mod Written

@@ -1,5 +1,5 @@
 -- What one node of a stored tree says of a part of a row.
-use Rattle.std.specs.Prelude.{◌≡◌, ℕ, ◌+◌, ◌-◌, ◌≤◌, ◌<◌, List, [], ◌∷◌, ◌++◌, length, map, take, drop, true, false, Option, Result, Ok, Err, ⊤}
+use Rattle.std.specs.Prelude.{◌≡◌, ℕ, ◌+◌, ◌-◌, ◌≤◌, ◌<◌, List, [], ◌∷◌, ◌++◌, length, map, take, drop, Bool, true, false, Option, Result, Ok, Err, ⊤}
 use Rattle.std.specs.List.{AllByRecursion}
 use Rattle.version_set.specs.Members.{members, has}
 use Rattle.timestamp_tree.specs.Bytes.{stored}
@@ -37,6 +37,11 @@ IsLook span Lacks = ⊤
 IsLook span Child = span.count ≡ 1
 IsLook span (Parts l r) = Halves span l r
 
+-- what is seen at the only child of a part
+abbrev pub sight_of : Bool → Sight
+sight_of true = Child
+sight_of false = Lacks
+
 -- how many bytes are read at most
 abbrev pub looked : Span → Result Sight CursorFault → ℕ
 looked span (Ok Lacks) = span.limit - span.at
@@ -59,6 +64,19 @@ pub record NodeOf (i : ℕ) (t : PlainTs) (probe : Probe) : Type 0 where
   pub has : probe.has ≡ has (members (top t)) i
   pub left : probe.left ≡ left_bytes t
   pub size : probe.size ≡ own_bytes t
+
+-- the node of one set has no parts, and nothing stands behind it
+abbrev pub IsLeafNode : Span → Probe → Type 0
+IsLeafNode span probe = (probe.left ≡ 0) × (span.at + probe.size ≡ span.limit)
+
+-- the left part of a node of more sets has some of the bytes behind the node, and not all
+abbrev pub IsInnerNode : Span → Probe → Type 0
+IsInnerNode span probe = (0 < probe.left) × (span.at + probe.size + probe.left < span.limit)
+
+-- it is answered where this holds, and nowhere else
+abbrev pub OkWhere : Result Sight CursorFault → Type 0 → Type 0
+OkWhere (Ok sight) P = P
+OkWhere (Err e) P = ¬ P
 
 -- the first half of a part, behind a node that ends at `at`, and the rest
 abbrev pub left_of : Span → ℕ → ℕ → Span

@@ -23,7 +23,7 @@ use Rattle.file_rows.specs.View.{PlainRow}
 use Rattle.file_get.specs.State.{State}
 use Rattle.file_get.specs.Walks.{Walks, Prefixed, Shows}
 use Rattle.file_get.specs.Kids.{all_find, kids_in, kid_fits}
-use Rattle.file_get.specs.Told.{IsSound}
+use Rattle.file_get.specs.Told.{IsSound, RefusesShort, Unless}
 use Rattle.file_get.specs.declared.fault.GetFault.{GetFault}
 
 -- The archive's nodes stand behind a header of so many bytes, and the tail behind them; and version i among them is this tree.
@@ -44,11 +44,13 @@ pub record RootTold (i : ℕ) (files : Option Files) (name bytes : List ℕ) (si
 -- The version was printed.
 pub record RootPrinted (i : ℕ) (name : List ℕ) (size first : ℕ) (s t : State) (ended : Option GetFault) : Type 0 where
   pub walks : Walks (size - first) s t ended
+  pub short : RefusesShort s.files name size ended
   pub shows : (bytes : List ℕ) (row : PlainRow) (a : PlainArchive) (k : PlainKeyed) → RootTold i s.files name bytes size first row a k
       → Shows (calls_of (plain k)) (8 + seen a i) (steps_for a i) s t ended
 
 -- The text of the version was written, and a line feed.
 pub record TextPut (i : ℕ) (name : List ℕ) (size first : ℕ) (s t : State) (ended : Option GetFault) : Type 0 where
   pub walks : Walks (size - first) s t ended
+  pub short : RefusesShort s.files name size ended
   pub sound : (bytes : List ℕ) (row : PlainRow) (a : PlainArchive) (k : PlainKeyed) → RootTold i s.files name bytes size first row a k
-      → IsSound ended × Prefixed s.taken t.taken ended (keyed_text k) × PullsAtMost (8 + seen a i) s.numbers t.numbers × (t.steps ≤ s.steps + steps_for a i)
+      → IsSound ended × Prefixed s.taken t.taken ended (keyed_text k) × PullsAtMost (8 + seen a i) s.numbers t.numbers × (t.steps ≤ s.steps + steps_for a i) × Unless ended (t.steps ≡ s.steps + steps_for a i)

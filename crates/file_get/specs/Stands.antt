@@ -1,5 +1,5 @@
 -- Where the nodes of an archive stand in its file.
-use Rattle.std.specs.Prelude.{◌≡◌, ℕ, ◌+◌, ◌-◌, ◌≤◌, List, ◌++◌, length, map, Bool, true, IsTrue, nat_lt, Option}
+use Rattle.std.specs.Prelude.{◌≡◌, ℕ, ◌+◌, ◌-◌, ◌*◌, ◌≤◌, List, ◌++◌, length, map, Bool, true, IsTrue, nat_lt, Option}
 use Rattle.std.specs.List.{AllByRecursion}
 use Rattle.xa_outside.specs.Folder.{Files}
 use Rattle.timestamp_tree.specs.Bytes.{tree_bytes}
@@ -40,6 +40,10 @@ pub record SpanIs (bytes : List ℕ) (row : PlainRow) (span : Span) (parent : Li
   pub tree : StandsAt bytes span.at (tree_bytes (tree_of (map (set_of parent) ks)))
   pub limit : span.limit ≡ span.at + length (tree_bytes (tree_of (map (set_of parent) ks)))
   pub inside : span.limit ≤ row.end + (9 + row.dir)
+
+-- the whole of a row, whose tree stands behind its entries
+abbrev pub whole_of : PlainRow → ℕ → Span
+whole_of row count = record { at = row.end + (13 + 24 * count); limit = row.end + (9 + row.dir); position = 0; count = count }
 
 -- These nodes are a part of a row, and what version i has among them can be printed at this place.
 pub record VisitIs (i : ℕ) (files : Option Files) (name bytes : List ℕ) (end : ℕ) (row : PlainRow) (span : Span) (place : Place) (parent : List (ℕ × ℕ)) (front ks behind : List PlainNode) : Type 0 where

@@ -1,8 +1,11 @@
 -- What faults say.
-use Rattle.std.specs.Prelude.{◌≡◌, ℕ, ◌≤◌, Option, Some, None, Result, Ok, Err, ⊤}
+use Rattle.std.specs.Prelude.{◌≡◌, ℕ, ◌≤◌, List, Option, Some, None, Result, Ok, Err, ⊤}
 use Rattle.xa_outside.specs.Causes.{Rose}
+use Rattle.xa_outside.specs.Folder.{Files, front_of}
 use Rattle.record_cursor.specs.declared.fault.CursorFault.{CursorFault}
 use Rattle.record_cursor.specs.declared.fault.CursorFault.TheVariants as cursor
+use Rattle.content_print.specs.declared.fault.PrintFault.{PrintFault}
+use Rattle.content_print.specs.declared.fault.PrintFault.TheVariants as print
 use Rattle.file_get.specs.declared.fault.GetFault.{GetFault}
 use Rattle.file_get.specs.declared.fault.GetFault.TheVariants.{NoVersion, Damage, Folder, Out, Memory}
 
@@ -10,6 +13,10 @@ abbrev pub of_cursor : CursorFault → GetFault
 of_cursor cursor.Damage = Damage
 of_cursor cursor.Folder = Folder
 of_cursor cursor.Memory = Memory
+
+abbrev pub of_print : PrintFault → GetFault
+of_print print.Damage = Damage
+of_print print.Out = Out
 
 abbrev pub fault_of : {T : Type 0} → Result T GetFault → Option GetFault
 fault_of (Ok x) = None
@@ -41,6 +48,17 @@ IsCaused before now out_before out_now other = ⊤
 abbrev pub IsBehind : Option GetFault → Type 0
 IsBehind (Some (NoVersion n)) = ⊥
 IsBehind other = ⊤
+
+-- the file is no archive, and nothing else is said of it but that the folder failed or there is no memory
+abbrev pub IsRefused : Option GetFault → Type 0
+IsRefused None = ⊥
+IsRefused (Some (NoVersion n)) = ⊥
+IsRefused (Some Out) = ⊥
+IsRefused (Some other) = ⊤
+
+-- a file that is told to have fewer than `size` bytes is no archive
+abbrev pub RefusesShort : Option Files → List ℕ → ℕ → Option GetFault → Type 0
+RefusesShort told name size ended = (files : Files) → told ≡ Some files → front_of files name size ≡ None → IsRefused ended
 
 -- no damage is found
 abbrev pub IsSound : Option GetFault → Type 0

@@ -37,13 +37,15 @@ abbrev pub Prefixed : Taken → Taken → Option GetFault → List ℕ → Type 
 Prefixed before now None bytes = Takes before now bytes
 Prefixed before now (Some e) bytes = TakesPrefix before now bytes
 
--- Where the file is sound: these calls were printed, at most so many bytes were pulled and so many steps taken, and there is no damage.
+-- Where the file is sound: these calls were printed, at most so many bytes were pulled and so many steps taken, exactly so many where nothing
+-- failed, and there is no damage.
 pub record Shows (calls : List Call) (read walked : ℕ) (s t : State) (ended : Option GetFault) : Type 0 where
   pub sound : IsSound ended
   pub bytes : Prefixed s.taken t.taken ended (printed s.pen calls)
   pub pen : Unless ended (t.pen ≡ reached s.pen calls)
   pub pulls : PullsAtMost read s.numbers t.numbers
   pub steps : t.steps ≤ s.steps + walked
+  pub exact : Unless ended (t.steps ≡ s.steps + walked)
 
 -- Output alone: these calls were printed, or a prefix of what they print on a fault.
 pub record Sends (calls : List Call) (s t : State) (ended : Option GetFault) : Type 0 where

@@ -13,7 +13,7 @@ use Rattle.xa_outside.specs.Numbers.{PullsAtMost}
 use Rattle.xa_outside.specs.Taken.{Takes, TakesNone}
 use Rattle.file_get.specs.State.{State}
 use Rattle.file_get.specs.Walks.{Prefixed}
-use Rattle.file_get.specs.Told.{IsCaused, IsSound, Judges, is_version}
+use Rattle.file_get.specs.Told.{IsCaused, IsSound, Judges, RefusesShort, Unless, is_version}
 use Rattle.file_get.specs.declared.fault.GetFault.{GetFault}
 use Rattle.file_get.specs.declared.fault.GetFault.TheVariants.{NoVersion}
 
@@ -36,9 +36,11 @@ pub record Written (i : ℕ) (name : List ℕ) (size : ℕ) (s t : State) (ended
   pub pulls : PullsAtMost size s.numbers t.numbers
   pub gained : (bytes : List ℕ) × Takes s.taken t.taken bytes
   pub nothing : (n : ℕ) → ended ≡ Some (NoVersion n) → TakesNone s.taken t.taken
+  pub short : RefusesShort s.files name size ended
   pub judges : (bytes : List ℕ) → TellsFront s.files name size bytes → Judges i (fixed bytes) ended
   pub uncounted : (bytes : List ℕ) → TellsFront s.files name size bytes → IsUncounted i (fixed bytes) → TakesNone s.taken t.taken
   pub undamaged : (bytes : List ℕ) (rules : List PlainRule) (vs : List PlainKeyed) → TellsFront s.files name size bytes → SoundAs rules vs bytes → IsSound ended
   pub text : (bytes : List ℕ) (rules : List PlainRule) (vs : List PlainKeyed) (k : PlainKeyed) → TellsFront s.files name size bytes → SoundAs rules vs bytes → version_of vs i ≡ Some k → Prefixed s.taken t.taken ended (keyed_text k)
   pub few : (bytes : List ℕ) (rules : List PlainRule) (vs : List PlainKeyed) (a : PlainArchive) → TellsFront s.files name size bytes → SoundAs rules vs bytes → ArchiveOf vs a → Few i a s t
   pub steps : (bytes : List ℕ) (rules : List PlainRule) (vs : List PlainKeyed) (a : PlainArchive) → TellsFront s.files name size bytes → SoundAs rules vs bytes → ArchiveOf vs a → t.steps ≤ s.steps + steps_for a i
+  pub exact : (bytes : List ℕ) (rules : List PlainRule) (vs : List PlainKeyed) (a : PlainArchive) → TellsFront s.files name size bytes → SoundAs rules vs bytes → ArchiveOf vs a → Unless ended (t.steps ≡ s.steps + steps_for a i)

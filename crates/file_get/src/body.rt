@@ -1,5 +1,5 @@
 // Reading the body that a leaf has in a version.
-ghost use Rattle.std.specs.Prelude.{◌≡◌, ◌+◌, ◌-◌, ◌*◌, ◌≤◌, ◌<◌, ◌^◌, ◌++◌, ◌∷◌, ℕ, List, Some, true, length, is_some, IfOk, IfErr, IfSome, OnOk};
+ghost use Rattle.std.specs.Prelude.{◌≡◌, ◌+◌, ◌-◌, ◌*◌, ◌≤◌, ◌<◌, ◌^◌, ◌++◌, ℕ, List, Some, true, length, is_some, IfOk, IfErr, IfSome, OnOk};
 ghost use Rattle.std.specs.List.{flat_map};
 ghost use Rattle.xa_fields.specs.Spelling.{u32_bytes};
 ghost use Rattle.xa_outside.specs.Numbers.{PullsAtMost, after_pull};
@@ -18,10 +18,11 @@ ghost use Rattle.record_cursor.specs.Faults.{IfFolder};
 ghost use Rattle.record_cursor.specs.Moves.{TellsFront};
 ghost use Rattle.record_cursor.specs.Steps.{OnlyReads, fault_of, Filled};
 ghost use Rattle.file_rows.specs.StandsAt.{StandsAt};
-ghost use Rattle.file_get.specs.Inside.{AltsTold, AltIs, SetIs, head_bytes};
+ghost use Rattle.file_get.specs.Inside.{AltsTold, AltIs, IsAltHead, SetIs, head_bytes};
 ghost use Rattle.file_get.specs.LeafBodies.{body_view};
 
 use crate::bytes::Bytes;
+use crate::sets::search_pairs;
 use crate::span::Ask;
 use crate::value::{Body, body_of};
 use record_cursor::{CursorFault, fill_part};
@@ -82,8 +83,8 @@ fn read_alternative<F: Folder>(
     requires { at ≤ end }
     ensures reads { OnlyReads F.files F.draft F.faults folder.old folder.new (fault_of result) }
     ensures within { IfOk result (λ a. (at + 9 ≤ a.body) × (a.body ≤ a.end) × (a.end ≤ end)) }
-    ensures numbers { IfOk result (λ a. F.numbers folder.new
-        ≡ after_pull (F.numbers folder.old) (a.body - at)) }
+    ensures most { IfOk result (λ a. PullsAtMost (a.body - at)
+        (F.numbers folder.old) (F.numbers folder.new)) }
     ensures pulls { PullsAtMost (end - at) (F.numbers folder.old) (F.numbers folder.new) }
     ensures told { (last : ℕ) (bytes more : List ℕ) (set : List (ℕ × ℕ)) (x : PlainAlt)
         → TellsFront (F.files folder.old) ask.entry.name.now last bytes → end ≤ last
@@ -150,6 +151,7 @@ fn read_head<F: Folder>(
 fn head_within(head: &[u8], room: u64) -> Option<(u64, bool)>
     requires { 10 ≤ room }
     ensures within { IfSome result (λ h. (10 ≤ h.0) × (h.0 ≤ room)) }
+    ensures is { IfSome result (λ h. IsAltHead head.now h.0 h.1) }
     ensures told { (size : ℕ) (s : Stamp) → size < 2 ^ 64 → 1 ≤ size → 9 + size ≤ room
         → head.now ≡ head_bytes size s → result ≡ Some (9 + size, is_some s) }
 {
@@ -172,8 +174,8 @@ fn read_set<F: Folder>(
     requires { at ≤ end }
     ensures reads { OnlyReads F.files F.draft F.faults folder.old folder.new (fault_of result) }
     ensures within { IfOk result (λ r. (at ≤ r.1) × (r.1 ≤ end)) }
-    ensures numbers { IfOk result (λ r. F.numbers folder.new
-        ≡ after_pull (F.numbers folder.old) (r.1 - at)) }
+    ensures most { IfOk result (λ r. PullsAtMost (r.1 - at)
+        (F.numbers folder.old) (F.numbers folder.new)) }
     ensures pulls { PullsAtMost (end - at) (F.numbers folder.old) (F.numbers folder.new) }
     ensures told { (last : ℕ) (bytes : List ℕ) (s : List (ℕ × ℕ))
         → TellsFront (F.files folder.old) ask.entry.name.now last bytes → end ≤ last
@@ -185,14 +187,14 @@ fn read_set<F: Folder>(
         Ok(count) => count,
         Err(fault) => return Err(fault),
     };
-    match read_pairs(ask, folder, at + 4, count) {
+    match search_pairs(ask, folder, at + 4, count) {
         Ok(has) => Ok((has, at + 4 + 8 * count as u64)),
         Err(fault) => Err(fault),
     }
 }
 
-// How many intervals the set at an offset has, all of which stand in front of the end.
-fn read_count<F: Folder>(
+/// How many intervals the set at an offset has, all of which stand in front of the end.
+pub(crate) fn read_count<F: Folder>(
     ask: Ask<'_>,
     folder: &mut F,
     at: u64,
@@ -220,8 +222,8 @@ fn read_count<F: Folder>(
     }
 }
 
-// The count of a set's intervals, where there is room for them behind it.
-fn count_within(front: &[u8], room: u64) -> Option<u32>
+/// The count of a set's intervals, where there is room for them behind it.
+pub(crate) fn count_within(front: &[u8], room: u64) -> Option<u32>
     requires { 4 ≤ room }
     ensures within { IfSome result (λ n. 4 + 8 * n ≤ room) }
     ensures told { (n : ℕ) → n < 2 ^ 32 → 4 + 8 * n ≤ room → front.now ≡ u32_bytes n
@@ -234,32 +236,8 @@ fn count_within(front: &[u8], room: u64) -> Option<u32>
     Some(count)
 }
 
-// Whether the version is in the set whose intervals, so many, stand at an offset.
-fn read_pairs<F: Folder>(
-    ask: Ask<'_>,
-    folder: &mut F,
-    at: u64,
-    count: u32,
-) -> Result<bool, CursorFault>
-    requires { at + 8 * count < 2 ^ 64 }
-    ensures reads { OnlyReads F.files F.draft F.faults folder.old folder.new (fault_of result) }
-    ensures numbers { OnOk result
-        (F.numbers folder.new ≡ after_pull (F.numbers folder.old) (8 * count)) }
-    ensures pulls { PullsAtMost (8 * count) (F.numbers folder.old) (F.numbers folder.new) }
-    ensures told { (last : ℕ) (bytes : List ℕ) (s : List (ℕ × ℕ))
-        → TellsFront (F.files folder.old) ask.entry.name.now last bytes → at + 8 * count ≤ last
-        → StandsAt bytes at (flat_map pair_bytes s) → count ≡ length s → IsSet s
-        → Filled result (λ h. h ≡ has (members s) ask.entry.version) }
-{
-    let mut pairs = Bytes::new(ask.alloc);
-    match pairs.fill(folder, ask.name, at, 8 * count as usize) {
-        Ok(()) => is_among(pairs.as_slice(), count, ask.version),
-        Err(fault) => Err(fault),
-    }
-}
-
-// Whether the number is in the set that has these intervals, so many.
-fn is_among(pairs: &[u8], count: u32, version: u32) -> Result<bool, CursorFault>
+/// Whether the number is in the set that has these intervals, so many.
+pub(crate) fn is_among(pairs: &[u8], count: u32, version: u32) -> Result<bool, CursorFault>
     ensures cause { IfErr result (λ e. IfFolder e ⊥) }
     ensures told { (s : List (ℕ × ℕ)) → pairs.now ≡ flat_map pair_bytes s → count ≡ length s
         → IsSet s → Filled result (λ h. h ≡ has (members s) version) }

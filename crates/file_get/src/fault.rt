@@ -1,4 +1,5 @@
 // Why no version is written.
+use content_print::PrintFault;
 use record_cursor::CursorFault;
 use thiserror::Error;
 use xa_outside::Failed;
@@ -30,6 +31,20 @@ impl From<CursorFault> for GetFault {
             CursorFault::Damage => GetFault::Damage,
             CursorFault::Folder => GetFault::Folder,
             CursorFault::Memory => GetFault::Memory,
+        }
+    }
+}
+
+impl From<PrintFault> for GetFault {
+    ghost use Rattle.std.specs.Prelude.{◌≡◌};
+    ghost use Rattle.file_get.specs.Told.{of_print};
+
+    ghost from_gives = { λ fault e. e ≡ of_print fault };
+
+    fn from(fault: PrintFault) -> GetFault {
+        match fault {
+            PrintFault::Damage => GetFault::Damage,
+            PrintFault::Out => GetFault::Out,
         }
     }
 }

@@ -5,18 +5,16 @@
 mod body;
 mod bytes;
 mod fault;
-mod fixed;
-mod lent_content;
-mod lent_element;
 mod look;
+mod missing;
 mod print;
 mod read;
 mod root;
+mod sets;
 mod span;
 mod value;
 mod version;
 mod walk;
 
 pub use fault::GetFault;
-pub use lent_element::write_lent_element;
 pub use version::get;

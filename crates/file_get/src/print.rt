@@ -1,8 +1,12 @@
 // Printing what nodes have.
-ghost use Rattle.std.specs.Prelude.{◌≡◌, ◌+◌, ◌≤◌, ℕ, false};
+ghost use Rattle.std.specs.Prelude.{◌≡◌, ◌≤◌, ℕ, false, IsTrue, OnOk};
+ghost use Rattle.jsonml_print.specs.Pen.{takes_attribute, IsOpen};
 ghost use Rattle.keyed_tree.specs.Data.{attr};
 ghost use Rattle.record_parts.specs.Shown.{shown_name};
+ghost use Rattle.record_parts.specs.declared.limits.TheConstants.{DEEPEST};
 ghost use Rattle.file_rows.specs.View.{child_view};
+ghost use Rattle.content_print.specs.LentPrinted.{output, whole_calls};
+ghost use Rattle.file_get.specs.Contents.{ContentPrinted};
 ghost use Rattle.file_get.specs.Told.{fault_of};
 ghost use Rattle.file_get.specs.State.{state};
 ghost use Rattle.file_get.specs.Walks.{IsBegun, StandsIn};
@@ -11,10 +15,10 @@ ghost use Rattle.file_get.specs.Inside.{InsidePrinted, OpenedPrinted};
 use crate::body::read_body;
 use crate::bytes::Bytes;
 use crate::fault::GetFault;
-use crate::lent_content::{print_lent_attr, print_lent_content};
 use crate::read::Opening;
 use crate::span::{Ask, Place};
 use crate::value::Body;
+use content_print::{print_lent_attr, print_lent_content};
 use file_rows::Child;
 use jsonml_text::Printer;
 use xa_outside::{Folder, Sink};
@@ -30,7 +34,7 @@ pub(crate) fn print_leaf<F: Folder, K: Sink>(
     sink: &mut K,
 ) -> Result<(), GetFault>
     requires behind { opening.now.behind ≤ child.end }
-    requires depth { depth ≤ 120 }
+    requires depth { depth ≤ DEEPEST }
     requires begun { IsBegun depth printer.old }
     ensures { (steps : ℕ) → opening.now.is_inner ≡ false
         → InsidePrinted ask.entry.version ask.entry.name.now (child_view child) opening.now depth
@@ -41,8 +45,22 @@ pub(crate) fn print_leaf<F: Folder, K: Sink>(
 {
     let mut room = Bytes::new(ask.alloc);
     match read_body(ask, folder, opening.behind, child.end, &mut room) {
-        Ok(Body::Content(bytes)) => print_lent_content(bytes, printer, sink),
+        Ok(Body::Content(bytes)) => print_content(bytes, printer, sink),
         Ok(Body::Scalar(_)) => Err(GetFault::Damage),
+        Err(fault) => Err(GetFault::from(fault)),
+    }
+}
+
+// Prints the content that all of the bytes are into the element that has just been begun.
+fn print_content<K: Sink>(bytes: &[u8], printer: &mut Printer, sink: &mut K) -> Result<(), GetFault>
+    requires open { IsOpen printer.old }
+    requires attributes { IsTrue (takes_attribute printer.old.last) }
+    ensures prints { ContentPrinted (output K.taken K.faults sink.old printer.old)
+        (output K.taken K.faults sink.new printer.new) (whole_calls bytes.now) result }
+    ensures inside { OnOk result (printer.old.depth ≤ printer.new.depth) }
+{
+    match print_lent_content(bytes, printer, sink) {
+        Ok(()) => Ok(()),
         Err(fault) => Err(GetFault::from(fault)),
     }
 }

@@ -1,5 +1,5 @@
 // Reading headers, opening records and bodies.
-ghost use Rattle.std.specs.Prelude.{◌≡◌, ◌+◌, ◌-◌, ◌≤◌, ◌<◌, ◌^◌, ◌++◌, ◌∷◌, ℕ, List, length, take, false, Some, IfOk, IfErr, IfSome, OnOk};
+ghost use Rattle.std.specs.Prelude.{◌≡◌, ◌+◌, ◌-◌, ◌≤◌, ◌<◌, ◌^◌, ◌++◌, ◌∷◌, ℕ, List, length, false, Some, IfOk, IfErr, IfSome, IsTrue, OnOk};
 ghost use Rattle.xa_fields.specs.Spelling.{u64_bytes};
 ghost use Rattle.record_cursor.specs.Faults.{IfFolder};
 ghost use Rattle.record_format.specs.Data.{PlainRec};
@@ -12,13 +12,13 @@ ghost use Rattle.record_format.specs.Spelling.{body_bytes, kind_of, rec_bytes};
 ghost use Rattle.record_cursor.specs.Moves.{TellsFront};
 ghost use Rattle.record_cursor.specs.Steps.{OnlyReads, fault_of, Filled};
 ghost use Rattle.file_rows.specs.StandsAt.{StandsAt};
-ghost use Rattle.file_get.specs.Inside.{is_inner, may_close, opening_rec, OpeningIs};
+ghost use Rattle.file_get.specs.Inside.{is_inner, may_close, opening_rec, opens, OpeningIs};
 
 use crate::bytes::Bytes;
 use crate::span::Ask;
 use file_rows::Child;
 use record_cursor::{CursorFault, fill_part};
-use record_format::{LEAF, LabelView, View, view_body};
+use record_format::{INNER, LEAF, LabelView, View, view_body};
 use record_parts::NameView;
 use xa_fields::{take_u8, take_u64};
 use xa_outside::Folder;
@@ -89,6 +89,7 @@ fn read_record<F: Folder>(
         → TellsFront (F.files folder.old) name.now end bytes → child.end ≤ end
         → StandsAt bytes child.first (rec_bytes r ++ more)
         → child.end ≡ child.first + length (rec_bytes r ++ more) → IsRec r
+        → IsTrue (opens (kind_of r))
         → Filled result (λ kind. (kind ≡ kind_of r) × (body.new ≡ body_bytes r))
         × PullsAtMost (length (rec_bytes r)) (F.numbers folder.old) (F.numbers folder.new) }
 {
@@ -102,8 +103,8 @@ fn read_record<F: Folder>(
     }
 }
 
-/// The kind of the record at the front of a child, and the length of its body, which ends within
-/// the child.
+/// The kind of the record at the front of a child, which opens a node, and the length of its body,
+/// which ends within the child. Of another record no more is read.
 pub(crate) fn read_frame<F: Folder>(
     folder: &mut F,
     name: &str,
@@ -111,6 +112,7 @@ pub(crate) fn read_frame<F: Folder>(
 ) -> Result<(u8, u64), CursorFault>
     ensures reads { OnlyReads F.files F.draft F.faults folder.old folder.new (fault_of result) }
     ensures within { IfOk result (λ f. 9 + f.1 ≤ child.end - child.first) }
+    ensures opens { IfOk result (λ f. IsTrue (opens f.0)) }
     ensures numbers { OnOk result (F.numbers folder.new ≡ after_pull (F.numbers folder.old) 9) }
     ensures pulls { PullsAtMost 9 (F.numbers folder.old) (F.numbers folder.new) }
     ensures inside { PullsAtMost (child.end - child.first)
@@ -119,6 +121,7 @@ pub(crate) fn read_frame<F: Folder>(
         → TellsFront (F.files folder.old) name.now end bytes → child.end ≤ end
         → StandsAt bytes child.first (rec_bytes r ++ more)
         → child.end ≡ child.first + length (rec_bytes r ++ more) → IsRec r
+        → IsTrue (opens (kind_of r))
         → Filled result (λ f. (f.0 ≡ kind_of r) × (f.1 ≡ length (body_bytes r))) }
 {
     let room = child.end - child.first;
@@ -132,19 +135,29 @@ pub(crate) fn read_frame<F: Folder>(
     }
 }
 
-// The kind and the length of a record's body, where it has no more bytes than there is room for.
+// The kind and the length of a record's body, where it opens a node and has no more bytes than there
+// is room for.
 fn frame_within(frame: &[u8], room: u64) -> Option<(u8, u64)>
     requires { 9 ≤ room }
     ensures within { IfSome result (λ f. 9 + f.1 ≤ room) }
-    ensures told { (kind size : ℕ) → kind < 2 ^ 8 → size < 2 ^ 64 → 9 + size ≤ room
+    ensures opens { IfSome result (λ f. IsTrue (opens f.0)) }
+    ensures told { (kind size : ℕ) → kind < 2 ^ 8 → IsTrue (opens kind) → size < 2 ^ 64
+        → 9 + size ≤ room
         → frame.now ≡ kind ∷ u64_bytes size → result ≡ Some (kind, size) }
 {
     let (kind, _) = take_u8(frame, 0)?;
     let (size, _) = take_u64(frame, 1)?;
-    if room - 9 < size {
+    if !opens_node(kind) || room - 9 < size {
         return None;
     }
     Some((kind, size))
+}
+
+// Whether a record of this kind opens a node.
+fn opens_node(kind: u8) -> bool
+    ensures { result ≡ opens kind }
+{
+    kind == INNER || kind == LEAF
 }
 
 // What a record with this body opens, which begins at this offset.

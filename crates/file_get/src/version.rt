@@ -1,5 +1,5 @@
 // Writing a version.
-ghost use Rattle.std.specs.Prelude.{◌≡◌, ◌≢◌, ◌+◌, ◌≤◌, ℕ, List, Some, IfErr};
+ghost use Rattle.std.specs.Prelude.{◌≡◌, ◌≢◌, ◌+◌, ◌≤◌, ℕ, List, None, Some, IfErr, OnOk};
 ghost use Rattle.key_spec.specs.Data.{PlainRule};
 ghost use Rattle.keyed_tree.specs.Data.{PlainKeyed};
 ghost use Rattle.keyed_print.specs.KeyedText.{keyed_text};
@@ -9,18 +9,20 @@ ghost use Rattle.archive_file.specs.Sound.{SoundAs};
 ghost use Rattle.record_format.specs.Fronts.{fixed};
 ghost use Rattle.record_format.specs.Seen.{seen, steps_for};
 ghost use Rattle.record_cursor.specs.Moves.{TellsFront};
+ghost use Rattle.xa_outside.specs.Folder.{Files, front_of};
 ghost use Rattle.xa_outside.specs.Numbers.{PullsAtMost};
 ghost use Rattle.xa_outside.specs.Taken.{Puts, Takes, TakesNone};
 ghost use Rattle.jsonml_print.specs.Pen.{fresh};
 ghost use Rattle.file_get.specs.State.{state};
-ghost use Rattle.file_get.specs.Told.{IsCaused, Judges, fault_of, is_version};
+ghost use Rattle.file_get.specs.Told.{IsCaused, IsRefused, Judges, fault_of, is_version};
 ghost use Rattle.file_get.specs.Written.{IsUncounted, Written};
 ghost use Rattle.file_get.specs.declared.fault.GetFault.TheVariants.{Damage, NoVersion};
 
 use crate::fault::GetFault;
-use crate::fixed::read_fixed;
+use crate::missing::judge_missing;
 use crate::root::put_version;
 use crate::span::Ask;
+use record_cursor::read_fixed;
 use std::alloc::Global;
 use std::sync::ledger::Ledger;
 use timestamp_tree::Steps;
@@ -29,9 +31,12 @@ use xa_outside::{Folder, Sink};
 /// Writes a version of the archive in the first `size` bytes of a file: its text, and a line feed.
 ///
 /// At each node the stored timestamp tree over its children is searched, which leads to the
-/// children that the version has, in order; each visited tree node is a step. Memory is taken for one
-/// stored tree node of more than eight intervals, and for a set, a record or a value of more than
-/// 256 bytes. Of the header the fourteen bytes of fixed fields are read.
+/// children that the version has, in order; each visited tree node is a step. In the set of one child
+/// and of an alternative the version is looked for by halving. Memory is taken for one inner tree
+/// node of more than eight intervals, and for a record or a value of more than 256 bytes. Of the
+/// header the fourteen bytes of fixed fields are read. Where they count no such version, the last of
+/// the `size` bytes is read too, or the length is asked for if the header has them all: a file with
+/// fewer is damaged.
 pub fn get<F: Folder, O: Sink, L: Ledger>(
     alloc: Global,
     folder: &mut F,
@@ -46,6 +51,8 @@ pub fn get<F: Folder, O: Sink, L: Ledger>(
         → Judges version (fixed bytes) (fault_of result) }
     ensures uncounted { (bytes : List ℕ) → TellsFront (F.files folder.old) name.now size bytes
         → IsUncounted version (fixed bytes) → TakesNone (O.taken out.old) (O.taken out.new) }
+    ensures short { (files : Files) → F.files folder.old ≡ Some files
+        → front_of files name.now size ≡ None → IsRefused (fault_of result) }
     ensures nothing { (n : ℕ) → fault_of result ≡ Some (NoVersion n)
         → TakesNone (O.taken out.old) (O.taken out.new) }
 
@@ -80,6 +87,12 @@ pub fn get<F: Folder, O: Sink, L: Ledger>(
     ensures steps { (bytes : List ℕ) (rules : List PlainRule) (vs : List PlainKeyed)
         (a : PlainArchive) → TellsFront (F.files folder.old) name.now size bytes
         → SoundAs rules vs bytes → ArchiveOf vs a → steps.new ≤ steps.old + steps_for a version }
+
+    // Where it answers Ok, exactly the visited nodes are counted.
+    ensures exactly { (bytes : List ℕ) (rules : List PlainRule) (vs : List PlainKeyed)
+        (a : PlainArchive) → TellsFront (F.files folder.old) name.now size bytes
+        → SoundAs rules vs bytes → ArchiveOf vs a
+        → OnOk result (steps.new ≡ steps.old + steps_for a version) }
 {
     write_version(
         Ask {
@@ -110,6 +123,7 @@ fn write_version<F: Folder, O: Sink, L: Ledger>(
 {
     let fixed = read_fixed(folder, ask.name, size)?;
     if ask.version < 1 || fixed.versions < ask.version {
+        judge_missing(folder, ask.name, fixed.first, size)?;
         return Err(GetFault::NoVersion { n: fixed.versions });
     }
     put_version(ask, fixed.first, size, folder, out, steps)

@@ -9,13 +9,14 @@ ghost use Rattle.file_get.specs.Printed.{RowPrinted, ChildPrinted, NodePrinted};
 ghost use Rattle.file_get.specs.Inside.{InsidePrinted, OpenedPrinted};
 ghost use Rattle.keyed_tree.specs.Data.{tag};
 ghost use Rattle.record_parts.specs.Shown.{shown_name};
+ghost use Rattle.record_parts.specs.declared.limits.TheConstants.{DEEPEST};
 
 use crate::bytes::Bytes;
 use crate::fault::GetFault;
 use crate::look::{Sight, look};
 use crate::print::{print_attribute, print_leaf};
 use crate::read::{Opening, read_opening};
-use crate::span::{Ask, Place, Span};
+use crate::span::{Ask, Place, Span, whole_of};
 use file_rows::{Child, Row, count_children, read_child, row_of};
 use jsonml_text::Printer;
 use record_parts::{DEEPEST, NameView};
@@ -35,7 +36,7 @@ pub(crate) fn print_row<F: Folder, K: Sink, L: Ledger>(
     sink: &mut K,
     steps: &mut Steps<L>,
 ) -> Result<bool, GetFault>
-    requires depth { depth ≤ 120 }
+    requires depth { depth ≤ DEEPEST }
     requires stands { StandsIn depth false printer.old }
     ensures { RowPrinted ask.entry.version ask.entry.name.now (row_view row) depth
         (state F.files F.draft F.numbers F.faults K.taken K.faults
@@ -47,12 +48,7 @@ pub(crate) fn print_row<F: Folder, K: Sink, L: Ledger>(
     if count == 0 {
         return Ok(false);
     }
-    let span = Span {
-        at: row.end + (13 + 24 * count as u64),
-        limit: row.end + (9 + row.dir),
-        position: 0,
-        count,
-    };
+    let span = whole_of(row, count);
     let place = Place {
         depth,
         after: row.first,
@@ -80,7 +76,7 @@ fn visit<F: Folder, K: Sink, L: Ledger>(
     requires few { span.position + span.count < 2 ^ 32 }
     requires fits { 4 + 24 * (span.position + span.count) ≤ row.dir }
     requires after { place.after ≤ row.end }
-    requires depth { place.depth ≤ 120 }
+    requires depth { place.depth ≤ DEEPEST }
     requires stands { StandsIn place.depth place.has_item printer.old }
     ensures { Visited ask.entry.version ask.entry.name.now (row_view row) span place
         (state F.files F.draft F.numbers F.faults K.taken K.faults
@@ -112,7 +108,7 @@ fn print_child<F: Folder, K: Sink, L: Ledger>(
 ) -> Result<Place, GetFault>
     requires fits { 4 + 24 * (span.position + 1) ≤ row.dir }
     requires after { place.after ≤ row.end }
-    requires depth { place.depth ≤ 120 }
+    requires depth { place.depth ≤ DEEPEST }
     requires stands { StandsIn place.depth place.has_item printer.old }
     ensures { ChildPrinted ask.entry.version ask.entry.name.now (row_view row) span place
         (state F.files F.draft F.numbers F.faults K.taken K.faults
@@ -140,7 +136,7 @@ fn print_node<F: Folder, K: Sink, L: Ledger>(
     sink: &mut K,
     steps: &mut Steps<L>,
 ) -> Result<bool, GetFault>
-    requires depth { place.depth ≤ 120 }
+    requires depth { place.depth ≤ DEEPEST }
     requires stands { StandsIn place.depth place.has_item printer.old }
     ensures { NodePrinted ask.entry.version ask.entry.name.now (child_view child)
         place.depth place.has_item
@@ -177,7 +173,7 @@ fn print_element<F: Folder, K: Sink, L: Ledger>(
     steps: &mut Steps<L>,
 ) -> Result<bool, GetFault>
     requires behind { opening.now.behind ≤ child.end }
-    requires depth { place.depth ≤ 120 }
+    requires depth { place.depth ≤ DEEPEST }
     requires stands { StandsIn place.depth place.has_item printer.old }
     requires name { shown_name opening.now.name ≡ tag text.now }
     ensures { OpenedPrinted ask.entry.version ask.entry.name.now (child_view child) opening.now
@@ -218,7 +214,7 @@ fn print_inside<F: Folder, K: Sink, L: Ledger>(
     steps: &mut Steps<L>,
 ) -> Result<(), GetFault>
     requires behind { opening.now.behind ≤ child.end }
-    requires depth { depth ≤ 120 }
+    requires depth { depth ≤ DEEPEST }
     requires begun { IsBegun depth printer.old }
     ensures { InsidePrinted ask.entry.version ask.entry.name.now (child_view child)
         opening.now depth

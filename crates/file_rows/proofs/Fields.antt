@@ -1,10 +1,11 @@
 -- What the bytes of a directory say, of which some were read.
-use Rattle.std.proofs.Common.{◌≡◌, ℕ, zero, suc, ◌+◌, ◌-◌, ◌*◌, ◌≤◌, false, eqb, leb, true, IsTrue, List, [], ◌∷◌, ◌++◌, length, map, take, drop, Option, Some, None, Result, Ok, refl, sym, ap, subst, ◌∙◌, arith, length-take-le, length-drop, drop-drop}
+use Rattle.std.proofs.Common.{◌≡◌, if◌then◌else◌, ℕ, zero, suc, ◌+◌, ◌-◌, ◌*◌, ◌≤◌, Bool, false, eqb, leb, true, IsTrue, List, [], ◌∷◌, ◌++◌, length, map, take, drop, Option, Some, None, Result, Ok, refl, sym, ap, subst, ◌∙◌, arith, length-take-le, length-drop, drop-drop}
 use Rattle.std.specs.Int.{Width, w64, byte_len, from_be_bytes}
 use Rattle.std.specs.Prelude.{ok_or, IfOk, IfSome}
 use Rattle.std.proofs.lemmas.Bool.Decides.{nat_tests}
 use Rattle.std.proofs.lemmas.List.{drop-take, drop_all, take-take, length-append}
 use Rattle.xa_fields.specs.Reading.{number_at}
+use Rattle.xa_outside.specs.Folder.{front}
 use Rattle.xa_fields.specs.FieldLaws.{number-there, some_is}
 use Rattle.timestamp_tree.specs.Data.{PlainTs, leaf, node, leaves}
 use Rattle.timestamp_tree.specs.Bytes.{tree_bytes}
@@ -18,6 +19,18 @@ use Rattle.xa_fields.specs.Spelling.{u32_bytes}
 use Rattle.std.specs.List.{flat_map}
 use Rattle.file_rows.specs.StandsAt.{IsEntered, has_room}
 use Rattle.file_rows.proofs.Children.{entries-size}
+
+-- ---- lengths
+
+le-leb : (n m : ℕ) → n ≤ m → leb n m ≡ true
+le-leb n m h = grind (arith, nat_tests)
+
+-- a file that has so many bytes has a front of so many
+pub has-front : (file : List ℕ) (n : ℕ) → n ≤ length file → front n file ≡ None → ⊥
+has-front file n h none = (
+    let there : front n file ≡ Some (take n file) = ap (λ (b : Bool). if b then Some (take n file) else None) (le-leb n (length file) h) in
+    let clash : None ≡ Some (take n file) = sym none ∙ there in
+    cc)
 
 -- ---- numbers
 

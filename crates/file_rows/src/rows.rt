@@ -3,6 +3,7 @@ ghost use Rattle.std.specs.Prelude.{◌≡◌, ◌≢◌, ◌+◌, ◌-◌, ◌*
 ghost use Rattle.std.specs.Int.{w64};
 ghost use Rattle.xa_fields.specs.Reading.{number_at};
 ghost use Rattle.xa_fields.specs.Spelling.{u64_bytes};
+ghost use Rattle.xa_outside.specs.Folder.{Files, front_of};
 ghost use Rattle.xa_outside.specs.Numbers.{PullsAtMost};
 ghost use Rattle.keyed_tree.specs.Data.{PlainLabel};
 ghost use Rattle.archive_tree.specs.Data.{Stamp};
@@ -27,7 +28,7 @@ const TAIL: u64 = 8;
 
 /// The row of the virtual root in the first `size` bytes of a file, whose header has `first`.
 ///
-/// It reads the eight bytes of the tail.
+/// It reads the eight bytes of the tail, the last of those `size`.
 pub fn root_row<F: Folder>(
     folder: &mut F,
     name: &str,
@@ -40,6 +41,10 @@ pub fn root_row<F: Folder>(
     ensures inside { PullsAtMost (size - first) (F.numbers folder.old) (F.numbers folder.new) }
     ensures within { IfOk result (λ row. (row.first ≡ first)
         × (row.end + (9 + row.dir) + 8 ≡ size)) }
+
+    // A file with fewer bytes has none.
+    ensures short { (files : Files) → F.files folder.old ≡ Some files
+        → front_of files name.now size ≡ None → IfOk result (λ _. ⊥) }
 
     // Where the file is told, the END's length is the number in the last eight bytes.
     ensures tail { (bytes : List ℕ) → TellsFront (F.files folder.old) name.now size bytes

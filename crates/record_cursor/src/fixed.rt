@@ -1,6 +1,5 @@
 // Reading the fixed fields of a header.
 ghost use Rattle.std.specs.Prelude.{◌≡◌, ◌+◌, ◌<◌, ◌≤◌, ◌^◌, ℕ, List, length, take, drop, None, Some, IfOk, IfErr, bytes_eq};
-ghost use Rattle.xa_outside.specs.Folder.{Files, front_of};
 ghost use Rattle.xa_outside.specs.Numbers.{PullsAtMost};
 ghost use Rattle.record_format.specs.Files.{magic};
 ghost use Rattle.record_format.specs.Fronts.{fixed};
@@ -11,7 +10,7 @@ ghost use Rattle.record_cursor.specs.Fixed.{count_in, FirstIs};
 
 use crate::fault::CursorFault;
 use crate::fill::fill_part;
-use crate::front::{FIELDS, FRONT, TEXT_LENGTH, check_length};
+use crate::front::{FIELDS, FRONT, TEXT_LENGTH};
 use record_parts::MOST_VERSIONS;
 use xa_fields::take_u32;
 use xa_outside::Folder;
@@ -26,28 +25,10 @@ pub struct Fixed {
     pub first: u64,
 }
 
-/// The fixed fields of the header of the first `size` bytes of a file: fourteen bytes. A file with
-/// fewer than `size` bytes has none.
+/// The fixed fields of the header of the first `size` bytes of a file: fourteen bytes.
+///
+/// Only these are read: whether the file has `size` bytes is not asked.
 pub fn read_fixed<F: Folder>(folder: &mut F, name: &str, size: u64) -> Result<Fixed, CursorFault>
-    ensures reads { OnlyReads F.files F.draft F.faults folder.old folder.new (fault_of result) }
-    ensures within { IfOk result (λ f. (14 ≤ f.first) × (f.first ≤ size)) }
-    ensures pulls { PullsAtMost 14 (F.numbers folder.old) (F.numbers folder.new) }
-    ensures inside { PullsAtMost size (F.numbers folder.old) (F.numbers folder.new) }
-    ensures short { (files : Files) → F.files folder.old ≡ Some files
-        → front_of files name.now size ≡ None → IfOk result (λ _. ⊥) }
-    ensures told { (bytes : List ℕ) → TellsFront (F.files folder.old) name.now size bytes
-        → Finds (λ f. Some f.versions) result (fixed bytes) }
-    ensures text { (bytes : List ℕ) → TellsFront (F.files folder.old) name.now size bytes
-        → IfOk result (λ f. HasText bytes f.first) }
-{
-    match check_length(folder, name, size) {
-        Ok(()) => read_fields(folder, name, size),
-        Err(fault) => Err(fault),
-    }
-}
-
-// The fixed fields of the header of the first `size` bytes of a file, which has so many.
-fn read_fields<F: Folder>(folder: &mut F, name: &str, size: u64) -> Result<Fixed, CursorFault>
     ensures reads { OnlyReads F.files F.draft F.faults folder.old folder.new (fault_of result) }
     ensures within { IfOk result (λ f. (14 ≤ f.first) × (f.first ≤ size)) }
     ensures pulls { PullsAtMost 14 (F.numbers folder.old) (F.numbers folder.new) }

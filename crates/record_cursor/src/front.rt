@@ -110,11 +110,7 @@ fn read_stored<F: Folder>(
 }
 
 /// Nothing, where the file has so many bytes.
-pub(crate) fn check_length<F: Folder>(
-    folder: &mut F,
-    name: &str,
-    length: u64,
-) -> Result<(), CursorFault>
+fn check_length<F: Folder>(folder: &mut F, name: &str, length: u64) -> Result<(), CursorFault>
     ensures reads { OnlyReads F.files F.draft F.faults folder.old folder.new (fault_of result) }
     ensures numbers { F.numbers folder.new ≡ F.numbers folder.old }
     ensures told { (files : Files) → F.files folder.old ≡ Some files

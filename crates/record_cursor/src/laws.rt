@@ -62,7 +62,8 @@ pub fn cursors_give_what_comes()
 /// The file of an archive whose inner nodes nest at most 120 deep gives the items of its records
 /// behind its header, and then ends.
 pub fn files_give_their_items()
-    ensures header { (rules : List PlainRule) (a : PlainArchive) → closed (canonical rules) ≡ Ok rules
+    ensures header { (rules : List PlainRule) (a : PlainArchive)
+        → closed (canonical rules) ≡ Ok rules
         → HasFile rules a → header_at (file_bytes rules a)
         ≡ Some ((rules, a.n), drop (length (header_bytes rules a.n)) (file_bytes rules a)) }
     ensures items { (rules : List PlainRule) (a : PlainArchive) → HasFile rules a

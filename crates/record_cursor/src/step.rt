@@ -53,7 +53,8 @@ pub(crate) fn read_step<F: Folder>(
     ensures only { (bytes rest : List ℕ) (i : PlainItem) (t : Standing)
         → TellsFront (F.files folder.old) name.now length bytes
         → next_of (place_view place) (drop at bytes) ≡ Some (i, (t, rest))
-        → PullsAtMost (read_for (place_view place) i) (F.numbers folder.old) (F.numbers folder.new) }
+        → PullsAtMost (read_for (place_view place) i)
+        (F.numbers folder.old) (F.numbers folder.new) }
     ensures again { place_view place ≡ finished
         → IsOkAnd result (λ step. step.read ≡ Finish) }
 {
@@ -101,7 +102,8 @@ fn read_record<F: Folder>(
     ensures only { (bytes rest : List ℕ) (i : PlainItem) (t : Standing)
         → TellsFront (F.files folder.old) name.now length bytes
         → next_of (place_view place) (drop at bytes) ≡ Some (i, (t, rest))
-        → PullsAtMost (read_for (place_view place) i) (F.numbers folder.old) (F.numbers folder.new) }
+        → PullsAtMost (read_for (place_view place) i)
+        (F.numbers folder.old) (F.numbers folder.new) }
 {
     if length - at < FRAME as u64 {
         return Err(CursorFault::Damage);
@@ -160,7 +162,8 @@ fn read_body<F: Folder>(
     requires comes { MayCome kind size }
     ensures reads { OnlyReads F.files F.draft F.faults folder.old folder.new (fault_of result) }
     ensures numbers { IfOk result (λ read.
-        F.numbers folder.new ≡ after_pull (F.numbers folder.old) (body_read read (held buffer.new))) }
+        F.numbers folder.new
+        ≡ after_pull (F.numbers folder.old) (body_read read (held buffer.new))) }
     ensures pulls { PullsAtMost (body_size kind size)
         (F.numbers folder.old) (F.numbers folder.new) }
     ensures is { IfOk result (λ read. IsReadOf kind size read (held buffer.new)) }

@@ -93,12 +93,25 @@ fn is_refused(
     written(alloc, &mut folder, file.len() as u64, version, &mut out) == Err(wanted)
 }
 
+/// Whether version 7 is told to be missing in so many first bytes of the file of one version, of
+/// which so many are pulled.
+fn is_missing(alloc: Global, size: u64, pulled: u64) -> bool {
+    let Some(mut folder) = folder(alloc, ONE, 100) else {
+        return false;
+    };
+    let mut out = MemSink::new(alloc, Vec::new(alloc));
+    written(alloc, &mut folder, size, 7, &mut out) == Err(GetFault::NoVersion { n: 1 })
+        && folder.pulled() == pulled
+}
+
 #[test]
 fn a_version_that_is_not_there_is_told(rt: HostRuntime) -> Result<(), Fail> {
     let alloc = rt.alloc();
     let none = GetFault::NoVersion { n: 6 };
     told(is_refused(alloc, SIX, 0, none, 100, 100), "version 0")?;
-    told(is_refused(alloc, SIX, 7, none, 100, 100), "version 7")
+    told(is_refused(alloc, SIX, 7, none, 100, 100), "version 7")?;
+    told(is_missing(alloc, 142, 15), "a file and its last byte")?;
+    told(is_missing(alloc, 28, 14), "a header alone")
 }
 
 #[test]
@@ -107,8 +120,32 @@ fn a_call_that_fails_is_no_damage(rt: HostRuntime) -> Result<(), Fail> {
     let folder = GetFault::Folder;
     told(is_refused(alloc, ONE, 1, folder, 1, 100), "the header")?;
     told(is_refused(alloc, ONE, 1, folder, 3, 100), "the tail")?;
+    told(is_refused(alloc, ONE, 2, folder, 3, 100), "the last byte")?;
     let out = GetFault::Out;
     told(is_refused(alloc, ONE, 1, out, 100, 1), "the output")
+}
+
+/// Whether a version is refused as damage in so many first bytes of the file of one version.
+fn is_short(alloc: Global, size: u64, version: u32) -> bool {
+    let Some(mut folder) = folder(alloc, ONE, 100) else {
+        return false;
+    };
+    let mut out = MemSink::new(alloc, Vec::new(alloc));
+    written(alloc, &mut folder, size, version, &mut out) == Err(GetFault::Damage)
+        && out.taken().is_empty()
+        && folder.pulled() <= 22
+}
+
+/// More bytes than the file has, and a version.
+const SHORT: &[(u64, u32)] = &[(143, 1), (143, 7), (150, 0), (1 << 40, 1)];
+
+#[test]
+fn a_file_with_fewer_bytes_is_damaged(rt: HostRuntime) -> Result<(), Fail> {
+    for (size, version) in SHORT {
+        let holds = is_short(rt.alloc(), *size, *version);
+        assert!(rt; holds, "version {version} of {size} bytes");
+    }
+    Ok(())
 }
 
 /// What was changed, at which offset, and to which bytes.

@@ -13,3 +13,5 @@ mod gets;
 mod histories;
 #[cfg(test)]
 mod rows;
+#[cfg(test)]
+mod turns;

@@ -110,6 +110,35 @@ fn what_does_not_fit_is_damage(rt: HostRuntime) -> Result<(), Fail> {
     told(is_tail_damage(rt.alloc()), "the tail behind no child")
 }
 
+/// A child, where it ends and the length of its directory; and where the row inside it ends, whose
+/// opening record ends at 21.
+const INSIDE: &[(&str, u64, u64, Option<u64>)] = &[
+    ("no child", 34, 4, Some(21)),
+    ("one child", 142, 48, Some(85)),
+    ("a directory that is a byte too long", 34, 5, None),
+    ("the longest directory", 34, u64::MAX, None),
+    ("no room for an END", 29, 0, None),
+    ("an end in front of its row", 20, 0, None),
+];
+
+/// Whether the row inside a child ends there, and has the child's directory.
+fn is_inside(end: u64, dir: u64, wanted: Option<u64>) -> bool {
+    let child = Child { first: 0, end, dir };
+    match (row_of(child, 21), wanted) {
+        (Some(row), Some(end)) => is_row(row, 21, end, dir),
+        (None, None) => true,
+        _ => false,
+    }
+}
+
+#[test]
+fn a_row_has_the_directory_of_its_child(rt: HostRuntime) -> Result<(), Fail> {
+    for (what, end, dir, wanted) in INSIDE {
+        told(is_inside(*end, *dir, *wanted), what)?;
+    }
+    Ok(())
+}
+
 #[test]
 fn a_read_that_fails_is_no_damage(rt: HostRuntime) -> Result<(), Fail> {
     let alloc = rt.alloc();

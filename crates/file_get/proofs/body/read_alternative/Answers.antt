@@ -58,3 +58,17 @@ returns-in-Err-read_set-clause-pulls g c =
     let f = c.in-Ok.ensures in
     let room = c.in-Ok.head.0 - (a.at + 10) in
     PullsAtMost-more (10 + room) (a.end - a.at) (n a.folder.now) (n c.read_set.new.folder) (omega (arith, f.within)) (PullsAtMost-trans 10 room (n a.folder.now) (n c.read_head.new.folder) (n c.read_set.new.folder) f.pulls c.in-Err-read_set.ensures.pulls)
+
+pub returns-then-not-is_stored-clause-most : goal.returns-then-not-is_stored-clause-most
+returns-then-not-is_stored-clause-most g c =
+    let a = c.args in
+    let n = g.F.Folder.numbers in
+    PullsAtMost-more 10 (a.at + 10 - a.at) (n a.folder.now) (n c.read_head.new.folder) (omega arith) c.in-Ok.ensures.pulls
+
+pub returns-in-Ok-read_set-clause-most : goal.returns-in-Ok-read_set-clause-most
+returns-in-Ok-read_set-clause-most g c =
+    let a = c.args in
+    let n = g.F.Folder.numbers in
+    let body = c.in-Ok-read_set.body in
+    let room = body - (a.at + 10) in
+    PullsAtMost-more (10 + room) (body - a.at) (n a.folder.now) (n c.read_set.new.folder) (omega (arith, c.in-Ok-read_set.ensures.within)) (PullsAtMost-trans 10 room (n a.folder.now) (n c.read_head.new.folder) (n c.read_set.new.folder) c.in-Ok.ensures.pulls c.in-Ok-read_set.ensures.most)

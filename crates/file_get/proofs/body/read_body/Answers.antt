@@ -1,5 +1,5 @@
 use Rattle.std.proofs.Common.{rules, Some, ◌≡◌, ◌+◌, ◌-◌, arith}
-use Rattle.xa_outside.specs.NumberLaws.{PullsAtMost-none, PullsAtMost-more, PullsAtMost-of, PullsAtMost-trans}
+use Rattle.xa_outside.specs.NumberLaws.{PullsAtMost-none, PullsAtMost-more, PullsAtMost-trans}
 use Rattle.keyed_tree.specs.Data.{PlainKey}
 use Rattle.file_get.specs.LeafBodies.{body_view}
 use Rattle.record_cursor.specs.Steps.{Filled}
@@ -34,7 +34,7 @@ loop-alternative-preserved g c =
       onward = omega (arith, inv.onward, w.0, w.1);
       reads = search rules;
       pulls = PullsAtMost-more ((l.at - a.at) + (f.body - l.at)) (f.end - a.at) (n a.folder.now) (n c.read_alternative.new.folder) (omega (arith, inv.onward, w.0, w.1))
-          (PullsAtMost-trans (l.at - a.at) (f.body - l.at) (n a.folder.now) (n l.folder) (n c.read_alternative.new.folder) inv.pulls (PullsAtMost-of (f.body - l.at) (f.body - l.at) (n l.folder) (n c.read_alternative.new.folder) (omega arith) read.numbers));
+          (PullsAtMost-trans (l.at - a.at) (f.body - l.at) (n a.folder.now) (n l.folder) (n c.read_alternative.new.folder) inv.pulls read.most);
       told = λ last bytes more set xs h. passes a.ask.version (g.F.Folder.files l.folder) a.ask.name.now bytes last l.at a.end set xs more (n a.folder.now) (n l.folder) (n c.read_alternative.new.folder)
           f (g.F.Folder.files c.read_alternative.new.folder) only.same_files (inv.told last bytes more set xs h) read.told c.if-alternative.false;
     }
@@ -68,7 +68,7 @@ returns-then-alternative-clause-pulls g c =
     PullsAtMost-more ((l.at - a.at) + ((f.body - l.at) + (f.end - f.body))) (a.end - a.at) (n a.folder.now) (n c.read_value.new.folder) (omega (arith, inv.onward, w.0, w.1, w.2))
     (PullsAtMost-trans (l.at - a.at) ((f.body - l.at) + (f.end - f.body)) (n a.folder.now) (n l.folder) (n c.read_value.new.folder) inv.pulls
     (PullsAtMost-trans (f.body - l.at) (f.end - f.body) (n l.folder) (n c.read_alternative.new.folder) (n c.read_value.new.folder)
-    (PullsAtMost-of (f.body - l.at) (f.body - l.at) (n l.folder) (n c.read_alternative.new.folder) (omega arith) read.numbers) c.read_value.ensures.pulls))
+    read.most c.read_value.ensures.pulls))
 
 pub returns-then-alternative-clause-told : goal.returns-then-alternative-clause-told
 returns-then-alternative-clause-told g c = λ last bytes more set xs h. (

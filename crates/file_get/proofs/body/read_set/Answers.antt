@@ -3,7 +3,9 @@ use Rattle.xa_outside.specs.NumberLaws.{PullsAtMost-more, PullsAtMost-trans}
 use Rattle.timestamp_tree.specs.Bytes.{set_bytes}
 use Rattle.timestamp_tree.proofs.Trees.{length-set_bytes}
 use Rattle.record_cursor.specs.Moves.{TellsFront}
+use Rattle.file_get.specs.Searched.{searched}
 use Rattle.file_get.proofs.Bodies.{pairs-stand, set-is}
+use Rattle.file_get.proofs.SetSearch.{searched-all}
 use Rattle.file_get.proofs.body.read_set.Goals as goal
 
 pub returns-in-Err-clause-told : goal.returns-in-Err-clause-told
@@ -12,48 +14,62 @@ returns-in-Err-clause-told g c = λ last bytes s tells within stands fits is. (
     let e = c.in-Err.ensures in
     (e.told last bytes s tells within stands fits is, PullsAtMost-more 4 (length (set_bytes s)) (n c.args.folder.now) (n c.read_count.new.folder) (omega (arith, length-set_bytes s)) e.pulls))
 
-pub returns-in-Ok-read_pairs-clause-told : goal.returns-in-Ok-read_pairs-clause-told
-returns-in-Ok-read_pairs-clause-told g c = λ last bytes s tells within stands fits is. (
+pub returns-in-Ok-search_pairs-clause-told : goal.returns-in-Ok-search_pairs-clause-told
+returns-in-Ok-search_pairs-clause-told g c = λ last bytes s tells within stands fits is. (
     let a = c.args in
     let n = g.F.Folder.numbers in
     let f = c.in-Ok.ensures in
-    let b = c.in-Ok-read_pairs.ensures in
+    let b = c.in-Ok-search_pairs.ensures in
     let count = c.in-Ok.count in
     let size = f.told last bytes s tells within stands fits is in
     let read = f.reads in
-    let long = length-set_bytes s in (
-      set-is a.ask.version a.at count s c.in-Ok-read_pairs.has size (b.told last bytes s (subst (λ z. TellsFront z a.ask.name.now last bytes) (sym read.same_files) tells) (omega (arith, f.within, within)) (pairs-stand bytes a.at s stands) size is),
-      PullsAtMost-more (4 + 8 * count) (length (set_bytes s)) (n a.folder.now) (n c.read_pairs.new.folder) (omega (arith, long, size)) (PullsAtMost-trans 4 (8 * count) (n a.folder.now) (n c.read_count.new.folder) (n c.read_pairs.new.folder) f.pulls b.pulls),
+    let long = length-set_bytes s in
+    let all = searched-all count in (
+      set-is a.ask.version a.at count s c.in-Ok-search_pairs.has size (b.told last bytes s (subst (λ z. TellsFront z a.ask.name.now last bytes) (sym read.same_files) tells) (omega (arith, f.within, within)) (pairs-stand bytes a.at s stands) size is),
+      PullsAtMost-more (4 + 8 * searched count) (length (set_bytes s)) (n a.folder.now) (n c.search_pairs.new.folder) (omega (arith, long, size, all)) (PullsAtMost-trans 4 (8 * searched count) (n a.folder.now) (n c.read_count.new.folder) (n c.search_pairs.new.folder) f.pulls b.pulls),
     ))
 
-pub returns-in-Err-read_pairs-clause-told : goal.returns-in-Err-read_pairs-clause-told
-returns-in-Err-read_pairs-clause-told g c = λ last bytes s tells within stands fits is. (
+pub returns-in-Err-search_pairs-clause-told : goal.returns-in-Err-search_pairs-clause-told
+returns-in-Err-search_pairs-clause-told g c = λ last bytes s tells within stands fits is. (
     let a = c.args in
     let n = g.F.Folder.numbers in
     let f = c.in-Ok.ensures in
-    let b = c.in-Err-read_pairs.ensures in
+    let b = c.in-Err-search_pairs.ensures in
     let count = c.in-Ok.count in
     let size = f.told last bytes s tells within stands fits is in
     let read = f.reads in
-    let long = length-set_bytes s in (
+    let long = length-set_bytes s in
+    let all = searched-all count in (
       b.told last bytes s (subst (λ z. TellsFront z a.ask.name.now last bytes) (sym read.same_files) tells) (omega (arith, f.within, within)) (pairs-stand bytes a.at s stands) size is,
-      PullsAtMost-more (4 + 8 * count) (length (set_bytes s)) (n a.folder.now) (n c.read_pairs.new.folder) (omega (arith, long, size)) (PullsAtMost-trans 4 (8 * count) (n a.folder.now) (n c.read_count.new.folder) (n c.read_pairs.new.folder) f.pulls b.pulls),
+      PullsAtMost-more (4 + 8 * searched count) (length (set_bytes s)) (n a.folder.now) (n c.search_pairs.new.folder) (omega (arith, long, size, all)) (PullsAtMost-trans 4 (8 * searched count) (n a.folder.now) (n c.read_count.new.folder) (n c.search_pairs.new.folder) f.pulls b.pulls),
     ))
 
-pub returns-in-Ok-read_pairs-clause-pulls : goal.returns-in-Ok-read_pairs-clause-pulls
-returns-in-Ok-read_pairs-clause-pulls g c =
+pub returns-in-Ok-search_pairs-clause-pulls : goal.returns-in-Ok-search_pairs-clause-pulls
+returns-in-Ok-search_pairs-clause-pulls g c =
     let a = c.args in
     let n = g.F.Folder.numbers in
     let f = c.in-Ok.ensures in
-    let b = c.in-Ok-read_pairs.ensures in
+    let b = c.in-Ok-search_pairs.ensures in
     let count = c.in-Ok.count in
-    PullsAtMost-more (4 + 8 * count) (a.end - a.at) (n a.folder.now) (n c.read_pairs.new.folder) (omega (arith, f.within)) (PullsAtMost-trans 4 (8 * count) (n a.folder.now) (n c.read_count.new.folder) (n c.read_pairs.new.folder) f.pulls b.pulls)
+    let all = searched-all count in
+    PullsAtMost-more (4 + 8 * searched count) (a.end - a.at) (n a.folder.now) (n c.search_pairs.new.folder) (omega (arith, f.within, all)) (PullsAtMost-trans 4 (8 * searched count) (n a.folder.now) (n c.read_count.new.folder) (n c.search_pairs.new.folder) f.pulls b.pulls)
 
-pub returns-in-Err-read_pairs-clause-pulls : goal.returns-in-Err-read_pairs-clause-pulls
-returns-in-Err-read_pairs-clause-pulls g c =
+pub returns-in-Err-search_pairs-clause-pulls : goal.returns-in-Err-search_pairs-clause-pulls
+returns-in-Err-search_pairs-clause-pulls g c =
     let a = c.args in
     let n = g.F.Folder.numbers in
     let f = c.in-Ok.ensures in
-    let b = c.in-Err-read_pairs.ensures in
+    let b = c.in-Err-search_pairs.ensures in
     let count = c.in-Ok.count in
-    PullsAtMost-more (4 + 8 * count) (a.end - a.at) (n a.folder.now) (n c.read_pairs.new.folder) (omega (arith, f.within)) (PullsAtMost-trans 4 (8 * count) (n a.folder.now) (n c.read_count.new.folder) (n c.read_pairs.new.folder) f.pulls b.pulls)
+    let all = searched-all count in
+    PullsAtMost-more (4 + 8 * searched count) (a.end - a.at) (n a.folder.now) (n c.search_pairs.new.folder) (omega (arith, f.within, all)) (PullsAtMost-trans 4 (8 * searched count) (n a.folder.now) (n c.read_count.new.folder) (n c.search_pairs.new.folder) f.pulls b.pulls)
+
+pub returns-in-Ok-search_pairs-clause-most : goal.returns-in-Ok-search_pairs-clause-most
+returns-in-Ok-search_pairs-clause-most g c =
+    let a = c.args in
+    let n = g.F.Folder.numbers in
+    let f = c.in-Ok.ensures in
+    let b = c.in-Ok-search_pairs.ensures in
+    let count = c.in-Ok.count in
+    let all = searched-all count in
+    PullsAtMost-more (4 + 8 * searched count) (a.at + 4 + 8 * count - a.at) (n a.folder.now) (n c.search_pairs.new.folder) (omega (arith, all)) (PullsAtMost-trans 4 (8 * searched count) (n a.folder.now) (n c.read_count.new.folder) (n c.search_pairs.new.folder) f.pulls b.pulls)

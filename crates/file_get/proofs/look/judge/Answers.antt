@@ -20,6 +20,15 @@ returns-then-probe-eq0-clause-told c = λ i bytes row parent front ks behind is 
       | then-probe-eq0-via-else-probe-eq0+then-span-at w ↦ omega (arith, fits.1, w.if-span-at.true)
     ])
 
+pub returns-then-probe-eq0-clause-more : goal.returns-then-probe-eq0-clause-more
+returns-then-probe-eq0-clause-more c = λ many fits. (
+    let low = fits.0 in
+    let high = fits.1 in
+    elim c.then-probe-eq0.branch [
+      | then-probe-eq0-via-then-probe-eq0 w ↦ omega (arith, low, w.if-probe-eq0.true)
+      | then-probe-eq0-via-else-probe-eq0+then-span-at w ↦ omega (arith, high, w.if-span-at.true)
+    ])
+
 pub returns-clause-told : goal.returns-clause-told
 returns-clause-told c = λ i bytes row parent front ks behind is sets some of. (
     let count = is.count in

@@ -7,7 +7,7 @@ use Rattle.file_get.specs.declared.fault.GetFault.{GetFault}
 use Rattle.file_get.specs.State.{state}
 use Rattle.file_get.specs.Inside.{OpenedPrinted}
 use Rattle.file_get.specs.declared.fault.GetFault.TheVariants.{Out}
-use Rattle.file_get.proofs.Handed.{at-err}
+use Rattle.content_print.proofs.Handed.{at-err}
 use Rattle.file_get.proofs.Attributes.{attr-refused, attr-unread, attr-content, attr-printed-at, content-body}
 use Rattle.file_get.proofs.print.print_attribute.Goals.{then-opening-via-then-opening, then-opening-via-else-opening+then-place-eq0, then-opening-via-else-opening+else-place-eq0+then-place}
 use Rattle.file_get.proofs.print.print_attribute.Goals as goal

@@ -14,9 +14,9 @@ returns-in-Ok-Content g c = λ steps leaf. (
     let a = c.args in
     let b = c.in-Ok-Content in
     let read = b.ensures in
-    let out = c.print_lent_content.ensures in
-    leaf-printed f.files f.draft f.numbers f.faults k.taken k.faults a.ask.version a.ask.name.now (child_view a.child) a.opening.now a.depth a.folder.now c.read_body.new.folder a.sink.now c.print_lent_content.new.sink a.printer.now c.print_lent_content.new.printer steps
-    b.bytes.now (body_view b.field-0) c.print_lent_content.result (ap body_view b.field-0-is) leaf c.requires.depth c.requires.begun (g.met.F.Folder.metered c.read_body.new.folder) read.reads read.pulls read.told out.prints out.inside)
+    let out = c.print_content.ensures in
+    leaf-printed f.files f.draft f.numbers f.faults k.taken k.faults a.ask.version a.ask.name.now (child_view a.child) a.opening.now a.depth a.folder.now c.read_body.new.folder a.sink.now c.print_content.new.sink a.printer.now c.print_content.new.printer steps
+    b.bytes.now (body_view b.field-0) c.print_content.result (ap body_view b.field-0-is) leaf c.requires.depth c.requires.begun (g.met.F.Folder.metered c.read_body.new.folder) read.reads read.pulls read.told out.prints out.inside)
 
 pub returns-in-Ok-Scalar : goal.returns-in-Ok-Scalar
 returns-in-Ok-Scalar g c = λ steps leaf. (

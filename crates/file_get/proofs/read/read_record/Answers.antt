@@ -7,18 +7,18 @@ use Rattle.file_get.proofs.Openings.{body-stands, record-room}
 use Rattle.file_get.proofs.read.read_record.Goals as goal
 
 pub returns-in-Err-clause-told : goal.returns-in-Err-clause-told
-returns-in-Err-clause-told g c = λ end bytes more r tells within stands ends is. (
+returns-in-Err-clause-told g c = λ end bytes more r tells within stands ends is node. (
     let e = c.in-Err.ensures in
     let n = g.F.Folder.numbers in
-    (e.told end bytes more r tells within stands ends is, PullsAtMost-more 9 (length (rec_bytes r)) (n c.args.folder.now) (n c.read_frame.new.folder) (omega (arith, rec-length r)) e.pulls))
+    (e.told end bytes more r tells within stands ends is node, PullsAtMost-more 9 (length (rec_bytes r)) (n c.args.folder.now) (n c.read_frame.new.folder) (omega (arith, rec-length r)) e.pulls))
 
 pub returns-in-Ok-fill-clause-told : goal.returns-in-Ok-fill-clause-told
-returns-in-Ok-fill-clause-told g c = λ end bytes more r tells within stands ends is. (
+returns-in-Ok-fill-clause-told g c = λ end bytes more r tells within stands ends is node. (
     let child = c.args.child in
     let n = g.F.Folder.numbers in
     let f = c.in-Ok.ensures in
     let b = c.in-Ok-fill.ensures in
-    let kind = f.told end bytes more r tells within stands ends is in
+    let kind = f.told end bytes more r tells within stands ends is node in
     let size = kind.1 in
     let room = record-room child.first child.end r more ends in
     let read = f.reads in (
@@ -27,12 +27,12 @@ returns-in-Ok-fill-clause-told g c = λ end bytes more r tells within stands end
     ))
 
 pub returns-in-Err-fill-clause-told : goal.returns-in-Err-fill-clause-told
-returns-in-Err-fill-clause-told g c = λ end bytes more r tells within stands ends is. (
+returns-in-Err-fill-clause-told g c = λ end bytes more r tells within stands ends is node. (
     let child = c.args.child in
     let n = g.F.Folder.numbers in
     let f = c.in-Ok.ensures in
     let b = c.in-Err-fill.ensures in
-    let kind = f.told end bytes more r tells within stands ends is in
+    let kind = f.told end bytes more r tells within stands ends is node in
     let size = kind.1 in
     let room = record-room child.first child.end r more ends in
     let read = f.reads in (

@@ -4,7 +4,7 @@ use Rattle.file_get.specs.Told.{fault_of, of_cursor}
 use Rattle.file_get.specs.State.{state}
 use Rattle.file_get.specs.Printed.{RowPrinted}
 use Rattle.file_get.specs.Roots.{RootPrinted}
-use Rattle.file_get.proofs.Handed.{at-err}
+use Rattle.content_print.proofs.Handed.{at-err}
 use Rattle.file_get.proofs.Roots.{root-unread, root-printed}
 use Rattle.file_get.proofs.root.print_root.Goals as goal
 
@@ -33,7 +33,7 @@ returns-in_err-has_element g c =
     let u = state f.files f.draft f.numbers f.faults k.taken k.faults c.print_row.new.folder c.print_row.new.sink c.print_row.new.printer c.print_row.new.steps in
     at-err r.result e.field-0.0 r.ensures.1 (λ r. RootPrinted a.ask.version a.ask.name.now a.size a.first s u (fault_of r))
     (root-printed f.files f.draft f.numbers f.faults k.taken k.faults a.ask.version a.ask.name.now a.size a.first a.folder.now c.root_row.new.folder a.sink.now a.printer.now a.steps.now (row_view o.row) u (Err e.field-0.0)
-    got.within.0 got.within.1 (subst (λ n. n ≤ o.row.end) got.within.0 o.row.ordered) got.reads got.pulls got.told e.ensures)
+    got.within.0 got.within.1 (subst (λ n. n ≤ o.row.end) got.within.0 o.row.ordered) got.reads got.short got.pulls got.told e.ensures)
 
 pub returns-then-has_element : goal.returns-then-has_element
 returns-then-has_element g c =
@@ -45,7 +45,7 @@ returns-then-has_element g c =
     let e = c.in_ok-has_element in
     let u = state f.files f.draft f.numbers f.faults k.taken k.faults c.print_row.new.folder c.print_row.new.sink c.print_row.new.printer c.print_row.new.steps in
     root-printed f.files f.draft f.numbers f.faults k.taken k.faults a.ask.version a.ask.name.now a.size a.first a.folder.now c.root_row.new.folder a.sink.now a.printer.now a.steps.now (row_view o.row) u (Ok true)
-    got.within.0 got.within.1 (subst (λ n. n ≤ o.row.end) got.within.0 o.row.ordered) got.reads got.pulls got.told
+    got.within.0 got.within.1 (subst (λ n. n ≤ o.row.end) got.within.0 o.row.ordered) got.reads got.short got.pulls got.told
     (subst (λ b. RowPrinted a.ask.version a.ask.name.now (row_view o.row) 0 (state f.files f.draft f.numbers f.faults k.taken k.faults c.root_row.new.folder a.sink.now a.printer.now a.steps.now) u (Ok b)) c.if-has_element.true e.ensures)
 
 pub returns : goal.returns
@@ -58,5 +58,5 @@ returns g c =
     let e = c.in_ok-has_element in
     let u = state f.files f.draft f.numbers f.faults k.taken k.faults c.print_row.new.folder c.print_row.new.sink c.print_row.new.printer c.print_row.new.steps in
     root-printed f.files f.draft f.numbers f.faults k.taken k.faults a.ask.version a.ask.name.now a.size a.first a.folder.now c.root_row.new.folder a.sink.now a.printer.now a.steps.now (row_view o.row) u (Ok false)
-    got.within.0 got.within.1 (subst (λ n. n ≤ o.row.end) got.within.0 o.row.ordered) got.reads got.pulls got.told
+    got.within.0 got.within.1 (subst (λ n. n ≤ o.row.end) got.within.0 o.row.ordered) got.reads got.short got.pulls got.told
     (subst (λ b. RowPrinted a.ask.version a.ask.name.now (row_view o.row) 0 (state f.files f.draft f.numbers f.faults k.taken k.faults c.root_row.new.folder a.sink.now a.printer.now a.steps.now) u (Ok b)) c.if-has_element.false e.ensures)

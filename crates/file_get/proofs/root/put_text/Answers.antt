@@ -4,7 +4,7 @@ use Rattle.file_get.specs.Told.{fault_of}
 use Rattle.file_get.specs.State.{state}
 use Rattle.file_get.specs.Roots.{TextPut}
 use Rattle.file_get.specs.declared.fault.GetFault.TheVariants.{Out}
-use Rattle.file_get.proofs.Handed.{at-err}
+use Rattle.content_print.proofs.Handed.{at-err}
 use Rattle.file_get.proofs.Texts.{text-unprinted, text-printed}
 use Rattle.file_get.proofs.root.put_text.Goals as goal
 

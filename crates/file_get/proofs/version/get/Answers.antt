@@ -1,4 +1,6 @@
-use Rattle.file_get.proofs.Gets.{puts-of, undamaged-of}
+use Rattle.std.proofs.Common.{◌≡◌, ◌+◌}
+use Rattle.record_format.specs.Seen.{steps_for}
+use Rattle.file_get.proofs.Gets.{exactly-of, puts-of, undamaged-of}
 use Rattle.keyed_print.specs.KeyedText.{keyed_text}
 use Rattle.file_get.proofs.version.get.Goals as goal
 
@@ -7,6 +9,9 @@ returns-clause-judges g c = c.write_version.ensures.judges
 
 pub returns-clause-uncounted : goal.returns-clause-uncounted
 returns-clause-uncounted g c = c.write_version.ensures.uncounted
+
+pub returns-clause-short : goal.returns-clause-short
+returns-clause-short g c = c.write_version.ensures.short
 
 pub returns-clause-nothing : goal.returns-clause-nothing
 returns-clause-nothing g c = c.write_version.ensures.nothing
@@ -43,3 +48,8 @@ returns-clause-few g c = c.write_version.ensures.few
 
 pub returns-clause-steps : goal.returns-clause-steps
 returns-clause-steps g c = c.write_version.ensures.steps
+
+pub returns-clause-exactly : goal.returns-clause-exactly
+returns-clause-exactly g c = λ bytes rules vs a tells sound is. (
+    exactly-of c.write_version.result (c.write_version.new.steps ≡ c.args.steps.now + steps_for a c.args.version)
+    (c.write_version.ensures.exact bytes rules vs a tells sound is))

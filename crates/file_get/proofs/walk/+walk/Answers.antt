@@ -8,15 +8,16 @@ use Rattle.file_get.specs.Looked.{IsLook, LookIs, looked}
 use Rattle.file_get.specs.Visits.{Visited}
 use Rattle.file_get.specs.Printed.{RowPrinted, ChildPrinted, NodePrinted}
 use Rattle.file_get.specs.Inside.{InsidePrinted, OpenedPrinted}
+use Rattle.file_get.specs.declared.span.Span.{Span}
 use Rattle.file_get.specs.declared.fault.GetFault.TheVariants.{Out}
-use Rattle.file_get.proofs.Handed.{at-err}
+use Rattle.content_print.proofs.Handed.{at-err}
 use Rattle.file_get.proofs.States.{sends}
 use Rattle.file_get.proofs.Elements.{element-refused, element-unbegun, element-unfilled, element-printed}
 use Rattle.file_get.proofs.Inners.{inner-printed, inner-refused, never-deep, never-lost}
 use Rattle.file_get.proofs.Children.{node-unopened, node-printed}
 use Rattle.file_get.proofs.Placed.{child-unread, child-printed}
 use Rattle.file_get.proofs.Visiting.{visit-unlooked, visit-lacks, visit-child, visit-left, visit-both}
-use Rattle.file_get.proofs.Rows.{row-uncounted, row-empty, row-printed}
+use Rattle.file_get.proofs.Rows.{first_place, row-uncounted, row-empty, row-printed}
 use Rattle.file_get.proofs.walk.+walk.Given.{Over}
 use Rattle.file_get.proofs.walk.+walk.Goals as goal
 
@@ -256,7 +257,8 @@ print_row-returns-in_err-place g t c =
     let e = c.in_err-place in
     let r = c.from_residual-in_err-place in
     at-err r.result e.field-0.0 r.ensures.1 (λ r. RowPrinted a.ask.version a.ask.name.now (row_view a.row) a.depth s u r)
-    (row-printed f.files f.draft f.numbers f.faults k.taken k.faults a.ask.version a.ask.name.now (row_view a.row) a.depth a.folder.now c.count_children.new.folder a.sink.now a.printer.now a.steps.now o.count u (Err e.field-0.0) a.row.ordered some got.within got.reads got.pulls got.told e.ensures)
+    (row-printed f.files f.draft f.numbers f.faults k.taken k.faults a.ask.version a.ask.name.now (row_view a.row) a.depth a.folder.now c.count_children.new.folder a.sink.now a.printer.now a.steps.now o.count u (Err e.field-0.0) a.row.ordered some got.within got.reads got.pulls got.told
+    (subst (λ (x : Span). Visited a.ask.version a.ask.name.now (row_view a.row) x (first_place (row_view a.row) a.depth) (at g c.count_children.new.folder a.sink.now a.printer.now a.steps.now) u (Err e.field-0.0)) c.whole_of-span.ensures.is e.ensures))
 
 pub print_row-returns : goal.print_row-returns
 print_row-returns g t c =
@@ -269,7 +271,8 @@ print_row-returns g t c =
     let some : 1 ≤ o.count = omega (arith, c.if-count-eq0.false) in
     let u = at g c.visit.new.folder c.visit.new.sink c.visit.new.printer c.visit.new.steps in
     let e = c.in_ok-place in
-    row-printed f.files f.draft f.numbers f.faults k.taken k.faults a.ask.version a.ask.name.now (row_view a.row) a.depth a.folder.now c.count_children.new.folder a.sink.now a.printer.now a.steps.now o.count u (Ok e.place) a.row.ordered some got.within got.reads got.pulls got.told e.ensures
+    row-printed f.files f.draft f.numbers f.faults k.taken k.faults a.ask.version a.ask.name.now (row_view a.row) a.depth a.folder.now c.count_children.new.folder a.sink.now a.printer.now a.steps.now o.count u (Ok e.place) a.row.ordered some got.within got.reads got.pulls got.told
+    (subst (λ (x : Span). Visited a.ask.version a.ask.name.now (row_view a.row) x (first_place (row_view a.row) a.depth) (at g c.count_children.new.folder a.sink.now a.printer.now a.steps.now) u (Ok e.place)) c.whole_of-span.ensures.is e.ensures)
 
 pub visit-returns-in_err-look : goal.visit-returns-in_err-look
 visit-returns-in_err-look g t c =

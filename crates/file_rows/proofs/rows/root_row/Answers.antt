@@ -1,4 +1,7 @@
-use Rattle.std.proofs.Common.{◌≡◌, ◌-◌, ◌∙◌, [], Some, drop, length-drop, arith}
+use Rattle.std.proofs.Common.{◌≡◌, ◌-◌, ◌∙◌, [], Some, length, drop, ap, length-drop, arith}
+use Rattle.std.specs.FinMap as map
+use Rattle.std.proofs.lemmas.List.{length-take}
+use Rattle.xa_outside.specs.Folder.{bytes_or_none}
 use Rattle.std.specs.Int.{w64}
 use Rattle.xa_fields.specs.Reading.{number_at}
 use Rattle.record_cursor.proofs.Fills.{front-length, filled-from, never-short}
@@ -6,8 +9,16 @@ use Rattle.file_rows.specs.StandsAt.{RowLaid}
 use Rattle.file_rows.specs.View.{PlainRow, row_view}
 use Rattle.file_rows.proofs.Children.{filled-of, row-ordered}
 use Rattle.file_rows.specs.declared.places.Row.{Row}
-use Rattle.file_rows.proofs.Fields.{answered}
+use Rattle.file_rows.proofs.Fields.{answered, has-front}
 use Rattle.file_rows.proofs.rows.root_row.Goals as goal
+
+pub returns-in-Ok-clause-short : goal.returns-in-Ok-clause-short
+returns-in-Ok-clause-short g c = λ files told none. (
+    let eight = c.if-size-first-lt-TAIL.false in
+    let file = bytes_or_none (map.get files c.args.name.now) in
+    let end = c.args.size - 8 in
+    let read = c.in-Ok.ensures.told files told in
+    absurd (has-front file c.args.size (omega (arith, eight, ap length read, length-take 8 (drop end file), length-drop end file)) none))
 
 pub returns-in-Ok-clause-tail : goal.returns-in-Ok-clause-tail
 returns-in-Ok-clause-tail g c = λ bytes tells. (
