@@ -1,2 +1,1 @@
-pub mod KeptCalls
 pub mod KeyedCalls

@@ -1,8 +1,7 @@
-//! Keyed trees as text: each as the element that it spells, printed without a copy.
+//! Keyed trees of documents as text: each as the element that it spells, printed without a copy.
 #![tactic(auto)]
 
-mod print_kept;
 mod print_lent;
 mod put;
 
-pub use put::{Printable, put_keyed};
+pub use put::put_keyed;

@@ -10,22 +10,14 @@ ghost use Rattle.keyed_tree.specs.Plain.{name_bytes, plain};
 ghost use Rattle.key_annotate.specs.LentView.{lent_view};
 ghost use Rattle.key_annotate.specs.Inside.{inside_of};
 
-use crate::put::Printable;
 use jsonml_text::{Printer, print_lent_content};
 use jsonml_tree::{LentAttr, LentContent};
 use key_annotate::LentKeyed;
 use xa_outside::{Failed, Sink};
 
-impl Printable for LentKeyed<'_, '_> {
-    ghost keyed = { lent_view };
-
-    fn print<K: Sink>(&self, printer: &mut Printer, sink: &mut K) -> Result<(), Failed> {
-        print_keyed(self, printer, sink)
-    }
-}
-
+/// Prints the element that a keyed tree spells, call by call. It recurses as deep as the tree nests.
 #[cycle(print)]
-fn print_keyed<K: Sink>(
+pub(crate) fn print_keyed<K: Sink>(
     keyed: &LentKeyed<'_, '_>,
     printer: &mut Printer,
     sink: &mut K,
