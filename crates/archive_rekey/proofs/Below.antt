@@ -6,7 +6,7 @@ use Rattle.keyed_tree.specs.Data.{inner, leaf, kid}
 use Rattle.archive_tree.specs.Data.{Stamp, eff, PlainAlt, PlainNode, inner_node, leaf_node, PlainNodes, no_nodes, node, node_stamp}
 use Rattle.archive_tree.specs.Read.{body_at, read, read_row, read_root}
 
-has_itself : (n : ℕ) → has (n ∷ []) n ≡ true
+pub has_itself : (n : ℕ) → has (n ∷ []) n ≡ true
 has_itself n = (let d = eq-eqb n n refl in rw d)
 
 stamp_below : (n : ℕ) (ns : List ℕ) (s : Stamp) → has ns n ≡ true → has (eff s ns) n ≡ has (eff s (n ∷ [])) n

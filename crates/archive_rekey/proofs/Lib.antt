@@ -1,7 +1,9 @@
 mod Below
 mod Documents
+mod IndexLemmas
 mod LentRows
 mod Rekeyings
 mod RunVersions
+mod Sizes
 mod SpelledRows
 mod SpreadRows

@@ -1,3 +1,4 @@
 pub mod Rekeyed
 pub mod Progress
 pub mod View
+pub mod Index

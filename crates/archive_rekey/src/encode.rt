@@ -39,8 +39,8 @@ use xa_fields::append_u64;
 
 /// The bytes of the archive file of an archive under a specification that keys its versions.
 ///
-/// TooLong where a text or a list has 2^32 bytes or items or more, or the whole more than 274,877,906,944 bytes. Each byte
-/// is written once; a directory of k children takes k log k steps.
+/// TooLong where a text or a list has 2^32 bytes or items or more, or the whole more than
+/// 274,877,906,944 bytes. Each byte is written once; a directory of k children takes k log k steps.
 pub fn encode_spelled(
     alloc: Global,
     spec: &Spec,
@@ -81,7 +81,8 @@ fn file_of(alloc: Global, spec: &Spec, archive: &SpelledArchive) -> Result<Vec<u
     Ok(out)
 }
 
-// The records of the kids of a node that has the set, and the END behind them. It answers the length of the END's body.
+// The records of the kids of a node that has the set, and the END behind them. It answers the
+// length of the END's body.
 #[cycle(put)]
 #[tactic(auto, using(spelled_archive::proofs::NodeViews::nodes, jsonml_tree::proofs::Trees::trees))]
 fn put_row(
@@ -105,7 +106,8 @@ fn put_row(
     Ok((out.len() - at - FRAME) as u64)
 }
 
-// The records of the nodes. It answers their entries in the directory of the node that has them as its kids.
+// The records of the nodes. It answers their entries in the directory of the node that has them as
+// its kids.
 #[cycle(put)]
 #[tactic(auto, using(spelled_archive::proofs::NodeViews::nodes))]
 fn put_nodes(
@@ -132,7 +134,8 @@ fn put_nodes(
     Ok(entries)
 }
 
-// The records of a node under a parent that has the set. It answers the length of the body of its END, or 0 for a leaf.
+// The records of a node under a parent that has the set. It answers the length of the body of its
+// END, or 0 for a leaf.
 #[cycle(put)]
 #[tactic(auto, using(spelled_archive::proofs::NodeViews::nodes))]
 fn put_node(

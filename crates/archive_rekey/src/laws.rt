@@ -5,7 +5,8 @@ ghost use Rattle.key_spec.specs.Data.{PlainRule};
 ghost use Rattle.key_rules.specs.Faults.{PlainKeyFault};
 ghost use Rattle.archive_rekey.specs.Rekeyed.{AreRekeyed, IsFirstBad};
 
-/// Versions are at most one list under other rules, and have at most one first bad version; never both.
+/// Versions are at most one list under other rules, and have at most one first bad version; never
+/// both.
 pub fn versions_have_one_rekeying()
     ensures one_list { (rules : List PlainRule) (vs us ws : List PlainKeyed)
         → AreRekeyed rules vs us → AreRekeyed rules vs ws → us ≡ ws }

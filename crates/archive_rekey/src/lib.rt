@@ -4,6 +4,7 @@
 mod encode;
 mod fault;
 mod goes;
+mod index;
 mod laws;
 mod lend;
 mod plain;

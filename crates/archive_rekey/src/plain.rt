@@ -71,7 +71,7 @@ fn with_version(
 {
     // A law, for the proofs of what `with_document` requires.
     archives_stand_for_one_list();
-    let document = lend_document(alloc, old, before + 1)?;
+    let document = lend_document(alloc, old, None, before + 1)?;
     with_document(alloc, spec, archive, before + 1, &document)
 }
 

@@ -15,8 +15,8 @@ use version_set::VersionSet;
 
 /// The archive in which each set of runs is the set of their numbers, up to the last one.
 ///
-/// It goes over the nodes once. They are moved; each row, and each set that is stored, takes memory until the old one is given
-/// up.
+/// It goes over the nodes once. They are moved; each row, and each set that is stored, takes memory
+/// until the old one is given up.
 pub(crate) fn spread_archive(
     alloc: Global,
     starts: &[u32],

@@ -1,20 +1,24 @@
 // The versions of an archive under other keys, one of each run after another.
 ghost use Rattle.std.specs.Prelude.{◌≡◌, ◌+◌, ◌<◌, List, IfOk, IfErr, IfSome, length};
+ghost use Rattle.std.specs.Option.{option_map};
 ghost use Rattle.jsonml_tree.specs.LentView.{lent_tree_view};
 ghost use Rattle.keyed_tree.specs.Data.{PlainKeyed};
 ghost use Rattle.key_spec.specs.View.{spec_view};
 ghost use Rattle.key_annotate.specs.LentView.{lent_view};
 ghost use Rattle.key_annotate.specs.Stands.{Stands};
 ghost use Rattle.archive_tree.specs.ArchiveView.{archive_view};
+ghost use Rattle.archive_tree.specs.Data.{nodes_list};
 ghost use Rattle.spelled_archive.specs.ArchiveView.{spelled_archive_view};
 ghost use Rattle.archive_tree.specs.Stands.{ArchiveOf};
 ghost use Rattle.version_runs.specs.Runs.{starts_of, versions_at};
 ghost use Rattle.archive_file.specs.KeyedBy.{AreKeyedBy, IsKeyedBy};
+ghost use Rattle.archive_rekey.specs.Index.{IsRowIndex, index_view};
 ghost use Rattle.archive_rekey.specs.Progress.{IsBehind, IsDocument, IsFaultOf, Reaches};
 ghost use Rattle.archive_rekey.specs.Rekeyed.{IsArchiveUnder, IsFirstBad, SpellDocuments};
 ghost use Rattle.archive_rekey.specs.View.{bad_version};
 
 use crate::fault::RekeyFault;
+use crate::index::{Index, index_of};
 use crate::lend::lend_document;
 use crate::spread::spread_archive;
 use archive_file::keyed_versions_can_be_merged;
@@ -27,15 +31,16 @@ use spelled_archive::SpelledArchive;
 use std::alloc::{AllocError, Global};
 use version_runs::starts_of;
 
-/// The archive of the same versions under the keys of the specification, in their order, or the first version that does not
-/// satisfy them.
+/// The archive of the same versions under the keys of the specification, in their order, or the
+/// first version that does not satisfy them.
 ///
-/// Between two numbers at which no stored set begins or ends all versions are equal: the first of each such run is lent by the
-/// old archive as a document, keyed as it is lent, and merged as it is lent, before the next is. At the end each set of runs is
-/// spread to their numbers. So the steps do not grow with the number of versions, but with that of runs, of which there are at
-/// most two for each interval that is stored, and one. Beside the old archive it holds the new one and the rows of one version.
-/// Of a version it copies what is new in the new archive, and key values that are more than one text. Recursion is as deep as
-/// nodes and elements nest.
+/// Between two numbers at which no stored set begins or ends all versions are equal: the first of
+/// each such run is lent by the old archive as a document, keyed as it is lent, and merged as it is
+/// lent, before the next is. At the end each set of runs is spread to their numbers. So the steps
+/// do not grow with the number of versions, but with that of runs, of which there are at most two
+/// for each interval that is stored, and one. Beside the old archive it holds the new one and the
+/// rows of one version. Of a version it copies what is new in the new archive, and key values that
+/// are more than one text. Recursion is as deep as nodes and elements nest.
 pub fn rekey_spelled(
     alloc: Global,
     old: &Archive,
@@ -82,9 +87,11 @@ fn archive_of_runs(
     ensures key { IfErr result (λ e. IfSome (bad_version e) (λ b. (vs : List PlainKeyed)
         → ArchiveOf vs (archive_view old.now) → IsFirstBad (spec_view spec.now) vs b.0 b.1)) }
 {
+    let index = index_of(alloc, old.kids())?;
+    let beside = index.as_ref();
     let mut archive = SpelledArchive::empty(alloc);
     for before in 0..starts.len() {
-        archive = with_next(alloc, spec, old, starts, archive, before)?;
+        archive = with_next(alloc, spec, old, beside, starts, archive, before)?;
     }
     Ok(archive)
 }
@@ -94,12 +101,15 @@ fn with_next(
     alloc: Global,
     spec: &Spec,
     old: &Archive,
+    index: Option<&Index>,
     starts: &[u32],
     archive: SpelledArchive,
     before: usize,
 ) -> Result<SpelledArchive, RekeyFault>
     requires documents { (vs : List PlainKeyed) → ArchiveOf vs (archive_view old.now)
         → SpellDocuments vs }
+    requires index { IsRowIndex (option_map (λ x. index_view x.now) index)
+        (nodes_list (archive_view old.now).kids) }
     requires starts { starts.now ≡ starts_of (archive_view old.now) }
     requires more { before < length starts.now }
     requires room { before < 4294967295 }
@@ -115,11 +125,12 @@ fn with_next(
     // A law, for the proofs of what `with_document` requires.
     archives_stand_for_one_list();
     let number = starts[before];
-    let document = lend_document(alloc, old, number)?;
+    let document = lend_document(alloc, old, index, number)?;
     with_document(alloc, spec, archive, number, &document)
 }
 
-/// The archive with the keyed tree of the document behind its versions, as the version of that number.
+/// The archive with the keyed tree of the document behind its versions, as the version of that
+/// number.
 fn with_document(
     alloc: Global,
     spec: &Spec,

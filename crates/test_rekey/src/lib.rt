@@ -7,3 +7,5 @@ mod archives;
 mod refusals;
 #[cfg(test)]
 mod rekeyed;
+#[cfg(test)]
+mod wide;

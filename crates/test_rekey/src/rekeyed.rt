@@ -6,15 +6,14 @@ use archive_tree::Archive;
 use given_archives::lists::{NUMBERED, TINY};
 use given_archives::{
     GREAT_SIZES, SIZES, Size, archive, documents_of, encoded, file, keys_of, lent, specification,
+    version,
 };
 use given_parts::told;
 use key_rules::read_path;
 use key_spec::Spec;
-use keyed_print::put_keyed;
-use keyed_tree::Keyed;
 use std::alloc::Global;
 use std::test::Fail;
-use xa_outside::{MemSink, SureFolder};
+use xa_outside::SureFolder;
 
 const NAMES: &str = "(/, (db, {}))
 (/db, (e, {name}))
@@ -22,7 +21,7 @@ const NAMES: &str = "(/, (db, {}))
 ";
 
 /// The keys of items, and one more that no element here has.
-const NUMBERED_TOO: &str = "(/, (db, {}))
+pub(crate) const NUMBERED_TOO: &str = "(/, (db, {}))
 (/db, (e, {@id}))
 (/db/e, (tel, {.}))
 ";
@@ -181,7 +180,7 @@ fn rekeyed(alloc: Global, keys: &str, documents: &[&str], others: &str) -> Optio
     }
 }
 
-fn is_same_file(alloc: Global, keys: &str, documents: &[&str], others: &str) -> bool {
+pub(crate) fn is_same_file(alloc: Global, keys: &str, documents: &[&str], others: &str) -> bool {
     match (
         rekeyed(alloc, keys, documents, others),
         file(alloc, others, documents),
@@ -200,7 +199,7 @@ fn the_file_is_that_of_the_documents_under_the_other_keys(rt: HostRuntime) -> Re
 }
 
 /// Whether the file that is made one version after another is the same.
-fn is_same_plainly(alloc: Global, keys: &str, documents: &[&str], others: &str) -> bool {
+pub(crate) fn is_same_plainly(alloc: Global, keys: &str, documents: &[&str], others: &str) -> bool {
     let Some(old) = file(alloc, keys, documents) else {
         return false;
     };
@@ -352,21 +351,16 @@ fn are_histories(alloc: Global, file: &[u8]) -> bool {
     }
 }
 
-/// The version that is read.
-const IN_ORDER: &str = "[\"db\",[\"e\",{\"id\":1}],[\"e\",{\"id\":2}]]\n";
-
-fn is_in_order(alloc: Global, version: &Keyed) -> bool {
-    let mut sink = MemSink::new(alloc, Vec::new(alloc));
-    put_keyed(version, &mut sink).is_ok() && sink.taken() == IN_ORDER.as_bytes()
-}
-
-/// Whether the first version is in the order of its items.
+/// Whether the first version is that of the document whose elements are in order.
 fn is_first_in_order(alloc: Global, file: &[u8]) -> bool {
-    let Ok((_, archive)) = decode_file(alloc, file) else {
+    let Ok((spec, archive)) = decode_file(alloc, file) else {
         return false;
     };
-    match archive.version(alloc, 1) {
-        Ok(Some(version)) => is_in_order(alloc, &version),
+    match (
+        archive.version(alloc, 1),
+        version(alloc, &spec, ONE_AND_TWO),
+    ) {
+        (Ok(Some(first)), Some(ordered)) => first.same(&ordered),
         _ => false,
     }
 }

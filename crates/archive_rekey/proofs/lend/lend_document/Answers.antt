@@ -1,11 +1,17 @@
-use Rattle.std.proofs.Common.{◌∙◌, [], ◌∷◌, ap, sym}
+use Rattle.std.proofs.Common.{◌∙◌, [], ◌∷◌, map, ap, sym}
 use Rattle.std.specs.Option.{option_map}
 use Rattle.jsonml_tree.specs.LentView.{lent_tree_view}
 use Rattle.keyed_tree.specs.Plain.{plain}
 use Rattle.archive_tree.specs.ArchiveView.{archive_view}
 use Rattle.archive_tree.specs.Read.{read_root}
+use Rattle.archive_tree.specs.View.{node_view}
+use Rattle.archive_rekey.specs.Index.{index_view}
+use Rattle.archive_rekey.proofs.IndexLemmas.{kids-index}
 use Rattle.archive_rekey.proofs.Documents.{document_below, some_below, version_below}
 use Rattle.archive_rekey.proofs.lend.lend_document.Goals as goal
+
+pub lend_root-requires-clause-index : goal.lend_root-requires-clause-index
+lend_root-requires-clause-index c = kids-index (option_map (λ x. index_view x.now) c.args.index) (map node_view c.kids.result.now) (archive_view c.args.old.now).kids c.kids.ensures.nodes c.requires.index
 
 pub unreachable-requires : goal.unreachable-requires
 unreachable-requires c =

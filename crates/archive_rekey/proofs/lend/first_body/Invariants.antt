@@ -1,7 +1,7 @@
 use Rattle.std.proofs.Common.{[], ◌∷◌, ◌≡◌, map, drop}
 use Rattle.archive_tree.specs.Read.{body_at}
 use Rattle.archive_tree.specs.View.{alt_view}
-use Rattle.archive_rekey.proofs.lend.body_in.Given as goal
+use Rattle.archive_rekey.proofs.lend.first_body.Given as goal
 
 -- what is left decides
 abbrev pub invariant-loop-alt : goal.invariant-loop-alt
