@@ -8,6 +8,7 @@ use Rattle.version_set.specs.Members.{members, has, greatest, moved_pair, IsVers
 use Rattle.version_set.specs.Pairs.{IsCanonical, last_of}
 use Rattle.version_set.proofs.MembersLemmas.{members_ascend, not_below}
 use Rattle.version_set.proofs.SetLemmas.{greatest-members}
+use Rattle.record_parts.specs.declared.limits.TheConstants.{MOST_VERSIONS}
 use Rattle.record_copy.specs.Raised.{raised}
 
 -- by none
@@ -45,12 +46,12 @@ last-few most [] h = omega arith
 last-few most (p ∷ []) h = h.0
 last-few most (p ∷ q ∷ ps) h = last-few most (q ∷ ps) h.1
 
-pub may-raise : (by : ℕ) (ps : List (ℕ × ℕ)) → IsCanonical ps → by ≤ 999999 → AllByRecursion (λ (p : ℕ × ℕ). p.1 ≤ 999999) ps → (n : ℕ) → IsTrue (has (members ps) n) → IsVersion (pos n +ℤ pos by)
+pub may-raise : (by : ℕ) (ps : List (ℕ × ℕ)) → IsCanonical ps → by ≤ MOST_VERSIONS → AllByRecursion (λ (p : ℕ × ℕ). p.1 ≤ MOST_VERSIONS) ps → (n : ℕ) → IsTrue (has (members ps) n) → IsVersion (pos n +ℤ pos by)
 may-raise by ps c le few n h =
     let low = from-one ps n c h in
     let high = up-to_greatest (members ps) n h in
     let same = greatest-members 1 ps c in
-    let last = last-few 999999 ps few in
+    let last = last-few MOST_VERSIONS ps few in
     (omega (arith, ints, low), omega (arith, ints, high, le, same, last))
 
 pub raised-of : {T E : Type 0} (pairs : T → List (ℕ × ℕ)) (r : Result T E) (z : ℤ) (by : ℕ) (ps : List (ℕ × ℕ)) → z ≡ pos by → IfOk r (λ s. pairs s ≡ map (moved_pair z) ps) → IfOk r (λ s. pairs s ≡ raised by ps)

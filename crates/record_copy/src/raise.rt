@@ -5,6 +5,7 @@ ghost use Rattle.archive_tree.specs.View.{stamp_view};
 ghost use Rattle.record_copy.specs.Raised.{raised, raised_stamp};
 ghost use Rattle.record_parts.specs.ShownViews.{shown_stamp};
 ghost use Rattle.version_set.specs.View.{pairs_of};
+ghost use Rattle.record_parts.specs.declared.limits.TheConstants.{MOST_VERSIONS};
 
 use record_format::StampView;
 use std::alloc::{AllocError, Global};
@@ -15,7 +16,7 @@ use version_set::VersionSet;
 pub struct Raise {
     pub alloc: Global,
     pub by: u32,
-    pub ghost few: { by ≤ 999999 },
+    pub ghost few: { by ≤ MOST_VERSIONS },
 }
 
 /// The stamp that is shown, with each number raised. There is always room: the numbers that are
@@ -37,7 +38,7 @@ pub(crate) fn raise_stamp(
 
 // The set with each number raised.
 fn raise_set(raise: &Raise, set: VersionSet) -> Result<VersionSet, AllocError>
-    requires few { AllByRecursion (λ p. p.1 ≤ 999999) (pairs_of set) }
+    requires few { AllByRecursion (λ p. p.1 ≤ MOST_VERSIONS) (pairs_of set) }
     ensures { IfOk result (λ s. pairs_of s ≡ raised raise.now.by (pairs_of set)) }
 {
     if raise.by == 0 {

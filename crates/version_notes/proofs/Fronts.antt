@@ -19,6 +19,7 @@ use Rattle.version_notes.specs.Reader.{TellsNote, TellsFront, left_of}
 use Rattle.version_notes.specs.declared.place.Place.{Place}
 use Rattle.version_notes.specs.declared.fault.NotesFault.{NotesFault}
 use Rattle.version_notes.specs.declared.fault.NotesFault.TheVariants.{Damage, Folder, Memory}
+use Rattle.version_notes.specs.declared.limits.TheConstants.{LONGEST_NOTE}
 
 -- the number in the first four bytes
 pub size_is : (piece front rest : List ℕ) (n : ℕ) → 4 ≤ length piece → front ≡ take 4 piece → Some (n, rest) ≡ number_at w32 front → number_at w32 piece ≡ Some (n, drop 4 piece)
@@ -35,12 +36,12 @@ pub record Standing (piece : List ℕ) (x : List ℕ × List ℕ) : Type 0 where
   pub size : number_at w32 piece ≡ Some (length x.0, drop 4 piece)
   pub long : 4 + length x.0 ≤ length piece
   pub text : x.0 ≡ take (length x.0) (drop 4 piece)
-  pub short : length x.0 ≤ 1024
+  pub short : length x.0 ≤ LONGEST_NOTE
   pub note : IsNote x.0
 
-note_of_text : (text : List ℕ) → is_utf8 text ≡ true → is_note text ≡ true → (length text ≤ 1024) × IsNote text
+note_of_text : (text : List ℕ) → is_utf8 text ≡ true → is_note text ≡ true → (length text ≤ LONGEST_NOTE) × IsNote text
 note_of_text text utf8 is =
-    let short : length text ≤ 1024 = leb-true _ _ ((and_parts _ _ is).0) in
+    let short : length text ≤ LONGEST_NOTE = leb-true _ _ ((and_parts _ _ is).0) in
     (short, (record { short = omega (arith, short); utf8 = IsUtf8-from_is_utf8 text utf8 }, is))
 
 found_stands : (piece : List ℕ) (x : List ℕ × List ℕ) → only_at is_note text_at piece ≡ Some x → Standing piece x
@@ -89,7 +90,7 @@ pub too_few : (piece : List ℕ) → length piece < 4 → note_at piece ≡ None
 too_few piece lt = none_unless (note_at piece) (λ x e. (let long = (note_stands piece x e).long in omega arith))
 
 -- a length that cannot be
-pub too_long : (piece : List ℕ) (n : ℕ) → number_at w32 piece ≡ Some (n, drop 4 piece) → 1024 < n → note_at piece ≡ None
+pub too_long : (piece : List ℕ) (n : ℕ) → number_at w32 piece ≡ Some (n, drop 4 piece) → LONGEST_NOTE < n → note_at piece ≡ None
 too_long piece n e lt = none_unless (note_at piece) (λ x h. (let s = note_stands piece x h in let short = s.short in let same = same_size piece n x e s in omega arith))
 
 pub too_short : (piece : List ℕ) (n : ℕ) → number_at w32 piece ≡ Some (n, drop 4 piece) → length piece < 4 + n → note_at piece ≡ None

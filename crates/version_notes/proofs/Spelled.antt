@@ -16,6 +16,7 @@ use Rattle.version_notes.specs.Parts.{last, all_but, is_marked, with_notes, part
 use Rattle.version_notes.specs.declared.parts.Parts.{Parts}
 use Rattle.version_notes.proofs.Endings.{ending_spelled, last_eight, eight_before, parts_some}
 use Rattle.version_notes.proofs.Fronts.{note_stands, note_spelled}
+use Rattle.version_notes.specs.declared.limits.TheConstants.{LONGEST_NOTE}
 
 pub note_only : (bytes note rest : List ℕ) → note_at bytes ≡ Some (note, rest) → IsNote note × (bytes ≡ text_bytes note ++ rest)
 note_only bytes note rest e = ((note_stands bytes (note, rest) e).note, note_spelled bytes (note, rest) e)
@@ -95,7 +96,7 @@ notes_same ours others p q e same =
 texts_short : (notes : List (List ℕ)) → AllByRecursion IsNote notes → length (texts notes) ≤ 1028 * length notes
 texts_short [] h = omega arith
 texts_short (x ∷ xs) h =
-    let first : length x ≤ 1024 = leb-true _ _ ((and_parts _ _ (h.0).1).0) in
+    let first : length x ≤ LONGEST_NOTE = leb-true _ _ ((and_parts _ _ (h.0).1).0) in
     let rest = texts_short xs h.1 in
     let all : length (texts (x ∷ xs)) ≡ length (text_bytes x) + length (texts xs) = length-append (text_bytes x) (texts xs) in
     omega (arith, first, rest, all)

@@ -4,6 +4,8 @@ use Rattle.std.specs.List.{flat_map, list_all, AllByRecursion}
 use Rattle.std.specs.Str.{bytes_eq}
 use Rattle.xa_fields.specs.Spelling.{text_bytes, u64_bytes, IsText}
 use Rattle.xa_fields.specs.Reading.{◌>>=◌, Reader, text_at, only_at}
+use Rattle.version_notes.specs.declared.limits.TheConstants.{LONGEST_NOTE}
+use Rattle.record_parts.specs.declared.limits.TheConstants.{MOST_VERSIONS}
 
 -- no byte is below 20 hexadecimal
 abbrev pub is_printed : List ℕ → Bool
@@ -11,14 +13,14 @@ is_printed text = list_all (λ byte. nat_le 32 byte) text
 
 -- at most 1,024 bytes, none of them below 20 hexadecimal
 abbrev pub is_note : List ℕ → Bool
-is_note text = nat_le (length text) 1024 && is_printed text
+is_note text = nat_le (length text) LONGEST_NOTE && is_printed text
 
 abbrev pub IsNote : List ℕ → Type 0
 IsNote note = IsText note × IsTrue (is_note note)
 
 -- so many notes at most
 abbrev pub most : ℕ
-most = 999999
+most = MOST_VERSIONS
 
 -- the notes of an archive's versions
 pub record AreNotes (notes : List (List ℕ)) : Type 0 where

@@ -32,7 +32,8 @@ pub fn notes_are_read_back()
 
 /// Behind bytes that do not end in the mark, notes are found again, and behind no others.
 pub fn parts_are_read_back()
-    ensures found { (core : List ℕ) (notes : List (List ℕ)) → is_marked core ≡ false → AreNotes notes
+    ensures found { (core : List ℕ) (notes : List (List ℕ))
+        → is_marked core ≡ false → AreNotes notes
         → parts_in (core ++ notes_part notes) ≡ Some (parts_behind core notes) }
     ensures only { (core other : List ℕ) (ours others : List (List ℕ))
         → is_marked core ≡ false → is_marked other ≡ false → AreNotes ours → AreNotes others

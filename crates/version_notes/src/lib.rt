@@ -6,6 +6,7 @@
 
 mod fault;
 mod laws;
+mod limits;
 mod note;
 mod parts;
 mod place;
@@ -19,6 +20,7 @@ pub use laws::{
     notes_are_read_back, notes_come_one_by_one, parts_are_read_back, readers_give_the_notes,
     writers_append_the_part,
 };
+pub use limits::LONGEST_NOTE;
 pub use parts::{Parts, parts_of};
 pub use reader::NoteReader;
 pub use text::{is_note, is_printed};

@@ -5,10 +5,12 @@ ghost use Rattle.xa_outside.specs.Numbers.{PullsAtMost, after_pull};
 ghost use Rattle.version_notes.specs.Faults.{IfFolder, OnlyReads, fault_of};
 ghost use Rattle.version_notes.specs.Notes.{IsNote, note_at};
 ghost use Rattle.version_notes.specs.Reader.{TellsBytes, TellsFront, TellsNote, TellsSize, TellsText, file_of, left_of};
+ghost use Rattle.version_notes.specs.declared.limits.TheConstants.{LONGEST_NOTE};
 
 use crate::fault::NotesFault;
+use crate::limits::LONGEST_NOTE;
 use crate::place::Place;
-use crate::text::{LONGEST, is_note};
+use crate::text::is_note;
 use std::alloc::Global;
 use xa_fields::take_u32;
 use xa_outside::{Folder, fill_at};
@@ -53,7 +55,7 @@ pub(crate) fn read_note<F: Folder>(
 fn read_size<F: Folder>(folder: &mut F, name: &str, place: Place) -> Result<u32, NotesFault>
     requires { place.at ≤ place.end }
     ensures reads { OnlyReads F.files F.draft F.faults folder.old folder.new (fault_of result) }
-    ensures short { IfOk result (λ n. n ≤ 1024) }
+    ensures short { IfOk result (λ n. n ≤ LONGEST_NOTE) }
     ensures within { IfOk result (λ n. place.at + (4 + n) ≤ place.end) }
     ensures numbers { OnOk result (F.numbers folder.new ≡ after_pull (F.numbers folder.old) 4) }
     ensures pulls { PullsAtMost (min 4 (place.end - place.at))
@@ -74,14 +76,16 @@ fn read_size<F: Folder>(folder: &mut F, name: &str, place: Place) -> Result<u32,
 /// The length in the first four bytes of a note, which has no more bytes than there is room for.
 fn size_within(front: &[u8], room: u64) -> Result<u32, NotesFault>
     requires front { length front.now ≡ 4 }
-    ensures short { IfOk result (λ n. n ≤ 1024) }
+    ensures short { IfOk result (λ n. n ≤ LONGEST_NOTE) }
     ensures within { IfOk result (λ n. 4 + n ≤ room) }
     ensures cause { IfErr result (λ e. IfFolder e ⊥) }
     ensures told { (piece : List ℕ) → length piece ≤ room → front.now ≡ take 4 piece
         → TellsSize piece result }
 {
     match take_u32(front, 0) {
-        Some((size, _)) if size as usize <= LONGEST && SIZE + u64::from(size) <= room => Ok(size),
+        Some((size, _)) if size as usize <= LONGEST_NOTE && SIZE + u64::from(size) <= room => Ok(
+            size,
+        ),
         _ => Err(NotesFault::Damage),
     }
 }

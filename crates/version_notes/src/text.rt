@@ -2,14 +2,13 @@
 ghost use Rattle.std.specs.Prelude.{◌≡◌};
 ghost use Rattle.version_notes.specs.Notes.{is_note, is_printed};
 
-/// The most bytes of a note.
-pub(crate) const LONGEST: usize = 1024;
+use crate::limits::LONGEST_NOTE;
 
 /// Whether a text is a note: it has at most 1,024 bytes, and none below 20 hexadecimal.
 pub fn is_note(text: &str) -> bool
     ensures { result ≡ is_note text.now }
 {
-    text.len() <= LONGEST && is_printed(text.as_bytes())
+    text.len() <= LONGEST_NOTE && is_printed(text.as_bytes())
 }
 
 /// Whether no byte is below 20 hexadecimal.

@@ -3,15 +3,16 @@ ghost use Rattle.std.specs.Prelude.{◌≡◌, ◌+◌, ◌*◌, ◌<◌, ◌≤
 ghost use Rattle.xa_fields.specs.Spelling.{text_bytes};
 ghost use Rattle.version_notes.specs.Notes.{ending, is_note, most};
 ghost use Rattle.version_notes.specs.Writer.{Appends, after, appended, fresh, last_appended, empty_texts};
+ghost use Rattle.version_notes.specs.declared.limits.TheConstants.{LONGEST_NOTE};
 
+use crate::limits::LONGEST_NOTE;
 use crate::note::SIZE;
 use crate::parts::MARK;
-use crate::text::LONGEST;
 use std::marker::Model;
 use xa_outside::{Failed, Folder};
 
 /// The longest text of a note: its length and its bytes.
-const LONGEST_TEXT: usize = 4 + LONGEST;
+const LONGEST_TEXT: usize = 4 + LONGEST_NOTE;
 
 /// Empty notes that waited are appended in pieces of so many bytes.
 const PIECE: usize = 4096;
@@ -102,7 +103,7 @@ impl NoteWriter {
 
 /// Appends so many empty notes, and another note.
 fn append_notes<F: Folder>(folder: &mut F, empty: u32, note: &str) -> Result<(), Failed>
-    requires { length note.now ≤ 1024 }
+    requires { length note.now ≤ LONGEST_NOTE }
     ensures { Appends F.files F.draft F.numbers F.faults folder.old folder.new
         (empty_texts empty ++ text_bytes note.now) result }
 {
@@ -117,7 +118,7 @@ fn append_notes<F: Folder>(folder: &mut F, empty: u32, note: &str) -> Result<(),
 
 /// Appends a note in one piece.
 fn append_text<F: Folder>(folder: &mut F, note: &str) -> Result<(), Failed>
-    requires { length note.now ≤ 1024 }
+    requires { length note.now ≤ LONGEST_NOTE }
     ensures { Appends F.files F.draft F.numbers F.faults folder.old folder.new
         (text_bytes note.now) result }
 {

@@ -22,7 +22,7 @@ use Rattle.xarch_parts.specs.Archives.{ArchiveIs, IsFrontOf, PartsAre}
 use Rattle.xarch_parts.specs.CoreLaws.{core-sound, same-file}
 use Rattle.xarch_parts.specs.Inputs.{file_length}
 use Rattle.xarch_parts.specs.Outcome.{and_then, or_refuse}
-use Rattle.xarch_parts.specs.declared.fronts.Front.{Front}
+use Rattle.xarch_parts.specs.declared.front.Front.{Front}
 use Rattle.xarch_meanings.specs.FrontLaws.{front-told, header-is}
 
 -- ---- what is decided first

@@ -11,6 +11,7 @@ use Rattle.keyed_tree.specs.Data.{PlainKeyed}
 use Rattle.record_cursor.specs.View.{header_view}
 use Rattle.record_format.specs.Files.{FileOf}
 use Rattle.record_format.specs.Fronts.{header}
+use Rattle.record_format.specs.declared.limits.TheConstants.{LONGEST}
 use Rattle.archive_cut.specs.Sliced.{items}
 use Rattle.version_notes.specs.Notes.{notes_part}
 use Rattle.version_notes.specs.Parts.{parts_behind, parts_in}
@@ -28,7 +29,7 @@ use Rattle.xarch_parts.specs.CoreLaws.{front-sound}
 use Rattle.xarch_parts.specs.Inputs.{read_in}
 use Rattle.xarch_parts.specs.Outcome.{Outcome, and_then, or_refuse}
 use Rattle.xarch_parts.specs.Readings.{front_in}
-use Rattle.xarch_parts.specs.declared.fronts.Front.{Front}
+use Rattle.xarch_parts.specs.declared.front.Front.{Front}
 use Rattle.xarch_meanings.specs.Cut.{are_versions, cut_checked, noted_items, slice}
 use Rattle.xarch_meanings.specs.Plausible.{MayBe, MayMake, cut_input}
 use Rattle.xarch_copies.specs.Cutting.{Comes, CutEnds, NotesEnd, RecordsEnd}
@@ -92,10 +93,10 @@ module _ (has_parts : (c : Contents) (bytes : List ℕ) (full : FullAs c bytes) 
     }
 
     may-be-long : ((c : Contents) → ArchiveIs files name c → (bytes : List ℕ) → ¬ FileOf c.rules (items i j c.versions) bytes)
-        → MayBe files (command.cut name new i j) (Err (limit archive 274877906944))
+        → MayBe files (command.cut name new i j) (Err (limit archive LONGEST))
     unfolding MayBe
     may-be-long none =
-        let r : Result Outcome Refusal = Err (limit archive 274877906944) in
+        let r : Result Outcome Refusal = Err (limit archive LONGEST) in
         record {
           whatever = subst (λ x. GoesOn x (λ _. MayMake files name new) r) (sym read) (inr (inl refl));
           sound = λ c a.

@@ -11,6 +11,7 @@ use Rattle.record_cursor.specs.Moves.{IsHeaderOf, TellsFront}
 use Rattle.record_cursor.specs.Places.{among_nodes}
 use Rattle.record_cursor.specs.View.{PlainCursor, PlainHeader, header_view}
 use Rattle.record_format.specs.Files.{FileOf}
+use Rattle.record_format.specs.declared.limits.TheConstants.{LONGEST}
 use Rattle.archive_cut.specs.Cut.{IfTooLong, IfFailed, Overfull}
 use Rattle.archive_cut.specs.Sliced.{items}
 use Rattle.archive_cut.specs.declared.fault.CutFault.{CutFault}
@@ -24,7 +25,7 @@ use Rattle.xarch_words.specs.declared.fault.Fault.{Fault}
 use Rattle.xarch_parts.specs.Ends.{IsCaused, IsInside, IsOfFolder, fault_of}
 use Rattle.xarch_parts.specs.Folders.{WritesOnly}
 use Rattle.xarch_parts.specs.Noted.{notes_bytes}
-use Rattle.xarch_parts.specs.declared.fronts.Front.{Front}
+use Rattle.xarch_parts.specs.declared.front.Front.{Front}
 use Rattle.xarch_meanings.specs.FillsUp.{IsLimited}
 use Rattle.xarch_copies.specs.Cutting.{Comes, Cuts, IsToldAs, Makes, NotesEnd, RecordsEnd, Uncut, Unnoted}
 use Rattle.xarch_copies.specs.Extending.{Extends}
@@ -62,7 +63,7 @@ module _ (files : Option Files) (name : List ℕ) (h : PlainHeader) (i j : ℕ) 
       → RecordsEnd files name h i j v
   records-end Damage v (inl is) undamaged long = end-by v (refused (damaged name)) is (inl (refl, λ front rules vs tells heads sound. undamaged front rules vs tells heads sound refl))
   records-end Damage v (inr is) undamaged long = end-by v memory is tt
-  records-end TooLong v is undamaged long = end-by v (refused (limit archive 274877906944)) is (inr (refl, long))
+  records-end TooLong v is undamaged long = end-by v (refused (limit archive LONGEST)) is (inr (refl, long))
   records-end Folder v is undamaged long = end-by v folder_fault is tt
   records-end Memory v is undamaged long = end-by v memory is tt
 

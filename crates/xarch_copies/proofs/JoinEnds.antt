@@ -3,6 +3,7 @@ use Rattle.std.proofs.Common.{◌≡◌, ◌⊎◌, inl, inr, ℕ, ◌+◌, List
 use Rattle.std.specs.Prelude.{Bool, true, false, nat_le, if◌then◌else◌}
 use Rattle.std.specs.Str.{bytes_eq}
 use Rattle.std.specs.FinMap as map
+use Rattle.xa_fields.specs.FieldLaws.{some_is}
 use Rattle.xa_outside.specs.Folder.{Files}
 use Rattle.xa_outside.specs.Taken.{Taken}
 use Rattle.xa_outside.specs.TakenLaws.{Takes-nil}
@@ -14,6 +15,7 @@ use Rattle.archive_join.specs.Join.{IsArchive}
 use Rattle.record_cursor.specs.View.{header_view}
 use Rattle.record_format.specs.Files.{FileOf}
 use Rattle.record_format.specs.Fronts.{header}
+use Rattle.record_format.specs.declared.limits.TheConstants.{LONGEST}
 use Rattle.version_notes.specs.Notes.{notes_part}
 use Rattle.version_notes.specs.Parts.{parts_behind, parts_in}
 use Rattle.version_notes.specs.Reader.{at_first}
@@ -32,7 +34,7 @@ use Rattle.xarch_parts.specs.Inputs as inputs
 use Rattle.xarch_parts.specs.Inputs.{file_length, read_in}
 use Rattle.xarch_parts.specs.Outcome.{Outcome, and_then, or_refuse}
 use Rattle.xarch_parts.specs.Readings.{core_in, front_in, front_of_core, parts_of}
-use Rattle.xarch_parts.specs.declared.fronts.Front.{Front}
+use Rattle.xarch_parts.specs.declared.front.Front.{Front}
 use Rattle.xarch_meanings.specs.Join.{JoinsFrom, are_joinable, join_checked, joined, room_for, same_keys}
 use Rattle.xarch_meanings.specs.Plausible.{MayBe, MayJoin, join_input}
 use Rattle.xarch_copies.specs.Cutting.{IsUnsound}
@@ -40,6 +42,7 @@ use Rattle.xarch_copies.specs.Joining.{AreFound, BothNotesEnd, Comes, JoinEnds, 
 use Rattle.xarch_copies.specs.Making.{StandsBefore}
 use Rattle.xarch_copies.specs.declared.join.Both.{Both}
 use Rattle.xarch_copies.proofs.Checking.{IsSeen, checked-given, checked-once, checked-refused, drafted, length-there, seen}
+use Rattle.record_parts.specs.declared.limits.TheConstants.{MOST_VERSIONS}
 
 -- ---- what is refused as damaged
 
@@ -77,7 +80,7 @@ keys-undamaged : (b : Bool) (one two m : List ℕ) → ◌≡◌ {A = Result Uni
 keys-undamaged true one two m e = absurd cc
 keys-undamaged false one two m e = absurd cc
 
-room-undamaged : (b : Bool) (m : List ℕ) → ◌≡◌ {A = Result Unit Refusal} (if b then Ok tt else Err (limit versions 999999)) (Err (damaged m)) → ⊥
+room-undamaged : (b : Bool) (m : List ℕ) → ◌≡◌ {A = Result Unit Refusal} (if b then Ok tt else Err (limit versions MOST_VERSIONS)) (Err (damaged m)) → ⊥
 room-undamaged true m e = absurd cc
 room-undamaged false m e = absurd cc
 
@@ -94,7 +97,7 @@ together one two h g = and_then (are_joinable one two h g) (λ _. Ok (h, g))
 joinable-undamaged : (one two m : List ℕ) (h g : List PlainRule × ℕ) → together one two h g ≡ Err (damaged m) → ⊥
 joinable-undamaged one two m h g =
     let p : (List PlainRule × ℕ) × (List PlainRule × ℕ) = (h, g) in
-    both-undamaged (same_keys one two h.0 g.0) (room_for h.1 g.1) p m (keys-undamaged (bytes_eq (canonical h.0) (canonical g.0)) one two m) (room-undamaged (nat_le (h.1 + g.1) 999999) m)
+    both-undamaged (same_keys one two h.0 g.0) (room_for h.1 g.1) p m (keys-undamaged (bytes_eq (canonical h.0) (canonical g.0)) one two m) (room-undamaged (nat_le (h.1 + g.1) MOST_VERSIONS) m)
 
 -- ---- of which archive that is said
 
@@ -130,7 +133,7 @@ same-refusal q r e = cc
 not-refused : (o : Outcome) (r : Refusal) → ◌≡◌ {A = Result Outcome Refusal} (Ok o) (Err r) → ⊥
 not-refused o r e = absurd cc
 
-not-damaged : (m : List ℕ) → ◌≡◌ {A = Result Outcome Refusal} (Err (limit archive 274877906944)) (Err (damaged m)) → ⊥
+not-damaged : (m : List ℕ) → ◌≡◌ {A = Result Outcome Refusal} (Err (limit archive LONGEST)) (Err (damaged m)) → ⊥
 not-damaged m e = absurd cc
 
 -- From what is known of all archive files with notes: where their parts stand, and the header in front.
@@ -234,10 +237,10 @@ module _ (has_parts : (c : Contents) (bytes : List ℕ) (full : FullAs c bytes) 
       }
 
       may-be-long : ((c d : Contents) → ArchiveIs files one c → ArchiveIs files two d → (bytes : List ℕ) → ¬ FileOf c.rules (c.versions ++ d.versions) bytes)
-          → MayBe files (command.join one two new) (Err (limit archive 274877906944))
+          → MayBe files (command.join one two new) (Err (limit archive LONGEST))
       unfolding MayBe
       may-be-long none =
-          let r : Result Outcome Refusal = Err (limit archive 274877906944) in
+          let r : Result Outcome Refusal = Err (limit archive LONGEST) in
           record {
             whatever = subst (λ x. GoesOn x (λ _. MayJoin files one two new) r) (sym read) (inr (inr (inl refl)));
             first = λ c a w. not-damaged one w;
@@ -275,7 +278,10 @@ module _ (has_parts : (c : Contents) (bytes : List ℕ) (full : FullAs c bytes) 
         full-joined draft now c =
             let s = first-seen held a in
             let t = second-seen d b in
-            let these : c.notes ≡ held.notes ++ d.notes = c.given files held.notes d.notes tells s.read t.read in
+            let gives = c.given files tells in
+            let here : c.first ≡ held.notes = some_is c.first held.notes (sym gives.0 ∙ s.read) in
+            let there : c.second ≡ d.notes = some_is c.second d.notes (sym gives.1 ∙ t.read) in
+            let these : c.notes ≡ held.notes ++ d.notes = c.are ∙ (λ i. here i ++ there i) in
             let many = c.many in
             let first = s.versions in
             let second = t.versions in

@@ -1,5 +1,5 @@
 -- How the versions of two archives go into one.
-use Rattle.std.proofs.Common.{◌≡◌, inl, inr, ℕ, ◌+◌, ◌-◌, ◌≤◌, true, false, List, [], ◌++◌, length, Option, Some, None, option_map, Result, Ok, Err, IfErr, OnOk, refl, sym, ap, ◌∙◌, subst, append-nil, length-append, arith}
+use Rattle.std.proofs.Common.{◌≡◌, inl, inr, ℕ, ◌+◌, ◌-◌, ◌≤◌, true, false, List, [], ◌++◌, length, Option, Some, None, option_map, Result, Ok, Err, IfErr, OnOk, refl, sym, ap, ◌∙◌, subst, length-append, arith}
 use Rattle.std.specs.Prelude.{Bool}
 use Rattle.std.specs.Result.{IsErrAnd}
 use Rattle.xa_outside.specs.Causes.{Rose}
@@ -9,26 +9,30 @@ use Rattle.key_spec.specs.Data.{PlainRule}
 use Rattle.keyed_tree.specs.Data.{PlainKeyed}
 use Rattle.record_cursor.specs.View.{PlainHeader, header_view}
 use Rattle.record_format.specs.Files.{FileOf}
+use Rattle.record_format.specs.declared.limits.TheConstants.{LONGEST}
 use Rattle.archive_join.specs.Join.{Appended, IfDamaged, IfFailed, IfTooLong, IsArchive, Overfull}
 use Rattle.archive_join.specs.declared.fault.JoinFault.{JoinFault}
 use Rattle.archive_join.specs.declared.fault.JoinFault.TheVariants.{Damage, Folder, TooLong, Memory}
 use Rattle.version_notes.specs.Notes.{are_empty, notes_part}
-use Rattle.version_notes.specs.Reader.{PlainReader, file_of, next_of}
-use Rattle.version_notes.specs.Reading.{all_read, notes_from, notes_left}
+use Rattle.version_notes.specs.Faults.{IfDamage, IfFolder}
+use Rattle.version_notes.specs.Reader.{PlainReader, file_of}
+use Rattle.version_notes.specs.Reading.{all_read, notes_from}
+use Rattle.version_notes.specs.Walk.{Copies}
 use Rattle.version_notes.specs.Writer.{Appends, PlainWriter, after_all, all_appended, fresh, last_appended}
+use Rattle.version_notes.specs.declared.fault.NotesFault.{NotesFault}
 use Rattle.xarch_words.specs.Refusal.{archive, damaged, limit, PlainFault, refused, folder_fault, memory}
 use Rattle.xarch_words.specs.View.{fault_view}
 use Rattle.xarch_words.specs.declared.fault.Fault.{Fault}
 use Rattle.xarch_parts.specs.Ends.{IsCaused, IsInside, IsOfFolder, fault_of}
 use Rattle.xarch_parts.specs.Folders.{WritesOnly}
 use Rattle.xarch_parts.specs.Noted.{notes_bytes}
-use Rattle.xarch_parts.specs.declared.fronts.Front.{Front}
+use Rattle.xarch_parts.specs.declared.front.Front.{Front}
 use Rattle.xarch_meanings.specs.FillsUp.{IsLimited}
 use Rattle.xarch_copies.specs.Cutting.{IsUnsound}
 use Rattle.xarch_copies.specs.Extending.{Extends}
-use Rattle.xarch_copies.specs.Joining.{Assembles, BothNotesEnd, Carries, Comes, Copies, FrontNotesEnd, IsToldAs, Joins, RecordsEnd, Unjoined, front_reader}
+use Rattle.xarch_copies.specs.Joining.{Assembles, BothNotesEnd, Carries, Comes, CopiesAll, FrontNotesEnd, IsToldAs, Joins, RecordsEnd, Unjoined, front_reader}
 use Rattle.xarch_copies.specs.Making.{Fails, behind_front}
-use Rattle.xarch_copies.specs.Slicing.{Gives}
+use Rattle.xarch_copies.specs.Slicing.{Stops}
 use Rattle.xarch_copies.specs.declared.join.Both.{Both}
 use Rattle.xarch_copies.proofs.Cutting.{notes-unlimited}
 use Rattle.xarch_copies.proofs.Extending.{extends-appended, extends-more, extends-then}
@@ -79,7 +83,7 @@ module _ (files : Option Files) (one : List ℕ) (h : PlainHeader) (two : List �
   records-end (Damage false) v (inr is) first second long = end-by v memory is tt
   records-end (Damage true) v (inl is) first second long = end-by v (refused (damaged two)) is (inr (inl (refl, unsound files two g (λ rules us a. second rules us a refl))))
   records-end (Damage true) v (inr is) first second long = end-by v memory is tt
-  records-end TooLong v is first second long = end-by v (refused (limit archive 274877906944)) is (inr (inr (refl, long)))
+  records-end TooLong v is first second long = end-by v (refused (limit archive LONGEST)) is (inr (inr (refl, long)))
   records-end Folder v is first second long = end-by v folder_fault is tt
   records-end Memory v is first second long = end-by v memory is tt
 
@@ -115,73 +119,64 @@ module _ {S : Type 0} {files : S → Option Files} {draft : S → Option (List �
 
 -- ---- the notes
 
--- behind the last note none are left
-left-none : (n : ℕ) (r : PlainReader) (file : List ℕ) → n ≡ 0 → notes_left n r file ≡ option_map (λ _. []) (next_of r file)
-left-none n r file is = ap (λ k. notes_left k r file) is
-
-all-left : (o : Option (Option (List ℕ))) (notes all : List (List ℕ)) → option_map (λ rest. notes ++ rest) (option_map (λ _. []) o) ≡ Some all → notes ≡ all
-all-left None notes all e = absurd cc
-all-left (Some x) notes all e = (let is : notes ++ [] ≡ all = cc in sym (append-nil notes) ∙ is)
-
--- a reader that gave as many notes as were due gave all
-all-given : (fs : Option Files) (start now : PlainReader) (notes : List (List ℕ)) → Gives fs start now notes → length notes ≡ start.due → (told : Files) (all : List (List ℕ)) → fs ≡ Some told → notes_from start (file_of told start.name) ≡ Some all → notes ≡ all
-all-given fs start now notes h many told all at is =
-    let due = h.due in
-    let none : now.due ≡ 0 = omega (arith, due, many) in
-    all-left (next_of now (file_of told start.name)) notes all (ap (option_map (λ rest. notes ++ rest)) (sym (left-none now.due now (file_of told start.name) none)) ∙ sym (h.left told at) ∙ is)
-
 module _ {S : Type 0} {files : S → Option Files} {draft : S → Option (List ℕ)} {numbers : S → Numbers} {faults : S → ℕ} where
-  pub copied : (old new : S) (start : PlainReader) (w v : PlainWriter) → Copies files draft numbers faults old new start w v → Extends files draft numbers faults (all_read start) old new
-  copied old new start w v p = extends-more (all_read start - all_read p.now) (all_read start) old new (omega arith) p.pushes.extends
+  -- all went from a reader to a writer
+  pub copied-all : (old new : S) (start : PlainReader) (w v : PlainWriter) → files new ≡ files old → Copies (files old) start w v (draft old) (draft new) → PullsAndDrafts (all_read start) (numbers old) (numbers new) → faults old ≤ faults new → CopiesAll files draft numbers faults old new start w v
+  copied-all old new start w v same copies counted later = record { extends = record { same_files = same; bytes = all_appended w copies.notes; grown = copies.gains; counted = counted; later = later }; copies = copies }
+
+  -- or it was stopped
+  pub copied-some : (old new : S) (start : PlainReader) (e : NotesFault) → files new ≡ files old → Lengthens (draft old) (draft new) → PullsAndDrafts (all_read start) (numbers old) (numbers new) → faults old ≤ faults new → IfFolder e (Rose (faults old) (faults new))
+      → ((told : Files) → files old ≡ Some told → IfDamage e (notes_from start (file_of told start.name) ≡ None)) → Stops files draft numbers faults old new start e
+  copied-some old new start e same drafted counted later cause told = record { told = told; extends = record { same_files = same; bytes = drafted.bytes; grown = drafted.is; counted = counted; later = later }; cause = cause }
 
   -- the notes of two readers went to one writer
-  module _ (old mid end : S) (start other : PlainReader) (w v : PlainWriter) (p : Copies files draft numbers faults old mid start (fresh false) w) (q : Copies files draft numbers faults mid end other w v) where
-    pub both-written : v ≡ after_all (fresh false) (p.pushes.notes ++ q.pushes.notes)
-    both-written = q.pushes.writer ∙ ap (λ (x : PlainWriter). after_all x q.pushes.notes) p.pushes.writer ∙ sym (after-then (fresh false) p.pushes.notes q.pushes.notes)
+  module _ (old mid end : S) (start other : PlainReader) (w v : PlainWriter) (p : CopiesAll files draft numbers faults old mid start (fresh false) w) (q : CopiesAll files draft numbers faults mid end other w v) where
+    pub both-written : v ≡ after_all (fresh false) (p.copies.notes ++ q.copies.notes)
+    both-written = q.copies.pushed ∙ ap (λ (x : PlainWriter). after_all x q.copies.notes) p.copies.pushed ∙ sym (after-then (fresh false) p.copies.notes q.copies.notes)
 
     pub both-copied : Extends files draft numbers faults (all_read start + all_read other) old end
-    both-copied = extends-then (all_read start) (all_read other) (all_read start + all_read other) old mid end (omega arith) (copied old mid start (fresh false) w p) (copied mid end other w v q)
+    both-copied = extends-then (all_read start) (all_read other) (all_read start + all_read other) old mid end (omega arith) p.extends q.extends
 
     -- and were closed
     pub carries : {T E : Type 0} (new : S) (u : T) → IsMeter (numbers end)
         → ((at_once : Bool) (notes : List (List ℕ)) → (at_once ≡ true → are_empty notes ≡ false) → all_appended (fresh at_once) notes ++ last_appended (after_all (fresh at_once) notes) ≡ notes_part notes)
         → Appends {E = E} files draft numbers faults end new (last_appended v) (Ok u) → Carries files draft numbers faults old new start other
     carries {T = T} {E = E} new u meter part a =
-        let notes = p.pushes.notes in
-        let more = q.pushes.notes in
+        let notes = p.copies.notes in
+        let more = q.copies.notes in
         let all = notes ++ more in
-        let first = p.pushes.many in
-        let second = q.pushes.many in
+        let first = p.copies.count in
+        let second = q.copies.count in
         let texts : all_appended (fresh false) notes ++ all_appended w more ≡ all_appended (fresh false) all =
-        ap (λ (x : PlainWriter). all_appended (fresh false) notes ++ all_appended x more) p.pushes.writer ∙ sym (appended-then (fresh false) notes more) in
+        ap (λ (x : PlainWriter). all_appended (fresh false) notes ++ all_appended x more) p.copies.pushed ∙ sym (appended-then (fresh false) notes more) in
         let whole : (all_appended (fresh false) notes ++ all_appended w more) ++ last_appended v ≡ notes_part all =
         ap (λ (l : List ℕ). l ++ last_appended v) texts ∙ ap (λ (x : PlainWriter). all_appended (fresh false) all ++ last_appended x) both-written ∙ part false all (λ once. absurd cc) in
         record {
           notes = all;
           many = omega (arith, first, second, length-append notes more);
-          each = each-then notes more p.pushes.gives.each q.pushes.gives.each;
-          given = λ told these those at is are.
-              let one : notes ≡ these = all-given (files old) start p.now notes p.pushes.gives first told these at is in
-              let two : more ≡ those = all-given (files mid) other q.now more q.pushes.gives second told those (p.pushes.extends.same_files ∙ at) are in
-              (λ i. one i ++ two i);
+          each = each-then notes more p.copies.each q.copies.each;
+          first = notes;
+          second = more;
+          are = refl;
+          given = λ told at. (p.copies.given told at, q.copies.given told (p.extends.same_files ∙ at));
           extends = extends-then (all_read start + all_read other) 0 (all_read start + all_read other) old end new (omega arith) both-copied (extends-appended {T = T} {E = E} end new (last_appended v) (Ok u) meter a);
-          gains = gained-more (draft old) (draft end) (draft new) _ _ (gained-more (draft old) (draft mid) (draft end) _ _ p.pushes.gains q.pushes.gains) a.gains.draft
+          gains = gained-more (draft old) (draft end) (draft new) _ _ (gained-more (draft old) (draft mid) (draft end) _ _ p.copies.gains q.copies.gains) a.gains.draft
               ∙ ap (λ (l : List ℕ). option_map (λ d. d ++ l) (draft old)) whole;
         }
 
   -- the second archive's notes failed
-  pub fails-second : (old mid now : S) (one : List ℕ) (first : Front) (two : List ℕ) (second : Front) (w v : PlainWriter) (f : PlainFault) → Copies files draft numbers faults old mid (front_reader one first) w v
+  pub fails-second : (old mid now : S) (one : List ℕ) (first : Front) (two : List ℕ) (second : Front) (w v : PlainWriter) (f : PlainFault) → CopiesAll files draft numbers faults old mid (front_reader one first) w v
       → Fails files draft numbers faults (notes_bytes second.parts.notes) (FrontNotesEnd (files mid) two second) mid now f
       → Fails files draft numbers faults (notes_bytes first.parts.notes + notes_bytes second.parts.notes) (BothNotesEnd (files old) one first two second) old now f
   fails-second old mid now one first two second w v f p q =
       let n = notes_bytes first.parts.notes in
       let k = notes_bytes second.parts.notes in
-      let read = subst (λ (m : ℕ). Extends files draft numbers faults m old mid) (all-read one first.parts (header_view first.header).versions) (copied old mid (front_reader one first) w v p) in
+      let read = subst (λ (m : ℕ). Extends files draft numbers faults m old mid) (all-read one first.parts (header_view first.header).versions) p.extends in
       fails-then n k (n + k) (FrontNotesEnd (files mid) two second) (BothNotesEnd (files old) one first two second) old mid now f (omega arith) read q
-      (λ ends. inr (subst (λ (fs : Option Files). FrontNotesEnd fs two second f) p.pushes.extends.same_files ends))
+      (λ ends. inr (subst (λ (fs : Option Files). FrontNotesEnd fs two second f) p.extends.same_files ends))
 
   -- what closes the notes of both was not appended
-  pub fails-unclosed : {T E : Type 0} (old mid end now : S) (one : List ℕ) (first : Front) (two : List ℕ) (second : Front) (w v : PlainWriter) → Copies files draft numbers faults old mid (front_reader one first) (fresh false) w → Copies files draft numbers faults mid end (front_reader two second) w v
+  pub fails-unclosed : {T E : Type 0} (old mid end now : S) (one : List ℕ) (first : Front) (two : List ℕ) (second : Front) (w v : PlainWriter) → CopiesAll files draft numbers faults old mid (front_reader one first) (fresh false) w → CopiesAll files draft numbers faults mid end (front_reader two second) w v
       → (bytes : List ℕ) (e : E) → IsMeter (numbers end) → Appends {T = T} files draft numbers faults end now bytes (Err e)
       → Fails files draft numbers faults (notes_bytes first.parts.notes + notes_bytes second.parts.notes) (BothNotesEnd (files old) one first two second) old now folder_fault
   fails-unclosed {T = T} {E = E} old mid end now one first two second w v p q bytes e meter a =
@@ -245,7 +240,10 @@ module _ {S : Type 0} {files : S → Option Files} {draft : S → Option (List �
             joined = j.appended.sound;
             many = c.many;
             each = c.each;
-            given = λ told all more at is are. c.given told all more (j.extends.same_files ∙ at) is are;
+            first = c.first;
+            second = c.second;
+            are = c.are;
+            given = λ told at. c.given told (j.extends.same_files ∙ at);
             stored = stored ∙ (λ k. committed (same k) (drafted k) new);
           }
 

@@ -6,7 +6,7 @@ use Rattle.xa_outside.specs.CauseLaws.{Rose-later}
 use Rattle.xa_outside.specs.Folder.{Files, committed}
 use Rattle.xa_outside.specs.Numbers.{Numbers, IsMeter, PullsAtMost}
 use Rattle.xa_outside.specs.NumberLaws.{PullsAtMost-more, PullsAtMost-trans}
-use Rattle.record_cursor.specs.View.{header_view, IsHeader}
+use Rattle.record_cursor.specs.View.{header_view}
 use Rattle.version_notes.specs.Writer.{Appends}
 use Rattle.xarch_words.specs.Refusal.{PlainFault, Refusal, folder_fault, memory}
 use Rattle.xarch_words.specs.View.{fault_view}
@@ -19,7 +19,7 @@ use Rattle.xarch_parts.specs.FolderLaws.{caused-then, reads-passed, reads-then}
 use Rattle.xarch_parts.specs.Folders.{ReadsOnly, WritesOnly}
 use Rattle.xarch_parts.specs.Inputs.{size_in}
 use Rattle.xarch_parts.specs.Noted.{AreWithin}
-use Rattle.xarch_parts.specs.declared.fronts.Front.{Front}
+use Rattle.xarch_parts.specs.declared.front.Front.{Front}
 use Rattle.xarch_meanings.specs.FillsUp.{IsLimited}
 use Rattle.xarch_copies.specs.Extending.{Extends}
 use Rattle.xarch_copies.specs.Making.{Asks, Fails, Makes, StandsBefore}
@@ -40,11 +40,9 @@ of-folder a b c v later cause = IsOfFolder-later a b c c (Some v) later (omega a
 -- ---- what is read first
 
 -- what was read in front of a file of this size
-pub stands-before : (files : Option Files) (name : List ℕ) (size : ℕ) (front : Front) → size ≤ size_in files name → IsHeader (header_view front.header) → (header_view front.header).length ≡ front.parts.core → AreWithin size front.parts
+pub stands-before : (files : Option Files) (name : List ℕ) (size : ℕ) (front : Front) → size ≤ size_in files name → AreWithin size front.parts
     → ((told : Files) → files ≡ Some told → PartsAre told name front.parts × IsFrontOf told name (header_view front.header)) → StandsBefore files name front
-stands-before files name size front most header core within is = record {
-  header = header;
-  core = core;
+stands-before files name size front most within is = record {
   within = within-more size (size_in files name) front.parts most within;
   are = λ told at. (is told at).0;
   stands = λ told at. (is told at).1;

@@ -9,6 +9,7 @@ use Rattle.archive_file.specs.Sound.{SoundAs}
 use Rattle.record_cursor.specs.Moves.{IsHeaderOf, TellsFront}
 use Rattle.record_cursor.specs.View.{PlainHeader, header_view}
 use Rattle.record_format.specs.Files.{FileOf}
+use Rattle.record_format.specs.declared.limits.TheConstants.{LONGEST}
 use Rattle.archive_cut.specs.Cut.{Appended, IsSlice, Overfull}
 use Rattle.archive_cut.specs.Sliced.{items}
 use Rattle.archive_cut.specs.declared.fault.CutFault.{CutFault}
@@ -21,7 +22,7 @@ use Rattle.xarch_words.specs.Refusal.{archive, damaged, limit, PlainFault, refus
 use Rattle.xarch_words.specs.declared.fault.Fault.{Fault}
 use Rattle.xarch_parts.specs.Inputs.{size_in}
 use Rattle.xarch_parts.specs.Noted.{notes_bytes}
-use Rattle.xarch_parts.specs.declared.fronts.Front.{Front}
+use Rattle.xarch_parts.specs.declared.front.Front.{Front}
 use Rattle.xarch_meanings.specs.Cut.{noted_items}
 use Rattle.xarch_meanings.specs.FillsUp.{IsLimited}
 use Rattle.xarch_meanings.specs.Plausible.{cut_input}
@@ -47,7 +48,7 @@ Fronts files draft numbers faults name new i j old now result =
 -- the fault of a cut, as it is told of the archive of this name
 abbrev pub IsToldAs : List ℕ → CutFault → PlainFault → Type 0
 IsToldAs name Damage fault = (fault ≡ refused (damaged name)) ⊎ (fault ≡ memory)
-IsToldAs name TooLong fault = fault ≡ refused (limit archive 274877906944)
+IsToldAs name TooLong fault = fault ≡ refused (limit archive LONGEST)
 IsToldAs name Folder fault = fault ≡ folder_fault
 IsToldAs name Memory fault = fault ≡ memory
 
@@ -61,7 +62,7 @@ AreTooLong files name h i j = (front : List ℕ) (rules : List PlainRule) (vs : 
 
 -- why no versions were cut out of its records
 abbrev pub RecordsEnd : Option Files → List ℕ → PlainHeader → ℕ → ℕ → PlainFault → Type 0
-RecordsEnd files name h i j (refused q) = ((q ≡ damaged name) × IsUnsound files name h) ⊎ ((q ≡ limit archive 274877906944) × AreTooLong files name h i j)
+RecordsEnd files name h i j (refused q) = ((q ≡ damaged name) × IsUnsound files name h) ⊎ ((q ≡ limit archive LONGEST) × AreTooLong files name h i j)
 RecordsEnd files name h i j other = ⊤
 
 -- The records of the versions from i to j went into an empty draft.

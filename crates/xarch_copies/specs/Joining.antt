@@ -8,26 +8,28 @@ use Rattle.keyed_tree.specs.Data.{PlainKeyed}
 use Rattle.archive_file.specs.Sound.{SoundAs}
 use Rattle.record_cursor.specs.View.{PlainHeader, header_view}
 use Rattle.record_format.specs.Files.{FileOf}
+use Rattle.record_format.specs.declared.limits.TheConstants.{LONGEST}
 use Rattle.archive_join.specs.Join.{Appended, IsArchive, Overfull}
 use Rattle.archive_join.specs.declared.fault.JoinFault.{JoinFault}
 use Rattle.archive_join.specs.declared.fault.JoinFault.TheVariants.{Damage, Folder, TooLong, Memory}
 use Rattle.version_notes.specs.Notes.{IsNote, notes_part}
 use Rattle.version_notes.specs.Reader.{PlainReader, at_first, file_of}
 use Rattle.version_notes.specs.Reading.{all_read, notes_from}
+use Rattle.version_notes.specs.Walk.{Copies}
 use Rattle.version_notes.specs.Writer.{PlainWriter}
 use Rattle.xarch_words.specs.Refusal.{archive, Refusal, damaged, limit, PlainFault, refused, folder_fault, memory}
 use Rattle.xarch_words.specs.declared.fault.Fault.{Fault}
 use Rattle.xarch_parts.specs.Inputs.{file_length, read_in, size_in}
 use Rattle.xarch_parts.specs.Outcome.{and_then}
 use Rattle.xarch_parts.specs.Readings.{front_in}
-use Rattle.xarch_parts.specs.declared.fronts.Front.{Front}
+use Rattle.xarch_parts.specs.declared.front.Front.{Front}
 use Rattle.xarch_meanings.specs.FillsUp.{IsLimited}
 use Rattle.xarch_meanings.specs.Join.{are_joinable}
 use Rattle.xarch_copies.specs.Cutting.{IsUnsound, NotesEnd}
 use Rattle.xarch_copies.specs.Extending.{Extends}
 use Rattle.xarch_copies.specs.Making.{Asks, Fails, Makes, StandsBefore, behind_front, front_read}
-use Rattle.xarch_copies.specs.Slicing.{Pushes}
 use Rattle.xarch_copies.specs.declared.join.Both.{Both}
+use Rattle.record_parts.specs.declared.limits.TheConstants.{MOST_VERSIONS}
 
 -- ---- what is read first
 
@@ -47,7 +49,7 @@ fronts_in files one two =
 -- both headers give the same rules, and together no more versions than there may be
 pub record GoTogether (h g : PlainHeader) : Type 0 where
   pub rules : h.rules ≡ g.rules
-  pub few : h.versions + g.versions ≤ 999999
+  pub few : h.versions + g.versions ≤ MOST_VERSIONS
 
 -- These stand in front of the archives of these names, and go together.
 pub record AreFound (one two : List ℕ) (files : Option Files) (both : Both) : Type 0 where
@@ -71,7 +73,7 @@ Fronts files draft numbers faults one two asked old now result =
 abbrev pub IsToldAs : List ℕ → List ℕ → JoinFault → PlainFault → Type 0
 IsToldAs one two (Damage false) fault = (fault ≡ refused (damaged one)) ⊎ (fault ≡ memory)
 IsToldAs one two (Damage true) fault = (fault ≡ refused (damaged two)) ⊎ (fault ≡ memory)
-IsToldAs one two TooLong fault = fault ≡ refused (limit archive 274877906944)
+IsToldAs one two TooLong fault = fault ≡ refused (limit archive LONGEST)
 IsToldAs one two Folder fault = fault ≡ folder_fault
 IsToldAs one two Memory fault = fault ≡ memory
 
@@ -81,7 +83,7 @@ AreTooLong files one h two g = (rules : List PlainRule) (vs us : List PlainKeyed
 
 -- why the records of both were not joined
 abbrev pub RecordsEnd : Option Files → List ℕ → PlainHeader → List ℕ → PlainHeader → PlainFault → Type 0
-RecordsEnd files one h two g (refused q) = ((q ≡ damaged one) × IsUnsound files one h) ⊎ ((q ≡ damaged two) × IsUnsound files two g) ⊎ ((q ≡ limit archive 274877906944) × AreTooLong files one h two g)
+RecordsEnd files one h two g (refused q) = ((q ≡ damaged one) × IsUnsound files one h) ⊎ ((q ≡ damaged two) × IsUnsound files two g) ⊎ ((q ≡ limit archive LONGEST) × AreTooLong files one h two g)
 RecordsEnd files one h two g other = ⊤
 
 -- The records of both went into an empty draft.
@@ -102,20 +104,23 @@ pub record Unjoined {S : Type 0} (files : S → Option Files) (draft : S → Opt
 
 -- ---- the notes
 
--- All notes of a reader were pushed, each before the next was read.
-pub record Copies {S : Type 0} (files : S → Option Files) (draft : S → Option (List ℕ)) (numbers : S → Numbers) (faults : S → ℕ)
+-- All notes of a reader went to a writer.
+pub record CopiesAll {S : Type 0} (files : S → Option Files) (draft : S → Option (List ℕ)) (numbers : S → Numbers) (faults : S → ℕ)
     (old new : S) (start : PlainReader) (before after : PlainWriter) : Type 0 where
-  pub now : PlainReader
-  pub pushes : Pushes files draft numbers faults old new start now before after start.due
+  pub extends : Extends files draft numbers faults (all_read start) old new
+  pub copies : Copies (files old) start before after (draft old) (draft new)
 
--- The draft gained what stands behind a file with as many notes as two readers give. Where files are told, and both give notes, these are the notes of the
+-- The draft gained what stands behind a file with as many notes as two readers give. Where files are told, both give notes, and these are the notes of the
 -- first and behind them those of the second.
 pub record Carries {S : Type 0} (files : S → Option Files) (draft : S → Option (List ℕ)) (numbers : S → Numbers) (faults : S → ℕ)
     (old new : S) (start other : PlainReader) : Type 0 where
   pub notes : List (List ℕ)
   pub many : length notes ≡ start.due + other.due
   pub each : AllByRecursion IsNote notes
-  pub given : (told : Files) (all more : List (List ℕ)) → files old ≡ Some told → notes_from start (file_of told start.name) ≡ Some all → notes_from other (file_of told other.name) ≡ Some more → notes ≡ all ++ more
+  pub first : List (List ℕ)
+  pub second : List (List ℕ)
+  pub are : notes ≡ first ++ second
+  pub given : (told : Files) → files old ≡ Some told → (notes_from start (file_of told start.name) ≡ Some first) × (notes_from other (file_of told other.name) ≡ Some second)
   pub extends : Extends files draft numbers faults (all_read start + all_read other) old new
   pub gains : draft new ≡ option_map (λ d. d ++ notes_part notes) (draft old)
 
@@ -134,14 +139,17 @@ front_reader name front = at_first name front.parts (header_view front.header).v
 -- ---- the new archive
 
 -- A file came under the new name by way of the draft, where both are told: that of the versions of both, and behind it what stands behind a file with the notes
--- of both.
+-- of both, which both archives give.
 pub record Comes (files : Option Files) (draft : Option (List ℕ)) (one two new : List ℕ) (both : Both) (after : Option Files) : Type 0 where
   pub core : List ℕ
   pub notes : List (List ℕ)
   pub joined : (rules : List PlainRule) (vs us : List PlainKeyed) → IsArchive files one (header_view both.one.header) rules vs → IsArchive files two (header_view both.two.header) rules us → SoundAs rules (vs ++ us) core
   pub many : length notes ≡ (header_view both.one.header).versions + (header_view both.two.header).versions
   pub each : AllByRecursion IsNote notes
-  pub given : (told : Files) (all more : List (List ℕ)) → files ≡ Some told → notes_from (front_reader one both.one) (file_of told one) ≡ Some all → notes_from (front_reader two both.two) (file_of told two) ≡ Some more → notes ≡ all ++ more
+  pub first : List (List ℕ)
+  pub second : List (List ℕ)
+  pub are : notes ≡ first ++ second
+  pub given : (told : Files) → files ≡ Some told → (notes_from (front_reader one both.one) (file_of told one) ≡ Some first) × (notes_from (front_reader two both.two) (file_of told two) ≡ Some second)
   pub stored : after ≡ committed files (option_map (λ _. core ++ notes_part notes) draft) new
 
 -- with what this ends

@@ -3,7 +3,7 @@ use Rattle.std.specs.Prelude.{◌≡◌, ℕ, ◌+◌, ◌-◌, List, Option, So
 use Rattle.xa_outside.specs.Folder.{Files}
 use Rattle.xa_outside.specs.Numbers.{Numbers, PullsAtMost}
 use Rattle.key_spec.specs.Data.{PlainRule}
-use Rattle.record_cursor.specs.View.{header_view, IsHeader}
+use Rattle.record_cursor.specs.View.{header_view}
 use Rattle.xarch_words.specs.Refusal.{PlainFault, Refusal}
 use Rattle.xarch_words.specs.declared.fault.Fault.{Fault}
 use Rattle.xarch_parts.specs.Archives.{IsFrontOf, PartsAre}
@@ -11,7 +11,7 @@ use Rattle.xarch_parts.specs.Ends.{IsCaused, IsOfFolder, Matches, fault_of}
 use Rattle.xarch_parts.specs.Folders.{ReadsOnly, Streams}
 use Rattle.xarch_parts.specs.Inputs.{size_in}
 use Rattle.xarch_parts.specs.Noted.{AreWithin, notes_bytes}
-use Rattle.xarch_parts.specs.declared.fronts.Front.{Front}
+use Rattle.xarch_parts.specs.declared.front.Front.{Front}
 use Rattle.xarch_meanings.specs.FillsUp.{IsLimited}
 use Rattle.xarch_copies.specs.Extending.{Extends}
 
@@ -23,8 +23,6 @@ front_read front = ((header_view front.header).rules, (header_view front.header)
 
 -- This stands in front of the archive of this name.
 pub record StandsBefore (files : Option Files) (name : List ℕ) (front : Front) : Type 0 where
-  pub header : IsHeader (header_view front.header)
-  pub core : (header_view front.header).length ≡ front.parts.core
   pub within : AreWithin (size_in files name) front.parts
   pub are : (told : Files) → files ≡ Some told → PartsAre told name front.parts
   pub stands : (told : Files) → files ≡ Some told → IsFrontOf told name (header_view front.header)

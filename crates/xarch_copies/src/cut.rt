@@ -1,6 +1,6 @@
 #![tactic(auto, using(xarch_parts::specs::EndLaws::endings), unfolding(xarch_parts::specs::Ends::IsInside, xarch_parts::specs::Ends::IsDefined))]
 
-ghost use Rattle.std.specs.Prelude.{◌+◌, ◌-◌, ◌<◌, ◌≤◌, ◌^◌, ℕ, Some, IfSome, MatchResult, OnOk};
+ghost use Rattle.std.specs.Prelude.{◌≤◌, ℕ, Some, MatchResult, OnOk};
 ghost use Rattle.xa_outside.specs.Taken.{Taken};
 ghost use Rattle.record_cursor.specs.View.{header_view, IsHeader};
 ghost use Rattle.xarch_words.specs.Commands as command;
@@ -16,10 +16,9 @@ use crate::notes::append_notes;
 use archive_cut::CutFault;
 use noted_file::{full_files_are_read_note_by_note, full_files_have_parts};
 use record_cursor::{Cursor, Header};
-use record_format::versions_have_one_file;
+use record_format::{LONGEST, versions_have_one_file};
 use std::alloc::Global;
 use xa_outside::Folder;
-use xarch_meanings::limits;
 use xarch_parts::{Front, begin, check_free, commit, damaged, length_of, read_front};
 use xarch_words::{Fault, Quantity};
 
@@ -100,9 +99,6 @@ fn make_archive<F: Folder>(
     last: u32,
     folder: &mut F,
 ) -> Result<(), Fault>
-    requires header { IsHeader (header_view front.now.header) }
-    requires room { IfSome front.now.parts.notes
-        (λ n. front.now.parts.core + n < 2 ^ 64 - 16) }
     requires blank { IsBlank (F.draft folder.old) }
     requires from { 1 ≤ first }
     requires order { first ≤ last }
@@ -160,7 +156,7 @@ fn told_fault(alloc: Global, archive: &str, fault: CutFault) -> Fault
         CutFault::Damage => damaged(alloc, archive),
         CutFault::TooLong => Fault::Limit {
             quantity: Quantity::Archive,
-            number: limits::ARCHIVE,
+            number: LONGEST,
         },
         CutFault::Folder => Fault::FolderFault,
         CutFault::Memory => Fault::Memory,

@@ -1,6 +1,6 @@
 #![tactic(auto, using(xarch_parts::specs::EndLaws::endings), unfolding(xarch_parts::specs::Ends::IsInside, xarch_parts::specs::Ends::IsDefined))]
 
-ghost use Rattle.std.specs.Prelude.{◌≡◌, ◌+◌, ◌-◌, ◌<◌, ◌≤◌, ◌^◌, ℕ, Some, true, IfOk, IfSome, MatchResult, OnOk};
+ghost use Rattle.std.specs.Prelude.{◌≡◌, ℕ, Some, true, IfOk, MatchResult, OnOk};
 ghost use Rattle.std.specs.Str.{bytes_eq};
 ghost use Rattle.xa_outside.specs.Taken.{Taken};
 ghost use Rattle.key_spec.specs.Canonical.{canonical};
@@ -23,10 +23,10 @@ use archive_join::JoinFault;
 use key_spec::Spec;
 use noted_file::{full_files_are_read_note_by_note, full_files_have_parts};
 use record_cursor::{Cursor, Header};
-use record_format::versions_have_one_file;
+use record_format::{LONGEST, versions_have_one_file};
+use record_parts::MOST_VERSIONS;
 use std::alloc::{AllocError, Global};
 use xa_outside::Folder;
-use xarch_meanings::limits;
 use xarch_parts::{Front, begin, check_free, commit, damaged, length_of, read_front};
 use xarch_words::{Fault, Quantity};
 
@@ -126,10 +126,10 @@ fn check_joinable(
     if !are_same(alloc, &first.spec, &second.spec)? {
         return Err(spec_differs(alloc, one, two));
     }
-    if first.versions + second.versions > limits::VERSIONS {
+    if first.versions + second.versions > MOST_VERSIONS {
         return Err(Fault::Limit {
             quantity: Quantity::Versions,
-            number: u64::from(limits::VERSIONS),
+            number: u64::from(MOST_VERSIONS),
         });
     }
     Ok(())
@@ -169,14 +169,8 @@ fn make_archive<F: Folder>(
     both: &Both,
     folder: &mut F,
 ) -> Result<(), Fault>
-    requires first { IsHeader (header_view both.now.one.header) }
-    requires second { IsHeader (header_view both.now.two.header) }
     requires together { GoTogether (header_view both.now.one.header)
         (header_view both.now.two.header) }
-    requires room { IfSome both.now.one.parts.notes
-        (λ n. both.now.one.parts.core + n < 2 ^ 64 - 16) }
-    requires other_room { IfSome both.now.two.parts.notes
-        (λ n. both.now.two.parts.core + n < 2 ^ 64 - 16) }
     requires blank { IsBlank (F.draft folder.old) }
     ensures { Assembles F.files F.draft F.numbers F.faults one.now two.now new.now both.now
         folder.old folder.new (fault_of result) }
@@ -226,7 +220,7 @@ fn told_fault(alloc: Global, one: &str, two: &str, fault: JoinFault) -> Fault
         JoinFault::Damage { second: true } => damaged(alloc, two),
         JoinFault::TooLong => Fault::Limit {
             quantity: Quantity::Archive,
-            number: limits::ARCHIVE,
+            number: LONGEST,
         },
         JoinFault::Folder => Fault::FolderFault,
         JoinFault::Memory => Fault::Memory,

@@ -8,13 +8,13 @@ ghost use Rattle.version_notes.specs.Reader.{at_first};
 ghost use Rattle.xarch_words.specs.View.{fault_view};
 ghost use Rattle.xarch_parts.specs.Noted.{notes_bytes};
 ghost use Rattle.xarch_copies.specs.Cutting.{Unnoted};
-ghost use Rattle.xarch_copies.specs.Joining.{BothNotesEnd, Carries, Copies, FrontNotesEnd, front_reader};
+ghost use Rattle.xarch_copies.specs.Joining.{BothNotesEnd, Carries, CopiesAll, FrontNotesEnd, front_reader};
 ghost use Rattle.xarch_copies.specs.Making.{Fails};
 ghost use Rattle.xarch_copies.specs.Slicing.{Slices};
 
-use crate::slice::{push_notes, push_slice};
+use crate::slice::push_slice;
 use std::alloc::Global;
-use version_notes::{NoteReader, NoteWriter, Parts, writers_append_the_part};
+use version_notes::{NoteReader, NoteWriter, Parts, copy_notes, writers_append_the_part};
 use xa_outside::Folder;
 use xarch_parts::{Front, notes_fault};
 use xarch_words::Fault;
@@ -54,7 +54,7 @@ pub(crate) fn append_notes<F: Folder>(
 
 /// Appends the notes of the versions of two archives of these names, and what closes them.
 ///
-/// Each note is appended before the next is read, and no two are held.
+/// All notes of both are judged. Each is appended before the next is read, and no two are held.
 pub(crate) fn append_both<F: Folder>(
     alloc: Global,
     one: &str,
@@ -63,10 +63,6 @@ pub(crate) fn append_both<F: Folder>(
     second: &Front,
     folder: &mut F,
 ) -> Result<(), Fault>
-    requires room { IfSome first.now.parts.notes
-        (λ n. first.now.parts.core + n < 2 ^ 64 - 16) }
-    requires other_room { IfSome second.now.parts.notes
-        (λ n. second.now.parts.core + n < 2 ^ 64 - 16) }
     requires few { (header_view first.now.header).versions
         + (header_view second.now.header).versions ≤ most }
     ensures { MatchResult result
@@ -80,41 +76,35 @@ pub(crate) fn append_both<F: Folder>(
     // A law, for the proof of what is appended.
     writers_append_the_part();
     let mut writer = NoteWriter::start(false);
-    copy_notes(alloc, one, first, &mut writer, folder)?;
-    copy_notes(alloc, two, second, &mut writer, folder)?;
+    copy_front_notes(alloc, one, first, &mut writer, folder)?;
+    copy_front_notes(alloc, two, second, &mut writer, folder)?;
     match writer.finish(folder) {
         Ok(()) => Ok(()),
         Err(_) => Err(Fault::FolderFault),
     }
 }
 
-/// Gives a writer the notes of all versions of the archive of this name.
-fn copy_notes<F: Folder>(
+// Gives a writer the notes of all versions of the archive of this name. All are judged.
+fn copy_front_notes<F: Folder>(
     alloc: Global,
     archive: &str,
     front: &Front,
     writer: &mut NoteWriter,
     folder: &mut F,
 ) -> Result<(), Fault>
-    requires room { IfSome front.now.parts.notes
-        (λ n. front.now.parts.core + n < 2 ^ 64 - 16) }
     requires few { writer.old.pushed + (header_view front.now.header).versions ≤ most }
     ensures { MatchResult result
-        (λ _. Copies F.files F.draft F.numbers F.faults folder.old folder.new
+        (λ _. CopiesAll F.files F.draft F.numbers F.faults folder.old folder.new
         (front_reader archive.now front.now) writer.old writer.new)
         (λ f. Fails F.files F.draft F.numbers F.faults (notes_bytes front.now.parts.notes)
         (FrontNotesEnd (F.files folder.old) archive.now front.now)
         folder.old folder.new (fault_view f)) }
 {
-    let versions = front.header.versions;
-    match NoteReader::start(alloc, archive, &front.parts, versions) {
-        Ok(reader) => {
-            let mut reader = reader;
-            match push_notes(folder, &mut reader, writer, versions) {
-                Ok(()) => Ok(()),
-                Err(fault) => Err(notes_fault(alloc, archive, fault)),
-            }
-        }
+    match NoteReader::start(alloc, archive, &front.parts, front.header.versions) {
+        Ok(reader) => match copy_notes(folder, reader, writer) {
+            Ok(()) => Ok(()),
+            Err(fault) => Err(notes_fault(alloc, archive, fault)),
+        },
         Err(_) => Err(Fault::Memory),
     }
 }

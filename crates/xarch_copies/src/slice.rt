@@ -57,8 +57,8 @@ fn skip_notes<F: Folder>(
     Ok(())
 }
 
-/// Reads so many notes, and pushes each before it reads the next.
-pub(crate) fn push_notes<F: Folder>(
+// Reads so many notes, and pushes each before it reads the next.
+fn push_notes<F: Folder>(
     folder: &mut F,
     reader: &mut NoteReader,
     writer: &mut NoteWriter,

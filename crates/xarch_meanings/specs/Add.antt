@@ -5,14 +5,16 @@ use Rattle.key_spec.specs.Data.{PlainRule}
 use Rattle.keyed_tree.specs.Data.{PlainKeyed}
 use Rattle.noted_file.specs.Contents.{Contents, with_version}
 use Rattle.xarch_words.specs.Refusal.{document, versions, Refusal, limit}
+use Rattle.xarch_words.specs.declared.limits.TheConstants.{DOCUMENT}
 use Rattle.xarch_parts.specs.Archives.{GoesOn, Opens, Stores, short_note}
 use Rattle.xarch_parts.specs.Inputs.{length_in, read_in}
 use Rattle.xarch_parts.specs.Outcome.{Outcome, and_then}
 use Rattle.xarch_parts.specs.Readings.{document_of, keyed_of}
+use Rattle.record_parts.specs.declared.limits.TheConstants.{MOST_VERSIONS}
 
 -- an archive of n versions may have one more
 abbrev pub room_behind : ℕ → Result Unit Refusal
-room_behind n = if nat_lt n 999999 then Ok tt else Err (limit versions 999999)
+room_behind n = if nat_lt n MOST_VERSIONS then Ok tt else Err (limit versions MOST_VERSIONS)
 
 -- the keyed tree of the document that some bytes spell, where it satisfies the keys
 abbrev pub tree_of : List PlainRule → List ℕ → Result PlainKeyed Refusal
@@ -22,7 +24,7 @@ tree_of rules bytes = and_then (document_of bytes) (keyed_of rules)
 -- first, then its bytes, its keys, and the number of versions.
 abbrev pub added : Files → List ℕ → List PlainRule → ℕ → Result PlainKeyed Refusal
 added files doc rules n =
-    and_then (length_in files doc document 67108864) (λ _.
+    and_then (length_in files doc document DOCUMENT) (λ _.
     and_then (read_in files doc document_of) (λ t.
     and_then (keyed_of rules t) (λ k.
     and_then (room_behind n) (λ _.

@@ -14,6 +14,7 @@ use Rattle.xarch_gen.specs.Company.{company_rules}
 use Rattle.xarch_gen.specs.Sample.{sample_of}
 use Rattle.noted_file.specs.Contents.{unnoted}
 use Rattle.xarch_words.specs.Refusal.{demo, Refusal}
+use Rattle.xarch_words.specs.declared.limits.TheConstants.{DEMO}
 use Rattle.xarch_parts.specs.Archives.{GoesOn, TooLong, free_in}
 use Rattle.xarch_parts.specs.Inputs.{at_most}
 use Rattle.xarch_parts.specs.Outcome.{Outcome, and_then}
@@ -41,7 +42,7 @@ pub record IsSampleFile (seed count : ℕ) (bytes : List ℕ) (c : PlainCounts) 
 
 -- there are not too many documents, and the archive's name is free
 abbrev pub demo_input : Files → ℕ → List ℕ → Result Unit Refusal
-demo_input files count name = and_then (at_most demo 1000 count) (λ _. free_in files name)
+demo_input files count name = and_then (at_most demo DEMO count) (λ _. free_in files name)
 
 -- the bytes come under the name, and the counts are written
 abbrev pub told_and_stored : Files → List ℕ → List ℕ → PlainCounts → Outcome

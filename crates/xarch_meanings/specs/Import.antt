@@ -6,6 +6,7 @@ use Rattle.noted_file.specs.Contents.{Contents}
 use Rattle.noted_file.specs.Full.{FullAs}
 use Rattle.xarch_words.specs.Refusal as refusal
 use Rattle.xarch_words.specs.Refusal.{Refusal, bad_text}
+use Rattle.xarch_words.specs.declared.limits.TheConstants.{TEXT}
 use Rattle.xarch_parts.specs.Archives.{GoesOn, Stored, free_in}
 use Rattle.xarch_parts.specs.Inputs.{file_of, length_in}
 use Rattle.xarch_parts.specs.Outcome.{Outcome, and_then}
@@ -13,7 +14,7 @@ use Rattle.xarch_parts.specs.Outcome.{Outcome, and_then}
 -- the bytes of the text, which is there and not too long, where the new archive's name is free
 abbrev pub import_text : Files → List ℕ → List ℕ → Result (List ℕ) Refusal
 import_text files text new =
-    and_then (length_in files text refusal.text 67108864) (λ _.
+    and_then (length_in files text refusal.text TEXT) (λ _.
     and_then (free_in files new) (λ _.
     file_of files text))
 

@@ -4,6 +4,7 @@ use Rattle.xa_outside.specs.Folder.{Files}
 use Rattle.key_spec.specs.Data.{PlainRule}
 use Rattle.noted_file.specs.Contents.{unnoted}
 use Rattle.xarch_words.specs.Refusal.{specification, Refusal}
+use Rattle.xarch_words.specs.declared.limits.TheConstants.{SPECIFICATION}
 use Rattle.xarch_parts.specs.Archives.{free_in, GoesOn, Stores}
 use Rattle.xarch_parts.specs.Inputs.{length_in, read_in}
 use Rattle.xarch_parts.specs.Outcome.{Outcome, and_then}
@@ -11,7 +12,7 @@ use Rattle.xarch_parts.specs.Readings.{rules_of}
 
 -- the rules of the new archive: its name is free, and the specification is there, short enough and has a closed reading
 abbrev pub init_rules : Files → List ℕ → List ℕ → Result (List PlainRule) Refusal
-init_rules files archive spec = and_then (free_in files archive) (λ _. and_then (length_in files spec specification 1048576) (λ _. read_in files spec rules_of))
+init_rules files archive spec = and_then (free_in files archive) (λ _. and_then (length_in files spec specification SPECIFICATION) (λ _. read_in files spec rules_of))
 
 abbrev pub InitIs : Files → List ℕ → List ℕ → Result Outcome Refusal → Type 0
 InitIs files archive spec r = GoesOn (init_rules files archive spec) (λ rules. Stores files archive (unnoted rules [])) r

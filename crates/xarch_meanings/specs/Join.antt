@@ -8,6 +8,7 @@ use Rattle.noted_file.specs.Contents.{Contents, header_of}
 use Rattle.xarch_words.specs.Refusal.{Refusal, limit, spec_differs, versions}
 use Rattle.xarch_parts.specs.Archives.{GoesOn, Opens, Stores, free_in}
 use Rattle.xarch_parts.specs.Outcome.{Outcome, and_then}
+use Rattle.record_parts.specs.declared.limits.TheConstants.{MOST_VERSIONS}
 
 -- the archives of these names have these rules: their canonical texts are the same
 abbrev pub same_keys : List ℕ → List ℕ → List PlainRule → List PlainRule → Result Unit Refusal
@@ -15,7 +16,7 @@ same_keys one two rules others = if bytes_eq (canonical rules) (canonical others
 
 -- there is room for n versions and m behind them
 abbrev pub room_for : ℕ → ℕ → Result Unit Refusal
-room_for n m = if nat_le (n + m) 999999 then Ok tt else Err (limit versions 999999)
+room_for n m = if nat_le (n + m) MOST_VERSIONS then Ok tt else Err (limit versions MOST_VERSIONS)
 
 -- the archives have one specification, and there is room for the versions of both, by the rules and the number of versions of each
 abbrev pub are_joinable : List ℕ → List ℕ → List PlainRule × ℕ → List PlainRule × ℕ → Result Unit Refusal

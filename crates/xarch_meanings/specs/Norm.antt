@@ -4,6 +4,7 @@ use Rattle.xa_outside.specs.Folder.{Files}
 use Rattle.jsonml_tree.specs.Data.{PlainTree}
 use Rattle.key_spec.specs.Data.{PlainRule}
 use Rattle.xarch_words.specs.Refusal.{document, specification, Refusal}
+use Rattle.xarch_words.specs.declared.limits.TheConstants.{DOCUMENT, SPECIFICATION}
 use Rattle.xarch_parts.specs.Inputs.{file_of, length_in, read_in}
 use Rattle.keyed_print.specs.KeyedText.{keyed_text}
 use Rattle.xarch_parts.specs.Outcome.{Outcome, and_then}
@@ -13,8 +14,8 @@ use Rattle.xarch_parts.specs.Readings.{rules_of, document_of, keyed_of}
 -- document, and the keys.
 abbrev pub norm_of : Files → List ℕ → List ℕ → Result Outcome Refusal
 norm_of files spec doc =
-    and_then (length_in files spec specification 1048576) (λ _.
-    and_then (length_in files doc document 67108864) (λ _.
+    and_then (length_in files spec specification SPECIFICATION) (λ _.
+    and_then (length_in files doc document DOCUMENT) (λ _.
     and_then (read_in files spec rules_of) (λ rules.
     and_then (read_in files doc document_of) (λ t.
     and_then (keyed_of rules t) (λ k.
@@ -23,8 +24,8 @@ norm_of files spec doc =
 -- the specification that closes and the bytes of the document, or the first refusal before these are looked at
 abbrev pub norm_input : Files → List ℕ → List ℕ → Result (List PlainRule × List ℕ) Refusal
 norm_input files spec doc =
-    and_then (length_in files spec specification 1048576) (λ _.
-    and_then (length_in files doc document 67108864) (λ _.
+    and_then (length_in files spec specification SPECIFICATION) (λ _.
+    and_then (length_in files doc document DOCUMENT) (λ _.
     and_then (read_in files spec rules_of) (λ rules.
     and_then (file_of files doc) (λ bytes.
     Ok (rules, bytes)))))

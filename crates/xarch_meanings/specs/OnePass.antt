@@ -10,6 +10,7 @@ use Rattle.record_format.specs.Files.{header_bytes, largest}
 use Rattle.noted_file.specs.Contents.{Contents}
 use Rattle.xarch_words.specs.Commands.{PlainCommand, add, join}
 use Rattle.xarch_words.specs.Refusal.{document, Refusal}
+use Rattle.xarch_words.specs.declared.limits.TheConstants.{DOCUMENT}
 use Rattle.xarch_parts.specs.Archives.{ArchiveIs}
 use Rattle.xarch_parts.specs.Inputs.{length_in, size_in}
 
@@ -19,7 +20,7 @@ or_zero (Err e) = 0
 
 -- how many bytes are read of a document: none of one that is absent, or longer than a document may be
 abbrev pub document_size : Files → List ℕ → ℕ
-document_size files doc = or_zero (length_in files doc document 67108864)
+document_size files doc = or_zero (length_in files doc document DOCUMENT)
 
 -- how many bytes stand in front of the records of an archive
 abbrev pub front_size : List PlainRule → List PlainKeyed → ℕ

@@ -6,6 +6,7 @@ use Rattle.xa_outside.specs.Taken.{Taken}
 use Rattle.xarch_words.specs.Commands.{PlainCommand}
 use Rattle.xarch_words.specs.Refusal as refusal
 use Rattle.xarch_words.specs.Refusal.{PlainFault, folder_fault, refused}
+use Rattle.xarch_words.specs.declared.limits.TheConstants.{DEMO}
 use Rattle.xarch_parts.specs.Allowed.{MayEndLate}
 use Rattle.xarch_parts.specs.Ends.{IsCaused}
 use Rattle.xarch_parts.specs.Folders.{Keeps}
@@ -24,7 +25,7 @@ pub record Performs {S : Type 0} (files : S → Option Files) (draft : S → Opt
   pub caused : IsCaused (faults s) (faults t) before now ended
   -- where files are told, it ended as it may
   pub may : (told : Files) → files s ≡ Some told → MayEndLate (MayComeLate told (Some command)) (MayBe told command) ended (files t) old new
-  pub long_demo : IsLongDemo (Some command) → ended ≡ Some (refused (refusal.limit refusal.demo 1000))
+  pub long_demo : IsLongDemo (Some command) → ended ≡ Some (refused (refusal.limit refusal.demo DEMO))
   pub one_pass : GoesOnce (Some command) (files s) (numbers s) (numbers t) (ended ≡ Some folder_fault)
   pub little : ReadsLittle (Some command) (files s) (numbers s) (numbers t)
   pub gained : GainsBy (Some command) ended old new

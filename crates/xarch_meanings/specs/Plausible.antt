@@ -7,11 +7,13 @@ use Rattle.xa_outside.specs.Taken.{Taken, TakesNone, TakesPrefix}
 use Rattle.key_spec.specs.Data.{PlainRule}
 use Rattle.keyed_tree.specs.Data.{PlainLabel, PlainKeyed}
 use Rattle.record_format.specs.Fronts.{fixed}
+use Rattle.record_format.specs.declared.limits.TheConstants.{LONGEST}
 use Rattle.version_notes.specs.declared.parts.Parts.{Parts}
 use Rattle.noted_file.specs.Contents.{Contents}
 use Rattle.xarch_words.specs.Commands.{PlainCommand, norm, init, add, rekey, get, history, log, check, stats, versions, export, import, cut, join, table, tablekeys, batch, demo}
 use Rattle.xarch_words.specs.Lines.{fault_line, refusal_status}
 use Rattle.xarch_words.specs.Refusal.{archive, document, Refusal, usage, damaged, no_version, limit, refused}
+use Rattle.xarch_words.specs.declared.limits.TheConstants.{DOCUMENT}
 use Rattle.xarch_meanings.specs.Add.{AddsTo, room_behind, tree_of}
 use Rattle.xarch_meanings.specs.Check.{CheckIs}
 use Rattle.xarch_meanings.specs.Cut.{CutsFrom, are_versions}
@@ -48,7 +50,7 @@ text_behind files doc h =
 abbrev pub text_read : Files → List ℕ → List ℕ → Result ((List PlainRule × ℕ) × List ℕ) Refusal
 text_read files name doc =
     and_then (file_length files name) (λ _.
-    and_then (length_in files doc document 67108864) (λ _.
+    and_then (length_in files doc document DOCUMENT) (λ _.
     and_then (read_in files name (front_in name)) (text_behind files doc)))
 
 -- And in place of the bytes the keyed tree of the document, which is one and satisfies the keys.
@@ -140,7 +142,7 @@ pub record Written (files : Files) (r : Result Outcome Refusal) : Type 0 where
 
 -- The archive is damaged, or the new one would be too long, or some file comes under the new one's name.
 abbrev pub MayMake : Files → List ℕ → List ℕ → Result Outcome Refusal → Type 0
-MayMake files name new r = (r ≡ Err (damaged name)) ⊎ (r ≡ Err (limit archive 274877906944)) ⊎ Replaced files new r
+MayMake files name new r = (r ≡ Err (damaged name)) ⊎ (r ≡ Err (limit archive LONGEST)) ⊎ Replaced files new r
 
 -- One of the archives is damaged, or the new one would be too long, or some file comes under the new one's name.
 abbrev pub MayJoin : Files → List ℕ → List ℕ → List ℕ → Result Outcome Refusal → Type 0

@@ -8,6 +8,7 @@ use Rattle.xa_outside.specs.Taken.{Taken, Takes, TakesPrefix}
 use Rattle.xarch_words.specs.Commands.{PlainCommand, norm, init, add, rekey, get, history, log, check, stats, versions, export, import, cut, join, table, tablekeys, batch, demo}
 use Rattle.xarch_words.specs.Lines.{fault_status, fault_line}
 use Rattle.xarch_words.specs.Refusal.{PlainFault, damaged, refused, folder_fault, out_fault, in_fault, memory}
+use Rattle.xarch_words.specs.declared.limits.TheConstants.{DEMO, DOCUMENT, SPECIFICATION, TEXT}
 use Rattle.xarch_parts.specs.Outcome.{Step}
 use Rattle.xarch_parts.specs.Ends.{EndsGained, Gained, TellsOnly}
 use Rattle.xarch_parts.specs.Folders.{Counts, CountsInTurn}
@@ -73,10 +74,10 @@ made_name (demo seed count archive) = Some archive
 -- whole, each of them once, and 16 in which it is looked where the notes begin, for each archive; but `rekey` reads the header of the archive
 -- before its whole, and `log` may read a leaf when it has been searched for.
 abbrev pub most_pulled : PlainCommand → Option Files → ℕ
-most_pulled (norm spec doc) told = 68157440
-most_pulled (init archive spec) told = 1048576
-most_pulled (add archive doc note) told = size_in told archive + (16 + 67108864)
-most_pulled (rekey archive spec) told = size_in told archive + (16 + 1048576 + size_in told archive)
+most_pulled (norm spec doc) told = SPECIFICATION + DOCUMENT
+most_pulled (init archive spec) told = SPECIFICATION
+most_pulled (add archive doc note) told = size_in told archive + (16 + DOCUMENT)
+most_pulled (rekey archive spec) told = size_in told archive + (16 + SPECIFICATION + size_in told archive)
 most_pulled (get archive i) told = size_in told archive + 16
 most_pulled (history archive path) told = size_in told archive + 16
 most_pulled (log archive path) told = size_in told archive + (16 + size_in told archive)
@@ -84,10 +85,10 @@ most_pulled (check archive) told = size_in told archive + 16
 most_pulled (stats archive) told = size_in told archive + 16
 most_pulled (versions archive) told = size_in told archive + 16
 most_pulled (export archive) told = size_in told archive + 16
-most_pulled (import text new) told = 67108864
+most_pulled (import text new) told = TEXT
 most_pulled (cut archive new i j) told = size_in told archive + 16
 most_pulled (join one two new) told = size_in told one + (size_in told two + 32)
-most_pulled (table csv tag keys doc) told = 67108864
+most_pulled (table csv tag keys doc) told = DOCUMENT
 most_pulled (tablekeys tag keys spec) told = 0
 most_pulled batch told = 0
 most_pulled (demo seed count archive) told = 0
@@ -102,9 +103,22 @@ OnlyReads None = ⊤
 OnlyReads (Some batch) = ⊥
 OnlyReads (Some command) = IsNoName (made_name command)
 
+-- a command that prints nothing, or no command at all
+abbrev pub IsSilent : Option PlainCommand → Type 0
+IsSilent None = ⊤
+IsSilent (Some (init archive spec)) = ⊤
+IsSilent (Some (add archive doc note)) = ⊤
+IsSilent (Some (rekey archive spec)) = ⊤
+IsSilent (Some (import text new)) = ⊤
+IsSilent (Some (cut archive new i j)) = ⊤
+IsSilent (Some (join one two new)) = ⊤
+IsSilent (Some (table csv tag keys doc)) = ⊤
+IsSilent (Some (tablekeys tag keys spec)) = ⊤
+IsSilent other = ⊥
+
 -- a `demo` of too many documents
 abbrev pub IsLongDemo : Option PlainCommand → Type 0
-IsLongDemo (Some (demo seed count archive)) = 1000 < count
+IsLongDemo (Some (demo seed count archive)) = DEMO < count
 IsLongDemo _ = ⊥
 
 -- What is pulled and drafted, from files that are told or not: nothing for words that are no command. Of a batch nothing is

@@ -7,6 +7,7 @@ use Rattle.keyed_tree.specs.Data.{PlainKeyed}
 use Rattle.archive_rekey.specs.Rekeyed.{AreRekeyed, IsFirstBad}
 use Rattle.noted_file.specs.Contents.{Contents, with_keys}
 use Rattle.xarch_words.specs.Refusal.{specification, Refusal, key_fault_in}
+use Rattle.xarch_words.specs.declared.limits.TheConstants.{SPECIFICATION}
 use Rattle.xarch_parts.specs.Archives.{GoesOn, Opens, Stores}
 use Rattle.xarch_parts.specs.Inputs.{file_length, length_in, read_in}
 use Rattle.xarch_parts.specs.Outcome.{Outcome, and_then}
@@ -17,7 +18,7 @@ use Rattle.xarch_parts.specs.Readings.{front_in, rules_of}
 abbrev pub rekey_rules : Files → List ℕ → List ℕ → Result (List PlainRule) Refusal
 rekey_rules files archive spec =
     and_then (file_length files archive) (λ _.
-    and_then (length_in files spec specification 1048576) (λ _.
+    and_then (length_in files spec specification SPECIFICATION) (λ _.
     and_then (read_in files archive (front_in archive)) (λ _.
     read_in files spec rules_of)))
 

@@ -13,6 +13,7 @@ use Rattle.csv_tables.specs.Keys.{table_rules}
 use Rattle.csv_tables.specs.Records.{has_field, table_of}
 use Rattle.xarch_words.specs.Commands.{key_names}
 use Rattle.xarch_words.specs.Refusal.{document, specification, Refusal, bad_csv, limit}
+use Rattle.xarch_words.specs.declared.limits.TheConstants.{DOCUMENT, SPECIFICATION}
 use Rattle.xarch_parts.specs.Archives.{free_in}
 use Rattle.xarch_parts.specs.Inputs.{length_in, read_in}
 use Rattle.xarch_parts.specs.Outcome.{Outcome, and_then}
@@ -31,11 +32,11 @@ having keys t = if list_all (has_field t.heading) keys then Ok t else Err (bad_c
 
 -- the document of the table, whose text is not longer than that of a document may be
 abbrev pub short_document : List ℕ → PlainTable → Result PlainTree Refusal
-short_document tag t = if nat_le (length (document_text (table_tree t tag))) 67108864 then Ok (table_tree t tag) else Err (limit document 67108864)
+short_document tag t = if nat_le (length (document_text (table_tree t tag))) DOCUMENT then Ok (table_tree t tag) else Err (limit document DOCUMENT)
 
 -- the rules of such a document, whose text is not longer than that of a specification may be
 abbrev pub short_rules : List ℕ → List (List ℕ) → Result (List PlainRule) Refusal
-short_rules tag keys = if nat_le (length (canonical (table_rules tag keys))) 1048576 then Ok (table_rules tag keys) else Err (limit specification 1048576)
+short_rules tag keys = if nat_le (length (canonical (table_rules tag keys))) SPECIFICATION then Ok (table_rules tag keys) else Err (limit specification SPECIFICATION)
 
 -- The document of the table, which satisfies its keys. The refusals stand in the order in which they are tried.
 unfoldable pub document_for : List ℕ → List (List ℕ) → PlainTable → Result PlainTree Refusal
@@ -53,7 +54,7 @@ kept_as files name bytes = record { files = map.insert files name bytes; output 
 -- the table, or the first refusal before it is judged by its keys
 abbrev pub table_input : Files → List ℕ → List ℕ → Result PlainTable Refusal
 table_input files csv doc =
-    and_then (length_in files csv document 67108864) (λ _.
+    and_then (length_in files csv document DOCUMENT) (λ _.
     and_then (free_in files doc) (λ _.
     read_in files csv rows_of))
 

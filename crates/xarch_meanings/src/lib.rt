@@ -5,7 +5,6 @@
 
 mod counts;
 mod laws;
-pub mod limits;
 
 pub use counts::{write_count, write_counts};
 pub use laws::{

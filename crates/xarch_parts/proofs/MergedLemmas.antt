@@ -8,6 +8,7 @@ use Rattle.key_spec.specs.Data.{PlainRule}
 use Rattle.keyed_tree.specs.Data.{PlainKeyed}
 use Rattle.archive_tree.specs.Data.{PlainArchive}
 use Rattle.archive_tree.specs.Stands.{ArchiveOf}
+use Rattle.record_parts.specs.declared.limits.TheConstants.{MOST_VERSIONS}
 use Rattle.record_format.specs.Files.{FileOf}
 use Rattle.archive_file.specs.Faults.{IfTooLong}
 use Rattle.archive_file.specs.KeyedBy.{AreKeyedBy}
@@ -27,8 +28,8 @@ pub only_keyed : ((vs us : List PlainKeyed) (a : PlainArchive) → ArchiveOf vs 
 only_keyed one_list rules vs keyed a is us h = subst (AreKeyedBy rules) (one_list vs us a is h) keyed
 
 -- it counts as many as there are
-pub few_merged : {X : Type 0} (view : X → PlainKeyed) (xs : List X) (a : PlainArchive) → ArchiveOf (map view xs) a → length xs ≤ 999999 → a.n ≤ 999999
-few_merged view xs a is few = subst (λ n. n ≤ 999999) (sym (length-map xs view) ∙ is.count) few
+pub few_merged : {X : Type 0} (view : X → PlainKeyed) (xs : List X) (a : PlainArchive) → ArchiveOf (map view xs) a → length xs ≤ MOST_VERSIONS → a.n ≤ MOST_VERSIONS
+few_merged view xs a is few = subst (λ n. n ≤ MOST_VERSIONS) (sym (length-map xs view) ∙ is.count) few
 
 -- ---- the file of versions, from that of their archive
 

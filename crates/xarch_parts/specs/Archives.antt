@@ -5,8 +5,10 @@ use Rattle.xa_outside.specs.Folder.{Files}
 use Rattle.record_cursor.specs.View.{PlainHeader}
 use Rattle.record_format.specs.Files.{FileOf}
 use Rattle.record_format.specs.Fronts.{header_at}
+use Rattle.record_format.specs.declared.limits.TheConstants.{LONGEST}
 use Rattle.version_notes.specs.Parts.{parts_in}
 use Rattle.version_notes.specs.declared.parts.Parts.{Parts}
+use Rattle.version_notes.specs.declared.limits.TheConstants.{LONGEST_NOTE}
 use Rattle.noted_file.specs.Contents.{Contents}
 use Rattle.noted_file.specs.Full.{FullAs}
 use Rattle.xarch_words.specs.Refusal.{Refusal, no_file, exists, archive, note, limit, PlainFault, refused}
@@ -61,7 +63,7 @@ free_in files name = unless_there name (map.get files name)
 
 -- the note is not longer than a note may be
 abbrev pub short_note : List ℕ → Result Unit Refusal
-short_note text = if nat_le (length text) 1024 then Ok tt else Err (limit note 1024)
+short_note text = if nat_le (length text) LONGEST_NOTE then Ok tt else Err (limit note LONGEST_NOTE)
 
 -- A file that holds this comes under the name. It is a sound archive.
 pub record Stored (files : Files) (name : List ℕ) (c : Contents) (r : Result Outcome Refusal) : Type 0 where
@@ -72,7 +74,7 @@ pub record Stored (files : Files) (name : List ℕ) (c : Contents) (r : Result O
 -- no file can hold these versions
 pub record TooLong (c : Contents) (r : Result Outcome Refusal) : Type 0 where
   pub none : (bytes : List ℕ) → ¬ FileOf c.rules c.versions bytes
-  pub is : r ≡ Err (limit archive 274877906944)
+  pub is : r ≡ Err (limit archive LONGEST)
 
 -- the archive file that holds this comes under the name, where there is one
 abbrev pub Stores : Files → List ℕ → Contents → Result Outcome Refusal → Type 0

@@ -7,7 +7,9 @@ ghost use Rattle.key_spec.specs.View.{spec_view};
 ghost use Rattle.keyed_tree.specs.Data.{PlainKeyed};
 ghost use Rattle.archive_tree.specs.ArchiveView.{archive_view};
 ghost use Rattle.archive_tree.specs.Stands.{ArchiveOf};
+ghost use Rattle.record_parts.specs.declared.limits.TheConstants.{MOST_VERSIONS};
 ghost use Rattle.record_format.specs.Files.{FileOf};
+ghost use Rattle.record_format.specs.declared.limits.TheConstants.{LONGEST};
 ghost use Rattle.archive_file.specs.KeyedBy.{AreKeyedBy};
 ghost use Rattle.archive_file.specs.Sound.{SoundAs};
 ghost use Rattle.xarch_words.specs.Refusal as refusal;
@@ -17,11 +19,11 @@ ghost use Rattle.xarch_parts.specs.Archives.{IsDrafted, IsRefusal, NoRefusal, fr
 ghost use Rattle.xarch_parts.specs.Ends.{IsCaused, IsInside, Matches, TellsOnly, fault_of};
 ghost use Rattle.xarch_parts.specs.Folders.{Begins, ReadsOnly, WritesOnly};
 
-use crate::limits;
 use crate::names::exists;
 use archive_file::{EncodeFault, encode_file};
 use archive_tree::Archive;
 use key_spec::Spec;
+use record_format::LONGEST;
 use std::alloc::Global;
 use xa_outside::Folder;
 use xarch_words::{Fault, Quantity};
@@ -99,14 +101,14 @@ pub fn commit<F: Folder>(folder: &mut F, name: &str) -> Result<(), Fault>
 
 /// The bytes of the file of an archive, or that they are more than a file may have.
 pub fn file_from(alloc: Global, spec: &Spec, archive: &Archive) -> Result<Vec<u8>, Fault>
-    requires few { (archive_view archive.now).n ≤ 999999 }
+    requires few { (archive_view archive.now).n ≤ MOST_VERSIONS }
     requires keyed { (vs : List PlainKeyed) → ArchiveOf vs (archive_view archive.now)
         → AreKeyedBy (spec_view spec.now) vs }
     ensures cause { IsInside (fault_of result) }
     ensures sound { IfOk result (λ v. (vs : List PlainKeyed)
         → ArchiveOf vs (archive_view archive.now) → SoundAs (spec_view spec.now) vs v.items) }
     ensures limit { IfErr result
-        (λ f. IsRefusal (refusal.limit refusal.archive 274877906944) (fault_view f)) }
+        (λ f. IsRefusal (refusal.limit refusal.archive LONGEST) (fault_view f)) }
     ensures too_long { (vs : List PlainKeyed) (bytes : List ℕ)
         → ArchiveOf vs (archive_view archive.now) → FileOf (spec_view spec.now) vs bytes
         → IfErr result (λ f. NoRefusal (fault_view f)) }
@@ -117,7 +119,7 @@ pub fn file_from(alloc: Global, spec: &Spec, archive: &Archive) -> Result<Vec<u8
         Ok(bytes) => Ok(bytes),
         Err(EncodeFault::TooLong) => Err(Fault::Limit {
             quantity: Quantity::Archive,
-            number: limits::ARCHIVE,
+            number: LONGEST,
         }),
         Err(EncodeFault::Memory) => Err(Fault::Memory),
     }

@@ -1,6 +1,6 @@
 #![tactic(auto, using(crate::specs::EndLaws::endings), unfolding(crate::specs::Ends::IsInside, crate::specs::Ends::IsOfFolder, crate::specs::Ends::IsDefined))]
 
-ghost use Rattle.std.specs.Prelude.{◌≡◌, ◌+◌, ◌≤◌, ℕ, List, length, Some, Ok, IfOk};
+ghost use Rattle.std.specs.Prelude.{◌≡◌, ◌+◌, ℕ, List, length, Some, Ok, IfOk};
 ghost use Rattle.xa_outside.specs.Folder.{Files};
 ghost use Rattle.xa_outside.specs.Numbers.{PullsAtMost};
 ghost use Rattle.key_spec.specs.Data.{PlainRule};
@@ -17,6 +17,7 @@ ghost use Rattle.xarch_parts.specs.Noted.{AreWithin};
 ghost use Rattle.xarch_parts.specs.Readings;
 ghost use Rattle.xarch_parts.specs.Readings.{front_in, front_of_core};
 
+use crate::front::Front;
 use crate::names::damaged;
 use noted_file::full_files_have_parts;
 use record_cursor::{CursorFault, Header, files_give_their_items, read_header};
@@ -24,14 +25,6 @@ use std::alloc::Global;
 use version_notes::{Parts, PartsFault, parts_of};
 use xa_outside::Folder;
 use xarch_words::Fault;
-
-/// What stands in front of an archive: its header, and before that what its end tells, where its
-/// notes are.
-#[derive(Drop)]
-pub struct Front {
-    pub parts: Parts,
-    pub header: Header,
-}
 
 /// The parts of the archive of this name, whose file has this size. Sixteen bytes are read at most.
 pub fn read_parts<F: Folder>(
@@ -65,7 +58,6 @@ pub fn read_front<F: Folder>(
     name: &str,
     size: u64,
 ) -> Result<Front, Fault>
-    ensures header { IfOk result (λ f. IsHeader (header_view f.header)) }
     ensures within { IfOk result (λ f. AreWithin size f.parts) }
     ensures reads { ReadsOnly F.files F.draft F.numbers F.faults (16 + size)
         folder.old folder.new (fault_of result) }
@@ -78,8 +70,7 @@ pub fn read_front<F: Folder>(
         → IfOk result (λ f. PartsAre files name.now f.parts
         × IsFrontOf files name.now (header_view f.header)) }
 
-    ensures once { IfOk result (λ f. ((header_view f.header).length ≡ f.parts.core)
-        × PullsAtMost (16 + (header_view f.header).first)
+    ensures once { IfOk result (λ f. PullsAtMost (16 + (header_view f.header).first)
         (F.numbers folder.old) (F.numbers folder.new)) }
 
     // Over a sound archive no more is pulled than its header and these bytes, whatever is answered.

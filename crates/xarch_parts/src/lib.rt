@@ -3,9 +3,9 @@
 #![tactic(auto)]
 
 mod archives;
+mod front;
 mod fronts;
 mod inputs;
-mod limits;
 mod merged;
 mod names;
 mod notes;
@@ -13,7 +13,8 @@ mod put;
 mod readings;
 
 pub use archives::{begin, check_free, commit, draft, file_from, store};
-pub use fronts::{Front, read_front, read_parts};
+pub use front::Front;
+pub use fronts::{read_front, read_parts};
 pub use inputs::{at_most, length_of, limited_length, read_whole};
 pub use merged::file_of_versions;
 pub use names::{damaged, notes_fault};

@@ -10,6 +10,7 @@ ghost use Rattle.archive_file.specs.KeyedBy.{AreKeyedBy};
 ghost use Rattle.archive_file.specs.declared.fault.EncodeFault.TheVariants.{TooLong};
 ghost use Rattle.version_notes.specs.Notes.{notes_part};
 ghost use Rattle.xarch_parts.specs.Archives.{ArchiveIs};
+ghost use Rattle.record_parts.specs.declared.limits.TheConstants.{MOST_VERSIONS};
 
 use archive_file::{EncodeFault, encode_file, keyed_versions_can_be_merged};
 use archive_tree::archives_stand_for_one_list;
@@ -30,7 +31,7 @@ pub fn file_of_versions(
     spec: &Spec,
     versions: &[Keyed],
 ) -> Result<Vec<u8>, EncodeFault>
-    requires few { length versions.now ≤ 999999 }
+    requires few { length versions.now ≤ MOST_VERSIONS }
     requires keyed { AreKeyedBy (spec_view spec.now) (map keyed_view versions.now) }
     ensures file { IfOk result
         (λ v. FileOf (spec_view spec.now) (map keyed_view versions.now) v.items) }

@@ -11,15 +11,15 @@ ghost use Rattle.jsonml_tree.specs.declared.limits.TheConstants.{GREATEST_DEPTH}
 ghost use Rattle.key_annotate.specs.LentView.{lent_view};
 ghost use Rattle.key_annotate.specs.Stands.{Stands};
 ghost use Rattle.key_spec.specs.View.{spec_view};
+ghost use Rattle.xarch_words.specs.declared.limits.TheConstants.{DOCUMENT, SPECIFICATION};
 ghost use Rattle.xarch_parts.specs.Ends.{IsInside, Matches, fault_of};
 ghost use Rattle.xarch_parts.specs.Folders.{ReadsOnly};
 ghost use Rattle.xarch_parts.specs.Inputs.{file_length, read_in};
 ghost use Rattle.xarch_parts.specs.Readings.{document_of, keyed_of, rules_of};
 
 use crate::inputs::read_whole;
-use crate::limits;
 use jsonml_text::{DocFault, lend_document};
-use jsonml_tree::LentTree;
+use jsonml_tree::{GREATEST_DEPTH, LentTree};
 use key_annotate::{AnnotateFault, LentKeyed, lent_keyed};
 use key_spec::{Spec, SpecFault};
 use std::alloc::Global;
@@ -34,7 +34,7 @@ pub fn read_spec<F: Folder>(
     name: &str,
     length: u64,
 ) -> Result<Spec, Fault>
-    requires { length ≤ 1048576 }
+    requires { length ≤ SPECIFICATION }
     ensures reads { ReadsOnly F.files F.draft F.numbers F.faults length folder.old folder.new
         (fault_of result) }
     ensures told { (files : Files) → F.files folder.old ≡ Some files
@@ -46,7 +46,7 @@ pub fn read_spec<F: Folder>(
 }
 
 fn spec_from(alloc: Global, bytes: &[u8]) -> Result<Spec, Fault>
-    requires { length bytes.now ≤ 1048576 }
+    requires { length bytes.now ≤ SPECIFICATION }
     ensures cause { IsInside (fault_of result) }
     ensures told { Matches spec_view (rules_of bytes.now) result }
 {
@@ -59,7 +59,7 @@ fn spec_from(alloc: Global, bytes: &[u8]) -> Result<Spec, Fault>
 
 /// The document that some bytes spell. They lend its texts.
 pub fn doc_from<'a>(alloc: Global, bytes: &'a [u8]) -> Result<LentTree<'a>, Fault>
-    requires { length bytes.now ≤ 67108864 }
+    requires { length bytes.now ≤ DOCUMENT }
     ensures cause { IsInside (fault_of result) }
     ensures told { Matches lent_tree_view (document_of bytes.now) result }
     ensures element { IfOk result (λ t. IsElement (lent_tree_view t)) }
@@ -74,7 +74,7 @@ pub fn doc_from<'a>(alloc: Global, bytes: &'a [u8]) -> Result<LentTree<'a>, Faul
         Err(DocFault::BadShape { place, why }) => Err(Fault::BadShape { place, why }),
         Err(DocFault::TooDeep { .. }) => Err(Fault::Limit {
             quantity: Quantity::Depth,
-            number: limits::DEPTH,
+            number: u64::from(GREATEST_DEPTH),
         }),
         Err(DocFault::Memory) => Err(Fault::Memory),
     }

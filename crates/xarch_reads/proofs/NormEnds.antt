@@ -4,6 +4,7 @@ use Rattle.xa_outside.specs.Folder.{Files}
 use Rattle.jsonml_tree.specs.Data.{PlainTree}
 use Rattle.key_spec.specs.Data.{PlainRule}
 use Rattle.xarch_words.specs.Refusal.{document, specification, Refusal, PlainFault}
+use Rattle.xarch_words.specs.declared.limits.TheConstants.{DOCUMENT, SPECIFICATION}
 use Rattle.xarch_parts.specs.Ends.{IsDefined}
 use Rattle.xarch_parts.specs.Inputs.{file_of, length_in, read_in}
 use Rattle.xarch_meanings.specs.Norm.{norm_from, norm_input, norm_of, norm_of_tree}
@@ -23,7 +24,7 @@ behind (Ok n) (Ok m) (Ok r) (Ok b) D K = refl
 
 module _ (files : Files) (spec doc : List ℕ) where
   norm-is : norm_of files spec doc ≡ and_then (norm_input files spec doc) (λ p. norm_from files p.0 p.1)
-  norm-is = behind (length_in files spec specification 1048576) (length_in files doc document 67108864) (read_in files spec rules_of) (file_of files doc) document_of (norm_of_tree files)
+  norm-is = behind (length_in files spec specification SPECIFICATION) (length_in files doc document DOCUMENT) (read_in files spec rules_of) (file_of files doc) document_of (norm_of_tree files)
 
   pub norm-refused : (v : PlainFault) → IsDefined (norm_input files spec doc) v → IsDefined (norm_of files spec doc) v
   norm-refused v p = subst (λ x. IsDefined x v) (sym norm-is) (IsDefined-here (norm_input files spec doc) (λ p. norm_from files p.0 p.1) v p)

@@ -1,9 +1,9 @@
 #![tactic(auto, using(xarch_parts::specs::EndLaws::endings))]
 
-ghost use Rattle.std.specs.Prelude.{◌≡◌, ◌+◌, ◌≤◌, Some, IfOk};
+ghost use Rattle.std.specs.Prelude.{◌≡◌, ◌+◌, Some, IfOk};
 ghost use Rattle.xa_outside.specs.Folder.{Files};
 ghost use Rattle.xa_outside.specs.Numbers.{PullsAtMost};
-ghost use Rattle.record_cursor.specs.View.{header_view, IsHeader};
+ghost use Rattle.record_cursor.specs.View.{header_view};
 ghost use Rattle.noted_file.specs.Contents.{Contents};
 ghost use Rattle.xarch_parts.specs.Archives.{ArchiveIs, IsFrontOf, PartsAre};
 ghost use Rattle.xarch_parts.specs.Ends.{Matches, fault_of};
@@ -45,7 +45,6 @@ pub(crate) fn front_of<F: Folder>(
     archive: &str,
     folder: &mut F,
 ) -> Result<Front, Fault>
-    ensures header { IfOk result (λ f. IsHeader (header_view f.header)) }
     ensures within { IfOk result (λ f.
         AreWithin (size_in (F.files folder.old) archive.now) f.parts) }
     ensures reads { ReadsOnly F.files F.draft F.numbers F.faults
@@ -56,8 +55,7 @@ pub(crate) fn front_of<F: Folder>(
     ensures front { (files : Files) → F.files folder.old ≡ Some files
         → IfOk result (λ f. PartsAre files archive.now f.parts
         × IsFrontOf files archive.now (header_view f.header)) }
-    ensures once { IfOk result (λ f. ((header_view f.header).length ≡ f.parts.core)
-        × PullsAtMost (16 + (header_view f.header).first)
+    ensures once { IfOk result (λ f. PullsAtMost (16 + (header_view f.header).first)
         (F.numbers folder.old) (F.numbers folder.new)) }
     ensures few { (files : Files) (c : Contents)
         → F.files folder.old ≡ Some files → ArchiveIs files archive.now c

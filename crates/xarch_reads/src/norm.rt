@@ -1,12 +1,13 @@
 #![tactic(auto)]
 
-ghost use Rattle.std.specs.Prelude.{◌≡◌, ◌≤◌, ℕ, Some, IfOk, Result, length, vec_len};
+ghost use Rattle.std.specs.Prelude.{◌≡◌, ◌+◌, ◌≤◌, ℕ, Some, IfOk, Result, length, vec_len};
 ghost use Rattle.xa_outside.specs.Folder.{Files};
 ghost use Rattle.jsonml_tree.specs.Fits.{IsElement, ItemsFit};
 ghost use Rattle.jsonml_tree.specs.LentView.{lent_tree_view};
 ghost use Rattle.jsonml_tree.specs.WellFormed.{IsWellFormed};
 ghost use Rattle.key_spec.specs.View.{spec_view};
 ghost use Rattle.xarch_words.specs.Commands.{norm};
+ghost use Rattle.xarch_words.specs.declared.limits.TheConstants.{DOCUMENT, SPECIFICATION};
 ghost use Rattle.xarch_parts.specs.Ends.{IsCaused, Matches, fault_of};
 ghost use Rattle.xarch_parts.specs.Folders.{ReadsOnly};
 ghost use Rattle.xarch_meanings.specs.Norm.{norm_from, norm_input, norm_of_tree};
@@ -17,9 +18,8 @@ use jsonml_tree::LentTree;
 use key_spec::Spec;
 use std::alloc::Global;
 use xa_outside::{Folder, Sink};
-use xarch_meanings::limits;
 use xarch_parts::{doc_from, keyed_from, limited_length, read_spec, read_whole, write_keyed};
-use xarch_words::{Fault, Quantity};
+use xarch_words::{Fault, Quantity, limits};
 
 /// Writes a document in the order of its keys.
 pub fn run_norm<F: Folder, O: Sink>(
@@ -44,9 +44,9 @@ fn read_both<F: Folder>(
     doc: &str,
     folder: &mut F,
 ) -> Result<(Spec, Vec<u8>), Fault>
-    ensures reads { ReadsOnly F.files F.draft F.numbers F.faults 68157440 folder.old folder.new
-        (fault_of result) }
-    ensures short { IfOk result (λ r. vec_len r.1 ≤ 67108864) }
+    ensures reads { ReadsOnly F.files F.draft F.numbers F.faults (SPECIFICATION + DOCUMENT)
+        folder.old folder.new (fault_of result) }
+    ensures short { IfOk result (λ r. vec_len r.1 ≤ DOCUMENT) }
     ensures told { (files : Files) → F.files folder.old ≡ Some files
         → Matches (λ r. (spec_view r.0, r.1.items)) (norm_input files spec.now doc.now) result }
 {
@@ -70,7 +70,7 @@ fn write_ordered<O: Sink>(
     bytes: &[u8],
     out: &mut O,
 ) -> Result<(), Fault>
-    requires { length bytes.now ≤ 67108864 }
+    requires { length bytes.now ≤ DOCUMENT }
     ensures caused { (before now : ℕ) → before ≤ now
         → IsCaused before now (O.faults out.old) (O.faults out.new) (fault_of result) }
     ensures may { (files : Files) → MayEnd (λ r. r ≡ norm_from files (spec_view spec.now) bytes.now)

@@ -6,6 +6,7 @@ use Rattle.xa_outside.specs.Folder.{Files}
 use Rattle.xarch_words.specs.Commands.{batch, command_of}
 use Rattle.xarch_words.specs.Lines.{fault_status}
 use Rattle.xarch_words.specs.Refusal.{PlainFault}
+use Rattle.xarch_words.specs.declared.limits.TheConstants.{BATCH}
 use Rattle.xarch_parts.specs.Outcome.{Step}
 use Rattle.xarch_run.specs.Batch.{AreRead, BatchEnds, EndsTheBatch, RunsOver, Scene, Stops}
 use Rattle.xarch_run.specs.Calls.{Call, DidCommands}
@@ -40,11 +41,11 @@ ended-first front behind =
 -- ---- each end
 
 -- the lines of a front that is not too long
-ended-read : (bytes front behind : List ℕ) → bytes ≡ front ++ behind → length front ≤ 1073741824 → AreRead bytes (ended_lines_of front)
+ended-read : (bytes front behind : List ℕ) → bytes ≡ front ++ behind → length front ≤ BATCH → AreRead bytes (ended_lines_of front)
 ended-read bytes front behind is few = record { front = front; behind = behind; is = is; few = few; among = inl refl }
 
 -- and of all bytes
-whole-read : (bytes : List ℕ) → length bytes ≤ 1073741824 → AreRead bytes (lines_of bytes)
+whole-read : (bytes : List ℕ) → length bytes ≤ BATCH → AreRead bytes (lines_of bytes)
 whole-read bytes few = record { front = bytes; behind = []; is = sym (append-nil bytes); few = few; among = inr (refl, refl) }
 
 -- The first lines took these steps, and all of them where the answer is 0.
@@ -96,7 +97,7 @@ module _ (before between now : Files) (bytes : List ℕ) (answer : ℕ) (lines :
   }
   stops-first f g written spoken told after (inr (inr (inr k))) = before-it (no-output k.status) (same-told f g told after k.files_kept)
 
-read-first : (bytes : List ℕ) (rest : Option (List ℕ)) (front : List ℕ) → length front ≤ 1073741824 → Consumes (Some bytes) rest front → ComesFirst (ended_lines_of front) (lines_of bytes) × AreRead bytes (ended_lines_of front)
+read-first : (bytes : List ℕ) (rest : Option (List ℕ)) (front : List ℕ) → length front ≤ BATCH → Consumes (Some bytes) rest front → ComesFirst (ended_lines_of front) (lines_of bytes) × AreRead bytes (ended_lines_of front)
 read-first bytes None front few h = absurd h
 read-first bytes (Some left) front few h = (let f = ended-first front left in (record { behind = f.behind; is = ap lines_of h ∙ f.is }, ended-read bytes front left h few))
 

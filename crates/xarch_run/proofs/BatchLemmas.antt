@@ -7,6 +7,7 @@ use Rattle.xa_outside.specs.Folder.{Files}
 use Rattle.xa_outside.specs.Taken.{Taken}
 use Rattle.xarch_words.specs.Lines.{fault_line, fault_status}
 use Rattle.xarch_words.specs.Refusal.{memory}
+use Rattle.xarch_words.specs.declared.limits.TheConstants.{BATCH}
 use Rattle.xarch_meanings.specs.Ran.{Says}
 use Rattle.xarch_run.specs.Batch.{BatchEnds, IsAnswer, ReadsAsSaid, scene}
 use Rattle.xarch_run.specs.Faults.{stop_fault}
@@ -31,7 +32,7 @@ pub record SoFar (f g : Option Files) (o p e r : Taken) (x y : ℕ) (input : Opt
   pub gone : (bytes : List ℕ) → input ≡ Some bytes → Gone f g o p e r x y bytes ahead_now budget_now
   pub later : x ≤ y
 
-pub so-far-begun : (f : Option Files) (o e : Taken) (x : ℕ) (feed : Feed) (rest : Option (List ℕ)) → pending feed ≡ [] → budget feed ≡ 1073741824 → SoFar f f o o e e x x rest (ahead feed rest) (budget feed)
+pub so-far-begun : (f : Option Files) (o e : Taken) (x : ℕ) (feed : Feed) (rest : Option (List ℕ)) → pending feed ≡ [] → budget feed ≡ BATCH → SoFar f f o o e e x x rest (ahead feed rest) (budget feed)
 so-far-begun f o e x feed rest none full =
     let same : ahead feed rest ≡ rest = ap (λ l. prepend_known l rest) none ∙ prepend_known-nil rest in
     record { gone = λ bytes s. Gone-none f o e x bytes (ahead feed rest) (budget feed) (same ∙ s) full; later = omega arith }
@@ -55,7 +56,7 @@ pub ends-unread : (f : Option Files) (o e t : Taken) (x z : ℕ) (bytes : List �
     → rest ≡ Some bytes → answer ≡ 16 → Says e t x z (fault_line memory) → BatchEnds (scene f f o o e t x z) bytes rest answer
 ends-unread f o e t x z bytes rest answer second s is says =
     subst (BatchEnds (scene f f o o e t x z) bytes rest) (sym is)
-    (ends-memory f f o o e e t x x z bytes rest rest 1073741824 (omega arith) second (Gone-none f o e x bytes rest 1073741824 s refl) says)
+    (ends-memory f f o o e e t x x z bytes rest rest BATCH (omega arith) second (Gone-none f o e x bytes rest BATCH s refl) says)
 
 -- no further line came
 pub ends-next : (stop : Stop) (f g : Option Files) (o p e r t : Taken) (x y z : ℕ) (bytes : List ℕ) (input old new : Option (List ℕ)) (before now : Lines) (answer : ℕ)
@@ -126,7 +127,7 @@ reads-last bytes old new before now p k =
     let read = Consumes-trans (Some bytes) (ahead before.feed old) new p.front k.bytes p.consumed k.consumed in
     record {
       consumed = (p.front ++ k.bytes, read);
-      all = λ zero. let whole = consumed-all bytes (p.front ++ k.bytes) new read k.ends in (whole.1, subst (λ (l : List ℕ). length l ≤ 1073741824) (sym whole.0) (few_behind p.front k.bytes (budget before.feed) p.counted k.counted));
+      all = λ zero. let whole = consumed-all bytes (p.front ++ k.bytes) new read k.ends in (whole.1, subst (λ (l : List ℕ). length l ≤ BATCH) (sym whole.0) (few_behind p.front k.bytes (budget before.feed) p.counted k.counted));
       past = λ past. absurd (omega (arith, past));
     }
 

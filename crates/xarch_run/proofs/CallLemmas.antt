@@ -5,6 +5,7 @@ use Rattle.xa_outside.specs.Folder.{Files}
 use Rattle.xa_outside.specs.Taken.{Taken}
 use Rattle.xarch_words.specs.Commands.{PlainCommand, batch, command_of}
 use Rattle.xarch_words.specs.Refusal.{line, PlainFault, limit}
+use Rattle.xarch_words.specs.declared.limits.TheConstants.{LINE}
 use Rattle.xarch_parts.specs.Outcome.{Step, step_from}
 use Rattle.xarch_meanings.specs.Plausible.{MayStep, Plausible, Tried}
 use Rattle.xarch_meanings.specs.PlausibleLaws.{no-late, plain-step}
@@ -29,9 +30,9 @@ spelled-may files None s is = inl is
 spelled-may files (Some words) s p = words-may files words s p
 
 pub line-may : (files : Files) (l : List ℕ) (s : Step) → LineMay files l s → CommandMay files (line_command l) s
-line-may files l s h = by_length (nat_lt 1048576 (length l)) h
+line-may files l s h = by_length (nat_lt LINE (length l)) h
   where
-    by_length : (b : Bool) → MatchBool b (s ≡ step_from files (Err (limit line 1048576))) (WordsMay files (words_of l) s) → CommandMay files (if b then None else option_and_then single_of (words_of l)) s
+    by_length : (b : Bool) → MatchBool b (s ≡ step_from files (Err (limit line LINE))) (WordsMay files (words_of l) s) → CommandMay files (if b then None else option_and_then single_of (words_of l)) s
     by_length true is = inr is
     by_length false h = spelled-may files (words_of l) s h
 

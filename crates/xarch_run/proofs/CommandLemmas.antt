@@ -11,7 +11,7 @@ use Rattle.xarch_parts.specs.Outcome.{Step}
 use Rattle.xarch_meanings.specs.FillsUp.{FillsUp}
 use Rattle.xarch_meanings.specs.OnePass.{GoesOnce}
 use Rattle.xarch_meanings.specs.Plausible.{Tried}
-use Rattle.xarch_meanings.specs.Ran.{CountsAsSaid, MayHaveWritten, OnlyReads, Ran, outside_of}
+use Rattle.xarch_meanings.specs.Ran.{CountsAsSaid, IsSilent, MayHaveWritten, OnlyReads, Ran, outside_of}
 use Rattle.xarch_meanings.specs.ReadsBack.{ReadsLittle}
 use Rattle.xarch_meanings.specs.Step.{StepIs, alone}
 use Rattle.xarch_meanings.specs.Succeeds.{ShouldSucceed}
@@ -87,6 +87,9 @@ alone-late (Some (demo seed count archive)) answer late = absurd late
 pub alone-once : (c : Option PlainCommand) (told : Option Files) (before after : Numbers) (failed : Type 0) → GoesOnce (alone c) told before after failed → GoesOnce c told before after failed
 alone-once c told before after failed = alone-said (λ d. GoesOnce d told before after failed) tt c
 
+pub alone-silent : (c : Option PlainCommand) (r : ℕ) → (IsSilent (alone c) → r ≢ 14) → IsSilent c → r ≢ 14
+alone-silent c r = alone-said (λ d. IsSilent d → r ≢ 14) (λ s. absurd s) c
+
 pub alone-fills : (c : Option PlainCommand) (told : Option Files) (draft : Option (List ℕ)) (limited : Type 0) → FillsUp (alone c) told draft limited → FillsUp c told draft limited
 alone-fills c told draft limited = alone-said (λ d. FillsUp d told draft limited) tt c
 
@@ -134,6 +137,9 @@ fails P b e h p = let t : b ≡ true = h.1 p in cc
 
 pub batch-reads : (c : Option PlainCommand) → c ≡ Some batch → OnlyReads c → ⊥
 batch-reads c e h = subst OnlyReads e h
+
+pub batch-silent : (c : Option PlainCommand) → c ≡ Some batch → IsSilent c → ⊥
+batch-silent c e h = subst IsSilent e h
 
 pub batch-none : (c : Option PlainCommand) → c ≡ Some batch → c ≡ None → ⊥
 batch-none c e none = cc

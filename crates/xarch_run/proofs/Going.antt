@@ -6,6 +6,7 @@ use Rattle.xa_outside.specs.Folder.{Files}
 use Rattle.xa_outside.specs.Taken.{Taken}
 use Rattle.xarch_words.specs.Lines.{fault_line}
 use Rattle.xarch_words.specs.Refusal.{batch, limit, refused, in_fault, memory}
+use Rattle.xarch_words.specs.declared.limits.TheConstants.{BATCH}
 use Rattle.xarch_meanings.specs.Ran.{Says}
 use Rattle.xarch_run.specs.Batch.{AreRead, BatchEnds, RunsOver, scene}
 use Rattle.xarch_run.specs.Feed.{ahead, budget}
@@ -37,13 +38,13 @@ left_of bytes d (Some y) p = record { behind = y; told = refl; is = p }
 pub record Passed (bytes : List ℕ) (ahead_now : Option (List ℕ)) (budget_now : ℕ) : Type 0 where
   pub front : List ℕ
   pub consumed : Consumes (Some bytes) ahead_now front
-  pub counted : length front + budget_now ≡ 1073741824
+  pub counted : length front + budget_now ≡ BATCH
 
-counted_on : (d l : List ℕ) (a b : ℕ) → length d + a ≡ 1073741824 → length l + 1 + b ≡ a → length (d ++ (l ++ 10 ∷ [])) + b ≡ 1073741824
+counted_on : (d l : List ℕ) (a b : ℕ) → length d + a ≡ BATCH → length l + 1 + b ≡ a → length (d ++ (l ++ 10 ∷ [])) + b ≡ BATCH
 counted_on d l a b p q = omega (arith, length-append d (l ++ 10 ∷ []), length-append l (10 ∷ []))
 
 -- there is a byte more than there may be
-pub past-limit : (bytes : List ℕ) (before : Lines) (old new : Option (List ℕ)) → Passed bytes (ahead before.feed old) (budget before.feed) → EndsIn before old new → 1073741824 < length bytes
+pub past-limit : (bytes : List ℕ) (before : Lines) (old new : Option (List ℕ)) → Passed bytes (ahead before.feed old) (budget before.feed) → EndsIn before old new → BATCH < length bytes
 past-limit bytes before old new p k =
     let read = p.front ++ (k.bytes ++ k.byte ∷ []) in
     let left = left_of bytes read new (Consumes-trans (Some bytes) (ahead before.feed old) new p.front (k.bytes ++ k.byte ∷ []) p.consumed k.consumed) in
@@ -53,17 +54,17 @@ past-limit bytes before old new p k =
     omega (arith, size, total, same, length-append p.front (k.bytes ++ k.byte ∷ []), length-append k.bytes (k.byte ∷ []))
 
 -- what was read of a line behind them is no more than may come
-pub few_behind : (d l : List ℕ) (b : ℕ) → length d + b ≡ 1073741824 → length l ≤ b → length (d ++ l) ≤ 1073741824
+pub few_behind : (d l : List ℕ) (b : ℕ) → length d + b ≡ BATCH → length l ≤ b → length (d ++ l) ≤ BATCH
 few_behind d l b p q = omega (arith, length-append d l, p, q)
 
-few_before : (d : List ℕ) (b : ℕ) → length d + b ≡ 1073741824 → length d ≤ 1073741824
+few_before : (d : List ℕ) (b : ℕ) → length d + b ≡ BATCH → length d ≤ BATCH
 few_before d b p = omega (arith, p)
 
 -- the lines that an LF ends in what was passed
 ended_of : (d : List ℕ) (ls : List (List ℕ)) → Cuts d ls → ls ≡ ended_lines_of d
 ended_of d ls cuts = sym (append-nil ls) ∙ sym (cuts.ended []) ∙ ap ended_lines_of (append-nil d)
 
-pub read-ended : (bytes d : List ℕ) (ls : List (List ℕ)) (a : Option (List ℕ)) (b : ℕ) → Cuts d ls → Consumes (Some bytes) a d → length d + b ≡ 1073741824 → AreRead bytes ls
+pub read-ended : (bytes d : List ℕ) (ls : List (List ℕ)) (a : Option (List ℕ)) (b : ℕ) → Cuts d ls → Consumes (Some bytes) a d → length d + b ≡ BATCH → AreRead bytes ls
 read-ended bytes d ls a b cuts consumed counted =
     let left = left_of bytes d a consumed in
     record { front = d; behind = left.behind; is = left.is; few = few_before d b counted; among = inl (ended_of d ls cuts) }
@@ -76,14 +77,14 @@ pub record Gone (f g : Option Files) (o p e r : Taken) (x y : ℕ) (bytes : List
   pub lines : List (List ℕ)
   pub cuts : Cuts front lines
   pub consumed : Consumes (Some bytes) ahead_now front
-  pub counted : length front + budget_now ≡ 1073741824
+  pub counted : length front + budget_now ≡ BATCH
   pub over : RunsOver (scene f g o p e r x y) lines []
 
 -- the bytes that were passed
 pub Gone-passed : (f g : Option Files) (o p e r : Taken) (x y : ℕ) (bytes : List ℕ) (a : Option (List ℕ)) (b : ℕ) → Gone f g o p e r x y bytes a b → Passed bytes a b
 Gone-passed f g o p e r x y bytes a b gone = record { front = gone.front; consumed = gone.consumed; counted = gone.counted }
 
-pub Gone-none : (f : Option Files) (o e : Taken) (x : ℕ) (bytes : List ℕ) (a : Option (List ℕ)) (b : ℕ) → a ≡ Some bytes → b ≡ 1073741824 → Gone f f o o e e x x bytes a b
+pub Gone-none : (f : Option Files) (o e : Taken) (x : ℕ) (bytes : List ℕ) (a : Option (List ℕ)) (b : ℕ) → a ≡ Some bytes → b ≡ BATCH → Gone f f o o e e x x bytes a b
 Gone-none f o e x bytes a b is full =
     record {
       front = [];
@@ -123,7 +124,7 @@ ends-all f g h o p q e r t x y z bytes before now old new first second untold go
           subst (λ (l : List (List ℕ)). RunsOver (scene f h o q e t x z) l []) lines
           (RunsOver-trans f g h o p q e r t x y z gone.lines (without_blanks (k.bytes ∷ [])) [] first second untold gone.over run);
       all = whole.1;
-      few = subst (λ (l : List ℕ). length l ≤ 1073741824) (sym whole.0) (few_behind gone.front k.bytes (budget before.feed) gone.counted k.counted);
+      few = subst (λ (l : List ℕ). length l ≤ BATCH) (sym whole.0) (few_behind gone.front k.bytes (budget before.feed) gone.counted k.counted);
     })
 
 pub ends-failed : (f g : Option Files) (o p e r t : Taken) (x y z : ℕ) (bytes : List ℕ) (before : Lines) (old new : Option (List ℕ)) → x ≤ y → y ≤ z
@@ -142,7 +143,7 @@ ends-failed f g o p e r t x y z bytes before old new first second gone k says =
 
 pub ends-past : (f g : Option Files) (o p e r t : Taken) (x y z : ℕ) (bytes : List ℕ) (before : Lines) (old new : Option (List ℕ)) → x ≤ y → y ≤ z
     → Gone f g o p e r x y bytes (ahead before.feed old) (budget before.feed) → EndsIn before old new
-    → Says r t y z (fault_line (refused (limit batch 1073741824))) → BatchEnds (scene f g o p e t x z) bytes new 12
+    → Says r t y z (fault_line (refused (limit batch BATCH))) → BatchEnds (scene f g o p e t x z) bytes new 12
 ends-past f g o p e r t x y z bytes before old new first second gone k says =
     let d = gone.front in
     let l = k.bytes in
@@ -153,11 +154,11 @@ ends-past f g o p e r t x y z bytes before old new first second gone k says =
       front = d ++ l;
       behind = k.byte ∷ y;
       is = left.is ∙ append_assoc d (l ++ k.byte ∷ []) y ∙ ap (λ m. d ++ m) (append_assoc l (k.byte ∷ []) y) ∙ sym (append_assoc d l (k.byte ∷ y));
-      full = let total : length d + budget before.feed ≡ 1073741824 = gone.counted in let same : length l ≡ budget before.feed = k.counted in length-append d l ∙ ap (λ n. length d + n) same ∙ total;
+      full = let total : length d + budget before.feed ≡ BATCH = gone.counted in let same : length l ≡ budget before.feed = k.counted in length-append d l ∙ ap (λ n. length d + n) same ∙ total;
       more = omega arith;
       over =
-          subst (λ (m : List (List ℕ)). RunsOver (scene f g o p e t x z) m (fault_line (refused (limit batch 1073741824)))) (sym (Cuts-ended d l gone.lines k.one gone.cuts))
-          (RunsOver-said f g o p e r t x _ z gone.lines (fault_line (refused (limit batch 1073741824))) first second gone.over says);
+          subst (λ (m : List (List ℕ)). RunsOver (scene f g o p e t x z) m (fault_line (refused (limit batch BATCH)))) (sym (Cuts-ended d l gone.lines k.one gone.cuts))
+          (RunsOver-said f g o p e r t x _ z gone.lines (fault_line (refused (limit batch BATCH))) first second gone.over says);
     }))
 
 pub ends-memory : (f g : Option Files) (o p e r t : Taken) (x y z : ℕ) (bytes : List ℕ) (a new : Option (List ℕ)) (b : ℕ) → x ≤ y → y ≤ z
@@ -191,7 +192,7 @@ record Stands (bytes : List ℕ) (ls : List (List ℕ)) (l : List ℕ) : Type 0 
   read : AreRead bytes (ls ++ l ∷ [])
 
 stands : (b : Bool) (bytes d : List ℕ) (ls : List (List ℕ)) (before now : Lines) (old new : Option (List ℕ)) (k : TakesLine before now old new (Ok b))
-    → Cuts d ls → Consumes (Some bytes) (ahead before.feed old) d → length d + budget before.feed ≡ 1073741824 → is_blank (line_bytes b before now old new k) ≡ false → Stands bytes ls (line_bytes b before now old new k)
+    → Cuts d ls → Consumes (Some bytes) (ahead before.feed old) d → length d + budget before.feed ≡ BATCH → is_blank (line_bytes b before now old new k) ≡ false → Stands bytes ls (line_bytes b before now old new k)
 stands true bytes d ls before now old new k cuts consumed counted other =
     let read = Consumes-trans (Some bytes) (ahead before.feed old) (ahead now.feed new) d (k.bytes ++ 10 ∷ []) consumed k.consumed in
     let left = left_of bytes (d ++ (k.bytes ++ 10 ∷ [])) (ahead now.feed new) read in

@@ -17,6 +17,7 @@ use Rattle.xarch_gen.specs.Company.{company_rules}
 use Rattle.xarch_words.specs.Commands.{PlainCommand, norm, init, add, rekey, get, history, log, check, stats, versions, export, import, cut, join, table, tablekeys, batch, demo, key_names}
 use Rattle.xarch_words.specs.Refusal.{specification, Refusal, bad_text, exists, no_file}
 use Rattle.xarch_words.specs.Refusal as refusal
+use Rattle.xarch_words.specs.declared.limits.TheConstants.{DEMO, SPECIFICATION, TEXT}
 use Rattle.xarch_meanings.specs.Add.{AddsTo, added}
 use Rattle.noted_file.specs.Contents.{Contents, header_of, unnoted, with_keys, with_version}
 use Rattle.noted_file.specs.Full.{FullAs, FullOf}
@@ -152,7 +153,7 @@ module _ (files : Files) (name : List ℕ) (h : Held) (a : Holds files name h) w
   unfolding MayBe
   demo-here o seed count other e m =
       let taken-here = subst (λ n. finite.get files n ≡ Some a.bytes) (same-name name other e) a.there in
-      goes o (demo_input files count other) (λ _. MakesOrNone files other seed count) (Ok o) refl m (λ u is _. ends-refused (at_most refusal.demo 1000 count) (free_in files other) (exists other) u is (taken files other a.bytes taken-here))
+      goes o (demo_input files count other) (λ _. MakesOrNone files other seed count) (Ok o) refl m (λ u is _. ends-refused (at_most refusal.demo DEMO count) (free_in files other) (exists other) u is (taken files other a.bytes taken-here))
 
   cut-here : (o : Outcome) (other new : List ℕ) (i j : ℕ) → bytes_eq name new ≡ true → MayBe files (cut other new i j) (Ok o) → Holds o.files name h
   unfolding MayBe
@@ -367,7 +368,7 @@ init-begins : (files : Files) (name other spec : List ℕ) (o : Outcome) → nam
 unfolding MayBe
 init-begins files name other spec o same m = goes o (init_rules files other spec) (λ rules. Stores files other (unnoted rules [])) (Ok o) refl m (λ rules is s. record {
   held = unnoted rules [];
-  begins = (same, (init-spelled (free_in files other) (length_in files spec refusal.specification 1048576) (read_in files spec rules_of) rules is, refl, refl));
+  begins = (same, (init-spelled (free_in files other) (length_in files spec refusal.specification SPECIFICATION) (read_in files spec rules_of) rules is, refl, refl));
   archive = subst (λ n. ArchiveIs o.files n (unnoted rules [])) (sym same) (stored-is files o other (unnoted rules []) s);
 })
 
@@ -413,7 +414,7 @@ text-there None q bytes e = absurd cc
 
 import-there : (files : Files) (text new bytes : List ℕ) → import_text files text new ≡ Ok bytes → finite.get files text ≡ Some bytes
 import-there files text new bytes e =
-    chained (length_in files text refusal.text 67108864) _ bytes e (λ _ _ rest. chained (free_in files new) _ bytes rest (λ _ _ read. text-there (finite.get files text) (no_file text) bytes read))
+    chained (length_in files text refusal.text TEXT) _ bytes e (λ _ _ rest. chained (free_in files new) _ bytes rest (λ _ _ read. text-there (finite.get files text) (no_file text) bytes read))
 
 -- what its text is that of
 import-begins : (files : Files) (name text new : List ℕ) (o : Outcome) → name ≡ new → MayBe files (import text new) (Ok o) → Begun files name (Some (import text new)) o.files

@@ -8,6 +8,7 @@ use Rattle.noted_file.specs.Full.{FullAs, FullOf}
 use Rattle.archive_text.specs.Export.{ExportOf}
 use Rattle.xarch_words.specs.Commands.{PlainCommand, export, import}
 use Rattle.xarch_words.specs.Refusal.{Refusal}
+use Rattle.xarch_words.specs.declared.limits.TheConstants.{TEXT}
 use Rattle.xarch_meanings.specs.Import.{import_text}
 use Rattle.xarch_meanings.specs.Plausible.{MayBe}
 use Rattle.xarch_meanings.specs.PlausibleLaws.{no-late, plain-step}
@@ -36,14 +37,14 @@ module _ (reading : OneReading) (texts : OneText) (noted : AreNoted) where
   imported files text new h s of m success = step-archive reading texts noted files new (Some (import text new)) s h m success (refl, of)
 
   -- a short text that is there under a free name
-  text-read : (files : Files) (text new bytes : List ℕ) → finite.get files text ≡ Some bytes → length bytes ≤ 67108864 → finite.get files new ≡ None → import_text files text new ≡ Ok bytes
-  text-read files text new bytes there short none = rw there (rw none (rw (le-leb (length bytes) 67108864 short) refl))
+  text-read : (files : Files) (text new bytes : List ℕ) → finite.get files text ≡ Some bytes → length bytes ≤ TEXT → finite.get files new ≡ None → import_text files text new ≡ Ok bytes
+  text-read files text new bytes there short none = rw there (rw none (rw (le-leb (length bytes) TEXT short) refl))
 
   -- what an export wrote gives the file again
   pub restoring : ((c : Contents) (a b : List ℕ) → FullOf c a → FullOf c b → a ≡ b)
       → ((c : Contents) (bytes : List ℕ) → FullAs c bytes → FullOf c bytes)
       → ((files : Files) (command : PlainCommand) (q : Refusal) → ShouldSucceed files command → MayBe files command (Err q) → ⊥)
-      → (files later : Files) (name text new : List ℕ) (h : Held) (s t : Step) → Holds files name h → CommandMay files (Some (export name)) s → finite.get later text ≡ Some s.output → length s.output ≤ 67108864 → finite.get later new ≡ None
+      → (files later : Files) (name text new : List ℕ) (h : Held) (s t : Step) → Holds files name h → CommandMay files (Some (export name)) s → finite.get later text ≡ Some s.output → length s.output ≤ TEXT → finite.get later new ≡ None
       → CommandMay later (Some (import text new)) t → (t.status ≡ 0) × (finite.get t.files new ≡ finite.get files name)
   unfolding ShouldSucceed
   restoring one defined never files later name text new h s t a e there short free m =

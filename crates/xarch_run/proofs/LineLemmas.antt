@@ -4,6 +4,7 @@ use Rattle.std.proofs.lemmas.List.Folds.{list_all-append, list_any-append}
 use Rattle.std.proofs.lemmas.List.Sums.{prefix_len_stops}
 use Rattle.std.proofs.lemmas.Bool.{eqb-true, lt-ltb, ltb-true, ltb-false, not-false}
 use Rattle.std.specs.List.{position, position_or_len}
+use Rattle.xarch_words.specs.declared.limits.TheConstants.{LINE}
 use Rattle.xarch_run.specs.Shown.{Shows}
 use Rattle.xarch_run.specs.declared.line.Line.{Line}
 use Rattle.xarch_run.specs.Lines.{is_blank_byte, is_blank, is_line_feed, has_line_feed}
@@ -19,18 +20,18 @@ grown front (b ∷ bs) piece k none =
     let zero : k ≡ 0 = none (omega arith) in
     append_assoc front (b ∷ bs) piece ∙ ap (λ l. l ++ ((b ∷ bs) ++ piece)) (sym (append-nil front)) ∙ ap (λ n. (front ++ take n piece) ++ ((b ∷ bs) ++ drop n piece)) (sym zero)
 
-grow_full : (more piece k old new : ℕ) → old ≤ 1048577 → (0 < more → old ≡ 1048577) → k ≡ min piece (1048577 - old) → new ≡ old + k → 0 < more + (piece - k) → new ≡ 1048577
+grow_full : (more piece k old new : ℕ) → old ≤ LINE + 1 → (0 < more → old ≡ LINE + 1) → k ≡ min piece (LINE + 1 - old) → new ≡ old + k → 0 < more + (piece - k) → new ≡ LINE + 1
 grow_full zero piece k old new short full room sum some = omega arith
-grow_full (suc n) piece k old new short full room sum some = let whole : old ≡ 1048577 = full (omega arith) in omega arith
+grow_full (suc n) piece k old new short full room sum some = let whole : old ≡ LINE + 1 = full (omega arith) in omega arith
 
-long_by : (more kept whole : ℕ) → (0 < more → kept ≡ 1048577) → whole ≡ kept + more → nat_lt 1048576 kept ≡ nat_lt 1048576 whole
-long_by zero kept whole full sum = ap (nat_lt 1048576) (omega (arith, sum))
+long_by : (more kept whole : ℕ) → (0 < more → kept ≡ LINE + 1) → whole ≡ kept + more → nat_lt LINE kept ≡ nat_lt LINE whole
+long_by zero kept whole full sum = ap (nat_lt LINE) (omega (arith, sum))
 long_by (suc n) kept whole full sum =
-    let most : kept ≡ 1048577 = full (omega arith) in
-    lt-ltb 1048576 kept (omega arith) ∙ sym (lt-ltb 1048576 whole (omega arith))
+    let most : kept ≡ LINE + 1 = full (omega arith) in
+    lt-ltb LINE kept (omega arith) ∙ sym (lt-ltb LINE whole (omega arith))
 
 -- a piece came behind what a line shows
-pub shows-more : (before now : Line) (bytes piece : List ℕ) (k : ℕ) → Shows before bytes → before.bytes.len ≤ 1048577 → k ≡ min (length piece) (1048577 - before.bytes.len)
+pub shows-more : (before now : Line) (bytes piece : List ℕ) (k : ℕ) → Shows before bytes → before.bytes.len ≤ LINE + 1 → k ≡ min (length piece) (LINE + 1 - before.bytes.len)
     → now.bytes.items ≡ before.bytes.items ++ take k piece → now.blank ≡ (before.blank && is_blank piece) → Shows now (bytes ++ piece)
 shows-more before now bytes piece k s short room grows blank =
     let full = s.full in
@@ -48,7 +49,7 @@ shows-more before now bytes piece k s short room grows blank =
     }
 
 -- whether a line is longer than it may be shows in what is kept
-pub shows-long : (l : Line) (bytes : List ℕ) → Shows l bytes → nat_lt 1048576 l.bytes.len ≡ nat_lt 1048576 (length bytes)
+pub shows-long : (l : Line) (bytes : List ℕ) → Shows l bytes → nat_lt LINE l.bytes.len ≡ nat_lt LINE (length bytes)
 shows-long l bytes s =
     let full = s.full in
     let len : l.bytes.len ≡ length l.bytes.items = l.bytes.ok.0 in
@@ -59,15 +60,15 @@ nothing : (more : List ℕ) → length more ≡ 0 → more ≡ []
 nothing [] h = refl
 nothing (b ∷ bs) h = absurd (omega (arith, h))
 
-none_left : (more kept whole : ℕ) → (0 < more → kept ≡ 1048577) → whole ≡ kept + more → whole ≤ 1048576 → more ≡ 0
+none_left : (more kept whole : ℕ) → (0 < more → kept ≡ LINE + 1) → whole ≡ kept + more → whole ≤ LINE → more ≡ 0
 none_left zero kept whole full sum few = refl
-none_left (suc n) kept whole full sum few = let most : kept ≡ 1048577 = full (omega arith) in absurd (omega arith)
+none_left (suc n) kept whole full sum few = let most : kept ≡ LINE + 1 = full (omega arith) in absurd (omega arith)
 
 -- what is not too long is kept whole
-pub shows-whole : (l : Line) (bytes : List ℕ) → Shows l bytes → nat_lt 1048576 (length bytes) ≡ false → l.bytes.items ≡ bytes
+pub shows-whole : (l : Line) (bytes : List ℕ) → Shows l bytes → nat_lt LINE (length bytes) ≡ false → l.bytes.items ≡ bytes
 shows-whole l bytes s short =
     let full = s.full in
-    let few : length bytes ≤ 1048576 = ltb-false 1048576 (length bytes) short in
+    let few : length bytes ≤ LINE = ltb-false LINE (length bytes) short in
     let len : l.bytes.len ≡ length l.bytes.items = l.bytes.ok.0 in
     let whole : length bytes ≡ length l.bytes.items + length s.more = ap length s.is ∙ length-append l.bytes.items s.more in
     let none : length s.more ≡ 0 = none_left (length s.more) l.bytes.len (length bytes) full (omega arith) few in

@@ -12,10 +12,12 @@ use Rattle.jsonml_print.specs.Printed.{document_text}
 use Rattle.key_spec.specs.Canonical.{canonical}
 use Rattle.csv_tables.specs.Data.{PlainTable}
 use Rattle.keyed_tree.specs.Data.{PlainKeyed}
+use Rattle.record_format.specs.declared.limits.TheConstants.{LONGEST}
 use Rattle.xarch_gen.specs.Company.{company_rules}
 use Rattle.xarch_words.specs.Commands.{PlainCommand, norm, init, add, rekey, get, history, log, check, stats, versions, export, import, cut, join, table, tablekeys, batch, demo, key_names}
 use Rattle.xarch_words.specs.Refusal.{document, specification, Refusal, usage, no_file, exists, bad_text, key_fault_in, damaged, limit}
 use Rattle.xarch_words.specs.Refusal as refusal
+use Rattle.xarch_words.specs.declared.limits.TheConstants.{DOCUMENT, SPECIFICATION, TEXT}
 use Rattle.archive_file.specs.Sound.{SoundAs}
 use Rattle.noted_file.specs.Contents.{Contents, unnoted, with_keys}
 use Rattle.noted_file.specs.Full.{FullAs}
@@ -82,8 +84,8 @@ chain-keeps files o (Err q) f e h = absurd cc
 
 norm-keeps : (files : Files) (spec doc : List ℕ) (o : Outcome) → norm_of files spec doc ≡ Ok o → o.files ≡ files
 norm-keeps files spec doc o e =
-    chain-keeps files o (length_in files spec specification 1048576) _ e (λ _ e1.
-    chain-keeps files o (length_in files doc document 67108864) _ e1 (λ _ e2.
+    chain-keeps files o (length_in files spec specification SPECIFICATION) _ e (λ _ e1.
+    chain-keeps files o (length_in files doc document DOCUMENT) _ e1 (λ _ e2.
     chain-keeps files o (read_in files spec rules_of) _ e2 (λ rules e3.
     chain-keeps files o (read_in files doc document_of) _ e3 (λ t e4.
     chain-keeps files o (keyed_of rules t) _ e4 (λ k e5. kept-by files o (Ok o) _ refl (sym e5))))))
@@ -114,7 +116,7 @@ module _ (files : Files) (name : List ℕ) (o : Outcome) where
 
     make-elsewhere : (other new : List ℕ) → bytes_eq name new ≡ false → MayMake files other new r → Keeps
     make-elsewhere other new e (inl q) = never o (damaged other) r is q
-    make-elsewhere other new e (inr (inl q)) = never o (limit refusal.archive 274877906944) r is q
+    make-elsewhere other new e (inr (inl q)) = never o (limit refusal.archive LONGEST) r is q
     make-elsewhere other new e (inr (inr w)) = stored-elsewhere new w.bytes [] e w.is
 
     join-elsewhere : (one two new : List ℕ) → bytes_eq name new ≡ false → MayJoin files one two new r → Keeps
@@ -142,7 +144,7 @@ module _ (files : Files) (name : List ℕ) (o : Outcome) where
 
     stores-elsewhere : (other : List ℕ) (c : Contents) → bytes_eq name other ≡ false → Stores files other c r → Keeps
     stores-elsewhere other c e (inl s) = stored-elsewhere other s.bytes [] e s.is
-    stores-elsewhere other c e (inr t) = never o (limit refusal.archive 274877906944) r is t.is
+    stores-elsewhere other c e (inr t) = never o (limit refusal.archive LONGEST) r is t.is
 
     -- over a sound archive its versions under other keys are stored
     rekeys-elsewhere : (other : List ℕ) (c : Contents) (rules : List PlainRule) → bytes_eq name other ≡ false → RekeysTo files other c rules r → Keeps
@@ -156,7 +158,7 @@ module _ (files : Files) (name : List ℕ) (o : Outcome) where
 
     makes-elsewhere : (other : List ℕ) (seed count : ℕ) → bytes_eq name other ≡ false → MakesOrNone files other seed count r → Keeps
     makes-elsewhere other seed count e (inl s) = stored-elsewhere other s.bytes _ e s.is
-    makes-elsewhere other seed count e (inr t) = never o (limit refusal.archive 274877906944) r is t.is
+    makes-elsewhere other seed count e (inr t) = never o (limit refusal.archive LONGEST) r is t.is
 
     imports-elsewhere : (new bytes : List ℕ) → bytes_eq name new ≡ false → ImportsFrom files new bytes r → Keeps
     imports-elsewhere new bytes e (inl p) = stored-elsewhere new p.stored.bytes [] e p.stored.is
@@ -197,7 +199,7 @@ taken files name bytes e = rw e refl
 -- where the name is taken, neither goes on
 pub init-taken : {X : Type 0} (files : Files) (name spec bytes : List ℕ) (rules : List PlainRule) → finite.get files name ≡ Some bytes → init_rules files name spec ≡ Ok rules → X
 init-taken files name spec bytes rules e f =
-    let refused : init_rules files name spec ≡ Err (exists name) = ap (λ x. and_then x (λ _. and_then (length_in files spec specification 1048576) (λ _. read_in files spec rules_of))) (taken files name bytes e) in
+    let refused : init_rules files name spec ≡ Err (exists name) = ap (λ x. and_then x (λ _. and_then (length_in files spec specification SPECIFICATION) (λ _. read_in files spec rules_of))) (taken files name bytes e) in
     absurd cc
 
 pub ends-refused : {X A B : Type 0} (x : Result A Refusal) (y : Result B Refusal) (q : Refusal) (b : B) → and_then x (λ _. y) ≡ Ok b → y ≡ Err q → X
@@ -211,11 +213,11 @@ cut-taken files other new bytes i j h e f =
 
 pub import-taken : {X : Type 0} (files : Files) (text new bytes read : List ℕ) → finite.get files new ≡ Some bytes → import_text files text new ≡ Ok read → X
 import-taken files text new bytes read e f =
-    ends-refused (length_in files text refusal.text 67108864) (and_then (free_in files new) (λ _. file_of files text)) (exists new) read f (ap (λ x. and_then x (λ _. file_of files text)) (taken files new bytes e))
+    ends-refused (length_in files text refusal.text TEXT) (and_then (free_in files new) (λ _. file_of files text)) (exists new) read f (ap (λ x. and_then x (λ _. file_of files text)) (taken files new bytes e))
 
 pub table-taken : {X : Type 0} (files : Files) (csv doc bytes : List ℕ) (t : PlainTable) → finite.get files doc ≡ Some bytes → table_input files csv doc ≡ Ok t → X
 table-taken files csv doc bytes t e f =
-    ends-refused (length_in files csv document 67108864) (and_then (free_in files doc) (λ _. read_in files csv rows_of)) (exists doc) t f (ap (λ x. and_then x (λ _. read_in files csv rows_of)) (taken files doc bytes e))
+    ends-refused (length_in files csv document DOCUMENT) (and_then (free_in files doc) (λ _. read_in files csv rows_of)) (exists doc) t f (ap (λ x. and_then x (λ _. read_in files csv rows_of)) (taken files doc bytes e))
 
 -- a chain that has a value goes on from one
 pub chained : {X A B : Type 0} (x : Result A Refusal) (f : A → Result B Refusal) (b : B) → and_then x f ≡ Ok b → ((a : A) → x ≡ Ok a → f a ≡ Ok b → X) → X
@@ -241,10 +243,10 @@ archive-moves files now name c a e = record { bytes = a.bytes; there = e ∙ a.t
 pub stored-is : (files : Files) (o : Outcome) (name : List ℕ) (c : Contents) → Stores files name c (Ok o) → ArchiveIs o.files name c
 stored-is files o name c (inl s) =
     record { bytes = s.bytes; there = ap (λ (x : Files). finite.get x name) (kept-by (finite.insert files name s.bytes) o (Ok o) [] refl s.is) ∙ new-there files name s.bytes; full = s.full }
-stored-is files o name c (inr t) = absurd (never o (limit refusal.archive 274877906944) (Ok o) refl t.is)
+stored-is files o name c (inr t) = absurd (never o (limit refusal.archive LONGEST) (Ok o) refl t.is)
 
 pub made-is : (noted : (rules : List PlainRule) (vs : List PlainKeyed) (bytes : List ℕ) → SoundAs rules vs bytes → FullAs (unnoted rules vs) bytes) → (files : Files) (o : Outcome) (name : List ℕ) (seed count : ℕ) → MakesOrNone files name seed count (Ok o)
     → ArchiveIs o.files name (unnoted company_rules (samples seed count))
 made-is noted files o name seed count (inl s) =
     record { bytes = s.bytes; there = ap (λ (x : Files). finite.get x name) (kept-by (finite.insert files name s.bytes) o (Ok o) _ refl s.is) ∙ new-there files name s.bytes; full = noted company_rules (samples seed count) s.bytes s.made.sound }
-made-is noted files o name seed count (inr t) = absurd (never o (limit refusal.archive 274877906944) (Ok o) refl t.is)
+made-is noted files o name seed count (inr t) = absurd (never o (limit refusal.archive LONGEST) (Ok o) refl t.is)

@@ -20,6 +20,7 @@ use Rattle.csv_tables.specs.Laws.{KeysReadBack, ReadsRegular, TableReadsBack}
 use Rattle.csv_tables.specs.Records.{IsRegular, has_field, table_of}
 use Rattle.xarch_words.specs.Commands.{AreForTable, key_names, table, tablekeys}
 use Rattle.xarch_words.specs.Refusal.{Refusal, bad_csv, document, key_fault, limit, specification}
+use Rattle.xarch_words.specs.declared.limits.TheConstants.{DOCUMENT, SPECIFICATION}
 use Rattle.xarch_parts.specs.Archives.{free_in}
 use Rattle.xarch_parts.specs.Inputs.{file_of, length_in, read_in}
 use Rattle.xarch_parts.specs.Outcome.{Outcome, Step, and_then, step_from}
@@ -71,8 +72,8 @@ documented tag keys t d e =
     chained (short_document tag t) _ d f1 (λ doc e2 f2.
     chained (short_rules tag keys) _ d f2 (λ rules e3 f3.
     chained (keyed_of rules doc) _ d f3 (λ k e4 f4.
-    let doc_is : table_tree t tag ≡ doc = (when (nat_le (length (document_text (table_tree t tag))) 67108864) (table_tree t tag) doc (limit document 67108864) e2).1 in
-    let rules_are : table_rules tag keys ≡ rules = (when (nat_le (length (canonical (table_rules tag keys))) 1048576) (table_rules tag keys) rules (limit specification 1048576) e3).1 in
+    let doc_is : table_tree t tag ≡ doc = (when (nat_le (length (document_text (table_tree t tag))) DOCUMENT) (table_tree t tag) doc (limit document DOCUMENT) e2).1 in
+    let rules_are : table_rules tag keys ≡ rules = (when (nat_le (length (canonical (table_rules tag keys))) SPECIFICATION) (table_rules tag keys) rules (limit specification SPECIFICATION) e3).1 in
     let same : doc ≡ d = ok-same doc d f4 in
     record {
       is = sym same ∙ sym doc_is;
@@ -93,7 +94,7 @@ unfolding rows_of
 rows-read files csv t e = chained (file_of files csv) rows_of t e (λ bytes _ f. (bytes, refused-ok table_refusal (table_of bytes) t f))
 
 input-read : (files : Files) (csv doc : List ℕ) (t : PlainTable) → table_input files csv doc ≡ Ok t → read_in files csv rows_of ≡ Ok t
-input-read files csv doc t e = chained (length_in files csv document 67108864) _ t e (λ _ _ f. chained (free_in files doc) _ t f (λ _ _ g. g))
+input-read files csv doc t e = chained (length_in files csv document DOCUMENT) _ t e (λ _ _ f. chained (free_in files doc) _ t f (λ _ _ g. g))
 
 module _ (regular : (bytes : List ℕ) (t : PlainTable) → ReadsRegular bytes t)
     (reads : (bytes : List ℕ) (t : PlainTable) (tag : List ℕ) → TableReadsBack bytes t tag)
@@ -176,11 +177,11 @@ module _ (regular : (bytes : List ℕ) (t : PlainTable) → ReadsRegular bytes t
       succeeded files s (keys_tabled files tag keys spec) (keys-step files tag keys spec s m) zero (λ o e left.
       chained (short_rules tag (key_names keys)) _ o e (λ rules short e1.
       chained (free_in files spec) _ o e1 (λ _ _ e2.
-      let known = when (nat_le (length (canonical (table_rules tag (key_names keys)))) 1048576) (table_rules tag (key_names keys)) rules (limit specification 1048576) short in
+      let known = when (nat_le (length (canonical (table_rules tag (key_names keys)))) SPECIFICATION) (table_rules tag (key_names keys)) rules (limit specification SPECIFICATION) short in
       let kept : kept_as files spec (canonical rules) ≡ o = ok-kept (kept_as files spec (canonical rules)) o e2 in
       record {
         there = ap (λ (x : Files). finite.get x spec) (left ∙ sym (ap (λ (p : Outcome). p.files) kept)) ∙ new-there files spec (canonical rules) ∙ ap (λ (r : List PlainRule). Some (canonical r)) (sym known.1);
-        reads = ap (refused_as spec_refusal) (specifies tag (key_names keys) for.named (spelled-keys keys for.keyed) utf8 each (leb-true (length (canonical (table_rules tag (key_names keys)))) 1048576 known.0));
+        reads = ap (refused_as spec_refusal) (specifies tag (key_names keys) for.named (spelled-keys keys for.keyed) utf8 each (leb-true (length (canonical (table_rules tag (key_names keys)))) SPECIFICATION known.0));
       })))
     where
       ok-kept : (x y : Outcome) → ◌≡◌ {A = Result Outcome Refusal} (Ok x) (Ok y) → x ≡ y

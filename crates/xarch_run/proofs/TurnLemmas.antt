@@ -13,6 +13,7 @@ use Rattle.xarch_words.specs.Commands.{PlainCommand, norm, init, add, rekey, get
 use Rattle.xarch_words.specs.Lines.{fault_line, fault_status, refusal_status}
 use Rattle.xarch_words.specs.Refusal as refusal
 use Rattle.xarch_words.specs.Refusal.{Refusal, usage, damaged, line, limit, PlainFault, refused, folder_fault, out_fault, in_fault, memory}
+use Rattle.xarch_words.specs.declared.limits.TheConstants.{DEMO, LINE}
 use Rattle.xarch_parts.specs.Ends.{Gained}
 use Rattle.xarch_parts.specs.Archives.{GoesOn, free_in}
 use Rattle.xarch_meanings.specs.Demo.{MakesOrNone}
@@ -76,11 +77,11 @@ takes_by f g l answer o p e r x y (Some fault) is tried faults =
     subst (λ (v : Option PlainFault). MatchOption v (LineTried f g l answer o p e r x y) (λ fault. LineFaults f g l fault o p e r x y)) (sym is) (faults fault is)
 
 -- what holds of a line that is short, by its words
-by-words : (P : Option (List (List ℕ)) → Type 0) (Q : Type 0) (l : List ℕ) (w : Option (List (List ℕ))) → nat_lt 1048576 (length l) ≡ false → words_of l ≡ w → P w → MatchBool (nat_lt 1048576 (length l)) Q (P (words_of l))
+by-words : (P : Option (List (List ℕ)) → Type 0) (Q : Type 0) (l : List ℕ) (w : Option (List (List ℕ))) → nat_lt LINE (length l) ≡ false → words_of l ≡ w → P w → MatchBool (nat_lt LINE (length l)) Q (P (words_of l))
 by-words P Q l w short is p = subst (λ b. MatchBool b Q (P (words_of l))) (sym short) (subst P (sym is) p)
 
 -- and of one that is too long
-by-length : (P : Option (List (List ℕ)) → Type 0) (Q : Type 0) (l : List ℕ) → nat_lt 1048576 (length l) ≡ true → Q → MatchBool (nat_lt 1048576 (length l)) Q (P (words_of l))
+by-length : (P : Option (List (List ℕ)) → Type 0) (Q : Type 0) (l : List ℕ) → nat_lt LINE (length l) ≡ true → Q → MatchBool (nat_lt LINE (length l)) Q (P (words_of l))
 by-length P Q l long q = subst (λ b. MatchBool b Q (P (words_of l))) (sym long) q
 
 -- the files that are told, or none
@@ -94,18 +95,18 @@ refuses files q = record { output = refl; line = refl; status = refl }
 refused-step : (f g : Option Files) (l : List ℕ) (q : Refusal) → g ≡ f → LineAnswers l (step_from (files_or_none f) (Err q)) → ((a : Files) → LineMay a l (step_from a (Err q))) → IsStep f g l (step_from (files_or_none f) (Err q))
 refused-step f g l q same answers may = record { answers = answers; kept = λ _. same; may = λ a b p _. subst (λ (u : Files). LineMay a l (step_from u (Err q))) (sym (ap files_or_none p)) (may a) }
 
-pub long-step : (f g : Option Files) (l : List ℕ) → g ≡ f → nat_lt 1048576 (length l) ≡ true → IsStep f g l (step_from (files_or_none f) (Err (limit line 1048576)))
+pub long-step : (f g : Option Files) (l : List ℕ) → g ≡ f → nat_lt LINE (length l) ≡ true → IsStep f g l (step_from (files_or_none f) (Err (limit line LINE)))
 long-step f g l same long =
-    let q = limit line 1048576 in
+    let q = limit line LINE in
     let s = step_from (files_or_none f) (Err q) in
     refused-step f g l q same (by-length (λ w. WordsAnswer w s) (RefusesWith q s) l long (refuses (files_or_none f) q))
     (λ a. by-length (λ w. WordsMay a w (step_from a (Err q))) (step_from a (Err q) ≡ step_from a (Err q)) l long refl)
 
-pub none-step : (f g : Option Files) (l : List ℕ) → g ≡ f → nat_lt 1048576 (length l) ≡ false → words_of l ≡ None → IsStep f g l (step_from (files_or_none f) (Err usage))
+pub none-step : (f g : Option Files) (l : List ℕ) → g ≡ f → nat_lt LINE (length l) ≡ false → words_of l ≡ None → IsStep f g l (step_from (files_or_none f) (Err usage))
 none-step f g l same short is =
     let s = step_from (files_or_none f) (Err usage) in
-    refused-step f g l usage same (by-words (λ w. WordsAnswer w s) (RefusesWith (limit line 1048576) s) l None short is (refuses (files_or_none f) usage))
-    (λ a. by-words (λ w. WordsMay a w (step_from a (Err usage))) (step_from a (Err usage) ≡ step_from a (Err (limit line 1048576))) l None short is refl)
+    refused-step f g l usage same (by-words (λ w. WordsAnswer w s) (RefusesWith (limit line LINE) s) l None short is (refuses (files_or_none f) usage))
+    (λ a. by-words (λ w. WordsMay a w (step_from a (Err usage))) (step_from a (Err usage) ≡ step_from a (Err (limit line LINE))) l None short is refl)
 
 -- a line was refused
 pub takes-refused : (f g : Option Files) (l : List ℕ) (q : Refusal) (answer : ℕ) (o p e r : Taken) (x y : ℕ)
@@ -131,7 +132,7 @@ refuses-by files r q is = subst (λ (z : Result Outcome Refusal). RefusesWith q 
 -- ---- what words answer
 
 -- a `demo` of too many documents has no other outcome than its refusal
-long-refused : (files : Files) (c : Option PlainCommand) (r : Result Outcome Refusal) → IsLongDemo c → MayDo files c r → r ≡ Err (limit refusal.demo 1000)
+long-refused : (files : Files) (c : Option PlainCommand) (r : Result Outcome Refusal) → IsLongDemo c → MayDo files c r → r ≡ Err (limit refusal.demo DEMO)
 unfolding MayBe
 long-refused files None r long may = absurd long
 long-refused files (Some (norm spec doc)) r long may = absurd long
@@ -151,11 +152,11 @@ long-refused files (Some (join one two new)) r long may = absurd long
 long-refused files (Some (table csv tag keys doc)) r long may = absurd long
 long-refused files (Some (tablekeys tag keys spec)) r long may = absurd long
 long-refused files (Some batch) r long may = absurd long
-long-refused files (Some (demo seed count archive)) r long may = by_test (nat_le count 1000) refl
+long-refused files (Some (demo seed count archive)) r long may = by_test (nat_le count DEMO) refl
   where
-    by_test : (b : Bool) → nat_le count 1000 ≡ b → r ≡ Err (limit refusal.demo 1000)
-    by_test true e = (let few = leb-true count 1000 e in absurd (omega (arith, few, long)))
-    by_test false e = subst (λ b. GoesOn (and_then (if b then Ok count else Err (limit refusal.demo 1000)) (λ _. free_in files archive)) (λ _. MakesOrNone files archive seed count) r) e may
+    by_test : (b : Bool) → nat_le count DEMO ≡ b → r ≡ Err (limit refusal.demo DEMO)
+    by_test true e = (let few = leb-true count DEMO e in absurd (omega (arith, few, long)))
+    by_test false e = subst (λ b. GoesOn (and_then (if b then Ok count else Err (limit refusal.demo DEMO)) (λ _. free_in files archive)) (λ _. MakesOrNone files archive seed count) r) e may
 
 long-or-not : (c : Option PlainCommand) → IsLongDemo c ⊎ ¬ IsLongDemo c
 long-or-not None = inr (λ long. long)
@@ -176,11 +177,11 @@ long-or-not (Some (join one two new)) = inr (λ long. long)
 long-or-not (Some (table csv tag keys doc)) = inr (λ long. long)
 long-or-not (Some (tablekeys tag keys spec)) = inr (λ long. long)
 long-or-not (Some batch) = inr (λ long. long)
-long-or-not (Some (demo seed count archive)) = by_test (nat_lt 1000 count) refl
+long-or-not (Some (demo seed count archive)) = by_test (nat_lt DEMO count) refl
   where
-    by_test : (b : Bool) → nat_lt 1000 count ≡ b → (1000 < count) ⊎ ¬ (1000 < count)
-    by_test true e = inl (ltb-true 1000 count e)
-    by_test false e = inr (λ long. let few = ltb-false 1000 count e in omega (arith, few, long))
+    by_test : (b : Bool) → nat_lt DEMO count ≡ b → (DEMO < count) ⊎ ¬ (DEMO < count)
+    by_test true e = inl (ltb-true DEMO count e)
+    by_test false e = inr (λ long. let few = ltb-false DEMO count e in omega (arith, few, long))
 
 -- an outcome that comes late
 record LateAnswer (c : Option PlainCommand) (r : Result Outcome Refusal) : Type 0 where
@@ -268,17 +269,17 @@ late-short batch X late long = absurd late
 late-short (demo seed count archive) X late long = absurd late
 
 -- the step of an outcome answers as it may
-spelled-plain : (c : Option PlainCommand) (files : Files) (r : Result Outcome Refusal) → (c ≡ None → r ≡ Err usage) → ((step_from files r).status ≡ 2 → c ≡ None) → (IsLongDemo c → r ≡ Err (limit refusal.demo 1000))
+spelled-plain : (c : Option PlainCommand) (files : Files) (r : Result Outcome Refusal) → (c ≡ None → r ≡ Err usage) → ((step_from files r).status ≡ 2 → c ≡ None) → (IsLongDemo c → r ≡ Err (limit refusal.demo DEMO))
     → SpelledAnswers c (step_from files r)
 spelled-plain None files r none only long = subst (λ (z : Result Outcome Refusal). RefusesWith usage (step_from files z)) (sym (none refl)) (refuses files usage)
-spelled-plain (Some command) files (Ok o) none only long = record { is = inl (record { line = refl; status = refl }); long_demo = λ h. refuses-by files (Ok o) (limit refusal.demo 1000) (long h) }
+spelled-plain (Some command) files (Ok o) none only long = record { is = inl (record { line = refl; status = refl }); long_demo = λ h. refuses-by files (Ok o) (limit refusal.demo DEMO) (long h) }
 spelled-plain (Some command) files (Err q) none only long = record {
   is = inr (inl (record {
     refusal = q;
     other = λ is. let no : Some command ≡ None = only (ap refusal_status is) in absurd cc;
     is = refuses files q;
   }));
-  long_demo = λ h. refuses-by files (Err q) (limit refusal.demo 1000) (long h);
+  long_demo = λ h. refuses-by files (Err q) (limit refusal.demo DEMO) (long h);
 }
 
 -- and so does one with a refusal behind output
@@ -289,7 +290,7 @@ spelled-late (Some command) files written r late =
     (record { is = inr (inr (record { may = late.may; name = late.name; line = refl })); long_demo = λ long. late-short command _ late.may long })
 
 spelled : (c : Option PlainCommand) (files : Files) (written : List ℕ) (r : Result Outcome Refusal) → (written ≡ []) ⊎ LateAnswer c r → (c ≡ None → r ≡ Err usage) → ((step_behind files written r).status ≡ 2 → c ≡ None)
-    → (IsLongDemo c → r ≡ Err (limit refusal.demo 1000)) → SpelledAnswers c (step_behind files written r)
+    → (IsLongDemo c → r ≡ Err (limit refusal.demo DEMO)) → SpelledAnswers c (step_behind files written r)
 spelled c files written r (inl nothing) none only long =
     let same : step_behind files written r ≡ step_from files r = ap (λ (w : List ℕ). step_behind files w r) nothing ∙ behind-none files r in
     subst (SpelledAnswers c) (sym same) (spelled-plain c files r none (λ two. only (ap (λ (z : Step). z.status) same ∙ two)) long)
@@ -302,7 +303,7 @@ pub record Judged (words : List (List ℕ)) (answer : ℕ) : Type 0 where
   pub long : IsLongDemo (single_of words) → answer ≡ 12
 
 -- such a demo is one by itself
-pub long-alone : (c : Option PlainCommand) (P : Type 0) → ((seed count : ℕ) (name : List ℕ) → c ≡ Some (demo seed count name) → 1000 < count → P) → IsLongDemo (alone c) → P
+pub long-alone : (c : Option PlainCommand) (P : Type 0) → ((seed count : ℕ) (name : List ℕ) → c ≡ Some (demo seed count name) → DEMO < count → P) → IsLongDemo (alone c) → P
 long-alone None answer judged h = absurd h
 long-alone (Some (norm spec doc)) answer judged h = absurd h
 long-alone (Some (init archive spec)) answer judged h = absurd h
@@ -328,7 +329,7 @@ judged words answer is_usage long_demo = record { none = is_usage.1; only = is_u
 
 -- a step of the words that has this answer
 answered : (words : List (List ℕ)) (answer : ℕ) (files : Files) (written : List ℕ) (r : Result Outcome Refusal) → (written ≡ []) ⊎ LateAnswer (single_of words) r → Judged words answer → answer ≡ (step_behind files written r).status
-    → (single_of words ≡ None → r ≡ Err usage) → (IsLongDemo (single_of words) → r ≡ Err (limit refusal.demo 1000)) → SpelledAnswers (single_of words) (step_behind files written r)
+    → (single_of words ≡ None → r ≡ Err usage) → (IsLongDemo (single_of words) → r ≡ Err (limit refusal.demo DEMO)) → SpelledAnswers (single_of words) (step_behind files written r)
 answered words answer files written r behind j is none long = spelled (single_of words) files written r behind none (λ two. j.only (is ∙ two)) long
 
 -- the step behind a fault of the outside, of which some was written
@@ -343,15 +344,15 @@ unfinished words answer fault files o j h =
 abbrev KeptBy : Option Files → Option Files → List (List ℕ) → Step → Type 0
 KeptBy f g words s = ((s.status ≢ 0) ⊎ OnlyReads (single_of words)) → g ≡ f
 
-spelled-command : (l : List ℕ) (words : List (List ℕ)) → nat_lt 1048576 (length l) ≡ false → words_of l ≡ Some words → line_command l ≡ single_of words
+spelled-command : (l : List ℕ) (words : List (List ℕ)) → nat_lt LINE (length l) ≡ false → words_of l ≡ Some words → line_command l ≡ single_of words
 spelled-command l words short is = ap (λ b. if b then None else option_and_then single_of (words_of l)) short ∙ ap (option_and_then single_of) is
 
-kept-line : (f g : Option Files) (l : List ℕ) (words : List (List ℕ)) (s : Step) → nat_lt 1048576 (length l) ≡ false → words_of l ≡ Some words → KeptBy f g words s → MakesNone l s → g ≡ f
+kept-line : (f g : Option Files) (l : List ℕ) (words : List (List ℕ)) (s : Step) → nat_lt LINE (length l) ≡ false → words_of l ≡ Some words → KeptBy f g words s → MakesNone l s → g ≡ f
 kept-line f g l words s short is kept (inl other) = kept (inl other)
 kept-line f g l words s short is kept (inr reads) = kept (inr (subst OnlyReads (spelled-command l words short is) reads))
 
 -- only a command has a fault of the outside, and no `demo` of too many documents
-may-fault : (l : List ℕ) (words : List (List ℕ)) (answer : ℕ) (fault : PlainFault) → nat_lt 1048576 (length l) ≡ false → words_of l ≡ Some words → Judged words answer → outside_of answer ≡ Some fault → MayFault l
+may-fault : (l : List ℕ) (words : List (List ℕ)) (answer : ℕ) (fault : PlainFault) → nat_lt LINE (length l) ≡ false → words_of l ≡ Some words → Judged words answer → outside_of answer ≡ Some fault → MayFault l
 may-fault l words answer fault short is j h =
     let spells = sym (spelled-command l words short is) in
     record {
@@ -364,25 +365,25 @@ may-fault l words answer fault short is j h =
     some (Some command) two = refl
 
 -- a step of the words from told files
-words-step : (f g : Option Files) (h : Files) (l : List ℕ) (words : List (List ℕ)) (s : Step) → f ≡ Some h → nat_lt 1048576 (length l) ≡ false → words_of l ≡ Some words → Plausible h words s → SpelledAnswers (single_of words) s → KeptBy f g words s → IsStep f g l s
+words-step : (f g : Option Files) (h : Files) (l : List ℕ) (words : List (List ℕ)) (s : Step) → f ≡ Some h → nat_lt LINE (length l) ≡ false → words_of l ≡ Some words → Plausible h words s → SpelledAnswers (single_of words) s → KeptBy f g words s → IsStep f g l s
 words-step f g h l words s told short is may answers kept = record {
   kept = kept-line f g l words s short is kept;
-  answers = by-words (λ w. WordsAnswer w s) (RefusesWith (limit line 1048576) s) l (Some words) short is answers;
-  may = λ a b p _. (let same : Some h ≡ Some a = sym told ∙ p in by-words (λ w. WordsMay a w s) (s ≡ step_from a (Err (limit line 1048576))) l (Some words) short is (subst (λ (u : Files). Plausible u words s) (some-same h a same) may));
+  answers = by-words (λ w. WordsAnswer w s) (RefusesWith (limit line LINE) s) l (Some words) short is answers;
+  may = λ a b p _. (let same : Some h ≡ Some a = sym told ∙ p in by-words (λ w. WordsMay a w s) (s ≡ step_from a (Err (limit line LINE))) l (Some words) short is (subst (λ (u : Files). Plausible u words s) (some-same h a same) may));
 }
   where
     some-same : (a b : Files) → Some a ≡ Some b → a ≡ b
     some-same a b e = cc
 
 -- a step of the words where no files are told
-untold-step : (f g : Option Files) (l : List ℕ) (words : List (List ℕ)) (s : Step) → f ≡ None → nat_lt 1048576 (length l) ≡ false → words_of l ≡ Some words → SpelledAnswers (single_of words) s → KeptBy f g words s → IsStep f g l s
+untold-step : (f g : Option Files) (l : List ℕ) (words : List (List ℕ)) (s : Step) → f ≡ None → nat_lt LINE (length l) ≡ false → words_of l ≡ Some words → SpelledAnswers (single_of words) s → KeptBy f g words s → IsStep f g l s
 untold-step f g l words s untold short is answers kept = record {
   kept = kept-line f g l words s short is kept;
-  answers = by-words (λ w. WordsAnswer w s) (RefusesWith (limit line 1048576) s) l (Some words) short is answers;
+  answers = by-words (λ w. WordsAnswer w s) (RefusesWith (limit line LINE) s) l (Some words) short is answers;
   may = λ a b p _. (let none : Some a ≡ None = sym p ∙ untold in absurd cc);
 }
 
-module _ (f g : Option Files) (l : List ℕ) (words : List (List ℕ)) (answer : ℕ) (o p e r : Taken) (x y : ℕ) (short : nat_lt 1048576 (length l) ≡ false) (is : words_of l ≡ Some words) (j : Judged words answer) (refused_kept : answer ≢ 0 → g ≡ f) (reads_kept : OnlyReads (single_of words) → g ≡ f) where
+module _ (f g : Option Files) (l : List ℕ) (words : List (List ℕ)) (answer : ℕ) (o p e r : Taken) (x y : ℕ) (short : nat_lt LINE (length l) ≡ false) (is : words_of l ≡ Some words) (j : Judged words answer) (refused_kept : answer ≢ 0 → g ≡ f) (reads_kept : OnlyReads (single_of words) → g ≡ f) where
   kept-by : (s : Step) → answer ≡ s.status → KeptBy f g words s
   kept-by s same (inl other) = refused_kept (λ zero. other (sym same ∙ zero))
   kept-by s same (inr reads) = reads_kept reads
@@ -425,11 +426,11 @@ module _ (f g : Option Files) (l : List ℕ) (words : List (List ℕ)) (answer :
       })
 
   -- where they are not
-  tried-untold : f ≡ None → g ≡ None → outside_of answer ≡ None → Said answer e r x y → Gained o p → (answer ≢ 0 → outside_of answer ≡ None → ¬ MayHaveWritten (single_of words) answer → TakesNone o p) → (IsLongDemo (single_of words) → Says e r x y (fault_line (refused (limit refusal.demo 1000)))) → LineTried f g l answer o p e r x y
+  tried-untold : f ≡ None → g ≡ None → outside_of answer ≡ None → Said answer e r x y → Gained o p → (answer ≢ 0 → outside_of answer ≡ None → ¬ MayHaveWritten (single_of words) answer → TakesNone o p) → (IsLongDemo (single_of words) → Says e r x y (fault_line (refused (limit refusal.demo DEMO)))) → LineTried f g l answer o p e r x y
   tried-untold untold still plain said gained nothing long_said = by_length (long-or-not (single_of words))
     where
       step-of : (written : List ℕ) (v : Result Outcome Refusal) → (written ≡ []) ⊎ LateAnswer (single_of words) v → answer ≡ (step_behind finite.empty written v).status → (single_of words ≡ None → v ≡ Err usage)
-          → (IsLongDemo (single_of words) → v ≡ Err (limit refusal.demo 1000)) → Takes o p (step_behind finite.empty written v).output → Says e r x y (step_behind finite.empty written v).line → LineTried f g l answer o p e r x y
+          → (IsLongDemo (single_of words) → v ≡ Err (limit refusal.demo DEMO)) → Takes o p (step_behind finite.empty written v).output → Says e r x y (step_behind finite.empty written v).line → LineTried f g l answer o p e r x y
       step-of written v behind same none long output says = record {
         step = step_behind finite.empty written v;
         may =
@@ -460,7 +461,7 @@ module _ (f g : Option Files) (l : List ℕ) (words : List (List ℕ)) (answer :
       by_length : IsLongDemo (single_of words) ⊎ ¬ IsLongDemo (single_of words) → LineTried f g l answer o p e r x y
       by_length (inl long) =
           let is : answer ≡ 12 = j.long long in
-          step-of [] (Err (limit refusal.demo 1000)) (inl refl) is (λ none. let two = j.none none in absurd (omega (arith, is, two))) (λ _. refl)
+          step-of [] (Err (limit refusal.demo DEMO)) (inl refl) is (λ none. let two = j.none none in absurd (omega (arith, is, two))) (λ _. refl)
           (Takes-kept o o p [] (Takes-nil o) (nothing (λ zero. omega (arith, is, zero)) plain (λ late. let eleven = late-status (single_of words) answer late in omega (arith, is, eleven)))) (long_said long)
       by_length (inr short) = by_fault said.fault said.status said.line short
 
@@ -475,10 +476,10 @@ module _ (f g : Option Files) (l : List ℕ) (words : List (List ℕ)) (answer :
 
 -- a command was run
 pub takes-step : (f g : Option Files) (l : List ℕ) (words : List (List ℕ)) (answer : ℕ) (o p e r : Taken) (x y : ℕ)
-    → nat_lt 1048576 (length l) ≡ false → words_of l ≡ Some words → Judged words answer → (f ≡ None → g ≡ None)
+    → nat_lt LINE (length l) ≡ false → words_of l ≡ Some words → Judged words answer → (f ≡ None → g ≡ None)
     → ((h : Files) → f ≡ Some h → outside_of answer ≡ None → Tried h words answer g o p e r x y) → ((h : Files) → f ≡ Some h → Wrote h words o p)
     → Said answer e r x y → Gained o p → (answer ≢ 0 → outside_of answer ≡ None → ¬ MayHaveWritten (single_of words) answer → TakesNone o p) → (answer ≢ 0 → g ≡ f) → (OnlyReads (single_of words) → g ≡ f)
-    → (IsLongDemo (single_of words) → Says e r x y (fault_line (refused (limit refusal.demo 1000)))) → LineTakes f g l answer o p e r x y
+    → (IsLongDemo (single_of words) → Says e r x y (fault_line (refused (limit refusal.demo DEMO)))) → LineTakes f g l answer o p e r x y
 takes-step f g l words answer o p e r x y short is j untold tried wrote said gained nothing kept reads long_said =
     takes_by f g l answer o p e r x y _ refl (λ plain. by_told f refl plain)
     (λ fault h. record { spelled = may-fault l words answer fault short is j h; wrote = part_told f refl fault h; kept = kept (λ zero. let none : outside_of answer ≡ None = ap outside_of zero in cc); said = said_outside answer fault e r x y said h })

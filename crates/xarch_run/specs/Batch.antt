@@ -7,6 +7,7 @@ use Rattle.xa_outside.specs.Folder.{Files}
 use Rattle.xa_outside.specs.Taken.{Taken, Takes}
 use Rattle.xarch_words.specs.Lines.{fault_line, fault_status}
 use Rattle.xarch_words.specs.Refusal.{batch, limit, PlainFault, refused, folder_fault, out_fault, in_fault, memory}
+use Rattle.xarch_words.specs.declared.limits.TheConstants.{BATCH}
 use Rattle.xarch_parts.specs.Outcome.{Step}
 use Rattle.xarch_run.specs.Lines.{lines_of, ended_lines_of}
 use Rattle.xarch_run.specs.Steps.{AreSteps, IfTold, IsStep, MayFault, lines_said, outs, status_line}
@@ -120,7 +121,7 @@ pub record AreRead (bytes : List ℕ) (lines : List (List ℕ)) : Type 0 where
   pub front : List ℕ
   pub behind : List ℕ
   pub is : bytes ≡ front ++ behind
-  pub few : length front ≤ 1073741824
+  pub few : length front ≤ BATCH
   pub among : (lines ≡ ended_lines_of front) ⊎ ((behind ≡ []) × (lines ≡ lines_of front))
 
 -- All lines were run, and the input is at its end.
@@ -128,7 +129,7 @@ pub record AllRun (w : Scene) (bytes : List ℕ) (rest : Option (List ℕ)) (ans
   pub status : answer ≡ 0
   pub over : RunsOver w (lines_of bytes) []
   pub all : rest ≡ Some []
-  pub few : length bytes ≤ 1073741824
+  pub few : length bytes ≤ BATCH
 
 -- The input is too long, and the lines were run that an LF ends among its first bytes, as many as a batch may have.
 pub record InputTooLong (w : Scene) (bytes : List ℕ) (answer : ℕ) : Type 0 where
@@ -136,16 +137,16 @@ pub record InputTooLong (w : Scene) (bytes : List ℕ) (answer : ℕ) : Type 0 w
   pub front : List ℕ
   pub behind : List ℕ
   pub is : bytes ≡ front ++ behind
-  pub full : length front ≡ 1073741824
+  pub full : length front ≡ BATCH
   pub more : 0 < length behind
-  pub over : RunsOver w (ended_lines_of front) (fault_line (refused (limit batch 1073741824)))
+  pub over : RunsOver w (ended_lines_of front) (fault_line (refused (limit batch BATCH)))
 
 -- A read failed, and the lines were run that an LF ends among the bytes read.
 pub record ReadFailed (w : Scene) (bytes : List ℕ) (rest : Option (List ℕ)) (answer : ℕ) : Type 0 where
   pub status : answer ≡ 15
   pub front : List ℕ
   pub consumed : Consumes (Some bytes) rest front
-  pub few : length front ≤ 1073741824
+  pub few : length front ≤ BATCH
   pub over : RunsOver w (ended_lines_of front) (fault_line in_fault)
 
 -- The batch itself found no memory.
@@ -198,5 +199,5 @@ IsAnswer folder_before folder_now input_before input_now out_before out_now answ
 -- What was read of the input's bytes.
 pub record ReadsAsSaid (bytes : List ℕ) (rest : Option (List ℕ)) (answer : ℕ) : Type 0 where
   pub consumed : ConsumesSome (Some bytes) rest
-  pub all : answer ≡ 0 → (rest ≡ Some []) × (length bytes ≤ 1073741824)
-  pub past : answer ≡ 12 → 1073741824 < length bytes
+  pub all : answer ≡ 0 → (rest ≡ Some []) × (length bytes ≤ BATCH)
+  pub past : answer ≡ 12 → BATCH < length bytes

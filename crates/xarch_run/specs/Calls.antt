@@ -3,6 +3,7 @@ use Rattle.std.specs.Prelude.{◌≡◌, ◌≢◌, ◌⊎◌, ℕ, List, [], �
 use Rattle.xa_outside.specs.Folder.{Files}
 use Rattle.xarch_words.specs.Commands.{PlainCommand, batch, command_of}
 use Rattle.xarch_words.specs.Refusal.{line, usage, limit}
+use Rattle.xarch_words.specs.declared.limits.TheConstants.{LINE}
 use Rattle.xarch_parts.specs.Outcome.{Step, step_from}
 use Rattle.xarch_meanings.specs.Plausible.{MayStep, Plausible}
 use Rattle.xarch_meanings.specs.Ran.{outside_of}
@@ -16,7 +17,7 @@ use Rattle.xarch_run.specs.Steps.{LinesLead, files_after, line_command}
 -- The step of a command: the defined one, where the archive that it names is absent or sound, and else one that it may take.
 -- What is no command is refused as that, or as a line that is too long.
 abbrev pub CommandMay : Files → Option PlainCommand → Step → Type 0
-CommandMay files None s = (s ≡ step_from files (Err usage)) ⊎ (s ≡ step_from files (Err (limit line 1048576)))
+CommandMay files None s = (s ≡ step_from files (Err usage)) ⊎ (s ≡ step_from files (Err (limit line LINE)))
 CommandMay files (Some command) s = MayStep files (Some command) s
 
 -- One step for each command, each from the files that the one before left.

@@ -6,6 +6,7 @@ use Rattle.xa_outside.specs.Folder.{Files}
 use Rattle.xarch_words.specs.Commands.{PlainCommand}
 use Rattle.xarch_words.specs.Lines.{fault_line, refusal_status}
 use Rattle.xarch_words.specs.Refusal.{demo, line, Refusal, usage, damaged, limit, refused}
+use Rattle.xarch_words.specs.declared.limits.TheConstants.{DEMO, LINE}
 use Rattle.xarch_parts.specs.Outcome.{Step, step_from}
 use Rattle.xarch_meanings.specs.Plausible.{Plausible}
 use Rattle.xarch_meanings.specs.Ran.{IsLongDemo, MayHaveWritten, OnlyReads}
@@ -21,7 +22,7 @@ WordsMay files (Some words) s = Plausible files words s
 
 -- A step that a line may have the program take: the defined one where the archive that it names is absent or sound.
 abbrev pub LineMay : Files → List ℕ → Step → Type 0
-LineMay files l s = MatchBool (nat_lt 1048576 (length l)) (s ≡ step_from files (Err (limit line 1048576))) (WordsMay files (words_of l) s)
+LineMay files l s = MatchBool (nat_lt LINE (length l)) (s ≡ step_from files (Err (limit line LINE))) (WordsMay files (words_of l) s)
 
 -- ---- one line, whatever the folder tells
 
@@ -51,7 +52,7 @@ pub record MeetsDamage (command : PlainCommand) (s : Step) : Type 0 where
 -- What a command answers: it was done, or it was refused, a `get`, a `log` or a `versions` maybe behind output, and a `demo` of too many documents is refused.
 pub record CommandAnswers (command : PlainCommand) (s : Step) : Type 0 where
   pub is : DoesCommand s ⊎ (RefusesCommand s ⊎ MeetsDamage command s)
-  pub long_demo : IsLongDemo (Some command) → RefusesWith (limit demo 1000) s
+  pub long_demo : IsLongDemo (Some command) → RefusesWith (limit demo DEMO) s
 
 -- words that are no command by themselves are refused
 abbrev pub SpelledAnswers : Option PlainCommand → Step → Type 0
@@ -64,13 +65,13 @@ WordsAnswer (Some words) s = SpelledAnswers (single_of words) s
 
 -- What a line answers, whatever the folder tells: output, line and status of a step, and nothing of its files.
 abbrev pub LineAnswers : List ℕ → Step → Type 0
-LineAnswers l s = MatchBool (nat_lt 1048576 (length l)) (RefusesWith (limit line 1048576) s) (WordsAnswer (words_of l) s)
+LineAnswers l s = MatchBool (nat_lt LINE (length l)) (RefusesWith (limit line LINE) s) (WordsAnswer (words_of l) s)
 
 -- ---- its command
 
 -- the command that a line of a batch spells, if it is not too long and spells one
 abbrev pub line_command : List ℕ → Option PlainCommand
-line_command l = if nat_lt 1048576 (length l) then None else option_and_then single_of (words_of l)
+line_command l = if nat_lt LINE (length l) then None else option_and_then single_of (words_of l)
 
 -- It may end in a fault of the outside, or in want of memory: the line spells a command, and no `demo` of too many documents.
 pub record MayFault (l : List ℕ) : Type 0 where

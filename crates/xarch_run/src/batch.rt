@@ -5,12 +5,12 @@ ghost use Rattle.xarch_run.specs.Faults.{stop_fault};
 ghost use Rattle.xarch_run.specs.Stays.{Stays};
 
 use crate::answers::say;
-use crate::feed::BATCH_LIMIT;
 use crate::lines::Lines;
 use crate::stop::Stop;
 use crate::turn::run_line;
 use std::alloc::Global;
 use xa_outside::{Folder, Sink, Source};
+use xarch_words::limits::BATCH;
 use xarch_words::{Fault, Quantity};
 
 /// Runs the lines of the input, one after another, and answers the status with which the batch
@@ -60,7 +60,7 @@ fn fault_of(stop: Stop) -> Fault
         Stop::Failed => Fault::InFault,
         Stop::PastLimit => Fault::Limit {
             quantity: Quantity::Batch,
-            number: BATCH_LIMIT as u64,
+            number: BATCH as u64,
         },
         Stop::Memory => Fault::Memory,
     }

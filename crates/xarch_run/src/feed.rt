@@ -1,15 +1,14 @@
 ghost use Rattle.std.specs.Prelude.{◌≡◌, ◌+◌, ◌<◌, ◌≤◌, [], IfOk, drop, length, vec_len};
+ghost use Rattle.xarch_words.specs.declared.limits.TheConstants.{BATCH};
 
 use crate::front::read_front;
 use crate::stop::Stop;
 use std::alloc::{AllocError, Global};
 use xa_outside::Source;
+use xarch_words::limits::BATCH;
 
 /// How many bytes are read at once at most.
 const SIZE: usize = 65_536;
-
-/// How many bytes a batch may have.
-pub(crate) const BATCH_LIMIT: usize = 1_073_741_824;
 
 /// The bytes of a batch that are read and not yet taken, in a buffer of fixed size.
 #[derive(Drop)]
@@ -28,13 +27,13 @@ impl Feed {
 
     pub(crate) fn new(alloc: Global) -> Result<Feed, AllocError>
         ensures empty { IfOk result (λ f. pending f ≡ []) }
-        ensures budget { IfOk result (λ f. budget f ≡ 1073741824) }
+        ensures budget { IfOk result (λ f. budget f ≡ BATCH) }
     {
         Ok(Feed {
             buffer: vec![in alloc; 0u8; SIZE]?,
             start: 0,
             end: 0,
-            left: BATCH_LIMIT,
+            left: BATCH,
         })
     }
 

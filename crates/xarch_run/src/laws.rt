@@ -10,6 +10,7 @@ ghost use Rattle.keyed_tree.specs.Kids.{IsOrdered};
 ghost use Rattle.archive_tree.specs.Stands.{version_of};
 ghost use Rattle.archive_file.specs.KeyedBy.{IsKeyedBy};
 ghost use Rattle.xarch_words.specs.Commands.{AreForTable, PlainCommand, add, check, cut, export, get, history, import, join, key_names, log, rekey, stats, table, tablekeys, versions};
+ghost use Rattle.xarch_words.specs.declared.limits.TheConstants.{DOCUMENT};
 ghost use Rattle.xarch_meanings.specs.Check.{checked};
 ghost use Rattle.xarch_meanings.specs.Get.{version_text};
 ghost use Rattle.xarch_meanings.specs.History.{history_text};
@@ -149,7 +150,7 @@ pub fn archives_hold_what_was_handed_in()
 
     ensures restores { (files later : Files) (name text new : List ℕ) (held : Held) (s t : Step)
         → Holds files name held → CommandMay files (Some (export name)) s
-        → finite.get later text ≡ Some s.output → length s.output ≤ 67108864
+        → finite.get later text ≡ Some s.output → length s.output ≤ DOCUMENT
         → finite.get later new ≡ None → CommandMay later (Some (import text new)) t
         → (t.status ≡ 0) × (finite.get t.files new ≡ finite.get files name) }
 

@@ -1,10 +1,9 @@
-ghost use Rattle.std.specs.Prelude.{◌≡◌, ◌≤◌, ◌++◌, ℕ, List, [], OnOk, false, length, nat_lt, vec_len};
+ghost use Rattle.std.specs.Prelude.{◌≡◌, ◌+◌, ◌≤◌, ◌++◌, ℕ, List, [], OnOk, false, length, nat_lt, vec_len};
+ghost use Rattle.xarch_words.specs.declared.limits.TheConstants.{LINE};
 ghost use Rattle.xarch_run.specs.Lines.{is_blank};
 
 use std::alloc::{AllocError, Global};
-
-/// How many bytes a line may have.
-pub(crate) const LINE_LIMIT: usize = 1_048_576;
+use xarch_words::limits::LINE;
 
 /// A line as far as it has come. Of a longer line than there may be only the front is kept, with
 /// one byte more than a line may have.
@@ -12,7 +11,7 @@ pub(crate) const LINE_LIMIT: usize = 1_048_576;
 pub(crate) struct Line {
     bytes: Vec<u8>,
     blank: bool,
-    ghost short: { vec_len bytes ≤ 1048577 },
+    ghost short: { vec_len bytes ≤ LINE + 1 },
 }
 
 impl Line {
@@ -39,7 +38,7 @@ impl Line {
         ensures { (bytes : List ℕ) → Shows self.old bytes
             → OnOk result (Shows self.new (bytes ++ piece.now)) }
     {
-        let room = LINE_LIMIT + 1 - self.bytes.len();
+        let room = LINE + 1 - self.bytes.len();
         self.bytes
             .extend_from_slice(&piece[..piece.len().min(room)])?;
         self.blank = self.blank && is_blank_piece(piece);
@@ -55,14 +54,14 @@ impl Line {
 
     /// Whether it is longer than a line may be.
     pub(crate) fn is_too_long(&self) -> bool
-        ensures { (bytes : List ℕ) → Shows self.now bytes → result ≡ nat_lt 1048576 (length bytes) }
+        ensures { (bytes : List ℕ) → Shows self.now bytes → result ≡ nat_lt LINE (length bytes) }
     {
-        self.bytes.len() > LINE_LIMIT
+        self.bytes.len() > LINE
     }
 
     /// The whole line, where it is not too long.
     pub(crate) fn bytes(&self) -> &[u8]
-        ensures { (bytes : List ℕ) → Shows self.now bytes → nat_lt 1048576 (length bytes) ≡ false
+        ensures { (bytes : List ℕ) → Shows self.now bytes → nat_lt LINE (length bytes) ≡ false
             → result.now ≡ bytes }
     {
         &self.bytes

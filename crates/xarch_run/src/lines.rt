@@ -1,5 +1,6 @@
 ghost use Rattle.std.specs.Prelude.{◌≡◌, ◌≤◌, ℕ, List, [], IfOk};
 ghost use Rattle.std.specs.List.{position};
+ghost use Rattle.xarch_words.specs.declared.limits.TheConstants.{BATCH};
 ghost use Rattle.xarch_run.specs.Lines.{is_line_feed};
 
 use crate::feed::Feed;
@@ -22,7 +23,7 @@ impl Lines {
 
     pub(crate) fn new(alloc: Global) -> Result<Lines, AllocError>
         ensures empty { IfOk result (λ l. pending l.feed ≡ []) }
-        ensures budget { IfOk result (λ l. budget l.feed ≡ 1073741824) }
+        ensures budget { IfOk result (λ l. budget l.feed ≡ BATCH) }
     {
         Ok(Lines {
             feed: Feed::new(alloc)?,

@@ -7,13 +7,14 @@ ghost use Rattle.xarch_words.specs.Lines.{fault_line};
 ghost use Rattle.xarch_words.specs.Refusal as refusal;
 ghost use Rattle.xarch_words.specs.Refusal.{limit, refused};
 ghost use Rattle.xarch_words.specs.View.{words_view};
+ghost use Rattle.xarch_words.specs.declared.limits.TheConstants.{BATCH, DEMO};
 ghost use Rattle.xarch_parts.specs.Ends.{Gained};
 ghost use Rattle.xarch_parts.specs.Folders.{IsTold};
 ghost use Rattle.xarch_parts.specs.Outcome.{Step};
 ghost use Rattle.xarch_meanings.specs.FillsUp.{FillsUp};
 ghost use Rattle.xarch_meanings.specs.OnePass.{GoesOnce};
 ghost use Rattle.xarch_meanings.specs.Plausible.{Tried, Wrote};
-ghost use Rattle.xarch_meanings.specs.Ran.{CountsAsSaid, MayHaveWritten, OnlyReads, Ran, Said, Says, outside_of};
+ghost use Rattle.xarch_meanings.specs.Ran.{CountsAsSaid, IsSilent, MayHaveWritten, OnlyReads, Ran, Said, Says, outside_of};
 ghost use Rattle.xarch_meanings.specs.ReadsBack.{ReadsLittle};
 ghost use Rattle.xarch_meanings.specs.Step.{StepIs};
 ghost use Rattle.xarch_meanings.specs.Succeeds.{ShouldSucceed};
@@ -61,7 +62,7 @@ pub fn run<F: Folder, S: Source, O: Sink, E: Sink>(
     // Where nothing fails, a batch whose input is not too long runs all of its lines. That what
     // should succeed among them does is clause `should` of `archives_hold_what_was_handed_in`.
     ensures batch_complete { (bytes : List ℕ) → command_of (words_view words.now) ≡ Some batch
-        → S.rest input.old ≡ Some bytes → length bytes ≤ 1073741824
+        → S.rest input.old ≡ Some bytes → length bytes ≤ BATCH
         → ¬ Rose (F.faults folder.old) (F.faults folder.new)
         → ¬ Rose (S.faults input.old) (S.faults input.new)
         → ¬ Rose (O.faults out.old) (O.faults out.new) → (result ≡ 0) ⊎ (result ≡ 16) }
@@ -118,11 +119,12 @@ pub fn run<F: Folder, S: Source, O: Sink, E: Sink>(
     // When a fault comes, whatever the folder tells.
     ensures usage { (result ≡ 2) ↔ (command_of (words_view words.now) ≡ None) }
     ensures long_demo { (seed count : ℕ) (name : List ℕ)
-        → command_of (words_view words.now) ≡ Some (demo seed count name) → 1000 < count
+        → command_of (words_view words.now) ≡ Some (demo seed count name) → DEMO < count
         → (result ≡ 12) × Says (E.taken err.old) (E.taken err.new) (E.faults err.old)
-        (E.faults err.new) (fault_line (refused (limit refusal.demo 1000))) }
+        (E.faults err.new) (fault_line (refused (limit refusal.demo DEMO))) }
     ensures folder_fault { result ≡ 13 → Rose (F.faults folder.old) (F.faults folder.new) }
     ensures out_fault { result ≡ 14 → Rose (O.faults out.old) (O.faults out.new) }
+    ensures silent { IsSilent (command_of (words_view words.now)) → result ≢ 14 }
     ensures input_fault { result ≡ 15
         → (command_of (words_view words.now) ≡ Some batch)
         × Rose (S.faults input.old) (S.faults input.new) }

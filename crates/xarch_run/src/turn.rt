@@ -6,11 +6,12 @@ ghost use Rattle.xarch_run.specs.Stays.{Stays};
 ghost use Rattle.xarch_run.specs.Turns.{IsLastStatus, IsUntouched, LineRuns, LineTakes, StatusEnds};
 
 use crate::answers::{put_status, say};
-use crate::line::{LINE_LIMIT, Line};
+use crate::line::Line;
 use crate::words::read_line_words;
 use std::alloc::{AllocError, Global};
 use xa_outside::{Folder, Sink};
 use xarch_steps::take_step;
+use xarch_words::limits::LINE;
 use xarch_words::{Fault, Quantity, status};
 
 /// Runs one line, unless it is blank, and writes its status line. An error is the status with which
@@ -69,7 +70,7 @@ fn take_line<F: Folder, O: Sink, E: Sink>(
         return Ok(say(
             &Fault::Limit {
                 quantity: Quantity::Line,
-                number: LINE_LIMIT as u64,
+                number: LINE as u64,
             },
             err,
         ));

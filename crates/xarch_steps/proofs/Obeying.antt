@@ -1,18 +1,25 @@
 -- From what a command did to what was done for the words.
-use Rattle.std.proofs.Common.{◌≡◌, inl, ℕ, List, Option, Some, None, Err, refl, sym, ap, subst, arith}
+use Rattle.std.proofs.Common.{◌≡◌, ◌≢◌, inl, ℕ, List, Option, Some, None, Err, refl, sym, ap, subst, arith}
 use Rattle.xa_outside.specs.Folder.{Files}
 use Rattle.xa_outside.specs.Numbers.{Numbers, IsMeter}
 use Rattle.xa_outside.specs.NumberLaws.{PullsAtMost-none}
 use Rattle.xa_outside.specs.Taken.{Taken}
 use Rattle.xarch_words.specs.Commands.{PlainCommand}
-use Rattle.xarch_words.specs.Refusal.{PlainFault, refused, usage}
+use Rattle.xarch_words.specs.Refusal.{PlainFault, out_fault, refused, usage}
 use Rattle.xarch_parts.specs.AllowedLaws.{MayEnd-stopped, gained-none}
 use Rattle.xarch_parts.specs.EndLaws.{HasItsCause-command, IsOfCommand-usage}
-use Rattle.xarch_parts.specs.Ends.{HasItsCause}
+use Rattle.xarch_parts.specs.Ends.{HasItsCause, IsCaused}
 use Rattle.xarch_meanings.specs.CommandLaws.{only_makes_none}
 use Rattle.xarch_meanings.specs.Performs.{Performs}
 use Rattle.xarch_meanings.specs.Plausible.{MayDo}
 use Rattle.xarch_steps.specs.Obeys.{Obeys}
+
+-- what was done beside an output that never failed is no fault of the output
+pub unheard : (a b : ℕ) (e : Option PlainFault) → IsCaused a b 0 0 e → e ≢ Some out_fault
+unfolding HasItsCause
+unheard a b e p is = (
+    let rose : HasItsCause a b 0 0 (Some out_fault) = subst (HasItsCause a b 0 0) is (HasItsCause-command a b 0 0 e p.cause) in
+    absurd (omega (arith, rose)))
 
 module _ {S : Type 0} (files : S → Option Files) (draft : S → Option (List ℕ)) (numbers : S → Numbers) (faults : S → ℕ) where
   -- words that are no command are refused, and nothing is done

@@ -7,6 +7,7 @@ use Rattle.xa_outside.specs.TakenLaws.{Takes-nil, Takes-kept, TakesNone-refl, Ta
 use Rattle.xarch_words.specs.Commands.{PlainCommand, demo, command_of}
 use Rattle.xarch_words.specs.Refusal.{Refusal, usage, no_file, exists, bad_spec, bad_json, bad_shape, key_fault, key_fault_in, no_version, bad_path, damaged, limit, not_frontier, spec_differs, bad_csv, bad_text, PlainFault, refused, folder_fault, out_fault, in_fault, memory}
 use Rattle.xarch_words.specs.Lines.{fault_line, refusal_status}
+use Rattle.xarch_words.specs.declared.limits.TheConstants.{DEMO}
 use Rattle.xarch_parts.specs.Outcome.{Outcome, Step, output_of, step_from}
 use Rattle.xarch_parts.specs.Ends.{EndsGained, Gained, HasItsCause}
 use Rattle.xarch_meanings.specs.Ran.{GainsBy, IsLongDemo, MayHaveWritten, status_after, line_after, outside_of, Says}
@@ -114,6 +115,15 @@ out_fault-caused a b c d (Some folder_fault) p h = absurd (omega (arith, h))
 out_fault-caused a b c d (Some out_fault) p h = p
 out_fault-caused a b c d (Some in_fault) p h = absurd p
 out_fault-caused a b c d (Some memory) p h = absurd (omega (arith, h))
+
+pub out_fault-only : (a b c d : ℕ) (e : Option PlainFault) → HasItsCause a b c d e → status_after e ≡ 14 → e ≡ Some out_fault
+unfolding HasItsCause
+out_fault-only a b c d None p h = absurd (omega (arith, h))
+out_fault-only a b c d (Some (refused r)) p h = refusal_never r 14 out_fault (Some (refused r) ≡ Some out_fault) refl h
+out_fault-only a b c d (Some folder_fault) p h = absurd (omega (arith, h))
+out_fault-only a b c d (Some out_fault) p h = refl
+out_fault-only a b c d (Some in_fault) p h = absurd p
+out_fault-only a b c d (Some memory) p h = absurd (omega (arith, h))
 
 pub status_after-input : (a b c d : ℕ) (e : Option PlainFault) → HasItsCause a b c d e → status_after e ≢ 15
 unfolding HasItsCause
@@ -274,7 +284,7 @@ Says-from old new before now (Ok u) line p q = record { prefix = TakesPrefix-all
 Says-from old new before now (Err e) line p q = record { prefix = p; whole = λ not. absurd (not q.failed) }
 
 -- a `demo` of too many documents is one by itself
-pub long_demo-alone : (words : List (List ℕ)) (seed count : ℕ) (name : List ℕ) → command_of words ≡ Some (demo seed count name) → 1000 < count → IsLongDemo (single_of words)
+pub long_demo-alone : (words : List (List ℕ)) (seed count : ℕ) (name : List ℕ) → command_of words ≡ Some (demo seed count name) → DEMO < count → IsLongDemo (single_of words)
 long_demo-alone words seed count name is long = subst (λ (c : Option PlainCommand). IsLongDemo (alone c)) (sym is) long
 
 -- the line of a fault that is known

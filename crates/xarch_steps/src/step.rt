@@ -7,15 +7,16 @@ ghost use Rattle.xa_outside.specs.Taken.{TakesNone};
 ghost use Rattle.xarch_words.specs.Commands.{IsSpelled, PlainCommand, command_of, demo};
 ghost use Rattle.xarch_words.specs.Lines.{fault_line};
 ghost use Rattle.xarch_words.specs.Refusal as refusal;
-ghost use Rattle.xarch_words.specs.Refusal.{limit, refused};
+ghost use Rattle.xarch_words.specs.Refusal.{limit, out_fault, refused};
 ghost use Rattle.xarch_words.specs.View.{command_view, words_view};
+ghost use Rattle.xarch_words.specs.declared.limits.TheConstants.{DEMO};
 ghost use Rattle.xarch_parts.specs.Ends.{Gained, fault_of};
 ghost use Rattle.xarch_parts.specs.Folders.{IsTold};
 ghost use Rattle.xarch_parts.specs.Outcome.{Step};
 ghost use Rattle.xarch_meanings.specs.OnePass.{GoesOnce};
 ghost use Rattle.xarch_meanings.specs.Performs.{Performs};
 ghost use Rattle.xarch_meanings.specs.Plausible.{Tried, Wrote};
-ghost use Rattle.xarch_meanings.specs.Ran.{CountsAsSaid, MayHaveWritten, OnlyReads, Said, Says, line_after, outside_of, status_after};
+ghost use Rattle.xarch_meanings.specs.Ran.{CountsAsSaid, IsSilent, MayHaveWritten, OnlyReads, Said, Says, line_after, outside_of, status_after};
 ghost use Rattle.xarch_meanings.specs.ReadsBack.{ReadsLittle};
 ghost use Rattle.xarch_meanings.specs.Step.{StepIs, alone, single_of};
 ghost use Rattle.xarch_meanings.specs.Succeeds.{ShouldSucceed};
@@ -82,11 +83,12 @@ pub fn take_step<F: Folder, O: Sink, E: Sink>(
     // When a fault comes, whatever the folder tells.
     ensures usage { (result ≡ 2) ↔ (single_of (words_view words.now) ≡ None) }
     ensures long_demo { (seed count : ℕ) (name : List ℕ)
-        → command_of (words_view words.now) ≡ Some (demo seed count name) → 1000 < count
+        → command_of (words_view words.now) ≡ Some (demo seed count name) → DEMO < count
         → (result ≡ 12) × Says (E.taken err.old) (E.taken err.new) (E.faults err.old)
-        (E.faults err.new) (fault_line (refused (limit refusal.demo 1000))) }
+        (E.faults err.new) (fault_line (refused (limit refusal.demo DEMO))) }
     ensures folder_fault { result ≡ 13 → Rose (F.faults folder.old) (F.faults folder.new) }
     ensures out_fault { result ≡ 14 → Rose (O.faults out.old) (O.faults out.new) }
+    ensures silent { IsSilent (single_of (words_view words.now)) → result ≢ 14 }
     ensures never_input_fault { result ≢ 15 }
 
     // What stays: all files after a fault, and files and draft where the command only reads.
@@ -133,6 +135,8 @@ fn command_words<F: Folder, O: Sink>(
         (O.faults out.old) (O.faults out.new) (fault_of result) }
     ensures fills { FillsUp (single_of (words_view words.now)) (F.files folder.old)
         (F.draft folder.new) (IsLimited (fault_of result)) }
+    ensures silent { IsSilent (single_of (words_view words.now))
+        → fault_of result ≢ Some out_fault }
 {
     match single_command(words) {
         None => Err(Fault::Usage),
@@ -166,6 +170,8 @@ fn run_command<F: Folder, O: Sink>(
         (O.faults out.old) (O.faults out.new) (fault_of result) }
     ensures fills { FillsUp (Some (command_view command.entry)) (F.files folder.old)
         (F.draft folder.new) (IsLimited (fault_of result)) }
+    ensures silent { IsSilent (Some (command_view command.entry))
+        → fault_of result ≢ Some out_fault }
 {
     match command {
         Command::Norm { spec, doc } => run_norm(alloc, spec, doc, folder, out),

@@ -14,6 +14,7 @@ use Rattle.csv_tables.specs.Keys.{table_rules, AreApart, IsFaultlessByItsKeys, S
 use Rattle.csv_tables.specs.Lengths.{at_most as capped}
 use Rattle.csv_tables.specs.Records.{has_field, IsRegular}
 use Rattle.xarch_words.specs.Refusal.{Refusal, document, specification, key_fault, limit, PlainFault}
+use Rattle.xarch_words.specs.declared.limits.TheConstants.{DOCUMENT, SPECIFICATION}
 use Rattle.xarch_parts.specs.Ends.{IsDefined}
 use Rattle.xarch_parts.specs.EndLaws.{IsDefined-here, IsDefined-next, and_then-Ok}
 use Rattle.xarch_parts.specs.Inputs.{at_most}
@@ -25,11 +26,11 @@ use Rattle.xarch_tables.specs.Rows.{keyed_doc}
 -- ---- the judgements one by one
 
 -- what is short enough, by its length up to the greatest number
-pub short-document : (tag : List ℕ) (table : PlainTable) (n : ℕ) → n ≡ capped (length (document_text (table_tree table tag))) → n ≤ 67108864 → short_document tag table ≡ Ok (table_tree table tag)
-short-document tag table n e fits = let l = length (document_text (table_tree table tag)) in cond-true (nat_le l 67108864) _ _ (le-leb l 67108864 (omega (arith, e, fits)))
+pub short-document : (tag : List ℕ) (table : PlainTable) (n : ℕ) → n ≡ capped (length (document_text (table_tree table tag))) → n ≤ DOCUMENT → short_document tag table ≡ Ok (table_tree table tag)
+short-document tag table n e fits = let l = length (document_text (table_tree table tag)) in cond-true (nat_le l DOCUMENT) _ _ (le-leb l DOCUMENT (omega (arith, e, fits)))
 
-pub long-document : (tag : List ℕ) (table : PlainTable) (n : ℕ) → n ≡ capped (length (document_text (table_tree table tag))) → 67108864 < n → short_document tag table ≡ Err (limit document 67108864)
-long-document tag table n e over = let l = length (document_text (table_tree table tag)) in cond-false (nat_le l 67108864) _ _ (lt-leb l 67108864 (omega (arith, e, over)))
+pub long-document : (tag : List ℕ) (table : PlainTable) (n : ℕ) → n ≡ capped (length (document_text (table_tree table tag))) → DOCUMENT < n → short_document tag table ≡ Err (limit document DOCUMENT)
+long-document tag table n e over = let l = length (document_text (table_tree table tag)) in cond-false (nat_le l DOCUMENT) _ _ (lt-leb l DOCUMENT (omega (arith, e, over)))
 
 by_length : {A : Type 0} (b : Bool) (n : ℕ) (x : A) (q : Refusal) → (if b then Ok x else Err q) ≡ and_then (if b then Ok n else Err q) (λ _. Ok x)
 by_length true n x q = refl
@@ -37,14 +38,14 @@ by_length false n x q = refl
 
 -- the rules, by the length of their text
 module _ (tag : List ℕ) (keys : List (List ℕ)) where
-  by_text : short_rules tag keys ≡ and_then (at_most specification 1048576 (length (canonical (table_rules tag keys)))) (λ _. Ok (table_rules tag keys))
-  by_text = let n = length (canonical (table_rules tag keys)) in by_length (nat_le n 1048576) n (table_rules tag keys) (limit specification 1048576)
+  by_text : short_rules tag keys ≡ and_then (at_most specification SPECIFICATION (length (canonical (table_rules tag keys)))) (λ _. Ok (table_rules tag keys))
+  by_text = let n = length (canonical (table_rules tag keys)) in by_length (nat_le n SPECIFICATION) n (table_rules tag keys) (limit specification SPECIFICATION)
 
-  pub rules-long : (n : ℕ) → n ≡ length (canonical (table_rules tag keys)) → (v : PlainFault) → IsDefined (at_most specification 1048576 n) v → IsDefined (short_rules tag keys) v
-  rules-long n e v p = subst (λ x. IsDefined x v) (sym by_text) (IsDefined-here _ (λ _. Ok (table_rules tag keys)) v (subst (λ m. IsDefined (at_most specification 1048576 m) v) e p))
+  pub rules-long : (n : ℕ) → n ≡ length (canonical (table_rules tag keys)) → (v : PlainFault) → IsDefined (at_most specification SPECIFICATION n) v → IsDefined (short_rules tag keys) v
+  rules-long n e v p = subst (λ x. IsDefined x v) (sym by_text) (IsDefined-here _ (λ _. Ok (table_rules tag keys)) v (subst (λ m. IsDefined (at_most specification SPECIFICATION m) v) e p))
 
-  pub rules-short : (n m : ℕ) → n ≡ length (canonical (table_rules tag keys)) → at_most specification 1048576 n ≡ Ok m → short_rules tag keys ≡ Ok (table_rules tag keys)
-  rules-short n m e p = by_text ∙ ap (λ x. and_then x (λ _. Ok (table_rules tag keys))) (ap (at_most specification 1048576) (sym e) ∙ p)
+  pub rules-short : (n m : ℕ) → n ≡ length (canonical (table_rules tag keys)) → at_most specification SPECIFICATION n ≡ Ok m → short_rules tag keys ≡ Ok (table_rules tag keys)
+  rules-short n m e p = by_text ∙ ap (λ x. and_then x (λ _. Ok (table_rules tag keys))) (ap (at_most specification SPECIFICATION) (sym e) ∙ p)
 
 -- no fault is found
 pub keyed-good : (rules : List PlainRule) (t : PlainTree) → first_fault rules t ≡ None → keyed_doc rules t ≡ Ok t

@@ -24,8 +24,7 @@ use csv_tables::{
 use key_rules::first_fault;
 use key_spec::Spec;
 use std::alloc::Global;
-use xarch_meanings::limits;
-use xarch_words::{Fault, Quantity};
+use xarch_words::{Fault, Quantity, limits};
 
 /// The printed document of a table, which satisfies its keys.
 pub(crate) fn printed(

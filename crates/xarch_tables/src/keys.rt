@@ -7,6 +7,7 @@ ghost use Rattle.key_spec.specs.Canonical.{canonical};
 ghost use Rattle.key_spec.specs.View.{names_view};
 ghost use Rattle.csv_tables.specs.Keys.{table_rules};
 ghost use Rattle.xarch_words.specs.Commands.{key_names, tablekeys};
+ghost use Rattle.xarch_words.specs.declared.limits.TheConstants.{SPECIFICATION};
 ghost use Rattle.xarch_parts.specs.Ends.{IsInside, Matches, fault_of};
 ghost use Rattle.xarch_meanings.specs.Performs.{Performs};
 ghost use Rattle.xarch_meanings.specs.Table.{short_rules};
@@ -14,9 +15,8 @@ ghost use Rattle.xarch_meanings.specs.Table.{short_rules};
 use csv_tables::keys_text;
 use std::alloc::{AllocError, Global};
 use xa_outside::Folder;
-use xarch_meanings::limits;
 use xarch_parts::{at_most, begin, check_free, store};
-use xarch_words::{Fault, Quantity};
+use xarch_words::{Fault, Quantity, limits};
 
 /// Makes the specification for the document of a table.
 pub fn run_tablekeys<F: Folder>(
@@ -66,7 +66,7 @@ pub(crate) fn short_text(alloc: Global, tag: &str, names: &[String]) -> Result<S
     ensures text { IfOk result
         (λ text. string_bytes text ≡ canonical (table_rules tag.now (names_view names.now))) }
     ensures short { IfOk result
-        (λ _. length (canonical (table_rules tag.now (names_view names.now))) ≤ 1048576) }
+        (λ _. length (canonical (table_rules tag.now (names_view names.now))) ≤ SPECIFICATION) }
 {
     let text = keys_text(alloc, tag, names)?;
     at_most(

@@ -7,6 +7,7 @@ ghost use Rattle.jsonml_print.specs.Printed.{document_text};
 ghost use Rattle.csv_tables.specs.Records.{IsRegular};
 ghost use Rattle.csv_tables.specs.View.{table_view};
 ghost use Rattle.xarch_words.specs.Commands.{key_names, table, AreForTable};
+ghost use Rattle.xarch_words.specs.declared.limits.TheConstants.{DOCUMENT};
 ghost use Rattle.xarch_parts.specs.Ends.{IsInside, Matches, fault_of};
 ghost use Rattle.xarch_parts.specs.Folders.{ReadsOnly};
 ghost use Rattle.xarch_parts.specs.Inputs.{file_length, read_in};
@@ -19,9 +20,8 @@ use crate::keys::key_names;
 use csv_tables::{Table, TableFault, read_table};
 use std::alloc::Global;
 use xa_outside::Folder;
-use xarch_meanings::limits;
 use xarch_parts::{begin, check_free, limited_length, read_whole, store};
-use xarch_words::{Fault, Quantity};
+use xarch_words::{Fault, Quantity, limits};
 
 /// Makes the document of a table.
 ///
@@ -53,12 +53,12 @@ fn input_table<F: Folder>(
     doc: &str,
     folder: &mut F,
 ) -> Result<Table, Fault>
-    ensures reads { ReadsOnly F.files F.draft F.numbers F.faults 67108864 folder.old folder.new
+    ensures reads { ReadsOnly F.files F.draft F.numbers F.faults DOCUMENT folder.old folder.new
         (fault_of result) }
     ensures told { (files : Files) → F.files folder.old ≡ Some files
         → Matches table_view (table_input files csv.now doc.now) result }
     ensures regular { IfOk result (λ t. IsRegular (table_view t)) }
-    ensures few { IfOk result (λ t. length (table_view t).rows ≤ 67108864) }
+    ensures few { IfOk result (λ t. length (table_view t).rows ≤ DOCUMENT) }
 {
     let length = limited_length(alloc, folder, csv, Quantity::Document, limits::DOCUMENT)?;
     check_free(alloc, folder, doc)?;
@@ -67,14 +67,14 @@ fn input_table<F: Folder>(
 
 /// The table in a file of this size.
 fn table_in<F: Folder>(alloc: Global, folder: &mut F, name: &str, size: u64) -> Result<Table, Fault>
-    requires { size ≤ 67108864 }
+    requires { size ≤ DOCUMENT }
     ensures reads { ReadsOnly F.files F.draft F.numbers F.faults size folder.old folder.new
         (fault_of result) }
     ensures told { (files : Files) → F.files folder.old ≡ Some files
         → file_length files name.now ≡ Ok size
         → Matches table_view (read_in files name.now rows_of) result }
     ensures regular { IfOk result (λ t. IsRegular (table_view t)) }
-    ensures few { IfOk result (λ t. length (table_view t).rows ≤ 67108864) }
+    ensures few { IfOk result (λ t. length (table_view t).rows ≤ DOCUMENT) }
 {
     let bytes = read_whole(alloc, folder, name, size)?;
     table_from(alloc, &bytes)
@@ -83,11 +83,11 @@ fn table_in<F: Folder>(alloc: Global, folder: &mut F, name: &str, size: u64) -> 
 /// The table that some bytes spell.
 #[tactic(auto, using(xarch_parts::specs::EndLaws::endings), unfolding(xarch_parts::specs::Ends::IsInside, xarch_parts::specs::Ends::IsDefined, xarch_meanings::specs::Table::rows_of))]
 fn table_from(alloc: Global, bytes: &[u8]) -> Result<Table, Fault>
-    requires { length bytes.now ≤ 67108864 }
+    requires { length bytes.now ≤ DOCUMENT }
     ensures cause { IsInside (fault_of result) }
     ensures told { Matches table_view (rows_of bytes.now) result }
     ensures regular { IfOk result (λ t. IsRegular (table_view t)) }
-    ensures few { IfOk result (λ t. length (table_view t).rows ≤ 67108864) }
+    ensures few { IfOk result (λ t. length (table_view t).rows ≤ DOCUMENT) }
 {
     match read_table(alloc, bytes) {
         Ok(table) => Ok(table),
@@ -100,7 +100,7 @@ fn table_from(alloc: Global, bytes: &[u8]) -> Result<Table, Fault>
 fn keyed_text(alloc: Global, tag: &str, keys: &str, table: Table) -> Result<Vec<u8>, Fault>
     requires words { AreForTable tag.now keys.now }
     requires regular { IsRegular (table_view table) }
-    requires few { length (table_view table).rows ≤ 67108864 }
+    requires few { length (table_view table).rows ≤ DOCUMENT }
     ensures cause { IsInside (fault_of result) }
     ensures told { Matches (λ text. text.items)
         (and_then (document_for tag.now (key_names keys.now) (table_view table))

@@ -13,10 +13,11 @@ use Rattle.xarch_parts.specs.Outcome.{Outcome}
 use Rattle.xarch_meanings.specs.Import.{ImportIs, ImportsFrom, IsNoText, import_text}
 use Rattle.xarch_meanings.specs.Plausible.{MayBe}
 use Rattle.xarch_texts.specs.Spelled.{IsFileOf}
+use Rattle.record_parts.specs.declared.limits.TheConstants.{MOST_VERSIONS}
 
 -- ---- the notes of what a text spells
 
-pub are-notes : (notes : List (String Global)) (n : ℕ) → n ≤ 999999 → length notes ≡ n → AllByRecursion IsNote (map_list string_bytes notes) → AreNotes (map_list string_bytes notes)
+pub are-notes : (notes : List (String Global)) (n : ℕ) → n ≤ MOST_VERSIONS → length notes ≡ n → AllByRecursion IsNote (map_list string_bytes notes) → AreNotes (map_list string_bytes notes)
 are-notes notes n few many each = (let same = length-map notes string_bytes in record { each = each; few = omega (arith, few, many, same) })
 
 -- they can be appended, the empty ones at the front only when another comes

@@ -7,6 +7,7 @@ ghost use Rattle.version_notes.specs.Notes.{AreNotes};
 ghost use Rattle.xarch_words.specs.Commands.{import};
 ghost use Rattle.xarch_words.specs.Refusal.{Refusal, refused};
 ghost use Rattle.xarch_words.specs.View.{fault_view};
+ghost use Rattle.xarch_words.specs.declared.limits.TheConstants.{TEXT};
 ghost use Rattle.xarch_parts.specs.Ends.{IsInside, Matches, fault_of};
 ghost use Rattle.xarch_parts.specs.Folders.{ReadsOnly};
 ghost use Rattle.xarch_meanings.specs.Import.{IsNoText, import_text};
@@ -17,9 +18,8 @@ use archive_text::{ReadFault, read_with_file};
 use archive_tree::archives_stand_for_one_list;
 use std::alloc::Global;
 use xa_outside::Folder;
-use xarch_meanings::limits;
 use xarch_parts::{begin, check_free, limited_length, read_whole, store_noted};
-use xarch_words::{Fault, Quantity};
+use xarch_words::{Fault, Quantity, limits};
 
 /// Makes the archive of a text, with its notes.
 ///
@@ -46,11 +46,11 @@ fn read_input<F: Folder>(
     new: &str,
     folder: &mut F,
 ) -> Result<Vec<u8>, Fault>
-    ensures reads { ReadsOnly F.files F.draft F.numbers F.faults 67108864 folder.old folder.new
+    ensures reads { ReadsOnly F.files F.draft F.numbers F.faults TEXT folder.old folder.new
         (fault_of result) }
     ensures told { (files : Files) → F.files folder.old ≡ Some files
         → Matches (λ v. v.items) (import_text files text.now new.now) result }
-    ensures short { IfOk result (λ v. length v.items ≤ 67108864) }
+    ensures short { IfOk result (λ v. length v.items ≤ TEXT) }
 {
     let length = limited_length(alloc, folder, text, Quantity::Text, limits::TEXT)?;
     check_free(alloc, folder, new)?;
@@ -59,7 +59,7 @@ fn read_input<F: Folder>(
 
 // The file of the archive whose text the bytes are, and the notes that come behind it.
 fn file_of(alloc: Global, bytes: &[u8]) -> Result<(Vec<u8>, Vec<String>), Fault>
-    requires { length bytes.now ≤ 67108864 }
+    requires { length bytes.now ≤ TEXT }
     ensures cause { IsInside (fault_of result) }
     ensures file { IfOk result
         (λ r. IsFileOf bytes.now r.0.items (map string_bytes r.1.items)) }

@@ -3,6 +3,7 @@
 
 mod fault;
 mod keys;
+pub mod limits;
 mod line;
 mod words;
 

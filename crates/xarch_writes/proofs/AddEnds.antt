@@ -12,11 +12,13 @@ use Rattle.key_spec.specs.Closed.{closed}
 use Rattle.record_cursor.specs.View.{PlainHeader}
 use Rattle.record_format.specs.Files.{FileOf}
 use Rattle.record_format.specs.Fronts.{header}
+use Rattle.record_format.specs.declared.limits.TheConstants.{LONGEST}
 use Rattle.version_notes.specs.Parts.{parts_behind, parts_in}
 use Rattle.noted_file.specs.Contents.{Contents, with_version}
 use Rattle.noted_file.specs.Full.{FullAs}
 use Rattle.xarch_words.specs.Commands.{add}
 use Rattle.xarch_words.specs.Refusal.{archive, document, versions, Refusal, no_file, damaged, limit, PlainFault, refused, folder_fault, out_fault, in_fault, memory}
+use Rattle.xarch_words.specs.declared.limits.TheConstants.{DOCUMENT}
 use Rattle.xarch_meanings.specs.Add.{AddsTo, added, room_behind, tree_of}
 use Rattle.xarch_writes.specs.Added.{AddEnds, IsNotAdded, TreeEnds}
 use Rattle.xarch_parts.specs.Archives.{ArchiveIs, GoesOn, Stores, short_note}
@@ -28,6 +30,7 @@ use Rattle.xarch_parts.specs.Allowed.{MayEnd}
 use Rattle.xarch_parts.specs.AllowedLaws.{MayEnd-did, MayEnd-more, MayEnd-stopped, defined_refused}
 use Rattle.xa_outside.specs.TakenLaws.{Takes-nil}
 use Rattle.xarch_meanings.specs.Plausible.{MayAdd, MayBe, MayOver, add_input, add_read, text_behind, text_read, with_tree}
+use Rattle.record_parts.specs.declared.limits.TheConstants.{MOST_VERSIONS}
 
 -- ---- the rules of the archive and the keyed tree of the document
 
@@ -93,10 +96,10 @@ module _ (has_parts : (c : Contents) (bytes : List ℕ) (full : FullAs c bytes) 
       let h : List PlainRule × ℕ = (c.rules, length c.versions) in
       let front = front-sound has_parts files name c a fronted in
       ap (λ o. and_then (and_then (and_then (and_then (or_refuse o (no_file name)) (λ bytes. Ok (length bytes))) (λ _.
-      and_then (length_in files doc document 67108864) (λ _.
+      and_then (length_in files doc document DOCUMENT) (λ _.
       and_then (read_in files name (front_in name)) (text_behind files doc)))) with_tree) with_room) a.there
-      ∙ ap (λ x. and_then (and_then (and_then (length_in files doc document 67108864) (λ _. and_then x (text_behind files doc))) with_tree) with_room) front
-      ∙ behind-room h (length_in files doc document 67108864) (file_of files doc)
+      ∙ ap (λ x. and_then (and_then (and_then (length_in files doc document DOCUMENT) (λ _. and_then x (text_behind files doc))) with_tree) with_room) front
+      ∙ behind-room h (length_in files doc document DOCUMENT) (file_of files doc)
 
   -- a refusal before the records are looked at
   may_refuse_input : (q : Refusal) → add_input files name doc ≡ Err q → Over (Err q)
@@ -115,15 +118,15 @@ module _ (has_parts : (c : Contents) (bytes : List ℕ) (full : FullAs c bytes) 
 
   module _ (h : PlainHeader) (k : PlainKeyed) (read : add_read files name doc ≡ Ok ((h.rules, h.versions), k)) where
     -- there is no room
-    may_refuse_room : h.versions ≡ 999999 → Over (Err (limit versions 999999))
+    may_refuse_room : h.versions ≡ MOST_VERSIONS → Over (Err (limit versions MOST_VERSIONS))
     may_refuse_room full =
-        let none : room_behind h.versions ≡ Err (limit versions 999999) = ap room_behind full in
-        may_refuse_input (limit versions 999999) (ap (λ x. and_then x with_room) read ∙ ap (λ w. and_then w (λ _. Ok ((h.rules, h.versions), k))) none)
+        let none : room_behind h.versions ≡ Err (limit versions MOST_VERSIONS) = ap room_behind full in
+        may_refuse_input (limit versions MOST_VERSIONS) (ap (λ x. and_then x with_room) read ∙ ap (λ w. and_then w (λ _. Ok ((h.rules, h.versions), k))) none)
 
-    module _ (room : h.versions < 999999) where
+    module _ (room : h.versions < MOST_VERSIONS) where
       input : add_input files name doc ≡ Ok ((h.rules, h.versions), k)
       input =
-          let some : room_behind h.versions ≡ Ok tt = (let fits : nat_lt h.versions 999999 ≡ true = lt-ltb h.versions 999999 room in rw fits refl) in
+          let some : room_behind h.versions ≡ Ok tt = (let fits : nat_lt h.versions MOST_VERSIONS ≡ true = lt-ltb h.versions MOST_VERSIONS room in rw fits refl) in
           ap (λ x. and_then x with_room) read ∙ ap (λ w. and_then w (λ _. Ok ((h.rules, h.versions), k))) some
 
       given : (c : Contents) (a : ArchiveIs files name c) → added files doc c.rules (length c.versions) ≡ Ok k
@@ -146,25 +149,25 @@ module _ (has_parts : (c : Contents) (bytes : List ℕ) (full : FullAs c bytes) 
         sound = λ c a. absurd (none c a);
       }
 
-      may_be_long : ((c : Contents) → ArchiveIs files name c → (bytes : List ℕ) → ¬ FileOf c.rules (c.versions ++ k ∷ []) bytes) → Over (Err (limit archive 274877906944))
+      may_be_long : ((c : Contents) → ArchiveIs files name c → (bytes : List ℕ) → ¬ FileOf c.rules (c.versions ++ k ∷ []) bytes) → Over (Err (limit archive LONGEST))
       may_be_long none =
-          let r : Result Outcome Refusal = Err (limit archive 274877906944) in
+          let r : Result Outcome Refusal = Err (limit archive LONGEST) in
           record {
             whatever = subst (λ x. GoesOn x (λ _. MayAdd files name) r) (sym input) (inr (inl refl));
             sound = λ c a.
                 subst (λ x. GoesOn x (λ k. Stores files name (with_version c k note)) r) (sym (given c a)) (inr (record { none = none c a; is = refl }));
           }
 
-    below : h.versions ≤ 999999 → h.versions ≢ 999999 → h.versions < 999999
+    below : h.versions ≤ MOST_VERSIONS → h.versions ≢ MOST_VERSIONS → h.versions < MOST_VERSIONS
     below few not = omega (arith, few, not)
 
-    may-refused : (q : Refusal) → h.versions ≤ 999999 → IsNotAdded files name h k q → Over (Err q)
+    may-refused : (q : Refusal) → h.versions ≤ MOST_VERSIONS → IsNotAdded files name h k q → Over (Err q)
     may-refused q few (inl full) = subst (λ z. Over (Err z)) (sym full.1) (may_refuse_room full.0)
     may-refused q few (inr (not, inl d)) = subst (λ z. Over (Err z)) (sym d.0) (may_be_damaged (below few not) d.1)
     may-refused q few (inr (not, inr l)) = subst (λ z. Over (Err z)) (sym l.0) (may_be_long (below few not) l.1)
 
     -- with what the merge ends, the command may end
-    may-merged : (after : Option Files) (t : Taken) (ended : Option PlainFault) → h.versions ≤ 999999 → AddEnds files name h k note after ended → MayEnd Over ended after t t
+    may-merged : (after : Option Files) (t : Taken) (ended : Option PlainFault) → h.versions ≤ MOST_VERSIONS → AddEnds files name h k note after ended → MayEnd Over ended after t t
     may-merged after t None few ends =
         let r = ends.1 in
         MayEnd-did Over (record { files = map.insert files name r.bytes; output = [] }) after t t (may_replace (below few ends.0) r.bytes r.full) r.tells (Takes-nil t)
@@ -175,7 +178,7 @@ module _ (has_parts : (c : Contents) (bytes : List ℕ) (full : FullAs c bytes) 
     may-merged after t (Some memory) few ends = MayEnd-stopped Over memory after t (λ q e. absurd cc)
 
   -- with what the document and its merge end, the command may end
-  pub may-ended : short_note note ≡ Ok tt → (h : PlainHeader) (text : List ℕ) → text_read files name doc ≡ Ok ((h.rules, h.versions), text) → (after : Option Files) (t : Taken) (ended : Option PlainFault) → h.versions ≤ 999999
+  pub may-ended : short_note note ≡ Ok tt → (h : PlainHeader) (text : List ℕ) → text_read files name doc ≡ Ok ((h.rules, h.versions), text) → (after : Option Files) (t : Taken) (ended : Option PlainFault) → h.versions ≤ MOST_VERSIONS
       → TreeEnds files name h (tree_of h.rules text) note after ended → MayEnd (MayBe files (add name doc note)) ended after t t
   may-ended short h text read after t ended few ends =
       MayEnd-more Over (MayBe files (add name doc note)) (over-may short) ended after t t (by-tree (tree_of h.rules text) ended (ap (λ x. and_then x with_tree) read) ends)

@@ -7,16 +7,17 @@ use Rattle.xarch_meanings.specs.Demo.{DemoIs, MakesOrNone, demo_input}
 use Rattle.xarch_parts.specs.Inputs.{at_most}
 use Rattle.xarch_parts.specs.Outcome.{Outcome, and_then}
 use Rattle.xarch_words.specs.Refusal as refusal
+use Rattle.xarch_words.specs.declared.limits.TheConstants.{DEMO}
 
 module _ (files : Files) (seed count : ℕ) (name : List ℕ) where
   -- too many documents, or a name that is not free
   pub refused_early : (q : Refusal) → demo_input files count name ≡ Err q → DemoIs files seed count name (Err q)
   refused_early q e = subst (λ x. GoesOn x (λ _. MakesOrNone files name seed count) (Err q)) (sym e) refl
 
-  pub refused_many : (q : Refusal) → at_most refusal.demo 1000 count ≡ Err q → DemoIs files seed count name (Err q)
+  pub refused_many : (q : Refusal) → at_most refusal.demo DEMO count ≡ Err q → DemoIs files seed count name (Err q)
   refused_many q e = refused_early q (ap (λ x. and_then x (λ _. free_in files name)) e)
 
-  module _ (few : at_most refusal.demo 1000 count ≡ Ok count) where
+  module _ (few : at_most refusal.demo DEMO count ≡ Ok count) where
     pub refused_name : (q : Refusal) → free_in files name ≡ Err q → DemoIs files seed count name (Err q)
     refused_name q e = refused_early q (ap (λ x. and_then x (λ _. free_in files name)) few ∙ e)
 

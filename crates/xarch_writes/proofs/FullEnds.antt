@@ -18,11 +18,12 @@ use Rattle.xarch_writes.specs.Added.{IsToldAs}
 use Rattle.xarch_meanings.specs.FillsUp.{IsLimited}
 use Rattle.xarch_meanings.specs.Plausible.{add_input, text_read, with_tree}
 use Rattle.xarch_meanings.proofs.Limited.{one-read}
+use Rattle.record_parts.specs.declared.limits.TheConstants.{MOST_VERSIONS}
 
 -- ---- faults
 
 -- the merge is refused by a limit where it is too long, and has room for a version
-pub limited-merge : (P : Type 0) (name : List ℕ) (n : ℕ) {T : Type 0} (e : AddFault) (v : PlainFault) → IsToldAs name e v → (◌≡◌ {A = Result T AddFault} (Err e) (Err Limit) ↔ (n ≡ 999999)) → IfTooLong e P → n ≢ 999999 → IsLimited (Some v) → P
+pub limited-merge : (P : Type 0) (name : List ℕ) (n : ℕ) {T : Type 0} (e : AddFault) (v : PlainFault) → IsToldAs name e v → (◌≡◌ {A = Result T AddFault} (Err e) (Err Limit) ↔ (n ≡ MOST_VERSIONS)) → IfTooLong e P → n ≢ MOST_VERSIONS → IsLimited (Some v) → P
 limited-merge P name n Damage v (inl is) full long room limited = absurd (subst (λ (z : PlainFault). IsLimited (Some z)) is limited)
 limited-merge P name n Damage v (inr is) full long room limited = absurd (subst (λ (z : PlainFault). IsLimited (Some z)) is limited)
 limited-merge P name n Folder v is full long room limited = absurd (subst (λ (z : PlainFault). IsLimited (Some z)) is limited)
@@ -41,7 +42,7 @@ pub record Given (files : Files) (name doc : List ℕ) (rules : List PlainRule) 
   pub text : List ℕ
   pub read : text_read files name doc ≡ Ok ((rules, n), text)
   pub is : tree_of rules text ≡ Ok tree
-  pub room : n ≢ 999999
+  pub room : n ≢ MOST_VERSIONS
 
 abbrev with_room : (List PlainRule × ℕ) × PlainKeyed → Result ((List PlainRule × ℕ) × PlainKeyed) Refusal
 with_room p = and_then (room_behind p.0.1) (λ _. Ok p)
@@ -50,7 +51,7 @@ with_room p = and_then (room_behind p.0.1) (λ _. Ok p)
 record Roomed (h g : List PlainRule × ℕ) (k tree : PlainKeyed) : Type 0 where
   same : h ≡ g
   trees : k ≡ tree
-  room : h.1 ≢ 999999
+  room : h.1 ≢ MOST_VERSIONS
 
 not-refused : {A : Type 0} (q : Refusal) (x : A) → ◌≡◌ {A = Result A Refusal} (Err q) (Ok x) → ⊥
 not-refused q x e = cc
@@ -61,7 +62,7 @@ roomed-by h g k tree (Ok u) e is =
     record {
       same = ap (λ (p : (List PlainRule × ℕ) × PlainKeyed). p.0) both;
       trees = ap (λ (p : (List PlainRule × ℕ) × PlainKeyed). p.1) both;
-      room = λ full. not-refused (limit versions 999999) u (sym (ap room_behind full) ∙ e);
+      room = λ full. not-refused (limit versions MOST_VERSIONS) u (sym (ap room_behind full) ∙ e);
     }
 roomed-by h g k tree (Err q) e is = absurd (not-refused q (g, tree) is)
 
@@ -81,7 +82,7 @@ texted files name doc (Ok p) rules n tree read is =
       text = p.1;
       read = read ∙ ap (λ (h : List PlainRule × ℕ). Ok (h, p.1)) r.same;
       is = ap (λ (h : List PlainRule × ℕ). tree_of h.0 p.1) (sym r.same) ∙ t.1 ∙ ap (λ (k : PlainKeyed). Ok k) r.trees;
-      room = subst (λ (h : List PlainRule × ℕ). h.1 ≢ 999999) r.same r.room;
+      room = subst (λ (h : List PlainRule × ℕ). h.1 ≢ MOST_VERSIONS) r.same r.room;
     }
 
 pub given : (files : Files) (name doc : List ℕ) (rules : List PlainRule) (n : ℕ) (tree : PlainKeyed) → add_input files name doc ≡ Ok ((rules, n), tree) → Given files name doc rules n tree
@@ -92,10 +93,10 @@ given files name doc rules n tree is = texted files name doc (text_read files na
 -- by the header that was read
 pub full-by : (files : Files) (name doc : List ℕ) (h : PlainHeader) (items text : List ℕ) (rules : List PlainRule) (n : ℕ) (tree : PlainKeyed) (b : ℕ) (draft : Option (List ℕ))
     → text_read files name doc ≡ Ok ((h.rules, h.versions), items) → text ≡ items → Given files name doc rules n tree
-    → (tree_of h.rules text ≡ Ok tree → h.versions ≢ 999999 → Overfull b h.rules (h.versions + 1) draft) → Overfull b rules (n + 1) draft
+    → (tree_of h.rules text ≡ Ok tree → h.versions ≢ MOST_VERSIONS → Overfull b h.rules (h.versions + 1) draft) → Overfull b rules (n + 1) draft
 full-by files name doc h items text rules n tree b draft read same g full =
     let both : ((h.rules, h.versions), items) ≡ ((rules, n), g.text) = one-read ((h.rules, h.versions), items) ((rules, n), g.text) (sym read ∙ g.read) in
     let heads : (h.rules, h.versions) ≡ (rules, n) = ap (λ (p : (List PlainRule × ℕ) × List ℕ). p.0) both in
     let texts : text ≡ g.text = same ∙ ap (λ (p : (List PlainRule × ℕ) × List ℕ). p.1) both in
     subst (λ (p : List PlainRule × ℕ). Overfull b p.0 (p.1 + 1) draft) heads
-    (full ((λ i. tree_of (heads i).0 (texts i)) ∙ g.is) (subst (λ (p : List PlainRule × ℕ). p.1 ≢ 999999) (sym heads) g.room))
+    (full ((λ i. tree_of (heads i).0 (texts i)) ∙ g.is) (subst (λ (p : List PlainRule × ℕ). p.1 ≢ MOST_VERSIONS) (sym heads) g.room))

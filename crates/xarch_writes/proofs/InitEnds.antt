@@ -7,6 +7,7 @@ use Rattle.keyed_tree.specs.Data.{PlainKeyed}
 use Rattle.archive_tree.specs.Data.{PlainArchive}
 use Rattle.archive_tree.specs.Stands.{ArchiveOf}
 use Rattle.record_format.specs.Files.{FileOf}
+use Rattle.record_format.specs.declared.limits.TheConstants.{LONGEST}
 use Rattle.archive_file.specs.KeyedBy.{AreKeyedBy}
 use Rattle.noted_file.specs.Contents.{unnoted}
 use Rattle.noted_file.specs.Full.{FullAs}
@@ -30,5 +31,5 @@ module _ (files : Files) (name spec : List ℕ) where
     init_stored new full = subst (λ x. GoesOn x (λ rules. Stores files name (unnoted rules [])) (Ok (record { files = map.insert files name new; output = [] }))) (sym input) (inl (record { bytes = new; full = full; is = refl }))
 
     -- there is none
-    pub init_refused : (q : Refusal) → q ≡ limit archive 274877906944 → ((bytes : List ℕ) → ¬ FileOf rules [] bytes) → InitIs files name spec (Err q)
+    pub init_refused : (q : Refusal) → q ≡ limit archive LONGEST → ((bytes : List ℕ) → ¬ FileOf rules [] bytes) → InitIs files name spec (Err q)
     init_refused q e none = subst (λ x. GoesOn x (λ rules. Stores files name (unnoted rules [])) (Err q)) (sym input) (inr (record { none = none; is = ap (λ s. Err s) e }))

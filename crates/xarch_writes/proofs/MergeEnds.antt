@@ -14,11 +14,13 @@ use Rattle.key_spec.specs.Data.{PlainRule}
 use Rattle.keyed_tree.specs.Data.{PlainKeyed}
 use Rattle.archive_tree.specs.Data.{PlainArchive}
 use Rattle.archive_tree.specs.Stands.{ArchiveOf}
+use Rattle.record_parts.specs.declared.limits.TheConstants.{MOST_VERSIONS}
 use Rattle.archive_file.specs.Sound.{SoundAs}
 use Rattle.record_cursor.specs.Moves.{TellsFront, IsHeaderOf}
 use Rattle.record_cursor.specs.View.{PlainHeader}
 use Rattle.record_format.specs.Files.{FileOf, header_bytes, largest}
 use Rattle.record_format.specs.Fronts.{header}
+use Rattle.record_format.specs.declared.limits.TheConstants.{LONGEST}
 use Rattle.stream_merge.specs.Added.{Appended, IfTooLong, IfFailed}
 use Rattle.stream_merge.specs.declared.fault.AddFault.{AddFault}
 use Rattle.stream_merge.specs.declared.fault.AddFault.TheVariants.{Damage, Folder, Limit, TooLong, Memory}
@@ -52,7 +54,7 @@ told-cause T name TooLong v a b is h = subst (λ (z : PlainFault). IsOfFolder a 
 told-cause T name Memory v a b is h = subst (λ (z : PlainFault). IsOfFolder a b (Some z)) (sym is) tt
 
 -- what was appended has room for its version
-pub roomy : {T : Type 0} (x : T) (n : ℕ) → ((◌≡◌ {A = Result T AddFault} (Ok x) (Err Limit)) ↔ (n ≡ 999999)) → n ≢ 999999
+pub roomy : {T : Type 0} (x : T) (n : ℕ) → ((◌≡◌ {A = Result T AddFault} (Ok x) (Err Limit)) ↔ (n ≡ MOST_VERSIONS)) → n ≢ MOST_VERSIONS
 roomy x n most full = (let wrong = most.1 full in absurd cc)
 
 -- a file that came by way of a draft is told, where files are
@@ -88,7 +90,7 @@ module _ (has_parts : (c : Contents) (bytes : List ℕ) (full : FullAs c bytes) 
     refused-as v q is ends = subst (λ (z : PlainFault). RecordsEnd files name h new (Some z)) (sym is) ends
 
     -- its records were not appended
-    pub records-failed : {T : Type 0} (e : AddFault) (v : PlainFault) → IsToldAs name e v → ((◌≡◌ {A = Result T AddFault} (Err e) (Err Limit)) ↔ (h.versions ≡ 999999))
+    pub records-failed : {T : Type 0} (e : AddFault) (v : PlainFault) → IsToldAs name e v → ((◌≡◌ {A = Result T AddFault} (Err e) (Err Limit)) ↔ (h.versions ≡ MOST_VERSIONS))
         → ((bytes : List ℕ) (rules : List PlainRule) (vs : List PlainKeyed) → TellsFront told name h.length bytes → IsHeaderOf h bytes → SoundAs rules vs bytes → e ≢ Damage)
         → ((bytes : List ℕ) (rules : List PlainRule) (vs : List PlainKeyed) → TellsFront told name h.length bytes → IsHeaderOf h bytes → SoundAs rules vs bytes → IfTooLong e ((file : List ℕ) → ¬ FileOf rules (vs ++ new ∷ []) file))
         → RecordsEnd files name h new (Some v)
@@ -96,9 +98,9 @@ module _ (has_parts : (c : Contents) (bytes : List ℕ) (full : FullAs c bytes) 
         refused-as v (damaged name) is (inr ((λ full. (let wrong = most.1 full in absurd cc)), inl (refl, (λ c a. undamaged front.core c.rules c.versions at-front heads (sound-front c a) refl))))
     records-failed Damage v (inr is) most undamaged long = subst (λ (z : PlainFault). RecordsEnd files name h new (Some z)) (sym is) tt
     records-failed Folder v is most undamaged long = subst (λ (z : PlainFault). RecordsEnd files name h new (Some z)) (sym is) tt
-    records-failed Limit v is most undamaged long = refused-as v (limit versions 999999) is (inl (most.0 refl, refl))
+    records-failed Limit v is most undamaged long = refused-as v (limit versions MOST_VERSIONS) is (inl (most.0 refl, refl))
     records-failed TooLong v is most undamaged long =
-        refused-as v (limit archive 274877906944) is (inr ((λ full. (let wrong = most.1 full in absurd cc)), inr (refl, (λ c a. long front.core c.rules c.versions at-front heads (sound-front c a)))))
+        refused-as v (limit archive LONGEST) is (inr ((λ full. (let wrong = most.1 full in absurd cc)), inr (refl, (λ c a. long front.core c.rules c.versions at-front heads (sound-front c a)))))
     records-failed Memory v is most undamaged long = subst (λ (z : PlainFault). RecordsEnd files name h new (Some z)) (sym is) tt
 
     -- over a sound archive what was read is little ahead
@@ -141,7 +143,7 @@ module _ (has_parts : (c : Contents) (bytes : List ℕ) (full : FullAs c bytes) 
       pub notes-damaged : (q : Refusal) → NotesEnd files name parts h.versions (Some (refused q)) → IsDamaged files name q
       notes-damaged q d = (d.0, (λ c a. (let wrong : None ≡ Some c.notes = sym d.1 ∙ read-notes c a in absurd cc)))
 
-      pub notes-stopped : (note : List ℕ) (after : Option Files) (v : PlainFault) → h.versions ≢ 999999 → NotesEnd files name parts h.versions (Some v) → AddEnds files name h new note after (Some v)
+      pub notes-stopped : (note : List ℕ) (after : Option Files) (v : PlainFault) → h.versions ≢ MOST_VERSIONS → NotesEnd files name parts h.versions (Some v) → AddEnds files name h new note after (Some v)
       notes-stopped note after (refused q) room d = inr (room, inl (notes-damaged q d))
       notes-stopped note after folder_fault room d = tt
       notes-stopped note after out_fault room d = tt
@@ -149,7 +151,7 @@ module _ (has_parts : (c : Contents) (bytes : List ℕ) (full : FullAs c bytes) 
       notes-stopped note after memory room d = tt
 
       -- the new file came
-      pub ends-added : (note : List ℕ) (draft mid last : Option (List ℕ)) (between after : Option Files) → IsNote note → h.versions ≢ 999999 → Appended h name new told draft mid → between ≡ told
+      pub ends-added : (note : List ℕ) (draft mid last : Option (List ℕ)) (between after : Option Files) → IsNote note → h.versions ≢ MOST_VERSIONS → Appended h name new told draft mid → between ≡ told
           → GainsNotes between name parts h.versions note mid last → after ≡ committed told last name → AddEnds files name h new note after None
       ends-added note draft mid last between after is room added same gains stored = (
         room,

@@ -15,6 +15,7 @@ use Rattle.version_notes.specs.Writer.{PlainWriter, after, after_all, all_append
 use Rattle.version_notes.specs.declared.fault.NotesFault.{NotesFault}
 use Rattle.version_notes.specs.declared.fault.NotesFault.TheVariants.{Damage, Folder, Memory}
 use Rattle.version_notes.specs.declared.parts.Parts.{Parts}
+use Rattle.version_notes.specs.declared.limits.TheConstants.{LONGEST_NOTE}
 use Rattle.xarch_words.specs.Refusal as refusal
 use Rattle.xarch_words.specs.Refusal.{damaged, Refusal, limit, PlainFault, refused, folder_fault, out_fault, in_fault, memory}
 use Rattle.xarch_words.specs.View.{fault_view}
@@ -52,7 +53,7 @@ both-true false b e = absurd cc
 -- a note that is text
 pub is-note : (note : List ℕ) → IsUtf8 note → IsTrue (is_note note) → IsNote note
 is-note note utf8 is =
-    let short = leb-true (length note) 1024 (both-true (nat_le (length note) 1024) (is_printed note) is) in
+    let short = leb-true (length note) LONGEST_NOTE (both-true (nat_le (length note) LONGEST_NOTE) (is_printed note) is) in
     (record { short = omega (arith, short); utf8 = utf8 }, is)
 
 -- ---- where a reader begins
@@ -159,11 +160,11 @@ short-by : (b : Bool) (n m : ℕ) (r : Refusal) → ◌≡◌ {A = Result ℕ Re
 short-by true n m r e = refl
 short-by false n m r e = absurd cc
 
-pub note-refused : (text : List ℕ) (v : PlainFault) → IsDefined (at_most refusal.note 1024 (length text)) v → IsDefined (short_note text) v
-note-refused text v e = refused-by (nat_le (length text) 1024) (length text) (limit refusal.note 1024) v e
+pub note-refused : (text : List ℕ) (v : PlainFault) → IsDefined (at_most refusal.note LONGEST_NOTE (length text)) v → IsDefined (short_note text) v
+note-refused text v e = refused-by (nat_le (length text) LONGEST_NOTE) (length text) (limit refusal.note LONGEST_NOTE) v e
 
-pub note-short : (text : List ℕ) (m : ℕ) → at_most refusal.note 1024 (length text) ≡ Ok m → short_note text ≡ Ok tt
-note-short text m e = short-by (nat_le (length text) 1024) (length text) m (limit refusal.note 1024) e
+pub note-short : (text : List ℕ) (m : ℕ) → at_most refusal.note LONGEST_NOTE (length text) ≡ Ok m → short_note text ≡ Ok tt
+note-short text m e = short-by (nat_le (length text) LONGEST_NOTE) (length text) m (limit refusal.note LONGEST_NOTE) e
 
 -- one that is not, and that is printed, is a note
 both : (a b : Bool) → a ≡ true → b ≡ true → (a && b) ≡ true
@@ -171,5 +172,5 @@ both true true p q = refl
 both true false p q = absurd cc
 both false b p q = absurd cc
 
-pub note-is : (text : List ℕ) → IsTrue (is_printed text) → length text ≤ 1024 → IsTrue (is_note text)
-note-is text printed short = both (nat_le (length text) 1024) (is_printed text) (le-leb (length text) 1024 short) printed
+pub note-is : (text : List ℕ) → IsTrue (is_printed text) → length text ≤ LONGEST_NOTE → IsTrue (is_note text)
+note-is text printed short = both (nat_le (length text) LONGEST_NOTE) (is_printed text) (le-leb (length text) LONGEST_NOTE short) printed

@@ -27,13 +27,14 @@ use Rattle.std.specs.Result.{IsErrAnd}
 use Rattle.xarch_words.specs.Refusal.{document, PlainFault, folder_fault}
 use Rattle.xarch_words.specs.View.{fault_view}
 use Rattle.xarch_words.specs.declared.fault.Fault.{Fault}
+use Rattle.xarch_words.specs.declared.limits.TheConstants.{DOCUMENT}
 use Rattle.xarch_parts.specs.Ends.{fault_of}
 use Rattle.xarch_parts.specs.Inputs.{length_in, size_in}
 use Rattle.xarch_meanings.specs.OnePass.{OnePass, document_size, front_size, or_zero}
 use Rattle.xarch_writes.specs.Added.{most_ahead}
 
 -- a length that a document may have is what is read of it
-pub size-of : (files : Files) (doc : List ℕ) (n : ℕ) → length_in files doc document 67108864 ≡ Ok n → n ≡ document_size files doc
+pub size-of : (files : Files) (doc : List ℕ) (n : ℕ) → length_in files doc document DOCUMENT ≡ Ok n → n ≡ document_size files doc
 size-of files doc n e = sym (ap or_zero e)
 
 -- the folder failed

@@ -9,7 +9,9 @@ use Rattle.key_rules.specs.Faults.{PlainKeyFault}
 use Rattle.keyed_tree.specs.Data.{PlainKeyed}
 use Rattle.archive_tree.specs.Data.{PlainArchive}
 use Rattle.archive_tree.specs.Stands.{ArchiveOf}
+use Rattle.record_parts.specs.declared.limits.TheConstants.{MOST_VERSIONS}
 use Rattle.record_format.specs.Files.{FileOf}
+use Rattle.record_format.specs.declared.limits.TheConstants.{LONGEST}
 use Rattle.archive_file.specs.Sound.{SoundAs}
 use Rattle.archive_rekey.specs.Rekeyed.{AreRekeyed, IsArchiveUnder}
 use Rattle.version_notes.specs.Notes.{IsNote, are_empty, notes_part}
@@ -23,6 +25,7 @@ use Rattle.xarch_words.specs.Commands.{rekey}
 use Rattle.xarch_words.specs.Refusal.{archive, Refusal, key_fault_in, limit, PlainFault, refused, memory}
 use Rattle.xarch_words.specs.View.{fault_view}
 use Rattle.xarch_words.specs.declared.fault.Fault.{Fault}
+use Rattle.xarch_words.specs.declared.limits.TheConstants.{SPECIFICATION}
 use Rattle.xarch_parts.specs.Archives.{ArchiveIs, CoreIs, GoesOn, IsRefusal, NoRefusal, PartsAre}
 use Rattle.xarch_parts.specs.CoreLaws.{core-sound, of-parts, same-file}
 use Rattle.xarch_parts.specs.Folders.{ReadsOnly}
@@ -53,7 +56,7 @@ module _ (rules : List PlainRule) (vs : List PlainKeyed) (a : PlainArchive) (und
   filed bytes sound = record { versions = under.versions; are = under.are; sound = sound under.versions under.archive }
 
   -- it has none
-  pub unfiled : {T : Type 0} (r : Result T Fault) (q : Refusal) → IfErr r (λ f. IsRefusal (limit archive 274877906944) (fault_view f))
+  pub unfiled : {T : Type 0} (r : Result T Fault) (q : Refusal) → IfErr r (λ f. IsRefusal (limit archive LONGEST) (fault_view f))
       → ((us : List PlainKeyed) (bytes : List ℕ) → ArchiveOf us a → FileOf rules us bytes → IfErr r (λ f. NoRefusal (fault_view f)))
       → IfErr r (λ f. fault_view f ≡ refused q → IsUnkeyed rules vs q)
   unfiled (Ok x) q only none = tt
@@ -90,7 +93,7 @@ module _ (files : Files) (name : List ℕ) (parts : Parts) (are : PartsAre files
   )
 
 -- notes that were read can be appended
-pub can-follow : (notes : List (List ℕ)) (n : ℕ) (there : Option ℕ) (noted : Bool) → length notes ≡ n → n ≤ 999999 → AllByRecursion IsNote notes → IfSome there (λ k. are_empty notes ≡ false) → (noted ≡ true → IsSome there) → CanFollow noted notes
+pub can-follow : (notes : List (List ℕ)) (n : ℕ) (there : Option ℕ) (noted : Bool) → length notes ≡ n → n ≤ MOST_VERSIONS → AllByRecursion IsNote notes → IfSome there (λ k. are_empty notes ≡ false) → (noted ≡ true → IsSome there) → CanFollow noted notes
 can-follow notes n None noted count few each some known = record { few = omega (arith, count, few); each = each; some = λ e. (let wrong = known e in absurd cc) }
 can-follow notes n (Some k) noted count few each some known = record { few = omega (arith, count, few); each = each; some = λ e. some }
 
@@ -104,9 +107,9 @@ many rules (v ∷ vs) (k ∷ ks) h = (let rest = many rules vs ks h.1 in omega (
 
 -- what only read, behind a call that kept files
 pub reads-sized : {S : Type 0} {files : S → Option Files} {draft : S → Option (List ℕ)} {numbers : S → Numbers} {faults : S → ℕ} (name : List ℕ) (a b c : S) (v : Option PlainFault) → files b ≡ files a
-    → ReadsOnly files draft numbers faults (size_in (files b) name + (16 + 1048576 + size_in (files b) name)) b c v
-    → ReadsOnly files draft numbers faults (size_in (files a) name + (16 + 1048576 + size_in (files a) name)) b c v
-reads-sized {S} {files} {draft} {numbers} {faults} name a b c v same p = subst (λ f. ReadsOnly files draft numbers faults (size_in f name + (16 + 1048576 + size_in f name)) b c v) same p
+    → ReadsOnly files draft numbers faults (size_in (files b) name + (16 + SPECIFICATION + size_in (files b) name)) b c v
+    → ReadsOnly files draft numbers faults (size_in (files a) name + (16 + SPECIFICATION + size_in (files a) name)) b c v
+reads-sized {S} {files} {draft} {numbers} {faults} name a b c v same p = subst (λ f. ReadsOnly files draft numbers faults (size_in f name + (16 + SPECIFICATION + size_in f name)) b c v) same p
 
 module _ (files : Files) (name spec : List ℕ) where
   -- a refusal before the archive is read

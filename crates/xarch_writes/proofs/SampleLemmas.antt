@@ -15,6 +15,8 @@ use Rattle.keyed_tree.specs.declared.keyed.Keyed.{Keyed}
 use Rattle.archive_tree.specs.Data.{PlainArchive}
 use Rattle.keyed_tree.specs.Alike.{AllAlike}
 use Rattle.archive_tree.specs.Stands.{ArchiveOf}
+use Rattle.xarch_words.specs.declared.limits.TheConstants.{DEMO}
+use Rattle.record_parts.specs.declared.limits.TheConstants.{MOST_VERSIONS}
 use Rattle.nested_merge.specs.Alike.{AlikeAll}
 use Rattle.archive_file.specs.KeyedBy.{IsKeyedBy, AreKeyedBy}
 use Rattle.xarch_gen.specs.Company.{company_rules}
@@ -52,7 +54,7 @@ module _ (seed n : ℕ) (k : PlainKeyed) (tree : k ≡ sample_tree seed (n + 1))
     all_keyed = all_behind (IsKeyedBy company_rules) (samples seed n) k sampled.keyed keyed
 
     -- there is room for it
-    pub room : n < 1000 → a.n < 4294967295
+    pub room : n < DEMO → a.n < 4294967295
     room few =
         let count : length (samples seed n) ≡ a.n = sampled.archive.count in
         let many : length (samples seed n) ≡ n = length-map-range_with_len (sample_tree seed) 1 n in
@@ -75,7 +77,7 @@ module _ (seed n : ℕ) (k : PlainKeyed) (tree : k ≡ sample_tree seed (n + 1))
 
 -- ---- the archive of all documents
 
-pub few_versions : (seed count : ℕ) (a : PlainArchive) → IsSampleArchive seed count a → count ≤ 1000 → a.n ≤ 999999
+pub few_versions : (seed count : ℕ) (a : PlainArchive) → IsSampleArchive seed count a → count ≤ DEMO → a.n ≤ MOST_VERSIONS
 few_versions seed count a sampled few =
     let versions : length (samples seed count) ≡ a.n = sampled.archive.count in
     let many : length (samples seed count) ≡ count = length-map-range_with_len (sample_tree seed) 1 count in

@@ -7,8 +7,10 @@ use Rattle.key_spec.specs.Data.{PlainRule}
 use Rattle.keyed_tree.specs.Data.{PlainKeyed}
 use Rattle.archive_tree.specs.Data.{PlainArchive}
 use Rattle.archive_tree.specs.Stands.{ArchiveOf}
+use Rattle.record_parts.specs.declared.limits.TheConstants.{MOST_VERSIONS}
 use Rattle.record_cursor.specs.View.{PlainHeader, header_view}
 use Rattle.record_format.specs.Files.{FileOf, header_bytes, largest}
+use Rattle.record_format.specs.declared.limits.TheConstants.{LONGEST}
 use Rattle.stream_merge.specs.declared.fault.AddFault.{AddFault}
 use Rattle.stream_merge.specs.declared.fault.AddFault.TheVariants.{Damage, Folder, Limit, TooLong, Memory}
 use Rattle.noted_file.specs.Contents.{Contents, with_version}
@@ -16,7 +18,7 @@ use Rattle.noted_file.specs.Full.{FullAs}
 use Rattle.xarch_words.specs.Refusal.{archive, versions, Refusal, damaged, limit, PlainFault, refused, folder_fault, memory}
 use Rattle.xarch_parts.specs.Archives.{ArchiveIs}
 use Rattle.xarch_parts.specs.Ends.{IsDefined, TellsOnly}
-use Rattle.xarch_parts.specs.declared.fronts.Front.{Front}
+use Rattle.xarch_parts.specs.declared.front.Front.{Front}
 
 -- the rules and the number of versions that a header gives, and the bytes of a document
 abbrev pub read_view : Front → List ℕ → (List PlainRule × ℕ) × List ℕ
@@ -26,8 +28,8 @@ read_view front bytes = (((header_view front.header).rules, (header_view front.h
 abbrev pub IsToldAs : List ℕ → AddFault → PlainFault → Type 0
 IsToldAs name Damage fault = (fault ≡ refused (damaged name)) ⊎ (fault ≡ memory)
 IsToldAs name Folder fault = fault ≡ folder_fault
-IsToldAs name Limit fault = fault ≡ refused (limit versions 999999)
-IsToldAs name TooLong fault = fault ≡ refused (limit archive 274877906944)
+IsToldAs name Limit fault = fault ≡ refused (limit versions MOST_VERSIONS)
+IsToldAs name TooLong fault = fault ≡ refused (limit archive LONGEST)
 IsToldAs name Memory fault = fault ≡ memory
 
 -- A file came under the name, which is that of the versions and the new one, with their notes and the new one's, where the archive was sound.
@@ -44,21 +46,21 @@ IsDamaged files name q = (q ≡ damaged name) × ((c : Contents) → ¬ ArchiveI
 abbrev pub IsUnmerged : Files → List ℕ → PlainKeyed → Refusal → Type 0
 IsUnmerged files name new q =
     IsDamaged files name q
-    ⊎ ((q ≡ limit archive 274877906944) × ((c : Contents) → ArchiveIs files name c → (bytes : List ℕ) → ¬ FileOf c.rules (c.versions ++ new ∷ []) bytes))
+    ⊎ ((q ≡ limit archive LONGEST) × ((c : Contents) → ArchiveIs files name c → (bytes : List ℕ) → ¬ FileOf c.rules (c.versions ++ new ∷ []) bytes))
 
 -- The new version is refused. The limit of versions is judged first.
 abbrev pub IsNotAdded : Files → List ℕ → PlainHeader → PlainKeyed → Refusal → Type 0
-IsNotAdded files name h new q = ((h.versions ≡ 999999) × (q ≡ limit versions 999999)) ⊎ ((h.versions ≢ 999999) × IsUnmerged files name new q)
+IsNotAdded files name h new q = ((h.versions ≡ MOST_VERSIONS) × (q ≡ limit versions MOST_VERSIONS)) ⊎ ((h.versions ≢ MOST_VERSIONS) × IsUnmerged files name new q)
 
 -- with what the merge of a new version ends
 abbrev pub AddEnds : Files → List ℕ → PlainHeader → PlainKeyed → List ℕ → Option Files → Option PlainFault → Type 0
-AddEnds files name h new note after None = (h.versions ≢ 999999) × Replaces files name new note after
+AddEnds files name h new note after None = (h.versions ≢ MOST_VERSIONS) × Replaces files name new note after
 AddEnds files name h new note after (Some (refused q)) = IsNotAdded files name h new q
 AddEnds files name h new note after (Some other) = ⊤
 
 -- with what its records end, before its notes
 abbrev pub RecordsEnd : Files → List ℕ → PlainHeader → PlainKeyed → Option PlainFault → Type 0
-RecordsEnd files name h new None = h.versions ≢ 999999
+RecordsEnd files name h new None = h.versions ≢ MOST_VERSIONS
 RecordsEnd files name h new (Some (refused q)) = IsNotAdded files name h new q
 RecordsEnd files name h new (Some other) = ⊤
 

@@ -5,6 +5,7 @@ use Rattle.key_spec.specs.Data.{PlainRule}
 use Rattle.key_rules.specs.Faults.{PlainKeyFault}
 use Rattle.keyed_tree.specs.Data.{PlainKeyed}
 use Rattle.record_format.specs.Files.{FileOf}
+use Rattle.record_format.specs.declared.limits.TheConstants.{LONGEST}
 use Rattle.archive_file.specs.Sound.{SoundAs}
 use Rattle.archive_rekey.specs.Rekeyed.{AreRekeyed, IsFirstBad}
 use Rattle.xarch_words.specs.Refusal.{archive, Refusal, damaged, key_fault_in, limit}
@@ -30,7 +31,7 @@ pub record AreTooLong (rules : List PlainRule) (vs : List PlainKeyed) (q : Refus
   pub versions : List PlainKeyed
   pub are : AreRekeyed rules vs versions
   pub none : (bytes : List ℕ) → ¬ FileOf rules versions bytes
-  pub is : q ≡ limit archive 274877906944
+  pub is : q ≡ limit archive LONGEST
 
 abbrev pub IsUnkeyed : List PlainRule → List PlainKeyed → Refusal → Type 0
 IsUnkeyed rules vs q = IsBadTold rules vs q ⊎ AreTooLong rules vs q

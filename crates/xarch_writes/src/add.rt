@@ -1,6 +1,6 @@
 #![tactic(auto, using(xarch_parts::specs::EndLaws::endings), unfolding(xarch_parts::specs::Ends::IsInside, xarch_parts::specs::Ends::IsDefined))]
 
-ghost use Rattle.std.specs.Prelude.{◌≡◌, ◌≢◌, ◌-◌, ◌+◌, ◌^◌, ◌<◌, ◌≤◌, ℕ, Some, Ok, IfOk, IfSome, OnOk, IsTrue, length};
+ghost use Rattle.std.specs.Prelude.{◌≡◌, ◌≢◌, ◌-◌, ◌+◌, ◌≤◌, ℕ, Some, Ok, IfOk, OnOk, IsTrue, length};
 ghost use Rattle.xa_outside.specs.Folder.{Files, IsBlank};
 ghost use Rattle.xa_outside.specs.Numbers.{PullsAtMost};
 ghost use Rattle.xa_outside.specs.Taken.{Taken};
@@ -11,9 +11,11 @@ ghost use Rattle.keyed_tree.specs.Plain.{plain};
 ghost use Rattle.archive_file.specs.KeyedBy.{IsKeyedBy};
 ghost use Rattle.record_cursor.specs.View.{header_view, IsHeader};
 ghost use Rattle.version_notes.specs.Notes.{is_note, is_printed};
+ghost use Rattle.version_notes.specs.declared.limits.TheConstants.{LONGEST_NOTE};
 ghost use Rattle.noted_file.specs.Contents.{Contents};
 ghost use Rattle.xarch_words.specs.Commands.{add};
 ghost use Rattle.xarch_words.specs.View.{fault_view, note_view};
+ghost use Rattle.xarch_words.specs.declared.limits.TheConstants.{DOCUMENT};
 ghost use Rattle.xarch_meanings.specs.Add.{tree_of};
 ghost use Rattle.stream_merge.specs.Added.{Appended, Overfull};
 ghost use Rattle.stream_merge.specs.Short.{IsShortTree};
@@ -30,21 +32,23 @@ ghost use Rattle.xarch_parts.specs.Noted.{AreWithin, notes_bytes};
 ghost use Rattle.xarch_parts.specs.Outcome.{and_then};
 ghost use Rattle.xarch_meanings.specs.Plausible.{text_behind, text_read};
 ghost use Rattle.xarch_parts.specs.Readings.{front_in};
+ghost use Rattle.record_parts.specs.declared.limits.TheConstants.{MOST_VERSIONS};
 
 use crate::notes::append_notes;
 use key_annotate::LentKeyed;
 use noted_file::{full_files_are_read_note_by_note, full_files_have_parts};
 use record_cursor::{Cursor, Header, files_give_their_items};
-use record_format::versions_have_one_file;
+use record_format::{LONGEST, versions_have_one_file};
+use record_parts::MOST_VERSIONS;
 use std::alloc::Global;
 use stream_merge::{AddFault, stream_append};
+use version_notes::LONGEST_NOTE;
 use xa_outside::Folder;
-use xarch_meanings::limits;
 use xarch_parts::{
     Front, at_most, begin, commit, damaged, doc_from, keyed_from, length_of, limited_length,
     read_front, read_whole,
 };
-use xarch_words::{Fault, Quantity};
+use xarch_words::{Fault, Quantity, limits};
 
 /// Adds a document to an archive as its next version, with a note: an empty one where none is
 /// given.
@@ -99,9 +103,9 @@ fn add_noted<F: Folder>(
 fn check_note(note: &str) -> Result<(), Fault>
     ensures cause { IsInside (fault_of result) }
     ensures told { Matches (λ _. tt) (short_note note.now) result }
-    ensures short { OnOk result (length note.now ≤ 1024) }
+    ensures short { OnOk result (length note.now ≤ LONGEST_NOTE) }
 {
-    at_most(note.len() as u64, Quantity::Note, limits::NOTE)?;
+    at_most(note.len() as u64, Quantity::Note, LONGEST_NOTE as u64)?;
     Ok(())
 }
 
@@ -113,7 +117,7 @@ fn read_added<F: Folder>(
     folder: &mut F,
 ) -> Result<(Front, Vec<u8>), Fault>
     ensures reads { ReadsOnly F.files F.draft F.numbers F.faults
-        (size_in (F.files folder.old) archive.now + (16 + 67108864))
+        (size_in (F.files folder.old) archive.now + (16 + DOCUMENT))
         folder.old folder.new (fault_of result) }
     ensures told { (files : Files) → F.files folder.old ≡ Some files
         → Matches (λ r. read_view r.0 r.1.items) (text_read files archive.now doc.now) result }
@@ -126,10 +130,9 @@ fn read_added<F: Folder>(
         (F.numbers folder.old) (F.numbers folder.new) }
     ensures once { IfOk result (λ r.
         AreWithin (size_in (F.files folder.old) archive.now) r.0.parts
-        × PullsAtMost (16 + (header_view r.0.header).first + 67108864)
+        × PullsAtMost (16 + (header_view r.0.header).first + DOCUMENT)
         (F.numbers folder.old) (F.numbers folder.new)) }
-    ensures known { IfOk result (λ r. IsHeader (header_view r.0.header)
-        × ((header_view r.0.header).length ≡ r.0.parts.core) × (length r.1.items ≤ 67108864)) }
+    ensures known { IfOk result (λ r. length r.1.items ≤ DOCUMENT) }
 {
     let size = length_of(alloc, folder, archive)?;
     let doc_size = limited_length(alloc, folder, doc, Quantity::Document, limits::DOCUMENT)?;
@@ -146,8 +149,8 @@ fn read_text<F: Folder>(
     doc_size: u64,
     folder: &mut F,
 ) -> Result<(Front, Vec<u8>), Fault>
-    requires { doc_size ≤ 67108864 }
-    ensures reads { ReadsOnly F.files F.draft F.numbers F.faults (16 + size + 67108864)
+    requires { doc_size ≤ DOCUMENT }
+    ensures reads { ReadsOnly F.files F.draft F.numbers F.faults (16 + size + DOCUMENT)
         folder.old folder.new (fault_of result) }
     ensures told { (files : Files) → F.files folder.old ≡ Some files
         → file_length files archive.now ≡ Ok size → file_length files doc.now ≡ Ok doc_size
@@ -166,8 +169,7 @@ fn read_text<F: Folder>(
     ensures once { IfOk result (λ r. AreWithin size r.0.parts
         × PullsAtMost (16 + (header_view r.0.header).first + doc_size)
         (F.numbers folder.old) (F.numbers folder.new)) }
-    ensures known { IfOk result (λ r. IsHeader (header_view r.0.header)
-        × ((header_view r.0.header).length ≡ r.0.parts.core) × (length r.1.items ≤ 67108864)) }
+    ensures known { IfOk result (λ r. length r.1.items ≤ DOCUMENT) }
 {
     let front = read_front(alloc, folder, archive, size)?;
     let text = read_whole(alloc, folder, doc, doc_size)?;
@@ -186,10 +188,7 @@ fn add_text<F: Folder>(
     note: &str,
     folder: &mut F,
 ) -> Result<(), Fault>
-    requires header { IsHeader (header_view front.now.header) }
-    requires room { IfSome front.now.parts.notes
-        (λ n. front.now.parts.core + n < 2 ^ 64 - 16) }
-    requires short { length text.now ≤ 67108864 }
+    requires short { length text.now ≤ DOCUMENT }
     requires note { IsTrue (is_note note.now) }
     requires blank { IsBlank (F.draft folder.old) }
     ensures streams { Streams F.files F.draft F.numbers
@@ -205,7 +204,7 @@ fn add_text<F: Folder>(
         (F.files folder.new) (F.numbers folder.old) (F.numbers folder.new) (fault_of result) }
     ensures fills { (tree : PlainKeyed) (b : ℕ)
         → tree_of (header_view front.now.header).rules text.now ≡ Ok tree
-        → (header_view front.now.header).versions ≢ 999999 → IsLimited (fault_of result)
+        → (header_view front.now.header).versions ≢ MOST_VERSIONS → IsLimited (fault_of result)
         → (header_view front.now.header).length + 12 ≤ b → IsShortTree b tree
         → Overfull b (header_view front.now.header).rules
         ((header_view front.now.header).versions + 1) (F.draft folder.new) }
@@ -225,9 +224,6 @@ fn add_tree<F: Folder>(
     note: &str,
     folder: &mut F,
 ) -> Result<(), Fault>
-    requires header { IsHeader (header_view front.now.header) }
-    requires room { IfSome front.now.parts.notes
-        (λ n. front.now.parts.core + n < 2 ^ 64 - 16) }
     requires keyed { IsKeyedBy (header_view front.now.header).rules (lent_view new.now) }
     requires texts { AreTexts (plain (lent_view new.now)) }
     requires note { IsTrue (is_note note.now) }
@@ -242,7 +238,7 @@ fn add_tree<F: Folder>(
         → IsFrontOf files archive.now (header_view front.now.header)
         → Merges files archive.now (header_view front.now.header) (Ok (lent_view new.now)) note.now
         (F.files folder.new) (F.numbers folder.old) (F.numbers folder.new) (fault_of result) }
-    ensures fills { (b : ℕ) → (header_view front.now.header).versions ≢ 999999
+    ensures fills { (b : ℕ) → (header_view front.now.header).versions ≢ MOST_VERSIONS
         → IsLimited (fault_of result) → (header_view front.now.header).length + 12 ≤ b
         → IsShortTree b (lent_view new.now)
         → Overfull b (header_view front.now.header).rules
@@ -279,7 +275,7 @@ fn append_records<F: Folder>(
     ensures grows { Grows F.files F.draft F.numbers F.faults
         ((header_view header.now).length - (header_view header.now).first)
         folder.old folder.new (fault_of result) }
-    ensures room { OnOk result ((header_view header.now).versions ≢ 999999) }
+    ensures room { OnOk result ((header_view header.now).versions ≢ MOST_VERSIONS) }
     ensures appended { OnOk result (Appended (header_view header.now) archive.now
         (lent_view new.now) (F.files folder.old) (F.draft folder.old) (F.draft folder.new)) }
     ensures ends { (files : Files) → F.files folder.old ≡ Some files
@@ -290,7 +286,7 @@ fn append_records<F: Folder>(
         → IsFrontOf files archive.now (header_view header.now)
         → KeepsUp files archive.now (header_view header.now)
         (F.numbers folder.old) (F.numbers folder.new) (fault_of result) }
-    ensures fills { (b : ℕ) → (header_view header.now).versions ≢ 999999
+    ensures fills { (b : ℕ) → (header_view header.now).versions ≢ MOST_VERSIONS
         → IsLimited (fault_of result) → (header_view header.now).length + 12 ≤ b
         → IsShortTree b (lent_view new.now)
         → Overfull b (header_view header.now).rules ((header_view header.now).versions + 1)
@@ -316,11 +312,11 @@ fn told_fault(alloc: Global, archive: &str, fault: AddFault) -> Fault
         AddFault::Folder => Fault::FolderFault,
         AddFault::Limit => Fault::Limit {
             quantity: Quantity::Versions,
-            number: u64::from(limits::VERSIONS),
+            number: u64::from(MOST_VERSIONS),
         },
         AddFault::TooLong => Fault::Limit {
             quantity: Quantity::Archive,
-            number: limits::ARCHIVE,
+            number: LONGEST,
         },
         AddFault::Memory => Fault::Memory,
     }

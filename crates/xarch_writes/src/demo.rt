@@ -12,12 +12,14 @@ ghost use Rattle.key_rules.specs.Satisfies.{Satisfies};
 ghost use Rattle.archive_tree.specs.ArchiveView.{archive_view};
 ghost use Rattle.archive_file.specs.KeyedBy.{IsKeyedBy};
 ghost use Rattle.record_format.specs.Files.{FileOf};
+ghost use Rattle.record_format.specs.declared.limits.TheConstants.{LONGEST};
 ghost use Rattle.archive_stats.specs.View.{counts_view};
 ghost use Rattle.xarch_gen.specs.Company.{company_rules};
 ghost use Rattle.xarch_words.specs.Commands as commands;
 ghost use Rattle.xarch_words.specs.Refusal as refusal;
 ghost use Rattle.xarch_words.specs.Refusal.{Refusal, refused};
 ghost use Rattle.xarch_words.specs.View.{fault_view};
+ghost use Rattle.xarch_words.specs.declared.limits.TheConstants.{DEMO};
 ghost use Rattle.xarch_parts.specs.Archives.{IsRefusal};
 ghost use Rattle.xarch_meanings.specs.Demo.{IsSampleArchive, IsSampleFile, MakesOrNone, sample_tree, samples, told_and_stored};
 ghost use Rattle.xarch_parts.specs.Ends.{EndsGained, IsCaused, IsInside, Matches, fault_of};
@@ -37,9 +39,9 @@ use nested_merge::merge;
 use std::alloc::{AllocError, Global};
 use xa_outside::{Folder, Sink};
 use xarch_gen::{company_spec, sample};
-use xarch_meanings::{limits, write_counts};
+use xarch_meanings::write_counts;
 use xarch_parts::{at_most, begin, check_free, commit, draft, file_from};
-use xarch_words::{Fault, Quantity};
+use xarch_words::{Fault, Quantity, limits};
 
 /// Makes an archive of the first documents of a seed, and writes how much it holds before it is
 /// there.
@@ -70,7 +72,7 @@ fn make_sample<F: Folder, O: Sink>(
     folder: &mut F,
     out: &mut O,
 ) -> Result<(), Fault>
-    requires few { count ≤ 1000 }
+    requires few { count ≤ DEMO }
     requires blank { IsBlank (F.draft folder.old) }
     ensures writes { WritesOnly F.files F.draft F.numbers folder.old folder.new (fault_of result) }
     ensures caused { IsCaused (F.faults folder.old) (F.faults folder.new) (O.faults out.old)
@@ -109,9 +111,9 @@ fn tell_then_store<F: Folder, O: Sink>(
 /// Nothing, where there are not too many documents. It takes no memory.
 fn check_few(count: u32) -> Result<(), Fault>
     ensures cause { IsInside (fault_of result) }
-    ensures told { Matches (λ _. count) (Inputs.at_most refusal.demo 1000 count) result }
-    ensures bound { OnOk result (count ≤ 1000) }
-    ensures refused { IfErr result (λ f. fault_view f ≡ refused (refusal.limit refusal.demo 1000)) }
+    ensures told { Matches (λ _. count) (Inputs.at_most refusal.demo DEMO count) result }
+    ensures bound { OnOk result (count ≤ DEMO) }
+    ensures refused { IfErr result (λ f. fault_view f ≡ refused (refusal.limit refusal.demo DEMO)) }
 {
     at_most(u64::from(count), Quantity::Demo, limits::DEMO)?;
     Ok(())
@@ -119,11 +121,11 @@ fn check_few(count: u32) -> Result<(), Fault>
 
 /// The file of the first documents of a seed, and what is counted of it.
 fn sample_file(alloc: Global, seed: u32, count: u32) -> Result<(Vec<u8>, Counts), Fault>
-    requires { count ≤ 1000 }
+    requires { count ≤ DEMO }
     ensures cause { IsInside (fault_of result) }
     ensures made { IfOk result (λ r. IsSampleFile seed count r.0.items (counts_view r.1)) }
     ensures limit { IfErr result
-        (λ f. IsRefusal (refusal.limit refusal.archive 274877906944) (fault_view f)) }
+        (λ f. IsRefusal (refusal.limit refusal.archive LONGEST) (fault_view f)) }
     ensures too_long { (q : Refusal) (bytes : List ℕ)
         → IfErr result (λ f. fault_view f ≡ refused q
         → ¬ FileOf company_rules (samples seed count) bytes) }
@@ -140,7 +142,7 @@ fn sample_file(alloc: Global, seed: u32, count: u32) -> Result<(Vec<u8>, Counts)
 /// The archive of the first documents of a seed.
 fn sample_archive(alloc: Global, spec: &Spec, seed: u32, count: u32) -> Result<Archive, AllocError>
     requires rules { spec_view spec.now ≡ company_rules }
-    requires few { count ≤ 1000 }
+    requires few { count ≤ DEMO }
     ensures { IfOk result (λ a. IsSampleArchive seed count (archive_view a)) }
 {
     let mut archive = Archive::empty(alloc);
@@ -159,7 +161,7 @@ fn with_sample(
     before: u32,
 ) -> Result<Archive, AllocError>
     requires rules { spec_view spec.now ≡ company_rules }
-    requires few { before < 1000 }
+    requires few { before < DEMO }
     requires documents { IsSampleArchive seed before (archive_view archive) }
     ensures { IfOk result (λ a. IsSampleArchive seed (before + 1) (archive_view a)) }
 {
@@ -177,7 +179,7 @@ fn with_sample(
 fn sample_keyed(alloc: Global, spec: &Spec, seed: u32, document: u32) -> Result<Keyed, AllocError>
     requires rules { spec_view spec.now ≡ company_rules }
     requires first { 1 ≤ document }
-    requires last { document ≤ 1000 }
+    requires last { document ≤ DEMO }
     ensures tree { IfOk result (λ k. keyed_view k ≡ sample_tree seed document) }
     ensures keyed { IfOk result (λ k. IsKeyedBy company_rules (keyed_view k)) }
 {

@@ -5,6 +5,7 @@ ghost use Rattle.xa_outside.specs.Folder.{Files};
 ghost use Rattle.xa_outside.specs.Taken.{Taken};
 ghost use Rattle.key_spec.specs.View.{spec_view};
 ghost use Rattle.xarch_words.specs.Commands.{init};
+ghost use Rattle.xarch_words.specs.declared.limits.TheConstants.{SPECIFICATION};
 ghost use Rattle.xarch_parts.specs.Ends.{Matches, fault_of};
 ghost use Rattle.xarch_parts.specs.Folders.{ReadsOnly};
 ghost use Rattle.xarch_meanings.specs.Init.{init_rules};
@@ -15,9 +16,8 @@ use key_spec::Spec;
 use noted_file::sound_files_are_full;
 use std::alloc::Global;
 use xa_outside::Folder;
-use xarch_meanings::limits;
 use xarch_parts::{begin, check_free, file_from, limited_length, read_spec, store};
-use xarch_words::{Fault, Quantity};
+use xarch_words::{Fault, Quantity, limits};
 
 /// Makes an archive of no versions.
 pub fn run_init<F: Folder>(
@@ -44,7 +44,7 @@ fn new_rules<F: Folder>(
     spec: &str,
     folder: &mut F,
 ) -> Result<Spec, Fault>
-    ensures reads { ReadsOnly F.files F.draft F.numbers F.faults 1048576 folder.old folder.new
+    ensures reads { ReadsOnly F.files F.draft F.numbers F.faults SPECIFICATION folder.old folder.new
         (fault_of result) }
     ensures told { (files : Files) → F.files folder.old ≡ Some files
         → Matches spec_view (init_rules files archive.now spec.now) result }

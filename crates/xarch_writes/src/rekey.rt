@@ -8,11 +8,13 @@ ghost use Rattle.key_spec.specs.View.{spec_view};
 ghost use Rattle.keyed_tree.specs.Data.{PlainKeyed};
 ghost use Rattle.archive_tree.specs.ArchiveView.{archive_view};
 ghost use Rattle.archive_tree.specs.Stands.{ArchiveOf};
+ghost use Rattle.record_parts.specs.declared.limits.TheConstants.{MOST_VERSIONS};
 ghost use Rattle.archive_rekey.specs.Rekeyed.{SpellDocuments};
 ghost use Rattle.version_notes.specs.Notes.{notes_part};
 ghost use Rattle.xarch_words.specs.Commands.{rekey};
 ghost use Rattle.xarch_words.specs.Refusal.{Refusal, refused};
 ghost use Rattle.xarch_words.specs.View.{fault_view};
+ghost use Rattle.xarch_words.specs.declared.limits.TheConstants.{SPECIFICATION};
 ghost use Rattle.xarch_parts.specs.Archives.{CoreIs, PartsAre};
 ghost use Rattle.xarch_parts.specs.Ends.{IsInside, Matches, fault_of};
 ghost use Rattle.xarch_parts.specs.Folders.{ReadsOnly};
@@ -38,9 +40,8 @@ use noted_file::{
 use std::alloc::Global;
 use version_notes::Parts;
 use xa_outside::{Folder, ReadFault, read_front as read_bytes};
-use xarch_meanings::limits;
 use xarch_parts::{begin, damaged, length_of, limited_length, read_front, read_spec, store_noted};
-use xarch_words::{Fault, Quantity};
+use xarch_words::{Fault, Quantity, limits};
 
 /// Gives the versions of an archive the keys of another specification. Its notes stay.
 ///
@@ -76,7 +77,7 @@ fn new_file<F: Folder>(
 ) -> Result<Noted, Fault>
     ensures reads { ReadsOnly F.files F.draft F.numbers F.faults
         (size_in (F.files folder.old) archive.now
-        + (16 + 1048576 + size_in (F.files folder.old) archive.now))
+        + (16 + SPECIFICATION + size_in (F.files folder.old) archive.now))
         folder.old folder.new (fault_of result) }
     ensures file { (files : Files) → F.files folder.old ≡ Some files
         → IfOk result (λ r. MayBe files (rekey archive.now spec.now)
@@ -111,7 +112,7 @@ fn new_keys<F: Folder>(
     folder: &mut F,
 ) -> Result<(Parts, Spec), Fault>
     ensures reads { ReadsOnly F.files F.draft F.numbers F.faults
-        (size_in (F.files folder.old) archive.now + (16 + 1048576))
+        (size_in (F.files folder.old) archive.now + (16 + SPECIFICATION))
         folder.old folder.new (fault_of result) }
     ensures told { (files : Files) → F.files folder.old ≡ Some files
         → Matches (λ r. spec_view r.1) (rekey_rules files archive.now spec.now) result }
@@ -140,8 +141,8 @@ fn keys_behind<F: Folder>(
     length: u64,
     folder: &mut F,
 ) -> Result<(Parts, Spec), Fault>
-    requires { length ≤ 1048576 }
-    ensures reads { ReadsOnly F.files F.draft F.numbers F.faults (16 + size + 1048576)
+    requires { length ≤ SPECIFICATION }
+    ensures reads { ReadsOnly F.files F.draft F.numbers F.faults (16 + size + SPECIFICATION)
         folder.old folder.new (fault_of result) }
     ensures told { (files : Files) → F.files folder.old ≡ Some files
         → file_length files archive.now ≡ Ok size → file_length files spec.now ≡ Ok length
@@ -175,7 +176,7 @@ fn read_archive<F: Folder>(
     ensures damage { (files : Files) (q : Refusal) → F.files folder.old ≡ Some files
         → PartsAre files archive.now parts.now
         → IfErr result (λ f. fault_view f ≡ refused q → IsDamaged files archive.now q) }
-    ensures few { IfOk result (λ r. (archive_view r.0).n ≤ 999999) }
+    ensures few { IfOk result (λ r. (archive_view r.0).n ≤ MOST_VERSIONS) }
     ensures documents { IfOk result (λ r. (vs : List PlainKeyed)
         → ArchiveOf vs (archive_view r.0) → SpellDocuments vs) }
     ensures follow { IfOk result (λ r. (noted : Bool)
@@ -207,7 +208,7 @@ fn read_records<F: Folder>(
     ensures damage { (files : Files) (bytes : List ℕ) (q : Refusal)
         → F.files folder.old ≡ Some files → CoreIs files archive.now core bytes
         → IfErr result (λ f. fault_view f ≡ refused q → IsNoArchive archive.now bytes q) }
-    ensures few { IfOk result (λ a. (archive_view a).n ≤ 999999) }
+    ensures few { IfOk result (λ a. (archive_view a).n ≤ MOST_VERSIONS) }
     ensures documents { IfOk result (λ a. (vs : List PlainKeyed)
         → ArchiveOf vs (archive_view a) → SpellDocuments vs) }
 {
@@ -225,7 +226,7 @@ fn archive_from(alloc: Global, name: &str, bytes: &[u8]) -> Result<Archive, Faul
         → ArchiveOf vs (archive_view a) → IsSoundOf vs bytes.now) }
     ensures damage { (q : Refusal) → IfErr result (λ f. fault_view f ≡ refused q
         → IsNoArchive name.now bytes.now q) }
-    ensures few { IfOk result (λ a. (archive_view a).n ≤ 999999) }
+    ensures few { IfOk result (λ a. (archive_view a).n ≤ MOST_VERSIONS) }
     ensures documents { IfOk result (λ a. (vs : List PlainKeyed)
         → ArchiveOf vs (archive_view a) → SpellDocuments vs) }
 {
@@ -238,7 +239,7 @@ fn archive_from(alloc: Global, name: &str, bytes: &[u8]) -> Result<Archive, Faul
 
 // The file of the versions of an archive, under other keys.
 fn file_of_versions(alloc: Global, old: &Archive, spec: &Spec) -> Result<Vec<u8>, Fault>
-    requires few { (archive_view old.now).n ≤ 999999 }
+    requires few { (archive_view old.now).n ≤ MOST_VERSIONS }
     requires documents { (vs : List PlainKeyed) → ArchiveOf vs (archive_view old.now)
         → SpellDocuments vs }
     ensures cause { IsInside (fault_of result) }

@@ -4,8 +4,10 @@ ghost use Rattle.std.specs.Prelude.{◌≡◌, ◌≤◌, ℕ, List, IfOk, IfErr
 ghost use Rattle.key_spec.specs.View.{spec_view};
 ghost use Rattle.keyed_tree.specs.Data.{PlainKeyed};
 ghost use Rattle.archive_tree.specs.Stands.{ArchiveOf};
+ghost use Rattle.record_parts.specs.declared.limits.TheConstants.{MOST_VERSIONS};
 ghost use Rattle.spelled_archive.specs.ArchiveView.{spelled_archive_view};
 ghost use Rattle.record_format.specs.Files.{FileOf};
+ghost use Rattle.record_format.specs.declared.limits.TheConstants.{LONGEST};
 ghost use Rattle.archive_file.specs.KeyedBy.{AreKeyedBy};
 ghost use Rattle.archive_file.specs.Sound.{SoundAs};
 ghost use Rattle.xarch_words.specs.Refusal as refusal;
@@ -16,9 +18,9 @@ ghost use Rattle.xarch_parts.specs.Ends.{IsInside, fault_of};
 use archive_file::EncodeFault;
 use archive_rekey::encode_spelled;
 use key_spec::Spec;
+use record_format::LONGEST;
 use spelled_archive::SpelledArchive;
 use std::alloc::Global;
-use xarch_meanings::limits;
 use xarch_words::{Fault, Quantity};
 
 /// The bytes of the file of a spelled archive, or that they are more than a file may have.
@@ -27,7 +29,7 @@ pub(crate) fn file_from(
     spec: &Spec,
     archive: &SpelledArchive,
 ) -> Result<Vec<u8>, Fault>
-    requires few { (spelled_archive_view archive.now).n ≤ 999999 }
+    requires few { (spelled_archive_view archive.now).n ≤ MOST_VERSIONS }
     requires keyed { (vs : List PlainKeyed) → ArchiveOf vs (spelled_archive_view archive.now)
         → AreKeyedBy (spec_view spec.now) vs }
     ensures cause { IsInside (fault_of result) }
@@ -35,7 +37,7 @@ pub(crate) fn file_from(
         → ArchiveOf vs (spelled_archive_view archive.now)
         → SoundAs (spec_view spec.now) vs v.items) }
     ensures limit { IfErr result
-        (λ f. IsRefusal (refusal.limit refusal.archive 274877906944) (fault_view f)) }
+        (λ f. IsRefusal (refusal.limit refusal.archive LONGEST) (fault_view f)) }
     ensures too_long { (vs : List PlainKeyed) (bytes : List ℕ)
         → ArchiveOf vs (spelled_archive_view archive.now) → FileOf (spec_view spec.now) vs bytes
         → IfErr result (λ f. NoRefusal (fault_view f)) }
@@ -46,7 +48,7 @@ pub(crate) fn file_from(
         Ok(bytes) => Ok(bytes),
         Err(EncodeFault::TooLong) => Err(Fault::Limit {
             quantity: Quantity::Archive,
-            number: limits::ARCHIVE,
+            number: LONGEST,
         }),
         Err(EncodeFault::Memory) => Err(Fault::Memory),
     }

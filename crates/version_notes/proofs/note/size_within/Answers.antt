@@ -15,4 +15,4 @@ returns-in_default-2-clause-told c = λ piece size front. (
     let few = c.requires.front in
     let four : 4 ≤ length piece = omega (arith, few, ap length front, length-take 4 piece) in
     let is = size_is piece c.args.front.now _ c.in-Some.size four front c.in-Some.ensures.found in
-    too_long piece c.in-Some.size is (omega (arith, c.if-size-le-LONGEST.false)))
+    too_long piece c.in-Some.size is (omega (arith, c.if-size-le-LONGEST_NOTE.false)))

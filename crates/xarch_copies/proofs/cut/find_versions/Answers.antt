@@ -67,9 +67,9 @@ returns-in-Ok g c =
           let told2 = free.reads.same_files ∙ told1 in
           and_then-Ok _ _ c.in_ok-size.size _ (l.told files told) (and_then-Ok _ _ tt _ (free.told files told1) (and_then-Ok _ _ (h.rules, h.versions) _ (front.told files told2 (l.told files told)) (and_then-Ok _ _ tt _ c.in-Ok.ensures.told refl)));
       found = record {
-        before = stands-before (g.F.Folder.files c.args.folder.now) c.args.archive.now c.in_ok-size.size c.in_ok-front.front size front.header front.once.0 front.within (λ files told. front.front files (free.reads.same_files ∙ (l.reads.same_files ∙ told)) (l.told files told));
+        before = stands-before (g.F.Folder.files c.args.folder.now) c.args.archive.now c.in_ok-size.size c.in_ok-front.front size front.within (λ files told. front.front files (free.reads.same_files ∙ (l.reads.same_files ∙ told)) (l.told files told));
         from = c.in-Ok.ensures.within.0;
         most = c.in-Ok.ensures.within.1;
       };
-      once = PullsAtMost-more (0 + 0 + n) n _ _ (omega arith) (PullsAtMost-trans (0 + 0) n _ _ _ (PullsAtMost-trans 0 0 _ _ _ l.reads.pulls free.reads.pulls) front.once.1);
+      once = PullsAtMost-more (0 + 0 + n) n _ _ (omega arith) (PullsAtMost-trans (0 + 0) n _ _ _ (PullsAtMost-trans 0 0 _ _ _ l.reads.pulls free.reads.pulls) front.once);
     }

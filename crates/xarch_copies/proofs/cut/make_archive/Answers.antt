@@ -13,3 +13,9 @@ pub returns : goal.returns
 returns g c =
     makes-cut c.args.archive.now c.args.new.now c.args.front.now c.args.first c.args.last c.args.folder.now c.append_records.new.folder c.in_ok-append_records.ensures c.append_notes.new.folder c.in_ok-append_notes.ensures c.commit.new.folder c.commit.result
     (g.met.F.Folder.metered c.append_notes.new.folder) c.commit.ensures.writes c.commit.ensures.caused c.commit.ensures.committed c.commit.ensures.fault
+
+pub append_records-requires-clause-header : goal.append_records-requires-clause-header
+append_records-requires-clause-header g c = c.args.front.now.heads
+
+pub append_notes-requires-clause-room : goal.append_notes-requires-clause-room
+append_notes-requires-clause-room g c = c.args.front.now.room

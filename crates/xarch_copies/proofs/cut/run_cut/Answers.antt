@@ -71,8 +71,8 @@ returns g c =
     let name = c.args.archive.now in
     let new = c.args.new.now in
     let fits = found.before.within.within in
-    let within = found.before.header.within in
-    let core = found.before.core in
+    let within = c.in_ok-front.front.heads.within in
+    let core = c.in_ok-front.front.core in
     let same = ap (λ f. size_in f name) began.same_files in
     record {
       performs = λ t n. record {
@@ -96,8 +96,6 @@ pub make_archive-requires : goal.make_archive-requires
 make_archive-requires g c =
     let found = c.in_ok-front.ensures.found in
     record {
-      header = found.before.header;
-      room = found.before.within.room;
       blank = λ b e. c.in_ok-begin.ensures.begins.blank refl b (sym c.in_ok-front.ensures.reads.same_draft ∙ e);
       from = found.from;
       order = c.requires;

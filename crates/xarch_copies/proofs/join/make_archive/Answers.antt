@@ -14,3 +14,9 @@ pub returns : goal.returns
 returns g c =
     assembles-stored c.args.one.now c.args.two.now c.args.new.now c.args.both.now c.args.folder.now c.append_records.new.folder c.in_ok-append_records.ensures c.append_both.new.folder c.in_ok-append_both.ensures c.commit.new.folder c.commit.result
     (g.met.F.Folder.metered c.append_both.new.folder) c.commit.ensures.writes c.commit.ensures.caused c.commit.ensures.committed c.commit.ensures.fault
+
+pub append_records-requires-clause-first : goal.append_records-requires-clause-first
+append_records-requires-clause-first g c = c.args.both.now.one.heads
+
+pub append_records-requires-clause-second : goal.append_records-requires-clause-second
+append_records-requires-clause-second g c = c.args.both.now.two.heads

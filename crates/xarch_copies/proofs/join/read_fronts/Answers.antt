@@ -61,9 +61,12 @@ returns-in-Ok g c =
           and_then-Ok _ _ (h.rules, h.versions) _ (first.told files told (c.requires.first.is files told))
           (and_then-Ok _ _ (k.rules, k.versions) _ (second.told files (first.reads.same_files ∙ told) (c.requires.second.is files told)) (and_then-Ok _ _ tt _ c.in-Ok.ensures.told refl));
       found = record {
-        first = stands-before (g.F.Folder.files c.args.folder.now) c.args.one.now c.args.size one most first.header first.once.0 first.within (λ files told. first.front files told (c.requires.first.is files told));
-        second = stands-before (g.F.Folder.files c.args.folder.now) c.args.two.now c.args.other two more second.header second.once.0 second.within (λ files told. second.front files (first.reads.same_files ∙ told) (c.requires.second.is files told));
+        first = stands-before (g.F.Folder.files c.args.folder.now) c.args.one.now c.args.size one most first.within (λ files told. first.front files told (c.requires.first.is files told));
+        second = stands-before (g.F.Folder.files c.args.folder.now) c.args.two.now c.args.other two more second.within (λ files told. second.front files (first.reads.same_files ∙ told) (c.requires.second.is files told));
         together = c.in-Ok.ensures.together;
       };
-      once = PullsAtMost-more (n + m) (32 + h.first + k.first) _ _ (omega arith) (PullsAtMost-trans n m _ _ _ first.once.1 second.once.1);
+      once = PullsAtMost-more (n + m) (32 + h.first + k.first) _ _ (omega arith) (PullsAtMost-trans n m _ _ _ first.once second.once);
     }
+
+pub check_joinable-requires : goal.check_joinable-requires
+check_joinable-requires g c = record { first = c.in_ok-first.first.heads; second = c.in_ok-second.second.heads }

@@ -79,10 +79,10 @@ returns g c =
     let new = c.args.new.now in
     let fits = read.found.first.within.within in
     let fits2 = read.found.second.within.within in
-    let inside = read.found.first.header.within in
-    let inside2 = read.found.second.header.within in
-    let core = read.found.first.core in
-    let core2 = read.found.second.core in
+    let inside = both.one.heads.within in
+    let inside2 = both.two.heads.within in
+    let core = both.one.core in
+    let core2 = both.two.core in
     let same = ap (λ f. size_in f one) began.same_files in
     let same2 = ap (λ f. size_in f two) began.same_files in
     let least = 32 + h.first + k.first in
@@ -108,10 +108,6 @@ pub make_archive-requires : goal.make_archive-requires
 make_archive-requires g c =
     let found = c.in_ok-both.ensures.found in
     record {
-      first = found.first.header;
-      second = found.second.header;
       together = found.together;
-      room = found.first.within.room;
-      other_room = found.second.within.room;
       blank = λ b e. c.in_ok-begin.ensures.begins.blank refl b (sym c.in_ok-both.ensures.reads.same_draft ∙ e);
     }

@@ -2,10 +2,11 @@ use Rattle.std.proofs.Common.{List, length, ◌≤◌, arith}
 use Rattle.keyed_tree.specs.Data.{PlainKeyed}
 use Rattle.archive_tree.specs.Data.{PlainArchive}
 use Rattle.archive_tree.specs.Stands.{ArchiveOf}
+use Rattle.record_parts.specs.declared.limits.TheConstants.{MOST_VERSIONS}
 use Rattle.xarch_parts.proofs.archives.file_from.Goals as goal
 
 -- an archive has as many versions as it counts
-few_of : (vs : List PlainKeyed) (a : PlainArchive) → ArchiveOf vs a → a.n ≤ 999999 → length vs ≤ 999999
+few_of : (vs : List PlainKeyed) (a : PlainArchive) → ArchiveOf vs a → a.n ≤ MOST_VERSIONS → length vs ≤ MOST_VERSIONS
 few_of vs a h few = (let count = h.count in omega (arith, count, few))
 
 pub returns-in-Ok-clause-sound : goal.returns-in-Ok-clause-sound

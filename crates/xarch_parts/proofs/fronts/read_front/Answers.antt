@@ -27,7 +27,7 @@ returns-in-Ok-clause-front g c = λ files told long.
     (p, c.in-Ok.ensures.front files (take parts.core p.bytes) (c.in_ok-parts.ensures.reads.same_files ∙ told) (of-parts files c.args.name.now parts p))
 
 pub returns-in-Ok-clause-once : goal.returns-in-Ok-clause-once
-returns-in-Ok-clause-once g c = (c.in-Ok.ensures.once.0, PullsAtMost-trans 16 (header_view c.in-Ok.header).first _ _ _ c.in_ok-parts.ensures.reads.pulls c.in-Ok.ensures.once.1)
+returns-in-Ok-clause-once g c = PullsAtMost-trans 16 (header_view c.in-Ok.header).first _ _ _ c.in_ok-parts.ensures.reads.pulls c.in-Ok.ensures.once.1
 
 pub returns-in-Ok-clause-few : goal.returns-in-Ok-clause-few
 returns-in-Ok-clause-few g c = λ files held told long a.

@@ -54,7 +54,7 @@ returns-in_err-labels-clause-few g c = c.in_ok-front.ensures.few
 -- ---- both are read
 
 pub returns-clause-header : goal.returns-clause-header
-returns-clause-header g c = c.in_ok-front.ensures.header
+returns-clause-header g c = c.in_ok-front.front.heads
 
 pub returns-clause-reads : goal.returns-clause-reads
 returns-clause-reads g c = c.in_ok-front.ensures.reads
@@ -68,7 +68,7 @@ pub returns-clause-front : goal.returns-clause-front
 returns-clause-front g c = λ files told. (c.in_ok-front.ensures.front files told).1
 
 pub returns-clause-once : goal.returns-clause-once
-returns-clause-once g c = let once = c.in_ok-front.ensures.once in let core = once.0 in let in_all = c.in_ok-front.ensures.within.within in (omega (arith, core, in_all), once.1)
+returns-clause-once g c = let core = c.in_ok-front.front.core in let in_all = c.in_ok-front.ensures.within.within in (omega (arith, core, in_all), c.in_ok-front.ensures.once)
 
 pub returns-clause-few : goal.returns-clause-few
 returns-clause-few g c = c.in_ok-front.ensures.few

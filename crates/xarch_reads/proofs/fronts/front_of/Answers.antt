@@ -17,9 +17,6 @@ use Rattle.xarch_reads.proofs.fronts.front_of.Goals as goal
 behind-length : (n : ℕ) (a b c : Numbers) → PullsAtMost 0 a b → PullsAtMost n b c → PullsAtMost n a c
 behind-length n a b c p q = PullsAtMost-more (0 + n) n a c (omega arith) (PullsAtMost-trans 0 n a b c p q)
 
-pub returns-in_err-size-clause-header : goal.returns-in_err-size-clause-header
-returns-in_err-size-clause-header g c = IfOk-passed c.from_residual.result _ _ c.from_residual.ensures.1
-
 pub returns-in_err-size-clause-reads : goal.returns-in_err-size-clause-reads
 returns-in_err-size-clause-reads g c = reads-passed _ _ _ c.from_residual.result _ c.from_residual.ensures.1 (reads-more 0 _ _ _ _ (omega arith) c.in_err-size.ensures.reads)
 
@@ -38,9 +35,6 @@ returns-in_err-size-clause-once g c = IfOk-passed c.from_residual.result _ _ c.f
 pub returns-in_err-size-clause-few : goal.returns-in_err-size-clause-few
 returns-in_err-size-clause-few g c = λ files held told is. PullsAtMost-more 0 _ _ _ (omega arith) c.in_err-size.ensures.reads.pulls
 
-pub returns-clause-header : goal.returns-clause-header
-returns-clause-header g c = c.read_front.ensures.header
-
 pub returns-clause-reads : goal.returns-clause-reads
 returns-clause-reads g c = let size = c.in_ok-size.ensures.size in reads-then 0 (16 + c.in_ok-size.size) _ _ _ _ _ (omega (arith, size)) c.in_ok-size.ensures.reads c.read_front.ensures.reads
 
@@ -52,7 +46,7 @@ returns-clause-front g c = λ files told. c.read_front.ensures.front files (c.in
 
 pub returns-clause-once : goal.returns-clause-once
 returns-clause-once g c =
-    IfOk-weaker c.read_front.result _ _ (λ f is. (is.0, behind-length (16 + (header_view f.header).first) _ _ _ c.in_ok-size.ensures.reads.pulls is.1)) c.read_front.ensures.once
+    IfOk-weaker c.read_front.result _ _ (λ f is. behind-length (16 + (header_view f.header).first) _ _ _ c.in_ok-size.ensures.reads.pulls is) c.read_front.ensures.once
 
 pub returns-clause-few : goal.returns-clause-few
 returns-clause-few g c = λ files held told is.

@@ -49,9 +49,11 @@ returns-in-Ok g c =
     let parts = c.in_ok-front.front.parts in
     let name = c.args.archive.now in
     let l = rw c.in-Ok.ensures at c.list_versions.ensures in
+    let within = c.in_ok-front.front.heads.within in
+    let core = c.in_ok-front.front.core in
     record {
-      keeps = list-keeps g.F.Folder.files g.F.Folder.draft g.F.Folder.numbers g.F.Folder.faults g.O.Sink.taken g.O.Sink.faults name parts h.versions h.first _ _ _ _ _ _ _ _ f.reads f.once.1 (let within = f.header.within in let core = f.once.0 in omega (arith, within, core)) f.within l;
-      caused = list-caused g.F.Folder.files g.F.Folder.draft g.F.Folder.numbers g.F.Folder.faults g.O.Sink.taken g.O.Sink.faults name parts h.versions h.first _ _ _ _ _ _ _ _ f.reads f.once.1 (let within = f.header.within in let core = f.once.0 in omega (arith, within, core)) f.within l;
+      keeps = list-keeps g.F.Folder.files g.F.Folder.draft g.F.Folder.numbers g.F.Folder.faults g.O.Sink.taken g.O.Sink.faults name parts h.versions h.first _ _ _ _ _ _ _ _ f.reads f.once (omega (arith, within, core)) f.within l;
+      caused = list-caused g.F.Folder.files g.F.Folder.draft g.F.Folder.numbers g.F.Folder.faults g.O.Sink.taken g.O.Sink.faults name parts h.versions h.first _ _ _ _ _ _ _ _ f.reads f.once (omega (arith, within, core)) f.within l;
       may = λ files told.
           let told1 = f.reads.same_files ∙ told in
           list-ends c.full_files_have_parts.ensures.parts c.versions_have_one_file.ensures.header c.full_files_are_read_note_by_note.ensures.come files name (h.rules, h.versions) (f.told files told) parts (f.front files told).0 _ (l.same_files ∙ told1) _ _ l.gained _ (l.ends files told1);

@@ -6,7 +6,7 @@ use Rattle.xarch_run.specs.Batch.{scene}
 use Rattle.xarch_run.specs.Calls.{call_of}
 use Rattle.xarch_run.proofs.BatchFronts.{batch-did}
 use Rattle.xarch_run.proofs.CallLemmas.{single-did}
-use Rattle.xarch_run.proofs.CommandLemmas.{alone-counts, alone-fills, alone-late, alone-little, alone-once, alone-reads, batch-demo, batch-little, batch-none, none-alone, answer-calm, answer-folder, answer-input, answer-out, answer-words, batch-counts, batch-fails, batch-fills, batch-once, batch-reads, fails, holds, steady}
+use Rattle.xarch_run.proofs.CommandLemmas.{alone-counts, alone-fills, alone-late, alone-little, alone-once, alone-reads, alone-silent, batch-demo, batch-little, batch-none, batch-silent, none-alone, answer-calm, answer-folder, answer-input, answer-out, answer-words, batch-counts, batch-fails, batch-fills, batch-once, batch-reads, fails, holds, steady}
 use Rattle.xarch_run.proofs.program.run.Goals as goal
 
 -- ---- a batch
@@ -84,7 +84,13 @@ returns-then-is_batch-clause-folder_later g c = c.run_batch.ensures.folder.later
 pub returns-then-is_batch-clause-long_demo : goal.returns-then-is_batch-clause-long_demo
 returns-then-is_batch-clause-long_demo g c = λ seed count name is. absurd (batch-demo _ seed count name (holds _ _ c.if-is_batch.true c.is_batch.ensures) is)
 
+pub returns-then-is_batch-clause-silent : goal.returns-then-is_batch-clause-silent
+returns-then-is_batch-clause-silent g c = λ silent. absurd (batch-silent _ (holds _ _ c.if-is_batch.true c.is_batch.ensures) silent)
+
 -- ---- any other command
+
+pub returns-else-is_batch-clause-silent : goal.returns-else-is_batch-clause-silent
+returns-else-is_batch-clause-silent g c = alone-silent (command_of (words_view c.args.words.now)) _ c.take_step.ensures.silent
 
 pub returns-else-is_batch-clause-long_demo : goal.returns-else-is_batch-clause-long_demo
 returns-else-is_batch-clause-long_demo g c = c.take_step.ensures.long_demo

@@ -8,7 +8,7 @@ use Rattle.xarch_meanings.specs.Step.{single_of}
 use Rattle.xarch_meanings.specs.CommandLaws.{once_by}
 use Rattle.xarch_meanings.specs.FillsUp.{IsLimited}
 use Rattle.xarch_steps.proofs.Filling.{fills_by, limited-status}
-use Rattle.xarch_steps.proofs.Running.{complete-from, failed-some, folder_fault-caused, gained-any, gained-refused, long_demo-alone, out_fault-caused, says-fault, status_after-input, status_after-usage, Tried-from, Wrote-from}
+use Rattle.xarch_steps.proofs.Running.{complete-from, failed-some, folder_fault-caused, gained-any, gained-refused, long_demo-alone, out_fault-caused, out_fault-only, says-fault, status_after-input, status_after-usage, Tried-from, Wrote-from}
 use Rattle.xarch_steps.proofs.Succeeding.{succeeds-from}
 use Rattle.xarch_steps.proofs.step.take_step.Goals as goal
 
@@ -30,6 +30,9 @@ returns-clause-folder_fault g c = λ is. folder_fault-caused _ _ _ _ _ c.command
 
 pub returns-clause-out_fault : goal.returns-clause-out_fault
 returns-clause-out_fault g c = λ is. out_fault-caused _ _ _ _ _ c.command_words-ended.ensures.obeys.cause (sym c.finish.ensures.status ∙ is)
+
+pub returns-clause-silent : goal.returns-clause-silent
+returns-clause-silent g c = λ s is. c.command_words-ended.ensures.silent s (out_fault-only _ _ _ _ _ c.command_words-ended.ensures.obeys.cause (sym c.finish.ensures.status ∙ is))
 
 pub returns-clause-never_input_fault : goal.returns-clause-never_input_fault
 returns-clause-never_input_fault g c = λ is. status_after-input _ _ _ _ _ c.command_words-ended.ensures.obeys.cause (sym c.finish.ensures.status ∙ is)

@@ -4,6 +4,7 @@ use Rattle.xa_outside.specs.Numbers.{PullsAtMost}
 use Rattle.xa_outside.specs.NumberLaws.{PullsAtMost-none}
 use Rattle.xarch_words.specs.Commands.{add}
 use Rattle.xarch_words.specs.View.{fault_view}
+use Rattle.xarch_words.specs.declared.limits.TheConstants.{DOCUMENT}
 use Rattle.xarch_parts.specs.AllowedLaws.{MayEnd-passed, MayEnd-folder, defined_refused, gained-none}
 use Rattle.xarch_parts.specs.Archives.{short_note}
 use Rattle.xarch_parts.specs.Ends.{fault_of}
@@ -105,10 +106,10 @@ returns g c =
     record {
       performs = λ t n. record {
         keeps = let fits = read.once.0.within in
-            let within = read.known.0.within in
-            let long = read.known.1 in
+            let within = c.in_ok-front.front.heads.within in
+            let long = c.in_ok-front.front.core in
             let same = ap (λ f. size_in f c.args.archive.now) began.same_files in
-            streams-made _ _ (16 + h.first + 67108864) (h.length - h.first + notes_bytes parts.notes) _ _ _ _ _ (omega (arith, fits, within, long, same)) began (reads-once _ (16 + h.first + 67108864) _ _ _ read.reads read.once.1) c.add_text.ensures.streams;
+            streams-made _ _ (16 + h.first + DOCUMENT) (h.length - h.first + notes_bytes parts.notes) _ _ _ _ _ (omega (arith, fits, within, long, same)) began (reads-once _ (16 + h.first + DOCUMENT) _ _ _ read.reads read.once.1) c.add_text.ensures.streams;
         caused = caused-then _ _ _ _ _ _ _ (caused-begun _ _ _ _ _ _ began read.reads) (c.add_text.ensures.caused n);
         may = λ files told.
             inl (let told1 = began.same_files ∙ told in
@@ -117,7 +118,7 @@ returns g c =
             let merges = c.add_text.ensures.merges files told2 front.0 front.1 in
             let text = c.deref.result.now in
             let same : ((h.rules, h.versions), c.in_ok-front.text.items) ≡ ((h.rules, h.versions), text) = ap (λ (bytes : List ℕ). ((h.rules, h.versions), bytes)) (sym c.deref.ensures.value) in
-            may-ended c.full_files_have_parts.ensures.parts c.versions_have_one_file.ensures.header files c.args.archive.now c.args.doc.now c.args.note.now c.in_ok-check_note.ensures.told h text (read.told files told1 ∙ ap (λ p. Ok p) same) _ t (fault_of c.add_text.result) read.known.0.few merges.ends);
+            may-ended c.full_files_have_parts.ensures.parts c.versions_have_one_file.ensures.header files c.args.archive.now c.args.doc.now c.args.note.now c.in_ok-check_note.ensures.told h text (read.told files told1 ∙ ap (λ p. Ok p) same) _ t (fault_of c.add_text.result) c.in_ok-front.front.heads.few merges.ends);
         long_demo = λ long. absurd long;
         one_pass = λ files held a told is of small not.
             let numbers = g.F.Folder.numbers in
@@ -128,7 +129,7 @@ returns g c =
             let few = read.few files held told1 is in
             let fits = subst (λ f. AreWithin (size_in f c.args.archive.now) parts) told1 read.once.0 in
             one_pass-merged c.files_give_their_items.ensures.header c.full_files_have_parts.ensures.parts files c.args.archive.now c.args.doc.now held is a of h parts (numbers c.args.folder.now) (numbers c.read_added.new.folder) (numbers c.add_text.new.folder)
-            read.known.0 front.1 read.known.1 fits small (subst (λ m. PullsAtMost (16 + front_size held.rules held.versions + document_size files c.args.doc.now) m (numbers c.read_added.new.folder)) (began.begun refl) few) c.add_text.ensures.streams.counted (merges.gap held a is of);
+            c.in_ok-front.front.heads front.1 c.in_ok-front.front.core fits small (subst (λ m. PullsAtMost (16 + front_size held.rules held.versions + document_size files c.args.doc.now) m (numbers c.read_added.new.folder)) (began.begun refl) few) c.add_text.ensures.streams.counted (merges.gap held a is of);
         little = tt;
         gained = inl (gained-none _ _);
       };
@@ -136,7 +137,7 @@ returns g c =
           let name = c.args.archive.now in
           let doc = c.args.doc.now in
           let fits = read.once.0.within in
-          let long = read.known.1 in
+          let long = c.in_ok-front.front.core in
           let same = ap (λ f. size_in f name) began.same_files in
           full-by files name doc h c.in_ok-front.text.items c.deref.result.now rules n tree b (g.F.Folder.draft c.add_text.new.folder) (read.told files (began.same_files ∙ told)) c.deref.ensures.value (given files name doc rules n tree input)
           (λ is room. c.add_text.ensures.fills tree b is room limited (omega (arith, fits, long, same, file)) fit);
@@ -144,12 +145,9 @@ returns g c =
 
 pub add_text-requires : goal.add_text-requires
 add_text-requires g c =
-    let known = c.in_ok-front.ensures.known in
-    let held = known.2 in
+    let held = c.in_ok-front.ensures.known in
     let same = ap (λ (bytes : List ℕ). length bytes) c.deref.ensures.value in
     record {
-      header = known.0;
-      room = c.in_ok-front.ensures.once.0.room;
       short = omega (arith, held, same);
       note = note-is c.args.note.now c.requires c.in_ok-check_note.ensures.short;
       blank = λ b e. c.in_ok-begin.ensures.begins.blank refl b (sym c.in_ok-front.ensures.reads.same_draft ∙ e);

@@ -59,8 +59,6 @@ add_tree-requires g c =
     let doc = c.in_ok-doc.ensures in
     let stands = c.in_ok-keyed.ensures.stands in
     record {
-      header = c.requires.header;
-      room = c.requires.room;
       note = c.requires.note;
       keyed = record { document = lent_tree_view c.in_ok-doc.doc; element = doc.element; well_formed = doc.well_formed; shallow = doc.shallow; satisfies = stands.satisfies; stands = stands.keyed };
       texts = keyed-texts h.rules (lent_tree_view c.in_ok-doc.doc) (lent_view c.in_ok-keyed.keyed) doc.texts stands.keyed;

@@ -109,5 +109,11 @@ returns-clause-merges g c = λ files told are front.
 pub returns-clause-fills : goal.returns-clause-fills
 returns-clause-fills g c = λ b room limited. absurd (folder-unlimited c.commit.result c.commit.ensures.fault limited)
 
+pub append_records-requires-clause-header : goal.append_records-requires-clause-header
+append_records-requires-clause-header g c = c.args.front.now.heads
+
+pub append_notes-requires-clause-room : goal.append_notes-requires-clause-room
+append_notes-requires-clause-room g c = c.args.front.now.room
+
 pub append_notes-requires-clause-few : goal.append_notes-requires-clause-few
-append_notes-requires-clause-few g c = (let few = c.requires.header.few in let room = c.in_ok-append_records.ensures.room in omega (arith, few, room))
+append_notes-requires-clause-few g c = (let few = c.args.front.now.heads.few in let room = c.in_ok-append_records.ensures.room in omega (arith, few, room))

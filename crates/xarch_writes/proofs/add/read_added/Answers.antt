@@ -6,6 +6,7 @@ use Rattle.xarch_parts.specs.FolderLaws.{reads-more, reads-passed, reads-then}
 use Rattle.xarch_parts.specs.InputLaws.{length_in-length}
 use Rattle.xarch_meanings.specs.OnePass.{document_size, front_size}
 use Rattle.std.proofs.lemmas.Result.{IfOk-weaker}
+use Rattle.xarch_words.specs.declared.limits.TheConstants.{DOCUMENT}
 use Rattle.xarch_writes.proofs.OnePassEnds.{size-of}
 use Rattle.xarch_writes.proofs.add.read_added.Goals as goal
 
@@ -49,7 +50,7 @@ returns-in_err-doc_size-clause-known g c = IfOk-passed c.from_residual-in_err-do
 
 pub returns-clause-reads : goal.returns-clause-reads
 returns-clause-reads g c = let size = c.in_ok-size.ensures.size in
-    reads-then 0 (16 + c.in_ok-size.size + 67108864) _ _ _ _ _ (omega (arith, size)) (reads-then 0 0 0 _ _ _ _ (omega arith) c.in_ok-size.ensures.reads c.in_ok-doc_size.ensures.reads) c.read_text.ensures.reads
+    reads-then 0 (16 + c.in_ok-size.size + DOCUMENT) _ _ _ _ _ (omega (arith, size)) (reads-then 0 0 0 _ _ _ _ (omega arith) c.in_ok-size.ensures.reads c.in_ok-doc_size.ensures.reads) c.read_text.ensures.reads
 
 pub returns-clause-told : goal.returns-clause-told
 returns-clause-told g c = λ files told.
@@ -80,7 +81,7 @@ returns-clause-once g c =
     let within = fits.within in
     let n = 16 + (header_view r.0.header).first + c.in_ok-doc_size.doc_size in (
       record { within = omega (arith, size, within); room = fits.room },
-      PullsAtMost-more (0 + 0 + n) (16 + (header_view r.0.header).first + 67108864) _ _ (omega (arith, short))
+      PullsAtMost-more (0 + 0 + n) (16 + (header_view r.0.header).first + DOCUMENT) _ _ (omega (arith, short))
           (PullsAtMost-trans (0 + 0) n _ _ _ (PullsAtMost-trans 0 0 _ _ _ c.in_ok-size.ensures.reads.pulls c.in_ok-doc_size.ensures.reads.pulls) h.1),
     ))) c.read_text.ensures.once
 

@@ -63,7 +63,7 @@ pub returns-clause-few : goal.returns-clause-few
 returns-clause-few g c = λ files held told long is. PullsAtMost-trans (16 + front_size held.rules held.versions) c.args.doc_size _ _ _ (c.in_ok-front.ensures.few files held told long is) c.in_ok-text.ensures.reads.pulls
 
 pub returns-clause-once : goal.returns-clause-once
-returns-clause-once g c = (c.in_ok-front.ensures.within, PullsAtMost-trans (16 + (header_view c.in_ok-front.front.header).first) c.args.doc_size _ _ _ c.in_ok-front.ensures.once.1 c.in_ok-text.ensures.reads.pulls)
+returns-clause-once g c = (c.in_ok-front.ensures.within, PullsAtMost-trans (16 + (header_view c.in_ok-front.front.header).first) c.args.doc_size _ _ _ c.in_ok-front.ensures.once c.in_ok-text.ensures.reads.pulls)
 
 pub returns-clause-known : goal.returns-clause-known
-returns-clause-known g c = (let short = c.requires in let held = c.in_ok-text.ensures.short in (c.in_ok-front.ensures.header, c.in_ok-front.ensures.once.0, omega (arith, short, held)))
+returns-clause-known g c = (let short = c.requires in let held = c.in_ok-text.ensures.short in omega (arith, short, held))

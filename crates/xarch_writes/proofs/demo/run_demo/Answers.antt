@@ -1,5 +1,6 @@
 use Rattle.std.proofs.Common.{inl, refl, sym, ◌∙◌, arith}
 use Rattle.xarch_words.specs.Refusal as refusal
+use Rattle.xarch_words.specs.declared.limits.TheConstants.{DEMO}
 use Rattle.xarch_parts.specs.Archives.{free_in}
 use Rattle.xarch_meanings.specs.Plausible.{MayBe}
 use Rattle.xarch_meanings.specs.Demo.{DemoIs, MakesOrNone}
@@ -16,7 +17,7 @@ returns-in_err-check_few g c = record {
   caused = caused-passed _ _ _ _ c.from_residual.result _ c.from_residual.ensures.1 (caused-inside _ _ _ _ (omega arith) c.in_err-check_few.ensures.cause);
   may = λ files told.
       inl (MayEnd-passed (DemoIs files c.args.seed c.args.count c.args.archive.now) c.from_residual.result c.in_err-check_few.field-0.0 _ _ c.from_residual.ensures.1
-      (λ q e. refused_many files c.args.seed c.args.count c.args.archive.now q (defined_refused (at_most refusal.demo 1000 c.args.count) _ q c.in_err-check_few.ensures.told e)));
+      (λ q e. refused_many files c.args.seed c.args.count c.args.archive.now q (defined_refused (at_most refusal.demo DEMO c.args.count) _ q c.in_err-check_few.ensures.told e)));
   long_demo = λ many. passed-fault c.from_residual.result c.in_err-check_few.field-0.0 _ c.from_residual.ensures.1 c.in_err-check_few.ensures.refused;
   one_pass = tt;
   little = tt;

@@ -2,6 +2,7 @@ use Rattle.std.proofs.Common.{◌+◌, map, sym, ◌∙◌, arith}
 use Rattle.std.specs.Prelude.{string_bytes}
 use Rattle.key_spec.specs.View.{spec_view}
 use Rattle.archive_tree.specs.ArchiveView.{archive_view}
+use Rattle.xarch_words.specs.declared.limits.TheConstants.{SPECIFICATION}
 use Rattle.xarch_parts.specs.AllowedLaws.{IfErr-passed, defined_refused}
 use Rattle.xarch_parts.specs.EndLaws.{IfOk-passed}
 use Rattle.xarch_parts.specs.FolderLaws.{reads-inside, reads-more, reads-passed, reads-then}
@@ -15,7 +16,7 @@ use Rattle.xarch_writes.proofs.rekey.new_file.Goals as goal
 
 pub returns-in_err-parts-clause-reads : goal.returns-in_err-parts-clause-reads
 returns-in_err-parts-clause-reads g c = let n = size_in (g.F.Folder.files c.args.folder.now) c.args.archive.now in
-    reads-passed _ _ _ c.from_residual.result _ c.from_residual.ensures.1 (reads-more (n + (16 + 1048576)) _ _ _ _ (omega arith) c.in_err-parts.ensures.reads)
+    reads-passed _ _ _ c.from_residual.result _ c.from_residual.ensures.1 (reads-more (n + (16 + SPECIFICATION)) _ _ _ _ (omega arith) c.in_err-parts.ensures.reads)
 
 pub returns-in_err-parts-clause-file : goal.returns-in_err-parts-clause-file
 returns-in_err-parts-clause-file g c = λ files told. IfOk-passed c.from_residual.result _ _ c.from_residual.ensures.1
@@ -35,7 +36,7 @@ returns-in_err-old-clause-reads g c =
     let n = size_in (g.F.Folder.files c.args.folder.now) c.args.archive.now in
     let parts = c.in_ok-parts.parts in
     let within = c.in_ok-parts.ensures.within.within in
-    reads-passed _ _ _ c.from_residual-in_err-old.result _ c.from_residual-in_err-old.ensures.1 (reads-then (n + (16 + 1048576)) (parts.core + notes_bytes parts.notes) _ _ _ _ _ (omega (arith, within)) c.in_ok-parts.ensures.reads c.in_err-old.ensures.reads)
+    reads-passed _ _ _ c.from_residual-in_err-old.result _ c.from_residual-in_err-old.ensures.1 (reads-then (n + (16 + SPECIFICATION)) (parts.core + notes_bytes parts.notes) _ _ _ _ _ (omega (arith, within)) c.in_ok-parts.ensures.reads c.in_err-old.ensures.reads)
 
 pub returns-in_err-old-clause-file : goal.returns-in_err-old-clause-file
 returns-in_err-old-clause-file g c = λ files told. IfOk-passed c.from_residual-in_err-old.result _ _ c.from_residual-in_err-old.ensures.1
@@ -57,7 +58,7 @@ returns-in_err-core-clause-reads g c =
     let parts = c.in_ok-parts.parts in
     let within = c.in_ok-parts.ensures.within.within in
     reads-passed _ _ _ c.from_residual-in_err-core.result _ c.from_residual-in_err-core.ensures.1
-    (reads-inside _ _ _ _ (reads-then (n + (16 + 1048576)) (parts.core + notes_bytes parts.notes) _ _ _ _ _ (omega (arith, within)) c.in_ok-parts.ensures.reads c.in_ok-old.ensures.reads) c.in_err-core.ensures.cause)
+    (reads-inside _ _ _ _ (reads-then (n + (16 + SPECIFICATION)) (parts.core + notes_bytes parts.notes) _ _ _ _ _ (omega (arith, within)) c.in_ok-parts.ensures.reads c.in_ok-old.ensures.reads) c.in_err-core.ensures.cause)
 
 pub returns-in_err-core-clause-file : goal.returns-in_err-core-clause-file
 returns-in_err-core-clause-file g c = λ files told. IfOk-passed c.from_residual-in_err-core.result _ _ c.from_residual-in_err-core.ensures.1
@@ -81,7 +82,7 @@ returns-clause-reads g c =
     let n = size_in (g.F.Folder.files c.args.folder.now) c.args.archive.now in
     let parts = c.in_ok-parts.parts in
     let within = c.in_ok-parts.ensures.within.within in
-    reads-then (n + (16 + 1048576)) (parts.core + notes_bytes parts.notes) _ _ _ _ _ (omega (arith, within)) c.in_ok-parts.ensures.reads c.in_ok-old.ensures.reads
+    reads-then (n + (16 + SPECIFICATION)) (parts.core + notes_bytes parts.notes) _ _ _ _ _ (omega (arith, within)) c.in_ok-parts.ensures.reads c.in_ok-old.ensures.reads
 
 pub returns-clause-file : goal.returns-clause-file
 returns-clause-file g c = λ files told.

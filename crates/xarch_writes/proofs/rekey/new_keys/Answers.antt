@@ -1,5 +1,6 @@
 use Rattle.std.proofs.Common.{◌+◌, arith, ◌∙◌}
 use Rattle.std.proofs.lemmas.Result.{IfOk-weaker}
+use Rattle.xarch_words.specs.declared.limits.TheConstants.{SPECIFICATION}
 use Rattle.xarch_parts.specs.EndLaws.{IfOk-passed, IsDefined-here, IsDefined-next, Matches-next, Matches-passed}
 use Rattle.xarch_parts.specs.FolderLaws.{reads-more, reads-passed, reads-then}
 use Rattle.xarch_parts.specs.InputLaws.{length_in-length}
@@ -39,7 +40,7 @@ returns-in_err-length-clause-within g c = IfOk-passed c.from_residual-in_err-len
 
 pub returns-clause-reads : goal.returns-clause-reads
 returns-clause-reads g c = let size = c.in_ok-size.ensures.size in
-    reads-then 0 (16 + c.in_ok-size.size + 1048576) _ _ _ _ _ (omega (arith, size)) (reads-then 0 0 0 _ _ _ _ (omega arith) c.in_ok-size.ensures.reads c.in_ok-length.ensures.reads) c.keys_behind.ensures.reads
+    reads-then 0 (16 + c.in_ok-size.size + SPECIFICATION) _ _ _ _ _ (omega (arith, size)) (reads-then 0 0 0 _ _ _ _ (omega arith) c.in_ok-size.ensures.reads c.in_ok-length.ensures.reads) c.keys_behind.ensures.reads
 
 pub returns-clause-told : goal.returns-clause-told
 returns-clause-told g c = λ files told.

@@ -1,0 +1,2 @@
+/// A note has at most so many bytes.
+pub const LONGEST_NOTE: usize = 1_024;
