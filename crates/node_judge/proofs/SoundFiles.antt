@@ -1,5 +1,5 @@
 -- A file is sound exactly where nodes lie in it that are right in their place.
-use Rattle.std.proofs.Common.{◌↔◌, ◌≤◌, IsTrue, ℕ, List, refl, sym, subst, ◌∙◌}
+use Rattle.std.proofs.Common.{◌≡◌, ◌↔◌, ◌≤◌, IsTrue, ℕ, List, refl, sym, subst, ◌∙◌}
 use Rattle.std.proofs.lemmas.Bool.{and_parts, and_from}
 use Rattle.jsonml_tree.specs.declared.limits.TheConstants.{GREATEST_DEPTH}
 use Rattle.key_spec.specs.Data.{PlainRule}
@@ -10,6 +10,7 @@ use Rattle.archive_tree.specs.Data.{PlainArchive}
 use Rattle.archive_tree.specs.PartsTest.{is_archive}
 use Rattle.archive_tree.specs.Stands.{ArchiveOf, Kept}
 use Rattle.archive_tree.proofs.Necessary.{necessary}
+use Rattle.archive_tree.proofs.OneArchive.{one_archive}
 use Rattle.archive_tree.proofs.Rebuilt.{sufficient}
 use Rattle.archive_tree.proofs.Tells.{archive_tells}
 use Rattle.record_parts.specs.Bounds.{most}
@@ -19,6 +20,7 @@ use Rattle.archive_file.specs.Sound.{Sound, SoundAs}
 use Rattle.archive_file.proofs.ArchiveKeyed.{archive-keyed}
 use Rattle.archive_file.proofs.ClosedWays.{closed-lead}
 use Rattle.archive_file.proofs.FrontLaws.{behind_header}
+use Rattle.archive_file.proofs.OneReading.{sound-one}
 use Rattle.archive_file.proofs.SoundLaws.{row-well, sound-row, sound-short, read-file}
 use Rattle.node_judge.specs.InPlace.{LiesSound}
 use Rattle.node_judge.proofs.InPlaceLaws.{archive-law}
@@ -68,3 +70,11 @@ sound-law bytes = (
       let kept = lies-kept h.0 bytes h.1 h.2 in
       record { rules = h.0; versions = kept.versions; is = lies-sound h.0 bytes h.1 h.2 kept.versions kept.is }),
 )
+
+-- bytes are those of one archive
+pub lies-one : (rules others : List PlainRule) (a b : PlainArchive) (bytes : List ℕ) → LiesSound rules a bytes → LiesSound others b bytes → (rules ≡ others) × (a ≡ b)
+lies-one rules others a b bytes h g =
+    let mine = lies-kept rules bytes a h in
+    let theirs = lies-kept others bytes b g in
+    let same = sound-one rules mine.versions others theirs.versions bytes (lies-sound rules bytes a h mine.versions mine.is) (lies-sound others bytes b g theirs.versions theirs.is) in
+    (same.0, one_archive theirs.versions a b (subst (λ vs. ArchiveOf vs a) same.1 mine.is) theirs.is)

@@ -1,22 +1,25 @@
 // What follows from the definitions.
-ghost use Rattle.std.specs.Prelude.{◌≡◌, ◌↔◌, ℕ, ◌&&◌, List, IsTrue};
+ghost use Rattle.std.specs.Prelude.{◌≡◌, ◌↔◌, ℕ, ◌&&◌, List, [], ◌∷◌, None, IsTrue};
 ghost use Rattle.std.specs.List.{list_all};
 ghost use Rattle.key_spec.specs.Data.{PlainRule};
 ghost use Rattle.keyed_tree.specs.Data.{PlainLabel, PlainKeyed};
-ghost use Rattle.archive_tree.specs.Data.{Stamp, PlainNode, inner_node, PlainNodes, nodes_list};
-ghost use Rattle.archive_tree.specs.Data.{PlainArchive};
-ghost use Rattle.archive_tree.specs.PartsTest.{is_archive};
+ghost use Rattle.keyed_tree.specs.Lists.{Has};
+ghost use Rattle.archive_tree.specs.Data.{Stamp, PlainAlt, PlainNode, inner_node};
+ghost use Rattle.archive_tree.specs.Data.{PlainNodes, nodes_list, PlainArchive};
+ghost use Rattle.archive_tree.specs.PartsTest.{are_alts_well, is_archive};
 ghost use Rattle.archive_tree.specs.Seek.{rise};
 ghost use Rattle.archive_tree.specs.Stands.{labels, ArchiveOf, Kept};
 ghost use Rattle.archive_file.specs.NodeFits.{is_archive_keyed};
 ghost use Rattle.archive_file.specs.Sound.{Sound, SoundAs};
 ghost use Rattle.node_judge.specs.Awaited.{Awaited, holds_at, is_met, keeps};
-ghost use Rattle.node_judge.specs.InPlace.{is_sound_in, is_placed, is_sound_archive, LiesSound};
+ghost use Rattle.node_judge.specs.InPlace.{is_sound_in, is_placed};
+ghost use Rattle.node_judge.specs.InPlace.{is_sound_archive, LiesSound};
 
 /// What an archive must be holds of each of its nodes in its place. A node waits for key values: its
 /// kids meet them, and keep what they are handed. A node is right in its place exactly where it is
-/// well, fits the rules and keeps what its parent waits for. Then an archive is sound exactly where
-/// its nodes are, and a file exactly where such nodes lie in it.
+/// well, fits the rules and keeps what its parent waits for. An alternative that inherits is the only
+/// one of its leaf. Then an archive is sound exactly where its nodes are, and a file exactly where
+/// such nodes lie in it.
 pub fn nodes_are_sound_in_their_place()
     ensures met { (w : Awaited) (l : PlainLabel) (s : Stamp) (ks : PlainNodes)
         → IsTrue (rise (labels ks))
@@ -25,6 +28,8 @@ pub fn nodes_are_sound_in_their_place()
     ensures node { (rules : List PlainRule) (path : List (List ℕ)) (ns : List ℕ) (left : ℕ)
         (ws : List Awaited) (k : PlainNode)
         → is_sound_in rules path ns left ws k ≡ is_placed rules path ns left ws k }
+    ensures alone { (ns : List ℕ) (xs : List PlainAlt) (x : PlainAlt)
+        → IsTrue (are_alts_well ns xs) → Has x xs → x.stamp ≡ None → xs ≡ x ∷ [] }
     ensures archive { (rules : List PlainRule) (a : PlainArchive)
         → is_sound_archive rules a ≡ (is_archive a && is_archive_keyed rules a) }
     ensures versions { (rules : List PlainRule) (vs : List PlainKeyed) (bytes : List ℕ)
@@ -34,4 +39,6 @@ pub fn nodes_are_sound_in_their_place()
         → LiesSound rules a bytes → Kept a }
     ensures file { (bytes : List ℕ) → Sound bytes
         ↔ ((rules : List PlainRule) × (a : PlainArchive) × LiesSound rules a bytes) }
+    ensures one { (rules others : List PlainRule) (a b : PlainArchive) (bytes : List ℕ)
+        → LiesSound rules a bytes → LiesSound others b bytes → (rules ≡ others) × (a ≡ b) }
 {}

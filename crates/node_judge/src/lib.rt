@@ -2,5 +2,7 @@
 #![tactic(auto)]
 
 mod laws;
+mod wait;
 
 pub use laws::nodes_are_sound_in_their_place;
+pub use wait::{Wait, hand_all, waits_of};
