@@ -2,7 +2,7 @@ ghost use Rattle.std.specs.Prelude.{◌≡◌, ◌≤◌, ◌<◌, ◌↔◌, �
 ghost use Rattle.real_objects.specs.Mark.{IsSame};
 
 use crate::calls::{self, is_absent};
-use crate::pages::Pages;
+use crate::pages::{Page, Pages};
 use crate::same_name::is_same;
 use crate::system::{Kind, Mark, Seen, System};
 use crate::target::is_draft;
@@ -259,21 +259,20 @@ impl<'a, R: System> OpenFiles<'a, R> {
         }
     }
 
-    /// Puts what the page that was read last holds of the named file, from the offset on, at the front of the buffer.
+    /// The page that was read last of the named file, where it holds what stands at the offset.
     #[inline]
-    fn copy(&self, name: &str, at: u64, buf: &mut [u8]) -> usize
-        ensures bound { result ≤ length buf.new }
-        ensures named { 0 < result
-            → IsSomeAnd self.now.first (λ o. string_bytes o.name ≡ name.now)
-            ⊎ IsSomeAnd self.now.second (λ o. string_bytes o.name ≡ name.now) }
+    fn hinted(&self, name: &str, at: u64) -> Option<&Page>
+        ensures named { IfSome result (λ p.
+            IsSomeAnd self.now.first (λ o. string_bytes o.name ≡ name.now)
+            ⊎ IsSomeAnd self.now.second (λ o. string_bytes o.name ≡ name.now)) }
     {
         match self.named(name) {
-            Some(opened) => opened.pages.copy(at, buf),
-            None => 0,
+            Some(opened) => opened.pages.hinted(at),
+            None => None,
         }
     }
 
-    /// The same of any page.
+    /// Puts what any page holds of the named file, from the offset on, at the front of the buffer.
     fn copy_any(&mut self, name: &str, at: u64, buf: &mut [u8]) -> usize
         ensures bound { result ≤ length buf.new }
         ensures named { 0 < result
@@ -296,9 +295,11 @@ impl<'a, R: System> OpenFiles<'a, R> {
     pub fn read(&mut self, name: &str, at: u64, buf: &mut [u8]) -> Option<usize>
         ensures { IfSome result (λ n. n ≤ length buf.new) }
     {
-        let held = self.copy(name, at, buf);
-        if held > 0 {
-            return Some(held);
+        if !buf.is_empty() {
+            // No work is left behind the copy, so that nothing is kept over it.
+            if let Some(page) = self.hinted(name, at) {
+                return Some(page.copy(at, buf));
+            }
         }
         self.read_on(name, at, buf)
     }

@@ -1,4 +1,4 @@
-ghost use Rattle.std.specs.Prelude.{◌≡◌, ◌+◌, ◌-◌, ◌/◌, ◌%◌, ◌≤◌, ◌<◌, ◌↔◌, IfNone, IfSome, IsSomeAnd, IsTrue, None, length, min, slice_get, slice_index, take};
+ghost use Rattle.std.specs.Prelude.{◌≡◌, ◌+◌, ◌-◌, ◌/◌, ◌%◌, ◌≤◌, ◌<◌, ◌↔◌, IfNone, IfSome, IsSomeAnd, IsTrue, None, Some, length, min, slice_get, slice_index, take};
 ghost use Rattle.real_objects.specs.Pages.{held_from};
 
 use crate::calls;
@@ -36,7 +36,7 @@ fn copy_front(from: &[u8], buf: &mut [u8]) -> usize
 
 /// A piece of a file: its offset, and so many bytes in front of the room.
 #[derive(Drop)]
-struct Page {
+pub struct Page {
     start: u64,
     size: usize,
     room: Vec<u8>,
@@ -65,7 +65,7 @@ impl Page {
 
     /// Puts what the page holds from the offset on at the front of the buffer.
     #[inline]
-    fn copy(&self, at: u64, buf: &mut [u8]) -> usize
+    pub fn copy(&self, at: u64, buf: &mut [u8]) -> usize
         ensures bound { result ≤ length buf.new }
         ensures inside { 0 < result → self.now.start ≤ at }
         ensures count { self.now.start ≤ at
@@ -136,9 +136,22 @@ impl Pages {
         }
     }
 
-    /// Puts what the page of the hint holds from the offset on at the front of the buffer.
+    /// The page of the hint, where it holds what stands at the offset.
     #[inline]
-    pub fn copy(&self, at: u64, buf: &mut [u8]) -> usize
+    pub fn hinted(&self, at: u64) -> Option<&Page>
+        ensures holds { IfSome result
+            (λ p. (p.now.start ≤ at) × (at < p.now.start + p.now.size)) }
+        ensures hint { IfSome result (λ p. slice_get self.now.held.items
+            (slice_index self.now.hints ((at / 65536) % 64)) ≡ Some p.now) }
+    {
+        match self.held.get(self.hints[piece_of(at)]) {
+            Some(page) if page.holds(at) => Some(page),
+            _ => None,
+        }
+    }
+
+    /// Puts what the page of the hint holds from the offset on at the front of the buffer.
+    fn copy(&self, at: u64, buf: &mut [u8]) -> usize
         ensures bound { result ≤ length buf.new }
         ensures bytes { IfSome
             (slice_get self.now.held.items (slice_index self.now.hints ((at / 65536) % 64)))
