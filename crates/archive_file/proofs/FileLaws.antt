@@ -17,8 +17,8 @@ pub use Rattle.record_format.proofs.Pieces.{all-append, all-front, all-back, rec
 use Rattle.archive_tree.specs.View.{node_view, nodes_view}
 use Rattle.archive_tree.specs.declared.node.ANode.{ANode}
 use Rattle.record_parts.specs.Checks.{value_fits, label_fits, stamp_fits}
-use Rattle.record_parts.proofs.Encodable.{label_there, label_back, value_there, value_back}
-use Rattle.record_parts.proofs.Sets.{stamp_there, stamp_back}
+use Rattle.record_parts.specs.Encodable.{label_there, label_back, value_there, value_back}
+use Rattle.record_parts.specs.Sets.{stamp_there, stamp_back}
 use Rattle.archive_file.specs.Goes.{fits_four, alts_go, node_goes, nodes_go, row_goes, HasBody, HasParts, HaveParts}
 use Rattle.archive_file.proofs.GoesLaws.{both-hold, lt-of, of-lt}
 

@@ -10,7 +10,7 @@ use Rattle.xa_fields.proofs.Combinators.{whole_again}
 use Rattle.record_parts.specs.Bounds.{deepest, IsValue, IsContent}
 use Rattle.record_parts.specs.Reading.{content_at}
 use Rattle.record_parts.specs.Spelling.{value_bytes, content_bytes}
-use Rattle.record_parts.proofs.Values.{content_reads}
+use Rattle.record_parts.specs.Values.{content_reads}
 use Rattle.xa_outside.specs.Causes.{HasCause}
 use Rattle.xa_outside.specs.Taken.{Taken, Takes, Puts}
 use Rattle.xa_outside.specs.TakenLaws.{Takes-trans, TakesPrefix-none, TakesPrefix-after, TakesPrefix-more}

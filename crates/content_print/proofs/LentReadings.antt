@@ -16,7 +16,7 @@ use Rattle.jsonml_print.specs.Pen.{Pen}
 use Rattle.jsonml_print.specs.Calls.{Call, begin, attribute, text, end, printed, reached, calls_of, content_calls}
 use Rattle.jsonml_print.proofs.Walks.{printed-append, reached-append}
 use Rattle.record_parts.specs.Reading.{attr_at, next_attr, attrs_at, content_by, item_of, content_below, item_at, content_at}
-use Rattle.record_parts.proofs.Deep.{none_below, one_below}
+use Rattle.record_parts.specs.Deep.{none_below, one_below}
 use Rattle.content_print.specs.LentPrinted.{Output, Reading, calls_read, items_calls_of, whole_calls, ahead, Made, Stopped, Damaged, PrintsRead}
 use Rattle.content_print.specs.declared.fault.PrintFault.{PrintFault}
 use Rattle.content_print.specs.declared.fault.PrintFault.TheVariants.{Damage, Out}

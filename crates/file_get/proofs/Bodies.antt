@@ -10,7 +10,7 @@ use Rattle.xa_fields.specs.Spelling.{u32_bytes, u64_bytes}
 use Rattle.xa_fields.specs.Reading.{◌>>=◌, byte_at, chained_at, chain_at, whole}
 use Rattle.jsonml_tree.specs.Data.{PlainScalar, PlainContent}
 use Rattle.record_parts.specs.Reading.{scalar_at, content_at, value_at, value_of}
-use Rattle.record_parts.proofs.Values.{value_reads}
+use Rattle.record_parts.specs.Values.{value_reads}
 use Rattle.xa_fields.proofs.Fields.{u32_reads}
 use Rattle.xa_outside.specs.Folder.{Files}
 use Rattle.xa_outside.specs.Numbers.{Numbers, IsMeter, PullsAtMost}
@@ -25,7 +25,7 @@ use Rattle.timestamp_tree.specs.Reading.{pair_at, next_pair}
 use Rattle.timestamp_tree.proofs.Trees.{length-pairs, length-set_bytes}
 use Rattle.record_parts.specs.Bounds.{IsSet, IsStamp, IsValue, deepest, most}
 use Rattle.record_parts.specs.Spelling.{stamp_bytes, value_bytes}
-use Rattle.record_parts.proofs.Parts.{set_reads}
+use Rattle.record_parts.specs.Parts.{set_reads}
 use Rattle.record_format.specs.Bounds.{IsRec}
 use Rattle.record_format.specs.Nodes.{alt_of, set_in}
 use Rattle.record_format.specs.Seen.{alts_seen}

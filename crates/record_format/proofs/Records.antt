@@ -24,8 +24,8 @@ use Rattle.record_parts.specs.declared.fault.RecFault.TheVariants.{Damage}
 use Rattle.record_parts.specs.Reading.{Gives, value_at, label_at, stamp_at}
 use Rattle.record_format.specs.Reading.{whole_dir, record_of, frame_at, record_at, whole_record}
 use Rattle.xa_fields.specs.FieldLaws.{passed_some}
-use Rattle.record_parts.proofs.Values.{value_reads}
-use Rattle.record_parts.proofs.Parts.{label_reads, stamp_reads}
+use Rattle.record_parts.specs.Values.{value_reads}
+use Rattle.record_parts.specs.Parts.{label_reads, stamp_reads}
 use Rattle.record_format.proofs.WholeDirectories.{whole_dir_found, whole_dir_only}
 
 -- ---- bodies

@@ -4,7 +4,7 @@ use Rattle.version_set.specs.Pairs.{last_of}
 use Rattle.version_set.specs.Members.{members, greatest, put, either, united}
 use Rattle.version_set.proofs.SetLemmas.{members-united, IsCanonical-united, greatest-members}
 use Rattle.record_parts.specs.Bounds.{IsSet, most}
-use Rattle.record_parts.proofs.Sets.{set_parts}
+use Rattle.record_parts.specs.Sets.{set_parts}
 
 one_of : (b : Bool) (xs ys : List ℕ) (n : ℕ) → greatest xs ≤ n → greatest ys ≤ n → greatest (cond b xs ys) ≤ n
 one_of true xs ys n p q = p

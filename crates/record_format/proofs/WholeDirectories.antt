@@ -25,7 +25,7 @@ use Rattle.record_format.specs.Reading.{entry_at, leaf_sets, with_leaf_sets, nod
 use Rattle.timestamp_tree.specs.Reading.{set_at, stored_at}
 use Rattle.xa_fields.specs.FieldLaws.{passed_some}
 use Rattle.record_format.proofs.Entries.{entry_reads}
-use Rattle.record_parts.proofs.Parts.{set_reads}
+use Rattle.record_parts.specs.Parts.{set_reads}
 use Rattle.record_format.proofs.TreeNodes.{Node, nodes_of, node_bytes, IsNode, tree_bytes-is, length-nodes_of, leaf_sets-nodes_of, each_node, each_leaf_set}
 
 pub node_reads : Reads (stored_at most) node_bytes IsNode

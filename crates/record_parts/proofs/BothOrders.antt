@@ -15,8 +15,8 @@ use Rattle.record_parts.specs.Compares.{Compares, ComparesBoth}
 use Rattle.record_parts.specs.Reading.{scalar_of, scalar_at, attr_at, next_attr, attrs_at, content_by, content_at, item_at, item_of, content_below, value_of, value_at, name_of, name_at, label_at}
 use Rattle.record_parts.proofs.Both.{no_ours, no_theirs, both_weaker, both_read_as, both_lent, both_lent_none, Halves, both_wrapped, both_always}
 use Rattle.record_parts.proofs.Compared.{list_is, list_none, attrs_is, unchained, content_splits, element_splits, label_splits, element_above, text_below, item_is, no_item, value_is, no_kind, scalar_below, content_above}
-use Rattle.record_parts.proofs.Deep.{none_below, one_below}
-use Rattle.record_parts.proofs.Readers.{passed_some}
+use Rattle.record_parts.specs.Deep.{none_below, one_below}
+use Rattle.record_parts.specs.Readers.{passed_some}
 use Rattle.record_parts.proofs.TextOrders.{text_compared, no_text_there, is_text, attr_splits, scalar_is, name_is, no_name_of}
 
 -- an answer other than Equal, whatever is read of the other

@@ -24,7 +24,7 @@ use Rattle.record_parts.specs.Compares.{Compares}
 use Rattle.record_parts.specs.Reading.{attrs_at, content_by, content_at, item_at, item_of, content_below}
 use Rattle.record_parts.proofs.Leads.{not_equal, is_equal}
 use Rattle.record_parts.proofs.Compared.{nothing, same_read, Splits, first_fails, first_decides, second_decides, list_is, list_none, content_splits, element_splits, element_above, text_compare, text_below, item_is, item_none, no_item}
-use Rattle.record_parts.proofs.Deep.{none_below, one_below}
+use Rattle.record_parts.specs.Deep.{none_below, one_below}
 
 -- ---- contents
 

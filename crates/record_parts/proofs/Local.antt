@@ -7,7 +7,7 @@ use Rattle.xa_fields.specs.Laws.{IsBytes, Reads}
 use Rattle.xa_fields.proofs.Fields.{some_is}
 use Rattle.xa_fields.proofs.Combinators.{whole_again}
 use Rattle.record_parts.specs.Behind.{behind}
-use Rattle.record_parts.proofs.Readers.{not_zero}
+use Rattle.record_parts.specs.Readers.{not_zero}
 
 pub alone : {A : Type 0} (read : Reader A) (spell : A → List ℕ) (Fits : A → Type 0) → Reads read spell Fits → (bytes : List ℕ) (n : ℕ) (a : A) → IsBytes bytes → read bytes ≡ Some (a, drop n bytes) → whole read (take n bytes) ≡ Some a
 alone read spell Fits h bytes n a fits e =

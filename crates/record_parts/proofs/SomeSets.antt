@@ -10,8 +10,8 @@ use Rattle.record_parts.specs.Behind.{behind}
 use Rattle.timestamp_tree.specs.Reading.{pair_at, next_pair}
 use Rattle.record_parts.specs.Reading.{stamp_of}
 use Rattle.xa_fields.proofs.Chains.{chain_read}
-use Rattle.record_parts.proofs.Readers.{not_zero}
-use Rattle.record_parts.proofs.Parts.{IsPair, pair_reads}
+use Rattle.record_parts.specs.Readers.{not_zero}
+use Rattle.record_parts.specs.Parts.{IsPair, pair_reads}
 
 -- no intervals
 pub no_set : (bytes after : List ℕ) (count : ℕ) → count ≡ 0 → Some (count, after) ≡ number_at w32 bytes → behind (stamp_of 1 bytes) ≡ None

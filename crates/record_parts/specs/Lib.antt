@@ -10,3 +10,11 @@ pub mod Whole
 pub mod Compares
 pub mod ShownViews
 pub mod Spells
+pub mod Readers
+pub mod Values
+pub mod Parts
+pub mod Names
+pub mod Deep
+pub mod Encodable
+pub mod Sets
+pub mod ShownParts

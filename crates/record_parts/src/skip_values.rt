@@ -97,7 +97,7 @@ fn skip_item_of(depth: u32, kind: u8, bytes: &[u8], at: usize) -> Option<usize>
 }
 
 #[cycle(skip)]
-#[tactic(auto, using(crate::proofs::Deep::below))]
+#[tactic(auto, using(crate::specs::Deep::below))]
 fn skip_content_below(depth: u32, bytes: &[u8], at: usize) -> Option<usize>
     ensures found { option_map (λ n. drop n bytes.now) result
         ≡ behind (content_below depth (drop at bytes.now)) }

@@ -146,7 +146,7 @@ fn take_item_of(
 }
 
 #[cycle(take)]
-#[tactic(auto, using(crate::proofs::Deep::below))]
+#[tactic(auto, using(crate::specs::Deep::below))]
 fn take_content_below(
     alloc: Global,
     depth: u32,

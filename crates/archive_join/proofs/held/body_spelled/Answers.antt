@@ -1,5 +1,5 @@
 use Rattle.std.proofs.Common.{arith}
-use Rattle.record_parts.proofs.ShownParts.{value_spelled}
+use Rattle.record_parts.specs.ShownParts.{value_spelled}
 use Rattle.archive_join.proofs.held.body_spelled.Goals as goal
 
 pub returns-clause-spelled : goal.returns-clause-spelled

@@ -1,6 +1,6 @@
 use Rattle.std.proofs.Common.{sym, ap, ◌∙◌}
 use Rattle.record_parts.specs.Checks.{value_fits}
-use Rattle.record_parts.proofs.Encodable.{value_back}
+use Rattle.record_parts.specs.Encodable.{value_back}
 use Rattle.spelled_archive.specs.View.{kept_view}
 use Rattle.archive_rekey.proofs.goes.body_goes.Goals as goal
 

@@ -6,7 +6,7 @@ use Rattle.jsonml_tree.specs.LentAttrs.{lent_scalar_view}
 use Rattle.jsonml_print.specs.Pen.{Pen, takes_attribute}
 use Rattle.jsonml_print.specs.Calls.{attribute}
 use Rattle.record_parts.specs.Reading.{attr_at, next_attr}
-use Rattle.record_parts.proofs.Names.{may, may_not}
+use Rattle.record_parts.specs.Names.{may, may_not}
 use Rattle.content_print.specs.LentPrinted.{Output, Reading, output, calls_read, PrintsRead}
 use Rattle.content_print.specs.declared.fault.PrintFault.TheVariants.{Out}
 use Rattle.content_print.proofs.Handed.{at-err}

@@ -2,7 +2,7 @@ use Rattle.std.proofs.Common.{◌≡◌, map, drop}
 use Rattle.std.specs.Option.{option_map}
 use Rattle.jsonml_tree.specs.View.{attr_view}
 use Rattle.jsonml_tree.specs.WellFormed.{is_ascending}
-use Rattle.record_parts.proofs.Names.{ascend_behind}
+use Rattle.record_parts.specs.Names.{ascend_behind}
 use Rattle.record_parts.proofs.fits.do_names_ascend.Given as goal
 
 -- what is left decides

@@ -1,5 +1,5 @@
 use Rattle.keyed_tree.specs.View.{label_view}
-use Rattle.record_parts.proofs.Encodable.{label_test}
+use Rattle.record_parts.specs.Encodable.{label_test}
 use Rattle.record_parts.proofs.fits.is_label.Goals as goal
 
 pub returns-clause-is : goal.returns-clause-is

@@ -1,5 +1,5 @@
 use Rattle.version_set.specs.View.{pairs_of}
-use Rattle.record_parts.proofs.Sets.{set_test}
+use Rattle.record_parts.specs.Sets.{set_test}
 use Rattle.record_parts.proofs.fits.is_set.Goals as goal
 
 pub returns-clause-is : goal.returns-clause-is

@@ -1,5 +1,5 @@
 use Rattle.archive_tree.specs.View.{stamp_view}
-use Rattle.record_parts.proofs.Sets.{stamp_test}
+use Rattle.record_parts.specs.Sets.{stamp_test}
 use Rattle.record_parts.proofs.fits.is_stamp.Goals as goal
 
 pub returns-clause-is : goal.returns-clause-is

@@ -1,5 +1,5 @@
 use Rattle.keyed_tree.specs.View.{key_view}
-use Rattle.record_parts.proofs.Encodable.{value_test}
+use Rattle.record_parts.specs.Encodable.{value_test}
 use Rattle.record_parts.proofs.fits.is_value.Goals as goal
 
 pub returns-clause-is : goal.returns-clause-is

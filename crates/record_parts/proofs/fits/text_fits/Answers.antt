@@ -1,4 +1,4 @@
-use Rattle.record_parts.proofs.Encodable.{text_test}
+use Rattle.record_parts.specs.Encodable.{text_test}
 use Rattle.record_parts.proofs.fits.text_fits.Goals as goal
 
 pub returns : goal.returns

@@ -1,5 +1,5 @@
-use Rattle.record_parts.proofs.Encodable.{label_there, label_back, value_there, value_back}
-use Rattle.record_parts.proofs.Sets.{set_parts, stamp_there, stamp_back}
+use Rattle.record_parts.specs.Encodable.{label_there, label_back, value_there, value_back}
+use Rattle.record_parts.specs.Sets.{set_parts, stamp_there, stamp_back}
 use Rattle.record_parts.specs.ShapeLaws.{label_parts, value_parts}
 use Rattle.record_parts.proofs.laws.parts_are_of_shape_and_fit.Goals as goal
 

@@ -1,5 +1,5 @@
-use Rattle.record_parts.proofs.Parts.{label_reads, set_reads, stamp_reads}
-use Rattle.record_parts.proofs.Values.{content_reads, value_reads}
+use Rattle.record_parts.specs.Parts.{label_reads, set_reads, stamp_reads}
+use Rattle.record_parts.specs.Values.{content_reads, value_reads}
 use Rattle.record_parts.proofs.laws.parts_are_read_as_spelled.Goals as goal
 
 pub returns-clause-labels : goal.returns-clause-labels

@@ -4,7 +4,7 @@ use Rattle.record_parts.specs.Spelling.{stamp_bytes}
 use Rattle.record_parts.specs.Reading.{stamp_at, value_at}
 use Rattle.record_parts.specs.ShownViews.{stamp_in, value_in}
 use Rattle.record_parts.proofs.Local.{both_whole, no_first, no_second, too_long, is_some_of}
-use Rattle.record_parts.proofs.Parts.{stamp_reads}
+use Rattle.record_parts.specs.Parts.{stamp_reads}
 use Rattle.record_parts.proofs.lend_parts.lend_alternative.Goals as goal
 
 pub returns-in_err-middle : goal.returns-in_err-middle

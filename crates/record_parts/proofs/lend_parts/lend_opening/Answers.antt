@@ -4,7 +4,7 @@ use Rattle.record_parts.specs.Spelling.{label_bytes}
 use Rattle.record_parts.specs.Reading.{label_at, stamp_at}
 use Rattle.record_parts.specs.ShownViews.{label_in, stamp_in}
 use Rattle.record_parts.proofs.Local.{both_whole, no_first, no_second, too_long, is_some_of}
-use Rattle.record_parts.proofs.Parts.{label_reads}
+use Rattle.record_parts.specs.Parts.{label_reads}
 use Rattle.record_parts.proofs.lend_parts.lend_opening.Goals as goal
 
 pub returns-in_err-middle : goal.returns-in_err-middle

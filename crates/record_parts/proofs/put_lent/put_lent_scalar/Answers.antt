@@ -1,6 +1,6 @@
 use Rattle.std.proofs.Common.{sym, ◌∙◌}
 use Rattle.jsonml_tree.specs.LentAttrs.{lent_scalar_view}
-use Rattle.record_parts.proofs.Encodable.{scalar_there}
+use Rattle.record_parts.specs.Encodable.{scalar_there}
 use Rattle.record_parts.specs.ShapeLaws.{scalar_fit}
 use Rattle.record_parts.proofs.put_lent.put_lent_scalar.Goals as goal
 

@@ -1,6 +1,6 @@
 use Rattle.std.proofs.Common.{sym, ◌∙◌, arith}
 use Rattle.std.proofs.lemmas.Bool.{lt-ltb}
-use Rattle.record_parts.proofs.Encodable.{text_test}
+use Rattle.record_parts.specs.Encodable.{text_test}
 use Rattle.record_parts.proofs.Spelled.{long_false}
 use Rattle.record_parts.proofs.put_lent.put_short.Goals as goal
 

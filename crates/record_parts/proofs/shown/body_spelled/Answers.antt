@@ -3,7 +3,7 @@ use Rattle.xa_fields.specs.Reading.{whole}
 use Rattle.record_parts.specs.Reading.{value_at}
 use Rattle.record_parts.specs.ShownViews.{value_in}
 use Rattle.record_parts.specs.ShapeLaws.{value_parts}
-use Rattle.record_parts.proofs.ShownParts.{value_spelled, value_is}
+use Rattle.record_parts.specs.ShownParts.{value_spelled, value_is}
 use Rattle.record_parts.proofs.shown.body_spelled.Goals as goal
 
 pub returns-clause-spelled : goal.returns-clause-spelled

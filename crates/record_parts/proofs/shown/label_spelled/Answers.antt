@@ -3,7 +3,7 @@ use Rattle.xa_fields.specs.Reading.{whole}
 use Rattle.record_parts.specs.Reading.{label_at}
 use Rattle.record_parts.specs.ShownViews.{label_in}
 use Rattle.record_parts.specs.ShapeLaws.{label_parts}
-use Rattle.record_parts.proofs.ShownParts.{label_spelled, label_is}
+use Rattle.record_parts.specs.ShownParts.{label_spelled, label_is}
 use Rattle.record_parts.proofs.shown.label_spelled.Goals as goal
 
 pub returns-clause-spelled : goal.returns-clause-spelled

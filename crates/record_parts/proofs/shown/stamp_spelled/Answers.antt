@@ -1,5 +1,5 @@
 use Rattle.std.proofs.Common.{arith}
-use Rattle.record_parts.proofs.ShownParts.{stamp_spelled, stamp_is}
+use Rattle.record_parts.specs.ShownParts.{stamp_spelled, stamp_is}
 use Rattle.record_parts.proofs.shown.stamp_spelled.Goals as goal
 
 pub returns-clause-spelled : goal.returns-clause-spelled

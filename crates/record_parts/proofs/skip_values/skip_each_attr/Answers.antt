@@ -5,7 +5,7 @@ use Rattle.jsonml_tree.specs.LentAttrs.{lent_scalar_view}
 use Rattle.record_parts.specs.Behind.{behind}
 use Rattle.record_parts.specs.Reading.{attr_at, next_attr}
 use Rattle.xa_fields.specs.Reading.{chain_at}
-use Rattle.record_parts.proofs.Names.{may, may_not}
+use Rattle.record_parts.specs.Names.{may, may_not}
 use Rattle.record_parts.proofs.Skips.{pass_on, pass_breaks, pass_stops, pass_done}
 use Rattle.record_parts.proofs.skip_values.skip_each_attr.Goals as goal
 

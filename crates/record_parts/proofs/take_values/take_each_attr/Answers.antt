@@ -8,7 +8,7 @@ use Rattle.jsonml_tree.specs.View.{attr_view}
 use Rattle.record_parts.specs.Reading.{attr_at, next_attr}
 use Rattle.xa_fields.specs.Reading.{chain_at}
 use Rattle.xa_fields.proofs.Chains.{chain_on, chain_breaks, chain_stops, chain_done}
-use Rattle.record_parts.proofs.Names.{may, may_not}
+use Rattle.record_parts.specs.Names.{may, may_not}
 use Rattle.record_parts.proofs.take_values.take_each_attr.Goals as goal
 
 pub returns-in_default-clause-found : goal.returns-in_default-clause-found

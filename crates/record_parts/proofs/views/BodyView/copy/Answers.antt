@@ -1,6 +1,6 @@
 use Rattle.std.proofs.Common.{drop}
 use Rattle.keyed_tree.specs.View.{key_view}
-use Rattle.record_parts.proofs.ShownParts.{value_found}
+use Rattle.record_parts.specs.ShownParts.{value_found}
 use Rattle.record_parts.proofs.views.BodyView.copy.Goals as goal
 
 pub returns-in-Ok : goal.returns-in-Ok

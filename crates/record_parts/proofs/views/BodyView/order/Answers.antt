@@ -1,6 +1,6 @@
 use Rattle.keyed_tree.specs.Order.{key_cmp}
 use Rattle.keyed_tree.specs.View.{key_view}
-use Rattle.record_parts.proofs.ShownParts.{value_answer, value_answered}
+use Rattle.record_parts.specs.ShownParts.{value_answer, value_answered}
 use Rattle.record_parts.proofs.views.BodyView.order.Goals as goal
 
 pub returns-in-Some : goal.returns-in-Some

@@ -1,6 +1,6 @@
 use Rattle.keyed_tree.specs.LentView.{lent_val_view}
 use Rattle.keyed_tree.specs.Order.{key_cmp}
-use Rattle.record_parts.proofs.ShownParts.{value_answer, value_answered}
+use Rattle.record_parts.specs.ShownParts.{value_answer, value_answered}
 use Rattle.record_parts.proofs.views.BodyView.order_lent.Goals as goal
 
 pub returns-in-Some : goal.returns-in-Some

@@ -2,7 +2,7 @@ use Rattle.std.proofs.Common.{ap, sym, ◌∙◌}
 use Rattle.std.proofs.lemmas.Slice.Eq.{bytes_eq-Decides}
 use Rattle.record_parts.specs.ShownViews.{shown_body}
 use Rattle.record_parts.specs.Spelling.{value_bytes}
-use Rattle.record_parts.proofs.ShownParts.{same_values}
+use Rattle.record_parts.specs.ShownParts.{same_values}
 use Rattle.record_parts.proofs.views.BodyView.same_as.Goals as goal
 
 pub returns : goal.returns

@@ -1,4 +1,4 @@
-use Rattle.record_parts.proofs.ShownParts.{labels_answer, labels_answered}
+use Rattle.record_parts.specs.ShownParts.{labels_answer, labels_answered}
 use Rattle.record_parts.proofs.views.LabelView.compare.Goals as goal
 
 pub returns-in-Some : goal.returns-in-Some

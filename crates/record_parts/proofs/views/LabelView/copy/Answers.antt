@@ -1,6 +1,6 @@
 use Rattle.std.proofs.Common.{drop}
 use Rattle.keyed_tree.specs.View.{label_view}
-use Rattle.record_parts.proofs.ShownParts.{label_found}
+use Rattle.record_parts.specs.ShownParts.{label_found}
 use Rattle.record_parts.proofs.views.LabelView.copy.Goals as goal
 
 pub returns-in-Ok : goal.returns-in-Ok

@@ -1,6 +1,6 @@
 use Rattle.std.proofs.Common.{drop}
 use Rattle.record_parts.specs.Shown.{shown_name}
-use Rattle.record_parts.proofs.ShownParts.{label_has_name, label_named}
+use Rattle.record_parts.specs.ShownParts.{label_has_name, label_named}
 use Rattle.record_parts.proofs.views.LabelView.name.Goals as goal
 
 pub returns-in-Some : goal.returns-in-Some

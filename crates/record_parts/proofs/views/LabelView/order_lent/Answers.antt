@@ -1,6 +1,6 @@
 use Rattle.keyed_tree.specs.Order.{label_cmp}
 use Rattle.record_parts.specs.Shown.{named}
-use Rattle.record_parts.proofs.ShownParts.{label_answer, label_answered}
+use Rattle.record_parts.specs.ShownParts.{label_answer, label_answered}
 use Rattle.record_parts.proofs.views.LabelView.order_lent.Goals as goal
 
 pub returns-in-Some : goal.returns-in-Some

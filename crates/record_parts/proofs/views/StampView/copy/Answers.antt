@@ -1,6 +1,6 @@
 use Rattle.std.proofs.Common.{drop}
 use Rattle.archive_tree.specs.View.{stamp_view}
-use Rattle.record_parts.proofs.ShownParts.{stamp_found}
+use Rattle.record_parts.specs.ShownParts.{stamp_found}
 use Rattle.record_parts.proofs.views.StampView.copy.Goals as goal
 
 pub returns-in-Ok : goal.returns-in-Ok

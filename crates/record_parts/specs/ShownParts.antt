@@ -15,9 +15,9 @@ use Rattle.record_parts.specs.Reading.{label_at, name_at, stamp_at, value_at}
 use Rattle.record_parts.specs.ShownViews.{label_in, stamp_in, value_in}
 use Rattle.record_parts.specs.Spelling.{label_bytes, stamp_bytes, value_bytes}
 use Rattle.record_parts.specs.Whole.{IsLabelBytes, IsStampBytes, IsValueBytes}
-use Rattle.record_parts.proofs.Parts.{label_reads, stamp_reads}
-use Rattle.record_parts.proofs.Readers.{passed_some}
-use Rattle.record_parts.proofs.Values.{value_reads}
+use Rattle.record_parts.specs.Parts.{label_reads, stamp_reads}
+use Rattle.record_parts.specs.Readers.{passed_some}
+use Rattle.record_parts.specs.Values.{value_reads}
 
 some_value : {A : Type 0} (o : Option A) → IsSome o → (a : A) × (o ≡ Some a)
 some_value (Some a) h = (a, refl)

@@ -16,9 +16,9 @@ use Rattle.record_parts.specs.Spelling.{value_bytes, name_spelling, label_bytes,
 use Rattle.record_parts.specs.Bounds.{IsValue, IsLabel, IsSet, IsStamp, most}
 use Rattle.record_parts.specs.Reading.{value_at, name_of, name_at, label_at, stamp_of, stamp_at}
 use Rattle.timestamp_tree.specs.Reading.{pair_at, next_pair, set_at}
-use Rattle.record_parts.proofs.Readers.{Kind, behind_kind, reads_as, not_zero}
+use Rattle.record_parts.specs.Readers.{Kind, behind_kind, reads_as, not_zero}
 use Rattle.xa_fields.proofs.Chains.{on_some, follows, IsChain, chained_reads}
-use Rattle.record_parts.proofs.Values.{value_reads}
+use Rattle.record_parts.specs.Values.{value_reads}
 
 -- ---- labels
 

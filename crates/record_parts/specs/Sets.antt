@@ -9,7 +9,7 @@ use Rattle.archive_tree.specs.Data.{Stamp}
 use Rattle.archive_tree.specs.PartsTest.{is_from}
 use Rattle.archive_tree.proofs.Tells.{from-is_from}
 use Rattle.record_parts.specs.Bounds.{most, IsSet, IsStamp}
-use Rattle.record_parts.proofs.Encodable.{both_hold}
+use Rattle.record_parts.specs.Encodable.{both_hold}
 use Rattle.record_parts.specs.Checks.{is_some_set, set_fits, stamp_fits}
 
 le_of : (m n : ℕ) → IsTrue (leb m n) → m ≤ n

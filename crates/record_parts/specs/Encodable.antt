@@ -11,7 +11,7 @@ use Rattle.keyed_tree.specs.Data.{PlainKey, scalar, inside, PlainLabel, name_byt
 use Rattle.xa_fields.specs.Spelling.{IsText}
 use Rattle.record_parts.specs.Bounds.{IsScalar, IsAttr, AreAttrs, IsItem, IsInside, AreItems, IsContent, IsValue, IsLabel, deepest}
 use Rattle.record_parts.specs.Checks.{text_fits, scalar_fits, each_attr_fits, attrs_fit, item_fits, content_fits, items_fit, value_fits, values_fit, label_fits}
-use Rattle.record_parts.proofs.Values.{IsShallow}
+use Rattle.record_parts.specs.Values.{IsShallow}
 
 pub both_hold : (a b : Bool) → IsTrue a → IsTrue b → IsTrue (a && b)
 both_hold true b p q = q

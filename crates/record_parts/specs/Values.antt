@@ -17,7 +17,7 @@ use Rattle.xa_fields.proofs.Combinators.{IsList, list_reads}
 use Rattle.record_parts.specs.Spelling.{scalar_bytes, attr_bytes, item_bytes, content_bytes, items_bytes, value_bytes}
 use Rattle.record_parts.specs.Bounds.{IsScalar, IsAttr, AreAttrs, IsItem, IsInside, AreItems, IsContent, IsValue, deepest}
 use Rattle.record_parts.specs.Reading.{scalar_of, scalar_at, attr_at, next_attr, attrs_at, content_by, item_of, item_by, content_below, item_at, content_at, value_of, value_at}
-use Rattle.record_parts.proofs.Readers.{Kind, behind_kind, passed_some, reads_as}
+use Rattle.record_parts.specs.Readers.{Kind, behind_kind, passed_some, reads_as}
 use Rattle.xa_fields.proofs.Chains.{on_some, follows, IsChain, chained_reads}
 
 -- ---- scalars
