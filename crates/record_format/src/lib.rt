@@ -19,6 +19,7 @@ pub use laws::{
 };
 pub use lend_records::{view, view_body};
 pub use limits::LONGEST;
+pub use put_directory::put_entries;
 pub use put_records::{close, encode, open, put_alt, put_end, put_inner, put_leaf, put_leaf_end};
 pub use rec::{ALT, Dir, END, Entry, FRAME, INNER, LEAF, LEAF_END, Rec};
 pub use record_parts::{
@@ -26,5 +27,4 @@ pub use record_parts::{
     is_value,
 };
 pub use take_records::{decode, take_frame, take_record};
-pub use timestamp_tree::lend_sets;
 pub use views::View;

@@ -31,8 +31,9 @@ fn put_entry(out: &mut Vec<u8>, entry: &Entry) -> Result<(), AllocError>
     out.extend_from_slice(&spell_entry(entry))
 }
 
+/// Appends the entries of kids, and on a refusal some of them.
 #[tactic(auto, using(xa_fields::proofs::Combinators::growth))]
-fn put_entries(out: &mut Vec<u8>, entries: &[Entry]) -> Result<(), AllocError>
+pub fn put_entries(out: &mut Vec<u8>, entries: &[Entry]) -> Result<(), AllocError>
     ensures ok { OnOk result (out.new.items
         ≡ out.old.items ++ flat_map entry_bytes (map entry_view entries.now)) }
     ensures grows { Grows out.old.items out.new.items }

@@ -16,9 +16,9 @@ use crate::fault::WriteFault;
 use crate::plan::{TreeNode, added, plan_tree};
 use crate::rows::Row;
 use crate::spell::body_length;
-use record_format::{END, Entry, close, open};
+use record_format::{END, close, open, put_entries};
 use std::alloc::AllocError;
-use timestamp_tree::put_set;
+use timestamp_tree::put_stored;
 use version_set::VersionSet;
 use xa_fields::{FIELD, append_u32, append_u64};
 
@@ -97,26 +97,6 @@ fn put_dir(out: &mut Vec<u8>, row: &Row, nodes: &mut Vec<TreeNode>) -> Result<()
     put_nodes(out, &row.sets, nodes)
 }
 
-fn spell_entry(entry: &Entry) -> [u8; 24]
-    ensures { result ≡ entry_bytes (entry_view entry.now) }
-{
-    let mut bytes = [0; 24];
-    bytes[..8].copy_from_slice(&entry.start.to_be_bytes());
-    bytes[8..16].copy_from_slice(&entry.length.to_be_bytes());
-    bytes[16..].copy_from_slice(&entry.dir.to_be_bytes());
-    bytes
-}
-
-fn put_entries(out: &mut Vec<u8>, entries: &[Entry]) -> Result<(), AllocError>
-    ensures { OnOk result (out.new.items
-        ≡ out.old.items ++ flat_map entry_bytes (map entry_view entries.now)) }
-{
-    for entry in entries {
-        out.extend_from_slice(&spell_entry(entry))?;
-    }
-    Ok(())
-}
-
 /// Appends the nodes, from the last to the first. None is left.
 fn put_nodes(
     out: &mut Vec<u8>,
@@ -138,12 +118,4 @@ fn put_node(out: &mut Vec<u8>, sets: &[VersionSet], node: &TreeNode) -> Result<(
     ensures { OnOk result (out.new.items ≡ out.old.items ++ node_bytes sets.now node.now) }
 {
     put_stored(out, &sets[node.set], node.left)
-}
-
-fn put_stored(out: &mut Vec<u8>, set: &VersionSet, left: u64) -> Result<(), AllocError>
-    ensures { OnOk result (out.new.items
-        ≡ out.old.items ++ stored (pairs_of set.now) left) }
-{
-    put_set(out, set)?;
-    append_u64(out, left)
 }

@@ -1,6 +1,5 @@
 // Expecting the timestamp tree over the sets of kids.
 ghost use Rattle.std.specs.Prelude.{◌≡◌, ◌-◌, ◌≤◌, length, take, drop, IfOk, OnOk};
-ghost use Rattle.version_set.specs.Members.{united};
 ghost use Rattle.version_set.specs.View.{pairs_of};
 ghost use Rattle.timestamp_tree.specs.Bytes.{tree_bytes};
 ghost use Rattle.timestamp_tree.specs.Data.{top};
@@ -12,7 +11,7 @@ use crate::room::Room;
 use crate::sets::Sets;
 use crate::spell::expect_stored;
 use crate::stop::Stop;
-use std::alloc::AllocError;
+use timestamp_tree::union_of;
 use version_set::VersionSet;
 use xa_outside::Folder;
 
@@ -47,14 +46,4 @@ pub(crate) fn expect_tree<F: Folder>(
     let set = union_of(left, right)?;
     expect_stored(room, folder, name, &set, size)?;
     Ok(set)
-}
-
-/// The union of both sets, which often are the same.
-fn union_of(left: VersionSet, right: VersionSet) -> Result<VersionSet, AllocError>
-    ensures { IfOk result (λ set. pairs_of set ≡ united (pairs_of left) (pairs_of right)) }
-{
-    if left.same(&right) {
-        return Ok(left);
-    }
-    left.union(&right)
 }

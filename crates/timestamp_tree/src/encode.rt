@@ -1,5 +1,5 @@
 // Writing sets and trees.
-ghost use Rattle.std.specs.Prelude.{◌≡◌, ◌++◌, OnOk};
+ghost use Rattle.std.specs.Prelude.{◌≡◌, ◌++◌, ◌∷◌, [], OnOk};
 ghost use Rattle.std.specs.List.{flat_map};
 ghost use Rattle.version_set.specs.View.{pairs_of};
 ghost use Rattle.xa_fields.specs.Laws.{Grows};
@@ -18,8 +18,24 @@ pub fn put_set(out: &mut Vec<u8>, set: &VersionSet) -> Result<(), AllocError>
     ensures ok { OnOk result (out.new.items ≡ out.old.items ++ set_bytes (pairs_of set.now)) }
     ensures grows { Grows out.old.items out.new.items }
 {
-    append_u32(out, set.count())?;
-    put_pairs(out, set.pairs())
+    match set.pairs() {
+        [(from, to)] => out.extend_from_slice(&spell_one(*from, *to)),
+        pairs => {
+            append_u32(out, set.count())?;
+            put_pairs(out, pairs)
+        }
+    }
+}
+
+// The bytes of a set of one interval, as most are.
+fn spell_one(from: u32, to: u32) -> [u8; 12]
+    ensures { result ≡ set_bytes ((from, to) ∷ []) }
+{
+    let mut bytes = [0; 12];
+    bytes[..4].copy_from_slice(&1u32.to_be_bytes());
+    bytes[4..8].copy_from_slice(&from.to_be_bytes());
+    bytes[8..].copy_from_slice(&to.to_be_bytes());
+    bytes
 }
 
 #[tactic(auto, using(xa_fields::proofs::Combinators::growth))]
@@ -41,8 +57,23 @@ pub fn put_stored(out: &mut Vec<u8>, set: &VersionSet, left_size: u64) -> Result
         ≡ out.old.items ++ stored (pairs_of set.now) left_size) }
     ensures grows { Grows out.old.items out.new.items }
 {
-    put_set(out, set)?;
-    append_u64(out, left_size)
+    match set.pairs() {
+        [(from, to)] => out.extend_from_slice(&spell_lone(*from, *to, left_size)),
+        _ => {
+            put_set(out, set)?;
+            append_u64(out, left_size)
+        }
+    }
+}
+
+// The bytes of a node without its parts, whose set has one interval.
+fn spell_lone(from: u32, to: u32, left_size: u64) -> [u8; 20]
+    ensures { result ≡ stored ((from, to) ∷ []) left_size }
+{
+    let mut bytes = [0; 20];
+    bytes[..12].copy_from_slice(&spell_one(from, to));
+    bytes[12..].copy_from_slice(&left_size.to_be_bytes());
+    bytes
 }
 
 /// Appends a tree in preorder, and on a refusal some of it.

@@ -15,13 +15,13 @@ mod steps;
 mod take;
 mod tree;
 
-pub use encode::put_set;
+pub use encode::{put_set, put_stored};
 pub use fault::NodeFault;
 pub use laws::trees_stand_part_by_part;
 pub use lend::lend_sets;
 pub use node::{Node, node_at};
 pub use probe::{Probe, probe_at};
-pub use put::put_tree;
+pub use put::{put_tree, union_of};
 pub use steps::Steps;
 pub use take::{lend_pair, pairs_contain, take_pairs};
 pub use tree::TsTree;

@@ -138,8 +138,8 @@ fn put_inner(
     Ok(set)
 }
 
-/// The union of both sets, which often are the same.
-fn union_of(left: VersionSet, right: VersionSet) -> Result<VersionSet, AllocError>
+/// The union of both sets, which often are the same: then it takes no memory.
+pub fn union_of(left: VersionSet, right: VersionSet) -> Result<VersionSet, AllocError>
     ensures { IfOk result (λ set. pairs_of set ≡ united (pairs_of left) (pairs_of right)) }
 {
     if left.same(&right) {
