@@ -1,3 +1,4 @@
+pub mod Obeys
 pub mod Lines
 pub mod Words
 pub mod Front

@@ -22,9 +22,9 @@ ghost use Rattle.xarch_run.specs.Batch.{BatchEnds, IsAnswer, ReadsAsSaid, shown}
 ghost use Rattle.xarch_run.specs.Calls.{DidCommands, call_of};
 
 use crate::batch::run_batch;
+use crate::step::take_step;
 use std::alloc::Global;
 use xa_outside::{Folder, Sink, Source};
-use xarch_steps::take_step;
 use xarch_words::{Command, read_words};
 
 /// Does what the words of a command line say, and answers the status.

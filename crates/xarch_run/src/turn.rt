@@ -7,10 +7,10 @@ ghost use Rattle.xarch_run.specs.Turns.{IsLastStatus, IsUntouched, LineRuns, Lin
 
 use crate::answers::{put_status, say};
 use crate::line::Line;
+use crate::step::take_step;
 use crate::words::read_line_words;
 use std::alloc::{AllocError, Global};
 use xa_outside::{Folder, Sink};
-use xarch_steps::take_step;
 use xarch_words::limits::LINE;
 use xarch_words::{Fault, Quantity, status};
 

@@ -11,7 +11,7 @@ use Rattle.xarch_meanings.specs.Plausible.{MayBe, MayComeLate, MayDo}
 use Rattle.xarch_meanings.specs.Ran.{status_after}
 use Rattle.xarch_meanings.specs.Step.{alone, single_of}
 use Rattle.xarch_meanings.specs.Succeeds.{ShouldSucceed}
-use Rattle.xarch_steps.proofs.Running.{late-end}
+use Rattle.xarch_run.proofs.Running.{late-end}
 
 -- From what is known of commands that should succeed: none is refused, and each is one by itself.
 module _ (never : (files : Files) (command : PlainCommand) (q : Refusal) → ShouldSucceed files command → ¬ MayBe files command (Err q))

@@ -1,5 +1,5 @@
-use Rattle.xarch_steps.proofs.Obeying.{unheard}
-use Rattle.xarch_steps.proofs.step.run_command.Goals as goal
+use Rattle.xarch_run.proofs.Obeying.{unheard}
+use Rattle.xarch_run.proofs.step.run_command.Goals as goal
 
 pub returns-in-Norm : goal.returns-in-Norm
 returns-in-Norm g c = record { performs = rw c.in-Norm.is c.run_norm.ensures; fills = rw c.in-Norm.is tt; silent = rw c.in-Norm.is (λ s. absurd s) }

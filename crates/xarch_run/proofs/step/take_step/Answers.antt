@@ -7,10 +7,10 @@ use Rattle.xarch_meanings.specs.Ran.{MayHaveWritten, outside_of, status_after}
 use Rattle.xarch_meanings.specs.Step.{single_of}
 use Rattle.xarch_meanings.specs.CommandLaws.{once_by}
 use Rattle.xarch_meanings.specs.FillsUp.{IsLimited}
-use Rattle.xarch_steps.proofs.Filling.{fills_by, limited-status}
-use Rattle.xarch_steps.proofs.Running.{complete-from, failed-some, folder_fault-caused, gained-any, gained-refused, long_demo-alone, out_fault-caused, out_fault-only, says-fault, status_after-input, status_after-usage, Tried-from, Wrote-from}
-use Rattle.xarch_steps.proofs.Succeeding.{succeeds-from}
-use Rattle.xarch_steps.proofs.step.take_step.Goals as goal
+use Rattle.xarch_run.proofs.Filling.{fills_by, limited-status}
+use Rattle.xarch_run.proofs.Running.{complete-from, failed-some, folder_fault-caused, gained-any, gained-refused, long_demo-alone, out_fault-caused, out_fault-only, says-fault, status_after-input, status_after-usage, Tried-from, Wrote-from}
+use Rattle.xarch_run.proofs.Succeeding.{succeeds-from}
+use Rattle.xarch_run.proofs.step.take_step.Goals as goal
 
 pub returns-clause-tried : goal.returns-clause-tried
 returns-clause-tried g c = λ files told plain.

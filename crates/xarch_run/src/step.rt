@@ -21,7 +21,7 @@ ghost use Rattle.xarch_meanings.specs.ReadsBack.{ReadsLittle};
 ghost use Rattle.xarch_meanings.specs.Step.{StepIs, alone, single_of};
 ghost use Rattle.xarch_meanings.specs.Succeeds.{ShouldSucceed};
 ghost use Rattle.xarch_meanings.specs.FillsUp.{FillsUp, IsLimited};
-ghost use Rattle.xarch_steps.specs.Obeys.{Obeys};
+ghost use Rattle.xarch_run.specs.Obeys.{Obeys};
 
 use std::alloc::Global;
 use xa_outside::{Folder, Sink};

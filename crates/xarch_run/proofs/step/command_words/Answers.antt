@@ -2,9 +2,9 @@ use Rattle.std.proofs.Common.{None, Some, sym, subst}
 use Rattle.xarch_words.specs.View.{command_view, words_view}
 use Rattle.xarch_meanings.specs.Ran.{IsSilent}
 use Rattle.xarch_meanings.specs.Step.{single_of}
-use Rattle.xarch_steps.proofs.Filling.{fills_up}
-use Rattle.xarch_steps.proofs.Obeying.{obeys-command, obeys-none}
-use Rattle.xarch_steps.proofs.step.command_words.Goals as goal
+use Rattle.xarch_run.proofs.Filling.{fills_up}
+use Rattle.xarch_run.proofs.Obeying.{obeys-command, obeys-none}
+use Rattle.xarch_run.proofs.step.command_words.Goals as goal
 
 pub returns-in-None : goal.returns-in-None
 returns-in-None g c =

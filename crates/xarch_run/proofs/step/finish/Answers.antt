@@ -1,5 +1,5 @@
-use Rattle.xarch_steps.proofs.Running.{Says-none, Says-from}
-use Rattle.xarch_steps.proofs.step.finish.Goals as goal
+use Rattle.xarch_run.proofs.Running.{Says-none, Says-from}
+use Rattle.xarch_run.proofs.step.finish.Goals as goal
 
 pub returns-in-Ok-clause-line : goal.returns-in-Ok-clause-line
 returns-in-Ok-clause-line g c = rw c.in-Ok.is (Says-none _ _)

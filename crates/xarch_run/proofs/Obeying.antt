@@ -12,7 +12,7 @@ use Rattle.xarch_parts.specs.Ends.{HasItsCause, IsCaused}
 use Rattle.xarch_meanings.specs.CommandLaws.{only_makes_none}
 use Rattle.xarch_meanings.specs.Performs.{Performs}
 use Rattle.xarch_meanings.specs.Plausible.{MayDo}
-use Rattle.xarch_steps.specs.Obeys.{Obeys}
+use Rattle.xarch_run.specs.Obeys.{Obeys}
 
 -- what was done beside an output that never failed is no fault of the output
 pub unheard : (a b : ℕ) (e : Option PlainFault) → IsCaused a b 0 0 e → e ≢ Some out_fault

@@ -1,4 +1,0 @@
-pub mod Filling
-pub mod Obeying
-pub mod Running
-pub mod Succeeding
