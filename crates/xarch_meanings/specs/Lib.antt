@@ -5,6 +5,7 @@ pub mod Rekey
 pub mod OnePass
 pub mod FillsUp
 pub mod ReadsBack
+pub mod ByWords
 pub mod Performs
 pub mod CommandLaws
 pub mod Get

@@ -4,15 +4,14 @@ use Rattle.xa_outside.specs.Folder.{Files}
 use Rattle.xa_outside.specs.Numbers.{Numbers}
 use Rattle.xa_outside.specs.Taken.{Taken}
 use Rattle.xarch_words.specs.Commands.{PlainCommand}
-use Rattle.xarch_words.specs.Refusal as refusal
-use Rattle.xarch_words.specs.Refusal.{PlainFault, folder_fault, refused}
-use Rattle.xarch_words.specs.declared.limits.TheConstants.{DEMO}
+use Rattle.xarch_words.specs.Refusal.{PlainFault, folder_fault}
 use Rattle.xarch_parts.specs.Allowed.{MayEndLate}
 use Rattle.xarch_parts.specs.Ends.{IsCaused}
 use Rattle.xarch_parts.specs.Folders.{Keeps}
+use Rattle.xarch_meanings.specs.ByWords.{ByWords}
 use Rattle.xarch_meanings.specs.OnePass.{GoesOnce}
 use Rattle.xarch_meanings.specs.Plausible.{MayBe, MayComeLate}
-use Rattle.xarch_meanings.specs.Ran.{CountsAsSaid, GainsBy, IsLongDemo, made_name}
+use Rattle.xarch_meanings.specs.Ran.{CountsAsSaid, GainsBy, made_name}
 use Rattle.xarch_meanings.specs.ReadsBack.{ReadsLittle}
 
 -- The command was done to the folder, which was `s` before and is `t` now, and to an output that had taken `old` and has taken `new`, and whose count of
@@ -25,7 +24,8 @@ pub record Performs {S : Type 0} (files : S → Option Files) (draft : S → Opt
   pub caused : IsCaused (faults s) (faults t) before now ended
   -- where files are told, it ended as it may
   pub may : (told : Files) → files s ≡ Some told → MayEndLate (MayComeLate told (Some command)) (MayBe told command) ended (files t) old new
-  pub long_demo : IsLongDemo (Some command) → ended ≡ Some (refused (refusal.limit refusal.demo DEMO))
+  -- what its words alone refuse is refused, whatever the folder tells
+  pub by_words : ByWords (Some command) ended
   pub one_pass : GoesOnce (Some command) (files s) (numbers s) (numbers t) (ended ≡ Some folder_fault)
   pub little : ReadsLittle (Some command) (files s) (numbers s) (numbers t)
   pub gained : GainsBy (Some command) ended old new

@@ -149,6 +149,12 @@ pub batch-fails : (files : Files) (c : Option PlainCommand) (command : PlainComm
 unfolding ShouldSucceed
 batch-fails files c command e is should = (let same : command ≡ batch = cc in subst (ShouldSucceed files) same should)
 
+pub batch-add : (c : Option PlainCommand) (archive doc note : List ℕ) → c ≡ Some batch → c ≡ Some (add archive doc note) → ⊥
+batch-add c archive doc note e is = (let wrong : Some batch ≡ Some (add archive doc note) = sym e ∙ is in absurd cc)
+
+pub batch-keys : (c : Option PlainCommand) (tag keys spec : List ℕ) → c ≡ Some batch → c ≡ Some (tablekeys tag keys spec) → ⊥
+batch-keys c tag keys spec e is = (let wrong : Some batch ≡ Some (tablekeys tag keys spec) = sym e ∙ is in absurd cc)
+
 pub batch-demo : (c : Option PlainCommand) (seed count : ℕ) (name : List ℕ) → c ≡ Some batch → c ≡ Some (demo seed count name) → ⊥
 batch-demo c seed count name e is = (let wrong : Some batch ≡ Some (demo seed count name) = sym e ∙ is in absurd cc)
 

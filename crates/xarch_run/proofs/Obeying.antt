@@ -27,7 +27,7 @@ module _ {S : Type 0} (files : S → Option Files) (draft : S → Option (List �
   unfolding HasItsCause
   obeys-usage s t n is = record {
     usage = (λ e. refl, λ e. refl);
-    long_demo = λ long. absurd long;
+    by_words = tt;
     cause = tt;
     folder_later = omega arith;
     out_later = omega arith;
@@ -52,7 +52,7 @@ module _ {S : Type 0} (files : S → Option Files) (draft : S → Option (List �
     obeys-some : Performs files draft numbers faults command s t old new before now e → Obeys files draft numbers faults (Some command) s t old new before now e
     obeys-some p = record {
       usage = (λ is. absurd (IsOfCommand-usage _ _ _ _ e p.caused.cause is), λ none. cc);
-      long_demo = p.long_demo;
+      by_words = p.by_words;
       cause = HasItsCause-command _ _ _ _ e p.caused.cause;
       folder_later = p.caused.folder_later;
       out_later = p.caused.out_later;

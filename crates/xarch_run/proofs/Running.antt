@@ -4,13 +4,13 @@ use Rattle.xa_outside.specs.Causes.{HasCause, Rose}
 use Rattle.xa_outside.specs.Folder.{Files}
 use Rattle.xa_outside.specs.Taken.{Taken, TakesNone, TakesPrefix, Puts}
 use Rattle.xa_outside.specs.TakenLaws.{Takes-nil, Takes-kept, TakesNone-refl, TakesPrefix-none, TakesPrefix-all}
-use Rattle.xarch_words.specs.Commands.{PlainCommand, demo, command_of}
+use Rattle.xarch_words.specs.Commands.{PlainCommand, command_of}
 use Rattle.xarch_words.specs.Refusal.{Refusal, usage, no_file, exists, bad_spec, bad_json, bad_shape, key_fault, key_fault_in, no_version, bad_path, damaged, limit, not_frontier, spec_differs, bad_csv, bad_text, PlainFault, refused, folder_fault, out_fault, in_fault, memory}
 use Rattle.xarch_words.specs.Lines.{fault_line, refusal_status}
-use Rattle.xarch_words.specs.declared.limits.TheConstants.{DEMO}
 use Rattle.xarch_parts.specs.Outcome.{Outcome, Step, output_of, step_from}
 use Rattle.xarch_parts.specs.Ends.{EndsGained, Gained, HasItsCause}
-use Rattle.xarch_meanings.specs.Ran.{GainsBy, IsLongDemo, MayHaveWritten, status_after, line_after, outside_of, Says}
+use Rattle.xarch_meanings.specs.ByWords.{ByWords}
+use Rattle.xarch_meanings.specs.Ran.{GainsBy, MayHaveWritten, status_after, line_after, outside_of, Says}
 use Rattle.xarch_parts.specs.Allowed.{MayEnd, MayEndLate, PutSome}
 use Rattle.xarch_meanings.specs.Plausible.{MayComeLate, MayDo, Plausible, Tried, Wrote, step_behind}
 use Rattle.xarch_meanings.specs.CommandLaws.{met-status}
@@ -283,10 +283,18 @@ pub Says-from : {T E : Type 0} (old new : Taken) (before now : ℕ) (r : Result 
 Says-from old new before now (Ok u) line p q = record { prefix = TakesPrefix-all old new line p; whole = λ _. p }
 Says-from old new before now (Err e) line p q = record { prefix = p; whole = λ not. absurd (not q.failed) }
 
--- a `demo` of too many documents is one by itself
-pub long_demo-alone : (words : List (List ℕ)) (seed count : ℕ) (name : List ℕ) → command_of words ≡ Some (demo seed count name) → DEMO < count → IsLongDemo (single_of words)
-long_demo-alone words seed count name is long = subst (λ (c : Option PlainCommand). IsLongDemo (alone c)) (sym is) long
+-- what words alone refuse, of the command that they spell
+module _ (words : List (List ℕ)) (command : PlainCommand) (is : command_of words ≡ Some command) (ended : Option PlainFault) where
+  pub by_words-of : ByWords (single_of words) ended → ByWords (alone (Some command)) ended
+  by_words-of by = subst (λ (c : Option PlainCommand). ByWords (alone c) ended) is by
 
 -- the line of a fault that is known
 pub says-fault : (ended : Option PlainFault) (f : PlainFault) (old new : Taken) (before now : ℕ) → ended ≡ Some f → Says old new before now (line_after ended) → Says old new before now (fault_line f)
 says-fault ended f old new before now is says = subst (λ (v : Option PlainFault). Says old new before now (line_after v)) is says
+
+-- one fault with its line, or another
+pub either-said : (ended : Option PlainFault) (f g : PlainFault) (answer : ℕ) (old new : Taken) (before now : ℕ)
+    → answer ≡ status_after ended → Says old new before now (line_after ended)
+    → (ended ≡ Some f) ⊎ (ended ≡ Some g) → ((answer ≡ status_after (Some f)) × Says old new before now (fault_line f)) ⊎ (answer ≡ status_after (Some g))
+either-said ended f g answer old new before now status says (inl e) = inl (status ∙ ap status_after e, says-fault ended f old new before now e says)
+either-said ended f g answer old new before now status says (inr e) = inr (status ∙ ap status_after e)

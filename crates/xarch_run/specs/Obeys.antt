@@ -6,13 +6,13 @@ use Rattle.xa_outside.specs.Taken.{Taken}
 use Rattle.xarch_words.specs.Commands.{PlainCommand}
 use Rattle.xarch_words.specs.Refusal as refusal
 use Rattle.xarch_words.specs.Refusal.{PlainFault, folder_fault, refused}
-use Rattle.xarch_words.specs.declared.limits.TheConstants.{DEMO}
 use Rattle.xarch_parts.specs.Allowed.{MayEndLate}
 use Rattle.xarch_parts.specs.Ends.{HasItsCause}
 use Rattle.xarch_parts.specs.Folders.{IsTold}
+use Rattle.xarch_meanings.specs.ByWords.{ByWords}
 use Rattle.xarch_meanings.specs.OnePass.{GoesOnce}
 use Rattle.xarch_meanings.specs.Plausible.{MayComeLate, MayDo}
-use Rattle.xarch_meanings.specs.Ran.{CountsAsSaid, GainsBy, IsLongDemo, OnlyReads}
+use Rattle.xarch_meanings.specs.Ran.{CountsAsSaid, GainsBy, OnlyReads}
 use Rattle.xarch_meanings.specs.ReadsBack.{ReadsLittle}
 
 -- The command that the words spell by themselves was done, or they spell none and are refused. The folder was `s` before and is `t` now, the output had
@@ -20,7 +20,7 @@ use Rattle.xarch_meanings.specs.ReadsBack.{ReadsLittle}
 pub record Obeys {S : Type 0} (files : S → Option Files) (draft : S → Option (List ℕ)) (numbers : S → Numbers) (faults : S → ℕ)
     (c : Option PlainCommand) (s t : S) (old new : Taken) (before now : ℕ) (ended : Option PlainFault) : Type 0 where
   pub usage : (ended ≡ Some (refused refusal.usage)) ↔ (c ≡ None)
-  pub long_demo : IsLongDemo c → ended ≡ Some (refused (refusal.limit refusal.demo DEMO))
+  pub by_words : ByWords c ended
   pub cause : HasItsCause (faults s) (faults t) before now ended
   pub folder_later : faults s ≤ faults t
   pub out_later : before ≤ now

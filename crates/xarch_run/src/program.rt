@@ -2,12 +2,15 @@ ghost use Rattle.std.specs.Prelude.{◌≡◌, ◌≢◌, ◌≤◌, ◌<◌, �
 ghost use Rattle.xa_outside.specs.Causes.{Rose};
 ghost use Rattle.xa_outside.specs.Folder.{Files};
 ghost use Rattle.xa_outside.specs.Taken.{TakesNone};
-ghost use Rattle.xarch_words.specs.Commands.{PlainCommand, batch, command_of, demo};
+ghost use Rattle.csv_tables.specs.Keys.{table_rules};
+ghost use Rattle.key_spec.specs.Canonical.{canonical};
+ghost use Rattle.version_notes.specs.declared.limits.TheConstants.{LONGEST_NOTE};
+ghost use Rattle.xarch_words.specs.Commands.{PlainCommand, add, batch, command_of, demo, key_names, tablekeys};
 ghost use Rattle.xarch_words.specs.Lines.{fault_line};
 ghost use Rattle.xarch_words.specs.Refusal as refusal;
 ghost use Rattle.xarch_words.specs.Refusal.{limit, refused};
 ghost use Rattle.xarch_words.specs.View.{words_view};
-ghost use Rattle.xarch_words.specs.declared.limits.TheConstants.{BATCH, DEMO};
+ghost use Rattle.xarch_words.specs.declared.limits.TheConstants.{BATCH, DEMO, SPECIFICATION};
 ghost use Rattle.xarch_parts.specs.Ends.{Gained};
 ghost use Rattle.xarch_parts.specs.Folders.{IsTold};
 ghost use Rattle.xarch_parts.specs.Outcome.{Step};
@@ -122,6 +125,18 @@ pub fn run<F: Folder, S: Source, O: Sink, E: Sink>(
         → command_of (words_view words.now) ≡ Some (demo seed count name) → DEMO < count
         → (result ≡ 12) × Says (E.taken err.old) (E.taken err.new) (E.faults err.old)
         (E.faults err.new) (fault_line (refused (limit refusal.demo DEMO))) }
+    ensures long_note { (archive doc note : List ℕ)
+        → command_of (words_view words.now) ≡ Some (add archive doc note)
+        → LONGEST_NOTE < length note
+        → ((result ≡ 12) × Says (E.taken err.old) (E.taken err.new) (E.faults err.old)
+        (E.faults err.new) (fault_line (refused (limit refusal.note LONGEST_NOTE))))
+        ⊎ (result ≡ 13) }
+    ensures long_keys { (tag keys spec : List ℕ)
+        → command_of (words_view words.now) ≡ Some (tablekeys tag keys spec)
+        → SPECIFICATION < length (canonical (table_rules tag (key_names keys)))
+        → ((result ≡ 12) × Says (E.taken err.old) (E.taken err.new) (E.faults err.old)
+        (E.faults err.new) (fault_line (refused (limit refusal.specification SPECIFICATION))))
+        ⊎ (result ≡ 16) }
     ensures folder_fault { result ≡ 13 → Rose (F.faults folder.old) (F.faults folder.new) }
     ensures out_fault { result ≡ 14 → Rose (O.faults out.old) (O.faults out.new) }
     ensures silent { IsSilent (command_of (words_view words.now)) → result ≢ 14 }

@@ -1,15 +1,18 @@
 #![tactic(auto, using(xarch_parts::specs::EndLaws::endings))]
 
-ghost use Rattle.std.specs.Prelude.{◌≡◌, ◌≢◌, ◌≤◌, ◌<◌, ◌↔◌, ◌⊎◌, ℕ, List, Some, None, IfSome, option_map};
+ghost use Rattle.std.specs.Prelude.{◌≡◌, ◌≢◌, ◌≤◌, ◌<◌, ◌↔◌, ◌⊎◌, ℕ, List, Some, None, IfSome, length, option_map};
 ghost use Rattle.xa_outside.specs.Causes.{Rose};
 ghost use Rattle.xa_outside.specs.Folder.{Files};
 ghost use Rattle.xa_outside.specs.Taken.{TakesNone};
-ghost use Rattle.xarch_words.specs.Commands.{IsSpelled, PlainCommand, command_of, demo};
+ghost use Rattle.csv_tables.specs.Keys.{table_rules};
+ghost use Rattle.key_spec.specs.Canonical.{canonical};
+ghost use Rattle.version_notes.specs.declared.limits.TheConstants.{LONGEST_NOTE};
+ghost use Rattle.xarch_words.specs.Commands.{IsSpelled, PlainCommand, add, command_of, demo, key_names, tablekeys};
 ghost use Rattle.xarch_words.specs.Lines.{fault_line};
 ghost use Rattle.xarch_words.specs.Refusal as refusal;
 ghost use Rattle.xarch_words.specs.Refusal.{limit, out_fault, refused};
 ghost use Rattle.xarch_words.specs.View.{command_view, words_view};
-ghost use Rattle.xarch_words.specs.declared.limits.TheConstants.{DEMO};
+ghost use Rattle.xarch_words.specs.declared.limits.TheConstants.{DEMO, SPECIFICATION};
 ghost use Rattle.xarch_parts.specs.Ends.{Gained, fault_of};
 ghost use Rattle.xarch_parts.specs.Folders.{IsTold};
 ghost use Rattle.xarch_parts.specs.Outcome.{Step};
@@ -86,6 +89,18 @@ pub fn take_step<F: Folder, O: Sink, E: Sink>(
         → command_of (words_view words.now) ≡ Some (demo seed count name) → DEMO < count
         → (result ≡ 12) × Says (E.taken err.old) (E.taken err.new) (E.faults err.old)
         (E.faults err.new) (fault_line (refused (limit refusal.demo DEMO))) }
+    ensures long_note { (archive doc note : List ℕ)
+        → command_of (words_view words.now) ≡ Some (add archive doc note)
+        → LONGEST_NOTE < length note
+        → ((result ≡ 12) × Says (E.taken err.old) (E.taken err.new) (E.faults err.old)
+        (E.faults err.new) (fault_line (refused (limit refusal.note LONGEST_NOTE))))
+        ⊎ (result ≡ 13) }
+    ensures long_keys { (tag keys spec : List ℕ)
+        → command_of (words_view words.now) ≡ Some (tablekeys tag keys spec)
+        → SPECIFICATION < length (canonical (table_rules tag (key_names keys)))
+        → ((result ≡ 12) × Says (E.taken err.old) (E.taken err.new) (E.faults err.old)
+        (E.faults err.new) (fault_line (refused (limit refusal.specification SPECIFICATION))))
+        ⊎ (result ≡ 16) }
     ensures folder_fault { result ≡ 13 → Rose (F.faults folder.old) (F.faults folder.new) }
     ensures out_fault { result ≡ 14 → Rose (O.faults out.old) (O.faults out.new) }
     ensures silent { IsSilent (single_of (words_view words.now)) → result ≢ 14 }

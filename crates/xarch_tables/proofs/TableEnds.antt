@@ -1,5 +1,6 @@
 -- How the parts of `table` and of `tablekeys` lead to their end.
-use Rattle.std.proofs.Common.{◌≡◌, ℕ, List, Result, Ok, Err, refl, sym, ap, ◌∙◌}
+use Rattle.std.proofs.Common.{◌≡◌, ◌⊎◌, inl, inr, ℕ, List, Option, Some, Result, Ok, Err, refl, sym, ap, ◌∙◌}
+use Rattle.std.specs.Result.{IsErrAnd}
 use Rattle.xa_outside.specs.Folder.{Files}
 use Rattle.jsonml_print.specs.Printed.{document_text}
 use Rattle.jsonml_tree.specs.Data.{PlainTree}
@@ -8,8 +9,11 @@ use Rattle.csv_tables.specs.Data.{PlainTable}
 use Rattle.csv_tables.specs.Keys.{table_rules}
 use Rattle.xarch_words.specs.Commands.{key_names}
 use Rattle.xarch_words.specs.Refusal.{Refusal, PlainFault}
+use Rattle.xarch_words.specs.View.{fault_view}
+use Rattle.xarch_words.specs.declared.fault.Fault.{Fault}
+use Rattle.xarch_parts.specs.AllowedLaws.{passed-fault}
 use Rattle.xarch_parts.specs.Archives.{free_in}
-use Rattle.xarch_parts.specs.Ends.{IsDefined}
+use Rattle.xarch_parts.specs.Ends.{IsDefined, fault_of}
 use Rattle.xarch_parts.specs.EndLaws.{IsDefined-here, IsDefined-next, IsDefined-whatever, and_then-Ok}
 use Rattle.xarch_parts.specs.Outcome.{Outcome, and_then}
 use Rattle.xarch_meanings.specs.Table.{document_for, kept_as, keys_tabled, short_rules, table_input, tabled}
@@ -55,3 +59,8 @@ module _ (files : Files) (tag keys spec : List ℕ) where
         ap (λ (b : List ℕ). Ok (kept_as files spec b)) e
         ∙ sym (and_then-Ok (short_rules tag (key_names keys)) (λ rules. and_then (free_in files spec) (λ _. Ok (kept_as files spec (canonical rules)))) (table_rules tag (key_names keys)) _ short
         (and_then-Ok (free_in files spec) (λ _. Ok (kept_as files spec (canonical (table_rules tag (key_names keys))))) tt _ free refl))
+
+-- a fault that was handed on, which is one of two
+pub either-passed : (r : Result Unit Fault) (f : Fault) (v w : PlainFault) → IsErrAnd r (λ g. g ≡ f) → (fault_view f ≡ v) ⊎ (fault_view f ≡ w) → (fault_of r ≡ Some v) ⊎ (fault_of r ≡ Some w)
+either-passed r f v w is (inl e) = inl (passed-fault r f v is e)
+either-passed r f v w is (inr e) = inr (passed-fault r f w is e)

@@ -1,12 +1,15 @@
 // The names of key columns, and the specification that they make.
 #![tactic(auto, using(xarch_parts::specs::EndLaws::endings), unfolding(xarch_parts::specs::Ends::IsInside, xarch_parts::specs::Ends::IsDefined))]
 
-ghost use Rattle.std.specs.Prelude.{◌≡◌, ◌≤◌, ℕ, IfOk, length, string_bytes};
+ghost use Rattle.std.specs.Prelude.{◌≡◌, ◌⊎◌, ◌≤◌, ℕ, IfOk, IfErr, length, string_bytes};
 ghost use Rattle.xa_outside.specs.Taken.{Taken};
 ghost use Rattle.key_spec.specs.Canonical.{canonical};
 ghost use Rattle.key_spec.specs.View.{names_view};
 ghost use Rattle.csv_tables.specs.Keys.{table_rules};
 ghost use Rattle.xarch_words.specs.Commands.{key_names, tablekeys};
+ghost use Rattle.xarch_words.specs.Refusal as refusal;
+ghost use Rattle.xarch_words.specs.Refusal.{memory, refused};
+ghost use Rattle.xarch_words.specs.View.{fault_view};
 ghost use Rattle.xarch_words.specs.declared.limits.TheConstants.{SPECIFICATION};
 ghost use Rattle.xarch_parts.specs.Ends.{IsInside, Matches, fault_of};
 ghost use Rattle.xarch_meanings.specs.Performs.{Performs};
@@ -53,6 +56,10 @@ fn spelled_text(alloc: Global, tag: &str, keys: &str) -> Result<String, Fault>
         (short_rules tag.now (key_names keys.now)) result }
     ensures text { IfOk result
         (λ text. string_bytes text ≡ canonical (table_rules tag.now (key_names keys.now))) }
+    ensures short { IfOk result (λ _.
+        length (canonical (table_rules tag.now (key_names keys.now))) ≤ SPECIFICATION) }
+    ensures long { IfErr result (λ f. (fault_view f
+        ≡ refused (refusal.limit refusal.specification SPECIFICATION)) ⊎ (fault_view f ≡ memory)) }
 {
     let names = key_names(alloc, keys)?;
     short_text(alloc, tag, &names)
@@ -67,6 +74,8 @@ pub(crate) fn short_text(alloc: Global, tag: &str, names: &[String]) -> Result<S
         (λ text. string_bytes text ≡ canonical (table_rules tag.now (names_view names.now))) }
     ensures short { IfOk result
         (λ _. length (canonical (table_rules tag.now (names_view names.now))) ≤ SPECIFICATION) }
+    ensures long { IfErr result (λ f. (fault_view f
+        ≡ refused (refusal.limit refusal.specification SPECIFICATION)) ⊎ (fault_view f ≡ memory)) }
 {
     let text = keys_text(alloc, tag, names)?;
     at_most(

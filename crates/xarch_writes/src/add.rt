@@ -14,6 +14,8 @@ ghost use Rattle.version_notes.specs.Notes.{is_note, is_printed};
 ghost use Rattle.version_notes.specs.declared.limits.TheConstants.{LONGEST_NOTE};
 ghost use Rattle.noted_file.specs.Contents.{Contents};
 ghost use Rattle.xarch_words.specs.Commands.{add};
+ghost use Rattle.xarch_words.specs.Refusal as refusal;
+ghost use Rattle.xarch_words.specs.Refusal.{refused};
 ghost use Rattle.xarch_words.specs.View.{fault_view, note_view};
 ghost use Rattle.xarch_words.specs.declared.limits.TheConstants.{DOCUMENT};
 ghost use Rattle.xarch_meanings.specs.Add.{tree_of};
@@ -104,6 +106,8 @@ fn check_note(note: &str) -> Result<(), Fault>
     ensures cause { IsInside (fault_of result) }
     ensures told { Matches (λ _. tt) (short_note note.now) result }
     ensures short { OnOk result (length note.now ≤ LONGEST_NOTE) }
+    ensures refused { IfErr result
+        (λ f. fault_view f ≡ refused (refusal.limit refusal.note LONGEST_NOTE)) }
 {
     at_most(note.len() as u64, Quantity::Note, LONGEST_NOTE as u64)?;
     Ok(())

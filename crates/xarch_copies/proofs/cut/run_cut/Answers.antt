@@ -27,7 +27,7 @@ returns-in_err-begin g c =
         keeps = streams-not_begun _ _ _ _ _ _ refl e.ensures.begins;
         caused = caused-passed _ _ _ _ r.result _ r.ensures.1 (caused-begin _ _ _ _ e.ensures.begins);
         may = λ files told. inl (MayEnd-folder (MayBe files (command.cut c.args.archive.now c.args.new.now c.args.first c.args.last)) r.result e.field-0.0 _ t r.ensures.1 e.ensures.fault);
-        long_demo = λ long. absurd long;
+        by_words = tt;
         one_pass = tt;
         little = tt;
         gained = inl (gained-none _ _);
@@ -50,7 +50,7 @@ returns-in_err-front g c =
         may = λ files told.
             inl (MayEnd-passed (MayBe files (command.cut name new c.args.first c.args.last)) r.result e.field-0.0 _ t r.ensures.1
             (λ q is. may-refuse c.full_files_have_parts.ensures.parts c.versions_have_one_file.ensures.header files name new c.args.first c.args.last q (defined_refused (cut_input files name new c.args.first c.args.last) _ q (e.ensures.told files (began.same_files ∙ told)) is)));
-        long_demo = λ long. absurd long;
+        by_words = tt;
         one_pass = tt;
         little = tt;
         gained = inl (gained-none _ _);
@@ -82,7 +82,7 @@ returns g c =
             inl (let told1 = began.same_files ∙ told in
             may-end c.full_files_have_parts.ensures.parts c.versions_have_one_file.ensures.header files name new c.args.first c.args.last c.full_files_are_read_note_by_note.ensures.come _ (read.reads.same_files ∙ told1) c.in_ok-front.front (found.before.are files told1) (found.before.stands files told1)
             (read.told files told1) found.from c.requires found.most _ _ t (fault_of c.make_archive.result) made.ends);
-        long_demo = λ long. absurd long;
+        by_words = tt;
         one_pass = tt;
         little = tt;
         gained = inl (gained-none _ _);

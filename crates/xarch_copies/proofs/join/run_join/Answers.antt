@@ -29,7 +29,7 @@ returns-in_err-begin g c =
         keeps = streams-not_begun _ _ _ _ _ _ refl e.ensures.begins;
         caused = caused-passed _ _ _ _ r.result _ r.ensures.1 (caused-begin _ _ _ _ e.ensures.begins);
         may = λ files told. inl (MayEnd-folder (MayBe files (command.join c.args.one.now c.args.two.now c.args.new.now)) r.result e.field-0.0 _ t r.ensures.1 e.ensures.fault);
-        long_demo = λ long. absurd long;
+        by_words = tt;
         one_pass = λ not. absurd (not (passed-fault r.result e.field-0.0 folder_fault r.ensures.1 e.ensures.fault));
         little = tt;
         gained = inl (gained-none _ _);
@@ -55,7 +55,7 @@ returns-in_err-both g c =
         may = λ files told.
             inl (MayEnd-passed (MayBe files (command.join one two new)) r.result e.field-0.0 _ t r.ensures.1
             (λ q is. may-refuse c.full_files_have_parts.ensures.parts c.versions_have_one_file.ensures.header files one two new q (defined_refused (join_input files one two new) _ q (e.ensures.told files (began.same_files ∙ told)) is)));
-        long_demo = λ long. absurd long;
+        by_words = tt;
         one_pass = λ not. once-begun _ _ _ _ _ began (reads-more _ _ _ _ _ (omega (arith, first, second)) e.ensures.reads);
         little = tt;
         gained = inl (gained-none _ _);
@@ -94,7 +94,7 @@ returns g c =
             inl (let told1 = began.same_files ∙ told in
             may-end c.full_files_have_parts.ensures.parts c.versions_have_one_file.ensures.header files one two new c.full_files_are_read_note_by_note.ensures.come _ (read.reads.same_files ∙ told1) both
             (subst (λ fs. AreFound one two fs both) (sym read.reads.same_files) read.found) (read.told files told1) _ _ t (fault_of c.make_archive.result) made.ends);
-        long_demo = λ long. absurd long;
+        by_words = tt;
         one_pass = λ not. once-made _ least (behind_front both.one + behind_front both.two) _ _ _ _ _ (omega (arith, fits, fits2, inside, inside2, core, core2, same, same2)) began (reads-once _ least _ _ _ read.reads read.once) made.streams;
         little = tt;
         gained = inl (gained-none _ _);

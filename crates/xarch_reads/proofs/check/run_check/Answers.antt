@@ -11,7 +11,7 @@ returns-in_err-versions g c = record {
   keeps = keeps-read _ _ _ _ _ c.in_err-versions.ensures.reads;
   caused = caused-passed _ _ _ _ c.from_residual.result _ c.from_residual.ensures.1 (caused-read _ _ _ _ _ c.in_err-versions.ensures.reads);
   may = λ files told. inl (MayEnd-passed (MayBe files (check c.args.archive.now)) c.from_residual.result c.in_err-versions.field-0.0 _ _ c.from_residual.ensures.1 (λ q e. c.in_err-versions.ensures.refused files q told e));
-  long_demo = λ long. absurd long;
+  by_words = tt;
   one_pass = tt;
   little = tt;
   gained = inl (gained-none _ _);
@@ -24,7 +24,7 @@ returns g c = record {
   may = λ files told.
       inl (MayEnd-written (MayBe files (check c.args.archive.now)) (record { files = files; output = check_text c.in_ok-versions.versions }) c.write_count.result _ _ _ _ _
       (c.in_ok-versions.ensures.versions files told) (tells_same _ files (c.in_ok-versions.ensures.reads.same_files ∙ told)) c.write_count.ensures.bytes c.write_count.ensures.cause);
-  long_demo = λ long. absurd long;
+  by_words = tt;
   one_pass = tt;
   little = tt;
   gained = inl (gained-written c.write_count.result _ _ _ _ _ c.write_count.ensures.bytes c.write_count.ensures.cause);

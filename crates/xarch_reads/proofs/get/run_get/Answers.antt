@@ -17,7 +17,7 @@ returns-in_err-parts g c = record {
   may = λ files told.
       inl (MayEnd-passed (MayBe files (get c.args.archive.now c.args.version)) c.from_residual.result c.in_err-parts.field-0.0 _ _ c.from_residual.ensures.1
       (absent-parts c.full_files_have_parts.ensures.parts files c.args.archive.now c.args.version (fault_view c.in_err-parts.field-0.0) (c.in_err-parts.ensures.told files told)));
-  long_demo = λ long. absurd long;
+  by_words = tt;
   one_pass = tt;
   little = λ files held a told is of. PullsAtMost-more 16 _ _ _ (omega arith) c.in_err-parts.ensures.reads.pulls;
   gained = inl (gained-none _ _);
@@ -37,7 +37,7 @@ returns g c = record {
       let parts = c.in_ok-parts.parts in
       let p = c.in_ok-parts.ensures.are files told in
       c.write_version.ensures.may files (take parts.core p.bytes) (c.in_ok-parts.ensures.reads.same_files ∙ told) (of-parts files c.args.archive.now parts p);
-  long_demo = λ long. absurd long;
+  by_words = tt;
   one_pass = tt;
   little = let f = g.F.Folder in
       let k = g.O.Sink in

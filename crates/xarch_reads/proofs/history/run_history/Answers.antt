@@ -26,7 +26,7 @@ returns-in_err-header g c = record {
       inl (let input = c.in_err-header.ensures.told files told in
       MayEnd-passed (MayBe files (history c.args.archive.now c.args.path.now)) c.from_residual.result c.in_err-header.field-0.0 _ _ c.from_residual.ensures.1
       (λ q e. may_refuse_early c.full_files_have_parts.ensures.parts c.versions_have_one_file.ensures.header files c.args.archive.now c.args.path.now q (defined_refused (history_input files c.args.archive.now c.args.path.now) _ q input e)));
-  long_demo = λ long. absurd long;
+  by_words = tt;
   one_pass = tt;
   little = λ files held a told is of. PullsAtMost-more (16 + front_size held.rules held.versions) _ _ _ (omega arith) (c.in_err-header.ensures.few files held told is);
   gained = inl (gained-none _ _);
@@ -46,7 +46,7 @@ returns-in_err-versions g c = record {
       MayEnd-passed (MayBe files (history c.args.archive.now c.args.path.now)) c.from_residual-in_err-versions.result c.in_err-versions.field-0.0 _ _ c.from_residual-in_err-versions.ensures.1
       (λ q e. may_refuse c.full_files_have_parts.ensures.parts c.versions_have_one_file.ensures.header files c.args.archive.now c.args.path.now (h.rules, h.versions) (map label_view c.deref.result.now) input q (c.in_err-versions.ensures.damaged q e)
       (λ held is. c.in_err-versions.ensures.undamaged files held told1 front is q e)));
-  long_demo = λ long. absurd long;
+  by_words = tt;
   one_pass = tt;
   little = λ files held a told is of.
       let h = header_view c.in_ok-header.header in
@@ -68,7 +68,7 @@ returns-in_err-line g c = record {
       inl (let command = MayBe files (history c.args.archive.now c.args.path.now) in
       MayEnd-passed command c.from_residual-in_err-line.result c.in_err-line.field-0.0 _ _ c.from_residual-in_err-line.ensures.1
       (λ q e. no_memory _ q (sym c.in_err-line.ensures.memory ∙ e)));
-  long_demo = λ long. absurd long;
+  by_words = tt;
   one_pass = tt;
   little = λ files held a told is of.
       let h = header_view c.in_ok-header.header in
@@ -95,7 +95,7 @@ returns g c = record {
       (may_write c.full_files_have_parts.ensures.parts c.versions_have_one_file.ensures.header files c.args.archive.now c.args.path.now (h.rules, h.versions) (map label_view c.deref.result.now) input c.as_bytes.result.now
       (λ held is. c.as_bytes.ensures.value ∙ c.in_ok-line.ensures.text ∙ ap numbers_text (c.in_ok-versions.ensures.members files held told1 front is)))
       (tells_same _ files (c.in_ok-versions.ensures.reads.same_files ∙ told1)) c.write_bytes.ensures.bytes c.write_bytes.ensures.cause);
-  long_demo = λ long. absurd long;
+  by_words = tt;
   one_pass = tt;
   little = λ files held a told is of.
       let h = header_view c.in_ok-header.header in

@@ -23,7 +23,7 @@ returns-in_err-header g c = record {
       let input = c.in_err-header.ensures.told files told in
       MayEnd-passed (MayBe files (log name path)) c.from_residual.result c.in_err-header.field-0.0 _ _ c.from_residual.ensures.1
       (λ q e. log-refused c.full_files_have_parts.ensures.parts c.versions_have_one_file.ensures.header files name path q (refused-before files name path q (defined_refused (history_input files name path) _ q input e))));
-  long_demo = λ long. absurd long;
+  by_words = tt;
   one_pass = tt;
   little = λ files held a told is of. PullsAtMost-more (16 + front_size held.rules held.versions) _ _ _ (omega arith) (c.in_err-header.ensures.few files held told is);
   gained = inl (gained-none _ _);
@@ -45,7 +45,7 @@ returns-in_err-end_at_frontier g c =
           MayEnd-passed (MayBe files (log name path)) c.from_residual-in_err-end_at_frontier.result c.in_err-end_at_frontier.field-0.0 _ _ c.from_residual-in_err-end_at_frontier.ensures.1
           (λ q e. log-refused c.full_files_have_parts.ensures.parts c.versions_have_one_file.ensures.header files name path q
           (refused-there files name path (h.rules, h.versions) labels input q (defined_refused (ending_at_frontier h.rules labels) _ q c.in_err-end_at_frontier.ensures.told e))));
-      long_demo = λ long. absurd long;
+      by_words = tt;
       one_pass = tt;
       little = λ files held a told is of. PullsAtMost-more (16 + front_size held.rules held.versions) _ _ _ (omega arith) (c.in_ok-header.ensures.few files held told is);
       gained = inl (gained-none _ _);
@@ -67,7 +67,7 @@ returns g c =
       may = λ files told.
           let input = e.told files told ∙ ap (λ (ls : List Label). Ok ((h.rules, h.versions), map label_view ls)) (sym c.deref.ensures.value) in
           c.write_log.ensures.may files path (e.reads.same_files ∙ told) (e.front files told) (given-there files name path (h.rules, h.versions) labels input c.in_ok-end_at_frontier.ensures.told);
-      long_demo = λ long. absurd long;
+      by_words = tt;
       one_pass = tt;
       little = λ files held a told is of.
           let input = e.told files told ∙ ap (λ (ls : List Label). Ok ((h.rules, h.versions), map label_view ls)) (sym c.deref.ensures.value) in

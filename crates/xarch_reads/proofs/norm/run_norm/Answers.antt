@@ -16,7 +16,7 @@ returns-in_err-spec g c = record {
   may = λ files told.
       inl (MayEnd-passed (λ r. r ≡ norm_of files c.args.spec.now c.args.doc.now) c.from_residual.result c.in_err-spec.field-0.0 _ _ c.from_residual.ensures.1
       (λ q e. sym (defined_refused (norm_of files c.args.spec.now c.args.doc.now) _ q (norm-refused files c.args.spec.now c.args.doc.now _ (c.in_err-spec.ensures.told files told)) e)));
-  long_demo = λ long. absurd long;
+  by_words = tt;
   one_pass = tt;
   little = tt;
   gained = inl (gained-none _ _);
@@ -33,7 +33,7 @@ returns g c = record {
       let same = norm-goes_on files c.args.spec.now c.args.doc.now rules c.deref.result.now input in
       MayEnd-told _ files _ _ _ _ (c.in_ok-spec.ensures.reads.same_files ∙ told)
       (MayEnd-more (λ r. r ≡ norm_from files rules c.deref.result.now) (λ r. r ≡ norm_of files c.args.spec.now c.args.doc.now) (λ r e. e ∙ sym same) _ _ _ _ (c.write_ordered.ensures.may files)));
-  long_demo = λ long. absurd long;
+  by_words = tt;
   one_pass = tt;
   little = tt;
   gained = inl (gained-may _ _ _ _ _ (c.write_ordered.ensures.may (map.from_entries [])));

@@ -12,7 +12,7 @@ returns-in_err-counts g c = record {
   keeps = keeps-read _ _ _ _ _ c.in_err-counts.ensures.reads;
   caused = caused-passed _ _ _ _ c.from_residual.result _ c.from_residual.ensures.1 (caused-read _ _ _ _ _ c.in_err-counts.ensures.reads);
   may = λ files told. inl (MayEnd-passed (MayBe files (stats c.args.archive.now)) c.from_residual.result c.in_err-counts.field-0.0 _ _ c.from_residual.ensures.1 (λ q e. c.in_err-counts.ensures.refused files q told e));
-  long_demo = λ long. absurd long;
+  by_words = tt;
   one_pass = tt;
   little = tt;
   gained = inl (gained-none _ _);
@@ -25,7 +25,7 @@ returns g c = record {
   may = λ files told.
       inl (MayEnd-written (MayBe files (stats c.args.archive.now)) (record { files = files; output = counts_text (counts_view c.in_ok-counts.counts) }) c.write_counts.result _ _ _ _ _
       (c.in_ok-counts.ensures.counts files told) (tells_same _ files (c.in_ok-counts.ensures.reads.same_files ∙ told)) c.write_counts.ensures.bytes c.write_counts.ensures.cause);
-  long_demo = λ long. absurd long;
+  by_words = tt;
   one_pass = tt;
   little = tt;
   gained = inl (gained-written c.write_counts.result _ _ _ _ _ c.write_counts.ensures.bytes c.write_counts.ensures.cause);

@@ -22,7 +22,7 @@ returns-in_err-front g c = record {
       inl (MayEnd-passed (MayBe files (versions c.args.archive.now)) c.from_residual.result c.in_err-front.field-0.0 _ _ c.from_residual.ensures.1
       (λ q e. may_refuse_early c.full_files_have_parts.ensures.parts c.versions_have_one_file.ensures.header c.full_files_are_read_note_by_note.ensures.come files c.args.archive.now q
       (defined_refused (versions_input files c.args.archive.now) _ q (c.in_err-front.ensures.told files told) e)));
-  long_demo = λ long. absurd long;
+  by_words = tt;
   one_pass = tt;
   little = tt;
   gained = inl (gained-none _ _);
@@ -35,7 +35,7 @@ returns g c = record {
   keeps = keeps-read _ _ _ _ _ (reads-more _ _ _ _ _ (omega arith) c.in_ok-front.ensures.reads);
   caused = caused-read _ _ _ _ _ (reads-inside _ _ _ _ c.in_ok-front.ensures.reads tt);
   may = λ files told. inl (MayEnd-stopped (MayBe files (versions c.args.archive.now)) memory _ _ (λ q e. no_memory _ q e));
-  long_demo = λ long. absurd long;
+  by_words = tt;
   one_pass = tt;
   little = tt;
   gained = inl (gained-none _ _);
@@ -57,7 +57,7 @@ returns-in-Ok g c =
       may = λ files told.
           let told1 = f.reads.same_files ∙ told in
           list-ends c.full_files_have_parts.ensures.parts c.versions_have_one_file.ensures.header c.full_files_are_read_note_by_note.ensures.come files name (h.rules, h.versions) (f.told files told) parts (f.front files told).0 _ (l.same_files ∙ told1) _ _ l.gained _ (l.ends files told1);
-      long_demo = λ long. absurd long;
+      by_words = tt;
       one_pass = tt;
       little = tt;
       gained = list-gained name _ _ _ l.only l.gained;

@@ -6,7 +6,7 @@ use Rattle.xarch_run.specs.Batch.{scene}
 use Rattle.xarch_run.specs.Calls.{call_of}
 use Rattle.xarch_run.proofs.BatchFronts.{batch-did}
 use Rattle.xarch_run.proofs.CallLemmas.{single-did}
-use Rattle.xarch_run.proofs.CommandLemmas.{alone-counts, alone-fills, alone-late, alone-little, alone-once, alone-reads, alone-silent, batch-demo, batch-little, batch-none, batch-silent, none-alone, answer-calm, answer-folder, answer-input, answer-out, answer-words, batch-counts, batch-fails, batch-fills, batch-once, batch-reads, fails, holds, steady}
+use Rattle.xarch_run.proofs.CommandLemmas.{alone-counts, alone-fills, alone-late, alone-little, alone-once, alone-reads, alone-silent, batch-add, batch-demo, batch-keys, batch-little, batch-none, batch-silent, none-alone, answer-calm, answer-folder, answer-input, answer-out, answer-words, batch-counts, batch-fails, batch-fills, batch-once, batch-reads, fails, holds, steady}
 use Rattle.xarch_run.proofs.program.run.Goals as goal
 
 -- ---- a batch
@@ -84,6 +84,12 @@ returns-then-is_batch-clause-folder_later g c = c.run_batch.ensures.folder.later
 pub returns-then-is_batch-clause-long_demo : goal.returns-then-is_batch-clause-long_demo
 returns-then-is_batch-clause-long_demo g c = λ seed count name is. absurd (batch-demo _ seed count name (holds _ _ c.if-is_batch.true c.is_batch.ensures) is)
 
+pub returns-then-is_batch-clause-long_note : goal.returns-then-is_batch-clause-long_note
+returns-then-is_batch-clause-long_note g c = λ archive doc text is. absurd (batch-add _ archive doc text (holds _ _ c.if-is_batch.true c.is_batch.ensures) is)
+
+pub returns-then-is_batch-clause-long_keys : goal.returns-then-is_batch-clause-long_keys
+returns-then-is_batch-clause-long_keys g c = λ tag keys spec is. absurd (batch-keys _ tag keys spec (holds _ _ c.if-is_batch.true c.is_batch.ensures) is)
+
 pub returns-then-is_batch-clause-silent : goal.returns-then-is_batch-clause-silent
 returns-then-is_batch-clause-silent g c = λ silent. absurd (batch-silent _ (holds _ _ c.if-is_batch.true c.is_batch.ensures) silent)
 
@@ -94,6 +100,12 @@ returns-else-is_batch-clause-silent g c = alone-silent (command_of (words_view c
 
 pub returns-else-is_batch-clause-long_demo : goal.returns-else-is_batch-clause-long_demo
 returns-else-is_batch-clause-long_demo g c = c.take_step.ensures.long_demo
+
+pub returns-else-is_batch-clause-long_note : goal.returns-else-is_batch-clause-long_note
+returns-else-is_batch-clause-long_note g c = c.take_step.ensures.long_note
+
+pub returns-else-is_batch-clause-long_keys : goal.returns-else-is_batch-clause-long_keys
+returns-else-is_batch-clause-long_keys g c = c.take_step.ensures.long_keys
 
 pub returns-else-is_batch-clause-batch : goal.returns-else-is_batch-clause-batch
 returns-else-is_batch-clause-batch g c = λ bytes is. absurd (fails _ _ c.if-is_batch.false c.is_batch.ensures is)

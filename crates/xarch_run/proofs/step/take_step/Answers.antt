@@ -1,5 +1,9 @@
 use Rattle.std.proofs.Common.{◌≡◌, ◌⊎◌, ℕ, Some, sym, ap, subst, ◌∙◌}
-use Rattle.xarch_words.specs.Refusal.{folder_fault}
+use Rattle.version_notes.specs.declared.limits.TheConstants.{LONGEST_NOTE}
+use Rattle.xarch_words.specs.Commands.{add, demo, tablekeys}
+use Rattle.xarch_words.specs.Refusal as refusal
+use Rattle.xarch_words.specs.Refusal.{folder_fault, limit, memory, refused}
+use Rattle.xarch_words.specs.declared.limits.TheConstants.{SPECIFICATION}
 use Rattle.xarch_words.specs.View.{words_view}
 use Rattle.xarch_parts.specs.Ends.{fault_of}
 use Rattle.xarch_meanings.specs.Plausible.{Tried}
@@ -8,7 +12,7 @@ use Rattle.xarch_meanings.specs.Step.{single_of}
 use Rattle.xarch_meanings.specs.CommandLaws.{once_by}
 use Rattle.xarch_meanings.specs.FillsUp.{IsLimited}
 use Rattle.xarch_run.proofs.Filling.{fills_by, limited-status}
-use Rattle.xarch_run.proofs.Running.{complete-from, failed-some, folder_fault-caused, gained-any, gained-refused, long_demo-alone, out_fault-caused, out_fault-only, says-fault, status_after-input, status_after-usage, Tried-from, Wrote-from}
+use Rattle.xarch_run.proofs.Running.{complete-from, failed-some, folder_fault-caused, gained-any, gained-refused, by_words-of, either-said, out_fault-caused, out_fault-only, says-fault, status_after-input, status_after-usage, Tried-from, Wrote-from}
 use Rattle.xarch_run.proofs.Succeeding.{succeeds-from}
 use Rattle.xarch_run.proofs.step.take_step.Goals as goal
 
@@ -48,8 +52,18 @@ returns-clause-said g c = record { fault = fault_of c.command_words-ended.result
 
 pub returns-clause-long_demo : goal.returns-clause-long_demo
 returns-clause-long_demo g c = λ seed count name is long.
-    let fault = c.command_words-ended.ensures.obeys.long_demo (long_demo-alone (words_view c.args.words.now) seed count name is long) in
+    let fault = by_words-of (words_view c.args.words.now) (demo seed count name) is (fault_of c.command_words-ended.result) c.command_words-ended.ensures.obeys.by_words long in
     (c.finish.ensures.status ∙ ap status_after fault, says-fault _ _ _ _ _ _ fault c.finish.ensures.line)
+
+pub returns-clause-long_note : goal.returns-clause-long_note
+returns-clause-long_note g c = λ archive doc text is long.
+    either-said _ (refused (limit refusal.note LONGEST_NOTE)) folder_fault c.finish.result _ _ _ _ c.finish.ensures.status c.finish.ensures.line
+    (by_words-of (words_view c.args.words.now) (add archive doc text) is (fault_of c.command_words-ended.result) c.command_words-ended.ensures.obeys.by_words long)
+
+pub returns-clause-long_keys : goal.returns-clause-long_keys
+returns-clause-long_keys g c = λ tag keys spec is long.
+    either-said _ (refused (limit refusal.specification SPECIFICATION)) memory c.finish.result _ _ _ _ c.finish.ensures.status c.finish.ensures.line
+    (by_words-of (words_view c.args.words.now) (tablekeys tag keys spec) is (fault_of c.command_words-ended.result) c.command_words-ended.ensures.obeys.by_words long)
 
 pub returns-clause-gained : goal.returns-clause-gained
 returns-clause-gained g c = gained-any (single_of (words_view c.args.words.now)) _ _ _ c.command_words-ended.ensures.obeys.gained

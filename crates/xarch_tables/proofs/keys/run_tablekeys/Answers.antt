@@ -3,7 +3,7 @@ use Rattle.xarch_meanings.specs.Plausible.{MayBe}
 use Rattle.xarch_meanings.specs.Table.{kept_as, keys_tabled}
 use Rattle.xarch_parts.specs.FolderLaws.{caused-begin, caused-begun, caused-inside, caused-passed, caused-then, keeps-begun, keeps-made, keeps-none, keeps-not_begun}
 use Rattle.xarch_parts.specs.AllowedLaws.{MayEnd-folder, MayEnd-passed, MayEnd-stored, defined_refused, gained-none}
-use Rattle.xarch_tables.proofs.TableEnds.{keys-refused, keys-stored, keys-taken}
+use Rattle.xarch_tables.proofs.TableEnds.{either-passed, keys-refused, keys-stored, keys-taken}
 use Rattle.xarch_tables.proofs.keys.run_tablekeys.Goals as goal
 
 pub returns-in_err-text : goal.returns-in_err-text
@@ -15,7 +15,7 @@ returns-in_err-text g c t n = record {
       inl (let defined = keys_tabled files c.args.tag.now c.args.keys.now c.args.spec.now in
       MayEnd-passed (λ r. r ≡ defined) c.from_residual.result c.in_err-text.field-0.0 _ t c.from_residual.ensures.1
       (λ q e. sym (defined_refused defined _ q (keys-refused files c.args.tag.now c.args.keys.now c.args.spec.now _ c.in_err-text.ensures.told) e)));
-  long_demo = λ long. absurd long;
+  by_words = λ long. either-passed c.from_residual.result c.in_err-text.field-0.0 _ _ c.from_residual.ensures.1 c.in_err-text.ensures.long;
   one_pass = tt;
   little = tt;
   gained = inl (gained-none _ _);
@@ -28,7 +28,7 @@ returns-in_err-begin g c t n = record {
   caused = caused-passed _ _ _ _ c.from_residual-in_err-begin.result _ c.from_residual-in_err-begin.ensures.1 (caused-begin _ _ _ _ c.in_err-begin.ensures.begins);
   may = λ files told.
       inl (MayEnd-folder (λ r. r ≡ keys_tabled files c.args.tag.now c.args.keys.now c.args.spec.now) c.from_residual-in_err-begin.result c.in_err-begin.field-0.0 _ t c.from_residual-in_err-begin.ensures.1 c.in_err-begin.ensures.fault);
-  long_demo = λ long. absurd long;
+  by_words = λ long. absurd (let short = c.in_ok-text.ensures.short in omega (arith, long, short));
   one_pass = tt;
   little = tt;
   gained = inl (gained-none _ _);
@@ -44,7 +44,7 @@ returns-in_err-check_free g c t n = record {
       let taken = c.in_err-check_free.ensures.told files (c.in_ok-begin.ensures.begins.same_files ∙ told) in
       MayEnd-passed (λ r. r ≡ defined) c.from_residual-in_err-check_free.result c.in_err-check_free.field-0.0 _ t c.from_residual-in_err-check_free.ensures.1
       (λ q e. sym (defined_refused defined _ q (keys-taken files c.args.tag.now c.args.keys.now c.args.spec.now c.in_ok-text.ensures.told _ taken) e)));
-  long_demo = λ long. absurd long;
+  by_words = λ long. absurd (let short = c.in_ok-text.ensures.short in omega (arith, long, short));
   one_pass = tt;
   little = tt;
   gained = inl (gained-none _ _);
@@ -62,7 +62,7 @@ returns g c t n = record {
       MayEnd-stored (λ r. r ≡ keys_tabled files c.args.tag.now c.args.keys.now c.args.spec.now) outcome.files c.store.result _ t
       (keys-stored files c.args.tag.now c.args.keys.now c.args.spec.now c.in_ok-text.ensures.told c.as_bytes.result.now (c.as_bytes.ensures.value ∙ c.in_ok-text.ensures.text) (c.in_ok-check_free.ensures.told files told1))
       (c.store.ensures.stored files told2) c.store.ensures.fault);
-  long_demo = λ long. absurd long;
+  by_words = λ long. absurd (let short = c.in_ok-text.ensures.short in omega (arith, long, short));
   one_pass = tt;
   little = tt;
   gained = inl (gained-none _ _);

@@ -14,7 +14,7 @@ returns-in_err-begin g c t n = record {
   caused = caused-passed _ _ _ _ c.from_residual.result _ c.from_residual.ensures.1 (caused-begin _ _ _ _ c.in_err-begin.ensures.begins);
   may = λ files told.
       inl (MayEnd-folder (λ r. r ≡ tabled files c.args.csv.now c.args.tag.now c.args.keys.now c.args.doc.now) c.from_residual.result c.in_err-begin.field-0.0 _ t c.from_residual.ensures.1 c.in_err-begin.ensures.fault);
-  long_demo = λ long. absurd long;
+  by_words = tt;
   one_pass = tt;
   little = tt;
   gained = inl (gained-none _ _);
@@ -30,7 +30,7 @@ returns-in_err-table g c t n = record {
       let input = c.in_err-table.ensures.told files (c.in_ok-begin.ensures.begins.same_files ∙ told) in
       MayEnd-passed (λ r. r ≡ defined) c.from_residual-in_err-table.result c.in_err-table.field-0.0 _ t c.from_residual-in_err-table.ensures.1
       (λ q e. sym (defined_refused defined _ q (table-refused_early files c.args.csv.now c.args.tag.now c.args.keys.now c.args.doc.now _ input) e)));
-  long_demo = λ long. absurd long;
+  by_words = tt;
   one_pass = tt;
   little = tt;
   gained = inl (gained-none _ _);
@@ -46,7 +46,7 @@ returns-in_err-text g c t n = record {
       let input = c.in_ok-table.ensures.told files (c.in_ok-begin.ensures.begins.same_files ∙ told) in
       MayEnd-passed (λ r. r ≡ defined) c.from_residual-in_err-text.result c.in_err-text.field-0.0 _ t c.from_residual-in_err-text.ensures.1
       (λ q e. sym (defined_refused defined _ q (table-refused files c.args.csv.now c.args.tag.now c.args.keys.now c.args.doc.now (table_view c.in_ok-table.table) input _ c.in_err-text.ensures.told) e)));
-  long_demo = λ long. absurd long;
+  by_words = tt;
   one_pass = tt;
   little = tt;
   gained = inl (gained-none _ _);
@@ -65,7 +65,7 @@ returns g c t n = record {
       MayEnd-stored (λ r. r ≡ tabled files c.args.csv.now c.args.tag.now c.args.keys.now c.args.doc.now) outcome.files c.store.result _ t
       (table-stored files c.args.csv.now c.args.tag.now c.args.keys.now c.args.doc.now (table_view c.in_ok-table.table) input c.deref.result.now (c.in_ok-text.ensures.told ∙ ap (λ (b : List ℕ). Ok b) (sym c.deref.ensures.value)))
       (c.store.ensures.stored files told2) c.store.ensures.fault);
-  long_demo = λ long. absurd long;
+  by_words = tt;
   one_pass = tt;
   little = tt;
   gained = inl (gained-none _ _);

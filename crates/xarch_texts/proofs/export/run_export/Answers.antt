@@ -12,7 +12,7 @@ returns-in_err-kept g c = let k = c.in_err-kept.ensures in record {
   keeps = keeps-read _ _ _ _ _ k.reads;
   caused = caused-passed _ _ _ _ c.from_residual.result _ c.from_residual.ensures.1 (caused-read _ _ _ _ _ k.reads);
   may = λ files told. inl (MayEnd-passed (MayBe files (export c.args.archive.now)) c.from_residual.result c.in_err-kept.field-0.0 _ _ c.from_residual.ensures.1 (λ q e. k.refuses files q told e));
-  long_demo = λ long. absurd long;
+  by_words = tt;
   one_pass = tt;
   little = tt;
   gained = inl (gained-none _ _);
@@ -25,7 +25,7 @@ returns g c = let k = c.in_ok-kept.ensures in let kept = c.in_ok-kept.kept in le
   may = λ files told.
       inl (MayEnd-told _ files _ _ _ _ (k.reads.same_files ∙ told)
       (MayEnd-more (λ r. r ≡ exported files kept) (MayBe files (export c.args.archive.now)) (λ r e. subst (MayBe files (export c.args.archive.now)) (sym e) (k.given files told)) _ _ _ _ (w.may files)));
-  long_demo = λ long. absurd long;
+  by_words = tt;
   one_pass = tt;
   little = tt;
   gained = inl (gained-may _ _ _ _ _ (w.may (map.from_entries [])));

@@ -17,7 +17,7 @@ returns-in_err-begin g c t n = record {
   keeps = keeps-not_begun _ _ _ _ _ _ refl c.in_err-begin.ensures.begins;
   caused = caused-passed _ _ _ _ c.from_residual.result _ c.from_residual.ensures.1 (caused-begin _ _ _ _ c.in_err-begin.ensures.begins);
   may = λ files told. inl (MayEnd-folder (MayBe files (import c.args.text.now c.args.new.now)) c.from_residual.result c.in_err-begin.field-0.0 _ t c.from_residual.ensures.1 c.in_err-begin.ensures.fault);
-  long_demo = λ long. absurd long;
+  by_words = tt;
   one_pass = tt;
   little = tt;
   gained = inl (gained-none _ _);
@@ -31,7 +31,7 @@ returns-in_err-bytes g c t n = record {
       inl (let read = c.in_err-bytes.ensures.told files (c.in_ok-begin.ensures.begins.same_files ∙ told) in
       MayEnd-passed (MayBe files (import c.args.text.now c.args.new.now)) c.from_residual-in_err-bytes.result c.in_err-bytes.field-0.0 _ t c.from_residual-in_err-bytes.ensures.1
       (λ q e. import-refused_early files c.args.text.now c.args.new.now q (defined_refused (import_text files c.args.text.now c.args.new.now) _ q read e)));
-  long_demo = λ long. absurd long;
+  by_words = tt;
   one_pass = tt;
   little = tt;
   gained = inl (gained-none _ _);
@@ -45,7 +45,7 @@ returns-in_err-core g c t n = record {
       inl (let read = c.in_ok-bytes.ensures.told files (c.in_ok-begin.ensures.begins.same_files ∙ told) in
       MayEnd-passed (MayBe files (import c.args.text.now c.args.new.now)) c.from_residual-in_err-core.result c.in_err-core.field-0.0 _ t c.from_residual-in_err-core.ensures.1
       (λ q e. import-refused files c.args.text.now c.args.new.now c.deref.result.now (read ∙ ap (λ (b : List ℕ). std.Ok b) (sym c.deref.ensures.value)) q (c.in_err-core.ensures.refused q e)));
-  long_demo = λ long. absurd long;
+  by_words = tt;
   one_pass = tt;
   little = tt;
   gained = inl (gained-none _ _);
@@ -66,7 +66,7 @@ returns g c t n = record {
       MayEnd-stored (MayBe files (import text new)) (map.insert files new (core ++ notes_part notes)) c.store_noted.result _ t
       (import-stored files text new c.deref.result.now read core notes (subst (λ b. IsFileOf c.deref.result.now b notes) (sym c.deref-2.ensures.value) (subst (λ l. IsFileOf c.deref.result.now c.in_ok-core.core.items (std.map string_bytes l)) (sym c.deref-3.ensures.value) c.in_ok-core.ensures.file)))
       (c.store_noted.ensures.stored files told2) c.store_noted.ensures.fault);
-  long_demo = λ long. absurd long;
+  by_words = tt;
   one_pass = tt;
   little = tt;
   gained = inl (gained-none _ _);

@@ -1,11 +1,11 @@
-use Rattle.std.proofs.Common.{inl, ◌≡◌, ◌+◌, ◌-◌, ℕ, List, length, Ok, refl, sym, ap, ◌∙◌, subst, arith}
+use Rattle.std.proofs.Common.{inl, inr, ◌≡◌, ◌+◌, ◌-◌, ℕ, List, length, Ok, refl, sym, ap, ◌∙◌, subst, arith}
 use Rattle.record_cursor.specs.View.{header_view}
 use Rattle.xa_outside.specs.Numbers.{PullsAtMost}
 use Rattle.xa_outside.specs.NumberLaws.{PullsAtMost-none}
 use Rattle.xarch_words.specs.Commands.{add}
 use Rattle.xarch_words.specs.View.{fault_view}
 use Rattle.xarch_words.specs.declared.limits.TheConstants.{DOCUMENT}
-use Rattle.xarch_parts.specs.AllowedLaws.{MayEnd-passed, MayEnd-folder, defined_refused, gained-none}
+use Rattle.xarch_parts.specs.AllowedLaws.{MayEnd-passed, MayEnd-folder, defined_refused, gained-none, passed-fault}
 use Rattle.xarch_parts.specs.Archives.{short_note}
 use Rattle.xarch_parts.specs.Ends.{fault_of}
 use Rattle.xarch_parts.specs.FolderLaws.{caused-begin, caused-begun, caused-passed, caused-then, reads-none, sized, streams-begun, streams-made, streams-not_begun}
@@ -29,7 +29,7 @@ returns-in_err-begin g c = record {
     keeps = streams-not_begun _ _ _ _ _ _ refl c.in_err-begin.ensures.begins;
     caused = caused-passed _ _ _ _ c.from_residual.result _ c.from_residual.ensures.1 (caused-begin _ _ _ _ c.in_err-begin.ensures.begins);
     may = λ files told. inl (MayEnd-folder (MayBe files (add c.args.archive.now c.args.doc.now c.args.note.now)) c.from_residual.result c.in_err-begin.field-0.0 _ t c.from_residual.ensures.1 c.in_err-begin.ensures.fault);
-    long_demo = λ long. absurd long;
+    by_words = λ long. inr (failed-so c.from_residual.result c.in_err-begin.field-0.0 c.from_residual.ensures.1 c.in_err-begin.ensures.fault);
     one_pass = λ files held a told is of small not. absurd (not (failed-so c.from_residual.result c.in_err-begin.field-0.0 c.from_residual.ensures.1 c.in_err-begin.ensures.fault));
     little = tt;
     gained = inl (gained-none _ _);
@@ -52,7 +52,7 @@ returns-in_err-check_note g c =
         may = λ files told.
             inl (MayEnd-passed (MayBe files (add c.args.archive.now c.args.doc.now c.args.note.now)) r.result e.field-0.0 _ t r.ensures.1
             (λ q is. may_refuse_note c.full_files_have_parts.ensures.parts c.versions_have_one_file.ensures.header files c.args.archive.now c.args.doc.now c.args.note.now q (defined_refused (short_note c.args.note.now) _ q e.ensures.told is)));
-        long_demo = λ long. absurd long;
+        by_words = λ long. inl (passed-fault r.result e.field-0.0 _ r.ensures.1 e.ensures.refused);
         one_pass = λ files held a told is of small not.
             let numbers = g.F.Folder.numbers in
             let none = PullsAtMost-none (16 + front_size held.rules held.versions + document_size files c.args.doc.now) (numbers c.begin.new.folder) meter in
@@ -80,7 +80,7 @@ returns-in_err-front g c =
             MayEnd-passed (MayBe files (add c.args.archive.now c.args.doc.now c.args.note.now)) r.result e.field-0.0 _ t r.ensures.1
             (λ q is. may_refuse_text c.full_files_have_parts.ensures.parts c.versions_have_one_file.ensures.header files c.args.archive.now c.args.doc.now c.args.note.now c.in_ok-check_note.ensures.told q
             (defined_refused (text_read files c.args.archive.now c.args.doc.now) _ q read is)));
-        long_demo = λ long. absurd long;
+        by_words = λ long. absurd (let short = c.in_ok-check_note.ensures.short in omega (arith, long, short));
         one_pass = λ files held a told is of small not.
             let numbers = g.F.Folder.numbers in
             let few = e.ensures.few files held (began.same_files ∙ told) is in
@@ -119,7 +119,7 @@ returns g c =
             let text = c.deref.result.now in
             let same : ((h.rules, h.versions), c.in_ok-front.text.items) ≡ ((h.rules, h.versions), text) = ap (λ (bytes : List ℕ). ((h.rules, h.versions), bytes)) (sym c.deref.ensures.value) in
             may-ended c.full_files_have_parts.ensures.parts c.versions_have_one_file.ensures.header files c.args.archive.now c.args.doc.now c.args.note.now c.in_ok-check_note.ensures.told h text (read.told files told1 ∙ ap (λ p. Ok p) same) _ t (fault_of c.add_text.result) c.in_ok-front.front.heads.few merges.ends);
-        long_demo = λ long. absurd long;
+        by_words = λ long. absurd (let short = c.in_ok-check_note.ensures.short in omega (arith, long, short));
         one_pass = λ files held a told is of small not.
             let numbers = g.F.Folder.numbers in
             let told1 = began.same_files ∙ told in

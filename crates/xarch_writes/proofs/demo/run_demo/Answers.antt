@@ -18,7 +18,7 @@ returns-in_err-check_few g c = record {
   may = λ files told.
       inl (MayEnd-passed (DemoIs files c.args.seed c.args.count c.args.archive.now) c.from_residual.result c.in_err-check_few.field-0.0 _ _ c.from_residual.ensures.1
       (λ q e. refused_many files c.args.seed c.args.count c.args.archive.now q (defined_refused (at_most refusal.demo DEMO c.args.count) _ q c.in_err-check_few.ensures.told e)));
-  long_demo = λ many. passed-fault c.from_residual.result c.in_err-check_few.field-0.0 _ c.from_residual.ensures.1 c.in_err-check_few.ensures.refused;
+  by_words = λ many. passed-fault c.from_residual.result c.in_err-check_few.field-0.0 _ c.from_residual.ensures.1 c.in_err-check_few.ensures.refused;
   one_pass = tt;
   little = tt;
   gained = inl (gained-none _ _);
@@ -30,7 +30,7 @@ returns-in_err-begin g c = record {
   keeps = keeps-not_begun _ _ _ _ _ _ refl c.in_err-begin.ensures.begins;
   caused = caused-passed _ _ _ _ c.from_residual-in_err-begin.result _ c.from_residual-in_err-begin.ensures.1 (caused-begin _ _ _ _ c.in_err-begin.ensures.begins);
   may = λ files told. inl (MayEnd-folder (DemoIs files c.args.seed c.args.count c.args.archive.now) c.from_residual-in_err-begin.result c.in_err-begin.field-0.0 _ _ c.from_residual-in_err-begin.ensures.1 c.in_err-begin.ensures.fault);
-  long_demo = λ many. absurd (let few = c.in_ok-check_few.ensures.bound in omega (arith, many, few));
+  by_words = λ many. absurd (let few = c.in_ok-check_few.ensures.bound in omega (arith, many, few));
   one_pass = tt;
   little = tt;
   gained = inl (gained-none _ _);
@@ -45,7 +45,7 @@ returns-in_err-check_free g c = record {
       inl (let told1 = c.in_ok-begin.ensures.begins.same_files ∙ told in
       MayEnd-passed (DemoIs files c.args.seed c.args.count c.args.archive.now) c.from_residual-in_err-check_free.result c.in_err-check_free.field-0.0 _ _ c.from_residual-in_err-check_free.ensures.1
       (λ q e. refused_name files c.args.seed c.args.count c.args.archive.now c.in_ok-check_few.ensures.told q (defined_refused (free_in files c.args.archive.now) _ q (c.in_err-check_free.ensures.told files told1) e)));
-  long_demo = λ many. absurd (let few = c.in_ok-check_few.ensures.bound in omega (arith, many, few));
+  by_words = λ many. absurd (let few = c.in_ok-check_few.ensures.bound in omega (arith, many, few));
   one_pass = tt;
   little = tt;
   gained = inl (gained-none _ _);
@@ -61,7 +61,7 @@ returns g c = record {
       let told2 = c.in_ok-check_free.ensures.reads.same_files ∙ told1 in
       MayEnd-more (MakesOrNone files c.args.archive.now c.args.seed c.args.count) (DemoIs files c.args.seed c.args.count c.args.archive.now)
       (goes_on files c.args.seed c.args.count c.args.archive.now c.in_ok-check_few.ensures.told (c.in_ok-check_free.ensures.told files told1)) _ _ _ _ (c.make_sample.ensures.may files told2));
-  long_demo = λ many. absurd (let few = c.in_ok-check_few.ensures.bound in omega (arith, many, few));
+  by_words = λ many. absurd (let few = c.in_ok-check_few.ensures.bound in omega (arith, many, few));
   one_pass = tt;
   little = tt;
   gained = inl (c.make_sample.ensures.gained);

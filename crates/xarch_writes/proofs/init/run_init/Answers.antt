@@ -18,7 +18,7 @@ returns-in_err-begin g c t n = record {
   keeps = keeps-not_begun _ _ _ _ _ _ refl c.in_err-begin.ensures.begins;
   caused = caused-passed _ _ _ _ c.from_residual.result _ c.from_residual.ensures.1 (caused-begin _ _ _ _ c.in_err-begin.ensures.begins);
   may = λ files told. inl (MayEnd-folder (InitIs files c.args.archive.now c.args.spec.now) c.from_residual.result c.in_err-begin.field-0.0 _ t c.from_residual.ensures.1 c.in_err-begin.ensures.fault);
-  long_demo = λ long. absurd long;
+  by_words = tt;
   one_pass = tt;
   little = tt;
   gained = inl (gained-none _ _);
@@ -33,7 +33,7 @@ returns-in_err-spec g c t n = record {
       inl (let input = c.in_err-spec.ensures.told files (c.in_ok-begin.ensures.begins.same_files ∙ told) in
       MayEnd-passed (InitIs files c.args.archive.now c.args.spec.now) c.from_residual-in_err-spec.result c.in_err-spec.field-0.0 _ t c.from_residual-in_err-spec.ensures.1
       (λ q e. init_refused_early files c.args.archive.now c.args.spec.now q (defined_refused (init_rules files c.args.archive.now c.args.spec.now) _ q input e)));
-  long_demo = λ long. absurd long;
+  by_words = tt;
   one_pass = tt;
   little = tt;
   gained = inl (gained-none _ _);
@@ -48,7 +48,7 @@ returns-in_err-bytes g c t n = record {
       inl (let input = c.in_ok-spec.ensures.told files (c.in_ok-begin.ensures.begins.same_files ∙ told) in
       MayEnd-passed (InitIs files c.args.archive.now c.args.spec.now) c.from_residual-in_err-bytes.result c.in_err-bytes.field-0.0 _ t c.from_residual-in_err-bytes.ensures.1
       (λ q e. init_refused files c.args.archive.now c.args.spec.now (spec_view c.in_ok-spec.spec) input q (c.in_err-bytes.ensures.limit q e) (λ b file. c.in_err-bytes.ensures.too_long [] b c.empty.ensures file q e)));
-  long_demo = λ long. absurd long;
+  by_words = tt;
   one_pass = tt;
   little = tt;
   gained = inl (gained-none _ _);
@@ -68,7 +68,7 @@ returns g c t n = record {
       let full : FullAs (unnoted rules []) c.deref.result.now = c.sound_files_are_full.ensures.sound rules [] c.deref.result.now sound in
       MayEnd-stored (InitIs files c.args.archive.now c.args.spec.now) (map.insert files c.args.archive.now c.deref.result.now) c.store.result _ t
       (init_stored files c.args.archive.now c.args.spec.now rules input c.deref.result.now full) (c.store.ensures.stored files told2) c.store.ensures.fault);
-  long_demo = λ long. absurd long;
+  by_words = tt;
   one_pass = tt;
   little = tt;
   gained = inl (gained-none _ _);

@@ -16,7 +16,7 @@ returns-in_err-begin g c t n = record {
   keeps = keeps-not_begun _ _ _ _ _ _ refl c.in_err-begin.ensures.begins;
   caused = caused-passed _ _ _ _ c.from_residual.result _ c.from_residual.ensures.1 (caused-begin _ _ _ _ c.in_err-begin.ensures.begins);
   may = λ files told. inl (MayEnd-folder (MayBe files (rekey c.args.archive.now c.args.spec.now)) c.from_residual.result c.in_err-begin.field-0.0 _ t c.from_residual.ensures.1 c.in_err-begin.ensures.fault);
-  long_demo = λ long. absurd long;
+  by_words = tt;
   one_pass = tt;
   little = tt;
   gained = inl (gained-none _ _);
@@ -29,7 +29,7 @@ returns-in_err-file g c t n = record {
   may = λ files told.
       inl (MayEnd-passed (MayBe files (rekey c.args.archive.now c.args.spec.now)) c.from_residual-in_err-file.result c.in_err-file.field-0.0 _ t c.from_residual-in_err-file.ensures.1
       (λ q e. c.in_err-file.ensures.refused files q (c.in_ok-begin.ensures.begins.same_files ∙ told) e));
-  long_demo = λ long. absurd long;
+  by_words = tt;
   one_pass = tt;
   little = tt;
   gained = inl (gained-none _ _);
@@ -50,7 +50,7 @@ returns g c t n = record {
       (subst (λ (b : List ℕ). MayBe files (rekey name c.args.spec.now) (std.Ok (record { files = map.insert files name (b ++ notes_part notes); output = [] }))) (sym c.deref.ensures.value)
       (subst (λ l. MayBe files (rekey name c.args.spec.now) (std.Ok (record { files = map.insert files name (file.core.items ++ notes_part (std.map string_bytes l)); output = [] }))) (sym c.deref-2.ensures.value) (c.in_ok-file.ensures.file files told1)))
       (c.store_noted.ensures.stored files told2) c.store_noted.ensures.fault);
-  long_demo = λ long. absurd long;
+  by_words = tt;
   one_pass = tt;
   little = tt;
   gained = inl (gained-none _ _);
