@@ -22,6 +22,6 @@ pub mod Wholes
 pub mod Gets
 pub mod AltHeads
 pub mod SetSearch
-pub mod ShortLeaves
+pub mod StoredNodes
 pub mod SetLooks
 pub mod Bodies

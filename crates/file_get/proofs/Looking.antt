@@ -1,48 +1,26 @@
 -- What one node of a stored tree says.
-use Rattle.std.proofs.Common.{◌≡◌, ℕ, suc, ◌+◌, ◌-◌, ◌≤◌, ◌<◌, ◌^◌, Bool, true, leb, List, [], ◌∷◌, ◌++◌, length, map, take, drop, Option, Some, None, refl, sym, ap, subst, ◌∙◌, arith, append-nil}
+use Rattle.std.proofs.Common.{◌≡◌, ℕ, suc, ◌+◌, ◌-◌, ◌≤◌, ◌<◌, ◌^◌, Bool, true, false, List, [], ◌∷◌, ◌++◌, length, map, take, drop, Option, Some, None, refl, sym, ap, subst, ◌∙◌, arith, append-nil}
+use Rattle.std.specs.Prelude.{not}
 use Rattle.std.specs.List.{AllByRecursion}
 use Rattle.std.proofs.lemmas.List.{length-append, length-take, length-drop}
-use Rattle.version_set.specs.Members.{members, has}
 use Rattle.archive_tree.specs.Data.{PlainNode}
 use Rattle.timestamp_tree.specs.Bytes.{stored, tree_bytes}
 use Rattle.timestamp_tree.specs.Data.{PlainTs, leaf, node, top}
 use Rattle.timestamp_tree.specs.Tree.{half, joined, IsTree}
 use Rattle.timestamp_tree.proofs.Trees.{leaves-tree_of, IsTree-tree_of, length-leaf, length-node, length-set_bytes}
-use Rattle.std.specs.FinMap as map'
-use Rattle.std.proofs.lemmas.List.{drop-take, take-take}
-use Rattle.xa_fields.proofs.Fields.{some_is}
-use Rattle.xa_outside.specs.Folder.{Files, bytes_or_none, front}
-use Rattle.timestamp_tree.specs.Nodes.{piece_of}
-use Rattle.std.specs.Option.{option_map}
-use Rattle.timestamp_tree.specs.Reading.{stored_at, some_stored_at}
-use Rattle.timestamp_tree.specs.Probes.{said_of}
-use Rattle.timestamp_tree.proofs.Probed.{some_is_stored}
-use Rattle.record_parts.specs.Bounds.{IsSet, most}
-use Rattle.xa_fields.specs.FieldLaws.{passed_some}
+use Rattle.xa_outside.specs.Folder.{Files}
+use Rattle.record_parts.specs.Bounds.{IsSet}
 use Rattle.record_format.proofs.TreeNodes.{IsSet-top}
-use Rattle.record_format.proofs.WholeDirectories.{node_reads}
 use Rattle.file_rows.specs.StandsAt.{StandsAt}
 use Rattle.file_rows.specs.View.{PlainRow}
-use Rattle.file_rows.proofs.Parts.{stands-part, stands-back}
-use Rattle.file_get.specs.Kids.{set_of, has_at}
+use Rattle.file_rows.proofs.Parts.{stands-front, stands-part, stands-back}
+use Rattle.file_get.specs.Kids.{set_of}
 use Rattle.file_get.specs.Stands.{SpanIs}
 use Rattle.file_get.specs.Looked.{own_bytes, left_bytes, left_of, right_of, NodeOf, tree_over, LookTold, PartsAre}
-use Rattle.timestamp_tree.specs.declared.probe.Probe.{Probe}
+use Rattle.file_get.specs.Nodes.{NodeTold, probe_view, says}
+use Rattle.file_get.specs.declared.node.Probe.{Probe}
 use Rattle.file_get.specs.declared.span.Span.{Span}
 use Rattle.file_get.proofs.Spans.{nodes-split, canonical-of, top-filled}
-
--- ---- one child
-
-pub one-child : (i : ℕ) (parent : List (ℕ × ℕ)) (ks : List PlainNode) → length ks ≡ 1 → has (members (top (tree_over parent ks))) i ≡ true → (k : PlainNode) × (ks ≡ k ∷ []) × (has_at i parent k ≡ true)
-one-child i parent [] e h = absurd (omega (arith, e))
-one-child i parent (k ∷ []) e h = (k, refl, h)
-one-child i parent (k ∷ j ∷ ks) e h = absurd (omega (arith, e))
-
--- a node of one child has no left part, and the tree ends behind it
-pub one-whole : (parent : List (ℕ × ℕ)) (ks : List PlainNode) → length ks ≡ 1 → (left_bytes (tree_over parent ks) ≡ 0) × (length (tree_bytes (tree_over parent ks)) ≡ own_bytes (tree_over parent ks))
-one-whole parent [] e = absurd (omega (arith, e))
-one-whole parent (k ∷ []) e = (refl, refl)
-one-whole parent (k ∷ j ∷ ks) e = absurd (omega (arith, e))
 
 -- ---- two parts
 
@@ -130,12 +108,6 @@ parts-are bytes row span parent front ks behind i n is sets of many =
 
 -- ---- what is read
 
--- the bytes of a file before an offset are those of its front
-same-piece : (file bytes : List ℕ) (at n end : ℕ) → front end file ≡ Some bytes → n ≤ end → drop at (take n file) ≡ drop at (take n bytes)
-same-piece file bytes at n end e le =
-    let p = passed_some (leb end (length file)) (take end file) bytes e in
-    ap (drop at) (sym (take-take n end file le) ∙ ap (take n) p.1)
-
 -- the node at the front of a tree
 pub record TreeFront (t : PlainTs) : Type 0 where
   pub more : List ℕ
@@ -154,53 +126,44 @@ length-map-is : {X Y : Type 0} (f : X → Y) (xs : List X) → length (map f xs)
 length-map-is f [] = refl
 length-map-is f (x ∷ xs) = ap (λ n. suc n) (length-map-is f xs)
 
--- the node that stands at the front of the tree of a part of a row
-pub record NodeFound (files : Option Files) (name : List ℕ) (span : Span) (parent : List (ℕ × ℕ)) (ks : List PlainNode) : Type 0 where
-  pub told : Files
-  pub is : files ≡ Some told
-  pub rest : List ℕ
-  pub stands : some_stored_at most (piece_of told name span.at span.limit) ≡ Some ((top (tree_over parent ks), left_bytes (tree_over parent ks)), rest)
-  pub size : own_bytes (tree_over parent ks) ≡ length (stored (top (tree_over parent ks)) (left_bytes (tree_over parent ks)))
+pub own-size : (parent : List (ℕ × ℕ)) (ks : List PlainNode) → own_bytes (tree_over parent ks) ≡ length (stored (top (tree_over parent ks)) (left_bytes (tree_over parent ks)))
+own-size parent ks = (tree-front (tree_over parent ks)).size
 
-pub node-found : (files : Option Files) (name bytes : List ℕ) (end : ℕ) (row : PlainRow) (span : Span) (parent : List (ℕ × ℕ)) (front ks behind : List PlainNode) → span.limit < 2 ^ 64 → LookTold files name bytes end row span parent front ks behind → NodeFound files name span parent ks
-node-found files name bytes end row span parent front ks behind short x =
+-- the node that stands at the front of the tree of a part of a row
+pub node-told : (files : Option Files) (name bytes : List ℕ) (end : ℕ) (row : PlainRow) (span : Span) (parent : List (ℕ × ℕ)) (front ks behind : List PlainNode) → span.limit < 2 ^ 64 → LookTold files name bytes end row span parent front ks behind
+    → NodeTold files name bytes end span.at span.limit (top (tree_over parent ks)) (left_bytes (tree_over parent ks))
+node-told files name bytes end row span parent front ks behind short x =
     let t = tree_over parent ks in
     let part = x.part in
     let limit = part.limit in
     let inside = part.inside in
     let within = x.within in
     let sets = map (set_of parent) ks in
-    let tells = x.tells in
     let some : 1 ≤ length sets = (let s = x.some in omega (arith, s, length-map-is (set_of parent) ks)) in
     let tree : IsTree t = IsTree-tree_of sets some (canonical-of sets x.sets) in
-    let set : IsSet (top t) = IsSet-top t tree (subst (λ (ss : List (List (ℕ × ℕ))). AllByRecursion IsSet ss) (sym (leaves-tree_of sets some)) x.sets) in
     let left : left_bytes t < 2 ^ 64 = (let l = left-short t tree in omega (arith, l, limit, short)) in
     let f = tree-front t in
-    let piece : drop span.at (take span.limit bytes) ≡ stored (top t) (left_bytes t) ++ f.more =
-    ap (λ (n : ℕ). drop span.at (take n bytes)) limit ∙ drop-take span.at (length (tree_bytes t)) bytes ∙ part.tree ∙ f.bytes in
+    let own = stored (top t) (left_bytes t) in
+    let whole = ap length f.bytes in
     record {
-      told = tells.0;
-      is = tells.1;
-      rest = f.more;
-      stands = some_is_stored most (left_bytes t) (piece_of tells.0 name span.at span.limit) f.more (top t) (ap (stored_at most) (same-piece (bytes_or_none (map'.get tells.0 name)) bytes span.at span.limit end tells.2 (omega (arith, inside, within)) ∙ piece) ∙ node_reads.again (top t, left_bytes t) f.more (set, left)) (top-filled sets some (canonical-of sets x.sets) x.filled);
-      size = f.size;
+      tells = x.tells;
+      within = omega (arith, inside, within);
+      stands = stands-front bytes span.at own f.more (subst (StandsAt bytes span.at) f.bytes part.tree);
+      fits = omega (arith, limit, whole, length-append own f.more);
+      set = IsSet-top t tree (subst (λ (ss : List (List (ℕ × ℕ))). AllByRecursion IsSet ss) (sym (leaves-tree_of sets some)) x.sets);
+      some = top-filled sets some (canonical-of sets x.sets) x.filled;
+      short = left;
     }
 
 -- what was read is that node
-pub found-node : (files : Option Files) (name : List ℕ) (span : Span) (parent : List (ℕ × ℕ)) (ks : List PlainNode) (i : ℕ) (n : Probe) → (f : NodeFound files name span parent ks)
-    → option_map (said_of i) (some_stored_at most (piece_of f.told name span.at span.limit)) ≡ Some (n.has, n.left, n.size) → NodeOf i (tree_over parent ks) n
-found-node files name span parent ks i n f e =
-    let t = tree_over parent ks in
-    let same = some_is (has (members (top t)) i, left_bytes t, length (stored (top t) (left_bytes t))) (n.has, n.left, n.size) (sym (ap (option_map (said_of i)) f.stands) ∙ e) in
+pub node-of : (i : ℕ) (parent : List (ℕ × ℕ)) (ks : List PlainNode) (probe : Probe) → probe_view probe ≡ says i (top (tree_over parent ks)) (left_bytes (tree_over parent ks)) → NodeOf i (tree_over parent ks) probe
+node-of i parent ks probe e =
     record {
-      has = sym (ap (λ (x : Bool × ℕ × ℕ). x.0) same);
-      left = sym (ap (λ (x : Bool × ℕ × ℕ). x.1) same);
-      size = sym (f.size ∙ ap (λ (x : Bool × ℕ × ℕ). x.2) same);
+      has = ap (λ (x : Bool × ℕ × ℕ). x.0) e;
+      left = ap (λ (x : Bool × ℕ × ℕ). x.1) e;
+      size = ap (λ (x : Bool × ℕ × ℕ). x.2) e ∙ sym (own-size parent ks);
     }
 
--- and one is found
-pub node-there : (files : Option Files) (name : List ℕ) (span : Span) (parent : List (ℕ × ℕ)) (ks : List PlainNode) → (f : NodeFound files name span parent ks) → some_stored_at most (piece_of f.told name span.at span.limit) ≡ None → ⊥
-node-there files name span parent ks f e = clash (sym e ∙ f.stands)
-  where
-    clash : {X : Type 0} {x : X} → None ≡ Some x → ⊥
-    clash e = cc
+pub not-false : (b : Bool) → not b ≡ false → b ≡ true
+not-false true e = refl
+not-false false e = absurd cc

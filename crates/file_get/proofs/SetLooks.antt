@@ -1,18 +1,16 @@
 -- What is seen at the only child of a part.
-use Rattle.std.proofs.Common.{◌≡◌, ℕ, ◌+◌, ◌-◌, ◌≤◌, Bool, true, false, List, [], ◌∷◌, length, Option, Result, Ok, Err, refl, sym, subst, ◌∙◌, arith}
+use Rattle.std.proofs.Common.{◌≡◌, ℕ, ◌+◌, ◌-◌, ◌≤◌, ◌<◌, ◌^◌, Bool, true, false, List, [], ◌∷◌, length, Option, Result, Ok, Err, refl, sym, subst, ◌∙◌, arith}
 use Rattle.version_set.specs.Members.{members, has}
 use Rattle.timestamp_tree.specs.Bytes.{stored}
 use Rattle.archive_tree.specs.Data.{PlainNode}
-use Rattle.record_parts.specs.Bounds.{IsSet}
-use Rattle.record_cursor.specs.Moves.{TellsFront}
 use Rattle.record_cursor.specs.Steps.{Filled}
 use Rattle.record_cursor.specs.declared.fault.CursorFault.{CursorFault}
 use Rattle.xa_outside.specs.Folder.{Files}
 use Rattle.xa_outside.specs.Numbers.{Numbers, PullsAtMost}
 use Rattle.xa_outside.specs.NumberLaws.{PullsAtMost-more}
-use Rattle.file_rows.specs.StandsAt.{StandsAt}
 use Rattle.file_rows.specs.View.{PlainRow}
 use Rattle.file_get.specs.Kids.{set_of}
+use Rattle.file_get.specs.Nodes.{NodeTold}
 use Rattle.file_get.specs.Looked.{IsLook, LookIs, LookTold, looked, own_bytes, sight_of, tree_over}
 use Rattle.file_get.specs.declared.look.Sight.{Sight}
 use Rattle.file_get.specs.declared.span.Span.{Span}
@@ -36,8 +34,7 @@ seen-pulls span false sight e m n pulls = subst (λ (s : Sight). PullsAtMost (lo
 
 -- what reading its set tells
 abbrev pub SetTells : ℕ → Option Files → List ℕ → Span → Result Bool CursorFault → Type 0
-SetTells i files name span r = (last : ℕ) (bytes : List ℕ) (s : List (ℕ × ℕ)) → TellsFront files name last bytes → span.limit ≤ last → StandsAt bytes span.at (stored s 0) → span.limit ≡ span.at + length (stored s 0) → IsSet s
-    → Filled r (λ b. b ≡ has (members s) i)
+SetTells i files name span r = (last : ℕ) (bytes : List ℕ) (s : List (ℕ × ℕ)) → NodeTold files name bytes last span.at span.limit s 0 → span.limit ≡ span.at + length (stored s 0) → Filled r (λ b. b ≡ has (members s) i)
 
 module _ (i : ℕ) (files : Option Files) (name bytes : List ℕ) (end : ℕ) (row : PlainRow) (span : Span) (parent : List (ℕ × ℕ)) (front ks behind : List PlainNode) (x : LookTold files name bytes end row span parent front ks behind) (single : span.count ≡ 1) where
   only : (k : PlainNode) × (ks ≡ k ∷ [])
@@ -46,20 +43,21 @@ module _ (i : ℕ) (files : Option Files) (name bytes : List ℕ) (end : ℕ) (r
   alone : LookTold files name bytes end row span parent front (only.0 ∷ []) behind
   alone = subst (λ (js : List PlainNode). LookTold files name bytes end row span parent front js behind) only.1 x
 
-  pub set-seen : (b : Bool) → SetTells i files name span (Ok b) → LookIs i bytes row parent front ks behind (sight_of b)
-  set-seen b tells =
+  leaf-told : NodeTold files name bytes end span.at span.limit (set_of parent only.0) 0
+  leaf-told =
       let y = alone in
       let inside = y.part.inside in
+      let limit = y.part.limit in
       let within = y.within in
-      let is = tells end bytes (set_of parent only.0) y.tells (omega (arith, inside, within)) y.part.tree y.part.limit y.sets.0 in
+      record { tells = y.tells; within = omega (arith, inside, within); stands = y.part.tree; fits = omega (arith, limit); set = y.sets.0; some = y.filled.0; short = omega arith }
+
+  pub set-seen : (b : Bool) → SetTells i files name span (Ok b) → LookIs i bytes row parent front ks behind (sight_of b)
+  set-seen b tells =
+      let is = tells end bytes (set_of parent only.0) leaf-told alone.part.limit in
       subst (λ (js : List PlainNode). LookIs i bytes row parent front js behind (sight_of b)) (sym only.1) (sight-is i bytes row parent front behind only.0 b is)
 
   pub set-unseen : (e : CursorFault) → SetTells i files name span (Err e) → Filled {T = Sight} (Err e) (LookIs i bytes row parent front ks behind)
-  set-unseen e tells =
-      let y = alone in
-      let inside = y.part.inside in
-      let within = y.within in
-      tells end bytes (set_of parent only.0) y.tells (omega (arith, inside, within)) y.part.tree y.part.limit y.sets.0
+  set-unseen e tells = tells end bytes (set_of parent only.0) leaf-told alone.part.limit
 
   pub set-pulls : (a b : Numbers) → PullsAtMost (span.limit - span.at) a b → PullsAtMost (own_bytes (tree_over parent ks)) a b
   set-pulls a b pulls =

@@ -9,6 +9,7 @@ pub mod Inside
 pub mod Contents
 pub mod LeafBodies
 pub mod Searched
+pub mod Nodes
 pub mod Looked
 pub mod Roots
 pub mod Written

@@ -13,7 +13,7 @@ use Rattle.xa_outside.specs.Folder.{Files}
 use Rattle.file_rows.specs.View.{PlainRow}
 use Rattle.file_get.specs.Kids.{IsFilled, set_of, has_at}
 use Rattle.file_get.specs.Stands.{SpanIs}
-use Rattle.timestamp_tree.specs.declared.probe.Probe.{Probe}
+use Rattle.file_get.specs.declared.node.Probe.{Probe}
 use Rattle.file_get.specs.declared.look.Sight.{Sight}
 use Rattle.file_get.specs.declared.look.Sight.TheVariants.{Lacks, Child, Parts}
 use Rattle.file_get.specs.declared.span.Span.{Span}
@@ -64,10 +64,6 @@ pub record NodeOf (i : ℕ) (t : PlainTs) (probe : Probe) : Type 0 where
   pub has : probe.has ≡ has (members (top t)) i
   pub left : probe.left ≡ left_bytes t
   pub size : probe.size ≡ own_bytes t
-
--- the node of one set has no parts, and nothing stands behind it
-abbrev pub IsLeafNode : Span → Probe → Type 0
-IsLeafNode span probe = (probe.left ≡ 0) × (span.at + probe.size ≡ span.limit)
 
 -- the left part of a node of more sets has some of the bytes behind the node, and not all
 abbrev pub IsInnerNode : Span → Probe → Type 0

@@ -1,5 +1,5 @@
 // Reading the body that a leaf has in a version.
-ghost use Rattle.std.specs.Prelude.{◌≡◌, ◌+◌, ◌-◌, ◌*◌, ◌≤◌, ◌<◌, ◌^◌, ◌++◌, ℕ, List, Some, true, length, is_some, IfOk, IfErr, IfSome, OnOk};
+ghost use Rattle.std.specs.Prelude.{◌≡◌, ◌+◌, ◌-◌, ◌*◌, ◌/◌, ◌≤◌, ◌<◌, ◌^◌, ◌++◌, ℕ, List, Some, true, length, is_some, IfOk, IfErr, IfSome, OnOk};
 ghost use Rattle.std.specs.List.{flat_map};
 ghost use Rattle.xa_fields.specs.Spelling.{u32_bytes};
 ghost use Rattle.xa_outside.specs.Numbers.{PullsAtMost, after_pull};
@@ -20,6 +20,7 @@ ghost use Rattle.record_cursor.specs.Steps.{OnlyReads, fault_of, Filled};
 ghost use Rattle.file_rows.specs.StandsAt.{StandsAt};
 ghost use Rattle.file_get.specs.Inside.{AltsTold, AltIs, IsAltHead, SetIs, head_bytes};
 ghost use Rattle.file_get.specs.LeafBodies.{body_view};
+ghost use Rattle.file_get.specs.Searched.{searched};
 
 use crate::bytes::Bytes;
 use crate::sets::search_pairs;
@@ -84,6 +85,8 @@ fn read_alternative<F: Folder>(
     ensures reads { OnlyReads F.files F.draft F.faults folder.old folder.new (fault_of result) }
     ensures within { IfOk result (λ a. (at + 9 ≤ a.body) × (a.body ≤ a.end) × (a.end ≤ end)) }
     ensures most { IfOk result (λ a. PullsAtMost (a.body - at)
+        (F.numbers folder.old) (F.numbers folder.new)) }
+    ensures few { IfOk result (λ a. PullsAtMost (14 + 8 * searched ((a.body - at - 14) / 8))
         (F.numbers folder.old) (F.numbers folder.new)) }
     ensures pulls { PullsAtMost (end - at) (F.numbers folder.old) (F.numbers folder.new) }
     ensures told { (last : ℕ) (bytes more : List ℕ) (set : List (ℕ × ℕ)) (x : PlainAlt)
@@ -175,6 +178,8 @@ fn read_set<F: Folder>(
     ensures reads { OnlyReads F.files F.draft F.faults folder.old folder.new (fault_of result) }
     ensures within { IfOk result (λ r. (at ≤ r.1) × (r.1 ≤ end)) }
     ensures most { IfOk result (λ r. PullsAtMost (r.1 - at)
+        (F.numbers folder.old) (F.numbers folder.new)) }
+    ensures few { IfOk result (λ r. PullsAtMost (4 + 8 * searched ((r.1 - at - 4) / 8))
         (F.numbers folder.old) (F.numbers folder.new)) }
     ensures pulls { PullsAtMost (end - at) (F.numbers folder.old) (F.numbers folder.new) }
     ensures told { (last : ℕ) (bytes : List ℕ) (s : List (ℕ × ℕ))

@@ -7,6 +7,7 @@ mod bytes;
 mod fault;
 mod look;
 mod missing;
+mod node;
 mod print;
 mod read;
 mod root;

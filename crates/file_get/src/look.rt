@@ -9,20 +9,16 @@ ghost use Rattle.record_parts.specs.Bounds.{IsSet};
 ghost use Rattle.record_cursor.specs.Faults.{IfFolder};
 ghost use Rattle.file_get.specs.Kids.{set_of};
 ghost use Rattle.file_get.specs.Stands.{SpanIs};
-ghost use Rattle.file_get.specs.Looked.{IsLook, IsLeafNode, IsInnerNode, OkWhere, looked, left_of, right_of, own_bytes, NodeOf, sight_of, tree_over, LookTold, LookIs};
+ghost use Rattle.file_get.specs.Looked.{IsLook, IsInnerNode, OkWhere, looked, left_of, right_of, own_bytes, NodeOf, sight_of, tree_over, LookTold, LookIs};
 ghost use Rattle.file_get.specs.Searched.{searched};
 ghost use Rattle.file_get.specs.declared.look.Sight.TheVariants.{Parts};
 
-use crate::sets::read_leaf_set;
+use crate::node::{Probe, read_leaf, read_node};
 use crate::span::{Ask, Span};
 use record_cursor::CursorFault;
-use record_parts::MOST_VERSIONS;
 use std::sync::ledger::Ledger;
-use timestamp_tree::{NodeFault, Probe, Steps, probe_at};
+use timestamp_tree::Steps;
 use xa_outside::Folder;
-
-/// A node without intervals.
-const LEAST: u64 = 12;
 
 /// What a node of a stored tree says: no child of the part has the version, the only one does, or
 /// one in either of two parts.
@@ -33,8 +29,8 @@ pub(crate) enum Sight {
     Parts { left: Span, right: Span },
 }
 
-/// Looks at the node of the stored tree at the front of a part of a row. In a leaf of more than
-/// eight intervals the version is looked for by halving.
+/// Looks at the node of the stored tree at the front of a part of a row. In one of more than eight
+/// intervals the version is looked for by halving.
 pub(crate) fn look<F: Folder, L: Ledger>(
     ask: Ask<'_>,
     folder: &mut F,
@@ -57,34 +53,19 @@ pub(crate) fn look<F: Folder, L: Ledger>(
         × PullsAtMost (own_bytes (tree_over parent ks))
         (F.numbers folder.old) (F.numbers folder.new) }
 {
-    if span.count == 1 && LEAST <= span.limit - span.at {
-        return look_at_set(ask, folder, steps, span);
+    steps.tick();
+    if span.count == 1 {
+        return look_at_leaf(ask, folder, span);
     }
-    match probe_at(
-        ask.alloc,
-        folder,
-        ask.name,
-        span.at,
-        span.limit,
-        MOST_VERSIONS,
-        ask.version,
-        steps,
-    ) {
+    match read_node(ask, folder, span.at, span.limit) {
         Ok(probe) => judge(span, probe),
-        Err(NodeFault::Damage) => Err(CursorFault::Damage),
-        Err(NodeFault::Folder) => Err(CursorFault::Folder),
-        Err(NodeFault::Memory) => Err(CursorFault::Memory),
+        Err(fault) => Err(fault),
     }
 }
 
 // Looks at the stored leaf over the only child of a part. A long set is not read whole.
-fn look_at_set<F: Folder, L: Ledger>(
-    ask: Ask<'_>,
-    folder: &mut F,
-    steps: &mut Steps<L>,
-    span: Span,
-) -> Result<Sight, CursorFault>
-    requires room { span.at + 12 ≤ span.limit }
+fn look_at_leaf<F: Folder>(ask: Ask<'_>, folder: &mut F, span: Span) -> Result<Sight, CursorFault>
+    requires ordered { span.at ≤ span.limit }
     requires short { span.limit < 2 ^ 64 }
     requires one { span.count ≡ 1 }
     ensures reads { OnlyReads F.files F.draft F.faults folder.old folder.new (fault_of result) }
@@ -92,7 +73,6 @@ fn look_at_set<F: Folder, L: Ledger>(
     ensures pulls { PullsAtMost (looked span result) (F.numbers folder.old) (F.numbers folder.new) }
     ensures few { PullsAtMost (12 + 8 * searched ((span.limit - span.at - 12) / 8))
         (F.numbers folder.old) (F.numbers folder.new) }
-    ensures steps { steps.new ≡ steps.old + 1 }
     ensures told { (bytes : List ℕ) (end : ℕ) (row : PlainRow) (parent : List (ℕ × ℕ))
         (front ks behind : List PlainNode)
         → LookTold (F.files folder.old) ask.entry.name.now bytes end row span parent
@@ -101,8 +81,7 @@ fn look_at_set<F: Folder, L: Ledger>(
         × PullsAtMost (own_bytes (tree_over parent ks))
         (F.numbers folder.old) (F.numbers folder.new) }
 {
-    steps.tick();
-    match read_leaf_set(ask, folder, span.at, span.limit) {
+    match read_leaf(ask, folder, span.at, span.limit) {
         Ok(has) => Ok(sight_of(has)),
         Err(fault) => Err(fault),
     }
@@ -114,35 +93,24 @@ fn sight_of(has: bool) -> Sight
     if has { Sight::Child } else { Sight::Lacks }
 }
 
-// What the node says, where its left part has the size that it may have.
+// What a node of two children or more says, where its left part has the size that it may have.
 fn judge(span: Span, probe: Probe) -> Result<Sight, CursorFault>
     requires within { span.at + probe.size ≤ span.limit }
-    requires some { 1 ≤ span.count }
+    requires many { 1 < span.count }
     requires few { span.position + span.count < 2 ^ 32 }
     ensures is { IfOk result (IsLook span) }
     ensures size { probe.size ≤ looked span result }
     ensures cause { IfErr result (λ e. IfFolder e ⊥) }
 
     // In any file, and whether the node has the version or not.
-    ensures one { span.count ≡ 1 → OkWhere result (IsLeafNode span probe) }
-    ensures more { 1 < span.count → OkWhere result (IsInnerNode span probe) }
+    ensures inner { OkWhere result (IsInnerNode span probe) }
     ensures told { (i : ℕ) (bytes : List ℕ) (row : PlainRow) (parent : List (ℕ × ℕ))
         (front ks behind : List PlainNode) → SpanIs bytes row span parent front ks behind
-        → AllByRecursion IsSet (map (set_of parent) ks) → 1 ≤ length ks
+        → AllByRecursion IsSet (map (set_of parent) ks)
         → NodeOf i (tree_over parent ks) probe
         → Filled result (LookIs i bytes row parent front ks behind) }
 {
     let at = span.at + probe.size;
-    if span.count == 1 {
-        if probe.left != 0 || at < span.limit {
-            return Err(CursorFault::Damage);
-        }
-        return Ok(if probe.has {
-            Sight::Child
-        } else {
-            Sight::Lacks
-        });
-    }
     if probe.left == 0 || span.limit - at <= probe.left {
         return Err(CursorFault::Damage);
     }

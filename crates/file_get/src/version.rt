@@ -31,12 +31,11 @@ use xa_outside::{Folder, Sink};
 /// Writes a version of the archive in the first `size` bytes of a file: its text, and a line feed.
 ///
 /// At each node the stored timestamp tree over its children is searched, which leads to the
-/// children that the version has, in order; each visited tree node is a step. In the set of one child
-/// and of an alternative the version is looked for by halving. Memory is taken for one inner tree
-/// node of more than eight intervals, and for a record or a value of more than 256 bytes. Of the
-/// header the fourteen bytes of fixed fields are read. Where they count no such version, the last of
-/// the `size` bytes is read too, or the length is asked for if the header has them all: a file with
-/// fewer is damaged.
+/// children that the version has, in order; each visited tree node is a step. In the set of a tree
+/// node and of an alternative the version is looked for by halving. Memory is taken for a record or
+/// a value of more than 256 bytes. Of the header the fourteen bytes of fixed fields are read. Where
+/// they count no such version, the last of the `size` bytes is read too, or the length is asked for
+/// if the header has them all: a file with fewer is damaged.
 pub fn get<F: Folder, O: Sink, L: Ledger>(
     alloc: Global,
     folder: &mut F,

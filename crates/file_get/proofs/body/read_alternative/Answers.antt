@@ -1,6 +1,7 @@
-use Rattle.std.proofs.Common.{◌+◌, ◌-◌, length, Ok, Err, sym, ◌∙◌, arith}
+use Rattle.std.proofs.Common.{◌≡◌, ℕ, ◌+◌, ◌-◌, ◌*◌, ◌/◌, ◌≤◌, length, Ok, Err, sym, subst, ◌∙◌, arith}
 use Rattle.xa_outside.specs.NumberLaws.{PullsAtMost-more, PullsAtMost-trans}
 use Rattle.record_parts.specs.Spelling.{stamp_bytes}
+use Rattle.file_get.specs.Searched.{searched}
 use Rattle.file_get.proofs.Bodies.{stamp-stands, stamp-some, alt-length, alt-parts, alt-is, alt-inherits, stored-set}
 use Rattle.file_get.proofs.body.read_alternative.Goals as goal
 
@@ -72,3 +73,20 @@ returns-in-Ok-read_set-clause-most g c =
     let body = c.in-Ok-read_set.body in
     let room = body - (a.at + 10) in
     PullsAtMost-more (10 + room) (body - a.at) (n a.folder.now) (n c.read_set.new.folder) (omega (arith, c.in-Ok-read_set.ensures.within)) (PullsAtMost-trans 10 room (n a.folder.now) (n c.read_head.new.folder) (n c.read_set.new.folder) c.in-Ok.ensures.pulls c.in-Ok-read_set.ensures.most)
+
+pub returns-then-not-is_stored-clause-few : goal.returns-then-not-is_stored-clause-few
+returns-then-not-is_stored-clause-few g c =
+    let a = c.args in
+    let n = g.F.Folder.numbers in
+    PullsAtMost-more 10 (14 + 8 * searched ((a.at + 10 - a.at - 14) / 8)) (n a.folder.now) (n c.read_head.new.folder) (omega arith) c.in-Ok.ensures.pulls
+
+pub returns-in-Ok-read_set-clause-few : goal.returns-in-Ok-read_set-clause-few
+returns-in-Ok-read_set-clause-few g c =
+    let a = c.args in
+    let n = g.F.Folder.numbers in
+    let body = c.in-Ok-read_set.body in
+    let few = 4 + 8 * searched ((body - (a.at + 10) - 4) / 8) in
+    let same : body - (a.at + 10) - 4 ≡ body - a.at - 14 = omega arith in
+    PullsAtMost-more (10 + few) (14 + 8 * searched ((body - a.at - 14) / 8)) (n a.folder.now) (n c.read_set.new.folder)
+    (subst (λ (k : ℕ). 10 + (4 + 8 * searched ((body - (a.at + 10) - 4) / 8)) ≤ 14 + 8 * searched (k / 8)) same (omega arith))
+    (PullsAtMost-trans 10 few (n a.folder.now) (n c.read_head.new.folder) (n c.read_set.new.folder) c.in-Ok.ensures.pulls c.in-Ok-read_set.ensures.few)

@@ -1,4 +1,4 @@
-use Rattle.std.proofs.Common.{◌+◌, ◌-◌, ◌*◌, length, sym, subst, arith}
+use Rattle.std.proofs.Common.{◌≡◌, ℕ, ◌+◌, ◌-◌, ◌*◌, ◌/◌, ◌≤◌, length, sym, subst, arith}
 use Rattle.xa_outside.specs.NumberLaws.{PullsAtMost-more, PullsAtMost-trans}
 use Rattle.timestamp_tree.specs.Bytes.{set_bytes}
 use Rattle.timestamp_tree.proofs.Trees.{length-set_bytes}
@@ -73,3 +73,13 @@ returns-in-Ok-search_pairs-clause-most g c =
     let count = c.in-Ok.count in
     let all = searched-all count in
     PullsAtMost-more (4 + 8 * searched count) (a.at + 4 + 8 * count - a.at) (n a.folder.now) (n c.search_pairs.new.folder) (omega (arith, all)) (PullsAtMost-trans 4 (8 * searched count) (n a.folder.now) (n c.read_count.new.folder) (n c.search_pairs.new.folder) f.pulls b.pulls)
+
+pub returns-in-Ok-search_pairs-clause-few : goal.returns-in-Ok-search_pairs-clause-few
+returns-in-Ok-search_pairs-clause-few g c =
+    let a = c.args in
+    let n = g.F.Folder.numbers in
+    let count = c.in-Ok.count in
+    let same : count ≡ (a.at + 4 + 8 * count - a.at - 4) / 8 = omega arith in
+    PullsAtMost-more (4 + 8 * searched count) (4 + 8 * searched ((a.at + 4 + 8 * count - a.at - 4) / 8)) (n a.folder.now) (n c.search_pairs.new.folder)
+    (subst (λ (k : ℕ). 4 + 8 * searched count ≤ 4 + 8 * searched k) same (omega arith))
+    (PullsAtMost-trans 4 (8 * searched count) (n a.folder.now) (n c.read_count.new.folder) (n c.search_pairs.new.folder) c.in-Ok.ensures.pulls c.in-Ok-search_pairs.ensures.pulls)
