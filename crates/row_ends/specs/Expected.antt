@@ -34,7 +34,7 @@ abbrev pub Leads : {T : Type 0} → PlainRoom → PlainRoom → List ℕ → Lis
 Leads before after bytes text (Ok x) = (front : List ℕ) → matches before bytes (front ++ text) ≡ matches after bytes front
 Leads before after bytes text (Err e) = Refuses before bytes text e
 
--- These bytes are expected in front of those that were. The folder is only read, and each byte at most once.
+-- These bytes are expected in front of those that were. The folder is only read, and no more is pulled than was compared.
 pub record Expected {S T : Type 0} (files : S → Option Files) (draft : S → Option (List ℕ)) (numbers : S → Numbers) (faults : S → ℕ) (name text : List ℕ) (old new : S) (before after : PlainRoom) (result : Result T Stop) : Type 0 where
   pub reads : OnlyReads files draft faults old new (stop_fault result)
   pub same_low : after.low ≡ before.low
@@ -60,7 +60,8 @@ answered (Ok x) = Ok true
 answered (Err Differs) = Ok false
 answered (Err (Fault e)) = Err e
 
--- These bytes were compared, in front of those that are pending, with all that are left. The folder is only read, and each byte at most once.
+-- These bytes were compared, in front of those that are pending, with all that are left. The folder is only read, and no more is
+-- pulled than there was to compare.
 pub record Compared {S T : Type 0} (files : S → Option Files) (draft : S → Option (List ℕ)) (numbers : S → Numbers) (faults : S → ℕ) (name text : List ℕ) (old new : S) (before : PlainRoom) (result : Result T Stop) : Type 0 where
   pub reads : OnlyReads files draft faults old new (stop_fault result)
   pub pulls : PullsAtMost (before.at - before.low) (numbers old) (numbers new)

@@ -21,9 +21,9 @@ use xa_outside::Folder;
 /// Whether the body of the END of a node that has this set and these kids stands in a file: so many
 /// bytes from an offset on.
 ///
-/// It is compared from its last byte to its first, in pieces of at most 64 KiB. It takes memory
-/// for the unions of the sets of kids alone, one for each level of the tree, and what the file says
-/// there never decides how much. Where the file has fewer bytes it is false or Damage.
+/// It is compared from its last byte to its first, in pieces of at most 64 KiB. It takes memory for
+/// copies of the sets of kids and for their unions alone, about one for each level of the tree. What
+/// the file says there never decides how much. Where the file has fewer bytes it is false or Damage.
 pub fn is_end<F: Folder>(
     room: &mut Room,
     folder: &mut F,
