@@ -139,7 +139,7 @@ fn each_byte_of_an_end_is_compared(rt: HostRuntime) -> Result<(), Fail> {
     Ok(())
 }
 
-/// Ends with other bytes at an offset of their file, each a directory that another reader takes.
+/// ENDs with other bytes at an offset of their file.
 const CHANGED: &[(&str, Place, Row, usize, &[u8])] = &[
     ("zero intervals", AFTER_ONE, DB, 117, b"\0"),
     ("the left size of a leaf", AFTER_ONE, DB, 133, b"\x14"),
@@ -245,19 +245,21 @@ fn ends_of_other_rows_differ(rt: HostRuntime) -> Result<(), Fail> {
     told(differs(alloc, &mut room, FOUR, 321, 0, IN_E), "no byte")
 }
 
-/// The kids of `e`, that store their sets.
-const STORING: Row = Row {
-    set: (9, 9),
-    kids: &[(50, 0, &[(1, 4)]), (148, 0, &[(1, 4)])],
-};
+/// The kids of `e`, where they store their sets.
+const STORING: &[(&str, (u32, u32), &[Kid])] = &[
+    ("both", (9, 9), &[(50, 0, &[(1, 4)]), (148, 0, &[(1, 4)])]),
+    ("the first", (1, 4), &[(50, 0, &[(1, 4)]), (148, 0, &[])]),
+    ("the last", (1, 4), &[(50, 0, &[]), (148, 0, &[(1, 4)])]),
+];
 
 #[test]
 fn a_set_that_is_stored_is_compared_as_one(rt: HostRuntime) -> Result<(), Fail> {
     let mut room = Room::new(rt.alloc())?;
-    told(
-        stands(rt.alloc(), &mut room, AFTER_E, STORING),
-        "the sets as they are",
-    )
+    for (what, set, kids) in STORING {
+        let row = Row { set: *set, kids };
+        told(stands(rt.alloc(), &mut room, AFTER_E, row), what)?;
+    }
+    Ok(())
 }
 
 /// What is answered where the read of this number fails.
