@@ -15,11 +15,11 @@ ghost use Rattle.node_judge.specs.Awaited.{Awaited, holds_at, is_met, keeps};
 ghost use Rattle.node_judge.specs.InPlace.{is_sound_in, is_placed};
 ghost use Rattle.node_judge.specs.InPlace.{is_sound_archive, LiesSound};
 
-/// What an archive must be holds of each of its nodes in its place. A node waits for key values: its
-/// kids meet them, and keep what they are handed. A node is right in its place exactly where it is
-/// well, fits the rules and keeps what its parent waits for. An alternative that inherits is the only
-/// one of its leaf. Then an archive is sound exactly where its nodes are, and a file exactly where
-/// such nodes lie in it.
+/// What has to hold of an archive is said of each of its nodes in its place. A node waits for key
+/// values: its kids meet them, and keep what they are handed. A node is right in its place exactly
+/// where it is well, fits the rules, is not too deep and keeps what its parent waits for. An
+/// alternative that inherits is the only one of its leaf. Then an archive is sound exactly where its
+/// row of nodes is, and a file exactly where such nodes lie in it.
 pub fn nodes_are_sound_in_their_place()
     ensures met { (w : Awaited) (l : PlainLabel) (s : Stamp) (ks : PlainNodes)
         → IsTrue (rise (labels ks))
