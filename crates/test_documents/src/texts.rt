@@ -1,13 +1,12 @@
 ghost use Rattle.jsonml_tree.specs.Fits.{IsElement};
 ghost use Rattle.jsonml_tree.specs.View.{tree_view};
 
-use given_outside::{Pieces, joined};
+use crate::asked::{Asked, is_content, is_so};
+use given_parts::bytes::{Pieces, joined};
 use given_parts::documents::{lend, read};
 use given_parts::told;
-use jsonml_text::{
-    DocFault, Printer, content_of, print_lent_content, read_document, scalar_of, write_tree,
-};
-use jsonml_tree::{Content, LentContent, LentTree, Scalar, Tree};
+use jsonml_text::{DocFault, Printer, content_of, read_document, scalar_of, write_tree};
+use jsonml_tree::{Content, Scalar, Tree};
 use serde_json::Value;
 use std::alloc::{AllocError, Global};
 use std::test::Fail;
@@ -118,21 +117,6 @@ const PRINTED: &[(&str, Pieces, Pieces)] = &[
     ),
 ];
 
-fn is_owned(alloc: Global, lent: &LentTree<'_>, tree: &Tree) -> bool {
-    match lent.own(alloc) {
-        Ok(owned) => owned == *tree,
-        Err(_) => false,
-    }
-}
-
-/// Whether the document whose texts are lent is the same tree.
-fn is_lent(alloc: Global, document: &[u8], tree: &Tree) -> bool {
-    match lend(alloc, document) {
-        Some(lent) => is_owned(alloc, &lent, tree),
-        None => false,
-    }
-}
-
 /// Whether this is written of a tree.
 fn is_put(sink: &mut MemSink, tree: &Tree, text: &[u8]) -> bool
     requires { IsElement (tree_view tree.now) }
@@ -153,7 +137,10 @@ fn is_written(alloc: Global, tree: &Tree, text: Pieces) -> bool
 /// Whether both ways to read a document give one tree, and this is printed of it.
 fn is_read_and_written(alloc: Global, document: &[u8], text: Pieces) -> bool {
     match read(alloc, document) {
-        Some(tree) => is_lent(alloc, document, &tree) && is_written(alloc, &tree, text),
+        Some(tree) => {
+            let lent = lend(alloc, document);
+            is_so(alloc, lent, Asked::Owns(&tree)) && is_written(alloc, &tree, text)
+        }
         None => false,
     }
 }
@@ -173,115 +160,129 @@ fn documents_are_printed(rt: HostRuntime) -> Result<(), Fail> {
     Ok(())
 }
 
-/// A document that is no tree: the place and why.
-const MISSHAPEN: &[(&[u8], &[u32], u8)] = &[
-    (b"[\"db\",[]]", &[1], 1),
-    (b"[\"db\",[5]]", &[1], 2),
-    (b"[\"db\",{\"a\":\"x\"},{}]", &[1], 3),
-    (b"[\"db\",{\"a\":[]}]", &[], 4),
-    (b"[\"db\",{\"a\":1.5}]", &[], 5),
-    (b"\"db\"", &[], 6),
-    (b"{}", &[], 3),
-    // The first fault in preorder.
-    (b"[\"db\",{},\"x\",[\"e\",[\"f\",null]],[]]", &[2, 1, 1], 3),
+/// What is wrong with a document.
+enum Wrong {
+    /// No tree: the place and why.
+    Misshapen(&'static [u32], u8),
+    /// Too deep at this place.
+    Deep(&'static [u32]),
+    Json,
+}
+
+const WRONG: &[(&str, &[u8], Wrong)] = &[
+    (
+        "an element without a tag",
+        b"[\"db\",[]]",
+        Wrong::Misshapen(&[1], 1),
+    ),
+    (
+        "a tag that is a number",
+        b"[\"db\",[5]]",
+        Wrong::Misshapen(&[1], 2),
+    ),
+    (
+        "attributes behind an item",
+        b"[\"db\",{\"a\":\"x\"},{}]",
+        Wrong::Misshapen(&[1], 3),
+    ),
+    (
+        "an attribute that is an array",
+        b"[\"db\",{\"a\":[]}]",
+        Wrong::Misshapen(&[], 4),
+    ),
+    (
+        "an attribute that is a fraction",
+        b"[\"db\",{\"a\":1.5}]",
+        Wrong::Misshapen(&[], 5),
+    ),
+    ("a text alone", b"\"db\"", Wrong::Misshapen(&[], 6)),
+    ("attributes alone", b"{}", Wrong::Misshapen(&[], 3)),
+    (
+        "the first fault in preorder",
+        b"[\"db\",{},\"x\",[\"e\",[\"f\",null]],[]]",
+        Wrong::Misshapen(&[2, 1, 1], 3),
+    ),
+    ("half an array", b"[", Wrong::Json),
 ];
 
-fn is_bad_shape(found: &Result<Tree, DocFault>, steps: &[u32], code: u8) -> bool {
-    match found {
-        Err(DocFault::BadShape { place, why }) => place.steps.as_slice() == steps && *why == code,
+/// Whether a fault lies at the first item of the first item and so on, or wherever it should.
+fn is_wrong(found: &Result<Tree, DocFault>, wrong: &Wrong) -> bool {
+    match (found, wrong) {
+        (Err(DocFault::BadShape { place, why }), Wrong::Misshapen(steps, code)) => {
+            place.steps.as_slice() == *steps && *why == *code
+        }
+        (Err(DocFault::TooDeep { place }), Wrong::Deep(steps)) => {
+            place.steps.as_slice() == *steps
+        }
+        (Err(DocFault::BadJson), Wrong::Json) => true,
         _ => false,
     }
 }
 
-fn is_misshapen(alloc: Global, document: &[u8], steps: &[u32], code: u8) -> bool {
-    if document.len() > 1000 {
-        return false;
-    }
-    let found = read_document(alloc, document);
-    is_bad_shape(&found, steps, code)
-}
-
-#[test]
-fn shape_faults_have_their_place_and_why(rt: HostRuntime) {
-    for (index, (document, steps, why)) in MISSHAPEN.iter().enumerate() {
-        assert!(rt;
-            is_misshapen(rt.alloc(), document, steps, *why),
-            "document {index}"
-        );
-    }
-}
-
-/// Whether this is too deep, at the first item of the first item and so on.
-fn is_deep_at(found: &Result<Tree, DocFault>, steps: &[u32]) -> bool {
-    match found {
-        Err(DocFault::TooDeep { place }) => place.steps.as_slice() == steps,
-        _ => false,
-    }
-}
-
-fn is_read_as_deep(alloc: Global, document: &[u8], steps: &[u32]) -> bool {
+fn is_read_as_wrong(alloc: Global, document: &[u8], wrong: &Wrong) -> bool {
     if document.len() > 10_000 {
         return false;
     }
-    let found = read_document(alloc, document);
-    is_deep_at(&found, steps)
+    is_wrong(&read_document(alloc, document), wrong)
 }
 
-fn is_too_deep(alloc: Global, document: Pieces, steps: &[u32]) -> bool {
+#[test]
+fn faults_have_their_place_and_why(rt: HostRuntime) -> Result<(), Fail> {
+    for (name, document, wrong) in WRONG {
+        told(is_read_as_wrong(rt.alloc(), document, wrong), name)?;
+    }
+    Ok(())
+}
+
+/// The document of depth 121.
+const DEEP: Pieces = &[(b"[\"db\"", 1), (b",[\"a\"", 120), (b"]", 121)];
+
+fn is_too_deep(alloc: Global, document: Pieces, wrong: &Wrong) -> bool {
     match joined(alloc, document) {
-        Ok(document) => is_read_as_deep(alloc, &document, steps),
+        Ok(document) => is_read_as_wrong(alloc, &document, wrong),
         Err(_) => false,
     }
 }
 
 #[test]
 fn depth_121_is_too_deep_at_its_place(rt: HostRuntime) {
-    let document: Pieces = &[(b"[\"db\"", 1), (b",[\"a\"", 120), (b"]", 121)];
-    assert!(rt; is_too_deep(rt.alloc(), document, &[1; 120]));
-}
-
-fn is_bad(found: &Result<Tree, DocFault>) -> bool {
-    matches!(found, Err(DocFault::BadJson))
-}
-
-#[test]
-fn half_an_array_is_bad_json(rt: HostRuntime) {
-    let found = read_document(rt.alloc(), b"[");
-    assert!(rt; is_bad(&found));
-}
-
-// Prints an element that holds more than a text.
-fn print_lent(tree: &LentTree<'_>, sink: &mut MemSink) -> Option<()> {
-    match tree {
-        LentTree::Elem { tag, row } => print_around(tag.as_str(), LentContent::Row(row), sink).ok(),
-        _ => None,
-    }
-}
-
-// Prints an element of this tag and content.
-fn print_around(tag: &str, content: LentContent<'_, '_>, sink: &mut MemSink) -> Result<(), Failed> {
-    let mut printer = Printer::new();
-    printer.begin_elem(sink, tag)?;
-    print_lent_content(content, &mut printer, sink)?;
-    printer.end_elem(sink)
-}
-
-fn is_printed_as(lent: &LentTree<'_>, sink: &mut MemSink, text: &[u8]) -> bool {
-    print_lent(lent, sink).is_some() && sink.taken() == text
+    assert!(rt; is_too_deep(rt.alloc(), DEEP, &Wrong::Deep(&[1; 120])));
 }
 
 fn is_lent_printed(alloc: Global) -> bool {
-    let mut sink = MemSink::new(alloc, Vec::new(alloc));
-    match lend(alloc, LENT) {
-        Some(lent) => is_printed_as(&lent, &mut sink, LENT),
-        None => false,
-    }
+    is_so(alloc, lend(alloc, LENT), Asked::Prints(LENT))
 }
 
 #[test]
 fn a_lent_content_is_printed_between_calls(rt: HostRuntime) {
     assert!(rt; is_lent_printed(rt.alloc()));
 }
+
+/// What a JSON value is.
+enum Meant {
+    /// The scalar 3.
+    Three,
+    NoScalar,
+    /// An array whose values are the content of this text.
+    Content(&'static str),
+    /// An array whose values are no content.
+    NoContent,
+}
+
+const VALUES: &[(&str, &str, Meant)] = &[
+    ("a number", "3", Meant::Three),
+    ("an array", "[]", Meant::NoScalar),
+    (
+        "an array of a text",
+        "[\"finance\"]",
+        Meant::Content("finance"),
+    ),
+    ("an array of a number", "[5]", Meant::NoContent),
+    ("an element without a tag", "[[]]", Meant::NoContent),
+    ("attributes behind an item", "[\"x\",{}]", Meant::NoContent),
+    ("a fraction", "[{\"a\":1.5}]", Meant::NoContent),
+    ("a null", "[null]", Meant::NoContent),
+];
 
 /// Whether a scalar was found, the number 3, or none.
 fn is_three(found: &Result<Option<Scalar>, AllocError>, wanted: bool) -> bool {
@@ -292,75 +293,46 @@ fn is_three(found: &Result<Option<Scalar>, AllocError>, wanted: bool) -> bool {
     }
 }
 
-/// Whether this is the JSON text of the number 3, or of no scalar.
-fn is_text_of_three(alloc: Global, text: &str, wanted: bool) -> bool {
+/// Whether a content was found, of this text, or none.
+fn is_of_text(
+    alloc: Global,
+    found: &Result<Option<Content>, AllocError>,
+    text: Option<&str>,
+) -> bool {
+    match (found, text) {
+        (Ok(Some(content)), Some(text)) => is_content(Content::of_text(alloc, text), content),
+        (Ok(None), None) => true,
+        _ => false,
+    }
+}
+
+fn is_value(alloc: Global, value: &Value, meant: &Meant) -> bool {
+    match (value, meant) {
+        (_, Meant::Three) => is_three(&scalar_of(alloc, value), true),
+        (_, Meant::NoScalar) => is_three(&scalar_of(alloc, value), false),
+        (Value::Array(values), Meant::Content(text)) => {
+            is_of_text(alloc, &content_of(alloc, values), Some(text))
+        }
+        (Value::Array(values), Meant::NoContent) => {
+            is_of_text(alloc, &content_of(alloc, values), None)
+        }
+        _ => false,
+    }
+}
+
+fn is_meant(alloc: Global, text: &str, meant: &Meant) -> bool {
     match Value::from_str(alloc, text) {
-        Ok(value) => is_three(&scalar_of(alloc, &value), wanted),
+        Ok(value) => is_value(alloc, &value, meant),
         Err(_) => false,
     }
 }
-
-fn is_of_text(alloc: Global, content: &Content, text: &str) -> bool {
-    match Content::of_text(alloc, text) {
-        Ok(wanted) => content.same(&wanted),
-        Err(_) => false,
-    }
-}
-
-/// Whether values are the content of this text.
-fn are_content(alloc: Global, values: &[Value], text: &str) -> bool {
-    match content_of(alloc, values) {
-        Ok(Some(content)) => is_of_text(alloc, &content, text),
-        _ => false,
-    }
-}
-
-/// Whether a value is an array whose values are that.
-fn is_content(alloc: Global, value: &Value, text: &str) -> bool {
-    match value {
-        Value::Array(values) => are_content(alloc, values, text),
-        _ => false,
-    }
-}
-
-fn is_array_content(alloc: Global, array: &str, text: &str) -> bool {
-    match Value::from_str(alloc, array) {
-        Ok(value) => is_content(alloc, &value, text),
-        Err(_) => false,
-    }
-}
-
-fn are_no_content(alloc: Global, value: &Value) -> bool {
-    match value {
-        Value::Array(values) => matches!(content_of(alloc, values), Ok(None)),
-        _ => false,
-    }
-}
-
-/// Whether this is the JSON text of an array whose values are no content.
-fn is_no_content(alloc: Global, array: &str) -> bool {
-    match Value::from_str(alloc, array) {
-        Ok(value) => are_no_content(alloc, &value),
-        Err(_) => false,
-    }
-}
-
-/// Arrays with a number, an element without a tag, attributes behind an item, a fraction, and a null.
-const NO_CONTENTS: &[&str] = &["[5]", "[[]]", "[\"x\",{}]", "[{\"a\":1.5}]", "[null]"];
 
 #[test]
-fn other_values_are_no_content(rt: HostRuntime) -> Result<(), Fail> {
-    for array in NO_CONTENTS {
-        told(is_no_content(rt.alloc(), array), array)?;
+fn values_are_scalars_contents_or_neither(rt: HostRuntime) -> Result<(), Fail> {
+    for (name, text, meant) in VALUES {
+        told(is_meant(rt.alloc(), text, meant), name)?;
     }
     Ok(())
-}
-
-#[test]
-fn values_are_a_scalar_or_a_content(rt: HostRuntime) {
-    let alloc = rt.alloc();
-    let are_scalars = is_text_of_three(alloc, "3", true) && is_text_of_three(alloc, "[]", false);
-    assert!(rt; are_scalars && is_array_content(alloc, "[\"finance\"]", "finance"));
 }
 
 /// What two elements in one another print by single calls.

@@ -1,6 +1,7 @@
+use crate::asked::{Asked, is_content, is_so, is_tree};
 use given_parts::documents::{lend, read};
 use given_parts::told;
-use jsonml_tree::{Content, LentAttr, LentContent, LentScalar, LentTree, Scalar, Tree};
+use jsonml_tree::{Content, LentContent, LentTree, Scalar, Tree};
 use std::alloc::{AllocError, Global};
 use std::cmp::Ordering;
 use std::test::Fail;
@@ -58,6 +59,71 @@ fn scalars_go_by_kind_and_then_by_value(rt: HostRuntime) {
     assert!(rt; do_scalars_ascend(rt.alloc()));
 }
 
+/// What holds of a document.
+enum Holds {
+    /// The first of its two items comes before the second.
+    Ascends,
+    /// Copies of it and of its content are the same.
+    IsCopied,
+    /// Its copy is not this document.
+    IsNotCopiedAs(&'static [u8]),
+    /// A tree that is lent, and one that is kept, own the same tree again.
+    IsOwnedAgain,
+    /// It is lent as a leaf.
+    IsLentAsLeaf,
+    /// Its only attribute, `n`, is lent, the text `x`.
+    HasAttribute,
+}
+
+const DEPARTMENT: &[u8] = br#"["dept",{"floor":3},["name","finance"]]"#;
+
+const TEXT: &[u8] = br#"["name","finance"]"#;
+
+const DOCUMENTS: &[(&str, &[u8], Holds)] = &[
+    (
+        "the text z comes before the element a",
+        br#"["db","z",["a"]]"#,
+        Holds::Ascends,
+    ),
+    ("a copy is the same", DEPARTMENT, Holds::IsCopied),
+    (
+        "a copy is as deep",
+        DEPARTMENT,
+        Holds::IsNotCopiedAs(br#"["dept"]"#),
+    ),
+    (
+        "a lent element owns the same",
+        br#"["dept",["name","finance"]]"#,
+        Holds::IsOwnedAgain,
+    ),
+    ("a lent text owns the same", TEXT, Holds::IsOwnedAgain),
+    (
+        "a lent attribute owns the same",
+        DEPARTMENT,
+        Holds::IsOwnedAgain,
+    ),
+    (
+        "an element of one text is lent as a leaf",
+        TEXT,
+        Holds::IsLentAsLeaf,
+    ),
+    (
+        "an attribute without escapes",
+        br#"["a",{"n":"x"}]"#,
+        Holds::HasAttribute,
+    ),
+    (
+        "an escape in the value",
+        br#"["a",{"n":"\u0078"}]"#,
+        Holds::HasAttribute,
+    ),
+    (
+        "an escape in the name",
+        br#"["a",{"\u006e":"x"}]"#,
+        Holds::HasAttribute,
+    ),
+];
+
 fn items(tree: &Tree) -> &[Tree] {
     match tree {
         Tree::Text(_) => &[],
@@ -66,140 +132,71 @@ fn items(tree: &Tree) -> &[Tree] {
 }
 
 /// Whether the first of two items comes before the second.
-fn is_less(items: &[Tree]) -> bool {
+fn do_items_ascend(items: &[Tree]) -> bool {
     match items {
         [first, second] => first.order(second) == Ordering::Less && !first.same(second),
         _ => false,
     }
 }
 
-fn is_first_less(alloc: Global, document: &[u8]) -> bool {
-    match read(alloc, document) {
-        Some(tree) => is_less(items(&tree)),
-        None => false,
-    }
-}
-
-#[test]
-fn the_text_z_comes_before_the_element_a(rt: HostRuntime) {
-    assert!(rt; is_first_less(rt.alloc(), br#"["db","z",["a"]]"#));
-}
-
-fn is_tree_copied(alloc: Global, tree: &Tree) -> bool {
-    match tree.copy(alloc) {
-        Ok(copy) => copy.same(tree),
-        Err(_) => false,
-    }
-}
-
-fn is_content_copied(alloc: Global, content: &Content) -> bool {
-    match content.copy(alloc) {
-        Ok(copy) => copy.same(content),
-        Err(_) => false,
-    }
-}
-
-/// Whether copies of an element and of its content are the same.
-fn are_copied(alloc: Global, tree: &Tree) -> bool {
+fn is_content_copied(alloc: Global, tree: &Tree) -> bool {
     match tree {
         Tree::Text(_) => false,
-        Tree::Elem { content, .. } => {
-            is_tree_copied(alloc, tree) && is_content_copied(alloc, content)
-        }
+        Tree::Elem { content, .. } => is_content(content.copy(alloc), content),
     }
 }
 
-fn is_copied(alloc: Global, document: &[u8]) -> bool {
-    match read(alloc, document) {
-        Some(tree) => are_copied(alloc, &tree),
-        None => false,
-    }
-}
-
-fn copied(alloc: Global, document: &[u8]) -> Option<Tree> {
-    match read(alloc, document) {
-        Some(tree) => tree.copy(alloc).ok(),
-        None => None,
-    }
-}
-
-/// Whether the copy of a document is no other document.
-fn is_not_copied_as(alloc: Global, document: &[u8], other: &[u8]) -> bool {
-    match (copied(alloc, document), read(alloc, other)) {
-        (Some(copy), Some(other)) => !copy.same(&other),
-        _ => false,
-    }
-}
-
-const DEPARTMENT: &[u8] = br#"["dept",{"floor":3},["name","finance"]]"#;
-
-#[test]
-fn a_copy_is_the_same_and_as_deep(rt: HostRuntime) {
-    let is_copied = is_copied(rt.alloc(), DEPARTMENT);
-    assert!(rt; is_copied && is_not_copied_as(rt.alloc(), DEPARTMENT, br#"["dept"]"#));
-}
-
-fn is_owned_as(alloc: Global, lent: &LentTree<'_>, tree: &Tree) -> bool {
-    match lent.own(alloc) {
-        Ok(owned) => owned.same(tree),
-        Err(_) => false,
-    }
-}
-
-fn is_lent_as(alloc: Global, tree: &Tree) -> bool {
-    match LentTree::lend(alloc, tree) {
-        Ok(lent) => is_owned_as(alloc, &lent, tree),
-        Err(_) => false,
-    }
-}
-
-fn is_kept_as(alloc: Global, kept: Tree, tree: &Tree) -> bool {
-    match LentTree::keep(alloc, kept) {
-        Ok(kept) => is_owned_as(alloc, &kept, tree),
-        Err(_) => false,
+fn is_copy(alloc: Global, tree: &Tree, other: &[u8]) -> bool {
+    match read(alloc, other) {
+        Some(other) => is_tree(tree.copy(alloc), &other),
+        None => true,
     }
 }
 
 fn is_copy_kept(alloc: Global, tree: &Tree) -> bool {
     match tree.copy(alloc) {
-        Ok(copy) => is_kept_as(alloc, copy, tree),
+        Ok(copy) => is_so(alloc, LentTree::keep(alloc, copy).ok(), Asked::Owns(tree)),
         Err(_) => false,
     }
 }
 
-/// Documents of three shapes.
-const SHAPES: &[(&str, &[u8])] = &[
-    ("an element", br#"["dept",["name","finance"]]"#),
-    ("a text", br#"["name","finance"]"#),
-    ("an attribute", DEPARTMENT),
-];
+fn is_lent_as(alloc: Global, tree: &Tree, asked: Asked<'_>) -> bool {
+    is_so(alloc, LentTree::lend(alloc, tree).ok(), asked)
+}
 
-/// Whether a tree that is lent, and one that is kept, own the same tree again.
-fn is_owned_again(alloc: Global, document: &[u8]) -> bool {
+/// Whether this holds of the document, whose tree that is.
+fn is_held_of(alloc: Global, tree: &Tree, document: &[u8], holds: &Holds) -> bool {
+    match holds {
+        Holds::Ascends => do_items_ascend(items(tree)),
+        Holds::IsCopied => is_tree(tree.copy(alloc), tree) && is_content_copied(alloc, tree),
+        Holds::IsNotCopiedAs(other) => {
+            is_tree(tree.copy(alloc), tree) && !is_copy(alloc, tree, other)
+        }
+        Holds::IsOwnedAgain => is_lent_as(alloc, tree, Asked::Owns(tree))
+            && is_copy_kept(alloc, tree),
+        Holds::IsLentAsLeaf => is_lent_as(alloc, tree, Asked::IsLeaf),
+        Holds::HasAttribute => is_so(alloc, lend(alloc, document), Asked::HasAttribute),
+    }
+}
+
+fn is_held(alloc: Global, document: &[u8], holds: &Holds) -> bool {
     match read(alloc, document) {
-        Some(tree) => is_lent_as(alloc, &tree) && is_copy_kept(alloc, &tree),
+        Some(tree) => is_held_of(alloc, &tree, document, holds),
         None => false,
     }
 }
 
 #[test]
-fn a_lent_tree_owns_the_same_tree(rt: HostRuntime) -> Result<(), Fail> {
-    for (name, document) in SHAPES {
-        told(is_owned_again(rt.alloc(), document), name)?;
+fn trees_are_ordered_copied_lent_and_kept(rt: HostRuntime) -> Result<(), Fail> {
+    for (name, document, holds) in DOCUMENTS {
+        told(is_held(rt.alloc(), document, holds), name)?;
     }
     Ok(())
 }
 
-fn is_content_of(alloc: Global, content: &Content, text: &str) -> bool {
-    match Content::of_text(alloc, text) {
-        Ok(wanted) => content.same(&wanted),
-        Err(_) => false,
-    }
-}
-
 fn is_lent_text(alloc: Global, text: &str) -> bool {
     match LentContent::Text(text).own(alloc) {
-        Ok(content) => is_content_of(alloc, &content, text),
+        Ok(content) => is_content(Content::of_text(alloc, text), &content),
         Err(_) => false,
     }
 }
@@ -207,62 +204,4 @@ fn is_lent_text(alloc: Global, text: &str) -> bool {
 #[test]
 fn a_lent_text_is_a_content(rt: HostRuntime) {
     assert!(rt; is_lent_text(rt.alloc(), "finance"));
-}
-
-fn is_leaf(lent: &LentTree<'_>) -> bool {
-    matches!(lent, LentTree::Leaf { .. })
-}
-
-fn is_lent_leaf(alloc: Global, tree: &Tree) -> bool {
-    match LentTree::lend(alloc, tree) {
-        Ok(lent) => is_leaf(&lent),
-        Err(_) => false,
-    }
-}
-
-#[test]
-fn an_element_of_one_text_is_lent_as_a_leaf(rt: HostRuntime) -> Result<(), Fail> {
-    match read(rt.alloc(), br#"["name","finance"]"#) {
-        Some(tree) => told(is_lent_leaf(rt.alloc(), &tree), "leaf"),
-        None => Err(Fail::new("no document")),
-    }
-}
-
-fn attrs<'a, 'b>(tree: &'a LentTree<'b>) -> &'a [LentAttr<'b>] {
-    match tree {
-        LentTree::Elem { row, .. } => &row.attrs,
-        _ => &[],
-    }
-}
-
-/// Whether there is one attribute, of this name and text.
-fn is_one(attrs: &[LentAttr<'_>], name: &str, text: &str) -> bool {
-    match attrs {
-        [attr] => {
-            attr.name() == name && attr.value().order(LentScalar::Text(text)) == Ordering::Equal
-        }
-        _ => false,
-    }
-}
-
-/// Elements with the attribute `n`, whose value is the text `x`.
-const ATTRIBUTES: &[(&str, &[u8])] = &[
-    ("no escape", br#"["a",{"n":"x"}]"#),
-    ("an escape in the value", br#"["a",{"n":"\u0078"}]"#),
-    ("an escape in the name", br#"["a",{"\u006e":"x"}]"#),
-];
-
-fn is_attribute_lent(alloc: Global, document: &[u8], name: &str, text: &str) -> bool {
-    match lend(alloc, document) {
-        Some(tree) => is_one(attrs(&tree), name, text),
-        None => false,
-    }
-}
-
-#[test]
-fn an_attribute_is_lent_with_escapes_and_without(rt: HostRuntime) -> Result<(), Fail> {
-    for (name, document) in ATTRIBUTES {
-        told(is_attribute_lent(rt.alloc(), document, "n", "x"), name)?;
-    }
-    Ok(())
 }

@@ -1,7 +1,8 @@
+use crate::asked::{Asked, is_so};
 use given_parts::documents::{lend, read};
 use given_parts::told;
 use jsonml_text::write_tree;
-use jsonml_tree::{LentAttr, LentTree, Tree};
+use jsonml_tree::Tree;
 use std::alloc::{AllocError, Global};
 use std::test::Fail;
 use xa_outside::MemSink;
@@ -51,58 +52,56 @@ fn digit(number: u32) -> u8 {
 
 /// Appends an attribute that is named by a number of four digits, and a comma.
 fn put_attribute(text: &mut Vec<u8>, number: u32, value: u8) -> Result<(), AllocError> {
-    let digits = [
-        digit(number / 1000),
-        digit(number / 100),
-        digit(number / 10),
-        digit(number),
-    ];
-    text.extend_from_slice(b"\"a")?;
-    text.extend_from_slice(&digits)?;
-    text.extend_from_slice(b"\":\"")?;
-    text.push(value)?;
-    text.extend_from_slice(b"\",")?;
+    let mut attribute = *b"\"a0000\":\"x\",";
+    attribute[2] = digit(number / 1000);
+    attribute[3] = digit(number / 100);
+    attribute[4] = digit(number / 10);
+    attribute[5] = digit(number);
+    attribute[9] = value;
+    text.extend_from_slice(&attribute)
+}
+
+/// Appends so many attributes, of which that of the number 0 has this value.
+fn put_attributes(
+    text: &mut Vec<u8>,
+    count: u32,
+    is_down: bool,
+    first: u8,
+) -> Result<(), AllocError> {
+    for at in 0..count {
+        let number = if is_down { count - 1 - at } else { at };
+        let value = if number == 0 { first } else { b'x' };
+        put_attribute(text, number, value)?;
+    }
     Ok(())
 }
 
 /// Ends the document in place of the last comma.
 fn end_row(text: &mut Vec<u8>) -> Result<(), AllocError> {
     text.pop();
-    text.extend_from_slice(b"},\"t\"]")?;
-    Ok(())
+    text.extend_from_slice(b"},\"t\"]")
 }
 
 /// A document of so many attributes, each with the same value.
-fn document(alloc: Global, count: u32, written: Written) -> Result<Vec<u8>, AllocError> {
-    let mut text = Vec::new(alloc);
+fn put_document(text: &mut Vec<u8>, count: u32, written: Written) -> Result<(), AllocError> {
     text.extend_from_slice(b"[\"db\",{")?;
-    for at in 0..count {
-        let number = match written {
-            Written::Down => count - 1 - at,
-            _ => at,
-        };
-        put_attribute(&mut text, number, b'x')?;
-    }
+    put_attributes(text, count, matches!(written, Written::Down), b'x')?;
     if let Written::Again = written {
-        put_attribute(&mut text, 0, b'y')?;
+        put_attribute(text, 0, b'y')?;
     }
-    end_row(&mut text)?;
-    Ok(text)
+    end_row(text)
 }
 
 /// What is printed of it: the names ascend, and of two values of one name the last stays.
-fn printed(alloc: Global, count: u32, written: Written) -> Result<Vec<u8>, AllocError> {
-    let mut text = Vec::new(alloc);
+fn put_printed(text: &mut Vec<u8>, count: u32, written: Written) -> Result<(), AllocError> {
+    let first = if let Written::Again = written {
+        b'y'
+    } else {
+        b'x'
+    };
     text.extend_from_slice(b"[\"db\",{")?;
-    for number in 0..count {
-        let value = match written {
-            Written::Again if number == 0 => b'y',
-            _ => b'x',
-        };
-        put_attribute(&mut text, number, value)?;
-    }
-    end_row(&mut text)?;
-    Ok(text)
+    put_attributes(text, count, false, first)?;
+    end_row(text)
 }
 
 fn is_put(alloc: Global, tree: &Tree, text: &[u8]) -> bool {
@@ -113,40 +112,26 @@ fn is_put(alloc: Global, tree: &Tree, text: &[u8]) -> bool {
     }
 }
 
-/// Whether the attributes of the root element stand in the document as they are.
-fn are_lent(tree: &LentTree<'_>) -> bool {
-    match tree {
-        LentTree::Elem { row, .. } => {
-            row.attrs
-                .iter()
-                .all(|attr| matches!(attr, LentAttr::Lent { .. }))
-        }
-        _ => false,
+/// Whether both ways to read the document give one tree, this is printed of it, and its attributes are lent or not.
+fn is_tree_so(alloc: Global, tree: &Tree, document: &[u8], text: &[u8], are_lent: bool) -> bool {
+    is_put(alloc, tree, text)
+        && is_so(alloc, lend(alloc, document), Asked::Owns(tree))
+        && is_so(alloc, lend(alloc, document), Asked::AreLent(are_lent))
+}
+
+fn is_read_so(alloc: Global, document: &[u8], text: &[u8], are_lent: bool) -> bool {
+    match read(alloc, document) {
+        Some(tree) => is_tree_so(alloc, &tree, document, text, are_lent),
+        None => false,
     }
 }
 
-/// Whether both ways to read the document give one tree, this is printed of it, and its attributes are lent or not.
-fn is_read_so(alloc: Global, document: &[u8], text: &[u8], lent: bool) -> bool {
-    let Some(tree) = read(alloc, document) else {
-        return false;
-    };
-    let Some(other) = lend(alloc, document) else {
-        return false;
-    };
-    let Ok(owned) = other.own(alloc) else {
-        return false;
-    };
-    owned == tree && is_put(alloc, &tree, text) && are_lent(&other) == lent
-}
-
-fn is_row_read(alloc: Global, count: u32, written: Written, lent: bool) -> bool {
-    let Ok(document) = document(alloc, count, written) else {
-        return false;
-    };
-    let Ok(text) = printed(alloc, count, written) else {
-        return false;
-    };
-    is_read_so(alloc, &document, &text, lent)
+fn is_row_read(alloc: Global, count: u32, written: Written, are_lent: bool) -> bool {
+    let mut document = Vec::new(alloc);
+    let mut text = Vec::new(alloc);
+    put_document(&mut document, count, written).is_ok()
+        && put_printed(&mut text, count, written).is_ok()
+        && is_read_so(alloc, &document, &text, are_lent)
 }
 
 #[test]

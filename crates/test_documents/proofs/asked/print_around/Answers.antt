@@ -5,7 +5,7 @@ use Rattle.jsonml_print.specs.Pen.{Pen}
 use Rattle.jsonml_print.specs.Calls.{begin, end, AllMayCome, content_calls}
 use Rattle.jsonml_print.proofs.TreeWalk.{calls_may_come}
 use Rattle.jsonml_print.proofs.Walks.{AllMayCome-front, AllMayCome-back}
-use Rattle.test_documents.proofs.texts.print_around.Goals as goal
+use Rattle.test_documents.proofs.asked.print_around.Goals as goal
 
 pub print_lent_content-requires : goal.print_lent_content-requires
 print_lent_content-requires c =
