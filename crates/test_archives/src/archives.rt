@@ -1,11 +1,11 @@
 ghost use Rattle.archive_tree.specs.WellFormed.{AreNodesWellFormed};
 ghost use Rattle.archive_tree.specs.View.{nodes_view};
 
+use crate::known::{Known, SALARY, has_known, shapes};
 use archive_tree::{ANode, Archive, effective};
+use given_parts::documents::{is_read, read};
 use given_parts::shapes::{
-    COMPANY, COMPANY_OF_90, COMPANY_OF_95, COMPANY_OF_NONE, DATABASE, EMPLOYEE, FINANCE,
-    FIRST_NAME, LAST_NAME, NAME, Named, SALARIES, SALARY_90, Shape, TELEPHONE, Value, archive,
-    archive_of, has_version, label, labels, nodes, tree,
+    DATABASE, EMPLOYEE, FINANCE, Named, Shape, archive, archive_of, label, labels, nodes, tree,
 };
 use given_parts::told;
 use jsonml_tree::{Content, Scalar, Tree};
@@ -14,128 +14,18 @@ use std::alloc::{AllocError, Global};
 use std::test::Fail;
 use version_set::VersionSet;
 
-/// The alternatives of the salary exchanged.
-const EXCHANGED: Shape = Shape::Inner(
-    DATABASE,
-    &[],
-    &[Shape::Inner(
-        FINANCE,
-        &[],
-        &[
-            Shape::Inner(
-                EMPLOYEE,
-                &[],
-                &[
-                    FIRST_NAME,
-                    LAST_NAME,
-                    Shape::Leaf(
-                        Named("sal", &[]),
-                        &[],
-                        &[
-                            (&[(2, 2)], Value::Text("95K")),
-                            (&[(1, 1), (3, 3)], Value::Text("90K")),
-                        ],
-                    ),
-                    TELEPHONE,
-                ],
-            ),
-            NAME,
-        ],
-    )],
-);
-
-/// The employee is away in version 2.
-const RETURNING: Shape = Shape::Inner(
-    DATABASE,
-    &[],
-    &[Shape::Inner(
-        FINANCE,
-        &[],
-        &[
-            Shape::Inner(
-                EMPLOYEE,
-                &[(1, 1), (3, 3)],
-                &[FIRST_NAME, LAST_NAME, SALARY_90, TELEPHONE],
-            ),
-            NAME,
-        ],
-    )],
-);
-
-const SALARY: Named = Named("sal", &[]);
-
 /// Nodes, a number of versions, and whether they are the parts of an archive.
-const PARTS: &[(&str, u32, &[Shape], bool)] = &[
-    ("a salary that returns", 3, &[COMPANY], true),
-    ("an employee who returns", 3, &[RETURNING], true),
-    ("exchanged alternatives", 3, &[EXCHANGED], false),
-    ("a version without a salary", 4, &[COMPANY], false),
+const PARTS: &[(&str, u32, Known, bool)] = &[
+    ("a salary that returns", 3, Known::Company, true),
+    ("an employee who returns", 3, Known::Returning, true),
+    ("exchanged alternatives", 3, Known::Exchanged, false),
+    ("a version without a salary", 4, Known::Company, false),
     // Alternatives share no version and leave none out.
-    (
-        "two bodies",
-        5,
-        &[Shape::Leaf(
-            SALARY,
-            &[],
-            &[
-                (&[(1, 1), (3, 4)], Value::Text("90K")),
-                (&[(2, 2), (5, 5)], Value::Text("95K")),
-            ],
-        )],
-        true,
-    ),
-    (
-        "a shared version",
-        5,
-        &[Shape::Leaf(
-            SALARY,
-            &[],
-            &[
-                (&[(1, 1), (3, 4)], Value::Text("90K")),
-                (&[(2, 3), (5, 5)], Value::Text("95K")),
-            ],
-        )],
-        false,
-    ),
-    (
-        "a version left out",
-        5,
-        &[Shape::Leaf(
-            SALARY,
-            &[],
-            &[
-                (&[(1, 1), (3, 3)], Value::Text("90K")),
-                (&[(2, 2), (5, 5)], Value::Text("95K")),
-            ],
-        )],
-        false,
-    ),
-    (
-        "the last version left out",
-        5,
-        &[Shape::Leaf(
-            SALARY,
-            &[],
-            &[
-                (&[(1, 1), (3, 4)], Value::Text("90K")),
-                (&[(2, 2)], Value::Text("95K")),
-            ],
-        )],
-        false,
-    ),
-    (
-        "one version too many",
-        5,
-        &[Shape::Leaf(
-            SALARY,
-            &[],
-            &[
-                (&[(1, 1), (3, 4)], Value::Text("90K")),
-                (&[(2, 2), (5, 6)], Value::Text("95K")),
-            ],
-        )],
-        false,
-    ),
+    ("two bodies", 5, Known::TwoBodies, true),
+    ("a shared version", 5, Known::SharedVersion, false),
+    ("a version left out", 5, Known::VersionLeftOut, false),
+    ("the last version left out", 5, Known::LastLeftOut, false),
+    ("one version too many", 5, Known::OneTooMany, false),
 ];
 
 /// Whether the nodes are the parts of an archive of so many versions, or not, as they should.
@@ -148,8 +38,8 @@ fn are_nodes_judged(alloc: Global, n: u32, kids: Vec<ANode>, wanted: bool) -> bo
     }
 }
 
-fn are_judged(alloc: Global, n: u32, shapes: &[Shape], wanted: bool) -> bool {
-    match nodes(alloc, shapes) {
+fn are_judged(alloc: Global, n: u32, known: Known, wanted: bool) -> bool {
+    match nodes(alloc, shapes(known)) {
         Ok(kids) => are_nodes_judged(alloc, n, kids, wanted),
         Err(_) => false,
     }
@@ -157,38 +47,61 @@ fn are_judged(alloc: Global, n: u32, shapes: &[Shape], wanted: bool) -> bool {
 
 #[test]
 fn some_nodes_are_the_parts_of_an_archive(rt: HostRuntime) -> Result<(), Fail> {
-    for (name, n, shapes, wanted) in PARTS {
-        told(are_judged(rt.alloc(), *n, shapes, *wanted), name)?;
+    for (name, n, known, wanted) in PARTS {
+        told(are_judged(rt.alloc(), *n, *known, *wanted), name)?;
     }
     Ok(())
 }
 
 /// An archive of three versions, a number, and the version of that number, if there is one.
-const VERSIONS: &[(&str, &[Shape], u32, Option<Shape>)] = &[
-    ("the first salary", &[COMPANY], 1, Some(COMPANY_OF_90)),
-    ("the second salary", &[COMPANY], 2, Some(COMPANY_OF_95)),
-    ("a salary that returns", &[COMPANY], 3, Some(COMPANY_OF_90)),
-    ("version 0", &[COMPANY], 0, None),
-    ("one version too many", &[COMPANY], 4, None),
-    ("a return", &[RETURNING], 3, Some(COMPANY_OF_90)),
-    ("no employee", &[RETURNING], 2, Some(COMPANY_OF_NONE)),
+const VERSIONS: &[(&str, Known, u32, Option<Known>)] = &[
+    (
+        "the first salary",
+        Known::Company,
+        1,
+        Some(Known::CompanyOf90),
+    ),
+    (
+        "the second salary",
+        Known::Company,
+        2,
+        Some(Known::CompanyOf95),
+    ),
+    (
+        "a salary that returns",
+        Known::Company,
+        3,
+        Some(Known::CompanyOf90),
+    ),
+    ("version 0", Known::Company, 0, None),
+    ("one version too many", Known::Company, 4, None),
+    ("a return", Known::Returning, 3, Some(Known::CompanyOf90)),
+    (
+        "no employee",
+        Known::Returning,
+        2,
+        Some(Known::CompanyOfNone),
+    ),
 ];
 
 fn has_no_version(alloc: Global, archive: &Archive, i: u32) -> bool {
-    matches!(archive.version(alloc, i), Ok(None))
+    match archive.version(alloc, i) {
+        Ok(found) => found.is_none(),
+        Err(_) => false,
+    }
 }
 
 /// Whether the archive has this version, or none.
-fn has_or_not(alloc: Global, archive: &Archive, i: u32, wanted: &Option<Shape>) -> bool {
+fn has_or_not(alloc: Global, archive: &Archive, i: u32, wanted: Option<Known>) -> bool {
     match wanted {
-        Some(shape) => has_version(alloc, archive, i, shape),
+        Some(known) => has_known(alloc, archive, i, known),
         None => has_no_version(alloc, archive, i),
     }
 }
 
 /// The same for the archive of these shapes.
-fn is_version(alloc: Global, shapes: &[Shape], i: u32, wanted: &Option<Shape>) -> bool {
-    match archive(alloc, 3, shapes) {
+fn is_version(alloc: Global, known: Known, i: u32, wanted: Option<Known>) -> bool {
+    match archive(alloc, 3, shapes(known)) {
         Some(archive) => has_or_not(alloc, &archive, i, wanted),
         None => false,
     }
@@ -196,30 +109,30 @@ fn is_version(alloc: Global, shapes: &[Shape], i: u32, wanted: &Option<Shape>) -
 
 #[test]
 fn archives_have_their_versions(rt: HostRuntime) -> Result<(), Fail> {
-    for (name, shapes, i, wanted) in VERSIONS {
-        told(is_version(rt.alloc(), shapes, *i, wanted), name)?;
+    for (name, known, i, wanted) in VERSIONS {
+        told(is_version(rt.alloc(), *known, *i, *wanted), name)?;
     }
     Ok(())
 }
 
 /// An archive of three versions, a path, and the intervals of the versions that hold it.
-const HISTORIES: &[(&str, &[Shape], &[Named], &[(u32, u32)])] = &[
+const HISTORIES: &[(&str, Known, &[Named], &[(u32, u32)])] = &[
     (
         "a salary",
-        &[COMPANY],
+        Known::Company,
         &[DATABASE, FINANCE, EMPLOYEE, SALARY],
         &[(1, 3)],
     ),
-    ("the root", &[COMPANY], &[], &[(1, 3)]),
+    ("the root", Known::Company, &[], &[(1, 3)]),
     (
         "a department without a name",
-        &[COMPANY],
+        Known::Company,
         &[DATABASE, Named("dept", &[])],
         &[],
     ),
     (
         "the salary of an employee who returns",
-        &[RETURNING],
+        Known::Returning,
         &[DATABASE, FINANCE, EMPLOYEE, SALARY],
         &[(1, 1), (3, 3)],
     ),
@@ -240,8 +153,8 @@ fn is_history(alloc: Global, archive: &Archive, path: &[Named], pairs: &[(u32, u
 }
 
 /// The same for the archive of these shapes.
-fn holds(alloc: Global, shapes: &[Shape], path: &[Named], pairs: &[(u32, u32)]) -> bool {
-    match archive(alloc, 3, shapes) {
+fn holds(alloc: Global, known: Known, path: &[Named], pairs: &[(u32, u32)]) -> bool {
+    match archive(alloc, 3, shapes(known)) {
         Some(archive) => is_history(alloc, &archive, path, pairs),
         None => false,
     }
@@ -249,92 +162,52 @@ fn holds(alloc: Global, shapes: &[Shape], path: &[Named], pairs: &[(u32, u32)]) 
 
 #[test]
 fn paths_have_their_histories(rt: HostRuntime) -> Result<(), Fail> {
-    for (name, shapes, path, pairs) in HISTORIES {
-        told(holds(rt.alloc(), shapes, path, pairs), name)?;
+    for (name, known, path, pairs) in HISTORIES {
+        told(holds(rt.alloc(), *known, path, pairs), name)?;
     }
     Ok(())
 }
 
-fn element(alloc: Global, tag: &str, items: Vec<Tree>) -> Result<Tree, AllocError> {
-    let tag = String::from_str(alloc, tag)?;
-    let attrs = Vec::new(alloc);
-    let content = Content { attrs, items };
-    Ok(Tree::Elem { tag, content })
-}
+/// The company with the salary 90K, and its employee.
+const DOCUMENT: &[u8] =
+    br#"["db",["dept",["emp",["fn","John"],["ln","Doe"],["sal","90K"],["tel","123-4567"]],["name","finance"]]]"#;
 
-fn word(alloc: Global, tag: &str, text: &str) -> Result<Tree, AllocError> {
-    let tag = String::from_str(alloc, tag)?;
-    let content = Content::of_text(alloc, text)?;
-    Ok(Tree::Elem { tag, content })
-}
-
-/// Elements of these tags, each with one text.
-fn words(alloc: Global, words: &[(&str, &str)]) -> Result<Vec<Tree>, AllocError> {
-    let mut items = Vec::new(alloc);
-    for (tag, text) in words {
-        items.push(word(alloc, tag, text)?)?;
-    }
-    Ok(items)
-}
-
-/// The employee of the company with the salary 90K.
-fn person(alloc: Global) -> Result<Tree, AllocError> {
-    let person = [
-        ("fn", "John"),
-        ("ln", "Doe"),
-        ("sal", "90K"),
-        ("tel", "123-4567"),
-    ];
-    element(alloc, "emp", words(alloc, &person)?)
-}
-
-fn department(alloc: Global) -> Result<Tree, AllocError> {
-    let mut items = Vec::with_capacity(alloc, 2)?;
-    items.push(person(alloc)?)?;
-    items.push(word(alloc, "name", "finance")?)?;
-    element(alloc, "dept", items)
-}
-
-/// The document of the company with the salary 90K.
-fn document(alloc: Global) -> Result<Tree, AllocError> {
-    let departments = vec![in alloc; department(alloc)?]?;
-    element(alloc, "db", departments)
-}
-
-fn is_document(alloc: Global, tree: &Tree) -> bool {
-    match document(alloc) {
-        Ok(document) => tree.same(&document),
-        Err(_) => false,
-    }
-}
+const PERSON: &[u8] = br#"["emp",["fn","John"],["ln","Doe"],["sal","90K"],["tel","123-4567"]]"#;
 
 fn is_plain_again(alloc: Global, version: &Keyed) -> bool {
     if !version.is_element() || !version.is_proper() {
         return false;
     }
     match version.plain(alloc) {
-        Ok(plain) => is_document(alloc, &plain),
+        Ok(plain) => is_read(alloc, &plain, DOCUMENT),
         Err(_) => false,
     }
 }
 
-fn is_keyed_copied(alloc: Global, tree: &Keyed) -> bool {
-    match tree.copy(alloc) {
-        Ok(copy) => copy.same(tree),
+fn is_keyed(found: Result<Keyed, AllocError>, tree: &Keyed) -> bool {
+    match found {
+        Ok(found) => found.same(tree),
         Err(_) => false,
     }
 }
 
-fn are_version_and_copy_right(alloc: Global) -> bool {
-    match tree(alloc, &COMPANY_OF_90) {
-        Ok(version) => is_plain_again(alloc, &version) && is_keyed_copied(alloc, &version),
+fn are_plain_and_copy_right(alloc: Global, version: &Keyed) -> bool {
+    is_plain_again(alloc, version) && is_keyed(version.copy(alloc), version)
+}
+
+fn are_version_and_copy_right(alloc: Global, shape: &Shape) -> bool {
+    match tree(alloc, shape) {
+        Ok(version) => are_plain_and_copy_right(alloc, &version),
         Err(_) => false,
     }
 }
 
 #[test]
-fn a_version_is_plain_again(rt: HostRuntime) {
-    assert!(rt; are_version_and_copy_right(rt.alloc()));
+fn a_version_is_plain_again(rt: HostRuntime) -> Result<(), Fail> {
+    match shapes(Known::CompanyOf90) {
+        [shape] => told(are_version_and_copy_right(rt.alloc(), shape), "the company"),
+        _ => Err(Fail::new("no company")),
+    }
 }
 
 fn is_copied(alloc: Global, tree: &Tree) -> bool {
@@ -345,9 +218,9 @@ fn is_copied(alloc: Global, tree: &Tree) -> bool {
 }
 
 fn is_tree_copied(alloc: Global) -> bool {
-    match person(alloc) {
-        Ok(person) => is_copied(alloc, &person),
-        Err(_) => false,
+    match read(alloc, PERSON) {
+        Some(person) => is_copied(alloc, &person),
+        None => false,
     }
 }
 
@@ -414,7 +287,7 @@ fn copies_are_the_same(rt: HostRuntime) {
 fn is_rebuilt(alloc: Global, archive: Archive) -> bool {
     let (n, kids) = archive.into_parts();
     match archive_of(alloc, n, kids) {
-        Some(archive) => has_version(alloc, &archive, 2, &COMPANY_OF_95),
+        Some(archive) => has_known(alloc, &archive, 2, Known::CompanyOf95),
         None => false,
     }
 }
@@ -425,7 +298,7 @@ fn renewed(archive: Archive) -> Archive {
 }
 
 fn is_company_rebuilt(alloc: Global) -> bool {
-    match archive(alloc, 3, &[COMPANY]) {
+    match archive(alloc, 3, shapes(Known::Company)) {
         Some(archive) => is_rebuilt(alloc, renewed(archive)),
         None => false,
     }
@@ -455,13 +328,10 @@ fn are_effective(nodes: &[ANode], parent: &VersionSet, pairs: &[(u32, u32)]) -> 
     !nodes.is_empty()
 }
 
-/// A node with a set of its own.
-const STORED: &[Shape] = &[Shape::Leaf(SALARY, &[(1, 1), (3, 3)], &[])];
-
 /// Whether a node of this shape has these versions, where the parent has three.
-fn is_effective(alloc: Global, shapes: &[Shape], pairs: &[(u32, u32)]) -> bool {
+fn is_effective(alloc: Global, known: Known, pairs: &[(u32, u32)]) -> bool {
     let parent = VersionSet::upto(alloc, 3);
-    match nodes(alloc, shapes) {
+    match nodes(alloc, shapes(known)) {
         Ok(nodes) => are_effective(&nodes, &parent, pairs),
         Err(_) => false,
     }
@@ -469,6 +339,6 @@ fn is_effective(alloc: Global, shapes: &[Shape], pairs: &[(u32, u32)]) -> bool {
 
 #[test]
 fn what_is_not_stored_is_the_parents(rt: HostRuntime) {
-    let is_parents = is_effective(rt.alloc(), &[SALARIES], &[(1, 3)]);
-    assert!(rt; is_parents && is_effective(rt.alloc(), STORED, &[(1, 1), (3, 3)]));
+    let is_parents = is_effective(rt.alloc(), Known::Salaries, &[(1, 3)]);
+    assert!(rt; is_parents && is_effective(rt.alloc(), Known::Stored, &[(1, 1), (3, 3)]));
 }

@@ -2,72 +2,38 @@
 ghost use Rattle.keyed_tree.specs.View.{keyed_view};
 ghost use Rattle.keyed_tree.specs.WellFormed.{IsKeyedWellFormed};
 
+use crate::known::{Known, has_known, shapes};
 use archive_tree::{ANode, Alt, Archive};
-use given_parts::shapes::{
-    COMPANY_OF_90, COMPANY_OF_95, Named, Shape, Value, body, has_version, tree,
-};
+use given_parts::shapes::{Shape, Value, body, tree};
 use given_parts::told;
 use keyed_tree::{Body, Keyed};
 use nested_merge::{is_alike, merge};
 use std::alloc::Global;
 use std::test::Fail;
 
-/// The tiny document: an element without attributes and items.
-const TINY: Shape = Shape::Leaf(Named("db", &[]), &[], &[(&[], Value::Nothing)]);
-
-const ANVIL_10: Shape = Shape::Leaf(
-    Named("item", &[Value::Text("anvil")]),
-    &[],
-    &[(&[], Value::Text("10"))],
-);
-
-const ANVIL_12: Shape = Shape::Leaf(
-    Named("item", &[Value::Text("anvil")]),
-    &[],
-    &[(&[], Value::Text("12"))],
-);
-
-const BELL: Shape = Shape::Leaf(
-    Named("item", &[Value::Text("bell")]),
-    &[],
-    &[(&[], Value::Text("7"))],
-);
-
-const CORD_10: Shape = Shape::Leaf(
-    Named("item", &[Value::Text("cord")]),
-    &[],
-    &[(&[], Value::Text("10"))],
-);
-
-const CORD_12: Shape = Shape::Leaf(
-    Named("item", &[Value::Text("cord")]),
-    &[],
-    &[(&[], Value::Text("12"))],
-);
-
 /// Ten versions of a catalogue: some goods come and go, and prices change.
-const CATALOGUES: &[Shape] = &[
-    Shape::Inner(Named("catalogue", &[]), &[], &[ANVIL_10, BELL]),
-    Shape::Inner(Named("catalogue", &[]), &[], &[BELL, CORD_12]),
-    Shape::Inner(Named("catalogue", &[]), &[], &[ANVIL_10, BELL, CORD_10]),
-    Shape::Inner(Named("catalogue", &[]), &[], &[ANVIL_12, BELL]),
-    Shape::Inner(Named("catalogue", &[]), &[], &[BELL, CORD_10]),
-    Shape::Inner(Named("catalogue", &[]), &[], &[ANVIL_12, BELL, CORD_12]),
-    Shape::Inner(Named("catalogue", &[]), &[], &[ANVIL_10, BELL]),
-    Shape::Inner(Named("catalogue", &[]), &[], &[BELL, CORD_12]),
-    Shape::Inner(Named("catalogue", &[]), &[], &[ANVIL_10, BELL, CORD_10]),
-    Shape::Inner(Named("catalogue", &[]), &[], &[ANVIL_12, BELL]),
+const CATALOGUES: &[Known] = &[
+    Known::Anvil10Bell,
+    Known::BellCord12,
+    Known::Anvil10BellCord10,
+    Known::Anvil12Bell,
+    Known::BellCord10,
+    Known::Anvil12BellCord12,
+    Known::Anvil10Bell,
+    Known::BellCord12,
+    Known::Anvil10BellCord10,
+    Known::Anvil12Bell,
 ];
 
 /// A salary that changes and returns.
-const SALARIES: &[Shape] = &[COMPANY_OF_90, COMPANY_OF_95, COMPANY_OF_90];
+const SALARIES: &[Known] = &[Known::CompanyOf90, Known::CompanyOf95, Known::CompanyOf90];
 
 /// Versions, and how many timestamps the nodes of their archive and the alternatives store.
-const MERGED: &[(&str, &[Shape], Option<usize>)] = &[
-    ("one version", &[TINY], Some(0)),
+const MERGED: &[(&str, &[Known], Option<usize>)] = &[
+    ("one version", &[Known::Tiny], Some(0)),
     (
         "a version that comes again stores no timestamp",
-        &[TINY, TINY],
+        &[Known::Tiny, Known::Tiny],
         Some(0),
     ),
     (
@@ -100,10 +66,10 @@ fn with_version(alloc: Global, old: Archive, shape: &Shape) -> Option<Archive> {
     }
 }
 
-fn merged(alloc: Global, versions: &[Shape]) -> Option<Archive> {
+fn merged(alloc: Global, versions: &[Known]) -> Option<Archive> {
     let mut archive = Archive::empty(alloc);
     for version in versions {
-        archive = with_version(alloc, archive, version)?;
+        archive = with_version(alloc, archive, shapes(*version).first()?)?;
     }
     Some(archive)
 }
@@ -131,23 +97,29 @@ fn node_stamps(node: &ANode) -> usize {
 }
 
 // Whether the archive has these versions and no more.
-fn has_versions(alloc: Global, archive: &Archive, versions: &[Shape]) -> bool {
+fn has_versions(alloc: Global, archive: &Archive, versions: &[Known]) -> bool {
     let mut i = 0u32;
-    for shape in versions {
+    for version in versions {
         i = i.saturating_add(1);
-        if !has_version(alloc, archive, i, shape) {
+        if !has_known(alloc, archive, i, *version) {
             return false;
         }
     }
     archive.n() == i
 }
 
+fn is_count(count: usize, wanted: &Option<usize>) -> bool {
+    match wanted {
+        Some(wanted) => count == *wanted,
+        None => true,
+    }
+}
+
 // Whether the versions come back from their archive, which stores so many timestamps.
-fn is_merged(alloc: Global, versions: &[Shape], stored: &Option<usize>) -> bool {
+fn is_merged(alloc: Global, versions: &[Known], stored: &Option<usize>) -> bool {
     match merged(alloc, versions) {
         Some(archive) => {
-            let are_stored = stored.is_none_or(|wanted| wanted == stamps(archive.kids()));
-            are_stored && has_versions(alloc, &archive, versions)
+            is_count(stamps(archive.kids()), stored) && has_versions(alloc, &archive, versions)
         }
         None => false,
     }
@@ -200,7 +172,7 @@ fn are_salaries(alloc: Global, alts: &[Alt]) -> bool {
     }
 }
 
-fn has_two_salaries(alloc: Global, versions: &[Shape]) -> bool {
+fn has_two_salaries(alloc: Global, versions: &[Known]) -> bool {
     match merged(alloc, versions) {
         Some(archive) => are_salaries(alloc, alternatives(archive.kids(), &[0, 0, 0, 2])),
         None => false,
