@@ -1,0 +1,11 @@
+pub mod Sets
+pub mod Sealing
+pub mod Readies
+pub mod Rows
+pub mod Archives
+pub mod Puts
+pub mod Sizes
+pub mod Places
+pub mod Views
+pub mod Alts
+pub mod Walks

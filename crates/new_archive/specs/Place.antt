@@ -1,0 +1,45 @@
+-- Where a kid of a version stands in a row, and what becomes of the row there.
+use Rattle.std.specs.Prelude.{◌≡◌, ◌≢◌, ℕ, ◌+◌, ◌≤◌, ◌<◌, List, [], ◌∷◌, if◌then◌else◌, ◌++◌, IsTrue, Option, Some, None, Result, Ok, Err, length, map, take, drop, get_or}
+use Rattle.std.specs.List.{AllByRecursion}
+use Rattle.std.specs.Ordering.{is_eq}
+use Rattle.std.specs.declared.cmp.Ordering.TheVariants.{Less, Greater}
+use Rattle.version_set.specs.Members.{with_last}
+use Rattle.keyed_tree.specs.Data.{PlainKey, PlainLabel, PlainKeyed, kids_from}
+use Rattle.keyed_tree.specs.Kids.{ascend}
+use Rattle.keyed_tree.specs.Lists.{Ascends}
+use Rattle.keyed_tree.specs.Order.{key_cmp, label_cmp}
+use Rattle.new_archive.specs.Full.{FullAlt, PlainFull, fulls_from, fulls_list, full_label}
+use Rattle.new_archive.specs.Added.{added_row}
+use Rattle.new_archive.specs.Ready.{AreReady}
+
+-- the place of the node with the label, or that of the first node above it, where there is none
+abbrev pub IsPlaceOf : PlainLabel → List PlainFull → Result ℕ ℕ → Type 0
+IsPlaceOf l ks (Ok i) = (i < length ks) × ((d : PlainFull) → full_label (get_or ks i d) ≡ l)
+IsPlaceOf l ks (Err i) = (i ≤ length ks)
+    × ((j : ℕ) (d : PlainFull) → j < i → label_cmp (full_label (get_or ks j d)) l ≡ Less)
+    × ((j : ℕ) (d : PlainFull) → i ≤ j → j < length ks → label_cmp (full_label (get_or ks j d)) l ≡ Greater)
+
+-- an alternative that version n has too
+abbrev pub changed : ℕ → FullAlt → FullAlt
+changed n a = record { numbers = with_last a.numbers n; body = a.body }
+
+-- the place of the alternative with the body, or that none has it
+abbrev pub IsAltOf : PlainKey → List FullAlt → Option ℕ → Type 0
+IsAltOf b xs (Some i) = (i < length xs) × ((d : FullAlt) → (get_or xs i d).body ≡ b)
+IsAltOf b xs None = AllByRecursion (λ (x : FullAlt). x.body ≢ b) xs
+
+-- the place of the first alternative with the body, counted from this number
+abbrev pub place_from : PlainKey → ℕ → List FullAlt → Option ℕ
+place_from b i [] = None
+place_from b i (x ∷ xs) = if is_eq (key_cmp x.body b) then Some i else place_from b (i + 1) xs
+
+-- a row of nodes with the kids of version n
+abbrev pub added_list : ℕ → List PlainFull → List PlainKeyed → List PlainFull
+added_list n ks cs = fulls_list (added_row n (fulls_from ks) cs)
+
+-- the nodes up to the place are done, and those from the first place on, with a kid before others, are those of the kid and of the others
+pub record IsPut (n : ℕ) (ks : List PlainFull) (from : ℕ) (c : PlainKeyed) (at : ℕ) (js : List PlainFull) : Type 0 where
+  pub within : at < length js
+  pub whole : (cs : List PlainKeyed) → IsTrue (ascend (kids_from (c ∷ cs))) → take (at + 1) js ++ added_list n (drop (at + 1) js) cs ≡ take from ks ++ added_list n (drop from ks) (c ∷ cs)
+  pub ready : AreReady n (fulls_from (drop (at + 1) js))
+  pub ascending : Ascends label_cmp (map full_label (drop (at + 1) js))
