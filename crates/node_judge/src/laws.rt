@@ -18,8 +18,8 @@ ghost use Rattle.node_judge.specs.InPlace.{is_sound_archive, LiesSound};
 /// What has to hold of an archive is said of each of its nodes in its place. A node waits for key
 /// values: its kids meet them, and keep what they are handed. A node is right in its place exactly
 /// where it is well, fits the rules, is not too deep and keeps what its parent waits for. An
-/// alternative that inherits is the only one of its leaf. Then an archive is sound exactly where its
-/// row of nodes is, and a file exactly where such nodes lie in it.
+/// alternative that inherits is the only one of its leaf. Then an archive is sound exactly where
+/// its row of nodes is, and a file exactly where such nodes lie in it.
 pub fn nodes_are_sound_in_their_place()
     ensures met { (w : Awaited) (l : PlainLabel) (s : Stamp) (ks : PlainNodes)
         → IsTrue (rise (labels ks))

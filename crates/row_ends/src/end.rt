@@ -22,8 +22,9 @@ use xa_outside::Folder;
 /// bytes from an offset on.
 ///
 /// It is compared from its last byte to its first, in pieces of at most 64 KiB. It takes memory for
-/// copies of the sets of kids and for their unions alone, about one for each level of the tree. What
-/// the file says there never decides how much. Where the file has fewer bytes it is false or Damage.
+/// copies of the sets of kids and for their unions alone, about one for each level of the tree.
+/// What the file says there never decides how much. Where the file has fewer bytes it is false or
+/// Damage.
 pub fn is_end<F: Folder>(
     room: &mut Room,
     folder: &mut F,
