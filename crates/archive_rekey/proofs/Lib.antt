@@ -1,9 +1,11 @@
 mod Below
+mod Calling
 mod Documents
 mod IndexLemmas
 mod LentRows
 mod Rekeyings
 mod RunVersions
 mod Sizes
-mod SpelledRows
 mod SpreadRows
+mod WrittenFile
+mod WrittenRows

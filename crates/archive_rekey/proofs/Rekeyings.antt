@@ -5,10 +5,12 @@ use Rattle.std.proofs.lemmas.Option.{get_or_from_slice_get, slice_get_within}
 use Rattle.std.specs.List.{AllByRecursion, slice_get}
 use Rattle.std.specs.Option.{option_map}
 use Rattle.jsonml_tree.specs.Data.{PlainTree}
+use Rattle.jsonml_text.specs.Texts.{AreTexts}
 use Rattle.keyed_tree.specs.Alike.{AllAlike}
 use Rattle.keyed_tree.specs.Data.{PlainKeyed}
 use Rattle.keyed_tree.specs.Lists.{Has}
 use Rattle.keyed_tree.specs.Plain.{plain}
+use Rattle.key_spec.specs.Closed.{IsClosed}
 use Rattle.key_spec.specs.Data.{PlainRule}
 use Rattle.key_rules.specs.Faults.{PlainKeyFault, first_fault}
 use Rattle.key_rules.specs.Satisfies.{Satisfies}
@@ -17,6 +19,10 @@ use Rattle.archive_tree.specs.Data.{PlainArchive}
 use Rattle.archive_tree.specs.Stands.{ArchiveOf, version_of}
 use Rattle.nested_merge.specs.Alike.{AlikeAll}
 use Rattle.archive_file.specs.KeyedBy.{AreKeyedBy, IsKeyedBy}
+use Rattle.archive_file.proofs.ShapedArchives.{archive-shaped}
+use Rattle.record_parts.specs.Bounds.{most}
+use Rattle.record_format.specs.Shapes.{IsShaped}
+use Rattle.stream_merge.proofs.DocumentTexts.{keyed-texts}
 use Rattle.archive_rekey.specs.Progress.{IsBehind, IsFaultOf, Reaches}
 use Rattle.archive_rekey.specs.Rekeyed.{AreRekeyed, IsArchiveUnder, IsBad, IsFirstBad}
 
@@ -196,3 +202,15 @@ first-bad rules vs i b t x r spelled h = record {
   here = is-bad rules vs (i + 1) t x spelled h;
   before = λ j v low e. satisfied-before rules vs r.versions i j v r.are (subst (λ n. j < n) h.number low) e;
 }
+
+-- ---- their shape
+
+texts-under : (rules : List PlainRule) (vs us : List PlainKeyed) → AreRekeyed rules vs us → AllByRecursion (λ v. AreTexts (plain v)) vs → AllByRecursion (λ v. AreTexts (plain v)) us
+texts-under rules [] [] h t = tt
+texts-under rules [] (k ∷ ks) h t = absurd h
+texts-under rules (v ∷ vs) [] h t = absurd h
+texts-under rules (v ∷ vs) (k ∷ ks) h t = (let stands = h.0 in (keyed-texts rules (plain v) k t.0 stands.keyed, texts-under rules vs ks h.1 t.1))
+
+pub under-shaped : (rules : List PlainRule) (vs : List PlainKeyed) (a : PlainArchive) → IsClosed rules → AllByRecursion (λ v. AreTexts (plain v)) vs → IsArchiveUnder rules vs a → ((us : List PlainKeyed) → ArchiveOf us a → AreKeyedBy rules us) → a.n ≤ most → IsShaped a
+under-shaped rules vs a closed texts under keyed few =
+    archive-shaped rules under.versions a closed (keyed under.versions under.archive) (texts-under rules vs under.versions under.are texts) under.archive few

@@ -9,3 +9,4 @@ pub mod NotesEnds
 pub mod OnePassEnds
 pub mod RekeyEnds
 pub mod SampleLemmas
+pub mod Storing

@@ -1,17 +1,17 @@
 -- How the parts of `rekey` lead to its end.
-use Rattle.std.proofs.Common.{◌≡◌, inl, inr, ℕ, ◌+◌, ◌≤◌, Bool, true, false, List, [], ◌∷◌, ◌++◌, length, take, Option, Some, None, IfSome, IsSome, Result, Ok, Err, IfErr, refl, sym, ap, ◌∙◌, subst, arith}
+use Rattle.std.proofs.Common.{◌≡◌, inl, inr, ℕ, ◌+◌, ◌≤◌, Bool, true, false, List, [], ◌∷◌, ◌++◌, length, take, Option, Some, None, IfSome, IsSome, Result, Ok, Err, refl, sym, ap, ◌∙◌, subst, arith}
 use Rattle.std.specs.FinMap as map
 use Rattle.std.specs.List.{AllByRecursion}
 use Rattle.xa_outside.specs.Folder.{Files, bytes_or_none}
 use Rattle.xa_outside.specs.Numbers.{Numbers}
+use Rattle.xa_outside.specs.Taken.{Taken}
+use Rattle.xa_outside.specs.TakenLaws.{Takes-nil}
 use Rattle.key_spec.specs.Data.{PlainRule}
 use Rattle.key_rules.specs.Faults.{PlainKeyFault}
 use Rattle.keyed_tree.specs.Data.{PlainKeyed}
 use Rattle.archive_tree.specs.Data.{PlainArchive}
 use Rattle.archive_tree.specs.Stands.{ArchiveOf}
 use Rattle.record_parts.specs.declared.limits.TheConstants.{MOST_VERSIONS}
-use Rattle.record_format.specs.Files.{FileOf}
-use Rattle.record_format.specs.declared.limits.TheConstants.{LONGEST}
 use Rattle.archive_file.specs.Sound.{SoundAs}
 use Rattle.archive_rekey.specs.Rekeyed.{AreRekeyed, IsArchiveUnder}
 use Rattle.version_notes.specs.Notes.{IsNote, are_empty, notes_part}
@@ -22,11 +22,11 @@ use Rattle.version_notes.specs.declared.parts.Parts.{Parts}
 use Rattle.noted_file.specs.Contents.{Contents}
 use Rattle.noted_file.specs.Full.{Full, FullAs}
 use Rattle.xarch_words.specs.Commands.{rekey}
-use Rattle.xarch_words.specs.Refusal.{archive, Refusal, key_fault_in, limit, PlainFault, refused, memory}
-use Rattle.xarch_words.specs.View.{fault_view}
-use Rattle.xarch_words.specs.declared.fault.Fault.{Fault}
+use Rattle.xarch_words.specs.Refusal.{Refusal, key_fault_in, PlainFault, refused, folder_fault, out_fault, in_fault, memory}
 use Rattle.xarch_words.specs.declared.limits.TheConstants.{SPECIFICATION}
-use Rattle.xarch_parts.specs.Archives.{ArchiveIs, CoreIs, GoesOn, IsRefusal, NoRefusal, PartsAre}
+use Rattle.xarch_parts.specs.Allowed.{MayEnd}
+use Rattle.xarch_parts.specs.AllowedLaws.{MayEnd-did, MayEnd-stopped}
+use Rattle.xarch_parts.specs.Archives.{ArchiveIs, CoreIs, GoesOn, PartsAre}
 use Rattle.xarch_parts.specs.CoreLaws.{core-sound, of-parts, same-file}
 use Rattle.xarch_parts.specs.Folders.{ReadsOnly}
 use Rattle.xarch_parts.specs.Inputs.{size_in}
@@ -36,7 +36,7 @@ use Rattle.xarch_meanings.specs.Plausible.{DamagedOrSound, MayBe}
 use Rattle.xarch_meanings.specs.Rekey.{RekeysTo, rekey_rules}
 use Rattle.xarch_writes.specs.Added.{IsDamaged}
 use Rattle.xarch_writes.specs.Appending.{NotesEnd}
-use Rattle.xarch_writes.specs.Rekeyed.{IsFileOfVersions, IsNoArchive, IsOpened, IsSoundOf, IsUnkeyed}
+use Rattle.xarch_writes.specs.Rekeyed.{IsBadTold, IsNoArchive, IsOpened, IsRefusedLong, IsSoundFileOf, IsSoundOf, MayStore, StoreEnds}
 
 -- ---- faults
 
@@ -50,17 +50,11 @@ no-memory q e = absurd cc
 
 -- ---- versions under other keys
 
-module _ (rules : List PlainRule) (vs : List PlainKeyed) (a : PlainArchive) (under : IsArchiveUnder rules vs a) where
-  -- their archive has a file
-  pub filed : (bytes : List ℕ) → ((us : List PlainKeyed) → ArchiveOf us a → SoundAs rules us bytes) → IsFileOfVersions rules vs bytes
-  filed bytes sound = record { versions = under.versions; are = under.are; sound = sound under.versions under.archive }
-
-  -- it has none
-  pub unfiled : {T : Type 0} (r : Result T Fault) (q : Refusal) → IfErr r (λ f. IsRefusal (limit archive LONGEST) (fault_view f))
-      → ((us : List PlainKeyed) (bytes : List ℕ) → ArchiveOf us a → FileOf rules us bytes → IfErr r (λ f. NoRefusal (fault_view f)))
-      → IfErr r (λ f. fault_view f ≡ refused q → IsUnkeyed rules vs q)
-  unfiled (Ok x) q only none = tt
-  unfiled (Err f) q only none = λ e. inr (record { versions = under.versions; are = under.are; none = λ bytes file. none under.versions bytes under.archive file q e; is = only q e })
+many : (rules : List PlainRule) (vs us : List PlainKeyed) → AreRekeyed rules vs us → length us ≡ length vs
+many rules [] [] h = refl
+many rules [] (k ∷ ks) h = absurd h
+many rules (v ∷ vs) [] h = absurd h
+many rules (v ∷ vs) (k ∷ ks) h = (let rest = many rules vs ks h.1 in omega (arith, rest))
 
 -- ---- the archive that is read
 
@@ -98,12 +92,6 @@ can-follow notes n None noted count few each some known = record { few = omega (
 can-follow notes n (Some k) noted count few each some known = record { few = omega (arith, count, few); each = each; some = λ e. some }
 
 -- ---- the whole command
-
-many : (rules : List PlainRule) (vs us : List PlainKeyed) → AreRekeyed rules vs us → length us ≡ length vs
-many rules [] [] h = refl
-many rules [] (k ∷ ks) h = absurd h
-many rules (v ∷ vs) [] h = absurd h
-many rules (v ∷ vs) (k ∷ ks) h = (let rest = many rules vs ks h.1 in omega (arith, rest))
 
 -- what only read, behind a call that kept files
 pub reads-sized : {S : Type 0} {files : S → Option Files} {draft : S → Option (List ℕ)} {numbers : S → Numbers} {faults : S → ℕ} (name : List ℕ) (a b c : S) (v : Option PlainFault) → files b ≡ files a
@@ -147,18 +135,33 @@ module _ (files : Files) (name spec : List ℕ) where
           let same = one held c is.is.bytes is.is.full (subst (λ (b : List ℕ). FullAs c b) bytes a.full) in
           subst (λ (x : Contents). RekeysTo files name x rules r) same to)
 
-      -- the file of its versions under the keys comes
-      pub rekey_stored : (core : List ℕ) → IsFileOfVersions rules vs core → MayBe files (rekey name spec) (Ok (record { files = map.insert files name (core ++ notes_part notes); output = [] }))
-      rekey_stored core file =
-          let bytes = core ++ notes_part notes in
-          let count = is.is.full.as_many ∙ sym (many rules vs file.versions file.are) in
-          opened (Ok (record { files = map.insert files name bytes; output = [] }))
-          (inl (record { versions = file.versions; are = file.are; rest = inl (record { bytes = bytes; full = record { core = core; is = file.sound; as_many = count; each = is.is.full.each; spelled = refl }; is = refl }) }))
+      -- one of them does not satisfy the keys
+      pub rekey_bad : (q : Refusal) → IsBadTold rules vs q → MayBe files (rekey name spec) (Err q)
+      rekey_bad q bad = opened (Err q) (inr (record { number = bad.number; fault = bad.fault; first = bad.first; is = ap (λ s. Err s) bad.is }))
 
-      unkeyed : (q : Refusal) → IsUnkeyed rules vs q → RekeysTo files name held rules (Err q)
-      unkeyed q (inl bad) = inr (record { number = bad.number; fault = bad.fault; first = bad.first; is = ap (λ s. Err s) bad.is })
-      unkeyed q (inr long) = inl (record { versions = long.versions; are = long.are; rest = inr (record { none = long.none; is = ap (λ s. Err s) long.is }) })
+      module _ (a : PlainArchive) (under : IsArchiveUnder rules vs a) where
+        -- the file of their archive under the keys comes
+        filed : (core : List ℕ) → IsSoundFileOf rules a core → MayBe files (rekey name spec) (Ok (record { files = map.insert files name (core ++ notes_part notes); output = [] }))
+        filed core file =
+            let bytes = core ++ notes_part notes in
+            let count = is.is.full.as_many ∙ sym (many rules vs under.versions under.are) in
+            let sound = file under.versions under.archive in
+            opened (Ok (record { files = map.insert files name bytes; output = [] }))
+            (inl (record { versions = under.versions; are = under.are; rest = inl (record { bytes = bytes; full = record { core = core; is = sound; as_many = count; each = is.is.full.each; spelled = refl }; is = refl }) }))
 
-      -- there is none
-      pub rekey_refused : (q : Refusal) → IsUnkeyed rules vs q → MayBe files (rekey name spec) (Err q)
-      rekey_refused q w = opened (Err q) (unkeyed q w)
+        -- there is none
+        unfiled : (q : Refusal) → IsRefusedLong rules a q → MayBe files (rekey name spec) (Err q)
+        unfiled q long = opened (Err q) (inl (record { versions = under.versions; are = under.are; rest = inr (record { none = λ bytes file. long.none under.versions bytes under.archive file; is = ap (λ s. Err s) long.is }) }))
+
+        pub may-store : MayStore files name spec rules a notes
+        may-store = record { stored = filed; refused = unfiled }
+
+-- with what the storing ends, the command may
+module _ (files : Files) (name spec : List ℕ) (rules : List PlainRule) (a : PlainArchive) (notes : List (List ℕ)) (may : MayStore files name spec rules a notes) where
+  pub stored-may : (after : Option Files) (t : Taken) (ended : Option PlainFault) → StoreEnds files name rules a notes after ended → MayEnd (MayBe files (rekey name spec)) ended after t t
+  stored-may after t None s = MayEnd-did (MayBe files (rekey name spec)) (record { files = map.insert files name (s.bytes ++ notes_part notes); output = [] }) after t t (may.stored s.bytes s.file) s.tells (Takes-nil t)
+  stored-may after t (Some (refused q)) s = MayEnd-stopped (MayBe files (rekey name spec)) (refused q) after t (λ p e. (let same : q ≡ p = cc in subst (λ z. MayBe files (rekey name spec) (Err z)) same (may.refused q s)))
+  stored-may after t (Some folder_fault) s = MayEnd-stopped (MayBe files (rekey name spec)) folder_fault after t (λ q e. absurd cc)
+  stored-may after t (Some out_fault) s = MayEnd-stopped (MayBe files (rekey name spec)) out_fault after t (λ q e. absurd cc)
+  stored-may after t (Some in_fault) s = MayEnd-stopped (MayBe files (rekey name spec)) in_fault after t (λ q e. absurd cc)
+  stored-may after t (Some memory) s = MayEnd-stopped (MayBe files (rekey name spec)) memory after t (λ q e. absurd cc)

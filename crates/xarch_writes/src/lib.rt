@@ -6,7 +6,7 @@ mod demo;
 mod init;
 mod notes;
 mod rekey;
-mod spelled_file;
+mod rekeyed;
 
 pub use add::run_add;
 pub use demo::run_demo;

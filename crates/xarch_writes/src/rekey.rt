@@ -1,7 +1,6 @@
 #![tactic(auto, using(xarch_parts::specs::EndLaws::endings))]
 
 ghost use Rattle.std.specs.Prelude.{◌≡◌, ◌+◌, ◌-◌, ◌^◌, ◌<◌, ◌≤◌, ◌++◌, ℕ, List, [], length, map, Some, Ok, Err, IfOk, IfErr, IfSome, IsSome, Bool, true, string_bytes};
-ghost use Rattle.std.specs.FinMap as finite;
 ghost use Rattle.xa_outside.specs.Folder.{Files};
 ghost use Rattle.xa_outside.specs.Taken.{Taken};
 ghost use Rattle.key_spec.specs.View.{spec_view};
@@ -9,8 +8,8 @@ ghost use Rattle.keyed_tree.specs.Data.{PlainKeyed};
 ghost use Rattle.archive_tree.specs.ArchiveView.{archive_view};
 ghost use Rattle.archive_tree.specs.Stands.{ArchiveOf};
 ghost use Rattle.record_parts.specs.declared.limits.TheConstants.{MOST_VERSIONS};
-ghost use Rattle.archive_rekey.specs.Rekeyed.{SpellDocuments};
-ghost use Rattle.version_notes.specs.Notes.{notes_part};
+ghost use Rattle.spelled_archive.specs.ArchiveView.{spelled_archive_view};
+ghost use Rattle.archive_rekey.specs.Rekeyed.{IsArchiveUnder};
 ghost use Rattle.xarch_words.specs.Commands.{rekey};
 ghost use Rattle.xarch_words.specs.Refusal.{Refusal, refused};
 ghost use Rattle.xarch_words.specs.View.{fault_view};
@@ -26,26 +25,28 @@ ghost use Rattle.xarch_meanings.specs.Performs.{Performs};
 ghost use Rattle.xarch_meanings.specs.Plausible.{MayBe};
 ghost use Rattle.xarch_meanings.specs.Rekey.{rekey_rules};
 ghost use Rattle.xarch_writes.specs.Added.{IsDamaged};
-ghost use Rattle.xarch_writes.specs.Rekeyed.{IsFileOfVersions, IsNoArchive, IsOpened, IsSoundOf, IsUnkeyed};
+ghost use Rattle.xarch_writes.specs.Rekeyed.{AreRead, CanBeWritten, IsBadTold, IsNoArchive, IsOpened, IsSoundOf, MayStore};
 
 use crate::notes::notes_of;
-use crate::spelled_file::file_from;
+use crate::rekeyed::{Rekeyed, store_rekeyed};
 use archive_file::{FileFault, decode_file, sound_archives_have_one_reading};
-use archive_rekey::{RekeyFault, rekey_spelled};
+use archive_rekey::{RekeyFault, rekey_spelled, rekeyed_archives_are_shaped};
 use archive_tree::{Archive, archives_stand_for_one_list};
 use key_spec::Spec;
 use noted_file::{
     full_files_are_read_note_by_note, full_files_have_one_reading, full_files_have_parts,
 };
+use spelled_archive::SpelledArchive;
 use std::alloc::Global;
 use version_notes::Parts;
 use xa_outside::{Folder, ReadFault, read_front as read_bytes};
-use xarch_parts::{begin, damaged, length_of, limited_length, read_front, read_spec, store_noted};
+use xarch_parts::{begin, damaged, length_of, limited_length, read_front, read_spec};
 use xarch_words::{Fault, Quantity, limits};
 
 /// Gives the versions of an archive the keys of another specification. Its notes stay.
 ///
-/// The archive is read whole. Beside it, its notes and the new one, one version is held.
+/// The archive is read whole, with its notes. Beside it the new one grows, and one version at a time
+/// is held. The old one is given up before the new one is written, record by record.
 pub fn run_rekey<F: Folder>(
     alloc: Global,
     archive: &str,
@@ -56,49 +57,40 @@ pub fn run_rekey<F: Folder>(
         (rekey archive.now spec.now) folder.old folder.new t t n n (fault_of result) }
 {
     begin(folder)?;
-    let file = new_file(alloc, archive, spec, folder)?;
-    store_noted(archive, &file.core, &file.notes, file.noted, folder)
+    let new = new_archive(alloc, archive, spec, folder)?;
+    store_rekeyed(alloc, archive, &new, folder)
 }
 
-// An archive file, and the notes that come behind it: whether some is not empty, and all of them.
-#[derive(Drop)]
-struct Noted {
-    core: Vec<u8>,
-    noted: bool,
-    notes: Vec<String>,
-}
-
-// The file of the archive's versions under the keys of the specification, and their notes.
-fn new_file<F: Folder>(
+// The archive's versions under the keys of the specification, and their notes.
+fn new_archive<F: Folder>(
     alloc: Global,
     archive: &str,
     spec: &str,
     folder: &mut F,
-) -> Result<Noted, Fault>
+) -> Result<Rekeyed, Fault>
     ensures reads { ReadsOnly F.files F.draft F.numbers F.faults
         (size_in (F.files folder.old) archive.now
         + (16 + SPECIFICATION + size_in (F.files folder.old) archive.now))
         folder.old folder.new (fault_of result) }
-    ensures file { (files : Files) → F.files folder.old ≡ Some files
-        → IfOk result (λ r. MayBe files (rekey archive.now spec.now)
-        (Ok (record {
-          files = finite.insert files archive.now
-              (r.core.items ++ notes_part (map string_bytes r.notes.items));
-          output = [];
-        }))) }
+    ensures stored { (files : Files) → F.files folder.old ≡ Some files
+        → IfOk result (λ r. MayStore files archive.now spec.now (spec_view r.spec)
+        (spelled_archive_view r.archive) (map string_bytes r.notes.items)) }
+    ensures written { IfOk result (λ r.
+        CanBeWritten (spec_view r.spec) (spelled_archive_view r.archive)) }
     ensures follow { IfOk result (λ r. CanFollow r.noted (map string_bytes r.notes.items)) }
     ensures refused { (files : Files) (q : Refusal) → F.files folder.old ≡ Some files
         → IfErr result (λ f. fault_view f ≡ refused q
         → MayBe files (rekey archive.now spec.now) (Err q)) }
 {
-    // Laws, for the proofs of `file` and `refused`.
+    // Laws, for the proofs of `stored` and `refused`.
     archives_stand_for_one_list();
     full_files_have_one_reading();
     let (parts, spec) = new_keys(alloc, archive, spec, folder)?;
     let (old, notes) = read_archive(alloc, archive, &parts, folder)?;
-    let core = file_of_versions(alloc, &old, &spec)?;
-    Ok(Noted {
-        core,
+    let archive = archive_under(alloc, old, &spec)?;
+    Ok(Rekeyed {
+        spec,
+        archive,
         noted: parts.notes.is_some(),
         notes,
     })
@@ -178,7 +170,7 @@ fn read_archive<F: Folder>(
         → IfErr result (λ f. fault_view f ≡ refused q → IsDamaged files archive.now q) }
     ensures few { IfOk result (λ r. (archive_view r.0).n ≤ MOST_VERSIONS) }
     ensures documents { IfOk result (λ r. (vs : List PlainKeyed)
-        → ArchiveOf vs (archive_view r.0) → SpellDocuments vs) }
+        → ArchiveOf vs (archive_view r.0) → AreRead vs) }
     ensures follow { IfOk result (λ r. (noted : Bool)
         → (noted ≡ true → IsSome parts.now.notes)
         → CanFollow noted (map string_bytes r.1.items)) }
@@ -210,7 +202,7 @@ fn read_records<F: Folder>(
         → IfErr result (λ f. fault_view f ≡ refused q → IsNoArchive archive.now bytes q) }
     ensures few { IfOk result (λ a. (archive_view a).n ≤ MOST_VERSIONS) }
     ensures documents { IfOk result (λ a. (vs : List PlainKeyed)
-        → ArchiveOf vs (archive_view a) → SpellDocuments vs) }
+        → ArchiveOf vs (archive_view a) → AreRead vs) }
 {
     match read_bytes(alloc, folder, archive, core) {
         Ok(bytes) => archive_from(alloc, archive, &bytes),
@@ -228,7 +220,7 @@ fn archive_from(alloc: Global, name: &str, bytes: &[u8]) -> Result<Archive, Faul
         → IsNoArchive name.now bytes.now q) }
     ensures few { IfOk result (λ a. (archive_view a).n ≤ MOST_VERSIONS) }
     ensures documents { IfOk result (λ a. (vs : List PlainKeyed)
-        → ArchiveOf vs (archive_view a) → SpellDocuments vs) }
+        → ArchiveOf vs (archive_view a) → AreRead vs) }
 {
     match decode_file(alloc, bytes) {
         Ok((_, old)) => Ok(old),
@@ -237,19 +229,24 @@ fn archive_from(alloc: Global, name: &str, bytes: &[u8]) -> Result<Archive, Faul
     }
 }
 
-// The file of the versions of an archive, under other keys.
-fn file_of_versions(alloc: Global, old: &Archive, spec: &Spec) -> Result<Vec<u8>, Fault>
-    requires few { (archive_view old.now).n ≤ MOST_VERSIONS }
-    requires documents { (vs : List PlainKeyed) → ArchiveOf vs (archive_view old.now)
-        → SpellDocuments vs }
+// The archive under other keys. The old one is given up.
+fn archive_under(alloc: Global, old: Archive, spec: &Spec) -> Result<SpelledArchive, Fault>
+    requires few { (archive_view old).n ≤ MOST_VERSIONS }
+    requires documents { (vs : List PlainKeyed) → ArchiveOf vs (archive_view old) → AreRead vs }
     ensures cause { IsInside (fault_of result) }
-    ensures file { (vs : List PlainKeyed) → ArchiveOf vs (archive_view old.now)
-        → IfOk result (λ b. IsFileOfVersions (spec_view spec.now) vs b.items) }
-    ensures refused { (vs : List PlainKeyed) (q : Refusal) → ArchiveOf vs (archive_view old.now)
-        → IfErr result (λ f. fault_view f ≡ refused q → IsUnkeyed (spec_view spec.now) vs q) }
+    ensures under { (vs : List PlainKeyed) → ArchiveOf vs (archive_view old)
+        → IfOk result (λ a. IsArchiveUnder (spec_view spec.now) vs (spelled_archive_view a)) }
+    ensures written { IfOk result (λ a. CanBeWritten (spec_view spec.now)
+        (spelled_archive_view a)) }
+    ensures refused { (vs : List PlainKeyed) (q : Refusal) → ArchiveOf vs (archive_view old)
+        → IfErr result (λ f. fault_view f ≡ refused q → IsBadTold (spec_view spec.now) vs q) }
 {
-    match rekey_spelled(alloc, old, spec) {
-        Ok(archive) => file_from(alloc, spec, &archive),
+    // For the proof of `written`: the rules are closed, and laws.
+    let _ = spec.rules();
+    archives_stand_for_one_list();
+    rekeyed_archives_are_shaped();
+    match rekey_spelled(alloc, &old, spec) {
+        Ok(archive) => Ok(archive),
         Err(RekeyFault::Key { version, fault }) => Err(Fault::KeyFaultIn { version, fault }),
         Err(RekeyFault::Memory) => Err(Fault::Memory),
     }

@@ -1,3 +1,4 @@
+use Rattle.archive_file.proofs.ShapedArchives.{sound-texts}
 use Rattle.key_spec.specs.View.{spec_view}
 use Rattle.xarch_parts.specs.Ends.{IsInside}
 use Rattle.xarch_writes.proofs.RekeyEnds.{no-memory}
@@ -10,7 +11,10 @@ pub returns-in-Ok-clause-documents : goal.returns-in-Ok-clause-documents
 returns-in-Ok-clause-documents c = λ vs is.
     let rules = spec_view c.in-Ok.field-0-0 in
     let sound = c.in-Ok.ensures.sound vs is in
-    record { proper = c.decode_file.ensures.plain rules vs sound; items = c.decode_file.ensures.items rules vs sound }
+    record {
+      documents = record { proper = c.decode_file.ensures.plain rules vs sound; items = c.decode_file.ensures.items rules vs sound };
+      texts = sound-texts rules vs c.args.bytes.now sound;
+    }
 
 pub returns-in-Err-Damage-clause-cause : goal.returns-in-Err-Damage-clause-cause
 returns-in-Err-Damage-clause-cause c = c.damaged.ensures.inside
