@@ -8,6 +8,7 @@ ghost use Rattle.key_annotate.specs.LentView.{lent_view};
 ghost use Rattle.key_annotate.specs.Stands.{Stands};
 ghost use Rattle.archive_tree.specs.ArchiveView.{archive_view};
 ghost use Rattle.archive_tree.specs.Data.{nodes_list};
+ghost use Rattle.new_archive.specs.ArchiveView.{new_archive_view};
 ghost use Rattle.spelled_archive.specs.ArchiveView.{spelled_archive_view};
 ghost use Rattle.archive_tree.specs.Stands.{ArchiveOf};
 ghost use Rattle.version_runs.specs.Runs.{starts_of, versions_at};
@@ -26,7 +27,7 @@ use archive_tree::{Archive, archives_stand_for_one_list};
 use jsonml_tree::LentTree;
 use key_annotate::{AnnotateFault, LentKeyed, lent_keyed};
 use key_spec::Spec;
-use lent_merge::merge_lent;
+use new_archive::{NewArchive, merge_lent, seal_archive};
 use spelled_archive::SpelledArchive;
 use std::alloc::{AllocError, Global};
 use version_runs::starts_of;
@@ -89,11 +90,12 @@ fn archive_of_runs(
 {
     let index = index_of(alloc, old.kids())?;
     let beside = index.as_ref();
-    let mut archive = SpelledArchive::empty(alloc);
+    let mut archive = NewArchive::empty(alloc);
     for before in 0..starts.len() {
         archive = with_next(alloc, spec, old, beside, starts, archive, before)?;
     }
-    Ok(archive)
+    let sealed = seal_archive(alloc, archive)?;
+    Ok(sealed)
 }
 
 /// The archive with the first version of the run behind those that are in it.
@@ -103,9 +105,9 @@ fn with_next(
     old: &Archive,
     index: Option<&Index>,
     starts: &[u32],
-    archive: SpelledArchive,
+    archive: NewArchive,
     before: usize,
-) -> Result<SpelledArchive, RekeyFault>
+) -> Result<NewArchive, RekeyFault>
     requires documents { (vs : List PlainKeyed) → ArchiveOf vs (archive_view old.now)
         → SpellDocuments vs }
     requires index { IsRowIndex (option_map (λ x. index_view x.now) index)
@@ -115,10 +117,10 @@ fn with_next(
     requires room { before < 4294967295 }
     requires so_far { (vs : List PlainKeyed) → ArchiveOf vs (archive_view old.now)
         → Reaches (spec_view spec.now) (versions_at starts.now vs) before
-        (spelled_archive_view archive) }
+        (new_archive_view archive) }
     ensures next { IfOk result (λ a. (vs : List PlainKeyed) → ArchiveOf vs (archive_view old.now)
         → Reaches (spec_view spec.now) (versions_at starts.now vs) (before + 1)
-        (spelled_archive_view a)) }
+        (new_archive_view a)) }
     ensures key { IfErr result (λ e. IfSome (bad_version e) (λ b. (vs : List PlainKeyed)
         → ArchiveOf vs (archive_view old.now) → IsFirstBad (spec_view spec.now) vs b.0 b.1)) }
 {
@@ -134,16 +136,16 @@ fn with_next(
 fn with_document(
     alloc: Global,
     spec: &Spec,
-    archive: SpelledArchive,
+    archive: NewArchive,
     number: u32,
     document: &LentTree<'_>,
-) -> Result<SpelledArchive, RekeyFault>
+) -> Result<NewArchive, RekeyFault>
     requires document { IsDocument (lent_tree_view document.now) }
-    requires room { (spelled_archive_view archive).n < 4294967295 }
-    requires keyed { (us : List PlainKeyed) → ArchiveOf us (spelled_archive_view archive)
+    requires room { (new_archive_view archive).n < 4294967295 }
+    requires keyed { (us : List PlainKeyed) → ArchiveOf us (new_archive_view archive)
         → AreKeyedBy (spec_view spec.now) us }
     ensures next { IfOk result (λ a. IsBehind (spec_view spec.now) (lent_tree_view document.now)
-        (spelled_archive_view archive) (spelled_archive_view a)) }
+        (new_archive_view archive) (new_archive_view a)) }
     ensures key { IfErr result (λ e. IfSome (bad_version e)
         (IsFaultOf (spec_view spec.now) number (lent_tree_view document.now))) }
 {

@@ -1,8 +1,8 @@
-use Rattle.std.proofs.Common.{◌≡◌, ◌≤◌, length, map, subst, arith}
+use Rattle.std.proofs.Common.{◌≡◌, ◌≤◌, length, map, sym, subst, arith}
 use Rattle.key_spec.specs.View.{spec_view}
 use Rattle.archive_tree.specs.ArchiveView.{archive_view}
 use Rattle.archive_tree.specs.View.{node_view}
-use Rattle.spelled_archive.specs.ArchiveView.{spelled_archive_view}
+use Rattle.new_archive.specs.ArchiveView.{new_archive_view}
 use Rattle.version_runs.specs.Runs.{versions_at}
 use Rattle.version_runs.proofs.RunLemmas.{few_starts}
 use Rattle.archive_rekey.specs.Progress.{Reaches}
@@ -23,4 +23,5 @@ with_next-requires-clause-index c = lent-index c.as_ref-beside.result c.in_ok-in
 pub returns-clause-archive : goal.returns-clause-archive
 returns-clause-archive c = λ vs is. (
     let end : c.loop-before.before ≡ length c.args.starts.now = omega (arith, c.loop-before.auto.before-end, c.loop-before-test.false) in
-    subst (λ i. Reaches (spec_view c.args.spec.now) (versions_at c.args.starts.now vs) i (spelled_archive_view c.loop-before.archive)) end (c.loop-before.invariant vs is))
+    let reached = subst (λ i. Reaches (spec_view c.args.spec.now) (versions_at c.args.starts.now vs) i (new_archive_view c.loop-before.archive)) end (c.loop-before.invariant vs is) in
+    subst (λ a. Reaches (spec_view c.args.spec.now) (versions_at c.args.starts.now vs) (length c.args.starts.now) a) (sym c.in_ok-sealed.ensures) reached)

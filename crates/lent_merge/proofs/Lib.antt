@@ -1,3 +1,0 @@
-mod Walk
-mod Sizes
-mod Grown
