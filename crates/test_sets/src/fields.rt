@@ -5,34 +5,32 @@ use xa_fields::{
     take_u32, take_u64,
 };
 
-fn fields(alloc: Global) -> Result<Vec<u8>, AllocError> {
-    let mut out = Vec::new(alloc);
-    put_u32(alloc, &mut out, 14)?;
-    put_u64(alloc, &mut out, 48)?;
-    put_text(alloc, &mut out, "db")?;
-    Ok(out)
+fn put_fields(alloc: Global, out: &mut Vec<u8>) -> Result<(), AllocError> {
+    put_u32(alloc, out, 14)?;
+    put_u64(alloc, out, 48)?;
+    put_text(alloc, out, "db")
 }
 
-fn appended(alloc: Global) -> Result<Vec<u8>, AllocError> {
-    let mut out = Vec::new(alloc);
-    append_u8(&mut out, 0)?;
-    append_u8(&mut out, 0)?;
-    append_u8(&mut out, 0)?;
-    append_u8(&mut out, 14)?;
-    append_u64(&mut out, 48)?;
-    append_u32(&mut out, 2)?;
-    append_u8(&mut out, b'd')?;
-    append_u8(&mut out, b'b')?;
-    Ok(out)
+fn append_fields(out: &mut Vec<u8>) -> Result<(), AllocError> {
+    for byte in [0, 0, 0, 14] {
+        append_u8(out, byte)?;
+    }
+    append_u64(out, 48)?;
+    append_u32(out, 2)?;
+    append_u8(out, b'd')?;
+    append_u8(out, b'b')
 }
 
 const FIELDS: &[u8] = b"\0\0\0\x0e\0\0\0\0\0\0\0\x30\0\0\0\x02db";
 
-fn are_fields(bytes: Result<Vec<u8>, AllocError>) -> bool {
-    match bytes {
-        Ok(bytes) => bytes.as_slice() == FIELDS,
-        Err(_) => false,
-    }
+fn are_put(alloc: Global) -> bool {
+    let mut out = Vec::new(alloc);
+    put_fields(alloc, &mut out).is_ok() && out.as_slice() == FIELDS
+}
+
+fn are_appended(alloc: Global) -> bool {
+    let mut out = Vec::new(alloc);
+    append_fields(&mut out).is_ok() && out.as_slice() == FIELDS
 }
 
 fn are_numbers_taken() -> bool {
@@ -43,20 +41,15 @@ fn are_numbers_taken() -> bool {
 
 #[test]
 fn numbers_and_texts_are_big_endian(rt: HostRuntime) {
-    assert!(rt; are_fields(fields(rt.alloc())) && are_numbers_taken());
-    assert!(rt; are_fields(appended(rt.alloc())));
-    assert!(rt; take_text(FIELDS, 12) == Some(("db", 18)));
+    let is_taken = are_numbers_taken() && take_text(FIELDS, 12) == Some(("db", 18));
+    assert!(rt; is_taken && are_put(rt.alloc()) && are_appended(rt.alloc()));
 }
 
 #[test]
-fn too_few_bytes_are_no_field(rt: HostRuntime) {
+fn too_few_bytes_and_bytes_that_are_no_text_are_no_field(rt: HostRuntime) {
     let are_none = take_u32(b"\0\0\0", 0).is_none()
         && take_u64(b"\0\0\0\0\0\0\0\x30", 1).is_none()
-        && take_u8(b"", 0).is_none();
+        && take_u8(b"", 0).is_none()
+        && take_text(b"\0\0\0\x02\xff\xfe", 0).is_none();
     assert!(rt; are_none);
-}
-
-#[test]
-fn bytes_that_are_no_text_are_refused(rt: HostRuntime) {
-    assert!(rt; take_text(b"\0\0\0\x02\xff\xfe", 0).is_none());
 }

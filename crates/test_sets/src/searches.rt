@@ -72,13 +72,6 @@ fn tree_of_lent(alloc: Global, sets: &[VersionSet]) -> Option<TsTree> {
     }
 }
 
-fn eight_leaves(alloc: Global) -> Option<TsTree> {
-    match eight_sets(alloc) {
-        Some(sets) => tree_of(alloc, &sets),
-        None => None,
-    }
-}
-
 /// The bytes of the tree over these sets, which is not held, if there are any.
 fn put_lent(alloc: Global, sets: &[&VersionSet]) -> Option<Vec<u8>> {
     if sets.is_empty() {
@@ -175,51 +168,40 @@ fn is_put(alloc: Global, sets: &[VersionSet], length: usize, root: &[u8]) -> boo
     }
 }
 
-fn are_eight_put(alloc: Global) -> bool {
-    match eight_sets(alloc) {
-        Some(sets) => is_put(alloc, &sets, 324, ROOT_OF_EIGHT),
-        None => false,
-    }
-}
-
-fn are_many_put(alloc: Global) -> bool {
-    match many_sets(alloc) {
-        Ok(sets) => is_put(alloc, &sets, 202_188, ROOT_OF_MANY),
-        Err(_) => false,
-    }
-}
-
 /// The root: one interval from 1 to 5, and a left part of 164 bytes.
 const ROOT_OF_EIGHT: &[u8] = b"\0\0\0\x01\0\0\0\x01\0\0\0\x05\0\0\0\0\0\0\0\xa4";
 
 /// Whether it is the tree over the eight sets.
-fn is_over_eight(alloc: Global, tree: &TsTree) -> bool {
-    are_found(alloc, tree, 5, &[2])
-        && are_found(alloc, tree, 6, &[])
-        && tree.height() == 3
-        && is_written(alloc, tree, 324, ROOT_OF_EIGHT)
-}
-
-fn are_eight_leaves_right(alloc: Global) -> bool {
-    match eight_leaves(alloc) {
-        Some(tree) => is_over_eight(alloc, &tree),
+fn is_over_eight(alloc: Global, tree: Option<TsTree>) -> bool {
+    match tree {
+        Some(tree) => {
+            are_found(alloc, &tree, 5, &[2])
+                && are_found(alloc, &tree, 6, &[])
+                && tree.height() == 3
+                && is_written(alloc, &tree, 324, ROOT_OF_EIGHT)
+        }
         None => false,
     }
 }
 
-fn are_eight_lent_leaves_right(alloc: Global) -> bool {
-    let Some(sets) = eight_sets(alloc) else {
-        return false;
-    };
-    match tree_of_lent(alloc, &sets) {
-        Some(tree) => is_over_eight(alloc, &tree),
+/// Whether the tree over the eight sets is right, over those that are lent as well, and is put as it is written.
+fn are_put_and_found(alloc: Global, sets: &[VersionSet]) -> bool {
+    is_put(alloc, sets, 324, ROOT_OF_EIGHT)
+        && is_over_eight(alloc, tree_of(alloc, sets))
+        && is_over_eight(alloc, tree_of_lent(alloc, sets))
+}
+
+fn are_eight_right(alloc: Global) -> bool {
+    match eight_sets(alloc) {
+        Some(sets) => are_put_and_found(alloc, &sets),
         None => false,
     }
 }
 
 #[test]
-fn trees_are_put_as_they_are_written(rt: HostRuntime) {
-    assert!(rt; are_eight_put(rt.alloc()) && are_many_put(rt.alloc()));
+fn eight_sets_make_three_levels(rt: HostRuntime) {
+    assert!(rt; are_eight_right(rt.alloc()));
+    visited_nodes();
 }
 
 /// So many sets of two intervals that are all the same.
@@ -242,15 +224,17 @@ fn is_put_as_written(alloc: Global, sets: &[VersionSet], tree: &TsTree) -> bool 
     }
 }
 
+fn is_tree_put(alloc: Global, sets: &[VersionSet]) -> bool {
+    match tree_of(alloc, sets) {
+        Some(tree) => is_put_as_written(alloc, sets, &tree),
+        None => false,
+    }
+}
+
 /// Whether the tree over so many sets that are the same has so many bytes, put or written.
 fn are_same_put(alloc: Global, count: u32, length: usize) -> bool {
-    let Some(sets) = same_sets(alloc, count) else {
-        return false;
-    };
-    match tree_of(alloc, &sets) {
-        Some(tree) => {
-            is_put_as_written(alloc, &sets, &tree) && is_put(alloc, &sets, length, ROOT_OF_SAME)
-        }
+    match same_sets(alloc, count) {
+        Some(sets) => is_tree_put(alloc, &sets) && is_put(alloc, &sets, length, ROOT_OF_SAME),
         None => false,
     }
 }
@@ -266,12 +250,6 @@ fn trees_over_sets_that_are_the_same_are_put_as_they_are_written(rt: HostRuntime
     );
 }
 
-#[test]
-fn eight_sets_make_three_levels(rt: HostRuntime) {
-    assert!(rt; are_eight_leaves_right(rt.alloc()) && are_eight_lent_leaves_right(rt.alloc()));
-    visited_nodes();
-}
-
 // Five thousand sets of one number each, from 1 to 97 and again from 1 on.
 fn many_sets(alloc: Global) -> Result<Vec<VersionSet>, AllocError> {
     let mut sets = Vec::new(alloc);
@@ -281,18 +259,11 @@ fn many_sets(alloc: Global) -> Result<Vec<VersionSet>, AllocError> {
     Ok(sets)
 }
 
-fn tree_of_many(alloc: Global) -> Option<TsTree> {
-    match many_sets(alloc) {
-        Ok(sets) => tree_of(alloc, &sets),
-        Err(_) => None,
-    }
-}
-
 /// The root: one interval from 1 to 97, and a left part of 101,092 bytes.
 const ROOT_OF_MANY: &[u8] = b"\0\0\0\x01\0\0\0\x01\0\0\0\x61\0\0\0\0\0\x01\x8a\xe4";
 
-fn are_many_leaves_right(alloc: Global) -> bool {
-    match tree_of_many(alloc) {
+fn is_over_many(alloc: Global, tree: Option<TsTree>) -> bool {
+    match tree {
         Some(tree) => {
             is_range_found(alloc, &tree)
                 && are_found(alloc, &tree, 98, &[])
@@ -303,7 +274,18 @@ fn are_many_leaves_right(alloc: Global) -> bool {
     }
 }
 
+/// Whether the tree over so many sets is right, and is put as it is written.
+fn are_many_right(alloc: Global) -> bool {
+    match many_sets(alloc) {
+        Ok(sets) => {
+            is_put(alloc, &sets, 202_188, ROOT_OF_MANY)
+                && is_over_many(alloc, tree_of(alloc, &sets))
+        }
+        Err(_) => false,
+    }
+}
+
 #[test]
 fn a_number_is_found_among_five_thousand_sets(rt: HostRuntime) {
-    assert!(rt; are_many_leaves_right(rt.alloc()));
+    assert!(rt; are_many_right(rt.alloc()));
 }

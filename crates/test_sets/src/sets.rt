@@ -63,7 +63,10 @@ fn is_set(alloc: Global, pairs: &[(u32, u32)], text: &str) -> bool {
 }
 
 fn is_no_set(alloc: Global, pairs: &[(u32, u32)]) -> bool {
-    matches!(VersionSet::from_pairs(alloc, pairs), Ok(None))
+    match VersionSet::from_pairs(alloc, pairs) {
+        Ok(found) => found.is_none(),
+        Err(_) => false,
+    }
 }
 
 fn is_made(alloc: Global, pairs: &[(u32, u32)], text: &Option<&str>) -> bool {
@@ -81,16 +84,9 @@ fn intervals_have_their_text(rt: HostRuntime) -> Result<(), Fail> {
     Ok(())
 }
 
-fn is_union(ours: &VersionSet, theirs: &VersionSet, text: &str) -> bool {
-    match ours.union(theirs) {
-        Ok(union) => is_text(&union, text),
-        Err(_) => false,
-    }
-}
-
-fn is_meet(ours: &VersionSet, theirs: &VersionSet, text: &str) -> bool {
-    match ours.meet(theirs) {
-        Ok(meet) => is_text(&meet, text),
+fn is_made_of(found: Result<VersionSet, AllocError>, text: &str) -> bool {
+    match found {
+        Ok(set) => is_text(&set, text),
         Err(_) => false,
     }
 }
@@ -98,7 +94,9 @@ fn is_meet(ours: &VersionSet, theirs: &VersionSet, text: &str) -> bool {
 /// Whether these are the union and the meet of a set and that of these intervals.
 fn is_united_with(ours: &VersionSet, alloc: Global, theirs: Pairs, texts: (&str, &str)) -> bool {
     match set_of(alloc, theirs) {
-        Some(theirs) => is_union(ours, &theirs, texts.0) && is_meet(ours, &theirs, texts.1),
+        Some(theirs) => {
+            is_made_of(ours.union(&theirs), texts.0) && is_made_of(ours.meet(&theirs), texts.1)
+        }
         None => false,
     }
 }
