@@ -1,14 +1,14 @@
 //! Specifications of tables, and their documents' keys.
-ghost use Rattle.jsonml_tree.specs.Fits.{IsElement, ItemsFit};
-ghost use Rattle.jsonml_tree.specs.View.{tree_view};
+ghost use Rattle.std.specs.Prelude.{◌≤◌, length};
+ghost use Rattle.csv_tables.specs.Records.{IsRegular};
+ghost use Rattle.csv_tables.specs.View.{table_view};
 ghost use Rattle.key_spec.specs.View.{names_view};
 ghost use Rattle.csv_tables.specs.Keys.{AreKeys};
 
 use crate::reading::{names, read};
-use csv_tables::{are_keys, keys_text, table_spec, table_tree};
+use csv_tables::{Table, are_keys, keys_text, table_spec, table_tree};
 use given_parts::told;
-use jsonml_tree::Tree;
-use key_rules::first_fault;
+use key_rules::{KeyFault, first_fault};
 use key_spec::{Spec, is_name};
 use std::alloc::{AllocError, Global};
 use std::test::Fail;
@@ -81,15 +81,6 @@ const FAULTS: &[(&str, &[u8], &[&str], Option<u32>)] = &[
     ("no rows", b"id\n", &["id"], None),
 ];
 
-/// The specification of a table with the tag `t`, where these may be key columns.
-fn spec_of(alloc: Global, keys: &[&str]) -> Result<Option<Spec>, AllocError> {
-    let keys = names(alloc, keys)?;
-    if !are_keys(&keys) {
-        return Ok(None);
-    }
-    spec_by(alloc, &keys)
-}
-
 fn spec_by(alloc: Global, keys: &[String]) -> Result<Option<Spec>, AllocError>
     requires { AreKeys (names_view keys.now) }
 {
@@ -103,32 +94,53 @@ fn spec_by(alloc: Global, keys: &[String]) -> Result<Option<Spec>, AllocError>
     Ok(Some(table_spec(alloc, "t", keys)?))
 }
 
+/// The specification of a table with the tag `t`, where these may be key columns.
+fn spec_of(alloc: Global, keys: &[String]) -> Option<Spec> {
+    if !are_keys(keys) {
+        return None;
+    }
+    match spec_by(alloc, keys) {
+        Ok(spec) => spec,
+        Err(_) => None,
+    }
+}
+
+fn is_text(found: Result<String, AllocError>, wanted: &str) -> bool {
+    match found {
+        Ok(text) => text.as_str() == wanted,
+        Err(_) => false,
+    }
+}
+
 /// Whether the specification has this canonical text, and the text is that of the keys.
-fn has_text(alloc: Global, keys: &[&str], wanted: &str) -> Result<bool, AllocError> {
-    let Some(spec) = spec_of(alloc, keys)? else {
-        return Ok(false);
-    };
-    let text = keys_text(alloc, "t", &names(alloc, keys)?)?;
-    Ok(spec.text(alloc)?.as_str() == wanted && text.as_str() == wanted)
+fn has_text(alloc: Global, keys: &[String], wanted: &str) -> bool {
+    match spec_of(alloc, keys) {
+        Some(spec) => {
+            is_text(spec.text(alloc), wanted) && is_text(keys_text(alloc, "t", keys), wanted)
+        }
+        None => false,
+    }
+}
+
+fn has_text_or_not(alloc: Global, keys: &[&str], wanted: &Option<&str>) -> bool {
+    match (names(alloc, keys), wanted) {
+        (Ok(keys), Some(text)) => has_text(alloc, &keys, text),
+        (Ok(keys), None) => !are_keys(&keys) && spec_of(alloc, &keys).is_none(),
+        _ => false,
+    }
 }
 
 #[test]
 fn specifications_have_three_rules(rt: HostRuntime) -> Result<(), Fail> {
     for (name, keys, wanted) in SPECS {
-        match wanted {
-            Some(text) => told(has_text(rt.alloc(), keys, text)?, name)?,
-            None => told(spec_of(rt.alloc(), keys)?.is_none(), name)?,
-        }
+        told(has_text_or_not(rt.alloc(), keys, wanted), name)?;
     }
     Ok(())
 }
 
 /// Whether the first fault of a document's keys is at this row, for a label that an earlier one has.
-fn is_faulty(alloc: Global, spec: &Spec, tree: &Tree, wanted: &Option<u32>) -> bool
-    requires element { IsElement (tree_view tree.now) }
-    requires items_fit { ItemsFit (tree_view tree.now) }
-{
-    match (first_fault(alloc, spec, tree), wanted) {
+fn is_at(found: &Result<Option<KeyFault>, AllocError>, wanted: &Option<u32>) -> bool {
+    match (found, wanted) {
         (Ok(None), None) => true,
         (Ok(Some(fault)), Some(row)) => {
             fault.why == 5 && fault.place.steps.as_slice() == [*row].as_slice()
@@ -137,13 +149,34 @@ fn is_faulty(alloc: Global, spec: &Spec, tree: &Tree, wanted: &Option<u32>) -> b
     }
 }
 
+fn is_faulty(alloc: Global, table: &Table, spec: &Spec, wanted: &Option<u32>) -> bool
+    requires regular { IsRegular (table_view table.now) }
+    requires few { length (table_view table.now).rows ≤ 67108864 }
+{
+    match table_tree(alloc, table, "t") {
+        Ok(tree) => is_at(&first_fault(alloc, spec, &tree), wanted),
+        Err(_) => false,
+    }
+}
+
+fn is_faulty_by(alloc: Global, text: &[u8], spec: &Spec, wanted: &Option<u32>) -> bool {
+    match read(alloc, text) {
+        Ok(table) => is_faulty(alloc, &table, spec, wanted),
+        Err(_) => false,
+    }
+}
+
+fn is_fault_by(alloc: Global, text: &[u8], keys: &[String], wanted: &Option<u32>) -> bool {
+    match spec_of(alloc, keys) {
+        Some(spec) => is_faulty_by(alloc, text, &spec, wanted),
+        None => false,
+    }
+}
+
 fn is_fault_of(alloc: Global, text: &[u8], keys: &[&str], wanted: &Option<u32>) -> bool {
-    let Ok(table) = read(alloc, text) else {
-        return false;
-    };
-    match (spec_of(alloc, keys), table_tree(alloc, &table, "t")) {
-        (Ok(Some(spec)), Ok(tree)) => is_faulty(alloc, &spec, &tree, wanted),
-        _ => false,
+    match names(alloc, keys) {
+        Ok(keys) => is_fault_by(alloc, text, &keys, wanted),
+        Err(_) => false,
     }
 }
 

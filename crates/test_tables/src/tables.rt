@@ -1,9 +1,12 @@
 //! Tables: what is read, what is refused, and what they make.
+ghost use Rattle.std.specs.Prelude.{◌≤◌, length};
+ghost use Rattle.csv_tables.specs.Records.{IsRegular};
+ghost use Rattle.csv_tables.specs.View.{table_view};
 ghost use Rattle.jsonml_tree.specs.Fits.{IsElement};
 ghost use Rattle.jsonml_tree.specs.View.{tree_view};
 
 use crate::reading::{names, read};
-use csv_tables::{TableFault, has_columns, table_tree, text_length};
+use csv_tables::{Table, TableFault, has_columns, table_tree, text_length};
 use given_parts::told;
 use jsonml_text::write_tree;
 use jsonml_tree::Tree;
@@ -100,20 +103,17 @@ const COLUMNS: &[(&str, &[&str], bool)] = &[
     ("a part of a name", &["nam"], false),
 ];
 
+fn is_bad(found: &Result<Table, TableFault>, row: u64, why: u8) -> bool {
+    match found {
+        Err(fault) => *fault == TableFault::Bad { row, why },
+        Ok(_) => false,
+    }
+}
+
 #[test]
 fn bad_tables_are_refused(rt: HostRuntime) -> Result<(), Fail> {
     for (name, text, row, why) in BAD {
-        let refused = match read(rt.alloc(), text) {
-            Err(fault) => {
-                fault
-                    == TableFault::Bad {
-                        row: *row,
-                        why: *why,
-                    }
-            }
-            Ok(_) => false,
-        };
-        told(refused, name)?;
+        told(is_bad(&read(rt.alloc(), text), *row, *why), name)?;
     }
     Ok(())
 }
@@ -126,16 +126,23 @@ fn is_printed(alloc: Global, tree: &Tree, wanted: &[u8]) -> bool
     write_tree(tree, &mut sink).is_ok() && sink.taken() == wanted
 }
 
-/// Whether the table of a text has this document, and as many bytes.
-fn has_document(alloc: Global, text: &[u8], wanted: &[u8], length: u128) -> bool {
-    let Ok(table) = read(alloc, text) else {
-        return false;
-    };
-    if text_length(&table, "t") != length {
+/// Whether the table has this document, and as many bytes.
+fn makes_document(alloc: Global, table: &Table, wanted: &[u8], size: u128) -> bool
+    requires regular { IsRegular (table_view table.now) }
+    requires few { length (table_view table.now).rows ≤ 67108864 }
+{
+    if text_length(table, "t") != size {
         return false;
     }
-    match table_tree(alloc, &table, "t") {
+    match table_tree(alloc, table, "t") {
         Ok(tree) => is_printed(alloc, &tree, wanted),
+        Err(_) => false,
+    }
+}
+
+fn has_document(alloc: Global, text: &[u8], wanted: &[u8], length: u128) -> bool {
+    match read(alloc, text) {
+        Ok(table) => makes_document(alloc, &table, wanted, length),
         Err(_) => false,
     }
 }
@@ -148,42 +155,63 @@ fn tables_make_documents(rt: HostRuntime) -> Result<(), Fail> {
     told(has_wide_document(rt.alloc()), "200 columns")
 }
 
-/// A table of 200 columns and a row, and its document.
-fn wide_table(alloc: Global) -> Result<(String, String), AllocError> {
-    let mut heading = String::from_str(alloc, "a100")?;
-    let mut row = String::from_str(alloc, "x")?;
-    let mut attrs = String::from_str(alloc, r#""a100":"x""#)?;
+/// Appends the numbers of columns from 101 to 299, each between these texts.
+fn put_columns(
+    alloc: Global,
+    text: &mut String,
+    before: &str,
+    behind: &str,
+) -> Result<(), AllocError> {
     for column in 101..300 {
-        heading.push_str(format!(in alloc; ",a{column}")?.as_str())?;
-        row.push_str(",x")?;
-        attrs.push_str(format!(in alloc; ",\"a{column}\":\"x\"")?.as_str())?;
+        text.push_str(format!(in alloc; "{before}{column}{behind}")?.as_str())?;
     }
-    let text = format!(in alloc; "{heading}\n{row}\n")?;
-    let document = format!(in alloc; "[\"t\",[\"row\",{{{attrs}}}]]")?;
-    Ok((text, document))
+    Ok(())
+}
+
+/// Appends a table of 200 columns and a row.
+fn put_table(alloc: Global, text: &mut String) -> Result<(), AllocError> {
+    text.push_str("a100")?;
+    put_columns(alloc, text, ",a", "")?;
+    text.push_str("\nx")?;
+    for _ in 101..300 {
+        text.push_str(",x")?;
+    }
+    text.push_str("\n")
+}
+
+/// Appends its document.
+fn put_document(alloc: Global, text: &mut String) -> Result<(), AllocError> {
+    text.push_str(r#"["t",["row",{"a100":"x""#)?;
+    put_columns(alloc, text, ",\"a", "\":\"x\"")?;
+    text.push_str("}]]")
 }
 
 fn has_wide_document(alloc: Global) -> bool {
-    match wide_table(alloc) {
-        Ok((text, document)) => {
-            let length = (document.len() as u128).saturating_add(1);
-            has_document(alloc, text.as_bytes(), document.as_bytes(), length)
-        }
+    let mut text = String::new(alloc);
+    let mut document = String::new(alloc);
+    let is_put = put_table(alloc, &mut text).is_ok() && put_document(alloc, &mut document).is_ok();
+    let size = (document.len() as u128).saturating_add(1);
+    is_put && has_document(alloc, text.as_bytes(), document.as_bytes(), size)
+}
+
+fn has_each(alloc: Global, table: &Table, keys: &[&str], wanted: bool) -> bool {
+    match names(alloc, keys) {
+        Ok(keys) => has_columns(table, &keys) == wanted,
         Err(_) => false,
     }
 }
 
-fn has_names(alloc: Global, keys: &[&str]) -> bool {
-    match (read(alloc, b"id,name\n2,Ann\n"), names(alloc, keys)) {
-        (Ok(table), Ok(keys)) => has_columns(&table, &keys),
-        _ => false,
+fn has_names(alloc: Global, keys: &[&str], wanted: bool) -> bool {
+    match read(alloc, b"id,name\n2,Ann\n") {
+        Ok(table) => has_each(alloc, &table, keys, wanted),
+        Err(_) => false,
     }
 }
 
 #[test]
 fn columns_are_fields_of_the_heading(rt: HostRuntime) -> Result<(), Fail> {
     for (name, keys, wanted) in COLUMNS {
-        told(has_names(rt.alloc(), keys) == *wanted, name)?;
+        told(has_names(rt.alloc(), keys, *wanted), name)?;
     }
     Ok(())
 }
