@@ -100,10 +100,14 @@ fn is_blank_dropped(alloc: Global, spec: &Spec) -> bool {
     }
 }
 
-#[test]
-fn a_blank_text_alone_above_the_frontier_is_dropped(rt: HostRuntime) -> Result<(), Fail> {
-    match parse(rt.alloc(), COMPANY) {
-        Some(spec) => told(is_blank_dropped(rt.alloc(), &spec), "blank"),
-        None => Err(Fail::new("no specification")),
+fn is_blank_dropped_by(alloc: Global, text: &[u8]) -> bool {
+    match parse(alloc, text) {
+        Some(spec) => is_blank_dropped(alloc, &spec),
+        None => false,
     }
+}
+
+#[test]
+fn a_blank_text_alone_above_the_frontier_is_dropped(rt: HostRuntime) {
+    assert!(rt; is_blank_dropped_by(rt.alloc(), COMPANY));
 }

@@ -140,19 +140,15 @@ fn is_found(alloc: Global, tree: &Keyed, named: &Named, is_kid: bool) -> bool {
     }
 }
 
-fn are_found(alloc: Global, tree: &Keyed) -> Result<(), Fail> {
-    for (name, named, is_kid) in KIDS {
+fn are_found(
+    alloc: Global,
+    tree: &Keyed,
+    rows: &[(&'static str, Named, bool)],
+) -> Result<(), Fail> {
+    for (name, named, is_kid) in rows {
         told(is_found(alloc, tree, named, *is_kid), name)?;
     }
     Ok(())
-}
-
-#[test]
-fn find_gives_each_kid_and_no_other(rt: HostRuntime) -> Result<(), Fail> {
-    match department(rt.alloc()) {
-        Some(tree) => are_found(rt.alloc(), &tree),
-        None => Err(Fail::new("no department")),
-    }
 }
 
 /// Paths from the department's own label down, and whether it holds them.
@@ -175,31 +171,42 @@ fn is_held(alloc: Global, tree: &Keyed, path: &[Named], wanted: bool) -> bool {
     }
 }
 
-fn are_held(alloc: Global, tree: &Keyed) -> Result<(), Fail> {
-    for (name, path, wanted) in HELD {
+fn are_held(
+    alloc: Global,
+    tree: &Keyed,
+    rows: &[(&'static str, &[Named], bool)],
+) -> Result<(), Fail> {
+    for (name, path, wanted) in rows {
         told(is_held(alloc, tree, path, *wanted), name)?;
     }
     Ok(())
 }
 
+fn are_found_and_held(alloc: Global, tree: &Keyed) -> Result<(), Fail> {
+    are_found(alloc, tree, KIDS)?;
+    are_held(alloc, tree, HELD)
+}
+
 #[test]
-fn a_tree_holds_the_paths_from_its_own_label_down(rt: HostRuntime) -> Result<(), Fail> {
+fn find_gives_each_kid_and_a_tree_holds_the_paths_from_its_own_label_down(
+    rt: HostRuntime,
+) -> Result<(), Fail> {
     match department(rt.alloc()) {
-        Some(tree) => are_held(rt.alloc(), &tree),
+        Some(tree) => are_found_and_held(rt.alloc(), &tree),
         None => Err(Fail::new("no department")),
     }
 }
 
-fn is_label_copied(alloc: Global, label: &Label) -> bool {
-    match label.copy(alloc) {
-        Ok(copy) => copy.same(label),
+fn is_label(found: Result<Label, AllocError>, label: &Label) -> bool {
+    match found {
+        Ok(found) => found.same(label),
         Err(_) => false,
     }
 }
 
-fn is_tree_copied(alloc: Global, tree: &Keyed) -> bool {
-    match tree.copy(alloc) {
-        Ok(copy) => copy.same(tree),
+fn is_tree(found: Result<Keyed, AllocError>, tree: &Keyed) -> bool {
+    match found {
+        Ok(found) => found.same(tree),
         Err(_) => false,
     }
 }
@@ -218,21 +225,11 @@ fn is_not_empty(alloc: Global, tree: &Keyed) -> bool {
     }
 }
 
-/// Whether the department and its label are copied, and the department is not an empty one.
-fn is_copied(alloc: Global) -> bool {
-    match department(alloc) {
-        Some(dept) => {
-            is_tree_copied(alloc, &dept)
-                && is_label_copied(alloc, dept.label())
-                && is_not_empty(alloc, &dept)
-        }
-        None => false,
-    }
-}
-
-#[test]
-fn a_copy_is_the_same(rt: HostRuntime) {
-    assert!(rt; is_copied(rt.alloc()));
+/// Whether the tree and its label are copied, and it is not one without kids.
+fn is_copied(alloc: Global, tree: &Keyed) -> bool {
+    is_tree(tree.copy(alloc), tree)
+        && is_label(tree.label().copy(alloc), tree.label())
+        && is_not_empty(alloc, tree)
 }
 
 /// Whether the tree spells this document.
@@ -246,14 +243,14 @@ pub(crate) fn is_spelled(alloc: Global, tree: &Keyed, text: &[u8]) -> bool {
     }
 }
 
-fn is_department_spelled(alloc: Global) -> bool {
+fn is_department_right(alloc: Global) -> bool {
     match department(alloc) {
-        Some(dept) => is_spelled(alloc, &dept, DEPARTMENT),
+        Some(dept) => is_copied(alloc, &dept) && is_spelled(alloc, &dept, DEPARTMENT),
         None => false,
     }
 }
 
 #[test]
-fn plain_gives_attributes_back_before_items(rt: HostRuntime) {
-    assert!(rt; is_department_spelled(rt.alloc()));
+fn a_copy_is_the_same_and_plain_gives_attributes_back_before_items(rt: HostRuntime) {
+    assert!(rt; is_department_right(rt.alloc()));
 }

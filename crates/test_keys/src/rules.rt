@@ -20,83 +20,108 @@ use std::test::Fail;
 /// The place of a fault, why it is one, and the tag that is the key path, if one is to stand there.
 struct Wanted(&'static [u32], u8, Option<&'static str>);
 
-/// A specification, a document, and its first fault.
-const FAULTS: &[(&str, &[u8], &[u8], Option<Wanted>)] = &[
+/// How a document is asked for its first fault.
+#[derive(Clone, Copy)]
+enum Way {
+    Read,
+    /// Its texts are lent.
+    Lent,
+    /// It is to have a keyed tree.
+    Keyed,
+}
+
+/// A way, a specification, a document, and its first fault.
+const FAULTS: &[(&str, Way, &[u8], &[u8], Option<Wanted>)] = &[
     (
         "a document that satisfies its keys has no fault",
+        Way::Read,
         COMPANY,
         br#"["db","\n ",["dept",["emp",["fn","John"],["ln","Doe"]],["emp",["fn","Jane"],["ln","Doe"]],["name","finance"]]]"#,
         None,
     ),
     (
         "a repeated employee",
+        Way::Read,
         COMPANY,
         br#"["db",["dept",["name","finance"],["emp",["fn","John"],["ln","Doe"]],["emp",["fn","Jane"],["ln","Roe"]],["emp",["fn","John"],["ln","Doe"],["sal","1K"]]]]"#,
         Some(Wanted(&[1, 4], 5, None)),
     ),
     (
         "a last name that is missing",
+        Way::Read,
         COMPANY,
         br#"["db",["dept",["name","finance"],["emp",["fn","John"]]]]"#,
         Some(Wanted(&[1, 2], 3, Some("ln"))),
     ),
     (
         "a last name that stands twice",
+        Way::Read,
         COMPANY,
         br#"["db",["dept",["name","finance"],["emp",["fn","John"],["ln","Doe"],["ln","Poe"]]]]"#,
         Some(Wanted(&[1, 2], 4, Some("ln"))),
     ),
     (
         "a string above the frontier",
+        Way::Read,
         COMPANY,
         br#"["db",["dept",["name","finance"],"x"]]"#,
         Some(Wanted(&[1, 2], 2, None)),
     ),
     (
         "an element without a rule",
+        Way::Read,
         COMPANY,
         br#"["db",["dept",["name","finance"],["boss"]]]"#,
         Some(Wanted(&[1, 2], 1, None)),
     ),
     (
         "a root without a rule",
+        Way::Read,
         COMPANY,
         br#"["shop"]"#,
         Some(Wanted(&[], 1, None)),
     ),
     (
         "the third key path stands beside its fault",
+        Way::Read,
         b"(/, (db, {}))\n(/db, (p, {x, y, z}))\n",
         br#"["db",["p",["x","1"],["y","2"]]]"#,
         Some(Wanted(&[1], 3, Some("z"))),
     ),
     (
         "a text and a row that begins with it are two keys",
+        Way::Read,
         b"(/, (db, {}))\n(/db, (p, {k}))\n",
         br#"["db",["p",["k","a"]],["p",["k","a",["b"]]]]"#,
         None,
     ),
-];
-
-/// The same for documents whose texts are lent.
-const LENT_FAULTS: &[(&str, &[u8], &[u8], Option<Wanted>)] = &[
     (
         "a text alone above the frontier",
+        Way::Lent,
         NESTED,
         br#"["a","x"]"#,
         Some(Wanted(&[1], 2, None)),
     ),
     (
         "a blank text alone above the frontier is no fault",
+        Way::Lent,
         NESTED,
         br#"["a"," "]"#,
         None,
     ),
     (
         "a root without a rule comes before its text",
+        Way::Lent,
         NESTED,
         br#"["b",""]"#,
         Some(Wanted(&[], 1, None)),
+    ),
+    (
+        "a repeated department has no keyed tree",
+        Way::Keyed,
+        COMPANY,
+        br#"["db",["dept",["name","finance"]],["dept",["name","finance"]]]"#,
+        Some(Wanted(&[2], 5, None)),
     ),
 ];
 
@@ -139,13 +164,6 @@ fn is_fault_by(alloc: Global, spec: &Spec, doc: &[u8], wanted: &Option<Wanted>) 
     }
 }
 
-fn is_fault(alloc: Global, spec: &[u8], doc: &[u8], wanted: &Option<Wanted>) -> bool {
-    match parse(alloc, spec) {
-        Some(spec) => is_fault_by(alloc, &spec, doc, wanted),
-        None => false,
-    }
-}
-
 fn is_first_in_lent(alloc: Global, spec: &Spec, doc: &LentTree<'_>, wanted: &Option<Wanted>) -> bool
     requires element { IsElement (lent_tree_view doc.now) }
     requires items_fit { ItemsFit (lent_tree_view doc.now) }
@@ -161,54 +179,59 @@ fn is_fault_in_lent_by(alloc: Global, spec: &Spec, doc: &[u8], wanted: &Option<W
     }
 }
 
-fn is_fault_in_lent(alloc: Global, spec: &[u8], doc: &[u8], wanted: &Option<Wanted>) -> bool {
-    match parse(alloc, spec) {
-        Some(spec) => is_fault_in_lent_by(alloc, &spec, doc, wanted),
-        None => false,
-    }
-}
-
-fn are_lent_faults(alloc: Global) -> Result<(), Fail> {
-    for (name, spec, doc, wanted) in LENT_FAULTS {
-        told(is_fault_in_lent(alloc, spec, doc, wanted), name)?;
-    }
-    Ok(())
-}
-
-#[test]
-fn the_first_fault_is_told(rt: HostRuntime) -> Result<(), Fail> {
-    for (name, spec, doc, wanted) in FAULTS {
-        told(is_fault(rt.alloc(), spec, doc, wanted), name)?;
-    }
-    are_lent_faults(rt.alloc())
-}
-
 /// Whether there is this fault in place of a keyed tree.
-fn is_refusal(found: &Result<Keyed, AnnotateFault>, wanted: &Wanted) -> bool {
-    match found {
-        Err(AnnotateFault::Key(fault)) => is_this(fault, wanted),
+fn is_refusal(found: &Result<Keyed, AnnotateFault>, wanted: &Option<Wanted>) -> bool {
+    match (found, wanted) {
+        (Err(AnnotateFault::Key(fault)), Some(wanted)) => is_this(fault, wanted),
         _ => false,
     }
 }
 
-fn is_refused_by(alloc: Global, spec: &Spec, doc: &[u8], wanted: &Wanted) -> bool {
+fn is_refused_by(alloc: Global, spec: &Spec, doc: &[u8], wanted: &Option<Wanted>) -> bool {
     match read(alloc, doc) {
         Some(doc) => is_refusal(&keyed(alloc, spec, &doc), wanted),
         None => false,
     }
 }
 
-fn is_refused(alloc: Global, doc: &[u8], wanted: &Wanted) -> bool {
-    match parse(alloc, COMPANY) {
-        Some(spec) => is_refused_by(alloc, &spec, doc, wanted),
+/// What is asked of a specification.
+#[derive(Clone, Copy)]
+enum Asked<'a> {
+    Fault(Way, &'a [u8], &'a Option<Wanted>),
+    /// The label of an element below these tags.
+    Label(&'a [&'a str], &'a [u8], &'a Result<Named, Missing>),
+    Path(&'a str, &'a Result<&'a [Named], u32>),
+    /// The order of two lent labels.
+    Order,
+}
+
+fn answers(alloc: Global, spec: &Spec, asked: Asked<'_>) -> bool {
+    match asked {
+        Asked::Fault(Way::Read, doc, wanted) => is_fault_by(alloc, spec, doc, wanted),
+        Asked::Fault(Way::Lent, doc, wanted) => is_fault_in_lent_by(alloc, spec, doc, wanted),
+        Asked::Fault(Way::Keyed, doc, wanted) => is_refused_by(alloc, spec, doc, wanted),
+        Asked::Label(context, doc, wanted) => is_labelled_by(alloc, spec, context, doc, wanted),
+        Asked::Path(path, wanted) => is_path(alloc, &read_path(alloc, spec, path), wanted),
+        Asked::Order => are_in_order(alloc, spec),
+    }
+}
+
+fn is_so(alloc: Global, spec: &[u8], asked: Asked<'_>) -> bool {
+    match parse(alloc, spec) {
+        Some(spec) => answers(alloc, &spec, asked),
         None => false,
     }
 }
 
 #[test]
-fn a_repeated_department_has_no_keyed_tree(rt: HostRuntime) {
-    let doc = br#"["db",["dept",["name","finance"]],["dept",["name","finance"]]]"#;
-    assert!(rt; is_refused(rt.alloc(), doc, &Wanted(&[2], 5, None)));
+fn the_first_fault_is_told(rt: HostRuntime) -> Result<(), Fail> {
+    for (name, way, spec, doc, wanted) in FAULTS {
+        told(
+            is_so(rt.alloc(), spec, Asked::Fault(*way, doc, wanted)),
+            name,
+        )?;
+    }
+    Ok(())
 }
 
 /// Why an element has no label: 0 where no rule is for it, and else the number of the key path that it misses.
@@ -296,22 +319,13 @@ fn is_labelled_by(
     }
 }
 
-fn is_labelled(
-    alloc: Global,
-    context: &[&str],
-    doc: &[u8],
-    wanted: &Result<Named, Missing>,
-) -> bool {
-    match parse(alloc, COMPANY) {
-        Some(spec) => is_labelled_by(alloc, &spec, context, doc, wanted),
-        None => false,
-    }
-}
-
 #[test]
 fn elements_have_their_labels(rt: HostRuntime) -> Result<(), Fail> {
     for (name, context, doc, wanted) in LABELS {
-        told(is_labelled(rt.alloc(), context, doc, wanted), name)?;
+        told(
+            is_so(rt.alloc(), COMPANY, Asked::Label(context, doc, wanted)),
+            name,
+        )?;
     }
     Ok(())
 }
@@ -398,22 +412,10 @@ fn is_path(
     }
 }
 
-fn is_path_by(alloc: Global, spec: &Spec, path: &str, wanted: &Result<&[Named], u32>) -> bool {
-    let found = read_path(alloc, spec, path);
-    is_path(alloc, &found, wanted)
-}
-
-fn is_path_of(alloc: Global, spec: &[u8], path: &str, wanted: &Result<&[Named], u32>) -> bool {
-    match parse(alloc, spec) {
-        Some(spec) => is_path_by(alloc, &spec, path, wanted),
-        None => false,
-    }
-}
-
 #[test]
 fn paths_have_their_labels_or_a_bad_step(rt: HostRuntime) -> Result<(), Fail> {
     for (spec, path, wanted) in PATHS {
-        told(is_path_of(rt.alloc(), spec, path, wanted), path)?;
+        told(is_so(rt.alloc(), spec, Asked::Path(path, wanted)), path)?;
     }
     Ok(())
 }
@@ -435,8 +437,5 @@ fn are_in_order(alloc: Global, spec: &Spec) -> bool {
 
 #[test]
 fn lent_labels_come_in_the_order_of_their_texts(rt: HostRuntime) -> Result<(), Fail> {
-    match parse(rt.alloc(), b"(/, (p, {.}))\n") {
-        Some(spec) => told(are_in_order(rt.alloc(), &spec), "order"),
-        None => Err(Fail::new("no specification")),
-    }
+    told(is_so(rt.alloc(), b"(/, (p, {.}))\n", Asked::Order), "order")
 }

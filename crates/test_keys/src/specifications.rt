@@ -36,9 +36,28 @@ fn has_text(alloc: Global, spec: &Spec, wanted: &[u8]) -> bool {
     }
 }
 
-fn is_canonical(alloc: Global, text: &[u8], wanted: &[u8]) -> bool {
+/// What is asked of a specification.
+#[derive(Clone, Copy)]
+enum Asked<'a> {
+    /// Whether this is its canonical text.
+    Text(&'a [u8]),
+    /// Whether the company's rules are found.
+    Rules,
+    /// Whether a walk goes past a name of 200,000 bytes.
+    LongWalk,
+}
+
+fn answers(alloc: Global, spec: &Spec, asked: Asked<'_>) -> bool {
+    match asked {
+        Asked::Text(wanted) => has_text(alloc, spec, wanted),
+        Asked::Rules => are_found(alloc, spec),
+        Asked::LongWalk => is_long_walk(alloc, spec),
+    }
+}
+
+fn is_so(alloc: Global, text: &[u8], asked: Asked<'_>) -> bool {
     match parse(alloc, text) {
-        Some(spec) => has_text(alloc, &spec, wanted),
+        Some(spec) => answers(alloc, &spec, asked),
         None => false,
     }
 }
@@ -46,7 +65,7 @@ fn is_canonical(alloc: Global, text: &[u8], wanted: &[u8]) -> bool {
 #[test]
 fn specifications_have_their_canonical_texts(rt: HostRuntime) -> Result<(), Fail> {
     for (name, text, wanted) in CANONICAL {
-        told(is_canonical(rt.alloc(), text, wanted), name)?;
+        told(is_so(rt.alloc(), text, Asked::Text(wanted)), name)?;
     }
     told(COMPANY_TEXT.len() == 190, "the company's length")
 }
@@ -109,11 +128,20 @@ fn fault(alloc: Global, text: &[u8]) -> Option<(u32, u8)> {
     fault_in(&found)
 }
 
+/// The first row of another fault.
+fn first_other(alloc: Global, rows: &[(&[u8], (u32, u8))]) -> Option<usize> {
+    for (index, (text, wanted)) in rows.iter().enumerate() {
+        if fault(alloc, text) != Some(*wanted) {
+            return Some(index);
+        }
+    }
+    None
+}
+
 #[test]
 fn each_fault_has_its_line_and_why(rt: HostRuntime) {
-    for (index, (text, wanted)) in FAULTS.iter().enumerate() {
-        assert!(rt; fault(rt.alloc(), text) == Some(*wanted), "text {index}");
-    }
+    let other = first_other(rt.alloc(), FAULTS);
+    assert!(rt; other.is_none(), "text {other:?}");
 }
 
 /// A rule of a long tag, which stands in the rules of its three key paths, too; and the fault.
@@ -199,12 +227,9 @@ fn are_two(alloc: Global, paths: &[KeyPath], first: &str, second: &str) -> bool 
 
 /// Whether the employees' rule has these key paths, and a salary none.
 fn are_rules(alloc: Global, spec: &Spec, dept: &[String], first: &str, second: &str) -> bool {
-    if spec.rule(dept, "sal").is_some() {
-        return false;
-    }
-    match spec.rule(dept, "emp") {
-        Some(rule) => are_two(alloc, rule.paths.as_slice(), first, second),
-        None => false,
+    match (spec.rule(dept, "sal"), spec.rule(dept, "emp")) {
+        (None, Some(rule)) => are_two(alloc, rule.paths.as_slice(), first, second),
+        _ => false,
     }
 }
 
@@ -225,10 +250,7 @@ fn are_found(alloc: Global, spec: &Spec) -> bool {
 
 #[test]
 fn rules_are_found_by_context_and_tag(rt: HostRuntime) -> Result<(), Fail> {
-    match parse(rt.alloc(), COMPANY) {
-        Some(spec) => told(are_found(rt.alloc(), &spec), "rules"),
-        None => Err(Fail::new("no specification")),
-    }
+    told(is_so(rt.alloc(), COMPANY, Asked::Rules), "rules")
 }
 
 /// What is shown, tags on the way down from the root, and whether the frontier is there, if all have rules.
@@ -267,12 +289,16 @@ fn are_walks(spec: &Spec, walks: &[Walk]) -> Result<(), Fail> {
     Ok(())
 }
 
-#[test]
-fn a_walk_goes_down_the_rules(rt: HostRuntime) -> Result<(), Fail> {
-    match parse(rt.alloc(), COMPANY) {
-        Some(spec) => are_walks(&spec, WALKS),
+fn are_walks_by(alloc: Global, text: &[u8], walks: &[Walk]) -> Result<(), Fail> {
+    match parse(alloc, text) {
+        Some(spec) => are_walks(&spec, walks),
         None => Err(Fail::new("no specification")),
     }
+}
+
+#[test]
+fn a_walk_goes_down_the_rules(rt: HostRuntime) -> Result<(), Fail> {
+    are_walks_by(rt.alloc(), COMPANY, WALKS)
 }
 
 /// A rule, a hundred rules below it, and one below the 78th.
@@ -296,12 +322,9 @@ const MANY_WALKS: &[Walk] = &[
 
 #[test]
 fn a_walk_finds_one_of_many_rules(rt: HostRuntime) -> Result<(), Fail> {
-    let Ok(text) = with_many(rt.alloc()) else {
-        return Err(Fail::new("no memory"));
-    };
-    match parse(rt.alloc(), text.as_bytes()) {
-        Some(spec) => are_walks(&spec, MANY_WALKS),
-        None => Err(Fail::new("no specification")),
+    match with_many(rt.alloc()) {
+        Ok(text) => are_walks_by(rt.alloc(), text.as_bytes(), MANY_WALKS),
+        Err(_) => Err(Fail::new("no memory")),
     }
 }
 
@@ -324,15 +347,16 @@ fn is_long_walk(alloc: Global, spec: &Spec) -> bool {
     }
 }
 
-#[test]
-fn a_walk_goes_past_a_long_name(rt: HostRuntime) -> Result<(), Fail> {
-    let Ok(text) = joined(rt.alloc(), LONG_NAME) else {
-        return Err(Fail::new("no memory"));
-    };
-    match parse(rt.alloc(), &text) {
-        Some(spec) => told(is_long_walk(rt.alloc(), &spec), "a long name"),
-        None => Err(Fail::new("no specification")),
+fn is_long_name_passed(alloc: Global) -> bool {
+    match joined(alloc, LONG_NAME) {
+        Ok(text) => is_so(alloc, &text, Asked::LongWalk),
+        Err(_) => false,
     }
+}
+
+#[test]
+fn a_walk_goes_past_a_long_name(rt: HostRuntime) {
+    assert!(rt; is_long_name_passed(rt.alloc()));
 }
 
 fn key_path(alloc: Global, tags: &[&str], attr: &str) -> Result<KeyPath, AllocError> {
@@ -356,8 +380,9 @@ fn key_paths_are_written_as_they_are_read(rt: HostRuntime) {
 #[test]
 fn faults_of_the_same_numbers_are_equal(rt: HostRuntime) {
     let fault = SpecFault::Bad { line: 3, why: 1 };
-    assert!(rt; fault == SpecFault::Bad { line: 3, why: 1 });
-    assert!(rt; fault != SpecFault::Bad { line: 3, why: 2 });
-    assert!(rt; fault != SpecFault::Bad { line: 1, why: 1 });
-    assert!(rt; fault != SpecFault::Memory);
+    let is_equal = fault == SpecFault::Bad { line: 3, why: 1 };
+    let is_other = fault != SpecFault::Bad { line: 3, why: 2 }
+        && fault != SpecFault::Bad { line: 1, why: 1 }
+        && fault != SpecFault::Memory;
+    assert!(rt; is_equal && is_other);
 }
