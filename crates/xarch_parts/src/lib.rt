@@ -18,6 +18,6 @@ pub use fronts::{read_front, read_parts};
 pub use inputs::{at_most, length_of, limited_length, read_whole};
 pub use merged::file_of_versions;
 pub use names::{damaged, notes_fault};
-pub use notes::store_noted;
+pub use notes::{push_notes, store_noted};
 pub use put::{write_bytes, write_keyed};
 pub use readings::{doc_from, keyed_from, read_spec};

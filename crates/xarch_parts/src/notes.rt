@@ -44,8 +44,9 @@ pub fn store_noted<F: Folder>(
     }
 }
 
-// Appends what stands behind an archive with these notes.
-fn push_notes<F: Folder>(notes: &[String], noted: bool, folder: &mut F) -> Result<(), Failed>
+/// Appends what stands behind an archive with these notes: each note at once where it is said that
+/// some note is not empty.
+pub fn push_notes<F: Folder>(notes: &[String], noted: bool, folder: &mut F) -> Result<(), Failed>
     requires { CanFollow noted (map string_bytes notes.now) }
     ensures writes { WritesOnly F.files F.draft F.numbers folder.old folder.new None }
     ensures files { F.files folder.new ≡ F.files folder.old }

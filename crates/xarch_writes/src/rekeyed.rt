@@ -1,12 +1,10 @@
 //! An archive under other keys, and how it is stored.
 #![tactic(auto, using(xarch_parts::specs::EndLaws::endings))]
 
-ghost use Rattle.std.specs.Prelude.{◌≡◌, ◌++◌, ℕ, Some, None, map, option_map, OnOk, string_bytes};
-ghost use Rattle.xa_outside.specs.Causes.{HasCause};
+ghost use Rattle.std.specs.Prelude.{◌≡◌, ℕ, Some, map, string_bytes};
 ghost use Rattle.xa_outside.specs.Folder.{Files, IsBlank};
 ghost use Rattle.key_spec.specs.View.{spec_view};
 ghost use Rattle.spelled_archive.specs.ArchiveView.{spelled_archive_view};
-ghost use Rattle.version_notes.specs.Notes.{notes_part};
 ghost use Rattle.xarch_parts.specs.Ends.{IsCaused, fault_of};
 ghost use Rattle.xarch_parts.specs.Folders.{WritesOnly};
 ghost use Rattle.xarch_parts.specs.Noted.{CanFollow};
@@ -18,9 +16,8 @@ use record_format::LONGEST;
 use record_writer::WriteFault;
 use spelled_archive::SpelledArchive;
 use std::alloc::Global;
-use version_notes::{NoteWriter, writers_append_the_part};
-use xa_outside::{Failed, Folder};
-use xarch_parts::commit;
+use xa_outside::Folder;
+use xarch_parts::{commit, push_notes};
 use xarch_words::{Fault, Quantity};
 
 /// The new keys, the archive under them, and the notes that come behind it: whether some is not
@@ -82,22 +79,4 @@ fn draft_archive<F: Folder>(
         Err(WriteFault::Folder) => Err(Fault::FolderFault),
         Err(WriteFault::Memory) => Err(Fault::Memory),
     }
-}
-
-// Appends what stands behind an archive with these notes.
-fn push_notes<F: Folder>(notes: &[String], noted: bool, folder: &mut F) -> Result<(), Failed>
-    requires { CanFollow noted (map string_bytes notes.now) }
-    ensures writes { WritesOnly F.files F.draft F.numbers folder.old folder.new None }
-    ensures files { F.files folder.new ≡ F.files folder.old }
-    ensures gains { OnOk result (F.draft folder.new ≡ option_map
-        (λ d. d ++ notes_part (map string_bytes notes.now)) (F.draft folder.old)) }
-    ensures cause { HasCause (F.faults folder.old) (F.faults folder.new) result }
-{
-    // A law, for the proof of `gains`.
-    writers_append_the_part();
-    let mut writer = NoteWriter::start(noted);
-    for note in notes {
-        writer.push(folder, note)?;
-    }
-    writer.finish(folder)
 }
