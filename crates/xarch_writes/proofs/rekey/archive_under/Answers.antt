@@ -32,13 +32,12 @@ returns-in-Err-Key-clause-cause c = tt
 pub returns-in-Err-Key-clause-refused : goal.returns-in-Err-Key-clause-refused
 returns-in-Err-Key-clause-refused c = λ vs q is e.
     let key = rw c.in-Err-Key.field-0-is at c.in-Err-Key.ensures.key in
-    let told = rw c.in-Err-Key.field-0-is at e in
     let fault = keys.fault_view c.in-Err-Key.fault in
-    record { number = c.in-Err-Key.version; fault = fault; first = key vs is; is = told-version c.in-Err-Key.version fault q told }
+    record { number = c.in-Err-Key.version; fault = fault; first = key vs is; is = told-version c.in-Err-Key.version fault q e }
 
-pub returns-in-Err-Memory-clause-cause : goal.returns-in-Err-Memory-clause-cause
+pub returns-clause-cause : goal.returns-clause-cause
 unfolding IsInside
-returns-in-Err-Memory-clause-cause c = tt
+returns-clause-cause c = tt
 
-pub returns-in-Err-Memory-clause-refused : goal.returns-in-Err-Memory-clause-refused
-returns-in-Err-Memory-clause-refused c = λ vs q is e. no-memory q e
+pub returns-clause-refused : goal.returns-clause-refused
+returns-clause-refused c = λ vs q is e. no-memory q e
