@@ -109,14 +109,6 @@ fn sound_archives_have_so_many_versions(rt: HostRuntime) -> Result<(), Fail> {
     Ok(())
 }
 
-/// Whether it is the archive of so many versions, or damage.
-pub(crate) fn is_as_counted(alloc: Global, file: &[u8], wanted: Option<u32>) -> bool {
-    match wanted {
-        Some(versions) => has_versions(alloc, file, versions),
-        None => is_judged(alloc, file, false),
-    }
-}
-
 fn is_as_wanted(found: Result<u32, CheckFault>, wanted: bool) -> bool {
     match found {
         Ok(_) => wanted,

@@ -10,8 +10,6 @@ mod damaged_files;
 #[cfg(test)]
 mod files;
 #[cfg(test)]
-mod judged_files;
-#[cfg(test)]
 mod keyed_files;
 #[cfg(test)]
 mod large;

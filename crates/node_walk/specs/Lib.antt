@@ -1,5 +1,0 @@
-pub mod Seen
-pub mod Places
-pub mod Owned
-pub mod Walked
-pub mod Nodes
