@@ -27,7 +27,8 @@ use Rattle.key_rules.proofs.Law as law
 use Rattle.key_annotate.specs.Annotated.{label_or_bare, annotated, annotated_items}
 use Rattle.key_annotate.specs.KeyedOf.{attr_leaf, InnerKeyed, ContentKeyed, EachIsKid, IsOfItem}
 use Rattle.key_annotate.proofs.InOrder.{Apart}
-use Rattle.key_annotate.proofs.KidsOf.{label-name, annotated-label, differ-apart}
+use Rattle.key_annotate.specs.DocumentTexts.{label-name}
+use Rattle.key_annotate.proofs.KidsOf.{annotated-label, differ-apart}
 use Rattle.key_annotate.proofs.Sorted.{at_has}
 use Rattle.archive_tree.specs.Stands.{has_body}
 use Rattle.archive_file.specs.NodeFits.{attr_label, bare_label, on_some, ends_in}

@@ -22,7 +22,7 @@ use Rattle.archive_file.specs.KeyedBy.{AreKeyedBy, IsKeyedBy}
 use Rattle.archive_file.proofs.ShapedArchives.{archive-shaped}
 use Rattle.record_parts.specs.Bounds.{most}
 use Rattle.record_format.specs.Shapes.{IsShaped}
-use Rattle.stream_merge.proofs.DocumentTexts.{keyed-texts}
+use Rattle.key_annotate.specs.DocumentTexts.{keyed-texts}
 use Rattle.archive_rekey.specs.Progress.{IsBehind, IsFaultOf, Reaches}
 use Rattle.archive_rekey.specs.Rekeyed.{AreRekeyed, IsArchiveUnder, IsBad, IsFirstBad}
 

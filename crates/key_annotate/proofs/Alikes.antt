@@ -13,7 +13,7 @@ use Rattle.jsonml_tree.proofs.Lists.{all_has}
 use Rattle.key_spec.specs.Data.{PlainRule}
 use Rattle.key_spec.specs.Rules.{is_frontier, below}
 use Rattle.key_annotate.specs.KeyedOf.{attr_leaf, InnerKeyed, ContentKeyed, EachIsKid, IsOfItem, IsKeyedTreeOf}
-use Rattle.key_annotate.proofs.KidsOf.{label-name}
+use Rattle.key_annotate.specs.DocumentTexts.{label-name}
 
 -- whether a node of this name is inner, or the one that a path leads to from it: all are elements, and the last is not at the frontier
 abbrev ends_inner : List PlainRule → List (List ℕ) → PlainName → List PlainLabel → Bool

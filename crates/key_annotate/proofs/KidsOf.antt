@@ -21,13 +21,10 @@ use Rattle.key_rules.specs.Satisfies.{ItemIsGood, ok_of, item_label}
 use Rattle.key_rules.proofs.Repeats.{Differ}
 use Rattle.key_annotate.specs.KeyedOf.{attr_leaf}
 use Rattle.key_annotate.specs.Annotated.{put_kid, in_order, label_or_bare, annotated, annotated_items}
+use Rattle.key_annotate.specs.DocumentTexts.{label_name, label-name}
 use Rattle.key_annotate.proofs.InOrder.{Apart, all-order}
 
 -- ---- names and labels
-
-label_name : (rule : Option PlainRule) (t : List ℕ) (c : PlainContent) → (label_or_bare t (label_by rule t c)).name ≡ tag t
-label_name None t c = refl
-label_name (Some r) t c = elim (keys_from 1 r.paths c) as (λ o. (label_or_bare t (and_then o (λ ks. Ok (record { name = tag t; keys = ks })))).name ≡ tag t) [ Ok ks ↦ refl | Err e ↦ refl ]
 
 pub annotated-label : (rules : List PlainRule) (context : List (List ℕ)) (t : List ℕ) (c : PlainContent) → label_of (annotated rules context t c) ≡ label_or_bare t (label_in rules context t c)
 annotated-label rules context t (content xs ts) = pick (is_frontier rules (below context t)) _ _ _ refl refl
@@ -42,9 +39,6 @@ annotated-name rules context t c = ap (λ (l : PlainLabel). l.name) (annotated-l
 pub good-label : (t : List ℕ) (r : Result PlainLabel PlainLabelFault) → IsOk r → r ≡ Ok (label_or_bare t r)
 good-label t (Ok l) h = refl
 good-label t (Err e) h = absurd (true≢false (sym h))
-
-pub label-name : (rules : List PlainRule) (context : List (List ℕ)) (t : List ℕ) (c : PlainContent) (l : PlainLabel) → label_in rules context t c ≡ Ok l → l.name ≡ tag t
-label-name rules context t c l e = ap (λ r. (label_or_bare t r).name) (sym e) ∙ label_name (rule_of rules context t) t c
 
 -- each kid of an item is named by a tag
 abbrev pub IsItemKid : PlainKeyed → Type 0

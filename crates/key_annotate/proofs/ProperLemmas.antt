@@ -19,7 +19,8 @@ use Rattle.key_rules.proofs.Labelled.{label_in-good}
 use Rattle.key_annotate.specs.KeyedOf.{attr_leaf, InnerKeyed, ContentKeyed, EachIsKid, IsOfItem, IsKeyedTreeOf}
 use Rattle.key_annotate.specs.Annotated.{in_order, label_or_bare, annotated, annotated_items, keyed_tree}
 use Rattle.key_annotate.proofs.InOrder.{order-has}
-use Rattle.key_annotate.proofs.KidsOf.{label-name, annotated-name}
+use Rattle.key_annotate.specs.DocumentTexts.{label-name}
+use Rattle.key_annotate.proofs.KidsOf.{annotated-name}
 
 both_true : (a b : Bool) → IsTrue a → IsTrue b → IsTrue (a && b)
 both_true true b h g = g

@@ -9,3 +9,4 @@ pub mod LentView
 pub mod Laws
 pub mod Stands
 pub mod Inside
+pub mod DocumentTexts

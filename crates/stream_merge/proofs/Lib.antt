@@ -15,7 +15,6 @@ pub mod CopiedRows
 pub mod ChildCopies
 pub mod MergedRows
 pub mod MergedNodes
-pub mod DocumentTexts
 pub mod Items
 pub mod Whole
 pub mod Appending

@@ -2,7 +2,7 @@ use Rattle.jsonml_tree.specs.LentView.{lent_tree_view}
 use Rattle.key_annotate.specs.LentView.{lent_view}
 use Rattle.key_spec.specs.View.{spec_view}
 use Rattle.archive_file.proofs.KeyedLaws.{stands-keyed}
-use Rattle.stream_merge.proofs.DocumentTexts.{keyed-texts}
+use Rattle.key_annotate.specs.DocumentTexts.{keyed-texts}
 use Rattle.test_streams.proofs.archives.grow.Goals as goal
 
 pub stream_add-requires-clause-keyed : goal.stream_add-requires-clause-keyed

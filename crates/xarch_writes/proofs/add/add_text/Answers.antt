@@ -2,7 +2,7 @@ use Rattle.std.proofs.Common.{◌≡◌, ◌-◌, ◌+◌, Result, Ok, sym, ◌�
 use Rattle.jsonml_tree.specs.LentView.{lent_tree_view}
 use Rattle.key_annotate.specs.LentView.{lent_view}
 use Rattle.record_cursor.specs.View.{header_view}
-use Rattle.stream_merge.proofs.DocumentTexts.{keyed-texts}
+use Rattle.key_annotate.specs.DocumentTexts.{keyed-texts}
 use Rattle.xarch_words.specs.View.{fault_view}
 use Rattle.xarch_parts.specs.EndLaws.{IsDefined-here, IsDefined-next, and_then-Ok}
 use Rattle.xarch_parts.specs.Ends.{fault_of}

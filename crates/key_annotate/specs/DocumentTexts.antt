@@ -1,5 +1,5 @@
--- The texts of the keyed tree of a document whose texts are UTF-8 are UTF-8.
-use Rattle.std.proofs.Common.{◌≡◌, ◌⊎◌, ℕ, Bool, true, false, List, [], ◌∷◌, sym, subst, inl, inr}
+-- What the keyed tree of a document has of its texts: an element's label is named by its tag, and what is UTF-8 stays so.
+use Rattle.std.proofs.Common.{◌≡◌, ◌⊎◌, ℕ, Bool, true, false, List, [], ◌∷◌, Option, Some, None, Ok, Err, refl, ap, sym, subst, ◌∙◌, inl, inr}
 use Rattle.std.specs.Prelude.{Any, ⊤}
 use Rattle.std.specs.Bool.{MatchBool}
 use Rattle.std.specs.List.{AllByRecursion}
@@ -7,12 +7,22 @@ use Rattle.std.specs.Str.{IsUtf8}
 use Rattle.jsonml_tree.specs.Data.{PlainAttr, PlainTree, text, element, PlainContent, content, PlainTrees, no_trees, tree}
 use Rattle.jsonml_text.specs.Texts.{IsScalarText, AreAttrTexts, AreTexts, AreContentTexts, AreItemTexts}
 use Rattle.key_spec.specs.Data.{PlainRule}
-use Rattle.key_spec.specs.Rules.{is_frontier, below}
-use Rattle.keyed_tree.specs.Data.{PlainName, attr, tag, PlainKey, scalar, inside, PlainKeyed, inner, leaf, PlainKids, no_kids, kid, kids_from, kids_of, label_of, name_bytes}
+use Rattle.key_spec.specs.Rules.{rule_of, is_frontier, below}
+use Rattle.key_rules.specs.Labels.{and_then, keys_from, label_by, label_in}
+use Rattle.keyed_tree.specs.Data.{PlainName, attr, tag, PlainKey, scalar, inside, PlainLabel, PlainKeyed, inner, leaf, PlainKids, no_kids, kid, kids_from, kids_of, label_of, name_bytes}
 use Rattle.keyed_tree.specs.Plain.{content_of, attr_before, attrs_among, item_onto, items_among, plain}
 use Rattle.jsonml_tree.proofs.Lists.{any_has, all_has}
 use Rattle.key_annotate.specs.KeyedOf.{attr_leaf, InnerKeyed, ContentKeyed, EachIsKid, IsOfItem, IsKeyedTreeOf}
-use Rattle.key_annotate.proofs.KidsOf.{label-name}
+use Rattle.key_annotate.specs.Annotated.{label_or_bare}
+
+-- ---- the name in a label
+
+pub label_name : (rule : Option PlainRule) (t : List ℕ) (c : PlainContent) → (label_or_bare t (label_by rule t c)).name ≡ tag t
+label_name None t c = refl
+label_name (Some r) t c = elim (keys_from 1 r.paths c) as (λ o. (label_or_bare t (and_then o (λ ks. Ok (record { name = tag t; keys = ks })))).name ≡ tag t) [ Ok ks ↦ refl | Err e ↦ refl ]
+
+pub label-name : (rules : List PlainRule) (context : List (List ℕ)) (t : List ℕ) (c : PlainContent) (l : PlainLabel) → label_in rules context t c ≡ Ok l → l.name ≡ tag t
+label-name rules context t c l e = ap (λ r. (label_or_bare t r).name) (sym e) ∙ label_name (rule_of rules context t) t c
 
 -- ---- keyed trees whose texts are UTF-8
 
