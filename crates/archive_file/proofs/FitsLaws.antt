@@ -27,7 +27,8 @@ use Rattle.key_annotate.specs.Inside.{inside_of}
 use Rattle.key_annotate.specs.KeyedOf.{attr_leaf, InnerKeyed, ContentKeyed, EachIsKid, IsOfItem}
 use Rattle.key_annotate.proofs.InOrder.{Apart}
 use Rattle.key_annotate.proofs.Insides.{plain-is}
-use Rattle.key_annotate.proofs.KidsOf.{label-name, annotated-label, apart-differ}
+use Rattle.key_annotate.specs.DocumentTexts.{label-name}
+use Rattle.key_annotate.proofs.KidsOf.{annotated-label, apart-differ}
 use Rattle.key_annotate.proofs.Sorted.{has_at}
 use Rattle.archive_file.proofs.Fits.{leads, has_keys, is_attr_leaf, fits, each_fits}
 use Rattle.archive_file.proofs.Ways.{IsWay, PathsLead, inner-of, leaf-of, items-of, reach-leads}
