@@ -5,5 +5,6 @@ pub mod Next
 pub mod View
 pub mod Faults
 pub mod Moves
+pub mod Spelled
 pub mod Steps
 pub mod Fixed

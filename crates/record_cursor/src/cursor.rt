@@ -1,4 +1,4 @@
-ghost use Rattle.std.specs.Prelude.{◌≡◌, ◌≤◌, ◌-◌, ⊤, ℕ, List, ◌∷◌, drop, None, IfOk, IsOk, IfErr};
+ghost use Rattle.std.specs.Prelude.{◌≡◌, ◌+◌, ◌≤◌, ◌-◌, ⊤, ℕ, List, ◌∷◌, drop, None, IfOk, IsOk, IfErr};
 ghost use Rattle.std.specs.Borrow.{sem, follows_so};
 ghost use mathlib.Core.Option.{none};
 ghost use Rattle.xa_outside.specs.Causes.{Rose};
@@ -7,8 +7,9 @@ ghost use Rattle.record_cursor.specs.contracts.cursor.Cursor.{the_row};
 ghost use Rattle.record_cursor.specs.Faults.{IfDamage, IfFolder};
 ghost use Rattle.record_cursor.specs.Items.{PlainItem};
 ghost use Rattle.record_cursor.specs.Moves.{TellsFront, Comes, Moves};
-ghost use Rattle.record_cursor.specs.Next.{next_of, read_for};
+ghost use Rattle.record_cursor.specs.Next.{next_of, size_of, read_for};
 ghost use Rattle.record_cursor.specs.Places.{among_nodes, finished};
+ghost use Rattle.record_cursor.specs.Spelled.{IsSpelled};
 ghost use Rattle.record_cursor.specs.View.{header_view, IsHeader, shown_item};
 
 use crate::buffer::Buffer;
@@ -131,6 +132,13 @@ impl Cursor {
             → TellsFront (F.files folder.old) self.old.name self.old.length bytes
             → IfErr result
             (λ e. IfDamage e (next_of self.old.standing (drop self.old.at bytes) ≡ None)) }
+
+        // Where the file is told, the item was given for what its bytes spell.
+        ensures spelled { (bytes : List ℕ)
+            → TellsFront (F.files folder.old) self.old.name self.old.length bytes
+            → IfOk result (λ item. IsSpelled self.old.standing (shown_item item)
+            (drop self.old.at bytes)
+            (drop (self.old.at + size_of self.old.standing (shown_item item)) bytes)) }
     {
         let name = self.name.as_str();
         match read_step(

@@ -10,6 +10,7 @@ ghost use Rattle.xa_outside.specs.Folder.{Files, bytes_or_none, front_of};
 ghost use Rattle.xa_outside.specs.Numbers.{PullsAtMost, after_pull};
 ghost use Rattle.record_cursor.specs.Faults.{IfFolder};
 ghost use Rattle.record_cursor.specs.Moves.{TellsFront, TellsHeader};
+ghost use Rattle.record_cursor.specs.Spelled.{IsHeaderAt};
 ghost use Rattle.record_cursor.specs.Steps.{OnlyReads, fault_of, Filled, Finds, FrontIs};
 ghost use Rattle.record_cursor.specs.View.{header_view, IsHeader};
 
@@ -62,6 +63,10 @@ pub fn read_header<F: Folder>(
         → TellsFront (F.files folder.old) name.now length bytes
         → header_at bytes ≡ Some ((rules, n), drop first bytes) → first ≤ length
         → PullsAtMost first (F.numbers folder.old) (F.numbers folder.new) }
+
+    // Where the file is told, the header was given for what its bytes spell.
+    ensures spelled { (bytes : List ℕ) → TellsFront (F.files folder.old) name.now length bytes
+        → IfOk result (λ h. IsHeaderAt (header_view h) bytes) }
 {
     match check_length(folder, name, length) {
         Ok(()) => read_stored(alloc, folder, name, length),
