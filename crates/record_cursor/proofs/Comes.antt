@@ -275,7 +275,7 @@ parts-of (suc (suc (suc (suc (suc zero))))) body no_end no_leaf_end = absurd (no
 parts-of (suc (suc (suc (suc (suc (suc k)))))) body no_end no_leaf_end = (let other = past-end k in rw other refl)
 
 -- the end of a leaf that may come has no body
-no-body : (s t : Standing) (size : ℕ) → after_kind s 5 size ≡ Some t → size ≡ 0
+pub no-body : (s t : Standing) (size : ℕ) → after_kind s 5 size ≡ Some t → size ≡ 0
 no-body (among_nodes depth) t size may = absurd cc
 no-body (in_leaf depth) t size may = eqb-true _ _ (passed_some (size == 0) (among_nodes depth) t may).0
 no-body (behind_root n) t size may = absurd cc
@@ -290,16 +290,20 @@ pub leaf-end-of : (kind size : ℕ) (body : List ℕ) → kind ≡ 5 → MayCome
 leaf-end-of kind size body five may len = subst (λ (k : ℕ). MayCome k size → item_in k body ≡ Some leaf_end_item) (sym five) (λ m. leaf-end-five size body m len) may
 
 -- the parts that are shown are those of a record of this kind, with this body
-pub parts-is : (kind : ℕ) (body : List ℕ) (r : PlainRec) → IsBytes body → Some r ≡ with_parts (record_of kind body) → IsTrue (has_parts r) × (kind_of r ≡ kind) × (length (rec_bytes r) ≡ 9 + length body)
-parts-is kind body r fits e = found (record_of kind body) (λ x. body_found kind body x fits) e
+pub parts-found : (kind : ℕ) (body : List ℕ) (r : PlainRec) → IsBytes body → Some r ≡ with_parts (record_of kind body) → IsTrue (has_parts r) × Body kind body r
+parts-found kind body r fits e = found (record_of kind body) (λ x. body_found kind body x fits) e
   where
-    found : (o : Option PlainRec) → ((x : PlainRec) → o ≡ Some x → Body kind body x) → Some r ≡ with_parts o → IsTrue (has_parts r) × (kind_of r ≡ kind) × (length (rec_bytes r) ≡ 9 + length body)
+    found : (o : Option PlainRec) → ((x : PlainRec) → o ≡ Some x → Body kind body x) → Some r ≡ with_parts o → IsTrue (has_parts r) × Body kind body r
     found (Some x) all h =
         let p = passed_some (has_parts x) x r (sym h) in
-        let b = all x refl in
-        subst (λ (y : PlainRec). IsTrue (has_parts y) × (kind_of y ≡ kind) × (length (rec_bytes y) ≡ 9 + length body)) p.1
-        (is-true (has_parts x) p.0, b.kind_is, omega (arith, rec-length x, ap length b.spelled))
+        subst (λ (y : PlainRec). IsTrue (has_parts y) × Body kind body y) p.1 (is-true (has_parts x) p.0, all x refl)
     found None all h = absurd cc
+
+pub parts-is : (kind : ℕ) (body : List ℕ) (r : PlainRec) → IsBytes body → Some r ≡ with_parts (record_of kind body) → IsTrue (has_parts r) × (kind_of r ≡ kind) × (length (rec_bytes r) ≡ 9 + length body)
+parts-is kind body r fits e =
+    let p = parts-found kind body r fits e in
+    let spelled = p.1.spelled in
+    (p.0, p.1.kind_is, omega (arith, rec-length r, ap length spelled))
 
 -- ---- a step
 

@@ -1,14 +1,15 @@
 -- What fills a buffer from the first bytes of a file.
-use Rattle.std.proofs.Common.{◌≡◌, ℕ, ◌+◌, ◌-◌, ◌≤◌, ◌<◌, true, false, ltb, leb, List, [], ◌∷◌, ◌++◌, length, take, drop, Option, Some, Result, Ok, Err, refl, sym, ap, ◌∙◌, arith, length-take-le, drop-drop, take_all, length-drop}
+use Rattle.std.proofs.Common.{◌≡◌, ℕ, suc, ◌+◌, ◌-◌, ◌≤◌, ◌<◌, ◌^◌, true, leb, List, [], ◌∷◌, ◌++◌, length, take, drop, Option, Some, Result, Ok, Err, refl, sym, ap, ◌∙◌, arith, length-take-le, drop-drop, take_all, length-drop}
 use Rattle.std.specs.Prelude.{slice_index_or, OnOk, IfErr}
-use Rattle.std.specs.Int.{w64, from_be_bytes}
+use Rattle.std.specs.Int.{w64}
 use Rattle.std.specs.FinMap as map
-use Rattle.std.proofs.lemmas.Bool.{le-ltb}
 use Rattle.std.proofs.lemmas.Bool.Decides.{nat_tests}
-use Rattle.std.proofs.lemmas.List.{drop-take, drop_all, take-take, take_at, take-append-le}
+use Rattle.std.proofs.lemmas.List.{append-nil, drop-take, drop_all, take-take, take_at, take-append-drop, take-append-le}
 use Rattle.std.proofs.Math.Seq.{take-add}
+use Rattle.xa_fields.specs.Laws.{IsBytes}
 use Rattle.xa_fields.specs.Reading.{byte_at, number_at}
-use Rattle.xa_fields.proofs.Fields.{some_is}
+use Rattle.xa_fields.specs.Spelling.{u64_bytes}
+use Rattle.xa_fields.proofs.Fields.{u64_reads}
 use Rattle.xa_outside.specs.Folder.{Files, bytes_or_none, front}
 use Rattle.xa_fields.specs.FieldLaws.{passed_some}
 use Rattle.record_cursor.specs.Moves.{TellsFront}
@@ -76,31 +77,26 @@ take-front n m xs fits =
 
 -- ---- frames
 
-front-byte : (rest out : List ℕ) → out ≡ take 9 rest → 9 ≤ length rest → byte_at rest ≡ Some (slice_index_or out 0 0, drop 1 rest)
-front-byte [] out e long = absurd (omega arith)
-front-byte (b ∷ rest) out e long = ap (λ (bs : List ℕ). Some (slice_index_or bs 0 0, rest)) (sym e)
+-- nine bytes that are a kind and a length
+pub frame-is : (frame : List ℕ) (size next : ℕ) → length frame ≡ 9 → IsBytes frame → Some (size, drop next frame) ≡ number_at w64 (drop 1 frame) → next ≡ 9 → (frame ≡ slice_index_or frame 0 0 ∷ u64_bytes size) × (size < 2 ^ 64)
+frame-is [] size next long fits e behind = absurd (omega (arith, long))
+frame-is (kind ∷ more) size next long fits e behind =
+    let read = u64_reads.takes more (size, drop next (kind ∷ more)) (λ i. fits (suc i)) (sym e) in
+    let none : drop next (kind ∷ more) ≡ [] = drop_all next (kind ∷ more) (omega (arith, long, behind)) in
+    (ap (λ (z : List ℕ). kind ∷ z) (read.takes.parts ∙ ap (λ (z : List ℕ). u64_bytes size ++ z) none ∙ append-nil (u64_bytes size)), read.fits)
 
-front-number : (more : List ℕ) → 8 ≤ length more → number_at w64 (take 8 more) ≡ Some (from_be_bytes w64 (take 8 more), []) × (number_at w64 more ≡ Some (from_be_bytes w64 (take 8 more), drop 8 more))
-front-number more long = (
-    let len : length (take 8 more) ≡ 8 = length-take-le _ _ long in
-    let here : ltb (length (take 8 more)) 8 ≡ false = le-ltb _ _ (omega (arith, len)) in
-    let there : ltb (length more) 8 ≡ false = le-ltb _ _ long in
-    let all : take 8 (take 8 more) ≡ take 8 more = take_all 8 (take 8 more) (omega (arith, len)) in
-    let none : drop 8 (take 8 more) ≡ [] = drop_all 8 (take 8 more) (omega (arith, len)) in
-    (rw (here, all, none) refl, rw there refl))
+-- they stand at the front of the bytes that they were read of
+pub frame-there : (rest out : List ℕ) (kind size : ℕ) → out ≡ take 9 rest → out ≡ kind ∷ u64_bytes size → rest ≡ kind ∷ (u64_bytes size ++ drop 9 rest)
+frame-there rest out kind size e is = sym (take-append-drop 9 rest) ∙ ap (λ (z : List ℕ). z ++ drop 9 rest) (sym e ∙ is)
 
--- the frame that was read is the one that stands there
-pub frame-of : (rest out behind : List ℕ) (kind size : ℕ) → out ≡ take 9 rest → 9 ≤ length rest → kind ≡ slice_index_or out 0 0 → Some (size, behind) ≡ number_at w64 (drop 1 out) → IsFrame rest (kind, size)
-frame-of rest out behind kind size e long k n =
-    let more = drop 1 rest in
-    let room : 8 ≤ length more = omega (arith, length-drop 1 rest) in
-    let nine : drop 1 out ≡ take 8 more = ap (drop 1) e ∙ drop-take 1 8 rest in
-    let two = front-number more room in
-    let same = some_is (size, behind) (from_be_bytes w64 (take 8 more), []) (n ∙ ap (number_at w64) nine ∙ two.0) in
-    let is : size ≡ from_be_bytes w64 (take 8 more) = ap (λ (x : ℕ × List ℕ). x.0) same in
+-- and are the frame of a record there
+pub frame-of : (rest : List ℕ) (kind size : ℕ) → size < 2 ^ 64 → rest ≡ kind ∷ (u64_bytes size ++ drop 9 rest) → IsFrame rest (kind, size)
+frame-of rest kind size fits e =
+    let more = u64_bytes size ++ drop 9 rest in
+    let behind : drop 1 rest ≡ more = ap (drop 1) e in
     record {
-      kind = front-byte rest out e long ∙ ap (λ (b : ℕ). Some (b, drop 1 rest)) (sym k);
-      size = two.1 ∙ (λ i. Some (sym is i, drop-drop 8 1 rest i));
+      kind = ap byte_at e ∙ ap (λ (z : List ℕ). Some (kind, z)) (sym behind);
+      size = ap (number_at w64) behind ∙ u64_reads.again size (drop 9 rest) fits;
     }
 
 -- the front of a buffer that was filled

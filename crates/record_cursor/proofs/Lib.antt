@@ -7,3 +7,4 @@ pub mod NodeItems
 pub mod Headers
 pub mod FixedFields
 pub mod ItemLaws
+pub mod SpelledLaws

@@ -1,5 +1,5 @@
 -- What the parts of a call do.
-use Rattle.std.specs.Prelude.{◌≡◌, ◌+◌, ◌≤◌, ◌==◌, ⊤, ℕ, zero, suc, List, length, take, drop, Option, Some, None, option_map, Result, Ok, Err, nat_lt, IsTrue, if◌then◌else◌}
+use Rattle.std.specs.Prelude.{◌≡◌, ◌+◌, ◌≤◌, ◌==◌, ⊤, ℕ, zero, suc, List, [], ◌++◌, length, take, drop, Option, Some, None, option_map, Result, Ok, Err, nat_lt, IsTrue, if◌then◌else◌}
 use Rattle.std.specs.Int.{w32, w64}
 use Rattle.xa_fields.specs.Reading.{byte_at, number_at}
 use Rattle.xa_outside.specs.Causes.{Rose}
@@ -10,10 +10,12 @@ use Rattle.record_format.specs.Fronts.{header_at}
 use Rattle.record_format.specs.Reading.{record_of}
 use Rattle.record_format.specs.Whole.{has_parts, with_parts}
 use Rattle.record_format.specs.Data.{PlainRec}
-use Rattle.record_format.specs.Spelling.{kind_of, rec_bytes}
+use Rattle.record_format.specs.Bounds.{IsRec}
+use Rattle.record_format.specs.Spelling.{kind_of, framed, rec_bytes}
 use Rattle.record_cursor.specs.Items.{PlainItem, leaf_end_item, end_item, finish, item_of}
 use Rattle.record_cursor.specs.Places.{Standing, among_nodes, in_leaf, behind_root, finished, closed_by, after_item}
 use Rattle.record_cursor.specs.Next.{size_of, read_for}
+use Rattle.record_cursor.specs.Spelled.{IsEndAt}
 use Rattle.record_cursor.specs.View.{place_view}
 use Rattle.record_cursor.specs.Faults.{IfDamage, IfFolder}
 use Rattle.record_cursor.specs.declared.fault.CursorFault.{CursorFault}
@@ -123,6 +125,27 @@ IsReadOf kind n (read.Parts k) held = (k ≡ kind) × (held ≡ n)
 IsReadOf kind n read.LeafEnd held = kind ≡ 5
 IsReadOf kind n (read.End m) held = (kind ≡ 4) × (m ≡ n)
 IsReadOf kind n read.Finish held = ⊥
+
+-- the bytes in the buffer are the body, if it was read
+abbrev pub HasBody : Read → List ℕ → List ℕ → Type 0
+HasBody (read.Parts kind) buffer body = buffer ≡ body
+HasBody read.LeafEnd buffer body = ⊤
+HasBody (read.End n) buffer body = ⊤
+HasBody read.Finish buffer body = ⊤
+
+-- the record that was read is what the bytes begin with, and then they are the rest
+abbrev pub IsReadAt : Read → List ℕ → List ℕ → List ℕ → Type 0
+IsReadAt (read.Parts kind) buffer now rest = now ≡ framed kind buffer ++ rest
+IsReadAt read.LeafEnd buffer now rest = now ≡ framed 5 [] ++ rest
+IsReadAt (read.End n) buffer now rest = IsEndAt n now rest
+IsReadAt read.Finish buffer now rest = ⊤
+
+-- the item that is lent is that of a record that has an encoding, with the body in the buffer
+abbrev pub IsLent : Read → List ℕ → PlainItem → Type 0
+IsLent (read.Parts kind) buffer i = (r : PlainRec) × IsRec r × IsTrue (has_parts r) × (item_of r ≡ i) × (rec_bytes r ≡ framed kind buffer)
+IsLent read.LeafEnd buffer i = i ≡ leaf_end_item
+IsLent (read.End n) buffer i = i ≡ end_item n
+IsLent read.Finish buffer i = i ≡ finish
 
 -- how many bytes of the body of a record of this kind, which may come, are read at most
 abbrev pub body_size : ℕ → ℕ → ℕ

@@ -3,7 +3,7 @@ ghost use Rattle.std.specs.Prelude.{◌≡◌, length, option_map, IfSome};
 ghost use Rattle.record_format.specs.Reading.{record_of};
 ghost use Rattle.record_format.specs.Whole.{with_parts};
 ghost use Rattle.record_cursor.specs.Items.{item_of};
-ghost use Rattle.record_cursor.specs.Steps.{IsRead, read_item};
+ghost use Rattle.record_cursor.specs.Steps.{IsRead, IsLent, read_item};
 ghost use Rattle.record_cursor.specs.View.{shown_item};
 ghost use Rattle.record_cursor.specs.declared.item.Read.TheVariants.{Parts};
 
@@ -50,6 +50,7 @@ pub(crate) enum Read {
 pub(crate) fn lend(read: Read, buffer: &[u8]) -> Option<Item<'_>>
     ensures found { option_map shown_item result ≡ read_item read buffer.now }
     ensures is { IfSome result (λ item. IsRead read (length buffer.now) (shown_item item)) }
+    ensures spelled { IfSome result (λ item. IsLent read buffer.now (shown_item item)) }
 {
     match read {
         Read::Parts { kind } => lend_parts(kind, buffer),
@@ -63,6 +64,7 @@ fn lend_parts(kind: u8, body: &[u8]) -> Option<Item<'_>>
     ensures found { option_map shown_item result
         ≡ option_map item_of (with_parts (record_of kind body.now)) }
     ensures is { IfSome result (λ item. IsRead (Parts kind) (length body.now) (shown_item item)) }
+    ensures spelled { IfSome result (λ item. IsLent (Parts kind) body.now (shown_item item)) }
 {
     match view_body(kind, body)? {
         View::Inner { label, stamp } => Some(Item::Inner { label, stamp }),

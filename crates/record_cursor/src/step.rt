@@ -1,12 +1,12 @@
 // Reading one record, and judging whether it may come.
-ghost use Rattle.std.specs.Prelude.{◌≡◌, ◌+◌, ◌-◌, ◌<◌, ◌≤◌, ◌^◌, ℕ, List, [], drop, take, Some, IfOk, OnOk, IsOkAnd, bytes_eq, length as held};
+ghost use Rattle.std.specs.Prelude.{◌≡◌, ◌+◌, ◌-◌, ◌<◌, ◌≤◌, ◌^◌, ℕ, List, [], ◌∷◌, ◌++◌, drop, take, Some, IfOk, OnOk, IsOkAnd, IsSomeAnd, bytes_eq, length as held};
 ghost use Rattle.xa_fields.specs.Spelling.{u64_bytes};
 ghost use Rattle.xa_outside.specs.Numbers.{PullsAtMost, after_pull};
 ghost use Rattle.record_cursor.specs.Items.{PlainItem, finish};
 ghost use Rattle.record_cursor.specs.Moves.{TellsFront};
 ghost use Rattle.record_cursor.specs.Next.{item_in, next_of, read_for, tail_at};
 ghost use Rattle.record_cursor.specs.Places.{Standing, finished};
-ghost use Rattle.record_cursor.specs.Steps.{OnlyReads, fault_of, Filled, Finds, IsFrame, IsInside, MayCome, IsRead, IsReadOf, read_item, body_size, body_read, Leads, step_view};
+ghost use Rattle.record_cursor.specs.Steps.{OnlyReads, fault_of, Filled, Finds, IsFrame, IsInside, MayCome, IsRead, IsReadOf, IsReadAt, HasBody, read_item, body_size, body_read, Leads, step_view};
 ghost use Rattle.record_cursor.specs.View.{place_view};
 ghost use Rattle.record_cursor.specs.declared.item.Read.TheVariants.{Finish};
 
@@ -55,6 +55,11 @@ pub(crate) fn read_step<F: Folder>(
         → next_of (place_view place) (drop at bytes) ≡ Some (i, (t, rest))
         → PullsAtMost (read_for (place_view place) i)
         (F.numbers folder.old) (F.numbers folder.new) }
+
+    // Where the file is told, what was read is what its bytes spell.
+    ensures spelled { (bytes : List ℕ) → TellsFront (F.files folder.old) name.now length bytes
+        → IfOk result
+        (λ step. IsReadAt step.read buffer.new (drop at bytes) (drop step.at bytes)) }
     ensures again { place_view place ≡ finished
         → IsOkAnd result (λ step. step.read ≡ Finish) }
 {
@@ -104,6 +109,11 @@ fn read_record<F: Folder>(
         → next_of (place_view place) (drop at bytes) ≡ Some (i, (t, rest))
         → PullsAtMost (read_for (place_view place) i)
         (F.numbers folder.old) (F.numbers folder.new) }
+
+    // Where the file is told, what was read is what its bytes spell.
+    ensures spelled { (bytes : List ℕ) → TellsFront (F.files folder.old) name.now length bytes
+        → IfOk result
+        (λ step. IsReadAt step.read buffer.new (drop at bytes) (drop step.at bytes)) }
 {
     if length - at < FRAME as u64 {
         return Err(CursorFault::Damage);
@@ -138,15 +148,27 @@ fn read_frame<F: Folder>(folder: &mut F, name: &str, at: u64) -> Result<(u8, u64
     ensures pulls { PullsAtMost 9 (F.numbers folder.old) (F.numbers folder.new) }
     ensures told { (end : ℕ) (bytes : List ℕ) → TellsFront (F.files folder.old) name.now end bytes
         → at + 9 ≤ end → Filled result (IsFrame (drop at bytes)) }
+    ensures spelled { (end : ℕ) (bytes : List ℕ)
+        → TellsFront (F.files folder.old) name.now end bytes → at + 9 ≤ end → IfOk result
+        (λ f. drop at bytes ≡ f.0 ∷ (u64_bytes f.1 ++ drop (at + 9) bytes)) }
 {
     let mut frame = [0; FRAME];
     match fill_part(folder, name, at, &mut frame) {
-        Ok(()) => match take_u64(&frame, 1) {
-            Some((size, _)) => Ok((frame[0], size)),
+        Ok(()) => match frame_of(&frame) {
+            Some(frame) => Ok(frame),
             None => Err(CursorFault::Damage),
         },
         Err(fault) => Err(fault),
     }
+}
+
+/// The kind and the length that these nine bytes are.
+fn frame_of(frame: &[u8]) -> Option<(u8, u64)>
+    requires { held frame.now ≡ 9 }
+    ensures { IsSomeAnd result (λ f. (frame.now ≡ f.0 ∷ u64_bytes f.1) × (f.1 < 2 ^ 64)) }
+{
+    let (size, _) = take_u64(frame, 1)?;
+    Some((frame[0], size))
 }
 
 /// The body of the record of this kind, where it has parts to lend. That of an END is passed over.
@@ -170,6 +192,9 @@ fn read_body<F: Folder>(
     ensures told { (end : ℕ) (bytes : List ℕ) → TellsFront (F.files folder.old) name.now end bytes
         → at + size ≤ end → Filled result (λ read. item_in kind (take size (drop at bytes))
         ≡ read_item read buffer.new) }
+    ensures body { (end : ℕ) (bytes : List ℕ) → TellsFront (F.files folder.old) name.now end bytes
+        → at + size ≤ end
+        → IfOk result (λ read. HasBody read buffer.new (take size (drop at bytes))) }
 {
     match kind {
         END => Ok(Read::End { length: size }),

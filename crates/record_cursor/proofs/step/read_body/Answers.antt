@@ -32,3 +32,6 @@ returns-in-Err-clause-pulls g c = (
     let numbers = g.F.Folder.numbers in
     PullsAtMost-more c.args.size (body_size c.args.kind c.args.size) (numbers c.args.folder.now) (numbers c.fill.new.folder)
     (omega (arith, body_size-all c.args.kind c.args.size (search rules))) c.in-Err.ensures.pulls)
+
+pub returns-in-Ok-clause-body : goal.returns-in-Ok-clause-body
+returns-in-Ok-clause-body g c = λ end bytes tells fits. c.in-Ok.ensures.told end bytes tells fits

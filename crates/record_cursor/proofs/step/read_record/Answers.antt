@@ -9,6 +9,7 @@ use Rattle.record_cursor.specs.View.{place_view}
 use Rattle.record_cursor.proofs.Fills.{front-length, no-damage}
 use Rattle.record_cursor.proofs.Comes.{comes-short, comes-long, comes-not, stepped}
 use Rattle.record_cursor.proofs.Pulled.{next-least, framed-read, body_size-most, pulled-both}
+use Rattle.record_cursor.proofs.SpelledLaws.{step-read-at}
 use Rattle.record_cursor.proofs.step.read_record.Goals as goal
 
 pub returns-then-length-at-clause-told : goal.returns-then-length-at-clause-told
@@ -100,6 +101,30 @@ returns-in-Err-read_body-clause-told g c = λ bytes tells. (
     let fits : c.args.at + 9 + c.in-Ok.frame.1 ≤ c.args.length = omega (arith, within, c.if-length-body.false) in
     let later = subst (λ (t : Option Files). TellsFront t c.args.name.now c.args.length bytes) (sym c.in-Ok.ensures.reads.same_files) tells in
     no-damage c.in-Err-read_body.fault (next_of (place_view c.args.place) (drop c.args.at bytes) ≡ None) (c.in-Err-read_body.ensures.told c.args.length bytes later fits))
+
+pub returns-in-Ok-read_body-clause-spelled : goal.returns-in-Ok-read_body-clause-spelled
+returns-in-Ok-read_body-clause-spelled g c = λ bytes tells. (
+    let len = front-length (g.F.Folder.files c.args.folder.now) c.args.name.now bytes c.args.length tells in
+    let within : c.args.at + 9 ≤ c.args.length = omega (arith, c.requires.within, c.if-length-at.false) in
+    let fits : c.args.at + 9 + c.in-Ok.frame.1 ≤ c.args.length = omega (arith, within, c.if-length-body.false) in
+    let later = subst (λ (t : Option Files). TellsFront t c.args.name.now c.args.length bytes) (sym c.in-Ok.ensures.reads.same_files) tells in
+    step-read-at (place_view c.args.place) (place_view c.in-Some.place) bytes c.args.at c.in-Ok.frame.0 c.in-Ok.frame.1 c.in-Ok-read_body.read c.read_body.new.buffer
+    (sym c.in-Some.ensures) (omega (arith, len, fits)) (c.in-Ok.ensures.spelled c.args.length bytes tells within) c.in-Ok-read_body.ensures.is (c.in-Ok-read_body.ensures.body c.args.length bytes later fits))
+
+pub returns-then-length-at-clause-spelled : goal.returns-then-length-at-clause-spelled
+returns-then-length-at-clause-spelled g c = λ bytes tells. tt
+
+pub returns-in-Err-clause-spelled : goal.returns-in-Err-clause-spelled
+returns-in-Err-clause-spelled g c = λ bytes tells. tt
+
+pub returns-then-length-body-clause-spelled : goal.returns-then-length-body-clause-spelled
+returns-then-length-body-clause-spelled g c = λ bytes tells. tt
+
+pub returns-in_default-clause-spelled : goal.returns-in_default-clause-spelled
+returns-in_default-clause-spelled g c = λ bytes tells. tt
+
+pub returns-in-Err-read_body-clause-spelled : goal.returns-in-Err-read_body-clause-spelled
+returns-in-Err-read_body-clause-spelled g c = λ bytes tells. tt
 
 pub returns-then-length-at-clause-reads : goal.returns-then-length-at-clause-reads
 returns-then-length-at-clause-reads g c = grind (arith, common_steps)

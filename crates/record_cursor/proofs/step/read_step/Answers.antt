@@ -34,6 +34,18 @@ returns-in-Err-clause-only g c = λ bytes rest i t tells e. (
     PullsAtMost-more 8 (read_for (place_view c.args.place) i) (numbers c.args.folder.now) (numbers c.read_tail.new.folder)
     (tail-most (place_view c.args.place) t c.in-Tail.size (drop c.args.at bytes) rest i (ap place_view c.in-Tail.is) e) c.in-Err.ensures.few)
 
+pub returns-in-Nodes-clause-spelled : goal.returns-in-Nodes-clause-spelled
+returns-in-Nodes-clause-spelled g c = c.read_record.ensures.spelled
+
+pub returns-in-Ok-clause-spelled : goal.returns-in-Ok-clause-spelled
+returns-in-Ok-clause-spelled g c = λ bytes tells. tt
+
+pub returns-in-Err-clause-spelled : goal.returns-in-Err-clause-spelled
+returns-in-Err-clause-spelled g c = λ bytes tells. tt
+
+pub returns-in-Finished-clause-spelled : goal.returns-in-Finished-clause-spelled
+returns-in-Finished-clause-spelled g c = λ bytes tells. tt
+
 pub returns-in-Nodes-clause-reads : goal.returns-in-Nodes-clause-reads
 returns-in-Nodes-clause-reads g c = grind (arith, common_steps)
 

@@ -1,16 +1,18 @@
-use Rattle.std.proofs.Common.{◌≡◌, ℕ, ◌-◌, List, ◌∷◌, drop, string_bytes, Some, None, refl, sym, ap, subst, ◌∙◌}
+use Rattle.std.proofs.Common.{◌≡◌, ℕ, ◌+◌, ◌-◌, List, ◌∷◌, drop, string_bytes, Some, None, refl, sym, ap, subst, ◌∙◌}
 use Rattle.std.specs.Prelude.{length}
 use Rattle.std.specs.Option.{option_map}
 use Rattle.xa_outside.specs.Numbers.{PullsAtMost, after_pull}
 use Rattle.record_cursor.specs.Faults.{IfDamage}
 use Rattle.record_cursor.specs.Items.{PlainItem}
 use Rattle.record_cursor.specs.Moves.{TellsFront, Comes, Goes}
-use Rattle.record_cursor.specs.Next.{next_of, read_for}
+use Rattle.record_cursor.specs.Next.{next_of, size_of, read_for}
 use Rattle.record_cursor.specs.Places.{Standing}
-use Rattle.record_cursor.specs.Steps.{IsRead, read_item}
+use Rattle.record_cursor.specs.Spelled.{IsSpelled}
+use Rattle.record_cursor.specs.Steps.{IsRead, IsLent, read_item}
 use Rattle.record_cursor.specs.View.{PlainCursor, place_view, shown_item}
 use Rattle.record_cursor.proofs.Fills.{damage-map}
 use Rattle.record_cursor.proofs.ItemLaws.{PullsComing, pulls-coming, comes-some, no-end}
+use Rattle.record_cursor.proofs.SpelledLaws.{item-spelled}
 use Rattle.record_cursor.proofs.cursor.Cursor.next.Goals as goal
 
 pub returns-in-Some : goal.returns-in-Some
@@ -25,6 +27,7 @@ returns-in-Some g c =
     let buffer : List ℕ = c.read_step.new.buffer in
     let is : IsRead c.in-Ok.step.read (length c.read_step.new.buffer) i = subst (λ (n : ℕ). IsRead c.in-Ok.step.read n i) (ap length c.as_slice.ensures.value) c.in-Some.ensures.is in
     let read : read_item c.in-Ok.step.read buffer ≡ Some i = ap (read_item c.in-Ok.step.read) (sym c.as_slice.ensures.value) ∙ sym c.in-Some.ensures.found in
+    let lent : IsLent c.in-Ok.step.read buffer i = subst (λ (bs : List ℕ). IsLent c.in-Ok.step.read bs i) c.as_slice.ensures.value c.in-Some.ensures.spelled in
     let leads = e.leads i is in
     let new : PlainCursor = record { name = string_bytes inside.name; length = inside.length; standing = t; at = c.in-Ok.step.at } in
     let goes : Goes told c.args.self.now c.in-Some.item new = subst (λ (old : PlainCursor). Goes told old c.in-Some.item new) c.self.view_is (record {
@@ -51,6 +54,10 @@ returns-in-Some g c =
         undamaged = λ i is h. tt;
         again = λ stands. refl;
         damage = λ bytes tells. tt;
+        spelled = subst (λ (v : PlainCursor). (bytes : List ℕ) → TellsFront told v.name v.length bytes → IsSpelled v.standing i (drop v.at bytes) (drop (v.at + size_of v.standing i) bytes)) c.self.view_is (λ bytes tells. (
+            let named : TellsFront told c.as_str-name.result.now inside.length bytes = subst (λ (n : List ℕ). TellsFront told n inside.length bytes) (sym c.as_str-name.ensures.value) tells in
+            let comes = e.told bytes named ∙ ap (option_map (λ (x : PlainItem). (x, (t, drop c.in-Ok.step.at bytes)))) read in
+            subst (λ (n : ℕ). IsSpelled s i (drop inside.at bytes) (drop n bytes)) leads.moved (item-spelled s t c.in-Ok.step.read buffer i (drop inside.at bytes) (drop c.in-Ok.step.at bytes) lent (e.spelled bytes named) comes)));
       },
     )
 
@@ -79,6 +86,7 @@ returns-in-None g c =
         damage = subst (λ (v : PlainCursor). (bytes : List ℕ) → TellsFront told v.name v.length bytes → next_of v.standing (drop v.at bytes) ≡ None) c.self.view_is (λ bytes tells. (
             let named : TellsFront told c.as_str-name.result.now inside.length bytes = subst (λ (n : List ℕ). TellsFront told n inside.length bytes) (sym c.as_str-name.ensures.value) tells in
             e.told bytes named ∙ ap (option_map (λ (x : PlainItem). (x, (place_view c.in-Ok.step.place, drop c.in-Ok.step.at bytes)))) read));
+        spelled = λ bytes tells. tt;
       },
     )
 
@@ -105,5 +113,6 @@ returns-in-Err g c =
         damage = subst (λ (v : PlainCursor). (bytes : List ℕ) → TellsFront told v.name v.length bytes → IfDamage c.in-Err.fault (next_of v.standing (drop v.at bytes) ≡ None)) c.self.view_is (λ bytes tells. (
             let named : TellsFront told c.as_str-name.result.now inside.length bytes = subst (λ (n : List ℕ). TellsFront told n inside.length bytes) (sym c.as_str-name.ensures.value) tells in
             e.told bytes named));
+        spelled = λ bytes tells. tt;
       },
     )
