@@ -1,20 +1,24 @@
 -- A header is read from its own bytes alone.
-use Rattle.std.proofs.Common.{◌≡◌, ℕ, ◌+◌, ◌-◌, ◌<◌, ◌≤◌, Bool, true, false, cond, ltb, leb, List, [], ◌++◌, length, take, drop, Option, Some, None, refl, sym, ap, ◌∙◌, arith, length-take-le, length-drop, drop-drop}
+use Rattle.std.proofs.Common.{◌≡◌, ℕ, ◌+◌, ◌-◌, ◌<◌, ◌≤◌, ◌^◌, Bool, true, false, cond, ltb, leb, List, [], ◌++◌, length, take, drop, Option, Some, None, Result, Ok, Err, refl, sym, ap, subst, ◌∙◌, append_assoc, arith, length-take-le, length-drop, drop-drop}
 use Rattle.std.specs.Option.{option_map}
 use Rattle.std.specs.Prelude.{bytes_eq}
 use Rattle.std.specs.Int.{w32, from_be_bytes}
 use Rattle.std.proofs.lemmas.Bool.{le-ltb, ltb-false}
-use Rattle.std.proofs.lemmas.List.{drop-take, length-take}
+use Rattle.std.proofs.lemmas.List.{append-nil, drop_all, drop-take, length-take, take-append-drop}
+use Rattle.std.proofs.lemmas.Slice.Eq.{bytes_eq-Decides}
 use Rattle.std.proofs.Math.Seq.{take-add}
-use Rattle.key_spec.specs.Data.{PlainRule}
-use Rattle.key_spec.specs.Canonical.{spelled_by}
+use Rattle.key_spec.specs.Data.{PlainRule, PlainSpecFault}
+use Rattle.key_spec.specs.Canonical.{canonical, spelled_by}
 use Rattle.key_spec.specs.Closed.{closed}
 use Rattle.xa_fields.specs.Reading.{Reader, ◌>>=◌, number_at, both_at, only_at}
+use Rattle.xa_fields.specs.Laws.{IsBytes}
+use Rattle.xa_fields.specs.Spelling.{u32_bytes, text_bytes}
+use Rattle.xa_fields.proofs.Fields.{IsBytes-drop, u32_reads}
 use Rattle.xa_fields.specs.FieldLaws.{bind_some, guard_some, number-there, some_is}
 use Rattle.xa_outside.specs.Numbers.{Numbers, PullsAtMost}
 use Rattle.xa_outside.specs.NumberLaws.{PullsAtMost-more, PullsAtMost-trans}
 use Rattle.record_parts.specs.Bounds.{most}
-use Rattle.record_format.specs.Files.{magic}
+use Rattle.record_format.specs.Files.{magic, header_bytes}
 use Rattle.record_format.specs.Fronts.{bytes_at, front_at, header_at, header}
 use Rattle.record_cursor.specs.Steps.{HasText}
 use Rattle.record_cursor.proofs.Fills.{take-front}
@@ -126,11 +130,13 @@ pub record Header (bytes : List ℕ) (x : (List PlainRule × ℕ) × List ℕ) :
   pub text : ℕ
   pub stands : number_at w32 (drop 6 bytes) ≡ Some (text, drop 10 bytes)
   pub within : 14 + text ≤ length bytes
+  pub marked : take 6 bytes ≡ magic
+  pub counted : number_at w32 (drop (10 + text) bytes) ≡ Some (x.0.1, x.1)
   pub behind : x.1 ≡ drop (14 + text) bytes
   pub spelled : spelled_by (take text (drop 10 bytes)) (closed (take text (drop 10 bytes))) ≡ Some x.0.0
 
-passed : {A : Type 0} (b : Bool) (r : Option A) (y : A) → cond b r None ≡ Some y → r ≡ Some y
-passed true r y e = e
+passed : {A : Type 0} (b : Bool) (r : Option A) (y : A) → cond b r None ≡ Some y → (b ≡ true) × (r ≡ Some y)
+passed true r y e = (refl, e)
 passed false r y e = absurd cc
 
 -- the bytes of a text, with what stands behind it
@@ -164,14 +170,17 @@ header-is bytes x e =
     let f = bind_some front (λ f. spelled_by f.0.0 (closed f.0.0) >>= λ rules. Some ((rules, f.0.1), f.1)) x e in
     let s = bind_some (spelled_by f.0.0.0 (closed f.0.0.0)) (λ rules. Some ((rules, f.0.0.1), f.0.1)) x f.2 in
     let inner = passed (bytes_eq (take 6 bytes) magic) (bytes_at d >>= λ a. (number_at w32 a.1 >>= λ n. cond (leb n.0 most) (Some n) None) >>= λ b. Some ((a.0, b.0), b.1)) f.0 f.1 in
-    let a = bind_some (bytes_at d) (λ a. (number_at w32 a.1 >>= λ n. cond (leb n.0 most) (Some n) None) >>= λ b. Some ((a.0, b.0), b.1)) f.0 inner in
+    let a = bind_some (bytes_at d) (λ a. (number_at w32 a.1 >>= λ n. cond (leb n.0 most) (Some n) None) >>= λ b. Some ((a.0, b.0), b.1)) f.0 inner.1 in
     let t = text-is d a.0 a.1 in
     let b = bind_some (number_at w32 a.0.1 >>= λ n. cond (leb n.0 most) (Some n) None) (λ b. Some ((a.0.0, b.0), b.1)) f.0 a.2 in
     let c = bind_some (number_at w32 a.0.1) (λ n. cond (leb n.0 most) (Some n) None) b.0 b.1 in
     let n = number-is a.0.1 c.0 c.1 in
-    let last : c.0 ≡ b.0 = some_is c.0 b.0 (passed (leb c.0.0 most) (Some c.0) b.0 c.2) in
+    let last : c.0 ≡ b.0 = some_is c.0 b.0 (passed (leb c.0.0 most) (Some c.0) b.0 c.2).1 in
     let text : f.0.0.0 ≡ take t.text (drop 10 bytes) = ap (λ (y : (List ℕ × ℕ) × List ℕ). y.0.0) (sym (some_is ((a.0.0, b.0.0), b.0.1) f.0 b.2)) ∙ ap (λ (y : List ℕ × List ℕ). y.0) (sym t.is) ∙ ap (take t.text) (drop-drop 4 6 bytes) in
     let more : a.0.1 ≡ drop t.text (drop 4 d) = ap (λ (y : List ℕ × List ℕ). y.1) (sym t.is) in
+    let ten : drop t.text (drop 4 d) ≡ drop (10 + t.text) bytes = ap (drop t.text) (drop-drop 4 6 bytes) ∙ drop-drop t.text 10 bytes in
+    let own : b.0 ≡ (x.0.1, x.1) =
+    ap (λ (y : (List ℕ × ℕ) × List ℕ). (y.0.1, y.1)) (some_is ((a.0.0, b.0.0), b.0.1) f.0 b.2) ∙ ap (λ (y : (List PlainRule × ℕ) × List ℕ). (y.0.1, y.1)) (some_is ((s.0, f.0.0.1), f.0.1) x s.2) in
     let behind : x.1 ≡ drop 4 a.0.1 =
     ap (λ (y : (List PlainRule × ℕ) × List ℕ). y.1) (sym (some_is ((s.0, f.0.0.1), f.0.1) x s.2)) ∙ ap (λ (y : (List ℕ × ℕ) × List ℕ). y.1) (sym (some_is ((a.0.0, b.0.0), b.0.1) f.0 b.2))
     ∙ ap (λ (y : ℕ × List ℕ). y.1) (sym last) ∙ ap (λ (y : ℕ × List ℕ). y.1) (sym n.is) in
@@ -181,9 +190,40 @@ header-is bytes x e =
       text = t.text;
       stands = t.stands ∙ ap (λ (y : List ℕ). Some (t.text, y)) (drop-drop 4 6 bytes);
       within = omega (arith, ap length more, length-drop t.text (drop 4 d), length-drop 4 d, length-drop 6 bytes);
+      marked = (bytes_eq-Decides (take 6 bytes) magic).0 inner.0;
+      counted = ap (number_at w32) (sym (more ∙ ten)) ∙ c.1 ∙ ap (λ (y : ℕ × List ℕ). Some y) (last ∙ own);
       behind = behind ∙ ap (drop 4) more ∙ ap (drop 4) (drop-drop t.text 4 d) ∙ drop-drop 4 (4 + t.text) d ∙ drop-drop (4 + t.text + 4) 6 bytes ∙ ap (λ (k : ℕ). drop k bytes) (omega arith);
       spelled = ap (λ (y : List ℕ). spelled_by y (closed y)) (sym text) ∙ s.1 ∙ ap (λ (y : (List PlainRule × ℕ) × List ℕ). Some y.0.0) (some_is ((s.0, f.0.0.1), f.0.1) x s.2);
     }
+
+-- ---- what is read of a header is spelled by the bytes
+
+own-text : (text : List ℕ) (answer : Result (List PlainRule) PlainSpecFault) (rules : List PlainRule) → spelled_by text answer ≡ Some rules → canonical rules ≡ text
+own-text text (Err f) rules e = absurd cc
+own-text text (Ok others) rules e =
+    let two = passed (bytes_eq (canonical others) text) (Some others) rules e in
+    ap canonical (sym (some_is others rules two.1)) ∙ (bytes_eq-Decides (canonical others) text).0 two.0
+
+header-spelled : (bytes : List ℕ) (x : (List PlainRule × ℕ) × List ℕ) → IsBytes bytes → header_at bytes ≡ Some x → (bytes ≡ header_bytes x.0.0 x.0.1 ++ x.1) × (length (canonical x.0.0) < 2 ^ 32)
+header-spelled bytes x fits e =
+    let h = header-is bytes x e in
+    let n = x.0.1 in
+    let text = take h.text (drop 10 bytes) in
+    let behind = drop (10 + h.text) bytes in
+    let within = h.within in
+    let size = u32_reads.takes (drop 6 bytes) (h.text, drop 10 bytes) (IsBytes-drop 6 bytes fits) h.stands in
+    let count = u32_reads.takes behind (n, x.1) (IsBytes-drop (10 + h.text) bytes fits) h.counted in
+    let len : length text ≡ h.text = length-take-le h.text (drop 10 bytes) (omega (arith, within, length-drop 10 bytes)) in
+    let own : canonical x.0.0 ≡ text = own-text text (closed text) x.0.0 h.spelled in
+    let fields : drop 6 bytes ≡ u32_bytes (length text) ++ (text ++ (u32_bytes n ++ x.1)) =
+    size.takes.parts ∙ ap (λ (z : List ℕ). u32_bytes h.text ++ z) (sym (take-append-drop h.text (drop 10 bytes)) ∙ ap (λ (z : List ℕ). text ++ z) (drop-drop h.text 10 bytes ∙ count.takes.parts))
+    ∙ ap (λ (k : ℕ). u32_bytes k ++ (text ++ (u32_bytes n ++ x.1))) (sym len) in
+    let joined : u32_bytes (length text) ++ (text ++ (u32_bytes n ++ x.1)) ≡ (text_bytes text ++ u32_bytes n) ++ x.1 =
+    sym (append_assoc (u32_bytes (length text)) text (u32_bytes n ++ x.1)) ∙ sym (append_assoc (text_bytes text) (u32_bytes n) x.1) in
+    (
+      sym (take-append-drop 6 bytes) ∙ (λ i. h.marked i ++ (fields ∙ joined) i) ∙ sym (append_assoc magic (text_bytes text ++ u32_bytes n) x.1) ∙ ap (λ (z : List ℕ). (magic ++ (text_bytes z ++ u32_bytes n)) ++ x.1) (sym own),
+      subst (λ (z : List ℕ). length z < 2 ^ 32) (sym own) (omega (arith, len, size.fits)),
+    )
 
 -- ---- bytes without a header
 
@@ -250,6 +290,36 @@ header-told bytes read first x h fits is e = header-front bytes first h fits ∙
 
 pub header-missing : (bytes read : List ℕ) (first : ℕ) → HasText bytes first → first ≤ length bytes → read ≡ take first bytes → header read ≡ None → header_at bytes ≡ None
 header-missing bytes read first h fits is e = header-front bytes first h fits ∙ read-none (header_at (take first bytes)) (drop first bytes) (ap header (sym is) ∙ e)
+
+-- nothing is left of the front behind a header
+header-all : (bytes : List ℕ) (first : ℕ) (x : List PlainRule × ℕ) (rest : List ℕ) → HasText bytes first → first ≤ length bytes → header_at (take first bytes) ≡ Some (x, rest) → rest ≡ []
+header-all bytes first x rest t fits e =
+    let h = header-is (take first bytes) (x, rest) e in
+    let d = drop 6 bytes in
+    let long : first ≡ 14 + t.text = t.length in
+    let len : length (take first bytes) ≡ first = length-take-le first bytes fits in
+    let apart : drop 6 (take first bytes) ≡ take (4 + (4 + t.text)) d = ap (λ (k : ℕ). drop 6 (take k bytes)) (long ∙ omega arith) ∙ drop-take 6 (4 + (4 + t.text)) bytes in
+    let there = number-is d (t.text, drop 10 bytes) t.stands in
+    let here = number-front d (4 + t.text) (omega (arith, length-drop 6 bytes)) in
+    let same : h.text ≡ from_be_bytes w32 (take 4 d) = ap (λ (y : ℕ × List ℕ). y.0) (some_is (h.text, drop 10 (take first bytes)) (from_be_bytes w32 (take 4 d), take (4 + t.text) (drop 4 d)) (sym h.stands ∙ ap (number_at w32) apart ∙ here)) in
+    let is : from_be_bytes w32 (take 4 d) ≡ t.text = ap (λ (y : ℕ × List ℕ). y.0) there.is in
+    h.behind ∙ drop_all (14 + h.text) (take first bytes) (omega (arith, len, same, is))
+
+read-header : (read : List ℕ) (x : List PlainRule × ℕ) → header read ≡ Some x → (rest : List ℕ) × (header_at read ≡ Some (x, rest))
+read-header read x e = found (header_at read) e
+  where
+    found : (o : Option ((List PlainRule × ℕ) × List ℕ)) → option_map (λ y. y.0) o ≡ Some x → (rest : List ℕ) × (o ≡ Some (x, rest))
+    found (Some y) e = (y.1, ap (λ (z : List PlainRule × ℕ). Some (z, y.1)) (some_is y.0 x e))
+    found None e = absurd cc
+
+-- the bytes of which the front was read
+pub stored-spelled : (bytes read : List ℕ) (first : ℕ) (x : List PlainRule × ℕ) → HasText bytes first → first ≤ length bytes → read ≡ take first bytes → IsBytes read → header read ≡ Some x → (bytes ≡ header_bytes x.0 x.1 ++ drop first bytes) × (length (canonical x.0) < 2 ^ 32)
+stored-spelled bytes read first x t fits is own e =
+    let r = read-header read x e in
+    let there = header-spelled read (x, r.0) own r.1 in
+    let none : r.0 ≡ [] = header-all bytes first x r.0 t fits (ap header_at (sym is) ∙ r.1) in
+    let front : take first bytes ≡ header_bytes x.0 x.1 = sym is ∙ there.0 ∙ ap (λ (z : List ℕ). header_bytes x.0 x.1 ++ z) none ∙ append-nil (header_bytes x.0 x.1) in
+    (sym (take-append-drop first bytes) ∙ ap (λ (z : List ℕ). z ++ drop first bytes) front, there.1)
 
 -- the front and the rest of a header
 pub joined : (bytes front rest : List ℕ) (first : ℕ) → front ≡ take 10 bytes → rest ≡ take (first - 10) (drop 10 bytes) → 10 ≤ first → front ++ rest ≡ take first bytes

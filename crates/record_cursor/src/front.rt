@@ -3,6 +3,7 @@ ghost use Rattle.std.specs.Prelude.{◌≡◌, ◌+◌, ◌-◌, ◌≤◌, ◌+
 ghost use Rattle.std.specs.FinMap as map;
 ghost use Rattle.key_spec.specs.Data.{PlainRule};
 ghost use Rattle.key_spec.specs.View.{spec_view};
+ghost use Rattle.xa_fields.specs.Laws.{IsBytes};
 ghost use Rattle.record_format.specs.Fronts.{header, header_at};
 ghost use Rattle.record_parts.specs.declared.limits.TheConstants.{MOST_VERSIONS};
 ghost use Rattle.xa_outside.specs.Causes.{Rose};
@@ -93,6 +94,10 @@ fn read_stored<F: Folder>(
         → TellsFront (F.files folder.old) name.now length bytes
         → header_at bytes ≡ Some ((rules, n), drop first bytes) → first ≤ length
         → PullsAtMost first (F.numbers folder.old) (F.numbers folder.new) }
+
+    // Where the file is told, the header was given for what its bytes spell.
+    ensures spelled { (bytes : List ℕ) → TellsFront (F.files folder.old) name.now length bytes
+        → IfOk result (λ h. IsHeaderAt (header_view h) bytes) }
 {
     let mut front = [0; FRONT];
     let first = match read_front(folder, name, length, &mut front) {
@@ -233,6 +238,7 @@ fn decode(alloc: Global, bytes: &[u8]) -> Result<(Spec, u32), CursorFault>
     ensures found { Finds (λ r. Some (spec_view r.0, r.1)) result (header bytes.now) }
     ensures few { IfOk result (λ r. r.1 ≤ MOST_VERSIONS) }
     ensures cause { IfErr result (λ e. IfFolder e ⊥) }
+    ensures bytes { OnOk result (IsBytes bytes.now) }
 {
     match take_header(alloc, bytes) {
         Ok((spec, versions, _)) => Ok((spec, versions)),

@@ -15,3 +15,6 @@ pub returns-in-Ok-clause-only : goal.returns-in-Ok-clause-only
 returns-in-Ok-clause-only g c = λ bytes rules n first tells stands fits. (
     let pulls = c.read_stored.ensures.only bytes rules n first (tells.0, c.in-Ok.ensures.reads.same_files ∙ tells.1, tells.2) stands fits in
     subst (λ (m : Numbers). PullsAtMost first m (g.F.Folder.numbers c.read_stored.new.folder)) c.in-Ok.ensures.numbers pulls)
+
+pub returns-in-Ok-clause-spelled : goal.returns-in-Ok-clause-spelled
+returns-in-Ok-clause-spelled g c = λ bytes tells. c.read_stored.ensures.spelled bytes (tells.0, c.in-Ok.ensures.reads.same_files ∙ tells.1, tells.2)

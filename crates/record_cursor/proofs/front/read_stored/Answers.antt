@@ -4,7 +4,7 @@ use Rattle.xa_outside.specs.NumberLaws.{PullsAtMost-more}
 use Rattle.record_format.specs.Fronts.{header, header_at}
 use Rattle.record_cursor.specs.Moves.{TellsFront}
 use Rattle.record_cursor.proofs.Fills.{front-length, no-damage, damage-map}
-use Rattle.record_cursor.proofs.Headers.{header-least, header-first, header-told, header-missing, pulled-all}
+use Rattle.record_cursor.proofs.Headers.{header-least, header-first, header-told, header-missing, stored-spelled, pulled-all}
 use Rattle.record_cursor.proofs.front.read_stored.Goals as goal
 
 pub returns-in-Err-clause-only : goal.returns-in-Err-clause-only
@@ -73,3 +73,12 @@ returns-clause-told g c = λ bytes tells. (
     let is = c.deref.ensures.value ∙ c.in-Ok-read_rest.ensures.told c.args.length bytes later fits front.0 in
     damage-map c.in-Err-decode.fault (header c.deref.result.now ≡ None) (header_at bytes ≡ None)
     (header-missing bytes c.deref.result.now c.in-Ok.first front.1 (omega (arith, len, fits)) is) c.in-Err-decode.ensures.found)
+
+pub returns-in-Ok-decode-clause-spelled : goal.returns-in-Ok-decode-clause-spelled
+returns-in-Ok-decode-clause-spelled g c = λ bytes tells. (
+    let len = front-length (g.F.Folder.files c.args.folder.now) c.args.name.now bytes c.args.length tells in
+    let front = c.in-Ok.ensures.told bytes tells in
+    let fits : c.in-Ok.first ≤ c.args.length = c.in-Ok.ensures.within.1 in
+    let later = subst (λ (t : Option Files). TellsFront t c.args.name.now c.args.length bytes) (sym c.in-Ok.ensures.reads.same_files) tells in
+    let is = c.deref.ensures.value ∙ c.in-Ok-read_rest.ensures.told c.args.length bytes later fits front.0 in
+    stored-spelled bytes c.deref.result.now c.in-Ok.first _ front.1 (omega (arith, len, fits)) is c.in-Ok-decode.ensures.bytes c.in-Ok-decode.ensures.found)
