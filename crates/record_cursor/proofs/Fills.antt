@@ -1,5 +1,5 @@
 -- What fills a buffer from the first bytes of a file.
-use Rattle.std.proofs.Common.{◌≡◌, ℕ, suc, ◌+◌, ◌-◌, ◌≤◌, ◌<◌, ◌^◌, true, leb, List, [], ◌∷◌, ◌++◌, length, take, drop, Option, Some, Result, Ok, Err, refl, sym, ap, ◌∙◌, arith, length-take-le, drop-drop, take_all, length-drop}
+use Rattle.std.proofs.Common.{◌≡◌, ℕ, suc, ◌+◌, ◌-◌, ◌≤◌, ◌<◌, ◌^◌, true, leb, List, [], ◌∷◌, ◌++◌, length, take, drop, Option, Some, Result, Ok, Err, sym, ap, ◌∙◌, arith, length-take-le, take_all}
 use Rattle.std.specs.Prelude.{slice_index_or, OnOk, IfErr}
 use Rattle.std.specs.Int.{w64}
 use Rattle.std.specs.FinMap as map

@@ -162,6 +162,13 @@ text-is d x e =
       is = (λ i. (take a.0.0 (sym rest i), drop a.0.0 (sym rest i))) ∙ some_is (take a.0.0 a.0.1, drop a.0.0 a.0.1) x g.1;
     }
 
+-- the number of versions, and the bytes behind it
+same-count : (b : ℕ × List ℕ) (text : List ℕ) (f : (List ℕ × ℕ) × List ℕ) (rules : List PlainRule) (x : (List PlainRule × ℕ) × List ℕ) → ((text, b.0), b.1) ≡ f → ((rules, f.0.1), f.1) ≡ x → b ≡ (x.0.1, x.1)
+same-count b text f rules x p q = ap (λ (y : (List ℕ × ℕ) × List ℕ). (y.0.1, y.1)) p ∙ ap (λ (y : (List PlainRule × ℕ) × List ℕ). (y.0.1, y.1)) q
+
+count-there : (bytes more : List ℕ) (at : ℕ) (c b : ℕ × List ℕ) (x : (List PlainRule × ℕ) × List ℕ) → more ≡ drop at bytes → number_at w32 more ≡ Some c → c ≡ b → b ≡ (x.0.1, x.1) → number_at w32 (drop at bytes) ≡ Some (x.0.1, x.1)
+count-there bytes more at c b x e read last own = ap (number_at w32) (sym e) ∙ read ∙ ap (λ (y : ℕ × List ℕ). Some y) (last ∙ own)
+
 pub header-is : (bytes : List ℕ) (x : (List PlainRule × ℕ) × List ℕ) → header_at bytes ≡ Some x → Header bytes x
 unfolding header_at front_at both_at only_at
 header-is bytes x e =
@@ -179,8 +186,7 @@ header-is bytes x e =
     let text : f.0.0.0 ≡ take t.text (drop 10 bytes) = ap (λ (y : (List ℕ × ℕ) × List ℕ). y.0.0) (sym (some_is ((a.0.0, b.0.0), b.0.1) f.0 b.2)) ∙ ap (λ (y : List ℕ × List ℕ). y.0) (sym t.is) ∙ ap (take t.text) (drop-drop 4 6 bytes) in
     let more : a.0.1 ≡ drop t.text (drop 4 d) = ap (λ (y : List ℕ × List ℕ). y.1) (sym t.is) in
     let ten : drop t.text (drop 4 d) ≡ drop (10 + t.text) bytes = ap (drop t.text) (drop-drop 4 6 bytes) ∙ drop-drop t.text 10 bytes in
-    let own : b.0 ≡ (x.0.1, x.1) =
-    ap (λ (y : (List ℕ × ℕ) × List ℕ). (y.0.1, y.1)) (some_is ((a.0.0, b.0.0), b.0.1) f.0 b.2) ∙ ap (λ (y : (List PlainRule × ℕ) × List ℕ). (y.0.1, y.1)) (some_is ((s.0, f.0.0.1), f.0.1) x s.2) in
+    let own = same-count b.0 a.0.0 f.0 s.0 x (some_is ((a.0.0, b.0.0), b.0.1) f.0 b.2) (some_is ((s.0, f.0.0.1), f.0.1) x s.2) in
     let behind : x.1 ≡ drop 4 a.0.1 =
     ap (λ (y : (List PlainRule × ℕ) × List ℕ). y.1) (sym (some_is ((s.0, f.0.0.1), f.0.1) x s.2)) ∙ ap (λ (y : (List ℕ × ℕ) × List ℕ). y.1) (sym (some_is ((a.0.0, b.0.0), b.0.1) f.0 b.2))
     ∙ ap (λ (y : ℕ × List ℕ). y.1) (sym last) ∙ ap (λ (y : ℕ × List ℕ). y.1) (sym n.is) in
@@ -191,7 +197,7 @@ header-is bytes x e =
       stands = t.stands ∙ ap (λ (y : List ℕ). Some (t.text, y)) (drop-drop 4 6 bytes);
       within = omega (arith, ap length more, length-drop t.text (drop 4 d), length-drop 4 d, length-drop 6 bytes);
       marked = (bytes_eq-Decides (take 6 bytes) magic).0 inner.0;
-      counted = ap (number_at w32) (sym (more ∙ ten)) ∙ c.1 ∙ ap (λ (y : ℕ × List ℕ). Some y) (last ∙ own);
+      counted = count-there bytes a.0.1 (10 + t.text) c.0 b.0 x (more ∙ ten) c.1 last own;
       behind = behind ∙ ap (drop 4) more ∙ ap (drop 4) (drop-drop t.text 4 d) ∙ drop-drop 4 (4 + t.text) d ∙ drop-drop (4 + t.text + 4) 6 bytes ∙ ap (λ (k : ℕ). drop k bytes) (omega arith);
       spelled = ap (λ (y : List ℕ). spelled_by y (closed y)) (sym text) ∙ s.1 ∙ ap (λ (y : (List PlainRule × ℕ) × List ℕ). Some y.0.0) (some_is ((s.0, f.0.0.1), f.0.1) x s.2);
     }
@@ -219,8 +225,7 @@ header-spelled bytes x fits e =
     size.takes.parts ∙ ap (λ (z : List ℕ). u32_bytes h.text ++ z) (sym (take-append-drop h.text (drop 10 bytes)) ∙ ap (λ (z : List ℕ). text ++ z) (drop-drop h.text 10 bytes ∙ count.takes.parts))
     ∙ ap (λ (k : ℕ). u32_bytes k ++ (text ++ (u32_bytes n ++ x.1))) (sym len) in
     let joined : u32_bytes (length text) ++ (text ++ (u32_bytes n ++ x.1)) ≡ (text_bytes text ++ u32_bytes n) ++ x.1 =
-    sym (append_assoc (u32_bytes (length text)) text (u32_bytes n ++ x.1)) ∙ sym (append_assoc (text_bytes text) (u32_bytes n) x.1) in
-    (
+    sym (append_assoc (u32_bytes (length text)) text (u32_bytes n ++ x.1)) ∙ sym (append_assoc (text_bytes text) (u32_bytes n) x.1) in (
       sym (take-append-drop 6 bytes) ∙ (λ i. h.marked i ++ (fields ∙ joined) i) ∙ sym (append_assoc magic (text_bytes text ++ u32_bytes n) x.1) ∙ ap (λ (z : List ℕ). (magic ++ (text_bytes z ++ u32_bytes n)) ++ x.1) (sym own),
       subst (λ (z : List ℕ). length z < 2 ^ 32) (sym own) (omega (arith, len, size.fits)),
     )

@@ -1,5 +1,5 @@
 -- What was read is what is spelled there.
-use Rattle.std.proofs.Common.{◌≡◌, ℕ, ◌+◌, ◌<◌, ◌≤◌, ◌^◌, IsTrue, List, [], ◌∷◌, ◌++◌, length, take, drop, Option, Some, refl, sym, ap, subst, ◌∙◌, append_assoc, arith, drop-drop, length-drop, length-take-le}
+use Rattle.std.proofs.Common.{◌≡◌, ℕ, ◌+◌, ◌<◌, ◌≤◌, ◌^◌, IsTrue, List, [], ◌∷◌, ◌++◌, length, take, drop, Some, refl, sym, ap, subst, ◌∙◌, append_assoc, arith, drop-drop, length-drop, length-take-le}
 use Rattle.std.specs.Prelude.{bytes_eq}
 use Rattle.std.proofs.lemmas.List.{nil_from_length, take-append-drop}
 use Rattle.std.proofs.lemmas.Slice.Eq.{bytes_eq-Decides}
@@ -12,7 +12,7 @@ use Rattle.record_format.specs.Data.{PlainRec, inner_rec, leaf_rec, alt_rec, end
 use Rattle.record_format.specs.Reading.{record_of}
 use Rattle.record_format.specs.Spelling.{framed, rec_bytes}
 use Rattle.record_format.specs.Whole.{has_parts, with_parts}
-use Rattle.record_cursor.specs.Items.{PlainItem, leaf_end_item, end_item, finish, item_of}
+use Rattle.record_cursor.specs.Items.{PlainItem, finish, item_of}
 use Rattle.record_cursor.specs.Places.{Standing, among_nodes, in_leaf, behind_root, finished, after_item}
 use Rattle.record_cursor.specs.Next.{tail_at, next_of}
 use Rattle.record_cursor.specs.Spelled.{IsSpelled, IsTailAt}

@@ -1,4 +1,4 @@
-use Rattle.std.proofs.Common.{◌≡◌, ℕ, List, ◌∷◌, ◌++◌, drop, ap, ◌∙◌, drop-drop}
+use Rattle.std.proofs.Common.{ℕ, List, ◌∷◌, ◌++◌, drop, ap, ◌∙◌, drop-drop}
 use Rattle.xa_fields.specs.Spelling.{u64_bytes}
 use Rattle.record_cursor.proofs.Fills.{filled-from, never-short, frame-there, frame-of}
 use Rattle.record_cursor.proofs.step.read_frame.Goals as goal
