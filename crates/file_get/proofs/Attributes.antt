@@ -17,7 +17,7 @@ use Rattle.record_parts.specs.Shown.{shown_name}
 use Rattle.keyed_tree.specs.Proper.{is_tag, is_scalar}
 use Rattle.archive_tree.specs.Data.{PlainAlt, PlainNode, leaf_node, node_label, eff}
 use Rattle.archive_tree.specs.Read.{read, body_at}
-use Rattle.record_format.specs.Seen.{alts_seen, node_steps}
+use Rattle.record_format.specs.Seen.{node_steps}
 use Rattle.record_format.specs.Data.{leaf_end}
 use Rattle.record_format.specs.Nodes.{set_in}
 use Rattle.record_format.specs.Spelling.{rec_bytes}
@@ -39,6 +39,7 @@ use Rattle.file_get.proofs.LentContents.{content-read}
 use Rattle.file_get.proofs.Pens.{stands-attribute}
 use Rattle.file_get.proofs.States.{walks-none, walks-then, walks-damage, shows-then}
 use Rattle.file_get.proofs.States as states
+use Rattle.file_get.specs.Searched.{alts_read}
 
 -- what is answered after an output, of a node that is no element
 abbrev pub printed_by : {T : Type 0} → Result T Failed → Result Bool GetFault
@@ -58,7 +59,7 @@ module _ {S K : Type 0} (files : S → Option Files) (draft : S → Option (List
   at = states.at files draft numbers faults taken out_faults
 
   abbrev pub Tells : S → S → (List (ℕ × ℕ) → List PlainAlt → Type 0) → Type 0
-  Tells old new P = (last : ℕ) (bytes more : List ℕ) (set : List (ℕ × ℕ)) (xs : List PlainAlt) → AltsTold i (files old) name bytes last o.behind child.end set xs more → P set xs × PullsAtMost (alts_seen i set xs) (numbers old) (numbers new)
+  Tells old new P = (last : ℕ) (bytes more : List ℕ) (set : List (ℕ × ℕ)) (xs : List PlainAlt) → AltsTold i (files old) name bytes last o.behind child.end set xs more → P set xs × PullsAtMost (alts_read i set xs) (numbers old) (numbers new)
 
   -- where an attribute may not come, the node is none in a sound file
   pub attr-refused : (f : S) (k : K) (p : Pen) (n : ℕ) (has_item : Bool) → IsMeter (numbers f) → shown_name o.name ≡ attr text → (o.is_inner ≡ false → nat_lt 0 depth ≡ true → has_item ≡ false → ⊥)
@@ -84,13 +85,10 @@ module _ {S K : Type 0} (files : S → Option Files) (draft : S → Option (List
         let x' = subst (NodeOpened i (files old) name bytes end child o depth has_item parent) l.is x in
         let y = told end bytes (rec_bytes leaf_end) (set_in l.stamp parent) l.alts (alts-told i (files old) name bytes end child o depth has_item parent (record { name = attr text; keys = l.keys }) l.stamp l.alts x') in (
           subst (λ (m : PlainNode). Shows (kid_calls (read i (members parent) m)) (inside_seen i parent m) (node_steps i parent m) (at old k p n) (at new k p n) (Some (of_cursor e))) (sym l.is)
-              (states.shows-unread files draft numbers faults taken out_faults old new k p n n (alts_seen i (set_in l.stamp parent) l.alts + 9) 0 e (kid_calls (read i (members parent) (leaf_node (record { name = attr text; keys = l.keys }) l.stamp l.alts))) y.0 (omega arith) (more y.1)),
+              (states.shows-unread files draft numbers faults taken out_faults old new k p n n (alts_read i (set_in l.stamp parent) l.alts) 0 e (kid_calls (read i (members parent) (leaf_node (record { name = attr text; keys = l.keys }) l.stamp l.alts))) y.0 (omega arith) y.1),
           tt,
         ));
   }
-    where
-      more : {a b : Numbers} {m : ℕ} → PullsAtMost m a b → PullsAtMost (m + 9) a b
-      more h = (let w = h.within in record { count = h.count; within = omega (arith, w); pulled = h.pulled })
 
   no-scalar : (b : PlainKey) → is_scalar b ≡ false → is_scalar b ≡ true → ⊥
   no-scalar b lacks is = let f : false ≡ true = sym lacks ∙ is in cc
@@ -141,12 +139,12 @@ module _ {S K : Type 0} (files : S → Option Files) (draft : S → Option (List
             let lab : PlainLabel = record { name = attr text; keys = l.keys } in
             let x' = subst (NodeOpened i (files old) name bytes end child o depth false parent) l.is x in
             let y = told end bytes (rec_bytes leaf_end) (set_in l.stamp parent) l.alts (alts-told i (files old) name bytes end child o depth false parent lab l.stamp l.alts x') in
-            let m = alts_seen i (set_in l.stamp parent) l.alts in
+            let m = alts_read i (set_in l.stamp parent) l.alts in
             let known = states.shows-read files draft numbers faults taken out_faults old new a p n n m 0 (omega arith) y.1 in
-            let both = shows-then s t u e [] calls m 0 (m + 9) 0 0 0 (omega arith) (omega arith) known show in
+            let both = shows-then s t u e [] calls m 0 m 0 0 0 (omega arith) (omega arith) known show in
             let same-body : scalar v ≡ body_at i (eff l.stamp (members parent)) l.alts = some_is (scalar v) (body_at i (members (set_in l.stamp parent)) l.alts) (sym is-body ∙ y.0) ∙ ap (λ (ns : List ℕ). body_at i ns l.alts) (sym (eff-members l.stamp parent)) in
             let same : calls ≡ kid_calls (read i (members parent) (leaf_node lab l.stamp l.alts)) = ap (λ (d : PlainKey). leaf_calls (attr text) d (calls_of (plain (leaf lab d)))) same-body in (
-              subst (λ (w : PlainNode). Shows (kid_calls (read i (members parent) w)) (inside_seen i parent w) (node_steps i parent w) s u e) (sym l.is) (subst (λ (cs : List Call). Shows cs (m + 9) 0 s u e) same both),
+              subst (λ (w : PlainNode). Shows (kid_calls (read i (members parent) w)) (inside_seen i parent w) (node_steps i parent w) s u e) (sym l.is) (subst (λ (cs : List Call). Shows cs m 0 s u e) same both),
               one (node_label j).name r (ap (λ (w : PlainNode). is_tag (node_label w).name) l.is),
             ));
       })

@@ -28,7 +28,6 @@ use Rattle.record_parts.specs.Spelling.{stamp_bytes, value_bytes}
 use Rattle.record_parts.specs.Parts.{set_reads}
 use Rattle.record_format.specs.Bounds.{IsRec}
 use Rattle.record_format.specs.Nodes.{alt_of, set_in}
-use Rattle.record_format.specs.Seen.{alts_seen}
 use Rattle.record_format.specs.Spelling.{body_bytes, rec_bytes}
 use Rattle.record_format.proofs.Pieces.{rec-length}
 use Rattle.record_cursor.specs.Moves.{TellsFront}
@@ -45,6 +44,7 @@ use Rattle.std.proofs.lemmas.List.{drop_all}
 use Rattle.file_get.proofs.Openings.{body-stands}
 use Rattle.file_get.specs.LeafBodies.{whole_inside, body_view, body_found}
 use Rattle.file_get.specs.declared.value.Body.{Body}
+use Rattle.file_get.specs.Searched.{alts_read, searched, stamp_read}
 
 -- ---- a list of alternatives
 
@@ -89,11 +89,16 @@ body-first i set x xs h = ap (λ b. cond b x.body (body_at i (members set) xs)) 
 pub body-others : (i : ℕ) (set : List (ℕ × ℕ)) (x : PlainAlt) (xs : List PlainAlt) → has (members (set_in x.stamp set)) i ≡ false → body_at i (members set) (x ∷ xs) ≡ body_at i (members set) xs
 body-others i set x xs h = ap (λ b. cond b x.body (body_at i (members set) xs)) (eff-has i set x false h)
 
-pub seen-first : (i : ℕ) (set : List (ℕ × ℕ)) (x : PlainAlt) (xs : List PlainAlt) → has (members (set_in x.stamp set)) i ≡ true → alts_seen i set (x ∷ xs) ≡ 9 + length (stamp_bytes x.stamp) + length (rec_bytes (alt_of x)) + alts_seen i set xs
-seen-first i set x xs h = ap (λ b. 9 + length (stamp_bytes x.stamp) + cond b (length (rec_bytes (alt_of x))) 0 + alts_seen i set xs) h
+read-first : (i : ℕ) (set : List (ℕ × ℕ)) (x : PlainAlt) (xs : List PlainAlt) → has (members (set_in x.stamp set)) i ≡ true → alts_read i set (x ∷ xs) ≡ stamp_read x.stamp + length (value_bytes x.body)
+read-first i set x xs h = ap (λ b. stamp_read x.stamp + cond b (length (value_bytes x.body)) (alts_read i set xs)) h
 
-pub seen-some : (i : ℕ) (set : List (ℕ × ℕ)) (x : PlainAlt) (xs : List PlainAlt) → 9 + length (stamp_bytes x.stamp) + alts_seen i set xs ≤ alts_seen i set (x ∷ xs)
-seen-some i set x xs = omega arith
+read-others : (i : ℕ) (set : List (ℕ × ℕ)) (x : PlainAlt) (xs : List PlainAlt) → has (members (set_in x.stamp set)) i ≡ false → alts_read i set (x ∷ xs) ≡ stamp_read x.stamp + alts_read i set xs
+read-others i set x xs h = ap (λ b. stamp_read x.stamp + cond b (length (value_bytes x.body)) (alts_read i set xs)) h
+
+-- the first ten bytes of an alternative
+pub stamp-begun : (s : Stamp) → 10 ≤ stamp_read s
+stamp-begun None = omega arith
+stamp-begun (Some s) = omega arith
 
 -- ---- one alternative
 
@@ -118,13 +123,13 @@ pub record AltsLeft (i : ℕ) (files : Option Files) (name bytes : List ℕ) (la
   pub body : body_at i (members set) left ≡ body_at i (members set) xs
   pub pulled : ℕ
   pub pulls : PullsAtMost pulled old now
-  pub within : pulled + alts_seen i set left ≤ alts_seen i set xs
+  pub within : pulled + alts_read i set left ≤ alts_read i set xs
 
 -- what the reading of an alternative shows
 abbrev pub AltRead : ℕ → Option Files → List ℕ → ℕ → ℕ → Numbers → Numbers → Result Alternative CursorFault → Type 0
 AltRead i files name at end old now r = (last : ℕ) (bytes more : List ℕ) (set : List (ℕ × ℕ)) (x : PlainAlt) → TellsFront files name last bytes → end ≤ last
     → StandsAt bytes at (rec_bytes (alt_of x) ++ more) → end ≡ at + length (rec_bytes (alt_of x) ++ more) → IsRec (alt_of x) → has (members set) i ≡ true
-    → Filled r (AltIs i at set x) × PullsAtMost (9 + length (stamp_bytes x.stamp)) old now
+    → Filled r (AltIs i at set x) × PullsAtMost (stamp_read x.stamp) old now
 
 -- what the reading of a value shows
 abbrev pub ValueRead : Option Files → List ℕ → ℕ → ℕ → (PlainKey → Type 0) → Type 0
@@ -134,28 +139,28 @@ module _ (i : ℕ) (files : Option Files) (name bytes : List ℕ) (last at end :
   pub starts : AltsTold i files name bytes last at end set xs more → IsMeter a → AltsLeft i files name bytes last at end set xs more a a
   starts h is = record { left = xs; told = h; body = refl; pulled = 0; pulls = PullsAtMost-none 0 a is; within = omega arith }
 
-  read-first : (x : PlainAlt) (ys : List PlainAlt) (r : Result Alternative CursorFault) → AltsTold i files name bytes last at end set (x ∷ ys) more → AltRead i files name at end b c r → Filled r (AltIs i at set x) × PullsAtMost (9 + length (stamp_bytes x.stamp)) b c
-  read-first x ys r h read =
+  shown-first : (x : PlainAlt) (ys : List PlainAlt) (r : Result Alternative CursorFault) → AltsTold i files name bytes last at end set (x ∷ ys) more → AltRead i files name at end b c r → Filled r (AltIs i at set x) × PullsAtMost (stamp_read x.stamp) b c
+  shown-first x ys r h read =
       let rs = h.records in
       read last bytes (alts_bytes ys ++ more) set x h.tells h.within (first-stands i files name bytes last at end set x ys more h) (first-ends i files name bytes last at end set x ys more h) rs.0 h.has
 
   -- an alternative was not read
-  fails-at : (ys : List PlainAlt) (n : ℕ) (e : CursorFault) → AltsTold i files name bytes last at end set ys more → n + alts_seen i set ys ≤ alts_seen i set xs → PullsAtMost n a b → AltRead i files name at end b c (Err e)
-      → Filled {T = ℕ} (Err e) (λ _. ⊥) × PullsAtMost (alts_seen i set xs) a c
+  fails-at : (ys : List PlainAlt) (n : ℕ) (e : CursorFault) → AltsTold i files name bytes last at end set ys more → n + alts_read i set ys ≤ alts_read i set xs → PullsAtMost n a b → AltRead i files name at end b c (Err e)
+      → Filled {T = ℕ} (Err e) (λ _. ⊥) × PullsAtMost (alts_read i set xs) a c
   fails-at [] n e h fits p read = absurd (let s = h.some in cc)
   fails-at (x ∷ ys) n e h fits p read =
-      let r = read-first x ys (Err e) h read in
-      (r.0, PullsAtMost-more (n + (9 + length (stamp_bytes x.stamp))) (alts_seen i set xs) a c (omega (arith, fits, seen-some i set x ys)) (PullsAtMost-trans n (9 + length (stamp_bytes x.stamp)) a b c p r.1))
+      let r = shown-first x ys (Err e) h read in
+      (r.0, PullsAtMost-more (n + stamp_read x.stamp) (alts_read i set xs) a c (omega (arith, fits)) (PullsAtMost-trans n (stamp_read x.stamp) a b c p r.1))
 
-  pub fails : (e : CursorFault) → AltsLeft i files name bytes last at end set xs more a b → AltRead i files name at end b c (Err e) → Filled {T = ℕ} (Err e) (λ _. ⊥) × PullsAtMost (alts_seen i set xs) a c
+  pub fails : (e : CursorFault) → AltsLeft i files name bytes last at end set xs more a b → AltRead i files name at end b c (Err e) → Filled {T = ℕ} (Err e) (λ _. ⊥) × PullsAtMost (alts_read i set xs) a c
   fails e h read = fails-at h.left h.pulled e h.told h.within h.pulls read
 
   -- an alternative was passed
-  passes-at : (ys : List PlainAlt) (n : ℕ) (f : Alternative) (now : Option Files) → now ≡ files → AltsTold i files name bytes last at end set ys more → body_at i (members set) ys ≡ body_at i (members set) xs → n + alts_seen i set ys ≤ alts_seen i set xs → PullsAtMost n a b
+  passes-at : (ys : List PlainAlt) (n : ℕ) (f : Alternative) (now : Option Files) → now ≡ files → AltsTold i files name bytes last at end set ys more → body_at i (members set) ys ≡ body_at i (members set) xs → n + alts_read i set ys ≤ alts_read i set xs → PullsAtMost n a b
       → AltRead i files name at end b c (Ok f) → f.has ≡ false → AltsLeft i now name bytes last f.end end set xs more a c
   passes-at [] n f now same h body fits p read none = absurd (let s = h.some in cc)
   passes-at (x ∷ ys) n f now same h body fits p read none =
-      let r = read-first x ys (Ok f) h read in
+      let r = shown-first x ys (Ok f) h read in
       let is = r.0 in
       let lacks = sym is.has ∙ none in
       let o = others-told i files name bytes last at end set x ys more h lacks in
@@ -163,20 +168,20 @@ module _ (i : ℕ) (files : Option Files) (name bytes : List ℕ) (last at end :
         left = ys;
         told = subst (λ (t : ℕ). AltsTold i now name bytes last t end set ys more) (sym is.end) (subst (λ (z : Option Files). AltsTold i z name bytes last (at + length (rec_bytes (alt_of x))) end set ys more) (sym same) o);
         body = sym (body-others i set x ys lacks) ∙ body;
-        pulled = n + (9 + length (stamp_bytes x.stamp));
-        pulls = PullsAtMost-trans n (9 + length (stamp_bytes x.stamp)) a b c p r.1;
-        within = omega (arith, fits, seen-some i set x ys);
+        pulled = n + stamp_read x.stamp;
+        pulls = PullsAtMost-trans n (stamp_read x.stamp) a b c p r.1;
+        within = omega (arith, fits, read-others i set x ys lacks);
       }
 
   pub passes : (f : Alternative) (now : Option Files) → now ≡ files → AltsLeft i files name bytes last at end set xs more a b → AltRead i files name at end b c (Ok f) → f.has ≡ false → AltsLeft i now name bytes last f.end end set xs more a c
   passes f now same h read none = passes-at h.left h.pulled f now same h.told h.body h.within h.pulls read none
 
   -- the alternative that has the version
-  found-at : (ys : List PlainAlt) (n : ℕ) (f : Alternative) (now : Option Files) (d : Numbers) (Shown : PlainKey → Type 0) → now ≡ files → AltsTold i files name bytes last at end set ys more → body_at i (members set) ys ≡ body_at i (members set) xs → n + alts_seen i set ys ≤ alts_seen i set xs → PullsAtMost n a b
-      → AltRead i files name at end b c (Ok f) → f.has ≡ true → f.end ≤ end → ValueRead now name f.body f.end Shown → PullsAtMost (f.end - f.body) c d → Shown (body_at i (members set) xs) × PullsAtMost (alts_seen i set xs) a d
+  found-at : (ys : List PlainAlt) (n : ℕ) (f : Alternative) (now : Option Files) (d : Numbers) (Shown : PlainKey → Type 0) → now ≡ files → AltsTold i files name bytes last at end set ys more → body_at i (members set) ys ≡ body_at i (members set) xs → n + alts_read i set ys ≤ alts_read i set xs → PullsAtMost n a b
+      → AltRead i files name at end b c (Ok f) → f.has ≡ true → f.end ≤ end → ValueRead now name f.body f.end Shown → PullsAtMost (f.end - f.body) c d → Shown (body_at i (members set) xs) × PullsAtMost (alts_read i set xs) a d
   found-at [] n f now d Shown same h body fits p read some within value q = absurd (let s = h.some in cc)
   found-at (x ∷ ys) n f now d Shown same h body fits p read some within value q =
-      let r = read-first x ys (Ok f) h read in
+      let r = shown-first x ys (Ok f) h read in
       let is = r.0 in
       let rs = h.records in
       let has' = sym is.has ∙ some in
@@ -187,13 +192,13 @@ module _ (i : ℕ) (files : Option Files) (name bytes : List ℕ) (last at end :
       let stands = value-stands bytes at x (alts_bytes ys ++ more) first in
       let place : at + 9 + length (stamp_bytes x.stamp) ≡ f.body = omega (arith, at') in
       let shown = value last bytes x.body (subst (λ (z : Option Files). TellsFront z name last bytes) (sym same) h.tells) (omega (arith, w, within)) (subst (λ (t : ℕ). StandsAt bytes t (value_bytes x.body)) place stands) (omega (arith, behind, at', alt-length x)) (alt-parts x rs.0).1 in
-      let one : ℕ = 9 + length (stamp_bytes x.stamp) in (
+      let one = stamp_read x.stamp in (
         subst Shown (sym (body-first i set x ys has') ∙ body) shown,
-        PullsAtMost-more (n + one + (f.end - f.body)) (alts_seen i set xs) a d (omega (arith, fits, seen-first i set x ys has', behind, at', alt-length x)) (PullsAtMost-trans (n + one) (f.end - f.body) a c d (PullsAtMost-trans n one a b c p r.1) q),
+        PullsAtMost-more (n + one + (f.end - f.body)) (alts_read i set xs) a d (omega (arith, fits, read-first i set x ys has', behind, at', alt-length x)) (PullsAtMost-trans (n + one) (f.end - f.body) a c d (PullsAtMost-trans n one a b c p r.1) q),
       )
 
   pub found : (f : Alternative) (now : Option Files) (d : Numbers) (Shown : PlainKey → Type 0) → now ≡ files → AltsLeft i files name bytes last at end set xs more a b → AltRead i files name at end b c (Ok f) → f.has ≡ true → f.end ≤ end
-      → ValueRead now name f.body f.end Shown → PullsAtMost (f.end - f.body) c d → Shown (body_at i (members set) xs) × PullsAtMost (alts_seen i set xs) a d
+      → ValueRead now name f.body f.end Shown → PullsAtMost (f.end - f.body) c d → Shown (body_at i (members set) xs) × PullsAtMost (alts_read i set xs) a d
   found f now d Shown same h read some within value q = found-at h.left h.pulled f now d Shown same h.told h.body h.within h.pulls read some within value q
 
 -- ---- sets
@@ -319,18 +324,18 @@ alt-is i at behind set x r e h = record { has = h.0; body = h.1; end = e }
 -- what the reading of a set shows
 abbrev pub SetRead : ℕ → Option Files → List ℕ → ℕ → ℕ → Numbers → Numbers → Result (Bool × ℕ) CursorFault → Type 0
 SetRead i files name at end old now r = (last : ℕ) (bytes : List ℕ) (s : List (ℕ × ℕ)) → TellsFront files name last bytes → end ≤ last → StandsAt bytes at (set_bytes s) → at + length (set_bytes s) ≤ end → IsSet s
-    → Filled r (SetIs i (at + length (set_bytes s)) s) × PullsAtMost (length (set_bytes s)) old now
+    → Filled r (SetIs i (at + length (set_bytes s)) s) × PullsAtMost (4 + 8 * searched (length s)) old now
 
 module _ (i : ℕ) (files now : Option Files) (name bytes : List ℕ) (last at end : ℕ) (set : List (ℕ × ℕ)) where
   -- a timestamp that is stored
   pub stored-set : (s : Stamp) (a b c : Numbers) (r : Result (Bool × ℕ) CursorFault) → now ≡ files → TellsFront files name last bytes → end ≤ last → StandsAt bytes (at + 9) (stamp_bytes s) → at + 9 + length (stamp_bytes s) ≤ end → IsStamp s → true ≡ is_some s
-      → PullsAtMost 10 a b → SetRead i now name (at + 10) end b c r → Filled r (SetIs i (at + (9 + length (stamp_bytes s))) (set_in s set)) × PullsAtMost (9 + length (stamp_bytes s)) a c
+      → PullsAtMost 10 a b → SetRead i now name (at + 10) end b c r → Filled r (SetIs i (at + (9 + length (stamp_bytes s))) (set_in s set)) × PullsAtMost (stamp_read s) a c
   stored-set None a b c r same tells within stands fits is some p read = absurd cc
   stored-set (Some s) a b c r same tells within stands fits is some p read =
       let behind : at + 9 + 1 ≡ at + 10 = omega arith in
       let there : StandsAt bytes (at + 10) (set_bytes s) = subst (λ (n : ℕ). StandsAt bytes n (set_bytes s)) behind (stands-back bytes (at + 9) (1 ∷ []) (set_bytes s) stands) in
       let got = read last bytes s (subst (λ (z : Option Files). TellsFront z name last bytes) (sym same) tells) within there (omega (arith, fits)) is.0 in
-      (subst (λ n. Filled r (SetIs i n s)) (omega arith) got.0, PullsAtMost-more (10 + length (set_bytes s)) (9 + length (stamp_bytes (Some s))) a c (omega arith) (PullsAtMost-trans 10 (length (set_bytes s)) a b c p got.1))
+      (subst (λ n. Filled r (SetIs i n s)) (omega arith) got.0, PullsAtMost-more (10 + (4 + 8 * searched (length s))) (stamp_read (Some s)) a c (omega arith) (PullsAtMost-trans 10 (4 + 8 * searched (length s)) a b c p got.1))
 
 -- a timestamp that is inherited
 inherited-set : (i at : ℕ) (set : List (ℕ × ℕ)) (s : Stamp) → false ≡ is_some s → has (members set) i ≡ true → SetIs i (at + (9 + length (stamp_bytes s))) (set_in s set) (true, at + 10)

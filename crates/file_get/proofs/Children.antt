@@ -12,7 +12,7 @@ use Rattle.archive_tree.specs.Read.{read}
 use Rattle.record_format.specs.Bounds.{IsRec}
 use Rattle.record_format.specs.Data.{leaf_end}
 use Rattle.record_format.specs.Nodes.{piece_bytes, alt_of, closed_by_end, set_in, node_piece, node_pieces}
-use Rattle.record_format.specs.Seen.{node_seen, node_steps}
+use Rattle.record_format.specs.Seen.{node_steps}
 use Rattle.record_format.specs.Spelling.{rec_bytes}
 use Rattle.record_cursor.specs.Faults.{IfDamage}
 use Rattle.record_cursor.specs.Moves.{TellsFront}
@@ -30,6 +30,7 @@ use Rattle.file_get.specs.declared.read.Opening.{Opening}
 use Rattle.file_get.specs.declared.fault.GetFault.{GetFault}
 use Rattle.file_get.proofs.States.{walks-then, shows-then}
 use Rattle.file_get.proofs.States as states
+use Rattle.file_get.specs.Searched.{node_read}
 
 -- ---- opening records
 
@@ -52,7 +53,7 @@ leaf-closed parent (inner_node l s ks) dir h e = absurd cc
 leaf-closed parent (leaf_node l s xs) dir h e = h
 
 -- the bytes of a node that are looked at
-seen-apart : (i : ℕ) (parent : List (ℕ × ℕ)) (k : PlainNode) → length (rec_bytes (opening_rec k)) + inside_seen i parent k ≡ node_seen i parent k
+seen-apart : (i : ℕ) (parent : List (ℕ × ℕ)) (k : PlainNode) → length (rec_bytes (opening_rec k)) + inside_seen i parent k ≡ node_read i parent k
 seen-apart i parent (inner_node l s ks) = omega arith
 seen-apart i parent (leaf_node l s xs) = omega arith
 
@@ -79,7 +80,7 @@ module _ {S K : Type 0} (files : S → Option Files) (draft : S → Option (List
     stands = tt;
     shows = λ bytes end parent j x. (
         let y = found old new (λ j. IfDamage e ⊥) bytes end parent j told x in (
-          states.shows-unread files draft numbers faults taken out_faults old new k p n n (node_seen i parent j) (node_steps i parent j) e (kid_calls (read i (members parent) j)) y.0 (omega arith) (more (length (rec_bytes (opening_rec j))) (node_seen i parent j) (le parent j) y.1),
+          states.shows-unread files draft numbers faults taken out_faults old new k p n n (node_read i parent j) (node_steps i parent j) e (kid_calls (read i (members parent) j)) y.0 (omega arith) (more (length (rec_bytes (opening_rec j))) (node_read i parent j) (le parent j) y.1),
           tt,
         ));
   }
@@ -87,7 +88,7 @@ module _ {S K : Type 0} (files : S → Option Files) (draft : S → Option (List
       more : {a b : Numbers} (m l : ℕ) → m ≤ l → PullsAtMost m a b → PullsAtMost l a b
       more m l le h = (let w = h.within in record { count = h.count; within = omega (arith, le, w); pulled = h.pulled })
 
-      le : (parent : List (ℕ × ℕ)) (j : PlainNode) → length (rec_bytes (opening_rec j)) ≤ node_seen i parent j
+      le : (parent : List (ℕ × ℕ)) (j : PlainNode) → length (rec_bytes (opening_rec j)) ≤ node_read i parent j
       le parent j = (let e = seen-apart i parent j in omega (arith, e))
 
   -- the opening record was read, and what is behind it printed
@@ -108,7 +109,7 @@ module _ {S K : Type 0} (files : S → Option Files) (draft : S → Option (List
             let m = length (rec_bytes (opening_rec j)) in
             let known = states.shows-read files draft numbers faults taken out_faults old new k p n n m 0 (omega arith) y.1 in
             let seen = seen-apart i parent j in (
-              shows-then s t u (fault_of r) [] (kid_calls (read i (members parent) j)) m (inside_seen i parent j) (node_seen i parent j) 0 (node_steps i parent j) (node_steps i parent j) (omega (arith, seen)) (omega arith) known inner.0,
+              shows-then s t u (fault_of r) [] (kid_calls (read i (members parent) j)) m (inside_seen i parent j) (node_read i parent j) 0 (node_steps i parent j) (node_steps i parent j) (omega (arith, seen)) (omega arith) known inner.0,
               inner.1,
             ));
       })

@@ -19,7 +19,7 @@ use Rattle.xa_outside.specs.TakenLaws.{TakesNone-refl, TakesPrefix-none}
 use Rattle.jsonml_print.specs.Pen.{fresh}
 use Rattle.record_format.specs.Files.{header_bytes, file_records, root_pieces, tail_bytes}
 use Rattle.record_format.specs.Fronts.{fixed, header_at}
-use Rattle.record_format.specs.Seen.{seen}
+use Rattle.file_get.specs.Searched.{bytes_read}
 use Rattle.record_format.specs.Spelling.{rec_bytes}
 use Rattle.record_format.proofs.HeaderLaws.{header_again}
 use Rattle.record_cursor.specs.Faults.{IfDamage}
@@ -120,7 +120,7 @@ module _ {S O : Type 0} (files : S → Option Files) (draft : S → Option (List
   IsLong a = (fs : Files) → files a ≡ Some fs → front_of fs name size ≡ None → ⊥
 
   few-of : (i : ℕ) (c : PlainArchive) (s t : State) → PullsAtMost 22 s.numbers t.numbers → Few i c s t
-  few-of i c s t h = (λ is. PullsAtMost-more 22 (22 + seen c i) s.numbers t.numbers (omega arith) h, λ not. h)
+  few-of i c s t h = (λ is. PullsAtMost-more 22 (22 + bytes_read c i) s.numbers t.numbers (omega arith) h, λ not. h)
 
   rose : (a b d : ℕ) (e : Option CursorFault) → a ≤ b → cursor.IsCause b d e → cursor.IsCause a d e
   rose a b d None le h = tt
@@ -215,9 +215,9 @@ module _ {S O : Type 0} (files : S → Option Files) (draft : S → Option (List
   has-version : (a : S) (v first : ℕ) → Header a v first → (bytes : List ℕ) (rules : List PlainRule) (vs : List PlainKeyed) → TellsFront (files a) name size bytes → SoundAs rules vs bytes → (k : PlainKeyed) × (version_of vs i ≡ Some k)
   has-version a v first h bytes rules vs tells s = version-there vs i (subst (is_version i) (counts a v first h bytes rules vs tells s) h.is)
 
-  few-put : (a b d : S) (x y : O) (m n v first : ℕ) (c : PlainArchive) → PullsAtMost 14 (numbers a) (numbers b) → PullsAtMost (8 + seen c i) (numbers b) (numbers d) → v ≡ c.n → is_version i v → Few i c (at a x m) (at d y n)
+  few-put : (a b d : S) (x y : O) (m n v first : ℕ) (c : PlainArchive) → PullsAtMost 14 (numbers a) (numbers b) → PullsAtMost (8 + bytes_read c i) (numbers b) (numbers d) → v ≡ c.n → is_version i v → Few i c (at a x m) (at d y n)
   few-put a b d x y m n v first c pulls more count is = (
-    λ here. PullsAtMost-more (14 + (8 + seen c i)) (22 + seen c i) (numbers a) (numbers d) (omega arith) (PullsAtMost-trans 14 (8 + seen c i) (numbers a) (numbers b) (numbers d) pulls more),
+    λ here. PullsAtMost-more (14 + (8 + bytes_read c i)) (22 + bytes_read c i) (numbers a) (numbers d) (omega arith) (PullsAtMost-trans 14 (8 + bytes_read c i) (numbers a) (numbers b) (numbers d) pulls more),
     λ none. absurd (none (subst (is_version i) count is)),
   )
 

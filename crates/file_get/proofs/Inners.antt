@@ -17,7 +17,7 @@ use Rattle.record_format.specs.Bounds.{IsRec}
 use Rattle.record_format.specs.Data.{inner_rec}
 use Rattle.record_format.specs.Nested.{are_nested}
 use Rattle.record_format.specs.Nodes.{Piece, closed_by_end, inner_piece, set_in, node_pieces}
-use Rattle.record_format.specs.Seen.{piece_sets, dir_seen, sets_visits, row_seen, node_steps}
+use Rattle.record_format.specs.Seen.{piece_sets, sets_visits, node_steps}
 use Rattle.record_format.specs.Spelling.{rec_bytes}
 use Rattle.record_parts.specs.Bounds.{deepest}
 use Rattle.record_parts.specs.declared.limits.TheConstants.{DEEPEST}
@@ -36,6 +36,7 @@ use Rattle.file_get.specs.declared.fault.GetFault.TheVariants.{Damage}
 use Rattle.file_get.proofs.Opened.{eff-members}
 use Rattle.file_get.proofs.RowLists.{from-list, row-sets, row-kids, row-fits, row-calls, row-seen, row-steps}
 use Rattle.file_get.proofs.States.{walks-none, walks-damage, shows-as}
+use Rattle.file_get.specs.Searched.{dir_read, row_read}
 
 -- an inner node whose opening record was read
 pub record InnerNode (k : PlainNode) : Type 0 where
@@ -124,7 +125,7 @@ module _ (i : ℕ) (name : List ℕ) (child : PlainChild) (o : Opening) (depth :
         ap kids_calls (sym (row-kids i set ks)) ∙ sym (row-calls true false (read_row i (members set) ks) fit) ∙ ap (λ (ns : List ℕ). content_calls (inside_of (inner q.label (read_row i ns ks)))) (sym (eff-members q.stamp parent)) in
         let sets : map (set_of set) js ≡ piece_sets (node_pieces set ks) = sym (row-sets set ks) in
         let seen : 13 + (sets_seen i set js + nodes_seen i set js) ≡ inside_seen i parent (inner_node q.label q.stamp ks) =
-        sum (sets_seen i set js) (nodes_seen i set js) (24 * length (answers (map (set_of set) js) i)) (row_seen i set ks) (row-seen i set ks) ∙ ap (λ (ss : List (List (ℕ × ℕ))). dir_seen i ss + row_seen i set ks) sets in
+        sum (sets_seen i set js) (nodes_seen i set js) (24 * length (answers (map (set_of set) js) i)) (row_read i set ks) (row-seen i set ks) ∙ ap (λ (ss : List (List (ℕ × ℕ))). dir_read i ss + row_read i set ks) sets in
         let steps : sets_steps i set js + nodes_steps i set js ≡ node_steps i parent (inner_node q.label q.stamp ks) = (λ j. sets_visits (sets j) i + row-steps i set ks j) in
         subst (λ (m : PlainNode). Shows (content_calls (inside_of (read i (members parent) m))) (inside_seen i parent m) (node_steps i parent m) s t (fault_of r)) (sym q.is)
         (shows-as s t (fault_of r) (kids_calls kids) (content_calls (inside_of (read i (members parent) (inner_node q.label q.stamp ks)))) (13 + (sets_seen i set js + nodes_seen i set js)) (inside_seen i parent (inner_node q.label q.stamp ks))

@@ -16,7 +16,7 @@ use Rattle.keyed_tree.specs.Plain.{content_of}
 use Rattle.keyed_tree.specs.Proper.{is_content}
 use Rattle.archive_tree.specs.Data.{PlainAlt, PlainNode, leaf_node}
 use Rattle.archive_tree.specs.Read.{read, body_at}
-use Rattle.record_format.specs.Seen.{alts_seen, node_steps}
+use Rattle.record_format.specs.Seen.{node_steps}
 use Rattle.record_format.specs.Data.{leaf_end}
 use Rattle.record_format.specs.Nodes.{set_in}
 use Rattle.record_format.specs.Spelling.{rec_bytes}
@@ -39,6 +39,7 @@ use Rattle.file_get.proofs.Pens.{begun-stands}
 use Rattle.file_get.proofs.LentContents.{content-read, lent-walks, lent-shows}
 use Rattle.file_get.proofs.States.{walks-then, walks-damage, shows-then}
 use Rattle.file_get.proofs.States as states
+use Rattle.file_get.specs.Searched.{alts_read}
 
 -- a scalar is no content
 pub scalar-body : (body : Option PlainKey) (s : PlainScalar) → body ≡ Some (scalar s) → (b : PlainKey) → body ≡ Some b → is_content b ≡ false
@@ -50,7 +51,7 @@ module _ {S K : Type 0} (files : S → Option Files) (draft : S → Option (List
 
   -- what a read says where alternatives stand
   abbrev pub Tells : S → S → (List (ℕ × ℕ) → List PlainAlt → Type 0) → Type 0
-  Tells old new P = (last : ℕ) (bytes more : List ℕ) (set : List (ℕ × ℕ)) (xs : List PlainAlt) → AltsTold i (files old) name bytes last o.behind child.end set xs more → P set xs × PullsAtMost (alts_seen i set xs) (numbers old) (numbers new)
+  Tells old new P = (last : ℕ) (bytes more : List ℕ) (set : List (ℕ × ℕ)) (xs : List PlainAlt) → AltsTold i (files old) name bytes last o.behind child.end set xs more → P set xs × PullsAtMost (alts_read i set xs) (numbers old) (numbers new)
 
   -- the body was not read
   pub leaf-unread : (old new : S) (k : K) (p : Pen) (n : ℕ) (e : CursorFault) → o.is_inner ≡ false → cursor.OnlyReads files draft faults old new (Some e) → PullsAtMost (child.end - o.behind) (numbers old) (numbers new) → Tells old new (λ set xs. IfDamage e ⊥)
@@ -63,12 +64,9 @@ module _ {S K : Type 0} (files : S → Option Files) (draft : S → Option (List
         subst (λ (m : PlainNode). Shows (content_calls (inside_of (read i (members parent) m))) (inside_seen i parent m) (node_steps i parent m) (at old k p n) (at new k p n) (Some (of_cursor e))) (sym t.is)
         (let x' = subst (NodeOpened i (files old) name bytes end child o depth has_item parent) t.is x in
         let y = told end bytes (rec_bytes leaf_end) (set_in t.stamp parent) t.alts (alts-told i (files old) name bytes end child o depth has_item parent t.label t.stamp t.alts x') in
-        states.shows-unread files draft numbers faults taken out_faults old new k p n n (alts_seen i (set_in t.stamp parent) t.alts + 9) 0 e
-        (content_calls (inside_of (read i (members parent) (leaf_node t.label t.stamp t.alts)))) y.0 (omega arith) (more y.1)));
+        states.shows-unread files draft numbers faults taken out_faults old new k p n n (alts_read i (set_in t.stamp parent) t.alts) 0 e
+        (content_calls (inside_of (read i (members parent) (leaf_node t.label t.stamp t.alts)))) y.0 (omega arith) y.1));
   }
-    where
-      more : {a b : Numbers} {m : ℕ} → PullsAtMost m a b → PullsAtMost (m + 9) a b
-      more h = (let w = h.within in record { count = h.count; within = omega (arith, w); pulled = h.pulled })
 
   no-content : (b : PlainKey) → is_content b ≡ false → is_content b ≡ true → ⊥
   no-content b lacks is = let f : false ≡ true = sym lacks ∙ is in cc
@@ -105,10 +103,10 @@ module _ {S K : Type 0} (files : S → Option Files) (draft : S → Option (List
             let x' = subst (NodeOpened i (files old) name front end child o depth has_item parent) t.is x in
             let y = told end front (rec_bytes leaf_end) (set_in t.stamp parent) t.alts (alts-told i (files old) name front end child o depth has_item parent t.label t.stamp t.alts x') in
             let c = content-read bytes (body_at i (members (set_in t.stamp parent)) t.alts) (sym is-body ∙ y.0) in
-            let known = states.shows-read files draft numbers faults taken out_faults old new a p n n (alts_seen i (set_in t.stamp parent) t.alts) 0 (omega arith) y.1 in
+            let known = states.shows-read files draft numbers faults taken out_faults old new a p n n (alts_read i (set_in t.stamp parent) t.alts) 0 (omega arith) y.1 in
             let sent = lent-shows files draft numbers faults taken out_faults new a b p q n (whole_calls bytes) (content_calls c.0) r meter prints c.1 in
-            let both = shows-then (at old a p n) (at new a p n) (at new b q n) (fault_of r) [] (content_calls c.0) (alts_seen i (set_in t.stamp parent) t.alts) 0 (alts_seen i (set_in t.stamp parent) t.alts + 9) 0 0 0 (omega arith) (omega arith) known sent in
+            let both = shows-then (at old a p n) (at new a p n) (at new b q n) (fault_of r) [] (content_calls c.0) (alts_read i (set_in t.stamp parent) t.alts) 0 (alts_read i (set_in t.stamp parent) t.alts) 0 0 0 (omega arith) (omega arith) known sent in
             let same : content_calls c.0 ≡ content_calls (inside_of (read i (members parent) (leaf_node t.label t.stamp t.alts))) = ap (λ (b : PlainKey). content_calls (content_of b)) (c.2 ∙ ap (λ (ns : List ℕ). body_at i ns t.alts) (sym (eff-members t.stamp parent))) in
             subst (λ (m : PlainNode). Shows (content_calls (inside_of (read i (members parent) m))) (inside_seen i parent m) (node_steps i parent m) (at old a p n) (at new b q n) (fault_of r)) (sym t.is)
-            (subst (λ (cs : List Call). Shows cs (alts_seen i (set_in t.stamp parent) t.alts + 9) 0 (at old a p n) (at new b q n) (fault_of r)) same both));
+            (subst (λ (cs : List Call). Shows cs (alts_read i (set_in t.stamp parent) t.alts) 0 (at old a p n) (at new b q n) (fault_of r)) same both));
       })

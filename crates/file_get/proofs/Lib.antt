@@ -25,3 +25,4 @@ pub mod SetSearch
 pub mod StoredNodes
 pub mod SetLooks
 pub mod Bodies
+pub mod LessRead

@@ -16,7 +16,8 @@ use Rattle.file_rows.specs.View.{PlainRow}
 use Rattle.file_rows.proofs.Parts.{stands-front, stands-part, stands-back}
 use Rattle.file_get.specs.Kids.{set_of}
 use Rattle.file_get.specs.Stands.{SpanIs}
-use Rattle.file_get.specs.Looked.{own_bytes, left_bytes, left_of, right_of, NodeOf, tree_over, LookTold, PartsAre}
+use Rattle.file_get.specs.Looked.{own_bytes, own_read, left_bytes, left_of, right_of, NodeOf, tree_over, LookTold, PartsAre}
+use Rattle.file_get.specs.Searched.{inner_read}
 use Rattle.file_get.specs.Nodes.{NodeTold, probe_view, says}
 use Rattle.file_get.specs.declared.node.Probe.{Probe}
 use Rattle.file_get.specs.declared.span.Span.{Span}
@@ -128,6 +129,10 @@ length-map-is f (x ∷ xs) = ap (λ n. suc n) (length-map-is f xs)
 
 pub own-size : (parent : List (ℕ × ℕ)) (ks : List PlainNode) → own_bytes (tree_over parent ks) ≡ length (stored (top (tree_over parent ks)) (left_bytes (tree_over parent ks)))
 own-size parent ks = (tree-front (tree_over parent ks)).size
+
+-- what is read of the node of two children or more
+pub own-inner : (parent : List (ℕ × ℕ)) (ks : List PlainNode) → 1 < length ks → AllByRecursion IsSet (map (set_of parent) ks) → own_read (tree_over parent ks) ≡ inner_read (length (top (tree_over parent ks)))
+own-inner parent ks many sets = subst (λ (t : PlainTs). own_read t ≡ inner_read (length (top t))) (sym (nodes-split parent ks many sets)) refl
 
 -- the node that stands at the front of the tree of a part of a row
 pub node-told : (files : Option Files) (name bytes : List ℕ) (end : ℕ) (row : PlainRow) (span : Span) (parent : List (ℕ × ℕ)) (front ks behind : List PlainNode) → span.limit < 2 ^ 64 → LookTold files name bytes end row span parent front ks behind

@@ -16,7 +16,7 @@ use Rattle.archive_tree.proofs.Readings.{read_label}
 use Rattle.record_format.specs.Bounds.{IsRec, IsDir}
 use Rattle.record_format.specs.Data.{end_rec}
 use Rattle.record_format.specs.Nodes.{Piece, piece_bytes, dir_of, node_piece, node_pieces}
-use Rattle.record_format.specs.Seen.{node_seen, node_steps}
+use Rattle.record_format.specs.Seen.{node_steps}
 use Rattle.record_format.proofs.Pieces.{all-front}
 use Rattle.record_cursor.specs.Faults.{IfDamage}
 use Rattle.record_cursor.specs.Moves.{TellsFront}
@@ -38,6 +38,7 @@ use Rattle.file_get.specs.declared.fault.GetFault.{GetFault}
 use Rattle.file_get.proofs.Spans.{piece-at, piece-records, nested-at, dir-is, find-one, kids-one, fit-one}
 use Rattle.file_get.proofs.States.{walks-then, walks-more, shows-then, shows-as}
 use Rattle.file_get.proofs.States as states
+use Rattle.file_get.specs.Searched.{node_read}
 
 -- the place behind a child
 abbrev pub placed : Place → ℕ → Result Bool GetFault → Result Place GetFault
@@ -86,8 +87,8 @@ module _ {S K : Type 0} (files : S → Option Files) (draft : S → Option (List
       (told end bytes ps (node_piece parent k) x.tells nodes.within nodes.stands (dir-is ps nodes.records) (subst (λ (n : ℕ). slice_get ps n ≡ Some (node_piece parent k)) pos (piece-at parent front k behind))
       (subst (λ (n : ℕ). place.after ≤ start_in row.first ps n) pos x.after) (subst (λ (n : ℕ). start_in row.first ps (n + 1) ≤ row.end) pos o.fits))
 
-  seen-one : (parent : List (ℕ × ℕ)) (k : PlainNode) → has_at i parent k ≡ true → nodes_seen i parent (k ∷ []) ≡ 24 + node_seen i parent k
-  seen-one parent k e = ap (λ (b : Bool). (if b then 24 + node_seen i parent k else 0) + 0) e ∙ plus (24 + node_seen i parent k)
+  seen-one : (parent : List (ℕ × ℕ)) (k : PlainNode) → has_at i parent k ≡ true → nodes_seen i parent (k ∷ []) ≡ 24 + node_read i parent k
+  seen-one parent k e = ap (λ (b : Bool). (if b then 24 + node_read i parent k else 0) + 0) e ∙ plus (24 + node_read i parent k)
     where
       plus : (n : ℕ) → n + 0 ≡ n
       plus n = omega arith
@@ -165,13 +166,13 @@ module _ {S K : Type 0} (files : S → Option Files) (draft : S → Option (List
               fits = fit-one i parent (nat_lt 0 place.depth) place.has_item j has x.fits;
             } in
             let inner = printed.shows bytes end parent j x' in
-            let show = subst (Shows (kid_calls (read i (members parent) j)) (node_seen i parent j) (node_steps i parent j) t u) (placed-fault place child.end r) inner.0 in
+            let show = subst (Shows (kid_calls (read i (members parent) j)) (node_read i parent j) (node_steps i parent j) t u) (placed-fault place child.end r) inner.0 in
             let known = states.shows-read files draft numbers faults taken out_faults old new k p n n 24 0 (omega arith) pulls in
             let seen = seen-one parent j has in
             let steps = steps-one parent j has in
             let calls : kid_calls (read i (members parent) j) ≡ kids_calls (kids_in i parent (j ∷ [])) = sym (ap kids_calls (kids-one i parent j has) ∙ append-nil (kid_calls (read i (members parent) j))) in
-            let both = shows-then s t u e [] (kid_calls (read i (members parent) j)) 24 (node_seen i parent j) (24 + node_seen i parent j) 0 (node_steps i parent j) (node_steps i parent j) (omega arith) (omega arith) known show in (
-              shows-as s u e (kid_calls (read i (members parent) j)) (kids_calls (kids_in i parent (j ∷ []))) (24 + node_seen i parent j) (nodes_seen i parent (j ∷ [])) (node_steps i parent j) (nodes_steps i parent (j ∷ [])) calls (omega (arith, seen)) (omega (arith, steps)) both,
+            let both = shows-then s t u e [] (kid_calls (read i (members parent) j)) 24 (node_read i parent j) (24 + node_read i parent j) 0 (node_steps i parent j) (node_steps i parent j) (omega arith) (omega arith) known show in (
+              shows-as s u e (kid_calls (read i (members parent) j)) (kids_calls (kids_in i parent (j ∷ []))) (24 + node_read i parent j) (nodes_seen i parent (j ∷ [])) (node_steps i parent j) (nodes_steps i parent (j ∷ [])) calls (omega (arith, seen)) (omega (arith, steps)) both,
               ends-by child r parent front behind j has (omega (arith, next, ends, y.1)) inner.1,
             ));
       })

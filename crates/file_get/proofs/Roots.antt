@@ -18,7 +18,7 @@ use Rattle.record_format.specs.Bounds.{IsRec}
 use Rattle.record_format.specs.Files.{root_pieces}
 use Rattle.record_format.specs.Nested.{are_nested}
 use Rattle.record_format.specs.Nodes.{Piece, closed_by_end, node_pieces}
-use Rattle.record_format.specs.Seen.{seen, steps_for, dir_seen, piece_sets, row_seen, sets_visits}
+use Rattle.record_format.specs.Seen.{steps_for, piece_sets, sets_visits}
 use Rattle.record_parts.specs.Bounds.{deepest}
 use Rattle.record_cursor.specs.Faults.{IfDamage}
 use Rattle.record_cursor.specs.Moves.{TellsFront}
@@ -39,6 +39,7 @@ use Rattle.file_get.proofs.Elements.{tag-calls}
 use Rattle.file_get.proofs.RowLists.{from-list, row-sets, row-seen, row-steps}
 use Rattle.file_get.proofs.States.{refused-unread, walks-then, walks-damage, shows-then}
 use Rattle.file_get.proofs.States as states
+use Rattle.file_get.specs.Searched.{bytes_read, dir_read, row_read}
 
 tag-of : (k : PlainKeyed) → IsElement k → is_tag (label_of k).name ≡ true
 tag-of (inner l ks) e = e
@@ -75,7 +76,7 @@ module _ {S K : Type 0} (files : S → Option Files) (draft : S → Option (List
   root-unread old new k p n e h pulls inside told = record {
     walks = states.reads files draft numbers faults taken out_faults old new k p n n (Some e) (size - first) h inside;
     short = λ fs there none. refused-unread e;
-    shows = λ bytes row a v x. states.shows-unread files draft numbers faults taken out_faults old new k p n n (8 + seen a i) (steps_for a i) e (calls_of (plain v)) (told bytes row (root_pieces a) x.tells x.stands x.begins x.ends x.tail) (omega arith) (more 8 (8 + seen a i) (omega arith) pulls);
+    shows = λ bytes row a v x. states.shows-unread files draft numbers faults taken out_faults old new k p n n (8 + bytes_read a i) (steps_for a i) e (calls_of (plain v)) (told bytes row (root_pieces a) x.tells x.stands x.begins x.ends x.tail) (omega arith) (more 8 (8 + bytes_read a i) (omega arith) pulls);
   }
 
   row-told : (files : Option Files) (bytes : List ℕ) (row r : PlainRow) (a : PlainArchive) (v : PlainKeyed) → RowLaid bytes r (root_pieces a) → r.end + (9 + r.dir) + 8 ≡ size → RootTold i files name bytes size first row a v → RowTold i files name bytes size 0 r (upto_pairs a.n) (nodes_list a.kids)
@@ -134,13 +135,13 @@ module _ {S K : Type 0} (files : S → Option Files) (draft : S → Option (List
             let item = item-true r v (kids_in i parent js) x.one tags inner.1 in
             let calls : kids_calls (kids_in i parent js) ≡ calls_of (plain v) = ap kids_calls x.one ∙ append-nil (kid_calls v) ∙ tag-calls v tags in
             let sets : map (set_of parent) js ≡ piece_sets (root_pieces a) = sym (row-sets parent a.kids) in
-            let read : 13 + (sets_seen i parent js + nodes_seen i parent js) ≡ seen a i =
-            sum (sets_seen i parent js) (nodes_seen i parent js) (24 * length (answers (map (set_of parent) js) i)) (row_seen i parent a.kids) (row-seen i parent a.kids) ∙ ap (λ (ss : List (List (ℕ × ℕ))). dir_seen i ss + row_seen i parent a.kids) sets in
+            let read : 13 + (sets_seen i parent js + nodes_seen i parent js) ≡ bytes_read a i =
+            sum (sets_seen i parent js) (nodes_seen i parent js) (24 * length (answers (map (set_of parent) js) i)) (row_read i parent a.kids) (row-seen i parent a.kids) ∙ ap (λ (ss : List (List (ℕ × ℕ))). dir_read i ss + row_read i parent a.kids) sets in
             let walked : sets_steps i parent js + nodes_steps i parent js ≡ steps_for a i = (λ j. sets_visits (sets j) i + row-steps i parent a.kids j) in
             let show = show-of t u (kids_calls (kids_in i parent js)) (13 + (sets_seen i parent js + nodes_seen i parent js)) (sets_steps i parent js + nodes_steps i parent js) r item inner.0 in
             let known = states.shows-read files draft numbers faults taken out_faults old new k p n n 8 0 (omega arith) pulls in
-            let both = shows-then s t u (rooted r) [] (kids_calls (kids_in i parent js)) 8 (13 + (sets_seen i parent js + nodes_seen i parent js)) (8 + seen a i) 0 (sets_steps i parent js + nodes_steps i parent js) (steps_for a i) (omega (arith, read)) (omega (arith, walked)) known show in
-            subst (λ (cs : List Call). Shows cs (8 + seen a i) (steps_for a i) s u (rooted r)) calls both);
+            let both = shows-then s t u (rooted r) [] (kids_calls (kids_in i parent js)) 8 (13 + (sets_seen i parent js + nodes_seen i parent js)) (8 + bytes_read a i) 0 (sets_steps i parent js + nodes_steps i parent js) (steps_for a i) (omega (arith, read)) (omega (arith, walked)) known show in
+            subst (λ (cs : List Call). Shows cs (8 + bytes_read a i) (steps_for a i) s u (rooted r)) calls both);
       })
     where
       sum : (a b c d : ℕ) → b ≡ c + d → 13 + (a + b) ≡ 13 + (a + c) + d

@@ -10,9 +10,10 @@ use Rattle.archive_tree.specs.Data.{PlainNode, inner_node, leaf_node, PlainNodes
 use Rattle.archive_tree.specs.Read.{read, read_row}
 use Rattle.timestamp_tree.specs.Search.{answers, answers_from}
 use Rattle.record_format.specs.Nodes.{node_piece, node_pieces}
-use Rattle.record_format.specs.Seen.{piece_sets, row_seen, row_steps, node_seen, node_steps}
+use Rattle.record_format.specs.Seen.{piece_sets, row_steps, node_steps}
 use Rattle.file_get.specs.Kids.{set_of, has_at, kids_in, leaf_calls, kid_calls, kids_calls, leaf_fits, kid_fits, row_fits, kids_fit, nodes_seen, nodes_steps}
 use Rattle.file_get.proofs.Opened.{eff-members}
+use Rattle.file_get.specs.Searched.{node_read, row_read}
 
 pub from-list : (ks : PlainNodes) → nodes_from (nodes_list ks) ≡ ks
 from-list no_nodes = refl
@@ -155,11 +156,11 @@ seen-more : (b : Bool) (n at : ℕ) (more : List ℕ) (m r : ℕ) → m ≡ 24 *
 seen-more true n at more m r e = omega (arith, e)
 seen-more false n at more m r e = omega (arith, e)
 
-seen-from : (i at : ℕ) (parent : List (ℕ × ℕ)) (ks : PlainNodes) → nodes_seen i parent (nodes_list ks) ≡ 24 * length (answers_from i at (map (set_of parent) (nodes_list ks))) + row_seen i parent ks
+seen-from : (i at : ℕ) (parent : List (ℕ × ℕ)) (ks : PlainNodes) → nodes_seen i parent (nodes_list ks) ≡ 24 * length (answers_from i at (map (set_of parent) (nodes_list ks))) + row_read i parent ks
 seen-from i at parent no_nodes = refl
-seen-from i at parent (node k ks) = seen-more (has_at i parent k) (node_seen i parent k) at (answers_from i (at + 1) (map (set_of parent) (nodes_list ks))) (nodes_seen i parent (nodes_list ks)) (row_seen i parent ks) (seen-from i (at + 1) parent ks)
+seen-from i at parent (node k ks) = seen-more (has_at i parent k) (node_read i parent k) at (answers_from i (at + 1) (map (set_of parent) (nodes_list ks))) (nodes_seen i parent (nodes_list ks)) (row_read i parent ks) (seen-from i (at + 1) parent ks)
 
-pub row-seen : (i : ℕ) (parent : List (ℕ × ℕ)) (ks : PlainNodes) → nodes_seen i parent (nodes_list ks) ≡ 24 * length (answers (map (set_of parent) (nodes_list ks)) i) + row_seen i parent ks
+pub row-seen : (i : ℕ) (parent : List (ℕ × ℕ)) (ks : PlainNodes) → nodes_seen i parent (nodes_list ks) ≡ 24 * length (answers (map (set_of parent) (nodes_list ks)) i) + row_read i parent ks
 row-seen i parent ks = seen-from i 0 parent ks
 
 pub row-steps : (i : ℕ) (parent : List (ℕ × ℕ)) (ks : PlainNodes) → nodes_steps i parent (nodes_list ks) ≡ row_steps i parent ks

@@ -11,10 +11,10 @@ use Rattle.jsonml_print.specs.Pen.{Pen}
 use Rattle.archive_tree.specs.Data.{PlainNode, nodes_from}
 use Rattle.timestamp_tree.specs.Bytes.{tree_bytes}
 use Rattle.timestamp_tree.specs.Tree.{tree_of}
-use Rattle.timestamp_tree.specs.Search.{visits, visited_bytes}
+use Rattle.timestamp_tree.specs.Search.{visits}
 use Rattle.record_format.specs.Bounds.{IsDir}
 use Rattle.record_format.specs.Nodes.{Piece, piece_bytes, dir_of, closed_by_end, node_pieces}
-use Rattle.record_format.specs.Seen.{sets_visited, sets_visits}
+use Rattle.record_format.specs.Seen.{sets_visits}
 use Rattle.record_format.specs.Spelling.{entry_bytes, sets_bytes, dir_bytes, rec_bytes}
 use Rattle.record_format.proofs.Pieces.{closed-bytes, entries-length}
 use Rattle.record_cursor.specs.Faults.{IfDamage}
@@ -37,6 +37,7 @@ use Rattle.file_get.specs.declared.fault.GetFault.{GetFault}
 use Rattle.file_get.proofs.Spans.{dir-is, rows-sets}
 use Rattle.file_get.proofs.States.{walks-then, walks-more, shows-then}
 use Rattle.file_get.proofs.States as states
+use Rattle.file_get.specs.Searched.{sets_read, tree_read}
 
 pieces-count : (parent : List (ℕ × ℕ)) (ks : List PlainNode) → length (node_pieces parent (nodes_from ks)) ≡ length ks
 pieces-count parent [] = refl
@@ -85,7 +86,7 @@ some-tree : (sets : List (List (ℕ × ℕ))) → 1 ≤ length sets → sets_byt
 some-tree [] e = absurd (omega (arith, e))
 some-tree (s ∷ sets) e = refl
 
-some-visited : (sets : List (List (ℕ × ℕ))) (i : ℕ) → 1 ≤ length sets → (sets_visited sets i ≡ visited_bytes (tree_of sets) i) × (sets_visits sets i ≡ visits (tree_of sets) i)
+some-visited : (sets : List (List (ℕ × ℕ))) (i : ℕ) → 1 ≤ length sets → (sets_read sets i ≡ tree_read (tree_of sets) i) × (sets_visits sets i ≡ visits (tree_of sets) i)
 some-visited [] i e = absurd (omega (arith, e))
 some-visited (s ∷ sets) i e = (refl, refl)
 
@@ -198,7 +199,7 @@ module _ {S K : Type 0} (files : S → Option Files) (draft : S → Option (List
             let x1 = subst (λ (f : Option Files). VisitIs i f name bytes end row (whole_of row count) (first_place row depth) parent [] ks []) (sym h.same_files) (visit-told (files old) bytes end parent ks count is some x) in
             let inner = visited.shows bytes end parent [] ks [] x1 in
             let v = some-visited (map (set_of parent) ks) i (omega (arith, some, is, length-map-is (set_of parent) ks)) in
-            let a = visited_bytes (tree_of (map (set_of parent) ks)) i + nodes_seen i parent ks in
+            let a = tree_read (tree_of (map (set_of parent) ks)) i + nodes_seen i parent ks in
             let b = visits (tree_of (map (set_of parent) ks)) i + nodes_steps i parent ks in
             let show = subst (Shows (kids_calls (kids_in i parent ks)) a b t u) (has_item-fault r) inner.0 in
             let known = states.shows-read files draft numbers faults taken out_faults old new k p n n 13 0 (omega arith) pulls in

@@ -1,5 +1,5 @@
 -- What is seen at the only child of a part.
-use Rattle.std.proofs.Common.{◌≡◌, ℕ, ◌+◌, ◌-◌, ◌≤◌, ◌<◌, ◌^◌, Bool, true, false, List, [], ◌∷◌, length, Option, Result, Ok, Err, refl, sym, subst, ◌∙◌, arith}
+use Rattle.std.proofs.Common.{◌≡◌, ℕ, ◌+◌, ◌-◌, ◌/◌, ◌≤◌, ◌<◌, ◌^◌, Bool, true, false, List, [], ◌∷◌, length, Option, Result, Ok, Err, refl, sym, subst, ◌∙◌, arith}
 use Rattle.version_set.specs.Members.{members, has}
 use Rattle.timestamp_tree.specs.Bytes.{stored}
 use Rattle.archive_tree.specs.Data.{PlainNode}
@@ -7,11 +7,12 @@ use Rattle.record_cursor.specs.Steps.{Filled}
 use Rattle.record_cursor.specs.declared.fault.CursorFault.{CursorFault}
 use Rattle.xa_outside.specs.Folder.{Files}
 use Rattle.xa_outside.specs.Numbers.{Numbers, PullsAtMost}
-use Rattle.xa_outside.specs.NumberLaws.{PullsAtMost-more}
 use Rattle.file_rows.specs.View.{PlainRow}
 use Rattle.file_get.specs.Kids.{set_of}
 use Rattle.file_get.specs.Nodes.{NodeTold}
-use Rattle.file_get.specs.Looked.{IsLook, LookIs, LookTold, looked, own_bytes, sight_of, tree_over}
+use Rattle.file_get.specs.Looked.{IsLook, LookIs, LookTold, looked, own_read, sight_of, tree_over}
+use Rattle.file_get.specs.Searched.{leaf_read}
+use Rattle.file_get.proofs.StoredNodes.{length-stored}
 use Rattle.file_get.specs.declared.look.Sight.{Sight}
 use Rattle.file_get.specs.declared.span.Span.{Span}
 
@@ -59,9 +60,10 @@ module _ (i : ℕ) (files : Option Files) (name bytes : List ℕ) (end : ℕ) (r
   pub set-unseen : (e : CursorFault) → SetTells i files name span (Err e) → Filled {T = Sight} (Err e) (LookIs i bytes row parent front ks behind)
   set-unseen e tells = tells end bytes (set_of parent only.0) leaf-told alone.part.limit
 
-  pub set-pulls : (a b : Numbers) → PullsAtMost (span.limit - span.at) a b → PullsAtMost (own_bytes (tree_over parent ks)) a b
+  pub set-pulls : (a b : Numbers) → PullsAtMost (leaf_read ((span.limit - span.at - 12) / 8)) a b → PullsAtMost (own_read (tree_over parent ks)) a b
   set-pulls a b pulls =
       let y = alone in
-      let limit = y.part.limit in
-      subst (λ (js : List PlainNode). PullsAtMost (own_bytes (tree_over parent js)) a b) (sym only.1)
-      (PullsAtMost-more (span.limit - span.at) (own_bytes (tree_over parent (only.0 ∷ []))) a b (omega (arith, limit)) pulls)
+      let s = set_of parent only.0 in
+      let limit : span.limit ≡ span.at + length (stored s 0) = y.part.limit in
+      let count : (span.limit - span.at - 12) / 8 ≡ length s = omega (arith, limit, length-stored s 0) in
+      subst (λ (js : List PlainNode). PullsAtMost (own_read (tree_over parent js)) a b) (sym only.1) (subst (λ (n : ℕ). PullsAtMost (leaf_read n) a b) count pulls)

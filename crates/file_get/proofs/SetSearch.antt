@@ -1,5 +1,5 @@
 -- A number is looked for in a stored set by halving.
-use Rattle.std.proofs.Common.{◌≡◌, ℕ, zero, suc, ◌+◌, ◌-◌, ◌*◌, ◌/◌, ◌<◌, ◌≤◌, max, Bool, true, false, leb, ◌&&◌, ◌||◌, List, [], ◌∷◌, ◌++◌, length, take, drop, get_or, refl, sym, ap, subst, ◌∙◌, length-drop, take-append-drop, arith}
+use Rattle.std.proofs.Common.{◌≡◌, ℕ, zero, suc, ◌+◌, ◌-◌, ◌*◌, ◌/◌, ◌<◌, ◌≤◌, max, min, Bool, true, false, leb, ◌&&◌, ◌||◌, List, [], ◌∷◌, ◌++◌, length, take, drop, get_or, refl, sym, ap, subst, ◌∙◌, length-drop, take-append-drop, arith}
 use Rattle.std.specs.Prelude.{nat_le, if◌then◌else◌}
 use Rattle.std.specs.List.{flat_map, AllByRecursion}
 use Rattle.std.proofs.lemmas.Bool.Decides.{nat_tests}
@@ -14,45 +14,65 @@ use Rattle.record_parts.specs.Bounds.{IsSet, most}
 use Rattle.record_format.proofs.Pieces.{all-front, all-back}
 use Rattle.file_rows.specs.StandsAt.{StandsAt}
 use Rattle.file_rows.proofs.Parts.{stands-front, stands-back}
-use Rattle.file_get.specs.Searched.{searched_within, searched}
+use Rattle.file_rows.proofs.Halves.{probes-less, probes-step}
+use Rattle.record_format.specs.Probed.{most_probes}
+use Rattle.file_get.specs.Searched.{searched}
 
 -- ---- how many intervals are read
 
-same-searched : (d e n : ℕ) → n ≤ d → n ≤ e → searched_within d n ≡ searched_within e n
-same-searched zero zero n h g = refl
-same-searched zero (suc e) zero h g = refl
-same-searched zero (suc e) (suc n) h g = absurd (omega (arith, h))
-same-searched (suc d) zero zero h g = refl
-same-searched (suc d) zero (suc n) h g = absurd (omega (arith, g))
-same-searched (suc d) (suc e) n h g =
-    let front = same-searched d e (n / 2) (omega (arith, h)) (omega (arith, g)) in
-    let back = same-searched d e (n - n / 2 - 1) (omega (arith, h)) (omega (arith, g)) in
-    λ i. if nat_le n 8 then n else 1 + max (front i) (back i)
-
 pub searched-few : (n : ℕ) → n ≤ 8 → searched n ≡ n
-searched-few zero few = refl
-searched-few (suc n) few = (let yes : leb (suc n) 8 ≡ true = grind (arith, nat_tests) in rw yes refl)
+unfolding searched
+searched-few n few = (let yes : leb n 8 ≡ true = grind (arith, nat_tests) in rw yes refl)
 
-pub searched-more : (n : ℕ) → 8 < n → searched n ≡ 1 + max (searched (n / 2)) (searched (n - n / 2 - 1))
-searched-more zero many = absurd (omega (arith, many))
-searched-more (suc n) many =
-    let no : leb (suc n) 8 ≡ false = grind (arith, nat_tests) in
-    let front = same-searched n (suc n / 2) (suc n / 2) (omega arith) (omega arith) in
-    let back = same-searched n (suc n - suc n / 2 - 1) (suc n - suc n / 2 - 1) (omega arith) (omega arith) in
-    rw no (λ i. 1 + max (front i) (back i))
+many-searched : (n : ℕ) → 8 < n → searched n ≡ min (1 + n / 2) (4 + most_probes n)
+unfolding searched
+many-searched n many = (let no : leb n 8 ≡ false = grind (arith, nat_tests) in rw no refl)
 
-within-all : (d n : ℕ) → searched_within d n ≤ n
-within-all zero n = omega arith
-within-all (suc d) n = by (leb n 8) refl (within-all d (n / 2)) (within-all d (n - n / 2 - 1))
+-- eight or fewer are no more than their digits and four
+few-probes : (n : ℕ) → n ≤ 8 → n ≤ 4 + most_probes n
+few-probes n few = by (leb n 4) (leb n 7) refl refl
   where
-    by : (b : Bool) → leb n 8 ≡ b → searched_within d (n / 2) ≤ n / 2 → searched_within d (n - n / 2 - 1) ≤ n - n / 2 - 1 → (if b then n else 1 + max (searched_within d (n / 2)) (searched_within d (n - n / 2 - 1))) ≤ n
-    by true e front back = omega arith
-    by false e front back =
-        let many : 8 < n = grind (arith, nat_tests) in
-        omega (arith, many, front, back)
+    by : (a b : Bool) → leb n 4 ≡ a → leb n 7 ≡ b → n ≤ 4 + most_probes n
+    by true b e f = (let four : n ≤ 4 = grind (arith, nat_tests) in omega (arith, four))
+    by false true e f =
+        let some : 4 < n = grind (arith, nat_tests) in
+        let seven : n ≤ 7 = grind (arith, nat_tests) in
+        let one = probes-step n (omega (arith, some)) in
+        let two = probes-step (n / 2) (omega (arith, some)) in
+        let three = probes-step (n / 2 / 2) (omega (arith, some)) in
+        omega (arith, one, two, three, seven)
+    by false false e f =
+        let some : 7 < n = grind (arith, nat_tests) in
+        let one = probes-step n (omega (arith, some)) in
+        let two = probes-step (n / 2) (omega (arith, some)) in
+        let three = probes-step (n / 2 / 2) (omega (arith, some)) in
+        let four = probes-step (n / 2 / 2 / 2) (omega (arith, some)) in
+        omega (arith, one, two, three, four, few)
+
+-- the one in the middle, and those of a half
+searched-part : (n m : ℕ) → 8 < n → m ≤ n / 2 → 1 + searched m ≤ searched n
+searched-part n m many half = by (leb m 8) refl
+  where
+    by : (b : Bool) → leb m 8 ≡ b → 1 + searched m ≤ searched n
+    by true e =
+        let few : m ≤ 8 = grind (arith, nat_tests) in
+        omega (arith, half, many-searched n many, probes-less m n (omega (arith, many)) half, searched-few m few, few-probes m few)
+    by false e =
+        let more : 8 < m = grind (arith, nat_tests) in
+        omega (arith, half, more, many-searched n many, probes-less m n (omega (arith, many)) half, many-searched m more)
+
+pub searched-more : (n : ℕ) → 8 < n → 1 + max (searched (n / 2)) (searched (n - n / 2 - 1)) ≤ searched n
+searched-more n many = omega (arith, searched-part n (n / 2) many (omega arith), searched-part n (n - n / 2 - 1) many (omega arith))
+
+pub searched-half : (n : ℕ) → 8 < n → searched n ≤ 1 + n / 2
+searched-half n many = omega (arith, many-searched n many)
 
 pub searched-all : (n : ℕ) → searched n ≤ n
-searched-all n = within-all n n
+searched-all n = by (leb n 8) refl
+  where
+    by : (b : Bool) → leb n 8 ≡ b → searched n ≤ n
+    by true e = (let few : n ≤ 8 = grind (arith, nat_tests) in omega (arith, searched-few n few))
+    by false e = (let many : 8 < n = grind (arith, nat_tests) in omega (arith, searched-half n many, many))
 
 -- ---- on which side of an interval a number is
 

@@ -12,7 +12,7 @@ use Rattle.archive_tree.specs.Data.{Stamp, PlainNode, inner_node, leaf_node, nod
 use Rattle.archive_tree.specs.Read.{read}
 use Rattle.timestamp_tree.specs.Bytes.{stored}
 use Rattle.timestamp_tree.specs.Data.{PlainTs, leaf, node, top}
-use Rattle.timestamp_tree.specs.Search.{visits, visited_bytes}
+use Rattle.timestamp_tree.specs.Search.{visits}
 use Rattle.timestamp_tree.specs.Tree.{half, joined, tree_of}
 use Rattle.timestamp_tree.proofs.Trees.{some_has, top_has, tree_is, joined_tree, leaves-tree_of, IsTree-tree_of}
 use Rattle.record_parts.specs.Bounds.{IsSet, IsStamp}
@@ -23,8 +23,9 @@ use Rattle.record_format.specs.Nodes.{Piece, dir_of, closed_by_end, node_piece, 
 use Rattle.record_format.specs.Seen.{node_steps}
 use Rattle.record_format.proofs.Pieces.{all-front, all-back}
 use Rattle.file_get.specs.Kids.{IsFilled, set_of, has_at, finds, all_find, kids_in, item_behind, kid_fits, kids_fit, nodes_seen, nodes_steps}
-use Rattle.file_get.specs.Looked.{tree_over, own_bytes}
+use Rattle.file_get.specs.Looked.{tree_over, own_read}
 use Rattle.file_get.proofs.RowLists.{piece-set}
+use Rattle.file_get.specs.Searched.{inner_read, tree_read}
 
 -- ---- pieces
 
@@ -265,9 +266,9 @@ pub lacks-visits : (t : PlainTs) (i : ℕ) → has (members (top t)) i ≡ false
 lacks-visits (leaf s) i e = refl
 lacks-visits (node s n l r) i e = ap (λ (b : Bool). if b then 1 + visits l i + visits r i else 1) e
 
-pub own-visited : (t : PlainTs) (i : ℕ) → own_bytes t ≤ visited_bytes t i
+pub own-visited : (t : PlainTs) (i : ℕ) → own_read t ≤ tree_read t i
 own-visited (leaf s) i = omega arith
-own-visited (node s n l r) i = both (has (members s) i) (length (stored s n)) (visited_bytes l i) (visited_bytes r i)
+own-visited (node s n l r) i = both (has (members s) i) (inner_read (length s)) (tree_read l i) (tree_read r i)
   where
     both : (b : Bool) (x y z : ℕ) → x ≤ (if b then x + y + z else x)
     both true x y z = omega arith
@@ -282,7 +283,7 @@ some-visits (node s n l r) i = both (has (members s) i) (visits l i) (visits r i
     both false y z = omega arith
 
 -- of a node that has i, both parts are visited
-pub joined-visited : (l r : PlainTs) (i : ℕ) → has (members (top (joined l r))) i ≡ true → own_bytes (joined l r) + (visited_bytes l i + visited_bytes r i) ≡ visited_bytes (joined l r) i
+pub joined-visited : (l r : PlainTs) (i : ℕ) → has (members (top (joined l r))) i ≡ true → own_read (joined l r) + (tree_read l i + tree_read r i) ≡ tree_read (joined l r) i
 joined-visited l r i e = rw e (omega arith)
 
 pub joined-visits : (l r : PlainTs) (i : ℕ) → has (members (top (joined l r))) i ≡ true → 1 + (visits l i + visits r i) ≡ visits (joined l r) i

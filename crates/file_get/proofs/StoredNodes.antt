@@ -1,6 +1,6 @@
 -- What the bytes of a node of a stored tree say of a version.
 use Rattle.std.proofs.Common.{◌≡◌, ℕ, ◌+◌, ◌-◌, ◌*◌, ◌/◌, ◌%◌, ◌<◌, ◌≤◌, ◌^◌, Bool, true, false, leb, ◌==◌, ◌&&◌, List, [], ◌∷◌, ◌++◌, length, take, drop, Option, Some, None, Result, Ok, Err, IfOk, refl, sym, ap, subst, ◌∙◌, arith, append-nil, append_assoc, take_all, take-append-drop}
-use Rattle.std.specs.Prelude.{if◌then◌else◌, ok_or}
+use Rattle.std.specs.Prelude.{if◌then◌else◌, nat_le, ok_or}
 use Rattle.std.specs.Int.{w32, w64}
 use Rattle.std.specs.Option.{option_map}
 use Rattle.std.proofs.lemmas.Bool.Decides.{nat_tests}
@@ -23,10 +23,10 @@ use Rattle.record_format.proofs.WholeDirectories.{node_reads}
 use Rattle.record_cursor.specs.Steps.{Filled}
 use Rattle.record_cursor.specs.declared.fault.CursorFault.{CursorFault}
 use Rattle.file_rows.specs.StandsAt.{StandsAt}
-use Rattle.file_get.specs.Searched.{searched}
+use Rattle.file_get.specs.Searched.{inner_read, searched}
 use Rattle.file_rows.proofs.Parts.{stands-front, stands-back}
 use Rattle.file_get.proofs.Bodies.{count-stands}
-use Rattle.file_get.proofs.SetSearch.{searched-all, searched-few, searched-more}
+use Rattle.file_get.proofs.SetSearch.{searched-few, searched-half}
 use Rattle.file_get.specs.Nodes.{NodeTold, probe_view, says, says_of}
 use Rattle.file_get.specs.declared.node.Probe.{Probe}
 
@@ -148,14 +148,28 @@ short-pulls size a b room few whole pulls =
 -- no more than two intervals less than there are is read of a node of many
 pub many-pulls : (n : ℕ) (a b : Numbers) → 8 < n → PullsAtMost (8 + 8 * searched n) a b → PullsAtMost (8 * n - 8) a b
 many-pulls n a b many pulls =
-    let more = searched-more n many in
-    let front = searched-all (n / 2) in
-    let back = searched-all (n - n / 2 - 1) in
-    PullsAtMost-more (8 + 8 * searched n) (8 * n - 8) a b (omega (arith, many, more, front, back)) pulls
+    let half = searched-half n many in
+    PullsAtMost-more (8 + 8 * searched n) (8 * n - 8) a b (omega (arith, many, half)) pulls
 
 -- and of a node of few they are all read
 pub few-pulls : (n : ℕ) (a b : Numbers) → n ≤ 8 → PullsAtMost (8 * n - 8) a b → PullsAtMost (8 + 8 * searched n) a b
 few-pulls n a b few pulls = (let all = searched-few n few in PullsAtMost-more (8 * n - 8) (8 + 8 * searched n) a b (omega (arith, all)) pulls)
+
+-- what is read of either behind its first twenty bytes
+pub rest-pulls : (n : ℕ) (a b : Numbers) → PullsAtMost (8 * n - 8) a b → PullsAtMost (8 + 8 * searched n) a b → PullsAtMost (inner_read n - 20) a b
+rest-pulls n a b all some = by (nat_le n 8)
+  where
+    by : (t : Bool) → PullsAtMost ((if t then 12 + 8 * n else 28 + 8 * searched n) - 20) a b
+    by true = PullsAtMost-more (8 * n - 8) (12 + 8 * n - 20) a b (omega arith) all
+    by false = PullsAtMost-more (8 + 8 * searched n) (28 + 8 * searched n - 20) a b (omega arith) some
+
+-- these are read in any case
+pub twenty-read : (n : ℕ) → 1 ≤ n → 20 ≤ inner_read n
+twenty-read n some = by (nat_le n 8)
+  where
+    by : (t : Bool) → 20 ≤ (if t then 12 + 8 * n else 28 + 8 * searched n)
+    by true = omega (arith, some)
+    by false = omega arith
 
 -- the front of a node, and the bytes behind it
 take-both : (n m : ℕ) (xs : List ℕ) → take n xs ++ take m (drop n xs) ≡ take (n + m) xs

@@ -13,7 +13,7 @@ use Rattle.jsonml_print.specs.Pen.{Pen}
 use Rattle.keyed_tree.specs.Data.{PlainKeyed}
 use Rattle.archive_tree.specs.Data.{PlainNode, nodes_from}
 use Rattle.timestamp_tree.specs.Data.{PlainTs, top}
-use Rattle.timestamp_tree.specs.Search.{visits, visited_bytes}
+use Rattle.timestamp_tree.specs.Search.{visits}
 use Rattle.timestamp_tree.specs.Tree.{half, joined}
 use Rattle.record_parts.specs.Bounds.{IsSet}
 use Rattle.record_format.specs.Nodes.{Piece, piece_bytes, node_pieces}
@@ -25,7 +25,7 @@ use Rattle.file_rows.specs.View.{PlainRow}
 use Rattle.file_get.specs.Told.{of_cursor, fault_of}
 use Rattle.file_get.specs.State.{State}
 use Rattle.file_get.specs.Kids.{IsFilled, set_of, has_at, kids_in, kids_calls, kid_calls, item_behind, kids_fit, all_find, nodes_seen, nodes_steps}
-use Rattle.file_get.specs.Looked.{Halves, LookTold, LookIs, PartsAre, own_bytes, tree_over}
+use Rattle.file_get.specs.Looked.{Halves, LookTold, LookIs, PartsAre, own_read, tree_over}
 use Rattle.file_get.specs.Walks.{Shows, StandsIn}
 use Rattle.file_get.specs.Stands.{RowIs, VisitIs}
 use Rattle.file_get.specs.Visits.{reach, may_pull, Reaches, EndsAt, Visited}
@@ -37,6 +37,7 @@ use Rattle.file_get.specs.declared.fault.GetFault.{GetFault}
 use Rattle.file_get.proofs.Spans.{dir-is, rows-filled, rows-sets, part-sets, kids-append, item-append, fit-front, fit-back, find-front, find-back, seen-append, steps-append, nodes-split, lacks-none, lacks-idle, lacks-visits, own-visited, some-visits, joined-visited, joined-visits}
 use Rattle.file_get.proofs.States.{walks-then, walks-more, shows-then, shows-fault}
 use Rattle.file_get.proofs.States as states
+use Rattle.file_get.specs.Searched.{tree_read}
 
 -- ---- offsets
 
@@ -71,7 +72,7 @@ module _ {S K : Type 0} (files : S → Option Files) (draft : S → Option (List
   -- what looking at a node of the tree says where the part is told
   abbrev pub Tells : S → S → (List ℕ → List (ℕ × ℕ) → List PlainNode → List PlainNode → List PlainNode → Type 0) → Type 0
   Tells old new P = (bytes : List ℕ) (end : ℕ) (parent : List (ℕ × ℕ)) (front ks behind : List PlainNode) → LookTold (files old) name bytes end row span parent front ks behind
-      → P bytes parent front ks behind × PullsAtMost (own_bytes (tree_over parent ks)) (numbers old) (numbers new)
+      → P bytes parent front ks behind × PullsAtMost (own_read (tree_over parent ks)) (numbers old) (numbers new)
 
   look-told : (files : Option Files) (bytes : List ℕ) (end : ℕ) (parent : List (ℕ × ℕ)) (front ks behind : List PlainNode) → 1 ≤ span.count → VisitIs i files name bytes end row span place parent front ks behind → LookTold files name bytes end row span parent front ks behind
   look-told files bytes end parent front ks behind some x =
@@ -93,7 +94,7 @@ module _ {S K : Type 0} (files : S → Option Files) (draft : S → Option (List
 
   -- the tree was not looked at
   pub visit-unlooked : (old new : S) (k : K) (p : Pen) (m n : ℕ) (e : CursorFault) → 1 ≤ span.count → n ≡ m + 1 → cursor.OnlyReads files draft faults old new (Some e) → PullsAtMost (span.limit - span.at) (numbers old) (numbers new)
-      → ((bytes : List ℕ) (end : ℕ) (r : PlainRow) (parent : List (ℕ × ℕ)) (front ks behind : List PlainNode) → LookTold (files old) name bytes end r span parent front ks behind → IfDamage e ⊥ × PullsAtMost (own_bytes (tree_over parent ks)) (numbers old) (numbers new))
+      → ((bytes : List ℕ) (end : ℕ) (r : PlainRow) (parent : List (ℕ × ℕ)) (front ks behind : List PlainNode) → LookTold (files old) name bytes end r span parent front ks behind → IfDamage e ⊥ × PullsAtMost (own_read (tree_over parent ks)) (numbers old) (numbers new))
       → Visited i name row span place (at old k p m) (at new k p n) (Err (of_cursor e))
   visit-unlooked old new k p m n e some step h pulls told = record {
     walks = walks-more (at old k p m) (at new k p n) (Some (of_cursor e)) (span.limit - span.at) (may_pull row.end span place (Err (of_cursor e))) (omega arith) (states.reads files draft numbers faults taken out_faults old new k p m n (Some e) (span.limit - span.at) h pulls);
@@ -103,8 +104,8 @@ module _ {S K : Type 0} (files : S → Option Files) (draft : S → Option (List
         let t = tree_over parent ks in
         let own = own-visited t i in
         let one = some-visits t i in (
-          states.shows-unread files draft numbers faults taken out_faults old new k p m n (visited_bytes t i + nodes_seen i parent ks) (visits t i + nodes_steps i parent ks) e (kids_calls (kids_in i parent ks)) y.0 (omega (arith, one, step))
-              (more (own_bytes t) (visited_bytes t i + nodes_seen i parent ks) (omega (arith, own)) y.1),
+          states.shows-unread files draft numbers faults taken out_faults old new k p m n (tree_read t i + nodes_seen i parent ks) (visits t i + nodes_steps i parent ks) e (kids_calls (kids_in i parent ks)) y.0 (omega (arith, one, step))
+              (more (own_read t) (tree_read t i + nodes_seen i parent ks) (omega (arith, own)) y.1),
           tt,
         ));
   }
@@ -125,8 +126,8 @@ module _ {S K : Type 0} (files : S → Option Files) (draft : S → Option (List
         let idle = lacks-idle i parent ks l.some l.sets y.0 in
         let start = start-later row.first (length front) (length ks) (node_pieces parent (nodes_from (front ++ (ks ++ behind)))) in
         let after = x.after in (
-          subst (λ (cs : List PlainKeyed). Shows (kids_calls cs) (visited_bytes t i + nodes_seen i parent ks) (visits t i + nodes_steps i parent ks) (at old k p m) (at new k p n) None) (sym none)
-              (states.shows-read files draft numbers faults taken out_faults old new k p m n (visited_bytes t i + nodes_seen i parent ks) (visits t i + nodes_steps i parent ks) (omega (arith, alone, idle, step)) (more (own_bytes t) (visited_bytes t i + nodes_seen i parent ks) (omega (arith, own)) y.1)),
+          subst (λ (cs : List PlainKeyed). Shows (kids_calls cs) (tree_read t i + nodes_seen i parent ks) (visits t i + nodes_steps i parent ks) (at old k p m) (at new k p n) None) (sym none)
+              (states.shows-read files draft numbers faults taken out_faults old new k p m n (tree_read t i + nodes_seen i parent ks) (visits t i + nodes_steps i parent ks) (omega (arith, alone, idle, step)) (more (own_read t) (tree_read t i + nodes_seen i parent ks) (omega (arith, own)) y.1)),
           record { item = ap (λ (cs : List PlainKeyed). item_behind place.has_item cs) (sym none); after = omega (arith, after, start) },
         ));
   }
@@ -154,12 +155,12 @@ module _ {S K : Type 0} (files : S → Option Files) (draft : S → Option (List
             let inner = printed.shows bytes end parent front behind j x2 y.0.2 in
             let own = own-visited (tree_over parent (j ∷ [])) i in
             let one : visits (tree_over parent (j ∷ [])) i ≡ 1 = refl in
-            let w = visited_bytes (tree_over parent (j ∷ [])) i in
+            let w = tree_read (tree_over parent (j ∷ [])) i in
             let v = visits (tree_over parent (j ∷ [])) i in
-            let pulled = subst (λ (js : List PlainNode). PullsAtMost (own_bytes (tree_over parent js)) (numbers old) (numbers new)) is y.1 in
-            let known = states.shows-read files draft numbers faults taken out_faults old new k p m n w v (omega (arith, one, step)) (more (own_bytes (tree_over parent (j ∷ []))) w own pulled) in
+            let pulled = subst (λ (js : List PlainNode). PullsAtMost (own_read (tree_over parent js)) (numbers old) (numbers new)) is y.1 in
+            let known = states.shows-read files draft numbers faults taken out_faults old new k p m n w v (omega (arith, one, step)) (more (own_read (tree_over parent (j ∷ []))) w own pulled) in
             let both = shows-then s t u e [] (kids_calls (kids_in i parent (j ∷ []))) w (nodes_seen i parent (j ∷ [])) (w + nodes_seen i parent (j ∷ [])) v (nodes_steps i parent (j ∷ [])) (v + nodes_steps i parent (j ∷ [])) (omega arith) (omega arith) known inner.0 in (
-              subst (λ (js : List PlainNode). Shows (kids_calls (kids_in i parent js)) (visited_bytes (tree_over parent js) i + nodes_seen i parent js) (visits (tree_over parent js) i + nodes_steps i parent js) s u e) (sym is) both,
+              subst (λ (js : List PlainNode). Shows (kids_calls (kids_in i parent js)) (tree_read (tree_over parent js) i + nodes_seen i parent js) (visits (tree_over parent js) i + nodes_steps i parent js) s u e) (sym is) both,
               subst (λ (js : List PlainNode). IfOk r (λ q. EndsAt i row parent front js behind place q)) (sym is) inner.1,
             ));
       })
@@ -223,7 +224,7 @@ module _ {S K : Type 0} (files : S → Option Files) (draft : S → Option (List
   -- what both parts take
   record Both (parent : List (ℕ × ℕ)) (ks : List PlainNode) : Type 0 where
     calls : kids_calls (kids_in i parent (take (half (length ks)) ks)) ++ kids_calls (kids_in i parent (drop (half (length ks)) ks)) ≡ kids_calls (kids_in i parent ks)
-    read : own_bytes (tree_over parent ks) + ((visited_bytes (tree_over parent (take (half (length ks)) ks)) i + nodes_seen i parent (take (half (length ks)) ks)) + (visited_bytes (tree_over parent (drop (half (length ks)) ks)) i + nodes_seen i parent (drop (half (length ks)) ks))) ≡ visited_bytes (tree_over parent ks) i + nodes_seen i parent ks
+    read : own_read (tree_over parent ks) + ((tree_read (tree_over parent (take (half (length ks)) ks)) i + nodes_seen i parent (take (half (length ks)) ks)) + (tree_read (tree_over parent (drop (half (length ks)) ks)) i + nodes_seen i parent (drop (half (length ks)) ks))) ≡ tree_read (tree_over parent ks) i + nodes_seen i parent ks
     steps : 1 + ((visits (tree_over parent (take (half (length ks)) ks)) i + nodes_steps i parent (take (half (length ks)) ks)) + (visits (tree_over parent (drop (half (length ks)) ks)) i + nodes_steps i parent (drop (half (length ks)) ks))) ≡ visits (tree_over parent ks) i + nodes_steps i parent ks
 
   both : (parent : List (ℕ × ℕ)) (ks : List PlainNode) → 1 < length ks → AllByRecursion IsSet (map (set_of parent) ks) → has (members (top (tree_over parent ks))) i ≡ true → Both parent ks
@@ -234,8 +235,8 @@ module _ {S K : Type 0} (files : S → Option Files) (draft : S → Option (List
       let r = tree_over parent ys in
       let split = nodes-split parent ks many sets in
       let has' : has (members (top (joined l r))) i ≡ true = subst (λ (t : PlainTs). has (members (top t)) i ≡ true) split is in
-      let own = ap own_bytes split in
-      let seen = ap (λ (t : PlainTs). visited_bytes t i) split in
+      let own = ap own_read split in
+      let seen = ap (λ (t : PlainTs). tree_read t i) split in
       let walked = ap (λ (t : PlainTs). visits t i) split in
       let nodes = sym (seen-append i parent xs ys) ∙ ap (nodes_seen i parent) (both-halves ks) in
       let steps = sym (steps-append i parent xs ys) ∙ ap (nodes_steps i parent) (both-halves ks) in
@@ -268,15 +269,15 @@ module _ {S K : Type 0} (files : S → Option Files) (draft : S → Option (List
             let ys = drop (half (length ks)) ks in
             let x1 = subst (λ (f : Option Files). VisitIs i f name bytes end row left place parent front xs (ys ++ behind)) (sym h.same_files) (left-told (files old) bytes end parent front ks behind left right y.0.2 x) in
             let inner = visited.shows bytes end parent front xs (ys ++ behind) x1 in
-            let own = own_bytes (tree_over parent ks) in
-            let a = visited_bytes (tree_over parent xs) i + nodes_seen i parent xs in
+            let own = own_read (tree_over parent ks) in
+            let a = tree_read (tree_over parent xs) i + nodes_seen i parent xs in
             let b = visits (tree_over parent xs) i + nodes_steps i parent xs in
             let known = states.shows-read files draft numbers faults taken out_faults old new k p m n own 1 (omega (arith, step)) y.1 in
             let two = shows-then s t u (Some e) [] (kids_calls (kids_in i parent xs)) own a (own + a) 1 b (1 + b) (omega arith) (omega arith) known inner.0 in
             let read = both'.read in
             let steps = both'.steps in (
-              subst (λ (cs : List Call). Shows cs (visited_bytes (tree_over parent ks) i + nodes_seen i parent ks) (visits (tree_over parent ks) i + nodes_steps i parent ks) s u (Some e)) both'.calls
-                  (shows-fault s u e (kids_calls (kids_in i parent xs)) (kids_calls (kids_in i parent ys)) (own + a) (visited_bytes (tree_over parent ks) i + nodes_seen i parent ks) (1 + b) (visits (tree_over parent ks) i + nodes_steps i parent ks) (omega (arith, read)) (omega (arith, steps)) two),
+              subst (λ (cs : List Call). Shows cs (tree_read (tree_over parent ks) i + nodes_seen i parent ks) (visits (tree_over parent ks) i + nodes_steps i parent ks) s u (Some e)) both'.calls
+                  (shows-fault s u e (kids_calls (kids_in i parent xs)) (kids_calls (kids_in i parent ys)) (own + a) (tree_read (tree_over parent ks) i + nodes_seen i parent ks) (1 + b) (visits (tree_over parent ks) i + nodes_steps i parent ks) (omega (arith, read)) (omega (arith, steps)) two),
               tt,
             ));
       })
@@ -324,17 +325,17 @@ module _ {S K : Type 0} (files : S → Option Files) (draft : S → Option (List
             let inner = first.shows bytes end parent front xs (ys ++ behind) x1 in
             let x2 = subst (λ (f : Option Files). VisitIs i f name bytes end row right q parent (front ++ xs) ys behind) (sym (fw.same_files ∙ h.same_files)) (right-told (files old) bytes end parent front ks behind left right q y.0.2 x fr.depth inner.1) in
             let outer = second.shows bytes end parent (front ++ xs) ys behind x2 in
-            let own = own_bytes (tree_over parent ks) in
-            let a = visited_bytes (tree_over parent xs) i + nodes_seen i parent xs in
+            let own = own_read (tree_over parent ks) in
+            let a = tree_read (tree_over parent xs) i + nodes_seen i parent xs in
             let b = visits (tree_over parent xs) i + nodes_steps i parent xs in
-            let a' = visited_bytes (tree_over parent ys) i + nodes_seen i parent ys in
+            let a' = tree_read (tree_over parent ys) i + nodes_seen i parent ys in
             let b' = visits (tree_over parent ys) i + nodes_steps i parent ys in
             let known = states.shows-read files draft numbers faults taken out_faults old new k p m n own 1 (omega (arith, step)) y.1 in
             let two = shows-then s t u None [] (kids_calls (kids_in i parent xs)) own a (own + a) 1 b (1 + b) (omega arith) (omega arith) known inner.0 in
             let read = both'.read in
             let steps = both'.steps in (
-              subst (λ (cs : List Call). Shows cs (visited_bytes (tree_over parent ks) i + nodes_seen i parent ks) (visits (tree_over parent ks) i + nodes_steps i parent ks) s v e) both'.calls
-                  (shows-then s u v e (kids_calls (kids_in i parent xs)) (kids_calls (kids_in i parent ys)) (own + a) a' (visited_bytes (tree_over parent ks) i + nodes_seen i parent ks) (1 + b) b' (visits (tree_over parent ks) i + nodes_steps i parent ks) (omega (arith, read)) (omega (arith, steps)) two outer.0),
+              subst (λ (cs : List Call). Shows cs (tree_read (tree_over parent ks) i + nodes_seen i parent ks) (visits (tree_over parent ks) i + nodes_steps i parent ks) s v e) both'.calls
+                  (shows-then s u v e (kids_calls (kids_in i parent xs)) (kids_calls (kids_in i parent ys)) (own + a) a' (tree_read (tree_over parent ks) i + nodes_seen i parent ks) (1 + b) b' (visits (tree_over parent ks) i + nodes_steps i parent ks) (omega (arith, read)) (omega (arith, steps)) two outer.0),
               ends-then parent front ks behind q r inner.1 outer.1,
             ));
       })

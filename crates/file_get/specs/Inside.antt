@@ -15,7 +15,7 @@ use Rattle.record_format.specs.Data.{PlainRec, inner_rec, leaf_rec}
 use Rattle.record_format.specs.Nodes.{alt_of, node_pieces, set_in}
 use Rattle.record_parts.specs.Spelling.{stamp_bytes}
 use Rattle.record_format.specs.Spelling.{rec_bytes}
-use Rattle.record_format.specs.Seen.{alts_seen, dir_seen, node_steps, piece_sets, row_seen}
+use Rattle.record_format.specs.Seen.{node_steps, piece_sets}
 use Rattle.xa_fields.specs.Spelling.{u64_bytes}
 use Rattle.xa_outside.specs.Folder.{Files}
 use Rattle.file_rows.specs.StandsAt.{StandsAt}
@@ -29,6 +29,7 @@ use Rattle.file_get.specs.Stands.{NodeIs}
 use Rattle.file_get.specs.declared.fault.GetFault.{GetFault}
 use Rattle.file_get.specs.declared.body.Alternative.{Alternative}
 use Rattle.file_get.specs.declared.read.Opening.{Opening}
+use Rattle.file_get.specs.Searched.{alts_read, dir_read, row_read}
 
 -- the record that opens a node
 abbrev pub opening_rec : PlainNode → PlainRec
@@ -86,8 +87,8 @@ pub record AltIs (i at : ℕ) (set : List (ℕ × ℕ)) (x : PlainAlt) (a : Alte
 
 -- the bytes that are looked at of a node behind its opening record
 abbrev pub inside_seen : ℕ → List (ℕ × ℕ) → PlainNode → ℕ
-inside_seen i parent (inner_node l s ks) = dir_seen i (piece_sets (node_pieces (set_in s parent) ks)) + row_seen i (set_in s parent) ks
-inside_seen i parent (leaf_node l s xs) = alts_seen i (set_in s parent) xs + 9
+inside_seen i parent (inner_node l s ks) = dir_read i (piece_sets (node_pieces (set_in s parent) ks)) + row_read i (set_in s parent) ks
+inside_seen i parent (leaf_node l s xs) = alts_read i (set_in s parent) xs
 
 -- The node is this child, and this its opening record; version i has it, and it can be printed at this place.
 pub record NodeOpened (i : ℕ) (files : Option Files) (name bytes : List ℕ) (end : ℕ) (child : PlainChild) (opening : Opening) (depth : ℕ) (has_item : Bool) (parent : List (ℕ × ℕ)) (k : PlainNode) : Type 0 where

@@ -9,7 +9,8 @@ use Rattle.keyed_tree.specs.Proper.{is_tag, is_scalar, is_content}
 use Rattle.archive_tree.specs.Data.{PlainAlt, PlainNode, inner_node, leaf_node, PlainNodes, no_nodes, node, nodes_from, node_stamp}
 use Rattle.archive_tree.specs.Read.{read}
 use Rattle.record_format.specs.Nodes.{set_in}
-use Rattle.record_format.specs.Seen.{node_seen, node_steps, sets_visited, sets_visits}
+use Rattle.record_format.specs.Seen.{node_steps, sets_visits}
+use Rattle.file_get.specs.Searched.{node_read, sets_read}
 
 -- a set that is not empty
 abbrev pub IsFilled : List (ℕ × ℕ) → Type 0
@@ -92,14 +93,14 @@ all_find i parent ks = finds_each i parent (nodes_from ks)
 
 abbrev pub nodes_seen : ℕ → List (ℕ × ℕ) → List PlainNode → ℕ
 nodes_seen i parent [] = 0
-nodes_seen i parent (k ∷ ks) = (if has_at i parent k then 24 + node_seen i parent k else 0) + nodes_seen i parent ks
+nodes_seen i parent (k ∷ ks) = (if has_at i parent k then 24 + node_read i parent k else 0) + nodes_seen i parent ks
 
 abbrev pub nodes_steps : ℕ → List (ℕ × ℕ) → List PlainNode → ℕ
 nodes_steps i parent [] = 0
 nodes_steps i parent (k ∷ ks) = (if has_at i parent k then node_steps i parent k else 0) + nodes_steps i parent ks
 
 abbrev pub sets_seen : ℕ → List (ℕ × ℕ) → List PlainNode → ℕ
-sets_seen i parent ks = sets_visited (map (set_of parent) ks) i
+sets_seen i parent ks = sets_read (map (set_of parent) ks) i
 
 abbrev pub sets_steps : ℕ → List (ℕ × ℕ) → List PlainNode → ℕ
 sets_steps i parent ks = sets_visits (map (set_of parent) ks) i

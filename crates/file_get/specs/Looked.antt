@@ -12,6 +12,7 @@ use Rattle.record_cursor.specs.declared.fault.CursorFault.{CursorFault}
 use Rattle.xa_outside.specs.Folder.{Files}
 use Rattle.file_rows.specs.View.{PlainRow}
 use Rattle.file_get.specs.Kids.{IsFilled, set_of, has_at}
+use Rattle.file_get.specs.Searched.{inner_read, leaf_read}
 use Rattle.file_get.specs.Stands.{SpanIs}
 use Rattle.file_get.specs.declared.node.Probe.{Probe}
 use Rattle.file_get.specs.declared.look.Sight.{Sight}
@@ -53,6 +54,11 @@ looked span (Err e) = span.limit - span.at
 abbrev pub own_bytes : PlainTs → ℕ
 own_bytes (leaf s) = length (stored s 0)
 own_bytes (node s n l r) = length (stored s n)
+
+-- those of them that are read
+abbrev pub own_read : PlainTs → ℕ
+own_read (leaf s) = leaf_read (length s)
+own_read (node s n l r) = inner_read (length s)
 
 -- the byte size of its left part, 0 of a leaf
 abbrev pub left_bytes : PlainTs → ℕ

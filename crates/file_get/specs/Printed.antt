@@ -6,7 +6,7 @@ use Rattle.archive_tree.specs.Data.{PlainNode, node_label}
 use Rattle.archive_tree.specs.Read.{read}
 use Rattle.version_set.specs.Members.{members}
 use Rattle.record_cursor.specs.Moves.{TellsFront}
-use Rattle.record_format.specs.Seen.{node_seen, node_steps}
+use Rattle.record_format.specs.Seen.{node_steps}
 use Rattle.file_rows.specs.View.{PlainRow, PlainChild}
 use Rattle.file_get.specs.Told.{fault_of}
 use Rattle.file_get.specs.State.{State}
@@ -17,6 +17,7 @@ use Rattle.file_get.specs.Visits.{reach, Reaches, EndsAt}
 use Rattle.file_get.specs.declared.span.Span.{Span}
 use Rattle.file_get.specs.declared.span.Place.{Place}
 use Rattle.file_get.specs.declared.fault.GetFault.{GetFault}
+use Rattle.file_get.specs.Searched.{node_read}
 
 -- These nodes are this row, and what version i has among them can be printed.
 pub record RowTold (i : ℕ) (files : Option Files) (name bytes : List ℕ) (end depth : ℕ) (row : PlainRow) (parent : List (ℕ × ℕ)) (ks : List PlainNode) : Type 0 where
@@ -47,5 +48,5 @@ pub record NodePrinted (i : ℕ) (name : List ℕ) (child : PlainChild) (depth :
   pub walks : Walks (child.end - child.first) s t (fault_of result)
   pub stands : IfOk result (λ h. StandsIn depth h t.pen)
   pub shows : (bytes : List ℕ) (end : ℕ) (parent : List (ℕ × ℕ)) (k : PlainNode) → NodeIs i s.files name bytes end child depth has_item parent k
-      → Shows (kid_calls (read i (members parent) k)) (node_seen i parent k) (node_steps i parent k) s t (fault_of result)
+      → Shows (kid_calls (read i (members parent) k)) (node_read i parent k) (node_steps i parent k) s t (fault_of result)
       × IfOk result (λ h. h ≡ (has_item || is_tag (node_label k).name))

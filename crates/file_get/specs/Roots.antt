@@ -15,7 +15,7 @@ use Rattle.record_format.specs.Bounds.{IsRec}
 use Rattle.record_format.specs.Files.{root_pieces}
 use Rattle.record_format.specs.Nested.{are_nested}
 use Rattle.record_format.specs.Nodes.{closed_by_end}
-use Rattle.record_format.specs.Seen.{seen, steps_for}
+use Rattle.record_format.specs.Seen.{steps_for}
 use Rattle.record_parts.specs.Bounds.{deepest}
 use Rattle.record_cursor.specs.Moves.{TellsFront}
 use Rattle.file_rows.specs.StandsAt.{StandsAt, RowLaid}
@@ -23,6 +23,7 @@ use Rattle.file_rows.specs.View.{PlainRow}
 use Rattle.file_get.specs.State.{State}
 use Rattle.file_get.specs.Walks.{Walks, Prefixed, Shows}
 use Rattle.file_get.specs.Kids.{all_find, kids_in, kid_fits}
+use Rattle.file_get.specs.Searched.{bytes_read}
 use Rattle.file_get.specs.Told.{IsSound, RefusesShort, Unless}
 use Rattle.file_get.specs.declared.fault.GetFault.{GetFault}
 
@@ -46,11 +47,11 @@ pub record RootPrinted (i : ℕ) (name : List ℕ) (size first : ℕ) (s t : Sta
   pub walks : Walks (size - first) s t ended
   pub short : RefusesShort s.files name size ended
   pub shows : (bytes : List ℕ) (row : PlainRow) (a : PlainArchive) (k : PlainKeyed) → RootTold i s.files name bytes size first row a k
-      → Shows (calls_of (plain k)) (8 + seen a i) (steps_for a i) s t ended
+      → Shows (calls_of (plain k)) (8 + bytes_read a i) (steps_for a i) s t ended
 
 -- The text of the version was written, and a line feed.
 pub record TextPut (i : ℕ) (name : List ℕ) (size first : ℕ) (s t : State) (ended : Option GetFault) : Type 0 where
   pub walks : Walks (size - first) s t ended
   pub short : RefusesShort s.files name size ended
   pub sound : (bytes : List ℕ) (row : PlainRow) (a : PlainArchive) (k : PlainKeyed) → RootTold i s.files name bytes size first row a k
-      → IsSound ended × Prefixed s.taken t.taken ended (keyed_text k) × PullsAtMost (8 + seen a i) s.numbers t.numbers × (t.steps ≤ s.steps + steps_for a i) × Unless ended (t.steps ≡ s.steps + steps_for a i)
+      → IsSound ended × Prefixed s.taken t.taken ended (keyed_text k) × PullsAtMost (8 + bytes_read a i) s.numbers t.numbers × (t.steps ≤ s.steps + steps_for a i) × Unless ended (t.steps ≡ s.steps + steps_for a i)

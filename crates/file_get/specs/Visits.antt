@@ -1,6 +1,6 @@
 -- What the search of a part of a row shows.
 use Rattle.std.specs.Prelude.{◌≡◌, ℕ, ◌+◌, ◌-◌, ◌*◌, ◌≤◌, List, ◌++◌, length, map, Result, Ok, Err, IfOk}
-use Rattle.timestamp_tree.specs.Search.{visits, visited_bytes}
+use Rattle.timestamp_tree.specs.Search.{visits}
 use Rattle.timestamp_tree.specs.Tree.{tree_of}
 use Rattle.archive_tree.specs.Data.{PlainNode, nodes_from}
 use Rattle.jsonml_print.specs.Pen.{Pen}
@@ -15,6 +15,7 @@ use Rattle.file_get.specs.Stands.{VisitIs}
 use Rattle.file_get.specs.declared.span.Span.{Span}
 use Rattle.file_get.specs.declared.span.Place.{Place}
 use Rattle.file_get.specs.declared.fault.GetFault.{GetFault}
+use Rattle.file_get.specs.Searched.{tree_read}
 
 -- how far a search has come in a row that ends here
 abbrev pub reach : ℕ → Result Place GetFault → ℕ
@@ -42,5 +43,5 @@ pub record Visited (i : ℕ) (name : List ℕ) (row : PlainRow) (span : Span) (p
   pub walks : Walks (may_pull row.end span place result) s t (fault_of result)
   pub reaches : IfOk result (λ p. Reaches row.end place p t.pen)
   pub shows : (bytes : List ℕ) (end : ℕ) (parent : List (ℕ × ℕ)) (front ks behind : List PlainNode) → VisitIs i s.files name bytes end row span place parent front ks behind
-      → Shows (kids_calls (kids_in i parent ks)) (visited_bytes (tree_of (map (set_of parent) ks)) i + nodes_seen i parent ks) (visits (tree_of (map (set_of parent) ks)) i + nodes_steps i parent ks) s t (fault_of result)
+      → Shows (kids_calls (kids_in i parent ks)) (tree_read (tree_of (map (set_of parent) ks)) i + nodes_seen i parent ks) (visits (tree_of (map (set_of parent) ks)) i + nodes_steps i parent ks) s t (fault_of result)
       × IfOk result (λ p. EndsAt i row parent front ks behind place p)

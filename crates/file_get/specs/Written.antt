@@ -7,12 +7,13 @@ use Rattle.archive_tree.specs.Data.{PlainArchive}
 use Rattle.archive_tree.specs.Stands.{ArchiveOf, version_of}
 use Rattle.archive_file.specs.Sound.{SoundAs}
 use Rattle.record_format.specs.Fronts.{fixed}
-use Rattle.record_format.specs.Seen.{seen, steps_for}
+use Rattle.record_format.specs.Seen.{steps_for}
 use Rattle.record_cursor.specs.Moves.{TellsFront}
 use Rattle.xa_outside.specs.Numbers.{PullsAtMost}
 use Rattle.xa_outside.specs.Taken.{Takes, TakesNone}
 use Rattle.file_get.specs.State.{State}
 use Rattle.file_get.specs.Walks.{Prefixed}
+use Rattle.file_get.specs.Searched.{bytes_read}
 use Rattle.file_get.specs.Told.{IsCaused, IsSound, Judges, RefusesShort, Unless, is_version}
 use Rattle.file_get.specs.declared.fault.GetFault.{GetFault}
 use Rattle.file_get.specs.declared.fault.GetFault.TheVariants.{NoVersion}
@@ -24,7 +25,7 @@ IsUncounted i (Some n) = ¬ is_version i n
 
 -- at most so many bytes are pulled for a version, and fewer for one that the archive does not have
 abbrev pub Few : ℕ → PlainArchive → State → State → Type 0
-Few i a s t = (is_version i a.n → PullsAtMost (22 + seen a i) s.numbers t.numbers) × (¬ is_version i a.n → PullsAtMost 22 s.numbers t.numbers)
+Few i a s t = (is_version i a.n → PullsAtMost (22 + bytes_read a i) s.numbers t.numbers) × (¬ is_version i a.n → PullsAtMost 22 s.numbers t.numbers)
 
 -- The version was written, or it is said why not: whatever the file is, where it is told, and where it is sound.
 pub record Written (i : ℕ) (name : List ℕ) (size : ℕ) (s t : State) (ended : Option GetFault) : Type 0 where

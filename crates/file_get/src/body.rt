@@ -1,6 +1,8 @@
 // Reading the body that a leaf has in a version.
-ghost use Rattle.std.specs.Prelude.{◌≡◌, ◌+◌, ◌-◌, ◌*◌, ◌/◌, ◌≤◌, ◌<◌, ◌^◌, ◌++◌, ℕ, List, Some, true, length, is_some, IfOk, IfErr, IfSome, OnOk};
+ghost use Rattle.std.specs.Prelude.{◌≡◌, ◌+◌, ◌-◌, ◌*◌, ◌/◌, ◌≤◌, ◌<◌, ◌^◌, ◌++◌, ℕ, List, Some, true, length, drop, is_some, IfOk, IfErr, IfSome, OnOk};
 ghost use Rattle.std.specs.List.{flat_map};
+ghost use Rattle.std.specs.Int.{w32};
+ghost use Rattle.xa_fields.specs.Reading.{number_at};
 ghost use Rattle.xa_fields.specs.Spelling.{u32_bytes};
 ghost use Rattle.xa_outside.specs.Numbers.{PullsAtMost, after_pull};
 ghost use Rattle.version_set.specs.Members.{members, has};
@@ -9,10 +11,9 @@ ghost use Rattle.archive_tree.specs.Data.{Stamp, PlainAlt};
 ghost use Rattle.archive_tree.specs.Read.{body_at};
 ghost use Rattle.timestamp_tree.specs.Bytes.{pair_bytes, set_bytes};
 ghost use Rattle.record_parts.specs.Bounds.{IsSet, IsValue};
-ghost use Rattle.record_parts.specs.Spelling.{stamp_bytes, value_bytes};
+ghost use Rattle.record_parts.specs.Spelling.{value_bytes};
 ghost use Rattle.record_format.specs.Bounds.{IsRec};
 ghost use Rattle.record_format.specs.Nodes.{alt_of};
-ghost use Rattle.record_format.specs.Seen.{alts_seen};
 ghost use Rattle.record_format.specs.Spelling.{rec_bytes};
 ghost use Rattle.record_cursor.specs.Faults.{IfFolder};
 ghost use Rattle.record_cursor.specs.Moves.{TellsFront};
@@ -20,7 +21,7 @@ ghost use Rattle.record_cursor.specs.Steps.{OnlyReads, fault_of, Filled};
 ghost use Rattle.file_rows.specs.StandsAt.{StandsAt};
 ghost use Rattle.file_get.specs.Inside.{AltsTold, AltIs, IsAltHead, SetIs, head_bytes};
 ghost use Rattle.file_get.specs.LeafBodies.{body_view};
-ghost use Rattle.file_get.specs.Searched.{searched};
+ghost use Rattle.file_get.specs.Searched.{alts_read, searched, stamp_read};
 
 use crate::bytes::Bytes;
 use crate::sets::search_pairs;
@@ -58,7 +59,7 @@ pub(crate) fn read_body<'a, F: Folder>(
         → AltsTold ask.entry.version (F.files folder.old) ask.entry.name.now bytes last at end
         set xs more
         → Filled result (λ b. body_view b ≡ Some (body_at ask.entry.version (members set) xs))
-        × PullsAtMost (alts_seen ask.entry.version set xs)
+        × PullsAtMost (alts_read ask.entry.version set xs)
         (F.numbers folder.old) (F.numbers folder.new) }
 {
     let mut at = at;
@@ -95,7 +96,7 @@ fn read_alternative<F: Folder>(
         → end ≡ at + length (rec_bytes (alt_of x) ++ more) → IsRec (alt_of x)
         → has (members set) ask.entry.version ≡ true
         → Filled result (AltIs ask.entry.version at set x)
-        × PullsAtMost (9 + length (stamp_bytes x.stamp))
+        × PullsAtMost (stamp_read x.stamp)
         (F.numbers folder.old) (F.numbers folder.new) }
 {
     let (end, is_stored) = match read_head(ask, folder, at, end) {
@@ -186,7 +187,7 @@ fn read_set<F: Folder>(
         → TellsFront (F.files folder.old) ask.entry.name.now last bytes → end ≤ last
         → StandsAt bytes at (set_bytes s) → at + length (set_bytes s) ≤ end → IsSet s
         → Filled result (SetIs ask.entry.version (at + length (set_bytes s)) s)
-        × PullsAtMost (length (set_bytes s)) (F.numbers folder.old) (F.numbers folder.new) }
+        × PullsAtMost (4 + 8 * searched (length s)) (F.numbers folder.old) (F.numbers folder.new) }
 {
     let count = match read_count(ask, folder, at, end) {
         Ok(count) => count,
@@ -231,6 +232,7 @@ pub(crate) fn read_count<F: Folder>(
 pub(crate) fn count_within(front: &[u8], room: u64) -> Option<u32>
     requires { 4 ≤ room }
     ensures within { IfSome result (λ n. 4 + 8 * n ≤ room) }
+    ensures is { IfSome result (λ n. number_at w32 front.now ≡ Some (n, drop 4 front.now)) }
     ensures told { (n : ℕ) → n < 2 ^ 32 → 4 + 8 * n ≤ room → front.now ≡ u32_bytes n
         → result ≡ Some n }
 {

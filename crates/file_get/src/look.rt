@@ -9,7 +9,7 @@ ghost use Rattle.record_parts.specs.Bounds.{IsSet};
 ghost use Rattle.record_cursor.specs.Faults.{IfFolder};
 ghost use Rattle.file_get.specs.Kids.{set_of};
 ghost use Rattle.file_get.specs.Stands.{SpanIs};
-ghost use Rattle.file_get.specs.Looked.{IsLook, IsInnerNode, OkWhere, looked, left_of, right_of, own_bytes, NodeOf, sight_of, tree_over, LookTold, LookIs};
+ghost use Rattle.file_get.specs.Looked.{IsLook, IsInnerNode, OkWhere, looked, left_of, right_of, own_read, NodeOf, sight_of, tree_over, LookTold, LookIs};
 ghost use Rattle.file_get.specs.Searched.{searched};
 ghost use Rattle.file_get.specs.declared.look.Sight.TheVariants.{Parts};
 
@@ -50,7 +50,7 @@ pub(crate) fn look<F: Folder, L: Ledger>(
         → LookTold (F.files folder.old) ask.entry.name.now bytes end row span parent
         front ks behind
         → Filled result (LookIs ask.entry.version bytes row parent front ks behind)
-        × PullsAtMost (own_bytes (tree_over parent ks))
+        × PullsAtMost (own_read (tree_over parent ks))
         (F.numbers folder.old) (F.numbers folder.new) }
 {
     steps.tick();
@@ -78,7 +78,7 @@ fn look_at_leaf<F: Folder>(ask: Ask<'_>, folder: &mut F, span: Span) -> Result<S
         → LookTold (F.files folder.old) ask.entry.name.now bytes end row span parent
         front ks behind
         → Filled result (LookIs ask.entry.version bytes row parent front ks behind)
-        × PullsAtMost (own_bytes (tree_over parent ks))
+        × PullsAtMost (own_read (tree_over parent ks))
         (F.numbers folder.old) (F.numbers folder.new) }
 {
     match read_leaf(ask, folder, span.at, span.limit) {

@@ -11,7 +11,7 @@ ghost use Rattle.record_cursor.specs.Moves.{TellsFront};
 ghost use Rattle.record_cursor.specs.Steps.{OnlyReads, fault_of, Filled};
 ghost use Rattle.file_rows.specs.StandsAt.{StandsAt};
 ghost use Rattle.file_get.specs.Nodes.{NodeTold, probe_view, says, says_of};
-ghost use Rattle.file_get.specs.Searched.{searched};
+ghost use Rattle.file_get.specs.Searched.{inner_read, searched};
 
 use crate::body::{count_within, read_count};
 use crate::sets::{FEW, search_pairs};
@@ -200,7 +200,7 @@ pub(crate) fn read_node<F: Folder>(
     ensures told { (last left : ℕ) (bytes : List ℕ) (s : List (ℕ × ℕ))
         → NodeTold (F.files folder.old) ask.entry.name.now bytes last at limit s left
         → Filled result (λ probe. probe_view probe ≡ says ask.entry.version s left)
-        × PullsAtMost (length (stored s left)) (F.numbers folder.old) (F.numbers folder.new) }
+        × PullsAtMost (inner_read (length s)) (F.numbers folder.old) (F.numbers folder.new) }
 {
     if limit - at < LEAST as u64 {
         return Err(CursorFault::Damage);
@@ -234,7 +234,8 @@ fn read_begun<F: Folder>(
         → NodeTold (F.files folder.old) ask.entry.name.now bytes last at limit s left
         → take 20 node.old ≡ take 20 (drop at bytes)
         → Filled result (λ probe. probe_view probe ≡ says ask.entry.version s left)
-        × PullsAtMost (8 * length s - 8) (F.numbers folder.old) (F.numbers folder.new) }
+        × PullsAtMost (inner_read (length s) - 20)
+        (F.numbers folder.old) (F.numbers folder.new) }
 {
     match count_within(&node[..4], limit - at - 8) {
         Some(0) => Err(CursorFault::Damage),

@@ -10,7 +10,7 @@ ghost use Rattle.archive_tree.specs.Data.{PlainNode};
 ghost use Rattle.record_format.specs.Bounds.{IsRec};
 ghost use Rattle.record_format.specs.Spelling.{body_bytes, kind_of, rec_bytes};
 ghost use Rattle.record_cursor.specs.Moves.{TellsFront};
-ghost use Rattle.record_cursor.specs.Steps.{OnlyReads, fault_of, Filled};
+ghost use Rattle.record_cursor.specs.Steps.{OnlyReads, fault_of, Filled, IsFrame};
 ghost use Rattle.file_rows.specs.StandsAt.{StandsAt};
 ghost use Rattle.file_get.specs.Inside.{is_inner, may_close, opening_rec, opens, OpeningIs};
 
@@ -141,6 +141,7 @@ fn frame_within(frame: &[u8], room: u64) -> Option<(u8, u64)>
     requires { 9 ≤ room }
     ensures within { IfSome result (λ f. 9 + f.1 ≤ room) }
     ensures opens { IfSome result (λ f. IsTrue (opens f.0)) }
+    ensures is { IfSome result (IsFrame frame.now) }
     ensures told { (kind size : ℕ) → kind < 2 ^ 8 → IsTrue (opens kind) → size < 2 ^ 64
         → 9 + size ≤ room
         → frame.now ≡ kind ∷ u64_bytes size → result ≡ Some (kind, size) }

@@ -13,6 +13,7 @@ ghost use Rattle.xa_outside.specs.Folder.{Files, front_of};
 ghost use Rattle.xa_outside.specs.Numbers.{PullsAtMost};
 ghost use Rattle.xa_outside.specs.Taken.{Puts, Takes, TakesNone};
 ghost use Rattle.jsonml_print.specs.Pen.{fresh};
+ghost use Rattle.file_get.specs.Searched.{bytes_read};
 ghost use Rattle.file_get.specs.State.{state};
 ghost use Rattle.file_get.specs.Told.{IsCaused, IsRefused, Judges, fault_of, is_version};
 ghost use Rattle.file_get.specs.Written.{IsUncounted, Written};
@@ -73,8 +74,8 @@ pub fn get<F: Folder, O: Sink, L: Ledger>(
     ensures cause { IsCaused (F.faults folder.old) (F.faults folder.new) (O.faults out.old)
         (O.faults out.new) (fault_of result) }
 
-    // Whatever the file is, no more bytes are pulled than the part has; over a sound archive only
-    // what the search looks at is read.
+    // Whatever the file is, no more bytes are pulled than the part has. Over a sound archive only
+    // what the search looks at is read, and of stored sets what halving asks for.
     ensures pulls { PullsAtMost size (F.numbers folder.old) (F.numbers folder.new) }
     ensures few { (bytes : List ℕ) (rules : List PlainRule) (vs : List PlainKeyed)
         (a : PlainArchive) → TellsFront (F.files folder.old) name.now size bytes
@@ -83,6 +84,10 @@ pub fn get<F: Folder, O: Sink, L: Ledger>(
         (F.numbers folder.old) (F.numbers folder.new))
         × (¬ is_version version a.n
         → PullsAtMost 22 (F.numbers folder.old) (F.numbers folder.new)) }
+    ensures halved { (bytes : List ℕ) (rules : List PlainRule) (vs : List PlainKeyed)
+        (a : PlainArchive) → TellsFront (F.files folder.old) name.now size bytes
+        → SoundAs rules vs bytes → ArchiveOf vs a → is_version version a.n
+        → PullsAtMost (22 + bytes_read a version) (F.numbers folder.old) (F.numbers folder.new) }
     ensures steps { (bytes : List ℕ) (rules : List PlainRule) (vs : List PlainKeyed)
         (a : PlainArchive) → TellsFront (F.files folder.old) name.now size bytes
         → SoundAs rules vs bytes → ArchiveOf vs a → steps.new ≤ steps.old + steps_for a version }

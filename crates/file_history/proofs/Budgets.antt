@@ -1,9 +1,9 @@
 -- How much is left to look at, where a row is halved.
 use Rattle.std.proofs.Common.{◌≡◌, ℕ, zero, suc, ◌+◌, ◌-◌, ◌*◌, ◌/◌, ◌<◌, ◌≤◌, List, [], ◌∷◌, ◌++◌, map, length, refl, sym, ap, subst, ◌∙◌, arith}
-use Rattle.std.proofs.lemmas.Int.Digits.{length-digits_of_step}
 use Rattle.std.proofs.lemmas.List.{map-append}
 use Rattle.archive_tree.specs.Data.{PlainNode}
 use Rattle.record_format.specs.Probed.{greatest_sum, most_probes}
+use Rattle.file_rows.proofs.Halves.{probes-less}
 use Rattle.file_history.specs.Parts.{opening_size, cost}
 
 -- ---- sums
@@ -48,26 +48,6 @@ sum-left (suc p) x (y ∷ left) right =
     let a = sum-left p x left right in
     let b = sum-left (suc p) x left right in
     omega (arith, a, b)
-
--- ---- halves
-
-probes-step : (n : ℕ) → 0 < n → most_probes n ≡ most_probes (n / 2) + 1
-probes-step n h = length-digits_of_step 2 n (omega arith) h
-
-probes-grow-to : (k m n : ℕ) → n ≤ k → m ≤ n → most_probes m ≤ most_probes n
-probes-grow-to k zero n fits h = omega arith
-probes-grow-to zero (suc m) n fits h = absurd (omega (arith, fits, h))
-probes-grow-to (suc k) (suc m) n fits h =
-    let less : suc m / 2 ≤ n / 2 = omega (arith, h) in
-    let small : n / 2 ≤ k = omega (arith, fits, h) in
-    let rest = probes-grow-to k (suc m / 2) (n / 2) small less in
-    omega (arith, probes-step (suc m) (omega arith), probes-step n (omega (arith, h)), rest)
-
-probes-grow : (m n : ℕ) → m ≤ n → most_probes m ≤ most_probes n
-probes-grow m n h = probes-grow-to n m n (omega arith) h
-
-pub probes-less : (m n : ℕ) → 0 < n → m ≤ n / 2 → most_probes m + 1 ≤ most_probes n
-probes-less m n some h = omega (arith, probes-step n some, probes-grow m (n / 2) h)
 
 -- ---- what is looked at
 

@@ -18,7 +18,7 @@ use Rattle.file_history.specs.declared.open.Found.{Found}
 use Rattle.file_history.specs.declared.search.Part.{Part}
 use Rattle.file_history.specs.declared.search.Probed.{Probed}
 use Rattle.file_history.specs.declared.search.Probed.TheVariants.{Here, Beside}
-use Rattle.file_history.proofs.Budgets.{probes-less}
+use Rattle.file_rows.proofs.Halves.{probes-less}
 use Rattle.file_history.proofs.Probes.{probes-none}
 
 pub here-told : (told : Option Files) (name bytes : List ℕ) (row : PlainRow) (parent : List (ℕ × ℕ)) (w : PlainLabel) (mid : List PlainNode) (a b : Numbers) (r : Result Probed CursorFault) (f : Found) → r ≡ Ok (Here f)

@@ -1,4 +1,5 @@
 pub mod Parts
+pub mod Halves
 pub mod Children
 pub mod Fields
 pub mod RootRows

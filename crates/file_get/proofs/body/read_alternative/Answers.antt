@@ -1,15 +1,14 @@
 use Rattle.std.proofs.Common.{◌≡◌, ℕ, ◌+◌, ◌-◌, ◌*◌, ◌/◌, ◌≤◌, length, Ok, Err, sym, subst, ◌∙◌, arith}
 use Rattle.xa_outside.specs.NumberLaws.{PullsAtMost-more, PullsAtMost-trans}
-use Rattle.record_parts.specs.Spelling.{stamp_bytes}
-use Rattle.file_get.specs.Searched.{searched}
-use Rattle.file_get.proofs.Bodies.{stamp-stands, stamp-some, alt-length, alt-parts, alt-is, alt-inherits, stored-set}
+use Rattle.file_get.specs.Searched.{searched, stamp_read}
+use Rattle.file_get.proofs.Bodies.{stamp-begun, stamp-stands, alt-length, alt-parts, alt-is, alt-inherits, stored-set}
 use Rattle.file_get.proofs.body.read_alternative.Goals as goal
 
 pub returns-in-Err-clause-told : goal.returns-in-Err-clause-told
 returns-in-Err-clause-told g c = λ last bytes more set x tells within stands ends is has. (
     let n = g.F.Folder.numbers in
     let e = c.in-Err.ensures in
-    (e.told last bytes more x tells within stands ends is, PullsAtMost-more 10 (9 + length (stamp_bytes x.stamp)) (n c.args.folder.now) (n c.read_head.new.folder) (omega (arith, stamp-some x.stamp)) e.pulls))
+    (e.told last bytes more x tells within stands ends is, PullsAtMost-more 10 (stamp_read x.stamp) (n c.args.folder.now) (n c.read_head.new.folder) (omega (arith, stamp-begun x.stamp)) e.pulls))
 
 pub returns-then-not-is_stored-clause-told : goal.returns-then-not-is_stored-clause-told
 returns-then-not-is_stored-clause-told g c = λ last bytes more set x tells within stands ends is has. (
@@ -18,7 +17,7 @@ returns-then-not-is_stored-clause-told g c = λ last bytes more set x tells with
     let f = c.in-Ok.ensures in
     let h = f.told last bytes more x tells within stands ends is in (
       alt-inherits a.ask.version a.at c.in-Ok.head.0 set x h.0 (sym c.if-not-is_stored.true ∙ h.1) has,
-      PullsAtMost-more 10 (9 + length (stamp_bytes x.stamp)) (n a.folder.now) (n c.read_head.new.folder) (omega (arith, stamp-some x.stamp)) f.pulls,
+      PullsAtMost-more 10 (stamp_read x.stamp) (n a.folder.now) (n c.read_head.new.folder) (omega (arith, stamp-begun x.stamp)) f.pulls,
     ))
 
 pub returns-in-Ok-read_set-clause-told : goal.returns-in-Ok-read_set-clause-told

@@ -1,7 +1,6 @@
 use Rattle.std.proofs.Common.{◌≡◌, ℕ, ◌+◌, ◌-◌, ◌*◌, ◌/◌, ◌≤◌, length, sym, subst, arith}
+use Rattle.xa_outside.specs.Numbers.{PullsAtMost}
 use Rattle.xa_outside.specs.NumberLaws.{PullsAtMost-more, PullsAtMost-trans}
-use Rattle.timestamp_tree.specs.Bytes.{set_bytes}
-use Rattle.timestamp_tree.proofs.Trees.{length-set_bytes}
 use Rattle.record_cursor.specs.Moves.{TellsFront}
 use Rattle.file_get.specs.Searched.{searched}
 use Rattle.file_get.proofs.Bodies.{pairs-stand, set-is}
@@ -12,7 +11,7 @@ pub returns-in-Err-clause-told : goal.returns-in-Err-clause-told
 returns-in-Err-clause-told g c = λ last bytes s tells within stands fits is. (
     let n = g.F.Folder.numbers in
     let e = c.in-Err.ensures in
-    (e.told last bytes s tells within stands fits is, PullsAtMost-more 4 (length (set_bytes s)) (n c.args.folder.now) (n c.read_count.new.folder) (omega (arith, length-set_bytes s)) e.pulls))
+    (e.told last bytes s tells within stands fits is, PullsAtMost-more 4 (4 + 8 * searched (length s)) (n c.args.folder.now) (n c.read_count.new.folder) (omega arith) e.pulls))
 
 pub returns-in-Ok-search_pairs-clause-told : goal.returns-in-Ok-search_pairs-clause-told
 returns-in-Ok-search_pairs-clause-told g c = λ last bytes s tells within stands fits is. (
@@ -22,11 +21,9 @@ returns-in-Ok-search_pairs-clause-told g c = λ last bytes s tells within stands
     let b = c.in-Ok-search_pairs.ensures in
     let count = c.in-Ok.count in
     let size = f.told last bytes s tells within stands fits is in
-    let read = f.reads in
-    let long = length-set_bytes s in
-    let all = searched-all count in (
+    let read = f.reads in (
       set-is a.ask.version a.at count s c.in-Ok-search_pairs.has size (b.told last bytes s (subst (λ z. TellsFront z a.ask.name.now last bytes) (sym read.same_files) tells) (omega (arith, f.within, within)) (pairs-stand bytes a.at s stands) size is),
-      PullsAtMost-more (4 + 8 * searched count) (length (set_bytes s)) (n a.folder.now) (n c.search_pairs.new.folder) (omega (arith, long, size, all)) (PullsAtMost-trans 4 (8 * searched count) (n a.folder.now) (n c.read_count.new.folder) (n c.search_pairs.new.folder) f.pulls b.pulls),
+      subst (λ (k : ℕ). PullsAtMost (4 + 8 * searched k) (n a.folder.now) (n c.search_pairs.new.folder)) size (PullsAtMost-trans 4 (8 * searched count) (n a.folder.now) (n c.read_count.new.folder) (n c.search_pairs.new.folder) f.pulls b.pulls),
     ))
 
 pub returns-in-Err-search_pairs-clause-told : goal.returns-in-Err-search_pairs-clause-told
@@ -37,11 +34,9 @@ returns-in-Err-search_pairs-clause-told g c = λ last bytes s tells within stand
     let b = c.in-Err-search_pairs.ensures in
     let count = c.in-Ok.count in
     let size = f.told last bytes s tells within stands fits is in
-    let read = f.reads in
-    let long = length-set_bytes s in
-    let all = searched-all count in (
+    let read = f.reads in (
       b.told last bytes s (subst (λ z. TellsFront z a.ask.name.now last bytes) (sym read.same_files) tells) (omega (arith, f.within, within)) (pairs-stand bytes a.at s stands) size is,
-      PullsAtMost-more (4 + 8 * searched count) (length (set_bytes s)) (n a.folder.now) (n c.search_pairs.new.folder) (omega (arith, long, size, all)) (PullsAtMost-trans 4 (8 * searched count) (n a.folder.now) (n c.read_count.new.folder) (n c.search_pairs.new.folder) f.pulls b.pulls),
+      subst (λ (k : ℕ). PullsAtMost (4 + 8 * searched k) (n a.folder.now) (n c.search_pairs.new.folder)) size (PullsAtMost-trans 4 (8 * searched count) (n a.folder.now) (n c.read_count.new.folder) (n c.search_pairs.new.folder) f.pulls b.pulls),
     ))
 
 pub returns-in-Ok-search_pairs-clause-pulls : goal.returns-in-Ok-search_pairs-clause-pulls

@@ -1,8 +1,9 @@
 use Rattle.std.proofs.Common.{◌≡◌, ℕ, ◌+◌, ◌*◌, ◌-◌, ◌≤◌, length, subst, arith}
 use Rattle.xa_fields.specs.FieldLaws.{some_is}
 use Rattle.xa_outside.specs.Numbers.{PullsAtMost}
+use Rattle.file_get.specs.Searched.{inner_read}
 use Rattle.file_get.proofs.Bodies.{clash, set-few}
-use Rattle.file_get.proofs.StoredNodes.{front-count, length-stored, told-whole}
+use Rattle.file_get.proofs.StoredNodes.{front-count, length-stored, rest-pulls, told-whole}
 use Rattle.file_get.proofs.node.read_begun.Goals as goal
 
 pub returns-in-Some-eq0-clause-told : goal.returns-in-Some-eq0-clause-told
@@ -25,7 +26,7 @@ returns-in-Some-clause-told g c = λ last left bytes s x front. (
     let count = c.in-Some.count in
     let same = some_is count (length s) (c.in-Some.ensures.told (length s) (set-few s x.set) (omega (arith, fits, size)) (front-count a.node.now bytes a.at left s front x.stands)) in (
       c.read_counted.ensures.told last left bytes s (told-whole (g.F.Folder.files a.folder.now) a.ask.name.now bytes last a.at a.limit count s left same x) same front,
-      subst (λ (k : ℕ). PullsAtMost (8 * k - 8) (n a.folder.now) (n c.read_counted.new.folder)) same c.read_counted.ensures.pulls,
+      subst (λ (k : ℕ). PullsAtMost (inner_read k - 20) (n a.folder.now) (n c.read_counted.new.folder)) same (rest-pulls count (n a.folder.now) (n c.read_counted.new.folder) c.read_counted.ensures.pulls c.read_counted.ensures.few),
     ))
 
 pub returns-in-None-clause-told : goal.returns-in-None-clause-told

@@ -1,7 +1,7 @@
 use Rattle.std.proofs.Common.{◌≡◌, ℕ, ◌+◌, ◌*◌, ◌-◌, ◌≤◌, length, arith}
 use Rattle.xa_outside.specs.NumberLaws.{PullsAtMost-more, PullsAtMost-trans}
-use Rattle.timestamp_tree.specs.Bytes.{stored}
-use Rattle.file_get.proofs.StoredNodes.{begun-few, begun-most, length-stored, told-later}
+use Rattle.file_get.specs.Searched.{inner_read}
+use Rattle.file_get.proofs.StoredNodes.{begun-few, begun-most, length-stored, told-later, twenty-read}
 use Rattle.file_get.proofs.node.read_node.Goals as goal
 
 pub returns-then-limit-at-clause-told : goal.returns-then-limit-at-clause-told
@@ -36,11 +36,12 @@ returns-in-Ok-clause-told g c = λ last left bytes s x. (
     let some = x.some in
     let within = x.within in
     let size = length-stored s left in
+    let begun = twenty-read (length s) some in
     let front = c.in-Ok.ensures.told last bytes x.tells (omega (arith, fits, some, within, size)) in
     let read = c.in-Ok.ensures.reads in
     let got = c.read_begun.ensures.told last left bytes s (told-later (g.F.Folder.files a.folder.now) (g.F.Folder.files c.fill_first.new.folder) a.ask.name.now bytes last a.at a.limit s left read.same_files x) front in (
       got.0,
-      PullsAtMost-more (20 + (8 * length s - 8)) (length (stored s left)) (n a.folder.now) (n c.read_begun.new.folder) (omega (arith, some, size)) (PullsAtMost-trans 20 (8 * length s - 8) (n a.folder.now) (n c.fill_first.new.folder) (n c.read_begun.new.folder) c.in-Ok.ensures.pulls got.1),
+      PullsAtMost-more (20 + (inner_read (length s) - 20)) (inner_read (length s)) (n a.folder.now) (n c.read_begun.new.folder) (omega (arith, begun)) (PullsAtMost-trans 20 (inner_read (length s) - 20) (n a.folder.now) (n c.fill_first.new.folder) (n c.read_begun.new.folder) c.in-Ok.ensures.pulls got.1),
     ))
 
 pub returns-in-Err-clause-told : goal.returns-in-Err-clause-told
@@ -52,5 +53,5 @@ returns-in-Err-clause-told g c = λ last left bytes s x. (
     let within = x.within in
     let size = length-stored s left in (
       c.in-Err.ensures.told last bytes x.tells (omega (arith, fits, some, within, size)),
-      PullsAtMost-more 20 (length (stored s left)) (n a.folder.now) (n c.fill_first.new.folder) (omega (arith, some, size)) c.in-Err.ensures.pulls,
+      PullsAtMost-more 20 (inner_read (length s)) (n a.folder.now) (n c.fill_first.new.folder) (twenty-read (length s) some) c.in-Err.ensures.pulls,
     ))

@@ -1,5 +1,8 @@
-use Rattle.std.proofs.Common.{◌≡◌, ◌+◌}
-use Rattle.record_format.specs.Seen.{steps_for}
+use Rattle.std.proofs.Common.{◌≡◌, ◌+◌, ◌≤◌, arith}
+use Rattle.xa_outside.specs.NumberLaws.{PullsAtMost-more}
+use Rattle.record_format.specs.Seen.{seen, steps_for}
+use Rattle.file_get.specs.Searched.{bytes_read}
+use Rattle.file_get.proofs.LessRead.{less-read}
 use Rattle.file_get.proofs.Gets.{exactly-of, puts-of, undamaged-of}
 use Rattle.keyed_print.specs.KeyedText.{keyed_text}
 use Rattle.file_get.proofs.version.get.Goals as goal
@@ -44,7 +47,14 @@ pub returns-clause-pulls : goal.returns-clause-pulls
 returns-clause-pulls g c = c.write_version.ensures.pulls
 
 pub returns-clause-few : goal.returns-clause-few
-returns-clause-few g c = c.write_version.ensures.few
+returns-clause-few g c = λ bytes rules vs a tells sound is. (
+    let few = c.write_version.ensures.few bytes rules vs a tells sound is in
+    let less = less-read a c.args.version in
+    let n = g.F.Folder.numbers in
+    (λ here. PullsAtMost-more (22 + bytes_read a c.args.version) (22 + seen a c.args.version) (n c.args.folder.now) (n c.write_version.new.folder) (omega (arith, less)) (few.0 here), few.1))
+
+pub returns-clause-halved : goal.returns-clause-halved
+returns-clause-halved g c = λ bytes rules vs a tells sound is here. (c.write_version.ensures.few bytes rules vs a tells sound is).0 here
 
 pub returns-clause-steps : goal.returns-clause-steps
 returns-clause-steps g c = c.write_version.ensures.steps
