@@ -1,5 +1,5 @@
 // Rows of children, and the directories behind them.
-ghost use Rattle.std.specs.Prelude.{◌≡◌, ◌≢◌, ◌+◌, ◌-◌, ◌*◌, ◌<◌, ◌≤◌, ◌^◌, ℕ, List, [], length, take, drop, None, Some, IfOk, IfSome, IsTrue, option_map, slice_get};
+ghost use Rattle.std.specs.Prelude.{◌≡◌, ◌≢◌, ◌+◌, ◌-◌, ◌*◌, ◌<◌, ◌≤◌, ℕ, List, [], length, take, drop, None, Some, IfOk, IfSome, IsTrue, option_map, slice_get};
 ghost use Rattle.std.specs.Int.{w64};
 ghost use Rattle.xa_fields.specs.Reading.{number_at};
 ghost use Rattle.xa_fields.specs.Spelling.{u64_bytes};
