@@ -1,4 +1,4 @@
-use Rattle.test_sets.proofs.nodes.found.Given as goal
+use Rattle.test_archives.proofs.nodes.found.Given as goal
 
 abbrev pub ghosts-counted : goal.ghosts-counted
 ghosts-counted a = record { name = a.blank.name; parts = a.blank.parts }
