@@ -1,4 +1,4 @@
-//! Tests of the crates that know keys: each public call with ample memory, and each refusal.
+//! Tests of keys, and of tables as documents that satisfy them: each public call with ample memory, and each refusal.
 #![tactic(auto)]
 
 #[cfg(test)]
@@ -11,3 +11,9 @@ mod reading;
 mod rules;
 #[cfg(test)]
 mod specifications;
+#[cfg(test)]
+mod table_keys;
+#[cfg(test)]
+mod table_texts;
+#[cfg(test)]
+mod tables;

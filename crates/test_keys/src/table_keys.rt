@@ -5,8 +5,9 @@ ghost use Rattle.csv_tables.specs.View.{table_view};
 ghost use Rattle.key_spec.specs.View.{names_view};
 ghost use Rattle.csv_tables.specs.Keys.{AreKeys};
 
-use crate::reading::{names, read};
+use crate::table_texts::read;
 use csv_tables::{Table, are_keys, keys_text, table_spec, table_tree};
+use given_outside::texts;
 use given_parts::told;
 use key_rules::{KeyFault, first_fault};
 use key_spec::{Spec, is_name};
@@ -123,7 +124,7 @@ fn has_text(alloc: Global, keys: &[String], wanted: &str) -> bool {
 }
 
 fn has_text_or_not(alloc: Global, keys: &[&str], wanted: &Option<&str>) -> bool {
-    match (names(alloc, keys), wanted) {
+    match (texts(alloc, keys), wanted) {
         (Ok(keys), Some(text)) => has_text(alloc, &keys, text),
         (Ok(keys), None) => !are_keys(&keys) && spec_of(alloc, &keys).is_none(),
         _ => false,
@@ -174,7 +175,7 @@ fn is_fault_by(alloc: Global, text: &[u8], keys: &[String], wanted: &Option<u32>
 }
 
 fn is_fault_of(alloc: Global, text: &[u8], keys: &[&str], wanted: &Option<u32>) -> bool {
-    match names(alloc, keys) {
+    match texts(alloc, keys) {
         Ok(keys) => is_fault_by(alloc, text, &keys, wanted),
         Err(_) => false,
     }

@@ -5,8 +5,9 @@ ghost use Rattle.csv_tables.specs.View.{table_view};
 ghost use Rattle.jsonml_tree.specs.Fits.{IsElement};
 ghost use Rattle.jsonml_tree.specs.View.{tree_view};
 
-use crate::reading::{names, read};
+use crate::table_texts::read;
 use csv_tables::{Table, TableFault, has_columns, table_tree, text_length};
+use given_outside::texts;
 use given_parts::told;
 use jsonml_text::write_tree;
 use jsonml_tree::Tree;
@@ -195,7 +196,7 @@ fn has_wide_document(alloc: Global) -> bool {
 }
 
 fn has_each(alloc: Global, table: &Table, keys: &[&str], wanted: bool) -> bool {
-    match names(alloc, keys) {
+    match texts(alloc, keys) {
         Ok(keys) => has_columns(table, &keys) == wanted,
         Err(_) => false,
     }

@@ -1,10 +1,10 @@
-//! Tables and names that are made of texts.
+//! Tables that are made of texts.
 ghost use Rattle.std.specs.Prelude.{◌≤◌, length, IfOk};
 ghost use Rattle.csv_tables.specs.Records.{IsRegular};
 ghost use Rattle.csv_tables.specs.View.{table_view};
 
 use csv_tables::{Table, TableFault, read_table};
-use std::alloc::{AllocError, Global};
+use std::alloc::Global;
 
 /// The table of a text.
 pub(crate) fn read(alloc: Global, text: &[u8]) -> Result<Table, TableFault>
@@ -15,12 +15,4 @@ pub(crate) fn read(alloc: Global, text: &[u8]) -> Result<Table, TableFault>
         return Err(TableFault::Memory);
     }
     read_table(alloc, text)
-}
-
-pub(crate) fn names(alloc: Global, names: &[&str]) -> Result<Vec<String>, AllocError> {
-    let mut strings = Vec::new(alloc);
-    for name in names {
-        strings.push(String::from_str(alloc, name)?)?;
-    }
-    Ok(strings)
 }
