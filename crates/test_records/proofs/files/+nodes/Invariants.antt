@@ -1,6 +1,6 @@
 use Rattle.std.proofs.Common.{◌≡◌, None}
 use Rattle.record_writer.specs.View.{writer_view}
-use Rattle.test_writer.proofs.files.+nodes.Given as goal
+use Rattle.test_records.proofs.files.+nodes.Given as goal
 
 -- nothing more stands begun than before
 abbrev pub invariant-write_nodes-loop-node : goal.invariant-write_nodes-loop-node

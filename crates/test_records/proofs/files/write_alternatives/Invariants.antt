@@ -1,6 +1,6 @@
 use Rattle.std.proofs.Common.{◌≡◌, ◌≢◌, None}
 use Rattle.record_writer.specs.View.{writer_view}
-use Rattle.test_writer.proofs.files.write_alternatives.Given as goal
+use Rattle.test_records.proofs.files.write_alternatives.Given as goal
 
 -- the leaf stands begun
 abbrev pub invariant-loop-stored : goal.invariant-loop-stored
