@@ -1,4 +1,4 @@
-//! Tests of the crates that know files of archives.
+//! Tests of whole archive files, and of what holds of their nodes.
 #![tactic(auto)]
 
 #[cfg(test)]
@@ -13,3 +13,5 @@ mod files;
 mod keyed_files;
 #[cfg(test)]
 mod large;
+#[cfg(test)]
+mod waits;
