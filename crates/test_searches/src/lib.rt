@@ -1,4 +1,4 @@
-//! Tests of the searches of an archive's file: its rows, a version and a history out of it.
+//! Tests of what is searched in an archive file: its rows, a version, a history and a log.
 #![tactic(auto)]
 
 #[cfg(test)]
@@ -11,6 +11,12 @@ mod files;
 mod gets;
 #[cfg(test)]
 mod histories;
+#[cfg(test)]
+mod log_worked;
+#[cfg(test)]
+mod logs;
+#[cfg(test)]
+mod parts;
 #[cfg(test)]
 mod rows;
 #[cfg(test)]

@@ -1,4 +1,4 @@
-use Rattle.test_log.proofs.logs.logged.Given as goal
+use Rattle.test_searches.proofs.logs.logged.Given as goal
 
 abbrev pub ghosts-counted : goal.ghosts-counted
 ghosts-counted a = record { name = a.blank.name; parts = a.blank.parts }

@@ -1,7 +1,7 @@
 // The log of a salary that returns, and of a leaf that is not always there.
 ghost use Rattle.std.specs.Prelude.{◌≡◌, [], ◌∷◌};
 ghost use Rattle.content_log.specs.Log.{log};
-ghost use Rattle.test_log.specs.Worked.{db, entry, none, paid, sal};
+ghost use Rattle.test_searches.specs.Logged.{db, entry, none, paid, sal};
 
 fn bodies_are_told_once()
     ensures returns { log (paid 1 ∷ paid 2 ∷ paid 1 ∷ []) (db ∷ sal ∷ [])
