@@ -1,5 +1,5 @@
 // What is refused where the folder fails, or the file is damaged.
-use crate::archives::cut_out;
+use crate::cut_files::cut_out;
 use archive_cut::CutFault;
 use given_archives::lists::TINY;
 use given_archives::{Failing, NAME, NEVER, file, folder};

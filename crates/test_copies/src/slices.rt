@@ -1,6 +1,6 @@
 // Versions cut out of files. What is expected was merged in memory of their documents alone, and
 // written at once.
-use crate::archives::cut_out;
+use crate::cut_files::cut_out;
 use given_archives::lists::LISTS;
 use given_archives::{
     GREAT_SIZES, NAME, NEVER, SIZES, Size, documents_of, file, folder, is_drafted, keys_of, lent,

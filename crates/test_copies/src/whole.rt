@@ -1,6 +1,6 @@
 // Archives that are joined. What is expected was merged in memory of the documents of both, and
 // written at once.
-use crate::archives::joined;
+use crate::joined_files::joined;
 use given_archives::lists::{LISTS, TINY};
 use given_archives::{
     GREAT_SIZES, NAME, NEVER, OTHER, SIZES, Size, documents_of, file, folder, is_drafted, keys_of,

@@ -1,5 +1,5 @@
 // What is refused where one of the files is damaged, or the folder fails.
-use crate::archives::joined;
+use crate::joined_files::joined;
 use archive_join::JoinFault;
 use given_archives::lists::{NUMBERED, SIX};
 use given_archives::{Failing, NAME, NEVER, OTHER, file, folder};
