@@ -4,4 +4,8 @@
 #[cfg(test)]
 mod merged;
 #[cfg(test)]
+mod over_memory;
+#[cfg(test)]
+mod real_folder;
+#[cfg(test)]
 mod surely;
