@@ -1,7 +1,10 @@
 // Walking over the records of the archive of one version, the element `db`.
+use crate::ends::are_lent;
 use crate::headers::{TINY, folder};
+use crate::nested::{Record, are_records_given};
 use given_parts::bytes::edit;
 use given_parts::told;
+use keyed_tree::Label;
 use record_cursor::{Cursor, CursorFault, Item, read_header};
 use std::alloc::Global;
 use std::test::Fail;
@@ -21,11 +24,7 @@ fn given(found: Result<Item<'_>, CursorFault>) -> Result<(u8, u64), CursorFault>
 }
 
 /// A cursor at the first record of the file, of which it sees so many bytes.
-pub(crate) fn cursor(
-    alloc: Global,
-    folder: &mut MemFolder,
-    length: u64,
-) -> Result<Cursor, CursorFault> {
+fn cursor(alloc: Global, folder: &mut MemFolder, length: u64) -> Result<Cursor, CursorFault> {
     let header = read_header(alloc, folder, "a.xar", length)?;
     Ok(Cursor::start(alloc, "a.xar", &header)?)
 }
@@ -61,26 +60,48 @@ fn is_stopped(
     }
 }
 
-/// Whether that is so in the first bytes of the file, whose read of this number fails; no fault comes where all is given.
-fn is_walked(
+/// What is asked of a cursor at the first record of a file.
+#[derive(Clone, Copy)]
+pub(crate) enum Asked<'a> {
+    /// Whether so many items are given and then this fault; where all are given, none comes.
+    Stops(usize, CursorFault),
+    /// Whether the leaf of this label is given, and then an alternative of this body.
+    Lends(&'a Label, &'a [u8]),
+    /// Whether these records are given and then the end.
+    Gives(&'a [Record]),
+}
+
+fn answers(cursor: &mut Cursor, folder: &mut MemFolder, asked: Asked<'_>) -> bool {
+    match asked {
+        Asked::Stops(count, fault) => {
+            if count == ITEMS.len() {
+                are_given(cursor, folder, ITEMS)
+            } else {
+                is_stopped(cursor, folder, count, fault)
+            }
+        }
+        Asked::Lends(label, body) => are_lent(cursor, folder, label, body),
+        Asked::Gives(records) => are_records_given(cursor, folder, records),
+    }
+}
+
+fn is_so_in(alloc: Global, folder: &mut MemFolder, length: u64, asked: Asked<'_>) -> bool {
+    match cursor(alloc, folder, length) {
+        Ok(mut cursor) => answers(&mut cursor, folder, asked),
+        Err(_) => false,
+    }
+}
+
+/// Whether that is so in the first bytes of the file, whose read of this number fails.
+pub(crate) fn is_so(
     alloc: Global,
     file: &[u8],
     length: u64,
     failing: u64,
-    count: usize,
-    fault: CursorFault,
+    asked: Asked<'_>,
 ) -> bool {
-    let Ok(mut folder) = folder(alloc, file, failing) else {
-        return false;
-    };
-    match cursor(alloc, &mut folder, length) {
-        Ok(mut cursor) => {
-            if count == ITEMS.len() {
-                are_given(&mut cursor, &mut folder, ITEMS)
-            } else {
-                is_stopped(&mut cursor, &mut folder, count, fault)
-            }
-        }
+    match folder(alloc, file, failing) {
+        Ok(mut folder) => is_so_in(alloc, &mut folder, length, asked),
         Err(_) => false,
     }
 }
@@ -98,15 +119,19 @@ const CALLS: &[(u64, usize)] = &[
     (9, 4),
 ];
 
-fn are_reads_told(alloc: Global) -> bool {
-    CALLS.iter().all(|(call, count)| is_walked(
-        alloc,
-        TINY,
-        142,
-        *call,
-        *count,
-        CursorFault::Folder,
-    ))
+fn are_reads_told(alloc: Global, rows: &[(u64, usize)]) -> bool {
+    for (call, count) in rows {
+        if !is_so(
+            alloc,
+            TINY,
+            142,
+            *call,
+            Asked::Stops(*count, CursorFault::Folder),
+        ) {
+            return false;
+        }
+    }
+    true
 }
 
 /// An offset and the byte that stands there instead, and how many items are given before damage. The
@@ -131,16 +156,25 @@ fn is_damaged(alloc: Global, at: usize, byte: u8, count: usize) -> bool {
     match Vec::from_slice(alloc, TINY) {
         Ok(mut file) => {
             edit(&mut file, &[(at, byte)]);
-            is_walked(alloc, &file, 142, 0, count, CursorFault::Damage)
+            is_so(
+                alloc,
+                &file,
+                142,
+                0,
+                Asked::Stops(count, CursorFault::Damage),
+            )
         }
         Err(_) => false,
     }
 }
 
-fn are_damaged(alloc: Global) -> bool {
-    DAMAGED
-        .iter()
-        .all(|(at, byte, count)| is_damaged(alloc, *at, *byte, *count))
+fn are_damaged(alloc: Global, rows: &[(usize, u8, usize)]) -> bool {
+    for (at, byte, count) in rows {
+        if !is_damaged(alloc, *at, *byte, *count) {
+            return false;
+        }
+    }
+    true
 }
 
 /// How many items are given of so many bytes of the file.
@@ -155,36 +189,31 @@ fn count_of(length: u64) -> usize {
     }
 }
 
-fn are_cut_files_walked(alloc: Global) -> bool {
-    let Ok(mut file) = Vec::from_slice(alloc, TINY) else {
-        return false;
-    };
-    if file.push(0).is_err() {
-        return false;
-    }
+fn is_each_front_walked(alloc: Global, file: &[u8]) -> bool {
     for length in 28..144u64 {
-        if !is_walked(
-            alloc,
-            &file,
-            length,
-            0,
-            count_of(length),
-            CursorFault::Damage,
-        ) {
+        let asked = Asked::Stops(count_of(length), CursorFault::Damage);
+        if !is_so(alloc, file, length, 0, asked) {
             return false;
         }
     }
     true
 }
 
+fn are_cut_files_walked(alloc: Global) -> bool {
+    match Vec::from_slice(alloc, TINY) {
+        Ok(mut file) => file.push(0).is_ok() && is_each_front_walked(alloc, &file),
+        Err(_) => false,
+    }
+}
+
 #[test]
 fn records_are_given_in_order_until_a_fault(rt: HostRuntime) -> Result<(), Fail> {
     told(
-        are_reads_told(rt.alloc()),
+        are_reads_told(rt.alloc(), CALLS),
         "each read that fails is told and made good",
     )?;
     told(
-        are_damaged(rt.alloc()),
+        are_damaged(rt.alloc(), DAMAGED),
         "damage comes where nothing that fits stands",
     )?;
     told(are_cut_files_walked(rt.alloc()), "a file that is cut")

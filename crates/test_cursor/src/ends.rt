@@ -1,6 +1,6 @@
 // A record that is long, and a label.
-use crate::cursors::cursor;
-use crate::headers::{TINY, folder};
+use crate::cursors::{Asked, is_so};
+use crate::headers::TINY;
 use crate::nested::record;
 use given_parts::told;
 use keyed_tree::{Label, Name};
@@ -32,15 +32,20 @@ fn is_alternative(cursor: &mut Cursor, folder: &mut MemFolder, wanted: &[u8]) ->
     }
 }
 
+/// Whether the leaf of this label is given, and then an alternative of this body.
+pub(crate) fn are_lent(
+    cursor: &mut Cursor,
+    folder: &mut MemFolder,
+    label: &Label,
+    body: &[u8],
+) -> bool {
+    is_leaf(cursor, folder, label) && is_alternative(cursor, folder, body)
+}
+
 /// Whether the file begins with the leaf `db` and an alternative of this body.
-fn are_lent(alloc: Global, file: &[u8], body: &[u8]) -> bool {
-    let (Ok(mut folder), Ok(db)) = (folder(alloc, file, 0), db(alloc)) else {
-        return false;
-    };
-    match cursor(alloc, &mut folder, file.len() as u64) {
-        Ok(mut cursor) => {
-            is_leaf(&mut cursor, &mut folder, &db) && is_alternative(&mut cursor, &mut folder, body)
-        }
+fn is_begun(alloc: Global, file: &[u8], body: &[u8]) -> bool {
+    match db(alloc) {
+        Ok(db) => is_so(alloc, file, file.len() as u64, 0, Asked::Lends(&db, body)),
         Err(_) => false,
     }
 }
@@ -64,12 +69,16 @@ fn file_of(alloc: Global, body: &[u8]) -> Result<Vec<u8>, AllocError> {
     Ok(file)
 }
 
+fn is_body_lent(alloc: Global, body: &[u8]) -> bool {
+    match file_of(alloc, body) {
+        Ok(file) => is_begun(alloc, &file, body),
+        Err(_) => false,
+    }
+}
+
 fn is_long_lent(alloc: Global) -> bool {
-    let Ok(body) = long_body(alloc, 1_048_577) else {
-        return false;
-    };
-    match file_of(alloc, &body) {
-        Ok(file) => are_lent(alloc, &file, &body),
+    match long_body(alloc, 1_048_577) {
+        Ok(body) => is_body_lent(alloc, &body),
         Err(_) => false,
     }
 }
@@ -77,6 +86,6 @@ fn is_long_lent(alloc: Global) -> bool {
 #[test]
 fn labels_and_bodies_are_lent(rt: HostRuntime) -> Result<(), Fail> {
     let empty = b"\x01\0\0\0\0\0\0\0\0";
-    told(are_lent(rt.alloc(), TINY, empty), "a label")?;
+    told(is_begun(rt.alloc(), TINY, empty), "a label")?;
     told(is_long_lent(rt.alloc()), "a long body")
 }

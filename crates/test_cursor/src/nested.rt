@@ -1,7 +1,6 @@
 // Walking over an archive whose nodes nest: `db`, in it `dept` with the attribute `n`, and in that
 // `emp`, whose text is `x` in the first version and `y` in the second.
-use crate::cursors::cursor;
-use crate::headers::folder;
+use crate::cursors::{Asked, is_so};
 use record_cursor::{Cursor, Item};
 use std::alloc::{AllocError, Global};
 use xa_outside::MemFolder;
@@ -9,8 +8,11 @@ use xa_outside::MemFolder;
 const HEADER: &[u8] = b"\
     XARC1\n\0\0\0;(/, (db, {}))\n(/db, (dept, {@n}))\n(/db/dept, (emp, {@id}))\n\0\0\0\x02";
 
-/// The records of the file: the kind, and the two parts of the body, a directory as the first.
-const RECORDS: &[(u8, &[u8], &[u8])] = &[
+/// A record: the kind, and the two parts of the body, a directory as the first.
+pub(crate) type Record = (u8, &'static [u8], &'static [u8]);
+
+/// The records of the file.
+const RECORDS: &[Record] = &[
     (1, b"\x01\0\0\0\x02db\0\0\0\0", b"\0"),
     (1, b"\x01\0\0\0\x04dept\0\0\0\x01\0\x05\0\0\0\x01f", b"\0"),
     (2, b"\0\0\0\0\x01n\0\0\0\0", b"\0"),
@@ -72,13 +74,11 @@ pub(crate) fn record(
     Ok(bytes)
 }
 
-fn file(alloc: Global) -> Result<Vec<u8>, AllocError> {
-    let mut file = Vec::from_slice(alloc, HEADER)?;
-    for (kind, first, second) in RECORDS {
+fn put_records(alloc: Global, file: &mut Vec<u8>, records: &[Record]) -> Result<(), AllocError> {
+    for (kind, first, second) in records {
         file.extend_from_slice(&record(alloc, *kind, first, second)?)?;
     }
-    file.extend_from_slice(TAIL)?;
-    Ok(file)
+    file.extend_from_slice(TAIL)
 }
 
 /// Whether the item is the record of this kind with these parts.
@@ -97,8 +97,12 @@ fn is_given(item: &Item<'_>, kind: u8, first: &[u8], second: &[u8]) -> bool {
     }
 }
 
-fn are_given(cursor: &mut Cursor, folder: &mut MemFolder) -> bool {
-    for (kind, first, second) in RECORDS {
+pub(crate) fn are_records_given(
+    cursor: &mut Cursor,
+    folder: &mut MemFolder,
+    records: &[Record],
+) -> bool {
+    for (kind, first, second) in records {
         match cursor.next(folder) {
             Ok(item) if is_given(&item, *kind, first, second) => (),
             _ => return false,
@@ -107,24 +111,18 @@ fn are_given(cursor: &mut Cursor, folder: &mut MemFolder) -> bool {
     matches!(cursor.next(folder), Ok(Item::Finish))
 }
 
-fn is_file_walked(alloc: Global, file: &[u8]) -> bool {
-    let Ok(mut folder) = folder(alloc, file, 0) else {
-        return false;
-    };
-    match cursor(alloc, &mut folder, 558) {
-        Ok(mut cursor) => are_given(&mut cursor, &mut folder),
-        Err(_) => false,
-    }
-}
-
-fn is_walked(alloc: Global) -> bool {
-    match file(alloc) {
-        Ok(file) => is_file_walked(alloc, &file),
+/// Whether the file of these records is given, record by record.
+fn are_walked(alloc: Global, records: &[Record]) -> bool {
+    match Vec::from_slice(alloc, HEADER) {
+        Ok(mut file) => {
+            put_records(alloc, &mut file, records).is_ok()
+                && is_so(alloc, &file, 558, 0, Asked::Gives(records))
+        }
         Err(_) => false,
     }
 }
 
 #[test]
 fn nested_nodes_are_given_part_by_part(rt: HostRuntime) {
-    assert!(rt; is_walked(rt.alloc()));
+    assert!(rt; are_walked(rt.alloc(), RECORDS));
 }
