@@ -1,4 +1,4 @@
-use given_outside::{holds, is_stored};
+use given_outside::{holds, is_stored, told};
 use real_objects::{DiskFolder, ReaderSource, WriterSink};
 use std::alloc::{AllocError, Global};
 use std::fs;
@@ -47,88 +47,181 @@ fn are_removed(rt: &HostRuntime, names: &[&str]) -> bool {
     true
 }
 
-#[test]
-fn the_real_folder_reads_what_was_committed(rt: HostRuntime) -> Result<(), Fail> {
-    let name = "xarch-test-of-the-folder";
-    let long = vec![in rt.alloc(); b'x'; 70_000]?;
-    let mut folder = DiskFolder::new(&rt, rt.alloc());
-    let is_stored = is_stored(&mut folder, name, &[b"first, ", &long, b", last"]);
-    let is_read = is_stored
-        && folder.length(name) == Ok(Some(70_013))
-        && holds(&mut folder, rt.alloc(), name, 70_007, b", last")
-        && holds(&mut folder, rt.alloc(), name, 7, &long);
-    assert!(rt; is_read && are_removed(&rt, &[name]) && folder.length(name) == Ok(None));
-    Ok(())
+/// What is tried in a folder that is opened anew.
+#[derive(Clone, Copy)]
+enum Tried {
+    Committed,
+    NoFiles,
+    SecondCommit,
+    OlderFile,
+    SideBySide,
+    ThirdFile,
+    SecondDraft,
+    ManyPages,
+    DraftLink,
+    Loop,
+    PathThroughFile,
+    Rewritten,
+    LinkAndMode,
+    OwnersAlone,
+    TwoCommands,
 }
 
-#[test]
-fn folders_and_the_draft_are_no_files(rt: HostRuntime) {
-    let mut folder = DiskFolder::new(&rt, rt.alloc());
-    assert!(rt; is_refused(&mut folder, ".") && is_refused(&mut folder, ".xarch-draft"));
-    let is_begun = folder.begin().is_ok();
-    let is_told_apart = is_refused(&mut folder, "./.xarch-draft")
-        && folder.commit(".xarch-draft").is_err()
-        && folder.commit("./.xarch-draft").is_err();
-    assert!(rt; is_begun && is_told_apart);
-    folder.discard();
-    assert!(rt; fs::open(&rt, ".xarch-draft").is_err());
-}
+const TRIED: &[(&str, Tried)] = &[
+    ("the folder reads what was committed", Tried::Committed),
+    ("folders and the draft are no files", Tried::NoFiles),
+    (
+        "a file that stands open is read anew after a commit",
+        Tried::SecondCommit,
+    ),
+    (
+        "the older of two open files is read anew after a commit",
+        Tried::OlderFile,
+    ),
+    ("two files stand open side by side", Tried::SideBySide),
+    (
+        "a third open file replaces the older of two",
+        Tried::ThirdFile,
+    ),
+    (
+        "what was appended to an abandoned draft is gone",
+        Tried::SecondDraft,
+    ),
+    (
+        "more pages than are held are read again and again",
+        Tried::ManyPages,
+    ),
+    ("a draft does not go through a link", Tried::DraftLink),
+    ("a link that leads to itself is not absent", Tried::Loop),
+    ("a path through a file is absent", Tried::PathThroughFile),
+    ("a file that was rewritten is read anew", Tried::Rewritten),
+    (
+        "an archive that is a link stays one and keeps its mode",
+        Tried::LinkAndMode,
+    ),
+    ("a draft is its owner's alone", Tried::OwnersAlone),
+    (
+        "the draft of another command is not committed",
+        Tried::TwoCommands,
+    ),
+];
 
-#[test]
-fn a_file_that_stands_open_is_read_anew_after_a_commit(rt: HostRuntime) {
-    let name = "xarch-test-of-a-second-commit";
-    let mut folder = DiskFolder::new(&rt, rt.alloc());
-    let is_read_anew = is_stored(&mut folder, name, &[b"old"])
-        && holds(&mut folder, rt.alloc(), name, 0, b"old")
-        && is_stored(&mut folder, name, &[b"new"])
-        && holds(&mut folder, rt.alloc(), name, 0, b"new");
-    assert!(rt; is_read_anew && are_removed(&rt, &[name]));
-}
-
-#[test]
-fn the_older_of_two_open_files_is_read_anew_after_a_commit(rt: HostRuntime) {
-    let name = "xarch-test-of-the-older-file";
-    let other = "xarch-test-of-the-newer-file";
-    let mut folder = DiskFolder::new(&rt, rt.alloc());
-    let is_open = is_stored(&mut folder, other, &[b"other"])
-        && is_stored(&mut folder, name, &[b"old"])
-        && holds(&mut folder, rt.alloc(), name, 0, b"old")
-        && holds(&mut folder, rt.alloc(), other, 0, b"other");
-    let is_read_anew = is_open
-        && is_stored(&mut folder, name, &[b"new"])
-        && holds(&mut folder, rt.alloc(), name, 0, b"new")
-        && holds(&mut folder, rt.alloc(), other, 0, b"other");
-    assert!(rt; is_read_anew && are_removed(&rt, &[name, other]));
-}
-
-#[test]
-fn two_files_stand_open_side_by_side(rt: HostRuntime) {
-    // (the names are of one length, and differ in their first letter)
-    let names = ["one-xarch-test-of-two", "two-xarch-test-of-two"];
-    let mut folder = DiskFolder::new(&rt, rt.alloc());
-    let is_open = are_stored(&mut folder, &names) && are_held(&mut folder, rt.alloc(), &names, 0);
-
-    // (what stands open is read on, though its name is gone)
-    assert!(rt; is_open && are_removed(&rt, &names));
-    for at in 0..20 {
-        assert!(rt; are_held(&mut folder, rt.alloc(), &names, at));
+fn does_hold(rt: &HostRuntime, folder: &mut DiskFolder<HostRuntime>, tried: Tried) -> bool {
+    match tried {
+        Tried::Committed => is_committed_read(rt, folder),
+        Tried::NoFiles => are_no_files(rt, folder),
+        Tried::SecondCommit => is_second_read(rt, folder),
+        Tried::OlderFile => is_older_read(rt, folder),
+        Tried::SideBySide => are_two_open(rt, folder),
+        Tried::ThirdFile => is_older_replaced(rt, folder),
+        Tried::SecondDraft => is_abandoned_gone(rt, folder),
+        Tried::ManyPages => are_pages_read(rt, folder),
+        Tried::DraftLink => is_draft_apart(rt, folder),
+        Tried::Loop => is_loop_refused(rt, folder),
+        Tried::PathThroughFile => is_path_absent(rt, folder),
+        Tried::Rewritten => is_rewritten_read(rt, folder),
+        Tried::LinkAndMode => is_link_kept(rt, folder),
+        Tried::OwnersAlone => is_owners_alone(rt, folder),
+        Tried::TwoCommands => is_other_apart(rt, folder),
     }
 }
 
+fn is_held(rt: &HostRuntime, tried: Tried) -> bool {
+    let mut folder = DiskFolder::new(rt, rt.alloc());
+    does_hold(rt, &mut folder, tried)
+}
+
 #[test]
-fn a_third_open_file_replaces_the_older_of_two(rt: HostRuntime) {
+fn the_real_folder_holds_what_is_committed(rt: HostRuntime) -> Result<(), Fail> {
+    for (name, tried) in TRIED {
+        told(is_held(&rt, *tried), name)?;
+    }
+    Ok(())
+}
+
+fn is_long_read(rt: &HostRuntime, folder: &mut DiskFolder<HostRuntime>, long: &[u8]) -> bool {
+    let name = "xarch-test-of-the-folder";
+    is_stored(folder, name, &[b"first, ", long, b", last"])
+        && folder.length(name) == Ok(Some(70_013))
+        && holds(folder, rt.alloc(), name, 70_007, b", last")
+        && holds(folder, rt.alloc(), name, 7, long)
+        && are_removed(rt, &[name])
+        && folder.length(name) == Ok(None)
+}
+
+fn is_committed_read(rt: &HostRuntime, folder: &mut DiskFolder<HostRuntime>) -> bool {
+    match vec![in rt.alloc(); b'x'; 70_000] {
+        Ok(long) => is_long_read(rt, folder, &long),
+        Err(_) => false,
+    }
+}
+
+fn are_no_files(rt: &HostRuntime, folder: &mut DiskFolder<HostRuntime>) -> bool {
+    let is_apart = is_refused(folder, ".")
+        && is_refused(folder, ".xarch-draft")
+        && folder.begin().is_ok()
+        && is_refused(folder, "./.xarch-draft")
+        && folder.commit(".xarch-draft").is_err()
+        && folder.commit("./.xarch-draft").is_err();
+    folder.discard();
+    is_apart && fs::open(rt, ".xarch-draft").is_err()
+}
+
+fn is_second_read(rt: &HostRuntime, folder: &mut DiskFolder<HostRuntime>) -> bool {
+    let name = "xarch-test-of-a-second-commit";
+    is_stored(folder, name, &[b"old"])
+        && holds(folder, rt.alloc(), name, 0, b"old")
+        && is_stored(folder, name, &[b"new"])
+        && holds(folder, rt.alloc(), name, 0, b"new")
+        && are_removed(rt, &[name])
+}
+
+fn is_older_read(rt: &HostRuntime, folder: &mut DiskFolder<HostRuntime>) -> bool {
+    let name = "xarch-test-of-the-older-file";
+    let other = "xarch-test-of-the-newer-file";
+    is_stored(folder, other, &[b"other"])
+        && is_stored(folder, name, &[b"old"])
+        && holds(folder, rt.alloc(), name, 0, b"old")
+        && holds(folder, rt.alloc(), other, 0, b"other")
+        && is_stored(folder, name, &[b"new"])
+        && holds(folder, rt.alloc(), name, 0, b"new")
+        && holds(folder, rt.alloc(), other, 0, b"other")
+        && are_removed(rt, &[name, other])
+}
+
+/// Whether the files of these names are held from each of twenty offsets on.
+fn is_each_end_held(folder: &mut DiskFolder<HostRuntime>, alloc: Global, names: &[&str]) -> bool {
+    for at in 0..20 {
+        if !are_held(folder, alloc, names, at) {
+            return false;
+        }
+    }
+    true
+}
+
+fn are_two_open(rt: &HostRuntime, folder: &mut DiskFolder<HostRuntime>) -> bool {
+    // (the names are of one length, and differ in their first letter)
+    let names = ["one-xarch-test-of-two", "two-xarch-test-of-two"];
+
+    // (what stands open is read on, though its name is gone)
+    are_stored(folder, &names)
+        && are_held(folder, rt.alloc(), &names, 0)
+        && are_removed(rt, &names)
+        && is_each_end_held(folder, rt.alloc(), &names)
+}
+
+fn is_older_replaced(rt: &HostRuntime, folder: &mut DiskFolder<HostRuntime>) -> bool {
     let first = "xarch-test-of-the-first";
     let second = "xarch-test-of-the-second";
     let third = "xarch-test-of-the-third";
     let in_turn = [first, second, third, first, second, third];
-    let mut folder = DiskFolder::new(&rt, rt.alloc());
-    let is_open = are_stored(&mut folder, &[first, second, third])
-        && are_held(&mut folder, rt.alloc(), &in_turn, 0);
 
     // (the last two stand open, and are read on though their names are gone; the first does not)
-    assert!(rt; is_open && are_removed(&rt, &[first, second, third]));
-    assert!(rt; are_held(&mut folder, rt.alloc(), &[second, third, second], 0));
-    assert!(rt; !holds(&mut folder, rt.alloc(), first, 0, first.as_bytes()));
+    are_stored(folder, &[first, second, third])
+        && are_held(folder, rt.alloc(), &in_turn, 0)
+        && are_removed(rt, &[first, second, third])
+        && are_held(folder, rt.alloc(), &[second, third, second], 0)
+        && !holds(folder, rt.alloc(), first, 0, first.as_bytes())
 }
 
 /// Whether a draft of this piece is begun, and left.
@@ -136,15 +229,13 @@ fn is_abandoned(folder: &mut DiskFolder<HostRuntime>, piece: &[u8]) -> bool {
     folder.begin().is_ok() && folder.append(piece).is_ok()
 }
 
-#[test]
-fn what_was_appended_to_an_abandoned_draft_is_gone(rt: HostRuntime) {
+fn is_abandoned_gone(rt: &HostRuntime, folder: &mut DiskFolder<HostRuntime>) -> bool {
     let name = "xarch-test-of-a-second-draft";
-    let mut folder = DiskFolder::new(&rt, rt.alloc());
-    let is_stored = is_abandoned(&mut folder, b"old") && is_stored(&mut folder, name, &[b"new"]);
-    let is_new = is_stored
+    is_abandoned(folder, b"old")
+        && is_stored(folder, name, &[b"new"])
         && folder.length(name) == Ok(Some(3))
-        && holds(&mut folder, rt.alloc(), name, 0, b"new");
-    assert!(rt; is_new && are_removed(&rt, &[name]));
+        && holds(folder, rt.alloc(), name, 0, b"new")
+        && are_removed(rt, &[name])
 }
 
 /// So many pages of 32 KiB, each of its number.
@@ -174,109 +265,129 @@ fn is_held_in_pieces(
     true
 }
 
-#[test]
-fn more_pages_than_are_held_are_read_again_and_again(rt: HostRuntime) -> Result<(), Fail> {
+/// Whether the pages are stored, and read three times.
+fn are_stored_and_read(
+    rt: &HostRuntime,
+    folder: &mut DiskFolder<HostRuntime>,
+    bytes: &[u8],
+) -> bool {
     let name = "xarch-test-of-many-pages";
-    let bytes = pages(rt.alloc(), 19)?;
-    let mut folder = DiskFolder::new(&rt, rt.alloc());
-    assert!(rt; is_stored(&mut folder, name, &[&bytes]));
-    for _ in 0..3 {
-        assert!(rt; is_held_in_pieces(&mut folder, rt.alloc(), name, &bytes));
+    if !is_stored(folder, name, &[bytes]) {
+        return false;
     }
-    assert!(rt; are_removed(&rt, &[name]));
-    Ok(())
+    for _ in 0..3 {
+        if !is_held_in_pieces(folder, rt.alloc(), name, bytes) {
+            return false;
+        }
+    }
+    are_removed(rt, &[name])
 }
 
-#[test]
-fn a_draft_does_not_go_through_a_link(rt: HostRuntime) {
+fn are_pages_read(rt: &HostRuntime, folder: &mut DiskFolder<HostRuntime>) -> bool {
+    match pages(rt.alloc(), 19) {
+        Ok(bytes) => are_stored_and_read(rt, folder, &bytes),
+        Err(_) => false,
+    }
+}
+
+fn is_draft_apart(rt: &HostRuntime, folder: &mut DiskFolder<HostRuntime>) -> bool {
     let other = "xarch-test-of-another-file";
     let name = "xarch-test-of-a-draft";
-    let mut folder = DiskFolder::new(&rt, rt.alloc());
-    let is_linked = is_stored(&mut folder, other, &[b"other"])
-        && symlink(&rt, other, ".xarch-draft").is_ok()
-        && is_stored(&mut folder, name, &[b"draft"]);
-    let is_apart = is_linked
-        && holds(&mut folder, rt.alloc(), other, 0, b"other")
-        && holds(&mut folder, rt.alloc(), name, 0, b"draft");
-    assert!(rt; is_apart && are_removed(&rt, &[other, name]));
+    is_stored(folder, other, &[b"other"])
+        && symlink(rt, other, ".xarch-draft").is_ok()
+        && is_stored(folder, name, &[b"draft"])
+        && holds(folder, rt.alloc(), other, 0, b"other")
+        && holds(folder, rt.alloc(), name, 0, b"draft")
+        && are_removed(rt, &[other, name])
 }
 
-#[test]
-fn a_link_that_leads_to_itself_is_not_absent(rt: HostRuntime) -> Result<(), Fail> {
+fn is_loop_refused(rt: &HostRuntime, folder: &mut DiskFolder<HostRuntime>) -> bool {
     let link = "xarch-test-of-a-loop";
-    symlink(&rt, link, link)?;
-    let mut folder = DiskFolder::new(&rt, rt.alloc());
-    let is_refused = is_refused(&mut folder, link)
+    let is_refused = symlink(rt, link, link).is_ok()
+        && is_refused(folder, link)
         && folder.begin().is_ok()
         && folder.commit(link).is_err();
     folder.discard();
-    assert!(rt; is_refused && are_removed(&rt, &[link]));
-    Ok(())
+    is_refused && are_removed(rt, &[link])
 }
 
-#[test]
-fn a_path_through_a_file_is_absent(rt: HostRuntime) {
+fn is_path_absent(rt: &HostRuntime, folder: &mut DiskFolder<HostRuntime>) -> bool {
     let name = "xarch-test-of-a-path";
-    let mut folder = DiskFolder::new(&rt, rt.alloc());
     let mut one = [0u8; 1];
-    let is_absent = is_stored(&mut folder, name, &[b"file"])
+    is_stored(folder, name, &[b"file"])
         && folder.length("xarch-test-of-a-path/x") == Ok(None)
-        && folder.read_at("xarch-test-of-a-path/x", 0, &mut one) == Ok(0);
-    assert!(rt; is_absent && are_removed(&rt, &[name]));
+        && folder.read_at("xarch-test-of-a-path/x", 0, &mut one) == Ok(0)
+        && are_removed(rt, &[name])
 }
 
-#[test]
-fn a_file_that_was_rewritten_is_read_anew(rt: HostRuntime) -> Result<(), Fail> {
+fn is_rewritten_read(rt: &HostRuntime, folder: &mut DiskFolder<HostRuntime>) -> bool {
     let name = "xarch-test-of-a-rewritten-file";
-    let mut folder = DiskFolder::new(&rt, rt.alloc());
     for bytes in [b"old", b"new", b"odd"] {
-        fs::write(&rt, name, bytes.as_slice())?;
-        assert!(rt; folder.length(name) == Ok(Some(3)));
-        assert!(rt; holds(&mut folder, rt.alloc(), name, 0, bytes));
+        let is_read = fs::write(rt, name, bytes.as_slice()).is_ok()
+            && folder.length(name) == Ok(Some(3))
+            && holds(folder, rt.alloc(), name, 0, bytes);
+        if !is_read {
+            return false;
+        }
     }
-    assert!(rt; are_removed(&rt, &[name]));
-    Ok(())
+    are_removed(rt, &[name])
 }
 
-#[test]
-fn an_archive_that_is_a_link_stays_one_and_keeps_its_mode(rt: HostRuntime) -> Result<(), Fail> {
+fn has_mode(rt: &HostRuntime, name: &str, mode: u32) -> bool {
+    match fs::metadata(rt, name) {
+        Ok(found) => found.permissions().mode() % 0o1000 == mode,
+        Err(_) => false,
+    }
+}
+
+fn is_link(rt: &HostRuntime, name: &str) -> bool {
+    match fs::symlink_metadata(rt, name) {
+        Ok(found) => found.is_symlink(),
+        Err(_) => false,
+    }
+}
+
+fn is_link_kept(rt: &HostRuntime, folder: &mut DiskFolder<HostRuntime>) -> bool {
     let name = "xarch-test-of-a-mode";
     let link = "xarch-test-of-a-link";
-    fs::write(&rt, name, b"old".as_slice())?;
-    rt.set_permissions(name, Permissions::from_mode(0o640))?;
-    symlink(&rt, name, link)?;
-    let mut folder = DiskFolder::new(&rt, rt.alloc());
-    assert!(rt; is_stored(&mut folder, link, &[b"new"]));
-    assert!(rt; holds(&mut folder, rt.alloc(), name, 0, b"new"));
-    assert!(rt; fs::symlink_metadata(&rt, link)?.is_symlink());
-    assert!(rt; fs::metadata(&rt, name)?.permissions().mode() % 0o1000 == 0o640);
-    assert!(rt; are_removed(&rt, &[link, name]));
-    Ok(())
+    fs::write(rt, name, b"old".as_slice()).is_ok()
+        && rt
+            .set_permissions(name, Permissions::from_mode(0o640))
+            .is_ok()
+        && symlink(rt, name, link).is_ok()
+        && is_stored(folder, link, &[b"new"])
+        && holds(folder, rt.alloc(), name, 0, b"new")
+        && is_link(rt, link)
+        && has_mode(rt, name, 0o640)
+        && are_removed(rt, &[link, name])
 }
 
-#[test]
-fn a_draft_is_its_owners_alone(rt: HostRuntime) -> Result<(), Fail> {
-    let mut folder = DiskFolder::new(&rt, rt.alloc());
-    assert!(rt; is_abandoned(&mut folder, b"draft"));
-    assert!(rt; fs::metadata(&rt, ".xarch-draft")?.permissions().mode() % 0o1000 == 0o600);
+fn is_owners_alone(rt: &HostRuntime, folder: &mut DiskFolder<HostRuntime>) -> bool {
+    let is_alone = is_abandoned(folder, b"draft") && has_mode(rt, ".xarch-draft", 0o600);
     folder.discard();
-    assert!(rt; fs::metadata(&rt, ".xarch-draft").is_err());
-    Ok(())
+    is_alone && fs::metadata(rt, ".xarch-draft").is_err()
 }
 
-#[test]
-fn the_draft_of_another_command_is_not_committed(rt: HostRuntime) {
+/// Whether another command's draft takes the place of this one's, and is committed.
+fn is_replaced(
+    rt: &HostRuntime,
+    first: &mut DiskFolder<HostRuntime>,
+    second: &mut DiskFolder<HostRuntime>,
+) -> bool {
     let name = "xarch-test-of-two-commands";
-    let mut first = DiskFolder::new(&rt, rt.alloc());
-    let mut second = DiskFolder::new(&rt, rt.alloc());
-    let is_apart = is_abandoned(&mut first, b"first")
-        && is_abandoned(&mut second, b"other")
+    let is_apart = is_abandoned(first, b"first")
+        && is_abandoned(second, b"other")
         && first.commit(name).is_err()
         && first.length(name) == Ok(None)
         && second.commit(name).is_ok()
-        && holds(&mut second, rt.alloc(), name, 0, b"other");
+        && holds(second, rt.alloc(), name, 0, b"other");
     first.discard();
-    assert!(rt; is_apart && are_removed(&rt, &[name]));
+    is_apart && are_removed(rt, &[name])
+}
+
+fn is_other_apart(rt: &HostRuntime, folder: &mut DiskFolder<HostRuntime>) -> bool {
+    let mut second = DiskFolder::new(rt, rt.alloc());
+    is_replaced(rt, folder, &mut second)
 }
 
 #[test]
