@@ -1,5 +1,5 @@
 // Walking over the records of the archive of one version, the element `db`.
-use crate::ends::are_lent;
+use crate::bodies::are_lent;
 use crate::headers::{TINY, folder};
 use crate::nested::{Record, are_records_given};
 use given_parts::bytes::edit;

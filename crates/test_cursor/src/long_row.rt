@@ -1,5 +1,5 @@
 // A row whose END is read in several pieces.
-use crate::files::{NAME, folder, push, set};
+use crate::kids::{NAME, folder, push, set};
 use given_parts::told;
 use record_format::{Entry, put_end};
 use row_ends::{Kids, Room, is_end};

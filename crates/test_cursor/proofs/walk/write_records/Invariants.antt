@@ -1,7 +1,7 @@
 use Rattle.std.proofs.Common.{length}
 use Rattle.record_writer.specs.View.{writer_view}
-use Rattle.test_walk.specs.Agrees.{Agrees}
-use Rattle.test_walk.proofs.walk.write_records.Given as goal
+use Rattle.test_cursor.specs.Agrees.{Agrees}
+use Rattle.test_cursor.proofs.walk.write_records.Given as goal
 
 -- the writer stands where the walk does
 abbrev pub invariant-loop : goal.invariant-loop

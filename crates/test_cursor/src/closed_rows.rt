@@ -1,5 +1,5 @@
 // ENDs of files, compared with the rows that they close.
-use crate::files::{
+use crate::kids::{
     DB, EMPTY, FIVE, FOUR, IN_DB, IN_E, Kid, NAME, ONE, ROOT, Row, STORED, folder, kids, set,
 };
 use given_parts::told;

@@ -1,8 +1,8 @@
 // An archive read and written record by record.
 ghost use Rattle.std.specs.Prelude.{◌≡◌, ◌≢◌, ℕ, [], length, None, IfOk};
 ghost use Rattle.record_writer.specs.View.{writer_view};
-ghost use Rattle.test_walk.specs.Agrees.{Agrees};
-ghost use Rattle.test_walk.specs.declared.stand.Stand.TheVariants.{Nodes, Leaf};
+ghost use Rattle.test_cursor.specs.Agrees.{Agrees};
+ghost use Rattle.test_cursor.specs.declared.stand.Stand.TheVariants.{Nodes, Leaf};
 
 use crate::stand::Stand;
 use crate::stopped::Stopped;
