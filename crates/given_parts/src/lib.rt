@@ -7,4 +7,4 @@ pub mod documents;
 mod fails;
 pub mod shapes;
 
-pub use fails::told;
+pub use fails::{all_told, told};

@@ -7,7 +7,7 @@ use given_parts::documents::{is_read, read};
 use given_parts::shapes::{
     DATABASE, EMPLOYEE, FINANCE, Named, Shape, archive, archive_of, label, labels, nodes, tree,
 };
-use given_parts::told;
+use given_parts::{all_told, told};
 use jsonml_tree::{Content, Scalar, Tree};
 use keyed_tree::{KeyVal, Keyed, Label};
 use std::alloc::{AllocError, Global};
@@ -276,13 +276,6 @@ fn is_employee_copied(alloc: Global) -> bool {
     }
 }
 
-#[test]
-fn copies_are_the_same(rt: HostRuntime) {
-    let alloc = rt.alloc();
-    let are_documents_copied = is_tree_copied(alloc) && is_content_copied(alloc);
-    assert!(rt; are_documents_copied && is_scalar_copied(alloc) && is_employee_copied(alloc));
-}
-
 /// Whether the parts of an archive are one again, which has the second salary.
 fn is_rebuilt(alloc: Global, archive: Archive) -> bool {
     let (n, kids) = archive.into_parts();
@@ -304,19 +297,9 @@ fn is_company_rebuilt(alloc: Global) -> bool {
     }
 }
 
-#[test]
-fn parts_that_were_taken_apart_are_an_archive_again(rt: HostRuntime) {
-    assert!(rt; is_company_rebuilt(rt.alloc()));
-}
-
 fn has_nothing(alloc: Global) -> bool {
     let archive = Archive::empty(alloc);
     archive.n() == 0 && archive.kids().is_empty() && has_no_version(alloc, &archive, 1)
-}
-
-#[test]
-fn the_empty_archive_has_no_version(rt: HostRuntime) {
-    assert!(rt; has_nothing(rt.alloc()));
 }
 
 fn are_effective(nodes: &[ANode], parent: &VersionSet, pairs: &[(u32, u32)]) -> bool {
@@ -338,7 +321,25 @@ fn is_effective(alloc: Global, known: Known, pairs: &[(u32, u32)]) -> bool {
 }
 
 #[test]
-fn what_is_not_stored_is_the_parents(rt: HostRuntime) {
-    let is_parents = is_effective(rt.alloc(), Known::Salaries, &[(1, 3)]);
-    assert!(rt; is_parents && is_effective(rt.alloc(), Known::Stored, &[(1, 1), (3, 3)]));
+fn parts_are_copied_taken_apart_and_inherited(rt: HostRuntime) -> Result<(), Fail> {
+    let alloc = rt.alloc();
+    all_told(&[
+        ("a copy of a tree", is_tree_copied(alloc)),
+        ("a copy of a content", is_content_copied(alloc)),
+        ("a copy of a scalar", is_scalar_copied(alloc)),
+        (
+            "copies of a label and of its keys",
+            is_employee_copied(alloc),
+        ),
+        ("parts that were taken apart", is_company_rebuilt(alloc)),
+        ("the empty archive", has_nothing(alloc)),
+        (
+            "a set that is the parent's",
+            is_effective(alloc, Known::Salaries, &[(1, 3)]),
+        ),
+        (
+            "a set that is stored",
+            is_effective(alloc, Known::Stored, &[(1, 1), (3, 3)]),
+        ),
+    ])
 }

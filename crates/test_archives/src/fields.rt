@@ -1,5 +1,7 @@
 // Known bytes.
+use given_parts::all_told;
 use std::alloc::{AllocError, Global};
+use std::test::Fail;
 use xa_fields::{
     append_text, append_u8, append_u32, append_u64, put_text, put_u32, put_u64, take_text, take_u8,
     take_u32, take_u64,
@@ -39,17 +41,21 @@ fn are_numbers_taken() -> bool {
         && take_u8(FIELDS, 17) == Some((b'b', 18))
 }
 
-#[test]
-fn numbers_and_texts_are_big_endian(rt: HostRuntime) {
-    let is_taken = are_numbers_taken() && take_text(FIELDS, 12) == Some(("db", 18));
-    assert!(rt; is_taken && are_put(rt.alloc()) && are_appended(rt.alloc()));
+/// Whether too few bytes, and bytes that are no text, are no field.
+fn are_no_fields() -> bool {
+    take_u32(b"\0\0\0", 0).is_none()
+        && take_u64(b"\0\0\0\0\0\0\0\x30", 1).is_none()
+        && take_u8(b"", 0).is_none()
+        && take_text(b"\0\0\0\x02\xff\xfe", 0).is_none()
 }
 
 #[test]
-fn too_few_bytes_and_bytes_that_are_no_text_are_no_field(rt: HostRuntime) {
-    let are_none = take_u32(b"\0\0\0", 0).is_none()
-        && take_u64(b"\0\0\0\0\0\0\0\x30", 1).is_none()
-        && take_u8(b"", 0).is_none()
-        && take_text(b"\0\0\0\x02\xff\xfe", 0).is_none();
-    assert!(rt; are_none);
+fn numbers_and_texts_are_big_endian(rt: HostRuntime) -> Result<(), Fail> {
+    all_told(&[
+        ("numbers", are_numbers_taken()),
+        ("a text", take_text(FIELDS, 12) == Some(("db", 18))),
+        ("fields that are put", are_put(rt.alloc())),
+        ("fields that are appended", are_appended(rt.alloc())),
+        ("no field", are_no_fields()),
+    ])
 }

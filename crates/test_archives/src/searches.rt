@@ -3,9 +3,11 @@ ghost use Rattle.std.specs.Prelude.{◌≡◌, ◌<◌, [], ◌∷◌};
 ghost use Rattle.timestamp_tree.specs.Tree.{tree_of};
 ghost use Rattle.timestamp_tree.specs.Search.{visits};
 
+use given_parts::all_told;
 use std::alloc::{AllocError, Global};
 use std::marker::Brand;
 use std::sync::ledger::{Blank, Ledger};
+use std::test::Fail;
 use timestamp_tree::{Steps, TsTree, put_tree};
 use version_set::VersionSet;
 
@@ -198,12 +200,6 @@ fn are_eight_right(alloc: Global) -> bool {
     }
 }
 
-#[test]
-fn eight_sets_make_three_levels(rt: HostRuntime) {
-    assert!(rt; are_eight_right(rt.alloc()));
-    visited_nodes();
-}
-
 /// So many sets of two intervals that are all the same.
 fn same_sets(alloc: Global, count: u32) -> Option<Vec<VersionSet>> {
     let mut sets = Vec::new(alloc);
@@ -237,17 +233,6 @@ fn are_same_put(alloc: Global, count: u32, length: usize) -> bool {
         Some(sets) => is_tree_put(alloc, &sets) && is_put(alloc, &sets, length, ROOT_OF_SAME),
         None => false,
     }
-}
-
-#[test]
-fn trees_over_sets_that_are_the_same_are_put_as_they_are_written(rt: HostRuntime) {
-    let alloc = rt.alloc();
-    assert!(rt;
-        are_same_put(alloc, 1, 28)
-            && are_same_put(alloc, 2, 84)
-            && are_same_put(alloc, 3, 140)
-            && are_same_put(alloc, 7, 364)
-    );
 }
 
 // Five thousand sets of one number each, from 1 to 97 and again from 1 on.
@@ -286,6 +271,15 @@ fn are_many_right(alloc: Global) -> bool {
 }
 
 #[test]
-fn a_number_is_found_among_five_thousand_sets(rt: HostRuntime) {
-    assert!(rt; are_many_right(rt.alloc()));
+fn trees_over_sets_are_put_written_and_searched(rt: HostRuntime) -> Result<(), Fail> {
+    let alloc = rt.alloc();
+    visited_nodes();
+    all_told(&[
+        ("eight sets make three levels", are_eight_right(alloc)),
+        ("a set", are_same_put(alloc, 1, 28)),
+        ("two sets that are the same", are_same_put(alloc, 2, 84)),
+        ("three sets that are the same", are_same_put(alloc, 3, 140)),
+        ("seven sets that are the same", are_same_put(alloc, 7, 364)),
+        ("a number among five thousand sets", are_many_right(alloc)),
+    ])
 }

@@ -1,5 +1,9 @@
 // Small sets, whose text is known.
-use given_parts::told;
+ghost use Rattle.std.specs.Prelude.{◌≡◌, true};
+ghost use Rattle.version_set.specs.Members.{with_last};
+ghost use Rattle.version_set.specs.View.{pairs_of};
+
+use given_parts::{all_told, told};
 use std::alloc::{AllocError, Global};
 use std::test::Fail;
 use version_set::VersionSet;
@@ -118,49 +122,36 @@ fn a_union_joins_neighbours_and_a_meet_keeps_common_numbers(rt: HostRuntime) -> 
 
 /// Whether single numbers and first numbers are such sets.
 fn are_plain(alloc: Global) -> bool {
-    is_text(&VersionSet::single(alloc, 3), "3")
-        && is_text(&VersionSet::upto(alloc, 5), "1-5")
-        && is_text(&VersionSet::upto(alloc, 0), "none")
+    is_made_of(Ok(VersionSet::single(alloc, 3)), "3")
+        && is_made_of(Ok(VersionSet::upto(alloc, 5)), "1-5")
+        && is_made_of(Ok(VersionSet::upto(alloc, 0)), "none")
         && VersionSet::empty(alloc).last() == 0
 }
 
-#[test]
-fn sets_are_made_of_a_number(rt: HostRuntime) {
-    assert!(rt; are_plain(rt.alloc()));
-}
-
-/// The numbers up to 2, and 3 and 5.
-fn joined(alloc: Global) -> Result<VersionSet, AllocError> {
-    let mut set = VersionSet::upto(alloc, 2);
-    set.reserve_one()?;
-    set.add_last(3);
-    set.reserve_one()?;
-    set.add_last(5);
-    Ok(set)
+/// Whether a greater number is added.
+fn is_added(set: &mut VersionSet, number: u32) -> bool
+    ensures { result ≡ true → pairs_of set.new ≡ with_last (pairs_of set.old) number }
+{
+    if set.last() >= number || set.reserve_one().is_err() {
+        return false;
+    }
+    set.add_last(number);
+    true
 }
 
 /// Whether a number joins the last interval, or begins another.
 fn are_last(alloc: Global) -> bool {
-    match joined(alloc) {
-        Ok(set) => set.last() == 5 && is_text(&set, "1-3,5"),
-        Err(_) => false,
-    }
+    let mut set = VersionSet::upto(alloc, 2);
+    is_added(&mut set, 3) && is_added(&mut set, 5) && set.last() == 5 && is_text(&set, "1-3,5")
 }
 
 /// Whether each number of 2,4-5 is moved to the one before it.
-fn are_moved(alloc: Global) -> Result<bool, AllocError> {
+fn are_moved(alloc: Global) -> bool {
     let mut set = VersionSet::single(alloc, 2);
-    set.reserve_one()?;
-    set.add_last(4);
-    set.reserve_one()?;
-    set.add_last(5);
-    let moved = set.shift(-1)?;
-    Ok(is_text(&set, "2,4-5") && is_text(&moved, "1,3-4"))
-}
-
-#[test]
-fn a_last_number_is_added_and_a_shift_moves_each(rt: HostRuntime) {
-    assert!(rt; are_last(rt.alloc()) && are_moved(rt.alloc()) == Ok(true));
+    is_added(&mut set, 4)
+        && is_added(&mut set, 5)
+        && is_text(&set, "2,4-5")
+        && is_made_of(set.shift(-1), "1,3-4")
 }
 
 fn is_copied(set: &VersionSet, pairs: &[(u32, u32)]) -> bool {
@@ -177,11 +168,6 @@ fn is_odd_set_copied(alloc: Global) -> bool {
         Some(set) => is_copied(&set, &[(1, 1), (3, 3)]),
         None => false,
     }
-}
-
-#[test]
-fn copy_is_the_same_set(rt: HostRuntime) {
-    assert!(rt; is_odd_set_copied(rt.alloc()));
 }
 
 /// Intervals that are pushed in turn onto the empty set, and whether each may stand there.
@@ -217,6 +203,13 @@ fn are_pushed(alloc: Global) -> bool {
 }
 
 #[test]
-fn an_interval_is_added_where_it_may_stand(rt: HostRuntime) {
-    assert!(rt; are_pushed(rt.alloc()));
+fn sets_are_made_moved_and_copied(rt: HostRuntime) -> Result<(), Fail> {
+    let alloc = rt.alloc();
+    all_told(&[
+        ("sets of a number", are_plain(alloc)),
+        ("a last number is added", are_last(alloc)),
+        ("a shift moves each", are_moved(alloc)),
+        ("a copy is the same set", is_odd_set_copied(alloc)),
+        ("an interval is added where it may stand", are_pushed(alloc)),
+    ])
 }
