@@ -37,27 +37,57 @@ fn row(alloc: Global) -> Option<Kids> {
     Some(kids)
 }
 
-/// The END of the row, as the records of a file are written.
-fn end(alloc: Global, parent: &VersionSet) -> Option<Vec<u8>> {
+/// What the END says of the kids.
+fn entries(alloc: Global) -> Option<Vec<Entry>> {
     let mut entries = Vec::new(alloc);
-    let mut sets = Vec::new(alloc);
     let mut start = 0u64;
     for index in 0..COUNT {
         let length = u64::from(index % 50 + 9);
         let dir = u64::from(index % 3);
         entries.push(Entry { start, length, dir }).ok()?;
         start = start.saturating_add(length);
-        let set = match stamp(alloc, index)? {
-            Some(set) => set,
-            None => parent.copy().ok()?,
-        };
-        sets.push(set).ok()?;
     }
+    Some(entries)
+}
+
+/// The set of the kid at a position.
+fn set_of(alloc: Global, parent: &VersionSet, index: u32) -> Option<VersionSet> {
+    match stamp(alloc, index)? {
+        Some(set) => Some(set),
+        None => parent.copy().ok(),
+    }
+}
+
+/// The sets of the kids.
+fn sets(alloc: Global, parent: &VersionSet) -> Option<Vec<VersionSet>> {
+    let mut sets = Vec::new(alloc);
+    for index in 0..COUNT {
+        sets.push(set_of(alloc, parent, index)?).ok()?;
+    }
+    Some(sets)
+}
+
+fn lent(alloc: Global, sets: &[VersionSet]) -> Option<Vec<&VersionSet>> {
     let mut lent = Vec::new(alloc);
-    for set in &sets {
+    for set in sets {
         lent.push(set).ok()?;
     }
-    spelled(alloc, &entries, &lent)
+    Some(lent)
+}
+
+/// The END of the row, as the records of a file are written.
+fn end_of(alloc: Global, entries: &[Entry], sets: &[VersionSet]) -> Option<Vec<u8>> {
+    match lent(alloc, sets) {
+        Some(lent) => spelled(alloc, entries, &lent),
+        None => None,
+    }
+}
+
+fn end(alloc: Global, parent: &VersionSet) -> Option<Vec<u8>> {
+    match (entries(alloc), sets(alloc, parent)) {
+        (Some(entries), Some(sets)) => end_of(alloc, &entries, &sets),
+        _ => None,
+    }
 }
 
 fn spelled(alloc: Global, entries: &[Entry], sets: &[&VersionSet]) -> Option<Vec<u8>> {
@@ -108,32 +138,70 @@ fn changed(alloc: Global, room: &mut Room, given: &Given, at: usize) -> Option<(
     judged(alloc, room, given, &file)
 }
 
+/// Offsets of changed bytes, from the front or from the end, and how many bytes are pulled at most.
+const CHANGED: &[(bool, usize, u64)] = &[
+    (false, 1, 65_536),
+    (true, 9, u64::MAX),
+    (true, 12, u64::MAX),
+    (true, 13, u64::MAX),
+    (true, 36, u64::MAX),
+    (true, 72_012, u64::MAX),
+    (true, 72_013, u64::MAX),
+    (true, 100_000, u64::MAX),
+    (false, 65_540, u64::MAX),
+    (false, 65_530, u64::MAX),
+];
+
+/// Whether the changed END is another.
+fn differs(alloc: Global, room: &mut Room, given: &Given, at: usize, most: u64) -> bool {
+    match changed(alloc, room, given, at) {
+        Some((same, pulled)) => !same && pulled <= most,
+        None => false,
+    }
+}
+
+fn do_changed_differ(alloc: Global, room: &mut Room, given: &Given) -> bool {
+    let size = given.end.len();
+    for (is_front, offset, most) in CHANGED {
+        let at = if *is_front {
+            *offset
+        } else {
+            size.saturating_sub(*offset)
+        };
+        if !differs(alloc, room, given, at, *most) {
+            return false;
+        }
+    }
+    true
+}
+
+/// Whether the END has more than three pieces, and each of its bytes is pulled once.
+fn is_whole(alloc: Global, room: &mut Room, given: &Given) -> bool {
+    let size = given.end.len() as u64;
+    size > 200_000 && judged(alloc, room, given, &given.end) == Some((true, size.saturating_sub(9)))
+}
+
+fn is_compared(alloc: Global, room: &mut Room, given: &Given) -> Result<(), Fail> {
+    told(is_whole(alloc, room, given), "the END of the row")?;
+    told(
+        do_changed_differ(alloc, room, given),
+        "a byte that is changed",
+    )?;
+    told(
+        is_whole(alloc, room, given),
+        "the END again, in the same room",
+    )
+}
+
+fn is_row_compared(alloc: Global, room: &mut Room) -> Result<(), Fail> {
+    match large_row(alloc) {
+        Some(given) => is_compared(alloc, room, &given),
+        None => Err(Fail::new("no row")),
+    }
+}
+
 #[test]
 fn a_large_end_is_compared_in_pieces(rt: HostRuntime) -> Result<(), Fail> {
-    let alloc = rt.alloc();
-    let mut room = Room::new(alloc)?;
-    let given = large_row(alloc).ok_or("no row")?;
-    let size = given.end.len();
-    let (same, pulled) = judged(alloc, &mut room, &given, &given.end).ok_or("no END")?;
-    told(same, "the END of the row")?;
-    told(size > 200_000, "more than three pieces")?;
-    told(pulled == (size as u64).saturating_sub(9), "each byte once")?;
-    let (same, pulled) = changed(alloc, &mut room, &given, size.saturating_sub(1)).ok_or("no END")?;
-    told(!same && pulled <= 65_536, "the last byte")?;
-    for at in [
-        9,
-        12,
-        13,
-        36,
-        72_012,
-        72_013,
-        100_000,
-        size.saturating_sub(65_540),
-        size.saturating_sub(65_530),
-    ] {
-        let (same, _) = changed(alloc, &mut room, &given, at).ok_or("no END")?;
-        told(!same, "a byte that is changed")?;
-    }
-    let (same, _) = judged(alloc, &mut room, &given, &given.end).ok_or("no END")?;
-    told(same, "the END again, in the same room")
+    let mut room = Room::new(rt.alloc())?;
+    is_row_compared(rt.alloc(), &mut room)
 }
