@@ -4,7 +4,7 @@ ghost use Rattle.jsonml_tree.specs.View.{tree_view};
 use crate::asked::{Asked, is_content, is_so};
 use given_parts::bytes::{Pieces, joined};
 use given_parts::documents::{lend, read};
-use given_parts::told;
+use given_parts::{all_told, told};
 use jsonml_text::{DocFault, Printer, content_of, read_document, scalar_of, write_tree};
 use jsonml_tree::{Content, Scalar, Tree};
 use serde_json::Value;
@@ -244,18 +244,8 @@ fn is_too_deep(alloc: Global, document: Pieces, wrong: &Wrong) -> bool {
     }
 }
 
-#[test]
-fn depth_121_is_too_deep_at_its_place(rt: HostRuntime) {
-    assert!(rt; is_too_deep(rt.alloc(), DEEP, &Wrong::Deep(&[1; 120])));
-}
-
 fn is_lent_printed(alloc: Global) -> bool {
     is_so(alloc, lend(alloc, LENT), Asked::Prints(LENT))
-}
-
-#[test]
-fn a_lent_content_is_printed_between_calls(rt: HostRuntime) {
-    assert!(rt; is_lent_printed(rt.alloc()));
 }
 
 /// What a JSON value is.
@@ -353,11 +343,6 @@ fn are_calls_printed(alloc: Global) -> bool {
     is_printed && sink.taken() == b"[\"db\",{\"a\":-1,\"b\":null},\"x\",[\"e\"]]".as_slice()
 }
 
-#[test]
-fn a_list_of_calls_prints_the_same_text(rt: HostRuntime) {
-    assert!(rt; are_calls_printed(rt.alloc()));
-}
-
 /// Whether a write that fails leaves what was written before.
 fn is_prefix_left(sink: &mut MemSink, tree: &Tree) -> bool
     requires { IsElement (tree_view tree.now) }
@@ -382,6 +367,18 @@ fn is_third_write_failed(alloc: Global) -> bool {
 }
 
 #[test]
-fn a_write_that_fails_leaves_a_prefix(rt: HostRuntime) {
-    assert!(rt; is_third_write_failed(rt.alloc()));
+fn documents_are_printed_call_by_call_and_cut_off(rt: HostRuntime) -> Result<(), Fail> {
+    let alloc = rt.alloc();
+    all_told(&[
+        (
+            "depth 121",
+            is_too_deep(alloc, DEEP, &Wrong::Deep(&[1; 120])),
+        ),
+        ("a lent content between calls", is_lent_printed(alloc)),
+        ("a list of calls", are_calls_printed(alloc)),
+        (
+            "a write that fails leaves a prefix",
+            is_third_write_failed(alloc),
+        ),
+    ])
 }

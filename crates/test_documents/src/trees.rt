@@ -1,6 +1,6 @@
 use crate::asked::{Asked, is_content, is_so, is_tree};
 use given_parts::documents::{lend, read};
-use given_parts::told;
+use given_parts::{all_told, told};
 use jsonml_tree::{Content, LentContent, LentTree, Scalar, Tree};
 use std::alloc::{AllocError, Global};
 use std::cmp::Ordering;
@@ -52,11 +52,6 @@ fn do_scalars_ascend(alloc: Global) -> bool {
         Ok(scalars) => do_ascend(alloc, &scalars),
         Err(_) => false,
     }
-}
-
-#[test]
-fn scalars_go_by_kind_and_then_by_value(rt: HostRuntime) {
-    assert!(rt; do_scalars_ascend(rt.alloc()));
 }
 
 /// What holds of a document.
@@ -202,6 +197,15 @@ fn is_lent_text(alloc: Global, text: &str) -> bool {
 }
 
 #[test]
-fn a_lent_text_is_a_content(rt: HostRuntime) {
-    assert!(rt; is_lent_text(rt.alloc(), "finance"));
+fn scalars_ascend_and_texts_are_contents(rt: HostRuntime) -> Result<(), Fail> {
+    all_told(&[
+        (
+            "scalars go by kind and then by value",
+            do_scalars_ascend(rt.alloc()),
+        ),
+        (
+            "a lent text is a content",
+            is_lent_text(rt.alloc(), "finance"),
+        ),
+    ])
 }

@@ -4,7 +4,7 @@ use given_parts::bytes::{
     ALT, COMPANY, END, Edits, HEADER, LEAF, LEAF_END, NO_VERSIONS, Pieces, STORED_SET, TAIL, TINY,
     edit, edited,
 };
-use given_parts::told;
+use given_parts::{all_told, told};
 use std::alloc::{AllocError, Global};
 use std::test::Fail;
 
@@ -363,11 +363,6 @@ fn files_are_read_and_written_and_other_bytes_are_damage(rt: HostRuntime) -> Res
     Ok(())
 }
 
-#[test]
-fn known_files_have_these_lengths(rt: HostRuntime) {
-    assert!(rt; TINY.len() == 142 && NO_VERSIONS.len() == 49 && COMPANY.len() == 1198);
-}
-
 fn is_each_prefix_damage(alloc: Global, bytes: &[u8]) -> bool {
     for length in 0..bytes.len() {
         if !is_damage(alloc, &bytes[..length]) {
@@ -378,8 +373,12 @@ fn is_each_prefix_damage(alloc: Global, bytes: &[u8]) -> bool {
 }
 
 #[test]
-fn no_proper_prefix_is_a_file(rt: HostRuntime) {
-    assert!(rt; is_each_prefix_damage(rt.alloc(), TINY));
+fn known_files_are_whole(rt: HostRuntime) -> Result<(), Fail> {
+    let are_lengths = TINY.len() == 142 && NO_VERSIONS.len() == 49 && COMPANY.len() == 1198;
+    all_told(&[
+        ("lengths", are_lengths),
+        ("a proper prefix", is_each_prefix_damage(rt.alloc(), TINY)),
+    ])
 }
 
 /// Parts of the company's file in another order, each from an offset up to another, and edits in what they make.

@@ -2,10 +2,12 @@
 use crate::damaged_files::written_again;
 use archive_file::{FileFault, decode_file, fixed_of, header_of};
 use archive_tree::{ANode, Alt, Archive};
+use given_parts::all_told;
 use given_parts::bytes::{COMPANY, TINY};
 use key_spec::Spec;
 use record_format::take_frame;
 use std::alloc::{AllocError, Global};
+use std::test::Fail;
 
 /// The kinds and the sizes of the company's records.
 const SIZES: &[(u8, usize)] = &[
@@ -67,11 +69,6 @@ fn are_companys_sizes(alloc: Global) -> bool {
     }
 }
 
-#[test]
-fn the_companys_records_have_these_sizes(rt: HostRuntime) {
-    assert!(rt; are_companys_sizes(rt.alloc()));
-}
-
 // The alternatives of the node at these places.
 fn alternatives<'a>(kids: &'a [ANode], places: &[usize]) -> &'a [Alt] {
     let mut nodes = kids;
@@ -108,11 +105,6 @@ fn is_companys_salary_one(alloc: Global) -> bool {
     }
 }
 
-#[test]
-fn a_salary_that_returns_is_one_alternative(rt: HostRuntime) {
-    assert!(rt; is_companys_salary_one(rt.alloc()));
-}
-
 fn is_text(alloc: Global, spec: &Spec, text: &str) -> bool {
     match spec.text(alloc) {
         Ok(found) => found.as_str() == text,
@@ -130,10 +122,18 @@ fn is_header(alloc: Global, bytes: &[u8], text: &str, n: u32) -> bool {
     }
 }
 
+/// Whether a byte less than a header is none.
+fn is_no_header(alloc: Global, front: &[u8]) -> bool {
+    matches!(header_of(alloc, front), Err(FileFault::Damage)) && fixed_of(front).is_none()
+}
+
 #[test]
-fn headers_stand_at_the_front(rt: HostRuntime) {
-    assert!(rt; is_header(rt.alloc(), TINY, "(/, (db, {}))\n", 1));
-    let front = &TINY[..27];
-    let is_damage = matches!(header_of(rt.alloc(), front), Err(FileFault::Damage));
-    assert!(rt; is_damage && fixed_of(front).is_none());
+fn known_files_have_their_parts(rt: HostRuntime) -> Result<(), Fail> {
+    let alloc = rt.alloc();
+    all_told(&[
+        ("the sizes of records", are_companys_sizes(alloc)),
+        ("a salary that returns", is_companys_salary_one(alloc)),
+        ("a header", is_header(alloc, TINY, "(/, (db, {}))\n", 1)),
+        ("a byte less", is_no_header(alloc, &TINY[..27])),
+    ])
 }

@@ -1,6 +1,6 @@
 use crate::reading::{Named, keyed_of, label, labels};
 use given_parts::documents::is_read;
-use given_parts::told;
+use given_parts::{all_told, told};
 use jsonml_tree::{Content, Scalar};
 use keyed_tree::{KeyVal, Keyed, Label};
 use std::alloc::{AllocError, Global};
@@ -56,14 +56,6 @@ fn is_sorted_as(alloc: Global, path: &[Named], wanted: &[Named]) -> bool {
     }
 }
 
-#[test]
-fn labels_sort_by_name_and_then_by_keys(rt: HostRuntime) {
-    let mixed: &[Named] = &[("tel", &["123"]), ("tel", &["112"]), ("@tel", &[])];
-    let sorted: &[Named] = &[("@tel", &[]), ("tel", &["112"]), ("tel", &["123"])];
-    let are_sorted = is_sorted_as(rt.alloc(), mixed, sorted);
-    assert!(rt; do_ascend(rt.alloc(), ASCENDING) && are_sorted);
-}
-
 fn scalar_key(alloc: Global, text: &str) -> Result<KeyVal, AllocError> {
     let text = String::from_str(alloc, text)?;
     Ok(KeyVal::Scalar(Scalar::Text(text)))
@@ -94,11 +86,6 @@ fn is_scalar_first(alloc: Global) -> bool {
         Ok(scalar) => is_key_copied(alloc, &scalar) && is_before_content(alloc, &scalar),
         Err(_) => false,
     }
-}
-
-#[test]
-fn a_scalar_key_comes_before_a_content(rt: HostRuntime) {
-    assert!(rt; is_scalar_first(rt.alloc()));
 }
 
 const SPEC: &[u8] = b"(/, (dept, {}))\n(/dept, (name, {}))\n(/dept, (tel, {.}))\n";
@@ -250,7 +237,23 @@ fn is_department_right(alloc: Global) -> bool {
     }
 }
 
+const MIXED: &[Named] = &[("tel", &["123"]), ("tel", &["112"]), ("@tel", &[])];
+
+const SORTED: &[Named] = &[("@tel", &[]), ("tel", &["112"]), ("tel", &["123"])];
+
 #[test]
-fn a_copy_is_the_same_and_plain_gives_attributes_back_before_items(rt: HostRuntime) {
-    assert!(rt; is_department_right(rt.alloc()));
+fn labels_are_sorted_and_trees_copied(rt: HostRuntime) -> Result<(), Fail> {
+    let alloc = rt.alloc();
+    all_told(&[
+        ("labels in ascending order", do_ascend(alloc, ASCENDING)),
+        ("labels that are sorted", is_sorted_as(alloc, MIXED, SORTED)),
+        (
+            "a scalar key comes before a content",
+            is_scalar_first(alloc),
+        ),
+        (
+            "a copy, and attributes before items",
+            is_department_right(alloc),
+        ),
+    ])
 }

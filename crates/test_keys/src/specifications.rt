@@ -2,7 +2,7 @@ use crate::reading::COMPANY;
 use given_outside::texts;
 use given_parts::bytes::{Pieces, joined};
 use given_parts::documents::parse;
-use given_parts::told;
+use given_parts::{all_told, told};
 use key_spec::{Context, KeyPath, Spec, SpecFault};
 use std::alloc::{AllocError, Global};
 use std::test::Fail;
@@ -196,13 +196,6 @@ fn fault_of_many(alloc: Global, last: &str) -> Option<(u32, u8)> {
     }
 }
 
-#[test]
-fn there_are_at_most_4096_closed_rules(rt: HostRuntime) {
-    let are_enough = fault_of_many(rt.alloc(), "") == Some((0, 0));
-    let is_too_many = fault_of_many(rt.alloc(), "(/r, (last, {}))") == Some((0, 7));
-    assert!(rt; are_enough && is_too_many);
-}
-
 /// Whether the frontier is at this context, or not.
 fn is_frontier(alloc: Global, spec: &Spec, context: &[&str], wanted: bool) -> bool {
     match texts(alloc, context) {
@@ -354,11 +347,6 @@ fn is_long_name_passed(alloc: Global) -> bool {
     }
 }
 
-#[test]
-fn a_walk_goes_past_a_long_name(rt: HostRuntime) {
-    assert!(rt; is_long_name_passed(rt.alloc()));
-}
-
 fn key_path(alloc: Global, tags: &[&str], attr: &str) -> Result<KeyPath, AllocError> {
     let attr = Some(String::from_str(alloc, attr)?);
     let tags = texts(alloc, tags)?;
@@ -372,17 +360,34 @@ fn is_path_text(alloc: Global, tags: &[&str], attr: &str, text: &str) -> bool {
     }
 }
 
-#[test]
-fn key_paths_are_written_as_they_are_read(rt: HostRuntime) {
-    assert!(rt; is_path_text(rt.alloc(), &["a", "b"], "c", "a/b/@c"));
+/// Whether faults are equal by their numbers.
+fn are_faults_equal(fault: SpecFault) -> bool {
+    fault == SpecFault::Bad { line: 3, why: 1 }
+        && fault != SpecFault::Bad { line: 3, why: 2 }
+        && fault != SpecFault::Bad { line: 1, why: 1 }
+        && fault != SpecFault::Memory
 }
 
 #[test]
-fn faults_of_the_same_numbers_are_equal(rt: HostRuntime) {
-    let fault = SpecFault::Bad { line: 3, why: 1 };
-    let is_equal = fault == SpecFault::Bad { line: 3, why: 1 };
-    let is_other = fault != SpecFault::Bad { line: 3, why: 2 }
-        && fault != SpecFault::Bad { line: 1, why: 1 }
-        && fault != SpecFault::Memory;
-    assert!(rt; is_equal && is_other);
+fn faults_lengths_and_key_paths(rt: HostRuntime) -> Result<(), Fail> {
+    let alloc = rt.alloc();
+    all_told(&[
+        (
+            "4,096 closed rules",
+            fault_of_many(alloc, "") == Some((0, 0)),
+        ),
+        (
+            "one rule more",
+            fault_of_many(alloc, "(/r, (last, {}))") == Some((0, 7)),
+        ),
+        ("a walk past a long name", is_long_name_passed(alloc)),
+        (
+            "a key path as it is read",
+            is_path_text(alloc, &["a", "b"], "c", "a/b/@c"),
+        ),
+        (
+            "faults of the same numbers",
+            are_faults_equal(SpecFault::Bad { line: 3, why: 1 }),
+        ),
+    ])
 }

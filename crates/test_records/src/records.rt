@@ -1,6 +1,6 @@
 // The records of the archive of one version, the element `db`, byte by byte.
 use given_parts::bytes::{ALT, END, INNER, LEAF, LEAF_END};
-use given_parts::told;
+use given_parts::{all_told, told};
 use keyed_tree::{Body, Label, Name};
 use record_format::{
     BodyView, Dir, Entry, LabelView, Rec, StampView, View, decode, is_label, is_value, put_alt,
@@ -34,11 +34,6 @@ fn has_leaf(alloc: Global) -> bool {
         Ok(Rec::End { dir }) => is_of_one(&dir),
         _ => false,
     }
-}
-
-#[test]
-fn the_directory_has_the_leaf(rt: HostRuntime) {
-    assert!(rt; has_leaf(rt.alloc()));
 }
 
 /// The timestamp of a record that has one.
@@ -99,13 +94,6 @@ fn a_lent_timestamp_says_whether_it_is_stored(rt: HostRuntime) -> Result<(), Fai
         told(is_stamp(rt.alloc(), record, bytes, pairs), name)?;
     }
     Ok(())
-}
-
-#[test]
-fn an_inherited_timestamp_is_decoded_as_none(rt: HostRuntime) {
-    let inherited = b"\x03\0\0\0\0\0\0\0\x03\0\0\0".as_slice();
-    let rec = decode(rt.alloc(), inherited);
-    assert!(rt; matches!(rec, Ok(Rec::Alt { stamp: None, .. })));
 }
 
 /// Tags, and how the label `db` is to them.
@@ -187,11 +175,6 @@ fn do_two_stand(alloc: Global) -> bool {
     }
 }
 
-#[test]
-fn records_stand_one_behind_another(rt: HostRuntime) {
-    assert!(rt; do_two_stand(rt.alloc()));
-}
-
 /// Whether a label and a body are put, if they may be.
 fn put(out: &mut Vec<u8>, label: &Label, body: &Body) -> Result<bool, AllocError> {
     if !is_label(label) || !is_value(body) {
@@ -239,7 +222,22 @@ fn is_end_put(alloc: Global) -> bool {
     }
 }
 
+/// Whether an alternative without a set is decoded as such.
+fn is_inherited(alloc: Global, bytes: &[u8]) -> bool {
+    matches!(decode(alloc, bytes), Ok(Rec::Alt { stamp: None, .. }))
+}
+
 #[test]
-fn parts_are_put_by_themselves(rt: HostRuntime) {
-    assert!(rt; is_tag_put(rt.alloc()) && is_end_put(rt.alloc()));
+fn records_are_decoded_and_put(rt: HostRuntime) -> Result<(), Fail> {
+    let alloc = rt.alloc();
+    all_told(&[
+        ("the directory has the leaf", has_leaf(alloc)),
+        (
+            "an inherited timestamp",
+            is_inherited(alloc, b"\x03\0\0\0\0\0\0\0\x03\0\0\0"),
+        ),
+        ("records one behind another", do_two_stand(alloc)),
+        ("a tag by itself", is_tag_put(alloc)),
+        ("an END by itself", is_end_put(alloc)),
+    ])
 }
