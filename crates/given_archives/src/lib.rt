@@ -5,6 +5,7 @@
 mod archives;
 mod documents;
 mod folders;
+mod judged;
 mod large;
 pub mod lists;
 mod stopped;
@@ -12,5 +13,6 @@ mod stopped;
 pub use archives::{archive, encoded, file, grown};
 pub use documents::{specification, version};
 pub use folders::{Failing, NAME, NEVER, OTHER, folder, is_drafted};
+pub use judged::{Judge, hold_large, hold_listed};
 pub use large::{GREAT_SIZES, SIZES, Size, documents_of, keys_of, lent};
 pub use stopped::Stopped;

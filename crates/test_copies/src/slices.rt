@@ -1,11 +1,9 @@
 // Versions cut out of files. What is expected was merged in memory of their documents alone, and
 // written at once.
 use crate::cut_files::cut_out;
-use given_archives::lists::LISTS;
 use given_archives::{
-    GREAT_SIZES, NAME, NEVER, SIZES, Size, documents_of, file, folder, is_drafted, keys_of, lent,
+    GREAT_SIZES, Judge, NAME, NEVER, SIZES, file, folder, hold_large, hold_listed, is_drafted,
 };
-use given_parts::told;
 use std::alloc::Global;
 use std::test::Fail;
 
@@ -41,64 +39,60 @@ fn is_cut(
     }
 }
 
-// Whether each slice of the documents' file is the file of its documents.
-fn are_cut(alloc: Global, keys: &str, documents: &[&str]) -> bool {
-    let Some(whole) = file(alloc, keys, documents) else {
-        return false;
-    };
-    for from in 0..documents.len() {
-        for last in from..documents.len() {
-            if !is_cut(alloc, &whole, keys, documents, from, last + 1) {
-                return false;
-            }
+// Whether the documents from this one on are cut out of the file of all, however many.
+fn are_cut_from(alloc: Global, whole: &[u8], keys: &str, documents: &[&str], from: usize) -> bool {
+    for last in from..documents.len() {
+        if !is_cut(alloc, whole, keys, documents, from, last + 1) {
+            return false;
         }
     }
     true
 }
 
+fn are_cut(alloc: Global, whole: &[u8], keys: &str, documents: &[&str]) -> bool {
+    for from in 0..documents.len() {
+        if !are_cut_from(alloc, whole, keys, documents, from) {
+            return false;
+        }
+    }
+    true
+}
+
+fn are_halves_cut(alloc: Global, whole: &[u8], keys: &str, documents: &[&str]) -> bool {
+    let (middle, end) = (documents.len() / 2, documents.len());
+    is_cut(alloc, whole, keys, documents, 0, middle)
+        && is_cut(alloc, whole, keys, documents, middle, end)
+}
+
+/// Each slice of the documents' file is the file of its documents, or both halves are.
+enum Cut {
+    Slices,
+    Halves,
+}
+
+impl Judge for Cut {
+    fn holds(&self, alloc: Global, keys: &str, documents: &[&str]) -> bool {
+        match file(alloc, keys, documents) {
+            Some(whole) => match self {
+                Cut::Slices => are_cut(alloc, &whole, keys, documents),
+                Cut::Halves => are_halves_cut(alloc, &whole, keys, documents),
+            },
+            None => false,
+        }
+    }
+}
+
 #[test]
 fn slices_are_the_archives_of_their_versions(rt: HostRuntime) -> Result<(), Fail> {
-    for (name, keys, documents) in LISTS {
-        told(are_cut(rt.alloc(), keys, documents), name)?;
-    }
-    Ok(())
-}
-
-// Whether both halves of the documents are cut out of the file of all.
-fn are_halves_cut(alloc: Global, keys: &str, documents: &[&str]) -> bool {
-    let (middle, end) = (documents.len() / 2, documents.len());
-    match file(alloc, keys, documents) {
-        Some(whole) => {
-            is_cut(alloc, &whole, keys, documents, 0, middle)
-                && is_cut(alloc, &whole, keys, documents, middle, end)
-        }
-        None => false,
-    }
-}
-
-fn is_large_cut(alloc: Global, size: Size) -> bool {
-    let Ok(documents) = documents_of(alloc, size) else {
-        return false;
-    };
-    match lent(alloc, &documents) {
-        Some(documents) => are_halves_cut(alloc, keys_of(size), &documents),
-        None => false,
-    }
-}
-
-fn are_large_cut(alloc: Global, sizes: &[(&'static str, Size)]) -> Result<(), Fail> {
-    for (name, size) in sizes {
-        told(is_large_cut(alloc, *size), name)?;
-    }
-    Ok(())
+    hold_listed(&Cut::Slices, rt.alloc())
 }
 
 #[test]
 fn large_archives_are_cut(rt: HostRuntime) -> Result<(), Fail> {
-    are_large_cut(rt.alloc(), SIZES)
+    hold_large(&Cut::Halves, rt.alloc(), SIZES)
 }
 
 #[test]
 fn great_archives_are_cut(rt: HostRuntime) -> Result<(), Fail> {
-    are_large_cut(rt.alloc(), GREAT_SIZES)
+    hold_large(&Cut::Halves, rt.alloc(), GREAT_SIZES)
 }

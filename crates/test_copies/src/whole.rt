@@ -1,12 +1,11 @@
 // Archives that are joined. What is expected was merged in memory of the documents of both, and
 // written at once.
 use crate::joined_files::joined;
-use given_archives::lists::{LISTS, TINY};
+use given_archives::lists::TINY;
 use given_archives::{
-    GREAT_SIZES, NAME, NEVER, OTHER, SIZES, Size, documents_of, file, folder, is_drafted, keys_of,
-    lent,
+    GREAT_SIZES, Judge, NAME, NEVER, OTHER, SIZES, file, folder, hold_large, hold_listed,
+    is_drafted,
 };
-use given_parts::told;
 use std::alloc::Global;
 use std::test::Fail;
 
@@ -33,59 +32,46 @@ fn is_joined(alloc: Global, whole: &[u8], keys: &str, documents: &[&str], place:
 }
 
 // Whether that is so for each place.
-fn are_joined(alloc: Global, keys: &str, documents: &[&str]) -> bool {
-    let Some(whole) = file(alloc, keys, documents) else {
-        return false;
-    };
+fn are_joined(alloc: Global, whole: &[u8], keys: &str, documents: &[&str]) -> bool {
     for place in 0..=documents.len() {
-        if !is_joined(alloc, &whole, keys, documents, place) {
+        if !is_joined(alloc, whole, keys, documents, place) {
             return false;
         }
     }
     true
 }
 
+/// The files of the documents on both sides of each place are joined to that of all, or those of both halves are.
+enum Joined {
+    Parts,
+    Halves,
+}
+
+impl Judge for Joined {
+    fn holds(&self, alloc: Global, keys: &str, documents: &[&str]) -> bool {
+        match file(alloc, keys, documents) {
+            Some(whole) => match self {
+                Joined::Parts => are_joined(alloc, &whole, keys, documents),
+                Joined::Halves => { is_joined(alloc, &whole, keys, documents, documents.len() / 2) }
+            },
+            None => false,
+        }
+    }
+}
+
 #[test]
 fn parts_are_joined_to_the_archive_of_all_versions(rt: HostRuntime) -> Result<(), Fail> {
-    for (name, keys, documents) in LISTS {
-        told(are_joined(rt.alloc(), keys, documents), name)?;
-    }
-    Ok(())
-}
-
-// Whether both halves of the documents are joined.
-fn are_halves_joined(alloc: Global, keys: &str, documents: &[&str]) -> bool {
-    match file(alloc, keys, documents) {
-        Some(whole) => is_joined(alloc, &whole, keys, documents, documents.len() / 2),
-        None => false,
-    }
-}
-
-fn is_large_joined(alloc: Global, size: Size) -> bool {
-    let Ok(documents) = documents_of(alloc, size) else {
-        return false;
-    };
-    match lent(alloc, &documents) {
-        Some(documents) => are_halves_joined(alloc, keys_of(size), &documents),
-        None => false,
-    }
-}
-
-fn are_large_joined(alloc: Global, sizes: &[(&'static str, Size)]) -> Result<(), Fail> {
-    for (name, size) in sizes {
-        told(is_large_joined(alloc, *size), name)?;
-    }
-    Ok(())
+    hold_listed(&Joined::Parts, rt.alloc())
 }
 
 #[test]
 fn large_archives_are_joined(rt: HostRuntime) -> Result<(), Fail> {
-    are_large_joined(rt.alloc(), SIZES)
+    hold_large(&Joined::Halves, rt.alloc(), SIZES)
 }
 
 #[test]
 fn great_archives_are_joined(rt: HostRuntime) -> Result<(), Fail> {
-    are_large_joined(rt.alloc(), GREAT_SIZES)
+    hold_large(&Joined::Halves, rt.alloc(), GREAT_SIZES)
 }
 
 // Whether an archive is joined to itself.

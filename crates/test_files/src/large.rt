@@ -3,8 +3,7 @@ use crate::checks::has_versions;
 use crate::counts::folder;
 use crate::damaged_files::written_again;
 use archive_stats::stats;
-use given_archives::{GREAT_SIZES, SIZES, Size, documents_of, file, keys_of, lent};
-use given_parts::told;
+use given_archives::{GREAT_SIZES, Judge, SIZES, file, hold_large};
 use std::alloc::Global;
 use std::test::Fail;
 
@@ -27,36 +26,24 @@ fn is_file(alloc: Global, bytes: &[u8], versions: usize) -> bool {
     }
 }
 
-fn have_file(alloc: Global, keys: &str, documents: &[&str]) -> bool {
-    match file(alloc, keys, documents) {
-        Some(bytes) => is_file(alloc, &bytes, documents.len()),
-        None => false,
-    }
-}
+/// The documents' file is read, written again and counted.
+struct Whole;
 
-fn has_large_file(alloc: Global, size: Size) -> bool {
-    let Ok(documents) = documents_of(alloc, size) else {
-        return false;
-    };
-    match lent(alloc, &documents) {
-        Some(documents) => have_file(alloc, keys_of(size), &documents),
-        None => false,
+impl Judge for Whole {
+    fn holds(&self, alloc: Global, keys: &str, documents: &[&str]) -> bool {
+        match file(alloc, keys, documents) {
+            Some(bytes) => is_file(alloc, &bytes, documents.len()),
+            None => false,
+        }
     }
-}
-
-fn have_large_files(alloc: Global, sizes: &[(&'static str, Size)]) -> Result<(), Fail> {
-    for (name, size) in sizes {
-        told(has_large_file(alloc, *size), name)?;
-    }
-    Ok(())
 }
 
 #[test]
 fn large_archives_are_sound(rt: HostRuntime) -> Result<(), Fail> {
-    have_large_files(rt.alloc(), SIZES)
+    hold_large(&Whole, rt.alloc(), SIZES)
 }
 
 #[test]
 fn great_archives_are_sound(rt: HostRuntime) -> Result<(), Fail> {
-    have_large_files(rt.alloc(), GREAT_SIZES)
+    hold_large(&Whole, rt.alloc(), GREAT_SIZES)
 }

@@ -1,8 +1,7 @@
 // Files that gain a version. What is expected was merged in memory and written at once.
 use crate::archives::{add, append};
-use given_archives::lists::LISTS;
 use given_archives::{
-    GREAT_SIZES, NAME, NEVER, SIZES, Size, documents_of, file, folder, is_drafted, keys_of, lent,
+    GREAT_SIZES, Judge, NAME, NEVER, SIZES, file, folder, hold_large, hold_listed, is_drafted,
 };
 use given_parts::bytes::TINY;
 use given_parts::told;
@@ -38,39 +37,34 @@ fn are_grown(alloc: Global, keys: &str, documents: &[&str]) -> bool {
     true
 }
 
+/// The file grows by each document in turn, or by the last.
+enum Grown {
+    ByEach,
+    ByLast,
+}
+
+impl Judge for Grown {
+    fn holds(&self, alloc: Global, keys: &str, documents: &[&str]) -> bool {
+        match self {
+            Grown::ByEach => are_grown(alloc, keys, documents),
+            Grown::ByLast => is_grown(alloc, keys, documents),
+        }
+    }
+}
+
 #[test]
 fn files_gain_versions(rt: HostRuntime) -> Result<(), Fail> {
-    for (name, keys, documents) in LISTS {
-        told(are_grown(rt.alloc(), keys, documents), name)?;
-    }
-    Ok(())
-}
-
-fn is_large_grown(alloc: Global, size: Size) -> bool {
-    let Ok(documents) = documents_of(alloc, size) else {
-        return false;
-    };
-    match lent(alloc, &documents) {
-        Some(documents) => is_grown(alloc, keys_of(size), &documents),
-        None => false,
-    }
-}
-
-fn are_large_grown(alloc: Global, sizes: &[(&'static str, Size)]) -> Result<(), Fail> {
-    for (name, size) in sizes {
-        told(is_large_grown(alloc, *size), name)?;
-    }
-    Ok(())
+    hold_listed(&Grown::ByEach, rt.alloc())
 }
 
 #[test]
 fn large_files_gain_a_version(rt: HostRuntime) -> Result<(), Fail> {
-    are_large_grown(rt.alloc(), SIZES)
+    hold_large(&Grown::ByLast, rt.alloc(), SIZES)
 }
 
 #[test]
 fn great_files_gain_a_version(rt: HostRuntime) -> Result<(), Fail> {
-    are_large_grown(rt.alloc(), GREAT_SIZES)
+    hold_large(&Grown::ByLast, rt.alloc(), GREAT_SIZES)
 }
 
 /// Two versions of an empty element `db`, which differ in two numbers from one: the number of versions in the header, and the last number in the END's tree.

@@ -2,9 +2,8 @@
 use crate::written::{WRITTEN, Written, is_written};
 use archive_text::{Kept, ReadFault, read_text, read_with_file, write_text};
 use archive_tree::Archive;
-use given_archives::lists::LISTS;
 use given_archives::{
-    GREAT_SIZES, SIZES, Size, archive, documents_of, file, keys_of, lent, specification,
+    GREAT_SIZES, Judge, SIZES, archive, file, hold_large, hold_listed, specification,
 };
 use given_parts::bytes::{Pieces, joined};
 use given_parts::told;
@@ -79,42 +78,31 @@ fn is_file_read(alloc: Global, text: &[u8], file: &[u8]) -> bool {
     }
 }
 
+/// The text of the documents' archive gives their file.
+struct ToldAgain;
+
+impl Judge for ToldAgain {
+    fn holds(&self, alloc: Global, keys: &str, documents: &[&str]) -> bool {
+        is_told_again(alloc, keys, documents)
+    }
+}
+
 #[test]
 fn texts_give_their_archives(rt: HostRuntime) -> Result<(), Fail> {
     for (name, written) in WRITTEN {
         told(is_written_read_back(rt.alloc(), written), name)?;
     }
-    for (name, keys, documents) in LISTS {
-        told(is_told_again(rt.alloc(), keys, documents), name)?;
-    }
-    Ok(())
-}
-
-fn is_large_told_again(alloc: Global, size: Size) -> bool {
-    let Ok(documents) = documents_of(alloc, size) else {
-        return false;
-    };
-    match lent(alloc, &documents) {
-        Some(documents) => is_told_again(alloc, keys_of(size), &documents),
-        None => false,
-    }
-}
-
-fn are_large_told_again(alloc: Global, sizes: &[(&'static str, Size)]) -> Result<(), Fail> {
-    for (name, size) in sizes {
-        told(is_large_told_again(alloc, *size), name)?;
-    }
-    Ok(())
+    hold_listed(&ToldAgain, rt.alloc())
 }
 
 #[test]
 fn large_texts_give_their_archives(rt: HostRuntime) -> Result<(), Fail> {
-    are_large_told_again(rt.alloc(), SIZES)
+    hold_large(&ToldAgain, rt.alloc(), SIZES)
 }
 
 #[test]
 fn great_texts_give_their_archives(rt: HostRuntime) -> Result<(), Fail> {
-    are_large_told_again(rt.alloc(), GREAT_SIZES)
+    hold_large(&ToldAgain, rt.alloc(), GREAT_SIZES)
 }
 
 /// Texts of no archive.
