@@ -216,18 +216,47 @@ fn waits_where_it_fits(sink: &mut MemSink) -> bool {
     put_buffered(sink, &[&whole, b"b"]).is_ok() && sink.taken().len() == 65_537
 }
 
+/// What a sink keeps.
+enum Kept {
+    Taken,
+    Rest,
+    Together,
+    AroundALongOne,
+    WhatFits,
+}
+
+/// The number of the write that fails, and what is kept.
+const KEPT: &[(&str, u64, Kept)] = &[
+    ("what was taken", 2, Kept::Taken),
+    ("what a flush left", 1, Kept::Rest),
+    ("pieces that go together", 2, Kept::Together),
+    ("a piece longer than the buffer", 4, Kept::AroundALongOne),
+    ("a piece of the buffer's length", 3, Kept::WhatFits),
+];
+
+fn does_keep(sink: &mut MemSink, kept: &Kept) -> bool {
+    match kept {
+        Kept::Taken => keeps_what_was_taken(sink),
+        Kept::Rest => keeps_the_rest(sink),
+        Kept::Together => leave_together(sink),
+        Kept::AroundALongOne => leave_around_a_long_one(sink),
+        Kept::WhatFits => waits_where_it_fits(sink),
+    }
+}
+
+fn is_kept(alloc: Global, fail: u64, kept: &Kept) -> bool {
+    match sink(alloc, fail) {
+        Ok(mut sink) => does_keep(&mut sink, kept),
+        Err(_) => false,
+    }
+}
+
 #[test]
 fn sinks_keep_what_they_took(rt: HostRuntime) -> Result<(), Fail> {
-    let mut second = sink(rt.alloc(), 2)?;
-    let mut first = sink(rt.alloc(), 1)?;
-    assert!(rt; keeps_what_was_taken(&mut second) && keeps_the_rest(&mut first));
-    let mut second = sink(rt.alloc(), 2)?;
-    let mut fourth = sink(rt.alloc(), 4)?;
-    assert!(rt; leave_together(&mut second) && leave_around_a_long_one(&mut fourth));
-    let mut third = sink(rt.alloc(), 3)?;
-    assert!(rt; waits_where_it_fits(&mut third));
-    assert!(rt; SureSink::new().write(b"gone") == Ok(4));
-    Ok(())
+    for (name, fail, kept) in KEPT {
+        told(is_kept(rt.alloc(), *fail, kept), name)?;
+    }
+    told(SureSink::new().write(b"gone") == Ok(4), "a sure sink")
 }
 
 /// A listed read fails, and the next goes on.
@@ -245,11 +274,21 @@ fn ends(bytes: Vec<u8>) -> bool {
     fill(&mut source, &mut buf) == Ok(2) && buf == [7, 8, 0, 0]
 }
 
+fn does_go_on(alloc: Global) -> bool {
+    match (vec![in alloc; 1, 2, 3, 4], vec![in alloc; 2]) {
+        (Ok(bytes), Ok(fails)) => goes_on(&mut MemSource::new(bytes, fails)),
+        _ => false,
+    }
+}
+
+fn does_end(alloc: Global) -> bool {
+    match vec![in alloc; 7, 8] {
+        Ok(bytes) => ends(bytes),
+        Err(_) => false,
+    }
+}
+
 #[test]
-fn sources_give_their_bytes(rt: HostRuntime) -> Result<(), Fail> {
-    let fails = vec![in rt.alloc(); 2]?;
-    let mut source = MemSource::new(vec![in rt.alloc(); 1, 2, 3, 4]?, fails);
-    assert!(rt; goes_on(&mut source));
-    assert!(rt; ends(vec![in rt.alloc(); 7, 8]?));
-    Ok(())
+fn sources_give_their_bytes(rt: HostRuntime) {
+    assert!(rt; does_go_on(rt.alloc()) && does_end(rt.alloc()));
 }

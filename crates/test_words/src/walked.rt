@@ -4,99 +4,206 @@ ghost use Rattle.version_notes.specs.Notes.{most};
 
 use crate::found::{FIRST, TINY, folder};
 use crate::given::reader;
+use given_outside::told;
 use std::alloc::Global;
 use std::test::Fail;
 use version_notes::{NoteWriter, NotesFault, check_notes, copy_notes, read_notes};
 use xa_outside::{Folder, FolderCall, MemFolder};
 
-/// Bytes of notes, and the notes.
-const NOTES: &[(&[u8], &[&str])] = &[
-    (b"\0\0\0\x05first", &["first"]),
-    (b"\0\0\0\x05first\0\0\0\0", &["first", ""]),
+/// What is asked of the notes of a file.
+enum Asked {
+    /// Whether these are checked, each of their bytes pulled once, and read.
+    Reads(&'static [&'static str]),
+    /// Whether two notes are damage, checked, read and copied.
+    IsDamage,
+    /// Whether three notes are copied as they stand, and nothing is read far ahead.
+    Copies,
+    /// Whether a copy of the first nine bytes meets the folder's fault.
+    Fails,
+}
+
+/// Bytes of notes, and the call of the folder that fails.
+const ASKED: &[(&str, &[u8], FolderCall, u64, Asked)] = &[
     (
+        "a note",
+        b"\0\0\0\x05first",
+        FolderCall::ReadAt,
+        100,
+        Asked::Reads(&["first"]),
+    ),
+    (
+        "an empty note at the end",
+        b"\0\0\0\x05first\0\0\0\0",
+        FolderCall::ReadAt,
+        100,
+        Asked::Reads(&["first", ""]),
+    ),
+    (
+        "an empty note at the front",
         b"\0\0\0\0\0\0\0\x02\xc3\xa9\0\0\0\x03a b",
-        &["", "\u{e9}", "a b"],
+        FolderCall::ReadAt,
+        100,
+        Asked::Reads(&["", "\u{e9}", "a b"]),
+    ),
+    (
+        "no second note",
+        b"\0\0\0\x05first",
+        FolderCall::ReadAt,
+        100,
+        Asked::IsDamage,
+    ),
+    (
+        "a second note that is cut off",
+        b"\0\0\0\x05first\0\0\0\x02b",
+        FolderCall::ReadAt,
+        100,
+        Asked::IsDamage,
+    ),
+    (
+        "a second note that is none",
+        b"\0\0\0\x05first\0\0\0\x01\n",
+        FolderCall::ReadAt,
+        100,
+        Asked::IsDamage,
+    ),
+    (
+        "a byte behind the second",
+        b"\0\0\0\x05first\0\0\0\x01bc",
+        FolderCall::ReadAt,
+        100,
+        Asked::IsDamage,
+    ),
+    (
+        "two empty notes",
+        b"\0\0\0\0\0\0\0\0",
+        FolderCall::ReadAt,
+        100,
+        Asked::IsDamage,
+    ),
+    (
+        "notes that are copied",
+        b"\0\0\0\0\0\0\0\x05first\0\0\0\0",
+        FolderCall::ReadAt,
+        100,
+        Asked::Copies,
+    ),
+    (
+        "a copy whose second read fails",
+        FIRST,
+        FolderCall::ReadAt,
+        2,
+        Asked::Fails,
+    ),
+    (
+        "a copy whose second append fails",
+        FIRST,
+        FolderCall::Append,
+        2,
+        Asked::Fails,
     ),
 ];
 
-/// Bytes of notes of two versions that are damaged: the second is missing, is cut off or is none,
-/// bytes are left behind it, and both are empty.
-const DAMAGED: &[&[u8]] = &[
-    b"\0\0\0\x05first",
-    b"\0\0\0\x05first\0\0\0\x02b",
-    b"\0\0\0\x05first\0\0\0\x01\n",
-    b"\0\0\0\x05first\0\0\0\x01bc",
-    b"\0\0\0\0\0\0\0\0",
-];
-
-#[test]
-fn all_notes_are_read(rt: HostRuntime) -> Result<(), Fail> {
-    for (bytes, notes) in NOTES {
-        let mut folder = folder(rt.alloc(), &[TINY, *bytes], FolderCall::ReadAt, 100)?;
-        let size = bytes.len() as u32;
-        let count = notes.len() as u32;
-        check_notes(&mut folder, reader(rt.alloc(), size, count)?)?;
-        assert!(rt; folder.pulled() == u64::from(size));
-        let found = read_notes(rt.alloc(), &mut folder, reader(rt.alloc(), size, count)?)?;
-        assert!(rt; found.len() == notes.len(), "{size} bytes");
-        for (note, wanted) in found.iter().zip(notes.iter()) {
-            assert!(rt; note.as_str() == *wanted, "{wanted}");
-        }
+fn checked(alloc: Global, folder: &mut MemFolder, size: u32, count: u32) -> Result<(), NotesFault> {
+    match reader(alloc, size, count) {
+        Ok(reader) => check_notes(folder, reader),
+        Err(_) => Err(NotesFault::Memory),
     }
-    Ok(())
 }
 
-#[test]
-fn damage_is_found_behind_a_sound_note(rt: HostRuntime) -> Result<(), Fail> {
-    for bytes in DAMAGED {
-        let mut folder = folder(rt.alloc(), &[TINY, *bytes], FolderCall::ReadAt, 100)?;
-        let size = bytes.len() as u32;
-        let checked = check_notes(&mut folder, reader(rt.alloc(), size, 2)?);
-        assert!(rt; checked == Err(NotesFault::Damage), "{size} bytes");
-        let found = read_notes(rt.alloc(), &mut folder, reader(rt.alloc(), size, 2)?);
-        assert!(rt; matches!(found, Err(NotesFault::Damage)), "{size} bytes");
-        let copied = copy(rt.alloc(), &mut folder, size, 2)?;
-        assert!(rt; copied == Err(NotesFault::Damage), "{size} bytes");
-    }
-    Ok(())
-}
-
-/// Copies so many notes behind the same records, and makes these the file `b.xar`.
-fn copy(
+fn found(
     alloc: Global,
     folder: &mut MemFolder,
     size: u32,
     count: u32,
-) -> Result<Result<(), NotesFault>, Fail>
+) -> Result<Vec<String>, NotesFault> {
+    match reader(alloc, size, count) {
+        Ok(reader) => read_notes(alloc, folder, reader),
+        Err(_) => Err(NotesFault::Memory),
+    }
+}
+
+/// Copies so many notes behind the same records, and makes these the file `b.xar`.
+fn copied(
+    alloc: Global,
+    folder: &mut MemFolder,
+    size: u32,
+    count: u32,
+) -> Option<Result<(), NotesFault>>
     requires { count ≤ most }
 {
-    let reader = reader(alloc, size, count)?;
-    folder.begin()?;
-    folder.append(TINY)?;
+    if folder.begin().is_err() || folder.append(TINY).is_err() {
+        return None;
+    }
+    let Ok(reader) = reader(alloc, size, count) else {
+        return None;
+    };
     let mut writer = NoteWriter::start(true);
     let copied = copy_notes(folder, reader, &mut writer);
-    folder.commit("b.xar")?;
-    Ok(copied)
+    match folder.commit("b.xar") {
+        Ok(()) => Some(copied),
+        Err(_) => None,
+    }
+}
+
+fn are_same(found: &[String], notes: &[&str]) -> bool {
+    for (note, wanted) in found.iter().zip(notes.iter()) {
+        if note.as_str() != *wanted {
+            return false;
+        }
+    }
+    found.len() == notes.len()
+}
+
+fn are_found(alloc: Global, folder: &mut MemFolder, size: u32, notes: &[&str]) -> bool {
+    match found(alloc, folder, size, notes.len() as u32) {
+        Ok(found) => are_same(&found, notes),
+        Err(_) => false,
+    }
+}
+
+fn are_read(alloc: Global, folder: &mut MemFolder, size: u32, notes: &[&str]) -> bool {
+    checked(alloc, folder, size, notes.len() as u32) == Ok(())
+        && folder.pulled() == u64::from(size)
+        && are_found(alloc, folder, size, notes)
+}
+
+fn are_damage(alloc: Global, folder: &mut MemFolder, size: u32) -> bool {
+    checked(alloc, folder, size, 2) == Err(NotesFault::Damage)
+        && matches!(found(alloc, folder, size, 2), Err(NotesFault::Damage))
+        && copied(alloc, folder, size, 2) == Some(Err(NotesFault::Damage))
+}
+
+fn are_copied(alloc: Global, folder: &mut MemFolder, bytes: &[u8]) -> bool {
+    if copied(alloc, folder, bytes.len() as u32, 3) != Some(Ok(())) || folder.gap() != 0 {
+        return false;
+    }
+    match folder.file("b.xar") {
+        Some(file) => file.strip_prefix(TINY) == Some(bytes),
+        None => false,
+    }
+}
+
+fn answers(alloc: Global, folder: &mut MemFolder, bytes: &[u8], asked: &Asked) -> bool {
+    let size = bytes.len() as u32;
+    match asked {
+        Asked::Reads(notes) => are_read(alloc, folder, size, notes),
+        Asked::IsDamage => are_damage(alloc, folder, size),
+        Asked::Copies => are_copied(alloc, folder, bytes),
+        Asked::Fails => copied(alloc, folder, 9, 1) == Some(Err(NotesFault::Folder)),
+    }
+}
+
+fn is_so(alloc: Global, bytes: &[u8], call: FolderCall, number: u64, asked: &Asked) -> bool {
+    match folder(alloc, &[TINY, bytes], call, number) {
+        Ok(mut folder) => answers(alloc, &mut folder, bytes, asked),
+        Err(_) => false,
+    }
 }
 
 #[test]
-fn notes_are_copied(rt: HostRuntime) -> Result<(), Fail> {
-    let bytes = b"\0\0\0\0\0\0\0\x05first\0\0\0\0";
-    let mut folder = folder(rt.alloc(), &[TINY, bytes], FolderCall::ReadAt, 100)?;
-    copy(rt.alloc(), &mut folder, 17, 3)??;
-    let file = folder.file("b.xar").unwrap_or_default();
-    assert!(rt; file.starts_with(TINY));
-    assert!(rt; file.get(TINY.len()..) == Some(bytes.as_slice()));
-    assert!(rt; folder.gap() == 0);
-    Ok(())
-}
-
-#[test]
-fn a_copy_meets_a_fault(rt: HostRuntime) -> Result<(), Fail> {
-    for (call, number) in [(FolderCall::ReadAt, 2), (FolderCall::Append, 2)] {
-        let mut folder = folder(rt.alloc(), &[TINY, FIRST], call, number)?;
-        let copied = copy(rt.alloc(), &mut folder, 9, 1)?;
-        assert!(rt; copied == Err(NotesFault::Folder));
+fn all_notes_are_checked_read_and_copied(rt: HostRuntime) -> Result<(), Fail> {
+    for (name, bytes, call, number, asked) in ASKED {
+        told(is_so(rt.alloc(), bytes, *call, *number, asked), name)?;
     }
     Ok(())
 }
