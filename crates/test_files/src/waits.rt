@@ -148,19 +148,42 @@ fn a_kid_is_handed_what_is_awaited_below_it(rt: HostRuntime) -> Result<(), Fail>
     Ok(())
 }
 
-/// How many waits there are for so many key paths and so many key values, if there are any.
-fn count(alloc: Global, paths: usize, keys: usize) -> Option<Option<usize>> {
-    let mut all = Vec::new(alloc);
-    for _ in 0..paths {
-        all.push(path(alloc, &["a"], None)?).ok()?;
+/// So many key paths that are the same.
+fn paths_of(alloc: Global, count: usize) -> Option<Vec<KeyPath>> {
+    let mut paths = Vec::new(alloc);
+    for _ in 0..count {
+        paths.push(path(alloc, &["a"], None)?).ok()?;
     }
+    Some(paths)
+}
+
+/// So many key values that are the same.
+fn values_of(alloc: Global, count: usize) -> Option<Vec<BodyView<'static>>> {
     let mut values = Vec::new(alloc);
-    for _ in 0..keys {
+    for _ in 0..count {
         values.push(body(SEVEN)?).ok()?;
     }
-    match waits_of(alloc, &all, &values).ok()? {
-        Some(waits) => Some(Some(waits.len())),
-        None => Some(None),
+    Some(values)
+}
+
+fn is_count(
+    alloc: Global,
+    paths: &[KeyPath],
+    values: &[BodyView<'_>],
+    waits: Option<usize>,
+) -> bool {
+    match waits_of(alloc, paths, values) {
+        Ok(Some(found)) => waits == Some(found.len()),
+        Ok(None) => waits.is_none(),
+        Err(_) => false,
+    }
+}
+
+/// Whether there are so many waits for so many key paths and so many key values, or none.
+fn are_counted(alloc: Global, paths: usize, keys: usize, waits: Option<usize>) -> bool {
+    match (paths_of(alloc, paths), values_of(alloc, keys)) {
+        (Some(paths), Some(values)) => is_count(alloc, &paths, &values, waits),
+        _ => false,
     }
 }
 
@@ -178,33 +201,67 @@ const COUNTS: &[(usize, usize, Option<usize>)] = &[
 #[test]
 fn a_node_waits_for_as_many_values_as_its_rule_has_paths(rt: HostRuntime) -> Result<(), Fail> {
     for (paths, keys, waits) in COUNTS {
-        told(count(rt.alloc(), *paths, *keys) == Some(*waits), "how many")?;
+        told(are_counted(rt.alloc(), *paths, *keys, *waits), "how many")?;
     }
     Ok(())
 }
 
-/// Whether a kid `a` is handed the first and the third of three waits, in their order.
-fn are_handed(alloc: Global) -> Option<bool> {
-    let (first, second, third) = (
-        path(alloc, &["a", "b"], None)?,
-        path(alloc, &["b"], None)?,
-        path(alloc, &["a"], Some("id"))?,
-    );
-    let (seven, eight) = (body(SEVEN)?, body(EIGHT)?);
+/// The tags and the attribute of key paths.
+const THREE: &[(&[&str], Option<&str>)] = &[
+    (&["a", "b"], None),
+    (&["b"], None),
+    (&["a"], Some("id")),
+];
+
+fn three_paths(alloc: Global) -> Option<Vec<KeyPath>> {
     let mut paths = Vec::new(alloc);
-    paths.push(first).ok()?;
-    paths.push(second).ok()?;
-    paths.push(third).ok()?;
-    let waits = waits_of(alloc, &paths, &[seven, seven, eight]).ok()??;
-    let handed = hand_all(alloc, &waits, &label(A)?).ok()?;
-    Some(
-        handed.len() == 2
-            && is_left(handed.get(0)?, Left::Tags(1, None), seven)
-            && is_left(handed.get(1)?, Left::Tags(0, Some("id")), eight),
-    )
+    for (tags, attr) in THREE {
+        paths.push(path(alloc, tags, *attr)?).ok()?;
+    }
+    Some(paths)
+}
+
+fn are_first_and_third(handed: &[Wait<'_>], seven: BodyView<'_>, eight: BodyView<'_>) -> bool {
+    match handed {
+        [first, third] => {
+            is_left(first, Left::Tags(1, None), seven)
+                && is_left(third, Left::Tags(0, Some("id")), eight)
+        }
+        _ => false,
+    }
+}
+
+fn are_handed_on(
+    alloc: Global,
+    waits: &[Wait<'_>],
+    seven: BodyView<'_>,
+    eight: BodyView<'_>,
+) -> bool {
+    let Some(label) = label(A) else {
+        return false;
+    };
+    match hand_all(alloc, waits, &label) {
+        Ok(handed) => are_first_and_third(&handed, seven, eight),
+        Err(_) => false,
+    }
+}
+
+fn are_awaited(alloc: Global, paths: &[KeyPath], seven: BodyView<'_>, eight: BodyView<'_>) -> bool {
+    match waits_of(alloc, paths, &[seven, seven, eight]) {
+        Ok(Some(waits)) => are_handed_on(alloc, &waits, seven, eight),
+        _ => false,
+    }
+}
+
+/// Whether a kid `a` is handed the first and the third of three waits, in their order.
+fn are_handed(alloc: Global) -> bool {
+    match (three_paths(alloc), body(SEVEN), body(EIGHT)) {
+        (Some(paths), Some(seven), Some(eight)) => are_awaited(alloc, &paths, seven, eight),
+        _ => false,
+    }
 }
 
 #[test]
 fn all_that_a_kid_is_handed_comes_in_order(rt: HostRuntime) -> Result<(), Fail> {
-    told(are_handed(rt.alloc()) == Some(true), "three waits")
+    told(are_handed(rt.alloc()), "three waits")
 }
