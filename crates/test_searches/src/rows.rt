@@ -44,18 +44,29 @@ fn has_eight(folder: &mut MemFolder, db: Child) -> bool {
     }
 }
 
+/// Whether the root's row has one child, `db`, at these offsets.
+fn has_db(folder: &mut MemFolder, row: Row) -> bool {
+    if count_children(folder, NAME, row) != Ok(1) {
+        return false;
+    }
+    match child(folder, row, 0) {
+        Ok(db) => is_child(db, 46, 1284, 520) && has_eight(folder, db),
+        Err(_) => false,
+    }
+}
+
+fn are_told(folder: &mut MemFolder) -> bool {
+    match root(folder, 46, 1349) {
+        Ok(row) => is_row(row, 46, 1284, 48) && has_db(folder, row),
+        Err(_) => false,
+    }
+}
+
 #[test]
 fn rows_and_children_stand_where_the_file_says(rt: HostRuntime) -> Result<(), Fail> {
     let mut folder = folder(rt.alloc(), SIX, 100).ok_or("no folder")?;
-    let row = root(&mut folder, 46, 1349)?;
-    told(is_row(row, 46, 1284, 48), "the root")?;
-    let count = count_children(&mut folder, NAME, row)?;
-    assert!(rt; count == 1);
-    let db = child(&mut folder, row, 0)?;
-    told(is_child(db, 46, 1284, 520), "db")?;
-    told(has_eight(&mut folder, db), "its children")?;
-    assert!(rt; folder.pulled() == 58);
-    Ok(())
+    told(are_told(&mut folder), "the root, db and its children")?;
+    told(folder.pulled() == 58, "the bytes that are pulled")
 }
 
 /// Whether the file is damaged where its root is read, its children are counted or the first one is
@@ -139,19 +150,37 @@ fn a_row_has_the_directory_of_its_child(rt: HostRuntime) -> Result<(), Fail> {
     Ok(())
 }
 
+/// What is read last, whose read fails.
+#[derive(Clone, Copy)]
+enum Last {
+    Tail,
+    Count,
+    Child,
+}
+
+fn is_folder_fault<T>(found: &Result<T, CursorFault>) -> bool {
+    matches!(found, Err(CursorFault::Folder))
+}
+
+fn is_told(folder: &mut MemFolder, last: Last) -> bool {
+    match (root(folder, 28, 142), last) {
+        (Ok(row), Last::Count) => is_folder_fault(&count_children(folder, NAME, row)),
+        (Ok(row), Last::Child) => is_folder_fault(&child(folder, row, 0)),
+        (found, Last::Tail) => is_folder_fault(&found),
+        _ => false,
+    }
+}
+
+fn is_failure_told(alloc: Global, failing: u64, last: Last) -> bool {
+    match folder(alloc, ONE, failing) {
+        Some(mut folder) => is_told(&mut folder, last),
+        None => false,
+    }
+}
+
 #[test]
 fn a_read_that_fails_is_no_damage(rt: HostRuntime) -> Result<(), Fail> {
-    let alloc = rt.alloc();
-    let mut tail = folder(alloc, ONE, 1).ok_or("no folder")?;
-    let failed = root(&mut tail, 28, 142);
-    assert!(rt; matches!(&failed, Err(CursorFault::Folder)));
-    let mut head = folder(alloc, ONE, 2).ok_or("no folder")?;
-    let row = root(&mut head, 28, 142)?;
-    let failed = count_children(&mut head, NAME, row);
-    assert!(rt; matches!(&failed, Err(CursorFault::Folder)));
-    let mut entry = folder(alloc, ONE, 2).ok_or("no folder")?;
-    let row = root(&mut entry, 28, 142)?;
-    let failed = child(&mut entry, row, 0);
-    assert!(rt; matches!(&failed, Err(CursorFault::Folder)));
-    Ok(())
+    told(is_failure_told(rt.alloc(), 1, Last::Tail), "the tail")?;
+    told(is_failure_told(rt.alloc(), 2, Last::Count), "the count")?;
+    told(is_failure_told(rt.alloc(), 2, Last::Child), "a child")
 }
