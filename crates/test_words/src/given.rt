@@ -60,7 +60,7 @@ fn are_given(folder: &mut MemFolder, reader: &mut NoteReader, wanted: &[&str]) -
 }
 
 /// How many bytes there are.
-fn size(bytes: &[u8]) -> u32 {
+pub(crate) fn size(bytes: &[u8]) -> u32 {
     u32::try_from(bytes.len()).unwrap_or(u32::MAX)
 }
 

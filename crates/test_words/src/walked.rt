@@ -3,7 +3,7 @@ ghost use Rattle.std.specs.Prelude.{◌≤◌};
 ghost use Rattle.version_notes.specs.Notes.{most};
 
 use crate::found::{FIRST, TINY, folder};
-use crate::given::reader;
+use crate::given::{reader, size};
 use given_outside::told;
 use std::alloc::Global;
 use std::test::Fail;
@@ -154,15 +154,19 @@ fn are_same(found: &[String], notes: &[&str]) -> bool {
     found.len() == notes.len()
 }
 
+fn count_of(notes: &[&str]) -> u32 {
+    u32::try_from(notes.len()).unwrap_or(u32::MAX)
+}
+
 fn are_found(alloc: Global, folder: &mut MemFolder, size: u32, notes: &[&str]) -> bool {
-    match found(alloc, folder, size, notes.len() as u32) {
+    match found(alloc, folder, size, count_of(notes)) {
         Ok(found) => are_same(&found, notes),
         Err(_) => false,
     }
 }
 
 fn are_read(alloc: Global, folder: &mut MemFolder, size: u32, notes: &[&str]) -> bool {
-    checked(alloc, folder, size, notes.len() as u32) == Ok(())
+    checked(alloc, folder, size, count_of(notes)) == Ok(())
         && folder.pulled() == u64::from(size)
         && are_found(alloc, folder, size, notes)
 }
@@ -174,7 +178,7 @@ fn are_damage(alloc: Global, folder: &mut MemFolder, size: u32) -> bool {
 }
 
 fn are_copied(alloc: Global, folder: &mut MemFolder, bytes: &[u8]) -> bool {
-    if copied(alloc, folder, bytes.len() as u32, 3) != Some(Ok(())) || folder.gap() != 0 {
+    if copied(alloc, folder, size(bytes), 3) != Some(Ok(())) || folder.gap() != 0 {
         return false;
     }
     match folder.file("b.xar") {
@@ -184,10 +188,9 @@ fn are_copied(alloc: Global, folder: &mut MemFolder, bytes: &[u8]) -> bool {
 }
 
 fn answers(alloc: Global, folder: &mut MemFolder, bytes: &[u8], asked: &Asked) -> bool {
-    let size = bytes.len() as u32;
     match asked {
-        Asked::Reads(notes) => are_read(alloc, folder, size, notes),
-        Asked::IsDamage => are_damage(alloc, folder, size),
+        Asked::Reads(notes) => are_read(alloc, folder, size(bytes), notes),
+        Asked::IsDamage => are_damage(alloc, folder, size(bytes)),
         Asked::Copies => are_copied(alloc, folder, bytes),
         Asked::Fails => copied(alloc, folder, 9, 1) == Some(Err(NotesFault::Folder)),
     }
