@@ -1,0 +1,44 @@
+-- What reading the nodes of a file does.
+use Rattle.std.specs.Prelude.{◌≡◌, ◌≤◌, ℕ, ◌-◌, List, drop, Option, Result, IfOk, Vec}
+use Rattle.std.specs.declared.alloc.Global.{Global}
+use Rattle.version_set.specs.Members.{upto_pairs}
+use Rattle.archive_tree.specs.Data.{PlainNodes}
+use Rattle.archive_tree.specs.View.{nodes_view}
+use Rattle.archive_tree.specs.declared.node.ANode.{ANode}
+use Rattle.xa_fields.specs.Laws.{IsBytes}
+use Rattle.xa_fields.specs.Spelling.{u64_bytes}
+use Rattle.xa_outside.specs.Folder.{Files}
+use Rattle.xa_outside.specs.Numbers.{Numbers, PullsAtMost}
+use Rattle.record_parts.specs.Bounds.{deepest}
+use Rattle.archive_file.specs.Laid.{RowAt}
+use Rattle.record_cursor.specs.Moves.{TellsFront}
+use Rattle.record_cursor.specs.Steps.{fault_of, IsCause, Filled}
+use Rattle.record_cursor.specs.View.{PlainHeader}
+use Rattle.record_cursor.specs.declared.fault.CursorFault.{CursorFault}
+use Rattle.node_walk.specs.Walked.{end_length}
+
+-- what is seen of a folder
+pub record FolderSeen : Type 0 where
+  pub files : Option Files
+  pub draft : Option (List ℕ)
+  pub numbers : Numbers
+  pub faults : ℕ
+
+-- The folder's files, draft, numbers and count of faults stand first.
+abbrev pub folder_seen : {S : Type 0} → (S → Option Files) → (S → Option (List ℕ)) → (S → Numbers) → (S → ℕ) → S → FolderSeen
+folder_seen files draft numbers faults folder = record { files = files folder; draft = draft folder; numbers = numbers folder; faults = faults folder }
+
+-- these nodes lie behind the header, under the root of so many versions, with the END behind them and the length of that one's body
+abbrev pub NodesLie : PlainHeader → PlainNodes → List ℕ → Type 0
+NodesLie h ks bytes = RowAt (upto_pairs h.versions) ks (u64_bytes (end_length (upto_pairs h.versions) ks)) deepest (drop h.first bytes)
+
+-- The nodes behind a header were read. The folder is only read, each byte at most once, and fails only where its count rose.
+-- Where the files are told, and the file has bytes, the nodes lie there, and damage is where none do.
+pub record NodesRead (name : List ℕ) (h : PlainHeader) (s t : FolderSeen) (r : Result (Vec ANode Global) CursorFault) : Type 0 where
+  pub same_files : t.files ≡ s.files
+  pub same_draft : t.draft ≡ s.draft
+  pub later : s.faults ≤ t.faults
+  pub cause : IsCause s.faults t.faults (fault_of r)
+  pub pulls : PullsAtMost (h.length - h.first) s.numbers t.numbers
+  pub lies : (bytes : List ℕ) → TellsFront s.files name h.length bytes → IsBytes bytes → IfOk r (λ xs. NodesLie h (nodes_view xs.items) bytes)
+  pub found : (bytes : List ℕ) → TellsFront s.files name h.length bytes → IsBytes bytes → (ks : PlainNodes) → NodesLie h ks bytes → Filled r (λ xs. nodes_view xs.items ≡ ks)

@@ -1,0 +1,46 @@
+-- What a walk goes along: a folder, and the cursor that reads an archive file in it.
+use Rattle.std.specs.Prelude.{◌≡◌, ◌≤◌, ℕ, ◌-◌, List, drop, Option, Some, None}
+use Rattle.xa_fields.specs.Laws.{IsBytes}
+use Rattle.xa_outside.specs.Folder.{Files}
+use Rattle.xa_outside.specs.Numbers.{Numbers, PullsAtMost}
+use Rattle.record_cursor.specs.Moves.{TellsFront}
+use Rattle.record_cursor.specs.Steps.{IsCause}
+use Rattle.record_cursor.specs.View.{PlainCursor}
+use Rattle.record_cursor.specs.declared.fault.CursorFault.{CursorFault}
+
+pub record Seen : Type 0 where
+  pub files : Option Files
+  pub draft : Option (List ℕ)
+  pub numbers : Numbers
+  pub faults : ℕ
+  pub cursor : PlainCursor
+
+-- The folder's files, draft, numbers and count of faults stand first.
+abbrev pub seen : {S : Type 0} → (S → Option Files) → (S → Option (List ℕ)) → (S → Numbers) → (S → ℕ) → S → PlainCursor → Seen
+seen files draft numbers faults folder cursor = record { files = files folder; draft = draft folder; numbers = numbers folder; faults = faults folder; cursor = cursor }
+
+-- The files are told, and these bytes are the part of the file that is read. Each of them is a byte.
+pub record Told (s : Seen) (bytes : List ℕ) : Type 0 where
+  pub front : TellsFront s.files s.cursor.name s.cursor.length bytes
+  pub fits : IsBytes bytes
+
+-- what is left of the bytes
+abbrev pub at_hand : Seen → List ℕ → List ℕ
+at_hand s bytes = drop s.cursor.at bytes
+
+-- how many bytes may be pulled: those by which the cursor moved, and after a fault those that it had left
+abbrev pub may_pull : Seen → Seen → Option CursorFault → ℕ
+may_pull s t None = t.cursor.at - s.cursor.at
+may_pull s t (Some e) = s.cursor.length - s.cursor.at
+
+-- The folder is only read, it fails only where its count rose, and the cursor goes on in its file and no further.
+pub record Reads (s t : Seen) (ended : Option CursorFault) : Type 0 where
+  pub same_files : t.files ≡ s.files
+  pub same_draft : t.draft ≡ s.draft
+  pub later : s.faults ≤ t.faults
+  pub cause : IsCause s.faults t.faults ended
+  pub same_name : t.cursor.name ≡ s.cursor.name
+  pub same_length : t.cursor.length ≡ s.cursor.length
+  pub onward : s.cursor.at ≤ t.cursor.at
+  pub within : t.cursor.at ≤ t.cursor.length
+  pub pulls : PullsAtMost (may_pull s t ended) s.numbers t.numbers
