@@ -51,4 +51,4 @@ module _ (set : List (ℕ × ℕ)) (kids : PlainKids) (n at : ℕ) (name : List 
     where
       answer : (bytes : List ℕ) → Told s bytes → Filled r (λ b. b ≡ bytes_eq (dir_bytes (dir_in set kids)) (end_body s n bytes))
       answer bytes there = subst (λ (a : ℕ). Filled r (λ b. b ≡ bytes_eq (dir_bytes (dir_in set kids)) (take n (drop a bytes)))) place
-          (told s.cursor.length bytes (subst (λ (m : List ℕ). TellsFront s.files m s.cursor.length bytes) (sym named) there.front) (omega (arith, place, fits, within)))
+          (told s.cursor.length bytes (subst (λ (m : List ℕ). TellsFront s.files m s.cursor.length bytes) (sym named) there) (omega (arith, place, fits, within)))

@@ -28,7 +28,6 @@ use Rattle.record_cursor.specs.Places.{Standing, among_nodes, in_leaf, closed_by
 use Rattle.record_cursor.specs.declared.fault.CursorFault.{CursorFault}
 use Rattle.record_cursor.specs.declared.fault.CursorFault.TheVariants.{Damage}
 use Rattle.record_cursor.proofs.Items.{next-record}
-use Rattle.record_cursor.proofs.ItemLaws.{record-of}
 use Rattle.record_cursor.proofs.Pulled.{size-least}
 use Rattle.node_walk.specs.Owned.{owned_view}
 use Rattle.node_walk.specs.Places.{depth_of, IsAmongNodes, left_of}
@@ -38,8 +37,8 @@ use Rattle.node_walk.specs.declared.owned.Owned.{Owned}
 use Rattle.node_walk.specs.declared.owned.Owned.TheVariants as owned
 use Rattle.node_walk.specs.declared.rows.InRow.TheVariants.{Node, End}
 use Rattle.node_walk.proofs.Leaves.{leads-to, leads-nowhere}
-use Rattle.node_walk.proofs.Records.{end-spelled, read-there}
-use Rattle.node_walk.proofs.Steps.{among-is, reads-then, told-on, fits-left, damage-map, comes-at}
+use Rattle.node_walk.proofs.Records.{record-is, read-there}
+use Rattle.node_walk.proofs.Steps.{among-is, reads-then, told-on, damage-map, comes-at}
 
 abbrev Coming : Type 0
 Coming = PlainItem × (Standing × List ℕ)
@@ -102,7 +101,7 @@ module _ (set : List (ℕ × ℕ)) (s : Seen) (among : IsAmongNodes s.cursor.sta
     where
       unread : (bytes : List ℕ) → Told s bytes → (x : Coming) → next_of (among_nodes d) (at_hand s bytes) ≡ Some x → IfDamage e ⊥
       unread bytes told x is = damage-map e (next_of s.cursor.standing (at_hand s bytes) ≡ None) ⊥
-          (λ none. not-none (next_of (among_nodes d) (at_hand s bytes)) x is (subst (λ (p : Standing). next_of p (at_hand s bytes) ≡ None) stands none)) (h.damage bytes told.front)
+          (λ none. not-none (next_of (among_nodes d) (at_hand s bytes)) x is (subst (λ (p : Standing). next_of p (at_hand s bytes) ≡ None) stands none)) (h.damage bytes told)
 
   -- another item cannot come
   not-there : (t : Seen) (o : Owned) → ((l : Label) (a : Option VersionSet) → o ≢ owned.Inner l a) → ((l : Label) (a : Option VersionSet) → o ≢ owned.Leaf l a) → ((n : ℕ) → o ≢ owned.End n) → Given s t (owned_view o) → ⊥
@@ -122,7 +121,7 @@ module _ (set : List (ℕ × ℕ)) (s : Seen) (among : IsAmongNodes s.cursor.sta
   in-row-end t n reads g = record {
     reads = reads;
     behind = g;
-    lies = λ bytes told. end-spelled (among_nodes d) t.cursor.standing (at_hand s bytes) (at_hand t bytes) n tt (fits-left s bytes told) (comes bytes told);
+    lies = λ bytes told. g.spelled bytes told;
     node = λ bytes told k rest lies. (
         let o = opens set k rest d (at_hand s bytes) lies in
         let same = same-item (next_of (among_nodes d) (at_hand s bytes)) (opening_item k, (o.0, o.1)) (end_item n, (t.cursor.standing, at_hand t bytes)) o.2 (comes bytes told) in
@@ -162,7 +161,7 @@ module _ (set : List (ℕ × ℕ)) (s : Seen) (among : IsAmongNodes s.cursor.sta
       no-leaf-end n e = cc
 
       leaf-spelled : (bytes : List ℕ) → Told s bytes → IsRec (leaf_rec l a) × (at_hand s bytes ≡ rec_bytes (leaf_rec l a) ++ at_hand m bytes)
-      leaf-spelled bytes told = record-of (among_nodes d) m.cursor.standing (leaf_rec l a) (at_hand s bytes) (at_hand m bytes) (fits-left s bytes told) refl (comes-at s m (leaf_item l a) bytes (among_nodes d) stands g told)
+      leaf-spelled bytes told = record-is (leaf_rec l a) (at_hand s bytes) (at_hand m bytes) (λ r. refl) (g.spelled bytes told)
 
       pub leaf-inside : m.cursor.standing ≡ in_leaf d
       leaf-inside = leads-to s m (leaf_item l a) (among_nodes d) (in_leaf d) stands refl g
@@ -210,7 +209,7 @@ module _ (set : List (ℕ × ℕ)) (s : Seen) (among : IsAmongNodes s.cursor.sta
       no-inner-end n e = cc
 
       pub inner-spelled : (bytes : List ℕ) → Told s bytes → IsRec (inner_rec l a) × (at_hand s bytes ≡ rec_bytes (inner_rec l a) ++ at_hand m bytes)
-      inner-spelled bytes told = record-of (among_nodes d) m.cursor.standing (inner_rec l a) (at_hand s bytes) (at_hand m bytes) (fits-left s bytes told) refl (comes-at s m (inner_item l a) bytes (among_nodes d) stands g told)
+      inner-spelled bytes told = record-is (inner_rec l a) (at_hand s bytes) (at_hand m bytes) (λ r. refl) (g.spelled bytes told)
 
       -- it may be so deep, and the cursor is below it
       goes-below : (ltb d deepest ≡ true) × (among_nodes (suc d) ≡ m.cursor.standing)

@@ -53,7 +53,7 @@ one-more kids size dir s = length-append kids.sizes ((size, dir) ∷ [])
 pub node-size : (s t : Seen) (bytes : List ℕ) (set : List (ℕ × ℕ)) (k : PlainNode) (depth : ℕ) → Told t bytes → s.cursor.at ≤ t.cursor.at → t.cursor.at ≤ t.cursor.length → NodeAt set k (at_hand t bytes) depth (at_hand s bytes)
     → t.cursor.at - s.cursor.at ≡ length (piece_bytes (node_piece set k))
 node-size s t bytes set k depth told onward within h =
-    let long = front-length t.files t.cursor.name bytes t.cursor.length told.front in
+    let long = front-length t.files t.cursor.name bytes t.cursor.length told in
     omega (arith, ap length h.bytes, length-append (piece_bytes (node_piece set k)) (at_hand t bytes), length-drop s.cursor.at bytes, length-drop t.cursor.at bytes, long, onward, within)
 
 -- the body of the END that the cursor moved behind

@@ -18,7 +18,6 @@ use Rattle.record_cursor.specs.Next.{next_of}
 use Rattle.record_cursor.specs.Places.{Standing, among_nodes, in_leaf, after_item}
 use Rattle.record_cursor.specs.declared.fault.CursorFault.{CursorFault}
 use Rattle.record_cursor.specs.declared.fault.CursorFault.TheVariants.{Damage, Memory}
-use Rattle.record_cursor.proofs.ItemLaws.{record-of}
 use Rattle.record_cursor.proofs.Pulled.{size-least}
 use Rattle.node_walk.specs.Owned.{owned_view}
 use Rattle.node_walk.specs.Places.{depth_of, IsInLeaf}
@@ -26,8 +25,8 @@ use Rattle.node_walk.specs.Seen.{Seen, Told, at_hand, Reads}
 use Rattle.node_walk.specs.Walked.{Given, OwnedRead, AlternativesRead}
 use Rattle.node_walk.specs.declared.owned.Owned.{Owned}
 use Rattle.node_walk.specs.declared.owned.Owned.TheVariants as owned
-use Rattle.node_walk.proofs.Records.{leaf-end-spelled, leaf-end-is, read-there, alternatives-come}
-use Rattle.node_walk.proofs.Steps.{leaf-is, reads-then, reads-stop, told-on, fits-left, damage-map, comes-at}
+use Rattle.node_walk.proofs.Records.{record-is, leaf-end-is, read-there, alternatives-come}
+use Rattle.node_walk.proofs.Steps.{leaf-is, reads-then, reads-stop, told-on, damage-map}
 
 -- ---- on the way
 
@@ -83,9 +82,7 @@ module _ (s0 s t : Seen) (so_far : List PlainAlt) (k : AlternativesOn s0 s so_fa
 
   pub alternatives-more : (a : PlainAlt) → Reads s t None → Given s t (alt_item a.stamp a.body) → AlternativesOn s0 t (so_far ++ a ∷ [])
   alternatives-more a reads g =
-      let i = alt_item a.stamp a.body in
-      let spelled = λ (bytes : List ℕ) (told : Told s0 bytes).
-      record-of (in_leaf d) t.cursor.standing (alt_of a) (at_hand s bytes) (at_hand t bytes) (fits-left s bytes (k.on.told bytes told)) refl (comes-at s t i bytes (in_leaf d) k.stands g (k.on.told bytes told)) in
+      let spelled = λ (bytes : List ℕ) (told : Told s0 bytes). record-is (alt_of a) (at_hand s bytes) (at_hand t bytes) (λ r. refl) (g.spelled bytes (k.on.told bytes told)) in
       record {
         on = on-then s0 s t k.on reads;
         stands = leads-to s t i (in_leaf d) (in_leaf d) k.stands refl g;
@@ -101,15 +98,14 @@ module _ (s0 s t : Seen) (so_far : List PlainAlt) (k : AlternativesOn s0 s so_fa
 
   pub alternatives-ended : (ys : Vec Alt Global) → map alt_view ys.items ≡ so_far → Reads s t None → Given s t leaf_end_item → AlternativesRead s0 t (Ok ys)
   alternatives-ended ys is reads g =
-      let comes = λ (bytes : List ℕ) (told : Told s0 bytes).
-      leaf-end-spelled (in_leaf d) t.cursor.standing (at_hand s bytes) (at_hand t bytes) tt (fits-left s bytes (k.on.told bytes told)) (comes-at s t leaf_end_item bytes (in_leaf d) k.stands g (k.on.told bytes told)) in
+      let spelled = λ (bytes : List ℕ) (told : Told s0 bytes). record-is leaf_end (at_hand s bytes) (at_hand t bytes) (λ r. refl) (g.spelled bytes (k.on.told bytes told)) in
       record {
         reads = k.on.then t None reads;
         behind = leads-to s t leaf_end_item (in_leaf d) (among_nodes d) k.stands refl g;
         lies = λ bytes told. subst (λ (xs : List PlainAlt). AltsAt xs (at_hand t bytes) (at_hand s0 bytes)) (append-nil so_far ∙ sym is)
-            (k.lie bytes told [] (at_hand t bytes) (alts-closed (at_hand t bytes) (at_hand s bytes) leaf-end-is (comes bytes told)));
+            (k.lie bytes told [] (at_hand t bytes) (alts-closed (at_hand t bytes) (at_hand s bytes) leaf-end-is (spelled bytes told).1));
         found = λ bytes told xs rest h. (
-            let end = alts-end xs rest so_far (at_hand s bytes) (k.left bytes told xs rest h) (at_hand t bytes) (read-there leaf_end (at_hand s bytes) (at_hand t bytes) leaf-end-is (comes bytes told)) in
+            let end = alts-end xs rest so_far (at_hand s bytes) (k.left bytes told xs rest h) (at_hand t bytes) (read-there leaf_end (at_hand s bytes) (at_hand t bytes) leaf-end-is (spelled bytes told).1) in
             (is ∙ end.0, end.1));
       }
 
@@ -122,7 +118,7 @@ module _ (s0 s t : Seen) (so_far : List PlainAlt) (k : AlternativesOn s0 s so_fa
         let left = k.left bytes told xs rest lies in
         damage-map e (next_of s.cursor.standing (at_hand s bytes) ≡ None) ⊥
         (λ none. alternatives-come left.left rest (at_hand s bytes) d left.lies (subst (λ (p : Standing). next_of p (at_hand s bytes) ≡ None) k.stands none))
-        (h.damage bytes (k.on.told bytes told).front));
+        (h.damage bytes (k.on.told bytes told)));
   }
 
   pub alternatives-memory : Reads s t None → AlternativesRead s0 t (Err Memory)

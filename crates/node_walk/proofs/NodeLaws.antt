@@ -1,5 +1,5 @@
 -- The nodes of a file, and its end.
-use Rattle.std.proofs.Common.{◌≡◌, ◌≢◌, ℕ, ◌-◌, ◌≤◌, Bool, true, false, cond, List, [], drop, Option, Some, None, Ok, Err, Vec, refl, sym, ap, subst, ◌∙◌, arith}
+use Rattle.std.proofs.Common.{◌≡◌, ◌≢◌, ℕ, ◌-◌, ◌≤◌, Bool, cond, List, [], drop, Option, Some, None, Ok, Err, Vec, refl, sym, ap, subst, ◌∙◌, arith}
 use Rattle.std.specs.declared.alloc.Global.{Global}
 use Rattle.std.specs.Prelude.{bytes_eq}
 use Rattle.std.proofs.lemmas.Slice.Eq.{bytes_eq-Decides}
@@ -7,7 +7,6 @@ use Rattle.version_set.specs.Members.{upto_pairs}
 use Rattle.archive_tree.specs.Data.{PlainNodes}
 use Rattle.archive_tree.specs.View.{nodes_view}
 use Rattle.archive_tree.specs.declared.node.ANode.{ANode}
-use Rattle.xa_fields.specs.Laws.{IsBytes}
 use Rattle.xa_fields.specs.Spelling.{u64_bytes}
 use Rattle.xa_outside.specs.Numbers.{IsMeter, PullsAtMost}
 use Rattle.xa_outside.specs.NumberLaws.{PullsAtMost-none, PullsAtMost-more}
@@ -17,6 +16,7 @@ use Rattle.record_cursor.specs.Items.{PlainItem, finish}
 use Rattle.record_cursor.specs.Moves.{TellsFront}
 use Rattle.record_cursor.specs.Next.{next_of}
 use Rattle.record_cursor.specs.Places.{Standing, among_nodes, behind_root, finished}
+use Rattle.record_cursor.specs.Spelled.{IsSpelled}
 use Rattle.record_cursor.specs.View.{PlainCursor, PlainHeader}
 use Rattle.record_cursor.specs.declared.fault.CursorFault.{CursorFault}
 use Rattle.record_cursor.specs.declared.fault.CursorFault.TheVariants.{Damage, Memory}
@@ -29,14 +29,9 @@ use Rattle.node_walk.specs.Walked.{Given, OwnedRead, FinishRead, RowRead, end_le
 use Rattle.node_walk.specs.declared.owned.Owned.{Owned}
 use Rattle.node_walk.specs.declared.owned.Owned.TheVariants as owned
 use Rattle.node_walk.proofs.Leaves.{leads-nowhere}
-use Rattle.node_walk.proofs.Records.{item-there}
-use Rattle.node_walk.proofs.Steps.{reads-then, damage-map, comes-at, told-on}
+use Rattle.node_walk.proofs.Steps.{reads-then, damage-map, told-on}
 
 -- ---- the end of the file
-
-tail-is : (b : Bool) (rest : List ℕ) → cond {A = Option (PlainItem × List ℕ)} b (Some (finish, [])) None ≡ Some (finish, rest) → b ≡ true
-tail-is true rest e = refl
-tail-is false rest e = absurd cc
 
 not-none : (o : Option (PlainItem × (Standing × List ℕ))) (x : PlainItem × (Standing × List ℕ)) → o ≡ Some x → o ≡ None → ⊥
 not-none (Some y) x e f = cc
@@ -51,15 +46,13 @@ module _ (n : ℕ) (s : Seen) (stands : s.cursor.standing ≡ behind_root n) whe
     reads = h.reads;
     lies = λ bytes told. tt;
     found = λ bytes told is. damage-map e (next_of s.cursor.standing (at_hand s bytes) ≡ None) ⊥
-        (λ none. not-none (next_of (behind_root n) (at_hand s bytes)) (finish, (finished, [])) (tail-comes n (at_hand s bytes) is) (subst (λ (p : Standing). next_of p (at_hand s bytes) ≡ None) stands none)) (h.damage bytes told.front);
+        (λ none. not-none (next_of (behind_root n) (at_hand s bytes)) (finish, (finished, [])) (tail-comes n (at_hand s bytes) is) (subst (λ (p : Standing). next_of p (at_hand s bytes) ≡ None) stands none)) (h.damage bytes told);
   }
 
   pub finish-read : (t : Seen) → Reads s t None → Given s t finish → FinishRead n s t (Ok tt)
   finish-read t reads g = record {
     reads = reads;
-    lies = λ bytes told. (
-        let there = item-there (behind_root n) t.cursor.standing (at_hand s bytes) (at_hand t bytes) finish (comes-at s t finish bytes (behind_root n) stands g told) in
-        (bytes_eq-Decides (at_hand s bytes) (u64_bytes n)).0 (tail-is (bytes_eq (at_hand s bytes) (u64_bytes n)) (at_hand t bytes) there));
+    lies = λ bytes told. (subst (λ (p : Standing). IsSpelled p finish (at_hand s bytes) (at_hand t bytes)) stands (g.spelled bytes told)).0;
     found = λ bytes told is. tt;
   }
 
@@ -84,8 +77,8 @@ pull-all s u None within same = omega (arith, within, same)
 pull-all s u (Some e) within same = omega arith
 
 module _ (name : List ℕ) (h : PlainHeader) (s : Seen) (is : s.cursor ≡ record { name = name; length = h.length; standing = among_nodes 0; at = h.first }) where
-  told-here : (bytes : List ℕ) → TellsFront s.files name h.length bytes → IsBytes bytes → Told s bytes
-  told-here bytes front fits = record { front = subst (λ (c : PlainCursor). TellsFront s.files c.name c.length bytes) (sym is) front; fits = fits }
+  told-here : (bytes : List ℕ) → TellsFront s.files name h.length bytes → Told s bytes
+  told-here bytes front = subst (λ (c : PlainCursor). TellsFront s.files c.name c.length bytes) (sym is) front
 
   hand : (bytes : List ℕ) → at_hand s bytes ≡ drop h.first bytes
   hand bytes = ap (λ (c : PlainCursor). drop c.at bytes) is
@@ -119,8 +112,8 @@ module _ (name : List ℕ) (h : PlainHeader) (s : Seen) (is : s.cursor ≡ recor
       later = r.reads.later;
       cause = r.reads.cause;
       pulls = pulls-all (Some e) r.reads;
-      lies = λ bytes front fits. tt;
-      found = λ bytes front fits ks lie. r.found bytes (told-here bytes front fits) ks (u64_bytes (end_length (upto_pairs h.versions) ks)) (row-here bytes (u64_bytes (end_length (upto_pairs h.versions) ks)) ks set own lie);
+      lies = λ bytes front. tt;
+      found = λ bytes front ks lie. r.found bytes (told-here bytes front) ks (u64_bytes (end_length (upto_pairs h.versions) ks)) (row-here bytes (u64_bytes (end_length (upto_pairs h.versions) ks)) ks set own lie);
     }
 
   module _ (t u : Seen) (set : List (ℕ × ℕ)) (own : set ≡ upto_pairs h.versions) (nodes : Vec ANode Global) (n : ℕ) (row : RowRead set s t (Ok (nodes, n))) where
@@ -142,14 +135,14 @@ module _ (name : List ℕ) (h : PlainHeader) (s : Seen) (is : s.cursor ≡ recor
           later = reads.later;
           cause = tt;
           pulls = pulls-all u None reads;
-          lies = λ bytes front fits. (
-              let told = told-here bytes front fits in
+          lies = λ bytes front. (
+              let told = told-here bytes front in
               let y = row.lies bytes told in
               let tail = f.lies bytes (told-on s t None bytes row.reads told) in
               let ks = nodes_view nodes.items in
               let long : n ≡ end_length (upto_pairs h.versions) ks = y.1 ∙ ap (λ (z : List (ℕ × ℕ)). end_length z ks) own in
               subst (λ (z : List ℕ). RowAt (upto_pairs h.versions) ks z deepest (drop h.first bytes)) (tail ∙ ap u64_bytes long) (row-back bytes (at_hand t bytes) ks set own y.0));
-          found = λ bytes front fits ks lie. (tail-here bytes (told-here bytes front fits) ks lie).0;
+          found = λ bytes front ks lie. (tail-here bytes (told-here bytes front) ks lie).0;
         }
 
     pub nodes-unfinished : (e : CursorFault) → FinishRead n t u (Err e) → NodesRead name h (folder_of s) (folder_of u) (Err e)
@@ -161,8 +154,8 @@ module _ (name : List ℕ) (h : PlainHeader) (s : Seen) (is : s.cursor ≡ recor
           later = reads.later;
           cause = reads.cause;
           pulls = pulls-all u (Some e) reads;
-          lies = λ bytes front fits. tt;
-          found = λ bytes front fits ks lie. (let told = told-here bytes front fits in f.found bytes (told-on s t None bytes row.reads told) (tail-here bytes told ks lie).1);
+          lies = λ bytes front. tt;
+          found = λ bytes front ks lie. (let told = told-here bytes front in f.found bytes (told-on s t None bytes row.reads told) (tail-here bytes told ks lie).1);
         }
 
 -- there is no memory to begin with
@@ -173,6 +166,6 @@ nodes-memory name h s meter = record {
   later = omega arith;
   cause = tt;
   pulls = PullsAtMost-none (h.length - h.first) s.numbers meter;
-  lies = λ bytes front fits. tt;
-  found = λ bytes front fits ks lie. tt;
+  lies = λ bytes front. tt;
+  found = λ bytes front ks lie. tt;
 }

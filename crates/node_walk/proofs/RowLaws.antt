@@ -248,7 +248,7 @@ module _ (set : List (ℕ × ℕ)) (s0 s t : Seen) (so_far : List PlainNode) (ki
         short bytes told body e_is =
             let ps = map (node_piece set) so_far in
             let done = k.lie bytes told in
-            let long = front-length t.files t.cursor.name bytes t.cursor.length (there bytes told).front in
+            let long = front-length t.files t.cursor.name bytes t.cursor.length (there bytes told) in
             let reads = h.reads in
             let within = reads.within in
             let small = e.short in

@@ -1,8 +1,6 @@
 -- One step of a walk after another.
 use Rattle.std.proofs.Common.{◌≡◌, ℕ, ◌+◌, ◌-◌, ◌≤◌, List, drop, Option, Some, None, Result, Ok, Err, refl, sym, ap, subst, ◌∙◌, arith}
 use Rattle.std.specs.Result.{IsErrAnd}
-use Rattle.xa_fields.specs.Laws.{IsBytes}
-use Rattle.xa_fields.proofs.Fields.{IsBytes-drop}
 use Rattle.xa_outside.specs.Causes.{Rose}
 use Rattle.xa_outside.specs.Folder.{Files}
 use Rattle.xa_outside.specs.Numbers.{PullsAtMost, after_pull}
@@ -10,8 +8,9 @@ use Rattle.xa_outside.specs.NumberLaws.{PullsAtMost-of, PullsAtMost-more, PullsA
 use Rattle.record_cursor.specs.Faults.{IfDamage, IfFolder}
 use Rattle.record_cursor.specs.Items.{PlainItem}
 use Rattle.record_cursor.specs.Moves.{TellsFront, Goes, Moves}
-use Rattle.record_cursor.specs.Next.{next_of, read_for}
+use Rattle.record_cursor.specs.Next.{next_of, size_of, read_for}
 use Rattle.record_cursor.specs.Places.{Standing, among_nodes, in_leaf, behind_root, finished}
+use Rattle.record_cursor.specs.Spelled.{IsSpelled}
 use Rattle.record_cursor.specs.Steps.{IsCause}
 use Rattle.record_cursor.specs.View.{PlainCursor, shown_item}
 use Rattle.record_cursor.specs.declared.fault.CursorFault.{CursorFault}
@@ -87,14 +86,9 @@ reads-stop s t e harmless h =
     no-cause Memory h = tt
 
 pub told-on : (s t : Seen) (e : Option CursorFault) (bytes : List ℕ) → Reads s t e → Told s bytes → Told t bytes
-told-on s t e bytes h told = record {
-  front = subst (λ (f : Option Files). TellsFront f t.cursor.name t.cursor.length bytes) (sym h.same_files)
-      (subst (λ (n : List ℕ). TellsFront s.files n t.cursor.length bytes) (sym h.same_name) (subst (λ (n : ℕ). TellsFront s.files s.cursor.name n bytes) (sym h.same_length) told.front));
-  fits = told.fits;
-}
-
-pub fits-left : (s : Seen) (bytes : List ℕ) → Told s bytes → IsBytes (at_hand s bytes)
-fits-left s bytes told = IsBytes-drop s.cursor.at bytes told.fits
+told-on s t e bytes h told =
+    subst (λ (f : Option Files). TellsFront f t.cursor.name t.cursor.length bytes) (sym h.same_files)
+    (subst (λ (n : List ℕ). TellsFront s.files n t.cursor.length bytes) (sym h.same_name) (subst (λ (n : ℕ). TellsFront s.files s.cursor.name n bytes) (sym h.same_length) told))
 
 -- ---- one call of the cursor
 
@@ -104,6 +98,10 @@ went told old new r item is h = subst (λ (x : Result Item CursorFault). Moves t
 pub stayed : (told : Option Files) (old new : PlainCursor) (r : Result Item CursorFault) (e : CursorFault) → r ≡ Err e → Moves told old r new → new ≡ old
 stayed told old new r e is h = subst (λ (x : Result Item CursorFault). Moves told old x new) is h
 
+-- what the cursor gave is what the bytes spell
+abbrev pub Spells : Seen → Item → Type 0
+Spells s item = (bytes : List ℕ) → Told s bytes → IsSpelled s.cursor.standing (shown_item item) (at_hand s bytes) (drop (s.cursor.at + size_of s.cursor.standing (shown_item item)) bytes)
+
 -- the cursor gave an item
 pub record Gave (s t : Seen) (item : Item) : Type 0 where
   pub files : t.files ≡ s.files
@@ -111,10 +109,20 @@ pub record Gave (s t : Seen) (item : Item) : Type 0 where
   pub numbers : t.numbers ≡ after_pull s.numbers (read_for s.cursor.standing (shown_item item))
   pub later : s.faults ≤ t.faults
   pub goes : Goes s.files s.cursor item t.cursor
+  pub spelled : (bytes : List ℕ) → Told s bytes → IsSpelled s.cursor.standing (shown_item item) (at_hand s bytes) (at_hand t bytes)
 
-pub gave : (s t : Seen) (r : Result Item CursorFault) (item : Item) → r ≡ Ok item → t.files ≡ s.files → t.draft ≡ s.draft → t.numbers ≡ after_pull s.numbers (read_for s.cursor.standing (shown_item item)) → s.faults ≤ t.faults → Moves s.files s.cursor r t.cursor
+pub gave : (s t : Seen) (r : Result Item CursorFault) (item : Item) → r ≡ Ok item → t.files ≡ s.files → t.draft ≡ s.draft → t.numbers ≡ after_pull s.numbers (read_for s.cursor.standing (shown_item item)) → s.faults ≤ t.faults → Moves s.files s.cursor r t.cursor → Spells s item
     → Gave s t item
-gave s t r item is files draft numbers later moves = record { files = files; draft = draft; numbers = numbers; later = later; goes = went s.files s.cursor t.cursor r item is moves }
+gave s t r item is files draft numbers later moves spells =
+    let goes = went s.files s.cursor t.cursor r item is moves in
+    record {
+      files = files;
+      draft = draft;
+      numbers = numbers;
+      later = later;
+      goes = goes;
+      spelled = λ bytes told. subst (λ (n : ℕ). IsSpelled s.cursor.standing (shown_item item) (at_hand s bytes) (drop n bytes)) (sym goes.moved) (spells bytes told);
+    }
 
 gave-reads : (s t : Seen) (item : Item) → Gave s t item → Reads s t None
 gave-reads s t item h =
@@ -133,7 +141,7 @@ gave-reads s t item h =
     }
 
 gave-given : (s t : Seen) (item : Item) → Gave s t item → Given s t (shown_item item)
-gave-given s t item h = record { may_come = h.goes.may_come; moved = h.goes.moved; pulled = h.numbers; comes = h.goes.comes }
+gave-given s t item h = record { may_come = h.goes.may_come; moved = h.goes.moved; pulled = h.numbers; comes = h.goes.comes; spelled = h.spelled }
 
 -- and it is owned
 pub owned : (s t : Seen) (item : Item) (o : Owned) → Gave s t item → owned_view o ≡ shown_item item → HasStamp o → OwnedRead s t (Ok o)
@@ -179,7 +187,7 @@ damage-map Memory P Q f h = tt
 
 -- the item comes in the file that is told
 pub comes-told : (s t : Seen) (i : PlainItem) (bytes : List ℕ) → Given s t i → Told s bytes → next_of s.cursor.standing (at_hand s bytes) ≡ Some (i, (t.cursor.standing, at_hand t bytes))
-comes-told s t i bytes g told = g.comes bytes told.front
+comes-told s t i bytes g told = g.comes bytes told
 
 -- wherever the cursor is said to stand
 pub comes-at : (s t : Seen) (i : PlainItem) (bytes : List ℕ) (p : Standing) → s.cursor.standing ≡ p → Given s t i → Told s bytes → next_of p (at_hand s bytes) ≡ Some (i, (t.cursor.standing, at_hand t bytes))

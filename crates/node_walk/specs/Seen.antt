@@ -1,6 +1,5 @@
 -- What a walk goes along: a folder, and the cursor that reads an archive file in it.
 use Rattle.std.specs.Prelude.{◌≡◌, ◌≤◌, ℕ, ◌-◌, List, drop, Option, Some, None}
-use Rattle.xa_fields.specs.Laws.{IsBytes}
 use Rattle.xa_outside.specs.Folder.{Files}
 use Rattle.xa_outside.specs.Numbers.{Numbers, PullsAtMost}
 use Rattle.record_cursor.specs.Moves.{TellsFront}
@@ -19,10 +18,9 @@ pub record Seen : Type 0 where
 abbrev pub seen : {S : Type 0} → (S → Option Files) → (S → Option (List ℕ)) → (S → Numbers) → (S → ℕ) → S → PlainCursor → Seen
 seen files draft numbers faults folder cursor = record { files = files folder; draft = draft folder; numbers = numbers folder; faults = faults folder; cursor = cursor }
 
--- The files are told, and these bytes are the part of the file that is read. Each of them is a byte.
-pub record Told (s : Seen) (bytes : List ℕ) : Type 0 where
-  pub front : TellsFront s.files s.cursor.name s.cursor.length bytes
-  pub fits : IsBytes bytes
+-- the files are told, and these bytes are the part of the file that is read
+abbrev pub Told : Seen → List ℕ → Type 0
+Told s bytes = TellsFront s.files s.cursor.name s.cursor.length bytes
 
 -- what is left of the bytes
 abbrev pub at_hand : Seen → List ℕ → List ℕ

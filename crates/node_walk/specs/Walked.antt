@@ -14,9 +14,9 @@ use Rattle.record_format.specs.Spelling.{dir_bytes, framed, rec_bytes}
 use Rattle.archive_file.specs.Laid.{AltsAt, NodeAt, RowAt}
 use Rattle.record_cursor.specs.Faults.{IfDamage}
 use Rattle.record_cursor.specs.Items.{PlainItem, end_item}
-use Rattle.record_cursor.specs.Moves.{TellsFront}
 use Rattle.record_cursor.specs.Next.{next_of, read_for, size_of}
 use Rattle.record_cursor.specs.Places.{among_nodes, closed_by, after_item}
+use Rattle.record_cursor.specs.Spelled.{IsSpelled}
 use Rattle.record_cursor.specs.Steps.{fault_of, IsCause, Filled}
 use Rattle.record_cursor.specs.declared.fault.CursorFault.{CursorFault}
 use Rattle.row_ends.specs.Kids.{PlainKids, dir_in}
@@ -34,14 +34,15 @@ pub record Given (s t : Seen) (i : PlainItem) : Type 0 where
   pub may_come : after_item s.cursor.standing i ≡ Some t.cursor.standing
   pub moved : t.cursor.at ≡ s.cursor.at + size_of s.cursor.standing i
   pub pulled : t.numbers ≡ after_pull s.numbers (read_for s.cursor.standing i)
-  pub comes : (bytes : List ℕ) → TellsFront s.files s.cursor.name s.cursor.length bytes → next_of s.cursor.standing (at_hand s bytes) ≡ Some (i, (t.cursor.standing, at_hand t bytes))
+  pub comes : (bytes : List ℕ) → Told s bytes → next_of s.cursor.standing (at_hand s bytes) ≡ Some (i, (t.cursor.standing, at_hand t bytes))
+  pub spelled : (bytes : List ℕ) → Told s bytes → IsSpelled s.cursor.standing i (at_hand s bytes) (at_hand t bytes)
 
 -- What stands at the cursor was read. Damage is where nothing stands there that may come.
 pub record OwnedRead (s t : Seen) (r : Result Owned CursorFault) : Type 0 where
   pub reads : Reads s t (fault_of r)
   pub given : IfOk r (λ o. Given s t (owned_view o))
   pub stamp : IfOk r HasStamp
-  pub damage : (bytes : List ℕ) → TellsFront s.files s.cursor.name s.cursor.length bytes → IfErr r (λ e. IfDamage e (next_of s.cursor.standing (at_hand s bytes) ≡ None))
+  pub damage : (bytes : List ℕ) → Told s bytes → IfErr r (λ e. IfDamage e (next_of s.cursor.standing (at_hand s bytes) ≡ None))
 
 -- The file ends behind the END of the root, whose body has this length.
 pub record FinishRead (n : ℕ) (s t : Seen) (r : Result (Unit {0}) CursorFault) : Type 0 where
