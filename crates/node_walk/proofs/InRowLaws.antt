@@ -4,23 +4,26 @@ use Rattle.std.specs.declared.alloc.Global.{Global}
 use Rattle.std.specs.List.{flat_map}
 use Rattle.version_set.specs.declared.set.VersionSet.{VersionSet}
 use Rattle.keyed_tree.specs.Data.{PlainLabel}
+use Rattle.keyed_tree.specs.WellFormed.{is_label_well_formed}
 use Rattle.keyed_tree.specs.declared.label.Label.{Label}
 use Rattle.keyed_tree.proofs.Kids.{both}
 use Rattle.archive_tree.specs.Data.{Stamp, PlainAlt, PlainNode, inner_node, leaf_node, PlainNodes}
 use Rattle.archive_tree.specs.View.{alt_view, node_view, nodes_view}
+use Rattle.archive_tree.specs.WellFormed.{are_alts_well_formed, are_nodes_well_formed, IsNodeWellFormed}
 use Rattle.archive_tree.specs.declared.node.ANode.{ANode}
 use Rattle.archive_tree.specs.declared.node.Alt.{Alt}
 use Rattle.xa_fields.specs.FieldLaws.{passed_some}
 use Rattle.xa_fields.proofs.Fields.{some_is}
-use Rattle.record_parts.specs.Bounds.{deepest}
+use Rattle.record_parts.specs.Bounds.{deepest, IsLabel}
 use Rattle.record_format.specs.Bounds.{IsRec}
 use Rattle.record_format.specs.Data.{PlainRec, PlainDir, inner_rec, leaf_rec, end_rec, leaf_end}
 use Rattle.record_format.specs.Nodes.{alt_of, closed_by_end, set_in, node_piece, node_pieces}
 use Rattle.record_format.specs.Spelling.{dir_bytes, rec_bytes}
 use Rattle.archive_file.specs.Laid.{are_nested, NodeAt, RowAt}
-use Rattle.archive_file.proofs.GoesLaws.{lt-of, of-lt}
+use Rattle.archive_file.proofs.GoesLaws.{both-hold, lt-of, of-lt}
 use Rattle.archive_file.proofs.LaidLaws.{node-inner, node-leaf}
 use Rattle.archive_file.proofs.ReadLaws.{leaf-lies, inner-lies}
+use Rattle.archive_file.proofs.WellLaws.{label-well}
 use Rattle.record_cursor.specs.Faults.{IfDamage}
 use Rattle.record_cursor.specs.Items.{PlainItem, inner_item, leaf_item, end_item, finish, item_of}
 use Rattle.record_cursor.specs.Next.{next_of}
@@ -94,6 +97,7 @@ module _ (set : List (ℕ × ℕ)) (s : Seen) (among : IsAmongNodes s.cursor.sta
   in-row-failed t e h = record {
     reads = h.reads;
     behind = tt;
+    formed = tt;
     lies = λ bytes told. tt;
     node = λ bytes told k rest lies. (let o = opens set k rest d (at_hand s bytes) lies in unread bytes told (opening_item k, (o.0, o.1)) o.2);
     ended = λ bytes told dir rest is are. unread bytes told (end_item (length (dir_bytes dir)), (closed_by (length (dir_bytes dir)) d, rest)) (end-comes d dir rest (at_hand s bytes) is are);
@@ -121,6 +125,7 @@ module _ (set : List (ℕ × ℕ)) (s : Seen) (among : IsAmongNodes s.cursor.sta
   in-row-end t n reads g = record {
     reads = reads;
     behind = g;
+    formed = tt;
     lies = λ bytes told. g.spelled bytes told;
     node = λ bytes told k rest lies. (
         let o = opens set k rest d (at_hand s bytes) lies in
@@ -166,13 +171,14 @@ module _ (set : List (ℕ × ℕ)) (s : Seen) (among : IsAmongNodes s.cursor.sta
       pub leaf-inside : m.cursor.standing ≡ in_leaf d
       leaf-inside = leads-to s m (leaf_item l a) (among_nodes d) (in_leaf d) stands refl g
 
-      pub in-row-leaf : (t : Seen) (xs : Vec Alt Global) (j : ANode) → node_view j ≡ leaf_node l a (map alt_view xs.items) → AlternativesRead m t (Ok xs) → InRowRead set s t (Ok (Node j 0))
-      in-row-leaf t xs j is h = record {
+      pub in-row-leaf : (t : Seen) (xs : Vec Alt Global) (j : ANode) → node_view j ≡ leaf_node l a (map alt_view xs.items) → IsLabel l → AlternativesRead m t (Ok xs) → InRowRead set s t (Ok (Node j 0))
+      in-row-leaf t xs j is label h = record {
         reads = reads-then s m t None reads h.reads;
         behind = (
           h.behind ∙ ap (λ (p : Standing). among_nodes (depth_of p)) leaf-inside ∙ sym stands,
           (let first = moved-on (leaf_item l a) some-leaf g in let reads_on = h.reads in let onward = reads_on.onward in omega (arith, first, onward)),
         );
+        formed = subst IsNodeWellFormed (sym is) (both-hold (is_label_well_formed l) (are_alts_well_formed (map alt_view xs.items)) (label-well l label) h.formed);
         lies = λ bytes told. (
             let e = leaf-spelled bytes told in (
               subst (λ (k : PlainNode). NodeAt set k (at_hand t bytes) (left_of s) (at_hand s bytes)) (sym is)
@@ -191,6 +197,7 @@ module _ (set : List (ℕ × ℕ)) (s : Seen) (among : IsAmongNodes s.cursor.sta
       in-row-no-leaf t f h = record {
         reads = reads-then s m t (Some f) reads h.reads;
         behind = tt;
+        formed = tt;
         lies = λ bytes told. tt;
         node = λ bytes told k rest lies. (
             let e = leaf-spelled bytes told in
@@ -230,13 +237,14 @@ module _ (set : List (ℕ × ℕ)) (s : Seen) (among : IsAmongNodes s.cursor.sta
       row-there : (bytes rest : List ℕ) (ks : PlainNodes) → RowAt (set_in a set) ks rest (left_of s - 1) (at_hand m bytes) → RowAt (set_in a set) ks rest (left_of m) (at_hand m bytes)
       row-there bytes rest ks h = subst (λ (n : ℕ). RowAt (set_in a set) ks rest n (at_hand m bytes)) (sym left-below) h
 
-      pub in-row-inner : (t : Seen) (xs : Vec ANode Global) (dir : ℕ) (j : ANode) → node_view j ≡ inner_node l a (nodes_view xs.items) → RowRead (set_in a set) m t (Ok (xs, dir)) → InRowRead set s t (Ok (Node j dir))
-      in-row-inner t xs dir j is h = record {
+      pub in-row-inner : (t : Seen) (xs : Vec ANode Global) (dir : ℕ) (j : ANode) → node_view j ≡ inner_node l a (nodes_view xs.items) → IsLabel l → RowRead (set_in a set) m t (Ok (xs, dir)) → InRowRead set s t (Ok (Node j dir))
+      in-row-inner t xs dir j is label h = record {
         reads = reads-then s m t None reads h.reads;
         behind = (
           h.behind ∙ closes dir,
           (let first = moved-on (inner_item l a) some-inner g in let reads_on = h.reads in let onward = reads_on.onward in omega (arith, first, onward)),
         );
+        formed = subst IsNodeWellFormed (sym is) (both-hold (is_label_well_formed l) (are_nodes_well_formed (nodes_view xs.items)) (label-well l label) h.formed);
         lies = λ bytes told. (
             let e = inner-spelled bytes told in
             let y = h.lies bytes (there bytes told) in
@@ -257,6 +265,7 @@ module _ (set : List (ℕ × ℕ)) (s : Seen) (among : IsAmongNodes s.cursor.sta
       in-row-no-inner t f h = record {
         reads = reads-then s m t (Some f) reads h.reads;
         behind = tt;
+        formed = tt;
         lies = λ bytes told. tt;
         node = λ bytes told k rest lies. (
             let e = inner-spelled bytes told in

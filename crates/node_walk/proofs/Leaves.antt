@@ -1,16 +1,21 @@
 -- A walk on its way, and the alternatives of a leaf.
-use Rattle.std.proofs.Common.{◌≡◌, ◌≢◌, ℕ, ◌-◌, ◌<◌, ◌≤◌, List, [], ◌∷◌, ◌++◌, map, Option, Some, None, Ok, Err, Vec, refl, sym, ap, subst, ◌∙◌, append_assoc, arith}
+use Rattle.std.proofs.Common.{◌≡◌, ◌≢◌, ℕ, ◌-◌, ◌<◌, ◌≤◌, IsTrue, List, [], ◌∷◌, ◌++◌, map, Option, Some, None, Ok, Err, Vec, refl, sym, ap, subst, ◌∙◌, append_assoc, arith}
 use Rattle.std.specs.declared.alloc.Global.{Global}
 use Rattle.std.proofs.lemmas.List.{append-nil}
 use Rattle.version_set.specs.declared.set.VersionSet.{VersionSet}
+use Rattle.keyed_tree.specs.WellFormed.{is_key_well_formed}
 use Rattle.keyed_tree.specs.declared.label.KeyVal.{KeyVal}
 use Rattle.archive_tree.specs.Data.{PlainAlt}
 use Rattle.archive_tree.specs.View.{alt_view}
+use Rattle.archive_tree.specs.WellFormed.{are_alts_well_formed}
 use Rattle.archive_tree.specs.declared.node.Alt.{Alt}
 use Rattle.xa_fields.proofs.Fields.{some_is}
+use Rattle.record_parts.specs.Bounds.{IsValue}
 use Rattle.record_format.specs.Data.{leaf_end}
 use Rattle.record_format.specs.Nodes.{alt_of}
 use Rattle.archive_file.specs.Laid.{AltsAt}
+use Rattle.archive_file.proofs.GoesLaws.{both-hold}
+use Rattle.archive_file.proofs.WellLaws.{value-well}
 use Rattle.archive_file.proofs.LaidLaws.{AltsLeft, alts-start, alts-next, alts-end}
 use Rattle.archive_file.proofs.ReadLaws.{alts-closed, alts-over}
 use Rattle.record_cursor.specs.Items.{PlainItem, alt_item, leaf_end_item, finish}
@@ -65,6 +70,7 @@ leads-nowhere s t i p is e g = (let none : ◌≡◌ {A = Option Standing} None 
 pub record AlternativesOn (s0 s : Seen) (so_far : List PlainAlt) : Type 0 where
   pub on : On s0 s
   pub stands : s.cursor.standing ≡ in_leaf (depth_of s0.cursor.standing)
+  pub formed : (xs : List PlainAlt) → IsTrue (are_alts_well_formed xs) → IsTrue (are_alts_well_formed (so_far ++ xs))
   pub left : (bytes : List ℕ) → Told s0 bytes → (xs : List PlainAlt) (rest : List ℕ) → AltsAt xs rest (at_hand s0 bytes) → AltsLeft xs rest so_far (at_hand s bytes)
   pub lie : (bytes : List ℕ) → Told s0 bytes → (xs : List PlainAlt) (rest : List ℕ) → AltsAt xs rest (at_hand s bytes) → AltsAt (so_far ++ xs) rest (at_hand s0 bytes)
 
@@ -72,6 +78,7 @@ pub alternatives-start : (s : Seen) → s.cursor.at ≤ s.cursor.length → IsIn
 alternatives-start s within leaf = record {
   on = on-start s within;
   stands = leaf-is s.cursor.standing leaf;
+  formed = λ xs h. h;
   left = λ bytes told xs rest h. alts-start xs rest (at_hand s bytes) h;
   lie = λ bytes told xs rest h. h;
 }
@@ -80,12 +87,14 @@ module _ (s0 s t : Seen) (so_far : List PlainAlt) (k : AlternativesOn s0 s so_fa
   abbrev d : ℕ
   d = depth_of s0.cursor.standing
 
-  pub alternatives-more : (a : PlainAlt) → Reads s t None → Given s t (alt_item a.stamp a.body) → AlternativesOn s0 t (so_far ++ a ∷ [])
-  alternatives-more a reads g =
+  pub alternatives-more : (a : PlainAlt) → IsValue a.body → Reads s t None → Given s t (alt_item a.stamp a.body) → AlternativesOn s0 t (so_far ++ a ∷ [])
+  alternatives-more a value reads g =
       let spelled = λ (bytes : List ℕ) (told : Told s0 bytes). record-is (alt_of a) (at_hand s bytes) (at_hand t bytes) (λ r. refl) (g.spelled bytes (k.on.told bytes told)) in
       record {
         on = on-then s0 s t k.on reads;
-        stands = leads-to s t i (in_leaf d) (in_leaf d) k.stands refl g;
+        stands = leads-to s t (alt_item a.stamp a.body) (in_leaf d) (in_leaf d) k.stands refl g;
+        formed = λ xs h. subst (λ (ys : List PlainAlt). IsTrue (are_alts_well_formed ys)) (sym (append_assoc so_far (a ∷ []) xs))
+            (k.formed (a ∷ xs) (both-hold (is_key_well_formed a.body) (are_alts_well_formed xs) (value-well a.body value) h));
         left = λ bytes told xs rest h. alts-next xs rest so_far (at_hand s bytes) (k.left bytes told xs rest h) a (at_hand t bytes)
             (read-there (alt_of a) (at_hand s bytes) (at_hand t bytes) (spelled bytes told).0 (spelled bytes told).1);
         lie = λ bytes told xs rest h. subst (λ (ys : List PlainAlt). AltsAt ys rest (at_hand s0 bytes)) (sym (append_assoc so_far (a ∷ []) xs))
@@ -102,6 +111,7 @@ module _ (s0 s t : Seen) (so_far : List PlainAlt) (k : AlternativesOn s0 s so_fa
       record {
         reads = k.on.then t None reads;
         behind = leads-to s t leaf_end_item (in_leaf d) (among_nodes d) k.stands refl g;
+        formed = subst (λ (xs : List PlainAlt). IsTrue (are_alts_well_formed xs)) (append-nil so_far ∙ sym is) (k.formed [] refl);
         lies = λ bytes told. subst (λ (xs : List PlainAlt). AltsAt xs (at_hand t bytes) (at_hand s0 bytes)) (append-nil so_far ∙ sym is)
             (k.lie bytes told [] (at_hand t bytes) (alts-closed (at_hand t bytes) (at_hand s bytes) leaf-end-is (spelled bytes told).1));
         found = λ bytes told xs rest h. (
@@ -113,6 +123,7 @@ module _ (s0 s t : Seen) (so_far : List PlainAlt) (k : AlternativesOn s0 s so_fa
   alternatives-failed e h = record {
     reads = k.on.then t (Some e) h.reads;
     behind = tt;
+    formed = tt;
     lies = λ bytes told. tt;
     found = λ bytes told xs rest lies. (
         let left = k.left bytes told xs rest lies in
@@ -122,7 +133,7 @@ module _ (s0 s t : Seen) (so_far : List PlainAlt) (k : AlternativesOn s0 s so_fa
   }
 
   pub alternatives-memory : Reads s t None → AlternativesRead s0 t (Err Memory)
-  alternatives-memory reads = record { reads = k.on.then t (Some Memory) (reads-stop s t Memory tt reads); behind = tt; lies = λ bytes told. tt; found = λ bytes told xs rest h. tt }
+  alternatives-memory reads = record { reads = k.on.then t (Some Memory) (reads-stop s t Memory tt reads); behind = tt; formed = tt; lies = λ bytes told. tt; found = λ bytes told xs rest h. tt }
 
   not-there : (o : Owned) → ((a : Option VersionSet) (b : KeyVal) → o ≢ owned.Alt a b) → o ≢ owned.LeafEnd → Given s t (owned_view o) → ⊥
   not-there (owned.Inner l a) f e g = leads-nowhere s t (owned_view (owned.Inner l a)) (in_leaf d) k.stands refl g

@@ -112,6 +112,7 @@ module _ (name : List ℕ) (h : PlainHeader) (s : Seen) (is : s.cursor ≡ recor
       later = r.reads.later;
       cause = r.reads.cause;
       pulls = pulls-all (Some e) r.reads;
+      formed = tt;
       lies = λ bytes front. tt;
       found = λ bytes front ks lie. r.found bytes (told-here bytes front) ks (u64_bytes (end_length (upto_pairs h.versions) ks)) (row-here bytes (u64_bytes (end_length (upto_pairs h.versions) ks)) ks set own lie);
     }
@@ -135,6 +136,7 @@ module _ (name : List ℕ) (h : PlainHeader) (s : Seen) (is : s.cursor ≡ recor
           later = reads.later;
           cause = tt;
           pulls = pulls-all u None reads;
+          formed = row.formed;
           lies = λ bytes front. (
               let told = told-here bytes front in
               let y = row.lies bytes told in
@@ -154,6 +156,7 @@ module _ (name : List ℕ) (h : PlainHeader) (s : Seen) (is : s.cursor ≡ recor
           later = reads.later;
           cause = reads.cause;
           pulls = pulls-all u (Some e) reads;
+          formed = tt;
           lies = λ bytes front. tt;
           found = λ bytes front ks lie. (let told = told-here bytes front in f.found bytes (told-on s t None bytes row.reads told) (tail-here bytes told ks lie).1);
         }
@@ -166,6 +169,7 @@ nodes-memory name h s meter = record {
   later = omega arith;
   cause = tt;
   pulls = PullsAtMost-none (h.length - h.first) s.numbers meter;
+  formed = tt;
   lies = λ bytes front. tt;
   found = λ bytes front ks lie. tt;
 }

@@ -35,7 +35,7 @@ like-itself leaf_end = refl
 
 -- the record that stands there is the one of which the item is
 pub record-is : (r : PlainRec) (now rest : List ℕ) → ((other : PlainRec) → record_like (item_of r) other ≡ r) → (q : PlainRec) × IsRec q × (item_of q ≡ item_of r) × (now ≡ rec_bytes q ++ rest) → IsRec r × (now ≡ rec_bytes r ++ rest)
-record-is r now rest only (q, (is, (same, bytes))) =
+record-is r now rest only (q, is, same, bytes) =
     let one : q ≡ r = sym (like-itself q) ∙ ap (λ (i : PlainItem). record_like i q) same ∙ only q in
     (subst IsRec one is, bytes ∙ ap (λ (z : PlainRec). rec_bytes z ++ rest) one)
 

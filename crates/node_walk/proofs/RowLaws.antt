@@ -5,6 +5,7 @@ use Rattle.std.specs.List.{flat_map}
 use Rattle.std.proofs.lemmas.List.{append-nil, length-append, length-drop}
 use Rattle.archive_tree.specs.Data.{PlainNode, PlainNodes, no_nodes, node, nodes_list, nodes_from, node_stamp}
 use Rattle.archive_tree.specs.View.{node_view, nodes_view}
+use Rattle.archive_tree.specs.WellFormed.{is_node_well_formed, are_nodes_well_formed, AreNodesWellFormed}
 use Rattle.archive_tree.specs.declared.node.ANode.{ANode}
 use Rattle.archive_tree.proofs.Parts.{nodes_list-nodes_from}
 use Rattle.xa_outside.specs.Numbers.{PullsAtMost}
@@ -17,7 +18,7 @@ use Rattle.record_format.specs.Spelling.{dir_bytes, framed, rec_bytes}
 use Rattle.record_format.proofs.Pieces.{one-record}
 use Rattle.archive_file.specs.Laid.{dir_with, NodeAt, RowAt}
 use Rattle.archive_file.proofs.FileLaws.{few-from}
-use Rattle.archive_file.proofs.GoesLaws.{lt-of}
+use Rattle.archive_file.proofs.GoesLaws.{both-hold, lt-of}
 use Rattle.archive_file.proofs.LaidLaws.{RowLeft, NodesAt, then-node, row-start, end_of}
 use Rattle.archive_file.proofs.ReadLaws.{RowDone, row-none, row-more, dir-is, row-shut}
 use Rattle.record_cursor.specs.Faults.{IfDamage, IfFolder}
@@ -59,6 +60,7 @@ pub record RowOn (set : List (ℕ × ℕ)) (s0 s : Seen) (so_far : List PlainNod
   pub stands : s.cursor.standing ≡ among_nodes (depth_of s0.cursor.standing)
   pub size : row_length kids.sizes + s0.cursor.at ≡ s.cursor.at
   pub count : length kids.sizes ≡ length so_far
+  pub formed : (ks : List PlainNode) → AreNodesWellFormed (nodes_from ks) → AreNodesWellFormed (nodes_from (so_far ++ ks))
   pub few : length kids.sizes < 2 ^ 32
   pub left : (bytes : List ℕ) → Told s0 bytes → (ks : PlainNodes) (rest : List ℕ) → RowAt set ks rest (left_of s0) (at_hand s0 bytes) → RowLeft set ks rest (left_of s0) so_far (at_hand s bytes)
   pub lie : (bytes : List ℕ) → Told s0 bytes → RowDone set (left_of s0) (at_hand s0 bytes) so_far (at_hand s bytes)
@@ -71,6 +73,7 @@ row-begins set s within among = record {
   size = omega arith;
   count = refl;
   few = omega arith;
+  formed = λ ks h. h;
   left = λ bytes told ks rest h. row-start set ks rest (left_of s) (at_hand s bytes) h;
   lie = λ bytes told. row-none set (left_of s) (at_hand s bytes);
   are = λ bytes told. no-kids-are set;
@@ -147,6 +150,8 @@ module _ (set : List (ℕ × ℕ)) (s0 s t : Seen) (so_far : List PlainNode) (ki
           size = omega (arith, ap (λ (x : PlainKids). row_length x.sizes) is, row-longer kids n dir (node_stamp (node_view j)), size, onward);
           count = omega (arith, ap (λ (x : PlainKids). length x.sizes) is, one-more kids n dir (node_stamp (node_view j)), length-append so_far (node_view j ∷ []), count);
           few = few;
+          formed = λ ks g. subst (λ (z : List PlainNode). AreNodesWellFormed (nodes_from z)) (sym (append_assoc so_far (node_view j ∷ []) ks))
+              (k.formed (node_view j ∷ ks) (both-hold (is_node_well_formed (node_view j)) (are_nodes_well_formed (nodes_from ks)) h.formed g));
           left = left-here;
           lie = λ bytes told. row-more set (left_of s0) (at_hand s0 bytes) so_far (at_hand s bytes) (k.lie bytes told) (node_view j) (at_hand t bytes) (lies-here bytes told);
           are = λ bytes told. subst (AreKids set (map (node_piece set) (so_far ++ node_view j ∷ []))) (sym is)
@@ -167,6 +172,7 @@ module _ (set : List (ℕ × ℕ)) (s0 s t : Seen) (so_far : List PlainNode) (ki
     row-not-kept e inside full = record {
       reads = k.on.then t (Some e) (reads-stop s t e inside h.reads);
       behind = tt;
+      formed = tt;
       lies = λ bytes told. tt;
       found = λ bytes told ks rest row. undamaged e full (λ many. too-many bytes told many ks rest row);
     }
@@ -182,6 +188,7 @@ module _ (set : List (ℕ × ℕ)) (s0 s t : Seen) (so_far : List PlainNode) (ki
   row-failed e h = record {
     reads = k.on.then t (Some e) h.reads;
     behind = tt;
+    formed = tt;
     lies = λ bytes told. tt;
     found = λ bytes told ks rest row. (
         let l = k.left bytes told ks rest row in
@@ -240,6 +247,7 @@ module _ (set : List (ℕ × ℕ)) (s0 s t : Seen) (so_far : List PlainNode) (ki
     row-ended nodes is set_is e = record {
       reads = k.on.then u None (judged-reads (Ok tt) e);
       behind = ap (λ c. c.standing) same ∙ leads-to s t (end_item n) (among_nodes d) (closed_by n d) k.stands refl h.behind;
+      formed = subst (λ (z : List PlainNode). AreNodesWellFormed (nodes_from z)) (append-nil so_far ∙ sym is) (k.formed [] refl);
       lies = lies;
       found = λ bytes told ks rest row. (let x = ends-there bytes told ks rest row in (ap nodes_from is ∙ x.0, after bytes ∙ x.1));
     }
@@ -278,6 +286,7 @@ module _ (set : List (ℕ × ℕ)) (s0 s t : Seen) (so_far : List PlainNode) (ki
     row-not-ended f e = record {
       reads = k.on.then u (Some f) (judged-reads (Err f) e);
       behind = tt;
+      formed = tt;
       lies = λ bytes told. tt;
       found = λ bytes told ks rest row. (
           let x = ends-there bytes told ks rest row in

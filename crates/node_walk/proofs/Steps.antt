@@ -17,7 +17,7 @@ use Rattle.record_cursor.specs.declared.fault.CursorFault.{CursorFault}
 use Rattle.record_cursor.specs.declared.fault.CursorFault.TheVariants.{Damage, Folder, Memory}
 use Rattle.record_cursor.specs.declared.item.Item.{Item}
 use Rattle.record_cursor.proofs.Pulled.{read-within}
-use Rattle.node_walk.specs.Owned.{owned_view, HasStamp}
+use Rattle.node_walk.specs.Owned.{owned_view, HasStamp, HasParts}
 use Rattle.node_walk.specs.Places.{depth_of, IsAmongNodes, IsInLeaf}
 use Rattle.node_walk.specs.Seen.{Seen, Told, at_hand, may_pull, Reads}
 use Rattle.node_walk.specs.Walked.{Given, OwnedRead}
@@ -144,11 +144,11 @@ gave-given : (s t : Seen) (item : Item) → Gave s t item → Given s t (shown_i
 gave-given s t item h = record { may_come = h.goes.may_come; moved = h.goes.moved; pulled = h.numbers; comes = h.goes.comes; spelled = h.spelled }
 
 -- and it is owned
-pub owned : (s t : Seen) (item : Item) (o : Owned) → Gave s t item → owned_view o ≡ shown_item item → HasStamp o → OwnedRead s t (Ok o)
-owned s t item o h is stamp = record { reads = gave-reads s t item h; given = subst (Given s t) (sym is) (gave-given s t item h); stamp = stamp; damage = λ bytes tells. tt }
+pub owned : (s t : Seen) (item : Item) (o : Owned) → Gave s t item → owned_view o ≡ shown_item item → HasStamp o → HasParts o → OwnedRead s t (Ok o)
+owned s t item o h is stamp parts = record { reads = gave-reads s t item h; given = subst (Given s t) (sym is) (gave-given s t item h); stamp = stamp; parts = parts; damage = λ bytes tells. tt }
 
 pub owned-memory : (s t : Seen) (item : Item) → Gave s t item → OwnedRead s t (Err Memory)
-owned-memory s t item h = record { reads = reads-stop s t Memory tt (gave-reads s t item h); given = tt; stamp = tt; damage = λ bytes tells. tt }
+owned-memory s t item h = record { reads = reads-stop s t Memory tt (gave-reads s t item h); given = tt; stamp = tt; parts = tt; damage = λ bytes tells. tt }
 
 -- it failed
 pub owned-failed : (s t : Seen) (r : Result Item CursorFault) (e : CursorFault) → s.cursor.at ≤ s.cursor.length → r ≡ Err e → t.files ≡ s.files → t.draft ≡ s.draft → PullsAtMost (s.cursor.length - s.cursor.at) s.numbers t.numbers → s.faults ≤ t.faults → IfFolder e (Rose s.faults t.faults)
@@ -170,6 +170,7 @@ owned-failed s t r e within is files draft pulls later cause damage moves =
       };
       given = tt;
       stamp = tt;
+      parts = tt;
       damage = damage;
     }
 

@@ -4,6 +4,7 @@ use Rattle.std.specs.declared.alloc.Global.{Global}
 use Rattle.version_set.specs.Members.{upto_pairs}
 use Rattle.archive_tree.specs.Data.{PlainNodes}
 use Rattle.archive_tree.specs.View.{nodes_view}
+use Rattle.archive_tree.specs.WellFormed.{AreNodesWellFormed}
 use Rattle.archive_tree.specs.declared.node.ANode.{ANode}
 use Rattle.xa_fields.specs.Spelling.{u64_bytes}
 use Rattle.xa_outside.specs.Folder.{Files}
@@ -32,12 +33,13 @@ abbrev pub NodesLie : PlainHeader → PlainNodes → List ℕ → Type 0
 NodesLie h ks bytes = RowAt (upto_pairs h.versions) ks (u64_bytes (end_length (upto_pairs h.versions) ks)) deepest (drop h.first bytes)
 
 -- The nodes behind a header were read. The folder is only read, each byte at most once, and fails only where its count rose.
--- Where the files are told, the nodes lie there, and damage is where none do.
+-- The nodes are well formed. Where the files are told, the nodes lie there, and damage is where none do.
 pub record NodesRead (name : List ℕ) (h : PlainHeader) (s t : FolderSeen) (r : Result (Vec ANode Global) CursorFault) : Type 0 where
   pub same_files : t.files ≡ s.files
   pub same_draft : t.draft ≡ s.draft
   pub later : s.faults ≤ t.faults
   pub cause : IsCause s.faults t.faults (fault_of r)
   pub pulls : PullsAtMost (h.length - h.first) s.numbers t.numbers
+  pub formed : IfOk r (λ xs. AreNodesWellFormed (nodes_view xs.items))
   pub lies : (bytes : List ℕ) → TellsFront s.files name h.length bytes → IfOk r (λ xs. NodesLie h (nodes_view xs.items) bytes)
   pub found : (bytes : List ℕ) → TellsFront s.files name h.length bytes → (ks : PlainNodes) → NodesLie h ks bytes → Filled r (λ xs. nodes_view xs.items ≡ ks)

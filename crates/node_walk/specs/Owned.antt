@@ -2,7 +2,7 @@
 use Rattle.std.specs.Prelude.{⊤}
 use Rattle.keyed_tree.specs.View.{key_view, label_view}
 use Rattle.archive_tree.specs.View.{stamp_view}
-use Rattle.record_parts.specs.Bounds.{IsStamp}
+use Rattle.record_parts.specs.Bounds.{IsLabel, IsStamp, IsValue}
 use Rattle.record_cursor.specs.Items.{PlainItem, inner_item, leaf_item, alt_item, leaf_end_item, end_item, finish}
 use Rattle.node_walk.specs.declared.owned.Owned.{Owned}
 use Rattle.node_walk.specs.declared.owned.Owned.TheVariants.{Inner, Leaf, Alt, LeafEnd, End, Finish}
@@ -23,3 +23,12 @@ HasStamp (Alt s b) = ⊤
 HasStamp LeafEnd = ⊤
 HasStamp (End n) = ⊤
 HasStamp Finish = ⊤
+
+-- the label or the body has an encoding
+abbrev pub HasParts : Owned → Type 0
+HasParts (Inner l s) = IsLabel (label_view l)
+HasParts (Leaf l s) = IsLabel (label_view l)
+HasParts (Alt s b) = IsValue (key_view b)
+HasParts LeafEnd = ⊤
+HasParts (End n) = ⊤
+HasParts Finish = ⊤

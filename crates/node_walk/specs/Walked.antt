@@ -1,8 +1,9 @@
 -- What the parts of a walk do.
-use Rattle.std.specs.Prelude.{◌≡◌, ◌≤◌, ◌<◌, ℕ, ◌+◌, ◌-◌, ◌^◌, List, ◌++◌, length, map, take, drop, Some, None, Result, IfOk, OnOk, IfErr, Vec}
+use Rattle.std.specs.Prelude.{◌≡◌, ◌≤◌, ◌<◌, ℕ, ◌+◌, ◌-◌, ◌^◌, List, ◌++◌, length, map, take, drop, Some, None, ⊤, IsTrue, Result, IfOk, OnOk, IfErr, Vec}
 use Rattle.std.specs.declared.alloc.Global.{Global}
 use Rattle.archive_tree.specs.Data.{PlainAlt, PlainNode, PlainNodes}
 use Rattle.archive_tree.specs.View.{alt_view, node_view, nodes_view}
+use Rattle.archive_tree.specs.WellFormed.{are_alts_well_formed, IsNodeWellFormed, AreNodesWellFormed}
 use Rattle.archive_tree.specs.declared.node.ANode.{ANode}
 use Rattle.archive_tree.specs.declared.node.Alt.{Alt}
 use Rattle.xa_fields.specs.Spelling.{u64_bytes}
@@ -20,7 +21,7 @@ use Rattle.record_cursor.specs.Spelled.{IsSpelled}
 use Rattle.record_cursor.specs.Steps.{fault_of, IsCause, Filled}
 use Rattle.record_cursor.specs.declared.fault.CursorFault.{CursorFault}
 use Rattle.row_ends.specs.Kids.{PlainKids, dir_in}
-use Rattle.node_walk.specs.Owned.{owned_view, HasStamp}
+use Rattle.node_walk.specs.Owned.{owned_view, HasStamp, HasParts}
 use Rattle.node_walk.specs.Places.{depth_of, left_of}
 use Rattle.node_walk.specs.Seen.{Seen, Told, at_hand, Reads}
 use Rattle.node_walk.specs.declared.owned.Owned.{Owned}
@@ -42,6 +43,7 @@ pub record OwnedRead (s t : Seen) (r : Result Owned CursorFault) : Type 0 where
   pub reads : Reads s t (fault_of r)
   pub given : IfOk r (λ o. Given s t (owned_view o))
   pub stamp : IfOk r HasStamp
+  pub parts : IfOk r HasParts
   pub damage : (bytes : List ℕ) → Told s bytes → IfErr r (λ e. IfDamage e (next_of s.cursor.standing (at_hand s bytes) ≡ None))
 
 -- The file ends behind the END of the root, whose body has this length.
@@ -56,6 +58,7 @@ pub record FinishRead (n : ℕ) (s t : Seen) (r : Result (Unit {0}) CursorFault)
 pub record AlternativesRead (s t : Seen) (r : Result (Vec Alt Global) CursorFault) : Type 0 where
   pub reads : Reads s t (fault_of r)
   pub behind : OnOk r (t.cursor.standing ≡ among_nodes (depth_of s.cursor.standing))
+  pub formed : IfOk r (λ xs. IsTrue (are_alts_well_formed (map alt_view xs.items)))
   pub lies : (bytes : List ℕ) → Told s bytes → IfOk r (λ xs. AltsAt (map alt_view xs.items) (at_hand t bytes) (at_hand s bytes))
   pub found : (bytes : List ℕ) → Told s bytes → (xs : List PlainAlt) (rest : List ℕ) → AltsAt xs rest (at_hand s bytes) → Filled r (λ ys. (map alt_view ys.items ≡ xs) × (at_hand t bytes ≡ rest))
 
@@ -81,6 +84,10 @@ abbrev pub IsBehind : Seen → Seen → InRow → Type 0
 IsBehind s t (Node k dir) = (t.cursor.standing ≡ s.cursor.standing) × (s.cursor.at + 9 ≤ t.cursor.at)
 IsBehind s t (End n) = Given s t (end_item n)
 
+abbrev pub IsFormed : InRow → Type 0
+IsFormed (Node k dir) = IsNodeWellFormed (node_view k)
+IsFormed (End n) = ⊤
+
 -- these bytes are this node, or this END, and then the rest
 abbrev pub Lies : List (ℕ × ℕ) → ℕ → InRow → List ℕ → List ℕ → Type 0
 Lies set left (Node k dir) rest now = NodeAt set (node_view k) rest left now × (dir ≡ (node_piece set (node_view k)).dir)
@@ -98,6 +105,7 @@ IsEnd n (End m) = m ≡ n
 pub record InRowRead (set : List (ℕ × ℕ)) (s t : Seen) (r : Result InRow CursorFault) : Type 0 where
   pub reads : Reads s t (fault_of r)
   pub behind : IfOk r (IsBehind s t)
+  pub formed : IfOk r IsFormed
   pub lies : (bytes : List ℕ) → Told s bytes → IfOk r (λ k. Lies set (left_of s) k (at_hand t bytes) (at_hand s bytes))
   pub node : (bytes : List ℕ) → Told s bytes → (k : PlainNode) (rest : List ℕ) → NodeAt set k rest (left_of s) (at_hand s bytes) → Filled r (λ j. IsNode k j × (at_hand t bytes ≡ rest))
   pub ended : (bytes : List ℕ) → Told s bytes → (d : PlainDir) (rest : List ℕ) → IsRec (end_rec d) → at_hand s bytes ≡ rec_bytes (end_rec d) ++ rest → Filled r (λ j. IsEnd (length (dir_bytes d)) j × (at_hand t bytes ≡ rest))
@@ -110,5 +118,6 @@ end_length set ks = length (dir_bytes (dir_of (node_pieces set ks)))
 pub record RowRead (set : List (ℕ × ℕ)) (s t : Seen) (r : Result (Vec ANode Global × ℕ) CursorFault) : Type 0 where
   pub reads : Reads s t (fault_of r)
   pub behind : IfOk r (λ x. t.cursor.standing ≡ closed_by x.1 (depth_of s.cursor.standing))
+  pub formed : IfOk r (λ x. AreNodesWellFormed (nodes_view x.0.items))
   pub lies : (bytes : List ℕ) → Told s bytes → IfOk r (λ x. RowAt set (nodes_view x.0.items) (at_hand t bytes) (left_of s) (at_hand s bytes) × (x.1 ≡ end_length set (nodes_view x.0.items)))
   pub found : (bytes : List ℕ) → Told s bytes → (ks : PlainNodes) (rest : List ℕ) → RowAt set ks rest (left_of s) (at_hand s bytes) → Filled r (λ x. (nodes_view x.0.items ≡ ks) × (at_hand t bytes ≡ rest))

@@ -1,7 +1,7 @@
 // Items whose parts are owned.
 ghost use Rattle.std.specs.Prelude.{◌≡◌, IfOk};
 ghost use Rattle.record_cursor.specs.View.{shown_item};
-ghost use Rattle.node_walk.specs.Owned.{owned_view, HasStamp};
+ghost use Rattle.node_walk.specs.Owned.{owned_view, HasStamp, HasParts};
 
 use keyed_tree::{Body, Label};
 use record_cursor::Item;
@@ -34,21 +34,25 @@ pub(crate) enum Owned {
 pub(crate) fn own(alloc: Global, item: Item<'_>) -> Result<Owned, AllocError>
     ensures is { IfOk result (λ o. owned_view o ≡ shown_item item.entry) }
     ensures stamp { IfOk result HasStamp }
+    ensures parts { IfOk result HasParts }
 {
     match item {
         Item::Inner { label, stamp } => {
-            // Its bytes are those of a timestamp, whose numbers are few.
-            let _spelled = stamp.bytes();
+            // The bytes say that the parts have an encoding, here and below.
+            let _label = label.bytes();
+            let _stamp = stamp.bytes();
             let stamp = stamp.copy(alloc)?;
             let label = label.copy(alloc)?;
             Ok(Owned::Inner { label, stamp })
         }
         Item::Leaf { label, stamp } => {
+            let _label = label.bytes();
             let stamp = stamp.copy(alloc)?;
             let label = label.copy(alloc)?;
             Ok(Owned::Leaf { label, stamp })
         }
         Item::Alt { stamp, body } => {
+            let _body = body.bytes();
             let stamp = stamp.copy(alloc)?;
             let body = body.copy(alloc)?;
             Ok(Owned::Alt { stamp, body })

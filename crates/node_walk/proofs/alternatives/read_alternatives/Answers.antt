@@ -7,7 +7,7 @@ use Rattle.record_cursor.specs.Items.{alt_item}
 use Rattle.record_cursor.specs.View.{PlainCursor}
 use Rattle.node_walk.specs.Seen.{Seen, seen}
 use Rattle.node_walk.specs.Walked.{Given, OwnedRead, AlternativesRead}
-use Rattle.node_walk.specs.Owned.{owned_view}
+use Rattle.node_walk.specs.Owned.{owned_view, HasParts}
 use Rattle.node_walk.specs.declared.owned.Owned.{Owned}
 use Rattle.node_walk.proofs.Leaves.{AlternativesOn, alternatives-start, alternatives-more, alternatives-less, alternatives-ended, alternatives-failed, alternatives-memory, alternatives-other}
 use Rattle.node_walk.proofs.Steps.{at-err}
@@ -20,6 +20,9 @@ at g = (let f = g.F.Folder in seen f.files f.draft f.numbers f.faults)
 -- what was read is this
 given-as : (s t : Seen) (o p : Owned) → o ≡ p → OwnedRead s t (Ok o) → Given s t (owned_view p)
 given-as s t o p is h = subst (λ (q : Owned). Given s t (owned_view q)) is h.given
+
+parts-as : (s t : Seen) (o p : Owned) → o ≡ p → OwnedRead s t (Ok o) → HasParts p
+parts-as s t o p is h = subst HasParts is h.parts
 
 pub loop-alternatives-init : goal.loop-alternatives-init
 loop-alternatives-init g c =
@@ -82,4 +85,4 @@ loop-alternatives-preserved g c =
     let alt : Alt = record { stamp = c.in-Alt.stamp; body = c.in-Alt.body } in
     let pushed = ap (map alt_view) c.in-Ok.ensures.items ∙ map-append alt_view l.alternatives.items (alt ∷ []) in
     subst (AlternativesOn s0 t) (sym pushed)
-    (alternatives-more s0 s t (map alt_view l.alternatives.items) l.invariant (alt_view alt) o.ensures.reads (given-as s t o.field-0 _ c.in-Alt.is o.ensures))
+    (alternatives-more s0 s t (map alt_view l.alternatives.items) l.invariant (alt_view alt) (parts-as s t o.field-0 _ c.in-Alt.is o.ensures) o.ensures.reads (given-as s t o.field-0 _ c.in-Alt.is o.ensures))

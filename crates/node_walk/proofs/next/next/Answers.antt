@@ -16,7 +16,7 @@ given g c =
 
 pub returns-in-Ok-own : goal.returns-in-Ok-own
 returns-in-Ok-own g c =
-    owned (at g c.args.folder.now c.args.cursor.now) (at g c.next.new.folder c.next.follows.lender-at-none) c.in-Ok.item c.in-Ok-own.owned (given g (goal.at.returns-in-Ok-own g c).In-Ok) c.in-Ok-own.ensures.is c.in-Ok-own.ensures.stamp
+    owned (at g c.args.folder.now c.args.cursor.now) (at g c.next.new.folder c.next.follows.lender-at-none) c.in-Ok.item c.in-Ok-own.owned (given g (goal.at.returns-in-Ok-own g c).In-Ok) c.in-Ok-own.ensures.is c.in-Ok-own.ensures.stamp c.in-Ok-own.ensures.parts
 
 pub returns-in-Err-own : goal.returns-in-Err-own
 returns-in-Err-own g c = owned-memory (at g c.args.folder.now c.args.cursor.now) (at g c.next.new.folder c.next.follows.lender-at-none) c.in-Ok.item (given g (goal.at.returns-in-Err-own g c).In-Ok)

@@ -13,7 +13,7 @@ use Rattle.record_cursor.specs.Places.{Standing, among_nodes, in_leaf}
 use Rattle.record_cursor.specs.View.{PlainCursor}
 use Rattle.row_ends.specs.Kids.{with_kid}
 use Rattle.row_ends.specs.KidsView.{kids_view}
-use Rattle.node_walk.specs.Owned.{owned_view}
+use Rattle.node_walk.specs.Owned.{owned_view, HasParts}
 use Rattle.node_walk.specs.Places.{IsAmongNodes, IsInLeaf}
 use Rattle.node_walk.specs.Seen.{Seen, seen}
 use Rattle.node_walk.specs.Walked.{Given, OwnedRead, InRowRead, RowRead}
@@ -31,6 +31,9 @@ at g = (let f = g.F.Folder in seen f.files f.draft f.numbers f.faults)
 -- what was read is this
 given-as : (s t : Seen) (o p : Owned) → o ≡ p → OwnedRead s t (Ok o) → Given s t (owned_view p)
 given-as s t o p is h = subst (λ (q : Owned). Given s t (owned_view q)) is h.given
+
+parts-as : (s t : Seen) (o p : Owned) → o ≡ p → OwnedRead s t (Ok o) → HasParts p
+parts-as s t o p is h = subst HasParts is h.parts
 
 read-as : (set : List (ℕ × ℕ)) (s t : Seen) (o p : InRow) → o ≡ p → InRowRead set s t (Ok o) → InRowRead set s t (Ok p)
 read-as set s t o p is h = subst (λ (q : InRow). InRowRead set s t (Ok q)) is h
@@ -91,7 +94,7 @@ read_in_row-returns-in-Leaf g t c =
     let l = c.in-Leaf.label in
     let a = c.in-Leaf.stamp in
     let alts = c.in_ok-alts-in-Leaf in
-    in-row-leaf (pairs_of c.args.set.now) s c.requires.1.1.1.1.1.0 m o.ensures.reads (label_view l) (stamp_view a) (given-as s m o.field-0 _ c.in-Leaf.is o.ensures) u alts.alts _ (node_view-Leaf l a alts.alts) alts.ensures
+    in-row-leaf (pairs_of c.args.set.now) s c.requires.1.1.1.1.1.0 m o.ensures.reads (label_view l) (stamp_view a) (given-as s m o.field-0 _ c.in-Leaf.is o.ensures) u alts.alts _ (node_view-Leaf l a alts.alts) (parts-as s m o.field-0 _ c.in-Leaf.is o.ensures) alts.ensures
 
 pub read_in_row-returns-in_err-alts-in-Leaf : goal.read_in_row-returns-in_err-alts-in-Leaf
 read_in_row-returns-in_err-alts-in-Leaf g t c =
@@ -116,7 +119,7 @@ read_in_row-returns-in-Inner g t c =
     let a = c.in-Inner.stamp in
     let kids = c.in_ok-kids-in-Inner in
     let own = own-set (stamp_view a) set (pairs_of c.effective-own.result.now) c.effective-own.ensures.pairs in
-    in-row-inner set s c.requires.1.1.1.1.1.0 m o.ensures.reads (label_view l) (stamp_view a) (given-as s m o.field-0 _ c.in-Inner.is o.ensures) u kids.kids kids.dir _ (node_view-Inner l a kids.kids)
+    in-row-inner set s c.requires.1.1.1.1.1.0 m o.ensures.reads (label_view l) (stamp_view a) (given-as s m o.field-0 _ c.in-Inner.is o.ensures) u kids.kids kids.dir _ (node_view-Inner l a kids.kids) (parts-as s m o.field-0 _ c.in-Inner.is o.ensures)
     (subst (λ (z : List (ℕ × ℕ)). RowRead z m u (Ok (kids.kids, kids.dir))) own kids.ensures)
 
 pub read_in_row-returns-in_err-kids-in-Inner : goal.read_in_row-returns-in_err-kids-in-Inner
