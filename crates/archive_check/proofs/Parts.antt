@@ -1,10 +1,9 @@
 -- The header of a file and its nodes, one after the other.
-use Rattle.std.proofs.Common.{◌≡◌, ℕ, ◌+◌, ◌-◌, ◌≤◌, List, drop, Option, Some, None, Result, Ok, Err, Vec, sym, ap, subst, ◌∙◌, arith}
+use Rattle.std.proofs.Common.{◌≡◌, ℕ, ◌+◌, ◌-◌, ◌≤◌, List, drop, Option, Some, None, Result, Ok, Err, Vec, sym, subst, ◌∙◌, arith}
 use Rattle.std.specs.declared.alloc.Global.{Global}
 use Rattle.key_spec.specs.Data.{PlainRule}
 use Rattle.keyed_tree.specs.Data.{PlainKeyed}
 use Rattle.version_set.specs.Members.{upto_pairs}
-use Rattle.archive_tree.specs.View.{nodes_view}
 use Rattle.archive_tree.specs.declared.node.ANode.{ANode}
 use Rattle.xa_fields.specs.Spelling.{u64_bytes}
 use Rattle.xa_outside.specs.Folder.{Files, front_of}
@@ -18,14 +17,14 @@ use Rattle.archive_file.proofs.SoundLaws.{sound-has-header, sound-reads, sound-r
 use Rattle.archive_file.proofs.SoundLaws as laws
 use Rattle.record_cursor.specs.Moves.{TellsFront, TellsHeader}
 use Rattle.record_cursor.specs.Spelled.{IsHeaderAt}
-use Rattle.record_cursor.specs.Steps.{fault_of, IsCause}
+use Rattle.record_cursor.specs.Steps.{IsCause}
 use Rattle.record_cursor.specs.View.{PlainHeader, header_view, IsHeader}
 use Rattle.record_cursor.specs.declared.fault.CursorFault.{CursorFault}
 use Rattle.record_cursor.specs.declared.header.Header.{Header}
 use Rattle.node_walk.specs.Nodes.{FolderSeen, NodesLie, NodesRead}
 use Rattle.node_walk.specs.Walked.{end_length}
 use Rattle.node_walk.proofs.Steps.{cause-later, damage-map}
-use Rattle.archive_check.specs.Read.{AreParts, PartsRead}
+use Rattle.archive_check.specs.Read.{PartsRead}
 
 -- ---- the header
 

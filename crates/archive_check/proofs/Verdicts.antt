@@ -1,14 +1,14 @@
 -- What is judged of the parts of a file is judged of the file.
-use Rattle.std.proofs.Common.{◌≡◌, ℕ, ◌≤◌, false, IsTrue, List, drop, length, Some, None, Result, Ok, Err, Vec, refl, sym, ap, subst, ◌∙◌, arith}
+use Rattle.std.proofs.Common.{◌≡◌, ℕ, ◌≤◌, Bool, true, false, IsTrue, List, drop, length, Some, Result, Ok, Err, Vec, refl, sym, subst, ◌∙◌, true≢false, arith}
 use Rattle.std.specs.Prelude.{◌↔◌}
 use Rattle.std.specs.Result.{IfOk}
+use Rattle.std.specs.declared.alloc.AllocError.{AllocError}
 use Rattle.std.specs.declared.alloc.Global.{Global}
-use Rattle.key_spec.specs.Canonical.{canonical}
-use Rattle.key_spec.specs.Closed.{closed}
 use Rattle.key_spec.specs.Data.{PlainRule}
+use Rattle.key_spec.proofs.SpecLaws.{spec_again}
 use Rattle.keyed_tree.specs.Data.{PlainKeyed}
 use Rattle.archive_tree.specs.Data.{PlainArchive, PlainNodes}
-use Rattle.archive_tree.specs.Stands.{ArchiveOf}
+use Rattle.archive_tree.specs.Stands.{ArchiveOf, Kept}
 use Rattle.archive_tree.specs.View.{nodes_view}
 use Rattle.archive_tree.specs.declared.node.ANode.{ANode}
 use Rattle.version_set.specs.Members.{upto_pairs}
@@ -30,19 +30,33 @@ use Rattle.record_cursor.proofs.Fills.{front-length}
 use Rattle.node_walk.specs.Nodes.{FolderSeen}
 use Rattle.node_walk.specs.Walked.{end_length}
 use Rattle.archive_check.specs.Judged.{IsKeyedArchive, archive_with, NodesJudged, FileJudged}
-use Rattle.archive_check.specs.Read.{IsWhole, AreParts, PartsRead}
+use Rattle.archive_check.specs.Read.{PartsRead}
 use Rattle.archive_check.specs.declared.fault.CheckFault.{CheckFault}
 use Rattle.archive_check.specs.declared.fault.CheckFault.TheVariants.{Damage, Folder, Memory}
 
 -- ---- nodes
 
--- an archive of these parts that is keyed
-pub keyed-archive : (rules : List PlainRule) (a b : PlainArchive) (vs : List PlainKeyed) → a ≡ b → ArchiveOf vs a → AreKeyedBy rules vs → IsKeyedArchive rules b
-keyed-archive rules a b vs same is keyed = record { versions = vs; is = subst (ArchiveOf vs) same is; keyed = keyed }
+-- an archive of these parts was judged by its versions
+keyed-same : (rules : List PlainRule) (a : PlainArchive) → Kept a → (b : Bool) → ((vs : List PlainKeyed) → ArchiveOf vs a → IsTrue b ↔ AreKeyedBy rules vs) → IsTrue b ↔ IsKeyedArchive rules a
+keyed-same rules a kept b h = (
+  λ t. record { versions = kept.versions; is = kept.is; keyed = (h kept.versions kept.is).0 t },
+  λ k. (h k.versions k.is).1 k.keyed,
+)
 
--- one that is not
-pub unkeyed-archive : (rules : List PlainRule) (a b : PlainArchive) → a ≡ b → ((vs : List PlainKeyed) → ArchiveOf vs a → IsTrue false ↔ AreKeyedBy rules vs) → ¬ (IsKeyedArchive rules b)
-unkeyed-archive rules a b same never k = absurd cc
+pub keyed-as : (rules : List PlainRule) (a b : PlainArchive) → a ≡ b → Kept a → (r : Result Bool AllocError) → ((vs : List PlainKeyed) → ArchiveOf vs a → IfOk r (λ x. IsTrue x ↔ AreKeyedBy rules vs)) → IfOk r (λ x. IsTrue x ↔ IsKeyedArchive rules b)
+keyed-as rules a b same kept (Ok x) h = subst (λ (z : PlainArchive). IsTrue x ↔ IsKeyedArchive rules z) same (keyed-same rules a kept x h)
+keyed-as rules a b same kept (Err e) h = tt
+
+-- no versions have an archive of these parts
+pub none-keyed : (rules : List PlainRule) (a : PlainArchive) → ((vs : List PlainKeyed) → ¬ (ArchiveOf vs a)) → IsTrue false ↔ IsKeyedArchive rules a
+none-keyed rules a never = (λ t. absurd cc, λ k. absurd (never k.versions k.is))
+
+-- the answer of a test
+pub true-then : (b : Bool) (P : Type 0) → b ≡ true → IsTrue b ↔ P → P
+true-then b P is h = h.0 is
+
+pub false-then : (b : Bool) (P : Type 0) → b ≡ false → IsTrue b ↔ P → ¬ P
+false-then b P is h p = true≢false (sym (h.1 p) ∙ is)
 
 -- ---- the file
 
@@ -91,8 +105,9 @@ module _ (name : List ℕ) (size : ℕ) (s t : FolderSeen) where
         record { versions = vs; is = sound-archive rules vs bytes is v.versions ks parts.count parts.nodes; keyed = subst (λ (z : List PlainRule). AreKeyedBy z vs) (sym parts.specification) is.keyed }
 
     -- bytes that are the parts of a keyed archive are sound
-    made-sound : (bytes : List ℕ) → TellsFront s.files name size bytes → closed (canonical v.rules) ≡ Ok v.rules → (k : IsKeyedArchive v.rules (archive_with v ks)) → SoundAs v.rules k.versions bytes
-    made-sound bytes tells spec k =
+    made-sound : (bytes : List ℕ) → TellsFront s.files name size bytes → (k : IsKeyedArchive v.rules (archive_with v ks)) → SoundAs v.rules k.versions bytes
+    made-sound bytes tells k =
+        let spec = spec_again h.spec in
         let whole = p.lies bytes tells in
         let long = front-length s.files name bytes size tells in
         let few = whole.1.0 in
@@ -125,7 +140,7 @@ module _ (name : List ℕ) (size : ℕ) (s t : FolderSeen) where
         cause (Err Memory) g e = absurd cc
 
         sound : (bytes : List ℕ) → TellsFront s.files name size bytes → (q : Result ℕ CheckFault) → NodesJudged v ks q → IfOk q (λ n. (is : Sound bytes) × (length is.versions ≡ n))
-        sound bytes tells (Ok n) g = (let k = g.1.1 in (record { rules = v.rules; versions = k.versions; is = made-sound bytes tells g.1.0 k }, k.is.count ∙ sym g.0))
+        sound bytes tells (Ok n) g = (let k = g.1 in (record { rules = v.rules; versions = k.versions; is = made-sound bytes tells k }, k.is.count ∙ sym g.0))
         sound bytes tells (Err e) g = tt
 
         versions : (bytes : List ℕ) → TellsFront s.files name size bytes → (rules : List PlainRule) (vs : List PlainKeyed) → SoundAs rules vs bytes → (q : Result ℕ CheckFault) → NodesJudged v ks q → IfOk q (λ n. n ≡ length vs)

@@ -1,7 +1,5 @@
 -- What judging a file answers.
-use Rattle.std.specs.Prelude.{◌≡◌, ◌≤◌, ⊤, ⊥, ℕ, List, length, Option, Some, None, Result, Ok, Err, IfOk}
-use Rattle.key_spec.specs.Canonical.{canonical}
-use Rattle.key_spec.specs.Closed.{closed}
+use Rattle.std.specs.Prelude.{◌≡◌, ◌≤◌, ⊤, ℕ, List, length, Some, None, Result, Ok, Err, IfOk}
 use Rattle.key_spec.specs.Data.{PlainRule}
 use Rattle.keyed_tree.specs.Data.{PlainKeyed}
 use Rattle.archive_tree.specs.Data.{PlainArchive, PlainNodes}
@@ -29,7 +27,7 @@ archive_with h ks = record { n = h.versions; kids = ks }
 
 -- the nodes are those of an archive that is keyed by the header's specification, or damaged
 abbrev pub NodesJudged : PlainHeader → PlainNodes → Result ℕ CheckFault → Type 0
-NodesJudged h ks (Ok n) = (n ≡ h.versions) × (closed (canonical h.rules) ≡ Ok h.rules) × IsKeyedArchive h.rules (archive_with h ks)
+NodesJudged h ks (Ok n) = (n ≡ h.versions) × IsKeyedArchive h.rules (archive_with h ks)
 NodesJudged h ks (Err Damage) = ¬ (IsKeyedArchive h.rules (archive_with h ks))
 NodesJudged h ks (Err Folder) = ⊥
 NodesJudged h ks (Err Memory) = ⊤

@@ -1,4 +1,3 @@
-use Rattle.std.proofs.Common.{Ok, Err}
 use Rattle.record_cursor.specs.declared.fault.CursorFault.TheVariants.{Damage, Folder, Memory}
 use Rattle.node_walk.specs.Nodes.{FolderSeen, folder_seen}
 use Rattle.archive_check.proofs.Verdicts.{file-failed, file-judged}

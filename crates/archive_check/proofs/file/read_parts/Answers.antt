@@ -1,5 +1,3 @@
-use Rattle.std.proofs.Common.{Ok, Err}
-use Rattle.record_cursor.specs.View.{header_view}
 use Rattle.node_walk.specs.Nodes.{FolderSeen, folder_seen}
 use Rattle.node_walk.proofs.Steps.{at-err}
 use Rattle.archive_check.specs.Read.{PartsRead}
