@@ -109,7 +109,7 @@ module _ (name : List ℕ) (size : ℕ) (s : FolderSeen) where
       cause = tt;
       pulls = all-pulled u n.pulls;
       formed = n.formed;
-      lies = λ bytes tells. (read.spelled bytes tells, (read.is.few, n.lies bytes (told-on bytes tells)));
+      lies = λ bytes tells. (read.spelled bytes tells, read.is.few, n.lies bytes (told-on bytes tells));
       found = λ bytes tells rules vs is. (
           let here = sound-here bytes tells rules vs is in
           record { specification = here.specification; count = here.count; nodes = n.found bytes (told-on bytes tells) is.file.archive.kids (nodes-lie bytes tells rules vs is) });

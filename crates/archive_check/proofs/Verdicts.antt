@@ -67,13 +67,13 @@ module _ (name : List ℕ) (size : ℕ) (s t : FolderSeen) where
   check_fault cursor.Folder = Folder
   check_fault cursor.Memory = Memory
 
-  no-folder : (e : CursorFault) → IsCause s.faults t.faults (Some e) → Err {T = ℕ} (check_fault e) ≡ Err Folder → Rose s.faults t.faults
+  no-folder : (e : CursorFault) → IsCause s.faults t.faults (Some e) → ◌≡◌ {A = Result ℕ CheckFault} (Err (check_fault e)) (Err Folder) → Rose s.faults t.faults
   no-folder cursor.Damage h e = absurd cc
   no-folder cursor.Folder h e = h
   no-folder cursor.Memory h e = absurd cc
 
-  pub file-failed : (e : CursorFault) → PartsRead name size s t (Err e) → FileJudged name size s t (Err (check_fault e))
-  file-failed e p = record {
+  failed : (e : CursorFault) → PartsRead name size s t (Err e) → FileJudged name size s t (Err (check_fault e))
+  failed e p = record {
     same_files = p.same_files;
     same_draft = p.same_draft;
     later = p.later;
@@ -85,10 +85,13 @@ module _ (name : List ℕ) (size : ℕ) (s t : FolderSeen) where
     short = λ files tells none. tt;
   }
     where
-      no-damage : (f : CursorFault) → Err {T = ℕ} (check_fault f) ≡ Err Damage → IfDamage f ⊥ → ⊥
+      no-damage : (f : CursorFault) → ◌≡◌ {A = Result ℕ CheckFault} (Err (check_fault f)) (Err Damage) → IfDamage f ⊥ → ⊥
       no-damage cursor.Damage e h = h
       no-damage cursor.Folder e h = absurd cc
       no-damage cursor.Memory e h = absurd cc
+
+  pub file-failed : (e f : CursorFault) → e ≡ f → PartsRead name size s t (Err e) → FileJudged name size s t (Err (check_fault f))
+  file-failed e f is p = subst (λ (g : CursorFault). FileJudged name size s t (Err (check_fault g))) is (failed e p)
 
   -- its parts were read, and its nodes were judged
   module _ (short : size ≤ longest) (h : Header) (nodes : Vec ANode Global) (p : PartsRead name size s t (Ok (h, nodes))) where
@@ -110,14 +113,14 @@ module _ (name : List ℕ) (size : ℕ) (s t : FolderSeen) where
         let spec = spec_again h.spec in
         let whole = p.lies bytes tells in
         let long = front-length s.files name bytes size tells in
-        let few = whole.1.0 in
+        let few = whole.1 in
         let count = k.is.count in
         let dir = end_length (upto_pairs v.versions) ks in
         record {
           specification = spec;
           keyed = k.keyed;
           few = omega (arith, few, count);
-          file = read-file v.rules v.versions ks (u64_bytes dir) (drop v.first bytes) bytes dir deepest (record { specification = spec; text = whole.0.1; bytes = whole.0.0 }) few whole.1.1 refl refl (omega (arith, long, short)) (archive_with v ks) refl k.versions k.is;
+          file = read-file v.rules v.versions ks (u64_bytes dir) (drop v.first bytes) bytes dir deepest (record { specification = spec; text = whole.0.1; bytes = whole.0.0 }) few whole.2 refl refl (omega (arith, long, short)) (archive_with v ks) refl k.versions k.is;
         }
 
     pub file-judged : (r : Result ℕ CheckFault) → NodesJudged v ks r → FileJudged name size s t r

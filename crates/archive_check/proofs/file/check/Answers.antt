@@ -1,3 +1,4 @@
+use Rattle.std.proofs.Common.{rules}
 use Rattle.archive_check.proofs.file.check.Goals as goal
 
 pub returns : goal.returns

@@ -13,10 +13,10 @@ returns-in-Ok g c =
     file-judged c.args.name.now c.args.length (of g c.args.folder.now) (of g c.read_parts.new.folder) c.requires p.header p.nodes p.ensures c.judge_nodes.result c.judge_nodes.ensures
 
 pub returns-in-Err-Damage : goal.returns-in-Err-Damage
-returns-in-Err-Damage g c = file-failed c.args.name.now c.args.length (of g c.args.folder.now) (of g c.read_parts.new.folder) Damage c.in-Err-Damage.ensures
+returns-in-Err-Damage g c = file-failed c.args.name.now c.args.length (of g c.args.folder.now) (of g c.read_parts.new.folder) c.in-Err-Damage.field-0 Damage c.in-Err-Damage.field-0-is c.in-Err-Damage.ensures
 
 pub returns-in-Err-Folder : goal.returns-in-Err-Folder
-returns-in-Err-Folder g c = file-failed c.args.name.now c.args.length (of g c.args.folder.now) (of g c.read_parts.new.folder) Folder c.in-Err-Folder.ensures
+returns-in-Err-Folder g c = file-failed c.args.name.now c.args.length (of g c.args.folder.now) (of g c.read_parts.new.folder) c.in-Err-Folder.field-0 Folder c.in-Err-Folder.field-0-is c.in-Err-Folder.ensures
 
 pub returns-in-Err-Memory : goal.returns-in-Err-Memory
-returns-in-Err-Memory g c = file-failed c.args.name.now c.args.length (of g c.args.folder.now) (of g c.read_parts.new.folder) Memory c.in-Err-Memory.ensures
+returns-in-Err-Memory g c = file-failed c.args.name.now c.args.length (of g c.args.folder.now) (of g c.read_parts.new.folder) c.in-Err-Memory.field-0 Memory c.in-Err-Memory.field-0-is c.in-Err-Memory.ensures
