@@ -7,5 +7,6 @@ pub mod Puts
 pub mod Sizes
 pub mod Places
 pub mod Views
-pub mod Alts
+pub mod AltRows
 pub mod Walks
+pub mod Covers

@@ -2,6 +2,8 @@ pub mod Full
 pub mod Added
 pub mod Sealed
 pub mod Ready
+pub mod AltView
+pub mod Covered
 pub mod View
 pub mod ArchiveView
 pub mod Place

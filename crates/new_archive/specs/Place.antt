@@ -23,6 +23,10 @@ IsPlaceOf l ks (Err i) = (i ≤ length ks)
 abbrev pub changed : ℕ → FullAlt → FullAlt
 changed n a = record { numbers = with_last a.numbers n; body = a.body }
 
+-- the alternatives, where the one at the place is that of version n too
+abbrev pub IsChangedAt : ℕ → ℕ → List FullAlt → List FullAlt → Type 0
+IsChangedAt n at xs ys = (d : FullAlt) → ys ≡ take at xs ++ changed n (get_or xs at d) ∷ drop (at + 1) xs
+
 -- the place of the alternative with the body, or that none has it
 abbrev pub IsAltOf : PlainKey → List FullAlt → Option ℕ → Type 0
 IsAltOf b xs (Some i) = (i < length xs) × ((d : FullAlt) → (get_or xs i d).body ≡ b)

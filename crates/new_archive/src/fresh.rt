@@ -3,8 +3,9 @@ ghost use Rattle.std.specs.Prelude.{◌≡◌, ◌≤◌, IfOk, [], ◌∷◌, m
 ghost use Rattle.keyed_tree.specs.View.{key_view, keyed_view};
 ghost use Rattle.keyed_parts.specs.View.{kid_view};
 ghost use Rattle.new_archive.specs.Added.{alone, new_full};
-ghost use Rattle.new_archive.specs.View.{alt_view, full_view, row_view};
+ghost use Rattle.new_archive.specs.View.{alts_view, full_view, row_view};
 
+use crate::bodies::Alts;
 use crate::node::{NewAlt, NewNode};
 use keyed_parts::Kid;
 use keyed_tree::{Body, Keyed};
@@ -41,16 +42,14 @@ fn new_node(alloc: Global, n: u32, new: Keyed) -> Result<NewNode, AllocError>
 }
 
 // The alternatives of a leaf that has one body alone.
-fn only_alt(alloc: Global, n: u32, body: Body) -> Result<Vec<NewAlt>, AllocError>
+fn only_alt(alloc: Global, n: u32, body: Body) -> Result<Alts, AllocError>
     requires { 1 ≤ n }
-    ensures { IfOk result (λ v. map alt_view v.items
+    ensures { IfOk result (λ a. alts_view a
         ≡ record { numbers = alone n; body = key_view body } ∷ []) }
 {
     let body = KeptBody::of(alloc, body)?;
     let set = VersionSet::single(alloc, n);
-    let mut alts = Vec::with_capacity(alloc, 1)?;
-    alts.push_reserved(NewAlt { set, body });
-    Ok(alts)
+    Alts::one(alloc, NewAlt { set, body })
 }
 
 #[cycle(fresh)]

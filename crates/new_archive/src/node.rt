@@ -7,6 +7,7 @@ ghost use Rattle.new_archive.specs.Full.{full_label, fulls_from};
 ghost use Rattle.new_archive.specs.Sealed.{seal_row};
 ghost use Rattle.new_archive.specs.View.{full_view, row_view};
 
+use crate::bodies::Alts;
 use keyed_tree::Label;
 use spelled_archive::KeptBody;
 use std::alloc::Global;
@@ -32,7 +33,7 @@ pub enum NewNode {
     Leaf {
         label: Label,
         set: VersionSet,
-        alts: Vec<NewAlt>,
+        alts: Alts,
     },
 }
 

@@ -6,7 +6,8 @@ ghost use Rattle.spelled_archive.specs.View.{alt_view as spelled_alt_view, node_
 ghost use Rattle.version_set.specs.View.{pairs_of};
 ghost use Rattle.new_archive.specs.ArchiveView.{new_archive_view};
 ghost use Rattle.new_archive.specs.Sealed.{seal, seal_alt, seal_stamp};
-ghost use Rattle.new_archive.specs.View.{alt_view, full_view, row_view};
+ghost use Rattle.new_archive.specs.AltView.{alt_view};
+ghost use Rattle.new_archive.specs.View.{full_view, row_view};
 
 use crate::node::{NewAlt, NewArchive, NewNode};
 use spelled_archive::{Alt, SNode, SpelledArchive};
@@ -54,7 +55,7 @@ fn seal_node(alloc: Global, parent: &VersionSet, node: NewNode) -> Result<SNode,
             Ok(SNode::Inner { label, stamp, kids })
         }
         NewNode::Leaf { label, set, alts } => {
-            let alts = seal_alts(alloc, &set, alts)?;
+            let alts = seal_alts(alloc, &set, alts.items)?;
             let stamp = seal_set(parent, set);
             Ok(SNode::Leaf { label, stamp, alts })
         }

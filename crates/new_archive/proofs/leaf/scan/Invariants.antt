@@ -1,7 +1,7 @@
 use Rattle.std.proofs.Common.{◌≡◌, drop, map}
 use Rattle.keyed_tree.specs.LentView.{lent_val_view}
 use Rattle.new_archive.specs.Place.{place_from}
-use Rattle.new_archive.specs.View.{alt_view}
+use Rattle.new_archive.specs.AltView.{alt_view}
 use Rattle.new_archive.proofs.leaf.scan.Given as goal
 
 -- what is left decides

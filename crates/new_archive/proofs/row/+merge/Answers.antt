@@ -15,10 +15,10 @@ use Rattle.new_archive.specs.Added.{added, added_row, new_full}
 use Rattle.new_archive.specs.Full.{FullAlt, PlainFull, full_inner, full_label, full_bodies, fulls_from}
 use Rattle.new_archive.specs.Place.{IsPlaceOf, IsPut, added_list}
 use Rattle.new_archive.specs.Ready.{AreReady, IsBelow, IsReady}
-use Rattle.new_archive.specs.View.{alt_view, full_view, row_view}
-use Rattle.new_archive.specs.declared.node.NewAlt.{NewAlt}
+use Rattle.new_archive.specs.View.{alts_view, full_view, row_view}
+use Rattle.new_archive.specs.declared.bodies.Alts.{Alts}
 use Rattle.new_archive.specs.declared.node.NewNode.{NewNode, the_lemmas}
-use Rattle.new_archive.proofs.Alts.{set_row}
+use Rattle.new_archive.proofs.AltRows.{set_row}
 use Rattle.new_archive.proofs.Puts.{met_within, put_met, put_new, ready_at}
 use Rattle.new_archive.proofs.Rows.{fulls_from-fulls_list}
 use Rattle.new_archive.proofs.Views.{full_view-Inner, full_view-Leaf}
@@ -106,14 +106,14 @@ pub merge_node-merge_alts-requires-clause-below : goal.merge_node-merge_alts-req
 merge_node-merge_alts-requires-clause-below t c =
     let i = c.in-Leaf-node in
     let n = c.args.n in
-    let r = leaf_ready n (full_view c.args.node.now) (label_view i.label) (pairs_of i.set) (map alt_view i.alts.items) (ap full_view i.is ∙ full_view-Leaf i.label i.set i.alts) c.requires.ready in
-    subst (λ (z : Vec NewAlt Global). AllByRecursion (λ (x : FullAlt). IsBelow n x.numbers) (map alt_view z.items)) (sym i.alts-is) r.below
+    let r = leaf_ready n (full_view c.args.node.now) (label_view i.label) (pairs_of i.set) (alts_view i.alts) (ap full_view i.is ∙ full_view-Leaf i.label i.set i.alts) c.requires.ready in
+    subst (λ (z : Alts). AllByRecursion (λ (x : FullAlt). IsBelow n x.numbers) (alts_view z)) (sym i.alts-is) r.below
 
 pub merge_node-merge_alts-requires-clause-differ : goal.merge_node-merge_alts-requires-clause-differ
 merge_node-merge_alts-requires-clause-differ t c =
     let i = c.in-Leaf-node in
-    let r = leaf_ready c.args.n (full_view c.args.node.now) (label_view i.label) (pairs_of i.set) (map alt_view i.alts.items) (ap full_view i.is ∙ full_view-Leaf i.label i.set i.alts) c.requires.ready in
-    subst (λ (z : Vec NewAlt Global). AllDiffer (full_bodies (map alt_view z.items))) (sym i.alts-is) r.differ
+    let r = leaf_ready c.args.n (full_view c.args.node.now) (label_view i.label) (pairs_of i.set) (alts_view i.alts) (ap full_view i.is ∙ full_view-Leaf i.label i.set i.alts) c.requires.ready in
+    subst (λ (z : Alts). AllDiffer (full_bodies (alts_view z))) (sym i.alts-is) r.differ
 
 pub merge_node-returns-in_ok-merge_kids-in-Inner : goal.merge_node-returns-in_ok-merge_kids-in-Inner
 merge_node-returns-in_ok-merge_kids-in-Inner t c =

@@ -1,6 +1,6 @@
 use Rattle.std.proofs.Common.{◌∙◌, map, ap}
 use Rattle.new_archive.specs.View.{full_view}
-use Rattle.new_archive.proofs.Alts.{insert_row}
+use Rattle.new_archive.proofs.AltRows.{insert_row}
 use Rattle.new_archive.proofs.row.insert_new.Goals as goal
 
 pub returns : goal.returns
