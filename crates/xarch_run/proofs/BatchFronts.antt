@@ -58,7 +58,7 @@ record RunsFirst (before now : Files) (bytes : List ℕ) (answer : ℕ) : Type 0
   read : AreRead bytes lines
   leads : LinesLead before lines steps now
 
-over-first : (w : Scene) (before now : Files) (bytes : List ℕ) (answer : ℕ) (ls : List (List ℕ)) (spoken : List ℕ) → w.files_before ≡ Some before → w.files_now ≡ Some now
+over-first : (w : Scene) (before now : Files) (bytes : List ℕ) (answer : ℕ) (ls spoken : List (List ℕ)) → w.files_before ≡ Some before → w.files_now ≡ Some now
     → RunsOver w ls spoken → ComesFirst ls (lines_of bytes) → AreRead bytes ls → answer ≢ 0 → RunsFirst before now bytes answer
 over-first w before now bytes answer ls spoken told after over f read other =
     record { lines = ls; steps = over.steps; behind = f.behind; first = f.is; all = λ zero. absurd (other zero); read = read; leads = over.are.leads before now told after }
@@ -83,7 +83,7 @@ module _ (before between now : Files) (bytes : List ℕ) (answer : ℕ) (lines :
   same-told : (f g : Option Files) → f ≡ Some between → g ≡ Some now → g ≡ f → now ≡ between
   same-told f g told after same = (let both : Some now ≡ Some between = sym after ∙ same ∙ told in cc)
 
-  stops-first : (f g : Option Files) (written spoken : List ℕ) → f ≡ Some between → g ≡ Some now → Stops f g line answer written spoken → RunsFirst before now bytes answer
+  stops-first : (f g : Option Files) (written : List ℕ) (spoken : List (List ℕ)) → f ≡ Some between → g ≡ Some now → Stops f g line answer written spoken → RunsFirst before now bytes answer
   stops-first f g written spoken told after (inl k) = before-it (ends-other k.fault k.kind k.status) (same-told f g told after k.files_kept)
   stops-first f g written spoken told after (inr (inl k)) = before-it (no-output k.status) (same-told f g told after k.files_kept)
   stops-first f g written spoken told after (inr (inr (inl k))) = record {

@@ -137,7 +137,7 @@ ends-failed f g o p e r t x y z bytes before old new first second gone k says =
       consumed = Consumes-trans (Some bytes) (ahead before.feed old) new gone.front k.bytes gone.consumed k.consumed;
       few = few_behind gone.front k.bytes (budget before.feed) gone.counted k.counted;
       over =
-          subst (λ (l : List (List ℕ)). RunsOver (scene f g o p e t x z) l (fault_line in_fault)) (sym (Cuts-ended gone.front k.bytes gone.lines k.one gone.cuts))
+          subst (λ (l : List (List ℕ)). RunsOver (scene f g o p e t x z) l (fault_line in_fault ∷ [])) (sym (Cuts-ended gone.front k.bytes gone.lines k.one gone.cuts))
           (RunsOver-said f g o p e r t x y z gone.lines (fault_line in_fault) first second gone.over says);
     })))
 
@@ -157,7 +157,7 @@ ends-past f g o p e r t x y z bytes before old new first second gone k says =
       full = let total : length d + budget before.feed ≡ BATCH = gone.counted in let same : length l ≡ budget before.feed = k.counted in length-append d l ∙ ap (λ n. length d + n) same ∙ total;
       more = omega arith;
       over =
-          subst (λ (m : List (List ℕ)). RunsOver (scene f g o p e t x z) m (fault_line (refused (limit batch BATCH)))) (sym (Cuts-ended d l gone.lines k.one gone.cuts))
+          subst (λ (m : List (List ℕ)). RunsOver (scene f g o p e t x z) m (fault_line (refused (limit batch BATCH)) ∷ [])) (sym (Cuts-ended d l gone.lines k.one gone.cuts))
           (RunsOver-said f g o p e r t x _ z gone.lines (fault_line (refused (limit batch BATCH))) first second gone.over says);
     }))
 
@@ -228,8 +228,8 @@ no_words f g h o p q e r t x y z bytes ls behind new answer first second untold 
       is = is;
       read = read;
       over =
-          subst (λ (l : List (List ℕ)). RunsOver (scene f h o q e t x z) l (fault_line memory)) (append-nil ls)
-          (RunsOver-trans f g h o p q e r t x y z ls [] (fault_line memory) first second untold over (record { steps = []; are = AreSteps-none g h k.files; gains = k.gains }));
+          subst (λ (l : List (List ℕ)). RunsOver (scene f h o q e t x z) l (fault_line memory ∷ [])) (append-nil ls)
+          (RunsOver-trans f g h o p q e r t x y z ls [] (fault_line memory ∷ []) first second untold over (record { steps = []; are = AreSteps-none g h k.files; gains = k.gains }));
     }))))
 
 pub ends-at : (b : Bool) (f g h : Option Files) (o p q e r t : Taken) (x y z : ℕ) (bytes : List ℕ) (before now : Lines) (old new : Option (List ℕ)) (answer : ℕ) → x ≤ y → y ≤ z → (g ≡ None → h ≡ None)

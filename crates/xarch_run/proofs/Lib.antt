@@ -1,6 +1,7 @@
 pub mod Filling
 pub mod Obeying
 pub mod Running
+pub mod StepLemmas
 pub mod Succeeding
 pub mod WordLemmas
 pub mod Cuts

@@ -1,98 +1,24 @@
 -- From the end of a command to its status, its line and what it did.
-use Rattle.std.proofs.Common.{◌≡◌, ◌≢◌, ◌⊎◌, ◌↔◌, inl, inr, ℕ, ◌<◌, List, [], Option, Some, None, IsSome, Result, Ok, Err, refl, sym, ap, ◌∙◌, subst, arith}
+use Rattle.std.proofs.Common.{◌≡◌, ◌≢◌, ◌⊎◌, inl, inr, ℕ, ◌<◌, List, [], Option, Some, None, IsSome, Result, Ok, Err, refl, sym, ap, ◌∙◌, subst, arith}
 use Rattle.xa_outside.specs.Causes.{HasCause, Rose}
 use Rattle.xa_outside.specs.Folder.{Files}
 use Rattle.xa_outside.specs.Taken.{Taken, TakesNone, TakesPrefix, Puts}
 use Rattle.xa_outside.specs.TakenLaws.{Takes-nil, Takes-kept, TakesNone-refl, TakesPrefix-none, TakesPrefix-all}
-use Rattle.xarch_words.specs.Commands.{PlainCommand, command_of}
-use Rattle.xarch_words.specs.Refusal.{Refusal, usage, no_file, exists, bad_spec, bad_json, bad_shape, key_fault, key_fault_in, no_version, bad_path, damaged, limit, not_frontier, spec_differs, bad_csv, bad_text, PlainFault, refused, folder_fault, out_fault, in_fault, memory}
-use Rattle.xarch_words.specs.Lines.{fault_line, refusal_status}
+use Rattle.xarch_words.specs.Commands.{PlainCommand}
+use Rattle.xarch_words.specs.Refusal.{Refusal, PlainFault, refused, folder_fault, out_fault, in_fault, memory}
+use Rattle.xarch_words.specs.Lines.{refusal_status}
 use Rattle.xarch_parts.specs.Outcome.{Outcome, Step, output_of, step_from}
 use Rattle.xarch_parts.specs.Ends.{EndsGained, Gained, HasItsCause}
-use Rattle.xarch_meanings.specs.ByWords.{ByWords}
-use Rattle.xarch_meanings.specs.Ran.{GainsBy, MayHaveWritten, status_after, line_after, outside_of, Says}
+use Rattle.xarch_meanings.specs.Ran.{GainsBy, MayHaveWritten, Ran, status_after, line_after, outside_of, Says}
 use Rattle.xarch_parts.specs.Allowed.{MayEnd, MayEndLate, PutSome}
 use Rattle.xarch_meanings.specs.Plausible.{MayComeLate, MayDo, Plausible, Tried, Wrote, step_behind}
 use Rattle.xarch_meanings.specs.CommandLaws.{met-status}
 use Rattle.xarch_meanings.specs.PlausibleLaws.{behind-none}
-use Rattle.xarch_meanings.specs.Step.{Defines, StepIs, alone, single_of}
+use Rattle.xarch_meanings.specs.Step.{Defines, StepIs, single_of}
 use Rattle.xarch_parts.specs.AllowedLaws.{MayEnd-refused}
+use Rattle.xarch_run.proofs.Statuses.{outside_of-refusal}
 
--- ---- statuses
-
--- no refusal has the status of a fault of the outside
-outside_of-refusal : (r : Refusal) → outside_of (refusal_status r) ≡ None
-outside_of-refusal usage = refl
-outside_of-refusal (no_file n) = refl
-outside_of-refusal (exists n) = refl
-outside_of-refusal (bad_spec l w) = refl
-outside_of-refusal bad_json = refl
-outside_of-refusal (bad_shape p w) = refl
-outside_of-refusal (key_fault f) = refl
-outside_of-refusal (key_fault_in i f) = refl
-outside_of-refusal (no_version i n) = refl
-outside_of-refusal (bad_path n) = refl
-outside_of-refusal (damaged n) = refl
-outside_of-refusal (limit q n) = refl
-outside_of-refusal not_frontier = refl
-outside_of-refusal (spec_differs one two) = refl
-outside_of-refusal (bad_csv r w) = refl
-outside_of-refusal bad_text = refl
-
--- 2 is the status of words that are no command
-refusal_2 : (r : Refusal) → refusal_status r ≡ 2 → r ≡ usage
-refusal_2 usage e = refl
-refusal_2 (no_file n) e = absurd (omega (arith, e))
-refusal_2 (exists n) e = absurd (omega (arith, e))
-refusal_2 (bad_spec l w) e = absurd (omega (arith, e))
-refusal_2 bad_json e = absurd (omega (arith, e))
-refusal_2 (bad_shape p w) e = absurd (omega (arith, e))
-refusal_2 (key_fault f) e = absurd (omega (arith, e))
-refusal_2 (key_fault_in i f) e = absurd (omega (arith, e))
-refusal_2 (no_version i n) e = absurd (omega (arith, e))
-refusal_2 (bad_path n) e = absurd (omega (arith, e))
-refusal_2 (damaged n) e = absurd (omega (arith, e))
-refusal_2 (limit q n) e = absurd (omega (arith, e))
-refusal_2 not_frontier e = absurd (omega (arith, e))
-refusal_2 (spec_differs one two) e = absurd (omega (arith, e))
-refusal_2 (bad_csv r w) e = absurd (omega (arith, e))
-refusal_2 bad_text e = absurd (omega (arith, e))
-
-refusal_some : (r : Refusal) (A : Type 0) → refusal_status r ≡ 0 → A
-refusal_some usage A e = absurd (omega (arith, e))
-refusal_some (no_file n) A e = absurd (omega (arith, e))
-refusal_some (exists n) A e = absurd (omega (arith, e))
-refusal_some (bad_spec l w) A e = absurd (omega (arith, e))
-refusal_some bad_json A e = absurd (omega (arith, e))
-refusal_some (bad_shape p w) A e = absurd (omega (arith, e))
-refusal_some (key_fault f) A e = absurd (omega (arith, e))
-refusal_some (key_fault_in i f) A e = absurd (omega (arith, e))
-refusal_some (no_version i n) A e = absurd (omega (arith, e))
-refusal_some (bad_path n) A e = absurd (omega (arith, e))
-refusal_some (damaged n) A e = absurd (omega (arith, e))
-refusal_some (limit q n) A e = absurd (omega (arith, e))
-refusal_some not_frontier A e = absurd (omega (arith, e))
-refusal_some (spec_differs one two) A e = absurd (omega (arith, e))
-refusal_some (bad_csv r w) A e = absurd (omega (arith, e))
-refusal_some bad_text A e = absurd (omega (arith, e))
-
--- ---- from the end of a command
-
-to_usage : (e : Option PlainFault) → status_after e ≡ 2 → e ≡ Some (refused usage)
-to_usage None h = absurd (omega (arith, h))
-to_usage (Some (refused r)) h = ap (λ s. Some (refused s)) (refusal_2 r h)
-to_usage (Some folder_fault) h = absurd (omega (arith, h))
-to_usage (Some out_fault) h = absurd (omega (arith, h))
-to_usage (Some in_fault) h = absurd (omega (arith, h))
-to_usage (Some memory) h = absurd (omega (arith, h))
-
-pub status_after-usage : (e : Option PlainFault) → (status_after e ≡ 2) ↔ (e ≡ Some (refused usage))
-status_after-usage e = (to_usage e, λ h. ap status_after h)
-
--- what does not answer 0 has a fault
-pub failed-some : (e : Option PlainFault) → status_after e ≢ 0 → IsSome e
-failed-some None h = absurd (h refl)
-failed-some (Some v) h = refl
+-- ---- causes
 
 -- a status of the outside is none of a refusal
 refusal_never : (r : Refusal) (n : ℕ) (v : PlainFault) (A : Type 0) → outside_of n ≡ Some v → refusal_status r ≡ n → A
@@ -116,15 +42,6 @@ out_fault-caused a b c d (Some out_fault) p h = p
 out_fault-caused a b c d (Some in_fault) p h = absurd p
 out_fault-caused a b c d (Some memory) p h = absurd (omega (arith, h))
 
-pub out_fault-only : (a b c d : ℕ) (e : Option PlainFault) → HasItsCause a b c d e → status_after e ≡ 14 → e ≡ Some out_fault
-unfolding HasItsCause
-out_fault-only a b c d None p h = absurd (omega (arith, h))
-out_fault-only a b c d (Some (refused r)) p h = refusal_never r 14 out_fault (Some (refused r) ≡ Some out_fault) refl h
-out_fault-only a b c d (Some folder_fault) p h = absurd (omega (arith, h))
-out_fault-only a b c d (Some out_fault) p h = refl
-out_fault-only a b c d (Some in_fault) p h = absurd p
-out_fault-only a b c d (Some memory) p h = absurd (omega (arith, h))
-
 pub status_after-input : (a b c d : ℕ) (e : Option PlainFault) → HasItsCause a b c d e → status_after e ≢ 15
 unfolding HasItsCause
 status_after-input a b c d None p h = omega (arith, h)
@@ -146,26 +63,6 @@ output_from files (Err r) old new p = p
 -- From what is known of words: what they may do is what is defined, where that is.
 module _ (one_outcome : (files : Files) (words : List (List ℕ)) (r s : Result Outcome Refusal) → Defines files words r → MayDo files (single_of words) s → s ≡ r)
     (one_step : (files : Files) (words : List (List ℕ)) (s t : Step) → StepIs files words s → Plausible files words t → s ≡ t) where
-  -- what should succeed does, where no count rose
-  complete-end : (files : Files) (words : List (List ℕ)) (s : Step) (e : Option PlainFault) (after : Option Files) (old new : Taken) (a b c d : ℕ) → StepIs files words s
-      → MayEnd (MayDo files (single_of words)) e after old new → HasItsCause a b c d e → s.status ≡ 0 → ¬ Rose a b → ¬ Rose c d → (status_after e ≡ 0) ⊎ (status_after e ≡ 16)
-  unfolding MayEnd HasItsCause
-  complete-end files words s None after old new a b c d is ends cause zero folder out = inl refl
-  complete-end files words s (Some (refused r)) after old new a b c d is ends cause zero folder out =
-      let same : Err r ≡ is.outcome = one_outcome files words is.outcome (Err r) is.defined ends.may in
-      let status : refusal_status r ≡ 0 = ap (λ (o : Result Outcome Refusal). (step_from files o).status) same ∙ sym (ap (λ (x : Step). x.status) is.is) ∙ zero in
-      refusal_some r ((refusal_status r ≡ 0) ⊎ (refusal_status r ≡ 16)) status
-  complete-end files words s (Some folder_fault) after old new a b c d is ends cause zero folder out = absurd (folder cause)
-  complete-end files words s (Some out_fault) after old new a b c d is ends cause zero folder out = absurd (out cause)
-  complete-end files words s (Some in_fault) after old new a b c d is ends cause zero folder out = absurd cause
-  complete-end files words s (Some memory) after old new a b c d is ends cause zero folder out = inr refl
-
-  pub complete-from : (files : Files) (words : List (List ℕ)) (s : Step) (e : Option PlainFault) (after : Option Files) (old new : Taken) (a b c d : ℕ) → StepIs files words s
-      → MayEndLate (MayComeLate files (single_of words)) (MayDo files (single_of words)) e after old new → HasItsCause a b c d e → s.status ≡ 0 → ¬ Rose a b → ¬ Rose c d → (status_after e ≡ 0) ⊎ (status_after e ≡ 16)
-  complete-from files words s e after old new a b c d is ends cause zero folder out =
-      let plain = late-end (MayComeLate files (single_of words)) (MayDo files (single_of words)) e after old new ends in
-      complete-end files words s e after old plain.0 a b c d is plain.1 cause zero folder out
-
   -- where it is no fault of the outside, a step is taken that may be taken
   Tried-end : (files : Files) (words : List (List ℕ)) (e : Option PlainFault) (before after : Option Files) (old new err_old err_new : Taken) (p q : ℕ) → before ≡ Some files → (IsSome e → after ≡ before)
       → MayEnd (MayDo files (single_of words)) e after old new → Says err_old err_new p q (line_after e) → outside_of (status_after e) ≡ None → Tried files words (status_after e) after old new err_old err_new p q
@@ -283,18 +180,23 @@ pub Says-from : {T E : Type 0} (old new : Taken) (before now : ℕ) (r : Result 
 Says-from old new before now (Ok u) line p q = record { prefix = TakesPrefix-all old new line p; whole = λ _. p }
 Says-from old new before now (Err e) line p q = record { prefix = p; whole = λ not. absurd (not q.failed) }
 
--- what words alone refuse, of the command that they spell
-module _ (words : List (List ℕ)) (command : PlainCommand) (is : command_of words ≡ Some command) (ended : Option PlainFault) where
-  pub by_words-of : ByWords (single_of words) ended → ByWords (alone (Some command)) ended
-  by_words-of by = subst (λ (c : Option PlainCommand). ByWords (alone c) ended) is by
+-- ---- where no count of faults rises
 
--- the line of a fault that is known
-pub says-fault : (ended : Option PlainFault) (f : PlainFault) (old new : Taken) (before now : ℕ) → ended ≡ Some f → Says old new before now (line_after ended) → Says old new before now (fault_line f)
-says-fault ended f old new before now is says = subst (λ (v : Option PlainFault). Says old new before now (line_after v)) is says
+-- the defined step was taken, or memory ran out
+pub steady : (files : Files) (words : List (List ℕ)) (s : Step) (e : Option PlainFault) (after : Option Files) (old new err_old err_new : Taken) (p q a b c d : ℕ) → StepIs files words s
+    → (outside_of (status_after e) ≡ None → Tried files words (status_after e) after old new err_old err_new p q) → HasItsCause a b c d e → ¬ Rose a b → ¬ Rose c d
+    → (status_after e ≡ 16) ⊎ Ran s (status_after e) after old new err_old err_new p q
+unfolding HasItsCause
+steady files words s e after old new err_old err_new p q a b c d is tried cause folder out = by_end e cause tried
+  where
+    taken : (n : ℕ) → Tried files words n after old new err_old err_new p q → Ran s n after old new err_old err_new p q
+    taken n t = subst (λ (z : Step). Ran z n after old new err_old err_new p q) (sym (t.defined s is)) t.ran
 
--- one fault with its line, or another
-pub either-said : (ended : Option PlainFault) (f g : PlainFault) (answer : ℕ) (old new : Taken) (before now : ℕ)
-    → answer ≡ status_after ended → Says old new before now (line_after ended)
-    → (ended ≡ Some f) ⊎ (ended ≡ Some g) → ((answer ≡ status_after (Some f)) × Says old new before now (fault_line f)) ⊎ (answer ≡ status_after (Some g))
-either-said ended f g answer old new before now status says (inl e) = inl (status ∙ ap status_after e, says-fault ended f old new before now e says)
-either-said ended f g answer old new before now status says (inr e) = inr (status ∙ ap status_after e)
+    by_end : (v : Option PlainFault) → HasItsCause a b c d v → (outside_of (status_after v) ≡ None → Tried files words (status_after v) after old new err_old err_new p q)
+        → (status_after v ≡ 16) ⊎ Ran s (status_after v) after old new err_old err_new p q
+    by_end None cause tried = inr (taken 0 (tried refl))
+    by_end (Some (refused r)) cause tried = inr (taken (refusal_status r) (tried (outside_of-refusal r)))
+    by_end (Some folder_fault) cause tried = absurd (folder cause)
+    by_end (Some out_fault) cause tried = absurd (out cause)
+    by_end (Some in_fault) cause tried = absurd cause
+    by_end (Some memory) cause tried = inl refl

@@ -1,9 +1,11 @@
--- The statuses of refusals, none of which is one of the outside.
-use Rattle.std.proofs.Common.{◌≡◌, ◌≢◌, ◌⊎◌, inl, inr, ℕ, List, ◌==◌, ◌≤◌, Bool, true, false, cond, None, Some, refl, ap, arith}
+-- The statuses of faults, each of which tells some of them.
+use Rattle.std.proofs.Common.{◌≡◌, ◌≢◌, ◌⊎◌, inl, inr, ℕ, List, ◌==◌, ◌≤◌, Bool, true, false, cond, Option, None, Some, refl, ap, arith}
+use Rattle.std.specs.Prelude.{IsSome}
 use Rattle.std.proofs.lemmas.Bool.{eqb-true}
 use Rattle.xarch_words.specs.Lines.{refusal_status}
-use Rattle.xarch_words.specs.Refusal.{Refusal, usage, no_file, exists, bad_spec, bad_json, bad_shape, key_fault, key_fault_in, no_version, bad_path, damaged, limit, not_frontier, spec_differs, bad_csv, bad_text, folder_fault, out_fault, in_fault, memory}
-use Rattle.xarch_meanings.specs.Ran.{outside_of}
+use Rattle.xarch_words.specs.Refusal.{Refusal, usage, no_file, exists, bad_spec, bad_json, bad_shape, key_fault, key_fault_in, no_version, bad_path, damaged, limit, not_frontier, spec_differs, bad_csv, bad_text, PlainFault, refused, folder_fault, out_fault, in_fault, memory}
+use Rattle.xarch_meanings.specs.FillsUp.{IsLimited}
+use Rattle.xarch_meanings.specs.Ran.{outside_of, status_after}
 
 -- words that are no command have the status 2, and every other refusal a greater one
 by-status : (q : Refusal) → (q ≡ usage) ⊎ (3 ≤ refusal_status q)
@@ -100,3 +102,55 @@ outside_of-refusal q =
     let n = refusal_status q in
     none-of (n == 13) (n == 14) (n == 15) (n == 16) (other-number n 13 (never-outside q 13 (omega arith) (omega arith))) (other-number n 14 (never-outside q 14 (omega arith) (omega arith)))
     (other-number n 15 (never-outside q 15 (omega arith) (omega arith))) (other-number n 16 (never-outside q 16 (omega arith) (omega arith)))
+
+-- ---- the status of an end
+
+-- with 2 words end that are no command
+pub end-usage : (v : Option PlainFault) → status_after v ≡ 2 → v ≡ Some (refused usage)
+end-usage None two = absurd (omega (arith, two))
+end-usage (Some (refused q)) two = ap (λ r. Some (refused r)) (usage-only q two)
+end-usage (Some folder_fault) two = absurd (omega (arith, two))
+end-usage (Some out_fault) two = absurd (omega (arith, two))
+end-usage (Some in_fault) two = absurd (omega (arith, two))
+end-usage (Some memory) two = absurd (omega (arith, two))
+
+-- what does not end with 0 has a fault
+pub end-failed : (v : Option PlainFault) → status_after v ≢ 0 → IsSome v
+end-failed None some = absurd (some refl)
+end-failed (Some f) some = refl
+
+-- the status of a fault of the outside is that of no other
+pub end-outside : (v : Option PlainFault) (f : PlainFault) → outside_of (status_after v) ≡ Some f → v ≡ Some f
+end-outside None f h = cc
+end-outside (Some (refused r)) f h = let none = outside_of-refusal r in cc
+end-outside (Some folder_fault) f h = h
+end-outside (Some out_fault) f h = h
+end-outside (Some in_fault) f h = h
+end-outside (Some memory) f h = h
+
+-- 12 is the status of a limit
+limit-only : (q : Refusal) → refusal_status q ≡ 12 → IsLimited (Some (refused q))
+limit-only usage e = absurd (omega (arith, e))
+limit-only (no_file n) e = absurd (omega (arith, e))
+limit-only (exists n) e = absurd (omega (arith, e))
+limit-only (bad_spec l w) e = absurd (omega (arith, e))
+limit-only bad_json e = absurd (omega (arith, e))
+limit-only (bad_shape p w) e = absurd (omega (arith, e))
+limit-only (key_fault f) e = absurd (omega (arith, e))
+limit-only (key_fault_in i f) e = absurd (omega (arith, e))
+limit-only (no_version i n) e = absurd (omega (arith, e))
+limit-only (bad_path t) e = absurd (omega (arith, e))
+limit-only (damaged n) e = absurd (omega (arith, e))
+limit-only (limit q n) e = tt
+limit-only not_frontier e = absurd (omega (arith, e))
+limit-only (spec_differs one two) e = absurd (omega (arith, e))
+limit-only (bad_csv r w) e = absurd (omega (arith, e))
+limit-only bad_text e = absurd (omega (arith, e))
+
+pub end-limited : (v : Option PlainFault) → status_after v ≡ 12 → IsLimited v
+end-limited None e = absurd (omega (arith, e))
+end-limited (Some (refused q)) e = limit-only q e
+end-limited (Some folder_fault) e = absurd (omega (arith, e))
+end-limited (Some out_fault) e = absurd (omega (arith, e))
+end-limited (Some in_fault) e = absurd (omega (arith, e))
+end-limited (Some memory) e = absurd (omega (arith, e))

@@ -16,35 +16,28 @@ use Rattle.xarch_words.specs.Refusal.{Refusal, usage, damaged, line, limit, Plai
 use Rattle.xarch_words.specs.declared.limits.TheConstants.{DEMO, LINE}
 use Rattle.xarch_parts.specs.Ends.{Gained}
 use Rattle.xarch_parts.specs.Archives.{GoesOn, free_in}
+use Rattle.xarch_meanings.specs.ByWords.{ByWords}
 use Rattle.xarch_meanings.specs.Demo.{MakesOrNone}
 use Rattle.xarch_parts.specs.Outcome.{Outcome, Step, and_then, step_from}
 use Rattle.xarch_meanings.specs.Plausible.{IsLate, MayBe, MayDo, Plausible, Tried, Wrote, step_behind}
 use Rattle.xarch_meanings.specs.PlausibleLaws.{behind-none, late-three}
 use Rattle.xarch_meanings.specs.Ran.{IsLongDemo, MayHaveWritten, OnlyReads, Said, Says, line_after, outside_of, status_after}
-use Rattle.xarch_meanings.specs.Step.{alone, single_of}
-use Rattle.xarch_run.specs.Batch.{EndsTheBatch, Gains, IsPart, RunsOver, scene}
+use Rattle.xarch_meanings.specs.Step.{single_of}
+use Rattle.xarch_run.specs.Batch.{EndsTheBatch, IsPart, RunsOver, scene}
 use Rattle.xarch_run.specs.Lines.{is_blank, without_blanks}
 use Rattle.xarch_run.specs.Steps.{CommandAnswers, IsStep, LineAnswers, LineMay, MakesNone, MayFault, RefusesWith, SpelledAnswers, WordsAnswer, WordsMay, line_command, status_line}
-use Rattle.xarch_run.specs.Turns.{IsLastStatus, IsUntouched, LastStatus, LineFaults, LineRuns, LineStops, LineTakes, LineTried, LineWrote, NoStatus, NoWords, StatusComes, StatusEnds, StatusLost}
+use Rattle.xarch_run.specs.Turns.{IsLastStatus, IsSilent, IsUntouched, LastStatus, LineFaults, LineRuns, LineStops, LineTakes, LineTried, LineWrote, NoStatus, NoWords, StatusComes, StatusEnds, StatusLost}
 use Rattle.xarch_run.specs.Words.{words_of}
 use Rattle.xarch_run.proofs.Cuts.{without_blanks-blank, without_blanks-other}
-use Rattle.xarch_run.proofs.Runs.{Gains-trans, RunsOver-none, RunsOver-one}
-use Rattle.xarch_run.proofs.Statuses.{damage-only, outside_of-refusal, status-other, usage-only}
+use Rattle.xarch_run.proofs.Runs.{Gains-one, Gains-trans, RunsOver-none, RunsOver-one}
+use Rattle.xarch_run.proofs.Statuses.{damage-only, end-outside, end-usage, outside_of-refusal, status-other, usage-only}
 
 -- ---- statuses
-
-outside_fault : (v : Option PlainFault) (answer : ℕ) (f : PlainFault) → answer ≡ status_after v → outside_of answer ≡ Some f → v ≡ Some f
-outside_fault None answer f e h = let none : outside_of answer ≡ None = ap outside_of e in cc
-outside_fault (Some (refused r)) answer f e h = let none : outside_of answer ≡ None = ap outside_of e ∙ outside_of-refusal r in cc
-outside_fault (Some folder_fault) answer f e h = sym (ap outside_of e) ∙ h
-outside_fault (Some out_fault) answer f e h = sym (ap outside_of e) ∙ h
-outside_fault (Some in_fault) answer f e h = sym (ap outside_of e) ∙ h
-outside_fault (Some memory) answer f e h = sym (ap outside_of e) ∙ h
 
 -- the line of a fault of the outside
 said_outside : (answer : ℕ) (f : PlainFault) (e r : Taken) (x y : ℕ) → Said answer e r x y → outside_of answer ≡ Some f → Says e r x y (fault_line f)
 said_outside answer f e r x y said h =
-    subst (λ (v : Option PlainFault). Says e r x y (line_after v)) (outside_fault said.fault answer f said.status h) said.line
+    subst (λ (v : Option PlainFault). Says e r x y (line_after v)) (end-outside said.fault f (ap outside_of (sym said.status) ∙ h)) said.line
 
 -- which faults have their status lines
 record Kind (status : ℕ) (fault : PlainFault) : Type 0 where
@@ -302,30 +295,39 @@ pub record Judged (words : List (List ℕ)) (answer : ℕ) : Type 0 where
   pub only : answer ≡ 2 → single_of words ≡ None
   pub long : IsLongDemo (single_of words) → answer ≡ 12
 
--- such a demo is one by itself
-pub long-alone : (c : Option PlainCommand) (P : Type 0) → ((seed count : ℕ) (name : List ℕ) → c ≡ Some (demo seed count name) → DEMO < count → P) → IsLongDemo (alone c) → P
-long-alone None answer judged h = absurd h
-long-alone (Some (norm spec doc)) answer judged h = absurd h
-long-alone (Some (init archive spec)) answer judged h = absurd h
-long-alone (Some (add archive doc note)) answer judged h = absurd h
-long-alone (Some (rekey archive spec)) answer judged h = absurd h
-long-alone (Some (get archive i)) answer judged h = absurd h
-long-alone (Some (history archive path)) answer judged h = absurd h
-long-alone (Some (log archive path)) answer judged h = absurd h
-long-alone (Some (check archive)) answer judged h = absurd h
-long-alone (Some (stats archive)) answer judged h = absurd h
-long-alone (Some (versions archive)) answer judged h = absurd h
-long-alone (Some (export archive)) answer judged h = absurd h
-long-alone (Some (import text new)) answer judged h = absurd h
-long-alone (Some (cut archive new i j)) answer judged h = absurd h
-long-alone (Some (join one two new)) answer judged h = absurd h
-long-alone (Some (table csv tag keys doc)) answer judged h = absurd h
-long-alone (Some (tablekeys tag keys spec)) answer judged h = absurd h
-long-alone (Some batch) answer judged h = absurd h
-long-alone (Some (demo seed count archive)) answer judged h = judged seed count archive refl h
+-- such a `demo` is refused by its words
+long-ended : (c : Option PlainCommand) (ended : Option PlainFault) → ByWords c ended → IsLongDemo c → ended ≡ Some (refused (limit refusal.demo DEMO))
+long-ended None ended by h = absurd h
+long-ended (Some (norm spec doc)) ended by h = absurd h
+long-ended (Some (init archive spec)) ended by h = absurd h
+long-ended (Some (add archive doc note)) ended by h = absurd h
+long-ended (Some (rekey archive spec)) ended by h = absurd h
+long-ended (Some (get archive i)) ended by h = absurd h
+long-ended (Some (history archive path)) ended by h = absurd h
+long-ended (Some (log archive path)) ended by h = absurd h
+long-ended (Some (check archive)) ended by h = absurd h
+long-ended (Some (stats archive)) ended by h = absurd h
+long-ended (Some (versions archive)) ended by h = absurd h
+long-ended (Some (export archive)) ended by h = absurd h
+long-ended (Some (import text new)) ended by h = absurd h
+long-ended (Some (cut archive new i j)) ended by h = absurd h
+long-ended (Some (join one two new)) ended by h = absurd h
+long-ended (Some (table csv tag keys doc)) ended by h = absurd h
+long-ended (Some (tablekeys tag keys spec)) ended by h = absurd h
+long-ended (Some batch) ended by h = absurd h
+long-ended (Some (demo seed count archive)) ended by h = by h
 
-pub judged : (words : List (List ℕ)) (answer : ℕ) → (answer ≡ 2) ↔ (single_of words ≡ None) → (IsLongDemo (single_of words) → answer ≡ 12) → Judged words answer
-judged words answer is_usage long_demo = record { none = is_usage.1; only = is_usage.0; long = long_demo }
+-- from what a step of the words ended with
+module _ (words : List (List ℕ)) (answer : ℕ) (ended : Option PlainFault) (status : answer ≡ status_after ended) (by : ByWords (single_of words) ended) where
+  pub judged : (ended ≡ Some (refused usage)) ↔ (single_of words ≡ None) → Judged words answer
+  judged is_usage = record {
+    none = λ none. status ∙ ap status_after (is_usage.1 none);
+    only = λ two. is_usage.0 (end-usage ended (sym status ∙ two));
+    long = λ long. status ∙ ap status_after (long-ended (single_of words) ended by long);
+  }
+
+  pub long-says : (e r : Taken) (x y : ℕ) → Says e r x y (line_after ended) → IsLongDemo (single_of words) → Says e r x y (fault_line (refused (limit refusal.demo DEMO)))
+  long-says e r x y says long = subst (λ (v : Option PlainFault). Says e r x y (line_after v)) (long-ended (single_of words) ended by long) says
 
 -- a step of the words that has this answer
 answered : (words : List (List ℕ)) (answer : ℕ) (files : Files) (written : List ℕ) (r : Result Outcome Refusal) → (written ≡ []) ⊎ LateAnswer (single_of words) r → Judged words answer → answer ≡ (step_behind files written r).status
@@ -512,8 +514,8 @@ at_some : (f g : Option Files) (l : List ℕ) (answer : ℕ) (o p e r : Taken) (
 at_some f g l answer o p e r x y fault is k = subst (λ (v : Option PlainFault). MatchOption v (LineTried f g l answer o p e r x y) (λ fault. LineFaults f g l fault o p e r x y)) is k
 
 -- what was said before the status line stays
-calm : (e r : Taken) (x y z : ℕ) (d : List ℕ) → z ≡ y → Says e r x y d → ¬ Rose x z → Takes e r d
-calm e r x y z d same says h = says.whole (subst (λ n. ¬ Rose x n) same h)
+says-still : (e r t : Taken) (x y z : ℕ) (d : List ℕ) → IsSilent r t y z → Says e r x y d → Says e t x z d
+says-still e r t x y z d silent says = subst (λ (u : Taken). Says e u x z d) (sym silent.taken) (subst (λ n. Says e r x n d) (sym silent.faults) says)
 
 -- a blank line was skipped
 pub runs-blank : (f g : Option Files) (o e : Taken) (x : ℕ) (l : List ℕ) → is_blank l ≡ true → g ≡ f → RunsOver (scene f g o o e e x x) (without_blanks (l ∷ [])) []
@@ -527,8 +529,7 @@ runs-took f g o p q e r t x y z l status other took came =
     let s = k.step in
     let written : Takes o q (s.output ++ status_line s.status) = subst (λ n. Takes o q (s.output ++ status_line n)) k.ran.status (Takes-trans o p q s.output (status_line status) k.ran.output came.output) in
     let one =
-    RunsOver-one f g o q e t x z l s k.may (λ a b _ now. k.ran.files b now) written
-    (λ h. subst (λ (u : Taken). Takes e u s.line) (sym came.silent.taken) (calm e r x y z s.line came.silent.faults k.ran.line h)) in
+    RunsOver-one f g o q e t x z l s k.may (λ a b _ now. k.ran.files b now) written (says-still e r t x y z s.line came.silent k.ran.line) in
     subst (λ (m : List (List ℕ)). RunsOver (scene f g o q e t x z) m []) (sym (without_blanks-other l other)) one
 
 -- a write of the command failed
@@ -539,12 +540,9 @@ stops-write f g o p q e r t x y z l status answer took end =
     let w = part_of f g l o p k.wrote in
     record {
       written = w.part;
-      spoken = fault_line out_fault;
+      spoken = fault_line out_fault ∷ [];
       stops = inr (inl (record { status = end.same; spelled = k.spelled; front = w.front; line_is = refl; files_kept = k.kept }));
-      gains = record {
-        output = subst (λ (u : Taken). Takes o u w.part) (sym end.output) w.takes;
-        line = λ h. subst (λ (u : Taken). Takes e u (fault_line out_fault)) (sym end.silent.taken) (calm e r x y z (fault_line out_fault) end.silent.faults k.said h);
-      };
+      gains = Gains-one f g o q e t x z w.part (fault_line out_fault) (subst (λ (u : Taken). Takes o u w.part) (sym end.output) w.takes) (says-still e r t x y z (fault_line out_fault) end.silent k.said);
     }
 
 -- the status line of a fault came
@@ -555,7 +553,7 @@ stops-fault f g o p q e r t x y z l status answer fault is kind took end =
     let w = part_of f g l o p k.wrote in
     record {
       written = w.part ++ status_line status;
-      spoken = fault_line fault;
+      spoken = fault_line fault ∷ [];
       stops = inl (record {
         fault = fault;
         spelled = k.spelled;
@@ -567,10 +565,7 @@ stops-fault f g o p q e r t x y z l status answer fault is kind took end =
         line_is = refl;
         files_kept = k.kept;
       });
-      gains = record {
-        output = Takes-trans o p q w.part (status_line status) w.takes end.output;
-        line = λ h. subst (λ (u : Taken). Takes e u (fault_line fault)) (sym end.silent.taken) (calm e r x y z (fault_line fault) end.silent.faults k.said h);
-      };
+      gains = Gains-one f g o q e t x z (w.part ++ status_line status) (fault_line fault) (Takes-trans o p q w.part (status_line status) w.takes end.output) (says-still e r t x y z (fault_line fault) end.silent k.said);
     }
 
 -- the status line did not come
@@ -580,11 +575,11 @@ stops-lost f g o p q e r t x y z m n l status answer None first second no_in is 
     let k = at_none f g l status o p e r x y is took in
     let s = k.step in
     let c = end.output.count in
-    let before : Gains (scene f g o p e r x y) s.output s.line = record { output = k.ran.output; line = k.ran.line.whole } in
-    let now : Gains (scene g g p q r t y z) (take c (status_line status)) (fault_line out_fault) = record { output = end.output.takes; line = end.line.whole } in
+    let before = Gains-one f g o p e r x y s.output s.line k.ran.output k.ran.line in
+    let now = Gains-one g g p q r t y z (take c (status_line status)) (fault_line out_fault) end.output.takes end.line in
     record {
       written = s.output ++ take c (status_line status);
-      spoken = s.line ++ fault_line out_fault;
+      spoken = s.line ∷ fault_line out_fault ∷ [];
       stops = inr (inr (inl (record {
         status = end.is;
         step = s;
@@ -594,18 +589,18 @@ stops-lost f g o p q e r t x y z m n l status answer None first second no_in is 
         line_is = refl;
         files_now = λ a b _ told. k.ran.files b told;
       })));
-      gains = Gains-trans f g g g f g o p q e r t x y z s.output (take c (status_line status)) s.line (fault_line out_fault) first second before now;
+      gains = Gains-trans f g g g f g o p q e r t x y z s.output (take c (status_line status)) (s.line ∷ []) (fault_line out_fault ∷ []) first second before now;
     }
 stops-lost f g o p q e r t x y z m n l status answer (Some fault) first second no_in is took end =
     let k = at_some f g l status o p e r x y fault is took in
     let w = part_of f g l o p k.wrote in
     let kind = kind_of status fault is end.other no_in in
     let c = end.output.count in
-    let before : Gains (scene f g o p e r x y) w.part (fault_line fault) = record { output = w.takes; line = k.said.whole } in
-    let now : Gains (scene g g p q r t y z) (take c (status_line status)) (fault_line out_fault) = record { output = end.output.takes; line = end.line.whole } in
+    let before = Gains-one f g o p e r x y w.part (fault_line fault) w.takes k.said in
+    let now = Gains-one g g p q r t y z (take c (status_line status)) (fault_line out_fault) end.output.takes end.line in
     record {
       written = w.part ++ take c (status_line status);
-      spoken = fault_line fault ++ fault_line out_fault;
+      spoken = fault_line fault ∷ fault_line out_fault ∷ [];
       stops = inr (inr (inr (record {
         status = end.is;
         fault = fault;
@@ -618,7 +613,7 @@ stops-lost f g o p q e r t x y z m n l status answer (Some fault) first second n
         line_is = refl;
         files_kept = k.kept;
       })));
-      gains = Gains-trans f g g g f g o p q e r t x y z w.part (take c (status_line status)) (fault_line fault) (fault_line out_fault) first second before now;
+      gains = Gains-trans f g g g f g o p q e r t x y z w.part (take c (status_line status)) (fault_line fault ∷ []) (fault_line out_fault ∷ []) first second before now;
     }
 
 last_kind : (status : ℕ) → (status ≡ 13) ⊎ (status ≡ 16) → (fault : PlainFault) × (outside_of status ≡ Some fault) × Kind status fault
@@ -644,12 +639,9 @@ runs-unread f g o p e r t x y z answer same is says =
     record {
       status = is;
       files = same.files;
-      gains = record {
-        output = subst (λ (u : Taken). Takes o u []) (sym same.output) (Takes-nil o);
-        line = λ calm.
-            let quiet : ¬ Rose y z = subst (λ n. ¬ Rose n z) (sym same.faults) calm in
-            subst (λ (u : Taken). Takes u t (fault_line memory)) same.error (says.whole quiet);
-      };
+      gains =
+          Gains-one f g o p e t x z [] (fault_line memory) (subst (λ (u : Taken). Takes o u []) (sym same.output) (Takes-nil o))
+          (subst (λ (u : Taken). Says u t x z (fault_line memory)) same.error (subst (λ n. Says r t n z (fault_line memory)) same.faults says));
     }
 
 -- the status with which a line ends the batch

@@ -1,10 +1,11 @@
 -- How a batch ends.
 use Rattle.std.specs.Prelude.{◌≡◌, ◌⊎◌, ℕ, ◌<◌, ◌≤◌, List, [], ◌∷◌, ◌++◌, length, take, Option, Some, None}
 use Rattle.std.specs.Io.KnownBytes.{Consumes}
+use Rattle.std.specs.List.{concat}
 use Rattle.xa_outside.specs.Causes.{Rose}
 use Rattle.xa_outside.specs.Filled.{ConsumesSome}
 use Rattle.xa_outside.specs.Folder.{Files}
-use Rattle.xa_outside.specs.Taken.{Taken, Takes}
+use Rattle.xa_outside.specs.Taken.{Taken, Takes, TakesNone, TakesPrefix}
 use Rattle.xarch_words.specs.Lines.{fault_line, fault_status}
 use Rattle.xarch_words.specs.Refusal.{batch, limit, PlainFault, refused, folder_fault, out_fault, in_fault, memory}
 use Rattle.xarch_words.specs.declared.limits.TheConstants.{BATCH}
@@ -33,14 +34,26 @@ scene before now o p e f m n =
 abbrev pub shown : {F O E : Type 0} → (F → Option Files) → (O → Taken) → (E → Taken) → (E → ℕ) → F → F → O → O → E → E → Scene
 shown files taken said faults f g o p e r = scene (files f) (files g) (taken o) (taken p) (said e) (said r) (faults e) (faults r)
 
--- what the output gained, and the error sink where it did not fail
-pub record Gains (w : Scene) (written spoken : List ℕ) : Type 0 where
+-- a prefix of this line was said, and then this
+pub record SaysThen (old : Taken) (line : List ℕ) (Rest : Taken → Type 0) : Type 0 where
+  pub between : Taken
+  pub first : TakesPrefix old between line
+  pub rest : Rest between
+
+-- of each line, in order, a prefix was said
+abbrev pub SaysEach : Taken → Taken → List (List ℕ) → Type 0
+SaysEach old new [] = TakesNone old new
+SaysEach old new (line ∷ lines) = SaysThen old line (λ between. SaysEach between new lines)
+
+-- What the output gained, and the error sink: these lines where it did not fail, and a prefix of each in any case.
+pub record Gains (w : Scene) (written : List ℕ) (spoken : List (List ℕ)) : Type 0 where
   pub output : Takes w.out_before w.out_now written
-  pub line : ¬ Rose w.count_before w.count_now → Takes w.err_before w.err_now spoken
+  pub line : ¬ Rose w.count_before w.count_now → Takes w.err_before w.err_now (concat spoken)
+  pub pieces : SaysEach w.err_before w.err_now spoken
 
 -- Each line was run, from the files that the one before left. Output and error sink gained what the steps write and say, and
--- the error sink then this.
-pub record RunsOver (w : Scene) (lines : List (List ℕ)) (spoken : List ℕ) : Type 0 where
+-- the error sink then these lines.
+pub record RunsOver (w : Scene) (lines spoken : List (List ℕ)) : Type 0 where
   pub steps : List Step
   pub are : AreSteps w.files_before w.files_now lines steps
   pub gains : Gains w (outs steps) (lines_said steps ++ spoken)
@@ -63,7 +76,7 @@ abbrev pub EndsTheBatch : PlainFault → Type 0
 EndsTheBatch fault = (fault ≡ folder_fault) ⊎ (fault ≡ memory)
 
 -- The command answered a fault, whose status line came.
-pub record CommandFaults (before now : Option Files) (line : List ℕ) (answer : ℕ) (written spoken : List ℕ) : Type 0 where
+pub record CommandFaults (before now : Option Files) (line : List ℕ) (answer : ℕ) (written : List ℕ) (spoken : List (List ℕ)) : Type 0 where
   pub fault : PlainFault
   pub spelled : MayFault line
   pub kind : EndsTheBatch fault
@@ -71,29 +84,29 @@ pub record CommandFaults (before now : Option Files) (line : List ℕ) (answer :
   pub part : List ℕ
   pub front : IsPart before now line part
   pub output : written ≡ part ++ status_line answer
-  pub line_is : spoken ≡ fault_line fault
+  pub line_is : spoken ≡ fault_line fault ∷ []
   pub files_kept : now ≡ before
 
 -- A write of the command failed.
-pub record WriteFails (before now : Option Files) (line : List ℕ) (answer : ℕ) (written spoken : List ℕ) : Type 0 where
+pub record WriteFails (before now : Option Files) (line : List ℕ) (answer : ℕ) (written : List ℕ) (spoken : List (List ℕ)) : Type 0 where
   pub status : answer ≡ 14
   pub spelled : MayFault line
   pub front : IsPart before now line written
-  pub line_is : spoken ≡ fault_line out_fault
+  pub line_is : spoken ≡ fault_line out_fault ∷ []
   pub files_kept : now ≡ before
 
 -- The command took its step, and the write of its status line failed.
-pub record StatusFails (before now : Option Files) (line : List ℕ) (answer : ℕ) (written spoken : List ℕ) : Type 0 where
+pub record StatusFails (before now : Option Files) (line : List ℕ) (answer : ℕ) (written : List ℕ) (spoken : List (List ℕ)) : Type 0 where
   pub status : answer ≡ 14
   pub step : Step
   pub may : IsStep before now line step
   pub count : ℕ
   pub output : written ≡ step.output ++ take count (status_line step.status)
-  pub line_is : spoken ≡ step.line ++ fault_line out_fault
+  pub line_is : spoken ≡ step.line ∷ fault_line out_fault ∷ []
   pub files_now : IfTold before now (λ f g. g ≡ step.files)
 
 -- The command answered a fault, and the write of its status line failed.
-pub record FaultStatusFails (before now : Option Files) (line : List ℕ) (answer : ℕ) (written spoken : List ℕ) : Type 0 where
+pub record FaultStatusFails (before now : Option Files) (line : List ℕ) (answer : ℕ) (written : List ℕ) (spoken : List (List ℕ)) : Type 0 where
   pub status : answer ≡ 14
   pub fault : PlainFault
   pub spelled : MayFault line
@@ -102,11 +115,11 @@ pub record FaultStatusFails (before now : Option Files) (line : List ℕ) (answe
   pub front : IsPart before now line part
   pub count : ℕ
   pub output : written ≡ part ++ take count (status_line (fault_status fault))
-  pub line_is : spoken ≡ fault_line fault ++ fault_line out_fault
+  pub line_is : spoken ≡ fault_line fault ∷ fault_line out_fault ∷ []
   pub files_kept : now ≡ before
 
 -- How a line ends the batch with this answer: the files before it and now, what the output gained, and what was said.
-abbrev pub Stops : Option Files → Option Files → List ℕ → ℕ → List ℕ → List ℕ → Type 0
+abbrev pub Stops : Option Files → Option Files → List ℕ → ℕ → List ℕ → List (List ℕ) → Type 0
 Stops before now line answer written spoken =
     CommandFaults before now line answer written spoken
     ⊎ (WriteFails before now line answer written spoken
@@ -139,7 +152,7 @@ pub record InputTooLong (w : Scene) (bytes : List ℕ) (answer : ℕ) : Type 0 w
   pub is : bytes ≡ front ++ behind
   pub full : length front ≡ BATCH
   pub more : 0 < length behind
-  pub over : RunsOver w (ended_lines_of front) (fault_line (refused (limit batch BATCH)))
+  pub over : RunsOver w (ended_lines_of front) (fault_line (refused (limit batch BATCH)) ∷ [])
 
 -- A read failed, and the lines were run that an LF ends among the bytes read.
 pub record ReadFailed (w : Scene) (bytes : List ℕ) (rest : Option (List ℕ)) (answer : ℕ) : Type 0 where
@@ -147,7 +160,7 @@ pub record ReadFailed (w : Scene) (bytes : List ℕ) (rest : Option (List ℕ)) 
   pub front : List ℕ
   pub consumed : Consumes (Some bytes) rest front
   pub few : length front ≤ BATCH
-  pub over : RunsOver w (ended_lines_of front) (fault_line in_fault)
+  pub over : RunsOver w (ended_lines_of front) (fault_line in_fault ∷ [])
 
 -- The batch itself found no memory.
 pub record NoMemory (w : Scene) (bytes : List ℕ) (answer : ℕ) : Type 0 where
@@ -156,7 +169,7 @@ pub record NoMemory (w : Scene) (bytes : List ℕ) (answer : ℕ) : Type 0 where
   pub behind : List (List ℕ)
   pub is : lines_of bytes ≡ lines ++ behind
   pub read : AreRead bytes lines
-  pub over : RunsOver w lines (fault_line memory)
+  pub over : RunsOver w lines (fault_line memory ∷ [])
 
 -- The lines in front of this one were run, and it ended the batch. All of them were read. Files that were not told between are not told now.
 pub record StoppedAt (w : Scene) (bytes : List ℕ) (answer : ℕ) : Type 0 where
@@ -171,7 +184,7 @@ pub record StoppedAt (w : Scene) (bytes : List ℕ) (answer : ℕ) : Type 0 wher
   pub untold : between ≡ None → w.files_now ≡ None
   pub are : AreSteps w.files_before between lines steps
   pub written : List ℕ
-  pub spoken : List ℕ
+  pub spoken : List (List ℕ)
   pub stops : Stops between w.files_now line answer written spoken
   pub gains : Gains w (outs steps ++ written) (lines_said steps ++ spoken)
 

@@ -39,7 +39,7 @@ abbrev pub call_of : List (List ℕ) → List ℕ → ℕ → Call
 call_of words input answer = record { words = words; input = input; answer = answer }
 
 -- The words had the program take a step, which was answered.
-pub record StepTaken (files : Files) (call : Call) (now : Files) (commands : List (Option PlainCommand)) (steps : List Step) : Type 0 where
+pub record Stepped (files : Files) (call : Call) (now : Files) (commands : List (Option PlainCommand)) (steps : List Step) : Type 0 where
   pub single : command_of call.words ≢ Some batch
   pub step : Step
   pub may : Plausible files call.words step
@@ -49,7 +49,7 @@ pub record StepTaken (files : Files) (call : Call) (now : Files) (commands : Lis
   pub is : steps ≡ step ∷ []
 
 -- A fault of the outside, or want of memory: no command took its step, and no file changed.
-pub record StepFailed (files : Files) (call : Call) (now : Files) (commands : List (Option PlainCommand)) (steps : List Step) : Type 0 where
+pub record Faulted (files : Files) (call : Call) (now : Files) (commands : List (Option PlainCommand)) (steps : List Step) : Type 0 where
   pub single : command_of call.words ≢ Some batch
   pub fault : IsSome (outside_of call.answer)
   pub left : now ≡ files
@@ -71,8 +71,8 @@ pub record LinesRun (files : Files) (call : Call) (now : Files) (commands : List
 -- The commands of one call, the steps that they took, and the files that the call left.
 abbrev pub CallDid : Files → Call → Files → List (Option PlainCommand) → List Step → Type 0
 CallDid files call now commands steps =
-    StepTaken files call now commands steps
-    ⊎ (StepFailed files call now commands steps
+    Stepped files call now commands steps
+    ⊎ (Faulted files call now commands steps
     ⊎ LinesRun files call now commands steps)
 
 -- what it did are some commands

@@ -9,6 +9,7 @@ pub mod Steps
 pub mod Batch
 pub mod Stays
 pub mod Tabled
+pub mod StepTaken
 pub mod Calls
 pub mod Held
 pub mod Turns

@@ -1,5 +1,5 @@
 -- The steps that the lines of a batch have the program take.
-use Rattle.std.specs.Prelude.{◌≡◌, ◌≢◌, ◌⊎◌, ℕ, List, [], ◌∷◌, ◌++◌, length, nat_lt, MatchBool, Option, Some, None, IsSome, option_and_then, Err, codes, if◌then◌else◌, ⊤}
+use Rattle.std.specs.Prelude.{◌≡◌, ◌≢◌, ◌⊎◌, ℕ, List, [], ◌∷◌, ◌++◌, length, map, nat_lt, MatchBool, Option, Some, None, IsSome, option_and_then, Err, codes, if◌then◌else◌, ⊤}
 use Rattle.std.specs.Fmt.{decimal}
 use Rattle.std.specs.List.{flat_map}
 use Rattle.xa_outside.specs.Folder.{Files}
@@ -140,9 +140,9 @@ pub record IsStep (before now : Option Files) (l : List ℕ) (s : Step) : Type 0
   pub may : IfTold before now (λ f g. LineMay f l s)
   pub kept : MakesNone l s → now ≡ before
 
--- what they write, and what they say
+-- what they write, and the lines that they say
 abbrev pub outs : List Step → List ℕ
 outs steps = flat_map turn_text steps
 
-abbrev pub lines_said : List Step → List ℕ
-lines_said steps = flat_map (λ s. s.line) steps
+abbrev pub lines_said : List Step → List (List ℕ)
+lines_said steps = map (λ s. s.line) steps

@@ -97,12 +97,12 @@ StatusEnds status old new err_old err_new before now out_before out_now (Err ans
 pub record NoWords (w : Scene) (answer : ℕ) : Type 0 where
   pub status : answer ≡ 16
   pub files : w.files_now ≡ w.files_before
-  pub gains : Gains w [] (fault_line memory)
+  pub gains : Gains w [] (fault_line memory ∷ [])
 
 -- the line ended the batch
 pub record LineStops (w : Scene) (line : List ℕ) (answer : ℕ) : Type 0 where
   pub written : List ℕ
-  pub spoken : List ℕ
+  pub spoken : List (List ℕ)
   pub stops : Stops w.files_before w.files_now line answer written spoken
   pub gains : Gains w written spoken
 

@@ -10,11 +10,15 @@ ghost use Rattle.keyed_tree.specs.Kids.{IsOrdered};
 ghost use Rattle.archive_tree.specs.Stands.{version_of};
 ghost use Rattle.archive_file.specs.KeyedBy.{IsKeyedBy};
 ghost use Rattle.xarch_words.specs.Commands.{AreForTable, PlainCommand, add, check, cut, export, get, history, import, join, key_names, log, rekey, stats, table, tablekeys, versions};
+ghost use Rattle.xarch_words.specs.Refusal as refusal;
+ghost use Rattle.xarch_words.specs.Refusal.{PlainFault};
 ghost use Rattle.xarch_words.specs.declared.limits.TheConstants.{DOCUMENT};
 ghost use Rattle.xarch_meanings.specs.Check.{checked};
+ghost use Rattle.xarch_meanings.specs.FillsUp.{IsLimited};
 ghost use Rattle.xarch_meanings.specs.Get.{version_text};
 ghost use Rattle.xarch_meanings.specs.History.{history_text};
 ghost use Rattle.xarch_meanings.specs.Log.{logged};
+ghost use Rattle.xarch_meanings.specs.Ran.{outside_of, status_after};
 ghost use Rattle.xarch_meanings.specs.Table.{keys_tabled, tabled};
 ghost use Rattle.xarch_meanings.specs.Versions.{listed};
 ghost use Rattle.xarch_parts.specs.Outcome.{Step, step_from};
@@ -216,3 +220,13 @@ pub fn tables_make_documents_by_their_keys()
     tables_read_back();
     tables_satisfy_their_keys();
 }
+
+/// Which faults a status tells: 2 that the words are no command, 12 a limit, and each from 13 to 16
+/// one fault of the outside, or want of memory. It does nothing.
+pub fn statuses_tell_faults()
+    ensures usage { (ended : Option PlainFault) → status_after ended ≡ 2
+        → ended ≡ Some (refusal.refused refusal.usage) }
+    ensures limit { (ended : Option PlainFault) → status_after ended ≡ 12 → IsLimited ended }
+    ensures outside { (ended : Option PlainFault) (fault : PlainFault)
+        → outside_of (status_after ended) ≡ Some fault → ended ≡ Some fault }
+{}

@@ -15,7 +15,9 @@ mod turn;
 mod words;
 
 pub use answers::say;
-pub use laws::{archives_hold_what_was_handed_in, tables_make_documents_by_their_keys};
+pub use laws::{
+    archives_hold_what_was_handed_in, statuses_tell_faults, tables_make_documents_by_their_keys,
+};
 pub use program::run;
 pub use step::take_step;
 pub use xarch_words::{Command, Fault, Quantity, read_words, status, write_fault};

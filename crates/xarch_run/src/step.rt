@@ -1,30 +1,16 @@
 #![tactic(auto, using(xarch_parts::specs::EndLaws::endings))]
 
-ghost use Rattle.std.specs.Prelude.{◌≡◌, ◌≢◌, ◌≤◌, ◌<◌, ◌↔◌, ◌⊎◌, ℕ, List, Some, None, IfSome, length, option_map};
-ghost use Rattle.xa_outside.specs.Causes.{Rose};
-ghost use Rattle.xa_outside.specs.Folder.{Files};
-ghost use Rattle.xa_outside.specs.Taken.{TakesNone};
-ghost use Rattle.csv_tables.specs.Keys.{table_rules};
-ghost use Rattle.key_spec.specs.Canonical.{canonical};
-ghost use Rattle.version_notes.specs.declared.limits.TheConstants.{LONGEST_NOTE};
-ghost use Rattle.xarch_words.specs.Commands.{IsSpelled, PlainCommand, add, command_of, demo, key_names, tablekeys};
-ghost use Rattle.xarch_words.specs.Lines.{fault_line};
-ghost use Rattle.xarch_words.specs.Refusal as refusal;
-ghost use Rattle.xarch_words.specs.Refusal.{limit, out_fault, refused};
+ghost use Rattle.std.specs.Prelude.{◌≡◌, ◌≢◌, ◌≤◌, Some, IfSome, option_map};
+ghost use Rattle.xarch_words.specs.Commands.{IsSpelled};
+ghost use Rattle.xarch_words.specs.Refusal.{out_fault};
 ghost use Rattle.xarch_words.specs.View.{command_view, words_view};
-ghost use Rattle.xarch_words.specs.declared.limits.TheConstants.{DEMO, SPECIFICATION};
-ghost use Rattle.xarch_parts.specs.Ends.{Gained, fault_of};
-ghost use Rattle.xarch_parts.specs.Folders.{IsTold};
-ghost use Rattle.xarch_parts.specs.Outcome.{Step};
-ghost use Rattle.xarch_meanings.specs.OnePass.{GoesOnce};
-ghost use Rattle.xarch_meanings.specs.Performs.{Performs};
-ghost use Rattle.xarch_meanings.specs.Plausible.{Tried, Wrote};
-ghost use Rattle.xarch_meanings.specs.Ran.{CountsAsSaid, IsSilent, MayHaveWritten, OnlyReads, Said, Says, line_after, outside_of, status_after};
-ghost use Rattle.xarch_meanings.specs.ReadsBack.{ReadsLittle};
-ghost use Rattle.xarch_meanings.specs.Step.{StepIs, alone, single_of};
-ghost use Rattle.xarch_meanings.specs.Succeeds.{ShouldSucceed};
+ghost use Rattle.xarch_parts.specs.Ends.{fault_of};
 ghost use Rattle.xarch_meanings.specs.FillsUp.{FillsUp, IsLimited};
+ghost use Rattle.xarch_meanings.specs.Performs.{Performs};
+ghost use Rattle.xarch_meanings.specs.Ran.{IsSilent, Says, line_after, status_after};
+ghost use Rattle.xarch_meanings.specs.Step.{alone, single_of};
 ghost use Rattle.xarch_run.specs.Obeys.{Obeys};
+ghost use Rattle.xarch_run.specs.StepTaken.{StepTaken};
 
 use std::alloc::Global;
 use xa_outside::{Folder, Sink};
@@ -50,88 +36,10 @@ pub fn take_step<F: Folder, O: Sink, E: Sink>(
     out: &mut O,
     err: &mut E,
 ) -> u8
-    // What is done where files are told: one of the steps that the words may have the program take,
-    // and the one that is defined where the archive that they name is absent or sound. Status,
-    // files, output and line are that step's, but after a fault of the outside, which leaves a
-    // prefix of its output. A refusal has no output, but where a `get`, a `log` or a `versions` meets
-    // damage while it writes.
-    ensures tried { (files : Files) → F.files folder.old ≡ Some files → outside_of result ≡ None
-        → Tried files (words_view words.now) result (F.files folder.new) (O.taken out.old)
-        (O.taken out.new) (E.taken err.old) (E.taken err.new) (E.faults err.old)
-        (E.faults err.new) }
-    ensures wrote { (files : Files) → F.files folder.old ≡ Some files
-        → Wrote files (words_view words.now) (O.taken out.old) (O.taken out.new) }
-
-    // What is written whatever the folder tells: nothing where a command is refused, but for a `get`,
-    // a `log` or a `versions` that meets damage while it writes.
-    ensures gained { Gained (O.taken out.old) (O.taken out.new) }
-    ensures nothing { result ≢ 0 → outside_of result ≡ None
-        → ¬ MayHaveWritten (single_of (words_view words.now)) result
-        → TakesNone (O.taken out.old) (O.taken out.new) }
-
-    // What should succeed does: in conditions on the files, and wherever a step is defined.
-    ensures succeeds { (files : Files) (command : PlainCommand) → F.files folder.old ≡ Some files
-        → command_of (words_view words.now) ≡ Some command → ShouldSucceed files command
-        → ¬ Rose (F.faults folder.old) (F.faults folder.new)
-        → ¬ Rose (O.faults out.old) (O.faults out.new) → (result ≡ 0) ⊎ (result ≡ 16) }
-    ensures complete { (files : Files) (s : Step) → F.files folder.old ≡ Some files
-        → StepIs files (words_view words.now) s → s.status ≡ 0
-        → ¬ Rose (F.faults folder.old) (F.faults folder.new)
-        → ¬ Rose (O.faults out.old) (O.faults out.new) → (result ≡ 0) ⊎ (result ≡ 16) }
-
-    // Whatever the folder tells, the answer is 0 or the status of a fault, whose line is said.
-    ensures said { Said result (E.taken err.old) (E.taken err.new) (E.faults err.old)
-        (E.faults err.new) }
-
-    // When a fault comes, whatever the folder tells.
-    ensures usage { (result ≡ 2) ↔ (single_of (words_view words.now) ≡ None) }
-    ensures long_demo { (seed count : ℕ) (name : List ℕ)
-        → command_of (words_view words.now) ≡ Some (demo seed count name) → DEMO < count
-        → (result ≡ 12) × Says (E.taken err.old) (E.taken err.new) (E.faults err.old)
-        (E.faults err.new) (fault_line (refused (limit refusal.demo DEMO))) }
-    ensures long_note { (archive doc note : List ℕ)
-        → command_of (words_view words.now) ≡ Some (add archive doc note)
-        → LONGEST_NOTE < length note
-        → ((result ≡ 12) × Says (E.taken err.old) (E.taken err.new) (E.faults err.old)
-        (E.faults err.new) (fault_line (refused (limit refusal.note LONGEST_NOTE))))
-        ⊎ (result ≡ 13) }
-    ensures long_keys { (tag keys spec : List ℕ)
-        → command_of (words_view words.now) ≡ Some (tablekeys tag keys spec)
-        → SPECIFICATION < length (canonical (table_rules tag (key_names keys)))
-        → ((result ≡ 12) × Says (E.taken err.old) (E.taken err.new) (E.faults err.old)
-        (E.faults err.new) (fault_line (refused (limit refusal.specification SPECIFICATION))))
-        ⊎ (result ≡ 16) }
-    ensures folder_fault { result ≡ 13 → Rose (F.faults folder.old) (F.faults folder.new) }
-    ensures out_fault { result ≡ 14 → Rose (O.faults out.old) (O.faults out.new) }
-    ensures silent { IsSilent (single_of (words_view words.now)) → result ≢ 14 }
-    ensures never_input_fault { result ≢ 15 }
-
-    // What stays: all files after a fault, and files and draft where the command only reads.
-    ensures refused { result ≢ 0 → F.files folder.new ≡ F.files folder.old }
-    ensures files { OnlyReads (single_of (words_view words.now))
-        → F.files folder.new ≡ F.files folder.old }
-    ensures draft { OnlyReads (single_of (words_view words.now))
-        → F.draft folder.new ≡ F.draft folder.old }
-    ensures untold { F.files folder.old ≡ None → F.files folder.new ≡ None }
-    ensures draft_untold { F.draft folder.old ≡ None → F.draft folder.new ≡ None }
-    ensures told { IsTold (F.files folder.old) (F.draft folder.old)
-        → IsTold (F.files folder.new) (F.draft folder.new) }
-
-    // What is pulled and drafted, when an archive would be too long, and that no count of faults
-    // falls.
-    ensures counts { CountsAsSaid (single_of (words_view words.now)) (F.files folder.old)
-        (F.numbers folder.old) (F.numbers folder.new) }
-    ensures one_pass { GoesOnce (single_of (words_view words.now)) (F.files folder.old)
-        (F.numbers folder.old) (F.numbers folder.new) (result ≡ 13) }
-    ensures fills { FillsUp (single_of (words_view words.now)) (F.files folder.old)
-        (F.draft folder.new) (result ≡ 12) }
-    ensures little { ReadsLittle (single_of (words_view words.now)) (F.files folder.old)
-        (F.numbers folder.old) (F.numbers folder.new) }
-    ensures folder_later { F.faults folder.old ≤ F.faults folder.new }
-    ensures out_later { O.faults out.old ≤ O.faults out.new }
-    ensures err_later { E.faults err.old ≤ E.faults err.new }
+    ensures step { StepTaken F.files F.draft F.numbers F.faults O.taken O.faults E.taken E.faults
+        (words_view words.now) folder.old folder.new out.old out.new err.old err.new result }
 {
-    // Laws, for the proofs of `tried`, `wrote`, `complete` and `succeeds`.
+    // Laws, for the proofs of `tried`, `wrote`, `steady` and `succeeds`.
     commands_take_one_step();
     what_should_succeed_is_not_refused();
     let ended = command_words(alloc, words, folder, out);

@@ -1,10 +1,9 @@
 use Rattle.std.proofs.Common.{◌≡◌, length, nat_lt, true, false, Some, None, option_map, refl, sym, ap, ◌∙◌}
-use Rattle.xarch_words.specs.Commands.{command_of}
 use Rattle.xarch_words.specs.Refusal.{line, limit, usage}
 use Rattle.xarch_words.specs.View.{words_view}
 use Rattle.xarch_words.specs.declared.limits.TheConstants.{LINE}
 use Rattle.xarch_run.specs.Words.{words_of}
-use Rattle.xarch_run.proofs.TurnLemmas.{judged, long-alone, long-step, none-step, takes-refused, takes-step}
+use Rattle.xarch_run.proofs.TurnLemmas.{judged, long-says, long-step, none-step, takes-refused, takes-step}
 use Rattle.xarch_run.proofs.turn.take_line.Goals as goal
 
 pub returns-then-is_too_long-clause-takes : goal.returns-then-is_too_long-clause-takes
@@ -24,5 +23,6 @@ returns-in-Some-clause-takes g c = λ bytes s.
     let is : words_of bytes ≡ Some (words_view c.deref.result.now) =
     ap words_of (sym (c.bytes.ensures bytes s short)) ∙ sym c.in_ok-read_line_words.ensures ∙ ap (option_map (λ v. words_view v.items)) c.in-Some.is ∙ ap (λ l. Some (words_view l)) (sym c.deref.ensures.value) in
     let k = c.take_step.ensures in
-    let long = long-alone (command_of (words_view c.deref.result.now)) _ k.long_demo in
-    takes-step _ _ bytes (words_view c.deref.result.now) c.take_step.result _ _ _ _ _ _ short is (judged _ c.take_step.result k.usage (λ h. (long h).0)) k.untold k.tried k.wrote k.said k.gained k.nothing k.refused k.files (λ h. (long h).1)
+    let words = words_view c.deref.result.now in
+    takes-step _ _ bytes words c.take_step.result _ _ _ _ _ _ short is (judged words c.take_step.result k.ended k.status k.by_words k.usage) k.untold k.tried k.wrote (record { fault = k.ended; status = k.status; line = k.line }) k.gained k.nothing k.refused k.files
+    (long-says words c.take_step.result k.ended k.status k.by_words _ _ _ _ k.line)
