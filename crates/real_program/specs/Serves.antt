@@ -8,6 +8,7 @@ use Rattle.xarch_words.specs.Refusal.{PlainFault, refused, usage, memory}
 use Rattle.xarch_parts.specs.Ends.{Gained}
 use Rattle.xarch_meanings.specs.Plausible.{Tried}
 use Rattle.xarch_meanings.specs.Ran.{MayHaveWritten, Said, outside_of}
+use Rattle.xarch_meanings.specs.Step.{single_of}
 use Rattle.xarch_run.specs.Batch.{BatchEnds, IsAnswer, Scene}
 use Rattle.xarch_run.specs.Calls.{DidCommands, call_of}
 
@@ -36,7 +37,7 @@ pub record Runs (words : List (List ℕ)) (w : Scene) (n : Counts) (answer : ℕ
   pub batch_answer : command_of words ≡ Some batch → IsAnswer n.folder_before n.folder_now n.input_before n.input_now n.out_before n.out_now answer
   pub said : command_of words ≢ Some batch → Said answer w.err_before w.err_now w.count_before w.count_now
   pub gained : command_of words ≢ Some batch → Gained w.out_before w.out_now
-  pub nothing : command_of words ≢ Some batch → answer ≢ 0 → outside_of answer ≡ None → ¬ MayHaveWritten (command_of words) answer → TakesNone w.out_before w.out_now
+  pub nothing : command_of words ≢ Some batch → answer ≢ 0 → outside_of answer ≡ None → ¬ MayHaveWritten (single_of words) answer → TakesNone w.out_before w.out_now
   pub usage_only : (answer ≡ 2) ↔ (command_of words ≡ None)
   pub folder_fault : answer ≡ 13 → Rose n.folder_before n.folder_now
   pub out_fault : answer ≡ 14 → Rose n.out_before n.out_now

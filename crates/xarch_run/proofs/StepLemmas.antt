@@ -1,5 +1,5 @@
 -- What was done for the words of one command, from what its command did and what was said.
-use Rattle.std.proofs.Common.{◌≡◌, ◌≢◌, ◌⊎◌, inl, inr, ◌≤◌, ℕ, List, Option, Some, Result, Err, refl, sym, ◌∙◌, subst}
+use Rattle.std.proofs.Common.{◌≡◌, ◌≢◌, ◌⊎◌, inl, inr, ◌≤◌, ℕ, List, Option, Some, None, Result, Err, refl, sym, ◌∙◌, subst}
 use Rattle.xa_outside.specs.Causes.{Rose}
 use Rattle.xa_outside.specs.Folder.{Files}
 use Rattle.xa_outside.specs.Numbers.{Numbers}
@@ -8,8 +8,8 @@ use Rattle.xarch_words.specs.Commands.{PlainCommand}
 use Rattle.xarch_words.specs.Refusal.{Refusal, PlainFault, out_fault}
 use Rattle.xarch_parts.specs.Outcome.{Outcome, Step}
 use Rattle.xarch_meanings.specs.FillsUp.{FillsUp, IsLimited}
-use Rattle.xarch_meanings.specs.Plausible.{MayBe, MayDo, Plausible}
-use Rattle.xarch_meanings.specs.Ran.{IsSilent, Says, line_after, status_after}
+use Rattle.xarch_meanings.specs.Plausible.{MayBe, MayDo, Plausible, Tried}
+use Rattle.xarch_meanings.specs.Ran.{IsSilent, Says, line_after, outside_of, status_after}
 use Rattle.xarch_meanings.specs.Step.{Defines, StepIs, alone, single_of}
 use Rattle.xarch_meanings.specs.Succeeds.{ShouldSucceed}
 use Rattle.xarch_run.specs.Obeys.{Obeys}
@@ -30,7 +30,7 @@ module _ {F O E : Type 0} (files : F → Option Files) (draft : F → Option (Li
       → Says (spoken e) (spoken r) (err_faults e) (err_faults r) (line_after ended) → err_faults e ≤ err_faults r
       → StepTaken files draft numbers faults taken out_faults spoken err_faults words f g o p e r (status_after ended)
   step-by one_outcome one_step never single ended obeys fills silent says later =
-      let tries = λ (told : Files) there. Tried-from one_outcome one_step told words ended (files f) (files g) (taken o) (taken p) (spoken e) (spoken r) (err_faults e) (err_faults r) there obeys.refused_same (obeys.may told there) says in
+      let tries : (told : Files) → files f ≡ Some told → outside_of (status_after ended) ≡ None → Tried told words (status_after ended) (files g) (taken o) (taken p) (spoken e) (spoken r) (err_faults e) (err_faults r) = λ told there. Tried-from one_outcome one_step told words ended (files f) (files g) (taken o) (taken p) (spoken e) (spoken r) (err_faults e) (err_faults r) there obeys.refused_same (obeys.may told there) says in
       record {
         ended = ended;
         status = refl;

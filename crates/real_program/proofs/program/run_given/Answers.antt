@@ -3,7 +3,22 @@ use Rattle.real_program.proofs.program.run_given.Goals as goal
 
 pub returns-clause-ran : goal.returns-clause-ran
 returns-clause-ran g c =
-    record { batch_ends = c.run.ensures.batch; did = c.run.ensures.did; tried = c.run.ensures.tried; batch_answer = c.run.ensures.batch_answer; said = c.run.ensures.said; gained = c.run.ensures.gained; nothing = c.run.ensures.nothing; usage_only = c.run.ensures.usage; folder_fault = c.run.ensures.folder_fault; out_fault = c.run.ensures.out_fault; input_fault = c.run.ensures.input_fault; kept = c.run.ensures.refused; untold = c.run.ensures.untold }
+    let e = c.run.ensures in
+    record {
+      batch_ends = e.batch;
+      did = e.did;
+      tried = λ files other. (e.step other).tried files;
+      batch_answer = e.batch_answer;
+      said = λ other. (let k = e.step other in record { fault = k.ended; status = k.status; line = k.line });
+      gained = λ other. (e.step other).gained;
+      nothing = λ other. (e.step other).nothing;
+      usage_only = e.usage;
+      folder_fault = e.folder_fault;
+      out_fault = e.out_fault;
+      input_fault = e.input_fault;
+      kept = λ other. (e.step other).refused;
+      untold = e.untold;
+    }
 
 pub returns-clause-status : goal.returns-clause-status
-returns-clause-status g c = answer-is _ _ _ _ _ _ _ _ _ _ _ _ c.run.ensures.said c.run.ensures.batch_answer
+returns-clause-status g c = answer-is _ _ _ _ _ _ _ _ _ _ _ _ (λ other. (let k = c.run.ensures.step other in record { fault = k.ended; status = k.status; line = k.line })) c.run.ensures.batch_answer

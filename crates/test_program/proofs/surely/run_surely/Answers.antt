@@ -10,4 +10,4 @@ status-of answer s (inl e) = inl e
 status-of answer s (inr ran) = inr ran.status
 
 pub returns : goal.returns
-returns c = record { answers = λ files s other told is. status-of c.run.result s (c.run.ensures.steady files s other told is (λ rose. omega (arith, rose)) (λ rose. omega (arith, rose))) }
+returns c = record { answers = λ files s other told is. status-of c.run.result s ((c.run.ensures.step other).steady files s told is (λ rose. omega (arith, rose)) (λ rose. omega (arith, rose))) }

@@ -65,7 +65,7 @@ returns-then-is_batch-clause-folder_later g c = c.run_batch.ensures.folder.later
 -- ---- any other command
 
 pub returns-else-is_batch-clause-step : goal.returns-else-is_batch-clause-step
-returns-else-is_batch-clause-step g c = λ _. c.take_step.ensures
+returns-else-is_batch-clause-step g c = λ _. c.take_step.ensures.step
 
 pub returns-else-is_batch-clause-batch : goal.returns-else-is_batch-clause-batch
 returns-else-is_batch-clause-batch g c = λ bytes is. absurd (fails _ _ c.if-is_batch.false c.is_batch.ensures is)
@@ -81,37 +81,37 @@ returns-else-is_batch-clause-batch_reads g c = λ bytes is. absurd (fails _ _ c.
 
 pub returns-else-is_batch-clause-did : goal.returns-else-is_batch-clause-did
 returns-else-is_batch-clause-did g c = λ before now bytes told after _.
-    let k = c.take_step.ensures in
+    let k = c.take_step.ensures.step in
     single-did before now (call_of (words_view c.args.words.now) bytes c.take_step.result) _ _ _ _ _ _ _ after (fails _ _ c.if-is_batch.false c.is_batch.ensures) (k.tried before told) (λ other. k.refused other ∙ told)
 
 pub returns-else-is_batch-clause-usage : goal.returns-else-is_batch-clause-usage
 returns-else-is_batch-clause-usage g c =
-    let k = c.take_step.ensures in
+    let k = c.take_step.ensures.step in
     (λ two. none-alone (command_of (words_view c.args.words.now)) (k.usage.0 (end-usage k.ended (sym k.status ∙ two))) (fails _ _ c.if-is_batch.false c.is_batch.ensures), λ none. k.status ∙ ap status_after (k.usage.1 (ap alone none)))
 
 pub returns-else-is_batch-clause-folder_fault : goal.returns-else-is_batch-clause-folder_fault
-returns-else-is_batch-clause-folder_fault g c = λ is. (let k = c.take_step.ensures in folder_fault-caused _ _ _ _ k.ended k.cause (sym k.status ∙ is))
+returns-else-is_batch-clause-folder_fault g c = λ is. (let k = c.take_step.ensures.step in folder_fault-caused _ _ _ _ k.ended k.cause (sym k.status ∙ is))
 
 pub returns-else-is_batch-clause-out_fault : goal.returns-else-is_batch-clause-out_fault
-returns-else-is_batch-clause-out_fault g c = λ is. (let k = c.take_step.ensures in out_fault-caused _ _ _ _ k.ended k.cause (sym k.status ∙ is))
+returns-else-is_batch-clause-out_fault g c = λ is. (let k = c.take_step.ensures.step in out_fault-caused _ _ _ _ k.ended k.cause (sym k.status ∙ is))
 
 pub returns-else-is_batch-clause-input_fault : goal.returns-else-is_batch-clause-input_fault
-returns-else-is_batch-clause-input_fault g c = λ is. (let k = c.take_step.ensures in absurd (status_after-input _ _ _ _ k.ended k.cause (sym k.status ∙ is)))
+returns-else-is_batch-clause-input_fault g c = λ is. (let k = c.take_step.ensures.step in absurd (status_after-input _ _ _ _ k.ended k.cause (sym k.status ∙ is)))
 
 pub returns-else-is_batch-clause-told : goal.returns-else-is_batch-clause-told
-returns-else-is_batch-clause-told g c = c.take_step.ensures.told
+returns-else-is_batch-clause-told g c = c.take_step.ensures.step.told
 
 pub returns-else-is_batch-clause-untold : goal.returns-else-is_batch-clause-untold
-returns-else-is_batch-clause-untold g c = c.take_step.ensures.untold
+returns-else-is_batch-clause-untold g c = c.take_step.ensures.step.untold
 
 pub returns-else-is_batch-clause-draft_untold : goal.returns-else-is_batch-clause-draft_untold
-returns-else-is_batch-clause-draft_untold g c = c.take_step.ensures.draft_untold
+returns-else-is_batch-clause-draft_untold g c = c.take_step.ensures.step.draft_untold
 
 pub returns-else-is_batch-clause-folder_later : goal.returns-else-is_batch-clause-folder_later
-returns-else-is_batch-clause-folder_later g c = c.take_step.ensures.folder_later
+returns-else-is_batch-clause-folder_later g c = c.take_step.ensures.step.folder_later
 
 pub returns-else-is_batch-clause-out_later : goal.returns-else-is_batch-clause-out_later
-returns-else-is_batch-clause-out_later g c = c.take_step.ensures.out_later
+returns-else-is_batch-clause-out_later g c = c.take_step.ensures.step.out_later
 
 pub returns-else-is_batch-clause-err_later : goal.returns-else-is_batch-clause-err_later
-returns-else-is_batch-clause-err_later g c = c.take_step.ensures.err_later
+returns-else-is_batch-clause-err_later g c = c.take_step.ensures.step.err_later
