@@ -1,4 +1,3 @@
-pub mod Filling
 pub mod Obeying
 pub mod Running
 pub mod StepLemmas

@@ -10,8 +10,10 @@ use Rattle.xarch_parts.specs.AllowedLaws.{MayEnd-stopped, gained-none}
 use Rattle.xarch_parts.specs.EndLaws.{HasItsCause-command, IsOfCommand-usage}
 use Rattle.xarch_parts.specs.Ends.{HasItsCause, IsCaused}
 use Rattle.xarch_meanings.specs.CommandLaws.{only_makes_none}
+use Rattle.xarch_meanings.specs.FillsUp.{FillsUp, IsLimited}
 use Rattle.xarch_meanings.specs.Performs.{Performs}
 use Rattle.xarch_meanings.specs.Plausible.{MayDo}
+use Rattle.xarch_meanings.specs.Ran.{IsSilent}
 use Rattle.xarch_run.specs.Obeys.{Obeys}
 
 -- what was done beside an output that never failed is no fault of the output
@@ -42,6 +44,8 @@ module _ {S : Type 0} (files : S → Option Files) (draft : S → Option (List �
     one_pass = tt;
     little = tt;
     gained = inl (gained-none (Some (refused usage)) t);
+    fills = tt;
+    silent = λ s is. absurd cc;
   }
 
   pub obeys-none : (c : Option PlainCommand) (s : S) (t : Taken) (n : ℕ) → c ≡ None → IsMeter (numbers s) → Obeys files draft numbers faults c s s t t n n (Some (refused usage))
@@ -49,8 +53,9 @@ module _ {S : Type 0} (files : S → Option Files) (draft : S → Option (List �
 
   module _ (command : PlainCommand) (s t : S) (old new : Taken) (before now : ℕ) (e : Option PlainFault) where
     -- a command is done
-    obeys-some : Performs files draft numbers faults command s t old new before now e → Obeys files draft numbers faults (Some command) s t old new before now e
-    obeys-some p = record {
+    obeys-some : Performs files draft numbers faults command s t old new before now e → FillsUp (Some command) (files s) (draft t) (IsLimited e) → (IsSilent (Some command) → e ≢ Some out_fault)
+        → Obeys files draft numbers faults (Some command) s t old new before now e
+    obeys-some p fills silent = record {
       usage = (λ is. absurd (IsOfCommand-usage _ _ _ _ e p.caused.cause is), λ none. cc);
       by_words = p.by_words;
       cause = HasItsCause-command _ _ _ _ e p.caused.cause;
@@ -67,7 +72,10 @@ module _ {S : Type 0} (files : S → Option Files) (draft : S → Option (List �
       one_pass = p.one_pass;
       little = p.little;
       gained = p.gained;
+      fills = fills;
+      silent = silent;
     }
 
-    pub obeys-command : (c : Option PlainCommand) → c ≡ Some command → Performs files draft numbers faults command s t old new before now e → Obeys files draft numbers faults c s t old new before now e
-    obeys-command c is p = subst (λ (o : Option PlainCommand). Obeys files draft numbers faults o s t old new before now e) (sym is) (obeys-some p)
+    pub obeys-command : (c : Option PlainCommand) → c ≡ Some command → Performs files draft numbers faults command s t old new before now e → FillsUp (Some command) (files s) (draft t) (IsLimited e) → (IsSilent (Some command) → e ≢ Some out_fault)
+        → Obeys files draft numbers faults c s t old new before now e
+    obeys-command c is p fills silent = subst (λ (o : Option PlainCommand). Obeys files draft numbers faults o s t old new before now e) (sym is) (obeys-some p fills silent)

@@ -1,18 +1,19 @@
 -- What was done for some words, whatever the folder tells.
-use Rattle.std.specs.Prelude.{◌≡◌, ◌↔◌, ◌≤◌, ℕ, List, Option, Some, None, IsSome}
+use Rattle.std.specs.Prelude.{◌≡◌, ◌≢◌, ◌↔◌, ◌≤◌, ℕ, List, Option, Some, None, IsSome}
 use Rattle.xa_outside.specs.Folder.{Files}
 use Rattle.xa_outside.specs.Numbers.{Numbers}
 use Rattle.xa_outside.specs.Taken.{Taken}
 use Rattle.xarch_words.specs.Commands.{PlainCommand}
 use Rattle.xarch_words.specs.Refusal as refusal
-use Rattle.xarch_words.specs.Refusal.{PlainFault, folder_fault, refused}
+use Rattle.xarch_words.specs.Refusal.{PlainFault, folder_fault, out_fault, refused}
 use Rattle.xarch_parts.specs.Allowed.{MayEndLate}
 use Rattle.xarch_parts.specs.Ends.{HasItsCause}
 use Rattle.xarch_parts.specs.Folders.{IsTold}
 use Rattle.xarch_meanings.specs.ByWords.{ByWords}
+use Rattle.xarch_meanings.specs.FillsUp.{FillsUp, IsLimited}
 use Rattle.xarch_meanings.specs.OnePass.{GoesOnce}
 use Rattle.xarch_meanings.specs.Plausible.{MayComeLate, MayDo}
-use Rattle.xarch_meanings.specs.Ran.{CountsAsSaid, GainsBy, OnlyReads}
+use Rattle.xarch_meanings.specs.Ran.{CountsAsSaid, GainsBy, IsSilent, OnlyReads}
 use Rattle.xarch_meanings.specs.ReadsBack.{ReadsLittle}
 
 -- The command that the words spell by themselves was done, or they spell none and are refused. The folder was `s` before and is `t` now, the output had
@@ -35,3 +36,5 @@ pub record Obeys {S : Type 0} (files : S → Option Files) (draft : S → Option
   pub one_pass : GoesOnce c (files s) (numbers s) (numbers t) (ended ≡ Some folder_fault)
   pub little : ReadsLittle c (files s) (numbers s) (numbers t)
   pub gained : GainsBy c ended old new
+  pub fills : FillsUp c (files s) (draft t) (IsLimited ended)
+  pub silent : IsSilent c → ended ≢ Some out_fault

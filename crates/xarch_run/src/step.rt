@@ -56,10 +56,6 @@ fn command_words<F: Folder, O: Sink>(
     ensures obeys { Obeys F.files F.draft F.numbers F.faults (single_of (words_view words.now))
         folder.old folder.new (O.taken out.old) (O.taken out.new)
         (O.faults out.old) (O.faults out.new) (fault_of result) }
-    ensures fills { FillsUp (single_of (words_view words.now)) (F.files folder.old)
-        (F.draft folder.new) (IsLimited (fault_of result)) }
-    ensures silent { IsSilent (single_of (words_view words.now))
-        → fault_of result ≢ Some out_fault }
 {
     match single_command(words) {
         None => Err(Fault::Usage),
