@@ -2,5 +2,8 @@ pub mod Rows
 pub mod Keys
 pub mod InPlaceLaws
 pub mod Alone
+pub mod Kept
+pub mod Openings
+pub mod RowLaws
 pub mod SoundFiles
 pub mod Waits

@@ -32,7 +32,7 @@ module _ (m : PlainLabel) (x : Awaited) where
   step-is : (l : PlainLabel) → l ≡ m → step m x l ≡ Some x
   step-is l e = ap (λ b. cond b (Some x) None) ((label_cmp-is_eq l m).1 e)
 
-  is-step : (l : PlainLabel) → IsTrue (is_some (step m x l)) → l ≡ m
+  pub is-step : (l : PlainLabel) → IsTrue (is_some (step m x l)) → l ≡ m
   is-step l h = elim (is_eq (label_cmp l m)) as (λ b. is_eq (label_cmp l m) ≡ b → IsTrue (is_some (cond b (Some x) None)) → l ≡ m) [
     | true ↦ λ e g. (label_cmp-is_eq l m).0 e
     | false ↦ λ e g. absurd (true≢false (sym g))

@@ -1,8 +1,12 @@
 //! What holds of each node of a sound archive, said of the node in its place.
 #![tactic(auto)]
 
+mod frame;
+mod label;
 mod laws;
+mod stamp;
 mod wait;
 
-pub use laws::nodes_are_sound_in_their_place;
+pub use frame::{Frame, Leaf};
+pub use laws::{nodes_are_sound_in_their_place, rows_are_right_kid_by_kid};
 pub use wait::{Wait, hand_all, waits_of};

@@ -1,5 +1,6 @@
 // What a node waits for, as it is lent.
-ghost use Rattle.std.specs.Prelude.{◌≡◌, [], map, string_bytes, IfOk};
+ghost use Rattle.std.specs.Prelude.{◌≡◌, ◌++◌, [], is_none, map, string_bytes, IfOk, OnOk};
+ghost use Rattle.std.specs.List.{list_all};
 ghost use Rattle.std.specs.Option.{option_map};
 ghost use Rattle.std.specs.Ordering.{is_eq};
 ghost use Rattle.key_spec.specs.View.{names_view, path_view};
@@ -108,12 +109,38 @@ pub fn hand_all<'a>(
         ≡ all_handed (shown_label label.now) (map wait_view waits.now)) }
 {
     let mut all = Vec::new(alloc);
+    hand_onto(&mut all, waits, label)?;
+    Ok(all)
+}
+
+// The same, behind what is there.
+pub(crate) fn hand_onto<'a>(
+    all: &mut Vec<Wait<'a>>,
+    waits: &[Wait<'a>],
+    label: &LabelView<'_>,
+) -> Result<(), AllocError>
+    ensures { OnOk result (map wait_view all.new.items ≡ map wait_view all.old.items
+        ++ all_handed (shown_label label.now) (map wait_view waits.now)) }
+{
     for wait in waits {
         if let Some(next) = wait.hand(label) {
             all.push(next)?;
         }
     }
-    Ok(all)
+    Ok(())
+}
+
+// Whether a kid with this label is handed nothing. It takes no memory.
+pub(crate) fn hands_nothing(waits: &[Wait<'_>], label: &LabelView<'_>) -> bool
+    ensures { result ≡ list_all (λ w. is_none (handed (shown_label label.now) w))
+        (map wait_view waits.now) }
+{
+    for wait in waits {
+        if wait.hand(label).is_some() {
+            return false;
+        }
+    }
+    true
 }
 
 /// What a node waits for by a rule with these key paths, if it has as many key values.

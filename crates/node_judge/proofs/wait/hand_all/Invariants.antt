@@ -1,8 +1,0 @@
-use Rattle.std.proofs.Common.{◌≡◌, ◌++◌, drop, map}
-use Rattle.record_parts.specs.ShownViews.{shown_label}
-use Rattle.node_judge.specs.Awaited.{all_handed}
-use Rattle.node_judge.specs.View.{wait_view}
-use Rattle.node_judge.proofs.wait.hand_all.Given as goal
-
-abbrev pub invariant-loop-wait : goal.invariant-loop-wait
-invariant-loop-wait l = all_handed (shown_label l.label) (map wait_view l.waits) ≡ map wait_view l.all.items ++ all_handed (shown_label l.label) (map wait_view (drop l.wait-index l.waits))
