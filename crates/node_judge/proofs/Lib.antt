@@ -1,5 +1,8 @@
 pub mod Rows
 pub mod Keys
+pub mod Differing
+pub mod Dividing
+pub mod HoldingLaws
 pub mod InPlaceLaws
 pub mod Alone
 pub mod Kept

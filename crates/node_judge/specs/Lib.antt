@@ -1,6 +1,9 @@
 pub mod Awaited
 pub mod FrameView
+pub mod HeldView
+pub mod Holding
 pub mod InPlace
+pub mod Neighbours
 pub mod Rows
 pub mod Steps
 pub mod View

@@ -34,7 +34,7 @@ pub struct Frame<'a> {
 #[derive(Drop)]
 pub struct Leaf<'a> {
     is_element: bool,
-    set: &'a VersionSet,
+    pub(crate) set: &'a VersionSet,
     left: u32,
     waits: Vec<Wait<'a>>,
 }

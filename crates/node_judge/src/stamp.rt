@@ -4,6 +4,7 @@ ghost use Rattle.std.specs.List.{list_all};
 ghost use Rattle.version_set.specs.Members.{members, has};
 ghost use Rattle.version_set.specs.View.{pairs_of};
 ghost use Rattle.archive_tree.specs.PartsTest.{is_none, is_same, is_stamp_well};
+ghost use Rattle.archive_tree.specs.Stands.{head_or};
 ghost use Rattle.archive_tree.specs.View.{stamp_view};
 
 use version_set::VersionSet;
@@ -42,4 +43,14 @@ fn is_empty(set: &VersionSet) -> bool
     ensures { result ≡ is_none (members (pairs_of set.now)) }
 {
     set.pairs().is_empty()
+}
+
+// The first number, 0 where there is none.
+pub(crate) fn first_number(set: &VersionSet) -> u32
+    ensures { result ≡ head_or 0 (members (pairs_of set.now)) }
+{
+    match set.pairs().first() {
+        Some(pair) => pair.0,
+        None => 0,
+    }
 }
