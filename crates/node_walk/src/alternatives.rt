@@ -30,7 +30,10 @@ pub(crate) fn read_alternatives<F: Folder>(
                 Ok(()) => {}
                 Err(_) => return Err(CursorFault::Memory),
             },
-            Owned::LeafEnd => return Ok(alternatives),
+            Owned::LeafEnd => {
+                alternatives.shrink_to_fit();
+                return Ok(alternatives);
+            }
             _ => return Err(CursorFault::Damage),
         }
     }

@@ -54,6 +54,7 @@ pub(crate) fn read_row<F: Folder>(
             }
             InRow::End { length } => {
                 judge_end(room, folder, name, cursor, set, &kids, length)?;
+                nodes.shrink_to_fit();
                 return Ok((nodes, length));
             }
         }

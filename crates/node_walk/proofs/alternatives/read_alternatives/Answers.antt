@@ -45,7 +45,7 @@ returns-in-LeafEnd g c =
     let s0 = at g c.args.folder.now c.args.cursor.now in
     let s = at g l.folder l.cursor in
     let t = at g c.next.new.folder c.next.new.cursor in
-    alternatives-ended s0 s t (map alt_view l.alternatives.items) l.invariant l.alternatives refl o.ensures.reads (given-as s t o.field-0 _ c.in-LeafEnd.is o.ensures)
+    alternatives-ended s0 s t (map alt_view l.alternatives.items) l.invariant c.shrink_to_fit.new.self (ap (map alt_view) c.shrink_to_fit.ensures.items) o.ensures.reads (given-as s t o.field-0 _ c.in-LeafEnd.is o.ensures)
 
 pub returns-in_default : goal.returns-in_default
 returns-in_default g c =

@@ -242,4 +242,4 @@ read_row-returns-in-End g t c =
     let m = at g c.read_in_row.new.folder c.read_in_row.new.cursor in
     let u = at g c.judge_end.new.folder c.read_in_row.new.cursor in
     let o = c.in_ok-node in
-    row-ended set s0 s m (map node_view l.nodes.items) (kids_view l.kids) l.invariant c.in-End.length (read-as set s m o.field-0 _ c.in-End.is o.ensures) u refl l.nodes refl c.requires.1.1.1.1.1.1 c.in_ok-judge_end-in-End.ensures
+    row-ended set s0 s m (map node_view l.nodes.items) (kids_view l.kids) l.invariant c.in-End.length (read-as set s m o.field-0 _ c.in-End.is o.ensures) u refl c.shrink_to_fit.new.self (ap (map node_view) c.shrink_to_fit.ensures.items) c.requires.1.1.1.1.1.1 c.in_ok-judge_end-in-End.ensures
