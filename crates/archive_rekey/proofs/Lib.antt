@@ -9,3 +9,4 @@ mod Sizes
 mod SpreadRows
 mod WrittenFile
 mod WrittenRows
+pub mod Few
