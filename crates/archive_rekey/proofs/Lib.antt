@@ -9,4 +9,3 @@ mod Sizes
 mod SpreadRows
 mod WrittenFile
 mod WrittenRows
-pub mod Few

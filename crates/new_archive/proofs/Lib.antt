@@ -10,4 +10,3 @@ pub mod Views
 pub mod AltRows
 pub mod Walks
 pub mod Covers
-pub mod Wovens

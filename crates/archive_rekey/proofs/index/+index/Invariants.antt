@@ -1,6 +1,6 @@
-use Rattle.std.proofs.Common.{◌≡◌, [], map, take}
-use Rattle.archive_tree.specs.View.{node_view, nodes_view}
-use Rattle.archive_rekey.specs.Index.{HaveFew, IsBelow, below_view}
+use Rattle.std.proofs.Common.{◌≡◌, map}
+use Rattle.archive_tree.specs.View.{node_view}
+use Rattle.archive_rekey.specs.Index.{IsBelow, below_view}
 use Rattle.archive_rekey.proofs.index.+index.Given as goal
 
 -- what was made is beside kids
@@ -8,5 +8,4 @@ abbrev pub invariant-index_kids-loop-node : goal.invariant-index_kids-loop-node
 invariant-index_kids-loop-node l = record {
   at : l.place ≡ l.node-index;
   below : IsBelow (below_view l.below.items) (map node_view l.nodes);
-  few : l.below.items ≡ [] → HaveFew (nodes_view (take l.node-index l.nodes));
 }

@@ -18,7 +18,7 @@ with_next-requires-clause-room c =
     omega (arith, few, last)
 
 pub with_next-requires-clause-index : goal.with_next-requires-clause-index
-with_next-requires-clause-index c = lent-index c.as_ref-beside.result c.in_ok-index.index (map node_view c.kids.result.now) (archive_view c.args.old.now).kids c.as_ref-beside.ensures.value c.kids.ensures.nodes c.in_ok-index.ensures.is
+with_next-requires-clause-index c = lent-index c.as_ref-beside.result c.in_ok-index.index (map node_view c.kids.result.now) (archive_view c.args.old.now).kids c.as_ref-beside.ensures.value c.kids.ensures.nodes c.in_ok-index.ensures
 
 pub returns-clause-archive : goal.returns-clause-archive
 returns-clause-archive c = λ vs is. (
