@@ -1,6 +1,6 @@
 -- The body of a version among the alternatives of a leaf.
 use Rattle.std.proofs.Common.{◌≡◌, ◌≢◌, ℕ, zero, suc, ◌+◌, ◌-◌, ◌<◌, ◌≤◌, true, false, true≢false, cond, List, [], ◌∷◌, ◌++◌, map, length, take, drop, get_or, set, Option, Some, None, refl, ap, sym, subst, ◌∙◌, arith}
-use Rattle.std.proofs.lemmas.List.{drop-map, length-map, map-append, map-set, set_split, take-map}
+use Rattle.std.proofs.lemmas.List.{length-map, map-set, set_split}
 use Rattle.std.specs.List.{AllByRecursion}
 use Rattle.std.specs.Ordering.{is_eq}
 use Rattle.keyed_tree.specs.Data.{PlainKey}
@@ -76,9 +76,3 @@ set_row view xs i y z low e =
     let many : length (map view xs) ≡ length xs = length-map xs view in
     let next : suc i ≡ i + 1 = omega arith in
     map-set view xs i y ∙ set_split (map view xs) i (view y) (omega arith) ∙ (λ j. take i (map view xs) ++ e j ∷ drop (next j) (map view xs))
-
-pub insert_row : {X Y : Type 0} (view : X → Y) (xs : List X) (i : ℕ) (y : X) (z : Y) → view y ≡ z → map view (take i xs ++ y ∷ drop i xs) ≡ take i (map view xs) ++ z ∷ drop i (map view xs)
-insert_row view xs i y z e =
-    let front = sym (take-map view i xs) in
-    let rest = sym (drop-map view i xs) in
-    map-append view (take i xs) (y ∷ drop i xs) ∙ (λ j. front j ++ e j ∷ rest j)

@@ -10,3 +10,4 @@ pub mod Views
 pub mod AltRows
 pub mod Walks
 pub mod Covers
+pub mod Wovens

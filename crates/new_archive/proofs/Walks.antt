@@ -1,6 +1,5 @@
 -- The steps of a walk along the kids of a version.
-use Rattle.std.proofs.Common.{◌≡◌, ℕ, ◌+◌, IsTrue, List, [], ◌∷◌, ◌++◌, map, take, drop, ap, sym, subst, ◌∙◌}
-use Rattle.std.proofs.lemmas.List.{take-append-drop}
+use Rattle.std.proofs.Common.{◌≡◌, ℕ, ◌+◌, ◌≤◌, IsTrue, List, [], ◌∷◌, ◌++◌, length, map, take, drop, ap, sym, subst, ◌∙◌}
 use Rattle.std.specs.List.{AllByRecursion}
 use Rattle.keyed_tree.specs.Data.{PlainLabel, PlainKeyed, inner, kids_from}
 use Rattle.keyed_tree.specs.Kids.{ascend, is_ordered, are_ordered, IsOrdered}
@@ -12,6 +11,8 @@ use Rattle.new_archive.specs.Full.{FullAlt, PlainFull, PlainFulls, full_inner, f
 use Rattle.new_archive.specs.Place.{added_list, IsPut}
 use Rattle.new_archive.specs.Ready.{IsBelow, IsReady, AreReady}
 use Rattle.new_archive.proofs.Rows.{fulls_list-fulls_from, step_end}
+use Rattle.new_archive.specs.Woven.{ArePlaced, woven}
+use Rattle.new_archive.proofs.Puts.{all_woven}
 use Rattle.new_archive.proofs.Sizes.{tree_size, list_size}
 
 -- ---- the kids that are left
@@ -33,16 +34,16 @@ next left c behind e a o =
       size = ap list_size e;
     }
 
-module _ (n : ℕ) (old row : List PlainFull) (from : ℕ) (all left : List PlainKeyed) (whole : take from row ++ added_list n (drop from row) left ≡ added_list n old all) where
+module _ (n : ℕ) (old row : List PlainFull) (fs : List (ℕ × PlainFull)) (from : ℕ) (all left : List PlainKeyed) (whole : woven 0 (take from row) fs ++ added_list n (drop from row) left ≡ added_list n old all) where
   -- one kid more is done
-  pub put_on : (c : PlainKeyed) (behind : List PlainKeyed) (at : ℕ) (js : List PlainFull) → left ≡ c ∷ behind → IsTrue (ascend (kids_from left)) → IsPut n row from c at js
-      → take (at + 1) js ++ added_list n (drop (at + 1) js) behind ≡ added_list n old all
-  put_on c behind at js e a p =
-      p.whole behind (subst (λ z. IsTrue (ascend (kids_from z))) e a) ∙ ap (λ z. take from row ++ added_list n (drop from row) z) (sym e) ∙ whole
+  pub put_on : (c : PlainKeyed) (behind : List PlainKeyed) (to : ℕ) (js : List PlainFull) (gs : List (ℕ × PlainFull)) → left ≡ c ∷ behind → IsTrue (ascend (kids_from left)) → IsPut n row fs from c to js gs
+      → woven 0 (take to js) gs ++ added_list n (drop to js) behind ≡ added_list n old all
+  put_on c behind to js gs e a p =
+      p.whole behind (subst (λ z. IsTrue (ascend (kids_from z))) e a) ∙ ap (λ z. woven 0 (take from row) fs ++ added_list n (drop from row) z) (sym e) ∙ whole
 
   -- all are done
-  pub row_done : left ≡ [] → row ≡ added_list n old all
-  row_done e = sym (take-append-drop from row) ∙ ap (λ z. take from row ++ z) (sym (step_end n (drop from row))) ∙ ap (λ z. take from row ++ added_list n (drop from row) z) (sym e) ∙ whole
+  pub row_done : from ≤ length row → ArePlaced 0 from fs → left ≡ [] → woven 0 row fs ≡ added_list n old all
+  row_done begins placed e = sym (all_woven row fs from begins placed) ∙ ap (λ z. woven 0 (take from row) fs ++ z) (sym (step_end n (drop from row))) ∙ ap (λ z. woven 0 (take from row) fs ++ added_list n (drop from row) z) (sym e) ∙ whole
 
 -- ---- a node
 

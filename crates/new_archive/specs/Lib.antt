@@ -6,4 +6,5 @@ pub mod AltView
 pub mod Covered
 pub mod View
 pub mod ArchiveView
+pub mod Woven
 pub mod Place

@@ -11,6 +11,7 @@ use Rattle.keyed_tree.specs.Order.{key_cmp, label_cmp}
 use Rattle.new_archive.specs.Full.{FullAlt, PlainFull, fulls_from, fulls_list, full_label}
 use Rattle.new_archive.specs.Added.{added_row}
 use Rattle.new_archive.specs.Ready.{AreReady}
+use Rattle.new_archive.specs.Woven.{ArePlaced, woven}
 
 -- the place of the node with the label, or that of the first node above it, where there is none
 abbrev pub IsPlaceOf : PlainLabel → List PlainFull → Result ℕ ℕ → Type 0
@@ -41,9 +42,11 @@ place_from b i (x ∷ xs) = if is_eq (key_cmp x.body b) then Some i else place_f
 abbrev pub added_list : ℕ → List PlainFull → List PlainKeyed → List PlainFull
 added_list n ks cs = fulls_list (added_row n (fulls_from ks) cs)
 
--- the nodes up to the place are done, and those from the first place on, with a kid before others, are those of the kid and of the others
-pub record IsPut (n : ℕ) (ks : List PlainFull) (from : ℕ) (c : PlainKeyed) (at : ℕ) (js : List PlainFull) : Type 0 where
-  pub within : at < length js
-  pub whole : (cs : List PlainKeyed) → IsTrue (ascend (kids_from (c ∷ cs))) → take (at + 1) js ++ added_list n (drop (at + 1) js) cs ≡ take from ks ++ added_list n (drop from ks) (c ∷ cs)
-  pub ready : AreReady n (fulls_from (drop (at + 1) js))
-  pub ascending : Ascends label_cmp (map full_label (drop (at + 1) js))
+-- The nodes up to a place are done, and new ones stand at places up to there. With those from there on and others than the kid they are what they were with the kid and these
+-- others, where nodes up to the first place were done.
+pub record IsPut (n : ℕ) (ks : List PlainFull) (fs : List (ℕ × PlainFull)) (from : ℕ) (c : PlainKeyed) (to : ℕ) (js : List PlainFull) (gs : List (ℕ × PlainFull)) : Type 0 where
+  pub within : to ≤ length js
+  pub placed : ArePlaced 0 to gs
+  pub whole : (cs : List PlainKeyed) → IsTrue (ascend (kids_from (c ∷ cs))) → woven 0 (take to js) gs ++ added_list n (drop to js) cs ≡ woven 0 (take from ks) fs ++ added_list n (drop from ks) (c ∷ cs)
+  pub ready : AreReady n (fulls_from (drop to js))
+  pub ascending : Ascends label_cmp (map full_label (drop to js))

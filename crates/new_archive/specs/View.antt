@@ -1,5 +1,5 @@
 -- The plain data that the nodes of a new archive stand for.
-use Rattle.std.specs.Prelude.{List, map}
+use Rattle.std.specs.Prelude.{ℕ, List, map}
 use Rattle.keyed_tree.specs.View.{label_view}
 use Rattle.version_set.specs.View.{pairs_of}
 use Rattle.new_archive.specs.Full.{FullAlt, PlainFull, full_inner, full_leaf, fulls_from}
@@ -20,3 +20,7 @@ full_view = fold-NewNode PlainFull node_step
 -- a row, as a list
 abbrev pub row_view : List NewNode → List PlainFull
 row_view ks = map full_view ks
+
+-- new nodes with their places
+abbrev pub fresh_view : List (ℕ × NewNode) → List (ℕ × PlainFull)
+fresh_view fs = map (λ (f : ℕ × NewNode). (f.0, full_view f.1)) fs

@@ -13,9 +13,9 @@ use std::mem;
 pub struct Alts {
     pub items: Vec<NewAlt>,
     /// Where there are many: their places, by the encodings of all that have one.
-    pub places: Option<BTreeMap<Vec<u8>, usize>>,
+    pub places: Option<Box<BTreeMap<Vec<u8>, usize>>>,
     pub ghost covered: { ForSome places
-        (λ m. AreCovered (kept_bodies items.items) m.entries) },
+        (λ b. AreCovered (kept_bodies items.items) b.value.entries) },
 }
 
 impl Alts {

@@ -10,6 +10,7 @@ mod row;
 mod seal;
 mod spellings;
 mod version;
+mod weave;
 
 pub use bodies::Alts;
 pub use node::{NewAlt, NewArchive, NewNode};

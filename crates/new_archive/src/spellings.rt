@@ -20,13 +20,13 @@ const FEW: usize = 32;
 /// The places of these bodies and of one behind them, where these are not few.
 pub fn places_with(
     alloc: Global,
-    places: Option<BTreeMap<Vec<u8>, usize>>,
+    places: Option<Box<BTreeMap<Vec<u8>, usize>>>,
     alts: &[NewAlt],
     body: &KeptBody,
-) -> Result<Option<BTreeMap<Vec<u8>, usize>>, AllocError>
-    requires { IfSome places (λ m. AreCovered (kept_bodies alts.now) m.entries) }
-    ensures { IfOk result (λ o. IfSome o (λ m.
-        AreCovered (kept_bodies alts.now ++ kept_view body.now ∷ []) m.entries)) }
+) -> Result<Option<Box<BTreeMap<Vec<u8>, usize>>>, AllocError>
+    requires { IfSome places (λ b. AreCovered (kept_bodies alts.now) b.value.entries) }
+    ensures { IfOk result (λ o. IfSome o (λ b.
+        AreCovered (kept_bodies alts.now ++ kept_view body.now ∷ []) b.value.entries)) }
 {
     if let Some(places) = places {
         let more = with_place(alloc, places, body, alts.len())?;
@@ -35,7 +35,7 @@ pub fn places_with(
     if alts.len() < FEW {
         return Ok(None);
     }
-    let places = places_of(alloc, alts)?;
+    let places = Box::new(alloc, places_of(alloc, alts)?)?;
     let more = with_place(alloc, places, body, alts.len())?;
     Ok(Some(more))
 }
@@ -43,12 +43,12 @@ pub fn places_with(
 // The places with that of a body too, if it has an encoding.
 fn with_place(
     alloc: Global,
-    places: BTreeMap<Vec<u8>, usize>,
+    places: Box<BTreeMap<Vec<u8>, usize>>,
     body: &KeptBody,
     place: usize,
-) -> Result<BTreeMap<Vec<u8>, usize>, AllocError>
-    ensures { IfOk result (λ m. (bs : List PlainKey) → AreCovered bs places.entries
-        → AreCovered (bs ++ kept_view body.now ∷ []) m.entries) }
+) -> Result<Box<BTreeMap<Vec<u8>, usize>>, AllocError>
+    ensures { IfOk result (λ b. (bs : List PlainKey) → AreCovered bs places.value.entries
+        → AreCovered (bs ++ kept_view body.now ∷ []) b.value.entries) }
 {
     let mut places = places;
     put_place(alloc, &mut places, body, place)?;

@@ -20,9 +20,9 @@ use std::alloc::{AllocError, Global};
 /// runs out, the archive is given up.
 ///
 /// Each node of the version is looked up by halving among the nodes beside it, and nodes that the
-/// version does not have are not touched. A node that is not there yet takes its place in its row:
-/// those behind it move up. It recurses as deep as nodes nest. Only what is new is
-/// copied.
+/// version does not have are not touched. Nodes that are not there yet take their places in a row
+/// all at once: those behind the first of them move once. It recurses as deep as nodes nest. Only
+/// what is new is copied, and contents that are looked up in a map.
 pub fn merge_lent(
     alloc: Global,
     old: NewArchive,

@@ -16,7 +16,7 @@ invariant_of-alts c =
     let new = c.add_at.new.alts in
     let size : length new ≡ items.len = search rules in
     let same : kept_bodies (take items.len (new ++ drop (length new) items.items)) ≡ kept_bodies items.items = ap kept_bodies (take_at new (drop (length new) items.items) items.len size) ∙ c.add_at.ensures.bodies ∙ ap kept_bodies c.deref_mut.ensures.value in
-    record { covered = λ m is. subst (λ bs. AreCovered bs m.entries) (sym same) (c.args.alts.now.covered m is) }
+    record { covered = λ m is. subst (λ bs. AreCovered bs m.value.entries) (sym same) (c.args.alts.now.covered m is) }
 
 pub returns-in-Some : goal.returns-in-Some
 returns-in-Some c =

@@ -1,4 +1,4 @@
-use Rattle.std.proofs.Common.{rules, ◌≡◌, ◌<◌, ◌≤◌, ◌+◌, ◌-◌, ◌∙◌, [], ◌∷◌, ◌++◌, Ok, Err, Vec, Global, map, length, take, drop, get_or, refl, ap, sym, subst, arith}
+use Rattle.std.proofs.Common.{rules, ◌≡◌, ◌<◌, ◌≤◌, ◌+◌, ◌-◌, ◌∙◌, [], ◌∷◌, ◌++◌, Ok, Err, Vec, Global, map, length, take, drop, get_or, ap, sym, subst, arith}
 use Rattle.std.proofs.lemmas.Grind.{common_steps}
 use Rattle.std.proofs.lemmas.List.{drop-map, get_or-drop, get_or-map, length-map, take_at, take_rest}
 use Rattle.std.proofs.lemmas.Result.{on_ok_weaker}
@@ -15,13 +15,15 @@ use Rattle.new_archive.specs.Added.{added, added_row, new_full}
 use Rattle.new_archive.specs.Full.{FullAlt, PlainFull, full_inner, full_label, full_bodies, fulls_from}
 use Rattle.new_archive.specs.Place.{IsPlaceOf, IsPut, added_list}
 use Rattle.new_archive.specs.Ready.{AreReady, IsBelow, IsReady}
-use Rattle.new_archive.specs.View.{alts_view, full_view, row_view}
+use Rattle.new_archive.specs.View.{alts_view, fresh_view, full_view, row_view}
+use Rattle.new_archive.specs.Woven.{ArePlaced, woven}
 use Rattle.new_archive.specs.declared.bodies.Alts.{Alts}
 use Rattle.new_archive.specs.declared.node.NewNode.{NewNode, the_lemmas}
 use Rattle.new_archive.proofs.AltRows.{set_row}
 use Rattle.new_archive.proofs.Puts.{met_within, put_met, put_new, ready_at}
 use Rattle.new_archive.proofs.Rows.{fulls_from-fulls_list}
 use Rattle.new_archive.proofs.Views.{full_view-Inner, full_view-Leaf}
+use Rattle.new_archive.proofs.Wovens.{placed_shown, placed_up, woven_shown}
 use Rattle.new_archive.proofs.Walks.{next, put_on, row_done, inner_ready, leaf_ready, inner_kids, same_inner}
 use Rattle.new_archive.proofs.row.+merge.Goals as goal
 
@@ -37,51 +39,6 @@ merge_at-returns t c =
     let row = c.args.row.now in
     let r = c.index-row-at.result in
     on_ok_weaker c.merge_node.result (λ g. λ d. set_row full_view row c.args.at c.merge_node.new.node _ c.requires.place (g ∙ ap (λ z. added c.args.n z (kid_view c.args.kid)) (sym (get_or-map full_view row c.args.at r d c.requires.place)))) c.merge_node.ensures
-
-pub merge_kids-loop-kid-init : goal.merge_kids-loop-kid-init
-merge_kids-loop-kid-init t c = record {
-  smaller = omega arith;
-  place = omega arith;
-  ready = c.requires.ready;
-  rising = c.requires.rising;
-  ascending = c.requires.ascending;
-  ordered = c.requires.ordered;
-  whole = refl;
-}
-
-pub merge_kids-put_kid-requires : goal.merge_kids-put_kid-requires
-merge_kids-put_kid-requires t c =
-    let l = c.loop-kid in
-    let k = next (kids_view l.left) (kid_view c.in-Some.kid) (kids_view c.in-Some.behind) c.in-Some.ensures.some l.invariant.ascending l.invariant.ordered in
-    let smaller = l.invariant.smaller in
-    let size = k.size in
-    let d = c.decreases in
-    (omega arith, (c.requires.from, (l.invariant.place, (l.invariant.ready, (l.invariant.rising, k.ordered)))))
-
-pub merge_kids-loop-kid-preserved : goal.merge_kids-loop-kid-preserved
-merge_kids-loop-kid-preserved t c =
-    let l = c.loop-kid in
-    let k = next (kids_view l.left) (kid_view c.in-Some.kid) (kids_view c.in-Some.behind) c.in-Some.ensures.some l.invariant.ascending l.invariant.ordered in
-    let smaller = l.invariant.smaller in
-    let size = k.size in
-    let p = c.in_ok-from.ensures in
-    let within = p.within in
-    let many : length (row_view c.put_kid.new.row.items) ≡ length c.put_kid.new.row.items = length-map c.put_kid.new.row.items full_view in
-    record {
-      smaller = omega arith;
-      place = omega (arith, c.put_kid.new.row.ok.0);
-      ready = p.ready;
-      rising = p.ascending;
-      ascending = k.ascending;
-      ordered = k.later;
-      whole = put_on c.args.n (row_view c.args.row.now.items) (row_view l.row.items) l.from (kids_view c.args.new) (kids_view l.left) l.invariant.whole (kid_view c.in-Some.kid) (kids_view c.in-Some.behind) c.in_ok-from.field-0 (row_view c.put_kid.new.row.items) c.in-Some.ensures.some l.invariant.ascending p;
-    }
-
-pub merge_kids-returns : goal.merge_kids-returns
-merge_kids-returns t c =
-    let l = c.loop-kid in
-    let none : kids_view l.left ≡ [] = grind (arith, common_steps) in
-    row_done c.args.n (row_view c.args.row.now.items) (row_view l.row.items) l.from (kids_view c.args.new) (kids_view l.left) l.invariant.whole none
 
 pub merge_node-merge_kids-requires : goal.merge_node-merge_kids-requires
 merge_node-merge_kids-requires t c =
@@ -136,6 +93,64 @@ put_kid-place_of-requires t c =
     let part : row_view (take (length D - c.args.from) (drop c.args.from D)) ≡ drop c.args.from ks = ap row_view (take_rest D c.args.from) ∙ sym (drop-map full_view c.args.from D) ∙ ap (λ z. drop c.args.from (row_view z)) c.deref.ensures.value in
     subst (λ z. Ascends label_cmp (map full_label z)) (sym part) c.requires.rising
 
+pub merge_kids-loop-kid-init : goal.merge_kids-loop-kid-init
+merge_kids-loop-kid-init t c =
+    let none = c.new-fresh.ensures.items in
+    let row = row_view c.args.row.now.items in
+    record {
+      smaller = omega arith;
+      place = omega arith;
+      placed = subst (λ z. ArePlaced 0 0 (fresh_view z)) (sym none) (omega arith);
+      ready = c.requires.ready;
+      rising = c.requires.rising;
+      ascending = c.requires.ascending;
+      ordered = c.requires.ordered;
+      whole = λ i. woven 0 [] (fresh_view (none i)) ++ added_list c.args.n row (kids_view c.args.new);
+    }
+
+pub merge_kids-put_kid-requires : goal.merge_kids-put_kid-requires
+merge_kids-put_kid-requires t c =
+    let l = c.loop-kid in
+    let k = next (kids_view l.left) (kid_view c.in-Some.kid) (kids_view c.in-Some.behind) c.in-Some.ensures.some l.invariant.ascending l.invariant.ordered in
+    let smaller = l.invariant.smaller in
+    let size = k.size in
+    let d = c.decreases in
+    (omega arith, (c.requires.from, (l.invariant.place, (l.invariant.placed, (l.invariant.ready, (l.invariant.rising, k.ordered))))))
+
+pub merge_kids-loop-kid-preserved : goal.merge_kids-loop-kid-preserved
+merge_kids-loop-kid-preserved t c =
+    let l = c.loop-kid in
+    let k = next (kids_view l.left) (kid_view c.in-Some.kid) (kids_view c.in-Some.behind) c.in-Some.ensures.some l.invariant.ascending l.invariant.ordered in
+    let smaller = l.invariant.smaller in
+    let size = k.size in
+    let p = c.in_ok-from.ensures in
+    let within = p.within in
+    let many : length (row_view c.put_kid.new.row.items) ≡ length c.put_kid.new.row.items = length-map c.put_kid.new.row.items full_view in
+    record {
+      smaller = omega arith;
+      place = omega (arith, c.put_kid.new.row.ok.0);
+      placed = p.placed;
+      ready = p.ready;
+      rising = p.ascending;
+      ascending = k.ascending;
+      ordered = k.later;
+      whole = put_on c.args.n (row_view c.args.row.now.items) (row_view l.row.items) (fresh_view l.fresh.items) l.from (kids_view c.args.new) (kids_view l.left) l.invariant.whole (kid_view c.in-Some.kid) (kids_view c.in-Some.behind) c.in_ok-from.from (row_view c.put_kid.new.row.items) (fresh_view c.put_kid.new.fresh.items) c.in-Some.ensures.some l.invariant.ascending p;
+    }
+
+pub merge_kids-insert_all-requires : goal.merge_kids-insert_all-requires
+merge_kids-insert_all-requires t c =
+    let l = c.loop-kid in
+    placed_shown full_view 0 l.row.len l.fresh.items (placed_up 0 l.from l.row.len (fresh_view l.fresh.items) l.invariant.placed l.invariant.place)
+
+pub merge_kids-returns : goal.merge_kids-returns
+merge_kids-returns t c =
+    let l = c.loop-kid in
+    let none : kids_view l.left ≡ [] = grind (arith, common_steps) in
+    let many : length (row_view l.row.items) ≡ length l.row.items = length-map l.row.items full_view in
+    let place = l.invariant.place in
+    let begins : l.from ≤ length (row_view l.row.items) = omega (arith, l.row.ok.0) in
+    on_ok_weaker c.insert_all.result (λ g. ap row_view g ∙ woven_shown full_view 0 l.row.items l.fresh.items ∙ row_done c.args.n (row_view c.args.row.now.items) (row_view l.row.items) (fresh_view l.fresh.items) l.from (kids_view c.args.new) (kids_view l.left) l.invariant.whole begins l.invariant.placed none) c.insert_all.ensures
+
 pub put_kid-merge_at-requires : goal.put_kid-merge_at-requires
 put_kid-merge_at-requires t c =
     let items = c.args.row.now.items in
@@ -149,7 +164,7 @@ put_kid-merge_at-requires t c =
     let n = c.args.n in
     let p = c.in-Ok.place in
     let found : IsPlaceOf l (drop c.args.from ks) (Ok p) = subst (λ z. IsPlaceOf l z (Ok p)) part c.in-Ok.ensures in
-    let low : c.args.from + p < length ks = met_within n (kid_view c.args.kid) ks ks c.args.from p begins c.requires.ready c.requires.rising found in
+    let low : c.args.from + p < length ks = met_within n (kid_view c.args.kid) ks (fresh_view c.args.fresh.now.items) c.args.from p begins c.requires.placed c.requires.ready c.requires.rising found in
     let same : length c.deref_mut.result.now ≡ length items = ap length c.deref_mut.ensures.value in
     let d = c.decreases in (
       omega arith,
@@ -166,6 +181,7 @@ pub put_kid-returns-in_ok-merge_at-in-Ok : goal.put_kid-returns-in_ok-merge_at-i
 put_kid-returns-in_ok-merge_at-in-Ok t c =
     let items = c.args.row.now.items in
     let ks = row_view items in
+    let fs = fresh_view c.args.fresh.now.items in
     let D = c.deref.result.now in
     let part : row_view (take (length D - c.args.from) (drop c.args.from D)) ≡ drop c.args.from ks = ap row_view (take_rest D c.args.from) ∙ sym (drop-map full_view c.args.from D) ∙ ap (λ z. drop c.args.from (row_view z)) c.deref.ensures.value in
     let l = label_of (kid_view c.args.kid) in
@@ -181,10 +197,10 @@ put_kid-returns-in_ok-merge_at-in-Ok t c =
     let size : length new ≡ c.args.row.now.len = search rules in
     let d : PlainFull = new_full n k in
     let is : row_view new ≡ take at ks ++ added n (get_or ks at d) k ∷ drop (at + 1) ks = c.in_ok-merge_at-in-Ok.ensures d ∙ ap (λ z. take at (row_view z) ++ added n (get_or (row_view z) at d) k ∷ drop (at + 1) (row_view z)) c.deref_mut.ensures.value in
-    subst (λ z. IsPut n ks c.args.from k at z) (sym (ap row_view (take_at new (drop (length new) items) c.args.row.now.len size))) (put_met n k ks (row_view new) c.args.from p begins c.requires.ready c.requires.rising d found is)
+    subst (λ z. IsPut n ks fs c.args.from k (at + 1) z fs) (sym (ap row_view (take_at new (drop (length new) items) c.args.row.now.len size))) (put_met n k ks fs c.args.from p begins c.requires.placed c.requires.ready c.requires.rising (row_view new) d found is)
 
-pub put_kid-returns-in_ok-insert_new-in-Err : goal.put_kid-returns-in_ok-insert_new-in-Err
-put_kid-returns-in_ok-insert_new-in-Err t c =
+pub put_kid-returns-in_ok-begin_new-in-Err : goal.put_kid-returns-in_ok-begin_new-in-Err
+put_kid-returns-in_ok-begin_new-in-Err t c =
     let items = c.args.row.now.items in
     let ks = row_view items in
     let D = c.deref.result.now in
@@ -195,4 +211,4 @@ put_kid-returns-in_ok-insert_new-in-Err t c =
     let begins : c.args.from ≤ length ks = omega (arith, c.args.row.now.ok.0) in
     let p = c.in-Err.place in
     let found : IsPlaceOf l (drop c.args.from ks) (Err p) = subst (λ z. IsPlaceOf l z (Err p)) part c.in-Err.ensures in
-    put_new c.args.n (kid_view c.args.kid) ks (row_view c.insert_new.new.row.items) c.args.from p begins c.requires.ready c.requires.rising found c.in_ok-insert_new-in-Err.ensures
+    put_new c.args.n (kid_view c.args.kid) ks (fresh_view c.args.fresh.now.items) c.args.from p begins c.requires.placed c.requires.ready c.requires.rising (fresh_view c.begin_new.new.fresh.items) found c.in_ok-begin_new-in-Err.ensures

@@ -7,22 +7,25 @@ use Rattle.keyed_parts.specs.View.{kid_view, kids_view}
 use Rattle.new_archive.specs.Full.{full_label, fulls_from}
 use Rattle.new_archive.specs.Place.{added_list}
 use Rattle.new_archive.specs.Ready.{AreReady}
-use Rattle.new_archive.specs.View.{row_view}
+use Rattle.new_archive.specs.View.{fresh_view, row_view}
+use Rattle.new_archive.specs.Woven.{ArePlaced, woven}
 use Rattle.new_archive.proofs.Sizes.{tree_size, list_size}
 use Rattle.new_archive.proofs.row.+merge.Given as goal
 
--- the nodes that are done, and those that are left with the kids that are left, are the whole
+-- the nodes that are done, new ones among them, and those that are left with the kids that are left, are the whole
 abbrev pub invariant-merge_kids-loop-kid : goal.invariant-merge_kids-loop-kid
 invariant-merge_kids-loop-kid l =
     let row = row_view l.row.items in
+    let fs = fresh_view l.fresh.items in
     record {
       smaller : list_size (kids_view l.left) ≤ list_size (kids_view l.fn.new);
       place : l.from ≤ vec_len l.row;
+      placed : ArePlaced 0 l.from fs;
       ready : AreReady l.n (fulls_from (drop l.from row));
       rising : Ascends label_cmp (map full_label (drop l.from row));
       ascending : IsTrue (ascend (kids_from (kids_view l.left)));
       ordered : IsTrue (are_ordered (kids_from (kids_view l.left)));
-      whole : take l.from row ++ added_list l.n (drop l.from row) (kids_view l.left) ≡ added_list l.n (row_view l.fn.row.items) (kids_view l.fn.new);
+      whole : woven 0 (take l.from row) fs ++ added_list l.n (drop l.from row) (kids_view l.left) ≡ added_list l.n (row_view l.fn.row.items) (kids_view l.fn.new);
     }
 
 abbrev pub decreases-merge_kids-loop-kid : goal.decreases-merge_kids-loop-kid

@@ -1,13 +1,14 @@
 use Rattle.std.proofs.lemmas.Grind.{common_steps}
-use Rattle.std.proofs.Common.{◌≡◌, ◌+◌, ◌-◌, ◌≤◌, None, Option, drop, sym, subst, arith, length-drop}
+use Rattle.std.proofs.Common.{◌≡◌, ◌+◌, ◌-◌, ◌≤◌, None, Option, length, drop, sym, ap, subst, ◌∙◌, arith, length-drop}
 use Rattle.xa_outside.specs.Folder.{Files}
-use Rattle.xa_outside.specs.NumberLaws.{PullsAtMost-of, PullsAtMost-more}
+use Rattle.xa_outside.specs.Numbers.{Numbers, after_pull}
+use Rattle.xa_outside.specs.NumberLaws.{after_pull-twice, PullsAtMost-of, PullsAtMost-more}
 use Rattle.record_cursor.specs.Moves.{TellsFront}
 use Rattle.record_cursor.specs.Next.{next_of, read_for}
-use Rattle.record_cursor.specs.Steps.{read_item}
+use Rattle.record_cursor.specs.Steps.{read_item, body_read}
 use Rattle.record_cursor.specs.View.{place_view}
 use Rattle.record_cursor.proofs.Fills.{front-length, no-damage}
-use Rattle.record_cursor.proofs.Comes.{comes-short, comes-long, comes-not, stepped}
+use Rattle.record_cursor.proofs.Comes.{comes-short, comes-long, comes-not, led, stepped}
 use Rattle.record_cursor.proofs.Pulled.{next-least, framed-read, body_size-most, pulled-both}
 use Rattle.record_cursor.proofs.SpelledLaws.{step-read-at}
 use Rattle.record_cursor.proofs.step.read_record.Goals as goal
@@ -101,6 +102,18 @@ returns-in-Err-read_body-clause-told g c = λ bytes tells. (
     let fits : c.args.at + 9 + c.in-Ok.frame.1 ≤ c.args.length = omega (arith, within, c.if-length-body.false) in
     let later = subst (λ (t : Option Files). TellsFront t c.args.name.now c.args.length bytes) (sym c.in-Ok.ensures.reads.same_files) tells in
     no-damage c.in-Err-read_body.fault (next_of (place_view c.args.place) (drop c.args.at bytes) ≡ None) (c.in-Err-read_body.ensures.told c.args.length bytes later fits))
+
+pub returns-in-Ok-read_body-clause-leads : goal.returns-in-Ok-read_body-clause-leads
+returns-in-Ok-read_body-clause-leads g c = λ i is. (
+    let before = g.F.Folder.numbers c.args.folder.now in
+    let held = length c.read_body.new.buffer in
+    let l = led (place_view c.args.place) (place_view c.in-Some.place) c.in-Ok.frame.0 c.in-Ok.frame.1 c.in-Ok-read_body.read held i c.requires.inside (sym c.in-Some.ensures) c.in-Ok-read_body.ensures.is is in
+    record {
+      may_come = l.may_come;
+      moved = omega (arith, l.moved);
+      pulled = c.in-Ok-read_body.ensures.numbers ∙ ap (λ (m : Numbers). after_pull m (body_read c.in-Ok-read_body.read held)) c.in-Ok.ensures.numbers
+          ∙ after_pull-twice before 9 (body_read c.in-Ok-read_body.read held) ∙ ap (after_pull before) (sym l.pulled);
+    })
 
 pub returns-in-Ok-read_body-clause-spelled : goal.returns-in-Ok-read_body-clause-spelled
 returns-in-Ok-read_body-clause-spelled g c = λ bytes tells. (
