@@ -18,7 +18,8 @@ use Rattle.record_cursor.proofs.Items.{give-records}
 use Rattle.file_rows.specs.View.{PlainChild}
 use Rattle.file_rows.proofs.Parts.{stands-within}
 use Rattle.file_history.specs.Leads.{LeafLaid}
-use Rattle.file_history.proofs.Opening.{front-less, before_child}
+use Rattle.record_cursor.specs.MoveLaws.{front-less}
+use Rattle.file_history.proofs.Opening.{before_child}
 use Rattle.content_log.specs.Written.{alts_size, leaf_size}
 
 abbrev alt_items : List PlainAlt → List PlainItem

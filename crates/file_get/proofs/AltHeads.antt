@@ -3,11 +3,7 @@ use Rattle.std.proofs.Common.{◌≡◌, ℕ, zero, suc, ◌+◌, ◌-◌, ◌�
 use Rattle.std.specs.Prelude.{◌==◌, if◌then◌else◌}
 use Rattle.std.specs.Int.{w32, w64}
 use Rattle.xa_fields.specs.Reading.{byte_at, number_at}
-use Rattle.record_cursor.specs.Steps.{IsFrame}
 use Rattle.file_get.specs.Inside.{IsAltHead}
-
-pub frame-is : (frame : List ℕ) (kind size a b : ℕ) → Some (kind, drop a frame) ≡ byte_at frame → Some (size, drop b frame) ≡ number_at w64 (drop 1 frame) → a ≡ 1 → b ≡ 9 → IsFrame frame (kind, size)
-frame-is frame kind size a b k n e g = record { kind = sym k ∙ (λ i. Some (kind, drop (e i) frame)); size = sym n ∙ (λ i. Some (size, drop (g i) frame)) }
 
 pub count-is : (front : List ℕ) (count a : ℕ) → Some (count, drop a front) ≡ number_at w32 front → a ≡ 4 → number_at w32 front ≡ Some (count, drop 4 front)
 count-is front count a n e = sym n ∙ (λ i. Some (count, drop (e i) front))

@@ -1,5 +1,5 @@
 -- No more is read, where sets are halved, than what a search looks at.
-use Rattle.std.proofs.Common.{◌≡◌, ℕ, ◌+◌, ◌-◌, ◌*◌, ◌/◌, ◌≤◌, ◌<◌, Bool, true, false, leb, List, [], ◌∷◌, length, map, Some, None, refl, arith}
+use Rattle.std.proofs.Common.{◌≡◌, ℕ, ◌+◌, ◌*◌, ◌≤◌, ◌<◌, Bool, true, false, leb, List, [], ◌∷◌, length, Some, None, refl, arith}
 use Rattle.std.specs.Prelude.{if◌then◌else◌}
 use Rattle.std.proofs.lemmas.Bool.Decides.{nat_tests}
 use Rattle.version_set.specs.Members.{members, has, upto_pairs}
@@ -14,7 +14,7 @@ use Rattle.record_format.specs.Files.{root_pieces}
 use Rattle.record_format.specs.Nodes.{alt_of, set_in, node_pieces}
 use Rattle.record_format.specs.Seen.{alts_seen, dir_seen, node_seen, piece_sets, row_seen, seen, sets_visited}
 use Rattle.record_format.specs.Spelling.{rec_bytes}
-use Rattle.file_get.specs.Searched.{alts_read, bytes_read, dir_read, inner_read, leaf_read, node_read, row_read, searched, sets_read, stamp_read, tree_read}
+use Rattle.file_get.specs.Searched.{alts_read, bytes_read, dir_read, inner_read, node_read, row_read, searched, sets_read, stamp_read, tree_read}
 use Rattle.file_get.proofs.Bodies.{alt-length}
 use Rattle.file_get.proofs.SetSearch.{searched-all, searched-half}
 use Rattle.file_get.proofs.StoredNodes.{length-stored}

@@ -1,4 +1,3 @@
-pub mod ReadBytes
 pub mod States
 pub mod Pens
 pub mod Opened

@@ -1,5 +1,5 @@
 -- What is seen at the only child of a part.
-use Rattle.std.proofs.Common.{◌≡◌, ℕ, ◌+◌, ◌-◌, ◌/◌, ◌≤◌, ◌<◌, ◌^◌, Bool, true, false, List, [], ◌∷◌, length, Option, Result, Ok, Err, refl, sym, subst, ◌∙◌, arith}
+use Rattle.std.proofs.Common.{◌≡◌, ℕ, ◌+◌, ◌-◌, ◌/◌, Bool, true, false, List, [], ◌∷◌, length, Option, Result, Ok, Err, refl, sym, subst, ◌∙◌, arith}
 use Rattle.version_set.specs.Members.{members, has}
 use Rattle.timestamp_tree.specs.Bytes.{stored}
 use Rattle.archive_tree.specs.Data.{PlainNode}

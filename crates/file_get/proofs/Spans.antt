@@ -10,7 +10,6 @@ use Rattle.keyed_tree.specs.Data.{PlainKeyed, label_of}
 use Rattle.keyed_tree.specs.Proper.{is_tag}
 use Rattle.archive_tree.specs.Data.{Stamp, PlainNode, inner_node, leaf_node, nodes_from}
 use Rattle.archive_tree.specs.Read.{read}
-use Rattle.timestamp_tree.specs.Bytes.{stored}
 use Rattle.timestamp_tree.specs.Data.{PlainTs, leaf, node, top}
 use Rattle.timestamp_tree.specs.Search.{visits}
 use Rattle.timestamp_tree.specs.Tree.{half, joined, tree_of}

@@ -1,5 +1,5 @@
 -- What stands inside a node.
-use Rattle.std.specs.Prelude.{◌≡◌, ℕ, ◌+◌, ◌-◌, ◌≤◌, List, [], ◌∷◌, ◌++◌, length, map, drop, Some, Bool, true, false, not, ◌||◌, ◌==◌, if◌then◌else◌, Result, IfOk, Option, is_some}
+use Rattle.std.specs.Prelude.{◌≡◌, ℕ, ◌+◌, ◌-◌, ◌≤◌, List, [], ◌∷◌, ◌++◌, length, map, drop, Some, Bool, true, false, ◌||◌, if◌then◌else◌, Result, IfOk, Option, is_some}
 use Rattle.std.specs.Int.{w64}
 use Rattle.std.specs.List.{flat_map, AllByRecursion}
 use Rattle.xa_fields.specs.Reading.{byte_at, number_at}
@@ -39,14 +39,6 @@ opening_rec (leaf_node l s xs) = leaf_rec l s
 abbrev pub is_inner : PlainNode → Bool
 is_inner (inner_node l s ks) = true
 is_inner (leaf_node l s xs) = false
-
--- a record of this kind opens a node
-abbrev pub opens : ℕ → Bool
-opens kind = kind == 1 || kind == 2
-
--- an END with a body of so many bytes may close what a record of this kind opens: none closes a leaf
-abbrev pub may_close : ℕ → ℕ → Bool
-may_close kind dir = not (kind == 2) || dir == 0
 
 -- the opening record of a node that begins at this offset
 pub record OpeningIs (k : PlainNode) (first : ℕ) (o : Opening) : Type 0 where

@@ -1,5 +1,5 @@
 -- What one node of a stored tree says of a version.
-use Rattle.std.specs.Prelude.{◌≡◌, ℕ, ◌+◌, ◌≤◌, ◌<◌, ◌^◌, List, length, Bool, Option}
+use Rattle.std.specs.Prelude.{ℕ, ◌+◌, ◌≤◌, ◌<◌, ◌^◌, List, length, Bool, Option}
 use Rattle.version_set.specs.Members.{members, has}
 use Rattle.timestamp_tree.specs.Bytes.{stored}
 use Rattle.record_parts.specs.Bounds.{IsSet}

@@ -23,11 +23,10 @@ ghost use Rattle.file_get.specs.Inside.{AltsTold, AltIs, IsAltHead, SetIs, head_
 ghost use Rattle.file_get.specs.LeafBodies.{body_view};
 ghost use Rattle.file_get.specs.Searched.{alts_read, searched, stamp_read};
 
-use crate::bytes::Bytes;
 use crate::sets::search_pairs;
 use crate::span::Ask;
 use crate::value::{Body, body_of};
-use record_cursor::{CursorFault, fill_part};
+use record_cursor::{Buffer, CursorFault, fill_part};
 use record_format::ALT;
 use record_parts::MOST_VERSIONS;
 use timestamp_tree::pairs_contain;
@@ -50,7 +49,7 @@ pub(crate) fn read_body<'a, F: Folder>(
     folder: &mut F,
     at: u64,
     end: u64,
-    room: &'a mut Bytes,
+    room: &'a mut Buffer,
 ) -> Result<Body<'a>, CursorFault>
     requires { at ≤ end }
     ensures reads { OnlyReads F.files F.draft F.faults folder.old folder.new (fault_of result) }
@@ -258,7 +257,7 @@ fn read_value<'a, F: Folder>(
     folder: &mut F,
     at: u64,
     end: u64,
-    room: &'a mut Bytes,
+    room: &'a mut Buffer,
 ) -> Result<Body<'a>, CursorFault>
     requires { at ≤ end }
     ensures reads { OnlyReads F.files F.draft F.faults folder.old folder.new (fault_of result) }

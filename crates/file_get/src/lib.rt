@@ -3,7 +3,6 @@
 #![tactic(auto)]
 
 mod body;
-mod bytes;
 mod fault;
 mod look;
 mod missing;

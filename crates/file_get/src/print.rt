@@ -13,7 +13,6 @@ ghost use Rattle.file_get.specs.Walks.{IsBegun, StandsIn};
 ghost use Rattle.file_get.specs.Inside.{InsidePrinted, OpenedPrinted};
 
 use crate::body::read_body;
-use crate::bytes::Bytes;
 use crate::fault::GetFault;
 use crate::read::Opening;
 use crate::span::{Ask, Place};
@@ -21,6 +20,7 @@ use crate::value::Body;
 use content_print::{print_lent_attr, print_lent_content};
 use file_rows::Child;
 use jsonml_text::Printer;
+use record_cursor::Buffer;
 use xa_outside::{Folder, Sink};
 
 /// Prints the body of a leaf as the content of the element that was begun for it.
@@ -43,7 +43,7 @@ pub(crate) fn print_leaf<F: Folder, K: Sink>(
         (state F.files F.draft F.numbers F.faults K.taken K.faults
         folder.new sink.new printer.new steps) (fault_of result) }
 {
-    let mut room = Bytes::new(ask.alloc);
+    let mut room = Buffer::new(ask.alloc);
     match read_body(ask, folder, opening.behind, child.end, &mut room) {
         Ok(Body::Content(bytes)) => print_content(bytes, printer, sink),
         Ok(Body::Scalar(_)) => Err(GetFault::Damage),
@@ -89,7 +89,7 @@ pub(crate) fn print_attribute<F: Folder, K: Sink>(
     if opening.is_inner || place.depth == 0 || place.has_item {
         return Err(GetFault::Damage);
     }
-    let mut room = Bytes::new(ask.alloc);
+    let mut room = Buffer::new(ask.alloc);
     match read_body(ask, folder, opening.behind, child.end, &mut room) {
         Ok(Body::Scalar(value)) => {
             print_lent_attr(name, value, printer, sink)?;

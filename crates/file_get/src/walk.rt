@@ -11,7 +11,6 @@ ghost use Rattle.keyed_tree.specs.Data.{tag};
 ghost use Rattle.record_parts.specs.Shown.{shown_name};
 ghost use Rattle.record_parts.specs.declared.limits.TheConstants.{DEEPEST};
 
-use crate::bytes::Bytes;
 use crate::fault::GetFault;
 use crate::look::{Sight, look};
 use crate::print::{print_attribute, print_leaf};
@@ -19,6 +18,7 @@ use crate::read::{Opening, read_opening};
 use crate::span::{Ask, Place, Span, whole_of};
 use file_rows::{Child, Row, count_children, read_child, row_of};
 use jsonml_text::Printer;
+use record_cursor::Buffer;
 use record_parts::{DEEPEST, NameView};
 use std::sync::ledger::Ledger;
 use timestamp_tree::Steps;
@@ -145,8 +145,8 @@ fn print_node<F: Folder, K: Sink, L: Ledger>(
         (state F.files F.draft F.numbers F.faults K.taken K.faults
         folder.new sink.new printer.new steps.new) result }
 {
-    let mut body = Bytes::new(ask.alloc);
-    let opening = read_opening(ask, folder, child, &mut body)?;
+    let mut room = Buffer::new(ask.alloc);
+    let opening = read_opening(ask, folder, child, &mut room)?;
     match &opening.name {
         NameView::Attr(name) => {
             print_attribute(ask, child, place, &opening, name, folder, printer, sink)

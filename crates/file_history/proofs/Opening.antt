@@ -24,12 +24,13 @@ use Rattle.record_format.specs.Probed.{opening}
 use Rattle.record_format.specs.Spelling.{rec_bytes}
 use Rattle.record_cursor.specs.Items.{PlainItem, leaf_item, item_of}
 use Rattle.record_cursor.specs.Moves.{TellsFront, Comes, Moves, Goes}
+use Rattle.record_cursor.specs.MoveLaws.{front-less}
 use Rattle.record_cursor.specs.Next.{next_of, read_for, size_of}
 use Rattle.record_cursor.specs.Places.{Standing, among_nodes, after_item}
 use Rattle.record_cursor.specs.View.{PlainCursor, shown_item}
 use Rattle.record_cursor.specs.declared.fault.CursorFault.{CursorFault}
 use Rattle.record_cursor.specs.declared.item.Item.{Item}
-use Rattle.record_cursor.proofs.Fills.{take-front, front-length, le-of}
+use Rattle.record_cursor.proofs.Fills.{front-length}
 use Rattle.record_cursor.proofs.Items.{next-record}
 use Rattle.file_rows.specs.StandsAt.{RowLaid, ChildLaid}
 use Rattle.file_rows.specs.View.{PlainChild, row_view}
@@ -37,18 +38,6 @@ use Rattle.file_rows.specs.declared.places.Row.{Row}
 use Rattle.file_rows.proofs.Parts.{stands-within}
 use Rattle.file_history.specs.Opened.{met_by, met_of, met_node, IsFound, ChildIs}
 use Rattle.file_history.specs.View.{PlainMet, met_inner, met_leaf, stands_before, stands_behind}
-
--- ---- the front of a file
-
-pub front-less : (told : Option Files) (name bytes : List ℕ) (size end : ℕ) → TellsFront told name size bytes → end ≤ size → TellsFront told name end (take end bytes)
-front-less told name bytes size end h fits =
-    let file = bytes_or_none (map.get h.0 name) in
-    let p = passed_some (leb size (length file)) (take size file) bytes h.2 in
-    let long : size ≤ length file = le-of _ _ p.0 in
-    let whole : end + (size - end) ≡ size = omega (arith, fits) in
-    let less : take end (take size file) ≡ take end file = ap (λ (n : ℕ). take end (take n file)) (sym whole) ∙ take-front end (size - end) file (omega (arith, whole, long)) in
-    let there : leb end (length file) ≡ true = grind (arith, nat_tests) in
-    (h.0, h.1, rw there (ap (λ (bs : List ℕ). Some bs) (sym less ∙ ap (take end) p.1)))
 
 -- ---- the record that opens a node
 

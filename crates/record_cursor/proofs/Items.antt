@@ -1,5 +1,5 @@
 -- What the file of an archive gives.
-use Rattle.std.proofs.Common.{◌≡◌, ℕ, suc, ◌+◌, ◌-◌, ◌<◌, true, ltb, IsTrue, List, [], ◌∷◌, ◌++◌, map, length, drop, Some, refl, sym, ap, subst, ◌∙◌, append_assoc, arith}
+use Rattle.std.proofs.Common.{◌≡◌, ℕ, suc, ◌+◌, ◌-◌, ◌<◌, true, ltb, IsTrue, List, [], ◌∷◌, ◌++◌, map, length, drop, Option, Some, None, refl, sym, ap, subst, ◌∙◌, append_assoc, arith}
 use Rattle.std.specs.Option.{option_map}
 use Rattle.std.specs.List.{flat_map, AllByRecursion}
 use Rattle.std.proofs.lemmas.List.{drop_at, map-append}
@@ -21,7 +21,7 @@ use Rattle.record_format.proofs.Records.{body_only, frame_only}
 use Rattle.record_format.proofs.WholeDirectories.{same_bytes}
 use Rattle.record_cursor.specs.Items.{PlainItem, end_item, finish, item_of, items_of}
 use Rattle.record_cursor.specs.Places.{Standing, among_nodes, in_leaf, behind_root, finished, closed_by, after_item, after_items}
-use Rattle.record_cursor.specs.Next.{item_in, record_item_at, next_of, Gives}
+use Rattle.record_cursor.specs.Next.{item_in, record_item_at, next_of, opening_at, Gives}
 
 -- ---- one record
 
@@ -105,6 +105,16 @@ mutual
       ap (after_items (among_nodes depth)) (map-append item_of first rs)
       ∙ after-both (among_nodes depth) (among_nodes depth) (map item_of first) (map item_of rs) (node-leads set k depth d two.0 all)
       ∙ row-leads set ks depth d two.1 all
+
+-- ---- a record that opens a node
+
+opened : (o : Option (PlainItem × (Standing × List ℕ))) (i : PlainItem) (rest : List ℕ) → option_map {U = PlainItem × List ℕ} (λ (x : PlainItem × (Standing × List ℕ)). (x.0, x.1.1)) o ≡ Some (i, rest) → (t : Standing) × (o ≡ Some (i, (t, rest)))
+opened (Some x) i rest e = (x.1.0, ap (λ (p : PlainItem × List ℕ). Some (p.0, (x.1.0, p.1))) (some_is (x.0, x.1.1) (i, rest) e))
+opened None i rest e = absurd cc
+
+-- it comes next among nodes
+pub opening-next : (bytes rest : List ℕ) (i : PlainItem) → opening_at bytes ≡ Some (i, rest) → (t : Standing) × (next_of (among_nodes 0) bytes ≡ Some (i, (t, rest)))
+opening-next bytes rest i e = opened (next_of (among_nodes 0) bytes) i rest e
 
 -- ---- the whole file
 

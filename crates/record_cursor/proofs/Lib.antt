@@ -1,4 +1,5 @@
 pub mod Fills
+pub mod Rooms
 pub mod Sizes
 pub mod Comes
 pub mod Pulled

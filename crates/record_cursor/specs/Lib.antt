@@ -5,6 +5,7 @@ pub mod Next
 pub mod View
 pub mod Faults
 pub mod Moves
+pub mod MoveLaws
 pub mod Spelled
 pub mod Steps
 pub mod Fixed

@@ -36,6 +36,10 @@ next_of s bytes = do
   t ← after_item s i.0
   Some (i.0, (t, i.1))
 
+-- the record at the front of the bytes, if it may come among nodes
+abbrev pub opening_at : Reader PlainItem
+opening_at bytes = option_map (λ (x : PlainItem × (Standing × List ℕ)). (x.0, x.1.1)) (next_of (among_nodes 0) bytes)
+
 -- these items come one after another
 abbrev pub Gives : Standing → List ℕ → List PlainItem → Standing → List ℕ → Type 0
 Gives s bytes [] t rest = (s ≡ t) × (bytes ≡ rest)

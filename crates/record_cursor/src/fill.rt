@@ -1,5 +1,5 @@
 // Reading so many bytes of a file.
-ghost use Rattle.std.specs.Prelude.{◌≡◌, ◌+◌, ◌<◌, ◌≤◌, ◌^◌, ℕ, List, length, take, drop, Some, OnOk, IfErr, IsTrue};
+ghost use Rattle.std.specs.Prelude.{◌≡◌, ◌+◌, ◌<◌, ◌≤◌, ◌^◌, ℕ, List, length, take, drop, Some, OnOk, IfErr};
 ghost use Rattle.std.specs.FinMap as map;
 ghost use Rattle.xa_outside.specs.Folder.{Files, bytes_or_none};
 ghost use Rattle.xa_outside.specs.Numbers.{PullsAtMost, after_pull};
@@ -36,33 +36,6 @@ pub fn fill_part<F: Folder>(
     }
 }
 
-/// The same, in a room that grows where it is too small, and of which what is great is given back where little is read.
-pub(crate) fn fill_front<F: Folder>(
-    folder: &mut F,
-    name: &str,
-    at: u64,
-    size: usize,
-    room: &mut Vec<u8>,
-) -> Result<(), CursorFault>
-    requires { at + size < 2 ^ 64 }
-    ensures reads { OnlyReads F.files F.draft F.faults folder.old folder.new (fault_of result) }
-    ensures numbers { OnOk result
-        (F.numbers folder.new ≡ after_pull (F.numbers folder.old) size) }
-    ensures pulls { PullsAtMost size (F.numbers folder.old) (F.numbers folder.new) }
-    ensures size { OnOk result (size ≤ length room.new.items) }
-    ensures told { (end : ℕ) (bytes : List ℕ) → TellsFront (F.files folder.old) name.now end bytes
-        → at + size ≤ end
-        → Filled result (λ _. take size room.new.items ≡ take size (drop at bytes)) }
-{
-    if !makes_room(room, size) {
-        return Err(CursorFault::Memory);
-    }
-    match fill_first(folder, name, at, size, room) {
-        Ok(()) => Ok(()),
-        Err(fault) => Err(fault),
-    }
-}
-
 /// Fills the front of the room with so many bytes of a file from the offset on. It is damaged where it has fewer.
 pub fn fill_first<F: Folder>(
     folder: &mut F,
@@ -84,18 +57,4 @@ pub fn fill_first<F: Folder>(
         IfDamage e (length (bytes_or_none (map.get files name.now)) < at + size)) }
 {
     fill_part(folder, name, at, &mut room[..size])
-}
-
-/// More room than this is not kept where less is read.
-const GREAT: usize = 1_048_576;
-
-/// Makes room for so many bytes, where memory suffices. Great room that is not needed is given back.
-fn makes_room(room: &mut Vec<u8>, size: usize) -> bool
-    ensures { IsTrue result → size ≤ length room.new.items }
-{
-    if room.len() > GREAT && size < GREAT {
-        room.truncate(GREAT);
-        room.shrink_to_fit();
-    }
-    room.len() >= size || room.resize(size, 0).is_ok()
 }

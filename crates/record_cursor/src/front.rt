@@ -70,13 +70,16 @@ pub fn read_header<F: Folder>(
         → IfOk result (λ h. IsHeaderAt (header_view h) bytes) }
 {
     match check_length(folder, name, length) {
-        Ok(()) => read_stored(alloc, folder, name, length),
+        Ok(()) => read_header_in(alloc, folder, name, length),
         Err(fault) => Err(fault),
     }
 }
 
-/// The header of the file, which has so many bytes.
-fn read_stored<F: Folder>(
+/// The same of a file that its caller knows to have so many bytes: its length is not asked for.
+///
+/// So what is read is of the file whose length the folder told last. That it has fewer bytes is
+/// found where one of its header is missing.
+pub fn read_header_in<F: Folder>(
     alloc: Global,
     folder: &mut F,
     name: &str,

@@ -5,7 +5,7 @@ use crate::nested::{Record, are_records_given};
 use given_parts::bytes::edit;
 use given_parts::told;
 use keyed_tree::Label;
-use record_cursor::{Cursor, CursorFault, Item, read_header};
+use record_cursor::{Buffer, Cursor, CursorFault, Item, read_header, read_opening};
 use std::alloc::Global;
 use std::test::Fail;
 use xa_outside::MemFolder;
@@ -206,6 +206,49 @@ fn are_cut_files_walked(alloc: Global) -> bool {
     }
 }
 
+/// Two offsets, and what stands at the first, in the part of the file that ends at the second: the kind of a record that may come
+/// among nodes, the length of an END's body, and the offset behind it.
+const OPENINGS: &[(u64, u64, Result<(u8, u64, u64), CursorFault>)] = &[
+    (28, 142, Ok((2, 0, 49))),
+    (28, 49, Ok((2, 0, 49))),
+    (28, 48, Err(CursorFault::Damage)),
+    (28, 36, Err(CursorFault::Damage)),
+    (49, 142, Err(CursorFault::Damage)),
+    (68, 142, Err(CursorFault::Damage)),
+    (77, 142, Ok((4, 48, 134))),
+    (77, 134, Ok((4, 48, 134))),
+    (77, 133, Err(CursorFault::Damage)),
+    (142, 142, Err(CursorFault::Damage)),
+];
+
+fn opened(found: Result<(Item<'_>, u64), CursorFault>) -> Result<(u8, u64, u64), CursorFault> {
+    let (item, behind) = found?;
+    let (kind, length) = given(Ok(item))?;
+    Ok((kind, length, behind))
+}
+
+fn is_opened(
+    alloc: Global,
+    at: u64,
+    end: u64,
+    wanted: Result<(u8, u64, u64), CursorFault>,
+) -> bool {
+    let Ok(mut folder) = folder(alloc, TINY, 0) else {
+        return false;
+    };
+    let mut buffer = Buffer::new(alloc);
+    at <= end && opened(read_opening(&mut folder, "a.xar", at, end, &mut buffer)) == wanted
+}
+
+fn are_opened(alloc: Global) -> bool {
+    for (at, end, wanted) in OPENINGS {
+        if !is_opened(alloc, *at, *end, *wanted) {
+            return false;
+        }
+    }
+    true
+}
+
 #[test]
 fn records_are_given_in_order_until_a_fault(rt: HostRuntime) -> Result<(), Fail> {
     told(
@@ -216,5 +259,9 @@ fn records_are_given_in_order_until_a_fault(rt: HostRuntime) -> Result<(), Fail>
         are_damaged(rt.alloc(), DAMAGED),
         "damage comes where nothing that fits stands",
     )?;
-    told(are_cut_files_walked(rt.alloc()), "a file that is cut")
+    told(are_cut_files_walked(rt.alloc()), "a file that is cut")?;
+    told(
+        are_opened(rt.alloc()),
+        "a record among nodes is read where it stands",
+    )
 }

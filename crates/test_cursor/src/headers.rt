@@ -2,7 +2,7 @@
 pub(crate) use given_parts::bytes::TINY;
 use given_parts::bytes::edit;
 use given_parts::told;
-use record_cursor::{CursorFault, Header, read_header};
+use record_cursor::{CursorFault, Header, read_header, read_header_in};
 use std::alloc::{AllocError, Global};
 use std::test::Fail;
 use xa_outside::{FolderCall, FolderFail, MemFolder};
@@ -39,15 +39,15 @@ fn is_header_read(alloc: Global) -> bool {
     }
 }
 
-/// The name and the length of a file, and whether a header stands there.
-const FRONTS: &[(&str, u64, bool)] = &[
-    ("a.xar", 142, true),
-    ("a.xar", 28, true),
-    ("a.xar", 27, false),
-    ("a.xar", 0, false),
-    ("a.xar", 143, false),
-    ("b.xar", 142, false),
-    ("b.xar", 0, false),
+/// The name and the length of a file, whether a header stands there, and whether one is read where the length is not asked for.
+const FRONTS: &[(&str, u64, bool, bool)] = &[
+    ("a.xar", 142, true, true),
+    ("a.xar", 28, true, true),
+    ("a.xar", 27, false, false),
+    ("a.xar", 0, false, false),
+    ("a.xar", 143, false, true),
+    ("b.xar", 142, false, false),
+    ("b.xar", 0, false, false),
 ];
 
 fn is_read(found: &Result<Header, CursorFault>) -> Option<bool> {
@@ -66,9 +66,21 @@ fn is_judged(alloc: Global, file: &[u8], name: &str, length: u64, stands: bool) 
     }
 }
 
-fn are_fronts_judged(alloc: Global, rows: &[(&str, u64, bool)]) -> bool {
-    for (name, length, stands) in rows {
-        if !is_judged(alloc, TINY, name, *length, *stands) {
+/// Whether a header is read, or not, where the length is not asked for.
+fn is_known(alloc: Global, name: &str, length: u64, stands: bool) -> bool {
+    match folder(alloc, TINY, 0) {
+        Ok(mut folder) => {
+            is_read(&read_header_in(alloc, &mut folder, name, length)) == Some(stands)
+        }
+        Err(_) => false,
+    }
+}
+
+fn are_fronts_judged(alloc: Global, rows: &[(&str, u64, bool, bool)]) -> bool {
+    for (name, length, stands, known) in rows {
+        if !is_judged(alloc, TINY, name, *length, *stands)
+            || !is_known(alloc, name, *length, *known)
+        {
             return false;
         }
     }

@@ -1,4 +1,4 @@
-use Rattle.std.proofs.Common.{◌≡◌, ℕ, ◌+◌, ◌-◌, ◌*◌, ◌/◌, ◌≤◌, length, Ok, Err, sym, subst, ◌∙◌, arith}
+use Rattle.std.proofs.Common.{◌≡◌, ℕ, ◌+◌, ◌-◌, ◌*◌, ◌/◌, ◌≤◌, Ok, Err, sym, subst, ◌∙◌, arith}
 use Rattle.xa_outside.specs.NumberLaws.{PullsAtMost-more, PullsAtMost-trans}
 use Rattle.file_get.specs.Searched.{searched, stamp_read}
 use Rattle.file_get.proofs.Bodies.{stamp-begun, stamp-stands, alt-length, alt-parts, alt-is, alt-inherits, stored-set}

@@ -1,4 +1,4 @@
-use Rattle.std.proofs.Common.{◌≡◌, ◌<◌, ℕ, length, sym, subst, arith}
+use Rattle.std.proofs.Common.{◌<◌, ℕ, length, sym, subst, arith}
 use Rattle.timestamp_tree.specs.Data.{top}
 use Rattle.xa_outside.specs.Numbers.{PullsAtMost}
 use Rattle.file_get.specs.Looked.{left_bytes, tree_over}

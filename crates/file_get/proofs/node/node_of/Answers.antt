@@ -1,4 +1,4 @@
-use Rattle.std.proofs.Common.{◌≡◌, ℕ, ◌+◌, ◌*◌, drop, length, Some, None, refl, sym, ap, subst, ◌∙◌, arith}
+use Rattle.std.proofs.Common.{refl, sym, ap, arith}
 use Rattle.std.specs.Option.{option_map}
 use Rattle.file_get.specs.Nodes.{says_of}
 use Rattle.file_get.proofs.StoredNodes.{count-is, no-count, no-interval, not-whole, no-pairs, node-says}

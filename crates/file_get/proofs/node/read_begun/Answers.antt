@@ -1,4 +1,4 @@
-use Rattle.std.proofs.Common.{◌≡◌, ℕ, ◌+◌, ◌*◌, ◌-◌, ◌≤◌, length, subst, arith}
+use Rattle.std.proofs.Common.{◌≡◌, ℕ, ◌-◌, length, subst, arith}
 use Rattle.xa_fields.specs.FieldLaws.{some_is}
 use Rattle.xa_outside.specs.Numbers.{PullsAtMost}
 use Rattle.file_get.specs.Searched.{inner_read}

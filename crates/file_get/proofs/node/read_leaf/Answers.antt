@@ -1,4 +1,4 @@
-use Rattle.std.proofs.Common.{◌≡◌, ℕ, ◌+◌, ◌-◌, ◌*◌, ◌/◌, ◌%◌, ◌≤◌, sym, subst, ◌∙◌, arith}
+use Rattle.std.proofs.Common.{◌≡◌, ℕ, ◌+◌, ◌-◌, ◌*◌, ◌/◌, sym, subst, ◌∙◌, arith}
 use Rattle.file_get.specs.Nodes.{NodeTold}
 use Rattle.file_get.proofs.StoredNodes.{length-stored, short-pulls, size-is, size-not}
 use Rattle.file_get.proofs.node.read_leaf.Goals as goal

@@ -1,9 +1,6 @@
-use Rattle.std.proofs.Common.{◌≡◌, ℕ, ◌+◌, ◌-◌, ◌*◌, ◌/◌, ◌≤◌, length, sym, subst, Option, ◌∙◌, arith}
-use Rattle.std.proofs.lemmas.List.{length-append}
-use Rattle.xa_fields.specs.Spelling.{u64_bytes}
+use Rattle.std.proofs.Common.{◌≡◌, ℕ, ◌+◌, ◌-◌, ◌*◌, ◌/◌, ◌≤◌, sym, subst, Option, ◌∙◌, arith}
 use Rattle.xa_outside.specs.Folder.{Files}
 use Rattle.xa_outside.specs.NumberLaws.{PullsAtMost-more, PullsAtMost-trans}
-use Rattle.timestamp_tree.specs.Bytes.{set_bytes}
 use Rattle.timestamp_tree.proofs.Trees.{length-set_bytes}
 use Rattle.record_cursor.specs.Moves.{TellsFront}
 use Rattle.file_get.specs.Searched.{searched}

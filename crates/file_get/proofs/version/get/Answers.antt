@@ -1,4 +1,4 @@
-use Rattle.std.proofs.Common.{◌≡◌, ◌+◌, ◌≤◌, arith}
+use Rattle.std.proofs.Common.{◌≡◌, ◌+◌, arith}
 use Rattle.xa_outside.specs.NumberLaws.{PullsAtMost-more}
 use Rattle.record_format.specs.Seen.{seen, steps_for}
 use Rattle.file_get.specs.Searched.{bytes_read}

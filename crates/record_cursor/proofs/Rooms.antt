@@ -1,5 +1,5 @@
 -- Bytes that were read, few or many.
-use Rattle.std.proofs.Common.{◌≡◌, ℕ, zero, suc, ◌≤◌, ◌<◌, true, false, leb, List, [], ◌∷◌, length, take, drop, Result, Ok, Err, refl, arith}
+use Rattle.std.proofs.Common.{◌≡◌, ℕ, ◌≤◌, ◌<◌, true, false, leb, List, take, Result, Ok, Err, arith}
 use Rattle.std.specs.Prelude.{nat_le, if◌then◌else◌}
 use Rattle.std.proofs.lemmas.Bool.Decides.{nat_tests}
 use Rattle.record_cursor.specs.Steps.{Filled}
@@ -14,10 +14,3 @@ few-bytes size short long xs le e = (let yes : leb size 256 ≡ true = grind (ar
 
 pub many-bytes : (size : ℕ) (short long xs : List ℕ) → 256 < size → long ≡ xs → (if nat_le size 256 then take size short else long) ≡ xs
 many-bytes size short long xs lt e = (let no : leb size 256 ≡ false = grind (arith, nat_tests) in rw no e)
-
--- nothing stands behind the end
-pub past-end : (n : ℕ) (xs : List ℕ) → length xs ≤ n → drop n xs ≡ []
-past-end zero [] le = refl
-past-end zero (x ∷ xs) le = absurd (omega (arith, le))
-past-end (suc n) [] le = refl
-past-end (suc n) (x ∷ xs) le = past-end n xs (omega (arith, le))

@@ -5,7 +5,7 @@ use Rattle.record_format.specs.Fronts.{header, header_at}
 use Rattle.record_cursor.specs.Moves.{TellsFront}
 use Rattle.record_cursor.proofs.Fills.{front-length, no-damage, damage-map}
 use Rattle.record_cursor.proofs.Headers.{header-least, header-first, header-told, header-missing, stored-spelled, pulled-all}
-use Rattle.record_cursor.proofs.front.read_stored.Goals as goal
+use Rattle.record_cursor.proofs.front.read_header_in.Goals as goal
 
 pub returns-in-Err-clause-only : goal.returns-in-Err-clause-only
 returns-in-Err-clause-only g c = λ bytes rules n first tells stands fits. (

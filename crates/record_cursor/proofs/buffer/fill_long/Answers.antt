@@ -1,6 +1,6 @@
 use Rattle.std.proofs.Common.{rules, take, drop, ap, ◌∙◌}
 use Rattle.record_cursor.proofs.Fills.{whole-front, filled-from, never-short}
-use Rattle.file_get.proofs.bytes.fill_long.Goals as goal
+use Rattle.record_cursor.proofs.buffer.fill_long.Goals as goal
 
 pub returns-in-Ok-clause-told : goal.returns-in-Ok-clause-told
 returns-in-Ok-clause-told g c = λ end bytes tells fits. (
