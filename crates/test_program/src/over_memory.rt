@@ -456,6 +456,18 @@ const REPLACED: &[Replaced] = &[
         event: Event::Moves("B", "A"),
     },
     Replaced {
+        words: &["history", "A", "[\"db\",[\"e\",1]]"],
+        event: Event::Moves("B", "A"),
+    },
+    Replaced {
+        words: &["log", "A", "[\"db\",[\"e\",1]]"],
+        event: Event::Moves("B", "A"),
+    },
+    Replaced {
+        words: &["cut", "A", "N", "1", "1"],
+        event: Event::Moves("B", "A"),
+    },
+    Replaced {
         words: &["check", "A"],
         event: Event::Moves("B", "A"),
     },

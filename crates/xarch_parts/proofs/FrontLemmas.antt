@@ -1,7 +1,8 @@
 -- What is read of an archive before its first record.
-use Rattle.std.proofs.Common.{◌≡◌, ℕ, ◌+◌, ◌≤◌, List, ◌++◌, length, drop, Option, Some, None, Ok, Err, refl, sym, ap, ◌∙◌, subst, arith}
+use Rattle.std.proofs.Common.{◌≡◌, ℕ, ◌≤◌, List, ◌++◌, length, drop, Option, Some, None, Ok, Err, refl, sym, ap, ◌∙◌, subst, arith}
 use Rattle.std.specs.FinMap as map
 use Rattle.std.specs.List.{flat_map}
+use Rattle.std.specs.Option.{option_map}
 use Rattle.std.proofs.lemmas.List.{length-append}
 use Rattle.key_spec.specs.Canonical.{canonical}
 use Rattle.key_spec.specs.Closed.{closed}
@@ -23,7 +24,7 @@ use Rattle.xarch_parts.specs.Ends.{IsDefined}
 use Rattle.xarch_parts.specs.InputLaws.{front-all}
 use Rattle.xarch_parts.specs.Inputs.{file_length, read_in}
 use Rattle.xarch_parts.specs.Outcome.{and_then, or_refuse}
-use Rattle.xarch_parts.specs.Readings.{parts_of}
+use Rattle.xarch_parts.specs.Readings.{parts_of, front_of_core}
 use Rattle.xarch_parts.specs.CoreLaws.{core-length, core-told}
 
 -- From what is known of all archive files: their header stands in front.
@@ -56,3 +57,17 @@ parts-refused files name size folder_fault long none only = tt
 parts-refused files name size out_fault long none only = tt
 parts-refused files name size in_fault long none only = tt
 parts-refused files name size memory long none only = tt
+
+-- nor has a core without a header a front
+pub header-refused : (name core : List ℕ) (v : PlainFault) → header_at core ≡ None → IsRefusal (damaged name) v → IsDefined (front_of_core name core) v
+unfolding IsDefined
+header-refused name core (refused q) none only =
+    ap (λ (o : Option ((List PlainRule × ℕ) × List ℕ)). or_refuse (option_map {U = List PlainRule × ℕ} (λ (x : (List PlainRule × ℕ) × List ℕ). x.0) o) (damaged name)) none ∙ ap (λ (r : Refusal). Err r) (sym (only q refl))
+header-refused name core folder_fault none only = tt
+header-refused name core out_fault none only = tt
+header-refused name core in_fault none only = tt
+header-refused name core memory none only = tt
+
+-- and one with a header has it
+pub header-given : (name core : List ℕ) (x : (List PlainRule × ℕ) × List ℕ) → header_at core ≡ Some x → front_of_core name core ≡ Ok x.0
+header-given name core x there = ap (λ (o : Option ((List PlainRule × ℕ) × List ℕ)). or_refuse (option_map {U = List PlainRule × ℕ} (λ (x : (List PlainRule × ℕ) × List ℕ). x.0) o) (damaged name)) there

@@ -20,7 +20,7 @@ ghost use Rattle.xarch_parts.specs.Readings.{front_in, front_of_core};
 use crate::front::Front;
 use crate::names::damaged;
 use noted_file::full_files_have_parts;
-use record_cursor::{CursorFault, Header, files_give_their_items, read_header};
+use record_cursor::{CursorFault, Header, files_give_their_items, read_header_in};
 use std::alloc::Global;
 use version_notes::{Parts, PartsFault, parts_of};
 use xa_outside::Folder;
@@ -116,7 +116,7 @@ fn header_before<F: Folder>(
 {
     // A law, for the proof of `few`.
     files_give_their_items();
-    match read_header(alloc, folder, name, core) {
+    match read_header_in(alloc, folder, name, core) {
         Ok(header) => Ok(header),
         Err(CursorFault::Damage) => Err(damaged(alloc, name)),
         Err(CursorFault::Folder) => Err(Fault::FolderFault),

@@ -1,4 +1,4 @@
-use Rattle.std.proofs.Common.{◌+◌, take, sym, ◌∙◌, subst, arith}
+use Rattle.std.proofs.Common.{take, sym, ◌∙◌, subst, arith}
 use Rattle.record_cursor.specs.View.{header_view}
 use Rattle.xa_outside.specs.NumberLaws.{PullsAtMost-trans}
 use Rattle.xarch_words.specs.View.{fault_view}
