@@ -21,11 +21,12 @@ use Rattle.xarch_meanings.specs.Demo.{MakesOrNone}
 use Rattle.xarch_parts.specs.Outcome.{Outcome, Step, and_then, step_from}
 use Rattle.xarch_meanings.specs.Plausible.{IsLate, MayBe, MayDo, Plausible, Tried, Wrote, step_behind}
 use Rattle.xarch_meanings.specs.PlausibleLaws.{behind-none, late-three}
+use Rattle.xarch_meanings.specs.Ran as ran
 use Rattle.xarch_meanings.specs.Ran.{IsLongDemo, MayHaveWritten, OnlyReads, Said, Says, line_after, outside_of, status_after}
 use Rattle.xarch_meanings.specs.Step.{single_of}
 use Rattle.xarch_run.specs.Batch.{EndsTheBatch, IsPart, RunsOver, scene}
 use Rattle.xarch_run.specs.Lines.{is_blank, without_blanks}
-use Rattle.xarch_run.specs.Steps.{CommandAnswers, IsStep, LineAnswers, LineMay, MakesNone, MayFault, RefusesWith, SpelledAnswers, WordsAnswer, WordsMay, line_command, status_line}
+use Rattle.xarch_run.specs.Steps.{CommandAnswers, IsStep, LineAnswers, LineMay, MakesNone, MayFault, MayPrint, RefusesWith, SpelledAnswers, WordsAnswer, WordsMay, line_command, status_line}
 use Rattle.xarch_run.specs.Turns.{IsLastStatus, IsSilent, IsUntouched, LastStatus, LineFaults, LineRuns, LineStops, LineTakes, LineTried, LineWrote, NoStatus, NoWords, StatusComes, StatusEnds, StatusLost}
 use Rattle.xarch_run.specs.Words.{words_of}
 use Rattle.xarch_run.proofs.Cuts.{without_blanks-blank, without_blanks-other}
@@ -294,6 +295,7 @@ pub record Judged (words : List (List ℕ)) (answer : ℕ) : Type 0 where
   pub none : single_of words ≡ None → answer ≡ 2
   pub only : answer ≡ 2 → single_of words ≡ None
   pub long : IsLongDemo (single_of words) → answer ≡ 12
+  pub silent : ran.IsSilent (single_of words) → outside_of answer ≢ Some out_fault
 
 -- such a `demo` is refused by its words
 long-ended : (c : Option PlainCommand) (ended : Option PlainFault) → ByWords c ended → IsLongDemo c → ended ≡ Some (refused (limit refusal.demo DEMO))
@@ -319,11 +321,12 @@ long-ended (Some (demo seed count archive)) ended by h = by h
 
 -- from what a step of the words ended with
 module _ (words : List (List ℕ)) (answer : ℕ) (ended : Option PlainFault) (status : answer ≡ status_after ended) (by : ByWords (single_of words) ended) where
-  pub judged : (ended ≡ Some (refused usage)) ↔ (single_of words ≡ None) → Judged words answer
-  judged is_usage = record {
+  pub judged : (ended ≡ Some (refused usage)) ↔ (single_of words ≡ None) → (ran.IsSilent (single_of words) → answer ≢ 14) → Judged words answer
+  judged is_usage never = record {
     none = λ none. status ∙ ap status_after (is_usage.1 none);
     only = λ two. is_usage.0 (end-usage ended (sym status ∙ two));
     long = λ long. status ∙ ap status_after (long-ended (single_of words) ended by long);
+    silent = λ quiet out. never quiet (status ∙ ap status_after (end-outside ended out_fault (ap outside_of (sym status) ∙ out)));
   }
 
   pub long-says : (e r : Taken) (x y : ℕ) → Says e r x y (line_after ended) → IsLongDemo (single_of words) → Says e r x y (fault_line (refused (limit refusal.demo DEMO)))
@@ -365,6 +368,11 @@ may-fault l words answer fault short is j h =
     some : (c : Option PlainCommand) → (c ≡ None → answer ≡ 2) → IsSome c
     some None two = (let no : outside_of answer ≡ None = ap outside_of (two refl) in absurd cc)
     some (Some command) two = refl
+
+-- and one of the output only a command that may print
+may-print : (l : List ℕ) (words : List (List ℕ)) (answer : ℕ) (fault : PlainFault) → nat_lt LINE (length l) ≡ false → words_of l ≡ Some words → Judged words answer → outside_of answer ≡ Some fault → fault ≡ out_fault → MayPrint l
+may-print l words answer fault short is j h out quiet =
+    j.silent (subst ran.IsSilent (spelled-command l words short is) quiet) (h ∙ ap (λ (v : PlainFault). Some v) out)
 
 -- a step of the words from told files
 words-step : (f g : Option Files) (h : Files) (l : List ℕ) (words : List (List ℕ)) (s : Step) → f ≡ Some h → nat_lt LINE (length l) ≡ false → words_of l ≡ Some words → Plausible h words s → SpelledAnswers (single_of words) s → KeptBy f g words s → IsStep f g l s
@@ -484,7 +492,7 @@ pub takes-step : (f g : Option Files) (l : List ℕ) (words : List (List ℕ)) (
     → (IsLongDemo (single_of words) → Says e r x y (fault_line (refused (limit refusal.demo DEMO)))) → LineTakes f g l answer o p e r x y
 takes-step f g l words answer o p e r x y short is j untold tried wrote said gained nothing kept reads long_said =
     takes_by f g l answer o p e r x y _ refl (λ plain. by_told f refl plain)
-    (λ fault h. record { spelled = may-fault l words answer fault short is j h; wrote = part_told f refl fault h; kept = kept (λ zero. let none : outside_of answer ≡ None = ap outside_of zero in cc); said = said_outside answer fault e r x y said h })
+    (λ fault h. record { spelled = may-fault l words answer fault short is j h; prints = may-print l words answer fault short is j h; wrote = part_told f refl fault h; kept = kept (λ zero. let none : outside_of answer ≡ None = ap outside_of zero in cc); said = said_outside answer fault e r x y said h })
   where
     by_told : (v : Option Files) → f ≡ v → outside_of answer ≡ None → LineTried f g l answer o p e r x y
     by_told (Some h) told plain = tried-told f g l words answer o p e r x y short is j kept reads h told (tried h told plain)
@@ -541,7 +549,7 @@ stops-write f g o p q e r t x y z l status answer took end =
     record {
       written = w.part;
       spoken = fault_line out_fault ∷ [];
-      stops = inr (inl (record { status = end.same; spelled = k.spelled; front = w.front; line_is = refl; files_kept = k.kept }));
+      stops = inr (inl (record { status = end.same; spelled = k.spelled; prints = k.prints refl; front = w.front; line_is = refl; files_kept = k.kept }));
       gains = Gains-one f g o q e t x z w.part (fault_line out_fault) (subst (λ (u : Taken). Takes o u w.part) (sym end.output) w.takes) (says-still e r t x y z (fault_line out_fault) end.silent k.said);
     }
 

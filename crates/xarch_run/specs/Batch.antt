@@ -11,7 +11,7 @@ use Rattle.xarch_words.specs.Refusal.{batch, limit, PlainFault, refused, folder_
 use Rattle.xarch_words.specs.declared.limits.TheConstants.{BATCH}
 use Rattle.xarch_parts.specs.Outcome.{Step}
 use Rattle.xarch_run.specs.Lines.{lines_of, ended_lines_of}
-use Rattle.xarch_run.specs.Steps.{AreSteps, IfTold, IsStep, MayFault, lines_said, outs, status_line}
+use Rattle.xarch_run.specs.Steps.{AreSteps, IfTold, IsStep, MayFault, MayPrint, lines_said, outs, status_line}
 
 -- ---- what is seen
 
@@ -87,10 +87,11 @@ pub record CommandFaults (before now : Option Files) (line : List ℕ) (answer :
   pub line_is : spoken ≡ fault_line fault ∷ []
   pub files_kept : now ≡ before
 
--- A write of the command failed.
+-- A write of the command failed, which is none of those that print nothing.
 pub record WriteFails (before now : Option Files) (line : List ℕ) (answer : ℕ) (written : List ℕ) (spoken : List (List ℕ)) : Type 0 where
   pub status : answer ≡ 14
   pub spelled : MayFault line
+  pub prints : MayPrint line
   pub front : IsPart before now line written
   pub line_is : spoken ≡ fault_line out_fault ∷ []
   pub files_kept : now ≡ before

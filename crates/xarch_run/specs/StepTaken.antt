@@ -6,7 +6,7 @@ use Rattle.xa_outside.specs.Numbers.{Numbers}
 use Rattle.xa_outside.specs.Taken.{Taken, TakesNone}
 use Rattle.xarch_words.specs.Commands.{PlainCommand, command_of}
 use Rattle.xarch_words.specs.Refusal as refusal
-use Rattle.xarch_words.specs.Refusal.{PlainFault, folder_fault, out_fault}
+use Rattle.xarch_words.specs.Refusal.{PlainFault, folder_fault}
 use Rattle.xarch_parts.specs.Ends.{Gained, HasItsCause}
 use Rattle.xarch_parts.specs.Folders.{IsTold}
 use Rattle.xarch_parts.specs.Outcome.{Step}
@@ -30,11 +30,12 @@ pub record StepTaken {F O E : Type 0} (told_files : F → Option Files) (told_dr
   pub status : answer ≡ status_after ended
   pub line : Says (spoken e) (spoken r) (err_faults e) (err_faults r) (line_after ended)
   -- When a fault comes, whatever the folder tells. What the words alone refuse is refused; a fault of folder or output has its cause, and a command that
-  -- prints nothing has none of the output.
+  -- prints nothing has none of the output, which it leaves as it was.
   pub usage : (ended ≡ Some (refusal.refused refusal.usage)) ↔ (single_of words ≡ None)
   pub by_words : ByWords (single_of words) ended
   pub cause : HasItsCause (faults f) (faults g) (out_faults o) (out_faults p) ended
-  pub silent : IsSilent (single_of words) → ended ≢ Some out_fault
+  pub silent : IsSilent (single_of words) → answer ≢ 14
+  pub untouched : IsSilent (single_of words) → p ≡ o
   -- Where files are told: one of the steps that the words may have the program take, and the one that is defined where each archive that they name is absent
   -- or sound. Status, files, output and line are that step's, but after a fault of the outside, which leaves a prefix of its output.
   pub tried : (files : Files) → told_files f ≡ Some files → outside_of answer ≡ None

@@ -9,7 +9,7 @@ use Rattle.xarch_words.specs.Refusal.{demo, line, Refusal, usage, damaged, limit
 use Rattle.xarch_words.specs.declared.limits.TheConstants.{DEMO, LINE}
 use Rattle.xarch_parts.specs.Outcome.{Step, step_from}
 use Rattle.xarch_meanings.specs.Plausible.{Plausible}
-use Rattle.xarch_meanings.specs.Ran.{IsLongDemo, MayHaveWritten, OnlyReads}
+use Rattle.xarch_meanings.specs.Ran.{IsLongDemo, IsSilent, MayHaveWritten, OnlyReads}
 use Rattle.xarch_meanings.specs.Step.{single_of}
 use Rattle.xarch_run.specs.Words.{words_of}
 
@@ -77,6 +77,10 @@ line_command l = if nat_lt LINE (length l) then None else option_and_then single
 pub record MayFault (l : List ℕ) : Type 0 where
   pub command : IsSome (line_command l)
   pub short : ¬ IsLongDemo (line_command l)
+
+-- the line spells a command, and none of those that print nothing
+abbrev pub MayPrint : List ℕ → Type 0
+MayPrint l = ¬ IsSilent (line_command l)
 
 -- its step makes no file: it was refused, or the command only reads
 abbrev pub MakesNone : List ℕ → Step → Type 0

@@ -9,7 +9,7 @@ use Rattle.xarch_parts.specs.Outcome.{Step}
 use Rattle.xarch_meanings.specs.Ran.{Ran, Says, outside_of}
 use Rattle.xarch_run.specs.Batch.{Gains, RunsOver, Scene, Stops}
 use Rattle.xarch_run.specs.Lines.{is_blank, without_blanks}
-use Rattle.xarch_run.specs.Steps.{IsStep, MayFault, status_line}
+use Rattle.xarch_run.specs.Steps.{IsStep, MayFault, MayPrint, status_line}
 
 -- ---- its step
 
@@ -29,9 +29,10 @@ pub record LinePrefix (before after : Option Files) (line : List ℕ) (old new :
 abbrev pub LineWrote : Option Files → Option Files → List ℕ → Taken → Taken → Type 0
 LineWrote before after line old new = Takes old new [] ⊎ LinePrefix before after line old new
 
--- A fault of the outside changed no file, and its line was said. It comes to a command alone.
+-- A fault of the outside changed no file, and its line was said. It comes to a command alone, and one of the output to a command that may print.
 pub record LineFaults (before after : Option Files) (line : List ℕ) (fault : PlainFault) (old new err_old err_new : Taken) (count_before count_now : ℕ) : Type 0 where
   pub spelled : MayFault line
+  pub prints : fault ≡ out_fault → MayPrint line
   pub wrote : LineWrote before after line old new
   pub kept : after ≡ before
   pub said : Says err_old err_new count_before count_now (fault_line fault)

@@ -56,6 +56,7 @@ fn command_words<F: Folder, O: Sink>(
     ensures obeys { Obeys F.files F.draft F.numbers F.faults (single_of (words_view words.now))
         folder.old folder.new (O.taken out.old) (O.taken out.new)
         (O.faults out.old) (O.faults out.new) (fault_of result) }
+    ensures untouched { IsSilent (single_of (words_view words.now)) → out.new ≡ out.old }
 {
     match single_command(words) {
         None => Err(Fault::Usage),
@@ -91,6 +92,7 @@ fn run_command<F: Folder, O: Sink>(
         (F.draft folder.new) (IsLimited (fault_of result)) }
     ensures silent { IsSilent (Some (command_view command.entry))
         → fault_of result ≢ Some out_fault }
+    ensures untouched { IsSilent (Some (command_view command.entry)) → out.new ≡ out.old }
 {
     match command {
         Command::Norm { spec, doc } => run_norm(alloc, spec, doc, folder, out),

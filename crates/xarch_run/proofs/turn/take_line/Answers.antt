@@ -25,7 +25,7 @@ returns-in-Some-clause-takes g c = λ bytes s.
     ap words_of (sym (c.bytes.ensures bytes s short)) ∙ sym c.in_ok-read_line_words.ensures ∙ ap (option_map (λ v. words_view v.items)) c.in-Some.is ∙ ap (λ l. Some (words_view l)) (sym c.deref.ensures.value) in
     let k = c.take_step.ensures.step in
     let words = words_view c.deref.result.now in
-    takes-step _ _ bytes words c.take_step.result _ _ _ _ _ _ short is (judged words c.take_step.result k.ended k.status k.by_words k.usage) k.untold k.tried k.wrote (record { fault = k.ended; status = k.status; line = k.line }) k.gained k.nothing k.refused k.files
+    takes-step _ _ bytes words c.take_step.result _ _ _ _ _ _ short is (judged words c.take_step.result k.ended k.status k.by_words k.usage k.silent) k.untold k.tried k.wrote (record { fault = k.ended; status = k.status; line = k.line }) k.gained k.nothing k.refused k.files
     (long-says words c.take_step.result k.ended k.status k.by_words _ _ _ _ k.line)
 
 pub returns-in-Some-clause-folder_fault : goal.returns-in-Some-clause-folder_fault
