@@ -1,8 +1,12 @@
 -- Counting the records that come, one after another.
-use Rattle.std.proofs.Common.{◌≡◌, ◌≢◌, ℕ, ◌+◌, ◌-◌, ◌*◌, ◌<◌, ◌≤◌, List, [], ◌∷◌, ◌++◌, map, Option, Some, None, Result, Ok, Err, refl, sym, ap, subst, ◌∙◌, arith}
+use Rattle.std.proofs.Common.{◌≡◌, ◌≢◌, ℕ, zero, suc, nat_lt, ◌+◌, ◌-◌, ◌*◌, ◌<◌, ◌≤◌, List, [], ◌∷◌, ◌++◌, length, map, Option, Some, None, Result, Ok, Err, refl, sym, ap, subst, ◌∙◌, arith}
 use Rattle.std.proofs.lemmas.List.Sums.{sum_by-cons}
+use Rattle.std.specs.Prelude.{IfOk}
+use Rattle.std.specs.FinMap as finite
+use Rattle.xa_fields.specs.FieldLaws.{some_is, passed_some}
+use Rattle.record_parts.specs.Bounds.{deepest}
 use Rattle.xa_outside.specs.Causes.{Rose}
-use Rattle.xa_outside.specs.Folder.{Files}
+use Rattle.xa_outside.specs.Folder.{Files, bytes_or_none}
 use Rattle.xa_outside.specs.Numbers.{PullsAtMost, after_pull}
 use Rattle.xa_outside.specs.NumberLaws.{PullsAtMost-of, PullsAtMost-more, PullsAtMost-trans}
 use Rattle.record_format.specs.Data.{PlainRec, inner_rec, leaf_rec, alt_rec, end_rec, leaf_end}
@@ -11,7 +15,7 @@ use Rattle.record_cursor.specs.Faults.{IfDamage, IfFolder}
 use Rattle.record_cursor.specs.Items.{PlainItem, inner_item, leaf_item, alt_item, leaf_end_item, end_item, finish, item_of}
 use Rattle.record_cursor.specs.Moves.{Comes, Goes, Moves}
 use Rattle.record_cursor.specs.Next.{read_for, size_of}
-use Rattle.record_cursor.specs.Places.{Standing, among_nodes, in_leaf, behind_root, finished}
+use Rattle.record_cursor.specs.Places.{Standing, among_nodes, in_leaf, behind_root, finished, after_item}
 use Rattle.record_cursor.specs.Steps.{fault_of, IsCause, Filled}
 use Rattle.record_cursor.specs.View.{PlainCursor, shown_item}
 use Rattle.record_cursor.specs.declared.fault.CursorFault.{CursorFault}
@@ -38,11 +42,70 @@ pub record Given (c d : PlainCursor) (s t : Seen) (i : Item) : Type 0 where
   pub numbers : t.numbers ≡ after_pull s.numbers (read_for c.standing (shown_item i))
   pub later : s.faults ≤ t.faults
   pub goes : Goes s.files c i d
+  pub whole : (files : Files) → s.files ≡ Some files → c.standing ≢ finished → shown_item i ≡ finish → c.length ≤ length (bytes_or_none (finite.get files c.name))
 
 pub given : (c d : PlainCursor) (s t : Seen) (r : Result Item CursorFault) (i : Item) → r ≡ Ok i → t.files ≡ s.files → t.draft ≡ s.draft → t.numbers ≡ after_pull s.numbers (read_for c.standing (shown_item i)) → s.faults ≤ t.faults
-    → Moves s.files c r d → Given c d s t i
-given c d s t r i is files draft numbers later moves =
-    record { files = files; draft = draft; numbers = numbers; later = later; goes = subst (λ (x : Result Item CursorFault). Moves s.files c x d) is moves }
+    → Moves s.files c r d → ((files : Files) → s.files ≡ Some files → c.standing ≢ finished → IfOk r (λ i. shown_item i ≡ finish → c.length ≤ length (bytes_or_none (finite.get files c.name)))) → Given c d s t i
+given c d s t r i is files draft numbers later moves whole = record {
+  files = files;
+  draft = draft;
+  numbers = numbers;
+  later = later;
+  goes = subst (λ (x : Result Item CursorFault). Moves s.files c x d) is moves;
+  whole = λ fs told going. subst (λ (x : Result Item CursorFault). IfOk x (λ i. shown_item i ≡ finish → c.length ≤ length (bytes_or_none (finite.get fs c.name)))) is (whole fs told going);
+}
+
+-- behind a record a cursor is not behind the end
+not-behind : (s t : Standing) (i : PlainItem) → i ≢ finish → after_item s i ≡ Some t → t ≢ finished
+not-behind (among_nodes depth) t (inner_item l x) h e = λ f. (let p = passed_some (nat_lt depth deepest) (among_nodes (suc depth)) t e in clash (p.1 ∙ f))
+  where
+    clash : among_nodes (suc depth) ≡ finished → ⊥
+    clash g = cc
+not-behind (among_nodes depth) t (leaf_item l x) h e = λ f. clash (some_is (in_leaf depth) t e ∙ f)
+  where
+    clash : in_leaf depth ≡ finished → ⊥
+    clash g = cc
+not-behind (among_nodes depth) t (alt_item x b) h e = λ f. absurd cc
+not-behind (among_nodes depth) t leaf_end_item h e = λ f. absurd cc
+not-behind (among_nodes zero) t (end_item n) h e = λ f. clash (some_is (behind_root n) t e ∙ f)
+  where
+    clash : behind_root n ≡ finished → ⊥
+    clash g = cc
+not-behind (among_nodes (suc depth)) t (end_item n) h e = λ f. clash (some_is (among_nodes depth) t e ∙ f)
+  where
+    clash : among_nodes depth ≡ finished → ⊥
+    clash g = cc
+not-behind (among_nodes depth) t finish h e = λ f. absurd cc
+not-behind (in_leaf depth) t (inner_item l x) h e = λ f. absurd cc
+not-behind (in_leaf depth) t (leaf_item l x) h e = λ f. absurd cc
+not-behind (in_leaf depth) t (alt_item x b) h e = λ f. clash (some_is (in_leaf depth) t e ∙ f)
+  where
+    clash : in_leaf depth ≡ finished → ⊥
+    clash g = cc
+not-behind (in_leaf depth) t leaf_end_item h e = λ f. clash (some_is (among_nodes depth) t e ∙ f)
+  where
+    clash : among_nodes depth ≡ finished → ⊥
+    clash g = cc
+not-behind (in_leaf depth) t (end_item n) h e = λ f. absurd cc
+not-behind (in_leaf depth) t finish h e = λ f. absurd cc
+not-behind (behind_root n) t i h e = λ f. absurd (last i h e)
+  where
+    last : (i : PlainItem) → i ≢ finish → after_item (behind_root n) i ≡ Some t → ⊥
+    last (inner_item l x) h e = cc
+    last (leaf_item l x) h e = cc
+    last (alt_item x b) h e = cc
+    last leaf_end_item h e = cc
+    last (end_item n) h e = cc
+    last finish h e = h refl
+not-behind finished t i h e = λ f. absurd (last i h e)
+  where
+    last : (i : PlainItem) → i ≢ finish → after_item finished i ≡ Some t → ⊥
+    last (inner_item l x) h e = cc
+    last (leaf_item l x) h e = cc
+    last (alt_item x b) h e = cc
+    last leaf_end_item h e = cc
+    last (end_item n) h e = cc
+    last finish h e = h refl
 
 -- the items that are records
 pub no-finish : (i : Item) → i ≢ item.Finish → shown_item i ≢ finish
@@ -121,6 +184,10 @@ module _ (k : PlainCounts) (c d : PlainCursor) (s t : Seen) (i : Item) (g : Give
         let pulled = PullsAtMost-of (weight x.first) (read_for c.standing (shown_item i)) s.numbers t.numbers (omega (arith, one)) g.numbers in
         subst (λ (n : ℕ). PullsAtMost n s.numbers u.numbers) (sym (ap read_by x.all ∙ sums x.first x.others)) (PullsAtMost-trans (weight x.first) (read_by x.others) s.numbers t.numbers u.numbers pulled (h.few x.others x.next))
 
+    whole-on : (q : Result Counts CursorFault) (fs : Files) → IfOk q (λ e. d.length ≤ length (bytes_or_none (finite.get fs d.name))) → IfOk q (λ e. c.length ≤ length (bytes_or_none (finite.get fs c.name)))
+    whole-on (Ok e) fs le = (let goes = g.goes in subst (λ (n : List ℕ). c.length ≤ length (bytes_or_none (finite.get fs n))) goes.same_name (subst (λ (n : ℕ). n ≤ length (bytes_or_none (finite.get fs d.name))) goes.same_length le))
+    whole-on (Err e) fs le = tt
+
     pub counted-on : RecordsCounted k c s u r
     counted-on =
         let goes = g.goes in
@@ -139,6 +206,7 @@ module _ (k : PlainCounts) (c d : PlainCursor) (s t : Seen) (i : Item) (g : Give
           };
           counts = λ rs comes. (let x = taken some rs comes in filled-on r rs x (h.counts x.others x.next));
           few = λ rs comes. few-on rs (taken some rs comes);
+          whole = λ fs told going. whole-on r fs (h.whole fs (g.files ∙ told) (not-behind c.standing d.standing (shown_item i) some goes.may_come));
         }
 
   -- the file ends
@@ -156,6 +224,7 @@ module _ (k : PlainCounts) (c d : PlainCursor) (s t : Seen) (i : Item) (g : Give
         counts = all;
         few = λ rs comes. PullsAtMost-of (read_by rs) (read_for c.standing (shown_item i)) s.numbers t.numbers
             (let least = read-finish c.standing in let same = ap (read_for c.standing) ends in omega (arith, least, same)) g.numbers;
+        whole = λ fs told going. g.whole fs told going ends;
       }
     where
       all : (rs : List PlainRec) → RecordsCome s.files c rs → counts_view e ≡ tallied k rs
@@ -189,6 +258,7 @@ counted-fault k c s t e files draft pulls later cause undamaged reads = record {
   reads = record { same_files = files; same_draft = draft; later = later; cause = cause; pulls = pulls };
   counts = λ rs comes. (let h = head s.files c rs comes in undamaged h.item h.others h.comes);
   few = λ rs comes. (let h = head s.files c rs comes in PullsAtMost-more (read_for c.standing h.item) (read_by rs) s.numbers t.numbers h.read (reads h.item h.others h.comes));
+  whole = λ fs told going. tt;
 }
 
 -- ---- on the way

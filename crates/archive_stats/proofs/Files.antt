@@ -1,5 +1,5 @@
 -- The counts of the file of an archive.
-use Rattle.std.proofs.Common.{◌≡◌, ℕ, ◌+◌, ◌-◌, ◌≤◌, List, ◌++◌, length, drop, cond, true, leb, take_all, Option, Some, None, Result, Ok, Err, refl, sym, ap, subst, ◌∙◌, arith}
+use Rattle.std.proofs.Common.{◌≡◌, ℕ, ◌+◌, ◌-◌, ◌≤◌, List, ◌++◌, length, drop, cond, true, leb, take, take_all, Option, Some, None, Result, Ok, Err, refl, sym, ap, subst, ◌∙◌, arith}
 use Rattle.std.specs.FinMap as finite
 use Rattle.std.specs.Prelude.{IfOk}
 use Rattle.std.specs.List.{flat_map}
@@ -31,7 +31,7 @@ use Rattle.record_format.specs.Spelling.{rec_bytes}
 use Rattle.record_format.proofs.HeaderLaws.{header_again}
 use Rattle.record_cursor.specs.Faults as cursor
 use Rattle.record_cursor.specs.Moves.{TellsFront, TellsHeader}
-use Rattle.record_cursor.specs.Places.{among_nodes}
+use Rattle.record_cursor.specs.Places.{among_nodes, finished}
 use Rattle.record_cursor.specs.Steps.{fault_of, Filled}
 use Rattle.record_cursor.specs.View.{PlainCursor, PlainHeader, header_view}
 use Rattle.record_cursor.specs.declared.fault.CursorFault.{CursorFault}
@@ -73,7 +73,7 @@ pub record Headed (name : List ℕ) (size : ℕ) (h : Header) (s m : Seen) : Typ
   pub later : s.faults ≤ m.faults
   pub within : (header_view h).first ≤ (header_view h).length
   pub long : (header_view h).length ≡ size
-  pub told : (files : Files) → s.files ≡ Some files → TellsHeader (Ok h) (front_of files name size)
+  pub told : (bytes : List ℕ) → TellsFront s.files name size bytes → TellsHeader (Ok h) (Some bytes)
 
 -- of an archive's file
 record Begins (h : PlainHeader) (rules : List PlainRule) (a : PlainArchive) : Type 0 where
@@ -84,7 +84,7 @@ module _ (name : List ℕ) (size : ℕ) (h : Header) (s m : Seen) (k : Headed na
   begins : (bytes : List ℕ) (rules : List PlainRule) (a : PlainArchive) → TellsFront s.files name size bytes → IsFileOf rules a bytes → Begins (header_view h) rules a
   begins bytes rules a tells f =
       let v = header_view h in
-      let stands : header_at bytes ≡ Some ((v.rules, v.versions), drop v.first bytes) = subst (TellsHeader (Ok h)) tells.2 (k.told tells.0 tells.1) in
+      let stands : header_at bytes ≡ Some ((v.rules, v.versions), drop v.first bytes) = k.told bytes tells in
       let rest = flat_map rec_bytes (file_records a) ++ tail_bytes a in
       let same = some_is ((v.rules, v.versions), drop v.first bytes) ((rules, a.n), rest) (sym stands ∙ header-there bytes rules a f) in
       let left : length (drop v.first bytes) ≡ length rest = ap (λ (x : (List PlainRule × ℕ) × List ℕ). length x.1) same in
@@ -113,9 +113,9 @@ module _ (name : List ℕ) (size : ℕ) (h : Header) (s m : Seen) (k : Headed na
     filled-as (Ok e) x y same f = f ∙ same
     filled-as (Err e) x y same f = f
 
-    not-short : (r : Result Counts CursorFault) (files : Files) → s.files ≡ Some files → front_of files name size ≡ None → IfOk r (λ e. ⊥)
-    not-short (Ok e) files told none = subst (TellsHeader (Ok h)) none (k.told files told)
-    not-short (Err e) files told none = tt
+    not-short : (r : Result Counts CursorFault) (file : List ℕ) → front size file ≡ None → IfOk r (λ e. size ≤ length file) → IfOk r (λ e. ⊥)
+    not-short (Ok e) file none long = (let all : leb size (length file) ≡ true = grind (arith, nat_tests) in let there : front size file ≡ Some (take size file) = rw all refl in absurd cc)
+    not-short (Err e) file none long = tt
 
     -- the records behind the header are counted
     pub file-counted : (t : Seen) (r : Result Counts CursorFault) (before : PlainCounts) → before ≡ before_records (header_view h).versions (header_view h).first (header_view h).length → RecordsCounted before c m t r → FileCounted name size s t r
@@ -141,8 +141,12 @@ module _ (name : List ℕ) (size : ℕ) (h : Header) (s m : Seen) (k : Headed na
               filled-as r (tallied before (file_records a)) (counts rules a) (ap (λ (x : PlainCounts). tallied x (file_records a)) same ∙ file-counts rules a) (n.counts (file_records a) (records-come bytes rules a tells f)));
           few = λ bytes rules a tells f. subst (λ (x : ℕ). PullsAtMost x s.numbers t.numbers) (header-few bytes rules a tells f)
               (PullsAtMost-trans v.first (read_by (file_records a)) s.numbers m.numbers t.numbers pulled (n.few (file_records a) (records-come bytes rules a tells f)));
-          short = λ files told none. not-short r files told none;
+          short = λ files told none. not-short r (bytes_or_none (finite.get files name)) none
+              (subst (λ (x : PlainCursor). IfOk r (λ e. x.length ≤ length (bytes_or_none (finite.get files x.name)))) (is ∙ ap (λ (n : ℕ). record { name = name; length = n; standing = among_nodes 0; at = v.first }) k.long) (n.whole files (k.files ∙ told) (λ e. going (ap (λ (x : PlainCursor). x.standing) (sym is) ∙ e))));
         }
+      where
+        going : among_nodes 0 ≡ finished → ⊥
+        going e = cc
 
   -- no memory for a cursor
   pub no-cursor : FileCounted name size s m (Err fault.Memory)
@@ -158,12 +162,12 @@ module _ (name : List ℕ) (size : ℕ) (h : Header) (s m : Seen) (k : Headed na
 
 -- there is no header
 pub no-header : (name : List ℕ) (size : ℕ) (s t : Seen) (e : CursorFault) → t.files ≡ s.files → t.draft ≡ s.draft → PullsAtMost size s.numbers t.numbers → s.faults ≤ t.faults → cursor.IfFolder e (Rose s.faults t.faults)
-    → ((files : Files) → s.files ≡ Some files → TellsHeader (Err e) (front_of files name size))
+    → ((bytes : List ℕ) → TellsFront s.files name size bytes → TellsHeader (Err e) (Some bytes))
     → ((bytes : List ℕ) (rules : List PlainRule) (n first : ℕ) → TellsFront s.files name size bytes → header_at bytes ≡ Some ((rules, n), drop first bytes) → first ≤ size → PullsAtMost first s.numbers t.numbers)
     → FileCounted name size s t (Err e)
 no-header name size s t e files draft pulls later cause told only = record {
   reads = record { same_files = files; same_draft = draft; later = later; cause = cause; pulls = pulls };
-  counts = λ bytes rules a tells f. damage-map e (header_at bytes ≡ None) ⊥ (λ none. (let there = header-there bytes rules a f in absurd cc)) (subst (TellsHeader (Err e)) tells.2 (told tells.0 tells.1));
+  counts = λ bytes rules a tells f. damage-map e (header_at bytes ≡ None) ⊥ (λ none. (let there = header-there bytes rules a f in absurd cc)) (told bytes tells);
   few = λ bytes rules a tells f. (
       let head = length (header_bytes rules a.n) in
       let len : length (file_bytes rules a) ≡ size = sym (ap length f.spelled) ∙ front-length s.files name bytes size tells in

@@ -1,10 +1,11 @@
 -- What counting the records of a file does.
-use Rattle.std.specs.Prelude.{◌≡◌, ℕ, ◌+◌, ◌-◌, ◌≤◌, List, [], ◌∷◌, ◌++◌, map, sum_by, Option, Some, None, Result, Ok, IfOk, IsTrue}
+use Rattle.std.specs.Prelude.{◌≡◌, ◌≢◌, ℕ, ◌+◌, ◌-◌, ◌≤◌, List, [], ◌∷◌, ◌++◌, length, map, sum_by, Option, Some, None, Result, Ok, IfOk, IsTrue}
+use Rattle.std.specs.FinMap as finite
 use Rattle.key_spec.specs.Canonical.{canonical}
 use Rattle.key_spec.specs.Closed.{closed}
 use Rattle.key_spec.specs.Data.{PlainRule}
 use Rattle.archive_tree.specs.Data.{PlainArchive}
-use Rattle.xa_outside.specs.Folder.{Files, front_of}
+use Rattle.xa_outside.specs.Folder.{Files, bytes_or_none, front_of}
 use Rattle.xa_outside.specs.Numbers.{Numbers, PullsAtMost}
 use Rattle.record_parts.specs.Bounds.{deepest}
 use Rattle.record_format.specs.Data.{PlainRec}
@@ -12,6 +13,7 @@ use Rattle.record_format.specs.Files.{HasFile, file_bytes, weight}
 use Rattle.record_format.specs.Nested.{are_nested}
 use Rattle.record_cursor.specs.Items.{finish, item_of}
 use Rattle.record_cursor.specs.Moves.{TellsFront, Comes}
+use Rattle.record_cursor.specs.Places.{finished}
 use Rattle.record_cursor.specs.Steps.{fault_of, IsCause, Filled}
 use Rattle.record_cursor.specs.View.{PlainCursor}
 use Rattle.record_cursor.specs.declared.fault.CursorFault.{CursorFault}
@@ -47,11 +49,12 @@ RecordsCome told at rs = Comes told at (map item_of rs ++ finish ∷ [])
 abbrev pub read_by : List PlainRec → ℕ
 read_by rs = sum_by weight rs + 8
 
--- The records that come are added to the counts, and each is read once.
+-- The records that come are added to the counts, and each is read once. There are no counts of a file that has fewer bytes than the cursor was told.
 pub record RecordsCounted (before : PlainCounts) (at : PlainCursor) (s t : Seen) (r : Result Counts CursorFault) : Type 0 where
   pub reads : Reads (at.length - at.at) s t (fault_of r)
   pub counts : (rs : List PlainRec) → RecordsCome s.files at rs → Filled r (λ c. counts_view c ≡ tallied before rs)
   pub few : (rs : List PlainRec) → RecordsCome s.files at rs → PullsAtMost (read_by rs) s.numbers t.numbers
+  pub whole : (files : Files) → s.files ≡ Some files → at.standing ≢ finished → IfOk r (λ c. at.length ≤ length (bytes_or_none (finite.get files at.name)))
 
 -- the bytes are the file of the archive, which a cursor can read
 pub record IsFileOf (rules : List PlainRule) (a : PlainArchive) (bytes : List ℕ) : Type 0 where

@@ -17,7 +17,7 @@ ghost use Rattle.archive_stats.specs.View.{counts_view, IfDamage, IfFolder};
 use crate::counts::Counts;
 use crate::fault::StatsFault;
 use crate::records::count_records;
-use record_cursor::{Cursor, CursorFault, Header, read_header};
+use record_cursor::{Cursor, CursorFault, Header, read_header_in};
 use std::alloc::Global;
 use xa_outside::Folder;
 
@@ -77,7 +77,7 @@ pub(crate) fn count_file<F: Folder>(
     ensures { FileCounted name.now length (seen F.files F.draft F.numbers F.faults folder.old)
         (seen F.files F.draft F.numbers F.faults folder.new) result }
 {
-    match read_header(alloc, folder, name, length) {
+    match read_header_in(alloc, folder, name, length) {
         Ok(header) => match Cursor::start(alloc, name, &header) {
             Ok(mut cursor) => count_records(folder, &mut cursor, none_counted(&header)),
             Err(_) => Err(CursorFault::Memory),

@@ -1,10 +1,10 @@
 -- What fills a buffer from the first bytes of a file.
-use Rattle.std.proofs.Common.{◌≡◌, ℕ, suc, ◌+◌, ◌-◌, ◌≤◌, ◌<◌, ◌^◌, true, leb, List, [], ◌∷◌, ◌++◌, length, take, drop, Option, Some, Result, Ok, Err, sym, ap, ◌∙◌, arith, length-take-le, take_all}
+use Rattle.std.proofs.Common.{◌≡◌, ℕ, suc, ◌+◌, ◌-◌, ◌≤◌, ◌<◌, ◌^◌, true, leb, List, [], ◌∷◌, ◌++◌, length, take, drop, Option, Some, Result, Ok, Err, sym, ap, ◌∙◌, arith, length-take-le, length-drop, take_all}
 use Rattle.std.specs.Prelude.{slice_index_or, OnOk, IfErr}
 use Rattle.std.specs.Int.{w64}
 use Rattle.std.specs.FinMap as map
 use Rattle.std.proofs.lemmas.Bool.Decides.{nat_tests}
-use Rattle.std.proofs.lemmas.List.{append-nil, drop-take, drop_all, take-take, take_at, take-append-drop, take-append-le}
+use Rattle.std.proofs.lemmas.List.{append-nil, length-append, drop-take, drop_all, take-take, take_at, take-append-drop, take-append-le}
 use Rattle.std.proofs.Math.Seq.{take-add}
 use Rattle.xa_fields.specs.Laws.{IsBytes}
 use Rattle.xa_fields.specs.Reading.{byte_at, number_at}
@@ -106,3 +106,14 @@ whole-front len out rest is = take_at out rest len is
 -- the same, of longer room
 pub room-front : (n m : ℕ) (out rest : List ℕ) → n ≤ m → n ≤ length out → take n (take m (out ++ rest)) ≡ take n out
 room-front n m out rest fits within = take-take n m (out ++ rest) fits ∙ take-append-le n out rest within
+
+-- a file from which the last eight bytes of so many were read has as many
+pub tail-whole : (out file tail : List ℕ) (at size : ℕ) → out ≡ tail → length tail ≡ 8 → out ≡ take 8 (drop at file) → size - at ≡ 8 → size ≤ length file
+tail-whole out file tail at size same eight read fits =
+    let rest = drop at file in
+    let parts = ap length (take-append-drop 8 rest) in
+    let both = length-append (take 8 rest) (drop 8 rest) in
+    let left = length-drop at file in
+    let long = ap length read in
+    let is = ap length same in
+    omega (arith, parts, both, left, long, is, eight, fits)

@@ -21,7 +21,7 @@ use Rattle.record_cursor.specs.Items.{PlainItem, inner_item, leaf_item, alt_item
 use Rattle.record_cursor.specs.Places.{Standing, among_nodes, in_leaf, behind_root, finished, after_item}
 use Rattle.record_cursor.specs.Next.{item_in, record_item_at, item_at, next_of, Gives, read_for}
 use Rattle.record_cursor.specs.Moves.{TellsFront, Comes, Goes}
-use Rattle.record_cursor.specs.Steps.{read_item}
+use Rattle.record_cursor.specs.Steps.{IsRead, read_item}
 use Rattle.record_cursor.specs.View.{PlainCursor, shown_item}
 use Rattle.record_cursor.specs.declared.item.Read.{Read}
 use Rattle.record_cursor.specs.declared.item.Read.TheVariants as read
@@ -131,6 +131,19 @@ not-finish (leaf_rec l s) e = cc
 not-finish (alt_rec s b) e = cc
 not-finish (end_rec d) e = cc
 not-finish leaf_end e = cc
+
+-- the end is lent of nothing else
+pub read-finish : (step : Read) (held : ℕ) (i : PlainItem) → IsRead step held i → i ≡ finish → step ≡ read.Finish
+read-finish (read.Parts kind) held i (r, of, parts, kind_is, size) e = absurd (not-finish r (sym (of ∙ e)))
+read-finish read.LeafEnd held i is e = absurd (clash (sym is ∙ e))
+  where
+    clash : leaf_end_item ≡ finish → ⊥
+    clash e = cc
+read-finish (read.End n) held i is e = absurd (clash (sym is ∙ e))
+  where
+    clash : end_item n ≡ finish → ⊥
+    clash e = cc
+read-finish read.Finish held i is e = refl
 
 body-of : (b : Bool) (n : ℕ) (o : Option PlainRec) (r : PlainRec) → IsTrue (has_parts r) → cond b (Some (end_item n)) (option_map item_of o) ≡ Some (item_of r) → o ≡ Some r
 body-of true n o r h e = absurd (not-end n r h (some_is (end_item n) (item_of r) e))

@@ -48,6 +48,7 @@ impl Buffer {
     }
 
     /// The bytes.
+    #[inline]
     pub fn as_slice(&self) -> &[u8]
         ensures value { result.now ≡ self.now }
     {
@@ -59,6 +60,7 @@ impl Buffer {
     }
 
     /// Takes so many bytes of a file from the offset on.
+    #[inline]
     pub fn fill<F: Folder>(
         &mut self,
         folder: &mut F,
@@ -87,6 +89,7 @@ impl Buffer {
 }
 
 /// Gives back what is great of the room, where less is read.
+#[inline]
 fn give_back(room: &mut Vec<u8>, size: usize) {
     if room.len() > GREAT && size < GREAT {
         room.truncate(GREAT);
@@ -95,6 +98,7 @@ fn give_back(room: &mut Vec<u8>, size: usize) {
 }
 
 /// Fills the room, which takes this size, with the bytes of a file from the offset on.
+#[inline(never)]
 fn fill_long<F: Folder>(
     folder: &mut F,
     name: &str,

@@ -1,11 +1,13 @@
-ghost use Rattle.std.specs.Prelude.{◌≡◌, ◌+◌, ◌≤◌, ◌-◌, ⊤, ℕ, List, ◌∷◌, drop, None, IfOk, IsOk, IfErr};
+ghost use Rattle.std.specs.Prelude.{◌≡◌, ◌≢◌, ◌+◌, ◌≤◌, ◌-◌, ⊤, ℕ, List, ◌∷◌, length, drop, None, Some, IfOk, IsOk, IfErr};
+ghost use Rattle.std.specs.FinMap as map;
 ghost use Rattle.std.specs.Borrow.{sem, follows_so};
 ghost use mathlib.Core.Option.{none};
 ghost use Rattle.xa_outside.specs.Causes.{Rose};
+ghost use Rattle.xa_outside.specs.Folder.{Files, bytes_or_none};
 ghost use Rattle.xa_outside.specs.Numbers.{PullsAtMost, after_pull};
 ghost use Rattle.record_cursor.specs.contracts.cursor.Cursor.{the_row};
 ghost use Rattle.record_cursor.specs.Faults.{IfDamage, IfFolder};
-ghost use Rattle.record_cursor.specs.Items.{PlainItem};
+ghost use Rattle.record_cursor.specs.Items.{PlainItem, finish};
 ghost use Rattle.record_cursor.specs.Moves.{TellsFront, Comes, Moves};
 ghost use Rattle.record_cursor.specs.Next.{next_of, size_of, read_for};
 ghost use Rattle.record_cursor.specs.Places.{among_nodes, finished};
@@ -132,6 +134,11 @@ impl Cursor {
             → TellsFront (F.files folder.old) self.old.name self.old.length bytes
             → IfErr result
             (λ e. IfDamage e (next_of self.old.standing (drop self.old.at bytes) ≡ None)) }
+
+        // That the file ends is told only of one that has so many bytes.
+        ensures whole { (files : Files) → F.files folder.old ≡ Some files
+            → self.old.standing ≢ finished → IfOk result (λ item. shown_item item ≡ finish
+            → self.old.length ≤ length (bytes_or_none (map.get files self.old.name))) }
 
         // Where the file is told, the item was given for what its bytes spell.
         ensures spelled { (bytes : List ℕ)

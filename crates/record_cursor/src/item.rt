@@ -47,6 +47,7 @@ pub(crate) enum Read {
 }
 
 /// The item that was read, with its parts lent out of the buffer.
+#[inline(always)]
 pub(crate) fn lend(read: Read, buffer: &[u8]) -> Option<Item<'_>>
     ensures found { option_map shown_item result ≡ read_item read buffer.now }
     ensures is { IfSome result (λ item. IsRead read (length buffer.now) (shown_item item)) }
@@ -60,6 +61,7 @@ pub(crate) fn lend(read: Read, buffer: &[u8]) -> Option<Item<'_>>
     }
 }
 
+#[inline(always)]
 fn lend_parts(kind: u8, body: &[u8]) -> Option<Item<'_>>
     ensures found { option_map shown_item result
         ≡ option_map item_of (with_parts (record_of kind body.now)) }

@@ -16,6 +16,7 @@ pub(crate) enum Place {
 }
 
 /// Where a record of this kind, with a body of so many bytes, leads, if it may come there.
+#[inline(always)]
 pub(crate) fn behind(place: Place, kind: u8, size: u64) -> Option<Place>
     ensures { option_map place_view result ≡ after_kind (place_view place) kind size }
 {
@@ -26,6 +27,7 @@ pub(crate) fn behind(place: Place, kind: u8, size: u64) -> Option<Place>
     }
 }
 
+#[inline(always)]
 fn behind_nodes(depth: u32, kind: u8, size: u64) -> Option<Place>
     ensures { option_map place_view result ≡ after_kind_in_nodes depth size kind }
 {
@@ -38,6 +40,7 @@ fn behind_nodes(depth: u32, kind: u8, size: u64) -> Option<Place>
     }
 }
 
+#[inline(always)]
 fn behind_leaf(depth: u32, kind: u8, size: u64) -> Option<Place>
     ensures { option_map place_view result ≡ after_kind_in_leaf depth size kind }
 {

@@ -1,6 +1,8 @@
-// Reading one record, and judging whether it may come.
-ghost use Rattle.std.specs.Prelude.{◌≡◌, ◌+◌, ◌-◌, ◌<◌, ◌≤◌, ◌^◌, ℕ, List, [], ◌∷◌, ◌++◌, drop, take, Some, IfOk, OnOk, IsOkAnd, IsSomeAnd, bytes_eq, length as held};
+// Reading one record, and judging whether it may come. A cursor and `read_opening` call it, and each is faster with a copy of its own.
+ghost use Rattle.std.specs.Prelude.{◌≡◌, ◌≢◌, ◌+◌, ◌-◌, ◌<◌, ◌≤◌, ◌^◌, ℕ, List, [], ◌∷◌, ◌++◌, drop, take, Some, IfOk, OnOk, IsOkAnd, IsSomeAnd, bytes_eq, length as held};
 ghost use Rattle.xa_fields.specs.Spelling.{u64_bytes};
+ghost use Rattle.std.specs.FinMap as map;
+ghost use Rattle.xa_outside.specs.Folder.{Files, bytes_or_none};
 ghost use Rattle.xa_outside.specs.Numbers.{PullsAtMost, after_pull};
 ghost use Rattle.record_cursor.specs.Items.{PlainItem, finish};
 ghost use Rattle.record_cursor.specs.Moves.{TellsFront};
@@ -31,6 +33,7 @@ pub(crate) struct Step {
 }
 
 /// What comes next where the cursor stands, with the parts to lend in the buffer.
+#[inline(always)]
 pub(crate) fn read_step<F: Folder>(
     folder: &mut F,
     name: &str,
@@ -62,6 +65,11 @@ pub(crate) fn read_step<F: Folder>(
         (λ step. IsReadAt step.read buffer.new (drop at bytes) (drop step.at bytes)) }
     ensures again { place_view place ≡ finished
         → IsOkAnd result (λ step. step.read ≡ Finish) }
+
+    // That a file ends is found only where it has so many bytes.
+    ensures whole { (files : Files) → F.files folder.old ≡ Some files → place_view place ≢ finished
+        → IfOk result (λ step. step.read ≡ Finish
+        → length ≤ held (bytes_or_none (map.get files name.now))) }
 {
     match place {
         Place::Nodes { .. } | Place::Leaf { .. } => {
@@ -84,6 +92,7 @@ pub(crate) fn read_step<F: Folder>(
 }
 
 /// A record that may come where the cursor stands.
+#[inline(always)]
 fn read_record<F: Folder>(
     folder: &mut F,
     name: &str,
@@ -114,6 +123,7 @@ fn read_record<F: Folder>(
     ensures spelled { (bytes : List ℕ) → TellsFront (F.files folder.old) name.now length bytes
         → IfOk result
         (λ step. IsReadAt step.read buffer.new (drop at bytes) (drop step.at bytes)) }
+    ensures record { IfOk result (λ step. step.read ≢ Finish) }
 {
     if length - at < FRAME as u64 {
         return Err(CursorFault::Damage);
@@ -140,6 +150,7 @@ fn read_record<F: Folder>(
 }
 
 /// The kind of the record at the offset, and the length of its body.
+#[inline(always)]
 fn read_frame<F: Folder>(folder: &mut F, name: &str, at: u64) -> Result<(u8, u64), CursorFault>
     requires { at + 9 < 2 ^ 64 }
     ensures reads { OnlyReads F.files F.draft F.faults folder.old folder.new (fault_of result) }
@@ -163,6 +174,7 @@ fn read_frame<F: Folder>(folder: &mut F, name: &str, at: u64) -> Result<(u8, u64
 }
 
 /// The kind and the length that these nine bytes are.
+#[inline(always)]
 fn frame_of(frame: &[u8]) -> Option<(u8, u64)>
     requires { held frame.now ≡ 9 }
     ensures { IsSomeAnd result (λ f. (frame.now ≡ f.0 ∷ u64_bytes f.1) × (f.1 < 2 ^ 64)) }
@@ -172,6 +184,7 @@ fn frame_of(frame: &[u8]) -> Option<(u8, u64)>
 }
 
 /// The body of the record of this kind, where it has parts to lend. That of an END is passed over.
+#[inline(always)]
 fn read_body<F: Folder>(
     folder: &mut F,
     name: &str,
@@ -221,6 +234,8 @@ fn read_tail<F: Folder>(
     ensures pulls { PullsAtMost (length - at) (F.numbers folder.old) (F.numbers folder.new) }
     ensures few { PullsAtMost 8 (F.numbers folder.old) (F.numbers folder.new) }
     ensures end { OnOk result (length ≡ at + 8) }
+    ensures whole { (files : Files) → F.files folder.old ≡ Some files
+        → OnOk result (length ≤ held (bytes_or_none (map.get files name.now))) }
     ensures told { (bytes : List ℕ) → TellsFront (F.files folder.old) name.now length bytes
         → Finds (λ _. Some (finish, [])) result (tail_at size (drop at bytes)) }
 {

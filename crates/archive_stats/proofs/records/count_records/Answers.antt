@@ -24,7 +24,7 @@ returns-in-Err g c =
 gave : (g : Over) (c : In-Ok g) → Given c.loop-item.cursor c.next.follows.lender-at-none (at g c.loop-item.folder) (at g c.next.new.folder) c.in-Ok.item
 gave g c =
     let i = c.in-Ok in
-    given c.loop-item.cursor c.next.follows.lender-at-none (at g c.loop-item.folder) (at g c.next.new.folder) c.next.result i.item i.is i.ensures.files i.ensures.draft i.ensures.numbers i.ensures.later c.next.follows.holds-at-none
+    given c.loop-item.cursor c.next.follows.lender-at-none (at g c.loop-item.folder) (at g c.next.new.folder) c.next.result i.item i.is i.ensures.files i.ensures.draft i.ensures.numbers i.ensures.later c.next.follows.holds-at-none c.next.ensures.whole
 
 pub returns-in-Finish : goal.returns-in-Finish
 returns-in-Finish g c =

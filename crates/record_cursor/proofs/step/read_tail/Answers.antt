@@ -1,7 +1,11 @@
 use Rattle.std.proofs.lemmas.Grind.{common_steps}
-use Rattle.std.proofs.Common.{◌≡◌, None, drop, arith, length-drop}
+use Rattle.std.proofs.Common.{◌≡◌, None, drop, refl, sym, ◌∙◌, arith, length-drop}
+use Rattle.std.specs.FinMap as map
+use Rattle.std.proofs.lemmas.Slice.Eq.{bytes_eq-Decides}
+use Rattle.xa_fields.specs.Spelling.{u64_bytes}
+use Rattle.xa_outside.specs.Folder.{bytes_or_none}
 use Rattle.record_cursor.specs.Next.{tail_at}
-use Rattle.record_cursor.proofs.Fills.{front-length, filled-from, never-short, no-damage}
+use Rattle.record_cursor.proofs.Fills.{front-length, filled-from, never-short, no-damage, tail-whole}
 use Rattle.record_cursor.proofs.Comes.{tail-there, tail-other}
 use Rattle.record_cursor.proofs.step.read_tail.Goals as goal
 
@@ -11,6 +15,11 @@ returns-in-Ok-clause-told g c = λ bytes tells. (
     let len = front-length told c.args.name.now bytes c.args.length tells in
     let read = filled-from told c.args.name.now bytes c.args.length c.args.at 8 c.fill_part.new.out tells (omega arith) (c.in-Ok.ensures.told tells.0 tells.1) in
     tail-there c.args.size (drop c.args.at bytes) c.fill_part.new.out c.is_tail.result read (omega (arith, len, length-drop c.args.at bytes)) c.is_tail.ensures c.if-is_tail.true)
+
+pub returns-in-Ok-clause-whole : goal.returns-in-Ok-clause-whole
+returns-in-Ok-clause-whole g c = λ files there. (
+    let same : c.fill_part.new.out ≡ u64_bytes c.args.size = (bytes_eq-Decides c.fill_part.new.out (u64_bytes c.args.size)).0 (sym c.is_tail.ensures ∙ c.if-is_tail.true) in
+    tail-whole c.fill_part.new.out (bytes_or_none (map.get files c.args.name.now)) (u64_bytes c.args.size) c.args.at c.args.length same refl (c.in-Ok.ensures.told files there) c.if-length-at-ne-TAIL.false)
 
 pub returns-in-Ok-2-clause-told : goal.returns-in-Ok-2-clause-told
 returns-in-Ok-2-clause-told g c = λ bytes tells. (

@@ -1,6 +1,8 @@
-use Rattle.std.proofs.Common.{◌≡◌, ℕ, ◌+◌, ◌-◌, List, ◌∷◌, drop, string_bytes, Some, None, refl, sym, ap, subst, ◌∙◌}
+use Rattle.std.proofs.Common.{◌≡◌, ℕ, ◌+◌, ◌-◌, ◌≤◌, List, ◌∷◌, drop, string_bytes, Some, None, refl, sym, ap, subst, ◌∙◌}
 use Rattle.std.specs.Prelude.{length}
 use Rattle.std.specs.Option.{option_map}
+use Rattle.std.specs.FinMap as map
+use Rattle.xa_outside.specs.Folder.{bytes_or_none}
 use Rattle.xa_outside.specs.Numbers.{PullsAtMost, after_pull}
 use Rattle.record_cursor.specs.Faults.{IfDamage}
 use Rattle.record_cursor.specs.Items.{PlainItem}
@@ -11,7 +13,7 @@ use Rattle.record_cursor.specs.Spelled.{IsSpelled}
 use Rattle.record_cursor.specs.Steps.{IsRead, IsLent, read_item}
 use Rattle.record_cursor.specs.View.{PlainCursor, place_view, shown_item}
 use Rattle.record_cursor.proofs.Fills.{damage-map}
-use Rattle.record_cursor.proofs.ItemLaws.{PullsComing, pulls-coming, comes-some, no-end}
+use Rattle.record_cursor.proofs.ItemLaws.{PullsComing, pulls-coming, comes-some, no-end, read-finish}
 use Rattle.record_cursor.proofs.SpelledLaws.{item-spelled}
 use Rattle.record_cursor.proofs.cursor.Cursor.next.Goals as goal
 
@@ -54,6 +56,8 @@ returns-in-Some g c =
         undamaged = λ i is h. tt;
         again = λ stands. refl;
         damage = λ bytes tells. tt;
+        whole = λ files there going ended. subst (λ (v : PlainCursor). v.length ≤ length (bytes_or_none (map.get files v.name))) c.self.view_is
+            (subst (λ (n : List ℕ). inside.length ≤ length (bytes_or_none (map.get files n))) c.as_str-name.ensures.value (e.whole files there (λ same. going (sym stands ∙ same)) (read-finish c.in-Ok.step.read (length c.read_step.new.buffer) i is ended)));
         spelled = subst (λ (v : PlainCursor). (bytes : List ℕ) → TellsFront told v.name v.length bytes → IsSpelled v.standing i (drop v.at bytes) (drop (v.at + size_of v.standing i) bytes)) c.self.view_is (λ bytes tells. (
             let named : TellsFront told c.as_str-name.result.now inside.length bytes = subst (λ (n : List ℕ). TellsFront told n inside.length bytes) (sym c.as_str-name.ensures.value) tells in
             let comes = e.told bytes named ∙ ap (option_map (λ (x : PlainItem). (x, (t, drop c.in-Ok.step.at bytes)))) read in
@@ -86,6 +90,7 @@ returns-in-None g c =
         damage = subst (λ (v : PlainCursor). (bytes : List ℕ) → TellsFront told v.name v.length bytes → next_of v.standing (drop v.at bytes) ≡ None) c.self.view_is (λ bytes tells. (
             let named : TellsFront told c.as_str-name.result.now inside.length bytes = subst (λ (n : List ℕ). TellsFront told n inside.length bytes) (sym c.as_str-name.ensures.value) tells in
             e.told bytes named ∙ ap (option_map (λ (x : PlainItem). (x, (place_view c.in-Ok.step.place, drop c.in-Ok.step.at bytes)))) read));
+        whole = λ files there going. tt;
         spelled = λ bytes tells. tt;
       },
     )
@@ -113,6 +118,7 @@ returns-in-Err g c =
         damage = subst (λ (v : PlainCursor). (bytes : List ℕ) → TellsFront told v.name v.length bytes → IfDamage c.in-Err.fault (next_of v.standing (drop v.at bytes) ≡ None)) c.self.view_is (λ bytes tells. (
             let named : TellsFront told c.as_str-name.result.now inside.length bytes = subst (λ (n : List ℕ). TellsFront told n inside.length bytes) (sym c.as_str-name.ensures.value) tells in
             e.told bytes named));
+        whole = λ files there going. tt;
         spelled = λ bytes tells. tt;
       },
     )
